@@ -22,12 +22,13 @@ use ffs_volume::{Class, Inode, Step};
 use ffs_walk::{Walk, class_of, has_steps};
 use ffs_workspace::Workspace;
 
-/// Walks over the blocks of an inode of the class, where it has any, claims what its steps offer, and reports what is wrong
+/// Walks over the blocks of an inode of the class, where it has any, by a walk that is begun anew, claims what its steps offer, and reports what is wrong
 /// with them.
 fn claim<I: Image, W: Output>(
     workspace: &mut Workspace,
     geometry: &Geometry,
     area: &mut DataArea,
+    walk: &mut Walk,
     number: u32,
     inode: &Inode,
     class: Class,
@@ -37,14 +38,16 @@ fn claim<I: Image, W: Output>(
     requires class { class ≡ inodes.class_of geometry.now.layout inode.now }
     requires ready { CanClaim geometry.now.layout (I.device image.old) workspace.old area.old }
     requires begun { HasBegun workspace.old }
-    ensures { ClaimsSteps geometry.now.layout number inode.now (I.device image.old)
+    requires walk { walk.old.geometry ≡ geometry.now }
+    ensures claiming { ClaimsSteps geometry.now.layout number inode.now (I.device image.old)
         (I.device image.new) (progress W.sink report.old) (progress W.sink report.new)
         workspace.old workspace.new area.new result }
+    ensures walk { walk.new.geometry ≡ geometry.now }
 {
     if !has_steps(geometry, inode, class) {
         return Ok(());
     }
-    let mut walk = Walk::of_class(geometry, inode, class);
+    walk.restart(inode, class);
     while let Some(next) = walk.next(image, &mut workspace.windows.blocks)? {
         if matches!(next, Step::Gap) {
             walk.skip_gaps(&workspace.windows.blocks);
@@ -54,7 +57,7 @@ fn claim<I: Image, W: Output>(
         if !seen {
             break;
         }
-        claim_words(workspace, geometry, area, &mut walk);
+        claim_words(workspace, geometry, area, walk);
     }
     Ok(())
 }
@@ -64,6 +67,7 @@ fn claim_read_inode<I: Image, W: Output>(
     workspace: &mut Workspace,
     geometry: &Geometry,
     area: &mut DataArea,
+    walk: &mut Walk,
     number: u32,
     inode: &Inode,
     image: &mut I,
@@ -71,12 +75,14 @@ fn claim_read_inode<I: Image, W: Output>(
 ) -> Result<(), RunFault>
     requires ready { CanClaimInode geometry.now.layout (I.device image.old) workspace.old area.old
         number }
+    requires walk { walk.old.geometry ≡ geometry.now }
     ensures claiming { ClaimsOwner geometry.now.layout
         (λ bytes. owner_with geometry.now.layout bytes number inode.now) (I.device image.old)
         (I.device image.new) (progress W.sink report.old) (progress W.sink report.new)
         workspace.old workspace.new area.new result }
     ensures stored { OnOk result (Stored number (inodes.class_of geometry.now.layout inode.now)
         inode.now workspace.old workspace.new) }
+    ensures walk { walk.new.geometry ≡ geometry.now }
 {
     let class = class_of(geometry, inode);
     begin(workspace);
@@ -86,7 +92,7 @@ fn claim_read_inode<I: Image, W: Output>(
     }
     say_class(report, number, class)?;
     claim(
-        workspace, geometry, area, number, inode, class, image, report,
+        workspace, geometry, area, walk, number, inode, class, image, report,
     )?;
     say_count(workspace, geometry, number, class, inode.blocks, report)?;
     store(workspace, number, class, inode);
@@ -98,12 +104,14 @@ pub fn claim_inode<I: Image, W: Output>(
     workspace: &mut Workspace,
     geometry: &Geometry,
     area: &mut DataArea,
+    walk: &mut Walk,
     number: u32,
     image: &mut I,
     report: &mut Report<'_, W>,
 ) -> Result<(), RunFault>
     requires ready { CanClaimInode geometry.now.layout (I.device image.old) workspace.old area.old
         number }
+    requires walk { walk.old.geometry ≡ geometry.now }
     ensures claiming { ClaimsOwner geometry.now.layout
         (λ bytes. owner_of geometry.now.layout bytes number) (I.device image.old)
         (I.device image.new) (progress W.sink report.old) (progress W.sink report.new)
@@ -112,7 +120,10 @@ pub fn claim_inode<I: Image, W: Output>(
         Stored number (inodes.class_of geometry.now.layout
         (inode_of geometry.now.layout bytes number)) (inode_of geometry.now.layout bytes number)
         workspace.old workspace.new)) }
+    ensures walk { walk.new.geometry ≡ geometry.now }
 {
     let inode = workspace.windows.table.inode(geometry, number, image)?;
-    claim_read_inode(workspace, geometry, area, number, &inode, image, report)
+    claim_read_inode(
+        workspace, geometry, area, walk, number, &inode, image, report,
+    )
 }

@@ -20,6 +20,7 @@ use ffs_image::Image;
 use ffs_layout::Geometry;
 use ffs_phase::RunFault;
 use ffs_report::{Heading, Line, Output, Report};
+use ffs_walk::Walk;
 use ffs_workspace::Workspace;
 
 /// Walks over the blocks of all inodes, claims the fragments that they offer, and reports what is wrong: inodes of an
@@ -57,10 +58,13 @@ pub fn phase1<I: Image, W: Output>(
     ensures ready { IsReady geometry.now.layout (I.device image.new) workspace.new }
 {
     let mut area = DataArea::empty();
+    let mut walk = Walk::ended(geometry);
     reserve(workspace, geometry);
     report.say(&Line::Heading(Heading::Phase1))?;
     for number in 2..geometry.layout.ncg * geometry.layout.ipg {
-        claim_inode(workspace, geometry, &mut area, number, image, report)?;
+        claim_inode(
+            workspace, geometry, &mut area, &mut walk, number, image, report,
+        )?;
     }
     Ok(())
 }

@@ -2,7 +2,7 @@
 
 ghost use Rattle.std.specs.Prelude.{◌≡◌, false, true, IsTrue, ℕ};
 ghost use Rattle.ffs_volume.specs.Blocks.Claims.{is_open};
-ghost use Rattle.ffs_walk.specs.Words.{word_step};
+ghost use Rattle.ffs_walk.specs.Words.{IsInHeldBlock, word_step};
 ghost use Rattle.ffs_workspace.specs.Holds.{claims_of};
 ghost use Rattle.ffs_claims.specs.Claiming.{SeesNext};
 ghost use Rattle.ffs_claims.specs.Leaves.{ClaimsOnly};
@@ -45,21 +45,39 @@ fn claim_address(
     true
 }
 
+/// Claims what the words offer that come next in the single indirect block that the walk is in, which is held, as long as there
+/// is nothing to report of them.
+fn claim_held_words(
+    workspace: &mut Workspace,
+    geometry: &Geometry,
+    area: &DataArea,
+    walk: &mut Walk,
+)
+    requires next { SeesNext geometry.now.layout workspace.old area.now }
+    requires geometry { walk.old.geometry ≡ geometry.now }
+    requires held { IsInHeldBlock workspace.old.windows.blocks walk.old }
+    ensures { ClaimsWords geometry.now.layout workspace.old workspace.new walk.old walk.new }
+{
+    // A copy, which no write to the workspace can change: so it isn't read again for each word.
+    let geometry = *geometry;
+    while walk.has_word() {
+        let address = walk.next_address(&workspace.windows.blocks);
+        if !claim_address(workspace, &geometry, area, address) {
+            return;
+        }
+        walk.pass_word();
+    }
+}
+
 /// Claims what the words offer that come next in the single indirect block that the walk is in, as long as there is nothing
 /// to report of them, and each Run is claimed at once. It leaves the claims that the steps would leave that it passes over.
+#[inline(always)]
 pub fn claim_words(workspace: &mut Workspace, geometry: &Geometry, area: &DataArea, walk: &mut Walk)
     requires next { SeesNext geometry.now.layout workspace.old area.now }
     requires geometry { walk.old.geometry ≡ geometry.now }
     ensures { ClaimsWords geometry.now.layout workspace.old workspace.new walk.old walk.new }
 {
-    if !walk.is_in_held_block(&workspace.windows.blocks) {
-        return;
-    }
-    while walk.has_word() {
-        let address = walk.next_address(&workspace.windows.blocks);
-        if !claim_address(workspace, geometry, area, address) {
-            return;
-        }
-        walk.pass_word();
+    if walk.is_in_held_block(&workspace.windows.blocks) {
+        claim_held_words(workspace, geometry, area, walk);
     }
 }

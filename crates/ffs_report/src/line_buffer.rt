@@ -1,5 +1,5 @@
 // The bytes of one line, gathered before they go out.
-ghost use Rattle.std.specs.Prelude.{◌≡◌, ◌≤◌, length, take};
+ghost use Rattle.std.specs.Prelude.{◌≡◌, ◌≤◌, ◌<◌, ◌*◌, length, take};
 
 use crate::output::{OutFault, Output};
 
@@ -7,8 +7,14 @@ use crate::output::{OutFault, Output};
 /// longer.
 const LINE_ROOM: usize = 2048;
 
-/// A text of at most so many bytes is written byte by byte: where its length is known that is a move or two.
-const SHORT_TEXT: usize = 8;
+/// How many bytes the machine moves at once.
+const PAIR: usize = 2;
+
+const WORD: usize = 4;
+
+const LONG_WORD: usize = 8;
+
+const BLOCK: usize = 16;
 
 /// An output in memory that has room for one line. A piece for which no room is left is refused.
 #[derive(Drop)]
@@ -48,17 +54,51 @@ impl LineBuffer {
     }
 }
 
+/// Copies bytes by their first and their last `some`, which may overlap: two moves.
+#[inline(always)]
+fn copy_ends(to: &mut [u8], from: &[u8], some: usize)
+    requires length { length to.old ≡ length from.now }
+    requires enough { length from.now ≤ 2 * some }
+    requires within { some ≤ length from.now }
+    ensures { to.new ≡ from.now }
+{
+    let last = from.len() - some;
+    to[..some].copy_from_slice(&from[..some]);
+    to[last..].copy_from_slice(&from[last..]);
+}
+
+/// Copies more bytes than two words have.
+#[inline(always)]
+fn copy_long(to: &mut [u8], from: &[u8])
+    requires length { length to.old ≡ length from.now }
+    requires long { 8 < length from.now }
+    ensures { to.new ≡ from.now }
+{
+    let len = from.len();
+    if len > 2 * BLOCK {
+        to.copy_from_slice(from);
+    } else if len > 2 * LONG_WORD {
+        copy_ends(to, from, BLOCK);
+    } else {
+        copy_ends(to, from, LONG_WORD);
+    }
+}
+
+/// Copies bytes. Most texts are short, and a call of a copy takes longer than they do.
 #[inline(always)]
 fn copy_bytes(to: &mut [u8], from: &[u8])
     requires { length to.old ≡ length from.now }
     ensures { to.new ≡ from.now }
 {
-    if from.len() > SHORT_TEXT {
-        to.copy_from_slice(from);
-        return;
-    }
-    for at in 0..from.len() {
-        to[at] = from[at];
+    let len = from.len();
+    if len > 2 * WORD {
+        copy_long(to, from);
+    } else if len >= WORD {
+        copy_ends(to, from, WORD);
+    } else if len >= PAIR {
+        copy_ends(to, from, PAIR);
+    } else if len > 0 {
+        to[0] = from[0];
     }
 }
 

@@ -1,13 +1,14 @@
 // A report over an output.
-ghost use Rattle.std.specs.Prelude.{◌≡◌, true, false};
-ghost use Rattle.ffs_volume.specs.Messages.Kinds.{is_defect};
+ghost use Rattle.std.specs.Prelude.{◌≡◌, ◌||◌, ◌&&◌, true, false, is_ok, is_err};
+ghost use Rattle.ffs_volume.specs.Messages.Kinds.{is_defect, of_blocks};
 ghost use Rattle.ffs_report.specs.Lines.{message_of};
 ghost use Rattle.ffs_report.specs.Progress.{progress, starts, SaysOne};
 
 use crate::line::Line;
 use crate::line_buffer::LineBuffer;
 use crate::output::{OutFault, Output};
-use crate::say::print_gathered;
+use crate::say::{print_dup, print_gathered};
+use ffs_volume::BlockMessage;
 
 /// The lines that are said on an output, up to the first one that fails.
 #[derive(Drop)]
@@ -57,8 +58,52 @@ impl<'a, W: Output> Report<'a, W> {
         self.defect
     }
 
+    /// Keeps what became of the printing of a line, and answers it.
+    #[inline(always)]
+    fn after(&mut self, printed: Result<(), OutFault>, is_defect: bool) -> Result<(), OutFault>
+        ensures answer { result ≡ printed }
+        ensures after { progress W.sink self.new ≡ record (progress W.sink self.old) {
+          failed = self.old.failed || is_err printed;
+          defect = self.old.defect || (is_ok printed && is_defect);
+        } }
+    {
+        match printed {
+            Ok(()) => {
+                self.defect = self.defect || is_defect;
+                Ok(())
+            }
+            Err(fault) => {
+                self.failed = true;
+                Err(fault)
+            }
+        }
+    }
+
+    /// Says a line of any kind.
+    fn say_any(&mut self, line: &Line<'_>) -> Result<(), OutFault>
+        requires { self.old.failed ≡ false }
+        ensures { SaysOne (progress W.sink self.old) (progress W.sink self.new)
+            (message_of line.now) result }
+    {
+        let printed = print_gathered(self.out, &mut self.text, line);
+        self.after(printed, is_defect(line))
+    }
+
+    /// Says that an inode claims a fragment again. Where a volume has many defects, most of its lines are of this kind.
+    fn say_dup(&mut self, fragment: u32, inode: u32) -> Result<(), OutFault>
+        requires { self.old.failed ≡ false }
+        ensures { SaysOne (progress W.sink self.old) (progress W.sink self.new)
+            (of_blocks (BlockMessage.Dup fragment inode)) result }
+    {
+        let printed = print_dup(self.out, &mut self.text, fragment, inode);
+        self.after(printed, true)
+    }
+
     /// Says a line and its questions. After an `Err`, when a prefix of their bytes may have gone out, each later call
     /// answers `Err` and writes nothing.
+    ///
+    /// It is inlined, so that of a line that is known the kind is known.
+    #[inline(always)]
     pub fn say(&mut self, line: &Line<'_>) -> Result<(), OutFault>
         ensures { SaysOne (progress W.sink self.old) (progress W.sink self.new)
             (message_of line.now) result }
@@ -66,15 +111,9 @@ impl<'a, W: Output> Report<'a, W> {
         if self.failed {
             return Err(OutFault);
         }
-        match print_gathered(self.out, &mut self.text, line) {
-            Ok(()) => {
-                self.defect = self.defect || is_defect(line);
-                Ok(())
-            }
-            Err(fault) => {
-                self.failed = true;
-                Err(fault)
-            }
+        match line {
+            Line::Block(BlockMessage::Dup { fragment, inode }) => self.say_dup(*fragment, *inode),
+            _ => self.say_any(line),
         }
     }
 }

@@ -9,9 +9,10 @@ use crate::line_buffer::LineBuffer;
 use crate::names::{print_directory, print_dot, print_entry, print_reference};
 use crate::output::{OutFault, Output};
 use crate::piece::Piece;
-use crate::print::{print, print_count, print_number, print_pieces};
+use crate::print::{print, print_count, print_digits, print_number, print_pieces};
 use ffs_volume::texts::*;
 use ffs_volume::{BlockMessage, SuperFault};
+use itoa::Buffer;
 
 /// Prints a line and its questions as one piece, where they have room in the buffer.
 pub fn print_gathered<W: Output>(
@@ -26,6 +27,24 @@ pub fn print_gathered<W: Output>(
         return print(out, buffer.bytes());
     }
     print_line(out, line)
+}
+
+/// Prints that an inode claims a fragment again, as one piece where it has room in the buffer.
+#[inline(always)]
+pub fn print_dup<W: Output>(
+    out: &mut W,
+    text: &mut LineBuffer,
+    fragment: u32,
+    inode: u32,
+) -> Result<(), OutFault>
+    ensures { Prints (W.sink out.old) (W.sink out.new)
+        (block_message_text (BlockMessage.Dup fragment inode)) result }
+{
+    text.clear();
+    if print_claim(text, fragment, DUP, inode).is_ok() {
+        return print(out, text.bytes());
+    }
+    print_block(out, BlockMessage::Dup { fragment, inode })
 }
 
 /// Prints a line and its questions.
@@ -127,8 +146,9 @@ fn print_claim<W: Output>(
 ) -> Result<(), OutFault>
     ensures { Prints (W.sink out.old) (W.sink out.new) (offer_text fragment what.now inode) result }
 {
-    print_count(out, fragment as u64, what)?;
-    print_count(out, inode as u64, LINE_END)
+    let mut digits = Buffer::new();
+    print_digits(out, &mut digits, fragment, what)?;
+    print_digits(out, &mut digits, inode, LINE_END)
 }
 
 fn print_block_count<W: Output>(

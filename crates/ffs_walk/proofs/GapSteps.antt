@@ -1,14 +1,18 @@
 -- Words of zero are gaps, at every level.
 use Rattle.std.proofs.Common.{◌≡◌, ℕ, zero, suc, ◌+◌, ◌-◌, ◌*◌, ◌<◌, ◌≤◌, false, if◌then◌else◌, List, [], ◌∷◌, ◌++◌}
-use Rattle.std.proofs.Common.{replicate, append_assoc, arith, refl, ap, ◌∙◌, sym}
+use Rattle.std.proofs.Common.{replicate, slice_index, append_assoc, arith, refl, ap, ◌∙◌, sym}
 use Rattle.ffs_volume.specs.declared.Layout.{Layout}
 use Rattle.ffs_volume.specs.declared.Step.{Step}
 use Rattle.ffs_volume.specs.declared.Step.TheVariants.{Gap}
 use Rattle.ffs_volume.specs.Blocks.Steps.{FileBlocks, block_bytes, address_in, address_at, tail_of, any_nonzero_from}
-use Rattle.ffs_volume.specs.Blocks.Steps.{steps_under, steps_at}
+use Rattle.ffs_volume.specs.Blocks.Steps.{steps_under, steps_at, steps_of_addresses, indirection_of, first_block}
 use Rattle.ffs_walk.specs.declared.frame.Frame.{Frame}
+use Rattle.ffs_walk.specs.declared.walk.Walk.{Walk}
 use Rattle.ffs_walk.specs.Frames.{frame_rest}
+use Rattle.ffs_walk.specs.Rests.{IsAtTop, extent_of, rest, single_rest, double_rest, triple_rest}
+use Rattle.ffs_walk.specs.Skips.{EndsZeroAddresses}
 use Rattle.ffs_walk.proofs.FrameSteps.{next_word}
+use Rattle.ffs_walk.proofs.WalkSteps.{next_address, rest_at_top, spent_rest}
 
 -- so many words of zero in a row
 gaps_under : (g : Layout) (bytes : List ℕ) (child : ℕ → ℕ → List Step) (span address first used n next : ℕ) →
@@ -66,3 +70,39 @@ pub zero_gap : (t : FileBlocks) (bytes : List ℕ) (level block : ℕ) → steps
 unfolding steps_at
 zero_gap t bytes zero block = refl
 zero_gap t bytes (suc level) block = refl
+
+-- so many addresses of zero in a row
+pub gaps_at_addresses : (t : FileBlocks) (bytes addresses : List ℕ) (used n next : ℕ) → next + n ≤ used →
+    ((k : ℕ) → next ≤ k → k < next + n → slice_index addresses k ≡ 0) →
+    steps_of_addresses t bytes addresses next (used - next)
+    ≡ replicate n Gap ++ steps_of_addresses t bytes addresses (next + n) (used - (next + n))
+gaps_at_addresses t bytes addresses used zero next h zeros =
+    let at : next ≡ next + 0 = omega arith in ap (λ j. steps_of_addresses t bytes addresses j (used - j)) at
+gaps_at_addresses t bytes addresses used (suc n) next h zeros =
+    let at : next + 1 + n ≡ next + suc n = omega arith in
+    let others = steps_of_addresses t bytes addresses (next + 1) (used - (next + 1)) in
+    next_address t bytes addresses next used (omega arith)
+    ∙ ap (λ a. steps_at t bytes (indirection_of next) a (first_block t.layout.nindir next) ++ others)
+    (zeros next (omega arith) (omega arith))
+    ∙ ap (λ xs. xs ++ others) (zero_gap t bytes (indirection_of next) (first_block t.layout.nindir next))
+    ∙ ap (λ xs. Gap ∷ xs) (gaps_at_addresses t bytes addresses used n (next + 1) (omega arith)
+    (λ k l m. zeros k (omega arith) (omega arith))
+    ∙ ap (λ j. replicate n Gap ++ steps_of_addresses t bytes addresses j (used - j)) at)
+
+-- the same of the addresses of a walk that is in no indirect block
+pub gaps_at_top : (w : Walk) (bytes : List ℕ) (end : ℕ) → IsAtTop w → EndsZeroAddresses w end →
+    rest bytes w ≡ replicate (end - w.next) Gap ++ (single_rest bytes w ++ (double_rest bytes w
+    ++ (triple_rest bytes w ++ steps_of_addresses (extent_of w) bytes w.addresses end (w.used - end))))
+gaps_at_top w bytes end top ends =
+    let g = w.geometry.layout in
+    let whole : w.next + (end - w.next) ≡ end = omega (arith, ends.within.0) in
+    let here = gaps_at_addresses (extent_of w) bytes w.addresses w.used (end - w.next) w.next
+    (omega (arith, whole, ends.within.1)) (λ k l m. ends.zeros k l (omega (arith, m, whole))) in
+    rest_at_top bytes w top.single top.double top.triple
+    ∙ here
+    ∙ ap (λ j. replicate (end - w.next) Gap ++ steps_of_addresses (extent_of w) bytes w.addresses j (w.used - j)) whole
+    ∙ rw (
+      spent_rest g bytes (steps_at (extent_of w) bytes 0) 1 w.single top.single,
+      spent_rest g bytes (steps_at (extent_of w) bytes 1) g.nindir w.double top.double,
+      spent_rest g bytes (steps_at (extent_of w) bytes 2) (g.nindir * g.nindir) w.triple top.triple,
+    ) refl

@@ -1,5 +1,5 @@
 -- What a walk leaves that has passed over gaps.
-use Rattle.std.specs.Prelude.{◌≡◌, ◌+◌, ◌<◌, ◌≤◌, ◌++◌, ◌∷◌, [], ℕ, List, Option, Some, false, replicate}
+use Rattle.std.specs.Prelude.{◌≡◌, ◌+◌, ◌<◌, ◌≤◌, ◌++◌, ◌∷◌, [], ℕ, List, Option, Some, false, replicate, slice_index}
 use Rattle.ffs_image.specs.Device.{ForContents}
 use Rattle.ffs_volume.specs.declared.Layout.{Layout}
 use Rattle.ffs_volume.specs.declared.Step.{Step}
@@ -11,19 +11,27 @@ use Rattle.ffs_walk.specs.declared.walk.Walk.{Walk}
 use Rattle.ffs_walk.specs.Fits.{IsSpent}
 use Rattle.ffs_walk.specs.Windows.{BlocksHold, held_address, level_bytes}
 use Rattle.ffs_walk.specs.Frames.{IsSameBlock, frame_left, frame_rest}
-use Rattle.ffs_walk.specs.Rests.{SameExtent, left, rest}
+use Rattle.ffs_walk.specs.Rests.{IsAtTop, SameExtent, left, rest}
 
 -- the next word in the block of a frame isn't zero, where the block is held for the level and was read before
 abbrev pub HasNoGapNext : Layout → ℕ → Blocks → Frame → Type 0
 HasNoGapNext v level blocks f = f.fresh ≡ false → held_address level blocks ≡ Some f.address → f.next < f.used
     → 0 < address_in v (level_bytes v level blocks) f.next
 
--- so it is in the innermost indirect block that a walk was in
+-- the walk's addresses from the next one on and below an index are zero, and the one at the index isn't, where it is used
+pub record EndsZeroAddresses (w : Walk) (end : ℕ) : Type 0 where
+  pub within : (w.next ≤ end) × (end ≤ w.used)
+  pub zeros : (k : ℕ) → w.next ≤ k → k < end → slice_index w.addresses k ≡ 0
+  pub passed : end < w.used → 0 < slice_index w.addresses end
+
+-- so it is in the innermost indirect block that a walk was in, and at the inode's own addresses where it was in none
 pub record HasPassedGaps (old new : Walk) (blocks : Blocks) : Type 0 where
   pub single : old.single.next < old.single.used → HasNoGapNext old.geometry.layout 0 blocks new.single
   pub double : IsSpent old.single → old.double.next < old.double.used
       → HasNoGapNext old.geometry.layout 1 blocks new.double
-  pub triple : IsSpent old.single → IsSpent old.double → HasNoGapNext old.geometry.layout 2 blocks new.triple
+  pub triple : IsSpent old.single → IsSpent old.double → old.triple.next < old.triple.used
+      → HasNoGapNext old.geometry.layout 2 blocks new.triple
+  pub top : IsAtTop old → new.next < new.used → 0 < slice_index new.addresses new.next
 
 -- a frame passes over so many words of zero, which mean as many gaps at every level, and none follows that is known
 pub record PassesZeros (v : Layout) (level : ℕ) (blocks : Blocks) (old new : Frame) (gaps : ℕ) : Type 0 where

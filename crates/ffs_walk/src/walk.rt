@@ -48,7 +48,7 @@ impl Walk {
     ghost use Rattle.ffs_volume.specs.declared.Step.{Step};
     ghost use Rattle.ffs_walk.specs.Fits.{IsSpent, IsBelow, IsIndirect};
     ghost use Rattle.ffs_walk.specs.Lengths.{IsStepOf};
-    ghost use Rattle.ffs_walk.specs.Skips.{PassesGaps};
+    ghost use Rattle.ffs_walk.specs.Skips.{EndsZeroAddresses, PassesGaps};
     ghost use Rattle.ffs_walk.specs.Frames.{frame_rest, frame_left, item_steps, item_left};
     ghost use Rattle.ffs_walk.specs.Rests.{rest, left, extent_of, Enters, IsAtTop, IsDataStep, IsFirstOf, IsNextStep, IsOver, IsWalkOf, SameExtent, UsesNothing};
     ghost use Rattle.ffs_walk.specs.Windows.{BlocksAfter, CanWalk, HasRoom};
@@ -286,7 +286,34 @@ impl Walk {
         }
     }
 
-    /// Passes over the gaps that come next in the indirect block that the walk is in: how many there are.
+    /// The index of the first of the inode's addresses from the next one on that isn't zero, and how many are used where there is
+    /// none.
+    #[inline(always)]
+    fn zero_addresses_end(&self) -> u32
+        ensures { EndsZeroAddresses self.now result }
+    {
+        for index in self.next..self.used {
+            if self.addresses[index as usize] != 0 {
+                return index;
+            }
+        }
+        self.used
+    }
+
+    /// Passes over the inode's addresses of zero that come next, where the walk is in no indirect block: how many there are.
+    #[inline(never)]
+    fn skip_zero_addresses(&mut self, blocks: &Blocks) -> u32
+        requires { IsAtTop self.old }
+        ensures { PassesGaps blocks.now self.old self.new result }
+    {
+        let end = self.zero_addresses_end();
+        let gaps = end - self.next;
+        self.next = end;
+        gaps
+    }
+
+    /// Passes over the gaps that come next in the indirect block that the walk is in, or at the inode's own addresses where it
+    /// is in none: how many there are.
     #[inline(always)]
     pub fn skip_gaps(&mut self, blocks: &Blocks) -> u32
         requires room { HasRoom self.old.geometry.layout blocks.now }
@@ -298,7 +325,10 @@ impl Walk {
         if self.double.is_left() {
             return self.double.skip_gaps(&self.geometry, 1, blocks);
         }
-        self.triple.skip_gaps(&self.geometry, 2, blocks)
+        if self.triple.is_left() {
+            return self.triple.skip_gaps(&self.geometry, 2, blocks);
+        }
+        self.skip_zero_addresses(blocks)
     }
 
     /// Whether the single indirect block that the walk is in is held and was read before.
@@ -339,6 +369,24 @@ impl Walk {
         ensures same { SameExtent self.old self.new }
     {
         self.single.next += 1;
+    }
+
+    /// A walk that has ended, to be begun for an inode of the volume.
+    pub fn ended(geometry: &Geometry) -> Walk
+        ensures over { IsOver result }
+        ensures geometry { result.geometry ≡ geometry.now }
+    {
+        Walk {
+            geometry: *geometry,
+            blocks: 0,
+            last: geometry.layout.frag,
+            next: 0,
+            used: 0,
+            addresses: [0; 15],
+            single: Frame::spent(),
+            double: Frame::spent(),
+            triple: Frame::spent(),
+        }
     }
 
     /// A walk over the blocks of an inode. Only a file or a directory has steps, and no device or short symlink.

@@ -19,8 +19,8 @@ use Rattle.ffs_claims.proofs.Frames.{found_none, found_still, found_then, ready_
 use Rattle.ffs_claims.proofs.claim.claim.Goals.{in-Gap, in_default-matches}
 use Rattle.ffs_claims.proofs.claim.claim.Goals as goal
 
-pub returns-then-not-has_steps : goal.returns-then-not-has_steps
-returns-then-not-has_steps g c =
+pub returns-then-not-has_steps-clause-claiming : goal.returns-then-not-has_steps-clause-claiming
+returns-then-not-has_steps-clause-claiming g c =
     let v = c.args.geometry.now.layout in
     let s = claims_of c.args.workspace.now in
     let none : is_walked v c.args.inode.now ≡ false = sym (c.has_steps.ensures c.requires.class)
@@ -50,15 +50,15 @@ loop-next-init g c =
       ready = c.requires.ready.ready;
       area = c.requires.ready.only_data;
       open_still = begun;
-      geometry = c.of_class-walk.ensures.geometry;
+      geometry = c.restart.ensures.geometry ∙ c.requires.walk;
       device = refl;
       found = found_none c.args.workspace.now;
       moves = stays s;
-      claims = λ bytes t. ap (after_steps v s) ((c.of_class-walk.ensures.walk c.requires.class).steps bytes);
+      claims = λ bytes t. ap (after_steps v s) ((rw c.requires.walk at c.restart.ensures.walk c.requires.class).steps bytes);
       said = of_same _ _ _ _ _ _
           (of_begins _ (λ bytes. of_lines (lines_of_steps v c.args.number s (steps_of v c.args.inode.now bytes))) _)
           (λ bytes t. ap (λ (xs : List Step). of_lines (lines_of_steps v c.args.number s xs))
-          (sym ((c.of_class-walk.ensures.walk c.requires.class).steps bytes)));
+          (sym ((rw c.requires.walk at c.restart.ensures.walk c.requires.class).steps bytes)));
     }
 
 pub next-requires : goal.next-requires
@@ -70,8 +70,8 @@ next-requires g c =
       holds = rw inv.geometry inv.ready.windows.blocks;
     }
 
-pub returns-in_err-next : goal.returns-in_err-next
-returns-in_err-next g c =
+pub returns-in_err-next-clause-claiming : goal.returns-in_err-next-clause-claiming
+returns-in_err-next-clause-claiming g c =
     let v = c.args.geometry.now.layout in
     let p = err_from_is_err_and c.from_residual.result c.from_residual.ensures.1 in
     let inv = c.loop-next.invariant in
@@ -127,8 +127,8 @@ step-requires g c =
       };
     }
 
-pub returns-in_err-seen : goal.returns-in_err-seen
-returns-in_err-seen g c =
+pub returns-in_err-seen-clause-claiming : goal.returns-in_err-seen-clause-claiming
+returns-in_err-seen-clause-claiming g c =
     let p = err_from_is_err_and c.from_residual-in_err-seen.result c.from_residual-in_err-seen.ensures.1 in
     let inv = c.loop-next.invariant in
     let v = c.args.geometry.now.layout in
@@ -282,8 +282,8 @@ loop-next-preserved g c =
           (ap (λ d. d.contents) (ok ∙ inv.device) ∙ t) c.args.number)));
     }
 
-pub returns-then-not-seen : goal.returns-then-not-seen
-returns-then-not-seen g c =
+pub returns-then-not-seen-clause-claiming : goal.returns-then-not-seen-clause-claiming
+returns-then-not-seen-clause-claiming g c =
     let inv = c.loop-next.invariant in
     let v = c.args.geometry.now.layout in
     let s = claims_of c.step.new.workspace in
@@ -324,8 +324,8 @@ returns-then-not-seen g c =
       };
     }
 
-pub returns-in_default : goal.returns-in_default
-returns-in_default g c =
+pub returns-in_default-clause-claiming : goal.returns-in_default-clause-claiming
+returns-in_default-clause-claiming g c =
     let inv = c.loop-next.invariant in
     let v = c.args.geometry.now.layout in
     let s = claims_of c.loop-next.workspace in

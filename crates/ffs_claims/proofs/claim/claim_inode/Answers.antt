@@ -1,12 +1,15 @@
-use Rattle.std.proofs.Common.{rules, ◌≡◌, arith, ap, ◌∙◌, refl}
+use Rattle.std.proofs.Common.{rules, ◌≡◌, arith, ap, ◌∙◌, refl, subst}
 use Rattle.std.proofs.lemmas.Result.{err_from_is_err_and}
+use Rattle.ffs_volume.specs.declared.Inode.{Inode}
+use Rattle.ffs_volume.specs.Blocks.Inodes.{class_of}
 use Rattle.ffs_volume.specs.Blocks.Owners.{Owner, owner_of}
 use Rattle.ffs_volume.specs.Blocks.BlockCheck.{owner_lines}
 use Rattle.ffs_volume.specs.Blocks.Claims.{after_owner}
 use Rattle.ffs_phase.proofs.Reporting.{of_begins, of_reads, reports_same, reports_knowing}
 use Rattle.ffs_workspace.specs.Holds.{claims_of}
+use Rattle.ffs_claims.specs.Leaves.{Stored}
 use Rattle.ffs_claims.specs.Lines.{of_lines, owner_with}
-use Rattle.ffs_claims.proofs.Inodes.{owner_is, ok_where}
+use Rattle.ffs_claims.proofs.Inodes.{owner_is, ok_then, ok_where}
 use Rattle.ffs_claims.proofs.Weights.{used_below}
 use Rattle.ffs_workspace.proofs.Readiness.{ready_table}
 use Rattle.ffs_claims.proofs.claim.claim_inode.Goals as goal
@@ -33,6 +36,7 @@ claim_read_inode-requires g c =
           only_data = c.requires.ready.claim.only_data;
         };
       };
+      walk = c.requires.walk;
     }
 
 pub returns-in_err-inode-clause-claiming : goal.returns-in_err-inode-clause-claiming
@@ -91,3 +95,14 @@ returns-clause-claiming g c = record {
         again = left.again;
       };
 }
+
+pub returns-clause-stored : goal.returns-clause-stored
+returns-clause-stored g c =
+    let v = c.args.geometry.now.layout in
+    let old = c.args.workspace.now in
+    let new = c.claim_read_inode.new.workspace in
+    ok_then c.claim_read_inode.result _ _
+    (λ h bytes t.
+    subst (λ (i : Inode). Stored c.args.number (class_of v i) i old new) (c.in_ok-inode.ensures.inode bytes t)
+    (record { kinds = h.kinds; marked = h.marked; cut = h.cut; starts = h.starts }))
+    c.claim_read_inode.ensures.stored

@@ -19,10 +19,10 @@ use Rattle.ffs_claims.proofs.claim.claim_read_inode.Goals as goal
 
 pub say_count-requires : goal.say_count-requires
 say_count-requires g c =
-    let m = c.in_ok-claim.ensures.left.moves in
+    let m = c.in_ok-claim.ensures.claiming.left.moves in
     let used : length (claims_of c.claim.new.workspace).used ≡ c.args.geometry.now.layout.size =
     bits_long c.claim.new.workspace.claimed
-    ∙ c.claim.ensures.left.claim.ready.made.claimed in
+    ∙ c.claim.ensures.claiming.left.claim.ready.made.claimed in
     let bad = ap (λ w. w.bad) c.begin.ensures in
     let dups = ap (λ w. w.dups) c.begin.ensures in
     let none = ap (λ w. w.kept) c.begin.ensures in
@@ -50,7 +50,7 @@ claim-requires-clause-begun g c = record {
 
 pub store-requires-2 : goal.store-requires-2
 store-requires-2 g c =
-    let made = c.claim.ensures.left.claim.ready.made in
+    let made = c.claim.ensures.claiming.left.claim.ready.made in
     record {
       number = record {
         kinds = omega (arith, made.kinds);
@@ -115,17 +115,18 @@ returns-in_err-claim-clause-claiming g c = record {
       _ _ _ _ _
       (class_said _ v c.args.number c.args.inode.now (claims_of c.args.workspace.now) s1 c.class_of-class.result _ _
       (ap claims_of c.begin.ensures) c.class_of-class.ensures c.in_ok-say_class.ensures)
-      (λ bytes t. refl) c.in_err-claim.ensures.text);
-  claims = search rules;
+      (λ bytes t. refl) c.in_err-claim.ensures.claiming.text);
+  claims = let p = err_from_is_err_and c.from_residual-in_err-claim.result c.from_residual-in_err-claim.ensures.1 in
+      rw p.1 tt;
   left = let begun = ap (λ w. w.runs_seen) c.begin.ensures in
       let claims = ap (λ w. used_bits (claims_of w)) c.begin.ensures in
       let p = err_from_is_err_and c.from_residual-in_err-claim.result c.from_residual-in_err-claim.ensures.1 in
       rw (p.1, p.2) (record {
-        image = c.in_err-claim.ensures.left.image;
+        image = c.in_err-claim.ensures.claiming.left.image;
         moves = tt;
-        bound = omega (arith, begun, claims, c.claim.ensures.left.bound);
-        again = c.claim.ensures.left.found.again ∙ ap (λ w. w.runs_again) c.begin.ensures;
-        claim = c.claim.ensures.left.claim;
+        bound = omega (arith, begun, claims, c.claim.ensures.claiming.left.bound);
+        again = c.claim.ensures.claiming.left.found.again ∙ ap (λ w. w.runs_again) c.begin.ensures;
+        claim = c.claim.ensures.claiming.left.claim;
       });
 }
 
@@ -143,9 +144,9 @@ returns-in_err-say_count-clause-claiming g c = record {
       (after_steps v s1 (steps_of v c.args.inode.now bytes)))) _ _ _ _
       (class_said _ v c.args.number c.args.inode.now (claims_of c.args.workspace.now) s1 c.class_of-class.result _ _
       (ap claims_of c.begin.ensures) c.class_of-class.ensures c.in_ok-say_class.ensures)
-      (λ bytes t. refl) c.in_ok-claim.ensures.text)
+      (λ bytes t. refl) c.in_ok-claim.ensures.claiming.text)
       (count_right _ v c.args.number c.args.inode.now s1 (claims_of c.claim.new.workspace) c.class_of-class.result
-      c.in_ok-claim.ensures.claims)
+      c.in_ok-claim.ensures.claiming.claims)
       c.in_err-say_count.ensures);
   claims = let p = err_from_is_err_and c.from_residual-in_err-say_count.result
       c.from_residual-in_err-say_count.ensures.1 in
@@ -154,11 +155,11 @@ returns-in_err-say_count-clause-claiming g c = record {
       let claims = ap (λ w. used_bits (claims_of w)) c.begin.ensures in
       let p = err_from_is_err_and c.from_residual-in_err-say_count.result c.from_residual-in_err-say_count.ensures.1 in
       rw (p.1, p.2) (record {
-        image = c.in_ok-claim.ensures.left.image;
+        image = c.in_ok-claim.ensures.claiming.left.image;
         moves = tt;
-        bound = omega (arith, begun, claims, c.claim.ensures.left.bound);
-        again = c.claim.ensures.left.found.again ∙ ap (λ w. w.runs_again) c.begin.ensures;
-        claim = c.claim.ensures.left.claim;
+        bound = omega (arith, begun, claims, c.claim.ensures.claiming.left.bound);
+        again = c.claim.ensures.claiming.left.found.again ∙ ap (λ w. w.runs_again) c.begin.ensures;
+        claim = c.claim.ensures.claiming.left.claim;
       });
 }
 
@@ -174,12 +175,12 @@ returns-clause-claiming g c = record {
       (after_steps v s1 (steps_of v c.args.inode.now bytes)))) _ _ _ _
       (class_said _ v c.args.number c.args.inode.now (claims_of c.args.workspace.now) s1 c.class_of-class.result _ _
       (ap claims_of c.begin.ensures) c.class_of-class.ensures c.in_ok-say_class.ensures)
-      (λ bytes t. refl) c.in_ok-claim.ensures.text)
+      (λ bytes t. refl) c.in_ok-claim.ensures.claiming.text)
       (count_right _ v c.args.number c.args.inode.now s1 (claims_of c.claim.new.workspace) c.class_of-class.result
-      c.in_ok-claim.ensures.claims)
+      c.in_ok-claim.ensures.claiming.claims)
       c.in_ok-say_count.ensures;
   claims = λ bytes t.
-      ap claims_of c.store-2.ensures.rest ∙ c.in_ok-claim.ensures.claims bytes t
+      ap claims_of c.store-2.ensures.rest ∙ c.in_ok-claim.ensures.claiming.claims bytes t
       ∙ ap (λ (s : Claims). after_steps c.args.geometry.now.layout s
       (steps_of c.args.geometry.now.layout c.args.inode.now bytes)) (ap claims_of c.begin.ensures);
   left = let begun = ap (λ w. w.runs_seen) c.begin.ensures in
@@ -187,19 +188,19 @@ returns-clause-claiming g c = record {
       let stored = ap (λ w. w.runs_seen) c.store-2.ensures.rest in
       let bad = ap (λ w. w.bad) c.begin.ensures in
       let dups = ap (λ w. w.dups) c.begin.ensures in
-      let m = c.in_ok-claim.ensures.left.moves in
+      let m = c.in_ok-claim.ensures.claiming.left.moves in
       let used = ap (λ w. used_bits (claims_of w)) c.store-2.ensures.rest in
       record {
-        image = c.in_ok-claim.ensures.left.image;
+        image = c.in_ok-claim.ensures.claiming.left.image;
         moves = omega (arith, begun, claims, stored, used, m.weighs, m.bad_cap, m.dups_cap, bad, dups);
-        bound = omega (arith, begun, claims, stored, c.claim.ensures.left.bound);
-        again = ap (λ w. w.runs_again) c.store-2.ensures.rest ∙ c.claim.ensures.left.found.again
+        bound = omega (arith, begun, claims, stored, c.claim.ensures.claiming.left.bound);
+        again = ap (λ w. w.runs_again) c.store-2.ensures.rest ∙ c.claim.ensures.claiming.left.found.again
             ∙ ap (λ w. w.runs_again) c.begin.ensures;
         claim = record {
           ready = ready_stored c.args.geometry.now.layout (g.I.Image.device c.claim.new.image) c.args.number _ _
               c.claim.new.workspace c.store-2.new.workspace c.store-2.ensures.stored c.store-2.ensures.rest
-              c.claim.ensures.left.claim.ready;
-          only_data = c.claim.ensures.left.claim.only_data;
+              c.claim.ensures.claiming.left.claim.ready;
+          only_data = c.claim.ensures.claiming.left.claim.only_data;
         };
       };
 }

@@ -45,6 +45,7 @@ loop-number-init g c =
         ready = ready_still v _ _ _ c.reserve.ensures.only.made c.reserve.ensures.only.windows c.requires.ready;
         only_data = c.empty-area.ensures v;
       };
+      walk = c.ended-walk.ensures.geometry;
       device = refl;
       low = omega arith;
       high = λ h. omega arith;
@@ -84,6 +85,7 @@ claim_inode-requires g c =
           used_below c.args.geometry.now.layout c.loop-number.workspace inv.ready.ready.made,
         );
       };
+      walk = inv.walk;
     }
 
 pub returns-in_err-claim_inode-clause-prints : goal.returns-in_err-claim_inode-clause-prints
@@ -125,6 +127,7 @@ loop-number-preserved g c =
     let stored = c.in_ok-claim_inode.ensures.stored in
     record {
       ready = c.claim_inode.ensures.claiming.left.claim;
+      walk = c.claim_inode.ensures.walk;
       device = c.in_ok-claim_inode.ensures.claiming.left.image ∙ inv.device;
       low = omega arith;
       high = λ h. omega arith;

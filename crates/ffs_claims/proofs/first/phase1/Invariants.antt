@@ -20,6 +20,7 @@ use Rattle.ffs_claims.proofs.first.phase1.Given as goal
 abbrev pub invariant-loop-number : goal.invariant-loop-number
 invariant-loop-number g l = record {
   ready : CanClaim l.geometry.layout (g.I.Image.device l.image) l.workspace l.area;
+  walk : l.walk.geometry ≡ l.geometry;
   device : g.I.Image.device l.image ≡ g.I.Image.device l.fn.image;
   low : 2 ≤ l.number;
   high : 2 < l.number → l.number ≤ inodes_of l.geometry.layout;

@@ -33,16 +33,16 @@ returns-then-is_left-2 c = record {
   same = search rules;
 }
 
-pub returns : goal.returns
-returns c = record {
+pub returns-then-is_left-3 : goal.returns-then-is_left-3
+returns-then-is_left-3 c = record {
   steps = λ reported holds bytes e.
       let w = c.args.self.now in
       let g = w.geometry.layout in
-      in_third _ _ _ _ _ (replicate c.skip_gaps-2.result Gap)
+      in_third _ _ _ _ _ (replicate c.skip_gaps-then-is_left-3.result Gap)
       (spent_rest g bytes (steps_at (extent_of w) bytes 0) 1 w.single (c.is_left.ensures.spent c.if-is_left.false))
       (spent_rest g bytes (steps_at (extent_of w) bytes 1) g.nindir w.double
       (c.is_left-2.ensures.spent c.if-is_left-2.false))
-      (c.skip_gaps-2.ensures.steps reported holds bytes e (steps_at (extent_of w) bytes 2) (g.nindir * g.nindir)
+      (c.skip_gaps-then-is_left-3.ensures.steps reported holds bytes e (steps_at (extent_of w) bytes 2) (g.nindir * g.nindir)
       (zero_gap (extent_of w) bytes 2));
   falls = grind (arith, common_steps);
   passed = grind (arith, common_steps);

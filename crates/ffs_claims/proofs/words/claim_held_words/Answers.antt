@@ -1,39 +1,39 @@
 use Rattle.std.proofs.Common.{◌∙◌, ap, arith}
 use Rattle.ffs_claims.proofs.Weights.{seen_bound}
 use Rattle.ffs_claims.proofs.WordClaims.{kept_room, words_none, words_once, words_then}
-use Rattle.ffs_claims.proofs.words.claim_words.Goals as goal
+use Rattle.ffs_claims.proofs.words.claim_held_words.Goals as goal
 
-pub loop-walk-init : goal.loop-walk-init
-loop-walk-init c = record {
+pub loop-geometry-init : goal.loop-geometry-init
+loop-geometry-init c = record {
   words = words_none c.args.geometry.now.layout c.args.workspace.now c.args.walk.now c.requires.next.made
       c.requires.next.uncut;
-  held = c.is_in_held_block.ensures c.if-not-is_in_held_block.false;
+  held = c.requires.held;
 }
 
 pub next_address-address-requires : goal.next_address-address-requires
 next_address-address-requires c =
-    let inv = c.loop-walk.invariant in
+    let inv = c.loop-geometry.invariant in
     record {
       room = record {
         blocks_fit = rw (inv.words.same.geometry ∙ c.requires.geometry, inv.words.only.made.blocks) (omega arith);
       };
-      left = c.has_word.ensures.0 c.loop-walk-test.true;
+      left = c.has_word.ensures.0 c.loop-geometry-test.true;
     }
 
 -- a word that isn't claimed changes nothing
 pub returns-then-not-claim_address : goal.returns-then-not-claim_address
 returns-then-not-claim_address c =
-    rw (c.claim_address.ensures.kept c.if-not-claim_address.true) c.loop-walk.invariant.words
+    rw (c.claim_address.ensures.kept c.if-not-claim_address.true) c.loop-geometry.invariant.words
 
 pub pass_word-requires-clause-left : goal.pass_word-requires-clause-left
-pass_word-requires-clause-left c = c.has_word.ensures.0 c.loop-walk-test.true
+pass_word-requires-clause-left c = c.has_word.ensures.0 c.loop-geometry-test.true
 
 pub claim_address-requires : goal.claim_address-requires
 claim_address-requires c =
-    let inv = c.loop-walk.invariant in
+    let inv = c.loop-geometry.invariant in
     let v = c.args.geometry.now.layout in
     let u = c.args.workspace.now in
-    let w = c.loop-walk.workspace in
+    let w = c.loop-geometry.workspace in
     record {
       made = inv.words.only.made;
       only_data = c.requires.next.only_data;
@@ -52,13 +52,13 @@ claim_address-requires c =
       );
     }
 
-pub loop-walk-preserved : goal.loop-walk-preserved
-loop-walk-preserved c =
-    let inv = c.loop-walk.invariant in
+pub loop-geometry-preserved : goal.loop-geometry-preserved
+loop-geometry-preserved c =
+    let inv = c.loop-geometry.invariant in
     let v = c.args.geometry.now.layout in
-    let a = c.loop-walk.workspace in
+    let a = c.loop-geometry.workspace in
     let b = c.claim_address.new.workspace in
-    let x = c.loop-walk.walk in
+    let x = c.loop-geometry.walk in
     let y = c.pass_word.new.self in
     let sizes = c.args.geometry.now.sound.sizes in
     let passes = c.pass_word.ensures.word a.windows.blocks inv.held in

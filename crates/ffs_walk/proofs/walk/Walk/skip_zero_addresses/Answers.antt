@@ -1,0 +1,23 @@
+use Rattle.std.proofs.Common.{arith, rules, ◌-◌, ◌*◌, ◌≤◌}
+use Rattle.std.proofs.Math.Nat.{mul-le-mul_right}
+use Rattle.std.proofs.lemmas.Grind.{common_steps}
+use Rattle.ffs_walk.specs.Rests.{most_at}
+use Rattle.ffs_walk.proofs.GapSteps.{gaps_at_top}
+use Rattle.ffs_walk.proofs.walk.Walk.skip_zero_addresses.Goals as goal
+
+pub returns : goal.returns
+returns c =
+    let w = c.args.self.now in
+    let end = c.zero_addresses_end-end.result in
+    let ends = c.zero_addresses_end-end.ensures in
+    record {
+      steps = λ contents holds bytes e. gaps_at_top w bytes end c.requires ends;
+      falls =
+          let fewer : w.used - end ≤ w.used - w.next = omega (arith, ends.within.0) in
+          let scaled : (w.used - end) * most_at w.geometry.layout.nindir 3 ≤
+          (w.used - w.next) * most_at w.geometry.layout.nindir 3 =
+          mul-le-mul_right (most_at w.geometry.layout.nindir 3) fewer in
+          omega (arith, scaled);
+      passed = grind (arith, common_steps);
+      same = search rules;
+    }
