@@ -96,13 +96,10 @@ fn has_valid_type_and_name(chunk: &[u8; DIRBLKSIZ], place: usize, len: u16) -> b
         && has_valid_name(chunk, place)
 }
 
-/// The well formed entry at a place of a chunk, and None where none is there (dir(5)).
-///
-/// At byte 0 is the number (u32), at 4 the record's length (u16), at 6 the type (u8), at 7 the name's
-/// length (u8), from 8 on the name and a NUL. The name of an entry with the number 0 is empty.
+// The well formed entry at a place of a chunk.
 #[inline(always)]
 #[tactic(auto, unfolding(ffs_volume::specs::Directories::Entries::entry_at, ffs_volume::specs::Directories::Entries::is_well_formed, ffs_volume::specs::Directories::Entries::entry_read))]
-pub fn entry_at(order: Order, chunk: &[u8; DIRBLKSIZ], place: usize) -> Option<Entry<'_>>
+fn entry_of(order: Order, chunk: &[u8; DIRBLKSIZ], place: usize) -> Option<Entry<'_>>
     requires { place ≤ 512 }
     ensures { IsEntryAt order chunk.now place result }
 {
@@ -133,4 +130,20 @@ pub fn entry_at(order: Order, chunk: &[u8; DIRBLKSIZ], place: usize) -> Option<E
         kind,
         name,
     })
+}
+
+/// The well formed entry at a place of a chunk, and None where none is there (dir(5)).
+///
+/// At byte 0 is the number (u32), at 4 the record's length (u16), at 6 the type (u8), at 7 the name's
+/// length (u8), from 8 on the name and a NUL. The name of an entry with the number 0 is empty.
+#[inline(always)]
+pub fn entry_at(order: Order, chunk: &[u8; DIRBLKSIZ], place: usize) -> Option<Entry<'_>>
+    requires { place ≤ 512 }
+    ensures { IsEntryAt order chunk.now place result }
+{
+    // The order is asked for once, and not for each number.
+    match order {
+        Order::Little => entry_of(Order::Little, chunk, place),
+        Order::Big => entry_of(Order::Big, chunk, place),
+    }
 }
