@@ -1,5 +1,5 @@
 -- A list in parts of so many bytes, as a loop goes over them.
-use Rattle.std.proofs.Common.{zero, suc, ◌≡◌, ◌||◌, ◌++◌, ◌+◌, ◌*◌, ◌<◌, ◌∙◌, ap, sym, refl, ℕ, List, get_or, take}
+use Rattle.std.proofs.Common.{zero, suc, ◌≡◌, ◌||◌, ◌++◌, ◌+◌, ◌-◌, ◌*◌, ◌<◌, ◌≤◌, ◌∙◌, ap, sym, refl, ℕ, List, get_or, take}
 use Rattle.std.proofs.Common.{drop, arith, true, false, Bool}
 use Rattle.std.specs.Simd.{first_chunks}
 use Rattle.std.proofs.Math.Nat.{suc-mul, zero-mul}
@@ -49,3 +49,25 @@ pub mark_some : (n count : ℕ) (xs : List ℕ) (parts : List (List ℕ)) (i : �
 mark_some n count xs parts i d are below some =
     mark_step n count xs i d below
     ∙ ap (λ b. b || has_mark (drop ((i + 1) * n) xs)) (ap (λ ps. has_mark (get_or ps i d)) (sym are) ∙ some)
+
+-- what is left of bytes has no mark that they don't have
+mark_left : (xs : List ℕ) (k : ℕ) → has_mark (drop k xs) ≡ true → has_mark xs ≡ true
+mark_left xs k some =
+    ap has_mark (sym (take-append-drop k xs)) ∙ mark_append (take k xs) (drop k xs)
+    ∙ (ap (λ b. has_mark (take k xs) || b) some ∙ or_true (has_mark (take k xs)))
+  where
+    or_true : (b : Bool) → (b || true) ≡ true
+    or_true true = refl
+    or_true false = refl
+
+-- where what is left decides, more of it does too
+pub mark_from : (xs : List ℕ) (j k : ℕ) → j ≤ k → has_mark xs ≡ has_mark (drop k xs) → has_mark (drop j xs)
+    ≡ has_mark xs
+mark_from xs j k before decides = same (has_mark (drop j xs)) (has_mark xs) (mark_left xs j) (λ some.
+    mark_left (drop j xs) (k - j)
+    (ap has_mark (drop-drop (k - j) j xs ∙ ap (λ n. drop n xs) (omega arith)) ∙ (sym decides ∙ some)))
+  where
+    same : (a b : Bool) → (a ≡ true → b ≡ true) → (b ≡ true → a ≡ true) → a ≡ b
+    same true b there back = sym (there refl)
+    same false true there back = back refl
+    same false false there back = refl

@@ -1,6 +1,6 @@
 //! Reads an entry of a directory from its chunk.
 
-ghost use Rattle.std.specs.Prelude.{IsTrue, ◌≡◌, ◌+◌, ◌≤◌, ◌==◌, ◌||◌, slice_index};
+ghost use Rattle.std.specs.Prelude.{IsTrue, ◌≡◌, ◌+◌, ◌≤◌, ◌==◌, ◌||◌, length, slice_index};
 ghost use Rattle.std.specs.List.{list_any};
 ghost use Rattle.ffs_volume.specs.Directories.Entries.{has_valid_type_and_name as held, is_valid_record_length as fits, has_valid_name as named};
 ghost use Rattle.ffs_layout.specs.Entry.{IsEntryAt, has_mark};
@@ -43,32 +43,37 @@ fn has_mark_of_three(bytes: &[u8]) -> bool
     false
 }
 
-// Whether one of at most seven bytes is NUL or `/`.
+// Whether one of at most eight bytes is NUL or `/`: of the first four or the last four, which have some in common where they are
+// fewer than eight.
 #[inline]
-fn has_mark_of_seven(bytes: &[u8]) -> bool
+fn has_mark_of_eight(bytes: &[u8]) -> bool
+    requires { length bytes.now ≤ 8 }
     ensures { result ≡ has_mark bytes.now }
 {
-    let (parts, rest) = bytes.as_chunks::<4>();
-    for part in parts {
-        if has_mark_at_once(part) {
-            return true;
-        }
-    }
-    has_mark_of_three(rest)
+    let Some(first) = bytes.first_chunk::<4>() else {
+        return has_mark_of_three(bytes);
+    };
+    let Some(last) = bytes.last_chunk::<4>() else {
+        return has_mark_of_three(bytes);
+    };
+    has_mark_at_once(first) || has_mark_at_once(last)
 }
 
-// Whether a byte is NUL or `/`, as none of a name is.
+// Whether a byte is NUL or `/`, as none of a name is. The last eight bytes may have some in common with those before.
 #[inline]
 fn has_nul_or_slash(bytes: &[u8]) -> bool
     ensures { result ≡ (list_any (λ b. b == 0) bytes.now || list_any (λ b. b == 47) bytes.now) }
 {
-    let (parts, rest) = bytes.as_chunks::<8>();
+    let Some(last) = bytes.last_chunk::<8>() else {
+        return has_mark_of_eight(bytes);
+    };
+    let (parts, _) = bytes.as_chunks::<8>();
     for part in parts {
         if has_mark_at_once(part) {
             return true;
         }
     }
-    has_mark_of_seven(rest)
+    has_mark_at_once(last)
 }
 
 // Whether the record at the place has a name.
@@ -91,13 +96,10 @@ fn has_valid_type_and_name(chunk: &[u8; DIRBLKSIZ], place: usize, len: u16) -> b
         && has_valid_name(chunk, place)
 }
 
-/// The well formed entry at a place of a chunk, and None where none is there (dir(5)).
-///
-/// At byte 0 is the number (u32), at 4 the record's length (u16), at 6 the type (u8), at 7 the name's
-/// length (u8), from 8 on the name and a NUL. The name of an entry with the number 0 is empty.
+// The well formed entry at a place of a chunk.
 #[inline(always)]
 #[tactic(auto, unfolding(ffs_volume::specs::Directories::Entries::entry_at, ffs_volume::specs::Directories::Entries::is_well_formed, ffs_volume::specs::Directories::Entries::entry_read))]
-pub fn entry_at(order: Order, chunk: &[u8; DIRBLKSIZ], place: usize) -> Option<Entry<'_>>
+fn entry_of(order: Order, chunk: &[u8; DIRBLKSIZ], place: usize) -> Option<Entry<'_>>
     requires { place ≤ 512 }
     ensures { IsEntryAt order chunk.now place result }
 {
@@ -128,4 +130,20 @@ pub fn entry_at(order: Order, chunk: &[u8; DIRBLKSIZ], place: usize) -> Option<E
         kind,
         name,
     })
+}
+
+/// The well formed entry at a place of a chunk, and None where none is there (dir(5)).
+///
+/// At byte 0 is the number (u32), at 4 the record's length (u16), at 6 the type (u8), at 7 the name's
+/// length (u8), from 8 on the name and a NUL. The name of an entry with the number 0 is empty.
+#[inline(always)]
+pub fn entry_at(order: Order, chunk: &[u8; DIRBLKSIZ], place: usize) -> Option<Entry<'_>>
+    requires { place ≤ 512 }
+    ensures { IsEntryAt order chunk.now place result }
+{
+    // The order is asked for once, and not for each number.
+    match order {
+        Order::Little => entry_of(Order::Little, chunk, place),
+        Order::Big => entry_of(Order::Big, chunk, place),
+    }
 }

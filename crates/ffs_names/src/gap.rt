@@ -1,30 +1,38 @@
 //! Whether a hole of a directory is kept.
-ghost use Rattle.std.specs.Prelude.{◌≡◌, ◌||◌, IfOk};
+ghost use Rattle.std.specs.Prelude.{◌≡◌, ◌||◌, IfOk, IsTrue};
 ghost use Rattle.ffs_image.specs.Device.{ForContents};
+ghost use Rattle.ffs_walk.specs.Rests.{IsOver};
 ghost use Rattle.ffs_names.specs.Windows.{CanWalkDir};
 ghost use Rattle.ffs_names.specs.Readings.{gap_left, LeavesWalk};
 
 use crate::chunks::Chunks;
 use ffs_image::{Image, ImageFault};
 use ffs_volume::Step;
-use ffs_walk::Blocks;
+use ffs_walk::{Blocks, Walk};
 
-/// Whether a hole is among the steps of a directory that are kept: those that the reading of its chunks has seen, and those
-/// that are left.
-pub fn gap_of<I: Image>(
+/// Whether no step is left of a walk.
+#[inline(always)]
+fn is_over(walk: &Walk) -> bool
+    ensures { IsTrue result → IsOver walk.now }
+{
+    walk.next >= walk.used
+        && !walk.single.is_left()
+        && !walk.double.is_left()
+        && !walk.triple.is_left()
+}
+
+/// Whether a hole is among the steps of a directory that are kept, of those that are left.
+fn find_gap<I: Image>(
     image: &mut I,
     blocks: &mut Blocks,
     chunks: &mut Chunks,
 ) -> Result<bool, ImageFault>
     requires { CanWalkDir chunks.old.walk.geometry.layout (I.device image.old) blocks.old }
     ensures gap { IfOk result (λ g. ForContents (I.device image.old).contents (λ b.
-        g ≡ (chunks.old.gap || gap_left b chunks.old))) }
+        g ≡ gap_left b chunks.old)) }
     ensures leaves { LeavesWalk chunks.old chunks.new (I.device image.old) (I.device image.new)
         blocks.new result }
 {
-    if chunks.gap {
-        return Ok(true);
-    }
     'steps: while chunks.keeping.is_replay_open() {
         match chunks.walk.next(image, blocks)? {
             None => return Ok(false),
@@ -43,4 +51,27 @@ pub fn gap_of<I: Image>(
         }
     }
     Ok(false)
+}
+
+/// Whether a hole is among the steps of a directory that are kept: those that the reading of its chunks has seen, and those
+/// that are left.
+#[inline(always)]
+pub fn gap_of<I: Image>(
+    image: &mut I,
+    blocks: &mut Blocks,
+    chunks: &mut Chunks,
+) -> Result<bool, ImageFault>
+    requires { CanWalkDir chunks.old.walk.geometry.layout (I.device image.old) blocks.old }
+    ensures gap { IfOk result (λ g. ForContents (I.device image.old).contents (λ b.
+        g ≡ (chunks.old.gap || gap_left b chunks.old))) }
+    ensures leaves { LeavesWalk chunks.old chunks.new (I.device image.old) (I.device image.new)
+        blocks.new result }
+{
+    if chunks.gap {
+        return Ok(true);
+    }
+    if is_over(&chunks.walk) {
+        return Ok(false);
+    }
+    find_gap(image, blocks, chunks)
 }

@@ -1,10 +1,9 @@
 -- What the paths of all entries of a directory begin with, and a name after it.
-use Rattle.std.proofs.Common.{◌≡◌, ℕ, ◌+◌, ◌<◌, ◌≤◌, List, [], ◌∷◌, ◌++◌, length, take, set, ap, sym, ◌∙◌, arith}
+use Rattle.std.proofs.Common.{◌≡◌, ℕ, ◌+◌, ◌<◌, ◌≤◌, List, [], ◌∷◌, ◌++◌, length, take, ap, sym, ◌∙◌, arith}
 use Rattle.std.proofs.Common.{append_assoc, ◌==◌}
 use Rattle.std.specs.Prelude.{if◌then◌else◌}
 use Rattle.std.proofs.lemmas.Slice.{take-put_mid}
 use Rattle.std.proofs.lemmas.Bool.{ne_eqb}
-use Rattle.std.proofs.lemmas.List.{take_more_set}
 use borrow.Rule.Slice.PartMut.{put_mid}
 use Rattle.ffs_volume.specs.Directories.Graph.{Graph}
 use Rattle.ffs_volume.specs.Directories.Paths.{entry_path}
@@ -29,13 +28,6 @@ named p begins k end bytes name size b is fits g d h =
     ∙ (append_assoc _ (47 ∷ []) name
     ∙ sym (entry-whole names name p.names.start p.names.bytes (omega arith) p.names.long (held.whole b.whole)
     (omega arith)))))
-
--- a directory's path and a `/` are written
-pub first_is : (k end : ℕ) (bytes path : List ℕ) → length path ≡ end → end < length (put_mid 0 k bytes path)
-    → take (end + 1) (set (put_mid 0 k bytes path) end 47) ≡ path ++ 47 ∷ []
-first_is k end bytes path is within =
-    take_more_set (put_mid 0 k bytes path) end 47 within
-    ∙ ap (λ xs. xs ++ 47 ∷ []) (take-put_mid 0 k bytes path end (omega arith) (omega arith))
 
 -- a path that is not empty is in the bytes
 pub in_bytes : (n : ℕ) (text bytes : List ℕ) → 0 < n → (if n == 0 then text else take n bytes) ≡ take n bytes

@@ -20,15 +20,15 @@ fn names(entry: Named, number: u32) -> bool
     is_plain(entry.role) && entry.number == number
 }
 
-/// The number that bounds those of the entries that are passed, after one more.
-fn highest_with(highest: u32, entry: Named) -> u32
-    ensures grows { highest ≤ result }
-    ensures passed { (n : ℕ) → result < n → is_naming_entry n (roled_of entry []) ≡ false }
+/// Raises the number that bounds those of the entries that are passed, where one more has a greater one.
+#[inline(always)]
+fn raise(highest: &mut u32, entry: Named)
+    ensures grows { highest.old ≤ highest.new }
+    ensures passed { (n : ℕ) → highest.new < n → is_naming_entry n (roled_of entry []) ≡ false }
 {
-    if is_plain(entry.role) {
-        return highest.max(entry.number);
+    if is_plain(entry.role) && entry.number > *highest {
+        *highest = entry.number;
     }
-    highest
 }
 
 /// A reading of the entries of a directory, which continues from one search to the next.
@@ -93,7 +93,7 @@ impl Search {
             .entries
             .next(image, &mut windows.blocks, &mut windows.chunk)?
         {
-            self.highest = highest_with(self.highest, entry);
+            raise(&mut self.highest, entry);
             if names(entry, number) {
                 return Ok(true);
             }

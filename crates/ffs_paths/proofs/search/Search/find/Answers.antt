@@ -10,12 +10,12 @@ returns-then-names-clause-found g c = λ b t.
     let u = ap (λ d. d.contents) c.entries.invariant.device ∙ t in
     let o = rw c.in-Some.is at c.in_ok-entry.ensures.entry in
     let e = roled_of c.in-Some.entry (last_name c.next.new.self) in
-    let grows = c.highest_with-self.ensures.grows in
+    let grows = c.raise.ensures.grows in
     record {
       name = c.entries.invariant.name b t ∙ (ap (name_in c.args.number) (o b u).entries
           ∙ name_in-here c.args.number e (to_come b c.next.new.self) (sym c.names.ensures ∙ c.if-names.true));
       above = λ x h. c.entries.invariant.above b t x (omega arith) ∙ (ap (name_in x) (o b u).entries
-          ∙ name_in-past x e (to_come b c.next.new.self) (c.highest_with-self.ensures.passed x h));
+          ∙ name_in-past x e (to_come b c.next.new.self) (c.raise.ensures.passed x h));
     }
 
 -- no entry is left
@@ -33,7 +33,7 @@ pub entries-preserved : goal.entries-preserved
 entries-preserved g c =
     let i = c.entries.invariant in
     let device = c.in_ok-entry.ensures.leaves.read ∙ i.device in
-    let low = c.highest_with-self.ensures.grows in
+    let low = c.raise.ensures.grows in
     let before = i.grows in
     let ready = rw i.geometry at c.next.ensures.leaves.ready in
     record {
@@ -48,7 +48,7 @@ entries-preserved g c =
           let o = rw c.in-Some.is at c.in_ok-entry.ensures.entry in
           let e = roled_of c.in-Some.entry (last_name c.next.new.self) in
           i.above b t x (omega arith) ∙ (ap (name_in x) (o b u).entries ∙ name_in-past x e
-          (to_come b c.next.new.self) (c.highest_with-self.ensures.passed x h));
+          (to_come b c.next.new.self) (c.raise.ensures.passed x h));
       grows = omega arith;
       geometry = c.next.ensures.leaves.geometry ∙ i.geometry;
       windows = record {

@@ -3,7 +3,7 @@ use Rattle.ffs_image.specs.Device.{ForContents}
 use Rattle.ffs_walk.specs.Rests.{left}
 use Rattle.ffs_names.specs.Windows.{CanWalkDir}
 use Rattle.ffs_names.specs.Readings.{gap_left, IsSame}
-use Rattle.ffs_names.proofs.gap.gap_of.Given as goal
+use Rattle.ffs_names.proofs.gap.find_gap.Given as goal
 
 abbrev pub invariant-steps : goal.invariant-steps
 invariant-steps g l = let device = g.I.Image.device in record {

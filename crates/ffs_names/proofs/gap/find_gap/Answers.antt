@@ -1,0 +1,129 @@
+use Rattle.std.proofs.Common.{sym, ap, ◌∙◌, false, List}
+use Rattle.ffs_volume.specs.declared.Step.{Step}
+use Rattle.ffs_walk.specs.Rests.{rest}
+use Rattle.ffs_names.specs.Keepings.{replay_in}
+use Rattle.ffs_names.specs.Readings.{gap_after}
+use Rattle.ffs_names.proofs.GapsLeft.{gap_over_tail, gap_seen, gap_to_run, gap_past_run, gap_unseen}
+use Rattle.ffs_names.proofs.Continuing.{walk_volume, walk_room, walk_holds, walk_on}
+use Rattle.ffs_names.proofs.gap.find_gap.Goals as goal
+
+pub next-requires : goal.next-requires
+next-requires g c =
+    let inv = c.steps.invariant in
+    let first = c.args.chunks.now.walk.geometry in
+    let here = c.steps.chunks.walk.geometry in
+    record {
+      volume = walk_volume first here _ _ inv.ready inv.kept.geometry;
+      room = walk_room first here _ _ inv.ready inv.kept.geometry;
+      holds = walk_holds first here _ _ inv.ready inv.kept.geometry;
+    }
+
+pub steps-preserved-in-Some-Run : goal.steps-preserved-in-Some-Run
+steps-preserved-in-Some-Run g c =
+    let inv = c.steps.invariant in
+    let s = c.steps.chunks in
+    let w = c.next.new.self in
+    let r = c.in-Some-Run in
+    let read = rw r.field-0-is at (rw r.is at c.in_ok-next.ensures.step.steps) in
+    record {
+      same = c.in_ok-next.ensures.leaves.read ∙ inv.same;
+      kept = record {
+        geometry = c.next.ensures.same.geometry ∙ inv.kept.geometry;
+        cut = c.take-kept.ensures.cut ∙
+            inv.kept.cut;
+        taken = inv.kept.taken;
+        budget = inv.kept.budget;
+        runs = inv.kept.runs;
+      };
+      ready = walk_on _ _ _ _ _ _ inv.ready inv.kept.geometry (ap (λ d. d.size) c.in_ok-next.ensures.leaves.read)
+          c.next.ensures.leaves.kept.size c.next.ensures.leaves.kept.holds;
+      gap = λ b t. inv.gap b t
+          ∙ (sym (gap_to_run s.walk.geometry.layout w.geometry.layout s.keeping.cut (replay_in s.keeping) false r.start
+          r.len r._block (rest b s.walk) (rest b w)
+          (ap (λ x. x.layout) c.next.ensures.same.geometry) (read b (ap (λ d. d.contents) inv.same ∙ t)))
+          ∙ sym (gap_past_run w.geometry.layout s.keeping.cut c.take-kept.new.self.cut (replay_in s.keeping)
+          (replay_in c.take-kept.new.self) (rest b w) r.start r.len r._block false
+          (c.take-kept.ensures.replays w.geometry.layout r.start r._block c.in_range-in_range.ensures).after
+          c.take-kept.ensures.cut));
+    }
+
+pub steps-preserved : goal.steps-preserved
+steps-preserved g c =
+    let inv = c.steps.invariant in
+    let s = c.steps.chunks in
+    let w = c.next.new.self in
+    let r = c.in-Some-Tail in
+    let read = rw r.field-0-is at (rw r.is at c.in_ok-next.ensures.step.steps) in
+    record {
+      same = c.in_ok-next.ensures.leaves.read ∙ inv.same;
+      kept = record {
+        geometry = c.next.ensures.same.geometry ∙ inv.kept.geometry;
+        cut = inv.kept.cut;
+        taken =
+            inv.kept.taken;
+        budget = inv.kept.budget;
+        runs = inv.kept.runs;
+      };
+      ready = walk_on _ _ _ _ _ _ inv.ready inv.kept.geometry (ap (λ d. d.size) c.in_ok-next.ensures.leaves.read)
+          c.next.ensures.leaves.kept.size c.next.ensures.leaves.kept.holds;
+      gap = λ b t. inv.gap b t
+          ∙ sym (gap_over_tail s.walk.geometry.layout w.geometry.layout s.keeping.cut (replay_in s.keeping) false
+          (rest b s.walk) (rest b w)
+          (ap (λ x. x.layout) c.next.ensures.same.geometry) (read b (ap (λ d. d.contents) inv.same ∙ t)));
+    }
+
+pub returns-in-Some-Gap-clause-gap : goal.returns-in-Some-Gap-clause-gap
+returns-in-Some-Gap-clause-gap g c = λ b t.
+    let inv = c.steps.invariant in
+    let s = c.steps.chunks in
+    let r = c.in-Some-Gap in
+    let read = rw r.field-0-is at (rw r.is at c.in_ok-next.ensures.step.steps) in
+    gap_seen s.walk.geometry.layout s.walk.geometry.layout s.keeping.cut (replay_in s.keeping) false (rest b s.walk)
+    (rest b c.next.new.self)
+    (sym c.is_replay_open.ensures ∙ c.steps-test.true) (read b (ap (λ d. d.contents) inv.same ∙ t))
+    ∙ sym (inv.gap b t)
+
+pub returns-clause-gap : goal.returns-clause-gap
+returns-clause-gap g c = λ b t.
+    let inv = c.steps.invariant in
+    let s = c.steps.chunks in
+    sym (inv.gap b t ∙ gap_unseen s.walk.geometry.layout s.keeping.cut (replay_in s.keeping) (rest b s.walk)
+    (sym c.is_replay_open.ensures ∙ c.steps-test.false))
+
+pub returns-in-None-clause-gap : goal.returns-in-None-clause-gap
+returns-in-None-clause-gap g c = λ b t.
+    let inv = c.steps.invariant in
+    let none = (rw c.in-None.is at c.in_ok-next.ensures.step.steps) b (ap (λ d. d.contents) inv.same ∙ t) in
+    sym (inv.gap b t ∙ ap (λ (xs : List Step). gap_after c.steps.chunks xs) none)
+
+pub returns-in-None-clause-leaves : goal.returns-in-None-clause-leaves
+returns-in-None-clause-leaves g c =
+    let inv = c.steps.invariant in
+    record {
+      same = record {
+        geometry = c.next.ensures.same.geometry ∙ inv.kept.geometry;
+        cut = inv.kept.cut;
+        taken = inv.kept.taken;
+        budget = inv.kept.budget;
+        runs = inv.kept.runs;
+      };
+      ready = walk_on _ _ _ _ _ _ inv.ready inv.kept.geometry (ap (λ d. d.size) c.in_ok-next.ensures.leaves.read)
+          c.next.ensures.leaves.kept.size c.next.ensures.leaves.kept.holds;
+      read = c.in_ok-next.ensures.leaves.read ∙ inv.same;
+    }
+
+pub returns-in-Some-Gap-clause-leaves : goal.returns-in-Some-Gap-clause-leaves
+returns-in-Some-Gap-clause-leaves g c =
+    let inv = c.steps.invariant in
+    record {
+      same = record {
+        geometry = c.next.ensures.same.geometry ∙ inv.kept.geometry;
+        cut = inv.kept.cut;
+        taken = inv.kept.taken;
+        budget = inv.kept.budget;
+        runs = inv.kept.runs;
+      };
+      ready = walk_on _ _ _ _ _ _ inv.ready inv.kept.geometry (ap (λ d. d.size) c.in_ok-next.ensures.leaves.read)
+          c.next.ensures.leaves.kept.size c.next.ensures.leaves.kept.holds;
+      read = c.in_ok-next.ensures.leaves.read ∙ inv.same;
+    }
