@@ -43,7 +43,6 @@ pub struct EntryTexts {
 }
 
 /// What messages show of the inode of a number.
-#[tactic(auto, unfolding(ffs_volume::specs::Directories::PathnameCheck::attributes, ffs_volume::specs::Directories::Volumes::volume_of, ffs_volume::specs::Directories::Volumes::volume_with))]
 pub fn read_attr<I: Image>(
     geometry: &Geometry,
     image: &mut I,
