@@ -160,7 +160,7 @@ fn verdict_of(workspace: &Workspace, dir: u32, entry: &Entry<'_>) -> Verdict
         &inodes,
         dir,
         workspace.leaders.as_slice(),
-        workspace.queue.as_slice(),
+        &workspace.queue,
         entry,
     )
 }
