@@ -1,3 +1,4 @@
 pub mod Asking
+pub mod Parts
 pub mod Touched
 pub mod Words

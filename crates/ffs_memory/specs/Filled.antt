@@ -1,5 +1,6 @@
 -- Lists that hold one value until another is set.
-use Rattle.std.specs.Prelude.{◌≡◌, ◌+◌, ◌++◌, ◌-◌, ℕ, length, replicate, slice_set, vec_capacity, vec_len}
+use Rattle.std.specs.Prelude.{◌≡◌, ◌+◌, ◌++◌, ◌-◌, ℕ, drop, length, replicate, slice_set, take, vec_capacity, vec_len}
+use Rattle.std.specs.List.Sorted.{IsNonDecreasing, IsPermutation}
 use Rattle.std.proofs.Common.{ap, sym, ◌∙◌, length-append}
 use Rattle.std.proofs.Math.Nat.{add-sub_of_le, le_refl}
 use Rattle.std.proofs.lemmas.List.{length-replicate}
@@ -41,3 +42,12 @@ module _ {A : Type 0} where
     pub items : new.items ≡ replicate (vec_len old) x
     pub len : vec_len new ≡ vec_len old
     pub room : vec_capacity new ≡ vec_capacity old
+
+-- the numbers from one index to before another are put into ascending order, in the same memory, and all others stay
+pub record SortsPart (old new : Vec ℕ Global) (from to : ℕ) : Type 0 where
+  pub before : take from new.items ≡ take from old.items
+  pub moved : IsPermutation (drop from (take to old.items)) (drop from (take to new.items))
+  pub rising : IsNonDecreasing (drop from (take to new.items))
+  pub after : drop to new.items ≡ drop to old.items
+  pub len : vec_len new ≡ vec_len old
+  pub room : vec_capacity new ≡ vec_capacity old

@@ -1,7 +1,7 @@
 // Lists that hold one value until another is set.
-ghost use Rattle.std.specs.Prelude.{◌≡◌, ◌<◌, IfOk, slice_index_or, vec_len};
+ghost use Rattle.std.specs.Prelude.{◌≡◌, ◌<◌, ◌≤◌, IfOk, slice_index_or, vec_len};
 ghost use Rattle.ffs_memory.specs.Account.{IsFilled};
-ghost use Rattle.ffs_memory.specs.Filled.{Sets, Fills};
+ghost use Rattle.ffs_memory.specs.Filled.{Sets, Fills, SortsPart};
 
 use crate::touching::touch;
 use std::alloc::{AllocError, Global};
@@ -65,6 +65,21 @@ impl<T: Copy> FilledList<T> {
     {
         self.touched.clear();
         self.rest = value;
+    }
+}
+
+impl FilledList<u32> {
+    /// Puts the elements from one index to before another into ascending order. The elements up to there are touched, in
+    /// the memory that was taken.
+    pub fn sort_part(&mut self, from: usize, to: usize)
+        requires { (from ≤ to) × (to ≤ vec_len self.old) }
+        ensures { SortsPart self.old self.new from to }
+    {
+        if from == to {
+            return;
+        }
+        touch(&mut self.touched, to - 1, self.rest);
+        self.touched[from..to].sort_unstable();
     }
 }
 

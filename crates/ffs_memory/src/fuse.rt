@@ -81,16 +81,6 @@ impl<M: Memory> Memory for FuseMemory<M> {
         self.inner.flags(n)
     }
 
-    fn words(&mut self, n: usize) -> Result<FixedList<u32>, AllocError>
-        ensures { Serves M.account ⟦<FuseMemory<M> as Memory>⟧.account self.old self.new n (4 * n) 0
-            result }
-    {
-        if self.blows() {
-            return Err(AllocError);
-        }
-        self.inner.words(n)
-    }
-
     fn numbers(&mut self, n: usize) -> Result<FilledList<u32>, AllocError>
         ensures { Serves M.account ⟦<FuseMemory<M> as Memory>⟧.account self.old self.new n (4 * n) 0
             result }

@@ -27,10 +27,6 @@ pub trait Memory {
     fn flags(&mut self, n: usize) -> Result<FixedList<bool>, AllocError>
         ensures { Gives (account self.old) (account self.new) n n false result };
 
-    /// So many words of 32 bits, each 0.
-    fn words(&mut self, n: usize) -> Result<FixedList<u32>, AllocError>
-        ensures { Gives (account self.old) (account self.new) n (4 * n) 0 result };
-
     /// So many numbers of 32 bits, each 0: their memory is taken at once, and none of it is written yet.
     fn numbers(&mut self, n: usize) -> Result<FilledList<u32>, AllocError>
         ensures { Gives (account self.old) (account self.new) n (4 * n) 0 result };

@@ -101,17 +101,6 @@ impl Memory for SystemMemory {
         }
     }
 
-    fn words(&mut self, n: usize) -> Result<FixedList<u32>, AllocError> {
-        let made: Result<Vec<u32>, AllocError> = vec![in self.alloc; 0u32; n];
-        match made {
-            Ok(items) => {
-                self.grant(4u64.saturating_mul(n as u64));
-                Ok(FixedList::new(items))
-            }
-            Err(fault) => Err(self.refuse(fault)),
-        }
-    }
-
     fn numbers(&mut self, n: usize) -> Result<FilledList<u32>, AllocError> {
         self.filled(n, 4, 0)
     }

@@ -6,18 +6,24 @@ ghost use Rattle.ffs_workspace.specs.Holds.{bool_at};
 ghost use Rattle.ffs_workspace.specs.Ready.{IsReady};
 ghost use Rattle.ffs_pathnames.specs.Before.{AreClear};
 
+use ffs_memory::FilledList;
 use ffs_workspace::Workspace;
 
 /// The stamp of a directory that is left out, since nothing can be reported of it. No directory has this number.
 pub const CALM: u32 = 1;
 
 /// Stamps the inodes that have a flag, and takes the stamps of all others away.
-fn stamp_calm(flags: &[bool], stamps: &mut [u32])
-    requires { length stamps.old ≡ length flags.now }
-    ensures { (x : ℕ) → slice_index stamps.new x ≡ (if bool_at flags.now x then 1 else 0) }
+fn stamp_calm(flags: &[bool], stamps: &mut FilledList<u32>)
+    requires { vec_len stamps.old ≡ length flags.now }
+    ensures stamps { (x : ℕ) → slice_index stamps.new.items x
+        ≡ (if bool_at flags.now x then 1 else 0) }
+    ensures stamps_long { vec_len stamps.new ≡ vec_len stamps.old }
 {
+    stamps.fill(0);
     for number in 0..flags.len() {
-        stamps[number] = if flags[number] { CALM } else { 0 };
+        if flags[number] {
+            stamps.set(number, CALM);
+        }
     }
 }
 

@@ -1,5 +1,5 @@
 // A first look at a directory.
-ghost use Rattle.std.specs.Prelude.{◌≡◌, ◌*◌, ◌<◌, ◌==◌, true, false, List, ◌∷◌, Some, IfOk};
+ghost use Rattle.std.specs.Prelude.{◌≡◌, ◌*◌, ◌<◌, ◌==◌, true, false, List, ◌∷◌, Some, IfOk, vec_len};
 ghost use Rattle.ffs_image.specs.Device.{ForContents};
 ghost use Rattle.ffs_volume.specs.declared.Order.{Order};
 ghost use Rattle.ffs_volume.specs.Directories.Entries.{Chunk, chunk_of};
@@ -13,6 +13,7 @@ use crate::inodes::Inodes;
 use crate::look::look_chunk;
 use ffs_image::{Image, ImageFault};
 use ffs_layout::Geometry;
+use ffs_memory::FilledList;
 use ffs_names::{Chunks, gap_of};
 use ffs_volume::Inode;
 use ffs_volume::constants::DIRBLKSIZ;
@@ -54,17 +55,18 @@ pub fn look_directory<I: Image>(
     blocks: &mut Blocks,
     data: &mut Window,
     inodes: &Inodes<'_>,
-    stamps: &mut [u32],
+    stamps: &mut FilledList<u32>,
     dir: u32,
     inode: &Inode,
     cut: u32,
     start: &mut [u8; DIRBLKSIZ],
 ) -> Result<FirstLook, ImageFault>
     requires ready { CanReadChunks geometry.now.layout (I.device image.old) blocks.old «data».old }
-    requires stamps { CanStamp inodes.now dir stamps.old }
+    requires stamps { CanStamp inodes.now dir stamps.old.items }
     ensures found { IfOk result (λ f. ForContents (I.device image.old).contents
-        (λ b. IsFirstLook geometry.now.layout inodes.now dir inode.now cut b stamps.old f
-        stamps.new start.new)) }
+        (λ b. IsFirstLook geometry.now.layout inodes.now dir inode.now cut b stamps.old.items f
+        stamps.new.items start.new)) }
+    ensures stamps_long { vec_len stamps.new ≡ vec_len stamps.old }
     ensures leaves { ChunksLeave geometry.now.layout (I.device image.old) (I.device image.new)
         blocks.new «data».new result }
 {

@@ -100,7 +100,7 @@ pub fn report_entry<I: Image, W: Output>(
         &inodes,
         dir,
         workspace.leaders.as_mut_slice(),
-        workspace.queue.as_mut_slice(),
+        &mut workspace.queue,
         role,
         entry,
     );

@@ -49,7 +49,7 @@ pub fn examine<I: Image>(
         &mut workspace.windows.blocks,
         &mut workspace.windows.chunk,
         &inodes,
-        workspace.queue.as_mut_slice(),
+        &mut workspace.queue,
         dir,
         &inode,
         cut,

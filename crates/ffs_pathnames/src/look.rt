@@ -1,5 +1,5 @@
 // A first look at the entries of a directory: whether anything may be reported of them.
-ghost use Rattle.std.specs.Prelude.{◌≡◌, ◌+◌, ◌<◌, ◌==◌, ◌&&◌, ◌||◌, not, length, slice_index, true};
+ghost use Rattle.std.specs.Prelude.{◌≡◌, ◌+◌, ◌<◌, ◌==◌, ◌&&◌, ◌||◌, not, length, slice_index, true, vec_len};
 ghost use Rattle.ffs_volume.specs.declared.Role.{Role};
 ghost use Rattle.ffs_volume.specs.Directories.Roles.{Volume, is_dir};
 ghost use Rattle.ffs_volume.specs.Directories.PathnameCheck.{is_bad_whiteout};
@@ -10,6 +10,7 @@ ghost use Rattle.ffs_pathnames.specs.Sees.{Sees, CanStamp};
 
 use crate::inodes::Inodes;
 use ffs_layout::{Entry, entry_at};
+use ffs_memory::FilledList;
 use ffs_names::role_of;
 use ffs_volume::constants::{DIRBLKSIZ, DT_WHT, WINO};
 use ffs_volume::{Order, Role};
@@ -22,22 +23,27 @@ pub fn is_bad_whiteout(entry: &Entry<'_>) -> bool
 }
 
 /// Whether a link to a directory is its parent's, and the first one.
-fn is_quiet_link(inodes: &Inodes<'_>, dir: u32, stamps: &[u32], inode: u32) -> bool
+fn is_quiet_link(inodes: &Inodes<'_>, dir: u32, stamps: &FilledList<u32>, inode: u32) -> bool
     requires inode { inode < length inodes.now.kinds.now }
-    requires stamps { CanStamp inodes.now dir stamps.now }
+    requires stamps { CanStamp inodes.now dir stamps.now.items }
     ensures { (v : Volume) → Sees v inodes.now → result
         ≡ (not (is_dir v inode) || (marks.belongs v dir inode
-        && not (slice_index stamps.now inode == dir))) }
+        && not (slice_index stamps.now.items inode == dir))) }
 {
     !inodes.is_dir(inode) || (inodes.belongs(inode, dir) && stamps[inode as usize] != dir)
 }
 
 /// Whether nothing is reported of an inode that a plain entry names.
-fn is_quiet_inode(inodes: &Inodes<'_>, dir: u32, stamps: &[u32], entry: &Entry<'_>) -> bool
+fn is_quiet_inode(
+    inodes: &Inodes<'_>,
+    dir: u32,
+    stamps: &FilledList<u32>,
+    entry: &Entry<'_>,
+) -> bool
     requires inode { entry.now.number < length inodes.now.kinds.now }
-    requires stamps { CanStamp inodes.now dir stamps.now }
+    requires stamps { CanStamp inodes.now dir stamps.now.items }
     ensures { (v : Volume) → Sees v inodes.now → result
-        ≡ marks.is_inode_quiet v dir stamps.now (entry_value entry.now) }
+        ≡ marks.is_inode_quiet v dir stamps.now.items (entry_value entry.now) }
 {
     if !inodes.is_allocated(entry.number) {
         return false;
@@ -52,10 +58,15 @@ fn is_quiet_inode(inodes: &Inodes<'_>, dir: u32, stamps: &[u32], entry: &Entry<'
 }
 
 /// Whether nothing is reported of a plain entry.
-fn is_quiet_plain(inodes: &Inodes<'_>, dir: u32, stamps: &[u32], entry: &Entry<'_>) -> bool
-    requires stamps { CanStamp inodes.now dir stamps.now }
+fn is_quiet_plain(
+    inodes: &Inodes<'_>,
+    dir: u32,
+    stamps: &FilledList<u32>,
+    entry: &Entry<'_>,
+) -> bool
+    requires stamps { CanStamp inodes.now dir stamps.now.items }
     ensures { (v : Volume) → Sees v inodes.now → result
-        ≡ marks.is_plain_quiet v dir stamps.now (entry_value entry.now) }
+        ≡ marks.is_plain_quiet v dir stamps.now.items (entry_value entry.now) }
 {
     if entry.number >= inodes.count() {
         return false;
@@ -71,13 +82,14 @@ fn is_quiet_plain(inodes: &Inodes<'_>, dir: u32, stamps: &[u32], entry: &Entry<'
 pub fn is_quiet(
     inodes: &Inodes<'_>,
     dir: u32,
-    stamps: &[u32],
+    stamps: &FilledList<u32>,
     role: Role,
     entry: &Entry<'_>,
 ) -> bool
-    requires stamps { CanStamp inodes.now dir stamps.now }
+    requires stamps { CanStamp inodes.now dir stamps.now.items }
     ensures { (v : Volume) → Sees v inodes.now → result
-        ≡ marks.is_quiet v dir stamps.now (record { role = role; entry = entry_value entry.now }) }
+        ≡ marks.is_quiet v dir stamps.now.items
+        (record { role = role; entry = entry_value entry.now }) }
 {
     match role {
         Role::Empty | Role::Dot | Role::Dotdot => true,
@@ -87,11 +99,18 @@ pub fn is_quiet(
 }
 
 /// Stamps the inode that an entry names, if it belongs to the directory.
-pub fn stamp(inodes: &Inodes<'_>, dir: u32, stamps: &mut [u32], role: Role, entry: &Entry<'_>)
-    requires stamps { CanStamp inodes.now dir stamps.old }
-    ensures { (v : Volume) → Sees v inodes.now → stamps.new
-        ≡ marks.after_look v dir stamps.old
+pub fn stamp(
+    inodes: &Inodes<'_>,
+    dir: u32,
+    stamps: &mut FilledList<u32>,
+    role: Role,
+    entry: &Entry<'_>,
+)
+    requires stamps { CanStamp inodes.now dir stamps.old.items }
+    ensures after { (v : Volume) → Sees v inodes.now → stamps.new.items
+        ≡ marks.after_look v dir stamps.old.items
         (record { role = role; entry = entry_value entry.now }) }
+    ensures stamps_long { vec_len stamps.new ≡ vec_len stamps.old }
 {
     if role != Role::Plain {
         return;
@@ -100,7 +119,7 @@ pub fn stamp(inodes: &Inodes<'_>, dir: u32, stamps: &mut [u32], role: Role, entr
         return;
     }
     if inodes.belongs(entry.number, dir) {
-        stamps[entry.number as usize] = dir;
+        stamps.set(entry.number as usize, dir);
     }
 }
 
@@ -119,10 +138,12 @@ pub fn look_chunk(
     order: Order,
     first: bool,
     chunk: &[u8; DIRBLKSIZ],
-    stamps: &mut [u32],
+    stamps: &mut FilledList<u32>,
 ) -> EntriesSummary
-    requires { CanStamp inodes.now dir stamps.old }
-    ensures { IsChunkLook inodes.now dir order first chunk.now stamps.old result stamps.new }
+    requires { CanStamp inodes.now dir stamps.old.items }
+    ensures look { IsChunkLook inodes.now dir order first chunk.now stamps.old.items result
+        stamps.new.items }
+    ensures stamps_long { vec_len stamps.new ≡ vec_len stamps.old }
 {
     let mut place = 0usize;
     let mut index = 0usize;

@@ -159,7 +159,7 @@ fn verdict_of(workspace: &Workspace, dir: u32, entry: &Entry<'_>) -> Verdict
         &inodes,
         dir,
         workspace.leaders.as_slice(),
-        workspace.queue.as_slice(),
+        &workspace.queue,
         entry,
     )
 }

@@ -1,5 +1,5 @@
 // The verdict on a plain entry.
-ghost use Rattle.std.specs.Prelude.{◌≡◌, ◌<◌, length};
+ghost use Rattle.std.specs.Prelude.{◌≡◌, ◌<◌, length, vec_len};
 ghost use Rattle.ffs_volume.specs.Directories.Roles.{Volume};
 ghost use Rattle.ffs_layout.specs.Entry.{entry_value};
 ghost use Rattle.ffs_pathnames.specs.Gathers.{AreFaultsOf, IsVerdictBy};
@@ -9,6 +9,7 @@ ghost use Rattle.ffs_pathnames.specs.Sees.{Sees, CanMark};
 use crate::inodes::Inodes;
 use crate::look::is_bad_whiteout;
 use ffs_layout::Entry;
+use ffs_memory::FilledList;
 use ffs_volume::constants::ROOTINO;
 use ffs_volume::{Label, Role};
 
@@ -38,12 +39,12 @@ fn faults_of(
     inodes: &Inodes<'_>,
     dir: u32,
     passed: &[bool],
-    stamps: &[u32],
+    stamps: &FilledList<u32>,
     entry: &Entry<'_>,
 ) -> Faults
     requires inode { entry.now.number < length inodes.now.kinds.now }
-    requires marks { CanMark inodes.now passed.now stamps.now }
-    ensures { AreFaultsOf inodes.now dir (record { passed = passed.now; stamps = stamps.now })
+    requires marks { CanMark inodes.now passed.now stamps.now.items }
+    ensures { AreFaultsOf inodes.now dir (record { passed = passed.now; stamps = stamps.now.items })
         (entry_value entry.now) result }
 {
     let index = entry.number as usize;
@@ -63,11 +64,11 @@ pub fn entry_verdict(
     inodes: &Inodes<'_>,
     dir: u32,
     passed: &[bool],
-    stamps: &[u32],
+    stamps: &FilledList<u32>,
     entry: &Entry<'_>,
 ) -> Verdict
-    requires { CanMark inodes.now passed.now stamps.now }
-    ensures { IsVerdictBy inodes.now dir (record { passed = passed.now; stamps = stamps.now })
+    requires { CanMark inodes.now passed.now stamps.now.items }
+    ensures { IsVerdictBy inodes.now dir (record { passed = passed.now; stamps = stamps.now.items })
         (entry_value entry.now) result }
 {
     if entry.number >= inodes.count() {
@@ -90,15 +91,16 @@ pub fn pass(
     inodes: &Inodes<'_>,
     dir: u32,
     passed: &mut [bool],
-    stamps: &mut [u32],
+    stamps: &mut FilledList<u32>,
     role: Role,
     entry: &Entry<'_>,
 )
-    requires { CanMark inodes.now passed.old stamps.old }
-    ensures { (v : Volume) → Sees v inodes.now →
-        marks.after_roled v dir (record { passed = passed.old; stamps = stamps.old })
+    requires { CanMark inodes.now passed.old stamps.old.items }
+    ensures after { (v : Volume) → Sees v inodes.now →
+        marks.after_roled v dir (record { passed = passed.old; stamps = stamps.old.items })
         (record { role = role; entry = entry_value entry.now })
-        ≡ record { passed = passed.new; stamps = stamps.new } }
+        ≡ record { passed = passed.new; stamps = stamps.new.items } }
+    ensures stamps_long { vec_len stamps.new ≡ vec_len stamps.old }
 {
     if role != Role::Plain {
         return;
@@ -109,6 +111,6 @@ pub fn pass(
     let index = entry.number as usize;
     passed[index] = true;
     if stamps[index] == dir {
-        stamps[index] = 0;
+        stamps.set(index, 0);
     }
 }

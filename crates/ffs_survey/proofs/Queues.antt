@@ -1,10 +1,9 @@
 -- The queue: what is after it, the current level, and the next level.
-use Rattle.std.specs.Prelude.{◌≡◌, ℕ, suc, ◌+◌, ◌-◌, ◌≤◌, ◌==◌, Bool, List, [], ◌∷◌, ◌++◌, length, take, drop, count_by}
+use Rattle.std.specs.Prelude.{◌≡◌, ℕ, suc, ◌+◌, ◌-◌, ◌<◌, ◌≤◌, ◌==◌, All, Option, Bool, List, [], ◌∷◌, ◌++◌, length, take, drop, count_by}
 use Rattle.std.specs.Prelude.{◌||◌, false}
 use Rattle.std.specs.List.Sorted.{IsNonDecreasing, IsPermutation}
-use Rattle.std.proofs.Common.{arith, sym, ◌∙◌, ap, subst, length-append, append_assoc, add-zero}
-use Rattle.std.proofs.lemmas.List.{take_all, take-append-le, drop-append-le, drop_all, take-append-drop, take-take}
-use Rattle.std.proofs.lemmas.List.{get_or_past}
+use Rattle.std.proofs.Common.{arith, sym, ◌∙◌, ap, subst, add-zero, get_or}
+use Rattle.std.proofs.lemmas.List.{get_or-drop, get_or-take, get_or_past, length-drop, take-append-drop, take-take}
 use Rattle.std.proofs.lemmas.List.Sorted.{sum_by-IsPermutation}
 use Rattle.std.proofs.lemmas.List.Sums.{sum_by-append, sum_by-cons}
 use Rattle.std.proofs.lemmas.Bool.{cond-false, and_left}
@@ -14,31 +13,43 @@ use Rattle.ffs_volume.specs.Directories.Roles.{RoledEntry, refers}
 use Rattle.ffs_volume.specs.Directories.Graph.{Graph, is_naming_dir}
 use Rattle.ffs_volume.proofs.Graphs.{IsSane}
 use Rattle.ffs_survey.specs.Survey.{bool_at, number_at, graph_with, dir_at, counted_in}
-use Rattle.ffs_survey.specs.Discover.{bit, times, from_dirs, nothing, Comes, IsFrontier, LevelsKnown, IsCount, Counts}
+use Rattle.ffs_survey.specs.Discover.{Extends, bit, times, from_dirs, nothing, Comes, IsFrontier, LevelsKnown, IsCount, Counts}
 use Rattle.ffs_survey.specs.Discover.{IsReachedPart, count_of, any_of, none, never}
 use Rattle.ffs_survey.proofs.Frontiers.{next_level, front_from, queue_grows, IsNext}
 use Rattle.ffs_survey.proofs.Ends.{knows_reached, knows_parent, root_alone, frontier_start}
 use Rattle.ffs_survey.proofs.Totals.{count_all, any_all, any_of-append}
 
--- the slice of the queue that is the current level
-pub frontier_is : (low high : ℕ) (q left : List ℕ) → left ≡ take high q → take (length left - low) (drop low left)
-    ≡ drop low (take high q)
-frontier_is low high q left e = grind (arith, common_steps)
+-- a queue that is extended twice
+pub extends_on : (a b c : ℕ) (q q' q'' : List ℕ) → Extends a b q q' → Extends b c q' q'' → Extends a c q q''
+extends_on a b c q q' q'' one two = record {
+  ordered = let l = one.ordered in let m = two.ordered in omega (arith, l, m);
+  kept = sym (take-take a b q'' one.ordered) ∙ ap (take a) two.kept ∙ take-take a b q' one.ordered ∙ one.kept;
+}
 
--- the queue with the next level after it
-pub whole_queue : (high n : ℕ) (left ys rest : List ℕ) → length left ≡ high → length ys ≡ n →
-    take (high + n) (left ++ (ys ++ rest)) ≡ left ++ ys
-whole_queue high n left ys rest a b =
-    let whole : length (left ++ ys) ≡ high + n = length-append left ys ∙ omega arith in
-    ap (take (high + n)) (sym (append_assoc left ys rest))
-    ∙ (take-append-le (high + n) (left ++ ys) rest (omega arith) ∙ take_all (high + n) (left ++ ys) (omega arith))
+-- a number of the level, in a queue that was extended since
+pub number_kept : (high end at : ℕ) (q q' : List ℕ) → at < high → Extends high end q q' →
+    number_at q' at ≡ number_at (take high q) at
+number_kept high end at q q' l e =
+    sym (get_or-take high q' at 0 l) ∙ ap (λ xs. number_at xs at) e.kept
 
-pub new_front : (high n : ℕ) (left ys rest : List ℕ) → length left ≡ high → length ys ≡ n →
-    drop high (take (high + n) (left ++ (ys ++ rest))) ≡ ys
-new_front high n left ys rest a b =
-    let gone : drop high left ≡ [] = drop_all high left (omega arith) in
-    ap (drop high) (whole_queue high n left ys rest a b)
-    ∙ (drop-append-le high left ys (omega arith) ∙ ap (λ z. z ++ ys) gone)
+-- what holds of each number of the level, at a place in the queue
+pub at_place : (P : ℕ → Type 0) (low at : ℕ) (xs : List ℕ) → All P (drop low xs) → low ≤ at → at < length xs →
+    P (number_at xs at)
+at_place P low at xs all from to =
+    let one : low + (at - low) ≡ at = omega arith in
+    let there : get_or (drop low xs) (at - low) 0 ≡ number_at xs at =
+    get_or-drop low xs (at - low) 0 ∙ ap (number_at xs) one in
+    subst P there (all (at - low) 0 (omega (arith, length-drop low xs)))
+
+-- with what was in the queue before, and without it
+pub comes_after : (a c : ℕ → Option ℕ) (r r' : List Bool) (p p' q new : List ℕ) →
+    Comes a r p q c r' p' (q ++ new) → Comes a r p [] c r' p' new
+unfolding times
+comes_after a c r r' p p' q new h = record {
+  reached = h.reached;
+  parent = h.parent;
+  queue = λ x. let e = h.queue x in let s = sum_by-append (λ y. bit (y == x)) q new in omega (arith, e, s);
+}
 
 -- an empty slice of the queue
 pub no_front : (low high : ℕ) (q : List ℕ) → high ≤ low → drop low (take high q) ≡ []

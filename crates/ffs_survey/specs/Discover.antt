@@ -165,6 +165,11 @@ pub record AtSomeLevel (g : Graph) (low high : ℕ) (r : List Bool) (p q : List 
   pub depth : ℕ
   pub at : AtLevel g depth low high r p q
 
+-- a queue that ended at `top` ends at `end`, and what it had is there
+pub record Extends (top end : ℕ) (old new : List ℕ) : Type 0 where
+  pub ordered : top ≤ end
+  pub kept : take top new ≡ take top old
+
 -- a directory that is reached
 pub record IsReachedDir (kinds : List ℕ) (r : List Bool) (d : ℕ) : Type 0 where
   pub dir : dir_at kinds d ≡ true

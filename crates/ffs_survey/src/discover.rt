@@ -1,5 +1,5 @@
 //! What one directory, and one level of directories, names.
-ghost use Rattle.std.specs.Prelude.{◌≡◌, ◌==◌, ◌*◌, ◌+◌, ℕ, ◌<◌, ◌≤◌, ◌^◌, ◌&&◌, ◌||◌, nat_le, cond, List, [], ◌∷◌, length, take, All, true, false, IfOk, OnOk, slice_set, vec_len};
+ghost use Rattle.std.specs.Prelude.{◌≡◌, ◌==◌, ◌*◌, ◌+◌, ◌-◌, ℕ, ◌<◌, ◌≤◌, ◌^◌, ◌&&◌, ◌||◌, nat_le, cond, List, [], ◌∷◌, length, drop, take, All, true, false, IfOk, OnOk, slice_set, vec_len};
 ghost use Rattle.ffs_volume.specs.Directories.Roles.{is_plain as is_plain_role};
 ghost use Rattle.ffs_volume.specs.Directories.Graph.{is_naming_entry};
 ghost use Rattle.ffs_survey.specs.Reading.{roled_of, ForKnown, LeavesReader};
@@ -7,11 +7,11 @@ ghost use Rattle.ffs_survey.specs.Lists.{MarkLists, TreeLists, QueueLists, Count
 ghost use Rattle.ffs_survey.specs.Levels.{Discovers, ReadsReached, ReadsDirs, ReadsUnreached};
 ghost use Rattle.ffs_survey.specs.Survey.{bool_at, number_at};
 ghost use Rattle.ffs_survey.specs.Calm.{is_calm_kind, is_calm_plain, is_calm_entry, IsFlagged};
-ghost use Rattle.ffs_survey.specs.Discover.{unset, found_of, IsCounted, Comes, from_entries, nothing, none, Counts, IsReachedDir, is_free as is_free_at};
+ghost use Rattle.ffs_survey.specs.Discover.{unset, found_of, Extends, IsCounted, Comes, from_entries, nothing, none, Counts, IsReachedDir, is_free as is_free_at};
 
 use crate::directories::Directories;
 use crate::named::{Named, is_counted, is_dir, is_plain};
-use crate::parents::parent_of;
+use crate::numbers::number_of;
 use ffs_image::ImageFault;
 use ffs_memory::FilledList;
 use ffs_volume::Role;
@@ -69,15 +69,17 @@ fn visit(
     kinds: &[u8],
     reached: &mut [bool],
     parents: &mut FilledList<u32>,
-    queue: &mut [u32],
+    queue: &mut FilledList<u32>,
     top: usize,
 ) -> usize
-    requires { QueueLists kinds.now reached.old parents.old.items top queue.old }
+    requires { QueueLists kinds.now reached.old parents.old.items top queue.old.items }
     ensures top { result + unset reached.new ≡ top + unset reached.old }
     ensures comes { Comes (from_entries kinds.now from (roled_of entry [] ∷ [])) reached.old
-        parents.old.items (take top queue.old) nothing reached.new parents.new.items
-        (take result queue.new) }
+        parents.old.items (take top queue.old.items) nothing reached.new parents.new.items
+        (take result queue.new.items) }
     ensures parents_long { vec_len parents.new ≡ vec_len parents.old }
+    ensures queue_long { vec_len queue.new ≡ vec_len queue.old }
+    ensures queue_kept { Extends top result queue.old.items queue.new.items }
 {
     if !is_new(entry, kinds, reached) {
         return top;
@@ -85,7 +87,7 @@ fn visit(
     let number = entry.number as usize;
     reached[number] = true;
     parents.set(number, from);
-    queue[top] = entry.number;
+    queue.set(top, entry.number);
     top + 1
 }
 
@@ -178,26 +180,28 @@ fn read_reached<D: Directories>(
     reached: &mut [bool],
     parents: &mut FilledList<u32>,
     calm: &mut [bool],
-    queue: &mut [u32],
+    queue: &mut FilledList<u32>,
     top: usize,
 ) -> Result<usize, ImageFault>
     requires ready { D.ready directories.old }
     requires lists { LevelLists (2 ^ 60) kinds.now marked.now references.old.items named.old
         reached.old parents.old.items }
-    requires room { top + unset reached.old ≤ length queue.old }
+    requires room { top + unset reached.old ≤ length queue.old.items }
     ensures found { IfOk result (λ n. Discovers (length kinds.now) (2 ^ 28) top n
         (λ old new. ForKnown D.knows D.entries D.sound (D.base directories.old) (λ entries sound.
         ReadsReached kinds.now marked.now from (entries from) (sound from) old new))
         (found_of references.old.items named.old reached.old parents.old.items calm.old
-        (take top queue.old))
+        (take top queue.old.items))
         (found_of references.new.items named.new reached.new parents.new.items calm.new
-        (take n queue.new))) }
+        (take n queue.new.items))) }
     ensures same_length { vec_len references.new ≡ vec_len references.old }
     ensures parents_long { vec_len parents.new ≡ vec_len parents.old }
+    ensures queue_long { vec_len queue.new ≡ vec_len queue.old }
+    ensures queue_kept { IfOk result (λ n. Extends top n queue.old.items queue.new.items) }
     ensures reader { LeavesReader (D.ready directories.new) (D.base directories.old)
         (D.base directories.new) (D.device directories.old) (D.device directories.new) result }
 {
-    let above = parent_of(parents, from);
+    let above = number_of(parents, from as usize);
     let mut high = top;
     let mut quiet = true;
     let mut count = 0u32;
@@ -212,10 +216,9 @@ fn read_reached<D: Directories>(
     Ok(high)
 }
 
-/// Reads the directories `frontier`, one after another.
+/// Reads the directories that are in `queue[low..high]`, one after another, and puts what they discover after these.
 pub fn read_level<D: Directories>(
     directories: &mut D,
-    frontier: &[u32],
     kinds: &[u8],
     marked: &[bool],
     references: &mut FilledList<u64>,
@@ -223,32 +226,40 @@ pub fn read_level<D: Directories>(
     reached: &mut [bool],
     parents: &mut FilledList<u32>,
     calm: &mut [bool],
-    queue: &mut [u32],
+    queue: &mut FilledList<u32>,
+    low: usize,
+    high: usize,
 ) -> Result<usize, ImageFault>
     requires ready { D.ready directories.old }
     requires lists { LevelLists (2 ^ 59) kinds.now marked.now references.old.items named.old
         reached.old parents.old.items }
-    requires few { length frontier.now < 2 ^ 31 }
-    requires room { unset reached.old ≤ length queue.old }
+    requires few { (low ≤ high) × (high < 2 ^ 31) }
+    requires room { high + unset reached.old ≤ length queue.old.items }
     requires frontier { ForKnown D.knows D.entries D.sound (D.base directories.old)
-        (λ entries sound. All (IsReachedDir kinds.now reached.old) frontier.now) }
+        (λ entries sound. All (IsReachedDir kinds.now reached.old)
+        (drop low (take high queue.old.items))) }
     ensures found { IfOk result (λ n.
-        Discovers (length kinds.now) (length frontier.now * 2 ^ 28) 0 n
+        Discovers (length kinds.now) ((high - low) * 2 ^ 28) high n
         (λ old new. ForKnown D.knows D.entries D.sound (D.base directories.old) (λ entries sound.
-        ReadsDirs kinds.now marked.now frontier.now entries sound old new))
-        (found_of references.old.items named.old reached.old parents.old.items calm.old [])
+        ReadsDirs kinds.now marked.now (drop low (take high queue.old.items)) entries sound old
+        new))
+        (found_of references.old.items named.old reached.old parents.old.items calm.old
+        (take high queue.old.items))
         (found_of references.new.items named.new reached.new parents.new.items calm.new
-        (take n queue.new))) }
+        (take n queue.new.items))) }
     ensures same_length { vec_len references.new ≡ vec_len references.old }
     ensures parents_long { vec_len parents.new ≡ vec_len parents.old }
+    ensures queue_long { vec_len queue.new ≡ vec_len queue.old }
+    ensures queue_kept { IfOk result (λ n. Extends high n queue.old.items queue.new.items) }
     ensures reader { LeavesReader (D.ready directories.new) (D.base directories.old)
         (D.base directories.new) (D.device directories.old) (D.device directories.new) result }
 {
-    let mut top = 0;
-    for s in frontier {
+    let mut top = high;
+    for at in low..high {
+        let from = number_of(queue, at);
         top = read_reached(
             directories,
-            *s,
+            from,
             kinds,
             marked,
             references,

@@ -24,33 +24,33 @@ fn next_level<D: Directories>(
     reached: &mut [bool],
     parents: &mut FilledList<u32>,
     calm: &mut [bool],
-    queue: &mut [u32],
+    queue: &mut FilledList<u32>,
     low: usize,
     high: usize,
 ) -> Result<usize, ImageFault>
     requires ready { D.ready directories.old }
     requires lists { SurveyLists kinds.now marked.now references.old.items named.old reached.old
-        parents.old.items queue.old }
+        parents.old.items queue.old.items }
     requires root { dir_at kinds.now 2 ≡ true }
-    requires room { HasRoomForLevel low high references.old.items reached.old queue.old }
+    requires room { HasRoomForLevel low high references.old.items reached.old queue.old.items }
     requires levels { ForKnown D.knows D.entries D.sound (D.base directories.old)
         (λ entries sound. AtSomeLevel (graph_with kinds.now entries) low high reached.old
-        parents.old.items queue.old) }
+        parents.old.items queue.old.items) }
     ensures level { IfOk result (λ n. FollowsLevel high n
         (λ old new. ForKnown D.knows D.entries D.sound (D.base directories.old) (λ entries sound.
         ReadsLevel kinds.now marked.now low high n entries sound old new))
-        (found_of references.old.items named.old reached.old parents.old.items calm.old queue.old)
+        (found_of references.old.items named.old reached.old parents.old.items calm.old
+        queue.old.items)
         (found_of references.new.items named.new reached.new parents.new.items calm.new
-        queue.new)) }
+        queue.new.items)) }
     ensures same_length { vec_len references.new ≡ vec_len references.old }
     ensures parents_long { vec_len parents.new ≡ vec_len parents.old }
+    ensures queue_long { vec_len queue.new ≡ vec_len queue.old }
     ensures reader { LeavesReader (D.ready directories.new) (D.base directories.old)
         (D.base directories.new) (D.device directories.old) (D.device directories.new) result }
 {
-    let (left, right) = queue.split_at_mut(high);
-    let found = read_level(
+    let end = read_level(
         directories,
-        &left[low..],
         kinds,
         marked,
         references,
@@ -58,10 +58,12 @@ fn next_level<D: Directories>(
         reached,
         parents,
         calm,
-        right,
+        queue,
+        low,
+        high,
     )?;
-    right[..found].sort_unstable();
-    Ok(high + found)
+    queue.sort_part(high, end);
+    Ok(end)
 }
 
 /// Reads all directories that are reached from inode 2, level after level.
@@ -74,11 +76,11 @@ fn survey_reached<D: Directories>(
     reached: &mut [bool],
     parents: &mut FilledList<u32>,
     calm: &mut [bool],
-    queue: &mut [u32],
+    queue: &mut FilledList<u32>,
 ) -> Result<(), ImageFault>
     requires ready { D.ready directories.old }
     requires lists { SurveyLists kinds.now marked.now references.old.items named.old reached.old
-        parents.old.items queue.old }
+        parents.old.items queue.old.items }
     requires begins { NothingFound references.old.items named.old reached.old parents.old.items
         calm.old }
     ensures counted { OnOk result ((x : ℕ) → x < length kinds.now → number_at references.new.items x
@@ -86,15 +88,16 @@ fn survey_reached<D: Directories>(
     ensures read { OnOk result (ForKnown D.knows D.entries D.sound (D.base directories.old)
         (λ entries sound. ReadsAllReached kinds.now marked.now entries sound references.old.items
         (found_of references.new.items named.new reached.new parents.new.items calm.new
-        queue.new))) }
+        queue.new.items))) }
     ensures same_length { vec_len references.new ≡ vec_len references.old }
     ensures parents_long { vec_len parents.new ≡ vec_len parents.old }
+    ensures queue_long { vec_len queue.new ≡ vec_len queue.old }
     ensures reader { LeavesReader (D.ready directories.new) (D.base directories.old)
         (D.base directories.new) (D.device directories.old) (D.device directories.new) result }
 {
     reached[2] = true;
     parents.set(ROOTINO as usize, ROOTINO);
-    queue[0] = ROOTINO;
+    queue.set(0, ROOTINO);
     if !is_dir(kinds, ROOTINO as usize) {
         return Ok(());
     }
@@ -189,11 +192,11 @@ pub fn survey<D: Directories>(
     reached: &mut [bool],
     parents: &mut FilledList<u32>,
     calm: &mut [bool],
-    queue: &mut [u32],
+    queue: &mut FilledList<u32>,
 ) -> Result<(), ImageFault>
     requires ready { D.ready directories.old }
     requires lists { SurveyLists kinds.now marked.now references.old.items named.old reached.old
-        parents.old.items queue.old }
+        parents.old.items queue.old.items }
     ensures survey { OnOk result (ForKnown D.knows D.entries D.sound (D.base directories.old)
         (λ entries sound. IsSurvey (graph_with kinds.now entries) references.old.items
         references.new.items named.new reached.new parents.new.items)) }
@@ -202,6 +205,7 @@ pub fn survey<D: Directories>(
         AreCalm kinds.now marked.now reached.new parents.new.items entries sound calm.new)) }
     ensures same_length { vec_len references.new ≡ vec_len references.old }
     ensures parents_long { vec_len parents.new ≡ vec_len parents.old }
+    ensures queue_long { vec_len queue.new ≡ vec_len queue.old }
     ensures reader { LeavesReader (D.ready directories.new) (D.base directories.old)
         (D.base directories.new) (D.device directories.old) (D.device directories.new) result }
 {

@@ -13,7 +13,7 @@ mod directories;
 mod discover;
 mod levels;
 mod named;
-mod parents;
+mod numbers;
 mod unref;
 
 pub use cycles::mark_leaders;

@@ -5,7 +5,7 @@ ghost use Rattle.ffs_survey.specs.Survey.{suspect_at, IsTree, AreNamed};
 ghost use Rattle.ffs_survey.specs.Lists.{DeadLists, FoundLists};
 
 use crate::named::is_dir;
-use crate::parents::parent_of;
+use crate::numbers::number_of;
 use ffs_memory::FilledList;
 use ffs_volume::constants::{EMPTY_DIR, ROOTINO};
 
@@ -58,7 +58,7 @@ pub fn is_unref(
     if is_dead(dir, kinds, marked, named) {
         return false;
     }
-    let above = parent_of(parents, dir);
+    let above = number_of(parents, dir as usize);
     if above == 0 {
         return true;
     }

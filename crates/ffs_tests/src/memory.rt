@@ -113,6 +113,26 @@ fn numbers_set_and_filled(rt: HostRuntime) -> Result<(), Fail> {
     Ok(())
 }
 
+// Part of a list is put in order, what wasn't set among it, and the numbers beside it stay.
+#[test]
+fn part_sorted(rt: HostRuntime) -> Result<(), Fail> {
+    let mut list = SystemMemory::new(rt.alloc()).numbers(8)?;
+    for (index, number) in [9, 4, 8, 2, 6].into_iter().enumerate() {
+        list.set(index, number);
+    }
+    list.sort_part(2, 2);
+    assert_eq!(rt; (list[2], list[3]), (8, 2));
+    list.sort_part(1, 4);
+    for (index, number) in [9, 2, 4, 8, 6, 0, 0, 0].into_iter().enumerate() {
+        assert_eq!(rt; list[index], number);
+    }
+    list.sort_part(3, 7);
+    for (index, number) in [9, 2, 4, 0, 0, 6, 8, 0].into_iter().enumerate() {
+        assert_eq!(rt; list[index], number);
+    }
+    Ok(())
+}
+
 #[test]
 fn no_request_refused(rt: HostRuntime) -> Result<(), Fail> {
     let (end, text, memory) = refused(REQUESTS + 1, rt.alloc())?;

@@ -43,7 +43,7 @@ fn entries_of_the_root(rt: HostRuntime) -> Result<(), Fail> {
         parents: &parents,
     };
     let passed = [false; 9];
-    let stamps = [0, 0, 0, 0, 2, 0, 2, 0, 0];
+    let stamps = numbers(&[0, 0, 0, 0, 2, 0, 2, 0, 0], rt.alloc())?;
     let cases = [
         (9, 8, Verdict::OutOfRange),
         (u32::MAX, 14, Verdict::OutOfRange),
@@ -76,7 +76,7 @@ fn second_names(rt: HostRuntime) -> Result<(), Fail> {
         parents: &parents,
     };
     let mut passed = [false; 9];
-    let mut stamps = [0, 0, 0, 0, 2, 0, 2, 0, 0];
+    let mut stamps = numbers(&[0, 0, 0, 0, 2, 0, 2, 0, 0], rt.alloc())?;
     let directory = entry(4, 4);
     let file = entry(8, 8);
     let first = Faults {

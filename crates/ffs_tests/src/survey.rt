@@ -136,7 +136,7 @@ fn surveys_a_tree_and_a_cycle(rt: HostRuntime) -> Result<(), Fail> {
     let mut reached = [true; 8];
     let mut parents = numbers(&[7; 8], rt.alloc())?;
     let mut calm = [true; 8];
-    let mut queue = [7; 8];
+    let mut queue = numbers(&[7; 8], rt.alloc())?;
     let answer = survey(
         &mut small_volume(),
         &KINDS,
@@ -167,7 +167,7 @@ fn surveys_a_tree_and_a_cycle(rt: HostRuntime) -> Result<(), Fail> {
 #[test]
 fn leads_a_cycle_by_its_least_number(rt: HostRuntime) -> Result<(), Fail> {
     let parents = numbers(&PARENTS, rt.alloc())?;
-    let mut queue = [7; 8];
+    let mut queue = numbers(&[7; 8], rt.alloc())?;
     let mut leaders = [true; 8];
     mark_leaders(&parents, &mut queue, &mut leaders);
     assert_eq!(rt;

@@ -50,7 +50,7 @@ pub struct Workspace {
     /// The parent of each directory, or 0.
     pub parents: FilledList<u32>,
     /// The directories of one level below the root, and of the next.
-    pub queue: FixedList<u32>,
+    pub queue: FilledList<u32>,
     /// How many Runs phase 1 has looked at.
     pub runs_seen: u64,
     /// How many Runs phase 1b has looked at.
@@ -91,7 +91,7 @@ impl Workspace {
         let kinds = memory.bytes(inodes)?;
         let (marked, named, reached, leaders) = four_flags(memory, inodes)?;
         let references = memory.long_numbers(inodes)?;
-        let (cut, parents, queue) = three_words(memory, inodes)?;
+        let (cut, parents, queue) = three_numbers(memory, inodes)?;
         let windows = Windows::in_memory(memory, geometry)?;
         Ok(Workspace {
             claimed,
@@ -191,15 +191,15 @@ fn four_flags<M: Memory>(memory: &mut M, n: usize) -> Result<Flags, AllocError>
     Ok((first, second, third, fourth))
 }
 
-// Three lists with a word for each inode.
-type Words = (FilledList<u32>, FilledList<u32>, FixedList<u32>);
+// Three lists with a number for each inode.
+type Numbers = (FilledList<u32>, FilledList<u32>, FilledList<u32>);
 
-fn three_words<M: Memory>(memory: &mut M, n: usize) -> Result<Words, AllocError>
+fn three_numbers<M: Memory>(memory: &mut M, n: usize) -> Result<Numbers, AllocError>
     ensures lists { IfOk result (λ p. IsFilled n 0 p.0 × IsFilled n 0 p.1 × IsFilled n 0 p.2) }
     ensures asks { Asks (M.account memory.old) (M.account memory.new) (12 * n) result }
 {
     let first = memory.numbers(n)?;
     let second = memory.numbers(n)?;
-    let third = memory.words(n)?;
+    let third = memory.numbers(n)?;
     Ok((first, second, third))
 }

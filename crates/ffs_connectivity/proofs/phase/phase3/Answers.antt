@@ -53,7 +53,7 @@ loop-number-init g c =
       leaders = record {
         cycles = λ x. ap (λ (ls : List Bool). bool_at ls x)
             (with_items_is c.args.workspace.now.leaders c.mark_leaders.new.leaders (search rules))
-            ∙ c.mark_leaders.ensures x;
+            ∙ c.mark_leaders.ensures.leads x;
       };
       said = of_says _ (λ bytes. phase3 ∷ map of_tree (connectivity_lines (volume_of v bytes)))
           (λ bytes. map of_tree (lines_from (cut_off_lines (volume_of v bytes)) c.first_unreached-first.result

@@ -18,11 +18,11 @@ unfolding chunks_read
 chunks-init g c = record {
   same = refl;
   geometry = c.start-chunks.ensures.geometry;
-  stamps_long = c.requires.stamps.each;
+  stamps_long = refl;
   ready = c.requires.ready;
-  quiet = λ b t v s h. ap (λ cs. are_quiet v c.args.dir c.args.stamps.now (flat_map roled_chunk cs))
+  quiet = λ b t v s h. ap (λ cs. are_quiet v c.args.dir c.args.stamps.now.items (flat_map roled_chunk cs))
       (sym (c.start-chunks.ensures.begins.chunks b h));
-  stamps = λ b t v s h. ap (λ cs. after_looks v c.args.dir c.args.stamps.now (flat_map roled_chunk cs))
+  stamps = λ b t v s h. ap (λ cs. after_looks v c.args.dir c.args.stamps.now.items (flat_map roled_chunk cs))
       (sym (c.start-chunks.ensures.begins.chunks b h));
   sound = λ b t h. ap are_sound (sym (c.start-chunks.ensures.begins.chunks b h));
   gap = λ b t. sym (ap (λ x. x || gap_left b c.start-chunks.result) c.start-chunks.ensures.begins.gap ∙
@@ -44,18 +44,18 @@ chunks-preserved g c =
     record {
       same = c.in_ok-offset.ensures.leaves.read ∙ inv.same;
       geometry = c.in_ok-offset.ensures.leaves.geometry ∙ inv.geometry;
-      stamps_long = c.look_chunk-looked.auto.stamps ∙ inv.stamps_long;
+      stamps_long = c.look_chunk-looked.ensures.stamps_long ∙ inv.stamps_long;
       ready = rw inv.geometry at c.in_ok-offset.ensures.leaves.ready;
-      quiet = λ b t v s h. chunk_quiet v c.args.dir c.chunks.stamps c.look_chunk-looked.new.stamps
+      quiet = λ b t v s h. chunk_quiet v c.args.dir c.chunks.stamps.items c.look_chunk-looked.new.stamps.items
           (rest b c.chunks.chunks) (rest b c.next.new.self) here
-          _ c.chunks.quiet c.look_chunk-looked.result.quiet (next b t) (c.look_chunk-looked.ensures.quiet v s)
-          (c.look_chunk-looked.ensures.stamps v s) (inv.quiet b t v s h);
-      stamps = λ b t v s h. chunk_stamps v c.args.dir c.chunks.stamps c.look_chunk-looked.new.stamps _
+          _ c.chunks.quiet c.look_chunk-looked.result.quiet (next b t) (c.look_chunk-looked.ensures.look.quiet v s)
+          (c.look_chunk-looked.ensures.look.stamps v s) (inv.quiet b t v s h);
+      stamps = λ b t v s h. chunk_stamps v c.args.dir c.chunks.stamps.items c.look_chunk-looked.new.stamps.items _
           (rest b c.chunks.chunks) (rest b c.next.new.self) here
-          (next b t) (c.look_chunk-looked.ensures.stamps v s) (inv.stamps b t v s h);
+          (next b t) (c.look_chunk-looked.ensures.look.stamps v s) (inv.stamps b t v s h);
       sound = λ b t h. chunk_sound (rest b c.chunks.chunks) (rest b c.next.new.self) here _ c.chunks.sound
           c.look_chunk-looked.result.sound
-          (next b t) c.look_chunk-looked.ensures.sound (inv.sound b t h);
+          (next b t) c.look_chunk-looked.ensures.look.sound (inv.sound b t h);
       gap = λ b t. inv.gap b t ∙ sym (read b (now b t)).gap;
       started = λ b t h. inv.started b t h ∙ (ap (λ l. start_of l c.chunks.started order c.chunks.start) (next b t)
           ∙ c.keep_start-started.ensures order (rest b c.next.new.self));
@@ -69,9 +69,9 @@ returns-clause-found g c = λ b t.
     let read = (rw c.in_default.is at c.in_ok-offset.ensures.chunk) b now in
     let none = read.chunks.0 in
     record {
-      quiet = λ v s h. all_quiet v c.args.dir c.chunks.stamps (rest b c.chunks.chunks) _ c.chunks.quiet none
+      quiet = λ v s h. all_quiet v c.args.dir c.chunks.stamps.items (rest b c.chunks.chunks) _ c.chunks.quiet none
           (inv.quiet b t v s h);
-      stamps = λ v s h. all_stamps v c.args.dir c.chunks.stamps _ (rest b c.chunks.chunks) none (inv.stamps b t v s h);
+      stamps = λ v s h. all_stamps v c.args.dir c.chunks.stamps.items _ (rest b c.chunks.chunks) none (inv.stamps b t v s h);
       sound = λ h. all_sound (rest b c.chunks.chunks) _ c.chunks.sound none (inv.sound b t h);
       gap = c.in_ok-gap.ensures.gap b later ∙ (read.gap ∙ sym (inv.gap b t));
       started = λ h. inv.started b t h

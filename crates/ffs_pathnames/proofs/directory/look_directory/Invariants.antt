@@ -1,4 +1,4 @@
-use Rattle.std.proofs.Common.{◌≡◌, ◌<◌, ◌^◌, ◌&&◌, ◌||◌, length}
+use Rattle.std.proofs.Common.{◌≡◌, ◌<◌, ◌^◌, ◌&&◌, ◌||◌, vec_len}
 use Rattle.std.specs.Prelude.{◌==◌}
 use Rattle.std.specs.List.{flat_map, find}
 use Rattle.ffs_image.specs.Device.{ForContents}
@@ -18,14 +18,14 @@ abbrev pub invariant-chunks : goal.invariant-chunks
 invariant-chunks g l = let device = g.I.Image.device in record {
   same : device l.image ≡ device l.initial.image;
   geometry : l.chunks.walk.geometry ≡ l.geometry;
-  stamps_long : length l.stamps ≡ length l.inodes.kinds.now;
+  stamps_long : vec_len l.stamps ≡ vec_len l.fn.stamps;
   ready : CanReadChunks l.geometry.layout (device l.image) l.blocks l.data;
   quiet : ForContents (device l.initial.image).contents (λ b. (v : Volume) → Sees v l.inodes → l.inode.size < 2 ^ 31 →
-      are_quiet v l.dir l.initial.stamps (flat_map roled_chunk (chunks_read l.geometry.layout l.inode l.cut b))
-      ≡ (l.quiet && are_quiet v l.dir l.stamps (flat_map roled_chunk (rest b l.chunks))));
+      are_quiet v l.dir l.initial.stamps.items (flat_map roled_chunk (chunks_read l.geometry.layout l.inode l.cut b))
+      ≡ (l.quiet && are_quiet v l.dir l.stamps.items (flat_map roled_chunk (rest b l.chunks))));
   stamps : ForContents (device l.initial.image).contents (λ b. (v : Volume) → Sees v l.inodes → l.inode.size < 2 ^ 31 →
-      after_looks v l.dir l.initial.stamps (flat_map roled_chunk (chunks_read l.geometry.layout l.inode l.cut b))
-      ≡ after_looks v l.dir l.stamps (flat_map roled_chunk (rest b l.chunks)));
+      after_looks v l.dir l.initial.stamps.items (flat_map roled_chunk (chunks_read l.geometry.layout l.inode l.cut b))
+      ≡ after_looks v l.dir l.stamps.items (flat_map roled_chunk (rest b l.chunks)));
   sound : ForContents (device l.initial.image).contents (λ b. l.inode.size < 2 ^ 31 →
       are_sound (chunks_read l.geometry.layout l.inode l.cut b) ≡ (l.sound && are_sound (rest b l.chunks)));
   gap : ForContents (device l.initial.image).contents (λ b.

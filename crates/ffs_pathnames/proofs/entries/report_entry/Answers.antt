@@ -73,7 +73,7 @@ returns-clause-marks g c = λ b k.
     passes (volume_of v b) c.args.dir (record { role = c.args.role; entry = entry_value c.args.entry.now })
     before.leaders.items _ _ _ before.queue.items _ _ _
     (c.as_mut_slice.ensures.value ∙ ap (λ (w : Workspace). w.leaders.items) left)
-    (c.as_mut_slice-2.ensures.value ∙ ap (λ (w : Workspace). w.queue.items) left)
-    (c.pass.ensures (volume_of v b) shows)
+    (ap (λ (w : Workspace). w.queue.items) left)
+    (c.pass.ensures.after (volume_of v b) shows)
     (with_items_is here.leaders c.pass.new.passed (c.pass.auto.passed ∙ c.as_mut_slice.ensures.len))
-    (with_items_is here.queue c.pass.new.stamps (c.pass.auto.stamps ∙ c.as_mut_slice-2.ensures.len))
+    refl

@@ -1,5 +1,5 @@
 use Rattle.std.proofs.Common.{◌<◌, ◌^◌, refl, sym, ap, subst, ◌∙◌, ◌==◌}
-use Rattle.std.proofs.lemmas.List.{get_or_read_under, with_items_is}
+use Rattle.std.proofs.lemmas.List.{get_or_read_under}
 use Rattle.std.specs.List.{flat_map, find}
 use Rattle.ffs_volume.specs.Directories.Roles.{roled_chunk}
 use Rattle.ffs_volume.specs.Directories.PathnameCheck.{are_sound}
@@ -35,7 +35,6 @@ returns-clause-found g c = λ b k.
       parents = refl;
       count = c.as_slice.ensures.len ∙ c.requires.ready.ready.made.kinds;
     }) h r in
-    let long = c.look_directory.auto.stamps ∙ c.as_mut_slice.ensures.len in
     let found = c.in_ok-found.ensures.found b t1 in
     record {
       inode = inode;
@@ -43,16 +42,9 @@ returns-clause-found g c = λ b k.
       sound = found.sound small ∙ ap are_sound chunks;
       started = sym (ap (find (λ x. x.offset == 0)) chunks) ∙ found.started small;
       quiet = found.quiet (volume_of v b) shows small
-          ∙ (ap (λ q. are_quiet (volume_of v b) c.args.dir q
-          (flat_map roled_chunk (chunks_read c.args.geometry.now.layout c.in_ok-inode.inode c.index-cut.result.now
-          b))) c.as_mut_slice.ensures.value
           ∙ ap (are_quiet (volume_of v b) c.args.dir c.args.workspace.now.queue.items)
-          (seen_are v b c.args.dir _ chunks));
-      stamps = with_items_is c.args.workspace.now.queue c.look_directory.new.stamps long
-          ∙ (found.stamps (volume_of v b) shows small
-          ∙ (ap (λ q. after_looks (volume_of v b) c.args.dir q
-          (flat_map roled_chunk (chunks_read c.args.geometry.now.layout c.in_ok-inode.inode c.index-cut.result.now
-          b))) c.as_mut_slice.ensures.value
+          (seen_are v b c.args.dir _ chunks);
+      stamps = found.stamps (volume_of v b) shows small
           ∙ ap (after_looks (volume_of v b) c.args.dir c.args.workspace.now.queue.items)
-          (seen_are v b c.args.dir _ chunks)));
+          (seen_are v b c.args.dir _ chunks);
     }

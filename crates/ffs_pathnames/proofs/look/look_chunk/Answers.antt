@@ -1,4 +1,4 @@
-use Rattle.std.proofs.Common.{◌+◌, arith}
+use Rattle.std.proofs.Common.{◌+◌, ◌∙◌, arith}
 use Rattle.ffs_volume.specs.Directories.Roles.{RoledEntry}
 use Rattle.ffs_layout.specs.Entry.{entry_value}
 use Rattle.ffs_pathnames.proofs.Looking.{roled_at_place, seen_next, quiet_on, stamps_on, length_on, quiet_ends}
@@ -18,29 +18,29 @@ entries-preserved c =
     rw c.from-place.ensures (record {
       place = omega arith;
       index = omega arith;
-      stamps_long = omega arith;
-      quiet = λ v s. quiet_on v c.args.dir c.entries.stamps c.stamp.new.stamps seen
+      stamps_long = c.stamp.ensures.stamps_long ∙ c.entries.invariant.stamps_long;
+      quiet = λ v s. quiet_on v c.args.dir c.entries.stamps.items c.stamp.new.stamps.items seen
           (roled_at_place c.args.order c.args.chunk.now c.args.first c.entries.index c.entries.place)
           (roled_at_place c.args.order c.args.chunk.now c.args.first (c.entries.index + 1)
           (c.entries.place + c.in-Some.entry.length))
           _ c.entries.quiet c.is_quiet-here.result next (c.is_quiet-here.ensures v s)
-          (c.stamp.ensures v s) (c.entries.invariant.quiet v s);
-      stamps = λ v s. stamps_on v c.args.dir c.entries.stamps c.stamp.new.stamps _ seen
+          (c.stamp.ensures.after v s) (c.entries.invariant.quiet v s);
+      stamps = λ v s. stamps_on v c.args.dir c.entries.stamps.items c.stamp.new.stamps.items _ seen
           (roled_at_place c.args.order c.args.chunk.now c.args.first c.entries.index c.entries.place)
           (roled_at_place c.args.order c.args.chunk.now c.args.first (c.entries.index + 1)
           (c.entries.place + c.in-Some.entry.length))
-          next (c.stamp.ensures v s) (c.entries.invariant.stamps v s);
+          next (c.stamp.ensures.after v s) (c.entries.invariant.stamps v s);
       sound = length_on c.args.order c.args.chunk.now c.entries.place _ e there c.entries.invariant.sound;
     })
 
-pub returns : goal.returns
-returns c =
+pub returns-clause-look : goal.returns-clause-look
+returns-clause-look c =
     let end = none c.args.order c.args.chunk.now c.entries.place c.entry_at.result c.in_default.is
     c.entry_at.ensures.value in
     record {
-      quiet = λ v s. quiet_ends v c.args.dir c.entries.stamps c.args.first c.entries.index c.args.order
+      quiet = λ v s. quiet_ends v c.args.dir c.entries.stamps.items c.args.first c.entries.index c.args.order
           c.args.chunk.now c.entries.place _ c.entries.quiet end (c.entries.invariant.quiet v s);
-      stamps = λ v s. stamps_end v c.args.dir c.entries.stamps _ c.args.first c.entries.index c.args.order
+      stamps = λ v s. stamps_end v c.args.dir c.entries.stamps.items _ c.args.first c.entries.index c.args.order
           c.args.chunk.now c.entries.place end (c.entries.invariant.stamps v s);
       sound = length_ends c.args.order c.args.chunk.now c.entries.place _ end c.entries.invariant.sound;
     }

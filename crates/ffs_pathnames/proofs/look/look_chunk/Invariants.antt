@@ -1,4 +1,4 @@
-use Rattle.std.proofs.Common.{◌≡◌, ◌≤◌, ◌-◌, ◌+◌, ◌&&◌, length}
+use Rattle.std.proofs.Common.{◌≡◌, ◌≤◌, ◌-◌, ◌+◌, ◌&&◌, vec_len}
 use Rattle.std.specs.Prelude.{sum_by}
 use Rattle.ffs_volume.specs.Directories.Entries.{entries_from}
 use Rattle.ffs_volume.specs.Directories.Roles.{Volume}
@@ -11,13 +11,13 @@ abbrev pub invariant-entries : goal.invariant-entries
 invariant-entries l = record {
   place : l.place ≤ 512;
   index : l.index ≤ l.place;
-  stamps_long : length l.stamps ≡ length l.inodes.kinds.now;
+  stamps_long : vec_len l.stamps ≡ vec_len l.fn.stamps;
   quiet : (v : Volume) → Sees v l.inodes →
-      are_quiet v l.dir l.initial.stamps (roled_at_place l.order l.chunk l.first 0 0)
-      ≡ (l.quiet && are_quiet v l.dir l.stamps (roled_at_place l.order l.chunk l.first l.index l.place));
+      are_quiet v l.dir l.initial.stamps.items (roled_at_place l.order l.chunk l.first 0 0)
+      ≡ (l.quiet && are_quiet v l.dir l.stamps.items (roled_at_place l.order l.chunk l.first l.index l.place));
   stamps : (v : Volume) → Sees v l.inodes →
-      after_looks v l.dir l.initial.stamps (roled_at_place l.order l.chunk l.first 0 0)
-      ≡ after_looks v l.dir l.stamps (roled_at_place l.order l.chunk l.first l.index l.place);
+      after_looks v l.dir l.initial.stamps.items (roled_at_place l.order l.chunk l.first 0 0)
+      ≡ after_looks v l.dir l.stamps.items (roled_at_place l.order l.chunk l.first l.index l.place);
   sound : sum_by (λ x. x.length) (entries_from l.order l.chunk 64 0) ≡ l.place + sum_by (λ x. x.length)
       (entries_from l.order l.chunk 64 l.place);
 }

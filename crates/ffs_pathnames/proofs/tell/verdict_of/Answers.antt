@@ -19,7 +19,5 @@ returns-clause-verdict c = λ v b made h r.
       linked = c.entry_verdict.ensures.linked (volume_of v b) shows;
       reported = sym (ap (λ ms. plain_reported (volume_of v b) c.args.dir
           (record { passed = ms; stamps = w.queue.items }) e) c.as_slice-3.ensures.value)
-          ∙ (sym (ap (λ ms. plain_reported (volume_of v b) c.args.dir
-          (record { passed = c.as_slice-3.result.now; stamps = ms }) e) c.as_slice-4.ensures.value)
-          ∙ c.entry_verdict.ensures.reported (volume_of v b) shows);
+          ∙ c.entry_verdict.ensures.reported (volume_of v b) shows;
     }

@@ -7,11 +7,11 @@ use Rattle.ffs_survey.proofs.cycles.least_on.Goals.{then-place-least, else-place
 
 pub round-init : goal.round-init
 round-init c = record {
-  bound = omega (arith, c.parent_of-place.ensures, (up_cycle c.args.parents.now.items c.args.found c.requires.cycle).1);
+  bound = omega (arith, c.number_of-place.ensures, (up_cycle c.args.parents.now.items c.args.found c.requires.cycle).1);
   low = c.requires.low;
   rounding = round_start (up_of c.args.parents.now.items) c.args.found _
       ((up_cycle c.args.parents.now.items c.args.found c.requires.cycle).0
-      ∙ ap Some (sym c.parent_of-place.ensures));
+      ∙ ap Some (sym c.number_of-place.ensures));
 }
 
 pub round-preserved : goal.round-preserved
@@ -29,11 +29,11 @@ round-preserved c =
       | else-place-least w ↦ (omega arith, omega arith, omega arith, inl w.least-is)
     ] in
     let one : suc c.round.steps ≡ c.round.steps + 1 = omega arith in
-    let at = c.parent_of-place-in-round.ensures in
+    let at = c.number_of-place-in-round.ensures in
     record {
       bound = omega (arith, at, (up_cycle c.args.parents.now.items c.round.place cy).1);
       low = facts.0;
-      rounding = subst (λ k. Rounding f c.args.found k c.parent_of-place-in-round.result
+      rounding = subst (λ k. Rounding f c.args.found k c.number_of-place-in-round.result
           c.if-place-least.least) one
           (round_step f c.args.found c.round.steps c.round.place c.round.least _ c.if-place-least.least r
           c.round-test.true ((up_cycle c.args.parents.now.items c.round.place cy).0 ∙ ap Some (sym at)) facts.1 facts.2 facts.3);

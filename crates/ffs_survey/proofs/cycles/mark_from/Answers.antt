@@ -5,7 +5,7 @@ use Rattle.ffs_survey.proofs.cycles.mark_from.Goals as goal
 
 pub least_on-least-requires : goal.least_on-least-requires
 least_on-least-requires c =
-    let g : FindsCycle (up_of c.args.parents.now.items) (length c.args.parents.now.items) c.args.stamp.now c.walk.new.stamp
+    let g : FindsCycle (up_of c.args.parents.now.items) (length c.args.parents.now.items) c.args.stamp.now.items c.walk.new.stamp.items
     c.in-Some.found = rw c.in-Some.is at c.walk.ensures.cycle in
     record { few = c.requires.walk.few; low = g.low; cycle = g.cycle; short = g.short }
 
@@ -13,12 +13,12 @@ pub returns-clause-marks : goal.returns-clause-marks
 returns-clause-marks c =
     let b = c.least_on-least.ensures.low in
     marks_found (up_of c.args.parents.now.items) (length c.args.parents.now.items) c.args.start (c.args.start + 1) c.in-Some.found
-    c.least_on-least.result c.args.stamp.now c.walk.new.stamp c.args.leaders.now
+    c.least_on-least.result c.args.stamp.now.items c.walk.new.stamp.items c.args.leaders.now
     (omega (arith, b, c.requires.marks.long)) c.requires.walk.closed c.walk.ensures.walked
     (rw c.in-Some.is at c.walk.ensures.cycle) c.least_on-least.ensures c.requires.marks
 
 pub returns-in_default-clause-marks : goal.returns-in_default-clause-marks
 returns-in_default-clause-marks c =
-    marks_none (up_of c.args.parents.now.items) (length c.args.parents.now.items) c.args.start (c.args.start + 1) c.args.stamp.now
-    c.walk.new.stamp c.args.leaders.now
+    marks_none (up_of c.args.parents.now.items) (length c.args.parents.now.items) c.args.start (c.args.start + 1) c.args.stamp.now.items
+    c.walk.new.stamp.items c.args.leaders.now
     c.walk.ensures.walked c.in_default.ensures.cycle c.requires.marks

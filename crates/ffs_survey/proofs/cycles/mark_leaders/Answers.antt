@@ -4,8 +4,8 @@ use Rattle.std.proofs.lemmas.List.{get_or_past}
 use Rattle.ffs_survey.proofs.Walks.{past_leader}
 use Rattle.ffs_survey.proofs.cycles.mark_leaders.Goals as goal
 
-pub returns : goal.returns
-returns c = λ x.
+pub returns-clause-leads : goal.returns-clause-leads
+returns-clause-leads c = λ x.
     let inv = c.loop-start.invariant in
     elim (cases_lt x (length c.args.parents.now.items)) [
       | inl l ↦ inv.marks.known x (inv.begun x (omega arith))

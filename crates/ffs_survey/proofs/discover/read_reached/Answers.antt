@@ -4,6 +4,7 @@ use Rattle.ffs_survey.specs.Reading.{roled_of}
 use Rattle.ffs_survey.specs.Calm.{IsFlagged}
 use Rattle.ffs_survey.proofs.Discovered.{entry_step}
 use Rattle.ffs_survey.proofs.CalmLaws.{calm_step, read_whole}
+use Rattle.ffs_survey.proofs.Queues.{extends_on}
 use Rattle.ffs_survey.proofs.Tally.{entry_counted, bit-le}
 use Rattle.ffs_survey.proofs.discover.read_reached.Goals as goal
 
@@ -23,6 +24,8 @@ loop-entry-preserved g c =
       device = search rules;
       same_length = c.count_entry.ensures.same_length ∙ inv.same_length;
       parents_long = c.visit-high.ensures.parents_long ∙ inv.parents_long;
+      queue_long = c.visit-high.ensures.queue_long ∙ inv.queue_long;
+      extends = extends_on _ _ _ _ _ _ inv.extends c.visit-high.ensures.queue_kept;
       left = let l = inv.left in omega (arith, l, fell);
       grown = λ x l.
           let old = inv.grown x l in
@@ -33,8 +36,8 @@ loop-entry-preserved g c =
       high = let h = c.visit-high.ensures.top in let i = inv.high in omega (arith, h, i);
       comes = λ b k.
           entry_step _ c.args.kinds.now c.args.from e (g.D.Directories.rest c.next.new.self b) c.args.reached.now
-          c.loop-entry.reached _ c.args.parents.now.items c.loop-entry.parents.items _ (take c.args.top c.args.queue.now)
-          (take c.loop-entry.high c.loop-entry.queue) _
+          c.loop-entry.reached _ c.args.parents.now.items c.loop-entry.parents.items _ (take c.args.top c.args.queue.now.items)
+          (take c.loop-entry.high c.loop-entry.queue.items) _
           (rw (cut b k) at (inv.comes b k)) c.visit-high.ensures.comes;
       counts = λ b k.
           entry_counted (length c.args.kinds.now) _ _ e (g.D.Directories.rest c.next.new.self b)
@@ -47,9 +50,9 @@ loop-entry-preserved g c =
             kinds = c.args.kinds.now;
             marked = c.args.marked.now;
             dir = c.args.from;
-            above = c.parent_of-above.result;
+            above = c.number_of-above.result;
           }) c.loop-entry.reached _ c.loop-entry.parents.items _
-          (take c.loop-entry.high c.loop-entry.queue) _ c.loop-entry.count e (g.D.Directories.rest c.next.new.self b)
+          (take c.loop-entry.high c.loop-entry.queue.items) _ c.loop-entry.count e (g.D.Directories.rest c.next.new.self b)
           c.loop-entry.quiet _ _
           c.visit-high.ensures.comes (ap (λ z. c.loop-entry.quiet && z) c.is_calm-quiet.ensures)
           (rw (cut b k) at (inv.quiet b k));
@@ -70,10 +73,10 @@ returns-clause-found g c = record {
       let none : g.D.Directories.rest c.loop-entry.directories b ≡ [] = rw c.in_default.is at (reported b k) in
       let end : g.D.Directories.ended c.next.new.self b = rw c.in_default.is at ended b k in
       let w = read_whole c.args.kinds.now c.args.marked.now c.args.reached.now c.loop-entry.reached c.args.parents.now.items
-      c.loop-entry.parents.items (take c.args.top c.args.queue.now) (take c.loop-entry.high c.loop-entry.queue)
-      (entries c.args.from) (g.D.Directories.rest c.loop-entry.directories b) c.args.from c.parent_of-above.result
+      c.loop-entry.parents.items (take c.args.top c.args.queue.now.items) (take c.loop-entry.high c.loop-entry.queue.items)
+      (entries c.args.from) (g.D.Directories.rest c.loop-entry.directories b) c.args.from c.number_of-above.result
       c.loop-entry.count c.loop-entry.quiet
-      c.parent_of-above.ensures none (inv.comes b k) (inv.quiet b k) in
+      c.number_of-above.ensures none (inv.comes b k) (inv.quiet b k) in
       record {
         comes = w.comes;
         counts = rw none at (inv.counts b k);

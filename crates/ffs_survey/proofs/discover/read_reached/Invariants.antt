@@ -1,6 +1,6 @@
 use Rattle.std.proofs.Common.{◌≡◌, ℕ, ◌+◌, ◌<◌, ◌≤◌, ◌^◌, List, length, vec_len, take, ◌&&◌}
 use Rattle.ffs_survey.specs.Survey.{number_at, bool_at}
-use Rattle.ffs_survey.specs.Discover.{Comes, Counts, from_entries, unset, count_in, any_in}
+use Rattle.ffs_survey.specs.Discover.{Extends, Comes, Counts, from_entries, unset, count_in, any_in}
 use Rattle.ffs_survey.specs.Calm.{are_calm}
 use Rattle.ffs_survey.proofs.discover.read_reached.Given as goal
 
@@ -11,6 +11,8 @@ invariant-loop-entry g l = record {
   device : g.D.Directories.device l.directories ≡ g.D.Directories.device l.fn.directories;
   same_length : vec_len l.references ≡ vec_len l.fn.references;
   parents_long : vec_len l.parents ≡ vec_len l.fn.parents;
+  queue_long : vec_len l.queue ≡ vec_len l.fn.queue;
+  extends : Extends l.top l.high l.fn.queue.items l.queue.items;
   left : g.D.Directories.left l.directories ≤ 2 ^ 28;
   grown : (x : ℕ) → x < length l.kinds → number_at l.references.items x + g.D.Directories.left l.directories ≤ number_at
       l.fn.references.items x + 2 ^ 28;
@@ -18,8 +20,8 @@ invariant-loop-entry g l = record {
   high : l.high + unset l.reached ≡ l.top + unset l.fn.reached;
   comes : (b : List ℕ) → g.D.Directories.knows (g.D.Directories.base l.fn.directories) b →
       Comes (from_entries l.kinds l.from (g.D.Directories.entries (g.D.Directories.base l.fn.directories) b l.from))
-      l.fn.reached l.fn.parents.items (take l.top l.fn.queue)
-      (from_entries l.kinds l.from (g.D.Directories.rest l.directories b)) l.reached l.parents.items (take l.high l.queue);
+      l.fn.reached l.fn.parents.items (take l.top l.fn.queue.items)
+      (from_entries l.kinds l.from (g.D.Directories.rest l.directories b)) l.reached l.parents.items (take l.high l.queue.items);
   counts : (b : List ℕ) → g.D.Directories.knows (g.D.Directories.base l.fn.directories) b →
       Counts (length l.kinds) (count_in (g.D.Directories.entries (g.D.Directories.base l.fn.directories) b l.from))
       (any_in (g.D.Directories.entries (g.D.Directories.base l.fn.directories) b l.from)) l.fn.references.items

@@ -1,4 +1,4 @@
-use Rattle.std.proofs.Common.{rules, ◌≡◌, ℕ, ◌+◌, List, take, set, arith, refl, sym, ◌∙◌, subst, length-set, true}
+use Rattle.std.proofs.Common.{ap, rules, ◌≡◌, ℕ, ◌+◌, List, take, set, arith, refl, sym, ◌∙◌, subst, length-set, true}
 use Rattle.ffs_survey.specs.Survey.{graph_with}
 use Rattle.ffs_survey.specs.Discover.{IsFrontier, LevelsKnown, IsCount, AtLevel}
 use Rattle.ffs_survey.proofs.Discovered.{unset-set}
@@ -15,6 +15,7 @@ loop-low-init g c = record {
   device = search rules;
   same_length = refl;
   parents_long = c.set.ensures.len;
+  queue_long = c.set-2.ensures.len;
   lengths = omega (arith, length-set c.args.reached.now 2 true);
   room = record {
     ordered = omega arith;
@@ -22,19 +23,20 @@ loop-low-init g c = record {
       arith,
       unset-set c.args.reached.now 2 (omega arith) (c.requires.begins.reached 2),
       unset-le c.args.reached.now,
-      length-set c.args.queue.now 0 2,
+      c.set-2.ensures.len,
     );
     counted = λ x l. let z = c.requires.begins.starts x in omega (arith, z);
   };
   levels = λ b k.
       let v = graph_with c.args.kinds.now (g.D.Directories.entries (g.D.Directories.base c.args.directories.now) b) in
+      let queue = ap (take 1) c.set-2.ensures.items ∙ queue_start c.args.queue.now.items (omega arith) in
       let start : AtLevel v 0 0 1 (set c.args.reached.now 2 true) c.set.new.self.items
-      (set c.args.queue.now 0 2) =
+      c.set-2.new.self.items =
       record {
-        frontier = subst (λ q. IsFrontier v 0 q) (sym (queue_start c.args.queue.now (omega arith)))
+        frontier = subst (λ q. IsFrontier v 0 q) (sym queue)
             (frontier_start v (sane_of c.args.kinds.now _ c.requires.lists.some));
         levels = subst (λ q. LevelsKnown v 0 (set c.args.reached.now 2 true) c.set.new.self.items q)
-            (sym (queue_start c.args.queue.now (omega arith)))
+            (sym queue)
             (rw c.set.ensures.items
             (levels_start v c.args.reached.now c.args.parents.now.items (omega arith) (omega arith)
             c.requires.begins.reached c.requires.begins.parents));
@@ -57,6 +59,7 @@ loop-low-preserved g c =
       device = search rules;
       same_length = done.same_length ∙ inv.same_length;
       parents_long = done.parents_long ∙ inv.parents_long;
+      queue_long = done.queue_long ∙ inv.queue_long;
       lengths = let l = inv.lengths in omega (arith, l);
       room = done.level.room;
       levels = λ b k. let before = inv.levels b k in
@@ -64,7 +67,7 @@ loop-low-preserved g c =
       counts = λ b k.
           counted_on (graph_with c.args.kinds.now
           (g.D.Directories.entries (g.D.Directories.base c.args.directories.now) b)) c.loop-low.low c.loop-low.high
-          c.loop-low.queue _ c.args.references.now.items c.loop-low.references.items _ c.loop-low.named _
+          c.loop-low.queue.items _ c.args.references.now.items c.loop-low.references.items _ c.loop-low.named _
           inv.room.ordered done.level.kept (inv.counts b k) (read b k).counts;
       calm = λ b k. (read b k).calm (inv.calm b k);
     }
@@ -80,11 +83,11 @@ returns-clause-read g c = λ b k.
     let F : List ℕ → Type 0 = λ xs. IsFrontier v at.depth xs in
     record {
       part = reached_part c.args.kinds.now es at.depth c.args.references.now.items c.loop-low.references.items
-          c.loop-low.named c.loop-low.reached c.loop-low.parents.items (take c.loop-low.high c.loop-low.queue) inv.lengths
+          c.loop-low.named c.loop-low.reached c.loop-low.parents.items (take c.loop-low.high c.loop-low.queue.items) inv.lengths
           (sane_of c.args.kinds.now es c.requires.lists.some)
-          (subst F (no_front c.loop-low.low c.loop-low.high c.loop-low.queue c.loop-low-test.false)
+          (subst F (no_front c.loop-low.low c.loop-low.high c.loop-low.queue.items c.loop-low-test.false)
           at.at.frontier) at.at.levels
-          (subst (λ n. IsCount v (take n c.loop-low.queue) c.args.references.now.items c.loop-low.references.items
+          (subst (λ n. IsCount v (take n c.loop-low.queue.items) c.args.references.now.items c.loop-low.references.items
           c.loop-low.named) same (inv.counts b k));
       calm = inv.calm b k;
     }

@@ -21,7 +21,7 @@ returns-then-above-eq0 c = λ v n t.
     sym (unref_is v suspect c.args.kinds.now c.args.reached.now c.args.parents.now.items c.args.dir c.requires.lists.parents t
     l
     ∙ ap (λ b. b || is_leader_within (up_of c.args.parents.now.items) (length c.args.parents.now.items) c.args.dir)
-    (cond-true _ true _ (eq-eqb _ 0 (sym c.parent_of-above.ensures ∙ c.if-above-eq0.true))))
+    (cond-true _ true _ (eq-eqb _ 0 (sym c.number_of-above.ensures ∙ c.if-above-eq0.true))))
 
 pub returns-then-above-kinds : goal.returns-then-above-kinds
 returns-then-above-kinds c = λ v n t.
@@ -42,5 +42,5 @@ returns c = λ v n t.
     ∙ sym (unref_is v suspect c.args.kinds.now c.args.reached.now c.args.parents.now.items c.args.dir c.requires.lists.parents
     t l
     ∙ ap (λ b. b || is_leader_within (up_of c.args.parents.now.items) (length c.args.parents.now.items) c.args.dir)
-    (cond-false _ true _ (ne_eqb _ 0 (λ z. c.if-above-eq0.false (c.parent_of-above.ensures ∙ z)))
-    ∙ ap (λ a. is_dead_in v suspect a) (sym c.parent_of-above.ensures) ∙ (sym (c.is_dead-2.ensures v n) ∙ c.if-is_dead-2.false)))
+    (cond-false _ true _ (ne_eqb _ 0 (λ z. c.if-above-eq0.false (c.number_of-above.ensures ∙ z)))
+    ∙ ap (λ a. is_dead_in v suspect a) (sym c.number_of-above.ensures) ∙ (sym (c.is_dead-2.ensures v n) ∙ c.if-is_dead-2.false)))
