@@ -47,6 +47,7 @@ fn claim_address(
 
 /// Claims what the words offer that come next in the single indirect block that the walk is in, which is held, as long as there
 /// is nothing to report of them.
+#[inline(never)]
 fn claim_held_words(
     workspace: &mut Workspace,
     geometry: &Geometry,

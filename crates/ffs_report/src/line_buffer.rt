@@ -1,5 +1,5 @@
 // The bytes of one line, gathered before they go out.
-ghost use Rattle.std.specs.Prelude.{◌≡◌, ◌≤◌, ◌<◌, ◌*◌, length, take};
+ghost use Rattle.std.specs.Prelude.{◌≡◌, ◌≤◌, ◌*◌, length, take};
 
 use crate::output::{OutFault, Output};
 
@@ -67,24 +67,7 @@ fn copy_ends(to: &mut [u8], from: &[u8], some: usize)
     to[last..].copy_from_slice(&from[last..]);
 }
 
-/// Copies more bytes than two words have.
-#[inline(always)]
-fn copy_long(to: &mut [u8], from: &[u8])
-    requires length { length to.old ≡ length from.now }
-    requires long { 8 < length from.now }
-    ensures { to.new ≡ from.now }
-{
-    let len = from.len();
-    if len > 2 * BLOCK {
-        to.copy_from_slice(from);
-    } else if len > 2 * LONG_WORD {
-        copy_ends(to, from, BLOCK);
-    } else {
-        copy_ends(to, from, LONG_WORD);
-    }
-}
-
-/// Copies bytes. Most texts are short, and a call of a copy takes longer than they do.
+/// Copies bytes. Numbers and most names are short, and a call of a copy takes longer than they do.
 #[inline(always)]
 fn copy_bytes(to: &mut [u8], from: &[u8])
     requires { length to.old ≡ length from.now }
@@ -92,7 +75,7 @@ fn copy_bytes(to: &mut [u8], from: &[u8])
 {
     let len = from.len();
     if len > 2 * WORD {
-        copy_long(to, from);
+        to.copy_from_slice(from);
     } else if len >= WORD {
         copy_ends(to, from, WORD);
     } else if len >= PAIR {

@@ -81,21 +81,26 @@ impl<'a, W: Output> Report<'a, W> {
 
     /// Says a line of any kind.
     fn say_any(&mut self, line: &Line<'_>) -> Result<(), OutFault>
-        requires { self.old.failed ≡ false }
         ensures { SaysOne (progress W.sink self.old) (progress W.sink self.new)
             (message_of line.now) result }
     {
+        if self.failed {
+            return Err(OutFault);
+        }
         let printed = print_gathered(self.out, &mut self.text, line);
         self.after(printed, is_defect(line))
     }
 
     /// Says that an inode claims a fragment again. Where a volume has many defects, most of its lines are of this kind.
     fn say_dup(&mut self, fragment: u32, inode: u32) -> Result<(), OutFault>
-        requires { self.old.failed ≡ false }
         ensures { SaysOne (progress W.sink self.old) (progress W.sink self.new)
             (of_blocks (BlockMessage.Dup fragment inode)) result }
     {
-        let printed = print_dup(self.out, &mut self.text, fragment, inode);
+        let printed = if self.failed {
+            Err(OutFault)
+        } else {
+            print_dup(self.out, &mut self.text, fragment, inode)
+        };
         self.after(printed, true)
     }
 
@@ -108,9 +113,6 @@ impl<'a, W: Output> Report<'a, W> {
         ensures { SaysOne (progress W.sink self.old) (progress W.sink self.new)
             (message_of line.now) result }
     {
-        if self.failed {
-            return Err(OutFault);
-        }
         match line {
             Line::Block(BlockMessage::Dup { fragment, inode }) => self.say_dup(*fragment, *inode),
             _ => self.say_any(line),
