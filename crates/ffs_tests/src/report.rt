@@ -273,6 +273,22 @@ fn reports_blocks(rt: HostRuntime) {
     );
     reports_block(
         &rt,
+        BlockMessage::Dup {
+            fragment: 1,
+            inode: 4294967295,
+        },
+        b"1 DUP I=4294967295\n",
+    );
+    reports_block(
+        &rt,
+        BlockMessage::Dup {
+            fragment: 123,
+            inode: 12345678,
+        },
+        b"123 DUP I=12345678\n",
+    );
+    reports_block(
+        &rt,
         BlockMessage::ManyBad { inode: 3 },
         b"EXCESSIVE BAD BLKS I=3\nCONTINUE? yes\n\n",
     );
