@@ -9,11 +9,15 @@ pub(crate) fn touch<T: Copy>(touched: &mut Vec<T>, index: usize, rest: T)
     ensures { Touches touched.old touched.new index rest }
 {
     if touched.len() <= index {
-        touch_more(touched, index, rest);
+        if touched.len() == index {
+            touched.push_reserved(rest);
+        } else {
+            touch_more(touched, index, rest);
+        }
     }
 }
 
-// The same. It isn't inlined, since nearly every element that is asked for is touched already.
+// The same. It isn't inlined, since an element that is asked for is mostly touched already, or is the next one.
 #[inline(never)]
 fn touch_more<T: Copy>(touched: &mut Vec<T>, index: usize, rest: T)
     requires { index < vec_capacity touched.old }
