@@ -95,7 +95,7 @@ impl Chunks {
     }
 
     /// Reads the next chunk, whatever the number of chunks that may still come.
-    #[inline(never)]
+    #[inline(always)]
     fn read<I: Image>(
         &mut self,
         image: &mut I,
