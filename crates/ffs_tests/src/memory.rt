@@ -117,19 +117,17 @@ fn numbers_set_and_filled(rt: HostRuntime) -> Result<(), Fail> {
 #[test]
 fn part_sorted(rt: HostRuntime) -> Result<(), Fail> {
     let mut list = SystemMemory::new(rt.alloc()).numbers(8)?;
-    for (index, number) in [9, 4, 8, 2, 6].into_iter().enumerate() {
-        list.set(index, number);
-    }
-    list.sort_part(2, 2);
-    assert_eq!(rt; (list[2], list[3]), (8, 2));
-    list.sort_part(1, 4);
-    for (index, number) in [9, 2, 4, 8, 6, 0, 0, 0].into_iter().enumerate() {
-        assert_eq!(rt; list[index], number);
-    }
-    list.sort_part(3, 7);
-    for (index, number) in [9, 2, 4, 0, 0, 6, 8, 0].into_iter().enumerate() {
-        assert_eq!(rt; list[index], number);
-    }
+    list.set(0, 9);
+    list.set(1, 8);
+    list.set(2, 2);
+    list.set(3, 6);
+    list.sort_part(1, 1);
+    assert_eq!(rt; (list[0], list[1], list[2]), (9, 8, 2));
+    list.sort_part(1, 3);
+    assert_eq!(rt; (list[0], list[1], list[2], list[3]), (9, 2, 8, 6));
+    list.sort_part(2, 6);
+    assert_eq!(rt; (list[1], list[2], list[3]), (2, 0, 0));
+    assert_eq!(rt; (list[4], list[5], list[6]), (6, 8, 0));
     Ok(())
 }
 
