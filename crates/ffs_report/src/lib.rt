@@ -15,6 +15,7 @@
 #![tactic(auto)]
 
 mod counted;
+mod dup_line;
 mod fuse;
 mod line;
 mod line_buffer;

@@ -12,10 +12,6 @@ const PAIR: usize = 2;
 
 const WORD: usize = 4;
 
-const LONG_WORD: usize = 8;
-
-const BLOCK: usize = 16;
-
 /// An output in memory that has room for one line. A piece for which no room is left is refused.
 #[derive(Drop)]
 pub struct LineBuffer {

@@ -4,10 +4,12 @@ ghost use Rattle.ffs_volume.specs.Messages.Kinds.{is_defect, of_blocks};
 ghost use Rattle.ffs_report.specs.Lines.{message_of};
 ghost use Rattle.ffs_report.specs.Progress.{progress, starts, SaysOne};
 
+use crate::dup_line::DupLine;
 use crate::line::Line;
 use crate::line_buffer::LineBuffer;
 use crate::output::{OutFault, Output};
-use crate::say::{print_dup, print_gathered};
+use crate::print::print;
+use crate::say::print_gathered;
 use ffs_volume::BlockMessage;
 
 /// The lines that are said on an output, up to the first one that fails.
@@ -15,6 +17,7 @@ use ffs_volume::BlockMessage;
 pub struct Report<'a, W> {
     out: &'a mut W,
     text: LineBuffer,
+    dup: DupLine,
     failed: bool,
     defect: bool,
 }
@@ -46,6 +49,7 @@ impl<'a, W: Output> Report<'a, W> {
         Report {
             out,
             text: LineBuffer::new(),
+            dup: DupLine::new(0),
             failed: false,
             defect: false,
         }
@@ -99,7 +103,7 @@ impl<'a, W: Output> Report<'a, W> {
         let printed = if self.failed {
             Err(OutFault)
         } else {
-            print_dup(self.out, &mut self.text, fragment, inode)
+            print(self.out, self.dup.line(fragment, inode))
         };
         self.after(printed, true)
     }

@@ -29,24 +29,6 @@ pub fn print_gathered<W: Output>(
     print_line(out, line)
 }
 
-/// Prints that an inode claims a fragment again, as one piece where it has room in the buffer.
-#[inline(always)]
-pub fn print_dup<W: Output>(
-    out: &mut W,
-    text: &mut LineBuffer,
-    fragment: u32,
-    inode: u32,
-) -> Result<(), OutFault>
-    ensures { Prints (W.sink out.old) (W.sink out.new)
-        (block_message_text (BlockMessage.Dup fragment inode)) result }
-{
-    text.clear();
-    if print_claim(text, fragment, DUP, inode).is_ok() {
-        return print(out, text.bytes());
-    }
-    print_block(out, BlockMessage::Dup { fragment, inode })
-}
-
 /// Prints a line and its questions.
 fn print_line<W: Output>(out: &mut W, line: &Line<'_>) -> Result<(), OutFault>
     ensures { Prints (W.sink out.old) (W.sink out.new) (text_of (message_of line.now)) result }
