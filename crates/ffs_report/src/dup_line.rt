@@ -8,19 +8,20 @@ use ffs_volume::BlockMessage;
 use ffs_volume::texts::{DUP, LINE_END};
 use itoa::write_digits;
 
-/// The digits of the largest number of 32 bits.
+/// A number of 32 bits has at most so many digits.
 const MOST_DIGITS: usize = 10;
 
-/// The room for the longest line: two numbers, and the texts after them.
+/// The room for the longest line: two numbers, and the text after each.
 const ROOM: usize = MOST_DIGITS + DUP.len() + MOST_DIGITS + LINE_END.len();
 
-/// The line of the last duplicate. What comes after its fragment is kept: an inode's duplicates are reported one after
-/// another.
+/// The line of a duplicate. All after its fragment is kept for the next line, since duplicates of one inode are reported one
+/// after another.
 #[derive(Drop)]
 pub struct DupLine {
     bytes: [u8; ROOM],
-    /// The place in `bytes` from which on they are the end of each line of the inode.
+    /// Where the text after the fragment begins. It goes up to the end of the bytes.
     end: usize,
+    /// The inode that this text names.
     inode: u32,
     ghost long: { length bytes ≡ ROOM },
     ghost room: { MOST_DIGITS ≤ end },
@@ -41,18 +42,18 @@ fn put_before(bytes: &mut [u8], place: usize, text: &[u8]) -> usize
 }
 
 impl DupLine {
-    /// The end of the lines of an inode.
+    /// The lines of an inode, without a fragment yet.
     pub fn new(inode: u32) -> DupLine
         ensures { result.inode ≡ inode }
     {
         let mut bytes = [0; ROOM];
-        let line_end = put_before(&mut bytes, ROOM, LINE_END);
-        let number = write_digits(inode as u64, &mut bytes, line_end);
+        let number_end = put_before(&mut bytes, ROOM, LINE_END);
+        let number = write_digits(inode as u64, &mut bytes, number_end);
         let end = put_before(&mut bytes, number, DUP);
         DupLine { bytes, end, inode }
     }
 
-    /// The line for a fragment that an inode claims again.
+    /// The line of a fragment that an inode claims again.
     #[inline(always)]
     pub fn line(&mut self, fragment: u32, inode: u32) -> &[u8]
         ensures { result.now ≡ block_message_text (BlockMessage.Dup fragment inode) }

@@ -7,9 +7,10 @@ use crate::output::{OutFault, Output};
 /// longer.
 const LINE_ROOM: usize = 2048;
 
-/// How many bytes the machine moves at once.
+/// The bytes of a pair. The machine moves them at once.
 const PAIR: usize = 2;
 
+/// The bytes of a word, which it moves at once too.
 const WORD: usize = 4;
 
 /// An output in memory that has room for one line. A piece for which no room is left is refused.

@@ -23,5 +23,5 @@ invariant_of-result c =
       within = omega arith;
       ends = c.put_before-end.ensures.written ∙ ap (λ (xs : List ℕ). texts.DUP.now ++ xs)
           (c.write_digits-number.ensures.written ∙ ap (λ (xs : List ℕ). decimal c.args.inode ++ xs)
-          c.put_before-line_end.ensures.written);
+          c.put_before-number_end.ensures.written);
     }
