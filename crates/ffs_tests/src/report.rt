@@ -38,6 +38,10 @@ const UNREF: Line<'static> = Line::Reference(ReferenceLine::Unref {
 const UNREF_TEXT: &[u8] =
     b"UNREF FILE I=5 OWNER=4294967295 MODE=100600\nSIZE=18446744073709551615 MTIME=-1\nRECONNECT? no\n\nCLEAR? no\n\n";
 
+/// Duplicates of inodes in turn, with 1 to 10 digits, and one line of another kind.
+const DUPLICATES: &[u8] =
+    b"0 DUP I=0\n1 DUP I=0\n12 DUP I=4294967295\n9 DUP I=4294967295\n123 DUP I=4294967294\n4294967295 DUP I=2\n1234 DUP I=2\nEXCESSIVE DUP BLKS I=2\nCONTINUE? yes\n\n1234 DUP I=3\n12345 DUP I=34\n123456 DUP I=345\n1234567 DUP I=3456\n12345678 DUP I=34567\n123456789 DUP I=345678\n1234567890 DUP I=3456789\n10 DUP I=34567890\n1000000000 DUP I=345678901\n4294967294 DUP I=34\n";
+
 /// Says a line, and compares its bytes and whether it is a defect.
 fn says(rt: &(impl Abort + AllocGlobal), line: &Line<'_>, defect: bool, text: &[u8]) {
     let mut written = Vec::new(rt.alloc());
@@ -46,6 +50,17 @@ fn says(rt: &(impl Abort + AllocGlobal), line: &Line<'_>, defect: bool, text: &[
     assert!(rt; report.say(line).is_ok());
     assert_eq!(rt; report.any_defect(), defect);
     assert_eq!(rt; written.as_slice(), text);
+}
+
+/// Says a duplicate on a report that goes on.
+fn says_dup(
+    rt: &impl Abort,
+    report: &mut Report<'_, Counted<'_, Vec<u8>>>,
+    fragment: u32,
+    inode: u32,
+) {
+    let line = Line::Block(BlockMessage::Dup { fragment, inode });
+    assert!(rt; report.say(&line).is_ok());
 }
 
 fn reports_block(rt: &(impl Abort + AllocGlobal), message: BlockMessage, text: &[u8]) {
@@ -331,6 +346,37 @@ fn reports_blocks(rt: HostRuntime) {
         BlockMessage::GroupSums,
         b"SUMMARY INFORMATION BAD\nSALVAGE? no\n\n",
     );
+}
+
+#[test]
+fn reports_duplicates_of_inodes_in_turn(rt: HostRuntime) {
+    let mut written = Vec::new(rt.alloc());
+    let mut out = Counted::new(&mut written);
+    let mut report = Report::new(&mut out);
+    says_dup(&rt, &mut report, 0, 0);
+    says_dup(&rt, &mut report, 1, 0);
+    says_dup(&rt, &mut report, 12, 4294967295);
+    says_dup(&rt, &mut report, 9, 4294967295);
+    says_dup(&rt, &mut report, 123, 4294967294);
+    says_dup(&rt, &mut report, 4294967295, 2);
+    says_dup(&rt, &mut report, 1234, 2);
+    assert!(rt;
+        report
+            .say(&Line::Block(BlockMessage::ManyDup { inode: 2 }))
+            .is_ok()
+    );
+    says_dup(&rt, &mut report, 1234, 3);
+    says_dup(&rt, &mut report, 12345, 34);
+    says_dup(&rt, &mut report, 123456, 345);
+    says_dup(&rt, &mut report, 1234567, 3456);
+    says_dup(&rt, &mut report, 12345678, 34567);
+    says_dup(&rt, &mut report, 123456789, 345678);
+    says_dup(&rt, &mut report, 1234567890, 3456789);
+    says_dup(&rt, &mut report, 10, 34567890);
+    says_dup(&rt, &mut report, 1000000000, 345678901);
+    says_dup(&rt, &mut report, 4294967294, 34);
+    assert!(rt; report.any_defect());
+    assert_eq!(rt; written.as_slice(), DUPLICATES);
 }
 
 #[test]
