@@ -1,5 +1,7 @@
 -- What is kept of the line of a duplicate.
-use Rattle.std.proofs.Common.{◌≡◌, ◌∙◌, ◌+◌, ℕ, List, ◌++◌, length, drop, sym, ap}
+use Rattle.std.proofs.Common.{◌≡◌, ◌∙◌, ◌+◌, ◌^◌, ◌<◌, ◌≤◌, ℕ, List, ◌++◌, length, drop, sym, ap, rules}
+use Rattle.std.specs.Prelude.{decimal}
+use Rattle.std.proofs.lemmas.Fmt.{length-decimal-le}
 use Rattle.std.proofs.Math.Seq.{drop-append_seam}
 use Rattle.std.proofs.lemmas.List.{drop-drop}
 
@@ -9,3 +11,7 @@ pub put_leaves : (bytes text rest : List ℕ) (start place : ℕ) → start + le
 put_leaves bytes text rest start place e p =
     ap (λ (n : ℕ). drop n bytes) (sym e) ∙ sym (drop-drop (length text) start bytes)
     ∙ ap (drop (length text)) p ∙ drop-append_seam text rest
+
+-- how many digits a number of 32 bits has
+pub short_number : (n : ℕ) → n < 2 ^ 32 → length (decimal n) ≤ 10
+short_number n h = search (rules, length-decimal-le 10)

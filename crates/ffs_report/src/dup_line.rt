@@ -43,6 +43,7 @@ fn put_before(bytes: &mut [u8], place: usize, text: &[u8]) -> usize
 
 impl DupLine {
     /// The lines of an inode, without a fragment yet.
+    #[tactic(auto, using(crate::proofs::DupLines::short_number))]
     pub fn new(inode: u32) -> DupLine
         ensures { result.inode ≡ inode }
     {
@@ -55,6 +56,7 @@ impl DupLine {
 
     /// The line of a fragment that an inode claims again.
     #[inline(always)]
+    #[tactic(auto, using(crate::proofs::DupLines::short_number))]
     pub fn line(&mut self, fragment: u32, inode: u32) -> &[u8]
         ensures { result.now ≡ block_message_text (BlockMessage.Dup fragment inode) }
     {

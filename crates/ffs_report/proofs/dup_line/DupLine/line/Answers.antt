@@ -1,6 +1,5 @@
-use Rattle.std.proofs.Common.{◌≡◌, ◌≤◌, ◌-◌, ◌∙◌, ◌++◌, List, ℕ, ap, subst, take, drop, length, arith, rules}
+use Rattle.std.proofs.Common.{◌≡◌, ◌-◌, ◌∙◌, ◌++◌, List, ℕ, ap, subst, take, drop, length}
 use Rattle.std.specs.Prelude.{decimal}
-use Rattle.std.proofs.lemmas.Fmt.{length-decimal-le}
 use Rattle.ffs_volume.specs.declared.texts.TheConstants as texts
 use Rattle.ffs_volume.specs.Messages.Texts.{number_text}
 use Rattle.ffs_report.proofs.DupLines.{put_leaves}
@@ -8,26 +7,13 @@ use Rattle.ffs_report.proofs.Sinks.{rest_at}
 use Rattle.ffs_report.proofs.dup_line.DupLine.line.Goals as goal
 use Rattle.ffs_report.proofs.dup_line.DupLine.line.Goals.{then-inode-self, else-inode-self}
 
-pub write_digits-start-requires : goal.write_digits-start-requires
-write_digits-start-requires c =
-    let short : length (decimal c.args.fragment) ≤ 10 = search (rules, length-decimal-le 10) in
-    let room = c.if-inode-self.self.room in
-    let within = c.if-inode-self.self.within in
-    let long = c.if-inode-self.self.long in
-    (omega arith, omega arith)
-
-pub invariant_of-self : goal.invariant_of-self
-invariant_of-self c =
+pub invariant_of-self-clause-ends : goal.invariant_of-self-clause-ends
+invariant_of-self-clause-ends c =
     let bytes = c.if-inode-self.self.bytes in
     let end = c.if-inode-self.self.end in
-    record {
-      long = c.write_digits-start.auto.buf ∙ c.if-inode-self.self.long;
-      room = c.if-inode-self.self.room;
-      within = c.if-inode-self.self.within;
-      ends = put_leaves c.write_digits-start.new.buf (decimal c.args.fragment) (drop end bytes)
-          c.write_digits-start.result end c.write_digits-start.ensures.start
-          c.write_digits-start.ensures.written ∙ c.if-inode-self.self.ends;
-    }
+    put_leaves c.write_digits-start.new.buf (decimal c.args.fragment) (drop end bytes)
+    c.write_digits-start.result end c.write_digits-start.ensures.start
+    c.write_digits-start.ensures.written ∙ c.if-inode-self.self.ends
 
 pub returns : goal.returns
 returns c =
