@@ -6,8 +6,8 @@ ghost use Rattle.ffs_volume.specs.Directories.Entries.{run_chunks};
 use ffs_layout::Geometry;
 use ffs_volume::constants::DIRBLKSIZ;
 
-/// The chunks of the current Run: where the Run is in the image, in bytes, and in the file; how many chunks it has,
-/// and which is the next.
+/// The chunks of the current Run: where the Run is in the image, in bytes, and in the file; how many chunks it has before
+/// the end of what is read of the directory, how many bytes these have, and which is the next.
 #[derive(Clone, Copy, Debug)]
 pub struct RunCursor {
     pub place: u64,
@@ -16,7 +16,7 @@ pub struct RunCursor {
     pub next: u32,
     pub count: u32,
     ghost in_order: { next ≤ count },
-    ghost in_run: { 512 * count ≤ length },
+    ghost whole: { length ≡ 512 * count },
     ghost in_file: { offset + 512 * count ≤ 2 ^ 31 },
 }
 
@@ -61,7 +61,7 @@ impl RunCursor {
         let count = (length / DIRBLKSIZ as u64).min((taken - offset) / DIRBLKSIZ as u64);
         RunCursor {
             place,
-            length,
+            length: DIRBLKSIZ as u64 * count,
             offset,
             next: 0,
             count: count as u32,

@@ -204,3 +204,32 @@ fn classes(rt: HostRuntime) -> Result<(), Fail> {
     }
     Ok(())
 }
+
+// How many logical blocks a walk over a file of a size goes over, and how many fragments the last one has.
+fn extent(geometry: &Geometry, size: u64) -> (u64, u32) {
+    let walk = Walk::start(geometry, &inode(0o100644, size));
+    (walk.blocks, walk.last)
+}
+
+// The volume has blocks of 4,096 bytes, in fragments of 1,024.
+#[test]
+fn sizes_at_edges_of_blocks(rt: HostRuntime) -> Result<(), Fail> {
+    let geometry = geometry(Order::Little)?;
+    assert_eq!(rt; extent(&geometry, 0).0, 0);
+    assert_eq!(rt; extent(&geometry, 1), (1, 1));
+    assert_eq!(rt; extent(&geometry, 4095), (1, 4));
+    assert_eq!(rt; extent(&geometry, 4096), (1, 4));
+    assert_eq!(rt; extent(&geometry, 4097), (2, 1));
+    Ok(())
+}
+
+#[test]
+fn sizes_at_edges_of_fragments(rt: HostRuntime) -> Result<(), Fail> {
+    let geometry = geometry(Order::Big)?;
+    assert_eq!(rt; extent(&geometry, 1023), (1, 1));
+    assert_eq!(rt; extent(&geometry, 1024), (1, 1));
+    assert_eq!(rt; extent(&geometry, 1025), (1, 2));
+    assert_eq!(rt; extent(&geometry, 7168), (2, 3));
+    assert_eq!(rt; extent(&geometry, 7169), (2, 4));
+    Ok(())
+}

@@ -1,4 +1,5 @@
 pub mod AnySet
+pub mod Powers
 pub mod WordBytes
 pub mod Areas
 pub mod FrameSteps

@@ -4,6 +4,7 @@ ghost use Rattle.std.specs.Prelude.{◌≡◌, ◌*◌, ◌+◌, ◌<◌, ◌≤
 ghost use Rattle.ffs_volume.specs.Blocks.Inodes as inodes;
 ghost use Rattle.ffs_volume.specs.Blocks.Steps as steps;
 
+use crate::pieces::{after_pieces, pieces_of};
 use ffs_layout::Geometry;
 use ffs_volume::constants::{DT_BLK, DT_CHR, DT_DIR, DT_FIFO, DT_LNK, DT_REG, DT_SOCK, NDADDR};
 use ffs_volume::{Class, Inode};
@@ -28,15 +29,16 @@ pub fn addresses_needed(words: u64, blocks: u64) -> u32
 }
 
 /// How many fragments the last logical block has, where it is direct.
+#[tactic(auto, using(crate::proofs::Powers::bsize_power, crate::proofs::Powers::fsize_power))]
 pub fn last_length(geometry: &Geometry, inode: &Inode) -> u32
     ensures value { result ≡ steps.last_length_of geometry.now.layout inode.now }
     ensures within { (0 < result) × (result ≤ geometry.now.layout.frag) }
 {
-    let over = inode.size % u64::from(geometry.layout.bsize);
+    let over = after_pieces(inode.size, geometry.layout.bsize);
     if over == 0 {
         geometry.layout.frag
     } else {
-        over.div_ceil(u64::from(geometry.layout.fsize)) as u32
+        pieces_of(over, geometry.layout.fsize) as u32
     }
 }
 
@@ -92,12 +94,12 @@ fn greatest_size(geometry: &Geometry) -> u64
 }
 
 /// How many logical blocks an inode of its size has.
-#[tactic(auto, using(crate::proofs::Sizes::blocks_small))]
+#[tactic(auto, using(crate::proofs::Sizes::blocks_small, crate::proofs::Powers::bsize_power))]
 fn logical_blocks_of(geometry: &Geometry, inode: &Inode) -> u64
     ensures value { result ≡ inodes.logical_blocks_of geometry.now.layout inode.now }
     ensures small { result < 2 ^ 53 }
 {
-    inode.size.div_ceil(u64::from(geometry.layout.bsize))
+    pieces_of(inode.size, geometry.layout.bsize)
 }
 
 /// How many logical blocks of an inode of the class a walk goes over.

@@ -14,6 +14,7 @@
 mod blocks;
 mod class;
 mod frame;
+mod pieces;
 mod walk;
 mod window;
 mod words;

@@ -13,7 +13,7 @@ returns-clause-chunk g c = λ b t.
     let went = c.in_ok-advance.ensures.continues b t in
     let order = ap (λ x. x.layout.order) c.advance.ensures.leaves.same.geometry in
     let more = rw c.if-not-branch.false at c.in_ok-advance.ensures.found in
-    let fits = h.in_run in
+    let fits = h.whole in
     let chunk = chunk_held h.place h.length h.next b (held_bytes c.fill.new.self) c.copy_from_slice.new.self
     c.bytes.result.now (omega arith) c.copy_from_slice.ensures.after c.bytes.ensures
     (c.in_ok-fill.ensures.bytes b (ap (λ d. d.contents) c.in_ok-advance.ensures.leaves.read ∙ t)) in
@@ -36,7 +36,7 @@ pub returns-clause-place : goal.returns-clause-place
 returns-clause-place g c = λ b t.
     let h = c.advance.new.self.run_cursor in
     let more = rw c.if-not-branch.false at c.in_ok-advance.ensures.found in
-    let fits = h.in_run in
+    let fits = h.whole in
     chunk_held h.place h.length h.next b (held_bytes c.fill.new.self) c.copy_from_slice.new.self c.bytes.result.now
     (omega arith) c.copy_from_slice.ensures.after c.bytes.ensures
     (c.in_ok-fill.ensures.bytes b (ap (λ d. d.contents) c.in_ok-advance.ensures.leaves.read ∙ t))

@@ -19,10 +19,10 @@ returns-then-offset-taken-clause-fits c = c.empty-then-offset-taken.ensures.fits
 pub returns-clause-fits : goal.returns-clause-fits
 returns-clause-fits c =
     let v = c.args.geometry.now.layout in
+    let short = run_in_block v c.args.len c.args.geometry.now.sound c.requires.run.short in
+    let inside = run_in_volume v c.args.start c.args.len c.args.geometry.now.sound c.requires.run.some
+    c.requires.run.in_range in
     record {
-      in_block = rw (c.from-4.ensures, c.from-5.ensures)
-          (run_in_block v c.args.len c.args.geometry.now.sound c.requires.run.short);
-      in_volume = rw (c.from-2.ensures, c.from-3.ensures, c.from-4.ensures, c.from-5.ensures)
-          (run_in_volume v c.args.start c.args.len c.args.geometry.now.sound c.requires.run.some
-          c.requires.run.in_range);
+      in_block = grind (arith, short);
+      in_volume = grind (arith, inside);
     }

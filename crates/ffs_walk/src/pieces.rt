@@ -1,0 +1,27 @@
+//! How many pieces of a power-of-two size hold a number of bytes, without a division.
+
+ghost use Rattle.std.specs.Prelude.{◌≡◌, ◌%◌};
+ghost use Rattle.std.specs.Int.{IsPowerOfTwo, div_ceil};
+
+/// How many bytes come after the whole pieces.
+#[tactic(auto, using(crate::proofs::Powers::masked))]
+pub fn after_pieces(size: u64, piece: u32) -> u64
+    requires { IsPowerOfTwo piece }
+    ensures { result ≡ size % piece }
+{
+    size & u64::from(piece - 1)
+}
+
+/// How many pieces hold so many bytes, the last one perhaps in part.
+#[tactic(auto, using(crate::proofs::Powers::shifted))]
+pub fn pieces_of(size: u64, piece: u32) -> u64
+    requires { IsPowerOfTwo piece }
+    ensures { result ≡ div_ceil size piece }
+{
+    let whole = size >> piece.trailing_zeros();
+    if after_pieces(size, piece) == 0 {
+        whole
+    } else {
+        whole + 1
+    }
+}
