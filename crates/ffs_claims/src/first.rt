@@ -27,6 +27,9 @@ use ffs_workspace::Workspace;
 /// unknown type, addresses out of range, fragments that are claimed twice, and wrong counts of sectors.
 ///
 /// The text is that of a workspace as it was made.
+///
+/// # Errors
+/// A read of the image that failed, and a write of the report that failed.
 pub fn phase1<I: Image, W: Output>(
     geometry: &Geometry,
     image: &mut I,

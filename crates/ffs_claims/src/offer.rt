@@ -97,7 +97,7 @@ fn take(workspace: &mut Workspace, geometry: &Geometry, fragment: u64, in_range:
     true
 }
 
-/// One offer, and what is reported of it.
+/// Takes one offer, and reports what is wrong with it.
 fn offer<W: Output>(
     workspace: &mut Workspace,
     geometry: &Geometry,
@@ -122,7 +122,8 @@ fn offer<W: Output>(
     say_dup(report, number, fragment as u32, many)
 }
 
-/// The offers of a Run one after the other, and what is reported of them. `in_range` says that the Run is in range.
+/// Takes the offers of a Run, one after another, and reports what is wrong with them. `in_range`
+/// says that the Run is in range.
 fn offers<W: Output>(
     workspace: &mut Workspace,
     geometry: &Geometry,
@@ -154,8 +155,8 @@ fn offers<W: Output>(
     Ok(())
 }
 
-/// A Run in range of the current inode: claimed at once where its fragments are all unclaimed and lie in one word of the
-/// map. The answer is whether the next step is seen.
+/// Takes a Run in range of the current inode: it is claimed at once where its fragments are all
+/// unclaimed and lie in one word of the map. The answer is whether the next step is seen.
 fn run_in_range<W: Output>(
     workspace: &mut Workspace,
     geometry: &Geometry,
@@ -183,7 +184,7 @@ fn run_in_range<W: Output>(
     Ok(is_open(workspace))
 }
 
-/// A Run of the current inode, and whether the next step is seen.
+/// Takes a Run of the current inode. The answer is whether the next step is seen.
 fn run<W: Output>(
     workspace: &mut Workspace,
     geometry: &Geometry,
@@ -216,7 +217,10 @@ fn run<W: Output>(
     Ok(is_open(workspace))
 }
 
-/// A step of the current inode, which isn't cut, and whether the next one is seen.
+/// Takes a step of the current inode, which isn't cut. The answer is whether the next step is seen.
+///
+/// # Errors
+/// A write of the report that failed.
 pub fn step<W: Output>(
     workspace: &mut Workspace,
     geometry: &Geometry,

@@ -29,7 +29,10 @@ pub fn begin(workspace: &mut Workspace)
     workspace.tail = false;
 }
 
-/// What is reported of an inode by its class.
+/// Reports an inode of class Partial or Unknown.
+///
+/// # Errors
+/// A write of the report that failed.
 pub fn say_class<W: Output>(
     report: &mut Report<'_, W>,
     number: u32,
@@ -54,7 +57,10 @@ fn is_file_or_dir(class: Class) -> bool
     }
 }
 
-/// Reports where an inode's count of sectors is wrong.
+/// Reports an inode whose count of sectors of 512 bytes is wrong.
+///
+/// # Errors
+/// A write of the report that failed.
 pub fn say_count<W: Output>(
     workspace: &Workspace,
     geometry: &Geometry,
