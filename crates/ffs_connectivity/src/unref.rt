@@ -1,4 +1,4 @@
-//! Whether a directory is cut off, and what is reported of it.
+//! Whether a directory is cut off from the root, and the line that reports it.
 
 ghost use Rattle.std.specs.Prelude.{◌≡◌, ◌<◌, ◌≤◌, map};
 ghost use Rattle.ffs_report.specs.Progress.{progress};
@@ -39,7 +39,10 @@ fn attr_of(number: u32, inode: &Inode) -> Attr
     }
 }
 
-/// What is reported of an inode: whether it is a directory that is cut off from the root.
+/// Reports an inode that is a directory cut off from the root.
+///
+/// # Errors
+/// A read of the image that failed, and a write of the report that failed.
 pub fn check_inode<I: Image, W: Output>(
     workspace: &mut Workspace,
     geometry: &Geometry,
