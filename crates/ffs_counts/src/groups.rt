@@ -46,6 +46,9 @@ fn read_summaries<I: Image>(
 }
 
 /// Reads the records of a group, and compares them with what they should be.
+///
+/// # Errors
+/// A read of the image that failed.
 pub fn read_group<I: Image>(
     geometry: &Geometry,
     image: &mut I,
