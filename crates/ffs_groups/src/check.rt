@@ -17,7 +17,7 @@ use ffs_layout::{Geometry, Group, GroupSummary};
 use ffs_maps::FragmentMap;
 use ffs_volume::constants::CG_MAGIC;
 
-/// What is found in the records of a group: each is true where nothing is wrong.
+/// What is found in the records of a group: each field is true where nothing is wrong.
 #[derive(Clone, Copy, Debug)]
 pub struct Findings {
     /// The group block has its magic number. Where it has not, its maps and sums are not looked at.

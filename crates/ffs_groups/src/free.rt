@@ -38,7 +38,7 @@ pub struct FreeCounts {
     pub blocks: u64,
     /// Free fragments in other blocks.
     pub fragments: u64,
-    /// How many runs of so many free fragments the other blocks have, by length.
+    /// How many runs of exactly k free fragments the other blocks have, at index k.
     pub runs: [u64; 9],
 }
 

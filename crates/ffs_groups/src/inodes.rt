@@ -13,7 +13,9 @@ use ffs_volume::constants::{DT_DIR, EMPTY_DIR};
 /// How many inodes of a group are directories, and how many are free.
 #[derive(Clone, Copy, Debug)]
 pub struct InodeCounts {
+    /// Directories.
     pub dirs: u32,
+    /// Free inodes.
     pub free: u32,
 }
 
