@@ -11,6 +11,7 @@ pub struct Entry<'a> {
     pub length: u16,
     /// The type of the inode, as the upper four bits of a mode.
     pub kind: u8,
+    /// The name, without the NUL after it.
     pub name: &'a [u8],
     ghost short: { length_of name.now ≤ 255 },
 }

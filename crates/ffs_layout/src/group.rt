@@ -11,6 +11,7 @@ use ffs_volume::Order;
 /// The counts of a summary, as an image has them (fs(5), `struct csum`).
 #[derive(Clone, Copy, Debug, PartialEq, Eq)]
 pub struct GroupSummary {
+    /// Directories.
     pub dirs: i32,
     /// Blocks of which all fragments are free.
     pub blocks: i32,
@@ -44,6 +45,7 @@ pub struct Group {
     pub cgx: i32,
     /// How many fragments the group has.
     pub ndblk: i32,
+    /// Its summary: directories, free blocks, free inodes and free fragments.
     pub cs: GroupSummary,
     /// How many runs of exactly k free fragments there are, within blocks that are not all free.
     pub frsum: [i32; 8],
