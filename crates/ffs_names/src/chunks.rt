@@ -22,12 +22,15 @@ use ffs_walk::{Blocks, Walk, Window, class_of};
 /// A reading of the chunks of a directory (dir(5)), in the order of the file: those of its Runs of data that are kept.
 #[derive(Clone, Copy, Debug)]
 pub struct Chunks {
+    /// The walk over the blocks of the directory.
     pub walk: Walk,
+    /// Which of its steps are kept, so far.
     pub keeping: Keeping,
     /// How many bytes of the directory are read.
     pub taken: u64,
     /// At most how many chunks are still to come.
     pub budget: u32,
+    /// The chunks of the current Run.
     pub run_cursor: RunCursor,
     /// How many Runs were looked at.
     pub runs: u64,

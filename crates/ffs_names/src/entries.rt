@@ -20,19 +20,23 @@ use ffs_walk::{Blocks, Window};
 /// A reading of the entries of a directory (dir(5)), chunk after chunk.
 #[derive(Drop)]
 pub struct Entries {
+    /// The byte order of the volume.
     pub order: Order,
+    /// The chunks of the directory.
     pub chunks: Chunks,
     /// The current chunk.
     pub chunk: [u8; DIRBLKSIZ],
-    /// Where the next entry of the chunk would be, and how many are before it.
+    /// Where the next entry of the chunk would be, in bytes from its start.
     pub place: usize,
+    /// How many entries of the chunk are before it.
     pub index: usize,
     /// Whether the chunk is at the start of the file.
     pub first: bool,
     /// Whether the size is right, and the entries of each chunk before fill it.
     pub sound: bool,
-    /// Where the name of the last entry is in the chunk.
+    /// Where the name of the last entry is in the chunk, in bytes from its start.
     pub name_place: usize,
+    /// How many bytes that name has.
     pub name_len: usize,
     ghost in_chunk: { place ≤ 512 },
     ghost counted: { index ≤ place },

@@ -55,6 +55,9 @@ fn find_gap<I: Image>(
 
 /// Whether a hole is among the steps of a directory that are kept: those that the reading of its chunks has seen, and those
 /// that are left.
+///
+/// # Errors
+/// A read of the image that failed.
 #[inline(always)]
 pub fn gap_of<I: Image>(
     image: &mut I,

@@ -6,14 +6,18 @@ ghost use Rattle.ffs_volume.specs.Directories.Entries.{run_chunks};
 use ffs_layout::Geometry;
 use ffs_volume::constants::DIRBLKSIZ;
 
-/// The chunks of the current Run: where the Run is in the image, in bytes, and in the file; how many chunks it has,
-/// and which is the next.
+/// The chunks of the current Run of a directory.
 #[derive(Clone, Copy, Debug)]
 pub struct RunCursor {
+    /// Where the Run is, in bytes from the start of the image.
     pub place: u64,
+    /// How many bytes it has.
     pub length: u64,
+    /// Where it is in the file, in bytes.
     pub offset: u64,
+    /// The index of the next chunk.
     pub next: u32,
+    /// How many chunks are read of it.
     pub count: u32,
     ghost in_order: { next ≤ count },
     ghost in_run: { 512 * count ≤ length },
