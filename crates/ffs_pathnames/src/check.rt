@@ -149,6 +149,9 @@ fn begin_directory<I: Image, W: Output>(
 
 /// Prints the lines of a directory that isn't of size 0: of its size, its chunks, its first two entries, and all its
 /// entries.
+///
+/// # Errors
+/// A read of the image that failed, and a write of the report that failed.
 pub fn check_directory<I: Image, W: Output>(
     geometry: &Geometry,
     image: &mut I,

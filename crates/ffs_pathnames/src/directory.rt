@@ -19,13 +19,16 @@ use ffs_volume::Inode;
 use ffs_volume::constants::DIRBLKSIZ;
 use ffs_walk::{Blocks, Window};
 
-/// What a first look at a directory finds: whether nothing may be reported of its entries, whether all its chunks are
-/// sound, whether a hole of it is kept, and whether a chunk is at the start of the file.
+/// What a first look at a directory finds.
 #[derive(Clone, Copy, Debug)]
 pub struct FirstLook {
+    /// Whether it is sure that nothing is reported of its entries.
     pub quiet: bool,
+    /// Whether all its chunks are sound.
     pub sound: bool,
+    /// Whether a hole of it is kept.
     pub gap: bool,
+    /// Whether a chunk is at the start of the file.
     pub started: bool,
 }
 
@@ -49,6 +52,9 @@ fn keep_start(
 
 /// Looks at a directory once: at its entries, its chunks, its holes, and the chunk at the start of the file, which is
 /// put into `start`.
+///
+/// # Errors
+/// A read of the image that failed.
 pub fn look_directory<I: Image>(
     geometry: &Geometry,
     image: &mut I,

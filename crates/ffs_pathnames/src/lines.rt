@@ -80,6 +80,9 @@ fn say_faults<W: Output>(
 }
 
 /// Says the lines of a plain entry's verdict.
+///
+/// # Errors
+/// A write of the report that failed.
 pub fn say_verdict<W: Output>(
     report: &mut Report<'_, W>,
     verdict: &Verdict,

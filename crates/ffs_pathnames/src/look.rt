@@ -123,11 +123,12 @@ pub fn stamp(
     }
 }
 
-/// What a look at the entries of a chunk finds: whether nothing may be reported of them, and whether they fill the
-/// chunk.
+/// What a look at the entries of a chunk finds.
 #[derive(Clone, Copy, Debug)]
 pub struct EntriesSummary {
+    /// Whether it is sure that nothing is reported of them.
     pub quiet: bool,
+    /// Whether they fill the chunk.
     pub sound: bool,
 }
 

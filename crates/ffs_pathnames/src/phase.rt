@@ -24,7 +24,9 @@ use ffs_workspace::Workspace;
 /// Whether the run continues after the root, or stops there since inode 2 is no directory.
 #[derive(Clone, Copy, Debug, PartialEq, Eq)]
 pub enum Root {
+    /// The run continues.
     Go,
+    /// The run stops.
     Stop,
 }
 
@@ -33,7 +35,8 @@ pub enum Root {
 /// The text is that of a workspace that holds what the block check found. At `Ok` the workspace holds what the survey
 /// found, and the answer says whether the run continues.
 ///
-/// Errors: a read of the image that failed, and a write of the report that failed.
+/// # Errors
+/// A read of the image that failed, and a write of the report that failed.
 pub fn phase2<I: Image, W: Output>(
     geometry: &Geometry,
     image: &mut I,

@@ -87,6 +87,9 @@ fn check_inodes<I: Image, W: Output>(
 }
 
 /// Prints the lines of the root and, where the run continues after it, of each directory and of its entries.
+///
+/// # Errors
+/// A read of the image that failed, and a write of the report that failed.
 pub fn check_tree<I: Image, W: Output>(
     geometry: &Geometry,
     image: &mut I,
