@@ -12,6 +12,7 @@ use ffs_volume::constants::MAXPATHLEN;
 /// What the paths of all entries begin with is written once: only the name changes from one entry to the next.
 #[derive(Drop)]
 pub struct EntryPaths {
+    /// The path of the directory.
     pub directory: DirectoryPath,
     /// The directory's path, `/` and a name.
     pub bytes: [u8; MAXPATHLEN],
