@@ -104,10 +104,13 @@ impl<'a, W: Output> Report<'a, W> {
         self.after(printed, true)
     }
 
-    /// Says a line and its questions. After an `Err`, when a prefix of their bytes may have gone out, each later call
-    /// answers `Err` and writes nothing.
+    /// Says a line and its questions.
     ///
     /// It is inlined, so that of a line that is known the kind is known.
+    ///
+    /// # Errors
+    /// A write that failed. A prefix of the line's bytes may have gone out then, and each later
+    /// call answers `Err` and writes nothing.
     #[inline(always)]
     pub fn say(&mut self, line: &Line<'_>) -> Result<(), OutFault>
         ensures { SaysOne (progress W.sink self.old) (progress W.sink self.new)

@@ -15,6 +15,9 @@ use ffs_volume::{BlockMessage, SuperFault};
 use itoa::Buffer;
 
 /// Prints a line and its questions as one piece, where they have room in the buffer.
+///
+/// # Errors
+/// A write to the output that failed.
 pub fn print_gathered<W: Output>(
     out: &mut W,
     buffer: &mut LineBuffer,
@@ -30,6 +33,9 @@ pub fn print_gathered<W: Output>(
 }
 
 /// Prints that an inode claims a fragment again, as one piece where it has room in the buffer.
+///
+/// # Errors
+/// A write to the output that failed.
 #[inline(always)]
 pub fn print_dup<W: Output>(
     out: &mut W,
