@@ -123,7 +123,7 @@ fn survey_reached<D: Directories>(
     Ok(())
 }
 
-/// Reads all directories without a mark, ascending.
+/// Reads all directories that aren't reached, ascending.
 fn survey_unreached<D: Directories>(
     directories: &mut D,
     kinds: &[u8],
