@@ -6,10 +6,10 @@ pub const FS_MAGIC: u32 = 0x011954;
 /// The magic number of a group block (fs(5)).
 pub const CG_MAGIC: u32 = 0x090255;
 
-/// The bytes of a sector: reads and faults count by it (fs(5)).
+/// The bytes of a sector, the unit of `-b` and of the places of failed reads (fs(5)).
 pub const DEV_BSIZE: u64 = 512;
 
-/// The bytes of a superblock that are looked at (fs(5)).
+/// The bytes of a superblock that are read (fs(5)).
 pub const SUPERBLOCK_BYTES: usize = 1376;
 
 /// The sector of the primary superblock: it is at byte 8,192 (fs(5)).

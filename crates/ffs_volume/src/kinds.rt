@@ -7,6 +7,7 @@ use crate::constants::{DT_DIR, EMPTY_DIR, UNKNOWN_TYPE};
 /// size 0, else the type of the file or directory, as in an entry (dir(5)).
 #[derive(Clone, Copy, Debug, PartialEq, Eq)]
 pub struct Kind {
+    /// The byte.
     pub code: u8,
 }
 
