@@ -22,8 +22,8 @@ use ffs_volume::{Class, Inode, Step};
 use ffs_walk::{Walk, class_of, has_steps};
 use ffs_workspace::Workspace;
 
-/// Walks over the blocks of an inode of the class, where it has any, claims what its steps offer, and reports what is wrong
-/// with them. The walk is begun anew.
+/// Walks over the blocks of an inode of the class, where it has any, claims what its steps offer,
+/// and reports what is wrong with them. The walk is begun anew.
 fn claim<I: Image, W: Output>(
     workspace: &mut Workspace,
     geometry: &Geometry,

@@ -23,8 +23,9 @@ use ffs_report::{Heading, Line, Output, Report};
 use ffs_walk::Walk;
 use ffs_workspace::Workspace;
 
-/// Walks over the blocks of all inodes, claims the fragments that they offer, and reports what is wrong: inodes of an
-/// unknown type, addresses out of range, fragments that are claimed twice, and wrong counts of sectors.
+/// Walks over the blocks of all inodes, claims the fragments that they offer, and reports what is
+/// wrong: inodes of an unknown type, addresses out of range, fragments that are claimed twice, and
+/// wrong counts of sectors.
 ///
 /// The text is that of a workspace as it was made.
 ///

@@ -58,7 +58,8 @@ fn say_bad<W: Output>(
     Ok(())
 }
 
-/// Whether the fragment of an offer is in range. Where `in_range` says that its Run is, the fragment isn't looked at.
+/// Whether the fragment of an offer is in range. Where `in_range` says that its Run is, the
+/// fragment isn't looked at.
 #[inline(always)]
 fn fragment_in_range(geometry: &Geometry, fragment: u64, in_range: bool) -> bool
     requires known { IsTrue in_range

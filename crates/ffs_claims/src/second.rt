@@ -112,7 +112,8 @@ fn renumbered<I: Image, W: Output>(
     rewalk(workspace, geometry, number, cut, &inode, image, report)
 }
 
-/// Walks over the blocks of all inodes again, and reports of each fragment that is claimed twice which inode claims it first.
+/// Walks over the blocks of all inodes again, and reports of each fragment that is claimed twice
+/// which inode claims it first.
 ///
 /// The text is that of a workspace as phase 1 left it.
 ///

@@ -129,8 +129,8 @@ fn start_of(class: Class, inode: &Inode) -> u64
     }
 }
 
-// Sets where an inode is cut, if that isn't what the list holds already: so its memory is touched only for inodes that are
-// cut.
+// Sets where an inode is cut, if that isn't what the list holds already: so its memory is touched
+// only for inodes that are cut.
 #[inline(always)]
 fn store_cut(list: &mut FilledList<u32>, number: usize, cut: u32)
     requires { number < vec_len list.old }
@@ -142,7 +142,8 @@ fn store_cut(list: &mut FilledList<u32>, number: usize, cut: u32)
     }
 }
 
-// The same for where the count of an inode's references starts: memory is touched only for inodes that are in use.
+// The same for where the count of an inode's references starts: memory is touched only for inodes
+// that are in use.
 #[inline(always)]
 fn store_start(list: &mut FilledList<u64>, number: usize, start: u64)
     requires { number < vec_len list.old }
