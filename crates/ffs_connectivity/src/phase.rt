@@ -21,7 +21,8 @@ use ffs_report::{Heading, Line, Output, Report};
 use ffs_survey::{is_dir, mark_leaders};
 use ffs_workspace::Workspace;
 
-/// The least number of a directory that isn't reached, or how many inodes there are where each one is.
+/// The least number of a directory that isn't reached, or how many inodes there are where each one
+/// is.
 fn first_unreached(kinds: &[u8], reached: &[bool]) -> u32
     requires lists { (length reached.now ≡ length kinds.now) × (length kinds.now < 2 ^ 31) }
     ensures { IsFirstUnreached kinds.now reached.now result }
