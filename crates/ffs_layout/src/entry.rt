@@ -2,7 +2,8 @@
 
 ghost use Rattle.std.specs.Prelude.{◌≤◌, length as length_of};
 
-/// An entry of a directory (dir(5), `struct direct`). Its name lies in the chunk; an entry with the number 0 has none.
+/// An entry of a directory (dir(5), `struct direct`). Its name lies in the chunk; an entry with the
+/// number 0 has none.
 #[derive(Clone, Copy, Debug)]
 pub struct Entry<'a> {
     /// The inode that it names, or 0.

@@ -13,7 +13,8 @@ use ffs_volume::{Layout, Order, SuperFault};
 
 /// A layout that is accepted: each value of this type meets the rules of a superblock (fs(5)).
 ///
-/// Fragments are numbered from the start of the volume. A group is a cylinder group, numbered from 0.
+/// Fragments are numbered from the start of the volume. A group is a cylinder group, numbered from
+/// 0.
 #[derive(Clone, Copy, Debug)]
 pub struct Geometry {
     /// The numbers of the superblock.

@@ -22,7 +22,8 @@ pub struct GroupSummary {
 }
 
 impl GroupSummary {
-    /// The summary in its 16 bytes at `place`: directories, free blocks, free inodes, free fragments.
+    /// The summary in its 16 bytes at `place`: directories, free blocks, free inodes, free
+    /// fragments.
     pub fn decode(order: Order, place: usize, bytes: &[u8]) -> GroupSummary
         requires { place + 16 ≤ length bytes.now }
         ensures { result ≡ summary_of order place bytes.now }
@@ -58,9 +59,9 @@ pub struct Group {
 impl Group {
     /// The numbers in the first 168 bytes of a group block.
     ///
-    /// At byte 4 is the magic number, at 12 the group's number, at 20 the number of its fragments, at 24 the
-    /// summary, at 52 the eight counts of runs, at 92 and 96 the places of the maps. Each number has 32 bits; all but the
-    /// magic number and the places are signed.
+    /// At byte 4 is the magic number, at 12 the group's number, at 20 the number of its fragments,
+    /// at 24 the summary, at 52 the eight counts of runs, at 92 and 96 the places of the maps. Each
+    /// number has 32 bits; all but the magic number and the places are signed.
     pub fn decode(order: Order, bytes: &[u8]) -> Group
         requires { 168 ≤ length bytes.now }
         ensures { result ≡ group_of order bytes.now }
