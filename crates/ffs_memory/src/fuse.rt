@@ -8,7 +8,8 @@ use crate::memory::Memory;
 use crate::zeroed_words::ZeroedWords;
 use std::alloc::AllocError;
 
-/// A memory that passes requests on to another one, and refuses one of them: for tests of what a refusal leaves.
+/// A memory that passes requests on to another one, and refuses one of them: for tests of what a
+/// refusal leaves.
 #[derive(Drop)]
 pub struct FuseMemory<M> {
     inner: M,

@@ -7,7 +7,8 @@ use crate::fixed_list::FixedList;
 use crate::zeroed_words::ZeroedWords;
 use std::alloc::AllocError;
 
-/// What grants the memory of a check, and counts what it granted and how often it refused. A refusal grants nothing.
+/// What grants the memory of a check, and counts what it granted and how often it refused. A
+/// refusal grants nothing.
 pub trait Memory {
     /// How many bytes it has granted, and how many requests it has refused.
     ghost account: { Self → Account };

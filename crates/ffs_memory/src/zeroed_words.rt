@@ -7,8 +7,8 @@ use crate::touching::touch;
 use std::alloc::{AllocError, Global};
 use std::marker::Model;
 
-/// Words of 64 bits that are 0 until they are set. Their memory is taken when they are made; what lies after the last word
-/// that was set or claimed isn't written.
+/// Words of 64 bits that are 0 until they are set. Their memory is taken when they are made; what
+/// lies after the last word that was set or claimed isn't written.
 #[derive(Drop)]
 pub struct ZeroedWords {
     /// The words that are touched. All after them are 0.
@@ -83,7 +83,8 @@ impl ZeroedWords {
         self.touched[index] = word;
     }
 
-    /// Sets the bits of a mask in the word at an index, where none of them is set there. The answer says whether it did.
+    /// Sets the bits of a mask in the word at an index, where none of them is set there. The answer
+    /// says whether it did.
     #[inline(always)]
     pub fn claim(&mut self, index: usize, mask: u64) -> bool
         requires { index < length self.old.list }
