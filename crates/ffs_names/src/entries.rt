@@ -58,7 +58,8 @@ impl Entries {
     ghost use Rattle.ffs_names.specs.Shapes.{has_right_shape, HasEnded, BeginsDirectory, GivesEntry, IsSameChunk};
     ghost use Rattle.ffs_names.specs.Entering.{to_come, left, last_name, IsHeld, IsInside, MayTake, name_place};
 
-    /// A reading of the directory with this inode, of which no offer is kept after the cut (0 for none).
+    /// A reading of the directory with this inode, of which no offer is kept after the cut (0 for
+    /// none).
     pub fn start(geometry: &Geometry, inode: &Inode, cut: u32) -> Entries
         ensures begins { BeginsDirectory geometry.now.layout inode.now cut result }
         ensures place { result.place ≡ 512 }
@@ -97,7 +98,8 @@ impl Entries {
         entries
     }
 
-    /// Begins a reading of another directory of the same volume, as `start` does, in place, if this is its class.
+    /// Begins a reading of another directory of the same volume, as `start` does, in place, if this
+    /// is its class.
     #[inline(always)]
     pub fn restart(&mut self, inode: &Inode, class: Class, cut: u32)
         ensures begins { class ≡ inodes.class_of self.old.chunks.walk.geometry.layout inode.now
@@ -195,7 +197,8 @@ impl Entries {
         }
     }
 
-    /// Whether the directory, of which no entry is left, has a right size, sound chunks and no hole.
+    /// Whether the directory, of which no entry is left, has a right size, sound chunks and no
+    /// hole.
     ///
     /// # Errors
     /// A read of the image that failed.
