@@ -5,7 +5,8 @@ ghost use Rattle.std.specs.Prelude.{◌≡◌};
 use ffs_image::ImageFault;
 use ffs_report::OutFault;
 
-/// What ends a run before its report is complete: a read of the image that failed, or a write of the report.
+/// What ends a run before its report is complete: a read of the image that failed, or a write of
+/// the report.
 #[derive(Clone, Copy, Debug, PartialEq, Eq, thiserror::Error)]
 pub enum RunFault {
     /// A read of the image failed, at this sector.
