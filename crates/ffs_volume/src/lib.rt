@@ -1,9 +1,10 @@
-//! What a UFS1 volume is: the definitions that contracts cite, and the types that they share with code.
+//! What a UFS1 volume is: the definitions that contracts cite, and the types that they share with
+//! code.
 //!
-//! The definitions are a book, in `specs/`: folders by subject, in the order that `specs/Lib.antt` gives.
-//! What runs here is small: `End::status`, `Attr::of` and the methods of `kinds::Kind`. `constants`
-//! has the numbers of the format, `texts` the texts of messages, and `laws` states laws and worked
-//! examples of the definitions. The lemmas that the crates above use are in `proofs/`.
+//! The definitions are a book, in `specs/`: folders by subject, in the order that `specs/Lib.antt`
+//! gives. What runs here is small: `End::status`, `Attr::of` and the methods of `kinds::Kind`.
+//! `constants` has the numbers of the format, `texts` the texts of messages, and `laws` states laws
+//! and worked examples of the definitions. The lemmas that the crates above use are in `proofs/`.
 //!
 //! It rests on no other crate of this repository.
 #![tactic(auto)]
@@ -187,7 +188,8 @@ impl End {
     ghost use Rattle.ffs_volume.specs.Report.Whole.{status_of};
     ghost use Rattle.std.specs.Prelude.{◌≡◌};
 
-    /// The exit status of a check that ends so: 0 consistent, 1 defects, 8 for a check that isn't completed (as in fsck(8)).
+    /// The exit status of a check that ends so: 0 consistent, 1 defects, 8 for a check that isn't
+    /// completed (as in fsck(8)).
     pub fn status(&self) -> u8
         ensures { result ≡ status_of self.now }
     {
