@@ -42,8 +42,8 @@ pub struct Workspace {
     pub named: FixedList<bool>,
     /// The directories that are reached from the root.
     pub reached: FixedList<bool>,
-    /// Flags, phase after phase: the directories that are calm (survey), the inodes that a plain
-    /// entry has named (phase 2), the least directory of each cycle of parents (phase 3).
+    /// Flags that the survey and phases 2 and 3 use one after another, each for its own purpose
+    /// (`docs/CONTRIBUTING.md`, "Change what is read").
     pub leaders: FixedList<bool>,
     /// How many entries refer to each inode, counted on from `links_start`.
     pub references: FilledList<u64>,
@@ -51,8 +51,7 @@ pub struct Workspace {
     pub cut: FilledList<u32>,
     /// The parent of each directory, or 0.
     pub parents: FilledList<u32>,
-    /// Numbers, phase after phase: the directories of a level and of the next (survey), the stamps
-    /// of inodes (phase 2), the walks over parents (phase 3).
+    /// Numbers that the survey and phases 2 and 3 use one after another, each for its own purpose.
     pub queue: FilledList<u32>,
     /// How many Runs phase 1 has looked at.
     pub runs_seen: u64,
