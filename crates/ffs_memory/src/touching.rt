@@ -2,8 +2,7 @@
 ghost use Rattle.std.specs.Prelude.{◌<◌, vec_capacity};
 ghost use Rattle.ffs_memory.specs.Words.{Touches};
 
-// Touches the elements up to an index: each that wasn't touched is `rest`, in the memory that was
-// taken.
+// Touches the elements up to an index: each that wasn't touched is `rest`, in the memory that was taken.
 #[inline(always)]
 pub(crate) fn touch<T: Copy>(touched: &mut Vec<T>, index: usize, rest: T)
     requires { index < vec_capacity touched.old }
@@ -18,8 +17,7 @@ pub(crate) fn touch<T: Copy>(touched: &mut Vec<T>, index: usize, rest: T)
     }
 }
 
-// The same. It isn't inlined, since an element that is asked for is mostly touched already, or is
-// the next one.
+// The same. It isn't inlined, since an element that is asked for is mostly touched already, or is the next one.
 #[inline(never)]
 fn touch_more<T: Copy>(touched: &mut Vec<T>, index: usize, rest: T)
     requires { index < vec_capacity touched.old }

@@ -33,9 +33,6 @@ pub fn print_gathered<W: Output>(
 }
 
 /// Prints that an inode claims a fragment again, as one piece where it has room in the buffer.
-///
-/// # Errors
-/// A write to the output that failed.
 #[inline(always)]
 pub fn print_dup<W: Output>(
     out: &mut W,

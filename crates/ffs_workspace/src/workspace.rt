@@ -20,12 +20,11 @@ pub struct Windows {
     pub table: Table,
     /// The indirect blocks that a walk is in.
     pub blocks: Blocks,
-    /// A data block of a directory. In phase 5 a group block.
+    /// A chunk of a directory.
     pub chunk: Window,
 }
 
-/// What a check keeps: two maps with a bit for each fragment, 25 bytes for each inode, and five
-/// blocks of bytes.
+/// What a check keeps: two maps with a bit for each fragment, 25 bytes for each inode, and five blocks.
 #[derive(Drop)]
 pub struct Workspace {
     /// The fragments that are reserved or claimed.
