@@ -1,4 +1,4 @@
-// An image in a file.
+//! An image in a file.
 ghost use Rattle.std.specs.Prelude.{◌≡◌, IfOk};
 
 use crate::image::{Image, ImageFault};

@@ -1,4 +1,4 @@
-// An image in memory.
+//! An image in memory.
 ghost use Rattle.std.specs.Prelude.{◌≡◌};
 
 use crate::image::{Image, ImageFault};

@@ -1,4 +1,4 @@
-// A file that is open for reading alone.
+//! A file that is open for reading alone.
 ghost use Rattle.std.specs.Prelude.{◌≡◌, length, IfOk, IfSome};
 ghost use Rattle.ffs_image.specs.Device.{Rose};
 

@@ -1,4 +1,4 @@
-// Where an image's bytes come from, and how a buffer is filled from there.
+//! Where an image's bytes come from, and how a buffer is filled from there.
 ghost use Rattle.std.specs.Prelude.{◌≡◌, ◌+◌, ◌<◌, ◌^◌, length, IfSome};
 ghost use Rattle.ffs_image.specs.Source.{Fills, GivesSome, Stock};
 

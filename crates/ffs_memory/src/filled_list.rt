@@ -1,4 +1,4 @@
-// Lists that hold one value until another is set.
+//! Lists that hold one value until another is set.
 ghost use Rattle.std.specs.Prelude.{◌≡◌, ◌<◌, ◌≤◌, IfOk, slice_index_or, vec_len};
 ghost use Rattle.ffs_memory.specs.Account.{IsFilled};
 ghost use Rattle.ffs_memory.specs.Filled.{Sets, Fills, SortsPart};
@@ -30,7 +30,7 @@ impl<T> Model for FilledList<T> {
 }
 
 impl<T: Copy> FilledList<T> {
-    /// So many elements, each the same.
+    /// `count` elements, each the same.
     pub(crate) fn new(alloc: Global, count: usize, value: T) -> Result<FilledList<T>, AllocError>
         ensures { IfOk result (IsFilled count value) }
     {

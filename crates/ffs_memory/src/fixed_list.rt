@@ -1,4 +1,4 @@
-// Lists whose length and memory stay as they were made.
+//! Lists whose length and memory stay as they were made.
 ghost use Rattle.std.specs.Prelude.{◌≡◌, ◌<◌, length, slice_index_or, vec_len};
 ghost use Rattle.std.specs.Borrow.{sem};
 

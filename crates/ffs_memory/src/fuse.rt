@@ -1,4 +1,4 @@
-// A memory that refuses a request where it is asked to.
+//! A memory that refuses a request where it is asked to.
 ghost use Rattle.std.specs.Prelude.{◌≡◌, ◌+◌, ◌-◌, ◌*◌, ◌^◌, min, if◌then◌else◌, false};
 ghost use Rattle.ffs_memory.specs.Fuse.{Serves, ServesWords, IsFused, is_blown, left_after};
 

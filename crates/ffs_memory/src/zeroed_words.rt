@@ -1,4 +1,4 @@
-// Words that are 0 until they are set.
+//! Words that are 0 until they are set.
 ghost use Rattle.std.specs.Prelude.{ℕ, ◌≡◌, ◌<◌, ◌≤◌, IfOk, length, replicate, slice_set};
 ghost use Rattle.std.specs.List.{slice_index_or};
 ghost use Rattle.ffs_memory.specs.Words.{ClaimsBits};
@@ -35,7 +35,7 @@ impl Model for ZeroedWords {
 }
 
 impl ZeroedWords {
-    /// So many words, each 0.
+    /// `count` words, each 0.
     pub(crate) fn new(alloc: Global, count: usize) -> Result<ZeroedWords, AllocError>
         ensures { IfOk result (λ made. made.list ≡ replicate count 0) }
     {

@@ -1,4 +1,4 @@
-// A second reading of a directory, where something is reported of its entries.
+//! A second reading of a directory, where something is reported of its entries.
 ghost use Rattle.std.specs.Prelude.{◌≡◌, OnOk, map};
 ghost use Rattle.ffs_volume.specs.Blocks.Inodes.{inode_of};
 ghost use Rattle.ffs_volume.specs.Messages.Kinds.{of_tree};

@@ -1,4 +1,4 @@
-// The pathname check of one directory.
+//! The pathname check of one directory.
 ghost use Rattle.std.specs.Prelude.{suc, ◌≡◌, ◌<◌, ◌≤◌, ℕ, List, OnOk, IfOk, map, option_map, vec_len};
 ghost use Rattle.ffs_volume.specs.Messages.Kinds.{of_tree};
 ghost use Rattle.ffs_volume.specs.Directories.PathnameCheck.{sized_dir_lines};

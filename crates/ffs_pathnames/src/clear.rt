@@ -1,4 +1,4 @@
-// The flags and stamps of the pathname check before the first directory.
+//! The flags and stamps of the pathname check before the first directory.
 ghost use Rattle.std.specs.Prelude.{◌≡◌, ℕ, length, slice_index, vec_len, if◌then◌else◌};
 ghost use Rattle.ffs_image.specs.Device.{Device};
 ghost use Rattle.ffs_volume.specs.declared.Layout.{Layout};

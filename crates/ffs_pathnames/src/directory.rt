@@ -1,4 +1,4 @@
-// A first look at a directory.
+//! A first look at a directory.
 ghost use Rattle.std.specs.Prelude.{◌≡◌, ◌*◌, ◌<◌, ◌==◌, true, false, List, ◌∷◌, Some, IfOk, vec_len};
 ghost use Rattle.ffs_image.specs.Device.{ForContents};
 ghost use Rattle.ffs_volume.specs.declared.Order.{Order};

@@ -1,4 +1,4 @@
-// The lines of the entries of a directory, one entry after another.
+//! The lines of the entries of a directory, one entry after another.
 ghost use Rattle.std.specs.Prelude.{◌≡◌, ◌≤◌, length, OnOk, map};
 ghost use Rattle.ffs_volume.specs.declared.Role.{Role};
 ghost use Rattle.ffs_volume.specs.Directories.Entries.{entries_of};

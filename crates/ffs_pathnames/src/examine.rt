@@ -1,4 +1,4 @@
-// What is found of a directory before anything is reported of it.
+//! What is found of a directory before anything is reported of it.
 ghost use Rattle.std.specs.Prelude.{◌≤◌, IfOk};
 ghost use Rattle.ffs_phase.specs.Known.{ForBytes};
 ghost use Rattle.ffs_paths.specs.Reads.{IsReadyFor};

@@ -1,4 +1,4 @@
-// What is reported of a directory before its entries.
+//! What is reported of a directory before its entries.
 ghost use Rattle.std.specs.Prelude.{◌≡◌, ℕ, List, [], ◌%◌, ◌==◌, ◌&&◌, not, nat_lt, option_map, IsTrue};
 ghost use Rattle.ffs_volume.specs.declared.Attr as attrs;
 ghost use Rattle.ffs_volume.specs.Directories.PathnameCheck.{is_wrong_parent};

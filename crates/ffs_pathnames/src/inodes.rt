@@ -1,4 +1,4 @@
-// What is known of the inodes that entries name.
+//! What is known of the inodes that entries name.
 ghost use Rattle.std.specs.Prelude.{◌≡◌, ◌<◌, length, slice_index, vec_len, ◌==◌, ◌||◌, ◌&&◌, not};
 
 use ffs_memory::FilledList;

@@ -1,4 +1,4 @@
-// What is reported of an entry, by its verdict.
+//! What is reported of an entry, by its verdict.
 ghost use Rattle.ffs_volume.specs.Messages.Kinds.{reported};
 ghost use Rattle.ffs_report.specs.Progress.{progress};
 ghost use Rattle.ffs_pathnames.specs.SaysNames.{SaysNames};

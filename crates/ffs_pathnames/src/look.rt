@@ -1,4 +1,4 @@
-// A first look at the entries of a directory: whether anything may be reported of them.
+//! A first look at the entries of a directory: whether anything may be reported of them.
 ghost use Rattle.std.specs.Prelude.{◌≡◌, ◌+◌, ◌<◌, ◌==◌, ◌&&◌, ◌||◌, not, length, slice_index, true, vec_len};
 ghost use Rattle.ffs_volume.specs.declared.Role.{Role};
 ghost use Rattle.ffs_volume.specs.Directories.Roles.{Volume, is_dir};

@@ -1,4 +1,4 @@
-// What is reported of the root.
+//! What is reported of the root.
 ghost use Rattle.std.specs.Prelude.{◌≡◌};
 ghost use Rattle.ffs_report.specs.Progress.{progress};
 ghost use Rattle.ffs_volume.specs.Encodings.Kinds.{is_dir_kind};

@@ -1,4 +1,4 @@
-// Messages on directories and their entries, reported where a test holds.
+//! Messages on directories and their entries, reported where a test holds.
 ghost use Rattle.std.specs.Prelude.{true};
 ghost use Rattle.ffs_volume.specs.Messages.Kinds.{reported};
 ghost use Rattle.ffs_report.specs.Progress.{progress};

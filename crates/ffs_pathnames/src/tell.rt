@@ -1,4 +1,4 @@
-// The lines of a plain entry.
+//! The lines of a plain entry.
 ghost use Rattle.std.specs.Prelude.{◌≡◌, ◌*◌, ◌<◌, ◌≤◌, ℕ, List, length, Some, OnOk, IfOk, IsTrue, map, vec_len};
 ghost use Rattle.ffs_image.specs.Device.{ForContents};
 ghost use Rattle.ffs_volume.specs.Messages.Kinds.{of_tree};

@@ -1,4 +1,4 @@
-// The pathname check of the root, and of one directory after another.
+//! The pathname check of the root, and of one directory after another.
 ghost use Rattle.std.specs.Prelude.{suc, ◌≡◌, ◌-◌, ◌==◌, ◌<◌, ◌≤◌, ◌&&◌, not, true, OnOk, IfOk, map, slice_index, vec_len};
 ghost use Rattle.ffs_phase.specs.Known.{ForBytes};
 ghost use Rattle.ffs_phase.specs.Runs.{PhaseReports};

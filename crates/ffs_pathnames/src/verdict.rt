@@ -1,4 +1,4 @@
-// The verdict on a plain entry.
+//! The verdict on a plain entry.
 ghost use Rattle.std.specs.Prelude.{◌≡◌, ◌<◌, length, vec_len};
 ghost use Rattle.ffs_volume.specs.Directories.Roles.{Volume};
 ghost use Rattle.ffs_layout.specs.Entry.{entry_value};

@@ -1,4 +1,4 @@
-// What ends a run.
+//! What ends a run.
 ghost use Rattle.ffs_phase.specs.declared.fault.RunFault.TheVariants.{Read, Out};
 ghost use Rattle.std.specs.Prelude.{◌≡◌};
 

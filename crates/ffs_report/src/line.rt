@@ -1,4 +1,4 @@
-// The lines of a report.
+//! The lines of a report.
 use ffs_volume::{Attr, BlockMessage, Label, SuperFault};
 
 /// A line of a report, with its questions: what `say` prints (fsck(8)).

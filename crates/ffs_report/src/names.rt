@@ -1,4 +1,4 @@
-// Prints what is wrong with directories, their entries and the references to inodes.
+//! Prints what is wrong with directories, their entries and the references to inodes.
 ghost use Rattle.std.specs.Prelude.{◌≡◌};
 ghost use Rattle.ffs_report.specs.Sink.{Prints};
 ghost use Rattle.ffs_report.specs.Lines.{directory_message, dot_message, entry_message, reference_message};

@@ -1,4 +1,4 @@
-// A report over an output.
+//! A report over an output.
 ghost use Rattle.std.specs.Prelude.{◌≡◌, ◌||◌, ◌&&◌, true, false, is_ok, is_err};
 ghost use Rattle.ffs_volume.specs.Messages.Kinds.{is_defect, of_blocks};
 ghost use Rattle.ffs_report.specs.Lines.{message_of};

@@ -1,4 +1,4 @@
-// Lists with a number for each inode.
+//! Lists with a number for each inode.
 ghost use Rattle.std.specs.Prelude.{◌≡◌};
 ghost use Rattle.ffs_survey.specs.Survey.{number_at};
 
