@@ -1,4 +1,4 @@
-//! The check of connectivity: which directories are cut off from the root (phase 3 of fsck(8)).
+//! The check of connectivity: which directories are lost (phase 3 of fsck(8)).
 //!
 //! `phase3` prints the connectivity check's text: one line for each lost tree or cycle of
 //! directories.

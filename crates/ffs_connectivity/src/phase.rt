@@ -35,9 +35,8 @@ fn first_unreached(kinds: &[u8], reached: &[bool]) -> u32
     kinds.len() as u32
 }
 
-/// Reports each directory that is cut off from the root: it isn't reached from inode 2, it isn't
-/// dead itself, and it has no parent, has a dead one, or is the least number on a cycle of parents
-/// (fsck(8), phase 3).
+/// Reports each lost directory (neither reached from inode 2 nor dead) that has no parent, has a
+/// dead one, or is the least number on a cycle of parents (fsck(8), phase 3).
 ///
 /// The text is that of a workspace that holds what the block check and the survey of directories
 /// found. What they found is left as it was.

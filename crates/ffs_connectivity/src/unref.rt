@@ -1,4 +1,4 @@
-//! Whether a directory is cut off from the root, and the line that reports it.
+//! The line on a lost directory.
 
 ghost use Rattle.std.specs.Prelude.{◌≡◌, ◌<◌, ◌≤◌, map};
 ghost use Rattle.ffs_report.specs.Progress.{progress};
@@ -39,7 +39,8 @@ fn attr_of(number: u32, inode: &Inode) -> Attr
     }
 }
 
-/// Reports an inode that is a directory cut off from the root.
+/// Reports an inode if it is a lost directory that has no parent, has a dead one, or is the least
+/// number on a cycle of parents.
 ///
 /// # Errors
 /// A read of the image that failed, and a write of the report that failed.

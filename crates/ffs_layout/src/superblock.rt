@@ -94,7 +94,7 @@ pub struct Super {
     pub geometry: Geometry,
     /// What a write is to save: 0 time, 1 space.
     pub optim: i32,
-    /// How many percent of the volume are to stay free.
+    /// The percentage of blocks that are to stay free.
     pub minfree: i32,
     /// Directories, free blocks, free inodes and free fragments of the volume.
     pub cstotal: [i32; 4],

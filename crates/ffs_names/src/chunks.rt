@@ -132,8 +132,8 @@ impl Chunks {
         Ok(Some(run_cursor.offset + DIRBLKSIZ as u64 * u64::from(run_cursor.next)))
     }
 
-    /// A reading of the directory with this inode, of which no offer is kept after the cut (0 for
-    /// none).
+    /// A reading of the directory with this inode. `cut` is how many offers it keeps where its
+    /// eleventh dup offer cut it, else 0.
     #[inline(always)]
     pub fn start(geometry: &Geometry, inode: &Inode, cut: u32) -> Chunks
         ensures begins { BeginsAt geometry.now.layout inode.now cut result }

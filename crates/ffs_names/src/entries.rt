@@ -58,8 +58,8 @@ impl Entries {
     ghost use Rattle.ffs_names.specs.Shapes.{has_right_shape, HasEnded, BeginsDirectory, GivesEntry, IsSameChunk};
     ghost use Rattle.ffs_names.specs.Entering.{to_come, left, last_name, IsHeld, IsInside, MayTake, name_place};
 
-    /// A reading of the directory with this inode, of which no offer is kept after the cut (0 for
-    /// none).
+    /// A reading of the directory with this inode. `cut` is how many offers it keeps where its
+    /// eleventh dup offer cut it, else 0.
     pub fn start(geometry: &Geometry, inode: &Inode, cut: u32) -> Entries
         ensures begins { BeginsDirectory geometry.now.layout inode.now cut result }
         ensures place { result.place ≡ 512 }
