@@ -1,7 +1,7 @@
 //! The whole check of an image of a UFS1 file system, after fsck(8): its opening, its phases, its
 //! end, and the words that ask for it.
 //!
-//! `check` prints the report of an image and answers how the run ends. `Headline` is its contract:
+//! `check` prints the report of an image and returns how the run ends. `Headline` is its contract:
 //! the whole report where no read and no write fails and the memory is granted, else what the
 //! clause says a fault leaves of it. `check_rest` is the same after the mount line.
 //!

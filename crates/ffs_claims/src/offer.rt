@@ -157,7 +157,7 @@ fn offers<W: Output>(
 }
 
 /// Takes a Run in range of the current inode: it is claimed at once where its fragments are all
-/// unclaimed and lie in one word of the map. The answer is whether the next step is seen.
+/// unclaimed and lie in one word of the map. Returns whether the next step is seen.
 fn run_in_range<W: Output>(
     workspace: &mut Workspace,
     geometry: &Geometry,
@@ -185,7 +185,7 @@ fn run_in_range<W: Output>(
     Ok(is_open(workspace))
 }
 
-/// Takes a Run of the current inode. The answer is whether the next step is seen.
+/// Takes a Run of the current inode. Returns whether the next step is seen.
 fn run<W: Output>(
     workspace: &mut Workspace,
     geometry: &Geometry,
@@ -218,7 +218,7 @@ fn run<W: Output>(
     Ok(is_open(workspace))
 }
 
-/// Takes a step of the current inode, which isn't cut. The answer is whether the next step is seen.
+/// Takes a step of the current inode, which isn't cut. Returns whether the next step is seen.
 ///
 /// # Errors
 /// A write of the report that failed.

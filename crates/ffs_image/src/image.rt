@@ -1,4 +1,4 @@
-//! What an image is, by the reads that it answers.
+//! What an image is, by its reads.
 ghost use Rattle.std.specs.Prelude.{◌≡◌, ◌+◌, ◌≤◌, length};
 ghost use Rattle.ffs_image.specs.Device.{Device, IsSized};
 ghost use Rattle.ffs_image.specs.Reads.{ReadsBytes};

@@ -19,7 +19,7 @@ pub trait Source {
     fn failures(&self) -> u64
         ensures { result ≡ (stock self.now).failures };
 
-    /// Reads some of the bytes at a place, at least one, and answers how many.
+    /// Reads some of the bytes at a place, at least one, and returns how many.
     ///
     /// # Errors
     /// The read failed, or gave nothing. It is counted once.

@@ -201,7 +201,7 @@ pub fn read_super<I: Image>(image: &mut I, sector: Option<u32>) -> Result<Super,
     ensures unread { IfErr result (λ fault. (at : ℕ) → fault ≡ SuperFault.CannotRead at
         → IsUnread (I.device image.old) (I.device image.new) sector at) }
 
-    // A failed read is answered, by its sector. With none, the answer is the outcome, where the
+    // A failed read is returned, by its sector. With none, the result is the outcome, where the
     // bytes are given.
     ensures answer { Answers (I.device image.old) (I.device image.new) sector (found_of result) }
 {

@@ -196,7 +196,8 @@ impl FragmentMap {
         }
     }
 
-    /// Sets the bits of a run that lies in one word, where none of them is set. The answer says whether it did.
+    /// Sets the bits of a run that lies in one word, where none of them is set. Returns whether it
+    /// did.
     pub fn claim(&mut self, start: u32, len: u32) -> bool
         requires some { 0 < len }
         requires below { start + len ≤ self.old.size }

@@ -1,4 +1,4 @@
-//! What grants memory, by what it answers.
+//! What grants memory, and what it grants.
 ghost use Rattle.std.specs.Prelude.{◌≡◌, ◌*◌, false};
 ghost use Rattle.ffs_memory.specs.Account.{Account, Gives, GivesWords};
 

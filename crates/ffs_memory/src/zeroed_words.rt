@@ -83,8 +83,8 @@ impl ZeroedWords {
         self.touched[index] = word;
     }
 
-    /// Sets the bits of a mask in the word at an index, where none of them is set there. The answer
-    /// says whether it did.
+    /// Sets the bits of a mask in the word at an index, where none of them is set there. Returns
+    /// whether it did.
     #[inline(always)]
     pub fn claim(&mut self, index: usize, mask: u64) -> bool
         requires { index < length self.old.list }

@@ -68,8 +68,8 @@ impl Chunks {
         }
     }
 
-    /// Moves on to a Run with a chunk, if the current Run has none left. The answer says whether
-    /// there is one.
+    /// Moves on to a Run with a chunk, if the current Run has none left. Returns whether there is
+    /// one.
     fn advance<I: Image>(&mut self, image: &mut I, blocks: &mut Blocks) -> Result<bool, ImageFault>
         requires { CanWalkDir self.old.walk.geometry.layout (I.device image.old) blocks.old }
         ensures continues { OnOk result (ForContents (I.device image.old).contents
@@ -179,7 +179,7 @@ impl Chunks {
         self.gap = false;
     }
 
-    /// Reads the next chunk into `chunk`; the answer is its place in the file, in bytes, and None
+    /// Reads the next chunk into `chunk`, and returns its place in the file, in bytes, and None
     /// where no chunk is left. The data block that it lies in is read once for all its chunks.
     ///
     /// # Errors

@@ -43,7 +43,7 @@ impl Keeping {
         self.bad <= MAXBAD && (self.cut == 0 || self.kept < self.cut)
     }
 
-    /// A Run of `len` fragments is seen, in range or not; the answer says whether it is kept.
+    /// Sees a Run of `len` fragments, in range or not. Returns whether it is kept.
     pub fn take(&mut self, len: u32, in_range: bool) -> bool
         requires some { 0 < len }
         requires seen { is_seen_in self.old.cut (replay_in self.old) ≡ true }

@@ -32,7 +32,7 @@ pub struct FirstLook {
     pub started: bool,
 }
 
-/// Keeps a chunk that is at the start of the file, if none is kept yet; the answer says whether one is.
+/// Keeps a chunk that is at the start of the file, if none is kept yet, and returns whether one is.
 fn keep_start(
     offset: u64,
     chunk: &[u8; DIRBLKSIZ],

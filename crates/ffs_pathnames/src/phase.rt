@@ -30,10 +30,11 @@ pub enum Root {
     Stop,
 }
 
-/// Surveys the directories, and prints the lines of the root, of each directory and of its entries (fsck(8), phase 2).
+/// Surveys the directories, and prints the lines of the root, of each directory and of its entries
+/// (fsck(8), phase 2). Returns whether the run continues after the root.
 ///
-/// The text is that of a workspace that holds what the block check found. At `Ok` the workspace holds what the survey
-/// found, and the answer says whether the run continues.
+/// The text is that of a workspace that holds what the block check found. At `Ok` the workspace
+/// holds what the survey found.
 ///
 /// # Errors
 /// A read of the image that failed, and a write of the report that failed.

@@ -31,7 +31,7 @@ pub struct PathBuffer {
     ghost long: { length bytes ≡ 1024 },
 }
 
-/// Puts `/` and a name before what is from `end` on. The answer is where they begin.
+/// Puts `/` and a name before what is from `end` on. Returns where they begin.
 fn put_front(bytes: &mut [u8; MAXPATHLEN], end: usize, name: &[u8]) -> usize
     requires room { length name.now < end }
     requires end { end ≤ 1024 }

@@ -27,7 +27,8 @@ pub struct EntryPaths {
     ghost prefix: { 0 < begins → BeginsWith directory begins bytes },
 }
 
-/// Writes what the paths of all entries begin with. The answer is how long that is, or 0 where no name has room.
+/// Writes what the paths of all entries begin with. Returns how long that is, or 0 where no name
+/// has room.
 fn put_prefix(directory: &DirectoryPath, bytes: &mut [u8; MAXPATHLEN]) -> usize
     ensures { 0 < result → BeginsWith directory.now result bytes.new }
 {

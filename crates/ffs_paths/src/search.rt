@@ -78,7 +78,7 @@ impl Search {
         })
     }
 
-    /// Moves on to the first entry to come that names an inode. The answer says whether there is one.
+    /// Moves on to the first entry to come that names an inode. Returns whether there is one.
     ///
     /// # Errors
     /// A read of the image that failed.

@@ -1,6 +1,6 @@
 //! The lines of a report, and where their bytes go.
 //!
-//! `Report::say` writes exactly the bytes of its line, or writes a prefix of them and answers a
+//! `Report::say` writes exactly the bytes of its line, or writes a prefix of them and returns a
 //! fault; after a fault each later line fails and writes nothing. A line goes out as one piece
 //! where it has room in a buffer of 2,048 bytes. A `Line` is a message with its values; it prints
 //! the texts of `ffs_volume::texts` that `Messages/Texts` of the definitions gives it. A

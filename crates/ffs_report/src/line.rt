@@ -209,7 +209,7 @@ pub enum ReferenceLine {
     DeadZero {
         attr: Attr,
     },
-    /// It has no reference, and a count of links.
+    /// It has no reference, and its count of links isn't 0.
     Unref {
         label: Label,
         attr: Attr,

@@ -51,14 +51,14 @@ impl<'a, W: Output> Report<'a, W> {
         }
     }
 
-    /// Whether a line that reports a defect was said by a call that answered `Ok`.
+    /// Whether a line that reports a defect was said by a call that returned `Ok`.
     pub fn any_defect(&self) -> bool
         ensures { result ≡ (progress W.sink self.now).defect }
     {
         self.defect
     }
 
-    /// Keeps what became of the printing of a line, and answers it.
+    /// Keeps what became of the printing of a line, and returns it.
     #[inline(always)]
     fn after(&mut self, printed: Result<(), OutFault>, is_defect: bool) -> Result<(), OutFault>
         ensures answer { result ≡ printed }
@@ -110,7 +110,7 @@ impl<'a, W: Output> Report<'a, W> {
     ///
     /// # Errors
     /// A write that failed. A prefix of the line's bytes may have gone out then, and each later
-    /// call answers `Err` and writes nothing.
+    /// call returns `Err` and writes nothing.
     #[inline(always)]
     pub fn say(&mut self, line: &Line<'_>) -> Result<(), OutFault>
         ensures { SaysOne (progress W.sink self.old) (progress W.sink self.new)

@@ -10,7 +10,7 @@ use ffs_volume::End;
 use std::alloc::{AllocError, Global};
 use std::{fs, io};
 
-/// An image, what a check of it is asked, and what it must print and answer.
+/// An image, what a check of it is asked, and what it must print, and its status.
 #[derive(Drop)]
 pub struct Row {
     /// The name of its files in `data/`.

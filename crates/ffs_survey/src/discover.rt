@@ -299,7 +299,8 @@ fn adopt(entry: Named, from: u32, kinds: &[u8], reached: &[bool], parents: &mut 
     parents.set(number, from);
 }
 
-/// Reads the directory `from`, which isn't reached: counts its entries, and gives a parent to what they name.
+/// Reads the directory `from`, which isn't reached: counts its entries, and gives a parent to what
+/// they name.
 ///
 /// # Errors
 /// A read of the image that failed.

@@ -14,7 +14,8 @@ use ffs_image::ImageFault;
 use ffs_memory::FilledList;
 use ffs_volume::constants::{NO_LINKS, ROOTINO};
 
-/// Reads the level that is in `queue[low..high]`, puts the next one after it, ascending, and answers where that ends.
+/// Reads the level that is in `queue[low..high]`, puts the next one after it, ascending, and
+/// returns where that ends.
 fn next_level<D: Directories>(
     directories: &mut D,
     kinds: &[u8],

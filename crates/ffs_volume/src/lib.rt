@@ -174,7 +174,7 @@ pub enum End {
     Defects,
     /// The superblock is refused.
     Refused(SuperFault),
-    /// Inode 2 is no directory, and the check stopped after phase 2.
+    /// Inode 2 is no directory, so the check stopped in phase 2.
     RootStop,
     /// A read at this sector failed.
     ReadFault(u64),

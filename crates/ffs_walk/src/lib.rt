@@ -1,6 +1,6 @@
 //! The class of an inode, and a walk over its blocks, in the order of its addresses (fs(5)).
 //!
-//! `Walk::next` answers the steps of the definition one by one: Runs of fragments, Gaps (holes),
+//! `Walk::next` returns the steps of the definition one by one: Runs of fragments, Gaps (holes),
 //! and Tails (indirect blocks with an address past the end of the file). It reads each indirect
 //! block once, into one of three buffers of `Blocks`.
 //!

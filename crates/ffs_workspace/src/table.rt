@@ -125,8 +125,8 @@ impl Table {
         Ok(())
     }
 
-    // Reads the block of the table that has an inode, unless it is the one that was read last. Its answer is where the inode's
-    // bytes are in the window.
+    // Reads the block of the table that has an inode, unless it is the one that was read last.
+    // Returns where the inode's bytes are in the window.
     #[inline(always)]
     fn load<I: Image>(
         &mut self,
