@@ -6,12 +6,13 @@ ghost use Rattle.ffs_volume.specs.Directories.Entries.{run_chunks};
 use ffs_layout::Geometry;
 use ffs_volume::constants::DIRBLKSIZ;
 
-/// The chunks of the current Run of a directory.
+/// The chunks of the current Run: where the Run is in the image, in bytes, and in the file; how many chunks it has,
+/// and which is the next.
 #[derive(Clone, Copy, Debug)]
 pub struct RunCursor {
     /// Where the Run is, in bytes from the start of the image.
     pub place: u64,
-    /// How many bytes it has.
+    /// The length in bytes.
     pub length: u64,
     /// Where it is in the file, in bytes.
     pub offset: u64,
