@@ -1,5 +1,5 @@
 //! The whole check of an image of a UFS1 file system, after fsck(8): its opening, its phases, its
-//! end, and the words that ask for it.
+//! end, and its arguments.
 //!
 //! `check` prints the report of an image and returns how the run ends. `Headline` is its contract:
 //! the whole report where no read and no write fails and the memory is granted, else what the
@@ -10,7 +10,7 @@
 //! std::process::exit(end.status());
 //! ```
 //!
-//! It rests on all crates of phases, and on `clap` for the words.
+//! It rests on all crates of phases, and on `clap` for the arguments.
 #![tactic(auto)]
 
 pub mod args;

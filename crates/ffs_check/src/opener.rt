@@ -5,7 +5,7 @@ use ffs_image::{FileImage, Image, OpenFault};
 use std::fs::File;
 use std::rt::Files;
 
-/// What opens the image that the words name.
+/// What opens the image that the arguments name.
 pub trait Opener {
     /// An image that it opens.
     type Image: Image + Drop;

@@ -18,7 +18,7 @@ const MEMORY_DEVICES: u64 = 1;
 /// The status where memory is refused.
 const NO_MEMORY: u8 = 8;
 
-/// The status of words that are not text.
+/// The status of arguments that are not text.
 const WRONG_WORDS: u8 = 2;
 
 fn main(rt: HostRuntime) -> ExitCode {
