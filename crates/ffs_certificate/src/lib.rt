@@ -1,8 +1,8 @@
 //! Laws of the definitions of `ffs_volume`: status 0 is a certificate.
 //!
-//! A report without a defect is the same as consistency, both ways (`certified`, `silent_is_right`); the
-//! end of a run is by its report (`report_is_right`); claims are bounded (`claims_are_bounded`). Each
-//! function is a law: its contract is the statement, and nothing runs.
+//! A report without a defect is the same as consistency, both ways (`certified`,
+//! `silent_is_right`); the end of a run is by its report (`report_is_right`); claims are bounded
+//! (`claims_are_bounded`). Each function is a law: its contract is the statement, and nothing runs.
 //!
 //! It rests on `ffs_volume`.
 #![tactic(auto)]
@@ -27,34 +27,38 @@ pub fn keeping_is_by_rule()
     ensures { KeepingByRule }
 {}
 
-/// With nothing marked, the three checks of directories report nothing exactly where the directories are consistent.
+/// With nothing marked, the three checks of directories report nothing exactly where the
+/// directories are consistent.
 pub fn silent_is_right()
     ensures { SilentIsRight }
 {}
 
-/// The certificate: a report on an accepted superblock has no defect exactly where the image is consistent.
+/// The certificate: a report on an accepted superblock has no defect exactly where the image is
+/// consistent.
 pub fn report_is_right()
     ensures { ReportIsRight }
 {}
 
-/// However the addresses of a volume point to one another, the block check sees no more Runs than one for each
-/// fragment and 22 for each inode.
+/// However the addresses of a volume point to one another, the block check sees no more Runs than
+/// one for each fragment and 22 for each inode.
 pub fn claims_are_bounded()
     ensures { ClaimsAreBounded }
 {}
 
-/// Where inode 2 is no directory the run stops after the pathname check, and a defect was reported by then.
+/// Where inode 2 is no directory the run stops after the pathname check, and a defect was reported
+/// by then.
 pub fn stop_is_reported()
     ensures { StopIsReported }
 {}
 
-/// Each of the seven conditions of a consistent volume holds exactly where none of the messages that speak for it is reported.
+/// Each of the seven conditions of a consistent volume holds exactly where none of the messages
+/// that speak for it is reported.
 pub fn conditions_are_reported()
     ensures { ConditionsAreReported }
 {}
 
-/// Whole reports of small images: the base image in both orders, which is so consistent, and images with a defect;
-/// the bytes of messages; and the steps that an inode keeps.
+/// Whole reports of small images: the base image in both orders, which is so consistent, and images
+/// with a defect; the bytes of messages; and the steps that an inode keeps.
 pub fn examples_hold()
     ensures kept { KeptExamples }
     ensures reports { ReportExamples }

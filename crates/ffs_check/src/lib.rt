@@ -1,16 +1,16 @@
-//! The whole check of an image of a UFS1 file system, after fsck(8): its opening, its phases, its end, and
-//! the words that ask for it.
+//! The whole check of an image of a UFS1 file system, after fsck(8): its opening, its phases, its
+//! end, and its arguments.
 //!
-//! `check` prints the report of an image and answers how the run ends. `Headline` is its contract: the
-//! whole report where no read and no write fails and the memory is granted, else what the clause says a
-//! fault leaves of it. `check_rest` is the same after the mount line.
+//! `check` prints the report of an image and returns how the run ends. `Headline` is its contract:
+//! the whole report where no read and no write fails and the memory is granted, else what the
+//! clause says a fault leaves of it. `check_rest` is the same after the mount line.
 //!
 //! ```text
 //! let end = check(alloc, &mut image, &args, &mut out);
 //! std::process::exit(end.status());
 //! ```
 //!
-//! It rests on all crates of phases, and on `clap` for the words.
+//! It rests on all crates of phases, and on `clap` for the arguments.
 #![tactic(auto)]
 
 pub mod args;

@@ -1,11 +1,11 @@
-//! How a run results in its image: by a name, for reading only.
+//! How a run gets its image: it opens it by its name, for reading alone.
 ghost use Rattle.std.specs.Prelude.{ℕ, List, IfOk, OnErr};
 
 use ffs_image::{FileImage, Image, OpenFault};
 use std::fs::File;
 use std::rt::Files;
 
-/// What opens the image that the words name.
+/// What opens the image that the arguments name.
 pub trait Opener {
     /// An image that it opens.
     type Image: Image + Drop;
@@ -17,6 +17,9 @@ pub trait Opener {
     ghost refuses: { Self → List ℕ → Type 0 };
 
     /// Opens the image of this name for reading.
+    ///
+    /// # Errors
+    /// The image can't be opened.
     fn open(&self, name: &str) -> Result<Self::Image, OpenFault>
         ensures opened { IfOk result (λ image. opens self.now name.now image) }
         ensures refused { OnErr result (refuses self.now name.now) };

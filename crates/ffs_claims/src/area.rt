@@ -6,10 +6,12 @@ ghost use Rattle.ffs_volume.specs.Disk.Areas.{is_run_in_range};
 
 use ffs_layout::Geometry;
 
-/// Fragments in a row, where each Run is in range.
+/// Consecutive fragments, from `start` on and below `end`. Each Run that lies in them is in range.
 #[derive(Clone, Copy, Debug)]
 pub struct DataArea {
+    /// The first fragment.
     pub start: u32,
+    /// The fragment after the last one.
     pub end: u32,
 }
 

@@ -22,8 +22,8 @@ use ffs_volume::{Class, Inode, Step};
 use ffs_walk::{Walk, class_of, has_steps};
 use ffs_workspace::Workspace;
 
-/// Walks over the blocks of an inode of the class, where it has any, claims what its steps offer, and reports what is wrong
-/// with them. The walk is begun anew.
+/// Walks over the blocks of an inode of the class, where it has any, claims what its steps offer,
+/// and reports what is wrong with them. The walk is begun anew.
 fn claim<I: Image, W: Output>(
     workspace: &mut Workspace,
     geometry: &Geometry,
@@ -62,7 +62,7 @@ fn claim<I: Image, W: Output>(
     Ok(())
 }
 
-/// An inode that was read: what is reported of it, and what it claims.
+/// Reports what is wrong with an inode that was read, and claims what its steps offer.
 fn claim_read_inode<I: Image, W: Output>(
     workspace: &mut Workspace,
     geometry: &Geometry,
@@ -99,7 +99,10 @@ fn claim_read_inode<I: Image, W: Output>(
     Ok(())
 }
 
-/// An inode by its number: what is reported of it, and what it claims.
+/// Reads an inode by its number, claims what its steps offer, and reports what is wrong with it.
+///
+/// # Errors
+/// A read of the image that failed, and a write of the report that failed.
 pub fn claim_inode<I: Image, W: Output>(
     workspace: &mut Workspace,
     geometry: &Geometry,

@@ -23,10 +23,14 @@ use ffs_report::{Heading, Line, Output, Report};
 use ffs_walk::Walk;
 use ffs_workspace::Workspace;
 
-/// Walks over the blocks of all inodes, claims the fragments that they offer, and reports what is wrong: inodes of an
-/// unknown type, addresses out of range, fragments that are claimed twice, and wrong counts of sectors.
+/// Walks over the blocks of all inodes, claims the fragments that they offer, and reports what is
+/// wrong: inodes of an unknown type, addresses out of range, fragments that are claimed twice, and
+/// wrong counts of sectors.
 ///
 /// The text is that of a workspace as it was made.
+///
+/// # Errors
+/// A read of the image that failed, and a write of the report that failed.
 pub fn phase1<I: Image, W: Output>(
     geometry: &Geometry,
     image: &mut I,

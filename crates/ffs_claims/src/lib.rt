@@ -1,8 +1,9 @@
-//! The block check: which fragments inodes claim, and what is wrong with their claims (phases 1 and 1b of
-//! fsck(8)).
+//! The block check: which fragments inodes claim, and what is wrong with their claims (phases 1 and
+//! 1b of fsck(8)).
 //!
-//! `phase1` and `phase1b` print the block check's text, and leave classes, claims, cuts and marks in the
-//! workspace. They visit at most `size + 22 * inodes` Runs, whatever the image holds.
+//! `phase1` and `phase1b` print the block check's text, and leave classes, claims, cuts and marks
+//! in the workspace. Each of them looks at no more than `size + 22 * inodes` Runs, whatever the
+//! image holds.
 //!
 //! ```text
 //! phase1(&geometry, &mut image, &mut workspace, &mut report)?;

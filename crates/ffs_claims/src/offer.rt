@@ -58,7 +58,8 @@ fn say_bad<W: Output>(
     Ok(())
 }
 
-/// Whether the fragment of an offer is in range. Where `in_range` says that its Run is, the fragment isn't looked at.
+/// Whether the fragment of an offer is in range. Where `in_range` says that its Run is, the
+/// fragment isn't looked at.
 #[inline(always)]
 fn fragment_in_range(geometry: &Geometry, fragment: u64, in_range: bool) -> bool
     requires known { IsTrue in_range
@@ -97,7 +98,7 @@ fn take(workspace: &mut Workspace, geometry: &Geometry, fragment: u64, in_range:
     true
 }
 
-/// One offer, and what is reported of it.
+/// Takes one offer, and reports what is wrong with it.
 fn offer<W: Output>(
     workspace: &mut Workspace,
     geometry: &Geometry,
@@ -122,7 +123,8 @@ fn offer<W: Output>(
     say_dup(report, number, fragment as u32, many)
 }
 
-/// The offers of a Run one after the other, and what is reported of them. `in_range` says that the Run is in range.
+/// Takes the offers of a Run, one after another, and reports what is wrong with them. `in_range`
+/// says that the Run is in range.
 fn offers<W: Output>(
     workspace: &mut Workspace,
     geometry: &Geometry,
@@ -154,8 +156,8 @@ fn offers<W: Output>(
     Ok(())
 }
 
-/// A Run in range of the current inode: claimed at once where its fragments are all unclaimed and lie in one word of the
-/// map. The answer is whether the next step is seen.
+/// Takes a Run in range of the current inode: it is claimed at once where its fragments are all
+/// unclaimed and lie in one word of the map. Returns whether the next step is seen.
 fn run_in_range<W: Output>(
     workspace: &mut Workspace,
     geometry: &Geometry,
@@ -183,7 +185,7 @@ fn run_in_range<W: Output>(
     Ok(is_open(workspace))
 }
 
-/// A Run of the current inode, and whether the next step is seen.
+/// Takes a Run of the current inode. Returns whether the next step is seen.
 fn run<W: Output>(
     workspace: &mut Workspace,
     geometry: &Geometry,
@@ -216,7 +218,10 @@ fn run<W: Output>(
     Ok(is_open(workspace))
 }
 
-/// A step of the current inode, which isn't cut, and whether the next one is seen.
+/// Takes a step of the current inode, which isn't cut. Returns whether the next step is seen.
+///
+/// # Errors
+/// A write of the report that failed.
 pub fn step<W: Output>(
     workspace: &mut Workspace,
     geometry: &Geometry,

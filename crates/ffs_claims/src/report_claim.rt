@@ -1,4 +1,4 @@
-//! The first claims of fragments that are claimed twice, reported once each.
+//! The first claims of fragments that are claimed more than once, reported once each.
 
 ghost use Rattle.std.specs.Prelude.{[], ◌∷◌, OnOk, map};
 ghost use Rattle.std.specs.List.{range_with_len};
@@ -13,7 +13,8 @@ use ffs_report::{Line, OutFault, Output, Report};
 use ffs_volume::BlockMessage;
 use ffs_workspace::Workspace;
 
-/// One offer: it is reported, and its inode marked, where its fragment has a DUP line whose first claim isn't reported yet.
+/// Reports an offer, and marks its inode, where its fragment has a DUP line whose first claim isn't
+/// reported yet.
 fn report_claim<W: Output>(
     workspace: &mut Workspace,
     geometry: &Geometry,
@@ -45,7 +46,11 @@ fn report_claim<W: Output>(
     }))
 }
 
-/// The first offers of a Run, one after the other.
+/// Reports the offers of a Run, one after another, that are the first claims of fragments with a
+/// DUP line.
+///
+/// # Errors
+/// A write of the report that failed.
 pub fn report_run<W: Output>(
     workspace: &mut Workspace,
     geometry: &Geometry,

@@ -16,7 +16,7 @@ pub struct Rescan {
 }
 
 impl Rescan {
-    /// An inode begins that keeps so many fragments, or all for 0.
+    /// The keeping of an inode that keeps `cut` fragments, or all for 0.
     pub fn start(cut: u32) -> Rescan
         ensures { result ≡ rescans.rescan cut }
     {

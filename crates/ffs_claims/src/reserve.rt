@@ -12,7 +12,8 @@ use ffs_layout::Geometry;
 use ffs_maps::FragmentMap;
 use ffs_workspace::Workspace;
 
-/// Sets the bits of the reserved fragments: up to the data of the first group, the summary area, and what each group keeps.
+/// Sets the bits of the reserved fragments: all before the data of the first group, the summary
+/// area, and the metadata of each group.
 fn set_reserved(map: &mut FragmentMap, geometry: &Geometry)
     requires size { map.old.size ≡ geometry.now.layout.size }
     ensures size { map.new.size ≡ geometry.now.layout.size }

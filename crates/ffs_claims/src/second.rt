@@ -29,7 +29,8 @@ use ffs_volume::{Inode, Step};
 use ffs_walk::Walk;
 use ffs_workspace::Workspace;
 
-/// A step of the current inode: of the fragments that it keeps, those are reported whose first claim isn't reported yet.
+/// Reports, of the fragments that a step of the current inode keeps, those whose first claim isn't
+/// reported yet.
 fn report_again<W: Output>(
     workspace: &mut Workspace,
     geometry: &Geometry,
@@ -92,7 +93,7 @@ fn rewalk<I: Image, W: Output>(
     Ok(())
 }
 
-/// An inode by its number.
+/// Reads an inode by its number, and walks over its blocks again.
 fn renumbered<I: Image, W: Output>(
     workspace: &mut Workspace,
     geometry: &Geometry,
@@ -111,9 +112,13 @@ fn renumbered<I: Image, W: Output>(
     rewalk(workspace, geometry, number, cut, &inode, image, report)
 }
 
-/// Walks over the blocks of all inodes again, and reports of each fragment that is claimed twice which inode claims it first.
+/// Walks over the blocks of all inodes again, and reports of each fragment that is claimed twice
+/// which inode claims it first.
 ///
 /// The text is that of a workspace as phase 1 left it.
+///
+/// # Errors
+/// A read of the image that failed, and a write of the report that failed.
 pub fn phase1b<I: Image, W: Output>(
     geometry: &Geometry,
     image: &mut I,

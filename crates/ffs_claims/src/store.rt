@@ -29,7 +29,10 @@ pub fn begin(workspace: &mut Workspace)
     workspace.tail = false;
 }
 
-/// What is reported of an inode by its class.
+/// Reports an inode of class Partial or Unknown.
+///
+/// # Errors
+/// A write of the report that failed.
 pub fn say_class<W: Output>(
     report: &mut Report<'_, W>,
     number: u32,
@@ -54,7 +57,10 @@ fn is_file_or_dir(class: Class) -> bool
     }
 }
 
-/// Reports where an inode's count of sectors is wrong.
+/// Reports an inode whose count of sectors of 512 bytes is wrong.
+///
+/// # Errors
+/// A write of the report that failed.
 pub fn say_count<W: Output>(
     workspace: &Workspace,
     geometry: &Geometry,
@@ -123,8 +129,8 @@ fn start_of(class: Class, inode: &Inode) -> u64
     }
 }
 
-// Sets where an inode is cut, if that isn't what the list holds already: so its memory is touched only for inodes that are
-// cut.
+// Sets where an inode is cut, if that isn't what the list holds already: so its memory is touched
+// only for inodes that are cut.
 #[inline(always)]
 fn store_cut(list: &mut FilledList<u32>, number: usize, cut: u32)
     requires { number < vec_len list.old }
@@ -136,7 +142,8 @@ fn store_cut(list: &mut FilledList<u32>, number: usize, cut: u32)
     }
 }
 
-// The same for where the count of an inode's references starts: memory is touched only for inodes that are in use.
+// The same for where the count of an inode's references starts: memory is touched only for inodes
+// that are in use.
 #[inline(always)]
 fn store_start(list: &mut FilledList<u64>, number: usize, start: u64)
     requires { number < vec_len list.old }

@@ -13,9 +13,9 @@ use ffs_layout::Geometry;
 use ffs_walk::Walk;
 use ffs_workspace::Workspace;
 
-/// Claims what an address of an indirect block of data offers: nothing where it is a gap, else its Run, where that lies in
-/// the area, and its fragments are all unclaimed and lie in one word of the map. The answer is whether it was so: if not,
-/// nothing has changed.
+/// Claims what an address of an indirect block of data offers: nothing where it is a gap, else its
+/// Run, where that lies in the area, and its fragments are all unclaimed and lie in one word of the
+/// map. Returns whether it was so: if not, nothing has changed.
 #[inline(always)]
 fn claim_address(
     workspace: &mut Workspace,
@@ -45,8 +45,8 @@ fn claim_address(
     true
 }
 
-/// Claims what the words offer that come next in the single indirect block that the walk is in, which is held, as long as there
-/// is nothing to report of them.
+/// Claims what the next words of the single indirect block that the walk is in offer, as long as
+/// nothing is to be reported of them. The block is held.
 #[inline(never)]
 fn claim_held_words(
     workspace: &mut Workspace,
@@ -70,8 +70,9 @@ fn claim_held_words(
     }
 }
 
-/// Claims what the words offer that come next in the single indirect block that the walk is in, as long as there is nothing
-/// to report of them, and each Run is claimed at once. It leaves the claims that the steps would leave that it passes over.
+/// Claims what the next words of the single indirect block that the walk is in offer, as long as
+/// nothing is to be reported of them and each Run is claimed at once. The claims are then those
+/// that the steps of these words would leave.
 #[inline(always)]
 pub fn claim_words(workspace: &mut Workspace, geometry: &Geometry, area: &DataArea, walk: &mut Walk)
     requires next { SeesNext geometry.now.layout workspace.old area.now }

@@ -1,6 +1,7 @@
-//! The check of connectivity: which directories are cut off from the root (phase 3 of fsck(8)).
+//! The check of connectivity: which directories are lost (phase 3 of fsck(8)).
 //!
-//! `phase3` prints the connectivity check's text: one line for each lost tree or cycle of directories.
+//! `phase3` prints the connectivity check's text: one line for each lost tree or cycle of
+//! directories.
 //!
 //! ```text
 //! phase3(&geometry, &mut image, &mut workspace, &mut report)?;

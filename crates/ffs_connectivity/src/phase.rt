@@ -21,7 +21,8 @@ use ffs_report::{Heading, Line, Output, Report};
 use ffs_survey::{is_dir, mark_leaders};
 use ffs_workspace::Workspace;
 
-/// The least number of a directory that isn't reached, or how many inodes there are where each one is.
+/// The least number of a directory that isn't reached, or how many inodes there are where each one
+/// is.
 fn first_unreached(kinds: &[u8], reached: &[bool]) -> u32
     requires lists { (length reached.now ≡ length kinds.now) × (length kinds.now < 2 ^ 31) }
     ensures { IsFirstUnreached kinds.now reached.now result }
@@ -34,13 +35,14 @@ fn first_unreached(kinds: &[u8], reached: &[bool]) -> u32
     kinds.len() as u32
 }
 
-/// Reports of each directory that is cut off from the root: it isn't reached from inode 2, it isn't dead itself, and it has
-/// no parent, has a dead one, or is the least number on a cycle of parents (fsck(8), phase 3).
+/// Reports each lost directory (neither reached from inode 2 nor dead) that has no parent, has a
+/// dead one, or is the least number on a cycle of parents (fsck(8), phase 3).
 ///
-/// The text is that of a workspace that holds what the block check and the survey of directories found. What they found
-/// is left as it was.
+/// The text is that of a workspace that holds what the block check and the survey of directories
+/// found. What they found is left as it was.
 ///
-/// Errors: a read of the image that failed, and a write of the report that failed.
+/// # Errors
+/// A read of the image that failed, and a write of the report that failed.
 pub fn phase3<I: Image, W: Output>(
     geometry: &Geometry,
     image: &mut I,

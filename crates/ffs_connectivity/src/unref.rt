@@ -1,4 +1,4 @@
-//! Whether a directory is cut off, and what is reported of it.
+//! The line on a lost directory.
 
 ghost use Rattle.std.specs.Prelude.{◌≡◌, ◌<◌, ◌≤◌, map};
 ghost use Rattle.ffs_report.specs.Progress.{progress};
@@ -39,7 +39,11 @@ fn attr_of(number: u32, inode: &Inode) -> Attr
     }
 }
 
-/// What is reported of an inode: whether it is a directory that is cut off from the root.
+/// Reports an inode if it is a lost directory that has no parent, has a dead one, or is the least
+/// number on a cycle of parents.
+///
+/// # Errors
+/// A read of the image that failed, and a write of the report that failed.
 pub fn check_inode<I: Image, W: Output>(
     workspace: &mut Workspace,
     geometry: &Geometry,

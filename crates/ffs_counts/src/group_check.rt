@@ -21,10 +21,11 @@ use ffs_report::{Heading, Line, Output, Report};
 use ffs_volume::BlockMessage;
 use ffs_workspace::Workspace;
 
-/// Phase 5 (fsck(8)): compares the records of each cylinder group, and the totals of the superblock, with what they should be
-/// by the fragments and inodes in use.
+/// Phase 5 (fsck(8)): compares the records of each cylinder group, and the totals of the
+/// superblock, with what they should be by the fragments and inodes in use.
 ///
-/// Errors: a read of the image or a write of the report that failed.
+/// # Errors
+/// A read of the image that failed, and a write of the report that failed.
 pub fn phase5<I: Image, W: Output>(
     superblock: &Super,
     image: &mut I,

@@ -23,8 +23,8 @@ const RECORDS_AT_ONCE: u32 = 256;
 /// The bytes of one of them.
 const RECORD_SIZE: usize = CSUM_SIZE as usize;
 
-// Reads the summary record of a group with those round it, unless the window holds them: 256 records, or those that are
-// left. Its answer is where the group's record is in the window.
+// Reads the summary record of a group with those round it, unless the window holds them: 256
+// records, or those that are left. Returns where the group's record is in the window.
 fn read_summaries<I: Image>(
     geometry: &Geometry,
     image: &mut I,
@@ -46,6 +46,9 @@ fn read_summaries<I: Image>(
 }
 
 /// Reads the records of a group, and compares them with what they should be.
+///
+/// # Errors
+/// A read of the image that failed.
 pub fn read_group<I: Image>(
     geometry: &Geometry,
     image: &mut I,

@@ -11,11 +11,14 @@ use ffs_groups::Findings;
 use ffs_report::{Line, OutFault, Output, Report};
 use ffs_volume::BlockMessage;
 
-/// Which of the messages were reported that come once.
+/// Which of the messages that come once in a run were reported.
 #[derive(Clone, Copy, Debug)]
 pub struct Once {
+    /// FREE BLK COUNT(S) WRONG.
     pub counts: bool,
+    /// BLK(S) MISSING.
     pub maps: bool,
+    /// SUMMARY INFORMATION BAD.
     pub sums: bool,
 }
 
@@ -57,6 +60,9 @@ impl Once {
 }
 
 /// Says a message where a test fails, unless it was reported before and comes once.
+///
+/// # Errors
+/// A write of the report that failed.
 pub fn say_unless<W: Output>(
     report: &mut Report<'_, W>,
     once: &mut Once,
@@ -75,7 +81,11 @@ pub fn say_unless<W: Output>(
     report.say(&Line::Block(message))
 }
 
-/// Says what is wrong with the records of a group, each of the messages that come once only where it was not reported before.
+/// Says what is wrong with the records of a group. Each of the messages that come once is said only
+/// where it wasn't before.
+///
+/// # Errors
+/// A write of the report that failed.
 pub fn say_group<W: Output>(
     report: &mut Report<'_, W>,
     once: &mut Once,

@@ -71,6 +71,9 @@ pub fn line_for(
 }
 
 /// Says a line, if there is one.
+///
+/// # Errors
+/// A write of the report that failed.
 pub fn say_line<W: Output>(
     report: &mut Report<'_, W>,
     line: Option<ReferenceLine>,

@@ -66,7 +66,7 @@ fn free_run(kinds: &[u8], first: usize) -> usize
     }
 }
 
-// What is reported of an inode that is allocated. It is read only where it has a line.
+// Reports what is wrong with an allocated inode. It is read only where it has a line.
 fn check_inode<I: Image, W: Output>(
     workspace: &mut Workspace,
     geometry: &Geometry,
@@ -101,11 +101,14 @@ fn check_inode<I: Image, W: Output>(
     Ok(())
 }
 
-/// Phase 4 (fsck(8)): reports of each inode that is allocated whether it is dead, not referred to, or has a wrong count of links.
+/// Phase 4 (fsck(8)): reports each allocated inode that is dead, has no reference, or has a wrong
+/// count of links.
 ///
-/// The text is that of a workspace that holds what the block check and the survey of directories found.
+/// The text is that of a workspace that holds what the block check and the survey of directories
+/// found.
 ///
-/// Errors: a read of the image or a write of the report that failed.
+/// # Errors
+/// A read of the image that failed, and a write of the report that failed.
 pub fn phase4<I: Image, W: Output>(
     geometry: &Geometry,
     image: &mut I,

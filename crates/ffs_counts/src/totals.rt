@@ -7,12 +7,16 @@ ghost use Rattle.ffs_counts.specs.Totals.{AreUpTo, total_of, with_counts};
 
 use ffs_groups::SummaryCounts;
 
-/// The sums of the counts of groups.
+/// The sums of the counts of all groups.
 #[derive(Clone, Copy, Debug)]
 pub struct Totals {
+    /// Directories.
     pub dirs: u64,
+    /// Blocks of which all fragments are free.
     pub blocks: u64,
+    /// Free inodes.
     pub inodes: u64,
+    /// Free fragments in other blocks.
     pub fragments: u64,
 }
 

@@ -1,5 +1,5 @@
-//! The check as a library: an image that lies in memory is checked, its report is kept in memory too, and both are printed with
-//! how the check ended.
+//! The check as a library: an image that lies in memory is checked, its report is kept in memory
+//! too, and both are printed with how the check ended.
 #![tactic(auto)]
 
 use ffs_check::args::Args;

@@ -17,7 +17,7 @@ use ffs_layout::{Geometry, Group, GroupSummary};
 use ffs_maps::FragmentMap;
 use ffs_volume::constants::CG_MAGIC;
 
-/// What is found in the records of a group: each is true where nothing is wrong.
+/// What is found in the records of a group: each field is true where nothing is wrong.
 #[derive(Clone, Copy, Debug)]
 pub struct Findings {
     /// The group block has its magic number. Where it has not, its maps and sums are not looked at.
@@ -30,7 +30,8 @@ pub struct Findings {
     pub sums: bool,
 }
 
-// Whether a number of an image is the right one, which is below 2^31: its bits are those of the right one.
+// Whether a number of an image is the right one, which is below 2^31: its bits are those of the
+// right one.
 #[tactic(auto, unfolding(crate::specs::Check::has_bits_of))]
 fn is_right(found: i32, right: u32) -> bool
     ensures { result ≡ has_bits_of found right }
@@ -110,7 +111,8 @@ fn sums_are_right(geometry: &Geometry, counts: &Counts, group: u32, found: &Grou
         && same_runs(&found.frsum, &counts.runs)
 }
 
-/// What is found in the records of a group: its 16 bytes of the summary area, and its group block (fs(5)).
+/// What is found in the records of a group: its 16 bytes of the summary area, and its group block
+/// (fs(5)).
 pub fn compare_group(
     geometry: &Geometry,
     used: &FragmentMap,

@@ -14,6 +14,7 @@ use ffs_maps::FragmentMap;
 /// What the counts of a group's summary should be.
 #[derive(Clone, Copy, Debug)]
 pub struct SummaryCounts {
+    /// Directories.
     pub dirs: u32,
     /// Blocks of which all fragments are free.
     pub blocks: u32,
@@ -26,8 +27,9 @@ pub struct SummaryCounts {
 /// What a group's summary and its counts of runs should be.
 #[derive(Clone, Copy, Debug)]
 pub struct Counts {
+    /// The counts of its summary.
     pub summary: SummaryCounts,
-    /// How many runs of so many free fragments there are, within blocks that are not all free, by length.
+    /// At index k, how many runs of exactly k free fragments lie in blocks that are not all free.
     pub runs: [u64; 9],
 }
 

@@ -38,7 +38,7 @@ pub struct FreeCounts {
     pub blocks: u64,
     /// Free fragments in other blocks.
     pub fragments: u64,
-    /// How many runs of so many free fragments the other blocks have, by length.
+    /// How many runs of exactly k free fragments the other blocks have, at index k.
     pub runs: [u64; 9],
 }
 
@@ -149,8 +149,8 @@ impl FreeCounts {
     }
 }
 
-/// What is free in a group: the fragments below the volume's size that are not used. Only the group's blocks that the volume
-/// has are looked at.
+/// What is free in a group: the fragments below the volume's size that are not used. Only the
+/// group's blocks that the volume has are looked at.
 pub fn free_counts(geometry: &Geometry, used: &FragmentMap, group: u32) -> FreeCounts
     requires { HasFragments geometry.now.layout used.now.size group }
     ensures { AreFree geometry.now.layout

@@ -13,7 +13,9 @@ use ffs_volume::constants::{DT_DIR, EMPTY_DIR};
 /// How many inodes of a group are directories, and how many are free.
 #[derive(Clone, Copy, Debug)]
 pub struct InodeCounts {
+    /// Directories.
     pub dirs: u32,
+    /// Free inodes.
     pub free: u32,
 }
 
@@ -57,7 +59,8 @@ pub fn are_used(kinds: &[u8]) -> Option<bool>
 /// How many inodes are counted in bytes, before the counts are added up: fewer than 256.
 const INODES_AT_ONCE: usize = 192;
 
-// How many of a few inodes are directories, and how many are free. A byte holds each, so that the compiler counts many at once.
+// How many of a few inodes are directories, and how many are free. A byte holds each, so that the
+// compiler counts many at once.
 #[derive(Clone, Copy)]
 struct FewCounts {
     dirs: u8,

@@ -1,8 +1,8 @@
-//! What the records of a cylinder group should be, counted from a map of used fragments and the kinds of
-//! inodes, and whether they are.
+//! The right records of a cylinder group, counted from a map of used fragments and the kinds of
+//! inodes, and the comparison of the image's records with them.
 //!
-//! `group_counts` counts what is right of a group, and `compare_group` finds where its group block and its
-//! summary record differ from it.
+//! `group_counts` counts what is right of a group, and `compare_group` finds where its group block
+//! and its summary record differ from it.
 //!
 //! ```text
 //! let counts = group_counts(&geometry, &used, kinds, group);

@@ -21,7 +21,8 @@ use ffs_maps::FragmentMap;
 /// How many words are looked at together.
 const WORDS_AT_ONCE: u32 = FRAGMENTS_AT_ONCE / 64;
 
-// The bits in some bytes of a map, the first one lowest. Most words are whole, and are read at once.
+// The bits in some bytes of a map, the first one lowest. Most words are whole, and are read at
+// once.
 fn word_at(map: &[u8], place: usize, bytes: usize) -> u64
     requires bytes { bytes ≤ 8 }
     requires inside { place + bytes ≤ length map.now }
@@ -128,7 +129,8 @@ pub fn group_fragments(geometry: &Geometry, group: u32) -> u32
         .min(geometry.layout.size - geometry.cgbase(group))
 }
 
-// Whether whole words of a map have one bit for each fragment. No word ends the loop, so that some are compared at a time.
+// Whether whole words of a map have one bit for each fragment. No word ends the loop, so that some
+// are compared at a time.
 fn are_filled(block: &[u8], place: usize, words: u32, bit: bool) -> bool
     requires { place + 8 * words ≤ length block.now }
     ensures { result ≡ has_bits block.now place (64 * words) (λ _. bit) }
@@ -197,7 +199,8 @@ fn same_stretches(used: &FragmentMap, base: u32, block: &[u8], place: usize, wor
     true
 }
 
-/// Whether the map of fragments at a byte of a group block has the bits of the fragments that are free.
+/// Whether the map of fragments at a byte of a group block has the bits of the fragments that are
+/// free.
 pub fn same_fragment_map(
     geometry: &Geometry,
     used: &FragmentMap,

@@ -1,4 +1,4 @@
-// An image in a file.
+//! An image in a file.
 ghost use Rattle.std.specs.Prelude.{◌≡◌, IfOk};
 
 use crate::image::{Image, ImageFault};
@@ -23,8 +23,10 @@ pub struct SourceImage<S> {
 pub type FileImage = SourceImage<OpenedFile>;
 
 impl SourceImage<OpenedFile> {
-    /// Opens a file for reading, and takes its size once: that of a block device too. A FIFO is refused, since its opening
-    /// would wait for a writer.
+    /// Opens a file for reading, and takes its size once: that of a block device too.
+    ///
+    /// # Errors
+    /// The file can't be opened, or is a FIFO, whose opening would wait for a writer.
     pub fn open<R: Files<File = File>>(files: &R, path: &str) -> Result<FileImage, OpenFault>
         ensures { IfOk result (λ image. (image.source.failures ≡ 0) × (image.failed ≡ 0)) }
     {

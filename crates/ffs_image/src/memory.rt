@@ -1,9 +1,10 @@
-// An image in memory.
+//! An image in memory.
 ghost use Rattle.std.specs.Prelude.{◌≡◌};
 
 use crate::image::{Image, ImageFault};
 use std::marker::Model;
 
+/// An image whose bytes are in memory. None of its reads fails.
 #[derive(Drop)]
 pub struct MemoryImage {
     bytes: Vec<u8>,
@@ -19,6 +20,7 @@ impl Model for MemoryImage {
 }
 
 impl MemoryImage {
+    /// The image of these bytes.
     pub fn new(bytes: Vec<u8>) -> MemoryImage
         ensures { result ≡ bytes.items }
     {

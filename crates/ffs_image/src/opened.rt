@@ -1,4 +1,4 @@
-// A file that is open for reading alone.
+//! A file that is open for reading alone.
 ghost use Rattle.std.specs.Prelude.{◌≡◌, length, IfOk, IfSome};
 ghost use Rattle.ffs_image.specs.Device.{Rose};
 
@@ -10,7 +10,8 @@ use std::os::unix::fs::{FileExt, FileTypeExt};
 use std::rt::Files;
 use std::{fs, io};
 
-/// A file that was opened for reading. What holds one can take its size and read it at a place, and nothing else.
+/// A file that was opened for reading. What holds one can take its size and read it at a place, and
+/// nothing else.
 #[derive(Drop)]
 pub struct OpenedFile {
     file: File,
@@ -27,8 +28,8 @@ fn end_of<S: Seek>(file: &mut S) -> io::Result<u64>
 }
 
 impl OpenedFile {
-    /// Opens a file for reading, and takes its size once. A FIFO, whose opening waits for a writer, is refused; what can't
-    /// seek has no bytes.
+    /// Opens a file for reading, and takes its size once. A FIFO, whose opening waits for a writer,
+    /// is refused; what can't seek has no bytes.
     pub(crate) fn open<R: Files<File = File>>(
         files: &R,
         path: &str,

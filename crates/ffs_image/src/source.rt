@@ -1,4 +1,4 @@
-// Where an image's bytes come from, and how a buffer is filled from there.
+//! Where an image's bytes come from, and how a buffer is filled from there.
 ghost use Rattle.std.specs.Prelude.{◌≡◌, ◌+◌, ◌<◌, ◌^◌, length, IfSome};
 ghost use Rattle.ffs_image.specs.Source.{Fills, GivesSome, Stock};
 
@@ -8,6 +8,7 @@ pub struct SourceFault;
 
 /// What can be read at a place, and nothing else.
 pub trait Source {
+    /// What is known of it: its bytes, where it gives them, its size, and how many reads failed.
     ghost stock: { Self → Stock };
 
     /// Its size in bytes.
@@ -18,11 +19,15 @@ pub trait Source {
     fn failures(&self) -> u64
         ensures { result ≡ (stock self.now).failures };
 
-    /// Reads some of the bytes at a place, at least one, and answers how many. An `Err` is counted once.
+    /// Reads some of the bytes at a place, at least one, and returns how many.
+    ///
+    /// # Errors
+    /// The read failed, or gave nothing. It is counted once.
     fn read_some(&mut self, at: u64, buf: &mut [u8]) -> Result<usize, SourceFault>
         requires { 0 < length buf.old }
         ensures { GivesSome (stock self.old) (stock self.new) at buf.new result };
 
+    /// Where it gives its bytes, its size is their number.
     ghost sized: { (source : Self) → IfSome (stock source).contents
         (λ b. length b ≡ (stock source).size) };
 }

@@ -18,7 +18,8 @@ fn is_valid_record_length(place: usize, len: u16) -> bool
     len % 4 == 0 && 8 <= len && place + usize::from(len) <= DIRBLKSIZ
 }
 
-// Whether one of a few bytes is NUL or `/`. All are looked at, with no test that ends the loop: the machine takes them at once.
+// Whether one of a few bytes is NUL or `/`. All are looked at, with no test that ends the loop: the
+// machine takes them at once.
 #[inline]
 fn has_mark_at_once<const N: usize>(part: &[u8; N]) -> bool
     ensures { result ≡ has_mark part.now }
@@ -43,8 +44,8 @@ fn has_mark_of_three(bytes: &[u8]) -> bool
     false
 }
 
-// Whether one of at most eight bytes is NUL or `/`: of the first four or the last four, which have some in common where they are
-// fewer than eight.
+// Whether one of at most eight bytes is NUL or `/`: of the first four or the last four, which have
+// some in common where they are fewer than eight.
 #[inline]
 fn has_mark_of_eight(bytes: &[u8]) -> bool
     requires { length bytes.now ≤ 8 }
@@ -59,7 +60,8 @@ fn has_mark_of_eight(bytes: &[u8]) -> bool
     has_mark_at_once(first) || has_mark_at_once(last)
 }
 
-// Whether a byte is NUL or `/`, as none of a name is. The last eight bytes may have some in common with those before.
+// Whether a byte is NUL or `/`, as none of a name is. The last eight bytes may have some in common
+// with those before.
 #[inline]
 fn has_nul_or_slash(bytes: &[u8]) -> bool
     ensures { result ≡ (list_any (λ b. b == 0) bytes.now || list_any (λ b. b == 47) bytes.now) }
@@ -134,8 +136,9 @@ fn entry_of(order: Order, chunk: &[u8; DIRBLKSIZ], place: usize) -> Option<Entry
 
 /// The well formed entry at a place of a chunk, and None where none is there (dir(5)).
 ///
-/// At byte 0 is the number (u32), at 4 the record's length (u16), at 6 the type (u8), at 7 the name's
-/// length (u8), from 8 on the name and a NUL. The name of an entry with the number 0 is empty.
+/// At byte 0 is the number (u32), at 4 the record's length (u16), at 6 the type (u8), at 7 the
+/// name's length (u8), from 8 on the name and a NUL. The name of an entry with the number 0 is
+/// empty.
 #[inline(always)]
 pub fn entry_at(order: Order, chunk: &[u8; DIRBLKSIZ], place: usize) -> Option<Entry<'_>>
     requires { place ≤ 512 }

@@ -2,7 +2,8 @@
 
 ghost use Rattle.std.specs.Prelude.{◌≤◌, length as length_of};
 
-/// An entry of a directory (dir(5), `struct direct`). Its name lies in the chunk; an entry with the number 0 has none.
+/// An entry of a directory (dir(5), `struct direct`). Its name lies in the chunk; an entry with the
+/// number 0 has none.
 #[derive(Clone, Copy, Debug)]
 pub struct Entry<'a> {
     /// The inode that it names, or 0.
@@ -11,6 +12,7 @@ pub struct Entry<'a> {
     pub length: u16,
     /// The type of the inode, as the upper four bits of a mode.
     pub kind: u8,
+    /// The name, without the NUL after it.
     pub name: &'a [u8],
     ghost short: { length_of name.now ≤ 255 },
 }

@@ -4,7 +4,8 @@ ghost use Rattle.std.specs.Prelude.{◌≡◌};
 
 use crate::geometry::Geometry;
 
-/// Each reader's documentation gives the place in the superblock, in bytes, and the width of the field that it reads.
+/// Each reader's documentation gives the place in the superblock, in bytes, and the width of the
+/// field that it reads.
 impl Geometry {
     /// How many fragments after `cgstart` a group's copy of the superblock is (place 8, i32).
     pub fn sblkno(&self) -> u32
@@ -34,7 +35,8 @@ impl Geometry {
         self.layout.dblkno
     }
 
-    /// By how many fragments the parts of a group are moved, for each cylinder position (place 24, i32).
+    /// By how many fragments the parts of a group are moved, for each cylinder position (place 24,
+    /// i32).
     pub fn cgoffset(&self) -> i32
         ensures { result ≡ self.now.layout.cgoffset }
     {

@@ -13,9 +13,11 @@ use ffs_volume::{Layout, Order, SuperFault};
 
 /// A layout that is accepted: each value of this type meets the rules of a superblock (fs(5)).
 ///
-/// Fragments are numbered from the start of the volume. A group is a cylinder group, numbered from 0.
+/// Fragments are numbered from the start of the volume. A group is a cylinder group, numbered from
+/// 0.
 #[derive(Clone, Copy, Debug)]
 pub struct Geometry {
+    /// The numbers of the superblock.
     pub layout: Layout,
     pub ghost sound: { IsAcceptedLayout layout },
 }
@@ -23,7 +25,8 @@ pub struct Geometry {
 impl Geometry {
     /// The layout as a geometry, in an image of `image_size` bytes.
     ///
-    /// Errors: the first rule that refuses it.
+    /// # Errors
+    /// The first rule of a layout that refuses it.
     #[tactic(auto, using(ffs_volume::proofs::GeometryLaws::geometry_holds))]
     pub fn new(layout: Layout, image_size: u64) -> Result<Geometry, SuperFault>
         ensures { MatchResult result (λ g. IsAccepted layout image_size g.layout)
@@ -105,7 +108,8 @@ impl Geometry {
             + DINODE_SIZE as u64 * u64::from(inode % self.layout.ipg)
     }
 
-    // Whether the fragment lies in the part that its group keeps for itself.
+    // Whether the fragment is metadata of its group: the copy of the superblock, the group block
+    // and the inodes.
     #[tactic(auto, using(ffs_volume::proofs::AreaLaws::is_kept_group, ffs_volume::proofs::AreaLaws::group_below))]
     fn is_group_metadata(&self, fragment: u32) -> bool
         requires { fragment < self.now.layout.size }
@@ -115,7 +119,7 @@ impl Geometry {
         self.cgsblock(group) <= fragment && fragment < self.cgdmin(group)
     }
 
-    /// Whether the fragment can belong to a file: it is in the volume, and no group keeps it for itself.
+    /// Whether the fragment is in range: it is in the volume, and no group's metadata.
     #[tactic(auto, unfolding(ffs_volume::specs::Disk::Areas::is_fragment_in_range))]
     pub fn ok(&self, fragment: u64) -> bool
         ensures { result ≡ is_fragment_in_range self.now.layout fragment }
@@ -123,7 +127,7 @@ impl Geometry {
         fragment < u64::from(self.layout.size) && !self.is_group_metadata(fragment as u32)
     }
 
-    /// Whether all fragments of the run can belong to a file, and are of one group.
+    /// Whether the run is in range: all its fragments are, and are of one group.
     #[tactic(auto, using(ffs_volume::proofs::RunLaws::in_range_is, ffs_volume::proofs::AreaLaws::group_below), unfolding(ffs_volume::specs::Disk::Areas::cgbase))]
     pub fn in_range(&self, start: u32, len: u32) -> bool
         requires { 0 < len }
@@ -138,7 +142,8 @@ impl Geometry {
         end <= limit && (end <= u64::from(self.cgsblock(group)) || self.cgdmin(group) <= start)
     }
 
-    /// Whether the fragment is in use before any file is: boot area, summary area, or kept by a group.
+    /// Whether the fragment is reserved: in the boot area, in the summary area, or metadata of a
+    /// group.
     #[tactic(auto, using(ffs_volume::proofs::AreaLaws::kept_below), unfolding(ffs_volume::specs::Disk::Areas::is_reserved))]
     pub fn reserved(&self, fragment: u64) -> bool
         ensures { result ≡ is_reserved self.now.layout fragment }

@@ -11,6 +11,7 @@ use ffs_volume::Order;
 /// The counts of a summary, as an image has them (fs(5), `struct csum`).
 #[derive(Clone, Copy, Debug, PartialEq, Eq)]
 pub struct GroupSummary {
+    /// Directories.
     pub dirs: i32,
     /// Blocks of which all fragments are free.
     pub blocks: i32,
@@ -21,7 +22,8 @@ pub struct GroupSummary {
 }
 
 impl GroupSummary {
-    /// The summary in its 16 bytes at `place`: directories, free blocks, free inodes, free fragments.
+    /// The summary in its 16 bytes at `place`: directories, free blocks, free inodes, free
+    /// fragments.
     pub fn decode(order: Order, place: usize, bytes: &[u8]) -> GroupSummary
         requires { place + 16 ≤ length bytes.now }
         ensures { result ≡ summary_of order place bytes.now }
@@ -44,6 +46,7 @@ pub struct Group {
     pub cgx: i32,
     /// How many fragments the group has.
     pub ndblk: i32,
+    /// Its summary: directories, free blocks, free inodes and free fragments.
     pub cs: GroupSummary,
     /// How many runs of exactly k free fragments there are, within blocks that are not all free.
     pub frsum: [i32; 8],
@@ -56,9 +59,9 @@ pub struct Group {
 impl Group {
     /// The numbers in the first 168 bytes of a group block.
     ///
-    /// At byte 4 is the magic number, at 12 the group's number, at 20 the number of its fragments, at 24 the
-    /// summary, at 52 the eight counts of runs, at 92 and 96 the places of the maps. Each number has 32 bits; all but the
-    /// magic number and the places are signed.
+    /// At byte 4 is the magic number, at 12 the group's number, at 20 the number of its fragments,
+    /// at 24 the summary, at 52 the eight counts of runs, at 92 and 96 the places of the maps. Each
+    /// number has 32 bits; all but the magic number and the places are signed.
     pub fn decode(order: Order, bytes: &[u8]) -> Group
         requires { 168 ≤ length bytes.now }
         ensures { result ≡ group_of order bytes.now }

@@ -10,9 +10,9 @@ use ffs_volume::{Inode, Order};
 
 /// The inode in the first 128 bytes (fs(5), `struct dinode`).
 ///
-/// At byte 0 is the mode (u16), at 2 the link count (i16), at 8 the size in bytes (u64), at 24 the time of
-/// modification in seconds (i32), from 40 on twelve direct and three indirect addresses (u32 each), at 104
-/// the blocks in sectors of 512 bytes (u32), at 112 the owner (u32).
+/// At byte 0 is the mode (u16), at 2 the link count (i16), at 8 the size in bytes (u64), at 24 the
+/// time of modification in seconds (i32), from 40 on twelve direct and three indirect addresses
+/// (u32 each), at 104 the blocks in sectors of 512 bytes (u32), at 112 the owner (u32).
 #[inline(always)]
 pub fn decode_inode(order: Order, bytes: &[u8]) -> Inode
     requires { 128 ≤ length bytes.now }

@@ -1,8 +1,8 @@
-//! The parts of a UFS1 volume, decoded from bytes: the superblock and its geometry, inodes, group blocks
-//! and entries of directories (fs(5), dir(5)).
+//! The parts of a UFS1 volume, decoded from bytes: the superblock and its geometry, inodes, group
+//! blocks and entries of directories (fs(5), dir(5)).
 //!
-//! `read_super` answers the accepted superblock, or the first fault in the stated order. Each decoded
-//! value is the definition's value of the bytes, in both byte orders.
+//! `read_super` returns the accepted superblock, or the first fault in the stated order. Each
+//! decoded value is the definition's value of the bytes, in both byte orders.
 //!
 //! ```text
 //! let superblock = read_super(&mut image, None)?;

@@ -90,10 +90,11 @@ fn read_copy<I: Image>(
 /// A superblock that is accepted (fs(5), `struct fs`).
 #[derive(Clone, Copy, Debug)]
 pub struct Super {
+    /// Its layout.
     pub geometry: Geometry,
     /// What a write is to save: 0 time, 1 space.
     pub optim: i32,
-    /// How many per cent of the volume are to stay free.
+    /// The percentage of blocks that are to stay free.
     pub minfree: i32,
     /// Directories, free blocks, free inodes and free fragments of the volume.
     pub cstotal: [i32; 4],
@@ -119,7 +120,8 @@ impl Super {
         0 <= self.minfree && self.minfree <= 99
     }
 
-    /// Whether a setting is not one that it may be, which the opening reports as a defect.
+    /// Whether `optim` or `minfree` has a value that it may not have: the opening reports a defect
+    /// then.
     pub fn opening_defects(&self) -> bool
         ensures { result
             ≡ not (has_valid_optim (seen self.now) && has_valid_minfree (seen self.now)) }
@@ -185,7 +187,11 @@ fn first_sector(sector: Option<u32>) -> u32
     sector.unwrap_or(PRIMARY_SECTOR)
 }
 
-/// The superblock at a sector, or the primary one.
+/// Reads the superblock at a sector of 512 bytes, or the primary one. Where no sector is asked for,
+/// it is compared with the copy in the last group.
+///
+/// # Errors
+/// The first fault, in the order of `SuperFault`.
 pub fn read_super<I: Image>(image: &mut I, sector: Option<u32>) -> Result<Super, SuperFault>
     // An accepted volume lies within the image.
     ensures in_image { IfOk result
@@ -195,7 +201,8 @@ pub fn read_super<I: Image>(image: &mut I, sector: Option<u32>) -> Result<Super,
     ensures unread { IfErr result (λ fault. (at : ℕ) → fault ≡ SuperFault.CannotRead at
         → IsUnread (I.device image.old) (I.device image.new) sector at) }
 
-    // A failed read is answered, by its sector. With none, the answer is the outcome, where the bytes are given.
+    // A failed read is returned, by its sector. With none, the result is the outcome, where the
+    // bytes are given.
     ensures answer { Answers (I.device image.old) (I.device image.new) sector (found_of result) }
 {
     let start = u64::from(first_sector(sector)) * DEV_BSIZE;

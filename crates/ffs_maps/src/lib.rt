@@ -8,7 +8,7 @@
 //! let claimed_at_once = claimed.claim(start, len);
 //! ```
 //!
-//! It rests on no other crate of this repository.
+//! It rests on `ffs_memory`.
 #![tactic(auto)]
 
 ghost use Rattle.std.specs.Prelude.{ℕ, nat_eq, ◌≡◌, ◌+◌, ◌*◌, ◌%◌, ◌<◌, ◌≤◌, ◌-◌, vec_len, length, IfOk, true, false, slice_set, replicate, count_by};
@@ -32,6 +32,9 @@ impl FragmentMap {
     ghost use Rattle.ffs_maps.specs.Bits.{bits_of, set_run, is_clear, HasBits, IsInWord, Claims};
 
     /// A map with no bit set, in the memory of an allocator.
+    ///
+    /// # Errors
+    /// The memory was refused.
     pub fn new(alloc: Global, size: u32) -> Result<FragmentMap, AllocError>
         ensures { IfOk result (λ m. HasBits m size (replicate size false)) }
     {
@@ -39,6 +42,9 @@ impl FragmentMap {
     }
 
     /// A map with no bit set.
+    ///
+    /// # Errors
+    /// The memory was refused.
     pub fn in_memory<M: Memory>(memory: &mut M, size: u32) -> Result<FragmentMap, AllocError>
         ensures made { IfOk result (λ m. HasBits m size (replicate size false)) }
         ensures asks { Asks (M.account memory.old) (M.account memory.new) (8 * div_ceil size 64)
@@ -64,7 +70,8 @@ impl FragmentMap {
         word >> (fragment % 64) & 1 == 1
     }
 
-    /// Which of the 64 fragments from one on are of the map and have a clear bit, the first one lowest.
+    /// Which of the 64 fragments from `start` on are of the map and have a clear bit, the first one
+    /// lowest.
     pub fn clear_bits(&self, start: u64) -> u64
         ensures { (k : ℕ) → k < 64 → nat_eq (bit_at result k) 1
             ≡ is_clear (bits_of self.now) self.now.size (start + k) }
@@ -189,7 +196,8 @@ impl FragmentMap {
         }
     }
 
-    /// Sets the bits of a run that lies in one word, where none of them is set. The answer says whether it did.
+    /// Sets the bits of a run that lies in one word, where none of them is set. Returns whether it
+    /// did.
     pub fn claim(&mut self, start: u32, len: u32) -> bool
         requires some { 0 < len }
         requires below { start + len ≤ self.old.size }

@@ -1,4 +1,4 @@
-// Lists that hold one value until another is set.
+//! Lists that hold one value until another is set.
 ghost use Rattle.std.specs.Prelude.{◌≡◌, ◌<◌, ◌≤◌, IfOk, slice_index_or, vec_len};
 ghost use Rattle.ffs_memory.specs.Account.{IsFilled};
 ghost use Rattle.ffs_memory.specs.Filled.{Sets, Fills, SortsPart};
@@ -8,8 +8,8 @@ use std::alloc::{AllocError, Global};
 use std::marker::Model;
 use std::ops::Index;
 
-/// A list each of whose elements is one value until another is set. Its memory is taken when it is made, and stays as it
-/// was; what lies after the last element that was set isn't written.
+/// A list each of whose elements is one value until another is set. Its memory is taken when it is
+/// made, and stays as it was; what lies after the last element that was set isn't written.
 #[derive(Drop)]
 pub struct FilledList<T> {
     /// The elements that are touched. They are in memory for all.
@@ -30,7 +30,7 @@ impl<T> Model for FilledList<T> {
 }
 
 impl<T: Copy> FilledList<T> {
-    /// So many elements, each the same.
+    /// `count` elements, each the same.
     pub(crate) fn new(alloc: Global, count: usize, value: T) -> Result<FilledList<T>, AllocError>
         ensures { IfOk result (IsFilled count value) }
     {
@@ -49,7 +49,8 @@ impl<T: Copy> FilledList<T> {
         self.touched.capacity()
     }
 
-    /// Sets the element at an index. The elements up to it are touched, in the memory that was taken.
+    /// Sets the element at an index. The elements up to it are touched, in the memory that was
+    /// taken.
     #[inline(always)]
     pub fn set(&mut self, index: usize, value: T)
         requires { index < vec_len self.old }
@@ -69,8 +70,8 @@ impl<T: Copy> FilledList<T> {
 }
 
 impl FilledList<u32> {
-    /// Puts the elements from one index to before another into ascending order. The elements up to there are touched, in
-    /// the memory that was taken.
+    /// Puts the elements from one index to before another into ascending order. The elements up to
+    /// there are touched, in the memory that was taken.
     pub fn sort_part(&mut self, from: usize, to: usize)
         requires { (from ≤ to) × (to ≤ vec_len self.old) }
         ensures { SortsPart self.old self.new from to }

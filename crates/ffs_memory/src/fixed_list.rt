@@ -1,12 +1,12 @@
-// Lists whose length and memory stay as they were made.
+//! Lists whose length and memory stay as they were made.
 ghost use Rattle.std.specs.Prelude.{◌≡◌, ◌<◌, length, slice_index_or, vec_len};
 ghost use Rattle.std.specs.Borrow.{sem};
 
 use std::marker::Model;
 use std::ops::{DerefSlice, DerefSliceMut, Index, IndexMut};
 
-/// A list whose elements change and whose length and memory do not: it lends its elements, and gives out neither its
-/// `Vec` nor an allocator, so nobody can make it grow.
+/// A list whose elements change and whose length and memory do not: it lends its elements, and
+/// gives out neither its `Vec` nor an allocator, so nobody can make it grow.
 #[derive(Drop)]
 pub struct FixedList<T> {
     items: Vec<T>,

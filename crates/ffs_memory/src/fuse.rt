@@ -1,4 +1,4 @@
-// A memory that refuses a request where it is reported to.
+//! A memory that refuses a request where it is asked to.
 ghost use Rattle.std.specs.Prelude.{◌≡◌, ◌+◌, ◌-◌, ◌*◌, ◌^◌, min, if◌then◌else◌, false};
 ghost use Rattle.ffs_memory.specs.Fuse.{Serves, ServesWords, IsFused, is_blown, left_after};
 
@@ -8,7 +8,8 @@ use crate::memory::Memory;
 use crate::zeroed_words::ZeroedWords;
 use std::alloc::AllocError;
 
-/// A memory that passes requests on to another one, and refuses one of them: for tests of what a refusal leaves.
+/// A memory that passes requests on to another one, and refuses one of them: for tests of what a
+/// refusal leaves.
 #[derive(Drop)]
 pub struct FuseMemory<M> {
     inner: M,

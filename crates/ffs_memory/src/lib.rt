@@ -1,4 +1,17 @@
-//! The memory of a check: what grants it, and what counts it.
+//! The memory of a check: what grants it and counts it, and lists that can't grow.
+//!
+//! A `Memory` grants lists of a fixed length, and counts the bytes granted and the requests
+//! refused. A `FixedList` lends its elements; a `FilledList` and `ZeroedWords` hold one value, or
+//! 0, until an element is set, and their memory is touched only up to the last element that was
+//! set. A `FuseMemory` refuses one request of another memory, for tests.
+//!
+//! ```text
+//! let mut memory = SystemMemory::new(alloc);
+//! let mut cut = memory.numbers(inodes)?;
+//! cut.set(number, kept);
+//! ```
+//!
+//! It rests on no other crate of this repository.
 #![tactic(auto)]
 
 mod filled_list;

@@ -1,4 +1,4 @@
-// What grants memory, by what it answers.
+//! What grants memory, and what it grants.
 ghost use Rattle.std.specs.Prelude.{◌≡◌, ◌*◌, false};
 ghost use Rattle.ffs_memory.specs.Account.{Account, Gives, GivesWords};
 
@@ -7,8 +7,10 @@ use crate::fixed_list::FixedList;
 use crate::zeroed_words::ZeroedWords;
 use std::alloc::AllocError;
 
-/// What grants the memory of a check, and counts what it granted and how often it refused. A refusal grants nothing.
+/// What grants the memory of a check, and counts what it granted and how often it refused. A
+/// refusal grants nothing.
 pub trait Memory {
+    /// How many bytes it has granted, and how many requests it has refused.
     ghost account: { Self → Account };
 
     /// How many bytes it has granted, up to the last u64.
@@ -19,23 +21,41 @@ pub trait Memory {
     fn refused(&self) -> u64
         ensures { result ≡ (account self.now).refused };
 
-    /// So many bytes, each 0.
+    /// Grants `n` bytes, each 0.
+    ///
+    /// # Errors
+    /// The memory was refused.
     fn bytes(&mut self, n: usize) -> Result<FixedList<u8>, AllocError>
         ensures { Gives (account self.old) (account self.new) n n 0 result };
 
-    /// So many flags of a byte each, all false.
+    /// Grants `n` flags of a byte each, all false.
+    ///
+    /// # Errors
+    /// The memory was refused.
     fn flags(&mut self, n: usize) -> Result<FixedList<bool>, AllocError>
         ensures { Gives (account self.old) (account self.new) n n false result };
 
-    /// So many numbers of 32 bits, each 0: their memory is taken at once, and none of it is written yet.
+    /// Grants `n` numbers of 32 bits, each 0: their memory is taken at once, and none of it is
+    /// written yet.
+    ///
+    /// # Errors
+    /// The memory was refused.
     fn numbers(&mut self, n: usize) -> Result<FilledList<u32>, AllocError>
         ensures { Gives (account self.old) (account self.new) n (4 * n) 0 result };
 
-    /// So many numbers of 64 bits, each 0: their memory is taken at once, and none of it is written yet.
+    /// Grants `n` numbers of 64 bits, each 0: their memory is taken at once, and none of it is
+    /// written yet.
+    ///
+    /// # Errors
+    /// The memory was refused.
     fn long_numbers(&mut self, n: usize) -> Result<FilledList<u64>, AllocError>
         ensures { Gives (account self.old) (account self.new) n (8 * n) 0 result };
 
-    /// So many words of 64 bits, each 0: their memory is taken at once, and none of it is written yet.
+    /// Grants `n` words of 64 bits, each 0: their memory is taken at once, and none of it is
+    /// written yet.
+    ///
+    /// # Errors
+    /// The memory was refused.
     fn zeroed_words(&mut self, n: usize) -> Result<ZeroedWords, AllocError>
         ensures { GivesWords (account self.old) (account self.new) n result };
 }

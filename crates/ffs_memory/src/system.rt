@@ -1,4 +1,4 @@
-// The memory of the system.
+//! The memory of the system.
 ghost use Rattle.std.specs.Prelude.{◌≡◌, ◌+◌, ◌-◌, ◌*◌, ◌^◌, min};
 
 use crate::filled_list::FilledList;

@@ -1,4 +1,4 @@
-// The elements of a list that are written.
+//! The elements of a list that are written.
 ghost use Rattle.std.specs.Prelude.{◌<◌, vec_capacity};
 ghost use Rattle.ffs_memory.specs.Words.{Touches};
 

@@ -1,4 +1,4 @@
-// Words that are 0 until they are set.
+//! Words that are 0 until they are set.
 ghost use Rattle.std.specs.Prelude.{ℕ, ◌≡◌, ◌<◌, ◌≤◌, IfOk, length, replicate, slice_set};
 ghost use Rattle.std.specs.List.{slice_index_or};
 ghost use Rattle.ffs_memory.specs.Words.{ClaimsBits};
@@ -7,8 +7,8 @@ use crate::touching::touch;
 use std::alloc::{AllocError, Global};
 use std::marker::Model;
 
-/// Words of 64 bits that are 0 until they are set. Their memory is taken when they are made; what lies after the last word
-/// that was set or claimed isn't written.
+/// Words of 64 bits that are 0 until they are set. Their memory is taken when they are made; what
+/// lies after the last word that was set or claimed isn't written.
 #[derive(Drop)]
 pub struct ZeroedWords {
     /// The words that are touched. All after them are 0.
@@ -35,7 +35,7 @@ impl Model for ZeroedWords {
 }
 
 impl ZeroedWords {
-    /// So many words, each 0.
+    /// `count` words, each 0.
     pub(crate) fn new(alloc: Global, count: usize) -> Result<ZeroedWords, AllocError>
         ensures { IfOk result (λ made. made.list ≡ replicate count 0) }
     {
@@ -83,7 +83,8 @@ impl ZeroedWords {
         self.touched[index] = word;
     }
 
-    /// Sets the bits of a mask in the word at an index, where none of them is set there. The answer says whether it did.
+    /// Sets the bits of a mask in the word at an index, where none of them is set there. Returns
+    /// whether it did.
     #[inline(always)]
     pub fn claim(&mut self, index: usize, mask: u64) -> bool
         requires { index < length self.old.list }

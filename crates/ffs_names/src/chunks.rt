@@ -19,15 +19,19 @@ use ffs_volume::constants::{DIRBLKSIZ, MINDIRSIZE};
 use ffs_volume::{Class, Inode, Step};
 use ffs_walk::{Blocks, Walk, Window, class_of};
 
-/// A reading of the chunks of a directory (dir(5)), in the order of the file: those of its Runs of data that are kept.
+/// A reading of the chunks of a directory (dir(5)), in the order of the file: those of its Runs of
+/// data that are kept.
 #[derive(Clone, Copy, Debug)]
 pub struct Chunks {
+    /// The walk over the blocks of the directory.
     pub walk: Walk,
+    /// Which of its steps are kept, so far.
     pub keeping: Keeping,
     /// How many bytes of the directory are read.
     pub taken: u64,
     /// At most how many chunks are still to come.
     pub budget: u32,
+    /// The chunks of the current Run.
     pub run_cursor: RunCursor,
     /// How many Runs were looked at.
     pub runs: u64,
@@ -64,7 +68,8 @@ impl Chunks {
         }
     }
 
-    /// Moves on to a Run with a chunk, if the current Run has none left. The answer says whether there is one.
+    /// Moves on to a Run with a chunk, if the current Run has none left. Returns whether there is
+    /// one.
     fn advance<I: Image>(&mut self, image: &mut I, blocks: &mut Blocks) -> Result<bool, ImageFault>
         requires { CanWalkDir self.old.walk.geometry.layout (I.device image.old) blocks.old }
         ensures continues { OnOk result (ForContents (I.device image.old).contents
@@ -127,7 +132,8 @@ impl Chunks {
         Ok(Some(run_cursor.offset + DIRBLKSIZ as u64 * u64::from(run_cursor.next)))
     }
 
-    /// A reading of the directory with this inode, of which no offer is kept after the cut (0 for none).
+    /// A reading of the directory with this inode. `cut` is how many offers it keeps where its
+    /// eleventh dup offer cut it, else 0.
     #[inline(always)]
     pub fn start(geometry: &Geometry, inode: &Inode, cut: u32) -> Chunks
         ensures begins { BeginsAt geometry.now.layout inode.now cut result }
@@ -155,7 +161,8 @@ impl Chunks {
         }
     }
 
-    /// Begins a reading of another directory of the same volume, as `of_class` does, in place, if this is its class.
+    /// Begins a reading of another directory of the same volume, as `of_class` does, in place, if
+    /// this is its class.
     #[inline(always)]
     pub fn restart(&mut self, inode: &Inode, class: Class, cut: u32)
         ensures begins { class ≡ inodes.class_of self.old.walk.geometry.layout inode.now
@@ -172,8 +179,8 @@ impl Chunks {
         self.gap = false;
     }
 
-    /// Reads the next chunk into `chunk`; the answer is its place in the file, in bytes, and None where no chunk is left.
-    /// The data block that it lies in is read once for all its chunks.
+    /// Reads the next chunk into `chunk`, and returns its place in the file, in bytes, and None
+    /// where no chunk is left. The data block that it lies in is read once for all its chunks.
     ///
     /// # Errors
     /// A read of the image that failed. Then no chunk comes any more.
@@ -236,7 +243,8 @@ impl Chunks {
     }
 }
 
-/// How many bytes of a directory of a size are read: whole chunks, and one at least. No directory has 2^31 bytes.
+/// How many bytes of a directory of a size are read: whole chunks, and one at least. No directory
+/// has 2^31 bytes.
 fn taken_of(size: u64) -> u64
     ensures taken { size < 2 ^ 31 → result ≡ bytes_read size }
     ensures small { result ≤ 2 ^ 31 }
@@ -250,8 +258,8 @@ fn taken_of(size: u64) -> u64
     size.div_ceil(DIRBLKSIZ as u64) * DIRBLKSIZ as u64
 }
 
-/// A reading of a directory looks at no more Runs than the block check sees in it: `Chunks::start` and `Chunks::next`
-/// bound its count by the Runs of the replay, and these are as many.
+/// A reading of a directory looks at no more Runs than the block check sees in it: `Chunks::start`
+/// and `Chunks::next` bound its count by the Runs of the replay, and these are as many.
 pub fn runs_are_seen()
     ensures { RunsAreSeen }
 {}

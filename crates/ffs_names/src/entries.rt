@@ -20,19 +20,23 @@ use ffs_walk::{Blocks, Window};
 /// A reading of the entries of a directory (dir(5)), chunk after chunk.
 #[derive(Drop)]
 pub struct Entries {
+    /// The byte order of the volume.
     pub order: Order,
+    /// The chunks of the directory.
     pub chunks: Chunks,
     /// The current chunk.
     pub chunk: [u8; DIRBLKSIZ],
-    /// Where the next entry of the chunk would be, and how many are before it.
+    /// Where the next entry of the chunk would be, in bytes from its start.
     pub place: usize,
+    /// How many entries of the chunk are before it.
     pub index: usize,
     /// Whether the chunk is at the start of the file.
     pub first: bool,
     /// Whether the size is right, and the entries of each chunk before fill it.
     pub sound: bool,
-    /// Where the name of the last entry is in the chunk.
+    /// Where the name of the last entry is in the chunk, in bytes from its start.
     pub name_place: usize,
+    /// How many bytes that name has.
     pub name_len: usize,
     ghost in_chunk: { place ≤ 512 },
     ghost counted: { index ≤ place },
@@ -54,7 +58,8 @@ impl Entries {
     ghost use Rattle.ffs_names.specs.Shapes.{has_right_shape, HasEnded, BeginsDirectory, GivesEntry, IsSameChunk};
     ghost use Rattle.ffs_names.specs.Entering.{to_come, left, last_name, IsHeld, IsInside, MayTake, name_place};
 
-    /// A reading of the directory with this inode, of which no offer is kept after the cut (0 for none).
+    /// A reading of the directory with this inode. `cut` is how many offers it keeps where its
+    /// eleventh dup offer cut it, else 0.
     pub fn start(geometry: &Geometry, inode: &Inode, cut: u32) -> Entries
         ensures begins { BeginsDirectory geometry.now.layout inode.now cut result }
         ensures place { result.place ≡ 512 }
@@ -93,7 +98,8 @@ impl Entries {
         entries
     }
 
-    /// Begins a reading of another directory of the same volume, as `start` does, in place, if this is its class.
+    /// Begins a reading of another directory of the same volume, as `start` does, in place, if this
+    /// is its class.
     #[inline(always)]
     pub fn restart(&mut self, inode: &Inode, class: Class, cut: u32)
         ensures begins { class ≡ inodes.class_of self.old.chunks.walk.geometry.layout inode.now
@@ -191,7 +197,8 @@ impl Entries {
         }
     }
 
-    /// Whether the directory, of which no entry is left, has a right size, sound chunks and no hole.
+    /// Whether the directory, of which no entry is left, has a right size, sound chunks and no
+    /// hole.
     ///
     /// # Errors
     /// A read of the image that failed.

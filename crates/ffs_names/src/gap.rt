@@ -53,8 +53,11 @@ fn find_gap<I: Image>(
     Ok(false)
 }
 
-/// Whether a hole is among the steps of a directory that are kept: those that the reading of its chunks has seen, and those
-/// that are left.
+/// Whether a hole is among the steps of a directory that are kept: those that the reading of its
+/// chunks has seen, and those that are left.
+///
+/// # Errors
+/// A read of the image that failed.
 #[inline(always)]
 pub fn gap_of<I: Image>(
     image: &mut I,

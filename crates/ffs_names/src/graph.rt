@@ -13,9 +13,9 @@ use ffs_image::{Image, ImageFault};
 use ffs_layout::Geometry;
 use ffs_workspace::Workspace;
 
-/// Finds how often each inode is referred to, which inodes an entry names, which directories are reached from the root,
-/// and their parents. Each directory is read once. The list `leaders` flags directories of which nothing can be
-/// reported. The rest of the workspace stays as it was.
+/// Finds how often each inode is referred to, which inodes an entry names, which directories are
+/// reached from the root, and their parents. Each directory is read once. The list `leaders` flags
+/// directories of which nothing can be reported. The rest of the workspace stays as it was.
 ///
 /// # Errors
 /// A read of the image that failed.

@@ -8,12 +8,14 @@ ghost use Rattle.ffs_volume.specs.Encodings.Replay.{is_replay_open as is_seen_in
 
 use ffs_volume::constants::MAXBAD;
 
-/// What is known of an inode that is walked again: the number of offers that it keeps where its eleventh dup offer cut
-/// it, else 0, and its bad Runs and kept offers so far. Kept offers are counted only where there is a cut.
+/// What is known of an inode that is walked over again.
 #[derive(Clone, Copy, Debug)]
 pub struct Keeping {
+    /// How many offers it keeps where its eleventh dup offer cut it, else 0.
     pub cut: u32,
+    /// Its bad Runs so far.
     pub bad: u32,
+    /// Its kept offers so far, counted only where there is a cut.
     pub kept: u32,
     ghost few: { bad ≤ 11 },
     ghost within: { kept ≤ cut },
@@ -41,7 +43,7 @@ impl Keeping {
         self.bad <= MAXBAD && (self.cut == 0 || self.kept < self.cut)
     }
 
-    /// A Run of `len` fragments is seen, in range or not; the answer says whether it is kept.
+    /// Sees a Run of `len` fragments, in range or not. Returns whether it is kept.
     pub fn take(&mut self, len: u32, in_range: bool) -> bool
         requires some { 0 < len }
         requires seen { is_seen_in self.old.cut (replay_in self.old) ≡ true }

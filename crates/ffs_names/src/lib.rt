@@ -1,7 +1,7 @@
 //! The directories of a volume: their chunks and entries, and their survey.
 //!
-//! `Entries::next` answers the entries of a directory in their order, from the Runs that its inode keeps.
-//! `survey` leaves references, levels and parents of all directories in the workspace.
+//! `Entries::next` returns the entries of a directory in their order, from the Runs that its inode
+//! keeps. `survey` leaves references, levels and parents of all directories in the workspace.
 //!
 //! ```text
 //! survey(&geometry, &mut image, &mut workspace)?;

@@ -19,10 +19,11 @@ fn is_two_dots(name: &[u8]) -> bool
     name.len() == 2 && name[0] == b'.' && name[1] == b'.'
 }
 
-/// The role of an entry at an index of its chunk; `first` says that the chunk is at the start of the file (dir(5)).
+/// The role of an entry at an index of its chunk; `first` says that the chunk is at the start of
+/// the file (dir(5)).
 ///
-/// `.` is right as the first entry of the first chunk alone, and `..` as its second; elsewhere they are extra. An entry
-/// with the number 0 is empty.
+/// `.` is right as the first entry of the first chunk alone, and `..` as its second; elsewhere they
+/// are extra. An entry with the number 0 is empty.
 #[inline(always)]
 #[tactic(auto, unfolding(ffs_volume::specs::Directories::Roles::role_of))]
 pub fn role_of(first: bool, index: usize, entry: &Entry<'_>) -> Role

@@ -10,10 +10,15 @@ use ffs_volume::constants::DIRBLKSIZ;
 /// the end of what is read of the directory, how many bytes these have, and which is the next.
 #[derive(Clone, Copy, Debug)]
 pub struct RunCursor {
+    /// Where the Run is, in bytes from the start of the image.
     pub place: u64,
+    /// The length in bytes.
     pub length: u64,
+    /// Where it is in the file, in bytes.
     pub offset: u64,
+    /// The index of the next chunk.
     pub next: u32,
+    /// How many chunks are read of it.
     pub count: u32,
     ghost in_order: { next ≤ count },
     ghost whole: { length ≡ 512 * count },

@@ -13,8 +13,11 @@ use ffs_workspace::Windows;
 /// The directories of a volume: those that the kinds of inodes name, with what is kept of them.
 #[derive(Drop)]
 pub struct Tree<'a, I> {
+    /// The volume.
     pub geometry: Geometry,
+    /// Its image.
     pub image: &'a mut I,
+    /// The buffers that the image is read into.
     pub windows: &'a mut Windows,
     /// What each inode is.
     pub kinds: &'a [u8],

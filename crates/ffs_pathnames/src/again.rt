@@ -1,4 +1,4 @@
-// A second reading of a directory, where something is reported of its entries.
+//! A second reading of a directory, where something is reported of its entries.
 ghost use Rattle.std.specs.Prelude.{◌≡◌, OnOk, map};
 ghost use Rattle.ffs_volume.specs.Blocks.Inodes.{inode_of};
 ghost use Rattle.ffs_volume.specs.Messages.Kinds.{of_tree};
@@ -25,6 +25,9 @@ use ffs_volume::constants::DIRBLKSIZ;
 use ffs_workspace::Workspace;
 
 /// Prints the lines of the entries of a directory, chunk by chunk, and marks them as passed.
+///
+/// # Errors
+/// A read of the image that failed, and a write of the report that failed.
 pub fn report_directory<I: Image, W: Output>(
     geometry: &Geometry,
     image: &mut I,

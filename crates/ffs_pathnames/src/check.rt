@@ -1,4 +1,4 @@
-// The pathname check of one directory.
+//! The pathname check of one directory.
 ghost use Rattle.std.specs.Prelude.{suc, ◌≡◌, ◌<◌, ◌≤◌, ℕ, List, OnOk, IfOk, map, option_map, vec_len};
 ghost use Rattle.ffs_volume.specs.Messages.Kinds.{of_tree};
 ghost use Rattle.ffs_volume.specs.Directories.PathnameCheck.{sized_dir_lines};
@@ -149,6 +149,9 @@ fn begin_directory<I: Image, W: Output>(
 
 /// Prints the lines of a directory that isn't of size 0: of its size, its chunks, its first two entries, and all its
 /// entries.
+///
+/// # Errors
+/// A read of the image that failed, and a write of the report that failed.
 pub fn check_directory<I: Image, W: Output>(
     geometry: &Geometry,
     image: &mut I,

@@ -1,4 +1,4 @@
-// The marks of the pathname check before the first directory.
+//! The flags and stamps of the pathname check before the first directory.
 ghost use Rattle.std.specs.Prelude.{◌≡◌, ℕ, length, slice_index, vec_len, if◌then◌else◌};
 ghost use Rattle.ffs_image.specs.Device.{Device};
 ghost use Rattle.ffs_volume.specs.declared.Layout.{Layout};
@@ -27,7 +27,8 @@ fn stamp_calm(flags: &[bool], stamps: &mut FilledList<u32>)
     }
 }
 
-/// Takes away all marks of inodes, but for a stamp of those directories that the survey flagged in `leaders`.
+/// Clears all flags and stamps of inodes, but for a stamp of those directories that the survey
+/// flagged in `leaders`.
 pub fn clear_marks(workspace: &mut Workspace)
     requires lengths { vec_len workspace.old.queue ≡ vec_len workspace.old.leaders }
     ensures clear { AreClear workspace.old workspace.new }

@@ -1,4 +1,4 @@
-// A first look at a directory.
+//! A first look at a directory.
 ghost use Rattle.std.specs.Prelude.{◌≡◌, ◌*◌, ◌<◌, ◌==◌, true, false, List, ◌∷◌, Some, IfOk, vec_len};
 ghost use Rattle.ffs_image.specs.Device.{ForContents};
 ghost use Rattle.ffs_volume.specs.declared.Order.{Order};
@@ -19,17 +19,20 @@ use ffs_volume::Inode;
 use ffs_volume::constants::DIRBLKSIZ;
 use ffs_walk::{Blocks, Window};
 
-/// What a first look at a directory finds: whether nothing may be reported of its entries, whether all its chunks are
-/// sound, whether a hole of it is kept, and whether a chunk is at the start of the file.
+/// What a first look at a directory finds.
 #[derive(Clone, Copy, Debug)]
 pub struct FirstLook {
+    /// Whether it is sure that nothing is reported of its entries.
     pub quiet: bool,
+    /// Whether all its chunks are sound.
     pub sound: bool,
+    /// Whether a hole of it is kept.
     pub gap: bool,
+    /// Whether a chunk is at the start of the file.
     pub started: bool,
 }
 
-/// Keeps a chunk that is at the start of the file, if none is kept yet; the answer says whether one is.
+/// Keeps a chunk that is at the start of the file, if none is kept yet, and returns whether one is.
 fn keep_start(
     offset: u64,
     chunk: &[u8; DIRBLKSIZ],
@@ -49,6 +52,9 @@ fn keep_start(
 
 /// Looks at a directory once: at its entries, its chunks, its holes, and the chunk at the start of the file, which is
 /// put into `start`.
+///
+/// # Errors
+/// A read of the image that failed.
 pub fn look_directory<I: Image>(
     geometry: &Geometry,
     image: &mut I,

@@ -1,4 +1,4 @@
-// The lines of the entries of a directory, one entry after another.
+//! The lines of the entries of a directory, one entry after another.
 ghost use Rattle.std.specs.Prelude.{◌≡◌, ◌≤◌, length, OnOk, map};
 ghost use Rattle.ffs_volume.specs.declared.Role.{Role};
 ghost use Rattle.ffs_volume.specs.Directories.Entries.{entries_of};
@@ -62,6 +62,9 @@ fn say_entry<I: Image, W: Output>(
 }
 
 /// Prints the lines of an entry, and marks it as passed.
+///
+/// # Errors
+/// A read of the image that failed, and a write of the report that failed.
 pub fn report_entry<I: Image, W: Output>(
     geometry: &Geometry,
     image: &mut I,
@@ -109,6 +112,9 @@ pub fn report_entry<I: Image, W: Output>(
 
 /// Prints the lines of the entries of a chunk, and marks them as passed; `first` says that it is at the start of the
 /// file.
+///
+/// # Errors
+/// A read of the image that failed, and a write of the report that failed.
 pub fn report_chunk<I: Image, W: Output>(
     geometry: &Geometry,
     image: &mut I,

@@ -1,4 +1,4 @@
-// What is found of a directory before anything is reported of it.
+//! What is found of a directory before anything is reported of it.
 ghost use Rattle.std.specs.Prelude.{◌≤◌, IfOk};
 ghost use Rattle.ffs_phase.specs.Known.{ForBytes};
 ghost use Rattle.ffs_paths.specs.Reads.{IsReadyFor};
@@ -13,14 +13,19 @@ use ffs_volume::Inode;
 use ffs_volume::constants::DIRBLKSIZ;
 use ffs_workspace::Workspace;
 
-/// A directory's inode, and what a first look at its chunks finds.
+/// What is known of a directory before anything is reported of it.
 #[derive(Clone, Copy, Debug)]
 pub struct DirectorySummary {
+    /// Its inode.
     pub inode: Inode,
+    /// What a first look at its chunks found.
     pub found: FirstLook,
 }
 
 /// Examines a directory, and puts the chunk at the start of the file into `start`, if it is there.
+///
+/// # Errors
+/// A read of the image that failed.
 pub fn examine<I: Image>(
     geometry: &Geometry,
     image: &mut I,

@@ -1,4 +1,4 @@
-// What is reported of a directory before its entries.
+//! What is reported of a directory before its entries.
 ghost use Rattle.std.specs.Prelude.{◌≡◌, ℕ, List, [], ◌%◌, ◌==◌, ◌&&◌, not, nat_lt, option_map, IsTrue};
 ghost use Rattle.ffs_volume.specs.declared.Attr as attrs;
 ghost use Rattle.ffs_volume.specs.Directories.PathnameCheck.{is_wrong_parent};
@@ -14,13 +14,16 @@ use ffs_report::{DirectoryLine, DotLine, Line, OutFault, Output, Report};
 use ffs_volume::Attr;
 use ffs_volume::constants::{DIRBLKSIZ, DT_DIR, MINDIRSIZE};
 
-/// What a first look at a directory found: whether a hole is kept, whether all chunks are sound, and the first two
-/// entries at the start of the file.
+/// What a first look at a directory found that comes before its entries.
 #[derive(Clone, Copy, Debug)]
 pub struct DirectoryHeader<'a> {
+    /// Whether a hole of it is kept.
     pub gap: bool,
+    /// Whether all its chunks are sound.
     pub sound: bool,
+    /// The first entry of the chunk at the start of the file.
     pub first: Option<Entry<'a>>,
+    /// The second entry of that chunk.
     pub second: Option<Entry<'a>>,
 }
 
@@ -223,6 +226,9 @@ fn say_dotdot<W: Output>(
 }
 
 /// Says all lines of a directory that come before those of its entries.
+///
+/// # Errors
+/// A write of the report that failed.
 #[tactic(auto, unfolding(crate::specs::Header::header_reported))]
 pub fn say_header<W: Output>(
     report: &mut Report<'_, W>,
@@ -274,7 +280,7 @@ fn is_dotdot_right(parent: Option<u32>, second: Option<Entry<'_>>) -> bool
     }
 }
 
-/// Whether a directory has a good size, no hole is kept, and all chunks are sound.
+/// Whether a directory has a right size, no hole is kept, and all chunks are sound.
 fn is_shape_right(size: u64, gap: bool, sound: bool) -> bool
     ensures { result ≡ (not (nat_lt size 24) && ((size % 512 == 0) && (not gap && sound))) }
 {

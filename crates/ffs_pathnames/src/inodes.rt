@@ -1,15 +1,18 @@
-// What is known of the inodes that entries name.
+//! What is known of the inodes that entries name.
 ghost use Rattle.std.specs.Prelude.{◌≡◌, ◌<◌, length, slice_index, vec_len, ◌==◌, ◌||◌, ◌&&◌, not};
 
 use ffs_memory::FilledList;
 use ffs_volume::constants::ROOTINO;
 use ffs_volume::kinds::Kind;
 
-/// Of each inode its kind, whether it is marked, and its parent (or 0 for none).
+/// What is known of each inode.
 #[derive(Clone, Copy)]
 pub struct Inodes<'a> {
+    /// What it is (`Kind`).
     pub kinds: &'a [u8],
+    /// Whether it is marked.
     pub marked: &'a [bool],
+    /// Its parent, or 0 for none.
     pub parents: &'a FilledList<u32>,
     ghost marked_long: { length marked.now ≡ length kinds.now },
     ghost parents_long: { vec_len parents.now ≡ length kinds.now },

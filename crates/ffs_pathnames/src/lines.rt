@@ -1,4 +1,4 @@
-// What is reported of an entry, by its verdict.
+//! What is reported of an entry, by its verdict.
 ghost use Rattle.ffs_volume.specs.Messages.Kinds.{reported};
 ghost use Rattle.ffs_report.specs.Progress.{progress};
 ghost use Rattle.ffs_pathnames.specs.SaysNames.{SaysNames};
@@ -80,6 +80,9 @@ fn say_faults<W: Output>(
 }
 
 /// Says the lines of a plain entry's verdict.
+///
+/// # Errors
+/// A write of the report that failed.
 pub fn say_verdict<W: Output>(
     report: &mut Report<'_, W>,
     verdict: &Verdict,

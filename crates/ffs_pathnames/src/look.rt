@@ -1,4 +1,4 @@
-// A first look at the entries of a directory: whether anything may be reported of them.
+//! A first look at the entries of a directory: whether anything may be reported of them.
 ghost use Rattle.std.specs.Prelude.{◌≡◌, ◌+◌, ◌<◌, ◌==◌, ◌&&◌, ◌||◌, not, length, slice_index, true, vec_len};
 ghost use Rattle.ffs_volume.specs.declared.Role.{Role};
 ghost use Rattle.ffs_volume.specs.Directories.Roles.{Volume, is_dir};
@@ -123,11 +123,12 @@ pub fn stamp(
     }
 }
 
-/// What a look at the entries of a chunk finds: whether nothing may be reported of them, and whether they fill the
-/// chunk.
+/// What a look at the entries of a chunk finds.
 #[derive(Clone, Copy, Debug)]
 pub struct EntriesSummary {
+    /// Whether it is sure that nothing is reported of them.
     pub quiet: bool,
+    /// Whether they fill the chunk.
     pub sound: bool,
 }
 

@@ -24,16 +24,20 @@ use ffs_workspace::Workspace;
 /// Whether the run continues after the root, or stops there since inode 2 is no directory.
 #[derive(Clone, Copy, Debug, PartialEq, Eq)]
 pub enum Root {
+    /// The run continues.
     Go,
+    /// The run stops.
     Stop,
 }
 
-/// Surveys the directories, and prints the lines of the root, of each directory and of its entries (fsck(8), phase 2).
+/// Surveys the directories, and prints the lines of the root, of each directory and of its entries
+/// (fsck(8), phase 2). Returns whether the run continues after the root.
 ///
-/// The text is that of a workspace that holds what the block check found. At `Ok` the workspace holds what the survey
-/// found, and the answer says whether the run continues.
+/// The text is that of a workspace that holds what the block check found. At `Ok` the workspace
+/// holds what the survey found.
 ///
-/// Errors: a read of the image that failed, and a write of the report that failed.
+/// # Errors
+/// A read of the image that failed, and a write of the report that failed.
 pub fn phase2<I: Image, W: Output>(
     geometry: &Geometry,
     image: &mut I,

@@ -1,4 +1,4 @@
-// What is reported of the root.
+//! What is reported of the root.
 ghost use Rattle.std.specs.Prelude.{◌≡◌};
 ghost use Rattle.ffs_report.specs.Progress.{progress};
 ghost use Rattle.ffs_volume.specs.Encodings.Kinds.{is_dir_kind};
@@ -22,7 +22,10 @@ pub fn root_of(kind: u8) -> Root
     }
 }
 
-/// Reports that the root isn't allocated, is no directory, is marked or is of size 0.
+/// Reports where the root isn't allocated, is no directory, is marked or is of size 0.
+///
+/// # Errors
+/// A write of the report that failed.
 #[tactic(auto, unfolding(crate::specs::Before::root_said))]
 pub fn report_root<W: Output>(
     report: &mut Report<'_, W>,

@@ -1,4 +1,4 @@
-// Messages on directories and their entries, reported where a test holds.
+//! Messages on directories and their entries, reported where a test holds.
 ghost use Rattle.std.specs.Prelude.{true};
 ghost use Rattle.ffs_volume.specs.Messages.Kinds.{reported};
 ghost use Rattle.ffs_report.specs.Progress.{progress};
@@ -10,19 +10,27 @@ use ffs_report::{DirectoryLine, DotLine, EntryLine, Line, OutFault, Output, Repo
 /// A line on a directory or on an entry of it.
 #[derive(Clone, Copy, Debug)]
 pub enum NameLine<'a> {
+    /// A line on a directory as a whole.
     Directory(DirectoryLine<'a>),
+    /// A line on an entry `.` or `..`.
     Dot(DotLine<'a>),
+    /// A line on another entry.
     Entry(EntryLine<'a>),
 }
 
 /// A line, and whether it is to be reported.
 #[derive(Clone, Copy, Debug)]
 pub struct Check<'a> {
+    /// Whether it is to be reported.
     pub holds: bool,
+    /// The line.
     pub line: NameLine<'a>,
 }
 
 /// Says a line.
+///
+/// # Errors
+/// A write of the report that failed.
 pub fn say_line<W: Output>(report: &mut Report<'_, W>, line: &NameLine<'_>) -> Result<(), OutFault>
     ensures { SaysNames (progress W.sink report.old) (progress W.sink report.new)
         (reported true (name_message line.now)) result }
@@ -35,6 +43,9 @@ pub fn say_line<W: Output>(report: &mut Report<'_, W>, line: &NameLine<'_>) -> R
 }
 
 /// Says a line where its test holds.
+///
+/// # Errors
+/// A write of the report that failed.
 pub fn say_check<W: Output>(report: &mut Report<'_, W>, check: &Check<'_>) -> Result<(), OutFault>
     ensures { SaysNames (progress W.sink report.old) (progress W.sink report.new)
         (reported check.now.holds (name_message check.now.line)) result }
@@ -46,6 +57,9 @@ pub fn say_check<W: Output>(report: &mut Report<'_, W>, check: &Check<'_>) -> Re
 }
 
 /// Says two lines, each where its test holds.
+///
+/// # Errors
+/// A write of the report that failed.
 pub fn say_two<W: Output>(
     report: &mut Report<'_, W>,
     first: &Check<'_>,

@@ -1,4 +1,4 @@
-// The lines of a plain entry.
+//! The lines of a plain entry.
 ghost use Rattle.std.specs.Prelude.{◌≡◌, ◌*◌, ◌<◌, ◌≤◌, ℕ, List, length, Some, OnOk, IfOk, IsTrue, map, vec_len};
 ghost use Rattle.ffs_image.specs.Device.{ForContents};
 ghost use Rattle.ffs_volume.specs.Messages.Kinds.{of_tree};
@@ -42,7 +42,10 @@ pub struct EntryTexts {
     pub directory: PathText,
 }
 
-/// What messages show of the inode of a number.
+/// Reads what messages show of the inode of a number.
+///
+/// # Errors
+/// A read of the image that failed.
 pub fn read_attr<I: Image>(
     geometry: &Geometry,
     image: &mut I,
@@ -176,6 +179,9 @@ fn is_silent(verdict: &Verdict) -> bool
 }
 
 /// Prints the lines of a plain entry of a directory.
+///
+/// # Errors
+/// A read of the image that failed, and a write of the report that failed.
 pub fn report_plain<I: Image, W: Output>(
     geometry: &Geometry,
     image: &mut I,
@@ -214,6 +220,9 @@ pub fn report_plain<I: Image, W: Output>(
 }
 
 /// Prints the line of an extra entry: `.` or `..` at another place than the first two.
+///
+/// # Errors
+/// A read of the image that failed, and a write of the report that failed.
 pub fn report_extra<I: Image, W: Output>(
     geometry: &Geometry,
     image: &mut I,
@@ -241,6 +250,9 @@ pub fn report_extra<I: Image, W: Output>(
 }
 
 /// Gathers what the messages on a directory show: its path into `path`, and its attributes.
+///
+/// # Errors
+/// A read of the image that failed.
 pub fn gather_dir<I: Image>(
     geometry: &Geometry,
     image: &mut I,

@@ -1,4 +1,4 @@
-// The pathname check of the root, and of one directory after another.
+//! The pathname check of the root, and of one directory after another.
 ghost use Rattle.std.specs.Prelude.{suc, ◌≡◌, ◌-◌, ◌==◌, ◌<◌, ◌≤◌, ◌&&◌, not, true, OnOk, IfOk, map, slice_index, vec_len};
 ghost use Rattle.ffs_phase.specs.Known.{ForBytes};
 ghost use Rattle.ffs_phase.specs.Runs.{PhaseReports};
@@ -87,6 +87,9 @@ fn check_inodes<I: Image, W: Output>(
 }
 
 /// Prints the lines of the root and, where the run continues after it, of each directory and of its entries.
+///
+/// # Errors
+/// A read of the image that failed, and a write of the report that failed.
 pub fn check_tree<I: Image, W: Output>(
     geometry: &Geometry,
     image: &mut I,

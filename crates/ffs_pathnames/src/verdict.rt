@@ -1,4 +1,4 @@
-// The verdict on a plain entry.
+//! The verdict on a plain entry.
 ghost use Rattle.std.specs.Prelude.{◌≡◌, ◌<◌, length, vec_len};
 ghost use Rattle.ffs_volume.specs.Directories.Roles.{Volume};
 ghost use Rattle.ffs_layout.specs.Entry.{entry_value};
@@ -13,24 +13,33 @@ use ffs_memory::FilledList;
 use ffs_volume::constants::ROOTINO;
 use ffs_volume::{Label, Role};
 
-/// What is wrong with an allocated inode that an entry names: it is suspect and named here first; it is a directory
-/// with another parent entry; its type isn't the entry's.
+/// What is wrong with an allocated inode that a plain entry names.
 #[derive(Clone, Copy, Debug, PartialEq, Eq)]
 pub struct Faults {
+    /// It is suspect, and this entry is the first plain one that names it.
     pub suspect: bool,
+    /// It is marked.
     pub marked: bool,
+    /// It is a directory, and this isn't its parent entry.
     pub extraneous: bool,
+    /// The entry's type isn't its own.
     pub kind: bool,
+    /// What messages call it.
     pub label: Label,
 }
 
 /// The verdict on a plain entry.
 #[derive(Clone, Copy, Debug, PartialEq, Eq)]
 pub enum Verdict {
+    /// It names an inode that the volume doesn't have.
     OutOfRange,
+    /// It has the number or the type of a whiteout, and not both.
     Whiteout,
+    /// It is a whiteout.
     Fine,
+    /// It names an inode that isn't allocated.
     Unallocated,
+    /// It names an allocated inode.
     Named(Faults),
 }
 

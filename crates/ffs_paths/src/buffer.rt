@@ -17,10 +17,11 @@ pub const LONGEST_NAME: usize = MAXPATHLEN - 2;
 /// Where they take more than 1,024 bytes it keeps the longest end of whole names of at most 1,023 bytes.
 #[derive(Drop)]
 pub struct PathBuffer {
+    /// The names, at the end of the room for them.
     pub bytes: [u8; MAXPATHLEN],
-    /// Where the names begin, if all have room.
+    /// Where the names begin in `bytes`, if all have room.
     pub start: usize,
-    /// Where the longest end of at most 1,023 bytes begins.
+    /// Where the longest end of whole names of at most 1,023 bytes begins in `bytes`.
     pub short: usize,
     /// Whether they take more than 1,024 bytes.
     pub cut: bool,
@@ -30,7 +31,7 @@ pub struct PathBuffer {
     ghost long: { length bytes ≡ 1024 },
 }
 
-/// Puts `/` and a name before what is from `end` on. The answer is where they begin.
+/// Puts `/` and a name before what is from `end` on. Returns where they begin.
 fn put_front(bytes: &mut [u8; MAXPATHLEN], end: usize, name: &[u8]) -> usize
     requires room { length name.now < end }
     requires end { end ≤ 1024 }

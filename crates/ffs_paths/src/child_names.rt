@@ -12,13 +12,15 @@ use ffs_names::Entries;
 use ffs_survey::{Named, is_plain};
 use ffs_workspace::Windows;
 
-/// How many numbers a table of names is for.
+/// How many inode numbers a table of names is for.
 pub const COVERED: usize = 2048;
 
-/// Where a name is in the image, and how long it is, in bytes.
+/// Where a name is in the image.
 #[derive(Clone, Copy, Debug)]
 pub struct NamePlace {
+    /// In bytes from the start of the image.
     pub place: u64,
+    /// How many bytes it has.
     pub length: usize,
 }
 
@@ -31,6 +33,7 @@ pub struct ChildNames {
     pub parent: u32,
     /// The first of the numbers.
     pub first: u32,
+    /// Where each of them is named first, if it is.
     pub places: [Option<NamePlace>; 2048],
     ghost long: { length places ≡ 2048 },
 }

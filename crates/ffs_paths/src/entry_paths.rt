@@ -12,6 +12,7 @@ use ffs_volume::constants::MAXPATHLEN;
 /// What the paths of all entries begin with is written once: only the name changes from one entry to the next.
 #[derive(Drop)]
 pub struct EntryPaths {
+    /// The path of the directory.
     pub directory: DirectoryPath,
     /// The directory's path, `/` and a name.
     pub bytes: [u8; MAXPATHLEN],
@@ -26,7 +27,8 @@ pub struct EntryPaths {
     ghost prefix: { 0 < begins → BeginsWith directory begins bytes },
 }
 
-/// Writes what the paths of all entries begin with. The answer is how long that is, or 0 where no name has room.
+/// Writes what the paths of all entries begin with. Returns how long that is, or 0 where no name
+/// has room.
 fn put_prefix(directory: &DirectoryPath, bytes: &mut [u8; MAXPATHLEN]) -> usize
     ensures { 0 < result → BeginsWith directory.now result bytes.new }
 {

@@ -7,7 +7,9 @@ use crate::buffer::{LONGEST_NAME, PathBuffer, PathText};
 /// The path of a directory: the names from the root down to it, if it is reached.
 #[derive(Drop)]
 pub struct DirectoryPath {
+    /// Whether it is reached from the root.
     pub reached: bool,
+    /// The names from the root down to it.
     pub names: PathBuffer,
 }
 

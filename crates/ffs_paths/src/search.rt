@@ -34,6 +34,7 @@ fn raise(highest: &mut u32, entry: Named)
 /// A reading of the entries of a directory, which continues from one search to the next.
 #[derive(Drop)]
 pub struct Search {
+    /// The reading.
     pub entries: Entries,
     /// No plain entry that was passed names a greater number.
     pub highest: u32,
@@ -54,6 +55,9 @@ impl Search {
     }
 
     /// A search from the first entry of a directory. `cut` is how many offers it keeps where duplicates cut it, else 0.
+    ///
+    /// # Errors
+    /// A read of the image that failed.
     pub fn open<I: Image>(
         geometry: &Geometry,
         image: &mut I,
@@ -74,7 +78,10 @@ impl Search {
         })
     }
 
-    /// Moves on to the first entry to come that names an inode. The answer says whether there is one.
+    /// Moves on to the first entry to come that names an inode. Returns whether there is one.
+    ///
+    /// # Errors
+    /// A read of the image that failed.
     pub fn find<I: Image>(
         &mut self,
         image: &mut I,

@@ -54,7 +54,9 @@ pub enum FoundName {
 pub struct Siblings {
     /// The directory, or 0 for none.
     pub parent: u32,
+    /// Its path.
     pub path: DirectoryPath,
+    /// The reading of its entries.
     pub search: Search,
     /// The child that was found last, or 0.
     pub child: u32,

@@ -1,11 +1,12 @@
-// What ends a run.
+//! What ends a run.
 ghost use Rattle.ffs_phase.specs.declared.fault.RunFault.TheVariants.{Read, Out};
 ghost use Rattle.std.specs.Prelude.{◌≡◌};
 
 use ffs_image::ImageFault;
 use ffs_report::OutFault;
 
-/// What ends a run before its report is complete: a read of the image that failed, or a write of the report.
+/// What ends a run before its report is complete: a read of the image that failed, or a write of
+/// the report.
 #[derive(Clone, Copy, Debug, PartialEq, Eq, thiserror::Error)]
 pub enum RunFault {
     /// A read of the image failed, at this sector.

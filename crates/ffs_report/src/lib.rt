@@ -1,10 +1,11 @@
 //! The lines of a report, and where their bytes go.
 //!
-//! `Report::say` writes exactly the bytes of its line, as one piece where it has room in a buffer of 2,048
-//! bytes, or a prefix of them and answers a fault;
-//! after a fault each later line fails and writes nothing. A `Line` is a message with its values; it prints
-//! the texts of `ffs_volume::texts` that `Messages/Texts` of the definitions gives it. A `FuseWriter` fails
-//! after some bytes.
+//! `Report::say` writes exactly the bytes of its line, or writes a prefix of them and returns a
+//! fault; after a fault each later line fails and writes nothing. A line goes out as one piece
+//! where it has room in a buffer of 2,048 bytes. A `Line` is a message with its values; it prints
+//! the texts of `ffs_volume::texts` that `Messages/Texts` of the definitions gives it. A
+//! `SilentWriter` passes nothing on after its first failure, and a `FuseWriter` fails after some
+//! bytes.
 //!
 //! ```text
 //! let mut report = Report::new(&mut out);

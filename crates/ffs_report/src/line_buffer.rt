@@ -1,4 +1,4 @@
-// The bytes of one line, gathered before they go out.
+//! The bytes of one line, gathered before they go out.
 ghost use Rattle.std.specs.Prelude.{◌≡◌, ◌≤◌, ◌*◌, length, take};
 
 use crate::output::{OutFault, Output};

@@ -1,4 +1,4 @@
-// Prints what is wrong with directories, their entries and the references to inodes.
+//! Prints what is wrong with directories, their entries and the references to inodes.
 ghost use Rattle.std.specs.Prelude.{◌≡◌};
 ghost use Rattle.ffs_report.specs.Sink.{Prints};
 ghost use Rattle.ffs_report.specs.Lines.{directory_message, dot_message, entry_message, reference_message};
@@ -44,7 +44,7 @@ fn print_attr<W: Output>(out: &mut W, attr: &Attr) -> Result<(), OutFault>
     print_total(out, attr.mtime as i64, b"")
 }
 
-/// What a line says before an inode's attributes, these, and what it says after them.
+/// Prints what a line says before an inode's attributes, these, and what it says after them.
 #[inline(always)]
 fn print_inode<W: Output>(
     out: &mut W,
@@ -60,7 +60,7 @@ fn print_inode<W: Output>(
     print(out, tail)
 }
 
-/// The same, of an inode that is called a directory or a file.
+/// Prints the same of an inode that is called a directory or a file.
 #[inline(always)]
 fn print_kind<W: Output>(
     out: &mut W,
@@ -76,7 +76,7 @@ fn print_kind<W: Output>(
     print_inode(out, file_label(label), attr, tail)
 }
 
-/// An inode with its attributes and its path.
+/// Prints an inode with its attributes and its path.
 #[inline(always)]
 fn print_path<W: Output>(
     out: &mut W,
@@ -94,7 +94,7 @@ fn print_path<W: Output>(
     print(out, tail)
 }
 
-/// A directory, and the entry in the place of `.` or `..`.
+/// Prints a directory, and the entry in the place of `.` or `..`.
 fn print_in_the_way<'x, W: Output>(
     out: &mut W,
     head: &'x [u8],
@@ -172,7 +172,7 @@ fn print_links<W: Output>(
     print_count(out, right, ADJUST)
 }
 
-/// A directory with its attributes and its path.
+/// Prints a directory with its attributes and its path.
 #[inline(always)]
 fn print_dir<W: Output>(
     out: &mut W,
@@ -187,7 +187,10 @@ fn print_dir<W: Output>(
     print_path(out, head, attr, Label::Dir, path, tail)
 }
 
-/// What is wrong with a directory as a whole.
+/// Prints what is wrong with a directory as a whole.
+///
+/// # Errors
+/// A write to the output that failed.
 pub fn print_directory<W: Output>(out: &mut W, line: &DirectoryLine<'_>) -> Result<(), OutFault>
     ensures { Prints (W.sink out.old) (W.sink out.new) (tree_message_text
         (directory_message line.now)) result }
@@ -216,7 +219,10 @@ pub fn print_directory<W: Output>(out: &mut W, line: &DirectoryLine<'_>) -> Resu
     }
 }
 
-/// What is wrong with the entries `.` and `..` of a directory.
+/// Prints what is wrong with the entries `.` and `..` of a directory.
+///
+/// # Errors
+/// A write to the output that failed.
 pub fn print_dot<W: Output>(out: &mut W, line: &DotLine<'_>) -> Result<(), OutFault>
     ensures { Prints (W.sink out.old) (W.sink out.new) (tree_message_text
         (dot_message line.now)) result }
@@ -249,7 +255,10 @@ pub fn print_dot<W: Output>(out: &mut W, line: &DotLine<'_>) -> Result<(), OutFa
     }
 }
 
-/// What is wrong with a further entry of a directory.
+/// Prints what is wrong with a further entry of a directory.
+///
+/// # Errors
+/// A write to the output that failed.
 pub fn print_entry<W: Output>(out: &mut W, line: &EntryLine<'_>) -> Result<(), OutFault>
     ensures { Prints (W.sink out.old) (W.sink out.new) (tree_message_text
         (entry_message line.now)) result }
@@ -282,7 +291,10 @@ pub fn print_entry<W: Output>(out: &mut W, line: &EntryLine<'_>) -> Result<(), O
     }
 }
 
-/// What is wrong with an inode by the entries that name it.
+/// Prints what is wrong with an inode by the entries that name it.
+///
+/// # Errors
+/// A write to the output that failed.
 pub fn print_reference<W: Output>(out: &mut W, line: &ReferenceLine) -> Result<(), OutFault>
     ensures { Prints (W.sink out.old) (W.sink out.new) (tree_message_text
         (reference_message line.now)) result }

@@ -1,4 +1,4 @@
-// The pieces that a line is made of.
+//! The pieces that a line is made of.
 
 /// A piece of a line.
 #[derive(Clone, Copy)]

@@ -1,4 +1,4 @@
-// A report over an output.
+//! A report over an output.
 ghost use Rattle.std.specs.Prelude.{◌≡◌, ◌||◌, ◌&&◌, true, false, is_ok, is_err};
 ghost use Rattle.ffs_volume.specs.Messages.Kinds.{is_defect, of_blocks};
 ghost use Rattle.ffs_report.specs.Lines.{message_of};
@@ -55,14 +55,14 @@ impl<'a, W: Output> Report<'a, W> {
         }
     }
 
-    /// Whether a line that reports a defect was said by a call that answered `Ok`.
+    /// Whether a line that reports a defect was said by a call that returned `Ok`.
     pub fn any_defect(&self) -> bool
         ensures { result ≡ (progress W.sink self.now).defect }
     {
         self.defect
     }
 
-    /// Keeps what became of the printing of a line, and answers it.
+    /// Keeps what became of the printing of a line, and returns it.
     #[inline(always)]
     fn after(&mut self, printed: Result<(), OutFault>, is_defect: bool) -> Result<(), OutFault>
         ensures answer { result ≡ printed }
@@ -109,10 +109,13 @@ impl<'a, W: Output> Report<'a, W> {
         self.after(printed, true)
     }
 
-    /// Says a line and its questions. After an `Err`, when a prefix of their bytes may have gone out, each later call
-    /// answers `Err` and writes nothing.
+    /// Says a line and its questions.
     ///
     /// It is inlined, so that of a line that is known the kind is known.
+    ///
+    /// # Errors
+    /// A write that failed. A prefix of the line's bytes may have gone out then, and each later
+    /// call returns `Err` and writes nothing.
     #[inline(always)]
     pub fn say(&mut self, line: &Line<'_>) -> Result<(), OutFault>
         ensures { SaysOne (progress W.sink self.old) (progress W.sink self.new)

@@ -1,4 +1,4 @@
-// Prints a line.
+//! Prints a line.
 ghost use Rattle.std.specs.Prelude.{◌≡◌};
 ghost use Rattle.ffs_report.specs.Sink.{Prints};
 ghost use Rattle.ffs_report.specs.Lines.{message_of};
@@ -15,6 +15,9 @@ use ffs_volume::{BlockMessage, SuperFault};
 use itoa::Buffer;
 
 /// Prints a line and its questions as one piece, where they have room in the buffer.
+///
+/// # Errors
+/// A write to the output that failed.
 pub fn print_gathered<W: Output>(
     out: &mut W,
     buffer: &mut LineBuffer,

@@ -1,4 +1,4 @@
-// A writer that is silent after its first failure.
+//! A writer that is silent after its first failure.
 ghost use Rattle.std.specs.Prelude.{◌≡◌, ◌<◌, length, false, IfOk};
 ghost use Rattle.std.specs.Io.{WritesAtMost};
 ghost use Rattle.std.specs.Io.KnownBytes.{WriteAppends, Keeps};
@@ -58,7 +58,8 @@ fn write_uninterrupted<S: Write>(inner: &mut S, buf: &[u8]) -> io::Result<usize>
 impl<S: Write> Write for SilentWriter<S> {
     ghost contents = { λ w. S.contents w.inner };
 
-    /// Errors: those of the writer below, a write that takes nothing, and each write after a failure.
+    /// # Errors
+    /// Those of the writer below, a write that takes nothing, and each write after a failure.
     fn write(&mut self, buf: &[u8]) -> io::Result<usize>
         ensures bound { WritesAtMost result buf.now }
         ensures bytes { WriteAppends (S.contents self.old.inner) (S.contents self.new.inner) result
@@ -82,7 +83,8 @@ impl<S: Write> Write for SilentWriter<S> {
         }
     }
 
-    /// Errors: those of the writer below, and each flush after a failure.
+    /// # Errors
+    /// Those of the writer below, and each flush after a failure.
     fn flush(&mut self) -> io::Result<()>
         ensures bytes { Keeps (S.contents self.old.inner) (S.contents self.new.inner) }
         ensures silenced { IsSilenced self.old self.new result }

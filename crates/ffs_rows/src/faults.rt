@@ -17,7 +17,8 @@ const ROWS: [&str; 4] = [
     "lost_cycle 1",
 ];
 
-// The rows with trees of indirect blocks that point to themselves, and the most reads that a run over one may make.
+// The rows with trees of indirect blocks that point to themselves, and the most reads that a run
+// over one may make.
 const TREES: [&str; 2] = ["triple_tree_self 1", "indirect_claims_itself 1"];
 
 const READS: u64 = 300;

@@ -16,8 +16,9 @@ const NO_COPY: &[u8] =
 const TOO_SHORT_FOR_COPY: &[u8] =
     b"Alternate super block location: 32\n** t.img (NO WRITE)\nBAD SUPER BLOCK: SIZE LARGER THAN IMAGE\n";
 
-/// Compares the checks of each prefix of the clean image with what is expected: where the superblock that is read isn't
-/// whole it can't be read, and else the volume is larger than the image.
+/// Compares the checks of each prefix of the clean image with what is expected: where the
+/// superblock that is read isn't whole it can't be read, and else the volume is larger than the
+/// image.
 pub fn compare(rt: &HostRuntime, tally: &mut Tally) -> io::Result<()> {
     let primary = Row::read(rt, "clean 8")?;
     cut(rt, &primary, 9568, [NO_SUPERBLOCK, TOO_SHORT], tally)?;
@@ -25,7 +26,8 @@ pub fn compare(rt: &HostRuntime, tally: &mut Tally) -> io::Result<()> {
     cut(rt, &copy, 17760, [NO_COPY, TOO_SHORT_FOR_COPY], tally)
 }
 
-// Compares the checks of each prefix of a row's image with a text for those below a length, and one for the others.
+// Compares the checks of each prefix of a row's image with a text for those below a length, and one
+// for the others.
 fn cut(
     rt: &HostRuntime,
     row: &Row,

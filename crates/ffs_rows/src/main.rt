@@ -1,4 +1,5 @@
-//! Checks the worked images of `data/`, and prints where a report or a status is not what is expected.
+//! Checks the worked images of `data/`, and prints where a report or a status is not what is
+//! expected.
 #![tactic(auto)]
 
 mod faults;

@@ -10,18 +10,26 @@ use ffs_volume::End;
 use std::alloc::{AllocError, Global};
 use std::{fs, io};
 
-/// An image, what a check of it is asked, and what it must print and answer.
+/// An image, what a check of it is asked, and what it must print, and its status.
 #[derive(Drop)]
 pub struct Row {
+    /// The name of its files in `data/`.
     pub name: String,
+    /// The exit status that is expected.
     pub status: u8,
+    /// The sector of the superblock that is asked for, of 512 bytes.
     pub sector: Option<u32>,
+    /// The bytes of the image.
     pub image: Vec<u8>,
+    /// The report that is expected.
     pub report: Vec<u8>,
 }
 
 impl Row {
     /// Reads the row of a line of the list: its name, its status, and the sector that is asked for.
+    ///
+    /// # Errors
+    /// A file of the row that can't be read, and want of memory.
     pub fn read(rt: &HostRuntime, line: &str) -> io::Result<Row> {
         let mut words = line.split_whitespace();
         let name = String::from_str(rt.alloc(), words.next().unwrap_or(""))?;
@@ -42,6 +50,9 @@ impl Row {
     }
 
     /// The row's image in memory.
+    ///
+    /// # Errors
+    /// The memory was refused.
     pub fn in_memory(&self, alloc: Global) -> Result<MemoryImage, AllocError> {
         let mut bytes = Vec::new(alloc);
         bytes.extend_from_slice(self.image.as_slice())?;
@@ -76,6 +87,9 @@ impl Row {
     }
 
     /// Compares the row with a check of its image in memory, and with a run over it in a file.
+    ///
+    /// # Errors
+    /// A file that can't be written or read, and standard output that failed.
     pub fn compare(&self, rt: &HostRuntime, tally: &mut Tally) -> io::Result<()> {
         let name = self.name.as_str();
         let (end, text) = self.checked(rt.alloc(), &mut self.in_memory(rt.alloc())?);

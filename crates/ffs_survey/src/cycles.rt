@@ -7,8 +7,8 @@ ghost use Rattle.ffs_survey.specs.Cycles.{up_of, CanFollow, ComesBack, IsNew, Ca
 use crate::numbers::number_of;
 use ffs_memory::FilledList;
 
-/// Walks up from `start` and stamps what it passes, until there is nothing above or a stamp. Answers a number on the
-/// cycle that it closed, if it closed one.
+/// Walks up from `start` and stamps what it passes, until there is nothing above or a stamp.
+/// Returns a number on the cycle that it closed, if it closed one.
 fn walk(start: u32, parents: &FilledList<u32>, stamp: &mut FilledList<u32>) -> Option<u32>
     requires { CanFollow parents.now.items stamp.old.items start }
     ensures walked { Walked (up_of parents.now.items) start (start + 1) stamp.old.items

@@ -14,28 +14,40 @@ pub trait Directories {
     ghost use Rattle.ffs_survey.specs.declared.named.Named.{Named};
     ghost use Rattle.ffs_survey.specs.Reading.{roled_of, LeavesReader};
 
+    /// What a reader is over.
     ghost Base: { Type 0 };
 
+    /// What this reader is over. No reading changes it.
     ghost base: { Self → Base };
 
+    /// The base knows these bytes to be the image's.
     ghost knows: { Base → List ℕ → Type 0 };
 
+    /// The entries of a directory, by the bytes of the image.
     ghost entries: { Base → List ℕ → ℕ → List RoledEntry };
 
+    /// Whether a directory has a right size, no hole and sound chunks, by the bytes of the image.
     ghost sound: { Base → List ℕ → ℕ → Bool };
 
+    /// The image that is read.
     ghost device: { Self → Device };
 
+    /// What each reading needs, and leaves.
     ghost ready: { Self → Type 0 };
 
+    /// The entries of the current directory that are still to come.
     ghost rest: { Self → List ℕ → List RoledEntry };
 
+    /// At most how many entries are still to come.
     ghost left: { Self → ℕ };
 
+    /// The name of the entry that was given last.
     ghost name: { Self → List ℕ };
 
+    /// Whether the current directory is sound.
     ghost sound_so_far: { Self → List ℕ → Bool };
 
+    /// No entry of the current directory is left.
     ghost ended: { Self → List ℕ → Type 0 };
 
     /// Begins a directory.

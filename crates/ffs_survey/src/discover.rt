@@ -29,7 +29,8 @@ fn add_one(references: &mut FilledList<u64>, number: usize)
     references.set(number, count + 1);
 }
 
-/// Counts an entry for the inode that it names, and marks that inode where the entry is plain.
+/// Counts an entry for the inode that it names, and flags that inode as named where the entry is
+/// plain.
 fn count_entry(entry: Named, kinds: &[u8], references: &mut FilledList<u64>, named: &mut [bool])
     requires { CountLists kinds.now references.old.items named.old entry.number }
     ensures counted { IsCounted (length kinds.now) (roled_of entry []) references.old.items
@@ -46,7 +47,7 @@ fn count_entry(entry: Named, kinds: &[u8], references: &mut FilledList<u64>, nam
     }
 }
 
-/// Whether a number is that of a directory without a mark.
+/// Whether a number is that of a directory that isn't reached yet.
 pub fn is_free(kinds: &[u8], reached: &[bool], number: usize) -> bool
     requires { length reached.now ≡ length kinds.now }
     ensures { result ≡ is_free_at kinds.now reached.now number }
@@ -54,7 +55,7 @@ pub fn is_free(kinds: &[u8], reached: &[bool], number: usize) -> bool
     is_dir(kinds, number) && !reached[number]
 }
 
-/// Whether a plain entry names a directory without a mark.
+/// Whether an entry is plain and names a directory that isn't reached yet.
 pub fn is_new(entry: Named, kinds: &[u8], reached: &[bool]) -> bool
     requires { length reached.now ≡ length kinds.now }
     ensures { result ≡ (is_plain_role entry.role && is_free_at kinds.now reached.now entry.number) }
@@ -62,7 +63,8 @@ pub fn is_new(entry: Named, kinds: &[u8], reached: &[bool]) -> bool
     is_plain(entry.role) && is_free(kinds, reached, entry.number as usize)
 }
 
-/// Discovers what an entry of the directory `from` names: marks it, gives it its parent and puts it into the queue.
+/// Discovers what an entry of the directory `from` names: flags it as reached, gives it its parent
+/// and puts it into the queue.
 fn visit(
     entry: Named,
     from: u32,
@@ -217,6 +219,9 @@ fn read_reached<D: Directories>(
 }
 
 /// Reads the directories that are in `queue[low..high]`, one after another, and puts what they discover after these.
+///
+/// # Errors
+/// A read of the image that failed.
 pub fn read_level<D: Directories>(
     directories: &mut D,
     kinds: &[u8],
@@ -274,7 +279,8 @@ pub fn read_level<D: Directories>(
     Ok(top)
 }
 
-/// Gives what an entry of the directory `from` names its parent: a directory without a mark that has none yet.
+/// Gives the parent `from` to what an entry of this directory names: a directory that isn't reached
+/// and has no parent yet.
 fn adopt(entry: Named, from: u32, kinds: &[u8], reached: &[bool], parents: &mut FilledList<u32>)
     requires { TreeLists kinds.now reached.now parents.old.items }
     ensures parent { (x : ℕ) → x < length kinds.now → number_at parents.new.items x
@@ -293,7 +299,11 @@ fn adopt(entry: Named, from: u32, kinds: &[u8], reached: &[bool], parents: &mut 
     parents.set(number, from);
 }
 
-/// Reads the directory `from`, which has no mark: counts its entries, and gives a parent to what they name.
+/// Reads the directory `from`, which isn't reached: counts its entries, and gives a parent to what
+/// they name.
+///
+/// # Errors
+/// A read of the image that failed.
 pub fn read_unreached<D: Directories>(
     directories: &mut D,
     from: u32,

@@ -14,7 +14,8 @@ use ffs_image::ImageFault;
 use ffs_memory::FilledList;
 use ffs_volume::constants::{NO_LINKS, ROOTINO};
 
-/// Reads the level that is in `queue[low..high]`, puts the next one after it, ascending, and answers where that ends.
+/// Reads the level that is in `queue[low..high]`, puts the next one after it, ascending, and
+/// returns where that ends.
 fn next_level<D: Directories>(
     directories: &mut D,
     kinds: &[u8],
@@ -123,7 +124,7 @@ fn survey_reached<D: Directories>(
     Ok(())
 }
 
-/// Reads all directories without a mark, ascending.
+/// Reads all directories that aren't reached, ascending.
 fn survey_unreached<D: Directories>(
     directories: &mut D,
     kinds: &[u8],

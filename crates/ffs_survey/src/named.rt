@@ -6,13 +6,16 @@ ghost use Rattle.ffs_survey.specs.Survey.{dir_at};
 use ffs_volume::Role;
 use ffs_volume::constants::{DT_DIR, EMPTY_DIR, ROOTINO};
 
-/// An entry of a directory without its name: its role, the inode that it names, its length in bytes and
-/// its type (dir(5)).
+/// An entry of a directory, without its name (dir(5)).
 #[derive(Clone, Copy, Debug)]
 pub struct Named {
+    /// What it is in its directory.
     pub role: Role,
+    /// The inode that it names, or 0.
     pub number: u32,
+    /// The length of its record, in bytes.
     pub length: u16,
+    /// Its type (`DT_DIR` and so on).
     pub kind: u8,
 }
 

@@ -1,4 +1,5 @@
-//! The numbers of the format that have a name in the field: each is stated here once, for code and definitions.
+//! The numbers of the format that have a name in the field: each is stated here once, for code and
+//! definitions.
 
 /// The magic number of a superblock (fs(5)).
 pub const FS_MAGIC: u32 = 0x011954;
@@ -6,10 +7,10 @@ pub const FS_MAGIC: u32 = 0x011954;
 /// The magic number of a group block (fs(5)).
 pub const CG_MAGIC: u32 = 0x090255;
 
-/// The bytes of a sector: reads and faults count by it (fs(5)).
+/// The bytes of a sector, the unit of `-b` and of the places of failed reads (fs(5)).
 pub const DEV_BSIZE: u64 = 512;
 
-/// The bytes of a superblock that are looked at (fs(5)).
+/// The bytes of a superblock that are read (fs(5)).
 pub const SUPERBLOCK_BYTES: usize = 1376;
 
 /// The sector of the primary superblock: it is at byte 8,192 (fs(5)).
@@ -42,10 +43,12 @@ pub const DINODE_SIZE: usize = 128;
 /// How many of the fifteen addresses of an inode are direct (inode(5)).
 pub const NDADDR: u64 = 12;
 
-/// How many bad Runs an inode may have: at the next one it is cut, and the rest of it isn't seen (fsck(8)).
+/// How many bad Runs an inode may have: at the next one it is cut, and the rest of it isn't seen
+/// (fsck(8)).
 pub const MAXBAD: u32 = 10;
 
-/// How many dup offers an inode may have: at the next one it is cut, and the rest of it isn't seen (fsck(8)).
+/// How many dup offers an inode may have: at the next one it is cut, and the rest of it isn't seen
+/// (fsck(8)).
 pub const MAXDUP: u32 = 10;
 
 /// The bytes of a directory's chunk, in which no entry crosses the end (dir(5)).
@@ -90,8 +93,8 @@ pub const EMPTY_DIR: u8 = 5;
 /// What a workspace keeps as the type of an inode whose type is unknown.
 pub const UNKNOWN_TYPE: u8 = 15;
 
-/// Where the count of an inode's references ends if there is one for each of its links: it starts at this number
-/// less the links.
+/// Where the count of an inode's references ends if there is one for each of its links: it starts
+/// at this number less the links.
 pub const LINKS_MET: u64 = 32768;
 
 /// Where the count of the references of an inode without links starts.

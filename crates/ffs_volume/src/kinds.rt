@@ -3,10 +3,11 @@
 use crate::Label;
 use crate::constants::{DT_DIR, EMPTY_DIR, UNKNOWN_TYPE};
 
-/// What an inode is, as lists keep it: 0 where nothing is allocated, `UNKNOWN_TYPE`, `EMPTY_DIR` for a directory of
-/// size 0, else the type of the file or directory, as in an entry (dir(5)).
+/// What an inode is, as lists keep it: 0 where nothing is allocated, `UNKNOWN_TYPE`, `EMPTY_DIR`
+/// for a directory of size 0, else the type of the file or directory, as in an entry (dir(5)).
 #[derive(Clone, Copy, Debug, PartialEq, Eq)]
 pub struct Kind {
+    /// One of these numbers.
     pub code: u8,
 }
 

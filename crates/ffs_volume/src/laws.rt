@@ -1,4 +1,5 @@
-//! Laws and worked examples of the definitions. Nothing runs here: each function states its contract.
+//! Laws and worked examples of the definitions. Nothing runs here: each function states its
+//! contract.
 
 ghost use Rattle.ffs_volume.specs.Laws.Accepted.{AcceptedFit};
 ghost use Rattle.ffs_volume.specs.Examples.BlockExamples.{ClassExamples, ClaimExamples, GroupExamples, StepExamples};
@@ -6,17 +7,20 @@ ghost use Rattle.ffs_volume.specs.Examples.DirectoryExamples.{EntryExamples, Pat
 ghost use Rattle.ffs_volume.specs.Laws.Meanings.{AllPathsFit, KeptAreFirst, LevelsAreLeast, SumsAreWhole};
 ghost use Rattle.ffs_volume.specs.Examples.OpeningExamples.{AreaExamples, OpeningExamples, SuperblockExamples};
 
-/// An accepted superblock's layout has every condition of a sound one, and its fragments lie in the image.
+/// An accepted superblock's layout has every condition of a sound one, and its fragments lie in the
+/// image.
 pub fn accepted_are_sound()
     ensures { AcceptedFit }
 {}
 
-/// The fragments that an inode keeps are the first of those that its addresses offer, and all of them unless it is cut.
+/// The fragments that an inode keeps are the first of those that its addresses offer, and all of
+/// them unless it is cut.
 pub fn kept_are_first()
     ensures { KeptAreFirst }
 {}
 
-/// The level of a directory is the least number of edges from inode 2, and is below the number of inodes.
+/// The level of a directory is the least number of edges from inode 2, and is below the number of
+/// inodes.
 pub fn levels_are_least()
     ensures { LevelsAreLeast }
 {}

@@ -1,8 +1,10 @@
-//! What a UFS1 volume is: the definitions that contracts cite, and the types that they share with code.
+//! What a UFS1 volume is: the definitions that contracts cite, and the types that they share with
+//! code.
 //!
-//! The definitions are a book, in `specs/`: folders by subject, in the order that `specs/Lib.antt` gives.
-//! What runs here is small: `End::status`, `Attr::of` and the methods of `kinds::Kind`. `texts` has the texts of messages; `laws` states laws and worked examples of the definitions, and the
-//! lemmas that the crates above use are in `proofs/`.
+//! The definitions are a book, in `specs/`: folders by subject, in the order that `specs/Lib.antt`
+//! gives. What runs here is small: `End::status`, `Attr::of` and the methods of `kinds::Kind`.
+//! `constants` has the numbers of the format, `texts` the texts of messages, and `laws` states laws
+//! and worked examples of the definitions. The lemmas that the crates above use are in `proofs/`.
 //!
 //! It rests on no other crate of this repository.
 #![tactic(auto)]
@@ -15,65 +17,99 @@ pub mod texts;
 /// The order of the bytes in the numbers of an image.
 #[derive(Clone, Copy, Debug, PartialEq, Eq)]
 pub enum Order {
+    /// The least significant byte first.
     Little,
+    /// The most significant byte first.
     Big,
 }
 
-/// Why a superblock is refused. `TooLarge` is a superblock that says it has more than 8,192 bytes, `Shape` a layout whose
-/// parts don't fit each other (`is_valid_layout`), `Short` a volume that is larger than its image, and `Disagree` a copy
-/// in the last group that has other numbers.
+/// Why a superblock is refused, in the order in which faults are looked for (fs(5)).
 #[derive(Clone, Copy, Debug, PartialEq, Eq)]
 pub enum SuperFault {
+    /// It, or its last copy, can't be read, or it passes the image's end. The sector, of 512 bytes,
+    /// is the one where the read begins.
     CannotRead { sector: u64 },
+    /// The magic number isn't right in either byte order.
     Magic,
+    /// The format of inodes (`inodefmt`) isn't that of 4.4BSD.
     InodeFormat,
+    /// There is no cylinder group.
     Ncg,
+    /// A group has no cylinder.
     Cpg,
+    /// `ncyl` cylinders aren't `ncg` groups of `cpg`, of which the last may have fewer.
     Ncyl,
+    /// The superblock says that it has more than 8,192 bytes.
     TooLarge,
+    /// The parts of the layout don't fit each other (`is_valid_layout`).
     Shape,
+    /// The volume has more bytes than its image.
     Short,
+    /// The copy in the last group has another number (`LAYOUT_PLACES`).
     Disagree,
 }
 
-/// The numbers of a superblock that say where a volume's parts lie, and those that must be right for it, under their
-/// names of fs(5). `sblkno`, `cblkno`, `iblkno` and `dblkno` are where the copy of the superblock, the group block, the
-/// inodes and the data of a group begin, in fragments. `size` and `dsize` count all fragments and those for data. There
-/// are `ncg` groups and `ncyl` cylinders. A group has `cpg` cylinders, `ipg` inodes and `fpg` fragments. A block has
-/// `nindir` addresses or `inopb` inodes. The summary area begins at the fragment `csaddr` and has `cssize` bytes. A
-/// group block has `cgsize` bytes.
+/// The numbers of a superblock that say where a volume's parts lie, and those that must be right
+/// for it, under their names of fs(5). The parts of group c are counted from `cgstart(c)`, the
+/// fragment `fpg*c + cgoffset*(c & !cgmask)`.
 #[derive(Clone, Copy, Debug, PartialEq, Eq)]
 pub struct Layout {
+    /// The byte order of the volume.
     pub order: Order,
+    /// Where a group's copy of the superblock begins, in fragments after `cgstart`.
     pub sblkno: u32,
+    /// Where its group block begins, in fragments after `cgstart`.
     pub cblkno: u32,
+    /// Where its inodes begin, in fragments after `cgstart`.
     pub iblkno: u32,
+    /// Where its data begins, in fragments after `cgstart`.
     pub dblkno: u32,
+    /// The parts of group c are moved by `cgoffset * (c & !cgmask)` fragments.
     pub cgoffset: i32,
+    /// The bits of a group's number that don't move its parts.
     pub cgmask: u32,
+    /// The fragments of the volume.
     pub size: u32,
+    /// The fragments for data.
     pub dsize: u32,
+    /// The cylinder groups.
     pub ncg: u32,
+    /// The bytes of a block.
     pub bsize: u32,
+    /// The bytes of a fragment.
     pub fsize: u32,
+    /// The fragments of a block.
     pub frag: u32,
+    /// The bytes of a superblock.
     pub sbsize: u32,
+    /// The addresses in an indirect block.
     pub nindir: u32,
+    /// The inodes in a block of the inode table.
     pub inopb: u32,
+    /// The first fragment of the summary area.
     pub csaddr: u32,
+    /// The bytes of the summary area.
     pub cssize: u32,
+    /// The bytes of a group block.
     pub cgsize: u32,
+    /// The cylinders of the volume.
     pub ncyl: u32,
+    /// The cylinders of a group.
     pub cpg: u32,
+    /// The inodes of a group.
     pub ipg: u32,
+    /// The fragments of a group.
     pub fpg: u32,
+    /// A symbolic link with fewer bytes than this has its text in its inode.
     pub maxsymlinklen: u32,
+    /// The format of inodes, 2.
     pub inodefmt: u32,
+    /// The format of the rotational tables, 1.
     pub postblformat: u32,
 }
 
-/// The offsets of the numbers in which the last copy of a superblock must agree: the magic number, and all of a `Layout` but
-/// `maxsymlinklen`, in the order of the fields.
+/// The offsets, in bytes, of the numbers in which the last copy of a superblock must agree: all of
+/// a `Layout` but `maxsymlinklen`, in the order of the fields, and the magic number last.
 pub const LAYOUT_PLACES: [u16; 25] = [
     8, 12, 16, 20, 24, 28, 36, 40, 44, 48, 52, 56, 104, 116, 120, 152, 156, 160, 176, 180, 184,
     188, 1324, 1356, 1372,
@@ -82,7 +118,8 @@ pub const LAYOUT_PLACES: [u16; 25] = [
 /// One step of a walk over the addresses of an inode.
 #[derive(Clone, Copy, Debug, PartialEq, Eq)]
 pub enum Step {
-    /// Consecutive fragments at one address; `block` is their logical block, or None for an indirect block.
+    /// Consecutive fragments at one address, from `start` on `len` of them; `block` is their
+    /// logical block, or None for an indirect block.
     Run {
         start: u32,
         len: u32,
@@ -112,13 +149,19 @@ pub enum Class {
 /// The numbers of an inode.
 #[derive(Clone, Copy, Debug)]
 pub struct Inode {
+    /// The type in the upper four bits, and the permissions.
     pub mode: u16,
+    /// The count of links.
     pub nlink: i16,
+    /// In bytes.
     pub size: u64,
+    /// When it was modified last, in seconds since 1970.
     pub mtime: i32,
+    /// Fragments: twelve direct ones, then the single, double and triple indirect one; 0 is a hole.
     pub addresses: [u32; 15],
-    /// In sectors of 512 bytes.
+    /// What its blocks take, by its own count, in sectors of 512 bytes.
     pub blocks: u32,
+    /// The user ID of its owner.
     pub uid: u32,
 }
 
@@ -131,7 +174,7 @@ pub enum End {
     Defects,
     /// The superblock is refused.
     Refused(SuperFault),
-    /// Inode 2 is no directory, and the check stopped after phase 2.
+    /// Inode 2 is no directory, so the check stopped in phase 2.
     RootStop,
     /// A read at this sector failed.
     ReadFault(u64),
@@ -145,7 +188,8 @@ impl End {
     ghost use Rattle.ffs_volume.specs.Report.Whole.{status_of};
     ghost use Rattle.std.specs.Prelude.{◌≡◌};
 
-    /// The exit status of a check that ends so: 0 consistent, 1 defects, 8 for a check that isn't completed (as in fsck(8)).
+    /// The exit status of a check that ends so: 0 consistent, 1 defects, 8 for a check that isn't
+    /// completed (as in fsck(8)).
     pub fn status(&self) -> u8
         ensures { result ≡ status_of self.now }
     {
@@ -160,30 +204,46 @@ impl End {
 /// A message of the block check or of the check of cylinder groups.
 #[derive(Clone, Copy, Debug)]
 pub enum BlockMessage {
+    /// An inode of class Partial.
     PartAlloc { inode: u32 },
+    /// An inode of class Unknown.
     UnknownType { inode: u32 },
+    /// A Run that isn't in range, by its first fragment, and its inode.
     Bad { fragment: u32, inode: u32 },
+    /// A fragment that is claimed again, or is reserved. Phase 1 names the inode of each such
+    /// claim, phase 1b that of the first claim.
     Dup { fragment: u32, inode: u32 },
+    /// The eleventh bad Run of an inode.
     ManyBad { inode: u32 },
+    /// The eleventh dup offer of an inode.
     ManyDup { inode: u32 },
+    /// An inode with an address past the end of the file.
     PartTrunc { inode: u32 },
-    /// `found` is what the inode has in its blocks field.
+    /// A wrong count of sectors of 512 bytes: `found` is what the inode has in its blocks field,
+    /// `right` what its kept fragments have.
     BlockCount { inode: u32, found: u32, right: u64 },
+    /// A group block without its magic number.
     GroupMagic { group: u32 },
+    /// Wrong counts of a summary record, or of the superblock.
     FreeCounts,
+    /// A wrong map of a group, or one that passes the end of the group block.
     MapsWrong,
+    /// Wrong numbers of a group block.
     GroupSums,
 }
 
 /// What messages show of an inode.
 #[derive(Clone, Copy, Debug, PartialEq, Eq)]
 pub struct Attr {
+    /// The inode number.
     pub number: u32,
+    /// The user ID of the owner.
     pub uid: u32,
+    /// The type in the upper four bits, and the permissions.
     pub mode: u16,
     /// In bytes.
     pub size: u64,
-    /// In seconds.
+    /// In seconds since 1970.
     pub mtime: i32,
 }
 
@@ -223,7 +283,9 @@ pub enum Role {
 /// How a message calls an inode.
 #[derive(Clone, Copy, Debug, PartialEq, Eq)]
 pub enum Label {
+    /// A directory.
     Dir,
+    /// Any other file.
     File,
     /// Of no known type: its path is shown as that of a name.
     Name,

@@ -1,4 +1,5 @@
-//! The texts of the messages: each stands here once. `Messages/Texts` of the definitions says which message has which.
+//! The texts of the messages, each written once. `Messages/Texts` of the definitions says which
+//! message has which. A text with a question has its answer too.
 
 // What is printed of an inode, of a number and at a line's end.
 pub const INODE: &[u8] = b"I=";

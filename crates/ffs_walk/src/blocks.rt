@@ -10,8 +10,9 @@ use ffs_memory::FixedList;
 /// The indirect blocks that a walk is in, one of each level, in one buffer. They are of one image.
 #[derive(Drop)]
 pub struct Blocks {
+    /// Three blocks of bytes, one for each level.
     pub buffer: FixedList<u8>,
-    /// The addresses of the blocks that are held.
+    /// The addresses of the blocks that are held, in fragments, by their levels.
     pub held: [Option<u32>; 3],
 }
 
@@ -30,7 +31,8 @@ impl Blocks {
 
     /// Reads the block at an address, a fragment, for a level of indirection, unless it is held there.
     ///
-    /// Errors: the read failed. The level holds nothing then.
+    /// # Errors
+    /// A read of the image that failed. The level holds nothing then.
     #[tactic(auto, using(crate::proofs::Areas::block_fits))]
     pub fn fill<I: Image>(
         &mut self,

@@ -10,14 +10,15 @@ use ffs_layout::Geometry;
 /// The position of a walk in an indirect block.
 #[derive(Clone, Copy, Debug)]
 pub struct Frame {
-    /// The block's address.
+    /// The block's address, a fragment.
     pub address: u32,
     /// The first logical block under it.
     pub first: u64,
-    /// The index of the next word, and how many words are used.
+    /// The index of the next word.
     pub next: u32,
+    /// How many of its words are used.
     pub used: u32,
-    /// Whether it isn't known yet that no other word is set.
+    /// Whether its words that aren't used are still to be looked at: one of them may be set.
     pub fresh: bool,
     ghost in_order: { next ≤ used },
     ghost some: { IsTrue (not fresh || nat_lt next used) },
@@ -62,6 +63,9 @@ impl Frame {
     }
 
     /// Takes the next item of the block, and reads the block unless it is held for the level.
+    ///
+    /// # Errors
+    /// A read of the image that failed.
     #[inline(always)]
     pub fn take<I: Image>(
         &mut self,

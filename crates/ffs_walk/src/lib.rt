@@ -1,14 +1,15 @@
-//! The class of an inode, and a walk over its blocks: the steps come in path order (fs(5)).
+//! The class of an inode, and a walk over its blocks, in the order of its addresses (fs(5)).
 //!
-//! `Walk::next` answers the steps of the definition one by one: Runs of fragments, Gaps and Tails. It reads
-//! each indirect block once, into one of three buffers of `Blocks`.
+//! `Walk::next` returns the steps of the definition one by one: Runs of fragments, Gaps (holes),
+//! and Tails (indirect blocks with an address past the end of the file). It reads each indirect
+//! block once, into one of three buffers of `Blocks`.
 //!
 //! ```text
 //! let mut walk = Walk::start(geometry, &inode);
 //! while let Some(step) = walk.next(image, blocks)? { .. }
 //! ```
 //!
-//! It rests on `ffs_layout`.
+//! It rests on `ffs_layout` and `ffs_memory`.
 #![tactic(auto)]
 
 mod blocks;

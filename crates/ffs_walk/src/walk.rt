@@ -16,19 +16,23 @@ use ffs_volume::{Class, Inode, Step};
 /// A walk over the blocks of an inode: its position in the inode's own addresses, and in one indirect block of each level.
 #[derive(Clone, Copy, Debug)]
 pub struct Walk {
+    /// The volume.
     pub geometry: Geometry,
     /// How many logical blocks the walk goes over.
     pub blocks: u64,
     /// How many fragments the last logical block has, where it is direct.
     pub last: u32,
-    /// The index of the next address, and how many addresses are used.
+    /// The index of the next of the inode's own addresses.
     pub next: u32,
+    /// How many of its own addresses are used.
     pub used: u32,
     /// The inode's addresses: twelve direct ones, and a single, a double and a triple indirect one (fs(5)).
     pub addresses: [u32; 15],
-    /// The indirect blocks that the walk is in, by their levels.
+    /// The single indirect block that the walk is in.
     pub single: Frame,
+    /// The double indirect block that the walk is in.
     pub double: Frame,
+    /// The triple indirect block that the walk is in.
     pub triple: Frame,
     ghost in_order: { next ≤ used },
     ghost in_array: { used ≤ 15 },
@@ -262,7 +266,8 @@ impl Walk {
 
     /// The next step, and `None` after the last one. An indirect block is read whole, once, when its first word is reached.
     ///
-    /// Errors: the read of an indirect block failed. The walk is over then.
+    /// # Errors
+    /// A read of an indirect block that failed. The walk is over then.
     #[inline(always)]
     pub fn next<I: Image>(
         &mut self,

@@ -8,8 +8,9 @@ use ffs_memory::FixedList;
 /// A piece of an image that is kept between reads: bytes of one place, and of one image.
 #[derive(Drop)]
 pub struct Window {
+    /// The bytes, and room for more.
     pub buffer: FixedList<u8>,
-    /// Where the bytes are in the image.
+    /// Where the bytes are, in bytes from the start of the image.
     pub place: u64,
     /// How many bytes are held, at the start of the buffer.
     pub length: usize,
@@ -38,7 +39,8 @@ impl Window {
 
     /// Reads `length` bytes at a place, in bytes, unless the window holds just these.
     ///
-    /// Errors: the read failed. The window holds nothing then.
+    /// # Errors
+    /// A read of the image that failed. The window holds nothing then.
     pub fn fill<I: Image>(
         &mut self,
         image: &mut I,

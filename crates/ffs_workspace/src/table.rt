@@ -46,9 +46,11 @@ fn part_place(geometry: &Geometry, number: u32) -> u64
 /// One block of the inode table of a group, or a part of one.
 #[derive(Drop)]
 pub struct Table {
+    /// The bytes of the inodes.
     pub window: Window,
-    /// The inodes that the window holds: the number of the first, and how many.
+    /// The number of the first inode that the window holds.
     pub first: u32,
+    /// How many inodes it holds.
     pub count: u32,
 }
 
@@ -123,8 +125,8 @@ impl Table {
         Ok(())
     }
 
-    // Reads the block of the table that has an inode, unless it is the one that was read last. Its answer is where the inode's
-    // bytes are in the window.
+    // Reads the block of the table that has an inode, unless it is the one that was read last.
+    // Returns where the inode's bytes are in the window.
     #[inline(always)]
     fn load<I: Image>(
         &mut self,
@@ -146,6 +148,9 @@ impl Table {
     }
 
     /// The inode of a number (fs(5)). Its block of the table is read, unless it is the one that was read last.
+    ///
+    /// # Errors
+    /// A read of the image that failed.
     #[inline(always)]
     pub fn inode<I: Image>(
         &mut self,
@@ -165,6 +170,9 @@ impl Table {
 
     /// The inode of a number (fs(5)), as `inode` gives it. Where it isn't held, a part of its block is read: so few bytes
     /// are read for inodes that are far from one another.
+    ///
+    /// # Errors
+    /// A read of the image that failed.
     #[inline(always)]
     pub fn inode_by_part<I: Image>(
         &mut self,

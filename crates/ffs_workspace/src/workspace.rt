@@ -16,7 +16,7 @@ use std::alloc::{AllocError, Global};
 /// The buffers that an image is read into.
 #[derive(Drop)]
 pub struct Windows {
-    /// One block of the inode table.
+    /// One block of the inode table. In phase 5 summary records.
     pub table: Table,
     /// The indirect blocks that a walk is in.
     pub blocks: Blocks,
@@ -33,33 +33,38 @@ pub struct Workspace {
     pub duplicates: FragmentMap,
     /// How many fragments are in `duplicates`.
     pub unreported: u32,
-    /// What each inode is, in four bits.
+    /// What each inode is (`Kind`).
     pub kinds: FixedList<u8>,
-    /// The inodes of an unknown type, with a bad address or with a duplicate one.
+    /// The inodes that are marked: of class Unknown, or with a BAD or DUP line.
     pub marked: FixedList<bool>,
-    /// The inodes that an entry names.
+    /// The inodes that a plain entry names.
     pub named: FixedList<bool>,
     /// The directories that are reached from the root.
     pub reached: FixedList<bool>,
-    /// The directories that represent their cycle of parents: the least of each.
+    /// Flags that the survey and phases 2 and 3 use one after another, each for its own purpose
+    /// (`docs/CONTRIBUTING.md`, "Change what is read").
     pub leaders: FixedList<bool>,
     /// How many entries refer to each inode, counted on from `links_start`.
     pub references: FilledList<u64>,
-    /// How many fragments an inode keeps whose eleventh duplicate cut it, else 0.
+    /// How many offers an inode keeps that its eleventh dup offer cut, else 0.
     pub cut: FilledList<u32>,
     /// The parent of each directory, or 0.
     pub parents: FilledList<u32>,
-    /// The directories of one level below the root, and of the next.
+    /// Numbers that the survey and phases 2 and 3 use one after another, each for its own purpose.
     pub queue: FilledList<u32>,
     /// How many Runs phase 1 has looked at.
     pub runs_seen: u64,
     /// How many Runs phase 1b has looked at.
     pub runs_again: u64,
-    /// Of the current inode: its bad Runs, its duplicates, the fragments that it keeps, and whether it has a Tail.
+    /// The bad Runs of the current inode.
     pub bad: u32,
+    /// The dup offers of the current inode.
     pub dups: u32,
+    /// The fragments that the current inode keeps.
     pub kept: u64,
+    /// Whether a Tail of the current inode is kept.
     pub tail: bool,
+    /// The buffers that the image is read into.
     pub windows: Windows,
 }
 
@@ -67,14 +72,20 @@ impl Workspace {
     ghost use Rattle.ffs_workspace.specs.Lengths.{IsFor, held_of};
     ghost use Rattle.ffs_workspace.specs.Ready.{IsNew};
 
-    /// Takes all memory of a check of the volume from an allocator, and holds nothing yet. After an `Err` nothing is taken.
+    /// Takes all memory of a check of the volume from an allocator, and holds nothing yet.
+    ///
+    /// # Errors
+    /// The memory was refused. Nothing is taken then.
     pub fn new(alloc: Global, geometry: &Geometry) -> Result<Workspace, AllocError>
         ensures { IfOk result (IsNew geometry.now.layout) }
     {
         Workspace::in_memory(&mut SystemMemory::new(alloc), geometry)
     }
 
-    /// Takes all memory of a check of the volume, and holds nothing yet. After an `Err` nothing is held.
+    /// Takes all memory of a check of the volume, and holds nothing yet.
+    ///
+    /// # Errors
+    /// The memory was refused. Nothing is held then.
     pub fn in_memory<M: Memory>(
         memory: &mut M,
         geometry: &Geometry,
@@ -136,7 +147,7 @@ impl Workspace {
         maps + lists + buffers as u64
     }
 
-    /// Whether a fragment has a DUP line whose first claim is not reported yet.
+    /// Whether some fragment has a DUP line and its first claim isn't reported yet.
     pub fn has_dups(&self) -> bool
         ensures { result ≡ not (self.now.unreported == 0) }
     {

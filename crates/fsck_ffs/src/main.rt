@@ -1,4 +1,5 @@
-//! Checks an image of a UFS1 file system, and never writes it: `fsck_ffs -n [-b sector] image`, after fsck(8).
+//! Checks an image of a UFS1 file system, and never writes it: `fsck_ffs -n [-b sector] image`,
+//! after fsck(8).
 #![tactic(auto)]
 
 use ffs_check::run::run;
@@ -17,7 +18,7 @@ const MEMORY_DEVICES: u64 = 1;
 /// The status where memory is refused.
 const NO_MEMORY: u8 = 8;
 
-/// The status of words that are not text.
+/// The status of arguments that are not text.
 const WRONG_WORDS: u8 = 2;
 
 fn main(rt: HostRuntime) -> ExitCode {
@@ -58,8 +59,8 @@ fn print_report(rt: &HostRuntime, words: &[&str]) -> ExitCode {
     ExitCode::from(status)
 }
 
-// Whether standard output is a terminal, so that somebody may wait for each line. The devices of memory, such as /dev/null, are
-// no terminals.
+// Whether standard output is a terminal, so that somebody may wait for each line. The devices of
+// memory, such as /dev/null, are no terminals.
 fn is_watched(rt: &HostRuntime) -> bool {
     match fs::metadata(rt, "/dev/stdout") {
         Ok(metadata) => {
