@@ -108,7 +108,12 @@ pub ready_still : (l : Layout) (d : Device) (u w : Workspace) → IsFor l w → 
 ready_still l d u w made e r = record {
   made = made;
   volume = r.volume;
-  windows = record { table = rw e r.windows.table; blocks = rw e r.windows.blocks; chunk = rw e r.windows.chunk };
+  windows = record {
+    table = rw e r.windows.table;
+    blocks = rw e r.windows.blocks;
+    chunk = rw e r.windows.chunk;
+    names = rw e r.windows.names;
+  };
 }
 
 -- and where an indirect block was read, or couldn't be
@@ -122,7 +127,12 @@ ready_read l d d' w b e size room holds r =
     record {
       made = search rules;
       volume = rw size r.volume;
-      windows = record { table = rw e r.windows.table; blocks = holds; chunk = rw e r.windows.chunk };
+      windows = record {
+        table = rw e r.windows.table;
+        blocks = holds;
+        chunk = rw e r.windows.chunk;
+        names = rw e r.windows.names;
+      };
     }
 
 -- as a walk does
@@ -177,12 +187,14 @@ ready_stored l d number class i u w s e r =
         table = rw same m.table;
         blocks = ap (λ x. vec_len x.windows.blocks.buffer) e ∙ m.blocks;
         chunk = ap (λ x. vec_len x.windows.chunk.buffer) e ∙ m.chunk;
+        names = ap (λ x. vec_len x.windows.names.buffer) e ∙ m.names;
       };
       volume = r.volume;
       windows = record {
         table = rw same r.windows.table;
         blocks = rw same r.windows.blocks;
         chunk = rw same r.windows.chunk;
+        names = rw same r.windows.names;
       };
     }
 

@@ -43,8 +43,10 @@ pub record IsReady (v : Layout) (device : Device) (windows : Windows) (kinds cut
   pub table : IsTableOf v windows.table
   pub blocks : vec_len windows.blocks.buffer ≡ 3 * v.bsize
   pub chunk : vec_len windows.chunk.buffer ≡ v.bsize
+  pub names : vec_len windows.names.buffer ≡ v.bsize
   pub table_holds : WindowHolds device.contents windows.table.window
   pub blocks_hold : BlocksHold v device.contents windows.blocks
   pub chunk_holds : WindowHolds device.contents windows.chunk
+  pub names_hold : WindowHolds device.contents windows.names
   pub kinds_long : length kinds ≡ inodes_of v
   pub cut_long : length cut ≡ inodes_of v

@@ -35,14 +35,14 @@ seen_next order chunk first index place e role there is =
     next)
 
 pub quiet_on : (v : Volume) (s : ℕ) (stamps stamps' : List ℕ) (seen : RoledEntry) (es es' : List RoledEntry)
-    (all quiet here : Bool) → es ≡ seen ∷ es' →
-    here ≡ is_quiet v s stamps seen → stamps' ≡ after_look v s stamps seen → all ≡ (quiet && are_quiet v s stamps es) →
-    all ≡ ((quiet && here) && are_quiet v s stamps' es')
-quiet_on v s stamps stamps' seen es es' all quiet here e h t q =
+    (all quiet still : Bool) → es ≡ seen ∷ es' →
+    still ≡ (quiet && is_quiet v s stamps seen) → stamps' ≡ after_look v s stamps seen →
+    all ≡ (quiet && are_quiet v s stamps es) → all ≡ (still && are_quiet v s stamps' es')
+quiet_on v s stamps stamps' seen es es' all quiet still e h t q =
     q ∙ (ap (λ l. quiet && are_quiet v s stamps l) e
     ∙ (and_assoc quiet (is_quiet v s stamps seen) (are_quiet v s (after_look v s stamps seen) es')
-    ∙ (ap (λ b. (quiet && b) && are_quiet v s (after_look v s stamps seen) es') (sym h)
-    ∙ ap (λ l. (quiet && here) && are_quiet v s l es') (sym t))))
+    ∙ (ap (λ b. b && are_quiet v s (after_look v s stamps seen) es') (sym h)
+    ∙ ap (λ l. still && are_quiet v s l es') (sym t))))
 
 pub stamps_on : (v : Volume) (s : ℕ) (stamps stamps' all : List ℕ) (seen : RoledEntry) (es es' : List RoledEntry) →
     es ≡ seen ∷ es' →

@@ -40,12 +40,14 @@ ready_read v d d' w blocks chunk r same can = record {
     table = r.made.table;
     blocks = can.walk.room;
     chunk = can.room;
+    names = r.made.names;
   };
   volume = can.walk.volume;
   windows = record {
     table = subst (λ t. WindowHolds t w.windows.table.window) (sym same) r.windows.table;
     blocks = can.walk.holds;
     chunk = can.holds;
+    names = subst (λ t. WindowHolds t w.windows.names) (sym same) r.windows.names;
   };
 }
 
@@ -69,10 +71,11 @@ can_read_in v d w r = record {
 
 -- what two calls leave that read
 pub reads_more : {E : Type 0} (v : Layout) (d d' d'' : Device) (w w' w'' : Workspace) (q : Result E ImageFault) → d' ≡ d
-    → w' ≡ record w { windows = w'.windows } →
+    → w' ≡ record w { windows = w'.windows } → w'.windows.chunk ≡ w.windows.chunk →
     OnlyReads v d' d'' w' w'' q → OnlyReads v d d'' w w'' q
-reads_more v d d' d'' w w' w'' q e lists s = record {
+reads_more v d d' d'' w w' w'' q e lists chunk s = record {
   lists = s.lists ∙ ap (λ (x : Workspace). record x { windows = w''.windows }) lists;
+  chunk = s.chunk ∙ chunk;
   ready = s.ready;
   read = subst (λ x. ReadAfter x d'' q) e s.read;
 }

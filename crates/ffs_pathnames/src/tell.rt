@@ -58,7 +58,10 @@ pub fn read_attr<I: Image>(
     ensures reads { OnlyReads geometry.now.layout (I.device image.old) (I.device image.new)
         workspace.old workspace.new result }
 {
-    let inode = workspace.windows.table.inode(geometry, number, image)?;
+    let inode = workspace
+        .windows
+        .table
+        .inode_by_part(geometry, number, image)?;
     Ok(Attr::of(number, &inode))
 }
 

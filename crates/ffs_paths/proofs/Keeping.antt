@@ -69,24 +69,26 @@ leaves_same s (Err e) k r = record { reads = r; siblings = tt }
 pub leaves_as : {S T : Type 0} {v : Layout} {d d' : Device} {w w' : Workspace} {s : Siblings} {x : S} {y : T} →
     PathLeaves v d d' w w' s (Ok x) → PathLeaves v d d' w w' s (Ok y)
 leaves_as l = record {
-  reads = record { lists = l.reads.lists; ready = l.reads.ready; read = l.reads.read };
+  reads = record { lists = l.reads.lists; chunk = l.reads.chunk; ready = l.reads.ready; read = l.reads.read };
   siblings = l.siblings;
 }
 
 -- nothing was read yet
 pub no_reads : {T : Type 0} {v : Layout} {d : Device} {w : Workspace} {x : T} → IsReady v d w →
     OnlyReads v d d w w (Ok x)
-no_reads r = record { lists = refl; ready = r; read = refl }
+no_reads r = record { lists = refl; chunk = refl; ready = r; read = refl }
 
 -- a read into the windows, after a call that only read
 pub then_reads : {S T : Type 0} {v : Layout} {old first last : Device} {before w : Workspace} {windows : Windows}
     {x : S}
     {result : Result T ImageFault} → OnlyReads v old first before w (Ok x) → AreOpen v last windows
-    → ReadAfter first last result → OnlyReads v old last before (record w { windows = windows }) result
-then_reads {last = last} {windows = windows} {result = result} one opened read =
+    → windows.chunk ≡ w.windows.chunk → ReadAfter first last result
+    → OnlyReads v old last before (record w { windows = windows }) result
+then_reads {last = last} {windows = windows} {result = result} one opened chunk read =
     let made = one.ready.made in
     record {
       lists = ap (λ (w : Workspace). record w { windows = windows }) one.lists;
+      chunk = chunk ∙ one.chunk;
       ready = record {
         made = record {
           claimed = made.claimed;
@@ -104,9 +106,15 @@ then_reads {last = last} {windows = windows} {result = result} one opened read =
           table = opened.table;
           blocks = opened.blocks;
           chunk = opened.chunk;
+          names = opened.names;
         };
         volume = opened.volume;
-        windows = record { table = opened.table_holds; blocks = opened.blocks_hold; chunk = opened.chunk_holds };
+        windows = record {
+          table = opened.table_holds;
+          blocks = opened.blocks_hold;
+          chunk = opened.chunk_holds;
+          names = opened.names_hold;
+        };
       };
       read = subst (λ d. ReadAfter d last result) one.read read;
     }
@@ -118,6 +126,7 @@ pub reads_then : {S T : Type 0} {v : Layout} {old mid last : Device} {before w a
     OnlyReads v old last before after result
 reads_then {last = last} {after = after} {result = result} one two = record {
   lists = two.lists ∙ ap (λ (w : Workspace). record w { windows = after.windows }) one.lists;
+  chunk = two.chunk ∙ one.chunk;
   ready = two.ready;
   read = subst (λ d. ReadAfter d last result) one.read two.read;
 }

@@ -124,32 +124,36 @@ name_there b r h =
     sym (piece_of (last_place r.chunks.run_cursor) 512 r.name_place r.name_len b fits)
     ∙ ap (λ xs. piece r.name_place r.name_len xs) (sym h)
 
--- the windows after a read of blocks and chunks
-pub open_on : (v : Layout) (d d' : Device) (w : Windows) (blocks : Blocks) (chunk : Window) → AreOpen v d w →
+-- the windows after a read of blocks and names
+pub open_on : (v : Layout) (d d' : Device) (w : Windows) (blocks : Blocks) (names : Window) → AreOpen v d w →
     d'.size ≡ d.size → d'.contents ≡ d.contents → vec_len blocks.buffer ≡ vec_len w.blocks.buffer
-    → BlocksHold v d'.contents blocks → vec_len chunk.buffer ≡ vec_len w.chunk.buffer → WindowHolds d'.contents chunk →
-    AreOpen v d' (record { table = w.table; blocks = blocks; chunk = chunk })
-open_on v d d' w blocks chunk o size contents long holds chunk_long chunk_holds = record {
+    → BlocksHold v d'.contents blocks → vec_len names.buffer ≡ vec_len w.names.buffer → WindowHolds d'.contents names →
+    AreOpen v d' (record { table = w.table; blocks = blocks; chunk = w.chunk; names = names })
+open_on v d d' w blocks names o size contents long holds names_long names_hold = record {
   volume = subst (λ n. v.size * v.fsize ≤ n) (sym size) o.volume;
   table = o.table;
   blocks = long ∙ o.blocks;
-  chunk = chunk_long ∙ o.chunk;
+  chunk = o.chunk;
+  names = names_long ∙ o.names;
   table_holds = subst (λ c. WindowHolds c w.table.window) (sym contents) o.table_holds;
   blocks_hold = holds;
-  chunk_holds = chunk_holds;
+  chunk_holds = subst (λ c. WindowHolds c w.chunk) (sym contents) o.chunk_holds;
+  names_hold = names_hold;
 }
 
-pub open_next : (v : Layout) (d d' : Device) (w : Windows) (blocks : Blocks) (chunk : Window) → AreOpen v d w
-    → d'.contents ≡ d.contents → CanReadChunks v d' blocks chunk
-    → AreOpen v d' (record { table = w.table; blocks = blocks; chunk = chunk })
-open_next v d d' w blocks chunk o contents ready = record {
+pub open_next : (v : Layout) (d d' : Device) (w : Windows) (blocks : Blocks) (names : Window) → AreOpen v d w
+    → d'.contents ≡ d.contents → CanReadChunks v d' blocks names
+    → AreOpen v d' (record { table = w.table; blocks = blocks; chunk = w.chunk; names = names })
+open_next v d d' w blocks names o contents ready = record {
   volume = ready.walk.volume;
   table = o.table;
   blocks = ready.walk.room;
-  chunk = ready.room;
+  chunk = o.chunk;
+  names = ready.room;
   table_holds = subst (λ c. WindowHolds c w.table.window) (sym contents) o.table_holds;
   blocks_hold = ready.walk.holds;
-  chunk_holds = ready.holds;
+  chunk_holds = subst (λ c. WindowHolds c w.chunk) (sym contents) o.chunk_holds;
+  names_hold = ready.holds;
 }
 
 -- a plain entry is kept where only its number gets a place
@@ -197,13 +201,13 @@ last_short r =
     let l = length-take r.name_len (drop r.name_place r.chunk) in
     omega arith
 
--- a name was read into the window of chunks
-pub name_read : {T : Type 0} (v : Layout) (d d' : Device) (w : Workspace) (chunk : Window)
+-- a name was read into the window of names
+pub name_read : {T : Type 0} (v : Layout) (d d' : Device) (w : Workspace) (names : Window)
     (result : Result T ImageFault) → IsReady v d w → d'.size ≡ d.size → d'.contents ≡ d.contents →
-    vec_len chunk.buffer ≡ vec_len w.windows.chunk.buffer
-    → WindowHolds d'.contents chunk → ReadAfter d d' result →
-    OnlyReads v d d' w (record w { windows = record w.windows { chunk = chunk } }) result
-name_read {T} v d d' w chunk result ready size contents long holds read =
+    vec_len names.buffer ≡ vec_len w.windows.names.buffer
+    → WindowHolds d'.contents names → ReadAfter d d' result →
+    OnlyReads v d d' w (record w { windows = record w.windows { names = names } }) result
+name_read {T} v d d' w names result ready size contents long holds read =
     let made = ready.made in
     let one : OnlyReads {T = Unit {0}} v d d w w (Ok tt) = no_reads ready in
     let opened : AreOpen v d w.windows = record {
@@ -211,12 +215,14 @@ name_read {T} v d d' w chunk result ready size contents long holds read =
       table = made.table;
       blocks = made.blocks;
       chunk = made.chunk;
+      names = made.names;
       table_holds = ready.windows.table;
       blocks_hold = ready.windows.blocks;
       chunk_holds = ready.windows.chunk;
+      names_hold = ready.windows.names;
     } in
-    then_reads one (open_on v d d' w.windows w.windows.blocks chunk opened size contents refl
-    (subst (λ c. BlocksHold v c w.windows.blocks) (sym contents) ready.windows.blocks) long holds) read
+    then_reads one (open_on v d d' w.windows w.windows.blocks names opened size contents refl
+    (subst (λ c. BlocksHold v c w.windows.blocks) (sym contents) ready.windows.blocks) long holds) refl read
 
 -- a name is read whole
 pub take_whole : (n m : ℕ) (xs : List ℕ) → n ≡ m → m ≤ 512 → length (take n xs) ≤ 512

@@ -25,14 +25,17 @@ pub record AreOpen (v : Layout) (d : Device) (w : Windows) : Type 0 where
   pub table : IsTableOf v w.table
   pub blocks : vec_len w.blocks.buffer ≡ 3 * v.bsize
   pub chunk : vec_len w.chunk.buffer ≡ v.bsize
+  pub names : vec_len w.names.buffer ≡ v.bsize
   pub table_holds : WindowHolds d.contents w.table.window
   pub blocks_hold : BlocksHold v d.contents w.blocks
   pub chunk_holds : WindowHolds d.contents w.chunk
+  pub names_hold : WindowHolds d.contents w.names
 
--- what a read through them leaves
-pub record ReadsOpen {T : Type 0} (v : Layout) (old new : Device) (w : Windows) (result : Result T ImageFault) :
-    Type 0 where
-  pub windows : AreOpen v new w
+-- what a read through them leaves: the chunk of the directory in hand is as it was
+pub record ReadsOpen {T : Type 0} (v : Layout) (old new : Device) (before after : Windows)
+    (result : Result T ImageFault) : Type 0 where
+  pub windows : AreOpen v new after
+  pub chunk : after.chunk ≡ before.chunk
   pub read : ReadAfter old new result
 
 -- the survey found this parent of a directory that is reached and isn't the root

@@ -116,13 +116,13 @@ impl ChildNames {
         ensures names { IfOk result (AreFoundIn geometry.now.layout (I.device image.old).contents
             parent cut first) }
         ensures leaves { ReadsOpen geometry.now.layout (I.device image.old) (I.device image.new)
-            windows.new result }
+            windows.old windows.new result }
     {
         let mut search = Search::open(geometry, image, windows, parent, cut)?;
         let mut names = ChildNames::of(parent, first);
         'entries: while let Some(entry) = search
             .entries
-            .next(image, &mut windows.blocks, &mut windows.chunk)?
+            .next(image, &mut windows.blocks, &mut windows.names)?
         {
             names.keep_entry(entry, &search.entries);
         }

@@ -69,9 +69,9 @@ impl Search {
         requires windows { AreOpen geometry.now.layout (I.device image.old) windows.old }
         ensures opened { IfOk result (IsOpened geometry.now (I.device image.old).contents dir cut) }
         ensures leaves { ReadsOpen geometry.now.layout (I.device image.old) (I.device image.new)
-            windows.new result }
+            windows.old windows.new result }
     {
-        let inode = windows.table.inode(geometry, dir, image)?;
+        let inode = windows.table.inode_by_part(geometry, dir, image)?;
         Ok(Search {
             entries: Entries::start(geometry, &inode, cut),
             highest: 0,
@@ -94,11 +94,11 @@ impl Search {
             (λ b. FindsFirst b number self.old self.new found)) }
         ensures on { SearchesOn self.old self.new }
         ensures leaves { ReadsOpen self.old.entries.chunks.walk.geometry.layout
-            (I.device image.old) (I.device image.new) windows.new result }
+            (I.device image.old) (I.device image.new) windows.old windows.new result }
     {
         'entries: while let Some(entry) = self
             .entries
-            .next(image, &mut windows.blocks, &mut windows.chunk)?
+            .next(image, &mut windows.blocks, &mut windows.names)?
         {
             raise(&mut self.highest, entry);
             if names(entry, number) {

@@ -186,7 +186,7 @@ impl Siblings {
             dir parent }
         ensures name { IfOk result (λ found.
             FindsName geometry.now.layout (I.device image.old) workspace.old self.new dir
-            (name_at self.new workspace.new.windows.chunk found)) }
+            (name_at self.new workspace.new.windows.names found)) }
         ensures leaves { PathLeaves geometry.now.layout (I.device image.old) (I.device image.new)
             workspace.old workspace.new self.new result }
     {
@@ -214,7 +214,7 @@ impl Siblings {
             dir parent }
         ensures name { IfOk result (λ found.
             FindsName geometry.now.layout (I.device image.old) workspace.old self.new dir
-            (name_at self.new workspace.new.windows.chunk found)) }
+            (name_at self.new workspace.new.windows.names found)) }
         ensures leaves { PathLeaves geometry.now.layout (I.device image.old) (I.device image.new)
             workspace.old workspace.new self.new result }
     {
@@ -225,7 +225,7 @@ impl Siblings {
         let Some(place) = self.names.place_of(dir) else {
             return Ok(FoundName::Missing);
         };
-        let window = &mut workspace.windows.chunk;
+        let window = &mut workspace.windows.names;
         window.fill(image, place.place, place.length)?;
         Ok(FoundName::InWindow)
     }
@@ -265,7 +265,7 @@ impl Siblings {
             return directory_path(geometry, image, workspace, dir);
         };
         let found = self.find_name(geometry, image, workspace, parent, dir)?;
-        let name = self.name_at(&workspace.windows.chunk, found);
+        let name = self.name_at(&workspace.windows.names, found);
         Ok(self.path.child(name))
     }
 
@@ -292,7 +292,7 @@ impl Siblings {
             return path_of(geometry, image, workspace, dir, None, text);
         };
         let found = self.find_name(geometry, image, workspace, parent, dir)?;
-        let name = self.name_at(&workspace.windows.chunk, found);
+        let name = self.name_at(&workspace.windows.names, found);
         self.path.put_entry(name, text);
         Ok(())
     }

@@ -13,11 +13,11 @@ use ffs_volume::End;
 use std::alloc::{AllocError, Global};
 use std::test::Fail;
 
-// Two maps, nine lists with an item for each inode, and three buffers.
-const REQUESTS: u64 = 14;
+// Two maps, nine lists with an item for each inode, and four buffers.
+const REQUESTS: u64 = 15;
 
-// Two maps of two words, 25 bytes for each of 32 inodes, and five blocks.
-const HELD: u64 = 2 * 16 + 25 * 32 + 5 * 4096;
+// Two maps of two words, 25 bytes for each of 32 inodes, and six blocks.
+const HELD: u64 = 2 * 16 + 25 * 32 + 6 * 4096;
 
 const UNSTARTED: &[u8] = b"** t.img (NO WRITE)\n** Last Mounted on /mnt\ncannot alloc maps\n";
 

@@ -5,12 +5,12 @@ use ffs_layout::Order;
 use ffs_workspace::{Workspace, links_start};
 use std::test::Fail;
 
-// Two maps of two words, 25 bytes for each inode, and five blocks.
+// Two maps of two words, 25 bytes for each inode, and six blocks.
 #[test]
 fn fresh_workspace(rt: HostRuntime) -> Result<(), Fail> {
     let geometry = geometry(Order::Little)?;
     let workspace = Workspace::new(rt.alloc(), &geometry)?;
-    assert_eq!(rt; workspace.held(), 2 * 16 + 25 * 32 + 5 * 4096);
+    assert_eq!(rt; workspace.held(), 2 * 16 + 25 * 32 + 6 * 4096);
     assert!(rt; workspace.held() <= 37712);
     assert!(rt; !workspace.has_dups());
     assert_eq!(rt; workspace.runs(), [0, 0]);

@@ -16,5 +16,10 @@ ready_table v d d' w t e size kept r =
     record {
       made = search rules;
       volume = rw size r.volume;
-      windows = record { table = kept.holds; blocks = rw e r.windows.blocks; chunk = rw e r.windows.chunk };
+      windows = record {
+        table = kept.holds;
+        blocks = rw e r.windows.blocks;
+        chunk = rw e r.windows.chunk;
+        names = rw e r.windows.names;
+      };
     }

@@ -32,13 +32,15 @@ pub record IsFor (v : Layout) (w : Workspace) : Type 0 where
   pub table : IsTableOf v w.windows.table
   pub blocks : vec_len w.windows.blocks.buffer ≡ 3 * v.bsize
   pub chunk : vec_len w.windows.chunk.buffer ≡ v.bsize
+  pub names : vec_len w.windows.names.buffer ≡ v.bsize
 
 -- the windows hold what the image gives
 pub record HoldWindows (v : Layout) (contents : Option (List ℕ)) (w : Workspace) : Type 0 where
   pub table : WindowHolds contents w.windows.table.window
   pub blocks : BlocksHold v contents w.windows.blocks
   pub chunk : WindowHolds contents w.windows.chunk
+  pub names : WindowHolds contents w.windows.names
 
--- how many bytes its lists and buffers take: two maps, 25 bytes an inode, five blocks
+-- how many bytes its lists and buffers take: two maps, 25 bytes an inode, six blocks
 abbrev pub held_of : Layout → ℕ
-held_of v = 2 * (8 * div_ceil v.size 64) + 25 * inodes_of v + 5 * v.bsize
+held_of v = 2 * (8 * div_ceil v.size 64) + 25 * inodes_of v + 6 * v.bsize

@@ -28,11 +28,13 @@ pub record IsNew (v : Layout) (w : Workspace) : Type 0 where
   pub runs_again : w.runs_again ≡ 0
   pub windows : (contents : Option (List ℕ)) → HoldWindows v contents w
 
--- the windows have room for five blocks, and hold what any image gives
+-- the windows have room for six blocks, and hold what any image gives
 pub record AreNewWindows (v : Layout) (w : Windows) : Type 0 where
   pub table : IsTableOf v w.table
   pub blocks : vec_len w.blocks.buffer ≡ 3 * v.bsize
   pub chunk : vec_len w.chunk.buffer ≡ v.bsize
+  pub names : vec_len w.names.buffer ≡ v.bsize
   pub table_holds : (contents : Option (List ℕ)) → WindowHolds contents w.table.window
   pub blocks_hold : (contents : Option (List ℕ)) → BlocksHold v contents w.blocks
   pub chunk_holds : (contents : Option (List ℕ)) → WindowHolds contents w.chunk
+  pub names_hold : (contents : Option (List ℕ)) → WindowHolds contents w.names

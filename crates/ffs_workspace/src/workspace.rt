@@ -20,11 +20,13 @@ pub struct Windows {
     pub table: Table,
     /// The indirect blocks that a walk is in.
     pub blocks: Blocks,
-    /// A chunk of a directory.
+    /// A chunk of the directory in hand.
     pub chunk: Window,
+    /// A chunk of another directory: paths read here, so that the directory in hand stays in `chunk`.
+    pub names: Window,
 }
 
-/// What a check keeps: two maps with a bit for each fragment, 25 bytes for each inode, and five blocks.
+/// What a check keeps: two maps with a bit for each fragment, 25 bytes for each inode, and six blocks.
 #[derive(Drop)]
 pub struct Workspace {
     /// The fragments that are reserved or claimed.
@@ -143,7 +145,8 @@ impl Workspace {
         let lists = bytes as u64 + 4 * words as u64 + 8 * self.references.len() as u64;
         let buffers = self.windows.table.window.buffer.len()
             + self.windows.blocks.buffer.len()
-            + self.windows.chunk.buffer.len();
+            + self.windows.chunk.buffer.len()
+            + self.windows.names.buffer.len();
         maps + lists + buffers as u64
     }
 
@@ -168,16 +171,18 @@ impl Windows {
     fn in_memory<M: Memory>(memory: &mut M, geometry: &Geometry) -> Result<Windows, AllocError>
         ensures new { IfOk result (AreNewWindows geometry.now.layout) }
         ensures asks { Asks (M.account memory.old) (M.account memory.new)
-            (5 * geometry.now.layout.bsize) result }
+            (6 * geometry.now.layout.bsize) result }
     {
         let size = geometry.layout.bsize as usize;
         let table = Table::over(memory.bytes(size)?);
         let blocks = Blocks::over(memory.bytes(3 * size)?);
         let chunk = Window::over(memory.bytes(size)?);
+        let names = Window::over(memory.bytes(size)?);
         Ok(Windows {
             table,
             blocks,
             chunk,
+            names,
         })
     }
 }

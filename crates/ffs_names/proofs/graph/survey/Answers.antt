@@ -27,6 +27,7 @@ returns-clause-ready g c =
             (g.I.Image.device c.survey.new.directories.image.now).contents c.survey.new.directories.windows.now.blocks
             same (ap (λ x. (g.I.Image.device x).contents) image) r.blocks_hold;
         chunk = rw image r.chunk_holds;
+        names = rw image r.names_hold;
       };
     }
 

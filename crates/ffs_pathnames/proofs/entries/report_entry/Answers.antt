@@ -49,9 +49,15 @@ returns-clause-leaves g c =
             table = made.table;
             blocks = made.blocks;
             chunk = made.chunk;
+            names = made.names;
           };
           volume = said.ready.volume;
-          windows = record { table = windows.table; blocks = windows.blocks; chunk = windows.chunk };
+          windows = record {
+            table = windows.table;
+            blocks = windows.blocks;
+            chunk = windows.chunk;
+            names = windows.names;
+          };
         };
         siblings = siblings_on _ _ _ _ _ _ refl marks said.siblings;
       };

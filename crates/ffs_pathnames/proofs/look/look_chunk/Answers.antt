@@ -23,7 +23,7 @@ entries-preserved c =
           (roled_at_place c.args.order c.args.chunk.now c.args.first c.entries.index c.entries.place)
           (roled_at_place c.args.order c.args.chunk.now c.args.first (c.entries.index + 1)
           (c.entries.place + c.in-Some.entry.length))
-          _ c.entries.quiet c.is_quiet-here.result next (c.is_quiet-here.ensures v s)
+          _ c.entries.quiet c.stays_quiet-quiet.result next (c.stays_quiet-quiet.ensures v s)
           (c.stamp.ensures.after v s) (c.entries.invariant.quiet v s);
       stamps = λ v s. stamps_on v c.args.dir c.entries.stamps.items c.stamp.new.stamps.items _ seen
           (roled_at_place c.args.order c.args.chunk.now c.args.first c.entries.index c.entries.place)

@@ -27,7 +27,7 @@ returns-clause-leaves g c =
     let path = c.in_ok-gather_path.ensures.leaves in
     let attr = c.in_ok-attr.ensures.reads in
     record {
-      reads = reads_more _ _ _ _ _ _ _ _ path.reads.read path.reads.lists attr;
+      reads = reads_more _ _ _ _ _ _ _ _ path.reads.read path.reads.lists path.reads.chunk attr;
       siblings = siblings_on _ _ _ _ _ _ (ap (λ d. d.contents) attr.read) (windows_leave _ _ attr.lists) path.siblings;
     }
 
@@ -47,7 +47,7 @@ returns-in_err-gather_path-clause-leaves g c =
     let left = c.in_err-gather_path.ensures.leaves.reads in
     let p = err_from_is_err_and c.from_residual.result c.from_residual.ensures.1 in
     rw (p.1, p.2) (record {
-      reads = record { lists = left.lists; ready = left.ready; read = left.read };
+      reads = record { lists = left.lists; chunk = left.chunk; ready = left.ready; read = left.read };
       siblings = tt;
     })
 
@@ -63,7 +63,7 @@ returns-in_err-attr-clause-leaves g c =
     let left = c.in_err-attr.ensures.reads in
     let p = err_from_is_err_and c.from_residual-in_err-attr.result c.from_residual-in_err-attr.ensures.1 in
     rw (p.1, p.2) (record {
-      reads = reads_more _ _ _ _ _ _ _ _ path.reads.read path.reads.lists
-          (record { lists = left.lists; ready = left.ready; read = left.read });
+      reads = reads_more _ _ _ _ _ _ _ _ path.reads.read path.reads.lists path.reads.chunk
+          (record { lists = left.lists; chunk = left.chunk; ready = left.ready; read = left.read });
       siblings = tt;
     })

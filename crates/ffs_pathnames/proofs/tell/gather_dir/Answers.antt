@@ -9,6 +9,6 @@ returns-clause-leaves g c =
     let path = c.in_ok-put_path.ensures.leaves in
     let attr = c.in_ok-attr.ensures.reads in
     record {
-      reads = reads_more _ _ _ _ _ _ _ _ path.reads.read path.reads.lists attr;
+      reads = reads_more _ _ _ _ _ _ _ _ path.reads.read path.reads.lists path.reads.chunk attr;
       siblings = siblings_on _ _ _ _ _ _ (ap (λ d. d.contents) attr.read) (windows_leave _ _ attr.lists) path.siblings;
     }

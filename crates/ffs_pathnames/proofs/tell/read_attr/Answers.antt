@@ -5,8 +5,8 @@ use Rattle.ffs_volume.specs.Directories.Volumes.{volume_of, volume_with}
 use Rattle.ffs_workspace.proofs.Readiness.{ready_table}
 use Rattle.ffs_pathnames.proofs.tell.read_attr.Goals as goal
 
-pub inode-requires : goal.inode-requires
-inode-requires g c =
+pub inode_by_part-requires : goal.inode_by_part-requires
+inode_by_part-requires g c =
     let ready = c.requires.ready in
     record {
       number = c.requires.number;
@@ -21,8 +21,9 @@ returns-in_err-inode g c =
       attr = _;
       reads = record {
         lists = refl;
+        chunk = refl;
         ready = ready_table c.args.geometry.now.layout (g.I.Image.device c.args.image.now) _ c.args.workspace.now
-            c.inode.new.self err.contents err.size c.inode.ensures.kept c.requires.ready;
+            c.inode_by_part.new.self err.contents err.size c.inode_by_part.ensures.kept c.requires.ready;
         read = err;
       };
     })
@@ -35,8 +36,9 @@ returns g c =
       attr = λ b k. c.of.ensures ∙ ap (λ i. attributes_of c.args.number i) (c.in_ok-inode.ensures.inode b k);
       reads = record {
         lists = refl;
+        chunk = refl;
         ready = ready_table c.args.geometry.now.layout (g.I.Image.device c.args.image.now) _ c.args.workspace.now
-            c.inode.new.self (ap (λ d. d.contents) ok) (ap (λ d. d.size) ok) c.inode.ensures.kept c.requires.ready;
+            c.inode_by_part.new.self (ap (λ d. d.contents) ok) (ap (λ d. d.size) ok) c.inode_by_part.ensures.kept c.requires.ready;
         read = ok;
       };
     }

@@ -59,7 +59,8 @@ returns-clause-path g c = λ b t claims survey k l.
 
 pub returns-in_err-search-clause-reads : goal.returns-in_err-search-clause-reads
 returns-in_err-search-clause-reads g c =
-    then_reads c.up.invariant.reads c.in_err-search.ensures.leaves.windows (search rules)
+    let leaves = c.in_err-search.ensures.leaves in
+    then_reads c.up.invariant.reads leaves.windows leaves.chunk (search rules)
 
 pub returns-in_err-found-clause-reads : goal.returns-in_err-found-clause-reads
 returns-in_err-found-clause-reads g c =
@@ -67,9 +68,10 @@ returns-in_err-found-clause-reads g c =
     let found = c.in_err-found.ensures in
     let one : OnlyReads {T = Unit {0}} c.args.geometry.now.layout (g.I.Image.device c.args.image.now)
     (g.I.Image.device c.open.new.image) c.args.workspace.now (record c.up.workspace { windows = c.open.new.windows })
-    (Ok tt) = then_reads c.up.invariant.reads opened.leaves.windows opened.leaves.read in
+    (Ok tt) = then_reads c.up.invariant.reads opened.leaves.windows opened.leaves.chunk opened.leaves.read in
     let err = err_from_is_err_and c.from_residual-in_err-found.result c.from_residual-in_err-found.ensures.1 in
-    rw (err.1, err.2) (then_reads one (rw opened.opened.geometry_is at found.leaves.windows) found.leaves.read)
+    rw (err.1, err.2) (then_reads one (rw opened.opened.geometry_is at found.leaves.windows) found.leaves.chunk
+    found.leaves.read)
 
 pub up-preserved : goal.up-preserved
 up-preserved g c =
@@ -85,10 +87,11 @@ up-preserved g c =
     let p : ℕ = c.index-parent.result.now in
     let one : OnlyReads {T = Unit {0}} v (g.I.Image.device c.args.image.now) (g.I.Image.device c.open.new.image)
     c.args.workspace.now (record c.up.workspace { windows = c.open.new.windows }) (Ok tt) =
-    then_reads i.reads opened.leaves.windows opened.leaves.read in
+    then_reads i.reads opened.leaves.windows opened.leaves.chunk opened.leaves.read in
     record {
       at = omega arith;
-      reads = then_reads one (rw opened.opened.geometry_is at found.leaves.windows) found.leaves.read;
+      reads = then_reads one (rw opened.opened.geometry_is at found.leaves.windows) found.leaves.chunk
+          found.leaves.read;
       path = λ b t claims survey k l.
           let G : Graph = graph_of (volume_of v b) in
           let u = way_up G k c.args.dir c.up.at c.up.step c.up.path (i.path b t claims survey k l)

@@ -25,6 +25,7 @@ entries-init g c =
       first = new.first_is;
       geometry = opened.opened.geometry_is;
       windows = opened.leaves.windows;
+      chunk = opened.leaves.chunk;
       device = opened.leaves.read;
     }
 
@@ -65,6 +66,7 @@ entries-preserved g c =
       geometry = geometry;
       windows = open_next _ _ _ c.entries.windows _ _ i.windows (ap (λ d. d.contents) next.leaves.read)
           (rw i.geometry at next.leaves.ready);
+      chunk = i.chunk;
       device = next.leaves.read ∙ i.device;
     }
 
@@ -76,6 +78,7 @@ returns-in_err-entry-clause-leaves g c =
     rw (err.1, err.2) (record {
       windows = open_next _ _ _ c.entries.windows _ _ i.windows next.leaves.read.contents
           (rw i.geometry at next.leaves.ready);
+      chunk = i.chunk;
       read = subst (λ d. Faulted d (g.I.Image.device c.next.new.image) c.in_err-entry.field-0.0.sector) i.device
           next.leaves.read;
     })
@@ -87,6 +90,7 @@ returns-clause-leaves g c =
     record {
       windows = open_next _ _ _ c.entries.windows _ _ i.windows (ap (λ d. d.contents) next.leaves.read)
           (rw i.geometry at next.leaves.ready);
+      chunk = i.chunk;
       read = next.leaves.read ∙ i.device;
     }
 

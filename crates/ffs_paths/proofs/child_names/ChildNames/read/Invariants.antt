@@ -18,6 +18,7 @@ invariant-entries g l = let device = g.I.Image.device in record {
   first : l.names.first ≡ l.first;
   geometry : l.search.entries.chunks.walk.geometry ≡ l.geometry;
   windows : AreOpen l.geometry.layout (device l.image) l.windows;
+  chunk : l.windows.chunk ≡ l.fn.windows.chunk;
   device : device l.image ≡ device l.fn.image;
 }
 

@@ -55,10 +55,13 @@ entries-preserved g c =
         volume = ready.walk.volume;
         table = i.windows.table;
         blocks = ready.walk.room;
-        chunk = ready.room;
+        chunk = i.windows.chunk;
+        names = ready.room;
         table_holds = rw c.in_ok-entry.ensures.leaves.read i.windows.table_holds;
         blocks_hold = ready.walk.holds;
-        chunk_holds = ready.holds;
+        chunk_holds = rw c.in_ok-entry.ensures.leaves.read i.windows.chunk_holds;
+        names_hold = ready.holds;
       };
+      chunk = i.chunk;
       device = device;
     }

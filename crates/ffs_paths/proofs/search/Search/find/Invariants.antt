@@ -14,6 +14,7 @@ invariant-entries g l = record {
   grows : l.fn.self.highest ≤ l.self.highest;
   geometry : l.self.entries.chunks.walk.geometry ≡ l.fn.self.entries.chunks.walk.geometry;
   windows : AreOpen l.fn.self.entries.chunks.walk.geometry.layout (g.I.Image.device l.image) l.windows;
+  chunk : l.windows.chunk ≡ l.fn.windows.chunk;
   device : g.I.Image.device l.image ≡ g.I.Image.device l.fn.image;
 }
 

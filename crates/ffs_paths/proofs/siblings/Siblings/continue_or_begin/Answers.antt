@@ -15,7 +15,7 @@ returns-clause-leaves g c =
     let leaves = c.in_ok-self.ensures.leaves in
     let long = kept.reads.ready.made.cut in
     let number = c.requires.ready.number in
-    leaves_with _ (then_reads kept.reads leaves.windows leaves.read) (record {
+    leaves_with _ (then_reads kept.reads leaves.windows leaves.chunk leaves.read) (record {
       layout = ap (λ w. w.layout) opened.geometry_is;
       names = subst (HoldNames c.args.geometry.now.layout (g.I.Image.device c.args.image.now).contents
           c.args.workspace.now) (sym (ap (λ (s : Siblings). s.names) kept.same)) c.requires.ready.siblings.names;
@@ -35,6 +35,6 @@ returns-in_err-self-clause-leaves g c =
     let leaves = c.in_err-self.ensures.leaves in
     let err = err_from_is_err_and c.from_residual-in_err-self.result c.from_residual-in_err-self.ensures.1 in
     rw (err.1, err.2) (record {
-      reads = then_reads c.in_ok-keep_path_of.ensures.reads leaves.windows leaves.read;
+      reads = then_reads c.in_ok-keep_path_of.ensures.reads leaves.windows leaves.chunk leaves.read;
       siblings = tt;
     })

@@ -13,7 +13,7 @@ fill-requires-clause-room g c =
     (sym c.place_of.ensures ∙ c.in-Some.is) in
     let short = inside.short in
     let block = c.args.geometry.now.sound.sizes.bsize_low in
-    let chunk = found.leaves.reads.ready.made.chunk in
+    let names = found.leaves.reads.ready.made.names in
     omega arith
 
 pub fill-requires-clause-inside : goal.fill-requires-clause-inside

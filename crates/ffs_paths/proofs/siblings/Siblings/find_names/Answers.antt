@@ -16,7 +16,7 @@ returns-clause-leaves g c =
     let leaves = c.in_ok-names.ensures.leaves in
     let long = c.requires.ready.made.cut in
     let number = c.requires.number in
-    leaves_with _ (then_reads (no_reads {x = tt {0}} c.requires.ready) leaves.windows leaves.read) (record {
+    leaves_with _ (then_reads (no_reads {x = tt {0}} c.requires.ready) leaves.windows leaves.chunk leaves.read) (record {
       layout = k.layout;
       right = λ b t claims survey some.
           let a = k.right b t claims survey some in
@@ -36,7 +36,7 @@ returns-in_err-names-clause-leaves g c =
     let leaves = c.in_err-names.ensures.leaves in
     let err = err_from_is_err_and c.from_residual.result c.from_residual.ensures.1 in
     rw (err.1, err.2) (record {
-      reads = then_reads (no_reads {x = tt {0}} c.requires.ready) leaves.windows leaves.read;
+      reads = then_reads (no_reads {x = tt {0}} c.requires.ready) leaves.windows leaves.chunk leaves.read;
       siblings = tt;
     })
 

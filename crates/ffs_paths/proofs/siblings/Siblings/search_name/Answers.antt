@@ -38,7 +38,7 @@ returns-clause-name g c =
       | then-found w ↦ rw w.if-found.true (ap (λ p. p.1) w.child-is)
       | else-found w ↦ rw w.if-found.false (ap (λ p. p.1) w.child-is)
     ] in
-    finds _ _ _ _ c.find.new.windows.chunk _ c.in_ok-found.found _ is (λ b t claims survey.
+    finds _ _ _ _ c.find.new.windows.names _ c.in_ok-found.found _ is (λ b t claims survey.
     let v = c.args.geometry.now.layout in
     let begun = c.in_ok-continue_or_begin.ensures in
     let reads = begun.leaves.reads in
@@ -65,7 +65,7 @@ returns-clause-leaves g c =
     let some = of.below in
     let opened = subst (λ v. AreOpen v (g.I.Image.device c.find.new.image) c.find.new.windows) siblings.layout
     found.leaves.windows in
-    leaves_with _ (then_reads reads opened found.leaves.read) (record {
+    leaves_with _ (then_reads reads opened found.leaves.chunk found.leaves.read) (record {
       layout = ap (λ w. w.layout) found.on.geometry ∙ siblings.layout;
       names = siblings.names;
       right = λ b t claims survey some.
@@ -95,4 +95,4 @@ returns-in_err-found-clause-leaves g c =
     let err = err_from_is_err_and c.from_residual-in_err-found.result c.from_residual-in_err-found.ensures.1 in
     let opened = subst (λ v. AreOpen v (g.I.Image.device c.find.new.image) c.find.new.windows)
     begun.siblings.layout found.windows in
-    rw (err.1, err.2) (record { reads = then_reads begun.reads opened found.read; siblings = tt })
+    rw (err.1, err.2) (record { reads = then_reads begun.reads opened found.chunk found.read; siblings = tt })

@@ -29,6 +29,7 @@ returns-clause-new g c =
         table = new.table;
         blocks = new.blocks;
         chunk = new.chunk;
+        names = new.names;
       };
       fresh = search rules;
       runs_seen = refl;
@@ -37,6 +38,7 @@ returns-clause-new g c =
         table = new.table_holds contents;
         blocks = new.blocks_hold contents;
         chunk = new.chunk_holds contents;
+        names = new.names_hold contents;
       };
     }
 
