@@ -12,7 +12,7 @@ use lib.Lanes.{mask_l}
 use Rattle.std.proofs.lemmas.Simd.{bit_mask_l, ones-mask_l}
 use Rattle.std.proofs.lemmas.Nat.Bits.{bit_at_and, bit_at-lt, bit_at-zero, bit_at_above, bit_at_ones}
 use Rattle.std.proofs.lemmas.Nat.Bits.{bit_at_ones_above, same_from_bits, ones_shr}
-use Rattle.ffs_maps.specs.Bits.{bits_of_words}
+use Rattle.ffs_maps.specs.WordBits.{bits_of_words}
 use Rattle.ffs_maps.proofs.Bits.{get_bits}
 use Rattle.ffs_maps.proofs.Words.{bit_shr}
 
@@ -129,7 +129,7 @@ ones_of_word words size index w fits is below =
 zero_if : (b : Bool) (n : ℕ) → b ≡ false → n ≡ 0 → n ≡ cond b 1 0
 zero_if b n e is = is ∙ ap (λ x. cond x 1 0) (sym e)
 
-none_counted : (p : ℕ → Bool) (a n : ℕ) → ((k : ℕ) → k < n → p (a + k) ≡ false) → count_by p (range_with_len a n) ≡ 0
+pub none_counted : (p : ℕ → Bool) (a n : ℕ) → ((k : ℕ) → k < n → p (a + k) ≡ false) → count_by p (range_with_len a n) ≡ 0
 none_counted p a zero none = refl
 none_counted p a (suc n) none =
     let at : a ≡ a + 0 = omega arith in
