@@ -12,7 +12,7 @@
 //! It rests on no other crate of this repository.
 #![tactic(auto)]
 
-ghost use Rattle.std.specs.Prelude.{ℕ, nat_eq, ◌≡◌, ◌+◌, ◌*◌, ◌%◌, ◌<◌, ◌≤◌, ◌-◌, vec_len, length, IfOk, true, false, slice_set, replicate, count_by};
+ghost use Rattle.std.specs.Prelude.{ℕ, nat_eq, ◌≡◌, ◌+◌, ◌*◌, ◌%◌, ◌<◌, ◌≤◌, ◌-◌, vec_len, length, IfOk, IsTrue, true, false, slice_set, replicate, count_by};
 ghost use Rattle.std.specs.List.{slice_index_or, range_with_len};
 ghost use Rattle.std.specs.Int.{div_ceil, bit_at};
 ghost use Rattle.ffs_memory.specs.Account.{Asks};
@@ -20,6 +20,18 @@ ghost use Rattle.ffs_maps.specs.WordBits.{set_in_words};
 
 use ffs_memory::{Memory, SystemMemory, ZeroedWords};
 use std::alloc::{AllocError, Global};
+
+// Whether each of some words is this one. No word ends the loop, so that some are compared at a time.
+fn are_alike(words: &[u64], word: u64) -> bool
+    ensures { IsTrue result → (k : ℕ) → k < length words.now
+        → slice_index_or words.now k 0 ≡ word }
+{
+    let mut differ = 0;
+    for index in 0..words.len() {
+        differ |= words[index] ^ word;
+    }
+    differ == 0
+}
 
 /// A bit for each fragment, in words of 64, and how many of them are set.
 #[derive(Drop)]
@@ -120,7 +132,7 @@ impl FragmentMap {
         bits.count_ones()
     }
 
-    // How many bits are set in the words from one on and below another.
+    // How many bits are set in the words from one on and below another. Mostly these words are alike, and one of them says it.
     fn count_in_words(&self, first: u32, last: u32) -> u32
         requires order { first ≤ last }
         requires below { 64 * last ≤ self.now.size }
@@ -128,9 +140,13 @@ impl FragmentMap {
             (range_with_len (64 * first) (64 * last - 64 * first)) }
     {
         let words = self.words.touched();
+        let start = first as usize;
         let end = words.len().min(last as usize);
+        if start < end && are_alike(&words[start..end], words[start]) {
+            return (end - start) as u32 * words[start].count_ones();
+        }
         let mut count = 0;
-        for index in first as usize..end {
+        for index in start..end {
             count += words[index].count_ones();
         }
         count

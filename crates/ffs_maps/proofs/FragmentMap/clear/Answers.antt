@@ -1,4 +1,4 @@
-use Rattle.std.proofs.Common.{◌≡◌, ◌<◌, ◌/◌, ◌%◌, ◌*◌, ◌^◌, ℕ, arith, refl, ap, sym, ◌∙◌, bit_and, get_or, false, length}
+use Rattle.std.proofs.Common.{◌≡◌, ◌<◌, ◌/◌, ◌%◌, ◌*◌, ◌^◌, ℕ, arith, refl, ap, ◌∙◌, bit_and, get_or, false, length}
 use Rattle.std.proofs.Common.{length-set, slice_set}
 use Rattle.std.specs.Int.{bit_not, w64}
 use Rattle.ffs_memory.specs.Words.{Words}
