@@ -10,7 +10,8 @@ use Rattle.std.proofs.lemmas.Bool.{cases_eq}
 use Rattle.std.proofs.lemmas.Nat.Bits.{bit_at_set_same, bit_at_set_other, bit_at_clear_same, bit_at_clear_other}
 use Rattle.std.proofs.lemmas.Nat.Bits.{bit_at-zero}
 use Rattle.ffs_memory.specs.Words.{Words}
-use Rattle.ffs_maps.specs.Bits.{is_bit, bits_of, bits_of_words, set_run}
+use Rattle.ffs_maps.specs.Bits.{bits_of, set_run}
+use Rattle.ffs_maps.specs.WordBits.{is_bit, bits_of_words, set_in_words}
 use Rattle.ffs_maps.specs.declared.FragmentMap.{FragmentMap}
 
 pub length_bits : (words : List ℕ) (size : ℕ) → length (bits_of_words words size) ≡ size
@@ -27,11 +28,14 @@ unfolding bits_of_words
 get_bits words size f d h = get_or-map-range_with_len (is_bit words) 0 size f f d h (omega arith)
 
 -- a map with the same words is the same
-pub same_map : (m : FragmentMap) (words : Words) (enough : length words.list ≡ div_ceil m.size 64) → words ≡ m.words →
-    record m { words = words; enough = enough } ≡ m
-same_map m words enough same =
-    subst⁻¹ (λ w. (e : length w.list ≡ div_ceil m.size 64) → record m { words = w; enough = e } ≡ m) same
-    (λ e. ap (λ x. record m { enough = x }) (ℕ_set _ _ e m.enough)) enough
+pub same_map : (m : FragmentMap) (words : Words) (enough : length words.list ≡ div_ceil m.size 64)
+    (counted : m.ones ≡ set_in_words words.list m.size) → words ≡ m.words →
+    record m { words = words; enough = enough; counted = counted } ≡ m
+same_map m words enough counted same =
+    subst⁻¹ (λ w. (e : length w.list ≡ div_ceil m.size 64) (k : m.ones ≡ set_in_words w.list m.size) →
+    record m { words = w; enough = e; counted = k } ≡ m) same
+    (λ e k. ap (λ x. record m { enough = x; counted = k }) (ℕ_set _ _ e m.enough)
+    ∙ ap (λ x. record m { counted = x }) (ℕ_set _ _ k m.counted)) enough counted
 
 -- the word of a fragment is replaced, by one that differs in the fragment's bit alone
 pub put_bits : (words : List ℕ) (size k v : ℕ) (b : Bool) → k < size → k / 64 < length words →

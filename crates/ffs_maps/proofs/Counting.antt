@@ -1,18 +1,18 @@
 -- How many bits of a run are set.
 use Rattle.std.proofs.Common.{◌≡◌, ◌⊎◌, inl, inr, ℕ, zero, suc, ◌+◌, ◌-◌, ◌*◌, ◌/◌, ◌%◌, ◌^◌, ◌<◌, ◌≤◌, Bool, false}
 use Rattle.std.proofs.Common.{List, length, cond, map, get_or, nat_eq, bit_and, count_ones, count_by, arith, refl, ap, ◌∙◌}
-use Rattle.std.proofs.Common.{sym, min}
+use Rattle.std.proofs.Common.{sym, min, take, drop}
 use Rattle.std.specs.List.{range_with_len, sum_by, slice_index_or}
 use Rattle.std.specs.Int.{bit_at}
 use Rattle.std.proofs.lemmas.Bool.{cases_lt}
-use Rattle.std.proofs.lemmas.List.{get_or_past}
+use Rattle.std.proofs.lemmas.List.{get_or_past, get_or-drop, get_or-take, length-drop, length-take-le}
 use Rattle.std.proofs.lemmas.List.Sums.{sum_by-cons, count_by-le-length}
 use Rattle.std.proofs.lemmas.List.FromFn.{length-range_with_len, length-map-range_with_len, get_or-map-range_with_len}
 use lib.Lanes.{mask_l}
 use Rattle.std.proofs.lemmas.Simd.{bit_mask_l, ones-mask_l}
 use Rattle.std.proofs.lemmas.Nat.Bits.{bit_at_and, bit_at-lt, bit_at-zero, bit_at_above, bit_at_ones}
 use Rattle.std.proofs.lemmas.Nat.Bits.{bit_at_ones_above, same_from_bits, ones_shr}
-use Rattle.ffs_maps.specs.Bits.{bits_of_words}
+use Rattle.ffs_maps.specs.WordBits.{bits_of_words}
 use Rattle.ffs_maps.proofs.Bits.{get_bits}
 use Rattle.ffs_maps.proofs.Words.{bit_shr}
 
@@ -126,10 +126,30 @@ ones_of_word words size index w fits is below =
         ∙ ap (λ x. nat_eq (bit_at x i) 1) (sym is) in
         one_bit (bit_at w i) (bit_at-lt w i) ∙ ap (λ b. cond b 1 0) (sym here)
 
+-- the bits of some words that are all the same
+pub alike_words : (words : List ℕ) (size first n w : ℕ) → w < 2 ^ 64 → 64 * (first + n) ≤ size →
+    ((k : ℕ) → k < n → get_or words (first + k) 0 ≡ w) → n * count_ones w
+    ≡ count_by (λ f. slice_index_or (bits_of_words words size) f false) (range_with_len (64 * first) (64 * n))
+alike_words words size first zero w fits below alike = omega arith
+alike_words words size first (suc n) w fits below alike =
+    let before : n * count_ones w
+    ≡ count_by (λ f. slice_index_or (bits_of_words words size) f false) (range_with_len (64 * first) (64 * n)) =
+    alike_words words size first n w fits (omega (arith, below)) (λ k h. alike k (omega (arith, h))) in
+    let place : 64 * (first + n) ≡ 64 * first + 64 * n = omega arith in
+    let last : count_ones w
+    ≡ count_by (λ f. slice_index_or (bits_of_words words size) f false) (range_with_len (64 * first + 64 * n) 64) =
+    ones_of_word words size (first + n) w fits (sym (alike n (omega arith))) (omega (arith, below))
+    ∙ ap (λ j. count_by (λ f. slice_index_or (bits_of_words words size) f false) (range_with_len j 64)) place in
+    let all : n * count_ones w + count_ones w
+    ≡ count_by (λ f. slice_index_or (bits_of_words words size) f false) (range_with_len (64 * first) (64 * suc n)) =
+    count_join (λ f. slice_index_or (bits_of_words words size) f false) (64 * first) (64 * n) 64 (64 * suc n) _ _
+    (omega arith) before last in
+    omega (arith, all)
+
 zero_if : (b : Bool) (n : ℕ) → b ≡ false → n ≡ 0 → n ≡ cond b 1 0
 zero_if b n e is = is ∙ ap (λ x. cond x 1 0) (sym e)
 
-none_counted : (p : ℕ → Bool) (a n : ℕ) → ((k : ℕ) → k < n → p (a + k) ≡ false) → count_by p (range_with_len a n) ≡ 0
+pub none_counted : (p : ℕ → Bool) (a n : ℕ) → ((k : ℕ) → k < n → p (a + k) ≡ false) → count_by p (range_with_len a n) ≡ 0
 none_counted p a zero none = refl
 none_counted p a (suc n) none =
     let at : a ≡ a + 0 = omega arith in
@@ -148,6 +168,27 @@ none_in_zeros words size a n below zeros =
     (λ k h. get_bits words size (a + k) false (omega arith)
     ∙ ap (λ w. nat_eq (bit_at w ((a + k) % 64)) 1) (zeros k h)
     ∙ ap (λ x. nat_eq x 1) (bit_at-zero ((a + k) % 64)))
+
+-- some words from one on, each like the first of them, are those of a longer list
+pub alike_touched : (words touched : List ℕ) (size first end : ℕ) → 64 * end ≤ size → first < end →
+    end ≤ length touched → get_or touched first 0 < 2 ^ 64 →
+    ((k : ℕ) → get_or words k 0 ≡ get_or touched k 0) →
+    ((k : ℕ) → k < length (take (end - first) (drop first touched)) →
+    get_or (take (end - first) (drop first touched)) k 0 ≡ get_or touched first 0) →
+    (end - first) * count_ones (get_or touched first 0)
+    ≡ count_by (λ f. slice_index_or (bits_of_words words size) f false)
+    (range_with_len (64 * first) (64 * end - 64 * first))
+alike_touched words touched size first end below order inside fits same alike =
+    let long : 64 * (end - first) ≡ 64 * end - 64 * first = omega arith in
+    let len : length (take (end - first) (drop first touched)) ≡ end - first = omega (
+      arith,
+      length-take-le (end - first) (drop first touched)
+          (omega (arith, length-drop first touched, inside, order)),
+    ) in
+    alike_words words size first (end - first) (get_or touched first 0) fits (omega (arith, below, order))
+    (λ k h. same (first + k) ∙ sym (get_or-drop first touched k 0)
+    ∙ sym (get_or-take (end - first) (drop first touched) k 0 h) ∙ alike k (omega (arith, h, len)))
+    ∙ ap (λ n. count_by (λ f. slice_index_or (bits_of_words words size) f false) (range_with_len (64 * first) n)) long
 
 -- the words from one on that are counted, where all after them are 0
 pub count_ends : (words touched : List ℕ) (size first index last count : ℕ) → first ≤ index → 64 * last ≤ size →

@@ -9,7 +9,8 @@ use Rattle.std.proofs.lemmas.Nat.{pow-add, shl_below}
 use Rattle.std.proofs.Math.Nat.{one-le-pow, pow-le-pow_right}
 use Rattle.std.proofs.lemmas.Nat.Bits.{bit_at_or, bit_at_and, bit_at-zero, bit_at-lt, bit_at_mask_inside}
 use Rattle.std.proofs.lemmas.Nat.Bits.{bit_at_mask_below, bit_at_mask_above, ones_shr, same_from_bits}
-use Rattle.ffs_maps.specs.Bits.{is_bit, bits_of_words, set_run, AreClear}
+use Rattle.ffs_maps.specs.Bits.{set_run, AreClear}
+use Rattle.ffs_maps.specs.WordBits.{is_bit, bits_of_words}
 use Rattle.ffs_maps.proofs.Bits.{length_bits, get_bits}
 
 sub_twice : (n k : ℕ) → k ≤ n → n - (n - k) ≡ k

@@ -9,7 +9,8 @@ use Rattle.std.proofs.lemmas.Nat.{div-add-mod', one_shl}
 use Rattle.std.proofs.Math.Nat.{one-le-pow}
 use Rattle.std.proofs.lemmas.Nat.Bits.{bit_at_or, bit_at_and, bit_at_not, bit_at-zero, bit_at-lt, bit_at_ones}
 use Rattle.std.proofs.lemmas.Nat.Bits.{bit_at_ones_above, bit_at_above, bit_at_cat_low, bit_at_cat_high}
-use Rattle.ffs_maps.specs.Bits.{bits_of_words, is_clear}
+use Rattle.ffs_maps.specs.Bits.{is_clear}
+use Rattle.ffs_maps.specs.WordBits.{bits_of_words}
 use Rattle.ffs_maps.proofs.Bits.{get_bits}
 
 some_pow : (s : ℕ) → 0 < 2 ^ s

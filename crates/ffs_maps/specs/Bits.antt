@@ -1,16 +1,8 @@
-use Rattle.std.specs.Prelude.{◌≡◌, ℕ, zero, suc, ◌+◌, ◌/◌, ◌%◌, ◌<◌, ◌≤◌, Bool, IsTrue, true, false}
-use Rattle.std.specs.Prelude.{not, ◌&&◌, List, map, nat_eq, nat_lt, slice_index, slice_set}
-use Rattle.std.specs.List.{range_with_len, slice_index_or}
-use Rattle.std.specs.Int.{bit_at}
+use Rattle.std.specs.Prelude.{◌≡◌, ℕ, zero, suc, ◌+◌, ◌%◌, ◌<◌, ◌≤◌, Bool, IsTrue, true, false}
+use Rattle.std.specs.Prelude.{not, ◌&&◌, List, nat_lt, slice_set}
+use Rattle.std.specs.List.{slice_index_or}
+use Rattle.ffs_maps.specs.WordBits.{bits_of_words}
 use Rattle.ffs_maps.specs.declared.FragmentMap.{FragmentMap}
-
--- the bit of a fragment, in words of 64 bits
-abbrev pub is_bit : List ℕ → ℕ → Bool
-is_bit words f = nat_eq (bit_at (slice_index words (f / 64)) (f % 64)) 1
-
--- the first bits of some words
-unfoldable pub bits_of_words : List ℕ → ℕ → List Bool
-bits_of_words words size = map (is_bit words) (range_with_len 0 size)
 
 -- a map's bits, one for each fragment
 abbrev pub bits_of : FragmentMap → List Bool

@@ -1,7 +1,8 @@
 //! A bit for each fragment of a volume, in words of 64.
 //!
 //! A `FragmentMap` is its list of bits: `get`, `set` and `clear` read and write one of them, `set_run` sets
-//! a run of them, and `claim` sets a run that lies in one word where none of its bits is set yet.
+//! a run of them, and `claim` sets a run that lies in one word where none of its bits is set yet. `count` counts the set bits of a part, and `count_ones` gives
+//! those of the whole map, which are counted as they change.
 //!
 //! ```text
 //! let mut claimed = FragmentMap::new(alloc, geometry.layout.size)?;
@@ -11,21 +12,37 @@
 //! It rests on `ffs_memory`.
 #![tactic(auto)]
 
-ghost use Rattle.std.specs.Prelude.{ℕ, nat_eq, ◌≡◌, ◌+◌, ◌*◌, ◌%◌, ◌<◌, ◌≤◌, ◌-◌, vec_len, length, IfOk, true, false, slice_set, replicate, count_by};
+ghost use Rattle.std.specs.Prelude.{ℕ, nat_eq, ◌≡◌, ◌+◌, ◌*◌, ◌%◌, ◌<◌, ◌≤◌, ◌-◌, vec_len, length, IfOk, IsTrue, true, false, slice_set, replicate, count_by};
 ghost use Rattle.std.specs.List.{slice_index_or, range_with_len};
 ghost use Rattle.std.specs.Int.{div_ceil, bit_at};
 ghost use Rattle.ffs_memory.specs.Account.{Asks};
+ghost use Rattle.ffs_maps.specs.WordBits.{set_in_words};
 
 use ffs_memory::{Memory, SystemMemory, ZeroedWords};
 use std::alloc::{AllocError, Global};
 
-/// A bit for each fragment, in words of 64.
+// Whether each of some words is this one. No word ends the loop, so that some are compared at a time.
+fn are_alike(words: &[u64], word: u64) -> bool
+    ensures { IsTrue result → (k : ℕ) → k < length words.now
+        → slice_index_or words.now k 0 ≡ word }
+{
+    let mut differ = 0;
+    for index in 0..words.len() {
+        differ |= words[index] ^ word;
+    }
+    differ == 0
+}
+
+/// A bit for each fragment, in words of 64, and how many of them are set.
 #[derive(Drop)]
 pub struct FragmentMap {
     words: ZeroedWords,
     /// How many fragments.
     pub size: u32,
+    /// How many bits are set.
+    ones: u32,
     ghost enough: { length words.list ≡ div_ceil size 64 },
+    ghost counted: { ones ≡ set_in_words words.list size },
 }
 
 impl FragmentMap {
@@ -51,7 +68,11 @@ impl FragmentMap {
             result }
     {
         let words = memory.zeroed_words(size.div_ceil(64) as usize)?;
-        Ok(FragmentMap { words, size })
+        Ok(FragmentMap {
+            words,
+            size,
+            ones: 0,
+        })
     }
 
     /// How many bytes its words take.
@@ -118,7 +139,7 @@ impl FragmentMap {
         bits.count_ones()
     }
 
-    // How many bits are set in the words from one on and below another.
+    // How many bits are set in the words from one on and below another. Mostly these words are alike, and one of them says it.
     fn count_in_words(&self, first: u32, last: u32) -> u32
         requires order { first ≤ last }
         requires below { 64 * last ≤ self.now.size }
@@ -126,9 +147,13 @@ impl FragmentMap {
             (range_with_len (64 * first) (64 * last - 64 * first)) }
     {
         let words = self.words.touched();
+        let start = first as usize;
         let end = words.len().min(last as usize);
+        if start < end && are_alike(&words[start..end], words[start]) {
+            return (end - start) as u32 * words[start].count_ones();
+        }
         let mut count = 0;
-        for index in first as usize..end {
+        for index in start..end {
             count += words[index].count_ones();
         }
         count
@@ -151,11 +176,20 @@ impl FragmentMap {
         before + words + self.count_in_word(64 * last, end - 64 * last)
     }
 
+    /// How many bits are set. They are counted as they change, so none is looked at.
+    pub fn count_ones(&self) -> u32
+        ensures { result ≡ count_by (λ f. slice_index_or (bits_of self.now) f false)
+            (range_with_len 0 self.now.size) }
+    {
+        self.ones
+    }
+
     /// Sets the bit of a fragment.
     pub fn set(&mut self, fragment: u32)
         requires { fragment < self.old.size }
         ensures { HasBits self.new self.old.size (slice_set (bits_of self.old) fragment true) }
     {
+        self.ones += u32::from(!self.get(fragment));
         let index = fragment as usize / 64;
         let word = self.words.get(index);
         self.words.set(index, word | 1 << (fragment % 64));
@@ -166,6 +200,7 @@ impl FragmentMap {
         requires { fragment < self.old.size }
         ensures { HasBits self.new self.old.size (slice_set (bits_of self.old) fragment false) }
     {
+        self.ones -= u32::from(self.get(fragment));
         let index = fragment as usize / 64;
         let word = self.words.get(index);
         self.words.set(index, word & !(1 << (fragment % 64)));
@@ -176,6 +211,7 @@ impl FragmentMap {
         requires { IsInWord start len self.old.size }
         ensures { HasBits self.new self.old.size (set_run (bits_of self.old) start len) }
     {
+        self.ones += len - self.count_in_word(start, len);
         let index = start as usize / 64;
         let bits = (u64::MAX >> (64 - len)) << (start % 64);
         let word = self.words.get(index);
@@ -209,6 +245,10 @@ impl FragmentMap {
         }
         let index = start as usize / 64;
         let mask = (u64::MAX >> (64 - len)) << low;
-        self.words.claim(index, mask)
+        if !self.words.claim(index, mask) {
+            return false;
+        }
+        self.ones += len;
+        true
     }
 }

@@ -17,13 +17,16 @@ pub(crate) fn touch<T: Copy>(touched: &mut Vec<T>, index: usize, rest: T)
     }
 }
 
-// The same. It isn't inlined, since an element that is asked for is mostly touched already, or is the next one.
+// The same. It isn't inlined, since an element that is asked for is mostly touched already, or is the next one. The length
+// is kept beside the list, so that no iteration waits for it to be read again.
 #[inline(never)]
 fn touch_more<T: Copy>(touched: &mut Vec<T>, index: usize, rest: T)
     requires { index < vec_capacity touched.old }
     ensures { Touches touched.old touched.new index rest }
 {
-    while touched.len() <= index {
+    let mut len = touched.len();
+    while len <= index {
         touched.push_reserved(rest);
+        len += 1;
     }
 }

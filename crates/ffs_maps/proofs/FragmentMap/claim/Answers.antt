@@ -1,27 +1,89 @@
-use Rattle.std.proofs.Common.{◌<◌, ◌/◌, ◌%◌, ◌∙◌, arith, refl, ap, sym, length, get_or}
-use Rattle.std.proofs.Common.{bit_and, bit_or, slice_set}
-use Rattle.ffs_maps.specs.Bits.{bits_of_words}
-use Rattle.ffs_maps.proofs.Bits.{same_map}
+use Rattle.std.proofs.Common.{◌≡◌, ◌<◌, ◌≤◌, ◌+◌, ◌-◌, ◌*◌, ◌/◌, ◌%◌, ◌^◌, ◌∙◌, ℕ, arith, refl, ap, sym, length}
+use Rattle.std.proofs.Common.{length-set, get_or, bit_and, bit_or, slice_set, true≢false}
+use Rattle.ffs_memory.specs.Words.{Words, with_bits}
+use Rattle.ffs_maps.specs.Bits.{AreClear, bits_of, set_run}
+use Rattle.ffs_maps.specs.WordBits.{bits_of_words}
+use Rattle.ffs_maps.specs.declared.FragmentMap.{FragmentMap}
+use Rattle.ffs_maps.proofs.Bits.{bits_long, same_map}
 use Rattle.ffs_maps.proofs.Masks.{mask_is, clear_run, run_clear, mark_run}
+use Rattle.ffs_maps.proofs.Ones.{few_among, none_among, run_raised, set_among}
 use Rattle.ffs_maps.proofs.FragmentMap.claim.Goals as goal
+
+-- the mask that the code computes
+abbrev mask_of : ℕ → ℕ → ℕ
+mask_of start len = (2 ^ 64 - 1) / 2 ^ (64 - len) * 2 ^ (start % 64) % 2 ^ 64
+
+was_clear : (m : FragmentMap) (start len : ℕ) → start % 64 + len ≤ 64 → start + len ≤ m.size →
+    bit_and (get_or m.words.list (start / 64) 0) (mask_of start len) ≡ 0 → AreClear (bits_of m) start len
+was_clear m start len fits below none =
+    clear_run m.words.list m.size start len fits below
+    (ap (λ mask. bit_and (get_or m.words.list (start / 64) 0) mask) (sym (mask_is len (start % 64) fits)) ∙ none)
+
+bits_now : (m : FragmentMap) (new : Words) (start len : ℕ) → start % 64 + len ≤ 64 → start + len ≤ m.size → 0 < len →
+    new ≡ with_bits m.words (start / 64) (mask_of start len) → bits_of_words new.list m.size ≡ set_run (bits_of m) start len
+bits_now m new start len fits below some is =
+    let word = get_or m.words.list (start / 64) 0 in
+    ap (λ ws. bits_of_words ws.list m.size) is
+    ∙ ap (λ mask. bits_of_words (slice_set m.words.list (start / 64) (bit_or word mask)) m.size)
+    (mask_is len (start % 64) fits)
+    ∙ mark_run m.words.list m.size start len word fits below some (omega (arith, m.enough, below, some)) refl
+
+-- the number of set bits, where a clear run is set
+raised : (m : FragmentMap) (start len : ℕ) → start + len ≤ m.size → AreClear (bits_of m) start len →
+    m.ones + len ≡ set_among (set_run (bits_of m) start len) 0 m.size
+raised m start len below clear =
+    let none = sym (none_among (bits_of m) start len clear) in
+    omega (arith, run_raised (bits_of m) m.size start len m.ones 0 (bits_long m) below m.counted none)
+
+pub returns-then-not-claim : goal.returns-then-not-claim
+returns-then-not-claim c =
+    let m = c.args.self.now in
+    record {
+      size = refl;
+      clear = λ yes_. absurd (true≢false (sym yes_));
+      claimed = λ yes_. absurd (true≢false (sym yes_));
+      kept = λ no. same_map m c.claim.new.self _ _ (c.claim.ensures.kept c.if-not-claim.true);
+      one_word = λ fits clear. absurd (true≢false (sym (c.claim.ensures.clear.1
+          (ap (λ mask. bit_and (get_or m.words.list (c.args.start / 64) 0) mask)
+          (mask_is c.args.len (c.args.start % 64) fits)
+          ∙ run_clear m.words.list m.size c.args.start c.args.len fits c.requires.below clear)) ∙ c.if-not-claim.true));
+    }
+
+pub overflow_add-self : goal.overflow_add-self
+overflow_add-self c =
+    let m = c.args.self.now in
+    let fits : c.args.start % 64 + c.args.len ≤ 64 = omega (arith, c.if-len-low.false) in
+    omega (
+      arith,
+      raised m c.args.start c.args.len c.requires.below
+          (was_clear m c.args.start c.args.len fits c.requires.below (c.claim.ensures.clear.0 c.if-not-claim.false)),
+      few_among (set_run (bits_of m) c.args.start c.args.len) 0 m.size,
+    )
+
+pub invariant_of-self-2 : goal.invariant_of-self-2
+invariant_of-self-2 c =
+    let m = c.args.self.now in
+    let fits : c.args.start % 64 + c.args.len ≤ 64 = omega (arith, c.if-len-low.false) in
+    let now = c.claim.ensures.claimed c.if-not-claim.false in
+    record {
+      enough = omega (arith, m.enough, ap (λ ws. length ws.list) now, length-set {A = ℕ});
+      counted = raised m c.args.start c.args.len c.requires.below
+          (was_clear m c.args.start c.args.len fits c.requires.below (c.claim.ensures.clear.0 c.if-not-claim.false))
+          ∙ ap (λ bits. set_among bits 0 m.size)
+          (sym (bits_now m c.claim.new.self c.args.start c.args.len fits c.requires.below c.requires.some now));
+    }
 
 pub returns : goal.returns
 returns c =
-    let words = c.args.self.now.words.list in
-    let size = c.args.self.now.size in
-    let inside : c.args.start / 64 < length words = omega (arith, c.args.self.now.enough) in
-    let word = get_or words (c.args.start / 64) 0 in
+    let m = c.args.self.now in
+    let fits : c.args.start % 64 + c.args.len ≤ 64 = omega (arith, c.if-len-low.false) in
+    let clear = was_clear m c.args.start c.args.len fits c.requires.below
+    (c.claim.ensures.clear.0 c.if-not-claim.false) in
     record {
       size = refl;
-      clear = λ yes_. clear_run words size c.args.start c.args.len (omega arith) c.requires.below
-          (ap (λ m. bit_and word m) (sym (mask_is c.args.len (c.args.start % 64) (omega arith)))
-          ∙ c.claim.ensures.clear.0 yes_);
-      claimed = λ yes_. ap (λ ws. bits_of_words ws.list size) (c.claim.ensures.claimed yes_)
-          ∙ ap (λ m. bits_of_words (slice_set words (c.args.start / 64) (bit_or word m)) size)
-          (mask_is c.args.len (c.args.start % 64) (omega arith))
-          ∙ mark_run words size c.args.start c.args.len word (omega arith) c.requires.below c.requires.some inside refl;
-      kept = λ no. same_map c.args.self.now c.claim.new.self _ (c.claim.ensures.kept no);
-      one_word = λ fits clear. c.claim.ensures.clear.1
-          (ap (λ m. bit_and word m) (mask_is c.args.len (c.args.start % 64) (omega arith))
-          ∙ run_clear words size c.args.start c.args.len fits c.requires.below clear);
+      clear = λ yes_. clear;
+      claimed = λ yes_. bits_now m c.claim.new.self c.args.start c.args.len fits c.requires.below c.requires.some
+          (c.claim.ensures.claimed c.if-not-claim.false);
+      kept = λ no. absurd (true≢false no);
+      one_word = λ fits clear. refl;
     }

@@ -1,9 +1,42 @@
-use Rattle.std.proofs.Common.{arith, ◌≤◌, ◌<◌, ◌+◌, ◌*◌, ◌-◌, ◌^◌, inl, inr, sym, get_or, false}
+use Rattle.std.proofs.Common.{arith, rules, ◌≤◌, ◌<◌, ◌+◌, ◌*◌, ◌-◌, ◌^◌, inl, inr, sym, get_or, false}
 use Rattle.std.proofs.lemmas.Bool.{cases_lt}
 use Rattle.std.specs.List.{slice_index_or}
 use Rattle.ffs_maps.specs.Bits.{bits_of}
-use Rattle.ffs_maps.proofs.Counting.{count_join_at, count_few, count_ends, ones_of_word}
+use Rattle.ffs_maps.proofs.Counting.{count_join_at, alike_touched, count_few, count_ends, ones_of_word}
 use Rattle.ffs_maps.proofs.FragmentMap.count_in_words.Goals as goal
+
+pub overflow_mul-result : goal.overflow_mul-result
+overflow_mul-result c =
+    let m = c.args.self.now in
+    let words = c.touched-words.result.now in
+    let fits : get_or words c.args.first 0 < 2 ^ 64 = search rules in
+    omega (
+      arith,
+      alike_touched m.words.list words m.size c.args.first c.min-end.result
+          (omega (arith, c.min-end.ensures, c.requires.below)) c.if-start-end.true (omega (arith, c.min-end.ensures))
+          fits c.touched-words.ensures.words (c.are_alike.ensures c.if-are_alike.true),
+      count_few (λ f. slice_index_or (bits_of m) f false) (64 * c.args.first)
+          (64 * c.min-end.result - 64 * c.args.first),
+      c.min-end.ensures,
+      c.ranges.last,
+    )
+
+pub returns-then-are_alike : goal.returns-then-are_alike
+returns-then-are_alike c =
+    let m = c.args.self.now in
+    let words = c.touched-words.result.now in
+    let end = c.min-end.result in
+    let fits : get_or words c.args.first 0 < 2 ^ 64 = search rules in
+    let within : end ≤ c.args.last = omega (arith, c.min-end.ensures) in
+    count_ends m.words.list words m.size c.args.first end c.args.last _
+    (omega (arith, c.if-start-end.true)) c.requires.below c.touched-words.ensures.words
+    (elim (cases_lt end c.args.last) [
+      | inl low ↦ inr (omega (arith, c.min-end.ensures), within)
+      | inr past ↦ inl (past, within)
+    ])
+    (alike_touched m.words.list words m.size c.args.first end (omega (arith, c.requires.below))
+    c.if-start-end.true (omega (arith, c.min-end.ensures)) fits c.touched-words.ensures.words
+    (c.are_alike.ensures c.if-are_alike.true))
 
 pub overflow_add-count : goal.overflow_add-count
 overflow_add-count c =

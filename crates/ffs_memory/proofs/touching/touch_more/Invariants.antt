@@ -3,8 +3,9 @@ use Rattle.std.specs.Prelude.{vec_capacity}
 use Rattle.std.specs.Vec.{vec_ptr}
 use Rattle.ffs_memory.proofs.touching.touch_more.Given as goal
 
-abbrev pub invariant-loop-rest : goal.invariant-loop-rest
-invariant-loop-rest g l = record {
+abbrev pub invariant-loop-len : goal.invariant-loop-len
+invariant-loop-len g l = record {
+  len : l.len ≡ vec_len l.touched;
   within : vec_len l.fn.touched ≤ vec_len l.touched;
   past : vec_len l.touched ≤ max (vec_len l.fn.touched) (l.index + 1);
   items : l.touched.items ≡ l.fn.touched.items ++ replicate (vec_len l.touched - vec_len l.fn.touched) l.rest;
@@ -12,5 +13,5 @@ invariant-loop-rest g l = record {
   room : vec_capacity l.touched ≡ vec_capacity l.fn.touched;
 }
 
-abbrev pub decreases-loop-rest : goal.decreases-loop-rest
-decreases-loop-rest g l = l.index + 1 - vec_len l.touched
+abbrev pub decreases-loop-len : goal.decreases-loop-len
+decreases-loop-len g l = l.index + 1 - l.len

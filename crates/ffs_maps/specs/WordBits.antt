@@ -1,0 +1,16 @@
+-- The bits of words.
+use Rattle.std.specs.Prelude.{ℕ, ◌/◌, ◌%◌, Bool, false, List, map, nat_eq, slice_index, count_by}
+use Rattle.std.specs.List.{range_with_len, slice_index_or}
+use Rattle.std.specs.Int.{bit_at}
+
+-- the bit of a fragment, in words of 64 bits
+abbrev pub is_bit : List ℕ → ℕ → Bool
+is_bit words f = nat_eq (bit_at (slice_index words (f / 64)) (f % 64)) 1
+
+-- the first bits of some words
+unfoldable pub bits_of_words : List ℕ → ℕ → List Bool
+bits_of_words words size = map (is_bit words) (range_with_len 0 size)
+
+-- how many of the first bits of some words are set
+abbrev pub set_in_words : List ℕ → ℕ → ℕ
+set_in_words words size = count_by (λ f. slice_index_or (bits_of_words words size) f false) (range_with_len 0 size)
