@@ -206,3 +206,111 @@ returns-in-None-clause-found g c = λ b t.
     let none = c.in_ok-next.ensures.step.over c.in-None.is in
     end_none c.next.new.self.geometry.layout b s.run_cursor s.taken s.keeping.cut (replay_in s.keeping)
     (steps_left b c.next.new.self) (omega (arith, c.steps-test.true)) (over_rest b c.next.new.self none)
+
+-- what is kept of the Run and of the sizes, after a step of the walk
+pub invariant_of-self-in-None : goal.invariant_of-self-in-None
+invariant_of-self-in-None g c = record {
+  taken_small = c.steps.self.taken_small;
+  few = c.steps.self.few;
+  hand_fits = rw c.next.ensures.same.geometry c.steps.self.hand_fits;
+}
+
+pub invariant_of-self-in-Some-Tail : goal.invariant_of-self-in-Some-Tail
+invariant_of-self-in-Some-Tail g c = record {
+  taken_small = c.steps.self.taken_small;
+  few = c.steps.self.few;
+  hand_fits = rw c.next.ensures.same.geometry c.steps.self.hand_fits;
+}
+
+pub invariant_of-self-in-Some-Gap : goal.invariant_of-self-in-Some-Gap
+invariant_of-self-in-Some-Gap g c = record {
+  taken_small = c.steps.self.taken_small;
+  few = c.steps.self.few;
+  hand_fits = rw (c.skip_gaps.ensures.same.geometry ∙ c.next.ensures.same.geometry) c.steps.self.hand_fits;
+}
+
+pub invariant_of-self : goal.invariant_of-self
+invariant_of-self g c = record {
+  taken_small = c.steps.self.taken_small;
+  few = c.steps.self.few;
+  hand_fits = rw c.next.ensures.same.geometry c.steps.self.hand_fits;
+}
+
+pub see-requires : goal.see-requires
+see-requires g c =
+    let fits = rw c.in-Some-Run.field-0-is at (rw c.in-Some-Run.is at c.in_ok-next.ensures.step.fits) in
+    record {
+      length = rw c.next.ensures.same.geometry fits.length;
+      seen = sym c.is_replay_open.ensures ∙ c.if-not-is_replay_open.false;
+      empty = c.steps-test.true;
+    }
+
+pub steps-smaller-in-Some-Run : goal.steps-smaller-in-Some-Run
+steps-smaller-in-Some-Run g c =
+    rw c.see.ensures.walk (rw c.in-Some-Run.is at c.in_ok-next.ensures.step.falls)
+
+pub steps-smaller-in-Some-Tail : goal.steps-smaller-in-Some-Tail
+steps-smaller-in-Some-Tail g c = rw c.in-Some-Tail.is at c.in_ok-next.ensures.step.falls
+
+pub steps-smaller : goal.steps-smaller
+steps-smaller g c =
+    let next = rw c.in-Some-Gap.is at c.in_ok-next.ensures.step.falls in
+    let gaps = c.skip_gaps.ensures.falls in
+    omega (arith, next, gaps)
+
+-- what is left at each return
+pub returns-then-not-is_replay_open-clause-continues : goal.returns-then-not-is_replay_open-clause-continues
+returns-then-not-is_replay_open-clause-continues g c = c.steps.invariant.continues
+
+pub returns-then-not-is_replay_open-clause-leaves : goal.returns-then-not-is_replay_open-clause-leaves
+returns-then-not-is_replay_open-clause-leaves g c =
+    let i = c.steps.invariant in record { same = i.same; ready = i.ready; read = i.device }
+
+pub returns-in-None-clause-leaves : goal.returns-in-None-clause-leaves
+returns-in-None-clause-leaves g c =
+    let i = c.steps.invariant in
+    record {
+      same = record {
+        geometry = c.next.ensures.same.geometry ∙ i.same.geometry;
+        cut = i.same.cut;
+        taken = i.same.taken;
+        budget = i.same.budget;
+        runs = i.same.runs;
+      };
+      ready = walk_on _ _ _ _ _ _ i.ready i.same.geometry (ap (λ d. d.size) c.in_ok-next.ensures.leaves.read)
+          c.next.ensures.leaves.kept.size c.next.ensures.leaves.kept.holds;
+      read = c.in_ok-next.ensures.leaves.read ∙ i.device;
+    }
+
+pub returns-in_err-next-clause-continues : goal.returns-in_err-next-clause-continues
+returns-in_err-next-clause-continues g c =
+    let p = err_from_is_err_and c.from_residual.result c.from_residual.ensures.1 in rw p.1 tt
+
+pub returns-in_err-next-clause-found : goal.returns-in_err-next-clause-found
+returns-in_err-next-clause-found g c =
+    let p = err_from_is_err_and c.from_residual.result c.from_residual.ensures.1 in rw p.1 tt
+
+pub returns-in_err-next-clause-leaves : goal.returns-in_err-next-clause-leaves
+returns-in_err-next-clause-leaves g c =
+    let i = c.steps.invariant in
+    let err = c.in_err-next.ensures.leaves.read in
+    let p = err_from_is_err_and c.from_residual.result c.from_residual.ensures.1 in
+    rw (p.1, p.2) (record {
+      same = record {
+        geometry = c.next.ensures.same.geometry ∙ i.same.geometry;
+        cut = i.same.cut;
+        taken = i.same.taken;
+        budget = i.same.budget;
+        runs = i.same.runs;
+      };
+      ready = walk_on _ _ _ _ _ _ i.ready i.same.geometry err.size c.next.ensures.leaves.kept.size
+          c.next.ensures.leaves.kept.holds;
+      read = rw i.device at err;
+    })
+
+pub returns-clause-continues : goal.returns-clause-continues
+returns-clause-continues g c = c.steps.invariant.continues
+
+pub returns-clause-leaves : goal.returns-clause-leaves
+returns-clause-leaves g c =
+    let i = c.steps.invariant in record { same = i.same; ready = i.ready; read = i.device }
