@@ -41,10 +41,7 @@ pub fn examine<I: Image>(
     ensures leaves { ExamineLeaves geometry.now.layout (I.device image.old) (I.device image.new)
         workspace.old workspace.new result }
 {
-    let inode = workspace
-        .windows
-        .table
-        .inode_by_part(geometry, dir, image)?;
+    let inode = workspace.windows.table.inode_by_part(geometry, dir, image)?;
     let cut = workspace.cut[dir as usize];
     let inodes = Inodes {
         kinds: workspace.kinds.as_slice(),
