@@ -1,5 +1,5 @@
 -- What a workspace holds where only its windows have changed, and what is reported of an inode by it.
-use Rattle.std.proofs.Common.{◌≡◌, ℕ, ℤ, zero, suc, ◌+◌, ◌-◌, ◌<◌, ◌≤◌, Bool, true, false, List, [], ◌∷◌, ◌++◌, length}
+use Rattle.std.proofs.Common.{◌≡◌, ℕ, ℤ, zero, suc, ◌+◌, ◌-◌, ◌<◌, ◌≤◌, Bool, true, false, List, [], ◌++◌}
 use Rattle.std.proofs.Common.{map, refl, ap, ◌∙◌, sym, slice_index, vec_len, arith}
 use Rattle.std.specs.Prelude.{◌&&◌, ◌||◌, ◌==◌, not, if◌then◌else◌}
 use Rattle.std.specs.List.{slice_index_or}
@@ -11,9 +11,7 @@ use Rattle.ffs_volume.specs.declared.Layout.{Layout}
 use Rattle.ffs_volume.specs.declared.Attr.{Attr}
 use Rattle.ffs_volume.specs.declared.Class.TheVariants.{Free, Unknown, File, Dir}
 use Rattle.ffs_volume.specs.declared.Inode.{Inode}
-use Rattle.ffs_volume.specs.Disk.Numbers.{equals_natural}
-use Rattle.ffs_volume.specs.Messages.Kinds.{TreeMessage, of_tree, lines_from, reported, dead_marked, dead_zero, unref}
-use Rattle.ffs_volume.specs.Messages.Kinds.{unref_unlinked, link_count}
+use Rattle.ffs_volume.specs.Messages.Kinds.{TreeMessage, of_tree, lines_from}
 use Rattle.ffs_volume.specs.Blocks.Inodes.{inode_of, is_allocated}
 use Rattle.ffs_volume.specs.Directories.Roles.{is_allocated_inode, is_inode, is_suspect, references}
 use Rattle.ffs_volume.specs.Directories.PathnameCheck.{label_of, attributes, attributes_of}

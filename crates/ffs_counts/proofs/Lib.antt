@@ -1,6 +1,7 @@
 pub mod Places
-pub mod UsedCount
+pub mod ReservedCount
 pub mod Sifting
 pub mod Classes
 pub mod GroupText
 pub mod Holding
+pub mod Kept

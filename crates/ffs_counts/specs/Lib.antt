@@ -2,4 +2,5 @@ pub mod Once
 pub mod Ready
 pub mod Records
 pub mod References
+pub mod Reserved
 pub mod Totals

@@ -14,11 +14,10 @@ ghost use Rattle.ffs_report.specs.Progress.{progress};
 ghost use Rattle.ffs_phase.specs.Runs.{PhaseRuns};
 ghost use Rattle.ffs_image.specs.Device.{Device};
 ghost use Rattle.ffs_groups.specs.Inodes.{class_in};
-ghost use Rattle.ffs_groups.specs.Inputs.{HasFragments};
 ghost use Rattle.ffs_workspace.specs.Holds.{HoldsClaims};
 ghost use Rattle.ffs_workspace.specs.Lengths.{IsFor};
+ghost use Rattle.ffs_counts.specs.Reserved.{HasReserved};
 
-use ffs_groups::group_fragments;
 use ffs_layout::{Geometry, Super};
 use ffs_maps::FragmentMap;
 use ffs_phase::RunFault;
@@ -39,35 +38,40 @@ fn file_count(kinds: &[u8]) -> u32
     files
 }
 
-// How many fragments of a group are claimed beside the reserved ones, which are together in each group: those before the
-// end of the summary area in the first one, and what the group keeps for itself in another.
-fn used_in_group(geometry: &Geometry, used: &FragmentMap, group: u32) -> u32
-    requires { HasFragments geometry.now.layout used.now.size group }
-    ensures { result ≡ count_by (λ f. is_set (bits_of used.now) f
-        && not (is_reserved geometry.now.layout f))
+// How many fragments of a group are reserved. They are together: in the first group all those before the end of the summary
+// area, and in another one what the group keeps for itself.
+fn reserved_in_group(geometry: &Geometry, group: u32) -> u32
+    requires { group < geometry.now.layout.ncg }
+    ensures { result ≡ count_by (is_reserved geometry.now.layout)
         (range_with_len (cgbase geometry.now.layout group) (group_size geometry.now.layout group)) }
 {
-    let base = geometry.cgbase(group);
-    let end = base + group_fragments(geometry, group);
     if group == 0 {
         let summary = geometry.layout.cssize.div_ceil(geometry.layout.fsize);
-        return used.count(geometry.layout.csaddr + summary, end);
+        return geometry.layout.csaddr + summary;
     }
-    let before = used.count(base, geometry.cgsblock(group));
-    before + used.count(geometry.cgdmin(group), end)
+    geometry.cgdmin(group) - geometry.cgsblock(group)
 }
 
-// How many fragments are claimed beside the reserved ones.
-fn used_count(geometry: &Geometry, used: &FragmentMap) -> u32
-    requires { used.now.size ≡ geometry.now.layout.size }
-    ensures { result ≡ count_by (λ f. is_set (bits_of used.now) f
-        && not (is_reserved geometry.now.layout f)) (range_with_len 0 geometry.now.layout.size) }
+// How many fragments are reserved.
+fn reserved_count(geometry: &Geometry) -> u32
+    ensures { result ≡ count_by (is_reserved geometry.now.layout)
+        (range_with_len 0 geometry.now.layout.size) }
 {
     let mut count = 0;
     for group in 0..geometry.layout.ncg {
-        count += used_in_group(geometry, used, group);
+        count += reserved_in_group(geometry, group);
     }
     count
+}
+
+// How many fragments are claimed beside the reserved ones, whose bits were all set before any was claimed.
+fn used_count(geometry: &Geometry, used: &FragmentMap) -> u32
+    requires { used.now.size ≡ geometry.now.layout.size }
+    ensures { HasReserved geometry.now.layout (bits_of used.now)
+        → result ≡ count_by (λ f. is_set (bits_of used.now) f
+        && not (is_reserved geometry.now.layout f)) (range_with_len 0 geometry.now.layout.size) }
+{
+    used.count_ones().saturating_sub(reserved_count(geometry))
 }
 
 // Free fragments in all: the loose ones, and those of free blocks.

@@ -95,3 +95,45 @@ fn whole_word(rt: HostRuntime) -> Result<(), Fail> {
     );
     Ok(())
 }
+
+// Bits that are set twice, cleared twice and claimed: 5, 64 to 127, and the last two.
+#[test]
+fn ones(rt: HostRuntime) -> Result<(), Fail> {
+    let mut map = FragmentMap::new(rt.alloc(), 130)?;
+    assert_eq!(rt; map.count_ones(), 0);
+    map.set(5);
+    map.set(5);
+    assert_eq!(rt; map.count_ones(), 1);
+    map.set_run(70, 30);
+    map.set_run(64, 64);
+    assert_eq!(rt; map.count_ones(), 65);
+    assert!(rt; !map.claim(127, 2));
+    assert!(rt; !map.claim(64, 1));
+    assert_eq!(rt; map.count_ones(), 65);
+    assert!(rt; map.claim(128, 2));
+    assert_eq!(rt; map.count_ones(), 67);
+    map.clear(129);
+    map.clear(129);
+    map.clear(6);
+    assert_eq!(rt; map.count_ones(), 66);
+    Ok(())
+}
+
+// Parts whose words are all set, all clear, and neither: the bits up to 255 are set, and 300 to 319.
+#[test]
+fn ones_of_alike_words(rt: HostRuntime) -> Result<(), Fail> {
+    let mut map = FragmentMap::new(rt.alloc(), 640)?;
+    map.set_run(0, 256);
+    map.set_run(300, 20);
+    assert_eq!(rt;
+        [
+            map.count(0, 256),
+            map.count(64, 192),
+            map.count(320, 640),
+            map.count(0, 640)
+        ],
+        [256, 128, 0, 276]
+    );
+    assert_eq!(rt; map.count_ones(), 276);
+    Ok(())
+}

@@ -1,38 +1,20 @@
-use Rattle.std.proofs.Common.{arith, ap, sym, ◌∙◌, ◌≡◌, ◌+◌, count_by, min}
+use Rattle.std.proofs.Common.{arith, ap, ◌∙◌, ◌≡◌, ◌+◌, count_by}
 use Rattle.std.specs.List.{range_with_len}
-use Rattle.ffs_volume.specs.Disk.Areas.{cgbase}
+use Rattle.ffs_volume.specs.Blocks.Claims.{is_set}
 use Rattle.ffs_maps.specs.Bits.{bits_of}
-use Rattle.ffs_maps.proofs.Counting.{count_few}
-use Rattle.ffs_counts.proofs.UsedCount.{is_used, groups_begin, groups_end, group_more}
+use Rattle.ffs_counts.proofs.ReservedCount.{set_apart}
 use Rattle.ffs_counts.proofs.summing.used_count.Goals as goal
 
-pub loop-group-init : goal.loop-group-init
-loop-group-init c = sym (ap
-    (λ j. count_by (is_used c.args.geometry.now.layout (bits_of c.args.used.now)) (range_with_len 0 j))
-    (groups_begin c.args.geometry.now.layout))
-
-pub overflow_add-count : goal.overflow_add-count
-overflow_add-count c =
+pub returns : goal.returns
+returns c = λ has.
     let v = c.args.geometry.now.layout in
+    let used = bits_of c.args.used.now in
+    let ones : c.count_ones.result ≡ count_by (λ f. is_set used f) (range_with_len 0 v.size) =
+    c.count_ones.ensures ∙ ap (λ n. count_by (λ f. is_set used f) (range_with_len 0 n)) c.requires in
     omega (
       arith,
-      group_more v (bits_of c.args.used.now) c.loop-group.group c.loop-group.count c.used_in_group-count.result
-          c.args.geometry.now.sound c.loop-group-test.true c.loop-group.invariant c.used_in_group-count.ensures,
-      count_few (is_used v (bits_of c.args.used.now)) 0 (min (cgbase v (c.loop-group.group + 1)) v.size),
-      c.args.geometry.now.sound.numbers.size_below,
+      ones,
+      c.reserved_count.ensures,
+      c.saturating_sub.ensures,
+      set_apart v used 0 v.size (λ k h. has (0 + k) (omega (arith, h))),
     )
-
-pub loop-group-preserved : goal.loop-group-preserved
-loop-group-preserved c =
-    group_more c.args.geometry.now.layout (bits_of c.args.used.now) c.loop-group.group c.loop-group.count
-    c.used_in_group-count.result c.args.geometry.now.sound c.loop-group-test.true c.loop-group.invariant
-    c.used_in_group-count.ensures
-
-pub returns : goal.returns
-returns c =
-    let v = c.args.geometry.now.layout in
-    let all : c.loop-group.group ≡ v.ncg = omega arith in
-    c.loop-group.invariant ∙ ap
-    (λ j. count_by (is_used v (bits_of c.args.used.now)) (range_with_len 0 (min (cgbase v j) v.size))) all
-    ∙ ap (λ j. count_by (is_used v (bits_of c.args.used.now)) (range_with_len 0 j))
-    (groups_end v c.args.geometry.now.sound)

@@ -1,10 +1,11 @@
--- The fragments of a group that are claimed beside the reserved ones.
+-- How many fragments of a group are reserved.
 use Rattle.std.proofs.Common.{◌≡◌, ◌⊎◌, inl, inr, ℕ, zero, suc, ◌+◌, ◌-◌, ◌*◌, ◌<◌, ◌≤◌, Bool, true, false, cond, not}
 use Rattle.std.proofs.Common.{◌&&◌, ◌||◌, nat_lt, nat_le, List, count_by, min, arith, refl, ap, ◌∙◌, sym}
 use Rattle.std.specs.List.{range_with_len, sum_by}
 use Rattle.std.specs.Int.{div_ceil}
 use Rattle.std.proofs.Math.Nat.{mul_comm}
 use Rattle.std.proofs.lemmas.Bool.{cases_lt, true≢false}
+use Rattle.std.proofs.lemmas.List.Sums.{sum_by-cons}
 use Rattle.std.proofs.lemmas.Nat.{mul-le}
 use Rattle.ffs_volume.specs.declared.Layout.{Layout}
 use Rattle.ffs_volume.specs.Disk.Areas.{cgbase, cgstart, cgsblock, cgdmin, is_group_metadata, is_reserved}
@@ -13,12 +14,7 @@ use Rattle.ffs_volume.specs.Blocks.Claims.{is_set}
 use Rattle.ffs_volume.specs.Disk.Geometry.{IsAcceptedLayout}
 use Rattle.ffs_volume.specs.Groups.Records.{group_size}
 use Rattle.ffs_maps.proofs.Counting.{count_join_at}
-use Rattle.ffs_groups.proofs.Sums.{sum_same}
 use Rattle.ffs_groups.proofs.Words.{sum_const}
-
--- a fragment is claimed beside the reserved ones
-abbrev pub is_used : Layout → List Bool → ℕ → Bool
-is_used v used f = is_set used f && not (is_reserved v f)
 
 -- ---- which fragments are reserved
 before : (a b : ℕ) → a < b → nat_lt a b ≡ true
@@ -125,71 +121,59 @@ group_free v c f g some low high apart =
     ]))
 
 -- ---- counts of runs
-and_true : (b : Bool) → (b && true) ≡ b
-and_true true = refl
-and_true false = refl
+none_reserved : (v : Layout) (a n : ℕ) → ((k : ℕ) → k < n → is_reserved v (a + k) ≡ false) →
+    0 ≡ count_by (is_reserved v) (range_with_len a n)
+none_reserved v a n none =
+    let no : sum_by (λ f. cond (is_reserved v f) 1 0) (range_with_len a n) ≡ n * 0 =
+    sum_const (λ f. cond (is_reserved v f) 1 0) 0 a n (λ k h. ap (λ b. cond b 1 0) (none k h)) in
+    omega (arith, no)
 
-and_false : (b : Bool) → (b && false) ≡ false
-and_false true = refl
-and_false false = refl
-
-counted_free : (v : Layout) (used : List Bool) (a n : ℕ) → ((k : ℕ) → k < n → is_reserved v (a + k) ≡ false) →
-    count_by (λ f. is_set used f) (range_with_len a n) ≡ count_by (is_used v used) (range_with_len a n)
-counted_free v used a n free =
-    sum_same (λ f. cond (is_set used f) 1 0) (λ f. cond (is_used v used f) 1 0) a a n
-    (λ k h. ap (λ b. cond b 1 0)
-    (sym (ap (λ r. is_set used (a + k) && not r) (free k h) ∙ and_true (is_set used (a + k)))))
-
-none_reserved : (v : Layout) (used : List Bool) (a n : ℕ) → ((k : ℕ) → k < n → is_reserved v (a + k) ≡ true)
-    → 0 ≡ count_by (is_used v used) (range_with_len a n)
-none_reserved v used a n all =
-    let none : sum_by (λ f. cond (is_used v used f) 1 0) (range_with_len a n) ≡ n * 0 =
-    sum_const (λ f. cond (is_used v used f) 1 0) 0 a n
-    (λ k h. ap (λ b. cond b 1 0)
-    (ap (λ r. is_set used (a + k) && not r) (all k h) ∙ and_false (is_set used (a + k)))) in
-    omega (arith, none)
+all_reserved : (v : Layout) (a n : ℕ) → ((k : ℕ) → k < n → is_reserved v (a + k) ≡ true) →
+    n ≡ count_by (is_reserved v) (range_with_len a n)
+all_reserved v a n all =
+    let each : sum_by (λ f. cond (is_reserved v f) 1 0) (range_with_len a n) ≡ n * 1 =
+    sum_const (λ f. cond (is_reserved v f) 1 0) 1 a n (λ k h. ap (λ b. cond b 1 0) (all k h)) in
+    omega (arith, each)
 
 -- ---- a group
-pub used_first : (v : Layout) (used : List Bool) (start end n : ℕ) → IsAcceptedLayout v →
-    start ≡ v.csaddr + div_ceil v.cssize v.fsize → end ≤ cgbase v (0 + 1) → start ≤ end →
-    n ≡ count_by (λ f. is_set used f) (range_with_len start (end - start)) →
-    n ≡ count_by (is_used v used) (range_with_len 0 (end - 0))
-used_first v used start end n g is within order counted =
-    let before_ : 0 ≡ count_by (is_used v used) (range_with_len 0 (start - 0)) =
-    none_reserved v used 0 (start - 0) (λ k h. first_reserved v (0 + k) g (omega (arith, is, h))) in
-    let rest : n ≡ count_by (is_used v used) (range_with_len start (end - start)) =
-    counted ∙ counted_free v used start (end - start)
+reserved_first : (v : Layout) (start end : ℕ) → IsAcceptedLayout v → start ≡ v.csaddr + div_ceil v.cssize v.fsize →
+    end ≤ cgbase v (0 + 1) → start ≤ end → start ≡ count_by (is_reserved v) (range_with_len 0 (end - 0))
+reserved_first v start end g is within order =
+    let before_ : start - 0 ≡ count_by (is_reserved v) (range_with_len 0 (start - 0)) =
+    all_reserved v 0 (start - 0) (λ k h. first_reserved v (0 + k) g (omega (arith, is, h))) in
+    let rest : 0 ≡ count_by (is_reserved v) (range_with_len start (end - start)) =
+    none_reserved v start (end - start)
     (λ k h. first_free v (start + k) g (omega (arith, is)) (omega (arith, h, within))) in
-    let whole : 0 + n ≡ count_by (is_used v used) (range_with_len 0 (end - 0)) =
-    count_join_at (is_used v used) 0 start end (end - start) 0 n (omega arith) (omega (arith, order)) before_ rest in
+    let whole : start - 0 + 0 ≡ count_by (is_reserved v) (range_with_len 0 (end - 0)) =
+    count_join_at (is_reserved v) 0 start end (end - start) (start - 0) 0 (omega arith) (omega (arith, order)) before_
+    rest in
     omega (arith, whole)
 
-pub used_other : (v : Layout) (used : List Bool) (c end x y : ℕ) → IsAcceptedLayout v → c < v.ncg → 1 ≤ c →
-    end ≤ cgbase v (c + 1) → cgdmin v c ≤ end →
-    x ≡ count_by (λ f. is_set used f) (range_with_len (cgbase v c) (cgsblock v c - cgbase v c)) →
-    y ≡ count_by (λ f. is_set used f) (range_with_len (cgdmin v c) (end - cgdmin v c)) →
-    x + y ≡ count_by (is_used v used) (range_with_len (cgbase v c) (end - cgbase v c))
-used_other v used c end x y g h some within order counted counted' =
+reserved_other : (v : Layout) (c end : ℕ) → IsAcceptedLayout v → c < v.ncg → 1 ≤ c → end ≤ cgbase v (c + 1) →
+    cgdmin v c ≤ end →
+    cgdmin v c - cgsblock v c ≡ count_by (is_reserved v) (range_with_len (cgbase v c) (end - cgbase v c))
+reserved_other v c end g h some within order =
     let group = g.groups c h in
     let up = parts_up v c in
     let low : cgsblock v c ≤ cgdmin v c = omega (arith, g.parts.super_fits, g.parts.block_fits, g.parts.inodes_fit) in
-    let under : x ≡ count_by (is_used v used) (range_with_len (cgbase v c) (cgsblock v c - cgbase v c)) =
-    counted ∙ counted_free v used (cgbase v c) (cgsblock v c - cgbase v c)
+    let kept = cgdmin v c - cgsblock v c in
+    let under : 0 ≡ count_by (is_reserved v) (range_with_len (cgbase v c) (cgsblock v c - cgbase v c)) =
+    none_reserved v (cgbase v c) (cgsblock v c - cgbase v c)
     (λ k l. group_free v c (cgbase v c + k) g some (omega arith) (omega (arith, l, low, group.within_group))
     (inl (omega (arith, l)))) in
-    let kept : 0 ≡ count_by (is_used v used) (range_with_len (cgsblock v c) (cgdmin v c - cgsblock v c)) =
-    none_reserved v used (cgsblock v c) (cgdmin v c - cgsblock v c)
+    let own : kept ≡ count_by (is_reserved v) (range_with_len (cgsblock v c) kept) =
+    all_reserved v (cgsblock v c) kept
     (λ k l. group_reserved v c (cgsblock v c + k) g h (omega arith) (omega (arith, l))) in
-    let past : y ≡ count_by (is_used v used) (range_with_len (cgdmin v c) (end - cgdmin v c)) =
-    counted' ∙ counted_free v used (cgdmin v c) (end - cgdmin v c)
+    let past : 0 ≡ count_by (is_reserved v) (range_with_len (cgdmin v c) (end - cgdmin v c)) =
+    none_reserved v (cgdmin v c) (end - cgdmin v c)
     (λ k l. group_free v c (cgdmin v c + k) g some (omega (arith, low, up)) (omega (arith, l, within))
     (inr (omega arith))) in
-    let first : x + 0 ≡ count_by (is_used v used) (range_with_len (cgbase v c) (cgdmin v c - cgbase v c)) =
-    count_join_at (is_used v used) (cgbase v c) (cgsblock v c) (cgdmin v c) (cgdmin v c - cgsblock v c) x 0 up
-    (omega (arith, low)) under kept in
-    let whole : x + 0 + y ≡ count_by (is_used v used) (range_with_len (cgbase v c) (end - cgbase v c)) =
-    count_join_at (is_used v used) (cgbase v c) (cgdmin v c) end (end - cgdmin v c) (x + 0) y (omega (arith, up, low))
-    (omega (arith, order)) first past in
+    let first : 0 + kept ≡ count_by (is_reserved v) (range_with_len (cgbase v c) (cgdmin v c - cgbase v c)) =
+    count_join_at (is_reserved v) (cgbase v c) (cgsblock v c) (cgdmin v c) kept 0 kept up (omega (arith, low)) under
+    own in
+    let whole : 0 + kept + 0 ≡ count_by (is_reserved v) (range_with_len (cgbase v c) (end - cgbase v c)) =
+    count_join_at (is_reserved v) (cgbase v c) (cgdmin v c) end (end - cgdmin v c) (0 + kept) 0
+    (omega (arith, up, low)) (omega (arith, order)) first past in
     omega (arith, whole)
 
 -- ---- the groups one after the other
@@ -213,68 +197,73 @@ base_order : (v : Layout) (c : ℕ) → cgbase v c ≤ cgbase v (c + 1)
 unfolding cgbase
 base_order v c = omega (arith, mul-le v.fpg c v.fpg (c + 1) (omega arith) (omega arith))
 
-pub group_more : (v : Layout) (used : List Bool) (c x y : ℕ) → IsAcceptedLayout v → c < v.ncg →
-    x ≡ count_by (is_used v used) (range_with_len 0 (min (cgbase v c) v.size)) →
-    y ≡ count_by (is_used v used) (range_with_len (cgbase v c) (group_size v c)) →
-    x + y ≡ count_by (is_used v used) (range_with_len 0 (min (cgbase v (c + 1)) v.size))
-group_more v used c x y g h counted counted' =
+pub group_more : (v : Layout) (c x y : ℕ) → IsAcceptedLayout v → c < v.ncg →
+    x ≡ count_by (is_reserved v) (range_with_len 0 (min (cgbase v c) v.size)) →
+    y ≡ count_by (is_reserved v) (range_with_len (cgbase v c) (group_size v c)) →
+    x + y ≡ count_by (is_reserved v) (range_with_len 0 (min (cgbase v (c + 1)) v.size))
+group_more v c x y g h counted counted' =
     let at = base_within v c g h in
     let from_zero : cgbase v c - 0 ≡ cgbase v c = omega arith in
     let end : min (cgbase v (c + 1)) v.size - 0 ≡ min (cgbase v (c + 1)) v.size = omega arith in
-    count_join_at (is_used v used) 0 (cgbase v c) (min (cgbase v (c + 1)) v.size) (group_size v c) x y (omega arith)
+    count_join_at (is_reserved v) 0 (cgbase v c) (min (cgbase v (c + 1)) v.size) (group_size v c) x y (omega arith)
     (omega (arith, at, base_order v c))
-    (counted ∙ ap (λ j. count_by (is_used v used) (range_with_len 0 j)) (at ∙ sym from_zero)) counted'
-    ∙ ap (λ j. count_by (is_used v used) (range_with_len 0 j)) end
+    (counted ∙ ap (λ j. count_by (is_reserved v) (range_with_len 0 j)) (at ∙ sym from_zero)) counted'
+    ∙ ap (λ j. count_by (is_reserved v) (range_with_len 0 j)) end
 
 -- the parts of a group, in their order
 pub parts_order : (v : Layout) (c : ℕ) → IsAcceptedLayout v → c < v.ncg → (cgbase v c ≤ cgsblock v c)
     × (cgsblock v c ≤ cgdmin v c)
 parts_order v c g h = (parts_up v c, omega (arith, g.parts.super_fits, g.parts.block_fits, g.parts.inodes_fit))
 
--- where a group ends
-pub group_ends : (v : Layout) (c base n end : ℕ) → IsAcceptedLayout v → c < v.ncg → base ≡ cgbase v c → n ≡ group_size v
-    c
-    → end ≡ base + n → end ≡ min (cgbase v (c + 1)) v.size
-group_ends v c base n end g h e f k = omega (arith, e, f, k, base_within v c g h, base_order v c)
-
-counted_at : (v : Layout) (used : List Bool) (n a b x y : ℕ) → n ≡ count_by (is_used v used) (range_with_len a b) →
-    a ≡ x → b ≡ y → n ≡ count_by (is_used v used) (range_with_len x y)
-counted_at v used n a b x y e f g = e ∙ ap (λ j. count_by (is_used v used) (range_with_len j b)) f
-    ∙ ap (λ j. count_by (is_used v used) (range_with_len x j)) g
-
--- what the code counts, in group 0 and in another
-pub first_group : (v : Layout) (used : List Bool) (c base m start n : ℕ) → IsAcceptedLayout v → c < v.ncg → c ≡ 0 →
-    base ≡ cgbase v c → m ≡ group_size v c →
-    start ≡ v.csaddr + div_ceil v.cssize v.fsize →
-    n ≡ count_by (λ f. is_set used f) (range_with_len start (base + m - start)) →
-    n ≡ count_by (is_used v used) (range_with_len (cgbase v c) (group_size v c))
-first_group v used c base m start n g h z e f is counted =
-    let end : base + m ≡ min (cgbase v (c + 1)) v.size = group_ends v c base m (base + m) g h e f refl in
+-- ---- what the code adds up, in group 0 and in another
+pub first_group : (v : Layout) (c n : ℕ) → IsAcceptedLayout v → c < v.ncg → c ≡ 0 →
+    n ≡ v.csaddr + div_ceil v.cssize v.fsize →
+    n ≡ count_by (is_reserved v) (range_with_len (cgbase v c) (group_size v c))
+first_group v c n g h z is =
     let next : cgbase v (c + 1) ≡ cgbase v (0 + 1) = ap (λ j. cgbase v (j + 1)) z in
     let zero_ : cgbase v c ≡ 0 = ap (cgbase v) z ∙ base_zero v in
-    counted_at v used n 0 (base + m - 0) (cgbase v c) (group_size v c)
-    (used_first v used start (base + m) n g is (omega (arith, end, next))
-    (omega (arith, end, next, is, g.summary.summary_in_group, g.summary.summary_in_size)) counted)
-    (sym zero_) (omega (arith, e, f, zero_))
+    let end = min (cgbase v (c + 1)) v.size in
+    let size : end - 0 ≡ group_size v c = omega (arith, zero_) in
+    reserved_first v n end g is (omega (arith, next))
+    (omega (arith, next, is, g.summary.summary_in_group, g.summary.summary_in_size))
+    ∙ ap (λ j. count_by (is_reserved v) (range_with_len 0 j)) size
+    ∙ ap (λ j. count_by (is_reserved v) (range_with_len j (group_size v c))) (sym zero_)
 
-pub other_group : (v : Layout) (used : List Bool) (c base m first past x y : ℕ) → IsAcceptedLayout v → c < v.ncg →
-    (c ≡ 0 → ⊥) → base ≡ cgbase v c → m ≡ group_size v c →
-    first ≡ cgsblock v c → past ≡ cgdmin v c → x ≡ count_by (λ f. is_set used f) (range_with_len base (first - base)) →
-    y ≡ count_by (λ f. is_set used f) (range_with_len past (base + m - past)) →
-    x + y ≡ count_by (is_used v used) (range_with_len (cgbase v c) (group_size v c))
-other_group v used c base m first past x y g h apart e f is is' counted counted' =
-    let end : base + m ≡ min (cgbase v (c + 1)) v.size = group_ends v c base m (base + m) g h e f refl in
+pub other_group : (v : Layout) (c n : ℕ) → IsAcceptedLayout v → c < v.ncg → (c ≡ 0 → ⊥) →
+    n ≡ cgdmin v c - cgsblock v c → n ≡ count_by (is_reserved v) (range_with_len (cgbase v c) (group_size v c))
+other_group v c n g h apart is =
     let group = g.groups c h in
-    let low : x ≡ count_by (λ j. is_set used j) (range_with_len (cgbase v c) (cgsblock v c - cgbase v c)) =
-    counted ∙ ap (λ j. count_by (λ i. is_set used i) (range_with_len j (first - j))) e
-    ∙ ap (λ j. count_by (λ i. is_set used i) (range_with_len (cgbase v c) (j - cgbase v c))) is in
-    let high : y ≡ count_by (λ j. is_set used j) (range_with_len (cgdmin v c) (base + m - cgdmin v c)) =
-    counted' ∙ ap (λ j. count_by (λ i. is_set used i) (range_with_len j (base + m - j))) is' in
-    counted_at v used (x + y) (cgbase v c) (base + m - cgbase v c) (cgbase v c) (group_size v c)
-    (used_other v used c (base + m) x y g h (omega (arith, some c apart)) (omega (arith, end))
-    (omega (arith, end, group.within_group, group.within_size)) low high)
-    refl (omega (arith, e, f))
+    is ∙ reserved_other v c (min (cgbase v (c + 1)) v.size) g h (some c apart) (omega arith)
+    (omega (arith, group.within_group, group.within_size))
   where
     some : (c : ℕ) → (c ≡ 0 → ⊥) → 1 ≤ c
     some zero apart = absurd (apart refl)
     some (suc c) apart = omega arith
+
+-- ---- the claimed ones
+-- where each reserved fragment is set, the set fragments are those beside them and the reserved ones
+pub set_apart : (v : Layout) (used : List Bool) (a n : ℕ) →
+    ((k : ℕ) → k < n → is_reserved v (a + k) ≡ true → is_set used (a + k) ≡ true) →
+    count_by (λ f. is_set used f) (range_with_len a n)
+    ≡ count_by (λ f. is_set used f && not (is_reserved v f)) (range_with_len a n)
+    + count_by (is_reserved v) (range_with_len a n)
+set_apart v used a zero all = refl
+set_apart v used a (suc n) all =
+    let at : a ≡ a + 0 = omega arith in
+    let rest = set_apart v used (a + 1) n
+    (λ k h. let l : a + 1 + k ≡ a + (k + 1) = omega arith in rw l (all (k + 1) (omega (arith, h)))) in
+    let first = one (is_set used a) (is_reserved v a) (rw at (all 0 (omega arith))) in
+    omega (
+      arith,
+      rest,
+      first,
+      sum_by-cons (λ f. cond (is_set used f) 1 0) a (range_with_len (a + 1) n),
+      sum_by-cons (λ f. cond (is_set used f && not (is_reserved v f)) 1 0) a (range_with_len (a + 1) n),
+      sum_by-cons (λ f. cond (is_reserved v f) 1 0) a (range_with_len (a + 1) n),
+    )
+  where
+    one : (u r : Bool) → (r ≡ true → u ≡ true) → cond u 1 0 ≡ cond (u && not r) 1 0 + cond r 1 0
+    one true true h = refl
+    one true false h = refl
+    one false true h = absurd (true≢false (sym (h refl)))
+    one false false h = refl
