@@ -166,13 +166,6 @@ invariant_of-chunks-in-None g c = record {
   hand_fits = rw c.next.ensures.same.geometry c.steps.chunks.hand_fits;
 }
 
-pub invariant_of-chunks-in-Some-Run : goal.invariant_of-chunks-in-Some-Run
-invariant_of-chunks-in-Some-Run g c = record {
-  taken_small = c.steps.chunks.taken_small;
-  few = c.steps.chunks.few;
-  hand_fits = rw c.next.ensures.same.geometry c.steps.chunks.hand_fits;
-}
-
 pub invariant_of-chunks-in-Some-Run-2 : goal.invariant_of-chunks-in-Some-Run-2
 invariant_of-chunks-in-Some-Run-2 g c = record {
   taken_small = c.steps.chunks.taken_small;

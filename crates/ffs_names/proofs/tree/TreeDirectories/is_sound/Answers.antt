@@ -1,0 +1,33 @@
+use Rattle.std.proofs.Common.{refl, ◌∙◌}
+use Rattle.ffs_names.proofs.Continuing.{contents_kept}
+use Rattle.ffs_names.proofs.tree.TreeDirectories.is_sound.Goals as goal
+
+pub is_sound-requires : goal.is_sound-requires
+is_sound-requires g c =
+    let r = c.requires.ready.0 in
+    rw c.requires.ready.1 (record { volume = r.volume; room = r.blocks; holds = r.blocks_hold })
+
+pub returns-clause-reader : goal.returns-clause-reader
+returns-clause-reader g c =
+    let r = c.requires.ready.0 in
+    let left = c.is_sound.ensures.leaves in
+    let contents = contents_kept _ _ _ left.read in
+    let ready = rw c.requires.ready.1 at left.ready in
+    record {
+      is_ready = (
+        record {
+          volume = ready.volume;
+          table = r.table;
+          blocks = ready.room;
+          chunk = r.chunk;
+          table_holds = rw contents r.table_holds;
+          blocks_hold = ready.holds;
+          chunk_holds = rw contents r.chunk_holds;
+          kinds_long = r.kinds_long;
+          cut_long = r.cut_long;
+        },
+        left.same.geometry ∙ c.requires.ready.1,
+      );
+      same = rw contents refl;
+      read = left.read;
+    }
