@@ -1,7 +1,9 @@
 -- How a reading of chunks continues, and that its windows can be read into from read to read.
-use Rattle.std.proofs.Common.{◌≡◌, ℕ, ◌+◌, ◌-◌, ◌^◌, ◌*◌, ◌≤◌, List, arith, refl, sym, ap, subst, ◌∙◌}
+use Rattle.std.proofs.Common.{◌≡◌, ℕ, ◌+◌, ◌-◌, ◌^◌, ◌*◌, ◌≤◌, List, Result, Ok, Err, arith, refl, sym, ap, subst, ◌∙◌}
 use Rattle.std.specs.Prelude.{vec_len, min}
 use Rattle.ffs_image.specs.Device.{Device}
+use Rattle.ffs_image.specs.Reads.{ReadAfter}
+use Rattle.ffs_image.specs.declared.image.ImageFault.{ImageFault}
 use Rattle.ffs_volume.specs.declared.Layout.{Layout}
 use Rattle.ffs_volume.specs.declared.Step.{Step}
 use Rattle.ffs_volume.specs.Encodings.Replay.{Replay}
@@ -81,3 +83,9 @@ can_read g g' d blocks chunk h e = rw e h
 pub can_read_here : (g g' : Geometry) (d : Device) (blocks : Blocks) (chunk : Window)
     → CanReadChunks g'.layout d blocks chunk → g' ≡ g → CanReadChunks g.layout d blocks chunk
 can_read_here g g' d blocks chunk h e = rw (← e) h
+
+-- a read, failed or not, changes no byte of the image
+pub contents_kept : {T : Type 0} (d d' : Device) (result : Result T ImageFault) → ReadAfter d d' result
+    → d'.contents ≡ d.contents
+contents_kept d d' (Ok x) read = ap (λ x. x.contents) read
+contents_kept d d' (Err fault) read = read.contents

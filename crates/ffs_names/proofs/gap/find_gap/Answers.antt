@@ -1,10 +1,12 @@
-use Rattle.std.proofs.Common.{sym, ap, ◌∙◌, false, List}
+use Rattle.std.proofs.Common.{refl, sym, ap, ◌∙◌, false, List, arith}
+use Rattle.std.proofs.lemmas.Result.{err_from_is_err_and}
 use Rattle.ffs_volume.specs.declared.Step.{Step}
 use Rattle.ffs_walk.specs.Rests.{rest}
 use Rattle.ffs_names.specs.Keepings.{replay_in}
 use Rattle.ffs_names.specs.Readings.{gap_after}
 use Rattle.ffs_names.proofs.GapsLeft.{gap_over_tail, gap_seen, gap_to_run, gap_past_run, gap_unseen}
 use Rattle.ffs_names.proofs.Continuing.{walk_volume, walk_room, walk_holds, walk_on}
+use Rattle.ffs_names.proofs.Pieces.{no_more}
 use Rattle.ffs_names.proofs.gap.find_gap.Goals as goal
 
 pub next-requires : goal.next-requires
@@ -127,3 +129,86 @@ returns-in-Some-Gap-clause-leaves g c =
           c.next.ensures.leaves.kept.size c.next.ensures.leaves.kept.holds;
       read = c.in_ok-next.ensures.leaves.read ∙ inv.same;
     }
+
+pub steps-init : goal.steps-init
+steps-init g c = record {
+  same = refl;
+  kept = record { geometry = refl; cut = refl; taken = refl; budget = refl; runs = no_more _ };
+  ready = c.requires;
+  gap = λ b t. refl;
+}
+
+pub take-kept-requires-clause-some : goal.take-kept-requires-clause-some
+take-kept-requires-clause-some g c =
+    let fits = rw c.in-Some-Run.field-0-is at (rw c.in-Some-Run.is at c.in_ok-next.ensures.step.fits) in fits.length.0
+
+pub take-kept-requires-clause-seen : goal.take-kept-requires-clause-seen
+take-kept-requires-clause-seen g c = sym c.is_replay_open.ensures ∙ c.steps-test.true
+
+pub steps-smaller-in-Some-Run : goal.steps-smaller-in-Some-Run
+steps-smaller-in-Some-Run g c = rw c.in-Some-Run.is at c.in_ok-next.ensures.step.falls
+
+pub steps-smaller : goal.steps-smaller
+steps-smaller g c = rw c.in-Some-Tail.is at c.in_ok-next.ensures.step.falls
+
+-- what is kept of the sizes, after a step of the walk
+pub invariant_of-chunks : goal.invariant_of-chunks
+invariant_of-chunks g c = record {
+  taken_small = c.steps.chunks.taken_small;
+  few = c.steps.chunks.few;
+  hand_fits = rw c.next.ensures.same.geometry c.steps.chunks.hand_fits;
+}
+
+pub invariant_of-chunks-in-None : goal.invariant_of-chunks-in-None
+invariant_of-chunks-in-None g c = record {
+  taken_small = c.steps.chunks.taken_small;
+  few = c.steps.chunks.few;
+  hand_fits = rw c.next.ensures.same.geometry c.steps.chunks.hand_fits;
+}
+
+pub invariant_of-chunks-in-Some-Run-2 : goal.invariant_of-chunks-in-Some-Run-2
+invariant_of-chunks-in-Some-Run-2 g c = record {
+  taken_small = c.steps.chunks.taken_small;
+  few = c.steps.chunks.few;
+  hand_fits = rw c.next.ensures.same.geometry c.steps.chunks.hand_fits;
+}
+
+pub invariant_of-chunks-in-Some-Tail : goal.invariant_of-chunks-in-Some-Tail
+invariant_of-chunks-in-Some-Tail g c = record {
+  taken_small = c.steps.chunks.taken_small;
+  few = c.steps.chunks.few;
+  hand_fits = rw c.next.ensures.same.geometry c.steps.chunks.hand_fits;
+}
+
+pub invariant_of-chunks-in-Some-Gap : goal.invariant_of-chunks-in-Some-Gap
+invariant_of-chunks-in-Some-Gap g c = record {
+  taken_small = c.steps.chunks.taken_small;
+  few = c.steps.chunks.few;
+  hand_fits = rw c.next.ensures.same.geometry c.steps.chunks.hand_fits;
+}
+
+pub returns-in_err-next-clause-gap : goal.returns-in_err-next-clause-gap
+returns-in_err-next-clause-gap g c =
+    let p = err_from_is_err_and c.from_residual.result c.from_residual.ensures.1 in rw p.1 tt
+
+pub returns-in_err-next-clause-leaves : goal.returns-in_err-next-clause-leaves
+returns-in_err-next-clause-leaves g c =
+    let inv = c.steps.invariant in
+    let err = c.in_err-next.ensures.leaves.read in
+    let p = err_from_is_err_and c.from_residual.result c.from_residual.ensures.1 in
+    rw (p.1, p.2) (record {
+      same = record {
+        geometry = c.next.ensures.same.geometry ∙ inv.kept.geometry;
+        cut = inv.kept.cut;
+        taken = inv.kept.taken;
+        budget = inv.kept.budget;
+        runs = inv.kept.runs;
+      };
+      ready = walk_on _ _ _ _ _ _ inv.ready inv.kept.geometry err.size c.next.ensures.leaves.kept.size
+          c.next.ensures.leaves.kept.holds;
+      read = rw inv.same at err;
+    })
+
+pub returns-clause-leaves : goal.returns-clause-leaves
+returns-clause-leaves g c =
+    let inv = c.steps.invariant in record { same = inv.kept; ready = inv.ready; read = inv.same }

@@ -1,4 +1,5 @@
 use Rattle.std.proofs.Common.{◌∙◌, ◌+◌, ◌*◌, ap, sym, arith}
+use Rattle.std.proofs.lemmas.Result.{err_from_is_err_and}
 use Rattle.ffs_volume.specs.Disk.Numbers.{piece}
 use Rattle.ffs_walk.specs.Windows.{held_bytes}
 use Rattle.ffs_walk.specs.Rests.{rest as steps_left}
@@ -41,3 +42,124 @@ returns-clause-place g c = λ b t.
     (omega arith) c.copy_from_slice.ensures.after c.bytes.ensures
     (c.in_ok-fill.ensures.bytes b (ap (λ d. d.contents) c.in_ok-advance.ensures.leaves.read ∙ t))
     ∙ ap (λ n. piece (h.place + 512 * n) 512 b) (omega arith)
+
+pub advance-requires : goal.advance-requires
+advance-requires g c = c.requires.walk
+
+pub returns-in_err-advance-clause-chunk : goal.returns-in_err-advance-clause-chunk
+returns-in_err-advance-clause-chunk g c =
+    let p = err_from_is_err_and c.from_residual.result c.from_residual.ensures.1 in rw p.1 tt
+
+pub returns-in_err-advance-clause-place : goal.returns-in_err-advance-clause-place
+returns-in_err-advance-clause-place g c =
+    let p = err_from_is_err_and c.from_residual.result c.from_residual.ensures.1 in rw p.1 tt
+
+pub returns-in_err-advance-clause-inside : goal.returns-in_err-advance-clause-inside
+returns-in_err-advance-clause-inside g c =
+    let p = err_from_is_err_and c.from_residual.result c.from_residual.ensures.1 in rw p.1 tt
+
+pub returns-in_err-advance-clause-runs : goal.returns-in_err-advance-clause-runs
+returns-in_err-advance-clause-runs g c =
+    let p = err_from_is_err_and c.from_residual.result c.from_residual.ensures.1 in
+    rw p.1 c.in_err-advance.ensures.runs
+
+pub returns-in_err-advance-clause-leaves : goal.returns-in_err-advance-clause-leaves
+returns-in_err-advance-clause-leaves g c =
+    let went = c.in_err-advance.ensures.leaves in
+    let p = err_from_is_err_and c.from_residual.result c.from_residual.ensures.1 in
+    rw (p.1, p.2) (record {
+      same = went.same;
+      ready = record {
+        walk = went.ready;
+        room = c.requires.room;
+        holds = rw went.read.contents c.requires.holds;
+      };
+      read = went.read;
+    })
+
+pub returns-then-not-branch-clause-leaves : goal.returns-then-not-branch-clause-leaves
+returns-then-not-branch-clause-leaves g c =
+    let went = c.in_ok-advance.ensures.leaves in
+    record {
+      same = went.same;
+      ready = record {
+        walk = went.ready;
+        room = c.requires.room;
+        holds = rw (ap (λ d. d.contents) went.read) c.requires.holds;
+      };
+      read = went.read;
+    }
+
+-- the Run is a block's at most, and lies in the volume
+pub fill-requires-clause-room : goal.fill-requires-clause-room
+fill-requires-clause-room g c =
+    let s = c.advance.new.self in
+    let same = ap (λ x. x.layout.bsize) c.advance.ensures.leaves.same.geometry in
+    omega (arith, s.hand_fits.in_block, c.requires.room, same)
+
+pub fill-requires-clause-inside : goal.fill-requires-clause-inside
+fill-requires-clause-inside g c =
+    let fits = rw c.advance.ensures.leaves.same.geometry at c.advance.new.self.hand_fits.in_volume in
+    omega (arith, fits, c.in_ok-advance.ensures.leaves.ready.volume)
+
+pub fill-requires-clause-holds : goal.fill-requires-clause-holds
+fill-requires-clause-holds g c = rw (ap (λ d. d.contents) c.in_ok-advance.ensures.leaves.read) c.requires.holds
+
+pub bytes-requires : goal.bytes-requires
+bytes-requires g c = c.fill.ensures.holds.fits
+
+pub returns-in_err-fill-clause-chunk : goal.returns-in_err-fill-clause-chunk
+returns-in_err-fill-clause-chunk g c =
+    let p = err_from_is_err_and c.from_residual-in_err-fill.result c.from_residual-in_err-fill.ensures.1 in rw p.1 tt
+
+pub returns-in_err-fill-clause-place : goal.returns-in_err-fill-clause-place
+returns-in_err-fill-clause-place g c =
+    let p = err_from_is_err_and c.from_residual-in_err-fill.result c.from_residual-in_err-fill.ensures.1 in rw p.1 tt
+
+pub returns-in_err-fill-clause-inside : goal.returns-in_err-fill-clause-inside
+returns-in_err-fill-clause-inside g c =
+    let p = err_from_is_err_and c.from_residual-in_err-fill.result c.from_residual-in_err-fill.ensures.1 in rw p.1 tt
+
+pub returns-in_err-fill-clause-runs : goal.returns-in_err-fill-clause-runs
+returns-in_err-fill-clause-runs g c =
+    let p = err_from_is_err_and c.from_residual-in_err-fill.result c.from_residual-in_err-fill.ensures.1 in
+    rw p.1 (λ b t. (c.in_ok-advance.ensures.continues b t).runs.most)
+
+pub returns-in_err-fill-clause-leaves : goal.returns-in_err-fill-clause-leaves
+returns-in_err-fill-clause-leaves g c =
+    let went = c.in_ok-advance.ensures.leaves in
+    let err = c.in_err-fill.ensures.read in
+    let p = err_from_is_err_and c.from_residual-in_err-fill.result c.from_residual-in_err-fill.ensures.1 in
+    rw (p.1, p.2) (record {
+      same = went.same;
+      ready = record {
+        walk = record {
+          volume = rw err.size went.ready.volume;
+          room = went.ready.room;
+          holds = rw err.contents went.ready.holds;
+        };
+        room = c.fill.ensures.room ∙ c.requires.room;
+        holds = c.fill.ensures.holds;
+      };
+      read = rw went.read at err;
+    })
+
+pub returns-clause-leaves : goal.returns-clause-leaves
+returns-clause-leaves g c =
+    let went = c.in_ok-advance.ensures.leaves in
+    let read = c.in_ok-fill.ensures.read in
+    record {
+      same = record {
+        geometry = went.same.geometry;
+        cut = went.same.cut;
+        taken = went.same.taken;
+        budget = went.same.budget;
+        runs = went.same.runs;
+      };
+      ready = record {
+        walk = rw read went.ready;
+        room = c.fill.ensures.room ∙ c.requires.room;
+        holds = c.fill.ensures.holds;
+      };
+      read = read ∙ went.read;
+    }

@@ -1,4 +1,4 @@
-use Rattle.std.proofs.Common.{ap, refl}
+use Rattle.std.proofs.Common.{ap, refl, arith}
 use Rattle.ffs_volume.specs.Blocks.Steps.{steps_of}
 use Rattle.ffs_walk.specs.Rests.{rest as steps_left}
 use Rattle.ffs_names.specs.Keepings.{replay_in}
@@ -28,3 +28,10 @@ returns-clause-begins c = λ known.
           (steps_left b c.restart.new.self) (all b) same c.start-self.ensures.cut c.start-self.ensures.fresh
           (walk.steps b);
     }
+
+pub invariant_of-self : goal.invariant_of-self
+invariant_of-self c = record {
+  taken_small = c.taken_of-taken.ensures.small;
+  few = omega (arith, c.taken_of-taken.ensures.small);
+  hand_fits = c.empty-self.ensures.fits c.restart.new.self.geometry.layout;
+}

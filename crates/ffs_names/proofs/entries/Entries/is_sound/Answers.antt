@@ -1,6 +1,48 @@
-use Rattle.std.proofs.Common.{arith}
+use Rattle.std.proofs.Common.{refl, sym, ap, ◌∙◌, not, arith}
+use Rattle.std.proofs.lemmas.Result.{err_from_is_err_and}
+use Rattle.ffs_names.proofs.Pieces.{no_more}
 use Rattle.ffs_names.proofs.entries.Entries.is_sound.Goals as goal
 
-pub invariant_of-self-clause-few : goal.invariant_of-self-clause-few
-invariant_of-self-clause-few g c = let b = c.gap_of.ensures.leaves.same.budget in let f = c.args.self.now.few in omega
-    arith
+pub gap_of-requires : goal.gap_of-requires
+gap_of-requires g c = c.requires
+
+pub invariant_of-self : goal.invariant_of-self
+invariant_of-self g c =
+    let s = c.args.self.now in
+    let same = c.gap_of.ensures.leaves.same in
+    record {
+      in_chunk = s.in_chunk;
+      counted = s.counted;
+      few = omega (arith, same.budget, s.few);
+      name_in_chunk = s.name_in_chunk;
+      same_order = s.same_order ∙ sym (ap (λ x. x.layout.order) same.geometry);
+    }
+
+pub returns-then-not-self-clause-sound : goal.returns-then-not-self-clause-sound
+returns-then-not-self-clause-sound g c = λ b t ended. rw c.if-not-self.true refl
+
+pub returns-then-not-self-clause-leaves : goal.returns-then-not-self-clause-leaves
+returns-then-not-self-clause-leaves g c = record {
+  same = record { geometry = refl; cut = refl; taken = refl; budget = refl; runs = no_more _ };
+  ready = c.requires;
+  read = refl;
+}
+
+pub returns-in_err-gap-clause-sound : goal.returns-in_err-gap-clause-sound
+returns-in_err-gap-clause-sound g c =
+    let p = err_from_is_err_and c.from_residual.result c.from_residual.ensures.1 in rw p.1 tt
+
+pub returns-in_err-gap-clause-leaves : goal.returns-in_err-gap-clause-leaves
+returns-in_err-gap-clause-leaves g c =
+    let left = c.in_err-gap.ensures.leaves in
+    let p = err_from_is_err_and c.from_residual.result c.from_residual.ensures.1 in
+    rw (p.1, p.2) (record { same = left.same; ready = left.ready; read = left.read })
+
+-- no chunk is left, and the last one is full
+pub returns-clause-sound : goal.returns-clause-sound
+returns-clause-sound g c = λ b t ended.
+    rw (c.if-not-self.false, ended.current, ended.chunks) (ap not (c.in_ok-gap.ensures.gap b t))
+
+pub returns-clause-leaves : goal.returns-clause-leaves
+returns-clause-leaves g c =
+    let left = c.in_ok-gap.ensures.leaves in record { same = left.same; ready = left.ready; read = left.read }

@@ -1,4 +1,5 @@
-use Rattle.std.proofs.Common.{◌∙◌, ◌+◌, ◌*◌, ◌≤◌, ap, sym, subst, arith}
+use Rattle.std.proofs.Common.{◌∙◌, ◌+◌, ◌*◌, ◌≤◌, ap, refl, sym, subst, arith}
+use Rattle.std.proofs.lemmas.Result.{err_from_is_err_and}
 use Rattle.ffs_volume.specs.Disk.Numbers.{piece}
 use Rattle.ffs_names.specs.Readings.{rest}
 use Rattle.ffs_names.specs.RunCursors.{last_place}
@@ -80,3 +81,107 @@ pub returns-in-Some-clause-inside : goal.returns-in-Some-clause-inside
 returns-in-Some-clause-inside g c = λ held.
     subst (λ x. last_place x.run_cursor + 512 ≤ x.walk.geometry.layout.size * x.walk.geometry.layout.fsize)
     (sym c.take.ensures.same.chunks) (c.chunks.invariant.inside held c.in-Some.ensures.place)
+
+pub chunks-init : goal.chunks-init
+chunks-init g c = record {
+  entries = λ b t. refl;
+  shape = λ b t. refl;
+  place = λ b t held. held;
+  inside = λ held. held;
+  left = omega arith;
+  geometry = refl;
+  ready = c.requires;
+  device = refl;
+}
+
+pub chunks-smaller : goal.chunks-smaller
+chunks-smaller g c =
+    let f = rw c.in-Some-2.is at c.in_ok-next.ensures.budget in
+    let k = ap (λ x. x.budget) c.take.ensures.same.chunks in
+    omega (arith, f, k)
+
+-- after an entry is taken, no chunk came, or another came
+pub invariant_of-self : goal.invariant_of-self
+invariant_of-self g c =
+    let s = c.take.new.self in
+    record {
+      in_chunk = s.in_chunk;
+      counted = s.counted;
+      few = s.few;
+      name_in_chunk = s.name_in_chunk;
+      same_order = s.same_order;
+    }
+
+pub invariant_of-self-in-None-2 : goal.invariant_of-self-in-None-2
+invariant_of-self-in-None-2 g c =
+    let s = c.take.new.self in
+    record {
+      in_chunk = omega arith;
+      counted = omega (arith, s.counted, s.in_chunk);
+      few = omega (arith, c.next.new.self.few);
+      name_in_chunk = s.name_in_chunk;
+      same_order = s.same_order ∙ sym (ap (λ x. x.layout.order) c.next.ensures.leaves.geometry);
+    }
+
+pub invariant_of-self-in-Some-2 : goal.invariant_of-self-in-Some-2
+invariant_of-self-in-Some-2 g c =
+    let s = c.take.new.self in
+    let f = rw c.in-Some-2.is at c.in_ok-next.ensures.budget in
+    record {
+      in_chunk = omega arith;
+      counted = omega arith;
+      few = omega (arith, f, s.chunks.few);
+      name_in_chunk = s.name_in_chunk;
+      same_order = s.same_order ∙ sym (ap (λ x. x.layout.order) c.next.ensures.leaves.geometry);
+    }
+
+pub returns-in-Some-clause-left : goal.returns-in-Some-clause-left
+returns-in-Some-clause-left g c = omega (arith, c.in-Some.ensures.left, c.chunks.invariant.left)
+
+pub returns-in-Some-clause-leaves : goal.returns-in-Some-clause-leaves
+returns-in-Some-clause-leaves g c =
+    let i = c.chunks.invariant in
+    record {
+      geometry = ap (λ x. x.walk.geometry) c.take.ensures.same.chunks ∙ i.geometry;
+      ready = i.ready;
+      read = i.device;
+    }
+
+pub returns-in-None-2-clause-leaves : goal.returns-in-None-2-clause-leaves
+returns-in-None-2-clause-leaves g c =
+    let i = c.chunks.invariant in
+    let geometry = ap (λ x. x.walk.geometry) c.take.ensures.same.chunks ∙ i.geometry in
+    record {
+      geometry = c.next.ensures.leaves.geometry ∙ geometry;
+      ready = can_read_here _ _ _ _ _ c.next.ensures.leaves.ready geometry;
+      read = c.in_ok-next.ensures.leaves.read ∙ i.device;
+    }
+
+-- a read failed
+pub returns-in_err-next-clause-entry : goal.returns-in_err-next-clause-entry
+returns-in_err-next-clause-entry g c =
+    let p = err_from_is_err_and c.from_residual.result c.from_residual.ensures.1 in rw p.1 tt
+
+pub returns-in_err-next-clause-place : goal.returns-in_err-next-clause-place
+returns-in_err-next-clause-place g c =
+    let p = err_from_is_err_and c.from_residual.result c.from_residual.ensures.1 in rw p.1 tt
+
+pub returns-in_err-next-clause-inside : goal.returns-in_err-next-clause-inside
+returns-in_err-next-clause-inside g c =
+    let p = err_from_is_err_and c.from_residual.result c.from_residual.ensures.1 in rw p.1 tt
+
+pub returns-in_err-next-clause-left : goal.returns-in_err-next-clause-left
+returns-in_err-next-clause-left g c =
+    let p = err_from_is_err_and c.from_residual.result c.from_residual.ensures.1 in rw p.1 tt
+
+pub returns-in_err-next-clause-leaves : goal.returns-in_err-next-clause-leaves
+returns-in_err-next-clause-leaves g c =
+    let i = c.chunks.invariant in
+    let geometry = ap (λ x. x.walk.geometry) c.take.ensures.same.chunks ∙ i.geometry in
+    let err = c.in_err-next.ensures.leaves.read in
+    let p = err_from_is_err_and c.from_residual.result c.from_residual.ensures.1 in
+    rw (p.1, p.2) (record {
+      geometry = c.next.ensures.leaves.geometry ∙ geometry;
+      ready = can_read_here _ _ _ _ _ c.next.ensures.leaves.ready geometry;
+      read = rw i.device at err;
+    })

@@ -1,20 +1,18 @@
-use Rattle.std.proofs.Common.{◌≡◌, ◌∙◌, ap, refl}
-use Rattle.std.specs.Prelude.{Result, Ok, Err}
-use Rattle.ffs_image.specs.Device.{Device}
-use Rattle.ffs_image.specs.Reads.{ReadAfter}
-use Rattle.ffs_image.specs.declared.image.ImageFault.{ImageFault}
+use Rattle.std.proofs.Common.{refl, ◌∙◌}
+use Rattle.ffs_names.proofs.Continuing.{contents_kept}
 use Rattle.ffs_names.proofs.tree.TreeDirectories.is_sound.Goals as goal
 
-contents_kept : {T : Type 0} (d d' : Device) (r : Result T ImageFault) → ReadAfter d d' r → d'.contents ≡ d.contents
-contents_kept d d' (Ok x) h = ap (λ (y : Device). y.contents) h
-contents_kept d d' (Err e) h = h.contents
+pub is_sound-requires : goal.is_sound-requires
+is_sound-requires g c =
+    let r = c.requires.ready.0 in
+    rw c.requires.ready.1 (record { volume = r.volume; room = r.blocks; holds = r.blocks_hold })
 
 pub returns-clause-reader : goal.returns-clause-reader
 returns-clause-reader g c =
     let r = c.requires.ready.0 in
-    let walk = c.is_sound.ensures.leaves in
-    let ready = rw c.requires.ready.1 at walk.ready in
-    let kept = contents_kept _ _ c.is_sound.result walk.read in
+    let left = c.is_sound.ensures.leaves in
+    let contents = contents_kept _ _ _ left.read in
+    let ready = rw c.requires.ready.1 at left.ready in
     record {
       is_ready = (
         record {
@@ -23,15 +21,15 @@ returns-clause-reader g c =
           blocks = ready.room;
           chunk = r.chunk;
           names = r.names;
-          table_holds = rw kept r.table_holds;
+          table_holds = rw contents r.table_holds;
           blocks_hold = ready.holds;
-          chunk_holds = rw kept r.chunk_holds;
-          names_hold = rw kept r.names_hold;
+          chunk_holds = rw contents r.chunk_holds;
+          names_hold = rw contents r.names_hold;
           kinds_long = r.kinds_long;
           cut_long = r.cut_long;
         },
-        walk.same.geometry ∙ c.requires.ready.1,
+        left.same.geometry ∙ c.requires.ready.1,
       );
-      same = rw kept refl;
-      read = walk.read;
+      same = rw contents refl;
+      read = left.read;
     }
