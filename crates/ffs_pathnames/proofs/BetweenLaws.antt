@@ -13,11 +13,11 @@ use Rattle.ffs_volume.proofs.ClimbLaws.{is_value-true}
 use Rattle.ffs_volume.specs.Directories.Graph.{Graph, is_naming_entry, is_naming_dir, edge, level, level_edge, parent}
 use Rattle.ffs_volume.specs.Directories.Graph.{parent_by}
 use Rattle.ffs_volume.specs.Directories.Parents.{graph_of}
-use Rattle.ffs_pathnames.specs.Marks.{Marks, after_roled, after_name, after_entries, belongs, after_look, after_looks}
-use Rattle.ffs_pathnames.specs.Marks.{are_quiet}
+use Rattle.ffs_pathnames.specs.Marks.{Marks, is_calm, after_roled, after_name, after_entries, belongs, after_look}
+use Rattle.ffs_pathnames.specs.Marks.{after_looks, are_quiet}
 use Rattle.ffs_pathnames.specs.Calm.{IsSilent}
 use Rattle.ffs_pathnames.specs.MarksRight.{AreRight, AreRightBefore}
-use Rattle.ffs_pathnames.proofs.MarkLaws.{IsDirectory, or_false, and_false, right_after}
+use Rattle.ffs_pathnames.proofs.MarkLaws.{IsDirectory, or_false, and_false, calm_name, right_after}
 use Rattle.ffs_pathnames.proofs.LookLaws.{AreStamped, stamped_all, looks_all_long, suspects_unnamed}
 
 -- the parent of a directory names it
@@ -102,47 +102,20 @@ entries_small v s (e ∷ es) m x h =
     two true = set_small s e.entry.number 0 x m.stamps (omega arith) h
     two false = h
 
-    one : (b : Bool) → slice_index (if b then after_name s m e.entry.number else m).stamps x ≤ s
+    one : (b : Bool) → slice_index (if b then after_name v s m e.entry.number else m).stamps x ≤ s
     one true = two (slice_index m.stamps e.entry.number == s)
     one false = h
 
--- THE STAMP 1 IS NEVER SET
-set_calm : (n a x : ℕ) (stamps : List ℕ) → a ≢ 1 → slice_index (slice_set stamps n a) x ≡ 1 → slice_index stamps x ≡ 1
-set_calm n a x stamps na h = elim (cases_eq x n) [
-  | inl z ↦ elim (cases_lt n (length stamps)) [
-    | inl inside ↦ absurd (na
-        (sym (ap (λ k. slice_index (slice_set stamps n a) k) z ∙ get_or-set_same stamps n a 0 inside) ∙ h))
-    | inr past ↦ subst (λ l. slice_index l x ≡ 1) (set_past stamps n a past) h
-  ]
-  | inr o ↦ sym (get_or-set_other stamps n x a 0 o) ∙ h
-]
-
-looks_calm : (v : Volume) (s : ℕ) (es : List RoledEntry) (stamps : List ℕ) (x : ℕ) → 2 ≤ s →
-    slice_index (after_looks v s stamps es) x ≡ 1 → slice_index stamps x ≡ 1
-looks_calm v s [] stamps x two h = h
-looks_calm v s (e ∷ es) stamps x two h =
-    one (is_plain e.role && belongs v s e.entry.number) (looks_calm v s es (after_look v s stamps e) x two h)
+-- CALM DIRECTORIES STAY SO
+entries_calm : (v : Volume) (s : ℕ) (es : List RoledEntry) (m : Marks) (x : ℕ) → is_calm v (after_entries v s m es) x
+    ≡ is_calm v m x
+entries_calm v s [] m x = refl
+entries_calm v s (e ∷ es) m x =
+    entries_calm v s es (after_roled v s m e) x ∙ one (is_plain e.role && nat_lt e.entry.number v.count)
   where
-    one : (b : Bool) → slice_index (if b then slice_set stamps e.entry.number s else stamps) x ≡ 1 →
-        slice_index stamps x ≡ 1
-    one true k = set_calm e.entry.number s x stamps (λ z. absurd (omega (arith, z, two))) k
-    one false k = k
-
-entries_calm : (v : Volume) (s : ℕ) (es : List RoledEntry) (m : Marks) (x : ℕ) →
-    slice_index (after_entries v s m es).stamps x ≡ 1 → slice_index m.stamps x ≡ 1
-entries_calm v s [] m x h = h
-entries_calm v s (e ∷ es) m x h =
-    one (is_plain e.role && nat_lt e.entry.number v.count) (entries_calm v s es (after_roled v s m e) x h)
-  where
-    two : (b : Bool) → slice_index (if b then slice_set m.stamps e.entry.number 0 else m.stamps) x ≡ 1 →
-        slice_index m.stamps x ≡ 1
-    two true k = set_calm e.entry.number 0 x m.stamps (λ z. absurd (omega (arith, z))) k
-    two false k = k
-
-    one : (b : Bool) → slice_index (if b then after_name s m e.entry.number else m).stamps x ≡ 1 →
-        slice_index m.stamps x ≡ 1
-    one true k = two (slice_index m.stamps e.entry.number == s) k
-    one false k = k
+    one : (b : Bool) → is_calm v (if b then after_name v s m e.entry.number else m) x ≡ is_calm v m x
+    one true = calm_name v s e.entry.number x m
+    one false = refl
 
 -- THE NEXT DIRECTORY
 pub right_end : (v : Volume) (s : ℕ) (done es : List RoledEntry) (m : Marks) → 2 ≤ s → AreRight v s done m →
@@ -171,8 +144,7 @@ reported_next v s m d r =
           (looks_small v s (roled_entries v s) m.stamps x (small x (r.stamps x h))));
       passed_length = whole.passed_length;
       stamps_length = whole.stamps_length;
-      calm = λ x h. r.calm x (looks_calm v s (roled_entries v s) m.stamps x d.from_two
-          (entries_calm v s (roled_entries v s) (looked v s m) x h));
+      calm = λ x h. r.calm x (sym (entries_calm v s (roled_entries v s) (looked v s m) x) ∙ h);
     }
   where
     small : (x : ℕ) → slice_index m.stamps x < s → slice_index m.stamps x ≤ s
@@ -191,7 +163,7 @@ quiet_next v s m d r h = record {
   stamps = λ x l. small_next s _ (looks_small v s (roled_entries v s) m.stamps x (small x (r.stamps x l)));
   passed_length = r.passed_length;
   stamps_length = looks_all_long v s (roled_entries v s) m.stamps ∙ r.stamps_length;
-  calm = λ x h. r.calm x (looks_calm v s (roled_entries v s) m.stamps x d.from_two h);
+  calm = r.calm;
 }
   where
     small : (x : ℕ) → slice_index m.stamps x < s → slice_index m.stamps x ≤ s

@@ -1,5 +1,5 @@
 -- What is known between two directories, carried from one to the next.
-use Rattle.std.proofs.Common.{◌≡◌, ◌<◌, ◌-◌, ◌==◌, refl, sym, ap, ◌∙◌, ℕ, zero, suc, Bool, true, false, not, ◌&&◌, ◌||◌}
+use Rattle.std.proofs.Common.{◌≡◌, ◌<◌, ◌-◌, ◌==◌, refl, sym, ap, subst, ◌∙◌, ℕ, zero, suc, Bool, true, false, not, ◌&&◌, ◌||◌}
 use Rattle.std.proofs.Common.{if◌then◌else◌, List, [], ◌∷◌, ◌++◌, map, get_or, Option, Some, arith}
 use Rattle.std.specs.Prelude.{slice_index, Result, Ok, Err, OnOk, IfOk}
 use Rattle.std.specs.List.{list_any}
@@ -29,13 +29,13 @@ use Rattle.ffs_maps.specs.Bits.{bits_of}
 use Rattle.ffs_phase.specs.declared.fault.RunFault.{RunFault}
 use Rattle.ffs_phase.specs.declared.fault.RunFault.TheVariants.{Read, Out}
 use Rattle.ffs_pathnames.specs.GoesOn.{AtReadFault}
-use Rattle.ffs_pathnames.specs.Before.{AreClear, IsBefore, root_said}
+use Rattle.ffs_pathnames.specs.Before.{AreClear, IsBefore, root_said, suspect_by}
 use Rattle.ffs_workspace.specs.Leaves.{LeavesSurvey}
 use Rattle.ffs_pathnames.specs.Gathers.{marks_of}
 use Rattle.ffs_pathnames.specs.DirectoryContext.{DirectoryContext}
 use Rattle.ffs_pathnames.specs.Calm.{IsSilent}
 use Rattle.ffs_pathnames.specs.MarksRight.{AreRightBefore}
-use Rattle.std.proofs.lemmas.Bool.{cases_Bool, eqb-true}
+use Rattle.std.proofs.lemmas.Bool.{cases_Bool, eqb-true, and_from, and_parts}
 use Rattle.std.proofs.lemmas.List.{get_or_default}
 use Rattle.ffs_volume.proofs.Sizes.{some_inodes}
 use Rattle.std.proofs.Common.{inl, inr, ◌≤◌}
@@ -80,35 +80,42 @@ low_dir v zero h = refl
 low_dir v (suc zero) h = refl
 low_dir v (suc (suc d)) h = absurd (omega arith)
 
--- what a stamp of 1 says before the first directory
-flag_small : (b : Bool) (n : ℕ) → n ≡ (if b then 1 else 0) → n < 2
-flag_small true n e = omega (arith, e)
-flag_small false n e = omega (arith, e)
+-- which inodes are suspect, by the lists
+suspect_shown : (v : Layout) (b : List ℕ) (w : Workspace) (x : ℕ) → HoldsClaims v b w →
+    suspect_by w.kinds.items w.marked.items x ≡ is_suspect (volume_of v b) x
+suspect_shown v b w x h = ap (λ k. bool_at w.marked.items x || is_empty_dir_kind k) (h.kinds x)
+    ∙ (ap (λ m. m || is_empty_dir_kind (kind_at v b x)) (h.marked x) ∙ sym (suspect_is v b x))
 
-flag_set : (b : Bool) (n : ℕ) → n ≡ (if b then 1 else 0) → n ≡ 1 → b ≡ true
-flag_set true n e h = refl
-flag_set false n e h = absurd (omega (arith, e, h))
+flag_gone : (a b : Bool) → b ≡ true → (a && not b) ≡ false
+flag_gone true b e = ap not e
+flag_gone false b e = refl
 
 -- without marks all is right before the first directory
-clear_right : (v : Layout) (b : List ℕ) (old w : Workspace) → IsFor v w → AreClear old w →
+clear_right : (v : Layout) (b : List ℕ) (old w : Workspace) → HoldsClaims v b old → IsFor v w → AreClear old w →
     ((x : ℕ) → bool_at old.leaders.items x ≡ true → IsSilent (volume_of v b) x) →
     AreRightBefore (volume_of v b) 2 (marks_of w)
 unfolding volume_of volume_with
-clear_right v b old w m c silent = record {
-  passed = λ x h q n o. c.passed x ∙ sym (some_below-none (λ t. is_naming_dir (graph_of (volume_of v b)) t x) 2
+clear_right v b old w k m c silent = record {
+  passed = λ x h q n o. c.flags x ∙ (flag_gone (bool_at old.leaders.items x) _ (suspect_shown v b old x k ∙ q)
+      ∙ sym (some_below-none (λ t. is_naming_dir (graph_of (volume_of v b)) t x) 2
       (λ t l. ap (λ d. d && list_any (is_naming_entry x) (roled_entries (volume_of v b) t)) (low_dir (volume_of v b) t
-      l)));
-  stamps = λ x h. flag_small (bool_at old.leaders.items x) _ (c.stamps x);
+      l))));
+  stamps = λ x h. subst (λ n. n < 2) (sym (c.stamps x)) (omega arith);
   passed_length = sym w.leaders.ok.0 ∙ m.leaders;
   stamps_length = sym w.queue.ok.0 ∙ m.queue;
-  calm = λ x h. silent x (flag_set (bool_at old.leaders.items x) _ (c.stamps x) h);
+  calm = λ x h. silent x (and_parts (bool_at old.leaders.items x) _
+      (sym (c.flags x) ∙ (and_parts (not (is_suspect (volume_of v b) x)) (bool_at w.leaders.items x) h).1)).0;
 }
 
 pub before_first : (v : Layout) (contents : Option (List ℕ)) (b : List ℕ) (old w : Workspace) → contents ≡ Some b →
-    HoldsClaims v b w → HoldsSurvey v b w → IsFor v w → AreClear old w →
+    HoldsClaims v b old → HoldsSurvey v b old → IsFor v w → AreClear old w →
     ((x : ℕ) → bool_at old.leaders.items x ≡ true → IsSilent (volume_of v b) x) → IsBefore v contents w 2 b
-before_first v contents b old w t h s m c silent =
-    record { reported_is = t; claims = h; survey = s; marks = clear_right v b old w m c silent }
+before_first v contents b old w t h s m c silent = record {
+  reported_is = t;
+  claims = claims_left v b old w c.survey h;
+  survey = survey_left v b old w c.survey s;
+  marks = clear_right v b old w h m c silent;
+}
 
 -- what is known of a directory that is looked at
 kind_known : (v : Layout) (b : List ℕ) (w : Workspace) (d : ℕ) (looked : Bool) → HoldsClaims v b w →
@@ -160,41 +167,51 @@ before_other v contents w d b g e k = record {
 }
 
 -- a directory that is left out
-pub lines_left_out : (v : Layout) (contents : Option (List ℕ)) (w : Workspace) (d : ℕ) (b : List ℕ) → 2 ≤ d →
-    (slice_index w.kinds.items d == 4) ≡ true → slice_index w.queue.items d ≡ 1 → IsBefore v contents w d b →
+abbrev is_looked : Workspace → ℕ → Bool
+is_looked w d = (slice_index w.kinds.items d == 4)
+    && (bool_at w.marked.items d || not (bool_at w.leaders.items d))
+
+left_out : (a b c : Bool) → (a && (b || not c)) ≡ false → a ≡ true → (b ≡ false) × (c ≡ true)
+left_out true false true h e = (refl, refl)
+left_out true false false h e = absurd (cc)
+left_out true true c h e = absurd (cc)
+left_out false b c h e = absurd (cc)
+
+calm_shown : (v : Layout) (contents : Option (List ℕ)) (w : Workspace) (d : ℕ) (b : List ℕ) → is_looked w d ≡ false →
+    (slice_index w.kinds.items d == 4) ≡ true → IsBefore v contents w d b → IsSilent (volume_of v b) d
+calm_shown v contents w d b h e k =
+    let left = left_out _ (bool_at w.marked.items d) (bool_at w.leaders.items d) h e in
+    let suspect : is_suspect (volume_of v b) d ≡ false = sym (suspect_shown v b w d k.claims)
+    ∙ (ap (λ m. m || is_empty_dir_kind (slice_index w.kinds.items d)) left.0
+    ∙ ap is_empty_dir_kind (eqb-true (slice_index w.kinds.items d) 4 e)) in
+    k.marks.calm d (and_from (not (is_suspect (volume_of v b) d)) (bool_at w.leaders.items d) (ap not suspect) left.1)
+
+lines_left_out : (v : Layout) (contents : Option (List ℕ)) (w : Workspace) (d : ℕ) (b : List ℕ) → 2 ≤ d →
+    is_looked w d ≡ false → (slice_index w.kinds.items d == 4) ≡ true → IsBefore v contents w d b →
     map of_tree (directory_lines (volume_of v b) d) ≡ []
-lines_left_out v contents w d b two e stamp k =
-    let silent = k.marks.calm d stamp in
+lines_left_out v contents w d b two h e k =
+    let silent = calm_shown v contents w d b h e k in
     let dir = directory_is (volume_of v b) d two (directory_context v contents w d b e k).dir in
     ap (map of_tree) (lines_looked v contents w d b e k)
     ∙ (sym (quiet_parts (volume_of v b) d (marks_of w) dir k.marks
     (silent_quiet (volume_of v b) d (marks_of w) silent k.marks)) ∙ ap (map of_tree) silent.starts)
 
-left_out : (a b : Bool) → (a && not b) ≡ false → a ≡ true → b ≡ true
-left_out true true h e = refl
-left_out true false h e = absurd (cc)
-left_out false b h e = absurd (cc)
-
 -- an inode that isn't looked at, or is left out
 pub lines_skipped : (v : Layout) (contents : Option (List ℕ)) (w : Workspace) (d : ℕ) (b : List ℕ) → 2 ≤ d →
-    ((slice_index w.kinds.items d == 4) && not (slice_index w.queue.items d == 1)) ≡ false → IsBefore v contents w d b →
-    map of_tree (directory_lines (volume_of v b) d) ≡ []
+    is_looked w d ≡ false → IsBefore v contents w d b → map of_tree (directory_lines (volume_of v b) d) ≡ []
 lines_skipped v contents w d b two h k = elim (cases_Bool (slice_index w.kinds.items d == 4)) [
-  | inl e ↦ lines_left_out v contents w d b two e (eqb-true (slice_index w.queue.items d) 1 (left_out _ _ h e)) k
+  | inl e ↦ lines_left_out v contents w d b two h e k
   | inr e ↦ ap (map of_tree) (lines_other v contents w d b e k)
 ]
 
 pub before_skipped : (v : Layout) (contents : Option (List ℕ)) (w : Workspace) (d : ℕ) (b : List ℕ) → IsAcceptedLayout v
-    →
-    ((slice_index w.kinds.items d == 4) && not (slice_index w.queue.items d == 1)) ≡ false → IsBefore v contents w d b →
-    IsBefore v contents w (suc d) b
+    → is_looked w d ≡ false → IsBefore v contents w d b → IsBefore v contents w (suc d) b
 before_skipped v contents w d b g h k = elim (cases_Bool (slice_index w.kinds.items d == 4)) [
   | inl e ↦ record {
     reported_is = k.reported_is;
     claims = k.claims;
     survey = k.survey;
-    marks = silent_next (volume_of v b) d (marks_of w)
-        (k.marks.calm d (eqb-true (slice_index w.queue.items d) 1 (left_out _ _ h e))) k.marks;
+    marks = silent_next (volume_of v b) d (marks_of w) (calm_shown v contents w d b h e k) k.marks;
   }
   | inr e ↦ before_other v contents w d b g e k
 ]

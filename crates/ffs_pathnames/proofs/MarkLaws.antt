@@ -25,8 +25,8 @@ use Rattle.ffs_volume.specs.Directories.PathnameCheck.{has_wrong_type, entry_lin
 use Rattle.ffs_volume.specs.Directories.PathnameCheck.{is_first_entry_of_suspect}
 use Rattle.ffs_volume.specs.Directories.PathnameCheck.{is_extraneous, named_lines, plain_lines, entry_lines}
 use Rattle.ffs_volume.specs.Directories.PathnameCheck.{lines_of_entries}
-use Rattle.ffs_pathnames.specs.Marks.{Marks, is_passed, is_due, after_name, after_roled, named_reported, plain_reported}
-use Rattle.ffs_pathnames.specs.Marks.{role_reported, entry_lines_of, entries_reported, belongs}
+use Rattle.ffs_pathnames.specs.Marks.{Marks, is_passed, is_calm, is_due, after_name, after_roled, named_reported}
+use Rattle.ffs_pathnames.specs.Marks.{plain_reported, role_reported, entry_lines_of, entries_reported, belongs}
 use Rattle.ffs_pathnames.specs.MarksRight.{AreRight}
 use Rattle.ffs_pathnames.proofs.Places.{size_of, size_more, first_here}
 
@@ -283,23 +283,59 @@ skips v s done e m t r = record {
   stamps_length = r.stamps_length;
 }
 
+-- the flags after an entry that names n
+other_flag : (v : Volume) (n x : ℕ) (flags : List Bool) → x ≢ n →
+    slice_index_or (if is_suspect v n then slice_set flags n true else flags) x false ≡ slice_index_or flags x false
+other_flag v n x flags o = one (is_suspect v n)
+  where
+    one : (b : Bool) → slice_index_or (if b then slice_set flags n true else flags) x false
+        ≡ slice_index_or flags x false
+    one true = get_or-set_other flags n x true false o
+    one false = refl
+
+flags_long : (v : Volume) (n : ℕ) (flags : List Bool) →
+    length (if is_suspect v n then slice_set flags n true else flags) ≡ length flags
+flags_long v n flags = one (is_suspect v n)
+  where
+    one : (b : Bool) → length (if b then slice_set flags n true else flags) ≡ length flags
+    one true = length-set flags n true
+    one false = refl
+
+-- and those of inodes that aren't suspect stay
+pub calm_name : (v : Volume) (s n x : ℕ) (m : Marks) → is_calm v (after_name v s m n) x ≡ is_calm v m x
+calm_name v s n x m = elim (cases_eq x n) [
+  | inl z ↦ same (is_suspect v n) refl z
+  | inr o ↦ ap (λ b. not (is_suspect v x) && b) (other_flag v n x m.passed o)
+]
+  where
+    same : (b : Bool) → is_suspect v n ≡ b → x ≡ n →
+        (not (is_suspect v x) && slice_index_or (if b then slice_set m.passed n true else m.passed) x false)
+        ≡ is_calm v m x
+    same false q z = refl
+    same true q z =
+        let suspect : is_suspect v x ≡ true = ap (is_suspect v) z ∙ q in
+        ap (λ b. not b && slice_index_or (slice_set m.passed n true) x false) suspect
+        ∙ sym (ap (λ b. not b && is_passed m x) suspect)
+
 name_passed : (v : Volume) (s : ℕ) (done : List RoledEntry) (e : RoledEntry) (m : Marks) → e.role ≡ Plain →
     e.entry.number < v.count → AreRight v s done m →
     (x : ℕ) → x < v.count → is_suspect v x ≡ true → x ≢ 1 → x ≢ 2 →
-    is_passed (after_name s m e.entry.number) x
+    is_passed (after_name v s m e.entry.number) x
     ≡ (some_below (λ t. is_naming_dir (graph_of v) t x) s || list_any (is_naming_entry x) (done ++ e ∷ []))
 name_passed v s done e m p low r x h q u n = elim (cases_eq x e.entry.number) [
   | inl z ↦
       let inside : e.entry.number < length m.passed = subst (λ k. e.entry.number < k) (sym r.passed_length) low in
       let named : is_naming_entry x e ≡ true = and_from (is_plain e.role) (e.entry.number == x) (ap is_plain p)
       (eq-eqb e.entry.number x (sym z)) in
-      ap (λ k. slice_index_or (slice_set m.passed e.entry.number true) k false) z
+      let suspect : is_suspect v e.entry.number ≡ true = sym (ap (is_suspect v) z) ∙ q in
+      ap (λ b. slice_index_or (if b then slice_set m.passed e.entry.number true else m.passed) x false) suspect
+      ∙ (ap (λ k. slice_index_or (slice_set m.passed e.entry.number true) k false) z
       ∙ (get_or-set_same m.passed e.entry.number true false inside
       ∙ sym (ap (λ b. some_below (λ t. is_naming_dir (graph_of v) t x) s || b) (is_named (is_naming_entry x) done e
       named)
-      ∙ or_true (some_below (λ t. is_naming_dir (graph_of v) t x) s)))
+      ∙ or_true (some_below (λ t. is_naming_dir (graph_of v) t x) s))))
   | inr o ↦
-      get_or-set_other m.passed e.entry.number x true false o
+      other_flag v e.entry.number x m.passed o
       ∙ (r.passed x h q u n ∙ ap (λ b. some_below (λ t. is_naming_dir (graph_of v) t x) s || b)
       (sym (not_named (is_naming_entry x) done e (other_number x e o))))
 ]
@@ -323,14 +359,14 @@ stays s n x stamps o = one (slice_index stamps n == s)
 
 name_due : (v : Volume) (s : ℕ) (done : List RoledEntry) (e : RoledEntry) (m : Marks) → 2 ≤ s → e.role ≡ Plain →
     e.entry.number < v.count → AreRight v s done m →
-    (x : ℕ) → x < v.count → is_due s (after_name s m e.entry.number) x
+    (x : ℕ) → x < v.count → is_due s (after_name v s m e.entry.number) x
     ≡ (belongs v s x && not (list_any (is_naming_entry x) (done ++ e ∷ [])))
 name_due v s done e m two p low r x h = elim (cases_eq x e.entry.number) [
   | inl z ↦
       let inside : e.entry.number < length m.stamps = subst (λ k. e.entry.number < k) (sym r.stamps_length) low in
       let named : is_naming_entry x e ≡ true = and_from (is_plain e.role) (e.entry.number == x) (ap is_plain p)
       (eq-eqb e.entry.number x (sym z)) in
-      ap (λ k. slice_index (after_name s m e.entry.number).stamps k == s) z
+      ap (λ k. slice_index (after_name v s m e.entry.number).stamps k == s) z
       ∙ (cleared s e.entry.number m.stamps two inside
       ∙ sym (ap (λ b. belongs v s x && not b) (is_named (is_naming_entry x) done e named) ∙ and_false (belongs v s x)))
   | inr o ↦
@@ -358,7 +394,7 @@ pub right_after : (v : Volume) (s : ℕ) (done : List RoledEntry) (e : RoledEntr
 right_after v s done e m two r = one (is_plain e.role && nat_lt e.entry.number v.count) refl
   where
     one : (b : Bool) → (is_plain e.role && nat_lt e.entry.number v.count) ≡ b →
-        AreRight v s (done ++ e ∷ []) (if b then after_name s m e.entry.number else m)
+        AreRight v s (done ++ e ∷ []) (if b then after_name v s m e.entry.number else m)
     one false t = skips v s done e m t r
     one true t =
         let q = and_parts (is_plain e.role) (nat_lt e.entry.number v.count) t in
@@ -367,7 +403,7 @@ right_after v s done e m two r = one (is_plain e.role && nat_lt e.entry.number v
         record {
           passed = name_passed v s done e m p low r;
           due = name_due v s done e m two p low r;
-          passed_length = length-set m.passed e.entry.number true ∙ r.passed_length;
+          passed_length = flags_long v e.entry.number m.passed ∙ r.passed_length;
           stamps_length = stamps_long s e.entry.number m.stamps ∙ r.stamps_length;
         }
 

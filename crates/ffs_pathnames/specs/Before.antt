@@ -1,5 +1,5 @@
 -- What is known between two directories of the pathname check.
-use Rattle.std.specs.Prelude.{◌≡◌, ℕ, Bool, false, not, ◌||◌, ◌==◌, if◌then◌else◌}
+use Rattle.std.specs.Prelude.{◌≡◌, ℕ, Bool, not, ◌&&◌, ◌||◌, ◌==◌, if◌then◌else◌}
 use Rattle.std.specs.Prelude.{List, [], ◌∷◌, Option, Some, slice_index}
 use Rattle.ffs_volume.specs.declared.Layout.{Layout}
 use Rattle.ffs_volume.specs.Messages.Kinds.{TreeMessage, reported, root_none, root_not_dir, root_suspect}
@@ -11,11 +11,16 @@ use Rattle.ffs_volume.specs.Encodings.Kinds.{is_dir_kind, is_empty_dir_kind}
 use Rattle.ffs_pathnames.specs.Gathers.{marks_of}
 use Rattle.ffs_pathnames.specs.MarksRight.{AreRightBefore}
 
--- what was found stays; no inode is passed yet; what had a flag is stamped by 1, and nothing else is stamped
+-- x is marked, or a directory of size 0
+abbrev pub suspect_by : List ℕ → List Bool → ℕ → Bool
+suspect_by kinds marked x = bool_at marked x || is_empty_dir_kind (slice_index kinds x)
+
+-- what was found stays; the flags of suspect inodes are taken away, and no others; nothing is stamped
 pub record AreClear (old new : Workspace) : Type 0 where
   pub survey : LeavesSurvey old new
-  pub passed : (x : ℕ) → bool_at new.leaders.items x ≡ false
-  pub stamps : (x : ℕ) → slice_index new.queue.items x ≡ (if bool_at old.leaders.items x then 1 else 0)
+  pub flags : (x : ℕ) → bool_at new.leaders.items x
+      ≡ (bool_at old.leaders.items x && not (suspect_by old.kinds.items old.marked.items x))
+  pub stamps : (x : ℕ) → slice_index new.queue.items x ≡ 0
 
 -- the image gives the bytes, the workspace holds what the block check and the survey leave, and its marks are right
 -- before d

@@ -16,7 +16,8 @@ use Rattle.ffs_volume.specs.Messages.Kinds.{unallocated, extraneous, kind_entry}
 use Rattle.ffs_volume.specs.Directories.PathnameCheck.{attributes, label_of, is_bad_whiteout}
 use Rattle.ffs_volume.specs.Directories.PathnameCheck.{message_on_suspect, has_wrong_type, extra_lines}
 
--- which inodes a plain entry has named, and for each inode a directory whose entries to come have its parent entry
+-- of each inode a flag, and a directory whose entries to come have its parent entry; the flag of a suspect inode says
+-- that a plain entry has named it, that of any other that it is calm
 pub record Marks : Type 0 where
   pub passed : List Bool
   pub stamps : List ℕ
@@ -24,19 +25,23 @@ pub record Marks : Type 0 where
 abbrev pub is_passed : Marks → ℕ → Bool
 is_passed m x = slice_index_or m.passed x false
 
+-- x is no suspect inode, and its flag says that nothing can be reported of it as a directory
+abbrev pub is_calm : Volume → Marks → ℕ → Bool
+is_calm v m x = not (is_suspect v x) && is_passed m x
+
 -- the parent entry of x is still to come in s
 abbrev pub is_due : ℕ → Marks → ℕ → Bool
 is_due s m x = slice_index m.stamps x == s
 
 -- a plain entry of s that names x is passed
-abbrev pub after_name : ℕ → Marks → ℕ → Marks
-after_name s m x = record {
-  passed = slice_set m.passed x true;
+abbrev pub after_name : Volume → ℕ → Marks → ℕ → Marks
+after_name v s m x = record {
+  passed = if is_suspect v x then slice_set m.passed x true else m.passed;
   stamps = if is_due s m x then slice_set m.stamps x 0 else m.stamps;
 }
 
 abbrev pub after_roled : Volume → ℕ → Marks → RoledEntry → Marks
-after_roled v s m e = if is_plain e.role && nat_lt e.entry.number v.count then after_name s m e.entry.number else m
+after_roled v s m e = if is_plain e.role && nat_lt e.entry.number v.count then after_name v s m e.entry.number else m
 
 -- what is reported of an entry, by the marks
 abbrev pub named_reported : Volume → ℕ → Marks → Entry → List TreeMessage

@@ -6,7 +6,7 @@ use Rattle.ffs_volume.specs.Directories.Roles.{Volume, RoledEntry, is_suspect}
 use Rattle.ffs_volume.specs.Directories.Graph.{is_naming_entry, is_naming_dir}
 use Rattle.ffs_volume.specs.Directories.Parents.{graph_of}
 use Rattle.ffs_pathnames.specs.Calm.{IsSilent}
-use Rattle.ffs_pathnames.specs.Marks.{Marks, is_passed, is_due, belongs}
+use Rattle.ffs_pathnames.specs.Marks.{Marks, is_passed, is_calm, is_due, belongs}
 
 -- within the directory s, after the entries `done`
 pub record AreRight (v : Volume) (s : ℕ) (done : List RoledEntry) (m : Marks) : Type 0 where
@@ -23,4 +23,4 @@ pub record AreRightBefore (v : Volume) (s : ℕ) (m : Marks) : Type 0 where
   pub stamps : (x : ℕ) → x < v.count → slice_index m.stamps x < s
   pub passed_length : length m.passed ≡ v.count
   pub stamps_length : length m.stamps ≡ v.count
-  pub calm : (x : ℕ) → slice_index m.stamps x ≡ 1 → IsSilent v x  -- 1 stamps what can be left out
+  pub calm : (x : ℕ) → is_calm v m x ≡ true → IsSilent v x

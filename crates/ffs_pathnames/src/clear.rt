@@ -1,40 +1,42 @@
 //! The flags and stamps of the pathname check before the first directory.
-ghost use Rattle.std.specs.Prelude.{◌≡◌, ℕ, length, slice_index, vec_len, if◌then◌else◌};
+ghost use Rattle.std.specs.Prelude.{◌≡◌, ◌&&◌, not, ℕ, length};
 ghost use Rattle.ffs_image.specs.Device.{Device};
 ghost use Rattle.ffs_volume.specs.declared.Layout.{Layout};
 ghost use Rattle.ffs_workspace.specs.Holds.{bool_at};
 ghost use Rattle.ffs_workspace.specs.Ready.{IsReady};
-ghost use Rattle.ffs_pathnames.specs.Before.{AreClear};
+ghost use Rattle.ffs_pathnames.specs.Before.{AreClear, suspect_by};
+ghost use Rattle.ffs_pathnames.specs.Gathers.{AreAsLong};
 
-use ffs_memory::FilledList;
+use crate::inodes::Inodes;
 use ffs_workspace::Workspace;
 
-/// The stamp of a directory that is left out, since nothing can be reported of it. No directory has this number.
-pub const CALM: u32 = 1;
-
-/// Stamps the inodes that have a flag, and takes the stamps of all others away.
-fn stamp_calm(flags: &[bool], stamps: &mut FilledList<u32>)
-    requires { vec_len stamps.old ≡ length flags.now }
-    ensures stamps { (x : ℕ) → slice_index stamps.new.items x
-        ≡ (if bool_at flags.now x then 1 else 0) }
-    ensures stamps_long { vec_len stamps.new ≡ vec_len stamps.old }
+/// Takes away the flags of suspect inodes, and no others.
+fn clear_suspects(inodes: &Inodes<'_>, flags: &mut [bool])
+    requires { length flags.old ≡ length inodes.now.kinds.now }
+    ensures { (x : ℕ) → bool_at flags.new x ≡ (bool_at flags.old x
+        && not (suspect_by inodes.now.kinds.now inodes.now.marked.now x)) }
 {
-    stamps.fill(0);
-    for number in 0..flags.len() {
-        if flags[number] {
-            stamps.set(number, CALM);
+    for number in 0..inodes.count() {
+        if inodes.is_suspect(number) {
+            flags[number as usize] = false;
         }
     }
 }
 
-/// Clears all flags and stamps of inodes, but for a stamp of those directories that the survey
-/// flagged in `leaders`.
+/// Clears all flags and stamps of inodes, but for the survey's flags in `leaders` of inodes that
+/// aren't suspect: these stay, and say which directories are left out, since nothing can be
+/// reported of them.
 pub fn clear_marks(workspace: &mut Workspace)
-    requires lengths { vec_len workspace.old.queue ≡ vec_len workspace.old.leaders }
+    requires lengths { AreAsLong workspace.old }
     ensures clear { AreClear workspace.old workspace.new }
     ensures ready { (v : Layout) (d : Device) → IsReady v d workspace.old
         → IsReady v d workspace.new }
 {
-    stamp_calm(&workspace.leaders, &mut workspace.queue);
-    workspace.leaders.fill(false);
+    let inodes = Inodes {
+        kinds: workspace.kinds.as_slice(),
+        marked: workspace.marked.as_slice(),
+        parents: &workspace.parents,
+    };
+    clear_suspects(&inodes, workspace.leaders.as_mut_slice());
+    workspace.queue.fill(0);
 }

@@ -1,19 +1,20 @@
 //! The pathname check of the root, and of one directory after another.
-ghost use Rattle.std.specs.Prelude.{suc, ◌≡◌, ◌-◌, ◌==◌, ◌<◌, ◌≤◌, ◌&&◌, not, true, OnOk, IfOk, map, slice_index, vec_len};
+ghost use Rattle.std.specs.Prelude.{suc, ◌≡◌, ◌-◌, ◌==◌, ◌<◌, ◌≤◌, ◌&&◌, ◌||◌, not, true, OnOk, IfOk, map, slice_index, vec_len};
 ghost use Rattle.ffs_phase.specs.Known.{ForBytes};
 ghost use Rattle.ffs_phase.specs.Runs.{PhaseReports};
 ghost use Rattle.ffs_report.specs.Progress.{progress};
 ghost use Rattle.ffs_volume.specs.Messages.Kinds.{of_tree, lines_from};
 ghost use Rattle.ffs_volume.specs.Directories.PathnameCheck.{continues_after_root, directory_lines, pathname_lines};
 ghost use Rattle.ffs_volume.specs.Directories.Volumes.{volume_of};
+ghost use Rattle.ffs_workspace.specs.Holds.{bool_at};
 ghost use Rattle.ffs_workspace.specs.Lengths.{inodes_of};
 ghost use Rattle.ffs_pathnames.specs.Before.{IsBefore};
+ghost use Rattle.ffs_pathnames.specs.Gathers.{AreAsLong};
 ghost use Rattle.ffs_pathnames.specs.GoesOn.{AtReadFault, is_go};
 ghost use Rattle.ffs_workspace.specs.Ready.{IsReady};
 ghost use Rattle.ffs_pathnames.specs.Ready.{ReadyToPath, PhaseLeaves, TreeLeaves};
 
 use crate::check::check_directory;
-use crate::clear::CALM;
 use crate::phase::Root;
 use crate::root::{report_root, root_of};
 use ffs_image::Image;
@@ -24,14 +25,17 @@ use ffs_report::{Output, Report};
 use ffs_volume::constants::{DT_DIR, ROOTINO};
 use ffs_workspace::Workspace;
 
-/// Whether an inode is a directory that isn't of size 0, and that the survey didn't find calm.
+/// Whether an inode is a directory that isn't of size 0, and that isn't known to be calm: the flag of a marked one says
+/// that it is passed.
 fn is_looked_at(workspace: &Workspace, number: u32) -> bool
     requires kinds { number < vec_len workspace.now.kinds }
-    requires queue { number < vec_len workspace.now.queue }
+    requires lists { AreAsLong workspace.now }
     ensures { result ≡ ((slice_index workspace.now.kinds.items number == 4)
-        && not (slice_index workspace.now.queue.items number == 1)) }
+        && (bool_at workspace.now.marked.items number
+        || not (bool_at workspace.now.leaders.items number))) }
 {
-    workspace.kinds[number as usize] == DT_DIR && workspace.queue[number as usize] != CALM
+    let index = number as usize;
+    workspace.kinds[index] == DT_DIR && (workspace.marked[index] || !workspace.leaders[index])
 }
 
 /// Prints the lines of an inode as a directory, and of its entries.

@@ -95,7 +95,8 @@ pub fn entry_verdict(
     Verdict::Named(faults_of(inodes, dir, passed, stamps, entry))
 }
 
-/// A plain entry that names an inode is passed.
+/// A plain entry that names an inode is passed. Only a suspect inode is flagged: the flag of any other says that it is
+/// calm.
 pub fn pass(
     inodes: &Inodes<'_>,
     dir: u32,
@@ -118,7 +119,9 @@ pub fn pass(
         return;
     }
     let index = entry.number as usize;
-    passed[index] = true;
+    if inodes.is_suspect(entry.number) {
+        passed[index] = true;
+    }
     if stamps[index] == dir {
         stamps.set(index, 0);
     }

@@ -49,8 +49,7 @@ returns-clause-text g c =
     (λ b k. refl)
     (reports_knowing Root _ _ lines _ _ c.check_tree.result
     (λ b k. before_first v _ b _ _ (ap (λ d. d.contents) found.read ∙ k.0)
-    (claims_left v b _ _ clear.clear.survey (claims_untouched v b _ _ found.same k.1))
-    (survey_left v b _ _ clear.clear.survey (found.survey b k.0 k.1)) made clear.clear
+    (claims_untouched v b _ _ found.same k.1) (found.survey b k.0 k.1) made clear.clear
     (λ x set. calm_silent v b _ c.args.geometry.now.sound found.ready.made
     (claims_untouched v b _ _ found.same k.1) (found.survey b k.0 k.1) (found.calm b k.0 k.1) x set))
     c.check_tree.ensures.text)
@@ -63,8 +62,7 @@ returns-clause-goes g c =
     let made = (clear.ready v _ found.ready).made in
     if_ok c.check_tree.result _ _
     (λ root h b k. h b (before_first v _ b _ _ (ap (λ d. d.contents) found.read ∙ k.0)
-    (claims_left v b _ _ clear.clear.survey (claims_untouched v b _ _ found.same k.1))
-    (survey_left v b _ _ clear.clear.survey (found.survey b k.0 k.1)) made clear.clear
+    (claims_untouched v b _ _ found.same k.1) (found.survey b k.0 k.1) made clear.clear
     (λ x set. calm_silent v b _ c.args.geometry.now.sound found.ready.made
     (claims_untouched v b _ _ found.same k.1) (found.survey b k.0 k.1) (found.calm b k.0 k.1) x set)))
     c.check_tree.ensures.goes
@@ -77,8 +75,7 @@ returns-clause-fault g c =
     let made = (clear.ready v _ found.ready).made in
     at_fault_more c.check_tree.result _ _
     (λ h. inr (λ b k. h b (before_first v _ b _ _ (ap (λ d. d.contents) found.read ∙ k.0)
-    (claims_left v b _ _ clear.clear.survey (claims_untouched v b _ _ found.same k.1))
-    (survey_left v b _ _ clear.clear.survey (found.survey b k.0 k.1)) made clear.clear
+    (claims_untouched v b _ _ found.same k.1) (found.survey b k.0 k.1) made clear.clear
     (λ x set. calm_silent v b _ c.args.geometry.now.sound found.ready.made
     (claims_untouched v b _ _ found.same k.1) (found.survey b k.0 k.1) (found.calm b k.0 k.1) x set))))
     c.check_tree.ensures.fault
