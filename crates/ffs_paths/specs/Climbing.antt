@@ -31,7 +31,7 @@ pub record AreOpen (v : Layout) (d : Device) (w : Windows) : Type 0 where
   pub chunk_holds : WindowHolds d.contents w.chunk
   pub names_hold : WindowHolds d.contents w.names
 
--- what a read through them leaves: the chunk of the directory in hand is as it was
+-- what a read through them leaves: the chunk of the current directory is as it was
 pub record ReadsOpen {T : Type 0} (v : Layout) (old new : Device) (before after : Windows)
     (result : Result T ImageFault) : Type 0 where
   pub windows : AreOpen v new after

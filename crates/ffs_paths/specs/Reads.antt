@@ -16,8 +16,8 @@ pub record IsReadyFor (v : Layout) (d : Device) (w : Workspace) (x : ℕ) : Type
   pub ready : IsReady v d w
   pub number : x < v.ncg * v.ipg
 
--- all of the workspace but its windows is as it was, and so is the chunk of the directory in hand; it is ready for the
--- next read
+-- all of the workspace but its windows is as it was, and so is the chunk of the current directory;
+-- it is ready for the next read
 pub record OnlyReads {T : Type 0} (v : Layout) (old new : Device) (before after : Workspace)
     (result : Result T ImageFault) : Type 0 where
   pub lists : after ≡ record before { windows = after.windows }

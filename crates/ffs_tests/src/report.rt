@@ -52,7 +52,7 @@ fn says(rt: &(impl Abort + AllocGlobal), line: &Line<'_>, defect: bool, text: &[
     assert_eq!(rt; written.as_slice(), text);
 }
 
-/// Says a duplicate on a report that goes on.
+/// Says a duplicate on a report that continues.
 fn says_dup(
     rt: &impl Abort,
     report: &mut Report<'_, Counted<'_, Vec<u8>>>,

@@ -20,9 +20,9 @@ pub struct Windows {
     pub table: Table,
     /// The indirect blocks that a walk is in.
     pub blocks: Blocks,
-    /// A chunk of the directory in hand.
+    /// A chunk of the current directory.
     pub chunk: Window,
-    /// A chunk of another directory: paths read here, so that the directory in hand stays in `chunk`.
+    /// A chunk of another directory: paths are read here, and the current one stays in `chunk`.
     pub names: Window,
 }
 
