@@ -180,7 +180,7 @@ impl Chunks {
     }
 
     /// Reads the next chunk into `chunk`, and returns its place in the file, in bytes, and None
-    /// where no chunk is left. The data block that it lies in is read once for all its chunks.
+    /// where no chunk is left. The chunks of a Run are read at once.
     ///
     /// # Errors
     /// A read of the image that failed. Then no chunk comes any more.
