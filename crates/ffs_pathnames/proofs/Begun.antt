@@ -15,7 +15,8 @@ use Rattle.ffs_volume.specs.Directories.Paths.{dir_path}
 use Rattle.ffs_volume.specs.Directories.Roles.{Volume, nth_entry, is_dir, is_inode, roled_entries, start_entry}
 use Rattle.ffs_volume.specs.Directories.Volumes.{volume_of, volume_with}
 use Rattle.ffs_phase.specs.Known.{ForBytes}
-use Rattle.ffs_phase.specs.Runs.{SaidOf, PhaseReports}
+use Rattle.ffs_image.specs.Device.{Device, Faulted}
+use Rattle.ffs_phase.specs.Runs.{ImageAfter, SaidOf, PhaseReports}
 use Rattle.ffs_phase.specs.declared.fault.RunFault.{RunFault}
 use Rattle.ffs_phase.specs.declared.fault.RunFault.TheVariants.{Read, Out}
 use Rattle.ffs_report.specs.Progress.{Progress}
@@ -60,6 +61,12 @@ fault_same T E knows knows' all all' a b (Out fault) more e p = record {
   right = λ bytes k. p.right bytes (more bytes k) ∙ e bytes k;
   stopped = p.stopped;
 }
+
+-- the image after a fault is that of another answer, and of a device that is the same
+pub image_same : (T E : Type 0) (d d' d'' : Device) (fault : RunFault) → d' ≡ d → ImageAfter {T = T} d' d'' (Err fault)
+    → ImageAfter {T = E} d d'' (Err fault)
+image_same T E d d' d'' (Read fault) e after = subst (λ x. Faulted x d'' fault.sector) e after
+image_same T E d d' d'' (Out fault) e after = after ∙ e
 
 -- a size as messages show it
 pub attr_size : (v : Layout) (b : List ℕ) (d : ℕ) → (attributes (volume_of v b) d).size ≡ (inode_of v b d).size

@@ -1,11 +1,11 @@
-use Rattle.std.proofs.Common.{ap, map}
+use Rattle.std.proofs.Common.{◌∙◌, ap, map}
 use Rattle.std.proofs.lemmas.Result.{err_from_is_err_and}
 use Rattle.ffs_volume.specs.Messages.Kinds.{of_tree}
 use Rattle.ffs_phase.proofs.Reporting.{of_begins, of_reads}
 use Rattle.ffs_pathnames.specs.declared.examine.DirectorySummary.{DirectorySummary}
-use Rattle.ffs_pathnames.proofs.Begun.{said_same, fault_same, starts_are, begun_is}
+use Rattle.ffs_pathnames.proofs.Begun.{said_same, fault_same, image_same, starts_are, begun_is}
 use Rattle.ffs_pathnames.proofs.Passing.{knows_on}
-use Rattle.ffs_workspace.proofs.Leaving.{survey_left}
+use Rattle.ffs_workspace.proofs.Leaving.{leaves_more, survey_left, windows_leave}
 use Rattle.ffs_paths.proofs.Keeping.{siblings_on}
 use Rattle.ffs_pathnames.proofs.check.begin_directory.Goals as goal
 
@@ -70,3 +70,45 @@ returns-clause-begun g c = λ b k.
     c.in_ok-examined.examined c.examine.new.start
     (c.in_ok-examined.ensures.found b k) c.in_ok-examined.ensures.leaves.lists
     c.in_ok-report_header.ensures.leaves.lists
+
+pub examine-requires-clause-ready : goal.examine-requires-clause-ready
+examine-requires-clause-ready g c = record { ready = c.requires.ready.ready; number = c.requires.ready.number }
+
+-- a read failed
+pub returns-in_err-examined-clause-begun : goal.returns-in_err-examined-clause-begun
+returns-in_err-examined-clause-begun g c =
+    let p = err_from_is_err_and c.from_residual.result c.from_residual.ensures.1 in rw p.1 tt
+
+pub returns-in_err-report_header-clause-begun : goal.returns-in_err-report_header-clause-begun
+returns-in_err-report_header-clause-begun g c =
+    let p = err_from_is_err_and c.from_residual-in_err-report_header.result
+    c.from_residual-in_err-report_header.ensures.1 in
+    rw p.1 tt
+
+pub returns-in_err-examined-clause-leaves : goal.returns-in_err-examined-clause-leaves
+returns-in_err-examined-clause-leaves g c =
+    let left = c.in_err-examined.ensures.leaves in
+    let p = err_from_is_err_and c.from_residual.result c.from_residual.ensures.1 in
+    rw (p.1, p.2) (record { image = left.read; survey = left.lists.survey; ready = left.ready })
+
+pub returns-in_err-report_header-clause-leaves : goal.returns-in_err-report_header-clause-leaves
+returns-in_err-report_header-clause-leaves g c =
+    let one = c.in_ok-examined.ensures.leaves in
+    let two = c.in_err-report_header.ensures.leaves in
+    let p = err_from_is_err_and c.from_residual-in_err-report_header.result
+    c.from_residual-in_err-report_header.ensures.1 in
+    rw (p.1, p.2) (record {
+      image = image_same (Unit {0}) DirectorySummary _ _ _ c.in_err-report_header.field-0.0 one.read two.image;
+      survey = leaves_more _ _ _ one.lists.survey (windows_leave _ _ two.lists);
+      ready = two.ready;
+    })
+
+pub returns-clause-leaves : goal.returns-clause-leaves
+returns-clause-leaves g c =
+    let one = c.in_ok-examined.ensures.leaves in
+    let two = c.in_ok-report_header.ensures.leaves in
+    record {
+      image = two.image ∙ one.read;
+      survey = leaves_more _ _ _ one.lists.survey (windows_leave _ _ two.lists);
+      ready = two.ready;
+    }

@@ -4,7 +4,7 @@ use Rattle.std.proofs.lemmas.Result.{err_from_is_err_and}
 use Rattle.ffs_volume.specs.Directories.Parents.{graph_of}
 use Rattle.ffs_volume.specs.Directories.Volumes.{volume_of}
 use Rattle.ffs_paths.specs.LastPaths.{last_path}
-use Rattle.ffs_paths.proofs.Keeping.{siblings_on}
+use Rattle.ffs_paths.proofs.Keeping.{leaves_with, no_reads, siblings_on}
 use Rattle.ffs_paths.proofs.Rooms.{entry_in_room}
 use Rattle.ffs_pathnames.proofs.Enough.{enough, path_asks_attr}
 use Rattle.ffs_workspace.proofs.Leaving.{windows_leave}
@@ -67,3 +67,22 @@ returns-in_err-attr-clause-leaves g c =
           (record { lists = left.lists; chunk = left.chunk; ready = left.ready; read = left.read });
       siblings = tt;
     })
+
+pub gather_path-requires : goal.gather_path-requires
+gather_path-requires g c = record {
+  ready = c.requires.ready.ready;
+  siblings = c.requires.ready.siblings;
+  number = c.requires.number (sym c.asks-wants_attr.ensures.attr ∙ c.if-not-wants_attr.false);
+}
+
+pub returns-then-not-wants_attr-clause-leaves : goal.returns-then-not-wants_attr-clause-leaves
+returns-then-not-wants_attr-clause-leaves g c =
+    leaves_with _ (no_reads c.requires.ready.ready) c.requires.ready.siblings
+
+pub returns-in_err-gather_path-clause-enough : goal.returns-in_err-gather_path-clause-enough
+returns-in_err-gather_path-clause-enough g c =
+    let p = err_from_is_err_and c.from_residual.result c.from_residual.ensures.1 in rw p.1 tt
+
+pub returns-in_err-attr-clause-enough : goal.returns-in_err-attr-clause-enough
+returns-in_err-attr-clause-enough g c =
+    let p = err_from_is_err_and c.from_residual-in_err-attr.result c.from_residual-in_err-attr.ensures.1 in rw p.1 tt
