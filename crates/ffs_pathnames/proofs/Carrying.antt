@@ -166,7 +166,7 @@ before_other v contents w d b g e k = record {
       (λ x q n. names_none v b d g (kind_known v b w d false k.claims e) x) k.marks;
 }
 
--- a directory that is left out
+-- whether an inode is looked at; a directory that isn't is calm, and left out
 abbrev is_looked : Workspace → ℕ → Bool
 is_looked w d = (slice_index w.kinds.items d == 4)
     && (bool_at w.marked.items d || not (bool_at w.leaders.items d))
