@@ -6,19 +6,18 @@ ghost use Rattle.ffs_volume.specs.Directories.Entries.{run_chunks};
 use ffs_layout::Geometry;
 use ffs_volume::constants::DIRBLKSIZ;
 
-/// The chunks of the current Run: where the Run is in the image, in bytes, and in the file; how many chunks it has before
-/// the end of what is read of the directory, how many bytes these have, and which is the next.
+/// The chunks of the current Run that are read, and which of them is the next.
 #[derive(Clone, Copy, Debug)]
 pub struct RunCursor {
     /// Where the Run is, in bytes from the start of the image.
     pub place: u64,
-    /// The length in bytes.
+    /// How many bytes these chunks have.
     pub length: u64,
-    /// Where it is in the file, in bytes.
+    /// Where the Run is in the file, in bytes.
     pub offset: u64,
     /// The index of the next chunk.
     pub next: u32,
-    /// How many chunks are read of it.
+    /// How many chunks of the Run lie before the end of what is read of the directory.
     pub count: u32,
     ghost in_order: { next ≤ count },
     ghost whole: { length ≡ 512 * count },

@@ -1,5 +1,5 @@
-// The line that reports a duplicate.
-ghost use Rattle.std.specs.Prelude.{◌≡◌, ◌+◌, ◌≤◌, ◌++◌, length, drop};
+//! The line that reports a duplicate.
+ghost use Rattle.std.specs.Prelude.{◌≡◌, ◌+◌, ◌≤◌, ◌++◌, length, drop, take};
 ghost use Rattle.ffs_volume.specs.Messages.Texts.{number_text, block_message_text};
 ghost use Rattle.ffs_volume.specs.declared.texts.TheConstants as texts;
 ghost use Rattle.ffs_report.specs.declared.dup_line.TheConstants.{MOST_DIGITS, ROOM};
@@ -8,14 +8,14 @@ use ffs_volume::BlockMessage;
 use ffs_volume::texts::{DUP, LINE_END};
 use itoa::write_digits;
 
-/// A number of 32 bits has at most so many digits.
+/// How many digits a number of 32 bits has at most.
 const MOST_DIGITS: usize = 10;
 
 /// The room for the longest line: two numbers, and the text after each.
 const ROOM: usize = MOST_DIGITS + DUP.len() + MOST_DIGITS + LINE_END.len();
 
-/// The line of a duplicate. All after its fragment is kept for the next line, since duplicates of one inode are reported one
-/// after another.
+/// The line of a duplicate. All after its fragment is kept for the next line, since duplicates of
+/// one inode are reported one after another.
 #[derive(Drop)]
 pub struct DupLine {
     bytes: [u8; ROOM],
@@ -29,12 +29,13 @@ pub struct DupLine {
     ghost ends: { drop end bytes ≡ number_text texts.DUP.now inode texts.LINE_END.now },
 }
 
-/// Puts a text before a place, and answers where it begins.
+/// Puts a text before a place, and returns where it begins.
 fn put_before(bytes: &mut [u8], place: usize, text: &[u8]) -> usize
     requires room { length text.now ≤ place }
     requires within { place ≤ length bytes.old }
     ensures start { result + length text.now ≡ place }
     ensures written { drop result bytes.new ≡ text.now ++ drop place bytes.old }
+    ensures before { take result bytes.new ≡ take result bytes.old }
 {
     let start = place - text.len();
     bytes[start..place].copy_from_slice(text);
@@ -42,7 +43,7 @@ fn put_before(bytes: &mut [u8], place: usize, text: &[u8]) -> usize
 }
 
 impl DupLine {
-    /// The lines of an inode, without a fragment yet.
+    /// What the lines of an inode end with, without a fragment yet.
     #[tactic(auto, using(crate::proofs::DupLines::short_number))]
     pub fn new(inode: u32) -> DupLine
         ensures { result.inode ≡ inode }

@@ -119,7 +119,8 @@ fn ones(rt: HostRuntime) -> Result<(), Fail> {
     Ok(())
 }
 
-// Parts whose words are all set, all clear, and neither: the bits up to 255 are set, and 300 to 319.
+// Parts whose words are all set, all clear, and neither: the bits up to 255 are set, and 300 to
+// 319.
 #[test]
 fn ones_of_alike_words(rt: HostRuntime) -> Result<(), Fail> {
     let mut map = FragmentMap::new(rt.alloc(), 640)?;

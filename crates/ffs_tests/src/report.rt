@@ -1,4 +1,4 @@
-// The bytes of every line.
+//! The bytes of every line.
 use ffs_report::{
     Counted, DirectoryLine, DotLine, EntryLine, FuseWriter, Heading, Line, Output, ReferenceLine,
     Report,

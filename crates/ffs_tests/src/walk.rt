@@ -205,7 +205,8 @@ fn classes(rt: HostRuntime) -> Result<(), Fail> {
     Ok(())
 }
 
-// How many logical blocks a walk over a file of a size goes over, and how many fragments the last one has.
+// How many logical blocks a walk over a file of a size goes over, and how many fragments the last
+// one has.
 fn extent(geometry: &Geometry, size: u64) -> (u64, u32) {
     let walk = Walk::start(geometry, &inode(0o100644, size));
     (walk.blocks, walk.last)

@@ -1,4 +1,5 @@
-//! How many pieces of a power-of-two size hold a number of bytes, without a division.
+//! How many pieces of a power-of-two size hold a number of bytes, by shift and mask: this is asked
+//! of every inode, and a division takes longer.
 
 ghost use Rattle.std.specs.Prelude.{◌≡◌, ◌%◌};
 ghost use Rattle.std.specs.Int.{IsPowerOfTwo, div_ceil};

@@ -20,13 +20,15 @@ pub struct Windows {
     pub table: Table,
     /// The indirect blocks that a walk is in.
     pub blocks: Blocks,
-    /// A chunk of the current directory.
+    /// A data block of the current directory. In phase 5 a group block.
     pub chunk: Window,
-    /// A chunk of another directory: paths are read here, and the current one stays in `chunk`.
+    /// A data block of another directory, or a name in it: paths are read here, so that the current
+    /// directory stays in `chunk`.
     pub names: Window,
 }
 
-/// What a check keeps: two maps with a bit for each fragment, 25 bytes for each inode, and six blocks.
+/// What a check keeps: two maps with a bit for each fragment, 25 bytes for each inode, and six
+/// blocks.
 #[derive(Drop)]
 pub struct Workspace {
     /// The fragments that are reserved or claimed.
