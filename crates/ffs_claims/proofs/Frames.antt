@@ -9,6 +9,7 @@ use Rattle.ffs_layout.specs.declared.geometry.Geometry.{Geometry}
 use Rattle.ffs_volume.specs.declared.Class.{Class}
 use Rattle.ffs_volume.specs.declared.Inode.{Inode}
 use Rattle.ffs_maps.specs.Bits.{bits_of}
+use Rattle.ffs_maps.specs.declared.FragmentMap.{FragmentMap}
 use Rattle.ffs_image.specs.Device.{Device}
 use Rattle.ffs_phase.specs.Runs.{ImageAfter}
 use Rattle.ffs_phase.specs.declared.fault.RunFault.{RunFault}
@@ -73,6 +74,34 @@ only_then l u v w p q = record {
   made = q.made;
   windows = q.windows ∙ p.windows;
   found = found_then u v w p.found q.found;
+}
+
+-- an offer that changes the map of claims, or none, and the count of kept offers
+pub offers_claimed : (v : Layout) (w : Workspace) (map : FragmentMap) (kept : ℕ) → IsFor v w → map.size ≡ w.claimed.size
+    → OffersOnly v w (record w { claimed = map; kept = kept })
+offers_claimed v w map kept made size = record {
+  claiming = record {
+    made = record {
+      claimed = size ∙ made.claimed;
+      duplicates = made.duplicates;
+      unreported = made.unreported;
+      kinds = made.kinds;
+      marked = made.marked;
+      named = made.named;
+      reached = made.reached;
+      leaders = made.leaders;
+      references = made.references;
+      cut = made.cut;
+      parents = made.parents;
+      queue = made.queue;
+      table = made.table;
+      blocks = made.blocks;
+      chunk = made.chunk;
+    };
+    windows = refl;
+    found = record { kinds = refl; marked = refl; cut = refl; references = refl; again = refl };
+  };
+  runs = refl;
 }
 
 pub offers_none : (l : Layout) (w : Workspace) → IsFor l w → OffersOnly l w w

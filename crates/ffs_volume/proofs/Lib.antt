@@ -2,7 +2,10 @@ pub mod Longest
 pub mod Reading
 pub mod PathBound
 pub mod DirectoryExamples
-pub mod BlockExamples
+pub mod ClassExamples
+pub mod StepExamples
+pub mod ClaimExamples
+pub mod GroupExamples
 pub mod OpeningExamples
 pub mod LawsHold
 pub mod LinkLaws

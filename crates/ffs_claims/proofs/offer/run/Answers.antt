@@ -35,3 +35,29 @@ returns-clause-claiming g c = record {
   claims = search rules;
   left = search rules;
 }
+
+pub run_in_range-requires-clause-open : goal.run_in_range-requires-clause-open
+run_in_range-requires-clause-open g c = c.requires.next.uncut
+
+pub returns-then-in_range-clause-claiming : goal.returns-then-in_range-clause-claiming
+returns-then-in_range-clause-claiming g c =
+    let fits = sym c.in_range.ensures.value ∙ c.if-in_range.true in
+    let only = c.run_in_range.ensures.only.claiming in
+    rw fits (record {
+      said = c.run_in_range.ensures.said;
+      claims = c.run_in_range.ensures.claims;
+      left = record {
+        only = record {
+          made = only.made;
+          windows = only.windows;
+          found = record {
+            kinds = only.found.kinds;
+            marked = only.found.marked;
+            cut = only.found.cut;
+            references = only.found.references;
+            again = only.found.again;
+          };
+        };
+        only_data = c.in_range.ensures.area;
+      };
+    })

@@ -1,8 +1,9 @@
-use Rattle.std.proofs.Common.{◌≡◌, true, nat_lt, arith, refl, sym}
+use Rattle.std.proofs.Common.{◌≡◌, ◌+◌, true, nat_lt, arith, refl, sym}
 use Rattle.std.proofs.lemmas.Bool.Decides.{nat_tests}
 use Rattle.std.proofs.lemmas.Result.{err_from_is_err_and}
 use Rattle.ffs_report.proofs.Reports.{said_none}
 use Rattle.ffs_workspace.specs.Holds.{claims_of}
+use Rattle.ffs_claims.proofs.Frames.{offers_claimed}
 use Rattle.ffs_claims.proofs.Whole.{whole_is, run_below}
 use Rattle.ffs_claims.proofs.offer.run_in_range.Goals as goal
 
@@ -44,3 +45,19 @@ returns-clause-claims g c = record {
   claims_are = rw (c.claim.ensures.kept c.if-claim.false) at c.in_ok-offers.ensures.claims;
   uncut = c.is_open.ensures;
 }
+
+pub returns-then-claim-clause-only : goal.returns-then-claim-clause-only
+returns-then-claim-clause-only g c =
+    let w = c.args.workspace.now in
+    offers_claimed c.args.geometry.now.layout w c.claim.new.self (w.kept + c.from.result) c.requires.can.room.made
+    c.claim.ensures.size
+
+pub returns-in_err-offers-clause-claims : goal.returns-in_err-offers-clause-claims
+returns-in_err-offers-clause-claims g c =
+    let p = err_from_is_err_and c.from_residual.result c.from_residual.ensures.1 in rw p.1 tt
+
+pub returns-in_err-offers-clause-only : goal.returns-in_err-offers-clause-only
+returns-in_err-offers-clause-only g c = rw (c.claim.ensures.kept c.if-claim.false) at c.offers.ensures.only
+
+pub returns-clause-only : goal.returns-clause-only
+returns-clause-only g c = rw (c.claim.ensures.kept c.if-claim.false) at c.offers.ensures.only
