@@ -11,7 +11,7 @@ use Rattle.std.proofs.lemmas.Nat.Bits.{bit_at_set_same, bit_at_set_other, bit_at
 use Rattle.std.proofs.lemmas.Nat.Bits.{bit_at-zero}
 use Rattle.ffs_memory.specs.Words.{Words}
 use Rattle.ffs_maps.specs.Bits.{bits_of, set_run}
-use Rattle.ffs_maps.specs.WordBits.{is_bit, bits_of_words, set_in_words}
+use Rattle.ffs_maps.specs.WordBits.{is_bit, bits_of_words, set_among}
 use Rattle.ffs_maps.specs.declared.FragmentMap.{FragmentMap}
 
 pub length_bits : (words : List ℕ) (size : ℕ) → length (bits_of_words words size) ≡ size
@@ -29,10 +29,10 @@ get_bits words size f d h = get_or-map-range_with_len (is_bit words) 0 size f f 
 
 -- a map with the same words is the same
 pub same_map : (m : FragmentMap) (words : Words) (enough : length words.list ≡ div_ceil m.size 64)
-    (counted : m.ones ≡ set_in_words words.list m.size) → words ≡ m.words →
+    (counted : m.ones ≡ set_among (bits_of_words words.list m.size) 0 m.size) → words ≡ m.words →
     record m { words = words; enough = enough; counted = counted } ≡ m
 same_map m words enough counted same =
-    subst⁻¹ (λ w. (e : length w.list ≡ div_ceil m.size 64) (k : m.ones ≡ set_in_words w.list m.size) →
+    subst⁻¹ (λ w. (e : length w.list ≡ div_ceil m.size 64) (k : m.ones ≡ set_among (bits_of_words w.list m.size) 0 m.size) →
     record m { words = w; enough = e; counted = k } ≡ m) same
     (λ e k. ap (λ x. record m { enough = x; counted = k }) (ℕ_set _ _ e m.enough)
     ∙ ap (λ x. record m { counted = x }) (ℕ_set _ _ k m.counted)) enough counted

@@ -2,17 +2,18 @@
 use Rattle.std.proofs.Common.{◌≡◌, ◌⊎◌, inl, inr, ℕ, zero, suc, ◌+◌, ◌-◌, ◌*◌, ◌/◌, ◌%◌, ◌^◌, ◌<◌, ◌≤◌, Bool, false}
 use Rattle.std.proofs.Common.{List, length, cond, map, get_or, nat_eq, bit_and, count_ones, count_by, arith, refl, ap, ◌∙◌}
 use Rattle.std.proofs.Common.{sym, min, take, drop}
-use Rattle.std.specs.List.{range_with_len, sum_by, slice_index_or}
+use Rattle.std.specs.List.{range_with_len, sum_by, slice_index_or, All}
 use Rattle.std.specs.Int.{bit_at}
 use Rattle.std.proofs.lemmas.Bool.{cases_lt}
 use Rattle.std.proofs.lemmas.List.{get_or_past, get_or-drop, get_or-take, length-drop, length-take-le}
+use Rattle.std.proofs.lemmas.List.Elements.{All-get_or}
 use Rattle.std.proofs.lemmas.List.Sums.{sum_by-cons, count_by-le-length}
 use Rattle.std.proofs.lemmas.List.FromFn.{length-range_with_len, length-map-range_with_len, get_or-map-range_with_len}
 use lib.Lanes.{mask_l}
 use Rattle.std.proofs.lemmas.Simd.{bit_mask_l, ones-mask_l}
 use Rattle.std.proofs.lemmas.Nat.Bits.{bit_at_and, bit_at-lt, bit_at-zero, bit_at_above, bit_at_ones}
 use Rattle.std.proofs.lemmas.Nat.Bits.{bit_at_ones_above, same_from_bits, ones_shr}
-use Rattle.ffs_maps.specs.WordBits.{bits_of_words}
+use Rattle.ffs_maps.specs.WordBits.{bits_of_words, set_among}
 use Rattle.ffs_maps.proofs.Bits.{get_bits}
 use Rattle.ffs_maps.proofs.Words.{bit_shr}
 
@@ -79,7 +80,7 @@ sub_twice k h = omega arith
 pub ones_in_word : (words : List ℕ) (size start len w : ℕ) → start % 64 + len ≤ 64 → start + len ≤ size →
     w ≡ get_or words (start / 64) 0 →
     count_ones (bit_and (w / 2 ^ (start % 64)) ((2 ^ 64 - 1) / 2 ^ (64 - len)))
-    ≡ count_by (λ f. slice_index_or (bits_of_words words size) f false) (range_with_len start len)
+    ≡ set_among (bits_of_words words size) start len
 ones_in_word words size start len w h below is =
     let mask : (2 ^ 64 - 1) / 2 ^ (64 - len) ≡ 2 ^ len - 1 = ones_shr 64 (64 - len) (omega arith)
     ∙ ap (λ k. 2 ^ k - 1) (sub_twice len (omega arith)) in
@@ -110,7 +111,7 @@ ones_in_word words size start len w h below is =
 -- the bits of a whole word
 pub ones_of_word : (words : List ℕ) (size index w : ℕ) → w < 2 ^ 64 → w ≡ get_or words index 0 →
     64 * index + 64 ≤ size → count_ones w
-    ≡ count_by (λ f. slice_index_or (bits_of_words words size) f false) (range_with_len (64 * index) 64)
+    ≡ set_among (bits_of_words words size) (64 * index) 64
 ones_of_word words size index w fits is below =
     ones_by (λ f. slice_index_or (bits_of_words words size) f false) w (64 * index) 64 low
     (λ i l. bit_at_above w 64 i fits l)
@@ -129,19 +130,19 @@ ones_of_word words size index w fits is below =
 -- the bits of some words that are all the same
 pub alike_words : (words : List ℕ) (size first n w : ℕ) → w < 2 ^ 64 → 64 * (first + n) ≤ size →
     ((k : ℕ) → k < n → get_or words (first + k) 0 ≡ w) → n * count_ones w
-    ≡ count_by (λ f. slice_index_or (bits_of_words words size) f false) (range_with_len (64 * first) (64 * n))
+    ≡ set_among (bits_of_words words size) (64 * first) (64 * n)
 alike_words words size first zero w fits below alike = omega arith
 alike_words words size first (suc n) w fits below alike =
     let before : n * count_ones w
-    ≡ count_by (λ f. slice_index_or (bits_of_words words size) f false) (range_with_len (64 * first) (64 * n)) =
+    ≡ set_among (bits_of_words words size) (64 * first) (64 * n) =
     alike_words words size first n w fits (omega (arith, below)) (λ k h. alike k (omega (arith, h))) in
     let place : 64 * (first + n) ≡ 64 * first + 64 * n = omega arith in
     let last : count_ones w
-    ≡ count_by (λ f. slice_index_or (bits_of_words words size) f false) (range_with_len (64 * first + 64 * n) 64) =
+    ≡ set_among (bits_of_words words size) (64 * first + 64 * n) 64 =
     ones_of_word words size (first + n) w fits (sym (alike n (omega arith))) (omega (arith, below))
-    ∙ ap (λ j. count_by (λ f. slice_index_or (bits_of_words words size) f false) (range_with_len j 64)) place in
+    ∙ ap (λ j. set_among (bits_of_words words size) j 64) place in
     let all : n * count_ones w + count_ones w
-    ≡ count_by (λ f. slice_index_or (bits_of_words words size) f false) (range_with_len (64 * first) (64 * suc n)) =
+    ≡ set_among (bits_of_words words size) (64 * first) (64 * suc n) =
     count_join (λ f. slice_index_or (bits_of_words words size) f false) (64 * first) (64 * n) 64 (64 * suc n) _ _
     (omega arith) before last in
     omega (arith, all)
@@ -162,7 +163,7 @@ none_counted p a (suc n) none =
 -- words that are 0 have no set bit
 pub none_in_zeros : (words : List ℕ) (size a n : ℕ) → a + n ≤ size →
     ((k : ℕ) → k < n → get_or words ((a + k) / 64) 0 ≡ 0) →
-    count_by (λ f. slice_index_or (bits_of_words words size) f false) (range_with_len a n) ≡ 0
+    set_among (bits_of_words words size) a n ≡ 0
 none_in_zeros words size a n below zeros =
     none_counted (λ f. slice_index_or (bits_of_words words size) f false) a n
     (λ k h. get_bits words size (a + k) false (omega arith)
@@ -173,11 +174,9 @@ none_in_zeros words size a n below zeros =
 pub alike_touched : (words touched : List ℕ) (size first end : ℕ) → 64 * end ≤ size → first < end →
     end ≤ length touched → get_or touched first 0 < 2 ^ 64 →
     ((k : ℕ) → get_or words k 0 ≡ get_or touched k 0) →
-    ((k : ℕ) → k < length (take (end - first) (drop first touched)) →
-    get_or (take (end - first) (drop first touched)) k 0 ≡ get_or touched first 0) →
+    All (λ w. w ≡ get_or touched first 0) (take (end - first) (drop first touched)) →
     (end - first) * count_ones (get_or touched first 0)
-    ≡ count_by (λ f. slice_index_or (bits_of_words words size) f false)
-    (range_with_len (64 * first) (64 * end - 64 * first))
+    ≡ set_among (bits_of_words words size) (64 * first) (64 * end - 64 * first)
 alike_touched words touched size first end below order inside fits same alike =
     let long : 64 * (end - first) ≡ 64 * end - 64 * first = omega arith in
     let len : length (take (end - first) (drop first touched)) ≡ end - first = omega (
@@ -187,25 +186,23 @@ alike_touched words touched size first end below order inside fits same alike =
     ) in
     alike_words words size first (end - first) (get_or touched first 0) fits (omega (arith, below, order))
     (λ k h. same (first + k) ∙ sym (get_or-drop first touched k 0)
-    ∙ sym (get_or-take (end - first) (drop first touched) k 0 h) ∙ alike k (omega (arith, h, len)))
-    ∙ ap (λ n. count_by (λ f. slice_index_or (bits_of_words words size) f false) (range_with_len (64 * first) n)) long
+    ∙ sym (get_or-take (end - first) (drop first touched) k 0 h)
+    ∙ All-get_or (λ w. w ≡ get_or touched first 0) (take (end - first) (drop first touched)) k 0
+    (omega (arith, h, len)) alike)
+    ∙ ap (λ n. set_among (bits_of_words words size) (64 * first) n) long
 
 -- the words from one on that are counted, where all after them are 0
 pub count_ends : (words touched : List ℕ) (size first index last count : ℕ) → first ≤ index → 64 * last ≤ size →
     ((k : ℕ) → get_or words k 0 ≡ get_or touched k 0) →
     ((last ≤ index) × (index ≤ last)) ⊎ ((length touched ≤ index) × (index ≤ last)) →
-    count ≡ count_by (λ f. slice_index_or (bits_of_words words size) f false)
-    (range_with_len (64 * first) (64 * index - 64 * first)) →
-    count ≡ count_by (λ f. slice_index_or (bits_of_words words size) f false)
-    (range_with_len (64 * first) (64 * last - 64 * first))
+    count ≡ set_among (bits_of_words words size) (64 * first) (64 * index - 64 * first) →
+    count ≡ set_among (bits_of_words words size) (64 * first) (64 * last - 64 * first)
 count_ends words touched size first index last count from_ below same ends is = elim ends [
   | inl e ↦
       let at : index ≡ last = omega (arith, e.0, e.1) in
-      is ∙ ap (λ j. count_by (λ f. slice_index_or (bits_of_words words size) f false)
-      (range_with_len (64 * first) (64 * j - 64 * first))) at
+      is ∙ ap (λ j. set_among (bits_of_words words size) (64 * first) (64 * j - 64 * first)) at
   | inr e ↦
-      let more : count + 0 ≡ count_by (λ f. slice_index_or (bits_of_words words size) f false)
-      (range_with_len (64 * first) (64 * last - 64 * first)) =
+      let more : count + 0 ≡ set_among (bits_of_words words size) (64 * first) (64 * last - 64 * first) =
       count_join_at (λ f. slice_index_or (bits_of_words words size) f false) (64 * first) (64 * index) (64 * last)
       (64 * last - 64 * index) count 0 (omega (arith, from_)) (omega (arith, e.1)) is
       (sym (none_in_zeros words size (64 * index) (64 * last - 64 * index) (omega (arith, below, e.1))

@@ -1,21 +1,18 @@
 -- How many bits are set, where some of them change.
 use Rattle.std.proofs.Common.{◌≡◌, ◌⊎◌, inl, inr, ℕ, zero, suc, ◌+◌, ◌-◌, ◌<◌, ◌≤◌, Bool, true, false, cond, List}
-use Rattle.std.proofs.Common.{length, get_or, slice_set, count_by, not, arith, refl, ap, ◌∙◌, sym}
+use Rattle.std.proofs.Common.{length, get_or, slice_set, not, arith, refl, ap, ◌∙◌, sym}
 use mir.Val.{bool_byte}
 use Rattle.std.specs.List.{range_with_len, sum_by, slice_index_or}
 use Rattle.std.proofs.lemmas.List.{get_or-set_other, get_or-set_same}
 use Rattle.std.proofs.lemmas.List.Sums.{sum_by-cons}
 use Rattle.ffs_maps.specs.Bits.{set_run, AreClear}
+use Rattle.ffs_maps.specs.WordBits.{set_among}
 use Rattle.ffs_maps.proofs.Counting.{sum_split, none_counted, count_few}
 use Rattle.ffs_maps.proofs.Masks.{run_outside, run_inside}
 
 -- the bit of a place, as a number
 abbrev is_one : List Bool → ℕ → ℕ
 is_one bits f = cond (slice_index_or bits f false) 1 0
-
--- how many of some bits from a place on are set
-abbrev pub set_among : List Bool → ℕ → ℕ → ℕ
-set_among bits a n = count_by (λ f. slice_index_or bits f false) (range_with_len a n)
 
 same_sum : (f g : ℕ → ℕ) (a n : ℕ) → ((k : ℕ) → k < n → f (a + k) ≡ g (a + k)) →
     sum_by f (range_with_len a n) ≡ sum_by g (range_with_len a n)

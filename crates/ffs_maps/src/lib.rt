@@ -13,19 +13,19 @@
 //! It rests on `ffs_memory`.
 #![tactic(auto)]
 
-ghost use Rattle.std.specs.Prelude.{ℕ, nat_eq, ◌≡◌, ◌+◌, ◌*◌, ◌%◌, ◌<◌, ◌≤◌, ◌-◌, vec_len, length, IfOk, IsTrue, true, false, slice_set, replicate, count_by};
-ghost use Rattle.std.specs.List.{slice_index_or, range_with_len};
+ghost use Rattle.std.specs.Prelude.{ℕ, nat_eq, ◌≡◌, ◌↔◌, ◌+◌, ◌*◌, ◌%◌, ◌<◌, ◌≤◌, ◌-◌, length, IfOk, IsTrue, true, false, slice_set, replicate};
+ghost use Rattle.std.specs.List.{slice_index_or, All};
 ghost use Rattle.std.specs.Int.{div_ceil, bit_at};
 ghost use Rattle.ffs_memory.specs.Account.{Asks};
-ghost use Rattle.ffs_maps.specs.WordBits.{set_in_words};
+ghost use Rattle.ffs_maps.specs.WordBits.{bits_of_words, set_among};
 
 use ffs_memory::{Memory, SystemMemory, ZeroedWords};
 use std::alloc::{AllocError, Global};
 
-// Whether each of some words is this one. No word ends the loop, so that some are compared at a time.
+// Whether each of some words is this one. No word ends the loop, so that some are compared at
+// a time.
 fn are_alike(words: &[u64], word: u64) -> bool
-    ensures { IsTrue result → (k : ℕ) → k < length words.now
-        → slice_index_or words.now k 0 ≡ word }
+    ensures { IsTrue result ↔ All (λ w. w ≡ word) words.now }
 {
     let mut differ = 0;
     for index in 0..words.len() {
@@ -43,7 +43,7 @@ pub struct FragmentMap {
     /// How many bits are set.
     ones: u32,
     ghost enough: { length words.list ≡ div_ceil size 64 },
-    ghost counted: { ones ≡ set_in_words words.list size },
+    ghost counted: { ones ≡ set_among (bits_of_words words.list size) 0 size },
 }
 
 impl FragmentMap {
@@ -129,8 +129,7 @@ impl FragmentMap {
     fn count_in_word(&self, start: u32, len: u32) -> u32
         requires one_word { start % 64 + len ≤ 64 }
         requires below { start + len ≤ self.now.size }
-        ensures { result ≡ count_by (λ f. slice_index_or (bits_of self.now) f false)
-            (range_with_len start len) }
+        ensures { result ≡ set_among (bits_of self.now) start len }
     {
         if len == 0 {
             return 0;
@@ -140,12 +139,12 @@ impl FragmentMap {
         bits.count_ones()
     }
 
-    // How many bits are set in the words from one on and below another. Mostly these words are alike, and one of them says it.
+    // How many bits are set in the words from `first` on and below `last`. Mostly these words are
+    // alike: then the bits of one are counted.
     fn count_in_words(&self, first: u32, last: u32) -> u32
         requires order { first ≤ last }
         requires below { 64 * last ≤ self.now.size }
-        ensures { result ≡ count_by (λ f. slice_index_or (bits_of self.now) f false)
-            (range_with_len (64 * first) (64 * last - 64 * first)) }
+        ensures { result ≡ set_among (bits_of self.now) (64 * first) (64 * last - 64 * first) }
     {
         let words = self.words.touched();
         let start = first as usize;
@@ -164,8 +163,7 @@ impl FragmentMap {
     pub fn count(&self, start: u32, end: u32) -> u32
         requires order { start ≤ end }
         requires below { end ≤ self.now.size }
-        ensures { result ≡ count_by (λ f. slice_index_or (bits_of self.now) f false)
-            (range_with_len start (end - start)) }
+        ensures { result ≡ set_among (bits_of self.now) start (end - start) }
     {
         let first = start.div_ceil(64);
         let last = end / 64;
@@ -179,8 +177,7 @@ impl FragmentMap {
 
     /// How many bits are set. They are counted as they change, so none is looked at.
     pub fn count_ones(&self) -> u32
-        ensures { result ≡ count_by (λ f. slice_index_or (bits_of self.now) f false)
-            (range_with_len 0 self.now.size) }
+        ensures { result ≡ set_among (bits_of self.now) 0 self.now.size }
     {
         self.ones
     }

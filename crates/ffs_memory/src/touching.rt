@@ -17,8 +17,9 @@ pub(crate) fn touch<T: Copy>(touched: &mut Vec<T>, index: usize, rest: T)
     }
 }
 
-// The same. It isn't inlined, since an element that is asked for is mostly touched already, or is the next one. The length
-// is kept beside the list, so that no iteration waits for it to be read again.
+// Touches as many elements as it takes. It isn't inlined, since an element that is asked for is
+// mostly touched already, or is the next one. The length is kept beside the list, so that no
+// iteration waits for it to be read again.
 #[inline(never)]
 fn touch_more<T: Copy>(touched: &mut Vec<T>, index: usize, rest: T)
     requires { index < vec_capacity touched.old }

@@ -14,7 +14,7 @@ overflow_mul-result c =
       arith,
       alike_touched m.words.list words m.size c.args.first c.min-end.result
           (omega (arith, c.min-end.ensures, c.requires.below)) c.if-start-end.true (omega (arith, c.min-end.ensures))
-          fits c.touched-words.ensures.words (c.are_alike.ensures c.if-are_alike.true),
+          fits c.touched-words.ensures.words (c.are_alike.ensures.0 c.if-are_alike.true),
       count_few (λ f. slice_index_or (bits_of m) f false) (64 * c.args.first)
           (64 * c.min-end.result - 64 * c.args.first),
       c.min-end.ensures,
@@ -36,7 +36,7 @@ returns-then-are_alike c =
     ])
     (alike_touched m.words.list words m.size c.args.first end (omega (arith, c.requires.below))
     c.if-start-end.true (omega (arith, c.min-end.ensures)) fits c.touched-words.ensures.words
-    (c.are_alike.ensures c.if-are_alike.true))
+    (c.are_alike.ensures.0 c.if-are_alike.true))
 
 pub overflow_add-count : goal.overflow_add-count
 overflow_add-count c =

@@ -2,11 +2,11 @@ use Rattle.std.proofs.Common.{◌≡◌, ◌/◌, ◌%◌, ◌*◌, ◌-◌, ◌
 use Rattle.std.proofs.Common.{slice_set}
 use Rattle.ffs_memory.specs.Words.{Words}
 use Rattle.ffs_maps.specs.Bits.{IsInWord, bits_of, set_run}
-use Rattle.ffs_maps.specs.WordBits.{bits_of_words}
+use Rattle.ffs_maps.specs.WordBits.{bits_of_words, set_among}
 use Rattle.ffs_maps.specs.declared.FragmentMap.{FragmentMap}
 use Rattle.ffs_maps.proofs.Bits.{bits_long}
 use Rattle.ffs_maps.proofs.Masks.{mask_is, mark_run}
-use Rattle.ffs_maps.proofs.Ones.{few_among, run_raised, set_among}
+use Rattle.ffs_maps.proofs.Ones.{few_among, run_raised}
 use Rattle.ffs_maps.proofs.FragmentMap.set_in_word.Goals as goal
 
 bits_now : (m : FragmentMap) (new : Words) (start len w : ℕ) → IsInWord start len m.size →
