@@ -2,9 +2,8 @@
 use Rattle.std.proofs.Common.{◌≡◌, ℕ, ◌+◌, ◌*◌, Bool, true, false, List, ◌++◌, refl, ap, ◌∙◌, sym, slice_index}
 use Rattle.std.proofs.Common.{count_by, subst, ℤ}
 use Rattle.std.specs.Prelude.{◌&&◌, ◌||◌, ◌==◌, not, nat_le, nat_lt}
-use Rattle.ffs_volume.specs.Disk.Areas.{is_reserved}
 use Rattle.ffs_volume.specs.Blocks.Owners.{owners_of}
-use Rattle.ffs_volume.specs.Blocks.Claims.{is_set, no_claims, after_owners}
+use Rattle.ffs_volume.specs.Blocks.Claims.{no_claims, after_owners}
 use Rattle.ffs_volume.specs.Report.Whole.{file_count, used_count}
 use Rattle.ffs_volume.specs.Blocks.Inodes.{is_file_or_dir, is_directory, is_allocated}
 use Rattle.std.proofs.Common.{◌-◌}
