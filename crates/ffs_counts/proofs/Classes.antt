@@ -2,9 +2,8 @@
 use Rattle.std.proofs.Common.{◌≡◌, ℕ, ◌+◌, ◌*◌, Bool, true, false, List, ◌++◌, refl, ap, ◌∙◌, sym, slice_index}
 use Rattle.std.proofs.Common.{count_by, subst, ℤ}
 use Rattle.std.specs.Prelude.{◌&&◌, ◌||◌, ◌==◌, not, nat_le, nat_lt}
-use Rattle.ffs_volume.specs.Disk.Areas.{is_reserved}
 use Rattle.ffs_volume.specs.Blocks.Owners.{owners_of}
-use Rattle.ffs_volume.specs.Blocks.Claims.{is_set, no_claims, after_owners}
+use Rattle.ffs_volume.specs.Blocks.Claims.{no_claims, after_owners}
 use Rattle.ffs_volume.specs.Report.Whole.{file_count, used_count}
 use Rattle.ffs_volume.specs.Blocks.Inodes.{is_file_or_dir, is_directory, is_allocated}
 use Rattle.std.proofs.Common.{◌-◌}
@@ -31,7 +30,7 @@ use Rattle.ffs_volume.specs.Groups.GroupCheck.{group_lines, reported_once, unrep
 use Rattle.ffs_volume.specs.Encodings.Kinds.{kind_at, kind_of, class_of_kind}
 use Rattle.ffs_workspace.proofs.KindLaws.{class_is}
 use Rattle.ffs_groups.specs.Inodes.{class_in}
-use Rattle.ffs_counts.specs.Reserved.{HasReserved}
+use Rattle.ffs_counts.specs.Reserved.{HasReserved, used_in}
 use Rattle.ffs_counts.proofs.Kept.{has_reserved}
 
 abbrev is_part : Class → Bool
@@ -164,8 +163,8 @@ files_are v image kinds files n e len ks =
     (fun_ext (λ x. ap (λ k. is_file_or_dir (class_of_kind k)) (ks x) ∙ same_test is_file_or_dir refl v image x))
 
 pub used_are : (v : Layout) (image : List ℕ) (used : List Bool) (n : ℕ) →
-    (HasReserved v used → n ≡ count_by (λ f. is_set used f && not (is_reserved v f)) (range_with_len 0 v.size)) →
+    (HasReserved v used → n ≡ used_in v used) →
     used ≡ (after_owners v (no_claims v) (owners_of v image)).used → n ≡ used_count v image
 unfolding used_count
 used_are v image used n e same = e (subst (HasReserved v) (sym same) (has_reserved v (owners_of v image)))
-    ∙ ap (λ (u : List Bool). count_by (λ f. is_set u f && not (is_reserved v f)) (range_with_len 0 v.size)) same
+    ∙ ap (used_in v) same

@@ -1,5 +1,6 @@
--- The reserved fragments of a map of those in use.
-use Rattle.std.specs.Prelude.{◌≡◌, ◌<◌, ℕ, Bool, true, List}
+-- The reserved fragments in a map of the fragments in use.
+use Rattle.std.specs.Prelude.{◌≡◌, ◌<◌, ℕ, Bool, true, not, ◌&&◌, List, count_by}
+use Rattle.std.specs.List.{range_with_len}
 use Rattle.ffs_volume.specs.declared.Layout.{Layout}
 use Rattle.ffs_volume.specs.Disk.Areas.{is_reserved}
 use Rattle.ffs_volume.specs.Blocks.Claims.{is_set}
@@ -7,3 +8,7 @@ use Rattle.ffs_volume.specs.Blocks.Claims.{is_set}
 -- the bit of each reserved fragment is set
 abbrev pub HasReserved : Layout → List Bool → Type 0
 HasReserved v used = (f : ℕ) → f < v.size → is_reserved v f ≡ true → is_set used f ≡ true
+
+-- how many fragments are claimed; reserved ones don't count
+abbrev pub used_in : Layout → List Bool → ℕ
+used_in v used = count_by (λ f. is_set used f && not (is_reserved v f)) (range_with_len 0 v.size)

@@ -1,9 +1,8 @@
 //! The summary of a check.
 
-ghost use Rattle.std.specs.Prelude.{◌≡◌, ◌∷◌, [], ◌-◌, ◌<◌, ◌^◌, length, count_by, not, ◌&&◌, pos, ◌+ℤ◌, ◌*ℤ◌, int_div};
+ghost use Rattle.std.specs.Prelude.{◌≡◌, ◌∷◌, [], ◌-◌, ◌<◌, ◌^◌, length, count_by, pos, ◌+ℤ◌, ◌*ℤ◌, int_div};
 ghost use Rattle.std.specs.List.{range_with_len};
 ghost use Rattle.ffs_volume.specs.Disk.Areas.{cgbase, is_reserved};
-ghost use Rattle.ffs_volume.specs.Blocks.Claims.{is_set};
 ghost use Rattle.ffs_volume.specs.Groups.Records.{group_size};
 ghost use Rattle.ffs_volume.specs.Blocks.Inodes.{is_file_or_dir};
 ghost use Rattle.ffs_volume.specs.Report.Whole.{summary_of, file_count as files_of, used_count as used_of};
@@ -16,7 +15,7 @@ ghost use Rattle.ffs_image.specs.Device.{Device};
 ghost use Rattle.ffs_groups.specs.Inodes.{class_in};
 ghost use Rattle.ffs_workspace.specs.Holds.{HoldsClaims};
 ghost use Rattle.ffs_workspace.specs.Lengths.{IsFor};
-ghost use Rattle.ffs_counts.specs.Reserved.{HasReserved};
+ghost use Rattle.ffs_counts.specs.Reserved.{HasReserved, used_in};
 
 use ffs_layout::{Geometry, Super};
 use ffs_maps::FragmentMap;
@@ -38,8 +37,8 @@ fn file_count(kinds: &[u8]) -> u32
     files
 }
 
-// How many fragments of a group are reserved. They are together: in the first group all those before the end of the summary
-// area, and in another one what the group keeps for itself.
+// How many fragments of a group are reserved. They lie together: in the first group all before
+// the end of the summary area, in another what the group keeps for itself.
 fn reserved_in_group(geometry: &Geometry, group: u32) -> u32
     requires { group < geometry.now.layout.ncg }
     ensures { result ≡ count_by (is_reserved geometry.now.layout)
@@ -64,12 +63,12 @@ fn reserved_count(geometry: &Geometry) -> u32
     count
 }
 
-// How many fragments are claimed beside the reserved ones, whose bits were all set before any was claimed.
+// How many fragments are claimed; reserved ones don't count. Their bits were all set before any was
+// claimed. In a map that lacks some the difference stops at 0, and nothing is said of it.
 fn used_count(geometry: &Geometry, used: &FragmentMap) -> u32
     requires { used.now.size ≡ geometry.now.layout.size }
     ensures { HasReserved geometry.now.layout (bits_of used.now)
-        → result ≡ count_by (λ f. is_set (bits_of used.now) f
-        && not (is_reserved geometry.now.layout f)) (range_with_len 0 geometry.now.layout.size) }
+        → result ≡ used_in geometry.now.layout (bits_of used.now) }
 {
     used.count_ones().saturating_sub(reserved_count(geometry))
 }

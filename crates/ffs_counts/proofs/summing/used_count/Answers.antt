@@ -1,7 +1,6 @@
-use Rattle.std.proofs.Common.{arith, ap, ◌∙◌, ◌≡◌, ◌+◌, count_by}
-use Rattle.std.specs.List.{range_with_len}
-use Rattle.ffs_volume.specs.Blocks.Claims.{is_set}
+use Rattle.std.proofs.Common.{arith, ap, ◌∙◌, ◌≡◌, ◌+◌}
 use Rattle.ffs_maps.specs.Bits.{bits_of}
+use Rattle.ffs_maps.specs.WordBits.{set_among}
 use Rattle.ffs_counts.proofs.ReservedCount.{set_apart}
 use Rattle.ffs_counts.proofs.summing.used_count.Goals as goal
 
@@ -9,8 +8,8 @@ pub returns : goal.returns
 returns c = λ has.
     let v = c.args.geometry.now.layout in
     let used = bits_of c.args.used.now in
-    let ones : c.count_ones.result ≡ count_by (λ f. is_set used f) (range_with_len 0 v.size) =
-    c.count_ones.ensures ∙ ap (λ n. count_by (λ f. is_set used f) (range_with_len 0 n)) c.requires in
+    let ones : c.count_ones.result ≡ set_among used 0 v.size =
+    c.count_ones.ensures ∙ ap (set_among used 0) c.requires in
     omega (
       arith,
       ones,
