@@ -94,7 +94,7 @@ starts_are v b d old new e start above first second f p q r =
     (r ∙ sym (ap (option_and_then (λ c. nth_entry 1 c.entries)) f.started)))))
 
 abbrev marks_with : List Bool → List ℕ → Marks
-marks_with passed stamps = record { passed = passed; stamps = stamps }
+marks_with flags stamps = record { flags = flags; stamps = stamps }
 
 pub begun_is : (v : Layout) (b : List ℕ) (d : ℕ) (old new more : Workspace) (e : DirectorySummary) (start : List ℕ) →
     AreFound v b d old e new start → LeavesQueue old new → more ≡ record new { windows = more.windows } →

@@ -51,7 +51,7 @@ unstamped v s m r x h =
     ne_eqb (slice_index m.stamps x) s (λ z. absurd (omega (arith, z))) ∙ sym (and_false (belongs v s x))
 
 abbrev pub looked : Volume → ℕ → Marks → Marks
-looked v s m = record { passed = m.passed; stamps = after_looks v s m.stamps (roled_entries v s) }
+looked v s m = record { flags = m.flags; stamps = after_looks v s m.stamps (roled_entries v s) }
 
 due_is : (v : Volume) (s x : ℕ) → (belongs v s x && list_any (is_naming_entry x) (roled_entries v s))
     ≡ (belongs v s x && true)
@@ -66,7 +66,7 @@ pub looked_right : (v : Volume) (s : ℕ) (m : Marks) → AreRightBefore v s m �
 looked_right v s m r = record {
   passed = λ x h q n o. r.passed x h q n o ∙ sym (or_false (some_below (λ t. is_naming_dir (graph_of v) t x) s));
   due = λ x h. stamped_all v s [] (roled_entries v s) m.stamps r.stamps_length (unstamped v s m r) x h ∙ due_is v s x;
-  passed_length = r.passed_length;
+  flags_length = r.flags_length;
   stamps_length = looks_all_long v s (roled_entries v s) m.stamps ∙ r.stamps_length;
 }
 
@@ -142,7 +142,7 @@ reported_next v s m d r =
       stamps = λ x h. small_next s _
           (entries_small v s (roled_entries v s) (looked v s m) x
           (looks_small v s (roled_entries v s) m.stamps x (small x (r.stamps x h))));
-      passed_length = whole.passed_length;
+      flags_length = whole.flags_length;
       stamps_length = whole.stamps_length;
       calm = λ x h. r.calm x (sym (entries_calm v s (roled_entries v s) (looked v s m) x) ∙ h);
     }
@@ -161,7 +161,7 @@ quiet_next v s m d r h = record {
       ∙ (ap (λ b. some_below (λ t. is_naming_dir (graph_of v) t x) s || b) (and_false (is_dir v s))
       ∙ or_false (some_below (λ t. is_naming_dir (graph_of v) t x) s))));
   stamps = λ x l. small_next s _ (looks_small v s (roled_entries v s) m.stamps x (small x (r.stamps x l)));
-  passed_length = r.passed_length;
+  flags_length = r.flags_length;
   stamps_length = looks_all_long v s (roled_entries v s) m.stamps ∙ r.stamps_length;
   calm = r.calm;
 }
@@ -179,7 +179,7 @@ other_next v s m none r = record {
       ∙ (ap (λ b. some_below (λ t. is_naming_dir (graph_of v) t x) s || b) (none x q n)
       ∙ or_false (some_below (λ t. is_naming_dir (graph_of v) t x) s)));
   stamps = λ x h. small_next s _ (small x (r.stamps x h));
-  passed_length = r.passed_length;
+  flags_length = r.flags_length;
   stamps_length = r.stamps_length;
   calm = r.calm;
 }

@@ -29,12 +29,13 @@ use Rattle.ffs_maps.specs.Bits.{bits_of}
 use Rattle.ffs_phase.specs.declared.fault.RunFault.{RunFault}
 use Rattle.ffs_phase.specs.declared.fault.RunFault.TheVariants.{Read, Out}
 use Rattle.ffs_pathnames.specs.GoesOn.{AtReadFault}
-use Rattle.ffs_pathnames.specs.Before.{AreClear, IsBefore, root_said, suspect_by}
+use Rattle.ffs_pathnames.specs.Before.{AreClear, IsBefore, root_said}
 use Rattle.ffs_workspace.specs.Leaves.{LeavesSurvey}
 use Rattle.ffs_pathnames.specs.Gathers.{marks_of}
 use Rattle.ffs_pathnames.specs.DirectoryContext.{DirectoryContext}
 use Rattle.ffs_pathnames.specs.Calm.{IsSilent}
 use Rattle.ffs_pathnames.specs.MarksRight.{AreRightBefore}
+use Rattle.ffs_pathnames.specs.Sees.{is_suspect_by}
 use Rattle.std.proofs.lemmas.Bool.{cases_Bool, eqb-true, and_from, and_parts}
 use Rattle.std.proofs.lemmas.List.{get_or_default}
 use Rattle.ffs_volume.proofs.Sizes.{some_inodes}
@@ -82,7 +83,7 @@ low_dir v (suc (suc d)) h = absurd (omega arith)
 
 -- which inodes are suspect, by the lists
 suspect_shown : (v : Layout) (b : List ℕ) (w : Workspace) (x : ℕ) → HoldsClaims v b w →
-    suspect_by w.kinds.items w.marked.items x ≡ is_suspect (volume_of v b) x
+    is_suspect_by w.kinds.items w.marked.items x ≡ is_suspect (volume_of v b) x
 suspect_shown v b w x h = ap (λ k. bool_at w.marked.items x || is_empty_dir_kind k) (h.kinds x)
     ∙ (ap (λ m. m || is_empty_dir_kind (kind_at v b x)) (h.marked x) ∙ sym (suspect_is v b x))
 
@@ -101,7 +102,7 @@ clear_right v b old w k m c silent = record {
       (λ t l. ap (λ d. d && list_any (is_naming_entry x) (roled_entries (volume_of v b) t)) (low_dir (volume_of v b) t
       l))));
   stamps = λ x h. subst (λ n. n < 2) (sym (c.stamps x)) (omega arith);
-  passed_length = sym w.leaders.ok.0 ∙ m.leaders;
+  flags_length = sym w.leaders.ok.0 ∙ m.leaders;
   stamps_length = sym w.queue.ok.0 ∙ m.queue;
   calm = λ x h. silent x (and_parts (bool_at old.leaders.items x) _
       (sym (c.flags x) ∙ (and_parts (not (is_suspect (volume_of v b) x)) (bool_at w.leaders.items x) h).1)).0;

@@ -25,7 +25,7 @@ use Rattle.ffs_volume.specs.Directories.PathnameCheck.{has_wrong_type, entry_lin
 use Rattle.ffs_volume.specs.Directories.PathnameCheck.{is_first_entry_of_suspect}
 use Rattle.ffs_volume.specs.Directories.PathnameCheck.{is_extraneous, named_lines, plain_lines, entry_lines}
 use Rattle.ffs_volume.specs.Directories.PathnameCheck.{lines_of_entries}
-use Rattle.ffs_pathnames.specs.Marks.{Marks, is_passed, is_calm, is_due, after_name, after_roled, named_reported}
+use Rattle.ffs_pathnames.specs.Marks.{Marks, is_flagged, is_calm, is_due, after_name, after_roled, named_reported}
 use Rattle.ffs_pathnames.specs.Marks.{plain_reported, role_reported, entry_lines_of, entries_reported, belongs}
 use Rattle.ffs_pathnames.specs.MarksRight.{AreRight}
 use Rattle.ffs_pathnames.proofs.Places.{size_of, size_more, first_here}
@@ -122,17 +122,17 @@ from_parent_is v s done es e i p = one (e.entry.number == 2) refl (is_value (par
 suspect_same : (v : Volume) (s : ℕ) (done es : List RoledEntry) (e : RoledEntry) (m : Marks) → IsEntry v s done e es →
     e.role ≡ Plain → e.entry.number < v.count → e.entry.number ≢ 1 → AreRight v s done m →
     is_first_entry_of_suspect v s (size_of done) e.entry.number
-    ≡ (is_suspect v e.entry.number && (not (e.entry.number == 2) && not (is_passed m e.entry.number)))
+    ≡ (is_suspect v e.entry.number && (not (e.entry.number == 2) && not (is_flagged m e.entry.number)))
 suspect_same v s done es e m i p h other r = one (is_suspect v e.entry.number) refl (cases_eq e.entry.number 2)
   where
     one : (b : Bool) → is_suspect v e.entry.number ≡ b → (e.entry.number ≡ 2) ⊎ (e.entry.number ≢ 2) →
         (b && (not (e.entry.number == 2) && is_first_naming_entry (graph_of v) s (size_of done) e.entry.number))
-        ≡ (b && (not (e.entry.number == 2) && not (is_passed m e.entry.number)))
+        ≡ (b && (not (e.entry.number == 2) && not (is_flagged m e.entry.number)))
     one false q c = refl
     one true q (inl z) =
         let two : (e.entry.number == 2) ≡ true = eq-eqb e.entry.number 2 z in
         ap (λ b. not b && is_first_naming_entry (graph_of v) s (size_of done) e.entry.number) two
-        ∙ sym (ap (λ b. not b && not (is_passed m e.entry.number)) two)
+        ∙ sym (ap (λ b. not b && not (is_flagged m e.entry.number)) two)
     one true q (inr n) =
         ap (λ b. not (e.entry.number == 2) && b)
         (first_name_is v s done es e i p ∙ sym (ap not (r.passed e.entry.number h q other n)))
@@ -163,7 +163,7 @@ named_same v s done es e m i p h other r =
     (kind_entry (attributes v e.entry.number) (label_of (v.class e.entry.number))
     (entry_path (graph_of v) s e.entry.name))))
     (suspect_same v s done es e m i p h other r)
-    ∙ ap (λ b. reported (is_suspect v e.entry.number && (not (e.entry.number == 2) && not (is_passed m e.entry.number)))
+    ∙ ap (λ b. reported (is_suspect v e.entry.number && (not (e.entry.number == 2) && not (is_flagged m e.entry.number)))
     (message_on_suspect v e.entry.number (entry_path (graph_of v) s e.entry.name))
     ++ (reported b (extraneous (entry_path (graph_of v) s e.entry.name) (dir_path (graph_of v) e.entry.number))
     ++ reported (has_wrong_type v e.entry)
@@ -279,7 +279,7 @@ skips v s done e m t r = record {
       (sym (not_named (is_naming_entry x) done e (not_counted v e x t h)));
   due = λ x h. r.due x h ∙ ap (λ b. belongs v s x && not b)
       (sym (not_named (is_naming_entry x) done e (not_counted v e x t h)));
-  passed_length = r.passed_length;
+  flags_length = r.flags_length;
   stamps_length = r.stamps_length;
 }
 
@@ -305,37 +305,37 @@ flags_long v n flags = one (is_suspect v n)
 pub calm_name : (v : Volume) (s n x : ℕ) (m : Marks) → is_calm v (after_name v s m n) x ≡ is_calm v m x
 calm_name v s n x m = elim (cases_eq x n) [
   | inl z ↦ same (is_suspect v n) refl z
-  | inr o ↦ ap (λ b. not (is_suspect v x) && b) (other_flag v n x m.passed o)
+  | inr o ↦ ap (λ b. not (is_suspect v x) && b) (other_flag v n x m.flags o)
 ]
   where
     same : (b : Bool) → is_suspect v n ≡ b → x ≡ n →
-        (not (is_suspect v x) && slice_index_or (if b then slice_set m.passed n true else m.passed) x false)
+        (not (is_suspect v x) && slice_index_or (if b then slice_set m.flags n true else m.flags) x false)
         ≡ is_calm v m x
     same false q z = refl
     same true q z =
         let suspect : is_suspect v x ≡ true = ap (is_suspect v) z ∙ q in
-        ap (λ b. not b && slice_index_or (slice_set m.passed n true) x false) suspect
-        ∙ sym (ap (λ b. not b && is_passed m x) suspect)
+        ap (λ b. not b && slice_index_or (slice_set m.flags n true) x false) suspect
+        ∙ sym (ap (λ b. not b && is_flagged m x) suspect)
 
 name_passed : (v : Volume) (s : ℕ) (done : List RoledEntry) (e : RoledEntry) (m : Marks) → e.role ≡ Plain →
     e.entry.number < v.count → AreRight v s done m →
     (x : ℕ) → x < v.count → is_suspect v x ≡ true → x ≢ 1 → x ≢ 2 →
-    is_passed (after_name v s m e.entry.number) x
+    is_flagged (after_name v s m e.entry.number) x
     ≡ (some_below (λ t. is_naming_dir (graph_of v) t x) s || list_any (is_naming_entry x) (done ++ e ∷ []))
 name_passed v s done e m p low r x h q u n = elim (cases_eq x e.entry.number) [
   | inl z ↦
-      let inside : e.entry.number < length m.passed = subst (λ k. e.entry.number < k) (sym r.passed_length) low in
+      let inside : e.entry.number < length m.flags = subst (λ k. e.entry.number < k) (sym r.flags_length) low in
       let named : is_naming_entry x e ≡ true = and_from (is_plain e.role) (e.entry.number == x) (ap is_plain p)
       (eq-eqb e.entry.number x (sym z)) in
       let suspect : is_suspect v e.entry.number ≡ true = sym (ap (is_suspect v) z) ∙ q in
-      ap (λ b. slice_index_or (if b then slice_set m.passed e.entry.number true else m.passed) x false) suspect
-      ∙ (ap (λ k. slice_index_or (slice_set m.passed e.entry.number true) k false) z
-      ∙ (get_or-set_same m.passed e.entry.number true false inside
+      ap (λ b. slice_index_or (if b then slice_set m.flags e.entry.number true else m.flags) x false) suspect
+      ∙ (ap (λ k. slice_index_or (slice_set m.flags e.entry.number true) k false) z
+      ∙ (get_or-set_same m.flags e.entry.number true false inside
       ∙ sym (ap (λ b. some_below (λ t. is_naming_dir (graph_of v) t x) s || b) (is_named (is_naming_entry x) done e
       named)
       ∙ or_true (some_below (λ t. is_naming_dir (graph_of v) t x) s))))
   | inr o ↦
-      other_flag v e.entry.number x m.passed o
+      other_flag v e.entry.number x m.flags o
       ∙ (r.passed x h q u n ∙ ap (λ b. some_below (λ t. is_naming_dir (graph_of v) t x) s || b)
       (sym (not_named (is_naming_entry x) done e (other_number x e o))))
 ]
@@ -403,7 +403,7 @@ right_after v s done e m two r = one (is_plain e.role && nat_lt e.entry.number v
         record {
           passed = name_passed v s done e m p low r;
           due = name_due v s done e m two p low r;
-          passed_length = flags_long v e.entry.number m.passed ∙ r.passed_length;
+          flags_length = flags_long v e.entry.number m.flags ∙ r.flags_length;
           stamps_length = stamps_long s e.entry.number m.stamps ∙ r.stamps_length;
         }
 

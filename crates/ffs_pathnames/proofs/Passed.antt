@@ -5,14 +5,14 @@ use Rattle.ffs_volume.specs.Directories.Roles.{Volume, RoledEntry}
 use Rattle.ffs_pathnames.specs.Marks.{Marks, after_roled}
 
 abbrev with_marks : List Bool → List ℕ → Marks
-with_marks p s = record { passed = p; stamps = s }
+with_marks p s = record { flags = p; stamps = s }
 
 pub passes : (v : Volume) (d : ℕ) (e : RoledEntry) (p0 p1 p2 p3 : List Bool) (s0 s1 s2 s3 : List ℕ) → p1 ≡ p0 → s1 ≡ s0
     →
-    after_roled v d (record { passed = p1; stamps = s1 }) e ≡ record { passed = p2; stamps = s2 } → p3 ≡ p2 → s3 ≡ s2 →
-    after_roled v d (record { passed = p0; stamps = s0 }) e ≡ record { passed = p3; stamps = s3 }
+    after_roled v d (record { flags = p1; stamps = s1 }) e ≡ record { flags = p2; stamps = s2 } → p3 ≡ p2 → s3 ≡ s2 →
+    after_roled v d (record { flags = p0; stamps = s0 }) e ≡ record { flags = p3; stamps = s3 }
 passes v d e p0 p1 p2 p3 s0 s1 s2 s3 p s law q t =
-    ap (λ x. after_roled v d (record { passed = x; stamps = s0 }) e) (sym p)
-    ∙ (ap (λ x. after_roled v d (record { passed = p1; stamps = x }) e) (sym s)
+    ap (λ x. after_roled v d (record { flags = x; stamps = s0 }) e) (sym p)
+    ∙ (ap (λ x. after_roled v d (record { flags = p1; stamps = x }) e) (sym s)
     ∙ (law
     ∙ (ap (λ x. with_marks x s2) (sym q) ∙ ap (λ x. with_marks p3 x) (sym t))))

@@ -10,16 +10,13 @@ use Rattle.ffs_workspace.specs.Leaves.{LeavesSurvey}
 use Rattle.ffs_volume.specs.Encodings.Kinds.{is_dir_kind, is_empty_dir_kind}
 use Rattle.ffs_pathnames.specs.Gathers.{marks_of}
 use Rattle.ffs_pathnames.specs.MarksRight.{AreRightBefore}
-
--- x is marked, or a directory of size 0
-abbrev pub suspect_by : List ℕ → List Bool → ℕ → Bool
-suspect_by kinds marked x = bool_at marked x || is_empty_dir_kind (slice_index kinds x)
+use Rattle.ffs_pathnames.specs.Sees.{is_suspect_by}
 
 -- what was found stays; the flags of suspect inodes are taken away, and no others; nothing is stamped
 pub record AreClear (old new : Workspace) : Type 0 where
   pub survey : LeavesSurvey old new
   pub flags : (x : ℕ) → bool_at new.leaders.items x
-      ≡ (bool_at old.leaders.items x && not (suspect_by old.kinds.items old.marked.items x))
+      ≡ (bool_at old.leaders.items x && not (is_suspect_by old.kinds.items old.marked.items x))
   pub stamps : (x : ℕ) → slice_index new.queue.items x ≡ 0
 
 -- the image gives the bytes, the workspace holds what the block check and the survey leave, and its marks are right

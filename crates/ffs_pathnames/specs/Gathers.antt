@@ -14,7 +14,7 @@ use Rattle.ffs_pathnames.specs.declared.verdict.Verdict.{Verdict}
 use Rattle.ffs_pathnames.specs.declared.verdict.Verdict.TheVariants.{OutOfRange, Whiteout, Fine, Unallocated, Named}
 use Rattle.ffs_pathnames.specs.Verdicts.{verdict_reported}
 use Rattle.ffs_workspace.specs.declared.workspace.Workspace.{Workspace}
-use Rattle.ffs_pathnames.specs.Marks.{Marks, is_due, is_passed, plain_reported}
+use Rattle.ffs_pathnames.specs.Marks.{Marks, is_due, is_flagged, plain_reported}
 use Rattle.ffs_pathnames.specs.Sees.{Sees}
 
 -- the messages are the same as with the volume's own attributes and paths
@@ -26,7 +26,7 @@ IsEnough v verdict dir number name about path directory =
 
 -- the marks that a workspace holds during the pathname check
 abbrev pub marks_of : Workspace → Marks
-marks_of w = record { passed = w.leaders.items; stamps = w.queue.items }
+marks_of w = record { flags = w.leaders.items; stamps = w.queue.items }
 
 -- whether the messages show the attributes of the inode that the entry names, and its path
 abbrev pub asks_attr : Verdict → Bool
@@ -54,7 +54,7 @@ is_silent (Named n) = not (n.suspect || (n.extraneous || n.kind))
 -- what is wrong with an allocated inode that the entry e of the directory s names, by the lists and by the marks
 pub record AreFaultsOf (i : Inodes) (s : ℕ) (m : Marks) (e : Entry) (n : Faults) : Type 0 where
   pub suspect : (v : Volume) → Sees v i
-      → n.suspect ≡ (is_suspect v e.number && (not (e.number == 2) && not (is_passed m e.number)))
+      → n.suspect ≡ (is_suspect v e.number && (not (e.number == 2) && not (is_flagged m e.number)))
   pub marked : (v : Volume) → Sees v i → n.marked ≡ v.marked e.number
   pub extraneous : (v : Volume) → Sees v i → n.extraneous ≡ (is_dir v e.number && not (is_due s m e.number))
   pub kind : (v : Volume) → Sees v i → IsTrue (is_allocated (v.class e.number)) → n.kind ≡ has_wrong_type v e

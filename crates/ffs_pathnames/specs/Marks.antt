@@ -19,15 +19,15 @@ use Rattle.ffs_volume.specs.Directories.PathnameCheck.{message_on_suspect, has_w
 -- of each inode a flag, and a directory whose entries to come have its parent entry; the flag of a suspect inode says
 -- that a plain entry has named it, that of any other that it is calm
 pub record Marks : Type 0 where
-  pub passed : List Bool
+  pub flags : List Bool
   pub stamps : List ℕ
 
-abbrev pub is_passed : Marks → ℕ → Bool
-is_passed m x = slice_index_or m.passed x false
+abbrev pub is_flagged : Marks → ℕ → Bool
+is_flagged m x = slice_index_or m.flags x false
 
 -- x is no suspect inode, and its flag says that nothing can be reported of it as a directory
 abbrev pub is_calm : Volume → Marks → ℕ → Bool
-is_calm v m x = not (is_suspect v x) && is_passed m x
+is_calm v m x = not (is_suspect v x) && is_flagged m x
 
 -- the parent entry of x is still to come in s
 abbrev pub is_due : ℕ → Marks → ℕ → Bool
@@ -36,7 +36,7 @@ is_due s m x = slice_index m.stamps x == s
 -- a plain entry of s that names x is passed
 abbrev pub after_name : Volume → ℕ → Marks → ℕ → Marks
 after_name v s m x = record {
-  passed = if is_suspect v x then slice_set m.passed x true else m.passed;
+  flags = if is_suspect v x then slice_set m.flags x true else m.flags;
   stamps = if is_due s m x then slice_set m.stamps x 0 else m.stamps;
 }
 
@@ -47,7 +47,7 @@ after_roled v s m e = if is_plain e.role && nat_lt e.entry.number v.count then a
 abbrev pub named_reported : Volume → ℕ → Marks → Entry → List TreeMessage
 named_reported v s m e =
     let path = entry_path (graph_of v) s e.name in
-    reported (is_suspect v e.number && (not (e.number == 2) && not (is_passed m e.number)))
+    reported (is_suspect v e.number && (not (e.number == 2) && not (is_flagged m e.number)))
     (message_on_suspect v e.number path)
     ++ (reported (is_dir v e.number && not (is_due s m e.number)) (extraneous path (dir_path (graph_of v) e.number))
     ++ reported (has_wrong_type v e) (kind_entry (attributes v e.number) (label_of (v.class e.number)) path))

@@ -23,11 +23,13 @@ pub record PhaseLeaves {T : Type 0} (v : Layout) (d d' : Device) (w w' : Workspa
   pub survey : LeavesSurvey w w'
   pub ready : ReadyAfter v d' w' s result
 
--- the same of a call that changes nothing of the workspace but its windows
+-- the same of a call that changes nothing of the workspace but its windows; the chunk of the current directory is as
+-- it was
 pub record LinesLeave {T : Type 0} (v : Layout) (d d' : Device) (w w' : Workspace) (s : Siblings)
     (result : Result T RunFault) : Type 0 where
   pub image : ImageAfter d d' result
   pub lists : w' ≡ record w { windows = w'.windows }
+  pub chunk : w'.windows.chunk ≡ w.windows.chunk
   pub ready : ReadyAfter v d' w' s result
 
 -- what the check of all directories leaves
@@ -37,9 +39,10 @@ pub record TreeLeaves {T : Type 0} (v : Layout) (d d' : Device) (w w' : Workspac
   pub survey : LeavesSurvey w w'
   pub ready : IsReady v d' w'
 
--- what a line leaves for which an inode is read
+-- what a line leaves for which an inode is read; the chunk of the current directory is as it was
 pub record LineLeaves {T : Type 0} (v : Layout) (d d' : Device) (w w' : Workspace) (result : Result T RunFault) :
     Type 0 where
   pub image : ImageAfter d d' result
   pub lists : w' ≡ record w { windows = w'.windows }
+  pub chunk : w'.windows.chunk ≡ w.windows.chunk
   pub ready : IsReady v d' w'

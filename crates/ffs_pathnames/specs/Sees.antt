@@ -10,22 +10,26 @@ use Rattle.ffs_volume.specs.Encodings.Kinds.{is_unknown_kind, type_of_kind, clas
 use Rattle.ffs_workspace.specs.Holds.{bool_at}
 use Rattle.ffs_pathnames.specs.declared.inodes.Inodes.{Inodes}
 
+-- x is marked, or a directory of size 0
+abbrev pub is_suspect_by : List ℕ → List Bool → ℕ → Bool
+is_suspect_by kinds marked x = bool_at marked x || is_empty_dir_kind (slice_index kinds x)
+
 -- of each inode its kind, whether it is marked, and its parent
 pub record Sees (v : Volume) (i : Inodes) : Type 0 where
   pub count : v.count ≡ length i.kinds.now
   pub dir : (x : ℕ) → is_dir v x ≡ is_dir_kind (slice_index i.kinds.now x)
   pub allocated : (x : ℕ) → is_allocated (v.class x) ≡ is_allocated_kind (slice_index i.kinds.now x)
   pub unknown : (x : ℕ) → is_unknown (v.class x) ≡ is_unknown_kind (slice_index i.kinds.now x)
-  pub suspect : (x : ℕ) → is_suspect v x ≡ (bool_at i.marked.now x || is_empty_dir_kind (slice_index i.kinds.now x))
+  pub suspect : (x : ℕ) → is_suspect v x ≡ is_suspect_by i.kinds.now i.marked.now x
   pub marked : (x : ℕ) → v.marked x ≡ bool_at i.marked.now x
   pub kind : (x : ℕ) → is_allocated (v.class x) ≡ true → is_unknown (v.class x) ≡ false
       → type_of_kind (slice_index i.kinds.now x) ≡ (v.inode x).mode / 4096
   pub class : (x : ℕ) → is_allocated (v.class x) ≡ true → v.class x ≡ class_of_kind (slice_index i.kinds.now x)
   pub parent_is : (x s : ℕ) → 2 ≤ s → is_value (parent (graph_of v) x) s ≡ (slice_index i.parents.now.items x == s)
 
--- each inode has a mark of whether it is passed, and a stamp
-pub record CanMark (i : Inodes) (passed : List Bool) (stamps : List ℕ) : Type 0 where
-  pub passed_long : length passed ≡ length i.kinds.now
+-- each inode has a flag and a stamp
+pub record CanMark (i : Inodes) (flags : List Bool) (stamps : List ℕ) : Type 0 where
+  pub flags_long : length flags ≡ length i.kinds.now
   pub stamps_long : length stamps ≡ length i.kinds.now
 
 -- each inode has a stamp, and the directory that stamps is the root or one after it

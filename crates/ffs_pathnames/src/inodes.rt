@@ -1,5 +1,5 @@
 //! What is known of the inodes that entries name.
-ghost use Rattle.std.specs.Prelude.{◌≡◌, ◌<◌, length, slice_index, vec_len, ◌==◌, ◌||◌, ◌&&◌, not};
+ghost use Rattle.std.specs.Prelude.{◌≡◌, ◌<◌, length, slice_index, vec_len, ◌==◌, ◌&&◌, not};
 
 use ffs_memory::FilledList;
 use ffs_volume::constants::ROOTINO;
@@ -20,8 +20,8 @@ pub struct Inodes<'a> {
 }
 
 impl<'a> Inodes<'a> {
-    ghost use Rattle.ffs_volume.specs.Encodings.Kinds.{is_dir_kind, is_empty_dir_kind, is_allocated_kind, is_unknown_kind, type_of_kind};
-    ghost use Rattle.ffs_workspace.specs.Holds.{bool_at};
+    ghost use Rattle.ffs_volume.specs.Encodings.Kinds.{is_dir_kind, is_allocated_kind, is_unknown_kind, type_of_kind};
+    ghost use Rattle.ffs_pathnames.specs.Sees.{is_suspect_by};
 
     /// How many inodes there are.
     pub fn count(&self) -> u32
@@ -51,8 +51,7 @@ impl<'a> Inodes<'a> {
     /// Whether the inode is marked, or a directory of size 0.
     pub fn is_suspect(&self, inode: u32) -> bool
         requires { inode < length self.now.kinds.now }
-        ensures { result ≡ (bool_at self.now.marked.now inode
-            || is_empty_dir_kind (slice_index self.now.kinds.now inode)) }
+        ensures { result ≡ is_suspect_by self.now.kinds.now self.now.marked.now inode }
     {
         self.marked[inode as usize] || self.kind(inode).is_empty_dir()
     }

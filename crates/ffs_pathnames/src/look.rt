@@ -98,23 +98,6 @@ pub fn is_quiet(
     }
 }
 
-/// Whether nothing is reported of an entry, nor of those before it. After one with a line, no other is asked.
-fn stays_quiet(
-    quiet: bool,
-    inodes: &Inodes<'_>,
-    dir: u32,
-    stamps: &FilledList<u32>,
-    role: Role,
-    entry: &Entry<'_>,
-) -> bool
-    requires stamps { CanStamp inodes.now dir stamps.now.items }
-    ensures { (v : Volume) → Sees v inodes.now → result
-        ≡ (quiet && marks.is_quiet v dir stamps.now.items
-        (record { role = role; entry = entry_value entry.now })) }
-{
-    quiet && is_quiet(inodes, dir, stamps, role, entry)
-}
-
 /// Stamps the inode that an entry names, if it belongs to the directory.
 pub fn stamp(
     inodes: &Inodes<'_>,
@@ -168,7 +151,8 @@ pub fn look_chunk(
     let mut quiet = true;
     'entries: while let Some(entry) = entry_at(order, chunk, place) {
         let role = role_of(first, index, &entry);
-        quiet = stays_quiet(quiet, inodes, dir, stamps, role, &entry);
+        // After an entry with a line the answer for the chunk is known, so no other is asked.
+        quiet = quiet && is_quiet(inodes, dir, stamps, role, &entry);
         stamp(inodes, dir, stamps, role, &entry);
         place += usize::from(entry.length);
         index += 1;

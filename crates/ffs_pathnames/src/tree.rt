@@ -25,8 +25,8 @@ use ffs_report::{Output, Report};
 use ffs_volume::constants::{DT_DIR, ROOTINO};
 use ffs_workspace::Workspace;
 
-/// Whether an inode is a directory that isn't of size 0, and that isn't known to be calm: the flag of a marked one says
-/// that it is passed.
+/// Whether an inode is a directory that isn't of size 0 and isn't known to be calm. The flag of a
+/// marked one says that an entry has named it.
 fn is_looked_at(workspace: &Workspace, number: u32) -> bool
     requires kinds { number < vec_len workspace.now.kinds }
     requires lists { AreAsLong workspace.now }

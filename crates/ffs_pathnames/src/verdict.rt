@@ -47,17 +47,17 @@ pub enum Verdict {
 fn faults_of(
     inodes: &Inodes<'_>,
     dir: u32,
-    passed: &[bool],
+    flags: &[bool],
     stamps: &FilledList<u32>,
     entry: &Entry<'_>,
 ) -> Faults
     requires inode { entry.now.number < length inodes.now.kinds.now }
-    requires marks { CanMark inodes.now passed.now stamps.now.items }
-    ensures { AreFaultsOf inodes.now dir (record { passed = passed.now; stamps = stamps.now.items })
+    requires marks { CanMark inodes.now flags.now stamps.now.items }
+    ensures { AreFaultsOf inodes.now dir (record { flags = flags.now; stamps = stamps.now.items })
         (entry_value entry.now) result }
 {
     let index = entry.number as usize;
-    let suspect = inodes.is_suspect(entry.number) && entry.number != ROOTINO && !passed[index];
+    let suspect = inodes.is_suspect(entry.number) && entry.number != ROOTINO && !flags[index];
     let extraneous = inodes.is_dir(entry.number) && stamps[index] != dir;
     Faults {
         suspect,
@@ -72,12 +72,12 @@ fn faults_of(
 pub fn entry_verdict(
     inodes: &Inodes<'_>,
     dir: u32,
-    passed: &[bool],
+    flags: &[bool],
     stamps: &FilledList<u32>,
     entry: &Entry<'_>,
 ) -> Verdict
-    requires { CanMark inodes.now passed.now stamps.now.items }
-    ensures { IsVerdictBy inodes.now dir (record { passed = passed.now; stamps = stamps.now.items })
+    requires { CanMark inodes.now flags.now stamps.now.items }
+    ensures { IsVerdictBy inodes.now dir (record { flags = flags.now; stamps = stamps.now.items })
         (entry_value entry.now) result }
 {
     if entry.number >= inodes.count() {
@@ -92,24 +92,24 @@ pub fn entry_verdict(
     if !inodes.is_allocated(entry.number) {
         return Verdict::Unallocated;
     }
-    Verdict::Named(faults_of(inodes, dir, passed, stamps, entry))
+    Verdict::Named(faults_of(inodes, dir, flags, stamps, entry))
 }
 
-/// A plain entry that names an inode is passed. Only a suspect inode is flagged: the flag of any other says that it is
-/// calm.
+/// Passes a plain entry: flags the inode that it names, if that is suspect (the flag of any other
+/// says that it is calm), and takes its stamp away where it is the directory's.
 pub fn pass(
     inodes: &Inodes<'_>,
     dir: u32,
-    passed: &mut [bool],
+    flags: &mut [bool],
     stamps: &mut FilledList<u32>,
     role: Role,
     entry: &Entry<'_>,
 )
-    requires { CanMark inodes.now passed.old stamps.old.items }
+    requires { CanMark inodes.now flags.old stamps.old.items }
     ensures after { (v : Volume) → Sees v inodes.now →
-        marks.after_roled v dir (record { passed = passed.old; stamps = stamps.old.items })
+        marks.after_roled v dir (record { flags = flags.old; stamps = stamps.old.items })
         (record { role = role; entry = entry_value entry.now })
-        ≡ record { passed = passed.new; stamps = stamps.new.items } }
+        ≡ record { flags = flags.new; stamps = stamps.new.items } }
     ensures stamps_long { vec_len stamps.new ≡ vec_len stamps.old }
 {
     if role != Role::Plain {
@@ -120,7 +120,7 @@ pub fn pass(
     }
     let index = entry.number as usize;
     if inodes.is_suspect(entry.number) {
-        passed[index] = true;
+        flags[index] = true;
     }
     if stamps[index] == dir {
         stamps.set(index, 0);

@@ -81,5 +81,5 @@ returns-clause-marks g c = λ b k.
     (c.as_mut_slice.ensures.value ∙ ap (λ (w : Workspace). w.leaders.items) left)
     (ap (λ (w : Workspace). w.queue.items) left)
     (c.pass.ensures.after (volume_of v b) shows)
-    (with_items_is here.leaders c.pass.new.passed (c.pass.auto.passed ∙ c.as_mut_slice.ensures.len))
+    (with_items_is here.leaders c.pass.new.flags (c.pass.auto.flags ∙ c.as_mut_slice.ensures.len))
     refl

@@ -41,12 +41,13 @@ line_leaves : {T : Type 0} (v : Layout) (d d' : Device) (w w' : Workspace) (s : 
 line_leaves v d d' w w' s (Ok x) k l = record {
   image = l.image;
   lists = l.lists;
+  chunk = l.chunk;
   ready = record {
     ready = l.ready;
     siblings = siblings_on v _ _ w w' s (ap (λ (q : Device). q.contents) l.image) (windows_leave w w' l.lists) k;
   };
 }
-line_leaves v d d' w w' s (Err e) k l = record { image = l.image; lists = l.lists; ready = l.ready }
+line_leaves v d d' w w' s (Err e) k l = record { image = l.image; lists = l.lists; chunk = l.chunk; ready = l.ready }
 
 pub returns-in-Extra-clause-leaves : goal.returns-in-Extra-clause-leaves
 returns-in-Extra-clause-leaves g c =

@@ -1,13 +1,11 @@
 use Rattle.std.proofs.Common.{◌<◌, ◌^◌, refl, sym, ap, subst, ◌∙◌, ◌==◌}
 use Rattle.std.proofs.lemmas.List.{get_or_read_under}
-use Rattle.std.specs.List.{flat_map, find}
-use Rattle.ffs_volume.specs.Directories.Roles.{roled_chunk}
+use Rattle.std.specs.List.{find}
 use Rattle.ffs_volume.specs.Directories.PathnameCheck.{are_sound}
 use Rattle.ffs_volume.specs.Blocks.Inodes.{inode_of}
 use Rattle.ffs_volume.specs.Directories.Volumes.{volume_of}
 use Rattle.ffs_names.proofs.DirLaws.{dir_is, dir_size}
 use Rattle.ffs_pathnames.specs.Marks.{are_quiet, after_looks}
-use Rattle.ffs_pathnames.specs.Reads.{chunks_read}
 use Rattle.ffs_pathnames.proofs.ChunkLaws.{chunks_are, gap_is, seen_are}
 use Rattle.ffs_pathnames.proofs.SeesLaws.{sees}
 use Rattle.ffs_pathnames.proofs.examine.examine.Goals as goal

@@ -1,9 +1,12 @@
-use Rattle.std.proofs.Common.{◌+◌, ◌∙◌, arith}
-use Rattle.ffs_volume.specs.Directories.Roles.{RoledEntry}
+use Rattle.std.proofs.Common.{◌≡◌, ◌+◌, ◌&&◌, ◌∙◌, arith}
+use Rattle.ffs_volume.specs.Directories.Roles.{RoledEntry, Volume}
 use Rattle.ffs_layout.specs.Entry.{entry_value}
+use Rattle.ffs_pathnames.specs.Marks.{is_quiet}
+use Rattle.ffs_pathnames.specs.Sees.{Sees}
 use Rattle.ffs_pathnames.proofs.Looking.{roled_at_place, seen_next, quiet_on, stamps_on, length_on, quiet_ends}
 use Rattle.ffs_pathnames.proofs.Looking.{stamps_end, length_ends, none}
 use Rattle.ffs_pathnames.proofs.look.look_chunk.Goals as goal
+use Rattle.ffs_pathnames.proofs.look.look_chunk.Goals.{then-quiet, else-quiet}
 
 pub entries-preserved : goal.entries-preserved
 entries-preserved c =
@@ -15,6 +18,11 @@ entries-preserved c =
     let next = seen_next c.args.order c.args.chunk.now c.args.first c.entries.index c.entries.place e
     c.role_of-role.result there c.role_of-role.ensures in
     let seen : RoledEntry = record { role = c.role_of-role.result; entry = e } in
+    let still : (v : Volume) → Sees v c.args.inodes.now → c.if-quiet.quiet
+    ≡ (c.entries.quiet && is_quiet v c.args.dir c.entries.stamps.items seen) = λ v s. elim c.if-quiet.branch [
+      | then-quiet w ↦ rw w.if-quiet.true (w.quiet-is ∙ w.is_quiet-quiet.ensures v s)
+      | else-quiet w ↦ rw w.if-quiet.false (w.quiet-is ∙ w.if-quiet.false)
+    ] in
     rw c.from-place.ensures (record {
       place = omega arith;
       index = omega arith;
@@ -23,7 +31,7 @@ entries-preserved c =
           (roled_at_place c.args.order c.args.chunk.now c.args.first c.entries.index c.entries.place)
           (roled_at_place c.args.order c.args.chunk.now c.args.first (c.entries.index + 1)
           (c.entries.place + c.in-Some.entry.length))
-          _ c.entries.quiet c.stays_quiet-quiet.result next (c.stays_quiet-quiet.ensures v s)
+          _ c.entries.quiet c.if-quiet.quiet next (still v s)
           (c.stamp.ensures.after v s) (c.entries.invariant.quiet v s);
       stamps = λ v s. stamps_on v c.args.dir c.entries.stamps.items c.stamp.new.stamps.items _ seen
           (roled_at_place c.args.order c.args.chunk.now c.args.first c.entries.index c.entries.place)

@@ -21,7 +21,7 @@ returns-in_err-put_path-clause-leaves g c =
     let left = c.in_err-put_path.ensures.leaves.reads in
     let p = err_from_is_err_and c.from_residual.result c.from_residual.ensures.1 in
     rw (p.1, p.2) (record {
-      reads = record { lists = left.lists; ready = left.ready; read = left.read };
+      reads = record { lists = left.lists; chunk = left.chunk; ready = left.ready; read = left.read };
       siblings = tt;
     })
 
@@ -45,8 +45,8 @@ returns-in_err-attr-clause-leaves g c =
     let left = c.in_err-attr.ensures.reads in
     let p = err_from_is_err_and c.from_residual-in_err-attr.result c.from_residual-in_err-attr.ensures.1 in
     rw (p.1, p.2) (record {
-      reads = reads_more _ _ _ _ _ _ _ _ path.reads.read path.reads.lists
-          (record { lists = left.lists; ready = left.ready; read = left.read });
+      reads = reads_more _ _ _ _ _ _ _ _ path.reads.read path.reads.lists path.reads.chunk
+          (record { lists = left.lists; chunk = left.chunk; ready = left.ready; read = left.read });
       siblings = tt;
     })
 

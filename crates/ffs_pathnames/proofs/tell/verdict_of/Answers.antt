@@ -18,6 +18,6 @@ returns-clause-verdict c = λ v b made h r.
     record {
       linked = c.entry_verdict.ensures.linked (volume_of v b) shows;
       reported = sym (ap (λ ms. plain_reported (volume_of v b) c.args.dir
-          (record { passed = ms; stamps = w.queue.items }) e) c.as_slice-3.ensures.value)
+          (record { flags = ms; stamps = w.queue.items }) e) c.as_slice-3.ensures.value)
           ∙ c.entry_verdict.ensures.reported (volume_of v b) shows;
     }
