@@ -115,9 +115,11 @@ returns-in_err-inode-clause-reader g c =
           table = c.inode_by_part.ensures.kept.made;
           blocks = r.blocks;
           chunk = r.chunk;
+          names = r.names;
           table_holds = c.inode_by_part.ensures.kept.holds;
           blocks_hold = rw err.contents r.blocks_hold;
           chunk_holds = rw err.contents r.chunk_holds;
+          names_hold = rw err.contents r.names_hold;
           kinds_long = r.kinds_long;
           cut_long = r.cut_long;
         },
