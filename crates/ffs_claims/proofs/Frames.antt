@@ -97,6 +97,7 @@ offers_claimed v w map kept made size = record {
       table = made.table;
       blocks = made.blocks;
       chunk = made.chunk;
+      names = made.names;
     };
     windows = refl;
     found = record { kinds = refl; marked = refl; cut = refl; references = refl; again = refl };
