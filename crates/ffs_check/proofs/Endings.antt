@@ -20,7 +20,7 @@ use Rattle.ffs_phase.specs.declared.fault.RunFault.{RunFault}
 use Rattle.ffs_phase.specs.declared.fault.RunFault.TheVariants.{Read, Out}
 use Rattle.ffs_pathnames.specs.declared.phase.Root.{Root}
 use Rattle.ffs_pathnames.specs.GoesOn.{is_go}
-use Rattle.ffs_check.specs.Ends.{IsCut, ReportsBefore, Ran, RunsThrough}
+use Rattle.ffs_check.specs.Ends.{IsCut, ReportsBefore, PhasesRan, RunsThrough}
 use Rattle.ffs_check.specs.PhaseEnds.{FaultReported, EndsAs}
 use Rattle.ffs_check.proofs.Openings.{broke_off, broke_in_line}
 
@@ -43,7 +43,7 @@ module _ (before : Bool) (knows : List ℕ → Type 0) (lines : List ℕ → Lis
   -- all was said
   whole : (root : Root) → ReportsBefore knows lines a b (Ok root) → image' ≡ image →
       ForBytes knows (λ bytes. is_go root ≡ goes bytes) → EndsAs before b c (Ok root) end →
-      Ran before knows lines goes image image' a c end
+      PhasesRan before knows lines goes image image' a c end
   whole root p still went e = record {
     text = p.messages;
     right = λ bytes k. sym (append-nil p.messages) ∙ p.right bytes k;
@@ -70,7 +70,7 @@ module _ (before : Bool) (knows : List ℕ → Type 0) (lines : List ℕ → Lis
   cut : (sector : ℕ) (prefix : List Message) (rest : List ℕ → List Message) →
       ForBytes knows (λ bytes. prefix ++ rest bytes ≡ lines bytes) →
       ForBytes knows (λ bytes. 0 < length (rest bytes)) → Said a b prefix → Faulted image image' sector →
-      FaultReported b c sector end → Ran before knows lines goes image image' a c end
+      FaultReported b c sector end → PhasesRan before knows lines goes image image' a c end
   cut sector prefix rest right more said f (inl reported) = record {
     text = prefix ++ at_reported image.contents rest;
     right = λ bytes k. ap (λ more. prefix ++ more) (at_reported_is image.contents rest bytes (tells bytes k))
@@ -101,7 +101,7 @@ module _ (before : Bool) (knows : List ℕ → Type 0) (lines : List ℕ → Lis
   -- the output failed
   part : (prefix : List Message) (rest : List ℕ → List Message) →
       ForBytes knows (λ bytes. prefix ++ rest bytes ≡ lines bytes) → Stopped a b prefix → image' ≡ image →
-      c ≡ b → end ≡ WriteFault → Ran before knows lines goes image image' a c end
+      c ≡ b → end ≡ WriteFault → PhasesRan before knows lines goes image image' a c end
   part prefix rest right stopped still same e = record {
     text = prefix ++ at_reported image.contents rest;
     right = λ bytes k. ap (λ more. prefix ++ more) (at_reported_is image.contents rest bytes (tells bytes k))
@@ -116,7 +116,7 @@ module _ (before : Bool) (knows : List ℕ → Type 0) (lines : List ℕ → Lis
 
   pub ran : (r : Result Root RunFault) → ReportsBefore knows lines a b r → ImageAfter image image' r →
       IfOk r (λ root. ForBytes knows (λ bytes. is_go root ≡ goes bytes)) → EndsAs before b c r end →
-      Ran before knows lines goes image image' a c end
+      PhasesRan before knows lines goes image image' a c end
   ran (Ok root) p still went e = whole root p still went e
   ran (Err (Read fault)) p f went e = cut fault.sector p.prefix.messages p.rest p.prefix.right p.more p.prefix.said f e
   ran (Err (Out fault)) p still went e = part p.messages p.rest p.right p.stopped still e.0 e.1
@@ -125,7 +125,7 @@ module _ (before : Bool) (knows : List ℕ → Type 0) (lines : List ℕ → Lis
 pub runs_through : (before : Bool) (reported : List Message) → before ≡ has_defect reported →
     (knows : List ℕ → Type 0) (lines : List ℕ → List Message) (goes : List ℕ → Bool) (image image' : Device)
     (output : GName) (sink : Sink) (new : Progress) (end : End) →
-    Ran before knows lines goes image image' (starts output sink) new end →
+    PhasesRan before knows lines goes image image' (starts output sink) new end →
     RunsThrough reported knows lines goes image image' sink new.sink end
 runs_through before reported e knows lines goes image image' output sink new end ran = record {
   text = ran.text;
@@ -183,7 +183,7 @@ cut_knows knows known text said image image' sector more c = record {
 
 pub ran_knows : (before : Bool) (knows known : List ℕ → Type 0) (lines : List ℕ → List Message) (goes : List ℕ → Bool)
     (image image' : Device) (a b : Progress) (end : End) → ForBytes knows known →
-    Ran before known lines goes image image' a b end → Ran before knows lines goes image image' a b end
+    PhasesRan before known lines goes image image' a b end → PhasesRan before knows lines goes image image' a b end
 ran_knows before knows known lines goes image image' a b end more ran = record {
   text = ran.text;
   right = λ bytes k. ran.right bytes (more bytes k);

@@ -19,7 +19,7 @@ use Rattle.ffs_report.specs.Sink.{Sink, Took}
 use Rattle.ffs_report.specs.Progress.{Progress, Said, starts}
 use Rattle.ffs_report.proofs.Reports.{said_then, stopped_after}
 use Rattle.ffs_layout.specs.declared.superblock.Super.{Super}
-use Rattle.ffs_layout.specs.Super.{Answers, seen}
+use Rattle.ffs_layout.specs.Super.{ReadsSuper, seen}
 use Rattle.ffs_phase.specs.Known.{IsContents}
 use Rattle.ffs_check.specs.Opening.{Opened}
 use Rattle.ffs_check.specs.Ends.{IsCut, SaidWhole, SaidCut, SaidPart, SaidInLine}
@@ -187,7 +187,7 @@ pub found_ends : (image on image' : Device) (name : List ℕ) (sector : Option �
     Opened image on (starts output sink) p name sector (Ok found) → Followed (seen found) on image' p new end →
     Headline image image' name sector sink new.sink end
 found_ends image on image' name sector output sink p new found end o f =
-    let answers = subst (λ r. Answers image on sector r) o.ends.1 o.answers in
+    let answers = subst (λ r. ReadsSuper image on sector r) o.ends.1 o.answers in
     follows image name sector output sink (seen found) (found_of image on sector (seen found) answers) p
     (subst (λ r. Said (starts output sink) p (opening_lines name sector r)) o.ends.1 o.ends.0) image' new end
     (subst (λ d. Followed (seen found) d image' p new end) (still_of image on sector (seen found) answers) f)

@@ -20,7 +20,7 @@ use Rattle.std.specs.Borrow.{GName}
 use Rattle.ffs_report.specs.Sink.{Sink, Took}
 use Rattle.ffs_report.specs.Progress.{Progress, Said, Stopped, starts}
 use Rattle.ffs_report.proofs.Reports.{stopped_after, stopped_more}
-use Rattle.ffs_layout.specs.Super.{Answers}
+use Rattle.ffs_layout.specs.Super.{ReadsSuper}
 use Rattle.ffs_certificate.proofs.ReportLaws.{certified}
 use Rattle.ffs_check.specs.Opening.{Opened, OpeningStopped}
 use Rattle.ffs_check.specs.Headline.{is_completed, Certifies, opened_lines, Headline}
@@ -104,7 +104,7 @@ certifies bytes name sector text end t e s o =
 
 module _ (image image' : Device) (name : List ℕ) (sector : Option ℕ) (output : GName) (sink : Sink) (p : Progress) where
   -- ---- the opening ended the run
-  refused : (fault : SuperFault) → Answers image image' sector (Err fault) →
+  refused : (fault : SuperFault) → ReadsSuper image image' sector (Err fault) →
       Said (starts output sink) p (opening_lines name sector (Err fault)) →
       Headline image image' name sector sink p.sink (Refused fault)
   refused fault (inl unread) said =
@@ -163,7 +163,7 @@ module _ (image image' : Device) (name : List ℕ) (sector : Option ℕ) (output
       }
 
   -- the output failed in the line of a fault
-  stopped_in_line : (fault : SuperFault) → Answers image image' sector (Err fault) → (between : Progress) →
+  stopped_in_line : (fault : SuperFault) → ReadsSuper image image' sector (Err fault) → (between : Progress) →
       Said (starts output sink) between (head_lines name sector) → Stopped between p (fault_line fault ∷ []) →
       Headline image image' name sector sink p.sink WriteFault
   stopped_in_line fault (inl unread) between said stop = record {
@@ -191,11 +191,11 @@ module _ (image image' : Device) (name : List ℕ) (sector : Option ℕ) (output
   -- the opening's answer
   pub opening_ends : (end : End) → Opened image image' (starts output sink) p name sector (Err end) →
       Headline image image' name sector sink p.sink end
-  opening_ends (Refused fault) o = refused fault (subst (λ f. Answers image image' sector f) o.ends.1 o.answers)
+  opening_ends (Refused fault) o = refused fault (subst (λ f. ReadsSuper image image' sector f) o.ends.1 o.answers)
       (subst (λ f. Said (starts output sink) p (opening_lines name sector f)) o.ends.1 o.ends.0)
   opening_ends WriteFault o = elim o.ends [
     | inl stop ↦ stopped o.found stop
-    | inr stop ↦ stopped_in_line stop.fault (subst (λ f. Answers image image' sector f) stop.found_is o.answers)
+    | inr stop ↦ stopped_in_line stop.fault (subst (λ f. ReadsSuper image image' sector f) stop.found_is o.answers)
         stop.between stop.said stop.stopped
   ]
   opening_ends Consistent o = absurd o.ends

@@ -17,7 +17,7 @@ use Rattle.ffs_report.specs.Sink.{Sink, BrokeOff}
 use Rattle.ffs_report.specs.Progress.{Progress, Said, Stopped, starts}
 use Rattle.ffs_report.proofs.Reports.{said_then, stopped_after, stopped_more}
 use Rattle.ffs_layout.specs.declared.superblock.Super.{Super}
-use Rattle.ffs_layout.specs.Super.{Answers, seen}
+use Rattle.ffs_layout.specs.Super.{ReadsSuper, seen}
 use Rattle.ffs_check.specs.Opening.{Opened, Opens, OpeningStopped, OpeningStoppedInLine, OpeningSays, OpeningBrokeOff}
 use Rattle.ffs_check.specs.Opening.{OpeningBrokeInLine, OpeningEnds}
 
@@ -31,12 +31,12 @@ found_there : (contents : Option (List ℕ)) (sector : Option ℕ) (b : List ℕ
 found_there contents sector b e = rw e refl
 
 -- where a superblock was accepted, nothing was read in vain
-pub still_of : (image image' : Device) (sector : Option ℕ) (s : Superblock) → Answers image image' sector (Ok s) →
+pub still_of : (image image' : Device) (sector : Option ℕ) (s : Superblock) → ReadsSuper image image' sector (Ok s) →
     image' ≡ image
 still_of image image' sector s (inl unread) = absurd unread.0.0
 still_of image image' sector s (inr read) = read.0
 
-pub found_of : (image image' : Device) (sector : Option ℕ) (s : Superblock) → Answers image image' sector (Ok s) →
+pub found_of : (image image' : Device) (sector : Option ℕ) (s : Superblock) → ReadsSuper image image' sector (Ok s) →
     ForContents image.contents (λ bytes. Ok s ≡ outcome bytes sector)
 found_of image image' sector s (inl unread) = absurd unread.0.0
 found_of image image' sector s (inr read) = read.1
@@ -55,7 +55,7 @@ module _ (image : Device) (name : List ℕ) (sector : Option ℕ) (old head : Pr
   }
 
   module _ (image' : Device) (new : Progress) (said : Said old head (head_lines name sector)) where
-    module _ (super : Super) (answers : Answers image image' sector (Ok (seen super))) where
+    module _ (super : Super) (answers : ReadsSuper image image' sector (Ok (seen super))) where
       pub accepted : Said head new (super_lines (seen super)) → Opened image image' old new name sector (Ok super)
       accepted more = record {
         found = Ok (seen super);
@@ -75,7 +75,7 @@ module _ (image : Device) (name : List ℕ) (sector : Option ℕ) (old head : Pr
         });
       }
 
-    module _ (fault : SuperFault) (answers : Answers image image' sector (Err fault)) where
+    module _ (fault : SuperFault) (answers : ReadsSuper image image' sector (Err fault)) where
       pub refused : Said head new (fault_line fault ∷ []) →
           Opened image image' old new name sector (Err (Refused fault))
       refused more = record {

@@ -10,13 +10,13 @@ use Rattle.ffs_volume.specs.Report.Whole.{end_by}
 use Rattle.ffs_volume.specs.Disk.Superblock.{Superblock}
 use Rattle.ffs_report.specs.Progress.{Progress}
 use Rattle.ffs_layout.specs.declared.superblock.Super.{Super}
-use Rattle.ffs_layout.specs.Super.{Answers, seen}
+use Rattle.ffs_layout.specs.Super.{ReadsSuper, seen}
 use Rattle.ffs_workspace.specs.Lengths.{held_of}
-use Rattle.ffs_check.specs.Ends.{Ran}
+use Rattle.ffs_check.specs.Ends.{PhasesRan}
 use Rattle.ffs_check.specs.Opening.{Opened, OpeningSays}
 use Rattle.ffs_check.specs.Taken.{Asked, TakesWorkspace}
 
-accepted_by : (image image' : Device) (sector : Option ℕ) (s : Superblock) → Answers image image' sector (Ok s) →
+accepted_by : (image image' : Device) (sector : Option ℕ) (s : Superblock) → ReadsSuper image image' sector (Ok s) →
     ForContents image.contents (λ bytes. outcome bytes sector ≡ Ok s)
 accepted_by image image' sector s (inl unread) = absurd unread.0.0
 accepted_by image image' sector s (inr read) = λ bytes t. sym (read.1 bytes t)
@@ -27,7 +27,7 @@ pub takes : (image on : Device) (name : List ℕ) (sector : Option ℕ) (start p
     TakesWorkspace image sector old new
 takes image on name sector start p found old new o a = record {
   found = seen found;
-  accepted = accepted_by image on sector (seen found) (subst (λ r. Answers image on sector r) o.ends.1 o.answers);
+  accepted = accepted_by image on sector (seen found) (subst (λ r. ReadsSuper image on sector r) o.ends.1 o.answers);
   asked = a;
   within = omega arith;
 }
@@ -40,7 +40,7 @@ not_by false defect e = (let w : RootStop ≡ NoMemory = e in cc)
 -- phases that have run don't end for want of memory
 pub not_for_memory : (knows : List ℕ → Type 0) (lines : List ℕ → List Message) (goes : List ℕ → Bool)
     (image image' : Device) (old new : Progress) (end : End) →
-    Ran false knows lines goes image image' old new end → end ≡ NoMemory → ⊥
+    PhasesRan false knows lines goes image image' old new end → end ≡ NoMemory → ⊥
 not_for_memory knows lines goes image image' old new end ran e = elim ran.ends [
   | inl all ↦ not_by all.on new.defect (sym all.end_is ∙ e)
   | inr rest ↦ elim rest [

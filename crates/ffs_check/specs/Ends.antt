@@ -73,7 +73,7 @@ pub record SaidInLine (knows : List ℕ → Type 0) (text : List Message) (image
   pub end_is : end ≡ WriteFault
 
 -- the phases have run, and said what they say of the image's bytes
-pub record Ran (before : Bool) (knows : List ℕ → Type 0) (lines : List ℕ → List Message) (goes : List ℕ → Bool)
+pub record PhasesRan (before : Bool) (knows : List ℕ → Type 0) (lines : List ℕ → List Message) (goes : List ℕ → Bool)
     (image image' : Device) (old new : Progress) (end : End) : Type 0 where
   pub text : List Message
   pub right : ForBytes knows (λ bytes. text ≡ lines bytes)

@@ -10,7 +10,7 @@ use Rattle.ffs_volume.specs.Report.Whole.{phase_lines}
 use Rattle.ffs_volume.specs.Directories.Volumes.{volume_of}
 use Rattle.ffs_report.specs.Progress.{Progress, Said, Stopped}
 use Rattle.ffs_phase.specs.Known.{IsContents}
-use Rattle.ffs_check.specs.Ends.{Ran}
+use Rattle.ffs_check.specs.Ends.{PhasesRan}
 
 -- the line of a refused memory was said, or the output failed in it
 abbrev pub RefusalReported : Progress → Progress → End → Type 0
@@ -21,5 +21,5 @@ RefusalReported old new end =
 abbrev pub Followed : Superblock → Device → Device → Progress → Progress → End → Type 0
 Followed s image image' old new end =
     ((image' ≡ image) × RefusalReported old new end)
-    ⊎ Ran false (IsContents image.contents) (λ bytes. phase_lines bytes s)
+    ⊎ PhasesRan false (IsContents image.contents) (λ bytes. phase_lines bytes s)
     (λ bytes. continues_after_root (volume_of s.layout bytes)) image image' old new end

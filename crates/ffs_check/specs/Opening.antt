@@ -12,7 +12,7 @@ use Rattle.ffs_volume.specs.Report.Opening.{fault_line, head_lines, opening_line
 use Rattle.ffs_report.specs.Sink.{Sink, Took, BrokeOff}
 use Rattle.ffs_report.specs.Progress.{Progress, Said, Stopped}
 use Rattle.ffs_layout.specs.declared.superblock.Super.{Super}
-use Rattle.ffs_layout.specs.Super.{Answers, seen}
+use Rattle.ffs_layout.specs.Super.{ReadsSuper, seen}
 
 -- the output failed where no read had: a prefix of the opening's bytes went out
 pub record OpeningStopped (image image' : Device) (old new : Progress) (name : List ℕ) (sector : Option ℕ)
@@ -49,7 +49,7 @@ OpeningSays image image' old new name sector found (Err NoMemory) = ⊥
 pub record Opened (image image' : Device) (old new : Progress) (name : List ℕ) (sector : Option ℕ)
     (result : Result Super End) : Type 0 where
   pub found : Result Superblock SuperFault
-  pub answers : Answers image image' sector found
+  pub answers : ReadsSuper image image' sector found
   pub ends : OpeningSays image image' old new name sector found result
 
 -- the output failed where no read had: a prefix of the opening's bytes went out
@@ -88,5 +88,5 @@ OpeningEnds image image' old new name sector found (Err NoMemory) = ⊥
 pub record Opens (image image' : Device) (out out' : Sink) (name : List ℕ) (sector : Option ℕ)
     (result : Result Super End) : Type 0 where
   pub found : Result Superblock SuperFault
-  pub answers : Answers image image' sector found
+  pub answers : ReadsSuper image image' sector found
   pub ends : OpeningEnds image image' out out' name sector found result

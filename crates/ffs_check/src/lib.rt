@@ -14,9 +14,9 @@
 #![tactic(auto)]
 
 pub mod args;
+mod arguments;
 pub mod check;
 pub mod opener;
 pub mod opening;
 pub mod rest;
 pub mod run;
-mod words;

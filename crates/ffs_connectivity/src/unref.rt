@@ -17,27 +17,8 @@ use ffs_layout::Geometry;
 use ffs_phase::RunFault;
 use ffs_report::{Line, Output, ReferenceLine, Report};
 use ffs_survey::is_unref;
-use ffs_volume::{Attr, Inode};
+use ffs_volume::Attr;
 use ffs_workspace::Workspace;
-
-/// What a message shows of an inode.
-fn attr_of(number: u32, inode: &Inode) -> Attr
-    ensures { result ≡ record {
-      number = number;
-      uid = inode.now.uid;
-      mode = inode.now.mode;
-      size = inode.now.size;
-      mtime = inode.now.mtime;
-    } }
-{
-    Attr {
-        number,
-        uid: inode.uid,
-        mode: inode.mode,
-        size: inode.size,
-        mtime: inode.mtime,
-    }
-}
 
 /// Reports an inode if it is a lost directory that has no parent, has a dead one, or is the least
 /// number on a cycle of parents.
@@ -77,7 +58,7 @@ pub fn check_inode<I: Image, W: Output>(
     }
     let inode = workspace.windows.table.inode(geometry, number, image)?;
     report.say(&Line::Reference(ReferenceLine::UnrefDir {
-        attr: attr_of(number, &inode),
+        attr: Attr::of(number, &inode),
     }))?;
     Ok(())
 }

@@ -32,8 +32,8 @@ IsSuperSector image sector failed =
     (failed ≡ super_sector sector) ⊎ ((sector ≡ None) × IsCopySector (super_bytes image sector) failed)
 
 -- What may be found: the fault of a failed read, or, where the image gives its bytes, their outcome.
-abbrev pub Answers : Device → Device → Option ℕ → Result Superblock SuperFault → Type 0
-Answers old new sector found =
+abbrev pub ReadsSuper : Device → Device → Option ℕ → Result Superblock SuperFault → Type 0
+ReadsSuper old new sector found =
     (ReadFailed found old new × ((b : List ℕ) → old.contents ≡ Some b → IsSuperSector b sector new.failed))
     ⊎ ((new ≡ old) × ((b : List ℕ) → old.contents ≡ Some b → found ≡ outcome b sector))
 

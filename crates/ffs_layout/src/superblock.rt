@@ -7,7 +7,7 @@ ghost use Rattle.std.specs.List.{list_all};
 ghost use Rattle.ffs_volume.specs.Disk.Superblock.{layout_of, order_of, superblock_of};
 ghost use Rattle.ffs_layout.specs.Accepted.{IsAccepted};
 ghost use Rattle.ffs_layout.specs.Copies.{IsCopy, IsUnreadCopy, CopyAgrees, IsCopyFault};
-ghost use Rattle.ffs_layout.specs.Super.{Answers, IsUnread, found_of, seen};
+ghost use Rattle.ffs_layout.specs.Super.{ReadsSuper, IsUnread, found_of, seen};
 
 use crate::geometry::Geometry;
 use crate::layout::decode;
@@ -203,7 +203,7 @@ pub fn read_super<I: Image>(image: &mut I, sector: Option<u32>) -> Result<Super,
 
     // A failed read is returned, by its sector. With none, the result is the outcome, where the
     // bytes are given.
-    ensures answer { Answers (I.device image.old) (I.device image.new) sector (found_of result) }
+    ensures answer { ReadsSuper (I.device image.old) (I.device image.new) sector (found_of result) }
 {
     let start = u64::from(first_sector(sector)) * DEV_BSIZE;
     let mut bytes = [0; SUPERBLOCK_BYTES];

@@ -23,4 +23,4 @@ pub use chunks::Chunks;
 pub use entries::Entries;
 pub use gap::gap_of;
 pub use graph::survey;
-pub use role::role_of;
+pub use role::{is_one_dot, is_two_dots, role_of};

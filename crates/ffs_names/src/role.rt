@@ -7,16 +7,18 @@ ghost use Rattle.ffs_layout.specs.Entry.{entry_value};
 use ffs_layout::Entry;
 use ffs_volume::Role;
 
-fn is_one_dot(name: &[u8]) -> bool
+/// Whether a name is `.`.
+pub fn is_one_dot(name: &[u8]) -> bool
     ensures { result ≡ one_dot name.now }
 {
-    name.len() == 1 && name[0] == b'.'
+    matches!(name, [b'.'])
 }
 
-fn is_two_dots(name: &[u8]) -> bool
+/// Whether a name is `..`.
+pub fn is_two_dots(name: &[u8]) -> bool
     ensures { result ≡ two_dots name.now }
 {
-    name.len() == 2 && name[0] == b'.' && name[1] == b'.'
+    matches!(name, [b'.', b'.'])
 }
 
 /// The role of an entry at an index of its chunk; `first` says that the chunk is at the start of

@@ -21,10 +21,10 @@ ghost use Rattle.ffs_pathnames.specs.DirectoryContext.{DirectoryContext};
 ghost use Rattle.ffs_pathnames.specs.MarksRight.{AreRightBefore};
 ghost use Rattle.ffs_pathnames.specs.Ready.{ReadyToPath, PhaseLeaves, LinesLeave};
 
-use crate::again::report_directory;
 use crate::examine::{DirectorySummary, examine};
 use crate::header::{DirectoryHeader, is_in_order, say_header};
-use crate::tell::gather_dir;
+use crate::one_entry::gather_dir;
+use crate::second_look::report_directory;
 use ffs_image::Image;
 use ffs_layout::{Entry, Geometry, entry_at};
 use ffs_paths::{PathText, Siblings};

@@ -15,7 +15,7 @@ ghost use Rattle.ffs_pathnames.specs.Marks as marks;
 ghost use Rattle.ffs_pathnames.specs.Ready.{ReadyToPath, PhaseLeaves, LinesLeave};
 
 use crate::inodes::Inodes;
-use crate::tell::{EntryTexts, report_extra, report_plain};
+use crate::one_entry::{EntryTexts, report_extra, report_plain};
 use crate::verdict::pass;
 use ffs_image::Image;
 use ffs_layout::{Entry, Geometry, entry_at};

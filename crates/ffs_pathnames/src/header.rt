@@ -2,7 +2,6 @@
 ghost use Rattle.std.specs.Prelude.{◌≡◌, ℕ, List, [], ◌%◌, ◌==◌, ◌&&◌, not, nat_lt, option_map, IsTrue};
 ghost use Rattle.ffs_volume.specs.declared.Attr as attrs;
 ghost use Rattle.ffs_volume.specs.Directories.PathnameCheck.{is_wrong_parent};
-ghost use Rattle.ffs_volume.specs.Directories.Roles as roles;
 ghost use Rattle.ffs_layout.specs.Entry.{entry_value};
 ghost use Rattle.ffs_report.specs.Progress.{progress};
 ghost use Rattle.ffs_pathnames.specs.SaysNames.{SaysNames};
@@ -10,6 +9,7 @@ ghost use Rattle.ffs_pathnames.specs.Header.{size_reported, chunks_reported, sha
 
 use crate::say::{Check, NameLine, say_two};
 use ffs_layout::Entry;
+use ffs_names::{is_one_dot, is_two_dots};
 use ffs_report::{DirectoryLine, DotLine, Line, OutFault, Output, Report};
 use ffs_volume::Attr;
 use ffs_volume::constants::{DIRBLKSIZ, DT_DIR, MINDIRSIZE};
@@ -88,20 +88,6 @@ fn say_shape<W: Output>(
 {
     say_size(report, attr, path)?;
     say_chunks(report, attr, path, gap, sound)
-}
-
-/// Whether a name is `.`.
-pub fn is_one_dot(name: &[u8]) -> bool
-    ensures { result ≡ roles.is_one_dot name.now }
-{
-    matches!(name, [b'.'])
-}
-
-/// Whether a name is `..`.
-pub fn is_two_dots(name: &[u8]) -> bool
-    ensures { result ≡ roles.is_two_dots name.now }
-{
-    matches!(name, [b'.', b'.'])
 }
 
 /// Says what is wrong with `.`: another number than the directory's own, or another type than a directory's.

@@ -10,7 +10,6 @@
 //! It rests on `ffs_paths`, `ffs_names` and `ffs_phase`.
 #![tactic(auto)]
 
-mod again;
 mod check;
 mod clear;
 mod directory;
@@ -20,10 +19,11 @@ mod header;
 pub mod inodes;
 mod lines;
 mod look;
+mod one_entry;
 mod phase;
 mod root;
 mod say;
-mod tell;
+mod second_look;
 mod tree;
 pub mod verdict;
 

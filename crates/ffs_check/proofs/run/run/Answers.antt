@@ -3,14 +3,14 @@ use Rattle.std.specs.Prelude.{⊤}
 use Rattle.std.specs.Io.KnownBytes.{Keeps}
 use Rattle.ffs_image.specs.Device.{Device}
 use Rattle.ffs_report.specs.Sink.{Sink}
-use Rattle.ffs_check.specs.Run.{Ran, RanOver}
+use Rattle.ffs_check.specs.Run.{RunEnds, RanOver}
 use Rattle.ffs_check.proofs.run.run.Goals as goal
 use Rattle.ffs_check.proofs.run.run.Goals.{else-status-ne-WRONG_WORDS-via-then-status-ne-WRONG_WORDS+else-is_err}
 use Rattle.ffs_check.proofs.run.run.Goals.{else-status-ne-WRONG_WORDS-via-else-status-ne-WRONG_WORDS}
 
 ran_over : {I : Type 0} (device : I → Device) (words : List (List ℕ)) (out out' : Sink) (taken taken' : Option (List ℕ))
     (ran_status status : ℕ)
-    → Ran device (λ _ _. ⊤) (λ _. ⊤) words out out' ran_status → out.taken ≡ taken → Keeps out'.taken taken' →
+    → RunEnds device (λ _ _. ⊤) (λ _. ⊤) words out out' ran_status → out.taken ≡ taken → Keeps out'.taken taken' →
     (status ≡ ran_status) ⊎ (status ≡ 8)
     → RanOver device words taken taken' status
 ran_over device words out out' taken taken' ran_status status ran before after status_is = record {

@@ -38,15 +38,15 @@ returns-in_err-say-clause-runs g c =
     rw (p.1, p.2) (record {
       image = search rules;
       text = of_stops _ (λ bytes. map of_tree (cut_off_lines (volume_of v bytes) c.args.number)) (λ bytes. []) _
-          (of_tree (unref_dir c.attr_of.result) ∷ []) _ _ _
+          (of_tree (unref_dir c.of.result) ∷ []) _ _ _
           (of_begins _ (λ bytes. map of_tree (cut_off_lines (volume_of v bytes) c.args.number)) _)
           (λ bytes k. heard _ _ (sym
           (cut_off_is v bytes c.args.workspace.now _ _ _ _ _ c.args.number _ c.requires.number.0 c.requires.number.1
           (omega arith) c.deref.ensures.value c.deref-2.ensures.value c.deref-3.ensures.value c.deref-4.ensures.value
           refl c.is_unref-cut_off.ensures k.1 k.2) ∙ c.if-not-cut_off.false)
           ∙ ap (λ (a : Attr). of_tree (unref_dir a) ∷ [])
-          (attributes_are v bytes c.args.number c.in_ok-inode.inode c.attr_of.result
-          (c.in_ok-inode.ensures.inode bytes k.0) c.attr_of.ensures))
+          (attributes_are v bytes c.args.number c.in_ok-inode.inode c.of.result
+          (c.in_ok-inode.ensures.inode bytes k.0) c.of.ensures))
           c.in_err-say.ensures.said;
     })
 
@@ -56,14 +56,14 @@ returns-clause-runs g c =
     record {
       image = search rules;
       text = of_says _ (λ bytes. map of_tree (cut_off_lines (volume_of v bytes) c.args.number)) (λ bytes. []) _
-          (of_tree (unref_dir c.attr_of.result) ∷ []) _ _ _
+          (of_tree (unref_dir c.of.result) ∷ []) _ _ _
           (of_begins _ (λ bytes. map of_tree (cut_off_lines (volume_of v bytes) c.args.number)) _)
           (λ bytes k. heard _ _ (sym
           (cut_off_is v bytes c.args.workspace.now _ _ _ _ _ c.args.number _ c.requires.number.0 c.requires.number.1
           (omega arith) c.deref.ensures.value c.deref-2.ensures.value c.deref-3.ensures.value c.deref-4.ensures.value
           refl c.is_unref-cut_off.ensures k.1 k.2) ∙ c.if-not-cut_off.false)
           ∙ ap (λ (a : Attr). of_tree (unref_dir a) ∷ [])
-          (attributes_are v bytes c.args.number c.in_ok-inode.inode c.attr_of.result
-          (c.in_ok-inode.ensures.inode bytes k.0) c.attr_of.ensures))
+          (attributes_are v bytes c.args.number c.in_ok-inode.inode c.of.result
+          (c.in_ok-inode.ensures.inode bytes k.0) c.of.ensures))
           c.in_ok-say.ensures.said;
     }

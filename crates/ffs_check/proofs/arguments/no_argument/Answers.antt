@@ -1,0 +1,21 @@
+use Rattle.std.proofs.Common.{◌≡◌, ◌∙◌, ◌∷◌, [], ◌++◌, ap, codes}
+use Rattle.std.specs.Prelude.{Some, true}
+use Rattle.clap.specs.declared.builder.arg.Arg.{Arg}
+use Rattle.clap.specs.Words.{Rule, new_rule, rule_of}
+use Rattle.clap.specs.declared.builder.ArgAction.TheVariants.{Count}
+use Rattle.ffs_check.proofs.Asked.{lettered}
+use Rattle.ffs_check.proofs.arguments.no_argument.Goals as goal
+
+pub returns-clause-rule : goal.returns-clause-rule
+returns-clause-rule c =
+    let short_is : rule_of c.short.result ≡ record (new_rule (codes "no")) { short = Some 110 } =
+    rw (c.short.ensures) (ap (λ (r : Rule). record r { short = Some 110 }) c.new.ensures.rule) in
+    let letter_is = lettered c.short.result c.in_ok-visible_short_alias.field-0 78 c.in_ok-visible_short_alias.ensures
+    ∙ ap (λ (r : Rule). record r { short_aliases = r.short_aliases ++ 78 ∷ [] }) short_is in
+    rw (c.action.ensures, c.required.ensures, c.help.ensures)
+    (ap (λ (r : Rule). record r { action = Some Count; required = true }) letter_is)
+
+pub returns-clause-local : goal.returns-clause-local
+returns-clause-local c = rw (c.action.ensures, c.required.ensures, c.help.ensures)
+    (ap (λ (a : Arg). a.global) c.in_ok-visible_short_alias.ensures.0
+    ∙ rw (c.short.ensures) c.new.ensures.optional.1)

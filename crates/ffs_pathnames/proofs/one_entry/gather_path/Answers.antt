@@ -1,0 +1,20 @@
+use Rattle.std.proofs.lemmas.Bool.{both_ways}
+use Rattle.ffs_paths.proofs.Keeping.{leaves_with, no_reads}
+use Rattle.ffs_pathnames.proofs.Begun.{on_ok}
+use Rattle.ffs_pathnames.proofs.one_entry.gather_path.Goals as goal
+
+pub returns-then-not-wanted-clause-path : goal.returns-then-not-wanted-clause-path
+returns-then-not-wanted-clause-path g c = λ b t h r q. absurd (both_ways _ c.if-not-wanted.true q)
+
+pub returns-then-not-wanted-clause-leaves : goal.returns-then-not-wanted-clause-leaves
+returns-then-not-wanted-clause-leaves g c =
+    leaves_with _ (no_reads c.requires.ready) c.requires.siblings
+
+pub put_path-requires : goal.put_path-requires
+put_path-requires g c = c.requires
+
+pub returns-clause-path : goal.returns-clause-path
+returns-clause-path g c = on_ok c.put_path.result _ _ (λ p b t h r q. p b t h r) c.put_path.ensures.path
+
+pub returns-clause-leaves : goal.returns-clause-leaves
+returns-clause-leaves g c = c.put_path.ensures.leaves

@@ -1,0 +1,48 @@
+use Rattle.std.proofs.Common.{sym, ap, ◌∙◌, ℕ, List, [], map, append-nil}
+use Rattle.std.proofs.lemmas.Result.{err_from_is_err_and}
+use Rattle.ffs_volume.specs.Messages.Kinds.{TreeMessage, of_tree}
+use Rattle.ffs_volume.specs.Directories.PathnameCheck.{attributes, extra_lines}
+use Rattle.ffs_volume.specs.Directories.Parents.{graph_of}
+use Rattle.ffs_volume.specs.Directories.Paths.{dir_path}
+use Rattle.ffs_volume.specs.Directories.Volumes.{volume_of}
+use Rattle.ffs_layout.specs.Entry.{entry_value}
+use Rattle.ffs_phase.proofs.Reporting.{of_begins, of_says, of_stops, of_reads}
+use Rattle.ffs_pathnames.proofs.one_entry.report_extra.Goals as goal
+
+pub returns-in_err-attr-clause-text : goal.returns-in_err-attr-clause-text
+returns-in_err-attr-clause-text g c =
+    let p = err_from_is_err_and c.from_residual.result c.from_residual.ensures.1 in
+    rw (p.1, p.2) (of_reads _ _ _ _ _ (of_begins _ _ _))
+
+pub returns-in_err-say_extra-clause-text : goal.returns-in_err-say_extra-clause-text
+returns-in_err-say_extra-clause-text g c =
+    let v = c.args.geometry.now.layout in
+    let e = entry_value c.args.entry.now in
+    let all = λ (b : List ℕ). map of_tree
+    (extra_lines (attributes (volume_of v b) c.args.dir) (dir_path (graph_of (volume_of v b)) c.args.dir) e) in
+    let ms : List TreeMessage = extra_lines c.in_ok-attr.attr c.as_slice.result.now e in
+    let p = err_from_is_err_and c.from_residual-in_err-say_extra.result c.from_residual-in_err-say_extra.ensures.1 in
+    rw (p.1, p.2) (of_stops _ all (λ b. []) _ (map of_tree ms) _ _ _ (of_begins _ all _)
+    (λ b k. ap (map of_tree)
+    (ap (λ q. extra_lines q (dir_path (graph_of (volume_of v b)) c.args.dir) e)
+    (sym (c.in_ok-attr.ensures.attr b k.knows.reported_is))
+    ∙ ap (λ q. extra_lines c.in_ok-attr.attr q e)
+    (sym (c.as_slice.ensures.value ∙ c.put.ensures (graph_of (volume_of v b)) c.args.dir k.path)))
+    ∙ sym (append-nil (map of_tree ms)))
+    c.in_err-say_extra.ensures)
+
+pub returns-clause-text : goal.returns-clause-text
+returns-clause-text g c =
+    let v = c.args.geometry.now.layout in
+    let e = entry_value c.args.entry.now in
+    let all = λ (b : List ℕ). map of_tree
+    (extra_lines (attributes (volume_of v b) c.args.dir) (dir_path (graph_of (volume_of v b)) c.args.dir) e) in
+    let ms : List TreeMessage = extra_lines c.in_ok-attr.attr c.as_slice.result.now e in
+    of_says _ all (λ b. []) _ (map of_tree ms) _ _ _ (of_begins _ all _)
+    (λ b k. ap (map of_tree)
+    (ap (λ q. extra_lines q (dir_path (graph_of (volume_of v b)) c.args.dir) e)
+    (sym (c.in_ok-attr.ensures.attr b k.knows.reported_is))
+    ∙ ap (λ q. extra_lines c.in_ok-attr.attr q e)
+    (sym (c.as_slice.ensures.value ∙ c.put.ensures (graph_of (volume_of v b)) c.args.dir k.path)))
+    ∙ sym (append-nil (map of_tree ms)))
+    c.in_ok-say_extra.ensures

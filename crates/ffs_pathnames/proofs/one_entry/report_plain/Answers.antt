@@ -1,0 +1,73 @@
+use Rattle.std.proofs.Common.{sym, ap, ◌∙◌, ℕ, List, [], map, append-nil}
+use Rattle.std.proofs.lemmas.Result.{err_from_is_err_and}
+use Rattle.ffs_volume.specs.Messages.Kinds.{TreeMessage, of_tree}
+use Rattle.ffs_volume.specs.Directories.PathnameCheck.{attributes}
+use Rattle.ffs_volume.specs.Directories.Parents.{graph_of}
+use Rattle.ffs_volume.specs.Directories.Paths.{dir_path, entry_path}
+use Rattle.ffs_volume.specs.Directories.Volumes.{volume_of}
+use Rattle.ffs_layout.specs.Entry.{entry_value}
+use Rattle.ffs_report.proofs.Reports.{said_none}
+use Rattle.ffs_phase.proofs.Reporting.{of_begins, of_says, of_stops, of_reads}
+use Rattle.ffs_pathnames.specs.Gathers.{marks_of}
+use Rattle.ffs_pathnames.specs.Marks.{plain_reported}
+use Rattle.ffs_pathnames.specs.Verdicts.{verdict_reported}
+use Rattle.ffs_pathnames.proofs.VerdictLaws.{silent_reported}
+use Rattle.ffs_pathnames.proofs.one_entry.report_plain.Goals as goal
+
+pub returns-then-is_silent-clause-text : goal.returns-then-is_silent-clause-text
+returns-then-is_silent-clause-text g c =
+    let v = c.args.geometry.now.layout in
+    let silent = sym c.is_silent.ensures ∙ c.if-is_silent.true in
+    record {
+      messages = [];
+      right = λ b k. sym (ap (map of_tree)
+          ((c.verdict_of-verdict.ensures.verdict v b c.requires.ready.ready.made k.knows.claims k.knows.survey).reported
+          ∙ silent_reported c.verdict_of-verdict.result c.args.entry.now.number
+          (attributes (volume_of v b) c.args.entry.now.number)
+          (entry_path (graph_of (volume_of v b)) c.args.dir c.args.entry.now.name.now)
+          (dir_path (graph_of (volume_of v b)) c.args.entry.now.number) silent));
+      said = said_none _;
+    }
+
+pub returns-in_err-attr-clause-text : goal.returns-in_err-attr-clause-text
+returns-in_err-attr-clause-text g c =
+    let p = err_from_is_err_and c.from_residual.result c.from_residual.ensures.1 in
+    rw (p.1, p.2) (of_reads _ _ _ _ _ (of_begins _ _ _))
+
+pub returns-in_err-say_verdict-clause-text : goal.returns-in_err-say_verdict-clause-text
+returns-in_err-say_verdict-clause-text g c =
+    let v = c.args.geometry.now.layout in
+    let all = λ (b : List ℕ). map of_tree
+    (plain_reported (volume_of v b) c.args.dir (marks_of c.args.workspace.now) (entry_value c.args.entry.now)) in
+    let ms : List TreeMessage = verdict_reported c.verdict_of-verdict.result c.args.entry.now.number c.in_ok-attr.attr
+    c.last.result.now c.as_slice.result.now in
+    let p = err_from_is_err_and c.from_residual-in_err-say_verdict.result
+    c.from_residual-in_err-say_verdict.ensures.1 in
+    rw (p.1, p.2) (of_stops _ all (λ b. []) _ (map of_tree ms) _ _ _ (of_begins _ all _)
+    (λ b k. ap (map of_tree)
+    ((c.verdict_of-verdict.ensures.verdict v b c.requires.ready.ready.made k.knows.claims k.knows.survey).reported
+    ∙ (sym (c.in_ok-attr.ensures.enough b c.args.dir k.knows.reported_is k.knows.claims k.knows.survey k.path)
+    ∙ (ap (λ q. verdict_reported c.verdict_of-verdict.result c.args.entry.now.number c.in_ok-attr.attr q
+    c.gather.new.texts.directory.items) (sym c.last.ensures)
+    ∙ ap (λ q. verdict_reported c.verdict_of-verdict.result c.args.entry.now.number c.in_ok-attr.attr
+    c.last.result.now q) (sym c.as_slice.ensures.value))))
+    ∙ sym (append-nil (map of_tree ms)))
+    c.in_err-say_verdict.ensures)
+
+pub returns-clause-text : goal.returns-clause-text
+returns-clause-text g c =
+    let v = c.args.geometry.now.layout in
+    let all = λ (b : List ℕ). map of_tree
+    (plain_reported (volume_of v b) c.args.dir (marks_of c.args.workspace.now) (entry_value c.args.entry.now)) in
+    let ms : List TreeMessage = verdict_reported c.verdict_of-verdict.result c.args.entry.now.number c.in_ok-attr.attr
+    c.last.result.now c.as_slice.result.now in
+    of_says _ all (λ b. []) _ (map of_tree ms) _ _ _ (of_begins _ all _)
+    (λ b k. ap (map of_tree)
+    ((c.verdict_of-verdict.ensures.verdict v b c.requires.ready.ready.made k.knows.claims k.knows.survey).reported
+    ∙ (sym (c.in_ok-attr.ensures.enough b c.args.dir k.knows.reported_is k.knows.claims k.knows.survey k.path)
+    ∙ (ap (λ q. verdict_reported c.verdict_of-verdict.result c.args.entry.now.number c.in_ok-attr.attr q
+    c.gather.new.texts.directory.items) (sym c.last.ensures)
+    ∙ ap (λ q. verdict_reported c.verdict_of-verdict.result c.args.entry.now.number c.in_ok-attr.attr
+    c.last.result.now q) (sym c.as_slice.ensures.value))))
+    ∙ sym (append-nil (map of_tree ms)))
+    c.in_ok-say_verdict.ensures

@@ -1,0 +1,221 @@
+use Rattle.std.proofs.Common.{◌≡◌, ◌<◌, refl, sym, ap, subst, ◌∙◌, ℕ, List, [], ◌∷◌, map, Err}
+use Rattle.std.specs.List.{flat_map}
+use Rattle.std.proofs.lemmas.List.{get_or_read_under}
+use Rattle.std.proofs.lemmas.Result.{err_from_is_err_and}
+use Rattle.ffs_image.specs.Device.{Faulted}
+use Rattle.ffs_volume.specs.Directories.Entries.{Chunk, chunk_of}
+use Rattle.ffs_volume.specs.Blocks.Inodes.{inode_of}
+use Rattle.ffs_volume.specs.Messages.Kinds.{of_tree}
+use Rattle.ffs_volume.specs.Directories.Parents.{graph_of}
+use Rattle.ffs_volume.specs.Directories.Roles.{roled_chunk, roled_entries}
+use Rattle.ffs_volume.specs.Directories.Volumes.{volume_of}
+use Rattle.ffs_names.specs.Readings.{rest}
+use Rattle.ffs_phase.specs.Runs.{ImageAfter}
+use Rattle.ffs_phase.proofs.Reporting.{of_begins, of_reads, of_same, of_part, of_fault, said_knows, reports_knowing}
+use Rattle.ffs_workspace.specs.Leaves.{LeavesSurvey}
+use Rattle.ffs_workspace.proofs.Leaving.{claims_left, leaves_more, windows_leave}
+use Rattle.ffs_paths.specs.DirectoryPaths.{IsPathOf}
+use Rattle.ffs_pathnames.specs.Gathers.{marks_of}
+use Rattle.ffs_pathnames.specs.DirectoryContext.{DirectoryContext}
+use Rattle.ffs_pathnames.specs.Marks.{after_entries, entries_reported}
+use Rattle.ffs_pathnames.proofs.Passing.{chunk_reported, chunk_passed, knows_on, all_read, marks_on}
+use Rattle.ffs_pathnames.proofs.ReadyLaws.{with_chunk, can_read_in, ready_next, ready_read}
+use Rattle.ffs_pathnames.proofs.second_look.report_directory.Goals as goal
+
+pub returns-in_err-path-clause-text : goal.returns-in_err-path-clause-text
+returns-in_err-path-clause-text g c =
+    let p = err_from_is_err_and c.from_residual.result c.from_residual.ensures.1 in
+    rw (p.1, p.2) (of_reads _ _ _ _ _ (of_begins _ _ _))
+
+pub chunks-init : goal.chunks-init
+chunks-init g c =
+    let v = c.args.geometry.now.layout in
+    let ok = c.in_ok-path.ensures.leaves.reads in
+    let here = c.path_to.new.workspace in
+    let m = marks_of c.args.workspace.now in
+    let same = marks_on c.args.workspace.now here ok.lists in
+    let all = λ (b : List ℕ). map of_tree
+    (entries_reported (volume_of v b) c.args.dir m (roled_entries (volume_of v b) c.args.dir)) in
+    let seen = λ (b : List ℕ)
+    (k : DirectoryContext v (g.I.Image.device c.args.image.now).contents c.args.workspace.now c.args.dir b
+    × (c.args.inode.now ≡ inode_of v b c.args.dir)).
+    all_read v b c.args.dir c.args.inode.now c.index-cut.result.now (rest b c.start-chunks.result)
+    c.args.geometry.now.sound k.0.dir k.1
+    (get_or_read_under here.cut.items c.args.dir _ c.index-cut.result.now 0 c.index-cut.ensures
+    (subst (λ n. c.args.dir < n) (sym ok.ready.made.cut) c.requires.number)
+    here.cut.ok.0 ∙ (claims_left v b c.args.workspace.now here (windows_leave _ _ ok.lists) k.0.claims).cut c.args.dir)
+    (c.start-chunks.ensures.begins.chunks b) in
+    record {
+      ready = record { ready = ok.ready; siblings = c.in_ok-path.ensures.leaves.siblings };
+      device = ok.read;
+      geometry = c.start-chunks.ensures.geometry;
+      survey = windows_leave _ _ ok.lists;
+      path = λ b k. subst (IsPathOf (graph_of (volume_of v b)) c.args.dir) (sym c.of.ensures)
+          (c.in_ok-path.ensures.path b k.reported_is k.claims k.survey);
+      marks = λ b k. ap (λ q. after_entries (volume_of v b) c.args.dir q (roled_entries (volume_of v b) c.args.dir))
+          same ∙ ap (after_entries (volume_of v b) c.args.dir (marks_of here)) (sym (seen b k));
+      said = of_same _ all (λ (b : List ℕ). map of_tree
+          (entries_reported (volume_of v b) c.args.dir (marks_of here)
+          (flat_map roled_chunk (rest b c.start-chunks.result)))) all _ _ (of_begins _ all _)
+          (λ b k. ap (λ q. map of_tree
+          (entries_reported (volume_of v b) c.args.dir q (roled_entries (volume_of v b) c.args.dir))) same
+          ∙ ap (λ es. map of_tree (entries_reported (volume_of v b) c.args.dir (marks_of here) es)) (sym (seen b k)));
+    }
+
+pub returns-in_err-offset-clause-text : goal.returns-in_err-offset-clause-text
+returns-in_err-offset-clause-text g c =
+    let p = err_from_is_err_and c.from_residual-in_err-offset.result c.from_residual-in_err-offset.ensures.1 in
+    rw (p.1, p.2) (of_reads _ _ _ _ _ c.chunks.invariant.said)
+
+pub returns-in_err-offset-clause-leaves : goal.returns-in_err-offset-clause-leaves
+returns-in_err-offset-clause-leaves g c =
+    let inv = c.chunks.invariant in
+    let read = c.in_err-offset.ensures in
+    let p = err_from_is_err_and c.from_residual-in_err-offset.result c.from_residual-in_err-offset.ensures.1 in
+    rw (p.1, p.2) (record {
+      image = subst (λ d. Faulted d (g.I.Image.device c.next.new.image) c.in_err-offset.field-0.0.sector) inv.device
+          read.leaves.read;
+      survey = leaves_more _ _ _ inv.survey
+          (windows_leave c.chunks.workspace (with_chunk c.chunks.workspace c.next.new.blocks c.next.new.data) refl);
+      ready = ready_read _ _ _ c.chunks.workspace _ _ inv.ready.ready read.leaves.read.contents
+          (rw inv.geometry at read.leaves.ready);
+    })
+
+pub next-requires : goal.next-requires
+next-requires g c = let inv = c.chunks.invariant in rw inv.geometry (can_read_in _ _ _ inv.ready.ready)
+
+pub report_chunk-requires : goal.report_chunk-requires
+report_chunk-requires g c =
+    let inv = c.chunks.invariant in
+    let read = c.in_ok-offset.ensures in
+    let next = ready_next _ _ _ c.chunks.workspace _ _ _ inv.ready read.leaves.read
+    (rw inv.geometry at read.leaves.ready) in
+    record { ready = next.ready; siblings = next.siblings; number = c.requires.number }
+
+pub returns-clause-leaves : goal.returns-clause-leaves
+returns-clause-leaves g c =
+    let inv = c.chunks.invariant in
+    let read = c.in_ok-offset.ensures in
+    record {
+      image = read.leaves.read ∙ inv.device;
+      survey = leaves_more _ _ _ inv.survey
+          (windows_leave c.chunks.workspace (with_chunk c.chunks.workspace c.next.new.blocks c.next.new.data) refl);
+      ready = ready_next _ _ _ c.chunks.workspace _ _ _ inv.ready read.leaves.read
+          (rw inv.geometry at read.leaves.ready);
+    }
+
+pub chunks-preserved : goal.chunks-preserved
+chunks-preserved g c =
+    let v = c.args.geometry.now.layout in
+    let inv = c.chunks.invariant in
+    let read = c.in_ok-offset.ensures in
+    let ok = c.in_ok-report_chunk.ensures in
+    let m = marks_of c.chunks.workspace in
+    let m' = marks_of c.report_chunk.new.workspace in
+    let same = ok.leaves.image ∙ (read.leaves.read ∙ inv.device) in
+    let between = with_chunk c.chunks.workspace c.next.new.blocks c.next.new.data in
+    let kept : LeavesSurvey c.args.workspace.now between =
+    leaves_more _ _ _ inv.survey (windows_leave c.chunks.workspace between refl) in
+    let know = λ (b : List ℕ)
+    (k : DirectoryContext v (g.I.Image.device c.args.image.now).contents c.args.workspace.now c.args.dir b
+    × (c.args.inode.now ≡ inode_of v b c.args.dir)).
+    knows_on v (g.I.Image.device c.args.image.now).contents (g.I.Image.device c.next.new.image).contents
+    c.args.workspace.now between c.args.dir b (ap (λ d. d.contents) (read.leaves.read ∙ inv.device)) kept k.0 in
+    let here : Chunk = chunk_of v.order c.in-Some.offset c.next.new.chunk in
+    let came = rw c.in-Some.is at read.chunk in
+    let next = λ (b : List ℕ)
+    (k : DirectoryContext v (g.I.Image.device c.args.image.now).contents c.args.workspace.now c.args.dir b
+    × (c.args.inode.now ≡ inode_of v b c.args.dir)).
+    (came b (ap (λ d. d.contents) inv.device ∙ k.0.reported_is)).chunks ∙ ap
+    (λ q. chunk_of q.layout.order c.in-Some.offset c.next.new.chunk ∷ rest b c.next.new.self) inv.geometry in
+    record {
+      ready = ok.leaves.ready;
+      device = same;
+      geometry = read.leaves.geometry ∙ inv.geometry;
+      survey = leaves_more _ _ _ kept ok.leaves.survey;
+      path = λ b k. subst (IsPathOf (graph_of (volume_of v b)) c.args.dir) (sym ok.same) (inv.path b k);
+      marks = λ b k. chunk_passed (volume_of v b) c.args.dir _ m m' here (rest b c.chunks.chunks)
+          (rest b c.next.new.self) (next b k) (ok.marks b (know b k)) (inv.marks b k);
+      said = of_part _ (λ (b : List ℕ). map of_tree
+          (entries_reported (volume_of v b) c.args.dir m (flat_map roled_chunk (rest b c.chunks.chunks))))
+          (λ (b : List ℕ). map of_tree (entries_reported (volume_of v b) c.args.dir m (roled_chunk here)))
+          (λ (b : List ℕ). map of_tree
+          (entries_reported (volume_of v b) c.args.dir m' (flat_map roled_chunk (rest b c.next.new.self)))) _ _ _ _
+          inv.said
+          (λ b k. chunk_reported (volume_of v b) c.args.dir m m' here (rest b c.chunks.chunks) (rest b c.next.new.self)
+          (next b k) (ok.marks b (know b k)))
+          (said_knows _ _ _ _ _ _ (λ b k. record
+          { knows = know b k; path = inv.path b k.0 }) ok.text);
+    }
+
+pub returns-in_err-report_chunk-clause-text : goal.returns-in_err-report_chunk-clause-text
+returns-in_err-report_chunk-clause-text g c =
+    let v = c.args.geometry.now.layout in
+    let inv = c.chunks.invariant in
+    let read = c.in_ok-offset.ensures in
+    let m = marks_of c.chunks.workspace in
+    let between = with_chunk c.chunks.workspace c.next.new.blocks c.next.new.data in
+    let kept : LeavesSurvey c.args.workspace.now between =
+    leaves_more _ _ _ inv.survey (windows_leave c.chunks.workspace between refl) in
+    let know = λ (b : List ℕ)
+    (k : DirectoryContext v (g.I.Image.device c.args.image.now).contents c.args.workspace.now c.args.dir b
+    × (c.args.inode.now ≡ inode_of v b c.args.dir)).
+    knows_on v (g.I.Image.device c.args.image.now).contents (g.I.Image.device c.next.new.image).contents
+    c.args.workspace.now between c.args.dir b (ap (λ d. d.contents) (read.leaves.read ∙ inv.device)) kept k.0 in
+    let here : Chunk = chunk_of v.order c.in-Some.offset c.next.new.chunk in
+    let came = rw c.in-Some.is at read.chunk in
+    let next = λ (b : List ℕ)
+    (k : DirectoryContext v (g.I.Image.device c.args.image.now).contents c.args.workspace.now c.args.dir b
+    × (c.args.inode.now ≡ inode_of v b c.args.dir)).
+    (came b (ap (λ d. d.contents) inv.device ∙ k.0.reported_is)).chunks ∙ ap
+    (λ q. chunk_of q.layout.order c.in-Some.offset c.next.new.chunk ∷ rest b c.next.new.self) inv.geometry in
+    let p = err_from_is_err_and c.from_residual-in_err-report_chunk.result
+    c.from_residual-in_err-report_chunk.ensures.1 in
+    rw (p.1, p.2) (of_fault (Unit {0}) (Unit {0}) _
+    (λ (b : List ℕ). map of_tree
+    (entries_reported (volume_of v b) c.args.dir m (flat_map roled_chunk (rest b c.chunks.chunks))))
+    (λ (b : List ℕ). map of_tree (entries_reported (volume_of v b) c.args.dir m (roled_chunk here)))
+    (λ (b : List ℕ). map of_tree
+    (entries_reported (volume_of v b) c.args.dir (after_entries (volume_of v b) c.args.dir m (roled_chunk here))
+    (flat_map roled_chunk (rest b c.next.new.self)))) _ _ _ _
+    c.in_err-report_chunk.field-0.0 inv.said
+    (λ b k. chunk_reported (volume_of v b) c.args.dir m (after_entries (volume_of v b) c.args.dir m (roled_chunk here))
+    here (rest b c.chunks.chunks) (rest b c.next.new.self) (next b k) refl)
+    (reports_knowing (Unit {0}) _ _ _ _ _ (Err c.in_err-report_chunk.field-0.0)
+    (λ b k. record { knows = know b k; path = inv.path b k.0 })
+    c.in_err-report_chunk.ensures.text))
+
+pub returns-in_err-report_chunk-clause-leaves : goal.returns-in_err-report_chunk-clause-leaves
+returns-in_err-report_chunk-clause-leaves g c =
+    let inv = c.chunks.invariant in
+    let left = c.in_err-report_chunk.ensures.leaves in
+    let kept = leaves_more _ _ _ inv.survey
+    (windows_leave c.chunks.workspace (with_chunk c.chunks.workspace c.next.new.blocks c.next.new.data) refl) in
+    let p = err_from_is_err_and c.from_residual-in_err-report_chunk.result
+    c.from_residual-in_err-report_chunk.ensures.1 in
+    rw (p.1, p.2) (record {
+      image = subst (λ d. ImageAfter {T = Unit {0}} d (g.I.Image.device c.report_chunk.new.image)
+          (Err c.in_err-report_chunk.field-0.0)) (c.in_ok-offset.ensures.leaves.read ∙ inv.device) left.image;
+      survey = leaves_more _ _ _ kept left.survey;
+      ready = left.ready;
+    })
+
+pub returns-clause-text : goal.returns-clause-text
+returns-clause-text g c =
+    let v = c.args.geometry.now.layout in
+    let inv = c.chunks.invariant in
+    let m = marks_of c.chunks.workspace in
+    let came = rw c.in_default.is at c.in_ok-offset.ensures.chunk in
+    of_same _ (λ (b : List ℕ). map of_tree
+    (entries_reported (volume_of v b) c.args.dir m (flat_map roled_chunk (rest b c.chunks.chunks)))) (λ b. []) _ _ _
+    inv.said
+    (λ b k. ap (λ cs. map of_tree (entries_reported (volume_of v b) c.args.dir m (flat_map roled_chunk cs)))
+    (came b (ap (λ d. d.contents) inv.device ∙ k.0.reported_is)).chunks.0)
+
+pub returns-clause-marks : goal.returns-clause-marks
+returns-clause-marks g c = λ b k.
+    let v = c.args.geometry.now.layout in
+    let inv = c.chunks.invariant in
+    let came = rw c.in_default.is at c.in_ok-offset.ensures.chunk in
+    inv.marks b k ∙ ap (λ cs. after_entries (volume_of v b) c.args.dir (marks_of c.chunks.workspace)
+    (flat_map roled_chunk cs)) (came b (ap (λ d. d.contents) inv.device ∙ k.0.reported_is)).chunks.0

@@ -1,0 +1,42 @@
+use Rattle.std.proofs.Common.{◌≡◌, map}
+use Rattle.std.specs.List.{flat_map}
+use Rattle.ffs_volume.specs.Blocks.Inodes.{inode_of}
+use Rattle.ffs_volume.specs.Messages.Kinds.{of_tree}
+use Rattle.ffs_volume.specs.Directories.Parents.{graph_of}
+use Rattle.ffs_volume.specs.Directories.Roles.{roled_chunk, roled_entries}
+use Rattle.ffs_volume.specs.Directories.Volumes.{volume_of}
+use Rattle.ffs_phase.specs.Known.{ForBytes}
+use Rattle.ffs_phase.specs.Runs.{SaidOf}
+use Rattle.ffs_report.specs.Progress.{progress}
+use Rattle.ffs_names.specs.Readings.{rest}
+use Rattle.ffs_workspace.specs.Leaves.{LeavesSurvey}
+use Rattle.ffs_paths.specs.DirectoryPaths.{IsPathOf}
+use Rattle.ffs_pathnames.specs.Ready.{ReadyWith}
+use Rattle.ffs_pathnames.specs.Gathers.{marks_of}
+use Rattle.ffs_pathnames.specs.DirectoryContext.{DirectoryContext}
+use Rattle.ffs_pathnames.specs.Marks.{after_entries, entries_reported}
+use Rattle.ffs_pathnames.proofs.second_look.report_directory.Given as goal
+
+abbrev pub invariant-chunks : goal.invariant-chunks
+invariant-chunks g l = let reported_by = g.I.Image.device in let v = l.geometry.layout in record {
+  ready : ReadyWith v (reported_by l.image) l.workspace l.siblings;
+  device : reported_by l.image ≡ reported_by l.fn.image;
+  geometry : l.chunks.walk.geometry ≡ l.geometry;
+  survey : LeavesSurvey l.fn.workspace l.workspace;
+  path : ForBytes (DirectoryContext v (reported_by l.fn.image).contents l.fn.workspace l.dir)
+      (λ b. IsPathOf (graph_of (volume_of v b)) l.dir l.texts.paths.directory);
+  marks : ForBytes (λ b. DirectoryContext v (reported_by l.fn.image).contents l.fn.workspace l.dir b
+      × (l.inode ≡ inode_of v b l.dir)) (λ b.
+      after_entries (volume_of v b) l.dir (marks_of l.fn.workspace) (roled_entries (volume_of v b) l.dir)
+      ≡ after_entries (volume_of v b) l.dir (marks_of l.workspace) (flat_map roled_chunk (rest b l.chunks)));
+  said : SaidOf (λ b. DirectoryContext v (reported_by l.fn.image).contents l.fn.workspace l.dir b
+      × (l.inode ≡ inode_of v b l.dir))
+      (λ b. map of_tree (entries_reported (volume_of v b) l.dir (marks_of l.workspace)
+      (flat_map roled_chunk (rest b l.chunks))))
+      (λ b. map of_tree (entries_reported (volume_of v b) l.dir (marks_of l.fn.workspace)
+      (roled_entries (volume_of v b) l.dir)))
+      (progress g.W.Output.sink l.fn.report) (progress g.W.Output.sink l.report);
+}
+
+abbrev pub decreases-chunks : goal.decreases-chunks
+decreases-chunks g l = l.chunks.budget

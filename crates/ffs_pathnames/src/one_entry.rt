@@ -1,0 +1,295 @@
+//! The lines of a plain entry.
+ghost use Rattle.std.specs.Prelude.{◌≡◌, ◌*◌, ◌<◌, ◌≤◌, ℕ, List, length, Some, OnOk, IfOk, IsTrue, map, vec_len};
+ghost use Rattle.ffs_image.specs.Device.{ForContents};
+ghost use Rattle.ffs_volume.specs.Messages.Kinds.{of_tree};
+ghost use Rattle.ffs_volume.specs.Directories.PathnameCheck.{attributes, extra_lines};
+ghost use Rattle.ffs_pathnames.specs.SaysNames.{SaysNames};
+ghost use Rattle.ffs_volume.specs.Directories.Parents.{graph_of};
+ghost use Rattle.ffs_volume.specs.Directories.Paths.{dir_path};
+ghost use Rattle.ffs_volume.specs.Directories.Volumes.{volume_of};
+ghost use Rattle.ffs_layout.specs.Entry.{entry_value};
+ghost use Rattle.ffs_phase.specs.Runs.{PhaseReports};
+ghost use Rattle.ffs_report.specs.Progress.{progress};
+ghost use Rattle.ffs_volume.specs.declared.Layout.{Layout};
+ghost use Rattle.ffs_workspace.specs.Lengths.{IsFor};
+ghost use Rattle.ffs_workspace.specs.Holds.{HoldsClaims, HoldsSurvey};
+ghost use Rattle.ffs_pathnames.specs.Gathers.{IsEnough, IsVerdict, AreAsLong, marks_of, asks_attr, asks_path, is_silent};
+ghost use Rattle.ffs_pathnames.specs.DirectoryContext.{DirectoryContext, KnowsPath};
+ghost use Rattle.ffs_paths.specs.DirectoryPaths.{IsPathOf};
+ghost use Rattle.ffs_paths.specs.LastPaths.{last_path};
+ghost use Rattle.ffs_paths.specs.Reads.{ForTree, IsReadyFor, OnlyReads};
+ghost use Rattle.ffs_pathnames.specs.Marks.{plain_reported};
+ghost use Rattle.ffs_pathnames.specs.Ready.{ReadyWith, ReadyToPath, PathLeaves, LinesLeave, LineLeaves};
+
+use crate::inodes::Inodes;
+use crate::lines::say_verdict;
+use crate::verdict::{Verdict, entry_verdict};
+use ffs_image::{Image, ImageFault};
+use ffs_layout::{Entry, Geometry};
+use ffs_names::is_one_dot;
+use ffs_paths::{EntryPaths, PathText, Siblings};
+use ffs_phase::RunFault;
+use ffs_report::{DotLine, Line, OutFault, Output, Report};
+use ffs_volume::Attr;
+use ffs_workspace::Workspace;
+
+/// The texts of the lines of an entry, which the next entry's are written over.
+#[derive(Drop)]
+pub struct EntryTexts {
+    /// The path of the entry.
+    pub paths: EntryPaths,
+    /// The path of a directory, as that which the entry names.
+    pub directory: PathText,
+}
+
+/// Reads what messages show of the inode of a number.
+///
+/// # Errors
+/// A read of the image that failed.
+pub fn read_attr<I: Image>(
+    geometry: &Geometry,
+    image: &mut I,
+    workspace: &mut Workspace,
+    number: u32,
+) -> Result<Attr, ImageFault>
+    requires { IsReadyFor geometry.now.layout (I.device image.old) workspace.old number }
+    ensures attr { IfOk result (λ a. ForContents (I.device image.old).contents
+        (λ b. a ≡ attributes (volume_of geometry.now.layout b) number)) }
+    ensures reads { OnlyReads geometry.now.layout (I.device image.old) (I.device image.new)
+        workspace.old workspace.new result }
+{
+    let inode = workspace
+        .windows
+        .table
+        .inode_by_part(geometry, number, image)?;
+    Ok(Attr::of(number, &inode))
+}
+
+/// Whether a verdict asks for the attributes of the inode that the entry names, and whether for its path.
+fn asks(verdict: &Verdict) -> (bool, bool)
+    ensures attr { result.0 ≡ asks_attr verdict.now }
+    ensures directory { result.1 ≡ asks_path verdict.now }
+{
+    match verdict {
+        Verdict::OutOfRange | Verdict::Whiteout | Verdict::Fine => (false, false),
+        Verdict::Unallocated => (true, false),
+        Verdict::Named(faults) => (true, faults.extraneous),
+    }
+}
+
+/// The path of a directory, where it is asked for.
+fn gather_path<I: Image>(
+    geometry: &Geometry,
+    image: &mut I,
+    workspace: &mut Workspace,
+    siblings: &mut Siblings,
+    wanted: bool,
+    dir: u32,
+    text: &mut PathText,
+) -> Result<(), ImageFault>
+    requires { ReadyToPath geometry.now.layout (I.device image.old) workspace.old siblings.old dir }
+    ensures path { OnOk result (ForTree geometry.now.layout (I.device image.old) workspace.old
+        (λ g. IsTrue wanted → text.new.items ≡ dir_path g dir)) }
+    ensures leaves { PathLeaves geometry.now.layout (I.device image.old) (I.device image.new)
+        workspace.old workspace.new siblings.new result }
+{
+    if !wanted {
+        return Ok(());
+    }
+    siblings.put_path(geometry, image, workspace, dir, text)
+}
+
+/// Gathers what the messages on an entry show: the two paths into `texts`, and the attributes of the inode that it
+/// names.
+#[inline(always)]
+fn gather<I: Image>(
+    geometry: &Geometry,
+    image: &mut I,
+    workspace: &mut Workspace,
+    siblings: &mut Siblings,
+    entry: &Entry<'_>,
+    verdict: &Verdict,
+    texts: &mut EntryTexts,
+) -> Result<Attr, ImageFault>
+    requires ready { ReadyWith geometry.now.layout (I.device image.old) workspace.old siblings.old }
+    requires number { IsTrue (asks_attr verdict.now) → entry.now.number
+        < geometry.now.layout.ncg * geometry.now.layout.ipg }
+    ensures enough { IfOk result (λ a. (b : List ℕ) (dir : ℕ) → (I.device image.old).contents
+        ≡ Some b → HoldsClaims geometry.now.layout b workspace.old
+        → HoldsSurvey geometry.now.layout b workspace.old →
+        IsPathOf (graph_of (volume_of geometry.now.layout b)) dir texts.old.paths.directory →
+        IsEnough (volume_of geometry.now.layout b) verdict.now dir entry.now.number
+        entry.now.name.now a (last_path texts.new.paths) texts.new.directory.items) }
+    ensures same { texts.new.paths.directory ≡ texts.old.paths.directory }
+    ensures leaves { PathLeaves geometry.now.layout (I.device image.old) (I.device image.new)
+        workspace.old workspace.new siblings.new result }
+{
+    let (wants_attr, wants_path) = asks(verdict);
+    texts.paths.put(entry.name);
+    if !wants_attr {
+        return Ok(Attr {
+            number: entry.number,
+            uid: 0,
+            mode: 0,
+            size: 0,
+            mtime: 0,
+        });
+    }
+    gather_path(
+        geometry,
+        image,
+        workspace,
+        siblings,
+        wants_path,
+        entry.number,
+        &mut texts.directory,
+    )?;
+    let attr = read_attr(geometry, image, workspace, entry.number)?;
+    Ok(attr)
+}
+
+/// The verdict on a plain entry, by what the workspace holds.
+fn verdict_of(workspace: &Workspace, dir: u32, entry: &Entry<'_>) -> Verdict
+    requires lists { AreAsLong workspace.now }
+    ensures below { IsTrue (asks_attr result) → entry.now.number < vec_len workspace.now.kinds }
+    ensures verdict { (v : Layout) (b : List ℕ) → IsFor v workspace.now
+        → HoldsClaims v b workspace.now → HoldsSurvey v b workspace.now
+        → IsVerdict (volume_of v b) dir (marks_of workspace.now) (entry_value entry.now) result }
+{
+    let inodes = Inodes {
+        kinds: workspace.kinds.as_slice(),
+        marked: workspace.marked.as_slice(),
+        parents: &workspace.parents,
+    };
+    entry_verdict(
+        &inodes,
+        dir,
+        workspace.leaders.as_slice(),
+        &workspace.queue,
+        entry,
+    )
+}
+
+/// Whether a verdict has no line.
+fn is_silent(verdict: &Verdict) -> bool
+    ensures { result ≡ is_silent verdict.now }
+{
+    match verdict {
+        Verdict::Fine => true,
+        Verdict::OutOfRange | Verdict::Whiteout | Verdict::Unallocated => false,
+        Verdict::Named(faults) => !(faults.suspect || faults.extraneous || faults.kind),
+    }
+}
+
+/// Prints the lines of a plain entry of a directory.
+///
+/// # Errors
+/// A read of the image that failed, and a write of the report that failed.
+pub fn report_plain<I: Image, W: Output>(
+    geometry: &Geometry,
+    image: &mut I,
+    workspace: &mut Workspace,
+    siblings: &mut Siblings,
+    report: &mut Report<'_, W>,
+    dir: u32,
+    entry: &Entry<'_>,
+    texts: &mut EntryTexts,
+) -> Result<(), RunFault>
+    requires ready { ReadyToPath geometry.now.layout (I.device image.old) workspace.old
+        siblings.old dir }
+    ensures text { PhaseReports (KnowsPath geometry.now.layout (I.device image.old).contents
+        workspace.old dir texts.old.paths.directory)
+        (λ b. map of_tree (plain_reported (volume_of geometry.now.layout b) dir
+        (marks_of workspace.old) (entry_value entry.now)))
+        (progress W.sink report.old) (progress W.sink report.new) result }
+    ensures same { texts.new.paths.directory ≡ texts.old.paths.directory }
+    ensures leaves { LinesLeave geometry.now.layout (I.device image.old) (I.device image.new)
+        workspace.old workspace.new siblings.new result }
+{
+    let verdict = verdict_of(workspace, dir, entry);
+    if is_silent(&verdict) {
+        return Ok(());
+    }
+    let attr = gather(geometry, image, workspace, siblings, entry, &verdict, texts)?;
+    say_verdict(
+        report,
+        &verdict,
+        entry.number,
+        attr,
+        texts.paths.last(),
+        texts.directory.as_slice(),
+    )?;
+    Ok(())
+}
+
+/// Prints the line of an extra entry: `.` or `..` at another place than the first two.
+///
+/// # Errors
+/// A read of the image that failed, and a write of the report that failed.
+pub fn report_extra<I: Image, W: Output>(
+    geometry: &Geometry,
+    image: &mut I,
+    workspace: &mut Workspace,
+    report: &mut Report<'_, W>,
+    dir: u32,
+    entry: &Entry<'_>,
+    texts: &mut EntryTexts,
+) -> Result<(), RunFault>
+    requires { IsReadyFor geometry.now.layout (I.device image.old) workspace.old dir }
+    ensures text { PhaseReports (KnowsPath geometry.now.layout (I.device image.old).contents
+        workspace.old dir texts.old.paths.directory)
+        (λ b. map of_tree (extra_lines (attributes (volume_of geometry.now.layout b) dir)
+        (dir_path (graph_of (volume_of geometry.now.layout b)) dir) (entry_value entry.now)))
+        (progress W.sink report.old) (progress W.sink report.new) result }
+    ensures same { texts.new.paths.directory ≡ texts.old.paths.directory }
+    ensures leaves { LineLeaves geometry.now.layout (I.device image.old) (I.device image.new)
+        workspace.old workspace.new result }
+{
+    let paths = &texts.paths;
+    paths.directory.put(&mut texts.directory);
+    let attr = read_attr(geometry, image, workspace, dir)?;
+    say_extra(report, attr, texts.directory.as_slice(), entry)?;
+    Ok(())
+}
+
+/// Gathers what the messages on a directory show: its path into `path`, and its attributes.
+///
+/// # Errors
+/// A read of the image that failed.
+pub fn gather_dir<I: Image>(
+    geometry: &Geometry,
+    image: &mut I,
+    workspace: &mut Workspace,
+    siblings: &mut Siblings,
+    dir: u32,
+    path: &mut PathText,
+) -> Result<Attr, ImageFault>
+    requires { ReadyToPath geometry.now.layout (I.device image.old) workspace.old siblings.old dir }
+    ensures attr { IfOk result (λ a. ForContents (I.device image.old).contents
+        (λ b. a ≡ attributes (volume_of geometry.now.layout b) dir)) }
+    ensures path { OnOk result ((b : List ℕ)
+        → DirectoryContext geometry.now.layout (I.device image.old).contents workspace.old dir b
+        → path.new.items ≡ dir_path (graph_of (volume_of geometry.now.layout b)) dir) }
+    ensures leaves { PathLeaves geometry.now.layout (I.device image.old) (I.device image.new)
+        workspace.old workspace.new siblings.new result }
+{
+    siblings.put_path(geometry, image, workspace, dir, path)?;
+    let attr = read_attr(geometry, image, workspace, dir)?;
+    Ok(attr)
+}
+
+/// Says that an entry is extra.
+fn say_extra<W: Output>(
+    report: &mut Report<'_, W>,
+    attr: Attr,
+    path: &[u8],
+    entry: &Entry<'_>,
+) -> Result<(), OutFault>
+    ensures { SaysNames (progress W.sink report.old) (progress W.sink report.new)
+        (extra_lines attr path.now (entry_value entry.now)) result }
+{
+    if is_one_dot(entry.name) {
+        return report.say(&Line::Dot(DotLine::ExtraDot { attr, path }));
+    }
+    report.say(&Line::Dot(DotLine::ExtraDotdot { attr, path }))
+}
