@@ -31,13 +31,14 @@ fn has_mark_at_once<const N: usize>(part: &[u8; N]) -> bool
     has_mark
 }
 
-// Whether one of at most three bytes is NUL or `/`.
+// Whether one of at most three bytes is NUL or `/`. Most bytes of names are greater than both: one
+// test passes them.
 #[inline]
 fn has_mark_of_three(bytes: &[u8]) -> bool
     ensures { result ≡ has_mark bytes.now }
 {
     for &byte in bytes {
-        if byte == 0 || byte == b'/' {
+        if byte <= b'/' && (byte == 0 || byte == b'/') {
             return true;
         }
     }
