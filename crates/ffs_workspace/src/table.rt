@@ -45,7 +45,8 @@ pub struct Table {
 }
 
 impl Table {
-    ghost use Rattle.ffs_workspace.specs.Tables.{CanReadInodes, DividesBlocks, HasInode, IsEmptyTable, IsHeldAt, ReadsInode, TableAfter};
+    ghost use Rattle.ffs_workspace.specs.Tables.{CanReadInodes, HasInode, IsEmptyTable, IsHeldAt, ReadsInode, TableAfter};
+    ghost use Rattle.ffs_workspace.specs.Tables.{DividesBlocks};
 
     /// A table that holds no inode. It takes no memory.
     pub fn over(buffer: FixedList<u8>) -> Table
@@ -142,8 +143,8 @@ impl Table {
         Ok(decode_inode(geometry.layout.order, &bytes[at..at + DINODE_SIZE]))
     }
 
-    // Whether an inode's sector begins where the inodes that are held end: then the caller may be going along the table.
-    // No answer depends on it, but only how much is read.
+    // Whether an inode's sector begins where the inodes that are held end, as where the caller goes along the table.
+    // No answer depends on it: it decides only how much is read.
     fn follows(&self, number: u32) -> bool {
         number >= self.first && (number - self.first) / SECTOR_INODES == self.count / SECTOR_INODES
     }
@@ -160,9 +161,9 @@ impl Table {
         }
     }
 
-    /// The inode of a number (fs(5)), as `inode` gives it. Where it isn't held, its sector is read, and no whole block: so
-    /// few bytes are read for inodes that are far from one another. Eight sectors are read where the caller goes along the
-    /// table.
+    /// The inode of a number (fs(5)), as `inode` gives it. Where it isn't held, its sector is read and no whole
+    /// block, so that inodes which are far from one another cost few bytes. Eight sectors are read where it follows the
+    /// inodes that are held.
     ///
     /// # Errors
     /// A read of the image that failed.
