@@ -1,8 +1,9 @@
 -- Where inodes are in the blocks of their tables.
 use Rattle.std.proofs.Common.{◌≡◌, ℕ, suc, ◌+◌, ◌-◌, ◌*◌, ◌/◌, ◌%◌, ◌<◌, ◌≤◌, true, Option, List, take, drop, arith, ap}
 use Rattle.std.proofs.Common.{◌∙◌}
-use Rattle.std.proofs.Common.{sym}
+use Rattle.std.proofs.Common.{sym, zero}
 use Rattle.std.proofs.Math.Nat.{mul-le-mul_right, mul-div_cancel, mul_comm, mul_assoc, div-add-mod', mod-lt}
+use Rattle.std.proofs.Math.Nat.{mul-mod_right, mod_self}
 use Rattle.std.proofs.lemmas.Nat.{div_below, div-mul-add, mod-mul-add}
 use Rattle.std.proofs.lemmas.List.{drop-take, take-take, drop-drop}
 use Rattle.std.proofs.lemmas.Bool.Decides.{nat_tests}
@@ -16,7 +17,8 @@ use Rattle.ffs_volume.specs.Disk.Outcome.{is_block_size, has_valid_sizes, is_val
 use Rattle.ffs_volume.specs.Disk.Geometry.{IsAcceptedLayout}
 use Rattle.ffs_walk.specs.Windows.{WindowHolds}
 use Rattle.ffs_workspace.specs.declared.table.Table.{Table}
-use Rattle.ffs_workspace.specs.Tables.{table_block_place, table_part_place, HasInode, IsInPlace, IsTableOf, IsHeldAt}
+use Rattle.ffs_workspace.specs.Tables.{DividesBlock, DividesBlocks, table_place}
+use Rattle.ffs_workspace.specs.Tables.{HasInode, IsInPlace, IsTableOf, IsHeldAt}
 
 -- a block holds whole inodes
 block_whole : (n : ℕ) → is_block_size n ≡ true → 128 * (n / 128) ≡ n
@@ -42,16 +44,18 @@ inodes_whole v g =
 whole_blocks : (ipg n : ℕ) → ipg % n ≡ 0 → n * (ipg / n) ≡ ipg
 whole_blocks ipg n e = grind (arith, div-add-mod' ipg n)
 
--- the blocks of a table end where it ends
-block_ends : (i ipg n b : ℕ) → 0 < n → i < ipg → ipg % n ≡ 0 → 128 * n ≡ b → i / n * b + b ≤ ipg / n * b
-block_ends i ipg n b some below e same =
-    let all : n * (ipg / n) ≡ ipg = whole_blocks ipg n e in
-    let less : i / n < ipg / n = div_below i n (ipg / n) some (omega (arith, mul_comm n (ipg / n))) in
-    let more : suc (i / n) * b ≤ ipg / n * b = mul-le-mul_right b less in
-    grind arith
+-- what a table of m inodes has, in pieces of n
+piece_ends : (i m n : ℕ) → 0 < n → i < m → m % n ≡ 0 → i / n * (n * 128) + n * 128 ≤ m * 128
+piece_ends i m n some below e =
+    let all : n * (m / n) ≡ m = whole_blocks m n e in
+    let less : i / n < m / n = div_below i n (m / n) some (omega (arith, mul_comm n (m / n))) in
+    let more : suc (i / n) * (n * 128) ≤ m / n * (n * 128) = mul-le-mul_right (n * 128) less in
+    let bytes : m / n * (n * 128) ≡ m * 128 =
+    sym (mul_assoc (m / n) n 128) ∙ ap (λ (k : ℕ). k * 128) (mul_comm (m / n) n ∙ all) in
+    grind (arith, more, bytes)
 
--- and the table ends before the data of its group
-table_fits : (v : Layout) → IsAcceptedLayout v → v.iblkno * v.fsize + v.ipg / v.inopb * v.bsize ≤ v.dblkno * v.fsize
+-- the table of a group ends before its data
+table_fits : (v : Layout) → IsAcceptedLayout v → v.iblkno * v.fsize + v.ipg * 128 ≤ v.dblkno * v.fsize
 table_fits v g =
     let all : v.inopb * (v.ipg / v.inopb) ≡ v.ipg = whole_blocks v.ipg v.inopb g.sizes.inode_blocks in
     let same : 128 * v.inopb ≡ v.bsize = inodes_whole v g in
@@ -60,70 +64,67 @@ table_fits v g =
     g.parts.inodes_fit
   where
     fits : (m n ipg b frag f low high : ℕ) → n * m ≡ ipg → 128 * n ≡ b → b ≡ frag * f → 0 < f →
-        low + ipg * 128 / f ≤ high → low * f + m * b ≤ high * f
+        low + ipg * 128 / f ≤ high → low * f + ipg * 128 ≤ high * f
     fits m n ipg b frag f low high all same block some room =
         let bytes : ipg * 128 ≡ m * frag * f = grind (arith, mul_comm, mul_assoc) in
         let blocks : ipg * 128 / f ≡ m * frag = rw bytes (mul-div_cancel (m * frag) some) in
         let scaled : (low + m * frag) * f ≤ high * f = mul-le-mul_right f (omega arith) in
-        let spread : m * b ≡ m * frag * f = ap (λ (k : ℕ). m * k) block ∙ sym (mul_assoc m frag f) in
-        grind (arith, spread, scaled)
+        grind (arith, bytes, scaled)
 
--- the block of an inode ends in the volume
-pub block_inside : (v : Layout) (x : ℕ) → IsAcceptedLayout v → x / v.ipg < v.ncg →
-    (cgstart v (x / v.ipg) + v.iblkno) * v.fsize + x % v.ipg / v.inopb * v.bsize + v.bsize ≤ v.size * v.fsize
-block_inside v x g group =
+-- a table is whole pieces, as its blocks are
+table_whole : (v : Layout) (n : ℕ) → IsAcceptedLayout v → DividesBlock v n → v.ipg % n ≡ 0
+table_whole v n g d =
+    let table : v.inopb * (v.ipg / v.inopb) ≡ v.ipg = whole_blocks v.ipg v.inopb g.sizes.inode_blocks in
+    let block : n * (v.inopb / n) ≡ v.inopb = whole_blocks v.inopb n d.whole in
+    let is : v.ipg ≡ n * (v.inopb / n * (v.ipg / v.inopb)) =
+    sym table ∙ ap (λ (k : ℕ). k * (v.ipg / v.inopb)) (sym block) ∙ mul_assoc n (v.inopb / n) (v.ipg / v.inopb) in
+    rw is (mul-mod_right n (v.inopb / n * (v.ipg / v.inopb)))
+
+-- the piece of an inode ends in the volume
+pub piece_inside : (v : Layout) (n x : ℕ) → IsAcceptedLayout v → DividesBlock v n → x / v.ipg < v.ncg →
+    (cgstart v (x / v.ipg) + v.iblkno) * v.fsize + x % v.ipg / n * (n * 128) + n * 128 ≤ v.size * v.fsize
+piece_inside v n x g d group =
     let parts = g.groups (x / v.ipg) group in
-    let same : 128 * v.inopb ≡ v.bsize = inodes_whole v g in
-    let some : 0 < v.inopb = omega arith in
     let low : x % v.ipg < v.ipg = mod-lt x g.sizes.some_inodes in
-    let ends = block_ends (x % v.ipg) v.ipg v.inopb v.bsize some low g.sizes.inode_blocks same in
+    let ends = piece_ends (x % v.ipg) v.ipg n d.some low (table_whole v n g d) in
     let fits = table_fits v g in
     let within : cgdmin v (x / v.ipg) ≤ v.size = parts.within_size in
     let scaled : cgdmin v (x / v.ipg) * v.fsize ≤ v.size * v.fsize = mul-le-mul_right v.fsize within in
-    grind (arith)
+    grind (arith, ends, fits, scaled)
 
--- a block has a whole number of parts
+-- no piece is longer than a block
+pub piece_room : (v : Layout) (n : ℕ) → IsAcceptedLayout v → DividesBlock v n → n * 128 ≤ v.bsize
+piece_room v n g d =
+    let same : 128 * v.inopb ≡ v.bsize = inodes_whole v g in
+    let block : n * (v.inopb / n) ≡ v.inopb = whole_blocks v.inopb n d.whole in
+    let within : n ≤ v.inopb = within (v.inopb / n) block (omega (arith, same)) in
+    omega (arith, same, within)
+  where
+    within : {n m : ℕ} (k : ℕ) → n * k ≡ m → 0 < m → n ≤ m
+    within zero e some = omega arith
+    within {n} (suc k) e some = grind (arith, e)
+
+-- a block is a whole number of 4,096 bytes
 block_parts : (n : ℕ) → is_block_size n ≡ true → 4096 * (n / 4096) ≡ n
 unfolding is_block_size
 block_parts n h = grind (arith, nat_tests)
 
--- how many parts a block has
-pub parts_whole : (v : Layout) → IsAcceptedLayout v → 32 * (v.bsize / 4096) ≡ v.inopb
-parts_whole v g =
+-- so it is a whole number of 32 inodes, and of 4
+pub parts_divide : DividesBlocks 32
+parts_divide v g =
     let whole = block_parts v.bsize (block_is v (sizes_are v g.shaped)) in
     let same = inodes_whole v g in
-    omega (arith, whole, same)
+    record { some = omega arith; whole = omega (arith, whole, same) }
 
--- a table has a whole number of parts
-pub table_parts : (v : Layout) → IsAcceptedLayout v → v.ipg % 32 ≡ 0
-table_parts v g =
-    let all : v.inopb * (v.ipg / v.inopb) ≡ v.ipg = whole_blocks v.ipg v.inopb g.sizes.inode_blocks in
-    let k = v.bsize / 4096 in
-    let parts : 32 * k ≡ v.inopb = parts_whole v g in
-    let is : v.ipg ≡ 32 * (k * (v.ipg / v.inopb)) =
-    sym all ∙ ap (λ (n : ℕ). n * (v.ipg / v.inopb)) (sym parts) ∙ mul_assoc 32 k (v.ipg / v.inopb) in
-    omega (arith, is)
+pub sectors_divide : DividesBlocks 4
+sectors_divide v g = let parts = (parts_divide v g).whole in
+    record { some = omega arith; whole = omega (arith, parts) }
 
--- the part of an inode ends no later than its block
-part_ends : (i k : ℕ) → 0 < k → i / 32 * 4096 + 4096 ≤ i / (32 * k) * (4096 * k) + 4096 * k
-part_ends i k some =
-    let rest : i % (32 * k) < 32 * k = mod-lt i {m = 32 * k} (omega arith) in
-    let below : i < suc (i / (32 * k)) * (32 * k) = omega (arith, div-add-mod' i (32 * k), rest) in
-    let less : i / 32 < suc (i / (32 * k)) * k =
-    div_below i 32 (suc (i / (32 * k)) * k) (omega arith) (grind (arith, below)) in
-    grind (arith, less)
-
--- the part of an inode ends in the volume
-pub part_inside : (v : Layout) (x : ℕ) → IsAcceptedLayout v → x / v.ipg < v.ncg →
-    (cgstart v (x / v.ipg) + v.iblkno) * v.fsize + x % v.ipg / 32 * 4096 + 4096 ≤ v.size * v.fsize
-part_inside v x g group =
-    let k = v.bsize / 4096 in
-    let inodes : 32 * k ≡ v.inopb = parts_whole v g in
-    let bytes : 4096 * k ≡ v.bsize = block_parts v.bsize (block_is v (sizes_are v g.shaped)) in
-    let same = inodes_whole v g in
-    let ends = rw (inodes, bytes) at (part_ends (x % v.ipg) k (omega (arith, inodes))) in
-    let inside = block_inside v x g group in
-    omega (arith, ends, inside)
+-- a block is one piece
+pub block_divides : (v : Layout) → IsAcceptedLayout v → DividesBlock v v.inopb
+block_divides v g =
+    let same : 128 * v.inopb ≡ v.bsize = inodes_whole v g in
+    record { some = omega (arith, same); whole = mod_self v.inopb }
 
 -- the numbers of the block of x, in blocks of n: each is in the same table of ipg, and in the same block of it
 in_block : (x y ipg n : ℕ) → 0 < n → 0 < ipg → ipg % n ≡ 0 → x - x % ipg % n ≤ y → y < x - x % ipg % n + n →
@@ -144,27 +145,15 @@ in_block x y ipg n some filled whole low high =
       ap (λ (m : ℕ). m % ipg) is ∙ mod-mul-add (x / ipg) ipg within small,
     )
 
--- the block of x has each of its inodes in its place
-pub inodes_there : (v : Layout) (x : ℕ) (t : Table) → IsAcceptedLayout v → t.first ≡ x - x % v.ipg % v.inopb →
-    t.count ≡ v.inopb → t.window.place ≡ table_block_place v x → t.window.length ≡ v.bsize →
+-- the piece of x has each of its inodes in its place
+pub inodes_there : (v : Layout) (n x : ℕ) (t : Table) → IsAcceptedLayout v → DividesBlock v n →
+    t.first ≡ x - x % v.ipg % n → t.count ≡ n → t.window.place ≡ table_place v n x → t.window.length ≡ n * 128 →
     (y : ℕ) → HasInode t y → IsInPlace v t y
-inodes_there v x t g first count place length y has =
-    let same : 128 * v.inopb ≡ v.bsize = inodes_whole v g in
-    let low : x - x % v.ipg % v.inopb ≤ y = omega arith in
-    let high : y < x - x % v.ipg % v.inopb + v.inopb = omega arith in
-    let it = in_block x y v.ipg v.inopb (omega arith) g.sizes.some_inodes g.sizes.inode_blocks low high in
-    let spread : x % v.ipg / v.inopb * v.bsize ≡ 128 * (x % v.ipg / v.inopb * v.inopb) =
-    rw (← same) (grind (arith, mul_comm, mul_assoc)) in
-    record { place = rw (it.0, it.1) (omega arith); inside = omega arith }
-
--- the part of x has each of its inodes in its place
-pub part_there : (v : Layout) (x : ℕ) (t : Table) → IsAcceptedLayout v → t.first ≡ x - x % v.ipg % 32 →
-    t.count ≡ 32 → t.window.place ≡ table_part_place v x → t.window.length ≡ 4096 →
-    (y : ℕ) → HasInode t y → IsInPlace v t y
-part_there v x t g first count place length y has =
-    let low : x - x % v.ipg % 32 ≤ y = omega arith in
-    let high : y < x - x % v.ipg % 32 + 32 = omega arith in
-    let it = in_block x y v.ipg 32 (omega arith) g.sizes.some_inodes (table_parts v g) low high in
+inodes_there v n x t g d first count place length y has =
+    let low : x - x % v.ipg % n ≤ y = omega arith in
+    let high : y < x - x % v.ipg % n + n = omega arith in
+    let it = in_block x y v.ipg n d.some g.sizes.some_inodes (table_whole v n g d) low high in
+    let spread : x % v.ipg / n * (n * 128) ≡ 128 * (x % v.ipg / n * n) = grind (arith, mul_comm, mul_assoc) in
     record { place = rw (it.0, it.1) (omega arith); inside = omega arith }
 
 -- a piece of a piece

@@ -10,18 +10,23 @@ use Rattle.ffs_volume.specs.declared.Inode.{Inode}
 use Rattle.ffs_volume.specs.declared.Layout.{Layout}
 use Rattle.ffs_volume.specs.Blocks.Inodes.{inode_of}
 use Rattle.ffs_volume.specs.Disk.Areas.{cgstart, inode_place}
+use Rattle.ffs_volume.specs.Disk.Geometry.{IsAcceptedLayout}
 use Rattle.ffs_volume.specs.Disk.Numbers.{piece}
 use Rattle.ffs_walk.specs.Windows.{WindowHolds, held_bytes}
 use Rattle.ffs_workspace.specs.declared.table.Table.{Table}
 
--- the byte where the block of the inode table begins that has the inode x
-abbrev pub table_block_place : Layout → ℕ → ℕ
-table_block_place v x =
-    (cgstart v (x / v.ipg) + v.iblkno) * v.fsize + x % v.ipg / v.inopb * v.bsize
+-- a block of the inode table is whole pieces of n inodes
+pub record DividesBlock (v : Layout) (n : ℕ) : Type 0 where
+  pub some : 0 < n
+  pub whole : v.inopb % n ≡ 0
 
--- the byte where the part of the inode table begins that has the inode x: parts have 32 inodes
-abbrev pub table_part_place : Layout → ℕ → ℕ
-table_part_place v x = (cgstart v (x / v.ipg) + v.iblkno) * v.fsize + x % v.ipg / 32 * 4096
+-- so is each block of each volume
+abbrev pub DividesBlocks : ℕ → Type 0
+DividesBlocks n = (v : Layout) → IsAcceptedLayout v → DividesBlock v n
+
+-- the byte where the piece of n inodes of the inode table begins that has the inode x
+abbrev pub table_place : Layout → ℕ → ℕ → ℕ
+table_place v n x = (cgstart v (x / v.ipg) + v.iblkno) * v.fsize + x % v.ipg / n * (n * DINODE_SIZE)
 
 -- the inode x is one of those that are held
 abbrev pub HasInode : Table → ℕ → Type 0

@@ -1,7 +1,8 @@
 //! Inodes, read by blocks of their table.
 
 ghost use Rattle.std.specs.Prelude.{◌≡◌, ◌*◌, ◌+◌, ◌<◌, ◌≤◌, IfOk, OnOk, IsTrue};
-ghost use Rattle.ffs_workspace.specs.Tables.{table_block_place, table_part_place};
+ghost use Rattle.ffs_volume.specs.declared.constants.TheConstants.{DINODE_SIZE};
+ghost use Rattle.ffs_workspace.specs.Tables.{DividesBlock, table_place};
 
 use ffs_image::{Image, ImageFault};
 use ffs_layout::{Geometry, decode_inode};
@@ -10,40 +11,29 @@ use ffs_volume::Inode;
 use ffs_volume::constants::DINODE_SIZE;
 use ffs_walk::Window;
 
-/// Where the block of the inode table is that has an inode, in bytes.
+/// How many inodes a sector of 512 bytes has.
+const SECTOR_INODES: u32 = 4;
+
+/// How many inodes eight sectors have: no block has less.
+const PART_INODES: u32 = 32;
+
+/// Where the piece of the inode table is that has an inode, in bytes. Pieces of `count` inodes lie one after another.
 #[inline(always)]
-#[tactic(auto, using(crate::proofs::Places::block_inside, ffs_volume::proofs::AreaLaws::inode_group))]
-fn block_place(geometry: &Geometry, number: u32) -> u64
-    requires { number < geometry.now.layout.ncg * geometry.now.layout.ipg }
-    ensures value { result ≡ table_block_place geometry.now.layout number }
-    ensures inside { result + geometry.now.layout.bsize
+#[tactic(auto, using(crate::proofs::Places::piece_inside, ffs_volume::proofs::AreaLaws::inode_group))]
+fn piece_place(geometry: &Geometry, number: u32, count: u32) -> u64
+    requires number { number < geometry.now.layout.ncg * geometry.now.layout.ipg }
+    requires count { DividesBlock geometry.now.layout count }
+    ensures value { result ≡ table_place geometry.now.layout count number }
+    ensures inside { result + count * DINODE_SIZE
         ≤ geometry.now.layout.size * geometry.now.layout.fsize }
 {
     let group = number / geometry.layout.ipg;
-    let block = number % geometry.layout.ipg / geometry.layout.inopb;
+    let piece = number % geometry.layout.ipg / count;
     u64::from(geometry.cgstart(group) + geometry.layout.iblkno) * u64::from(geometry.layout.fsize)
-        + u64::from(block) * u64::from(geometry.layout.bsize)
+        + u64::from(piece) * (u64::from(count) * DINODE_SIZE as u64)
 }
 
-/// How many inodes a part of a table has, and how many bytes: parts lie one after another, and no block has less.
-const PART_INODES: u32 = 32;
-
-const PART_BYTES: u64 = 4096;
-
-/// Where the part of the inode table is that has an inode, in bytes.
-#[tactic(auto, using(crate::proofs::Places::part_inside, ffs_volume::proofs::AreaLaws::inode_group))]
-fn part_place(geometry: &Geometry, number: u32) -> u64
-    requires { number < geometry.now.layout.ncg * geometry.now.layout.ipg }
-    ensures value { result ≡ table_part_place geometry.now.layout number }
-    ensures inside { result + 4096 ≤ geometry.now.layout.size * geometry.now.layout.fsize }
-{
-    let group = number / geometry.layout.ipg;
-    let part = number % geometry.layout.ipg / PART_INODES;
-    u64::from(geometry.cgstart(group) + geometry.layout.iblkno) * u64::from(geometry.layout.fsize)
-        + u64::from(part) * PART_BYTES
-}
-
-/// One block of the inode table of a group, or a part of one.
+/// One block of the inode table of a group, or a piece of one.
 #[derive(Drop)]
 pub struct Table {
     /// The bytes of the inodes.
@@ -56,6 +46,7 @@ pub struct Table {
 
 impl Table {
     ghost use Rattle.ffs_workspace.specs.Tables.{CanReadInodes, HasInode, IsEmptyTable, IsHeldAt, ReadsInode, TableAfter};
+    ghost use Rattle.ffs_workspace.specs.Tables.{DividesBlocks};
 
     /// A table that holds no inode. It takes no memory.
     pub fn over(buffer: FixedList<u8>) -> Table
@@ -83,51 +74,35 @@ impl Table {
         self.count = 0;
     }
 
-    // Reads the block of the table that has an inode.
-    fn read_block<I: Image>(
+    // Reads the piece of the table that has an inode, of so many inodes.
+    #[tactic(auto, using(crate::proofs::Places::piece_room))]
+    fn read_piece<I: Image>(
         &mut self,
         geometry: &Geometry,
         number: u32,
+        count: u32,
         image: &mut I,
     ) -> Result<(), ImageFault>
         requires number { number < geometry.now.layout.ncg * geometry.now.layout.ipg }
+        requires count { DividesBlock geometry.now.layout count }
         requires ready { CanReadInodes geometry.now.layout (I.device image.old) self.old }
         ensures has { OnOk result (HasInode self.new number) }
         ensures leaves { TableAfter geometry.now.layout (I.device image.old) (I.device image.new)
             self.new result }
     {
-        let place = block_place(geometry, number);
+        let place = piece_place(geometry, number, count);
         self.forget();
         self.window
-            .fill(image, place, geometry.layout.bsize as usize)?;
-        self.first = number - number % geometry.layout.ipg % geometry.layout.inopb;
-        self.count = geometry.layout.inopb;
-        Ok(())
-    }
-
-    // Reads the part of the table that has an inode.
-    fn read_part<I: Image>(
-        &mut self,
-        geometry: &Geometry,
-        number: u32,
-        image: &mut I,
-    ) -> Result<(), ImageFault>
-        requires number { number < geometry.now.layout.ncg * geometry.now.layout.ipg }
-        requires ready { CanReadInodes geometry.now.layout (I.device image.old) self.old }
-        ensures { TableAfter geometry.now.layout (I.device image.old) (I.device image.new) self.new
-            result }
-    {
-        let place = part_place(geometry, number);
-        self.forget();
-        self.window.fill(image, place, PART_BYTES as usize)?;
-        self.first = number - number % geometry.layout.ipg % PART_INODES;
-        self.count = PART_INODES;
+            .fill(image, place, count as usize * DINODE_SIZE)?;
+        self.first = number - number % geometry.layout.ipg % count;
+        self.count = count;
         Ok(())
     }
 
     // Reads the block of the table that has an inode, unless it is the one that was read last.
     // Returns where the inode's bytes are in the window.
     #[inline(always)]
+    #[tactic(auto, using(crate::proofs::Places::block_divides))]
     fn load<I: Image>(
         &mut self,
         geometry: &Geometry,
@@ -142,7 +117,7 @@ impl Table {
             self.new result }
     {
         if !self.has(number) {
-            self.read_block(geometry, number, image)?;
+            self.read_piece(geometry, number, geometry.layout.inopb, image)?;
         }
         Ok(DINODE_SIZE * (number - self.first) as usize)
     }
@@ -168,8 +143,27 @@ impl Table {
         Ok(decode_inode(geometry.layout.order, &bytes[at..at + DINODE_SIZE]))
     }
 
-    /// The inode of a number (fs(5)), as `inode` gives it. Where it isn't held, a part of its block is read: so few bytes
-    /// are read for inodes that are far from one another.
+    // Whether an inode's sector begins where the inodes that are held end, as where the caller goes along the table.
+    // No answer depends on it: it decides only how much is read.
+    fn follows(&self, number: u32) -> bool {
+        number >= self.first && (number - self.first) / SECTOR_INODES == self.count / SECTOR_INODES
+    }
+
+    // How many inodes are read where one isn't held.
+    #[tactic(auto, using(crate::proofs::Places::parts_divide, crate::proofs::Places::sectors_divide))]
+    fn count_to_read(&self, number: u32) -> u32
+        ensures { DividesBlocks result }
+    {
+        if self.follows(number) {
+            PART_INODES
+        } else {
+            SECTOR_INODES
+        }
+    }
+
+    /// The inode of a number (fs(5)), as `inode` gives it. Where it isn't held, its sector is read and no whole
+    /// block, so that inodes which are far from one another cost few bytes. Eight sectors are read where it follows the
+    /// inodes that are held.
     ///
     /// # Errors
     /// A read of the image that failed.
@@ -186,7 +180,8 @@ impl Table {
             self.new result }
     {
         if !self.has(number) {
-            self.read_part(geometry, number, image)?;
+            let count = self.count_to_read(number);
+            self.read_piece(geometry, number, count, image)?;
         }
         self.inode(geometry, number, image)
     }

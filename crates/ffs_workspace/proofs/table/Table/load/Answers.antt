@@ -1,17 +1,17 @@
 use Rattle.std.proofs.Common.{rules}
 use Rattle.ffs_workspace.proofs.Places.{held_there}
 use Rattle.ffs_workspace.proofs.table.Table.load.Goals as goal
-use Rattle.ffs_workspace.proofs.table.Table.load.Goals.{then-not-has+in_ok-read_block, else-not-has}
+use Rattle.ffs_workspace.proofs.table.Table.load.Goals.{then-not-has+in_ok-read_piece, else-not-has}
 
 pub returns-clause-there : goal.returns-clause-there
 returns-clause-there g c =
     let v = c.args.geometry.now.layout in
     let ready = c.requires.ready in
     elim c.if-not-has.branch [
-      | then-not-has+in_ok-read_block w ↦
+      | then-not-has+in_ok-read_piece w ↦
           held_there v (g.I.Image.device c.args.image.now).contents c.args.number c.if-not-has.self
-          (rw w.self-is w.in_ok-read_block.ensures.leaves.kept.made)
-          (search rules) (rw w.self-is w.in_ok-read_block.ensures.has)
+          (rw w.self-is w.in_ok-read_piece.ensures.leaves.kept.made)
+          (search rules) (rw w.self-is w.in_ok-read_piece.ensures.has)
       | else-not-has w ↦
           held_there v (g.I.Image.device c.args.image.now).contents c.args.number c.if-not-has.self
           (rw w.self-is ready.made) (rw w.self-is ready.holds) (rw w.self-is (c.has.ensures (search rules)))

@@ -1,14 +1,15 @@
 use Rattle.std.proofs.Common.{refl, rules, ◌∙◌}
 use Rattle.ffs_workspace.proofs.Places.{inodes_there}
-use Rattle.ffs_workspace.proofs.table.Table.read_block.Goals as goal
+use Rattle.ffs_workspace.proofs.table.Table.read_piece.Goals as goal
 
 pub returns-clause-leaves : goal.returns-clause-leaves
 returns-clause-leaves g c = record {
   kept = record {
     made = record {
       room = search rules;
-      inodes = inodes_there c.args.geometry.now.layout c.args.number _ c.args.geometry.now.sound refl refl
-          (c.in_ok-fill.ensures.place.0 ∙ c.block_place-place.ensures.value) c.in_ok-fill.ensures.place.1;
+      inodes = inodes_there c.args.geometry.now.layout c.args.count c.args.number _ c.args.geometry.now.sound
+          c.requires.count refl refl (c.in_ok-fill.ensures.place.0 ∙ c.piece_place-place.ensures.value)
+          c.in_ok-fill.ensures.place.1;
     };
     holds = c.fill.ensures.holds;
   };
