@@ -1,10 +1,10 @@
 -- A word isn't zero where one of its bytes isn't, in either byte order.
-use Rattle.std.proofs.Common.{◌≡◌, ℕ, zero, suc, ◌==◌, ◌+◌, ◌-◌, ◌*◌, ◌<◌, ◌≤◌, Bool, true, false, not, ◌||◌, List, []}
+use Rattle.std.proofs.Common.{◌≡◌, ℕ, zero, suc, ◌==◌, ◌+◌, ◌-◌, ◌*◌, ◌<◌, ◌≤◌, Bool, true, false, not, ◌||◌, List, [], leb, ◌&&◌}
 use Rattle.std.proofs.Common.{◌∷◌, inl, inr, length, take, drop, arith, refl, ap, sym, ◌∙◌, length-drop, ◌^◌, lit<}
 use Rattle.std.proofs.Math.Nat.{mul-le-mul_right}
 use Rattle.std.proofs.Math.Seq.{take-add}
 use Rattle.std.proofs.lemmas.Bool.Decides.{nat_tests}
-use Rattle.std.proofs.lemmas.Bool.{cases_lt}
+use Rattle.std.proofs.lemmas.Bool.{cases_lt, and_parts, leb-true, not-true}
 use Rattle.std.proofs.lemmas.List.{drop-drop}
 use Rattle.std.proofs.lemmas.List.Folds.{list_any-append}
 use Rattle.std.specs.List.{list_any, range_with_len, slice_range}
@@ -104,10 +104,24 @@ no_byte v block first n k fits none low high =
     (sym (words_set v block n first fits) ∙ ap (λ m. any_nonzero (take m (drop (4 * first) block))) (sym e) ∙ none)
     (omega (arith, low, high))
 
--- so the words before them and these are zero
-pub more_zeros : (v : Layout) (block : List ℕ) (next first n : ℕ) → 4 * (first + n) ≤ length block →
-    any_nonzero (slice_range block (4 * first) (4 * (first + n))) ≡ false →
-    ((k : ℕ) → next ≤ k → k < first → address_in v block k ≡ 0) →
-    (k : ℕ) → next ≤ k → k < first + n → address_in v block k ≡ 0
-more_zeros v block next first n fits none zeros k low high =
-    elim (cases_lt k first) [ inl l ↦ zeros k low l | inr m ↦ no_byte v block first n k fits none m high ]
+-- the words from an index on and below another are zero
+pub record ZerosTo (v : Layout) (block : List ℕ) (next used place : ℕ) : Type 0 where
+  pub low : next ≤ place
+  pub high : place ≤ used
+  pub zeros : (k : ℕ) → next ≤ k → k < place → address_in v block k ≡ 0
+
+-- and so many more, where they are below `used` and no byte of them is set
+pub more_zeros : (v : Layout) (block : List ℕ) (next used place n : ℕ) → 4 * used ≤ length block →
+    (leb (place + n) used && not (any_nonzero (slice_range block (4 * place) (4 * (place + n))))) ≡ true →
+    ZerosTo v block next used place → ZerosTo v block next used (place + n)
+more_zeros v block next used place n fits all z =
+    let parts = and_parts (leb (place + n) used) (not (any_nonzero (slice_range block (4 * place) (4 * (place + n))))) all in
+    let within = leb-true (place + n) used parts.0 in
+    record {
+      low = omega (arith, z.low);
+      high = within;
+      zeros = λ k low high. elim (cases_lt k place) [
+        | inl l ↦ z.zeros k low l
+        | inr m ↦ no_byte v block place n k (omega (arith, within, fits)) (not-true _ parts.1) m high
+      ];
+    }

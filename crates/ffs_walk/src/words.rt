@@ -1,6 +1,7 @@
 //! The words of an indirect block.
 
-ghost use Rattle.std.specs.Prelude.{◌≡◌, ◌*◌, ◌+◌, ◌≤◌, length};
+ghost use Rattle.std.specs.Prelude.{◌≡◌, ◌*◌, ◌+◌, ◌≤◌, length, nat_le, not, ◌&&◌};
+ghost use Rattle.std.specs.List.{slice_range};
 ghost use Rattle.ffs_volume.specs.Blocks.Inodes.{any_nonzero};
 ghost use Rattle.ffs_volume.specs.Blocks.Steps.{any_nonzero_from, address_in};
 ghost use Rattle.ffs_walk.specs.Windows.{EndsZeros};
@@ -12,8 +13,11 @@ use ffs_volume::Order;
 /// How many bytes a word has.
 const WORD_BYTES: usize = 4;
 
-/// How many words are looked at together for one that isn't zero.
-const WORDS_TOGETHER: u32 = 16;
+/// How many words are looked at together for one that isn't zero, where no word of zero was seen before them.
+const FEW_WORDS: u32 = 16;
+
+/// How many are looked at together behind that many words of zero.
+const MANY_WORDS: u32 = 128;
 
 /// The word at an index of a block.
 #[tactic(auto, unfolding(ffs_volume::specs::Disk::Numbers::number, ffs_volume::specs::Disk::Numbers::u32_at))]
@@ -53,7 +57,24 @@ pub fn any_from(geometry: &Geometry, block: &[u8], used: u32) -> bool
     any_set(&block[first..end])
 }
 
-/// The first index from `next` on whose word isn't zero, and `used` where there is none below it. Where many words are zero,
+/// Whether so many words from an index on are below `used`, and all of them are zero. The compiler knows how many bytes they have
+/// where it knows how many words.
+#[inline(always)]
+fn are_zeros(block: &[u8], index: u32, used: u32, words: u32) -> bool
+    requires block { 4 * used ≤ length block.now }
+    requires index { index ≤ used }
+    ensures { result ≡ (nat_le (index + words) used
+        && not (any_nonzero (slice_range block.now (4 * index) (4 * (index + words))))) }
+{
+    if used - index < words {
+        return false;
+    }
+    let first = WORD_BYTES * index as usize;
+    let end = first + WORD_BYTES * words as usize;
+    !any_set(&block[first..end])
+}
+
+/// The first index from `next` on whose word isn't zero, and `used` where there is none below it. Where a few words are zero,
 /// many are looked at together.
 pub fn zeros_end(geometry: &Geometry, block: &[u8], next: u32, used: u32) -> u32
     requires block { length block.now ≡ geometry.now.layout.bsize }
@@ -61,13 +82,14 @@ pub fn zeros_end(geometry: &Geometry, block: &[u8], next: u32, used: u32) -> u32
     ensures { EndsZeros geometry.now.layout block.now next used result }
 {
     let mut place = next;
-    while used - place >= WORDS_TOGETHER {
-        let first = WORD_BYTES * place as usize;
-        let end = WORD_BYTES * (place + WORDS_TOGETHER) as usize;
-        if any_set(&block[first..end]) {
-            break;
+    if are_zeros(block, place, used, FEW_WORDS) {
+        place += FEW_WORDS;
+        while are_zeros(block, place, used, MANY_WORDS) {
+            place += MANY_WORDS;
         }
-        place += WORDS_TOGETHER;
+        while are_zeros(block, place, used, FEW_WORDS) {
+            place += FEW_WORDS;
+        }
     }
     for j in place..used {
         if word(geometry, block, j) != 0 {
