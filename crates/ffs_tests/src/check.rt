@@ -1,7 +1,5 @@
 //! The whole run: its words, its opening and its end.
 
-use super::layout::{base, put_bytes};
-use super::volume::{Number, ORDERS, put};
 use ffs_check::args::Args;
 use ffs_check::check::check;
 use ffs_check::opening::check_opening;
@@ -9,6 +7,7 @@ use ffs_check::run::run;
 use ffs_image::{FuseImage, Image, MemoryImage};
 use ffs_layout::Order;
 use ffs_report::{Counted, FuseWriter};
+use ffs_samples::{Number, ORDERS, base, put, put_bytes};
 use ffs_volume::{End, SuperFault};
 use std::alloc::{AllocError, Global};
 use std::test::Fail;

@@ -2,12 +2,12 @@
 
 ghost use Rattle.std.specs.Prelude.{◌≡◌, ◌≤◌, IfOk, length};
 
-use super::volume::image_of;
 use ffs_check::args::Args;
 use ffs_check::check::check;
 use ffs_image::{FileImage, FuseImage, Image, ImageFault, MemoryImage};
 use ffs_layout::Order;
 use ffs_report::Counted;
+use ffs_samples::image_of;
 use ffs_volume::{End, SuperFault};
 use std::alloc::{AllocError, Allocator, Global};
 use std::fs::{File, Metadata, OpenOptions};

@@ -2,13 +2,13 @@
 
 ghost use Rattle.std.specs.Prelude.{◌≡◌, IfOk, length, vec_len};
 
-use super::layout::base;
 use ffs_check::args::Args;
 use ffs_check::check::check_in;
 use ffs_image::MemoryImage;
 use ffs_layout::Order;
 use ffs_memory::{FilledList, FuseMemory, Memory, SystemMemory};
 use ffs_report::Counted;
+use ffs_samples::base;
 use ffs_volume::End;
 use std::alloc::{AllocError, Global};
 use std::test::Fail;
@@ -20,17 +20,6 @@ const REQUESTS: u64 = 15;
 const HELD: u64 = 2 * 16 + 25 * 32 + 6 * 4096;
 
 const UNSTARTED: &[u8] = b"** t.img (NO WRITE)\n** Last Mounted on /mnt\ncannot alloc maps\n";
-
-/// A list of these numbers.
-pub fn numbers(values: &[u32], alloc: Global) -> Result<FilledList<u32>, AllocError>
-    ensures { IfOk result (λ list. vec_len list ≡ length values.now) }
-{
-    let mut list = SystemMemory::new(alloc).numbers(values.len())?;
-    for index in 0..values.len() {
-        list.set(index, values[index]);
-    }
-    Ok(list)
-}
 
 // How a check ends whose k-th request is refused, with what it printed, and the memory after it.
 fn refused(k: u64, alloc: Global) -> Result<(End, Vec<u8>, FuseMemory<SystemMemory>), Fail> {

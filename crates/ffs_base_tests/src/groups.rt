@@ -1,0 +1,111 @@
+//! The counts and the findings of a group that a reader would work out by hand.
+
+ghost use Rattle.std.specs.Prelude.{◌≡◌, IfOk};
+
+use ffs_groups::{Findings, compare_group, group_counts};
+use ffs_layout::Order;
+use ffs_maps::FragmentMap;
+use ffs_samples::{Number, geometry, put};
+use std::alloc::{AllocError, Global};
+use std::test::Fail;
+
+// The words of its group block that aren't 0, by their place.
+const BLOCK: [Number; 13] = [
+    (4, 4, 0x00090255),
+    (20, 4, 128),
+    (24, 4, 1),
+    (28, 4, 22),
+    (32, 4, 29),
+    (36, 4, 6),
+    (64, 4, 2),
+    (92, 4, 168),
+    (96, 4, 172),
+    (168, 4, 0x00000007),
+    (176, 4, 0xffffffee),
+    (180, 4, 0xffffffff),
+    (184, 4, 0xffffffff),
+];
+
+fn reported(findings: Findings) -> [bool; 4] {
+    [
+        findings.magic,
+        findings.counts,
+        findings.maps,
+        findings.sums,
+    ]
+}
+
+// The root alone, whose chunk is fragment 36: 33 to 35 and 37 to 39 are free, and 22 whole blocks.
+fn used_by_root(alloc: Global) -> Result<FragmentMap, AllocError>
+    ensures { IfOk result (λ map. map.size ≡ 128) }
+{
+    let mut used = FragmentMap::new(alloc, 128)?;
+    used.set_run(0, 33);
+    used.set(36);
+    Ok(used)
+}
+
+fn kinds_of_root() -> [u8; 32] {
+    let mut kinds = [0; 32];
+    kinds[2] = 4;
+    kinds
+}
+
+// A summary record with these counts, and the group block with this word in place of its own.
+fn records(summary: [u8; 4], wrong: Number) -> ([u8; 16], [u8; 1024]) {
+    let [dirs, blocks, inodes, fragments] = summary;
+    let record = [
+        dirs, 0, 0, 0, blocks, 0, 0, 0, inodes, 0, 0, 0, fragments, 0, 0, 0,
+    ];
+    let mut block = [0; 1024];
+    put(Order::Little, &mut block, &BLOCK);
+    put(Order::Little, &mut block, &[wrong]);
+    (record, block)
+}
+
+#[test]
+fn counts_of_a_root(rt: HostRuntime) -> Result<(), Fail> {
+    let geometry = geometry(Order::Little)?;
+    let used = used_by_root(rt.alloc())?;
+    let counts = group_counts(&geometry, &used, &kinds_of_root(), 0);
+    let found = counts.summary;
+    assert_eq!(rt;
+        (found.dirs, found.blocks, found.inodes, found.fragments),
+        (1, 22, 29, 6)
+    );
+    assert_eq!(rt; counts.runs, [0, 0, 0, 2, 0, 0, 0, 0, 0]);
+    Ok(())
+}
+
+#[test]
+fn findings_of_a_root(rt: HostRuntime) -> Result<(), Fail> {
+    let geometry = geometry(Order::Little)?;
+    let used = used_by_root(rt.alloc())?;
+    let kinds = kinds_of_root();
+    let counts = group_counts(&geometry, &used, &kinds, 0);
+    for (summary, wrong, findings) in [
+        ([1, 22, 29, 6], (4, 4, 0x00090255), [true, true, true, true]),
+        ([1, 22, 29, 6], (4, 4, 0), [false, true, true, true]),
+        (
+            [1, 22, 29, 5],
+            (4, 4, 0x00090255),
+            [true, false, true, true],
+        ),
+        (
+            [1, 22, 29, 6],
+            (168, 4, 0x00000003),
+            [true, true, false, true],
+        ),
+        (
+            [1, 22, 29, 6],
+            (184, 4, 0x7fffffff),
+            [true, true, false, true],
+        ),
+        ([1, 22, 29, 6], (64, 4, 1), [true, true, true, false]),
+    ] {
+        let (record, block) = records(summary, wrong);
+        let right = compare_group(&geometry, &used, &kinds, &counts, 0, &record, &block);
+        assert_eq!(rt; reported(right), findings);
+    }
+    Ok(())
+}

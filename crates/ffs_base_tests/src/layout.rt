@@ -1,0 +1,276 @@
+//! The rows of the format that a reader would work out by hand, in both orders.
+
+use ffs_image::MemoryImage;
+use ffs_layout::{Group, Super, decode_inode, entry_at, read_super};
+use ffs_samples::{Number, ORDERS, base, put, put_bytes, put_super};
+use ffs_volume::{Order, SuperFault};
+use std::alloc::{AllocError, Global};
+use std::test::Fail;
+
+fn fault(bytes: Vec<u8>, sector: Option<u32>) -> Option<SuperFault> {
+    let mut image = MemoryImage::new(bytes);
+    read_super(&mut image, sector).err()
+}
+
+// The outcomes of an image with a wrong magic in its first superblock, of one that is cut, and of one whose copy differs.
+fn faults(order: Order, alloc: Global) -> Result<[Option<SuperFault>; 6], AllocError> {
+    let mut wrong = base(order, alloc)?;
+    put(order, wrong.as_mut_slice(), &[(8192 + 1372, 4, 0)]);
+    let mut cut = base(order, alloc)?;
+    cut.truncate(131071);
+    let mut differs = base(order, alloc)?;
+    put(order, differs.as_mut_slice(), &[(16384 + 40, 4, 94)]);
+    Ok([
+        fault(base(order, alloc)?, None),
+        fault(wrong.clone()?, None),
+        fault(wrong, Some(32)),
+        fault(cut, None),
+        fault(differs.clone()?, None),
+        fault(differs, Some(32)),
+    ])
+}
+
+#[test]
+fn superblocks(rt: HostRuntime) -> Result<(), Fail> {
+    for order in ORDERS {
+        assert_eq!(rt;
+            faults(order, rt.alloc())?,
+            [
+                None,
+                Some(SuperFault::Magic),
+                None,
+                Some(SuperFault::Short),
+                Some(SuperFault::Disagree),
+                None,
+            ]
+        );
+    }
+    Ok(())
+}
+
+#[test]
+fn first_sectors(rt: HostRuntime) -> Result<(), Fail> {
+    let at_16 = Some(SuperFault::CannotRead { sector: 16 });
+    assert_eq!(rt; fault(Vec::new(rt.alloc()), None), at_16);
+    let mut turned = base(Order::Little, rt.alloc())?;
+    put_super(Order::Big, turned.as_mut_slice(), 16384);
+    assert_eq!(rt; fault(turned.clone()?, None), Some(SuperFault::Disagree));
+    assert_eq!(rt; fault(turned, Some(32)), None);
+    Ok(())
+}
+
+// The superblock of the base image with these numbers in the places.
+fn found_with(
+    sector: Option<u32>,
+    numbers: &[(usize, u64)],
+    size: usize,
+    alloc: Global,
+) -> Result<Super, Fail> {
+    let mut bytes = base(Order::Little, alloc)?;
+    bytes.resize(size, 0)?;
+    for &(place, number) in numbers {
+        put(
+            Order::Little,
+            bytes.as_mut_slice(),
+            &[(8192usize.saturating_add(place), 4, number)],
+        );
+    }
+    let mut image = MemoryImage::new(bytes);
+    Ok(read_super(&mut image, sector)?)
+}
+
+#[test]
+fn settings(rt: HostRuntime) -> Result<(), Fail> {
+    for (optim, minfree, defects) in [
+        (0, 10, false),
+        (1, 99, false),
+        (2, 10, true),
+        (0xffff_ffff, 0, true),
+        (0, 100, true),
+    ] {
+        let found = found_with(None, &[(128, optim), (60, minfree)], 131072, rt.alloc())?;
+        assert_eq!(rt; found.opening_defects(), defects);
+    }
+    let found = found_with(None, &[], 131072, rt.alloc())?;
+    assert_eq!(rt; found.cstotal, [1, 22, 29, 6]);
+    assert_eq!(rt; &found.mount[..5], b"/mnt\0".as_slice());
+    Ok(())
+}
+
+// Two groups, the second of them moved by four fragments.
+const TWO_GROUPS: [(usize, u64); 6] = [(36, 250), (40, 201), (44, 2), (24, 4), (28, 0), (176, 2)];
+
+#[test]
+fn places(rt: HostRuntime) -> Result<(), Fail> {
+    let geometry = found_with(Some(16), &TWO_GROUPS, 256000, rt.alloc())?.geometry;
+    assert_eq!(rt;
+        (
+            geometry.ncg(),
+            geometry.ipg(),
+            geometry.fpg(),
+            geometry.cgoffset()
+        ),
+        (2, 32, 128, 4)
+    );
+    if geometry.ncg() == 2 && geometry.ipg() == 32 {
+        assert_eq!(rt;
+            [
+                geometry.cgbase(1),
+                geometry.cgstart(1),
+                geometry.cgsblock(1),
+                geometry.cgdmin(1)
+            ],
+            [128, 132, 148, 164]
+        );
+        assert_eq!(rt;
+            [
+                geometry.group_place(1),
+                geometry.summary_place(1),
+                geometry.inode_place(2),
+                geometry.inode_place(33)
+            ],
+            [159744, 32784, 28928, 163968]
+        );
+    }
+    Ok(())
+}
+
+#[test]
+fn areas(rt: HostRuntime) -> Result<(), Fail> {
+    let geometry = found_with(Some(16), &TWO_GROUPS, 256000, rt.alloc())?.geometry;
+    for (fragment, is_fragment_in_range, is_reserved) in [
+        (0, true, true),
+        (15, true, true),
+        (16, false, true),
+        (31, false, true),
+        (32, true, true),
+        (33, true, false),
+        (148, false, true),
+        (164, true, false),
+        (249, true, false),
+        (250, false, false),
+    ] {
+        assert_eq!(rt; geometry.ok(fragment), is_fragment_in_range);
+        assert_eq!(rt; geometry.reserved(fragment), is_reserved);
+    }
+    assert_eq!(rt;
+        [
+            geometry.in_range(33, 1),
+            geometry.in_range(127, 2),
+            geometry.in_range(249, 2)
+        ],
+        [true, false, false]
+    );
+    Ok(())
+}
+
+// The inode of a directory of 4,402,345,721,856 bytes, with numbers below 0 and an address in the last place.
+const INODE: [Number; 8] = [
+    (0, 2, 0o40755),
+    (2, 2, 0xfffe),
+    (8, 8, 4402345721856),
+    (24, 4, 0xffff_ffff),
+    (40, 4, 36),
+    (96, 4, 99),
+    (104, 4, 2),
+    (112, 4, 0xffff_ffff),
+];
+
+#[test]
+fn inodes(rt: HostRuntime) -> Result<(), Fail> {
+    for order in ORDERS {
+        let mut bytes = [0u8; 128];
+        put(order, &mut bytes, &INODE);
+        let inode = decode_inode(order, &bytes);
+        assert_eq!(rt; (inode.mode, inode.nlink, inode.mtime), (0o40755, -2, -1));
+        assert_eq!(rt;
+            (inode.size, inode.blocks, inode.uid),
+            (4402345721856, 2, 0xffff_ffff)
+        );
+        assert_eq!(rt;
+            inode.addresses,
+            [36, 0, 0, 0, 0, 0, 0, 0, 0, 0, 0, 0, 0, 0, 99]
+        );
+    }
+    Ok(())
+}
+
+// A group block: the words that aren't 0.
+const GROUP: [Number; 10] = [
+    (4, 4, 0x090255),
+    (12, 4, 7),
+    (20, 4, 0xffff_ff80),
+    (24, 4, 1),
+    (28, 4, 22),
+    (32, 4, 29),
+    (36, 4, 6),
+    (64, 4, 2),
+    (92, 4, 168),
+    (96, 4, 172),
+];
+
+#[test]
+fn groups(rt: HostRuntime) -> Result<(), Fail> {
+    for order in ORDERS {
+        let mut bytes = [0u8; 168];
+        put(order, &mut bytes, &GROUP);
+        let group = Group::decode(order, &bytes);
+        let counts = group.cs;
+        assert_eq!(rt;
+            [group.magic, group.iusedoff, group.freeoff],
+            [0x090255, 168, 172]
+        );
+        assert_eq!(rt; [group.cgx, group.ndblk], [7, -128]);
+        assert_eq!(rt;
+            [counts.dirs, counts.blocks, counts.inodes, counts.fragments],
+            [1, 22, 29, 6]
+        );
+        assert_eq!(rt; group.frsum, [0, 0, 0, 2, 0, 0, 0, 0]);
+    }
+    Ok(())
+}
+
+// The chunk of a root: `.` of 12 bytes, then `..` that fills the chunk.
+fn root(order: Order) -> [u8; 512] {
+    let mut chunk = [0u8; 512];
+    put(order, &mut chunk, &[(0, 4, 2)]);
+    put(order, &mut chunk, &[(4, 2, 12)]);
+    put_bytes(&mut chunk, 6, b"\x04\x01.");
+    put(order, &mut chunk, &[(12, 4, 2)]);
+    put(order, &mut chunk, &[(16, 2, 500)]);
+    put_bytes(&mut chunk, 18, b"\x04\x02..");
+    chunk
+}
+
+#[test]
+fn entries(rt: HostRuntime) -> Result<(), Fail> {
+    for order in ORDERS {
+        let chunk = root(order);
+        for (place, length, name) in [(0, 12, b".".as_slice()), (12, 500, b"..")] {
+            match entry_at(order, &chunk, place) {
+                Some(entry) => {
+                    assert_eq!(rt; (entry.number, entry.length, entry.kind), (2, length, 4));
+                    assert_eq!(rt; entry.name, name);
+                }
+                None => assert!(rt; false),
+            }
+        }
+        assert!(rt; entry_at(order, &chunk, 4).is_none());
+        assert!(rt; entry_at(order, &chunk, 512).is_none());
+        let mut long = chunk;
+        put(order, &mut long, &[(16, 2, 504)]);
+        assert!(rt; entry_at(order, &long, 12).is_none());
+        for (name, stands) in [
+            (b"\x03abc\0", true),
+            (b"\x03a/b\0", false),
+            (b"\x03abc\x01", false),
+        ] {
+            let mut last = chunk;
+            put(order, &mut last, &[(500, 4, 5)]);
+            put(order, &mut last, &[(504, 2, 12)]);
+            put_bytes(&mut last, 507, name);
+            assert_eq!(rt; entry_at(order, &last, 500).is_some(), stands);
+        }
+    }
+    Ok(())
+}

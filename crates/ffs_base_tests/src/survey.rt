@@ -1,0 +1,201 @@
+//! A small volume: directory 3 below the root, with the file 4, and directories 5 and 6 that name each other.
+ghost use Rattle.std.specs.Prelude.{◌≡◌, IfOk, vec_len};
+
+use ffs_image::ImageFault;
+use ffs_memory::{FilledList, Memory, SystemMemory};
+use ffs_samples::numbers;
+use ffs_survey::{Directories, Named, is_dead, is_dir, is_suspect, is_unref, mark_leaders, survey};
+use ffs_volume::Role;
+use std::alloc::{AllocError, Global};
+use std::test::Fail;
+
+/// Four entries for each of eight inodes. It reports nothing of an image.
+#[derive(Drop)]
+struct Listed {
+    entries: [[Named; 4]; 8],
+    dir: usize,
+    place: usize,
+}
+
+impl Directories for Listed {
+    ghost use Rattle.std.specs.Prelude.{[], None, true, ◌-◌};
+
+    ghost Base = { Unit {0} };
+
+    ghost base = { λ _. tt };
+
+    ghost knows = { λ _ _. ⊥ };
+
+    ghost entries = { λ _ _ _. [] };
+
+    ghost sound = { λ _ _ _. true };
+
+    ghost device = { λ _. record { contents = None; size = 0; failures = 0; failed = 0 } };
+
+    ghost ready = { λ _. Unit {0} };
+
+    ghost rest = { λ _ _. [] };
+
+    ghost left = { λ listed. 4 - listed.place };
+
+    ghost name = { λ _. [] };
+
+    ghost sound_so_far = { λ _ _. true };
+
+    ghost ended = { λ _ _. Unit {0} };
+
+    fn start(&mut self, dir: u32) -> Result<(), ImageFault> {
+        self.dir = dir as usize;
+        self.place = 0;
+        Ok(())
+    }
+
+    fn next(&mut self) -> Result<Option<Named>, ImageFault> {
+        if self.dir >= self.entries.len() || self.place >= 4 {
+            return Ok(None);
+        }
+        let entry = self.entries[self.dir][self.place];
+        self.place += 1;
+        Ok(Some(entry))
+    }
+
+    fn is_sound(&mut self) -> Result<bool, ImageFault> {
+        Ok(true)
+    }
+}
+
+fn entry(role: Role, number: u32) -> Named {
+    Named {
+        role,
+        number,
+        length: 12,
+        kind: 4,
+    }
+}
+
+fn small_volume() -> Listed {
+    let none = [entry(Role::Empty, 0); 4];
+    let root = [
+        entry(Role::Dot, 2),
+        entry(Role::Dotdot, 2),
+        entry(Role::Plain, 3),
+        entry(Role::Empty, 0),
+    ];
+    let below = [
+        entry(Role::Dot, 3),
+        entry(Role::Dotdot, 2),
+        entry(Role::Plain, 4),
+        entry(Role::Extra, 2),
+    ];
+    let one = [
+        entry(Role::Dot, 5),
+        entry(Role::Dotdot, 6),
+        entry(Role::Plain, 6),
+        entry(Role::Empty, 0),
+    ];
+    let other = [
+        entry(Role::Dot, 6),
+        entry(Role::Dotdot, 5),
+        entry(Role::Plain, 5),
+        entry(Role::Empty, 0),
+    ];
+    Listed {
+        entries: [none, none, root, below, none, one, other, none],
+        dir: 0,
+        place: 0,
+    }
+}
+
+const KINDS: [u8; 8] = [0, 0, 4, 4, 8, 4, 4, 8];
+
+const PARENTS: [u32; 8] = [0, 0, 2, 2, 0, 6, 5, 0];
+
+const NAMED: [bool; 8] = [false, false, false, true, true, true, true, false];
+
+const REACHED: [bool; 8] = [false, false, true, true, false, false, false, false];
+
+// Where counts start that continue from what the list holds, at most 32769.
+fn starts(alloc: Global) -> Result<FilledList<u64>, AllocError>
+    ensures { IfOk result (λ list. vec_len list ≡ 8) }
+{
+    let mut list = SystemMemory::new(alloc).long_numbers(8)?;
+    list.set(0, 7);
+    list.set(2, 32766);
+    list.set(3, 40000);
+    list.set(4, 1);
+    list.set(5, 2);
+    list.set(6, 3);
+    list.set(7, 4);
+    Ok(list)
+}
+
+#[test]
+fn surveys_a_tree_and_a_cycle(rt: HostRuntime) -> Result<(), Fail> {
+    let mut references = starts(rt.alloc())?;
+    let mut named = [true; 8];
+    let mut reached = [true; 8];
+    let mut parents = numbers(&[7; 8], rt.alloc())?;
+    let mut calm = [true; 8];
+    let mut queue = numbers(&[7; 8], rt.alloc())?;
+    let answer = survey(
+        &mut small_volume(),
+        &KINDS,
+        &[false; 8],
+        &mut references,
+        &mut named,
+        &mut reached,
+        &mut parents,
+        &mut calm,
+        &mut queue,
+    );
+    assert!(rt; answer.is_ok());
+    for (number, count) in [7, 0, 32769, 32771, 2, 5, 6, 4].into_iter().enumerate() {
+        assert_eq!(rt; references[number], count);
+    }
+    for (number, parent) in PARENTS.into_iter().enumerate() {
+        assert_eq!(rt; parents[number], parent);
+    }
+    assert_eq!(rt; (named, reached), (NAMED, REACHED));
+    assert_eq!(rt;
+        calm,
+        [false, false, true, false, false, false, false, false]
+    );
+    Ok(())
+}
+
+// The least number of each cycle leads it: the root's own, and that of 5 and 6.
+#[test]
+fn leads_a_cycle_by_its_least_number(rt: HostRuntime) -> Result<(), Fail> {
+    let parents = numbers(&PARENTS, rt.alloc())?;
+    let mut queue = numbers(&[7; 8], rt.alloc())?;
+    let mut leaders = [true; 8];
+    mark_leaders(&parents, &mut queue, &mut leaders);
+    assert_eq!(rt;
+        leaders,
+        [false, false, true, false, false, true, false, false]
+    );
+    for (dir, want) in [(2, false), (3, false), (5, true), (6, false)] {
+        assert_eq!(rt;
+            is_unref(
+                dir,
+                &KINDS,
+                &[false; 8],
+                &NAMED,
+                &REACHED,
+                &parents,
+                &leaders
+            ),
+            want
+        );
+    }
+    Ok(())
+}
+
+#[test]
+fn judges_single_inodes(rt: HostRuntime) {
+    assert!(rt; is_dir(&KINDS, 3));
+    assert!(rt; !is_dir(&KINDS, 4));
+    assert!(rt; !is_dead(7, &KINDS, &[false; 8], &NAMED));
+    assert!(rt; is_dead(7, &KINDS, &[true; 8], &NAMED));
+    assert!(rt; is_suspect(&[0, 0, 5], &[false; 3], 2));
+}

@@ -1,0 +1,236 @@
+//! The steps and the classes of inodes that a reader would work out by hand, in both orders.
+
+ghost use Rattle.std.specs.Prelude.{◌≡◌, ◌*◌, ◌≤◌};
+
+use ffs_image::{FuseImage, Image};
+use ffs_layout::{Geometry, Inode, Order};
+use ffs_memory::FixedList;
+use ffs_samples::{Number, ORDERS, Stop, Watched, geometry, image_of, inode};
+use ffs_volume::{Class, Step};
+use ffs_walk::{Blocks, Walk, class_of};
+use std::alloc::{AllocError, Global};
+use std::test::Fail;
+
+// The run of a data block.
+fn data(start: u32, len: u32, block: u64) -> Step {
+    Step::Run {
+        start,
+        len,
+        block: Some(block),
+    }
+}
+
+// The run of an indirect block.
+fn indirect(start: u32) -> Step {
+    Step::Run {
+        start,
+        len: 4,
+        block: None,
+    }
+}
+
+// The steps that aren't Gaps, and the number of Gaps.
+fn steps<I: Image>(
+    geometry: &Geometry,
+    inode: &Inode,
+    image: &mut I,
+    alloc: Global,
+) -> Result<(Vec<Step>, u64), Stop>
+    requires { geometry.now.layout.size * geometry.now.layout.fsize ≤ (I.device image.old).size }
+{
+    let buffer = vec![in alloc; 0u8; 3 * geometry.layout.bsize as usize]?;
+    let mut blocks = Blocks::over(FixedList::new(buffer));
+    let mut walk = Walk::start(geometry, inode);
+    let mut steps = Vec::new(alloc);
+    let mut gaps = 0u64;
+    while let Some(step) = walk.next(image, &mut blocks)? {
+        if step == Step::Gap {
+            gaps = gaps.saturating_add(1);
+        } else {
+            match steps.push(step) {
+                Ok(()) => {}
+                Err(error) => return Err(AllocError::from(error).into()),
+            }
+        }
+    }
+    Ok((steps, gaps))
+}
+
+// A word of a block, by the block's address and the word's index.
+fn word(address: u16, index: u16, number: u64) -> Number {
+    (
+        1024 * usize::from(address) + 4 * usize::from(index),
+        4,
+        number,
+    )
+}
+
+#[test]
+fn direct_blocks(rt: HostRuntime) -> Result<(), Fail> {
+    for order in ORDERS {
+        let geometry = geometry(order)?;
+        let mut image = image_of(order, &[], rt.alloc())?;
+        let mut root = inode(0o40755, 512);
+        root.addresses[0] = 36;
+        let (found, gaps) = steps(&geometry, &root, &mut image, rt.alloc())?;
+        assert_eq!(rt; found.as_slice(), [data(36, 1, 0)].as_slice());
+        assert_eq!(rt; gaps, 0);
+        let mut image = image_of(order, &[], rt.alloc())?;
+        let mut file = inode(0o100644, 4097);
+        file.addresses[0] = 40;
+        file.addresses[1] = 44;
+        let (found, gaps) = steps(&geometry, &file, &mut image, rt.alloc())?;
+        assert_eq!(rt;
+            found.as_slice(),
+            [data(40, 4, 0), data(44, 1, 1),].as_slice()
+        );
+        assert_eq!(rt; gaps, 0);
+    }
+    Ok(())
+}
+
+#[test]
+fn partially_truncated(rt: HostRuntime) -> Result<(), Fail> {
+    for order in ORDERS {
+        let geometry = geometry(order)?;
+        let inner = image_of(order, &[word(40, 0, 44), word(40, 5, 99)], rt.alloc())?;
+        let mut image = Watched::new(inner);
+        let mut file = inode(0o100644, 53248);
+        file.addresses[12] = 40;
+        let (found, gaps) = steps(&geometry, &file, &mut image, rt.alloc())?;
+        assert_eq!(rt;
+            found.as_slice(),
+            [indirect(40), Step::Tail, data(44, 4, 12),].as_slice()
+        );
+        assert_eq!(rt; (gaps, image.reads, image.odd), (12, 1, 0));
+    }
+    Ok(())
+}
+
+// Each indirect block that is entered is read once, and whole.
+#[test]
+fn trees_with_holes(rt: HostRuntime) -> Result<(), Fail> {
+    for order in ORDERS {
+        let geometry = geometry(order)?;
+        let words = [
+            word(40, 1, 44),
+            word(44, 1023, 48),
+            word(52, 0, 56),
+            word(52, 5, 1),
+            word(56, 0, 60),
+            word(60, 1, 64),
+            word(60, 2, 7),
+        ];
+        let inner = image_of(order, &words, rt.alloc())?;
+        let mut image = Watched::new(inner);
+        let mut file = inode(0o100644, 4299218944);
+        file.addresses[13] = 40;
+        file.addresses[14] = 52;
+        let (found, gaps) = steps(&geometry, &file, &mut image, rt.alloc())?;
+        assert_eq!(rt;
+            found.as_slice(),
+            [
+                indirect(40),
+                indirect(44),
+                data(48, 4, 3083),
+                indirect(52),
+                Step::Tail,
+                indirect(56),
+                indirect(60),
+                Step::Tail,
+                data(64, 4, 1049613),
+            ]
+            .as_slice()
+        );
+        assert_eq!(rt; (gaps, image.reads, image.odd), (2060, 5, 0));
+    }
+    Ok(())
+}
+
+// The holes after the first one are passed over together, at the inode's own addresses.
+#[test]
+fn gaps_passed_over(rt: HostRuntime) -> Result<(), Fail> {
+    let geometry = geometry(Order::Little)?;
+    let mut image = image_of(Order::Little, &[], rt.alloc())?;
+    let buffer = vec![in rt.alloc(); 0u8; 3 * geometry.layout.bsize as usize]?;
+    let mut blocks = Blocks::over(FixedList::new(buffer));
+    let mut file = inode(0o100644, 4096 * 6);
+    file.addresses[4] = 48;
+    let mut walk = Walk::start(&geometry, &file);
+    assert_eq!(rt; walk.next(&mut image, &mut blocks)?, Some(Step::Gap));
+    assert_eq!(rt; walk.skip_gaps(&blocks), 3);
+    assert_eq!(rt; walk.next(&mut image, &mut blocks)?, Some(data(48, 4, 4)));
+    Ok(())
+}
+
+#[test]
+fn failed_read_ends(rt: HostRuntime) -> Result<(), Fail> {
+    let geometry = geometry(Order::Little)?;
+    let memory = image_of(Order::Little, &[], rt.alloc())?;
+    let mut image = FuseImage::nth(memory, 1);
+    let mut file = inode(0o100644, 53248);
+    file.addresses[12] = 40;
+    assert!(rt; steps(&geometry, &file, &mut image, rt.alloc()).is_err());
+    assert_eq!(rt; (image.failures(), image.failed()), (1, 80));
+    Ok(())
+}
+
+#[test]
+fn classes(rt: HostRuntime) -> Result<(), Fail> {
+    let geometry = geometry(Order::Little)?;
+    let mut early = inode(0o100644, 0);
+    early.addresses[0] = 40;
+    let mut device = inode(0o20644, 0);
+    device.addresses[0] = 7;
+    let mut broken = device;
+    broken.addresses[1] = 7;
+    let mut link = inode(0o120777, 59);
+    link.addresses = [7; 15];
+    for (inode, class) in [
+        (inode(0, 0), Class::Free),
+        (inode(0o644, 0), Class::Partial),
+        (inode(0o40755, 512), Class::Dir),
+        (early, Class::Unknown),
+        (device, Class::File),
+        (broken, Class::Unknown),
+        (link, Class::File),
+    ] {
+        assert_eq!(rt; class_of(&geometry, &inode), class);
+        if inode.size != 512 {
+            let mut image = image_of(Order::Little, &[], rt.alloc())?;
+            let (found, gaps) = steps(&geometry, &inode, &mut image, rt.alloc())?;
+            assert_eq!(rt; (found.len(), gaps), (0, 0));
+        }
+    }
+    Ok(())
+}
+
+// How many logical blocks a walk over a file of a size goes over, and how many fragments the last
+// one has.
+fn extent(geometry: &Geometry, size: u64) -> (u64, u32) {
+    let walk = Walk::start(geometry, &inode(0o100644, size));
+    (walk.blocks, walk.last)
+}
+
+// The volume has blocks of 4,096 bytes, in fragments of 1,024.
+#[test]
+fn sizes_at_edges_of_blocks(rt: HostRuntime) -> Result<(), Fail> {
+    let geometry = geometry(Order::Little)?;
+    assert_eq!(rt; extent(&geometry, 0).0, 0);
+    assert_eq!(rt; extent(&geometry, 1), (1, 1));
+    assert_eq!(rt; extent(&geometry, 4095), (1, 4));
+    assert_eq!(rt; extent(&geometry, 4096), (1, 4));
+    assert_eq!(rt; extent(&geometry, 4097), (2, 1));
+    Ok(())
+}
+
+#[test]
+fn sizes_at_edges_of_fragments(rt: HostRuntime) -> Result<(), Fail> {
+    let geometry = geometry(Order::Big)?;
+    assert_eq!(rt; extent(&geometry, 1023), (1, 1));
+    assert_eq!(rt; extent(&geometry, 1024), (1, 1));
+    assert_eq!(rt; extent(&geometry, 1025), (1, 2));
+    assert_eq!(rt; extent(&geometry, 7168), (2, 3));
+    assert_eq!(rt; extent(&geometry, 7169), (2, 4));
+    Ok(())
+}

@@ -1,0 +1,61 @@
+//! What a workspace holds when it is made, in bytes and in bits.
+
+use ffs_layout::Order;
+use ffs_samples::{Number, geometry, image_of};
+use ffs_workspace::{Workspace, links_start};
+use std::test::Fail;
+
+// Two maps of two words, 25 bytes for each inode, and six blocks.
+#[test]
+fn fresh_workspace(rt: HostRuntime) -> Result<(), Fail> {
+    let geometry = geometry(Order::Little)?;
+    let workspace = Workspace::new(rt.alloc(), &geometry)?;
+    assert_eq!(rt; workspace.held(), 2 * 16 + 25 * 32 + 6 * 4096);
+    assert!(rt; workspace.held() <= 37712);
+    assert!(rt; !workspace.has_dups());
+    assert_eq!(rt; workspace.runs(), [0, 0]);
+    Ok(())
+}
+
+// The inode 2, in the table that begins at byte 28,672.
+const ROOT: [Number; 4] = [
+    (28928, 2, 0o40755),
+    (28930, 2, 2),
+    (28936, 8, 512),
+    (28968, 4, 36),
+];
+
+#[test]
+fn inode_in_its_table(rt: HostRuntime) -> Result<(), Fail> {
+    let geometry = geometry(Order::Little)?;
+    let mut image = image_of(Order::Little, &ROOT, rt.alloc())?;
+    let mut workspace = Workspace::new(rt.alloc(), &geometry)?;
+    let table = &mut workspace.windows.table;
+    let root = table.inode(&geometry, 2, &mut image)?;
+    assert_eq!(rt; (root.mode, root.nlink, root.size), (0o40755, 2, 512));
+    assert_eq!(rt; root.addresses[0], 36);
+    let next = table.inode(&geometry, 3, &mut image)?;
+    assert_eq!(rt; (next.mode, next.nlink, next.size), (0, 0, 0));
+    Ok(())
+}
+
+#[test]
+fn inode_in_a_part(rt: HostRuntime) -> Result<(), Fail> {
+    let geometry = geometry(Order::Little)?;
+    let mut image = image_of(Order::Little, &ROOT, rt.alloc())?;
+    let mut workspace = Workspace::new(rt.alloc(), &geometry)?;
+    let table = &mut workspace.windows.table;
+    let root = table.inode_by_part(&geometry, 2, &mut image)?;
+    assert_eq!(rt; (root.mode, root.nlink, root.size), (0o40755, 2, 512));
+    let next = table.inode_by_part(&geometry, 3, &mut image)?;
+    assert_eq!(rt; (next.mode, next.nlink, next.size), (0, 0, 0));
+    Ok(())
+}
+
+// A count of references starts below 32768 by the links, and at 32769 where there is none.
+#[test]
+fn starts_by_links(rt: HostRuntime) {
+    assert_eq!(rt; (links_start(1), links_start(2)), (32767, 32766));
+    assert_eq!(rt; (links_start(32767), links_start(0)), (1, 32769));
+    assert_eq!(rt; (links_start(-1), links_start(-32768)), (32769, 32769));
+}

@@ -1,0 +1,163 @@
+//! The block check of small images, as a reader would work it out by hand.
+
+ghost use Rattle.std.specs.Prelude.{◌≡◌, ◌*◌, ◌≤◌, IfOk, length};
+
+use ffs_claims::{phase1, phase1b};
+use ffs_image::{Image, MemoryImage};
+use ffs_layout::{Geometry, Order};
+use ffs_report::{Counted, Report};
+use ffs_samples::{Number, Watched, geometry, image_of};
+use ffs_workspace::Workspace;
+use std::alloc::{AllocError, Global};
+use std::test::Fail;
+
+// Words that are the same, one after the other: the place of the first one, how many they are, the word.
+type Words = (usize, usize, u64);
+
+// The inode 2: a directory of 512 bytes in the fragment 36.
+const ROOT: [Number; 4] = [
+    (28928, 4, 0x000241ed),
+    (28936, 4, 512),
+    (28968, 4, 36),
+    (29032, 4, 2),
+];
+
+// The inode 3 is at byte 29,056 and the inode 4 at 29,184; addresses are at 40, sectors at 104.
+const SHARED: [Words; 8] = [
+    (29056, 1, 0x000181a4),
+    (29064, 1, 100),
+    (29096, 1, 37),
+    (29160, 1, 2),
+    (29184, 1, 0x000181a4),
+    (29192, 1, 100),
+    (29224, 1, 37),
+    (29288, 1, 2),
+];
+
+// The inodes 3 and 5 share a fragment, and 4 and 6 another one.
+const SHARED_TWICE: [Words; 16] = [
+    (29056, 1, 0x000181a4),
+    (29064, 1, 100),
+    (29096, 1, 37),
+    (29160, 1, 2),
+    (29184, 1, 0x000181a4),
+    (29192, 1, 100),
+    (29224, 1, 38),
+    (29288, 1, 2),
+    (29312, 1, 0x000181a4),
+    (29320, 1, 100),
+    (29352, 1, 37),
+    (29416, 1, 2),
+    (29440, 1, 0x000181a4),
+    (29448, 1, 100),
+    (29480, 1, 38),
+    (29544, 1, 2),
+];
+
+const TWELVE_BAD: [Words; 3] = [(29056, 1, 0x000181a4), (29064, 1, 49152), (29096, 12, 200)];
+
+const TEN_BAD: [Words; 6] = [
+    (29056, 1, 0x000181a4),
+    (29064, 1, 49152),
+    (29096, 10, 200),
+    (29136, 1, 40),
+    (29140, 1, 44),
+    (29160, 1, 16),
+];
+
+// A triple indirect block, all of whose words are its own address.
+const TREE: [Words; 5] = [
+    (29056, 1, 0x000181a4),
+    (29064, 1, 4243456),
+    (29068, 1, 1025),
+    (29152, 1, 40),
+    (40960, 1024, 40),
+];
+
+// An image with the root and these words.
+fn image_with(words: &[Words], alloc: Global) -> Result<MemoryImage, AllocError>
+    ensures { IfOk result (λ m. length m ≡ 131072) }
+{
+    let mut numbers = Vec::new(alloc);
+    numbers.extend_from_slice(&ROOT)?;
+    for &(place, count, word) in words {
+        for k in 0..count {
+            numbers.push((place.saturating_add(k.saturating_mul(4)), 4, word))?;
+        }
+    }
+    image_of(Order::Little, numbers.as_slice(), alloc)
+}
+
+// What the block check of an image gives, and how many Runs its two looks see.
+fn checked<I: Image>(
+    geometry: &Geometry,
+    image: &mut I,
+    alloc: Global,
+) -> Result<(Vec<u8>, [u64; 2]), Fail>
+    requires { geometry.now.layout.size * geometry.now.layout.fsize ≤ (I.device image.old).size }
+{
+    let mut workspace = Workspace::new(alloc, geometry)?;
+    let mut text = Vec::new(alloc);
+    let mut out = Counted::new(&mut text);
+    let mut report = Report::new(&mut out);
+    phase1(geometry, image, &mut workspace, &mut report)?;
+    if workspace.has_dups() {
+        phase1b(geometry, image, &mut workspace, &mut report)?;
+    }
+    let runs = workspace.runs();
+    Ok((text, runs))
+}
+
+// The same of the image with these words, and how many reads it makes.
+fn checked_with(
+    geometry: &Geometry,
+    words: &[Words],
+    alloc: Global,
+) -> Result<(Vec<u8>, [u64; 2], u64), Fail>
+    requires { geometry.now.layout.size * geometry.now.layout.fsize ≤ 131072 }
+{
+    let mut image = Watched::new(image_with(words, alloc)?);
+    let (text, runs) = checked(geometry, &mut image, alloc)?;
+    Ok((text, runs, image.reads))
+}
+
+// What is reported of each image, and how many Runs its two looks see: the second one ends as soon as each DUP's first claim is
+// reported.
+#[test]
+fn block_checks(rt: HostRuntime) -> Result<(), Fail> {
+    let geometry = geometry(Order::Little)?;
+    let cases: [(&[Words], &[u8], [u64; 2]); 5] = [
+        (
+            &SHARED,
+            b"** Phase 1 - Check Blocks and Sizes\n37 DUP I=4\n** Phase 1b - Rescan For More DUPS\n37 DUP I=3\n",
+            [3, 2],
+        ),
+        (
+            &SHARED_TWICE,
+            b"** Phase 1 - Check Blocks and Sizes\n37 DUP I=5\n38 DUP I=6\n** Phase 1b - Rescan For More DUPS\n37 DUP I=3\n38 DUP I=4\n",
+            [5, 3],
+        ),
+        (
+            &TWELVE_BAD,
+            b"** Phase 1 - Check Blocks and Sizes\n200 BAD I=3\n200 BAD I=3\n200 BAD I=3\n200 BAD I=3\n200 BAD I=3\n200 BAD I=3\n200 BAD I=3\n200 BAD I=3\n200 BAD I=3\n200 BAD I=3\n200 BAD I=3\nEXCESSIVE BAD BLKS I=3\nCONTINUE? yes\n\n",
+            [12, 0],
+        ),
+        (
+            &TEN_BAD,
+            b"** Phase 1 - Check Blocks and Sizes\n200 BAD I=3\n200 BAD I=3\n200 BAD I=3\n200 BAD I=3\n200 BAD I=3\n200 BAD I=3\n200 BAD I=3\n200 BAD I=3\n200 BAD I=3\n200 BAD I=3\nINCORRECT BLOCK COUNT I=3 (16 should be 96)\nCORRECT? no\n\n",
+            [13, 0],
+        ),
+        (
+            &TREE,
+            b"** Phase 1 - Check Blocks and Sizes\n40 DUP I=3\n41 DUP I=3\n42 DUP I=3\n43 DUP I=3\n40 DUP I=3\n41 DUP I=3\n42 DUP I=3\n43 DUP I=3\n40 DUP I=3\n41 DUP I=3\n42 DUP I=3\nEXCESSIVE DUP BLKS I=3\nCONTINUE? yes\n\n** Phase 1b - Rescan For More DUPS\n40 DUP I=3\n41 DUP I=3\n42 DUP I=3\n43 DUP I=3\n",
+            [5, 2],
+        ),
+    ];
+    for (words, reported, runs) in cases {
+        let (text, seen, reads) = checked_with(&geometry, words, rt.alloc())?;
+        assert_eq!(rt; text.as_slice(), reported);
+        assert_eq!(rt; seen, runs);
+        assert!(rt; reads <= 100);
+    }
+    Ok(())
+}

@@ -1,0 +1,68 @@
+//! What is reported of a volume with directories that are cut off.
+
+ghost use Rattle.std.specs.Prelude.{◌≡◌, ℕ, List, Option, IfOk};
+ghost use Rattle.ffs_workspace.specs.Lengths.{IsFor, HoldWindows, inodes_of};
+
+use ffs_connectivity::phase3;
+use ffs_layout::{Geometry, Order};
+use ffs_report::{Counted, Report};
+use ffs_samples::{Number, geometry, image_of};
+use ffs_workspace::Workspace;
+use std::alloc::{AllocError, Global};
+use std::test::Fail;
+
+// Directories 2 to 8: 2 is reached, 3 has no parent, 4 is empty and without a name, 5 and 6 are each other's parents, 4 is
+// that of 7, and 3 that of 8.
+fn surveyed(alloc: Global, geometry: &Geometry) -> Result<Workspace, AllocError>
+    requires { inodes_of geometry.now.layout ≡ 32 }
+    ensures made { IfOk result (λ w. IsFor geometry.now.layout w) }
+    ensures windows { (contents : Option (List ℕ))
+        → IfOk result (λ w. HoldWindows geometry.now.layout contents w) }
+{
+    let mut workspace = Workspace::new(alloc, geometry)?;
+    workspace.kinds[2] = 4;
+    workspace.kinds[3] = 4;
+    workspace.kinds[4] = 5;
+    workspace.kinds[5] = 4;
+    workspace.kinds[6] = 4;
+    workspace.kinds[7] = 4;
+    workspace.kinds[8] = 4;
+    workspace.reached[2] = true;
+    workspace.parents.set(5, 6);
+    workspace.parents.set(6, 5);
+    workspace.parents.set(7, 4);
+    workspace.parents.set(8, 3);
+    Ok(workspace)
+}
+
+// Inode 3: a directory of 512 bytes, changed a day after the epoch, of the owner 7.
+const LOST: [Number; 4] = [
+    (29056, 2, 0o40755),
+    (29064, 8, 512),
+    (29080, 4, 86400),
+    (29168, 4, 7),
+];
+
+// What the connectivity check prints of them, and whether it found a defect.
+fn reported(alloc: Global) -> Result<(Vec<u8>, bool), Fail> {
+    let geometry = geometry(Order::Little)?;
+    let mut workspace = surveyed(alloc, &geometry)?;
+    let mut image = image_of(Order::Little, &LOST, alloc)?;
+    let mut text = Vec::new(alloc);
+    let mut out = Counted::new(&mut text);
+    let mut report = Report::new(&mut out);
+    phase3(&geometry, &mut image, &mut workspace, &mut report)?;
+    let defect = report.any_defect();
+    Ok((text, defect))
+}
+
+#[test]
+fn reports_cut_off_directories(rt: HostRuntime) -> Result<(), Fail> {
+    let (text, defect) = reported(rt.alloc())?;
+    assert!(rt; defect);
+    assert_eq!(rt;
+        text.as_slice(),
+        b"** Phase 3 - Check Connectivity\nUNREF DIR I=3 OWNER=7 MODE=40755\nSIZE=512 MTIME=86400\nRECONNECT? no\n\nUNREF DIR I=5 OWNER=0 MODE=0\nSIZE=0 MTIME=0\nRECONNECT? no\n\nUNREF DIR I=7 OWNER=0 MODE=0\nSIZE=0 MTIME=0\nRECONNECT? no\n\n".as_slice()
+    );
+    Ok(())
+}

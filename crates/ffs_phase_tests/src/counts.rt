@@ -1,0 +1,174 @@
+//! The reference check, the group check and the summary of small volumes, as a reader would work them out by hand.
+
+ghost use Rattle.std.specs.Prelude.{◌≡◌, ℕ, List, Option, IfOk};
+ghost use Rattle.ffs_workspace.specs.Lengths.{IsFor, HoldWindows, inodes_of};
+
+use ffs_claims::phase1;
+use ffs_counts::{phase4, phase5, summary};
+use ffs_layout::{Geometry, Order, Super};
+use ffs_report::{Counted, Report};
+use ffs_samples::{Number, geometry, image_of};
+use ffs_workspace::Workspace;
+use std::alloc::{AllocError, Global};
+use std::test::Fail;
+
+// What phases before have found. Directory 2 has two references; the files 3 to 5 have none, none and two, and 3 is marked and
+// named by an entry; 6 is an empty directory and 7 a marked file, neither of them named. Each count is the references and
+// 32768 less the links, or 32769 where there is no link.
+fn referred(alloc: Global, geometry: &Geometry) -> Result<Workspace, AllocError>
+    requires { inodes_of geometry.now.layout ≡ 32 }
+    ensures made { IfOk result (λ w. IsFor geometry.now.layout w) }
+    ensures windows { (contents : Option (List ℕ))
+        → IfOk result (λ w. HoldWindows geometry.now.layout contents w) }
+{
+    let mut workspace = Workspace::new(alloc, geometry)?;
+    workspace.kinds[2] = 4;
+    workspace.references.set(2, 32766 + 2);
+    workspace.references.set(3, 32767);
+    workspace.references.set(4, 32769);
+    workspace.kinds[3] = 8;
+    workspace.kinds[4] = 8;
+    workspace.kinds[5] = 8;
+    workspace.references.set(5, 32767 + 2);
+    workspace.references.set(6, 32769);
+    workspace.references.set(7, 32767);
+    workspace.kinds[6] = 5;
+    workspace.kinds[7] = 8;
+    workspace.marked[7] = true;
+    Ok(workspace)
+}
+
+// The modes and links of inodes 2 to 7: 2 links, 1, 0, 1, 0 and 1.
+const INODES: [Number; 10] = [
+    (28928, 2, 0o40755),
+    (28930, 2, 2),
+    (29056, 2, 0o100644),
+    (29058, 2, 1),
+    (29184, 2, 0o100644),
+    (29312, 2, 0o100600),
+    (29314, 2, 1),
+    (29440, 2, 0o40700),
+    (29568, 2, 0o100644),
+    (29570, 2, 1),
+];
+
+// What the reference check prints of them.
+fn reported(alloc: Global) -> Result<Vec<u8>, Fail> {
+    let geometry = geometry(Order::Big)?;
+    let mut workspace = referred(alloc, &geometry)?;
+    let mut image = image_of(Order::Big, &INODES, alloc)?;
+    let mut text = Vec::new(alloc);
+    let mut out = Counted::new(&mut text);
+    let mut report = Report::new(&mut out);
+    phase4(&geometry, &mut image, &mut workspace, &mut report)?;
+    Ok(text)
+}
+
+#[test]
+fn reference_check(rt: HostRuntime) -> Result<(), Fail> {
+    let text = reported(rt.alloc())?;
+    assert_eq!(rt;
+        text.as_slice(),
+        b"** Phase 4 - Check Reference Counts\nUNREF FILE I=3 OWNER=0 MODE=100644\nSIZE=0 MTIME=0\nRECONNECT? no\n\nCLEAR? no\n\nUNREF FILE I=4 OWNER=0 MODE=100644\nSIZE=0 MTIME=0\nCLEAR? no\n\nLINK COUNT FILE I=5 OWNER=0 MODE=100600\nSIZE=0 MTIME=0\nCOUNT=1 SHOULD BE 2\nADJUST? no\n\nZERO LENGTH DIR I=6 OWNER=0 MODE=40700\nSIZE=0 MTIME=0\nCLEAR? no\n\nBAD/DUP FILE I=7 OWNER=0 MODE=100644\nSIZE=0 MTIME=0\nCLEAR? no\n\n".as_slice()
+    );
+    Ok(())
+}
+
+// A root in the fragment 36, and the records of its group: the group block is at byte 24,576.
+const ROOT: [Number; 21] = [
+    (28928, 2, 0o40755),
+    (28936, 8, 512),
+    (28968, 4, 36),
+    (29032, 4, 2),
+    (24580, 4, 0x090255),
+    (24596, 4, 128),
+    (24600, 4, 1),
+    (24604, 4, 22),
+    (24608, 4, 29),
+    (24612, 4, 6),
+    (24640, 4, 2),
+    (24668, 4, 168),
+    (24672, 4, 172),
+    (24744, 4, 0x07),
+    (24752, 4, 0xffff_ffee),
+    (24756, 4, 0xffff_ffff),
+    (24760, 4, 0xffff_ffff),
+    (32768, 4, 1),
+    (32772, 4, 22),
+    (32776, 4, 29),
+    (32780, 4, 6),
+];
+
+// What the block check, the group check and the summary print of the root's volume with one number more, where the superblock
+// counts this many free fragments.
+fn counted(fragments: i32, number: Number, alloc: Global) -> Result<Vec<u8>, Fail> {
+    let superblock = Super {
+        geometry: geometry(Order::Little)?,
+        optim: 0,
+        minfree: 10,
+        cstotal: [1, 22, 29, fragments],
+        mount: [0; 512],
+    };
+    let mut numbers = Vec::new(alloc);
+    numbers.extend_from_slice(&ROOT)?;
+    numbers.push(number)?;
+    let mut image = image_of(Order::Little, numbers.as_slice(), alloc)?;
+    let mut workspace = Workspace::new(alloc, &superblock.geometry)?;
+    let mut text = Vec::new(alloc);
+    let mut out = Counted::new(&mut text);
+    let mut report = Report::new(&mut out);
+    phase1(
+        &superblock.geometry,
+        &mut image,
+        &mut workspace,
+        &mut report,
+    )?;
+    phase5(&superblock, &mut image, &mut workspace, &mut report)?;
+    summary(&superblock, &workspace, &mut report)?;
+    Ok(text)
+}
+
+// Nothing is wrong; the superblock, the summary record, the fragment map, the group's count of fragments, its magic.
+#[test]
+fn group_checks(rt: HostRuntime) -> Result<(), Fail> {
+    let right: &[u8] = b"1 files, 1 used, 94 free (6 frags, 22 blocks, 6.3% fragmentation)\n";
+    let cases: [(i32, Number, &[u8], &[u8]); 6] = [
+        (6, (0, 1, 0), b"", right),
+        (
+            7,
+            (0, 1, 0),
+            b"FREE BLK COUNT(S) WRONG IN SUPERBLK\nSALVAGE? no\n\n",
+            b"1 files, 1 used, 95 free (7 frags, 22 blocks, 7.3% fragmentation)\n",
+        ),
+        (
+            6,
+            (32780, 4, 7),
+            b"FREE BLK COUNT(S) WRONG IN SUPERBLK\nSALVAGE? no\n\n",
+            right,
+        ),
+        (
+            6,
+            (24752, 1, 0xce),
+            b"BLK(S) MISSING IN BIT MAPS\nSALVAGE? no\n\n",
+            right,
+        ),
+        (
+            6,
+            (24612, 4, 7),
+            b"SUMMARY INFORMATION BAD\nSALVAGE? no\n\n",
+            right,
+        ),
+        (6, (24580, 4, 0), b"CG 0: BAD MAGIC NUMBER\n", right),
+    ];
+    let headings =
+        b"** Phase 1 - Check Blocks and Sizes\n** Phase 5 - Check Cyl groups\n".as_slice();
+    for (fragments, number, defects, last) in cases {
+        let text = counted(fragments, number, rt.alloc())?;
+        let mut want = Vec::new(rt.alloc());
+        want.extend_from_slice(headings)?;
+        want.extend_from_slice(defects)?;
+        want.extend_from_slice(last)?;
+        assert_eq!(rt; text.as_slice(), want.as_slice());
+    }
+    Ok(())
+}

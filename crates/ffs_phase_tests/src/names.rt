@@ -1,0 +1,104 @@
+//! Roles of entries, as dir(5) has them, and the chunks of a directory whose blocks share a fragment.
+
+ghost use Rattle.std.specs.Prelude.{◌≡◌, ◌*◌, ◌≤◌};
+
+use ffs_image::Image;
+use ffs_layout::{Entry, Geometry, Inode, Order};
+use ffs_memory::FixedList;
+use ffs_names::{Chunks, role_of};
+use ffs_samples::{Stop, geometry, image_of, inode};
+use ffs_volume::Role;
+use ffs_walk::{Blocks, Window};
+use std::alloc::{AllocError, Global};
+use std::test::Fail;
+
+// An entry of a directory, whose name is cut to the 255 bytes that an entry has at most.
+fn entry<'a>(number: u32, name: &'a [u8]) -> Entry<'a> {
+    Entry {
+        number,
+        length: 12,
+        kind: 4,
+        name: &name[..name.len().min(255)],
+    }
+}
+
+#[test]
+fn roles(rt: HostRuntime) -> Result<(), Fail> {
+    for (first, index, number, name, role) in [
+        (true, 0, 3, b"..".as_slice(), Role::Extra),
+        (true, 1, 3, b"..", Role::Dotdot),
+        (false, 0, 3, b".", Role::Extra),
+        (true, 0, 3, b".", Role::Dot),
+        (true, 0, 0, b"", Role::Empty),
+        (true, 0, 3, b"...", Role::Plain),
+    ] {
+        assert_eq!(rt; role_of(first, index, &entry(number, name)), role);
+    }
+    Ok(())
+}
+
+// The place of each chunk, its first byte and its last.
+fn chunks_of<I: Image>(
+    geometry: &Geometry,
+    inode: &Inode,
+    cut: u32,
+    image: &mut I,
+    alloc: Global,
+) -> Result<Vec<(u64, u8, u8)>, Stop>
+    requires { geometry.now.layout.size * geometry.now.layout.fsize ≤ (I.device image.old).size }
+{
+    let size = geometry.layout.bsize as usize;
+    let buffer = vec![in alloc; 0u8; 3 * size]?;
+    let mut blocks = Blocks::over(FixedList::new(buffer));
+    let buffer = vec![in alloc; 0u8; size]?;
+    let mut window = Window::over(FixedList::new(buffer));
+    let mut chunk = [0u8; 512];
+    let mut chunks = Chunks::start(geometry, inode, cut);
+    let mut found = Vec::new(alloc);
+    'chunks: while let Some(offset) = chunks.next(image, &mut blocks, &mut window, &mut chunk)? {
+        match found.push((offset, chunk[0], chunk[511])) {
+            Ok(()) => {}
+            Err(error) => return Err(AllocError::from(error).into()),
+        }
+    }
+    Ok(found)
+}
+
+// Fragments 40 to 43 are the first block, and 40 is the second one. Where four offers are kept, the second one isn't.
+#[test]
+fn same_fragment_twice(rt: HostRuntime) -> Result<(), Fail> {
+    let geometry = geometry(Order::Little)?;
+    let numbers = [
+        (40960, 1, 1),
+        (41471, 1, 2),
+        (41472, 1, 3),
+        (41983, 1, 4),
+        (41984, 1, 5),
+        (43520, 1, 6),
+        (44544, 1, 7),
+        (45055, 1, 8),
+        (45056, 1, 9),
+    ];
+    let mut image = image_of(Order::Little, &numbers, rt.alloc())?;
+    let mut directory = inode(0o40755, 5120);
+    directory.addresses[0] = 40;
+    directory.addresses[1] = 40;
+    let first = [
+        (0u64, 1u8, 2u8),
+        (512, 3, 4),
+        (1024, 5, 0),
+        (1536, 0, 0),
+        (2048, 0, 0),
+        (2560, 6, 0),
+        (3072, 0, 0),
+        (3584, 7, 8),
+        (4096, 1, 2),
+        (4608, 3, 4),
+    ];
+    let all = chunks_of(&geometry, &directory, 0, &mut image, rt.alloc())?;
+    assert_eq!(rt; all.as_slice(), first.as_slice());
+    let mut image = image_of(Order::Little, &numbers, rt.alloc())?;
+    let kept = chunks_of(&geometry, &directory, 4, &mut image, rt.alloc())?;
+    assert_eq!(rt; kept.as_slice(), &first[..8]);
+    Ok(())
+}

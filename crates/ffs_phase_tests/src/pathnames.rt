@@ -1,0 +1,114 @@
+//! The verdict on a plain entry, as a reader would work it out by hand.
+
+use ffs_layout::Entry;
+use ffs_pathnames::inodes::Inodes;
+use ffs_pathnames::verdict::{Faults, Verdict, entry_verdict, pass};
+use ffs_samples::numbers;
+use ffs_volume::{Label, Role};
+use std::test::Fail;
+
+// Inode 2 is the root, 3 a file, 4 a directory, 6 a directory of size 0, 7 of no known type, 8 a marked file.
+const KINDS: [u8; 9] = [0, 0, 4, 8, 4, 0, 5, 15, 8];
+
+const MARKED: [bool; 9] = [false, false, false, false, false, false, false, false, true];
+
+const PARENTS: [u32; 9] = [0, 0, 0, 0, 2, 0, 2, 0, 0];
+
+fn entry(number: u32, kind: u8) -> Entry<'static> {
+    Entry {
+        number,
+        length: 16,
+        kind,
+        name: b"name",
+    }
+}
+
+// What is wrong with an inode that is not marked.
+fn named(label: Label, suspect: bool, extraneous: bool, kind: bool) -> Verdict {
+    Verdict::Named(Faults {
+        suspect,
+        marked: false,
+        extraneous,
+        kind,
+        label,
+    })
+}
+
+#[test]
+fn entries_of_the_root(rt: HostRuntime) -> Result<(), Fail> {
+    let parents = numbers(&PARENTS, rt.alloc())?;
+    let inodes = Inodes {
+        kinds: &KINDS,
+        marked: &MARKED,
+        parents: &parents,
+    };
+    let passed = [false; 9];
+    let stamps = numbers(&[0, 0, 0, 0, 2, 0, 2, 0, 0], rt.alloc())?;
+    let cases = [
+        (9, 8, Verdict::OutOfRange),
+        (u32::MAX, 14, Verdict::OutOfRange),
+        (1, 14, Verdict::Fine),
+        (1, 8, Verdict::Whiteout),
+        (5, 14, Verdict::Whiteout),
+        (5, 8, Verdict::Unallocated),
+        (3, 8, named(Label::File, false, false, false)),
+        (3, 10, named(Label::File, false, false, true)),
+        (4, 4, named(Label::Dir, false, false, false)),
+        (4, 8, named(Label::Dir, false, false, true)),
+        (2, 4, named(Label::Dir, false, true, false)),
+        (6, 4, named(Label::Dir, true, false, false)),
+        (7, 8, named(Label::Name, false, false, false)),
+    ];
+    for (number, kind, want) in cases {
+        let verdict = entry_verdict(&inodes, 2, &passed, &stamps, &entry(number, kind));
+        assert_eq!(rt; verdict, want, "inode {number}, type {kind}");
+    }
+    Ok(())
+}
+
+// The second entry of the root that names a directory is one too many; a marked file is reported at the first alone.
+#[test]
+fn second_names(rt: HostRuntime) -> Result<(), Fail> {
+    let parents = numbers(&PARENTS, rt.alloc())?;
+    let inodes = Inodes {
+        kinds: &KINDS,
+        marked: &MARKED,
+        parents: &parents,
+    };
+    let mut passed = [false; 9];
+    let mut stamps = numbers(&[0, 0, 0, 0, 2, 0, 2, 0, 0], rt.alloc())?;
+    let directory = entry(4, 4);
+    let file = entry(8, 8);
+    let first = Faults {
+        suspect: true,
+        marked: true,
+        extraneous: false,
+        kind: false,
+        label: Label::File,
+    };
+    assert_eq!(rt;
+        entry_verdict(&inodes, 2, &passed, &stamps, &file),
+        Verdict::Named(first)
+    );
+    pass(
+        &inodes,
+        2,
+        &mut passed,
+        &mut stamps,
+        Role::Plain,
+        &directory,
+    );
+    pass(&inodes, 2, &mut passed, &mut stamps, Role::Plain, &file);
+    assert_eq!(rt;
+        entry_verdict(&inodes, 2, &passed, &stamps, &directory),
+        named(Label::Dir, false, true, false)
+    );
+    assert_eq!(rt;
+        entry_verdict(&inodes, 2, &passed, &stamps, &file),
+        Verdict::Named(Faults {
+            suspect: false,
+            ..first
+        })
+    );
+    Ok(())
+}
