@@ -9,6 +9,6 @@ use Rattle.ffs_connectivity.specs.Leaders.{HasLeaders}
 -- where only the windows have changed
 pub leaders_held : (old new : Workspace) → new ≡ record old { windows = new.windows } → HasLeaders old → HasLeaders new
 leaders_held old new e h = record {
-  cycles = λ x. ap (λ (w : Workspace). bool_at w.leaders.items x) e ∙ h.cycles x
+  cycles = λ x. ap (λ (w : Workspace). bool_at w.flags.items x) e ∙ h.cycles x
       ∙ ap (λ (w : Workspace). is_leader_within (up_of w.parents.items) (length w.parents.items) x) (sym e);
 }

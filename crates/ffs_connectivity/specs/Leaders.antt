@@ -7,4 +7,4 @@ use Rattle.ffs_workspace.specs.Holds.{bool_at}
 
 -- the leaders are those of the cycles of its parents
 pub record HasLeaders (w : Workspace) : Type 0 where
-  pub cycles : (x : ℕ) → bool_at w.leaders.items x ≡ is_leader_within (up_of w.parents.items) (length w.parents.items) x
+  pub cycles : (x : ℕ) → bool_at w.flags.items x ≡ is_leader_within (up_of w.parents.items) (length w.parents.items) x

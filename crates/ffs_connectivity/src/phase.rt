@@ -68,7 +68,7 @@ pub fn phase3<I: Image, W: Output>(
     mark_leaders(
         &workspace.parents,
         &mut workspace.queue,
-        &mut workspace.leaders,
+        &mut workspace.flags,
     );
     for number in first..geometry.layout.ncg * geometry.layout.ipg {
         check_inode(workspace, geometry, number, image, report)?;

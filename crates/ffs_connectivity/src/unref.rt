@@ -51,7 +51,7 @@ pub fn check_inode<I: Image, W: Output>(
         &workspace.named,
         &workspace.reached,
         &workspace.parents,
-        &workspace.leaders,
+        &workspace.flags,
     );
     if !cut_off {
         return Ok(());

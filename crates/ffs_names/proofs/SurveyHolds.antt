@@ -132,16 +132,16 @@ volume_calm t b kinds marked marks ups flags h d set =
 pub holds_calm : (v : Layout) (b : List ℕ) (w : Workspace) (kinds : List ℕ) (marked marks : List Bool) (ups : List ℕ)
     (flags : List Bool)
     → w.kinds.items ≡ kinds → w.marked.items ≡ marked → w.reached.items ≡ marks → w.parents.items ≡ ups →
-    w.leaders.items ≡ flags
+    w.flags.items ≡ flags
     → AreCalm kinds marked marks ups (roled_entries (volume_of v b)) (is_right_directory (volume_of v b)) flags →
     FlagsCalm v b w
 holds_calm v b w kinds marked marks ups flags k m r p f h =
     let es = roled_entries (volume_of v b) in
     let right = is_right_directory (volume_of v b) in
     record {
-      calm = subst (λ z. AreCalm z w.marked.items w.reached.items w.parents.items es right w.leaders.items) (sym k)
-          (subst (λ z. AreCalm kinds z w.reached.items w.parents.items es right w.leaders.items) (sym m)
-          (subst (λ z. AreCalm kinds marked z w.parents.items es right w.leaders.items) (sym r)
-          (subst (λ z. AreCalm kinds marked marks z es right w.leaders.items) (sym p)
+      calm = subst (λ z. AreCalm z w.marked.items w.reached.items w.parents.items es right w.flags.items) (sym k)
+          (subst (λ z. AreCalm kinds z w.reached.items w.parents.items es right w.flags.items) (sym m)
+          (subst (λ z. AreCalm kinds marked z w.parents.items es right w.flags.items) (sym r)
+          (subst (λ z. AreCalm kinds marked marks z es right w.flags.items) (sym p)
           (subst (λ z. AreCalm kinds marked marks ups es right z) (sym f) h))));
     }

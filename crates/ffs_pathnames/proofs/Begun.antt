@@ -102,8 +102,8 @@ pub begun_is : (v : Layout) (b : List ℕ) (d : ℕ) (old new more : Workspace) 
 begun_is v b d old new more e start f q m = record {
   inode = f.inode;
   quiet = f.quiet;
-  marks = ap (λ l. marks_with l.items more.queue.items) (ap (λ (w : Workspace). w.leaders) m ∙ q.leaders)
-      ∙ ap (λ s. marks_with old.leaders.items s) (ap (λ (w : Workspace). w.queue.items) m ∙ f.stamps);
+  marks = ap (λ l. marks_with l.items more.queue.items) (ap (λ (w : Workspace). w.flags) m ∙ q.flags)
+      ∙ ap (λ s. marks_with old.flags.items s) (ap (λ (w : Workspace). w.queue.items) m ∙ f.stamps);
 }
 
 -- a directory among the inodes

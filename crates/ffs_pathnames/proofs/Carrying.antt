@@ -93,24 +93,24 @@ flag_gone false b e = refl
 
 -- without marks all is right before the first directory
 clear_right : (v : Layout) (b : List ℕ) (old w : Workspace) → HoldsClaims v b old → IsFor v w → AreClear old w →
-    ((x : ℕ) → bool_at old.leaders.items x ≡ true → IsSilent (volume_of v b) x) →
+    ((x : ℕ) → bool_at old.flags.items x ≡ true → IsSilent (volume_of v b) x) →
     AreRightBefore (volume_of v b) 2 (marks_of w)
 unfolding volume_of volume_with
 clear_right v b old w k m c silent = record {
-  passed = λ x h q n o. c.flags x ∙ (flag_gone (bool_at old.leaders.items x) _ (suspect_shown v b old x k ∙ q)
+  passed = λ x h q n o. c.flags x ∙ (flag_gone (bool_at old.flags.items x) _ (suspect_shown v b old x k ∙ q)
       ∙ sym (some_below-none (λ t. is_naming_dir (graph_of (volume_of v b)) t x) 2
       (λ t l. ap (λ d. d && list_any (is_naming_entry x) (roled_entries (volume_of v b) t)) (low_dir (volume_of v b) t
       l))));
   stamps = λ x h. subst (λ n. n < 2) (sym (c.stamps x)) (omega arith);
-  flags_length = sym w.leaders.ok.0 ∙ m.leaders;
+  flags_length = sym w.flags.ok.0 ∙ m.flags;
   stamps_length = sym w.queue.ok.0 ∙ m.queue;
-  calm = λ x h. silent x (and_parts (bool_at old.leaders.items x) _
-      (sym (c.flags x) ∙ (and_parts (not (is_suspect (volume_of v b) x)) (bool_at w.leaders.items x) h).1)).0;
+  calm = λ x h. silent x (and_parts (bool_at old.flags.items x) _
+      (sym (c.flags x) ∙ (and_parts (not (is_suspect (volume_of v b) x)) (bool_at w.flags.items x) h).1)).0;
 }
 
 pub before_first : (v : Layout) (contents : Option (List ℕ)) (b : List ℕ) (old w : Workspace) → contents ≡ Some b →
     HoldsClaims v b old → HoldsSurvey v b old → IsFor v w → AreClear old w →
-    ((x : ℕ) → bool_at old.leaders.items x ≡ true → IsSilent (volume_of v b) x) → IsBefore v contents w 2 b
+    ((x : ℕ) → bool_at old.flags.items x ≡ true → IsSilent (volume_of v b) x) → IsBefore v contents w 2 b
 before_first v contents b old w t h s m c silent = record {
   reported_is = t;
   claims = claims_left v b old w c.survey h;
@@ -170,7 +170,7 @@ before_other v contents w d b g e k = record {
 -- whether an inode is looked at; a directory that isn't is calm, and left out
 abbrev is_looked : Workspace → ℕ → Bool
 is_looked w d = (slice_index w.kinds.items d == 4)
-    && (bool_at w.marked.items d || not (bool_at w.leaders.items d))
+    && (bool_at w.marked.items d || not (bool_at w.flags.items d))
 
 left_out : (a b c : Bool) → (a && (b || not c)) ≡ false → a ≡ true → (b ≡ false) × (c ≡ true)
 left_out true false true h e = (refl, refl)
@@ -181,11 +181,11 @@ left_out false b c h e = absurd (cc)
 calm_shown : (v : Layout) (contents : Option (List ℕ)) (w : Workspace) (d : ℕ) (b : List ℕ) → is_looked w d ≡ false →
     (slice_index w.kinds.items d == 4) ≡ true → IsBefore v contents w d b → IsSilent (volume_of v b) d
 calm_shown v contents w d b h e k =
-    let left = left_out _ (bool_at w.marked.items d) (bool_at w.leaders.items d) h e in
+    let left = left_out _ (bool_at w.marked.items d) (bool_at w.flags.items d) h e in
     let suspect : is_suspect (volume_of v b) d ≡ false = sym (suspect_shown v b w d k.claims)
     ∙ (ap (λ m. m || is_empty_dir_kind (slice_index w.kinds.items d)) left.0
     ∙ ap is_empty_dir_kind (eqb-true (slice_index w.kinds.items d) 4 e)) in
-    k.marks.calm d (and_from (not (is_suspect (volume_of v b) d)) (bool_at w.leaders.items d) (ap not suspect) left.1)
+    k.marks.calm d (and_from (not (is_suspect (volume_of v b) d)) (bool_at w.flags.items d) (ap not suspect) left.1)
 
 lines_left_out : (v : Layout) (contents : Option (List ℕ)) (w : Workspace) (d : ℕ) (b : List ℕ) → 2 ≤ d →
     is_looked w d ≡ false → (slice_index w.kinds.items d == 4) ≡ true → IsBefore v contents w d b →

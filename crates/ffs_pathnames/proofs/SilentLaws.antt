@@ -434,7 +434,7 @@ unfolding roled_entries
 by_chunks v d s r h = h
 
 pub calm_silent : (v : Layout) (b : List ℕ) (w : Workspace) → IsAcceptedLayout v → IsFor v w → HoldsClaims v b w →
-    HoldsSurvey v b w → FlagsCalm v b w → (d : ℕ) → bool_at w.leaders.items d ≡ true → IsSilent (volume_of v b) d
+    HoldsSurvey v b w → FlagsCalm v b w → (d : ℕ) → bool_at w.flags.items d ≡ true → IsSilent (volume_of v b) d
 calm_silent v b w g m h r f d set =
     let sh = shown v b w m h r in
     let c = f.calm d set in

@@ -15,8 +15,8 @@ use Rattle.ffs_pathnames.specs.Sees.{is_suspect_by}
 -- what was found stays; the flags of suspect inodes are taken away, and no others; nothing is stamped
 pub record AreClear (old new : Workspace) : Type 0 where
   pub survey : LeavesSurvey old new
-  pub flags : (x : ℕ) → bool_at new.leaders.items x
-      ≡ (bool_at old.leaders.items x && not (is_suspect_by old.kinds.items old.marked.items x))
+  pub flags : (x : ℕ) → bool_at new.flags.items x
+      ≡ (bool_at old.flags.items x && not (is_suspect_by old.kinds.items old.marked.items x))
   pub stamps : (x : ℕ) → slice_index new.queue.items x ≡ 0
 
 -- the image gives the bytes, the workspace holds what the block check and the survey leave, and its marks are right

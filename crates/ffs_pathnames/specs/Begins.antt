@@ -38,6 +38,6 @@ pub record IsBegun (v : Layout) (b : List ℕ) (d : ℕ) (old : Workspace) (e : 
   pub quiet : e.found.quiet ≡ are_quiet (volume_of v b) d old.queue.items (roled_entries (volume_of v b) d)
   pub marks : marks_of new
       ≡ record {
-        flags = old.leaders.items;
+        flags = old.flags.items;
         stamps = after_looks (volume_of v b) d old.queue.items (roled_entries (volume_of v b) d);
       }

@@ -16,10 +16,10 @@ use Rattle.ffs_workspace.specs.declared.workspace.Workspace.{Workspace}
 use Rattle.ffs_workspace.specs.Leaves.{LeavesSurvey}
 use Rattle.ffs_workspace.specs.Ready.{IsReady}
 
--- what the phases before the pathname check left, and the list of leaders
+-- what the phases before the pathname check left, and the flags
 pub record LeavesQueue (old new : Workspace) : Type 0 where
   pub survey : LeavesSurvey old new
-  pub leaders : new.leaders ≡ old.leaders
+  pub flags : new.flags ≡ old.flags
 
 -- what the first look at a directory leaves: the image, but for a read that failed, and all but the queue
 pub record ExamineLeaves {T : Type 0} (v : Layout) (d d' : Device) (old new : Workspace)

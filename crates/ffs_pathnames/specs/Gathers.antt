@@ -26,7 +26,7 @@ IsEnough v verdict dir number name about path directory =
 
 -- the marks that a workspace holds during the pathname check
 abbrev pub marks_of : Workspace → Marks
-marks_of w = record { flags = w.leaders.items; stamps = w.queue.items }
+marks_of w = record { flags = w.flags.items; stamps = w.queue.items }
 
 -- whether the messages show the attributes of the inode that the entry names, and its path
 abbrev pub asks_attr : Verdict → Bool
@@ -80,6 +80,6 @@ pub record IsVerdict (v : Volume) (s : ℕ) (m : Marks) (e : Entry) (verdict : V
 pub record AreAsLong (w : Workspace) : Type 0 where
   pub marked : vec_len w.marked ≡ vec_len w.kinds
   pub parents : vec_len w.parents ≡ vec_len w.kinds
-  pub leaders : vec_len w.leaders ≡ vec_len w.kinds
+  pub flags : vec_len w.flags ≡ vec_len w.kinds
   pub queue : vec_len w.queue ≡ vec_len w.kinds
   pub few : vec_len w.kinds < 2 ^ 31

@@ -24,9 +24,8 @@ fn clear_suspects(inodes: &Inodes<'_>, flags: &mut [bool])
     }
 }
 
-/// Clears all flags and stamps of inodes, but for the survey's flags in `leaders` of inodes that
-/// aren't suspect: these stay, and say which directories are left out, since nothing can be
-/// reported of them.
+/// Clears all flags and stamps of inodes, but for the survey's flags of inodes that aren't suspect:
+/// these stay, and say which directories are left out, since nothing can be reported of them.
 pub fn clear_marks(workspace: &mut Workspace)
     requires lengths { AreAsLong workspace.old }
     ensures clear { AreClear workspace.old workspace.new }
@@ -38,6 +37,6 @@ pub fn clear_marks(workspace: &mut Workspace)
         marked: workspace.marked.as_slice(),
         parents: &workspace.parents,
     };
-    clear_suspects(&inodes, workspace.leaders.as_mut_slice());
+    clear_suspects(&inodes, workspace.flags.as_mut_slice());
     workspace.queue.fill(0);
 }

@@ -102,7 +102,7 @@ pub fn report_entry<I: Image, W: Output>(
     pass(
         &inodes,
         dir,
-        workspace.leaders.as_mut_slice(),
+        workspace.flags.as_mut_slice(),
         &mut workspace.queue,
         role,
         entry,

@@ -164,7 +164,7 @@ fn verdict_of(workspace: &Workspace, dir: u32, entry: &Entry<'_>) -> Verdict
     entry_verdict(
         &inodes,
         dir,
-        workspace.leaders.as_slice(),
+        workspace.flags.as_slice(),
         &workspace.queue,
         entry,
     )

@@ -32,10 +32,10 @@ fn is_looked_at(workspace: &Workspace, number: u32) -> bool
     requires lists { AreAsLong workspace.now }
     ensures { result ≡ ((slice_index workspace.now.kinds.items number == 4)
         && (bool_at workspace.now.marked.items number
-        || not (bool_at workspace.now.leaders.items number))) }
+        || not (bool_at workspace.now.flags.items number))) }
 {
     let index = number as usize;
-    workspace.kinds[index] == DT_DIR && (workspace.marked[index] || !workspace.leaders[index])
+    workspace.kinds[index] == DT_DIR && (workspace.marked[index] || !workspace.flags[index])
 }
 
 /// Prints the lines of an inode as a directory, and of its entries.

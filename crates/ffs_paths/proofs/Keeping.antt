@@ -98,7 +98,7 @@ then_reads {last = last} {windows = windows} {result = result} one opened chunk 
           marked = made.marked;
           named = made.named;
           reached = made.reached;
-          leaders = made.leaders;
+          flags = made.flags;
           references = made.references;
           cut = made.cut;
           parents = made.parents;

@@ -24,7 +24,7 @@ pub record IsFor (v : Layout) (w : Workspace) : Type 0 where
   pub marked : vec_len w.marked ≡ inodes_of v
   pub named : vec_len w.named ≡ inodes_of v
   pub reached : vec_len w.reached ≡ inodes_of v
-  pub leaders : vec_len w.leaders ≡ inodes_of v
+  pub flags : vec_len w.flags ≡ inodes_of v
   pub references : vec_len w.references ≡ inodes_of v
   pub cut : vec_len w.cut ≡ inodes_of v
   pub parents : vec_len w.parents ≡ inodes_of v

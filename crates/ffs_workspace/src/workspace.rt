@@ -47,7 +47,7 @@ pub struct Workspace {
     pub reached: FixedList<bool>,
     /// Flags that the survey and phases 2 and 3 use one after another, each for its own purpose
     /// (`docs/CONTRIBUTING.md`, "Change what is read").
-    pub leaders: FixedList<bool>,
+    pub flags: FixedList<bool>,
     /// How many entries refer to each inode, counted on from `links_start`.
     pub references: FilledList<u64>,
     /// How many offers an inode keeps that its eleventh dup offer cut, else 0.
@@ -104,7 +104,7 @@ impl Workspace {
         let claimed = FragmentMap::in_memory(memory, geometry.layout.size)?;
         let duplicates = FragmentMap::in_memory(memory, geometry.layout.size)?;
         let kinds = memory.bytes(inodes)?;
-        let (marked, named, reached, leaders) = four_flags(memory, inodes)?;
+        let (marked, named, reached, flags) = four_flags(memory, inodes)?;
         let references = memory.long_numbers(inodes)?;
         let (cut, parents, queue) = three_numbers(memory, inodes)?;
         let windows = Windows::in_memory(memory, geometry)?;
@@ -116,7 +116,7 @@ impl Workspace {
             marked,
             named,
             reached,
-            leaders,
+            flags,
             references,
             cut,
             parents,
@@ -142,7 +142,7 @@ impl Workspace {
             + self.marked.len()
             + self.named.len()
             + self.reached.len()
-            + self.leaders.len();
+            + self.flags.len();
         let words = self.cut.len() + self.parents.len() + self.queue.len();
         let lists = bytes as u64 + 4 * words as u64 + 8 * self.references.len() as u64;
         let buffers = self.windows.table.window.buffer.len()

@@ -52,7 +52,7 @@ loop-number-init g c =
       survey = search rules;
       leaders = record {
         cycles = λ x. ap (λ (ls : List Bool). bool_at ls x)
-            (with_items_is c.args.workspace.now.leaders c.mark_leaders.new.leaders (search rules))
+            (with_items_is c.args.workspace.now.flags c.mark_leaders.new.leaders (search rules))
             ∙ c.mark_leaders.ensures.leads x;
       };
       said = of_says _ (λ bytes. phase3 ∷ map of_tree (connectivity_lines (volume_of v bytes)))

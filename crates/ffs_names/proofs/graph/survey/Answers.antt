@@ -96,7 +96,7 @@ returns-clause-calm g c = on_ok c.survey.result _ _ (λ s b t h.
     holds_calm c.args.geometry.now.layout b _ c.deref-2.result.now c.deref-3.result.now n.reached n.parents.items n.calm
     (sym c.deref-2.ensures.value) (sym c.deref-3.ensures.value)
     (with_items_is w.reached n.reached (search rules)) refl
-    (with_items_is w.leaders n.calm (search rules)) calm)
+    (with_items_is w.flags n.calm (search rules)) calm)
     c.survey.ensures.calm
 
 pub survey-requires-clause-lists : goal.survey-requires-clause-lists

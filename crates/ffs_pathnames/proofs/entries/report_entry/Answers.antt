@@ -41,7 +41,7 @@ returns-clause-leaves g c =
             marked = made.marked;
             named = made.named;
             reached = made.reached;
-            leaders = search rules;
+            flags = search rules;
             references = made.references;
             cut = made.cut;
             parents = made.parents;
@@ -77,9 +77,9 @@ returns-clause-marks g c = λ b k.
       count = c.as_slice.ensures.len ∙ c.in_ok-say_entry.ensures.leaves.ready.ready.made.kinds;
     }) (claims_left v b before here kept k.claims) (survey_left v b before here kept k.survey) in
     passes (volume_of v b) c.args.dir (record { role = c.args.role; entry = entry_value c.args.entry.now })
-    before.leaders.items _ _ _ before.queue.items _ _ _
-    (c.as_mut_slice.ensures.value ∙ ap (λ (w : Workspace). w.leaders.items) left)
+    before.flags.items _ _ _ before.queue.items _ _ _
+    (c.as_mut_slice.ensures.value ∙ ap (λ (w : Workspace). w.flags.items) left)
     (ap (λ (w : Workspace). w.queue.items) left)
     (c.pass.ensures.after (volume_of v b) shows)
-    (with_items_is here.leaders c.pass.new.flags (c.pass.auto.flags ∙ c.as_mut_slice.ensures.len))
+    (with_items_is here.flags c.pass.new.flags (c.pass.auto.flags ∙ c.as_mut_slice.ensures.len))
     refl
