@@ -36,11 +36,11 @@ step_seen v i s (Run start len block) = one (is_open s) refl (is_run_in_range v 
     one : (o : Bool) → is_open s ≡ o → (f : Bool) → is_run_in_range v start len ≡ f → (z : Bool) → (s.bad == 10) ≡ z →
         s.runs + length (step_runs v i s (Run start len block)) ≡ (after_step v s (Run start len block)).runs
     one false q f qf z qz = rw q (omega arith)
-    one true q true qf z qz = rw (q, qf) (sym (offers_runs v (record s { runs = s.runs + 1 })
-        (range_with_len start len)).0)
+    one true q true qf z qz = rw (q, qf)
+        (sym (offers_runs v (record s { runs = s.runs + 1 }) (range_with_len start len)))
     one true q false qf true qz = rw (q, qf, qz) refl
     one true q false qf false qz = rw (q, qf, qz)
-        (sym (offers_runs v (record s { runs = s.runs + 1; bad = s.bad + 1 }) (range_with_len start len)).0)
+        (sym (offers_runs v (record s { runs = s.runs + 1; bad = s.bad + 1 }) (range_with_len start len)))
 
 steps_seen : (v : Layout) (i : ℕ) (s : Claims) (steps : List Step) → s.runs + length (steps_runs v i s steps)
     ≡ (after_steps v s steps).runs

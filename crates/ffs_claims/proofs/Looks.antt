@@ -8,8 +8,10 @@ use Rattle.ffs_volume.specs.declared.Step.{Step}
 use Rattle.ffs_volume.specs.declared.Step.TheVariants.{Run, Tail, Gap}
 use Rattle.ffs_volume.specs.Blocks.BlockCheck.{Offer, offer_of}
 use Rattle.ffs_workspace.specs.Lengths.{set_count}
-use Rattle.ffs_claims.specs.declared.rescan.Rescan.{Rescan}
-use Rattle.ffs_claims.specs.Rescan.{is_going, run_taken, again, step_offers_again, offers_again, run_seen}
+use Rattle.ffs_volume.specs.Encodings.Replay.{Replay, is_replay_open}
+use Rattle.ffs_volume.specs.Encodings.ReplayCounts.{seen_run, replay_step_by_cut}
+use Rattle.ffs_walk.specs.Keepings.{run_taken}
+use Rattle.ffs_claims.specs.Rescan.{step_offers_again, offers_again}
 use Rattle.ffs_claims.specs.Reporting.{after_first}
 use Rattle.ffs_claims.specs.SecondLook.{looked_at, steps_runs_again}
 use Rattle.ffs_claims.proofs.Reportings.{after_append, none_after}
@@ -59,83 +61,86 @@ looked_both dup (kept ∷ xs) ys = one (set_count dup == 0) refl (looked_both (a
         omega (arith, all, first, more)
 
 -- the Runs leave to report what their offers leave
-pub runs_leave : (v : Layout) (i : ℕ) (r : Rescan) (dup : List Bool) (steps : List Step) →
-    after_runs dup (steps_runs_again v i r steps) ≡ after_first dup (offers_again v i r steps)
+pub runs_leave : (v : Layout) (i cut : ℕ) (r : Replay) (dup : List Bool) (steps : List Step) →
+    after_runs dup (steps_runs_again v i cut r steps) ≡ after_first dup (offers_again v i cut r steps)
 unfolding steps_runs_again offers_again
-runs_leave v i r dup [] = refl
-runs_leave v i r dup (Tail ∷ steps) = runs_leave v i r dup steps
-runs_leave v i r dup (Gap ∷ steps) = runs_leave v i r dup steps
-runs_leave v i r dup (Run start len block ∷ steps) =
-    one (is_going r) refl (λ (d : List Bool). runs_leave v i (again v r (Run start len block)) d steps)
+runs_leave v i cut r dup [] = refl
+runs_leave v i cut r dup (Tail ∷ steps) = runs_leave v i cut r dup steps
+runs_leave v i cut r dup (Gap ∷ steps) = runs_leave v i cut r dup steps
+runs_leave v i cut r dup (Run start len block ∷ steps) =
+    one (is_replay_open cut r) refl
+    (λ (d : List Bool). runs_leave v i cut (replay_step_by_cut v cut r (Run start len block)) d steps)
   where
-    one : (b : Bool) → is_going r ≡ b →
-        ((d : List Bool) → after_runs d (steps_runs_again v i (again v r (Run start len block)) steps)
-        ≡ after_first d (offers_again v i (again v r (Run start len block)) steps)) →
-        after_runs dup (steps_runs_again v i r (Run start len block ∷ steps))
-        ≡ after_first dup (offers_again v i r (Run start len block ∷ steps))
+    one : (b : Bool) → is_replay_open cut r ≡ b →
+        ((d : List Bool) →
+        after_runs d (steps_runs_again v i cut (replay_step_by_cut v cut r (Run start len block)) steps)
+        ≡ after_first d (offers_again v i cut (replay_step_by_cut v cut r (Run start len block)) steps)) →
+        after_runs dup (steps_runs_again v i cut r (Run start len block ∷ steps))
+        ≡ after_first dup (offers_again v i cut r (Run start len block ∷ steps))
     one true q more =
         ap (λ (b : Bool). after_runs dup ((if b then map (offer_of i)
-        (range_with_len start (run_taken v r start len)) ∷ [] else [])
-        ++ steps_runs_again v i (again v r (Run start len block)) steps)) q
-        ∙ more (after_first dup (map (offer_of i) (range_with_len start (run_taken v r start len))))
-        ∙ sym (after_append dup (map (offer_of i) (range_with_len start (run_taken v r start len)))
-        (offers_again v i (again v r (Run start len block)) steps))
+        (range_with_len start (run_taken v cut r start len)) ∷ [] else [])
+        ++ steps_runs_again v i cut (replay_step_by_cut v cut r (Run start len block)) steps)) q
+        ∙ more (after_first dup (map (offer_of i) (range_with_len start (run_taken v cut r start len))))
+        ∙ sym (after_append dup (map (offer_of i) (range_with_len start (run_taken v cut r start len)))
+        (offers_again v i cut (replay_step_by_cut v cut r (Run start len block)) steps))
         ∙ sym (ap (λ (b : Bool). after_first dup
-        ((if b then map (offer_of i) (range_with_len start (run_taken v r start len)) else [])
-        ++ offers_again v i (again v r (Run start len block)) steps)) q)
+        ((if b then map (offer_of i) (range_with_len start (run_taken v cut r start len)) else [])
+        ++ offers_again v i cut (replay_step_by_cut v cut r (Run start len block)) steps)) q)
     one false q more =
         ap (λ (b : Bool). after_runs dup ((if b then map (offer_of i)
-        (range_with_len start (run_taken v r start len)) ∷ [] else [])
-        ++ steps_runs_again v i (again v r (Run start len block)) steps)) q
+        (range_with_len start (run_taken v cut r start len)) ∷ [] else [])
+        ++ steps_runs_again v i cut (replay_step_by_cut v cut r (Run start len block)) steps)) q
         ∙ more dup
         ∙ sym (ap (λ (b : Bool). after_first dup
-        ((if b then map (offer_of i) (range_with_len start (run_taken v r start len)) else [])
-        ++ offers_again v i (again v r (Run start len block)) steps)) q)
+        ((if b then map (offer_of i) (range_with_len start (run_taken v cut r start len)) else [])
+        ++ offers_again v i cut (replay_step_by_cut v cut r (Run start len block)) steps)) q)
 
 -- a step more, while something is left to report
-pub looked_next : (v : Layout) (i : ℕ) (r r' : Rescan) (step : Step) (R R' : List Step) (dup dup' : List Bool) →
-    R ≡ step ∷ R' → r' ≡ again v r step → is_going r ≡ true → set_count dup ≢ 0 → dup'
-    ≡ after_first dup (step_offers_again v i r step) →
-    looked_at dup (steps_runs_again v i r R) ≡ run_seen r step + looked_at dup' (steps_runs_again v i r' R')
+pub looked_next : (v : Layout) (i cut : ℕ) (r r' : Replay) (step : Step) (R R' : List Step) (dup dup' : List Bool) →
+    R ≡ step ∷ R' → r' ≡ replay_step_by_cut v cut r step → is_replay_open cut r ≡ true → set_count dup ≢ 0 → dup'
+    ≡ after_first dup (step_offers_again v i cut r step) →
+    looked_at dup (steps_runs_again v i cut r R) ≡ seen_run cut r step + looked_at dup' (steps_runs_again v i cut r' R')
 unfolding steps_runs_again looked_at
-looked_next v i r r' step R R' dup dup' e now going some d =
-    ap (λ (xs : List Step). looked_at dup (steps_runs_again v i r xs)) e ∙ here step
-    ∙ ap (λ (x : Rescan). run_seen r step + looked_at (after_first dup (step_offers_again v i r step))
-    (steps_runs_again v i x R')) (sym now)
-    ∙ ap (λ (x : List Bool). run_seen r step + looked_at x (steps_runs_again v i r' R')) (sym d)
+looked_next v i cut r r' step R R' dup dup' e now going some d =
+    ap (λ (xs : List Step). looked_at dup (steps_runs_again v i cut r xs)) e ∙ here step
+    ∙ ap (λ (x : Replay). seen_run cut r step + looked_at (after_first dup (step_offers_again v i cut r step))
+    (steps_runs_again v i cut x R')) (sym now)
+    ∙ ap (λ (x : List Bool). seen_run cut r step + looked_at x (steps_runs_again v i cut r' R')) (sym d)
   where
     left : (set_count dup == 0) ≡ false
     left = grind (arith, nat_tests)
 
-    here : (p : Step) → looked_at dup (steps_runs_again v i r (p ∷ R'))
-        ≡ run_seen r p + looked_at (after_first dup (step_offers_again v i r p)) (steps_runs_again v i (again v r p) R')
+    here : (p : Step) → looked_at dup (steps_runs_again v i cut r (p ∷ R'))
+        ≡ seen_run cut r p + looked_at (after_first dup (step_offers_again v i cut r p))
+        (steps_runs_again v i cut (replay_step_by_cut v cut r p) R')
     here Tail = omega arith
     here Gap = omega arith
     here (Run start len block) = rw (going, left) refl
 
 -- after the cut no Run is seen
-pub runs_stopped : (v : Layout) (i : ℕ) (r : Rescan) (R : List Step) → is_going r ≡ false → steps_runs_again v i r R
-    ≡ []
+pub runs_stopped : (v : Layout) (i cut : ℕ) (r : Replay) (R : List Step) → is_replay_open cut r ≡ false →
+    steps_runs_again v i cut r R ≡ []
 unfolding steps_runs_again
-runs_stopped v i r [] q = refl
-runs_stopped v i r (Run start len block ∷ R) q = rw q (runs_stopped v i r R q)
-runs_stopped v i r (Tail ∷ R) q = runs_stopped v i r R q
-runs_stopped v i r (Gap ∷ R) q = runs_stopped v i r R q
+runs_stopped v i cut r [] q = refl
+runs_stopped v i cut r (Run start len block ∷ R) q = rw q (runs_stopped v i cut r R q)
+runs_stopped v i cut r (Tail ∷ R) q = runs_stopped v i cut r R q
+runs_stopped v i cut r (Gap ∷ R) q = runs_stopped v i cut r R q
 
 -- gaps in a row are no Runs
-pub gaps_looked : (v : Layout) (i : ℕ) (r : Rescan) (n : ℕ) (R : List Step) →
-    steps_runs_again v i r (replicate n Gap ++ R) ≡ steps_runs_again v i r R
+pub gaps_looked : (v : Layout) (i cut : ℕ) (r : Replay) (n : ℕ) (R : List Step) →
+    steps_runs_again v i cut r (replicate n Gap ++ R) ≡ steps_runs_again v i cut r R
 unfolding steps_runs_again
-gaps_looked v i r zero R = refl
-gaps_looked v i r (suc n) R = gaps_looked v i r n R
+gaps_looked v i cut r zero R = refl
+gaps_looked v i cut r (suc n) R = gaps_looked v i cut r n R
 
 -- where a second walk ends, no Run is left to see
-pub looked_stopped : (v : Layout) (i : ℕ) (r : Rescan) (R : List Step) (dup : List Bool) → is_going r ≡ false →
-    looked_at dup (steps_runs_again v i r R) ≡ 0
+pub looked_stopped : (v : Layout) (i cut : ℕ) (r : Replay) (R : List Step) (dup : List Bool) →
+    is_replay_open cut r ≡ false → looked_at dup (steps_runs_again v i cut r R) ≡ 0
 unfolding looked_at
-looked_stopped v i r R dup q = ap (looked_at dup) (runs_stopped v i r R q)
+looked_stopped v i cut r R dup q = ap (looked_at dup) (runs_stopped v i cut r R q)
 
-pub looked_over : (v : Layout) (i : ℕ) (r : Rescan) (R : List Step) (dup : List Bool) → R ≡ [] →
-    looked_at dup (steps_runs_again v i r R) ≡ 0
+pub looked_over : (v : Layout) (i cut : ℕ) (r : Replay) (R : List Step) (dup : List Bool) → R ≡ [] →
+    looked_at dup (steps_runs_again v i cut r R) ≡ 0
 unfolding looked_at steps_runs_again
-looked_over v i r R dup e = ap (λ (xs : List Step). looked_at dup (steps_runs_again v i r xs)) e
+looked_over v i cut r R dup e = ap (λ (xs : List Step). looked_at dup (steps_runs_again v i cut r xs)) e

@@ -21,7 +21,9 @@ use Rattle.ffs_volume.specs.Blocks.BlockCheck.{Offer, blames, kept_in_offers, ke
 use Rattle.ffs_volume.specs.Blocks.BlockCheck.{kept_in_owners, first_offer_lines, phase1b_lines}
 use Rattle.ffs_volume.specs.Blocks.KeptSteps.{claims_before}
 use Rattle.ffs_volume.proofs.Weights.{cond_holds}
-use Rattle.ffs_volume.specs.Encodings.Replay.{cut_of, cut_at}
+use Rattle.ffs_volume.specs.Encodings.Replay.{fresh_replay, cut_of, cut_at}
+use Rattle.ffs_volume.specs.Encodings.ReplayCounts.{replayed_runs}
+use Rattle.ffs_volume.proofs.ReplayLaws.{replay_is_runs}
 use Rattle.ffs_volume.proofs.CutLaws.{cut_is}
 use Rattle.ffs_volume.specs.Report.Whole.{run_count}
 use Rattle.ffs_volume.specs.Directories.Volumes.{is_inode_number}
@@ -30,32 +32,32 @@ use Rattle.ffs_workspace.specs.declared.workspace.Workspace.{Workspace}
 use Rattle.ffs_workspace.specs.Holds.{bool_at, all_claims, first_marked_at, HoldsPhase1, HoldsStarts, HoldsClaims}
 use Rattle.ffs_workspace.specs.Lengths.{inodes_of}
 use Rattle.ffs_claims.specs.Lines.{of_lines, owners_from}
-use Rattle.ffs_claims.specs.Rescan.{rescan, offers_again, runs_again}
+use Rattle.ffs_claims.specs.Rescan.{offers_again}
 use Rattle.ffs_claims.specs.Reporting.{after_first, OffersReported, SameClaims}
 use Rattle.ffs_claims.proofs.Goes.{range_more, lines_append}
 use Rattle.ffs_claims.proofs.Marks.{marked_total}
 use Rattle.ffs_claims.proofs.Numbers.{before_next, before_end, before_first}
-use Rattle.ffs_claims.proofs.Rescans.{inode_replayed}
+use Rattle.ffs_claims.proofs.Rescans.{inode_again}
 use Rattle.ffs_claims.proofs.Reportings.{Reporting, first_append}
 
 -- the offers of the next inode, replayed by its cut, and those of the inodes after it
 pub kept_next : (v : Layout) (bytes : List ℕ) (cuts : List ℕ) (n : ℕ) → IsAcceptedLayout v → 2 ≤ n → n < inodes_of v →
     is_inode_number v n ≡ true → slice_index cuts n ≡ cut_at v bytes n →
     kept_in_owners v (claims_before v bytes n) (owners_from v bytes n)
-    ≡ offers_again v n (rescan (slice_index cuts n)) (steps_of v (inode_of v bytes n) bytes)
+    ≡ offers_again v n (slice_index cuts n) fresh_replay (steps_of v (inode_of v bytes n) bytes)
     ++ kept_in_owners v (claims_before v bytes (n + 1)) (owners_from v bytes (n + 1))
 unfolding owner_of
 kept_next v bytes cuts n g low high inside e =
     let s = claims_before v bytes n in
     let cut : cut_of (after_steps v (at_next_inode (claims_before v bytes n)) (steps_of v (inode_of v bytes n) bytes))
     ≡ slice_index cuts n = sym (e ∙ cut_is v bytes n g inside) in
-    let again = (inode_replayed v n (claims_before v bytes n) (steps_of v (inode_of v bytes n) bytes)).offers in
+    let again = (inode_again v n (claims_before v bytes n) (steps_of v (inode_of v bytes n) bytes)).offers in
     ap (λ (xs : List ℕ). kept_in_owners v (claims_before v bytes n) (map (owner_of v bytes) xs))
     (range_more n (inodes_of v - n) (inodes_of v - (n + 1)) (omega arith))
     ∙ ap (λ (os : List Offer). os ++ kept_in_owners v (after_owner v (claims_before v bytes n) (owner_of v bytes n))
     (owners_from v bytes (n + 1)))
-    (again ∙ ap (λ (k : ℕ). offers_again v n (rescan k) (steps_of v (inode_of v bytes n) bytes)) cut)
-    ∙ ap (λ (t : Claims). offers_again v n (rescan (slice_index cuts n)) (steps_of v (inode_of v bytes n) bytes)
+    (again ∙ ap (λ (k : ℕ). offers_again v n k fresh_replay (steps_of v (inode_of v bytes n) bytes)) cut)
+    ∙ ap (λ (t : Claims). offers_again v n (slice_index cuts n) fresh_replay (steps_of v (inode_of v bytes n) bytes)
     ++ kept_in_owners v t (owners_from v bytes (n + 1))) (sym (before_next v bytes n low))
 
 pub kept_end : (v : Layout) (bytes : List ℕ) (s : Claims) (n : ℕ) → inodes_of v ≤ n →
@@ -66,16 +68,16 @@ kept_end v bytes s n past =
 
 pub runs_on : (v : Layout) (bytes : List ℕ) (cuts : List ℕ) (n : ℕ) → IsAcceptedLayout v → 2 ≤ n →
     is_inode_number v n ≡ true → slice_index cuts n ≡ cut_at v bytes n →
-    (claims_before v bytes (n + 1)).runs ≡ (claims_before v bytes n).runs + runs_again v (rescan (slice_index cuts n))
-    (steps_of v (inode_of v bytes n) bytes)
+    (claims_before v bytes (n + 1)).runs ≡ (claims_before v bytes n).runs
+    + replayed_runs v (slice_index cuts n) fresh_replay (steps_of v (inode_of v bytes n) bytes)
 unfolding owner_of
 runs_on v bytes cuts n g low inside e =
     let cut : cut_of (after_steps v (at_next_inode (claims_before v bytes n)) (steps_of v (inode_of v bytes n) bytes))
     ≡ slice_index cuts n = sym (e ∙ cut_is v bytes n g inside) in
     ap (λ (t : Claims). t.runs) (before_next v bytes n low)
-    ∙ (inode_replayed v n (claims_before v bytes n) (steps_of v (inode_of v bytes n) bytes)).runs
-    ∙ ap (λ (k : ℕ). (claims_before v bytes n).runs + runs_again v (rescan k) (steps_of v (inode_of v bytes n) bytes))
-    cut
+    ∙ replay_is_runs v (claims_before v bytes n) (steps_of v (inode_of v bytes n) bytes)
+    ∙ ap (λ (k : ℕ). (claims_before v bytes n).runs
+    + replayed_runs v k fresh_replay (steps_of v (inode_of v bytes n) bytes)) cut
 
 -- the count of Runs rises
 runs_rise : (v : Layout) (bytes : List ℕ) (n k : ℕ) → 2 ≤ n →
@@ -84,12 +86,11 @@ unfolding owner_of
 runs_rise v bytes n zero low = let same : n + 0 ≡ n = omega arith in rw same (omega arith)
 runs_rise v bytes n (suc k) low =
     let more = runs_rise v bytes n k low in
-    let again = (inode_replayed v (n + k) (claims_before v bytes (n + k))
-    (steps_of v (inode_of v bytes (n + k)) bytes)).runs in
+    let again = replay_is_runs v (claims_before v bytes (n + k)) (steps_of v (inode_of v bytes (n + k)) bytes) in
     let next : n + suc k ≡ n + k + 1 = omega arith in
-    let is : (claims_before v bytes (n + k + 1)).runs ≡ (claims_before v bytes (n + k)).runs + runs_again v
-    (rescan (cut_of (after_steps v (at_next_inode (claims_before v bytes (n + k)))
-    (steps_of v (inode_of v bytes (n + k)) bytes)))) (steps_of v (inode_of v bytes (n + k)) bytes) =
+    let is : (claims_before v bytes (n + k + 1)).runs ≡ (claims_before v bytes (n + k)).runs + replayed_runs v
+    (cut_of (after_steps v (at_next_inode (claims_before v bytes (n + k)))
+    (steps_of v (inode_of v bytes (n + k)) bytes))) fresh_replay (steps_of v (inode_of v bytes (n + k)) bytes) =
     ap (λ (t : Claims). t.runs) (before_next v bytes (n + k) (omega arith)) ∙ again in
     rw next (omega (arith, more, is))
 

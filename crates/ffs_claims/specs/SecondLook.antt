@@ -12,16 +12,19 @@ use Rattle.ffs_volume.specs.Blocks.Claims.{after_step, after_owner, after_owners
 use Rattle.ffs_volume.specs.declared.Inode.{Inode}
 use Rattle.ffs_volume.specs.Blocks.Steps.{steps_of}
 use Rattle.ffs_volume.specs.Blocks.BlockCheck.{Offer, first_offer_lines, kept_in_run, offer_of}
+use Rattle.ffs_volume.specs.Encodings.Replay.{Replay, is_replay_open, fresh_replay}
+use Rattle.ffs_volume.specs.Encodings.ReplayCounts.{replayed_runs, replay_step_by_cut}
 use Rattle.ffs_image.specs.Device.{Device}
 use Rattle.ffs_report.specs.Progress.{Progress}
 use Rattle.ffs_phase.specs.Known.{ForBytes, IsContents}
 use Rattle.ffs_phase.specs.Runs.{PhaseReports}
 use Rattle.ffs_phase.specs.declared.fault.RunFault.{RunFault}
 use Rattle.ffs_maps.specs.Bits.{bits_of}
+use Rattle.ffs_walk.specs.Keepings.{replay_in, run_taken}
+use Rattle.ffs_walk.specs.declared.keeping.Keeping.{Keeping}
 use Rattle.ffs_workspace.specs.declared.workspace.Workspace.{Workspace}
 use Rattle.ffs_workspace.specs.Lengths.{set_count}
-use Rattle.ffs_claims.specs.declared.rescan.Rescan.{Rescan}
-use Rattle.ffs_claims.specs.Rescan.{rescan, is_going, run_taken, again, offers_again, step_offers_again, runs_again}
+use Rattle.ffs_claims.specs.Rescan.{offers_again, step_offers_again}
 use Rattle.ffs_claims.specs.Lines.{of_lines}
 use Rattle.ffs_claims.specs.Reporting.{after_first, OffersReported, RewalkLeaves}
 
@@ -54,16 +57,16 @@ second_look v image =
     (owners_runs v (no_claims v) (owners_of v image))
 
 -- the kept offers of each Run that is seen, replayed
-abbrev pub step_runs_again : Layout → ℕ → Rescan → Step → List (List Offer)
-step_runs_again v inode r (Run start len block) =
-    if is_going r then map (offer_of inode) (range_with_len start (run_taken v r start len)) ∷ [] else []
-step_runs_again v inode r Tail = []
-step_runs_again v inode r Gap = []
+abbrev pub step_runs_again : (v : Layout) (inode cut : ℕ) (r : Replay) (step : Step) → List (List Offer)
+step_runs_again v inode cut r (Run start len block) =
+    if is_replay_open cut r then map (offer_of inode) (range_with_len start (run_taken v cut r start len)) ∷ [] else []
+step_runs_again v inode cut r Tail = []
+step_runs_again v inode cut r Gap = []
 
-unfoldable pub steps_runs_again : Layout → ℕ → Rescan → List Step → List (List Offer)
-steps_runs_again v inode r [] = []
-steps_runs_again v inode r (step ∷ steps) =
-    step_runs_again v inode r step ++ steps_runs_again v inode (again v r step) steps
+unfoldable pub steps_runs_again : (v : Layout) (inode cut : ℕ) (r : Replay) (steps : List Step) → List (List Offer)
+steps_runs_again v inode cut r [] = []
+steps_runs_again v inode cut r (step ∷ steps) =
+    step_runs_again v inode cut r step ++ steps_runs_again v inode cut (replay_step_by_cut v cut r step) steps
 
 -- a count rose by so many; it is exact as long as it is a u64's
 abbrev pub RoseBy : ℕ → ℕ → ℕ → Type 0
@@ -75,25 +78,26 @@ pub record Counted (old new more : ℕ) : Type 0 where
   pub exact : RoseBy old new more
 
 -- a step of an inode was gone over: what it keeps is reported, and the next step follows
-pub record StepReported (v : Layout) (inode : ℕ) (step : Step) (r r' : Rescan) (old new : Workspace) : Type 0 where
-  pub reported : OffersReported (step_offers_again v inode r step) old new
-  pub next : r' ≡ again v r step
+pub record StepReported (v : Layout) (inode : ℕ) (step : Step) (k k' : Keeping) (old new : Workspace) : Type 0 where
+  pub reported : OffersReported (step_offers_again v inode k.cut (replay_in k) step) old new
+  pub next : replay_in k' ≡ replay_step_by_cut v k.cut (replay_in k) step
+  pub cut : k'.cut ≡ k.cut
 
 -- an inode that keeps so many fragments, or all for 0, was walked over again: its offers were gone over, and its Runs
 -- counted up to the one that reports the last of the marked fragments
 pub record Rewalked (v : Layout) (inode cut : ℕ) (steps : List Step) (old new : Workspace) : Type 0 where
-  pub reported : OffersReported (offers_again v inode (rescan cut) steps) old new
+  pub reported : OffersReported (offers_again v inode cut fresh_replay steps) old new
   pub count : RoseBy old.runs_again new.runs_again (looked_at (bits_of old.duplicates)
-      (steps_runs_again v inode (rescan cut) steps))
+      (steps_runs_again v inode cut fresh_replay steps))
 
 -- an inode that keeps so many fragments, or all for 0, is walked over again: the first claims among its offers are
 -- reported, and its Runs are counted
 pub record Rewalks {T : Type 0} (v : Layout) (number cut : ℕ) (inode : List ℕ → Inode) (d d' : Device)
     (progress progress' : Progress) (old new : Workspace) (result : Result T RunFault) : Type 0 where
   pub text : PhaseReports (IsContents d.contents) (λ bytes. of_lines (first_offer_lines (bits_of old.duplicates)
-      (offers_again v number (rescan cut) (steps_of v (inode bytes) bytes)))) progress progress' result
+      (offers_again v number cut fresh_replay (steps_of v (inode bytes) bytes)))) progress progress' result
   pub rewalked : OnOk result (ForBytes (IsContents d.contents) (λ bytes.
       Rewalked v number cut (steps_of v (inode bytes) bytes) old new))
   pub runs : ForBytes (IsContents d.contents) (λ bytes.
-      new.runs_again ≤ old.runs_again + runs_again v (rescan cut) (steps_of v (inode bytes) bytes))
+      new.runs_again ≤ old.runs_again + replayed_runs v cut fresh_replay (steps_of v (inode bytes) bytes))
   pub left : RewalkLeaves v d d' old new result

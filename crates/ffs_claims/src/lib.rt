@@ -18,7 +18,6 @@ mod claim;
 mod first;
 mod offer;
 mod report_claim;
-mod rescan;
 mod reserve;
 mod second;
 mod store;

@@ -10,23 +10,24 @@ ghost use Rattle.ffs_volume.specs.Blocks.Owners.{owners_of};
 ghost use Rattle.ffs_volume.specs.Report.Whole.{run_count};
 ghost use Rattle.ffs_volume.specs.Blocks.Inodes.{inode_of};
 ghost use Rattle.ffs_volume.specs.Blocks.Lengths.{HasLength};
+ghost use Rattle.ffs_volume.specs.Encodings.Replay as replays;
+ghost use Rattle.ffs_volume.specs.Encodings.ReplayCounts.{seen_run};
 ghost use Rattle.ffs_maps.specs.Bits.{bits_of};
+ghost use Rattle.ffs_walk.specs.Keepings.{replay_in};
 ghost use Rattle.ffs_workspace.specs.Holds.{HoldsPhase1, HoldsClaims, HoldsStarts};
 ghost use Rattle.ffs_workspace.specs.Ready.{IsReady};
 ghost use Rattle.ffs_claims.specs.Lines.{of_lines};
-ghost use Rattle.ffs_claims.specs.Rescan as rescans;
-ghost use Rattle.ffs_claims.specs.Rescan.{step_offers_again, run_seen};
+ghost use Rattle.ffs_claims.specs.Rescan.{step_offers_again};
 ghost use Rattle.ffs_claims.specs.Reporting.{CanReport, CanRewalk, ReportsOnly};
 ghost use Rattle.ffs_claims.specs.SecondLook.{Counted, Rewalks, StepReported, second_look};
 
 use crate::report_claim::report_run;
-use crate::rescan::Rescan;
 use ffs_image::Image;
 use ffs_layout::Geometry;
 use ffs_phase::RunFault;
 use ffs_report::{Heading, Line, OutFault, Output, Report};
 use ffs_volume::{Inode, Step};
-use ffs_walk::Walk;
+use ffs_walk::{Keeping, Walk};
 use ffs_workspace::Workspace;
 
 /// Reports, of the fragments that a step of the current inode keeps, those whose first claim isn't
@@ -35,26 +36,27 @@ fn report_again<W: Output>(
     workspace: &mut Workspace,
     geometry: &Geometry,
     number: u32,
-    rescan: &mut Rescan,
+    keeping: &mut Keeping,
     step: Step,
     report: &mut Report<'_, W>,
 ) -> Result<(), OutFault>
     requires can { CanReport geometry.now.layout workspace.old number }
-    requires going { rescans.is_going rescan.old ≡ true }
+    requires going { replays.is_replay_open keeping.old.cut (replay_in keeping.old) ≡ true }
     requires length { HasLength geometry.now.layout.frag step }
     ensures said { Says (progress W.sink report.old) (progress W.sink report.new)
         (of_lines (first_offer_lines (bits_of workspace.old.duplicates)
-        (step_offers_again geometry.now.layout number rescan.old step))) result }
-    ensures reported { OnOk result (StepReported geometry.now.layout number step rescan.old
-        rescan.new workspace.old workspace.new) }
+        (step_offers_again geometry.now.layout number keeping.old.cut (replay_in keeping.old)
+        step))) result }
+    ensures reported { OnOk result (StepReported geometry.now.layout number step keeping.old
+        keeping.new workspace.old workspace.new) }
     ensures runs { Counted workspace.old.runs_again workspace.new.runs_again
-        (run_seen rescan.old step) }
+        (seen_run keeping.old.cut (replay_in keeping.old) step) }
     ensures only { ReportsOnly geometry.now.layout workspace.old workspace.new }
 {
     match step {
         Step::Run { start, len, .. } => {
             workspace.runs_again = workspace.runs_again.saturating_add(1);
-            let taken = rescan.take(geometry, start, len);
+            let taken = keeping.take(len, geometry.in_range(start, len));
             report_run(workspace, geometry, number, start, taken, report)
         }
         Step::Tail | Step::Gap => Ok(()),
@@ -76,11 +78,11 @@ fn rewalk<I: Image, W: Output>(
         (I.device image.new) (progress W.sink report.old) (progress W.sink report.new)
         workspace.old workspace.new result }
 {
-    let mut rescan = Rescan::start(cut);
+    let mut keeping = Keeping::start(cut);
     let mut walk = Walk::start(geometry, inode);
     while let Some(next) = walk.next(image, &mut workspace.windows.blocks)? {
-        report_again(workspace, geometry, number, &mut rescan, next, report)?;
-        if !rescan.is_going() {
+        report_again(workspace, geometry, number, &mut keeping, next, report)?;
+        if !keeping.is_replay_open() {
             break;
         }
         if workspace.unreported == 0 {

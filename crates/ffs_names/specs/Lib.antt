@@ -1,5 +1,4 @@
 pub mod Windows
-pub mod Keepings
 pub mod Fits
 pub mod RunCursors
 pub mod Readings

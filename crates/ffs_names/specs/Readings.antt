@@ -18,7 +18,7 @@ use Rattle.ffs_volume.specs.Blocks.Lengths.{HasLength}
 use Rattle.ffs_walk.specs.declared.blocks.Blocks.{Blocks}
 use Rattle.ffs_walk.specs.declared.window.Window.{Window}
 use Rattle.ffs_names.specs.Windows.{CanWalkDir, CanReadChunks}
-use Rattle.ffs_names.specs.Keepings.{replay_in}
+use Rattle.ffs_walk.specs.Keepings.{replay_in}
 use Rattle.ffs_names.specs.RunCursors.{hand_chunks, reading_by}
 use Rattle.ffs_names.specs.declared.chunks.Chunks.{Chunks}
 

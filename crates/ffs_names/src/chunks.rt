@@ -11,13 +11,12 @@ ghost use Rattle.ffs_names.specs.Fits.{HandFits};
 ghost use Rattle.ffs_names.specs.SeenRuns.{RunsAreSeen};
 ghost use Rattle.ffs_names.specs.Windows.{CanWalkDir, CanReadChunks};
 
-use crate::keeping::Keeping;
 use crate::run_cursor::RunCursor;
 use ffs_image::{Image, ImageFault};
 use ffs_layout::Geometry;
 use ffs_volume::constants::{DIRBLKSIZ, MINDIRSIZE};
 use ffs_volume::{Class, Inode, Step};
-use ffs_walk::{Blocks, Walk, Window, class_of};
+use ffs_walk::{Blocks, Keeping, Walk, Window, class_of};
 
 /// A reading of the chunks of a directory (dir(5)), in the order of the file: those of its Runs of
 /// data that are kept.
@@ -57,7 +56,7 @@ impl Chunks {
         let geometry = self.walk.geometry;
         let in_range = geometry.in_range(start, len);
         self.runs = self.runs.saturating_add(1);
-        if !self.keeping.take(len, in_range) {
+        if self.keeping.take(len, in_range) != len {
             return;
         }
         if !in_range {

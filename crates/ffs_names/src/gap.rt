@@ -44,7 +44,7 @@ fn find_gap<I: Image>(
                 },
             ) => {
                 let in_range = chunks.walk.geometry.in_range(start, len);
-                let _kept = chunks.keeping.take(len, in_range);
+                let _taken = chunks.keeping.take(len, in_range);
             }
             Some(Step::Tail) => {}
             Some(Step::Gap) => return Ok(true),

@@ -14,7 +14,6 @@ mod chunks;
 mod entries;
 mod gap;
 mod graph;
-mod keeping;
 mod role;
 mod run_cursor;
 mod tree;

@@ -1,4 +1,5 @@
 pub mod Windows
+pub mod Keepings
 pub mod Frames
 pub mod Fits
 pub mod Lengths

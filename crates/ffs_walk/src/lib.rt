@@ -2,7 +2,8 @@
 //!
 //! `Walk::next` returns the steps of the definition one by one: Runs of fragments, Gaps (holes),
 //! and Tails (indirect blocks with an address past the end of the file). It reads each indirect
-//! block once, into one of three buffers of `Blocks`.
+//! block once, into one of three buffers of `Blocks`. `Keeping` replays which of the steps an inode
+//! keeps.
 //!
 //! ```text
 //! let mut walk = Walk::start(geometry, &inode);
@@ -15,6 +16,7 @@
 mod blocks;
 mod class;
 mod frame;
+mod keeping;
 mod pieces;
 mod walk;
 mod window;
@@ -22,5 +24,6 @@ mod words;
 
 pub use blocks::Blocks;
 pub use class::{class_of, has_steps};
+pub use keeping::Keeping;
 pub use walk::Walk;
 pub use window::Window;

@@ -9,12 +9,13 @@ use Rattle.ffs_volume.specs.Blocks.BlockCheck.{Offer, first_offer_lines, kept_in
 use Rattle.ffs_volume.specs.Blocks.Claims.{no_claims}
 use Rattle.ffs_volume.specs.Blocks.Inodes.{inode_of}
 use Rattle.ffs_volume.specs.Blocks.KeptSteps.{claims_before}
+use Rattle.ffs_volume.specs.Encodings.Replay.{fresh_replay}
 use Rattle.ffs_volume.specs.Messages.Kinds.{Message, phase1b}
 use Rattle.ffs_volume.specs.Blocks.Owners.{owners_of}
 use Rattle.ffs_volume.specs.Blocks.Steps.{steps_of}
 use Rattle.ffs_workspace.specs.Lengths.{inodes_of, set_count}
 use Rattle.ffs_claims.specs.Lines.{of_lines, owners_from}
-use Rattle.ffs_claims.specs.Rescan.{rescan, offers_again}
+use Rattle.ffs_claims.specs.Rescan.{offers_again}
 use Rattle.ffs_claims.specs.Reporting.{after_first}
 use Rattle.ffs_claims.proofs.Numbers.{is_inside}
 use Rattle.ffs_claims.proofs.Frames.{claims_then, image_from, ready_unseen}
@@ -83,9 +84,9 @@ returns-in_err-renumbered-clause-prints g c =
       text = of_fault (Unit {0}) (Unit {0}) _
           (λ bytes. of_lines (first_offer_lines d (kept_in_owners v (claims_before v bytes n) (owners_from v bytes n))))
           (λ bytes. of_lines (first_offer_lines d
-          (offers_again v n (rescan (slice_index cuts n)) (steps_of v (inode_of v bytes n) bytes))))
+          (offers_again v n (slice_index cuts n) fresh_replay (steps_of v (inode_of v bytes n) bytes))))
           (λ bytes. of_lines (first_offer_lines
-          (after_first d (offers_again v n (rescan (slice_index cuts n)) (steps_of v (inode_of v bytes n) bytes)))
+          (after_first d (offers_again v n (slice_index cuts n) fresh_replay (steps_of v (inode_of v bytes n) bytes)))
           (kept_in_owners v (claims_before v bytes (n + 1)) (owners_from v bytes (n + 1)))))
           _ _ _ _ c.in_err-renumbered.field-0.0
           inv.said
@@ -127,7 +128,7 @@ loop-number-preserved g c =
     let on : ForBytes (λ bytes. IsContents (g.I.Image.device c.args.image.now).contents bytes
     × HoldsPhase1 v bytes c.args.workspace.now) (λ bytes.
     looked_at d (owners_runs v (claims_before v bytes n) (owners_from v bytes n))
-    ≡ looked_at d (steps_runs_again v n (rescan (slice_index cuts n)) (steps_of v (inode_of v bytes n) bytes))
+    ≡ looked_at d (steps_runs_again v n (slice_index cuts n) fresh_replay (steps_of v (inode_of v bytes n) bytes))
     + looked_at d' (owners_runs v (claims_before v bytes (n + 1)) (owners_from v bytes (n + 1)))) =
     λ bytes k. looked_on v bytes cuts n d d' c.args.geometry.now.sound inv.low lt inside (cut ∙ k.1.cut n)
     (c.in_ok-renumbered.ensures.rewalked bytes (image ∙ k.0)).reported.dup in
@@ -145,7 +146,7 @@ loop-number-preserved g c =
       );
       count = λ bytes k.
           let fits : c.loop-number.workspace.runs_again + looked_at d
-          (steps_runs_again v n (rescan (slice_index cuts n)) (steps_of v (inode_of v bytes n) bytes)) < 2 ^ 64 =
+          (steps_runs_again v n (slice_index cuts n) fresh_replay (steps_of v (inode_of v bytes n) bytes)) < 2 ^ 64 =
           omega (arith, inv.count bytes k, look_fits v bytes c.args.geometry.now.sound, on bytes k) in
           omega (
             arith,
@@ -155,14 +156,14 @@ loop-number-preserved g c =
                 fits,
           );
       reported = λ bytes k. reporting_more _
-          (offers_again v n (rescan (slice_index cuts n)) (steps_of v (inode_of v bytes n) bytes))
+          (offers_again v n (slice_index cuts n) fresh_replay (steps_of v (inode_of v bytes n) bytes))
           (kept_in_owners v (claims_before v bytes (n + 1)) (owners_from v bytes (n + 1))) _ _ _ _
           (inv.reported bytes k) (kept_next v bytes cuts n c.args.geometry.now.sound inv.low lt inside
           (cut ∙ k.1.cut n)) (c.in_ok-renumbered.ensures.rewalked bytes (image ∙ k.0)).reported;
       said = of_part _ (λ bytes. of_lines
           (first_offer_lines d (kept_in_owners v (claims_before v bytes n) (owners_from v bytes n))))
           (λ bytes. of_lines (first_offer_lines d
-          (offers_again v n (rescan (slice_index cuts n)) (steps_of v (inode_of v bytes n) bytes))))
+          (offers_again v n (slice_index cuts n) fresh_replay (steps_of v (inode_of v bytes n) bytes))))
           (λ bytes. of_lines (first_offer_lines d'
           (kept_in_owners v (claims_before v bytes (n + 1)) (owners_from v bytes (n + 1))))) _ _ _ _ inv.said
           (λ bytes k. lines_split d d' _ _ _ (kept_next v bytes cuts n c.args.geometry.now.sound inv.low lt inside

@@ -8,10 +8,12 @@ use Rattle.ffs_volume.specs.declared.Inode.{Inode}
 use Rattle.ffs_volume.specs.Blocks.BlockCheck.{first_offer_lines}
 use Rattle.ffs_volume.specs.Blocks.Inodes.{inode_of}
 use Rattle.ffs_volume.specs.Blocks.Steps.{steps_of}
+use Rattle.ffs_volume.specs.Encodings.Replay.{fresh_replay}
+use Rattle.ffs_volume.specs.Encodings.ReplayCounts.{replayed_runs}
 use Rattle.ffs_maps.specs.Bits.{bits_of}
 use Rattle.ffs_phase.proofs.Reporting.{of_begins, of_reads, reports_same, reports_knowing}
 use Rattle.ffs_claims.specs.Lines.{of_lines}
-use Rattle.ffs_claims.specs.Rescan.{rescan, offers_again, runs_again}
+use Rattle.ffs_claims.specs.Rescan.{offers_again}
 use Rattle.ffs_claims.proofs.Inodes.{ok_where}
 use Rattle.ffs_claims.proofs.Frames.{claims_still, claims_none, claims_then}
 use Rattle.ffs_workspace.proofs.Readiness.{ready_table}
@@ -52,7 +54,7 @@ returns-in_err-inode g c = record {
       (of_begins _ (λ bytes. of_lines
       (first_offer_lines (bits_of c.args.workspace.now.duplicates)
       (offers_again c.args.geometry.now.layout c.args.number
-      (rescan (slice_index c.args.workspace.now.cut.items c.args.number))
+      (slice_index c.args.workspace.now.cut.items c.args.number) fresh_replay
       (steps_of c.args.geometry.now.layout (inode_of c.args.geometry.now.layout bytes c.args.number) bytes)))) _));
   rewalked = search rules;
   runs = λ bytes t. omega arith;
@@ -73,17 +75,17 @@ returns g c = record {
       let d = bits_of c.args.workspace.now.duplicates in
       reports_same (Unit {0}) _
       (λ bytes. of_lines (first_offer_lines d
-      (offers_again v n (rescan c.index-cut.result.now)
+      (offers_again v n c.index-cut.result.now fresh_replay
       (steps_of v c.in_ok-inode.inode bytes))))
       (λ bytes. of_lines (first_offer_lines d
-      (offers_again v n (rescan (slice_index c.args.workspace.now.cut.items n))
+      (offers_again v n (slice_index c.args.workspace.now.cut.items n) fresh_replay
       (steps_of v (inode_of v bytes n) bytes)))) _ _ c.rewalk.result
       (λ bytes t. ap (λ (k : ℕ). of_lines
-      (first_offer_lines d (offers_again v n (rescan k) (steps_of v c.in_ok-inode.inode bytes))))
+      (first_offer_lines d (offers_again v n k fresh_replay (steps_of v c.in_ok-inode.inode bytes))))
       (get_at c.args.workspace.now.cut c.args.number c.index-cut.result.now c.index-cut.ensures
       (omega (arith, c.requires.can.ready.made.cut, c.requires.can.number_fits)))
       ∙ ap (λ (i : Inode). of_lines
-      (first_offer_lines d (offers_again v n (rescan (slice_index c.args.workspace.now.cut.items n))
+      (first_offer_lines d (offers_again v n (slice_index c.args.workspace.now.cut.items n) fresh_replay
       (steps_of v i bytes)))) (c.in_ok-inode.ensures.inode bytes t))
       (reports_knowing (Unit {0}) _ _ _ _ _ c.rewalk.result
       (λ bytes t. ap (λ d. d.contents) c.in_ok-inode.ensures.read ∙ t)
@@ -107,14 +109,14 @@ returns g c = record {
   runs = λ bytes t.
       let v = c.args.geometry.now.layout in
       let n = c.args.number in
-      let same : runs_again v (rescan c.index-cut.result.now)
-      (steps_of v c.in_ok-inode.inode bytes) ≡ runs_again v (rescan (slice_index c.args.workspace.now.cut.items n))
-      (steps_of v (inode_of v bytes n) bytes) =
-      ap (λ (k : ℕ). runs_again v (rescan k) (steps_of v c.in_ok-inode.inode bytes))
+      let same : replayed_runs v c.index-cut.result.now fresh_replay
+      (steps_of v c.in_ok-inode.inode bytes)
+      ≡ replayed_runs v (slice_index c.args.workspace.now.cut.items n) fresh_replay (steps_of v (inode_of v bytes n) bytes) =
+      ap (λ (k : ℕ). replayed_runs v k fresh_replay (steps_of v c.in_ok-inode.inode bytes))
       (get_at c.args.workspace.now.cut c.args.number c.index-cut.result.now c.index-cut.ensures
       (omega (arith, c.requires.can.ready.made.cut, c.requires.can.number_fits)))
-      ∙ ap (λ (i : Inode). runs_again v (rescan (slice_index c.args.workspace.now.cut.items n)) (steps_of v i bytes))
-      (c.in_ok-inode.ensures.inode bytes t) in
+      ∙ ap (λ (i : Inode).
+      replayed_runs v (slice_index c.args.workspace.now.cut.items n) fresh_replay (steps_of v i bytes)) (c.in_ok-inode.ensures.inode bytes t) in
       omega (arith, c.rewalk.ensures.runs bytes (ap (λ d. d.contents) c.in_ok-inode.ensures.read ∙ t), same);
   left = record {
     image = rw (c.in_ok-inode.ensures.read) at c.rewalk.ensures.left.image;

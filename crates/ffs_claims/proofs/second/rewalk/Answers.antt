@@ -3,19 +3,21 @@ use Rattle.std.proofs.lemmas.Result.{err_from_is_err_and}
 use Rattle.ffs_volume.specs.declared.Step.TheVariants.{Gap}
 use Rattle.ffs_volume.specs.Blocks.BlockCheck.{Offer, first_offer_lines}
 use Rattle.ffs_volume.specs.Blocks.Steps.{steps_of}
+use Rattle.ffs_volume.specs.Encodings.Replay.{Replay, fresh_replay, is_replay_open}
+use Rattle.ffs_volume.specs.Encodings.ReplayCounts.{replay_step_by_cut}
 use Rattle.ffs_maps.specs.Bits.{bits_of}
+use Rattle.ffs_walk.specs.Keepings.{replay_in}
 use Rattle.ffs_walk.specs.Rests.{rest}
 use Rattle.ffs_phase.specs.Known.{ForBytes, IsContents}
 use Rattle.ffs_phase.proofs.Reporting.{of_begins, of_stops, of_reads, of_same}
 use Rattle.ffs_workspace.specs.Lengths.{set_count}
-use Rattle.ffs_claims.specs.declared.rescan.Rescan.{Rescan}
 use Rattle.ffs_claims.specs.Lines.{of_lines}
-use Rattle.ffs_claims.specs.Rescan.{rescan, again, step_offers_again, offers_again}
+use Rattle.ffs_claims.specs.Rescan.{step_offers_again, offers_again}
 use Rattle.ffs_claims.specs.Reporting.{after_first}
 use Rattle.ffs_claims.proofs.Doubles.{none_first}
 use Rattle.ffs_claims.proofs.Frames.{claims_none, claims_still, claims_then, ready_still, ready_read, ready_walked}
 use Rattle.ffs_claims.proofs.Looks.{looked_stopped, looked_over}
-use Rattle.ffs_claims.proofs.Rewalks.{going_first, gaps_offer, offers_none, offers_stopped, lines_step, runs_next}
+use Rattle.ffs_claims.proofs.Rewalks.{open_first, gaps_offer, offers_none, offers_stopped, lines_step, runs_next}
 use Rattle.ffs_claims.proofs.Rewalks.{Rewalking, rewalk_begins, rewalk_on, rewalk_gaps, rewalk_ends, rewalk_over}
 use Rattle.ffs_claims.proofs.Rewalks.{rewalk_said, rewalked_to}
 use Rattle.ffs_claims.proofs.second.rewalk.Goals as goal
@@ -25,23 +27,26 @@ loop-next-init g c =
     let v = c.args.geometry.now.layout in
     let n = c.args.number in
     let d = bits_of c.args.workspace.now.duplicates in
-    let begun : c.start-rescan.result ≡ rescan c.args.cut = c.start-rescan.ensures in
+    let cut = c.args.cut in
+    let r = replay_in c.start-keeping.result in
+    let begun = c.start-keeping.ensures.fresh in
     record {
       ready = c.requires.can.ready;
-      going = rw begun (going_first c.args.cut);
+      cut = c.start-keeping.ensures.cut;
+      going = ap (is_replay_open cut) begun ∙ open_first cut;
       pending = c.requires.can.pending;
       geometry = c.start-walk.ensures.geometry;
       device = refl;
       claims = claims_none c.args.workspace.now;
-      walk = λ bytes t. rewalk_begins v n c.args.cut (steps_of v c.args.inode.now bytes) c.start-rescan.result
+      walk = λ bytes t. rewalk_begins v n cut (steps_of v c.args.inode.now bytes) r
           (rest bytes c.start-walk.result) c.args.workspace.now
           begun (c.start-walk.ensures.steps bytes);
       said = of_same _ _ _ _ _ _
           (of_begins _ (λ bytes. of_lines
-          (first_offer_lines d (offers_again v n (rescan c.args.cut) (steps_of v c.args.inode.now bytes)))) _)
+          (first_offer_lines d (offers_again v n cut fresh_replay (steps_of v c.args.inode.now bytes)))) _)
           (λ bytes t. ap (λ (os : List Offer). of_lines (first_offer_lines d os))
-          (ap (λ (x : Rescan). offers_again v n x (steps_of v c.args.inode.now bytes)) (sym begun)
-          ∙ ap (offers_again v n c.start-rescan.result) (sym (c.start-walk.ensures.steps bytes))));
+          (ap (λ (x : Replay). offers_again v n cut x (steps_of v c.args.inode.now bytes)) (sym begun)
+          ∙ ap (offers_again v n cut r) (sym (c.start-walk.ensures.steps bytes))));
     }
 
 pub next-requires : goal.next-requires
@@ -79,6 +84,9 @@ report_again-requires-clause-can g c =
     c.in_ok-next.ensures.leaves.read c.next.ensures.leaves.kept.size c.next.ensures.leaves.kept.holds inv.ready in
     record { made = read.made; number_fits = c.requires.can.number_fits }
 
+pub report_again-requires-clause-going : goal.report_again-requires-clause-going
+report_again-requires-clause-going g c = let inv = c.loop-next.invariant in rw inv.cut inv.going
+
 pub returns-in_err-report_again : goal.returns-in_err-report_again
 returns-in_err-report_again g c =
     let p = err_from_is_err_and c.from_residual-in_err-report_again.result
@@ -87,7 +95,8 @@ returns-in_err-report_again g c =
     let v = c.args.geometry.now.layout in
     let n = c.args.number in
     let d = bits_of c.loop-next.workspace.duplicates in
-    let r = c.loop-next.rescan in
+    let cut = c.args.cut in
+    let r = replay_in c.loop-next.keeping in
     let step = c.in-Some.next in
     let ok = c.in_ok-next.ensures.leaves.read in
     let next = rw (inv.device, c.in-Some.is) at c.in_ok-next.ensures.step.steps in
@@ -95,19 +104,20 @@ returns-in_err-report_again g c =
     c.next.ensures.leaves.kept.size c.next.ensures.leaves.kept.holds inv.ready in
     let only = c.report_again.ensures.only in
     rw (p.1, p.2) (record {
-      text = of_stops _ _ (λ bytes. of_lines (first_offer_lines (after_first d (step_offers_again v n r step))
-          (offers_again v n (again v r step) (rest bytes c.next.new.self)))) _
-          (of_lines (first_offer_lines d (step_offers_again v n r step))) _ _ _ inv.said
-          (λ bytes t. lines_step v n r (again v r step) step (rest bytes c.loop-next.walk) (rest bytes c.next.new.self)
-          d (after_first d (step_offers_again v n r step)) (next bytes t) refl refl)
-          c.in_err-report_again.ensures.said;
+      text = of_stops _ _ (λ bytes. of_lines (first_offer_lines (after_first d (step_offers_again v n cut r step))
+          (offers_again v n cut (replay_step_by_cut v cut r step) (rest bytes c.next.new.self)))) _
+          (of_lines (first_offer_lines d (step_offers_again v n cut r step))) _ _ _ inv.said
+          (λ bytes t. lines_step v n cut r (replay_step_by_cut v cut r step) step (rest bytes c.loop-next.walk)
+          (rest bytes c.next.new.self) d (after_first d (step_offers_again v n cut r step)) (next bytes t) refl refl)
+          (rw inv.cut at c.in_err-report_again.ensures.said);
       rewalked = tt;
       runs = λ bytes t. omega (
         arith,
         (inv.walk bytes t).runs,
-        c.report_again.ensures.runs.most,
-        runs_next v r
-            (again v r step) step (rest bytes c.loop-next.walk) (rest bytes c.next.new.self) (next bytes t) refl,
+        rw inv.cut at c.report_again.ensures.runs.most,
+        runs_next v cut r
+            (replay_step_by_cut v cut r step) step (rest bytes c.loop-next.walk) (rest bytes c.next.new.self)
+            (next bytes t) refl,
       );
       left = record {
         image = ok ∙ inv.device;
@@ -129,14 +139,21 @@ loop-next-preserved-then-matches g c =
     let n = c.args.number in
     let d = bits_of c.loop-next.workspace.duplicates in
     let d' = bits_of c.report_again.new.workspace.duplicates in
-    let r' = c.report_again.new.rescan in
+    let cut = c.args.cut in
+    let r = replay_in c.loop-next.keeping in
+    let r' = replay_in c.report_again.new.keeping in
     let ok = c.in_ok-next.ensures.leaves.read in
-    let now = c.in_ok-report_again.ensures.reported.next in
+    let did = rw inv.cut at c.in_ok-report_again.ensures.reported.reported in
+    let now = rw inv.cut at c.in_ok-report_again.ensures.reported.next in
+    let most = rw inv.cut at c.report_again.ensures.runs.most in
+    let exact = rw inv.cut at c.report_again.ensures.runs.exact in
+    let said = rw inv.cut at c.in_ok-report_again.ensures.said in
     let only = c.report_again.ensures.only in
     let next = rw (inv.device, c.in-Some.is) at c.in_ok-next.ensures.step.steps in
     let read = ready_walked c.args.geometry.now _ _ _ c.loop-next.workspace c.next.new.blocks inv.geometry ok
     c.next.ensures.leaves.kept.size c.next.ensures.leaves.kept.holds inv.ready in
     let ready = ready_still v _ _ _ only.made only.windows read in
+    let same = c.in_ok-report_again.ensures.reported.cut ∙ inv.cut in
     let gaps : ForBytes (IsContents (g.I.Image.device c.args.image.now).contents)
     (λ bytes. rest bytes c.next.new.self ≡ replicate c.skip_gaps.result Gap ++ rest bytes c.skip_gaps.new.self) =
     λ bytes t. c.skip_gaps.ensures.steps (g.I.Image.device c.next.new.image).contents
@@ -144,25 +161,24 @@ loop-next-preserved-then-matches g c =
     (ap (λ d. d.contents) (ok ∙ inv.device) ∙ t) in
     record {
       ready = ready;
-      going = sym c.is_going.ensures ∙ c.if-not-is_going.false;
+      cut = same;
+      going = rw same at (sym c.is_replay_open.ensures ∙ c.if-not-is_replay_open.false);
       pending = c.if-workspace-eq0.false;
       geometry = c.skip_gaps.ensures.same.geometry ∙ c.in_ok-next.ensures.same.geometry ∙ inv.geometry;
       device = ok ∙ inv.device;
       claims = claims_then _ _ _ (claims_still _ _ _ inv.claims) only.claims;
       walk = λ bytes t. rewalk_gaps _ _ _ _ r' c.skip_gaps.result (rest bytes c.next.new.self)
           (rest bytes c.skip_gaps.new.self) _ _ (gaps bytes t)
-          (rewalk_on _ _ _ _ c.in-Some.next c.loop-next.rescan r' (rest bytes c.loop-next.walk)
+          (rewalk_on _ _ _ _ c.in-Some.next r r' (rest bytes c.loop-next.walk)
           (rest bytes c.next.new.self) _ c.loop-next.workspace _ c.report_again.new.workspace
           (next bytes t) now inv.going (λ e. inv.pending (inv.ready.made.unreported ∙ e))
-          c.in_ok-report_again.ensures.reported.reported c.report_again.ensures.runs.most
-          c.report_again.ensures.runs.exact
-          (inv.walk bytes t));
-      said = rewalk_said _ v n c.loop-next.rescan r' c.in-Some.next (λ bytes. rest bytes c.loop-next.walk)
+          did most exact (inv.walk bytes t));
+      said = rewalk_said _ v n cut r r' c.in-Some.next (λ bytes. rest bytes c.loop-next.walk)
           (λ bytes. rest bytes c.next.new.self) d d' _ _ _ _ _
-          inv.said next now c.in_ok-report_again.ensures.reported.reported.dup
-          (λ bytes t. ap (first_offer_lines d') (ap (offers_again v n r') (gaps bytes t)
-          ∙ gaps_offer v n r' c.skip_gaps.result (rest bytes c.skip_gaps.new.self)))
-          c.in_ok-report_again.ensures.said;
+          inv.said next now did.dup
+          (λ bytes t. ap (first_offer_lines d') (ap (offers_again v n cut r') (gaps bytes t)
+          ∙ gaps_offer v n cut r' c.skip_gaps.result (rest bytes c.skip_gaps.new.self)))
+          said;
     }
 
 pub loop-next-preserved : goal.loop-next-preserved
@@ -172,67 +188,78 @@ loop-next-preserved g c =
     let n = c.args.number in
     let d = bits_of c.loop-next.workspace.duplicates in
     let d' = bits_of c.report_again.new.workspace.duplicates in
-    let r' = c.report_again.new.rescan in
+    let cut = c.args.cut in
+    let r = replay_in c.loop-next.keeping in
+    let r' = replay_in c.report_again.new.keeping in
     let ok = c.in_ok-next.ensures.leaves.read in
-    let now = c.in_ok-report_again.ensures.reported.next in
+    let did = rw inv.cut at c.in_ok-report_again.ensures.reported.reported in
+    let now = rw inv.cut at c.in_ok-report_again.ensures.reported.next in
+    let most = rw inv.cut at c.report_again.ensures.runs.most in
+    let exact = rw inv.cut at c.report_again.ensures.runs.exact in
+    let said = rw inv.cut at c.in_ok-report_again.ensures.said in
     let only = c.report_again.ensures.only in
     let next = rw (inv.device, c.in-Some.is) at c.in_ok-next.ensures.step.steps in
     let read = ready_walked c.args.geometry.now _ _ _ c.loop-next.workspace c.next.new.blocks inv.geometry ok
     c.next.ensures.leaves.kept.size c.next.ensures.leaves.kept.holds inv.ready in
     let ready = ready_still v _ _ _ only.made only.windows read in
+    let same = c.in_ok-report_again.ensures.reported.cut ∙ inv.cut in
     record {
       ready = ready;
-      going = sym c.is_going.ensures ∙ c.if-not-is_going.false;
+      cut = same;
+      going = rw same at (sym c.is_replay_open.ensures ∙ c.if-not-is_replay_open.false);
       pending = c.if-workspace-eq0.false;
       geometry = c.in_ok-next.ensures.same.geometry ∙ inv.geometry;
       device = ok ∙ inv.device;
       claims = claims_then _ _ _ (claims_still _ _ _ inv.claims) only.claims;
-      walk = λ bytes t. rewalk_on _ _ _ _ c.in-Some.next c.loop-next.rescan r' (rest bytes c.loop-next.walk)
+      walk = λ bytes t. rewalk_on _ _ _ _ c.in-Some.next r r' (rest bytes c.loop-next.walk)
           (rest bytes c.next.new.self) _ c.loop-next.workspace _ c.report_again.new.workspace
           (next bytes t) now inv.going (λ e. inv.pending (inv.ready.made.unreported ∙ e))
-          c.in_ok-report_again.ensures.reported.reported c.report_again.ensures.runs.most
-          c.report_again.ensures.runs.exact
-          (inv.walk bytes t);
-      said = rewalk_said _ v n c.loop-next.rescan r' c.in-Some.next (λ bytes. rest bytes c.loop-next.walk)
+          did most exact (inv.walk bytes t);
+      said = rewalk_said _ v n cut r r' c.in-Some.next (λ bytes. rest bytes c.loop-next.walk)
           (λ bytes. rest bytes c.next.new.self) d d' _ _ _ _ _
-          inv.said next now c.in_ok-report_again.ensures.reported.reported.dup
+          inv.said next now did.dup
           (λ bytes t. refl)
-          c.in_ok-report_again.ensures.said;
+          said;
     }
 
-pub returns-then-not-is_going : goal.returns-then-not-is_going
-returns-then-not-is_going g c =
+pub returns-then-not-is_replay_open : goal.returns-then-not-is_replay_open
+returns-then-not-is_replay_open g c =
     let inv = c.loop-next.invariant in
     let v = c.args.geometry.now.layout in
     let n = c.args.number in
     let d = bits_of c.loop-next.workspace.duplicates in
     let d' = bits_of c.report_again.new.workspace.duplicates in
-    let r' = c.report_again.new.rescan in
+    let cut = c.args.cut in
+    let r = replay_in c.loop-next.keeping in
+    let r' = replay_in c.report_again.new.keeping in
     let ok = c.in_ok-next.ensures.leaves.read in
-    let now = c.in_ok-report_again.ensures.reported.next in
+    let did = rw inv.cut at c.in_ok-report_again.ensures.reported.reported in
+    let now = rw inv.cut at c.in_ok-report_again.ensures.reported.next in
+    let most = rw inv.cut at c.report_again.ensures.runs.most in
+    let exact = rw inv.cut at c.report_again.ensures.runs.exact in
+    let said = rw inv.cut at c.in_ok-report_again.ensures.said in
     let only = c.report_again.ensures.only in
-    let cut = sym c.is_going.ensures ∙ c.if-not-is_going.true in
+    let same = c.in_ok-report_again.ensures.reported.cut ∙ inv.cut in
+    let shut = rw same at (sym c.is_replay_open.ensures ∙ c.if-not-is_replay_open.true) in
     let next = rw (inv.device, c.in-Some.is) at c.in_ok-next.ensures.step.steps in
     let read = ready_walked c.args.geometry.now _ _ _ c.loop-next.workspace c.next.new.blocks inv.geometry ok
     c.next.ensures.leaves.kept.size c.next.ensures.leaves.kept.holds inv.ready in
     let walk : ForBytes (IsContents (g.I.Image.device c.args.image.now).contents) (λ bytes.
-    Rewalking v n c.args.cut (steps_of v c.args.inode.now bytes) c.report_again.new.rescan (rest bytes c.next.new.self)
+    Rewalking v n c.args.cut (steps_of v c.args.inode.now bytes) r' (rest bytes c.next.new.self)
     c.args.workspace.now c.report_again.new.workspace) =
-    λ bytes t. rewalk_on _ _ _ _ c.in-Some.next c.loop-next.rescan r' (rest bytes c.loop-next.walk)
+    λ bytes t. rewalk_on _ _ _ _ c.in-Some.next r r' (rest bytes c.loop-next.walk)
     (rest bytes c.next.new.self) _ c.loop-next.workspace _ c.report_again.new.workspace
     (next bytes t) now inv.going (λ e. inv.pending (inv.ready.made.unreported ∙ e))
-    c.in_ok-report_again.ensures.reported.reported c.report_again.ensures.runs.most
-    c.report_again.ensures.runs.exact
-    (inv.walk bytes t) in
+    did most exact (inv.walk bytes t) in
     record {
-      text = rewalk_said _ v n c.loop-next.rescan r' c.in-Some.next (λ bytes. rest bytes c.loop-next.walk)
+      text = rewalk_said _ v n cut r r' c.in-Some.next (λ bytes. rest bytes c.loop-next.walk)
           (λ bytes. rest bytes c.next.new.self) d d' _ _ _ _ _
-          inv.said next now c.in_ok-report_again.ensures.reported.reported.dup
-          (λ bytes t. ap (first_offer_lines d') (offers_stopped v n r' (rest bytes c.next.new.self) cut))
-          c.in_ok-report_again.ensures.said;
+          inv.said next now did.dup
+          (λ bytes t. ap (first_offer_lines d') (offers_stopped v n cut r' (rest bytes c.next.new.self) shut))
+          said;
       rewalked = λ bytes t. rewalk_ends _ _ _ _ r' (rest bytes c.next.new.self) _ _
-          (offers_stopped v n r' (rest bytes c.next.new.self) cut)
-          (looked_stopped v n r' (rest bytes c.next.new.self) d' cut) (walk bytes t);
+          (offers_stopped v n cut r' (rest bytes c.next.new.self) shut)
+          (looked_stopped v n cut r' (rest bytes c.next.new.self) d' shut) (walk bytes t);
       runs = λ bytes t. omega (arith, (walk bytes t).runs);
       left = record {
         image = ok ∙ inv.device;
@@ -248,9 +275,15 @@ returns-then-workspace-eq0 g c =
     let n = c.args.number in
     let d = bits_of c.loop-next.workspace.duplicates in
     let d' = bits_of c.report_again.new.workspace.duplicates in
-    let r' = c.report_again.new.rescan in
+    let cut = c.args.cut in
+    let r = replay_in c.loop-next.keeping in
+    let r' = replay_in c.report_again.new.keeping in
     let ok = c.in_ok-next.ensures.leaves.read in
-    let now = c.in_ok-report_again.ensures.reported.next in
+    let did = rw inv.cut at c.in_ok-report_again.ensures.reported.reported in
+    let now = rw inv.cut at c.in_ok-report_again.ensures.reported.next in
+    let most = rw inv.cut at c.report_again.ensures.runs.most in
+    let exact = rw inv.cut at c.report_again.ensures.runs.exact in
+    let said = rw inv.cut at c.in_ok-report_again.ensures.said in
     let only = c.report_again.ensures.only in
     let none : set_count (bits_of c.report_again.new.workspace.duplicates) ≡ 0 = sym only.made.unreported
     ∙ c.if-workspace-eq0.true in
@@ -258,20 +291,18 @@ returns-then-workspace-eq0 g c =
     let read = ready_walked c.args.geometry.now _ _ _ c.loop-next.workspace c.next.new.blocks inv.geometry ok
     c.next.ensures.leaves.kept.size c.next.ensures.leaves.kept.holds inv.ready in
     let walk : ForBytes (IsContents (g.I.Image.device c.args.image.now).contents) (λ bytes.
-    Rewalking v n c.args.cut (steps_of v c.args.inode.now bytes) c.report_again.new.rescan (rest bytes c.next.new.self)
+    Rewalking v n c.args.cut (steps_of v c.args.inode.now bytes) r' (rest bytes c.next.new.self)
     c.args.workspace.now c.report_again.new.workspace) =
-    λ bytes t. rewalk_on _ _ _ _ c.in-Some.next c.loop-next.rescan r' (rest bytes c.loop-next.walk)
+    λ bytes t. rewalk_on _ _ _ _ c.in-Some.next r r' (rest bytes c.loop-next.walk)
     (rest bytes c.next.new.self) _ c.loop-next.workspace _ c.report_again.new.workspace
     (next bytes t) now inv.going (λ e. inv.pending (inv.ready.made.unreported ∙ e))
-    c.in_ok-report_again.ensures.reported.reported c.report_again.ensures.runs.most
-    c.report_again.ensures.runs.exact
-    (inv.walk bytes t) in
+    did most exact (inv.walk bytes t) in
     record {
-      text = rewalk_said _ v n c.loop-next.rescan r' c.in-Some.next (λ bytes. rest bytes c.loop-next.walk)
+      text = rewalk_said _ v n cut r r' c.in-Some.next (λ bytes. rest bytes c.loop-next.walk)
           (λ bytes. rest bytes c.next.new.self) d d' _ _ _ _ _
-          inv.said next now c.in_ok-report_again.ensures.reported.reported.dup
-          (λ bytes t. none_first d' (offers_again v n r' (rest bytes c.next.new.self)) none)
-          c.in_ok-report_again.ensures.said;
+          inv.said next now did.dup
+          (λ bytes t. none_first d' (offers_again v n cut r' (rest bytes c.next.new.self)) none)
+          said;
       rewalked = λ bytes t. rewalk_over _ _ _ _ r' (rest bytes c.next.new.self) _ _ none (walk bytes t);
       runs = λ bytes t. omega (arith, (walk bytes t).runs);
       left = record {
@@ -287,18 +318,19 @@ returns-in_default g c =
     let v = c.args.geometry.now.layout in
     let n = c.args.number in
     let d = bits_of c.loop-next.workspace.duplicates in
-    let r = c.loop-next.rescan in
+    let cut = c.args.cut in
+    let r = replay_in c.loop-next.keeping in
     let ok = c.in_ok-next.ensures.leaves.read in
     let over = rw (inv.device, c.in_default.is) at c.in_ok-next.ensures.step.steps in
     let none : ForBytes (IsContents (g.I.Image.device c.args.image.now).contents)
-    (λ bytes. offers_again v n c.loop-next.rescan (rest bytes c.loop-next.walk) ≡ []) =
-    λ bytes t. offers_none v n r (rest bytes c.loop-next.walk) (over bytes t) in
+    (λ bytes. offers_again v n cut r (rest bytes c.loop-next.walk) ≡ []) =
+    λ bytes t. offers_none v n cut r (rest bytes c.loop-next.walk) (over bytes t) in
     record {
       text = of_same _ _ _ _ _ _ inv.said (λ bytes t. ap (λ (os : List Offer). of_lines (first_offer_lines d os))
           (none bytes t));
       rewalked = λ bytes t. rewalked_to _ _ _ _ _ c.loop-next.workspace _
           (rewalk_ends _ _ _ _ r (rest bytes c.loop-next.walk) _ _ (none bytes t)
-          (looked_over v n r (rest bytes c.loop-next.walk) d (over bytes t)) (inv.walk bytes t));
+          (looked_over v n cut r (rest bytes c.loop-next.walk) d (over bytes t)) (inv.walk bytes t));
       runs = λ bytes t. omega (arith, (inv.walk bytes t).runs);
       left = record {
         image = ok ∙ inv.device;

@@ -1,8 +1,8 @@
-use Rattle.std.proofs.Common.{refl, sym, ap, ◌∙◌, false, List, arith}
+use Rattle.std.proofs.Common.{refl, sym, ap, ◌∙◌, false, List}
 use Rattle.std.proofs.lemmas.Result.{err_from_is_err_and}
 use Rattle.ffs_volume.specs.declared.Step.{Step}
 use Rattle.ffs_walk.specs.Rests.{rest}
-use Rattle.ffs_names.specs.Keepings.{replay_in}
+use Rattle.ffs_walk.specs.Keepings.{replay_in}
 use Rattle.ffs_names.specs.Readings.{gap_after}
 use Rattle.ffs_names.proofs.GapsLeft.{gap_over_tail, gap_seen, gap_to_run, gap_past_run, gap_unseen}
 use Rattle.ffs_names.proofs.Continuing.{walk_volume, walk_room, walk_holds, walk_on}
@@ -31,7 +31,7 @@ steps-preserved-in-Some-Run g c =
       same = c.in_ok-next.ensures.leaves.read ∙ inv.same;
       kept = record {
         geometry = c.next.ensures.same.geometry ∙ inv.kept.geometry;
-        cut = c.take-kept.ensures.cut ∙
+        cut = c.take-taken.ensures.cut ∙
             inv.kept.cut;
         taken = inv.kept.taken;
         budget = inv.kept.budget;
@@ -43,10 +43,10 @@ steps-preserved-in-Some-Run g c =
           ∙ (sym (gap_to_run s.walk.geometry.layout w.geometry.layout s.keeping.cut (replay_in s.keeping) false r.start
           r.len r._block (rest b s.walk) (rest b w)
           (ap (λ x. x.layout) c.next.ensures.same.geometry) (read b (ap (λ d. d.contents) inv.same ∙ t)))
-          ∙ sym (gap_past_run w.geometry.layout s.keeping.cut c.take-kept.new.self.cut (replay_in s.keeping)
-          (replay_in c.take-kept.new.self) (rest b w) r.start r.len r._block false
-          (c.take-kept.ensures.replays w.geometry.layout r.start r._block c.in_range-in_range.ensures).after
-          c.take-kept.ensures.cut));
+          ∙ sym (gap_past_run w.geometry.layout s.keeping.cut c.take-taken.new.self.cut (replay_in s.keeping)
+          (replay_in c.take-taken.new.self) (rest b w) r.start r.len r._block false
+          (c.take-taken.ensures.replays w.geometry.layout r.start r._block c.in_range-in_range.ensures).after
+          c.take-taken.ensures.cut));
     }
 
 pub steps-preserved : goal.steps-preserved
@@ -138,12 +138,8 @@ steps-init g c = record {
   gap = λ b t. refl;
 }
 
-pub take-kept-requires-clause-some : goal.take-kept-requires-clause-some
-take-kept-requires-clause-some g c =
-    let fits = rw c.in-Some-Run.field-0-is at (rw c.in-Some-Run.is at c.in_ok-next.ensures.step.fits) in fits.length.0
-
-pub take-kept-requires-clause-seen : goal.take-kept-requires-clause-seen
-take-kept-requires-clause-seen g c = sym c.is_replay_open.ensures ∙ c.steps-test.true
+pub take-taken-requires : goal.take-taken-requires
+take-taken-requires g c = sym c.is_replay_open.ensures ∙ c.steps-test.true
 
 pub steps-smaller-in-Some-Run : goal.steps-smaller-in-Some-Run
 steps-smaller-in-Some-Run g c = rw c.in-Some-Run.is at c.in_ok-next.ensures.step.falls

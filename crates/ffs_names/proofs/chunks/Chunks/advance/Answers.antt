@@ -4,7 +4,7 @@ use Rattle.ffs_volume.specs.declared.Step.{Step}
 use Rattle.ffs_volume.specs.declared.Step.TheVariants.{Run, Gap}
 use Rattle.ffs_walk.specs.Rests.{rest as steps_left}
 use Rattle.ffs_names.specs.Windows.{CanWalkDir}
-use Rattle.ffs_names.specs.Keepings.{replay_in}
+use Rattle.ffs_walk.specs.Keepings.{replay_in}
 use Rattle.ffs_names.proofs.Advances.{over_rest, unseen_none, steps_on, end_none, tail_on, gaps_on, runs_on, runs_tail}
 use Rattle.ffs_names.proofs.Advances.{runs_gaps, walked, walked_runs}
 use Rattle.ffs_names.proofs.GapsLeft.{gap_same, gap_over_tail, gap_seen, walked_gap}

@@ -1,5 +1,7 @@
+use Rattle.std.proofs.Common.{◌≡◌, ◌==◌, true, false, arith}
+use Rattle.std.proofs.lemmas.Bool.Decides.{nat_tests}
 use Rattle.ffs_names.proofs.Continuing.{counts_one}
-use Rattle.ffs_names.specs.Keepings.{replay_in}
+use Rattle.ffs_walk.specs.Keepings.{replay_in}
 use Rattle.ffs_names.proofs.RoledEntry.{no_run_cursor, run_continues, kept_run, no_kept_run, no_data_run, no_block_run}
 use Rattle.ffs_names.proofs.RoledEntry.{runs_seen}
 use Rattle.ffs_names.proofs.GapsLeft.{gap_past_run}
@@ -12,13 +14,15 @@ returns-in-Some-clause-continues c = λ b steps.
     let replays = c.take.ensures.replays v c.args.start c.args.block c.in_range-in_range.ensures in
     let kept = replays.kept in
     let after = replays.after in
+    let whole : (c.take.result == c.args.len) ≡ true = grind (arith, nat_tests) in
     record {
       chunks = run_continues v b s.run_cursor c.of_run-self.result s.taken s.keeping.cut c.take.new.self.cut
-          (replay_in s.keeping) (replay_in c.take.new.self) steps c.args.start c.args.len c.args.block c.take.result
+          (replay_in s.keeping) (replay_in c.take.new.self) steps c.args.start c.args.len c.args.block
+          (c.take.result == c.args.len)
           c.requires.empty kept after c.take.ensures.cut
-          (kept_run v b s.taken c.args.start c.args.len c.in-Some.block c.args.block c.take.result
+          (kept_run v b s.taken c.args.start c.args.len c.in-Some.block c.args.block (c.take.result == c.args.len)
           c.in_range-in_range.result _
-          c.in-Some.is c.if-not-take.false c.if-not-in_range.false c.in_range-in_range.ensures
+          c.in-Some.is whole c.if-not-in_range.false c.in_range-in_range.ensures
           (c.of_run-self.ensures.chunks b));
       runs = runs_seen v s.keeping.cut c.take.new.self.cut (replay_in s.keeping) (replay_in c.take.new.self) steps
           c.args.start c.args.len c.args.block s.runs c.saturating_add-self.result
@@ -38,9 +42,10 @@ returns-in_default-clause-continues c = λ b steps.
     let after = replays.after in
     record {
       chunks = run_continues v b s.run_cursor s.run_cursor s.taken s.keeping.cut c.take.new.self.cut
-          (replay_in s.keeping) (replay_in c.take.new.self) steps c.args.start c.args.len c.args.block c.take.result
+          (replay_in s.keeping) (replay_in c.take.new.self) steps c.args.start c.args.len c.args.block
+          (c.take.result == c.args.len)
           c.requires.empty kept after c.take.ensures.cut
-          (no_block_run v b s.taken c.args.start c.args.len c.args.block c.take.result _ c.in_default.is
+          (no_block_run v b s.taken c.args.start c.args.len c.args.block (c.take.result == c.args.len) _ c.in_default.is
           (no_run_cursor v b s.run_cursor c.requires.empty));
       runs = runs_seen v s.keeping.cut c.take.new.self.cut (replay_in s.keeping) (replay_in c.take.new.self) steps
           c.args.start c.args.len c.args.block s.runs c.saturating_add-self.result
@@ -51,18 +56,20 @@ returns-in_default-clause-continues c = λ b steps.
           after c.take.ensures.cut;
     }
 
-pub returns-then-not-take-clause-continues : goal.returns-then-not-take-clause-continues
-returns-then-not-take-clause-continues c = λ b steps.
+pub returns-then-take-len-clause-continues : goal.returns-then-take-len-clause-continues
+returns-then-take-len-clause-continues c = λ b steps.
     let s = c.args.self.now in
     let v = s.walk.geometry.layout in
     let replays = c.take.ensures.replays v c.args.start c.args.block c.in_range-in_range.ensures in
     let kept = replays.kept in
     let after = replays.after in
+    let part : (c.take.result == c.args.len) ≡ false = grind (arith, nat_tests) in
     record {
       chunks = run_continues v b s.run_cursor s.run_cursor s.taken s.keeping.cut c.take.new.self.cut
-          (replay_in s.keeping) (replay_in c.take.new.self) steps c.args.start c.args.len c.args.block c.take.result
+          (replay_in s.keeping) (replay_in c.take.new.self) steps c.args.start c.args.len c.args.block
+          (c.take.result == c.args.len)
           c.requires.empty kept after c.take.ensures.cut
-          (no_kept_run v b s.taken c.args.start c.args.len c.args.block c.take.result _ c.if-not-take.true
+          (no_kept_run v b s.taken c.args.start c.args.len c.args.block (c.take.result == c.args.len) _ part
           (no_run_cursor v b s.run_cursor c.requires.empty));
       runs = runs_seen v s.keeping.cut c.take.new.self.cut (replay_in s.keeping) (replay_in c.take.new.self) steps
           c.args.start c.args.len c.args.block s.runs c.saturating_add-self.result
@@ -82,9 +89,11 @@ returns-then-not-in_range-clause-continues c = λ b steps.
     let after = replays.after in
     record {
       chunks = run_continues v b s.run_cursor s.run_cursor s.taken s.keeping.cut c.take.new.self.cut
-          (replay_in s.keeping) (replay_in c.take.new.self) steps c.args.start c.args.len c.args.block c.take.result
+          (replay_in s.keeping) (replay_in c.take.new.self) steps c.args.start c.args.len c.args.block
+          (c.take.result == c.args.len)
           c.requires.empty kept after c.take.ensures.cut
-          (no_data_run v b s.taken c.args.start c.args.len c.args.block c.take.result c.in_range-in_range.result _
+          (no_data_run v b s.taken c.args.start c.args.len c.args.block (c.take.result == c.args.len)
+          c.in_range-in_range.result _
           c.if-not-in_range.true c.in_range-in_range.ensures (no_run_cursor v b s.run_cursor c.requires.empty));
       runs = runs_seen v s.keeping.cut c.take.new.self.cut (replay_in s.keeping) (replay_in c.take.new.self) steps
           c.args.start c.args.len c.args.block s.runs c.saturating_add-self.result

@@ -1,8 +1,7 @@
 //! Which steps of an inode are kept, replayed.
 
-ghost use Rattle.std.specs.Prelude.{◌≡◌, ◌<◌, ◌≤◌, ℕ, true, Option};
+ghost use Rattle.std.specs.Prelude.{◌≡◌, ◌≤◌, ℕ, true, Option};
 ghost use Rattle.ffs_volume.specs.declared.Layout.{Layout};
-ghost use Rattle.ffs_volume.specs.declared.Step.TheVariants.{Run};
 ghost use Rattle.ffs_volume.specs.Disk.Areas.{is_run_in_range as is_in_range_of};
 ghost use Rattle.ffs_volume.specs.Encodings.Replay.{is_replay_open as is_seen_in, fresh_replay};
 
@@ -22,7 +21,7 @@ pub struct Keeping {
 }
 
 impl Keeping {
-    ghost use Rattle.ffs_names.specs.Keepings.{replay_in, Replays};
+    ghost use Rattle.ffs_walk.specs.Keepings.{replay_in, Replays};
 
     /// An inode begins.
     pub fn start(cut: u32) -> Keeping
@@ -43,27 +42,26 @@ impl Keeping {
         self.bad <= MAXBAD && (self.cut == 0 || self.kept < self.cut)
     }
 
-    /// Sees a Run of `len` fragments, in range or not. Returns whether it is kept.
-    pub fn take(&mut self, len: u32, in_range: bool) -> bool
-        requires some { 0 < len }
-        requires seen { is_seen_in self.old.cut (replay_in self.old) ≡ true }
+    /// Sees a Run of `len` fragments, in range or not. Returns how many of its offers are kept: the
+    /// first ones. The Run is kept as a step where all are.
+    pub fn take(&mut self, len: u32, in_range: bool) -> u32
+        requires { is_seen_in self.old.cut (replay_in self.old) ≡ true }
         ensures replays { (layout : Layout) (start : ℕ) (block : Option ℕ)
             → in_range ≡ is_in_range_of layout start len
-            → Replays layout (Run start len block) self.old self.new result }
+            → Replays layout start len block self.old self.new result }
         ensures cut { self.new.cut ≡ self.old.cut }
     {
         if !in_range {
-            let last = self.bad == MAXBAD;
             self.bad += 1;
-            if last {
-                return false;
+            if self.bad > MAXBAD {
+                return 0;
             }
         }
         if self.cut == 0 {
-            return true;
+            return len;
         }
         let taken = len.min(self.cut - self.kept);
         self.kept += taken;
-        taken == len
+        taken
     }
 }
