@@ -1,5 +1,6 @@
 use Rattle.std.proofs.Common.{◌≡◌, ℕ, ◌+◌, ◌-◌, ◌*◌, ◌<◌, ◌≤◌, ◌^◌, Bool, true, false, if◌then◌else◌, List, [], ◌++◌}
-use Rattle.std.proofs.Common.{Option, arith, refl, ◌∙◌}
+use Rattle.std.proofs.Common.{Option, arith, refl, ◌∙◌, ◌==◌}
+use Rattle.std.proofs.lemmas.Bool.Decides.{nat_tests}
 use Rattle.ffs_volume.specs.declared.Layout.{Layout}
 use Rattle.ffs_volume.specs.declared.Step.{Step}
 use Rattle.ffs_walk.specs.declared.frame.Frame.{Frame}
@@ -122,3 +123,7 @@ some_left f some spent = omega (arith, spent.0)
 -- a frame uses no more words than a block has
 pub words_fit : (g : Layout) (blocks span : ℕ) (f : Frame) → FrameFits g blocks span f → f.used ≤ g.nindir
 words_fit g blocks span f fits = omega (arith, fits.words)
+
+-- an address that isn't zero
+pub is_set : (address : ℕ) → (address ≡ 0 → ⊥) → (address == 0) ≡ false
+is_set address some = grind (arith, nat_tests, some)

@@ -13,10 +13,10 @@ use ffs_volume::Order;
 /// How many bytes a word has.
 const WORD_BYTES: usize = 4;
 
-/// How many words are looked at together for one that isn't zero, where no word of zero was seen before them.
+/// How many words are looked at together at first for one that isn't zero.
 const FEW_WORDS: u32 = 16;
 
-/// How many are looked at together behind that many words of zero.
+/// How many are looked at together where `FEW_WORDS` before them are zero.
 const MANY_WORDS: u32 = 128;
 
 /// The word at an index of a block.

@@ -6,7 +6,8 @@ use Rattle.ffs_walk.specs.Rests.{rest, left, most_at, extent_of}
 use Rattle.ffs_walk.proofs.GapSteps.{in_first}
 use Rattle.ffs_walk.proofs.FrameSteps.{item_below, word_fits, kept_fits, words_fit, some_left, item_one, falls_by}
 use Rattle.ffs_walk.proofs.FrameSteps.{falls_in_double, falls_in_triple}
-use Rattle.ffs_walk.proofs.WalkSteps.{double_reported, triple_reported, one_some, square_some, some_words}
+use Rattle.ffs_walk.proofs.WalkSteps.{double_reported, triple_reported, one_some, square_some, some_words, no_step}
+use Rattle.std.proofs.lemmas.Result.{err_from_is_err_and}
 use Rattle.ffs_walk.proofs.walk.Walk.advance.Goals as goal
 
 pub step_in_double-requires-clause-below : goal.step_in_double-requires-clause-below
@@ -179,12 +180,12 @@ returns-then-is_left-clause-step g c =
           (c.in_ok-item.ensures.item.steps bytes t (steps_at (extent_of w) bytes 0)
           ∙ ap (λ (xs : List Step). xs ++ frame_rest w.geometry.layout bytes (steps_at (extent_of w) bytes 0) 1
           c.take.new.self) (c.step_in_single.ensures.steps bytes));
-      fits = search rules;
+      fits = c.step_in_single.ensures.fits;
       falls = falls_by (item_left 1 c.in_ok-item.item) (frame_left 1 c.take.new.self) (frame_left 1 w.single)
           (frame_left (most_at words 1) w.double
           + (frame_left (most_at words 2) w.triple + (w.used - w.next) * most_at words 3))
           (c.in_ok-item.ensures.item.falls 1) (item_one c.in_ok-item.item);
-      over = search rules;
+      over = λ e. absurd (no_step c.step_in_single.result e);
     }
 
 pub returns-then-is_left-2-clause-step : goal.returns-then-is_left-2-clause-step
@@ -197,13 +198,13 @@ returns-then-is_left-2-clause-step g c =
           (λ bytes. rest bytes c.step_in_double.new.self)
           c.from-words.ensures (c.is_left.ensures.spent c.if-is_left.false) c.in_ok-item-2.ensures.item.steps
           c.step_in_double.ensures.steps;
-      fits = search rules;
+      fits = c.step_in_double.ensures.fits;
       falls = falls_in_double (item_left (most_at words 1) c.in_ok-item-2.item)
           (frame_left (most_at words 1) c.take-then-is_left-2.new.self)
           (frame_left (most_at words 0) w.single) (frame_left (most_at words 1) w.double)
           (frame_left (most_at words 2) w.triple) ((w.used - w.next) * most_at words 3) (left c.step_in_double.new.self)
           c.step_in_double.ensures.left (c.in_ok-item-2.ensures.item.falls (most_at words 1));
-      over = search rules;
+      over = λ e. absurd (no_step c.step_in_double.result e);
     }
 
 pub returns-then-is_left-3-clause-step : goal.returns-then-is_left-3-clause-step
@@ -217,13 +218,13 @@ returns-then-is_left-3-clause-step g c =
           c.from-words.ensures (c.is_left.ensures.spent c.if-is_left.false)
           (c.is_left-2.ensures.spent c.if-is_left-2.false)
           c.in_ok-item-3.ensures.item.steps c.step_in_triple.ensures.steps;
-      fits = search rules;
+      fits = c.step_in_triple.ensures.fits;
       falls = falls_in_triple (item_left (most_at words 2) c.in_ok-item-3.item)
           (frame_left (most_at words 2) c.take-then-is_left-3.new.self)
           (frame_left (most_at words 0) w.single) (frame_left (most_at words 1) w.double)
           (frame_left (most_at words 2) w.triple) ((w.used - w.next) * most_at words 3) (left c.step_in_triple.new.self)
           c.step_in_triple.ensures.left (c.in_ok-item-3.ensures.item.falls (most_at words 2));
-      over = search rules;
+      over = λ e. absurd (no_step c.step_in_triple.result e);
     }
 
 pub returns-clause-step : goal.returns-clause-step
@@ -238,3 +239,72 @@ returns-clause-step g c = record {
     top = c.step_at_top.ensures.over.1 e;
   });
 }
+
+pub returns-in_err-item-clause-step : goal.returns-in_err-item-clause-step
+returns-in_err-item-clause-step g c =
+    let p = err_from_is_err_and c.from_residual.result c.from_residual.ensures.1 in rw p.1 tt
+
+pub returns-in_err-item-clause-same : goal.returns-in_err-item-clause-same
+returns-in_err-item-clause-same g c = record { geometry = refl; blocks = refl }
+
+pub returns-in_err-item-clause-leaves : goal.returns-in_err-item-clause-leaves
+returns-in_err-item-clause-leaves g c =
+    let went = c.in_err-item.ensures.leaves in
+    let p = err_from_is_err_and c.from_residual.result c.from_residual.ensures.1 in
+    rw (p.1, p.2) (record { kept = went.kept; read = went.read })
+
+pub returns-in_err-item-2-clause-step : goal.returns-in_err-item-2-clause-step
+returns-in_err-item-2-clause-step g c =
+    let p = err_from_is_err_and c.from_residual-in_err-item-2.result c.from_residual-in_err-item-2.ensures.1 in rw p.1 tt
+
+pub returns-in_err-item-2-clause-same : goal.returns-in_err-item-2-clause-same
+returns-in_err-item-2-clause-same g c = record { geometry = refl; blocks = refl }
+
+pub returns-in_err-item-2-clause-leaves : goal.returns-in_err-item-2-clause-leaves
+returns-in_err-item-2-clause-leaves g c =
+    let went = c.in_err-item-2.ensures.leaves in
+    let p = err_from_is_err_and c.from_residual-in_err-item-2.result c.from_residual-in_err-item-2.ensures.1 in
+    rw (p.1, p.2) (record { kept = went.kept; read = went.read })
+
+pub returns-in_err-item-3-clause-step : goal.returns-in_err-item-3-clause-step
+returns-in_err-item-3-clause-step g c =
+    let p = err_from_is_err_and c.from_residual-in_err-item-3.result c.from_residual-in_err-item-3.ensures.1 in rw p.1 tt
+
+pub returns-in_err-item-3-clause-same : goal.returns-in_err-item-3-clause-same
+returns-in_err-item-3-clause-same g c = record { geometry = refl; blocks = refl }
+
+pub returns-in_err-item-3-clause-leaves : goal.returns-in_err-item-3-clause-leaves
+returns-in_err-item-3-clause-leaves g c =
+    let went = c.in_err-item-3.ensures.leaves in
+    let p = err_from_is_err_and c.from_residual-in_err-item-3.result c.from_residual-in_err-item-3.ensures.1 in
+    rw (p.1, p.2) (record { kept = went.kept; read = went.read })
+
+pub returns-then-is_left-clause-same : goal.returns-then-is_left-clause-same
+returns-then-is_left-clause-same g c = record { geometry = refl; blocks = refl }
+
+pub returns-then-is_left-clause-leaves : goal.returns-then-is_left-clause-leaves
+returns-then-is_left-clause-leaves g c = record { kept = c.in_ok-item.ensures.leaves.kept; read = c.in_ok-item.ensures.leaves.read }
+
+pub returns-then-is_left-2-clause-same : goal.returns-then-is_left-2-clause-same
+returns-then-is_left-2-clause-same g c = record {
+  geometry = c.step_in_double.ensures.same.geometry;
+  blocks = c.step_in_double.ensures.same.blocks;
+}
+
+pub returns-then-is_left-2-clause-leaves : goal.returns-then-is_left-2-clause-leaves
+returns-then-is_left-2-clause-leaves g c = record { kept = c.in_ok-item-2.ensures.leaves.kept; read = c.in_ok-item-2.ensures.leaves.read }
+
+pub returns-then-is_left-3-clause-same : goal.returns-then-is_left-3-clause-same
+returns-then-is_left-3-clause-same g c = record {
+  geometry = c.step_in_triple.ensures.same.geometry;
+  blocks = c.step_in_triple.ensures.same.blocks;
+}
+
+pub returns-then-is_left-3-clause-leaves : goal.returns-then-is_left-3-clause-leaves
+returns-then-is_left-3-clause-leaves g c = record { kept = c.in_ok-item-3.ensures.leaves.kept; read = c.in_ok-item-3.ensures.leaves.read }
+
+pub returns-clause-same : goal.returns-clause-same
+returns-clause-same g c = c.step_at_top.ensures.same
+
+pub returns-clause-leaves : goal.returns-clause-leaves
+returns-clause-leaves g c = record { kept = record { size = refl; holds = c.requires.holds }; read = refl }

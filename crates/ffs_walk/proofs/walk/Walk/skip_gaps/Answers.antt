@@ -1,8 +1,7 @@
-use Rattle.std.proofs.Common.{rules, arith, ◌*◌, replicate}
-use Rattle.std.proofs.lemmas.Grind.{common_steps}
+use Rattle.std.proofs.Common.{arith, refl, ◌*◌, ◌<◌, replicate}
 use Rattle.ffs_volume.specs.declared.Step.TheVariants.{Gap}
 use Rattle.ffs_volume.specs.Blocks.Steps.{steps_at}
-use Rattle.ffs_walk.specs.Rests.{extent_of}
+use Rattle.ffs_walk.specs.Rests.{extent_of, most_at}
 use Rattle.ffs_walk.proofs.GapSteps.{in_first, in_second, in_third, zero_gap}
 use Rattle.ffs_walk.proofs.WalkSteps.{spent_rest}
 use Rattle.ffs_walk.proofs.walk.Walk.skip_gaps.Goals as goal
@@ -14,9 +13,18 @@ returns-then-is_left c = record {
       in_first _ _ _ (replicate c.skip_gaps.result Gap)
       (c.skip_gaps.ensures.steps reported holds bytes e (steps_at (extent_of w) bytes 0) 1
       (zero_gap (extent_of w) bytes 0));
-  falls = grind (arith, common_steps);
-  passed = grind (arith, common_steps);
-  same = search rules;
+  falls =
+      let fewer = c.skip_gaps.ensures.falls (most_at c.args.self.now.geometry.layout.nindir 0) in
+      omega (arith, fewer);
+  passed =
+      let here : c.args.self.now.single.next < c.args.self.now.single.used = c.is_left.ensures.left.0 c.if-is_left.true in
+      record {
+        single = λ h. c.skip_gaps.ensures.passed;
+        double = λ spent h. absurd (omega (arith, here, spent.0));
+        triple = λ spent spent' h. absurd (omega (arith, here, spent.0));
+        top = λ at h. absurd (omega (arith, here, at.single.0));
+      };
+  same = record { geometry = refl; blocks = refl };
 }
 
 pub returns-then-is_left-2 : goal.returns-then-is_left-2
@@ -28,9 +36,18 @@ returns-then-is_left-2 c = record {
       (spent_rest g bytes (steps_at (extent_of w) bytes 0) 1 w.single (c.is_left.ensures.spent c.if-is_left.false))
       (c.skip_gaps-then-is_left-2.ensures.steps reported holds bytes e (steps_at (extent_of w) bytes 1) g.nindir
       (zero_gap (extent_of w) bytes 1));
-  falls = grind (arith, common_steps);
-  passed = grind (arith, common_steps);
-  same = search rules;
+  falls =
+      let fewer = c.skip_gaps-then-is_left-2.ensures.falls (most_at c.args.self.now.geometry.layout.nindir 1) in
+      omega (arith, fewer);
+  passed =
+      let here : c.args.self.now.double.next < c.args.self.now.double.used = c.is_left-2.ensures.left.0 c.if-is_left-2.true in
+      record {
+        single = λ h. absurd (omega (arith, h, (c.is_left.ensures.spent c.if-is_left.false).0));
+        double = λ spent h. c.skip_gaps-then-is_left-2.ensures.passed;
+        triple = λ spent spent' h. absurd (omega (arith, here, spent'.0));
+        top = λ at h. absurd (omega (arith, here, at.double.0));
+      };
+  same = record { geometry = refl; blocks = refl };
 }
 
 pub returns-then-is_left-3 : goal.returns-then-is_left-3
@@ -44,7 +61,16 @@ returns-then-is_left-3 c = record {
       (c.is_left-2.ensures.spent c.if-is_left-2.false))
       (c.skip_gaps-then-is_left-3.ensures.steps reported holds bytes e (steps_at (extent_of w) bytes 2) (g.nindir * g.nindir)
       (zero_gap (extent_of w) bytes 2));
-  falls = grind (arith, common_steps);
-  passed = grind (arith, common_steps);
-  same = search rules;
+  falls =
+      let fewer = c.skip_gaps-then-is_left-3.ensures.falls (most_at c.args.self.now.geometry.layout.nindir 2) in
+      omega (arith, fewer);
+  passed =
+      let here : c.args.self.now.triple.next < c.args.self.now.triple.used = c.is_left-3.ensures.left.0 c.if-is_left-3.true in
+      record {
+        single = λ h. absurd (omega (arith, h, (c.is_left.ensures.spent c.if-is_left.false).0));
+        double = λ spent h. absurd (omega (arith, h, (c.is_left-2.ensures.spent c.if-is_left-2.false).0));
+        triple = λ spent spent' h. c.skip_gaps-then-is_left-3.ensures.passed;
+        top = λ at h. absurd (omega (arith, here, at.triple.0));
+      };
+  same = record { geometry = refl; blocks = refl };
 }

@@ -200,3 +200,39 @@ enter-step-requires-in_default-clause-first c =
     let below = triple_below w.geometry.layout.nindir c.from-words.result w.blocks w.next w.used c.if-self.false
     w.used_fits last c.from-words.ensures in
     (omega arith, omega (arith, below))
+
+pub returns-then-self-clause-fits : goal.returns-then-self-clause-fits
+returns-then-self-clause-fits c = tt
+
+pub returns-then-self-clause-none : goal.returns-then-self-clause-none
+returns-then-self-clause-none c = λ e. refl
+
+pub returns-then-self-clause-over : goal.returns-then-self-clause-over
+returns-then-self-clause-over c = (λ h. refl, λ e. omega (arith, c.if-self.true, c.args.self.now.in_order))
+
+pub returns-then-self-clause-same : goal.returns-then-self-clause-same
+returns-then-self-clause-same c = record { geometry = refl; blocks = refl }
+
+pub returns-then-block-lt-NDADDR-clause-fits : goal.returns-then-block-lt-NDADDR-clause-fits
+returns-then-block-lt-NDADDR-clause-fits c = c.data.ensures.fits
+
+pub returns-then-block-lt-NDADDR-clause-same : goal.returns-then-block-lt-NDADDR-clause-same
+returns-then-block-lt-NDADDR-clause-same c = record { geometry = refl; blocks = refl }
+
+pub returns-in-12-clause-fits : goal.returns-in-12-clause-fits
+returns-in-12-clause-fits c = c.enter-step.ensures.step
+
+pub returns-in-12-clause-same : goal.returns-in-12-clause-same
+returns-in-12-clause-same c = record { geometry = refl; blocks = refl }
+
+pub returns-in-13-clause-fits : goal.returns-in-13-clause-fits
+returns-in-13-clause-fits c = c.enter-step-in-13.ensures.step
+
+pub returns-in-13-clause-same : goal.returns-in-13-clause-same
+returns-in-13-clause-same c = record { geometry = refl; blocks = refl }
+
+pub returns-in_default-clause-fits : goal.returns-in_default-clause-fits
+returns-in_default-clause-fits c = c.enter-step-in_default.ensures.step
+
+pub returns-in_default-clause-same : goal.returns-in_default-clause-same
+returns-in_default-clause-same c = record { geometry = refl; blocks = refl }
