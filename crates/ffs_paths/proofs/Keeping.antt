@@ -130,3 +130,32 @@ reads_then {last = last} {after = after} {result = result} one two = record {
   ready = two.ready;
   read = subst (λ d. ReadAfter d last result) one.read two.read;
 }
+
+-- the windows of a workspace that is ready can be read through
+pub windows_open : (v : Layout) (d : Device) (w : Workspace) → IsReady v d w → AreOpen v d w.windows
+windows_open v d w r =
+    let made = r.made in
+    record {
+      volume = r.volume;
+      table = made.table;
+      blocks = made.blocks;
+      chunk = made.chunk;
+      names = made.names;
+      table_holds = r.windows.table;
+      blocks_hold = r.windows.blocks;
+      chunk_holds = r.windows.chunk;
+      names_hold = r.windows.names;
+    }
+
+-- the same of another answer, which is no fault either, or the same one
+pub reads_as : {S T : Type 0} {v : Layout} {d d' : Device} {w w' : Workspace} {x : S} {y : T} →
+    OnlyReads v d d' w w' (Ok x) → OnlyReads v d d' w w' (Ok y)
+reads_as r = record { lists = r.lists; chunk = r.chunk; ready = r.ready; read = r.read }
+
+pub reads_failed : {S T : Type 0} {v : Layout} {d d' : Device} {w w' : Workspace} {e : ImageFault} →
+    OnlyReads {T = S} v d d' w w' (Err e) → OnlyReads {T = T} v d d' w w' (Err e)
+reads_failed r = record { lists = r.lists; chunk = r.chunk; ready = r.ready; read = r.read }
+
+pub leaves_failed : {S T : Type 0} {v : Layout} {d d' : Device} {w w' : Workspace} {s : Siblings}
+    {e : ImageFault} → OnlyReads {T = S} v d d' w w' (Err e) → PathLeaves {T = T} v d d' w w' s (Err e)
+leaves_failed r = record { reads = reads_failed r; siblings = tt }

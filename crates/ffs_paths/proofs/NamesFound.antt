@@ -9,6 +9,7 @@ use Rattle.std.proofs.lemmas.Bool.{and_parts, both_ways, eq-eqb, eqb-true}
 use Rattle.ffs_image.specs.Device.{Device}
 use Rattle.ffs_image.specs.Reads.{ReadAfter}
 use Rattle.ffs_image.specs.declared.image.ImageFault.{ImageFault}
+use Rattle.ffs_layout.specs.declared.geometry.Geometry.{Geometry}
 use Rattle.ffs_volume.specs.declared.Layout.{Layout}
 use Rattle.ffs_volume.specs.declared.Role.{Role}
 use Rattle.ffs_volume.specs.Disk.Numbers.{piece}
@@ -140,6 +141,15 @@ open_on v d d' w blocks names o size contents long holds names_long names_hold =
   chunk_holds = subst (λ c. WindowHolds c w.chunk) (sym contents) o.chunk_holds;
   names_hold = names_hold;
 }
+
+-- the next entry can be read through them
+pub can_next : (q v : Geometry) (d : Device) (w : Windows) → q ≡ v → AreOpen v.layout d w →
+    CanReadChunks q.layout d w.blocks w.names
+can_next q v d w e o = subst (λ (x : Geometry). CanReadChunks x.layout d w.blocks w.names) (sym e) (record {
+  walk = record { volume = o.volume; room = o.blocks; holds = o.blocks_hold };
+  room = o.names;
+  holds = o.names_hold;
+})
 
 pub open_next : (v : Layout) (d d' : Device) (w : Windows) (blocks : Blocks) (names : Window) → AreOpen v d w
     → d'.contents ≡ d.contents → CanReadChunks v d' blocks names

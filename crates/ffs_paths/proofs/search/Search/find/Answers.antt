@@ -1,7 +1,10 @@
-use Rattle.std.proofs.Common.{◌∙◌, ap, sym, arith}
+use Rattle.std.proofs.Common.{◌∙◌, ap, refl, sym, subst, arith}
+use Rattle.std.proofs.lemmas.Result.{err_from_is_err_and}
+use Rattle.ffs_image.specs.Device.{Faulted}
 use Rattle.ffs_names.specs.Entering.{to_come, last_name}
 use Rattle.ffs_survey.specs.Reading.{roled_of}
 use Rattle.ffs_paths.specs.Climbing.{name_in}
+use Rattle.ffs_paths.proofs.NamesFound.{can_next, open_next}
 use Rattle.ffs_paths.proofs.Ways.{name_in-here, name_in-past}
 use Rattle.ffs_paths.proofs.search.Search.find.Goals as goal
 
@@ -65,3 +68,81 @@ entries-preserved g c =
       chunk = i.chunk;
       device = device;
     }
+
+pub entries-init : goal.entries-init
+entries-init g c = record {
+  name = λ b t. refl;
+  above = λ b t x h. refl;
+  grows = omega arith;
+  geometry = refl;
+  windows = c.requires.windows;
+  chunk = refl;
+  device = refl;
+}
+
+pub next-requires : goal.next-requires
+next-requires g c = can_next _ _ _ _ c.entries.invariant.geometry c.entries.invariant.windows
+
+pub entries-smaller : goal.entries-smaller
+entries-smaller g c = rw c.in-Some.is at c.in_ok-entry.ensures.left
+
+pub returns-then-names-clause-on : goal.returns-then-names-clause-on
+returns-then-names-clause-on g c =
+    let i = c.entries.invariant in
+    record {
+      grows = omega (arith, i.grows, c.raise.ensures.grows);
+      geometry = c.next.ensures.leaves.geometry ∙ i.geometry;
+    }
+
+pub returns-clause-on : goal.returns-clause-on
+returns-clause-on g c =
+    let i = c.entries.invariant in
+    record {
+      grows = i.grows;
+      geometry = c.stop.ensures.geometry ∙ (c.next.ensures.leaves.geometry ∙ i.geometry);
+    }
+
+pub returns-then-names-clause-leaves : goal.returns-then-names-clause-leaves
+returns-then-names-clause-leaves g c =
+    let i = c.entries.invariant in
+    let next = c.in_ok-entry.ensures in
+    record {
+      windows = open_next _ _ _ c.entries.windows _ _ i.windows (ap (λ d. d.contents) next.leaves.read)
+          (rw i.geometry at next.leaves.ready);
+      chunk = i.chunk;
+      read = next.leaves.read ∙ i.device;
+    }
+
+pub returns-clause-leaves : goal.returns-clause-leaves
+returns-clause-leaves g c =
+    let i = c.entries.invariant in
+    let next = c.in_ok-entry.ensures in
+    record {
+      windows = open_next _ _ _ c.entries.windows _ _ i.windows (ap (λ d. d.contents) next.leaves.read)
+          (rw i.geometry at next.leaves.ready);
+      chunk = i.chunk;
+      read = next.leaves.read ∙ i.device;
+    }
+
+-- a read failed
+pub returns-in_err-entry-clause-found : goal.returns-in_err-entry-clause-found
+returns-in_err-entry-clause-found g c =
+    let p = err_from_is_err_and c.from_residual.result c.from_residual.ensures.1 in rw p.1 tt
+
+pub returns-in_err-entry-clause-on : goal.returns-in_err-entry-clause-on
+returns-in_err-entry-clause-on g c =
+    let i = c.entries.invariant in
+    record { grows = i.grows; geometry = c.next.ensures.leaves.geometry ∙ i.geometry }
+
+pub returns-in_err-entry-clause-leaves : goal.returns-in_err-entry-clause-leaves
+returns-in_err-entry-clause-leaves g c =
+    let i = c.entries.invariant in
+    let next = c.in_err-entry.ensures in
+    let err = err_from_is_err_and c.from_residual.result c.from_residual.ensures.1 in
+    rw (err.1, err.2) (record {
+      windows = open_next _ _ _ c.entries.windows _ _ i.windows next.leaves.read.contents
+          (rw i.geometry at next.leaves.ready);
+      chunk = i.chunk;
+      read = subst (λ d. Faulted d (g.I.Image.device c.next.new.image) c.in_err-entry.field-0.0.sector) i.device
+          next.leaves.read;
+    })

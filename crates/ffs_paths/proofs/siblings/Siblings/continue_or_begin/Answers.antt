@@ -1,11 +1,11 @@
-use Rattle.std.proofs.Common.{◌∙◌, ap, sym, subst, arith}
+use Rattle.std.proofs.Common.{◌∙◌, ap, refl, sym, subst, arith}
 use Rattle.std.proofs.lemmas.List.{get_or_default}
 use Rattle.std.proofs.lemmas.Result.{err_from_is_err_and}
 use Rattle.std.specs.Prelude.{slice_index}
 use Rattle.ffs_paths.specs.Climbing.{name_in}
 use Rattle.ffs_paths.specs.Siblings.{HoldNames}
 use Rattle.ffs_paths.specs.declared.siblings.Siblings.{Siblings}
-use Rattle.ffs_paths.proofs.Keeping.{then_reads, leaves_with}
+use Rattle.ffs_paths.proofs.Keeping.{no_reads, then_reads, leaves_failed, leaves_with, windows_open}
 use Rattle.ffs_paths.proofs.siblings.Siblings.continue_or_begin.Goals as goal
 
 pub returns-clause-leaves : goal.returns-clause-leaves
@@ -38,3 +38,44 @@ returns-in_err-self-clause-leaves g c =
       reads = then_reads c.in_ok-keep_path_of.ensures.reads leaves.windows leaves.chunk leaves.read;
       siblings = tt;
     })
+
+pub keep_path_of-requires : goal.keep_path_of-requires
+keep_path_of-requires g c = c.requires.ready
+
+pub open-requires-clause-number : goal.open-requires-clause-number
+open-requires-clause-number g c = c.requires.ready.number
+
+pub open-requires-clause-windows : goal.open-requires-clause-windows
+open-requires-clause-windows g c = windows_open _ _ _ c.in_ok-keep_path_of.ensures.reads.ready
+
+pub index-cut-requires : goal.index-cut-requires
+index-cut-requires g c =
+    omega (arith, c.in_ok-keep_path_of.ensures.reads.ready.made.cut, c.requires.ready.number)
+
+pub returns-clause-begun : goal.returns-clause-begun
+returns-clause-begun g c = record {
+  parent_is = refl;
+  highest = omega (arith, c.in_ok-self.ensures.opened.highest, c.requires.child);
+}
+
+pub returns-in_err-keep_path_of-clause-begun : goal.returns-in_err-keep_path_of-clause-begun
+returns-in_err-keep_path_of-clause-begun g c =
+    let p = err_from_is_err_and c.from_residual.result c.from_residual.ensures.1 in rw p.1 tt
+
+pub returns-in_err-keep_path_of-clause-leaves : goal.returns-in_err-keep_path_of-clause-leaves
+returns-in_err-keep_path_of-clause-leaves g c =
+    let p = err_from_is_err_and c.from_residual.result c.from_residual.ensures.1 in
+    rw (p.1, p.2) (leaves_failed c.in_err-keep_path_of.ensures.reads)
+
+pub returns-in_err-self-clause-begun : goal.returns-in_err-self-clause-begun
+returns-in_err-self-clause-begun g c =
+    let p = err_from_is_err_and c.from_residual-in_err-self.result c.from_residual-in_err-self.ensures.1 in rw p.1 tt
+
+-- the reading is kept
+pub returns-then-self-child-clause-begun : goal.returns-then-self-child-clause-begun
+returns-then-self-child-clause-begun g c =
+    record { parent_is = c.if-self-parent.true; highest = c.if-self-child.true }
+
+pub returns-then-self-child-clause-leaves : goal.returns-then-self-child-clause-leaves
+returns-then-self-child-clause-leaves g c =
+    leaves_with _ (no_reads c.requires.ready.ready) c.requires.ready.siblings

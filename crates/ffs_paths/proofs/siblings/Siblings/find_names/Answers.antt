@@ -1,11 +1,11 @@
-use Rattle.std.proofs.Common.{◌∙◌, ap, sym, subst, arith}
+use Rattle.std.proofs.Common.{◌∙◌, ap, refl, sym, subst, arith}
 use Rattle.std.proofs.lemmas.List.{get_or_default}
 use Rattle.std.proofs.lemmas.Result.{err_from_is_err_and}
 use Rattle.ffs_volume.specs.Directories.Roles.{is_dir, roled_entries}
 use Rattle.ffs_volume.specs.Directories.Volumes.{volume_of}
 use Rattle.ffs_paths.specs.ChildNames.{AreAllNamesOf}
 use Rattle.ffs_paths.proofs.Parts.{same_but_names}
-use Rattle.ffs_paths.proofs.Keeping.{no_reads, then_reads, leaves_with}
+use Rattle.ffs_paths.proofs.Keeping.{no_reads, then_reads, leaves_with, windows_open}
 use Rattle.ffs_paths.proofs.siblings.Siblings.find_names.Goals as goal
 
 pub returns-clause-leaves : goal.returns-clause-leaves
@@ -42,3 +42,33 @@ returns-in_err-names-clause-leaves g c =
 
 pub returns-clause-same : goal.returns-clause-same
 returns-clause-same g c = same_but_names c.args.self.now _ _
+
+pub index-cut-requires : goal.index-cut-requires
+index-cut-requires g c = omega (arith, c.requires.ready.made.cut, c.requires.number)
+
+pub read-requires-clause-number : goal.read-requires-clause-number
+read-requires-clause-number g c = c.requires.number
+
+pub read-requires-clause-windows : goal.read-requires-clause-windows
+read-requires-clause-windows g c = windows_open _ _ _ c.requires.ready
+
+pub returns-then-covers-clause-same : goal.returns-then-covers-clause-same
+returns-then-covers-clause-same g c = refl
+
+pub returns-then-covers-clause-leaves : goal.returns-then-covers-clause-leaves
+returns-then-covers-clause-leaves g c = leaves_with _ (no_reads c.requires.ready) c.requires.siblings
+
+pub returns-in_err-names-clause-same : goal.returns-in_err-names-clause-same
+returns-in_err-names-clause-same g c = refl
+
+pub returns-in_err-names-clause-found : goal.returns-in_err-names-clause-found
+returns-in_err-names-clause-found g c =
+    let p = err_from_is_err_and c.from_residual.result c.from_residual.ensures.1 in rw p.1 tt
+
+pub returns-clause-found : goal.returns-clause-found
+returns-clause-found g c =
+    let read = c.in_ok-names.ensures.names in
+    record {
+      parent_is = read.parent_is;
+      covers = (omega (arith, read.first_is), omega (arith, read.first_is));
+    }

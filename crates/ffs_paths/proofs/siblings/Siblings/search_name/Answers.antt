@@ -1,4 +1,4 @@
-use Rattle.std.proofs.Common.{◌≡◌, ℕ, Bool, true, false, if◌then◌else◌, [], ◌∙◌, ap, sym, subst, arith}
+use Rattle.std.proofs.Common.{◌≡◌, ◌<◌, ℕ, Bool, true, false, if◌then◌else◌, [], ◌∙◌, ap, sym, subst, arith}
 use Rattle.std.proofs.lemmas.Result.{err_from_is_err_and}
 use Rattle.ffs_image.specs.Device.{Device}
 use Rattle.ffs_volume.specs.declared.Layout.{Layout}
@@ -14,7 +14,7 @@ use Rattle.ffs_paths.specs.declared.siblings.FoundName.{FoundName}
 use Rattle.ffs_paths.specs.declared.siblings.FoundName.TheVariants.{InReading, Missing}
 use Rattle.ffs_paths.specs.declared.siblings.Siblings.{Siblings}
 use Rattle.ffs_paths.proofs.Children.{IsChild, child_is, dir_some, found_child}
-use Rattle.ffs_paths.proofs.Keeping.{kept_back, leaves_with, then_reads}
+use Rattle.ffs_paths.proofs.Keeping.{kept_back, leaves_failed, leaves_with, then_reads, windows_open}
 use Rattle.ffs_paths.proofs.NamesFound.{named_by, last_short}
 use Rattle.ffs_paths.proofs.siblings.Siblings.search_name.Goals as goal
 use Rattle.ffs_paths.proofs.siblings.Siblings.search_name.Goals.{then-found, else-found}
@@ -96,3 +96,47 @@ returns-in_err-found-clause-leaves g c =
     let opened = subst (λ v. AreOpen v (g.I.Image.device c.find.new.image) c.find.new.windows)
     begun.siblings.layout found.windows in
     rw (err.1, err.2) (record { reads = then_reads begun.reads opened found.chunk found.read; siblings = tt })
+
+pub continue_or_begin-requires-clause-ready : goal.continue_or_begin-requires-clause-ready
+continue_or_begin-requires-clause-ready g c =
+    let r = c.requires in
+    record {
+      ready = r.ready;
+      siblings = r.siblings;
+      number = omega (arith, r.parent_is.inside, r.ready.made.parents);
+    }
+
+pub continue_or_begin-requires-clause-child : goal.continue_or_begin-requires-clause-child
+continue_or_begin-requires-clause-child g c = omega (arith, c.requires.parent_is.below)
+
+pub find-requires : goal.find-requires
+find-requires g c =
+    let begun = c.in_ok-continue_or_begin.ensures.leaves in
+    record {
+      windows = subst
+          (λ v. AreOpen v (g.I.Image.device c.continue_or_begin.new.image) c.continue_or_begin.new.workspace.windows)
+          (sym begun.siblings.layout) (windows_open _ _ _ begun.reads.ready);
+    }
+
+pub returns-in_err-continue_or_begin-clause-name : goal.returns-in_err-continue_or_begin-clause-name
+returns-in_err-continue_or_begin-clause-name g c =
+    let p = err_from_is_err_and c.from_residual.result c.from_residual.ensures.1 in rw p.1 tt
+
+pub returns-in_err-continue_or_begin-clause-leaves : goal.returns-in_err-continue_or_begin-clause-leaves
+returns-in_err-continue_or_begin-clause-leaves g c =
+    let p = err_from_is_err_and c.from_residual.result c.from_residual.ensures.1 in
+    rw (p.1, p.2) (leaves_failed c.in_err-continue_or_begin.ensures.leaves.reads)
+
+pub returns-in_err-found-clause-name : goal.returns-in_err-found-clause-name
+returns-in_err-found-clause-name g c =
+    let p = err_from_is_err_and c.from_residual-in_err-found.result c.from_residual-in_err-found.ensures.1 in
+    rw p.1 tt
+
+pub invariant_of-self : goal.invariant_of-self
+invariant_of-self g c = record { has_parent = c.continue_or_begin.new.self.has_parent }
+
+pub invariant_of-self-2 : goal.invariant_of-self-2
+invariant_of-self-2 g c = record {
+  has_parent = λ some.
+      subst (λ p. 0 < p) (sym c.in_ok-continue_or_begin.ensures.begun.parent_is) c.requires.parent_is.some;
+}
