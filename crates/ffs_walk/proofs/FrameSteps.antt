@@ -1,5 +1,5 @@
 use Rattle.std.proofs.Common.{◌≡◌, ℕ, ◌+◌, ◌-◌, ◌*◌, ◌<◌, ◌≤◌, ◌^◌, Bool, true, false, if◌then◌else◌, List, [], ◌++◌}
-use Rattle.std.proofs.Common.{Option, arith, refl, ◌∙◌, ◌==◌}
+use Rattle.std.proofs.Common.{Option, arith, refl, ◌∙◌, ◌==◌, nat_lt}
 use Rattle.std.proofs.lemmas.Bool.Decides.{nat_tests}
 use Rattle.ffs_volume.specs.declared.Layout.{Layout}
 use Rattle.ffs_volume.specs.declared.Step.{Step}
@@ -127,3 +127,7 @@ words_fit g blocks span f fits = omega (arith, fits.words)
 -- an address that isn't zero
 pub is_set : (address : ℕ) → (address ≡ 0 → ⊥) → (address == 0) ≡ false
 is_set address some = grind (arith, nat_tests, some)
+
+-- a logical block that isn't direct
+pub not_direct : (block : ℕ) → 12 ≤ block → nat_lt block 12 ≡ false
+not_direct block below = grind (arith, nat_tests, below)

@@ -77,3 +77,11 @@ overflow_mul-start g c = omega (arith, three_parts c.args.geometry.now.layout.bs
 
 pub overflow_add-start : goal.overflow_add-start
 overflow_add-start g c = omega (arith, three_parts c.args.geometry.now.layout.bsize c.args.level c.requires.level)
+
+pub slice_bounds-read_at-count : goal.slice_bounds-read_at-count
+slice_bounds-read_at-count g c = omega arith
+
+pub slice_bounds-read_at-end : goal.slice_bounds-read_at-end
+slice_bounds-read_at-end g c =
+    let parts = three_parts c.args.geometry.now.layout.bsize c.args.level c.requires.level in
+    omega (arith, parts, c.deref_mut.ensures.len, c.requires.ready.room.blocks_fit)
