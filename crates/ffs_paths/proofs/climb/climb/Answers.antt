@@ -1,15 +1,16 @@
-use Rattle.std.proofs.Common.{◌≡◌, ◌∙◌, ◌∷◌, ap, sym, subst, arith, ℕ, rules}
+use Rattle.std.proofs.Common.{◌≡◌, ◌∙◌, ◌∷◌, ap, sym, subst, arith, ℕ}
 use Rattle.std.proofs.lemmas.List.{get_or_default}
 use Rattle.std.proofs.lemmas.Result.{err_from_is_err_and}
 use Rattle.std.specs.Prelude.{slice_index, Ok}
 use Rattle.std.specs.Option.{unwrap_or}
+use Rattle.ffs_layout.specs.declared.geometry.Geometry.{Geometry}
 use Rattle.ffs_volume.specs.Directories.Graph.{Graph}
 use Rattle.ffs_volume.specs.Directories.Parents.{graph_of}
 use Rattle.ffs_volume.specs.Directories.Volumes.{volume_of}
 use Rattle.ffs_paths.specs.Buffers.{HoldsNames}
-use Rattle.ffs_paths.specs.Climbing.{name_in}
+use Rattle.ffs_paths.specs.Climbing.{name_in, AreOpen}
 use Rattle.ffs_paths.specs.Reads.{OnlyReads}
-use Rattle.ffs_paths.proofs.Keeping.{no_reads, then_reads}
+use Rattle.ffs_paths.proofs.Keeping.{no_reads, reads_as, then_reads, windows_open}
 use Rattle.ffs_paths.proofs.Ways.{HasParent, way_starts, way_root, way_cut, way_long, way_up, count_is}
 use Rattle.ffs_paths.proofs.climb.climb.Goals as goal
 
@@ -59,8 +60,9 @@ returns-clause-path g c = λ b t claims survey k l.
 
 pub returns-in_err-search-clause-reads : goal.returns-in_err-search-clause-reads
 returns-in_err-search-clause-reads g c =
-    let leaves = c.in_err-search.ensures.leaves in
-    then_reads c.up.invariant.reads leaves.windows leaves.chunk (search rules)
+    let p = err_from_is_err_and c.from_residual.result c.from_residual.ensures.1 in
+    rw (p.1, p.2) (then_reads c.up.invariant.reads c.in_err-search.ensures.leaves.windows
+    c.in_err-search.ensures.leaves.chunk c.in_err-search.ensures.leaves.read)
 
 pub returns-in_err-found-clause-reads : goal.returns-in_err-found-clause-reads
 returns-in_err-found-clause-reads g c =
@@ -112,3 +114,45 @@ up-preserved g c =
           (λ following held. subst (λ n. HoldsNames c.push_front.new.self (n ∷ following)) name
           (c.push_front.ensures following held));
     }
+
+pub returns-then-at-eq-ROOTINO-clause-reads : goal.returns-then-at-eq-ROOTINO-clause-reads
+returns-then-at-eq-ROOTINO-clause-reads g c = reads_as c.up.invariant.reads
+
+pub returns-then-path-clause-reads : goal.returns-then-path-clause-reads
+returns-then-path-clause-reads g c = reads_as c.up.invariant.reads
+
+pub returns-then-parent-count-clause-reads : goal.returns-then-parent-count-clause-reads
+returns-then-parent-count-clause-reads g c = reads_as c.up.invariant.reads
+
+pub returns-clause-reads : goal.returns-clause-reads
+returns-clause-reads g c = reads_as c.up.invariant.reads
+
+pub index-parent-requires : goal.index-parent-requires
+index-parent-requires g c = omega (arith, c.up.invariant.at, c.up.invariant.reads.ready.made.parents)
+
+pub index-cut-requires : goal.index-cut-requires
+index-cut-requires g c =
+    omega (arith, c.if-parent-count.false, c.requires.ready.made.cut, c.up.invariant.reads.ready.made.cut)
+
+pub open-requires-clause-number : goal.open-requires-clause-number
+open-requires-clause-number g c = omega (arith, c.if-parent-count.false, c.requires.ready.made.cut)
+
+pub open-requires-clause-windows : goal.open-requires-clause-windows
+open-requires-clause-windows g c = windows_open _ _ _ c.up.invariant.reads.ready
+
+pub find-requires : goal.find-requires
+find-requires g c =
+    let opened = c.in_ok-search.ensures in
+    record {
+      windows = subst
+          (λ (q : Geometry). AreOpen q.layout (g.I.Image.device c.open.new.image) c.open.new.windows)
+          (sym opened.opened.geometry_is) opened.leaves.windows;
+    }
+
+pub returns-in_err-search-clause-path : goal.returns-in_err-search-clause-path
+returns-in_err-search-clause-path g c =
+    let p = err_from_is_err_and c.from_residual.result c.from_residual.ensures.1 in rw p.1 tt
+
+pub returns-in_err-found-clause-path : goal.returns-in_err-found-clause-path
+returns-in_err-found-clause-path g c =
+    let p = err_from_is_err_and c.from_residual-in_err-found.result c.from_residual-in_err-found.ensures.1 in rw p.1 tt

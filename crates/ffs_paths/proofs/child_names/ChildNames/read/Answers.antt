@@ -7,7 +7,7 @@ use Rattle.ffs_paths.specs.ChildNames.{KeepsEntry, AreAllNamesOf, IsInside as Is
 use Rattle.ffs_paths.specs.Climbing.{name_in}
 use Rattle.ffs_paths.specs.declared.child_names.NamePlace.{NamePlace}
 use Rattle.ffs_paths.proofs.NamesFound.{empty_names, empty_inside, names_on, unseen_on, inside_on, place_inside}
-use Rattle.ffs_paths.proofs.NamesFound.{name_there, open_next}
+use Rattle.ffs_paths.proofs.NamesFound.{name_there, can_next, open_next}
 use Rattle.ffs_paths.proofs.child_names.ChildNames.read.Goals as goal
 
 pub entries-init : goal.entries-init
@@ -107,3 +107,29 @@ returns-clause-names g c =
           subst (λ es. AreAllNamesOf b es c.entries.names) (c.in_ok-search.ensures.opened.entries b t dir cut)
           (record { names = i.names b t; none = λ x s n. (i.unseen b t).still x s n ∙ ap (name_in x) come });
     }
+
+pub open-requires-clause-number : goal.open-requires-clause-number
+open-requires-clause-number g c = c.requires.number
+
+pub open-requires-clause-windows : goal.open-requires-clause-windows
+open-requires-clause-windows g c = c.requires.windows
+
+pub next-requires : goal.next-requires
+next-requires g c = can_next _ _ _ _ c.entries.invariant.geometry c.entries.invariant.windows
+
+pub entries-smaller : goal.entries-smaller
+entries-smaller g c = rw c.in-Some.is at c.in_ok-entry.ensures.left
+
+pub returns-in_err-search-clause-names : goal.returns-in_err-search-clause-names
+returns-in_err-search-clause-names g c =
+    let p = err_from_is_err_and c.from_residual.result c.from_residual.ensures.1 in rw p.1 tt
+
+pub returns-in_err-search-clause-leaves : goal.returns-in_err-search-clause-leaves
+returns-in_err-search-clause-leaves g c =
+    let leaves = c.in_err-search.ensures.leaves in
+    let p = err_from_is_err_and c.from_residual.result c.from_residual.ensures.1 in
+    rw (p.1, p.2) (record { windows = leaves.windows; chunk = leaves.chunk; read = leaves.read })
+
+pub returns-in_err-entry-clause-names : goal.returns-in_err-entry-clause-names
+returns-in_err-entry-clause-names g c =
+    let p = err_from_is_err_and c.from_residual-in_err-entry.result c.from_residual-in_err-entry.ensures.1 in rw p.1 tt

@@ -2,7 +2,7 @@ use Rattle.std.proofs.Common.{◌∙◌, sym, ap, subst, arith}
 use Rattle.std.proofs.lemmas.Result.{err_from_is_err_and}
 use Rattle.ffs_paths.specs.Climbing.{IsParentOf}
 use Rattle.ffs_paths.specs.declared.siblings.Siblings.{Siblings}
-use Rattle.ffs_paths.proofs.Keeping.{kept_back, kept_on, reads_then}
+use Rattle.ffs_paths.proofs.Keeping.{kept_back, kept_on, leaves_as, leaves_failed, reads_then}
 use Rattle.ffs_paths.proofs.NamesFound.{names_of_parent, named_by, name_read, take_whole}
 use Rattle.ffs_paths.proofs.siblings.Siblings.find_name.Goals as goal
 
@@ -82,3 +82,43 @@ returns-in_err-fill-clause-leaves g c =
           c.fill.new.self _ found.reads.ready read.read.size read.read.contents read.room read.holds read.read);
       siblings = tt;
     })
+
+pub search_name-requires : goal.search_name-requires
+search_name-requires g c = c.requires
+
+pub returns-then-not-has_passed-clause-name : goal.returns-then-not-has_passed-clause-name
+returns-then-not-has_passed-clause-name g c = c.search_name.ensures.name
+
+pub returns-then-not-has_passed-clause-leaves : goal.returns-then-not-has_passed-clause-leaves
+returns-then-not-has_passed-clause-leaves g c = c.search_name.ensures.leaves
+
+pub find_names-requires : goal.find_names-requires
+find_names-requires g c =
+    let r = c.requires in
+    record {
+      ready = r.ready;
+      siblings = r.siblings;
+      number = omega (arith, r.parent_is.inside, r.ready.made.parents);
+    }
+
+pub returns-in_err-find_names-clause-name : goal.returns-in_err-find_names-clause-name
+returns-in_err-find_names-clause-name g c =
+    let p = err_from_is_err_and c.from_residual.result c.from_residual.ensures.1 in rw p.1 tt
+
+pub returns-in_err-find_names-clause-leaves : goal.returns-in_err-find_names-clause-leaves
+returns-in_err-find_names-clause-leaves g c =
+    let p = err_from_is_err_and c.from_residual.result c.from_residual.ensures.1 in
+    rw (p.1, p.2) (leaves_failed c.in_err-find_names.ensures.leaves.reads)
+
+pub place_of-requires : goal.place_of-requires
+place_of-requires g c = c.in_ok-find_names.ensures.found.covers
+
+pub returns-in_default-clause-leaves : goal.returns-in_default-clause-leaves
+returns-in_default-clause-leaves g c = leaves_as c.in_ok-find_names.ensures.leaves
+
+pub fill-requires-clause-holds : goal.fill-requires-clause-holds
+fill-requires-clause-holds g c = c.in_ok-find_names.ensures.leaves.reads.ready.windows.names
+
+pub returns-in_err-fill-clause-name : goal.returns-in_err-fill-clause-name
+returns-in_err-fill-clause-name g c =
+    let p = err_from_is_err_and c.from_residual-in_err-fill.result c.from_residual-in_err-fill.ensures.1 in rw p.1 tt
