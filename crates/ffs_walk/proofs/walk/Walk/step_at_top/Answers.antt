@@ -3,7 +3,7 @@ use Rattle.ffs_walk.specs.Frames.{frame_left}
 use Rattle.ffs_walk.specs.Rests.{extent_of, most_at}
 use Rattle.ffs_volume.specs.Blocks.Steps.{steps_at}
 use Rattle.ffs_walk.proofs.WalkSteps.{top_ends, top_data, top_single, top_double, top_triple, most_below, top_falls}
-use Rattle.ffs_walk.proofs.WalkSteps.{top_over, some_words, no_step, not_over, one_on, single_below, double_below}
+use Rattle.ffs_walk.proofs.WalkSteps.{top_over, some_words, square_some, no_step, not_over, one_on, single_below, double_below}
 use Rattle.ffs_walk.proofs.WalkSteps.{triple_below}
 use Rattle.ffs_walk.proofs.walk.Walk.step_at_top.Goals as goal
 
@@ -236,3 +236,12 @@ returns-in_default-clause-fits c = c.enter-step-in_default.ensures.step
 
 pub returns-in_default-clause-same : goal.returns-in_default-clause-same
 returns-in_default-clause-same c = record { geometry = refl; blocks = refl }
+
+pub enter-step-requires-in-13-clause-span : goal.enter-step-requires-in-13-clause-span
+enter-step-requires-in-13-clause-span c =
+    let g = c.args.self.now.geometry in rw c.from-words.ensures (some_words g.layout g.sound)
+
+pub enter-step-requires-in_default-clause-span : goal.enter-step-requires-in_default-clause-span
+enter-step-requires-in_default-clause-span c =
+    let g = c.args.self.now.geometry in
+    rw c.from-words.ensures (square_some g.layout.nindir (some_words g.layout g.sound))
