@@ -1,5 +1,6 @@
 -- A word isn't zero where one of its bytes isn't, in either byte order.
-use Rattle.std.proofs.Common.{◌≡◌, ℕ, zero, suc, ◌==◌, ◌+◌, ◌-◌, ◌*◌, ◌<◌, ◌≤◌, Bool, true, false, not, ◌||◌, List, [], leb, ◌&&◌}
+use Rattle.std.proofs.Common.{◌≡◌, ℕ, zero, suc, ◌==◌, ◌+◌, ◌-◌, ◌*◌, ◌<◌, ◌≤◌, Bool, true, false, not, ◌||◌, List, []}
+use Rattle.std.proofs.Common.{leb, ◌&&◌}
 use Rattle.std.proofs.Common.{◌∷◌, inl, inr, length, take, drop, arith, refl, ap, sym, ◌∙◌, length-drop, ◌^◌, lit<}
 use Rattle.std.proofs.Math.Nat.{mul-le-mul_right}
 use Rattle.std.proofs.Math.Seq.{take-add}
@@ -115,7 +116,8 @@ pub more_zeros : (v : Layout) (block : List ℕ) (next used place n : ℕ) → 4
     (leb (place + n) used && not (any_nonzero (slice_range block (4 * place) (4 * (place + n))))) ≡ true →
     ZerosTo v block next used place → ZerosTo v block next used (place + n)
 more_zeros v block next used place n fits all z =
-    let parts = and_parts (leb (place + n) used) (not (any_nonzero (slice_range block (4 * place) (4 * (place + n))))) all in
+    let parts = and_parts (leb (place + n) used)
+    (not (any_nonzero (slice_range block (4 * place) (4 * (place + n))))) all in
     let within = leb-true (place + n) used parts.0 in
     record {
       low = omega (arith, z.low);

@@ -57,8 +57,8 @@ pub fn any_from(geometry: &Geometry, block: &[u8], used: u32) -> bool
     any_set(&block[first..end])
 }
 
-/// Whether so many words from an index on are below `used`, and all of them are zero. The compiler knows how many bytes they have
-/// where it knows how many words.
+/// Whether so many words from an index on are below `used`, and all of them are zero. The compiler knows how many bytes
+/// they have where it knows how many words.
 #[inline(always)]
 fn are_zeros(block: &[u8], index: u32, used: u32, words: u32) -> bool
     requires block { 4 * used ≤ length block.now }
@@ -74,8 +74,8 @@ fn are_zeros(block: &[u8], index: u32, used: u32, words: u32) -> bool
     !any_set(&block[first..end])
 }
 
-/// The first index from `next` on whose word isn't zero, and `used` where there is none below it. Where a few words are zero,
-/// many are looked at together.
+/// The first index from `next` on whose word isn't zero, and `used` where there is none below it. Where a few words are
+/// zero, many are looked at together.
 pub fn zeros_end(geometry: &Geometry, block: &[u8], next: u32, used: u32) -> u32
     requires block { length block.now ≡ geometry.now.layout.bsize }
     requires words { (next ≤ used) × (used ≤ geometry.now.layout.nindir) }

@@ -34,10 +34,12 @@ are_zeros-requires-in-loop-place-clause-block c = omega (arith, c.args.geometry.
 pub are_zeros-requires-in-loop-place-clause-index : goal.are_zeros-requires-in-loop-place-clause-index
 are_zeros-requires-in-loop-place-clause-index c = c.loop-place.invariant.high
 
-pub are_zeros-requires-in-loop-place-then-are_zeros-clause-block : goal.are_zeros-requires-in-loop-place-then-are_zeros-clause-block
+pub are_zeros-requires-in-loop-place-then-are_zeros-clause-block :
+    goal.are_zeros-requires-in-loop-place-then-are_zeros-clause-block
 are_zeros-requires-in-loop-place-then-are_zeros-clause-block c = omega (arith, c.args.geometry.now.sound.sizes.nindir)
 
-pub are_zeros-requires-in-loop-place-then-are_zeros-clause-index : goal.are_zeros-requires-in-loop-place-then-are_zeros-clause-index
+pub are_zeros-requires-in-loop-place-then-are_zeros-clause-index :
+    goal.are_zeros-requires-in-loop-place-then-are_zeros-clause-index
 are_zeros-requires-in-loop-place-then-are_zeros-clause-index c = c.loop-place-then-are_zeros.invariant.high
 
 pub loop-j-preserved : goal.loop-j-preserved

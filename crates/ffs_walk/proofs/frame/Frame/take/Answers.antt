@@ -53,7 +53,10 @@ pub returns-then-any_from-clause-same : goal.returns-then-any_from-clause-same
 returns-then-any_from-clause-same g c = record { address = refl; first = refl; used = refl }
 
 pub returns-then-any_from-clause-leaves : goal.returns-then-any_from-clause-leaves
-returns-then-any_from-clause-leaves g c = record { kept = c.in_ok-fill.ensures.leaves.kept; read = c.in_ok-fill.ensures.leaves.read }
+returns-then-any_from-clause-leaves g c = record {
+  kept = c.in_ok-fill.ensures.leaves.kept;
+  read = c.in_ok-fill.ensures.leaves.read;
+}
 
 pub returns-clause-same : goal.returns-clause-same
 returns-clause-same g c = record { address = refl; first = refl; used = refl }

@@ -255,7 +255,8 @@ returns-in_err-item-clause-leaves g c =
 
 pub returns-in_err-item-2-clause-step : goal.returns-in_err-item-2-clause-step
 returns-in_err-item-2-clause-step g c =
-    let p = err_from_is_err_and c.from_residual-in_err-item-2.result c.from_residual-in_err-item-2.ensures.1 in rw p.1 tt
+    let p = err_from_is_err_and c.from_residual-in_err-item-2.result c.from_residual-in_err-item-2.ensures.1 in
+    rw p.1 tt
 
 pub returns-in_err-item-2-clause-same : goal.returns-in_err-item-2-clause-same
 returns-in_err-item-2-clause-same g c = record { geometry = refl; blocks = refl }
@@ -268,7 +269,8 @@ returns-in_err-item-2-clause-leaves g c =
 
 pub returns-in_err-item-3-clause-step : goal.returns-in_err-item-3-clause-step
 returns-in_err-item-3-clause-step g c =
-    let p = err_from_is_err_and c.from_residual-in_err-item-3.result c.from_residual-in_err-item-3.ensures.1 in rw p.1 tt
+    let p = err_from_is_err_and c.from_residual-in_err-item-3.result c.from_residual-in_err-item-3.ensures.1 in
+    rw p.1 tt
 
 pub returns-in_err-item-3-clause-same : goal.returns-in_err-item-3-clause-same
 returns-in_err-item-3-clause-same g c = record { geometry = refl; blocks = refl }
@@ -283,7 +285,10 @@ pub returns-then-is_left-clause-same : goal.returns-then-is_left-clause-same
 returns-then-is_left-clause-same g c = record { geometry = refl; blocks = refl }
 
 pub returns-then-is_left-clause-leaves : goal.returns-then-is_left-clause-leaves
-returns-then-is_left-clause-leaves g c = record { kept = c.in_ok-item.ensures.leaves.kept; read = c.in_ok-item.ensures.leaves.read }
+returns-then-is_left-clause-leaves g c = record {
+  kept = c.in_ok-item.ensures.leaves.kept;
+  read = c.in_ok-item.ensures.leaves.read;
+}
 
 pub returns-then-is_left-2-clause-same : goal.returns-then-is_left-2-clause-same
 returns-then-is_left-2-clause-same g c = record {
@@ -292,7 +297,10 @@ returns-then-is_left-2-clause-same g c = record {
 }
 
 pub returns-then-is_left-2-clause-leaves : goal.returns-then-is_left-2-clause-leaves
-returns-then-is_left-2-clause-leaves g c = record { kept = c.in_ok-item-2.ensures.leaves.kept; read = c.in_ok-item-2.ensures.leaves.read }
+returns-then-is_left-2-clause-leaves g c = record {
+  kept = c.in_ok-item-2.ensures.leaves.kept;
+  read = c.in_ok-item-2.ensures.leaves.read;
+}
 
 pub returns-then-is_left-3-clause-same : goal.returns-then-is_left-3-clause-same
 returns-then-is_left-3-clause-same g c = record {
@@ -301,7 +309,10 @@ returns-then-is_left-3-clause-same g c = record {
 }
 
 pub returns-then-is_left-3-clause-leaves : goal.returns-then-is_left-3-clause-leaves
-returns-then-is_left-3-clause-leaves g c = record { kept = c.in_ok-item-3.ensures.leaves.kept; read = c.in_ok-item-3.ensures.leaves.read }
+returns-then-is_left-3-clause-leaves g c = record {
+  kept = c.in_ok-item-3.ensures.leaves.kept;
+  read = c.in_ok-item-3.ensures.leaves.read;
+}
 
 pub returns-clause-same : goal.returns-clause-same
 returns-clause-same g c = c.step_at_top.ensures.same

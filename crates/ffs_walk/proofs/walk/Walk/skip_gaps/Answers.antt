@@ -18,7 +18,8 @@ returns-then-is_left c = record {
       let fewer = c.skip_gaps.ensures.falls (most_at c.args.self.now.geometry.layout.nindir 0) in
       omega (arith, fewer);
   passed =
-      let here : c.args.self.now.single.next < c.args.self.now.single.used = c.is_left.ensures.left.0 c.if-is_left.true in
+      let here : c.args.self.now.single.next < c.args.self.now.single.used =
+      c.is_left.ensures.left.0 c.if-is_left.true in
       record {
         single = λ h. c.skip_gaps.ensures.passed;
         double = λ spent h. absurd (omega (arith, here, spent.0));
@@ -41,7 +42,8 @@ returns-then-is_left-2 c = record {
       let fewer = c.skip_gaps-then-is_left-2.ensures.falls (most_at c.args.self.now.geometry.layout.nindir 1) in
       omega (arith, fewer);
   passed =
-      let here : c.args.self.now.double.next < c.args.self.now.double.used = c.is_left-2.ensures.left.0 c.if-is_left-2.true in
+      let here : c.args.self.now.double.next < c.args.self.now.double.used =
+      c.is_left-2.ensures.left.0 c.if-is_left-2.true in
       record {
         single = λ h. absurd (omega (arith, h, (c.is_left.ensures.spent c.if-is_left.false).0));
         double = λ spent h. c.skip_gaps-then-is_left-2.ensures.passed;
@@ -60,13 +62,14 @@ returns-then-is_left-3 c = record {
       (spent_rest g bytes (steps_at (extent_of w) bytes 0) 1 w.single (c.is_left.ensures.spent c.if-is_left.false))
       (spent_rest g bytes (steps_at (extent_of w) bytes 1) g.nindir w.double
       (c.is_left-2.ensures.spent c.if-is_left-2.false))
-      (c.skip_gaps-then-is_left-3.ensures.steps reported holds bytes e (steps_at (extent_of w) bytes 2) (g.nindir * g.nindir)
-      (zero_gap (extent_of w) bytes 2));
+      (c.skip_gaps-then-is_left-3.ensures.steps reported holds bytes e (steps_at (extent_of w) bytes 2)
+      (g.nindir * g.nindir) (zero_gap (extent_of w) bytes 2));
   falls =
       let fewer = c.skip_gaps-then-is_left-3.ensures.falls (most_at c.args.self.now.geometry.layout.nindir 2) in
       omega (arith, fewer);
   passed =
-      let here : c.args.self.now.triple.next < c.args.self.now.triple.used = c.is_left-3.ensures.left.0 c.if-is_left-3.true in
+      let here : c.args.self.now.triple.next < c.args.self.now.triple.used =
+      c.is_left-3.ensures.left.0 c.if-is_left-3.true in
       record {
         single = λ h. absurd (omega (arith, h, (c.is_left.ensures.spent c.if-is_left.false).0));
         double = λ spent h. absurd (omega (arith, h, (c.is_left-2.ensures.spent c.if-is_left-2.false).0));
@@ -124,7 +127,8 @@ invariant_of-self-then-is_left-2 c =
 
 pub skip_gaps-requires-then-is_left-3-clause-words : goal.skip_gaps-requires-then-is_left-3-clause-words
 skip_gaps-requires-then-is_left-3-clause-words c =
-    let w = c.args.self.now in words_fit w.geometry.layout _ (w.geometry.layout.nindir * w.geometry.layout.nindir) w.triple w.triple_fits
+    let w = c.args.self.now in
+    words_fit w.geometry.layout _ (w.geometry.layout.nindir * w.geometry.layout.nindir) w.triple w.triple_fits
 
 pub skip_gaps-requires-then-is_left-3-clause-room : goal.skip_gaps-requires-then-is_left-3-clause-room
 skip_gaps-requires-then-is_left-3-clause-room c = c.requires.room
@@ -141,8 +145,9 @@ invariant_of-self-then-is_left-3 c =
       blocks_small = w.blocks_small;
       single_fits = w.single_fits;
       double_fits = w.double_fits;
-      triple_fits = kept_fits w.geometry.layout _ (w.geometry.layout.nindir * w.geometry.layout.nindir) w.triple c.skip_gaps-then-is_left-3.new.self
-          (c.is_left-3.ensures.left.0 c.if-is_left-3.true) c.skip_gaps-then-is_left-3.ensures.same.0 w.triple_fits;
+      triple_fits = kept_fits w.geometry.layout _ (w.geometry.layout.nindir * w.geometry.layout.nindir) w.triple
+          c.skip_gaps-then-is_left-3.new.self (c.is_left-3.ensures.left.0 c.if-is_left-3.true)
+          c.skip_gaps-then-is_left-3.ensures.same.0 w.triple_fits;
     }
 
 pub skip_zero_addresses-requires : goal.skip_zero_addresses-requires

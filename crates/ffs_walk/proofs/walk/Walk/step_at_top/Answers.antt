@@ -3,8 +3,8 @@ use Rattle.ffs_walk.specs.Frames.{frame_left}
 use Rattle.ffs_walk.specs.Rests.{extent_of, most_at}
 use Rattle.ffs_volume.specs.Blocks.Steps.{steps_at}
 use Rattle.ffs_walk.proofs.WalkSteps.{top_ends, top_data, top_single, top_double, top_triple, most_below, top_falls}
-use Rattle.ffs_walk.proofs.WalkSteps.{top_over, some_words, square_some, no_step, not_over, one_on, single_below, double_below}
-use Rattle.ffs_walk.proofs.WalkSteps.{triple_below}
+use Rattle.ffs_walk.proofs.WalkSteps.{top_over, some_words, square_some, no_step, not_over, one_on}
+use Rattle.ffs_walk.proofs.WalkSteps.{single_below, double_below, triple_below}
 use Rattle.ffs_walk.proofs.walk.Walk.step_at_top.Goals as goal
 
 pub returns-then-self-clause-steps : goal.returns-then-self-clause-steps
