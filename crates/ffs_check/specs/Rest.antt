@@ -14,7 +14,9 @@ use Rattle.ffs_volume.specs.Directories.Connectivity.{connectivity_lines}
 use Rattle.ffs_volume.specs.Directories.ReferenceCheck.{reference_lines}
 use Rattle.ffs_volume.specs.Report.Whole.{rescan_lines, group_check_lines, summary_of, file_count, used_count}
 use Rattle.ffs_workspace.specs.declared.workspace.Workspace.{Workspace}
+use Rattle.ffs_maps.specs.Bits.{bits_of}
 use Rattle.ffs_workspace.specs.Holds.{IsFresh, HoldsPhase1}
+use Rattle.ffs_workspace.specs.Lengths.{set_count}
 
 -- what each phase reports, with its heading
 abbrev pub first_part : List ℕ → Superblock → List Message
@@ -70,4 +72,4 @@ IsBegun v d w bytes = IsContents d.contents bytes × IsFresh v w
 -- again
 abbrev pub IsScanned : Layout → Device → Workspace → List ℕ → Type 0
 IsScanned v d w bytes = IsContents d.contents bytes × HoldsPhase1 v bytes w
-    × (not (w.unreported == 0) ≡ has_rescan v (owners_of v bytes))
+    × (not (set_count (bits_of w.duplicates) == 0) ≡ has_rescan v (owners_of v bytes))

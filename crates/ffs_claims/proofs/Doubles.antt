@@ -4,7 +4,7 @@ use Rattle.std.proofs.lemmas.Bool.{cases_lt}
 use Rattle.std.proofs.lemmas.List.Sums.{sum_by-set}
 use Rattle.std.proofs.Common.{◌≡◌, ◌⊎◌, inl, inr, ℕ, zero, suc, ◌+◌, ◌<◌, ◌≤◌, Bool, true, false, not, ◌&&◌, ◌||◌, ◌==◌}
 use Rattle.std.proofs.Common.{if◌then◌else◌, nat_lt, List, [], ◌∷◌, ◌++◌, length, replicate, slice_set, length-set}
-use Rattle.std.proofs.Common.{arith, refl, ap, ◌∙◌, sym}
+use Rattle.std.proofs.Common.{◌≢◌, arith, refl, ap, ◌∙◌, sym}
 use Rattle.std.specs.List.{range_with_len, list_any, slice_index_or}
 use Rattle.std.proofs.lemmas.Bool.Decides.{nat_tests}
 use Rattle.std.proofs.lemmas.List.{length-replicate}
@@ -245,6 +245,13 @@ no_rescan v image w none h = record {
         and_false false = refl
 
 -- what phase 1 leaves to report
-pub dups_are : (v : Layout) (image : List ℕ) (w : Workspace) → w.unreported ≡ set_count (bits_of w.duplicates) →
-    HoldsPhase1 v image w → not (w.unreported == 0) ≡ has_rescan v (owners_of v image)
-dups_are v image w e h = ap (λ (n : ℕ). not (n == 0)) e ∙ ap any_set h.dup ∙ rescan_is v image
+pub dups_are : (v : Layout) (image : List ℕ) (w : Workspace) → HoldsPhase1 v image w →
+    any_set (bits_of w.duplicates) ≡ has_rescan v (owners_of v image)
+dups_are v image w h = ap any_set h.dup ∙ rescan_is v image
+
+-- whether something is left to report
+pub some_left : (n : ℕ) (some : Bool) → some ≡ not (n == 0) → some ≡ true → n ≢ 0
+some_left n some e t none = absurd (grind (arith, nat_tests))
+
+pub none_left : (n : ℕ) (some : Bool) → some ≡ not (n == 0) → some ≡ false → n ≡ 0
+none_left n some e f = grind (arith, nat_tests)

@@ -1,5 +1,5 @@
 -- What reads, claims and reports leave of a workspace that is ready.
-use Rattle.std.proofs.Common.{◌≡◌, ℕ, refl, sym, ap, arith, rules, ◌∙◌, length, length-set, slice_set, subst}
+use Rattle.std.proofs.Common.{◌≡◌, ℕ, refl, ap, arith, rules, ◌∙◌, length, length-set, slice_set, subst}
 use Rattle.std.proofs.Common.{false, Result}
 use Rattle.std.specs.declared.vec.Vec.{Vec}
 use Rattle.std.specs.declared.alloc.Global.{Global}
@@ -8,7 +8,6 @@ use Rattle.ffs_volume.specs.declared.Layout.{Layout}
 use Rattle.ffs_layout.specs.declared.geometry.Geometry.{Geometry}
 use Rattle.ffs_volume.specs.declared.Class.{Class}
 use Rattle.ffs_volume.specs.declared.Inode.{Inode}
-use Rattle.ffs_maps.specs.Bits.{bits_of}
 use Rattle.ffs_maps.specs.declared.FragmentMap.{FragmentMap}
 use Rattle.ffs_image.specs.Device.{Device}
 use Rattle.ffs_phase.specs.Runs.{ImageAfter}
@@ -17,7 +16,7 @@ use Rattle.ffs_walk.specs.declared.blocks.Blocks.{Blocks}
 use Rattle.ffs_walk.specs.Windows.{BlocksHold}
 use Rattle.ffs_workspace.specs.declared.workspace.Workspace.{Workspace}
 use Rattle.ffs_workspace.specs.declared.workspace.Windows.{Windows}
-use Rattle.ffs_workspace.specs.Lengths.{IsFor, set_count}
+use Rattle.ffs_workspace.specs.Lengths.{IsFor}
 use Rattle.ffs_workspace.specs.Ready.{IsReady}
 use Rattle.ffs_claims.specs.Leaves.{SameFound, ClaimsOnly, Stored, OffersOnly}
 use Rattle.ffs_claims.specs.Reporting.{SameClaims, ReportsOnly, OffersReportedOnly}
@@ -84,7 +83,6 @@ offers_claimed v w map kept made size = record {
     made = record {
       claimed = size ∙ made.claimed;
       duplicates = made.duplicates;
-      unreported = made.unreported;
       kinds = made.kinds;
       marked = made.marked;
       named = made.named;
@@ -204,7 +202,6 @@ ready_stored l d number class i u w s e r =
       made = record {
         claimed = ap (λ x. x.claimed.size) e ∙ m.claimed;
         duplicates = ap (λ x. x.duplicates.size) e ∙ m.duplicates;
-        unreported = ap (λ x. x.unreported) e ∙ m.unreported ∙ ap (λ x. set_count (bits_of x.duplicates)) (sym e);
         kinds = stored_length u.kinds w.kinds number _ _ m.kinds s.kinds;
         marked = stored_length u.marked w.marked number _ _ m.marked s.marked;
         named = ap (λ x. vec_len x.named) e ∙ m.named;

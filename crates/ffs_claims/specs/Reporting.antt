@@ -10,7 +10,7 @@ use Rattle.ffs_workspace.specs.Holds.{bool_at}
 use Rattle.ffs_image.specs.Device.{Device}
 use Rattle.ffs_phase.specs.Runs.{ImageAfter}
 use Rattle.ffs_phase.specs.declared.fault.RunFault.{RunFault}
-use Rattle.ffs_workspace.specs.Lengths.{IsFor, inodes_of}
+use Rattle.ffs_workspace.specs.Lengths.{IsFor, inodes_of, set_count}
 use Rattle.ffs_workspace.specs.Ready.{IsReady}
 
 -- the fragments whose first claim is still to be reported, after some offers
@@ -54,7 +54,7 @@ pub record CanReport (v : Layout) (w : Workspace) (number : ℕ) : Type 0 where
 pub record CanRewalk (v : Layout) (d : Device) (w : Workspace) (number : ℕ) : Type 0 where
   pub ready : IsReady v d w
   pub number_fits : number < inodes_of v
-  pub pending : w.unreported ≢ 0
+  pub pending : set_count (bits_of w.duplicates) ≢ 0
 
 -- what walking over an inode again leaves: the image, but for a read that failed, and a workspace that is ready, with
 -- the claims as they were

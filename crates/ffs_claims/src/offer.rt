@@ -92,9 +92,7 @@ fn take(workspace: &mut Workspace, geometry: &Geometry, fragment: u64, in_range:
         return false;
     }
     workspace.dups += 1;
-    if workspace.duplicates.claim(index, 1) {
-        workspace.unreported += 1;
-    }
+    workspace.duplicates.set(index);
     true
 }
 

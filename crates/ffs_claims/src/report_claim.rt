@@ -38,7 +38,6 @@ fn report_claim<W: Output>(
         return Ok(());
     }
     workspace.duplicates.clear(index);
-    workspace.unreported -= 1;
     workspace.marked[number as usize] = true;
     report.say(&Line::Block(BlockMessage::Dup {
         fragment: index,

@@ -85,7 +85,7 @@ fn rewalk<I: Image, W: Output>(
         if !keeping.is_replay_open() {
             break;
         }
-        if workspace.unreported == 0 {
+        if !workspace.has_dups() {
             break;
         }
         if matches!(next, Step::Gap) {
@@ -152,7 +152,7 @@ pub fn phase1b<I: Image, W: Output>(
     workspace.runs_again = 0;
     report.say(&Line::Heading(Heading::Phase1b))?;
     for number in 2..geometry.layout.ncg * geometry.layout.ipg {
-        if workspace.unreported == 0 {
+        if !workspace.has_dups() {
             break;
         }
         renumbered(workspace, geometry, number, image, report)?;

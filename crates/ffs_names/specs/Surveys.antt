@@ -11,7 +11,6 @@ use Rattle.ffs_workspace.specs.declared.workspace.Workspace.{Workspace}
 pub record IsUntouched (old new : Workspace) : Type 0 where
   pub claimed : new.claimed ≡ old.claimed
   pub duplicates : new.duplicates ≡ old.duplicates
-  pub unreported : new.unreported ≡ old.unreported
   pub kinds : new.kinds ≡ old.kinds
   pub marked : new.marked ≡ old.marked
   pub cut : new.cut ≡ old.cut

@@ -27,7 +27,6 @@ ready_read v d d' w blocks chunk r same can = record {
   made = record {
     claimed = r.made.claimed;
     duplicates = r.made.duplicates;
-    unreported = r.made.unreported;
     kinds = r.made.kinds;
     marked = r.made.marked;
     named = r.made.named;

@@ -93,7 +93,6 @@ then_reads {last = last} {windows = windows} {result = result} one opened chunk 
         made = record {
           claimed = made.claimed;
           duplicates = made.duplicates;
-          unreported = made.unreported;
           kinds = made.kinds;
           marked = made.marked;
           named = made.named;

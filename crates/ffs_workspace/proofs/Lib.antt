@@ -3,3 +3,4 @@ pub mod Places
 pub mod Leaving
 pub mod Readiness
 mod Requests
+mod DupCounts

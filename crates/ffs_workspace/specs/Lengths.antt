@@ -2,7 +2,6 @@
 use Rattle.std.specs.Prelude.{◌≡◌, ◌+◌, ◌*◌, ℕ, Bool, List, Option, vec_len, count_by}
 use Rattle.std.specs.Int.{div_ceil}
 use Rattle.ffs_volume.specs.declared.Layout.{Layout}
-use Rattle.ffs_maps.specs.Bits.{bits_of}
 use Rattle.ffs_walk.specs.Windows.{WindowHolds, BlocksHold}
 use Rattle.ffs_workspace.specs.declared.workspace.Workspace.{Workspace}
 use Rattle.ffs_workspace.specs.Tables.{IsTableOf}
@@ -19,7 +18,6 @@ set_count bits = count_by (λ b. b) bits
 pub record IsFor (v : Layout) (w : Workspace) : Type 0 where
   pub claimed : w.claimed.size ≡ v.size
   pub duplicates : w.duplicates.size ≡ v.size
-  pub unreported : w.unreported ≡ set_count (bits_of w.duplicates)
   pub kinds : vec_len w.kinds ≡ inodes_of v
   pub marked : vec_len w.marked ≡ inodes_of v
   pub named : vec_len w.named ≡ inodes_of v

@@ -5,6 +5,7 @@ ghost use Rattle.ffs_layout.specs.declared.geometry.Geometry.{Geometry};
 ghost use Rattle.ffs_volume.specs.declared.Layout.{Layout};
 ghost use Rattle.ffs_memory.specs.Account.{Asks, IsFilled};
 ghost use Rattle.ffs_volume.specs.Report.Memory.{held_limit};
+ghost use Rattle.ffs_maps.specs.Bits.{bits_of};
 
 use crate::table::Table;
 use ffs_layout::Geometry;
@@ -35,8 +36,6 @@ pub struct Workspace {
     pub claimed: FragmentMap,
     /// The fragments with a DUP line. Phase 1b clears each of which it has reported the first claim.
     pub duplicates: FragmentMap,
-    /// How many fragments are in `duplicates`.
-    pub unreported: u32,
     /// What each inode is (`Kind`).
     pub kinds: FixedList<u8>,
     /// The inodes that are marked: of class Unknown, or with a BAD or DUP line.
@@ -73,7 +72,7 @@ pub struct Workspace {
 }
 
 impl Workspace {
-    ghost use Rattle.ffs_workspace.specs.Lengths.{IsFor, held_of};
+    ghost use Rattle.ffs_workspace.specs.Lengths.{IsFor, held_of, set_count};
     ghost use Rattle.ffs_workspace.specs.Ready.{IsNew};
 
     /// Takes all memory of a check of the volume from an allocator, and holds nothing yet.
@@ -111,7 +110,6 @@ impl Workspace {
         Ok(Workspace {
             claimed,
             duplicates,
-            unreported: 0,
             kinds,
             marked,
             named,
@@ -154,9 +152,9 @@ impl Workspace {
 
     /// Whether some fragment has a DUP line and its first claim isn't reported yet.
     pub fn has_dups(&self) -> bool
-        ensures { result ≡ not (self.now.unreported == 0) }
+        ensures { result ≡ not (set_count (bits_of self.now.duplicates) == 0) }
     {
-        self.unreported != 0
+        self.duplicates.count_ones() != 0
     }
 
     /// How many Runs phases 1 and 1b have looked at.

@@ -215,7 +215,6 @@ returns-clause-count g c = λ bytes k. (returns-clause-holds g c bytes k).runs
 pub returns-clause-dups : goal.returns-clause-dups
 returns-clause-dups g c = λ bytes k.
     dups_are c.args.geometry.now.layout bytes c.loop-number.workspace
-    c.loop-number.invariant.ready.ready.made.unreported
     (returns-clause-holds g c bytes k)
 
 pub returns-in_err-say-clause-ready : goal.returns-in_err-say-clause-ready

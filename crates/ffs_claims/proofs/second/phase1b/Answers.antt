@@ -22,7 +22,7 @@ use Rattle.ffs_claims.proofs.Frames.{claims_then, image_from, ready_unseen}
 use Rattle.ffs_claims.proofs.Rescanned.{kept_next, kept_end, runs_on, runs_most, claims_hold, reported_same, all_lines}
 use Rattle.ffs_claims.proofs.Rescanned.{all_kept, lines_split, starts_hold}
 use Rattle.ffs_claims.proofs.Rewalks.{reporting_over}
-use Rattle.ffs_claims.proofs.Doubles.{none_first}
+use Rattle.ffs_claims.proofs.Doubles.{none_first, none_left, some_left}
 use Rattle.ffs_claims.proofs.Reportings.{reporting_more, reporting_ends, reporting_same}
 use Rattle.ffs_phase.specs.Known.{ForBytes, IsContents}
 use Rattle.ffs_workspace.specs.Holds.{HoldsPhase1}
@@ -65,6 +65,17 @@ loop-number-init g c =
           (of_begins _ (λ bytes. phase1b ∷ of_lines (phase1b_lines v (owners_of v bytes))) _)
           (λ bytes k. ap (λ (xs : List Message). phase1b ∷ xs) (all_lines v bytes d k.1.dup))
           c.in_ok-say.ensures.said;
+    }
+
+pub renumbered-requires : goal.renumbered-requires
+renumbered-requires g c =
+    let inv = c.loop-number.invariant in
+    record {
+      can = record {
+        ready = inv.ready;
+        number_fits = omega arith;
+        pending = some_left _ _ c.has_dups.ensures c.if-not-has_dups.false;
+      };
     }
 
 pub returns-in_err-renumbered-clause-prints : goal.returns-in_err-renumbered-clause-prints
@@ -171,14 +182,14 @@ loop-number-preserved g c =
           (said_knows _ _ _ _ _ _ (λ bytes k. image ∙ k.0) c.in_ok-renumbered.ensures.text);
     }
 
-pub returns-then-workspace-eq0 : goal.returns-then-workspace-eq0
-returns-then-workspace-eq0 g c =
+pub returns-then-not-has_dups : goal.returns-then-not-has_dups
+returns-then-not-has_dups g c =
     let v = c.args.geometry.now.layout in
     let inv = c.loop-number.invariant in
     let n = c.loop-number.number in
     let d = bits_of c.loop-number.workspace.duplicates in
-    let none : set_count (bits_of c.loop-number.workspace.duplicates) ≡ 0 = sym inv.ready.made.unreported
-    ∙ c.if-workspace-eq0.true in
+    let none : set_count (bits_of c.loop-number.workspace.duplicates) ≡ 0 =
+    none_left _ _ c.has_dups.ensures c.if-not-has_dups.true in
     record {
       prints = record {
         image = inv.device;

@@ -14,7 +14,7 @@ use Rattle.ffs_workspace.specs.Lengths.{set_count}
 use Rattle.ffs_claims.specs.Lines.{of_lines}
 use Rattle.ffs_claims.specs.Rescan.{step_offers_again, offers_again}
 use Rattle.ffs_claims.specs.Reporting.{after_first}
-use Rattle.ffs_claims.proofs.Doubles.{none_first}
+use Rattle.ffs_claims.proofs.Doubles.{none_first, none_left, some_left}
 use Rattle.ffs_claims.proofs.Frames.{claims_none, claims_still, claims_then, ready_still, ready_read, ready_walked}
 use Rattle.ffs_claims.proofs.Looks.{looked_stopped, looked_over}
 use Rattle.ffs_claims.proofs.Rewalks.{open_first, gaps_offer, offers_none, offers_stopped, lines_step, runs_next}
@@ -163,7 +163,7 @@ loop-next-preserved-then-matches g c =
       ready = ready;
       cut = same;
       going = rw same at (sym c.is_replay_open.ensures ∙ c.if-not-is_replay_open.false);
-      pending = c.if-workspace-eq0.false;
+      pending = some_left _ _ c.has_dups.ensures c.if-not-has_dups.false;
       geometry = c.skip_gaps.ensures.same.geometry ∙ c.in_ok-next.ensures.same.geometry ∙ inv.geometry;
       device = ok ∙ inv.device;
       claims = claims_then _ _ _ (claims_still _ _ _ inv.claims) only.claims;
@@ -171,7 +171,7 @@ loop-next-preserved-then-matches g c =
           (rest bytes c.skip_gaps.new.self) _ _ (gaps bytes t)
           (rewalk_on _ _ _ _ c.in-Some.next r r' (rest bytes c.loop-next.walk)
           (rest bytes c.next.new.self) _ c.loop-next.workspace _ c.report_again.new.workspace
-          (next bytes t) now inv.going (λ e. inv.pending (inv.ready.made.unreported ∙ e))
+          (next bytes t) now inv.going inv.pending
           did most exact (inv.walk bytes t));
       said = rewalk_said _ v n cut r r' c.in-Some.next (λ bytes. rest bytes c.loop-next.walk)
           (λ bytes. rest bytes c.next.new.self) d d' _ _ _ _ _
@@ -207,13 +207,13 @@ loop-next-preserved g c =
       ready = ready;
       cut = same;
       going = rw same at (sym c.is_replay_open.ensures ∙ c.if-not-is_replay_open.false);
-      pending = c.if-workspace-eq0.false;
+      pending = some_left _ _ c.has_dups.ensures c.if-not-has_dups.false;
       geometry = c.in_ok-next.ensures.same.geometry ∙ inv.geometry;
       device = ok ∙ inv.device;
       claims = claims_then _ _ _ (claims_still _ _ _ inv.claims) only.claims;
       walk = λ bytes t. rewalk_on _ _ _ _ c.in-Some.next r r' (rest bytes c.loop-next.walk)
           (rest bytes c.next.new.self) _ c.loop-next.workspace _ c.report_again.new.workspace
-          (next bytes t) now inv.going (λ e. inv.pending (inv.ready.made.unreported ∙ e))
+          (next bytes t) now inv.going inv.pending
           did most exact (inv.walk bytes t);
       said = rewalk_said _ v n cut r r' c.in-Some.next (λ bytes. rest bytes c.loop-next.walk)
           (λ bytes. rest bytes c.next.new.self) d d' _ _ _ _ _
@@ -249,7 +249,7 @@ returns-then-not-is_replay_open g c =
     c.args.workspace.now c.report_again.new.workspace) =
     λ bytes t. rewalk_on _ _ _ _ c.in-Some.next r r' (rest bytes c.loop-next.walk)
     (rest bytes c.next.new.self) _ c.loop-next.workspace _ c.report_again.new.workspace
-    (next bytes t) now inv.going (λ e. inv.pending (inv.ready.made.unreported ∙ e))
+    (next bytes t) now inv.going inv.pending
     did most exact (inv.walk bytes t) in
     record {
       text = rewalk_said _ v n cut r r' c.in-Some.next (λ bytes. rest bytes c.loop-next.walk)
@@ -268,8 +268,8 @@ returns-then-not-is_replay_open g c =
       };
     }
 
-pub returns-then-workspace-eq0 : goal.returns-then-workspace-eq0
-returns-then-workspace-eq0 g c =
+pub returns-then-not-has_dups : goal.returns-then-not-has_dups
+returns-then-not-has_dups g c =
     let inv = c.loop-next.invariant in
     let v = c.args.geometry.now.layout in
     let n = c.args.number in
@@ -285,8 +285,8 @@ returns-then-workspace-eq0 g c =
     let exact = rw inv.cut at c.report_again.ensures.runs.exact in
     let said = rw inv.cut at c.in_ok-report_again.ensures.said in
     let only = c.report_again.ensures.only in
-    let none : set_count (bits_of c.report_again.new.workspace.duplicates) ≡ 0 = sym only.made.unreported
-    ∙ c.if-workspace-eq0.true in
+    let none : set_count (bits_of c.report_again.new.workspace.duplicates) ≡ 0 =
+    none_left _ _ c.has_dups.ensures c.if-not-has_dups.true in
     let next = rw (inv.device, c.in-Some.is) at c.in_ok-next.ensures.step.steps in
     let read = ready_walked c.args.geometry.now _ _ _ c.loop-next.workspace c.next.new.blocks inv.geometry ok
     c.next.ensures.leaves.kept.size c.next.ensures.leaves.kept.holds inv.ready in
@@ -295,7 +295,7 @@ returns-then-workspace-eq0 g c =
     c.args.workspace.now c.report_again.new.workspace) =
     λ bytes t. rewalk_on _ _ _ _ c.in-Some.next r r' (rest bytes c.loop-next.walk)
     (rest bytes c.next.new.self) _ c.loop-next.workspace _ c.report_again.new.workspace
-    (next bytes t) now inv.going (λ e. inv.pending (inv.ready.made.unreported ∙ e))
+    (next bytes t) now inv.going inv.pending
     did most exact (inv.walk bytes t) in
     record {
       text = rewalk_said _ v n cut r r' c.in-Some.next (λ bytes. rest bytes c.loop-next.walk)

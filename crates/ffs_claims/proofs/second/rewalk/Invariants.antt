@@ -8,6 +8,7 @@ use Rattle.ffs_phase.specs.Runs.{SaidOf}
 use Rattle.ffs_maps.specs.Bits.{bits_of}
 use Rattle.ffs_walk.specs.Keepings.{replay_in}
 use Rattle.ffs_walk.specs.Rests.{rest, left}
+use Rattle.ffs_workspace.specs.Lengths.{set_count}
 use Rattle.ffs_workspace.specs.Ready.{IsReady}
 use Rattle.ffs_claims.specs.Lines.{of_lines}
 use Rattle.ffs_claims.specs.Rescan.{offers_again}
@@ -20,7 +21,7 @@ invariant-loop-next g l = record {
   ready : IsReady l.geometry.layout (g.I.Image.device l.image) l.workspace;
   cut : l.keeping.cut ≡ l.cut;
   going : is_replay_open l.cut (replay_in l.keeping) ≡ true;
-  pending : l.workspace.unreported ≢ 0;
+  pending : set_count (bits_of l.workspace.duplicates) ≢ 0;
   geometry : l.walk.geometry ≡ l.geometry;
   device : g.I.Image.device l.image ≡ g.I.Image.device l.initial.image;
   claims : SameClaims l.initial.workspace l.workspace;

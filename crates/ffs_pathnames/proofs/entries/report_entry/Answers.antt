@@ -36,7 +36,6 @@ returns-clause-leaves g c =
           made = record {
             claimed = made.claimed;
             duplicates = made.duplicates;
-            unreported = made.unreported;
             kinds = made.kinds;
             marked = made.marked;
             named = made.named;

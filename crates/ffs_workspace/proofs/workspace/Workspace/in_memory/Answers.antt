@@ -1,6 +1,5 @@
 -- What the requests result in, where each is granted, and where one of them is refused.
-use Rattle.std.proofs.Common.{◌*◌, arith, refl, rules}
-use Rattle.std.proofs.lemmas.Grind.{common_steps}
+use Rattle.std.proofs.Common.{◌*◌, refl, rules}
 use Rattle.std.proofs.lemmas.Result.{err_from_is_err_and}
 use Rattle.std.specs.Int.{div_ceil}
 use Rattle.ffs_memory.proofs.Asking.{granted_both, gave_up_after, gave_up_at, gave_up_within}
@@ -16,7 +15,6 @@ returns-clause-new g c =
       made = record {
         claimed = search rules;
         duplicates = search rules;
-        unreported = grind (arith, common_steps);
         kinds = search rules;
         marked = search rules;
         named = search rules;
