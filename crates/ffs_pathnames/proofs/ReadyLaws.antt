@@ -1,15 +1,21 @@
 -- What is ready stays so where a chunk is read.
-use Rattle.std.proofs.Common.{◌≡◌, refl, sym, ap, subst, ◌∙◌}
-use Rattle.std.specs.Prelude.{Result}
+use Rattle.std.proofs.Common.{◌≡◌, ℕ, refl, sym, ap, subst, ◌∙◌, rules}
+use Rattle.std.specs.Prelude.{Result, vec_len}
 use Rattle.ffs_image.specs.Device.{Device}
 use Rattle.ffs_image.specs.Reads.{ReadAfter}
 use Rattle.ffs_image.specs.declared.image.ImageFault.{ImageFault}
+use Rattle.std.specs.declared.alloc.Global.{Global}
+use Rattle.std.specs.declared.vec.Vec.{Vec}
 use Rattle.ffs_volume.specs.declared.Layout.{Layout}
 use Rattle.ffs_walk.specs.declared.blocks.Blocks.{Blocks}
 use Rattle.ffs_walk.specs.declared.window.Window.{Window}
 use Rattle.ffs_walk.specs.Windows.{WindowHolds}
 use Rattle.ffs_workspace.specs.declared.workspace.Workspace.{Workspace}
+use Rattle.ffs_workspace.specs.Lengths.{inodes_of}
 use Rattle.ffs_workspace.specs.Ready.{IsReady}
+use Rattle.ffs_workspace.specs.Tables.{KeepsTable}
+use Rattle.ffs_workspace.specs.declared.table.Table.{Table}
+use Rattle.ffs_workspace.proofs.Readiness.{ready_table}
 use Rattle.ffs_workspace.proofs.Leaving.{windows_leave}
 use Rattle.ffs_paths.specs.declared.siblings.Siblings.{Siblings}
 use Rattle.ffs_paths.specs.Reads.{OnlyReads}
@@ -49,6 +55,34 @@ ready_read v d d' w blocks chunk r same can = record {
     names = subst (λ t. WindowHolds t w.windows.names) (sym same) r.windows.names;
   };
 }
+
+-- and where other stamps are in the queue
+ready_queue : (v : Layout) (d : Device) (w : Workspace) (queue : Vec ℕ Global) → vec_len queue ≡ vec_len w.queue
+    → IsReady v d w → IsReady v d (record w { queue = queue })
+ready_queue v d w queue long r =
+    let m = r.made in
+    let each : vec_len queue ≡ inodes_of v = long ∙ m.queue in
+    record {
+      made = search rules;
+      volume = r.volume;
+      windows = record {
+        table = r.windows.table;
+        blocks = r.windows.blocks;
+        chunk = r.windows.chunk;
+        names = r.windows.names;
+      };
+    }
+
+-- and so is one whose window on the inode table, windows of chunks and queue were used
+pub ready_looked : (v : Layout) (d d' d'' : Device) (w : Workspace) (table : Table) (blocks : Blocks) (chunk : Window)
+    (queue : Vec ℕ Global) → IsReady v d w → d'.contents ≡ d.contents → d'.size ≡ d.size →
+    KeepsTable v d'.contents table → d''.contents ≡ d'.contents → CanReadChunks v d'' blocks chunk
+    → vec_len queue ≡ vec_len w.queue → IsReady v d''
+    (record (with_chunk (record w { windows = record w.windows { table = table } }) blocks chunk) { queue = queue })
+ready_looked v d d' d'' w table blocks chunk queue r same size kept looked can long =
+    let read : Workspace = record w { windows = record w.windows { table = table } } in
+    ready_queue v d'' (with_chunk read blocks chunk) queue long
+    (ready_read v d' d'' read blocks chunk (ready_table v d d' w table same size kept r) looked can)
 
 -- and so is what is kept of a directory and its children
 pub ready_next : (v : Layout) (d d' : Device) (w : Workspace) (s : Siblings) (blocks : Blocks) (chunk : Window)

@@ -1,12 +1,17 @@
-use Rattle.std.proofs.Common.{◌<◌, ◌^◌, refl, sym, ap, subst, ◌∙◌, ◌==◌}
+use Rattle.std.proofs.Common.{◌<◌, ◌^◌, refl, sym, ap, subst, ◌∙◌, ◌==◌, arith, rules}
 use Rattle.std.proofs.lemmas.List.{get_or_read_under}
+use Rattle.std.proofs.lemmas.Result.{err_from_is_err_and}
 use Rattle.std.specs.List.{find}
+use Rattle.ffs_image.specs.Device.{Faulted}
 use Rattle.ffs_volume.specs.Directories.PathnameCheck.{are_sound}
 use Rattle.ffs_volume.specs.Blocks.Inodes.{inode_of}
 use Rattle.ffs_volume.specs.Directories.Volumes.{volume_of}
 use Rattle.ffs_names.proofs.DirLaws.{dir_is, dir_size}
+use Rattle.ffs_names.specs.Windows.{CanReadChunks}
+use Rattle.ffs_workspace.proofs.Readiness.{ready_table}
 use Rattle.ffs_pathnames.specs.Marks.{are_quiet, after_looks}
 use Rattle.ffs_pathnames.proofs.ChunkLaws.{chunks_are, gap_is, seen_are}
+use Rattle.ffs_pathnames.proofs.ReadyLaws.{can_read_in, ready_looked}
 use Rattle.ffs_pathnames.proofs.SeesLaws.{sees}
 use Rattle.ffs_pathnames.proofs.examine.examine.Goals as goal
 
@@ -46,3 +51,84 @@ returns-clause-found g c = λ b k.
           ∙ ap (after_looks (volume_of v b) c.args.dir c.args.workspace.now.queue.items)
           (seen_are v b c.args.dir _ chunks);
     }
+
+pub inode_by_part-requires-clause-number : goal.inode_by_part-requires-clause-number
+inode_by_part-requires-clause-number g c = c.requires.ready.number
+
+pub inode_by_part-requires-clause-ready : goal.inode_by_part-requires-clause-ready
+inode_by_part-requires-clause-ready g c =
+    let r = c.requires.ready.ready in record { volume = r.volume; made = r.made.table; holds = r.windows.table }
+
+pub index-cut-requires : goal.index-cut-requires
+index-cut-requires g c = omega (arith, c.requires.ready.ready.made.cut, c.requires.ready.number)
+
+pub look_directory-requires-clause-ready : goal.look_directory-requires-clause-ready
+look_directory-requires-clause-ready g c =
+    let v = c.args.geometry.now.layout in
+    let w = c.args.workspace.now in
+    subst (λ d. CanReadChunks v d w.windows.blocks w.windows.chunk) (sym c.in_ok-inode.ensures.read)
+    (can_read_in v _ w c.requires.ready.ready)
+
+pub look_directory-requires-clause-stamps : goal.look_directory-requires-clause-stamps
+look_directory-requires-clause-stamps g c =
+    let made = c.requires.ready.ready.made in
+    record {
+      each = sym c.args.workspace.now.queue.ok.0 ∙ (made.queue ∙ sym (c.as_slice.ensures.len ∙ made.kinds));
+      dir = c.requires.dir;
+    }
+
+pub returns-clause-leaves : goal.returns-clause-leaves
+returns-clause-leaves g c =
+    let v = c.args.geometry.now.layout in
+    let w = c.args.workspace.now in
+    let one = c.in_ok-inode.ensures.read in
+    let look = c.look_directory.ensures.leaves in
+    let two = c.in_ok-found.ensures.leaves.read in
+    record {
+      lists = search rules;
+      ready = ready_looked v (g.I.Image.device c.args.image.now) (g.I.Image.device c.inode_by_part.new.image) _ w
+          c.inode_by_part.new.self
+          c.look_directory.new.blocks c.look_directory.new.data c.look_directory.new.stamps c.requires.ready.ready
+          (ap (λ d. d.contents) one) (ap (λ d. d.size) one) c.inode_by_part.ensures.kept
+          (ap (λ d. d.contents) two) look.ready c.look_directory.ensures.stamps_long;
+      read = two ∙ one;
+    }
+
+-- a read failed
+pub returns-in_err-inode-clause-found : goal.returns-in_err-inode-clause-found
+returns-in_err-inode-clause-found g c =
+    let p = err_from_is_err_and c.from_residual.result c.from_residual.ensures.1 in rw p.1 tt
+
+pub returns-in_err-inode-clause-leaves : goal.returns-in_err-inode-clause-leaves
+returns-in_err-inode-clause-leaves g c =
+    let err = c.in_err-inode.ensures.read in
+    let p = err_from_is_err_and c.from_residual.result c.from_residual.ensures.1 in
+    rw (p.1, p.2) (record {
+      lists = search rules;
+      ready = ready_table c.args.geometry.now.layout (g.I.Image.device c.args.image.now) _ c.args.workspace.now
+          c.inode_by_part.new.self err.contents err.size c.inode_by_part.ensures.kept c.requires.ready.ready;
+      read = err;
+    })
+
+pub returns-in_err-found-clause-found : goal.returns-in_err-found-clause-found
+returns-in_err-found-clause-found g c =
+    let p = err_from_is_err_and c.from_residual-in_err-found.result c.from_residual-in_err-found.ensures.1 in rw p.1 tt
+
+pub returns-in_err-found-clause-leaves : goal.returns-in_err-found-clause-leaves
+returns-in_err-found-clause-leaves g c =
+    let v = c.args.geometry.now.layout in
+    let w = c.args.workspace.now in
+    let one = c.in_ok-inode.ensures.read in
+    let look = c.look_directory.ensures.leaves in
+    let two = c.in_err-found.ensures.leaves.read in
+    let p = err_from_is_err_and c.from_residual-in_err-found.result c.from_residual-in_err-found.ensures.1 in
+    rw (p.1, p.2) (record {
+      lists = search rules;
+      ready = ready_looked v (g.I.Image.device c.args.image.now) (g.I.Image.device c.inode_by_part.new.image) _ w
+          c.inode_by_part.new.self
+          c.look_directory.new.blocks c.look_directory.new.data c.look_directory.new.stamps c.requires.ready.ready
+          (ap (λ d. d.contents) one) (ap (λ d. d.size) one) c.inode_by_part.ensures.kept two.contents look.ready
+          c.look_directory.ensures.stamps_long;
+      read = subst (λ d. Faulted d (g.I.Image.device c.look_directory.new.image) c.in_err-found.field-0.0.sector) one
+          two;
+    })
