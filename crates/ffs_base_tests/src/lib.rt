@@ -1,5 +1,5 @@
-//! Tests of the public calls of the crates below the phases. They are here so that no crate is proved twice for them, and so
-//! that they are proved beside the phases.
+//! Tests of the public calls of the crates below the phases. They are here so that no crate is
+//! proved twice for them, and so that they are proved beside the phases.
 #![tactic(auto)]
 
 #[cfg(test)]

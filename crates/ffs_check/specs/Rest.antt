@@ -1,6 +1,6 @@
 -- The parts of the text after the opening, as the calls that report them are nested, and what is known of the image's
 -- bytes there.
-use Rattle.std.specs.Prelude.{◌≡◌, ◌==◌, not, ℕ, Bool, if◌then◌else◌, List, [], ◌∷◌, ◌++◌, map}
+use Rattle.std.specs.Prelude.{◌≡◌, ℕ, Bool, if◌then◌else◌, List, [], ◌∷◌, ◌++◌, map}
 use Rattle.ffs_image.specs.Device.{Device}
 use Rattle.ffs_phase.specs.Known.{IsContents}
 use Rattle.ffs_volume.specs.declared.Layout.{Layout}
@@ -14,9 +14,8 @@ use Rattle.ffs_volume.specs.Directories.Connectivity.{connectivity_lines}
 use Rattle.ffs_volume.specs.Directories.ReferenceCheck.{reference_lines}
 use Rattle.ffs_volume.specs.Report.Whole.{rescan_lines, group_check_lines, summary_of, file_count, used_count}
 use Rattle.ffs_workspace.specs.declared.workspace.Workspace.{Workspace}
-use Rattle.ffs_maps.specs.Bits.{bits_of}
 use Rattle.ffs_workspace.specs.Holds.{IsFresh, HoldsPhase1}
-use Rattle.ffs_workspace.specs.Lengths.{set_count}
+use Rattle.ffs_workspace.specs.Lengths.{has_dups}
 
 -- what each phase reports, with its heading
 abbrev pub first_part : List ℕ → Superblock → List Message
@@ -72,4 +71,4 @@ IsBegun v d w bytes = IsContents d.contents bytes × IsFresh v w
 -- again
 abbrev pub IsScanned : Layout → Device → Workspace → List ℕ → Type 0
 IsScanned v d w bytes = IsContents d.contents bytes × HoldsPhase1 v bytes w
-    × (not (set_count (bits_of w.duplicates) == 0) ≡ has_rescan v (owners_of v bytes))
+    × (has_dups w ≡ has_rescan v (owners_of v bytes))

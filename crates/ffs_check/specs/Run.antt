@@ -42,9 +42,8 @@ CheckedBy {I} device opens refuses name sector out out' status =
     IsChecked I device opens name sector out out' status ⊎ IsUnopened refuses name out out' status
 
 -- the words ask for an image and a sector, and that image was checked at that sector, or couldn't be opened
-pub record AskedAndChecked (I : Type 0) (device : I → Device) (opens : List ℕ → I → Type 0) (refuses : List ℕ
-    → Type 0) (words : List (List ℕ))
-    (out out' : Sink) (status : ℕ) : Type 0 where
+pub record RunsAsAsked (I : Type 0) (device : I → Device) (opens : List ℕ → I → Type 0)
+    (refuses : List ℕ → Type 0) (words : List (List ℕ)) (out out' : Sink) (status : ℕ) : Type 0 where
   pub name : List ℕ
   pub sector : Option ℕ
   pub asked : AskFor words name sector
@@ -62,10 +61,10 @@ pub record HasNoWords (out out' : Sink) (status : ℕ) : Type 0 where
   pub status_is : status ≡ 8
 
 -- how a run ends
-abbrev pub RunEnds : {I : Type 0} → (I → Device) → (List ℕ → I → Type 0) → (List ℕ → Type 0) → List (List ℕ) → Sink → Sink
-    → ℕ → Type 0
+abbrev pub RunEnds : {I : Type 0} → (I → Device) → (List ℕ → I → Type 0) → (List ℕ → Type 0) → List (List ℕ) → Sink
+    → Sink → ℕ → Type 0
 RunEnds {I} device opens refuses words out out' status =
-    AskedAndChecked I device opens refuses words out out' status ⊎ (IsRefused words out out' status
+    RunsAsAsked I device opens refuses words out out' status ⊎ (IsRefused words out out' status
     ⊎ HasNoWords out out' status)
 
 -- the same over a std writer, of which only the bytes that it took can be known; a failed flush makes the status 8

@@ -1,6 +1,6 @@
 //! Phase 1: blocks and sizes (fsck(8)).
 
-ghost use Rattle.std.specs.Prelude.{◌≡◌, ◌+◌, ◌*◌, ◌≤◌, ◌∷◌, ◌==◌, not, OnOk, ℕ, List};
+ghost use Rattle.std.specs.Prelude.{◌≡◌, ◌+◌, ◌*◌, ◌≤◌, ◌∷◌, OnOk, ℕ, List};
 ghost use Rattle.ffs_report.specs.Progress.{progress};
 ghost use Rattle.ffs_phase.specs.Known.{ForBytes, IsContents};
 ghost use Rattle.ffs_phase.specs.Runs.{PhaseRuns};
@@ -9,9 +9,8 @@ ghost use Rattle.ffs_volume.specs.Report.Memory.{runs_limit};
 ghost use Rattle.ffs_volume.specs.Report.Whole.{run_count};
 ghost use Rattle.ffs_volume.specs.Messages.Kinds as messages;
 ghost use Rattle.ffs_volume.specs.Blocks.Owners.{owners_of};
-ghost use Rattle.ffs_maps.specs.Bits.{bits_of};
 ghost use Rattle.ffs_workspace.specs.Holds.{IsFresh, HoldsPhase1};
-ghost use Rattle.ffs_workspace.specs.Lengths.{set_count};
+ghost use Rattle.ffs_workspace.specs.Lengths.{has_dups};
 ghost use Rattle.ffs_workspace.specs.Ready.{IsReady};
 ghost use Rattle.ffs_claims.specs.Lines.{of_lines};
 
@@ -53,7 +52,7 @@ pub fn phase1<I: Image, W: Output>(
     ensures dups { OnOk result (ForBytes
         (λ bytes. IsContents (I.device image.old).contents bytes
         × IsFresh geometry.now.layout workspace.old)
-        (λ bytes. not (set_count (bits_of workspace.new.duplicates) == 0)
+        (λ bytes. has_dups workspace.new
         ≡ has_rescan geometry.now.layout (owners_of geometry.now.layout bytes))) }
     ensures runs { workspace.new.runs_seen ≤ runs_limit geometry.now.layout }
     ensures count { OnOk result (ForBytes

@@ -5,6 +5,6 @@ use Rattle.ffs_survey.specs.Cycles.{up_of}
 use Rattle.ffs_workspace.specs.declared.workspace.Workspace.{Workspace}
 use Rattle.ffs_workspace.specs.Holds.{bool_at}
 
--- the leaders are those of the cycles of its parents
+-- `flags` holds of the leaders alone, one for each cycle of parents
 pub record HasLeaders (w : Workspace) : Type 0 where
   pub cycles : (x : ℕ) → bool_at w.flags.items x ≡ is_leader_within (up_of w.parents.items) (length w.parents.items) x

@@ -124,11 +124,10 @@ impl Entries {
         self.sound = false;
     }
 
-    /// Takes the entry at `place`, if one is there.
+    /// Takes the entry of the current chunk at `place`, if one is there.
     #[inline(always)]
-    fn take(&mut self) -> Option<Named>
-        ensures entries { MatchOption result
-            ((b : List ℕ) → to_come b self.new ≡ to_come b self.old)
+    pub(crate) fn take(&mut self) -> Option<Named>
+        ensures entries { MatchOption result (self.new ≡ self.old)
             (λ named. (b : List ℕ) → to_come b self.old ≡ roled_of named (last_name self.new)
             ∷ to_come b self.new) }
         ensures left { MatchOption result

@@ -1,5 +1,5 @@
-//! Tests of the public calls of the crates of phases, and of those that read directories and make paths. They are here so that
-//! no crate is proved twice for them.
+//! Tests of the public calls of the crates of phases, and of those that read directories and make
+//! paths. They are here so that no crate is proved twice for them.
 #![tactic(auto)]
 
 #[cfg(test)]

@@ -1,5 +1,5 @@
-//! Tests of the whole check: its end, its reads, its memory. They are here so that no crate is proved twice for them, and so
-//! that the program uses no crate but the check.
+//! Tests of the whole check: its end, its reads, its memory. They are here so that no crate is
+//! proved twice for them, and so that the program uses no crate but the check.
 #![tactic(auto)]
 
 #[cfg(test)]

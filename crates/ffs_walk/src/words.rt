@@ -32,7 +32,8 @@ pub fn word(geometry: &Geometry, block: &[u8], index: u32) -> u32
     }
 }
 
-/// Whether a byte isn't zero. All are looked at, with no test of each that ends the loop: the compiler takes many at once.
+/// Whether a byte isn't zero. All are looked at, with no test of each that ends the loop: the machine
+/// takes many at once.
 #[inline(always)]
 fn any_set(bytes: &[u8]) -> bool
     ensures { result ≡ any_nonzero bytes.now }
@@ -57,8 +58,8 @@ pub fn any_from(geometry: &Geometry, block: &[u8], used: u32) -> bool
     any_set(&block[first..end])
 }
 
-/// Whether so many words from an index on are below `used`, and all of them are zero. The compiler knows how many bytes
-/// they have where it knows how many words.
+/// Whether `words` words from an index on are below `used`, and all of them are zero. It is inlined,
+/// so that a count that is known gives a length that is known.
 #[inline(always)]
 fn are_zeros(block: &[u8], index: u32, used: u32, words: u32) -> bool
     requires block { 4 * used ≤ length block.now }

@@ -1,7 +1,8 @@
 -- The lengths of the lists of a workspace, and its windows.
-use Rattle.std.specs.Prelude.{◌≡◌, ◌+◌, ◌*◌, ℕ, Bool, List, Option, vec_len, count_by}
+use Rattle.std.specs.Prelude.{◌≡◌, ◌+◌, ◌*◌, ◌==◌, ℕ, Bool, not, List, Option, vec_len, count_by}
 use Rattle.std.specs.Int.{div_ceil}
 use Rattle.ffs_volume.specs.declared.Layout.{Layout}
+use Rattle.ffs_maps.specs.Bits.{bits_of}
 use Rattle.ffs_walk.specs.Windows.{WindowHolds, BlocksHold}
 use Rattle.ffs_workspace.specs.declared.workspace.Workspace.{Workspace}
 use Rattle.ffs_workspace.specs.Tables.{IsTableOf}
@@ -13,6 +14,10 @@ inodes_of v = v.ncg * v.ipg
 -- how many bits of a map are set
 abbrev pub set_count : List Bool → ℕ
 set_count bits = count_by (λ b. b) bits
+
+-- some fragment has a DUP line, and its first claim isn't reported yet
+abbrev pub has_dups : Workspace → Bool
+has_dups w = not (set_count (bits_of w.duplicates) == 0)
 
 -- the workspace was made for the volume: all its lists have the lengths that it asks for
 pub record IsFor (v : Layout) (w : Workspace) : Type 0 where

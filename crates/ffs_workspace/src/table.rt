@@ -1,4 +1,4 @@
-//! Inodes, read by blocks of their table.
+//! Inodes, read by pieces of their table.
 
 ghost use Rattle.std.specs.Prelude.{◌≡◌, ◌*◌, ◌+◌, ◌<◌, ◌≤◌, IfOk, OnOk, IsTrue};
 ghost use Rattle.ffs_volume.specs.declared.constants.TheConstants.{DINODE_SIZE};
@@ -14,10 +14,11 @@ use ffs_walk::Window;
 /// How many inodes a sector of 512 bytes has.
 const SECTOR_INODES: u32 = 4;
 
-/// How many inodes eight sectors have: no block has less.
+/// How many inodes eight sectors have. No block has fewer.
 const PART_INODES: u32 = 32;
 
-/// Where the piece of the inode table is that has an inode, in bytes. Pieces of `count` inodes lie one after another.
+/// Where the piece of the inode table is that has an inode, in bytes from the start of the image. A
+/// piece has `count` inodes.
 #[inline(always)]
 #[tactic(auto, using(crate::proofs::Places::piece_inside, ffs_volume::proofs::AreaLaws::inode_group))]
 fn piece_place(geometry: &Geometry, number: u32, count: u32) -> u64
@@ -59,7 +60,7 @@ impl Table {
         }
     }
 
-    // Whether the window holds the block with an inode.
+    // Whether the window holds an inode.
     #[inline(always)]
     fn has(&self, number: u32) -> bool
         ensures { IsTrue result → HasInode self.now number }
@@ -74,7 +75,7 @@ impl Table {
         self.count = 0;
     }
 
-    // Reads the piece of the table that has an inode, of so many inodes.
+    // Reads the piece of the table, of `count` inodes, that has an inode.
     #[tactic(auto, using(crate::proofs::Places::piece_room))]
     fn read_piece<I: Image>(
         &mut self,
@@ -99,8 +100,8 @@ impl Table {
         Ok(())
     }
 
-    // Reads the block of the table that has an inode, unless it is the one that was read last.
-    // Returns where the inode's bytes are in the window.
+    // Reads the block of the table that has an inode, unless the window holds the inode. Returns where
+    // its bytes are in the window.
     #[inline(always)]
     #[tactic(auto, using(crate::proofs::Places::block_divides))]
     fn load<I: Image>(
@@ -122,7 +123,7 @@ impl Table {
         Ok(DINODE_SIZE * (number - self.first) as usize)
     }
 
-    /// The inode of a number (fs(5)). Its block of the table is read, unless it is the one that was read last.
+    /// The inode of a number (fs(5)). Its block of the table is read, unless the inode is held.
     ///
     /// # Errors
     /// A read of the image that failed.
@@ -143,10 +144,12 @@ impl Table {
         Ok(decode_inode(geometry.layout.order, &bytes[at..at + DINODE_SIZE]))
     }
 
-    // Whether an inode's sector begins where the inodes that are held end, as where the caller goes along the table.
-    // No answer depends on it: it decides only how much is read.
+    // Whether an inode's sector begins where the inodes that are held end, as where the caller goes
+    // along the table. No answer depends on it: it decides only how much is read.
     fn follows(&self, number: u32) -> bool {
-        number >= self.first && (number - self.first) / SECTOR_INODES == self.count / SECTOR_INODES
+        self.count > 0
+            && number >= self.first
+            && (number - self.first) / SECTOR_INODES == self.count / SECTOR_INODES
     }
 
     // How many inodes are read where one isn't held.
@@ -161,9 +164,9 @@ impl Table {
         }
     }
 
-    /// The inode of a number (fs(5)), as `inode` gives it. Where it isn't held, its sector is read and no whole
-    /// block, so that inodes which are far from one another cost few bytes. Eight sectors are read where it follows the
-    /// inodes that are held.
+    /// The inode of a number (fs(5)), as `inode` gives it. Where it isn't held, its sector is read and
+    /// no whole block, so that inodes which are far apart cost few bytes. Eight sectors are read where
+    /// its sector follows the inodes that are held.
     ///
     /// # Errors
     /// A read of the image that failed.

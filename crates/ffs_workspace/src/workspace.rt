@@ -1,11 +1,10 @@
 //! The memory of a check, taken once.
 
-ghost use Rattle.std.specs.Prelude.{◌≡◌, ◌+◌, ◌*◌, ◌≤◌, ◌==◌, not, [], ◌∷◌, IfOk, false};
+ghost use Rattle.std.specs.Prelude.{◌≡◌, ◌+◌, ◌*◌, ◌≤◌, [], ◌∷◌, IfOk, false};
 ghost use Rattle.ffs_layout.specs.declared.geometry.Geometry.{Geometry};
 ghost use Rattle.ffs_volume.specs.declared.Layout.{Layout};
 ghost use Rattle.ffs_memory.specs.Account.{Asks, IsFilled};
 ghost use Rattle.ffs_volume.specs.Report.Memory.{held_limit};
-ghost use Rattle.ffs_maps.specs.Bits.{bits_of};
 
 use crate::table::Table;
 use ffs_layout::Geometry;
@@ -17,7 +16,7 @@ use std::alloc::{AllocError, Global};
 /// The buffers that an image is read into.
 #[derive(Drop)]
 pub struct Windows {
-    /// One block of the inode table. In phase 5 summary records.
+    /// A piece of the inode table. In phase 5 summary records.
     pub table: Table,
     /// The indirect blocks that a walk is in.
     pub blocks: Blocks,
@@ -72,7 +71,7 @@ pub struct Workspace {
 }
 
 impl Workspace {
-    ghost use Rattle.ffs_workspace.specs.Lengths.{IsFor, held_of, set_count};
+    ghost use Rattle.ffs_workspace.specs.Lengths.{IsFor, has_dups, held_of};
     ghost use Rattle.ffs_workspace.specs.Ready.{IsNew};
 
     /// Takes all memory of a check of the volume from an allocator, and holds nothing yet.
@@ -152,7 +151,7 @@ impl Workspace {
 
     /// Whether some fragment has a DUP line and its first claim isn't reported yet.
     pub fn has_dups(&self) -> bool
-        ensures { result ≡ not (set_count (bits_of self.now.duplicates) == 0) }
+        ensures { result ≡ has_dups self.now }
     {
         self.duplicates.count_ones() != 0
     }

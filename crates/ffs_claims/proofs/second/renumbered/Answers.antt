@@ -111,12 +111,14 @@ returns g c = record {
       let n = c.args.number in
       let same : replayed_runs v c.index-cut.result.now fresh_replay
       (steps_of v c.in_ok-inode.inode bytes)
-      ≡ replayed_runs v (slice_index c.args.workspace.now.cut.items n) fresh_replay (steps_of v (inode_of v bytes n) bytes) =
+      ≡ replayed_runs v (slice_index c.args.workspace.now.cut.items n) fresh_replay
+      (steps_of v (inode_of v bytes n) bytes) =
       ap (λ (k : ℕ). replayed_runs v k fresh_replay (steps_of v c.in_ok-inode.inode bytes))
       (get_at c.args.workspace.now.cut c.args.number c.index-cut.result.now c.index-cut.ensures
       (omega (arith, c.requires.can.ready.made.cut, c.requires.can.number_fits)))
       ∙ ap (λ (i : Inode).
-      replayed_runs v (slice_index c.args.workspace.now.cut.items n) fresh_replay (steps_of v i bytes)) (c.in_ok-inode.ensures.inode bytes t) in
+      replayed_runs v (slice_index c.args.workspace.now.cut.items n) fresh_replay (steps_of v i bytes))
+      (c.in_ok-inode.ensures.inode bytes t) in
       omega (arith, c.rewalk.ensures.runs bytes (ap (λ d. d.contents) c.in_ok-inode.ensures.read ∙ t), same);
   left = record {
     image = rw (c.in_ok-inode.ensures.read) at c.rewalk.ensures.left.image;
