@@ -124,10 +124,11 @@ impl Entries {
         self.sound = false;
     }
 
-    /// Takes the entry of the current chunk at `place`, if one is there.
+    /// Takes the entry at `place`, if one is there.
     #[inline(always)]
-    pub(crate) fn take(&mut self) -> Option<Named>
-        ensures entries { MatchOption result (self.new ≡ self.old)
+    fn take(&mut self) -> Option<Named>
+        ensures entries { MatchOption result
+            ((b : List ℕ) → to_come b self.new ≡ to_come b self.old)
             (λ named. (b : List ℕ) → to_come b self.old ≡ roled_of named (last_name self.new)
             ∷ to_come b self.new) }
         ensures left { MatchOption result

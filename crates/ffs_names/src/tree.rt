@@ -73,10 +73,6 @@ impl<I: Image> Directories for Tree<'_, I> {
 
     #[inline(always)]
     fn next(&mut self) -> Result<Option<Named>, ImageFault> {
-        // Most entries are in the chunk in hand, and what a read needs isn't looked at for them.
-        if let Some(named) = self.entries.take() {
-            return Ok(Some(named));
-        }
         let windows = &mut *self.windows;
         self.entries
             .next(self.image, &mut windows.blocks, &mut windows.chunk)

@@ -3,7 +3,6 @@ use Rattle.std.proofs.lemmas.Result.{err_from_is_err_and}
 use Rattle.ffs_volume.specs.Disk.Numbers.{piece}
 use Rattle.ffs_names.specs.Readings.{rest}
 use Rattle.ffs_names.specs.RunCursors.{last_place}
-use Rattle.ffs_names.specs.Entering.{to_come}
 use Rattle.ffs_names.proofs.Continuing.{can_read, can_read_here}
 use Rattle.ffs_names.proofs.Entered.{none_came, chunk_came}
 use Rattle.ffs_names.proofs.Shaped.{shape_came, shape_ended, shape_same, fills_whole}
@@ -25,9 +24,8 @@ returns-in-None-2-clause-entry g c = λ b t.
     let o = (rw c.in-None-2.is at c.in_ok-next.ensures.chunk) b u in
     let none = c.in-None.ensures.left in
     record {
-      entries = sym (c.chunks.invariant.entries b t)
-          ∙ (sym (ap (to_come b) c.in-None.ensures.entries)
-          ∙ none_came s.first s.index s.order s.chunk s.place (rest b s.chunks) none o.chunks.0);
+      entries = sym (c.chunks.invariant.entries b t) ∙ (sym (c.in-None.ensures.entries b) ∙ none_came s.first
+          s.index s.order s.chunk s.place (rest b s.chunks) none o.chunks.0);
       shape = shape_ended s.sound s.order s.chunk c.next.new.chunk s.place (rest b s.chunks)
           (rest b c.next.new.self) _ _ none o.chunks.0 o.chunks.1 o.gap
           ∙ (shape_same b _ _ _ _ _ _ same.sound same.fills same.chunks ∙ c.chunks.invariant.shape b t);
@@ -53,7 +51,7 @@ chunks-preserved g c =
           chunk_came s.first s.index s.order s.chunks.walk.geometry.layout.order s.chunk s.place (rest b s.chunks)
           c.in-Some-2.offset c.next.new.chunk (rest b c.next.new.self)
           none (sym s.same_order) o.chunks
-          ∙ (ap (to_come b) c.in-None.ensures.entries ∙ i.entries b t);
+          ∙ (c.in-None.ensures.entries b ∙ i.entries b t);
       shape = λ b t.
           let o = (rw c.in-Some-2.is at c.in_ok-next.ensures.chunk) b (ap (λ d. d.contents) i.device ∙ t) in
           shape_came s.sound s.order s.chunks.walk.geometry.layout.order s.chunk s.place (rest b s.chunks)
