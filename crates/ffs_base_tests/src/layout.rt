@@ -12,7 +12,8 @@ fn fault(bytes: Vec<u8>, sector: Option<u32>) -> Option<SuperFault> {
     read_super(&mut image, sector).err()
 }
 
-// The outcomes of an image with a wrong magic in its first superblock, of one that is cut, and of one whose copy differs.
+// The outcomes of an image with a wrong magic in its first superblock, of one that is cut, and of
+// one whose copy differs.
 fn faults(order: Order, alloc: Global) -> Result<[Option<SuperFault>; 6], AllocError> {
     let mut wrong = base(order, alloc)?;
     put(order, wrong.as_mut_slice(), &[(8192 + 1372, 4, 0)]);
@@ -164,7 +165,8 @@ fn areas(rt: HostRuntime) -> Result<(), Fail> {
     Ok(())
 }
 
-// The inode of a directory of 4,402,345,721,856 bytes, with numbers below 0 and an address in the last place.
+// The inode of a directory of 4,402,345,721,856 bytes, with numbers below 0 and an address in the
+// last place.
 const INODE: [Number; 8] = [
     (0, 2, 0o40755),
     (2, 2, 0xfffe),

@@ -1,4 +1,5 @@
-//! A small volume: directory 3 below the root, with the file 4, and directories 5 and 6 that name each other.
+//! A small volume: directory 3 below the root, with the file 4, and directories 5 and 6 that name
+//! each other.
 ghost use Rattle.std.specs.Prelude.{◌≡◌, IfOk, vec_len};
 
 use ffs_image::ImageFault;

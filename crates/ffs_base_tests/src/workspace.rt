@@ -45,12 +45,14 @@ fn inode_in_a_part(rt: HostRuntime) -> Result<(), Fail> {
     let mut image = image_of(Order::Little, &ROOT, rt.alloc())?;
     let mut workspace = Workspace::new(rt.alloc(), &geometry)?;
     let table = &mut workspace.windows.table;
-    let root = table.inode_by_part(&geometry, 2, &mut image)?;
-    assert_eq!(rt; (root.mode, root.nlink, root.size), (0o40755, 2, 512));
-    assert_eq!(rt; (table.first, table.count), (0, 4));
-    let next = table.inode_by_part(&geometry, 4, &mut image)?;
+    let far = table.inode_by_part(&geometry, 8, &mut image)?;
+    assert_eq!(rt; (far.mode, far.nlink, far.size), (0, 0, 0));
+    assert_eq!(rt; (table.first, table.count), (8, 4));
+    let next = table.inode_by_part(&geometry, 12, &mut image)?;
     assert_eq!(rt; (next.mode, next.nlink, next.size), (0, 0, 0));
     assert_eq!(rt; (table.first, table.count), (0, 32));
+    let root = table.inode_by_part(&geometry, 2, &mut image)?;
+    assert_eq!(rt; (root.mode, root.nlink, root.size), (0o40755, 2, 512));
     Ok(())
 }
 

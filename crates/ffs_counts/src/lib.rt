@@ -1,6 +1,7 @@
 //! Phases 4 and 5 of the check (reference counts and cylinder groups, fsck(8)), and the summary.
 //!
-//! `phase4`, `phase5` and `summary` print their texts, from what the earlier phases left in the workspace.
+//! `phase4`, `phase5` and `summary` print their texts, from what the earlier phases left in the
+//! workspace.
 //!
 //! ```text
 //! phase4(&geometry, &mut image, &mut workspace, &mut report)?;

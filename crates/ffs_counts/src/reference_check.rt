@@ -38,7 +38,8 @@ fn is_dead(workspace: &Workspace, number: u32) -> bool
     suspect && number != ROOTINO && !workspace.named[place]
 }
 
-// Whether nothing is reported of an inode that is allocated: it isn't dead, and each of its links has a reference.
+// Whether nothing is reported of an inode that is allocated: it isn't dead, and each of its links
+// has a reference.
 fn is_right(workspace: &Workspace, number: u32) -> bool
     requires { HasPlace workspace.now number }
     ensures { result ≡ is_met workspace.now number }

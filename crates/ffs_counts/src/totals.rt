@@ -55,7 +55,8 @@ impl Totals {
         self.fragments += u64::from(summary.fragments);
     }
 
-    /// Whether a superblock has these totals: directories, free blocks, free inodes, free fragments.
+    /// Whether a superblock has these totals: directories, free blocks, free inodes, free
+    /// fragments.
     pub fn are(&self, found: &[i32; 4]) -> bool
         ensures { result ≡ has_totals found.now (total_of self.now) }
     {

@@ -14,8 +14,8 @@ use ffs_layout::Geometry;
 use ffs_workspace::Workspace;
 
 /// Finds how often each inode is referred to, which inodes an entry names, which directories are
-/// reached from the root, and their parents. Each directory is read once. In `flags` are directories
-/// of which nothing can be reported. The rest of the workspace stays as it was.
+/// reached from the root, and their parents. Each directory is read once. In `flags` are
+/// directories of which nothing can be reported. The rest of the workspace stays as it was.
 ///
 /// # Errors
 /// A read of the image that failed.

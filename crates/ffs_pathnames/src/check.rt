@@ -147,8 +147,8 @@ fn begin_directory<I: Image, W: Output>(
     Ok(examined)
 }
 
-/// Prints the lines of a directory that isn't of size 0: of its size, its chunks, its first two entries, and all its
-/// entries.
+/// Prints the lines of a directory that isn't of size 0: of its size, its chunks, its first two
+/// entries, and all its entries.
 ///
 /// # Errors
 /// A read of the image that failed, and a write of the report that failed.

@@ -50,8 +50,8 @@ fn keep_start(
     true
 }
 
-/// Looks at a directory once: at its entries, its chunks, its holes, and the chunk at the start of the file, which is
-/// put into `start`.
+/// Looks at a directory once: at its entries, its chunks, its holes, and the chunk at the start of
+/// the file, which is put into `start`.
 ///
 /// # Errors
 /// A read of the image that failed.

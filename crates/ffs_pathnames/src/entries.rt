@@ -110,8 +110,8 @@ pub fn report_entry<I: Image, W: Output>(
     Ok(())
 }
 
-/// Prints the lines of the entries of a chunk, and marks them as passed; `first` says that it is at the start of the
-/// file.
+/// Prints the lines of the entries of a chunk, and marks them as passed; `first` says that it is at
+/// the start of the file.
 ///
 /// # Errors
 /// A read of the image that failed, and a write of the report that failed.

@@ -90,7 +90,8 @@ fn say_shape<W: Output>(
     say_chunks(report, attr, path, gap, sound)
 }
 
-/// Says what is wrong with `.`: another number than the directory's own, or another type than a directory's.
+/// Says what is wrong with `.`: another number than the directory's own, or another type than a
+/// directory's.
 fn say_there<W: Output>(
     report: &mut Report<'_, W>,
     number: u32,
@@ -145,8 +146,8 @@ fn say_dot<W: Output>(
     }
 }
 
-/// Says what is wrong with `..`: another number than the parent's, where there is a parent, or another type than a
-/// directory's.
+/// Says what is wrong with `..`: another number than the parent's, where there is a parent, or
+/// another type than a directory's.
 fn say_above<W: Output>(
     report: &mut Report<'_, W>,
     parent: Option<u32>,

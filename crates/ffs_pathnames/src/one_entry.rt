@@ -66,7 +66,8 @@ pub fn read_attr<I: Image>(
     Ok(Attr::of(number, &inode))
 }
 
-/// Whether a verdict asks for the attributes of the inode that the entry names, and whether for its path.
+/// Whether a verdict asks for the attributes of the inode that the entry names, and whether for its
+/// path.
 fn asks(verdict: &Verdict) -> (bool, bool)
     ensures attr { result.0 ≡ asks_attr verdict.now }
     ensures directory { result.1 ≡ asks_path verdict.now }
@@ -100,8 +101,8 @@ fn gather_path<I: Image>(
     siblings.put_path(geometry, image, workspace, dir, text)
 }
 
-/// Gathers what the messages on an entry show: the two paths into `texts`, and the attributes of the inode that it
-/// names.
+/// Gathers what the messages on an entry show: the two paths into `texts`, and the attributes of
+/// the inode that it names.
 #[inline(always)]
 fn gather<I: Image>(
     geometry: &Geometry,

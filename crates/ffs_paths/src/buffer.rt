@@ -14,7 +14,8 @@ pub const LONGEST_NAME: usize = MAXPATHLEN - 2;
 
 /// The names of a path, each after a `/`, as far as they are known: the last one first.
 ///
-/// Where they take more than 1,024 bytes it keeps the longest end of whole names of at most 1,023 bytes.
+/// Where they take more than 1,024 bytes it keeps the longest end of whole names of at most 1,023
+/// bytes.
 #[derive(Drop)]
 pub struct PathBuffer {
     /// The names, at the end of the room for them.
@@ -105,7 +106,8 @@ impl PathBuffer {
         }
     }
 
-    /// Writes the path in place of a text: `/` where it has no names, and `?` before its end where it is cut.
+    /// Writes the path in place of a text: `/` where it has no names, and `?` before its end where
+    /// it is cut.
     pub fn put(&self, text: &mut PathText)
         ensures { (names : List (List ℕ)) → HoldsNames self.now names → text.new.items
             ≡ dir_path_of_names (Some names) }
@@ -123,8 +125,9 @@ impl PathBuffer {
         }
     }
 
-    /// Writes the path with a name more at its end in place of a text: all names where they have room, else `?` and
-    /// their longest end of at most 1,023 bytes, which is none where that name alone is longer.
+    /// Writes the path with a name more at its end in place of a text: all names where they have
+    /// room, else `?` and their longest end of at most 1,023 bytes, which is none where that name
+    /// alone is longer.
     pub fn put_with(&self, name: &[u8], text: &mut PathText)
         ensures { (names : List (List ℕ)) → HoldsNames self.now names → AreSingle names
             → text.new.items ≡ path_bytes (names ++ name.now ∷ []) }

@@ -24,9 +24,11 @@ pub struct NamePlace {
     pub length: usize,
 }
 
-/// Where a directory names the inodes of consecutive numbers: the name of its first plain entry for each.
+/// Where a directory names the inodes of consecutive numbers: the name of its first plain entry for
+/// each.
 ///
-/// Where many children are to be found in another order than that of the entries, one reading finds all of these.
+/// Where many children are to be found in another order than that of the entries, one reading finds
+/// all of these.
 #[derive(Drop)]
 pub struct ChildNames {
     /// The directory, or 0 for none.
@@ -98,8 +100,8 @@ impl ChildNames {
         }
     }
 
-    /// Reads a directory for the names of inodes, of the first number and the next. `cut` is how many offers it keeps
-    /// where duplicates cut it, else 0.
+    /// Reads a directory for the names of inodes, of the first number and the next. `cut` is how
+    /// many offers it keeps where duplicates cut it, else 0.
     ///
     /// # Errors
     /// A read of the image that failed.

@@ -9,7 +9,8 @@ use ffs_volume::constants::MAXPATHLEN;
 
 /// The path of a directory, and the path of the entry of it that was asked for last.
 ///
-/// What the paths of all entries begin with is written once: only the name changes from one entry to the next.
+/// What the paths of all entries begin with is written once: only the name changes from one entry
+/// to the next.
 #[derive(Drop)]
 pub struct EntryPaths {
     /// The path of the directory.

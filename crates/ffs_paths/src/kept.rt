@@ -48,8 +48,8 @@ impl DirectoryPath {
         }
     }
 
-    /// Writes the path of an entry of the directory in place of a text: leading names are dropped where 1,024 bytes
-    /// don't hold all, and the entry's own where they don't hold it.
+    /// Writes the path of an entry of the directory in place of a text: leading names are dropped
+    /// where 1,024 bytes don't hold all, and the entry's own where they don't hold it.
     pub fn put_entry(&self, name: &[u8], text: &mut PathText)
         ensures { (g : Graph) (dir : ℕ) → IsPathOf g dir self.now → text.new.items
             ≡ in_room (entry_path g dir name.now) }

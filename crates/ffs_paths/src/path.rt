@@ -36,8 +36,8 @@ pub fn directory_path<I: Image>(
     Ok(DirectoryPath { reached, names })
 }
 
-/// Writes the path of a directory, or of the entry `name` of it: the names from the root down, and `?` in place of what
-/// is not reached or has no room in 1,024 bytes.
+/// Writes the path of a directory, or of the entry `name` of it: the names from the root down, and
+/// `?` in place of what is not reached or has no room in 1,024 bytes.
 ///
 /// # Errors
 /// A read of the image that failed.

@@ -20,7 +20,8 @@ fn names(entry: Named, number: u32) -> bool
     is_plain(entry.role) && entry.number == number
 }
 
-/// Raises the number that bounds those of the entries that are passed, where one more has a greater one.
+/// Raises the number that bounds those of the entries that are passed, where one more has a greater
+/// one.
 #[inline(always)]
 fn raise(highest: &mut u32, entry: Named)
     ensures grows { highest.old ≤ highest.new }
@@ -54,7 +55,8 @@ impl Search {
         }
     }
 
-    /// A search from the first entry of a directory. `cut` is how many offers it keeps where duplicates cut it, else 0.
+    /// A search from the first entry of a directory. `cut` is how many offers it keeps where
+    /// duplicates cut it, else 0.
     ///
     /// # Errors
     /// A read of the image that failed.

@@ -45,11 +45,11 @@ pub enum FoundName {
     Missing,
 }
 
-/// A directory with the children whose paths are made: its own path, and a reading of its entries that continues from
-/// one child to the next.
+/// A directory with the children whose paths are made: its own path, and a reading of its entries
+/// that continues from one child to the next.
 ///
-/// Where children come in the order of numbers, and are named in this order too, each entry is read once for all of
-/// them. In another order one more reading finds the names of many children.
+/// Where children come in the order of numbers, and are named in this order too, each entry is read
+/// once for all of them. In another order one more reading finds the names of many children.
 #[derive(Drop)]
 pub struct Siblings {
     /// The directory, or 0 for none.
@@ -112,8 +112,8 @@ impl Siblings {
         Ok(())
     }
 
-    /// Begins a reading of a directory's entries, with its path, unless that is the one that is kept and it hasn't
-    /// passed the first entry that names a child.
+    /// Begins a reading of a directory's entries, with its path, unless that is the one that is
+    /// kept and it hasn't passed the first entry that names a child.
     fn continue_or_begin<I: Image>(
         &mut self,
         geometry: &Geometry,
@@ -140,14 +140,16 @@ impl Siblings {
         Ok(())
     }
 
-    /// Whether the path of the directory is kept, and its reading has passed the first entry that names a child.
+    /// Whether the path of the directory is kept, and its reading has passed the first entry that
+    /// names a child.
     fn has_passed(&self, parent: u32, child: u32) -> bool
         ensures { result ≡ true → self.now.parent ≡ parent }
     {
         self.parent == parent && self.search.highest >= child
     }
 
-    /// Finds where a directory names a child and the inodes of the next numbers, unless that is found already.
+    /// Finds where a directory names a child and the inodes of the next numbers, unless that is
+    /// found already.
     fn find_names<I: Image>(
         &mut self,
         geometry: &Geometry,

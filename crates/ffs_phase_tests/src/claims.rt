@@ -11,7 +11,8 @@ use ffs_workspace::Workspace;
 use std::alloc::{AllocError, Global};
 use std::test::Fail;
 
-// Words that are the same, one after the other: the place of the first one, how many they are, the word.
+// Words that are the same, one after the other: the place of the first one, how many they are, the
+// word.
 type Words = (usize, usize, u64);
 
 // The inode 2: a directory of 512 bytes in the fragment 36.
@@ -121,8 +122,8 @@ fn checked_with(
     Ok((text, runs, image.reads))
 }
 
-// What is reported of each image, and how many Runs its two looks see: the second one ends as soon as each DUP's first claim is
-// reported.
+// What is reported of each image, and how many Runs its two looks see: the second one ends as soon
+// as each DUP's first claim is reported.
 #[test]
 fn block_checks(rt: HostRuntime) -> Result<(), Fail> {
     let geometry = geometry(Order::Little)?;

@@ -11,8 +11,8 @@ use ffs_workspace::Workspace;
 use std::alloc::{AllocError, Global};
 use std::test::Fail;
 
-// Directories 2 to 8: 2 is reached, 3 has no parent, 4 is empty and without a name, 5 and 6 are each other's parents, 4 is
-// that of 7, and 3 that of 8.
+// Directories 2 to 8: 2 is reached, 3 has no parent, 4 is empty and without a name, 5 and 6 are
+// each other's parents, 4 is that of 7, and 3 that of 8.
 fn surveyed(alloc: Global, geometry: &Geometry) -> Result<Workspace, AllocError>
     requires { inodes_of geometry.now.layout ≡ 32 }
     ensures made { IfOk result (λ w. IsFor geometry.now.layout w) }

@@ -1,4 +1,5 @@
-//! The reference check, the group check and the summary of small volumes, as a reader would work them out by hand.
+//! The reference check, the group check and the summary of small volumes, as a reader would work
+//! them out by hand.
 
 ghost use Rattle.std.specs.Prelude.{◌≡◌, ℕ, List, Option, IfOk};
 ghost use Rattle.ffs_workspace.specs.Lengths.{IsFor, HoldWindows, inodes_of};
@@ -12,9 +13,10 @@ use ffs_workspace::Workspace;
 use std::alloc::{AllocError, Global};
 use std::test::Fail;
 
-// What phases before have found. Directory 2 has two references; the files 3 to 5 have none, none and two, and 3 is marked and
-// named by an entry; 6 is an empty directory and 7 a marked file, neither of them named. Each count is the references and
-// 32768 less the links, or 32769 where there is no link.
+// What phases before have found. Directory 2 has two references; the files 3 to 5 have none, none
+// and two, and 3 is marked and named by an entry; 6 is an empty directory and 7 a marked file,
+// neither of them named. Each count is the references and 32768 less the links, or 32769 where
+// there is no link.
 fn referred(alloc: Global, geometry: &Geometry) -> Result<Workspace, AllocError>
     requires { inodes_of geometry.now.layout ≡ 32 }
     ensures made { IfOk result (λ w. IsFor geometry.now.layout w) }
@@ -99,8 +101,8 @@ const ROOT: [Number; 21] = [
     (32780, 4, 6),
 ];
 
-// What the block check, the group check and the summary print of the root's volume with one number more, where the superblock
-// counts this many free fragments.
+// What the block check, the group check and the summary print of the root's volume with one number
+// more, where the superblock counts this many free fragments.
 fn counted(fragments: i32, number: Number, alloc: Global) -> Result<Vec<u8>, Fail> {
     let superblock = Super {
         geometry: geometry(Order::Little)?,
@@ -128,7 +130,8 @@ fn counted(fragments: i32, number: Number, alloc: Global) -> Result<Vec<u8>, Fai
     Ok(text)
 }
 
-// Nothing is wrong; the superblock, the summary record, the fragment map, the group's count of fragments, its magic.
+// Nothing is wrong; the superblock, the summary record, the fragment map, the group's count of
+// fragments, its magic.
 #[test]
 fn group_checks(rt: HostRuntime) -> Result<(), Fail> {
     let right: &[u8] = b"1 files, 1 used, 94 free (6 frags, 22 blocks, 6.3% fragmentation)\n";

@@ -1,4 +1,5 @@
-//! Roles of entries, as dir(5) has them, and the chunks of a directory whose blocks share a fragment.
+//! Roles of entries, as dir(5) has them, and the chunks of a directory whose blocks share a
+//! fragment.
 
 ghost use Rattle.std.specs.Prelude.{◌≡◌, ◌*◌, ◌≤◌};
 
@@ -64,7 +65,8 @@ fn chunks_of<I: Image>(
     Ok(found)
 }
 
-// Fragments 40 to 43 are the first block, and 40 is the second one. Where four offers are kept, the second one isn't.
+// Fragments 40 to 43 are the first block, and 40 is the second one. Where four offers are kept, the
+// second one isn't.
 #[test]
 fn same_fragment_twice(rt: HostRuntime) -> Result<(), Fail> {
     let geometry = geometry(Order::Little)?;

@@ -7,7 +7,8 @@ use ffs_samples::numbers;
 use ffs_volume::{Label, Role};
 use std::test::Fail;
 
-// Inode 2 is the root, 3 a file, 4 a directory, 6 a directory of size 0, 7 of no known type, 8 a marked file.
+// Inode 2 is the root, 3 a file, 4 a directory, 6 a directory of size 0, 7 of no known type, 8 a
+// marked file.
 const KINDS: [u8; 9] = [0, 0, 4, 8, 4, 0, 5, 15, 8];
 
 const MARKED: [bool; 9] = [false, false, false, false, false, false, false, false, true];
@@ -66,7 +67,8 @@ fn entries_of_the_root(rt: HostRuntime) -> Result<(), Fail> {
     Ok(())
 }
 
-// The second entry of the root that names a directory is one too many; a marked file is reported at the first alone.
+// The second entry of the root that names a directory is one too many; a marked file is reported at
+// the first alone.
 #[test]
 fn second_names(rt: HostRuntime) -> Result<(), Fail> {
     let parents = numbers(&PARENTS, rt.alloc())?;

@@ -1,5 +1,5 @@
-//! A small volume and its images, for the tests of the crates: one group of 128 fragments of 1,024 bytes. Its 32 inodes
-//! begin at byte 28,672, and its data at fragment 33.
+//! A small volume and its images, for the tests of the crates: one group of 128 fragments of 1,024
+//! bytes. Its 32 inodes begin at byte 28,672, and its data at fragment 33.
 //!
 //! ```text
 //! let geometry = geometry(Order::Little)?;

@@ -61,7 +61,8 @@ fn least_on(found: u32, parents: &FilledList<u32>) -> u32
     least
 }
 
-/// Walks up from `start`, and marks the least number of the cycle that the walk closes, if it closes one.
+/// Walks up from `start`, and marks the least number of the cycle that the walk closes, if it
+/// closes one.
 fn mark_from(
     start: u32,
     parents: &FilledList<u32>,
@@ -84,8 +85,8 @@ fn mark_from(
     leaders[least as usize] = true;
 }
 
-/// Marks each number that is the least on a cycle of parents, in time linear in their number. A parent of 0, or past
-/// the list, is none. What `stamp` and `leaders` held before is forgotten.
+/// Marks each number that is the least on a cycle of parents, in time linear in their number. A
+/// parent of 0, or past the list, is none. What `stamp` and `leaders` held before is forgotten.
 pub fn mark_leaders(parents: &FilledList<u32>, stamp: &mut FilledList<u32>, leaders: &mut [bool])
     requires { CanMark parents.now.items stamp.old.items leaders.old }
     ensures leads { (x : ℕ) → bool_at leaders.new x

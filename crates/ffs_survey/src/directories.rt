@@ -4,9 +4,9 @@ use ffs_image::ImageFault;
 
 /// Directories that are read one entry at a time.
 ///
-/// A reader is over something that no reading changes, its `base`. What the entries of directories are is said of each
-/// list of bytes that the base knows to be the image's; without such knowledge a reader hands out some entries, and
-/// still no more of a directory than `left` allows.
+/// A reader is over something that no reading changes, its `base`. What the entries of directories
+/// are is said of each list of bytes that the base knows to be the image's; without such knowledge
+/// a reader hands out some entries, and still no more of a directory than `left` allows.
 pub trait Directories {
     ghost use Rattle.std.specs.Prelude.{ℕ, ◌<◌, Bool, List, ◌≡◌, ◌≤◌, ◌^◌, [], ◌∷◌, MatchOption, IfSome, IfNone, IfOk, OnOk};
     ghost use Rattle.ffs_image.specs.Device.{Device};
@@ -81,7 +81,8 @@ pub trait Directories {
         ensures ended { IfOk result (λ o. IfNone o ((b : List ℕ) → knows (base self.old) b
             → ended self.new b)) };
 
-    /// Whether the directory that was begun, of which no entry is left, has a right size, no hole and sound chunks.
+    /// Whether the directory that was begun, of which no entry is left, has a right size, no hole
+    /// and sound chunks.
     ///
     /// # Errors
     /// A read of the image that failed.

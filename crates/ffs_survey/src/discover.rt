@@ -93,8 +93,9 @@ fn visit(
     top + 1
 }
 
-/// Whether a plain entry of a type can name an inode of that type: one that is allocated, of a known type and no directory
-/// of size 0. A directory mustn't be reached already, since its parent entry was before then.
+/// Whether a plain entry of a type can name an inode of that type: one that is allocated, of a
+/// known type and no directory of size 0. A directory mustn't be reached already, since its parent
+/// entry was before then.
 fn is_calm_kind(kind: u8, reached: bool) -> bool
     ensures { result ≡ is_calm_kind kind reached }
 {
@@ -118,7 +119,8 @@ fn is_calm_plain(entry: Named, kinds: &[u8], marked: &[bool], reached: &[bool]) 
     !marked[number] && kinds[number] == entry.kind && is_calm_kind(entry.kind, reached[number])
 }
 
-/// Whether nothing can be reported of the entry at an index of the directory `from`, whose parent is `above`.
+/// Whether nothing can be reported of the entry at an index of the directory `from`, whose parent
+/// is `above`.
 fn is_calm(
     entry: Named,
     index: u32,
@@ -145,7 +147,8 @@ fn is_calm(
     }
 }
 
-/// Flags the directory `from`, all of whose `count` entries are read, if these are calm and its shape is right.
+/// Flags the directory `from`, all of whose `count` entries are read, if these are calm and its
+/// shape is right.
 fn flag_calm<D: Directories>(
     directories: &mut D,
     from: u32,
@@ -170,8 +173,8 @@ fn flag_calm<D: Directories>(
     Ok(())
 }
 
-/// Reads the directory `from` of a level: counts its entries, discovers what they name, and flags it in `calm` if
-/// nothing can be reported of it.
+/// Reads the directory `from` of a level: counts its entries, discovers what they name, and flags
+/// it in `calm` if nothing can be reported of it.
 fn read_reached<D: Directories>(
     directories: &mut D,
     from: u32,
@@ -218,7 +221,8 @@ fn read_reached<D: Directories>(
     Ok(high)
 }
 
-/// Reads the directories that are in `queue[low..high]`, one after another, and puts what they discover after these.
+/// Reads the directories that are in `queue[low..high]`, one after another, and puts what they
+/// discover after these.
 ///
 /// # Errors
 /// A read of the image that failed.

@@ -45,8 +45,8 @@ pub fn is_counted(role: Role) -> bool
     }
 }
 
-/// Whether a number is that of a directory, by a list with a kind for each inode: 4 for a directory with a size, 5 for
-/// one of size 0. Inodes 0 and 1 are none.
+/// Whether a number is that of a directory, by a list with a kind for each inode: 4 for a directory
+/// with a size, 5 for one of size 0. Inodes 0 and 1 are none.
 pub fn is_dir(kinds: &[u8], number: usize) -> bool
     ensures { result ≡ dir_at kinds.now number }
 {

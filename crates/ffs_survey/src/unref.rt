@@ -28,8 +28,8 @@ pub fn is_dead(number: u32, kinds: &[u8], marked: &[bool], named: &[bool]) -> bo
     is_suspect(kinds, marked, number as usize) && number != ROOTINO && !named[number as usize]
 }
 
-/// Whether a directory is reported as unreferenced: neither reached nor dead, and without a parent, with a dead one, or
-/// the least number on a cycle of parents.
+/// Whether a directory is reported as unreferenced: neither reached nor dead, and without a parent,
+/// with a dead one, or the least number on a cycle of parents.
 pub fn is_unref(
     dir: u32,
     kinds: &[u8],

@@ -12,8 +12,8 @@ use ffs_volume::{End, SuperFault};
 use std::alloc::{AllocError, Global};
 use std::test::Fail;
 
-// What a volume holds whose root is all that there is: the group block at byte 24,576, its inode, its summary record, and the
-// root's own two entries.
+// What a volume holds whose root is all that there is: the group block at byte 24,576, its inode,
+// its summary record, and the root's own two entries.
 const ROOT: [Number; 25] = [
     (24580, 4, 0x090255),
     (24596, 4, 128),
@@ -42,7 +42,8 @@ const ROOT: [Number; 25] = [
     (36882, 1, 4),
 ];
 
-// The maps of the group, and the names of the two entries with the second one's length: the same bytes in both orders.
+// The maps of the group, and the names of the two entries with the second one's length: the same
+// bytes in both orders.
 const BYTES: [(usize, &[u8]); 4] = [
     (
         24744,

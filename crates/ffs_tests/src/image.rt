@@ -87,8 +87,8 @@ fn file_reads(rt: HostRuntime) -> Result<(), Fail> {
     Ok(())
 }
 
-// An image that isn't a whole number of sectors has its size, and opening and reading change nothing. A file that is
-// missing isn't made.
+// An image that isn't a whole number of sectors has its size, and opening and reading change
+// nothing. A file that is missing isn't made.
 #[test]
 fn file_is_left_as_it_is(rt: HostRuntime) -> Result<(), Fail> {
     fs::write(&rt, ODD, [7u8; 1001].as_slice())?;

@@ -1,4 +1,5 @@
-//! Each request of a run for memory refused in turn, and lists that are touched as far as they are set.
+//! Each request of a run for memory refused in turn, and lists that are touched as far as they are
+//! set.
 
 ghost use Rattle.std.specs.Prelude.{◌≡◌, IfOk, length, vec_len};
 

@@ -29,7 +29,8 @@ impl Blocks {
         }
     }
 
-    /// Reads the block at an address, a fragment, for a level of indirection, unless it is held there.
+    /// Reads the block at an address, a fragment, for a level of indirection, unless it is held
+    /// there.
     ///
     /// # Errors
     /// A read of the image that failed. The level holds nothing then.

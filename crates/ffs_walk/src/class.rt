@@ -54,7 +54,8 @@ fn is_short_symlink(geometry: &Geometry, inode: &Inode) -> bool
     inode.mode / 4096 == u16::from(DT_LNK) && inode.size < u64::from(geometry.layout.maxsymlinklen)
 }
 
-// Whether an address from an index on isn't zero. All fifteen are looked at, with no test of each that ends the loop: it is fast.
+// Whether an address from an index on isn't zero. All fifteen are looked at, with no test of each
+// that ends the loop: it is fast.
 #[inline(always)]
 fn any_nonzero(addresses: &[u32; 15], from: usize) -> bool
     ensures { result ≡ inodes.any_nonzero (drop from addresses.now) }

@@ -98,8 +98,8 @@ impl Frame {
         Ok(Item::Word { address, block })
     }
 
-    /// Passes over the words of zero that come next, where the block is held for the level and read before: how many there are.
-    /// Each means a gap, at every level.
+    /// Passes over the words of zero that come next, where the block is held for the level and read
+    /// before: how many there are. Each means a gap, at every level.
     #[inline(always)]
     pub fn skip_gaps(&mut self, geometry: &Geometry, level: usize, blocks: &Blocks) -> u32
         requires words { self.old.used ≤ geometry.now.layout.nindir }

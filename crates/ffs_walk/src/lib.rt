@@ -2,8 +2,8 @@
 //!
 //! `Walk::next` returns the steps of the definition one by one: Runs of fragments, Gaps (holes),
 //! and Tails (indirect blocks with an address past the end of the file). It reads each indirect
-//! block once, into one of three buffers of `Blocks`. `Keeping` says, step after step, which of them
-//! an inode keeps that a dup offer cut.
+//! block once, into one of three buffers of `Blocks`. `Keeping` says, step after step, which of
+//! them an inode keeps, by where its dup offers cut it.
 //!
 //! ```text
 //! let mut walk = Walk::start(geometry, &inode);

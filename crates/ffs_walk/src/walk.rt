@@ -13,7 +13,8 @@ use ffs_layout::Geometry;
 use ffs_volume::constants::NDADDR;
 use ffs_volume::{Class, Inode, Step};
 
-/// A walk over the blocks of an inode: its position in the inode's own addresses, and in one indirect block of each level.
+/// A walk over the blocks of an inode: its position in the inode's own addresses, and in one
+/// indirect block of each level.
 #[derive(Clone, Copy, Debug)]
 pub struct Walk {
     /// The volume.
@@ -26,7 +27,8 @@ pub struct Walk {
     pub next: u32,
     /// How many of its own addresses are used.
     pub used: u32,
-    /// The inode's addresses: twelve direct ones, and a single, a double and a triple indirect one (fs(5)).
+    /// The inode's addresses: twelve direct ones, and a single, a double and a triple indirect one
+    /// (fs(5)).
     pub addresses: [u32; 15],
     /// The single indirect block that the walk is in.
     pub single: Frame,
@@ -264,7 +266,8 @@ impl Walk {
         self.used = 0;
     }
 
-    /// The next step, and `None` after the last one. An indirect block is read whole, once, when its first word is reached.
+    /// The next step, and `None` after the last one. An indirect block is read whole, once, when
+    /// its first word is reached.
     ///
     /// # Errors
     /// A read of an indirect block that failed. The walk is over then.
@@ -291,8 +294,8 @@ impl Walk {
         }
     }
 
-    /// The index of the first of the inode's addresses from the next one on that isn't zero, and how many are used where there is
-    /// none.
+    /// The index of the first of the inode's addresses from the next one on that isn't zero, and
+    /// how many are used where there is none.
     #[inline(always)]
     fn zero_addresses_end(&self) -> u32
         ensures { EndsZeroAddresses self.now result }
@@ -305,7 +308,8 @@ impl Walk {
         self.used
     }
 
-    /// Passes over the inode's addresses of zero that come next, where the walk is in no indirect block: how many there are.
+    /// Passes over the inode's addresses of zero that come next, where the walk is in no indirect
+    /// block: how many there are.
     #[inline(never)]
     fn skip_zero_addresses(&mut self, blocks: &Blocks) -> u32
         requires { IsAtTop self.old }
@@ -317,8 +321,8 @@ impl Walk {
         gaps
     }
 
-    /// Passes over the gaps that come next in the indirect block that the walk is in, or at the inode's own addresses where it
-    /// is in none: how many there are.
+    /// Passes over the gaps that come next in the indirect block that the walk is in, or at the
+    /// inode's own addresses where it is in none: how many there are.
     #[inline(always)]
     pub fn skip_gaps(&mut self, blocks: &Blocks) -> u32
         requires room { HasRoom self.old.geometry.layout blocks.now }
@@ -363,7 +367,8 @@ impl Walk {
         word(&self.geometry, block, self.single.next)
     }
 
-    /// Passes over the next word of the single indirect block that the walk is in, where the block was read before.
+    /// Passes over the next word of the single indirect block that the walk is in, where the block
+    /// was read before.
     #[inline(always)]
     pub fn pass_word(&mut self)
         requires read { self.old.single.fresh ≡ false }
@@ -394,7 +399,8 @@ impl Walk {
         }
     }
 
-    /// A walk over the blocks of an inode. Only a file or a directory has steps, and no device or short symlink.
+    /// A walk over the blocks of an inode. Only a file or a directory has steps, and no device or
+    /// short symlink.
     pub fn start(geometry: &Geometry, inode: &Inode) -> Walk
         ensures { IsWalkOf geometry.now inode.now result }
     {
@@ -423,7 +429,8 @@ impl Walk {
         }
     }
 
-    /// Begins a walk over the blocks of another inode of the same volume, as `of_class` does, in place, if this is its class.
+    /// Begins a walk over the blocks of another inode of the same volume, as `of_class` does, in
+    /// place, if this is its class.
     #[inline(always)]
     #[tactic(auto, unfolding(ffs_volume::specs::Blocks::Steps::steps_of))]
     pub fn restart(&mut self, inode: &Inode, class: Class)

@@ -32,8 +32,8 @@ pub fn word(geometry: &Geometry, block: &[u8], index: u32) -> u32
     }
 }
 
-/// Whether a byte isn't zero. All are looked at, with no test of each that ends the loop: the machine
-/// takes many at once.
+/// Whether a byte isn't zero. All are looked at, with no test of each that ends the loop: the
+/// machine takes many at once.
 #[inline(always)]
 fn any_set(bytes: &[u8]) -> bool
     ensures { result ≡ any_nonzero bytes.now }
@@ -45,7 +45,8 @@ fn any_set(bytes: &[u8]) -> bool
     bits != 0
 }
 
-/// Whether a word of a block from an index on isn't zero. So it is in either byte order where one of its bytes isn't.
+/// Whether a word of a block from an index on isn't zero. So it is in either byte order where one
+/// of its bytes isn't.
 #[inline(never)]
 #[tactic(auto, using(crate::proofs::WordBytes::any_byte_from))]
 pub fn any_from(geometry: &Geometry, block: &[u8], used: u32) -> bool
@@ -58,8 +59,8 @@ pub fn any_from(geometry: &Geometry, block: &[u8], used: u32) -> bool
     any_set(&block[first..end])
 }
 
-/// Whether `words` words from an index on are below `used`, and all of them are zero. It is inlined,
-/// so that a count that is known gives a length that is known.
+/// Whether `words` words from an index on are below `used`, and all of them are zero. It is
+/// inlined, so that a count that is known gives a length that is known.
 #[inline(always)]
 fn are_zeros(block: &[u8], index: u32, used: u32, words: u32) -> bool
     requires block { 4 * used ≤ length block.now }
@@ -75,8 +76,8 @@ fn are_zeros(block: &[u8], index: u32, used: u32, words: u32) -> bool
     !any_set(&block[first..end])
 }
 
-/// The first index from `next` on whose word isn't zero, and `used` where there is none below it. Where a few words are
-/// zero, many are looked at together.
+/// The first index from `next` on whose word isn't zero, and `used` where there is none below it.
+/// Where a few words are zero, many are looked at together.
 pub fn zeros_end(geometry: &Geometry, block: &[u8], next: u32, used: u32) -> u32
     requires block { length block.now ≡ geometry.now.layout.bsize }
     requires words { (next ≤ used) × (used ≤ geometry.now.layout.nindir) }

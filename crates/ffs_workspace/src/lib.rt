@@ -1,7 +1,8 @@
 //! The one workspace of a check: all its memory, and what it holds between the phases.
 //!
-//! `Workspace::new` is the only allocation of a check. Its lists have the lengths that the geometry asks
-//! for, `held` is within the stated bound, and its windows hold what the image gives at a known place.
+//! `Workspace::new` is the only allocation of a check. Its lists have the lengths that the geometry
+//! asks for, `held` is within the stated bound, and its windows hold what the image gives at a
+//! known place.
 //!
 //! ```text
 //! let mut workspace = Workspace::new(alloc, &geometry)?;

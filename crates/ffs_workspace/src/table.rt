@@ -100,8 +100,8 @@ impl Table {
         Ok(())
     }
 
-    // Reads the block of the table that has an inode, unless the window holds the inode. Returns where
-    // its bytes are in the window.
+    // Reads the block of the table that has an inode, unless the window holds the inode. Returns
+    // where its bytes are in the window.
     #[inline(always)]
     #[tactic(auto, using(crate::proofs::Places::block_divides))]
     fn load<I: Image>(
@@ -145,11 +145,10 @@ impl Table {
     }
 
     // Whether an inode's sector begins where the inodes that are held end, as where the caller goes
-    // along the table. No answer depends on it: it decides only how much is read.
+    // along the table. Where none is held they end at `first`. No answer depends on it: it decides
+    // only how much is read.
     fn follows(&self, number: u32) -> bool {
-        self.count > 0
-            && number >= self.first
-            && (number - self.first) / SECTOR_INODES == self.count / SECTOR_INODES
+        number >= self.first && (number - self.first) / SECTOR_INODES == self.count / SECTOR_INODES
     }
 
     // How many inodes are read where one isn't held.
@@ -164,9 +163,9 @@ impl Table {
         }
     }
 
-    /// The inode of a number (fs(5)), as `inode` gives it. Where it isn't held, its sector is read and
-    /// no whole block, so that inodes which are far apart cost few bytes. Eight sectors are read where
-    /// its sector follows the inodes that are held.
+    /// The inode of a number (fs(5)), as `inode` gives it. Where it isn't held, its sector is read
+    /// and no whole block, so that inodes which are far apart cost few bytes. Eight sectors are
+    /// read where its sector follows the inodes that are held.
     ///
     /// # Errors
     /// A read of the image that failed.

@@ -33,7 +33,8 @@ pub struct Windows {
 pub struct Workspace {
     /// The fragments that are reserved or claimed.
     pub claimed: FragmentMap,
-    /// The fragments with a DUP line. Phase 1b clears each of which it has reported the first claim.
+    /// The fragments with a DUP line. Phase 1b clears each of which it has reported the first
+    /// claim.
     pub duplicates: FragmentMap,
     /// What each inode is (`Kind`).
     pub kinds: FixedList<u8>,

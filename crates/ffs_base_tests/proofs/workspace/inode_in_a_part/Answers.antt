@@ -1,4 +1,4 @@
-use Rattle.std.proofs.Common.{◌≡◌, rules, sym, subst}
+use Rattle.std.proofs.Common.{◌≡◌, ◌∙◌, rules, sym, subst}
 use Rattle.std.specs.Prelude.{◌*◌, ◌≤◌}
 use Rattle.ffs_image.specs.Device.{Device}
 use Rattle.ffs_base_tests.proofs.workspace.inode_in_a_part.Goals as goal
@@ -14,7 +14,17 @@ pub inode_by_part-requires-2-clause-ready : goal.inode_by_part-requires-2-clause
 inode_by_part-requires-2-clause-ready g c =
     let v = c.in_ok-geometry.geometry.layout in
     record {
-      volume = subst (λ (d : Device). v.size * v.fsize ≤ d.size) (sym c.in_ok-root.ensures.read) (search rules);
+      volume = subst (λ (d : Device). v.size * v.fsize ≤ d.size) (sym c.in_ok-far.ensures.read) (search rules);
       made = c.inode_by_part.ensures.kept.made;
       holds = c.inode_by_part.ensures.kept.holds;
+    }
+
+pub inode_by_part-requires-3-clause-ready : goal.inode_by_part-requires-3-clause-ready
+inode_by_part-requires-3-clause-ready g c =
+    let v = c.in_ok-geometry.geometry.layout in
+    record {
+      volume = subst (λ (d : Device). v.size * v.fsize ≤ d.size)
+          (sym (c.in_ok-next.ensures.read ∙ c.in_ok-far.ensures.read)) (search rules);
+      made = c.inode_by_part-2.ensures.kept.made;
+      holds = c.inode_by_part-2.ensures.kept.holds;
     }
