@@ -1,12 +1,14 @@
 -- The way from a directory up to the root.
 use Rattle.std.proofs.Common.{◌≡◌, ◌≢◌, ℕ, zero, suc, ◌+◌, ◌<◌, ◌≤◌, ◌==◌, true, false, List, [], ◌∷◌, ◌++◌, length}
 use Rattle.std.proofs.Common.{drop, Option, Some, None, refl, sym, ap, subst, ◌∙◌, arith}
-use Rattle.std.specs.Prelude.{◌*◌, is_some, cond, option_map, option_and_then}
-use Rattle.std.specs.List.{list_any}
+use Rattle.std.specs.Prelude.{◌*◌, ◌&&◌, Bool, is_some, cond, option_map, option_and_then}
+use Rattle.std.specs.List.{list_any, filter}
 use Rattle.std.proofs.lemmas.List.{drop_all}
 use Rattle.std.proofs.lemmas.Bool.{both_ways, and_parts, ne_eqb, cond-false, eq-eqb}
 use Rattle.ffs_volume.specs.declared.Layout.{Layout}
-use Rattle.ffs_volume.specs.Directories.Roles.{RoledEntry}
+use Rattle.ffs_volume.specs.declared.Role.{Role}
+use Rattle.ffs_volume.specs.declared.Role.TheVariants.{Empty, Dot, Dotdot, Extra, Plain}
+use Rattle.ffs_volume.specs.Directories.Roles.{RoledEntry, is_plain}
 use Rattle.ffs_volume.specs.Directories.Volumes.{volume_of, volume_with}
 use Rattle.ffs_volume.specs.Directories.Graph.{Graph, level, reached, is_naming_entry, is_naming_dir, parent}
 use Rattle.ffs_volume.specs.Directories.Graph.{parent_entry_index}
@@ -19,6 +21,7 @@ use Rattle.ffs_survey.specs.ParentLaws.{parent_above, root_level}
 use Rattle.ffs_paths.specs.declared.buffer.PathBuffer.{PathBuffer}
 use Rattle.ffs_paths.specs.Buffers.{HoldsNames}
 use Rattle.ffs_volume.proofs.PathBound.{path_text-fits}
+use Rattle.ffs_names.specs.Entering.{is_filled}
 use Rattle.ffs_paths.specs.Climbing.{in_room, name_in}
 use Rattle.ffs_paths.specs.DirectoryPaths.{HoldsPath, IsPathOf}
 use Rattle.ffs_paths.specs.Slashes.{AreSingle}
@@ -44,6 +47,36 @@ name_in-past d e es h =
     ap (λ b. name_of (option_and_then (nth_roled (e ∷ es))
     (cond b (Some 0) (option_map suc (first_index (is_naming_entry d) es))))) h ∙ past e es (first_index
     (is_naming_entry d) es)
+
+-- an entry that is empty names nothing
+not_plain : (r : Role) → is_filled r ≡ false → is_plain r ≡ false
+not_plain Plain h = h
+not_plain Dot h = refl
+not_plain Dotdot h = refl
+not_plain Extra h = refl
+not_plain Empty h = refl
+
+filled_on : (d : ℕ) (e : RoledEntry) (es : List RoledEntry)
+    → name_in d (filter (λ x. is_filled x.role) es) ≡ name_in d es
+    → name_in d (filter (λ x. is_filled x.role) (e ∷ es)) ≡ name_in d (e ∷ es)
+filled_on d e es same = go (is_filled e.role) refl (is_naming_entry d e) refl
+  where
+    fs : List RoledEntry
+    fs = filter (λ x. is_filled x.role) es
+
+    go : (p : Bool) → is_filled e.role ≡ p → (n : Bool) → is_naming_entry d e ≡ n
+        → name_in d (filter (λ x. is_filled x.role) (e ∷ es)) ≡ name_in d (e ∷ es)
+    go true p true n = ap (λ z. name_in d (cond z (e ∷ fs) fs)) p
+        ∙ (name_in-here d e fs n ∙ sym (name_in-here d e es n))
+    go true p false n = ap (λ z. name_in d (cond z (e ∷ fs) fs)) p
+        ∙ (name_in-past d e fs n ∙ (same ∙ sym (name_in-past d e es n)))
+    go false p n h = ap (λ z. name_in d (cond z (e ∷ fs) fs)) p
+        ∙ (same ∙ sym (name_in-past d e es (ap (λ z. z && (e.entry.number == d)) (not_plain e.role p))))
+
+-- the first entry that names an inode isn't empty
+pub name_in-filled : (d : ℕ) (es : List RoledEntry) → name_in d (filter (λ x. is_filled x.role) es) ≡ name_in d es
+name_in-filled d [] = refl
+name_in-filled d (e ∷ es) = filled_on d e es (name_in-filled d es)
 
 -- the climb from d, of level k, has reached a directory, with the names below it
 pub record IsOnWay (g : Graph) (k d at step : ℕ) (p : PathBuffer) : Type 0 where

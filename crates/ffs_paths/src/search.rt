@@ -4,8 +4,8 @@ ghost use Rattle.std.specs.Prelude.{◌≡◌, ◌*◌, ◌<◌, ◌≤◌, ℕ,
 ghost use Rattle.ffs_image.specs.Device.{ForContents};
 ghost use Rattle.ffs_volume.specs.Directories.Graph.{is_naming_entry};
 ghost use Rattle.ffs_survey.specs.Reading.{roled_of};
-ghost use Rattle.ffs_names.specs.Entering.{to_come, last_name};
-ghost use Rattle.ffs_paths.specs.Climbing.{AreOpen, ReadsOpen};
+ghost use Rattle.ffs_names.specs.Entering.{to_come, left, last_name};
+ghost use Rattle.ffs_paths.specs.Climbing.{AreOpen, ReadsOpen, name_in};
 
 use ffs_image::{Image, ImageFault};
 use ffs_layout::Geometry;
@@ -29,6 +29,19 @@ fn raise(highest: &mut u32, entry: Named)
 {
     if is_plain(entry.role) && entry.number > *highest {
         *highest = entry.number;
+    }
+}
+
+/// Passes the empty entries that come next, after one that is empty too.
+#[inline(always)]
+fn pass_empty(entries: &mut Entries, entry: Named)
+    ensures names { (b : List ℕ) (x : ℕ) → name_in x (to_come b entries.new)
+        ≡ name_in x (to_come b entries.old) }
+    ensures left { left entries.new ≤ left entries.old }
+    ensures geometry { entries.new.chunks.walk.geometry ≡ entries.old.chunks.walk.geometry }
+{
+    if entry.number == 0 {
+        entries.pass_empty();
     }
 }
 
@@ -106,6 +119,7 @@ impl Search {
             if names(entry, number) {
                 return Ok(true);
             }
+            pass_empty(&mut self.entries, entry);
         }
         self.entries.stop();
         Ok(false)

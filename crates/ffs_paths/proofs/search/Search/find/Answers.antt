@@ -44,16 +44,17 @@ entries-preserved g c =
           let u = ap (λ d. d.contents) i.device ∙ t in
           let o = rw c.in-Some.is at c.in_ok-entry.ensures.entry in
           let e = roled_of c.in-Some.entry (last_name c.next.new.self) in
-          i.name b t ∙ (ap (name_in c.args.number) (o b u).entries ∙ name_in-past c.args.number e
-          (to_come b c.next.new.self) (sym c.names.ensures ∙ c.if-names.false));
+          i.name b t ∙ (ap (name_in c.args.number) (o b u).entries ∙ (name_in-past c.args.number e
+          (to_come b c.next.new.self) (sym c.names.ensures ∙ c.if-names.false)
+          ∙ sym (c.pass_empty.ensures.names b c.args.number)));
       above = λ b t x h.
           let u = ap (λ d. d.contents) i.device ∙ t in
           let o = rw c.in-Some.is at c.in_ok-entry.ensures.entry in
           let e = roled_of c.in-Some.entry (last_name c.next.new.self) in
-          i.above b t x (omega arith) ∙ (ap (name_in x) (o b u).entries ∙ name_in-past x e
-          (to_come b c.next.new.self) (c.raise.ensures.passed x h));
+          i.above b t x (omega arith) ∙ (ap (name_in x) (o b u).entries ∙ (name_in-past x e
+          (to_come b c.next.new.self) (c.raise.ensures.passed x h) ∙ sym (c.pass_empty.ensures.names b x)));
       grows = omega arith;
-      geometry = c.next.ensures.leaves.geometry ∙ i.geometry;
+      geometry = c.pass_empty.ensures.geometry ∙ (c.next.ensures.leaves.geometry ∙ i.geometry);
       windows = record {
         volume = ready.walk.volume;
         table = i.windows.table;
@@ -84,7 +85,10 @@ pub next-requires : goal.next-requires
 next-requires g c = can_next _ _ _ _ c.entries.invariant.geometry c.entries.invariant.windows
 
 pub entries-smaller : goal.entries-smaller
-entries-smaller g c = rw c.in-Some.is at c.in_ok-entry.ensures.left
+entries-smaller g c =
+    let next = rw c.in-Some.is at c.in_ok-entry.ensures.left in
+    let pass = c.pass_empty.ensures.left in
+    omega (arith, next, pass)
 
 pub returns-then-names-clause-on : goal.returns-then-names-clause-on
 returns-then-names-clause-on g c =
