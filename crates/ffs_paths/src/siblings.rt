@@ -150,6 +150,8 @@ impl Siblings {
 
     /// Finds where a directory names a child and the inodes of the next numbers, unless that is
     /// found already.
+    // It isn't inlined, since its frame has room for two tables, and few searches need it.
+    #[inline(never)]
     fn find_names<I: Image>(
         &mut self,
         geometry: &Geometry,
