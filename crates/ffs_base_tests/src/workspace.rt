@@ -1,8 +1,9 @@
 //! What a workspace holds when it is made, in bytes and in bits.
 
 use ffs_layout::Order;
-use ffs_samples::{Number, geometry, image_of};
-use ffs_workspace::{Workspace, links_start};
+use ffs_samples::{Number, geometry, image_of, inode};
+use ffs_volume::Class;
+use ffs_workspace::{Workspace, cut_in, links_start, note_of, place_in};
 use std::test::Fail;
 
 // Two maps of two words, 25 bytes for each inode, and six blocks.
@@ -54,6 +55,22 @@ fn inode_in_a_part(rt: HostRuntime) -> Result<(), Fail> {
     let root = table.inode_by_part(&geometry, 2, &mut image)?;
     assert_eq!(rt; (root.mode, root.nlink, root.size), (0o40755, 2, 512));
     Ok(())
+}
+
+// A directory of one chunk is noted by its address, from 2,147,483,776 on. Where duplicates cut an
+// inode, its cut is noted.
+#[test]
+fn notes(rt: HostRuntime) {
+    let mut directory = inode(0o40755, 512);
+    directory.addresses[0] = 36;
+    assert_eq!(rt; note_of(Class::Dir, &directory, 0), 2_147_483_812);
+    assert_eq!(rt; note_of(Class::Dir, &directory, 11), 11);
+    assert_eq!(rt; note_of(Class::File, &directory, 0), 0);
+    directory.size = 1024;
+    assert_eq!(rt; note_of(Class::Dir, &directory, 0), 0);
+    assert_eq!(rt; (cut_in(11), cut_in(2_147_483_812)), (11, 0));
+    assert_eq!(rt; place_in(11), None);
+    assert_eq!(rt; place_in(2_147_483_812), Some(36));
 }
 
 // A count of references starts below 32768 by the links, and at 32769 where there is none.

@@ -1,12 +1,14 @@
 -- The inodes one after another.
 use Rattle.std.proofs.Common.{◌≡◌, ◌⊎◌, inl, inr, ℕ, zero, suc, ◌+◌, ◌-◌, ◌<◌, ◌≤◌, Bool, true, false, ◌||◌}
 use Rattle.std.proofs.Common.{if◌then◌else◌, nat_lt, List, [], ◌∷◌, ◌++◌, length, map, get_or, replicate, min}
+use Rattle.std.specs.Prelude.{◌&&◌, ◌==◌, slice_index}
 use Rattle.std.proofs.Common.{slice_set, arith, refl, ap, ◌∙◌, sym}
 use Rattle.std.specs.List.{range_with_len}
 use Rattle.std.proofs.lemmas.List.{get_or-set_same, get_or-set_other}
 use Rattle.std.proofs.lemmas.Bool.{cases_lt, cases_eq}
 use Rattle.std.proofs.lemmas.Bool.Decides.{nat_tests}
 use Rattle.ffs_volume.specs.declared.Layout.{Layout}
+use Rattle.ffs_volume.specs.declared.Inode.{Inode}
 use Rattle.ffs_volume.specs.declared.Class.TheVariants.{Free}
 use Rattle.ffs_volume.specs.Blocks.Inodes.{inode_of, class_of, is_unknown}
 use Rattle.ffs_volume.specs.Blocks.Owners.{Owner, owner_of, owners_of}
@@ -14,6 +16,7 @@ use Rattle.ffs_volume.specs.Blocks.Claims.{Claims, no_claims, after_owner, after
 use Rattle.ffs_volume.specs.Blocks.BlockCheck.{owner_lines, lines_of_owners, phase1_lines}
 use Rattle.ffs_volume.specs.Blocks.KeptSteps.{claims_before}
 use Rattle.ffs_volume.specs.Encodings.Replay.{cut_of, cut_at}
+use Rattle.ffs_workspace.specs.Notes.{first_noted, note_of, note_at}
 use Rattle.ffs_volume.specs.Directories.Volumes.{is_inode_number}
 use Rattle.ffs_volume.specs.Encodings.Kinds.{kind_of, kind_at}
 use Rattle.ffs_volume.specs.Encodings.Links.{start_of, start_at}
@@ -189,6 +192,28 @@ cut_in v bytes x s s' inside before now =
     (now ∙ ap (λ (t : Claims). after_owner v t (owner_of v bytes x)) before)
     ∙ sym (ap (λ (b : Bool). if b then min (cut_of (after_owner v (claims_before v bytes x) (owner_of v bytes x)))
     4294967295 else 0) inside)
+
+note_free : (i : Inode) (cut : ℕ) → note_of Free i cut ≡ cut
+note_free i cut = go (cut == 0)
+  where
+    go : (b : Bool) → (if b && false then first_noted + slice_index i.addresses 0 else cut) ≡ cut
+    go true = refl
+    go false = refl
+
+pub note_out : (v : Layout) (bytes : List ℕ) (x : ℕ) → is_inode_number v x ≡ false → note_at v bytes x ≡ 0
+unfolding note_at
+note_out v bytes x out = ap
+    (λ (b : Bool). note_of (if b then class_of v (inode_of v bytes x) else Free) (inode_of v bytes x) (cut_at v bytes x)) out
+    ∙ (note_free (inode_of v bytes x) (cut_at v bytes x) ∙ cut_out v bytes x out)
+
+pub note_in : (v : Layout) (bytes : List ℕ) (x : ℕ) (s s' : Claims) → is_inode_number v x ≡ true →
+    s ≡ claims_before v bytes x → s' ≡ after_owner v s (owner_of v bytes x) →
+    note_of (class_of v (inode_of v bytes x)) (inode_of v bytes x) (min (cut_of s') 4294967295) ≡ note_at v bytes x
+unfolding note_at
+note_in v bytes x s s' inside before now =
+    ap (note_of (class_of v (inode_of v bytes x)) (inode_of v bytes x)) (cut_in v bytes x s s' inside before now)
+    ∙ sym (ap (λ (b : Bool). note_of (if b then class_of v (inode_of v bytes x) else Free) (inode_of v bytes x)
+    (cut_at v bytes x)) inside)
 
 -- the lines of all inodes
 pub first_lines : (v : Layout) (bytes : List ℕ) (s : Claims) → s ≡ no_claims v →

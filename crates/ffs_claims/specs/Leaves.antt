@@ -10,6 +10,7 @@ use Rattle.ffs_workspace.specs.declared.workspace.Workspace.{Workspace}
 use Rattle.ffs_volume.specs.Encodings.Kinds.{kind_of}
 use Rattle.ffs_volume.specs.Encodings.Links.{start_of}
 use Rattle.ffs_workspace.specs.Holds.{claims_of, has_blame}
+use Rattle.ffs_workspace.specs.Notes.{note_of}
 use Rattle.ffs_workspace.specs.Lengths.{IsFor}
 
 -- the current inode has no bad Run, no dup offer and no kept one yet, and there is room to count its Runs
@@ -64,5 +65,6 @@ pub record HasInode (number : ℕ) (w : Workspace) : Type 0 where
 pub record Stored (number : ℕ) (class : Class) (i : Inode) (old new : Workspace) : Type 0 where
   pub kinds : new.kinds.items ≡ slice_set old.kinds.items number (kind_of class i)
   pub marked : new.marked.items ≡ slice_set old.marked.items number (is_unknown class || has_blame (claims_of new))
-  pub cut : new.cut.items ≡ slice_set old.cut.items number (min (cut_of (claims_of new)) 4294967295)
+  pub cut : new.cut.items ≡ slice_set old.cut.items number
+      (note_of class i (min (cut_of (claims_of new)) 4294967295))
   pub starts : new.references.items ≡ slice_set old.references.items number (start_of class i)

@@ -15,6 +15,7 @@ ghost use Rattle.ffs_volume.specs.Encodings.ReplayCounts.{seen_run};
 ghost use Rattle.ffs_maps.specs.Bits.{bits_of};
 ghost use Rattle.ffs_walk.specs.Keepings.{replay_in};
 ghost use Rattle.ffs_workspace.specs.Holds.{HoldsPhase1, HoldsClaims, HoldsStarts};
+ghost use Rattle.ffs_workspace.specs.Notes.{cut_in};
 ghost use Rattle.ffs_workspace.specs.Ready.{IsReady};
 ghost use Rattle.ffs_claims.specs.Lines.{of_lines};
 ghost use Rattle.ffs_claims.specs.Rescan.{step_offers_again};
@@ -104,13 +105,13 @@ fn renumbered<I: Image, W: Output>(
     report: &mut Report<'_, W>,
 ) -> Result<(), RunFault>
     requires can { CanRewalk geometry.now.layout (I.device image.old) workspace.old number }
-    ensures { Rewalks geometry.now.layout number (slice_index workspace.old.cut.items number)
+    ensures { Rewalks geometry.now.layout number (cut_in (slice_index workspace.old.cut.items number))
         (λ bytes. inode_of geometry.now.layout bytes number) (I.device image.old)
         (I.device image.new) (progress W.sink report.old) (progress W.sink report.new)
         workspace.old workspace.new result }
 {
     let inode = workspace.windows.table.inode(geometry, number, image)?;
-    let cut = workspace.cut[number as usize];
+    let cut = workspace.cut_of(number);
     rewalk(workspace, geometry, number, cut, &inode, image, report)
 }
 

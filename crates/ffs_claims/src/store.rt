@@ -17,7 +17,7 @@ use ffs_memory::FilledList;
 use ffs_report::{Line, OutFault, Output, Report};
 use ffs_volume::constants::{DEV_BSIZE, DT_DIR, EMPTY_DIR, MAXDUP, UNKNOWN_TYPE};
 use ffs_volume::{BlockMessage, Class, Inode};
-use ffs_workspace::{Workspace, links_start};
+use ffs_workspace::{Workspace, links_start, note_of};
 
 /// The next inode becomes the current one.
 pub fn begin(workspace: &mut Workspace)
@@ -129,16 +129,16 @@ fn start_of(class: Class, inode: &Inode) -> u64
     }
 }
 
-// Sets where an inode is cut, if that isn't what the list holds already: so its memory is touched
-// only for inodes that are cut.
+// Sets what is noted of an inode, if that isn't what the list holds already: so its memory is
+// touched only for inodes of which something is noted.
 #[inline(always)]
-fn store_cut(list: &mut FilledList<u32>, number: usize, cut: u32)
+fn store_note(list: &mut FilledList<u32>, number: usize, note: u32)
     requires { number < vec_len list.old }
-    ensures items { list.new.items ≡ slice_set list.old.items number cut }
+    ensures items { list.new.items ≡ slice_set list.old.items number note }
     ensures len { vec_len list.new ≡ vec_len list.old }
 {
-    if list[number] != cut {
-        list.set(number, cut);
+    if list[number] != note {
+        list.set(number, note);
     }
 }
 
@@ -169,10 +169,10 @@ pub fn store(workspace: &mut Workspace, number: u32, class: Class, inode: &Inode
 {
     let kind = kind_of(class, inode);
     let marked = is_marked(workspace, class);
-    let cut = cut_of(workspace);
+    let note = note_of(class, inode, cut_of(workspace));
     workspace.kinds[number as usize] = kind;
     workspace.marked[number as usize] = marked;
-    store_cut(&mut workspace.cut, number as usize, cut);
+    store_note(&mut workspace.cut, number as usize, note);
     store_start(
         &mut workspace.references,
         number as usize,

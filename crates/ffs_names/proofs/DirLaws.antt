@@ -57,6 +57,15 @@ dir_size v i h =
     (type_of i.mode == 4 && nat_lt 2147483647 i.size) e.0 in
     below (type_of i.mode == 4) i.size d.1 f.1
 
+-- a directory has the type of one
+pub dir_type : (v : Layout) (i : Inode) → class_of v i ≡ Dir → (type_of i.mode == 4) ≡ true
+unfolding class_of class_by
+dir_type v i h =
+    (dir_by (type_of i.mode == 0) (i.mode == 0 && (i.size == 0 && not (any_nonzero i.addresses)))
+    (not (is_known_type (type_of i.mode)) || (is_too_large v i || any_nonzero
+    (drop (addresses_allowed v i) i.addresses)))
+    (type_of i.mode == 4) h).1
+
 dir_number : (a : Bool) (c : Class) → (a && is_directory (if a then c else Free)) ≡ true → (a ≡ true) × (c ≡ Dir)
 dir_number true Dir h = (refl, refl)
 dir_number true File h = cc

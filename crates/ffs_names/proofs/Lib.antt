@@ -5,6 +5,7 @@ pub mod Pieces
 pub mod Begins
 pub mod Entered
 pub mod DirLaws
+mod OneChunks
 pub mod SameGraphs
 pub mod SurveyHolds
 pub mod RunsSeen

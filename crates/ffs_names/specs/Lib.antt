@@ -5,6 +5,7 @@ pub mod Readings
 pub mod Entering
 pub mod RightShapes
 pub mod Shapes
+pub mod OneChunk
 pub mod Trees
 pub mod Surveys
 pub mod SeenRuns

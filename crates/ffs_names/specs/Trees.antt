@@ -6,7 +6,7 @@ use Rattle.ffs_image.specs.Device.{Device}
 use Rattle.ffs_volume.specs.declared.Layout.{Layout}
 use Rattle.ffs_volume.specs.Directories.Roles.{RoledEntry, is_dir, roled_entries}
 use Rattle.ffs_volume.specs.Directories.Volumes.{volume_of}
-use Rattle.ffs_volume.specs.Encodings.Replay.{cut_at}
+use Rattle.ffs_workspace.specs.Notes.{note_at}
 use Rattle.ffs_walk.specs.Windows.{BlocksHold, WindowHolds}
 use Rattle.ffs_volume.specs.Encodings.Kinds.{kind_at}
 use Rattle.ffs_workspace.specs.Lengths.{inodes_of}
@@ -14,7 +14,7 @@ use Rattle.ffs_workspace.specs.Tables.{IsTableOf}
 use Rattle.ffs_names.specs.RightShapes.{is_right_directory}
 use Rattle.ffs_workspace.specs.declared.workspace.Windows.{Windows}
 
--- what it is over: a layout, the image's bytes where it gives them, the kinds and cuts of inodes, and what it was lent
+-- what it is over: a layout, the image's bytes where it gives them, the kinds of inodes and what is noted of them, and what it was lent
 pub record Base : Type 0 where
   pub layout : Layout
   pub contents : Option (List ℕ)
@@ -23,11 +23,11 @@ pub record Base : Type 0 where
   pub image_lent : GName
   pub windows_lent : GName
 
--- these are the image's bytes, and the kinds and cuts are those of its inodes
+-- these are the image's bytes, and the kinds and notes are those of its inodes
 pub record KnowsTree (t : Base) (b : List ℕ) : Type 0 where
   pub bytes : t.contents ≡ Some b
   pub kinds : (x : ℕ) → slice_index t.kinds x ≡ kind_at t.layout b x
-  pub cut : (x : ℕ) → slice_index t.cut x ≡ cut_at t.layout b x
+  pub cut : (x : ℕ) → slice_index t.cut x ≡ note_at t.layout b x
 
 -- the entries of a directory, and none of another inode
 abbrev pub dir_entries : Base → List ℕ → ℕ → List RoledEntry

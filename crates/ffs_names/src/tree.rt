@@ -1,14 +1,35 @@
 //! The directories of a volume, as a survey reads them.
 
 ghost use Rattle.std.specs.Prelude.{◌≡◌};
+ghost use Rattle.ffs_names.specs.OneChunk.{one_chunk_at};
 
 use crate::entries::Entries;
 use ffs_image::{Image, ImageFault};
 use ffs_layout::Geometry;
 use ffs_memory::FilledList;
 use ffs_survey::{Directories, Named, is_dir};
-use ffs_volume::Class;
-use ffs_workspace::Windows;
+use ffs_volume::constants::DIRBLKSIZ;
+use ffs_volume::{Class, Inode};
+use ffs_workspace::{Windows, place_in};
+
+/// The inode of a directory of one chunk at an address, as far as a reading of its entries asks
+/// for it.
+#[inline(always)]
+fn one_chunk_at(address: u32) -> Inode
+    ensures { result ≡ one_chunk_at address }
+{
+    let mut addresses = [0; 15];
+    addresses[0] = address;
+    Inode {
+        mode: 0o40000,
+        nlink: 0,
+        size: DIRBLKSIZ as u64,
+        mtime: 0,
+        addresses,
+        blocks: 0,
+        uid: 0,
+    }
+}
 
 /// The directories of a volume: those that the kinds of inodes name, with what is kept of them.
 #[derive(Drop)]
@@ -21,7 +42,7 @@ pub struct Tree<'a, I> {
     pub windows: &'a mut Windows,
     /// What each inode is.
     pub kinds: &'a [u8],
-    /// How many offers each inode keeps where dup offers cut it.
+    /// What is noted of each inode (`ffs_workspace::note_of`).
     pub cut: &'a FilledList<u32>,
     /// The current directory.
     pub entries: Entries,
@@ -62,12 +83,16 @@ impl<I: Image> Directories for Tree<'_, I> {
             self.entries.stop();
             return Ok(());
         }
-        let cut = self.cut[dir as usize];
+        let note = self.cut[dir as usize];
+        if let Some(address) = place_in(note) {
+            self.entries.restart(&one_chunk_at(address), Class::Dir, 0);
+            return Ok(());
+        }
         let inode = self
             .windows
             .table
             .inode_by_part(&self.geometry, dir, self.image)?;
-        self.entries.restart(&inode, Class::Dir, cut);
+        self.entries.restart(&inode, Class::Dir, note);
         Ok(())
     }
 

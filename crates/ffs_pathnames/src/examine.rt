@@ -42,7 +42,7 @@ pub fn examine<I: Image>(
         workspace.old workspace.new result }
 {
     let inode = workspace.windows.table.inode_by_part(geometry, dir, image)?;
-    let cut = workspace.cut[dir as usize];
+    let cut = workspace.cut_of(dir);
     let inodes = Inodes {
         kinds: workspace.kinds.as_slice(),
         marked: workspace.marked.as_slice(),

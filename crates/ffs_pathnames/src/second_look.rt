@@ -53,7 +53,7 @@ pub fn report_directory<I: Image, W: Output>(
         workspace.old workspace.new siblings.new result }
 {
     let path = siblings.path_to(geometry, image, workspace, dir)?;
-    let cut = workspace.cut[dir as usize];
+    let cut = workspace.cut_of(dir);
     let mut chunks = Chunks::start(geometry, inode, cut);
     let mut chunk = [0u8; DIRBLKSIZ];
     let mut texts = EntryTexts {

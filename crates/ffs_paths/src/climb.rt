@@ -44,7 +44,7 @@ pub fn climb<I: Image>(
         if parent as usize >= count {
             return Ok(path);
         }
-        let cut = workspace.cut[parent as usize];
+        let cut = workspace.cut_of(parent);
         let mut search = Search::open(geometry, image, &mut workspace.windows, parent, cut)?;
         let found = search.find(image, &mut workspace.windows, at)?;
         path.push_front(search.found_name(found));

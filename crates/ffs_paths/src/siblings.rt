@@ -133,7 +133,7 @@ impl Siblings {
             return Ok(());
         }
         self.keep_path_of(geometry, image, workspace, parent)?;
-        let cut = workspace.cut[parent as usize];
+        let cut = workspace.cut_of(parent);
         self.search = Search::open(geometry, image, &mut workspace.windows, parent, cut)?;
         self.child = 0;
         self.parent = parent;
@@ -170,7 +170,7 @@ impl Siblings {
         if self.names.covers(parent, child) {
             return Ok(());
         }
-        let cut = workspace.cut[parent as usize];
+        let cut = workspace.cut_of(parent);
         let windows = &mut workspace.windows;
         let names = ChildNames::read(geometry, image, windows, parent, cut, child)?;
         self.names = names;

@@ -1,4 +1,5 @@
 pub mod KindLaws
+pub mod NoteLaws
 pub mod Places
 pub mod Leaving
 pub mod Readiness

@@ -11,7 +11,7 @@ use Rattle.ffs_volume.specs.Directories.Graph.{is_named, reached, parent}
 use Rattle.ffs_volume.specs.Directories.Roles.{references}
 use Rattle.ffs_volume.specs.Directories.Parents.{graph_of}
 use Rattle.ffs_volume.specs.Directories.Volumes.{is_inode_number, marked_at, volume_of}
-use Rattle.ffs_volume.specs.Encodings.Replay.{cut_at}
+use Rattle.ffs_workspace.specs.Notes.{note_at}
 use Rattle.ffs_maps.specs.Bits.{bits_of}
 use Rattle.ffs_workspace.specs.declared.workspace.Workspace.{Workspace}
 use Rattle.ffs_volume.specs.Encodings.Kinds.{kind_at}
@@ -57,23 +57,23 @@ unfoldable pub all_claims : Layout → List ℕ → Claims
 all_claims v image = after_owners v (no_claims v) (owners_of v image)
 
 -- what phase 1 leaves: the fragments that are reserved or claimed and those with a Dup line, and for each inode its
--- kind, whether it is marked so far, where dup offers cut it, and where its count of references starts
+-- kind, whether it is marked so far, what is noted of it, and where its count of references starts
 pub record HoldsPhase1 (v : Layout) (image : List ℕ) (w : Workspace) : Type 0 where
   pub used : bits_of w.claimed ≡ (all_claims v image).used
   pub dup : bits_of w.duplicates ≡ (all_claims v image).dup
   pub runs : w.runs_seen ≡ (all_claims v image).runs
   pub kinds : (x : ℕ) → slice_index w.kinds.items x ≡ kind_at v image x
   pub marked : (x : ℕ) → bool_at w.marked.items x ≡ first_marked_at v image x
-  pub cut : (x : ℕ) → slice_index w.cut.items x ≡ cut_at v image x
+  pub cut : (x : ℕ) → slice_index w.cut.items x ≡ note_at v image x
   pub starts : (x : ℕ) → slice_index w.references.items x ≡ start_at v image x
 
 -- what phases 1 and 1b leave: the fragments that are reserved or claimed, and for each inode its kind, whether it is
--- marked, and where dup offers cut it
+-- marked, and what is noted of it
 pub record HoldsClaims (v : Layout) (image : List ℕ) (w : Workspace) : Type 0 where
   pub used : bits_of w.claimed ≡ (after_owners v (no_claims v) (owners_of v image)).used
   pub kinds : (x : ℕ) → slice_index w.kinds.items x ≡ kind_at v image x
   pub marked : (x : ℕ) → bool_at w.marked.items x ≡ marked_at v image x
-  pub cut : (x : ℕ) → slice_index w.cut.items x ≡ cut_at v image x
+  pub cut : (x : ℕ) → slice_index w.cut.items x ≡ note_at v image x
 
 -- what phases 1 and 1b leave for the survey: where the count of references of each inode starts
 pub record HoldsStarts (v : Layout) (image : List ℕ) (w : Workspace) : Type 0 where

@@ -1,5 +1,6 @@
 pub mod Tables
 pub mod Lengths
+pub mod Notes
 pub mod Holds
 pub mod Leaves
 pub mod Ready

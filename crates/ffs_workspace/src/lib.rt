@@ -12,9 +12,11 @@
 #![tactic(auto)]
 
 mod links;
+mod notes;
 mod table;
 mod workspace;
 
 pub use links::links_start;
+pub use notes::{cut_in, note_of, place_in};
 pub use table::Table;
 pub use workspace::{Windows, Workspace};

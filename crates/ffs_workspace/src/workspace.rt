@@ -1,11 +1,12 @@
 //! The memory of a check, taken once.
 
-ghost use Rattle.std.specs.Prelude.{◌≡◌, ◌+◌, ◌*◌, ◌≤◌, [], ◌∷◌, IfOk, false};
+ghost use Rattle.std.specs.Prelude.{◌≡◌, ◌+◌, ◌*◌, ◌<◌, ◌≤◌, [], ◌∷◌, IfOk, false, slice_index, vec_len};
 ghost use Rattle.ffs_layout.specs.declared.geometry.Geometry.{Geometry};
 ghost use Rattle.ffs_volume.specs.declared.Layout.{Layout};
 ghost use Rattle.ffs_memory.specs.Account.{Asks, IsFilled};
 ghost use Rattle.ffs_volume.specs.Report.Memory.{held_limit};
 
+use crate::notes::cut_in;
 use crate::table::Table;
 use ffs_layout::Geometry;
 use ffs_maps::FragmentMap;
@@ -49,7 +50,8 @@ pub struct Workspace {
     pub flags: FixedList<bool>,
     /// How many entries refer to each inode, counted on from `links_start`.
     pub references: FilledList<u64>,
-    /// How many offers an inode keeps that its eleventh dup offer cut, else 0.
+    /// How many offers an inode keeps that its eleventh dup offer cut, or where the only chunk of a
+    /// directory is (`note_of`), else 0.
     pub cut: FilledList<u32>,
     /// The parent of each directory, or 0.
     pub parents: FilledList<u32>,
@@ -73,6 +75,7 @@ pub struct Workspace {
 
 impl Workspace {
     ghost use Rattle.ffs_workspace.specs.Lengths.{IsFor, has_dups, held_of};
+    ghost use Rattle.ffs_workspace.specs.Notes.{cut_in};
     ghost use Rattle.ffs_workspace.specs.Ready.{IsNew};
 
     /// Takes all memory of a check of the volume from an allocator, and holds nothing yet.
@@ -155,6 +158,15 @@ impl Workspace {
         ensures { result ≡ has_dups self.now }
     {
         self.duplicates.count_ones() != 0
+    }
+
+    /// How many offers an inode keeps that its eleventh dup offer cut, else 0.
+    #[inline(always)]
+    pub fn cut_of(&self, number: u32) -> u32
+        requires { number < vec_len self.now.cut }
+        ensures { result ≡ cut_in (slice_index self.now.cut.items number) }
+    {
+        cut_in(self.cut[number as usize])
     }
 
     /// How many Runs phases 1 and 1b have looked at.

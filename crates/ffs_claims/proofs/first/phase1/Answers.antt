@@ -8,7 +8,7 @@ use Rattle.ffs_volume.specs.Blocks.BlockCheck.{owner_lines, lines_of_owners, pha
 use Rattle.ffs_volume.specs.Blocks.Claims.{Claims, after_owner}
 use Rattle.ffs_volume.specs.Messages.Kinds.{Message, phase1}
 use Rattle.ffs_volume.specs.Blocks.Owners.{owner_of, owners_of}
-use Rattle.ffs_volume.specs.Encodings.Replay.{cut_at}
+use Rattle.ffs_workspace.specs.Notes.{note_at}
 use Rattle.ffs_volume.specs.Report.Whole.{run_count}
 use Rattle.ffs_workspace.specs.Holds.{claims_of, all_claims, first_marked_at}
 use Rattle.ffs_volume.specs.Encodings.Kinds.{kind_at}
@@ -20,7 +20,7 @@ use Rattle.ffs_claims.proofs.Weights.{used_below}
 use Rattle.ffs_claims.proofs.Frames.{image_from, ready_still}
 use Rattle.ffs_claims.proofs.Numbers.{before_next, before_first, before_end, lines_next, lines_end, filled_next}
 use Rattle.ffs_claims.proofs.Numbers.{filled_end, filled_begin, is_inside, is_outside, kind_out, kind_in, mark_out}
-use Rattle.ffs_claims.proofs.Numbers.{mark_in, cut_out, cut_in, start_out, start_in, first_lines}
+use Rattle.ffs_claims.proofs.Numbers.{mark_in, note_out, note_in, start_out, start_in, first_lines}
 use Rattle.ffs_claims.proofs.first.phase1.Goals as goal
 
 pub returns-in_err-say-clause-prints : goal.returns-in_err-say-clause-prints
@@ -57,8 +57,8 @@ loop-number-init g c =
       marked = λ bytes k. filled_begin false (first_marked_at v bytes) c.reserve.new.workspace.marked.items
           (inodes_of v) (ap (λ w. w.items) found.marked ∙ k.1.marked)
           (λ x low. mark_out v bytes x (is_outside v x (inl low)));
-      cut = λ bytes k. filled_begin 0 (cut_at v bytes) c.reserve.new.workspace.cut.items (inodes_of v)
-          (ap (λ w. w.items) found.cut ∙ k.1.cut) (λ x low. cut_out v bytes x (is_outside v x (inl low)));
+      cut = λ bytes k. filled_begin 0 (note_at v bytes) c.reserve.new.workspace.cut.items (inodes_of v)
+          (ap (λ w. w.items) found.cut ∙ k.1.cut) (λ x low. note_out v bytes x (is_outside v x (inl low)));
       starts = λ bytes k. filled_begin 0 (start_at v bytes) c.reserve.new.workspace.references.items (inodes_of v)
           (ap (λ w. w.items) found.references ∙ k.1.references)
           (λ x low. start_out v bytes x (is_outside v x (inl low)));
@@ -144,10 +144,10 @@ loop-number-preserved g c =
           c.claim_inode.new.workspace.marked.items n _
           (omega (arith, inv.ready.ready.made.marked)) (stored bytes (contents ∙ k.0)).marked
           (mark_in v bytes n s s' inside (inv.claims bytes k) (now bytes (contents ∙ k.0))) (inv.marked bytes k);
-      cut = λ bytes k. filled_next 0 (cut_at v bytes) c.loop-number.workspace.cut.items
+      cut = λ bytes k. filled_next 0 (note_at v bytes) c.loop-number.workspace.cut.items
           c.claim_inode.new.workspace.cut.items n _
           (omega (arith, inv.ready.ready.made.cut)) (stored bytes (contents ∙ k.0)).cut
-          (cut_in v bytes n s s' inside (inv.claims bytes k) (now bytes (contents ∙ k.0))) (inv.cut bytes k);
+          (note_in v bytes n s s' inside (inv.claims bytes k) (now bytes (contents ∙ k.0))) (inv.cut bytes k);
       starts = λ bytes k. filled_next 0 (start_at v bytes) c.loop-number.workspace.references.items
           c.claim_inode.new.workspace.references.items n _
           (omega (arith, inv.ready.ready.made.references)) (stored bytes (contents ∙ k.0)).starts
@@ -192,8 +192,8 @@ returns-clause-holds g c = λ bytes k.
           (λ x high. kind_out v bytes x (is_outside v x (inr high))) (inv.kinds bytes k);
       marked = filled_end false (first_marked_at v bytes) _ n (inodes_of v) past
           (λ x high. mark_out v bytes x (is_outside v x (inr high))) (inv.marked bytes k);
-      cut = filled_end 0 (cut_at v bytes) _ n (inodes_of v) past
-          (λ x high. cut_out v bytes x (is_outside v x (inr high))) (inv.cut bytes k);
+      cut = filled_end 0 (note_at v bytes) _ n (inodes_of v) past
+          (λ x high. note_out v bytes x (is_outside v x (inr high))) (inv.cut bytes k);
       starts = filled_end 0 (start_at v bytes) _ n (inodes_of v) past
           (λ x high. start_out v bytes x (is_outside v x (inr high))) (inv.starts bytes k);
     }

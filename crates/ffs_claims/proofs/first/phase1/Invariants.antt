@@ -6,7 +6,7 @@ use Rattle.ffs_volume.specs.Blocks.BlockCheck.{lines_of_owners, phase1_lines}
 use Rattle.ffs_volume.specs.Blocks.KeptSteps.{claims_before}
 use Rattle.ffs_volume.specs.Messages.Kinds.{phase1}
 use Rattle.ffs_volume.specs.Blocks.Owners.{owners_of}
-use Rattle.ffs_volume.specs.Encodings.Replay.{cut_at}
+use Rattle.ffs_workspace.specs.Notes.{note_at}
 use Rattle.ffs_volume.specs.Blocks.ClaimBounds.{used_bits}
 use Rattle.ffs_workspace.specs.Holds.{claims_of, IsFresh, first_marked_at}
 use Rattle.ffs_volume.specs.Encodings.Kinds.{kind_at}
@@ -37,7 +37,7 @@ invariant-loop-number g l = record {
       FilledTo false (first_marked_at l.geometry.layout bytes) l.workspace.marked.items l.number);
   cut : ForBytes (λ bytes. IsContents (g.I.Image.device l.fn.image).contents bytes
       × IsFresh l.geometry.layout l.fn.workspace) (λ bytes.
-      FilledTo 0 (cut_at l.geometry.layout bytes) l.workspace.cut.items l.number);
+      FilledTo 0 (note_at l.geometry.layout bytes) l.workspace.cut.items l.number);
   starts : ForBytes (λ bytes. IsContents (g.I.Image.device l.fn.image).contents bytes
       × IsFresh l.geometry.layout l.fn.workspace) (λ bytes.
       FilledTo 0 (start_at l.geometry.layout bytes) l.workspace.references.items l.number);

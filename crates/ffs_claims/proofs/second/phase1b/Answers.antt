@@ -5,6 +5,8 @@ use Rattle.std.proofs.lemmas.Result.{err_from_is_err_and}
 use Rattle.ffs_maps.specs.Bits.{bits_of}
 use Rattle.ffs_phase.proofs.Reporting.{of_begins, of_says, of_part, of_fault, of_stops, of_same, reports_knowing}
 use Rattle.ffs_phase.proofs.Reporting.{said_knows}
+use Rattle.ffs_workspace.specs.Notes.{cut_in}
+use Rattle.ffs_workspace.proofs.NoteLaws.{cut_is_noted}
 use Rattle.ffs_volume.specs.Blocks.BlockCheck.{Offer, first_offer_lines, kept_in_owners, phase1b_lines}
 use Rattle.ffs_volume.specs.Blocks.Claims.{no_claims}
 use Rattle.ffs_volume.specs.Blocks.Inodes.{inode_of}
@@ -95,14 +97,14 @@ returns-in_err-renumbered-clause-prints g c =
       text = of_fault (Unit {0}) (Unit {0}) _
           (λ bytes. of_lines (first_offer_lines d (kept_in_owners v (claims_before v bytes n) (owners_from v bytes n))))
           (λ bytes. of_lines (first_offer_lines d
-          (offers_again v n (slice_index cuts n) fresh_replay (steps_of v (inode_of v bytes n) bytes))))
+          (offers_again v n (cut_in (slice_index cuts n)) fresh_replay (steps_of v (inode_of v bytes n) bytes))))
           (λ bytes. of_lines (first_offer_lines
-          (after_first d (offers_again v n (slice_index cuts n) fresh_replay (steps_of v (inode_of v bytes n) bytes)))
+          (after_first d (offers_again v n (cut_in (slice_index cuts n)) fresh_replay (steps_of v (inode_of v bytes n) bytes)))
           (kept_in_owners v (claims_before v bytes (n + 1)) (owners_from v bytes (n + 1)))))
           _ _ _ _ c.in_err-renumbered.field-0.0
           inv.said
           (λ bytes k. lines_split d _ _ _ _
-          (kept_next v bytes cuts n c.args.geometry.now.sound inv.low lt inside (cut ∙ k.1.cut n)) refl)
+          (kept_next v bytes cuts n c.args.geometry.now.sound inv.low lt inside (ap cut_in (cut ∙ k.1.cut n) ∙ cut_is_noted v bytes n c.args.geometry.now.sound)) refl)
           (reports_knowing (Unit {0}) _ _ _ _ _ (Err c.in_err-renumbered.field-0.0)
           (λ bytes k. ap (λ d. d.contents) inv.device ∙ k.0) c.in_err-renumbered.ensures.text);
     })
@@ -120,7 +122,7 @@ returns-in_err-renumbered-clause-runs g c = λ bytes k.
       arith,
       inv.runs bytes k,
       c.renumbered.ensures.runs bytes (ap (λ d. d.contents) inv.device ∙ k.0),
-      runs_on v bytes cuts n c.args.geometry.now.sound inv.low inside (cut ∙ k.1.cut n),
+      runs_on v bytes cuts n c.args.geometry.now.sound inv.low inside (ap cut_in (cut ∙ k.1.cut n) ∙ cut_is_noted v bytes n c.args.geometry.now.sound),
       runs_most v bytes (n + 1) (omega arith) (λ h. omega arith),
     )
 
@@ -139,9 +141,9 @@ loop-number-preserved g c =
     let on : ForBytes (λ bytes. IsContents (g.I.Image.device c.args.image.now).contents bytes
     × HoldsPhase1 v bytes c.args.workspace.now) (λ bytes.
     looked_at d (owners_runs v (claims_before v bytes n) (owners_from v bytes n))
-    ≡ looked_at d (steps_runs_again v n (slice_index cuts n) fresh_replay (steps_of v (inode_of v bytes n) bytes))
+    ≡ looked_at d (steps_runs_again v n (cut_in (slice_index cuts n)) fresh_replay (steps_of v (inode_of v bytes n) bytes))
     + looked_at d' (owners_runs v (claims_before v bytes (n + 1)) (owners_from v bytes (n + 1)))) =
-    λ bytes k. looked_on v bytes cuts n d d' c.args.geometry.now.sound inv.low lt inside (cut ∙ k.1.cut n)
+    λ bytes k. looked_on v bytes cuts n d d' c.args.geometry.now.sound inv.low lt inside (ap cut_in (cut ∙ k.1.cut n) ∙ cut_is_noted v bytes n c.args.geometry.now.sound)
     (c.in_ok-renumbered.ensures.rewalked bytes (image ∙ k.0)).reported.dup in
     record {
       ready = c.renumbered.ensures.left.ready;
@@ -153,11 +155,11 @@ loop-number-preserved g c =
         arith,
         inv.runs bytes k,
         c.renumbered.ensures.runs bytes (image ∙ k.0),
-        runs_on v bytes cuts n c.args.geometry.now.sound inv.low inside (cut ∙ k.1.cut n),
+        runs_on v bytes cuts n c.args.geometry.now.sound inv.low inside (ap cut_in (cut ∙ k.1.cut n) ∙ cut_is_noted v bytes n c.args.geometry.now.sound),
       );
       count = λ bytes k.
           let fits : c.loop-number.workspace.runs_again + looked_at d
-          (steps_runs_again v n (slice_index cuts n) fresh_replay (steps_of v (inode_of v bytes n) bytes)) < 2 ^ 64 =
+          (steps_runs_again v n (cut_in (slice_index cuts n)) fresh_replay (steps_of v (inode_of v bytes n) bytes)) < 2 ^ 64 =
           omega (arith, inv.count bytes k, look_fits v bytes c.args.geometry.now.sound, on bytes k) in
           omega (
             arith,
@@ -167,18 +169,18 @@ loop-number-preserved g c =
                 fits,
           );
       reported = λ bytes k. reporting_more _
-          (offers_again v n (slice_index cuts n) fresh_replay (steps_of v (inode_of v bytes n) bytes))
+          (offers_again v n (cut_in (slice_index cuts n)) fresh_replay (steps_of v (inode_of v bytes n) bytes))
           (kept_in_owners v (claims_before v bytes (n + 1)) (owners_from v bytes (n + 1))) _ _ _ _
           (inv.reported bytes k) (kept_next v bytes cuts n c.args.geometry.now.sound inv.low lt inside
-          (cut ∙ k.1.cut n)) (c.in_ok-renumbered.ensures.rewalked bytes (image ∙ k.0)).reported;
+          (ap cut_in (cut ∙ k.1.cut n) ∙ cut_is_noted v bytes n c.args.geometry.now.sound)) (c.in_ok-renumbered.ensures.rewalked bytes (image ∙ k.0)).reported;
       said = of_part _ (λ bytes. of_lines
           (first_offer_lines d (kept_in_owners v (claims_before v bytes n) (owners_from v bytes n))))
           (λ bytes. of_lines (first_offer_lines d
-          (offers_again v n (slice_index cuts n) fresh_replay (steps_of v (inode_of v bytes n) bytes))))
+          (offers_again v n (cut_in (slice_index cuts n)) fresh_replay (steps_of v (inode_of v bytes n) bytes))))
           (λ bytes. of_lines (first_offer_lines d'
           (kept_in_owners v (claims_before v bytes (n + 1)) (owners_from v bytes (n + 1))))) _ _ _ _ inv.said
           (λ bytes k. lines_split d d' _ _ _ (kept_next v bytes cuts n c.args.geometry.now.sound inv.low lt inside
-          (cut ∙ k.1.cut n)) (c.in_ok-renumbered.ensures.rewalked bytes (image ∙ k.0)).reported.dup)
+          (ap cut_in (cut ∙ k.1.cut n) ∙ cut_is_noted v bytes n c.args.geometry.now.sound)) (c.in_ok-renumbered.ensures.rewalked bytes (image ∙ k.0)).reported.dup)
           (said_knows _ _ _ _ _ _ (λ bytes k. image ∙ k.0) c.in_ok-renumbered.ensures.text);
     }
 

@@ -1,8 +1,5 @@
 use Rattle.std.proofs.Common.{rules, ◌≡◌, arith, ap, ◌∙◌, ℕ}
-use Rattle.std.specs.Prelude.{◌<◌, slice_index, slice_index_or, vec_len}
-use Rattle.std.specs.declared.vec.Vec.{Vec}
-use Rattle.std.specs.declared.alloc.Global.{Global}
-use Rattle.std.proofs.lemmas.Grind.{get_or_default_zero}
+use Rattle.std.specs.Prelude.{slice_index}
 use Rattle.std.proofs.lemmas.Result.{err_from_is_err_and}
 use Rattle.ffs_volume.specs.declared.Inode.{Inode}
 use Rattle.ffs_volume.specs.Blocks.BlockCheck.{first_offer_lines}
@@ -17,14 +14,10 @@ use Rattle.ffs_claims.specs.Rescan.{offers_again}
 use Rattle.ffs_claims.proofs.Inodes.{ok_where}
 use Rattle.ffs_claims.proofs.Frames.{claims_still, claims_none, claims_then}
 use Rattle.ffs_workspace.proofs.Readiness.{ready_table}
+use Rattle.ffs_workspace.specs.Notes.{cut_in}
 use Rattle.ffs_claims.proofs.Rewalks.{rewalked_from}
 use Rattle.ffs_claims.specs.SecondLook.{Rewalked}
 use Rattle.ffs_claims.proofs.second.renumbered.Goals as goal
-
--- a number of a list, where the list has it
-get_at : (list : Vec ℕ Global) (i x : ℕ) → x ≡ slice_index_or list.items i x → i < vec_len list →
-    x ≡ slice_index list.items i
-get_at list i x e inside = e ∙ get_or_default_zero list.items i x (omega (arith, inside, list.ok.0))
 
 pub inode-requires : goal.inode-requires
 inode-requires g c =
@@ -54,7 +47,7 @@ returns-in_err-inode g c = record {
       (of_begins _ (λ bytes. of_lines
       (first_offer_lines (bits_of c.args.workspace.now.duplicates)
       (offers_again c.args.geometry.now.layout c.args.number
-      (slice_index c.args.workspace.now.cut.items c.args.number) fresh_replay
+      (cut_in (slice_index c.args.workspace.now.cut.items c.args.number)) fresh_replay
       (steps_of c.args.geometry.now.layout (inode_of c.args.geometry.now.layout bytes c.args.number) bytes)))) _));
   rewalked = search rules;
   runs = λ bytes t. omega arith;
@@ -75,17 +68,16 @@ returns g c = record {
       let d = bits_of c.args.workspace.now.duplicates in
       reports_same (Unit {0}) _
       (λ bytes. of_lines (first_offer_lines d
-      (offers_again v n c.index-cut.result.now fresh_replay
+      (offers_again v n c.cut_of-cut.result fresh_replay
       (steps_of v c.in_ok-inode.inode bytes))))
       (λ bytes. of_lines (first_offer_lines d
-      (offers_again v n (slice_index c.args.workspace.now.cut.items n) fresh_replay
+      (offers_again v n (cut_in (slice_index c.args.workspace.now.cut.items n)) fresh_replay
       (steps_of v (inode_of v bytes n) bytes)))) _ _ c.rewalk.result
       (λ bytes t. ap (λ (k : ℕ). of_lines
       (first_offer_lines d (offers_again v n k fresh_replay (steps_of v c.in_ok-inode.inode bytes))))
-      (get_at c.args.workspace.now.cut c.args.number c.index-cut.result.now c.index-cut.ensures
-      (omega (arith, c.requires.can.ready.made.cut, c.requires.can.number_fits)))
+      (c.cut_of-cut.ensures)
       ∙ ap (λ (i : Inode). of_lines
-      (first_offer_lines d (offers_again v n (slice_index c.args.workspace.now.cut.items n) fresh_replay
+      (first_offer_lines d (offers_again v n (cut_in (slice_index c.args.workspace.now.cut.items n)) fresh_replay
       (steps_of v i bytes)))) (c.in_ok-inode.ensures.inode bytes t))
       (reports_knowing (Unit {0}) _ _ _ _ _ c.rewalk.result
       (λ bytes t. ap (λ d. d.contents) c.in_ok-inode.ensures.read ∙ t)
@@ -94,14 +86,13 @@ returns g c = record {
       let n = c.args.number in
       let w = c.args.workspace.now in
       let i = c.in_ok-inode.inode in
-      let cut : c.index-cut.result.now ≡ slice_index c.args.workspace.now.cut.items c.args.number =
-      get_at c.args.workspace.now.cut c.args.number c.index-cut.result.now c.index-cut.ensures
-      (omega (arith, c.requires.can.ready.made.cut, c.requires.can.number_fits)) in
+      let cut : c.cut_of-cut.result ≡ cut_in (slice_index c.args.workspace.now.cut.items c.args.number) =
+      c.cut_of-cut.ensures in
       ok_where c.rewalk.result _ _
-      (λ bytes. Rewalked v n c.index-cut.result.now (steps_of v c.in_ok-inode.inode bytes)
+      (λ bytes. Rewalked v n c.cut_of-cut.result (steps_of v c.in_ok-inode.inode bytes)
       (record c.args.workspace.now { windows = record c.args.workspace.now.windows { table = c.inode.new.self } })
       c.rewalk.new.workspace)
-      (λ bytes. Rewalked v n (slice_index c.args.workspace.now.cut.items n) (steps_of v (inode_of v bytes n) bytes)
+      (λ bytes. Rewalked v n (cut_in (slice_index c.args.workspace.now.cut.items n)) (steps_of v (inode_of v bytes n) bytes)
       c.args.workspace.now c.rewalk.new.workspace)
       (ap (λ d. d.contents) c.in_ok-inode.ensures.read)
       (λ bytes t h. rewalked_from _ _ _ _ c.args.workspace.now _ _ (rw (cut, c.in_ok-inode.ensures.inode bytes t) at h))
@@ -109,15 +100,14 @@ returns g c = record {
   runs = λ bytes t.
       let v = c.args.geometry.now.layout in
       let n = c.args.number in
-      let same : replayed_runs v c.index-cut.result.now fresh_replay
+      let same : replayed_runs v c.cut_of-cut.result fresh_replay
       (steps_of v c.in_ok-inode.inode bytes)
-      ≡ replayed_runs v (slice_index c.args.workspace.now.cut.items n) fresh_replay
+      ≡ replayed_runs v (cut_in (slice_index c.args.workspace.now.cut.items n)) fresh_replay
       (steps_of v (inode_of v bytes n) bytes) =
       ap (λ (k : ℕ). replayed_runs v k fresh_replay (steps_of v c.in_ok-inode.inode bytes))
-      (get_at c.args.workspace.now.cut c.args.number c.index-cut.result.now c.index-cut.ensures
-      (omega (arith, c.requires.can.ready.made.cut, c.requires.can.number_fits)))
+      (c.cut_of-cut.ensures)
       ∙ ap (λ (i : Inode).
-      replayed_runs v (slice_index c.args.workspace.now.cut.items n) fresh_replay (steps_of v i bytes))
+      replayed_runs v (cut_in (slice_index c.args.workspace.now.cut.items n)) fresh_replay (steps_of v i bytes))
       (c.in_ok-inode.ensures.inode bytes t) in
       omega (arith, c.rewalk.ensures.runs bytes (ap (λ d. d.contents) c.in_ok-inode.ensures.read ∙ t), same);
   left = record {

@@ -1,11 +1,12 @@
 use Rattle.std.proofs.Common.{◌<◌, ◌^◌, refl, sym, ap, subst, ◌∙◌, ◌==◌, arith, rules}
-use Rattle.std.proofs.lemmas.List.{get_or_read_under}
 use Rattle.std.proofs.lemmas.Result.{err_from_is_err_and}
 use Rattle.std.specs.List.{find}
 use Rattle.ffs_image.specs.Device.{Faulted}
 use Rattle.ffs_volume.specs.Directories.PathnameCheck.{are_sound}
 use Rattle.ffs_volume.specs.Blocks.Inodes.{inode_of}
 use Rattle.ffs_volume.specs.Directories.Volumes.{volume_of}
+use Rattle.ffs_workspace.specs.Notes.{cut_in}
+use Rattle.ffs_workspace.proofs.NoteLaws.{cut_is_noted}
 use Rattle.ffs_names.proofs.DirLaws.{dir_is, dir_size}
 use Rattle.ffs_names.specs.Windows.{CanReadChunks}
 use Rattle.ffs_workspace.proofs.Readiness.{ready_table}
@@ -27,11 +28,8 @@ returns-clause-found g c = λ b k.
     let t1 = ap (λ x. x.contents) c.in_ok-inode.ensures.read ∙ k.reported_is in
     let inode = c.in_ok-inode.ensures.inode b k.reported_is in
     let small = subst (λ i. i.size < 2 ^ 31) (sym inode) (dir_size v (inode_of v b c.args.dir) class) in
-    let cut = get_or_read_under c.args.workspace.now.cut.items c.args.dir _ c.index-cut.result.now 0 c.index-cut.ensures
-    (subst (λ n. c.args.dir < n) (sym c.requires.ready.ready.made.cut) c.requires.ready.number)
-    c.args.workspace.now.cut.ok.0
-    ∙ h.cut c.args.dir in
-    let chunks = chunks_are v b c.args.dir c.in_ok-inode.inode c.index-cut.result.now sound number inode cut in
+    let cut = c.cut_of-cut.ensures ∙ (ap cut_in (h.cut c.args.dir) ∙ cut_is_noted v b c.args.dir sound) in
+    let chunks = chunks_are v b c.args.dir c.in_ok-inode.inode c.cut_of-cut.result sound number inode cut in
     let shows = sees v b c.args.workspace.now _ (record {
       kinds = c.as_slice.ensures.value;
       marked = c.as_slice-2.ensures.value;
@@ -41,7 +39,7 @@ returns-clause-found g c = λ b k.
     let found = c.in_ok-found.ensures.found b t1 in
     record {
       inode = inode;
-      gap = found.gap ∙ gap_is v b c.args.dir c.in_ok-inode.inode c.index-cut.result.now sound number inode cut;
+      gap = found.gap ∙ gap_is v b c.args.dir c.in_ok-inode.inode c.cut_of-cut.result sound number inode cut;
       sound = found.sound small ∙ ap are_sound chunks;
       started = sym (ap (find (λ x. x.offset == 0)) chunks) ∙ found.started small;
       quiet = found.quiet (volume_of v b) shows small
@@ -59,8 +57,8 @@ pub inode_by_part-requires-clause-ready : goal.inode_by_part-requires-clause-rea
 inode_by_part-requires-clause-ready g c =
     let r = c.requires.ready.ready in record { volume = r.volume; made = r.made.table; holds = r.windows.table }
 
-pub index-cut-requires : goal.index-cut-requires
-index-cut-requires g c = omega (arith, c.requires.ready.ready.made.cut, c.requires.ready.number)
+pub cut_of-cut-requires : goal.cut_of-cut-requires
+cut_of-cut-requires g c = omega (arith, c.requires.ready.ready.made.cut, c.requires.ready.number)
 
 pub look_directory-requires-clause-ready : goal.look_directory-requires-clause-ready
 look_directory-requires-clause-ready g c =

@@ -1,6 +1,5 @@
-use Rattle.std.proofs.Common.{◌≡◌, ◌<◌, refl, sym, ap, subst, ◌∙◌, ℕ, List, [], ◌∷◌, map, Err}
+use Rattle.std.proofs.Common.{◌≡◌, refl, sym, ap, subst, ◌∙◌, ℕ, List, [], ◌∷◌, map, Err}
 use Rattle.std.specs.List.{flat_map}
-use Rattle.std.proofs.lemmas.List.{get_or_read_under}
 use Rattle.std.proofs.lemmas.Result.{err_from_is_err_and}
 use Rattle.ffs_image.specs.Device.{Faulted}
 use Rattle.ffs_volume.specs.Directories.Entries.{Chunk, chunk_of}
@@ -9,6 +8,8 @@ use Rattle.ffs_volume.specs.Messages.Kinds.{of_tree}
 use Rattle.ffs_volume.specs.Directories.Parents.{graph_of}
 use Rattle.ffs_volume.specs.Directories.Roles.{roled_chunk, roled_entries}
 use Rattle.ffs_volume.specs.Directories.Volumes.{volume_of}
+use Rattle.ffs_workspace.specs.Notes.{cut_in}
+use Rattle.ffs_workspace.proofs.NoteLaws.{cut_is_noted}
 use Rattle.ffs_names.specs.Readings.{rest}
 use Rattle.ffs_phase.specs.Runs.{ImageAfter}
 use Rattle.ffs_phase.proofs.Reporting.{of_begins, of_reads, of_same, of_part, of_fault, said_knows, reports_knowing}
@@ -39,11 +40,11 @@ chunks-init g c =
     let seen = λ (b : List ℕ)
     (k : DirectoryContext v (g.I.Image.device c.args.image.now).contents c.args.workspace.now c.args.dir b
     × (c.args.inode.now ≡ inode_of v b c.args.dir)).
-    all_read v b c.args.dir c.args.inode.now c.index-cut.result.now (rest b c.start-chunks.result)
+    all_read v b c.args.dir c.args.inode.now c.cut_of-cut.result (rest b c.start-chunks.result)
     c.args.geometry.now.sound k.0.dir k.1
-    (get_or_read_under here.cut.items c.args.dir _ c.index-cut.result.now 0 c.index-cut.ensures
-    (subst (λ n. c.args.dir < n) (sym ok.ready.made.cut) c.requires.number)
-    here.cut.ok.0 ∙ (claims_left v b c.args.workspace.now here (windows_leave _ _ ok.lists) k.0.claims).cut c.args.dir)
+    (c.cut_of-cut.ensures
+    ∙ (ap cut_in ((claims_left v b c.args.workspace.now here (windows_leave _ _ ok.lists) k.0.claims).cut c.args.dir)
+    ∙ cut_is_noted v b c.args.dir c.args.geometry.now.sound))
     (c.start-chunks.ensures.begins.chunks b) in
     record {
       ready = record { ready = ok.ready; siblings = c.in_ok-path.ensures.leaves.siblings };

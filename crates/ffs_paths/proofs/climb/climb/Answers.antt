@@ -7,6 +7,8 @@ use Rattle.ffs_layout.specs.declared.geometry.Geometry.{Geometry}
 use Rattle.ffs_volume.specs.Directories.Graph.{Graph}
 use Rattle.ffs_volume.specs.Directories.Parents.{graph_of}
 use Rattle.ffs_volume.specs.Directories.Volumes.{volume_of}
+use Rattle.ffs_workspace.specs.Notes.{cut_in}
+use Rattle.ffs_workspace.proofs.NoteLaws.{cut_is_noted}
 use Rattle.ffs_paths.specs.Buffers.{HoldsNames}
 use Rattle.ffs_paths.specs.Climbing.{name_in, AreOpen}
 use Rattle.ffs_paths.specs.Reads.{OnlyReads}
@@ -105,9 +107,9 @@ up-preserved g c =
           let up = subst (λ s. HasParent G k c.args.dir c.up.at c.up.step c.up.path s) (sym e) u.1 in
           let t1 = ap (λ d. d.contents) i.reads.read ∙ t in
           let t2 = ap (λ d. d.contents) opened.leaves.read ∙ t1 in
-          let cut = c.index-cut.ensures
-          ∙ (get_or_default c.up.workspace.cut.items p c.index-cut.result.now 0 (omega arith)
-          ∙ (ap (λ w. slice_index w.cut.items p) i.reads.lists ∙ claims.cut p)) in
+          let cut = c.cut_of-cut.ensures
+          ∙ (ap cut_in (ap (λ w. slice_index w.cut.items p) i.reads.lists ∙ claims.cut p)
+          ∙ cut_is_noted v b p c.args.geometry.now.sound) in
           let name = c.found_name.ensures.value
           ∙ (sym (found.found b t2).name ∙ ap (name_in c.up.at) (opened.opened.entries b t1 up.dir cut)) in
           up.on c.push_front.new.self
@@ -130,8 +132,8 @@ returns-clause-reads g c = reads_as c.up.invariant.reads
 pub index-parent-requires : goal.index-parent-requires
 index-parent-requires g c = omega (arith, c.up.invariant.at, c.up.invariant.reads.ready.made.parents)
 
-pub index-cut-requires : goal.index-cut-requires
-index-cut-requires g c =
+pub cut_of-cut-requires : goal.cut_of-cut-requires
+cut_of-cut-requires g c =
     omega (arith, c.if-parent-count.false, c.requires.ready.made.cut, c.up.invariant.reads.ready.made.cut)
 
 pub open-requires-clause-number : goal.open-requires-clause-number

@@ -1,5 +1,5 @@
-use Rattle.std.proofs.Common.{◌∙◌, ◌≡◌, ◌<◌, ap, arith, length, refl, sym, subst, []}
-use Rattle.std.specs.Prelude.{if◌then◌else◌, ◌&&◌, slice_index}
+use Rattle.std.proofs.Common.{◌∙◌, ◌≡◌, ◌<◌, ◌+◌, Bool, ap, arith, length, refl, sym, subst, []}
+use Rattle.std.specs.Prelude.{if◌then◌else◌, ◌&&◌}
 use Rattle.std.proofs.lemmas.Grind.{common_steps, get_or_default_zero}
 use Rattle.std.proofs.lemmas.Result.{err_from_is_err_and}
 use Rattle.ffs_volume.specs.declared.Inode.{Inode}
@@ -7,6 +7,10 @@ use Rattle.ffs_volume.specs.Blocks.Inodes.{inode_of, class_of}
 use Rattle.ffs_volume.specs.Directories.Roles.{roled_entries}
 use Rattle.ffs_volume.specs.Directories.Volumes.{volume_of}
 use Rattle.ffs_names.specs.RightShapes.{is_right_shape}
+use Rattle.ffs_workspace.specs.Notes.{first_noted, note_at, cut_in}
+use Rattle.ffs_workspace.proofs.NoteLaws.{cut_is_noted, place_is_noted, place_is_whole, IsOneChunkAt}
+use Rattle.ffs_volume.specs.Encodings.Replay.{cut_at}
+use Rattle.ffs_names.proofs.OneChunks.{one_chunk_class, one_chunk_is, entries_by, shape_by}
 use Rattle.ffs_names.proofs.DirLaws.{dir_is, dir_size, dir_seen, shape_seen, kind_dirs}
 use Rattle.ffs_names.proofs.tree.TreeDirectories.start.Goals as goal
 
@@ -36,7 +40,7 @@ returns-clause-reader g c =
           kinds_long = r.kinds_long;
           cut_long = r.cut_long;
         },
-        c.restart.ensures.geometry ∙ c.requires.ready.1,
+        c.restart-2.ensures.geometry ∙ c.requires.ready.1,
       );
       same = rw (ap (λ d. d.contents) device) refl;
       read = device;
@@ -51,14 +55,17 @@ returns-clause-rest g c = λ b k.
     let is = dir_is v b c.args.dir dir in
     let inode = c.in_ok-inode.ensures.inode b k.bytes in
     let inside : c.args.dir < length t.cut.now.items = grind (arith, common_steps) in
-    let cut_is : c.index-cut.result.now ≡ slice_index t.cut.now.items c.args.dir =
-    c.index-cut.ensures ∙ get_or_default_zero t.cut.now.items c.args.dir c.index-cut.result.now inside in
-    let begins = rw c.requires.ready.1 at c.restart.ensures.begins in
+    let note : c.index-note.result.now ≡ note_at v b c.args.dir =
+    (c.index-note.ensures ∙ get_or_default_zero t.cut.now.items c.args.dir c.index-note.result.now inside)
+    ∙ k.cut c.args.dir in
+    let cut : c.index-note.result.now ≡ cut_at v b c.args.dir =
+    sym (rw c.in_default.is at c.place_in.ensures) ∙ (ap cut_in note ∙ cut_is_noted v b c.args.dir t.geometry.sound) in
+    let begins = rw c.requires.ready.1 at c.restart-2.ensures.begins in
     let known = sym (ap (class_of v) inode ∙ is.1) in
     (begins known).entries b
     (subst (λ (x : Inode). x.size < 2147483648) (sym inode) (dir_size v (inode_of v b c.args.dir) is.1))
-    ∙ (dir_seen v b c.args.dir c.in_ok-inode.inode c.index-cut.result.now t.geometry.sound is.0 inode
-    (cut_is ∙ k.cut c.args.dir) ∙ sym (ap (λ x. if x then roled_entries (volume_of v b) c.args.dir else []) dir))
+    ∙ (dir_seen v b c.args.dir c.in_ok-inode.inode c.index-note.result.now t.geometry.sound is.0 inode
+    cut ∙ sym (ap (λ x. if x then roled_entries (volume_of v b) c.args.dir else []) dir))
 
 pub returns-then-not-is_dir-clause-sound : goal.returns-then-not-is_dir-clause-sound
 returns-then-not-is_dir-clause-sound g c = λ b k.
@@ -76,14 +83,60 @@ returns-clause-sound g c = λ b k.
     let is = dir_is v b c.args.dir dir in
     let inode = c.in_ok-inode.ensures.inode b k.bytes in
     let inside : c.args.dir < length t.cut.now.items = grind (arith, common_steps) in
-    let cut_is : c.index-cut.result.now ≡ slice_index t.cut.now.items c.args.dir =
-    c.index-cut.ensures ∙ get_or_default_zero t.cut.now.items c.args.dir c.index-cut.result.now inside in
-    let begins = rw c.requires.ready.1 at c.restart.ensures.begins in
+    let note : c.index-note.result.now ≡ note_at v b c.args.dir =
+    (c.index-note.ensures ∙ get_or_default_zero t.cut.now.items c.args.dir c.index-note.result.now inside)
+    ∙ k.cut c.args.dir in
+    let cut : c.index-note.result.now ≡ cut_at v b c.args.dir =
+    sym (rw c.in_default.is at c.place_in.ensures) ∙ (ap cut_in note ∙ cut_is_noted v b c.args.dir t.geometry.sound) in
+    let begins = rw c.requires.ready.1 at c.restart-2.ensures.begins in
     let known = sym (ap (class_of v) inode ∙ is.1) in
     (begins known).shape b
     (subst (λ (x : Inode). x.size < 2147483648) (sym inode) (dir_size v (inode_of v b c.args.dir) is.1))
-    ∙ (shape_seen v b c.args.dir c.in_ok-inode.inode c.index-cut.result.now t.geometry.sound is.0 inode
-    (cut_is ∙ k.cut c.args.dir) ∙ sym (ap (λ x. x && is_right_shape (volume_of v b) c.args.dir) dir))
+    ∙ (shape_seen v b c.args.dir c.in_ok-inode.inode c.index-note.result.now t.geometry.sound is.0 inode
+    cut ∙ sym (ap (λ x. x && is_right_shape (volume_of v b) c.args.dir) dir))
+
+-- the only chunk of a directory is noted
+pub returns-in-Some-clause-rest : goal.returns-in-Some-clause-rest
+returns-in-Some-clause-rest g c = λ b k.
+    let t = c.args.self.now in
+    let v = t.geometry.layout in
+    let d = c.args.dir in
+    let dir = sym (kind_dirs v b t.kinds.now d (k.kinds d)) ∙ (sym c.is_dir.ensures ∙ c.if-not-is_dir.false) in
+    let is = dir_is v b d dir in
+    let inside : d < length t.cut.now.items = grind (arith, common_steps) in
+    let noted : note_at v b d ≡ first_noted + c.in-Some.address =
+    sym (k.cut d) ∙ (sym (c.index-note.ensures ∙ get_or_default_zero t.cut.now.items d c.index-note.result.now inside)
+    ∙ c.in-Some.ensures) in
+    let at = place_is_noted v b d c.in-Some.address t.geometry.sound noted in
+    let one : IsOneChunkAt (class_of v (inode_of v b d)) (inode_of v b d) c.in-Some.address =
+    record { is_dir = is.1; size = at.size; address_is = at.address_is } in
+    let begins = rw (c.requires.ready.1, c.one_chunk_at.ensures) at c.restart.ensures.begins in
+    (begins (sym (one_chunk_class v c.in-Some.address t.geometry.sound))).entries b (omega arith)
+    ∙ (one_chunk_is v (inode_of v b d) b c.in-Some.address (entries_by v b) t.geometry.sound one
+    ∙ (dir_seen v b d (inode_of v b d) 0 t.geometry.sound is.0 refl
+    (sym (place_is_whole v b d c.in-Some.address t.geometry.sound noted))
+    ∙ sym (ap (λ (x : Bool). if x then roled_entries (volume_of v b) d else []) dir)))
+
+pub returns-in-Some-clause-sound : goal.returns-in-Some-clause-sound
+returns-in-Some-clause-sound g c = λ b k.
+    let t = c.args.self.now in
+    let v = t.geometry.layout in
+    let d = c.args.dir in
+    let dir = sym (kind_dirs v b t.kinds.now d (k.kinds d)) ∙ (sym c.is_dir.ensures ∙ c.if-not-is_dir.false) in
+    let is = dir_is v b d dir in
+    let inside : d < length t.cut.now.items = grind (arith, common_steps) in
+    let noted : note_at v b d ≡ first_noted + c.in-Some.address =
+    sym (k.cut d) ∙ (sym (c.index-note.ensures ∙ get_or_default_zero t.cut.now.items d c.index-note.result.now inside)
+    ∙ c.in-Some.ensures) in
+    let at = place_is_noted v b d c.in-Some.address t.geometry.sound noted in
+    let one : IsOneChunkAt (class_of v (inode_of v b d)) (inode_of v b d) c.in-Some.address =
+    record { is_dir = is.1; size = at.size; address_is = at.address_is } in
+    let begins = rw (c.requires.ready.1, c.one_chunk_at.ensures) at c.restart.ensures.begins in
+    (begins (sym (one_chunk_class v c.in-Some.address t.geometry.sound))).shape b (omega arith)
+    ∙ (one_chunk_is v (inode_of v b d) b c.in-Some.address (shape_by v b) t.geometry.sound one
+    ∙ (shape_seen v b d (inode_of v b d) 0 t.geometry.sound is.0 refl
+    (sym (place_is_whole v b d c.in-Some.address t.geometry.sound noted))
+    ∙ sym (ap (λ (x : Bool). x && is_right_shape (volume_of v b) d) dir)))
 
 pub inode_by_part-requires-clause-ready : goal.inode_by_part-requires-clause-ready
 inode_by_part-requires-clause-ready g c =
@@ -100,7 +153,7 @@ pub returns-then-not-is_dir-clause-left : goal.returns-then-not-is_dir-clause-le
 returns-then-not-is_dir-clause-left g c = c.stop.new.self.few
 
 pub returns-clause-left : goal.returns-clause-left
-returns-clause-left g c = c.restart.new.self.few
+returns-clause-left g c = c.restart-2.new.self.few
 
 -- the read of the inode failed
 pub returns-in_err-inode-clause-reader : goal.returns-in_err-inode-clause-reader

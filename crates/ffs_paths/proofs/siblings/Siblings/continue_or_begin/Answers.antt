@@ -1,7 +1,8 @@
 use Rattle.std.proofs.Common.{◌∙◌, ap, refl, sym, subst, arith}
-use Rattle.std.proofs.lemmas.List.{get_or_default}
 use Rattle.std.proofs.lemmas.Result.{err_from_is_err_and}
 use Rattle.std.specs.Prelude.{slice_index}
+use Rattle.ffs_workspace.specs.Notes.{cut_in}
+use Rattle.ffs_workspace.proofs.NoteLaws.{cut_is_noted}
 use Rattle.ffs_paths.specs.Climbing.{name_in}
 use Rattle.ffs_paths.specs.Siblings.{HoldNames}
 use Rattle.ffs_paths.specs.declared.siblings.Siblings.{Siblings}
@@ -22,10 +23,9 @@ returns-clause-leaves g c =
       right = λ b t claims survey some. record {
         path = kept.path b t claims survey some;
         above = λ dir x h. ap (name_in x) (opened.entries b (ap (λ d. d.contents) kept.reads.read ∙ t) dir
-            (c.index-cut.ensures
-            ∙ (get_or_default c.keep_path_of.new.workspace.cut.items c.args.parent c.index-cut.result.now 0
-            (omega arith)
-            ∙ (ap (λ w. slice_index w.cut.items c.args.parent) kept.reads.lists ∙ claims.cut c.args.parent))));
+            (c.cut_of-cut.ensures
+            ∙ (ap cut_in (ap (λ w. slice_index w.cut.items c.args.parent) kept.reads.lists ∙ claims.cut c.args.parent)
+            ∙ cut_is_noted c.args.geometry.now.layout b c.args.parent c.args.geometry.now.sound)));
         child = λ some. absurd (omega arith);
       };
     })
@@ -48,8 +48,8 @@ open-requires-clause-number g c = c.requires.ready.number
 pub open-requires-clause-windows : goal.open-requires-clause-windows
 open-requires-clause-windows g c = windows_open _ _ _ c.in_ok-keep_path_of.ensures.reads.ready
 
-pub index-cut-requires : goal.index-cut-requires
-index-cut-requires g c =
+pub cut_of-cut-requires : goal.cut_of-cut-requires
+cut_of-cut-requires g c =
     omega (arith, c.in_ok-keep_path_of.ensures.reads.ready.made.cut, c.requires.ready.number)
 
 pub returns-clause-begun : goal.returns-clause-begun

@@ -1,8 +1,9 @@
 use Rattle.std.proofs.Common.{◌∙◌, ap, refl, sym, subst, arith}
-use Rattle.std.proofs.lemmas.List.{get_or_default}
 use Rattle.std.proofs.lemmas.Result.{err_from_is_err_and}
 use Rattle.ffs_volume.specs.Directories.Roles.{is_dir, roled_entries}
 use Rattle.ffs_volume.specs.Directories.Volumes.{volume_of}
+use Rattle.ffs_workspace.specs.Notes.{cut_in}
+use Rattle.ffs_workspace.proofs.NoteLaws.{cut_is_noted}
 use Rattle.ffs_paths.specs.ChildNames.{AreAllNamesOf}
 use Rattle.ffs_paths.proofs.Parts.{same_but_names}
 use Rattle.ffs_paths.proofs.Keeping.{no_reads, then_reads, leaves_with, windows_open}
@@ -25,8 +26,8 @@ returns-clause-leaves g c =
         right = λ b t claims dir.
             subst (λ p. AreAllNamesOf b (roled_entries (volume_of v b) p) c.in_ok-names.names) (sym read.parent_is)
             (read.names b t (ap (is_dir (volume_of v b)) (sym read.parent_is) ∙ dir)
-            (c.index-cut.ensures ∙ (get_or_default c.args.workspace.now.cut.items c.args.parent c.index-cut.result.now 0
-            (omega arith) ∙ claims.cut c.args.parent)));
+            (c.cut_of-cut.ensures ∙ (ap cut_in (claims.cut c.args.parent)
+            ∙ cut_is_noted v b c.args.parent c.args.geometry.now.sound)));
         inside = read.inside;
       };
     })
@@ -43,8 +44,8 @@ returns-in_err-names-clause-leaves g c =
 pub returns-clause-same : goal.returns-clause-same
 returns-clause-same g c = same_but_names c.args.self.now _ _
 
-pub index-cut-requires : goal.index-cut-requires
-index-cut-requires g c = omega (arith, c.requires.ready.made.cut, c.requires.number)
+pub cut_of-cut-requires : goal.cut_of-cut-requires
+cut_of-cut-requires g c = omega (arith, c.requires.ready.made.cut, c.requires.number)
 
 pub read-requires-clause-number : goal.read-requires-clause-number
 read-requires-clause-number g c = c.requires.number

@@ -1,0 +1,126 @@
+-- What a note says of an inode.
+use Rattle.std.proofs.Common.{◌≡◌, ℕ, ◌+◌, ◌-◌, ◌<◌, Bool, true, false, List, [], ◌∷◌, arith, length, refl, ap, sym, ◌∙◌}
+use Rattle.std.specs.Prelude.{slice_index, nat_lt, ◌&&◌, ◌==◌, min, if◌then◌else◌, map}
+use Rattle.std.specs.List.{range_with_len}
+use Rattle.std.proofs.lemmas.Bool.Decides.{nat_tests}
+use Rattle.std.proofs.lemmas.List.FromFn.{length-map-range_with_len}
+use Rattle.ffs_volume.specs.declared.Layout.{Layout}
+use Rattle.ffs_volume.specs.declared.Inode.{Inode}
+use Rattle.ffs_volume.specs.declared.Class.{Class}
+use Rattle.ffs_volume.specs.declared.Class.TheVariants.{Free, Partial, Unknown, File, Dir}
+use Rattle.ffs_volume.specs.Disk.Areas.{is_reserved}
+use Rattle.ffs_volume.specs.Disk.Geometry.{IsAcceptedLayout}
+use Rattle.ffs_volume.specs.Blocks.Inodes.{inode_of, is_directory}
+use Rattle.ffs_volume.specs.Blocks.Steps.{steps_of}
+use Rattle.ffs_volume.specs.Blocks.Owners.{owner_of}
+use Rattle.ffs_volume.specs.Blocks.Claims.{Claims, no_claims, reserved_map, at_next_inode, after_steps, after_owner, after_owners}
+use Rattle.ffs_volume.specs.Blocks.KeptSteps.{claims_before}
+use Rattle.ffs_volume.specs.Directories.Volumes.{class_at, is_inode_number}
+use Rattle.ffs_volume.specs.Encodings.Replay.{cut_of, cut_at}
+use Rattle.ffs_volume.proofs.Weights.{owner_moves, kept_bound}
+use Rattle.ffs_volume.proofs.CutLaws.{cut_is}
+use Rattle.ffs_workspace.specs.Notes.{first_noted, has_one_chunk, note_of, note_at, cut_in}
+
+-- the map keeps its length from inode to inode
+owners_length : (v : Layout) (image : List ℕ) (s : Claims) (xs : List ℕ) → IsAcceptedLayout v → length s.used ≡ v.size →
+    length (after_owners v s (map (owner_of v image) xs)).used ≡ v.size
+owners_length v image s [] g h = h
+owners_length v image s (x ∷ xs) g h = owners_length v image (after_owner v s (owner_of v image x)) xs g
+    ((owner_moves v image s x g h).used_length ∙ h)
+
+before_length : (v : Layout) (image : List ℕ) (x : ℕ) → IsAcceptedLayout v → length (claims_before v image x).used ≡
+    v.size
+unfolding claims_before no_claims reserved_map
+before_length v image x g = owners_length v image (no_claims v) (range_with_len 2 (x - 2)) g
+    (length-map-range_with_len (is_reserved v) 0 v.size)
+
+-- an inode keeps fewer offers than the first note of a place
+kept_few : (v : Layout) (image : List ℕ) (x : ℕ) → IsAcceptedLayout v
+    → (after_steps v (at_next_inode (claims_before v image x)) (steps_of v (inode_of v image x) image)).kept < 2147483776
+unfolding owner_of
+kept_few v image x g =
+    let s = at_next_inode (claims_before v image x) in
+    let e = after_steps v s (steps_of v (inode_of v image x) image) in
+    let h = before_length v image x g in
+    let m = owner_moves v image (claims_before v image x) x g h in
+    omega (arith, kept_bound s e v.size (m.used_length ∙ h) (omega arith) (omega arith) refl m, g.numbers.size_below)
+
+cut_of_few : (e : Claims) → e.kept < 2147483776 → cut_of e < 2147483776
+cut_of_few e few = go (nat_lt e.dups 11)
+  where
+    go : (b : Bool) → (if b then 0 else e.kept) < 2147483776
+    go true = omega arith
+    go false = few
+
+cut_few : (v : Layout) (image : List ℕ) (x : ℕ) → IsAcceptedLayout v → cut_at v image x < 2147483776
+cut_few v image x g = go (is_inode_number v x) refl
+  where
+    e : Claims
+    e = after_steps v (at_next_inode (claims_before v image x)) (steps_of v (inode_of v image x) image)
+
+    go : (b : Bool) → is_inode_number v x ≡ b → cut_at v image x < 2147483776
+    go true h = omega (arith, cut_is v image x g h, cut_of_few e (kept_few v image x g))
+    go false h =
+        let none : cut_at v image x ≡ 0 = ap
+        (λ (b : Bool). if b then min (cut_of (after_owner v (claims_before v image x) (owner_of v image x))) 4294967295 else 0) h in
+        omega (arith, none)
+
+not_below : (a : ℕ) → nat_lt (first_noted + a) first_noted ≡ false
+not_below a = grind (arith, nat_tests)
+
+below_first : (n : ℕ) → n < 2147483776 → nat_lt n first_noted ≡ true
+below_first n h = grind (arith, nat_tests)
+
+zero_of : (n : ℕ) → (n == 0) ≡ true → n ≡ 0
+zero_of n h = grind (arith, nat_tests)
+
+cut_noted : (class : Class) (i : Inode) (cut : ℕ) → cut < 2147483776 → cut_in (note_of class i cut) ≡ cut
+cut_noted class i cut few = go (cut == 0) refl (has_one_chunk class i)
+  where
+    go : (z : Bool) → (cut == 0) ≡ z → (one : Bool)
+        → cut_in (if z && one then first_noted + slice_index i.addresses 0 else cut) ≡ cut
+    go true h true = ap (λ (x : Bool). if x then first_noted + slice_index i.addresses 0 else 0)
+        (not_below (slice_index i.addresses 0)) ∙ sym (zero_of cut h)
+    go true h false = ap (λ (x : Bool). if x then cut else 0) (below_first cut few)
+    go false h one = ap (λ (x : Bool). if x then cut else 0) (below_first cut few)
+
+-- the cut of an inode is what its note says
+pub cut_is_noted : (v : Layout) (image : List ℕ) (x : ℕ) → IsAcceptedLayout v → cut_in (note_at v image x) ≡ cut_at v image x
+unfolding note_at
+cut_is_noted v image x g = cut_noted (class_at v image x) (inode_of v image x) (cut_at v image x) (cut_few v image x g)
+
+-- a directory of one chunk, at this address
+pub record IsOneChunkAt (class : Class) (i : Inode) (address : ℕ) : Type 0 where
+  pub is_dir : class ≡ Dir
+  pub size : i.size ≡ 512
+  pub address_is : slice_index i.addresses 0 ≡ address
+
+place_noted : (class : Class) (i : Inode) (cut a : ℕ) → cut < 2147483776 → note_of class i cut ≡ first_noted + a →
+    IsOneChunkAt class i a
+place_noted class i cut a few h =
+    go (cut == 0) class refl (i.size == 512) refl (nat_lt (slice_index i.addresses 0) 2147483520) h
+  where
+    go : (z : Bool) (k : Class) → k ≡ class → (s : Bool) → (i.size == 512) ≡ s → (l : Bool)
+        → (if z && (is_directory k && (s && l)) then first_noted + slice_index i.addresses 0 else cut) ≡ first_noted + a
+        → IsOneChunkAt class i a
+    go true Dir e true s true h =
+        record { is_dir = sym e; size = grind (arith, nat_tests); address_is = omega (arith, h) }
+    go true Dir e true s false h = absurd (omega (arith, h, few))
+    go true Dir e false s l h = absurd (omega (arith, h, few))
+    go true File e s q l h = absurd (omega (arith, h, few))
+    go true Unknown e s q l h = absurd (omega (arith, h, few))
+    go true Partial e s q l h = absurd (omega (arith, h, few))
+    go true Free e s q l h = absurd (omega (arith, h, few))
+    go false k e s q l h = absurd (omega (arith, h, few))
+
+-- a note of a place is that of a directory of one chunk
+pub place_is_noted : (v : Layout) (image : List ℕ) (x a : ℕ) → IsAcceptedLayout v → note_at v image x ≡ first_noted + a
+    → IsOneChunkAt (class_at v image x) (inode_of v image x) a
+unfolding note_at
+place_is_noted v image x a g = place_noted (class_at v image x) (inode_of v image x) (cut_at v image x) a (cut_few v image x g)
+
+-- and it isn't cut
+pub place_is_whole : (v : Layout) (image : List ℕ) (x a : ℕ) → IsAcceptedLayout v → note_at v image x ≡ first_noted + a
+    → cut_at v image x ≡ 0
+place_is_whole v image x a g h = sym (cut_is_noted v image x g) ∙ (ap cut_in h
+    ∙ ap (λ (b : Bool). if b then first_noted + a else 0) (not_below a))

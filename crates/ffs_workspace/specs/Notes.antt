@@ -1,0 +1,30 @@
+-- What a workspace notes of an inode, in 32 bits: how many offers it keeps, where its eleventh dup offer cut it; where
+-- it isn't cut and is a directory of one chunk, the address of that chunk, so that the survey needn't read the inode
+-- again; else 0.
+use Rattle.std.specs.Prelude.{ℕ, Bool, ◌+◌, ◌&&◌, ◌==◌, nat_lt, if◌then◌else◌, List, slice_index}
+use Rattle.ffs_volume.specs.declared.Layout.{Layout}
+use Rattle.ffs_volume.specs.declared.Inode.{Inode}
+use Rattle.ffs_volume.specs.declared.Class.{Class}
+use Rattle.ffs_volume.specs.Blocks.Inodes.{inode_of, is_directory}
+use Rattle.ffs_volume.specs.Directories.Volumes.{class_at}
+use Rattle.ffs_volume.specs.Encodings.Replay.{cut_at}
+
+-- notes from this number on are addresses, from 0 on: no inode keeps so many offers
+abbrev pub first_noted : ℕ
+first_noted = 2147483776
+
+-- a directory of one chunk, at an address that can be noted
+abbrev pub has_one_chunk : Class → Inode → Bool
+has_one_chunk class i = is_directory class && ((i.size == 512) && nat_lt (slice_index i.addresses 0) 2147483520)
+
+-- the note of an inode of a class, and with this cut
+abbrev pub note_of : Class → Inode → ℕ → ℕ
+note_of class i cut = if (cut == 0) && has_one_chunk class i then first_noted + slice_index i.addresses 0 else cut
+
+-- the note of the inode x of an image, and 0 where x is no inode's number
+unfoldable pub note_at : (v : Layout) (image : List ℕ) (x : ℕ) → ℕ
+note_at v image x = note_of (class_at v image x) (inode_of v image x) (cut_at v image x)
+
+-- the cut that a note says
+abbrev pub cut_in : ℕ → ℕ
+cut_in note = if nat_lt note first_noted then note else 0

@@ -1,0 +1,52 @@
+//! What is noted of an inode, in 32 bits, between phase 1 and the others.
+
+ghost use Rattle.std.specs.Prelude.{◌≡◌, ◌+◌, MatchOption};
+ghost use Rattle.ffs_workspace.specs.Notes.{first_noted, has_one_chunk, note_of, cut_in};
+
+use ffs_volume::constants::DIRBLKSIZ;
+use ffs_volume::{Class, Inode};
+
+/// Notes from this number on are addresses, counted from here. No inode keeps so many offers: it
+/// keeps at most 99 more than the volume has fragments, and that are fewer than 2^31.
+const FIRST_NOTED: u32 = (1 << 31) + 128;
+
+/// Only addresses below this one are noted, so that each note fits 32 bits.
+const NOTED_BELOW: u32 = (1 << 31) - 128;
+
+/// Whether an inode is a directory of one chunk, at an address that can be noted.
+#[inline(always)]
+fn has_one_chunk(class: Class, inode: &Inode) -> bool
+    ensures { result ≡ has_one_chunk class inode.now }
+{
+    class == Class::Dir && inode.size == DIRBLKSIZ as u64 && inode.addresses[0] < NOTED_BELOW
+}
+
+/// What is noted of an inode of a class: how many offers it keeps where duplicates cut it
+/// (`cut`), else where its only chunk is, as an address in fragments, if it is a directory of one
+/// chunk of 512 bytes (dir(5)), else 0.
+#[inline(always)]
+pub fn note_of(class: Class, inode: &Inode, cut: u32) -> u32
+    ensures { result ≡ note_of class inode.now cut }
+{
+    if cut == 0 && has_one_chunk(class, inode) {
+        FIRST_NOTED + inode.addresses[0]
+    } else {
+        cut
+    }
+}
+
+/// How many offers an inode keeps where duplicates cut it, else 0, by its note.
+#[inline(always)]
+pub fn cut_in(note: u32) -> u32
+    ensures { result ≡ cut_in note }
+{
+    if note < FIRST_NOTED { note } else { 0 }
+}
+
+/// Where the only chunk of a directory is, as an address in fragments, if a note says it.
+#[inline(always)]
+pub fn place_in(note: u32) -> Option<u32>
+    ensures { MatchOption result (cut_in note ≡ note) (λ address. note ≡ first_noted + address) }
+{
+    note.checked_sub(FIRST_NOTED)
+}
