@@ -225,7 +225,7 @@ unfolding all_claims
 no_rescan v image w none h = record {
   used = h.used;
   kinds = h.kinds;
-  cut = h.cut;
+  notes = h.notes;
   marked = λ x. h.marked x ∙ sym (or_false (first_marked_at v image x))
       ∙ ap (λ (b : Bool). first_marked_at v image x || b) (sym (silent x)) ∙ sym (marked_total v image x);
 }

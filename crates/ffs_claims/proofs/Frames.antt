@@ -22,13 +22,13 @@ use Rattle.ffs_claims.specs.Leaves.{SameFound, ClaimsOnly, Stored, OffersOnly}
 use Rattle.ffs_claims.specs.Reporting.{SameClaims, ReportsOnly, OffersReportedOnly}
 
 pub found_none : (w : Workspace) → SameFound w w
-found_none w = record { kinds = refl; marked = refl; cut = refl; references = refl; again = refl }
+found_none w = record { kinds = refl; marked = refl; notes = refl; references = refl; again = refl }
 
 pub found_then : (u v w : Workspace) → SameFound u v → SameFound v w → SameFound u w
 found_then u v w p q = record {
   kinds = q.kinds ∙ p.kinds;
   marked = q.marked ∙ p.marked;
-  cut = q.cut ∙ p.cut;
+  notes = q.notes ∙ p.notes;
   references = q.references ∙ p.references;
   again = q.again ∙ p.again;
 }
@@ -37,7 +37,7 @@ pub claims_then : (u v w : Workspace) → SameClaims u v → SameClaims v w → 
 claims_then u v w p q = record {
   claimed = q.claimed ∙ p.claimed;
   kinds = q.kinds ∙ p.kinds;
-  cut = q.cut ∙ p.cut;
+  notes = q.notes ∙ p.notes;
   references = q.references ∙ p.references;
   seen = q.seen ∙ p.seen;
 }
@@ -47,7 +47,7 @@ pub found_still : (u w : Workspace) (windows : Windows) → SameFound u w → Sa
 found_still u w windows p = record {
   kinds = p.kinds;
   marked = p.marked;
-  cut = p.cut;
+  notes = p.notes;
   references = p.references;
   again = p.again;
 }
@@ -57,13 +57,13 @@ pub claims_still : (u w : Workspace) (windows : Windows) → SameClaims u w →
 claims_still u w windows p = record {
   claimed = p.claimed;
   kinds = p.kinds;
-  cut = p.cut;
+  notes = p.notes;
   references = p.references;
   seen = p.seen;
 }
 
 pub claims_none : (w : Workspace) → SameClaims w w
-claims_none w = record { claimed = refl; kinds = refl; cut = refl; references = refl; seen = refl }
+claims_none w = record { claimed = refl; kinds = refl; notes = refl; references = refl; seen = refl }
 
 pub only_none : (l : Layout) (w : Workspace) → IsFor l w → ClaimsOnly l w w
 only_none l w made = record { made = made; windows = refl; found = found_none w }
@@ -89,7 +89,7 @@ offers_claimed v w map kept made size = record {
       reached = made.reached;
       flags = made.flags;
       references = made.references;
-      cut = made.cut;
+      notes = made.notes;
       parents = made.parents;
       queue = made.queue;
       table = made.table;
@@ -98,7 +98,7 @@ offers_claimed v w map kept made size = record {
       names = made.names;
     };
     windows = refl;
-    found = record { kinds = refl; marked = refl; cut = refl; references = refl; again = refl };
+    found = record { kinds = refl; marked = refl; notes = refl; references = refl; again = refl };
   };
   runs = refl;
 }
@@ -193,7 +193,7 @@ stored_length old new number x n e s = omega (arith, ap length s, length-set old
 -- or what was found of one is kept
 pub ready_stored : (l : Layout) (d : Device) (number : ℕ) (class : Class) (i : Inode) (u w : Workspace) →
     Stored number class i u w →
-    w ≡ record u { kinds = w.kinds; marked = w.marked; cut = w.cut; references = w.references } → IsReady l d u
+    w ≡ record u { kinds = w.kinds; marked = w.marked; notes = w.notes; references = w.references } → IsReady l d u
     → IsReady l d w
 ready_stored l d number class i u w s e r =
     let m = r.made in
@@ -208,7 +208,7 @@ ready_stored l d number class i u w s e r =
         reached = ap (λ x. vec_len x.reached) e ∙ m.reached;
         flags = ap (λ x. vec_len x.flags) e ∙ m.flags;
         references = stored_length u.references w.references number _ _ m.references s.starts;
-        cut = stored_length u.cut w.cut number _ _ m.cut s.cut;
+        notes = stored_length u.notes w.notes number _ _ m.notes s.notes;
         parents = ap (λ x. vec_len x.parents) e ∙ m.parents;
         queue = ap (λ x. vec_len x.queue) e ∙ m.queue;
         table = rw same m.table;

@@ -209,7 +209,7 @@ unfolding all_claims phase1b_lines
 claims_hold v bytes old new h same t = record {
   used = ap bits_of same.claimed ∙ h.used;
   kinds = λ x. ap (λ k. slice_index k.items x) same.kinds ∙ h.kinds x;
-  cut = λ x. ap (λ k. slice_index k.items x) same.cut ∙ h.cut x;
+  notes = λ x. ap (λ k. slice_index k.items x) same.notes ∙ h.notes x;
   marked = λ x. t.marked x
       ∙ ap (λ (b : Bool). b || list_any (blames x)
       (first_offer_lines (bits_of old.duplicates) (kept_in_owners v (no_claims v) (owners_of v bytes))))

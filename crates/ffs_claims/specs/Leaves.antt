@@ -39,7 +39,7 @@ pub record AreClaims (w : Workspace) (claims : Claims) (seen : Bool) : Type 0 wh
 pub record SameFound (old new : Workspace) : Type 0 where
   pub kinds : new.kinds ≡ old.kinds
   pub marked : new.marked ≡ old.marked
-  pub cut : new.cut ≡ old.cut
+  pub notes : new.notes ≡ old.notes
   pub references : new.references ≡ old.references
   pub again : new.runs_again ≡ old.runs_again
 
@@ -58,13 +58,13 @@ pub record OffersOnly (v : Layout) (old new : Workspace) : Type 0 where
 pub record HasInode (number : ℕ) (w : Workspace) : Type 0 where
   pub kinds : number < vec_len w.kinds
   pub marked : number < vec_len w.marked
-  pub cut : number < vec_len w.cut
+  pub notes : number < vec_len w.notes
   pub references : number < vec_len w.references
 
 -- what was found of the current inode is kept
 pub record Stored (number : ℕ) (class : Class) (i : Inode) (old new : Workspace) : Type 0 where
   pub kinds : new.kinds.items ≡ slice_set old.kinds.items number (kind_of class i)
   pub marked : new.marked.items ≡ slice_set old.marked.items number (is_unknown class || has_blame (claims_of new))
-  pub cut : new.cut.items ≡ slice_set old.cut.items number
+  pub notes : new.notes.items ≡ slice_set old.notes.items number
       (note_of class i (min (cut_of (claims_of new)) 4294967295))
   pub starts : new.references.items ≡ slice_set old.references.items number (start_of class i)

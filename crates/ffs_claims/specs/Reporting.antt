@@ -24,12 +24,12 @@ pub record OffersReported (offers : List Offer) (old new : Workspace) : Type 0 w
   pub marked : (x : ℕ) → bool_at new.marked.items x ≡ (bool_at old.marked.items x
       || list_any (blames x) (first_offer_lines (bits_of old.duplicates) offers))
 
--- a call left the claims alone, what each inode is, where it is cut, where its count of references starts, and the
+-- a call left the claims alone, what each inode is, what is noted of it, where its count of references starts, and the
 -- Runs of phase 1
 pub record SameClaims (old new : Workspace) : Type 0 where
   pub claimed : new.claimed ≡ old.claimed
   pub kinds : new.kinds ≡ old.kinds
-  pub cut : new.cut ≡ old.cut
+  pub notes : new.notes ≡ old.notes
   pub references : new.references ≡ old.references
   pub seen : new.runs_seen ≡ old.runs_seen
 

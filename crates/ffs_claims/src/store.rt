@@ -163,7 +163,7 @@ pub fn store(workspace: &mut Workspace, number: u32, class: Class, inode: &Inode
     ensures rest { workspace.new ≡ record workspace.old {
       kinds = workspace.new.kinds;
       marked = workspace.new.marked;
-      cut = workspace.new.cut;
+      notes = workspace.new.notes;
       references = workspace.new.references;
     } }
 {
@@ -172,7 +172,7 @@ pub fn store(workspace: &mut Workspace, number: u32, class: Class, inode: &Inode
     let note = note_of(class, inode, cut_of(workspace));
     workspace.kinds[number as usize] = kind;
     workspace.marked[number as usize] = marked;
-    store_note(&mut workspace.cut, number as usize, note);
+    store_note(&mut workspace.notes, number as usize, note);
     store_start(
         &mut workspace.references,
         number as usize,

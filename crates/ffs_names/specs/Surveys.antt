@@ -7,13 +7,13 @@ use Rattle.ffs_survey.specs.Calm.{AreCalm}
 use Rattle.ffs_names.specs.RightShapes.{is_right_directory}
 use Rattle.ffs_workspace.specs.declared.workspace.Workspace.{Workspace}
 
--- the claims, kinds, marks and cuts of a workspace, and its counts of Runs
+-- the claims, kinds, marks and notes of a workspace, and its counts of Runs
 pub record IsUntouched (old new : Workspace) : Type 0 where
   pub claimed : new.claimed ≡ old.claimed
   pub duplicates : new.duplicates ≡ old.duplicates
   pub kinds : new.kinds ≡ old.kinds
   pub marked : new.marked ≡ old.marked
-  pub cut : new.cut ≡ old.cut
+  pub notes : new.notes ≡ old.notes
   pub runs_seen : new.runs_seen ≡ old.runs_seen
   pub runs_again : new.runs_again ≡ old.runs_again
 

@@ -19,7 +19,7 @@ pub record Base : Type 0 where
   pub layout : Layout
   pub contents : Option (List ℕ)
   pub kinds : List ℕ
-  pub cut : List ℕ
+  pub notes : List ℕ
   pub image_lent : GName
   pub windows_lent : GName
 
@@ -27,7 +27,7 @@ pub record Base : Type 0 where
 pub record KnowsTree (t : Base) (b : List ℕ) : Type 0 where
   pub bytes : t.contents ≡ Some b
   pub kinds : (x : ℕ) → slice_index t.kinds x ≡ kind_at t.layout b x
-  pub cut : (x : ℕ) → slice_index t.cut x ≡ note_at t.layout b x
+  pub notes : (x : ℕ) → slice_index t.notes x ≡ note_at t.layout b x
 
 -- the entries of a directory, and none of another inode
 abbrev pub dir_entries : Base → List ℕ → ℕ → List RoledEntry
@@ -38,7 +38,7 @@ abbrev pub dir_sound : Base → List ℕ → ℕ → Bool
 dir_sound t b = is_right_directory (volume_of t.layout b)
 
 -- the windows have room, and hold what the image gives; its lists have a place for each inode
-pub record IsReady (v : Layout) (device : Device) (windows : Windows) (kinds cut : List ℕ) : Type 0 where
+pub record IsReady (v : Layout) (device : Device) (windows : Windows) (kinds notes : List ℕ) : Type 0 where
   pub volume : v.size * v.fsize ≤ device.size
   pub table : IsTableOf v windows.table
   pub blocks : vec_len windows.blocks.buffer ≡ 3 * v.bsize
@@ -49,4 +49,4 @@ pub record IsReady (v : Layout) (device : Device) (windows : Windows) (kinds cut
   pub chunk_holds : WindowHolds device.contents windows.chunk
   pub names_hold : WindowHolds device.contents windows.names
   pub kinds_long : length kinds ≡ inodes_of v
-  pub cut_long : length cut ≡ inodes_of v
+  pub notes_long : length notes ≡ inodes_of v

@@ -44,7 +44,7 @@ pub fn survey<I: Image>(
         image,
         windows: &mut workspace.windows,
         kinds: &workspace.kinds,
-        cut: &workspace.cut,
+        notes: &workspace.notes,
         entries: Entries::none(geometry),
     };
     ffs_survey::survey(

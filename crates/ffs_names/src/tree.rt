@@ -43,7 +43,7 @@ pub struct Tree<'a, I> {
     /// What each inode is.
     pub kinds: &'a [u8],
     /// What is noted of each inode (`ffs_workspace::note_of`).
-    pub cut: &'a FilledList<u32>,
+    pub notes: &'a FilledList<u32>,
     /// The current directory.
     pub entries: Entries,
 }
@@ -55,7 +55,7 @@ impl<I: Image> Directories for Tree<'_, I> {
 
     ghost Base = { TreeBase };
 
-    ghost base = { λ t. record { layout = t.geometry.layout; contents = (I.device t.image.now).contents; kinds = t.kinds.now; cut = t.cut.now.items; image_lent = t.image.ghost_name; windows_lent = t.windows.ghost_name } };
+    ghost base = { λ t. record { layout = t.geometry.layout; contents = (I.device t.image.now).contents; kinds = t.kinds.now; notes = t.notes.now.items; image_lent = t.image.ghost_name; windows_lent = t.windows.ghost_name } };
 
     ghost knows = { KnowsTree };
 
@@ -65,7 +65,7 @@ impl<I: Image> Directories for Tree<'_, I> {
 
     ghost device = { λ t. I.device t.image.now };
 
-    ghost ready = { λ t. IsReady t.geometry.layout (I.device t.image.now) t.windows.now t.kinds.now t.cut.now.items × (t.entries.chunks.walk.geometry ≡ t.geometry) };
+    ghost ready = { λ t. IsReady t.geometry.layout (I.device t.image.now) t.windows.now t.kinds.now t.notes.now.items × (t.entries.chunks.walk.geometry ≡ t.geometry) };
 
     ghost rest = { λ t b. to_come b t.entries };
 
@@ -83,7 +83,7 @@ impl<I: Image> Directories for Tree<'_, I> {
             self.entries.stop();
             return Ok(());
         }
-        let note = self.cut[dir as usize];
+        let note = self.notes[dir as usize];
         if let Some(address) = place_in(note) {
             self.entries.restart(&one_chunk_at(address), Class::Dir, 0);
             return Ok(());

@@ -72,7 +72,7 @@ claims_untouched v b old new s h = record {
   used = ap bits_of s.claimed ∙ h.used;
   kinds = λ x. ap (λ k. slice_index k.items x) s.kinds ∙ h.kinds x;
   marked = λ x. ap (λ k. bool_at k.items x) s.marked ∙ h.marked x;
-  cut = λ x. ap (λ k. slice_index k.items x) s.cut ∙ h.cut x;
+  notes = λ x. ap (λ k. slice_index k.items x) s.notes ∙ h.notes x;
 }
 
 -- numbers below 2 are no directories

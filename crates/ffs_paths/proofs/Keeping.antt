@@ -20,7 +20,7 @@ leaves_back old new s = record {
   claimed = sym s.claimed;
   kinds = sym s.kinds;
   marked = sym s.marked;
-  cut = sym s.cut;
+  notes = sym s.notes;
   references = sym s.references;
   named = sym s.named;
   reached = sym s.reached;
@@ -99,7 +99,7 @@ then_reads {last = last} {windows = windows} {result = result} one opened chunk 
           reached = made.reached;
           flags = made.flags;
           references = made.references;
-          cut = made.cut;
+          notes = made.notes;
           parents = made.parents;
           queue = made.queue;
           table = opened.table;

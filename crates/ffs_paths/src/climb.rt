@@ -30,7 +30,7 @@ pub fn climb<I: Image>(
     ensures reads { OnlyReads geometry.now.layout (I.device image.old) (I.device image.new)
         workspace.old workspace.new result }
 {
-    let count = workspace.cut.len();
+    let count = workspace.notes.len();
     let mut path = PathBuffer::new();
     let mut at = dir;
     'up: for step in 0..count {

@@ -11,7 +11,7 @@ leaves_all w = record {
   claimed = refl;
   kinds = refl;
   marked = refl;
-  cut = refl;
+  notes = refl;
   references = refl;
   named = refl;
   reached = refl;
@@ -26,7 +26,7 @@ leaves_more a b c s t = record {
   claimed = t.claimed ∙ s.claimed;
   kinds = t.kinds ∙ s.kinds;
   marked = t.marked ∙ s.marked;
-  cut = t.cut ∙ s.cut;
+  notes = t.notes ∙ s.notes;
   references = t.references ∙ s.references;
   named = t.named ∙ s.named;
   reached = t.reached ∙ s.reached;
@@ -41,7 +41,7 @@ windows_leave old new e = record {
   claimed = ap (λ (w : Workspace). w.claimed) e;
   kinds = ap (λ (w : Workspace). w.kinds) e;
   marked = ap (λ (w : Workspace). w.marked) e;
-  cut = ap (λ (w : Workspace). w.cut) e;
+  notes = ap (λ (w : Workspace). w.notes) e;
   references = ap (λ (w : Workspace). w.references) e;
   named = ap (λ (w : Workspace). w.named) e;
   reached = ap (λ (w : Workspace). w.reached) e;
@@ -56,7 +56,7 @@ claims_left v b old new s h = record {
   used = ap bits_of s.claimed ∙ h.used;
   kinds = λ x. ap (λ k. slice_index k.items x) s.kinds ∙ h.kinds x;
   marked = λ x. ap (λ k. bool_at k.items x) s.marked ∙ h.marked x;
-  cut = λ x. ap (λ k. slice_index k.items x) s.cut ∙ h.cut x;
+  notes = λ x. ap (λ k. slice_index k.items x) s.notes ∙ h.notes x;
 }
 
 pub survey_left : (v : Layout) (b : List ℕ) (old new : Workspace) → LeavesSurvey old new → HoldsSurvey v b old →

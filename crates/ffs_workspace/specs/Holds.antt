@@ -37,7 +37,7 @@ pub record IsFresh (v : Layout) (w : Workspace) : Type 0 where
   pub duplicates : bits_of w.duplicates ≡ replicate v.size false
   pub kinds : w.kinds.items ≡ replicate (inodes_of v) 0
   pub marked : w.marked.items ≡ replicate (inodes_of v) false
-  pub cut : w.cut.items ≡ replicate (inodes_of v) 0
+  pub notes : w.notes.items ≡ replicate (inodes_of v) 0
   pub references : w.references.items ≡ replicate (inodes_of v) 0
 
 -- a bad Run or a dup offer was seen
@@ -64,7 +64,7 @@ pub record HoldsPhase1 (v : Layout) (image : List ℕ) (w : Workspace) : Type 0 
   pub runs : w.runs_seen ≡ (all_claims v image).runs
   pub kinds : (x : ℕ) → slice_index w.kinds.items x ≡ kind_at v image x
   pub marked : (x : ℕ) → bool_at w.marked.items x ≡ first_marked_at v image x
-  pub cut : (x : ℕ) → slice_index w.cut.items x ≡ note_at v image x
+  pub notes : (x : ℕ) → slice_index w.notes.items x ≡ note_at v image x
   pub starts : (x : ℕ) → slice_index w.references.items x ≡ start_at v image x
 
 -- what phases 1 and 1b leave: the fragments that are reserved or claimed, and for each inode its kind, whether it is
@@ -73,7 +73,7 @@ pub record HoldsClaims (v : Layout) (image : List ℕ) (w : Workspace) : Type 0 
   pub used : bits_of w.claimed ≡ (after_owners v (no_claims v) (owners_of v image)).used
   pub kinds : (x : ℕ) → slice_index w.kinds.items x ≡ kind_at v image x
   pub marked : (x : ℕ) → bool_at w.marked.items x ≡ marked_at v image x
-  pub cut : (x : ℕ) → slice_index w.cut.items x ≡ note_at v image x
+  pub notes : (x : ℕ) → slice_index w.notes.items x ≡ note_at v image x
 
 -- what phases 1 and 1b leave for the survey: where the count of references of each inode starts
 pub record HoldsStarts (v : Layout) (image : List ℕ) (w : Workspace) : Type 0 where

@@ -7,7 +7,7 @@ pub record LeavesSurvey (old new : Workspace) : Type 0 where
   pub claimed : new.claimed ≡ old.claimed
   pub kinds : new.kinds ≡ old.kinds
   pub marked : new.marked ≡ old.marked
-  pub cut : new.cut ≡ old.cut
+  pub notes : new.notes ≡ old.notes
   pub references : new.references ≡ old.references
   pub named : new.named ≡ old.named
   pub reached : new.reached ≡ old.reached

@@ -29,7 +29,7 @@ pub record IsFor (v : Layout) (w : Workspace) : Type 0 where
   pub reached : vec_len w.reached ≡ inodes_of v
   pub flags : vec_len w.flags ≡ inodes_of v
   pub references : vec_len w.references ≡ inodes_of v
-  pub cut : vec_len w.cut ≡ inodes_of v
+  pub notes : vec_len w.notes ≡ inodes_of v
   pub parents : vec_len w.parents ≡ inodes_of v
   pub queue : vec_len w.queue ≡ inodes_of v
   pub table : IsTableOf v w.windows.table

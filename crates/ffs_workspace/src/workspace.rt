@@ -50,9 +50,9 @@ pub struct Workspace {
     pub flags: FixedList<bool>,
     /// How many entries refer to each inode, counted on from `links_start`.
     pub references: FilledList<u64>,
-    /// How many offers an inode keeps that its eleventh dup offer cut, or where the only chunk of a
-    /// directory is (`note_of`), else 0.
-    pub cut: FilledList<u32>,
+    /// What is noted of each inode (`note_of`): how many offers it keeps where its eleventh dup
+    /// offer cut it, or where the only chunk of a directory is, else 0.
+    pub notes: FilledList<u32>,
     /// The parent of each directory, or 0.
     pub parents: FilledList<u32>,
     /// Numbers that the survey and phases 2 and 3 use one after another, each for its own purpose.
@@ -108,7 +108,7 @@ impl Workspace {
         let kinds = memory.bytes(inodes)?;
         let (marked, named, reached, flags) = four_flags(memory, inodes)?;
         let references = memory.long_numbers(inodes)?;
-        let (cut, parents, queue) = three_numbers(memory, inodes)?;
+        let (notes, parents, queue) = three_numbers(memory, inodes)?;
         let windows = Windows::in_memory(memory, geometry)?;
         Ok(Workspace {
             claimed,
@@ -119,7 +119,7 @@ impl Workspace {
             reached,
             flags,
             references,
-            cut,
+            notes,
             parents,
             queue,
             runs_seen: 0,
@@ -144,7 +144,7 @@ impl Workspace {
             + self.named.len()
             + self.reached.len()
             + self.flags.len();
-        let words = self.cut.len() + self.parents.len() + self.queue.len();
+        let words = self.notes.len() + self.parents.len() + self.queue.len();
         let lists = bytes as u64 + 4 * words as u64 + 8 * self.references.len() as u64;
         let buffers = self.windows.table.window.buffer.len()
             + self.windows.blocks.buffer.len()
@@ -163,10 +163,10 @@ impl Workspace {
     /// How many offers an inode keeps that its eleventh dup offer cut, else 0.
     #[inline(always)]
     pub fn cut_of(&self, number: u32) -> u32
-        requires { number < vec_len self.now.cut }
-        ensures { result ≡ cut_in (slice_index self.now.cut.items number) }
+        requires { number < vec_len self.now.notes }
+        ensures { result ≡ cut_in (slice_index self.now.notes.items number) }
     {
-        cut_in(self.cut[number as usize])
+        cut_in(self.notes[number as usize])
     }
 
     /// How many Runs phases 1 and 1b have looked at.

@@ -104,5 +104,5 @@ returns-clause-stored g c =
     ok_then c.claim_read_inode.result _ _
     (λ h bytes t.
     subst (λ (i : Inode). Stored c.args.number (class_of v i) i old new) (c.in_ok-inode.ensures.inode bytes t)
-    (record { kinds = h.kinds; marked = h.marked; cut = h.cut; starts = h.starts }))
+    (record { kinds = h.kinds; marked = h.marked; notes = h.notes; starts = h.starts }))
     c.claim_read_inode.ensures.stored

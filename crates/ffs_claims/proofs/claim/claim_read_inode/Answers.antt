@@ -55,7 +55,7 @@ store-requires-2 g c =
       number = record {
         kinds = omega (arith, made.kinds);
         marked = omega (arith, made.marked);
-        cut = omega (arith, made.cut);
+        notes = omega (arith, made.notes);
         references = omega (arith, made.references);
       };
     }
@@ -65,13 +65,13 @@ store-requires g c =
     let made = c.requires.ready.claim.ready.made in
     let kinds = ap (λ w. vec_len w.kinds) c.begin.ensures in
     let marked = ap (λ w. vec_len w.marked) c.begin.ensures in
-    let cut = ap (λ w. vec_len w.cut) c.begin.ensures in
+    let notes = ap (λ w. vec_len w.notes) c.begin.ensures in
     let references = ap (λ w. vec_len w.references) c.begin.ensures in
     record {
       number = record {
         kinds = omega (arith, made.kinds);
         marked = omega (arith, made.marked);
-        cut = omega (arith, made.cut);
+        notes = omega (arith, made.notes);
         references = omega (arith, made.references);
       };
     }

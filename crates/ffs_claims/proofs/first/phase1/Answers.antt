@@ -57,8 +57,8 @@ loop-number-init g c =
       marked = λ bytes k. filled_begin false (first_marked_at v bytes) c.reserve.new.workspace.marked.items
           (inodes_of v) (ap (λ w. w.items) found.marked ∙ k.1.marked)
           (λ x low. mark_out v bytes x (is_outside v x (inl low)));
-      cut = λ bytes k. filled_begin 0 (note_at v bytes) c.reserve.new.workspace.cut.items (inodes_of v)
-          (ap (λ w. w.items) found.cut ∙ k.1.cut) (λ x low. note_out v bytes x (is_outside v x (inl low)));
+      notes = λ bytes k. filled_begin 0 (note_at v bytes) c.reserve.new.workspace.notes.items (inodes_of v)
+          (ap (λ w. w.items) found.notes ∙ k.1.notes) (λ x low. note_out v bytes x (is_outside v x (inl low)));
       starts = λ bytes k. filled_begin 0 (start_at v bytes) c.reserve.new.workspace.references.items (inodes_of v)
           (ap (λ w. w.items) found.references ∙ k.1.references)
           (λ x low. start_out v bytes x (is_outside v x (inl low)));
@@ -144,10 +144,10 @@ loop-number-preserved g c =
           c.claim_inode.new.workspace.marked.items n _
           (omega (arith, inv.ready.ready.made.marked)) (stored bytes (contents ∙ k.0)).marked
           (mark_in v bytes n s s' inside (inv.claims bytes k) (now bytes (contents ∙ k.0))) (inv.marked bytes k);
-      cut = λ bytes k. filled_next 0 (note_at v bytes) c.loop-number.workspace.cut.items
-          c.claim_inode.new.workspace.cut.items n _
-          (omega (arith, inv.ready.ready.made.cut)) (stored bytes (contents ∙ k.0)).cut
-          (note_in v bytes n s s' inside (inv.claims bytes k) (now bytes (contents ∙ k.0))) (inv.cut bytes k);
+      notes = λ bytes k. filled_next 0 (note_at v bytes) c.loop-number.workspace.notes.items
+          c.claim_inode.new.workspace.notes.items n _
+          (omega (arith, inv.ready.ready.made.notes)) (stored bytes (contents ∙ k.0)).notes
+          (note_in v bytes n s s' inside (inv.claims bytes k) (now bytes (contents ∙ k.0))) (inv.notes bytes k);
       starts = λ bytes k. filled_next 0 (start_at v bytes) c.loop-number.workspace.references.items
           c.claim_inode.new.workspace.references.items n _
           (omega (arith, inv.ready.ready.made.references)) (stored bytes (contents ∙ k.0)).starts
@@ -192,8 +192,8 @@ returns-clause-holds g c = λ bytes k.
           (λ x high. kind_out v bytes x (is_outside v x (inr high))) (inv.kinds bytes k);
       marked = filled_end false (first_marked_at v bytes) _ n (inodes_of v) past
           (λ x high. mark_out v bytes x (is_outside v x (inr high))) (inv.marked bytes k);
-      cut = filled_end 0 (note_at v bytes) _ n (inodes_of v) past
-          (λ x high. note_out v bytes x (is_outside v x (inr high))) (inv.cut bytes k);
+      notes = filled_end 0 (note_at v bytes) _ n (inodes_of v) past
+          (λ x high. note_out v bytes x (is_outside v x (inr high))) (inv.notes bytes k);
       starts = filled_end 0 (start_at v bytes) _ n (inodes_of v) past
           (λ x high. start_out v bytes x (is_outside v x (inr high))) (inv.starts bytes k);
     }

@@ -35,9 +35,9 @@ invariant-loop-number g l = record {
   marked : ForBytes (λ bytes. IsContents (g.I.Image.device l.fn.image).contents bytes
       × IsFresh l.geometry.layout l.fn.workspace) (λ bytes.
       FilledTo false (first_marked_at l.geometry.layout bytes) l.workspace.marked.items l.number);
-  cut : ForBytes (λ bytes. IsContents (g.I.Image.device l.fn.image).contents bytes
+  notes : ForBytes (λ bytes. IsContents (g.I.Image.device l.fn.image).contents bytes
       × IsFresh l.geometry.layout l.fn.workspace) (λ bytes.
-      FilledTo 0 (note_at l.geometry.layout bytes) l.workspace.cut.items l.number);
+      FilledTo 0 (note_at l.geometry.layout bytes) l.workspace.notes.items l.number);
   starts : ForBytes (λ bytes. IsContents (g.I.Image.device l.fn.image).contents bytes
       × IsFresh l.geometry.layout l.fn.workspace) (λ bytes.
       FilledTo 0 (start_at l.geometry.layout bytes) l.workspace.references.items l.number);

@@ -53,7 +53,7 @@ returns-then-in_range-clause-claiming g c =
           found = record {
             kinds = only.found.kinds;
             marked = only.found.marked;
-            cut = only.found.cut;
+            notes = only.found.notes;
             references = only.found.references;
             again = only.found.again;
           };

@@ -47,7 +47,7 @@ returns-in_err-inode g c = record {
       (of_begins _ (λ bytes. of_lines
       (first_offer_lines (bits_of c.args.workspace.now.duplicates)
       (offers_again c.args.geometry.now.layout c.args.number
-      (cut_in (slice_index c.args.workspace.now.cut.items c.args.number)) fresh_replay
+      (cut_in (slice_index c.args.workspace.now.notes.items c.args.number)) fresh_replay
       (steps_of c.args.geometry.now.layout (inode_of c.args.geometry.now.layout bytes c.args.number) bytes)))) _));
   rewalked = search rules;
   runs = λ bytes t. omega arith;
@@ -71,13 +71,13 @@ returns g c = record {
       (offers_again v n c.cut_of-cut.result fresh_replay
       (steps_of v c.in_ok-inode.inode bytes))))
       (λ bytes. of_lines (first_offer_lines d
-      (offers_again v n (cut_in (slice_index c.args.workspace.now.cut.items n)) fresh_replay
+      (offers_again v n (cut_in (slice_index c.args.workspace.now.notes.items n)) fresh_replay
       (steps_of v (inode_of v bytes n) bytes)))) _ _ c.rewalk.result
       (λ bytes t. ap (λ (k : ℕ). of_lines
       (first_offer_lines d (offers_again v n k fresh_replay (steps_of v c.in_ok-inode.inode bytes))))
       (c.cut_of-cut.ensures)
       ∙ ap (λ (i : Inode). of_lines
-      (first_offer_lines d (offers_again v n (cut_in (slice_index c.args.workspace.now.cut.items n)) fresh_replay
+      (first_offer_lines d (offers_again v n (cut_in (slice_index c.args.workspace.now.notes.items n)) fresh_replay
       (steps_of v i bytes)))) (c.in_ok-inode.ensures.inode bytes t))
       (reports_knowing (Unit {0}) _ _ _ _ _ c.rewalk.result
       (λ bytes t. ap (λ d. d.contents) c.in_ok-inode.ensures.read ∙ t)
@@ -86,13 +86,13 @@ returns g c = record {
       let n = c.args.number in
       let w = c.args.workspace.now in
       let i = c.in_ok-inode.inode in
-      let cut : c.cut_of-cut.result ≡ cut_in (slice_index c.args.workspace.now.cut.items c.args.number) =
+      let cut : c.cut_of-cut.result ≡ cut_in (slice_index c.args.workspace.now.notes.items c.args.number) =
       c.cut_of-cut.ensures in
       ok_where c.rewalk.result _ _
       (λ bytes. Rewalked v n c.cut_of-cut.result (steps_of v c.in_ok-inode.inode bytes)
       (record c.args.workspace.now { windows = record c.args.workspace.now.windows { table = c.inode.new.self } })
       c.rewalk.new.workspace)
-      (λ bytes. Rewalked v n (cut_in (slice_index c.args.workspace.now.cut.items n)) (steps_of v (inode_of v bytes n) bytes)
+      (λ bytes. Rewalked v n (cut_in (slice_index c.args.workspace.now.notes.items n)) (steps_of v (inode_of v bytes n) bytes)
       c.args.workspace.now c.rewalk.new.workspace)
       (ap (λ d. d.contents) c.in_ok-inode.ensures.read)
       (λ bytes t h. rewalked_from _ _ _ _ c.args.workspace.now _ _ (rw (cut, c.in_ok-inode.ensures.inode bytes t) at h))
@@ -102,12 +102,12 @@ returns g c = record {
       let n = c.args.number in
       let same : replayed_runs v c.cut_of-cut.result fresh_replay
       (steps_of v c.in_ok-inode.inode bytes)
-      ≡ replayed_runs v (cut_in (slice_index c.args.workspace.now.cut.items n)) fresh_replay
+      ≡ replayed_runs v (cut_in (slice_index c.args.workspace.now.notes.items n)) fresh_replay
       (steps_of v (inode_of v bytes n) bytes) =
       ap (λ (k : ℕ). replayed_runs v k fresh_replay (steps_of v c.in_ok-inode.inode bytes))
       (c.cut_of-cut.ensures)
       ∙ ap (λ (i : Inode).
-      replayed_runs v (cut_in (slice_index c.args.workspace.now.cut.items n)) fresh_replay (steps_of v i bytes))
+      replayed_runs v (cut_in (slice_index c.args.workspace.now.notes.items n)) fresh_replay (steps_of v i bytes))
       (c.in_ok-inode.ensures.inode bytes t) in
       omega (arith, c.rewalk.ensures.runs bytes (ap (λ d. d.contents) c.in_ok-inode.ensures.read ∙ t), same);
   left = record {

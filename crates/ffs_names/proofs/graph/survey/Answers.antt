@@ -38,13 +38,13 @@ returns-clause-survey g c = on_ok c.survey.result _ _ (λ s b t h.
     let found = s b (record {
       bytes = t;
       kinds = λ x. ap (λ ks. slice_index ks x) c.deref.ensures.value ∙ h.kinds x;
-      cut = h.cut;
+      notes = h.notes;
     }) in
     let survey = volume_survey (record {
       layout = c.args.geometry.now.layout;
       contents = (g.I.Image.device c.args.image.now).contents;
       kinds = c.deref.result.now;
-      cut = w.cut.items;
+      notes = w.notes.items;
       image_lent = c.tree-2-1.given;
       windows_lent = c.tree-3-1.given.0;
     }) b c.deref-2.result.now _ n.references.items n.named n.reached n.parents.items (search rules)
@@ -61,13 +61,13 @@ returns-clause-references g c = on_ok c.survey.result _ _ (λ s b t h starts.
     let found = s b (record {
       bytes = t;
       kinds = λ x. ap (λ ks. slice_index ks x) c.deref.ensures.value ∙ h.kinds x;
-      cut = h.cut;
+      notes = h.notes;
     }) in
     let survey = volume_survey (record {
       layout = c.args.geometry.now.layout;
       contents = (g.I.Image.device c.args.image.now).contents;
       kinds = c.deref.result.now;
-      cut = w.cut.items;
+      notes = w.notes.items;
       image_lent = c.tree-2-1.given;
       windows_lent = c.tree-3-1.given.0;
     }) b c.deref-2.result.now _ n.references.items n.named n.reached n.parents.items (search rules)
@@ -83,13 +83,13 @@ returns-clause-calm g c = on_ok c.survey.result _ _ (λ s b t h.
     let found = s b (record {
       bytes = t;
       kinds = λ x. ap (λ ks. slice_index ks x) c.deref.ensures.value ∙ h.kinds x;
-      cut = h.cut;
+      notes = h.notes;
     }) in
     let calm = volume_calm (record {
       layout = c.args.geometry.now.layout;
       contents = (g.I.Image.device c.args.image.now).contents;
       kinds = c.deref.result.now;
-      cut = w.cut.items;
+      notes = w.notes.items;
       image_lent = c.tree-2-1.given;
       windows_lent = c.tree-3-1.given.0;
     }) b c.deref-2.result.now c.deref-3.result.now n.reached n.parents.items n.calm found in

@@ -28,7 +28,7 @@ returns-clause-found g c = λ b k.
     let t1 = ap (λ x. x.contents) c.in_ok-inode.ensures.read ∙ k.reported_is in
     let inode = c.in_ok-inode.ensures.inode b k.reported_is in
     let small = subst (λ i. i.size < 2 ^ 31) (sym inode) (dir_size v (inode_of v b c.args.dir) class) in
-    let cut = c.cut_of-cut.ensures ∙ (ap cut_in (h.cut c.args.dir) ∙ cut_is_noted v b c.args.dir sound) in
+    let cut = c.cut_of-cut.ensures ∙ (ap cut_in (h.notes c.args.dir) ∙ cut_is_noted v b c.args.dir sound) in
     let chunks = chunks_are v b c.args.dir c.in_ok-inode.inode c.cut_of-cut.result sound number inode cut in
     let shows = sees v b c.args.workspace.now _ (record {
       kinds = c.as_slice.ensures.value;
@@ -58,7 +58,7 @@ inode_by_part-requires-clause-ready g c =
     let r = c.requires.ready.ready in record { volume = r.volume; made = r.made.table; holds = r.windows.table }
 
 pub cut_of-cut-requires : goal.cut_of-cut-requires
-cut_of-cut-requires g c = omega (arith, c.requires.ready.ready.made.cut, c.requires.ready.number)
+cut_of-cut-requires g c = omega (arith, c.requires.ready.ready.made.notes, c.requires.ready.number)
 
 pub look_directory-requires-clause-ready : goal.look_directory-requires-clause-ready
 look_directory-requires-clause-ready g c =

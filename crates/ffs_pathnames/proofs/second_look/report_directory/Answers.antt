@@ -43,7 +43,7 @@ chunks-init g c =
     all_read v b c.args.dir c.args.inode.now c.cut_of-cut.result (rest b c.start-chunks.result)
     c.args.geometry.now.sound k.0.dir k.1
     (c.cut_of-cut.ensures
-    ∙ (ap cut_in ((claims_left v b c.args.workspace.now here (windows_leave _ _ ok.lists) k.0.claims).cut c.args.dir)
+    ∙ (ap cut_in ((claims_left v b c.args.workspace.now here (windows_leave _ _ ok.lists) k.0.claims).notes c.args.dir)
     ∙ cut_is_noted v b c.args.dir c.args.geometry.now.sound))
     (c.start-chunks.ensures.begins.chunks b) in
     record {

@@ -47,7 +47,7 @@ returns-then-parent-count-clause-path g c = λ b t claims survey k l.
     let below = u.1.below in
     let count = count_is v b in
     let over = c.if-parent-count.true in
-    let cuts = c.requires.ready.made.cut in
+    let cuts = c.requires.ready.made.notes in
     absurd (omega arith)
 
 pub returns-clause-path : goal.returns-clause-path
@@ -57,7 +57,7 @@ returns-clause-path g c = λ b t claims survey k l.
     (c.up.invariant.path b t claims survey k l) l in
     let count = count_is v b in
     let over = c.up-test.false in
-    let cuts = c.requires.ready.made.cut in
+    let cuts = c.requires.ready.made.notes in
     absurd (omega arith)
 
 pub returns-in_err-search-clause-reads : goal.returns-in_err-search-clause-reads
@@ -85,8 +85,8 @@ up-preserved g c =
     let found = c.in_ok-found.ensures in
     let at = i.at in
     let parents = i.reads.ready.made.parents in
-    let cuts = i.reads.ready.made.cut in
-    let entry = c.requires.ready.made.cut in
+    let cuts = i.reads.ready.made.notes in
+    let entry = c.requires.ready.made.notes in
     let below = c.if-parent-count.false in
     let p : ℕ = c.index-parent.result.now in
     let one : OnlyReads {T = Unit {0}} v (g.I.Image.device c.args.image.now) (g.I.Image.device c.open.new.image)
@@ -108,7 +108,7 @@ up-preserved g c =
           let t1 = ap (λ d. d.contents) i.reads.read ∙ t in
           let t2 = ap (λ d. d.contents) opened.leaves.read ∙ t1 in
           let cut = c.cut_of-cut.ensures
-          ∙ (ap cut_in (ap (λ w. slice_index w.cut.items p) i.reads.lists ∙ claims.cut p)
+          ∙ (ap cut_in (ap (λ w. slice_index w.notes.items p) i.reads.lists ∙ claims.notes p)
           ∙ cut_is_noted v b p c.args.geometry.now.sound) in
           let name = c.found_name.ensures.value
           ∙ (sym (found.found b t2).name ∙ ap (name_in c.up.at) (opened.opened.entries b t1 up.dir cut)) in
@@ -134,10 +134,10 @@ index-parent-requires g c = omega (arith, c.up.invariant.at, c.up.invariant.read
 
 pub cut_of-cut-requires : goal.cut_of-cut-requires
 cut_of-cut-requires g c =
-    omega (arith, c.if-parent-count.false, c.requires.ready.made.cut, c.up.invariant.reads.ready.made.cut)
+    omega (arith, c.if-parent-count.false, c.requires.ready.made.notes, c.up.invariant.reads.ready.made.notes)
 
 pub open-requires-clause-number : goal.open-requires-clause-number
-open-requires-clause-number g c = omega (arith, c.if-parent-count.false, c.requires.ready.made.cut)
+open-requires-clause-number g c = omega (arith, c.if-parent-count.false, c.requires.ready.made.notes)
 
 pub open-requires-clause-windows : goal.open-requires-clause-windows
 open-requires-clause-windows g c = windows_open _ _ _ c.up.invariant.reads.ready

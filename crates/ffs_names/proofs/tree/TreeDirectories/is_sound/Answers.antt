@@ -26,7 +26,7 @@ returns-clause-reader g c =
           chunk_holds = rw contents r.chunk_holds;
           names_hold = rw contents r.names_hold;
           kinds_long = r.kinds_long;
-          cut_long = r.cut_long;
+          notes_long = r.notes_long;
         },
         left.same.geometry ∙ c.requires.ready.1,
       );

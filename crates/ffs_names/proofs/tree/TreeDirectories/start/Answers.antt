@@ -38,7 +38,7 @@ returns-clause-reader g c =
           chunk_holds = rw device r.chunk_holds;
           names_hold = rw device r.names_hold;
           kinds_long = r.kinds_long;
-          cut_long = r.cut_long;
+          notes_long = r.notes_long;
         },
         c.restart-2.ensures.geometry ∙ c.requires.ready.1,
       );
@@ -54,10 +54,10 @@ returns-clause-rest g c = λ b k.
     ∙ (sym c.is_dir.ensures ∙ c.if-not-is_dir.false) in
     let is = dir_is v b c.args.dir dir in
     let inode = c.in_ok-inode.ensures.inode b k.bytes in
-    let inside : c.args.dir < length t.cut.now.items = grind (arith, common_steps) in
+    let inside : c.args.dir < length t.notes.now.items = grind (arith, common_steps) in
     let note : c.index-note.result.now ≡ note_at v b c.args.dir =
-    (c.index-note.ensures ∙ get_or_default_zero t.cut.now.items c.args.dir c.index-note.result.now inside)
-    ∙ k.cut c.args.dir in
+    (c.index-note.ensures ∙ get_or_default_zero t.notes.now.items c.args.dir c.index-note.result.now inside)
+    ∙ k.notes c.args.dir in
     let cut : c.index-note.result.now ≡ cut_at v b c.args.dir =
     sym (rw c.in_default.is at c.place_in.ensures) ∙ (ap cut_in note ∙ cut_is_noted v b c.args.dir t.geometry.sound) in
     let begins = rw c.requires.ready.1 at c.restart-2.ensures.begins in
@@ -82,10 +82,10 @@ returns-clause-sound g c = λ b k.
     ∙ (sym c.is_dir.ensures ∙ c.if-not-is_dir.false) in
     let is = dir_is v b c.args.dir dir in
     let inode = c.in_ok-inode.ensures.inode b k.bytes in
-    let inside : c.args.dir < length t.cut.now.items = grind (arith, common_steps) in
+    let inside : c.args.dir < length t.notes.now.items = grind (arith, common_steps) in
     let note : c.index-note.result.now ≡ note_at v b c.args.dir =
-    (c.index-note.ensures ∙ get_or_default_zero t.cut.now.items c.args.dir c.index-note.result.now inside)
-    ∙ k.cut c.args.dir in
+    (c.index-note.ensures ∙ get_or_default_zero t.notes.now.items c.args.dir c.index-note.result.now inside)
+    ∙ k.notes c.args.dir in
     let cut : c.index-note.result.now ≡ cut_at v b c.args.dir =
     sym (rw c.in_default.is at c.place_in.ensures) ∙ (ap cut_in note ∙ cut_is_noted v b c.args.dir t.geometry.sound) in
     let begins = rw c.requires.ready.1 at c.restart-2.ensures.begins in
@@ -103,9 +103,9 @@ returns-in-Some-clause-rest g c = λ b k.
     let d = c.args.dir in
     let dir = sym (kind_dirs v b t.kinds.now d (k.kinds d)) ∙ (sym c.is_dir.ensures ∙ c.if-not-is_dir.false) in
     let is = dir_is v b d dir in
-    let inside : d < length t.cut.now.items = grind (arith, common_steps) in
+    let inside : d < length t.notes.now.items = grind (arith, common_steps) in
     let noted : note_at v b d ≡ first_noted + c.in-Some.address =
-    sym (k.cut d) ∙ (sym (c.index-note.ensures ∙ get_or_default_zero t.cut.now.items d c.index-note.result.now inside)
+    sym (k.notes d) ∙ (sym (c.index-note.ensures ∙ get_or_default_zero t.notes.now.items d c.index-note.result.now inside)
     ∙ c.in-Some.ensures) in
     let at = place_is_noted v b d c.in-Some.address t.geometry.sound noted in
     let one : IsOneChunkAt (class_of v (inode_of v b d)) (inode_of v b d) c.in-Some.address =
@@ -124,9 +124,9 @@ returns-in-Some-clause-sound g c = λ b k.
     let d = c.args.dir in
     let dir = sym (kind_dirs v b t.kinds.now d (k.kinds d)) ∙ (sym c.is_dir.ensures ∙ c.if-not-is_dir.false) in
     let is = dir_is v b d dir in
-    let inside : d < length t.cut.now.items = grind (arith, common_steps) in
+    let inside : d < length t.notes.now.items = grind (arith, common_steps) in
     let noted : note_at v b d ≡ first_noted + c.in-Some.address =
-    sym (k.cut d) ∙ (sym (c.index-note.ensures ∙ get_or_default_zero t.cut.now.items d c.index-note.result.now inside)
+    sym (k.notes d) ∙ (sym (c.index-note.ensures ∙ get_or_default_zero t.notes.now.items d c.index-note.result.now inside)
     ∙ c.in-Some.ensures) in
     let at = place_is_noted v b d c.in-Some.address t.geometry.sound noted in
     let one : IsOneChunkAt (class_of v (inode_of v b d)) (inode_of v b d) c.in-Some.address =
@@ -174,7 +174,7 @@ returns-in_err-inode-clause-reader g c =
           chunk_holds = rw err.contents r.chunk_holds;
           names_hold = rw err.contents r.names_hold;
           kinds_long = r.kinds_long;
-          cut_long = r.cut_long;
+          notes_long = r.notes_long;
         },
         c.requires.ready.1,
       );

@@ -14,7 +14,7 @@ returns-clause-leaves g c =
     let kept = c.in_ok-keep_path_of.ensures in
     let opened = c.in_ok-self.ensures.opened in
     let leaves = c.in_ok-self.ensures.leaves in
-    let long = kept.reads.ready.made.cut in
+    let long = kept.reads.ready.made.notes in
     let number = c.requires.ready.number in
     leaves_with _ (then_reads kept.reads leaves.windows leaves.chunk leaves.read) (record {
       layout = ap (λ w. w.layout) opened.geometry_is;
@@ -24,7 +24,7 @@ returns-clause-leaves g c =
         path = kept.path b t claims survey some;
         above = λ dir x h. ap (name_in x) (opened.entries b (ap (λ d. d.contents) kept.reads.read ∙ t) dir
             (c.cut_of-cut.ensures
-            ∙ (ap cut_in (ap (λ w. slice_index w.cut.items c.args.parent) kept.reads.lists ∙ claims.cut c.args.parent)
+            ∙ (ap cut_in (ap (λ w. slice_index w.notes.items c.args.parent) kept.reads.lists ∙ claims.notes c.args.parent)
             ∙ cut_is_noted c.args.geometry.now.layout b c.args.parent c.args.geometry.now.sound)));
         child = λ some. absurd (omega arith);
       };
@@ -50,7 +50,7 @@ open-requires-clause-windows g c = windows_open _ _ _ c.in_ok-keep_path_of.ensur
 
 pub cut_of-cut-requires : goal.cut_of-cut-requires
 cut_of-cut-requires g c =
-    omega (arith, c.in_ok-keep_path_of.ensures.reads.ready.made.cut, c.requires.ready.number)
+    omega (arith, c.in_ok-keep_path_of.ensures.reads.ready.made.notes, c.requires.ready.number)
 
 pub returns-clause-begun : goal.returns-clause-begun
 returns-clause-begun g c = record {

@@ -15,7 +15,7 @@ returns-clause-leaves g c =
     let k = c.requires.siblings in
     let read = c.in_ok-names.ensures.names in
     let leaves = c.in_ok-names.ensures.leaves in
-    let long = c.requires.ready.made.cut in
+    let long = c.requires.ready.made.notes in
     let number = c.requires.number in
     leaves_with _ (then_reads (no_reads {x = tt {0}} c.requires.ready) leaves.windows leaves.chunk leaves.read) (record {
       layout = k.layout;
@@ -26,7 +26,7 @@ returns-clause-leaves g c =
         right = λ b t claims dir.
             subst (λ p. AreAllNamesOf b (roled_entries (volume_of v b) p) c.in_ok-names.names) (sym read.parent_is)
             (read.names b t (ap (is_dir (volume_of v b)) (sym read.parent_is) ∙ dir)
-            (c.cut_of-cut.ensures ∙ (ap cut_in (claims.cut c.args.parent)
+            (c.cut_of-cut.ensures ∙ (ap cut_in (claims.notes c.args.parent)
             ∙ cut_is_noted v b c.args.parent c.args.geometry.now.sound)));
         inside = read.inside;
       };
@@ -45,7 +45,7 @@ pub returns-clause-same : goal.returns-clause-same
 returns-clause-same g c = same_but_names c.args.self.now _ _
 
 pub cut_of-cut-requires : goal.cut_of-cut-requires
-cut_of-cut-requires g c = omega (arith, c.requires.ready.made.cut, c.requires.number)
+cut_of-cut-requires g c = omega (arith, c.requires.ready.made.notes, c.requires.number)
 
 pub read-requires-clause-number : goal.read-requires-clause-number
 read-requires-clause-number g c = c.requires.number

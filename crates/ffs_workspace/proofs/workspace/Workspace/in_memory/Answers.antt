@@ -21,7 +21,7 @@ returns-clause-new g c =
         reached = search rules;
         flags = search rules;
         references = search rules;
-        cut = search rules;
+        notes = search rules;
         parents = search rules;
         queue = search rules;
         table = new.table;
@@ -80,12 +80,12 @@ returns-in_err-references-clause-asks g c =
     (at_references (8 * div_ceil c.args.geometry.now.layout.size 64) (inodes_of c.args.geometry.now.layout)
     c.args.geometry.now.layout.bsize))
 
-pub returns-in_err-cut-clause-asks : goal.returns-in_err-cut-clause-asks
-returns-in_err-cut-clause-asks g c =
-    let p = err_from_is_err_and c.from_residual-in_err-cut.result c.from_residual-in_err-cut.ensures.1 in
+pub returns-in_err-notes-clause-asks : goal.returns-in_err-notes-clause-asks
+returns-in_err-notes-clause-asks g c =
+    let p = err_from_is_err_and c.from_residual-in_err-notes.result c.from_residual-in_err-notes.ensures.1 in
     rw p.1 (gave_up_after _ _ _ _ _ _
     (both (both (both (both c.in_ok-claimed.ensures.asks c.in_ok-duplicates.ensures.asks) c.in_ok-kinds.ensures.granted)
-    c.in_ok-marked.ensures.asks) c.in_ok-references.ensures.granted) c.in_err-cut.ensures.asks
+    c.in_ok-marked.ensures.asks) c.in_ok-references.ensures.granted) c.in_err-notes.ensures.asks
     (at_words (8 * div_ceil c.args.geometry.now.layout.size 64) (inodes_of c.args.geometry.now.layout)
     c.args.geometry.now.layout.bsize))
 
@@ -95,7 +95,7 @@ returns-in_err-windows-clause-asks g c =
     rw p.1 (gave_up_after _ _ _ _ _ _
     (both (both (both (both (both c.in_ok-claimed.ensures.asks c.in_ok-duplicates.ensures.asks)
     c.in_ok-kinds.ensures.granted) c.in_ok-marked.ensures.asks) c.in_ok-references.ensures.granted)
-    c.in_ok-cut.ensures.asks) c.in_err-windows.ensures.asks
+    c.in_ok-notes.ensures.asks) c.in_err-windows.ensures.asks
     (at_windows (8 * div_ceil c.args.geometry.now.layout.size 64) (inodes_of c.args.geometry.now.layout)
     c.args.geometry.now.layout.bsize))
 
@@ -103,7 +103,7 @@ pub returns-clause-asks : goal.returns-clause-asks
 returns-clause-asks g c =
     granted_both _ _ _ _ _ _ (both
     (both (both (both (both c.in_ok-claimed.ensures.asks c.in_ok-duplicates.ensures.asks) c.in_ok-kinds.ensures.granted)
-    c.in_ok-marked.ensures.asks) c.in_ok-references.ensures.granted) c.in_ok-cut.ensures.asks)
+    c.in_ok-marked.ensures.asks) c.in_ok-references.ensures.granted) c.in_ok-notes.ensures.asks)
     c.in_ok-windows.ensures.asks
     (all_is (8 * div_ceil c.args.geometry.now.layout.size 64) (inodes_of c.args.geometry.now.layout)
     c.args.geometry.now.layout.bsize)
