@@ -21,6 +21,7 @@ fn one_chunk_at(address: u32) -> Inode
     let mut addresses = [0; 15];
     addresses[0] = address;
     Inode {
+        // A directory (inode(5)).
         mode: 0o40000,
         nlink: 0,
         size: DIRBLKSIZ as u64,

@@ -7,7 +7,7 @@ use ffs_volume::constants::DIRBLKSIZ;
 use ffs_volume::{Class, Inode};
 
 /// Notes from this number on are addresses, counted from here. No inode keeps so many offers: it
-/// keeps at most 99 more than the volume has fragments, and that are fewer than 2^31.
+/// keeps at most 99 more than the volume has fragments, of which there are fewer than 2^31.
 const FIRST_NOTED: u32 = (1 << 31) + 128;
 
 /// Only addresses below this one are noted, so that each note fits 32 bits.
@@ -21,9 +21,9 @@ fn has_one_chunk(class: Class, inode: &Inode) -> bool
     class == Class::Dir && inode.size == DIRBLKSIZ as u64 && inode.addresses[0] < NOTED_BELOW
 }
 
-/// What is noted of an inode of a class: how many offers it keeps where duplicates cut it
-/// (`cut`), else where its only chunk is, as an address in fragments, if it is a directory of one
-/// chunk of 512 bytes (dir(5)), else 0.
+/// What is noted of an inode of a class: `cut`, how many offers it keeps where duplicates cut it;
+/// where they don't, the address in fragments of its only chunk, if it is a directory of one chunk
+/// of 512 bytes (dir(5)); else 0.
 #[inline(always)]
 pub fn note_of(class: Class, inode: &Inode, cut: u32) -> u32
     ensures { result ≡ note_of class inode.now cut }
@@ -43,7 +43,7 @@ pub fn cut_in(note: u32) -> u32
     if note < FIRST_NOTED { note } else { 0 }
 }
 
-/// Where the only chunk of a directory is, as an address in fragments, if a note says it.
+/// The address in fragments of a directory's only chunk, if a note has it.
 #[inline(always)]
 pub fn place_in(note: u32) -> Option<u32>
     ensures { MatchOption result (cut_in note ≡ note) (λ address. note ≡ first_noted + address) }
