@@ -3,7 +3,7 @@
 use ffs_layout::Order;
 use ffs_samples::{Number, geometry, image_of, inode};
 use ffs_volume::Class;
-use ffs_workspace::{Workspace, cut_in, links_start, note_of, place_in};
+use ffs_workspace::{Workspace, address_in, cut_in, links_start, note_of};
 use std::test::Fail;
 
 // Two maps of two words, 25 bytes for each inode, and six blocks.
@@ -69,8 +69,8 @@ fn notes(rt: HostRuntime) {
     directory.size = 1024;
     assert_eq!(rt; note_of(Class::Dir, &directory, 0), 0);
     assert_eq!(rt; (cut_in(11), cut_in(2_147_483_812)), (11, 0));
-    assert_eq!(rt; place_in(11), None);
-    assert_eq!(rt; place_in(2_147_483_812), Some(36));
+    assert_eq!(rt; address_in(11), None);
+    assert_eq!(rt; address_in(2_147_483_812), Some(36));
 }
 
 // A count of references starts below 32768 by the links, and at 32769 where there is none.

@@ -42,23 +42,23 @@ use Rattle.ffs_claims.proofs.Rescans.{inode_again}
 use Rattle.ffs_claims.proofs.Reportings.{Reporting, first_append}
 
 -- the offers of the next inode, replayed by its cut, and those of the inodes after it
-pub kept_next : (v : Layout) (bytes : List ℕ) (cuts : List ℕ) (n : ℕ) → IsAcceptedLayout v → 2 ≤ n → n < inodes_of v →
-    is_inode_number v n ≡ true → cut_in (slice_index cuts n) ≡ cut_at v bytes n →
+pub kept_next : (v : Layout) (bytes : List ℕ) (notes : List ℕ) (n : ℕ) → IsAcceptedLayout v → 2 ≤ n → n < inodes_of v →
+    is_inode_number v n ≡ true → cut_in (slice_index notes n) ≡ cut_at v bytes n →
     kept_in_owners v (claims_before v bytes n) (owners_from v bytes n)
-    ≡ offers_again v n (cut_in (slice_index cuts n)) fresh_replay (steps_of v (inode_of v bytes n) bytes)
+    ≡ offers_again v n (cut_in (slice_index notes n)) fresh_replay (steps_of v (inode_of v bytes n) bytes)
     ++ kept_in_owners v (claims_before v bytes (n + 1)) (owners_from v bytes (n + 1))
 unfolding owner_of
-kept_next v bytes cuts n g low high inside e =
+kept_next v bytes notes n g low high inside e =
     let s = claims_before v bytes n in
     let cut : cut_of (after_steps v (at_next_inode (claims_before v bytes n)) (steps_of v (inode_of v bytes n) bytes))
-    ≡ cut_in (slice_index cuts n) = sym (e ∙ cut_is v bytes n g inside) in
+    ≡ cut_in (slice_index notes n) = sym (e ∙ cut_is v bytes n g inside) in
     let again = (inode_again v n (claims_before v bytes n) (steps_of v (inode_of v bytes n) bytes)).offers in
     ap (λ (xs : List ℕ). kept_in_owners v (claims_before v bytes n) (map (owner_of v bytes) xs))
     (range_more n (inodes_of v - n) (inodes_of v - (n + 1)) (omega arith))
     ∙ ap (λ (os : List Offer). os ++ kept_in_owners v (after_owner v (claims_before v bytes n) (owner_of v bytes n))
     (owners_from v bytes (n + 1)))
     (again ∙ ap (λ (k : ℕ). offers_again v n k fresh_replay (steps_of v (inode_of v bytes n) bytes)) cut)
-    ∙ ap (λ (t : Claims). offers_again v n (cut_in (slice_index cuts n)) fresh_replay (steps_of v (inode_of v bytes n) bytes)
+    ∙ ap (λ (t : Claims). offers_again v n (cut_in (slice_index notes n)) fresh_replay (steps_of v (inode_of v bytes n) bytes)
     ++ kept_in_owners v t (owners_from v bytes (n + 1))) (sym (before_next v bytes n low))
 
 pub kept_end : (v : Layout) (bytes : List ℕ) (s : Claims) (n : ℕ) → inodes_of v ≤ n →
@@ -67,14 +67,14 @@ kept_end v bytes s n past =
     let none : inodes_of v - n ≡ 0 = omega arith in
     ap (λ (k : ℕ). kept_in_owners v s (map (owner_of v bytes) (range_with_len n k))) none
 
-pub runs_on : (v : Layout) (bytes : List ℕ) (cuts : List ℕ) (n : ℕ) → IsAcceptedLayout v → 2 ≤ n →
-    is_inode_number v n ≡ true → cut_in (slice_index cuts n) ≡ cut_at v bytes n →
+pub runs_on : (v : Layout) (bytes : List ℕ) (notes : List ℕ) (n : ℕ) → IsAcceptedLayout v → 2 ≤ n →
+    is_inode_number v n ≡ true → cut_in (slice_index notes n) ≡ cut_at v bytes n →
     (claims_before v bytes (n + 1)).runs ≡ (claims_before v bytes n).runs
-    + replayed_runs v (cut_in (slice_index cuts n)) fresh_replay (steps_of v (inode_of v bytes n) bytes)
+    + replayed_runs v (cut_in (slice_index notes n)) fresh_replay (steps_of v (inode_of v bytes n) bytes)
 unfolding owner_of
-runs_on v bytes cuts n g low inside e =
+runs_on v bytes notes n g low inside e =
     let cut : cut_of (after_steps v (at_next_inode (claims_before v bytes n)) (steps_of v (inode_of v bytes n) bytes))
-    ≡ cut_in (slice_index cuts n) = sym (e ∙ cut_is v bytes n g inside) in
+    ≡ cut_in (slice_index notes n) = sym (e ∙ cut_is v bytes n g inside) in
     ap (λ (t : Claims). t.runs) (before_next v bytes n low)
     ∙ replay_is_runs v (claims_before v bytes n) (steps_of v (inode_of v bytes n) bytes)
     ∙ ap (λ (k : ℕ). (claims_before v bytes n).runs

@@ -25,40 +25,40 @@ use Rattle.ffs_claims.proofs.Looks.{looked_both, runs_leave}
 use Rattle.ffs_claims.proofs.Rescans.{inode_again}
 
 -- the Runs of the next inode, replayed by its cut, and those of the inodes after it
-runs_next_inode : (v : Layout) (bytes : List ℕ) (cuts : List ℕ) (n : ℕ) → IsAcceptedLayout v → 2 ≤ n → n < inodes_of v →
-    is_inode_number v n ≡ true → cut_in (slice_index cuts n) ≡ cut_at v bytes n →
+runs_next_inode : (v : Layout) (bytes : List ℕ) (notes : List ℕ) (n : ℕ) → IsAcceptedLayout v → 2 ≤ n → n < inodes_of v →
+    is_inode_number v n ≡ true → cut_in (slice_index notes n) ≡ cut_at v bytes n →
     owners_runs v (claims_before v bytes n) (owners_from v bytes n)
-    ≡ steps_runs_again v n (cut_in (slice_index cuts n)) fresh_replay (steps_of v (inode_of v bytes n) bytes)
+    ≡ steps_runs_again v n (cut_in (slice_index notes n)) fresh_replay (steps_of v (inode_of v bytes n) bytes)
     ++ owners_runs v (claims_before v bytes (n + 1)) (owners_from v bytes (n + 1))
 unfolding owner_of owners_runs
-runs_next_inode v bytes cuts n g low high inside e =
+runs_next_inode v bytes notes n g low high inside e =
     let cut : cut_of (after_steps v (at_next_inode (claims_before v bytes n)) (steps_of v (inode_of v bytes n) bytes))
-    ≡ cut_in (slice_index cuts n) = sym (e ∙ cut_is v bytes n g inside) in
+    ≡ cut_in (slice_index notes n) = sym (e ∙ cut_is v bytes n g inside) in
     let again = (inode_again v n (claims_before v bytes n) (steps_of v (inode_of v bytes n) bytes)).looks in
     ap (λ (xs : List ℕ). owners_runs v (claims_before v bytes n) (map (owner_of v bytes) xs))
     (range_more n (inodes_of v - n) (inodes_of v - (n + 1)) (omega arith))
     ∙ ap (λ (os : List (List Offer)). os ++ owners_runs v
     (after_owner v (claims_before v bytes n) (owner_of v bytes n)) (owners_from v bytes (n + 1)))
     (again ∙ ap (λ (k : ℕ). steps_runs_again v n k fresh_replay (steps_of v (inode_of v bytes n) bytes)) cut)
-    ∙ ap (λ (t : Claims). steps_runs_again v n (cut_in (slice_index cuts n)) fresh_replay (steps_of v (inode_of v bytes n) bytes)
+    ∙ ap (λ (t : Claims). steps_runs_again v n (cut_in (slice_index notes n)) fresh_replay (steps_of v (inode_of v bytes n) bytes)
     ++ owners_runs v t (owners_from v bytes (n + 1))) (sym (before_next v bytes n low))
 
-pub looked_on : (v : Layout) (bytes : List ℕ) (cuts : List ℕ) (n : ℕ) (dup dup' : List Bool) → IsAcceptedLayout v → 2 ≤
+pub looked_on : (v : Layout) (bytes : List ℕ) (notes : List ℕ) (n : ℕ) (dup dup' : List Bool) → IsAcceptedLayout v → 2 ≤
     n →
-    n < inodes_of v → is_inode_number v n ≡ true → cut_in (slice_index cuts n) ≡ cut_at v bytes n →
+    n < inodes_of v → is_inode_number v n ≡ true → cut_in (slice_index notes n) ≡ cut_at v bytes n →
     dup'
-    ≡ after_first dup (offers_again v n (cut_in (slice_index cuts n)) fresh_replay (steps_of v (inode_of v bytes n) bytes)) →
+    ≡ after_first dup (offers_again v n (cut_in (slice_index notes n)) fresh_replay (steps_of v (inode_of v bytes n) bytes)) →
     looked_at dup (owners_runs v (claims_before v bytes n) (owners_from v bytes n))
-    ≡ looked_at dup (steps_runs_again v n (cut_in (slice_index cuts n)) fresh_replay (steps_of v (inode_of v bytes n) bytes))
+    ≡ looked_at dup (steps_runs_again v n (cut_in (slice_index notes n)) fresh_replay (steps_of v (inode_of v bytes n) bytes))
     + looked_at dup' (owners_runs v (claims_before v bytes (n + 1)) (owners_from v bytes (n + 1)))
-looked_on v bytes cuts n dup dup' g low high inside e d =
-    ap (looked_at dup) (runs_next_inode v bytes cuts n g low high inside e)
-    ∙ looked_both dup (steps_runs_again v n (cut_in (slice_index cuts n)) fresh_replay (steps_of v (inode_of v bytes n) bytes))
+looked_on v bytes notes n dup dup' g low high inside e d =
+    ap (looked_at dup) (runs_next_inode v bytes notes n g low high inside e)
+    ∙ looked_both dup (steps_runs_again v n (cut_in (slice_index notes n)) fresh_replay (steps_of v (inode_of v bytes n) bytes))
     (owners_runs v (claims_before v bytes (n + 1)) (owners_from v bytes (n + 1)))
-    ∙ ap (λ (x : List Bool). looked_at dup (steps_runs_again v n (cut_in (slice_index cuts n)) fresh_replay
+    ∙ ap (λ (x : List Bool). looked_at dup (steps_runs_again v n (cut_in (slice_index notes n)) fresh_replay
     (steps_of v (inode_of v bytes n) bytes)) + looked_at x
     (owners_runs v (claims_before v bytes (n + 1)) (owners_from v bytes (n + 1))))
-    (runs_leave v n (cut_in (slice_index cuts n)) fresh_replay dup (steps_of v (inode_of v bytes n) bytes) ∙ sym d)
+    (runs_leave v n (cut_in (slice_index notes n)) fresh_replay dup (steps_of v (inode_of v bytes n) bytes) ∙ sym d)
 
 pub looked_end : (v : Layout) (bytes : List ℕ) (dup : List Bool) (s : Claims) (n : ℕ) → inodes_of v ≤ n →
     looked_at dup (owners_runs v s (owners_from v bytes n)) ≡ 0

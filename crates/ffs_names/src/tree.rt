@@ -10,7 +10,7 @@ use ffs_memory::FilledList;
 use ffs_survey::{Directories, Named, is_dir};
 use ffs_volume::constants::DIRBLKSIZ;
 use ffs_volume::{Class, Inode};
-use ffs_workspace::{Windows, place_in};
+use ffs_workspace::{Windows, address_in};
 
 /// The inode of a directory of one chunk at an address, as far as a reading of its entries asks
 /// for it.
@@ -85,7 +85,7 @@ impl<I: Image> Directories for Tree<'_, I> {
             return Ok(());
         }
         let note = self.notes[dir as usize];
-        if let Some(address) = place_in(note) {
+        if let Some(address) = address_in(note) {
             self.entries.restart(&one_chunk_at(address), Class::Dir, 0);
             return Ok(());
         }

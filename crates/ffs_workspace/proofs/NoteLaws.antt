@@ -34,7 +34,7 @@ unfolding claims_before no_claims reserved_map
 before_length v image x g = owners_length v image (no_claims v) (range_with_len 2 (x - 2)) g
     (length-map-range_with_len (is_reserved v) 0 v.size)
 
--- an inode keeps fewer offers than the first note of a place
+-- an inode keeps fewer offers than the first note of an address
 kept_few : (v : Layout) (image : List ℕ) (x : ℕ) → IsAcceptedLayout v
     → (after_steps v (at_next_inode (claims_before v image x)) (steps_of v (inode_of v image x) image)).kept < 2147483776
 unfolding owner_of
@@ -95,9 +95,9 @@ pub record IsOneChunkAt (class : Class) (i : Inode) (address : ℕ) : Type 0 whe
   pub size : i.size ≡ 512
   pub address_is : slice_index i.addresses 0 ≡ address
 
-place_noted : (class : Class) (i : Inode) (cut a : ℕ) → cut < 2147483776 → note_of class i cut ≡ first_noted + a →
+address_noted : (class : Class) (i : Inode) (cut a : ℕ) → cut < 2147483776 → note_of class i cut ≡ first_noted + a →
     IsOneChunkAt class i a
-place_noted class i cut a few h =
+address_noted class i cut a few h =
     go (cut == 0) class refl (i.size == 512) refl (nat_lt (slice_index i.addresses 0) 2147483520) h
   where
     go : (z : Bool) (k : Class) → k ≡ class → (s : Bool) → (i.size == 512) ≡ s → (l : Bool)
@@ -113,14 +113,14 @@ place_noted class i cut a few h =
     go true Free e s q l h = absurd (omega (arith, h, few))
     go false k e s q l h = absurd (omega (arith, h, few))
 
--- a note of a place is that of a directory of one chunk
-pub place_is_noted : (v : Layout) (image : List ℕ) (x a : ℕ) → IsAcceptedLayout v → note_at v image x ≡ first_noted + a
+-- a note of an address is that of a directory of one chunk
+pub address_is_noted : (v : Layout) (image : List ℕ) (x a : ℕ) → IsAcceptedLayout v → note_at v image x ≡ first_noted + a
     → IsOneChunkAt (class_at v image x) (inode_of v image x) a
 unfolding note_at
-place_is_noted v image x a g = place_noted (class_at v image x) (inode_of v image x) (cut_at v image x) a (cut_few v image x g)
+address_is_noted v image x a g = address_noted (class_at v image x) (inode_of v image x) (cut_at v image x) a (cut_few v image x g)
 
 -- and it isn't cut
-pub place_is_whole : (v : Layout) (image : List ℕ) (x a : ℕ) → IsAcceptedLayout v → note_at v image x ≡ first_noted + a
+pub address_is_whole : (v : Layout) (image : List ℕ) (x a : ℕ) → IsAcceptedLayout v → note_at v image x ≡ first_noted + a
     → cut_at v image x ≡ 0
-place_is_whole v image x a g h = sym (cut_is_noted v image x g) ∙ (ap cut_in h
+address_is_whole v image x a g h = sym (cut_is_noted v image x g) ∙ (ap cut_in h
     ∙ ap (λ (b : Bool). if b then first_noted + a else 0) (not_below a))

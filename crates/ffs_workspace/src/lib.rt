@@ -17,6 +17,6 @@ mod table;
 mod workspace;
 
 pub use links::links_start;
-pub use notes::{cut_in, note_of, place_in};
+pub use notes::{address_in, cut_in, note_of};
 pub use table::Table;
 pub use workspace::{Windows, Workspace};

@@ -45,7 +45,7 @@ pub fn cut_in(note: u32) -> u32
 
 /// The address in fragments of a directory's only chunk, if a note has it.
 #[inline(always)]
-pub fn place_in(note: u32) -> Option<u32>
+pub fn address_in(note: u32) -> Option<u32>
     ensures { MatchOption result (cut_in note ≡ note) (λ address. note ≡ first_noted + address) }
 {
     note.checked_sub(FIRST_NOTED)

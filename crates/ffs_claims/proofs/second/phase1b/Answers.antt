@@ -87,7 +87,7 @@ returns-in_err-renumbered-clause-prints g c =
     let inv = c.loop-number.invariant in
     let n = c.loop-number.number in
     let d = bits_of c.loop-number.workspace.duplicates in
-    let cuts = c.loop-number.workspace.notes.items in
+    let notes = c.loop-number.workspace.notes.items in
     let lt : n < inodes_of v = omega arith in
     let inside = is_inside v n inv.low lt in
     let cut = ap (λ z. slice_index z.items n) inv.claims.notes in
@@ -97,14 +97,14 @@ returns-in_err-renumbered-clause-prints g c =
       text = of_fault (Unit {0}) (Unit {0}) _
           (λ bytes. of_lines (first_offer_lines d (kept_in_owners v (claims_before v bytes n) (owners_from v bytes n))))
           (λ bytes. of_lines (first_offer_lines d
-          (offers_again v n (cut_in (slice_index cuts n)) fresh_replay (steps_of v (inode_of v bytes n) bytes))))
+          (offers_again v n (cut_in (slice_index notes n)) fresh_replay (steps_of v (inode_of v bytes n) bytes))))
           (λ bytes. of_lines (first_offer_lines
-          (after_first d (offers_again v n (cut_in (slice_index cuts n)) fresh_replay (steps_of v (inode_of v bytes n) bytes)))
+          (after_first d (offers_again v n (cut_in (slice_index notes n)) fresh_replay (steps_of v (inode_of v bytes n) bytes)))
           (kept_in_owners v (claims_before v bytes (n + 1)) (owners_from v bytes (n + 1)))))
           _ _ _ _ c.in_err-renumbered.field-0.0
           inv.said
           (λ bytes k. lines_split d _ _ _ _
-          (kept_next v bytes cuts n c.args.geometry.now.sound inv.low lt inside
+          (kept_next v bytes notes n c.args.geometry.now.sound inv.low lt inside
           (ap cut_in (cut ∙ k.1.notes n) ∙ cut_is_noted v bytes n c.args.geometry.now.sound)) refl)
           (reports_knowing (Unit {0}) _ _ _ _ _ (Err c.in_err-renumbered.field-0.0)
           (λ bytes k. ap (λ d. d.contents) inv.device ∙ k.0) c.in_err-renumbered.ensures.text);
@@ -115,7 +115,7 @@ returns-in_err-renumbered-clause-runs g c = λ bytes k.
     let v = c.args.geometry.now.layout in
     let inv = c.loop-number.invariant in
     let n = c.loop-number.number in
-    let cuts = c.loop-number.workspace.notes.items in
+    let notes = c.loop-number.workspace.notes.items in
     let lt : n < inodes_of v = omega arith in
     let inside = is_inside v n inv.low lt in
     let cut = ap (λ z. slice_index z.items n) inv.claims.notes in
@@ -123,7 +123,7 @@ returns-in_err-renumbered-clause-runs g c = λ bytes k.
       arith,
       inv.runs bytes k,
       c.renumbered.ensures.runs bytes (ap (λ d. d.contents) inv.device ∙ k.0),
-      runs_on v bytes cuts n c.args.geometry.now.sound inv.low inside
+      runs_on v bytes notes n c.args.geometry.now.sound inv.low inside
           (ap cut_in (cut ∙ k.1.notes n) ∙ cut_is_noted v bytes n c.args.geometry.now.sound),
       runs_most v bytes (n + 1) (omega arith) (λ h. omega arith),
     )
@@ -135,7 +135,7 @@ loop-number-preserved g c =
     let n = c.loop-number.number in
     let d = bits_of c.loop-number.workspace.duplicates in
     let d' = bits_of c.renumbered.new.workspace.duplicates in
-    let cuts = c.loop-number.workspace.notes.items in
+    let notes = c.loop-number.workspace.notes.items in
     let lt : n < inodes_of v = omega arith in
     let inside = is_inside v n inv.low lt in
     let cut = ap (λ z. slice_index z.items n) inv.claims.notes in
@@ -143,9 +143,9 @@ loop-number-preserved g c =
     let on : ForBytes (λ bytes. IsContents (g.I.Image.device c.args.image.now).contents bytes
     × HoldsPhase1 v bytes c.args.workspace.now) (λ bytes.
     looked_at d (owners_runs v (claims_before v bytes n) (owners_from v bytes n))
-    ≡ looked_at d (steps_runs_again v n (cut_in (slice_index cuts n)) fresh_replay (steps_of v (inode_of v bytes n) bytes))
+    ≡ looked_at d (steps_runs_again v n (cut_in (slice_index notes n)) fresh_replay (steps_of v (inode_of v bytes n) bytes))
     + looked_at d' (owners_runs v (claims_before v bytes (n + 1)) (owners_from v bytes (n + 1)))) =
-    λ bytes k. looked_on v bytes cuts n d d' c.args.geometry.now.sound inv.low lt inside
+    λ bytes k. looked_on v bytes notes n d d' c.args.geometry.now.sound inv.low lt inside
     (ap cut_in (cut ∙ k.1.notes n) ∙ cut_is_noted v bytes n c.args.geometry.now.sound)
     (c.in_ok-renumbered.ensures.rewalked bytes (image ∙ k.0)).reported.dup in
     record {
@@ -158,12 +158,12 @@ loop-number-preserved g c =
         arith,
         inv.runs bytes k,
         c.renumbered.ensures.runs bytes (image ∙ k.0),
-        runs_on v bytes cuts n c.args.geometry.now.sound inv.low inside
+        runs_on v bytes notes n c.args.geometry.now.sound inv.low inside
             (ap cut_in (cut ∙ k.1.notes n) ∙ cut_is_noted v bytes n c.args.geometry.now.sound),
       );
       count = λ bytes k.
           let fits : c.loop-number.workspace.runs_again + looked_at d
-          (steps_runs_again v n (cut_in (slice_index cuts n)) fresh_replay (steps_of v (inode_of v bytes n) bytes)) < 2 ^ 64 =
+          (steps_runs_again v n (cut_in (slice_index notes n)) fresh_replay (steps_of v (inode_of v bytes n) bytes)) < 2 ^ 64 =
           omega (arith, inv.count bytes k, look_fits v bytes c.args.geometry.now.sound, on bytes k) in
           omega (
             arith,
@@ -173,18 +173,18 @@ loop-number-preserved g c =
                 fits,
           );
       reported = λ bytes k. reporting_more _
-          (offers_again v n (cut_in (slice_index cuts n)) fresh_replay (steps_of v (inode_of v bytes n) bytes))
+          (offers_again v n (cut_in (slice_index notes n)) fresh_replay (steps_of v (inode_of v bytes n) bytes))
           (kept_in_owners v (claims_before v bytes (n + 1)) (owners_from v bytes (n + 1))) _ _ _ _
-          (inv.reported bytes k) (kept_next v bytes cuts n c.args.geometry.now.sound inv.low lt inside
+          (inv.reported bytes k) (kept_next v bytes notes n c.args.geometry.now.sound inv.low lt inside
           (ap cut_in (cut ∙ k.1.notes n) ∙ cut_is_noted v bytes n c.args.geometry.now.sound))
           (c.in_ok-renumbered.ensures.rewalked bytes (image ∙ k.0)).reported;
       said = of_part _ (λ bytes. of_lines
           (first_offer_lines d (kept_in_owners v (claims_before v bytes n) (owners_from v bytes n))))
           (λ bytes. of_lines (first_offer_lines d
-          (offers_again v n (cut_in (slice_index cuts n)) fresh_replay (steps_of v (inode_of v bytes n) bytes))))
+          (offers_again v n (cut_in (slice_index notes n)) fresh_replay (steps_of v (inode_of v bytes n) bytes))))
           (λ bytes. of_lines (first_offer_lines d'
           (kept_in_owners v (claims_before v bytes (n + 1)) (owners_from v bytes (n + 1))))) _ _ _ _ inv.said
-          (λ bytes k. lines_split d d' _ _ _ (kept_next v bytes cuts n c.args.geometry.now.sound inv.low lt inside
+          (λ bytes k. lines_split d d' _ _ _ (kept_next v bytes notes n c.args.geometry.now.sound inv.low lt inside
           (ap cut_in (cut ∙ k.1.notes n) ∙ cut_is_noted v bytes n c.args.geometry.now.sound))
           (c.in_ok-renumbered.ensures.rewalked bytes (image ∙ k.0)).reported.dup)
           (said_knows _ _ _ _ _ _ (λ bytes k. image ∙ k.0) c.in_ok-renumbered.ensures.text);

@@ -47,7 +47,7 @@ returns-then-parent-count-clause-path g c = λ b t claims survey k l.
     let below = u.1.below in
     let count = count_is v b in
     let over = c.if-parent-count.true in
-    let cuts = c.requires.ready.made.notes in
+    let notes = c.requires.ready.made.notes in
     absurd (omega arith)
 
 pub returns-clause-path : goal.returns-clause-path
@@ -57,7 +57,7 @@ returns-clause-path g c = λ b t claims survey k l.
     (c.up.invariant.path b t claims survey k l) l in
     let count = count_is v b in
     let over = c.up-test.false in
-    let cuts = c.requires.ready.made.notes in
+    let notes = c.requires.ready.made.notes in
     absurd (omega arith)
 
 pub returns-in_err-search-clause-reads : goal.returns-in_err-search-clause-reads
@@ -85,7 +85,7 @@ up-preserved g c =
     let found = c.in_ok-found.ensures in
     let at = i.at in
     let parents = i.reads.ready.made.parents in
-    let cuts = i.reads.ready.made.notes in
+    let notes = i.reads.ready.made.notes in
     let entry = c.requires.ready.made.notes in
     let below = c.if-parent-count.false in
     let p : ℕ = c.index-parent.result.now in

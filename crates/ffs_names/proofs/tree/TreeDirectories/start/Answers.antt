@@ -8,7 +8,7 @@ use Rattle.ffs_volume.specs.Directories.Roles.{roled_entries}
 use Rattle.ffs_volume.specs.Directories.Volumes.{volume_of}
 use Rattle.ffs_names.specs.RightShapes.{is_right_shape}
 use Rattle.ffs_workspace.specs.Notes.{first_noted, note_at, cut_in}
-use Rattle.ffs_workspace.proofs.NoteLaws.{cut_is_noted, place_is_noted, place_is_whole, IsOneChunkAt}
+use Rattle.ffs_workspace.proofs.NoteLaws.{cut_is_noted, address_is_noted, address_is_whole, IsOneChunkAt}
 use Rattle.ffs_volume.specs.Encodings.Replay.{cut_at}
 use Rattle.ffs_names.proofs.OneChunks.{one_chunk_class, one_chunk_is, entries_by, shape_by}
 use Rattle.ffs_names.proofs.DirLaws.{dir_is, dir_size, dir_seen, shape_seen, kind_dirs}
@@ -59,7 +59,7 @@ returns-clause-rest g c = λ b k.
     (c.index-note.ensures ∙ get_or_default_zero t.notes.now.items c.args.dir c.index-note.result.now inside)
     ∙ k.notes c.args.dir in
     let cut : c.index-note.result.now ≡ cut_at v b c.args.dir =
-    sym (rw c.in_default.is at c.place_in.ensures) ∙ (ap cut_in note ∙ cut_is_noted v b c.args.dir t.geometry.sound) in
+    sym (rw c.in_default.is at c.address_in.ensures) ∙ (ap cut_in note ∙ cut_is_noted v b c.args.dir t.geometry.sound) in
     let begins = rw c.requires.ready.1 at c.restart-2.ensures.begins in
     let known = sym (ap (class_of v) inode ∙ is.1) in
     (begins known).entries b
@@ -87,7 +87,7 @@ returns-clause-sound g c = λ b k.
     (c.index-note.ensures ∙ get_or_default_zero t.notes.now.items c.args.dir c.index-note.result.now inside)
     ∙ k.notes c.args.dir in
     let cut : c.index-note.result.now ≡ cut_at v b c.args.dir =
-    sym (rw c.in_default.is at c.place_in.ensures) ∙ (ap cut_in note ∙ cut_is_noted v b c.args.dir t.geometry.sound) in
+    sym (rw c.in_default.is at c.address_in.ensures) ∙ (ap cut_in note ∙ cut_is_noted v b c.args.dir t.geometry.sound) in
     let begins = rw c.requires.ready.1 at c.restart-2.ensures.begins in
     let known = sym (ap (class_of v) inode ∙ is.1) in
     (begins known).shape b
@@ -107,14 +107,14 @@ returns-in-Some-clause-rest g c = λ b k.
     let noted : note_at v b d ≡ first_noted + c.in-Some.address =
     sym (k.notes d) ∙ (sym (c.index-note.ensures ∙ get_or_default_zero t.notes.now.items d c.index-note.result.now inside)
     ∙ c.in-Some.ensures) in
-    let at = place_is_noted v b d c.in-Some.address t.geometry.sound noted in
+    let at = address_is_noted v b d c.in-Some.address t.geometry.sound noted in
     let one : IsOneChunkAt (class_of v (inode_of v b d)) (inode_of v b d) c.in-Some.address =
     record { is_dir = is.1; size = at.size; address_is = at.address_is } in
     let begins = rw (c.requires.ready.1, c.one_chunk_at.ensures) at c.restart.ensures.begins in
     (begins (sym (one_chunk_class v c.in-Some.address t.geometry.sound))).entries b (omega arith)
     ∙ (one_chunk_is v (inode_of v b d) b c.in-Some.address (entries_by v b) t.geometry.sound one
     ∙ (dir_seen v b d (inode_of v b d) 0 t.geometry.sound is.0 refl
-    (sym (place_is_whole v b d c.in-Some.address t.geometry.sound noted))
+    (sym (address_is_whole v b d c.in-Some.address t.geometry.sound noted))
     ∙ sym (ap (λ (x : Bool). if x then roled_entries (volume_of v b) d else []) dir)))
 
 pub returns-in-Some-clause-sound : goal.returns-in-Some-clause-sound
@@ -128,14 +128,14 @@ returns-in-Some-clause-sound g c = λ b k.
     let noted : note_at v b d ≡ first_noted + c.in-Some.address =
     sym (k.notes d) ∙ (sym (c.index-note.ensures ∙ get_or_default_zero t.notes.now.items d c.index-note.result.now inside)
     ∙ c.in-Some.ensures) in
-    let at = place_is_noted v b d c.in-Some.address t.geometry.sound noted in
+    let at = address_is_noted v b d c.in-Some.address t.geometry.sound noted in
     let one : IsOneChunkAt (class_of v (inode_of v b d)) (inode_of v b d) c.in-Some.address =
     record { is_dir = is.1; size = at.size; address_is = at.address_is } in
     let begins = rw (c.requires.ready.1, c.one_chunk_at.ensures) at c.restart.ensures.begins in
     (begins (sym (one_chunk_class v c.in-Some.address t.geometry.sound))).shape b (omega arith)
     ∙ (one_chunk_is v (inode_of v b d) b c.in-Some.address (shape_by v b) t.geometry.sound one
     ∙ (shape_seen v b d (inode_of v b d) 0 t.geometry.sound is.0 refl
-    (sym (place_is_whole v b d c.in-Some.address t.geometry.sound noted))
+    (sym (address_is_whole v b d c.in-Some.address t.geometry.sound noted))
     ∙ sym (ap (λ (x : Bool). x && is_right_shape (volume_of v b) d) dir)))
 
 pub inode_by_part-requires-clause-ready : goal.inode_by_part-requires-clause-ready
