@@ -105,7 +105,8 @@ fn renumbered<I: Image, W: Output>(
     report: &mut Report<'_, W>,
 ) -> Result<(), RunFault>
     requires can { CanRewalk geometry.now.layout (I.device image.old) workspace.old number }
-    ensures { Rewalks geometry.now.layout number (cut_in (slice_index workspace.old.notes.items number))
+    ensures { Rewalks geometry.now.layout number
+        (cut_in (slice_index workspace.old.notes.items number))
         (λ bytes. inode_of geometry.now.layout bytes number) (I.device image.old)
         (I.device image.new) (progress W.sink report.old) (progress W.sink report.new)
         workspace.old workspace.new result }
