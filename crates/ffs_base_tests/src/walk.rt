@@ -7,7 +7,7 @@ use ffs_layout::{Geometry, Inode, Order};
 use ffs_memory::FixedList;
 use ffs_samples::{Number, ORDERS, Stop, Watched, geometry, image_of, inode};
 use ffs_volume::{Class, Step};
-use ffs_walk::{Blocks, Walk, class_of};
+use ffs_walk::{Blocks, Walk, class_of, has_steps};
 use std::alloc::{AllocError, Global};
 use std::test::Fail;
 
@@ -186,17 +186,19 @@ fn classes(rt: HostRuntime) -> Result<(), Fail> {
     broken.addresses[1] = 7;
     let mut link = inode(0o120777, 59);
     link.addresses = [7; 15];
-    for (inode, class) in [
-        (inode(0, 0), Class::Free),
-        (inode(0o644, 0), Class::Partial),
-        (inode(0o40755, 512), Class::Dir),
-        (early, Class::Unknown),
-        (device, Class::File),
-        (broken, Class::Unknown),
-        (link, Class::File),
+    for (inode, class, walked) in [
+        (inode(0, 0), Class::Free, false),
+        (inode(0o644, 0), Class::Partial, false),
+        (inode(0o100644, 0), Class::File, false),
+        (inode(0o40755, 512), Class::Dir, true),
+        (early, Class::Unknown, false),
+        (device, Class::File, false),
+        (broken, Class::Unknown, false),
+        (link, Class::File, false),
     ] {
         assert_eq!(rt; class_of(&geometry, &inode), class);
-        if inode.size != 512 {
+        assert_eq!(rt; has_steps(&geometry, &inode, class), walked);
+        if !walked {
             let mut image = image_of(Order::Little, &[], rt.alloc())?;
             let (found, gaps) = steps(&geometry, &inode, &mut image, rt.alloc())?;
             assert_eq!(rt; (found.len(), gaps), (0, 0));

@@ -49,7 +49,7 @@ pub record RunsAsAsked (I : Type 0) (device : I → Device) (opens : List ℕ �
   pub asked : AskFor words name sector
   pub checked : CheckedBy device opens refuses name sector out out' status
 
--- the words are wrong, and nothing is printed
+-- the words are wrong, or ask for the help or the version: nothing is printed to the output
 pub record IsRefused (words : List (List ℕ)) (out out' : Sink) (status : ℕ) : Type 0 where
   pub wrong : refusals words ≡ [] → ⊥
   pub unprinted : out' ≡ out

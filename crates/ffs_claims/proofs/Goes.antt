@@ -1,14 +1,19 @@
 -- How offers, steps and inodes continue.
-use Rattle.std.proofs.Common.{◌≡◌, ℕ, zero, suc, ◌+◌, ◌-◌, ◌<◌, ◌≤◌, nat_lt, Bool, true, false, ◌==◌, List, [], ◌∷◌}
+use Rattle.std.proofs.Common.{◌≡◌, ℕ, zero, suc, ◌+◌, ◌-◌, ◌*◌, ◌<◌, ◌≤◌, nat_lt, Bool, true, false, ◌==◌, List, [], ◌∷◌}
 use Rattle.std.proofs.Common.{◌++◌, arith, rules, refl, ap, ◌∙◌, sym, slice_set, replicate}
+use Rattle.std.specs.Prelude.{◌&&◌, not, if◌then◌else◌}
+use Rattle.std.specs.Int.{div_ceil}
 use Rattle.std.specs.List.{range_with_len, slice_index_or}
+use Rattle.std.proofs.lemmas.Grind.{div_ceil_times}
+use Rattle.std.proofs.lemmas.Bool.Decides.{nat_tests}
 use Rattle.std.proofs.lemmas.Bool.{and_parts}
 use Rattle.ffs_volume.specs.declared.Layout.{Layout}
 use Rattle.ffs_volume.specs.declared.Step.{Step}
 use Rattle.ffs_volume.specs.declared.Step.TheVariants.{Run, Tail, Gap}
 use Rattle.ffs_volume.specs.declared.BlockMessage.{BlockMessage}
 use Rattle.ffs_volume.specs.declared.Inode.{Inode}
-use Rattle.ffs_volume.specs.Blocks.Steps.{steps_of, is_walked}
+use Rattle.ffs_volume.specs.Blocks.Inodes.{addresses_needed}
+use Rattle.ffs_volume.specs.Blocks.Steps.{steps_of, steps_of_addresses, is_walked, last_length_of}
 use Rattle.ffs_volume.specs.Disk.Areas.{is_fragment_in_range, is_run_in_range}
 use Rattle.ffs_volume.specs.Blocks.Claims.{Claims, is_open, is_set, after_offer, after_offers, after_step, after_steps}
 use Rattle.ffs_volume.specs.Blocks.Claims.{offer_lines, lines_of_offers, step_lines, lines_of_steps, run_lines}
@@ -201,3 +206,24 @@ gaps_silent v inode s (suc n) steps = gaps_silent v inode s n steps
 pub no_steps : (v : Layout) (i : Inode) (bytes : List ℕ) → is_walked v i ≡ false → steps_of v i bytes ≡ []
 unfolding steps_of
 no_steps v i bytes h = rw h refl
+
+none_in : (q b : ℕ) → q * b < b → q ≡ 0
+none_in zero b few = refl
+none_in (suc q) b few = absurd (omega arith)
+
+no_blocks : (size bsize : ℕ) → 0 < bsize → size ≡ 0 → div_ceil size bsize ≡ 0
+no_blocks size bsize some e =
+    none_in (div_ceil size bsize) bsize (omega (arith, (div_ceil_times size bsize some).1, e))
+
+none_to_walk : (walked : Bool) (size bsize : ℕ) → 0 < bsize → (walked && not (size == 0)) ≡ false
+    → (if walked then div_ceil size bsize else 0) ≡ 0
+none_to_walk true size bsize some h = no_blocks size bsize some (grind (arith, nat_tests))
+none_to_walk false size bsize some h = refl
+
+-- nor has an empty one
+pub without_steps : (v : Layout) (i : Inode) (bytes : List ℕ) → 0 < v.bsize → (is_walked v i && not (i.size == 0)) ≡ false
+    → steps_of v i bytes ≡ []
+unfolding steps_of
+without_steps v i bytes some h = ap (λ (n : ℕ). steps_of_addresses
+    (record { layout = v; blocks = n; last_length = last_length_of v i }) bytes i.addresses 0 (addresses_needed v.nindir n))
+    (none_to_walk (is_walked v i) i.size v.bsize some h)

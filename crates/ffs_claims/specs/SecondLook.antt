@@ -44,8 +44,8 @@ owners_runs v s [] = []
 owners_runs v s (o ∷ os) =
     steps_runs v o.number (at_next_inode s) o.steps ++ owners_runs v (after_owner v s o) os
 
--- how many of some Runs are looked at, by their kept offers: all up to the one that reports the last of the marked
--- fragments
+-- how many of some Runs are looked at, by their kept offers: all up to the one that reports the
+-- last fragment with a DUP line
 unfoldable pub looked_at : List Bool → List (List Offer) → ℕ
 looked_at dup [] = 0
 looked_at dup (kept ∷ runs) = if set_count dup == 0 then 0 else 1 + looked_at (after_first dup kept) runs
@@ -83,14 +83,14 @@ pub record StepReported (v : Layout) (inode : ℕ) (step : Step) (k k' : Keeping
   pub next : replay_in k' ≡ replay_step_by_cut v k.cut (replay_in k) step
   pub cut : k'.cut ≡ k.cut
 
--- an inode that keeps so many fragments, or all for 0, was walked over again: its offers were gone over, and its Runs
--- counted up to the one that reports the last of the marked fragments
+-- an inode with this cut was walked over again: its kept offers were gone over, and its Runs were
+-- counted up to the one that reports the last fragment with a DUP line
 pub record Rewalked (v : Layout) (inode cut : ℕ) (steps : List Step) (old new : Workspace) : Type 0 where
   pub reported : OffersReported (offers_again v inode cut fresh_replay steps) old new
   pub count : RoseBy old.runs_again new.runs_again (looked_at (bits_of old.duplicates)
       (steps_runs_again v inode cut fresh_replay steps))
 
--- an inode that keeps so many fragments, or all for 0, is walked over again: the first claims among its offers are
+-- an inode with this cut is walked over again: the first claims among its kept offers are
 -- reported, and its Runs are counted
 pub record Rewalks {T : Type 0} (v : Layout) (number cut : ℕ) (inode : List ℕ → Inode) (d d' : Device)
     (progress progress' : Progress) (old new : Workspace) (result : Result T RunFault) : Type 0 where

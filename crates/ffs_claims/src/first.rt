@@ -24,11 +24,13 @@ use ffs_report::{Heading, Line, Output, Report};
 use ffs_walk::Walk;
 use ffs_workspace::Workspace;
 
-/// Walks over the blocks of all inodes, claims the fragments that they offer, and reports what is
-/// wrong: inodes of an unknown type, addresses out of range, fragments that are claimed twice, and
-/// wrong counts of sectors.
+/// Walks over the blocks of all inodes from 2 on, claims the fragments that their steps offer, and
+/// reports what is wrong: inodes of class Partial or Unknown, addresses out of range, fragments
+/// that are reserved or already claimed, indirect blocks with an address past the end of the file,
+/// and wrong counts of sectors (of 512 bytes).
 ///
-/// The text is that of a workspace as it was made.
+/// The contract gives the text only for a workspace as it was made: in another one, earlier claims
+/// would give further DUP lines.
 ///
 /// # Errors
 /// A read of the image that failed, and a write of the report that failed.

@@ -29,7 +29,8 @@ fn set_reserved(map: &mut FragmentMap, geometry: &Geometry)
     }
 }
 
-/// Claims the reserved fragments, and begins to count Runs.
+/// Sets the reserved fragments in the map `claimed`, and the count of Runs and all counts of the
+/// current inode to 0.
 pub fn reserve(workspace: &mut Workspace, geometry: &Geometry)
     requires made { IsFor geometry.now.layout workspace.old }
     ensures claims { IsFresh geometry.now.layout workspace.old → claims_of workspace.new

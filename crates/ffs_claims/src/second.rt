@@ -116,10 +116,10 @@ fn renumbered<I: Image, W: Output>(
     rewalk(workspace, geometry, number, cut, &inode, image, report)
 }
 
-/// Walks over the blocks of all inodes again, and reports of each fragment that is claimed twice
-/// which inode claims it first.
+/// Walks over the blocks of the inodes again, until each fragment with a DUP line has its first
+/// claim reported: by a DUP line for the first inode that keeps an offer of it.
 ///
-/// The text is that of a workspace as phase 1 left it.
+/// The contract gives the text only for a workspace as phase 1 left it.
 ///
 /// # Errors
 /// A read of the image that failed, and a write of the report that failed.

@@ -25,7 +25,8 @@ abbrev pub lines_as : Option ReferenceLine → List TreeMessage
 lines_as None = []
 lines_as (Some line) = reference_message line ∷ []
 
--- whether the inode i is dead, by the lists of a workspace: marked or a directory of size 0, and not named
+-- whether the inode i is dead, by the lists of a workspace: marked or a directory of size 0, not
+-- the root, and not named
 abbrev pub is_dead_by : Workspace → ℕ → Bool
 is_dead_by w i =
     (bool_at w.marked.items i || is_empty_dir_kind (slice_index w.kinds.items i))

@@ -14,7 +14,8 @@ use ffs_volume::kinds::Kind;
 use ffs_volume::{Attr, Inode};
 use ffs_workspace::links_start;
 
-/// How often an inode is referred to, by its count of references, which started by its links.
+/// How many entries refer to an inode, by its number in the workspace's `references`, which started
+/// at `links_start` and grew by 1 for each of them.
 pub fn references_by(count: u64, inode: &Inode) -> u64
     ensures { result ≡ count - links_start inode.now.nlink }
 {

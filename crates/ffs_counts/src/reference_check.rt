@@ -25,7 +25,8 @@ use ffs_volume::constants::{LINKS_MET, ROOTINO};
 use ffs_volume::kinds::Kind;
 use ffs_workspace::Workspace;
 
-// Whether an inode is marked or a directory of size 0, and no entry names it.
+// Whether an inode is dead: marked or a directory of size 0, not the root, and named by no plain
+// entry.
 fn is_dead(workspace: &Workspace, number: u32) -> bool
     requires { HasPlace workspace.now number }
     ensures { result ≡ is_dead_by workspace.now number }

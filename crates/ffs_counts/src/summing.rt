@@ -80,7 +80,8 @@ fn free_in_all(frags: i32, frag: u8, blocks: i32) -> i64
     i64::from(frags) + i64::from(frag) * i64::from(blocks)
 }
 
-// Tenths of a percent, rounded toward zero.
+// The loose fragments as a share of the data fragments, in tenths of a percent, rounded toward
+// zero.
 fn tenths_of(frags: i32, dsize: u32) -> i64
     requires { 0 < dsize }
     ensures { result ≡ int_div (frags *ℤ pos 1000) (pos dsize) }

@@ -20,7 +20,8 @@ use ffs_volume::constants::CG_MAGIC;
 /// What is found in the records of a group: each field is true where nothing is wrong.
 #[derive(Clone, Copy, Debug)]
 pub struct Findings {
-    /// The group block has its magic number. Where it has not, its maps and sums are not looked at.
+    /// The group block has its magic number. Where it hasn't, phase 5 reports neither `maps` nor
+    /// `sums`.
     pub magic: bool,
     /// The record in the summary area.
     pub counts: bool,

@@ -31,7 +31,7 @@ fn is_used_kind(kind: u8) -> bool
     kind != 0
 }
 
-/// Whether an inode is in use: 0, 1, and each that has a type.
+/// Whether an inode is in use: 0, 1, and each that is allocated, also one of class Unknown.
 pub fn is_used_at(kinds: &[u8], inode: usize) -> bool
     requires { inode < length kinds.now }
     ensures { result ≡ is_used_inode (class_in kinds.now) inode }
@@ -39,7 +39,9 @@ pub fn is_used_at(kinds: &[u8], inode: usize) -> bool
     inode < 2 || is_used_kind(kinds[inode])
 }
 
-/// Whether inodes of some kinds are all in use or none is, by the least and the greatest kind.
+/// Whether the inodes of some kinds are all allocated (`Some(true)`), or none is (`Some(false)`),
+/// by the least and the greatest kind; else `None`. It sees no number, so inodes 0 and 1 are like
+/// others here.
 pub fn are_used(kinds: &[u8]) -> Option<bool>
     ensures { IfSome result (λ used. (k : ℕ) → k < length kinds.now
         → is_allocated (class_of_kind (slice_index kinds.now k)) ≡ used) }

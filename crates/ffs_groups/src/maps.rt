@@ -129,8 +129,8 @@ pub fn group_fragments(geometry: &Geometry, group: u32) -> u32
         .min(geometry.layout.size - geometry.cgbase(group))
 }
 
-// Whether whole words of a map have one bit for each fragment. No word ends the loop, so that some
-// are compared at a time.
+// Whether whole words of a map have the same bit, `bit`, for all their fragments. No word ends the
+// loop, so that some are compared at a time.
 fn are_filled(block: &[u8], place: usize, words: u32, bit: bool) -> bool
     requires { place + 8 * words ≤ length block.now }
     ensures { result ≡ has_bits block.now place (64 * words) (λ _. bit) }

@@ -12,7 +12,7 @@ use std::ops::Index;
 /// made, and stays as it was; what lies after the last element that was set isn't written.
 #[derive(Drop)]
 pub struct FilledList<T> {
-    /// The elements that are touched. They are in memory for all.
+    /// The elements that are touched, from index 0 on. Its capacity is the length of the list.
     touched: Vec<T>,
     /// What each later element is.
     rest: T,

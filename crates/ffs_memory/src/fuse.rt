@@ -15,11 +15,13 @@ pub struct FuseMemory<M> {
     inner: M,
     /// How many requests are left, the one that is refused among them.
     left: u64,
+    /// How many requests the fuse itself has refused.
     own: u64,
 }
 
 impl<M: Memory> FuseMemory<M> {
-    /// Refuses the k-th request from now on, from 1, and no other.
+    /// A memory that passes requests on to `inner`, but refuses the `k`-th one from now on, counted
+    /// from 1. Where `k` is 0, it passes all on.
     pub fn nth(inner: M, k: u64) -> FuseMemory<M>
         ensures { IsFused M.account ⟦<FuseMemory<M> as Memory>⟧.account inner k result }
     {

@@ -7,8 +7,8 @@
 //!
 //! ```text
 //! let mut memory = SystemMemory::new(alloc);
-//! let mut cut = memory.numbers(inodes)?;
-//! cut.set(number, kept);
+//! let mut notes = memory.numbers(inodes)?;
+//! notes.set(number, note);
 //! ```
 //!
 //! It rests on no other crate of this repository.

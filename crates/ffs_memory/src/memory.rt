@@ -13,11 +13,11 @@ pub trait Memory {
     /// How many bytes it has granted, and how many requests it has refused.
     ghost account: { Self → Account };
 
-    /// How many bytes it has granted, up to the last u64.
+    /// How many bytes it has granted. The count stops at the greatest u64.
     fn granted(&self) -> u64
         ensures { result ≡ (account self.now).granted };
 
-    /// How many requests it has refused, up to the last u64.
+    /// How many requests it has refused. The count stops at the greatest u64.
     fn refused(&self) -> u64
         ensures { result ≡ (account self.now).refused };
 

@@ -26,7 +26,8 @@ pub struct Chunks {
     pub walk: Walk,
     /// Which of its steps are kept, so far.
     pub keeping: Keeping,
-    /// How many bytes of the directory are read.
+    /// How many bytes of the directory are to be read in all. It doesn't grow with the chunks that
+    /// are read.
     pub taken: u64,
     /// At most how many chunks are still to come.
     pub budget: u32,

@@ -13,9 +13,10 @@ use ffs_image::{Image, ImageFault};
 use ffs_layout::Geometry;
 use ffs_workspace::Workspace;
 
-/// Finds how often each inode is referred to, which inodes an entry names, which directories are
-/// reached from the root, and their parents. Each directory is read once. In `flags` are
-/// directories of which nothing can be reported. The rest of the workspace stays as it was.
+/// Finds how often each inode is referred to, which inodes a plain entry names, which directories
+/// are reached from the root, and the parent of each directory. Each directory is read once.
+/// `flags` then has directories of which nothing can be reported. `queue` and the windows change
+/// too. What phase 1 left (claims, kinds, marks, notes, counts of Runs) stays as it was.
 ///
 /// # Errors
 /// A read of the image that failed.

@@ -1,7 +1,8 @@
 //! The directories of a volume: their chunks and entries, and their survey.
 //!
 //! `Entries::next` returns the entries of a directory in their order, from the Runs that its inode
-//! keeps. `survey` leaves references, levels and parents of all directories in the workspace.
+//! keeps. `survey` leaves in the workspace how often each inode is referred to, which directories
+//! are reached from inode 2, and the parent of each directory.
 //!
 //! ```text
 //! survey(&geometry, &mut image, &mut workspace)?;

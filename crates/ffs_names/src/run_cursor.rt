@@ -44,7 +44,8 @@ impl RunCursor {
         }
     }
 
-    /// The chunks of a Run of a directory's logical block, of which `taken` bytes are read.
+    /// The chunks of a Run of `len` fragments at the address `start`, which belongs to the logical
+    /// block `block` of a directory. Of the whole directory `taken` bytes are read.
     pub fn of_run(geometry: &Geometry, taken: u64, start: u32, len: u32, block: u64) -> RunCursor
         requires run { IsBlockRun geometry.now.layout start len }
         requires taken { taken ≤ 2 ^ 31 }

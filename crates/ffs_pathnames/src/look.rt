@@ -22,7 +22,7 @@ pub fn is_bad_whiteout(entry: &Entry<'_>) -> bool
     (entry.number == WINO) != (entry.kind == DT_WHT)
 }
 
-/// Whether a link to a directory is its parent's, and the first one.
+/// Whether an inode is no directory, or this link to it is its parent's, and the first one there.
 fn is_quiet_link(inodes: &Inodes<'_>, dir: u32, stamps: &FilledList<u32>, inode: u32) -> bool
     requires inode { inode < length inodes.now.kinds.now }
     requires stamps { CanStamp inodes.now dir stamps.now.items }
@@ -77,7 +77,7 @@ fn is_quiet_plain(
     entry.number == 1 || is_quiet_inode(inodes, dir, stamps, entry)
 }
 
-/// Whether nothing is reported of an entry.
+/// Whether it is sure that nothing is reported of an entry. Where it isn't, a line may come or not.
 #[tactic(auto, unfolding(crate::specs::Marks::is_quiet))]
 pub fn is_quiet(
     inodes: &Inodes<'_>,

@@ -224,7 +224,8 @@ pub fn report_plain<I: Image, W: Output>(
     Ok(())
 }
 
-/// Prints the line of an extra entry: `.` or `..` at another place than the first two.
+/// Prints the line of an extra entry: a `.` that isn't the first entry of the chunk at the start of
+/// the file, or a `..` that isn't the second entry of that chunk.
 ///
 /// # Errors
 /// A read of the image that failed, and a write of the report that failed.

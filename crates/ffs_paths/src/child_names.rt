@@ -100,8 +100,8 @@ impl ChildNames {
         }
     }
 
-    /// Reads a directory for the names of inodes, of the first number and the next. `cut` is how
-    /// many offers it keeps where duplicates cut it, else 0.
+    /// Finds where the directory `parent` names each of the `COVERED` inodes from the number
+    /// `first` on. `cut` is how many offers it keeps where duplicates cut it, else 0.
     ///
     /// # Errors
     /// A read of the image that failed.

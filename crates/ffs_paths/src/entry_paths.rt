@@ -17,7 +17,8 @@ pub struct EntryPaths {
     pub directory: DirectoryPath,
     /// The directory's path, `/` and a name.
     pub bytes: [u8; MAXPATHLEN],
-    /// How many bytes come before the name, or 0 where no name has room.
+    /// How many bytes come before the name. 0 where the directory isn't reached, or where its path
+    /// and a `/` take more than 1,024 bytes.
     pub begins: usize,
     /// How many bytes are the path of the last entry, or 0 where that is `text`.
     pub length: usize,
@@ -28,8 +29,8 @@ pub struct EntryPaths {
     ghost prefix: { 0 < begins → BeginsWith directory begins bytes },
 }
 
-/// Writes what the paths of all entries begin with. Returns how long that is, or 0 where no name
-/// has room.
+/// Writes what the paths of all entries begin with. Returns how many bytes that is, or 0 where the
+/// directory isn't reached, or where its path and a `/` take more than 1,024 bytes.
 fn put_prefix(directory: &DirectoryPath, bytes: &mut [u8; MAXPATHLEN]) -> usize
     ensures { 0 < result → BeginsWith directory.now result bytes.new }
 {

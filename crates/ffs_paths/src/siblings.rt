@@ -140,8 +140,8 @@ impl Siblings {
         Ok(())
     }
 
-    /// Whether the path of the directory is kept, and its reading has passed the first entry that
-    /// names a child.
+    /// Whether the path of the directory is kept, and its reading may have passed the first entry
+    /// that names the child: it has passed a plain entry with the child's number or a greater one.
     fn has_passed(&self, parent: u32, child: u32) -> bool
         ensures { result ≡ true → self.now.parent ≡ parent }
     {

@@ -9,7 +9,7 @@ use ffs_report::{Counted, FuseWriter};
 use ffs_volume::{End, SuperFault};
 use std::io;
 
-// The rows that are run so.
+// The rows over which each read and each write fails in turn.
 const ROWS: [&str; 4] = [
     "clean 0",
     "shared_fragment 1",
@@ -17,10 +17,10 @@ const ROWS: [&str; 4] = [
     "lost_cycle 1",
 ];
 
-// The rows with trees of indirect blocks that point to themselves, and the most reads that a run
-// over one may make.
+// The rows with trees of indirect blocks that point to themselves.
 const TREES: [&str; 2] = ["triple_tree_self 1", "indirect_claims_itself 1"];
 
+// The read that fails in a run over one of them: the run makes fewer reads, so it never comes.
 const READS: u64 = 300;
 
 // What is printed of the clean image where the chunk of its root can't be read.
@@ -28,6 +28,9 @@ const CUT_AT_ROOT: &[u8] =
     b"** t.img (NO WRITE)\n** Last Mounted on /mnt\n** Phase 1 - Check Blocks and Sizes\n** Phase 2 - Check Pathnames\nCAN NOT READ: BLK 72\n";
 
 /// Compares each run with what a fault leaves of the row's report.
+///
+/// # Errors
+/// A row that can't be read, memory that was refused, and standard output that failed.
 pub fn compare(rt: &HostRuntime, tally: &mut Tally) -> io::Result<()> {
     for line in ROWS {
         let row = Row::read(rt, line)?;

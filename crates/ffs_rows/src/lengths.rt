@@ -19,6 +19,9 @@ const TOO_SHORT_FOR_COPY: &[u8] =
 /// Compares the checks of each prefix of the clean image with what is expected: where the
 /// superblock that is read isn't whole it can't be read, and else the volume is larger than the
 /// image.
+///
+/// # Errors
+/// A row that can't be read, memory that was refused, and standard output that failed.
 pub fn compare(rt: &HostRuntime, tally: &mut Tally) -> io::Result<()> {
     let primary = Row::read(rt, "clean 8")?;
     cut(rt, &primary, 9568, [NO_SUPERBLOCK, TOO_SHORT], tally)?;

@@ -18,6 +18,9 @@ pub struct Tally {
 
 impl Tally {
     /// Counts a comparison, and prints what was compared where it failed.
+    ///
+    /// # Errors
+    /// Standard output failed.
     pub fn count(
         &mut self,
         rt: &HostRuntime,

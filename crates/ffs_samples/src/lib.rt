@@ -20,6 +20,9 @@ use std::alloc::{AllocError, Global};
 pub const ORDERS: [Order; 2] = [Order::Little, Order::Big];
 
 /// The volume's geometry.
+///
+/// # Errors
+/// Those of `Geometry::new`. The layout is valid, so none is expected.
 pub fn geometry(order: Order) -> Result<Geometry, SuperFault>
     ensures size { IfOk result (λ g. g.layout.size ≡ 128) }
     ensures bytes { IfOk result (λ g. g.layout.size * g.layout.fsize ≤ 131072) }
@@ -72,7 +75,7 @@ pub fn inode(mode: u16, size: u64) -> Inode {
     }
 }
 
-/// A number in bytes: its place, its width, and it.
+/// A number to write: its place (an offset in bytes), its width in bytes, and its value.
 pub type Number = (usize, usize, u64);
 
 /// Writes numbers, as far as there is room.
@@ -96,6 +99,9 @@ pub fn put(order: Order, bytes: &mut [u8], numbers: &[Number])
 }
 
 /// An image of 131,072 bytes: these numbers, and zeros.
+///
+/// # Errors
+/// The memory was refused.
 pub fn image_of(order: Order, numbers: &[Number], alloc: Global) -> Result<MemoryImage, AllocError>
     ensures { IfOk result (λ m. length m ≡ 131072) }
 {
@@ -156,6 +162,9 @@ pub fn put_super(order: Order, bytes: &mut [u8], at: usize) {
 }
 
 /// The bytes of an image with the volume's superblock and its last copy, at byte 16,384, and zeros.
+///
+/// # Errors
+/// The memory was refused.
 pub fn base(order: Order, alloc: Global) -> Result<Vec<u8>, AllocError> {
     let mut bytes = vec![in alloc; 0u8; 131072]?;
     put_super(order, bytes.as_mut_slice(), 8192);
@@ -164,6 +173,9 @@ pub fn base(order: Order, alloc: Global) -> Result<Vec<u8>, AllocError> {
 }
 
 /// A list of these numbers.
+///
+/// # Errors
+/// The memory was refused.
 pub fn numbers(values: &[u32], alloc: Global) -> Result<FilledList<u32>, AllocError>
     ensures { IfOk result (λ list. vec_len list ≡ length values.now) }
 {
@@ -220,7 +232,7 @@ impl<I: Image + Drop> Image for Watched<I> {
     }
 }
 
-/// Why a list of what is found isn't there.
+/// Why a helper of the tests has no answer: a read of the image failed, or memory was refused.
 #[derive(Debug, Drop)]
 pub enum Stop {
     Read(ImageFault),

@@ -46,7 +46,8 @@ from_dirs g ss x = find (λ s. edge g s x) ss
 abbrev pub nothing : ℕ → Option ℕ
 nothing x = None
 
--- With a to go, the marks r, the parents p and the queue q become what r', p' and q' become with c to go.
+-- With a to go, the reached inodes r, the parents p and the queue q become what r', p' and q'
+-- become with c to go.
 pub record Comes (a : ℕ → Option ℕ) (r : List Bool) (p q : List ℕ) (c : ℕ
     → Option ℕ) (r' : List Bool) (p' q' : List ℕ) : Type 0 where
   pub reached : (x : ℕ) → (bool_at r' x || is_some (c x)) ≡ (bool_at r x || is_some (a x))
@@ -108,7 +109,8 @@ pub record IsFrontier (g : Graph) (k : ℕ) (xs : List ℕ) : Type 0 where
 abbrev pub parent_at : Graph → ℕ → ℕ → Option ℕ
 parent_at g k x = cond (within g k x) (parent g x) None
 
--- what is known when all levels up to k are known: the marks, the parents, and that each that is marked was queued once
+-- what is known when all levels up to k are known: which inodes are reached, the parents, and that
+-- each reached one was queued once
 pub record LevelsKnown (g : Graph) (k : ℕ) (r : List Bool) (p q : List ℕ) : Type 0 where
   pub reached : (x : ℕ) → bool_at r x ≡ within g k x
   pub parent : (x : ℕ) → number_at p x ≡ unwrap_or (parent_at g k x) 0
@@ -119,7 +121,8 @@ unfoldable pub counted_by : (ℕ → Bool) → Graph → ℕ → ℕ → ℕ
 counted_by r g x zero = 0
 counted_by r g x (suc s) = counted_by r g x s + (if r s then counted_in g s x else 0)
 
--- what is known when all reached directories are read: counts on from these starts, flags, marks and parents
+-- what is known when all reached directories are read: counts on from these starts, flags, which
+-- inodes are reached, and parents
 pub record IsReachedPart (g : Graph) (starts f : List ℕ) (m r : List Bool) (p : List ℕ) : Type 0 where
   pub references : (x : ℕ) → x < g.count → number_at f x ≡ number_at starts x + counted_by (bool_at r) g x g.count
   pub named : (x : ℕ) → x < g.count → bool_at m x ≡ is_some (first_below (λ s. bool_at r s && is_naming_dir g s x)
@@ -127,19 +130,20 @@ pub record IsReachedPart (g : Graph) (starts f : List ℕ) (m r : List Bool) (p 
   pub reached : (x : ℕ) → bool_at r x ≡ is_some (level g x)
   pub parent : (x : ℕ) → number_at p x ≡ unwrap_or (cond (is_some (level g x)) (parent g x) None) 0
 
--- x is a directory without a mark
+-- x is a directory that isn't reached
 abbrev pub is_free : List ℕ → List Bool → ℕ → Bool
 is_free kinds r x = dir_at kinds x && not (bool_at r x)
 
--- the directory s, which has no mark, names x, which has none
+-- the directory s names the directory x, and neither is reached
 abbrev pub is_free_edge : Graph → List ℕ → List Bool → ℕ → ℕ → Bool
 is_free_edge g kinds r x s = is_free kinds r x && (not (bool_at r s) && is_naming_dir g s x)
 
--- no directory without a mark has a parent
+-- no directory that isn't reached has a parent
 abbrev pub IsBlank : List ℕ → List Bool → List ℕ → Type 0
 IsBlank kinds r p = (x : ℕ) → is_free kinds r x ≡ true → number_at p x ≡ 0
 
--- what the directories below n without a mark add to counts and flags, and which parents they give
+-- what the directories below n that aren't reached add to counts and flags, and which parents they
+-- give
 pub record IsRead (g : Graph) (kinds : List ℕ) (r : List Bool) (n : ℕ) (f : List ℕ) (m : List Bool) (p f' : List ℕ)
     (m' : List Bool) (p' : List ℕ) : Type 0 where
   pub references : (x : ℕ) → x < g.count → number_at f' x ≡ number_at f x + counted_by (λ s. not (bool_at r s)) g x n

@@ -93,9 +93,9 @@ fn visit(
     top + 1
 }
 
-/// Whether a plain entry of a type can name an inode of that type: one that is allocated, of a
-/// known type and no directory of size 0. A directory mustn't be reached already, since its parent
-/// entry was before then.
+/// Whether nothing can be reported of a plain entry that has the type of the unmarked inode that it
+/// names. The inode must be allocated, of a known type, no whiteout and no directory of size 0. A
+/// directory mustn't be reached yet: else this entry isn't its parent entry, but extraneous.
 fn is_calm_kind(kind: u8, reached: bool) -> bool
     ensures { result ≡ is_calm_kind kind reached }
 {

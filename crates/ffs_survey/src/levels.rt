@@ -176,9 +176,10 @@ fn limit_starts(references: &mut FilledList<u64>)
     }
 }
 
-/// Finds for each inode how many entries name it, whether a plain one does, whether it is reached
-/// from inode 2, and its parent, 0 for none. Each directory is read once. The counts continue from
-/// what `references` holds, at most `NO_LINKS` each; what the other lists held before is forgotten.
+/// Finds for each inode how many entries refer to it, whether a plain one does, whether it is
+/// reached from inode 2, and its parent, 0 for none. Each directory is read once. The counts
+/// continue from what `references` holds, at most `NO_LINKS` each; what the other lists held before
+/// is forgotten.
 ///
 /// `calm` flags directories of which nothing can be reported: reached ones that were right as they
 /// were read.

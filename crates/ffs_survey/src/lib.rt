@@ -1,9 +1,9 @@
 //! A survey of directories: which inodes are reached from inode 2, the parent of each directory,
-//! and how many entries name each inode. It works over any reader of directories (`Directories`),
-//! and holds no entry.
+//! and how many entries refer to each inode. It works over any reader of directories
+//! (`Directories`), and holds no entry.
 //!
-//! `survey` leaves levels, parents and references as the definitions have them; `mark_leaders`
-//! marks one directory of each cycle of parents.
+//! `survey` leaves what is reached, parents and references as the definitions have them;
+//! `mark_leaders` marks one directory of each cycle of parents.
 //!
 //! It rests on `ffs_volume` and `ffs_image`.
 #![tactic(auto)]

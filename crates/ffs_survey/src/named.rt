@@ -19,7 +19,7 @@ pub struct Named {
     pub kind: u8,
 }
 
-/// Whether an entry names an inode in the directory tree: one with a name other than `.` and `..`.
+/// Whether an entry is plain: its inode number isn't 0, and its name is neither `.` nor `..`.
 pub fn is_plain(role: Role) -> bool
     ensures { result ≡ is_plain_role role }
 {

@@ -18,7 +18,7 @@ pub fn is_suspect(kinds: &[u8], marked: &[bool], number: usize) -> bool
         && (marked[number] || (number >= ROOTINO as usize && kinds[number] == EMPTY_DIR))
 }
 
-/// Whether an inode is dead: suspect, and named by no plain entry.
+/// Whether an inode is dead: suspect, not the root, and named by no plain entry.
 pub fn is_dead(number: u32, kinds: &[u8], marked: &[bool], named: &[bool]) -> bool
     requires number { number < length kinds.now }
     requires lists { DeadLists kinds.now marked.now named.now }

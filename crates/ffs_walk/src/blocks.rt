@@ -10,7 +10,8 @@ use ffs_memory::FixedList;
 /// The indirect blocks that a walk is in, one of each level, in one buffer. They are of one image.
 #[derive(Drop)]
 pub struct Blocks {
-    /// Three blocks of bytes, one for each level.
+    /// Three blocks of bytes, one for each level. That of level 0 has addresses of data blocks,
+    /// that of level 1 addresses of blocks of level 0, and that of level 2 addresses of level 1.
     pub buffer: FixedList<u8>,
     /// The addresses of the blocks that are held, in fragments, by their levels.
     pub held: [Option<u32>; 3],

@@ -1,6 +1,6 @@
 //! What an inode is, and which of its addresses it uses.
 
-ghost use Rattle.std.specs.Prelude.{◌≡◌, ◌*◌, ◌+◌, ◌<◌, ◌≤◌, ◌^◌, drop, if◌then◌else◌};
+ghost use Rattle.std.specs.Prelude.{◌≡◌, ◌==◌, ◌&&◌, ◌*◌, ◌+◌, ◌<◌, ◌≤◌, ◌^◌, drop, not, if◌then◌else◌};
 ghost use Rattle.ffs_volume.specs.Blocks.Inodes as inodes;
 ghost use Rattle.ffs_volume.specs.Blocks.Steps as steps;
 
@@ -54,23 +54,21 @@ fn is_short_symlink(geometry: &Geometry, inode: &Inode) -> bool
     inode.mode / 4096 == u16::from(DT_LNK) && inode.size < u64::from(geometry.layout.maxsymlinklen)
 }
 
-// Whether an address from an index on isn't zero. All fifteen are looked at, with no test of each
-// that ends the loop: it is fast.
+// Whether an address from an index on isn't zero. All fifteen are looked at, with no branch that
+// depends on the index: sizes of files are mixed, and no processor foresees such a branch.
 #[inline(always)]
 fn any_nonzero(addresses: &[u32; 15], from: usize) -> bool
     ensures { result ≡ inodes.any_nonzero (drop from addresses.now) }
 {
     let mut bits = 0;
     for index in 0..15 {
-        if from <= index {
-            bits |= addresses[index];
-        }
+        bits |= addresses[index] * u32::from(from <= index);
     }
     bits != 0
 }
 
-/// Whether an inode of the class has steps.
-pub fn has_steps(geometry: &Geometry, inode: &Inode, class: Class) -> bool
+// Whether the addresses of an inode of the class are walked.
+fn is_walked(geometry: &Geometry, inode: &Inode, class: Class) -> bool
     ensures { class ≡ inodes.class_of geometry.now.layout inode.now
         → result ≡ steps.is_walked geometry.now.layout inode.now }
 {
@@ -79,6 +77,14 @@ pub fn has_steps(geometry: &Geometry, inode: &Inode, class: Class) -> bool
         _ => false,
     };
     walks && !(is_device(inode.mode / 4096) || is_short_symlink(geometry, inode))
+}
+
+/// Whether an inode of the class has steps: its addresses are walked, and it isn't empty.
+pub fn has_steps(geometry: &Geometry, inode: &Inode, class: Class) -> bool
+    ensures { class ≡ inodes.class_of geometry.now.layout inode.now
+        → result ≡ (steps.is_walked geometry.now.layout inode.now && not (inode.now.size == 0)) }
+{
+    is_walked(geometry, inode, class) && inode.size != 0
 }
 
 /// The greatest size that the addresses can serve.
@@ -110,7 +116,7 @@ pub fn walked_blocks(geometry: &Geometry, inode: &Inode, class: Class) -> u64
         then inodes.logical_blocks_of geometry.now.layout inode.now else 0) }
     ensures small { result < 2 ^ 53 }
 {
-    if has_steps(geometry, inode, class) {
+    if is_walked(geometry, inode, class) {
         logical_blocks_of(geometry, inode)
     } else {
         0

@@ -62,7 +62,8 @@ impl Frame {
         self.next < self.used
     }
 
-    /// Takes the next item of the block, and reads the block unless it is held for the level.
+    /// Takes the next item of the block, and reads the block unless it is held for the level (0 to
+    /// 2, as in `Blocks`). `span` is how many logical blocks lie under each word.
     ///
     /// # Errors
     /// A read of the image that failed.

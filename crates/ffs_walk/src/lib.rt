@@ -1,9 +1,10 @@
 //! The class of an inode, and a walk over its blocks, in the order of its addresses (fs(5)).
 //!
-//! `Walk::next` returns the steps of the definition one by one: Runs of fragments, Gaps (holes),
-//! and Tails (indirect blocks with an address past the end of the file). It reads each indirect
-//! block once, into one of three buffers of `Blocks`. `Keeping` says, step after step, which of
-//! them an inode keeps, by where its dup offers cut it.
+//! `Walk::next` returns the steps of the definition (`Blocks/Steps` of `ffs_volume`) one by one:
+//! Runs of fragments, Gaps (holes), and Tails (indirect blocks with an address past the end of the
+//! file). It reads each indirect block in range once, into the part of the buffer of `Blocks` that
+//! is for its level. `Keeping` says, step after step, which steps an inode keeps, by its cut and by
+//! its bad Runs so far.
 //!
 //! ```text
 //! let mut walk = Walk::start(geometry, &inode);

@@ -19,7 +19,7 @@ use Rattle.ffs_volume.specs.Directories.Volumes.{class_at, is_inode_number}
 use Rattle.ffs_volume.specs.Encodings.Replay.{cut_of, cut_at}
 use Rattle.ffs_volume.proofs.Weights.{owner_moves, kept_bound}
 use Rattle.ffs_volume.proofs.CutLaws.{cut_is}
-use Rattle.ffs_workspace.specs.Notes.{first_noted, has_one_chunk, note_of, note_at, cut_in}
+use Rattle.ffs_workspace.specs.Notes.{first_noted, noted_below, has_one_chunk, note_of, note_at, cut_in}
 
 -- the map keeps its length from inode to inode
 owners_length : (v : Layout) (image : List ℕ) (s : Claims) (xs : List ℕ) → IsAcceptedLayout v → length s.used ≡ v.size →
@@ -36,7 +36,7 @@ before_length v image x g = owners_length v image (no_claims v) (range_with_len 
 
 -- an inode keeps fewer offers than the first note of an address
 kept_few : (v : Layout) (image : List ℕ) (x : ℕ) → IsAcceptedLayout v
-    → (after_steps v (at_next_inode (claims_before v image x)) (steps_of v (inode_of v image x) image)).kept < 2147483776
+    → (after_steps v (at_next_inode (claims_before v image x)) (steps_of v (inode_of v image x) image)).kept < first_noted
 unfolding owner_of
 kept_few v image x g =
     let s = at_next_inode (claims_before v image x) in
@@ -45,20 +45,20 @@ kept_few v image x g =
     let m = owner_moves v image (claims_before v image x) x g h in
     omega (arith, kept_bound s e v.size (m.used_length ∙ h) (omega arith) (omega arith) refl m, g.numbers.size_below)
 
-cut_of_few : (e : Claims) → e.kept < 2147483776 → cut_of e < 2147483776
+cut_of_few : (e : Claims) → e.kept < first_noted → cut_of e < first_noted
 cut_of_few e few = go (nat_lt e.dups 11)
   where
-    go : (b : Bool) → (if b then 0 else e.kept) < 2147483776
+    go : (b : Bool) → (if b then 0 else e.kept) < first_noted
     go true = omega arith
     go false = few
 
-cut_few : (v : Layout) (image : List ℕ) (x : ℕ) → IsAcceptedLayout v → cut_at v image x < 2147483776
+cut_few : (v : Layout) (image : List ℕ) (x : ℕ) → IsAcceptedLayout v → cut_at v image x < first_noted
 cut_few v image x g = go (is_inode_number v x) refl
   where
     e : Claims
     e = after_steps v (at_next_inode (claims_before v image x)) (steps_of v (inode_of v image x) image)
 
-    go : (b : Bool) → is_inode_number v x ≡ b → cut_at v image x < 2147483776
+    go : (b : Bool) → is_inode_number v x ≡ b → cut_at v image x < first_noted
     go true h = omega (arith, cut_is v image x g h, cut_of_few e (kept_few v image x g))
     go false h =
         let none : cut_at v image x ≡ 0 = ap
@@ -68,13 +68,17 @@ cut_few v image x g = go (is_inode_number v x) refl
 not_below : (a : ℕ) → nat_lt (first_noted + a) first_noted ≡ false
 not_below a = grind (arith, nat_tests)
 
-below_first : (n : ℕ) → n < 2147483776 → nat_lt n first_noted ≡ true
+below_first : (n : ℕ) → n < first_noted → nat_lt n first_noted ≡ true
 below_first n h = grind (arith, nat_tests)
+
+-- a note that is no address is a cut
+pub below_is_cut : (note : ℕ) → note < first_noted → cut_in note ≡ note
+below_is_cut note below = ap (λ (b : Bool). if b then note else 0) (below_first note below)
 
 zero_of : (n : ℕ) → (n == 0) ≡ true → n ≡ 0
 zero_of n h = grind (arith, nat_tests)
 
-cut_noted : (class : Class) (i : Inode) (cut : ℕ) → cut < 2147483776 → cut_in (note_of class i cut) ≡ cut
+cut_noted : (class : Class) (i : Inode) (cut : ℕ) → cut < first_noted → cut_in (note_of class i cut) ≡ cut
 cut_noted class i cut few = go (cut == 0) refl (has_one_chunk class i)
   where
     go : (z : Bool) → (cut == 0) ≡ z → (one : Bool)
@@ -95,10 +99,10 @@ pub record IsOneChunkAt (class : Class) (i : Inode) (address : ℕ) : Type 0 whe
   pub size : i.size ≡ 512
   pub address_is : slice_index i.addresses 0 ≡ address
 
-address_noted : (class : Class) (i : Inode) (cut a : ℕ) → cut < 2147483776 → note_of class i cut ≡ first_noted + a →
+address_noted : (class : Class) (i : Inode) (cut a : ℕ) → cut < first_noted → note_of class i cut ≡ first_noted + a →
     IsOneChunkAt class i a
 address_noted class i cut a few h =
-    go (cut == 0) class refl (i.size == 512) refl (nat_lt (slice_index i.addresses 0) 2147483520) h
+    go (cut == 0) class refl (i.size == 512) refl (nat_lt (slice_index i.addresses 0) noted_below) h
   where
     go : (z : Bool) (k : Class) → k ≡ class → (s : Bool) → (i.size == 512) ≡ s → (l : Bool)
         → (if z && (is_directory k && (s && l)) then first_noted + slice_index i.addresses 0 else cut) ≡ first_noted + a

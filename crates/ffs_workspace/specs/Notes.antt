@@ -1,21 +1,26 @@
 -- What a workspace notes of an inode, in 32 bits: how many offers it keeps, where its eleventh dup offer cut it; where
 -- it isn't cut and is a directory of one chunk, the address of that chunk, so that the survey needn't read the inode
 -- again; else 0.
-use Rattle.std.specs.Prelude.{ℕ, Bool, ◌+◌, ◌&&◌, ◌==◌, nat_lt, if◌then◌else◌, List, slice_index}
+use Rattle.std.specs.Prelude.{ℕ, Bool, ◌+◌, ◌-◌, ◌^◌, ◌&&◌, ◌==◌, nat_lt, if◌then◌else◌, List, slice_index}
 use Rattle.ffs_volume.specs.declared.Layout.{Layout}
 use Rattle.ffs_volume.specs.declared.Inode.{Inode}
 use Rattle.ffs_volume.specs.declared.Class.{Class}
+use Rattle.ffs_volume.specs.declared.constants.TheConstants.{DIRBLKSIZ}
 use Rattle.ffs_volume.specs.Blocks.Inodes.{inode_of, is_directory}
 use Rattle.ffs_volume.specs.Directories.Volumes.{class_at}
 use Rattle.ffs_volume.specs.Encodings.Replay.{cut_at}
 
 -- notes from this number on are addresses, from 0 on: no inode keeps so many offers
 abbrev pub first_noted : ℕ
-first_noted = 2147483776
+first_noted = 2 ^ 31 + 128
 
--- a directory of one chunk, at an address that can be noted
+-- only addresses below this one are noted, so that each note fits 32 bits
+abbrev pub noted_below : ℕ
+noted_below = 2 ^ 31 - 128
+
+-- a directory of the size of one chunk, at an address that can be noted
 abbrev pub has_one_chunk : Class → Inode → Bool
-has_one_chunk class i = is_directory class && ((i.size == 512) && nat_lt (slice_index i.addresses 0) 2147483520)
+has_one_chunk class i = is_directory class && ((i.size == DIRBLKSIZ) && nat_lt (slice_index i.addresses 0) noted_below)
 
 -- the note of an inode of a class, and with this cut
 abbrev pub note_of : Class → Inode → ℕ → ℕ

@@ -1,7 +1,8 @@
 //! The one workspace of a check: all its memory, and what it holds between the phases.
 //!
-//! `Workspace::new` is the only allocation of a check. Its lists have the lengths that the geometry
-//! asks for, `held` is within the stated bound, and its windows hold what the image gives at a
+//! `Workspace::in_memory` takes all memory of a check, and `Workspace::new` does so from an
+//! allocator. The lists have the lengths that the geometry asks for. `held`, in bytes, is at most
+//! `held_limit` (`Report/Memory` of `ffs_volume`). Each window holds what the image gives at a
 //! known place.
 //!
 //! ```text

@@ -1,6 +1,6 @@
 //! What is noted of an inode, in 32 bits, between phase 1 and the others.
 
-ghost use Rattle.std.specs.Prelude.{◌≡◌, ◌+◌, MatchOption};
+ghost use Rattle.std.specs.Prelude.{◌≡◌, ◌+◌, ◌<◌, MatchOption};
 ghost use Rattle.ffs_workspace.specs.Notes.{first_noted, has_one_chunk, note_of, cut_in};
 
 use ffs_volume::constants::DIRBLKSIZ;
@@ -13,7 +13,7 @@ const FIRST_NOTED: u32 = (1 << 31) + 128;
 /// Only addresses below this one are noted, so that each note fits 32 bits.
 const NOTED_BELOW: u32 = (1 << 31) - 128;
 
-/// Whether an inode is a directory of one chunk, at an address that can be noted.
+/// Whether an inode is a directory of the size of one chunk, at an address that can be noted.
 #[inline(always)]
 fn has_one_chunk(class: Class, inode: &Inode) -> bool
     ensures { result ≡ has_one_chunk class inode.now }
@@ -46,7 +46,7 @@ pub fn cut_in(note: u32) -> u32
 /// The address in fragments of a directory's only chunk, if a note has it.
 #[inline(always)]
 pub fn address_in(note: u32) -> Option<u32>
-    ensures { MatchOption result (cut_in note ≡ note) (λ address. note ≡ first_noted + address) }
+    ensures { MatchOption result (note < first_noted) (λ address. note ≡ first_noted + address) }
 {
     note.checked_sub(FIRST_NOTED)
 }

@@ -61,11 +61,11 @@ pub struct Workspace {
     pub runs_seen: u64,
     /// How many Runs phase 1b has looked at.
     pub runs_again: u64,
-    /// The bad Runs of the current inode.
+    /// How many bad Runs the current inode has so far.
     pub bad: u32,
-    /// The dup offers of the current inode.
+    /// How many dup offers the current inode has so far.
     pub dups: u32,
-    /// The fragments that the current inode keeps.
+    /// How many offers the current inode keeps so far, bad and dup ones among them.
     pub kept: u64,
     /// Whether a Tail of the current inode is kept.
     pub tail: bool,

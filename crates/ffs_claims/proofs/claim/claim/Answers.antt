@@ -1,4 +1,5 @@
-use Rattle.std.proofs.Common.{arith, refl, ◌≡◌, ◌∙◌, ap, sym, List, ◌++◌, ◌∷◌, true, false, replicate}
+use Rattle.std.proofs.Common.{arith, refl, ◌≡◌, ◌==◌, ◌<◌, ◌∙◌, ap, sym, List, ◌++◌, ◌∷◌, true, false, not, replicate}
+use Rattle.std.specs.Prelude.{◌&&◌}
 use Rattle.std.proofs.lemmas.Result.{err_from_is_err_and}
 use Rattle.ffs_walk.specs.Rests.{rest}
 use Rattle.ffs_maps.proofs.Bits.{length_bits, bits_long}
@@ -14,7 +15,7 @@ use Rattle.ffs_workspace.specs.Ready.{IsReady}
 use Rattle.ffs_claims.specs.Lines.{of_lines}
 use Rattle.ffs_claims.proofs.Weights.{moves_on, seen_bound, used_below}
 use Rattle.ffs_claims.proofs.Goes.{claims_on, lines_on, steps_said, cut_stays, cut_silent, gaps_stay, gaps_silent}
-use Rattle.ffs_claims.proofs.Goes.{no_steps}
+use Rattle.ffs_claims.proofs.Goes.{without_steps}
 use Rattle.ffs_claims.proofs.Frames.{found_none, found_still, found_then, ready_still, ready_read, ready_walked}
 use Rattle.ffs_claims.proofs.claim.claim.Goals.{in-Gap, in_default-matches}
 use Rattle.ffs_claims.proofs.claim.claim.Goals as goal
@@ -23,14 +24,15 @@ pub returns-then-not-has_steps-clause-claiming : goal.returns-then-not-has_steps
 returns-then-not-has_steps-clause-claiming g c =
     let v = c.args.geometry.now.layout in
     let s = claims_of c.args.workspace.now in
-    let none : is_walked v c.args.inode.now ≡ false = sym (c.has_steps.ensures c.requires.class)
-    ∙ c.if-not-has_steps.true in
+    let some : 0 < v.bsize = omega (arith, c.args.geometry.now.sound.sizes.bsize_low) in
+    let none : (is_walked v c.args.inode.now && not (c.args.inode.now.size == 0)) ≡ false =
+    sym (c.has_steps.ensures c.requires.class) ∙ c.if-not-has_steps.true in
     record {
       text = of_same _ _ _ _ _ _
           (of_begins _ (λ bytes. of_lines (lines_of_steps v c.args.number s (steps_of v c.args.inode.now bytes))) _)
           (λ bytes t. ap (λ (xs : List Step). of_lines (lines_of_steps v c.args.number s xs))
-          (no_steps v c.args.inode.now bytes none));
-      claims = λ bytes t. sym (ap (after_steps v s) (no_steps v c.args.inode.now bytes none));
+          (without_steps v c.args.inode.now bytes some none));
+      claims = λ bytes t. sym (ap (after_steps v s) (without_steps v c.args.inode.now bytes some none));
       left = record {
         image = refl;
         moves = stays s;

@@ -8,7 +8,7 @@ use Rattle.ffs_volume.specs.Directories.Roles.{roled_entries}
 use Rattle.ffs_volume.specs.Directories.Volumes.{volume_of}
 use Rattle.ffs_names.specs.RightShapes.{is_right_shape}
 use Rattle.ffs_workspace.specs.Notes.{first_noted, note_at, cut_in}
-use Rattle.ffs_workspace.proofs.NoteLaws.{cut_is_noted, address_is_noted, address_is_whole, IsOneChunkAt}
+use Rattle.ffs_workspace.proofs.NoteLaws.{below_is_cut, cut_is_noted, address_is_noted, address_is_whole, IsOneChunkAt}
 use Rattle.ffs_volume.specs.Encodings.Replay.{cut_at}
 use Rattle.ffs_names.proofs.OneChunks.{one_chunk_class, one_chunk_is, entries_by, shape_by}
 use Rattle.ffs_names.proofs.DirLaws.{dir_is, dir_size, dir_seen, shape_seen, kind_dirs}
@@ -59,7 +59,7 @@ returns-clause-rest g c = λ b k.
     (c.index-note.ensures ∙ get_or_default_zero t.notes.now.items c.args.dir c.index-note.result.now inside)
     ∙ k.notes c.args.dir in
     let cut : c.index-note.result.now ≡ cut_at v b c.args.dir =
-    sym (rw c.in_default.is at c.address_in.ensures) ∙ (ap cut_in note ∙ cut_is_noted v b c.args.dir t.geometry.sound) in
+    sym (below_is_cut c.index-note.result.now (rw c.in_default.is at c.address_in.ensures)) ∙ (ap cut_in note ∙ cut_is_noted v b c.args.dir t.geometry.sound) in
     let begins = rw c.requires.ready.1 at c.restart-2.ensures.begins in
     let known = sym (ap (class_of v) inode ∙ is.1) in
     (begins known).entries b
@@ -87,7 +87,7 @@ returns-clause-sound g c = λ b k.
     (c.index-note.ensures ∙ get_or_default_zero t.notes.now.items c.args.dir c.index-note.result.now inside)
     ∙ k.notes c.args.dir in
     let cut : c.index-note.result.now ≡ cut_at v b c.args.dir =
-    sym (rw c.in_default.is at c.address_in.ensures) ∙ (ap cut_in note ∙ cut_is_noted v b c.args.dir t.geometry.sound) in
+    sym (below_is_cut c.index-note.result.now (rw c.in_default.is at c.address_in.ensures)) ∙ (ap cut_in note ∙ cut_is_noted v b c.args.dir t.geometry.sound) in
     let begins = rw c.requires.ready.1 at c.restart-2.ensures.begins in
     let known = sym (ap (class_of v) inode ∙ is.1) in
     (begins known).shape b
