@@ -16,7 +16,7 @@ const STATUSES: &str = "Status:
   0  consistent: no defect is reported
   1  defects are reported
   2  the arguments are wrong, or ask for this help or the version
-  8  the check didn't run to its end; the last line of the report says why";
+  8  the check didn't run to its end; the last message says why";
 
 // `-n` or `-N`: nothing is written.
 fn no_argument<'a>(alloc: Global) -> Result<Arg<'a>, AllocError>
