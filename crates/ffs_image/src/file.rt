@@ -1,11 +1,12 @@
 //! An image in a file.
-ghost use Rattle.std.specs.Prelude.{◌≡◌, IfOk};
+ghost use Rattle.std.specs.Prelude.{◌≡◌, IfOk, OnErr};
+ghost use Rattle.ffs_image.specs.System.{IsOpened, IsUnopened};
 
 use crate::image::{Image, ImageFault};
 use crate::opened::OpenedFile;
 use crate::source::{Source, fill};
+use crate::system::{RawFile, System};
 use std::fs::File;
-use std::rt::Files;
 
 /// The file can't be opened, or is a FIFO.
 #[derive(Clone, Copy, Debug, PartialEq, Eq, thiserror::Error)]
@@ -19,18 +20,24 @@ pub struct SourceImage<S> {
     failed: u64,
 }
 
-/// An image in a file.
-pub type FileImage = SourceImage<OpenedFile>;
+/// An image in a file of a system.
+pub type RawImage<F> = SourceImage<OpenedFile<F>>;
 
-impl SourceImage<OpenedFile> {
-    /// Opens a file for reading, and takes its size once: that of a block device too.
+/// An image in a file.
+pub type FileImage = RawImage<File>;
+
+impl<F: RawFile + Drop> SourceImage<OpenedFile<F>> {
+    /// Opens the file of a name for reading, and takes its size once: that of a block device too.
     ///
     /// # Errors
     /// The file can't be opened, or is a FIFO, whose opening would wait for a writer.
-    pub fn open<R: Files<File = File>>(files: &R, path: &str) -> Result<FileImage, OpenFault>
-        ensures { IfOk result (λ image. (image.source.failures ≡ 0) × (image.failed ≡ 0)) }
+    pub fn open<Y: System<File = F>>(system: &Y, name: &str) -> Result<RawImage<F>, OpenFault>
+        ensures opened { IfOk result (λ image. IsOpened Y.was_looked_up Y.was_opened F.was_sought
+            system.now name.now image.source.file image.source.size) }
+        ensures failures { IfOk result (λ image. (image.source.failures ≡ 0) × (image.failed ≡ 0)) }
+        ensures refused { OnErr result (IsUnopened Y.was_looked_up Y.was_opened system.now name.now) }
     {
-        let source = OpenedFile::open(files, path)?;
+        let source = OpenedFile::open(system, name)?;
         Ok(SourceImage { source, failed: 0 })
     }
 }
