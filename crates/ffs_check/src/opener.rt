@@ -1,5 +1,6 @@
 //! How a run gets its image: it opens it by its name, for reading alone.
 ghost use Rattle.std.specs.Prelude.{◌≡◌, ℕ, List, IfErr, IfOk};
+ghost use Rattle.ffs_image.specs.declared.file.OpenFault.{OpenFault};
 
 use ffs_image::{Image, OpenFault, RawImage, System};
 
