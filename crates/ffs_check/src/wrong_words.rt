@@ -37,6 +37,7 @@ const SECTOR_RANGE: &str = "a sector is 1 to 4194303";
 const REPAIR_LETTERS: [char; 3] = ['y', 'p', 'f'];
 
 // Passes a text on to the end of its first line.
+#[derive(Drop)]
 struct FirstLine<'a, E> {
     inner: &'a mut E,
     is_over: bool,
