@@ -1,9 +1,8 @@
 //! How a run gets its image: it opens it by its name, for reading alone.
-ghost use Rattle.std.specs.Prelude.{ℕ, List, IfOk, OnErr};
+ghost use Rattle.std.specs.Prelude.{◌≡◌, ℕ, List, IfErr, IfOk};
+ghost use Rattle.ffs_image.specs.declared.file.OpenFault.{OpenFault};
 
-use ffs_image::{FileImage, Image, OpenFault};
-use std::fs::File;
-use std::rt::Files;
+use ffs_image::{Image, OpenFault, RawImage, System};
 
 /// What opens the image that the arguments name.
 pub trait Opener {
@@ -13,8 +12,8 @@ pub trait Opener {
     /// What is known of an image that was opened under a name.
     ghost opens: { Self → List ℕ → Self.Image → Type 0 };
 
-    /// What is known where no image of a name could be opened.
-    ghost refuses: { Self → List ℕ → Type 0 };
+    /// What is known where no image of a name could be opened, because of a fault.
+    ghost refuses: { Self → List ℕ → OpenFault → Type 0 };
 
     /// Opens the image of this name for reading.
     ///
@@ -22,32 +21,35 @@ pub trait Opener {
     /// The image can't be opened.
     fn open(&self, name: &str) -> Result<Self::Image, OpenFault>
         ensures opened { IfOk result (λ image. opens self.now name.now image) }
-        ensures refused { OnErr result (refuses self.now name.now) };
+        ensures refused { IfErr result (refuses self.now name.now) };
 }
 
 /// Opens the files of a system.
 #[derive(Clone, Copy)]
-pub struct FileOpener<'a, R> {
-    files: &'a R,
+pub struct FileOpener<'a, Y> {
+    system: &'a Y,
 }
 
-impl<'a, R: Files<File = File>> FileOpener<'a, R> {
-    /// Opens files by these calls of the system.
-    pub fn new(files: &'a R) -> FileOpener<'a, R> {
-        FileOpener { files }
+impl<'a, Y: System> FileOpener<'a, Y> {
+    /// Opens the files of this system.
+    pub fn new(system: &'a Y) -> FileOpener<'a, Y>
+        ensures { result.system.now ≡ system.now }
+    {
+        FileOpener { system }
     }
 }
 
-impl<R: Files<File = File>> Opener for FileOpener<'_, R> {
-    type Image = FileImage;
+impl<Y: System> Opener for FileOpener<'_, Y> {
+    type Image = RawImage<Y::File>;
 
-    ghost use Rattle.std.specs.Prelude.{⊤};
+    ghost use Rattle.ffs_image.specs.System.{IsOpened, IsUnopened};
 
-    ghost opens = { λ _ _ _. ⊤ };
+    ghost opens = { λ o name image. IsOpened Y.was_looked_up Y.was_opened Y.File.was_sought
+        o.system.now name image.source.file image.source.size };
 
-    ghost refuses = { λ _ _. ⊤ };
+    ghost refuses = { λ o. IsUnopened Y.was_looked_up Y.was_opened o.system.now };
 
-    fn open(&self, name: &str) -> Result<FileImage, OpenFault> {
-        FileImage::open(self.files, name)
+    fn open(&self, name: &str) -> Result<RawImage<Y::File>, OpenFault> {
+        RawImage::open(self.system, name)
     }
 }

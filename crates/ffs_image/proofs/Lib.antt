@@ -1,2 +1,3 @@
 pub mod Devices
+pub mod Retries
 pub mod Sources

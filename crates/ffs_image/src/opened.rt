@@ -1,47 +1,84 @@
 //! A file that is open for reading alone.
-ghost use Rattle.std.specs.Prelude.{◌≡◌, length, IfOk, IfSome};
-ghost use Rattle.ffs_image.specs.Device.{Rose};
+ghost use Rattle.std.specs.Prelude.{◌≡◌, ◌↔◌, length, take, IfOk, IsTrue, IfErr};
+ghost use Rattle.std.specs.Io.{ReadsAtMost};
+ghost use Rattle.ffs_image.specs.Device.{ForContents};
+ghost use Rattle.ffs_image.specs.Source.{AreAt, GivesSome};
+ghost use Rattle.ffs_image.specs.System.{IsInterrupted, IsOpened, IsSized, IsTriedAgain, IsUnopened, SomeOf};
 
 use crate::file::OpenFault;
 use crate::source::{Source, SourceFault};
-use std::fs::File;
-use std::io::{ErrorKind, Seek, SeekFrom};
-use std::os::unix::fs::{FileExt, FileTypeExt};
-use std::rt::Files;
-use std::{fs, io};
+use crate::system::{RawFile, System};
+use std::io;
+use std::io::ErrorKind;
 
 /// A file that was opened for reading. What holds one can take its size and read it at a place, and
 /// nothing else.
 #[derive(Drop)]
-pub struct OpenedFile {
-    file: File,
+pub struct OpenedFile<F: RawFile> {
+    file: F,
     size: u64,
     failures: u64,
+    ghost sized: { ForContents (F.contents file) (λ bytes. length bytes ≡ size) },
 }
 
-// The place of its end, so that a block device has its size too.
-fn end_of<S: Seek>(file: &mut S) -> io::Result<u64>
-    ensures { IfOk result (λ end. IfSome (S.stream_position file.old)
-        (λ _. IfSome (S.stream_bytes file.old) (λ bytes. end ≡ length bytes))) }
+// The place of a file's end, so that a block device has its size too. What can't seek has no bytes.
+fn size_of<F: RawFile>(file: &mut F) -> u64
+    ensures end { IsSized F.was_sought file.old file.new result }
+    ensures bytes { ForContents (F.contents file.new) (λ bytes. length bytes ≡ result) }
 {
-    file.seek(SeekFrom::End(0))
+    file.end().unwrap_or(0)
 }
 
-impl OpenedFile {
+// Whether a signal interrupted the read that has this answer.
+fn is_interrupted(answer: &io::Result<usize>) -> bool
+    ensures { IsTrue result ↔ IsInterrupted answer.now }
+{
+    match answer {
+        Ok(_) => false,
+        Err(error) => error.kind() == ErrorKind::Interrupted,
+    }
+}
+
+// Reads a file at a place, and again where a signal interrupts that.
+fn read_uninterrupted<F: RawFile>(file: &mut F, buf: &mut [u8], at: u64) -> io::Result<usize>
+    ensures bound { ReadsAtMost result buf.new }
+    ensures bytes { IfOk result (λ n. AreAt (F.contents file.old) at (take n buf.new)) }
+    ensures kept { F.contents file.new ≡ F.contents file.old }
+    ensures tried { IsTriedAgain (λ old. F.was_read old at (length buf.old)) file.old file.new
+        result }
+{
+    for _ in 0..u64::MAX {
+        let answer = file.read_once(buf, at);
+        if !is_interrupted(&answer) {
+            return answer;
+        }
+    }
+    Err(io::Error::from(ErrorKind::Interrupted))
+}
+
+impl<F: RawFile + Drop> OpenedFile<F> {
     /// Opens a file for reading, and takes its size once. A FIFO, whose opening waits for a writer,
     /// is refused; what can't seek has no bytes.
-    pub(crate) fn open<R: Files<File = File>>(
-        files: &R,
-        path: &str,
-    ) -> Result<OpenedFile, OpenFault>
-        ensures { IfOk result (λ opened. opened.failures ≡ 0) }
+    pub(crate) fn open<Y: System<File = F>>(
+        system: &Y,
+        name: &str,
+    ) -> Result<OpenedFile<F>, OpenFault>
+        ensures opened { IfOk result (λ opened. IsOpened Y.was_looked_up Y.was_opened F.was_sought
+            system.now name.now opened.file opened.size) }
+        ensures failures { IfOk result (λ opened. opened.failures ≡ 0) }
+        ensures refused { IfErr result (IsUnopened Y.was_looked_up Y.was_opened system.now
+            name.now) }
     {
-        let found = fs::metadata(files, path).map_err(|_| OpenFault)?;
-        if found.file_type().is_fifo() {
-            return Err(OpenFault);
+        match system.is_fifo(name) {
+            Ok(false) => {}
+            Ok(true) => return Err(OpenFault::Pipe),
+            Err(error) => return Err(OpenFault::of(&error)),
         }
-        let mut file = File::open(files, path).map_err(|_| OpenFault)?;
-        let size = end_of(&mut file).unwrap_or(0);
+        let mut file = match system.open_to_read(name) {
+            Ok(file) => file,
+            Err(error) => return Err(OpenFault::of(&error)),
+        };
+        let size = size_of(&mut file);
         Ok(OpenedFile {
             file,
             size,
@@ -50,12 +87,12 @@ impl OpenedFile {
     }
 }
 
-impl Source for OpenedFile {
-    ghost use Rattle.std.specs.Prelude.{None};
+impl<F: RawFile> Source for OpenedFile<F> {
+    ghost use Rattle.ffs_image.specs.System.{if_given};
 
-    ghost stock = { λ f. record { contents = None; size = f.size; failures = f.failures } };
+    ghost stock = { λ f. record { contents = F.contents f.file; size = f.size; failures = f.failures } };
 
-    ghost sized = { λ _. tt };
+    ghost sized = { λ f. if_given (F.contents f.file) (λ bytes. length bytes ≡ f.size) f.sized };
 
     fn size(&self) -> u64 {
         self.size
@@ -65,15 +102,20 @@ impl Source for OpenedFile {
         self.failures
     }
 
-    fn read_some(&mut self, at: u64, buf: &mut [u8]) -> Result<usize, SourceFault> {
-        for _ in 0..u64::MAX {
-            match self.file.read_at(buf, at) {
-                Ok(n) if n > 0 => return Ok(n),
-                Err(error) if error.kind() == ErrorKind::Interrupted => {}
-                _ => break,
+    fn read_some(&mut self, at: u64, buf: &mut [u8]) -> Result<usize, SourceFault>
+        ensures gives { GivesSome (⟦<OpenedFile<F> as Source>⟧.stock self.old)
+            (⟦<OpenedFile<F> as Source>⟧.stock self.new) at buf.new result }
+
+        // Which reads are tried again, and which fail.
+        ensures tried { SomeOf (λ old. F.was_read old at (length buf.old)) self.old.file
+            self.new.file result }
+    {
+        match read_uninterrupted(&mut self.file, buf, at) {
+            Ok(n) if n > 0 => Ok(n),
+            _ => {
+                self.failures = self.failures.saturating_add(1);
+                Err(SourceFault)
             }
         }
-        self.failures = self.failures.saturating_add(1);
-        Err(SourceFault)
     }
 }

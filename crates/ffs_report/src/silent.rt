@@ -1,9 +1,12 @@
 //! A writer that is silent after its first failure.
-ghost use Rattle.std.specs.Prelude.{◌≡◌, ◌<◌, length, false, IfOk};
+ghost use Rattle.std.specs.Prelude.{◌≡◌, ◌↔◌, ◌<◌, length, false, IfOk, IsTrue};
+ghost use Rattle.std.specs.Bool.{OnFalse};
 ghost use Rattle.std.specs.Io.{WritesAtMost};
 ghost use Rattle.std.specs.Io.KnownBytes.{WriteAppends, Keeps};
+ghost use Rattle.ffs_report.specs.Outlet.{IsInterrupted, IsTriedAgain, WritesThrough};
 ghost use Rattle.ffs_report.specs.Writers.{IsSilenced};
 
+use crate::outlet::Outlet;
 use std::io;
 use std::io::{ErrorKind, Write};
 
@@ -16,7 +19,7 @@ pub struct SilentWriter<S> {
     failed: bool,
 }
 
-impl<S: Write> SilentWriter<S> {
+impl<S: Outlet> SilentWriter<S> {
     /// A writer over `inner` that has not failed yet.
     pub fn new(inner: S) -> SilentWriter<S>
         ensures { result ≡ record { inner = inner; failed = false } }
@@ -41,21 +44,32 @@ fn silence() -> io::Error {
     io::Error::from(ErrorKind::BrokenPipe)
 }
 
+// Whether a signal interrupted the write that has this answer.
+fn is_interrupted(answer: &io::Result<usize>) -> bool
+    ensures { IsTrue result ↔ IsInterrupted answer.now }
+{
+    match answer {
+        Ok(_) => false,
+        Err(error) => error.kind() == ErrorKind::Interrupted,
+    }
+}
+
 // One write, tried again where a signal interrupts it.
-fn write_uninterrupted<S: Write>(inner: &mut S, buf: &[u8]) -> io::Result<usize>
+fn write_uninterrupted<S: Outlet>(inner: &mut S, buf: &[u8]) -> io::Result<usize>
     ensures bound { WritesAtMost result buf.now }
     ensures bytes { WriteAppends (S.contents inner.old) (S.contents inner.new) result buf.now }
+    ensures tried { IsTriedAgain (λ writer. S.was_written writer buf.now) inner.old inner.new result }
 {
     for _ in 0..u64::MAX {
-        match inner.write(buf) {
-            Err(error) if error.kind() == ErrorKind::Interrupted => {}
-            answer => return answer,
+        let answer = inner.write_once(buf);
+        if !is_interrupted(&answer) {
+            return answer;
         }
     }
     Err(io::Error::from(ErrorKind::Interrupted))
 }
 
-impl<S: Write> Write for SilentWriter<S> {
+impl<S: Outlet> Write for SilentWriter<S> {
     ghost contents = { λ w. S.contents w.inner };
 
     /// # Errors
@@ -66,6 +80,8 @@ impl<S: Write> Write for SilentWriter<S> {
             buf.now }
         ensures some { 0 < length buf.now → IfOk result (λ n. 0 < n) }
         ensures silenced { IsSilenced self.old self.new result }
+        ensures passed { OnFalse self.old.failed (WritesThrough S.was_written self.old.inner
+            self.new.inner buf.now result) }
     {
         if self.failed {
             return Err(silence());
@@ -88,11 +104,13 @@ impl<S: Write> Write for SilentWriter<S> {
     fn flush(&mut self) -> io::Result<()>
         ensures bytes { Keeps (S.contents self.old.inner) (S.contents self.new.inner) }
         ensures silenced { IsSilenced self.old self.new result }
+        ensures passed { OnFalse self.old.failed (S.was_flushed self.old.inner result
+            self.new.inner) }
     {
         let flushed = if self.failed {
             Err(silence())
         } else {
-            self.inner.flush()
+            self.inner.flush_once()
         };
         self.failed = flushed.is_err();
         flushed

@@ -1,0 +1,17 @@
+-- How reads that a signal interrupts follow one another.
+use Rattle.std.proofs.Common.{◌≡◌, ◌+◌, ◌-◌, ◌^◌, ℕ, Result, Err, subst, inr, add-one, rules}
+use Rattle.std.specs.Prelude.{IsErr}
+use Rattle.std.specs.declared.io.Error.{Error}
+use Rattle.ffs_image.specs.System.{InterruptedOnce, Interruptions, IsTriedAgain}
+
+-- one more of them
+pub interrupted_again : {F : Type 0} (was_read : F → Result ℕ Error → F → Type 0) (n : ℕ) (a b c : F) →
+    Interruptions was_read n a b → InterruptedOnce was_read b c → Interruptions was_read (n + 1) a c
+interrupted_again was_read n a b c p q = rw add-one (b, p, q)
+
+-- after the last one it gives up
+pub given_up : {F : Type 0} (was_read : F → Result ℕ Error → F → Type 0) (n : ℕ) (a b : F) (error : Error) →
+    n ≡ 2 ^ 64 - 1 → Interruptions was_read n a b → IsTriedAgain was_read a b (Err error)
+given_up was_read n a b error e p =
+    let failed : IsErr {T = ℕ} {E = Error} (Err error) = search rules in
+    inr (subst (λ (k : ℕ). Interruptions was_read k a b) e p, failed)

@@ -1,0 +1,58 @@
+//! What a writer below is asked: one write or one flush by each call.
+//!
+//! What is over this trait can say how often it asks, and what it does with the answer. A std writer doesn't tell that:
+//! of each, the two lines of the impl at the end of this file are trusted to ask it once.
+ghost use Rattle.std.specs.Prelude.{ℕ, List, Option, Result};
+ghost use Rattle.std.specs.Io.{WritesAtMost};
+ghost use Rattle.std.specs.Io.KnownBytes.{WriteAppends, Keeps};
+ghost use Rattle.std.specs.declared.io.Error.{Error};
+
+use std::io;
+use std::io::Write;
+
+/// A writer that is asked once by each call.
+pub trait Outlet {
+    /// The bytes that it took, where they are known.
+    ghost contents: { Self → Option (List ℕ) };
+
+    /// It was asked to write: the writer before, the bytes, the answer, and the writer after.
+    ghost was_written: { Self → List ℕ → Result ℕ Error → Self → Type 0 };
+
+    /// It was asked to flush: the writer before, the answer, and the writer after.
+    ghost was_flushed: { Self → Result (Unit {0}) Error → Self → Type 0 };
+
+    /// Writes some of the bytes, from the first on, and returns how many.
+    ///
+    /// # Errors
+    /// The write failed, or a signal interrupted it. It took nothing then.
+    fn write_once(&mut self, buf: &[u8]) -> io::Result<usize>
+        ensures bound { WritesAtMost result buf.now }
+        ensures bytes { WriteAppends (contents self.old) (contents self.new) result buf.now }
+        ensures once { was_written self.old buf.now result self.new };
+
+    /// Flushes what it gathered.
+    ///
+    /// # Errors
+    /// The flush failed.
+    fn flush_once(&mut self) -> io::Result<()>
+        ensures bytes { Keeps (contents self.old) (contents self.new) }
+        ensures once { was_flushed self.old result self.new };
+}
+
+impl<S: Write> Outlet for S {
+    ghost use Rattle.std.specs.Prelude.{⊤};
+
+    ghost contents = { S.contents };
+
+    ghost was_written = { λ _ _ _ _. ⊤ };
+
+    ghost was_flushed = { λ _ _ _. ⊤ };
+
+    fn write_once(&mut self, buf: &[u8]) -> io::Result<usize> {
+        self.write(buf)
+    }
+
+    fn flush_once(&mut self) -> io::Result<()> {
+        self.flush()
+    }
+}
