@@ -96,3 +96,19 @@ fn a_write_that_takes_nothing_fails(rt: HostRuntime) -> Result<(), Fail> {
     assert!(rt; writer.flush().is_err());
     Ok(())
 }
+
+// A write that fails isn't tried again by an output, not even one that a signal interrupts.
+#[test]
+fn a_put_is_one_write(rt: HostRuntime) -> Result<(), Fail> {
+    for kind in [ErrorKind::StorageFull, ErrorKind::Interrupted] {
+        let mut device = FailsOnce::new(rt.alloc(), 2, kind);
+        let mut out = Counted::new(&mut device);
+        assert!(rt; out.put(b"a").is_ok());
+        assert!(rt; out.put(b"b").is_err());
+        assert_eq!(rt; out.failures(), 1);
+        drop(out);
+        assert_eq!(rt; device.writes, 2);
+        assert_eq!(rt; device.taken.as_slice(), b"a".as_slice());
+    }
+    Ok(())
+}
