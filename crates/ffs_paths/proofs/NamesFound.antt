@@ -24,7 +24,7 @@ use Rattle.ffs_workspace.specs.declared.workspace.Windows.{Windows}
 use Rattle.ffs_workspace.specs.declared.workspace.Workspace.{Workspace}
 use Rattle.ffs_workspace.specs.Holds.{HoldsClaims, HoldsSurvey}
 use Rattle.ffs_workspace.specs.Ready.{IsReady}
-use Rattle.ffs_workspace.proofs.Places.{piece_of}
+use Rattle.ffs_workspace.proofs.TablePlaces.{piece_of}
 use Rattle.ffs_names.specs.declared.entries.Entries.{Entries}
 use Rattle.ffs_names.specs.Entering.{last_name, IsHeld, IsInside as IsInsideEntries, name_place}
 use Rattle.ffs_names.specs.RunCursors.{last_place}
