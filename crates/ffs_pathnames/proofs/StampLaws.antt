@@ -10,7 +10,6 @@ use Rattle.ffs_volume.specs.Encodings.Kinds.{is_dir_kind}
 use Rattle.std.proofs.lemmas.Bool.{and_from, and_parts, eqb-true, eq-eqb, lt-ltb}
 use Rattle.ffs_workspace.specs.declared.workspace.Workspace.{Workspace}
 use Rattle.ffs_workspace.specs.Places.{is_due, place_in, ArePlaces}
-use Rattle.ffs_workspace.proofs.PlaceLaws.{zero_index}
 use Rattle.ffs_pathnames.specs.Examines.{LeavesQueue}
 use Rattle.ffs_pathnames.specs.declared.inodes.Inodes.{Inodes}
 use Rattle.ffs_pathnames.specs.Marks.{Marks, belongs, after_look, after_name, after_roled, is_due as is_due_in}
@@ -100,8 +99,13 @@ queue_leaves old new e keep = record {
 }
 
 -- where each word is 0, none is due
+none_at : (n x : ℕ) → slice_index (replicate n 0) x ≡ 0
+none_at zero x = refl
+none_at (suc n) zero = refl
+none_at (suc n) (suc x) = none_at n x
+
 pub none_due : (ws : List ℕ) (n x : ℕ) → ws ≡ replicate n 0 → is_due (slice_index ws x) ≡ false
-none_due ws n x e = ap (λ l. is_due (slice_index l x)) e ∙ ap is_due (zero_index n x)
+none_due ws n x e = ap (λ l. is_due (slice_index l x)) e ∙ ap is_due (none_at n x)
 
 -- the inode that an entry names is stamped where it belongs to the directory
 pub after_stamp : (v : Volume) (i : Inodes) (s word : ℕ) (ws ws' : List ℕ) (role : Role) (e : Entry) → Sees v i → 2 ≤ s
