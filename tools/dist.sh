@@ -122,7 +122,7 @@ stop_build() {
     kill "$running" 2>/dev/null
     wait
     rm -f "$tree/crates/fsck_ffs/out/fsck_ffs"
-    say "the build was stopped; the next one goes on with what is proved"
+    say "the build was stopped; the next one continues with what is proved"
     exit 8
 }
 
