@@ -26,6 +26,7 @@ pub fn is_due(word: u32) -> bool
 
 /// A word with the same place, whose parent entry is due.
 #[inline(always)]
+#[tactic(auto, using(crate::proofs::PlaceLaws::or_due))]
 pub fn due(word: u32) -> u32
     ensures due { is_due result ≡ true }
     ensures place { place_in result ≡ place_in word }
