@@ -1,52 +1,39 @@
 -- The way from a directory up to the root.
-use Rattle.std.proofs.Common.{◌≡◌, ◌≢◌, ℕ, zero, suc, ◌+◌, ◌<◌, ◌≤◌, ◌==◌, true, false, List, [], ◌∷◌, ◌++◌, length}
-use Rattle.std.proofs.Common.{drop, Option, Some, None, refl, sym, ap, subst, ◌∙◌, arith}
-use Rattle.std.specs.Prelude.{◌*◌, ◌&&◌, Bool, is_some, cond, option_map, option_and_then}
-use Rattle.std.specs.List.{list_any, filter}
-use Rattle.std.proofs.lemmas.List.{drop_all}
+use Rattle.std.proofs.Common.{◌≡◌, ◌≢◌, ℕ, zero, suc, ◌+◌, ◌<◌, ◌==◌, true, false, List, [], ◌∷◌, ◌++◌}
+use Rattle.std.proofs.Common.{Option, Some, None, refl, sym, ap, subst, ◌∙◌, arith, append-nil, append_assoc}
+use Rattle.std.specs.Prelude.{◌*◌, is_some, cond, option_and_then}
+use Rattle.std.specs.List.{list_any}
 use Rattle.std.proofs.lemmas.Bool.{both_ways, and_parts, ne_eqb, cond-false, eq-eqb}
 use Rattle.ffs_volume.specs.declared.Layout.{Layout}
-use Rattle.ffs_volume.specs.declared.Role.{Role}
-use Rattle.ffs_volume.specs.declared.Role.TheVariants.{Empty, Dot, Dotdot, Extra, Plain}
-use Rattle.ffs_volume.specs.Directories.Roles.{RoledEntry, is_plain}
+use Rattle.ffs_volume.specs.Directories.Roles.{RoledEntry}
 use Rattle.ffs_volume.specs.Directories.Volumes.{volume_of, volume_with}
 use Rattle.ffs_volume.specs.Directories.Graph.{Graph, level, reached, is_naming_entry, is_naming_dir, parent}
 use Rattle.ffs_volume.specs.Directories.Graph.{parent_entry_index}
 use Rattle.ffs_volume.specs.Directories.Graph.{index_in_parent, first_index}
 use Rattle.ffs_volume.proofs.LevelLaws.{level-some, within-zero}
 use Rattle.ffs_volume.specs.Directories.Parents.{nth_roled, graph_of}
-use Rattle.ffs_volume.specs.Directories.Paths.{joined, names_down, names_by_parent, name_of, path_names, dir_path}
-use Rattle.ffs_volume.specs.Directories.Paths.{entry_path, dir_path_of_names, entry_path_of_names, path_bytes}
+use Rattle.ffs_volume.specs.Directories.Paths.{joined, names_down, names_by_parent, name_of, path_names}
+use Rattle.ffs_volume.specs.Directories.Paths.{entry_path, entry_path_of_names, path_bytes}
 use Rattle.ffs_survey.specs.ParentLaws.{parent_above, root_level}
 use Rattle.ffs_paths.specs.declared.buffer.PathBuffer.{PathBuffer}
 use Rattle.ffs_paths.specs.Buffers.{HoldsNames}
 use Rattle.ffs_volume.proofs.PathBound.{path_text-fits}
-use Rattle.ffs_names.specs.Entering.{is_filled}
+use Rattle.ffs_workspace.proofs.PlaceLaws.{name_in-cons}
 use Rattle.ffs_paths.specs.Climbing.{in_room, name_in}
 use Rattle.ffs_paths.specs.DirectoryPaths.{HoldsPath, IsPathOf}
 use Rattle.ffs_paths.specs.Slashes.{AreSingle}
 use Rattle.ffs_paths.specs.declared.kept.DirectoryPath.{DirectoryPath}
-use Rattle.ffs_paths.proofs.Ends.{cut-more, end-none}
-use Rattle.ffs_paths.proofs.Rooms.{fits, fits_not}
+use Rattle.ffs_paths.proofs.Ends.{cut-more}
+use Rattle.ffs_paths.proofs.Rooms.{fits}
 
 -- the first name, by the first entry
 pub name_in-here : (d : ℕ) (e : RoledEntry) (es : List RoledEntry) → is_naming_entry d e ≡ true →
     name_in d (e ∷ es) ≡ e.entry.name
-name_in-here d e es h = ap
-    (λ b. name_of (option_and_then (nth_roled (e ∷ es))
-    (cond b (Some 0) (option_map suc (first_index (is_naming_entry d) es))))) h
-
-past : (e : RoledEntry) (es : List RoledEntry) (o : Option ℕ) →
-    name_of (option_and_then (nth_roled (e ∷ es)) (option_map suc o)) ≡ name_of (option_and_then (nth_roled es) o)
-past e es None = refl
-past e es (Some i) = refl
+name_in-here d e es h = name_in-cons d e es ∙ ap (λ b. cond b e.entry.name (name_in d es)) h
 
 pub name_in-past : (d : ℕ) (e : RoledEntry) (es : List RoledEntry) → is_naming_entry d e ≡ false →
     name_in d (e ∷ es) ≡ name_in d es
-name_in-past d e es h =
-    ap (λ b. name_of (option_and_then (nth_roled (e ∷ es))
-    (cond b (Some 0) (option_map suc (first_index (is_naming_entry d) es))))) h ∙ past e es (first_index
-    (is_naming_entry d) es)
+name_in-past d e es h = name_in-cons d e es ∙ ap (λ b. cond b e.entry.name (name_in d es)) h
 
 -- the climb from d, of level k, has reached a directory, with the names below it
 pub record IsOnWay (g : Graph) (k d at step : ℕ) (p : PathBuffer) : Type 0 where
@@ -57,10 +44,6 @@ pub record IsOnWay (g : Graph) (k d at step : ℕ) (p : PathBuffer) : Type 0 whe
   pub held : HoldsNames p following
   pub whole : names_down g left at ++ following ≡ names_down g k d
 
-append_none : (xs : List (List ℕ)) → xs ++ [] ≡ xs
-append_none [] = refl
-append_none (x ∷ xs) = ap (λ ys. x ∷ ys) (append_none xs)
-
 pub way_starts : (g : Graph) (k d : ℕ) (p : PathBuffer) → level g d ≡ Some k → HoldsNames p [] → IsOnWay g k d d 0 p
 way_starts g k d p l h = record {
   left = k;
@@ -68,7 +51,7 @@ way_starts g k d p l h = record {
   steps = omega arith;
   following = [];
   held = h;
-  whole = append_none (names_down g k d);
+  whole = append-nil (names_down g k d);
 }
 
 -- a path that is cut holds any names above, too
@@ -113,10 +96,6 @@ pub record HasParent (g : Graph) (k d at step : ℕ) (p : PathBuffer) (s : ℕ) 
       ((following : List (List ℕ)) → HoldsNames p following → HoldsNames q (name_in at (g.entries s) ∷ following)) →
       IsOnWay g k d s (step + 1) q
 
-on_front : (xs : List (List ℕ)) (n : List ℕ) (ys : List (List ℕ)) → (xs ++ n ∷ []) ++ ys ≡ xs ++ (n ∷ ys)
-on_front [] n ys = refl
-on_front (x ∷ xs) n ys = ap (λ zs. x ∷ zs) (on_front xs n ys)
-
 pub down_is : (g : Graph) (j at s : ℕ) → at ≢ 2 → parent g at ≡ Some s → names_down g (suc j) at ≡ names_down g j s
     ++ name_in at (g.entries s) ∷ []
 unfolding names_down
@@ -151,54 +130,34 @@ way_up g k d at step p w n = go w.left w.level w.steps w.whole
               steps = omega arith;
               following = name ∷ w.following;
               held = f w.following w.held;
-              whole = sym (on_front (names_down g j s) name w.following)
+              whole = sym (append_assoc (names_down g j s) (name ∷ []) w.following)
                   ∙ (sym (ap (λ xs. xs ++ w.following) down) ∙ h);
             };
           },
         )
-
--- no names are held by a buffer that begins at its end
-pub new_holds : (p : PathBuffer) → p.start ≡ 1024 → p.short ≡ 1024 → p.cut ≡ false → HoldsNames p []
-new_holds p start short cut =
-    let l = p.long in
-    let all : drop 1024 p.bytes ≡ [] = drop_all 1024 p.bytes (omega arith) in
-    record {
-      whole = λ _. ap (λ i. drop i p.bytes) start ∙ all;
-      short = ap (λ i. drop i p.bytes) short
-          ∙ (all ∙ end-none);
-      cut = cut;
-    }
 
 -- the numbers of the graph are those of the inodes
 pub count_is : (v : Layout) (b : List ℕ) → (graph_of (volume_of v b)).count ≡ v.ncg * v.ipg
 unfolding volume_of volume_with
 count_is v b = refl
 
--- the path that is kept of a directory that is reached, and of one that isn't
-pub found_is : (g : Graph) (d k : ℕ) (p : DirectoryPath) → level g d ≡ Some k → p.reached ≡ true →
-    HoldsNames p.names (names_down g k d) → AreSingle (names_down g k d) → IsPathOf g d p
-found_is g d k p l r h s =
-    subst (HoldsPath p) (sym (ap (option_map (λ n. names_down g n d)) l))
-    (r, h, s)
-
--- what is written of it
-pub put_is : (g : Graph) (d : ℕ) (p : DirectoryPath) (text : List ℕ) → IsPathOf g d p → p.reached ≡ true →
-    ((names : List (List ℕ)) → HoldsNames p.names names → text ≡ dir_path_of_names (Some names))
-    → text ≡ dir_path g d
-unfolding dir_path
-put_is g d p text h r f = go (path_names g d) h
+-- what holds of the path of a directory: of one that is reached by all names that its buffer may hold, and of one that
+-- isn't
+pub by_names : (g : Graph) (d : ℕ) (p : DirectoryPath) (P : Option (List (List ℕ)) → Type 0) → IsPathOf g d p →
+    p.reached ≡ true → ((names : List (List ℕ)) → HoldsNames p.names names → AreSingle names → P (Some names))
+    → P (path_names g d)
+by_names g d p P h r f = go (path_names g d) h
   where
-    go : (o : Option (List (List ℕ))) → HoldsPath p o → text ≡ dir_path_of_names o
+    go : (o : Option (List (List ℕ))) → HoldsPath p o → P o
     go None k = absurd (both_ways _ k r)
-    go (Some names) k = f names k.1
+    go (Some names) k = f names k.1 k.2
 
-pub put_lost : (g : Graph) (d : ℕ) (p : DirectoryPath) (text : List ℕ) → IsPathOf g d p → p.reached ≡ false →
-    text ≡ 63 ∷ [] → text ≡ dir_path g d
-unfolding dir_path
-put_lost g d p text h r e = go (path_names g d) h
+pub by_none : (g : Graph) (d : ℕ) (p : DirectoryPath) (P : Option (List (List ℕ)) → Type 0) → IsPathOf g d p →
+    p.reached ≡ false → P None → P (path_names g d)
+by_none g d p P h r f = go (path_names g d) h
   where
-    go : (o : Option (List (List ℕ))) → HoldsPath p o → text ≡ dir_path_of_names o
-    go None k = e
+    go : (o : Option (List (List ℕ))) → HoldsPath p o → P o
+    go None k = f
     go (Some names) k = absurd (both_ways _ r k.0)
 
 pub entry_is : (g : Graph) (d : ℕ) (name : List ℕ) (p : DirectoryPath) (text : List ℕ) → IsPathOf g d p →
@@ -206,31 +165,8 @@ pub entry_is : (g : Graph) (d : ℕ) (name : List ℕ) (p : DirectoryPath) (text
     → ((names : List (List ℕ)) → HoldsNames p.names names → AreSingle names → text ≡ path_bytes (names ++ name ∷ [])) →
     text ≡ in_room (entry_path g d name)
 unfolding entry_path
-entry_is g d name p text h r f = go (path_names g d) h
-  where
-    go : (o : Option (List (List ℕ))) → HoldsPath p o → text ≡ in_room (entry_path_of_names name o)
-    go None k = absurd (both_ways _ k r)
-    go (Some names) k = f names k.1 k.2 ∙ fits (path_bytes (names ++ name ∷ [])) (path_text-fits (names ++ name ∷ []))
-
--- of a directory that is not reached
-lost_by : (g : Graph) (d : ℕ) (name : List ℕ) (p : DirectoryPath) (text : List ℕ) → IsPathOf g d p → p.reached ≡ false →
-    text ≡ in_room (63 ∷ 47 ∷ name) → text ≡ in_room (entry_path g d name)
-unfolding entry_path
-lost_by g d name p text h r e = go (path_names g d) h
-  where
-    go : (o : Option (List (List ℕ))) → HoldsPath p o → text ≡ in_room (entry_path_of_names name o)
-    go None k = e
-    go (Some names) k = absurd (both_ways _ r k.0)
-
-pub entry_lost : (g : Graph) (d : ℕ) (name : List ℕ) (p : DirectoryPath) (text : List ℕ) → IsPathOf g d p →
-    p.reached ≡ false → length name ≤ 1022 → text ≡ 63 ∷ 47 ∷ name
-    → text ≡ in_room (entry_path g d name)
-entry_lost g d name p text h r short e = lost_by g d name p text h r (e ∙ fits (63 ∷ 47 ∷ name) (omega arith))
-
-pub entry_long : (g : Graph) (d : ℕ) (name : List ℕ) (p : DirectoryPath) (text : List ℕ) → IsPathOf g d p →
-    p.reached ≡ false → 1022 < length name → text ≡ 63 ∷ []
-    → text ≡ in_room (entry_path g d name)
-entry_long g d name p text h r long e = lost_by g d name p text h r (e ∙ fits_not (63 ∷ 47 ∷ name) (omega arith))
+entry_is g d name p text h r f = by_names g d p (λ o. text ≡ in_room (entry_path_of_names name o)) h r
+    (λ names held single. f names held single ∙ fits _ (path_text-fits (names ++ name ∷ [])))
 
 pub level_of : (g : Graph) (d : ℕ) → reached g d ≡ true → (k : ℕ) × (level g d ≡ Some k)
 level_of g d h = go (level g d) refl h

@@ -100,7 +100,5 @@ pub fn find_name<I: Image>(
     if find_by_place(geometry, image, workspace, dir, name)? {
         return Ok(());
     }
-    let cut = workspace.cut_of(parent);
-    let windows = &mut workspace.windows;
-    search_name(geometry, image, windows, parent, cut, dir, name)
+    search_name(geometry, image, workspace, parent, dir, name)
 }

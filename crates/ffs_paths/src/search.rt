@@ -1,11 +1,10 @@
-//! A search of a directory for the name of an inode.
+//! A search of a directory for the name of another one.
 
-ghost use Rattle.std.specs.Prelude.{◌≡◌, ◌*◌, ◌<◌, ◌==◌, ◌&&◌, true, OnOk};
-ghost use Rattle.ffs_image.specs.Device.{ForContents};
-ghost use Rattle.ffs_volume.specs.Directories.Roles.{is_dir, is_plain, roled_entries};
-ghost use Rattle.ffs_volume.specs.Directories.Volumes.{volume_of};
-ghost use Rattle.ffs_volume.specs.Encodings.Replay.{cut_at};
-ghost use Rattle.ffs_paths.specs.Climbing.{AreOpen, ReadsOpen, name_in};
+ghost use Rattle.std.specs.Prelude.{◌≡◌, ◌*◌, ◌<◌, ◌==◌, ◌&&◌, OnOk};
+ghost use Rattle.ffs_volume.specs.Directories.Roles.{is_plain};
+ghost use Rattle.ffs_workspace.specs.Ready.{IsReady};
+ghost use Rattle.ffs_paths.specs.Climbing.{IsNameIn};
+ghost use Rattle.ffs_paths.specs.Reads.{ForTree, OnlyReads};
 
 use crate::name::{NameText, set_name};
 use ffs_image::{Image, ImageFault};
@@ -13,7 +12,7 @@ use ffs_layout::Geometry;
 use ffs_names::Entries;
 use ffs_survey::is_plain;
 use ffs_volume::Role;
-use ffs_workspace::Windows;
+use ffs_workspace::Workspace;
 
 /// Whether an entry of this role and number names an inode in the directory tree.
 pub fn names(role: Role, number: u32, inode: u32) -> bool
@@ -22,39 +21,39 @@ pub fn names(role: Role, number: u32, inode: u32) -> bool
     is_plain(role) && number == inode
 }
 
-/// Finds the name of an inode in a directory: that of the first plain entry that names it, and none
-/// where no entry does. `cut` is how many offers the directory keeps where duplicates cut it, else
-/// 0.
+/// Finds the name of a directory in its parent, by all entries of the parent: that of the first
+/// plain entry that names it, and none where no entry does.
 ///
 /// # Errors
 /// A read of the image that failed.
 pub fn search_name<I: Image>(
     geometry: &Geometry,
     image: &mut I,
-    windows: &mut Windows,
+    workspace: &mut Workspace,
+    parent: u32,
     dir: u32,
-    cut: u32,
-    number: u32,
     name: &mut NameText,
 ) -> Result<(), ImageFault>
-    requires number { dir < geometry.now.layout.ncg * geometry.now.layout.ipg }
-    requires windows { AreOpen geometry.now.layout (I.device image.old) windows.old }
-    ensures name { OnOk result (ForContents (I.device image.old).contents
-        (λ b. is_dir (volume_of geometry.now.layout b) dir ≡ true
-        → cut ≡ cut_at geometry.now.layout b dir
-        → name.new.items ≡ name_in number (roled_entries (volume_of geometry.now.layout b) dir))) }
-    ensures leaves { ReadsOpen geometry.now.layout (I.device image.old) (I.device image.new)
-        windows.old windows.new result }
+    requires ready { IsReady geometry.now.layout (I.device image.old) workspace.old }
+    requires parent { parent < geometry.now.layout.ncg * geometry.now.layout.ipg }
+    ensures name { OnOk result (ForTree geometry.now.layout (I.device image.old) workspace.old
+        (λ g. IsNameIn g dir parent name.new.items)) }
+    ensures reads { OnlyReads geometry.now.layout (I.device image.old) (I.device image.new)
+        workspace.old workspace.new result }
 {
     name.clear();
-    let inode = windows.table.inode_by_part(geometry, dir, image)?;
+    let cut = workspace.cut_of(parent);
+    let inode = workspace
+        .windows
+        .table
+        .inode_by_part(geometry, parent, image)?;
     let mut entries = Entries::start(geometry, &inode, cut);
     'entries: while let Some(entry) = entries.next(
         image,
-        &mut windows.blocks,
-        &mut windows.names,
+        &mut workspace.windows.blocks,
+        &mut workspace.windows.names,
     )? {
-        if names(entry.role, entry.number, number) {
+        if names(entry.role, entry.number, dir) {
             set_name(name, entries.name());
             return Ok(());
         }

@@ -1,23 +1,15 @@
 use Rattle.std.proofs.Common.{◌≡◌, ◌∙◌, ◌∷◌, ap, sym, subst, arith, ℕ}
 use Rattle.std.proofs.lemmas.List.{get_or_default}
-use Rattle.std.proofs.lemmas.Result.{err_from_is_err_and}
 use Rattle.std.specs.Prelude.{slice_index}
 use Rattle.std.specs.Option.{unwrap_or}
 use Rattle.ffs_volume.specs.Directories.Graph.{Graph}
 use Rattle.ffs_volume.specs.Directories.Parents.{graph_of}
 use Rattle.ffs_volume.specs.Directories.Volumes.{volume_of}
-use Rattle.ffs_workspace.proofs.Leaving.{claims_held, survey_held}
+use Rattle.ffs_paths.specs.Climbing.{IsNameIn}
 use Rattle.ffs_paths.specs.Buffers.{HoldsNames}
-use Rattle.ffs_paths.proofs.Keeping.{no_reads, reads_as, reads_failed, reads_then}
-use Rattle.ffs_paths.proofs.Ways.{HasParent, way_starts, way_root, way_cut, way_long, way_up, count_is}
+use Rattle.ffs_paths.proofs.Keeping.{reads_then, tree_on}
+use Rattle.ffs_paths.proofs.Ways.{HasParent, way_root, way_cut, way_long, way_up, count_is}
 use Rattle.ffs_paths.proofs.climb.climb.Goals as goal
-
-pub up-init : goal.up-init
-up-init g c = record {
-  at = c.requires.number;
-  reads = no_reads c.requires.ready;
-  path = λ b t claims survey k l. way_starts _ k c.args.dir _ l c.new-path.ensures;
-}
 
 pub returns-then-at-eq-ROOTINO-clause-path : goal.returns-then-at-eq-ROOTINO-clause-path
 returns-then-at-eq-ROOTINO-clause-path g c = λ b t claims survey k l.
@@ -77,41 +69,9 @@ up-preserved g c =
           ∙ (ap (λ w. slice_index w.parents.items c.up.at) i.reads.lists
           ∙ (survey.parents c.up.at ∙ ap (λ o. unwrap_or o 0) u.1.is))) in
           let up = subst (λ s. HasParent G k c.args.dir c.up.at c.up.step c.up.path s) (sym e) u.1 in
-          let name = c.as_slice.ensures.value ∙ found.name b (ap (λ d. d.contents) i.reads.read ∙ t)
-          (claims_held v b c.args.workspace.now c.up.workspace i.reads.lists claims)
-          (survey_held v b c.args.workspace.now c.up.workspace i.reads.lists survey) up.is up.dir in
+          let name = c.as_slice.ensures.value ∙ tree_on (λ g. IsNameIn g c.up.at p c.find_name.new.name.items) i.reads
+          found.name b t claims survey up.is up.dir in
           up.on c.push_front.new.self
           (λ following held. subst (λ n. HoldsNames c.push_front.new.self (n ∷ following)) name
           (c.push_front.ensures following held));
     }
-
-pub returns-then-at-eq-ROOTINO-clause-reads : goal.returns-then-at-eq-ROOTINO-clause-reads
-returns-then-at-eq-ROOTINO-clause-reads g c = reads_as c.up.invariant.reads
-
-pub returns-then-path-clause-reads : goal.returns-then-path-clause-reads
-returns-then-path-clause-reads g c = reads_as c.up.invariant.reads
-
-pub returns-then-parent-count-clause-reads : goal.returns-then-parent-count-clause-reads
-returns-then-parent-count-clause-reads g c = reads_as c.up.invariant.reads
-
-pub returns-clause-reads : goal.returns-clause-reads
-returns-clause-reads g c = reads_as c.up.invariant.reads
-
-pub index-parent-requires : goal.index-parent-requires
-index-parent-requires g c = omega (arith, c.up.invariant.at, c.up.invariant.reads.ready.made.parents)
-
-pub find_name-requires-clause-ready : goal.find_name-requires-clause-ready
-find_name-requires-clause-ready g c = record { ready = c.up.invariant.reads.ready; number = c.up.invariant.at }
-
-pub find_name-requires-clause-parent : goal.find_name-requires-clause-parent
-find_name-requires-clause-parent g c = omega (arith, c.if-parent-count.false, c.requires.ready.made.notes)
-
--- a read failed
-pub returns-in_err-find_name-clause-path : goal.returns-in_err-find_name-clause-path
-returns-in_err-find_name-clause-path g c =
-    let p = err_from_is_err_and c.from_residual.result c.from_residual.ensures.1 in rw p.1 tt
-
-pub returns-in_err-find_name-clause-reads : goal.returns-in_err-find_name-clause-reads
-returns-in_err-find_name-clause-reads g c =
-    let p = err_from_is_err_and c.from_residual.result c.from_residual.ensures.1 in
-    rw (p.1, p.2) (reads_failed (reads_then c.up.invariant.reads c.in_err-find_name.ensures.reads))

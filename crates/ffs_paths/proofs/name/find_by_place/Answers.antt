@@ -25,5 +25,4 @@ returns-clause-name g c = λ found b t claims survey parent is dir.
 pub returns-clause-reads : goal.returns-clause-reads
 returns-clause-reads g c =
     let read = c.in_ok-fill.ensures in
-    name_read c.args.geometry.now.layout _ _ c.args.workspace.now c.fill.new.self _ c.requires.ready
-    (ap (λ d. d.size) read.read) (ap (λ d. d.contents) read.read) read.room read.holds read.read
+    name_read _ _ _ c.args.workspace.now c.fill.new.self _ c.requires.ready read.room read.holds read.read

@@ -1,4 +1,4 @@
-use Rattle.std.proofs.Common.{◌+◌, ◌∙◌, sym, arith}
+use Rattle.std.proofs.Common.{◌∙◌, sym, arith}
 use Rattle.ffs_layout.specs.Entry.{entry_value}
 use Rattle.ffs_paths.proofs.ChunkNames.{chunk_here, chunk_past}
 use Rattle.ffs_paths.proofs.name.find_in_chunk.Goals as goal

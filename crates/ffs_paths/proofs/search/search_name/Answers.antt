@@ -1,44 +1,58 @@
-use Rattle.std.proofs.Common.{◌<◌, ◌∙◌, ap, sym, subst}
+use Rattle.std.proofs.Common.{◌≡◌, ◌<◌, ◌∙◌, ℕ, true, List, ap, sym, subst, slice_index}
+use Rattle.std.proofs.lemmas.Result.{err_from_is_err_and}
 use Rattle.ffs_names.specs.Entering.{to_come, last_name}
+use Rattle.ffs_names.specs.Shapes.{BeginsDirectory}
+use Rattle.ffs_names.specs.declared.entries.Entries.{Entries}
 use Rattle.ffs_names.proofs.DirLaws.{dir_is, dir_size, dir_seen}
 use Rattle.ffs_survey.specs.Reading.{roled_of}
 use Rattle.ffs_volume.specs.declared.Inode.{Inode}
+use Rattle.ffs_volume.specs.declared.Layout.{Layout}
 use Rattle.ffs_volume.specs.Blocks.Inodes.{inode_of}
+use Rattle.ffs_volume.specs.Directories.Roles.{is_dir, roled_entries}
+use Rattle.ffs_volume.specs.Directories.Volumes.{volume_of}
+use Rattle.ffs_volume.specs.Disk.Geometry.{IsAcceptedLayout}
+use Rattle.ffs_workspace.specs.Holds.{HoldsClaims}
+use Rattle.ffs_workspace.specs.Notes.{cut_in}
+use Rattle.ffs_workspace.specs.declared.workspace.Workspace.{Workspace}
+use Rattle.ffs_workspace.proofs.NoteLaws.{cut_is_noted}
 use Rattle.ffs_paths.specs.Climbing.{name_in}
+use Rattle.ffs_paths.proofs.Keeping.{reads_then}
 use Rattle.ffs_paths.proofs.Ways.{name_in-here, name_in-past}
-use Rattle.ffs_paths.proofs.Windows.{can_next, open_next}
+use Rattle.ffs_paths.proofs.Windows.{chunk_read}
 use Rattle.ffs_paths.proofs.search.search_name.Goals as goal
 
+-- all entries of the parent are still to come
+begun : (v : Layout) (b : List ℕ) (w : Workspace) (p : ℕ) (i : Inode) (cut : ℕ) (r : Entries) → IsAcceptedLayout v →
+    HoldsClaims v b w → is_dir (volume_of v b) p ≡ true → i ≡ inode_of v b p →
+    cut ≡ cut_in (slice_index w.notes.items p)
+    → BeginsDirectory v i cut r → roled_entries (volume_of v b) p ≡ to_come b r
+begun v b w p i cut r sound claims dir inode noted begins =
+    let is = dir_is v b p dir in
+    sym (begins.entries b (subst (λ (n : Inode). n.size < 2147483648) (sym inode) (dir_size v (inode_of v b p) is.1))
+    ∙ dir_seen v b p i cut sound is.0 inode (noted ∙ (ap cut_in (claims.notes p) ∙ cut_is_noted v b p sound)))
+
 pub returns-then-names-clause-name : goal.returns-then-names-clause-name
-returns-then-names-clause-name g c = λ b t dir cut.
+returns-then-names-clause-name g c = λ b t claims survey is dir.
     let i = c.entries.invariant in
-    let v = c.args.geometry.now.layout in
-    let is = dir_is v b c.args.dir dir in
-    let inode = c.in_ok-inode.ensures.inode b t in
-    let x = c.args.number in
+    let x = c.args.dir in
     let o = rw c.in-Some.is at c.in_ok-entry.ensures.entry in
-    let all = c.start-entries.ensures.begins.entries b (subst (λ (n : Inode). n.size < 2147483648) (sym inode)
-    (dir_size v (inode_of v b c.args.dir) is.1))
-    ∙ dir_seen v b c.args.dir c.in_ok-inode.inode c.args.cut c.args.geometry.now.sound is.0 inode cut in
-    c.set_name.ensures ∙ (c.name.ensures ∙ sym (ap (name_in x) (sym all) ∙ (i.name b t
-    ∙ (ap (name_in x) (o b (ap (λ d. d.contents) i.device ∙ t)).entries
+    c.set_name.ensures ∙ (c.name.ensures ∙ sym (ap (name_in x) (begun _ b c.args.workspace.now c.args.parent _ _ _
+    c.args.geometry.now.sound claims dir (c.in_ok-inode.ensures.inode b t) c.cut_of-cut.ensures
+    c.start-entries.ensures.begins)
+    ∙ (i.name b t ∙ (ap (name_in x) (o b (ap (λ d. d.contents) i.reads.read ∙ t)).entries
     ∙ name_in-here x (roled_of c.in-Some.entry (last_name c.next.new.self)) (to_come b c.next.new.self)
     (sym c.names.ensures ∙ c.if-names.true)))))
 
 -- no entry is left
 pub returns-clause-name : goal.returns-clause-name
-returns-clause-name g c = λ b t dir cut.
+returns-clause-name g c = λ b t claims survey is dir.
     let i = c.entries.invariant in
-    let v = c.args.geometry.now.layout in
-    let is = dir_is v b c.args.dir dir in
-    let inode = c.in_ok-inode.ensures.inode b t in
-    let x = c.args.number in
+    let x = c.args.dir in
     let o = rw c.in_default.is at c.in_ok-entry.ensures.entry in
-    let all = c.start-entries.ensures.begins.entries b (subst (λ (n : Inode). n.size < 2147483648) (sym inode)
-    (dir_size v (inode_of v b c.args.dir) is.1))
-    ∙ dir_seen v b c.args.dir c.in_ok-inode.inode c.args.cut c.args.geometry.now.sound is.0 inode cut in
-    i.none ∙ sym (ap (name_in x) (sym all) ∙ (i.name b t
-    ∙ ap (name_in x) (o b (ap (λ d. d.contents) i.device ∙ t)).entries))
+    i.none ∙ sym (ap (name_in x) (begun _ b c.args.workspace.now c.args.parent _ _ _
+    c.args.geometry.now.sound claims dir (c.in_ok-inode.ensures.inode b t) c.cut_of-cut.ensures
+    c.start-entries.ensures.begins)
+    ∙ (i.name b t ∙ ap (name_in x) (o b (ap (λ d. d.contents) i.reads.read ∙ t)).entries))
 
 pub entries-preserved : goal.entries-preserved
 entries-preserved g c =
@@ -47,35 +61,32 @@ entries-preserved g c =
     record {
       name = λ b t.
           let o = rw c.in-Some.is at next.entry in
-          i.name b t ∙ (ap (name_in c.args.number) (o b (ap (λ d. d.contents) i.device ∙ t)).entries
-          ∙ name_in-past c.args.number (roled_of c.in-Some.entry (last_name c.next.new.self))
+          i.name b t ∙ (ap (name_in c.args.dir) (o b (ap (λ d. d.contents) i.reads.read ∙ t)).entries
+          ∙ name_in-past c.args.dir (roled_of c.in-Some.entry (last_name c.next.new.self))
           (to_come b c.next.new.self) (sym c.names.ensures ∙ c.if-names.false));
       none = i.none;
       geometry = next.leaves.geometry ∙ i.geometry;
-      windows = open_next _ _ _ c.entries.windows _ _ i.windows (ap (λ d. d.contents) next.leaves.read)
-          (rw i.geometry at next.leaves.ready);
-      chunk = i.chunk;
-      device = next.leaves.read ∙ i.device;
+      reads = reads_then i.reads (chunk_read _ _ _ c.entries.workspace _ _ _ i.reads.ready
+          (rw i.geometry at next.leaves.ready) next.leaves.read);
     }
 
-pub returns-then-names-clause-leaves : goal.returns-then-names-clause-leaves
-returns-then-names-clause-leaves g c =
+pub returns-then-names-clause-reads : goal.returns-then-names-clause-reads
+returns-then-names-clause-reads g c =
     let i = c.entries.invariant in
-    let next = c.in_ok-entry.ensures in
-    record {
-      windows = open_next _ _ _ c.entries.windows _ _ i.windows (ap (λ d. d.contents) next.leaves.read)
-          (rw i.geometry at next.leaves.ready);
-      chunk = i.chunk;
-      read = next.leaves.read ∙ i.device;
-    }
+    let next = c.in_ok-entry.ensures.leaves in
+    reads_then i.reads (chunk_read _ _ _ c.entries.workspace _ _ _ i.reads.ready (rw i.geometry at next.ready) next.read)
 
-pub returns-clause-leaves : goal.returns-clause-leaves
-returns-clause-leaves g c =
+pub returns-clause-reads : goal.returns-clause-reads
+returns-clause-reads g c =
     let i = c.entries.invariant in
-    let next = c.in_ok-entry.ensures in
-    record {
-      windows = open_next _ _ _ c.entries.windows _ _ i.windows (ap (λ d. d.contents) next.leaves.read)
-          (rw i.geometry at next.leaves.ready);
-      chunk = i.chunk;
-      read = next.leaves.read ∙ i.device;
-    }
+    let next = c.in_ok-entry.ensures.leaves in
+    reads_then i.reads (chunk_read _ _ _ c.entries.workspace _ _ _ i.reads.ready (rw i.geometry at next.ready) next.read)
+
+-- a read failed
+pub returns-in_err-entry-clause-reads : goal.returns-in_err-entry-clause-reads
+returns-in_err-entry-clause-reads g c =
+    let i = c.entries.invariant in
+    let next = c.in_err-entry.ensures.leaves in
+    let p = err_from_is_err_and c.from_residual-in_err-entry.result c.from_residual-in_err-entry.ensures.1 in
+    rw (p.1, p.2) (reads_then i.reads (chunk_read _ _ _ c.entries.workspace _ _ _ i.reads.ready
+    (rw i.geometry at next.ready) next.read))

@@ -1,18 +1,18 @@
-use Rattle.std.proofs.Common.{◌≡◌, []}
+use Rattle.std.proofs.Common.{◌≡◌, [], Ok}
 use Rattle.ffs_image.specs.Device.{ForContents}
 use Rattle.ffs_names.specs.Entering.{to_come, left}
-use Rattle.ffs_paths.specs.Climbing.{name_in, AreOpen}
+use Rattle.ffs_paths.specs.Climbing.{name_in}
+use Rattle.ffs_paths.specs.Reads.{OnlyReads}
 use Rattle.ffs_paths.proofs.search.search_name.Given as goal
 
 abbrev pub invariant-entries : goal.invariant-entries
-invariant-entries g l = record {
-  name : ForContents (g.I.Image.device l.fn.image).contents
-      (λ b. name_in l.number (to_come b l.initial.entries) ≡ name_in l.number (to_come b l.entries));
+invariant-entries g l = let device = g.I.Image.device in record {
+  name : ForContents (device l.fn.image).contents
+      (λ b. name_in l.dir (to_come b l.initial.entries) ≡ name_in l.dir (to_come b l.entries));
   none : l.name.items ≡ [];
   geometry : l.entries.chunks.walk.geometry ≡ l.geometry;
-  windows : AreOpen l.geometry.layout (g.I.Image.device l.image) l.windows;
-  chunk : l.windows.chunk ≡ l.fn.windows.chunk;
-  device : g.I.Image.device l.image ≡ g.I.Image.device l.fn.image;
+  reads : OnlyReads {T = Unit {0}} l.geometry.layout (device l.fn.image) (device l.image) l.fn.workspace l.workspace
+      (Ok tt);
 }
 
 abbrev pub decreases-entries : goal.decreases-entries

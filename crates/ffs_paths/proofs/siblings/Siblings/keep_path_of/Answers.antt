@@ -1,4 +1,4 @@
-use Rattle.std.proofs.Common.{◌<◌, Ok, refl, sym, subst, arith}
+use Rattle.std.proofs.Common.{◌<◌, Ok, sym, subst, arith}
 use Rattle.ffs_volume.specs.Directories.Parents.{graph_of}
 use Rattle.ffs_volume.specs.Directories.Volumes.{volume_of}
 use Rattle.ffs_paths.specs.DirectoryPaths.{IsPathOf}

@@ -1,13 +1,12 @@
-use Rattle.std.proofs.Common.{◌∙◌, ap, sym, subst, arith}
+use Rattle.std.proofs.Common.{sym, subst, arith}
 use Rattle.ffs_volume.specs.Directories.Parents.{graph_of}
 use Rattle.ffs_volume.specs.Directories.Volumes.{volume_of}
-use Rattle.ffs_workspace.proofs.Leaving.{claims_held, survey_held}
 use Rattle.ffs_paths.specs.Climbing.{IsNameIn, IsParentOf}
 use Rattle.ffs_paths.specs.Reads.{ForTree}
 use Rattle.ffs_paths.specs.Siblings.{AreSiblings}
 use Rattle.ffs_paths.specs.declared.siblings.Siblings.{Siblings}
 use Rattle.ffs_paths.proofs.Children.{child_made, siblings_are}
-use Rattle.ffs_paths.proofs.Keeping.{leaves_kept, reads_then}
+use Rattle.ffs_paths.proofs.Keeping.{leaves_kept, reads_then, tree_on}
 use Rattle.ffs_paths.proofs.siblings.Siblings.path_to.Goals as goal
 
 pub returns : goal.returns
@@ -25,15 +24,12 @@ returns g c =
     let reads = kept.leaves.reads in
     let of : IsParentOf w c.args.dir first.parent =
     subst (IsParentOf w c.args.dir) (sym kept.kept) (rw c.in-Some.is at c.parent_above.ensures) in
-    let siblings : ForTree v (g.I.Image.device c.args.image.now) w (λ g. AreSiblings g s) =
-    λ b t claims survey.
-    let tree = graph_of (volume_of v b) in
-    let u = ap (λ d. d.contents) reads.read ∙ t in
-    let claims' = claims_held v b w c.keep_path_of.new.workspace reads.lists claims in
-    let survey' = survey_held v b w c.keep_path_of.new.workspace reads.lists survey in
-    siblings_are v b w s survey of ((kept.leaves.siblings.right b u claims' survey').path of.some)
-    (subst (λ p. IsNameIn tree c.args.dir p s.name.items) (sym kept.kept)
-    (c.in_ok-find_name.ensures.name b u claims' survey')) in
+    let siblings : ForTree v (g.I.Image.device c.args.image.now) w (λ g. AreSiblings g s) = λ b t claims survey.
+    let above = tree_on (λ g. AreSiblings g first) reads kept.leaves.siblings.right b t claims survey in
+    siblings_are v b w s survey of (above.path of.some)
+    (subst (λ p. IsNameIn (graph_of (volume_of v b)) c.args.dir p s.name.items) (sym kept.kept)
+    (tree_on (λ g. IsNameIn g c.args.dir c.in-Some.parent s.name.items) reads c.in_ok-find_name.ensures.name b t
+    claims survey)) in
     record {
       path = λ b t claims survey.
           let below = of.below in
