@@ -1,7 +1,9 @@
 -- What a check takes of its memory, after an accepted superblock.
 use Rattle.std.proofs.Common.{◌≡◌, arith, inl, inr, ◌∙◌, sym, subst, ℕ, Bool, true, false, List, Option, Ok, Err}
 use Rattle.ffs_image.specs.Device.{Device, ForContents}
-use Rattle.ffs_memory.specs.Account.{Account}
+use Rattle.ffs_memory.specs.Account.{Account, Rose, unused}
+use Rattle.ffs_memory.specs.System.{account_of}
+use Rattle.ffs_memory.specs.declared.system.SystemMemory.{SystemMemory}
 use Rattle.ffs_volume.specs.declared.End.{End}
 use Rattle.ffs_volume.specs.declared.End.TheVariants.{Consistent, Defects, RootStop, ReadFault, WriteFault, NoMemory}
 use Rattle.ffs_volume.specs.Messages.Kinds.{Message}
@@ -14,7 +16,7 @@ use Rattle.ffs_layout.specs.Super.{ReadsSuper, seen}
 use Rattle.ffs_workspace.specs.Lengths.{held_of}
 use Rattle.ffs_check.specs.Ends.{PhasesRan}
 use Rattle.ffs_check.specs.Opening.{Opened, OpeningSays}
-use Rattle.ffs_check.specs.Taken.{Asked, TakesWorkspace}
+use Rattle.ffs_check.specs.Taken.{Asked, Takes, TakesOfSystem, TakesWorkspace}
 
 accepted_by : (image image' : Device) (sector : Option ℕ) (s : Superblock) → ReadsSuper image image' sector (Ok s) →
     ForContents image.contents (λ bytes. outcome bytes sector ≡ Ok s)
@@ -57,3 +59,15 @@ pub opened_for_memory : (image on : Device) (old new : Progress) (name : List �
     Opened image on old new name sector (Err end) → end ≡ NoMemory → ⊥
 opened_for_memory image on old new name sector end o e =
     subst (λ (x : End). OpeningSays image on old new name sector o.found (Err x)) e o.ends
+
+-- a check over the memory of the system, which was new
+pub of_system : (image : Device) (sector : Option ℕ) (end : End) (memory memory' : SystemMemory) →
+    account_of memory ≡ unused → Takes image sector (account_of memory) (account_of memory') →
+    (end ≡ NoMemory → Rose (account_of memory).refused (account_of memory').refused) → TakesOfSystem image sector end
+of_system image sector end memory memory' begun takes refused = record {
+  memory = memory;
+  memory' = memory';
+  begun = begun;
+  takes = takes;
+  refused = refused;
+}

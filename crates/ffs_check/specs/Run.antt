@@ -1,14 +1,17 @@
 -- What a run of the program prints, and its exit status, by the words after the program's name.
-use Rattle.std.specs.Prelude.{◌≡◌, ◌⊎◌, ℕ, List, [], ◌∷◌, ◌++◌, Option, codes, ⊤}
+use Rattle.std.specs.Prelude.{◌≡◌, ◌⊎◌, ℕ, List, [], ◌∷◌, ◌++◌, Option, Result, MatchResult, codes}
 use Rattle.std.specs.Io.KnownBytes.{Keeps}
+use Rattle.std.specs.declared.io.Error.{Error}
 use Rattle.ffs_image.specs.Device.{Device}
+use Rattle.ffs_image.specs.declared.file.OpenFault.{OpenFault}
 use Rattle.ffs_volume.specs.declared.End.{End}
 use Rattle.ffs_volume.specs.Messages.Kinds.{cannot_alloc}
 use Rattle.ffs_volume.specs.Report.Whole.{status_of}
 use Rattle.ffs_volume.specs.Messages.Texts.{text_of}
 use Rattle.ffs_report.specs.Sink.{Sink, Took, BrokeOff}
 use Rattle.ffs_check.specs.Headline.{Headline}
-use Rattle.ffs_check.specs.Words.{AskFor, refusals}
+use Rattle.ffs_check.specs.Taken.{TakesOfSystem}
+use Rattle.ffs_check.specs.Words.{AskFor, LacksMemory, refusals}
 
 -- the line where the image can't be opened
 abbrev pub unopened_text : List ℕ → List ℕ
@@ -27,23 +30,26 @@ pub record IsChecked (I : Type 0) (device : I → Device) (opens : List ℕ → 
   pub opened : opens name image
   pub end : End
   pub headline : Headline (device image) (device image') name sector out out' end
+  pub memory : TakesOfSystem (device image) sector end
   pub status_is : status ≡ status_of end
 
 -- no image could be opened under a name
-pub record IsUnopened (refuses : List ℕ → Type 0) (name : List ℕ) (out out' : Sink) (status : ℕ) : Type 0 where
-  pub refused : refuses name
+pub record IsUnopened (refuses : List ℕ → OpenFault → Type 0) (name : List ℕ) (out out' : Sink)
+    (status : ℕ) : Type 0 where
+  pub fault : OpenFault
+  pub refused : refuses name fault
   pub printed : IsPrinted out out' (unopened_text name)
   pub status_is : status ≡ 8
 
 -- the image of a name was checked, or couldn't be opened
-abbrev pub CheckedBy : {I : Type 0} → (I → Device) → (List ℕ → I → Type 0) → (List ℕ → Type 0) → List ℕ → Option ℕ
-    → Sink → Sink → ℕ → Type 0
+abbrev pub CheckedBy : {I : Type 0} → (I → Device) → (List ℕ → I → Type 0) → (List ℕ → OpenFault → Type 0) → List ℕ
+    → Option ℕ → Sink → Sink → ℕ → Type 0
 CheckedBy {I} device opens refuses name sector out out' status =
     IsChecked I device opens name sector out out' status ⊎ IsUnopened refuses name out out' status
 
 -- the words ask for an image and a sector, and that image was checked at that sector, or couldn't be opened
 pub record RunsAsAsked (I : Type 0) (device : I → Device) (opens : List ℕ → I → Type 0)
-    (refuses : List ℕ → Type 0) (words : List (List ℕ)) (out out' : Sink) (status : ℕ) : Type 0 where
+    (refuses : List ℕ → OpenFault → Type 0) (words : List (List ℕ)) (out out' : Sink) (status : ℕ) : Type 0 where
   pub name : List ℕ
   pub sector : Option ℕ
   pub asked : AskFor words name sector
@@ -56,24 +62,49 @@ pub record IsRefused (words : List (List ℕ)) (out out' : Sink) (status : ℕ) 
   pub status_is : status ≡ 2
 
 -- memory was refused while the words were read
-pub record HasNoWords (out out' : Sink) (status : ℕ) : Type 0 where
+pub record HasNoWords (words : List (List ℕ)) (out out' : Sink) (status : ℕ) : Type 0 where
+  pub lacked : LacksMemory words
   pub printed : IsPrinted out out' (text_of cannot_alloc)
   pub status_is : status ≡ 8
 
 -- how a run ends
-abbrev pub RunEnds : {I : Type 0} → (I → Device) → (List ℕ → I → Type 0) → (List ℕ → Type 0) → List (List ℕ) → Sink
-    → Sink → ℕ → Type 0
+abbrev pub RunEnds : {I : Type 0} → (I → Device) → (List ℕ → I → Type 0) → (List ℕ → OpenFault → Type 0)
+    → List (List ℕ) → Sink → Sink → ℕ → Type 0
 RunEnds {I} device opens refuses words out out' status =
     RunsAsAsked I device opens refuses words out out' status ⊎ (IsRefused words out out' status
-    ⊎ HasNoWords out out' status)
+    ⊎ HasNoWords words out out' status)
 
--- the same over a std writer, of which only the bytes that it took can be known; a failed flush makes the status 8
-pub record RanOver {I : Type 0} (device : I
-    → Device) (words : List (List ℕ)) (taken taken' : Option (List ℕ)) (status : ℕ) : Type 0 where
+-- a writer was flushed after a run with a status: the status stays where the flush succeeded, and is 8 where it failed
+pub record IsFlushed {S : Type 0} (was_flushed : S → Result (Unit {0}) Error → S → Type 0)
+    (contents : S → Option (List ℕ)) (old new : S) (ran_status status : ℕ) : Type 0 where
+  pub printed : ran_status ≡ 2 → ⊥
+  pub answer : Result (Unit {0}) Error
+  pub flushed : was_flushed old answer new
+  pub kept : Keeps (contents old) (contents new)
+  pub status_is : MatchResult answer (λ _. status ≡ ran_status) (λ _. status ≡ 8)
+
+-- nothing was printed, and nothing is flushed
+pub record IsUnprinted {S : Type 0} (old new : S) (ran_status status : ℕ) : Type 0 where
+  pub wrong : ran_status ≡ 2
+  pub untouched : new ≡ old
+  pub status_is : status ≡ 2
+
+-- what follows a run with a status: a flush of its writer, unless the words were refused
+abbrev pub FlushedAfter : {S : Type 0} → (S → Result (Unit {0}) Error → S → Type 0) → (S → Option (List ℕ)) → S → S
+    → ℕ → ℕ → Type 0
+FlushedAfter was_flushed contents old new ran_status status =
+    IsUnprinted old new ran_status status ⊎ IsFlushed was_flushed contents old new ran_status status
+
+-- the same over a writer, which is flushed after the run
+pub record RanOver {I S : Type 0} (device : I → Device) (opens : List ℕ → I → Type 0)
+    (refuses : List ℕ → OpenFault → Type 0) (was_flushed : S → Result (Unit {0}) Error → S → Type 0)
+    (contents : S → Option (List ℕ)) (words : List (List ℕ)) (old new : S) (status : ℕ) : Type 0 where
   pub out : Sink
   pub out' : Sink
-  pub before : out.taken ≡ taken
-  pub after : Keeps out'.taken taken'
+  pub between : S
+  pub before : out.taken ≡ contents old
+  pub unfailed : out.failures ≡ 0
+  pub after : out'.taken ≡ contents between
   pub ran_status : ℕ
-  pub ran : RunEnds device (λ _ _. ⊤) (λ _. ⊤) words out out' ran_status
-  pub status_is : (status ≡ ran_status) ⊎ (status ≡ 8)
+  pub ran : RunEnds device opens refuses words out out' ran_status
+  pub flushed : FlushedAfter was_flushed contents between new ran_status status

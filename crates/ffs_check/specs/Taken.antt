@@ -1,7 +1,11 @@
 -- What a check takes of its memory.
 use Rattle.std.specs.Prelude.{◌≡◌, ◌≤◌, ◌⊎◌, ℕ, Option, Ok}
 use Rattle.ffs_image.specs.Device.{Device, ForContents}
-use Rattle.ffs_memory.specs.Account.{Account, Granted, GaveUp}
+use Rattle.ffs_memory.specs.Account.{Account, Granted, GaveUp, Rose, unused}
+use Rattle.ffs_memory.specs.System.{account_of}
+use Rattle.ffs_memory.specs.declared.system.SystemMemory.{SystemMemory}
+use Rattle.ffs_volume.specs.declared.End.{End}
+use Rattle.ffs_volume.specs.declared.End.TheVariants.{NoMemory}
 use Rattle.ffs_volume.specs.Report.Memory.{held_limit}
 use Rattle.ffs_volume.specs.Disk.Outcome.{outcome}
 use Rattle.ffs_volume.specs.Disk.Superblock.{Superblock}
@@ -22,3 +26,12 @@ pub record TakesWorkspace (image : Device) (sector : Option ℕ) (old new : Acco
 -- nothing was taken, or the workspace of an accepted volume
 abbrev pub Takes : Device → Option ℕ → Account → Account → Type 0
 Takes image sector old new = (new ≡ old) ⊎ TakesWorkspace image sector old new
+
+-- a check took from the memory of the system, of which nothing was granted before, what it takes of any memory; and it
+-- ended for want of memory only where that memory refused a request
+pub record TakesOfSystem (image : Device) (sector : Option ℕ) (end : End) : Type 0 where
+  pub memory : SystemMemory
+  pub memory' : SystemMemory
+  pub begun : account_of memory ≡ unused
+  pub takes : Takes image sector (account_of memory) (account_of memory')
+  pub refused : end ≡ NoMemory → Rose (account_of memory).refused (account_of memory').refused

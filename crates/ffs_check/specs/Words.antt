@@ -1,10 +1,13 @@
 -- What the words after the program's name ask for, as `clap` reads them: `-n [-b sector] image`.
-use Rattle.std.specs.Prelude.{◌≡◌, ◌<◌, ◌^◌, ℕ, pos, true, List, [], ◌∷◌, Option, Some, None, codes, unwrap_or}
+use Rattle.std.specs.Prelude.{◌≡◌, ◌<◌, ◌^◌, ℕ, pos, true, List, [], ◌∷◌, Option, Some, None, codes, unwrap_or, ⊤}
 use Rattle.std.specs.Str.Parse.{IsNumeral, digits_value, without_leading_plus}
-use Rattle.clap.specs.Words.{App, Kinds, Rule, Text, fault_of, first_of}
-use Rattle.clap.specs.Words.{matches_of, new_app, new_rule, one_of, with_rule}
+use Rattle.clap.specs.Words.{App, Kinds, Rule, Text, fault_of, first_of, found_of, kind_of}
+use Rattle.clap.specs.Words.{matches_of, new_app, new_rule, one_of, rows_of, with_rule}
 use Rattle.clap.specs.declared.builder.ArgAction.TheVariants.{Set, Count}
 use Rattle.clap.specs.declared.builder.value_parser.ValueParser.TheVariants.{Signed}
+use Rattle.clap.specs.declared.error.Error.{Error}
+use Rattle.clap.specs.declared.error.kind.ErrorKind.TheVariants.{OutOfMemory}
+use Rattle.clap.specs.declared.parser.matches.ArgMatches.{ArgMatches}
 
 -- `-n` or `-N`, each as often as one likes: one of them has to be there
 abbrev pub no_rule : Rule
@@ -40,6 +43,20 @@ program = with_rule (with_rule (with_rule unnamed no_rule) sector_rule) image_ru
 -- why `clap` refuses the words: nothing where it takes them
 abbrev pub refusals : List Text → Kinds
 refusals words = fault_of program words
+
+-- memory was refused while `clap` read the words. It is shut: what asks `clap` says so, and nothing else can
+unfoldable pub LacksMemory : List Text → Type 0
+LacksMemory words = ⊤
+
+-- the words are refused by an error: they are wrong, or memory was refused
+pub record AreRefusedBy (words : List Text) (error : Error) : Type 0 where
+  pub cause : refusals words ≡ [] → kind_of error ≡ OutOfMemory
+  pub memory : kind_of error ≡ OutOfMemory → LacksMemory words
+
+-- the words are taken, and these are their matches
+pub record HasMatches (words : List Text) (matches : ArgMatches) : Type 0 where
+  pub taken : refusals words ≡ []
+  pub rows : rows_of (found_of matches) ≡ matches_of program words
 
 -- the image that the words name
 abbrev pub image_asked : List Text → Text

@@ -1,22 +1,17 @@
 //! The arguments of the command line.
-ghost use Rattle.std.specs.Prelude.{◌≡◌, [], false, map, IfOk, MatchResult};
+ghost use Rattle.std.specs.Prelude.{◌≡◌, false, map, IfOk, MatchResult};
 ghost use Rattle.clap.specs.Words.{app_of, kind_of, rule_of};
 ghost use Rattle.clap.specs.declared.error.kind.ErrorKind.TheVariants.{OutOfMemory};
-ghost use Rattle.ffs_check.specs.Words.{AskFor, image_rule, no_rule, program, refusals};
-ghost use Rattle.ffs_check.specs.Words.{sector_rule};
+ghost use Rattle.ffs_check.specs.Words.{AreRefusedBy, AskFor, HasMatches, image_rule, no_rule};
+ghost use Rattle.ffs_check.specs.Words.{program, sector_rule};
 
 use crate::args::Args;
-use clap::{Arg, ArgAction, Command, Error};
+use crate::version::VERSION;
+use clap::{Arg, ArgAction, ArgMatches, Command, Error};
 use std::alloc::{AllocError, Global};
 
 /// The first sector that can't be asked for.
 const SECTOR_END: i64 = 4194304;
-
-const STATUSES: &str = "Status:
-  0  consistent: no defect is reported
-  1  defects are reported
-  2  the arguments are wrong, or ask for this help or the version
-  8  the check didn't run to its end; the last message says why";
 
 // `-n` or `-N`: nothing is written.
 fn no_argument<'a>(alloc: Global) -> Result<Arg<'a>, AllocError>
@@ -27,7 +22,6 @@ fn no_argument<'a>(alloc: Global) -> Result<Arg<'a>, AllocError>
         Arg::new(alloc, "no")
             .short('n')
             .visible_short_alias('N')?
-            .help("answer no to every question: the image is never written")
             .required(true)
             .action(ArgAction::Count),
     )
@@ -41,7 +35,6 @@ fn sector_argument<'a>(alloc: Global) -> Arg<'a>
     Arg::new(alloc, "sector")
         .short('b')
         .value_name("sector")
-        .help("take the superblock at this sector of 512 bytes")
         .action(ArgAction::Set)
         .value_parser(clap::value_parser!(u32).range(1..SECTOR_END))
 }
@@ -52,7 +45,6 @@ fn image_argument<'a>(alloc: Global) -> Arg<'a>
     ensures local { result.global ≡ false }
 {
     Arg::new(alloc, "image")
-        .help("the file or device that holds the file system from its first byte on")
         .required(true)
         .action(ArgAction::Set)
 }
@@ -66,13 +58,20 @@ fn command<'a>(alloc: Global) -> Result<Command<'a>, Error>
     Ok(
         Command::new(alloc, "fsck_ffs")
             .no_binary_name(true)
-            .version("1.0")
-            .about("Checks an image of a Berkeley fast file system (UFS1), and never writes it.")
-            .after_help(STATUSES)
+            .version(VERSION)
             .arg(no)?
             .arg(sector_argument(alloc))?
             .arg(image_argument(alloc))?,
     )
+}
+
+// Asks `clap` what the words say: the one call that may say of them that memory was refused.
+#[tactic(auto, unfolding(crate::specs::Words::LacksMemory))]
+fn matches_of<'a>(alloc: Global, words: &'a [&'a str]) -> Result<ArgMatches<'a>, Error>
+    ensures { MatchResult result (HasMatches (map (λ word. word.now) words.now))
+        (AreRefusedBy (map (λ word. word.now) words.now)) }
+{
+    command(alloc)?.try_get_matches_from(words)
 }
 
 /// Parses the arguments after the program's name.
@@ -81,12 +80,13 @@ fn command<'a>(alloc: Global) -> Result<Command<'a>, Error>
 /// Arguments that aren't `-n [-b sector] image`, a call for help or for the version, and want of
 /// memory.
 pub fn parse_args<'a>(alloc: Global, words: &'a [&'a str]) -> Result<Args<'a>, Error>
-    // What the arguments ask for. They are refused because they are wrong, or for want of memory.
+    // What the arguments ask for. They are refused because they are wrong, or for want of memory,
+    // where `clap` answered so.
     ensures { MatchResult result
         (λ args. AskFor (map (λ word. word.now) words.now) args.name.now args.sector)
-        (λ error. refusals (map (λ word. word.now) words.now) ≡ [] → kind_of error ≡ OutOfMemory) }
+        (AreRefusedBy (map (λ word. word.now) words.now)) }
 {
-    let matches = command(alloc)?.try_get_matches_from(words)?;
+    let matches = matches_of(alloc, words)?;
     Ok(Args {
         name: matches.get_str("image").unwrap_or(""),
         sector: matches.get_one::<u32>("sector"),

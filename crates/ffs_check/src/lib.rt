@@ -20,3 +20,5 @@ pub mod opener;
 pub mod opening;
 pub mod rest;
 pub mod run;
+pub mod version;
+mod wrong_words;

@@ -1,5 +1,6 @@
 //! How a run gets its image: it opens it by its name, for reading alone.
-ghost use Rattle.std.specs.Prelude.{◌≡◌, ℕ, List, IfOk, OnErr};
+ghost use Rattle.std.specs.Prelude.{◌≡◌, ℕ, List, IfErr, IfOk};
+ghost use Rattle.ffs_image.specs.declared.file.OpenFault.{OpenFault};
 
 use ffs_image::{Image, OpenFault, RawImage, System};
 
@@ -11,8 +12,8 @@ pub trait Opener {
     /// What is known of an image that was opened under a name.
     ghost opens: { Self → List ℕ → Self.Image → Type 0 };
 
-    /// What is known where no image of a name could be opened.
-    ghost refuses: { Self → List ℕ → Type 0 };
+    /// What is known where no image of a name could be opened, because of a fault.
+    ghost refuses: { Self → List ℕ → OpenFault → Type 0 };
 
     /// Opens the image of this name for reading.
     ///
@@ -20,7 +21,7 @@ pub trait Opener {
     /// The image can't be opened.
     fn open(&self, name: &str) -> Result<Self::Image, OpenFault>
         ensures opened { IfOk result (λ image. opens self.now name.now image) }
-        ensures refused { OnErr result (refuses self.now name.now) };
+        ensures refused { IfErr result (refuses self.now name.now) };
 }
 
 /// Opens the files of a system.
@@ -46,7 +47,7 @@ impl<Y: System> Opener for FileOpener<'_, Y> {
     ghost opens = { λ o name image. IsOpened Y.was_looked_up Y.was_opened Y.File.was_sought
         o.system.now name image.source.file image.source.size };
 
-    ghost refuses = { λ o name. IsUnopened Y.was_looked_up Y.was_opened o.system.now name };
+    ghost refuses = { λ o. IsUnopened Y.was_looked_up Y.was_opened o.system.now };
 
     fn open(&self, name: &str) -> Result<RawImage<Y::File>, OpenFault> {
         RawImage::open(self.system, name)

@@ -5,7 +5,10 @@ use Rattle.std.specs.Result.{result_unwrap_or}
 use Rattle.std.specs.declared.io.Error.{Error}
 use Rattle.std.specs.declared.io.ErrorKind.TheVariants.{Interrupted}
 use Rattle.std.specs.IoError.{error_kind}
+use Rattle.ffs_image.specs.declared.file.OpenFault.{OpenFault}
+use Rattle.ffs_image.specs.declared.file.OpenFault.TheVariants.{Pipe}
 use Rattle.ffs_image.specs.Device.{ForContents}
+use Rattle.ffs_image.specs.Faults.{fault_of}
 
 -- a signal interrupted what has this answer
 abbrev pub IsInterrupted : Result ℕ Error → Type 0
@@ -60,13 +63,19 @@ pub record IsOpened {Y F : Type 0} (was_looked_up : Y → List ℕ → Result Bo
   pub opened : was_opened system name (Ok first)
   pub sized : IsSized was_sought first file size
 
--- no file of a name is opened: it is a FIFO or can't be looked up, or its opening failed
+-- the system answered with an error that means a fault
+pub record IsFaultOf (was_answered : Error → Type 0) (fault : OpenFault) : Type 0 where
+  pub error : Error
+  pub answered : was_answered error
+  pub meaning : fault ≡ fault_of error
+
+-- no file of a name is opened, because of a fault: it is a FIFO or can't be looked up, or its opening failed
 abbrev pub IsUnopened : {Y F : Type 0} → (Y → List ℕ → Result Bool Error → Type 0) → (Y → List ℕ → Result F Error
-    → Type 0) → Y → List ℕ → Type 0
-IsUnopened was_looked_up was_opened system name =
-    was_looked_up system name (Ok true)
-    ⊎ (((error : Error) × was_looked_up system name (Err error))
-    ⊎ ((error : Error) × was_opened system name (Err error)))
+    → Type 0) → Y → List ℕ → OpenFault → Type 0
+IsUnopened was_looked_up was_opened system name fault =
+    (was_looked_up system name (Ok true) × (fault ≡ Pipe))
+    ⊎ (IsFaultOf (λ error. was_looked_up system name (Err error)) fault
+    ⊎ IsFaultOf (λ error. was_opened system name (Err error)) fault)
 
 -- (for the law of a source) what holds of all bytes that are given holds of the bytes, where they are given
 pub if_given : (contents : Option (List ℕ)) (P : List ℕ → Type 0) → ForContents contents P → IfSome contents P

@@ -1,5 +1,6 @@
 //! An image in a file.
-ghost use Rattle.std.specs.Prelude.{◌≡◌, IfOk, OnErr};
+ghost use Rattle.std.specs.Prelude.{◌≡◌, IfOk, IfErr};
+ghost use Rattle.ffs_image.specs.Faults.{fault_of};
 ghost use Rattle.ffs_image.specs.System.{IsOpened, IsUnopened};
 
 use crate::image::{Image, ImageFault};
@@ -7,11 +8,42 @@ use crate::opened::OpenedFile;
 use crate::source::{Source, fill};
 use crate::system::{RawFile, System};
 use std::fs::File;
+use std::io;
+use std::io::ErrorKind;
 
-/// The file can't be opened, or is a FIFO.
+/// Why a file can't be opened.
 #[derive(Clone, Copy, Debug, PartialEq, Eq, thiserror::Error)]
-#[error("the file can't be opened")]
-pub struct OpenFault;
+pub enum OpenFault {
+    /// There is no file of this name.
+    #[error("no such file")]
+    NotFound,
+    /// The system doesn't let this user read it.
+    #[error("permission denied")]
+    Denied,
+    /// It is a FIFO, whose opening would wait for a writer.
+    #[error("it is a pipe")]
+    Pipe,
+    /// The name is too long, or none that a file can have.
+    #[error("no file can have this name")]
+    BadName,
+    /// Something else, such as a device that doesn't answer.
+    #[error("the system can't open it")]
+    Other,
+}
+
+impl OpenFault {
+    /// What an error of the system means.
+    pub(crate) fn of(error: &io::Error) -> OpenFault
+        ensures { result ≡ fault_of error.now }
+    {
+        match error.kind() {
+            ErrorKind::NotFound | ErrorKind::NotADirectory => OpenFault::NotFound,
+            ErrorKind::PermissionDenied => OpenFault::Denied,
+            ErrorKind::InvalidFilename | ErrorKind::InvalidInput => OpenFault::BadName,
+            _ => OpenFault::Other,
+        }
+    }
+}
 
 /// An image whose bytes come from a source. It is never written.
 #[derive(Drop)]
@@ -35,7 +67,8 @@ impl<F: RawFile + Drop> SourceImage<OpenedFile<F>> {
         ensures opened { IfOk result (λ image. IsOpened Y.was_looked_up Y.was_opened F.was_sought
             system.now name.now image.source.file image.source.size) }
         ensures failures { IfOk result (λ image. (image.source.failures ≡ 0) × (image.failed ≡ 0)) }
-        ensures refused { OnErr result (IsUnopened Y.was_looked_up Y.was_opened system.now name.now) }
+        ensures refused { IfErr result (IsUnopened Y.was_looked_up Y.was_opened system.now
+            name.now) }
     {
         let source = OpenedFile::open(system, name)?;
         Ok(SourceImage { source, failed: 0 })

@@ -1,5 +1,5 @@
 //! A file that is open for reading alone.
-ghost use Rattle.std.specs.Prelude.{◌≡◌, ◌↔◌, length, take, IfOk, IsTrue, OnErr};
+ghost use Rattle.std.specs.Prelude.{◌≡◌, ◌↔◌, length, take, IfOk, IsTrue, IfErr};
 ghost use Rattle.std.specs.Io.{ReadsAtMost};
 ghost use Rattle.ffs_image.specs.Device.{ForContents};
 ghost use Rattle.ffs_image.specs.Source.{AreAt, GivesSome};
@@ -66,13 +66,17 @@ impl<F: RawFile + Drop> OpenedFile<F> {
         ensures opened { IfOk result (λ opened. IsOpened Y.was_looked_up Y.was_opened F.was_sought
             system.now name.now opened.file opened.size) }
         ensures failures { IfOk result (λ opened. opened.failures ≡ 0) }
-        ensures refused { OnErr result (IsUnopened Y.was_looked_up Y.was_opened system.now name.now) }
+        ensures refused { IfErr result (IsUnopened Y.was_looked_up Y.was_opened system.now
+            name.now) }
     {
-        let Ok(false) = system.is_fifo(name) else {
-            return Err(OpenFault);
-        };
-        let Ok(mut file) = system.open_to_read(name) else {
-            return Err(OpenFault);
+        match system.is_fifo(name) {
+            Ok(false) => {}
+            Ok(true) => return Err(OpenFault::Pipe),
+            Err(error) => return Err(OpenFault::of(&error)),
+        }
+        let mut file = match system.open_to_read(name) {
+            Ok(file) => file,
+            Err(error) => return Err(OpenFault::of(&error)),
         };
         let size = size_of(&mut file);
         Ok(OpenedFile {

@@ -1,5 +1,5 @@
 -- Lists of which a part is put in order: t has the part, W has it in order, and R comes after both.
-use Rattle.std.proofs.Common.{◌≡◌, ◌≤◌, ◌+◌, ◌-◌, ◌++◌, ℕ, List, arith, ap, sym, ◌∙◌, drop, length, take}
+use Rattle.std.proofs.Common.{◌≡◌, ◌≤◌, ◌+◌, ◌++◌, ℕ, List, arith, ap, sym, ◌∙◌, drop, length, take}
 use Rattle.std.proofs.lemmas.List.{append_assoc, drop_at, drop-append-le, drop-drop, drop-take, length-append}
 use Rattle.std.proofs.lemmas.List.{length-drop, length-take-le, take_all, take-append-le, take-take}
 

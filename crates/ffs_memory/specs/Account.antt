@@ -1,5 +1,7 @@
 -- What a memory granted, and how often it refused.
-use Rattle.std.specs.Prelude.{◌≡◌, ◌+◌, ◌-◌, ◌*◌, ◌^◌, ◌<◌, ◌≤◌, ℕ, min, replicate, vec_len, Result, MatchResult}
+use Rattle.std.specs.Prelude.{◌≡◌, ◌+◌, ◌-◌, ◌*◌, ◌^◌, ◌<◌, ◌≤◌, ℕ, min, [], replicate, vec_capacity, vec_len, Result, MatchResult}
+use Rattle.std.specs.declared.alloc.Global.{Global}
+use Rattle.std.specs.declared.vec.Vec.{Vec}
 use Rattle.ffs_memory.specs.Words.{Words}
 use Rattle.ffs_memory.specs.declared.fixed_list.FixedList.{FixedList}
 
@@ -7,6 +9,10 @@ use Rattle.ffs_memory.specs.declared.fixed_list.FixedList.{FixedList}
 pub record Account : Type 0 where
   pub granted : ℕ
   pub refused : ℕ
+
+-- of which nothing was granted or refused yet
+abbrev pub unused : Account
+unused = record { granted = 0; refused = 0 }
 
 -- a count of refusals rose by one, up to its last value
 abbrev pub Rose : ℕ → ℕ → Type 0
@@ -28,10 +34,11 @@ pub record Refused (old new : Account) : Type 0 where
   pub granted : new.granted ≡ old.granted
   pub rose : Rose old.refused new.refused
 
--- the list has n elements, and each is x
+-- the list has n elements, each is x, and its memory has room for no more
 pub record IsFilled {A : Type 0} (n : ℕ) (x : A) (list : FixedList A) : Type 0 where
   pub items : list.items ≡ replicate n x
   pub len : vec_len list ≡ n
+  pub room : vec_capacity list ≡ n
 
 -- such a list was granted as these bytes
 pub record Given {A : Type 0} (old new : Account) (n bytes : ℕ) (x : A) (list : FixedList A) : Type 0 where
@@ -42,14 +49,26 @@ pub record Given {A : Type 0} (old new : Account) (n bytes : ℕ) (x : A) (list 
 abbrev pub Gives : {A E : Type 0} → Account → Account → ℕ → ℕ → A → Result (FixedList A) E → Type 0
 Gives old new n bytes x result = MatchResult result (Given old new n bytes x) (λ _. Refused old new)
 
--- n words that are 0 until they are set were granted
+-- n words that are 0 until they are set were granted, in memory that has room for no more
 pub record GivenWords (old new : Account) (n : ℕ) (words : Words) : Type 0 where
   pub zeros : words.list ≡ replicate n 0
+  pub room : words.room ≡ n
   pub granted : Granted old new (8 * n)
 
 -- the outcome of one request for such words
 abbrev pub GivesWords : {E : Type 0} → Account → Account → ℕ → Result Words E → Type 0
 GivesWords old new n result = MatchResult result (GivenWords old new n) (λ _. Refused old new)
+
+-- a list with room for n elements of a size and for no more was made, and has none yet; the account rose by that room
+pub record MadeRoom {A : Type 0} (old new : Account) (n size : ℕ) (list : Vec A Global) : Type 0 where
+  pub empty : list.items ≡ []
+  pub len : vec_len list ≡ 0
+  pub room : vec_capacity list ≡ n
+  pub granted : Granted old new (size * n)
+
+-- the outcome of one request for room
+abbrev pub MakesRoom : {A E : Type 0} → Account → Account → ℕ → ℕ → Result (Vec A Global) E → Type 0
+MakesRoom old new n size result = MatchResult result (MadeRoom old new n size) (λ _. Refused old new)
 
 -- the outcome of asking for these bytes, in one request or in several
 abbrev pub Asks : {T E : Type 0} → Account → Account → ℕ → Result T E → Type 0

@@ -1,10 +1,9 @@
 //! Lists that hold one value until another is set.
-ghost use Rattle.std.specs.Prelude.{◌≡◌, ◌<◌, ◌≤◌, IfOk, slice_index_or, vec_len};
+ghost use Rattle.std.specs.Prelude.{◌≡◌, ◌<◌, ◌≤◌, slice_index_or, vec_capacity, vec_len};
 ghost use Rattle.ffs_memory.specs.Account.{IsFilled};
 ghost use Rattle.ffs_memory.specs.Filled.{Sets, Fills, SortsPart};
 
 use crate::touching::touch;
-use std::alloc::{AllocError, Global};
 use std::marker::Model;
 use std::ops::Index;
 
@@ -30,15 +29,15 @@ impl<T> Model for FilledList<T> {
 }
 
 impl<T: Copy> FilledList<T> {
-    /// `count` elements, each the same.
-    pub(crate) fn new(alloc: Global, count: usize, value: T) -> Result<FilledList<T>, AllocError>
-        ensures { IfOk result (IsFilled count value) }
+    /// As many elements, each the same, as an empty list has room for.
+    pub(crate) fn over(room: Vec<T>, value: T) -> FilledList<T>
+        requires { vec_len room ≡ 0 }
+        ensures { IsFilled (vec_capacity room) value result }
     {
-        let touched = Vec::with_capacity(alloc, count)?;
-        Ok(FilledList {
-            touched,
+        FilledList {
+            touched: room,
             rest: value,
-        })
+        }
     }
 
     /// How many elements it has.

@@ -14,6 +14,7 @@
 //! It rests on no other crate of this repository.
 #![tactic(auto)]
 
+mod counted;
 mod filled_list;
 mod fixed_list;
 mod fuse;

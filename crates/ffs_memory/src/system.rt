@@ -1,68 +1,53 @@
 //! The memory of the system.
-ghost use Rattle.std.specs.Prelude.{◌≡◌, ◌+◌, ◌-◌, ◌*◌, ◌^◌, min};
+ghost use Rattle.std.specs.Prelude.{◌≡◌, ◌*◌};
+ghost use Rattle.std.specs.Mem.{type_size};
+ghost use Rattle.ffs_memory.specs.Account.{Gives, unused};
 
+use crate::counted::CountedAllocator;
 use crate::filled_list::FilledList;
 use crate::fixed_list::FixedList;
 use crate::memory::Memory;
+use crate::touching::touch;
 use crate::zeroed_words::ZeroedWords;
 use std::alloc::{AllocError, Global};
 
-/// The memory of an allocator.
+/// The memory of an allocator. It takes room for what it grants, and none beside.
 #[derive(Drop)]
 pub struct SystemMemory {
-    alloc: Global,
-    granted: u64,
-    refused: u64,
+    allocator: CountedAllocator,
 }
 
 impl SystemMemory {
-    ghost use Rattle.ffs_memory.specs.Account.{Gives};
     ghost use Rattle.ffs_memory.specs.System.{account_of};
 
     /// The memory of this allocator, of which nothing was granted or refused yet.
     pub fn new(alloc: Global) -> SystemMemory
-        ensures { result ≡ record { alloc = alloc; granted = 0; refused = 0 } }
+        ensures { account_of result ≡ unused }
     {
         SystemMemory {
-            alloc,
-            granted: 0,
-            refused: 0,
+            allocator: CountedAllocator::new(alloc),
         }
     }
 
-    // Counts a request of so many bytes that was granted.
-    fn grant(&mut self, bytes: u64)
-        ensures { self.new
-            ≡ record self.old { granted = min (self.old.granted + bytes) (2 ^ 64 - 1) } }
+    // So many elements, each the same, which are written.
+    fn written<T: Copy>(&mut self, n: usize, value: T) -> Result<FixedList<T>, AllocError>
+        ensures { Gives (account_of self.old) (account_of self.new) n (type_size T.row * n) value
+            result }
     {
-        self.granted = self.granted.saturating_add(bytes);
-    }
-
-    // Counts a request that was refused.
-    fn refuse(&mut self, fault: AllocError) -> AllocError
-        ensures { self.new
-            ≡ record self.old { refused = min (self.old.refused + 1) (2 ^ 64 - 1) } }
-    {
-        self.refused = self.refused.saturating_add(1);
-        fault
-    }
-
-    // So many elements of so many bytes, each the same.
-    fn filled<T: Copy>(
-        &mut self,
-        n: usize,
-        size: u64,
-        value: T,
-    ) -> Result<FilledList<T>, AllocError>
-        ensures { Gives (account_of self.old) (account_of self.new) n (size * n) value result }
-    {
-        match FilledList::new(self.alloc, n, value) {
-            Ok(list) => {
-                self.grant(size.saturating_mul(n as u64));
-                Ok(list)
-            }
-            Err(fault) => Err(self.refuse(fault)),
+        let mut items = self.allocator.room_for(n, value)?;
+        if n > 0 {
+            touch(&mut items, n - 1, value);
         }
+        Ok(FixedList::new(items))
+    }
+
+    // So many elements, each the same, of which none is written yet.
+    fn unwritten<T: Copy>(&mut self, n: usize, value: T) -> Result<FilledList<T>, AllocError>
+        ensures { Gives (account_of self.old) (account_of self.new) n (type_size T.row * n) value
+            result }
+    {
+        let room = self.allocator.room_for(n, value)?;
+        Ok(FilledList::over(room, value))
     }
 }
 
@@ -72,50 +57,31 @@ impl Memory for SystemMemory {
     ghost account = { account_of };
 
     fn granted(&self) -> u64 {
-        self.granted
+        self.allocator.granted()
     }
 
     fn refused(&self) -> u64 {
-        self.refused
+        self.allocator.refused()
     }
 
     fn bytes(&mut self, n: usize) -> Result<FixedList<u8>, AllocError> {
-        let made: Result<Vec<u8>, AllocError> = vec![in self.alloc; 0u8; n];
-        match made {
-            Ok(items) => {
-                self.grant(n as u64);
-                Ok(FixedList::new(items))
-            }
-            Err(fault) => Err(self.refuse(fault)),
-        }
+        self.written(n, 0)
     }
 
     fn flags(&mut self, n: usize) -> Result<FixedList<bool>, AllocError> {
-        let made: Result<Vec<bool>, AllocError> = vec![in self.alloc; false; n];
-        match made {
-            Ok(items) => {
-                self.grant(n as u64);
-                Ok(FixedList::new(items))
-            }
-            Err(fault) => Err(self.refuse(fault)),
-        }
+        self.written(n, false)
     }
 
     fn numbers(&mut self, n: usize) -> Result<FilledList<u32>, AllocError> {
-        self.filled(n, 4, 0)
+        self.unwritten(n, 0)
     }
 
     fn long_numbers(&mut self, n: usize) -> Result<FilledList<u64>, AllocError> {
-        self.filled(n, 8, 0)
+        self.unwritten(n, 0)
     }
 
     fn zeroed_words(&mut self, n: usize) -> Result<ZeroedWords, AllocError> {
-        match ZeroedWords::new(self.alloc, n) {
-            Ok(words) => {
-                self.grant(8u64.saturating_mul(n as u64));
-                Ok(words)
-            }
-            Err(fault) => Err(self.refuse(fault)),
-        }
+        let room = self.allocator.room_for(n, 0u64)?;
+        Ok(ZeroedWords::over(room, n))
     }
 }

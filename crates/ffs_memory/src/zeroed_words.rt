@@ -1,10 +1,9 @@
 //! Words that are 0 until they are set.
-ghost use Rattle.std.specs.Prelude.{ℕ, ◌≡◌, ◌<◌, ◌≤◌, IfOk, length, replicate, slice_set};
+ghost use Rattle.std.specs.Prelude.{ℕ, ◌≡◌, ◌<◌, ◌≤◌, [], length, replicate, slice_set, vec_capacity};
 ghost use Rattle.std.specs.List.{slice_index_or};
 ghost use Rattle.ffs_memory.specs.Words.{ClaimsBits};
 
 use crate::touching::touch;
-use std::alloc::{AllocError, Global};
 use std::marker::Model;
 
 /// Words of 64 bits that are 0 until they are set. Their memory is taken when they are made; what
@@ -35,12 +34,17 @@ impl Model for ZeroedWords {
 }
 
 impl ZeroedWords {
-    /// `count` words, each 0.
-    pub(crate) fn new(alloc: Global, count: usize) -> Result<ZeroedWords, AllocError>
-        ensures { IfOk result (λ made. made.list ≡ replicate count 0) }
+    /// `count` words, each 0, in a list that is empty yet and has room for them.
+    pub(crate) fn over(room: Vec<u64>, count: usize) -> ZeroedWords
+        requires empty { room.items ≡ [] }
+        requires enough { count ≤ vec_capacity room }
+        ensures words { result.list ≡ replicate count 0 }
+        ensures room { result.room ≡ vec_capacity room }
     {
-        let touched = Vec::with_capacity(alloc, count)?;
-        Ok(ZeroedWords { touched, count })
+        ZeroedWords {
+            touched: room,
+            count,
+        }
     }
 
     /// How many words there are.

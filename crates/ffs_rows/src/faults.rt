@@ -1,4 +1,4 @@
-//! Each read and each write of a check fails in turn.
+//! Each read and each write of a check fails in turn, and the last flush of a run.
 
 use crate::Tally;
 use crate::row::Row;
@@ -8,6 +8,7 @@ use ffs_image::{FuseImage, Image};
 use ffs_report::{Counted, FuseWriter};
 use ffs_volume::{End, SuperFault};
 use std::io;
+use std::io::{ErrorKind, Write};
 
 // The rows over which each read and each write fails in turn.
 const ROWS: [&str; 4] = [
@@ -36,6 +37,7 @@ pub fn compare(rt: &HostRuntime, tally: &mut Tally) -> io::Result<()> {
         let row = Row::read(rt, line)?;
         fail_reads(rt, &row, tally)?;
         fail_writes(rt, &row, tally)?;
+        fail_flush(rt, &row, tally)?;
     }
     for line in TREES {
         let row = Row::read(rt, line)?;
@@ -106,4 +108,30 @@ fn fail_writes(rt: &HostRuntime, row: &Row, tally: &mut Tally) -> io::Result<()>
         tally.count(rt, row.name.as_str(), "a write fails", agrees)?;
     }
     Ok(())
+}
+
+// A writer that takes all bytes, and whose flush fails.
+#[derive(Drop)]
+struct Unflushed {
+    text: Vec<u8>,
+}
+
+impl Write for Unflushed {
+    fn write(&mut self, buf: &[u8]) -> io::Result<usize> {
+        self.text.write(buf)
+    }
+
+    fn flush(&mut self) -> io::Result<()> {
+        Err(io::Error::from(ErrorKind::Other))
+    }
+}
+
+// Of a run in a file the last flush alone fails.
+fn fail_flush(rt: &HostRuntime, row: &Row, tally: &mut Tally) -> io::Result<()> {
+    let mut out = Unflushed {
+        text: Vec::new(rt.alloc()),
+    };
+    let status = row.run_over_file(rt, &mut out)?;
+    let agrees = status == 8 && out.text == row.report;
+    tally.count(rt, row.name.as_str(), "the flush fails", agrees)
 }

@@ -8,6 +8,7 @@ use ffs_image::{Image, MemoryImage};
 use ffs_report::Counted;
 use ffs_volume::End;
 use std::alloc::{AllocError, Global};
+use std::io::Write;
 use std::{fs, io};
 
 /// An image, what a check of it is asked, and what it must print, and its status.
@@ -70,20 +71,22 @@ impl Row {
         (end, text)
     }
 
-    // The status of the program's run over the row's image in a file, and what it prints.
-    fn run_over_file(&self, rt: &HostRuntime) -> io::Result<(u8, Vec<u8>)> {
+    /// The status of the program's run over the row's image in a file, which prints to `out`.
+    ///
+    /// # Errors
+    /// The file can't be written, and want of memory.
+    pub fn run_over_file<S: Write>(&self, rt: &HostRuntime, out: &mut S) -> io::Result<u8> {
         fs::write(rt, "t.img", self.image.as_slice())?;
-        let mut text = Vec::new(rt.alloc());
         let mut errors = Vec::new(rt.alloc());
         let status = match self.sector {
-            None => run(rt, rt.alloc(), &["-n", "t.img"], &mut text, &mut errors),
+            None => run(rt, rt.alloc(), &["-n", "t.img"], out, &mut errors),
             Some(sector) => {
                 let sector = format!(in rt.alloc(); "{sector}")?;
                 let words = ["-n", "-b", sector.as_str(), "t.img"];
-                run(rt, rt.alloc(), &words, &mut text, &mut errors)
+                run(rt, rt.alloc(), &words, out, &mut errors)
             }
         };
-        Ok((status, text))
+        Ok(status)
     }
 
     /// Compares the row with a check of its image in memory, and with a run over it in a file.
@@ -95,7 +98,8 @@ impl Row {
         let (end, text) = self.checked(rt.alloc(), &mut self.in_memory(rt.alloc())?);
         let agrees = end.status() == self.status && text == self.report;
         tally.count(rt, name, "in memory", agrees)?;
-        let (status, text) = self.run_over_file(rt)?;
+        let mut text = Vec::new(rt.alloc());
+        let status = self.run_over_file(rt, &mut text)?;
         let agrees = status == self.status && text == self.report;
         tally.count(rt, name, "in a file", agrees)
     }

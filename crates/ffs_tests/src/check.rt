@@ -149,37 +149,65 @@ fn statuses(rt: HostRuntime) -> Result<(), Fail> {
     Ok(())
 }
 
+// What a run of these words prints to its errors. Nothing else is printed, and its status is 2.
+fn complaint(rt: &HostRuntime, words: &[&str]) -> Vec<u8> {
+    let mut out = Vec::new(rt.alloc());
+    let mut errors = Vec::new(rt.alloc());
+    assert_eq!(rt; run(rt, rt.alloc(), words, &mut out, &mut errors), 2);
+    assert!(rt; out.is_empty());
+    errors
+}
+
 #[test]
 fn wrong_words(rt: HostRuntime) -> Result<(), Fail> {
-    let cases: [&[&str]; 5] = [
-        &["t.img"],
-        &["-n", "-b", "0", "t.img"],
-        &["-n", "a", "b"],
-        &["-n", "-b", "4194304", "t.img"],
-        &["--help"],
+    let cases: [(&[&str], &[u8]); 7] = [
+        (&["t.img"], b"error: -n and an image are needed\n\nUsage"),
+        (
+            &["-n", "-b", "0", "t.img"],
+            b"error: a sector is 1 to 4194303\n\nUsage",
+        ),
+        (
+            &["-n", "-b", "4194304", "t.img"],
+            b"error: a sector is 1 to 4194303\n\nUsage",
+        ),
+        (&["-y", "t.img"], b"error: this program never repairs, so"),
+        (
+            &["-n", "-fp", "t.img"],
+            b"error: this program never repairs, so",
+        ),
+        (
+            &["-n", "a", "b"],
+            b"error: unexpected argument 'b' found\n\nUsage",
+        ),
+        (
+            &["--help"],
+            b"Checks an image of a Berkeley fast file system",
+        ),
     ];
-    for words in cases {
-        let mut out = Vec::new(rt.alloc());
-        let mut errors = Vec::new(rt.alloc());
-        assert_eq!(rt; run(&rt, rt.alloc(), words, &mut out, &mut errors), 2);
-        assert!(rt; out.is_empty() && !errors.is_empty());
+    for (words, start) in cases {
+        let errors = complaint(&rt, words);
+        assert!(rt; errors.as_slice().starts_with(start));
     }
+    assert!(rt;
+        complaint(&rt, &["--version"])
+            .as_slice()
+            .starts_with(b"fsck_ffs ")
+    );
     Ok(())
 }
 
+// Words for which clap needs more memory than for two.
 #[test]
 fn no_such_file(rt: HostRuntime) -> Result<(), Fail> {
     let mut out = Vec::new(rt.alloc());
     let mut errors = Vec::new(rt.alloc());
-    let status = run(
-        &rt,
-        rt.alloc(),
-        &["-N", "-b", "32", "missing.img"],
-        &mut out,
-        &mut errors,
-    );
-    assert_eq!(rt; status, 8);
+    let words = ["-N", "-nn", "-b", "32", "-N", "missing.img"];
+    assert_eq!(rt; run(&rt, rt.alloc(), &words, &mut out, &mut errors), 8);
     assert_eq!(rt; out.as_slice(), b"Can't open missing.img\n".as_slice());
+    assert_eq!(rt;
+        errors.as_slice(),
+        b"error: the image can't be opened: no such file\n".as_slice()
+    );
     Ok(())
 }
 

@@ -9,7 +9,7 @@ use ffs_image::MemoryImage;
 use ffs_layout::Order;
 use ffs_memory::{FilledList, FuseMemory, Memory, SystemMemory};
 use ffs_report::Counted;
-use ffs_samples::base;
+use ffs_samples::{base, put, put_super};
 use ffs_volume::End;
 use std::alloc::{AllocError, Global};
 use std::test::Fail;
@@ -44,6 +44,55 @@ fn each_request_refused(rt: HostRuntime) -> Result<(), Fail> {
         assert_eq!(rt; memory.refused(), 1);
         assert!(rt; memory.granted() < HELD);
     }
+    Ok(())
+}
+
+// A volume of one group with more inodes than 16 bits can count: its fragments, its inodes, and where its data begins.
+const FRAGMENTS: u64 = 8320;
+
+const INODES: u64 = 65568;
+
+const DATA: u64 = 8224;
+
+// Two maps of 130 words, 25 bytes for each inode, and six blocks.
+const MANY_HELD: u64 = 2 * 8 * 130 + 25 * INODES + 6 * 4096;
+
+const NO_ROOT: &[u8] = b"** Phase 2 - Check Pathnames\nROOT INODE UNALLOCATED\nALLOCATE? no\n\n";
+
+// The image of that volume, whose inodes are all free.
+fn many_inodes(alloc: Global) -> Result<MemoryImage, AllocError> {
+    let mut bytes = vec![in alloc; 0u8; 8519680]?;
+    for at in [8192, 16384] {
+        put_super(Order::Little, bytes.as_mut_slice(), at);
+        let numbers = [
+            (at + 20, 4, DATA),
+            (at + 36, 4, FRAGMENTS),
+            (at + 152, 4, DATA),
+            (at + 184, 4, INODES),
+            (at + 188, 4, FRAGMENTS),
+        ];
+        put(Order::Little, bytes.as_mut_slice(), &numbers);
+    }
+    Ok(MemoryImage::new(bytes))
+}
+
+#[test]
+fn more_inodes_than_16_bits(rt: HostRuntime) -> Result<(), Fail> {
+    let args = Args {
+        name: "t.img",
+        sector: None,
+    };
+    let mut memory = SystemMemory::new(rt.alloc());
+    let mut image = many_inodes(rt.alloc())?;
+    let mut text = Vec::new(rt.alloc());
+    let end = check_in(&mut memory, &mut image, &args, &mut Counted::new(&mut text));
+    assert_eq!(rt; end, End::RootStop);
+    assert!(rt; text.as_slice().ends_with(NO_ROOT));
+    assert_eq!(rt; memory.granted(), MANY_HELD);
+    assert_eq!(rt; memory.refused(), 0);
+    let mut list = memory.numbers(INODES as usize)?;
+    list.set(INODES as usize - 1, 7);
+    assert_eq!(rt; (list[0], list[INODES as usize - 1]), (0, 7));
     Ok(())
 }
 

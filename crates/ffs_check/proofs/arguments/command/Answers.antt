@@ -6,8 +6,8 @@ use Rattle.ffs_check.proofs.arguments.command.Goals as goal
 
 pub returns : goal.returns
 returns c =
-    let bare_is : app_of c.after_help.result ≡ unnamed =
-    rw (c.after_help.ensures, c.about.ensures, c.version.ensures, c.no_binary_name.ensures)
+    let bare_is : app_of c.version.result ≡ unnamed =
+    rw (c.version.ensures, c.no_binary_name.ensures)
     (ap (λ (a : App). record a { top = record a.top { no_binary_name = true; has_version = true } })
     c.new.ensures.app) in
     c.in_ok-arg-3.ensures.shape c.image_argument.ensures.local

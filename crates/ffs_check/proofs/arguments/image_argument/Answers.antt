@@ -5,5 +5,5 @@ use Rattle.clap.specs.declared.builder.ArgAction.TheVariants.{Set}
 use Rattle.ffs_check.proofs.arguments.image_argument.Goals as goal
 
 pub returns-clause-rule : goal.returns-clause-rule
-returns-clause-rule c = rw (c.action.ensures, c.required.ensures, c.help.ensures)
+returns-clause-rule c = rw (c.action.ensures, c.required.ensures)
     (ap (λ (r : Rule). record r { action = Some Set; required = true }) c.new.ensures.rule)

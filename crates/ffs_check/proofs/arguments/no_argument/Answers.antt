@@ -12,10 +12,10 @@ returns-clause-rule c =
     rw (c.short.ensures) (ap (λ (r : Rule). record r { short = Some 110 }) c.new.ensures.rule) in
     let letter_is = lettered c.short.result c.in_ok-visible_short_alias.field-0 78 c.in_ok-visible_short_alias.ensures
     ∙ ap (λ (r : Rule). record r { short_aliases = r.short_aliases ++ 78 ∷ [] }) short_is in
-    rw (c.action.ensures, c.required.ensures, c.help.ensures)
+    rw (c.action.ensures, c.required.ensures)
     (ap (λ (r : Rule). record r { action = Some Count; required = true }) letter_is)
 
 pub returns-clause-local : goal.returns-clause-local
-returns-clause-local c = rw (c.action.ensures, c.required.ensures, c.help.ensures)
+returns-clause-local c = rw (c.action.ensures, c.required.ensures)
     (ap (λ (a : Arg). a.global) c.in_ok-visible_short_alias.ensures.0
     ∙ rw (c.short.ensures) c.new.ensures.optional.1)

@@ -13,7 +13,7 @@ returns-clause-rule c =
     let given = c.value_parser-2.ensures.given in
     let unparsed_is : rule_of c.action.result ≡ record (new_rule (codes "sector"))
     { short = Some 98; value_names = 1; action = Some Set } =
-    rw (c.action.ensures, c.help.ensures, c.value_name.ensures, c.short.ensures)
+    rw (c.action.ensures, c.value_name.ensures, c.short.ensures)
     (ap (λ (r : Rule). record r { short = Some 98; value_names = 1; action = Some Set }) c.new.ensures.rule) in
     parsed c.action.result c.value_parser-2.result (Signed (pos 1) (pos 4194303))
     c.value_parser-2.ensures.others (given.1 ∙ ap Some (given.2 ∙ made))
@@ -21,4 +21,4 @@ returns-clause-rule c =
 
 pub returns-clause-local : goal.returns-clause-local
 returns-clause-local c = ap (λ (a : Arg). a.global) c.value_parser-2.ensures.others
-    ∙ rw (c.action.ensures, c.help.ensures, c.value_name.ensures, c.short.ensures) c.new.ensures.optional.1
+    ∙ rw (c.action.ensures, c.value_name.ensures, c.short.ensures) c.new.ensures.optional.1

@@ -1,0 +1,28 @@
+use Rattle.std.proofs.Common.{◌≡◌, ◌∙◌, ap, sym, map, true, Ok, Err, List, Result}
+use Rattle.std.specs.Prelude.{IfOk, MatchResult}
+use Rattle.clap.specs.Words.{App, FailsBy, HasMatchesOf, Text, app_of, fault_of, is_simple, is_simple_and_free, matches_of}
+use Rattle.clap.specs.declared.error.Error.{Error}
+use Rattle.clap.specs.declared.parser.matches.ArgMatches.{ArgMatches}
+use Rattle.ffs_check.proofs.Asked.{free, memory_alone, simple}
+use Rattle.ffs_check.specs.Words.{AreRefusedBy, HasMatches, LacksMemory, program}
+use Rattle.ffs_check.proofs.arguments.matches_of.Goals as goal
+
+-- what `clap` answers of a program says so of these words
+answered : (a : App) (words : List Text) (r : Result ArgMatches Error) → a ≡ program →
+    (is_simple_and_free a ≡ true → FailsBy (fault_of a words) r) → IfOk r (HasMatchesOf a words) →
+    MatchResult r (HasMatches words) (AreRefusedBy words)
+unfolding LacksMemory
+answered a words (Ok m) is kinds matches = record {
+  taken = ap (λ (x : App). fault_of x words) (sym is) ∙ kinds (ap is_simple_and_free is ∙ free);
+  rows = (matches (ap is_simple is ∙ simple)).0 ∙ ap (λ (x : App). matches_of x words) is;
+}
+answered a words (Err e) is kinds matches = record {
+  cause = λ none. memory_alone (fault_of a words) e (ap (λ (x : App). fault_of x words) is ∙ none)
+      (kinds (ap is_simple_and_free is ∙ free));
+  memory = λ asked. tt;
+}
+
+pub returns : goal.returns
+returns c = answered (app_of c.in_ok-command.field-0) (map (λ word. word.now) c.args.words.now)
+    c.try_get_matches_from.result c.in_ok-command.ensures c.try_get_matches_from.ensures.kinds
+    c.try_get_matches_from.ensures.matches

@@ -1,0 +1,71 @@
+//! An allocator whose requests are counted.
+ghost use Rattle.std.specs.Prelude.{◌≡◌};
+ghost use Rattle.std.specs.Mem.{type_size};
+ghost use Rattle.ffs_memory.specs.Account.{MakesRoom, unused};
+ghost use Rattle.ffs_memory.specs.System.{counted};
+
+use std::alloc::{AllocError, Global};
+
+/// An allocator that counts the bytes that it gave and the requests that it refused. Who has one
+/// can only ask it for room for a list: it gives out no allocator.
+#[derive(Drop)]
+pub(crate) struct CountedAllocator {
+    alloc: Global,
+    granted: u64,
+    refused: u64,
+}
+
+impl CountedAllocator {
+    /// This allocator, of which nothing was asked yet.
+    #[tactic(auto, unfolding(crate::specs::System::counted))]
+    pub(crate) fn new(alloc: Global) -> CountedAllocator
+        ensures { counted result ≡ unused }
+    {
+        CountedAllocator {
+            alloc,
+            granted: 0,
+            refused: 0,
+        }
+    }
+
+    /// How many bytes it gave. The count stops at the greatest u64.
+    #[tactic(auto, unfolding(crate::specs::System::counted))]
+    pub(crate) fn granted(&self) -> u64
+        ensures { result ≡ (counted self.now).granted }
+    {
+        self.granted
+    }
+
+    /// How many requests it refused. The count stops at the greatest u64.
+    #[tactic(auto, unfolding(crate::specs::System::counted))]
+    pub(crate) fn refused(&self) -> u64
+        ensures { result ≡ (counted self.now).refused }
+    {
+        self.refused
+    }
+
+    /// An empty list with room for just `count` elements like this one: one request.
+    ///
+    /// # Errors
+    /// The memory was refused.
+    #[tactic(auto, unfolding(crate::specs::System::counted))]
+    pub(crate) fn room_for<T: Copy>(
+        &mut self,
+        count: usize,
+        element: T,
+    ) -> Result<Vec<T>, AllocError>
+        ensures { MakesRoom (counted self.old) (counted self.new) count (type_size T.row) result }
+    {
+        match Vec::with_capacity(self.alloc, count) {
+            Ok(room) => {
+                let bytes = (size_of_val(&element) as u64).saturating_mul(room.capacity() as u64);
+                self.granted = self.granted.saturating_add(bytes);
+                Ok(room)
+            }
+            Err(fault) => {
+                self.refused = self.refused.saturating_add(1);
+                Err(fault)
+            }
+        }
+    }
+}
