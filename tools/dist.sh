@@ -1,44 +1,105 @@
-# What the launcher and the scripts around dist/ share. It is sourced, with `top` set to the repository's top.
+# shellcheck shell=sh
+# What the launcher and the scripts around dist/ share. It is sourced by POSIX shells, with `top` set to the repository's top.
 #
 # dist/fsck_ffs     the program for x86-64 Linux, as the kit's linker made it, without its symbols
 # dist/SHA256SUMS   its digest, as sha256sum -c reads it
-# dist/BUILT_FROM   the digest of the sources that it was built from, and the kit that built it
+# dist/BUILT_FROM   the digest of the sources that it was built from, what its --version prints, and the kit that built it
 
+# shellcheck disable=SC2154
 built=$top/crates/fsck_ffs/out/fsck_ffs
 kept=$top/dist/fsck_ffs
+version_file=crates/ffs_check/src/version.rt
+needs="x86-64 Linux with glibc 2.34 or newer"
 
-# The files that the program's bytes come from, besides the kit: crates.txt and each file of Rattle. Definitions and proofs
-# (.antt) leave no trace in a program, so they aren't among them.
-source_files() {
-    (cd "$top" && find crates.txt crates -name out -prune -o -type f \( -name '*.rt' -o -path crates.txt \) -print0)
+# Says one line on standard error.
+say() {
+    echo "fsck_ffs: $1" >&2
 }
 
-# The digest of the sources: SHA-256 of the lines that sha256sum prints of these files, in the order of their names' bytes.
+# The files that the program's bytes come from, besides the kit: crates.txt and each file of Rattle. Definitions and proofs
+# (.antt) leave no trace in a program, so they aren't among them. The file of the version is looked at by itself.
+source_files() {
+    (cd "$top" && find crates.txt crates -name out -prune -o -type f \( -name '*.rt' -o -path crates.txt \) ! -path "$version_file" -print0)
+}
+
+# The text that --version prints after the program's name, as the sources have it: the version, and the first digits of the
+# sources' digest.
+version_text() {
+    sed -n 's/^pub const VERSION: &str = "\(.*\)";$/\1/p' "$top/$version_file" 2>/dev/null
+}
+
+# The digest of the sources: SHA-256 of the lines that sha256sum prints of these files, in the order of their names' bytes, and of
+# the file of the version without the line that holds this digest's first digits.
 source_digest() {
-    source_files | LC_ALL=C sort -z | (cd "$top" && xargs -0 sha256sum) | sha256sum | cut -d ' ' -f 1
+    {
+        source_files | LC_ALL=C sort -z | (cd "$top" && xargs -0 sha256sum)
+        if [ -f "$top/$version_file" ]; then
+            grep -v '^pub const VERSION: &str = "' "$top/$version_file" | sha256sum
+        fi
+    } | sha256sum | cut -d ' ' -f 1
+}
+
+# The first digits of a digest, as --version shows them.
+first_digits() {
+    echo "$1" | cut -c 1-12
 }
 
 # Whether a program was built here, and no source is newer.
 is_built() {
     [ -x "$built" ] && [ -z "$(find "$top/crates.txt" "$top/crates" -name out -prune -o -type f \
-        \( -name '*.rt' -o -name crates.txt \) -newer "$built" -print -quit)" ]
+        \( -name '*.rt' -o -name crates.txt \) -newer "$built" -print | head -n 1)" ]
 }
 
-# A field of dist/BUILT_FROM: sources or kit.
+# A field of dist/BUILT_FROM: sources, version or kit.
 built_from() {
     sed -n "s/^$1 //p" "$top/dist/BUILT_FROM" 2>/dev/null
 }
 
-# Whether dist/ holds the program of these sources, and it runs here.
+# Whether the system and the processor are those that the program is built for.
+is_built_for_here() {
+    [ "$(uname -sm)" = "Linux x86_64" ]
+}
+
+# Whether dist/ holds the program of these sources.
 is_kept() {
-    [ -x "$kept" ] && [ "$(uname -sm)" = "Linux x86_64" ] && [ "$(built_from sources)" = "$(source_digest)" ]
+    [ -f "$kept" ] && [ "$(built_from sources)" = "$(source_digest)" ] && [ "$(built_from version)" = "$(version_text)" ]
+}
+
+# Whether a program runs here: its --version prints its name. Where it doesn't, one line says why.
+runs_here() {
+    printed=$("$1" --version 2>&1 </dev/null)
+    case $printed in
+    "fsck_ffs "*) return 0 ;;
+    esac
+    why=$(echo "$printed" | sed -n '/./{s/^.*: //;p;q;}')
+    case $why in
+    "not found" | *"file not found") [ ! -f "$1" ] || why="its loader /lib64/ld-linux-x86-64.so.2 isn't there" ;;
+    esac
+    say "$1 can't be run here: ${why:-it printed nothing} (it needs $needs)"
+    return 1
 }
 
 # Writes a program without its symbols, by the kit's own tool, so that every host makes the same bytes. The words: from, to.
 strip_program() {
-    local kit
     kit=$(dirname "$(dirname "$(readlink -f "$(command -v rt)")")")
-    (exec -a llvm-strip "$kit/toolchain/bin/clang" --strip-all -o "$2" "$1")
+    tool=$(mktemp -d)
+    ln -s "$kit/toolchain/bin/clang" "$tool/llvm-strip"
+    "$tool/llvm-strip" --strip-all -o "$2" "$1"
+    stripped=$?
+    rm -rf "$tool"
+    return "$stripped"
+}
+
+# Runs a program over the examples, and prints a line for each whose report or status isn't the one kept beside it.
+wrong_examples() {
+    report=$(mktemp)
+    while read -r name status; do
+        ended=0
+        (cd "$top" && "$1" -n "examples/$name.img") >"$report" || ended=$?
+        [ "$ended" = "$status" ] || echo "$name: status $ended, expected $status"
+        cmp -s "$report" "$top/examples/$name.report" || echo "$name: another report than examples/$name.report"
+    done <"$top/examples/statuses"
+    rm -f "$report"
 }
 
 # The program's crate and the libraries below it, one a line.
@@ -61,25 +122,25 @@ stop_build() {
     kill "$running" 2>/dev/null
     wait
     rm -f "$tree/crates/fsck_ffs/out/fsck_ffs"
-    echo "fsck_ffs: the build was stopped; the next one goes on with what is proved" >&2
+    say "the build was stopped; the next one goes on with what is proved"
     exit 8
 }
 
 # How many crates are checked at a time: one for each processor, where each has 4 GB of memory.
 crates_at_once() {
-    local by_memory
     by_memory=$(($(sed -n 's/^MemAvailable: *\([0-9]*\) kB/\1/p' /proc/meminfo) / 4000000))
     echo "$by_memory $(nproc)" | awk '{ n = $1 < $2 ? $1 : $2; print n < 1 ? 1 : n }'
 }
 
-# Waits for the command that runs, and says how many crates are done each time that it is one more. It returns the command's status.
+# Waits for the command that runs, and says how many crates are done each time that it is one more. It returns the command's
+# status. The words: how many there are, the log.
 wait_for() {
-    local total=$1 log=$2 shown=0 done
+    shown=0
     while kill -0 "$running" 2>/dev/null; do
-        done=$(grep -c '^== [a-z]' "$log")
-        if [ "$done" -gt "$shown" ] && [ "$done" -le "$total" ]; then
-            shown=$done
-            echo "fsck_ffs: crate $done of $total is done, after $((SECONDS / 60)) minutes" >&2
+        crates_done=$(grep -c '^== [a-z]' "$2")
+        if [ "$crates_done" -gt "$shown" ] && [ "$crates_done" -le "$1" ]; then
+            shown=$crates_done
+            say "crate $crates_done of $1 is done, after $((($(date +%s) - began) / 60)) minutes"
         fi
         sleep 1
     done
@@ -89,17 +150,18 @@ wait_for() {
 # Proves and builds the program of a tree, several crates at a time, each after those below it. The words: the tree's top, the log.
 build() {
     tree=$1
-    local log=$2 total at_once
+    log=$2
+    began=$(date +%s)
     total=$(crates_below fsck_ffs | wc -l)
     at_once=$(crates_at_once)
-    echo "fsck_ffs: proving and building $total crates, $at_once at a time; this takes minutes" >&2
+    say "proving and building $total crates, $at_once at a time; this takes minutes"
     rm -f "$tree/crates/fsck_ffs/out/fsck_ffs"
     : >"$log"
     (cd "$tree/crates/fsck_ffs" && exec rt all check --jobs "$at_once") >>"$log" 2>&1 </dev/null &
     running=$!
     trap stop_build INT TERM HUP
     if wait_for "$total" "$log"; then
-        echo "fsck_ffs: all crates are proved; now the program is linked" >&2
+        say "all crates are proved; now the program is linked"
         # The run that ends a build is given no image: it opens nothing, and what it prints goes to the log.
         (cd "$tree/crates/fsck_ffs" && exec rt run -- --help) >>"$log" 2>&1 </dev/null &
         running=$!
@@ -110,22 +172,27 @@ build() {
 }
 
 # Sets `program` to the program of these sources: the one that was built here where no source is newer, else the one of dist/ where
-# it is of these sources. Else it is proved and built first, with Rattle's command rt.
+# it is of these sources. Else it is proved and built first, with Rattle's command rt. Where there is none that runs here, one line
+# says why.
 find_program() {
-    if is_built; then
+    if ! is_built_for_here; then
+        say "the program is built for $needs, and this is $(uname -sm)"
+        return 1
+    elif is_built; then
         program=$built
     elif is_kept; then
         program=$kept
     elif ! command -v rt >/dev/null; then
-        echo "fsck_ffs: dist/ has no program of these sources, and Rattle's command rt, which builds one, isn't there" >&2
+        say "dist/ has no program of these sources, and Rattle's command rt, which builds one, isn't there"
         return 1
     else
-        local log=$top/crates/fsck_ffs/out/build.log
-        mkdir -p "$(dirname "$log")"
-        if ! build "$top" "$log" || ! is_built; then
-            echo "fsck_ffs: there is no program: see $log, or run rt check in $top/crates/fsck_ffs" >&2
+        build_log=$top/crates/fsck_ffs/out/build.log
+        mkdir -p "$(dirname "$build_log")"
+        if ! build "$top" "$build_log" || ! is_built; then
+            say "there is no program: see $build_log, or run rt check in $top/crates/fsck_ffs"
             return 1
         fi
         program=$built
     fi
+    runs_here "$program"
 }

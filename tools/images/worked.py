@@ -188,6 +188,15 @@ def _(v):
     v.book()
 
 
+@image("indirect_zeroed", "an indirect block of zeros, as a hole of a copy is: the maps still mark the three blocks that it named")
+def _(v):
+    v.regular(3, size=61440, direct=range(40, 88, 4), single=88, blocks=128)
+    v.words(88, [92, 96, 100])
+    v.root((3, 8, b"a"))
+    v.book()
+    v.words(88, [0, 0, 0])
+
+
 # --- directories ---
 
 @image("root_unallocated", "inode 2 is all zero")
@@ -223,6 +232,15 @@ def _(v):
 @image("kind_of_dotdot", "the type of the root's .. is that of a regular file")
 def _(v):
     v.bytes_at(36864 + 18, bytes([8]))
+
+
+@image("file_as_directory", "a file of 100 bytes whose mode was turned into a directory's")
+def _(v):
+    small_file(v, 3)
+    v.bytes_at(37 * 1024, b"The first sentence of a letter. " * 3 + b"End.")
+    v.root((3, 8, b"a"))
+    v.book()
+    v.inode(3, mode=0o040644)
 
 
 @image("number_out_of_range", "an entry names inode 32 of 32; its name holds a newline and a DEL, shown as ?")

@@ -11,7 +11,7 @@ use Rattle.ffs_volume.specs.Disk.Geometry.{IsAcceptedLayout}
 use Rattle.ffs_volume.specs.Disk.Numbers.{piece}
 use Rattle.ffs_walk.specs.Windows.{WindowHolds}
 use Rattle.ffs_walk.specs.declared.window.Window.{Window}
-use Rattle.ffs_workspace.proofs.Places.{piece_of}
+use Rattle.ffs_workspace.proofs.TablePlaces.{piece_of}
 use Rattle.ffs_counts.specs.Records.{HoldsRecord, first_read, records_read}
 
 -- so many bytes lie in as many fragments as that takes

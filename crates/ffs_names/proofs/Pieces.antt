@@ -7,7 +7,7 @@ use Rattle.ffs_volume.specs.declared.Order.{Order}
 use Rattle.ffs_volume.specs.Disk.Numbers.{piece}
 use Rattle.ffs_volume.specs.Directories.Entries.{Chunk, chunk_of}
 use Rattle.ffs_walk.proofs.Ranges.{range_step}
-use Rattle.ffs_workspace.proofs.Places.{piece_of}
+use Rattle.ffs_workspace.proofs.TablePlaces.{piece_of}
 
 -- what a window holds of a chunk
 pub chunk_held : (place length next : ℕ) (b held chunk src : List ℕ) → 512 * next + 512 ≤ length →

@@ -1,12 +1,14 @@
 -- The chunks of one Run.
-use Rattle.std.proofs.Common.{◌≡◌, ℕ, ◌+◌, ◌-◌, ◌*◌, ◌/◌, ◌<◌, ◌≤◌, [], IsTrue, arith, ap}
+use Rattle.std.proofs.Common.{◌≡◌, ℕ, ◌+◌, ◌-◌, ◌*◌, ◌/◌, ◌%◌, ◌<◌, ◌≤◌, [], IsTrue, true, arith, ap, sym, ◌∙◌}
 use Rattle.std.specs.Prelude.{min, map}
 use Rattle.std.specs.List.{range_with_len}
-use Rattle.std.proofs.Math.Nat.{mul-le-mul_right, mul-le-mul_left}
+use Rattle.std.proofs.Math.Nat.{mul-le-mul_right, mul-le-mul_left, mul_comm, mul_assoc, mul-mod_left}
+use Rattle.std.proofs.lemmas.Bool.Decides.{nat_tests}
 use Rattle.ffs_volume.specs.declared.Layout.{Layout}
 use Rattle.ffs_volume.specs.Disk.Areas.{is_run_in_range}
 use Rattle.ffs_volume.specs.Disk.Geometry.{IsAcceptedLayout}
 use Rattle.ffs_volume.specs.Disk.Numbers.{piece}
+use Rattle.ffs_volume.specs.Disk.Outcome.{has_valid_sizes, is_fragment_size, is_valid_layout}
 use Rattle.ffs_volume.specs.Directories.Entries.{ChunkSource, chunk_of, run_chunks}
 use Rattle.ffs_walk.proofs.Areas.{in_range-below}
 
@@ -35,6 +37,26 @@ run_in_volume v start len g some h =
     let below : start + len ≤ v.size = in_range-below v start len g some h in
     let scaled : (start + len) * v.fsize ≤ v.size * v.fsize = mul-le-mul_right v.fsize below in
     omega arith
+
+-- a fragment is whole chunks, so a Run begins where a chunk of the image does
+fragment_whole : (n : ℕ) → is_fragment_size n ≡ true → 512 * (n / 512) ≡ n
+unfolding is_fragment_size
+fragment_whole n h = grind (arith, nat_tests)
+
+sizes_are : (v : Layout) → is_valid_layout v ≡ true → has_valid_sizes v ≡ true
+unfolding is_valid_layout
+sizes_are v h = grind (arith, nat_tests)
+
+fragment_is : (v : Layout) → has_valid_sizes v ≡ true → is_fragment_size v.fsize ≡ true
+unfolding has_valid_sizes
+fragment_is v h = grind (arith, nat_tests)
+
+pub run_aligned : (v : Layout) (start : ℕ) → IsAcceptedLayout v → start * v.fsize % 512 ≡ 0
+run_aligned v start g =
+    let whole = fragment_whole v.fsize (fragment_is v (sizes_are v g.shaped)) in
+    ap (λ (n : ℕ). start * n % 512) (sym whole ∙ mul_comm 512 (v.fsize / 512))
+    ∙ (ap (λ (n : ℕ). n % 512) (sym (mul_assoc start (v.fsize / 512) 512))
+    ∙ mul-mod_left (start * (v.fsize / 512)) 512)
 
 pub run_in_block : (v : Layout) (len : ℕ) → IsAcceptedLayout v → len ≤ v.frag → len * v.fsize ≤ v.bsize
 run_in_block v len g short =

@@ -16,6 +16,7 @@ use Rattle.ffs_walk.specs.Windows.{BlocksHold}
 use Rattle.ffs_workspace.specs.Lengths.{inodes_of}
 use Rattle.ffs_volume.specs.Encodings.Kinds.{kind_at}
 use Rattle.ffs_workspace.specs.Holds.{HoldsStarts, HoldsReferences, HoldsSurvey}
+use Rattle.ffs_workspace.specs.Places.{ArePlaces}
 use Rattle.ffs_workspace.specs.declared.workspace.Workspace.{Workspace}
 use Rattle.ffs_survey.specs.Survey.{bool_at, dir_at, graph_with, most_start, references_to, IsSurvey}
 use Rattle.ffs_survey.specs.SurveyLaws.{survey_is, references_is}
@@ -72,12 +73,13 @@ volume_survey t b kinds starts counts flags marks ups n k s =
 -- lists that hold the survey of a volume
 pub holds_survey : (v : Layout) (b : List ℕ) (w : Workspace) (starts counts : List ℕ) (flags marks : List Bool)
     (ups : List ℕ) → w.named.items ≡ flags → w.reached.items ≡ marks → w.parents.items ≡ ups
-    → IsSurvey (graph_of (volume_of v b)) starts counts flags marks ups → HoldsSurvey v b w
+    → ArePlaces v b w.queue.items → IsSurvey (graph_of (volume_of v b)) starts counts flags marks ups → HoldsSurvey v b w
 unfolding volume_of volume_with
-holds_survey v b w starts counts flags marks ups f m u s = record {
+holds_survey v b w starts counts flags marks ups f m u noted s = record {
   named = λ x l. ap (λ xs. bool_at xs x) f ∙ s.names x l;
   reached = λ x. ap (λ xs. bool_at xs x) m ∙ s.reaches x;
   parents = λ x. ap (λ xs. slice_index xs x) u ∙ s.ups x;
+  places = noted;
 }
 
 -- no start is past the greatest one

@@ -1,13 +1,15 @@
 -- Where the current Run lies.
-use Rattle.std.specs.Prelude.{ℕ, ◌+◌, ◌*◌, ◌<◌, ◌≤◌, IsTrue}
+use Rattle.std.specs.Prelude.{◌≡◌, ℕ, ◌+◌, ◌*◌, ◌%◌, ◌<◌, ◌≤◌, IsTrue}
+use Rattle.ffs_volume.specs.declared.constants.TheConstants.{DIRBLKSIZ}
 use Rattle.ffs_volume.specs.declared.Layout.{Layout}
 use Rattle.ffs_volume.specs.Disk.Areas.{is_run_in_range}
 use Rattle.ffs_names.specs.declared.run_cursor.RunCursor.{RunCursor}
 
--- the chunks of the current Run have a block's bytes at most, and lie in the volume
+-- the chunks of the current Run have a block's bytes at most, lie in the volume, and are chunks of the image
 pub record HandFits (v : Layout) (h : RunCursor) : Type 0 where
   pub in_block : h.length ≤ v.bsize
   pub in_volume : h.place + h.length ≤ v.size * v.fsize
+  pub aligned : h.place % DIRBLKSIZ ≡ 0
 
 -- a Run of data of a block at most, in range
 pub record IsBlockRun (v : Layout) (start len : ℕ) : Type 0 where

@@ -1,6 +1,6 @@
 //! The chunks of a directory.
 
-ghost use Rattle.std.specs.Prelude.{◌≡◌, ◌+◌, ◌*◌, ◌≤◌, ◌<◌, ◌^◌, ◌∷◌, ℕ, List, [], true, Ok, None, OnOk, IfOk, IfSome, OnErr, MatchBool, MatchOption, MatchResult};
+ghost use Rattle.std.specs.Prelude.{◌≡◌, ◌+◌, ◌*◌, ◌%◌, ◌≤◌, ◌<◌, ◌^◌, ◌∷◌, ℕ, List, [], true, Ok, None, OnOk, IfOk, IfSome, OnErr, MatchBool, MatchOption, MatchResult};
 ghost use Rattle.ffs_image.specs.Device.{ForContents};
 ghost use Rattle.ffs_volume.specs.Blocks.Inodes as inodes;
 ghost use Rattle.ffs_volume.specs.Disk.Numbers.{piece};
@@ -231,6 +231,7 @@ impl Chunks {
     pub fn last_place(&self) -> u64
         ensures value { result ≡ last_place self.now.run_cursor }
         ensures small { result + 512 < 2 ^ 64 }
+        ensures aligned { result % 512 ≡ 0 }
     {
         self.run_cursor.place + DIRBLKSIZ as u64 * u64::from(self.run_cursor.next.saturating_sub(1))
     }

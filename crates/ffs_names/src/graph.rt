@@ -15,8 +15,9 @@ use ffs_workspace::Workspace;
 
 /// Finds how often each inode is referred to, which inodes a plain entry names, which directories
 /// are reached from the root, and the parent of each directory. Each directory is read once.
-/// `flags` then has directories of which nothing can be reported. `queue` and the windows change
-/// too. What phase 1 left (claims, kinds, marks, notes, counts of Runs) stays as it was.
+/// `flags` then has directories of which nothing can be reported, and `queue` notes no place. The
+/// windows change too. What phase 1 left (claims, kinds, marks, notes, counts of Runs) stays as it
+/// was.
 ///
 /// # Errors
 /// A read of the image that failed.
@@ -48,7 +49,7 @@ pub fn survey<I: Image>(
         notes: &workspace.notes,
         entries: Entries::none(geometry),
     };
-    ffs_survey::survey(
+    let surveyed = ffs_survey::survey(
         &mut tree,
         &workspace.kinds,
         &workspace.marked,
@@ -58,5 +59,8 @@ pub fn survey<I: Image>(
         &mut workspace.parents,
         &mut workspace.flags,
         &mut workspace.queue,
-    )
+    );
+    // No place of a parent entry is noted yet.
+    workspace.queue.fill(0);
+    surveyed
 }

@@ -24,6 +24,7 @@ use Rattle.ffs_workspace.specs.declared.workspace.Workspace.{Workspace}
 use Rattle.ffs_pathnames.specs.declared.examine.DirectorySummary.{DirectorySummary}
 use Rattle.ffs_pathnames.specs.Begins.{dir_starts, started_entry, IsBegun}
 use Rattle.ffs_pathnames.specs.Examines.{AreFound, LeavesQueue}
+use Rattle.ffs_pathnames.specs.Gathers.{marks_of}
 use Rattle.ffs_pathnames.specs.Marks.{Marks, are_quiet, entries_reported, after_entries}
 use Rattle.ffs_pathnames.specs.MarksRight.{AreRightBefore}
 use Rattle.ffs_pathnames.specs.Header.{header_reported}
@@ -102,8 +103,8 @@ pub begun_is : (v : Layout) (b : List ℕ) (d : ℕ) (old new more : Workspace) 
 begun_is v b d old new more e start f q m = record {
   inode = f.inode;
   quiet = f.quiet;
-  marks = ap (λ l. marks_with l.items more.queue.items) (ap (λ (w : Workspace). w.flags) m ∙ q.flags)
-      ∙ ap (λ s. marks_with old.flags.items s) (ap (λ (w : Workspace). w.queue.items) m ∙ f.stamps);
+  marks = ap (λ l. marks_with l.items (marks_of more).stamps) (ap (λ (w : Workspace). w.flags) m ∙ q.flags)
+      ∙ ap (λ s. marks_with old.flags.items s) (ap (λ (w : Workspace). (marks_of w).stamps) m ∙ f.stamps);
 }
 
 -- a directory among the inodes

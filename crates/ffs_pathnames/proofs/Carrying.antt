@@ -21,7 +21,7 @@ use Rattle.ffs_volume.specs.Directories.Volumes.{class_at, marked_at, volume_of,
 use Rattle.ffs_volume.proofs.Numbered.{all_from_root, names_append}
 use Rattle.ffs_names.specs.Surveys.{IsUntouched}
 use Rattle.ffs_workspace.specs.declared.workspace.Workspace.{Workspace}
-use Rattle.ffs_workspace.specs.Holds.{bool_at, HoldsClaims, HoldsSurvey}
+use Rattle.ffs_workspace.specs.Holds.{bool_at, HoldsClaims, HoldsReferences, HoldsSurvey}
 use Rattle.ffs_volume.specs.Encodings.Kinds.{kind_at, is_dir_kind, is_empty_dir_kind, is_allocated_kind}
 use Rattle.ffs_workspace.specs.Lengths.{IsFor, inodes_of}
 use Rattle.ffs_workspace.proofs.KindLaws.{reports_at, suspect_is}
@@ -29,7 +29,7 @@ use Rattle.ffs_maps.specs.Bits.{bits_of}
 use Rattle.ffs_phase.specs.declared.fault.RunFault.{RunFault}
 use Rattle.ffs_phase.specs.declared.fault.RunFault.TheVariants.{Read, Out}
 use Rattle.ffs_pathnames.specs.GoesOn.{AtReadFault}
-use Rattle.ffs_pathnames.specs.Before.{AreClear, IsBefore, root_said}
+use Rattle.ffs_pathnames.specs.Before.{AreClear, IsBefore, is_looked_at, root_said}
 use Rattle.ffs_workspace.specs.Leaves.{LeavesSurvey}
 use Rattle.ffs_pathnames.specs.Gathers.{marks_of}
 use Rattle.ffs_pathnames.specs.DirectoryContext.{DirectoryContext}
@@ -43,6 +43,7 @@ use Rattle.std.proofs.Common.{inl, inr, ◌≤◌}
 use Rattle.ffs_pathnames.proofs.Begun.{directory_is, quiet_parts}
 use Rattle.ffs_pathnames.proofs.BetweenLaws.{other_next, silent_next, silent_quiet}
 use Rattle.ffs_pathnames.proofs.EmptyLaws.{looked_is, looked_dir, names_none}
+use Rattle.ffs_pathnames.proofs.StampLaws.{stamps_length}
 use Rattle.ffs_workspace.proofs.Leaving.{claims_left, survey_left}
 
 -- a fact of every answer, and of each value that is answered
@@ -75,6 +76,11 @@ claims_untouched v b old new s h = record {
   notes = λ x. ap (λ k. slice_index k.items x) s.notes ∙ h.notes x;
 }
 
+-- references are counted where their list stays
+pub references_on : (v : Layout) (b : List ℕ) (old new : Workspace) → new.references ≡ old.references →
+    HoldsReferences v b old → HoldsReferences v b new
+references_on v b old new e h = record { counts = λ x l. ap (λ k. slice_index k.items x) e ∙ h.counts x l }
+
 -- numbers below 2 are no directories
 low_dir : (v : Volume) (d : ℕ) → d < 2 → is_dir v d ≡ false
 low_dir v zero h = refl
@@ -103,7 +109,7 @@ clear_right v b old w k m c silent = record {
       l))));
   stamps = λ x h. subst (λ n. n < 2) (sym (c.stamps x)) (omega arith);
   flags_length = sym w.flags.ok.0 ∙ m.flags;
-  stamps_length = sym w.queue.ok.0 ∙ m.queue;
+  stamps_length = stamps_length w.parents.items w.queue.items ∙ (sym w.queue.ok.0 ∙ m.queue);
   calm = λ x h. silent x (and_parts (bool_at old.flags.items x) _
       (sym (c.flags x) ∙ (and_parts (not (is_suspect (volume_of v b) x)) (bool_at w.flags.items x) h).1)).0;
 }
@@ -167,18 +173,14 @@ before_other v contents w d b g e k = record {
       (λ x q n. names_none v b d g (kind_known v b w d false k.claims e) x) k.marks;
 }
 
--- whether an inode is looked at; a directory that isn't is calm, and left out
-abbrev is_looked : Workspace → ℕ → Bool
-is_looked w d = (slice_index w.kinds.items d == 4)
-    && (bool_at w.marked.items d || not (bool_at w.flags.items d))
-
+-- a directory that isn't looked at is calm, and left out
 left_out : (a b c : Bool) → (a && (b || not c)) ≡ false → a ≡ true → (b ≡ false) × (c ≡ true)
 left_out true false true h e = (refl, refl)
 left_out true false false h e = absurd (cc)
 left_out true true c h e = absurd (cc)
 left_out false b c h e = absurd (cc)
 
-calm_shown : (v : Layout) (contents : Option (List ℕ)) (w : Workspace) (d : ℕ) (b : List ℕ) → is_looked w d ≡ false →
+calm_shown : (v : Layout) (contents : Option (List ℕ)) (w : Workspace) (d : ℕ) (b : List ℕ) → is_looked_at w d ≡ false →
     (slice_index w.kinds.items d == 4) ≡ true → IsBefore v contents w d b → IsSilent (volume_of v b) d
 calm_shown v contents w d b h e k =
     let left = left_out _ (bool_at w.marked.items d) (bool_at w.flags.items d) h e in
@@ -188,7 +190,7 @@ calm_shown v contents w d b h e k =
     k.marks.calm d (and_from (not (is_suspect (volume_of v b) d)) (bool_at w.flags.items d) (ap not suspect) left.1)
 
 lines_left_out : (v : Layout) (contents : Option (List ℕ)) (w : Workspace) (d : ℕ) (b : List ℕ) → 2 ≤ d →
-    is_looked w d ≡ false → (slice_index w.kinds.items d == 4) ≡ true → IsBefore v contents w d b →
+    is_looked_at w d ≡ false → (slice_index w.kinds.items d == 4) ≡ true → IsBefore v contents w d b →
     map of_tree (directory_lines (volume_of v b) d) ≡ []
 lines_left_out v contents w d b two h e k =
     let silent = calm_shown v contents w d b h e k in
@@ -199,14 +201,14 @@ lines_left_out v contents w d b two h e k =
 
 -- an inode that isn't looked at, or is left out
 pub lines_skipped : (v : Layout) (contents : Option (List ℕ)) (w : Workspace) (d : ℕ) (b : List ℕ) → 2 ≤ d →
-    is_looked w d ≡ false → IsBefore v contents w d b → map of_tree (directory_lines (volume_of v b) d) ≡ []
+    is_looked_at w d ≡ false → IsBefore v contents w d b → map of_tree (directory_lines (volume_of v b) d) ≡ []
 lines_skipped v contents w d b two h k = elim (cases_Bool (slice_index w.kinds.items d == 4)) [
   | inl e ↦ lines_left_out v contents w d b two h e k
   | inr e ↦ ap (map of_tree) (lines_other v contents w d b e k)
 ]
 
 pub before_skipped : (v : Layout) (contents : Option (List ℕ)) (w : Workspace) (d : ℕ) (b : List ℕ) → IsAcceptedLayout v
-    → is_looked w d ≡ false → IsBefore v contents w d b → IsBefore v contents w (suc d) b
+    → is_looked_at w d ≡ false → IsBefore v contents w d b → IsBefore v contents w (suc d) b
 before_skipped v contents w d b g h k = elim (cases_Bool (slice_index w.kinds.items d == 4)) [
   | inl e ↦ record {
     reported_is = k.reported_is;

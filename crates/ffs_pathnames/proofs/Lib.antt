@@ -1,4 +1,5 @@
 pub mod Places
+pub mod StampLaws
 pub mod MarkLaws
 pub mod LookLaws
 pub mod BetweenLaws
@@ -18,4 +19,5 @@ pub mod InOrder
 pub mod Begun
 pub mod EmptyLaws
 pub mod Carrying
+pub mod Skipping
 mod SilentLaws

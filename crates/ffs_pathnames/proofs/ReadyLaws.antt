@@ -16,10 +16,9 @@ use Rattle.ffs_workspace.specs.Ready.{IsReady}
 use Rattle.ffs_workspace.specs.Tables.{KeepsTable}
 use Rattle.ffs_workspace.specs.declared.table.Table.{Table}
 use Rattle.ffs_workspace.proofs.Readiness.{ready_table}
-use Rattle.ffs_workspace.proofs.Leaving.{windows_leave}
 use Rattle.ffs_paths.specs.declared.siblings.Siblings.{Siblings}
 use Rattle.ffs_paths.specs.Reads.{OnlyReads}
-use Rattle.ffs_paths.proofs.Keeping.{siblings_on}
+use Rattle.ffs_paths.proofs.Keeping.{siblings_held}
 use Rattle.ffs_names.specs.Windows.{CanReadChunks}
 use Rattle.ffs_pathnames.specs.Ready.{ReadyWith}
 
@@ -89,8 +88,7 @@ pub ready_next : (v : Layout) (d d' : Device) (w : Workspace) (s : Siblings) (bl
     → ReadyWith v d w s → d' ≡ d → CanReadChunks v d' blocks chunk → ReadyWith v d' (with_chunk w blocks chunk) s
 ready_next v d d' w s blocks chunk r e can = record {
   ready = ready_read v d d' w blocks chunk r.ready (ap (λ x. x.contents) e) can;
-  siblings = siblings_on v _ _ w (with_chunk w blocks chunk) s (ap (λ x. x.contents) e)
-      (windows_leave w (with_chunk w blocks chunk) refl) r.siblings;
+  siblings = siblings_held v _ _ w (with_chunk w blocks chunk) s (ap (λ x. x.contents) e) refl r.siblings;
 }
 
 -- what is ready for reading chunks

@@ -17,7 +17,7 @@ pub record AreClear (old new : Workspace) : Type 0 where
   pub survey : LeavesSurvey old new
   pub flags : (x : ℕ) → bool_at new.flags.items x
       ≡ (bool_at old.flags.items x && not (is_suspect_by old.kinds.items old.marked.items x))
-  pub stamps : (x : ℕ) → slice_index new.queue.items x ≡ 0
+  pub stamps : (x : ℕ) → slice_index (marks_of new).stamps x ≡ 0
 
 -- the image gives the bytes, the workspace holds what the block check and the survey leave, and its marks are right
 -- before d
@@ -26,6 +26,11 @@ pub record IsBefore (v : Layout) (contents : Option (List ℕ)) (w : Workspace) 
   pub claims : HoldsClaims v b w
   pub survey : HoldsSurvey v b w
   pub marks : AreRightBefore (volume_of v b) d (marks_of w)
+
+-- a directory that isn't of size 0 and isn't known to be calm; the flag of a marked one says that an entry has named it
+abbrev pub is_looked_at : Workspace → ℕ → Bool
+is_looked_at w x = (slice_index w.kinds.items x == 4)
+    && (bool_at w.marked.items x || not (bool_at w.flags.items x))
 
 -- what is reported of the root, by its kind and by whether it is marked
 unfoldable pub root_said : ℕ → Bool → List TreeMessage

@@ -35,9 +35,9 @@ started_entry i started order start = option_and_then (λ c. nth_entry i c.entri
 pub record IsBegun (v : Layout) (b : List ℕ) (d : ℕ) (old : Workspace) (e : DirectorySummary) (new : Workspace) :
     Type 0 where
   pub inode : e.inode ≡ inode_of v b d
-  pub quiet : e.found.quiet ≡ are_quiet (volume_of v b) d old.queue.items (roled_entries (volume_of v b) d)
+  pub quiet : e.found.quiet ≡ are_quiet (volume_of v b) d (marks_of old).stamps (roled_entries (volume_of v b) d)
   pub marks : marks_of new
       ≡ record {
         flags = old.flags.items;
-        stamps = after_looks (volume_of v b) d old.queue.items (roled_entries (volume_of v b) d);
+        stamps = after_looks (volume_of v b) d (marks_of old).stamps (roled_entries (volume_of v b) d);
       }

@@ -10,18 +10,22 @@ use Rattle.ffs_volume.specs.Directories.Roles.{roled_entries}
 use Rattle.ffs_volume.specs.Directories.PathnameCheck.{are_sound}
 use Rattle.ffs_volume.specs.Directories.Volumes.{volume_of}
 use Rattle.ffs_pathnames.specs.declared.examine.DirectorySummary.{DirectorySummary}
+use Rattle.ffs_pathnames.specs.Gathers.{marks_of}
 use Rattle.ffs_pathnames.specs.Marks.{are_quiet, after_looks}
 use Rattle.ffs_pathnames.specs.Reads.{start_of}
+use Rattle.ffs_pathnames.specs.Stamps.{KeepPlaces}
 use Rattle.ffs_workspace.specs.declared.workspace.Workspace.{Workspace}
 use Rattle.ffs_workspace.specs.Leaves.{LeavesSurvey}
 use Rattle.ffs_workspace.specs.Ready.{IsReady}
 
--- what the phases before the pathname check left, and the flags
+-- what the phases before the pathname check left, the flags, and the places that words note
 pub record LeavesQueue (old new : Workspace) : Type 0 where
   pub survey : LeavesSurvey old new
   pub flags : new.flags ≡ old.flags
+  pub places : KeepPlaces old.queue.items new.queue.items
 
--- what the first look at a directory leaves: the image, but for a read that failed, and all but the queue
+-- what the first look at a directory leaves: the image, but for a read that failed, and all but which
+-- words are due
 pub record ExamineLeaves {T : Type 0} (v : Layout) (d d' : Device) (old new : Workspace)
     (result : Result T ImageFault) : Type 0 where
   pub lists : LeavesQueue old new
@@ -36,5 +40,6 @@ pub record AreFound (v : Layout) (b : List ℕ) (d : ℕ) (old : Workspace) (e :
   pub gap : e.found.gap ≡ (volume_of v b).gap d
   pub sound : e.found.sound ≡ are_sound ((volume_of v b).chunks d)
   pub started : find (λ c. c.offset == 0) ((volume_of v b).chunks d) ≡ start_of [] e.found.started v.order start
-  pub quiet : e.found.quiet ≡ are_quiet (volume_of v b) d old.queue.items (roled_entries (volume_of v b) d)
-  pub stamps : new.queue.items ≡ after_looks (volume_of v b) d old.queue.items (roled_entries (volume_of v b) d)
+  pub quiet : e.found.quiet ≡ are_quiet (volume_of v b) d (marks_of old).stamps (roled_entries (volume_of v b) d)
+  pub stamps : (marks_of new).stamps
+      ≡ after_looks (volume_of v b) d (marks_of old).stamps (roled_entries (volume_of v b) d)

@@ -16,6 +16,7 @@ use Rattle.ffs_pathnames.specs.Verdicts.{verdict_reported}
 use Rattle.ffs_workspace.specs.declared.workspace.Workspace.{Workspace}
 use Rattle.ffs_pathnames.specs.Marks.{Marks, is_due, is_flagged, plain_reported}
 use Rattle.ffs_pathnames.specs.Sees.{Sees}
+use Rattle.ffs_pathnames.specs.Stamps.{stamps_of}
 
 -- the messages are the same as with the volume's own attributes and paths
 abbrev pub IsEnough : Volume → Verdict → ℕ → ℕ → List ℕ → Attr → List ℕ → List ℕ → Type 0
@@ -26,7 +27,7 @@ IsEnough v verdict dir number name about path directory =
 
 -- the marks that a workspace holds during the pathname check
 abbrev pub marks_of : Workspace → Marks
-marks_of w = record { flags = w.flags.items; stamps = w.queue.items }
+marks_of w = record { flags = w.flags.items; stamps = stamps_of w.parents.items w.queue.items }
 
 -- whether the messages show the attributes of the inode that the entry names, and its path
 abbrev pub asks_attr : Verdict → Bool

@@ -1,4 +1,5 @@
 pub mod Marks
+pub mod Stamps
 pub mod SaysNames
 pub mod NameLines
 pub mod Header

@@ -14,26 +14,27 @@ use Rattle.ffs_pathnames.specs.declared.inodes.Inodes.{Inodes}
 use Rattle.ffs_pathnames.specs.declared.look.EntriesSummary.{EntriesSummary}
 use Rattle.ffs_pathnames.specs.Marks.{are_quiet, after_looks}
 use Rattle.ffs_pathnames.specs.Reads.{chunks_read, start_of}
-use Rattle.ffs_pathnames.specs.Sees.{Sees}
+use Rattle.ffs_pathnames.specs.Sees.{Sees, stamps_in}
 
 -- of a chunk's entries: whether nothing may be reported of them, and whether they fill it; and each inode that belongs
--- to the directory d is stamped
+-- to the directory d is stamped, by the words before and after
 pub record IsChunkLook (inodes : Inodes) (d : ℕ) (order : Order) (first : Bool) (chunk old : List ℕ)
     (f : EntriesSummary) (new : List ℕ) : Type 0 where
   pub quiet : (v : Volume) → Sees v inodes
-      → f.quiet ≡ are_quiet v d old (roled_from first 0 (entries_of order chunk))
-  pub stamps : (v : Volume) → Sees v inodes → new ≡ after_looks v d old (roled_from first 0 (entries_of order chunk))
+      → f.quiet ≡ are_quiet v d (stamps_in inodes old) (roled_from first 0 (entries_of order chunk))
+  pub stamps : (v : Volume) → Sees v inodes → stamps_in inodes new
+      ≡ after_looks v d (stamps_in inodes old) (roled_from first 0 (entries_of order chunk))
   pub sound : f.sound ≡ is_sound order chunk
 
 -- of the chunks of an inode that keeps `cut` offers: whether nothing may be reported of their entries, whether they
 -- are all sound, whether a Gap is kept, the chunk at the start of the file; and each inode that belongs to the
--- directory d is stamped
+-- directory d is stamped, by the words before and after
 pub record IsFirstLook (v : Layout) (inodes : Inodes) (d : ℕ) (i : Inode) (cut : ℕ) (b : List ℕ) (old : List ℕ)
     (f : FirstLook) (new start : List ℕ) : Type 0 where
   pub quiet : (volume : Volume) → Sees volume inodes → i.size < 2 ^ 31
-      → f.quiet ≡ are_quiet volume d old (flat_map roled_chunk (chunks_read v i cut b))
-  pub stamps : (volume : Volume) → Sees volume inodes → i.size < 2 ^ 31
-      → new ≡ after_looks volume d old (flat_map roled_chunk (chunks_read v i cut b))
+      → f.quiet ≡ are_quiet volume d (stamps_in inodes old) (flat_map roled_chunk (chunks_read v i cut b))
+  pub stamps : (volume : Volume) → Sees volume inodes → i.size < 2 ^ 31 → stamps_in inodes new
+      ≡ after_looks volume d (stamps_in inodes old) (flat_map roled_chunk (chunks_read v i cut b))
   pub sound : i.size < 2 ^ 31 → f.sound ≡ are_sound (chunks_read v i cut b)
   pub gap : f.gap ≡ has_gap (replayed_steps v cut fresh_replay (steps_of v i b))
   pub started : i.size < 2 ^ 31 → find (λ c. c.offset == 0) (chunks_read v i cut b)

@@ -32,11 +32,11 @@ pub record LinesLeave {T : Type 0} (v : Layout) (d d' : Device) (w w' : Workspac
   pub chunk : w'.windows.chunk ≡ w.windows.chunk
   pub ready : ReadyAfter v d' w' s result
 
--- what the check of all directories leaves
+-- what the check of all directories leaves: the image, but for a read that failed, and how often inodes are referred to
 pub record TreeLeaves {T : Type 0} (v : Layout) (d d' : Device) (w w' : Workspace) (result : Result T RunFault) :
     Type 0 where
   pub image : ImageAfter d d' result
-  pub survey : LeavesSurvey w w'
+  pub references : w'.references ≡ w.references
   pub ready : IsReady v d' w'
 
 -- what a line leaves for which an inode is read; the chunk of the current directory is as it was

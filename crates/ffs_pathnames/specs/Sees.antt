@@ -9,6 +9,8 @@ use Rattle.ffs_volume.specs.Encodings.Kinds.{is_dir_kind, is_empty_dir_kind, is_
 use Rattle.ffs_volume.specs.Encodings.Kinds.{is_unknown_kind, type_of_kind, class_of_kind}
 use Rattle.ffs_workspace.specs.Holds.{bool_at}
 use Rattle.ffs_pathnames.specs.declared.inodes.Inodes.{Inodes}
+use Rattle.ffs_pathnames.specs.Marks.{Marks}
+use Rattle.ffs_pathnames.specs.Stamps.{stamps_of}
 
 -- x is marked, or a directory of size 0
 abbrev pub is_suspect_by : List ℕ → List Bool → ℕ → Bool
@@ -27,12 +29,19 @@ pub record Sees (v : Volume) (i : Inodes) : Type 0 where
   pub class : (x : ℕ) → is_allocated (v.class x) ≡ true → v.class x ≡ class_of_kind (slice_index i.kinds.now x)
   pub parent_is : (x s : ℕ) → 2 ≤ s → is_value (parent (graph_of v) x) s ≡ (slice_index i.parents.now.items x == s)
 
--- each inode has a flag and a stamp
-pub record CanMark (i : Inodes) (flags : List Bool) (stamps : List ℕ) : Type 0 where
-  pub flags_long : length flags ≡ length i.kinds.now
-  pub stamps_long : length stamps ≡ length i.kinds.now
+-- the stamps by these words, and the marks with them
+abbrev pub stamps_in : Inodes → (words : List ℕ) → List ℕ
+stamps_in i words = stamps_of i.parents.now.items words
 
--- each inode has a stamp, and the directory that stamps is the root or one after it
-pub record CanStamp (i : Inodes) (s : ℕ) (stamps : List ℕ) : Type 0 where
-  pub each : length stamps ≡ length i.kinds.now
+abbrev pub marks_in : Inodes → List Bool → (words : List ℕ) → Marks
+marks_in i flags words = record { flags = flags; stamps = stamps_in i words }
+
+-- each inode has a flag and a word
+pub record CanMark (i : Inodes) (flags : List Bool) (words : List ℕ) : Type 0 where
+  pub flags_long : length flags ≡ length i.kinds.now
+  pub words_long : length words ≡ length i.kinds.now
+
+-- each inode has a word, and the directory that stamps is the root or one after it
+pub record CanStamp (i : Inodes) (s : ℕ) (words : List ℕ) : Type 0 where
+  pub each : length words ≡ length i.kinds.now
   pub dir : 2 ≤ s

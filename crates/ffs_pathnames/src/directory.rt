@@ -8,6 +8,7 @@ ghost use Rattle.ffs_pathnames.specs.Sees.{CanStamp};
 ghost use Rattle.ffs_pathnames.specs.Looks.{IsFirstLook};
 ghost use Rattle.ffs_pathnames.specs.Marks as marks;
 ghost use Rattle.ffs_pathnames.specs.Reads.{start_of, ChunksLeave};
+ghost use Rattle.ffs_pathnames.specs.Stamps.{KeepPlaces};
 
 use crate::inodes::Inodes;
 use crate::look::look_chunk;
@@ -61,18 +62,19 @@ pub fn look_directory<I: Image>(
     blocks: &mut Blocks,
     data: &mut Window,
     inodes: &Inodes<'_>,
-    stamps: &mut FilledList<u32>,
+    words: &mut FilledList<u32>,
     dir: u32,
     inode: &Inode,
     cut: u32,
     start: &mut [u8; DIRBLKSIZ],
 ) -> Result<FirstLook, ImageFault>
     requires ready { CanReadChunks geometry.now.layout (I.device image.old) blocks.old «data».old }
-    requires stamps { CanStamp inodes.now dir stamps.old.items }
+    requires words { CanStamp inodes.now dir words.old.items }
     ensures found { IfOk result (λ f. ForContents (I.device image.old).contents
-        (λ b. IsFirstLook geometry.now.layout inodes.now dir inode.now cut b stamps.old.items f
-        stamps.new.items start.new)) }
-    ensures stamps_long { vec_len stamps.new ≡ vec_len stamps.old }
+        (λ b. IsFirstLook geometry.now.layout inodes.now dir inode.now cut b words.old.items f
+        words.new.items start.new)) }
+    ensures places { KeepPlaces words.old.items words.new.items }
+    ensures words_long { vec_len words.new ≡ vec_len words.old }
     ensures leaves { ChunksLeave geometry.now.layout (I.device image.old) (I.device image.new)
         blocks.new «data».new result }
 {
@@ -83,7 +85,7 @@ pub fn look_directory<I: Image>(
     let mut sound = true;
     let mut started = false;
     'chunks: while let Some(offset) = chunks.next(image, blocks, data, &mut chunk)? {
-        let looked = look_chunk(inodes, dir, order, offset == 0, &chunk, stamps);
+        let looked = look_chunk(inodes, dir, order, offset == 0, &chunk, words);
         quiet &= looked.quiet;
         sound &= looked.sound;
         started = keep_start(offset, &chunk, started, start);

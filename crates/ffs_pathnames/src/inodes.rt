@@ -4,6 +4,7 @@ ghost use Rattle.std.specs.Prelude.{◌≡◌, ◌<◌, length, slice_index, vec
 use ffs_memory::FilledList;
 use ffs_volume::constants::ROOTINO;
 use ffs_volume::kinds::Kind;
+use ffs_workspace::is_due;
 
 /// What is known of each inode.
 #[derive(Clone, Copy)]
@@ -22,6 +23,7 @@ pub struct Inodes<'a> {
 impl<'a> Inodes<'a> {
     ghost use Rattle.ffs_volume.specs.Encodings.Kinds.{is_dir_kind, is_allocated_kind, is_unknown_kind, type_of_kind};
     ghost use Rattle.ffs_pathnames.specs.Sees.{is_suspect_by};
+    ghost use Rattle.ffs_pathnames.specs.Stamps.{stamps_of};
 
     /// How many inodes there are.
     pub fn count(&self) -> u32
@@ -81,5 +83,21 @@ impl<'a> Inodes<'a> {
             && (not (inode == 2) && slice_index self.now.parents.now.items inode == parent)) }
     {
         self.is_dir(inode) && inode != ROOTINO && self.parents[inode as usize] == parent
+    }
+
+    /// The inode's parent, where the entry there is still to come by the inode's word (`is_due`),
+    /// else 0.
+    pub fn stamp(&self, words: &FilledList<u32>, inode: u32) -> u32
+        requires inode { inode < length self.now.kinds.now }
+        requires words { length words.now.items ≡ length self.now.kinds.now }
+        ensures { result ≡ slice_index
+            (stamps_of self.now.parents.now.items words.now.items) inode }
+    {
+        let index = inode as usize;
+        if is_due(words[index]) {
+            self.parents[index]
+        } else {
+            0
+        }
     }
 }

@@ -6,7 +6,8 @@ ghost use Rattle.ffs_volume.specs.Directories.PathnameCheck.{is_bad_whiteout};
 ghost use Rattle.ffs_layout.specs.Entry.{entry_value};
 ghost use Rattle.ffs_pathnames.specs.Looks.{IsChunkLook};
 ghost use Rattle.ffs_pathnames.specs.Marks as marks;
-ghost use Rattle.ffs_pathnames.specs.Sees.{Sees, CanStamp};
+ghost use Rattle.ffs_pathnames.specs.Sees.{Sees, CanStamp, stamps_in};
+ghost use Rattle.ffs_pathnames.specs.Stamps.{KeepPlaces};
 
 use crate::inodes::Inodes;
 use ffs_layout::{Entry, entry_at};
@@ -14,6 +15,7 @@ use ffs_memory::FilledList;
 use ffs_names::role_of;
 use ffs_volume::constants::{DIRBLKSIZ, DT_WHT, WINO};
 use ffs_volume::{Order, Role};
+use ffs_workspace::due;
 
 /// Whether an entry has the number or the type of a whiteout, and not both.
 pub fn is_bad_whiteout(entry: &Entry<'_>) -> bool
@@ -23,27 +25,23 @@ pub fn is_bad_whiteout(entry: &Entry<'_>) -> bool
 }
 
 /// Whether an inode is no directory, or this link to it is its parent's, and the first one there.
-fn is_quiet_link(inodes: &Inodes<'_>, dir: u32, stamps: &FilledList<u32>, inode: u32) -> bool
+fn is_quiet_link(inodes: &Inodes<'_>, dir: u32, words: &FilledList<u32>, inode: u32) -> bool
     requires inode { inode < length inodes.now.kinds.now }
-    requires stamps { CanStamp inodes.now dir stamps.now.items }
+    requires words { CanStamp inodes.now dir words.now.items }
     ensures { (v : Volume) → Sees v inodes.now → result
         ≡ (not (is_dir v inode) || (marks.belongs v dir inode
-        && not (slice_index stamps.now.items inode == dir))) }
+        && not (slice_index (stamps_in inodes.now words.now.items) inode == dir))) }
 {
-    !inodes.is_dir(inode) || (inodes.belongs(inode, dir) && stamps[inode as usize] != dir)
+    !inodes.is_dir(inode) || (inodes.belongs(inode, dir) && inodes.stamp(words, inode) != dir)
 }
 
 /// Whether nothing is reported of an inode that a plain entry names.
-fn is_quiet_inode(
-    inodes: &Inodes<'_>,
-    dir: u32,
-    stamps: &FilledList<u32>,
-    entry: &Entry<'_>,
-) -> bool
+fn is_quiet_inode(inodes: &Inodes<'_>, dir: u32, words: &FilledList<u32>, entry: &Entry<'_>) -> bool
     requires inode { entry.now.number < length inodes.now.kinds.now }
-    requires stamps { CanStamp inodes.now dir stamps.now.items }
+    requires words { CanStamp inodes.now dir words.now.items }
     ensures { (v : Volume) → Sees v inodes.now → result
-        ≡ marks.is_inode_quiet v dir stamps.now.items (entry_value entry.now) }
+        ≡ marks.is_inode_quiet v dir (stamps_in inodes.now words.now.items)
+        (entry_value entry.now) }
 {
     if !inodes.is_allocated(entry.number) {
         return false;
@@ -51,22 +49,18 @@ fn is_quiet_inode(
     if inodes.is_suspect(entry.number) {
         return false;
     }
-    if !is_quiet_link(inodes, dir, stamps, entry.number) {
+    if !is_quiet_link(inodes, dir, words, entry.number) {
         return false;
     }
     !inodes.has_wrong_type(entry.number, entry.kind)
 }
 
 /// Whether nothing is reported of a plain entry.
-fn is_quiet_plain(
-    inodes: &Inodes<'_>,
-    dir: u32,
-    stamps: &FilledList<u32>,
-    entry: &Entry<'_>,
-) -> bool
-    requires stamps { CanStamp inodes.now dir stamps.now.items }
+fn is_quiet_plain(inodes: &Inodes<'_>, dir: u32, words: &FilledList<u32>, entry: &Entry<'_>) -> bool
+    requires words { CanStamp inodes.now dir words.now.items }
     ensures { (v : Volume) → Sees v inodes.now → result
-        ≡ marks.is_plain_quiet v dir stamps.now.items (entry_value entry.now) }
+        ≡ marks.is_plain_quiet v dir (stamps_in inodes.now words.now.items)
+        (entry_value entry.now) }
 {
     if entry.number >= inodes.count() {
         return false;
@@ -74,7 +68,7 @@ fn is_quiet_plain(
     if is_bad_whiteout(entry) {
         return false;
     }
-    entry.number == 1 || is_quiet_inode(inodes, dir, stamps, entry)
+    entry.number == 1 || is_quiet_inode(inodes, dir, words, entry)
 }
 
 /// Whether it is sure that nothing is reported of an entry. Where it isn't, a line may come or not.
@@ -82,35 +76,37 @@ fn is_quiet_plain(
 pub fn is_quiet(
     inodes: &Inodes<'_>,
     dir: u32,
-    stamps: &FilledList<u32>,
+    words: &FilledList<u32>,
     role: Role,
     entry: &Entry<'_>,
 ) -> bool
-    requires stamps { CanStamp inodes.now dir stamps.now.items }
+    requires words { CanStamp inodes.now dir words.now.items }
     ensures { (v : Volume) → Sees v inodes.now → result
-        ≡ marks.is_quiet v dir stamps.now.items
+        ≡ marks.is_quiet v dir (stamps_in inodes.now words.now.items)
         (record { role = role; entry = entry_value entry.now }) }
 {
     match role {
         Role::Empty | Role::Dot | Role::Dotdot => true,
         Role::Extra => false,
-        Role::Plain => is_quiet_plain(inodes, dir, stamps, entry),
+        Role::Plain => is_quiet_plain(inodes, dir, words, entry),
     }
 }
 
-/// Stamps the inode that an entry names, if it belongs to the directory.
+/// Stamps the inode that an entry names, if it belongs to the directory: its parent entry is due by
+/// its word, whose place stays.
 pub fn stamp(
     inodes: &Inodes<'_>,
     dir: u32,
-    stamps: &mut FilledList<u32>,
+    words: &mut FilledList<u32>,
     role: Role,
     entry: &Entry<'_>,
 )
-    requires stamps { CanStamp inodes.now dir stamps.old.items }
-    ensures after { (v : Volume) → Sees v inodes.now → stamps.new.items
-        ≡ marks.after_look v dir stamps.old.items
+    requires words { CanStamp inodes.now dir words.old.items }
+    ensures after { (v : Volume) → Sees v inodes.now → stamps_in inodes.now words.new.items
+        ≡ marks.after_look v dir (stamps_in inodes.now words.old.items)
         (record { role = role; entry = entry_value entry.now }) }
-    ensures stamps_long { vec_len stamps.new ≡ vec_len stamps.old }
+    ensures places { KeepPlaces words.old.items words.new.items }
+    ensures words_long { vec_len words.new ≡ vec_len words.old }
 {
     if role != Role::Plain {
         return;
@@ -119,7 +115,8 @@ pub fn stamp(
         return;
     }
     if inodes.belongs(entry.number, dir) {
-        stamps.set(entry.number as usize, dir);
+        let index = entry.number as usize;
+        words.set(index, due(words[index]));
     }
 }
 
@@ -139,12 +136,13 @@ pub fn look_chunk(
     order: Order,
     first: bool,
     chunk: &[u8; DIRBLKSIZ],
-    stamps: &mut FilledList<u32>,
+    words: &mut FilledList<u32>,
 ) -> EntriesSummary
-    requires { CanStamp inodes.now dir stamps.old.items }
-    ensures look { IsChunkLook inodes.now dir order first chunk.now stamps.old.items result
-        stamps.new.items }
-    ensures stamps_long { vec_len stamps.new ≡ vec_len stamps.old }
+    requires { CanStamp inodes.now dir words.old.items }
+    ensures look { IsChunkLook inodes.now dir order first chunk.now words.old.items result
+        words.new.items }
+    ensures places { KeepPlaces words.old.items words.new.items }
+    ensures words_long { vec_len words.new ≡ vec_len words.old }
 {
     let mut place = 0usize;
     let mut index = 0usize;
@@ -152,8 +150,8 @@ pub fn look_chunk(
     'entries: while let Some(entry) = entry_at(order, chunk, place) {
         let role = role_of(first, index, &entry);
         // After an entry with a line the answer for the chunk is known, so no other is asked.
-        quiet = quiet && is_quiet(inodes, dir, stamps, role, &entry);
-        stamp(inodes, dir, stamps, role, &entry);
+        quiet = quiet && is_quiet(inodes, dir, words, role, &entry);
+        stamp(inodes, dir, words, role, &entry);
         place += usize::from(entry.length);
         index += 1;
     }

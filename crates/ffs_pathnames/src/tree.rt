@@ -1,14 +1,14 @@
 //! The pathname check of the root, and of one directory after another.
-ghost use Rattle.std.specs.Prelude.{suc, ◌≡◌, ◌-◌, ◌==◌, ◌<◌, ◌≤◌, ◌&&◌, ◌||◌, not, true, OnOk, IfOk, map, slice_index, vec_len};
+ghost use Rattle.std.specs.Prelude.{suc, ◌≡◌, ◌-◌, ◌<◌, ◌≤◌, ℕ, true, false, OnOk, IfOk, map, vec_len};
 ghost use Rattle.ffs_phase.specs.Known.{ForBytes};
 ghost use Rattle.ffs_phase.specs.Runs.{PhaseReports};
 ghost use Rattle.ffs_report.specs.Progress.{progress};
 ghost use Rattle.ffs_volume.specs.Messages.Kinds.{of_tree, lines_from};
 ghost use Rattle.ffs_volume.specs.Directories.PathnameCheck.{continues_after_root, directory_lines, pathname_lines};
 ghost use Rattle.ffs_volume.specs.Directories.Volumes.{volume_of};
-ghost use Rattle.ffs_workspace.specs.Holds.{bool_at};
+ghost use Rattle.ffs_workspace.specs.Holds.{HoldsClaims, HoldsSurvey};
 ghost use Rattle.ffs_workspace.specs.Lengths.{inodes_of};
-ghost use Rattle.ffs_pathnames.specs.Before.{IsBefore};
+ghost use Rattle.ffs_pathnames.specs.Before.{IsBefore, is_looked_at};
 ghost use Rattle.ffs_pathnames.specs.Gathers.{AreAsLong};
 ghost use Rattle.ffs_pathnames.specs.GoesOn.{AtReadFault, is_go};
 ghost use Rattle.ffs_workspace.specs.Ready.{IsReady};
@@ -19,6 +19,7 @@ use crate::phase::Root;
 use crate::root::{report_root, root_of};
 use ffs_image::Image;
 use ffs_layout::Geometry;
+use ffs_names::note_places;
 use ffs_paths::Siblings;
 use ffs_phase::RunFault;
 use ffs_report::{Output, Report};
@@ -30,12 +31,28 @@ use ffs_workspace::Workspace;
 fn is_looked_at(workspace: &Workspace, number: u32) -> bool
     requires kinds { number < vec_len workspace.now.kinds }
     requires lists { AreAsLong workspace.now }
-    ensures { result ≡ ((slice_index workspace.now.kinds.items number == 4)
-        && (bool_at workspace.now.marked.items number
-        || not (bool_at workspace.now.flags.items number))) }
+    ensures { result ≡ is_looked_at workspace.now number }
 {
     let index = number as usize;
     workspace.kinds[index] == DT_DIR && (workspace.marked[index] || !workspace.flags[index])
+}
+
+/// The first directory that is looked at (`is_looked_at`), or `count`, how many inodes there are,
+/// where none is.
+fn first_looked_at(workspace: &Workspace, count: u32) -> u32
+    requires lists { AreAsLong workspace.now }
+    requires count { count ≡ vec_len workspace.now.kinds }
+    requires some { 2 ≤ count }
+    ensures range { (2 ≤ result) × (result ≤ count) }
+    ensures found { result < count → is_looked_at workspace.now result ≡ true }
+    ensures before { (x : ℕ) → 2 ≤ x → x < result → is_looked_at workspace.now x ≡ false }
+{
+    for number in ROOTINO..count {
+        if is_looked_at(workspace, number) {
+            return number;
+        }
+    }
+    count
 }
 
 /// Prints the lines of an inode as a directory, and of its entries.
@@ -67,7 +84,8 @@ fn check_inode<I: Image, W: Output>(
     Ok(())
 }
 
-/// Prints the lines of each directory and of its entries, in the order of inode numbers.
+/// Prints the lines of each directory and of its entries, in the order of inode numbers. The places
+/// of parent entries are noted first, for the paths, where any directory is looked at.
 fn check_inodes<I: Image, W: Output>(
     geometry: &Geometry,
     image: &mut I,
@@ -80,11 +98,25 @@ fn check_inodes<I: Image, W: Output>(
         (λ b. map of_tree (lines_from (directory_lines (volume_of geometry.now.layout b)) 2
         (inodes_of geometry.now.layout - 2)))
         (progress W.sink report.old) (progress W.sink report.new) result }
+    ensures holds { OnOk result (ForBytes
+        (λ b. IsBefore geometry.now.layout (I.device image.old).contents workspace.old 2 b)
+        (λ b. HoldsClaims geometry.now.layout b workspace.new
+        × HoldsSurvey geometry.now.layout b workspace.new)) }
+
+    // Where no directory is looked at, nothing is read.
+    ensures unread { ((x : ℕ) → 2 ≤ x → x < inodes_of geometry.now.layout
+        → is_looked_at workspace.old x ≡ false) → workspace.new ≡ workspace.old }
     ensures leaves { TreeLeaves geometry.now.layout (I.device image.old) (I.device image.new)
         workspace.old workspace.new result }
 {
+    let count = geometry.layout.ncg * geometry.layout.ipg;
+    let first = first_looked_at(workspace, count);
+    if first == count {
+        return Ok(());
+    }
+    note_places(geometry, image, workspace)?;
     let mut siblings = Siblings::none(geometry);
-    for number in 2..geometry.layout.ncg * geometry.layout.ipg {
+    for number in first..count {
         check_inode(geometry, image, workspace, &mut siblings, report, number)?;
     }
     Ok(())
@@ -114,6 +146,10 @@ pub fn check_tree<I: Image, W: Output>(
     ensures fault { AtReadFault result (ForBytes
         (λ b. IsBefore geometry.now.layout (I.device image.old).contents workspace.old 2 b)
         (λ b. continues_after_root (volume_of geometry.now.layout b) ≡ true)) }
+    ensures holds { OnOk result (ForBytes
+        (λ b. IsBefore geometry.now.layout (I.device image.old).contents workspace.old 2 b)
+        (λ b. HoldsClaims geometry.now.layout b workspace.new
+        × HoldsSurvey geometry.now.layout b workspace.new)) }
     ensures leaves { TreeLeaves geometry.now.layout (I.device image.old) (I.device image.new)
         workspace.old workspace.new result }
 {

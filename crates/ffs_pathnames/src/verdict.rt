@@ -4,7 +4,8 @@ ghost use Rattle.ffs_volume.specs.Directories.Roles.{Volume};
 ghost use Rattle.ffs_layout.specs.Entry.{entry_value};
 ghost use Rattle.ffs_pathnames.specs.Gathers.{AreFaultsOf, IsVerdictBy};
 ghost use Rattle.ffs_pathnames.specs.Marks as marks;
-ghost use Rattle.ffs_pathnames.specs.Sees.{Sees, CanMark};
+ghost use Rattle.ffs_pathnames.specs.Sees.{Sees, CanMark, marks_in};
+ghost use Rattle.ffs_pathnames.specs.Stamps.{KeepPlaces};
 
 use crate::inodes::Inodes;
 use crate::look::is_bad_whiteout;
@@ -12,6 +13,7 @@ use ffs_layout::Entry;
 use ffs_memory::FilledList;
 use ffs_volume::constants::ROOTINO;
 use ffs_volume::{Label, Role};
+use ffs_workspace::passed;
 
 /// What is wrong with an allocated inode that a plain entry names.
 #[derive(Clone, Copy, Debug, PartialEq, Eq)]
@@ -48,17 +50,17 @@ fn faults_of(
     inodes: &Inodes<'_>,
     dir: u32,
     flags: &[bool],
-    stamps: &FilledList<u32>,
+    words: &FilledList<u32>,
     entry: &Entry<'_>,
 ) -> Faults
     requires inode { entry.now.number < length inodes.now.kinds.now }
-    requires marks { CanMark inodes.now flags.now stamps.now.items }
-    ensures { AreFaultsOf inodes.now dir (record { flags = flags.now; stamps = stamps.now.items })
+    requires marks { CanMark inodes.now flags.now words.now.items }
+    ensures { AreFaultsOf inodes.now dir (marks_in inodes.now flags.now words.now.items)
         (entry_value entry.now) result }
 {
     let index = entry.number as usize;
     let suspect = inodes.is_suspect(entry.number) && entry.number != ROOTINO && !flags[index];
-    let extraneous = inodes.is_dir(entry.number) && stamps[index] != dir;
+    let extraneous = inodes.is_dir(entry.number) && inodes.stamp(words, entry.number) != dir;
     Faults {
         suspect,
         marked: inodes.marked[index],
@@ -73,11 +75,11 @@ pub fn entry_verdict(
     inodes: &Inodes<'_>,
     dir: u32,
     flags: &[bool],
-    stamps: &FilledList<u32>,
+    words: &FilledList<u32>,
     entry: &Entry<'_>,
 ) -> Verdict
-    requires { CanMark inodes.now flags.now stamps.now.items }
-    ensures { IsVerdictBy inodes.now dir (record { flags = flags.now; stamps = stamps.now.items })
+    requires { CanMark inodes.now flags.now words.now.items }
+    ensures { IsVerdictBy inodes.now dir (marks_in inodes.now flags.now words.now.items)
         (entry_value entry.now) result }
 {
     if entry.number >= inodes.count() {
@@ -92,25 +94,27 @@ pub fn entry_verdict(
     if !inodes.is_allocated(entry.number) {
         return Verdict::Unallocated;
     }
-    Verdict::Named(faults_of(inodes, dir, flags, stamps, entry))
+    Verdict::Named(faults_of(inodes, dir, flags, words, entry))
 }
 
 /// Passes a plain entry: flags the inode that it names, if that is suspect (the flag of any other
-/// says that it is calm), and takes its stamp away where it is the directory's.
+/// says that it is calm), and takes its stamp away where it is the directory's: its parent entry is
+/// passed by its word, whose place stays.
 pub fn pass(
     inodes: &Inodes<'_>,
     dir: u32,
     flags: &mut [bool],
-    stamps: &mut FilledList<u32>,
+    words: &mut FilledList<u32>,
     role: Role,
     entry: &Entry<'_>,
 )
-    requires { CanMark inodes.now flags.old stamps.old.items }
+    requires { CanMark inodes.now flags.old words.old.items }
     ensures after { (v : Volume) → Sees v inodes.now →
-        marks.after_roled v dir (record { flags = flags.old; stamps = stamps.old.items })
+        marks.after_roled v dir (marks_in inodes.now flags.old words.old.items)
         (record { role = role; entry = entry_value entry.now })
-        ≡ record { flags = flags.new; stamps = stamps.new.items } }
-    ensures stamps_long { vec_len stamps.new ≡ vec_len stamps.old }
+        ≡ marks_in inodes.now flags.new words.new.items }
+    ensures places { KeepPlaces words.old.items words.new.items }
+    ensures words_long { vec_len words.new ≡ vec_len words.old }
 {
     if role != Role::Plain {
         return;
@@ -122,7 +126,7 @@ pub fn pass(
     if inodes.is_suspect(entry.number) {
         flags[index] = true;
     }
-    if stamps[index] == dir {
-        stamps.set(index, 0);
+    if inodes.stamp(words, entry.number) == dir {
+        words.set(index, passed(words[index]));
     }
 }

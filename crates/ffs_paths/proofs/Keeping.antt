@@ -1,6 +1,6 @@
 -- What is kept of a directory and its children stays right where only other parts of a workspace change.
 use Rattle.std.proofs.Common.{◌≡◌, List, ℕ, refl, sym, ap, subst, ◌∙◌}
-use Rattle.std.specs.Prelude.{Option, Result, Ok, Err}
+use Rattle.std.specs.Prelude.{Option, Result, Ok, Err, slice_index}
 use Rattle.ffs_image.specs.Device.{Device}
 use Rattle.ffs_image.specs.Reads.{ReadAfter}
 use Rattle.ffs_image.specs.declared.image.ImageFault.{ImageFault}
@@ -11,12 +11,13 @@ use Rattle.ffs_workspace.specs.Leaves.{LeavesSurvey}
 use Rattle.ffs_workspace.specs.Ready.{IsReady}
 use Rattle.ffs_workspace.proofs.Leaving.{claims_left, survey_left, windows_leave}
 use Rattle.ffs_paths.specs.Climbing.{AreOpen}
-use Rattle.ffs_paths.specs.Reads.{OnlyReads}
-use Rattle.ffs_paths.specs.Siblings.{KeepSiblings, PathLeaves}
+use Rattle.ffs_paths.specs.Reads.{ForTree, OnlyReads}
+use Rattle.ffs_workspace.specs.Places.{place_in}
+use Rattle.ffs_paths.specs.Siblings.{AreSiblings, KeepSiblings, PathLeaves, SamePlaces}
 use Rattle.ffs_paths.specs.declared.siblings.Siblings.{Siblings}
 
-leaves_back : (old new : Workspace) → LeavesSurvey old new → LeavesSurvey new old
-leaves_back old new s = record {
+leaves_back : (old new : Workspace) → LeavesSurvey old new → SamePlaces old new → LeavesSurvey new old
+leaves_back old new s same = record {
   claimed = sym s.claimed;
   kinds = sym s.kinds;
   marked = sym s.marked;
@@ -27,32 +28,39 @@ leaves_back old new s = record {
   parents = sym s.parents;
   runs_seen = sym s.runs_seen;
   runs_again = sym s.runs_again;
+  places = λ v b h x p k noted. h x p k (same x ∙ noted);
 }
 
+-- and so where the same places are noted, too
 pub siblings_on : (v : Layout) (contents contents' : Option (List ℕ)) (old new : Workspace) (s : Siblings) →
-    contents' ≡ contents → LeavesSurvey old new
+    contents' ≡ contents → LeavesSurvey old new → SamePlaces old new
     → KeepSiblings v contents old s → KeepSiblings v contents' new s
-siblings_on v contents contents' old new s e left k =
-    let back = leaves_back old new left in
+siblings_on v contents contents' old new s e left same k =
+    let back = leaves_back old new left same in
     record {
-      layout = k.layout;
-      right = λ b t claims survey some. k.right b (sym e ∙ t) (claims_left v b new old back claims)
-          (survey_left v b new old back survey) some;
-      names = record {
-        right = λ b t claims dir. k.names.right b (sym e ∙ t) (claims_left v b new old back claims) dir;
-        inside = k.names.inside;
-      };
+      right = λ b t claims survey. k.right b (sym e ∙ t) (claims_left v b new old back claims)
+          (survey_left v b new old back survey);
     }
+
+same_places : (old new : Workspace) → new ≡ record old { windows = new.windows } → SamePlaces old new
+same_places old new e = λ x. ap (λ (w : Workspace). place_in (slice_index w.queue.items x)) e
+
+-- and so where only the windows have changed
+pub siblings_held : (v : Layout) (contents contents' : Option (List ℕ)) (old new : Workspace) (s : Siblings) →
+    contents' ≡ contents → new ≡ record old { windows = new.windows }
+    → KeepSiblings v contents old s → KeepSiblings v contents' new s
+siblings_held v contents contents' old new s e lists k =
+    siblings_on v contents contents' old new s e (windows_leave old new lists) (same_places old new lists) k
 
 -- what is kept is right after a call that only read, and was right before it
 pub kept_on : {T : Type 0} {v : Layout} {d d' : Device} {w w' : Workspace} {x : T} (s : Siblings) →
     OnlyReads v d d' w w' (Ok x) → KeepSiblings v d.contents w s → KeepSiblings v d'.contents w' s
-kept_on s r k = siblings_on _ _ _ _ _ s (ap (λ d. d.contents) r.read) (windows_leave _ _ r.lists) k
+kept_on s r k = siblings_held _ _ _ _ _ s (ap (λ d. d.contents) r.read) r.lists k
 
-pub kept_back : {T : Type 0} {v : Layout} {d d' : Device} {w w' : Workspace} {x : T} (s : Siblings) →
-    OnlyReads v d d' w w' (Ok x) → KeepSiblings v d'.contents w' s → KeepSiblings v d.contents w s
-kept_back s r k =
-    siblings_on _ _ _ _ _ s (sym (ap (λ d. d.contents) r.read)) (leaves_back _ _ (windows_leave _ _ r.lists)) k
+-- the same of another answer, which is no fault either, or the same one
+pub reads_as : {S T : Type 0} {v : Layout} {d d' : Device} {w w' : Workspace} {x : S} {y : T} →
+    OnlyReads v d d' w w' (Ok x) → OnlyReads v d d' w w' (Ok y)
+reads_as r = record { lists = r.lists; chunk = r.chunk; ready = r.ready; read = r.read }
 
 -- what a call leaves that made a path, and one that changes nothing that is kept
 pub leaves_with : {T : Type 0} {v : Layout} {d d' : Device} {w w' : Workspace} {x : T} (s : Siblings) →
@@ -64,6 +72,11 @@ pub leaves_same : {T : Type 0} {v : Layout} {d d' : Device} {w w' : Workspace} (
     → PathLeaves v d d' w w' s result
 leaves_same s (Ok x) k r = leaves_with s r k
 leaves_same s (Err e) k r = record { reads = r; siblings = tt }
+
+-- what a call leaves that kept a path
+pub leaves_kept : {S T : Type 0} {v : Layout} {d d' : Device} {w w' : Workspace} {x : S} {y : T} (s : Siblings) →
+    OnlyReads v d d' w w' (Ok x) → ForTree v d w (λ g. AreSiblings g s) → PathLeaves v d d' w w' s (Ok y)
+leaves_kept s r kept = leaves_with s (reads_as r) (record { right = kept })
 
 -- the same of another answer that is no fault
 pub leaves_as : {S T : Type 0} {v : Layout} {d d' : Device} {w w' : Workspace} {s : Siblings} {x : S} {y : T} →
@@ -145,11 +158,6 @@ windows_open v d w r =
       chunk_holds = r.windows.chunk;
       names_hold = r.windows.names;
     }
-
--- the same of another answer, which is no fault either, or the same one
-pub reads_as : {S T : Type 0} {v : Layout} {d d' : Device} {w w' : Workspace} {x : S} {y : T} →
-    OnlyReads v d d' w w' (Ok x) → OnlyReads v d d' w w' (Ok y)
-reads_as r = record { lists = r.lists; chunk = r.chunk; ready = r.ready; read = r.read }
 
 pub reads_failed : {S T : Type 0} {v : Layout} {d d' : Device} {w w' : Workspace} {e : ImageFault} →
     OnlyReads {T = S} v d d' w w' (Err e) → OnlyReads {T = T} v d d' w w' (Err e)

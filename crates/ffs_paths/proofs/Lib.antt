@@ -1,11 +1,11 @@
 pub mod Children
+pub mod ChunkNames
 pub mod Ends
 pub mod Keeping
 pub mod Longer
-pub mod NamesFound
-pub mod Parts
 pub mod Prefixes
 pub mod Rooms
 pub mod Single
 pub mod Tails
 pub mod Ways
+pub mod Windows

@@ -48,36 +48,6 @@ name_in-past d e es h =
     (cond b (Some 0) (option_map suc (first_index (is_naming_entry d) es))))) h ∙ past e es (first_index
     (is_naming_entry d) es)
 
--- an entry that is empty names nothing
-not_plain : (r : Role) → is_filled r ≡ false → is_plain r ≡ false
-not_plain Plain h = h
-not_plain Dot h = refl
-not_plain Dotdot h = refl
-not_plain Extra h = refl
-not_plain Empty h = refl
-
-filled_on : (d : ℕ) (e : RoledEntry) (es : List RoledEntry)
-    → name_in d (filter (λ x. is_filled x.role) es) ≡ name_in d es
-    → name_in d (filter (λ x. is_filled x.role) (e ∷ es)) ≡ name_in d (e ∷ es)
-filled_on d e es same = go (is_filled e.role) refl (is_naming_entry d e) refl
-  where
-    fs : List RoledEntry
-    fs = filter (λ x. is_filled x.role) es
-
-    go : (p : Bool) → is_filled e.role ≡ p → (n : Bool) → is_naming_entry d e ≡ n
-        → name_in d (filter (λ x. is_filled x.role) (e ∷ es)) ≡ name_in d (e ∷ es)
-    go true p true n = ap (λ z. name_in d (cond z (e ∷ fs) fs)) p
-        ∙ (name_in-here d e fs n ∙ sym (name_in-here d e es n))
-    go true p false n = ap (λ z. name_in d (cond z (e ∷ fs) fs)) p
-        ∙ (name_in-past d e fs n ∙ (same ∙ sym (name_in-past d e es n)))
-    go false p n h = ap (λ z. name_in d (cond z (e ∷ fs) fs)) p
-        ∙ (same ∙ sym (name_in-past d e es (ap (λ z. z && (e.entry.number == d)) (not_plain e.role p))))
-
--- the first entry that names an inode isn't empty
-pub name_in-filled : (d : ℕ) (es : List RoledEntry) → name_in d (filter (λ x. is_filled x.role) es) ≡ name_in d es
-name_in-filled d [] = refl
-name_in-filled d (e ∷ es) = filled_on d e es (name_in-filled d es)
-
 -- the climb from d, of level k, has reached a directory, with the names below it
 pub record IsOnWay (g : Graph) (k d at step : ℕ) (p : PathBuffer) : Type 0 where
   pub left : ℕ

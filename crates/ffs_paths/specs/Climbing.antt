@@ -1,23 +1,22 @@
 -- What a climb to the root reads, and the path that it gives.
 use Rattle.std.specs.Prelude.{◌≡◌, ◌*◌, ◌<◌, ◌≤◌, ℕ, nat_lt, true, if◌then◌else◌, List, [], ◌∷◌}
-use Rattle.std.specs.Prelude.{length, Option, Some, None, option_and_then, Result, vec_len, slice_index}
+use Rattle.std.specs.Prelude.{length, Option, Some, None, Result, vec_len, slice_index}
 use Rattle.ffs_image.specs.Device.{Device}
 use Rattle.ffs_image.specs.Reads.{ReadAfter}
 use Rattle.ffs_image.specs.declared.image.ImageFault.{ImageFault}
 use Rattle.ffs_volume.specs.declared.Layout.{Layout}
-use Rattle.ffs_volume.specs.Directories.Graph.{Graph, is_naming_entry, first_index}
-use Rattle.ffs_volume.specs.Directories.Parents.{nth_roled}
-use Rattle.ffs_volume.specs.Directories.Paths.{name_of, dir_path, entry_path}
-use Rattle.ffs_volume.specs.Directories.Roles.{RoledEntry}
+use Rattle.ffs_volume.specs.Directories.Graph.{Graph, parent}
+use Rattle.ffs_volume.specs.Directories.Paths.{dir_path, entry_path}
 use Rattle.ffs_walk.specs.Windows.{BlocksHold, WindowHolds}
 use Rattle.ffs_workspace.specs.declared.workspace.Windows.{Windows}
 use Rattle.ffs_workspace.specs.declared.workspace.Workspace.{Workspace}
 use Rattle.ffs_workspace.specs.Holds.{bool_at}
 use Rattle.ffs_workspace.specs.Tables.{IsTableOf}
+pub use Rattle.ffs_workspace.specs.Places.{name_in}
 
--- the name of the first plain entry that names an inode, empty if there is none
-abbrev pub name_in : ℕ → List RoledEntry → List ℕ
-name_in d es = name_of (option_and_then (nth_roled es) (first_index (is_naming_entry d) es))
+-- it is the name of the directory d in its parent p: that of the first plain entry there that names it, if there is one
+abbrev pub IsNameIn : Graph → (d p : ℕ) → List ℕ → Type 0
+IsNameIn g d p name = parent g d ≡ Some p → g.is_dir p ≡ true → name ≡ name_in d (g.entries p)
 
 -- the windows are a block's, and hold what the image gives, which has all of the volume
 pub record AreOpen (v : Layout) (d : Device) (w : Windows) : Type 0 where

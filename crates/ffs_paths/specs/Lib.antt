@@ -1,10 +1,8 @@
 pub mod Buffers
-pub mod ChildNames
 pub mod Climbing
 pub mod DirectoryPaths
 pub mod EntryPaths
 pub mod LastPaths
 pub mod Reads
-pub mod Searches
 pub mod Siblings
 pub mod Slashes

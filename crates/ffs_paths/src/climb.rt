@@ -7,7 +7,7 @@ ghost use Rattle.ffs_paths.specs.Buffers.{HoldsNames};
 ghost use Rattle.ffs_paths.specs.Reads.{ForTree, IsReadyFor, OnlyReads};
 
 use crate::buffer::PathBuffer;
-use crate::search::Search;
+use crate::name::{NameText, find_name};
 use ffs_image::{Image, ImageFault};
 use ffs_layout::Geometry;
 use ffs_volume::constants::ROOTINO;
@@ -32,6 +32,7 @@ pub fn climb<I: Image>(
 {
     let count = workspace.notes.len();
     let mut path = PathBuffer::new();
+    let mut name = NameText::new();
     let mut at = dir;
     'up: for step in 0..count {
         if at == ROOTINO {
@@ -44,10 +45,8 @@ pub fn climb<I: Image>(
         if parent as usize >= count {
             return Ok(path);
         }
-        let cut = workspace.cut_of(parent);
-        let mut search = Search::open(geometry, image, &mut workspace.windows, parent, cut)?;
-        let found = search.find(image, &mut workspace.windows, at)?;
-        path.push_front(search.found_name(found));
+        find_name(geometry, image, workspace, parent, at, &mut name)?;
+        path.push_front(name.as_slice());
         at = parent;
     }
     Ok(path)

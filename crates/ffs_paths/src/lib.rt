@@ -3,15 +3,17 @@
 //! `path_of` writes the path of a directory, or of an entry of it, into a buffer of 1,024 bytes:
 //! the definition's path, cut to `?` and its longest end of whole names where it is longer.
 //! `Siblings` makes the paths of one directory after another, and keeps what the next can use.
+//! The name of a directory in its parent is read from the chunk that the workspace notes as its
+//! place, and where it isn't there, searched in all entries of the parent.
 //!
 //! It rests on `ffs_names` and `ffs_workspace`.
 #![tactic(auto)]
 
 mod buffer;
-mod child_names;
 mod climb;
 mod entry_paths;
 mod kept;
+mod name;
 mod path;
 mod search;
 mod siblings;

@@ -1,10 +1,11 @@
 -- What a workspace holds is held by one with the same findings.
-use Rattle.std.proofs.Common.{◌≡◌, ℕ, List, refl, ap, ◌∙◌, slice_index}
+use Rattle.std.proofs.Common.{◌≡◌, ℕ, List, refl, ap, sym, subst, ◌∙◌, slice_index}
 use Rattle.ffs_maps.specs.Bits.{bits_of}
 use Rattle.ffs_volume.specs.declared.Layout.{Layout}
 use Rattle.ffs_workspace.specs.declared.workspace.Workspace.{Workspace}
 use Rattle.ffs_workspace.specs.Holds.{bool_at, HoldsClaims, HoldsFindings, HoldsReferences, HoldsSurvey}
 use Rattle.ffs_workspace.specs.Leaves.{LeavesSurvey}
+use Rattle.ffs_workspace.specs.Places.{ArePlaces}
 
 pub leaves_all : (w : Workspace) → LeavesSurvey w w
 leaves_all w = record {
@@ -18,6 +19,7 @@ leaves_all w = record {
   parents = refl;
   runs_seen = refl;
   runs_again = refl;
+  places = λ v b h. h;
 }
 
 -- what two calls leave
@@ -33,6 +35,7 @@ leaves_more a b c s t = record {
   parents = t.parents ∙ s.parents;
   runs_seen = t.runs_seen ∙ s.runs_seen;
   runs_again = t.runs_again ∙ s.runs_again;
+  places = λ v b h. t.places v b (s.places v b h);
 }
 
 -- where only the windows have changed
@@ -48,6 +51,7 @@ windows_leave old new e = record {
   parents = ap (λ (w : Workspace). w.parents) e;
   runs_seen = ap (λ (w : Workspace). w.runs_seen) e;
   runs_again = ap (λ (w : Workspace). w.runs_again) e;
+  places = λ v b h. subst (ArePlaces v b) (sym (ap (λ (w : Workspace). w.queue.items) e)) h;
 }
 
 pub claims_left : (v : Layout) (b : List ℕ) (old new : Workspace) → LeavesSurvey old new → HoldsClaims v b old →
@@ -65,6 +69,7 @@ survey_left v b old new s h = record {
   named = λ x l. ap (λ k. bool_at k.items x) s.named ∙ h.named x l;
   reached = λ x. ap (λ k. bool_at k.items x) s.reached ∙ h.reached x;
   parents = λ x. ap (λ k. slice_index k.items x) s.parents ∙ h.parents x;
+  places = s.places v b h.places;
 }
 
 pub references_left : (v : Layout) (b : List ℕ) (old new : Workspace) → LeavesSurvey old new →

@@ -1,6 +1,7 @@
 pub mod KindLaws
 pub mod NoteLaws
-pub mod Places
+pub mod TablePlaces
+pub mod PlaceLaws
 pub mod Leaving
 pub mod Readiness
 mod Requests

@@ -12,6 +12,7 @@ use Rattle.ffs_volume.specs.Directories.Roles.{references}
 use Rattle.ffs_volume.specs.Directories.Parents.{graph_of}
 use Rattle.ffs_volume.specs.Directories.Volumes.{is_inode_number, marked_at, volume_of}
 use Rattle.ffs_workspace.specs.Notes.{note_at}
+use Rattle.ffs_workspace.specs.Places.{ArePlaces}
 use Rattle.ffs_maps.specs.Bits.{bits_of}
 use Rattle.ffs_workspace.specs.declared.workspace.Workspace.{Workspace}
 use Rattle.ffs_volume.specs.Encodings.Kinds.{kind_at}
@@ -84,12 +85,13 @@ pub record HoldsReferences (v : Layout) (image : List ℕ) (w : Workspace) : Typ
   pub counts : (x : ℕ) → x < inodes_of v
       → slice_index w.references.items x ≡ start_at v image x + references (volume_of v image) x
 
--- what the survey leaves of each inode: whether a plain entry names it, whether it is reached from
--- the root, and its parent, or 0 for none
+-- what the survey leaves of each inode: whether a plain entry names it, whether it is reached from the root, and its
+-- parent, or 0 for none. Each place that is noted in `queue` is that of a parent entry
 pub record HoldsSurvey (v : Layout) (image : List ℕ) (w : Workspace) : Type 0 where
   pub named : (x : ℕ) → x < inodes_of v → bool_at w.named.items x ≡ is_named (graph_of (volume_of v image)) x
   pub reached : (x : ℕ) → bool_at w.reached.items x ≡ reached (graph_of (volume_of v image)) x
   pub parents : (x : ℕ) → slice_index w.parents.items x ≡ unwrap_or (parent (graph_of (volume_of v image)) x) 0
+  pub places : ArePlaces v image w.queue.items
 
 -- what the block check and the survey leave for the check of reference counts
 pub record HoldsFindings (v : Layout) (image : List ℕ) (w : Workspace) : Type 0 where

@@ -1,8 +1,11 @@
 -- What the phases after the survey of directories leave of a workspace.
-use Rattle.std.specs.Prelude.{◌≡◌}
+use Rattle.std.specs.Prelude.{◌≡◌, ℕ, List}
+use Rattle.ffs_volume.specs.declared.Layout.{Layout}
+use Rattle.ffs_workspace.specs.Places.{ArePlaces}
 use Rattle.ffs_workspace.specs.declared.workspace.Workspace.{Workspace}
 
--- what the block check and the survey of directories found is as it was
+-- what the block check and the survey of directories found is as it was, and each place that is noted is right where
+-- each one was
 pub record LeavesSurvey (old new : Workspace) : Type 0 where
   pub claimed : new.claimed ≡ old.claimed
   pub kinds : new.kinds ≡ old.kinds
@@ -14,3 +17,4 @@ pub record LeavesSurvey (old new : Workspace) : Type 0 where
   pub parents : new.parents ≡ old.parents
   pub runs_seen : new.runs_seen ≡ old.runs_seen
   pub runs_again : new.runs_again ≡ old.runs_again
+  pub places : (v : Layout) (b : List ℕ) → ArePlaces v b old.queue.items → ArePlaces v b new.queue.items

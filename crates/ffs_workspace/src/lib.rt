@@ -14,10 +14,12 @@
 
 mod links;
 mod notes;
+mod places;
 mod table;
 mod workspace;
 
 pub use links::links_start;
 pub use notes::{address_in, cut_in, note_of};
+pub use places::{due, is_due, passed, place_in, place_of};
 pub use table::Table;
 pub use workspace::{Windows, Workspace};

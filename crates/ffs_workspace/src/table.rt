@@ -20,7 +20,7 @@ const PART_INODES: u32 = 32;
 /// Where the piece of the inode table is that has an inode, in bytes from the start of the image. A
 /// piece has `count` inodes.
 #[inline(always)]
-#[tactic(auto, using(crate::proofs::Places::piece_inside, ffs_volume::proofs::AreaLaws::inode_group))]
+#[tactic(auto, using(crate::proofs::TablePlaces::piece_inside, ffs_volume::proofs::AreaLaws::inode_group))]
 fn piece_place(geometry: &Geometry, number: u32, count: u32) -> u64
     requires number { number < geometry.now.layout.ncg * geometry.now.layout.ipg }
     requires count { DividesBlock geometry.now.layout count }
@@ -76,7 +76,7 @@ impl Table {
     }
 
     // Reads the piece of the table, of `count` inodes, that has an inode.
-    #[tactic(auto, using(crate::proofs::Places::piece_room))]
+    #[tactic(auto, using(crate::proofs::TablePlaces::piece_room))]
     fn read_piece<I: Image>(
         &mut self,
         geometry: &Geometry,
@@ -103,7 +103,7 @@ impl Table {
     // Reads the block of the table that has an inode, unless the window holds the inode. Returns
     // where its bytes are in the window.
     #[inline(always)]
-    #[tactic(auto, using(crate::proofs::Places::block_divides))]
+    #[tactic(auto, using(crate::proofs::TablePlaces::block_divides))]
     fn load<I: Image>(
         &mut self,
         geometry: &Geometry,
@@ -152,7 +152,7 @@ impl Table {
     }
 
     // How many inodes are read where one isn't held.
-    #[tactic(auto, using(crate::proofs::Places::parts_divide, crate::proofs::Places::sectors_divide))]
+    #[tactic(auto, using(crate::proofs::TablePlaces::parts_divide, crate::proofs::TablePlaces::sectors_divide))]
     fn count_to_read(&self, number: u32) -> u32
         ensures { DividesBlocks result }
     {

@@ -56,6 +56,7 @@ pub struct Workspace {
     /// The parent of each directory, or 0.
     pub parents: FilledList<u32>,
     /// Numbers that the survey and phases 2 and 3 use one after another, each for its own purpose.
+    /// Between them, of each directory, the place of its parent entry, if it is noted (`place_in`).
     pub queue: FilledList<u32>,
     /// How many Runs phase 1 has looked at.
     pub runs_seen: u64,

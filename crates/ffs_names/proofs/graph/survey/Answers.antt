@@ -3,28 +3,29 @@ use Rattle.std.specs.Prelude.{slice_index}
 use Rattle.std.proofs.lemmas.List.{with_items_is}
 use Rattle.ffs_volume.proofs.Sizes.{some_inodes}
 use Rattle.ffs_workspace.specs.Tables.{IsTableOf}
+use Rattle.ffs_workspace.proofs.PlaceLaws.{filled_noted}
 use Rattle.ffs_names.proofs.SurveyHolds.{on_ok, volume_in, blocks_in, volume_survey, holds_survey, volume_calm}
 use Rattle.ffs_names.proofs.SurveyHolds.{holds_calm, holds_references}
 use Rattle.ffs_names.proofs.graph.survey.Goals as goal
 
 pub returns-clause-read : goal.returns-clause-read
 returns-clause-read g c =
-    rw (c.image-1.given.1 (sym (ap (λ x. x.image_lent) c.survey.ensures.reader.same))) c.survey.ensures.reader.read
+    rw (c.image-1.given.1 (sym (ap (λ x. x.image_lent) c.survey-surveyed.ensures.reader.same))) c.survey-surveyed.ensures.reader.read
 
 pub returns-clause-ready : goal.returns-clause-ready
 returns-clause-ready g c =
     let v = c.args.geometry.now.layout in
-    let image = c.image-1.given.1 (sym (ap (λ x. x.image_lent) c.survey.ensures.reader.same)) in
-    let same = ap (λ x. x.layout) c.survey.ensures.reader.same in
-    let r = c.survey.ensures.reader.is_ready.0 in
-    let table = subst (λ l. IsTableOf l c.survey.new.directories.windows.now.table) same r.table in
+    let image = c.image-1.given.1 (sym (ap (λ x. x.image_lent) c.survey-surveyed.ensures.reader.same)) in
+    let same = ap (λ x. x.layout) c.survey-surveyed.ensures.reader.same in
+    let r = c.survey-surveyed.ensures.reader.is_ready.0 in
+    let table = subst (λ l. IsTableOf l c.survey-surveyed.new.directories.windows.now.table) same r.table in
     record {
       made = search rules;
       volume = volume_in v _ _ _ same (ap g.I.Image.device image) r.volume;
       windows = record {
         table = rw image r.table_holds;
-        blocks = blocks_in v c.survey.new.directories.geometry.layout (g.I.Image.device c.image-1.given.0).contents
-            (g.I.Image.device c.survey.new.directories.image.now).contents c.survey.new.directories.windows.now.blocks
+        blocks = blocks_in v c.survey-surveyed.new.directories.geometry.layout (g.I.Image.device c.image-1.given.0).contents
+            (g.I.Image.device c.survey-surveyed.new.directories.image.now).contents c.survey-surveyed.new.directories.windows.now.blocks
             same (ap (λ x. (g.I.Image.device x).contents) image) r.blocks_hold;
         chunk = rw image r.chunk_holds;
         names = rw image r.names_hold;
@@ -32,9 +33,9 @@ returns-clause-ready g c =
     }
 
 pub returns-clause-survey : goal.returns-clause-survey
-returns-clause-survey g c = on_ok c.survey.result _ _ (λ s b t h.
+returns-clause-survey g c = on_ok c.survey-surveyed.result _ _ (λ s b t h.
     let w = c.args.workspace.now in
-    let n = c.survey.new in
+    let n = c.survey-surveyed.new in
     let found = s b (record {
       bytes = t;
       kinds = λ x. ap (λ ks. slice_index ks x) c.deref.ensures.value ∙ h.kinds x;
@@ -51,13 +52,13 @@ returns-clause-survey g c = on_ok c.survey.result _ _ (λ s b t h.
     (λ x. ap (λ ks. slice_index ks x) c.deref-2.ensures.value ∙ h.kinds x) found in
     holds_survey c.args.geometry.now.layout b _ _ n.references.items n.named n.reached n.parents.items
     (with_items_is w.named n.named (search rules))
-    (with_items_is w.reached n.reached (search rules)) refl survey)
-    c.survey.ensures.survey
+    (with_items_is w.reached n.reached (search rules)) refl (filled_noted _ _ _ _ c.fill.ensures.items) survey)
+    c.survey-surveyed.ensures.survey
 
 pub returns-clause-references : goal.returns-clause-references
-returns-clause-references g c = on_ok c.survey.result _ _ (λ s b t h starts.
+returns-clause-references g c = on_ok c.survey-surveyed.result _ _ (λ s b t h starts.
     let w = c.args.workspace.now in
-    let n = c.survey.new in
+    let n = c.survey-surveyed.new in
     let found = s b (record {
       bytes = t;
       kinds = λ x. ap (λ ks. slice_index ks x) c.deref.ensures.value ∙ h.kinds x;
@@ -74,12 +75,12 @@ returns-clause-references g c = on_ok c.survey.result _ _ (λ s b t h starts.
     (λ x. ap (λ ks. slice_index ks x) c.deref-2.ensures.value ∙ h.kinds x) found in
     holds_references c.args.geometry.now.layout b w _ _ n.references.items n.named n.reached n.parents.items
     (search rules) refl starts survey)
-    c.survey.ensures.survey
+    c.survey-surveyed.ensures.survey
 
 pub returns-clause-calm : goal.returns-clause-calm
-returns-clause-calm g c = on_ok c.survey.result _ _ (λ s b t h.
+returns-clause-calm g c = on_ok c.survey-surveyed.result _ _ (λ s b t h.
     let w = c.args.workspace.now in
-    let n = c.survey.new in
+    let n = c.survey-surveyed.new in
     let found = s b (record {
       bytes = t;
       kinds = λ x. ap (λ ks. slice_index ks x) c.deref.ensures.value ∙ h.kinds x;
@@ -97,10 +98,10 @@ returns-clause-calm g c = on_ok c.survey.result _ _ (λ s b t h.
     (sym c.deref-2.ensures.value) (sym c.deref-3.ensures.value)
     (with_items_is w.reached n.reached (search rules)) refl
     (with_items_is w.flags n.calm (search rules)) calm)
-    c.survey.ensures.calm
+    c.survey-surveyed.ensures.calm
 
-pub survey-requires-clause-lists : goal.survey-requires-clause-lists
-survey-requires-clause-lists g c = record {
+pub survey-surveyed-requires-clause-lists : goal.survey-surveyed-requires-clause-lists
+survey-surveyed-requires-clause-lists g c = record {
   some = let k = some_inodes c.args.geometry.now.layout c.args.geometry.now.sound in
       omega (arith, c.deref-2.ensures.len, c.requires.made.kinds, k);
   few = search (rules, arith);

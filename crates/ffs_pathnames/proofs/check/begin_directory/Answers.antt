@@ -15,7 +15,7 @@ report_header-requires g c =
     record {
       ready = examined.ready;
       siblings = siblings_on _ _ _ _ _ _ (ap (λ d. d.contents) examined.read) examined.lists.survey
-          c.requires.ready.siblings;
+          examined.lists.places c.requires.ready.siblings;
       number = c.requires.ready.number;
     }
 

@@ -1,10 +1,12 @@
-use Rattle.std.proofs.Common.{refl, sym, ap, ◌∙◌, ℕ, List, map, Err}
+use Rattle.std.proofs.Common.{refl, sym, ap, subst, ◌∙◌, ℕ, List, map, Err}
 use Rattle.std.proofs.lemmas.Result.{err_from_is_err_and}
 use Rattle.ffs_volume.specs.Messages.Kinds.{of_tree}
 use Rattle.ffs_volume.specs.Directories.PathnameCheck.{sized_dir_lines, lines_of_entries}
 use Rattle.ffs_volume.specs.Directories.Roles.{roled_entries}
 use Rattle.ffs_volume.specs.Directories.Volumes.{volume_of}
+use Rattle.ffs_phase.specs.Runs.{ImageAfter}
 use Rattle.ffs_phase.proofs.Reporting.{of_begins, of_part, of_fault, of_last, said_knows, reports_knowing}
+use Rattle.ffs_workspace.proofs.Leaving.{leaves_more}
 use Rattle.ffs_pathnames.specs.declared.examine.DirectorySummary.{DirectorySummary}
 use Rattle.ffs_pathnames.specs.Begins.{dir_starts}
 use Rattle.ffs_pathnames.specs.Gathers.{marks_of}
@@ -79,3 +81,14 @@ returns-clause-marks g c =
       (c.in_ok-examined.ensures.begun b k.0).inode,
     )))
     c.report_directory.ensures.marks
+
+pub returns-clause-leaves : goal.returns-clause-leaves
+returns-clause-leaves g c =
+    let begun = c.in_ok-examined.ensures.leaves in
+    let left = c.report_directory.ensures.leaves in
+    record {
+      image = subst (λ d. ImageAfter d (g.I.Image.device c.report_directory.new.image) c.report_directory.result)
+          begun.image left.image;
+      survey = leaves_more _ _ _ begun.survey left.survey;
+      ready = left.ready;
+    }

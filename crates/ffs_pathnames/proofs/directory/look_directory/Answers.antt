@@ -9,20 +9,22 @@ use Rattle.ffs_volume.specs.Directories.PathnameCheck.{are_sound}
 use Rattle.ffs_names.specs.Readings.{rest, gap_left}
 use Rattle.ffs_walk.specs.Windows.{WindowHolds}
 use Rattle.ffs_pathnames.specs.Marks.{are_quiet, after_looks}
+use Rattle.ffs_pathnames.specs.Sees.{stamps_in}
 use Rattle.ffs_pathnames.specs.Reads.{chunks_read, start_of}
 use Rattle.ffs_pathnames.proofs.Directories.{chunk_quiet, chunk_stamps, chunk_sound, all_quiet, all_stamps, all_sound}
 use Rattle.ffs_pathnames.proofs.directory.look_directory.Goals as goal
 
 pub chunks-init : goal.chunks-init
 unfolding chunks_read
-chunks-init g c = record {
+chunks-init g c = let first = stamps_in c.args.inodes.now c.args.words.now.items in record {
   same = refl;
   geometry = c.start-chunks.ensures.geometry;
-  stamps_long = refl;
+  words_long = refl;
+  places = λ x. refl;
   ready = c.requires.ready;
-  quiet = λ b t v s h. ap (λ cs. are_quiet v c.args.dir c.args.stamps.now.items (flat_map roled_chunk cs))
+  quiet = λ b t v s h. ap (λ cs. are_quiet v c.args.dir first (flat_map roled_chunk cs))
       (sym (c.start-chunks.ensures.begins.chunks b h));
-  stamps = λ b t v s h. ap (λ cs. after_looks v c.args.dir c.args.stamps.now.items (flat_map roled_chunk cs))
+  stamps = λ b t v s h. ap (λ cs. after_looks v c.args.dir first (flat_map roled_chunk cs))
       (sym (c.start-chunks.ensures.begins.chunks b h));
   sound = λ b t h. ap are_sound (sym (c.start-chunks.ensures.begins.chunks b h));
   gap = λ b t. sym (ap (λ x. x || gap_left b c.start-chunks.result) c.start-chunks.ensures.begins.gap ∙
@@ -33,6 +35,8 @@ chunks-init g c = record {
 pub chunks-preserved : goal.chunks-preserved
 chunks-preserved g c =
     let inv = c.chunks.invariant in
+    let old = stamps_in c.args.inodes.now c.chunks.words.items in
+    let new = stamps_in c.args.inodes.now c.look_chunk-looked.new.words.items in
     let now = λ (b : List ℕ) (t : (g.I.Image.device c.args.image.now).contents ≡ Some b). ap (λ d. d.contents) inv.same
     ∙ t in
     let read = rw c.in-Some.is at c.in_ok-offset.ensures.chunk in
@@ -44,13 +48,14 @@ chunks-preserved g c =
     record {
       same = c.in_ok-offset.ensures.leaves.read ∙ inv.same;
       geometry = c.in_ok-offset.ensures.leaves.geometry ∙ inv.geometry;
-      stamps_long = c.look_chunk-looked.ensures.stamps_long ∙ inv.stamps_long;
+      words_long = c.look_chunk-looked.ensures.words_long ∙ inv.words_long;
+      places = λ x. c.look_chunk-looked.ensures.places x ∙ inv.places x;
       ready = rw inv.geometry at c.in_ok-offset.ensures.leaves.ready;
-      quiet = λ b t v s h. chunk_quiet v c.args.dir c.chunks.stamps.items c.look_chunk-looked.new.stamps.items
+      quiet = λ b t v s h. chunk_quiet v c.args.dir old new
           (rest b c.chunks.chunks) (rest b c.next.new.self) here
           _ c.chunks.quiet c.look_chunk-looked.result.quiet (next b t) (c.look_chunk-looked.ensures.look.quiet v s)
           (c.look_chunk-looked.ensures.look.stamps v s) (inv.quiet b t v s h);
-      stamps = λ b t v s h. chunk_stamps v c.args.dir c.chunks.stamps.items c.look_chunk-looked.new.stamps.items _
+      stamps = λ b t v s h. chunk_stamps v c.args.dir old new _
           (rest b c.chunks.chunks) (rest b c.next.new.self) here
           (next b t) (c.look_chunk-looked.ensures.look.stamps v s) (inv.stamps b t v s h);
       sound = λ b t h. chunk_sound (rest b c.chunks.chunks) (rest b c.next.new.self) here _ c.chunks.sound
@@ -64,14 +69,15 @@ chunks-preserved g c =
 pub returns-clause-found : goal.returns-clause-found
 returns-clause-found g c = λ b t.
     let inv = c.chunks.invariant in
+    let old = stamps_in c.args.inodes.now c.chunks.words.items in
     let now = ap (λ d. d.contents) inv.same ∙ t in
     let later = ap (λ d. d.contents) (c.in_ok-offset.ensures.leaves.read ∙ inv.same) ∙ t in
     let read = (rw c.in_default.is at c.in_ok-offset.ensures.chunk) b now in
     let none = read.chunks.0 in
     record {
-      quiet = λ v s h. all_quiet v c.args.dir c.chunks.stamps.items (rest b c.chunks.chunks) _ c.chunks.quiet none
+      quiet = λ v s h. all_quiet v c.args.dir old (rest b c.chunks.chunks) _ c.chunks.quiet none
           (inv.quiet b t v s h);
-      stamps = λ v s h. all_stamps v c.args.dir c.chunks.stamps.items _ (rest b c.chunks.chunks) none (inv.stamps b t v s h);
+      stamps = λ v s h. all_stamps v c.args.dir old _ (rest b c.chunks.chunks) none (inv.stamps b t v s h);
       sound = λ h. all_sound (rest b c.chunks.chunks) _ c.chunks.sound none (inv.sound b t h);
       gap = c.in_ok-gap.ensures.gap b later ∙ (read.gap ∙ sym (inv.gap b t));
       started = λ h. inv.started b t h

@@ -11,6 +11,7 @@ use Rattle.ffs_paths.specs.DirectoryPaths.{IsPathOf}
 use Rattle.ffs_pathnames.specs.Gathers.{marks_of}
 use Rattle.ffs_pathnames.specs.DirectoryContext.{DirectoryContext}
 use Rattle.ffs_pathnames.specs.Marks.{after_roled, after_entries, entry_lines_of, entries_reported}
+use Rattle.ffs_pathnames.proofs.Begun.{image_same}
 use Rattle.ffs_pathnames.proofs.Looking.{roled_at_place, seen_next, none}
 use Rattle.ffs_workspace.proofs.Leaving.{leaves_all, leaves_more}
 use Rattle.ffs_pathnames.proofs.Passing.{entry_reported, entry_passed, none_left, knows_on}
@@ -59,6 +60,17 @@ returns-in_err-report_entry-clause-text g c =
           (ap (λ d. d.contents) inv.device) inv.survey k.knows;
       path = subst (IsPathOf (graph_of (volume_of v b)) c.args.dir) (sym inv.path) k.path;
     }) c.in_err-report_entry.ensures.text))
+
+pub returns-in_err-report_entry-clause-leaves : goal.returns-in_err-report_entry-clause-leaves
+returns-in_err-report_entry-clause-leaves g c =
+    let inv = c.entries.invariant in
+    let left = c.in_err-report_entry.ensures.leaves in
+    let p = err_from_is_err_and c.from_residual.result c.from_residual.ensures.1 in
+    rw (p.1, p.2) (record {
+      image = image_same (Unit {0}) (Unit {0}) _ _ _ c.in_err-report_entry.field-0.0 inv.device left.image;
+      survey = leaves_more _ _ _ inv.survey left.survey;
+      ready = left.ready;
+    })
 
 pub entries-preserved : goal.entries-preserved
 entries-preserved g c =

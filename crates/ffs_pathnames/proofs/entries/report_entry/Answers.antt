@@ -1,14 +1,23 @@
 use Rattle.std.proofs.Common.{ap, refl, ◌∙◌, rules}
 use Rattle.std.proofs.lemmas.List.{with_items_is}
+use Rattle.std.proofs.lemmas.Result.{err_from_is_err_and}
 use Rattle.ffs_volume.specs.Directories.Volumes.{volume_of}
 use Rattle.ffs_layout.specs.Entry.{entry_value}
 use Rattle.ffs_workspace.specs.declared.workspace.Workspace.{Workspace}
 use Rattle.ffs_workspace.specs.Leaves.{LeavesSurvey}
 use Rattle.ffs_workspace.proofs.Leaving.{claims_left, survey_left, leaves_more, windows_leave}
+use Rattle.ffs_pathnames.specs.Gathers.{marks_of}
 use Rattle.ffs_pathnames.proofs.Passed.{passes}
 use Rattle.ffs_pathnames.proofs.SeesLaws.{sees}
+use Rattle.ffs_pathnames.proofs.StampLaws.{places_kept}
 use Rattle.ffs_paths.proofs.Keeping.{siblings_on}
 use Rattle.ffs_pathnames.proofs.entries.report_entry.Goals as goal
+
+pub returns-in_err-say_entry-clause-leaves : goal.returns-in_err-say_entry-clause-leaves
+returns-in_err-say_entry-clause-leaves g c =
+    let left = c.in_err-say_entry.ensures.leaves in
+    let p = err_from_is_err_and c.from_residual.result c.from_residual.ensures.1 in
+    rw (p.1, p.2) (record { image = left.image; survey = windows_leave _ _ left.lists; ready = left.ready })
 
 pub returns-clause-leaves : goal.returns-clause-leaves
 returns-clause-leaves g c =
@@ -27,6 +36,7 @@ returns-clause-leaves g c =
       parents = refl;
       runs_seen = refl;
       runs_again = refl;
+      places = λ v b. places_kept v b _ _ c.pass.ensures.places;
     } in
     record {
       image = left.image;
@@ -58,7 +68,7 @@ returns-clause-leaves g c =
             names = windows.names;
           };
         };
-        siblings = siblings_on _ _ _ _ _ _ refl marks said.siblings;
+        siblings = siblings_on _ _ _ _ _ _ refl marks c.pass.ensures.places said.siblings;
       };
     }
 
@@ -76,9 +86,9 @@ returns-clause-marks g c = λ b k.
       count = c.as_slice.ensures.len ∙ c.in_ok-say_entry.ensures.leaves.ready.ready.made.kinds;
     }) (claims_left v b before here kept k.claims) (survey_left v b before here kept k.survey) in
     passes (volume_of v b) c.args.dir (record { role = c.args.role; entry = entry_value c.args.entry.now })
-    before.flags.items _ _ _ before.queue.items _ _ _
+    before.flags.items _ _ _ (marks_of before).stamps _ _ _
     (c.as_mut_slice.ensures.value ∙ ap (λ (w : Workspace). w.flags.items) left)
-    (ap (λ (w : Workspace). w.queue.items) left)
+    (ap (λ (w : Workspace). (marks_of w).stamps) left)
     (c.pass.ensures.after (volume_of v b) shows)
     (with_items_is here.flags c.pass.new.flags (c.pass.auto.flags ∙ c.as_mut_slice.ensures.len))
     refl

@@ -3,12 +3,11 @@ use Rattle.std.specs.Prelude.{Result, Ok, Err}
 use Rattle.ffs_image.specs.Device.{Device}
 use Rattle.ffs_volume.specs.declared.Layout.{Layout}
 use Rattle.ffs_workspace.specs.declared.workspace.Workspace.{Workspace}
-use Rattle.ffs_workspace.proofs.Leaving.{windows_leave}
 use Rattle.ffs_phase.specs.declared.fault.RunFault.{RunFault}
 use Rattle.ffs_report.proofs.Reports.{said_none}
 use Rattle.ffs_paths.specs.Siblings.{KeepSiblings}
 use Rattle.ffs_paths.specs.declared.siblings.Siblings.{Siblings}
-use Rattle.ffs_paths.proofs.Keeping.{siblings_on}
+use Rattle.ffs_paths.proofs.Keeping.{siblings_held}
 use Rattle.ffs_pathnames.specs.Marks.{entry_lines_of}
 use Rattle.ffs_pathnames.specs.Ready.{LineLeaves, LinesLeave}
 use Rattle.ffs_pathnames.proofs.entries.say_entry.Goals as goal
@@ -44,7 +43,7 @@ line_leaves v d d' w w' s (Ok x) k l = record {
   chunk = l.chunk;
   ready = record {
     ready = l.ready;
-    siblings = siblings_on v _ _ w w' s (ap (λ (q : Device). q.contents) l.image) (windows_leave w w' l.lists) k;
+    siblings = siblings_held v _ _ w w' s (ap (λ (q : Device). q.contents) l.image) l.lists k;
   };
 }
 line_leaves v d d' w w' s (Err e) k l = record { image = l.image; lists = l.lists; chunk = l.chunk; ready = l.ready }

@@ -1,4 +1,4 @@
-use Rattle.std.proofs.Common.{◌<◌, ◌^◌, refl, sym, ap, subst, ◌∙◌, ◌==◌, arith, rules}
+use Rattle.std.proofs.Common.{◌<◌, ◌^◌, refl, sym, ap, subst, ◌∙◌, ◌==◌, arith}
 use Rattle.std.proofs.lemmas.Result.{err_from_is_err_and}
 use Rattle.std.specs.List.{find}
 use Rattle.ffs_image.specs.Device.{Faulted}
@@ -10,10 +10,13 @@ use Rattle.ffs_workspace.proofs.NoteLaws.{cut_is_noted}
 use Rattle.ffs_names.proofs.DirLaws.{dir_is, dir_size}
 use Rattle.ffs_names.specs.Windows.{CanReadChunks}
 use Rattle.ffs_workspace.proofs.Readiness.{ready_table}
+use Rattle.ffs_workspace.proofs.Leaving.{windows_leave}
+use Rattle.ffs_pathnames.specs.Gathers.{marks_of}
 use Rattle.ffs_pathnames.specs.Marks.{are_quiet, after_looks}
 use Rattle.ffs_pathnames.proofs.ChunkLaws.{chunks_are, gap_is, seen_are}
 use Rattle.ffs_pathnames.proofs.ReadyLaws.{can_read_in, ready_looked}
 use Rattle.ffs_pathnames.proofs.SeesLaws.{sees}
+use Rattle.ffs_pathnames.proofs.StampLaws.{queue_leaves}
 use Rattle.ffs_pathnames.proofs.examine.examine.Goals as goal
 
 pub returns-clause-found : goal.returns-clause-found
@@ -43,10 +46,10 @@ returns-clause-found g c = λ b k.
       sound = found.sound small ∙ ap are_sound chunks;
       started = sym (ap (find (λ x. x.offset == 0)) chunks) ∙ found.started small;
       quiet = found.quiet (volume_of v b) shows small
-          ∙ ap (are_quiet (volume_of v b) c.args.dir c.args.workspace.now.queue.items)
+          ∙ ap (are_quiet (volume_of v b) c.args.dir (marks_of c.args.workspace.now).stamps)
           (seen_are v b c.args.dir _ chunks);
       stamps = found.stamps (volume_of v b) shows small
-          ∙ ap (after_looks (volume_of v b) c.args.dir c.args.workspace.now.queue.items)
+          ∙ ap (after_looks (volume_of v b) c.args.dir (marks_of c.args.workspace.now).stamps)
           (seen_are v b c.args.dir _ chunks);
     }
 
@@ -67,8 +70,8 @@ look_directory-requires-clause-ready g c =
     subst (λ d. CanReadChunks v d w.windows.blocks w.windows.chunk) (sym c.in_ok-inode.ensures.read)
     (can_read_in v _ w c.requires.ready.ready)
 
-pub look_directory-requires-clause-stamps : goal.look_directory-requires-clause-stamps
-look_directory-requires-clause-stamps g c =
+pub look_directory-requires-clause-words : goal.look_directory-requires-clause-words
+look_directory-requires-clause-words g c =
     let made = c.requires.ready.ready.made in
     record {
       each = sym c.args.workspace.now.queue.ok.0 ∙ (made.queue ∙ sym (c.as_slice.ensures.len ∙ made.kinds));
@@ -83,12 +86,12 @@ returns-clause-leaves g c =
     let look = c.look_directory.ensures.leaves in
     let two = c.in_ok-found.ensures.leaves.read in
     record {
-      lists = search rules;
+      lists = queue_leaves w _ refl c.look_directory.ensures.places;
       ready = ready_looked v (g.I.Image.device c.args.image.now) (g.I.Image.device c.inode_by_part.new.image) _ w
           c.inode_by_part.new.self
-          c.look_directory.new.blocks c.look_directory.new.data c.look_directory.new.stamps c.requires.ready.ready
+          c.look_directory.new.blocks c.look_directory.new.data c.look_directory.new.words c.requires.ready.ready
           (ap (λ d. d.contents) one) (ap (λ d. d.size) one) c.inode_by_part.ensures.kept
-          (ap (λ d. d.contents) two) look.ready c.look_directory.ensures.stamps_long;
+          (ap (λ d. d.contents) two) look.ready c.look_directory.ensures.words_long;
       read = two ∙ one;
     }
 
@@ -102,7 +105,7 @@ returns-in_err-inode-clause-leaves g c =
     let err = c.in_err-inode.ensures.read in
     let p = err_from_is_err_and c.from_residual.result c.from_residual.ensures.1 in
     rw (p.1, p.2) (record {
-      lists = search rules;
+      lists = record { survey = windows_leave _ _ refl; flags = refl; places = λ x. refl };
       ready = ready_table c.args.geometry.now.layout (g.I.Image.device c.args.image.now) _ c.args.workspace.now
           c.inode_by_part.new.self err.contents err.size c.inode_by_part.ensures.kept c.requires.ready.ready;
       read = err;
@@ -121,12 +124,12 @@ returns-in_err-found-clause-leaves g c =
     let two = c.in_err-found.ensures.leaves.read in
     let p = err_from_is_err_and c.from_residual-in_err-found.result c.from_residual-in_err-found.ensures.1 in
     rw (p.1, p.2) (record {
-      lists = search rules;
+      lists = queue_leaves w _ refl c.look_directory.ensures.places;
       ready = ready_looked v (g.I.Image.device c.args.image.now) (g.I.Image.device c.inode_by_part.new.image) _ w
           c.inode_by_part.new.self
-          c.look_directory.new.blocks c.look_directory.new.data c.look_directory.new.stamps c.requires.ready.ready
+          c.look_directory.new.blocks c.look_directory.new.data c.look_directory.new.words c.requires.ready.ready
           (ap (λ d. d.contents) one) (ap (λ d. d.size) one) c.inode_by_part.ensures.kept two.contents look.ready
-          c.look_directory.ensures.stamps_long;
+          c.look_directory.ensures.words_long;
       read = subst (λ d. Faulted d (g.I.Image.device c.look_directory.new.image) c.in_err-found.field-0.0.sector) one
           two;
     })

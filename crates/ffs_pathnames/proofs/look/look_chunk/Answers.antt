@@ -2,7 +2,7 @@ use Rattle.std.proofs.Common.{◌≡◌, ◌+◌, ◌&&◌, ◌∙◌, arith}
 use Rattle.ffs_volume.specs.Directories.Roles.{RoledEntry, Volume}
 use Rattle.ffs_layout.specs.Entry.{entry_value}
 use Rattle.ffs_pathnames.specs.Marks.{is_quiet}
-use Rattle.ffs_pathnames.specs.Sees.{Sees}
+use Rattle.ffs_pathnames.specs.Sees.{Sees, stamps_in}
 use Rattle.ffs_pathnames.proofs.Looking.{roled_at_place, seen_next, quiet_on, stamps_on, length_on, quiet_ends}
 use Rattle.ffs_pathnames.proofs.Looking.{stamps_end, length_ends, none}
 use Rattle.ffs_pathnames.proofs.look.look_chunk.Goals as goal
@@ -10,6 +10,8 @@ use Rattle.ffs_pathnames.proofs.look.look_chunk.Goals.{then-quiet, else-quiet}
 
 pub entries-preserved : goal.entries-preserved
 entries-preserved c =
+    let old = stamps_in c.args.inodes.now c.entries.words.items in
+    let new = stamps_in c.args.inodes.now c.stamp.new.words.items in
     let e = entry_value c.in-Some.entry in
     let there = c.in-Some.ensures.some in
     let room = c.in-Some.ensures.room in
@@ -19,21 +21,22 @@ entries-preserved c =
     c.role_of-role.result there c.role_of-role.ensures in
     let seen : RoledEntry = record { role = c.role_of-role.result; entry = e } in
     let still : (v : Volume) → Sees v c.args.inodes.now → c.if-quiet.quiet
-    ≡ (c.entries.quiet && is_quiet v c.args.dir c.entries.stamps.items seen) = λ v s. elim c.if-quiet.branch [
+    ≡ (c.entries.quiet && is_quiet v c.args.dir old seen) = λ v s. elim c.if-quiet.branch [
       | then-quiet w ↦ rw w.if-quiet.true (w.quiet-is ∙ w.is_quiet-quiet.ensures v s)
       | else-quiet w ↦ rw w.if-quiet.false (w.quiet-is ∙ w.if-quiet.false)
     ] in
     rw c.from-place.ensures (record {
       place = omega arith;
       index = omega arith;
-      stamps_long = c.stamp.ensures.stamps_long ∙ c.entries.invariant.stamps_long;
-      quiet = λ v s. quiet_on v c.args.dir c.entries.stamps.items c.stamp.new.stamps.items seen
+      words_long = c.stamp.ensures.words_long ∙ c.entries.invariant.words_long;
+      places = λ x. c.stamp.ensures.places x ∙ c.entries.invariant.places x;
+      quiet = λ v s. quiet_on v c.args.dir old new seen
           (roled_at_place c.args.order c.args.chunk.now c.args.first c.entries.index c.entries.place)
           (roled_at_place c.args.order c.args.chunk.now c.args.first (c.entries.index + 1)
           (c.entries.place + c.in-Some.entry.length))
           _ c.entries.quiet c.if-quiet.quiet next (still v s)
           (c.stamp.ensures.after v s) (c.entries.invariant.quiet v s);
-      stamps = λ v s. stamps_on v c.args.dir c.entries.stamps.items c.stamp.new.stamps.items _ seen
+      stamps = λ v s. stamps_on v c.args.dir old new _ seen
           (roled_at_place c.args.order c.args.chunk.now c.args.first c.entries.index c.entries.place)
           (roled_at_place c.args.order c.args.chunk.now c.args.first (c.entries.index + 1)
           (c.entries.place + c.in-Some.entry.length))
@@ -43,12 +46,13 @@ entries-preserved c =
 
 pub returns-clause-look : goal.returns-clause-look
 returns-clause-look c =
+    let old = stamps_in c.args.inodes.now c.entries.words.items in
     let end = none c.args.order c.args.chunk.now c.entries.place c.entry_at.result c.in_default.is
     c.entry_at.ensures.value in
     record {
-      quiet = λ v s. quiet_ends v c.args.dir c.entries.stamps.items c.args.first c.entries.index c.args.order
+      quiet = λ v s. quiet_ends v c.args.dir old c.args.first c.entries.index c.args.order
           c.args.chunk.now c.entries.place _ c.entries.quiet end (c.entries.invariant.quiet v s);
-      stamps = λ v s. stamps_end v c.args.dir c.entries.stamps.items _ c.args.first c.entries.index c.args.order
+      stamps = λ v s. stamps_end v c.args.dir old _ c.args.first c.entries.index c.args.order
           c.args.chunk.now c.entries.place end (c.entries.invariant.stamps v s);
       sound = length_ends c.args.order c.args.chunk.now c.entries.place _ end c.entries.invariant.sound;
     }

@@ -4,10 +4,9 @@ use Rattle.std.proofs.lemmas.Result.{err_from_is_err_and}
 use Rattle.ffs_volume.specs.Directories.Parents.{graph_of}
 use Rattle.ffs_volume.specs.Directories.Volumes.{volume_of}
 use Rattle.ffs_paths.specs.LastPaths.{last_path}
-use Rattle.ffs_paths.proofs.Keeping.{leaves_with, no_reads, siblings_on}
+use Rattle.ffs_paths.proofs.Keeping.{leaves_with, no_reads, siblings_held}
 use Rattle.ffs_paths.proofs.Rooms.{entry_in_room}
 use Rattle.ffs_pathnames.proofs.Enough.{enough, path_asks_attr}
-use Rattle.ffs_workspace.proofs.Leaving.{windows_leave}
 use Rattle.ffs_pathnames.proofs.ReadyLaws.{reads_more}
 use Rattle.ffs_pathnames.proofs.one_entry.gather.Goals as goal
 
@@ -28,7 +27,7 @@ returns-clause-leaves g c =
     let attr = c.in_ok-attr.ensures.reads in
     record {
       reads = reads_more _ _ _ _ _ _ _ _ path.reads.read path.reads.lists path.reads.chunk attr;
-      siblings = siblings_on _ _ _ _ _ _ (ap (λ d. d.contents) attr.read) (windows_leave _ _ attr.lists) path.siblings;
+      siblings = siblings_held _ _ _ _ _ _ (ap (λ d. d.contents) attr.read) attr.lists path.siblings;
     }
 
 pub returns-then-not-wants_attr-clause-enough : goal.returns-then-not-wants_attr-clause-enough

@@ -1,7 +1,6 @@
 use Rattle.std.proofs.Common.{ap, ◌∙◌}
 use Rattle.std.proofs.lemmas.Result.{err_from_is_err_and}
-use Rattle.ffs_paths.proofs.Keeping.{siblings_on}
-use Rattle.ffs_workspace.proofs.Leaving.{windows_leave}
+use Rattle.ffs_paths.proofs.Keeping.{siblings_held}
 use Rattle.ffs_pathnames.proofs.ReadyLaws.{reads_more}
 use Rattle.ffs_pathnames.proofs.one_entry.gather_dir.Goals as goal
 
@@ -63,5 +62,5 @@ returns-clause-leaves g c =
     let attr = c.in_ok-attr.ensures.reads in
     record {
       reads = reads_more _ _ _ _ _ _ _ _ path.reads.read path.reads.lists path.reads.chunk attr;
-      siblings = siblings_on _ _ _ _ _ _ (ap (λ d. d.contents) attr.read) (windows_leave _ _ attr.lists) path.siblings;
+      siblings = siblings_held _ _ _ _ _ _ (ap (λ d. d.contents) attr.read) attr.lists path.siblings;
     }

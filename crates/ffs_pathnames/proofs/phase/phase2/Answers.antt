@@ -5,8 +5,9 @@ use Rattle.ffs_volume.specs.Messages.Kinds.{of_tree, phase2}
 use Rattle.ffs_volume.specs.Directories.PathnameCheck.{pathname_lines}
 use Rattle.ffs_volume.specs.Directories.Volumes.{volume_of}
 use Rattle.ffs_pathnames.specs.declared.phase.Root.{Root}
+use Rattle.ffs_pathnames.proofs.Begun.{on_ok}
 use Rattle.ffs_pathnames.proofs.Carrying.{on_all, if_ok, at_fault, at_fault_more, claims_untouched, before_first}
-use Rattle.ffs_workspace.proofs.Leaving.{claims_left, references_left, survey_left}
+use Rattle.ffs_pathnames.proofs.Carrying.{references_on}
 use Rattle.ffs_pathnames.proofs.SilentLaws.{calm_silent}
 use Rattle.ffs_pathnames.proofs.phase.phase2.Goals as goal
 
@@ -85,20 +86,22 @@ returns-clause-holds g c =
     let v = c.args.geometry.now.layout in
     let found = c.in_ok-survey.ensures in
     let clear = c.clear_marks.ensures in
-    let last = c.check_tree.ensures.leaves.survey in
-    on_all c.check_tree.result _
-    (λ b k. (
-      claims_left v b _ _ last (claims_left v b _ _ clear.clear.survey (claims_untouched v b _ _ found.same k.1)),
-      survey_left v b _ _ last (survey_left v b _ _ clear.clear.survey (found.survey b k.0 k.1)),
-    ))
+    let made = (clear.ready v _ found.ready).made in
+    on_ok c.check_tree.result _ _
+    (λ h b k. h b (before_first v _ b _ _ (ap (λ d. d.contents) found.read ∙ k.0)
+    (claims_untouched v b _ _ found.same k.1) (found.survey b k.0 k.1) made clear.clear
+    (λ x set. calm_silent v b _ c.args.geometry.now.sound found.ready.made
+    (claims_untouched v b _ _ found.same k.1) (found.survey b k.0 k.1) (found.calm b k.0 k.1) x set)))
+    c.check_tree.ensures.holds
 
 pub returns-clause-references : goal.returns-clause-references
 returns-clause-references g c =
     let v = c.args.geometry.now.layout in
     let found = c.in_ok-survey.ensures in
     on_all c.check_tree.result _
-    (λ b k. references_left v b _ _ c.check_tree.ensures.leaves.survey
-    (references_left v b _ _ c.clear_marks.ensures.clear.survey (found.references b k.0 k.1 k.2)))
+    (λ b k. references_on v b _ _
+    (c.check_tree.ensures.leaves.references ∙ c.clear_marks.ensures.clear.survey.references)
+    (found.references b k.0 k.1 k.2))
 
 pub check_tree-requires : goal.check_tree-requires
 check_tree-requires g c = c.clear_marks.ensures.ready _ _ c.in_ok-survey.ensures.ready

@@ -28,6 +28,12 @@ returns-in_err-path-clause-text g c =
     let p = err_from_is_err_and c.from_residual.result c.from_residual.ensures.1 in
     rw (p.1, p.2) (of_reads _ _ _ _ _ (of_begins _ _ _))
 
+pub returns-in_err-path-clause-leaves : goal.returns-in_err-path-clause-leaves
+returns-in_err-path-clause-leaves g c =
+    let left = c.in_err-path.ensures.leaves.reads in
+    let p = err_from_is_err_and c.from_residual.result c.from_residual.ensures.1 in
+    rw (p.1, p.2) (record { image = left.read; survey = windows_leave _ _ left.lists; ready = left.ready })
+
 pub chunks-init : goal.chunks-init
 chunks-init g c =
     let v = c.args.geometry.now.layout in

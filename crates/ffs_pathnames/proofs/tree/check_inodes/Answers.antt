@@ -1,33 +1,66 @@
-use Rattle.std.proofs.Common.{◌+◌, ◌-◌, [], map, refl, sym, ap, subst, ◌≡◌, suc, arith, rules, Err}
+use Rattle.std.proofs.Common.{◌+◌, ◌-◌, ◌<◌, [], map, refl, sym, ap, subst, ◌≡◌, ◌∙◌, suc, arith, rules, Err, List, ℕ}
+use Rattle.std.proofs.lemmas.Bool.{both_ways}
 use Rattle.std.proofs.lemmas.Result.{err_from_is_err_and}
 use Rattle.ffs_volume.proofs.Numbered.{from_next, from_end}
-use Rattle.ffs_phase.proofs.Reporting.{of_begins, of_same, of_part, of_fault, said_knows, reports_knowing}
+use Rattle.ffs_volume.proofs.Sizes.{some_inodes}
+use Rattle.ffs_phase.proofs.Reporting.{of_begins, of_same, of_part, of_fault, of_reads, said_knows, reports_knowing}
 use Rattle.ffs_volume.specs.Messages.Kinds.{of_tree, lines_from}
 use Rattle.ffs_volume.specs.Directories.PathnameCheck.{directory_lines}
 use Rattle.ffs_volume.specs.Directories.Volumes.{volume_of}
+use Rattle.ffs_workspace.specs.declared.workspace.Workspace.{Workspace}
 use Rattle.ffs_workspace.specs.Lengths.{inodes_of}
 use Rattle.ffs_pathnames.specs.Before.{IsBefore}
-use Rattle.ffs_workspace.proofs.Leaving.{leaves_all, leaves_more}
 use Rattle.ffs_pathnames.proofs.Carrying.{before_reported}
+use Rattle.ffs_pathnames.proofs.Skipping.{before_unseen, lines_unseen, noted_before}
 use Rattle.ffs_pathnames.proofs.tree.check_inodes.Goals as goal
+
+pub first_looked_at-first-requires-clause-some : goal.first_looked_at-first-requires-clause-some
+first_looked_at-first-requires-clause-some g c =
+    let k = some_inodes c.args.geometry.now.layout c.args.geometry.now.sound in omega (arith, k)
+
+pub returns-then-first-count-clause-text : goal.returns-then-first-count-clause-text
+returns-then-first-count-clause-text g c =
+    let v = c.args.geometry.now.layout in
+    let first = c.first_looked_at-first in
+    let all = λ (b : List ℕ). map of_tree (lines_from (directory_lines (volume_of v b)) 2 (inodes_of v - 2)) in
+    of_same _ all (λ b. []) _ _ _ (of_begins _ all _)
+    (λ b k. lines_unseen v _ _ b first.result (inodes_of v) c.args.geometry.now.sound first.ensures.range.0
+    first.ensures.range.1 first.ensures.before k
+    ∙ from_end (directory_lines (volume_of v b)) first.result (inodes_of v) (omega arith))
+
+pub returns-then-first-count-clause-holds : goal.returns-then-first-count-clause-holds
+returns-then-first-count-clause-holds g c = λ b k. (k.claims, k.survey)
+
+pub returns-in_err-note_places-clause-text : goal.returns-in_err-note_places-clause-text
+returns-in_err-note_places-clause-text g c =
+    let p = err_from_is_err_and c.from_residual.result c.from_residual.ensures.1 in
+    rw (p.1, p.2) (of_reads _ _ _ _ _ (of_begins _ _ _))
 
 pub loop-number-init : goal.loop-number-init
 loop-number-init g c =
+    let v = c.args.geometry.now.layout in
+    let first = c.first_looked_at-first in
+    let noted = c.in_ok-note_places.ensures in
+    let all = λ (b : List ℕ). map of_tree (lines_from (directory_lines (volume_of v b)) 2 (inodes_of v - 2)) in
     record {
-      ready = record { ready = c.requires; siblings = c.none-siblings.ensures _ _ };
-      device = refl;
-      low = omega arith;
-      survey = leaves_all _;
-      before = λ b k. k;
-      said = of_begins _ (λ b. map of_tree
-          (lines_from (directory_lines (volume_of c.args.geometry.now.layout b)) 2
-          (inodes_of c.args.geometry.now.layout - 2)))
-          _;
+      ready = record { ready = noted.ready; siblings = c.none-siblings.ensures _ _ };
+      device = noted.read;
+      low = first.ensures.range.0;
+      references = ap (λ (w : Workspace). w.references) noted.lists;
+      before = λ b k. noted_before v _ _ _ _ first.result b first.ensures.range.0 refl noted.lists noted.ready.made
+          (noted.places b k.reported_is k.claims k.survey) noted.none_due
+          (before_unseen v _ _ b first.result c.args.geometry.now.sound first.ensures.range.0 first.ensures.before k);
+      said = of_same _ all (λ b. map of_tree
+          (lines_from (directory_lines (volume_of v b)) first.result (inodes_of v - first.result))) all _ _
+          (of_begins _ all _)
+          (λ b k. lines_unseen v _ _ b first.result (inodes_of v) c.args.geometry.now.sound first.ensures.range.0
+          first.ensures.range.1 first.ensures.before k);
     }
 
 pub returns-in_err-check_inode-clause-text : goal.returns-in_err-check_inode-clause-text
 returns-in_err-check_inode-clause-text g c =
-    let p = err_from_is_err_and c.from_residual.result c.from_residual.ensures.1 in
+    let p = err_from_is_err_and c.from_residual-in_err-check_inode.result
+    c.from_residual-in_err-check_inode.ensures.1 in
     let v = c.args.geometry.now.layout in
     let inv = c.loop-number.invariant in
     let n = c.loop-number.number in
@@ -52,7 +85,7 @@ loop-number-preserved g c =
       ready = ok.leaves.ready;
       device = search rules;
       low = omega arith;
-      survey = leaves_more _ _ _ inv.survey ok.leaves.survey;
+      references = ok.leaves.survey.references ∙ inv.references;
       before = λ b k. subst (λ d. IsBefore v (g.I.Image.device c.args.image.now).contents c.check_inode.new.workspace d
           b) q
           (before_reported v _ _ _ (suc n) b (sym (ap (λ d. d.contents) inv.device))
@@ -74,3 +107,12 @@ returns-clause-text g c =
     of_same _ (λ b. map of_tree (lines_from (directory_lines (volume_of v b)) n (inodes_of v - n))) (λ b. []) _ _ _
     inv.said
     (λ b k. from_end (directory_lines (volume_of v b)) n (inodes_of v) (omega arith))
+
+pub returns-clause-holds : goal.returns-clause-holds
+returns-clause-holds g c = λ b k. let now = c.loop-number.invariant.before b k in (now.claims, now.survey)
+
+pub returns-clause-unread : goal.returns-clause-unread
+returns-clause-unread g c = λ none.
+    let first = c.first_looked_at-first in
+    let below : first.result < inodes_of c.args.geometry.now.layout = omega arith in
+    absurd (both_ways _ (none first.result first.ensures.range.0 below) (first.ensures.found below))

@@ -8,7 +8,6 @@ use Rattle.ffs_volume.specs.Directories.Volumes.{volume_of}
 use Rattle.ffs_workspace.specs.Lengths.{inodes_of}
 use Rattle.ffs_pathnames.specs.Ready.{ReadyWith}
 use Rattle.ffs_pathnames.specs.Before.{IsBefore}
-use Rattle.ffs_workspace.specs.Leaves.{LeavesSurvey}
 use Rattle.ffs_pathnames.proofs.tree.check_inodes.Given as goal
 
 abbrev pub invariant-loop-number : goal.invariant-loop-number
@@ -16,7 +15,7 @@ invariant-loop-number g l = record {
   ready : ReadyWith l.geometry.layout (g.I.Image.device l.image) l.workspace l.siblings;
   device : g.I.Image.device l.image ≡ g.I.Image.device l.fn.image;
   low : 2 ≤ l.number;
-  survey : LeavesSurvey l.fn.workspace l.workspace;
+  references : l.workspace.references ≡ l.fn.workspace.references;
   before : ForBytes (λ b. IsBefore l.geometry.layout (g.I.Image.device l.fn.image).contents l.fn.workspace 2 b)
       (λ b. IsBefore l.geometry.layout (g.I.Image.device l.fn.image).contents l.workspace l.number b);
   said : SaidOf (λ b. IsBefore l.geometry.layout (g.I.Image.device l.fn.image).contents l.fn.workspace 2 b)

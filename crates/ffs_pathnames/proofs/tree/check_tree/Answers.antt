@@ -105,3 +105,6 @@ returns-in_ok-check_inodes-in-Go-clause-goes g c = λ b k. c.in-Go.ensures
     ∙ goes_is c.args.geometry.now.layout b c.args.workspace.now _
     (root_kind_is c.args.geometry.now.layout c.args.workspace.now _ c.args.geometry.now.sound c.requires.made
     c.index-kind.ensures) k.claims
+
+pub returns-in-Stop-clause-holds : goal.returns-in-Stop-clause-holds
+returns-in-Stop-clause-holds g c = λ b k. (k.claims, k.survey)

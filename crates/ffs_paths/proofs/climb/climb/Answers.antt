@@ -1,18 +1,14 @@
 use Rattle.std.proofs.Common.{◌≡◌, ◌∙◌, ◌∷◌, ap, sym, subst, arith, ℕ}
 use Rattle.std.proofs.lemmas.List.{get_or_default}
 use Rattle.std.proofs.lemmas.Result.{err_from_is_err_and}
-use Rattle.std.specs.Prelude.{slice_index, Ok}
+use Rattle.std.specs.Prelude.{slice_index}
 use Rattle.std.specs.Option.{unwrap_or}
-use Rattle.ffs_layout.specs.declared.geometry.Geometry.{Geometry}
 use Rattle.ffs_volume.specs.Directories.Graph.{Graph}
 use Rattle.ffs_volume.specs.Directories.Parents.{graph_of}
 use Rattle.ffs_volume.specs.Directories.Volumes.{volume_of}
-use Rattle.ffs_workspace.specs.Notes.{cut_in}
-use Rattle.ffs_workspace.proofs.NoteLaws.{cut_is_noted}
+use Rattle.ffs_workspace.proofs.Leaving.{claims_held, survey_held}
 use Rattle.ffs_paths.specs.Buffers.{HoldsNames}
-use Rattle.ffs_paths.specs.Climbing.{name_in, AreOpen}
-use Rattle.ffs_paths.specs.Reads.{OnlyReads}
-use Rattle.ffs_paths.proofs.Keeping.{no_reads, reads_as, then_reads, windows_open}
+use Rattle.ffs_paths.proofs.Keeping.{no_reads, reads_as, reads_failed, reads_then}
 use Rattle.ffs_paths.proofs.Ways.{HasParent, way_starts, way_root, way_cut, way_long, way_up, count_is}
 use Rattle.ffs_paths.proofs.climb.climb.Goals as goal
 
@@ -60,42 +56,18 @@ returns-clause-path g c = λ b t claims survey k l.
     let notes = c.requires.ready.made.notes in
     absurd (omega arith)
 
-pub returns-in_err-search-clause-reads : goal.returns-in_err-search-clause-reads
-returns-in_err-search-clause-reads g c =
-    let p = err_from_is_err_and c.from_residual.result c.from_residual.ensures.1 in
-    rw (p.1, p.2) (then_reads c.up.invariant.reads c.in_err-search.ensures.leaves.windows
-    c.in_err-search.ensures.leaves.chunk c.in_err-search.ensures.leaves.read)
-
-pub returns-in_err-found-clause-reads : goal.returns-in_err-found-clause-reads
-returns-in_err-found-clause-reads g c =
-    let opened = c.in_ok-search.ensures in
-    let found = c.in_err-found.ensures in
-    let one : OnlyReads {T = Unit {0}} c.args.geometry.now.layout (g.I.Image.device c.args.image.now)
-    (g.I.Image.device c.open.new.image) c.args.workspace.now (record c.up.workspace { windows = c.open.new.windows })
-    (Ok tt) = then_reads c.up.invariant.reads opened.leaves.windows opened.leaves.chunk opened.leaves.read in
-    let err = err_from_is_err_and c.from_residual-in_err-found.result c.from_residual-in_err-found.ensures.1 in
-    rw (err.1, err.2) (then_reads one (rw opened.opened.geometry_is at found.leaves.windows) found.leaves.chunk
-    found.leaves.read)
-
 pub up-preserved : goal.up-preserved
 up-preserved g c =
     let v = c.args.geometry.now.layout in
     let i = c.up.invariant in
-    let opened = c.in_ok-search.ensures in
-    let found = c.in_ok-found.ensures in
-    let at = i.at in
+    let found = c.in_ok-find_name.ensures in
     let parents = i.reads.ready.made.parents in
-    let notes = i.reads.ready.made.notes in
-    let entry = c.requires.ready.made.notes in
+    let notes = c.requires.ready.made.notes in
     let below = c.if-parent-count.false in
     let p : ℕ = c.index-parent.result.now in
-    let one : OnlyReads {T = Unit {0}} v (g.I.Image.device c.args.image.now) (g.I.Image.device c.open.new.image)
-    c.args.workspace.now (record c.up.workspace { windows = c.open.new.windows }) (Ok tt) =
-    then_reads i.reads opened.leaves.windows opened.leaves.chunk opened.leaves.read in
     record {
       at = omega arith;
-      reads = then_reads one (rw opened.opened.geometry_is at found.leaves.windows) found.leaves.chunk
-          found.leaves.read;
+      reads = reads_then i.reads found.reads;
       path = λ b t claims survey k l.
           let G : Graph = graph_of (volume_of v b) in
           let u = way_up G k c.args.dir c.up.at c.up.step c.up.path (i.path b t claims survey k l)
@@ -105,13 +77,9 @@ up-preserved g c =
           ∙ (ap (λ w. slice_index w.parents.items c.up.at) i.reads.lists
           ∙ (survey.parents c.up.at ∙ ap (λ o. unwrap_or o 0) u.1.is))) in
           let up = subst (λ s. HasParent G k c.args.dir c.up.at c.up.step c.up.path s) (sym e) u.1 in
-          let t1 = ap (λ d. d.contents) i.reads.read ∙ t in
-          let t2 = ap (λ d. d.contents) opened.leaves.read ∙ t1 in
-          let cut = c.cut_of-cut.ensures
-          ∙ (ap cut_in (ap (λ w. slice_index w.notes.items p) i.reads.lists ∙ claims.notes p)
-          ∙ cut_is_noted v b p c.args.geometry.now.sound) in
-          let name = c.found_name.ensures.value
-          ∙ (sym (found.found b t2).name ∙ ap (name_in c.up.at) (opened.opened.entries b t1 up.dir cut)) in
+          let name = c.as_slice.ensures.value ∙ found.name b (ap (λ d. d.contents) i.reads.read ∙ t)
+          (claims_held v b c.args.workspace.now c.up.workspace i.reads.lists claims)
+          (survey_held v b c.args.workspace.now c.up.workspace i.reads.lists survey) up.is up.dir in
           up.on c.push_front.new.self
           (λ following held. subst (λ n. HoldsNames c.push_front.new.self (n ∷ following)) name
           (c.push_front.ensures following held));
@@ -132,29 +100,18 @@ returns-clause-reads g c = reads_as c.up.invariant.reads
 pub index-parent-requires : goal.index-parent-requires
 index-parent-requires g c = omega (arith, c.up.invariant.at, c.up.invariant.reads.ready.made.parents)
 
-pub cut_of-cut-requires : goal.cut_of-cut-requires
-cut_of-cut-requires g c =
-    omega (arith, c.if-parent-count.false, c.requires.ready.made.notes, c.up.invariant.reads.ready.made.notes)
+pub find_name-requires-clause-ready : goal.find_name-requires-clause-ready
+find_name-requires-clause-ready g c = record { ready = c.up.invariant.reads.ready; number = c.up.invariant.at }
 
-pub open-requires-clause-number : goal.open-requires-clause-number
-open-requires-clause-number g c = omega (arith, c.if-parent-count.false, c.requires.ready.made.notes)
+pub find_name-requires-clause-parent : goal.find_name-requires-clause-parent
+find_name-requires-clause-parent g c = omega (arith, c.if-parent-count.false, c.requires.ready.made.notes)
 
-pub open-requires-clause-windows : goal.open-requires-clause-windows
-open-requires-clause-windows g c = windows_open _ _ _ c.up.invariant.reads.ready
-
-pub find-requires : goal.find-requires
-find-requires g c =
-    let opened = c.in_ok-search.ensures in
-    record {
-      windows = subst
-          (λ (q : Geometry). AreOpen q.layout (g.I.Image.device c.open.new.image) c.open.new.windows)
-          (sym opened.opened.geometry_is) opened.leaves.windows;
-    }
-
-pub returns-in_err-search-clause-path : goal.returns-in_err-search-clause-path
-returns-in_err-search-clause-path g c =
+-- a read failed
+pub returns-in_err-find_name-clause-path : goal.returns-in_err-find_name-clause-path
+returns-in_err-find_name-clause-path g c =
     let p = err_from_is_err_and c.from_residual.result c.from_residual.ensures.1 in rw p.1 tt
 
-pub returns-in_err-found-clause-path : goal.returns-in_err-found-clause-path
-returns-in_err-found-clause-path g c =
-    let p = err_from_is_err_and c.from_residual-in_err-found.result c.from_residual-in_err-found.ensures.1 in rw p.1 tt
+pub returns-in_err-find_name-clause-reads : goal.returns-in_err-find_name-clause-reads
+returns-in_err-find_name-clause-reads g c =
+    let p = err_from_is_err_and c.from_residual.result c.from_residual.ensures.1 in
+    rw (p.1, p.2) (reads_failed (reads_then c.up.invariant.reads c.in_err-find_name.ensures.reads))

@@ -1,6 +1,6 @@
 use Rattle.std.proofs.Common.{◌∙◌, sym, arith}
 use Rattle.ffs_names.specs.RunCursors.{reading_by}
-use Rattle.ffs_names.proofs.RunChunks.{none_far, run_in_volume, run_in_block}
+use Rattle.ffs_names.proofs.RunChunks.{none_far, run_aligned, run_in_volume, run_in_block}
 use Rattle.ffs_names.proofs.run_cursor.RunCursor.of_run.Goals as goal
 
 pub returns-then-block-clause-chunks : goal.returns-then-block-clause-chunks
@@ -22,7 +22,9 @@ returns-clause-fits c =
     let short = run_in_block v c.args.len c.args.geometry.now.sound c.requires.run.short in
     let inside = run_in_volume v c.args.start c.args.len c.args.geometry.now.sound c.requires.run.some
     c.requires.run.in_range in
+    let aligned = run_aligned v c.args.start c.args.geometry.now.sound in
     record {
       in_block = grind (arith, short);
       in_volume = grind (arith, inside);
+      aligned = grind (arith, aligned);
     }

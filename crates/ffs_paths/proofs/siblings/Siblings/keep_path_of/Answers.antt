@@ -1,75 +1,35 @@
-use Rattle.std.proofs.Common.{◌<◌, refl, sym, subst}
-use Rattle.std.proofs.lemmas.Result.{err_from_is_err_and}
+use Rattle.std.proofs.Common.{◌<◌, Ok, refl, sym, subst, arith}
 use Rattle.ffs_volume.specs.Directories.Parents.{graph_of}
 use Rattle.ffs_volume.specs.Directories.Volumes.{volume_of}
 use Rattle.ffs_paths.specs.DirectoryPaths.{IsPathOf}
-use Rattle.ffs_paths.specs.Siblings.{LeadsTo}
-use Rattle.ffs_paths.proofs.Keeping.{no_reads, reads_as, reads_failed}
-use Rattle.ffs_paths.proofs.NamesFound.{child_made}
-use Rattle.ffs_paths.proofs.Parts.{same_but_path}
+use Rattle.ffs_paths.specs.Reads.{ForTree, OnlyReads}
+use Rattle.ffs_paths.proofs.Children.{child_made}
+use Rattle.ffs_paths.proofs.Keeping.{no_reads, reads_as, leaves_kept}
 use Rattle.ffs_paths.proofs.siblings.Siblings.keep_path_of.Goals as goal
+use Rattle.ffs_paths.proofs.siblings.Siblings.keep_path_of.Goals.{then-self-dir-2, else-self-dir-2+in_ok-self}
 
--- the path is kept
-pub returns-then-self-dir-clause-path : goal.returns-then-self-dir-clause-path
-returns-then-self-dir-clause-path g c = λ b t claims survey some.
+pub returns-clause-leaves : goal.returns-clause-leaves
+returns-clause-leaves g c =
+    let v = c.args.geometry.now.layout in
+    let old = g.I.Image.device c.args.image.now in
     let s = c.args.self.now in
-    let of = graph_of (volume_of c.args.geometry.now.layout b) in
-    let is = c.if-self-dir.true in
-    subst (λ d. IsPathOf of d s.path) is
-    (c.requires.siblings.right b t claims survey (subst (λ d. 0 < d) (sym is) some)).path
-
-pub returns-then-self-dir-clause-same : goal.returns-then-self-dir-clause-same
-returns-then-self-dir-clause-same g c = refl
-
-pub returns-then-self-dir-clause-reads : goal.returns-then-self-dir-clause-reads
-returns-then-self-dir-clause-reads g c = no_reads c.requires.ready
-
--- the directory is the child that was found last
-pub returns-then-self-dir-2-clause-path : goal.returns-then-self-dir-2-clause-path
-returns-then-self-dir-2-clause-path g c = λ b t claims survey some.
-    let s = c.args.self.now in
-    let of = graph_of (volume_of c.args.geometry.now.layout b) in
-    let is = c.if-self-dir-2.true in
-    let child = subst (λ d. 0 < d) (sym is) some in
-    let kept = c.requires.siblings.right b t claims survey (s.has_parent child) in
-    subst (λ d. IsPathOf of d c.child-self.result) is
-    (child_made of s s.child c.found_name.result.now c.child-self.result
-    (record {
-      path = kept.path;
-      leads = subst (LeadsTo of s.parent s.child) (sym c.found_name.ensures.value) (kept.child child);
+    let reads : OnlyReads {T = Unit {0}} v old (g.I.Image.device c.if-self-dir-2.image) c.args.workspace.now
+    c.if-self-dir-2.workspace (Ok tt) = elim c.if-self-dir-2.branch [
+      | then-self-dir-2 w ↦ rw (w.image-is, w.workspace-is) (no_reads c.requires.ready.ready)
+      | else-self-dir-2+in_ok-self w ↦ rw (w.image-is, w.workspace-is) (reads_as w.in_ok-self.ensures.reads)
+    ] in
+    let path : ForTree v old c.args.workspace.now (λ g. IsPathOf g c.args.dir c.if-self-dir-2.self) =
+    elim c.if-self-dir-2.branch [
+      | then-self-dir-2 w ↦ rw w.self-is (λ b t claims survey.
+          let of = graph_of (volume_of v b) in
+          let is = w.if-self-dir-2.true in
+          subst (λ d. IsPathOf of d w.child-self.result) is (child_made of s w.child-self.result
+          (c.requires.ready.siblings.right b t claims survey) (subst (λ d. 0 < d) (sym is) c.requires.some)
+          (rw w.as_slice.ensures.value at w.child-self.ensures)))
+      | else-self-dir-2+in_ok-self w ↦ rw w.self-is w.in_ok-self.ensures.path
+    ] in
+    leaves_kept _ reads (λ b t claims survey. record {
+      path = λ some. path b t claims survey;
+      parent = λ none. absurd (omega arith);
+      child = λ none. absurd (omega arith);
     })
-    c.child-self.ensures)
-
-pub returns-then-self-dir-2-clause-same : goal.returns-then-self-dir-2-clause-same
-returns-then-self-dir-2-clause-same g c = same_but_path c.args.self.now _ _
-
-pub returns-then-self-dir-2-clause-reads : goal.returns-then-self-dir-2-clause-reads
-returns-then-self-dir-2-clause-reads g c = no_reads c.requires.ready
-
-pub child-self-requires : goal.child-self-requires
-child-self-requires g c = c.found_name.ensures.short
-
-pub directory_path-requires : goal.directory_path-requires
-directory_path-requires g c = record { ready = c.requires.ready; number = c.requires.number }
-
-pub returns-clause-path : goal.returns-clause-path
-returns-clause-path g c = λ b t claims survey some. c.in_ok-self.ensures.path b t claims survey
-
-pub returns-clause-same : goal.returns-clause-same
-returns-clause-same g c = same_but_path c.args.self.now _ _
-
-pub returns-clause-reads : goal.returns-clause-reads
-returns-clause-reads g c = reads_as c.in_ok-self.ensures.reads
-
--- a read failed
-pub returns-in_err-self-clause-path : goal.returns-in_err-self-clause-path
-returns-in_err-self-clause-path g c =
-    let p = err_from_is_err_and c.from_residual.result c.from_residual.ensures.1 in rw p.1 tt
-
-pub returns-in_err-self-clause-same : goal.returns-in_err-self-clause-same
-returns-in_err-self-clause-same g c = refl
-
-pub returns-in_err-self-clause-reads : goal.returns-in_err-self-clause-reads
-returns-in_err-self-clause-reads g c =
-    let p = err_from_is_err_and c.from_residual.result c.from_residual.ensures.1 in
-    rw (p.1, p.2) (reads_failed c.in_err-self.ensures.reads)

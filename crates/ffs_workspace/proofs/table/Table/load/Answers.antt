@@ -1,5 +1,5 @@
 use Rattle.std.proofs.Common.{rules}
-use Rattle.ffs_workspace.proofs.Places.{held_there}
+use Rattle.ffs_workspace.proofs.TablePlaces.{held_there}
 use Rattle.ffs_workspace.proofs.table.Table.load.Goals as goal
 use Rattle.ffs_workspace.proofs.table.Table.load.Goals.{then-not-has+in_ok-read_piece, else-not-has}
 

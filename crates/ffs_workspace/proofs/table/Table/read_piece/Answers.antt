@@ -1,5 +1,5 @@
 use Rattle.std.proofs.Common.{refl, rules, ◌∙◌}
-use Rattle.ffs_workspace.proofs.Places.{inodes_there}
+use Rattle.ffs_workspace.proofs.TablePlaces.{inodes_there}
 use Rattle.ffs_workspace.proofs.table.Table.read_piece.Goals as goal
 
 pub returns-clause-leaves : goal.returns-clause-leaves

@@ -1,0 +1,106 @@
+//! The name of a directory in its parent.
+
+ghost use Rattle.std.specs.Prelude.{◌≡◌, ◌*◌, ◌<◌, ◌≤◌, ℕ, true, false, length, IfOk, OnOk};
+ghost use Rattle.ffs_volume.specs.Directories.Entries.{entries_of};
+ghost use Rattle.ffs_volume.specs.Directories.Roles.{roled_from};
+ghost use Rattle.ffs_paths.specs.Climbing.{name_in, IsNameIn};
+ghost use Rattle.ffs_paths.specs.Reads.{ForTree, IsReadyFor, OnlyReads};
+
+use crate::search::{names, search_name};
+use arrayvec::ArrayVec;
+use ffs_image::{Image, ImageFault};
+use ffs_layout::{Geometry, entry_at};
+use ffs_names::role_of;
+use ffs_volume::Order;
+use ffs_volume::constants::DIRBLKSIZ;
+use ffs_workspace::{Workspace, place_in};
+
+/// The text of a name.
+pub type NameText = ArrayVec<u8, DIRBLKSIZ>;
+
+/// Puts a name in place of a text.
+pub fn set_name(text: &mut NameText, name: &[u8])
+    requires { length name.now ≤ 512 }
+    ensures { text.new.items ≡ name.now }
+{
+    text.clear();
+    text.try_extend_from_slice(name).unwrap();
+}
+
+/// Finds the name of an inode in a chunk, by its first plain entry there. Returns whether there is
+/// one.
+fn find_in_chunk(order: Order, chunk: &[u8; DIRBLKSIZ], number: u32, name: &mut NameText) -> bool
+    ensures { result ≡ true → name.new.items
+        ≡ name_in number (roled_from false 0 (entries_of order chunk.now)) }
+{
+    let mut place = 0usize;
+    let mut index = 0usize;
+    'entries: while let Some(entry) = entry_at(order, chunk, place) {
+        if names(role_of(false, index, &entry), entry.number, number) {
+            set_name(name, entry.name);
+            return true;
+        }
+        place += usize::from(entry.length);
+        index += 1;
+    }
+    false
+}
+
+/// Finds the name of a directory in its parent, in the chunk that is noted as the place of it.
+/// Returns whether it is there.
+fn find_by_place<I: Image>(
+    geometry: &Geometry,
+    image: &mut I,
+    workspace: &mut Workspace,
+    dir: u32,
+    name: &mut NameText,
+) -> Result<bool, ImageFault>
+    requires { IsReadyFor geometry.now.layout (I.device image.old) workspace.old dir }
+    ensures name { IfOk result (λ found. found ≡ true
+        → ForTree geometry.now.layout (I.device image.old) workspace.old
+        (λ g. (parent : ℕ) → IsNameIn g dir parent name.new.items)) }
+    ensures reads { OnlyReads geometry.now.layout (I.device image.old) (I.device image.new)
+        workspace.old workspace.new result }
+{
+    let Some(chunk) = place_in(workspace.queue[dir as usize]) else {
+        return Ok(false);
+    };
+    let place = DIRBLKSIZ as u64 * u64::from(chunk);
+    let end = u64::from(geometry.layout.size) * u64::from(geometry.layout.fsize);
+    if place + DIRBLKSIZ as u64 > end {
+        return Ok(false);
+    }
+    let window = &mut workspace.windows.names;
+    window.fill(image, place, DIRBLKSIZ)?;
+    let mut bytes = [0u8; DIRBLKSIZ];
+    bytes.copy_from_slice(window.bytes());
+    Ok(find_in_chunk(geometry.layout.order, &bytes, dir, name))
+}
+
+/// Finds the name of a directory in its parent: that of the first plain entry there that names it,
+/// and none where no entry does.
+///
+/// # Errors
+/// A read of the image that failed.
+pub fn find_name<I: Image>(
+    geometry: &Geometry,
+    image: &mut I,
+    workspace: &mut Workspace,
+    parent: u32,
+    dir: u32,
+    name: &mut NameText,
+) -> Result<(), ImageFault>
+    requires ready { IsReadyFor geometry.now.layout (I.device image.old) workspace.old dir }
+    requires parent { parent < geometry.now.layout.ncg * geometry.now.layout.ipg }
+    ensures name { OnOk result (ForTree geometry.now.layout (I.device image.old) workspace.old
+        (λ g. IsNameIn g dir parent name.new.items)) }
+    ensures reads { OnlyReads geometry.now.layout (I.device image.old) (I.device image.new)
+        workspace.old workspace.new result }
+{
+    if find_by_place(geometry, image, workspace, dir, name)? {
+        return Ok(());
+    }
+    let cut = workspace.cut_of(parent);
+    let windows = &mut workspace.windows;
+    search_name(geometry, image, windows, parent, cut, dir, name)
+}

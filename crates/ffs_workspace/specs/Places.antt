@@ -1,0 +1,43 @@
+-- Where the parent entry of a directory is in the image, as a word of 32 bits notes it. Its low 31 bits are the place: 0
+-- where none is noted, else 1 more than the number of the chunk of 512 bytes of the image that has the entry. Its top
+-- bit says that the entry is due: it is still to come in a reading of the parent.
+use Rattle.std.specs.Prelude.{◌≡◌, ℕ, suc, ◌+◌, ◌-◌, ◌*◌, ◌^◌, Bool, false, not, nat_lt, if◌then◌else◌, List, slice_index}
+use Rattle.std.specs.Prelude.{Some, option_and_then}
+use Rattle.ffs_volume.specs.declared.constants.TheConstants.{DIRBLKSIZ}
+use Rattle.ffs_volume.specs.declared.Layout.{Layout}
+use Rattle.ffs_volume.specs.Disk.Numbers.{piece}
+use Rattle.ffs_volume.specs.Directories.Entries.{entries_of}
+use Rattle.ffs_volume.specs.Directories.Graph.{is_naming_entry, first_index, parent}
+use Rattle.ffs_volume.specs.Directories.Parents.{graph_of, nth_roled}
+use Rattle.ffs_volume.specs.Directories.Paths.{name_of}
+use Rattle.ffs_volume.specs.Directories.Roles.{RoledEntry, roled_entries, roled_from}
+use Rattle.ffs_volume.specs.Directories.Volumes.{volume_of}
+
+-- the place that a word notes: 0 for none, else 1 more than the number of the chunk
+abbrev pub place_in : ℕ → ℕ
+place_in word = if nat_lt word (2 ^ 31) then word else word - 2 ^ 31
+
+-- the parent entry is still to come
+abbrev pub is_due : ℕ → Bool
+is_due word = not (nat_lt word (2 ^ 31))
+
+-- the word that notes the chunk with this number, and none where 31 bits have no room for it
+abbrev pub place_of : ℕ → ℕ
+place_of chunk = if nat_lt chunk (2 ^ 31 - 1) then chunk + 1 else 0
+
+-- the name of the first plain entry that names an inode, empty if there is none
+abbrev pub name_in : ℕ → List RoledEntry → List ℕ
+name_in d es = name_of (option_and_then (nth_roled es) (first_index (is_naming_entry d) es))
+
+-- the entries of the chunk k of an image. Whether an entry is plain doesn't depend on where the chunk is in the file
+abbrev pub entries_in_chunk : Layout → List ℕ → ℕ → List RoledEntry
+entries_in_chunk v b k = roled_from false 0 (entries_of v.order (piece (DIRBLKSIZ * k) DIRBLKSIZ b))
+
+-- the first plain entry in the chunk k that names x has the name of the first one of the directory p
+abbrev pub IsPlaceOf : Layout → List ℕ → (p x k : ℕ) → Type 0
+IsPlaceOf v b p x k = name_in x (entries_in_chunk v b k) ≡ name_in x (roled_entries (volume_of v b) p)
+
+-- each place that is noted of a directory is that of its parent entry
+abbrev pub ArePlaces : Layout → List ℕ → (words : List ℕ) → Type 0
+ArePlaces v b words = (x p k : ℕ) → place_in (slice_index words x) ≡ suc k
+    → parent (graph_of (volume_of v b)) x ≡ Some p → IsPlaceOf v b p x k
