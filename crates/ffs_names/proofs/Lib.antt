@@ -7,6 +7,7 @@ pub mod Entered
 pub mod DirLaws
 mod OneChunks
 pub mod SameGraphs
+pub mod PlacesNoted
 pub mod SurveyHolds
 pub mod RunsSeen
 pub mod GapsLeft

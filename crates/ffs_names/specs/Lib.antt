@@ -8,4 +8,5 @@ pub mod Shapes
 pub mod OneChunk
 pub mod Trees
 pub mod Surveys
+pub mod Noting
 pub mod SeenRuns

@@ -2,7 +2,8 @@
 //!
 //! `Entries::next` returns the entries of a directory in their order, from the Runs that its inode
 //! keeps. `survey` leaves in the workspace how often each inode is referred to, which directories
-//! are reached from inode 2, and the parent of each directory.
+//! are reached from inode 2, and the parent of each directory. `note_places` notes where in the
+//! image each of them has its parent entry.
 //!
 //! ```text
 //! survey(&geometry, &mut image, &mut workspace)?;
@@ -15,6 +16,7 @@ mod chunks;
 mod entries;
 mod gap;
 mod graph;
+mod places;
 mod role;
 mod run_cursor;
 mod tree;
@@ -23,4 +25,5 @@ pub use chunks::Chunks;
 pub use entries::Entries;
 pub use gap::gap_of;
 pub use graph::survey;
+pub use places::note_places;
 pub use role::{is_one_dot, is_two_dots, role_of};

@@ -15,7 +15,7 @@ use ffs_workspace::{Windows, address_in};
 /// The inode of a directory of one chunk at an address, as far as a reading of its entries asks
 /// for it.
 #[inline(always)]
-fn one_chunk_at(address: u32) -> Inode
+pub(crate) fn one_chunk_at(address: u32) -> Inode
     ensures { result ≡ one_chunk_at address }
 {
     let mut addresses = [0; 15];

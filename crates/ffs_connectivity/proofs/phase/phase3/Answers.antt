@@ -1,4 +1,4 @@
-use Rattle.std.proofs.Common.{ℕ, Bool, length, ◌+◌, ◌-◌, ◌∷◌, [], List, map, refl, ap, ◌∙◌, arith, rules, Err}
+use Rattle.std.proofs.Common.{Bool, ◌+◌, ◌-◌, ◌∷◌, [], List, map, refl, ap, ◌∙◌, arith, rules, Err}
 use Rattle.std.proofs.lemmas.List.{with_items_is}
 use Rattle.std.proofs.lemmas.Result.{err_from_is_err_and}
 use Rattle.ffs_volume.specs.Directories.Connectivity.{connectivity_lines}
@@ -9,6 +9,7 @@ use Rattle.ffs_phase.proofs.Reporting.{reports_knowing}
 use Rattle.ffs_workspace.specs.Holds.{bool_at}
 use Rattle.ffs_workspace.specs.Lengths.{inodes_of}
 use Rattle.ffs_connectivity.specs.Lines.{cut_off_lines}
+use Rattle.ffs_workspace.proofs.PlaceLaws.{filled_noted}
 use Rattle.ffs_workspace.proofs.Leaving.{claims_left, survey_left, leaves_more, windows_leave}
 use Rattle.ffs_connectivity.proofs.Leaving.{leaders_held}
 use Rattle.ffs_connectivity.proofs.Unreached.{lines_begin}
@@ -49,7 +50,19 @@ loop-number-init g c =
       ready = search (rules, arith);
       device = refl;
       low = omega arith;
-      survey = search rules;
+      survey = record {
+        claimed = refl;
+        kinds = refl;
+        marked = refl;
+        notes = refl;
+        references = refl;
+        named = refl;
+        reached = refl;
+        parents = refl;
+        runs_seen = refl;
+        runs_again = refl;
+        places = λ layout b h. filled_noted layout b _ _ c.fill.ensures.items;
+      };
       leaders = record {
         cycles = λ x. ap (λ (ls : List Bool). bool_at ls x)
             (with_items_is c.args.workspace.now.flags c.mark_leaders.new.leaders (search rules))

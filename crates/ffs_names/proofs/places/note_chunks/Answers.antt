@@ -1,0 +1,53 @@
+use Rattle.std.proofs.Common.{◌≡◌, ◌∷◌, ◌∙◌, ℕ, List, Some, ap, sym}
+use Rattle.std.specs.List.{flat_map}
+use Rattle.ffs_volume.specs.Disk.Numbers.{piece}
+use Rattle.ffs_volume.specs.Directories.Entries.{chunk_of}
+use Rattle.ffs_volume.specs.Directories.Roles.{roled_chunk}
+use Rattle.ffs_names.specs.Readings.{rest}
+use Rattle.ffs_names.proofs.PlacesNoted.{children_more, coming_after, noted_chunk}
+use Rattle.ffs_names.proofs.places.note_chunks.Goals as goal
+
+pub chunks-preserved : goal.chunks-preserved
+chunks-preserved g c =
+    let inv = c.chunks.invariant in
+    let v = c.args.chunks.now.walk.geometry.layout in
+    let first = c.args.chunks.now in
+    let words = c.args.words.now.items in
+    let old = c.chunks.words.items in
+    let new = c.note_chunk.new.words.items in
+    let parents = c.args.parents.now.items in
+    let went = c.in_ok-_offset.ensures.leaves in
+    let now = λ (b : List ℕ) (t : (g.I.Image.device c.args.image.now).contents ≡ Some b). ap (λ d. d.contents) inv.same
+    ∙ t in
+    let read = rw c.in-Some.is at c.in_ok-_offset.ensures.chunk in
+    let there = rw c.in-Some.is at c.in_ok-_offset.ensures.place in
+    let next = λ (b : List ℕ) (t : (g.I.Image.device c.args.image.now).contents ≡ Some b).
+    (read b (now b t)).chunks ∙ ap (λ q. chunk_of q.layout.order c.in-Some._offset c.next.new.chunk ∷ rest b
+    c.next.new.self) inv.geometry in
+    let is = λ (b : List ℕ) (t : (g.I.Image.device c.args.image.now).contents ≡ Some b).
+    there b (now b t) ∙ ap (λ (n : ℕ). piece n 512 b) (sym c.last_place.ensures.value) in
+    record {
+      same = went.read ∙ inv.same;
+      geometry = went.geometry ∙ inv.geometry;
+      ready = rw inv.geometry at went.ready;
+      long = c.note_chunk.ensures.long ∙ inv.long;
+      children = children_more parents words old new c.args.dir c.place_of-place.result _ c.note_chunk.ensures.noted
+          inv.children;
+      noted = λ b t. noted_chunk v b parents words old new c.args.dir c.place_of-place.result c.last_place.result
+          c.in-Some._offset c.next.new.chunk (flat_map roled_chunk (rest b first)) (rest b c.chunks.chunks)
+          (rest b c.next.new.self) c.last_place.ensures.aligned c.place_of-place.ensures.value c.if-place-eq0.false
+          (is b t) (next b t) c.note_chunk.ensures.noted (inv.to_come b t) (inv.noted b t);
+      to_come = λ b t. coming_after v parents old new c.args.dir c.place_of-place.result c.in-Some._offset
+          c.next.new.chunk (flat_map roled_chunk (rest b first)) (rest b c.chunks.chunks) (rest b c.next.new.self)
+          c.if-place-eq0.false (next b t) c.note_chunk.ensures.noted (inv.to_come b t);
+    }
+
+pub returns-clause-leaves : goal.returns-clause-leaves
+returns-clause-leaves g c =
+    let inv = c.chunks.invariant in
+    let went = c.in_ok-_offset.ensures.leaves in
+    record {
+      geometry = went.geometry ∙ inv.geometry;
+      ready = rw inv.geometry at went.ready;
+      read = went.read ∙ inv.same;
+    }

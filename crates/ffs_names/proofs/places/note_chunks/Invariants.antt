@@ -1,0 +1,25 @@
+use Rattle.std.proofs.Common.{◌≡◌, vec_len}
+use Rattle.std.specs.List.{flat_map}
+use Rattle.ffs_image.specs.Device.{ForContents}
+use Rattle.ffs_volume.specs.Directories.Roles.{roled_chunk}
+use Rattle.ffs_names.specs.Noting.{NotesChildren, NotesEntries}
+use Rattle.ffs_names.specs.Readings.{rest}
+use Rattle.ffs_names.specs.Windows.{CanReadChunks}
+use Rattle.ffs_names.proofs.PlacesNoted.{AreToCome}
+use Rattle.ffs_names.proofs.places.note_chunks.Given as goal
+
+abbrev pub invariant-chunks : goal.invariant-chunks
+invariant-chunks g l = let device = g.I.Image.device in record {
+  same : device l.image ≡ device l.fn.image;
+  geometry : l.chunks.walk.geometry ≡ l.fn.chunks.walk.geometry;
+  ready : CanReadChunks l.fn.chunks.walk.geometry.layout (device l.image) l.blocks l.data;
+  long : vec_len l.words ≡ vec_len l.fn.words;
+  children : NotesChildren l.parents.items l.fn.words.items l.words.items l.dir;
+  noted : ForContents (device l.fn.image).contents (λ b. NotesEntries l.fn.chunks.walk.geometry.layout b l.parents.items
+      l.fn.words.items l.words.items l.dir (flat_map roled_chunk (rest b l.fn.chunks)));
+  to_come : ForContents (device l.fn.image).contents (λ b. AreToCome l.parents.items l.words.items l.dir
+      (flat_map roled_chunk (rest b l.fn.chunks)) (flat_map roled_chunk (rest b l.chunks)));
+}
+
+abbrev pub decreases-chunks : goal.decreases-chunks
+decreases-chunks g l = l.chunks.budget

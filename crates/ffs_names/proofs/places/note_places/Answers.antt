@@ -1,0 +1,63 @@
+use Rattle.std.proofs.Common.{◌≡◌, ◌<◌, ◌∙◌, List, ℕ, ap, arith, length, subst, sym, slice_index, slice_set}
+use Rattle.std.proofs.lemmas.Grind.{common_steps, get_or_default_zero}
+use Rattle.ffs_workspace.specs.declared.workspace.Workspace.{Workspace}
+use Rattle.ffs_workspace.specs.Places.{is_due, place_in}
+use Rattle.ffs_names.specs.Noting.{KeepsDue}
+use Rattle.ffs_names.proofs.PlacesNoted.{claims_noted, passed_next, passed_over, places_after, places_same, set_same, survey_noted}
+use Rattle.ffs_names.proofs.places.note_places.Goals as goal
+use Rattle.ffs_names.proofs.places.note_places.Goals.{then-is_due+in_ok-note_directory, else-is_due}
+
+pub loop-dir-preserved : goal.loop-dir-preserved
+loop-dir-preserved g c =
+    let v = c.args.geometry.now.layout in
+    let inv = c.loop-dir.invariant in
+    let first = c.args.workspace.now in
+    let here = c.loop-dir.workspace in
+    let old = here.queue.items in
+    let dir = c.loop-dir.dir in
+    let inside : dir < length old = grind (arith, common_steps) in
+    let word : c.index-word.result.now ≡ slice_index old dir =
+    c.index-word.ensures ∙ get_or_default_zero old dir c.index-word.result.now inside in
+    elim c.if-is_due.branch [
+      | then-is_due+in_ok-note_directory w ↦
+          let noted = w.in_ok-note_directory.ensures in
+          let mid : Workspace = record here { queue = w.set.new.self } in
+          let new = w.note_directory.new.workspace in
+          let set : mid.queue.items ≡ slice_set old dir w.passed.result = w.set.ensures.items in
+          let same : (x : ℕ) → place_in (slice_index mid.queue.items x) ≡ place_in (slice_index old x) =
+          λ x. ap (λ (ws : List ℕ). place_in (slice_index ws x)) set
+          ∙ set_same place_in old dir w.passed.result inside (w.passed.ensures.place ∙ ap place_in word) x in
+          let lists : mid ≡ record first { windows = mid.windows; queue = mid.queue } =
+          ap (λ (x : Workspace). record x { queue = w.set.new.self }) inv.lists in
+          rw (w.image-is, w.workspace-is) (record {
+            same = noted.read ∙ inv.same;
+            lists = noted.lists
+                ∙ ap (λ (x : Workspace). record x { windows = new.windows; queue = new.queue }) inv.lists;
+            ready = noted.ready;
+            low = omega arith;
+            passed = passed_next old new.queue.items dir w.passed.result inside w.passed.ensures.passed
+                (subst (λ (ws : List ℕ). KeepsDue ws new.queue.items) set noted.children.due) inv.passed;
+            places = λ b t claims survey.
+                let right = places_same v b old mid.queue.items same (inv.places b t claims survey) in
+                places_after v b mid mid.queue.items new.queue.items dir
+                (survey_noted v b first mid lists survey right)
+                (noted.noted b (ap (λ d. d.contents) inv.same ∙ t) (claims_noted v b first mid lists claims))
+                noted.children right;
+          })
+      | else-is_due w ↦
+          rw (w.image-is, w.workspace-is) (record {
+            same = inv.same;
+            lists = inv.lists;
+            ready = inv.ready;
+            low = omega arith;
+            passed = passed_over old dir
+                (ap is_due (sym word) ∙ (sym c.is_due.ensures ∙ w.if-is_due.false)) inv.passed;
+            places = inv.places;
+          })
+    ]
+
+pub returns-clause-places : goal.returns-clause-places
+returns-clause-places g c = λ b t claims survey.
+    let inv = c.loop-dir.invariant in
+    survey_noted c.args.geometry.now.layout b c.args.workspace.now c.loop-dir.workspace inv.lists survey
+    (inv.places b t claims survey)

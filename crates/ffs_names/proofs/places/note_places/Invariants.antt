@@ -1,0 +1,17 @@
+use Rattle.std.proofs.Common.{◌≡◌, ◌<◌, ◌≤◌, ℕ, false, slice_index}
+use Rattle.ffs_image.specs.Device.{ForContents}
+use Rattle.ffs_workspace.specs.Holds.{HoldsClaims, HoldsSurvey}
+use Rattle.ffs_workspace.specs.Places.{is_due, ArePlaces}
+use Rattle.ffs_workspace.specs.Ready.{IsReady}
+use Rattle.ffs_names.proofs.places.note_places.Given as goal
+
+abbrev pub invariant-loop-dir : goal.invariant-loop-dir
+invariant-loop-dir g l = let device = g.I.Image.device in record {
+  same : device l.image ≡ device l.fn.image;
+  lists : l.workspace ≡ record l.fn.workspace { windows = l.workspace.windows; queue = l.workspace.queue };
+  ready : IsReady l.geometry.layout (device l.image) l.workspace;
+  low : 2 ≤ l.dir;
+  passed : (x : ℕ) → x < l.dir → is_due (slice_index l.workspace.queue.items x) ≡ false;
+  places : ForContents (device l.fn.image).contents (λ b. HoldsClaims l.geometry.layout b l.fn.workspace →
+      HoldsSurvey l.geometry.layout b l.fn.workspace → ArePlaces l.geometry.layout b l.workspace.queue.items);
+}

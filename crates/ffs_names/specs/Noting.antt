@@ -1,0 +1,43 @@
+-- What chunks of a directory p note of the places of parent entries. Words are as in `Places` of ffs_workspace.
+use Rattle.std.specs.Prelude.{◌≡◌, ◌⊎◌, ℕ, suc, ◌<◌, ◌==◌, Bool, false, not, ◌&&◌, if◌then◌else◌, List, slice_index}
+use Rattle.std.specs.List.{list_any}
+use Rattle.ffs_volume.specs.declared.constants.TheConstants.{ROOTINO}
+use Rattle.ffs_volume.specs.declared.Layout.{Layout}
+use Rattle.ffs_volume.specs.Directories.Graph.{is_naming_entry}
+use Rattle.ffs_volume.specs.Directories.Roles.{RoledEntry}
+use Rattle.ffs_workspace.specs.Places.{entries_in_chunk, is_due, name_in, place_in}
+
+-- p is the parent of x. The root has no parent entry
+abbrev pub is_child : (parents : List ℕ) (p x : ℕ) → Bool
+is_child parents p x = (slice_index parents x == p) && not (x == ROOTINO)
+
+-- p is the parent of x, of which no place is noted yet, and some entries have a plain one that names x
+abbrev pub is_found : (parents words : List ℕ) (p : ℕ) → List RoledEntry → (x : ℕ) → Bool
+is_found parents words p es x =
+    is_child parents p x && ((place_in (slice_index words x) == 0) && list_any (is_naming_entry x) es)
+
+-- what is due stays so
+abbrev pub KeepsDue : (old new : List ℕ) → Type 0
+KeepsDue old new = (x : ℕ) → is_due (slice_index new x) ≡ is_due (slice_index old x)
+
+-- the place of a chunk of p with these entries is noted of each inode that is found in it, and of no other
+pub record NotesChunk (parents old new : List ℕ) (p place : ℕ) (es : List RoledEntry) : Type 0 where
+  pub places : (x : ℕ) → place_in (slice_index new x)
+      ≡ (if is_found parents old p es x then place else place_in (slice_index old x))
+  pub due : KeepsDue old new
+
+-- each place that is noted anew is that of an inode with the parent p: the first plain entry of the chunk that names it
+-- has the name of the first one of p, which has the entries es
+pub record NotesEntries (v : Layout) (b parents old new : List ℕ) (p : ℕ) (es : List RoledEntry) : Type 0 where
+  pub places : (x k : ℕ) → place_in (slice_index new x) ≡ suc k → (place_in (slice_index old x) ≡ suc k)
+      ⊎ (name_in x (entries_in_chunk v b k) ≡ name_in x es)
+
+-- no place of an inode with another parent is noted, and what is due stays so
+pub record NotesChildren (parents old new : List ℕ) (p : ℕ) : Type 0 where
+  pub others : (x : ℕ) → is_child parents p x ≡ false → place_in (slice_index new x) ≡ place_in (slice_index old x)
+  pub due : KeepsDue old new
+
+-- no place is noted, and no number below that of the root is due
+pub record BeginsNotes (words : List ℕ) : Type 0 where
+  pub none : (x : ℕ) → place_in (slice_index words x) ≡ 0
+  pub low : (x : ℕ) → x < ROOTINO → is_due (slice_index words x) ≡ false

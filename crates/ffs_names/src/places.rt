@@ -1,0 +1,256 @@
+//! Where the parent entries of directories are in the image.
+
+ghost use Rattle.std.specs.Prelude.{◌≡◌, ◌+◌, ◌*◌, ◌<◌, ◌^◌, ◌∷◌, [], ℕ, true, false, IfOk, OnOk, length, slice_index, vec_len};
+ghost use Rattle.std.specs.List.{flat_map};
+ghost use Rattle.ffs_image.specs.Device.{ForContents};
+ghost use Rattle.ffs_image.specs.Reads.{ReadAfter};
+ghost use Rattle.ffs_layout.specs.Entry.{entry_value};
+ghost use Rattle.ffs_volume.specs.Directories.Entries.{entries_of};
+ghost use Rattle.ffs_volume.specs.Directories.Roles.{is_dir, role_of as role_in, roled_chunk, roled_entries, roled_from};
+ghost use Rattle.ffs_volume.specs.Directories.Volumes.{volume_of};
+ghost use Rattle.ffs_workspace.specs.Holds.{HoldsClaims, HoldsSurvey};
+ghost use Rattle.ffs_workspace.specs.Lengths.{inodes_of};
+ghost use Rattle.ffs_workspace.specs.Notes.{note_at};
+ghost use Rattle.ffs_workspace.specs.Places.{is_due, place_in};
+ghost use Rattle.ffs_workspace.specs.Ready.{IsReady};
+ghost use Rattle.ffs_workspace.specs.Tables.{CanReadInodes, TableAfter};
+ghost use Rattle.ffs_names.specs.Noting.{is_child, BeginsNotes, NotesChildren, NotesChunk, NotesEntries};
+ghost use Rattle.ffs_names.specs.Readings.{rest, LeavesReading};
+ghost use Rattle.ffs_names.specs.Windows.{CanReadChunks};
+
+use crate::chunks::Chunks;
+use crate::role::role_of;
+use crate::tree::one_chunk_at;
+use ffs_image::{Image, ImageFault};
+use ffs_layout::{Entry, Geometry, entry_at};
+use ffs_memory::FilledList;
+use ffs_volume::constants::{DIRBLKSIZ, ROOTINO};
+use ffs_volume::{Class, Order, Role};
+use ffs_walk::{Blocks, Window};
+use ffs_workspace::{Table, Workspace, address_in, due, is_due, passed, place_in, place_of};
+
+/// Whether a directory is the parent of an inode other than the root, which has no parent entry.
+fn is_child(parents: &FilledList<u32>, dir: u32, number: u32) -> bool
+    requires { 0 < dir }
+    ensures { result ≡ is_child parents.now.items dir number }
+{
+    if number as usize >= parents.len() {
+        return false;
+    }
+    parents[number as usize] == dir && number != ROOTINO
+}
+
+/// Notes the place of a chunk of `dir` for the inode that an entry of it names, if `dir` is its
+/// parent, the entry is plain, and no place is noted yet.
+fn note_entry(
+    entry: &Entry<'_>,
+    dir: u32,
+    place: u32,
+    parents: &FilledList<u32>,
+    words: &mut FilledList<u32>,
+)
+    requires dir { 0 < dir }
+    requires place { (0 < place) × (place < 2 ^ 31) }
+    requires lengths { vec_len parents.now ≡ vec_len words.old }
+    ensures noted { NotesChunk parents.now.items words.old.items words.new.items dir place
+        (record { role = role_in false 0 (entry_value entry.now); entry = entry_value entry.now }
+        ∷ []) }
+    ensures long { vec_len words.new ≡ vec_len words.old }
+{
+    // Whether it is plain depends neither on its index nor on its chunk's place in the file.
+    if !is_child(parents, dir, entry.number) || role_of(false, 0, entry) != Role::Plain {
+        return;
+    }
+    let index = entry.number as usize;
+    let word = words[index];
+    if place_in(word).is_none() {
+        words.set(index, word + place);
+    }
+}
+
+/// Notes the place of a chunk of `dir` for each inode that a plain entry of it names, if `dir` is
+/// its parent, and no place is noted yet.
+fn note_chunk(
+    order: Order,
+    chunk: &[u8; DIRBLKSIZ],
+    dir: u32,
+    place: u32,
+    parents: &FilledList<u32>,
+    words: &mut FilledList<u32>,
+)
+    requires dir { 0 < dir }
+    requires place { (0 < place) × (place < 2 ^ 31) }
+    requires lengths { vec_len parents.now ≡ vec_len words.old }
+    ensures noted { NotesChunk parents.now.items words.old.items words.new.items dir place
+        (roled_from false 0 (entries_of order chunk.now)) }
+    ensures long { vec_len words.new ≡ vec_len words.old }
+{
+    let mut at = 0usize;
+    'entries: while let Some(entry) = entry_at(order, chunk, at) {
+        note_entry(&entry, dir, place, parents, words);
+        at += usize::from(entry.length);
+    }
+}
+
+/// Notes the places of the chunks of `dir` that are still to come: each for the inodes that a plain
+/// entry of it is the first to name, if `dir` is their parent. It ends at a chunk whose place has
+/// no room in a word.
+///
+/// # Errors
+/// A read of the image that failed.
+fn note_chunks<I: Image>(
+    image: &mut I,
+    blocks: &mut Blocks,
+    data: &mut Window,
+    chunks: &mut Chunks,
+    dir: u32,
+    parents: &FilledList<u32>,
+    words: &mut FilledList<u32>,
+) -> Result<(), ImageFault>
+    requires ready { CanReadChunks chunks.old.walk.geometry.layout (I.device image.old) blocks.old
+        «data».old }
+    requires dir { 0 < dir }
+    requires lengths { vec_len parents.now ≡ vec_len words.old }
+    ensures noted { OnOk result (ForContents (I.device image.old).contents
+        (λ b. NotesEntries chunks.old.walk.geometry.layout b parents.now.items words.old.items
+        words.new.items dir (flat_map roled_chunk (rest b chunks.old)))) }
+    ensures children { NotesChildren parents.now.items words.old.items words.new.items dir }
+    ensures long { vec_len words.new ≡ vec_len words.old }
+    ensures leaves { LeavesReading chunks.old chunks.new (I.device image.old)
+        (I.device image.new) blocks.new «data».new result }
+{
+    let order = chunks.walk.geometry.layout.order;
+    let mut chunk = [0u8; DIRBLKSIZ];
+    'chunks: while let Some(_offset) = chunks.next(image, blocks, data, &mut chunk)? {
+        let place = place_of(chunks.last_place() / DIRBLKSIZ as u64);
+        if place == 0 {
+            // A later entry must not be taken for one of this chunk.
+            return Ok(());
+        }
+        note_chunk(order, &chunk, dir, place, parents, words);
+    }
+    Ok(())
+}
+
+/// A reading of the chunks of a directory, by its note (`ffs_workspace::note_of`).
+///
+/// # Errors
+/// A read of the image that failed.
+fn chunks_of<I: Image>(
+    geometry: &Geometry,
+    image: &mut I,
+    table: &mut Table,
+    dir: u32,
+    note: u32,
+) -> Result<Chunks, ImageFault>
+    requires dir { dir < inodes_of geometry.now.layout }
+    requires ready { CanReadInodes geometry.now.layout (I.device image.old) table.old }
+    ensures chunks { IfOk result (λ c. ForContents (I.device image.old).contents
+        (λ b. note ≡ note_at geometry.now.layout b dir
+        → is_dir (volume_of geometry.now.layout b) dir ≡ true
+        → flat_map roled_chunk (rest b c) ≡ roled_entries (volume_of geometry.now.layout b) dir)) }
+    ensures geometry { IfOk result (λ c. c.walk.geometry ≡ geometry.now) }
+    ensures leaves { TableAfter geometry.now.layout (I.device image.old) (I.device image.new)
+        table.new result }
+{
+    if let Some(address) = address_in(note) {
+        let inode = one_chunk_at(address);
+        return Ok(Chunks::of_class(geometry, &inode, Class::Dir, 0));
+    }
+    let inode = table.inode_by_part(geometry, dir, image)?;
+    Ok(Chunks::of_class(geometry, &inode, Class::Dir, note))
+}
+
+/// Notes the places of the parent entries that are in a directory.
+///
+/// # Errors
+/// A read of the image that failed.
+fn note_directory<I: Image>(
+    geometry: &Geometry,
+    image: &mut I,
+    workspace: &mut Workspace,
+    dir: u32,
+) -> Result<(), ImageFault>
+    requires dir { (0 < dir) × (dir < inodes_of geometry.now.layout) }
+    requires ready { IsReady geometry.now.layout (I.device image.old) workspace.old }
+    ensures noted { OnOk result (ForContents (I.device image.old).contents
+        (λ b. HoldsClaims geometry.now.layout b workspace.old
+        → is_dir (volume_of geometry.now.layout b) dir ≡ true
+        → NotesEntries geometry.now.layout b workspace.old.parents.items workspace.old.queue.items
+        workspace.new.queue.items dir (roled_entries (volume_of geometry.now.layout b) dir))) }
+    ensures children { NotesChildren workspace.old.parents.items workspace.old.queue.items
+        workspace.new.queue.items dir }
+    ensures lists { workspace.new ≡ record workspace.old {
+      windows = workspace.new.windows;
+      queue = workspace.new.queue;
+    } }
+    ensures ready { IsReady geometry.now.layout (I.device image.new) workspace.new }
+    ensures read { ReadAfter (I.device image.old) (I.device image.new) result }
+{
+    let note = workspace.notes[dir as usize];
+    let table = &mut workspace.windows.table;
+    let mut chunks = chunks_of(geometry, image, table, dir, note)?;
+    note_chunks(
+        image,
+        &mut workspace.windows.blocks,
+        &mut workspace.windows.chunk,
+        &mut chunks,
+        dir,
+        &workspace.parents,
+        &mut workspace.queue,
+    )
+}
+
+/// Marks the parent of each directory that is reached as due, and notes no place.
+fn mark_parents(reached: &[bool], parents: &FilledList<u32>, words: &mut FilledList<u32>)
+    requires lengths { (vec_len parents.now ≡ length reached.now)
+        × (vec_len words.old ≡ length reached.now) × (length reached.now < 2 ^ 31) }
+    ensures begins { BeginsNotes words.new.items }
+    ensures long { vec_len words.new ≡ vec_len words.old }
+{
+    words.fill(0);
+    let count = reached.len() as u32;
+    for number in ROOTINO + 1..count {
+        let parent = parents[number as usize];
+        if reached[number as usize] && (ROOTINO..count).contains(&parent) {
+            let index = parent as usize;
+            words.set(index, due(words[index]));
+        }
+    }
+}
+
+/// Notes in `queue`, of each directory that is reached from the root, where its parent entry is in
+/// the image (`ffs_workspace::place_in`): then a path takes one read for each of its directories.
+/// Each of their parents is read once. No word is due afterwards. The windows change too.
+///
+/// # Errors
+/// A read of the image that failed.
+pub fn note_places<I: Image>(
+    geometry: &Geometry,
+    image: &mut I,
+    workspace: &mut Workspace,
+) -> Result<(), ImageFault>
+    requires { IsReady geometry.now.layout (I.device image.old) workspace.old }
+    ensures lists { workspace.new ≡ record workspace.old {
+      windows = workspace.new.windows;
+      queue = workspace.new.queue;
+    } }
+    ensures places { OnOk result (ForContents (I.device image.old).contents
+        (λ b. HoldsClaims geometry.now.layout b workspace.old
+        → HoldsSurvey geometry.now.layout b workspace.old
+        → HoldsSurvey geometry.now.layout b workspace.new)) }
+    ensures none_due { OnOk result ((x : ℕ)
+        → is_due (slice_index workspace.new.queue.items x) ≡ false) }
+    ensures ready { IsReady geometry.now.layout (I.device image.new) workspace.new }
+    ensures read { ReadAfter (I.device image.old) (I.device image.new) result }
+{
+    mark_parents(&workspace.reached, &workspace.parents, &mut workspace.queue);
+    for dir in ROOTINO..geometry.layout.ncg * geometry.layout.ipg {
+        let word = workspace.queue[dir as usize];
+        if is_due(word) {
+            workspace.queue.set(dir as usize, passed(word));
+            note_directory(geometry, image, workspace, dir)?;
+        }
+    }
+    Ok(())
+}
