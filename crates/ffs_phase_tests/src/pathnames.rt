@@ -5,6 +5,7 @@ use ffs_pathnames::inodes::Inodes;
 use ffs_pathnames::verdict::{Faults, Verdict, entry_verdict, pass};
 use ffs_samples::numbers;
 use ffs_volume::{Label, Role};
+use ffs_workspace::due;
 use std::test::Fail;
 
 // Inode 2 is the root, 3 a file, 4 a directory, 6 a directory of size 0, 7 of no known type, 8 a
@@ -44,7 +45,7 @@ fn entries_of_the_root(rt: HostRuntime) -> Result<(), Fail> {
         parents: &parents,
     };
     let passed = [false; 9];
-    let stamps = numbers(&[0, 0, 0, 0, 2, 0, 2, 0, 0], rt.alloc())?;
+    let words = numbers(&[0, 0, 0, 0, due(0), 0, due(0), 0, 0], rt.alloc())?;
     let cases = [
         (9, 8, Verdict::OutOfRange),
         (u32::MAX, 14, Verdict::OutOfRange),
@@ -61,7 +62,7 @@ fn entries_of_the_root(rt: HostRuntime) -> Result<(), Fail> {
         (7, 8, named(Label::Name, false, false, false)),
     ];
     for (number, kind, want) in cases {
-        let verdict = entry_verdict(&inodes, 2, &passed, &stamps, &entry(number, kind));
+        let verdict = entry_verdict(&inodes, 2, &passed, &words, &entry(number, kind));
         assert_eq!(rt; verdict, want, "inode {number}, type {kind}");
     }
     Ok(())
@@ -78,7 +79,7 @@ fn second_names(rt: HostRuntime) -> Result<(), Fail> {
         parents: &parents,
     };
     let mut passed = [false; 9];
-    let mut stamps = numbers(&[0, 0, 0, 0, 2, 0, 2, 0, 0], rt.alloc())?;
+    let mut words = numbers(&[0, 0, 0, 0, due(7), 0, due(0), 0, 0], rt.alloc())?;
     let directory = entry(4, 4);
     let file = entry(8, 8);
     let first = Faults {
@@ -89,24 +90,18 @@ fn second_names(rt: HostRuntime) -> Result<(), Fail> {
         label: Label::File,
     };
     assert_eq!(rt;
-        entry_verdict(&inodes, 2, &passed, &stamps, &file),
+        entry_verdict(&inodes, 2, &passed, &words, &file),
         Verdict::Named(first)
     );
-    pass(
-        &inodes,
-        2,
-        &mut passed,
-        &mut stamps,
-        Role::Plain,
-        &directory,
-    );
-    pass(&inodes, 2, &mut passed, &mut stamps, Role::Plain, &file);
+    pass(&inodes, 2, &mut passed, &mut words, Role::Plain, &directory);
+    pass(&inodes, 2, &mut passed, &mut words, Role::Plain, &file);
+    assert_eq!(rt; words[4], 7, "the place that is noted stays");
     assert_eq!(rt;
-        entry_verdict(&inodes, 2, &passed, &stamps, &directory),
+        entry_verdict(&inodes, 2, &passed, &words, &directory),
         named(Label::Dir, false, true, false)
     );
     assert_eq!(rt;
-        entry_verdict(&inodes, 2, &passed, &stamps, &file),
+        entry_verdict(&inodes, 2, &passed, &words, &file),
         Verdict::Named(Faults {
             suspect: false,
             ..first
