@@ -1,5 +1,5 @@
-# Installs the program, its page, its guide and the completion of its words. It builds nothing: it takes the program that the
-# launcher ./fsck_ffs would run.
+# Installs the program, its page, its guide and the completion of its words. It takes the program that the launcher ./fsck_ffs
+# would run: the one of dist/, and where sources were changed, the one that is built of them.
 #
 #   make check
 #   make install PREFIX=/usr/local DESTDIR=
@@ -17,7 +17,7 @@ ZSHDIR = $(PREFIX)/share/zsh/site-functions
 all:
 	@tools/program >/dev/null
 
-# The images of examples/, each with its report and its status: without Rattle's kit.
+# The images of examples/, each with its report and its status: without Rattle's kit, and nothing is built.
 check:
 	@tools/check_examples
 

@@ -122,7 +122,7 @@ stop_build() {
     kill "$running" 2>/dev/null
     wait
     rm -f "$tree/crates/fsck_ffs/out/fsck_ffs"
-    say "the build was stopped; the next one goes on with what is proved"
+    say "the build was stopped; the next one continues with what is proved"
     exit 8
 }
 
@@ -171,10 +171,10 @@ build() {
     [ -x "$tree/crates/fsck_ffs/out/fsck_ffs" ]
 }
 
-# Sets `program` to the program of these sources: the one that was built here where no source is newer, else the one of dist/ where
-# it is of these sources. Else it is proved and built first, with Rattle's command rt. Where there is none that runs here, one line
-# says why.
-find_program() {
+# Sets `program` to the program of these sources that is there: the one that was built here where no source is newer, else the one of
+# dist/ where it is of these sources. It is empty where there is neither. Where no program can run here, one line says why.
+find_ready_program() {
+    program=
     if ! is_built_for_here; then
         say "the program is built for $needs, and this is $(uname -sm)"
         return 1
@@ -182,17 +182,24 @@ find_program() {
         program=$built
     elif is_kept; then
         program=$kept
-    elif ! command -v rt >/dev/null; then
+    fi
+    [ -z "$program" ] || runs_here "$program"
+}
+
+# The same; where there is none, it is proved and built first, with Rattle's command rt.
+find_program() {
+    find_ready_program || return 1
+    [ -z "$program" ] || return 0
+    if ! command -v rt >/dev/null; then
         say "dist/ has no program of these sources, and Rattle's command rt, which builds one, isn't there"
         return 1
-    else
-        build_log=$top/crates/fsck_ffs/out/build.log
-        mkdir -p "$(dirname "$build_log")"
-        if ! build "$top" "$build_log" || ! is_built; then
-            say "there is no program: see $build_log, or run rt check in $top/crates/fsck_ffs"
-            return 1
-        fi
-        program=$built
     fi
+    build_log=$top/crates/fsck_ffs/out/build.log
+    mkdir -p "$(dirname "$build_log")"
+    if ! build "$top" "$build_log" || ! is_built; then
+        say "there is no program: see $build_log, or run rt check in $top/crates/fsck_ffs"
+        return 1
+    fi
+    program=$built
     runs_here "$program"
 }
