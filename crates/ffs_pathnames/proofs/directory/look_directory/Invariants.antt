@@ -16,19 +16,20 @@ use Rattle.ffs_pathnames.specs.Reads.{chunks_read, start_of}
 use Rattle.ffs_pathnames.proofs.directory.look_directory.Given as goal
 
 abbrev pub invariant-chunks : goal.invariant-chunks
-invariant-chunks g l = let device = g.I.Image.device in
-    let first = stamps_in l.inodes l.initial.words.items in let now = stamps_in l.inodes l.words.items in record {
+invariant-chunks g l = let device = g.I.Image.device in record {
   same : device l.image ≡ device l.initial.image;
   geometry : l.chunks.walk.geometry ≡ l.geometry;
   words_long : vec_len l.words ≡ vec_len l.fn.words;
   places : KeepPlaces l.fn.words.items l.words.items;
   ready : CanReadChunks l.geometry.layout (device l.image) l.blocks l.data;
   quiet : ForContents (device l.initial.image).contents (λ b. (v : Volume) → Sees v l.inodes → l.inode.size < 2 ^ 31 →
-      are_quiet v l.dir first (flat_map roled_chunk (chunks_read l.geometry.layout l.inode l.cut b))
-      ≡ (l.quiet && are_quiet v l.dir now (flat_map roled_chunk (rest b l.chunks))));
+      are_quiet v l.dir (stamps_in l.inodes l.initial.words.items)
+      (flat_map roled_chunk (chunks_read l.geometry.layout l.inode l.cut b))
+      ≡ (l.quiet && are_quiet v l.dir (stamps_in l.inodes l.words.items) (flat_map roled_chunk (rest b l.chunks))));
   stamps : ForContents (device l.initial.image).contents (λ b. (v : Volume) → Sees v l.inodes → l.inode.size < 2 ^ 31 →
-      after_looks v l.dir first (flat_map roled_chunk (chunks_read l.geometry.layout l.inode l.cut b))
-      ≡ after_looks v l.dir now (flat_map roled_chunk (rest b l.chunks)));
+      after_looks v l.dir (stamps_in l.inodes l.initial.words.items)
+      (flat_map roled_chunk (chunks_read l.geometry.layout l.inode l.cut b))
+      ≡ after_looks v l.dir (stamps_in l.inodes l.words.items) (flat_map roled_chunk (rest b l.chunks)));
   sound : ForContents (device l.initial.image).contents (λ b. l.inode.size < 2 ^ 31 →
       are_sound (chunks_read l.geometry.layout l.inode l.cut b) ≡ (l.sound && are_sound (rest b l.chunks)));
   gap : ForContents (device l.initial.image).contents (λ b.

@@ -9,18 +9,19 @@ use Rattle.ffs_pathnames.proofs.Looking.{roled_at_place}
 use Rattle.ffs_pathnames.proofs.look.look_chunk.Given as goal
 
 abbrev pub invariant-entries : goal.invariant-entries
-invariant-entries l = let first = stamps_in l.inodes l.initial.words.items in
-    let now = stamps_in l.inodes l.words.items in record {
+invariant-entries l = record {
   place : l.place ≤ 512;
   index : l.index ≤ l.place;
   words_long : vec_len l.words ≡ vec_len l.fn.words;
   places : KeepPlaces l.fn.words.items l.words.items;
   quiet : (v : Volume) → Sees v l.inodes →
-      are_quiet v l.dir first (roled_at_place l.order l.chunk l.first 0 0)
-      ≡ (l.quiet && are_quiet v l.dir now (roled_at_place l.order l.chunk l.first l.index l.place));
+      are_quiet v l.dir (stamps_in l.inodes l.initial.words.items) (roled_at_place l.order l.chunk l.first 0 0)
+      ≡ (l.quiet && are_quiet v l.dir (stamps_in l.inodes l.words.items)
+      (roled_at_place l.order l.chunk l.first l.index l.place));
   stamps : (v : Volume) → Sees v l.inodes →
-      after_looks v l.dir first (roled_at_place l.order l.chunk l.first 0 0)
-      ≡ after_looks v l.dir now (roled_at_place l.order l.chunk l.first l.index l.place);
+      after_looks v l.dir (stamps_in l.inodes l.initial.words.items) (roled_at_place l.order l.chunk l.first 0 0)
+      ≡ after_looks v l.dir (stamps_in l.inodes l.words.items)
+      (roled_at_place l.order l.chunk l.first l.index l.place);
   sound : sum_by (λ x. x.length) (entries_from l.order l.chunk 64 0) ≡ l.place + sum_by (λ x. x.length)
       (entries_from l.order l.chunk 64 l.place);
 }
