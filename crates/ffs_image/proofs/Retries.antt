@@ -1,13 +1,8 @@
--- How reads that a signal interrupts follow one another.
-use Rattle.std.proofs.Common.{◌≡◌, ◌+◌, ◌-◌, ◌^◌, ℕ, Result, Err, subst, inr, add-one, rules}
+-- Reads that a signal interrupts, again and again.
+use Rattle.std.proofs.Common.{◌≡◌, ◌-◌, ◌^◌, ℕ, Result, Err, subst, inr, rules}
 use Rattle.std.specs.Prelude.{IsErr}
 use Rattle.std.specs.declared.io.Error.{Error}
-use Rattle.ffs_image.specs.System.{InterruptedOnce, Interruptions, IsTriedAgain}
-
--- one more of them
-pub interrupted_again : {F : Type 0} (was_read : F → Result ℕ Error → F → Type 0) (n : ℕ) (a b c : F) →
-    Interruptions was_read n a b → InterruptedOnce was_read b c → Interruptions was_read (n + 1) a c
-interrupted_again was_read n a b c p q = rw add-one (b, p, q)
+use Rattle.ffs_image.specs.System.{Interruptions, IsTriedAgain}
 
 -- after the last one it gives up
 pub given_up : {F : Type 0} (was_read : F → Result ℕ Error → F → Type 0) (n : ℕ) (a b : F) (error : Error) →

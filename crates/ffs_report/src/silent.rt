@@ -58,7 +58,8 @@ fn is_interrupted(answer: &io::Result<usize>) -> bool
 fn write_uninterrupted<S: Outlet>(inner: &mut S, buf: &[u8]) -> io::Result<usize>
     ensures bound { WritesAtMost result buf.now }
     ensures bytes { WriteAppends (S.contents inner.old) (S.contents inner.new) result buf.now }
-    ensures tried { IsTriedAgain (λ writer. S.was_written writer buf.now) inner.old inner.new result }
+    ensures tried { IsTriedAgain (λ writer. S.was_written writer buf.now) inner.old inner.new
+        result }
 {
     for _ in 0..u64::MAX {
         let answer = inner.write_once(buf);
