@@ -1,7 +1,7 @@
 -- How a reading of a directory continues.
 use Rattle.std.specs.Prelude.{◌≡◌, ℕ, suc, ◌+◌, ◌==◌, refl, Bool, List, [], ◌∷◌, ◌++◌, Option, Some, None, is_some}
 use Rattle.std.specs.Prelude.{false, length, not, cond, if◌then◌else◌, ◌&&◌}
-use Rattle.std.specs.List.{flat_map, filter}
+use Rattle.std.specs.List.{flat_map}
 use Rattle.std.proofs.Common.{arith, sym, ◌∙◌, ap}
 use Rattle.ffs_volume.specs.declared.Order.{Order}
 use Rattle.ffs_volume.specs.declared.Role.{Role}
@@ -11,7 +11,6 @@ use Rattle.ffs_volume.specs.Directories.Entries.{Entry, Chunk, chunk_of, entry_a
 use Rattle.ffs_volume.specs.Directories.Roles.{RoledEntry, is_one_dot, is_two_dots, role_of, roled_from, roled_chunk}
 use Rattle.ffs_volume.proofs.Longest.{entry-length}
 use Rattle.ffs_volume.proofs.Reading.{entries_next, entries_end}
-use Rattle.ffs_names.specs.Entering.{IsEmptyAt, is_filled}
 
 -- an entry of the current chunk
 pub take_seen : (first : Bool) (index : ℕ) (order : Order) (chunk : List ℕ) (place : ℕ) (e : Entry) (rest : List Chunk)
@@ -86,28 +85,3 @@ pub none_came : (first : Bool) (index : ℕ) (order : Order) (chunk : List ℕ) 
     → roled_from first index (entries_from order chunk 64 place) ++ flat_map roled_chunk old ≡ []
 none_came first index order chunk place old h r = none_seen first index order chunk place old (none_from _ h)
     ∙ ap (flat_map roled_chunk) r
-
--- an entry that isn't live is empty
-empty_role : (first : Bool) (index : ℕ) (e : Entry) → is_live e ≡ false → role_of first index e ≡ Empty
-unfolding role_of
-empty_role first index e dead =
-    ap (λ z. if not z then Empty else (if is_one_dot e.name then (if first && (index == 0) then Dot else Extra)
-    else (if is_two_dots e.name then (if first && (index == 1) then Dotdot else Extra) else Plain))) dead
-
-abbrev filled : List RoledEntry → List RoledEntry
-filled es = filter (λ e. is_filled e.role) es
-
--- an empty entry of the current chunk is passed
-pub empty_passed : (first : Bool) (index : ℕ) (order : Order) (chunk : List ℕ) (place len : ℕ) (rest : List Chunk)
-    → IsEmptyAt order chunk place len
-    → filter (λ e. is_filled e.role) (roled_from first (index + 1) (entries_from order chunk 64 (place + len))
-    ++ flat_map roled_chunk rest)
-    ≡ filter (λ e. is_filled e.role) (roled_from first index (entries_from order chunk 64 place)
-    ++ flat_map roled_chunk rest)
-empty_passed first index order chunk place len rest h =
-    let tail = λ (n : ℕ). roled_from first (index + 1) (entries_from order chunk 64 (place + n)) ++ flat_map roled_chunk rest in
-    let e = h.entry in
-    ap (λ n. filled (tail n)) (sym h.length_is)
-    ∙ sym (ap filled (take_seen first index order chunk place e rest h.there)
-    ∙ ap (λ r. cond (is_filled r) (record { role = r; entry = e } ∷ filled (tail e.length)) (filled (tail e.length)))
-    (empty_role first index e h.empty))

@@ -8,7 +8,6 @@ use Rattle.ffs_volume.specs.declared.Order.{Order}
 use Rattle.ffs_volume.specs.Directories.Entries.{Entry, Chunk, chunk_of, entry_at, entries_from, is_sound}
 use Rattle.ffs_volume.specs.Directories.PathnameCheck.{are_sound}
 use Rattle.ffs_volume.proofs.Reading.{entries_next, entries_end}
-use Rattle.ffs_names.specs.Entering.{IsEmptyAt}
 use Rattle.ffs_names.specs.Readings.{rest, gap_left}
 use Rattle.ffs_names.specs.declared.chunks.Chunks.{Chunks}
 use Rattle.ffs_names.proofs.Entered.{end_of_chunk, none_from}
@@ -24,11 +23,6 @@ fills_next order chunk place e there =
     let same : (place + e.length) + sum_by (λ x. x.length) (entries_from order chunk 64 (place + e.length))
     ≡ place + sum_by (λ x. x.length) (entries_from order chunk 64 place) = omega (arith, s, m) in
     ap (λ n. n == 512) same
-
-pub fills_passed : (order : Order) (chunk : List ℕ) (place len : ℕ) → IsEmptyAt order chunk place len →
-    fills_from order chunk (place + len) ≡ fills_from order chunk place
-fills_passed order chunk place len h = ap (λ n. fills_from order chunk (place + n)) (sym h.length_is)
-    ∙ fills_next order chunk place h.entry h.there
 
 fills_end : (order : Order) (chunk : List ℕ) (place : ℕ) → entry_at order chunk place ≡ None →
     fills_from order chunk place ≡ (place == 512)

@@ -1,11 +1,8 @@
 -- The entries that a reading of a directory has still to give.
-use Rattle.std.specs.Prelude.{ℕ, List, Bool, ◌≡◌, ◌<◌, ◌≤◌, ◌++◌, ◌+◌, ◌-◌, ◌*◌, ◌/◌, true, false, Some}
-use Rattle.std.specs.List.{flat_map, filter}
-use Rattle.ffs_volume.specs.declared.Order.{Order}
-use Rattle.ffs_volume.specs.declared.Role.{Role}
-use Rattle.ffs_volume.specs.declared.Role.TheVariants.{Empty, Dot, Dotdot, Extra, Plain}
+use Rattle.std.specs.Prelude.{ℕ, List, ◌≡◌, ◌<◌, ◌≤◌, ◌++◌, ◌+◌, ◌-◌, ◌*◌, ◌/◌}
+use Rattle.std.specs.List.{flat_map}
 use Rattle.ffs_volume.specs.Disk.Numbers.{piece}
-use Rattle.ffs_volume.specs.Directories.Entries.{Entry, entry_at, entries_from, is_live}
+use Rattle.ffs_volume.specs.Directories.Entries.{entries_from}
 use Rattle.ffs_volume.specs.Directories.Roles.{RoledEntry, roled_from, roled_chunk}
 use Rattle.ffs_names.specs.Readings.{rest}
 use Rattle.ffs_names.specs.RunCursors.{last_place}
@@ -18,29 +15,6 @@ here r = roled_from r.first r.index (entries_from r.order r.chunk 64 r.place)
 -- those, and those of the chunks to come, in an image of these bytes
 abbrev pub to_come : List ℕ → Entries → List RoledEntry
 to_come b r = here r ++ flat_map roled_chunk (rest b r.chunks)
-
--- the role isn't Empty
-abbrev pub is_filled : Role → Bool
-is_filled Plain = true
-is_filled Dot = true
-is_filled Dotdot = true
-is_filled Extra = true
-is_filled Empty = false
-
--- those of them that aren't empty
-abbrev pub filled_to_come : List ℕ → Entries → List RoledEntry
-filled_to_come b r = filter (λ e. is_filled e.role) (to_come b r)
-
--- an empty entry with a record of this length is at a place of a chunk
-pub record IsEmptyAt (order : Order) (chunk : List ℕ) (place length : ℕ) : Type 0 where
-  pub entry : Entry
-  pub there : entry_at order chunk place ≡ Some entry
-  pub empty : is_live entry ≡ false
-  pub length_is : entry.length ≡ length
-
--- no empty entry is at a place of a chunk
-abbrev pub HasNoEmptyAt : (order : Order) (chunk : List ℕ) (place : ℕ) → Type 0
-HasNoEmptyAt order chunk place = (e : Entry) → entry_at order chunk place ≡ Some e → is_live e ≡ true
 
 -- at most how many there are, whatever the image holds
 abbrev pub left : Entries → ℕ

@@ -56,7 +56,7 @@ impl Entries {
     ghost use Rattle.ffs_survey.specs.Reading.{roled_of};
     ghost use Rattle.ffs_names.specs.Readings.{LeavesReading, LeavesWalk};
     ghost use Rattle.ffs_names.specs.Shapes.{has_right_shape, HasEnded, BeginsDirectory, GivesEntry, IsSameChunk};
-    ghost use Rattle.ffs_names.specs.Entering.{to_come, filled_to_come, left, last_name, HasNoEmptyAt, IsEmptyAt, IsHeld, IsInside, MayTake, name_place};
+    ghost use Rattle.ffs_names.specs.Entering.{to_come, left, last_name, IsHeld, IsInside, MayTake, name_place};
 
     /// A reading of the directory with this inode. `cut` is how many offers it keeps where its
     /// eleventh dup offer cut it, else 0.
@@ -194,39 +194,6 @@ impl Entries {
                     self.place = 0;
                 }
             }
-        }
-    }
-
-    /// The length of the next record of the chunk, in bytes, where its entry is empty.
-    #[inline(always)]
-    fn empty_length(&self) -> Option<u16>
-        ensures empty { MatchOption result
-            (HasNoEmptyAt self.now.order self.now.chunk self.now.place)
-            (IsEmptyAt self.now.order self.now.chunk self.now.place) }
-        ensures room { IfSome result (λ length. (8 ≤ length) × (self.now.place + length ≤ 512)) }
-    {
-        match entry_at(self.order, &self.chunk, self.place) {
-            None => None,
-            Some(entry) => {
-                if entry.number == 0 {
-                    Some(entry.length)
-                } else {
-                    None
-                }
-            }
-        }
-    }
-
-    /// Passes the empty entries that come next in the chunk.
-    pub fn pass_empty(&mut self)
-        ensures entries { (b : List ℕ) → filled_to_come b self.new ≡ filled_to_come b self.old }
-        ensures none { HasNoEmptyAt self.new.order self.new.chunk self.new.place }
-        ensures left { left self.new ≤ left self.old }
-        ensures same { IsSameChunk self.old self.new }
-    {
-        'entries: while let Some(length) = self.empty_length() {
-            self.place += length as usize;
-            self.index += 1;
         }
     }
 

@@ -1,12 +1,9 @@
-//! Roles of entries, as dir(5) has them, empty entries that are passed, and the chunks of a
-//! directory whose blocks share a fragment.
-
-ghost use Rattle.std.specs.Prelude.{◌≡◌, ◌*◌, ◌≤◌};
+//! Roles of entries, as dir(5) has them, and the chunks of a directory whose blocks share a fragment.
 
 use ffs_image::Image;
 use ffs_layout::{Entry, Geometry, Inode, Order};
 use ffs_memory::FixedList;
-use ffs_names::{Chunks, Entries, role_of};
+use ffs_names::{Chunks, role_of};
 use ffs_samples::{Stop, geometry, image_of, inode};
 use ffs_volume::Role;
 use ffs_walk::{Blocks, Window};
@@ -102,55 +99,5 @@ fn same_fragment_twice(rt: HostRuntime) -> Result<(), Fail> {
     let mut image = image_of(Order::Little, &numbers, rt.alloc())?;
     let kept = chunks_of(&geometry, &directory, 4, &mut image, rt.alloc())?;
     assert_eq!(rt; kept.as_slice(), &first[..8]);
-    Ok(())
-}
-
-// The number and the length of the first entry of a directory, and of the first one after it that
-// isn't empty.
-fn first_and_filled<I: Image>(
-    geometry: &Geometry,
-    inode: &Inode,
-    image: &mut I,
-    alloc: Global,
-) -> Result<[(u32, u16); 2], Stop>
-    requires { geometry.now.layout.size * geometry.now.layout.fsize ≤ (I.device image.old).size }
-{
-    let size = geometry.layout.bsize as usize;
-    let buffer = vec![in alloc; 0u8; 3 * size]?;
-    let mut blocks = Blocks::over(FixedList::new(buffer));
-    let buffer = vec![in alloc; 0u8; size]?;
-    let mut window = Window::over(FixedList::new(buffer));
-    let mut entries = Entries::start(geometry, inode, 0);
-    let mut found = [(0, 0); 2];
-    if let Some(entry) = entries.next(image, &mut blocks, &mut window)? {
-        found[0] = (entry.number, entry.length);
-    }
-    entries.pass_empty();
-    if let Some(entry) = entries.next(image, &mut blocks, &mut window)? {
-        found[1] = (entry.number, entry.length);
-    }
-    Ok(found)
-}
-
-// Fragment 40 begins with empty entries of 8, 12 and 20 bytes. The entry "a" of inode 7 is after
-// them, and fills the chunk.
-#[test]
-fn empty_entries_are_passed(rt: HostRuntime) -> Result<(), Fail> {
-    let geometry = geometry(Order::Little)?;
-    let numbers = [
-        (40964, 2, 8),
-        (40972, 2, 12),
-        (40984, 2, 20),
-        (41000, 4, 7),
-        (41004, 2, 472),
-        (41006, 1, 8),
-        (41007, 1, 1),
-        (41008, 1, 97),
-    ];
-    let mut image = image_of(Order::Little, &numbers, rt.alloc())?;
-    let mut directory = inode(0o40755, 512);
-    directory.addresses[0] = 40;
-    let found = first_and_filled(&geometry, &directory, &mut image, rt.alloc())?;
-    assert_eq!(rt; found, [(0, 8), (7, 472)]);
     Ok(())
 }
