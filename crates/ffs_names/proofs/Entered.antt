@@ -1,14 +1,13 @@
 -- How a reading of a directory continues.
 use Rattle.std.specs.Prelude.{◌≡◌, ℕ, suc, ◌+◌, ◌==◌, refl, Bool, List, [], ◌∷◌, ◌++◌, Option, Some, None, is_some}
-use Rattle.std.specs.Prelude.{false, length, not, cond, if◌then◌else◌, ◌&&◌}
+use Rattle.std.specs.Prelude.{false, length}
 use Rattle.std.specs.List.{flat_map}
 use Rattle.std.proofs.Common.{arith, sym, ◌∙◌, ap}
 use Rattle.ffs_volume.specs.declared.Order.{Order}
 use Rattle.ffs_volume.specs.declared.Role.{Role}
-use Rattle.ffs_volume.specs.declared.Role.TheVariants.{Empty, Dot, Dotdot, Extra, Plain}
 use Rattle.ffs_volume.specs.Disk.Numbers.{piece}
-use Rattle.ffs_volume.specs.Directories.Entries.{Entry, Chunk, chunk_of, entry_at, entries_from, is_live}
-use Rattle.ffs_volume.specs.Directories.Roles.{RoledEntry, is_one_dot, is_two_dots, role_of, roled_from, roled_chunk}
+use Rattle.ffs_volume.specs.Directories.Entries.{Entry, Chunk, chunk_of, entry_at, entries_from}
+use Rattle.ffs_volume.specs.Directories.Roles.{role_of, roled_from, roled_chunk}
 use Rattle.ffs_volume.proofs.Longest.{entry-length}
 use Rattle.ffs_volume.proofs.Reading.{entries_next, entries_end}
 

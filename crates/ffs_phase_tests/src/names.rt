@@ -1,5 +1,7 @@
 //! Roles of entries, as dir(5) has them, and the chunks of a directory whose blocks share a fragment.
 
+ghost use Rattle.std.specs.Prelude.{◌*◌, ◌≤◌};
+
 use ffs_image::Image;
 use ffs_layout::{Entry, Geometry, Inode, Order};
 use ffs_memory::FixedList;
