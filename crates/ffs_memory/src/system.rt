@@ -7,7 +7,7 @@ use crate::counted::CountedAllocator;
 use crate::filled_list::FilledList;
 use crate::fixed_list::FixedList;
 use crate::memory::Memory;
-use crate::touching::touch;
+use crate::touching::filled;
 use crate::zeroed_words::ZeroedWords;
 use std::alloc::{AllocError, Global};
 
@@ -34,11 +34,8 @@ impl SystemMemory {
         ensures { Gives (account_of self.old) (account_of self.new) n (type_size T.row * n) value
             result }
     {
-        let mut items = self.allocator.room_for(n, value)?;
-        if n > 0 {
-            touch(&mut items, n - 1, value);
-        }
-        Ok(FixedList::new(items))
+        let empty = self.allocator.room_for(n, value)?;
+        Ok(FixedList::new(filled(empty, n, value)))
     }
 
     // So many elements, each the same, of which none is written yet.
