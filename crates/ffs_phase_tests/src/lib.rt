@@ -14,3 +14,5 @@ mod names;
 mod pathnames;
 #[cfg(test)]
 mod paths;
+#[cfg(test)]
+mod places;

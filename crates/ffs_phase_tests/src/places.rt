@@ -1,0 +1,87 @@
+//! Where parent entries are in the image: that of a directory in the only chunk of the root, and
+//! that of one in the second chunk of another directory.
+
+ghost use Rattle.std.specs.Prelude.{◌≡◌, ℕ, List, Option, IfOk};
+ghost use Rattle.ffs_workspace.specs.Lengths.{IsFor, HoldWindows, inodes_of};
+
+use ffs_layout::{Geometry, Order};
+use ffs_names::note_places;
+use ffs_samples::{Number, geometry, image_of, inode};
+use ffs_volume::Class;
+use ffs_workspace::{Workspace, is_due, note_of, place_in};
+use std::alloc::{AllocError, Global};
+use std::test::Fail;
+
+// 2 is the parent of 3, and 3 that of 5. The only chunk of 2 is noted: it is at fragment 40.
+fn surveyed(alloc: Global, geometry: &Geometry) -> Result<Workspace, AllocError>
+    requires { inodes_of geometry.now.layout ≡ 32 }
+    ensures made { IfOk result (λ w. IsFor geometry.now.layout w) }
+    ensures windows { (contents : Option (List ℕ))
+        → IfOk result (λ w. HoldWindows geometry.now.layout contents w) }
+{
+    let mut workspace = Workspace::new(alloc, geometry)?;
+    let mut root = inode(0o40755, 512);
+    root.addresses[0] = 40;
+    workspace.notes.set(2, note_of(Class::Dir, &root, 0));
+    workspace.reached[2] = true;
+    workspace.reached[3] = true;
+    workspace.reached[5] = true;
+    workspace.parents.set(2, 2);
+    workspace.parents.set(3, 2);
+    workspace.parents.set(5, 3);
+    Ok(workspace)
+}
+
+// The root has `.`, `a` (3) and `b` (4). Inode 3 has 1,024 bytes at fragment 41: an empty entry,
+// and then `c` (5).
+const NUMBERS: [Number; 19] = [
+    (29056, 2, 0o40755),
+    (29064, 8, 1024),
+    (29096, 4, 41),
+    (40960, 4, 2),
+    (40964, 2, 12),
+    (40966, 2, 0x0104),
+    (40968, 1, 46),
+    (40972, 4, 3),
+    (40976, 2, 12),
+    (40978, 2, 0x0104),
+    (40980, 1, 97),
+    (40984, 4, 4),
+    (40988, 2, 488),
+    (40990, 2, 0x0108),
+    (40992, 1, 98),
+    (41988, 2, 512),
+    (42496, 4, 5),
+    (42500, 2, 512),
+    (42502, 4, 0x0063_0104),
+];
+
+// The chunks that are noted of inodes 2 to 5, and whether a word is due.
+fn noted(alloc: Global) -> Result<([Option<u32>; 4], bool), Fail> {
+    let geometry = geometry(Order::Little)?;
+    let mut workspace = surveyed(alloc, &geometry)?;
+    let mut image = image_of(Order::Little, &NUMBERS, alloc)?;
+    note_places(&geometry, &mut image, &mut workspace)?;
+    let words = [
+        workspace.queue[2],
+        workspace.queue[3],
+        workspace.queue[4],
+        workspace.queue[5],
+    ];
+    let due = is_due(words[0]) || is_due(words[1]) || is_due(words[2]) || is_due(words[3]);
+    let places = [
+        place_in(words[0]),
+        place_in(words[1]),
+        place_in(words[2]),
+        place_in(words[3]),
+    ];
+    Ok((places, due))
+}
+
+#[test]
+fn notes_places_of_parent_entries(rt: HostRuntime) -> Result<(), Fail> {
+    let (places, due) = noted(rt.alloc())?;
+    assert!(rt; !due);
+    assert_eq!(rt; places, [None, Some(80), None, Some(83)]);
+    Ok(())
+}
