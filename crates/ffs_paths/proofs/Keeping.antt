@@ -15,13 +15,14 @@ use Rattle.ffs_workspace.specs.Places.{ArePlaces, place_in}
 use Rattle.ffs_paths.specs.Siblings.{AreSiblings, KeepSiblings, PathLeaves, SamePlaces}
 use Rattle.ffs_paths.specs.declared.siblings.Siblings.{Siblings}
 
+-- where the same places are noted, what was found is as it was, seen from the later workspace
 leaves_back : (old new : Workspace) → LeavesSurvey old new → SamePlaces old new → LeavesSurvey new old
 leaves_back old new s same =
     let back : (v : Layout) (b : List ℕ) → ArePlaces v b new.queue.items → ArePlaces v b old.queue.items =
     λ v b h x p k noted. h x p k (same x ∙ noted) in
     search (rules, sym)
 
--- and so where the same places are noted, too
+-- what is kept stays right where the same places are noted
 pub siblings_on : (v : Layout) (contents contents' : Option (List ℕ)) (old new : Workspace) (s : Siblings) →
     contents' ≡ contents → LeavesSurvey old new → SamePlaces old new
     → KeepSiblings v contents old s → KeepSiblings v contents' new s
@@ -42,7 +43,7 @@ pub siblings_held : (v : Layout) (contents contents' : Option (List ℕ)) (old n
 siblings_held v contents contents' old new s e lists k =
     siblings_on v contents contents' old new s e (windows_leave old new lists) (same_places old new lists) k
 
--- what is kept is right after a call that only read, and was right before it
+-- and after a call that only read
 pub kept_on : {T : Type 0} {v : Layout} {d d' : Device} {w w' : Workspace} {x : T} (s : Siblings) →
     OnlyReads v d d' w w' (Ok x) → KeepSiblings v d.contents w s → KeepSiblings v d'.contents w' s
 kept_on s r k = siblings_held _ _ _ _ _ s (ap (λ d. d.contents) r.read) r.lists k
@@ -79,7 +80,7 @@ reads_then {last = last} {after = after} {result = result} one two = record {
   read = subst (λ d. ReadAfter d last result) one.read two.read;
 }
 
--- what is known of the tree after it was known before it
+-- what the workspace says of the tree after a call that only read, it said before
 pub tree_on : {T : Type 0} {v : Layout} {d d' : Device} {w w' : Workspace} {x : T} (P : Graph → Type 0) →
     OnlyReads v d d' w w' (Ok x) → ForTree v d' w' P → ForTree v d w P
 tree_on {v = v} {w = w} {w' = w'} P r known = λ b t claims survey.

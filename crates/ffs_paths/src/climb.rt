@@ -7,7 +7,8 @@ ghost use Rattle.ffs_paths.specs.Buffers.{HoldsNames};
 ghost use Rattle.ffs_paths.specs.Reads.{ForTree, IsReadyFor, OnlyReads};
 
 use crate::buffer::PathBuffer;
-use crate::name::{NameText, find_name};
+use crate::entry_name::NameText;
+use crate::name::find_name;
 use ffs_image::{Image, ImageFault};
 use ffs_layout::Geometry;
 use ffs_volume::constants::ROOTINO;

@@ -11,6 +11,7 @@
 
 mod buffer;
 mod climb;
+mod entry_name;
 mod entry_paths;
 mod kept;
 mod name;

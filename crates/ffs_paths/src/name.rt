@@ -1,31 +1,19 @@
 //! The name of a directory in its parent.
 
-ghost use Rattle.std.specs.Prelude.{◌≡◌, ◌*◌, ◌<◌, ◌≤◌, ℕ, true, false, length, IfOk, OnOk};
+ghost use Rattle.std.specs.Prelude.{◌≡◌, ◌*◌, ◌<◌, ℕ, true, false, IfOk, OnOk};
 ghost use Rattle.ffs_volume.specs.Directories.Entries.{entries_of};
 ghost use Rattle.ffs_volume.specs.Directories.Roles.{roled_from};
 ghost use Rattle.ffs_paths.specs.Climbing.{name_in, IsNameIn};
 ghost use Rattle.ffs_paths.specs.Reads.{ForTree, IsReadyFor, OnlyReads};
 
-use crate::search::{names, search_name};
-use arrayvec::ArrayVec;
+use crate::entry_name::{NameText, names, set_name};
+use crate::search::search_name;
 use ffs_image::{Image, ImageFault};
 use ffs_layout::{Geometry, entry_at};
 use ffs_names::role_of;
 use ffs_volume::Order;
 use ffs_volume::constants::DIRBLKSIZ;
 use ffs_workspace::{Workspace, place_in};
-
-/// The text of a name.
-pub type NameText = ArrayVec<u8, DIRBLKSIZ>;
-
-/// Puts a name in place of a text.
-pub fn set_name(text: &mut NameText, name: &[u8])
-    requires { length name.now ≤ 512 }
-    ensures { text.new.items ≡ name.now }
-{
-    text.clear();
-    text.try_extend_from_slice(name).unwrap();
-}
 
 /// Finds the name of an inode in a chunk, by its first plain entry there. Returns whether there is
 /// one.

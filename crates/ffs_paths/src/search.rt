@@ -1,25 +1,15 @@
 //! A search of a directory for the name of another one.
 
-ghost use Rattle.std.specs.Prelude.{◌≡◌, ◌*◌, ◌<◌, ◌==◌, ◌&&◌, OnOk};
-ghost use Rattle.ffs_volume.specs.Directories.Roles.{is_plain};
+ghost use Rattle.std.specs.Prelude.{◌*◌, ◌<◌, OnOk};
 ghost use Rattle.ffs_workspace.specs.Ready.{IsReady};
 ghost use Rattle.ffs_paths.specs.Climbing.{IsNameIn};
 ghost use Rattle.ffs_paths.specs.Reads.{ForTree, OnlyReads};
 
-use crate::name::{NameText, set_name};
+use crate::entry_name::{NameText, names, set_name};
 use ffs_image::{Image, ImageFault};
 use ffs_layout::Geometry;
 use ffs_names::Entries;
-use ffs_survey::is_plain;
-use ffs_volume::Role;
 use ffs_workspace::Workspace;
-
-/// Whether an entry of this role and number names an inode in the directory tree.
-pub fn names(role: Role, number: u32, inode: u32) -> bool
-    ensures { result ≡ (is_plain role && (number == inode)) }
-{
-    is_plain(role) && number == inode
-}
 
 /// Finds the name of a directory in its parent, by all entries of the parent: that of the first
 /// plain entry that names it, and none where no entry does.

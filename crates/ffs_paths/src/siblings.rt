@@ -8,8 +8,9 @@ ghost use Rattle.ffs_paths.specs.DirectoryPaths.{IsPathOf};
 ghost use Rattle.ffs_paths.specs.Reads.{ForTree};
 
 use crate::buffer::{PathBuffer, PathText};
+use crate::entry_name::NameText;
 use crate::kept::DirectoryPath;
-use crate::name::{NameText, find_name};
+use crate::name::find_name;
 use crate::path::directory_path;
 use ffs_image::{Image, ImageFault};
 use ffs_layout::Geometry;
