@@ -1,5 +1,5 @@
 use Rattle.std.proofs.Math.Bool.{and_comm}
-use Rattle.std.proofs.Common.{arith, subst, [], ◌∙◌, ap, ◌&&◌, nat_le, rules, ◌≡◌, ◌∷◌, ◌<◌, List, ℕ, take, length}
+use Rattle.std.proofs.Common.{arith, subst, [], ◌∙◌, ◌&&◌, nat_le, rules, ◌≡◌, ◌∷◌, ◌<◌, List, ℕ, take, length}
 use Rattle.ffs_volume.specs.Directories.Roles.{RoledEntry, refers}
 use Rattle.ffs_survey.specs.Reading.{roled_of}
 use Rattle.ffs_survey.specs.Calm.{IsFlagged}

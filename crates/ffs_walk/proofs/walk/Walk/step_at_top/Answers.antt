@@ -208,7 +208,7 @@ pub returns-then-self-clause-none : goal.returns-then-self-clause-none
 returns-then-self-clause-none c = λ e. refl
 
 pub returns-then-self-clause-over : goal.returns-then-self-clause-over
-returns-then-self-clause-over c = (λ h. refl, λ e. omega (arith, (omega (arith, c.args.self.now.in_order)), c.args.self.now.in_order))
+returns-then-self-clause-over c = (λ h. refl, λ e. omega (arith, c.args.self.now.in_order))
 
 pub returns-then-self-clause-same : goal.returns-then-self-clause-same
 returns-then-self-clause-same c = record { geometry = refl; blocks = refl }
