@@ -1,7 +1,7 @@
 //! Directories that hang below nothing.
-ghost use Rattle.std.specs.Prelude.{◌≡◌, ◌<◌, length};
+ghost use Rattle.std.specs.Prelude.{◌≡◌, ◌≢◌, ◌<◌, length, MatchOption};
 ghost use Rattle.ffs_volume.specs.Directories.Graph.{Graph, is_dead_in, is_unref_dir_in};
-ghost use Rattle.ffs_survey.specs.Survey.{suspect_at, IsTree, AreNamed};
+ghost use Rattle.ffs_survey.specs.Survey.{suspect_at, IsTree, AreNamed, number_at};
 ghost use Rattle.ffs_survey.specs.Lists.{DeadLists, FoundLists};
 
 use crate::named::is_dir;
@@ -26,6 +26,15 @@ pub fn is_dead(number: u32, kinds: &[u8], marked: &[bool], named: &[bool]) -> bo
         ≡ is_dead_in graph (suspect_at kinds.now marked.now) number }
 {
     is_suspect(kinds, marked, number as usize) && number != ROOTINO && !named[number as usize]
+}
+
+// The parent of a directory, if it has one.
+fn parent_of(parents: &FilledList<u32>, dir: u32) -> Option<u32>
+    ensures { MatchOption result (number_at parents.now.items dir ≡ 0)
+        (λ above. (above ≡ number_at parents.now.items dir) × (above ≢ 0)) }
+{
+    let above = number_of(parents, dir as usize);
+    if above == 0 { None } else { Some(above) }
 }
 
 /// Whether a directory is reported as unreferenced: neither reached nor dead, and without a parent,
@@ -58,10 +67,9 @@ pub fn is_unref(
     if is_dead(dir, kinds, marked, named) {
         return false;
     }
-    let above = number_of(parents, dir as usize);
-    if above == 0 {
+    let Some(above) = parent_of(parents, dir) else {
         return true;
-    }
+    };
     if above as usize >= kinds.len() {
         return true;
     }

@@ -1,4 +1,5 @@
-use Rattle.std.proofs.Common.{arith, subst, [], ◌∙◌, ap, ◌&&◌, nat_le, rules, ◌≡◌, ◌∷◌, ◌<◌, List, ℕ, take, length}
+use Rattle.std.proofs.Math.Bool.{and_comm}
+use Rattle.std.proofs.Common.{arith, subst, [], ◌∙◌, ◌&&◌, nat_le, rules, ◌≡◌, ◌∷◌, ◌<◌, List, ℕ, take, length}
 use Rattle.ffs_volume.specs.Directories.Roles.{RoledEntry, refers}
 use Rattle.ffs_survey.specs.Reading.{roled_of}
 use Rattle.ffs_survey.specs.Calm.{IsFlagged}
@@ -54,7 +55,7 @@ loop-entry-preserved g c =
           }) c.loop-entry.reached _ c.loop-entry.parents.items _
           (take c.loop-entry.high c.loop-entry.queue.items) _ c.loop-entry.count e (g.D.Directories.rest c.next.new.self b)
           c.loop-entry.quiet _ _
-          c.visit-high.ensures.comes (ap (λ z. c.loop-entry.quiet && z) c.is_calm-quiet.ensures)
+          c.visit-high.ensures.comes (cc (and_comm c.loop-entry.quiet c.is_calm-quiet.result))
           (rw (cut b k) at (inv.quiet b k));
       sound = let s = rw inv.base at c.in_ok-entry.ensures.sound in λ b k. s b k ∙ inv.sound b k;
     }

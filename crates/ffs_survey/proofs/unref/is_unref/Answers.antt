@@ -8,8 +8,8 @@ use Rattle.ffs_volume.proofs.Unreached.{IsLost}
 use Rattle.ffs_survey.proofs.UnrefLaws.{unref_is, parent-below}
 use Rattle.ffs_survey.proofs.unref.is_unref.Goals as goal
 
-pub returns-then-above-eq0 : goal.returns-then-above-eq0
-returns-then-above-eq0 c = λ v n t.
+pub returns-in_default : goal.returns-in_default
+returns-in_default c = λ v n t.
     let suspect = suspect_at c.args.kinds.now c.args.marked.now in
     let l : IsLost v suspect c.args.dir = record {
       dir = t.dirs c.args.dir ∙ (sym c.is_dir.ensures ∙ c.if-not-is_dir.false);
@@ -21,12 +21,12 @@ returns-then-above-eq0 c = λ v n t.
     sym (unref_is v suspect c.args.kinds.now c.args.reached.now c.args.parents.now.items c.args.dir c.requires.lists.parents t
     l
     ∙ ap (λ b. b || is_leader_within (up_of c.args.parents.now.items) (length c.args.parents.now.items) c.args.dir)
-    (cond-true _ true _ (eq-eqb _ 0 (sym c.number_of-above.ensures ∙ c.if-above-eq0.true))))
+    (cond-true _ true _ (eq-eqb _ 0 c.in_default.ensures)))
 
 pub returns-then-above-kinds : goal.returns-then-above-kinds
 returns-then-above-kinds c = λ v n t.
     let b = parent-below v c.args.kinds.now c.args.reached.now c.args.parents.now.items c.args.dir t in
-    absurd (omega arith)
+    absurd (omega (arith, c.in-Some.ensures.0))
 
 pub returns : goal.returns
 returns c = λ v n t.
@@ -42,5 +42,5 @@ returns c = λ v n t.
     ∙ sym (unref_is v suspect c.args.kinds.now c.args.reached.now c.args.parents.now.items c.args.dir c.requires.lists.parents
     t l
     ∙ ap (λ b. b || is_leader_within (up_of c.args.parents.now.items) (length c.args.parents.now.items) c.args.dir)
-    (cond-false _ true _ (ne_eqb _ 0 (λ z. c.if-above-eq0.false (c.number_of-above.ensures ∙ z)))
-    ∙ ap (λ a. is_dead_in v suspect a) (sym c.number_of-above.ensures) ∙ (sym (c.is_dead-2.ensures v n) ∙ c.if-is_dead-2.false)))
+    (cond-false _ true _ (ne_eqb _ 0 (λ z. c.in-Some.ensures.1 (c.in-Some.ensures.0 ∙ z)))
+    ∙ ap (λ a. is_dead_in v suspect a) (sym c.in-Some.ensures.0) ∙ (sym (c.is_dead-2.ensures v n) ∙ c.if-is_dead-2.false)))

@@ -8,25 +8,25 @@ use Rattle.ffs_walk.proofs.WalkSteps.{single_below, double_below, triple_below}
 use Rattle.ffs_walk.proofs.walk.Walk.step_at_top.Goals as goal
 
 pub returns-then-self-clause-steps : goal.returns-then-self-clause-steps
-returns-then-self-clause-steps c = λ bytes. top_ends bytes c.args.self.now c.if-self.true c.requires.single
+returns-then-self-clause-steps c = λ bytes. top_ends bytes c.args.self.now (omega (arith, c.args.self.now.in_order)) c.requires.single
     c.requires.double c.requires.triple
 
 pub returns-then-block-lt-NDADDR-clause-steps : goal.returns-then-block-lt-NDADDR-clause-steps
 returns-then-block-lt-NDADDR-clause-steps c =
-    λ bytes. top_data bytes c.args.self.now _ c.from-block.result c.data.result c.if-self.false
+    λ bytes. top_data bytes c.args.self.now _ c.from-block.result c.data.result (omega (arith, c.args.self.now.in_order))
     (rw c.from-block.ensures at c.if-block-lt-NDADDR.true)
     c.requires.single c.requires.double c.requires.triple refl c.from-block.ensures c.data.ensures.step
 
 pub returns-in-12-clause-steps : goal.returns-in-12-clause-steps
 returns-in-12-clause-steps c =
-    λ bytes. top_single bytes c.args.self.now c.enter-step.result.0 c.enter-step.result.1 c.if-self.false c.in-12.is
+    λ bytes. top_single bytes c.args.self.now c.enter-step.result.0 c.enter-step.result.1 (omega (arith, c.args.self.now.in_order)) c.in-12.is
     c.requires.single c.requires.double c.requires.triple
     (c.enter-step.ensures.steps bytes (steps_at (extent_of c.args.self.now) bytes 0))
 
 pub returns-in-13-clause-steps : goal.returns-in-13-clause-steps
 returns-in-13-clause-steps c =
     λ bytes. top_double bytes c.args.self.now c.from-words.result c.enter-step-in-13.result.0
-    c.enter-step-in-13.result.1 c.if-self.false c.in-13.is
+    c.enter-step-in-13.result.1 (omega (arith, c.args.self.now.in_order)) c.in-13.is
     c.from-words.ensures c.requires.single c.requires.double c.requires.triple
     (c.enter-step-in-13.ensures.steps bytes (steps_at (extent_of c.args.self.now) bytes 1))
 
@@ -34,7 +34,7 @@ pub returns-in_default-clause-steps : goal.returns-in_default-clause-steps
 returns-in_default-clause-steps c =
     let last : c.args.self.now.next ≡ 14 = omega (arith, c.args.self.now.in_array) in
     λ bytes. top_triple bytes c.args.self.now c.from-words.result c.enter-step-in_default.result.0
-    c.enter-step-in_default.result.1 c.if-self.false last
+    c.enter-step-in_default.result.1 (omega (arith, c.args.self.now.in_order)) last
     c.from-words.ensures c.requires.single c.requires.double c.requires.triple
     (c.enter-step-in_default.ensures.steps bytes (steps_at (extent_of c.args.self.now) bytes 2))
 
@@ -44,7 +44,7 @@ returns-then-block-lt-NDADDR-clause-left c =
     let s = frame_left (most_at words 0) c.args.self.now.single in
     let d = frame_left (most_at words 1) c.args.self.now.double in
     let t = frame_left (most_at words 2) c.args.self.now.triple in
-    top_falls c.args.self.now.next c.args.self.now.used (most_at words 3) s d t s d t c.if-self.false
+    top_falls c.args.self.now.next c.args.self.now.used (most_at words 3) s d t s d t (omega (arith, c.args.self.now.in_order))
     (omega (arith, most_below words (some_words c.args.self.now.geometry.layout c.args.self.now.geometry.sound)))
 
 pub returns-in-12-clause-left : goal.returns-in-12-clause-left
@@ -54,7 +54,7 @@ returns-in-12-clause-left c =
     let d = frame_left (most_at words 1) c.args.self.now.double in
     let t = frame_left (most_at words 2) c.args.self.now.triple in
     top_falls c.args.self.now.next c.args.self.now.used (most_at words 3)
-    (frame_left (most_at words 0) c.enter-step.result.1) d t s d t c.if-self.false
+    (frame_left (most_at words 0) c.enter-step.result.1) d t s d t (omega (arith, c.args.self.now.in_order))
     (omega (
       arith,
       most_below words (some_words c.args.self.now.geometry.layout c.args.self.now.geometry.sound),
@@ -68,7 +68,7 @@ returns-in-13-clause-left c =
     let d = frame_left (most_at words 1) c.args.self.now.double in
     let t = frame_left (most_at words 2) c.args.self.now.triple in
     top_falls c.args.self.now.next c.args.self.now.used (most_at words 3) s
-    (frame_left (most_at words 1) c.enter-step-in-13.result.1) t s d t c.if-self.false
+    (frame_left (most_at words 1) c.enter-step-in-13.result.1) t s d t (omega (arith, c.args.self.now.in_order))
     (omega (
       arith,
       most_below words (some_words c.args.self.now.geometry.layout c.args.self.now.geometry.sound),
@@ -82,7 +82,7 @@ returns-in_default-clause-left c =
     let d = frame_left (most_at words 1) c.args.self.now.double in
     let t = frame_left (most_at words 2) c.args.self.now.triple in
     top_falls c.args.self.now.next c.args.self.now.used (most_at words 3) s d
-    (frame_left (most_at words 2) c.enter-step-in_default.result.1) s d t c.if-self.false
+    (frame_left (most_at words 2) c.enter-step-in_default.result.1) s d t (omega (arith, c.args.self.now.in_order))
     (omega (
       arith,
       most_below words (some_words c.args.self.now.geometry.layout c.args.self.now.geometry.sound),
@@ -90,14 +90,14 @@ returns-in_default-clause-left c =
     ))
 
 pub returns-then-self-clause-left : goal.returns-then-self-clause-left
-returns-then-self-clause-left c = top_over c.args.self.now c.if-self.true c.requires.single c.requires.double
+returns-then-self-clause-left c = top_over c.args.self.now (omega (arith, c.args.self.now.in_order)) c.requires.single c.requires.double
     c.requires.triple
 
 pub invariant_of-self : goal.invariant_of-self
 invariant_of-self c =
     let w = c.args.self.now in
     record {
-      in_order = one_on w.next w.used c.if-self.false;
+      in_order = one_on w.next w.used (omega (arith, c.args.self.now.in_order));
       in_array = w.in_array;
       used_fits = w.used_fits;
       last_some = w.last_some;
@@ -113,13 +113,13 @@ returns-then-block-lt-NDADDR-clause-none c = λ e. absurd (no_step c.data.result
 
 pub returns-then-block-lt-NDADDR-clause-over : goal.returns-then-block-lt-NDADDR-clause-over
 returns-then-block-lt-NDADDR-clause-over c = not_over c.args.self.now.next c.args.self.now.used c.data.result
-    c.if-self.false
+    (omega (arith, c.args.self.now.in_order))
 
 pub invariant_of-self-in-12 : goal.invariant_of-self-in-12
 invariant_of-self-in-12 c =
     let w = c.args.self.now in
     record {
-      in_order = one_on w.next w.used c.if-self.false;
+      in_order = one_on w.next w.used (omega (arith, c.args.self.now.in_order));
       in_array = w.in_array;
       used_fits = w.used_fits;
       last_some = w.last_some;
@@ -134,13 +134,13 @@ pub returns-in-12-clause-none : goal.returns-in-12-clause-none
 returns-in-12-clause-none c = λ e. absurd (no_step c.enter-step.result.0 e)
 
 pub returns-in-12-clause-over : goal.returns-in-12-clause-over
-returns-in-12-clause-over c = not_over c.args.self.now.next c.args.self.now.used c.enter-step.result.0 c.if-self.false
+returns-in-12-clause-over c = not_over c.args.self.now.next c.args.self.now.used c.enter-step.result.0 (omega (arith, c.args.self.now.in_order))
 
 pub invariant_of-self-in-13 : goal.invariant_of-self-in-13
 invariant_of-self-in-13 c =
     let w = c.args.self.now in
     record {
-      in_order = one_on w.next w.used c.if-self.false;
+      in_order = one_on w.next w.used (omega (arith, c.args.self.now.in_order));
       in_array = w.in_array;
       used_fits = w.used_fits;
       last_some = w.last_some;
@@ -156,13 +156,13 @@ returns-in-13-clause-none c = λ e. absurd (no_step c.enter-step-in-13.result.0 
 
 pub returns-in-13-clause-over : goal.returns-in-13-clause-over
 returns-in-13-clause-over c = not_over c.args.self.now.next c.args.self.now.used c.enter-step-in-13.result.0
-    c.if-self.false
+    (omega (arith, c.args.self.now.in_order))
 
 pub invariant_of-self-in_default : goal.invariant_of-self-in_default
 invariant_of-self-in_default c =
     let w = c.args.self.now in
     record {
-      in_order = one_on w.next w.used c.if-self.false;
+      in_order = one_on w.next w.used (omega (arith, c.args.self.now.in_order));
       in_array = w.in_array;
       used_fits = w.used_fits;
       last_some = w.last_some;
@@ -178,18 +178,18 @@ returns-in_default-clause-none c = λ e. absurd (no_step c.enter-step-in_default
 
 pub returns-in_default-clause-over : goal.returns-in_default-clause-over
 returns-in_default-clause-over c = not_over c.args.self.now.next c.args.self.now.used c.enter-step-in_default.result.0
-    c.if-self.false
+    (omega (arith, c.args.self.now.in_order))
 
 pub enter-step-requires-clause-first : goal.enter-step-requires-clause-first
 enter-step-requires-clause-first c =
     let w = c.args.self.now in
-    let below = single_below w.geometry.layout.nindir w.blocks w.next w.used c.if-self.false w.used_fits c.in-12.is in
+    let below = single_below w.geometry.layout.nindir w.blocks w.next w.used (omega (arith, c.args.self.now.in_order)) w.used_fits c.in-12.is in
     (omega arith, omega (arith, below))
 
 pub enter-step-requires-in-13-clause-first : goal.enter-step-requires-in-13-clause-first
 enter-step-requires-in-13-clause-first c =
     let w = c.args.self.now in
-    let below = double_below w.geometry.layout.nindir c.from-words.result w.blocks w.next w.used c.if-self.false
+    let below = double_below w.geometry.layout.nindir c.from-words.result w.blocks w.next w.used (omega (arith, c.args.self.now.in_order))
     w.used_fits c.in-13.is c.from-words.ensures in
     (omega arith, omega (arith, below))
 
@@ -197,7 +197,7 @@ pub enter-step-requires-in_default-clause-first : goal.enter-step-requires-in_de
 enter-step-requires-in_default-clause-first c =
     let w = c.args.self.now in
     let last : w.next ≡ 14 = omega (arith, w.in_array) in
-    let below = triple_below w.geometry.layout.nindir c.from-words.result w.blocks w.next w.used c.if-self.false
+    let below = triple_below w.geometry.layout.nindir c.from-words.result w.blocks w.next w.used (omega (arith, c.args.self.now.in_order))
     w.used_fits last c.from-words.ensures in
     (omega arith, omega (arith, below))
 
@@ -208,7 +208,7 @@ pub returns-then-self-clause-none : goal.returns-then-self-clause-none
 returns-then-self-clause-none c = λ e. refl
 
 pub returns-then-self-clause-over : goal.returns-then-self-clause-over
-returns-then-self-clause-over c = (λ h. refl, λ e. omega (arith, c.if-self.true, c.args.self.now.in_order))
+returns-then-self-clause-over c = (λ h. refl, λ e. omega (arith, c.args.self.now.in_order))
 
 pub returns-then-self-clause-same : goal.returns-then-self-clause-same
 returns-then-self-clause-same c = record { geometry = refl; blocks = refl }
