@@ -5,7 +5,7 @@ ghost use Rattle.std.specs.Prelude.{◌≡◌, IfOk};
 use ffs_groups::{Findings, compare_group, group_counts};
 use ffs_layout::Order;
 use ffs_maps::FragmentMap;
-use ffs_samples::{Number, geometry, put};
+use ffs_samples::{Number, geometry, put, same};
 use std::alloc::{AllocError, Global};
 use std::test::Fail;
 
@@ -63,27 +63,39 @@ fn records(summary: [u8; 4], wrong: Number) -> ([u8; 16], [u8; 1024]) {
     (record, block)
 }
 
-#[test]
-fn counts_of_a_root(rt: HostRuntime) -> Result<(), Fail> {
+// The counts of the summary and of the runs.
+fn counts_of_root(alloc: Global) -> Result<([u32; 4], [u64; 9]), Fail> {
     let geometry = geometry(Order::Little)?;
-    let used = used_by_root(rt.alloc())?;
+    let used = used_by_root(alloc)?;
     let counts = group_counts(&geometry, &used, &kinds_of_root(), 0);
     let found = counts.summary;
-    assert_eq!(rt;
-        (found.dirs, found.blocks, found.inodes, found.fragments),
-        (1, 22, 29, 6)
-    );
-    assert_eq!(rt; counts.runs, [0, 0, 0, 2, 0, 0, 0, 0, 0]);
+    let summary = [found.dirs, found.blocks, found.inodes, found.fragments];
+    let runs = counts.runs;
+    Ok((summary, runs))
+}
+
+#[test]
+fn counts_of_a_root(rt: HostRuntime) -> Result<(), Fail> {
+    let (summary, runs) = counts_of_root(rt.alloc())?;
+    same(&rt, &summary, &[1, 22, 29, 6]);
+    same(&rt, &runs, &[0, 0, 0, 2, 0, 0, 0, 0, 0]);
     Ok(())
+}
+
+// What is found of the root's group with this summary record, and this word in its group block.
+fn findings(summary: [u8; 4], wrong: Number, alloc: Global) -> Result<[bool; 4], Fail> {
+    let geometry = geometry(Order::Little)?;
+    let used = used_by_root(alloc)?;
+    let kinds = kinds_of_root();
+    let counts = group_counts(&geometry, &used, &kinds, 0);
+    let (record, block) = records(summary, wrong);
+    let right = compare_group(&geometry, &used, &kinds, &counts, 0, &record, &block);
+    Ok(reported(right))
 }
 
 #[test]
 fn findings_of_a_root(rt: HostRuntime) -> Result<(), Fail> {
-    let geometry = geometry(Order::Little)?;
-    let used = used_by_root(rt.alloc())?;
-    let kinds = kinds_of_root();
-    let counts = group_counts(&geometry, &used, &kinds, 0);
-    for (summary, wrong, findings) in [
+    for (summary, wrong, right) in [
         ([1, 22, 29, 6], (4, 4, 0x00090255), [true, true, true, true]),
         ([1, 22, 29, 6], (4, 4, 0), [false, true, true, true]),
         (
@@ -103,9 +115,7 @@ fn findings_of_a_root(rt: HostRuntime) -> Result<(), Fail> {
         ),
         ([1, 22, 29, 6], (64, 4, 1), [true, true, true, false]),
     ] {
-        let (record, block) = records(summary, wrong);
-        let right = compare_group(&geometry, &used, &kinds, &counts, 0, &record, &block);
-        assert_eq!(rt; reported(right), findings);
+        same(&rt, &findings(summary, wrong, rt.alloc())?, &right);
     }
     Ok(())
 }

@@ -1,8 +1,8 @@
 //! The rows of the format that a reader would work out by hand, in both orders.
 
 use ffs_image::MemoryImage;
-use ffs_layout::{Group, Super, decode_inode, entry_at, read_super};
-use ffs_samples::{Number, ORDERS, base, put, put_bytes, put_super};
+use ffs_layout::{Entry, Group, Super, decode_inode, entry_at, read_super};
+use ffs_samples::{Number, ORDERS, base, put, put_bytes, put_super, same};
 use ffs_volume::{Order, SuperFault};
 use std::alloc::{AllocError, Global};
 use std::test::Fail;
@@ -34,29 +34,38 @@ fn faults(order: Order, alloc: Global) -> Result<[Option<SuperFault>; 6], AllocE
 #[test]
 fn superblocks(rt: HostRuntime) -> Result<(), Fail> {
     for order in ORDERS {
-        assert_eq!(rt;
-            faults(order, rt.alloc())?,
-            [
+        same(
+            &rt,
+            &faults(order, rt.alloc())?,
+            &[
                 None,
                 Some(SuperFault::Magic),
                 None,
                 Some(SuperFault::Short),
                 Some(SuperFault::Disagree),
                 None,
-            ]
+            ],
         );
     }
     Ok(())
 }
 
+// The outcomes of an image whose copy of the superblock is in the other order.
+fn faults_of_turned(alloc: Global) -> Result<[Option<SuperFault>; 2], AllocError> {
+    let mut turned = base(Order::Little, alloc)?;
+    put_super(Order::Big, turned.as_mut_slice(), 16384);
+    Ok([fault(turned.clone()?, None), fault(turned, Some(32))])
+}
+
 #[test]
 fn first_sectors(rt: HostRuntime) -> Result<(), Fail> {
     let at_16 = Some(SuperFault::CannotRead { sector: 16 });
-    assert_eq!(rt; fault(Vec::new(rt.alloc()), None), at_16);
-    let mut turned = base(Order::Little, rt.alloc())?;
-    put_super(Order::Big, turned.as_mut_slice(), 16384);
-    assert_eq!(rt; fault(turned.clone()?, None), Some(SuperFault::Disagree));
-    assert_eq!(rt; fault(turned, Some(32)), None);
+    same(&rt, &fault(Vec::new(rt.alloc()), None), &at_16);
+    same(
+        &rt,
+        &faults_of_turned(rt.alloc())?,
+        &[Some(SuperFault::Disagree), None],
+    );
     Ok(())
 }
 
@@ -90,11 +99,11 @@ fn settings(rt: HostRuntime) -> Result<(), Fail> {
         (0, 100, true),
     ] {
         let found = found_with(None, &[(128, optim), (60, minfree)], 131072, rt.alloc())?;
-        assert_eq!(rt; found.opening_defects(), defects);
+        same(&rt, &found.opening_defects(), &defects);
     }
     let found = found_with(None, &[], 131072, rt.alloc())?;
-    assert_eq!(rt; found.cstotal, [1, 22, 29, 6]);
-    assert_eq!(rt; &found.mount[..5], b"/mnt\0".as_slice());
+    same(&rt, &found.cstotal, &[1, 22, 29, 6]);
+    same(&rt, &&found.mount[..5], &b"/mnt\0".as_slice());
     Ok(())
 }
 
@@ -104,33 +113,36 @@ const TWO_GROUPS: [(usize, u64); 6] = [(36, 250), (40, 201), (44, 2), (24, 4), (
 #[test]
 fn places(rt: HostRuntime) -> Result<(), Fail> {
     let geometry = found_with(Some(16), &TWO_GROUPS, 256000, rt.alloc())?.geometry;
-    assert_eq!(rt;
-        (
+    same(
+        &rt,
+        &(
             geometry.ncg(),
             geometry.ipg(),
             geometry.fpg(),
-            geometry.cgoffset()
+            geometry.cgoffset(),
         ),
-        (2, 32, 128, 4)
+        &(2, 32, 128, 4),
     );
     if geometry.ncg() == 2 && geometry.ipg() == 32 {
-        assert_eq!(rt;
-            [
+        same(
+            &rt,
+            &[
                 geometry.cgbase(1),
                 geometry.cgstart(1),
                 geometry.cgsblock(1),
-                geometry.cgdmin(1)
+                geometry.cgdmin(1),
             ],
-            [128, 132, 148, 164]
+            &[128, 132, 148, 164],
         );
-        assert_eq!(rt;
-            [
+        same(
+            &rt,
+            &[
                 geometry.group_place(1),
                 geometry.summary_place(1),
                 geometry.inode_place(2),
-                geometry.inode_place(33)
+                geometry.inode_place(33),
             ],
-            [159744, 32784, 28928, 163968]
+            &[159744, 32784, 28928, 163968],
         );
     }
     Ok(())
@@ -151,16 +163,17 @@ fn areas(rt: HostRuntime) -> Result<(), Fail> {
         (249, true, false),
         (250, false, false),
     ] {
-        assert_eq!(rt; geometry.ok(fragment), is_fragment_in_range);
-        assert_eq!(rt; geometry.reserved(fragment), is_reserved);
+        same(&rt, &geometry.ok(fragment), &is_fragment_in_range);
+        same(&rt, &geometry.reserved(fragment), &is_reserved);
     }
-    assert_eq!(rt;
-        [
+    same(
+        &rt,
+        &[
             geometry.in_range(33, 1),
             geometry.in_range(127, 2),
-            geometry.in_range(249, 2)
+            geometry.in_range(249, 2),
         ],
-        [true, false, false]
+        &[true, false, false],
     );
     Ok(())
 }
@@ -184,14 +197,20 @@ fn inodes(rt: HostRuntime) -> Result<(), Fail> {
         let mut bytes = [0u8; 128];
         put(order, &mut bytes, &INODE);
         let inode = decode_inode(order, &bytes);
-        assert_eq!(rt; (inode.mode, inode.nlink, inode.mtime), (0o40755, -2, -1));
-        assert_eq!(rt;
-            (inode.size, inode.blocks, inode.uid),
-            (4402345721856, 2, 0xffff_ffff)
+        same(
+            &rt,
+            &(inode.mode, inode.nlink, inode.mtime),
+            &(0o40755, -2, -1),
         );
-        assert_eq!(rt;
-            inode.addresses,
-            [36, 0, 0, 0, 0, 0, 0, 0, 0, 0, 0, 0, 0, 0, 99]
+        same(
+            &rt,
+            &(inode.size, inode.blocks, inode.uid),
+            &(4402345721856, 2, 0xffff_ffff),
+        );
+        same(
+            &rt,
+            &inode.addresses,
+            &[36, 0, 0, 0, 0, 0, 0, 0, 0, 0, 0, 0, 0, 0, 99],
         );
     }
     Ok(())
@@ -218,16 +237,18 @@ fn groups(rt: HostRuntime) -> Result<(), Fail> {
         put(order, &mut bytes, &GROUP);
         let group = Group::decode(order, &bytes);
         let counts = group.cs;
-        assert_eq!(rt;
-            [group.magic, group.iusedoff, group.freeoff],
-            [0x090255, 168, 172]
+        same(
+            &rt,
+            &[group.magic, group.iusedoff, group.freeoff],
+            &[0x090255, 168, 172],
         );
-        assert_eq!(rt; [group.cgx, group.ndblk], [7, -128]);
-        assert_eq!(rt;
-            [counts.dirs, counts.blocks, counts.inodes, counts.fragments],
-            [1, 22, 29, 6]
+        same(&rt, &[group.cgx, group.ndblk], &[7, -128]);
+        same(
+            &rt,
+            &[counts.dirs, counts.blocks, counts.inodes, counts.fragments],
+            &[1, 22, 29, 6],
         );
-        assert_eq!(rt; group.frsum, [0, 0, 0, 2, 0, 0, 0, 0]);
+        same(&rt, &group.frsum, &[0, 0, 0, 2, 0, 0, 0, 0]);
     }
     Ok(())
 }
@@ -244,34 +265,57 @@ fn root(order: Order) -> [u8; 512] {
     chunk
 }
 
+// Whether it is an entry of the root, of this length and name.
+fn is_dot(entry: Option<Entry<'_>>, length: u16, name: &[u8]) -> bool {
+    match entry {
+        Some(entry) => {
+            (entry.number, entry.length, entry.kind) == (2, length, 4) && entry.name == name
+        }
+        None => false,
+    }
+}
+
+// Whether a chunk begins with the root's `.` and `..`.
+fn are_dots(chunk: &[u8; 512], order: Order) -> [bool; 2] {
+    [
+        is_dot(entry_at(order, chunk, 0), 12, b"."),
+        is_dot(entry_at(order, chunk, 12), 500, b".."),
+    ]
+}
+
+// Whether there are entries at byte 4 and at the end of a chunk, and at byte 12 where its length
+// there goes past the end.
+fn stands_elsewhere(chunk: &[u8; 512], order: Order) -> [bool; 3] {
+    let mut long = *chunk;
+    put(order, &mut long, &[(16, 2, 504)]);
+    [
+        entry_at(order, chunk, 4).is_some(),
+        entry_at(order, chunk, 512).is_some(),
+        entry_at(order, &long, 12).is_some(),
+    ]
+}
+
+// Whether there is an entry at byte 500 whose name, with its length before it, is this.
+fn stands_last(chunk: &[u8; 512], order: Order, name: &[u8]) -> bool {
+    let mut last = *chunk;
+    put(order, &mut last, &[(500, 4, 5)]);
+    put(order, &mut last, &[(504, 2, 12)]);
+    put_bytes(&mut last, 507, name);
+    entry_at(order, &last, 500).is_some()
+}
+
 #[test]
 fn entries(rt: HostRuntime) -> Result<(), Fail> {
     for order in ORDERS {
         let chunk = root(order);
-        for (place, length, name) in [(0, 12, b".".as_slice()), (12, 500, b"..")] {
-            match entry_at(order, &chunk, place) {
-                Some(entry) => {
-                    assert_eq!(rt; (entry.number, entry.length, entry.kind), (2, length, 4));
-                    assert_eq!(rt; entry.name, name);
-                }
-                None => assert!(rt; false),
-            }
-        }
-        assert!(rt; entry_at(order, &chunk, 4).is_none());
-        assert!(rt; entry_at(order, &chunk, 512).is_none());
-        let mut long = chunk;
-        put(order, &mut long, &[(16, 2, 504)]);
-        assert!(rt; entry_at(order, &long, 12).is_none());
+        same(&rt, &are_dots(&chunk, order), &[true; 2]);
+        same(&rt, &stands_elsewhere(&chunk, order), &[false; 3]);
         for (name, stands) in [
             (b"\x03abc\0", true),
             (b"\x03a/b\0", false),
             (b"\x03abc\x01", false),
         ] {
-            let mut last = chunk;
-            put(order, &mut last, &[(500, 4, 5)]);
-            put(order, &mut last, &[(504, 2, 12)]);
-            put_bytes(&mut last, 507, name);
-            assert_eq!(rt; entry_at(order, &last, 500).is_some(), stands);
+            same(&rt, &stands_last(&chunk, order, name), &stands);
         }
     }
     Ok(())

@@ -5,6 +5,8 @@
 #[cfg(test)]
 mod groups;
 #[cfg(test)]
+mod helpers;
+#[cfg(test)]
 mod layout;
 #[cfg(test)]
 mod maps;

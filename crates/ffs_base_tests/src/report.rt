@@ -3,7 +3,9 @@ use ffs_report::{
     Counted, DirectoryLine, DotLine, EntryLine, FuseWriter, Heading, Line, Output, ReferenceLine,
     Report,
 };
+use ffs_samples::same;
 use ffs_volume::{Attr, BlockMessage, Label, SuperFault};
+use std::alloc::Global;
 use std::process::Abort;
 
 const ATTR: Attr = Attr {
@@ -42,25 +44,21 @@ const UNREF_TEXT: &[u8] =
 const DUPLICATES: &[u8] =
     b"0 DUP I=0\n1 DUP I=0\n12 DUP I=4294967295\n9 DUP I=4294967295\n123 DUP I=4294967294\n4294967295 DUP I=2\n1234 DUP I=2\nEXCESSIVE DUP BLKS I=2\nCONTINUE? yes\n\n1234 DUP I=3\n12345 DUP I=34\n123456 DUP I=345\n1234567 DUP I=3456\n12345678 DUP I=34567\n123456789 DUP I=345678\n1234567890 DUP I=3456789\n10 DUP I=34567890\n1000000000 DUP I=345678901\n4294967294 DUP I=34\n";
 
-/// Says a line, and compares its bytes and whether it is a defect.
-fn says(rt: &(impl Abort + AllocGlobal), line: &Line<'_>, defect: bool, text: &[u8]) {
-    let mut written = Vec::new(rt.alloc());
+/// Whether a report of a line alone succeeds, whether the line is a defect, and its bytes.
+fn said(line: &Line<'_>, alloc: Global) -> (bool, bool, Vec<u8>) {
+    let mut written = Vec::new(alloc);
     let mut out = Counted::new(&mut written);
     let mut report = Report::new(&mut out);
-    assert!(rt; report.say(line).is_ok());
-    assert_eq!(rt; report.any_defect(), defect);
-    assert_eq!(rt; written.as_slice(), text);
+    let is_said = report.say(line).is_ok();
+    let is_defect = report.any_defect();
+    (is_said, is_defect, written)
 }
 
-/// Says a duplicate on a report that continues.
-fn says_dup(
-    rt: &impl Abort,
-    report: &mut Report<'_, Counted<'_, Vec<u8>>>,
-    fragment: u32,
-    inode: u32,
-) {
-    let line = Line::Block(BlockMessage::Dup { fragment, inode });
-    assert!(rt; report.say(&line).is_ok());
+/// Says a line, and compares its bytes and whether it is a defect.
+fn says(rt: &(impl Abort + AllocGlobal), line: &Line<'_>, defect: bool, text: &[u8]) {
+    let (is_said, is_defect, written) = said(line, rt.alloc());
+    same(rt, &(is_said, is_defect), &(true, defect));
+    same(rt, &written.as_slice(), &text);
 }
 
 fn reports_block(rt: &(impl Abort + AllocGlobal), message: BlockMessage, text: &[u8]) {
@@ -348,35 +346,61 @@ fn reports_blocks(rt: HostRuntime) {
     );
 }
 
-#[test]
-fn reports_duplicates_of_inodes_in_turn(rt: HostRuntime) {
-    let mut written = Vec::new(rt.alloc());
+/// The duplicates whose lines are those of `DUPLICATES`, before its line of another kind and after
+/// it: a fragment, an inode.
+const BEFORE: [(u32, u32); 7] = [
+    (0, 0),
+    (1, 0),
+    (12, 4294967295),
+    (9, 4294967295),
+    (123, 4294967294),
+    (4294967295, 2),
+    (1234, 2),
+];
+
+const AFTER: [(u32, u32); 10] = [
+    (1234, 3),
+    (12345, 34),
+    (123456, 345),
+    (1234567, 3456),
+    (12345678, 34567),
+    (123456789, 345678),
+    (1234567890, 3456789),
+    (10, 34567890),
+    (1000000000, 345678901),
+    (4294967294, 34),
+];
+
+/// Says duplicates on a report that continues.
+fn say_dups<W: Output>(report: &mut Report<'_, W>, dups: &[(u32, u32)]) -> bool {
+    let mut is_said = true;
+    for &(fragment, inode) in dups {
+        let line = Line::Block(BlockMessage::Dup { fragment, inode });
+        is_said &= report.say(&line).is_ok();
+    }
+    is_said
+}
+
+/// Whether all lines are said, whether they are defects, and their bytes.
+fn dups_said(alloc: Global) -> ([bool; 3], bool, Vec<u8>) {
+    let mut written = Vec::new(alloc);
     let mut out = Counted::new(&mut written);
     let mut report = Report::new(&mut out);
-    says_dup(&rt, &mut report, 0, 0);
-    says_dup(&rt, &mut report, 1, 0);
-    says_dup(&rt, &mut report, 12, 4294967295);
-    says_dup(&rt, &mut report, 9, 4294967295);
-    says_dup(&rt, &mut report, 123, 4294967294);
-    says_dup(&rt, &mut report, 4294967295, 2);
-    says_dup(&rt, &mut report, 1234, 2);
-    assert!(rt;
-        report
-            .say(&Line::Block(BlockMessage::ManyDup { inode: 2 }))
-            .is_ok()
-    );
-    says_dup(&rt, &mut report, 1234, 3);
-    says_dup(&rt, &mut report, 12345, 34);
-    says_dup(&rt, &mut report, 123456, 345);
-    says_dup(&rt, &mut report, 1234567, 3456);
-    says_dup(&rt, &mut report, 12345678, 34567);
-    says_dup(&rt, &mut report, 123456789, 345678);
-    says_dup(&rt, &mut report, 1234567890, 3456789);
-    says_dup(&rt, &mut report, 10, 34567890);
-    says_dup(&rt, &mut report, 1000000000, 345678901);
-    says_dup(&rt, &mut report, 4294967294, 34);
-    assert!(rt; report.any_defect());
-    assert_eq!(rt; written.as_slice(), DUPLICATES);
+    let many = Line::Block(BlockMessage::ManyDup { inode: 2 });
+    let said = [
+        say_dups(&mut report, &BEFORE),
+        report.say(&many).is_ok(),
+        say_dups(&mut report, &AFTER),
+    ];
+    let is_defect = report.any_defect();
+    (said, is_defect, written)
+}
+
+#[test]
+fn reports_duplicates_of_inodes_in_turn(rt: HostRuntime) {
+    let (said, is_defect, written) = dups_said(rt.alloc());
+    same(&rt, &(said, is_defect), &([true; 3], true));
+    same(&rt, &written.as_slice(), &DUPLICATES);
 }
 
 #[test]
@@ -597,17 +621,26 @@ fn reports_references(rt: HostRuntime) {
     );
 }
 
+/// Whether each of two calls is refused and no defect was said, how many writes failed, and what was
+/// written, where a writer takes this many bytes.
+fn stopped(bytes: u64, alloc: Global) -> ([bool; 3], u64, Vec<u8>) {
+    let mut writer = FuseWriter::new(Vec::new(alloc), bytes);
+    let mut out = Counted::new(&mut writer);
+    let mut report = Report::new(&mut out);
+    let found = [
+        report.say(&UNREF).is_err(),
+        report.say(&UNREF).is_err(),
+        !report.any_defect(),
+    ];
+    let failures = out.failures();
+    (found, failures, writer.into_inner())
+}
+
 #[test]
 fn stops_at_each_byte(rt: HostRuntime) {
     for bytes in 0..UNREF_TEXT.len() {
-        let mut writer = FuseWriter::new(Vec::new(rt.alloc()), bytes as u64);
-        let mut out = Counted::new(&mut writer);
-        let mut report = Report::new(&mut out);
-        assert!(rt; report.say(&UNREF).is_err());
-        assert!(rt; report.say(&UNREF).is_err());
-        assert!(rt; !report.any_defect());
-        assert_eq!(rt; out.failures(), 1);
-        let text = writer.into_inner();
-        assert_eq!(rt; text.as_slice(), &UNREF_TEXT[..bytes]);
+        let (found, failures, text) = stopped(bytes as u64, rt.alloc());
+        same(&rt, &(found, failures), &([true; 3], 1));
+        same(&rt, &text.as_slice(), &&UNREF_TEXT[..bytes]);
     }
 }

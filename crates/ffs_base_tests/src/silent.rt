@@ -1,6 +1,7 @@
 //! After its first failed write nothing goes out, whatever is flushed or dropped above.
 
 use ffs_report::{Counted, Heading, Line, Output, Report, SilentWriter};
+use ffs_samples::same;
 use std::alloc::Global;
 use std::io;
 use std::io::{BufWriter, ErrorKind, Write};
@@ -56,17 +57,35 @@ fn say_four<W: Output>(out: &mut W) -> bool {
     fine
 }
 
+// What came of four lines whose n-th write fails, and of a flush.
+#[derive(Drop)]
+struct Outcome {
+    said: bool,
+    flushed: bool,
+    device: FailsOnce,
+}
+
+fn four_lines(nth: u64, kind: ErrorKind, alloc: Global) -> Result<Outcome, Fail> {
+    let mut device = FailsOnce::new(alloc, nth, kind);
+    let silent = SilentWriter::new(&mut device);
+    let mut out = BufWriter::with_capacity(alloc, 40, silent)?;
+    let said = say_four(&mut Counted::new(&mut out));
+    let flushed = out.flush().is_ok();
+    drop(out);
+    Ok(Outcome {
+        said,
+        flushed,
+        device,
+    })
+}
+
 #[test]
 fn nothing_follows_a_failed_write(rt: HostRuntime) -> Result<(), Fail> {
     for nth in 1..4 {
-        let mut device = FailsOnce::new(rt.alloc(), nth, ErrorKind::StorageFull);
-        let silent = SilentWriter::new(&mut device);
-        let mut out = BufWriter::with_capacity(rt.alloc(), 40, silent)?;
-        assert!(rt; !say_four(&mut Counted::new(&mut out)));
-        assert!(rt; out.flush().is_err());
-        drop(out);
-        assert_eq!(rt; (device.writes, device.flushes), (nth, 0));
-        assert!(rt; TEXT.starts_with(device.taken.as_slice()));
+        let found = four_lines(nth, ErrorKind::StorageFull, rt.alloc())?;
+        same(&rt, &(found.said, found.flushed), &(false, false));
+        same(&rt, &(found.device.writes, found.device.flushes), &(nth, 0));
+        same(&rt, &TEXT.starts_with(found.device.taken.as_slice()), &true);
     }
     Ok(())
 }
@@ -74,26 +93,29 @@ fn nothing_follows_a_failed_write(rt: HostRuntime) -> Result<(), Fail> {
 #[test]
 fn an_interrupted_write_is_tried_again(rt: HostRuntime) -> Result<(), Fail> {
     for nth in 1..4 {
-        let mut device = FailsOnce::new(rt.alloc(), nth, ErrorKind::Interrupted);
-        let silent = SilentWriter::new(&mut device);
-        let mut out = BufWriter::with_capacity(rt.alloc(), 40, silent)?;
-        assert!(rt; say_four(&mut Counted::new(&mut out)));
-        assert!(rt; out.flush().is_ok());
-        drop(out);
-        assert_eq!(rt; device.flushes, 1);
-        assert_eq!(rt; device.taken.as_slice(), TEXT);
+        let found = four_lines(nth, ErrorKind::Interrupted, rt.alloc())?;
+        same(&rt, &(found.said, found.flushed), &(true, true));
+        same(&rt, &found.device.flushes, &1);
+        same(&rt, &found.device.taken.as_slice(), &TEXT);
     }
     Ok(())
 }
 
-#[test]
-fn a_write_that_takes_nothing_fails(rt: HostRuntime) -> Result<(), Fail> {
+// Whether an empty write, one of a byte, another empty one and a flush are fine.
+fn written_to_none() -> [bool; 4] {
     let mut none: [u8; 0] = [];
     let mut writer = SilentWriter::new(none.as_mut_slice());
-    assert!(rt; writer.write(b"").is_ok());
-    assert!(rt; writer.write(b"a").is_err());
-    assert!(rt; writer.write(b"").is_err());
-    assert!(rt; writer.flush().is_err());
+    [
+        writer.write(b"").is_ok(),
+        writer.write(b"a").is_ok(),
+        writer.write(b"").is_ok(),
+        writer.flush().is_ok(),
+    ]
+}
+
+#[test]
+fn a_write_that_takes_nothing_fails(rt: HostRuntime) -> Result<(), Fail> {
+    same(&rt, &written_to_none(), &[true, false, false, false]);
     Ok(())
 }
 

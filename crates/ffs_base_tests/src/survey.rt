@@ -4,7 +4,7 @@ ghost use Rattle.std.specs.Prelude.{◌≡◌, IfOk, vec_len};
 
 use ffs_image::ImageFault;
 use ffs_memory::{FilledList, Memory, SystemMemory};
-use ffs_samples::numbers;
+use ffs_samples::{numbers, same};
 use ffs_survey::{Directories, Named, is_dead, is_dir, is_suspect, is_unref, mark_leaders, survey};
 use ffs_volume::Role;
 use std::alloc::{AllocError, Global};
@@ -130,15 +130,24 @@ fn starts(alloc: Global) -> Result<FilledList<u64>, AllocError>
     Ok(list)
 }
 
-#[test]
-fn surveys_a_tree_and_a_cycle(rt: HostRuntime) -> Result<(), Fail> {
-    let mut references = starts(rt.alloc())?;
+// What a survey of the volume leaves.
+#[derive(Drop)]
+struct Surveyed {
+    references: [u64; 8],
+    parents: [u32; 8],
+    named: [bool; 8],
+    reached: [bool; 8],
+    calm: [bool; 8],
+}
+
+fn left_by_survey(alloc: Global) -> Result<Surveyed, Fail> {
+    let mut references = starts(alloc)?;
     let mut named = [true; 8];
     let mut reached = [true; 8];
-    let mut parents = numbers(&[7; 8], rt.alloc())?;
+    let mut parents = numbers(&[7; 8], alloc)?;
     let mut calm = [true; 8];
-    let mut queue = numbers(&[7; 8], rt.alloc())?;
-    let answer = survey(
+    let mut queue = numbers(&[7; 8], alloc)?;
+    survey(
         &mut small_volume(),
         &KINDS,
         &[false; 8],
@@ -148,55 +157,79 @@ fn surveys_a_tree_and_a_cycle(rt: HostRuntime) -> Result<(), Fail> {
         &mut parents,
         &mut calm,
         &mut queue,
-    );
-    assert!(rt; answer.is_ok());
-    for (number, count) in [7, 0, 32769, 32771, 2, 5, 6, 4].into_iter().enumerate() {
-        assert_eq!(rt; references[number], count);
-    }
-    for (number, parent) in PARENTS.into_iter().enumerate() {
-        assert_eq!(rt; parents[number], parent);
-    }
-    assert_eq!(rt; (named, reached), (NAMED, REACHED));
-    assert_eq!(rt;
+    )?;
+    let mut left = Surveyed {
+        references: [0; 8],
+        parents: [0; 8],
+        named,
+        reached,
         calm,
-        [false, false, true, false, false, false, false, false]
+    };
+    for number in 0..8 {
+        left.references[number] = references[number];
+        left.parents[number] = parents[number];
+    }
+    Ok(left)
+}
+
+#[test]
+fn surveys_a_tree_and_a_cycle(rt: HostRuntime) -> Result<(), Fail> {
+    let left = left_by_survey(rt.alloc())?;
+    same(&rt, &left.references, &[7, 0, 32769, 32771, 2, 5, 6, 4]);
+    same(&rt, &left.parents, &PARENTS);
+    same(&rt, &(left.named, left.reached), &(NAMED, REACHED));
+    same(
+        &rt,
+        &left.calm,
+        &[false, false, true, false, false, false, false, false],
     );
     Ok(())
+}
+
+// The directories that lead a cycle, and which of four are unreferenced.
+fn leaders(alloc: Global) -> Result<([bool; 8], [bool; 4]), AllocError> {
+    let parents = numbers(&PARENTS, alloc)?;
+    let mut queue = numbers(&[7; 8], alloc)?;
+    let mut leaders = [true; 8];
+    mark_leaders(&parents, &mut queue, &mut leaders);
+    let mut unref = [false; 4];
+    for (found, dir) in unref.iter_mut().zip([2, 3, 5, 6]) {
+        *found = is_unref(
+            dir,
+            &KINDS,
+            &[false; 8],
+            &NAMED,
+            &REACHED,
+            &parents,
+            &leaders,
+        );
+    }
+    Ok((leaders, unref))
 }
 
 // The least number of each cycle leads it: the root's own, and that of 5 and 6.
 #[test]
 fn leads_a_cycle_by_its_least_number(rt: HostRuntime) -> Result<(), Fail> {
-    let parents = numbers(&PARENTS, rt.alloc())?;
-    let mut queue = numbers(&[7; 8], rt.alloc())?;
-    let mut leaders = [true; 8];
-    mark_leaders(&parents, &mut queue, &mut leaders);
-    assert_eq!(rt;
-        leaders,
-        [false, false, true, false, false, true, false, false]
+    let (leaders, unref) = leaders(rt.alloc())?;
+    same(
+        &rt,
+        &leaders,
+        &[false, false, true, false, false, true, false, false],
     );
-    for (dir, want) in [(2, false), (3, false), (5, true), (6, false)] {
-        assert_eq!(rt;
-            is_unref(
-                dir,
-                &KINDS,
-                &[false; 8],
-                &NAMED,
-                &REACHED,
-                &parents,
-                &leaders
-            ),
-            want
-        );
-    }
+    same(&rt, &unref, &[false, false, true, false]);
     Ok(())
 }
 
 #[test]
 fn judges_single_inodes(rt: HostRuntime) {
-    assert!(rt; is_dir(&KINDS, 3));
-    assert!(rt; !is_dir(&KINDS, 4));
-    assert!(rt; !is_dead(7, &KINDS, &[false; 8], &NAMED));
-    assert!(rt; is_dead(7, &KINDS, &[true; 8], &NAMED));
-    assert!(rt; is_suspect(&[0, 0, 5], &[false; 3], 2));
+    same(&rt, &[is_dir(&KINDS, 3), is_dir(&KINDS, 4)], &[true, false]);
+    same(
+        &rt,
+        &[
+            is_dead(7, &KINDS, &[false; 8], &NAMED),
+            is_dead(7, &KINDS, &[true; 8], &NAMED),
+        ],
+        &[false, true],
+    );
+    same(&rt, &is_suspect(&[0, 0, 5], &[false; 3], 2), &true);
 }

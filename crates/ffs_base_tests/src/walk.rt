@@ -5,7 +5,7 @@ ghost use Rattle.std.specs.Prelude.{◌≡◌, ◌*◌, ◌≤◌};
 use ffs_image::{FuseImage, Image};
 use ffs_layout::{Geometry, Inode, Order};
 use ffs_memory::FixedList;
-use ffs_samples::{Number, ORDERS, Stop, Watched, geometry, image_of, inode};
+use ffs_samples::{Number, ORDERS, Stop, Watched, geometry, image_of, inode, same};
 use ffs_volume::{Class, Step};
 use ffs_walk::{Blocks, Walk, class_of, has_steps};
 use std::alloc::{AllocError, Global};
@@ -65,44 +65,55 @@ fn word(address: u16, index: u16, number: u64) -> Number {
     )
 }
 
+// The same of the small volume with these words, and how many reads the walk makes, and how many of
+// them aren't of a whole block that may hold data.
+fn walked(
+    order: Order,
+    words: &[Number],
+    inode: &Inode,
+    alloc: Global,
+) -> Result<(Vec<Step>, u64, [u64; 2]), Fail> {
+    let geometry = geometry(order)?;
+    let mut image = Watched::new(image_of(order, words, alloc)?);
+    let (found, gaps) = steps(&geometry, inode, &mut image, alloc)?;
+    Ok((found, gaps, [image.reads, image.odd]))
+}
+
 #[test]
 fn direct_blocks(rt: HostRuntime) -> Result<(), Fail> {
+    let mut root = inode(0o40755, 512);
+    root.addresses[0] = 36;
+    let mut file = inode(0o100644, 4097);
+    file.addresses[0] = 40;
+    file.addresses[1] = 44;
     for order in ORDERS {
-        let geometry = geometry(order)?;
-        let mut image = image_of(order, &[], rt.alloc())?;
-        let mut root = inode(0o40755, 512);
-        root.addresses[0] = 36;
-        let (found, gaps) = steps(&geometry, &root, &mut image, rt.alloc())?;
-        assert_eq!(rt; found.as_slice(), [data(36, 1, 0)].as_slice());
-        assert_eq!(rt; gaps, 0);
-        let mut image = image_of(order, &[], rt.alloc())?;
-        let mut file = inode(0o100644, 4097);
-        file.addresses[0] = 40;
-        file.addresses[1] = 44;
-        let (found, gaps) = steps(&geometry, &file, &mut image, rt.alloc())?;
-        assert_eq!(rt;
-            found.as_slice(),
-            [data(40, 4, 0), data(44, 1, 1),].as_slice()
+        let (found, gaps, _) = walked(order, &[], &root, rt.alloc())?;
+        same(&rt, &found.as_slice(), &[data(36, 1, 0)].as_slice());
+        same(&rt, &gaps, &0);
+        let (found, gaps, _) = walked(order, &[], &file, rt.alloc())?;
+        same(
+            &rt,
+            &found.as_slice(),
+            &[data(40, 4, 0), data(44, 1, 1)].as_slice(),
         );
-        assert_eq!(rt; gaps, 0);
+        same(&rt, &gaps, &0);
     }
     Ok(())
 }
 
 #[test]
 fn partially_truncated(rt: HostRuntime) -> Result<(), Fail> {
+    let mut file = inode(0o100644, 53248);
+    file.addresses[12] = 40;
     for order in ORDERS {
-        let geometry = geometry(order)?;
-        let inner = image_of(order, &[word(40, 0, 44), word(40, 5, 99)], rt.alloc())?;
-        let mut image = Watched::new(inner);
-        let mut file = inode(0o100644, 53248);
-        file.addresses[12] = 40;
-        let (found, gaps) = steps(&geometry, &file, &mut image, rt.alloc())?;
-        assert_eq!(rt;
-            found.as_slice(),
-            [indirect(40), Step::Tail, data(44, 4, 12),].as_slice()
+        let words = [word(40, 0, 44), word(40, 5, 99)];
+        let (found, gaps, reads) = walked(order, &words, &file, rt.alloc())?;
+        same(
+            &rt,
+            &found.as_slice(),
+            &[indirect(40), Step::Tail, data(44, 4, 12)].as_slice(),
         );
-        assert_eq!(rt; (gaps, image.reads, image.odd), (12, 1, 0));
+        same(&rt, &(gaps, reads), &(12, [1, 0]));
     }
     Ok(())
 }
@@ -110,26 +121,24 @@ fn partially_truncated(rt: HostRuntime) -> Result<(), Fail> {
 // Each indirect block that is entered is read once, and whole.
 #[test]
 fn trees_with_holes(rt: HostRuntime) -> Result<(), Fail> {
+    let words = [
+        word(40, 1, 44),
+        word(44, 1023, 48),
+        word(52, 0, 56),
+        word(52, 5, 1),
+        word(56, 0, 60),
+        word(60, 1, 64),
+        word(60, 2, 7),
+    ];
+    let mut file = inode(0o100644, 4299218944);
+    file.addresses[13] = 40;
+    file.addresses[14] = 52;
     for order in ORDERS {
-        let geometry = geometry(order)?;
-        let words = [
-            word(40, 1, 44),
-            word(44, 1023, 48),
-            word(52, 0, 56),
-            word(52, 5, 1),
-            word(56, 0, 60),
-            word(60, 1, 64),
-            word(60, 2, 7),
-        ];
-        let inner = image_of(order, &words, rt.alloc())?;
-        let mut image = Watched::new(inner);
-        let mut file = inode(0o100644, 4299218944);
-        file.addresses[13] = 40;
-        file.addresses[14] = 52;
-        let (found, gaps) = steps(&geometry, &file, &mut image, rt.alloc())?;
-        assert_eq!(rt;
-            found.as_slice(),
-            [
+        let (found, gaps, reads) = walked(order, &words, &file, rt.alloc())?;
+        same(
+            &rt,
+            &found.as_slice(),
+            &[
                 indirect(40),
                 indirect(44),
                 data(48, 4, 3083),
@@ -140,44 +149,57 @@ fn trees_with_holes(rt: HostRuntime) -> Result<(), Fail> {
                 Step::Tail,
                 data(64, 4, 1049613),
             ]
-            .as_slice()
+            .as_slice(),
         );
-        assert_eq!(rt; (gaps, image.reads, image.odd), (2060, 5, 0));
+        same(&rt, &(gaps, reads), &(2060, [5, 0]));
     }
     Ok(())
+}
+
+// The first step, how many Gaps are then passed over, and the next step.
+fn passed_over(inode: &Inode, alloc: Global) -> Result<(Option<Step>, u32, Option<Step>), Fail> {
+    let geometry = geometry(Order::Little)?;
+    let mut image = image_of(Order::Little, &[], alloc)?;
+    let buffer = vec![in alloc; 0u8; 3 * geometry.layout.bsize as usize]?;
+    let mut blocks = Blocks::over(FixedList::new(buffer));
+    let mut walk = Walk::start(&geometry, inode);
+    let first = walk.next(&mut image, &mut blocks)?;
+    let gaps = walk.skip_gaps(&blocks);
+    let next = walk.next(&mut image, &mut blocks)?;
+    Ok((first, gaps, next))
 }
 
 // The holes after the first one are passed over together, at the inode's own addresses.
 #[test]
 fn gaps_passed_over(rt: HostRuntime) -> Result<(), Fail> {
-    let geometry = geometry(Order::Little)?;
-    let mut image = image_of(Order::Little, &[], rt.alloc())?;
-    let buffer = vec![in rt.alloc(); 0u8; 3 * geometry.layout.bsize as usize]?;
-    let mut blocks = Blocks::over(FixedList::new(buffer));
     let mut file = inode(0o100644, 4096 * 6);
     file.addresses[4] = 48;
-    let mut walk = Walk::start(&geometry, &file);
-    assert_eq!(rt; walk.next(&mut image, &mut blocks)?, Some(Step::Gap));
-    assert_eq!(rt; walk.skip_gaps(&blocks), 3);
-    assert_eq!(rt; walk.next(&mut image, &mut blocks)?, Some(data(48, 4, 4)));
+    let (first, gaps, next) = passed_over(&file, rt.alloc())?;
+    same(&rt, &(first, gaps), &(Some(Step::Gap), 3));
+    same(&rt, &next, &Some(data(48, 4, 4)));
     Ok(())
+}
+
+// Whether a walk whose first read fails ends with that, how many reads failed, and the sector of the
+// last one.
+fn cut_short(inode: &Inode, alloc: Global) -> Result<(bool, u64, u64), Fail> {
+    let geometry = geometry(Order::Little)?;
+    let memory = image_of(Order::Little, &[], alloc)?;
+    let mut image = FuseImage::nth(memory, 1);
+    let failed = steps(&geometry, inode, &mut image, alloc).is_err();
+    Ok((failed, image.failures(), image.failed()))
 }
 
 #[test]
 fn failed_read_ends(rt: HostRuntime) -> Result<(), Fail> {
-    let geometry = geometry(Order::Little)?;
-    let memory = image_of(Order::Little, &[], rt.alloc())?;
-    let mut image = FuseImage::nth(memory, 1);
     let mut file = inode(0o100644, 53248);
     file.addresses[12] = 40;
-    assert!(rt; steps(&geometry, &file, &mut image, rt.alloc()).is_err());
-    assert_eq!(rt; (image.failures(), image.failed()), (1, 80));
+    same(&rt, &cut_short(&file, rt.alloc())?, &(true, 1, 80));
     Ok(())
 }
 
-#[test]
-fn classes(rt: HostRuntime) -> Result<(), Fail> {
-    let geometry = geometry(Order::Little)?;
+// Inodes of each kind, with their classes, and whether they have steps.
+fn kinds_of_inodes() -> [(Inode, Class, bool); 8] {
     let mut early = inode(0o100644, 0);
     early.addresses[0] = 40;
     let mut device = inode(0o20644, 0);
@@ -186,7 +208,7 @@ fn classes(rt: HostRuntime) -> Result<(), Fail> {
     broken.addresses[1] = 7;
     let mut link = inode(0o120777, 59);
     link.addresses = [7; 15];
-    for (inode, class, walked) in [
+    [
         (inode(0, 0), Class::Free, false),
         (inode(0o644, 0), Class::Partial, false),
         (inode(0o100644, 0), Class::File, false),
@@ -195,13 +217,18 @@ fn classes(rt: HostRuntime) -> Result<(), Fail> {
         (device, Class::File, false),
         (broken, Class::Unknown, false),
         (link, Class::File, false),
-    ] {
-        assert_eq!(rt; class_of(&geometry, &inode), class);
-        assert_eq!(rt; has_steps(&geometry, &inode, class), walked);
-        if !walked {
-            let mut image = image_of(Order::Little, &[], rt.alloc())?;
-            let (found, gaps) = steps(&geometry, &inode, &mut image, rt.alloc())?;
-            assert_eq!(rt; (found.len(), gaps), (0, 0));
+    ]
+}
+
+#[test]
+fn classes(rt: HostRuntime) -> Result<(), Fail> {
+    let geometry = geometry(Order::Little)?;
+    for (inode, class, is_walked) in kinds_of_inodes() {
+        same(&rt, &class_of(&geometry, &inode), &class);
+        same(&rt, &has_steps(&geometry, &inode, class), &is_walked);
+        if !is_walked {
+            let (found, gaps, _) = walked(Order::Little, &[], &inode, rt.alloc())?;
+            same(&rt, &(found.len(), gaps), &(0, 0));
         }
     }
     Ok(())
@@ -218,21 +245,24 @@ fn extent(geometry: &Geometry, size: u64) -> (u64, u32) {
 #[test]
 fn sizes_at_edges_of_blocks(rt: HostRuntime) -> Result<(), Fail> {
     let geometry = geometry(Order::Little)?;
-    assert_eq!(rt; extent(&geometry, 0).0, 0);
-    assert_eq!(rt; extent(&geometry, 1), (1, 1));
-    assert_eq!(rt; extent(&geometry, 4095), (1, 4));
-    assert_eq!(rt; extent(&geometry, 4096), (1, 4));
-    assert_eq!(rt; extent(&geometry, 4097), (2, 1));
+    same(&rt, &extent(&geometry, 0).0, &0);
+    for (size, wanted) in [(1, (1, 1)), (4095, (1, 4)), (4096, (1, 4)), (4097, (2, 1))] {
+        same(&rt, &extent(&geometry, size), &wanted);
+    }
     Ok(())
 }
 
 #[test]
 fn sizes_at_edges_of_fragments(rt: HostRuntime) -> Result<(), Fail> {
     let geometry = geometry(Order::Big)?;
-    assert_eq!(rt; extent(&geometry, 1023), (1, 1));
-    assert_eq!(rt; extent(&geometry, 1024), (1, 1));
-    assert_eq!(rt; extent(&geometry, 1025), (1, 2));
-    assert_eq!(rt; extent(&geometry, 7168), (2, 3));
-    assert_eq!(rt; extent(&geometry, 7169), (2, 4));
+    for (size, wanted) in [
+        (1023, (1, 1)),
+        (1024, (1, 1)),
+        (1025, (1, 2)),
+        (7168, (2, 3)),
+        (7169, (2, 4)),
+    ] {
+        same(&rt, &extent(&geometry, size), &wanted);
+    }
     Ok(())
 }

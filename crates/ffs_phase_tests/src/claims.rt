@@ -1,12 +1,14 @@
 //! The block check of small images, as a reader would work it out by hand.
 
 ghost use Rattle.std.specs.Prelude.{◌≡◌, ◌*◌, ◌≤◌, IfOk, length};
+ghost use Rattle.ffs_workspace.specs.Ready.{IsReady};
 
 use ffs_claims::{phase1, phase1b};
 use ffs_image::{Image, MemoryImage};
 use ffs_layout::{Geometry, Order};
-use ffs_report::{Counted, Report};
-use ffs_samples::{Number, Watched, geometry, image_of};
+use ffs_phase::RunFault;
+use ffs_report::{Counted, Output, Report};
+use ffs_samples::{Number, Watched, geometry, put, same};
 use ffs_workspace::Workspace;
 use std::alloc::{AllocError, Global};
 use std::test::Fail;
@@ -75,18 +77,42 @@ const TREE: [Words; 5] = [
     (40960, 1024, 40),
 ];
 
+// Writes words that are the same one after the other.
+fn put_words(bytes: &mut [u8], words: &[Words])
+    ensures { length bytes.new ≡ length bytes.old }
+{
+    for &(place, count, word) in words {
+        for k in 0..count {
+            let at = place.saturating_add(k.saturating_mul(4));
+            put(Order::Little, bytes, &[(at, 4, word)]);
+        }
+    }
+}
+
 // An image with the root and these words.
 fn image_with(words: &[Words], alloc: Global) -> Result<MemoryImage, AllocError>
     ensures { IfOk result (λ m. length m ≡ 131072) }
 {
-    let mut numbers = Vec::new(alloc);
-    numbers.extend_from_slice(&ROOT)?;
-    for &(place, count, word) in words {
-        for k in 0..count {
-            numbers.push((place.saturating_add(k.saturating_mul(4)), 4, word))?;
-        }
+    let mut bytes = vec![in alloc; 0u8; 131072]?;
+    put(Order::Little, bytes.as_mut_slice(), &ROOT);
+    put_words(bytes.as_mut_slice(), words);
+    Ok(MemoryImage::new(bytes))
+}
+
+// The block check, with its second look where there are duplicates.
+fn check_blocks<I: Image, W: Output>(
+    geometry: &Geometry,
+    image: &mut I,
+    workspace: &mut Workspace,
+    report: &mut Report<'_, W>,
+) -> Result<(), RunFault>
+    requires { IsReady geometry.now.layout (I.device image.old) workspace.old }
+{
+    phase1(geometry, image, workspace, report)?;
+    if workspace.has_dups() {
+        phase1b(geometry, image, workspace, report)?;
     }
-    image_of(Order::Little, numbers.as_slice(), alloc)
+    Ok(())
 }
 
 // What the block check of an image gives, and how many Runs its two looks see.
@@ -101,10 +127,7 @@ fn checked<I: Image>(
     let mut text = Vec::new(alloc);
     let mut out = Counted::new(&mut text);
     let mut report = Report::new(&mut out);
-    phase1(geometry, image, &mut workspace, &mut report)?;
-    if workspace.has_dups() {
-        phase1b(geometry, image, &mut workspace, &mut report)?;
-    }
+    check_blocks(geometry, image, &mut workspace, &mut report)?;
     let runs = workspace.runs();
     Ok((text, runs))
 }
@@ -156,9 +179,9 @@ fn block_checks(rt: HostRuntime) -> Result<(), Fail> {
     ];
     for (words, reported, runs) in cases {
         let (text, seen, reads) = checked_with(&geometry, words, rt.alloc())?;
-        assert_eq!(rt; text.as_slice(), reported);
-        assert_eq!(rt; seen, runs);
-        assert!(rt; reads <= 100);
+        same(&rt, &text.as_slice(), &reported);
+        same(&rt, &seen, &runs);
+        same(&rt, &(reads <= 100), &true);
     }
     Ok(())
 }

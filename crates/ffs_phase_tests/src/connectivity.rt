@@ -6,7 +6,7 @@ ghost use Rattle.ffs_workspace.specs.Lengths.{IsFor, HoldWindows, inodes_of};
 use ffs_connectivity::phase3;
 use ffs_layout::{Geometry, Order};
 use ffs_report::{Counted, Report};
-use ffs_samples::{Number, geometry, image_of};
+use ffs_samples::{Number, geometry, image_of, same, set_first, set_first_filled};
 use ffs_workspace::Workspace;
 use std::alloc::{AllocError, Global};
 use std::test::Fail;
@@ -20,18 +20,9 @@ fn surveyed(alloc: Global, geometry: &Geometry) -> Result<Workspace, AllocError>
         → IfOk result (λ w. HoldWindows geometry.now.layout contents w) }
 {
     let mut workspace = Workspace::new(alloc, geometry)?;
-    workspace.kinds[2] = 4;
-    workspace.kinds[3] = 4;
-    workspace.kinds[4] = 5;
-    workspace.kinds[5] = 4;
-    workspace.kinds[6] = 4;
-    workspace.kinds[7] = 4;
-    workspace.kinds[8] = 4;
-    workspace.reached[2] = true;
-    workspace.parents.set(5, 6);
-    workspace.parents.set(6, 5);
-    workspace.parents.set(7, 4);
-    workspace.parents.set(8, 3);
+    set_first(&mut workspace.kinds, &[0, 0, 4, 4, 5, 4, 4, 4, 4]);
+    set_first(&mut workspace.reached, &[false, false, true]);
+    set_first_filled(&mut workspace.parents, &[0, 0, 0, 0, 0, 6, 5, 4, 3]);
     Ok(workspace)
 }
 
@@ -59,10 +50,11 @@ fn reported(alloc: Global) -> Result<(Vec<u8>, bool), Fail> {
 #[test]
 fn reports_cut_off_directories(rt: HostRuntime) -> Result<(), Fail> {
     let (text, defect) = reported(rt.alloc())?;
-    assert!(rt; defect);
-    assert_eq!(rt;
-        text.as_slice(),
-        b"** Phase 3 - Check Connectivity\nUNREF DIR I=3 OWNER=7 MODE=40755\nSIZE=512 MTIME=86400\nRECONNECT? no\n\nUNREF DIR I=5 OWNER=0 MODE=0\nSIZE=0 MTIME=0\nRECONNECT? no\n\nUNREF DIR I=7 OWNER=0 MODE=0\nSIZE=0 MTIME=0\nRECONNECT? no\n\n".as_slice()
+    same(&rt, &defect, &true);
+    same(
+        &rt,
+        &text.as_slice(),
+        &b"** Phase 3 - Check Connectivity\nUNREF DIR I=3 OWNER=7 MODE=40755\nSIZE=512 MTIME=86400\nRECONNECT? no\n\nUNREF DIR I=5 OWNER=0 MODE=0\nSIZE=0 MTIME=0\nRECONNECT? no\n\nUNREF DIR I=7 OWNER=0 MODE=0\nSIZE=0 MTIME=0\nRECONNECT? no\n\n".as_slice(),
     );
     Ok(())
 }

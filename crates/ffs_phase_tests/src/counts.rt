@@ -1,17 +1,23 @@
 //! The reference check, the group check and the summary of small volumes, as a reader would work
 //! them out by hand.
 
-ghost use Rattle.std.specs.Prelude.{◌≡◌, ℕ, List, Option, IfOk};
+ghost use Rattle.std.specs.Prelude.{◌≡◌, ℕ, List, Option, IfOk, length};
 ghost use Rattle.ffs_workspace.specs.Lengths.{IsFor, HoldWindows, inodes_of};
+ghost use Rattle.ffs_workspace.specs.Ready.{IsReady};
 
 use ffs_claims::phase1;
 use ffs_counts::{phase4, phase5, summary};
+use ffs_image::{Image, MemoryImage};
 use ffs_layout::{Geometry, Order, Super};
-use ffs_report::{Counted, Report};
-use ffs_samples::{Number, geometry, image_of};
+use ffs_phase::RunFault;
+use ffs_report::{Counted, Output, Report};
+use ffs_samples::{Number, geometry, image_of, put, same, set_first, set_first_filled};
 use ffs_workspace::Workspace;
 use std::alloc::{AllocError, Global};
 use std::test::Fail;
+
+// The counts of references of inodes 0 to 7.
+const REFERENCES: [u64; 8] = [0, 0, 32766 + 2, 32767, 32769, 32767 + 2, 32769, 32767];
 
 // What phases before have found. Directory 2 has two references; the files 3 to 5 have none, none
 // and two, and 3 is marked and named by an entry; 6 is an empty directory and 7 a marked file,
@@ -24,19 +30,12 @@ fn referred(alloc: Global, geometry: &Geometry) -> Result<Workspace, AllocError>
         → IfOk result (λ w. HoldWindows geometry.now.layout contents w) }
 {
     let mut workspace = Workspace::new(alloc, geometry)?;
-    workspace.kinds[2] = 4;
-    workspace.references.set(2, 32766 + 2);
-    workspace.references.set(3, 32767);
-    workspace.references.set(4, 32769);
-    workspace.kinds[3] = 8;
-    workspace.kinds[4] = 8;
-    workspace.kinds[5] = 8;
-    workspace.references.set(5, 32767 + 2);
-    workspace.references.set(6, 32769);
-    workspace.references.set(7, 32767);
-    workspace.kinds[6] = 5;
-    workspace.kinds[7] = 8;
-    workspace.marked[7] = true;
+    set_first(&mut workspace.kinds, &[0, 0, 4, 8, 8, 8, 5, 8]);
+    set_first(
+        &mut workspace.marked,
+        &[false, false, false, false, false, false, false, true],
+    );
+    set_first_filled(&mut workspace.references, &REFERENCES);
     Ok(workspace)
 }
 
@@ -69,9 +68,10 @@ fn reported(alloc: Global) -> Result<Vec<u8>, Fail> {
 #[test]
 fn reference_check(rt: HostRuntime) -> Result<(), Fail> {
     let text = reported(rt.alloc())?;
-    assert_eq!(rt;
-        text.as_slice(),
-        b"** Phase 4 - Check Reference Counts\nUNREF FILE I=3 OWNER=0 MODE=100644\nSIZE=0 MTIME=0\nRECONNECT? no\n\nCLEAR? no\n\nUNREF FILE I=4 OWNER=0 MODE=100644\nSIZE=0 MTIME=0\nCLEAR? no\n\nLINK COUNT FILE I=5 OWNER=0 MODE=100600\nSIZE=0 MTIME=0\nCOUNT=1 SHOULD BE 2\nADJUST? no\n\nZERO LENGTH DIR I=6 OWNER=0 MODE=40700\nSIZE=0 MTIME=0\nCLEAR? no\n\nBAD/DUP FILE I=7 OWNER=0 MODE=100644\nSIZE=0 MTIME=0\nCLEAR? no\n\n".as_slice()
+    same(
+        &rt,
+        &text.as_slice(),
+        &b"** Phase 4 - Check Reference Counts\nUNREF FILE I=3 OWNER=0 MODE=100644\nSIZE=0 MTIME=0\nRECONNECT? no\n\nCLEAR? no\n\nUNREF FILE I=4 OWNER=0 MODE=100644\nSIZE=0 MTIME=0\nCLEAR? no\n\nLINK COUNT FILE I=5 OWNER=0 MODE=100600\nSIZE=0 MTIME=0\nCOUNT=1 SHOULD BE 2\nADJUST? no\n\nZERO LENGTH DIR I=6 OWNER=0 MODE=40700\nSIZE=0 MTIME=0\nCLEAR? no\n\nBAD/DUP FILE I=7 OWNER=0 MODE=100644\nSIZE=0 MTIME=0\nCLEAR? no\n\n".as_slice(),
     );
     Ok(())
 }
@@ -101,8 +101,32 @@ const ROOT: [Number; 21] = [
     (32780, 4, 6),
 ];
 
-// What the block check, the group check and the summary print of the root's volume with one number
-// more, where the superblock counts this many free fragments.
+// An image with the root's volume and one number more.
+fn root_with(number: Number, alloc: Global) -> Result<MemoryImage, AllocError>
+    ensures { IfOk result (λ m. length m ≡ 131072) }
+{
+    let mut bytes = vec![in alloc; 0u8; 131072]?;
+    put(Order::Little, bytes.as_mut_slice(), &ROOT);
+    put(Order::Little, bytes.as_mut_slice(), &[number]);
+    Ok(MemoryImage::new(bytes))
+}
+
+// The block check, the group check and the summary.
+fn check_groups<I: Image, W: Output>(
+    superblock: &Super,
+    image: &mut I,
+    workspace: &mut Workspace,
+    report: &mut Report<'_, W>,
+) -> Result<(), RunFault>
+    requires { IsReady superblock.now.geometry.layout (I.device image.old) workspace.old }
+{
+    phase1(&superblock.geometry, image, workspace, report)?;
+    phase5(superblock, image, workspace, report)?;
+    summary(superblock, workspace, report)
+}
+
+// What they print of the root's volume with one number more, where the superblock counts this many
+// free fragments.
 fn counted(fragments: i32, number: Number, alloc: Global) -> Result<Vec<u8>, Fail> {
     let superblock = Super {
         geometry: geometry(Order::Little)?,
@@ -111,22 +135,23 @@ fn counted(fragments: i32, number: Number, alloc: Global) -> Result<Vec<u8>, Fai
         cstotal: [1, 22, 29, fragments],
         mount: [0; 512],
     };
-    let mut numbers = Vec::new(alloc);
-    numbers.extend_from_slice(&ROOT)?;
-    numbers.push(number)?;
-    let mut image = image_of(Order::Little, numbers.as_slice(), alloc)?;
+    let mut image = root_with(number, alloc)?;
     let mut workspace = Workspace::new(alloc, &superblock.geometry)?;
     let mut text = Vec::new(alloc);
     let mut out = Counted::new(&mut text);
     let mut report = Report::new(&mut out);
-    phase1(
-        &superblock.geometry,
-        &mut image,
-        &mut workspace,
-        &mut report,
+    check_groups(&superblock, &mut image, &mut workspace, &mut report)?;
+    Ok(text)
+}
+
+// The headings of the two phases, the lines of defects, and the last line.
+fn expected(defects: &[u8], last: &[u8], alloc: Global) -> Result<Vec<u8>, Fail> {
+    let mut text = Vec::new(alloc);
+    text.extend_from_slice(
+        b"** Phase 1 - Check Blocks and Sizes\n** Phase 5 - Check Cyl groups\n".as_slice(),
     )?;
-    phase5(&superblock, &mut image, &mut workspace, &mut report)?;
-    summary(&superblock, &workspace, &mut report)?;
+    text.extend_from_slice(defects)?;
+    text.extend_from_slice(last)?;
     Ok(text)
 }
 
@@ -163,15 +188,9 @@ fn group_checks(rt: HostRuntime) -> Result<(), Fail> {
         ),
         (6, (24580, 4, 0), b"CG 0: BAD MAGIC NUMBER\n", right),
     ];
-    let headings =
-        b"** Phase 1 - Check Blocks and Sizes\n** Phase 5 - Check Cyl groups\n".as_slice();
     for (fragments, number, defects, last) in cases {
         let text = counted(fragments, number, rt.alloc())?;
-        let mut want = Vec::new(rt.alloc());
-        want.extend_from_slice(headings)?;
-        want.extend_from_slice(defects)?;
-        want.extend_from_slice(last)?;
-        assert_eq!(rt; text.as_slice(), want.as_slice());
+        same(&rt, &text, &expected(defects, last, rt.alloc())?);
     }
     Ok(())
 }

@@ -13,8 +13,10 @@ ghost use Rattle.ffs_workspace.specs.Lengths.{inodes_of};
 
 use ffs_image::{Image, ImageFault, MemoryImage};
 use ffs_layout::{Geometry, Inode, Layout, Order, SuperFault};
-use ffs_memory::{FilledList, Memory, SystemMemory};
+use ffs_memory::{FilledList, FixedList, Memory, SystemMemory};
 use std::alloc::{AllocError, Global};
+use std::fmt::Debug;
+use std::process::Abort;
 
 /// Both byte orders.
 pub const ORDERS: [Order; 2] = [Order::Little, Order::Big];
@@ -186,6 +188,26 @@ pub fn numbers(values: &[u32], alloc: Global) -> Result<FilledList<u32>, AllocEr
     Ok(list)
 }
 
+/// Sets the first elements of a list, as far as there are some.
+pub fn set_first<T: Copy>(list: &mut FixedList<T>, values: &[T])
+    ensures { vec_len list.new ≡ vec_len list.old }
+{
+    for (element, value) in list.as_mut_slice().iter_mut().zip(values) {
+        *element = *value;
+    }
+}
+
+/// Sets the first elements of a list that is filled, as far as there are some.
+pub fn set_first_filled<T: Copy>(list: &mut FilledList<T>, values: &[T])
+    ensures { vec_len list.new ≡ vec_len list.old }
+{
+    for index in 0..values.len() {
+        if index < list.len() {
+            list.set(index, values[index]);
+        }
+    }
+}
+
 /// An image that counts its reads, and those that aren't of a whole block that may hold data.
 #[derive(Drop)]
 pub struct Watched<I: Image + Drop> {
@@ -230,6 +252,12 @@ impl<I: Image + Drop> Image for Watched<I> {
         }
         self.inner.read_at(at, buf)
     }
+}
+
+/// Ends a test where what is found is not what is wanted, and prints both, with the line of the
+/// call. A test with several of them is proved in less time than one with several `assert_eq!`.
+pub fn same<R: Abort, T: PartialEq + Debug>(rt: &R, found: &T, wanted: &T) {
+    assert_eq!(*rt; *found, *wanted);
 }
 
 /// Why a helper of the tests has no answer: a read of the image failed, or memory was refused.

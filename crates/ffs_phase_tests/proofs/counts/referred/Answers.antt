@@ -1,4 +1,26 @@
+use Rattle.std.proofs.Common.{◌∙◌}
 use Rattle.ffs_phase_tests.proofs.counts.referred.Goals as goal
+
+pub returns-clause-made : goal.returns-clause-made
+returns-clause-made c =
+    let h = c.in_ok-workspace.ensures.made in
+    record {
+      claimed = h.claimed;
+      duplicates = h.duplicates;
+      kinds = c.set_first.ensures ∙ h.kinds;
+      marked = c.set_first-2.ensures ∙ h.marked;
+      named = h.named;
+      reached = h.reached;
+      flags = h.flags;
+      references = c.set_first_filled.ensures ∙ h.references;
+      notes = h.notes;
+      parents = h.parents;
+      queue = h.queue;
+      table = h.table;
+      blocks = h.blocks;
+      chunk = h.chunk;
+      names = h.names;
+    }
 
 pub returns-clause-windows : goal.returns-clause-windows
 returns-clause-windows c = λ contents.
