@@ -36,7 +36,3 @@ MayTake b r = r.place < 512 → IsHeld b r
 abbrev pub IsInside : Entries → Type 0
 IsInside r =
     last_place r.chunks.run_cursor + 512 ≤ r.chunks.walk.geometry.layout.size * r.chunks.walk.geometry.layout.fsize
-
--- where the name of the last entry is in the image, in bytes
-abbrev pub name_place : Entries → ℕ
-name_place r = last_place r.chunks.run_cursor + r.name_place

@@ -56,7 +56,7 @@ impl Entries {
     ghost use Rattle.ffs_survey.specs.Reading.{roled_of};
     ghost use Rattle.ffs_names.specs.Readings.{LeavesReading, LeavesWalk};
     ghost use Rattle.ffs_names.specs.Shapes.{has_right_shape, HasEnded, BeginsDirectory, GivesEntry, IsSameChunk};
-    ghost use Rattle.ffs_names.specs.Entering.{to_come, left, last_name, IsHeld, IsInside, MayTake, name_place};
+    ghost use Rattle.ffs_names.specs.Entering.{to_come, left, last_name, IsHeld, IsInside, MayTake};
 
     /// A reading of the directory with this inode. `cut` is how many offers it keeps where its
     /// eleventh dup offer cut it, else 0.
@@ -225,12 +225,5 @@ impl Entries {
         ensures { result.now ≡ last_name self.now }
     {
         &self.chunk[self.name_place..][..self.name_len]
-    }
-
-    /// Where the name of the last entry is in the image, in bytes.
-    pub fn name_place(&self) -> u64
-        ensures { result ≡ name_place self.now }
-    {
-        self.chunks.last_place() + self.name_place as u64
     }
 }
