@@ -18,7 +18,7 @@ use Rattle.ffs_phase.specs.Known.{ForBytes, IsContents}
 use Rattle.ffs_phase.specs.Runs.{ImageAfter}
 use Rattle.ffs_phase.specs.declared.fault.RunFault.{RunFault}
 use Rattle.ffs_phase.specs.declared.fault.RunFault.TheVariants.{Read, Out}
-use Rattle.ffs_pathnames.specs.declared.phase.Root.{Root}
+use Rattle.ffs_pathnames.specs.declared.pass2.Root.{Root}
 use Rattle.ffs_pathnames.specs.GoesOn.{is_go}
 use Rattle.ffs_check.specs.Ends.{IsCut, ReportsBefore, PhasesRan, RunsThrough}
 use Rattle.ffs_check.specs.PhaseEnds.{FaultReported, EndsAs}

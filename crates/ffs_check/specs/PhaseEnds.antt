@@ -7,7 +7,7 @@ use Rattle.ffs_volume.specs.Report.Whole.{end_by}
 use Rattle.ffs_report.specs.Progress.{Progress, Said, Stopped}
 use Rattle.ffs_phase.specs.declared.fault.RunFault.{RunFault}
 use Rattle.ffs_phase.specs.declared.fault.RunFault.TheVariants.{Read, Out}
-use Rattle.ffs_pathnames.specs.declared.phase.Root.{Root}
+use Rattle.ffs_pathnames.specs.declared.pass2.Root.{Root}
 use Rattle.ffs_pathnames.specs.GoesOn.{is_go}
 
 -- the line of a read's fault was said, or the output failed in it

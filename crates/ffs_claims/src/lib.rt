@@ -15,13 +15,13 @@
 
 mod area;
 mod claim;
-mod first;
+mod pass1;
 mod offer;
 mod report_claim;
 mod reserve;
-mod second;
+mod pass1b;
 mod store;
 mod words;
 
-pub use first::phase1;
-pub use second::phase1b;
+pub use pass1::phase1;
+pub use pass1b::phase1b;

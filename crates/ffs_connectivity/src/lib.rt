@@ -10,7 +10,7 @@
 //! It rests on `ffs_survey`, `ffs_workspace` and `ffs_phase`.
 #![tactic(auto)]
 
-mod phase;
+mod pass3;
 mod unref;
 
-pub use phase::phase3;
+pub use pass3::phase3;

@@ -12,14 +12,14 @@
 //! It rests on `ffs_groups`, `ffs_workspace` and `ffs_phase`.
 #![tactic(auto)]
 
-mod group_check;
+mod pass5;
 mod groups;
 mod once;
 mod reference;
-mod reference_check;
+mod pass4;
 mod summing;
 mod totals;
 
-pub use group_check::phase5;
-pub use reference_check::phase4;
+pub use pass5::phase5;
+pub use pass4::phase4;
 pub use summing::summary;

@@ -2,8 +2,8 @@
 use Rattle.std.specs.Prelude.{Bool, true, false, Result, Ok, Err, ⊤}
 use Rattle.ffs_phase.specs.declared.fault.RunFault.{RunFault}
 use Rattle.ffs_phase.specs.declared.fault.RunFault.TheVariants.{Read, Out}
-use Rattle.ffs_pathnames.specs.declared.phase.Root.{Root}
-use Rattle.ffs_pathnames.specs.declared.phase.Root.TheVariants.{Go, Stop}
+use Rattle.ffs_pathnames.specs.declared.pass2.Root.{Root}
+use Rattle.ffs_pathnames.specs.declared.pass2.Root.TheVariants.{Go, Stop}
 
 abbrev pub is_go : Root → Bool
 is_go Go = true

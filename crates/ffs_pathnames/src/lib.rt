@@ -20,11 +20,11 @@ pub mod inodes;
 mod lines;
 mod look;
 mod one_entry;
-mod phase;
+mod pass2;
 mod root;
 mod say;
 mod second_look;
 mod tree;
 pub mod verdict;
 
-pub use phase::{Root, phase2};
+pub use pass2::{Root, phase2};

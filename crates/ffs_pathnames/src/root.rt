@@ -6,7 +6,7 @@ ghost use Rattle.ffs_pathnames.specs.Before.{root_said};
 ghost use Rattle.ffs_pathnames.specs.GoesOn.{is_go};
 ghost use Rattle.ffs_pathnames.specs.SaysNames.{SaysNames};
 
-use crate::phase::Root;
+use crate::pass2::Root;
 use crate::say::{Check, NameLine, say_check, say_line};
 use ffs_report::{DirectoryLine, OutFault, Output, Report};
 use ffs_volume::kinds::Kind;

@@ -15,7 +15,7 @@ ghost use Rattle.ffs_workspace.specs.Ready.{IsReady};
 ghost use Rattle.ffs_pathnames.specs.Ready.{ReadyToPath, PhaseLeaves, TreeLeaves};
 
 use crate::check::check_directory;
-use crate::phase::Root;
+use crate::pass2::Root;
 use crate::root::{report_root, root_of};
 use ffs_image::Image;
 use ffs_layout::Geometry;

@@ -1,0 +1,222 @@
+use Rattle.std.proofs.Common.{rules}
+use Rattle.std.proofs.Common.{inl, inr, arith, refl, sym, ◌∷◌, ◌+◌, ◌≤◌, ◌<◌, [], List, ap, ◌∙◌, Err, false}
+use Rattle.std.proofs.lemmas.Bool.{cases_lt}
+use Rattle.std.proofs.lemmas.Result.{err_from_is_err_and}
+use Rattle.ffs_phase.proofs.Reporting.{of_begins, of_says, of_part, of_fault, of_stops, of_same, reports_knowing}
+use Rattle.ffs_phase.proofs.Reporting.{said_knows}
+use Rattle.ffs_volume.specs.Blocks.BlockCheck.{owner_lines, lines_of_owners, phase1_lines}
+use Rattle.ffs_volume.specs.Blocks.Claims.{Claims, after_owner}
+use Rattle.ffs_volume.specs.Messages.Kinds.{Message, phase1}
+use Rattle.ffs_volume.specs.Blocks.Owners.{owner_of, owners_of}
+use Rattle.ffs_workspace.specs.Notes.{note_at}
+use Rattle.ffs_volume.specs.Report.Whole.{run_count}
+use Rattle.ffs_workspace.specs.Holds.{claims_of, all_claims, first_marked_at}
+use Rattle.ffs_volume.specs.Encodings.Kinds.{kind_at}
+use Rattle.ffs_volume.specs.Encodings.Links.{start_at}
+use Rattle.ffs_workspace.specs.Lengths.{inodes_of}
+use Rattle.ffs_claims.specs.Lines.{of_lines, owners_from}
+use Rattle.ffs_claims.proofs.Doubles.{dups_are}
+use Rattle.ffs_claims.proofs.Weights.{used_below}
+use Rattle.ffs_claims.proofs.Frames.{image_from, ready_still}
+use Rattle.ffs_claims.proofs.Numbers.{before_next, before_first, before_end, lines_next, lines_end, filled_next}
+use Rattle.ffs_claims.proofs.Numbers.{filled_end, filled_begin, is_inside, is_outside, kind_out, kind_in, mark_out}
+use Rattle.ffs_claims.proofs.Numbers.{mark_in, note_out, note_in, start_out, start_in, first_lines}
+use Rattle.ffs_claims.proofs.pass1.phase1.Goals as goal
+
+pub returns-in_err-say-clause-prints : goal.returns-in_err-say-clause-prints
+returns-in_err-say-clause-prints g c =
+    let p = err_from_is_err_and c.from_residual.result c.from_residual.ensures.1 in
+    let v = c.args.geometry.now.layout in
+    rw (p.1, p.2) (record {
+      image = search rules;
+      text = of_stops _ (λ bytes. phase1 ∷ of_lines (phase1_lines v (owners_of v bytes)))
+          (λ bytes. of_lines (phase1_lines v (owners_of v bytes))) _ (phase1 ∷ []) _ _ _
+          (of_begins _ (λ bytes. phase1 ∷ of_lines (phase1_lines v (owners_of v bytes))) _) (λ bytes t. refl)
+          c.in_err-say.ensures.said;
+    })
+
+pub loop-number-init : goal.loop-number-init
+loop-number-init g c =
+    let v = c.args.geometry.now.layout in
+    let s = claims_of c.reserve.new.workspace in
+    let found = c.reserve.ensures.only.found in
+    record {
+      ready = record {
+        ready = ready_still v _ _ _ c.reserve.ensures.only.made c.reserve.ensures.only.windows c.requires.ready;
+        only_data = c.empty-area.ensures v;
+      };
+      walk = c.ended-walk.ensures.geometry;
+      device = refl;
+      low = omega arith;
+      high = λ h. omega arith;
+      runs = omega (arith, c.reserve.ensures.runs);
+      again = found.again;
+      claims = λ bytes k. c.reserve.ensures.claims k.1 ∙ sym (before_first v bytes);
+      kinds = λ bytes k. filled_begin 0 (kind_at v bytes) c.reserve.new.workspace.kinds.items (inodes_of v)
+          (ap (λ w. w.items) found.kinds ∙ k.1.kinds) (λ x low. kind_out v bytes x (is_outside v x (inl low)));
+      marked = λ bytes k. filled_begin false (first_marked_at v bytes) c.reserve.new.workspace.marked.items
+          (inodes_of v) (ap (λ w. w.items) found.marked ∙ k.1.marked)
+          (λ x low. mark_out v bytes x (is_outside v x (inl low)));
+      notes = λ bytes k. filled_begin 0 (note_at v bytes) c.reserve.new.workspace.notes.items (inodes_of v)
+          (ap (λ w. w.items) found.notes ∙ k.1.notes) (λ x low. note_out v bytes x (is_outside v x (inl low)));
+      starts = λ bytes k. filled_begin 0 (start_at v bytes) c.reserve.new.workspace.references.items (inodes_of v)
+          (ap (λ w. w.items) found.references ∙ k.1.references)
+          (λ x low. start_out v bytes x (is_outside v x (inl low)));
+      said = of_says _ (λ bytes. phase1 ∷ of_lines (phase1_lines v (owners_of v bytes)))
+          (λ bytes. of_lines (lines_of_owners v s (owners_from v bytes 2))) _ (phase1 ∷ []) _ _ _
+          (of_begins _ (λ bytes. phase1 ∷ of_lines (phase1_lines v (owners_of v bytes))) _)
+          (λ bytes k. ap (λ (xs : List Message). phase1 ∷ xs) (first_lines v bytes s (c.reserve.ensures.claims k.1)))
+          c.in_ok-say.ensures.said;
+    }
+
+pub claim_inode-requires : goal.claim_inode-requires
+claim_inode-requires g c =
+    let inv = c.loop-number.invariant in
+    record {
+      ready = record {
+        claim = inv.ready;
+        number_fits = omega (arith, c.loop-number-test.true);
+        runs = omega (
+          arith,
+          inv.runs,
+          c.args.geometry.now.sound.numbers.inodes_below,
+          c.args.geometry.now.sound.numbers.size_below,
+          c.loop-number-test.true,
+          used_below c.args.geometry.now.layout c.loop-number.workspace inv.ready.ready.made,
+        );
+      };
+      walk = inv.walk;
+    }
+
+pub returns-in_err-claim_inode-clause-prints : goal.returns-in_err-claim_inode-clause-prints
+returns-in_err-claim_inode-clause-prints g c =
+    let p = err_from_is_err_and c.from_residual-in_err-claim_inode.result
+    c.from_residual-in_err-claim_inode.ensures.1 in
+    let v = c.args.geometry.now.layout in
+    let inv = c.loop-number.invariant in
+    let s = claims_of c.loop-number.workspace in
+    let n = c.loop-number.number in
+    rw (p.1, p.2) (record {
+      image = image_from {T = Unit {0}} _ _ (g.I.Image.device c.claim_inode.new.image)
+          (Err c.in_err-claim_inode.field-0.0) inv.device c.in_err-claim_inode.ensures.claiming.left.image;
+      text = of_fault (Unit {0}) (Unit {0}) _ (λ bytes. of_lines (lines_of_owners v s (owners_from v bytes n)))
+          (λ bytes. of_lines (owner_lines v s (owner_of v bytes n)))
+          (λ bytes. of_lines (lines_of_owners v (after_owner v s (owner_of v bytes n)) (owners_from v bytes (n + 1))))
+          _ _ _ _ c.in_err-claim_inode.field-0.0
+          inv.said (λ bytes t. lines_next v bytes s (after_owner v s (owner_of v bytes n)) n (omega arith) refl)
+          (reports_knowing (Unit {0}) _ _ _ _ _ (Err c.in_err-claim_inode.field-0.0)
+          (λ bytes k. ap (λ d. d.contents) inv.device ∙ k.0) c.in_err-claim_inode.ensures.claiming.text);
+    })
+
+pub returns-in_err-claim_inode-clause-runs : goal.returns-in_err-claim_inode-clause-runs
+returns-in_err-claim_inode-clause-runs g c =
+    let inv = c.loop-number.invariant in
+    omega (arith, inv.runs, inv.low, c.claim_inode.ensures.claiming.left.bound, c.loop-number-test.true)
+
+pub loop-number-preserved : goal.loop-number-preserved
+loop-number-preserved g c =
+    let v = c.args.geometry.now.layout in
+    let inv = c.loop-number.invariant in
+    let s = claims_of c.loop-number.workspace in
+    let s' = claims_of c.claim_inode.new.workspace in
+    let n = c.loop-number.number in
+    let contents = ap (λ d. d.contents) inv.device in
+    let lt : n < inodes_of v = omega arith in
+    let inside = is_inside v n inv.low lt in
+    let now = c.in_ok-claim_inode.ensures.claiming.claims in
+    let stored = c.in_ok-claim_inode.ensures.stored in
+    record {
+      ready = c.claim_inode.ensures.claiming.left.claim;
+      walk = c.claim_inode.ensures.walk;
+      device = c.in_ok-claim_inode.ensures.claiming.left.image ∙ inv.device;
+      low = omega arith;
+      high = λ h. omega arith;
+      runs = omega (arith, inv.runs, inv.low, c.in_ok-claim_inode.ensures.claiming.left.moves);
+      again = c.claim_inode.ensures.claiming.left.again ∙ inv.again;
+      claims = λ bytes k. now bytes (contents ∙ k.0)
+          ∙ ap (λ (t : Claims). after_owner v t (owner_of v bytes n)) (inv.claims bytes k)
+          ∙ sym (before_next v bytes n inv.low);
+      kinds = λ bytes k. filled_next 0 (kind_at v bytes) c.loop-number.workspace.kinds.items
+          c.claim_inode.new.workspace.kinds.items n _
+          (omega (arith, inv.ready.ready.made.kinds)) (stored bytes (contents ∙ k.0)).kinds (kind_in v bytes n inside)
+          (inv.kinds bytes k);
+      marked = λ bytes k. filled_next false (first_marked_at v bytes) c.loop-number.workspace.marked.items
+          c.claim_inode.new.workspace.marked.items n _
+          (omega (arith, inv.ready.ready.made.marked)) (stored bytes (contents ∙ k.0)).marked
+          (mark_in v bytes n s s' inside (inv.claims bytes k) (now bytes (contents ∙ k.0))) (inv.marked bytes k);
+      notes = λ bytes k. filled_next 0 (note_at v bytes) c.loop-number.workspace.notes.items
+          c.claim_inode.new.workspace.notes.items n _
+          (omega (arith, inv.ready.ready.made.notes)) (stored bytes (contents ∙ k.0)).notes
+          (note_in v bytes n s s' inside (inv.claims bytes k) (now bytes (contents ∙ k.0))) (inv.notes bytes k);
+      starts = λ bytes k. filled_next 0 (start_at v bytes) c.loop-number.workspace.references.items
+          c.claim_inode.new.workspace.references.items n _
+          (omega (arith, inv.ready.ready.made.references)) (stored bytes (contents ∙ k.0)).starts
+          (start_in v bytes n inside) (inv.starts bytes k);
+      said = of_same _ (λ bytes. of_lines
+          (lines_of_owners v (after_owner v s (owner_of v bytes n)) (owners_from v bytes (n + 1))))
+          (λ bytes. of_lines (lines_of_owners v s' (owners_from v bytes (n + 1)))) _ _ _
+          (of_part _ (λ bytes. of_lines (lines_of_owners v s (owners_from v bytes n)))
+          (λ bytes. of_lines (owner_lines v s (owner_of v bytes n)))
+          (λ bytes. of_lines (lines_of_owners v (after_owner v s (owner_of v bytes n)) (owners_from v bytes (n + 1)))) _
+          _ _ _ inv.said
+          (λ bytes k. lines_next v bytes s (after_owner v s (owner_of v bytes n)) n lt refl)
+          (said_knows _ _ _ _ _ _ (λ bytes k. contents ∙ k.0) c.in_ok-claim_inode.ensures.claiming.text))
+          (λ bytes k. ap (λ (t : Claims). of_lines (lines_of_owners v t (owners_from v bytes (n + 1))))
+          (sym (now bytes (contents ∙ k.0))));
+    }
+
+pub returns-clause-prints : goal.returns-clause-prints
+returns-clause-prints g c =
+    let v = c.args.geometry.now.layout in
+    let inv = c.loop-number.invariant in
+    let s = claims_of c.loop-number.workspace in
+    record {
+      image = inv.device;
+      text = of_same _ (λ bytes. of_lines (lines_of_owners v s (owners_from v bytes c.loop-number.number)))
+          (λ bytes. [])
+          _ _ _ inv.said (λ bytes k. lines_end v bytes s c.loop-number.number (omega arith));
+    }
+
+pub returns-clause-holds : goal.returns-clause-holds
+returns-clause-holds g c = λ bytes k.
+    let v = c.args.geometry.now.layout in
+    let inv = c.loop-number.invariant in
+    let n = c.loop-number.number in
+    let past : inodes_of v ≤ n = omega arith in
+    let all = inv.claims bytes k ∙ before_end v bytes n past inv.high inv.low in
+    record {
+      used = ap (λ s. s.used) all;
+      dup = ap (λ s. s.dup) all;
+      runs = ap (λ s. s.runs) all;
+      kinds = filled_end 0 (kind_at v bytes) _ n (inodes_of v) past
+          (λ x high. kind_out v bytes x (is_outside v x (inr high))) (inv.kinds bytes k);
+      marked = filled_end false (first_marked_at v bytes) _ n (inodes_of v) past
+          (λ x high. mark_out v bytes x (is_outside v x (inr high))) (inv.marked bytes k);
+      notes = filled_end 0 (note_at v bytes) _ n (inodes_of v) past
+          (λ x high. note_out v bytes x (is_outside v x (inr high))) (inv.notes bytes k);
+      starts = filled_end 0 (start_at v bytes) _ n (inodes_of v) past
+          (λ x high. start_out v bytes x (is_outside v x (inr high))) (inv.starts bytes k);
+    }
+
+pub returns-clause-runs : goal.returns-clause-runs
+returns-clause-runs g c =
+    let inv = c.loop-number.invariant in
+    let used = used_below c.args.geometry.now.layout c.loop-number.workspace inv.ready.ready.made in
+    elim (cases_lt 2 c.loop-number.number) [
+      | inl h ↦ let most : c.loop-number.number ≤ inodes_of c.args.geometry.now.layout = inv.high h in omega
+          (arith, inv.runs, most, used)
+      | inr h ↦ omega (arith, inv.runs, used)
+    ]
+
+pub returns-clause-count : goal.returns-clause-count
+unfolding run_count all_claims
+returns-clause-count g c = λ bytes k. (returns-clause-holds g c bytes k).runs
+
+pub returns-clause-dups : goal.returns-clause-dups
+returns-clause-dups g c = λ bytes k.
+    dups_are c.args.geometry.now.layout bytes c.loop-number.workspace
+    (returns-clause-holds g c bytes k)
+
+pub returns-in_err-say-clause-ready : goal.returns-in_err-say-clause-ready
+returns-in_err-say-clause-ready g c = ready_still c.args.geometry.now.layout _ _ _ c.reserve.ensures.only.made
+    c.reserve.ensures.only.windows c.requires.ready

@@ -1,0 +1,29 @@
+use Rattle.std.proofs.Common.{◌≡◌, ◌-◌, ◌≤◌, ◌∷◌, map}
+use Rattle.ffs_report.specs.Progress.{progress}
+use Rattle.ffs_phase.specs.Known.{IsContents}
+use Rattle.ffs_phase.specs.Runs.{SaidOf}
+use Rattle.ffs_volume.specs.Directories.Connectivity.{connectivity_lines}
+use Rattle.ffs_volume.specs.Messages.Kinds.{of_tree, phase3, lines_from}
+use Rattle.ffs_volume.specs.Directories.Volumes.{volume_of}
+use Rattle.ffs_workspace.specs.Holds.{HoldsClaims, HoldsSurvey}
+use Rattle.ffs_workspace.specs.Lengths.{inodes_of}
+use Rattle.ffs_workspace.specs.Leaves.{LeavesSurvey}
+use Rattle.ffs_workspace.specs.Ready.{IsReady}
+use Rattle.ffs_connectivity.specs.Leaders.{HasLeaders}
+use Rattle.ffs_connectivity.specs.Lines.{cut_off_lines}
+use Rattle.ffs_connectivity.proofs.pass3.phase3.Given as goal
+
+abbrev pub invariant-loop-number : goal.invariant-loop-number
+invariant-loop-number g l = record {
+  ready : IsReady l.geometry.layout (g.I.Image.device l.image) l.workspace;
+  device : g.I.Image.device l.image ≡ g.I.Image.device l.fn.image;
+  low : 2 ≤ l.number;
+  survey : LeavesSurvey l.fn.workspace l.workspace;
+  leaders : HasLeaders l.workspace;
+  said : SaidOf (λ bytes. IsContents (g.I.Image.device l.fn.image).contents bytes
+      × HoldsClaims l.geometry.layout bytes l.fn.workspace × HoldsSurvey l.geometry.layout bytes l.fn.workspace)
+      (λ bytes. map of_tree (lines_from (cut_off_lines (volume_of l.geometry.layout bytes)) l.number
+      (inodes_of l.geometry.layout - l.number)))
+      (λ bytes. phase3 ∷ map of_tree (connectivity_lines (volume_of l.geometry.layout bytes)))
+      (progress g.W.Output.sink l.fn.report) (progress g.W.Output.sink l.report);
+}

@@ -1,0 +1,28 @@
+use Rattle.std.proofs.Common.{◌≡◌, ◌-◌, ◌≤◌, ◌∷◌, map}
+use Rattle.ffs_report.specs.Progress.{progress}
+use Rattle.ffs_phase.specs.Known.{IsContents}
+use Rattle.ffs_phase.specs.Runs.{SaidOf}
+use Rattle.ffs_volume.specs.Directories.ReferenceCheck.{reference_lines_at, reference_lines}
+use Rattle.ffs_volume.specs.Messages.Kinds.{of_tree, phase4, lines_from}
+use Rattle.ffs_volume.specs.Directories.Volumes.{volume_of}
+use Rattle.ffs_workspace.specs.Holds.{HoldsFindings}
+use Rattle.ffs_workspace.specs.Lengths.{inodes_of}
+use Rattle.ffs_workspace.specs.Ready.{IsReady}
+use Rattle.ffs_counts.proofs.pass4.phase4.Given as goal
+
+abbrev pub invariant-loop-number : goal.invariant-loop-number
+invariant-loop-number g l = record {
+  within : l.number ≤ l.inodes;
+  ready : IsReady l.geometry.layout (g.I.Image.device l.image) l.workspace;
+  device : g.I.Image.device l.image ≡ g.I.Image.device l.fn.image;
+  held : l.workspace ≡ record l.fn.workspace { windows = l.workspace.windows };
+  said : SaidOf (λ bytes. IsContents (g.I.Image.device l.fn.image).contents bytes
+      × HoldsFindings l.geometry.layout bytes l.fn.workspace)
+      (λ bytes. map of_tree (lines_from (reference_lines_at (volume_of l.geometry.layout bytes)) l.number
+      (inodes_of l.geometry.layout - l.number)))
+      (λ bytes. phase4 ∷ map of_tree (reference_lines (volume_of l.geometry.layout bytes)))
+      (progress g.W.Output.sink l.fn.report) (progress g.W.Output.sink l.report);
+}
+
+abbrev pub decreases-loop-number : goal.decreases-loop-number
+decreases-loop-number g l = l.inodes - l.number

@@ -1,0 +1,107 @@
+use Rattle.std.proofs.Common.{[], ◌∷◌, List, ℕ, map, refl, ap, ◌∙◌, inl, inr}
+use Rattle.std.proofs.lemmas.Result.{err_from_is_err_and}
+use Rattle.ffs_phase.proofs.Reporting.{of_begins, of_says, of_stops, of_reads, of_last, reports_knowing}
+use Rattle.ffs_volume.specs.Messages.Kinds.{of_tree, phase2}
+use Rattle.ffs_volume.specs.Directories.PathnameCheck.{pathname_lines}
+use Rattle.ffs_volume.specs.Directories.Volumes.{volume_of}
+use Rattle.ffs_pathnames.specs.declared.pass2.Root.{Root}
+use Rattle.ffs_pathnames.proofs.Begun.{on_ok}
+use Rattle.ffs_pathnames.proofs.Carrying.{on_all, if_ok, at_fault, at_fault_more, claims_untouched, before_first}
+use Rattle.ffs_pathnames.proofs.Carrying.{references_on}
+use Rattle.ffs_pathnames.proofs.SilentLaws.{calm_silent}
+use Rattle.ffs_pathnames.proofs.pass2.phase2.Goals as goal
+
+pub returns-in_err-say-clause-text : goal.returns-in_err-say-clause-text
+returns-in_err-say-clause-text g c =
+    let p = err_from_is_err_and c.from_residual.result c.from_residual.ensures.1 in
+    let v = c.args.geometry.now.layout in
+    let lines = λ (b : List ℕ). map of_tree (pathname_lines (volume_of v b)) in
+    let all = λ (b : List ℕ). phase2 ∷ map of_tree (pathname_lines (volume_of v b)) in
+    rw (p.1, p.2) (of_stops _ all lines _ (phase2 ∷ []) _ _ _ (of_begins _ all _) (λ b k. refl)
+    c.in_err-say.ensures.said)
+
+pub returns-in_err-say-clause-fault : goal.returns-in_err-say-clause-fault
+returns-in_err-say-clause-fault g c =
+    let p = err_from_is_err_and c.from_residual.result c.from_residual.ensures.1 in
+    rw (p.1, p.2) tt
+
+pub returns-in_err-survey-clause-fault : goal.returns-in_err-survey-clause-fault
+returns-in_err-survey-clause-fault g c = at_fault c.from_residual-in_err-survey.result _ (inl c.in_ok-say.ensures.said)
+
+pub returns-in_err-survey-clause-text : goal.returns-in_err-survey-clause-text
+returns-in_err-survey-clause-text g c =
+    let p = err_from_is_err_and c.from_residual-in_err-survey.result c.from_residual-in_err-survey.ensures.1 in
+    let v = c.args.geometry.now.layout in
+    let lines = λ (b : List ℕ). map of_tree (pathname_lines (volume_of v b)) in
+    let all = λ (b : List ℕ). phase2 ∷ map of_tree (pathname_lines (volume_of v b)) in
+    rw (p.1, p.2) (of_reads _ lines _ _ _
+    (of_says _ all lines _ (phase2 ∷ []) _ _ _ (of_begins _ all _) (λ b k. refl) c.in_ok-say.ensures.said))
+
+pub returns-clause-text : goal.returns-clause-text
+returns-clause-text g c =
+    let v = c.args.geometry.now.layout in
+    let lines = λ (b : List ℕ). map of_tree (pathname_lines (volume_of v b)) in
+    let all = λ (b : List ℕ). phase2 ∷ map of_tree (pathname_lines (volume_of v b)) in
+    let found = c.in_ok-survey.ensures in
+    let clear = c.clear_marks.ensures in
+    let made = (clear.ready v _ found.ready).made in
+    of_last Root _ lines lines all _ _ _ c.check_tree.result
+    (of_says _ all lines _ (phase2 ∷ []) _ _ _ (of_begins _ all _) (λ b k. refl) c.in_ok-say.ensures.said)
+    (λ b k. refl)
+    (reports_knowing Root _ _ lines _ _ c.check_tree.result
+    (λ b k. before_first v _ b _ _ (ap (λ d. d.contents) found.read ∙ k.0)
+    (claims_untouched v b _ _ found.same k.1) (found.survey b k.0 k.1) made clear.clear
+    (λ x set. calm_silent v b _ c.args.geometry.now.sound found.ready.made
+    (claims_untouched v b _ _ found.same k.1) (found.survey b k.0 k.1) (found.calm b k.0 k.1) x set))
+    c.check_tree.ensures.text)
+
+pub returns-clause-goes : goal.returns-clause-goes
+returns-clause-goes g c =
+    let v = c.args.geometry.now.layout in
+    let found = c.in_ok-survey.ensures in
+    let clear = c.clear_marks.ensures in
+    let made = (clear.ready v _ found.ready).made in
+    if_ok c.check_tree.result _ _
+    (λ root h b k. h b (before_first v _ b _ _ (ap (λ d. d.contents) found.read ∙ k.0)
+    (claims_untouched v b _ _ found.same k.1) (found.survey b k.0 k.1) made clear.clear
+    (λ x set. calm_silent v b _ c.args.geometry.now.sound found.ready.made
+    (claims_untouched v b _ _ found.same k.1) (found.survey b k.0 k.1) (found.calm b k.0 k.1) x set)))
+    c.check_tree.ensures.goes
+
+pub returns-clause-fault : goal.returns-clause-fault
+returns-clause-fault g c =
+    let v = c.args.geometry.now.layout in
+    let found = c.in_ok-survey.ensures in
+    let clear = c.clear_marks.ensures in
+    let made = (clear.ready v _ found.ready).made in
+    at_fault_more c.check_tree.result _ _
+    (λ h. inr (λ b k. h b (before_first v _ b _ _ (ap (λ d. d.contents) found.read ∙ k.0)
+    (claims_untouched v b _ _ found.same k.1) (found.survey b k.0 k.1) made clear.clear
+    (λ x set. calm_silent v b _ c.args.geometry.now.sound found.ready.made
+    (claims_untouched v b _ _ found.same k.1) (found.survey b k.0 k.1) (found.calm b k.0 k.1) x set))))
+    c.check_tree.ensures.fault
+
+pub returns-clause-holds : goal.returns-clause-holds
+returns-clause-holds g c =
+    let v = c.args.geometry.now.layout in
+    let found = c.in_ok-survey.ensures in
+    let clear = c.clear_marks.ensures in
+    let made = (clear.ready v _ found.ready).made in
+    on_ok c.check_tree.result _ _
+    (λ h b k. h b (before_first v _ b _ _ (ap (λ d. d.contents) found.read ∙ k.0)
+    (claims_untouched v b _ _ found.same k.1) (found.survey b k.0 k.1) made clear.clear
+    (λ x set. calm_silent v b _ c.args.geometry.now.sound found.ready.made
+    (claims_untouched v b _ _ found.same k.1) (found.survey b k.0 k.1) (found.calm b k.0 k.1) x set)))
+    c.check_tree.ensures.holds
+
+pub returns-clause-references : goal.returns-clause-references
+returns-clause-references g c =
+    let v = c.args.geometry.now.layout in
+    let found = c.in_ok-survey.ensures in
+    on_all c.check_tree.result _
+    (λ b k. references_on v b _ _
+    (c.check_tree.ensures.leaves.references ∙ c.clear_marks.ensures.clear.survey.references)
+    (found.references b k.0 k.1 k.2))
+
+pub check_tree-requires : goal.check_tree-requires
+check_tree-requires g c = c.clear_marks.ensures.ready _ _ c.in_ok-survey.ensures.ready
