@@ -11,7 +11,7 @@ use Rattle.ffs_volume.specs.declared.Class.TheVariants.{Free, Unknown}
 use Rattle.ffs_volume.specs.declared.Step.{Step}
 use Rattle.ffs_volume.specs.declared.Inode.{Inode}
 use Rattle.ffs_volume.specs.Disk.Areas.{is_run_in_range}
-use Rattle.ffs_volume.specs.Disk.Geometry.{IsAcceptedLayout}
+use Rattle.ffs_volume.specs.Laws.Geometry.{IsAcceptedLayout}
 use Rattle.ffs_volume.specs.Blocks.Inodes.{inode_of, class_of, type_of, is_known_type, is_too_large, any_nonzero}
 use Rattle.ffs_volume.specs.Blocks.Inodes.{addresses_allowed, is_directory, is_allocated}
 use Rattle.ffs_volume.specs.Blocks.Steps.{steps_of}

@@ -4,10 +4,10 @@ use Rattle.std.specs.Prelude.{map}
 use Rattle.std.proofs.lemmas.List.FromFn.{length-range_with_len}
 use Rattle.std.proofs.lemmas.List.Sums.{count_by-le-length}
 use Rattle.ffs_volume.specs.declared.Layout.{Layout}
-use Rattle.ffs_volume.specs.Disk.Geometry.{IsAcceptedLayout}
+use Rattle.ffs_volume.specs.Laws.Geometry.{IsAcceptedLayout}
 use Rattle.ffs_volume.specs.Blocks.Owners.{owner_of, owners_of, inode_numbers}
 use Rattle.ffs_volume.specs.Blocks.Claims.{Claims, no_claims, after_owner, after_owners}
-use Rattle.ffs_volume.specs.Blocks.ClaimBounds.{used_bits}
+use Rattle.ffs_volume.specs.Laws.ClaimBounds.{used_bits}
 use Rattle.ffs_volume.proofs.Weights.{owner_moves}
 use Rattle.ffs_volume.specs.Report.Whole.{run_count}
 use Rattle.ffs_certificate.specs.Bounded.{ClaimsAreBounded}

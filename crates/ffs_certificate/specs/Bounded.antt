@@ -1,7 +1,7 @@
 -- The bound on claims.
 use Rattle.std.specs.Prelude.{◌≤◌, ℕ, List}
 use Rattle.ffs_volume.specs.declared.Layout.{Layout}
-use Rattle.ffs_volume.specs.Disk.Geometry.{IsAcceptedLayout}
+use Rattle.ffs_volume.specs.Laws.Geometry.{IsAcceptedLayout}
 use Rattle.ffs_volume.specs.Report.Memory.{runs_limit}
 use Rattle.ffs_volume.specs.Report.Whole.{run_count}
 

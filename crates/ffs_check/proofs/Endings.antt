@@ -29,9 +29,9 @@ abbrev pub at_reported : Option (List ℕ) → (List ℕ → List Message) → L
 at_reported None lines = []
 at_reported (Some bytes) lines = lines bytes
 
-pub at_reported_is : (contents : Option (List ℕ)) (lines : List ℕ → List Message) (bytes : List ℕ) →
+pub at_gives_bytes : (contents : Option (List ℕ)) (lines : List ℕ → List Message) (bytes : List ℕ) →
     contents ≡ Some bytes → at_reported contents lines ≡ lines bytes
-at_reported_is contents lines bytes e = rw e refl
+at_gives_bytes contents lines bytes e = rw e refl
 
 -- the fault of a read, as the image gives it
 pub faulted_there : (image image' : Device) (sector : ℕ) → Faulted image image' sector →
@@ -64,7 +64,7 @@ module _ (before : Bool) (knows : List ℕ → Type 0) (lines : List ℕ → Lis
     faulted = f;
     rest = at_reported image.contents rest;
     whole = refl;
-    more = λ bytes k. rw (at_reported_is image.contents rest bytes (tells bytes k)) (more bytes k);
+    more = λ bytes k. rw (at_gives_bytes image.contents rest bytes (tells bytes k)) (more bytes k);
   }
 
   cut : (sector : ℕ) (prefix : List Message) (rest : List ℕ → List Message) →
@@ -73,7 +73,7 @@ module _ (before : Bool) (knows : List ℕ → Type 0) (lines : List ℕ → Lis
       FaultReported b c sector end → PhasesRan before knows lines goes image image' a c end
   cut sector prefix rest right more said f (inl reported) = record {
     text = prefix ++ at_reported image.contents rest;
-    right = λ bytes k. ap (λ more. prefix ++ more) (at_reported_is image.contents rest bytes (tells bytes k))
+    right = λ bytes k. ap (λ more. prefix ++ more) (at_gives_bytes image.contents rest bytes (tells bytes k))
         ∙ right bytes k;
     ends = inr (inl (record {
       sector = sector;
@@ -85,7 +85,7 @@ module _ (before : Bool) (knows : List ℕ → Type 0) (lines : List ℕ → Lis
   }
   cut sector prefix rest right more said f (inr unreported) = record {
     text = prefix ++ at_reported image.contents rest;
-    right = λ bytes k. ap (λ more. prefix ++ more) (at_reported_is image.contents rest bytes (tells bytes k))
+    right = λ bytes k. ap (λ more. prefix ++ more) (at_gives_bytes image.contents rest bytes (tells bytes k))
         ∙ right bytes k;
     ends = inr (inr (inr (record {
       sector = sector;
@@ -104,7 +104,7 @@ module _ (before : Bool) (knows : List ℕ → Type 0) (lines : List ℕ → Lis
       c ≡ b → end ≡ WriteFault → PhasesRan before knows lines goes image image' a c end
   part prefix rest right stopped still same e = record {
     text = prefix ++ at_reported image.contents rest;
-    right = λ bytes k. ap (λ more. prefix ++ more) (at_reported_is image.contents rest bytes (tells bytes k))
+    right = λ bytes k. ap (λ more. prefix ++ more) (at_gives_bytes image.contents rest bytes (tells bytes k))
         ∙ right bytes k;
     ends = inr (inr (inl (record {
       unread = still;

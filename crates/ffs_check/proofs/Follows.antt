@@ -26,7 +26,7 @@ use Rattle.ffs_check.specs.Ends.{IsCut, SaidWhole, SaidCut, SaidPart, SaidInLine
 use Rattle.ffs_check.specs.Followed.{RefusalReported, Followed}
 use Rattle.ffs_check.specs.Headline.{is_completed, opened_lines, IsCutLater, Headline}
 use Rattle.ffs_check.proofs.Openings.{broke_off, broke_in_line, found_of, still_of}
-use Rattle.ffs_check.proofs.Endings.{at_reported, at_reported_is, faulted_there}
+use Rattle.ffs_check.proofs.Endings.{at_reported, at_gives_bytes, faulted_there}
 use Rattle.ffs_check.proofs.Headlines.{whole_there, defect_there, end_of_there, end_there, completed_by, certifies}
 
 module _ (image : Device) (name : List ℕ) (sector : Option ℕ) (output : GName) (sink : Sink) (s : Superblock)
@@ -39,7 +39,7 @@ module _ (image : Device) (name : List ℕ) (sector : Option ℕ) (output : GNam
   unstarted end still (inl reported) = record {
     text = opened_lines name sector s ++ at_reported image.contents (λ bytes. phase_lines bytes s);
     is_report = λ bytes t. whole_there bytes name sector s _ (accepted bytes t)
-        (at_reported_is image.contents (λ bytes. phase_lines bytes s) bytes t);
+        (at_gives_bytes image.contents (λ bytes. phase_lines bytes s) bytes t);
     ends = inr (inr (inr (inl (record {
       said = opened_lines name sector s;
       line = cannot_alloc;
@@ -58,7 +58,7 @@ module _ (image : Device) (name : List ℕ) (sector : Option ℕ) (output : GNam
   unstarted end still (inr unreported) = record {
     text = opened_lines name sector s ++ at_reported image.contents (λ bytes. phase_lines bytes s);
     is_report = λ bytes t. whole_there bytes name sector s _ (accepted bytes t)
-        (at_reported_is image.contents (λ bytes. phase_lines bytes s) bytes t);
+        (at_gives_bytes image.contents (λ bytes. phase_lines bytes s) bytes t);
     ends = inr (inr (inr (inr (inr (record {
       said = opened_lines name sector s;
       line = cannot_alloc;

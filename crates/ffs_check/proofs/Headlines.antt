@@ -25,7 +25,7 @@ use Rattle.ffs_certificate.proofs.ReportLaws.{certified}
 use Rattle.ffs_check.specs.Opening.{Opened, OpeningStopped}
 use Rattle.ffs_check.specs.Headline.{is_completed, Certifies, opened_lines, Headline}
 use Rattle.ffs_check.proofs.Openings.{broke_off, broke_in_line}
-use Rattle.ffs_check.proofs.Endings.{at_reported, at_reported_is}
+use Rattle.ffs_check.proofs.Endings.{at_reported, at_gives_bytes}
 
 -- ---- the report, in its parts
 no_defect_head : (name : List ℕ) (sector : Option ℕ) (xs : List Message) → has_defect (head_lines name sector ++ xs)
@@ -113,7 +113,7 @@ module _ (image image' : Device) (name : List ℕ) (sector : Option ℕ) (output
         text = head_lines name sector
             ++ at_reported image.contents (λ bytes. lines_by_outcome bytes (outcome bytes sector));
         is_report = λ bytes t. ap (λ more. head_lines name sector ++ more)
-            (at_reported_is image.contents (λ bytes. lines_by_outcome bytes (outcome bytes sector)) bytes t)
+            (at_gives_bytes image.contents (λ bytes. lines_by_outcome bytes (outcome bytes sector)) bytes t)
             ∙ report_there bytes name sector (outcome bytes sector) refl;
         ends = inr (inl (record {
           said = head_lines name sector;
@@ -151,7 +151,7 @@ module _ (image image' : Device) (name : List ℕ) (sector : Option ℕ) (output
       record {
         text = text;
         is_report = λ bytes t. ap (λ more. opening_lines name sector found ++ more)
-            (at_reported_is image.contents (λ bytes. more_of bytes found) bytes t)
+            (at_gives_bytes image.contents (λ bytes. more_of bytes found) bytes t)
             ∙ opening_then bytes name sector found ∙ report_there bytes name sector found (stop.outcome_is bytes t);
         ends = inr (inr (inr (inr (inl (record {
           unread = stop.unread;
@@ -170,7 +170,7 @@ module _ (image image' : Device) (name : List ℕ) (sector : Option ℕ) (output
     text = head_lines name sector
         ++ at_reported image.contents (λ bytes. lines_by_outcome bytes (outcome bytes sector));
     is_report = λ bytes t. ap (λ more. head_lines name sector ++ more)
-        (at_reported_is image.contents (λ bytes. lines_by_outcome bytes (outcome bytes sector)) bytes t)
+        (at_gives_bytes image.contents (λ bytes. lines_by_outcome bytes (outcome bytes sector)) bytes t)
         ∙ report_there bytes name sector (outcome bytes sector) refl;
     ends = inr (inr (inr (inr (inr (record {
       said = head_lines name sector;

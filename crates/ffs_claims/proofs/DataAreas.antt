@@ -4,7 +4,7 @@ use Rattle.std.proofs.Math.Nat.{mul-div-le}
 use Rattle.std.proofs.lemmas.Bool.Decides.{nat_tests}
 use Rattle.ffs_volume.specs.declared.Layout.{Layout}
 use Rattle.ffs_volume.specs.Disk.Areas.{cgbase, cgstart, cgsblock, cgdmin, is_run_in_range}
-use Rattle.ffs_volume.specs.Disk.Geometry.{IsAcceptedLayout}
+use Rattle.ffs_volume.specs.Laws.Geometry.{IsAcceptedLayout}
 use Rattle.ffs_volume.proofs.AreaLaws.{group_is}
 use Rattle.ffs_volume.proofs.RunLaws.{in_range_is, is_apart}
 

@@ -7,7 +7,7 @@ pub mod Inodes
 pub mod Reserved
 pub mod Numbers
 pub mod Marks
-pub mod Doubles
+pub mod Duplicates
 pub mod Reportings
 pub mod Rewalks
 pub mod Rescanned

@@ -9,11 +9,11 @@ use Rattle.ffs_volume.specs.declared.Layout.{Layout}
 use Rattle.ffs_volume.specs.declared.Step.{Step}
 use Rattle.ffs_volume.specs.declared.Step.TheVariants.{Run, Tail, Gap}
 use Rattle.ffs_volume.specs.Disk.Areas.{is_run_in_range, is_reserved}
-use Rattle.ffs_volume.specs.Disk.Geometry.{IsAcceptedLayout}
+use Rattle.ffs_volume.specs.Laws.Geometry.{IsAcceptedLayout}
 use Rattle.ffs_volume.specs.Blocks.Owners.{Owner, owner_of, owners_of, inode_numbers}
 use Rattle.ffs_volume.specs.Blocks.Claims.{Claims, no_claims, reserved_map, at_next_inode, is_open, after_step}
 use Rattle.ffs_volume.specs.Blocks.Claims.{after_steps, after_owner, after_owners}
-use Rattle.ffs_volume.specs.Blocks.ClaimBounds.{used_bits}
+use Rattle.ffs_volume.specs.Laws.ClaimBounds.{used_bits}
 use Rattle.ffs_volume.specs.Blocks.BlockCheck.{Offer}
 use Rattle.ffs_volume.specs.Report.Whole.{run_count}
 use Rattle.ffs_volume.proofs.Weights.{cond_holds, owner_moves}

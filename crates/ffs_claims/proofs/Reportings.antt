@@ -13,7 +13,7 @@ use Rattle.ffs_claims.specs.Lines.{of_lines}
 use Rattle.ffs_claims.specs.Reporting.{after_first, OffersReported}
 use Rattle.ffs_claims.proofs.Goes.{range_more, lines_append}
 use Rattle.ffs_claims.proofs.Marks.{any_append}
-use Rattle.ffs_claims.proofs.Doubles.{none_clear, none_first}
+use Rattle.ffs_claims.proofs.Duplicates.{none_clear, none_first}
 use Rattle.ffs_report.specs.Progress.{Progress, Said}
 use Rattle.ffs_report.proofs.Reports.{said_none}
 use Rattle.std.proofs.Math.ListN.{get_or-eq_default}

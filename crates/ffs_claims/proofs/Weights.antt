@@ -4,9 +4,9 @@ use Rattle.std.proofs.lemmas.List.Sums.{count_by-le-length}
 use Rattle.std.proofs.lemmas.Bool.{ltb-true, and_parts}
 use Rattle.ffs_volume.specs.declared.Layout.{Layout}
 use Rattle.ffs_volume.specs.declared.Step.{Step}
-use Rattle.ffs_volume.specs.Blocks.Lengths.{HasLength}
+use Rattle.ffs_volume.specs.Laws.RunLengths.{HasLength}
 use Rattle.ffs_volume.specs.Blocks.Claims.{Claims, is_open, after_step}
-use Rattle.ffs_volume.specs.Blocks.ClaimBounds.{used_bits, ClaimBound}
+use Rattle.ffs_volume.specs.Laws.ClaimBounds.{used_bits, ClaimBound}
 use Rattle.ffs_volume.proofs.Weights.{step_moves, moves_then}
 use Rattle.ffs_maps.proofs.Bits.{bits_long}
 use Rattle.ffs_workspace.specs.declared.workspace.Workspace.{Workspace}

@@ -8,8 +8,8 @@ use Rattle.ffs_volume.specs.declared.Layout.{Layout}
 use Rattle.ffs_volume.specs.declared.Step.{Step}
 use Rattle.ffs_volume.specs.Disk.Areas.{is_run_in_range}
 use Rattle.ffs_volume.specs.Blocks.Claims.{Claims, after_step, after_steps, is_open, lines_of_steps, step_lines}
-use Rattle.ffs_volume.specs.Blocks.ClaimBounds.{ClaimBound}
-use Rattle.ffs_volume.specs.Blocks.Lengths.{HasLength}
+use Rattle.ffs_volume.specs.Laws.ClaimBounds.{ClaimBound}
+use Rattle.ffs_volume.specs.Laws.RunLengths.{HasLength}
 use Rattle.ffs_volume.proofs.Weights.{moves_then, stays}
 use Rattle.ffs_maps.specs.Bits.{AreClear, set_run}
 use Rattle.ffs_maps.proofs.Bits.{bits_long}

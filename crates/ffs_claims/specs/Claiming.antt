@@ -8,7 +8,7 @@ use Rattle.ffs_volume.specs.Blocks.Steps.{steps_of}
 use Rattle.ffs_volume.specs.Blocks.Owners.{Owner}
 use Rattle.ffs_volume.specs.Blocks.Claims.{Claims, after_owner, after_steps, is_open, lines_of_steps}
 use Rattle.ffs_volume.specs.Blocks.BlockCheck.{owner_lines}
-use Rattle.ffs_volume.specs.Blocks.ClaimBounds.{used_bits, ClaimBound}
+use Rattle.ffs_volume.specs.Laws.ClaimBounds.{used_bits, ClaimBound}
 use Rattle.ffs_report.specs.Progress.{Progress, Says}
 use Rattle.ffs_phase.specs.Known.{ForBytes, IsContents}
 use Rattle.ffs_phase.specs.Runs.{ImageAfter, PhaseReports}

@@ -4,7 +4,7 @@ use Rattle.ffs_image.specs.Device.{ForContents}
 use Rattle.ffs_volume.specs.declared.Layout.{Layout}
 use Rattle.ffs_volume.specs.declared.Step.{Step}
 use Rattle.ffs_volume.specs.Blocks.Claims.{after_step, after_steps, is_open, lines_of_steps, step_lines}
-use Rattle.ffs_volume.specs.Blocks.ClaimBounds.{ClaimBound}
+use Rattle.ffs_volume.specs.Laws.ClaimBounds.{ClaimBound}
 use Rattle.ffs_walk.specs.declared.walk.Walk.{Walk}
 use Rattle.ffs_walk.specs.Rests.{SameExtent, left, rest}
 use Rattle.ffs_walk.specs.Windows.{BlocksHold}

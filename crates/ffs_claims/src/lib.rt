@@ -15,11 +15,11 @@
 
 mod area;
 mod claim;
-mod pass1;
 mod offer;
+mod pass1;
+mod pass1b;
 mod report_claim;
 mod reserve;
-mod pass1b;
 mod store;
 mod words;
 

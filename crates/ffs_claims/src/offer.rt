@@ -3,7 +3,7 @@
 ghost use Rattle.std.specs.Prelude.{◌≡◌, ◌+◌, ◌<◌, ◌≤◌, OnOk, IfOk, IsTrue, true};
 ghost use Rattle.std.specs.List.{range_with_len};
 ghost use Rattle.ffs_volume.specs.Disk.Areas.{is_fragment_in_range, is_run_in_range};
-ghost use Rattle.ffs_volume.specs.Blocks.Lengths.{HasLength};
+ghost use Rattle.ffs_volume.specs.Laws.RunLengths.{HasLength};
 ghost use Rattle.ffs_volume.specs.Blocks.Claims as claims;
 ghost use Rattle.ffs_volume.specs.Blocks.Claims.{after_offer, after_offers, after_run, after_step, offer_lines, lines_of_offers, run_lines, step_lines};
 ghost use Rattle.ffs_report.specs.Progress.{progress, Says};

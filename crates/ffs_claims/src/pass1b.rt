@@ -9,7 +9,7 @@ ghost use Rattle.ffs_volume.specs.Messages.Kinds as messages;
 ghost use Rattle.ffs_volume.specs.Blocks.Owners.{owners_of};
 ghost use Rattle.ffs_volume.specs.Report.Whole.{run_count};
 ghost use Rattle.ffs_volume.specs.Blocks.Inodes.{inode_of};
-ghost use Rattle.ffs_volume.specs.Blocks.Lengths.{HasLength};
+ghost use Rattle.ffs_volume.specs.Laws.RunLengths.{HasLength};
 ghost use Rattle.ffs_volume.specs.Encodings.Replay as replays;
 ghost use Rattle.ffs_volume.specs.Encodings.ReplayCounts.{seen_run};
 ghost use Rattle.ffs_maps.specs.Bits.{bits_of};

@@ -11,7 +11,7 @@ use Rattle.ffs_volume.specs.declared.Layout.{Layout}
 use Rattle.ffs_volume.specs.Disk.Areas.{cgbase, cgstart, cgsblock, cgdmin, is_group_metadata, is_reserved}
 use Rattle.ffs_volume.proofs.AreaLaws.{in_kept, is_kept_group, group_is}
 use Rattle.ffs_volume.specs.Blocks.Claims.{is_set}
-use Rattle.ffs_volume.specs.Disk.Geometry.{IsAcceptedLayout}
+use Rattle.ffs_volume.specs.Laws.Geometry.{IsAcceptedLayout}
 use Rattle.ffs_volume.specs.Groups.Records.{group_size}
 use Rattle.ffs_maps.proofs.Counting.{count_join_at}
 use Rattle.ffs_groups.proofs.Words.{sum_const}

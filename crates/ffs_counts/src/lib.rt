@@ -12,14 +12,14 @@
 //! It rests on `ffs_groups`, `ffs_workspace` and `ffs_phase`.
 #![tactic(auto)]
 
-mod pass5;
 mod groups;
 mod once;
-mod reference;
 mod pass4;
+mod pass5;
+mod reference;
 mod summing;
 mod totals;
 
-pub use pass5::phase5;
 pub use pass4::phase4;
+pub use pass5::phase5;
 pub use summing::summary;

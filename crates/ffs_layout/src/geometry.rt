@@ -3,10 +3,10 @@
 ghost use Rattle.std.specs.Prelude.{MatchResult, ◌≡◌, ◌<◌, ◌≤◌, ◌*◌, ◌+◌};
 ghost use Rattle.ffs_volume.specs.Disk.Outcome.{layout_fault};
 ghost use Rattle.ffs_volume.specs.Disk.Areas.{cgbase, cgdmin, cgsblock, cgstart, group_place, inode_place, is_run_in_range, is_group_metadata, is_fragment_in_range, is_reserved, summary_place};
-ghost use Rattle.ffs_volume.specs.Disk.Geometry.{IsAcceptedLayout};
+ghost use Rattle.ffs_volume.specs.Laws.Geometry.{IsAcceptedLayout};
 ghost use Rattle.ffs_layout.specs.Accepted.{IsAccepted};
 
-use crate::groups::shift_of;
+use crate::groups::cgoffset_of;
 use crate::shape::fault_of;
 use ffs_volume::constants::DINODE_SIZE;
 use ffs_volume::{Layout, Order, SuperFault};
@@ -61,7 +61,7 @@ impl Geometry {
         requires { group < self.now.layout.ncg }
         ensures { result ≡ cgstart self.now.layout group }
     {
-        self.cgbase(group) + shift_of(&self.layout, group).unsigned_abs() as u32
+        self.cgbase(group) + cgoffset_of(&self.layout, group).unsigned_abs() as u32
     }
 
     /// The first fragment of the group's copy of the superblock (fs(5), `cgsblock`).

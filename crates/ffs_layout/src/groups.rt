@@ -9,7 +9,7 @@ use ffs_volume::Layout;
 
 /// By how many fragments the parts of a group are moved.
 #[tactic(auto, unfolding(ffs_volume::specs::Disk::Areas::cgoffset_of))]
-pub fn shift_of(v: &Layout, group: u32) -> i64
+pub fn cgoffset_of(v: &Layout, group: u32) -> i64
     ensures { result ≡ cgoffset_of v.now group }
 {
     i64::from(v.cgoffset) * i64::from(group & !v.cgmask)
@@ -20,12 +20,12 @@ fn group_fits(v: &Layout, group: u32) -> bool
     requires { v.now.fpg * group < 2 ^ 32 }
     ensures { result ≡ has_valid_group v.now group }
 {
-    let cgoffset_of = shift_of(v, group);
-    if cgoffset_of < 0 {
+    let offset = cgoffset_of(v, group);
+    if offset < 0 {
         return false;
     }
     let base = u64::from(v.fpg) * u64::from(group);
-    let data = base + cgoffset_of as u64 + u64::from(v.dblkno);
+    let data = base + offset as u64 + u64::from(v.dblkno);
     data <= (base + u64::from(v.fpg)).min(u64::from(v.size))
 }
 

@@ -15,9 +15,9 @@ use Rattle.ffs_walk.specs.Rests.{IsOver, extent_of, rest as steps_left, single_r
 use Rattle.ffs_walk.proofs.WalkSteps.{spent_rest}
 use Rattle.ffs_names.specs.declared.run_cursor.RunCursor.{RunCursor}
 use Rattle.ffs_names.specs.declared.chunks.Chunks.{Chunks}
-use Rattle.ffs_names.specs.RunCursors.{hand_chunks, reading_by}
+use Rattle.ffs_names.specs.RunCursors.{cursor_chunks, reading_by}
 use Rattle.ffs_names.specs.Readings.{all_chunks, chunks_after, runs_after, runs_left}
-use Rattle.ffs_names.proofs.RoledEntry.{no_run_cursor}
+use Rattle.ffs_names.proofs.SeenSteps.{no_run_cursor}
 
 -- the chunks of steps, of a layout and a replay
 abbrev pub following : Layout → List ℕ → ℕ → ℕ → Replay → List Step → List Chunk
@@ -39,9 +39,9 @@ over_rest b w o =
     joined p q r s a b c d = ap (λ x. x ++ (q ++ (r ++ s))) a ∙ (ap (λ x. x ++ (r ++ s)) b ∙ (ap (λ x. x ++ s) c ∙ d))
 
 -- a Tail or Gap gives no chunks, and is no Run
-pub tail_behind : (v : Layout) (b : List ℕ) (taken cut : ℕ) (r : Replay) (steps : List Step) →
+pub tail_after : (v : Layout) (b : List ℕ) (taken cut : ℕ) (r : Replay) (steps : List Step) →
     following v b taken cut r (Tail ∷ steps) ≡ following v b taken cut r steps
-tail_behind v b taken cut r steps = one (is_replay_open cut r)
+tail_after v b taken cut r steps = one (is_replay_open cut r)
   where
     one : (x : Bool) → chunks_of (reading_by v b taken) (is_run_in_range v)
         ((if x then Tail ∷ [] else []) ++ replayed_steps v cut r steps) ≡ following v b taken cut r steps
@@ -61,7 +61,7 @@ gap_behind v b taken cut r steps = one (is_replay_open cut r)
 pub none_seen : (v : Layout) (b : List ℕ) (taken cut : ℕ) (r : Replay) (steps : List Step) →
     is_replay_open cut r ≡ false → following v b taken cut r steps ≡ []
 none_seen v b taken cut r [] h = refl
-none_seen v b taken cut r (Tail ∷ steps) h = tail_behind v b taken cut r steps ∙ none_seen v b taken cut r steps h
+none_seen v b taken cut r (Tail ∷ steps) h = tail_after v b taken cut r steps ∙ none_seen v b taken cut r steps h
 none_seen v b taken cut r (Gap ∷ steps) h = gap_behind v b taken cut r steps ∙ none_seen v b taken cut r steps h
 none_seen v b taken cut r (Run start len block ∷ steps) h = rw h (none_seen v b taken cut r steps h)
 
@@ -69,48 +69,48 @@ none_seen v b taken cut r (Run start len block ∷ steps) h = rw h (none_seen v 
 pub still_on : (v v' : Layout) (b : List ℕ) (h : RunCursor) (taken cut : ℕ) (r : Replay) (step : Step)
     (old new : List Step) → v' ≡ v → old ≡ step ∷ new
     → following v b taken cut r (step ∷ new) ≡ following v b taken cut r new
-    → hand_chunks v' b h ++ following v' b taken cut r new ≡ hand_chunks v b h ++ following v b taken cut r old
+    → cursor_chunks v' b h ++ following v' b taken cut r new ≡ cursor_chunks v b h ++ following v b taken cut r old
 still_on v v' b h taken cut r step old new e o s =
-    ap (λ x. hand_chunks x b h ++ following x b taken cut r new) e
-    ∙ ap (λ x. hand_chunks v b h ++ x) (sym s ∙ ap (following v b taken cut r) (sym o))
+    ap (λ x. cursor_chunks x b h ++ following x b taken cut r new) e
+    ∙ ap (λ x. cursor_chunks v b h ++ x) (sym s ∙ ap (following v b taken cut r) (sym o))
 
 pub tail_on : (v v' : Layout) (b : List ℕ) (h : RunCursor) (taken cut : ℕ) (r : Replay) (old new : List Step) → v' ≡ v →
     old ≡ Tail ∷ new
-    → hand_chunks v' b h ++ following v' b taken cut r new ≡ hand_chunks v b h ++ following v b taken cut r old
+    → cursor_chunks v' b h ++ following v' b taken cut r new ≡ cursor_chunks v b h ++ following v b taken cut r old
 tail_on v v' b h taken cut r old new e o =
-    still_on v v' b h taken cut r Tail old new e o (tail_behind v b taken cut r new)
+    still_on v v' b h taken cut r Tail old new e o (tail_after v b taken cut r new)
 
 -- over Gaps, a first one and more
-gaps_behind : (v : Layout) (b : List ℕ) (taken cut : ℕ) (r : Replay) (n : ℕ) (steps : List Step) →
+gaps_after : (v : Layout) (b : List ℕ) (taken cut : ℕ) (r : Replay) (n : ℕ) (steps : List Step) →
     following v b taken cut r (replicate n Gap ++ steps) ≡ following v b taken cut r steps
-gaps_behind v b taken cut r zero steps = refl
-gaps_behind v b taken cut r (suc n) steps =
-    gap_behind v b taken cut r (replicate n Gap ++ steps) ∙ gaps_behind v b taken cut r n steps
+gaps_after v b taken cut r zero steps = refl
+gaps_after v b taken cut r (suc n) steps =
+    gap_behind v b taken cut r (replicate n Gap ++ steps) ∙ gaps_after v b taken cut r n steps
 
 pub gaps_on : (v v' : Layout) (b : List ℕ) (h : RunCursor) (taken cut : ℕ) (r : Replay) (n : ℕ) (old new : List Step)
     → v' ≡ v → old ≡ Gap ∷ (replicate n Gap ++ new)
-    → hand_chunks v' b h ++ following v' b taken cut r new ≡ hand_chunks v b h ++ following v b taken cut r old
+    → cursor_chunks v' b h ++ following v' b taken cut r new ≡ cursor_chunks v b h ++ following v b taken cut r old
 gaps_on v v' b h taken cut r n old new e o =
-    ap (λ x. hand_chunks x b h ++ following x b taken cut r new) e
-    ∙ ap (λ x. hand_chunks v b h ++ x)
-    (sym (gaps_behind v b taken cut r (suc n) new) ∙ ap (following v b taken cut r) (sym o))
+    ap (λ x. cursor_chunks x b h ++ following x b taken cut r new) e
+    ∙ ap (λ x. cursor_chunks v b h ++ x)
+    (sym (gaps_after v b taken cut r (suc n) new) ∙ ap (following v b taken cut r) (sym o))
 
 -- where the steps are the same
 pub steps_on : (v v' : Layout) (b : List ℕ) (h : RunCursor) (taken cut : ℕ) (r : Replay) (old new : List Step)
     → v' ≡ v → old ≡ new
-    → hand_chunks v' b h ++ following v' b taken cut r new ≡ hand_chunks v b h ++ following v b taken cut r old
+    → cursor_chunks v' b h ++ following v' b taken cut r new ≡ cursor_chunks v b h ++ following v b taken cut r old
 steps_on v v' b h taken cut r old new e o =
-    ap (λ x. hand_chunks x b h ++ following x b taken cut r new) e ∙ ap
-    (λ x. hand_chunks v b h ++ following v b taken cut r x) (sym o)
+    ap (λ x. cursor_chunks x b h ++ following x b taken cut r new) e ∙ ap
+    (λ x. cursor_chunks v b h ++ following v b taken cut r x) (sym o)
 
 pub end_none : (v : Layout) (b : List ℕ) (h : RunCursor) (taken cut : ℕ) (r : Replay) (new : List Step) →
-    h.next ≡ h.count → new ≡ [] → hand_chunks v b h ++ following v b taken cut r new ≡ []
+    h.next ≡ h.count → new ≡ [] → cursor_chunks v b h ++ following v b taken cut r new ≡ []
 end_none v b h taken cut r new e n = ap (λ x. x ++ following v b taken cut r new) (no_run_cursor v b h e)
     ∙ ap (following v b taken cut r) n
 
 pub unseen_none : (v : Layout) (b : List ℕ) (h : RunCursor) (taken cut : ℕ) (r : Replay) (steps : List Step) →
     h.next ≡ h.count → is_replay_open cut r ≡ false
-    → hand_chunks v b h ++ following v b taken cut r steps ≡ []
+    → cursor_chunks v b h ++ following v b taken cut r steps ≡ []
 unseen_none v b h taken cut r steps e n = ap (λ x. x ++ following v b taken cut r steps) (no_run_cursor v b h e)
     ∙ none_seen v b taken cut r steps n
 
@@ -120,8 +120,8 @@ runs_on v v' cut r old steps e o = ap (λ x. replayed_runs x cut r steps) e ∙ 
 
 -- the state after a Run, with the steps that its walk has left
 pub walked : (b : List ℕ) (c : Chunks) (w : Walk) → c.walk ≡ w →
-    all_chunks b c ≡ hand_chunks c.walk.geometry.layout b c.run_cursor ++ chunks_after b c (steps_left b w)
-walked b c w e = ap (λ x. hand_chunks c.walk.geometry.layout b c.run_cursor ++ chunks_after b c (steps_left b x)) e
+    all_chunks b c ≡ cursor_chunks c.walk.geometry.layout b c.run_cursor ++ chunks_after b c (steps_left b w)
+walked b c w e = ap (λ x. cursor_chunks c.walk.geometry.layout b c.run_cursor ++ chunks_after b c (steps_left b x)) e
 
 pub walked_runs : (b : List ℕ) (c : Chunks) (w : Walk) → c.walk ≡ w → runs_left b c ≡ runs_after c (steps_left b w)
 walked_runs b c w e = ap (λ x. runs_after c (steps_left b x)) e

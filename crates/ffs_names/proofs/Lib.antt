@@ -1,5 +1,5 @@
 pub mod RunChunks
-pub mod RoledEntry
+pub mod SeenSteps
 pub mod Advances
 pub mod Pieces
 pub mod Begins

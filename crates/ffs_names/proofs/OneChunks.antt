@@ -10,7 +10,7 @@ use Rattle.ffs_volume.specs.declared.Inode.{Inode}
 use Rattle.ffs_volume.specs.declared.Class.{Class}
 use Rattle.ffs_volume.specs.declared.Class.TheVariants.{Unknown, Dir}
 use Rattle.ffs_volume.specs.declared.Step.{Step}
-use Rattle.ffs_volume.specs.Disk.Geometry.{IsAcceptedLayout}
+use Rattle.ffs_volume.specs.Laws.Geometry.{IsAcceptedLayout}
 use Rattle.ffs_volume.specs.Blocks.Inodes.{class_of, type_of, any_nonzero}
 use Rattle.ffs_volume.specs.Blocks.Inodes.{addresses_needed, logical_blocks_of, is_short_symlink, is_device, is_file_or_dir}
 use Rattle.ffs_volume.specs.Blocks.Steps.{steps_of, steps_at, steps_of_addresses, data_step, is_walked, last_length_of}

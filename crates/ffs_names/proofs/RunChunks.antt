@@ -6,7 +6,7 @@ use Rattle.std.proofs.Math.Nat.{mul-le-mul_right, mul-le-mul_left, mul_comm, mul
 use Rattle.std.proofs.lemmas.Bool.Decides.{nat_tests}
 use Rattle.ffs_volume.specs.declared.Layout.{Layout}
 use Rattle.ffs_volume.specs.Disk.Areas.{is_run_in_range}
-use Rattle.ffs_volume.specs.Disk.Geometry.{IsAcceptedLayout}
+use Rattle.ffs_volume.specs.Laws.Geometry.{IsAcceptedLayout}
 use Rattle.ffs_volume.specs.Disk.Numbers.{piece}
 use Rattle.ffs_volume.specs.Disk.Outcome.{has_valid_sizes, is_fragment_size, is_valid_layout}
 use Rattle.ffs_volume.specs.Directories.Entries.{ChunkSource, chunk_of, run_chunks}
@@ -20,15 +20,15 @@ no_chunks r start len offset h =
     ap (λ n. map (λ k. chunk_of r.order (offset + 512 * k) (piece (start * r.fsize + 512 * k) 512 r.image))
     (range_with_len 0 n)) n
 
-far_behind : (block bsize taken : ℕ) → 2147483648 ≤ block → 1 ≤ bsize → taken ≤ 2147483648 → taken ≤ block * bsize
-far_behind block bsize taken b s t =
+far_after : (block bsize taken : ℕ) → 2147483648 ≤ block → 1 ≤ bsize → taken ≤ 2147483648 → taken ≤ block * bsize
+far_after block bsize taken b s t =
     let p : block * 1 ≤ block * bsize = mul-le-mul_left block s in
     omega arith
 
 pub none_far : (v : Layout) (r : ChunkSource) (start len block : ℕ) → IsAcceptedLayout v → 2147483648 ≤ block →
     r.taken ≤ 2147483648 → run_chunks r start len (block * v.bsize) ≡ []
 none_far v r start len block g b t =
-    no_chunks r start len (block * v.bsize) (far_behind block v.bsize r.taken b (omega (arith, g.sizes.bsize_low)) t)
+    no_chunks r start len (block * v.bsize) (far_after block v.bsize r.taken b (omega (arith, g.sizes.bsize_low)) t)
 
 -- a Run in range lies in the volume, and has a block's bytes at most
 pub run_in_volume : (v : Layout) (start len : ℕ) → IsAcceptedLayout v → 0 < len → IsTrue (is_run_in_range v start len) →

@@ -6,7 +6,7 @@ use Rattle.ffs_volume.specs.Disk.Areas.{is_run_in_range}
 use Rattle.ffs_names.specs.declared.run_cursor.RunCursor.{RunCursor}
 
 -- the chunks of the current Run have a block's bytes at most, lie in the volume, and are chunks of the image
-pub record HandFits (v : Layout) (h : RunCursor) : Type 0 where
+pub record CursorFits (v : Layout) (h : RunCursor) : Type 0 where
   pub in_block : h.length ≤ v.bsize
   pub in_volume : h.place + h.length ≤ v.size * v.fsize
   pub aligned : h.place % DIRBLKSIZ ≡ 0

@@ -14,12 +14,12 @@ use Rattle.ffs_walk.specs.Rests.{rest as steps_left}
 use Rattle.ffs_image.specs.Device.{Device}
 use Rattle.ffs_image.specs.Reads.{ReadAfter}
 use Rattle.ffs_image.specs.declared.image.ImageFault.{ImageFault}
-use Rattle.ffs_volume.specs.Blocks.Lengths.{HasLength}
+use Rattle.ffs_volume.specs.Laws.RunLengths.{HasLength}
 use Rattle.ffs_walk.specs.declared.blocks.Blocks.{Blocks}
 use Rattle.ffs_walk.specs.declared.window.Window.{Window}
 use Rattle.ffs_names.specs.Windows.{CanWalkDir, CanReadChunks}
 use Rattle.ffs_walk.specs.Keepings.{replay_in}
-use Rattle.ffs_names.specs.RunCursors.{hand_chunks, reading_by}
+use Rattle.ffs_names.specs.RunCursors.{cursor_chunks, reading_by}
 use Rattle.ffs_names.specs.declared.chunks.Chunks.{Chunks}
 
 -- the chunks of steps to come
@@ -30,7 +30,7 @@ chunks_after b c steps =
 
 -- the chunks of the current Run, and of the steps to come
 abbrev pub all_chunks : List ℕ → Chunks → List Chunk
-all_chunks b c = hand_chunks c.walk.geometry.layout b c.run_cursor ++ chunks_after b c (steps_left b c.walk)
+all_chunks b c = cursor_chunks c.walk.geometry.layout b c.run_cursor ++ chunks_after b c (steps_left b c.walk)
 
 -- the chunks that a reading has still to give, of an image of these bytes
 abbrev pub rest : List ℕ → Chunks → List Chunk
@@ -92,8 +92,8 @@ pub record LeavesReading {T : Type 0} (old new : Chunks) (device device' : Devic
 
 -- a reading of an image of these bytes with these steps to come continues as one that has these
 pub record Continues (b : List ℕ) (old : Chunks) (before : List Step) (new : Chunks) (after : List Step) : Type 0 where
-  pub chunks : hand_chunks new.walk.geometry.layout b new.run_cursor ++ chunks_after b new after
-      ≡ hand_chunks old.walk.geometry.layout b old.run_cursor ++ chunks_after b old before
+  pub chunks : cursor_chunks new.walk.geometry.layout b new.run_cursor ++ chunks_after b new after
+      ≡ cursor_chunks old.walk.geometry.layout b old.run_cursor ++ chunks_after b old before
   pub runs : CountsOn (old.runs + runs_after old before) (new.runs + runs_after new after)
   pub gap : (new.gap || gap_after new after) ≡ (old.gap || gap_after old before)
 

@@ -7,8 +7,8 @@ use Rattle.ffs_volume.specs.Directories.Entries.{Chunk, ChunkSource, chunk_of}
 use Rattle.ffs_names.specs.declared.run_cursor.RunCursor.{RunCursor}
 
 -- the chunks of the current Run, in an image of these bytes
-abbrev pub hand_chunks : Layout → List ℕ → RunCursor → List Chunk
-hand_chunks v b h = map (λ k. chunk_of v.order (h.offset + 512 * k) (piece (h.place + 512 * k) 512 b))
+abbrev pub cursor_chunks : Layout → List ℕ → RunCursor → List Chunk
+cursor_chunks v b h = map (λ k. chunk_of v.order (h.offset + 512 * k) (piece (h.place + 512 * k) 512 b))
     (range_with_len h.next (h.count - h.next))
 
 -- a directory of which this many bytes are read

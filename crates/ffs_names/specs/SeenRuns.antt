@@ -1,7 +1,7 @@
 -- The Runs that a reading of a directory may look at are those that the block check sees in it.
 use Rattle.std.specs.Prelude.{◌≡◌, ℕ, ◌+◌, true, List}
 use Rattle.ffs_volume.specs.declared.Layout.{Layout}
-use Rattle.ffs_volume.specs.Disk.Geometry.{IsAcceptedLayout}
+use Rattle.ffs_volume.specs.Laws.Geometry.{IsAcceptedLayout}
 use Rattle.ffs_volume.specs.Blocks.Inodes.{inode_of}
 use Rattle.ffs_volume.specs.Blocks.Steps.{steps_of}
 use Rattle.ffs_volume.specs.Blocks.Owners.{owner_of}

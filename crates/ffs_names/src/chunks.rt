@@ -7,7 +7,7 @@ ghost use Rattle.ffs_volume.specs.Disk.Numbers.{piece};
 ghost use Rattle.ffs_volume.specs.Directories.Entries.{bytes_read};
 ghost use Rattle.ffs_volume.specs.declared.Step.{Step as StepIn};
 ghost use Rattle.ffs_volume.specs.declared.Step.TheVariants.{Run};
-ghost use Rattle.ffs_names.specs.Fits.{HandFits};
+ghost use Rattle.ffs_names.specs.Fits.{CursorFits};
 ghost use Rattle.ffs_names.specs.SeenRuns.{RunsAreSeen};
 ghost use Rattle.ffs_names.specs.Windows.{CanWalkDir, CanReadChunks};
 
@@ -39,7 +39,7 @@ pub struct Chunks {
     pub gap: bool,
     ghost taken_small: { taken ≤ 2 ^ 31 },
     ghost few: { budget ≤ 2 ^ 22 },
-    ghost hand_fits: { HandFits walk.geometry.layout run_cursor },
+    ghost cursor_fits: { CursorFits walk.geometry.layout run_cursor },
 }
 
 impl Chunks {

@@ -26,14 +26,14 @@ pub struct RunCursor {
 
 impl RunCursor {
     ghost use Rattle.ffs_volume.specs.declared.Layout.{Layout};
-    ghost use Rattle.ffs_names.specs.RunCursors.{hand_chunks, reading_by};
-    ghost use Rattle.ffs_names.specs.Fits.{HandFits, IsBlockRun};
+    ghost use Rattle.ffs_names.specs.RunCursors.{cursor_chunks, reading_by};
+    ghost use Rattle.ffs_names.specs.Fits.{CursorFits, IsBlockRun};
 
     /// No chunks.
     pub fn empty() -> RunCursor
-        ensures none { (layout : Layout) (b : List ℕ) → hand_chunks layout b result ≡ [] }
+        ensures none { (layout : Layout) (b : List ℕ) → cursor_chunks layout b result ≡ [] }
         ensures next { result.next ≡ result.count }
-        ensures fits { (layout : Layout) → HandFits layout result }
+        ensures fits { (layout : Layout) → CursorFits layout result }
     {
         RunCursor {
             place: 0,
@@ -49,10 +49,10 @@ impl RunCursor {
     pub fn of_run(geometry: &Geometry, taken: u64, start: u32, len: u32, block: u64) -> RunCursor
         requires run { IsBlockRun geometry.now.layout start len }
         requires taken { taken ≤ 2 ^ 31 }
-        ensures chunks { (b : List ℕ) → hand_chunks geometry.now.layout b result
+        ensures chunks { (b : List ℕ) → cursor_chunks geometry.now.layout b result
             ≡ run_chunks (reading_by geometry.now.layout b taken) start len
             (block * geometry.now.layout.bsize) }
-        ensures fits { HandFits geometry.now.layout result }
+        ensures fits { CursorFits geometry.now.layout result }
     {
         if block >= 1 << 31 {
             return RunCursor::empty();

@@ -6,7 +6,7 @@ use Rattle.std.specs.List.{list_any}
 use Rattle.ffs_volume.specs.declared.Layout.{Layout}
 use Rattle.ffs_volume.specs.declared.Class.{Class}
 use Rattle.ffs_volume.specs.declared.Class.TheVariants.{Free, Partial, Unknown, File, Dir}
-use Rattle.ffs_volume.specs.Disk.Geometry.{IsAcceptedLayout}
+use Rattle.ffs_volume.specs.Laws.Geometry.{IsAcceptedLayout}
 use Rattle.ffs_volume.specs.Directories.Graph.{is_naming_entry, is_naming_dir}
 use Rattle.ffs_volume.specs.Messages.Kinds.{TreeMessage, of_tree, lines_below, reported, root_none, root_not_dir}
 use Rattle.ffs_volume.specs.Messages.Kinds.{root_suspect, lines_from}
@@ -118,7 +118,7 @@ pub before_first : (v : Layout) (contents : Option (List ℕ)) (b : List ℕ) (o
     HoldsClaims v b old → HoldsSurvey v b old → IsFor v w → AreClear old w →
     ((x : ℕ) → bool_at old.flags.items x ≡ true → IsSilent (volume_of v b) x) → IsBefore v contents w 2 b
 before_first v contents b old w t h s m c silent = record {
-  reported_is = t;
+  gives_bytes = t;
   claims = claims_left v b old w c.survey h;
   survey = survey_left v b old w c.survey s;
   marks = clear_right v b old w h m c silent;
@@ -132,7 +132,7 @@ kind_known v b w d looked h e = ap (λ k. k == 4) (sym (h.kinds d)) ∙ e
 pub directory_context : (v : Layout) (contents : Option (List ℕ)) (w : Workspace) (d : ℕ) (b : List ℕ) →
     (slice_index w.kinds.items d == 4) ≡ true → IsBefore v contents w d b → DirectoryContext v contents w d b
 directory_context v contents w d b e k = record {
-  reported_is = k.reported_is;
+  gives_bytes = k.gives_bytes;
   claims = k.claims;
   survey = k.survey;
   dir = looked_dir v b d (kind_known v b w d true k.claims e);
@@ -156,7 +156,7 @@ pub before_next : (v : Layout) (contents : Option (List ℕ)) (old new : Workspa
     LeavesSurvey old new → AreRightBefore (volume_of v b) (suc d) (marks_of new) →
     IsBefore v contents old d b → IsBefore v contents new (suc d) b
 before_next v contents old new d b s r k = record {
-  reported_is = k.reported_is;
+  gives_bytes = k.gives_bytes;
   claims = claims_left v b old new s k.claims;
   survey = survey_left v b old new s k.survey;
   marks = r;
@@ -166,7 +166,7 @@ pub before_other : (v : Layout) (contents : Option (List ℕ)) (w : Workspace) (
     (slice_index w.kinds.items d == 4) ≡ false → IsBefore v contents w d b →
     IsBefore v contents w (suc d) b
 before_other v contents w d b g e k = record {
-  reported_is = k.reported_is;
+  gives_bytes = k.gives_bytes;
   claims = k.claims;
   survey = k.survey;
   marks = other_next (volume_of v b) d (marks_of w)
@@ -211,7 +211,7 @@ pub before_skipped : (v : Layout) (contents : Option (List ℕ)) (w : Workspace)
     → is_looked_at w d ≡ false → IsBefore v contents w d b → IsBefore v contents w (suc d) b
 before_skipped v contents w d b g h k = elim (cases_Bool (slice_index w.kinds.items d == 4)) [
   | inl e ↦ record {
-    reported_is = k.reported_is;
+    gives_bytes = k.gives_bytes;
     claims = k.claims;
     survey = k.survey;
     marks = silent_next (volume_of v b) d (marks_of w) (calm_shown v contents w d b h e k) k.marks;
@@ -223,7 +223,7 @@ before_skipped v contents w d b g h k = elim (cases_Bool (slice_index w.kinds.it
 pub before_reported : (v : Layout) (contents contents' : Option (List ℕ)) (w : Workspace) (d : ℕ) (b : List ℕ) →
     contents' ≡ contents → IsBefore v contents w d b → IsBefore v contents' w d b
 before_reported v contents contents' w d b e k =
-    record { reported_is = e ∙ k.reported_is; claims = k.claims; survey = k.survey; marks = k.marks }
+    record { gives_bytes = e ∙ k.gives_bytes; claims = k.claims; survey = k.survey; marks = k.marks }
 
 -- what is reported of the root
 root_by : (v : Volume) (c : Class) (k : ℕ) (m : Bool) → is_directory c ≡ is_dir_kind k →

@@ -3,7 +3,7 @@ use Rattle.std.proofs.Common.{◌≡◌, ap, ◌∙◌, ℕ, true, List}
 use Rattle.std.specs.List.{flat_map}
 use Rattle.ffs_volume.specs.declared.Layout.{Layout}
 use Rattle.ffs_volume.specs.declared.Inode.{Inode}
-use Rattle.ffs_volume.specs.Disk.Geometry.{IsAcceptedLayout}
+use Rattle.ffs_volume.specs.Laws.Geometry.{IsAcceptedLayout}
 use Rattle.ffs_volume.specs.Disk.Areas.{is_run_in_range}
 use Rattle.ffs_volume.specs.Blocks.Inodes.{inode_of}
 use Rattle.ffs_volume.specs.Blocks.Steps.{steps_of}

@@ -8,7 +8,7 @@ use Rattle.ffs_volume.specs.declared.Order.{Order}
 use Rattle.ffs_volume.specs.declared.Layout.{Layout}
 use Rattle.ffs_volume.specs.declared.Inode.{Inode}
 use Rattle.ffs_volume.specs.Disk.Areas.{is_run_in_range}
-use Rattle.ffs_volume.specs.Disk.Geometry.{IsAcceptedLayout}
+use Rattle.ffs_volume.specs.Laws.Geometry.{IsAcceptedLayout}
 use Rattle.ffs_volume.specs.Blocks.Inodes.{inode_of}
 use Rattle.ffs_volume.specs.Blocks.Steps.{steps_of}
 use Rattle.ffs_volume.specs.Directories.Entries.{Chunk, entry_at, chunks_of}
@@ -94,7 +94,7 @@ pub knows_on : (v : Layout) (contents contents' : Option (List ℕ)) (old new : 
     contents' ≡ contents → LeavesSurvey old new → DirectoryContext v contents old d b →
     DirectoryContext v contents' new d b
 knows_on v contents contents' old new d b e s k = record {
-  reported_is = e ∙ k.reported_is;
+  gives_bytes = e ∙ k.gives_bytes;
   claims = claims_left v b old new s k.claims;
   survey = survey_left v b old new s k.survey;
   dir = k.dir;

@@ -3,7 +3,7 @@ use Rattle.std.proofs.Common.{◌≡◌, ◌<◌, ◌≤◌, ◌-◌, ◌+◌, r
 use Rattle.std.proofs.Common.{Option, arith}
 use Rattle.std.specs.Prelude.{slice_index, not, ◌&&◌, length}
 use Rattle.ffs_volume.specs.declared.Layout.{Layout}
-use Rattle.ffs_volume.specs.Disk.Geometry.{IsAcceptedLayout}
+use Rattle.ffs_volume.specs.Laws.Geometry.{IsAcceptedLayout}
 use Rattle.ffs_volume.specs.Directories.PathnameCheck.{directory_lines}
 use Rattle.ffs_volume.specs.Directories.Roles.{is_suspect}
 use Rattle.ffs_volume.specs.Directories.Volumes.{volume_of, volume_with}
@@ -60,7 +60,7 @@ pub noted_before : (v : Layout) (contents contents' : Option (List ℕ)) (old ne
     IsBefore v contents old n b → IsBefore v contents' new n b
 unfolding volume_of volume_with
 noted_before v contents contents' old new n b two same lists made survey none k = record {
-  reported_is = same ∙ k.reported_is;
+  gives_bytes = same ∙ k.gives_bytes;
   claims = record {
     used = ap (λ (w : Workspace). bits_of w.claimed) lists ∙ k.claims.used;
     kinds = λ x. ap (λ (w : Workspace). slice_index w.kinds.items x) lists ∙ k.claims.kinds x;

@@ -22,7 +22,7 @@ pub record AreClear (old new : Workspace) : Type 0 where
 -- the image gives the bytes, the workspace holds what the block check and the survey leave, and its marks are right
 -- before d
 pub record IsBefore (v : Layout) (contents : Option (List ℕ)) (w : Workspace) (d : ℕ) (b : List ℕ) : Type 0 where
-  pub reported_is : contents ≡ Some b
+  pub gives_bytes : contents ≡ Some b
   pub claims : HoldsClaims v b w
   pub survey : HoldsSurvey v b w
   pub marks : AreRightBefore (volume_of v b) d (marks_of w)

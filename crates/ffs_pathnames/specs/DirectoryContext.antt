@@ -12,7 +12,7 @@ use Rattle.ffs_paths.specs.DirectoryPaths.{IsPathOf}
 -- the image gives them, the workspace holds what the block check and the survey leave, and d is a directory
 pub record DirectoryContext (v : Layout) (contents : Option (List ℕ)) (w : Workspace) (d : ℕ) (b : List ℕ) :
     Type 0 where
-  pub reported_is : contents ≡ Some b
+  pub gives_bytes : contents ≡ Some b
   pub claims : HoldsClaims v b w
   pub survey : HoldsSurvey v b w
   pub dir : is_dir (volume_of v b) d ≡ true

@@ -10,7 +10,7 @@ use Rattle.ffs_volume.specs.Disk.Areas.{cgoffset_of}
 use Rattle.ffs_volume.specs.Disk.Outcome.{is_block_size, is_fragment_size, is_fragment_count, has_valid_sizes}
 use Rattle.ffs_volume.specs.Disk.Outcome.{has_valid_numbers, has_valid_parts, has_valid_cylinders, has_valid_group}
 use Rattle.ffs_volume.specs.Disk.Outcome.{has_valid_summary_area, is_valid_layout, layout_fault}
-use Rattle.ffs_volume.specs.Disk.Geometry.{HasSizes, HasNumbers, HasParts, HasGroup, HasSummaryArea, IsAcceptedLayout}
+use Rattle.ffs_volume.specs.Laws.Geometry.{HasSizes, HasNumbers, HasParts, HasGroup, HasSummaryArea, IsAcceptedLayout}
 
 -- no fault, so neither this one nor a later one
 pub no_fault : {X : Type 0} (b : Bool) (x : X) (rest : Option X) → cond (not b) (Some x) rest ≡ None → (b ≡ true)

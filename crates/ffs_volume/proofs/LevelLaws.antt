@@ -8,7 +8,7 @@ use Rattle.ffs_volume.proofs.SearchLaws.{is_some-value, some_below-gives, some_b
 use Rattle.ffs_volume.proofs.SearchLaws.{first_below-some}
 use Rattle.ffs_volume.proofs.Pigeon.{pigeon}
 use Rattle.ffs_volume.specs.Directories.Graph.{Graph, within, level, edge, reached}
-use Rattle.ffs_volume.specs.Directories.Levels.{IsLevel}
+use Rattle.ffs_volume.specs.Laws.Levels.{IsLevel}
 
 pub within-suc : (v : Graph) (k d : ℕ) →
     within v (suc k) d ≡ (within v k d || some_below (λ s. within v k s && edge v s d) v.count)

@@ -9,7 +9,7 @@ use Rattle.ffs_volume.specs.declared.Layout.{Layout}
 use Rattle.ffs_volume.specs.Disk.Numbers.{all_below}
 use Rattle.ffs_volume.specs.Disk.Areas.{cgbase, cgsblock, cgdmin, is_group_metadata, is_fragment_in_range}
 use Rattle.ffs_volume.specs.Disk.Areas.{is_run_in_range}
-use Rattle.ffs_volume.specs.Disk.Geometry.{IsAcceptedLayout}
+use Rattle.ffs_volume.specs.Laws.Geometry.{IsAcceptedLayout}
 use Rattle.ffs_volume.proofs.GeometryLaws.{all_below-at}
 use Rattle.ffs_volume.proofs.AreaLaws.{in_kept, is_kept_group, group_below, group_is}
 

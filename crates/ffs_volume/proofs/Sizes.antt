@@ -6,7 +6,7 @@ use Rattle.std.proofs.Math.Nat.{mod-eq_of_lt, zero-div, zero-mod, mul-le-mul_rig
 use Rattle.std.proofs.lemmas.Bool.{cases_lt}
 use Rattle.ffs_volume.specs.declared.Layout.{Layout}
 use Rattle.ffs_volume.specs.declared.Inode.{Inode}
-use Rattle.ffs_volume.specs.Disk.Geometry.{IsAcceptedLayout}
+use Rattle.ffs_volume.specs.Laws.Geometry.{IsAcceptedLayout}
 use Rattle.ffs_volume.specs.Blocks.Inodes.{logical_blocks_of, addresses_needed}
 use Rattle.ffs_volume.specs.Blocks.Steps.{steps_of, steps_of_addresses, is_walked, last_length_of}
 

@@ -15,9 +15,9 @@ use Rattle.ffs_volume.specs.declared.Step.{Step}
 use Rattle.ffs_volume.specs.declared.Step.TheVariants.{Run, Tail, Gap}
 use Rattle.ffs_volume.specs.declared.Inode.{Inode}
 use Rattle.ffs_volume.specs.Disk.Areas.{is_run_in_range}
-use Rattle.ffs_volume.specs.Disk.Geometry.{IsAcceptedLayout}
+use Rattle.ffs_volume.specs.Laws.Geometry.{IsAcceptedLayout}
 use Rattle.ffs_volume.specs.Blocks.Inodes.{logical_blocks_of, addresses_needed}
-use Rattle.ffs_volume.specs.Blocks.Lengths.{HasLength}
+use Rattle.ffs_volume.specs.Laws.RunLengths.{HasLength}
 use Rattle.ffs_volume.specs.Blocks.Steps.{FileBlocks, block_bytes, address_at, indirect_addresses_needed, tail_of}
 use Rattle.ffs_volume.specs.Blocks.Steps.{any_nonzero_from, steps_under, data_length, span_of, data_step}
 use Rattle.ffs_volume.specs.Blocks.Steps.{indirect_steps, steps_at, indirection_of, first_block, steps_of_addresses}

@@ -1,10 +1,8 @@
 -- Blocks: inodes, the steps over their addresses, which fragments they get, and the lines of phases 1 and 1b.
 pub mod Inodes
 pub mod Steps
-pub mod Lengths
 pub mod Owners
 pub mod Claims
 pub mod BlockCheck
 pub mod Keeping
 pub mod KeptSteps
-pub mod ClaimBounds

@@ -6,7 +6,6 @@ pub mod Entries
 pub mod Roles
 pub mod Climb
 pub mod Graph
-pub mod Levels
 pub mod Parents
 pub mod Paths
 pub mod PathnameCheck

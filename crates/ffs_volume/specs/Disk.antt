@@ -4,4 +4,3 @@ pub mod Search
 pub mod Superblock
 pub mod Areas
 pub mod Outcome
-pub mod Geometry

@@ -10,7 +10,7 @@ use Rattle.ffs_walk.specs.Frames.{frame_rest, frame_left, item_left}
 use Rattle.ffs_volume.specs.Blocks.Steps.{address_in}
 use Rattle.ffs_volume.specs.Blocks.Steps.{tail_of, any_nonzero_from, steps_under, address_at}
 use Rattle.ffs_walk.specs.declared.frame.Item.{Item}
-use Rattle.ffs_walk.specs.declared.frame.Item.TheVariants.{Missing, Word}
+use Rattle.ffs_walk.specs.declared.frame.Item.TheVariants.{UnusedWord, Word}
 use Rattle.ffs_walk.specs.Fits.{FrameFits, IsBelow, IsSpent}
 use Rattle.ffs_walk.specs.Frames.{IsFrom, IsSameBlock}
 use Rattle.ffs_volume.specs.Blocks.Steps.{indirect_addresses_needed}
@@ -69,7 +69,7 @@ word_below words blocks first span used j some fits h =
 
 pub item_below : (g : Layout) (blocks span : ℕ) (f : Frame) (item : Item) → 0 < span → FrameFits g blocks span f →
     IsFrom f span item → IsBelow blocks item
-item_below g blocks span f Missing some fits from = tt
+item_below g blocks span f UnusedWord some fits from = tt
 item_below g blocks span f (Word address block) some fits from =
     let e : block ≡ f.first + f.next * span = from.1 in
     let below : f.first + f.next * span < blocks = word_below g.nindir blocks f.first span f.used f.next some fits.words
@@ -92,7 +92,7 @@ entered_left most used words h =
 
 -- an item of the lowest level is one step
 pub item_one : (item : Item) → item_left 1 item ≡ 1
-item_one Missing = refl
+item_one UnusedWord = refl
 item_one (Word address block) = refl
 
 pub falls_by : (i s' s r : ℕ) → i + s' ≤ s → i ≡ 1 → s' + r < s + r

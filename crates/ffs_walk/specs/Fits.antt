@@ -5,7 +5,7 @@ use Rattle.ffs_volume.specs.Disk.Areas.{is_run_in_range}
 use Rattle.ffs_volume.specs.Blocks.Steps.{indirect_addresses_needed}
 use Rattle.ffs_walk.specs.declared.frame.Frame.{Frame}
 use Rattle.ffs_walk.specs.declared.frame.Item.{Item}
-use Rattle.ffs_walk.specs.declared.frame.Item.TheVariants.{Missing, Word}
+use Rattle.ffs_walk.specs.declared.frame.Item.TheVariants.{UnusedWord, Word}
 
 -- the frame is in a block in range, counts only words that are used, and has no direct block under it
 pub record FrameFits (g : Layout) (blocks span : ℕ) (f : Frame) : Type 0 where
@@ -23,7 +23,7 @@ IsIndirect blocks block = (12 ≤ block) × (block < blocks)
 
 -- the item's logical block is one of the inode, and isn't direct
 abbrev pub IsBelow : ℕ → Item → Type 0
-IsBelow blocks Missing = Unit {0}
+IsBelow blocks UnusedWord = Unit {0}
 IsBelow blocks (Word address block) = IsIndirect blocks block
 
 -- the frame has an item left, of a block in range, and its logical block is a number

@@ -7,7 +7,7 @@ use Rattle.ffs_volume.specs.declared.Step.TheVariants.{Tail}
 use Rattle.ffs_volume.specs.Blocks.Steps.{block_bytes, tail_of, any_nonzero_from, steps_under}
 use Rattle.ffs_walk.specs.declared.frame.Frame.{Frame}
 use Rattle.ffs_walk.specs.declared.frame.Item.{Item}
-use Rattle.ffs_walk.specs.declared.frame.Item.TheVariants.{Missing, Word}
+use Rattle.ffs_walk.specs.declared.frame.Item.TheVariants.{UnusedWord, Word}
 
 -- the steps that a frame has left, where `child` has the steps at an address
 abbrev pub frame_rest : Layout → List ℕ → (ℕ → ℕ → List Step) → ℕ → Frame → List Step
@@ -17,7 +17,7 @@ frame_rest g bytes child span f =
 
 -- the steps that an item of a frame means
 abbrev pub item_steps : (ℕ → ℕ → List Step) → Item → List Step
-item_steps child Missing = Tail ∷ []
+item_steps child UnusedWord = Tail ∷ []
 item_steps child (Word address block) = child address block
 
 -- at most how many steps a frame has left, where a word has at most `most`
@@ -26,12 +26,12 @@ frame_left most f = (if f.fresh then 1 else 0) + (f.used - f.next) * most
 
 -- at most how many steps an item means
 abbrev pub item_left : ℕ → Item → ℕ
-item_left most Missing = 1
+item_left most UnusedWord = 1
 item_left most (Word address block) = most
 
 -- the item is the frame's next word, or a word that isn't used is in it
 abbrev pub IsFrom : Frame → ℕ → Item → Type 0
-IsFrom f span Missing = f.fresh ≡ true
+IsFrom f span UnusedWord = f.fresh ≡ true
 IsFrom f span (Word address block) = (f.next < f.used) × (block ≡ f.first + f.next * span)
 
 -- the item is the frame's next one in an image of these contents, and the frame has the others left

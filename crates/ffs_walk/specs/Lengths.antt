@@ -2,7 +2,7 @@
 use Rattle.std.specs.Prelude.{ℕ, ◌<◌, IfSome}
 use Rattle.ffs_volume.specs.declared.Step.{Step}
 use Rattle.ffs_volume.specs.declared.Step.TheVariants.{Run, Tail, Gap}
-use Rattle.ffs_volume.specs.Blocks.Lengths.{HasLength}
+use Rattle.ffs_volume.specs.Laws.RunLengths.{HasLength}
 
 -- a Run of data is that of a logical block of the inode
 abbrev pub IsWithin : ℕ → Step → Type 0

@@ -28,7 +28,7 @@ pub struct Frame {
 #[derive(Clone, Copy, Debug)]
 pub enum Item {
     /// A word that isn't used is set.
-    Missing,
+    UnusedWord,
     /// A used word, and the first logical block under it.
     Word { address: u32, block: u64 },
 }
@@ -37,7 +37,7 @@ impl Frame {
     ghost use Rattle.ffs_walk.specs.Fits.{HasItem, IsSpent};
     ghost use Rattle.ffs_walk.specs.Skips.{PassesZeros};
     ghost use Rattle.ffs_walk.specs.Windows.{BlocksAfter, CanWalk, HasRoom};
-    ghost use Rattle.ffs_walk.specs.declared.frame.Item.TheVariants.{Missing, Word};
+    ghost use Rattle.ffs_walk.specs.declared.frame.Item.TheVariants.{UnusedWord, Word};
     ghost use Rattle.ffs_walk.specs.Frames.{IsNextItem, IsSameBlock};
 
     /// A frame of no words.
@@ -90,7 +90,7 @@ impl Frame {
         if self.fresh {
             self.fresh = false;
             if any_from(geometry, block, self.used) {
-                return Ok(Item::Missing);
+                return Ok(Item::UnusedWord);
             }
         }
         let address = word(geometry, block, self.next);

@@ -135,7 +135,7 @@ impl Walk {
         ensures fits { IsStepOf self.now.geometry.layout.frag self.now.blocks result }
     {
         match item {
-            Item::Missing => Step::Tail,
+            Item::UnusedWord => Step::Tail,
             Item::Word { address, block } => self.indirect_data(address, block),
         }
     }
@@ -147,7 +147,7 @@ impl Walk {
         ensures { IsFirstOf 1 item self.old self.new result }
     {
         match item {
-            Item::Missing => Step::Tail,
+            Item::UnusedWord => Step::Tail,
             Item::Word { address, block } => {
                 let (step, frame) = self.enter(1, address, block);
                 self.single = frame;
@@ -163,7 +163,7 @@ impl Walk {
         ensures { IsFirstOf 2 item self.old self.new result }
     {
         match item {
-            Item::Missing => Step::Tail,
+            Item::UnusedWord => Step::Tail,
             Item::Word { address, block } => {
                 let words = u64::from(self.geometry.layout.nindir);
                 let (step, frame) = self.enter(words, address, block);

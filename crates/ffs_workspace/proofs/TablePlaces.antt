@@ -14,7 +14,7 @@ use Rattle.ffs_volume.specs.Blocks.Inodes.{inode_from_bytes, inode_of}
 use Rattle.ffs_volume.specs.Disk.Numbers.{piece}
 use Rattle.ffs_volume.specs.Disk.Areas.{cgstart, cgdmin, inode_place}
 use Rattle.ffs_volume.specs.Disk.Outcome.{is_block_size, has_valid_sizes, is_valid_layout}
-use Rattle.ffs_volume.specs.Disk.Geometry.{IsAcceptedLayout}
+use Rattle.ffs_volume.specs.Laws.Geometry.{IsAcceptedLayout}
 use Rattle.ffs_walk.specs.Windows.{WindowHolds}
 use Rattle.ffs_workspace.specs.declared.table.Table.{Table}
 use Rattle.ffs_workspace.specs.Tables.{DividesBlock, DividesBlocks, table_place}

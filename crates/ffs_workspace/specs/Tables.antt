@@ -10,7 +10,7 @@ use Rattle.ffs_volume.specs.declared.Inode.{Inode}
 use Rattle.ffs_volume.specs.declared.Layout.{Layout}
 use Rattle.ffs_volume.specs.Blocks.Inodes.{inode_of}
 use Rattle.ffs_volume.specs.Disk.Areas.{cgstart, inode_place}
-use Rattle.ffs_volume.specs.Disk.Geometry.{IsAcceptedLayout}
+use Rattle.ffs_volume.specs.Laws.Geometry.{IsAcceptedLayout}
 use Rattle.ffs_volume.specs.Disk.Numbers.{piece}
 use Rattle.ffs_walk.specs.Windows.{WindowHolds, held_bytes}
 use Rattle.ffs_workspace.specs.declared.table.Table.{Table}

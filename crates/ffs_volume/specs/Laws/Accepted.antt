@@ -3,7 +3,7 @@ use Rattle.std.proofs.Common.{◌≡◌, ℕ, ◌*◌, ◌≤◌, List, length, 
 use Rattle.ffs_volume.specs.declared.Layout.{Layout}
 use Rattle.ffs_volume.specs.Disk.Superblock.{Superblock}
 use Rattle.ffs_volume.specs.Disk.Outcome.{outcome}
-use Rattle.ffs_volume.specs.Disk.Geometry.{IsAcceptedLayout}
+use Rattle.ffs_volume.specs.Laws.Geometry.{IsAcceptedLayout}
 
 -- a valid layout, of a volume that lies in an image of this size
 pub record FitsImage (v : Layout) (size : ℕ) : Type 0 where

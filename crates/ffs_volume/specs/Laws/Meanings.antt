@@ -14,7 +14,7 @@ use Rattle.ffs_volume.specs.Blocks.BlockCheck.{Offer, kept_in_steps, offer_of}
 use Rattle.ffs_volume.specs.Groups.Records.{right_group_counts}
 use Rattle.ffs_volume.specs.Directories.Entries.{Entry, entry_at, entries_of}
 use Rattle.ffs_volume.specs.Directories.Graph.{Graph, level}
-use Rattle.ffs_volume.specs.Directories.Levels.{IsLevel}
+use Rattle.ffs_volume.specs.Laws.Levels.{IsLevel}
 use Rattle.ffs_volume.specs.Directories.Paths.{dir_path, entry_path}
 
 -- `kept` is the first part of the offers of the fragments fs to inode i, in order, and `rest` is the other part. `rest`

@@ -4,7 +4,7 @@ use Rattle.ffs_phase.specs.Known.{ForBytes, IsContents}
 use Rattle.ffs_phase.specs.Runs.{SaidOf}
 use Rattle.ffs_volume.specs.Blocks.Steps.{steps_of}
 use Rattle.ffs_volume.specs.Blocks.Claims.{after_steps, lines_of_steps, is_open}
-use Rattle.ffs_volume.specs.Blocks.ClaimBounds.{ClaimBound}
+use Rattle.ffs_volume.specs.Laws.ClaimBounds.{ClaimBound}
 use Rattle.ffs_walk.specs.Rests.{rest, left}
 use Rattle.ffs_workspace.specs.Holds.{claims_of}
 use Rattle.ffs_workspace.specs.Ready.{IsReady}

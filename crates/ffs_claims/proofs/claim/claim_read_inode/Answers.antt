@@ -8,7 +8,7 @@ use Rattle.ffs_volume.specs.Blocks.BlockCheck.{count_lines, owner_lines}
 use Rattle.ffs_volume.specs.Blocks.Claims.{Claims, lines_of_steps, after_steps}
 use Rattle.ffs_volume.proofs.Weights.{kept_bound}
 use Rattle.ffs_phase.proofs.Reporting.{of_part, of_fault, of_says, of_stops, of_begins, of_same}
-use Rattle.ffs_volume.specs.Blocks.ClaimBounds.{used_bits}
+use Rattle.ffs_volume.specs.Laws.ClaimBounds.{used_bits}
 use Rattle.ffs_workspace.specs.Holds.{claims_of}
 use Rattle.ffs_claims.specs.Lines.{of_lines, counted_owner, owner_with}
 use Rattle.ffs_claims.proofs.Inodes.{class_said, class_stopped, count_right, free_claims, free_silent}

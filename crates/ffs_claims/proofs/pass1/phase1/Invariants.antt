@@ -7,7 +7,7 @@ use Rattle.ffs_volume.specs.Blocks.KeptSteps.{claims_before}
 use Rattle.ffs_volume.specs.Messages.Kinds.{phase1}
 use Rattle.ffs_volume.specs.Blocks.Owners.{owners_of}
 use Rattle.ffs_workspace.specs.Notes.{note_at}
-use Rattle.ffs_volume.specs.Blocks.ClaimBounds.{used_bits}
+use Rattle.ffs_volume.specs.Laws.ClaimBounds.{used_bits}
 use Rattle.ffs_workspace.specs.Holds.{claims_of, IsFresh, first_marked_at}
 use Rattle.ffs_volume.specs.Encodings.Kinds.{kind_at}
 use Rattle.ffs_volume.specs.Encodings.Links.{start_at}

@@ -24,7 +24,7 @@ use Rattle.ffs_claims.proofs.Frames.{claims_then, image_from, ready_unseen}
 use Rattle.ffs_claims.proofs.Rescanned.{kept_next, kept_end, runs_on, runs_most, claims_hold, reported_same, all_lines}
 use Rattle.ffs_claims.proofs.Rescanned.{all_kept, lines_split, starts_hold}
 use Rattle.ffs_claims.proofs.Rewalks.{reporting_over}
-use Rattle.ffs_claims.proofs.Doubles.{none_first, none_left, some_left}
+use Rattle.ffs_claims.proofs.Duplicates.{none_first, none_left, some_left}
 use Rattle.ffs_claims.proofs.Reportings.{reporting_more, reporting_ends, reporting_same}
 use Rattle.ffs_phase.specs.Known.{ForBytes, IsContents}
 use Rattle.ffs_workspace.specs.Holds.{HoldsPhase1}

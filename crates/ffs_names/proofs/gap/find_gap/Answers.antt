@@ -152,35 +152,35 @@ pub invariant_of-chunks : goal.invariant_of-chunks
 invariant_of-chunks g c = record {
   taken_small = c.steps.chunks.taken_small;
   few = c.steps.chunks.few;
-  hand_fits = rw c.next.ensures.same.geometry c.steps.chunks.hand_fits;
+  cursor_fits = rw c.next.ensures.same.geometry c.steps.chunks.cursor_fits;
 }
 
 pub invariant_of-chunks-in-None : goal.invariant_of-chunks-in-None
 invariant_of-chunks-in-None g c = record {
   taken_small = c.steps.chunks.taken_small;
   few = c.steps.chunks.few;
-  hand_fits = rw c.next.ensures.same.geometry c.steps.chunks.hand_fits;
+  cursor_fits = rw c.next.ensures.same.geometry c.steps.chunks.cursor_fits;
 }
 
 pub invariant_of-chunks-in-Some-Run-2 : goal.invariant_of-chunks-in-Some-Run-2
 invariant_of-chunks-in-Some-Run-2 g c = record {
   taken_small = c.steps.chunks.taken_small;
   few = c.steps.chunks.few;
-  hand_fits = rw c.next.ensures.same.geometry c.steps.chunks.hand_fits;
+  cursor_fits = rw c.next.ensures.same.geometry c.steps.chunks.cursor_fits;
 }
 
 pub invariant_of-chunks-in-Some-Tail : goal.invariant_of-chunks-in-Some-Tail
 invariant_of-chunks-in-Some-Tail g c = record {
   taken_small = c.steps.chunks.taken_small;
   few = c.steps.chunks.few;
-  hand_fits = rw c.next.ensures.same.geometry c.steps.chunks.hand_fits;
+  cursor_fits = rw c.next.ensures.same.geometry c.steps.chunks.cursor_fits;
 }
 
 pub invariant_of-chunks-in-Some-Gap : goal.invariant_of-chunks-in-Some-Gap
 invariant_of-chunks-in-Some-Gap g c = record {
   taken_small = c.steps.chunks.taken_small;
   few = c.steps.chunks.few;
-  hand_fits = rw c.next.ensures.same.geometry c.steps.chunks.hand_fits;
+  cursor_fits = rw c.next.ensures.same.geometry c.steps.chunks.cursor_fits;
 }
 
 pub returns-in_err-next-clause-gap : goal.returns-in_err-next-clause-gap

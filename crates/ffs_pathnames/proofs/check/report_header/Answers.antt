@@ -43,7 +43,7 @@ returns-in_err-say_header-clause-text g c =
     rw (p.1, p.2) (of_stops _ all (λ b. []) _ (map of_tree ms) _ _ _ (of_begins _ all _)
     (λ b k. ap (map of_tree)
     (ap (λ q. reported q (dir_path (graph_of (volume_of v b)) c.args.dir))
-    (sym (c.in_ok-attr.ensures.attr b k.0.reported_is))
+    (sym (c.in_ok-attr.ensures.attr b k.0.gives_bytes))
     ∙ ap (λ q. reported c.in_ok-attr.attr q) (sym (c.as_slice.ensures.value ∙ c.in_ok-attr.ensures.path b k.0)))
     ∙ sym (append-nil (map of_tree ms)))
     c.in_err-say_header.ensures)
@@ -60,7 +60,7 @@ returns-clause-text g c =
     of_says _ all (λ b. []) _ (map of_tree ms) _ _ _ (of_begins _ all _)
     (λ b k. ap (map of_tree)
     (ap (λ q. reported q (dir_path (graph_of (volume_of v b)) c.args.dir))
-    (sym (c.in_ok-attr.ensures.attr b k.0.reported_is))
+    (sym (c.in_ok-attr.ensures.attr b k.0.gives_bytes))
     ∙ ap (λ q. reported c.in_ok-attr.attr q) (sym (c.as_slice.ensures.value ∙ c.in_ok-attr.ensures.path b k.0)))
     ∙ sym (append-nil (map of_tree ms)))
     c.in_ok-say_header.ensures

@@ -54,7 +54,7 @@ returns-clause-attr g c = λ b t.
     c.in_ok-attr.ensures.attr b (ap (λ d. d.contents) c.in_ok-put_path.ensures.leaves.reads.read ∙ t)
 
 pub returns-clause-path : goal.returns-clause-path
-returns-clause-path g c = λ b k. c.in_ok-put_path.ensures.path b k.reported_is k.claims k.survey
+returns-clause-path g c = λ b k. c.in_ok-put_path.ensures.path b k.gives_bytes k.claims k.survey
 
 pub returns-clause-leaves : goal.returns-clause-leaves
 returns-clause-leaves g c =

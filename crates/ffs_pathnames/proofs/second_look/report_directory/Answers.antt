@@ -58,7 +58,7 @@ chunks-init g c =
       geometry = c.start-chunks.ensures.geometry;
       survey = windows_leave _ _ ok.lists;
       path = λ b k. subst (IsPathOf (graph_of (volume_of v b)) c.args.dir) (sym c.of.ensures)
-          (c.in_ok-path.ensures.path b k.reported_is k.claims k.survey);
+          (c.in_ok-path.ensures.path b k.gives_bytes k.claims k.survey);
       marks = λ b k. ap (λ q. after_entries (volume_of v b) c.args.dir q (roled_entries (volume_of v b) c.args.dir))
           same ∙ ap (after_entries (volume_of v b) c.args.dir (marks_of here)) (sym (seen b k));
       said = of_same _ all (λ (b : List ℕ). map of_tree
@@ -133,7 +133,7 @@ chunks-preserved g c =
     let next = λ (b : List ℕ)
     (k : DirectoryContext v (g.I.Image.device c.args.image.now).contents c.args.workspace.now c.args.dir b
     × (c.args.inode.now ≡ inode_of v b c.args.dir)).
-    (came b (ap (λ d. d.contents) inv.device ∙ k.0.reported_is)).chunks ∙ ap
+    (came b (ap (λ d. d.contents) inv.device ∙ k.0.gives_bytes)).chunks ∙ ap
     (λ q. chunk_of q.layout.order c.in-Some.offset c.next.new.chunk ∷ rest b c.next.new.self) inv.geometry in
     record {
       ready = ok.leaves.ready;
@@ -174,7 +174,7 @@ returns-in_err-report_chunk-clause-text g c =
     let next = λ (b : List ℕ)
     (k : DirectoryContext v (g.I.Image.device c.args.image.now).contents c.args.workspace.now c.args.dir b
     × (c.args.inode.now ≡ inode_of v b c.args.dir)).
-    (came b (ap (λ d. d.contents) inv.device ∙ k.0.reported_is)).chunks ∙ ap
+    (came b (ap (λ d. d.contents) inv.device ∙ k.0.gives_bytes)).chunks ∙ ap
     (λ q. chunk_of q.layout.order c.in-Some.offset c.next.new.chunk ∷ rest b c.next.new.self) inv.geometry in
     let p = err_from_is_err_and c.from_residual-in_err-report_chunk.result
     c.from_residual-in_err-report_chunk.ensures.1 in
@@ -217,7 +217,7 @@ returns-clause-text g c =
     (entries_reported (volume_of v b) c.args.dir m (flat_map roled_chunk (rest b c.chunks.chunks)))) (λ b. []) _ _ _
     inv.said
     (λ b k. ap (λ cs. map of_tree (entries_reported (volume_of v b) c.args.dir m (flat_map roled_chunk cs)))
-    (came b (ap (λ d. d.contents) inv.device ∙ k.0.reported_is)).chunks.0)
+    (came b (ap (λ d. d.contents) inv.device ∙ k.0.gives_bytes)).chunks.0)
 
 pub returns-clause-marks : goal.returns-clause-marks
 returns-clause-marks g c = λ b k.
@@ -225,4 +225,4 @@ returns-clause-marks g c = λ b k.
     let inv = c.chunks.invariant in
     let came = rw c.in_default.is at c.in_ok-offset.ensures.chunk in
     inv.marks b k ∙ ap (λ cs. after_entries (volume_of v b) c.args.dir (marks_of c.chunks.workspace)
-    (flat_map roled_chunk cs)) (came b (ap (λ d. d.contents) inv.device ∙ k.0.reported_is)).chunks.0
+    (flat_map roled_chunk cs)) (came b (ap (λ d. d.contents) inv.device ∙ k.0.gives_bytes)).chunks.0

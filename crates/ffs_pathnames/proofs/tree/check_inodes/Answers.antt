@@ -48,7 +48,7 @@ loop-number-init g c =
       low = first.ensures.range.0;
       references = ap (λ (w : Workspace). w.references) noted.lists;
       before = λ b k. noted_before v _ _ _ _ first.result b first.ensures.range.0 refl noted.lists noted.ready.made
-          (noted.places b k.reported_is k.claims k.survey) noted.none_due
+          (noted.places b k.gives_bytes k.claims k.survey) noted.none_due
           (before_unseen v _ _ b first.result c.args.geometry.now.sound first.ensures.range.0 first.ensures.before k);
       said = of_same _ all (λ b. map of_tree
           (lines_from (directory_lines (volume_of v b)) first.result (inodes_of v - first.result))) all _ _

@@ -212,28 +212,28 @@ pub invariant_of-self-in-None : goal.invariant_of-self-in-None
 invariant_of-self-in-None g c = record {
   taken_small = c.steps.self.taken_small;
   few = c.steps.self.few;
-  hand_fits = rw c.next.ensures.same.geometry c.steps.self.hand_fits;
+  cursor_fits = rw c.next.ensures.same.geometry c.steps.self.cursor_fits;
 }
 
 pub invariant_of-self-in-Some-Tail : goal.invariant_of-self-in-Some-Tail
 invariant_of-self-in-Some-Tail g c = record {
   taken_small = c.steps.self.taken_small;
   few = c.steps.self.few;
-  hand_fits = rw c.next.ensures.same.geometry c.steps.self.hand_fits;
+  cursor_fits = rw c.next.ensures.same.geometry c.steps.self.cursor_fits;
 }
 
 pub invariant_of-self-in-Some-Gap : goal.invariant_of-self-in-Some-Gap
 invariant_of-self-in-Some-Gap g c = record {
   taken_small = c.steps.self.taken_small;
   few = c.steps.self.few;
-  hand_fits = rw (c.skip_gaps.ensures.same.geometry ∙ c.next.ensures.same.geometry) c.steps.self.hand_fits;
+  cursor_fits = rw (c.skip_gaps.ensures.same.geometry ∙ c.next.ensures.same.geometry) c.steps.self.cursor_fits;
 }
 
 pub invariant_of-self : goal.invariant_of-self
 invariant_of-self g c = record {
   taken_small = c.steps.self.taken_small;
   few = c.steps.self.few;
-  hand_fits = rw c.next.ensures.same.geometry c.steps.self.hand_fits;
+  cursor_fits = rw c.next.ensures.same.geometry c.steps.self.cursor_fits;
 }
 
 pub see-requires : goal.see-requires

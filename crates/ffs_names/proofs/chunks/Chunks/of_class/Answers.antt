@@ -2,7 +2,7 @@ use Rattle.std.proofs.Common.{ap, refl, arith}
 use Rattle.ffs_volume.specs.Blocks.Steps.{steps_of}
 use Rattle.ffs_walk.specs.Rests.{rest as steps_left}
 use Rattle.ffs_walk.specs.Keepings.{replay_in}
-use Rattle.ffs_names.specs.RunCursors.{hand_chunks}
+use Rattle.ffs_names.specs.RunCursors.{cursor_chunks}
 use Rattle.ffs_names.proofs.Begins.{begun, runs_begun, gap_begun}
 use Rattle.ffs_names.proofs.chunks.Chunks.of_class.Goals as goal
 
@@ -11,7 +11,7 @@ invariant_of-result c = record {
   taken_small = c.taken_of-taken.ensures.small;
   few = let t =
       c.taken_of-taken.ensures.small in omega arith;
-  hand_fits = c.empty.ensures.fits c.of_class.result.geometry.layout;
+  cursor_fits = c.empty.ensures.fits c.of_class.result.geometry.layout;
 }
 
 pub returns-clause-begins : goal.returns-clause-begins
@@ -24,7 +24,7 @@ returns-clause-begins c = λ known.
     record {
       chunks = λ b size.
           begun v v' c.args.inode.now b c.args.cut c.start.result.cut (replay_in c.start.result)
-          c.taken_of-taken.result (hand_chunks v' b c.empty.result) (steps_left b c.of_class.result)
+          c.taken_of-taken.result (cursor_chunks v' b c.empty.result) (steps_left b c.of_class.result)
           c.args.geometry.now.sound same c.start.ensures.cut c.start.ensures.fresh
           (c.taken_of-taken.ensures.taken size) (c.empty.ensures.none v' b) (walk.steps b);
       runs = refl;

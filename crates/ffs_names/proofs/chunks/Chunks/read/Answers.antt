@@ -95,11 +95,11 @@ pub fill-requires-clause-room : goal.fill-requires-clause-room
 fill-requires-clause-room g c =
     let s = c.advance.new.self in
     let same = ap (λ x. x.layout.bsize) c.advance.ensures.leaves.same.geometry in
-    omega (arith, s.hand_fits.in_block, c.requires.room, same)
+    omega (arith, s.cursor_fits.in_block, c.requires.room, same)
 
 pub fill-requires-clause-inside : goal.fill-requires-clause-inside
 fill-requires-clause-inside g c =
-    let fits = rw c.advance.ensures.leaves.same.geometry at c.advance.new.self.hand_fits.in_volume in
+    let fits = rw c.advance.ensures.leaves.same.geometry at c.advance.new.self.cursor_fits.in_volume in
     omega (arith, fits, c.in_ok-advance.ensures.leaves.ready.volume)
 
 pub fill-requires-clause-holds : goal.fill-requires-clause-holds

@@ -2,7 +2,7 @@ use Rattle.std.proofs.Common.{ap, refl, arith}
 use Rattle.ffs_volume.specs.Blocks.Steps.{steps_of}
 use Rattle.ffs_walk.specs.Rests.{rest as steps_left}
 use Rattle.ffs_walk.specs.Keepings.{replay_in}
-use Rattle.ffs_names.specs.RunCursors.{hand_chunks}
+use Rattle.ffs_names.specs.RunCursors.{cursor_chunks}
 use Rattle.ffs_names.proofs.Begins.{begun, runs_begun, gap_begun}
 use Rattle.ffs_names.proofs.chunks.Chunks.restart.Goals as goal
 
@@ -16,7 +16,7 @@ returns-clause-begins c = λ known.
     record {
       chunks = λ b size.
           begun v v' c.args.inode.now b c.args.cut c.start-self.result.cut (replay_in c.start-self.result)
-          c.taken_of-taken.result (hand_chunks v' b c.empty-self.result) (steps_left b c.restart.new.self)
+          c.taken_of-taken.result (cursor_chunks v' b c.empty-self.result) (steps_left b c.restart.new.self)
           c.args.self.now.walk.geometry.sound same c.start-self.ensures.cut c.start-self.ensures.fresh
           (c.taken_of-taken.ensures.taken size) (c.empty-self.ensures.none v' b) (walk.steps b);
       runs = refl;
@@ -33,5 +33,5 @@ pub invariant_of-self : goal.invariant_of-self
 invariant_of-self c = record {
   taken_small = c.taken_of-taken.ensures.small;
   few = omega (arith, c.taken_of-taken.ensures.small);
-  hand_fits = c.empty-self.ensures.fits c.restart.new.self.geometry.layout;
+  cursor_fits = c.empty-self.ensures.fits c.restart.new.self.geometry.layout;
 }

@@ -2,8 +2,8 @@ use Rattle.std.proofs.Common.{◌≡◌, ◌==◌, true, false, arith}
 use Rattle.std.proofs.lemmas.Bool.Decides.{nat_tests}
 use Rattle.ffs_names.proofs.Continuing.{counts_one}
 use Rattle.ffs_walk.specs.Keepings.{replay_in}
-use Rattle.ffs_names.proofs.RoledEntry.{no_run_cursor, run_continues, kept_run, no_kept_run, no_data_run, no_block_run}
-use Rattle.ffs_names.proofs.RoledEntry.{runs_seen}
+use Rattle.ffs_names.proofs.SeenSteps.{no_run_cursor, run_continues, kept_run, no_kept_run, no_data_run, no_block_run}
+use Rattle.ffs_names.proofs.SeenSteps.{runs_seen}
 use Rattle.ffs_names.proofs.GapsLeft.{gap_past_run}
 use Rattle.ffs_names.proofs.chunks.Chunks.see.Goals as goal
 

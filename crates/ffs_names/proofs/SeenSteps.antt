@@ -13,11 +13,11 @@ use Rattle.ffs_volume.specs.Encodings.Replay.{Replay, is_replay_open, is_replaye
 use Rattle.ffs_volume.specs.Encodings.ReplayCounts.{replay_step_by_cut, replayed_runs, seen_run}
 use Rattle.ffs_volume.proofs.ReplayLaws.{counted_same}
 use Rattle.ffs_names.specs.declared.run_cursor.RunCursor.{RunCursor}
-use Rattle.ffs_names.specs.RunCursors.{hand_chunks, reading_by}
+use Rattle.ffs_names.specs.RunCursors.{cursor_chunks, reading_by}
 use Rattle.ffs_names.specs.Readings.{CountsOn}
 
 -- a hand with nothing left
-pub no_run_cursor : (v : Layout) (b : List ℕ) (h : RunCursor) → h.next ≡ h.count → hand_chunks v b h ≡ []
+pub no_run_cursor : (v : Layout) (b : List ℕ) (h : RunCursor) → h.next ≡ h.count → cursor_chunks v b h ≡ []
 no_run_cursor v b h e =
     let z : h.count - h.next ≡ 0 = omega arith in
     ap (λ n. map (λ k. chunk_of v.order (h.offset + 512 * k) (piece (h.place + 512 * k) 512 b))
@@ -73,13 +73,13 @@ pub run_continues : (v : Layout) (b : List ℕ) (h h' : RunCursor) (taken cut cu
     (steps : List Step) (start len : ℕ) (block : Option ℕ) (kept : Bool)
     → h.next ≡ h.count → kept ≡ is_replayed v cut r (Run start len block)
     → q ≡ replay_step_by_cut v cut r (Run start len block) → cut' ≡ cut
-    → hand_chunks v b h' ≡ (if kept then step_chunks (reading_by v b taken) (is_run_in_range v) (Run start len block)
+    → cursor_chunks v b h' ≡ (if kept then step_chunks (reading_by v b taken) (is_run_in_range v) (Run start len block)
     else [])
-    → hand_chunks v b h' ++ chunks_of (reading_by v b taken) (is_run_in_range v) (replayed_steps v cut' q steps)
-    ≡ hand_chunks v b h ++ chunks_of (reading_by v b taken) (is_run_in_range v)
+    → cursor_chunks v b h' ++ chunks_of (reading_by v b taken) (is_run_in_range v) (replayed_steps v cut' q steps)
+    ≡ cursor_chunks v b h ++ chunks_of (reading_by v b taken) (is_run_in_range v)
     (replayed_steps v cut r (Run start len block ∷ steps))
 run_continues v b h h' taken cut cut' r q steps start len block kept e k n c f =
-    run_seen v b taken cut cut' r q steps start len block kept (hand_chunks v b h') k n c f
+    run_seen v b taken cut cut' r q steps start len block kept (cursor_chunks v b h') k n c f
     ∙ ap (λ x. x ++ chunks_of (reading_by v b taken) (is_run_in_range v)
     (replayed_steps v cut r (Run start len block ∷ steps))) (sym (no_run_cursor v b h e))
 

@@ -1,4 +1,4 @@
--- A bound on the Runs that are seen, for proofs alone: each Run raises a number, the potential, by at least one.
+-- A bound on the Runs that are seen: each Run raises a number, the potential, by at least one.
 use Rattle.std.specs.Prelude.{◌≡◌, ◌+◌, ◌*◌, ◌≤◌, ℕ, length, count_by}
 use Rattle.ffs_volume.specs.declared.constants.TheConstants.{MAXBAD, MAXDUP}
 use Rattle.ffs_volume.specs.Blocks.Claims.{Claims}
