@@ -7,7 +7,7 @@ use ffs_image::Image;
 use ffs_layout::{Entry, Geometry, Inode, Order};
 use ffs_memory::FixedList;
 use ffs_names::{Chunks, Entries, role_of};
-use ffs_samples::{Stop, geometry, image_of, inode};
+use ffs_samples::{Stop, geometry, image_of, inode, same};
 use ffs_volume::Role;
 use ffs_walk::{Blocks, Window};
 use std::alloc::{AllocError, Global};
@@ -33,7 +33,7 @@ fn roles(rt: HostRuntime) -> Result<(), Fail> {
         (true, 0, 0, b"", Role::Empty),
         (true, 0, 3, b"...", Role::Plain),
     ] {
-        assert_eq!(rt; role_of(first, index, &entry(number, name)), role);
+        same(&rt, &role_of(first, index, &entry(number, name)), &role);
     }
     Ok(())
 }
@@ -65,10 +65,9 @@ fn chunks_of<I: Image>(
     Ok(found)
 }
 
-// Fragments 40 to 43 are the first block, and 40 is the second one. Where four offers are kept, the
-// second one isn't.
-#[test]
-fn same_fragment_twice(rt: HostRuntime) -> Result<(), Fail> {
+// What the chunks of a directory hold whose first block is the fragments 40 to 43 and whose second
+// one is 40, where this many offers of it are kept (0: all).
+fn chunks_kept(cut: u32, alloc: Global) -> Result<Vec<(u64, u8, u8)>, Fail> {
     let geometry = geometry(Order::Little)?;
     let numbers = [
         (40960, 1, 1),
@@ -81,10 +80,16 @@ fn same_fragment_twice(rt: HostRuntime) -> Result<(), Fail> {
         (45055, 1, 8),
         (45056, 1, 9),
     ];
-    let mut image = image_of(Order::Little, &numbers, rt.alloc())?;
+    let mut image = image_of(Order::Little, &numbers, alloc)?;
     let mut directory = inode(0o40755, 5120);
     directory.addresses[0] = 40;
     directory.addresses[1] = 40;
+    Ok(chunks_of(&geometry, &directory, cut, &mut image, alloc)?)
+}
+
+// Where four offers are kept, the second block isn't.
+#[test]
+fn same_fragment_twice(rt: HostRuntime) -> Result<(), Fail> {
     let first = [
         (0u64, 1u8, 2u8),
         (512, 3, 4),
@@ -97,11 +102,12 @@ fn same_fragment_twice(rt: HostRuntime) -> Result<(), Fail> {
         (4096, 1, 2),
         (4608, 3, 4),
     ];
-    let all = chunks_of(&geometry, &directory, 0, &mut image, rt.alloc())?;
-    assert_eq!(rt; all.as_slice(), first.as_slice());
-    let mut image = image_of(Order::Little, &numbers, rt.alloc())?;
-    let kept = chunks_of(&geometry, &directory, 4, &mut image, rt.alloc())?;
-    assert_eq!(rt; kept.as_slice(), &first[..8]);
+    same(
+        &rt,
+        &chunks_kept(0, rt.alloc())?.as_slice(),
+        &first.as_slice(),
+    );
+    same(&rt, &chunks_kept(4, rt.alloc())?.as_slice(), &&first[..8]);
     Ok(())
 }
 
@@ -132,10 +138,9 @@ fn first_and_filled<I: Image>(
     Ok(found)
 }
 
-// Fragment 40 begins with empty entries of 8, 12 and 20 bytes. The entry "a" of inode 7 is after
-// them, and fills the chunk.
-#[test]
-fn empty_entries_are_passed(rt: HostRuntime) -> Result<(), Fail> {
+// The same of a directory in fragment 40, which begins with empty entries of 8, 12 and 20 bytes. The
+// entry "a" of inode 7 is after them, and fills the chunk.
+fn after_empty_entries(alloc: Global) -> Result<[(u32, u16); 2], Fail> {
     let geometry = geometry(Order::Little)?;
     let numbers = [
         (40964, 2, 8),
@@ -147,10 +152,14 @@ fn empty_entries_are_passed(rt: HostRuntime) -> Result<(), Fail> {
         (41007, 1, 1),
         (41008, 1, 97),
     ];
-    let mut image = image_of(Order::Little, &numbers, rt.alloc())?;
+    let mut image = image_of(Order::Little, &numbers, alloc)?;
     let mut directory = inode(0o40755, 512);
     directory.addresses[0] = 40;
-    let found = first_and_filled(&geometry, &directory, &mut image, rt.alloc())?;
-    assert_eq!(rt; found, [(0, 8), (7, 472)]);
+    Ok(first_and_filled(&geometry, &directory, &mut image, alloc)?)
+}
+
+#[test]
+fn empty_entries_are_passed(rt: HostRuntime) -> Result<(), Fail> {
+    same(&rt, &after_empty_entries(rt.alloc())?, &[(0, 8), (7, 472)]);
     Ok(())
 }

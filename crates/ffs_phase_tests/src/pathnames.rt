@@ -3,8 +3,9 @@
 use ffs_layout::Entry;
 use ffs_pathnames::inodes::Inodes;
 use ffs_pathnames::verdict::{Faults, Verdict, entry_verdict, pass};
-use ffs_samples::numbers;
+use ffs_samples::{numbers, same};
 use ffs_volume::{Label, Role};
+use std::alloc::{AllocError, Global};
 use std::test::Fail;
 
 // Inode 2 is the root, 3 a file, 4 a directory, 6 a directory of size 0, 7 of no known type, 8 a
@@ -67,31 +68,20 @@ fn entries_of_the_root(rt: HostRuntime) -> Result<(), Fail> {
     Ok(())
 }
 
-// The second entry of the root that names a directory is one too many; a marked file is reported at
-// the first alone.
-#[test]
-fn second_names(rt: HostRuntime) -> Result<(), Fail> {
-    let parents = numbers(&PARENTS, rt.alloc())?;
+// The verdict on a marked file, before two entries of the root are passed; those on a directory and
+// on the file after it.
+fn verdicts_in_turn(alloc: Global) -> Result<[Verdict; 3], AllocError> {
+    let parents = numbers(&PARENTS, alloc)?;
     let inodes = Inodes {
         kinds: &KINDS,
         marked: &MARKED,
         parents: &parents,
     };
     let mut passed = [false; 9];
-    let mut stamps = numbers(&[0, 0, 0, 0, 2, 0, 2, 0, 0], rt.alloc())?;
+    let mut stamps = numbers(&[0, 0, 0, 0, 2, 0, 2, 0, 0], alloc)?;
     let directory = entry(4, 4);
     let file = entry(8, 8);
-    let first = Faults {
-        suspect: true,
-        marked: true,
-        extraneous: false,
-        kind: false,
-        label: Label::File,
-    };
-    assert_eq!(rt;
-        entry_verdict(&inodes, 2, &passed, &stamps, &file),
-        Verdict::Named(first)
-    );
+    let first = entry_verdict(&inodes, 2, &passed, &stamps, &file);
     pass(
         &inodes,
         2,
@@ -101,16 +91,34 @@ fn second_names(rt: HostRuntime) -> Result<(), Fail> {
         &directory,
     );
     pass(&inodes, 2, &mut passed, &mut stamps, Role::Plain, &file);
-    assert_eq!(rt;
-        entry_verdict(&inodes, 2, &passed, &stamps, &directory),
-        named(Label::Dir, false, true, false)
-    );
-    assert_eq!(rt;
-        entry_verdict(&inodes, 2, &passed, &stamps, &file),
-        Verdict::Named(Faults {
-            suspect: false,
-            ..first
-        })
+    let second = entry_verdict(&inodes, 2, &passed, &stamps, &directory);
+    let third = entry_verdict(&inodes, 2, &passed, &stamps, &file);
+    Ok([first, second, third])
+}
+
+// The second entry of the root that names a directory is one too many; a marked file is reported at
+// the first alone.
+#[test]
+fn second_names(rt: HostRuntime) -> Result<(), Fail> {
+    let first = Faults {
+        suspect: true,
+        marked: true,
+        extraneous: false,
+        kind: false,
+        label: Label::File,
+    };
+    let again = Faults {
+        suspect: false,
+        ..first
+    };
+    same(
+        &rt,
+        &verdicts_in_turn(rt.alloc())?,
+        &[
+            Verdict::Named(first),
+            named(Label::Dir, false, true, false),
+            Verdict::Named(again),
+        ],
     );
     Ok(())
 }
