@@ -101,12 +101,12 @@ const ROOT: [Number; 21] = [
     (32780, 4, 6),
 ];
 
-// An image with the root's volume and one number more.
-fn root_with(number: Number, alloc: Global) -> Result<MemoryImage, AllocError>
+// An image with a volume's numbers and one more.
+fn volume_with(numbers: &[Number], number: Number, alloc: Global) -> Result<MemoryImage, AllocError>
     ensures { IfOk result (λ m. length m ≡ 131072) }
 {
     let mut bytes = vec![in alloc; 0u8; 131072]?;
-    put(Order::Little, bytes.as_mut_slice(), &ROOT);
+    put(Order::Little, bytes.as_mut_slice(), numbers);
     put(Order::Little, bytes.as_mut_slice(), &[number]);
     Ok(MemoryImage::new(bytes))
 }
@@ -135,7 +135,7 @@ fn counted(fragments: i32, number: Number, alloc: Global) -> Result<Vec<u8>, Fai
         cstotal: [1, 22, 29, fragments],
         mount: [0; 512],
     };
-    let mut image = root_with(number, alloc)?;
+    let mut image = volume_with(&ROOT, number, alloc)?;
     let mut workspace = Workspace::new(alloc, &superblock.geometry)?;
     let mut text = Vec::new(alloc);
     let mut out = Counted::new(&mut text);

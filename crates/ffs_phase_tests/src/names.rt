@@ -6,7 +6,7 @@ use ffs_image::Image;
 use ffs_layout::{Entry, Geometry, Inode, Order};
 use ffs_memory::FixedList;
 use ffs_names::{Chunks, role_of};
-use ffs_samples::{Stop, geometry, image_of, inode};
+use ffs_samples::{Stop, geometry, image_of, inode, same};
 use ffs_volume::Role;
 use ffs_walk::{Blocks, Window};
 use std::alloc::{AllocError, Global};
@@ -32,7 +32,7 @@ fn roles(rt: HostRuntime) -> Result<(), Fail> {
         (true, 0, 0, b"", Role::Empty),
         (true, 0, 3, b"...", Role::Plain),
     ] {
-        assert_eq!(rt; role_of(first, index, &entry(number, name)), role);
+        same(&rt, &role_of(first, index, &entry(number, name)), &role);
     }
     Ok(())
 }
@@ -64,10 +64,9 @@ fn chunks_of<I: Image>(
     Ok(found)
 }
 
-// Fragments 40 to 43 are the first block, and 40 is the second one. Where four offers are kept, the
-// second one isn't.
-#[test]
-fn same_fragment_twice(rt: HostRuntime) -> Result<(), Fail> {
+// What the chunks of a directory hold whose first block is the fragments 40 to 43 and whose second
+// one is 40, where this many offers of it are kept (0: all).
+fn chunks_kept(cut: u32, alloc: Global) -> Result<Vec<(u64, u8, u8)>, Fail> {
     let geometry = geometry(Order::Little)?;
     let numbers = [
         (40960, 1, 1),
@@ -80,10 +79,16 @@ fn same_fragment_twice(rt: HostRuntime) -> Result<(), Fail> {
         (45055, 1, 8),
         (45056, 1, 9),
     ];
-    let mut image = image_of(Order::Little, &numbers, rt.alloc())?;
+    let mut image = image_of(Order::Little, &numbers, alloc)?;
     let mut directory = inode(0o40755, 5120);
     directory.addresses[0] = 40;
     directory.addresses[1] = 40;
+    Ok(chunks_of(&geometry, &directory, cut, &mut image, alloc)?)
+}
+
+// Where four offers are kept, the second block isn't.
+#[test]
+fn same_fragment_twice(rt: HostRuntime) -> Result<(), Fail> {
     let first = [
         (0u64, 1u8, 2u8),
         (512, 3, 4),
@@ -96,10 +101,11 @@ fn same_fragment_twice(rt: HostRuntime) -> Result<(), Fail> {
         (4096, 1, 2),
         (4608, 3, 4),
     ];
-    let all = chunks_of(&geometry, &directory, 0, &mut image, rt.alloc())?;
-    assert_eq!(rt; all.as_slice(), first.as_slice());
-    let mut image = image_of(Order::Little, &numbers, rt.alloc())?;
-    let kept = chunks_of(&geometry, &directory, 4, &mut image, rt.alloc())?;
-    assert_eq!(rt; kept.as_slice(), &first[..8]);
+    same(
+        &rt,
+        &chunks_kept(0, rt.alloc())?.as_slice(),
+        &first.as_slice(),
+    );
+    same(&rt, &chunks_kept(4, rt.alloc())?.as_slice(), &&first[..8]);
     Ok(())
 }

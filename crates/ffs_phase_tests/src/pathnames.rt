@@ -3,9 +3,10 @@
 use ffs_layout::Entry;
 use ffs_pathnames::inodes::Inodes;
 use ffs_pathnames::verdict::{Faults, Verdict, entry_verdict, pass};
-use ffs_samples::numbers;
+use ffs_samples::{numbers, same};
 use ffs_volume::{Label, Role};
 use ffs_workspace::due;
+use std::alloc::{AllocError, Global};
 use std::test::Fail;
 
 // Inode 2 is the root, 3 a file, 4 a directory, 6 a directory of size 0, 7 of no known type, 8 a
@@ -68,20 +69,38 @@ fn entries_of_the_root(rt: HostRuntime) -> Result<(), Fail> {
     Ok(())
 }
 
-// The second entry of the root that names a directory is one too many; a marked file is reported at
-// the first alone.
-#[test]
-fn second_names(rt: HostRuntime) -> Result<(), Fail> {
-    let parents = numbers(&PARENTS, rt.alloc())?;
+// The verdict on a marked file, before two entries of the root are passed; those on a directory and
+// on the file after it, and then the word of the directory.
+fn verdicts_in_turn(alloc: Global) -> Result<([Verdict; 3], u32), AllocError> {
+    let parents = numbers(&PARENTS, alloc)?;
     let inodes = Inodes {
         kinds: &KINDS,
         marked: &MARKED,
         parents: &parents,
     };
     let mut passed = [false; 9];
-    let mut words = numbers(&[0, 0, 0, 0, due(7), 0, due(0), 0, 0], rt.alloc())?;
+    let mut words = numbers(&[0, 0, 0, 0, due(7), 0, due(0), 0, 0], alloc)?;
     let directory = entry(4, 4);
     let file = entry(8, 8);
+    let first = entry_verdict(&inodes, 2, &passed, &words, &file);
+    pass(
+        &inodes,
+        2,
+        &mut passed,
+        &mut words,
+        Role::Plain,
+        &directory,
+    );
+    pass(&inodes, 2, &mut passed, &mut words, Role::Plain, &file);
+    let second = entry_verdict(&inodes, 2, &passed, &words, &directory);
+    let third = entry_verdict(&inodes, 2, &passed, &words, &file);
+    Ok(([first, second, third], words[4]))
+}
+
+// The second entry of the root that names a directory is one too many; a marked file is reported at
+// the first alone. The place that is noted stays.
+#[test]
+fn second_names(rt: HostRuntime) -> Result<(), Fail> {
     let first = Faults {
         suspect: true,
         marked: true,
@@ -89,23 +108,20 @@ fn second_names(rt: HostRuntime) -> Result<(), Fail> {
         kind: false,
         label: Label::File,
     };
-    assert_eq!(rt;
-        entry_verdict(&inodes, 2, &passed, &words, &file),
-        Verdict::Named(first)
+    let again = Faults {
+        suspect: false,
+        ..first
+    };
+    let (found, place) = verdicts_in_turn(rt.alloc())?;
+    same(
+        &rt,
+        &found,
+        &[
+            Verdict::Named(first),
+            named(Label::Dir, false, true, false),
+            Verdict::Named(again),
+        ],
     );
-    pass(&inodes, 2, &mut passed, &mut words, Role::Plain, &directory);
-    pass(&inodes, 2, &mut passed, &mut words, Role::Plain, &file);
-    assert_eq!(rt; words[4], 7, "the place that is noted stays");
-    assert_eq!(rt;
-        entry_verdict(&inodes, 2, &passed, &words, &directory),
-        named(Label::Dir, false, true, false)
-    );
-    assert_eq!(rt;
-        entry_verdict(&inodes, 2, &passed, &words, &file),
-        Verdict::Named(Faults {
-            suspect: false,
-            ..first
-        })
-    );
+    same(&rt, &place, &7);
     Ok(())
 }
