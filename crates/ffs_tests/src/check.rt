@@ -149,13 +149,12 @@ fn statuses(rt: HostRuntime) -> Result<(), Fail> {
     Ok(())
 }
 
-// What a run of these words prints to its errors. Nothing else is printed, and its status is 2.
-fn complaint(rt: &HostRuntime, words: &[&str]) -> Vec<u8> {
+// The status of a run of these words, what it prints, and what it prints to its errors.
+fn ran(rt: &HostRuntime, words: &[&str]) -> (u8, Vec<u8>, Vec<u8>) {
     let mut out = Vec::new(rt.alloc());
     let mut errors = Vec::new(rt.alloc());
-    assert_eq!(rt; run(rt, rt.alloc(), words, &mut out, &mut errors), 2);
-    assert!(rt; out.is_empty());
-    errors
+    let status = run(rt, rt.alloc(), words, &mut out, &mut errors);
+    (status, out, errors)
 }
 
 #[test]
@@ -185,24 +184,22 @@ fn wrong_words(rt: HostRuntime) -> Result<(), Fail> {
         ),
     ];
     for (words, start) in cases {
-        let errors = complaint(&rt, words);
+        let (status, out, errors) = ran(&rt, words);
+        assert!(rt; status == 2 && out.is_empty());
         assert!(rt; errors.as_slice().starts_with(start));
     }
-    assert!(rt;
-        complaint(&rt, &["--version"])
-            .as_slice()
-            .starts_with(b"fsck_ffs ")
-    );
+    let (status, out, errors) = ran(&rt, &["--version"]);
+    assert!(rt; status == 2 && out.is_empty());
+    assert!(rt; errors.as_slice().starts_with(b"fsck_ffs "));
     Ok(())
 }
 
 // Words for which clap needs more memory than for two.
 #[test]
 fn no_such_file(rt: HostRuntime) -> Result<(), Fail> {
-    let mut out = Vec::new(rt.alloc());
-    let mut errors = Vec::new(rt.alloc());
     let words = ["-N", "-nn", "-b", "32", "-N", "missing.img"];
-    assert_eq!(rt; run(&rt, rt.alloc(), &words, &mut out, &mut errors), 8);
+    let (status, out, errors) = ran(&rt, &words);
+    assert_eq!(rt; status, 8);
     assert_eq!(rt; out.as_slice(), b"Can't open missing.img\n".as_slice());
     assert_eq!(rt;
         errors.as_slice(),
