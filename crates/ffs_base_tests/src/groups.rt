@@ -2,10 +2,11 @@
 
 ghost use Rattle.std.specs.Prelude.{◌≡◌, IfOk};
 
+use crate::compare::same;
 use ffs_groups::{Findings, compare_group, group_counts};
 use ffs_layout::Order;
 use ffs_maps::FragmentMap;
-use ffs_samples::{Number, geometry, put, same};
+use ffs_samples::{Number, geometry, put};
 use std::alloc::{AllocError, Global};
 use std::test::Fail;
 

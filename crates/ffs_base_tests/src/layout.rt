@@ -1,8 +1,9 @@
 //! The rows of the format that a reader would work out by hand, in both orders.
 
+use crate::compare::same;
 use ffs_image::MemoryImage;
 use ffs_layout::{Entry, Group, Super, decode_inode, entry_at, read_super};
-use ffs_samples::{Number, ORDERS, base, put, put_bytes, put_super, same};
+use ffs_samples::{Number, ORDERS, base, put, put_bytes, put_super};
 use ffs_volume::{Order, SuperFault};
 use std::alloc::{AllocError, Global};
 use std::test::Fail;

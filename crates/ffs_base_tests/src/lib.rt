@@ -3,9 +3,9 @@
 #![tactic(auto)]
 
 #[cfg(test)]
-mod groups;
+mod compare;
 #[cfg(test)]
-mod helpers;
+mod groups;
 #[cfg(test)]
 mod layout;
 #[cfg(test)]

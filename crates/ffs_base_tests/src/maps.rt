@@ -1,7 +1,7 @@
 //! Bits of maps that a reader would work out by hand.
 
+use crate::compare::same;
 use ffs_maps::FragmentMap;
-use ffs_samples::same;
 use std::alloc::{AllocError, Global};
 use std::test::Fail;
 

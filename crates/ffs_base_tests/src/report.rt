@@ -1,9 +1,9 @@
 //! The bytes of every line.
+use crate::compare::same;
 use ffs_report::{
     Counted, DirectoryLine, DotLine, EntryLine, FuseWriter, Heading, Line, Output, ReferenceLine,
     Report,
 };
-use ffs_samples::same;
 use ffs_volume::{Attr, BlockMessage, Label, SuperFault};
 use std::alloc::Global;
 use std::process::Abort;

@@ -1,7 +1,7 @@
 //! After its first failed write nothing goes out, whatever is flushed or dropped above.
 
+use crate::compare::same;
 use ffs_report::{Counted, Heading, Line, Output, Report, SilentWriter};
-use ffs_samples::same;
 use std::alloc::Global;
 use std::io;
 use std::io::{BufWriter, ErrorKind, Write};

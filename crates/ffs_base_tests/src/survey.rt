@@ -2,9 +2,10 @@
 //! each other.
 ghost use Rattle.std.specs.Prelude.{◌≡◌, IfOk, vec_len};
 
+use crate::compare::same;
 use ffs_image::ImageFault;
 use ffs_memory::{FilledList, Memory, SystemMemory};
-use ffs_samples::{numbers, same};
+use ffs_samples::numbers;
 use ffs_survey::{Directories, Named, is_dead, is_dir, is_suspect, is_unref, mark_leaders, survey};
 use ffs_volume::Role;
 use std::alloc::{AllocError, Global};

@@ -2,10 +2,11 @@
 
 ghost use Rattle.std.specs.Prelude.{◌≡◌, ◌*◌, ◌≤◌};
 
+use crate::compare::same;
 use ffs_image::{FuseImage, Image};
 use ffs_layout::{Geometry, Inode, Order};
 use ffs_memory::FixedList;
-use ffs_samples::{Number, ORDERS, Stop, Watched, geometry, image_of, inode, same};
+use ffs_samples::{Number, ORDERS, Stop, Watched, geometry, image_of, inode};
 use ffs_volume::{Class, Step};
 use ffs_walk::{Blocks, Walk, class_of, has_steps};
 use std::alloc::{AllocError, Global};

@@ -4,9 +4,10 @@ ghost use Rattle.std.specs.Prelude.{◌≡◌};
 ghost use Rattle.ffs_workspace.specs.Lengths.{inodes_of};
 ghost use Rattle.ffs_workspace.specs.Tables.{CanReadInodes};
 
+use crate::compare::same;
 use ffs_image::{Image, ImageFault};
 use ffs_layout::{Geometry, Inode, Order};
-use ffs_samples::{Number, geometry, image_of, inode, same};
+use ffs_samples::{Number, geometry, image_of, inode};
 use ffs_volume::Class;
 use ffs_workspace::{Table, Workspace, address_in, cut_in, links_start, note_of};
 use std::alloc::Global;

@@ -3,12 +3,13 @@
 ghost use Rattle.std.specs.Prelude.{◌≡◌, ◌*◌, ◌≤◌, IfOk, length};
 ghost use Rattle.ffs_workspace.specs.Ready.{IsReady};
 
+use crate::compare::same;
 use ffs_claims::{phase1, phase1b};
 use ffs_image::{Image, MemoryImage};
 use ffs_layout::{Geometry, Order};
 use ffs_phase::RunFault;
 use ffs_report::{Counted, Output, Report};
-use ffs_samples::{Number, Watched, geometry, put, same};
+use ffs_samples::{Number, Watched, geometry, put};
 use ffs_workspace::Workspace;
 use std::alloc::{AllocError, Global};
 use std::test::Fail;

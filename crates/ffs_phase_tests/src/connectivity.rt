@@ -3,10 +3,11 @@
 ghost use Rattle.std.specs.Prelude.{◌≡◌, ℕ, List, Option, IfOk};
 ghost use Rattle.ffs_workspace.specs.Lengths.{IsFor, HoldWindows, inodes_of};
 
+use crate::compare::same;
 use ffs_connectivity::phase3;
 use ffs_layout::{Geometry, Order};
 use ffs_report::{Counted, Report};
-use ffs_samples::{Number, geometry, image_of, same, set_first, set_first_filled};
+use ffs_samples::{Number, geometry, image_of, set_first, set_first_filled};
 use ffs_workspace::Workspace;
 use std::alloc::{AllocError, Global};
 use std::test::Fail;

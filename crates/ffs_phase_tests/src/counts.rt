@@ -5,13 +5,14 @@ ghost use Rattle.std.specs.Prelude.{◌≡◌, ℕ, List, Option, IfOk, length};
 ghost use Rattle.ffs_workspace.specs.Lengths.{IsFor, HoldWindows, inodes_of};
 ghost use Rattle.ffs_workspace.specs.Ready.{IsReady};
 
+use crate::compare::same;
 use ffs_claims::phase1;
 use ffs_counts::{phase4, phase5, summary};
 use ffs_image::{Image, MemoryImage};
 use ffs_layout::{Geometry, Order, Super};
 use ffs_phase::RunFault;
 use ffs_report::{Counted, Output, Report};
-use ffs_samples::{Number, geometry, image_of, put, same, set_first, set_first_filled};
+use ffs_samples::{Number, geometry, image_of, put, set_first, set_first_filled};
 use ffs_workspace::Workspace;
 use std::alloc::{AllocError, Global};
 use std::test::Fail;

@@ -5,6 +5,8 @@
 #[cfg(test)]
 mod claims;
 #[cfg(test)]
+mod compare;
+#[cfg(test)]
 mod connectivity;
 #[cfg(test)]
 mod counts;

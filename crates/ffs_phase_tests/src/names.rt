@@ -2,11 +2,12 @@
 
 ghost use Rattle.std.specs.Prelude.{◌*◌, ◌≤◌};
 
+use crate::compare::same;
 use ffs_image::Image;
 use ffs_layout::{Entry, Geometry, Inode, Order};
 use ffs_memory::FixedList;
 use ffs_names::{Chunks, role_of};
-use ffs_samples::{Stop, geometry, image_of, inode, same};
+use ffs_samples::{Stop, geometry, image_of, inode};
 use ffs_volume::Role;
 use ffs_walk::{Blocks, Window};
 use std::alloc::{AllocError, Global};

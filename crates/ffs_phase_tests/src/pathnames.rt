@@ -1,9 +1,10 @@
 //! The verdict on a plain entry, as a reader would work it out by hand.
 
+use crate::compare::same;
 use ffs_layout::Entry;
 use ffs_pathnames::inodes::Inodes;
 use ffs_pathnames::verdict::{Faults, Verdict, entry_verdict, pass};
-use ffs_samples::{numbers, same};
+use ffs_samples::numbers;
 use ffs_volume::{Label, Role};
 use ffs_workspace::due;
 use std::alloc::{AllocError, Global};
@@ -83,14 +84,7 @@ fn verdicts_in_turn(alloc: Global) -> Result<([Verdict; 3], u32), AllocError> {
     let directory = entry(4, 4);
     let file = entry(8, 8);
     let first = entry_verdict(&inodes, 2, &passed, &words, &file);
-    pass(
-        &inodes,
-        2,
-        &mut passed,
-        &mut words,
-        Role::Plain,
-        &directory,
-    );
+    pass(&inodes, 2, &mut passed, &mut words, Role::Plain, &directory);
     pass(&inodes, 2, &mut passed, &mut words, Role::Plain, &file);
     let second = entry_verdict(&inodes, 2, &passed, &words, &directory);
     let third = entry_verdict(&inodes, 2, &passed, &words, &file);

@@ -15,8 +15,6 @@ use ffs_image::{Image, ImageFault, MemoryImage};
 use ffs_layout::{Geometry, Inode, Layout, Order, SuperFault};
 use ffs_memory::{FilledList, FixedList, Memory, SystemMemory};
 use std::alloc::{AllocError, Global};
-use std::fmt::Debug;
-use std::process::Abort;
 
 /// Both byte orders.
 pub const ORDERS: [Order; 2] = [Order::Little, Order::Big];
@@ -252,12 +250,6 @@ impl<I: Image + Drop> Image for Watched<I> {
         }
         self.inner.read_at(at, buf)
     }
-}
-
-/// Ends a test where what is found is not what is wanted, and prints both, with the line of the
-/// call. A test with several of them is proved in less time than one with several `assert_eq!`.
-pub fn same<R: Abort, T: PartialEq + Debug>(rt: &R, found: &T, wanted: &T) {
-    assert_eq!(*rt; *found, *wanted);
 }
 
 /// Why a helper of the tests has no answer: a read of the image failed, or memory was refused.

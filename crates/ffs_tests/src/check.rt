@@ -1,5 +1,6 @@
 //! The whole run: its words, its opening and its end.
 
+use crate::compare::same;
 use ffs_check::args::Args;
 use ffs_check::check::check;
 use ffs_check::opening::check_opening;
@@ -80,13 +81,18 @@ fn checked<I: Image>(image: &mut I, alloc: Global) -> (End, Vec<u8>) {
     (end, text)
 }
 
+// The same of the volume with a root alone, and one number more.
+fn checked_with(order: Order, number: Number, alloc: Global) -> Result<(End, Vec<u8>), AllocError> {
+    let mut image = volume(order, number, alloc)?;
+    Ok(checked(&mut image, alloc))
+}
+
 #[test]
 fn consistent_volume(rt: HostRuntime) -> Result<(), Fail> {
     for order in ORDERS {
-        let mut image = volume(order, (0, 1, 0), rt.alloc())?;
-        let (end, text) = checked(&mut image, rt.alloc());
-        assert_eq!(rt; end, End::Consistent);
-        assert_eq!(rt; text.as_slice(), REPORT);
+        let (end, text) = checked_with(order, (0, 1, 0), rt.alloc())?;
+        same(&rt, &end, &End::Consistent);
+        same(&rt, &text.as_slice(), &REPORT);
     }
     Ok(())
 }
@@ -94,41 +100,41 @@ fn consistent_volume(rt: HostRuntime) -> Result<(), Fail> {
 // The root's count of links is 3; inode 2 is no inode.
 #[test]
 fn defects_and_a_stop(rt: HostRuntime) -> Result<(), Fail> {
+    let stopped = b"ROOT INODE UNALLOCATED\nALLOCATE? no\n\n".as_slice();
     for order in ORDERS {
-        let (end, text) = checked(&mut volume(order, (28930, 2, 3), rt.alloc())?, rt.alloc());
-        assert_eq!(rt; end, End::Defects);
-        assert!(rt; text.as_slice().starts_with(&REPORT[..163]));
-        let (end, text) = checked(&mut volume(order, (28928, 2, 0), rt.alloc())?, rt.alloc());
-        assert_eq!(rt; end, End::RootStop);
-        assert!(rt;
-            text.as_slice()
-                .ends_with(b"ROOT INODE UNALLOCATED\nALLOCATE? no\n\n")
-        );
+        let (end, text) = checked_with(order, (28930, 2, 3), rt.alloc())?;
+        same(&rt, &end, &End::Defects);
+        same(&rt, &text.starts_with(&REPORT[..163]), &true);
+        let (end, text) = checked_with(order, (28928, 2, 0), rt.alloc())?;
+        same(&rt, &end, &End::RootStop);
+        same(&rt, &text.ends_with(stopped), &true);
     }
     Ok(())
 }
 
-// The root's chunk, in sector 72, can't be read; the output stops after twenty bytes.
+// The root's chunk, in sector 72, can't be read.
+fn checked_unreadable(alloc: Global) -> Result<(End, Vec<u8>), AllocError> {
+    let inner = volume(Order::Little, (0, 1, 0), alloc)?;
+    Ok(checked(&mut FuseImage::touching(inner, 72), alloc))
+}
+
+// The output stops after twenty bytes.
+fn checked_unwritable(alloc: Global) -> Result<(End, Vec<u8>), AllocError> {
+    let mut image = volume(Order::Little, (0, 1, 0), alloc)?;
+    let mut writer = FuseWriter::new(Vec::new(alloc), 20);
+    let end = check(alloc, &mut image, &WORDS, &mut Counted::new(&mut writer));
+    Ok((end, writer.into_inner()))
+}
+
 #[test]
 fn failed_reads_and_writes(rt: HostRuntime) -> Result<(), Fail> {
-    let inner = volume(Order::Little, (0, 1, 0), rt.alloc())?;
-    let (end, text) = checked(&mut FuseImage::touching(inner, 72), rt.alloc());
-    assert_eq!(rt; end, End::ReadFault(72));
-    assert!(rt;
-        text.as_slice()
-            .ends_with(b"Pathnames\nCAN NOT READ: BLK 72\n")
-    );
-    let mut image = volume(Order::Little, (0, 1, 0), rt.alloc())?;
-    let mut writer = FuseWriter::new(Vec::new(rt.alloc()), 20);
-    let end = check(
-        rt.alloc(),
-        &mut image,
-        &WORDS,
-        &mut Counted::new(&mut writer),
-    );
-    assert_eq!(rt; end, End::WriteFault);
-    let text = writer.into_inner();
-    assert_eq!(rt; text.as_slice(), &REPORT[..20]);
+    let unread = b"Pathnames\nCAN NOT READ: BLK 72\n".as_slice();
+    let (end, text) = checked_unreadable(rt.alloc())?;
+    same(&rt, &end, &End::ReadFault(72));
+    same(&rt, &text.ends_with(unread), &true);
+    let (end, text) = checked_unwritable(rt.alloc())?;
+    same(&rt, &end, &End::WriteFault);
+    same(&rt, &text.as_slice(), &&REPORT[..20]);
     Ok(())
 }
 
@@ -144,7 +150,7 @@ fn statuses(rt: HostRuntime) -> Result<(), Fail> {
         (End::NoMemory, 8),
     ];
     for (end, status) in cases {
-        assert_eq!(rt; end.status(), status);
+        same(&rt, &end.status(), &status);
     }
     Ok(())
 }
@@ -208,31 +214,39 @@ fn no_such_file(rt: HostRuntime) -> Result<(), Fail> {
     Ok(())
 }
 
-#[test]
-fn refusals(rt: HostRuntime) -> Result<(), Fail> {
-    let zeros = vec![in rt.alloc(); 0u8; 131072]?;
+// How the opening of an image of zeros ends whose sector 32 can't be read, at its first superblock
+// and at a copy there, and what is printed.
+fn refused(alloc: Global) -> Result<([Option<End>; 2], Vec<u8>), Fail> {
+    let zeros = vec![in alloc; 0u8; 131072]?;
     let mut image = FuseImage::touching(MemoryImage::new(zeros), 32);
-    let mut text = Vec::new(rt.alloc());
+    let mut text = Vec::new(alloc);
     let mut out = Counted::new(&mut text);
-    let primary = Args {
-        name: "t.img",
-        sector: None,
-    };
     let copy = Args {
         name: "t.img",
         sector: Some(32),
     };
-    assert_eq!(rt;
-        check_opening(&mut image, &primary, &mut out).err(),
-        Some(End::Refused(SuperFault::Magic))
-    );
-    assert_eq!(rt;
+    let ends = [
+        check_opening(&mut image, &WORDS, &mut out).err(),
         check_opening(&mut image, &copy, &mut out).err(),
-        Some(End::Refused(SuperFault::CannotRead { sector: 32 }))
+    ];
+    Ok((ends, text))
+}
+
+#[test]
+fn refusals(rt: HostRuntime) -> Result<(), Fail> {
+    let (ends, text) = refused(rt.alloc())?;
+    same(
+        &rt,
+        &ends,
+        &[
+            Some(End::Refused(SuperFault::Magic)),
+            Some(End::Refused(SuperFault::CannotRead { sector: 32 })),
+        ],
     );
-    assert_eq!(rt;
-        text.as_slice(),
-        b"** t.img (NO WRITE)\nBAD SUPER BLOCK: MAGIC NUMBER WRONG\nAlternate super block location: 32\n** t.img (NO WRITE)\nCAN NOT READ: BLK 32\n".as_slice()
+    same(
+        &rt,
+        &text.as_slice(),
+        &b"** t.img (NO WRITE)\nBAD SUPER BLOCK: MAGIC NUMBER WRONG\nAlternate super block location: 32\n** t.img (NO WRITE)\nCAN NOT READ: BLK 32\n".as_slice(),
     );
     Ok(())
 }

@@ -2,6 +2,7 @@
 
 ghost use Rattle.std.specs.Prelude.{◌≡◌, ◌≤◌, IfOk, length};
 
+use crate::compare::same;
 use ffs_check::args::Args;
 use ffs_check::check::check;
 use ffs_image::{FileImage, FuseImage, Image, ImageFault, MemoryImage};
@@ -41,50 +42,111 @@ fn three_reads<I: Image>(image: &mut I) -> [Result<(), ImageFault>; 3]
     ]
 }
 
-#[test]
-fn memory_reads(rt: HostRuntime) -> Result<(), Fail> {
-    let mut image = letters(rt.alloc())?;
-    assert_eq!(rt; image.size(), 131072);
+// The size of the image with the letters, and six bytes about them.
+fn letters_read(alloc: Global) -> Result<(u64, [u8; 6]), Fail> {
+    let mut image = letters(alloc)?;
     let mut found = [9u8; 6];
     image.read_at(1021, &mut found)?;
-    assert_eq!(rt; found, *b"\0abcd\0");
+    Ok((image.size(), found))
+}
+
+#[test]
+fn memory_reads(rt: HostRuntime) -> Result<(), Fail> {
+    let (size, found) = letters_read(rt.alloc())?;
+    same(&rt, &size, &131072);
+    same(&rt, &found, b"\0abcd\0");
     Ok(())
+}
+
+// What came of three reads, how many of them failed, and the sector of the last one that did.
+type ThreeReads = ([Result<(), ImageFault>; 3], [u64; 2]);
+
+// The reads of an image whose k-th read fails.
+fn reads_of_nth(k: u64, alloc: Global) -> Result<ThreeReads, AllocError> {
+    let mut image = FuseImage::nth(letters(alloc)?, k);
+    let reads = three_reads(&mut image);
+    Ok((reads, [image.failures(), image.failed()]))
+}
+
+// The reads of an image whose reads of a sector fail.
+fn reads_touching(sector: u64, alloc: Global) -> Result<ThreeReads, AllocError> {
+    let mut image = FuseImage::touching(letters(alloc)?, sector);
+    let reads = three_reads(&mut image);
+    Ok((reads, [image.failures(), image.failed()]))
 }
 
 #[test]
 fn fuses_fail_their_reads(rt: HostRuntime) -> Result<(), Fail> {
-    let mut image = FuseImage::nth(letters(rt.alloc())?, 0);
-    assert_eq!(rt; three_reads(&mut image), [Ok(()); 3]);
-    assert_eq!(rt; (image.failures(), image.failed()), (0, 0));
-    let mut image = FuseImage::nth(letters(rt.alloc())?, 2);
     let at_1 = Err(ImageFault { sector: 1 });
-    assert_eq!(rt; three_reads(&mut image), [Ok(()), at_1, Ok(())]);
-    assert_eq!(rt; (image.failures(), image.failed()), (1, 1));
-    let mut image = FuseImage::touching(letters(rt.alloc())?, 2);
     let at_2 = Err(ImageFault { sector: 2 });
-    assert_eq!(rt; three_reads(&mut image), [Ok(()), at_1, at_2]);
-    assert_eq!(rt; (image.failures(), image.failed()), (2, 2));
+    same(&rt, &reads_of_nth(0, rt.alloc())?, &([Ok(()); 3], [0, 0]));
+    same(
+        &rt,
+        &reads_of_nth(2, rt.alloc())?,
+        &([Ok(()), at_1, Ok(())], [1, 1]),
+    );
+    same(
+        &rt,
+        &reads_touching(2, rt.alloc())?,
+        &([Ok(()), at_1, at_2], [2, 2]),
+    );
     Ok(())
+}
+
+// What comes of a read, or nothing where the image is too small for it.
+fn read_within<I: Image>(image: &mut I, at: u64, buf: &mut [u8]) -> Option<Result<(), ImageFault>> {
+    let size = image.size();
+    if size < at || size - at < buf.len() as u64 {
+        return None;
+    }
+    Some(image.read_at(at, buf))
+}
+
+// What is found of a file: its size when it was opened, four of its bytes, what came of the read of
+// them, and of a second one after the file was cut, how many reads failed, and the sector of the last
+// one that did.
+type CutFile = (u64, [u8; 4], [Option<Result<(), ImageFault>>; 2], [u64; 2]);
+
+// A file of 1,024 bytes, which is cut to 1,022 after the first read, and removed.
+fn cut_file<R: Files<File = File>>(files: &R) -> Result<CutFile, Fail> {
+    fs::write(files, NAME, [7u8; 1024].as_slice())?;
+    let mut image = FileImage::open(files, NAME)?;
+    let mut found = [0u8; 4];
+    let first = read_within(&mut image, 1020, &mut found);
+    fs::write(files, NAME, [8u8; 1022].as_slice())?;
+    let second = read_within(&mut image, 1020, &mut [0u8; 4]);
+    fs::remove_file(files, NAME)?;
+    Ok((
+        image.size(),
+        found,
+        [first, second],
+        [image.failures(), image.failed()],
+    ))
 }
 
 // A file that is shorter than when it was opened fails the reads past its end.
 #[test]
 fn file_reads(rt: HostRuntime) -> Result<(), Fail> {
-    fs::write(&rt, NAME, [7u8; 1024].as_slice())?;
-    let mut image = FileImage::open(&rt, NAME)?;
-    assert!(rt; image.size() == 1024);
-    let mut found = [0u8; 4];
-    image.read_at(1020, &mut found)?;
-    assert_eq!(rt; found, [7; 4]);
-    fs::write(&rt, NAME, [8u8; 1022].as_slice())?;
-    assert_eq!(rt;
-        image.read_at(1020, &mut found),
-        Err(ImageFault { sector: 1 })
+    let (size, found, reads, failures) = cut_file(&rt)?;
+    same(&rt, &(size, found), &(1024, [7; 4]));
+    same(
+        &rt,
+        &reads,
+        &[Some(Ok(())), Some(Err(ImageFault { sector: 1 }))],
     );
-    assert_eq!(rt; (image.failures(), image.failed()), (1, 1));
-    fs::remove_file(&rt, NAME)?;
-    assert!(rt; FileImage::open(&rt, NAME).is_err());
+    same(&rt, &failures, &[1, 1]);
+    same(&rt, &FileImage::open(&rt, NAME).is_err(), &true);
     Ok(())
+}
+
+// The size of a file's image, two of its bytes, and what came of the read of them.
+type TwoBytes = (u64, [u8; 2], Option<Result<(), ImageFault>>);
+
+fn two_bytes<R: Files<File = File>>(files: &R, name: &str, at: u64) -> Result<TwoBytes, Fail> {
+    let mut image = FileImage::open(files, name)?;
+    let mut found = [0u8; 2];
+    let read = read_within(&mut image, at, &mut found);
+    Ok((image.size(), found, read))
 }
 
 // An image that isn't a whole number of sectors has its size, and opening and reading change
@@ -92,15 +154,19 @@ fn file_reads(rt: HostRuntime) -> Result<(), Fail> {
 #[test]
 fn file_is_left_as_it_is(rt: HostRuntime) -> Result<(), Fail> {
     fs::write(&rt, ODD, [7u8; 1001].as_slice())?;
-    let mut image = FileImage::open(&rt, ODD)?;
-    assert!(rt; image.size() == 1001);
-    let mut found = [0u8; 2];
-    image.read_at(999, &mut found)?;
-    assert_eq!(rt; found, [7; 2]);
-    assert_eq!(rt; fs::read(&rt, ODD)?.as_slice(), [7u8; 1001].as_slice());
+    same(
+        &rt,
+        &two_bytes(&rt, ODD, 999)?,
+        &(1001, [7; 2], Some(Ok(()))),
+    );
+    same(
+        &rt,
+        &fs::read(&rt, ODD)?.as_slice(),
+        &[7u8; 1001].as_slice(),
+    );
     fs::remove_file(&rt, ODD)?;
-    assert!(rt; FileImage::open(&rt, ODD).is_err());
-    assert!(rt; fs::metadata(&rt, ODD).is_err());
+    same(&rt, &FileImage::open(&rt, ODD).is_err(), &true);
+    same(&rt, &fs::metadata(&rt, ODD).is_err(), &true);
     Ok(())
 }
 
@@ -164,36 +230,50 @@ impl<R: Files<File = File>> Files for ReadOnly<'_, R> {
     }
 }
 
+// Whether a file is opened for writing.
+fn opens_for_writing<R: Files<File = File>>(files: &R, name: &str) -> bool {
+    OpenOptions::new()
+        .read(true)
+        .write(true)
+        .open(files, name)
+        .is_ok()
+}
+
 #[test]
 fn opens_for_reading_alone(rt: HostRuntime) -> Result<(), Fail> {
     fs::write(&rt, READ_ONLY, [7u8; 512].as_slice())?;
     let system = ReadOnly { files: &rt };
-    assert!(rt;
-        OpenOptions::new()
-            .read(true)
-            .write(true)
-            .open(&system, READ_ONLY)
-            .is_err()
+    same(&rt, &opens_for_writing(&system, READ_ONLY), &false);
+    same(
+        &rt,
+        &two_bytes(&system, READ_ONLY, 510)?,
+        &(512, [7; 2], Some(Ok(()))),
     );
-    let mut image = FileImage::open(&system, READ_ONLY)?;
-    assert!(rt; image.size() == 512);
-    let mut found = [0u8; 1];
-    image.read_at(511, &mut found)?;
-    assert_eq!(rt; found, [7]);
     fs::remove_file(&rt, READ_ONLY)?;
     Ok(())
+}
+
+// How a check of what has this name ends, and what it prints.
+fn checked<R: Files<File = File>>(
+    files: &R,
+    name: &str,
+    alloc: Global,
+) -> Result<(End, Vec<u8>), Fail> {
+    let mut image = FileImage::open(files, name)?;
+    let args = Args { name, sector: None };
+    let mut text = Vec::new(alloc);
+    let end = check(alloc, &mut image, &args, &mut Counted::new(&mut text));
+    Ok((end, text))
 }
 
 // A directory can't be read, and a device without bytes has none.
 #[test]
 fn no_superblock_in_a_directory(rt: HostRuntime) -> Result<(), Fail> {
+    let refused = End::Refused(SuperFault::CannotRead { sector: 16 });
     for name in [".", "/dev/null"] {
-        let mut image = FileImage::open(&rt, name)?;
-        let args = Args { name, sector: None };
-        let mut text = Vec::new(rt.alloc());
-        let end = check(rt.alloc(), &mut image, &args, &mut Counted::new(&mut text));
-        assert_eq!(rt; end, End::Refused(SuperFault::CannotRead { sector: 16 }));
-        assert!(rt; text.ends_with(b"CAN NOT READ: BLK 16\n"));
+        let (end, text) = checked(&rt, name, rt.alloc())?;
+        same(&rt, &end, &refused);
+        same(&rt, &text.ends_with(b"CAN NOT READ: BLK 16\n"), &true);
     }
     Ok(())
 }
