@@ -6,7 +6,7 @@ use Rattle.std.specs.List.{list_any, flat_map, find}
 use Rattle.std.proofs.Common.{arith, sym, ◌∙◌, ap, subst, inl, inr}
 use Rattle.std.proofs.lemmas.List.{get_or-set_other}
 use Rattle.std.proofs.lemmas.Bool.{both_ways, cases_Bool, cases_eq, eqb-true, eq-eqb, ne_eqb, and_parts, and_from}
-use Rattle.std.proofs.lemmas.Bool.{or_cases, or_left, or_right, not-true, false_from_ne_true, ltb-true}
+use Rattle.std.proofs.lemmas.Bool.{or_left, or_right, not-true, false_from_ne_true, ltb-true}
 use Rattle.std.proofs.lemmas.Bool.{leb-true}
 use Rattle.ffs_volume.specs.declared.Layout.{Layout}
 use Rattle.ffs_volume.specs.declared.Attr.{Attr}
@@ -42,8 +42,8 @@ use Rattle.ffs_workspace.specs.Lengths.{IsFor}
 use Rattle.ffs_workspace.specs.Holds.{bool_at, HoldsClaims, HoldsSurvey}
 use Rattle.ffs_workspace.proofs.KindLaws.{reports_at, suspect_is, type_is}
 use Rattle.ffs_survey.specs.Survey.{number_at, dir_at}
-use Rattle.ffs_survey.specs.Calm.{Sight, is_calm_kind, is_calm_named, is_calm_plain, is_calm_role, is_calm_whiteout}
-use Rattle.ffs_survey.specs.Calm.{is_calm_entry, reached_after, are_calm, IsCalm}
+use Rattle.ffs_survey.specs.Calm.{Sight, is_calm_kind, is_calm_plain, is_calm_role, is_calm_entry, reached_after}
+use Rattle.ffs_survey.specs.Calm.{are_calm, IsCalm}
 use Rattle.ffs_survey.proofs.CalmLaws.{calm_names_new, calm_new}
 use Rattle.ffs_names.specs.RightShapes.{is_right_size, is_right_shape}
 use Rattle.ffs_names.specs.Surveys.{FlagsCalm}
@@ -116,24 +116,14 @@ whiteout_none : (e : Entry) → (e.number == 1) ≡ false → (e.kind == 14) ≡
 whiteout_none e a b = ap (λ z. (z && not (e.kind == 14)) || ((e.kind == 14) && not (e.number == 1))) a
     ∙ ap (λ z. z && not (e.number == 1)) b
 
--- a whiteout is quiet, and so is a plain entry that names a calm inode
-whiteout_quiet : (v : Volume) (s : Sight) (parents stamps : List ℕ) (e : Entry) → Shown v s.kinds s.marked parents
-    → is_calm_whiteout s.kinds e.number e.kind ≡ true → is_plain_quiet v s.dir stamps e ≡ true
-whiteout_quiet v s parents stamps e sh c =
-    let c1 = and_parts (e.number == 1) _ c in
-    let c2 = and_parts (e.kind == 14) _ c1.1 in
-    let right : is_bad_whiteout e ≡ false = ap (λ b. (b && not (e.kind == 14)) || ((e.kind == 14) && not b)) c1.0
-    ∙ ap (λ b. not b || (b && false)) c2.0 in
-    and_from (nat_lt e.number v.count) _ (ap (nat_lt e.number) sh.count ∙ c2.1)
-    (and_from (not (is_bad_whiteout e)) _ (ap not right) (or_left (e.number == 1) _ c1.0))
-
-named_quiet : (v : Volume) (s : Sight) (parents stamps : List ℕ) (reached : ℕ → Bool) (e : Entry) →
+-- a calm plain entry is quiet
+plain_quiet : (v : Volume) (s : Sight) (parents stamps : List ℕ) (reached : ℕ → Bool) (e : Entry) →
     Shown v s.kinds s.marked parents
-    → is_calm_named s.kinds s.marked reached e.number e.kind ≡ true
+    → is_calm_plain s.kinds s.marked reached e.number e.kind ≡ true
     → (is_dir v e.number ≡ true → belongs v s.dir e.number ≡ true) →
     (is_dir v e.number ≡ true → (slice_index stamps e.number == s.dir) ≡ false)
     → is_plain_quiet v s.dir stamps e ≡ true
-named_quiet v s parents stamps reached e sh c mine new =
+plain_quiet v s parents stamps reached e sh c mine new =
     let x = e.number in
     let c1 = and_parts (nat_le 2 x) _ c in
     let c2 = and_parts (nat_lt x (length s.kinds)) _ c1.1 in
@@ -166,18 +156,6 @@ named_quiet v s parents stamps reached e sh c mine new =
     link : (d b c : Bool) → (d ≡ true → b ≡ true) → (d ≡ true → c ≡ false) → (not d || (b && not c)) ≡ true
     link false b c f g = refl
     link true b c f g = and_from b (not c) (f refl) (ap not (g refl))
-
-plain_quiet : (v : Volume) (s : Sight) (parents stamps : List ℕ) (reached : ℕ → Bool) (e : Entry) →
-    Shown v s.kinds s.marked parents
-    → is_calm_plain s.kinds s.marked reached e.number e.kind ≡ true
-    → (is_dir v e.number ≡ true → belongs v s.dir e.number ≡ true) →
-    (is_dir v e.number ≡ true → (slice_index stamps e.number == s.dir) ≡ false)
-    → is_plain_quiet v s.dir stamps e ≡ true
-plain_quiet v s parents stamps reached e sh c mine new =
-    elim (or_cases (is_calm_whiteout s.kinds e.number e.kind) _ c) [
-      | inl white ↦ whiteout_quiet v s parents stamps e sh white
-      | inr named ↦ named_quiet v s parents stamps reached e sh named mine new
-    ]
 
 -- calm entries are quiet, where each that was stamped was reached
 calm_quiet : (v : Volume) (s : Sight) (parents : List ℕ) (es : List RoledEntry) (reached : ℕ → Bool) (i : ℕ)

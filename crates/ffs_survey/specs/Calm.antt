@@ -20,18 +20,11 @@ abbrev pub is_calm_kind : ℕ → Bool → Bool
 is_calm_kind kind reached =
     not (kind == 0) && (not (kind == 5) && (not (kind == 14) && (not (kind == 15) && not ((kind == 4) && reached))))
 
--- a plain entry is a whiteout: it has the number and the type of one
-abbrev pub is_calm_whiteout : List ℕ → ℕ → ℕ → Bool
-is_calm_whiteout kinds x kind = (x == 1) && ((kind == 14) && nat_lt x (length kinds))
-
 -- the inode that a plain entry names isn't marked, and has the type of the entry
-abbrev pub is_calm_named : List ℕ → List Bool → (ℕ → Bool) → ℕ → ℕ → Bool
-is_calm_named kinds marked reached x kind =
+abbrev pub is_calm_plain : List ℕ → List Bool → (ℕ → Bool) → ℕ → ℕ → Bool
+is_calm_plain kinds marked reached x kind =
     nat_le 2 x && (nat_lt x (length kinds) && (not (bool_at marked x)
     && ((number_at kinds x == kind) && is_calm_kind kind (reached x))))
-
-abbrev pub is_calm_plain : List ℕ → List Bool → (ℕ → Bool) → ℕ → ℕ → Bool
-is_calm_plain kinds marked reached x kind = is_calm_whiteout kinds x kind || is_calm_named kinds marked reached x kind
 
 -- an entry at an index of the directory: `.` is the first, `..` the second, and all others are empty or plain
 abbrev pub is_calm_role : Sight → (ℕ → Bool) → ℕ → Role → ℕ → ℕ → Bool

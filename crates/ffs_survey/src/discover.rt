@@ -15,7 +15,7 @@ use crate::numbers::number_of;
 use ffs_image::ImageFault;
 use ffs_memory::FilledList;
 use ffs_volume::Role;
-use ffs_volume::constants::{DT_DIR, DT_WHT, EMPTY_DIR, ROOTINO, UNKNOWN_TYPE, WINO};
+use ffs_volume::constants::{DT_DIR, DT_WHT, EMPTY_DIR, ROOTINO, UNKNOWN_TYPE};
 
 /// Counts one more reference of an inode.
 fn add_one(references: &mut FilledList<u64>, number: usize)
@@ -106,7 +106,7 @@ fn is_calm_kind(kind: u8, reached: bool) -> bool
     }
 }
 
-/// Whether nothing can be reported of a plain entry: a whiteout, or one that names a calm inode.
+/// Whether nothing can be reported of a plain entry.
 fn is_calm_plain(entry: Named, kinds: &[u8], marked: &[bool], reached: &[bool]) -> bool
     requires { MarkLists kinds.now marked.now reached.now }
     ensures { result ≡ is_calm_plain kinds.now marked.now (bool_at reached.now) entry.number
@@ -114,7 +114,7 @@ fn is_calm_plain(entry: Named, kinds: &[u8], marked: &[bool], reached: &[bool]) 
 {
     let number = entry.number as usize;
     if number < ROOTINO as usize || number >= kinds.len() {
-        return entry.number == WINO && entry.kind == DT_WHT && number < kinds.len();
+        return false;
     }
     !marked[number] && kinds[number] == entry.kind && is_calm_kind(entry.kind, reached[number])
 }
