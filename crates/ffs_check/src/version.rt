@@ -2,4 +2,4 @@
 
 /// The version, and the first digits of the digest of the sources that the program was built from.
 /// `tools/renew_dist` writes this line.
-pub const VERSION: &str = "1.1.0 (sources 7286f78df1a5)";
+pub const VERSION: &str = "1.1.0 (sources 80eefdd1b4a3)";

@@ -71,7 +71,8 @@ fn words_seen(alloc: Global) -> Result<[u64; 6], AllocError> {
     Ok([last, before, at, after, words.get(3), words.get(700)])
 }
 
-// A volume of one group with more inodes than 16 bits can count: its fragments, its inodes, and where its data begins.
+// A volume of one group with more inodes than 16 bits can count: its fragments, its inodes, and
+// where its data begins.
 const FRAGMENTS: u64 = 8320;
 
 const INODES: u64 = 65568;
@@ -83,19 +84,30 @@ const MANY_HELD: u64 = 2 * 8 * 130 + 25 * INODES + 6 * 4096;
 
 const NO_ROOT: &[u8] = b"** Phase 2 - Check Pathnames\nROOT INODE UNALLOCATED\nALLOCATE? no\n\n";
 
+// What its superblock has in other places than that of the base volume, and what is there.
+const CHANGED: [(usize, u64); 5] = [
+    (20, DATA),
+    (36, FRAGMENTS),
+    (152, DATA),
+    (184, INODES),
+    (188, FRAGMENTS),
+];
+
+// So many bytes, each 0.
+fn zeros(count: usize, alloc: Global) -> Result<Vec<u8>, AllocError> {
+    let bytes = vec![in alloc; 0u8; count]?;
+    Ok(bytes)
+}
+
 // The image of that volume, whose inodes are all free.
 fn many_inodes(alloc: Global) -> Result<MemoryImage, AllocError> {
-    let mut bytes = vec![in alloc; 0u8; 8519680]?;
+    let mut bytes = zeros(8519680, alloc)?;
     for at in [8192, 16384] {
         put_super(Order::Little, bytes.as_mut_slice(), at);
-        let numbers = [
-            (at + 20, 4, DATA),
-            (at + 36, 4, FRAGMENTS),
-            (at + 152, 4, DATA),
-            (at + 184, 4, INODES),
-            (at + 188, 4, FRAGMENTS),
-        ];
-        put(Order::Little, bytes.as_mut_slice(), &numbers);
+        for &(place, number) in &CHANGED {
+            let number = [(at.saturating_add(place), 4, number)];
+            put(Order::Little, bytes.as_mut_slice(), &number);
+        }
     }
     Ok(MemoryImage::new(bytes))
 }
