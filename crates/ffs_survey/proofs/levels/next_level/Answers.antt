@@ -1,4 +1,4 @@
-use Rattle.std.proofs.Common.{rules, ◌≡◌, ◌+◌, ◌++◌, take, drop, arith, sym, ◌∙◌, ap, subst}
+use Rattle.std.proofs.Common.{◌≡◌, ◌+◌, ◌++◌, take, drop, arith, sym, ◌∙◌, ap, subst}
 use Rattle.ffs_survey.specs.Survey.{graph_with}
 use Rattle.ffs_survey.specs.Discover.{Comes, LevelsKnown, from_dirs, nothing}
 use Rattle.ffs_survey.proofs.CalmLaws.{front_reached}
