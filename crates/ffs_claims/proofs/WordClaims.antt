@@ -16,6 +16,8 @@ use Rattle.ffs_maps.proofs.Bits.{bits_long}
 use Rattle.ffs_walk.specs.declared.walk.Walk.{Walk}
 use Rattle.ffs_image.specs.Device.{ForContents}
 use Rattle.ffs_walk.specs.Rests.{SameExtent, left, rest}
+use Rattle.ffs_walk.specs.Counts.{EntersOnly}
+use Rattle.ffs_walk.proofs.Counted.{enters_none}
 use Rattle.ffs_walk.specs.Windows.{BlocksHold}
 use Rattle.ffs_walk.specs.Words.{PassesWord, next_address, word_step}
 use Rattle.ffs_workspace.specs.declared.workspace.Workspace.{Workspace}
@@ -69,8 +71,8 @@ lines_same v number s s' step R R' e now none = rw (e, now, none) refl
 pub words_once : (v : Layout) (a b : Workspace) (x y : Walk) (address : ℕ) → 0 < v.frag → v.frag ≤ 8 → IsFor v a →
     x.geometry.layout ≡ v → address ≡ next_address a.windows.blocks x → PassesWord a.windows.blocks x y →
     ((block : ℕ) → ClaimsSilently v (word_step v.frag address block) a b) → is_open (claims_of b) ≡ true →
-    ClaimsOnly v a b → left y < left x → SameExtent x y → ClaimsWords v a b x y
-words_once v a b x y address some small made layout is passes claims uncut only falls same =
+    ClaimsOnly v a b → left y < left x → SameExtent x y → a.runs_seen ≤ b.runs_seen → EntersOnly x y 0 → ClaimsWords v a b x y
+words_once v a b x y address some small made layout is passes claims uncut only falls same rises counted =
     let block = x.single.first + x.single.next in
     let step = word_step v.frag address block in
     let now : claims_of b ≡ after_step v (claims_of a) step = (claims block).claims in
@@ -92,6 +94,8 @@ words_once v a b x y address some small made layout is passes claims uncut only 
       only = only;
       falls = omega (arith, falls);
       same = same;
+      rises = rises;
+      counted = counted;
     }
 
 -- how many fragments are kept then
@@ -115,6 +119,8 @@ words_none v w walk made uncut = record {
   only = only_none v w made;
   falls = omega arith;
   same = record { geometry = refl; blocks = refl };
+  rises = omega arith;
+  counted = enters_none walk walk 0 refl refl refl;
 }
 
 pub words_then : (v : Layout) (a b c : Workspace) (x y z : Walk) → ClaimsWords v a b x y → ClaimsWords v b c y z →
@@ -129,4 +135,9 @@ words_then v a b c x y z p q = record {
   only = only_then v a b c p.only q.only;
   falls = omega (arith, p.falls, q.falls);
   same = record { geometry = q.same.geometry ∙ p.same.geometry; blocks = q.same.blocks ∙ p.same.blocks };
+  rises = omega (arith, p.rises, q.rises);
+  counted = record {
+    unread = omega (arith, p.counted.unread, q.counted.unread);
+    held = λ blocks h. q.counted.held blocks (p.counted.held blocks h);
+  };
 }

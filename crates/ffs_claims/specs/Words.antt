@@ -8,6 +8,7 @@ use Rattle.ffs_volume.specs.Laws.ClaimBounds.{ClaimBound}
 use Rattle.ffs_walk.specs.declared.walk.Walk.{Walk}
 use Rattle.ffs_walk.specs.Rests.{SameExtent, left, rest}
 use Rattle.ffs_walk.specs.Windows.{BlocksHold}
+use Rattle.ffs_walk.specs.Counts.{EntersOnly}
 use Rattle.ffs_workspace.specs.declared.workspace.Workspace.{Workspace}
 use Rattle.ffs_workspace.specs.Holds.{claims_of}
 use Rattle.ffs_workspace.specs.Lengths.{IsFor}
@@ -42,3 +43,5 @@ pub record ClaimsWords (v : Layout) (old new : Workspace) (walk walk' : Walk) : 
   pub only : ClaimsOnly v old new
   pub falls : left walk' ≤ left walk
   pub same : SameExtent walk walk'
+  pub rises : old.runs_seen ≤ new.runs_seen
+  pub counted : EntersOnly walk walk' 0

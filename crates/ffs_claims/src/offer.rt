@@ -8,6 +8,7 @@ ghost use Rattle.ffs_volume.specs.Blocks.Claims as claims;
 ghost use Rattle.ffs_volume.specs.Blocks.Claims.{after_offer, after_offers, after_run, after_step, offer_lines, lines_of_offers, run_lines, step_lines};
 ghost use Rattle.ffs_report.specs.Progress.{progress, Says};
 ghost use Rattle.ffs_workspace.specs.Holds.{claims_of};
+ghost use Rattle.ffs_walk.specs.Counts.{entered};
 ghost use Rattle.ffs_claims.specs.Leaves.{AreClaims, CanOffer, OffersOnly};
 ghost use Rattle.ffs_claims.specs.Lines.{of_lines, is_dup, dup_lines, bad_lines};
 ghost use Rattle.ffs_claims.specs.Claiming.{ClaimsStep, SeesNext};
@@ -236,6 +237,7 @@ pub fn step<W: Output>(
         (progress W.sink report.old) (progress W.sink report.new) workspace.old workspace.new
         area.new result }
     ensures runs { workspace.new.runs_seen ≤ workspace.old.runs_seen + 1 }
+    ensures counted { workspace.old.runs_seen + entered step ≤ workspace.new.runs_seen }
 {
     match step {
         Step::Run { start, len, .. } => {

@@ -1,6 +1,6 @@
 //! The words of an indirect block that are claimed with nothing to report.
 
-ghost use Rattle.std.specs.Prelude.{◌≡◌, false, true, IsTrue, ℕ};
+ghost use Rattle.std.specs.Prelude.{◌≡◌, ◌≤◌, false, true, IsTrue, ℕ};
 ghost use Rattle.ffs_volume.specs.Blocks.Claims.{is_open};
 ghost use Rattle.ffs_walk.specs.Words.{IsInHeldBlock, word_step};
 ghost use Rattle.ffs_workspace.specs.Holds.{claims_of};
@@ -29,6 +29,7 @@ fn claim_address(
     ensures kept { result ≡ false → workspace.new ≡ workspace.old }
     ensures uncut { is_open (claims_of workspace.new) ≡ true }
     ensures only { ClaimsOnly geometry.now.layout workspace.old workspace.new }
+    ensures rises { workspace.old.runs_seen ≤ workspace.new.runs_seen }
 {
     if address == 0 {
         return true;

@@ -79,6 +79,8 @@ impl<S: Source> Image for SourceImage<S> {
     ghost device = { λ i. let s = S.stock i.source in
         record { contents = s.contents; size = s.size; failures = s.failures; failed = i.failed } };
 
+    ghost reads = { λ _. 0 };
+
     ghost sized = { λ i. S.sized i.source };
 
     fn size(&self) -> u64 {

@@ -33,6 +33,8 @@ impl Image for MemoryImage {
 
     ghost device = { λ m. record { contents = Some m; size = length m; failures = 0; failed = 0 } };
 
+    ghost reads = { λ _. 0 };
+
     ghost sized = { λ _. refl };
 
     fn size(&self) -> u64 {

@@ -8,3 +8,4 @@ mod Whole
 mod Walks
 mod UnrefLaws
 pub mod CalmLaws
+pub mod Costs

@@ -10,13 +10,9 @@ use Rattle.ffs_volume.specs.Disk.Search.{some_below, first_below}
 use Rattle.ffs_volume.proofs.SearchLaws.{some_below-suc, some_below-from, some_below-none}
 use Rattle.ffs_volume.specs.Directories.Graph.{Graph, is_naming_dir}
 use Rattle.ffs_survey.specs.Survey.{counted_in, references_below}
+use Rattle.ffs_survey.specs.Costs.{costs_below}
 use Rattle.ffs_survey.specs.Discover.{bit, times, count_of, any_of, counted_by}
 use Rattle.ffs_survey.proofs.Frontiers.{times-cases, times-cons}
-
--- the sum over the numbers below n that pass
-abbrev sum_upto : (ℕ → Bool) → (ℕ → ℕ) → ℕ → ℕ
-sum_upto r c zero = 0
-sum_upto r c (suc n) = sum_upto r c n + cond (r n) (c n) 0
 
 abbrev part : (ℕ → ℕ) → ℕ → List ℕ → ℕ
 part c n q = sum_by (λ s. cond (nat_lt s n) (c s) 0) q
@@ -109,7 +105,7 @@ part-zero c (y ∷ q) =
     omega (arith, a, b, r)
 
 part-is : (c : ℕ → ℕ) (r : ℕ → Bool) (q : List ℕ) → ((s : ℕ) → times s q ≡ bit (r s)) → (n : ℕ) →
-    part c n q ≡ sum_upto r c n
+    part c n q ≡ costs_below r c n
 part-is c r q h zero = part-zero c q
 part-is c r q h (suc n) = let a = part-suc c n q in let b = here-bit (c n) n q (r n) (h n) in let d =
     part-is c r q h n in omega (arith, a, b, d)
@@ -128,17 +124,22 @@ part-whole c n (y ∷ q) h =
     let r = part-whole c n q (λ s g. let z = h s g in let w = times-cons s y q in omega (arith, z, w)) in
     omega (arith, a, b, d, r)
 
-sum_upto-counted : (r : ℕ → Bool) (g : Graph) (x n : ℕ) → sum_upto r (λ s. counted_in g s x) n ≡ counted_by r g x n
+costs-counted : (r : ℕ → Bool) (g : Graph) (x n : ℕ) → costs_below r (λ s. counted_in g s x) n ≡ counted_by r g x n
 unfolding counted_by
-sum_upto-counted r g x zero = refl
-sum_upto-counted r g x (suc n) = ap (λ z. z + cond (r n) (counted_in g n x) 0) (sum_upto-counted r g x n)
+costs-counted r g x zero = refl
+costs-counted r g x (suc n) = ap (λ z. z + cond (r n) (counted_in g n x) 0) (costs-counted r g x n)
+
+-- the costs of a list that holds each that passes once
+pub costs_once : (c : ℕ → ℕ) (r : ℕ → Bool) (q : List ℕ) (n : ℕ) → ((s : ℕ) → times s q ≡ bit (r s)) →
+    ((s : ℕ) → n ≤ s → r s ≡ false) → sum_by c q ≡ costs_below r c n
+costs_once c r q n h past = part-whole c n q (λ s l. h s ∙ ap bit (past s l)) ∙ part-is c r q h n
 
 -- the count over a list that holds each that passes once
 pub count_all : (g : Graph) (r : ℕ → Bool) (q : List ℕ) (n x : ℕ) → ((s : ℕ) → times s q ≡ bit (r s)) →
     ((s : ℕ) → n ≤ s → r s ≡ false) → count_of g q x ≡ counted_by r g x n
 count_all g r q n x h past =
     part-whole (λ s. counted_in g s x) n q (λ s l. h s ∙ ap bit (past s l))
-    ∙ (part-is (λ s. counted_in g s x) r q h n ∙ sum_upto-counted r g x n)
+    ∙ (part-is (λ s. counted_in g s x) r q h n ∙ costs-counted r g x n)
 
 any-gives : (p : ℕ → Bool) (q : List ℕ) → list_any p q ≡ true → (y : ℕ) × (1 ≤ times y q) × (p y ≡ true)
 any-gives p [] h = absurd (cc)

@@ -7,3 +7,4 @@ pub mod SurveyLaws
 pub mod ParentLaws
 pub mod Calm
 pub mod Levels
+pub mod Costs

@@ -2,6 +2,7 @@
 ghost use Rattle.std.specs.Prelude.{◌≡◌, ◌==◌, ◌*◌, ◌+◌, ◌-◌, ℕ, ◌<◌, ◌≤◌, ◌^◌, ◌&&◌, ◌||◌, nat_le, cond, List, [], ◌∷◌, length, drop, take, All, true, false, IfOk, OnOk, slice_set, vec_len};
 ghost use Rattle.ffs_volume.specs.Directories.Roles.{is_plain as is_plain_role};
 ghost use Rattle.ffs_volume.specs.Directories.Graph.{is_naming_entry};
+ghost use Rattle.std.specs.List.{sum_by};
 ghost use Rattle.ffs_survey.specs.Reading.{roled_of, ForKnown, LeavesReader};
 ghost use Rattle.ffs_survey.specs.Lists.{MarkLists, TreeLists, QueueLists, CountLists, EntryLists, LevelLists, GrowsBy};
 ghost use Rattle.ffs_survey.specs.Levels.{Discovers, ReadsReached, ReadsDirs, ReadsUnreached};
@@ -162,6 +163,9 @@ fn flag_calm<D: Directories>(
         (D.sound_so_far directories.old b) calm.old calm.new) }
     ensures reader { LeavesReader (D.ready directories.new) (D.base directories.old)
         (D.base directories.new) (D.device directories.old) (D.device directories.new) result }
+    ensures counted { (b : List ℕ) → D.knows (D.base directories.old) b
+        → D.reads directories.new ≤ D.reads directories.old
+        + D.to_read directories.old b }
 {
     let number = from as usize;
     if !quiet || count < 2 || number >= calm.len() {
@@ -205,6 +209,9 @@ fn read_reached<D: Directories>(
     ensures queue_kept { IfOk result (λ n. Extends top n queue.old.items queue.new.items) }
     ensures reader { LeavesReader (D.ready directories.new) (D.base directories.old)
         (D.base directories.new) (D.device directories.old) (D.device directories.new) result }
+    ensures counted { (b : List ℕ) → D.knows (D.base directories.old) b
+        → D.reads directories.new ≤ D.reads directories.old
+        + D.cost (D.base directories.old) b from }
 {
     let above = number_of(parents, from as usize);
     let mut high = top;
@@ -262,6 +269,9 @@ pub fn read_level<D: Directories>(
     ensures queue_kept { IfOk result (λ n. Extends high n queue.old.items queue.new.items) }
     ensures reader { LeavesReader (D.ready directories.new) (D.base directories.old)
         (D.base directories.new) (D.device directories.old) (D.device directories.new) result }
+    ensures counted { (b : List ℕ) → D.knows (D.base directories.old) b
+        → D.reads directories.new ≤ D.reads directories.old
+        + sum_by (D.cost (D.base directories.old) b) (drop low (take high queue.old.items)) }
 {
     let mut top = high;
     for at in low..high {
@@ -331,6 +341,9 @@ pub fn read_unreached<D: Directories>(
     ensures parents_long { vec_len parents.new ≡ vec_len parents.old }
     ensures reader { LeavesReader (D.ready directories.new) (D.base directories.old)
         (D.base directories.new) (D.device directories.old) (D.device directories.new) result }
+    ensures counted { (b : List ℕ) → D.knows (D.base directories.old) b
+        → D.reads directories.new ≤ D.reads directories.old
+        + D.cost (D.base directories.old) b from }
 {
     directories.start(from)?;
     while let Some(entry) = directories.next()? {

@@ -10,3 +10,4 @@ pub mod Sizes
 pub mod Splices
 pub mod GapSteps
 pub mod WordSteps
+pub mod Counted

@@ -6,3 +6,4 @@ pub mod Lengths
 pub mod Rests
 pub mod Skips
 pub mod Words
+pub mod Counts

@@ -14,6 +14,7 @@ use Rattle.ffs_walk.specs.declared.frame.Item.{Item}
 use Rattle.ffs_walk.specs.Frames.{frame_rest, frame_left, item_steps, item_left}
 use Rattle.ffs_walk.specs.Fits.{FrameFits, IsSpent}
 use Rattle.ffs_walk.specs.Lengths.{IsStepOf}
+use Rattle.ffs_walk.specs.Counts.{EntersOnly, IsEntered, entered}
 
 abbrev pub extent_of : Walk → FileBlocks
 extent_of w = record { layout = w.geometry.layout; blocks = w.blocks; last_length = w.last }
@@ -103,6 +104,7 @@ pub record Enters (w : Walk) (span address first : ℕ) (made : Step) (frame : F
   pub step : IsStepOf w.geometry.layout.frag w.blocks made
   pub left : (most : ℕ) → frame_left most frame ≤ 1 + w.geometry.layout.nindir * most
   pub fits : FrameFits w.geometry.layout w.blocks span frame
+  pub counted : IsEntered made frame
 
 -- the step is the first that an item of a level means, and the walk has the others left, before those that it had
 pub record IsFirstOf (level : ℕ) (item : Item) (old new : Walk) (step : Step) : Type 0 where
@@ -111,3 +113,4 @@ pub record IsFirstOf (level : ℕ) (item : Item) (old new : Walk) (step : Step) 
   pub fits : IsStepOf old.geometry.layout.frag old.blocks step
   pub left : 1 + left new ≤ item_left (most_at old.geometry.layout.nindir level) item + left old
   pub same : SameExtent old new
+  pub counted : EntersOnly old new (entered step)

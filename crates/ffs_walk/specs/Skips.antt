@@ -12,6 +12,7 @@ use Rattle.ffs_walk.specs.Fits.{IsSpent}
 use Rattle.ffs_walk.specs.Windows.{BlocksHold, held_address, level_bytes}
 use Rattle.ffs_walk.specs.Frames.{IsSameBlock, frame_left, frame_rest}
 use Rattle.ffs_walk.specs.Rests.{IsAtTop, SameExtent, left, rest}
+use Rattle.ffs_walk.specs.Counts.{EntersOnly}
 
 -- the next word in the block of a frame isn't zero, where the block is held for the level and was read before
 abbrev pub HasNoGapNext : Layout → ℕ → Blocks → Frame → Type 0
@@ -50,3 +51,4 @@ pub record PassesGaps (blocks : Blocks) (old new : Walk) (gaps : ℕ) : Type 0 w
   pub falls : left new ≤ left old
   pub passed : HasPassedGaps old new blocks
   pub same : SameExtent old new
+  pub counted : EntersOnly old new 0

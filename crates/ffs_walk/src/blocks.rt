@@ -1,6 +1,6 @@
 //! The indirect blocks that a walk is in.
 
-ghost use Rattle.std.specs.Prelude.{◌≡◌, ◌<◌, length, OnOk, IsTrue};
+ghost use Rattle.std.specs.Prelude.{◌≡◌, ◌<◌, ◌≤◌, ◌+◌, ℕ, length, Some, OnOk, IsTrue};
 ghost use Rattle.ffs_volume.specs.Disk.Areas.{is_run_in_range};
 
 use ffs_image::{Image, ImageFault};
@@ -18,7 +18,7 @@ pub struct Blocks {
 }
 
 impl Blocks {
-    ghost use Rattle.ffs_walk.specs.Windows.{AreEmptyBlocks, BlocksAfter, CanWalk, HasRoom, HoldsBlockAt, level_bytes};
+    ghost use Rattle.ffs_walk.specs.Windows.{AreEmptyBlocks, BlocksAfter, CanWalk, HasRoom, HoldsBlockAt, held_address, level_bytes};
 
     /// Blocks that hold nothing, over a buffer of at least three blocks' bytes. It takes no memory.
     pub fn over(buffer: FixedList<u8>) -> Blocks
@@ -51,6 +51,11 @@ impl Blocks {
             (I.device image.old).contents level address self.new) }
         ensures leaves { BlocksAfter geometry.now.layout (I.device image.old)
             (I.device image.new) self.old self.new result }
+        ensures counted { I.reads image.new ≤ I.reads image.old + 1 }
+        ensures again { held_address level self.old ≡ Some address
+            → I.reads image.new ≤ I.reads image.old }
+        ensures others { (other : ℕ) → (other ≡ level → ⊥)
+            → held_address other self.new ≡ held_address other self.old }
     {
         if self.held[level] == Some(address) {
             return Ok(());

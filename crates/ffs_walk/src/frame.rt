@@ -1,6 +1,6 @@
 //! The position of a walk in an indirect block.
 
-ghost use Rattle.std.specs.Prelude.{◌≡◌, ◌-◌, ◌*◌, ◌<◌, ◌≤◌, ◌^◌, length, vec_len, Ok, None, OnOk, IfOk, IfErr, IfSome, MatchOption, IsTrue, false, not, ◌||◌, nat_lt, ◌↔◌};
+ghost use Rattle.std.specs.Prelude.{◌≡◌, ◌+◌, ◌-◌, ◌*◌, ◌<◌, ◌≤◌, ◌^◌, ℕ, length, Some, vec_len, Ok, None, OnOk, IfOk, IfErr, IfSome, MatchOption, IsTrue, false, not, ◌||◌, nat_lt, ◌↔◌};
 
 use crate::blocks::Blocks;
 use crate::words::{any_from, word, zeros_end};
@@ -39,6 +39,8 @@ impl Frame {
     ghost use Rattle.ffs_walk.specs.Windows.{BlocksAfter, CanWalk, HasRoom};
     ghost use Rattle.ffs_walk.specs.declared.frame.Item.TheVariants.{UnusedWord, Word};
     ghost use Rattle.ffs_walk.specs.Frames.{IsNextItem, IsSameBlock};
+    ghost use Rattle.ffs_walk.specs.Windows.{held_address};
+    ghost use Rattle.ffs_walk.specs.Counts.{IsHeldIn, unread_in};
 
     /// A frame of no words.
     pub fn spent() -> Frame
@@ -84,6 +86,12 @@ impl Frame {
         ensures same { IsSameBlock self.old self.new }
         ensures leaves { BlocksAfter geometry.now.layout (I.device image.old)
             (I.device image.new) blocks.old blocks.new result }
+        ensures counted { IsHeldIn level blocks.old self.old
+            → I.reads image.new ≤ I.reads image.old + unread_in self.old }
+        ensures read { OnOk result ((self.new.fresh ≡ false)
+            × (held_address level blocks.new ≡ Some self.new.address)) }
+        ensures others { (other : ℕ) → (other ≡ level → ⊥)
+            → held_address other blocks.new ≡ held_address other blocks.old }
     {
         blocks.fill(geometry, level, self.address, image)?;
         let block = blocks.bytes(geometry, level);

@@ -58,6 +58,7 @@ impl Walk {
     ghost use Rattle.ffs_walk.specs.Frames.{frame_rest, frame_left, item_steps, item_left};
     ghost use Rattle.ffs_walk.specs.Rests.{rest, left, extent_of, Enters, IsAtTop, IsDataStep, IsFirstOf, IsNextStep, IsOver, IsWalkOf, SameExtent, UsesNothing};
     ghost use Rattle.ffs_walk.specs.Windows.{BlocksAfter, CanWalk, HasRoom};
+    ghost use Rattle.ffs_walk.specs.Counts.{AreHeld, EntersOnly, StepReads, entered_by};
     ghost use Rattle.ffs_walk.specs.Words.{IsInHeldBlock, PassesWord, next_address};
     ghost use Rattle.ffs_walk.specs.declared.blocks.Blocks.{Blocks};
 
@@ -185,6 +186,7 @@ impl Walk {
         ensures none { result ≡ None → self.new ≡ self.old }
         ensures over { (self.old.next ≡ self.old.used) ↔ (result ≡ None) }
         ensures same { SameExtent self.old self.new }
+        ensures counted { EntersOnly self.old self.new (entered_by result) }
     {
         if self.next >= self.used {
             return None;
@@ -233,6 +235,8 @@ impl Walk {
         ensures same { SameExtent self.old self.new }
         ensures leaves { BlocksAfter self.old.geometry.layout (I.device image.old)
             (I.device image.new) blocks.old blocks.new result }
+        ensures counted { AreHeld blocks.old self.old → StepReads (I.reads image.old)
+            (I.reads image.new) blocks.new self.old self.new result }
     {
         let words = u64::from(self.geometry.layout.nindir);
         if self.single.is_left() {
@@ -284,6 +288,8 @@ impl Walk {
         ensures same { SameExtent self.old self.new }
         ensures leaves { BlocksAfter self.old.geometry.layout (I.device image.old)
             (I.device image.new) blocks.old blocks.new result }
+        ensures counted { AreHeld blocks.old self.old → StepReads (I.reads image.old)
+            (I.reads image.new) blocks.new self.old self.new result }
     {
         match self.advance(image, blocks) {
             Ok(step) => Ok(step),
@@ -377,6 +383,7 @@ impl Walk {
             → PassesWord blocks self.old self.new }
         ensures falls { left self.new < left self.old }
         ensures same { SameExtent self.old self.new }
+        ensures counted { EntersOnly self.old self.new 0 }
     {
         self.single.next += 1;
     }
@@ -436,6 +443,7 @@ impl Walk {
     pub fn restart(&mut self, inode: &Inode, class: Class)
         ensures walk { class ≡ inodes.class_of self.old.geometry.layout inode.now
             → IsWalkOf self.old.geometry inode.now self.new }
+        ensures top { IsAtTop self.new }
         ensures geometry { self.new.geometry ≡ self.old.geometry }
     {
         self.stop();

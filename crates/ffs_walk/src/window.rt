@@ -50,8 +50,9 @@ impl Window {
         requires room { length ≤ vec_len self.old.buffer }
         requires inside { place + length ≤ (I.device image.old).size }
         requires holds { WindowHolds (I.device image.old).contents self.old }
-        ensures { FillsWindow (I.device image.old) (I.device image.new) place length self.old
+        ensures fills { FillsWindow (I.device image.old) (I.device image.new) place length self.old
             self.new result }
+        ensures counted { I.reads image.new ≤ I.reads image.old + 1 }
     {
         if self.is_at(place, length) {
             return Ok(());

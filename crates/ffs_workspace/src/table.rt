@@ -90,6 +90,7 @@ impl Table {
         ensures has { OnOk result (HasInode self.new number) }
         ensures leaves { TableAfter geometry.now.layout (I.device image.old) (I.device image.new)
             self.new result }
+        ensures counted { I.reads image.new ≤ I.reads image.old + 1 }
     {
         let place = piece_place(geometry, number, count);
         self.forget();
@@ -116,6 +117,7 @@ impl Table {
             self.new number) }
         ensures leaves { TableAfter geometry.now.layout (I.device image.old) (I.device image.new)
             self.new result }
+        ensures counted { I.reads image.new ≤ I.reads image.old + 1 }
     {
         if !self.has(number) {
             self.read_piece(geometry, number, geometry.layout.inopb, image)?;
@@ -136,8 +138,9 @@ impl Table {
     ) -> Result<Inode, ImageFault>
         requires number { number < geometry.now.layout.ncg * geometry.now.layout.ipg }
         requires ready { CanReadInodes geometry.now.layout (I.device image.old) self.old }
-        ensures { ReadsInode geometry.now.layout (I.device image.old) (I.device image.new) number
+        ensures reads { ReadsInode geometry.now.layout (I.device image.old) (I.device image.new) number
             self.new result }
+        ensures counted { I.reads image.new ≤ I.reads image.old + 1 }
     {
         let at = self.load(geometry, number, image)?;
         let bytes = self.window.bytes();

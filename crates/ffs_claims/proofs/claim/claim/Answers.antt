@@ -2,6 +2,7 @@ use Rattle.std.proofs.Common.{arith, refl, ◌≡◌, ◌==◌, ◌<◌, ◌∙�
 use Rattle.std.specs.Prelude.{◌&&◌}
 use Rattle.std.proofs.lemmas.Result.{err_from_is_err_and}
 use Rattle.ffs_walk.specs.Rests.{rest}
+use Rattle.ffs_walk.proofs.Counted.{top_held, top_unread}
 use Rattle.ffs_maps.proofs.Bits.{length_bits, bits_long}
 use Rattle.ffs_volume.specs.declared.Step.{Step}
 use Rattle.ffs_volume.specs.declared.Step.TheVariants.{Gap}
@@ -55,6 +56,8 @@ loop-next-init g c =
       geometry = c.restart.ensures.geometry ∙ c.requires.walk;
       device = refl;
       found = found_none c.args.workspace.now;
+      held = top_held c.restart.new.self c.restart.ensures.top _;
+      counted = omega (arith, top_unread c.restart.new.self c.restart.ensures.top);
       moves = stays s;
       claims = λ bytes t. ap (after_steps v s) ((rw c.requires.walk at c.restart.ensures.walk c.requires.class).steps bytes);
       said = of_same _ _ _ _ _ _
@@ -182,6 +185,7 @@ loop-next-preserved-then-matches g c =
     let v = c.args.geometry.now.layout in
     let s = claims_of c.loop-next.workspace in
     let ok = c.in_ok-next.ensures.leaves.read in
+    let reads = c.in_ok-next.ensures.counted inv.held in
     let is_gap : c.in-Some.next ≡ Gap = elim c.match-matches.branch [
       | in-Gap w ↦ w.in-Gap.is
       | in_default-matches w ↦ cc
@@ -201,6 +205,10 @@ loop-next-preserved-then-matches g c =
       geometry = c.skip_gaps.ensures.same.geometry ∙ c.in_ok-next.ensures.same.geometry ∙ inv.geometry;
       device = ok ∙ inv.device;
       found = found_still _ _ _ inv.found;
+      held = c.skip_gaps.ensures.counted.held _ reads.held;
+      counted =
+          let paid = rw (c.in-Some.is, is_gap) at reads.paid in
+          omega (arith, paid, inv.counted, c.skip_gaps.ensures.counted.unread);
       moves = inv.moves;
       claims = λ bytes t. sym (ap (after_steps v s) (next bytes t ∙ ap (λ (xs : List Step). Gap ∷ xs) (gaps bytes t))
           ∙ gaps_stay v s c.skip_gaps.result (rest bytes c.skip_gaps.new.self)) ∙ inv.claims bytes t;
@@ -251,6 +259,8 @@ loop-next-preserved g c =
     let ok = c.in_ok-next.ensures.leaves.read in
     let next = rw (inv.device, c.in-Some.is) at c.in_ok-next.ensures.step.steps in
     let words = c.claim_words.ensures in
+    let reads = c.in_ok-next.ensures.counted inv.held in
+    let paid = rw c.in-Some.is at reads.paid in
     let read = ready_walked c.args.geometry.now _ _ _ c.loop-next.workspace c.next.new.blocks inv.geometry ok
     c.next.ensures.leaves.kept.size c.next.ensures.leaves.kept.holds inv.ready in
     let claimed : IsReady v (g.I.Image.device c.next.new.image) c.step.new.workspace =
@@ -268,6 +278,8 @@ loop-next-preserved g c =
       device = ok ∙ inv.device;
       found = found_then _ _ _ (found_then _ _ _ (found_still _ _ _ inv.found)
           c.step.ensures.claiming.left.only.found) words.only.found;
+      held = words.counted.held _ (rw (words.only.windows, c.step.ensures.claiming.left.only.windows) reads.held);
+      counted = omega (arith, paid, inv.counted, c.step.ensures.counted, words.rises, words.counted.unread);
       moves = moves_then (claims_of c.args.workspace.now) s (claims_of c.claim_words.new.workspace)
           (moves_on v (claims_of c.args.workspace.now) (claims_of c.loop-next.workspace) s c.in-Some.next
           (length_bits _ _ ∙ inv.ready.made.claimed) c.args.geometry.now.sound.sizes.frag_high
@@ -353,3 +365,27 @@ returns-in_default-clause-claiming g c =
         found = found_still _ _ _ inv.found;
       };
     }
+
+pub returns-in_err-next-clause-counted : goal.returns-in_err-next-clause-counted
+returns-in_err-next-clause-counted g c =
+    let inv = c.loop-next.invariant in
+    let reads = c.in_err-next.ensures.counted inv.held in
+    omega (arith, reads.most, inv.counted)
+
+pub returns-in_err-seen-clause-counted : goal.returns-in_err-seen-clause-counted
+returns-in_err-seen-clause-counted g c =
+    let inv = c.loop-next.invariant in
+    let paid = rw c.in-Some.is at (c.in_ok-next.ensures.counted inv.held).paid in
+    omega (arith, paid, inv.counted, c.step.ensures.counted)
+
+pub returns-then-not-seen-clause-counted : goal.returns-then-not-seen-clause-counted
+returns-then-not-seen-clause-counted g c =
+    let inv = c.loop-next.invariant in
+    let paid = rw c.in-Some.is at (c.in_ok-next.ensures.counted inv.held).paid in
+    omega (arith, paid, inv.counted, c.step.ensures.counted)
+
+pub returns-in_default-clause-counted : goal.returns-in_default-clause-counted
+returns-in_default-clause-counted g c =
+    let inv = c.loop-next.invariant in
+    let paid = rw c.in_default.is at (c.in_ok-next.ensures.counted inv.held).paid in
+    omega (arith, paid, inv.counted)

@@ -1,4 +1,5 @@
-use Rattle.std.proofs.Common.{◌≡◌, true}
+use Rattle.std.proofs.Common.{◌≡◌, ◌+◌, ◌≤◌, true}
+use Rattle.ffs_walk.specs.Counts.{AreHeld, unread}
 use Rattle.ffs_report.specs.Progress.{progress}
 use Rattle.ffs_phase.specs.Known.{ForBytes, IsContents}
 use Rattle.ffs_phase.specs.Runs.{SaidOf}
@@ -21,6 +22,9 @@ invariant-loop-next g l = record {
   geometry : l.walk.geometry ≡ l.geometry;
   device : g.I.Image.device l.image ≡ g.I.Image.device l.initial.image;
   found : SameFound l.initial.workspace l.workspace;
+  held : AreHeld l.workspace.windows.blocks l.walk;
+  counted : g.I.Image.reads l.image + unread l.walk + l.initial.workspace.runs_seen
+      ≤ g.I.Image.reads l.initial.image + l.workspace.runs_seen;
   moves : ClaimBound (claims_of l.initial.workspace) (claims_of l.workspace);
   claims : ForBytes (IsContents (g.I.Image.device l.initial.image).contents) (λ bytes.
       after_steps l.geometry.layout (claims_of l.workspace) (rest bytes l.walk)

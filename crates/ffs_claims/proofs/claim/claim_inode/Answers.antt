@@ -24,14 +24,14 @@ inode-requires g c =
 
 pub claim_read_inode-requires : goal.claim_read_inode-requires
 claim_read_inode-requires g c =
-    let ok = c.in_ok-inode.ensures.read in
+    let ok = c.in_ok-inode.ensures.reads.read in
     record {
       ready = record {
         number_fits = c.requires.ready.number_fits;
         runs = c.requires.ready.runs;
         claim = record {
           ready = ready_table c.args.geometry.now.layout (g.I.Image.device c.args.image.now) _ c.args.workspace.now
-              c.inode.new.self (ap (λ d. d.contents) ok) (ap (λ d. d.size) ok) c.inode.ensures.kept
+              c.inode.new.self (ap (λ d. d.contents) ok) (ap (λ d. d.size) ok) c.inode.ensures.reads.kept
               c.requires.ready.claim.ready;
           only_data = c.requires.ready.claim.only_data;
         };
@@ -47,7 +47,7 @@ returns-in_err-inode-clause-claiming g c = record {
       (owner_lines c.args.geometry.now.layout (claims_of c.args.workspace.now)
       (owner_of c.args.geometry.now.layout bytes c.args.number))) _));
   claims = search rules;
-  left = let err = c.in_err-inode.ensures.read in
+  left = let err = c.in_err-inode.ensures.reads.read in
       let p = err_from_is_err_and c.from_residual.result c.from_residual.ensures.1 in
       rw (p.1, p.2) (record {
         image = err;
@@ -60,7 +60,7 @@ returns-in_err-inode-clause-claiming g c = record {
         again = refl;
         claim = record {
           ready = ready_table c.args.geometry.now.layout (g.I.Image.device c.args.image.now) _ c.args.workspace.now
-              c.inode.new.self err.contents err.size c.inode.ensures.kept c.requires.ready.claim.ready;
+              c.inode.new.self err.contents err.size c.inode.ensures.reads.kept c.requires.ready.claim.ready;
           only_data = c.requires.ready.claim.only_data;
         };
       });
@@ -74,21 +74,21 @@ returns-clause-claiming g c = record {
       (λ bytes. of_lines (owner_lines v s (owner_with v bytes c.args.number c.in_ok-inode.inode)))
       (λ bytes. of_lines (owner_lines v s (owner_of v bytes c.args.number))) _ _ c.claim_read_inode.result
       (λ bytes t. ap (λ (o : Owner). of_lines (owner_lines v s o))
-      (owner_is v bytes c.args.number c.in_ok-inode.inode (c.in_ok-inode.ensures.inode bytes t)))
+      (owner_is v bytes c.args.number c.in_ok-inode.inode (c.in_ok-inode.ensures.reads.inode bytes t)))
       (reports_knowing (Unit {0}) _ _ _ _ _ c.claim_read_inode.result
-      (λ bytes t. ap (λ d. d.contents) c.in_ok-inode.ensures.read ∙ t) c.claim_read_inode.ensures.claiming.text);
+      (λ bytes t. ap (λ d. d.contents) c.in_ok-inode.ensures.reads.read ∙ t) c.claim_read_inode.ensures.claiming.text);
   claims = let v = c.args.geometry.now.layout in
       let s = claims_of c.args.workspace.now in
       ok_where c.claim_read_inode.result _ _
       (λ bytes. claims_of c.claim_read_inode.new.workspace
       ≡ after_owner v s (owner_with v bytes c.args.number c.in_ok-inode.inode)) _
-      (ap (λ d. d.contents) c.in_ok-inode.ensures.read)
+      (ap (λ d. d.contents) c.in_ok-inode.ensures.reads.read)
       (λ bytes t h. h ∙ ap (λ (o : Owner). after_owner v s o)
-      (owner_is v bytes c.args.number c.in_ok-inode.inode (c.in_ok-inode.ensures.inode bytes t)))
+      (owner_is v bytes c.args.number c.in_ok-inode.inode (c.in_ok-inode.ensures.reads.inode bytes t)))
       c.claim_read_inode.ensures.claiming.claims;
   left = let left = c.claim_read_inode.ensures.claiming.left in
       record {
-        image = rw (c.in_ok-inode.ensures.read) at left.image;
+        image = rw (c.in_ok-inode.ensures.reads.read) at left.image;
         claim = left.claim;
         bound = left.bound;
         moves = left.moves;
@@ -103,6 +103,12 @@ returns-clause-stored g c =
     let new = c.claim_read_inode.new.workspace in
     ok_then c.claim_read_inode.result _ _
     (λ h bytes t.
-    subst (λ (i : Inode). Stored c.args.number (class_of v i) i old new) (c.in_ok-inode.ensures.inode bytes t)
+    subst (λ (i : Inode). Stored c.args.number (class_of v i) i old new) (c.in_ok-inode.ensures.reads.inode bytes t)
     (record { kinds = h.kinds; marked = h.marked; notes = h.notes; starts = h.starts }))
     c.claim_read_inode.ensures.stored
+
+pub returns-in_err-inode-clause-counted : goal.returns-in_err-inode-clause-counted
+returns-in_err-inode-clause-counted g c = omega (arith, c.in_err-inode.ensures.counted)
+
+pub returns-clause-counted : goal.returns-clause-counted
+returns-clause-counted g c = omega (arith, c.in_ok-inode.ensures.counted, c.claim_read_inode.ensures.counted)

@@ -250,3 +250,27 @@ returns-then-matches-clause-claiming g c = record {
         };
       };
 }
+
+pub returns-in_err-say_class-clause-counted : goal.returns-in_err-say_class-clause-counted
+returns-in_err-say_class-clause-counted g c =
+    let same = ap (λ w. w.runs_seen) c.begin.ensures in omega (arith, same)
+
+pub returns-in_err-claim-clause-counted : goal.returns-in_err-claim-clause-counted
+returns-in_err-claim-clause-counted g c =
+    let same = ap (λ w. w.runs_seen) c.begin.ensures in omega (arith, same, c.claim.ensures.counted)
+
+pub returns-in_err-say_count-clause-counted : goal.returns-in_err-say_count-clause-counted
+returns-in_err-say_count-clause-counted g c =
+    let same = ap (λ w. w.runs_seen) c.begin.ensures in omega (arith, same, c.claim.ensures.counted)
+
+pub returns-clause-counted : goal.returns-clause-counted
+returns-clause-counted g c =
+    let same = ap (λ w. w.runs_seen) c.begin.ensures in
+    let stored = ap (λ w. w.runs_seen) c.store-2.ensures.rest in
+    omega (arith, same, stored, c.claim.ensures.counted)
+
+pub returns-then-matches-clause-counted : goal.returns-then-matches-clause-counted
+returns-then-matches-clause-counted g c =
+    let same = ap (λ w. w.runs_seen) c.begin.ensures in
+    let stored = ap (λ w. w.runs_seen) c.store.ensures.rest in
+    omega (arith, same, stored)

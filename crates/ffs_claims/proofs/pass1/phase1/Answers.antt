@@ -50,6 +50,7 @@ loop-number-init g c =
       low = omega arith;
       high = λ h. omega arith;
       runs = omega (arith, c.reserve.ensures.runs);
+      reads = omega arith;
       again = found.again;
       claims = λ bytes k. c.reserve.ensures.claims k.1 ∙ sym (before_first v bytes);
       kinds = λ bytes k. filled_begin 0 (kind_at v bytes) c.reserve.new.workspace.kinds.items (inodes_of v)
@@ -132,6 +133,7 @@ loop-number-preserved g c =
       low = omega arith;
       high = λ h. omega arith;
       runs = omega (arith, inv.runs, inv.low, c.in_ok-claim_inode.ensures.claiming.left.moves);
+      reads = omega (arith, inv.reads, inv.low, c.claim_inode.ensures.counted);
       again = c.claim_inode.ensures.claiming.left.again ∙ inv.again;
       claims = λ bytes k. now bytes (contents ∙ k.0)
           ∙ ap (λ (t : Claims). after_owner v t (owner_of v bytes n)) (inv.claims bytes k)
@@ -220,3 +222,17 @@ returns-clause-dups g c = λ bytes k.
 pub returns-in_err-say-clause-ready : goal.returns-in_err-say-clause-ready
 returns-in_err-say-clause-ready g c = ready_still c.args.geometry.now.layout _ _ _ c.reserve.ensures.only.made
     c.reserve.ensures.only.windows c.requires.ready
+
+pub returns-in_err-claim_inode-clause-reads : goal.returns-in_err-claim_inode-clause-reads
+returns-in_err-claim_inode-clause-reads g c =
+    let inv = c.loop-number.invariant in
+    omega (arith, inv.reads, inv.low, c.claim_inode.ensures.counted, c.loop-number-test.true)
+
+pub returns-clause-reads : goal.returns-clause-reads
+returns-clause-reads g c =
+    let inv = c.loop-number.invariant in
+    elim (cases_lt 2 c.loop-number.number) [
+      | inl h ↦ let most : c.loop-number.number ≤ inodes_of c.args.geometry.now.layout = inv.high h in omega
+          (arith, inv.reads, most)
+      | inr h ↦ omega (arith, inv.reads)
+    ]

@@ -25,6 +25,7 @@ invariant-loop-number g l = record {
   low : 2 ≤ l.number;
   high : 2 < l.number → l.number ≤ inodes_of l.geometry.layout;
   runs : l.workspace.runs_seen ≤ used_bits (claims_of l.workspace) + 22 * (l.number - 2);
+  reads : g.I.Image.reads l.image ≤ g.I.Image.reads l.fn.image + (l.number - 2) + l.workspace.runs_seen;
   again : l.workspace.runs_again ≡ l.fn.workspace.runs_again;
   claims : ForBytes (λ bytes. IsContents (g.I.Image.device l.fn.image).contents bytes
       × IsFresh l.geometry.layout l.fn.workspace) (λ bytes.

@@ -29,11 +29,11 @@ inode-requires g c =
 
 pub rewalk-requires : goal.rewalk-requires
 rewalk-requires g c =
-    let ok = c.in_ok-inode.ensures.read in
+    let ok = c.in_ok-inode.ensures.reads.read in
     record {
       can = record {
         ready = ready_table c.args.geometry.now.layout (g.I.Image.device c.args.image.now) _ c.args.workspace.now
-            c.inode.new.self (ap (λ d. d.contents) ok) (ap (λ d. d.size) ok) c.inode.ensures.kept
+            c.inode.new.self (ap (λ d. d.contents) ok) (ap (λ d. d.size) ok) c.inode.ensures.reads.kept
             c.requires.can.ready;
         number_fits = c.requires.can.number_fits;
         pending = c.requires.can.pending;
@@ -51,12 +51,12 @@ returns-in_err-inode g c = record {
       (steps_of c.args.geometry.now.layout (inode_of c.args.geometry.now.layout bytes c.args.number) bytes)))) _));
   rewalked = search rules;
   runs = λ bytes t. omega arith;
-  left = let err = c.in_err-inode.ensures.read in
+  left = let err = c.in_err-inode.ensures.reads.read in
       let p = err_from_is_err_and c.from_residual.result c.from_residual.ensures.1 in
       rw (p.1, p.2) (record {
         image = err;
         ready = ready_table c.args.geometry.now.layout (g.I.Image.device c.args.image.now) _ c.args.workspace.now
-            c.inode.new.self err.contents err.size c.inode.ensures.kept c.requires.can.ready;
+            c.inode.new.self err.contents err.size c.inode.ensures.reads.kept c.requires.can.ready;
         claims = claims_still _ _ _ (claims_none c.args.workspace.now);
       });
 }
@@ -78,9 +78,9 @@ returns g c = record {
       (c.cut_of-cut.ensures)
       ∙ ap (λ (i : Inode). of_lines
       (first_offer_lines d (offers_again v n (cut_in (slice_index c.args.workspace.now.notes.items n)) fresh_replay
-      (steps_of v i bytes)))) (c.in_ok-inode.ensures.inode bytes t))
+      (steps_of v i bytes)))) (c.in_ok-inode.ensures.reads.inode bytes t))
       (reports_knowing (Unit {0}) _ _ _ _ _ c.rewalk.result
-      (λ bytes t. ap (λ d. d.contents) c.in_ok-inode.ensures.read ∙ t)
+      (λ bytes t. ap (λ d. d.contents) c.in_ok-inode.ensures.reads.read ∙ t)
       c.rewalk.ensures.text);
   rewalked = let v = c.args.geometry.now.layout in
       let n = c.args.number in
@@ -94,8 +94,8 @@ returns g c = record {
       c.rewalk.new.workspace)
       (λ bytes. Rewalked v n (cut_in (slice_index c.args.workspace.now.notes.items n)) (steps_of v (inode_of v bytes n) bytes)
       c.args.workspace.now c.rewalk.new.workspace)
-      (ap (λ d. d.contents) c.in_ok-inode.ensures.read)
-      (λ bytes t h. rewalked_from _ _ _ _ c.args.workspace.now _ _ (rw (cut, c.in_ok-inode.ensures.inode bytes t) at h))
+      (ap (λ d. d.contents) c.in_ok-inode.ensures.reads.read)
+      (λ bytes t h. rewalked_from _ _ _ _ c.args.workspace.now _ _ (rw (cut, c.in_ok-inode.ensures.reads.inode bytes t) at h))
       c.rewalk.ensures.rewalked;
   runs = λ bytes t.
       let v = c.args.geometry.now.layout in
@@ -108,10 +108,10 @@ returns g c = record {
       (c.cut_of-cut.ensures)
       ∙ ap (λ (i : Inode).
       replayed_runs v (cut_in (slice_index c.args.workspace.now.notes.items n)) fresh_replay (steps_of v i bytes))
-      (c.in_ok-inode.ensures.inode bytes t) in
-      omega (arith, c.rewalk.ensures.runs bytes (ap (λ d. d.contents) c.in_ok-inode.ensures.read ∙ t), same);
+      (c.in_ok-inode.ensures.reads.inode bytes t) in
+      omega (arith, c.rewalk.ensures.runs bytes (ap (λ d. d.contents) c.in_ok-inode.ensures.reads.read ∙ t), same);
   left = record {
-    image = rw (c.in_ok-inode.ensures.read) at c.rewalk.ensures.left.image;
+    image = rw (c.in_ok-inode.ensures.reads.read) at c.rewalk.ensures.left.image;
     ready = c.rewalk.ensures.left.ready;
     claims = claims_then _ _ _ (claims_still _ _ _ (claims_none c.args.workspace.now)) c.rewalk.ensures.left.claims;
   };

@@ -67,6 +67,7 @@ loop-geometry-preserved c =
           (words_once v a b x y c.next_address-address.result sizes.frag_low sizes.frag_high inv.words.only.made
           (ap (λ k. k.layout) (inv.words.same.geometry ∙ c.requires.geometry)) c.next_address-address.ensures passes
           (c.claim_address.ensures.claims c.if-not-claim_address.false) c.claim_address.ensures.uncut
-          c.claim_address.ensures.only c.pass_word.ensures.falls c.pass_word.ensures.same);
+          c.claim_address.ensures.only c.pass_word.ensures.falls c.pass_word.ensures.same
+          c.claim_address.ensures.rises c.pass_word.ensures.counted);
       held = rw c.claim_address.ensures.only.windows passes.held;
     }

@@ -4,7 +4,7 @@ use Rattle.ffs_layout.proofs.superblock.read_copy.Goals as goal
 
 pub returns-in-Ok : goal.returns-in-Ok
 returns-in-Ok g c = record {
-  same = c.in-Ok.ensures.ok;
+  same = c.in-Ok.ensures.bytes.ok;
   inside = omega arith;
-  bytes = λ b e. taken _ 1376 b _ (omega arith) (c.in-Ok.ensures.bytes b e);
+  bytes = λ b e. taken _ 1376 b _ (omega arith) (c.in-Ok.ensures.bytes.bytes b e);
 }

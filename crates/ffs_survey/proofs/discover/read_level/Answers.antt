@@ -4,6 +4,7 @@ use Rattle.ffs_survey.proofs.CalmLaws.{calm_read, comes_stays}
 use Rattle.ffs_survey.specs.Survey.{number_at}
 use Rattle.ffs_survey.specs.Discover.{IsReachedDir}
 use Rattle.ffs_survey.proofs.Queues.{at_place, extends_on, number_kept}
+use Rattle.ffs_survey.proofs.Costs.{next_cost}
 use Rattle.ffs_survey.proofs.Tally.{dir_counted}
 use Rattle.ffs_survey.proofs.discover.read_level.Goals as goal
 
@@ -25,6 +26,12 @@ loop-at-preserved g c =
       ready = search rules;
       base = search rules;
       device = search rules;
+      reads = let r = rw (inv.base, is) at done.counted in
+          λ b k.
+          let now = r b k in
+          let old = inv.reads b k in
+          let next = next_cost (g.D.Directories.cost (g.D.Directories.base c.args.directories.now) b) level at inside in
+          omega (arith, now, old, next);
       same_length = done.same_length ∙ inv.same_length;
       parents_long = done.parents_long ∙ inv.parents_long;
       queue_long = done.queue_long ∙ inv.queue_long;
@@ -53,3 +60,22 @@ loop-at-preserved g c =
           (here b k).comes (still b k).marked (here b k).calm
           (inv.calm b k old);
     }
+
+pub returns-in_err-top-clause-counted : goal.returns-in_err-top-clause-counted
+returns-in_err-top-clause-counted g c =
+    let inv = c.loop-at.invariant in
+    let level = take c.args.high c.args.queue.now.items in
+    let at = c.loop-at.at in
+    let inside : at < length level =
+    omega (arith, length-take c.args.high c.args.queue.now.items, c.loop-at-test.true, c.requires.room) in
+    let is : c.number_of-from.result ≡ number_at level at =
+    c.number_of-from.ensures ∙ number_kept c.args.high c.loop-at.top at _ _ c.loop-at-test.true inv.extends in
+    let read = rw (inv.base, is) at c.in_err-top.ensures.counted in
+    λ b k.
+    let one = inv.reads b k in
+    let two = read b k in
+    let next = next_cost (g.D.Directories.cost (g.D.Directories.base c.args.directories.now) b) level at inside in
+    omega (arith, one, two, next)
+
+pub returns-clause-counted : goal.returns-clause-counted
+returns-clause-counted g c = λ b k. let one = c.loop-at.invariant.reads b k in omega (arith, one)

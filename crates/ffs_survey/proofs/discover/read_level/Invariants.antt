@@ -1,4 +1,5 @@
 use Rattle.std.proofs.Common.{◌≡◌, ℕ, ◌+◌, ◌-◌, ◌*◌, ◌<◌, ◌≤◌, ◌^◌, List, length, vec_len, take, drop, All}
+use Rattle.std.specs.List.{sum_by}
 use Rattle.ffs_survey.specs.Survey.{number_at, graph_with}
 use Rattle.ffs_survey.specs.Discover.{Extends, Comes, IsReachedDir, Counts, from_dirs, unset, count_of, any_of}
 use Rattle.ffs_survey.specs.Calm.{AreCalm}
@@ -9,6 +10,11 @@ invariant-loop-at g l = record {
   ready : g.D.Directories.ready l.directories;
   base : g.D.Directories.base l.directories ≡ g.D.Directories.base l.fn.directories;
   device : g.D.Directories.device l.directories ≡ g.D.Directories.device l.fn.directories;
+  reads : (b : List ℕ) → g.D.Directories.knows (g.D.Directories.base l.fn.directories) b →
+      g.D.Directories.reads l.directories
+      + sum_by (g.D.Directories.cost (g.D.Directories.base l.fn.directories) b) (drop l.at (take l.high l.fn.queue.items))
+      ≤ g.D.Directories.reads l.fn.directories
+      + sum_by (g.D.Directories.cost (g.D.Directories.base l.fn.directories) b) (drop l.low (take l.high l.fn.queue.items));
   same_length : vec_len l.references ≡ vec_len l.fn.references;
   parents_long : vec_len l.parents ≡ vec_len l.fn.parents;
   queue_long : vec_len l.queue ≡ vec_len l.fn.queue;

@@ -21,6 +21,8 @@ loop-entry-preserved g c =
       ready = search rules;
       base = search rules;
       device = search rules;
+      reads = let r = rw inv.base at c.in_ok-entry.ensures.counted in
+          λ b k. let now = r b k in let old = inv.reads b k in omega (arith, now, old);
       same_length = c.count_entry.ensures.same_length ∙ inv.same_length;
       parents_long = c.adopt.ensures.parents_long ∙ inv.parents_long;
       left = let l = inv.left in omega (arith, l, fell);
@@ -40,3 +42,18 @@ loop-entry-preserved g c =
           (any_in (g.D.Directories.rest c.next.new.self b) x) c.args.from (number_at c.loop-entry.parents.items x) _ _
           c.requires.from (c.adopt.ensures.parent x l) (rw (cut b k) at (inv.parents b k x l));
     }
+
+pub returns-clause-counted : goal.returns-clause-counted
+returns-clause-counted g c =
+    let inv = c.loop-entry.invariant in
+    let read = rw inv.base at c.in_ok-entry.ensures.counted in
+    λ b k. let one = inv.reads b k in let two = read b k in omega (arith, one, two)
+
+pub returns-in_err-start-clause-counted : goal.returns-in_err-start-clause-counted
+returns-in_err-start-clause-counted g c = λ b k. let r = c.in_err-start.ensures.counted b k in omega (arith, r)
+
+pub returns-in_err-entry-clause-counted : goal.returns-in_err-entry-clause-counted
+returns-in_err-entry-clause-counted g c =
+    let inv = c.loop-entry.invariant in
+    let read = rw inv.base at c.in_err-entry.ensures.counted in
+    λ b k. let one = inv.reads b k in let two = read b k in omega (arith, one, two)

@@ -8,6 +8,9 @@ invariant-loop-entry g l = record {
   ready : g.D.Directories.ready l.directories;
   base : g.D.Directories.base l.directories ≡ g.D.Directories.base l.fn.directories;
   device : g.D.Directories.device l.directories ≡ g.D.Directories.device l.fn.directories;
+  reads : (b : List ℕ) → g.D.Directories.knows (g.D.Directories.base l.fn.directories) b →
+      g.D.Directories.reads l.directories + g.D.Directories.to_read l.directories b
+      ≤ g.D.Directories.reads l.fn.directories + g.D.Directories.cost (g.D.Directories.base l.fn.directories) b l.from;
   same_length : vec_len l.references ≡ vec_len l.fn.references;
   parents_long : vec_len l.parents ≡ vec_len l.fn.parents;
   left : g.D.Directories.left l.directories ≤ 2 ^ 28;

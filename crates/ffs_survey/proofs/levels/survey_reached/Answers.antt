@@ -1,8 +1,10 @@
-use Rattle.std.proofs.Common.{ap, rules, ◌≡◌, ℕ, ◌+◌, List, take, set, arith, refl, sym, ◌∙◌, subst, length-set, true}
-use Rattle.ffs_survey.specs.Survey.{graph_with}
+use Rattle.std.proofs.Common.{ap, rules, ◌≡◌, ℕ, ◌+◌, List, take, set, arith, refl, sym, ◌∙◌, subst, length-set, true, length}
+use Rattle.std.proofs.lemmas.Result.{err_from_is_err_and}
+use Rattle.ffs_survey.specs.Survey.{bool_at, graph_with}
 use Rattle.ffs_survey.specs.Discover.{IsFrontier, LevelsKnown, IsCount, AtLevel}
 use Rattle.ffs_survey.proofs.Discovered.{unset-set}
 use Rattle.ffs_survey.proofs.CalmLaws.{calm_none}
+use Rattle.ffs_survey.proofs.Costs.{costs_part, level_costs, queue_costs}
 use Rattle.ffs_survey.proofs.Frontiers.{sane_of}
 use Rattle.ffs_survey.proofs.Ends.{levels_start, frontier_start, queue_start, unset-le}
 use Rattle.ffs_survey.proofs.Queues.{counted_on, reached_part, alone_part, none_counted, no_front}
@@ -13,6 +15,7 @@ loop-low-init g c = record {
   ready = search rules;
   base = search rules;
   device = search rules;
+  reads = λ b k. omega arith;
   same_length = refl;
   parents_long = c.set.ensures.len;
   queue_long = c.set-2.ensures.len;
@@ -57,6 +60,13 @@ loop-low-preserved g c =
       ready = search rules;
       base = search rules;
       device = search rules;
+      reads = let r = rw inv.base at done.counted in
+          λ b k.
+          let now = r b k in
+          let old = inv.reads b k in
+          let both = level_costs (g.D.Directories.cost (g.D.Directories.base c.args.directories.now) b) c.loop-low.low
+          c.loop-low.high c.loop-low.queue.items _ inv.room.ordered done.level.kept in
+          omega (arith, now, old, both);
       same_length = done.same_length ∙ inv.same_length;
       parents_long = done.parents_long ∙ inv.parents_long;
       queue_long = done.queue_long ∙ inv.queue_long;
@@ -105,3 +115,33 @@ returns-then-not-is_dir-clause-read g c = λ b k.
           refl c.requires.begins.named;
       calm = calm_none c.args.kinds.now c.args.marked.now _ _ _ _ c.args.calm.now c.requires.begins.calm;
     }
+
+pub returns-clause-costs : goal.returns-clause-costs
+returns-clause-costs g c = λ b k.
+    let inv = c.loop-low.invariant in
+    let cost = g.D.Directories.cost (g.D.Directories.base c.args.directories.now) b in
+    let low = inv.room.ordered in
+    let same : c.loop-low.low ≡ c.loop-low.high = omega (arith, low, c.loop-low-test.false) in
+    let whole = queue_costs cost c.loop-low.reached (take c.loop-low.high c.loop-low.queue.items) _ inv.lengths
+    (inv.levels b k).at.levels.queue in
+    let old = rw same at (inv.reads b k) in
+    omega (arith, old, whole)
+
+pub returns-then-not-is_dir-clause-costs : goal.returns-then-not-is_dir-clause-costs
+returns-then-not-is_dir-clause-costs g c = λ b k. omega arith
+
+pub returns-in_err-end-clause-costs : goal.returns-in_err-end-clause-costs
+returns-in_err-end-clause-costs g c =
+    let inv = c.loop-low.invariant in
+    let read = rw inv.base at c.in_err-end.ensures.counted in
+    let p = err_from_is_err_and c.from_residual.result c.from_residual.ensures.1 in
+    rw p.1 (λ b k.
+    let cost = g.D.Directories.cost (g.D.Directories.base c.args.directories.now) b in
+    let now = read b k in
+    let old = inv.reads b k in
+    let both = level_costs cost c.loop-low.low c.loop-low.high c.loop-low.queue.items c.loop-low.queue.items
+    inv.room.ordered refl in
+    let whole = queue_costs cost c.loop-low.reached (take c.loop-low.high c.loop-low.queue.items) _ inv.lengths
+    (inv.levels b k).at.levels.queue in
+    let part = costs_part (bool_at c.loop-low.reached) cost (length c.args.kinds.now) in
+    omega (arith, now, old, both, whole, part))

@@ -1,4 +1,5 @@
-use Rattle.std.proofs.Common.{◌≡◌, ℕ, ◌-◌, List, length, take, vec_len}
+use Rattle.std.proofs.Common.{◌≡◌, ℕ, ◌+◌, ◌≤◌, ◌-◌, List, length, take, vec_len}
+use Rattle.std.specs.List.{sum_by}
 use Rattle.ffs_survey.specs.Survey.{graph_with}
 use Rattle.ffs_survey.specs.Discover.{HasRoomForLevel, AtSomeLevel, IsCount}
 use Rattle.ffs_survey.specs.Calm.{AreCalm}
@@ -9,6 +10,9 @@ invariant-loop-low g l = record {
   ready : g.D.Directories.ready l.directories;
   base : g.D.Directories.base l.directories ≡ g.D.Directories.base l.fn.directories;
   device : g.D.Directories.device l.directories ≡ g.D.Directories.device l.fn.directories;
+  reads : (b : List ℕ) → g.D.Directories.knows (g.D.Directories.base l.fn.directories) b →
+      g.D.Directories.reads l.directories ≤ g.D.Directories.reads l.fn.directories
+      + sum_by (g.D.Directories.cost (g.D.Directories.base l.fn.directories) b) (take l.low l.queue.items);
   same_length : vec_len l.references ≡ vec_len l.fn.references;
   parents_long : vec_len l.parents ≡ vec_len l.fn.parents;
   queue_long : vec_len l.queue ≡ vec_len l.fn.queue;

@@ -11,7 +11,7 @@ returns-in_err-read_at-clause-leaves g c = record {
   kept = record {
     size = search rules;
     holds = held_without c.args.geometry.now.layout _ _ c.args.self.now c.args.level _ _ c.read_at.new.buf
-        c.requires.ready.holds c.in_err-read_at.ensures.err.contents (search rules) (omega arith) (search rules)
+        c.requires.ready.holds c.in_err-read_at.ensures.bytes.err.contents (search rules) (omega arith) (search rules)
         c.requires.ready.room.blocks_fit c.requires.level (search rules);
   };
   read = search rules;
@@ -22,11 +22,11 @@ returns-clause-leaves g c = record {
   kept = record {
     size = search rules;
     holds = held_with c.args.geometry.now.layout _ _ c.args.self.now c.args.level c.args.address _ _ c.read_at.new.buf
-        c.requires.ready.holds (ap (λ d. d.contents) c.in_ok-read_at.ensures.ok) (search rules) (omega arith)
+        c.requires.ready.holds (ap (λ d. d.contents) c.in_ok-read_at.ensures.bytes.ok) (search rules) (omega arith)
         (search rules) c.requires.ready.room.blocks_fit c.requires.level (search rules)
         (λ b tells.
         let size : length c.read_at.new.buf ≡ c.args.geometry.now.layout.bsize = omega arith in
-        c.in_ok-read_at.ensures.bytes b tells ∙ rw (size, c.from.ensures, c.from-2.ensures) refl);
+        c.in_ok-read_at.ensures.bytes.bytes b tells ∙ rw (size, c.from.ensures, c.from-2.ensures) refl);
   };
   read = search rules;
 }
@@ -61,15 +61,15 @@ returns-clause-held g c =
     get_or-set_same (slice_set held level None) level (Some c.args.address) None
     (rw (length-set held level None) within) in
     let holds = held_with v _ _ c.args.self.now level c.args.address _ _ c.read_at.new.buf c.requires.ready.holds
-    (ap (λ d. d.contents) c.in_ok-read_at.ensures.ok) (search rules) (omega arith) (search rules)
+    (ap (λ d. d.contents) c.in_ok-read_at.ensures.bytes.ok) (search rules) (omega arith) (search rules)
     c.requires.ready.room.blocks_fit c.requires.level within
     (λ b tells.
     let size : length c.read_at.new.buf ≡ v.bsize = omega arith in
-    c.in_ok-read_at.ensures.bytes b tells ∙ rw (size, c.from.ensures, c.from-2.ensures) refl) in
+    c.in_ok-read_at.ensures.bytes.bytes b tells ∙ rw (size, c.from.ensures, c.from-2.ensures) refl) in
     record {
       address = here;
       bytes = λ b tells. holds.block level c.requires.level c.args.address here b
-          (ap (λ d. d.contents) c.in_ok-read_at.ensures.ok ∙ tells);
+          (ap (λ d. d.contents) c.in_ok-read_at.ensures.bytes.ok ∙ tells);
     }
 
 pub overflow_mul-start : goal.overflow_mul-start

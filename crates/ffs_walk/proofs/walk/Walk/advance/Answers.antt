@@ -7,6 +7,7 @@ use Rattle.ffs_walk.proofs.GapSteps.{in_first}
 use Rattle.ffs_walk.proofs.FrameSteps.{item_below, word_fits, kept_fits, words_fit, some_left, item_one, falls_by}
 use Rattle.ffs_walk.proofs.FrameSteps.{falls_in_double, falls_in_triple}
 use Rattle.ffs_walk.proofs.WalkSteps.{double_reported, triple_reported, one_some, square_some, some_words, no_step}
+use Rattle.ffs_walk.proofs.Counted.{single_reads, double_reads, triple_reads}
 use Rattle.std.proofs.lemmas.Result.{err_from_is_err_and}
 use Rattle.ffs_walk.proofs.walk.Walk.advance.Goals as goal
 
@@ -319,3 +320,45 @@ returns-clause-same g c = c.step_at_top.ensures.same
 
 pub returns-clause-leaves : goal.returns-clause-leaves
 returns-clause-leaves g c = record { kept = record { size = refl; holds = c.requires.holds }; read = refl }
+
+pub returns-then-is_left-clause-counted : goal.returns-then-is_left-clause-counted
+returns-then-is_left-clause-counted g c = λ h.
+    let took = c.in_ok-item.ensures in
+    single_reads c.args.self.now _ _ _ _ _ _ h took.counted took.read.0 took.read.1 took.others refl refl
+
+pub returns-then-is_left-2-clause-counted : goal.returns-then-is_left-2-clause-counted
+returns-then-is_left-2-clause-counted g c = λ h.
+    let took = c.in_ok-item-2.ensures in
+    double_reads c.args.self.now _ _ _ _ _ _ _ h took.counted took.read.0 took.read.1 took.others refl refl
+    c.step_in_double.ensures.counted
+
+pub returns-then-is_left-3-clause-counted : goal.returns-then-is_left-3-clause-counted
+returns-then-is_left-3-clause-counted g c = λ h.
+    let took = c.in_ok-item-3.ensures in
+    triple_reads c.args.self.now _ _ _ _ _ _ _ h took.counted took.read.0 took.read.1 took.others refl refl
+    c.step_in_triple.ensures.counted
+
+pub returns-clause-counted : goal.returns-clause-counted
+returns-clause-counted g c = λ h. record {
+  most = omega arith;
+  paid = omega (arith, c.step_at_top.ensures.counted.unread);
+  held = c.step_at_top.ensures.counted.held _ h;
+}
+
+pub returns-in_err-item-clause-counted : goal.returns-in_err-item-clause-counted
+returns-in_err-item-clause-counted g c = λ h.
+    let p = err_from_is_err_and c.from_residual.result c.from_residual.ensures.1 in
+    let most = c.in_err-item.ensures.counted h.single in
+    rw p.1 (record { most = omega (arith, most); paid = tt; held = tt })
+
+pub returns-in_err-item-2-clause-counted : goal.returns-in_err-item-2-clause-counted
+returns-in_err-item-2-clause-counted g c = λ h.
+    let p = err_from_is_err_and c.from_residual-in_err-item-2.result c.from_residual-in_err-item-2.ensures.1 in
+    let most = c.in_err-item-2.ensures.counted h.double in
+    rw p.1 (record { most = omega (arith, most); paid = tt; held = tt })
+
+pub returns-in_err-item-3-clause-counted : goal.returns-in_err-item-3-clause-counted
+returns-in_err-item-3-clause-counted g c = λ h.
+    let p = err_from_is_err_and c.from_residual-in_err-item-3.result c.from_residual-in_err-item-3.ensures.1 in
+    let most = c.in_err-item-3.ensures.counted h.triple in
+    rw p.1 (record { most = omega (arith, most); paid = tt; held = tt })

@@ -3,6 +3,7 @@ use Rattle.ffs_volume.specs.Blocks.Steps.{indirect_addresses_needed}
 use Rattle.ffs_walk.proofs.Begun.{unused_fits}
 use Rattle.ffs_walk.proofs.FrameSteps.{entered_left, is_set}
 use Rattle.ffs_walk.proofs.WalkSteps.{spent_rest, spent_left}
+use Rattle.ffs_walk.proofs.Counted.{spent_held, not_fresh}
 use Rattle.ffs_walk.proofs.walk.Walk.enter.Goals as goal
 
 pub returns-then-address-eq0 : goal.returns-then-address-eq0
@@ -15,6 +16,7 @@ returns-then-address-eq0 c =
       step = search rules;
       left = λ most. rw (spent_left most c.spent.result spent) (omega arith);
       fits = unused_fits w.geometry.layout _ c.args.span c.spent.result c.spent.ensures.used;
+      counted = record { unread = rw spent.1 (omega arith); held = spent_held c.spent.result spent };
     }
 
 pub returns-then-not-in_range : goal.returns-then-not-in_range
@@ -31,6 +33,7 @@ returns-then-not-in_range c =
       step = search rules;
       left = λ most. rw (spent_left most f spent) (omega arith);
       fits = unused_fits w.geometry.layout _ c.args.span f c.spent-then-not-in_range.ensures.used;
+      counted = record { unread = rw spent.1 (omega arith); held = spent_held f spent };
     }
 
 pub returns : goal.returns
@@ -50,4 +53,5 @@ returns c =
         in_range_there = λ h. sym c.if-not-in_range.ensures;
         indirect = λ h. c.requires.first.0;
       };
+      counted = record { unread = omega arith; held = λ level blocks read left. absurd (not_fresh read) };
     }

@@ -5,6 +5,7 @@ use Rattle.ffs_walk.specs.Rests.{extent_of, most_at}
 use Rattle.ffs_walk.proofs.GapSteps.{in_first, in_second, in_third, zero_gap}
 use Rattle.ffs_walk.proofs.FrameSteps.{kept_fits, words_fit}
 use Rattle.ffs_walk.proofs.WalkSteps.{spent_rest}
+use Rattle.ffs_walk.proofs.Counted.{skips_single, skips_double, skips_triple}
 use Rattle.ffs_walk.proofs.walk.Walk.skip_gaps.Goals as goal
 
 pub returns-then-is_left : goal.returns-then-is_left
@@ -27,6 +28,7 @@ returns-then-is_left c = record {
         top = λ at h. absurd (omega (arith, here, at.single.0));
       };
   same = record { geometry = refl; blocks = refl };
+  counted = skips_single c.args.self.now _ c.skip_gaps.result c.skip_gaps.ensures.next c.skip_gaps.ensures.same.0 c.skip_gaps.ensures.same.1 refl refl;
 }
 
 pub returns-then-is_left-2 : goal.returns-then-is_left-2
@@ -51,6 +53,7 @@ returns-then-is_left-2 c = record {
         top = λ at h. absurd (omega (arith, here, at.double.0));
       };
   same = record { geometry = refl; blocks = refl };
+  counted = skips_double c.args.self.now _ c.skip_gaps-then-is_left-2.result c.skip_gaps-then-is_left-2.ensures.next c.skip_gaps-then-is_left-2.ensures.same.0 c.skip_gaps-then-is_left-2.ensures.same.1 refl refl;
 }
 
 pub returns-then-is_left-3 : goal.returns-then-is_left-3
@@ -77,6 +80,7 @@ returns-then-is_left-3 c = record {
         top = λ at h. absurd (omega (arith, here, at.triple.0));
       };
   same = record { geometry = refl; blocks = refl };
+  counted = skips_triple c.args.self.now _ c.skip_gaps-then-is_left-3.result c.skip_gaps-then-is_left-3.ensures.next c.skip_gaps-then-is_left-3.ensures.same.0 c.skip_gaps-then-is_left-3.ensures.same.1 refl refl;
 }
 
 pub skip_gaps-requires-clause-words : goal.skip_gaps-requires-clause-words

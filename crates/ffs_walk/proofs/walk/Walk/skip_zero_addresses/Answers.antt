@@ -1,8 +1,9 @@
-use Rattle.std.proofs.Common.{arith, rules, ◌-◌, ◌*◌, ◌≤◌}
+use Rattle.std.proofs.Common.{arith, rules, refl, ◌-◌, ◌*◌, ◌≤◌}
 use Rattle.std.proofs.Math.Nat.{mul-le-mul_right}
 use Rattle.std.proofs.lemmas.Grind.{common_steps}
 use Rattle.ffs_walk.specs.Rests.{most_at}
 use Rattle.ffs_walk.proofs.GapSteps.{gaps_at_top}
+use Rattle.ffs_walk.proofs.Counted.{enters_none}
 use Rattle.ffs_walk.proofs.walk.Walk.skip_zero_addresses.Goals as goal
 
 pub returns : goal.returns
@@ -20,4 +21,5 @@ returns c =
           omega (arith, scaled);
       passed = grind (arith, common_steps);
       same = search rules;
+      counted = enters_none w _ 0 refl refl refl;
     }

@@ -5,6 +5,7 @@ use Rattle.ffs_volume.specs.Blocks.Steps.{steps_at}
 use Rattle.ffs_walk.proofs.WalkSteps.{top_ends, top_data, top_single, top_double, top_triple, most_below, top_falls}
 use Rattle.ffs_walk.proofs.WalkSteps.{top_over, some_words, square_some, no_step, not_over, one_on}
 use Rattle.ffs_walk.proofs.WalkSteps.{single_below, double_below, triple_below}
+use Rattle.ffs_walk.proofs.Counted.{enters_none, enters_single, enters_double, enters_triple}
 use Rattle.ffs_walk.proofs.walk.Walk.step_at_top.Goals as goal
 
 pub returns-then-self-clause-steps : goal.returns-then-self-clause-steps
@@ -245,3 +246,18 @@ pub enter-step-requires-in_default-clause-span : goal.enter-step-requires-in_def
 enter-step-requires-in_default-clause-span c =
     let g = c.args.self.now.geometry in
     rw c.from-words.ensures (square_some g.layout.nindir (some_words g.layout g.sound))
+
+pub returns-in-12-clause-counted : goal.returns-in-12-clause-counted
+returns-in-12-clause-counted c = enters_single c.args.self.now _ c.enter-step.result.0 c.enter-step.result.1 c.enter-step.ensures.counted refl refl refl
+
+pub returns-in-13-clause-counted : goal.returns-in-13-clause-counted
+returns-in-13-clause-counted c = enters_double c.args.self.now _ c.enter-step-in-13.result.0 c.enter-step-in-13.result.1 c.enter-step-in-13.ensures.counted refl refl refl
+
+pub returns-in_default-clause-counted : goal.returns-in_default-clause-counted
+returns-in_default-clause-counted c = enters_triple c.args.self.now _ c.enter-step-in_default.result.0 c.enter-step-in_default.result.1 c.enter-step-in_default.ensures.counted refl refl refl
+
+pub returns-then-self-clause-counted : goal.returns-then-self-clause-counted
+returns-then-self-clause-counted c = enters_none c.args.self.now _ _ refl refl refl
+
+pub returns-then-block-lt-NDADDR-clause-counted : goal.returns-then-block-lt-NDADDR-clause-counted
+returns-then-block-lt-NDADDR-clause-counted c = enters_none c.args.self.now _ _ refl refl refl

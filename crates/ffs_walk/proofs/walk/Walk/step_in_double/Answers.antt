@@ -2,6 +2,7 @@ use Rattle.std.proofs.Common.{refl, rules}
 use Rattle.ffs_walk.specs.Rests.{extent_of}
 use Rattle.ffs_volume.specs.Blocks.Steps.{steps_at}
 use Rattle.ffs_walk.proofs.WalkSteps.{in_double}
+use Rattle.ffs_walk.proofs.Counted.{enters_single}
 use Rattle.ffs_walk.proofs.walk.Walk.step_in_double.Goals as goal
 
 pub returns-in-Word : goal.returns-in-Word
@@ -14,4 +15,5 @@ returns-in-Word c = record {
   fits = search rules;
   left = search rules;
   same = search rules;
+  counted = enters_single c.args.self.now _ c.enter-step.result.0 c.enter-step.result.1 c.enter-step.ensures.counted refl refl refl;
 }

@@ -1,8 +1,9 @@
-use Rattle.std.proofs.Common.{arith, rules}
+use Rattle.std.proofs.Common.{arith, rules, refl}
 use Rattle.std.proofs.lemmas.Grind.{common_steps}
 use Rattle.ffs_walk.specs.Rests.{extent_of}
 use Rattle.ffs_volume.specs.Blocks.Steps.{steps_at}
 use Rattle.ffs_walk.proofs.WalkSteps.{in_triple}
+use Rattle.ffs_walk.proofs.Counted.{enters_double}
 use Rattle.ffs_walk.proofs.walk.Walk.step_in_triple.Goals as goal
 
 pub returns-in-Word : goal.returns-in-Word
@@ -16,4 +17,5 @@ returns-in-Word c = record {
   fits = search rules;
   left = grind (arith, common_steps);
   same = search rules;
+  counted = enters_double c.args.self.now _ c.enter-step.result.0 c.enter-step.result.1 c.enter-step.ensures.counted refl refl refl;
 }

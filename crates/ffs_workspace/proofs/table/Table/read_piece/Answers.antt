@@ -8,10 +8,10 @@ returns-clause-leaves g c = record {
     made = record {
       room = search rules;
       inodes = inodes_there c.args.geometry.now.layout c.args.count c.args.number _ c.args.geometry.now.sound
-          c.requires.count refl refl (c.in_ok-fill.ensures.place.0 ∙ c.piece_place-place.ensures.value)
-          c.in_ok-fill.ensures.place.1;
+          c.requires.count refl refl (c.in_ok-fill.ensures.fills.place.0 ∙ c.piece_place-place.ensures.value)
+          c.in_ok-fill.ensures.fills.place.1;
     };
-    holds = c.fill.ensures.holds;
+    holds = c.fill.ensures.fills.holds;
   };
   read = search rules;
 }
