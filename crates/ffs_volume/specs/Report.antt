@@ -2,3 +2,4 @@
 pub mod Opening
 pub mod Whole
 pub mod Memory
+pub mod Reads

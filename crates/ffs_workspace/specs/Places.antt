@@ -1,13 +1,14 @@
 -- Where the parent entry of a directory is in the image, as a word of 32 bits notes it. Its low 31 bits are the place: 0
 -- where none is noted, else 1 more than the number of the chunk of 512 bytes of the image that has the entry. Its top
 -- bit says that the entry is due: it is still to come in a reading of the parent.
-use Rattle.std.specs.Prelude.{◌≡◌, ℕ, suc, ◌+◌, ◌-◌, ◌*◌, ◌^◌, Bool, false, not, nat_lt, if◌then◌else◌, List, slice_index}
+use Rattle.std.specs.Prelude.{◌≡◌, ℕ, suc, ◌+◌, ◌-◌, ◌*◌, ◌^◌, ◌≤◌, Bool, false, true, not, nat_lt, if◌then◌else◌, List, slice_index}
 use Rattle.std.specs.Prelude.{Some, option_and_then}
+use Rattle.std.specs.List.{list_any}
 use Rattle.ffs_volume.specs.declared.constants.TheConstants.{DIRBLKSIZ}
 use Rattle.ffs_volume.specs.declared.Layout.{Layout}
 use Rattle.ffs_volume.specs.Disk.Numbers.{piece}
 use Rattle.ffs_volume.specs.Directories.Entries.{entries_of}
-use Rattle.ffs_volume.specs.Directories.Graph.{is_naming_entry, first_index, parent}
+use Rattle.ffs_volume.specs.Directories.Graph.{is_naming_entry, first_index, level, parent}
 use Rattle.ffs_volume.specs.Directories.Parents.{graph_of, nth_roled}
 use Rattle.ffs_volume.specs.Directories.Paths.{name_of}
 use Rattle.ffs_volume.specs.Directories.Roles.{RoledEntry, roled_entries, roled_from}
@@ -41,3 +42,18 @@ IsPlaceOf v b p x k = name_in x (entries_in_chunk v b k) ≡ name_in x (roled_en
 abbrev pub ArePlaces : Layout → List ℕ → (words : List ℕ) → Type 0
 ArePlaces v b words = (x p k : ℕ) → place_in (slice_index words x) ≡ suc k
     → parent (graph_of (volume_of v b)) x ≡ Some p → IsPlaceOf v b p x k
+
+-- each chunk of the volume has a number for which a word has room: it has less than 2^40 bytes
+abbrev pub AreChunksNumbered : Layout → Type 0
+AreChunksNumbered v = v.size * v.fsize ≤ DIRBLKSIZ * (2 ^ 31 - 1)
+
+-- a place is noted of x: a chunk of the volume in which a plain entry names it
+pub record IsNoted (v : Layout) (b words : List ℕ) (x : ℕ) : Type 0 where
+  pub chunk : ℕ
+  pub place : place_in (slice_index words x) ≡ suc chunk
+  pub inside : DIRBLKSIZ * chunk + DIRBLKSIZ ≤ v.size * v.fsize
+  pub named : list_any (is_naming_entry x) (entries_in_chunk v b chunk) ≡ true
+
+-- a place is noted of each directory that is reached from the root and isn't the root
+abbrev pub AreNoted : Layout → List ℕ → (words : List ℕ) → Type 0
+AreNoted v b words = (x k : ℕ) → level (graph_of (volume_of v b)) x ≡ Some (suc k) → IsNoted v b words x

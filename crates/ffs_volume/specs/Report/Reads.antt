@@ -1,0 +1,37 @@
+-- The most reads that a check makes of an image. A read is of one block, of one chunk or Run of a directory, or of
+-- records that are together in the image.
+use Rattle.std.specs.Prelude.{ℕ, ◌+◌, ◌*◌, ◌/◌}
+use Rattle.ffs_volume.specs.declared.Layout.{Layout}
+use Rattle.ffs_volume.specs.declared.constants.TheConstants.{MAXPATHLEN}
+use Rattle.ffs_volume.specs.Report.Memory.{runs_limit}
+
+-- the superblock, and the last copy of it
+abbrev pub opening_reads : ℕ
+opening_reads = 2
+
+-- to go over all inodes and their blocks: each inode once, and each Run that is seen once
+abbrev pub sweep_reads : Layout → ℕ
+sweep_reads v = v.ncg * v.ipg + runs_limit v
+
+-- a path: a chunk for each name that has room in it, for the name that has no room any more, and for the last one. Each
+-- name takes two bytes at least, with its slash
+abbrev pub path_reads : ℕ
+path_reads = MAXPATHLEN / 2 + 2
+
+-- a message of phase 2: the path of the inode that it speaks of, and that inode
+abbrev pub line_reads : ℕ
+line_reads = path_reads + 1
+
+-- phase 2: it goes over all directories for the survey, for the places of parent entries, and twice for the messages;
+-- each directory's path is made, and what each message shows is read
+abbrev pub pathname_reads : Layout → (lines : ℕ) → ℕ
+pathname_reads v lines = 4 * sweep_reads v + path_reads * (v.ncg * v.ipg) + line_reads * lines
+
+-- phase 5: the block and the summary record of each group
+abbrev pub group_reads : Layout → ℕ
+group_reads v = 2 * v.ncg
+
+-- the whole check, where it prints so many messages: phases 1 and 1b go over all inodes, and phases 3 and 4 read an
+-- inode for each message
+abbrev pub reads_limit : Layout → (lines : ℕ) → ℕ
+reads_limit v lines = opening_reads + 2 * sweep_reads v + pathname_reads v lines + lines + group_reads v
