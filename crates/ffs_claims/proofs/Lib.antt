@@ -10,6 +10,7 @@ pub mod Marks
 pub mod Duplicates
 pub mod Reportings
 pub mod Rewalks
+pub mod RunReads
 pub mod Rescanned
 pub mod Whole
 pub mod Looks

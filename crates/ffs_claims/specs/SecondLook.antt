@@ -1,6 +1,6 @@
 -- How many Runs phase 1b looks at: those that are seen, in order, until each fragment with a Dup line has its first
 -- claim reported.
-use Rattle.std.specs.Prelude.{◌≡◌, ◌<◌, ◌≤◌, ℕ, ◌+◌, ◌^◌, Bool, List, [], ◌∷◌, ◌++◌, ◌==◌, if◌then◌else◌, map}
+use Rattle.std.specs.Prelude.{◌≡◌, ◌<◌, ◌≤◌, ℕ, ◌+◌, ◌-◌, ◌^◌, Bool, List, [], ◌∷◌, ◌++◌, ◌==◌, if◌then◌else◌, map}
 use Rattle.std.specs.Prelude.{Result, OnOk}
 use Rattle.std.specs.List.{range_with_len}
 use Rattle.ffs_volume.specs.declared.Layout.{Layout}
@@ -76,6 +76,11 @@ RoseBy old new more = old + more < 2 ^ 64 → new ≡ old + more
 pub record Counted (old new more : ℕ) : Type 0 where
   pub most : new ≤ old + more
   pub exact : RoseBy old new more
+
+-- the reads are no more than what a count of Runs rose by, as long as that count has room in a u64
+pub record RunsPay (reads reads' old new : ℕ) : Type 0 where
+  pub rises : new < 2 ^ 64 - 1 → old ≤ new
+  pub paid : new < 2 ^ 64 - 1 → reads' + old ≤ reads + new
 
 -- a step of an inode was gone over: what it keeps is reported, and the next step follows
 pub record StepReported (v : Layout) (inode : ℕ) (step : Step) (k k' : Keeping) (old new : Workspace) : Type 0 where

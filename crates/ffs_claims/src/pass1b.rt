@@ -1,6 +1,6 @@
 //! Phase 1b: rescan for more dups (fsck(8)).
 
-ghost use Rattle.std.specs.Prelude.{◌≡◌, ◌≤◌, ◌∷◌, OnOk, true, slice_index};
+ghost use Rattle.std.specs.Prelude.{◌≡◌, ◌+◌, ◌-◌, ◌*◌, ◌<◌, ◌≤◌, ◌^◌, ◌∷◌, OnOk, true, slice_index};
 ghost use Rattle.ffs_report.specs.Progress.{progress, Says};
 ghost use Rattle.ffs_phase.specs.Known.{ForBytes, IsContents};
 ghost use Rattle.ffs_phase.specs.Runs.{PhaseRuns};
@@ -13,6 +13,7 @@ ghost use Rattle.ffs_volume.specs.Laws.RunLengths.{HasLength};
 ghost use Rattle.ffs_volume.specs.Encodings.Replay as replays;
 ghost use Rattle.ffs_volume.specs.Encodings.ReplayCounts.{seen_run};
 ghost use Rattle.ffs_maps.specs.Bits.{bits_of};
+ghost use Rattle.ffs_walk.specs.Counts.{entered};
 ghost use Rattle.ffs_walk.specs.Keepings.{replay_in};
 ghost use Rattle.ffs_workspace.specs.Holds.{HoldsPhase1, HoldsClaims, HoldsStarts};
 ghost use Rattle.ffs_workspace.specs.Notes.{cut_in};
@@ -20,7 +21,7 @@ ghost use Rattle.ffs_workspace.specs.Ready.{IsReady};
 ghost use Rattle.ffs_claims.specs.Lines.{of_lines};
 ghost use Rattle.ffs_claims.specs.Rescan.{step_offers_again};
 ghost use Rattle.ffs_claims.specs.Reporting.{CanReport, CanRewalk, ReportsOnly};
-ghost use Rattle.ffs_claims.specs.SecondLook.{Counted, Rewalks, StepReported, second_look};
+ghost use Rattle.ffs_claims.specs.SecondLook.{Counted, Rewalks, RunsPay, StepReported, second_look};
 
 use crate::report_claim::report_run;
 use ffs_image::Image;
@@ -52,6 +53,8 @@ fn report_again<W: Output>(
         keeping.new workspace.old workspace.new) }
     ensures runs { Counted workspace.old.runs_again workspace.new.runs_again
         (seen_run keeping.old.cut (replay_in keeping.old) step) }
+    ensures counted { workspace.new.runs_again < 2 ^ 64 - 1
+        → workspace.old.runs_again + entered step ≤ workspace.new.runs_again }
     ensures only { ReportsOnly geometry.now.layout workspace.old workspace.new }
 {
     match step {
@@ -75,9 +78,11 @@ fn rewalk<I: Image, W: Output>(
     report: &mut Report<'_, W>,
 ) -> Result<(), RunFault>
     requires can { CanRewalk geometry.now.layout (I.device image.old) workspace.old number }
-    ensures { Rewalks geometry.now.layout number cut (λ _. inode.now) (I.device image.old)
-        (I.device image.new) (progress W.sink report.old) (progress W.sink report.new)
-        workspace.old workspace.new result }
+    ensures rewalks { Rewalks geometry.now.layout number cut (λ _. inode.now)
+        (I.device image.old) (I.device image.new) (progress W.sink report.old)
+        (progress W.sink report.new) workspace.old workspace.new result }
+    ensures counted { RunsPay (I.reads image.old) (I.reads image.new) workspace.old.runs_again
+        workspace.new.runs_again }
 {
     let mut keeping = Keeping::start(cut);
     let mut walk = Walk::start(geometry, inode);
@@ -105,11 +110,13 @@ fn renumbered<I: Image, W: Output>(
     report: &mut Report<'_, W>,
 ) -> Result<(), RunFault>
     requires can { CanRewalk geometry.now.layout (I.device image.old) workspace.old number }
-    ensures { Rewalks geometry.now.layout number
+    ensures rewalks { Rewalks geometry.now.layout number
         (cut_in (slice_index workspace.old.notes.items number))
         (λ bytes. inode_of geometry.now.layout bytes number) (I.device image.old)
         (I.device image.new) (progress W.sink report.old) (progress W.sink report.new)
         workspace.old workspace.new result }
+    ensures counted { RunsPay (I.reads image.old + 1) (I.reads image.new)
+        workspace.old.runs_again workspace.new.runs_again }
 {
     let inode = workspace.windows.table.inode(geometry, number, image)?;
     let cut = workspace.cut_of(number);
@@ -148,6 +155,8 @@ pub fn phase1b<I: Image, W: Output>(
         (λ bytes. IsContents (I.device image.old).contents bytes
         × HoldsPhase1 geometry.now.layout bytes workspace.old)
         (λ bytes. workspace.new.runs_again ≡ second_look geometry.now.layout bytes)) }
+    ensures reads { workspace.new.runs_again < 2 ^ 64 - 1 → I.reads image.new ≤ I.reads image.old
+        + geometry.now.layout.ncg * geometry.now.layout.ipg + workspace.new.runs_again }
     ensures seen { workspace.new.runs_seen ≡ workspace.old.runs_seen }
     ensures ready { IsReady geometry.now.layout (I.device image.new) workspace.new }
 {

@@ -40,4 +40,5 @@ begun g inode w same single double triple first all counted long addresses =
           (all_steps g.layout inode bytes w.blocks w.last w.next (w.used - w.next) first (count ∙ all) counted long);
       geometry = same;
       blocks = counted;
+      top = record { single = single; double = double; triple = triple };
     }

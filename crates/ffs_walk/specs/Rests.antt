@@ -90,6 +90,7 @@ pub record IsWalkOf (g : Geometry) (inode : Inode) (w : Walk) : Type 0 where
   pub steps : (bytes : List ℕ) → rest bytes w ≡ steps_of g.layout inode bytes
   pub geometry : w.geometry ≡ g
   pub blocks : w.blocks ≡ (if is_walked g.layout inode then logical_blocks_of g.layout inode else 0)
+  pub top : IsAtTop w
 
 -- the step is that at the address of a data block
 pub record IsDataStep (w : Walk) (address block : ℕ) (made : Step) : Type 0 where

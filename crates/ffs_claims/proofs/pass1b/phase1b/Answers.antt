@@ -1,5 +1,5 @@
 use Rattle.std.proofs.Common.{rules}
-use Rattle.std.proofs.Common.{◌≡◌, ◌≤◌, ◌+◌, ◌^◌, ◌<◌, ◌∷◌, [], arith, refl, sym, ap, ◌∙◌, List, Err}
+use Rattle.std.proofs.Common.{◌≡◌, ◌≤◌, ◌+◌, ◌-◌, ◌^◌, ◌<◌, ◌∷◌, [], arith, refl, sym, ap, ◌∙◌, List, Err}
 use Rattle.std.specs.Prelude.{slice_index}
 use Rattle.std.proofs.lemmas.Result.{err_from_is_err_and}
 use Rattle.ffs_maps.specs.Bits.{bits_of}
@@ -32,6 +32,7 @@ use Rattle.ffs_claims.specs.SecondLook.{looked_at, owners_runs, steps_runs_again
 use Rattle.ffs_claims.proofs.Looks.{looked_none}
 use Rattle.ffs_claims.proofs.LookBounds.{look_fits}
 use Rattle.ffs_claims.proofs.SecondLooks.{looked_on, looked_end, looked_first}
+use Rattle.ffs_claims.proofs.RunReads.{numbers_most, runs_pay_all, runs_pay_then}
 use Rattle.ffs_claims.proofs.pass1b.phase1b.Goals as goal
 
 pub returns-in_err-say-clause-prints : goal.returns-in_err-say-clause-prints
@@ -57,6 +58,7 @@ loop-number-init g c =
       low = omega arith;
       high = λ h. omega arith;
       runs = λ bytes k. omega arith;
+      reads = record { rises = λ _. omega arith; paid = λ _. omega arith };
       count = λ bytes k. omega (arith, looked_first v bytes d k.1.dup);
       reported = λ bytes k. reporting_same _ _ _ _ _
           (reported_same c.args.workspace.now _ (kept_in_owners v (no_claims v) (owners_of v bytes)) refl refl)
@@ -93,7 +95,7 @@ returns-in_err-renumbered-clause-prints g c =
     let cut = ap (λ z. slice_index z.items n) inv.claims.notes in
     rw (p.1, p.2) (record {
       image = image_from {T = Unit {0}} _ _ (g.I.Image.device c.renumbered.new.image)
-          (Err c.in_err-renumbered.field-0.0) inv.device c.in_err-renumbered.ensures.left.image;
+          (Err c.in_err-renumbered.field-0.0) inv.device c.in_err-renumbered.ensures.rewalks.left.image;
       text = of_fault (Unit {0}) (Unit {0}) _
           (λ bytes. of_lines (first_offer_lines d (kept_in_owners v (claims_before v bytes n) (owners_from v bytes n))))
           (λ bytes. of_lines (first_offer_lines d
@@ -107,7 +109,7 @@ returns-in_err-renumbered-clause-prints g c =
           (kept_next v bytes notes n c.args.geometry.now.sound inv.low lt inside
           (ap cut_in (cut ∙ k.1.notes n) ∙ cut_is_noted v bytes n c.args.geometry.now.sound)) refl)
           (reports_knowing (Unit {0}) _ _ _ _ _ (Err c.in_err-renumbered.field-0.0)
-          (λ bytes k. ap (λ d. d.contents) inv.device ∙ k.0) c.in_err-renumbered.ensures.text);
+          (λ bytes k. ap (λ d. d.contents) inv.device ∙ k.0) c.in_err-renumbered.ensures.rewalks.text);
     })
 
 pub returns-in_err-renumbered-clause-runs : goal.returns-in_err-renumbered-clause-runs
@@ -122,7 +124,7 @@ returns-in_err-renumbered-clause-runs g c = λ bytes k.
     omega (
       arith,
       inv.runs bytes k,
-      c.renumbered.ensures.runs bytes (ap (λ d. d.contents) inv.device ∙ k.0),
+      c.renumbered.ensures.rewalks.runs bytes (ap (λ d. d.contents) inv.device ∙ k.0),
       runs_on v bytes notes n c.args.geometry.now.sound inv.low inside
           (ap cut_in (cut ∙ k.1.notes n) ∙ cut_is_noted v bytes n c.args.geometry.now.sound),
       runs_most v bytes (n + 1) (omega arith) (λ h. omega arith),
@@ -147,20 +149,21 @@ loop-number-preserved g c =
     + looked_at d' (owners_runs v (claims_before v bytes (n + 1)) (owners_from v bytes (n + 1)))) =
     λ bytes k. looked_on v bytes notes n d d' c.args.geometry.now.sound inv.low lt inside
     (ap cut_in (cut ∙ k.1.notes n) ∙ cut_is_noted v bytes n c.args.geometry.now.sound)
-    (c.in_ok-renumbered.ensures.rewalked bytes (image ∙ k.0)).reported.dup in
+    (c.in_ok-renumbered.ensures.rewalks.rewalked bytes (image ∙ k.0)).reported.dup in
     record {
-      ready = c.renumbered.ensures.left.ready;
-      device = c.in_ok-renumbered.ensures.left.image ∙ inv.device;
-      claims = claims_then _ _ _ inv.claims c.renumbered.ensures.left.claims;
+      ready = c.renumbered.ensures.rewalks.left.ready;
+      device = c.in_ok-renumbered.ensures.rewalks.left.image ∙ inv.device;
+      claims = claims_then _ _ _ inv.claims c.renumbered.ensures.rewalks.left.claims;
       low = omega arith;
       high = λ h. omega arith;
       runs = λ bytes k. omega (
         arith,
         inv.runs bytes k,
-        c.renumbered.ensures.runs bytes (image ∙ k.0),
+        c.renumbered.ensures.rewalks.runs bytes (image ∙ k.0),
         runs_on v bytes notes n c.args.geometry.now.sound inv.low inside
             (ap cut_in (cut ∙ k.1.notes n) ∙ cut_is_noted v bytes n c.args.geometry.now.sound),
       );
+      reads = runs_pay_then _ _ _ _ _ _ _ _ inv.reads c.renumbered.ensures.counted (omega (arith, inv.low));
       count = λ bytes k.
           let fits : c.loop-number.workspace.runs_again + looked_at d
           (steps_runs_again v n (cut_in (slice_index notes n)) fresh_replay (steps_of v (inode_of v bytes n) bytes)) < 2 ^ 64 =
@@ -169,7 +172,7 @@ loop-number-preserved g c =
             arith,
             inv.count bytes k,
             on bytes k,
-            (c.in_ok-renumbered.ensures.rewalked bytes (image ∙ k.0)).count
+            (c.in_ok-renumbered.ensures.rewalks.rewalked bytes (image ∙ k.0)).count
                 fits,
           );
       reported = λ bytes k. reporting_more _
@@ -177,7 +180,7 @@ loop-number-preserved g c =
           (kept_in_owners v (claims_before v bytes (n + 1)) (owners_from v bytes (n + 1))) _ _ _ _
           (inv.reported bytes k) (kept_next v bytes notes n c.args.geometry.now.sound inv.low lt inside
           (ap cut_in (cut ∙ k.1.notes n) ∙ cut_is_noted v bytes n c.args.geometry.now.sound))
-          (c.in_ok-renumbered.ensures.rewalked bytes (image ∙ k.0)).reported;
+          (c.in_ok-renumbered.ensures.rewalks.rewalked bytes (image ∙ k.0)).reported;
       said = of_part _ (λ bytes. of_lines
           (first_offer_lines d (kept_in_owners v (claims_before v bytes n) (owners_from v bytes n))))
           (λ bytes. of_lines (first_offer_lines d
@@ -186,8 +189,8 @@ loop-number-preserved g c =
           (kept_in_owners v (claims_before v bytes (n + 1)) (owners_from v bytes (n + 1))))) _ _ _ _ inv.said
           (λ bytes k. lines_split d d' _ _ _ (kept_next v bytes notes n c.args.geometry.now.sound inv.low lt inside
           (ap cut_in (cut ∙ k.1.notes n) ∙ cut_is_noted v bytes n c.args.geometry.now.sound))
-          (c.in_ok-renumbered.ensures.rewalked bytes (image ∙ k.0)).reported.dup)
-          (said_knows _ _ _ _ _ _ (λ bytes k. image ∙ k.0) c.in_ok-renumbered.ensures.text);
+          (c.in_ok-renumbered.ensures.rewalks.rewalked bytes (image ∙ k.0)).reported.dup)
+          (said_knows _ _ _ _ _ _ (λ bytes k. image ∙ k.0) c.in_ok-renumbered.ensures.rewalks.text);
     }
 
 pub returns-then-not-has_dups : goal.returns-then-not-has_dups
@@ -217,6 +220,7 @@ returns-then-not-has_dups g c =
         looked_none d (owners_runs v (claims_before v bytes n)
             (owners_from v bytes n)) none,
       );
+      reads = runs_pay_all _ _ _ _ _ inv.reads (numbers_most n (inodes_of v) inv.high);
       seen = inv.claims.seen;
       ready = inv.ready;
     }
@@ -242,6 +246,7 @@ returns-after-loop-number g c =
       );
       runs = λ bytes k. omega (arith, inv.runs bytes k, runs_most v bytes n inv.low inv.high);
       count = λ bytes k. omega (arith, inv.count bytes k, looked_end v bytes d (claims_before v bytes n) n past);
+      reads = runs_pay_all _ _ _ _ _ inv.reads (numbers_most n (inodes_of v) inv.high);
       seen = inv.claims.seen;
       ready = inv.ready;
     }
@@ -249,3 +254,10 @@ returns-after-loop-number g c =
 pub returns-in_err-say-clause-ready : goal.returns-in_err-say-clause-ready
 returns-in_err-say-clause-ready g c = ready_unseen c.args.geometry.now.layout (g.I.Image.device c.args.image.now)
     c.args.workspace.now 0 c.requires.ready
+
+pub returns-in_err-renumbered-clause-reads : goal.returns-in_err-renumbered-clause-reads
+returns-in_err-renumbered-clause-reads g c =
+    let inv = c.loop-number.invariant in
+    let most : c.loop-number.number < inodes_of c.args.geometry.now.layout = omega arith in
+    runs_pay_all _ _ _ _ _
+    (runs_pay_then _ _ _ _ (c.loop-number.number - 1) _ _ _ inv.reads c.renumbered.ensures.counted (omega arith)) (omega (arith, most, inv.low))

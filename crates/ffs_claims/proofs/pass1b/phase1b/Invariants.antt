@@ -1,4 +1,4 @@
-use Rattle.std.proofs.Common.{◌≡◌, ◌+◌, ◌<◌, ◌≤◌, ◌∷◌}
+use Rattle.std.proofs.Common.{◌≡◌, ◌+◌, ◌-◌, ◌<◌, ◌≤◌, ◌∷◌}
 use Rattle.ffs_report.specs.Progress.{progress}
 use Rattle.ffs_phase.specs.Known.{ForBytes, IsContents}
 use Rattle.ffs_phase.specs.Runs.{SaidOf}
@@ -13,7 +13,7 @@ use Rattle.ffs_workspace.specs.Lengths.{inodes_of}
 use Rattle.ffs_workspace.specs.Ready.{IsReady}
 use Rattle.ffs_claims.specs.Lines.{of_lines, owners_from}
 use Rattle.ffs_claims.specs.Reporting.{SameClaims}
-use Rattle.ffs_claims.specs.SecondLook.{looked_at, owners_runs, second_look}
+use Rattle.ffs_claims.specs.SecondLook.{RunsPay, looked_at, owners_runs, second_look}
 use Rattle.ffs_claims.proofs.Reportings.{Reporting}
 use Rattle.ffs_claims.proofs.pass1b.phase1b.Given as goal
 
@@ -27,6 +27,7 @@ invariant-loop-number g l = record {
   runs : ForBytes (λ bytes. IsContents (g.I.Image.device l.fn.image).contents bytes
       × HoldsPhase1 l.geometry.layout bytes l.fn.workspace) (λ bytes.
       l.workspace.runs_again ≤ (claims_before l.geometry.layout bytes l.number).runs);
+  reads : RunsPay (g.I.Image.reads l.fn.image + (l.number - 2)) (g.I.Image.reads l.image) 0 l.workspace.runs_again;
   count : ForBytes (λ bytes. IsContents (g.I.Image.device l.fn.image).contents bytes
       × HoldsPhase1 l.geometry.layout bytes l.fn.workspace) (λ bytes.
       l.workspace.runs_again + looked_at (bits_of l.workspace.duplicates)

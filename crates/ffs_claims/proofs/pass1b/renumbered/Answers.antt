@@ -40,8 +40,8 @@ rewalk-requires g c =
       };
     }
 
-pub returns-in_err-inode : goal.returns-in_err-inode
-returns-in_err-inode g c = record {
+pub returns-in_err-inode-clause-rewalks : goal.returns-in_err-inode-clause-rewalks
+returns-in_err-inode-clause-rewalks g c = record {
   text = let p = err_from_is_err_and c.from_residual.result c.from_residual.ensures.1 in
       rw (p.1, p.2) (of_reads _ _ _ _ _
       (of_begins _ (λ bytes. of_lines
@@ -61,8 +61,8 @@ returns-in_err-inode g c = record {
       });
 }
 
-pub returns : goal.returns
-returns g c = record {
+pub returns-clause-rewalks : goal.returns-clause-rewalks
+returns-clause-rewalks g c = record {
   text = let v = c.args.geometry.now.layout in
       let n = c.args.number in
       let d = bits_of c.args.workspace.now.duplicates in
@@ -81,7 +81,7 @@ returns g c = record {
       (steps_of v i bytes)))) (c.in_ok-inode.ensures.reads.inode bytes t))
       (reports_knowing (Unit {0}) _ _ _ _ _ c.rewalk.result
       (λ bytes t. ap (λ d. d.contents) c.in_ok-inode.ensures.reads.read ∙ t)
-      c.rewalk.ensures.text);
+      c.rewalk.ensures.rewalks.text);
   rewalked = let v = c.args.geometry.now.layout in
       let n = c.args.number in
       let w = c.args.workspace.now in
@@ -96,7 +96,7 @@ returns g c = record {
       c.args.workspace.now c.rewalk.new.workspace)
       (ap (λ d. d.contents) c.in_ok-inode.ensures.reads.read)
       (λ bytes t h. rewalked_from _ _ _ _ c.args.workspace.now _ _ (rw (cut, c.in_ok-inode.ensures.reads.inode bytes t) at h))
-      c.rewalk.ensures.rewalked;
+      c.rewalk.ensures.rewalks.rewalked;
   runs = λ bytes t.
       let v = c.args.geometry.now.layout in
       let n = c.args.number in
@@ -109,10 +109,22 @@ returns g c = record {
       ∙ ap (λ (i : Inode).
       replayed_runs v (cut_in (slice_index c.args.workspace.now.notes.items n)) fresh_replay (steps_of v i bytes))
       (c.in_ok-inode.ensures.reads.inode bytes t) in
-      omega (arith, c.rewalk.ensures.runs bytes (ap (λ d. d.contents) c.in_ok-inode.ensures.reads.read ∙ t), same);
+      omega (arith, c.rewalk.ensures.rewalks.runs bytes (ap (λ d. d.contents) c.in_ok-inode.ensures.reads.read ∙ t), same);
   left = record {
-    image = rw (c.in_ok-inode.ensures.reads.read) at c.rewalk.ensures.left.image;
-    ready = c.rewalk.ensures.left.ready;
-    claims = claims_then _ _ _ (claims_still _ _ _ (claims_none c.args.workspace.now)) c.rewalk.ensures.left.claims;
+    image = rw (c.in_ok-inode.ensures.reads.read) at c.rewalk.ensures.rewalks.left.image;
+    ready = c.rewalk.ensures.rewalks.left.ready;
+    claims = claims_then _ _ _ (claims_still _ _ _ (claims_none c.args.workspace.now)) c.rewalk.ensures.rewalks.left.claims;
   };
+}
+
+pub returns-in_err-inode-clause-counted : goal.returns-in_err-inode-clause-counted
+returns-in_err-inode-clause-counted g c = record {
+  rises = λ _. omega arith;
+  paid = λ _. omega (arith, c.in_err-inode.ensures.counted);
+}
+
+pub returns-clause-counted : goal.returns-clause-counted
+returns-clause-counted g c = record {
+  rises = c.rewalk.ensures.counted.rises;
+  paid = λ room. omega (arith, c.in_ok-inode.ensures.counted, c.rewalk.ensures.counted.paid room);
 }

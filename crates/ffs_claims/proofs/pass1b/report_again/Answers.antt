@@ -39,6 +39,7 @@ returns-in-Tail g c = elim c.in-Tail.is [
         said = said_none (progress g.W.Output.sink c.args.report.now);
         reported = record { reported = reported_none c.args.workspace.now; next = refl; cut = refl };
         runs = record { most = omega arith; exact = λ _. omega arith };
+        counted = λ _. omega arith;
         only = reports_none c.args.geometry.now.layout c.args.workspace.now c.requires.can.made;
       })
   | inr e ↦
@@ -46,6 +47,7 @@ returns-in-Tail g c = elim c.in-Tail.is [
         said = said_none (progress g.W.Output.sink c.args.report.now);
         reported = record { reported = reported_none c.args.workspace.now; next = refl; cut = refl };
         runs = record { most = omega arith; exact = λ _. omega arith };
+        counted = λ _. omega arith;
         only = reports_none c.args.geometry.now.layout c.args.workspace.now c.requires.can.made;
       })
 ]

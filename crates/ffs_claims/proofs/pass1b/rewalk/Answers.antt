@@ -8,6 +8,8 @@ use Rattle.ffs_volume.specs.Encodings.ReplayCounts.{replay_step_by_cut}
 use Rattle.ffs_maps.specs.Bits.{bits_of}
 use Rattle.ffs_walk.specs.Keepings.{replay_in}
 use Rattle.ffs_walk.specs.Rests.{rest}
+use Rattle.ffs_walk.specs.Counts.{unread}
+use Rattle.ffs_walk.proofs.Counted.{top_held, top_unread}
 use Rattle.ffs_phase.specs.Known.{ForBytes, IsContents}
 use Rattle.ffs_phase.proofs.Reporting.{of_begins, of_stops, of_reads, of_same}
 use Rattle.ffs_workspace.specs.Lengths.{set_count}
@@ -20,6 +22,7 @@ use Rattle.ffs_claims.proofs.Looks.{looked_stopped, looked_over}
 use Rattle.ffs_claims.proofs.Rewalks.{open_first, gaps_offer, offers_none, offers_stopped, lines_step, runs_next}
 use Rattle.ffs_claims.proofs.Rewalks.{Rewalking, rewalk_begins, rewalk_on, rewalk_gaps, rewalk_ends, rewalk_over}
 use Rattle.ffs_claims.proofs.Rewalks.{rewalk_said, rewalked_to}
+use Rattle.ffs_claims.proofs.RunReads.{runs_pay_on, runs_pay_less}
 use Rattle.ffs_claims.proofs.pass1b.rewalk.Goals as goal
 
 pub loop-next-init : goal.loop-next-init
@@ -38,6 +41,11 @@ loop-next-init g c =
       geometry = c.start-walk.ensures.geometry;
       device = refl;
       claims = claims_none c.args.workspace.now;
+      held = top_held c.start-walk.result c.start-walk.ensures.top _;
+      counted = record {
+        rises = λ _. omega arith;
+        paid = λ _. omega (arith, top_unread c.start-walk.result c.start-walk.ensures.top);
+      };
       walk = λ bytes t. rewalk_begins v n cut (steps_of v c.args.inode.now bytes) r
           (rest bytes c.start-walk.result) c.args.workspace.now
           begun (c.start-walk.ensures.steps bytes);
@@ -58,8 +66,8 @@ next-requires g c =
       holds = rw inv.geometry inv.ready.windows.blocks;
     }
 
-pub returns-in_err-next : goal.returns-in_err-next
-returns-in_err-next g c =
+pub returns-in_err-next-clause-rewalks : goal.returns-in_err-next-clause-rewalks
+returns-in_err-next-clause-rewalks g c =
     let p = err_from_is_err_and c.from_residual.result c.from_residual.ensures.1 in
     let inv = c.loop-next.invariant in
     let err = c.in_err-next.ensures.leaves.read in
@@ -87,8 +95,8 @@ report_again-requires-clause-can g c =
 pub report_again-requires-clause-going : goal.report_again-requires-clause-going
 report_again-requires-clause-going g c = let inv = c.loop-next.invariant in rw inv.cut inv.going
 
-pub returns-in_err-report_again : goal.returns-in_err-report_again
-returns-in_err-report_again g c =
+pub returns-in_err-report_again-clause-rewalks : goal.returns-in_err-report_again-clause-rewalks
+returns-in_err-report_again-clause-rewalks g c =
     let p = err_from_is_err_and c.from_residual-in_err-report_again.result
     c.from_residual-in_err-report_again.ensures.1 in
     let inv = c.loop-next.invariant in
@@ -135,6 +143,8 @@ skip_gaps-requires g c =
 pub loop-next-preserved-then-matches : goal.loop-next-preserved-then-matches
 loop-next-preserved-then-matches g c =
     let inv = c.loop-next.invariant in
+    let reads = c.in_ok-next.ensures.counted inv.held in
+    let paid = rw c.in-Some.is at reads.paid in
     let v = c.args.geometry.now.layout in
     let n = c.args.number in
     let d = bits_of c.loop-next.workspace.duplicates in
@@ -167,6 +177,9 @@ loop-next-preserved-then-matches g c =
       geometry = c.skip_gaps.ensures.same.geometry ∙ c.in_ok-next.ensures.same.geometry ∙ inv.geometry;
       device = ok ∙ inv.device;
       claims = claims_then _ _ _ (claims_still _ _ _ inv.claims) only.claims;
+      held = c.skip_gaps.ensures.counted.held _ (rw only.windows reads.held);
+      counted = runs_pay_on _ _ _ _ _ _ _ _ _ _ inv.counted c.report_again.ensures.counted paid
+          c.skip_gaps.ensures.counted.unread;
       walk = λ bytes t. rewalk_gaps _ _ _ _ r' c.skip_gaps.result (rest bytes c.next.new.self)
           (rest bytes c.skip_gaps.new.self) _ _ (gaps bytes t)
           (rewalk_on _ _ _ _ c.in-Some.next r r' (rest bytes c.loop-next.walk)
@@ -184,6 +197,8 @@ loop-next-preserved-then-matches g c =
 pub loop-next-preserved : goal.loop-next-preserved
 loop-next-preserved g c =
     let inv = c.loop-next.invariant in
+    let reads = c.in_ok-next.ensures.counted inv.held in
+    let paid = rw c.in-Some.is at reads.paid in
     let v = c.args.geometry.now.layout in
     let n = c.args.number in
     let d = bits_of c.loop-next.workspace.duplicates in
@@ -211,6 +226,8 @@ loop-next-preserved g c =
       geometry = c.in_ok-next.ensures.same.geometry ∙ inv.geometry;
       device = ok ∙ inv.device;
       claims = claims_then _ _ _ (claims_still _ _ _ inv.claims) only.claims;
+      held = rw only.windows reads.held;
+      counted = runs_pay_on _ _ _ _ _ _ _ _ _ _ inv.counted c.report_again.ensures.counted paid (omega arith);
       walk = λ bytes t. rewalk_on _ _ _ _ c.in-Some.next r r' (rest bytes c.loop-next.walk)
           (rest bytes c.next.new.self) _ c.loop-next.workspace _ c.report_again.new.workspace
           (next bytes t) now inv.going inv.pending
@@ -222,8 +239,8 @@ loop-next-preserved g c =
           said;
     }
 
-pub returns-then-not-is_replay_open : goal.returns-then-not-is_replay_open
-returns-then-not-is_replay_open g c =
+pub returns-then-not-is_replay_open-clause-rewalks : goal.returns-then-not-is_replay_open-clause-rewalks
+returns-then-not-is_replay_open-clause-rewalks g c =
     let inv = c.loop-next.invariant in
     let v = c.args.geometry.now.layout in
     let n = c.args.number in
@@ -268,8 +285,8 @@ returns-then-not-is_replay_open g c =
       };
     }
 
-pub returns-then-not-has_dups : goal.returns-then-not-has_dups
-returns-then-not-has_dups g c =
+pub returns-then-not-has_dups-clause-rewalks : goal.returns-then-not-has_dups-clause-rewalks
+returns-then-not-has_dups-clause-rewalks g c =
     let inv = c.loop-next.invariant in
     let v = c.args.geometry.now.layout in
     let n = c.args.number in
@@ -312,8 +329,8 @@ returns-then-not-has_dups g c =
       };
     }
 
-pub returns-in_default : goal.returns-in_default
-returns-in_default g c =
+pub returns-in_default-clause-rewalks : goal.returns-in_default-clause-rewalks
+returns-in_default-clause-rewalks g c =
     let inv = c.loop-next.invariant in
     let v = c.args.geometry.now.layout in
     let n = c.args.number in
@@ -338,4 +355,43 @@ returns-in_default g c =
             c.next.ensures.leaves.kept.size c.next.ensures.leaves.kept.holds inv.ready;
         claims = claims_still _ _ _ inv.claims;
       };
+    }
+
+pub returns-in_err-next-clause-counted : goal.returns-in_err-next-clause-counted
+returns-in_err-next-clause-counted g c =
+    let inv = c.loop-next.invariant in
+    let reads = c.in_err-next.ensures.counted inv.held in
+    record {
+      rises = inv.counted.rises;
+      paid = λ room. omega (arith, reads.most, inv.counted.paid room);
+    }
+
+pub returns-in_err-report_again-clause-counted : goal.returns-in_err-report_again-clause-counted
+returns-in_err-report_again-clause-counted g c =
+    let inv = c.loop-next.invariant in
+    let paid = rw c.in-Some.is at (c.in_ok-next.ensures.counted inv.held).paid in
+    runs_pay_less _ _ (unread c.next.new.self) _ _
+    (runs_pay_on _ _ _ _ _ (unread c.next.new.self) _ _ _ _ inv.counted c.report_again.ensures.counted paid (omega arith))
+
+pub returns-then-not-is_replay_open-clause-counted : goal.returns-then-not-is_replay_open-clause-counted
+returns-then-not-is_replay_open-clause-counted g c =
+    let inv = c.loop-next.invariant in
+    let paid = rw c.in-Some.is at (c.in_ok-next.ensures.counted inv.held).paid in
+    runs_pay_less _ _ (unread c.next.new.self) _ _
+    (runs_pay_on _ _ _ _ _ (unread c.next.new.self) _ _ _ _ inv.counted c.report_again.ensures.counted paid (omega arith))
+
+pub returns-then-not-has_dups-clause-counted : goal.returns-then-not-has_dups-clause-counted
+returns-then-not-has_dups-clause-counted g c =
+    let inv = c.loop-next.invariant in
+    let paid = rw c.in-Some.is at (c.in_ok-next.ensures.counted inv.held).paid in
+    runs_pay_less _ _ (unread c.next.new.self) _ _
+    (runs_pay_on _ _ _ _ _ (unread c.next.new.self) _ _ _ _ inv.counted c.report_again.ensures.counted paid (omega arith))
+
+pub returns-in_default-clause-counted : goal.returns-in_default-clause-counted
+returns-in_default-clause-counted g c =
+    let inv = c.loop-next.invariant in
+    let paid = rw c.in_default.is at (c.in_ok-next.ensures.counted inv.held).paid in
+    record {
+      rises = inv.counted.rises;
+      paid = λ room. omega (arith, paid, inv.counted.paid room);
     }

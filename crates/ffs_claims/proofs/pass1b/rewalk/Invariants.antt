@@ -1,4 +1,4 @@
-use Rattle.std.proofs.Common.{◌≡◌, ◌≢◌, true}
+use Rattle.std.proofs.Common.{◌≡◌, ◌≢◌, ◌+◌, true}
 use Rattle.ffs_volume.specs.Blocks.BlockCheck.{first_offer_lines}
 use Rattle.ffs_volume.specs.Blocks.Steps.{steps_of}
 use Rattle.ffs_volume.specs.Encodings.Replay.{fresh_replay, is_replay_open}
@@ -6,6 +6,7 @@ use Rattle.ffs_report.specs.Progress.{progress}
 use Rattle.ffs_phase.specs.Known.{ForBytes, IsContents}
 use Rattle.ffs_phase.specs.Runs.{SaidOf}
 use Rattle.ffs_maps.specs.Bits.{bits_of}
+use Rattle.ffs_walk.specs.Counts.{AreHeld, unread}
 use Rattle.ffs_walk.specs.Keepings.{replay_in}
 use Rattle.ffs_walk.specs.Rests.{rest, left}
 use Rattle.ffs_workspace.specs.Lengths.{set_count}
@@ -13,6 +14,7 @@ use Rattle.ffs_workspace.specs.Ready.{IsReady}
 use Rattle.ffs_claims.specs.Lines.{of_lines}
 use Rattle.ffs_claims.specs.Rescan.{offers_again}
 use Rattle.ffs_claims.specs.Reporting.{SameClaims}
+use Rattle.ffs_claims.specs.SecondLook.{RunsPay}
 use Rattle.ffs_claims.proofs.Rewalks.{Rewalking}
 use Rattle.ffs_claims.proofs.pass1b.rewalk.Given as goal
 
@@ -25,6 +27,9 @@ invariant-loop-next g l = record {
   geometry : l.walk.geometry ≡ l.geometry;
   device : g.I.Image.device l.image ≡ g.I.Image.device l.initial.image;
   claims : SameClaims l.initial.workspace l.workspace;
+  held : AreHeld l.workspace.windows.blocks l.walk;
+  counted : RunsPay (g.I.Image.reads l.initial.image) (g.I.Image.reads l.image + unread l.walk)
+      l.initial.workspace.runs_again l.workspace.runs_again;
   walk : ForBytes (IsContents (g.I.Image.device l.initial.image).contents) (λ bytes.
       Rewalking l.geometry.layout l.number l.cut (steps_of l.geometry.layout l.inode bytes) (replay_in l.keeping)
       (rest bytes l.walk) l.initial.workspace l.workspace);
