@@ -1,6 +1,7 @@
 -- Inodes before the first directory that isn't reached have no line.
 use Rattle.std.proofs.Common.{◌≡◌, ℕ, zero, suc, ◌+◌, ◌-◌, ◌<◌, ◌≤◌, Bool, true, false, not, ◌&&◌, ◌||◌, List, [], ◌++◌}
-use Rattle.std.proofs.Common.{map, refl, ap, ◌∙◌, arith}
+use Rattle.std.proofs.Common.{length, map, refl, ap, ◌∙◌, sym, arith}
+use Rattle.std.proofs.lemmas.List.{length-map}
 use Rattle.ffs_volume.specs.declared.Layout.{Layout}
 use Rattle.ffs_volume.specs.Directories.Connectivity.{connectivity_lines}
 use Rattle.ffs_volume.specs.Directories.Graph.{reached, none_or_dead, parent}
@@ -66,3 +67,14 @@ lines_begin v b w kinds reaches first ek er low free h s =
     ap (map of_tree) (ap (lines_below lines) (count_is v b) ∙ all_from lines (inodes_of v)
     ∙ lines_later lines first 0 first (inodes_of v) (omega arith) low
     (λ x l. no_line v b w kinds reaches x ek er (free x l) h s))
+
+-- so many there are
+pub count_begin : (v : Layout) (b : List ℕ) (w : Workspace) (kinds : List ℕ) (reaches : List Bool) (first : ℕ) →
+    kinds ≡ w.kinds.items → reaches ≡ w.reached.items → first ≤ inodes_of v →
+    ((x : ℕ) → x < first → is_free kinds reaches x ≡ false) → HoldsClaims v b w → HoldsSurvey v b w →
+    length (connectivity_lines (volume_of v b))
+    ≡ length (lines_from (cut_off_lines (volume_of v b)) first (inodes_of v - first))
+count_begin v b w kinds reaches first ek er low free h s =
+    sym (length-map (connectivity_lines (volume_of v b)) of_tree)
+    ∙ ap length (lines_begin v b w kinds reaches first ek er low free h s)
+    ∙ length-map (lines_from (cut_off_lines (volume_of v b)) first (inodes_of v - first)) of_tree

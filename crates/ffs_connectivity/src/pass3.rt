@@ -1,8 +1,8 @@
 //! Phase 3: connectivity (fsck(8)).
 
-ghost use Rattle.std.specs.Prelude.{◌≡◌, ◌<◌, ◌^◌, ◌∷◌, length, map};
+ghost use Rattle.std.specs.Prelude.{◌≡◌, ◌+◌, ◌<◌, ◌≤◌, ◌^◌, ◌∷◌, length, map};
 ghost use Rattle.ffs_report.specs.Progress.{progress};
-ghost use Rattle.ffs_phase.specs.Known.{IsContents};
+ghost use Rattle.ffs_phase.specs.Known.{ForBytes, IsContents};
 ghost use Rattle.ffs_phase.specs.Runs.{PhaseRuns};
 ghost use Rattle.ffs_volume.specs.Directories.Connectivity.{connectivity_lines};
 ghost use Rattle.ffs_volume.specs.Messages.Kinds as messages;
@@ -57,6 +57,11 @@ pub fn phase3<I: Image, W: Output>(
         (connectivity_lines (volume_of geometry.now.layout bytes)))
         (I.device image.old) (I.device image.new) (progress W.sink report.old)
         (progress W.sink report.new) result }
+    ensures reads { ForBytes (λ bytes. IsContents (I.device image.old).contents bytes
+        × HoldsClaims geometry.now.layout bytes workspace.old
+        × HoldsSurvey geometry.now.layout bytes workspace.old)
+        (λ bytes. I.reads image.new ≤ I.reads image.old
+        + length (connectivity_lines (volume_of geometry.now.layout bytes))) }
     ensures survey { LeavesSurvey workspace.old workspace.new }
     ensures ready { IsReady geometry.now.layout (I.device image.new) workspace.new }
 {

@@ -1,8 +1,8 @@
 //! The line on a lost directory.
 
-ghost use Rattle.std.specs.Prelude.{◌≡◌, ◌<◌, ◌≤◌, map};
+ghost use Rattle.std.specs.Prelude.{◌≡◌, ◌+◌, ◌<◌, ◌≤◌, length, map};
 ghost use Rattle.ffs_report.specs.Progress.{progress};
-ghost use Rattle.ffs_phase.specs.Known.{IsContents};
+ghost use Rattle.ffs_phase.specs.Known.{ForBytes, IsContents};
 ghost use Rattle.ffs_phase.specs.Runs.{PhaseRuns};
 ghost use Rattle.ffs_volume.specs.Messages.Kinds.{of_tree};
 ghost use Rattle.ffs_volume.specs.Directories.Volumes.{volume_of};
@@ -41,6 +41,11 @@ pub fn check_inode<I: Image, W: Output>(
         (λ bytes. map of_tree (cut_off_lines (volume_of geometry.now.layout bytes) number))
         (I.device image.old) (I.device image.new) (progress W.sink report.old)
         (progress W.sink report.new) result }
+    ensures reads { ForBytes (λ bytes. IsContents (I.device image.old).contents bytes
+        × HoldsClaims geometry.now.layout bytes workspace.old
+        × HoldsSurvey geometry.now.layout bytes workspace.old)
+        (λ bytes. I.reads image.new ≤ I.reads image.old
+        + length (cut_off_lines (volume_of geometry.now.layout bytes) number)) }
     ensures stays { StaysReady geometry.now.layout (I.device image.new) workspace.old
         workspace.new }
 {

@@ -1,6 +1,7 @@
 -- How the lines of numbers in ascending order continue.
-use Rattle.std.proofs.Common.{◌≡◌, ℕ, zero, suc, ◌+◌, ◌-◌, ◌<◌, ◌≤◌, List, [], ◌∷◌, ◌++◌, map, append_assoc, append-nil}
+use Rattle.std.proofs.Common.{◌≡◌, ℕ, zero, suc, ◌+◌, ◌-◌, ◌<◌, ◌≤◌, List, [], ◌∷◌, ◌++◌, map, append_assoc, append-nil, length}
 use Rattle.std.proofs.Common.{refl, ap, ◌∙◌, sym, arith}
+use Rattle.std.proofs.lemmas.List.{length-append}
 use Rattle.ffs_volume.specs.Messages.Kinds.{Message, TreeMessage, of_tree, lines_below, lines_from}
 
 pub names_append : (xs ys : List TreeMessage) → map of_tree (xs ++ ys) ≡ map of_tree xs ++ map of_tree ys
@@ -50,6 +51,17 @@ from_next lines d n h =
     ap (λ (k : ℕ). map of_tree (lines_from lines d k)) q
     ∙ names_append (lines d) (lines_from lines (suc d) (n - (d + 1)))
     ∙ ap (λ (e : ℕ). map of_tree (lines d) ++ map of_tree (lines_from lines e (n - (d + 1)))) r
+
+-- how many these are
+pub count_next : (lines : ℕ → List TreeMessage) (d n : ℕ) → d < n →
+    length (lines_from lines d (n - d)) ≡ length (lines d) + length (lines_from lines (d + 1) (n - (d + 1)))
+unfolding lines_from
+count_next lines d n h =
+    let q : n - d ≡ suc (n - (d + 1)) = omega arith in
+    let r : suc d ≡ d + 1 = omega arith in
+    ap (λ (k : ℕ). length (lines_from lines d k)) q
+    ∙ length-append (lines d) (lines_from lines (suc d) (n - (d + 1)))
+    ∙ ap (λ (e : ℕ). length (lines d) + length (lines_from lines e (n - (d + 1)))) r
 
 -- at the end there are none
 pub from_end : (lines : ℕ → List TreeMessage) (d n : ℕ) → n ≤ d → map of_tree (lines_from lines d (n - d)) ≡ []

@@ -4,16 +4,17 @@ use Rattle.std.proofs.lemmas.Result.{err_from_is_err_and}
 use Rattle.ffs_volume.specs.Directories.Connectivity.{connectivity_lines}
 use Rattle.ffs_volume.specs.Messages.Kinds.{Message, of_tree, phase3, lines_from}
 use Rattle.ffs_volume.specs.Directories.Volumes.{volume_of}
+use Rattle.ffs_phase.specs.Known.{ForBytes, IsContents}
 use Rattle.ffs_phase.proofs.Reporting.{of_begins, of_says, of_stops, of_same, of_part, of_fault, said_knows}
 use Rattle.ffs_phase.proofs.Reporting.{reports_knowing}
-use Rattle.ffs_workspace.specs.Holds.{bool_at}
+use Rattle.ffs_workspace.specs.Holds.{bool_at, HoldsClaims, HoldsSurvey}
 use Rattle.ffs_workspace.specs.Lengths.{inodes_of}
 use Rattle.ffs_connectivity.specs.Lines.{cut_off_lines}
 use Rattle.ffs_workspace.proofs.PlaceLaws.{filled_noted}
 use Rattle.ffs_workspace.proofs.Leaving.{claims_left, survey_left, leaves_more, windows_leave}
 use Rattle.ffs_connectivity.proofs.Leaving.{leaders_held}
-use Rattle.ffs_connectivity.proofs.Unreached.{lines_begin}
-use Rattle.ffs_volume.proofs.Numbered.{from_next, from_end}
+use Rattle.ffs_connectivity.proofs.Unreached.{count_begin, lines_begin}
+use Rattle.ffs_volume.proofs.Numbered.{count_next, from_next, from_end}
 use Rattle.ffs_connectivity.proofs.pass3.phase3.Goals as goal
 
 pub returns-in_err-say-clause-runs : goal.returns-in_err-say-clause-runs
@@ -68,6 +69,10 @@ loop-number-init g c =
             (with_items_is c.args.workspace.now.flags c.mark_leaders.new.leaders (search rules))
             ∙ c.mark_leaders.ensures.leads x;
       };
+      reads = λ bytes k.
+          let all = count_begin v bytes c.args.workspace.now _ _ c.first_unreached-first.result c.deref.ensures.value
+          c.deref-2.ensures.value (omega arith) c.first_unreached-first.ensures.before k.1 k.2 in
+          omega (arith, all);
       said = of_says _ (λ bytes. phase3 ∷ map of_tree (connectivity_lines (volume_of v bytes)))
           (λ bytes. map of_tree (lines_from (cut_off_lines (volume_of v bytes)) c.first_unreached-first.result
           (inodes_of v - c.first_unreached-first.result))) _ (phase3 ∷ []) _
@@ -109,23 +114,31 @@ loop-number-preserved g c =
     let inv = c.loop-number.invariant in
     let n = c.loop-number.number in
     let ok = c.in_ok-check_inode.ensures in
+    let known : ForBytes (λ bytes. IsContents (g.I.Image.device c.args.image.now).contents bytes
+    × HoldsClaims v bytes c.args.workspace.now × HoldsSurvey v bytes c.args.workspace.now) (λ bytes.
+    IsContents (g.I.Image.device c.loop-number.image).contents bytes
+    × HoldsClaims v bytes c.loop-number.workspace × HoldsSurvey v bytes c.loop-number.workspace) =
+    λ bytes k. (
+      ap (λ d. d.contents) inv.device ∙ k.0,
+      claims_left v bytes _ _ inv.survey k.1,
+      survey_left v bytes _ _ inv.survey k.2,
+    ) in
     record {
       ready = ok.stays.ready;
       device = ok.runs.image ∙ inv.device;
       low = omega arith;
       survey = leaves_more _ _ _ inv.survey (windows_leave _ _ ok.stays.held);
       leaders = leaders_held _ _ ok.stays.held inv.leaders;
+      reads = λ bytes k.
+          let on = count_next (cut_off_lines (volume_of v bytes)) n (inodes_of v) (omega arith) in
+          let more = c.check_inode.ensures.reads bytes (known bytes k) in
+          omega (arith, inv.reads bytes k, on, more);
       said = of_part _ (λ bytes. map of_tree (lines_from (cut_off_lines (volume_of v bytes)) n (inodes_of v - n)))
           (λ bytes. map of_tree (cut_off_lines (volume_of v bytes) n))
           (λ bytes. map of_tree (lines_from (cut_off_lines (volume_of v bytes)) (n + 1) (inodes_of v - (n + 1)))) _ _ _
           _ inv.said
           (λ bytes k. from_next (cut_off_lines (volume_of v bytes)) n (inodes_of v) (omega arith))
-          (said_knows _ _ _ _ _ _
-          (λ bytes k. (
-            ap (λ d. d.contents) inv.device ∙ k.0,
-            claims_left v bytes _ _ inv.survey k.1,
-            survey_left v bytes _ _ inv.survey k.2,
-          )) ok.runs.text);
+          (said_knows _ _ _ _ _ _ known ok.runs.text);
     }
 
 pub returns-clause-runs : goal.returns-clause-runs
@@ -140,3 +153,19 @@ returns-clause-runs g c =
           _ _ _ inv.said
           (λ bytes k. from_end (cut_off_lines (volume_of v bytes)) n (inodes_of v) (omega arith));
     }
+
+pub returns-in_err-check_inode-clause-reads : goal.returns-in_err-check_inode-clause-reads
+returns-in_err-check_inode-clause-reads g c = λ bytes k.
+    let v = c.args.geometry.now.layout in
+    let inv = c.loop-number.invariant in
+    let n = c.loop-number.number in
+    let on = count_next (cut_off_lines (volume_of v bytes)) n (inodes_of v) (omega arith) in
+    let more = c.check_inode.ensures.reads bytes (
+      ap (λ d. d.contents) inv.device ∙ k.0,
+      claims_left v bytes _ _ inv.survey k.1,
+      survey_left v bytes _ _ inv.survey k.2,
+    ) in
+    omega (arith, inv.reads bytes k, on, more)
+
+pub returns-clause-reads : goal.returns-clause-reads
+returns-clause-reads g c = λ bytes k. omega (arith, c.loop-number.invariant.reads bytes k)

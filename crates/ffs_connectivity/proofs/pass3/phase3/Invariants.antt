@@ -1,6 +1,6 @@
-use Rattle.std.proofs.Common.{◌≡◌, ◌-◌, ◌≤◌, ◌∷◌, map}
+use Rattle.std.proofs.Common.{◌≡◌, ◌+◌, ◌-◌, ◌≤◌, ◌∷◌, length, map}
 use Rattle.ffs_report.specs.Progress.{progress}
-use Rattle.ffs_phase.specs.Known.{IsContents}
+use Rattle.ffs_phase.specs.Known.{ForBytes, IsContents}
 use Rattle.ffs_phase.specs.Runs.{SaidOf}
 use Rattle.ffs_volume.specs.Directories.Connectivity.{connectivity_lines}
 use Rattle.ffs_volume.specs.Messages.Kinds.{of_tree, phase3, lines_from}
@@ -20,6 +20,11 @@ invariant-loop-number g l = record {
   low : 2 ≤ l.number;
   survey : LeavesSurvey l.fn.workspace l.workspace;
   leaders : HasLeaders l.workspace;
+  reads : ForBytes (λ bytes. IsContents (g.I.Image.device l.fn.image).contents bytes
+      × HoldsClaims l.geometry.layout bytes l.fn.workspace × HoldsSurvey l.geometry.layout bytes l.fn.workspace)
+      (λ bytes. g.I.Image.reads l.image + length (lines_from (cut_off_lines (volume_of l.geometry.layout bytes)) l.number
+      (inodes_of l.geometry.layout - l.number))
+      ≤ g.I.Image.reads l.fn.image + length (connectivity_lines (volume_of l.geometry.layout bytes)));
   said : SaidOf (λ bytes. IsContents (g.I.Image.device l.fn.image).contents bytes
       × HoldsClaims l.geometry.layout bytes l.fn.workspace × HoldsSurvey l.geometry.layout bytes l.fn.workspace)
       (λ bytes. map of_tree (lines_from (cut_off_lines (volume_of l.geometry.layout bytes)) l.number

@@ -5,7 +5,7 @@ use Rattle.ffs_volume.specs.Messages.Kinds.{of_tree, unref_dir}
 use Rattle.ffs_volume.specs.Directories.Volumes.{volume_of}
 use Rattle.ffs_phase.proofs.Reporting.{of_begins, of_same, of_says, of_stops, of_reads}
 use Rattle.ffs_connectivity.specs.Lines.{cut_off_lines}
-use Rattle.ffs_connectivity.proofs.CutOff.{attributes_are, cut_off_is, silent, heard}
+use Rattle.ffs_connectivity.proofs.CutOff.{attributes_are, cut_off_is, one_line, silent, heard}
 use Rattle.ffs_connectivity.proofs.unref.check_inode.Goals as goal
 
 pub returns-then-not-cut_off-clause-runs : goal.returns-then-not-cut_off-clause-runs
@@ -46,7 +46,7 @@ returns-in_err-say-clause-runs g c =
           refl c.is_unref-cut_off.ensures k.1 k.2) ∙ c.if-not-cut_off.false)
           ∙ ap (λ (a : Attr). of_tree (unref_dir a) ∷ [])
           (attributes_are v bytes c.args.number c.in_ok-inode.inode c.of.result
-          (c.in_ok-inode.ensures.inode bytes k.0) c.of.ensures))
+          (c.in_ok-inode.ensures.reads.inode bytes k.0) c.of.ensures))
           c.in_err-say.ensures.said;
     })
 
@@ -64,6 +64,36 @@ returns-clause-runs g c =
           refl c.is_unref-cut_off.ensures k.1 k.2) ∙ c.if-not-cut_off.false)
           ∙ ap (λ (a : Attr). of_tree (unref_dir a) ∷ [])
           (attributes_are v bytes c.args.number c.in_ok-inode.inode c.of.result
-          (c.in_ok-inode.ensures.inode bytes k.0) c.of.ensures))
+          (c.in_ok-inode.ensures.reads.inode bytes k.0) c.of.ensures))
           c.in_ok-say.ensures.said;
     }
+
+pub returns-in_err-inode-clause-reads : goal.returns-in_err-inode-clause-reads
+returns-in_err-inode-clause-reads g c =
+    λ bytes k.
+    let v = c.args.geometry.now.layout in
+    let one = one_line (volume_of v bytes) c.args.number (sym
+    (cut_off_is v bytes c.args.workspace.now _ _ _ _ _ c.args.number _ c.requires.number.0 c.requires.number.1
+    (omega arith) c.deref.ensures.value c.deref-2.ensures.value c.deref-3.ensures.value c.deref-4.ensures.value
+    refl c.is_unref-cut_off.ensures k.1 k.2) ∙ c.if-not-cut_off.false) in
+    omega (arith, one, c.in_err-inode.ensures.counted)
+
+pub returns-in_err-say-clause-reads : goal.returns-in_err-say-clause-reads
+returns-in_err-say-clause-reads g c =
+    λ bytes k.
+    let v = c.args.geometry.now.layout in
+    let one = one_line (volume_of v bytes) c.args.number (sym
+    (cut_off_is v bytes c.args.workspace.now _ _ _ _ _ c.args.number _ c.requires.number.0 c.requires.number.1
+    (omega arith) c.deref.ensures.value c.deref-2.ensures.value c.deref-3.ensures.value c.deref-4.ensures.value
+    refl c.is_unref-cut_off.ensures k.1 k.2) ∙ c.if-not-cut_off.false) in
+    omega (arith, one, c.in_ok-inode.ensures.counted)
+
+pub returns-clause-reads : goal.returns-clause-reads
+returns-clause-reads g c =
+    λ bytes k.
+    let v = c.args.geometry.now.layout in
+    let one = one_line (volume_of v bytes) c.args.number (sym
+    (cut_off_is v bytes c.args.workspace.now _ _ _ _ _ c.args.number _ c.requires.number.0 c.requires.number.1
+    (omega arith) c.deref.ensures.value c.deref-2.ensures.value c.deref-3.ensures.value c.deref-4.ensures.value
+    refl c.is_unref-cut_off.ensures k.1 k.2) ∙ c.if-not-cut_off.false) in
+    omega (arith, one, c.in_ok-inode.ensures.counted)
