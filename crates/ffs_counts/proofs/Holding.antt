@@ -1,12 +1,12 @@
 -- What a workspace holds where only its windows have changed, and what is reported of an inode by it.
 use Rattle.std.proofs.Common.{◌≡◌, ℕ, ℤ, zero, suc, ◌+◌, ◌-◌, ◌<◌, ◌≤◌, Bool, true, false, List, [], ◌++◌}
-use Rattle.std.proofs.Common.{map, refl, ap, ◌∙◌, sym, slice_index, vec_len, arith}
+use Rattle.std.proofs.Common.{length, map, refl, ap, ◌∙◌, sym, slice_index, vec_len, arith}
 use Rattle.std.specs.Prelude.{◌&&◌, ◌||◌, ◌==◌, not, if◌then◌else◌}
 use Rattle.std.specs.List.{slice_index_or}
 use Rattle.std.specs.declared.alloc.Global.{Global}
 use Rattle.std.specs.declared.vec.Vec.{Vec}
 use Rattle.std.proofs.lemmas.Bool.{and_parts, eqb-true, not-true}
-use Rattle.std.proofs.lemmas.List.{get_or_read}
+use Rattle.std.proofs.lemmas.List.{get_or_read, length-map}
 use Rattle.ffs_volume.specs.declared.Layout.{Layout}
 use Rattle.ffs_volume.specs.declared.Attr.{Attr}
 use Rattle.ffs_volume.specs.declared.Class.TheVariants.{Free, Unknown, File, Dir}
@@ -146,6 +146,22 @@ pub lines_begin : (v : Layout) (b : List ℕ) → map of_tree (reference_lines (
 unfolding reference_lines volume_of volume_with
 lines_begin v b = ap (λ (ls : List TreeMessage). map of_tree ls)
     (all_from (reference_lines_at (volume_of v b)) (inodes_of v))
+
+-- and how many they are
+pub count_begin : (v : Layout) (b : List ℕ) → length (reference_lines (volume_of v b))
+    ≡ length (lines_from (reference_lines_at (volume_of v b)) 0 (inodes_of v - 0))
+count_begin v b = sym (length-map (reference_lines (volume_of v b)) of_tree) ∙ ap length (lines_begin v b)
+    ∙ length-map (lines_from (reference_lines_at (volume_of v b)) 0 (inodes_of v - 0)) of_tree
+
+pub count_free : (v : Layout) (b : List ℕ) (w : Workspace) (kinds : List ℕ) (d k n : ℕ) → HoldsClaims v b w →
+    kinds ≡ w.kinds.items →
+    ((j : ℕ) → j < k → is_allocated (class_of_kind (slice_index kinds (d + j))) ≡ false) → d + k ≤ n →
+    length (lines_from (reference_lines_at (volume_of v b)) d (n - d))
+    ≡ length (lines_from (reference_lines_at (volume_of v b)) (d + k) (n - (d + k)))
+count_free v b w kinds d k n h e none low =
+    let lines = reference_lines_at (volume_of v b) in
+    sym (length-map (lines_from lines d (n - d)) of_tree) ∙ ap length (free_lines v b w kinds d k n h e none low)
+    ∙ length-map (lines_from lines (d + k) (n - (d + k))) of_tree
 
 -- where each link has its reference, nothing is reported
 pub met_lines : (v : Layout) (b : List ℕ) (w : Workspace) (i : ℕ) → i < inodes_of v → HoldsFindings v b w →

@@ -4,4 +4,5 @@ pub mod Sifting
 pub mod Classes
 pub mod GroupText
 pub mod Holding
+pub mod Unmet
 pub mod Kept

@@ -1,6 +1,6 @@
 //! The records of a cylinder group, read from an image.
 
-ghost use Rattle.std.specs.Prelude.{◌≡◌, ◌<◌, IfOk};
+ghost use Rattle.std.specs.Prelude.{◌≡◌, ◌+◌, ◌<◌, ◌≤◌, IfOk};
 ghost use Rattle.ffs_image.specs.Device.{ForContents};
 ghost use Rattle.ffs_image.specs.Reads.{ReadAfter};
 ghost use Rattle.ffs_volume.specs.Groups.GroupCheck.{group_lines};
@@ -32,8 +32,9 @@ fn read_summaries<I: Image>(
     group: u32,
 ) -> Result<usize, ImageFault>
     requires { CanReadRecord geometry.now.layout (I.device image.old) group table.old }
-    ensures { ReadsRecord geometry.now.layout (I.device image.old) (I.device image.new) group
+    ensures reads { ReadsRecord geometry.now.layout (I.device image.old) (I.device image.new) group
         table.new result }
+    ensures counted { I.reads image.new ≤ I.reads image.old + 1 }
 {
     let first = group - group % RECORDS_AT_ONCE;
     let count = RECORDS_AT_ONCE.min(geometry.layout.ncg - first);
@@ -66,6 +67,7 @@ pub fn read_group<I: Image>(
         (free_in (bits_of workspace.old.claimed) geometry.now.layout.size)
         (class_in workspace.old.kinds.items) group)) }
     ensures read { ReadAfter (I.device image.old) (I.device image.new) result }
+    ensures counted { I.reads image.new ≤ I.reads image.old + 2 }
     ensures stays { StaysReady geometry.now.layout (I.device image.new) workspace.old
         workspace.new }
 {

@@ -1,11 +1,11 @@
 //! Phase 4: how often inodes are referred to.
 
-ghost use Rattle.std.specs.Prelude.{◌≡◌, ◌<◌, ◌∷◌, map, slice_index, length, true};
+ghost use Rattle.std.specs.Prelude.{◌≡◌, ◌+◌, ◌<◌, ◌≤◌, ◌∷◌, map, slice_index, length, true};
 ghost use Rattle.ffs_volume.specs.Messages.Kinds.{of_tree, phase4 as phase4_heading};
 ghost use Rattle.ffs_volume.specs.Directories.ReferenceCheck.{reference_lines_at, reference_lines};
 ghost use Rattle.ffs_volume.specs.Directories.Volumes.{volume_of};
 ghost use Rattle.ffs_report.specs.Progress.{progress};
-ghost use Rattle.ffs_phase.specs.Known.{IsContents};
+ghost use Rattle.ffs_phase.specs.Known.{ForBytes, IsContents};
 ghost use Rattle.ffs_phase.specs.Runs.{PhaseRuns};
 ghost use Rattle.ffs_workspace.specs.Holds.{HoldsFindings};
 ghost use Rattle.ffs_volume.specs.Blocks.Inodes.{is_allocated};
@@ -85,6 +85,10 @@ fn check_inode<I: Image, W: Output>(
         (λ bytes. map of_tree (reference_lines_at (volume_of geometry.now.layout bytes) number))
         (I.device image.old) (I.device image.new) (progress W.sink report.old)
         (progress W.sink report.new) result }
+    ensures reads { ForBytes (λ bytes. IsContents (I.device image.old).contents bytes
+        × HoldsFindings geometry.now.layout bytes workspace.old)
+        (λ bytes. I.reads image.new ≤ I.reads image.old
+        + length (reference_lines_at (volume_of geometry.now.layout bytes) number)) }
     ensures stays { StaysReady geometry.now.layout (I.device image.new) workspace.old
         workspace.new }
 {
@@ -124,6 +128,10 @@ pub fn phase4<I: Image, W: Output>(
         (reference_lines (volume_of geometry.now.layout bytes)))
         (I.device image.old) (I.device image.new) (progress W.sink report.old)
         (progress W.sink report.new) result }
+    ensures reads { ForBytes (λ bytes. IsContents (I.device image.old).contents bytes
+        × HoldsFindings geometry.now.layout bytes workspace.old)
+        (λ bytes. I.reads image.new ≤ I.reads image.old
+        + length (reference_lines (volume_of geometry.now.layout bytes))) }
     ensures stays { StaysReady geometry.now.layout (I.device image.new) workspace.old
         workspace.new }
 {

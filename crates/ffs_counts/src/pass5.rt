@@ -1,7 +1,8 @@
 //! Phase 5: the records of the cylinder groups.
 
-ghost use Rattle.std.specs.Prelude.{◌∷◌};
+ghost use Rattle.std.specs.Prelude.{◌+◌, ◌≤◌, ◌∷◌};
 ghost use Rattle.ffs_volume.specs.Messages.Kinds.{phase5 as phase5_heading};
+ghost use Rattle.ffs_volume.specs.Report.Reads.{group_reads};
 ghost use Rattle.ffs_volume.specs.Report.Whole.{group_check_lines};
 ghost use Rattle.ffs_layout.specs.Super.{seen};
 ghost use Rattle.ffs_report.specs.Progress.{progress};
@@ -38,6 +39,8 @@ pub fn phase5<I: Image, W: Output>(
         (λ bytes. phase5_heading ∷ group_check_lines bytes (seen superblock.now))
         (I.device image.old) (I.device image.new) (progress W.sink report.old)
         (progress W.sink report.new) result }
+    ensures reads { I.reads image.new
+        ≤ I.reads image.old + group_reads superblock.now.geometry.layout }
     ensures stays { StaysReady superblock.now.geometry.layout (I.device image.new) workspace.old
         workspace.new }
 {

@@ -9,5 +9,5 @@ fill-requires-clause-inside g c =
       c.group_place-place.ensures,
       block_inside c.args.geometry.now.layout c.args.group c.args.geometry.now.sound c.requires.group,
       c.requires.ready.volume,
-      ap (λ d. d.size) c.in_ok-at.ensures.leaves.read,
+      ap (λ d. d.size) c.in_ok-at.ensures.reads.leaves.read,
     )

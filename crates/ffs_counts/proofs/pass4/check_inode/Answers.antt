@@ -1,4 +1,4 @@
-use Rattle.std.proofs.Common.{false, ap, refl, rules, sym, ◌∙◌, ◌≡◌, ◌-◌, ℕ, [], List, map, slice_index, append-nil}
+use Rattle.std.proofs.Common.{arith, false, ap, refl, rules, sym, ◌∙◌, ◌≡◌, ◌-◌, ℕ, [], List, map, slice_index, append-nil}
 use Rattle.std.proofs.lemmas.Result.{err_from_is_err_and}
 use Rattle.ffs_volume.specs.Encodings.Links.{links_start}
 use Rattle.ffs_volume.specs.Messages.Kinds.{TreeMessage, Message, of_tree}
@@ -9,6 +9,7 @@ use Rattle.ffs_workspace.specs.Holds.{bool_at}
 use Rattle.ffs_volume.specs.Directories.PathnameCheck.{attributes_of}
 use Rattle.ffs_counts.specs.References.{lines_as}
 use Rattle.ffs_counts.proofs.Holding.{inode_lines_are, item_at, met_lines, same_reported, some_lines}
+use Rattle.ffs_counts.proofs.Unmet.{unmet_line}
 use Rattle.ffs_workspace.proofs.Readiness.{ready_table}
 use Rattle.ffs_counts.proofs.pass4.check_inode.Goals as goal
 
@@ -57,7 +58,7 @@ returns-in_err-say_line-clause-runs g c =
           (λ bytes k. ap (λ (ls : List TreeMessage). map of_tree ls)
           (sym (some_lines v bytes w n k.1.claims c.requires.used)
           ∙ inode_lines_are v bytes w n inode c.is_dead-dead.result _ c.requires.number k.1 c.requires.used
-          (c.in_ok-inode.ensures.inode bytes k.0) c.is_dead-dead.ensures refl
+          (c.in_ok-inode.ensures.reads.inode bytes k.0) c.is_dead-dead.ensures refl
           ∙ same_reported c.is_dead-dead.result c.index-marked.result.now (bool_at w.marked.items n)
           c.index-kind.result.now (slice_index w.kinds.items n) (attributes_of n inode) inode.nlink
           c.references_by-references.result _ marked kind refs
@@ -89,7 +90,7 @@ returns-clause-runs g c =
           (λ bytes k. ap (λ (ls : List TreeMessage). map of_tree ls)
           (sym (some_lines v bytes w n k.1.claims c.requires.used)
           ∙ inode_lines_are v bytes w n inode c.is_dead-dead.result _ c.requires.number k.1 c.requires.used
-          (c.in_ok-inode.ensures.inode bytes k.0) c.is_dead-dead.ensures refl
+          (c.in_ok-inode.ensures.reads.inode bytes k.0) c.is_dead-dead.ensures refl
           ∙ same_reported c.is_dead-dead.result c.index-marked.result.now (bool_at w.marked.items n)
           c.index-kind.result.now (slice_index w.kinds.items n) (attributes_of n inode) inode.nlink
           c.references_by-references.result _ marked kind refs
@@ -101,14 +102,32 @@ pub returns-in_err-say_line-clause-stays : goal.returns-in_err-say_line-clause-s
 returns-in_err-say_line-clause-stays g c = record {
   held = refl;
   ready = ready_table c.args.geometry.now.layout (g.I.Image.device c.args.image.now) _ c.args.workspace.now
-      c.inode.new.self (ap (λ d. d.contents) c.in_ok-inode.ensures.read) (ap (λ d. d.size) c.in_ok-inode.ensures.read)
-      c.inode.ensures.kept c.requires.ready;
+      c.inode.new.self (ap (λ d. d.contents) c.in_ok-inode.ensures.reads.read) (ap (λ d. d.size) c.in_ok-inode.ensures.reads.read)
+      c.inode.ensures.reads.kept c.requires.ready;
 }
 
 pub returns-clause-stays : goal.returns-clause-stays
 returns-clause-stays g c = record {
   held = refl;
   ready = ready_table c.args.geometry.now.layout (g.I.Image.device c.args.image.now) _ c.args.workspace.now
-      c.inode.new.self (ap (λ d. d.contents) c.in_ok-inode.ensures.read) (ap (λ d. d.size) c.in_ok-inode.ensures.read)
-      c.inode.ensures.kept c.requires.ready;
+      c.inode.new.self (ap (λ d. d.contents) c.in_ok-inode.ensures.reads.read) (ap (λ d. d.size) c.in_ok-inode.ensures.reads.read)
+      c.inode.ensures.reads.kept c.requires.ready;
 }
+
+pub returns-in_err-inode-clause-reads : goal.returns-in_err-inode-clause-reads
+returns-in_err-inode-clause-reads g c = λ bytes k.
+    let one = unmet_line c.args.geometry.now.layout bytes c.args.workspace.now c.args.number c.requires.number k.1
+    c.requires.used (sym c.is_right.ensures ∙ c.if-is_right.false) in
+    omega (arith, one, c.in_err-inode.ensures.counted)
+
+pub returns-in_err-say_line-clause-reads : goal.returns-in_err-say_line-clause-reads
+returns-in_err-say_line-clause-reads g c = λ bytes k.
+    let one = unmet_line c.args.geometry.now.layout bytes c.args.workspace.now c.args.number c.requires.number k.1
+    c.requires.used (sym c.is_right.ensures ∙ c.if-is_right.false) in
+    omega (arith, one, c.in_ok-inode.ensures.counted)
+
+pub returns-clause-reads : goal.returns-clause-reads
+returns-clause-reads g c = λ bytes k.
+    let one = unmet_line c.args.geometry.now.layout bytes c.args.workspace.now c.args.number c.requires.number k.1
+    c.requires.used (sym c.is_right.ensures ∙ c.if-is_right.false) in
+    omega (arith, one, c.in_ok-inode.ensures.counted)

@@ -8,8 +8,8 @@ use Rattle.ffs_phase.proofs.Reporting.{reports_knowing}
 use Rattle.ffs_workspace.specs.declared.workspace.Workspace.{Workspace}
 use Rattle.ffs_workspace.specs.Lengths.{inodes_of}
 use Rattle.ffs_workspace.proofs.Leaving.{findings_held}
-use Rattle.ffs_counts.proofs.Holding.{free_lines, held_on, lines_begin}
-use Rattle.ffs_volume.proofs.Numbered.{from_next, from_end}
+use Rattle.ffs_counts.proofs.Holding.{count_begin, count_free, free_lines, held_on, lines_begin}
+use Rattle.ffs_volume.proofs.Numbered.{count_next, from_next, from_end}
 use Rattle.ffs_counts.proofs.pass4.phase4.Goals as goal
 
 pub returns-in_err-say-clause-runs : goal.returns-in_err-say-clause-runs
@@ -32,6 +32,7 @@ loop-number-init g c =
       ready = c.requires.ready;
       device = refl;
       held = refl;
+      reads = λ bytes k. let all = count_begin v bytes in omega (arith, all);
       said = of_says _ (λ bytes. phase4 ∷ map of_tree (reference_lines (volume_of v bytes)))
           (λ bytes. map of_tree (lines_from (reference_lines_at (volume_of v bytes)) 0 (inodes_of v - 0))) _ (phase4 ∷
           []) _
@@ -77,6 +78,11 @@ loop-number-preserved-then-free-eq0 g c =
       ready = ok.stays.ready;
       device = ok.runs.image ∙ inv.device;
       held = held_on c.args.workspace.now c.loop-number.workspace c.check_inode.new.workspace inv.held ok.stays.held;
+      reads = λ bytes k.
+          let on = count_next (reference_lines_at (volume_of v bytes)) n (inodes_of v)
+          (omega (arith, c.loop-number-test.true)) in
+          let more = ok.reads bytes (ap (λ d. d.contents) inv.device ∙ k.0, findings_held v bytes _ _ inv.held k.1) in
+          omega (arith, inv.reads bytes k, on, more);
       said = of_part _ (λ bytes. map of_tree (lines_from (reference_lines_at (volume_of v bytes)) n (inodes_of v - n)))
           (λ bytes. map of_tree (reference_lines_at (volume_of v bytes) n))
           (λ bytes. map of_tree (lines_from (reference_lines_at (volume_of v bytes)) (n + 1) (inodes_of v - (n + 1)))) _
@@ -101,6 +107,11 @@ loop-number-preserved g c =
       ready = inv.ready;
       device = inv.device;
       held = inv.held;
+      reads = λ bytes k.
+          let on = count_free v bytes c.args.workspace.now c.deref.result.now n free (inodes_of v) k.1.claims
+          (c.deref.ensures.value ∙ ap (λ (w : Workspace). w.kinds.items) inv.held) c.free_run-free.ensures.free
+          (omega (arith, c.free_run-free.ensures.within, c.deref.ensures.len, inv.ready.made.kinds)) in
+          omega (arith, inv.reads bytes k, on);
       said = of_same _ (λ bytes. map of_tree (lines_from (reference_lines_at (volume_of v bytes)) n (inodes_of v - n)))
           (λ bytes. map of_tree (lines_from (reference_lines_at (volume_of v bytes)) (n + free) (inodes_of v - (n +
           free))))
@@ -123,3 +134,18 @@ returns-clause-runs g c =
           (λ bytes k. from_end (reference_lines_at (volume_of v bytes)) n (inodes_of v)
           (omega (arith, c.loop-number-test.false)));
     }
+
+pub returns-in_err-check_inode-clause-reads : goal.returns-in_err-check_inode-clause-reads
+returns-in_err-check_inode-clause-reads g c = λ bytes k.
+    let v = c.args.geometry.now.layout in
+    let inv = c.loop-number.invariant in
+    let on = count_next (reference_lines_at (volume_of v bytes)) c.loop-number.number (inodes_of v)
+    (omega (arith, c.loop-number-test.true)) in
+    let more = c.in_err-check_inode.ensures.reads bytes (
+      ap (λ d. d.contents) inv.device ∙ k.0,
+      findings_held v bytes _ _ inv.held k.1,
+    ) in
+    omega (arith, inv.reads bytes k, on, more)
+
+pub returns-clause-reads : goal.returns-clause-reads
+returns-clause-reads g c = λ bytes k. omega (arith, c.loop-number.invariant.reads bytes k)

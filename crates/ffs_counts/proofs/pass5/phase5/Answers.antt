@@ -38,6 +38,7 @@ loop-group-init g c =
     record {
       device = refl;
       stays = record { held = refl; ready = c.requires.ready };
+      reads = omega arith;
       up = search (rules, arith);
       totals = search rules;
       said = of_same _ lines (λ bytes. rest_lines v bytes sums free class (reported_of c.new-once.result) 0 (v.ncg - 0))
@@ -96,6 +97,7 @@ loop-group-preserved g c =
         held = held_on w c.loop-group.workspace _ inv.stays.held c.in_ok-found.ensures.stays.held;
         ready = c.in_ok-found.ensures.stays.ready;
       };
+      reads = omega (arith, inv.reads, c.in_ok-found.ensures.counted);
       up = up_next n c.loop-group.totals _ c.group_counts-counts.result.summary inv.up c.add.ensures
           (omega (arith, c.group_counts-counts.type_inv)) (omega (arith, c.group_counts-counts.type_inv))
           (omega (arith, c.group_counts-counts.type_inv)) (omega (arith, c.group_counts-counts.type_inv));
@@ -155,3 +157,17 @@ returns-clause-runs g c =
           (omega (arith, c.loop-group-test.false, c.loop-group.auto.group-end))))
           c.in_ok-say_unless.ensures.said;
     }
+
+pub returns-in_err-found-clause-reads : goal.returns-in_err-found-clause-reads
+returns-in_err-found-clause-reads g c =
+    omega (arith, c.loop-group.invariant.reads, c.in_err-found.ensures.counted, c.loop-group-test.true)
+
+pub returns-in_err-say_group-clause-reads : goal.returns-in_err-say_group-clause-reads
+returns-in_err-say_group-clause-reads g c =
+    omega (arith, c.loop-group.invariant.reads, c.in_ok-found.ensures.counted, c.loop-group-test.true)
+
+pub returns-in_err-say_unless-clause-reads : goal.returns-in_err-say_unless-clause-reads
+returns-in_err-say_unless-clause-reads g c = omega (arith, c.loop-group.invariant.reads, c.loop-group.auto.group-end)
+
+pub returns-clause-reads : goal.returns-clause-reads
+returns-clause-reads g c = omega (arith, c.loop-group.invariant.reads, c.loop-group.auto.group-end)

@@ -1,4 +1,4 @@
-use Rattle.std.proofs.Common.{◌≡◌, ◌-◌, ◌∷◌}
+use Rattle.std.proofs.Common.{◌≡◌, ◌+◌, ◌-◌, ◌*◌, ◌≤◌, ◌∷◌}
 use Rattle.ffs_volume.specs.Messages.Kinds.{phase5 as phase5_heading}
 use Rattle.ffs_volume.specs.Report.Whole.{group_check_lines}
 use Rattle.ffs_layout.specs.Super.{seen}
@@ -24,6 +24,7 @@ invariant-loop-group g l =
     record {
       device : g.I.Image.device l.image ≡ g.I.Image.device l.fn.image;
       stays : StaysReady v (g.I.Image.device l.image) l.fn.workspace l.workspace;
+      reads : g.I.Image.reads l.image ≤ g.I.Image.reads l.fn.image + 2 * l.group;
       up : AreUpTo l.group l.totals;
       totals : AreTotals v free class l.group l.totals;
       said : SaidOf (λ bytes. IsContents (g.I.Image.device l.fn.image).contents bytes
