@@ -3,6 +3,7 @@
 ghost use Rattle.std.specs.Prelude.{IfErr, ℕ, ◌^◌, IsTrue, nat_le, ◌==◌, ◌≡◌, ◌+◌, ◌*◌, ◌<◌, ◌≤◌, IfOk, MatchResult};
 ghost use Rattle.ffs_volume.specs.Disk.Outcome.{agree, super_sector};
 ghost use Rattle.ffs_volume.specs.Disk.Numbers.{u32_at};
+ghost use Rattle.ffs_volume.specs.Report.Reads.{opening_reads};
 ghost use Rattle.std.specs.List.{list_all};
 ghost use Rattle.ffs_volume.specs.Disk.Superblock.{layout_of, order_of, superblock_of};
 ghost use Rattle.ffs_layout.specs.Accepted.{IsAccepted};
@@ -71,8 +72,10 @@ fn read_copy<I: Image>(
     out: &mut [u8; SUPERBLOCK_BYTES],
 ) -> Result<(), SuperFault>
     requires { at < 2 ^ 63 }
-    ensures { MatchResult result (λ _. IsCopy (I.device image.old) (I.device image.new) at out.new)
+    ensures copied { MatchResult result
+        (λ _. IsCopy (I.device image.old) (I.device image.new) at out.new)
         (IsUnreadCopy (I.device image.old) (I.device image.new) at) }
+    ensures counted { I.reads image.new ≤ I.reads image.old + 1 }
 {
     if image.size() < at + SUPERBLOCK_BYTES as u64 {
         return Err(SuperFault::CannotRead {
@@ -163,9 +166,10 @@ fn check_copy<I: Image>(
 ) -> Result<(), SuperFault>
     requires { IsAccepted (layout_of order bytes.now) (I.device image.old).size
         geometry.now.layout }
-    ensures { MatchResult result
+    ensures compared { MatchResult result
         (λ _. CopyAgrees (I.device image.old) (I.device image.new) sector order bytes.now)
         (IsCopyFault (I.device image.old) (I.device image.new) sector order bytes.now) }
+    ensures counted { I.reads image.new ≤ I.reads image.old + 1 }
 {
     if sector.is_some() {
         return Ok(());
@@ -204,6 +208,9 @@ pub fn read_super<I: Image>(image: &mut I, sector: Option<u32>) -> Result<Super,
     // A failed read is returned, by its sector. With none, the result is the outcome, where the
     // bytes are given.
     ensures answer { ReadsSuper (I.device image.old) (I.device image.new) sector (found_of result) }
+
+    // It reads the superblock, and the copy.
+    ensures reads { I.reads image.new ≤ I.reads image.old + opening_reads }
 {
     let start = u64::from(first_sector(sector)) * DEV_BSIZE;
     let mut bytes = [0; SUPERBLOCK_BYTES];

@@ -10,7 +10,7 @@ use Rattle.ffs_layout.proofs.superblock.read_super.Goals as goal
 pub returns-in_err-read_copy-clause-answer : goal.returns-in_err-read_copy-clause-answer
 returns-in_err-read_copy-clause-answer g c =
     let p = err_from_is_err_and c.from_residual.result c.from_residual.ensures.1 in
-    let unread = c.in_err-read_copy.ensures in
+    let unread = c.in_err-read_copy.ensures.copied in
     let start = c.from-start.ensures ∙ c.first_sector.ensures in
     let back : c.from-start.result * 512 / 512 ≡ c.from-start.result = omega arith in
     let long = reported_length _ _ (g.met.I.Image.sized c.args.image.now) in
@@ -28,7 +28,7 @@ returns-in_err-read_copy-clause-answer g c =
 
 pub returns-in_default-clause-answer : goal.returns-in_default-clause-answer
 returns-in_default-clause-answer g c =
-    let copy = c.in_ok-read_copy.ensures in
+    let copy = c.in_ok-read_copy.ensures.copied in
     let start = c.from-start.ensures ∙ c.first_sector.ensures in
     let long = reported_length _ _ (g.met.I.Image.sized c.args.image.now) in
     inr (
@@ -45,7 +45,7 @@ returns-in_err-geometry-clause-unread g c =
 pub returns-in_err-geometry-clause-answer : goal.returns-in_err-geometry-clause-answer
 returns-in_err-geometry-clause-answer g c =
     let p = err_from_is_err_and c.from_residual-in_err-geometry.result c.from_residual-in_err-geometry.ensures.1 in
-    let copy = c.in_ok-read_copy.ensures in
+    let copy = c.in_ok-read_copy.ensures.copied in
     let start = c.from-start.ensures ∙ c.first_sector.ensures in
     let long = reported_length _ _ (g.met.I.Image.sized c.args.image.now) in
     let refused = rw (c.decode.ensures, c.size.ensures, copy.same) at c.in_err-geometry.ensures in
@@ -58,11 +58,11 @@ returns-in_err-geometry-clause-answer g c =
 pub returns-in_err-check_copy-clause-answer : goal.returns-in_err-check_copy-clause-answer
 returns-in_err-check_copy-clause-answer g c =
     let p = err_from_is_err_and c.from_residual-in_err-check_copy.result c.from_residual-in_err-check_copy.ensures.1 in
-    let copy = c.in_ok-read_copy.ensures in
+    let copy = c.in_ok-read_copy.ensures.copied in
     let start = c.from-start.ensures ∙ c.first_sector.ensures in
     let long = reported_length _ _ (g.met.I.Image.sized c.args.image.now) in
     let good = rw (c.decode.ensures, c.size.ensures, copy.same) at c.in_ok-geometry.ensures.fault in
-    let fault_of_copy = rw copy.same at c.in_err-check_copy.ensures in
+    let fault_of_copy = rw copy.same at c.in_err-check_copy.ensures.compared in
     rw (p.1, p.2) (elim fault_of_copy [
       | inl unread ↦ inl (
         (unread.fault ∙ ap CannotRead (sym unread.failed.failed), faulted_there _ _ _ unread.failed),
@@ -84,7 +84,7 @@ returns-in_err-check_copy-clause-answer g c =
 
 pub returns-clause-in_image : goal.returns-clause-in_image
 returns-clause-in_image g c =
-    let copy = c.in_ok-read_copy.ensures in
+    let copy = c.in_ok-read_copy.ensures.copied in
     let inside = rw (c.size.ensures, copy.same) at c.in_ok-geometry.ensures.in_image in
     let layout = seen_layout c.make_super.result c.in-Some.order _ c.make_super.ensures
     ∙ sym (c.in_ok-geometry.ensures.layout ∙ c.decode.ensures) in
@@ -92,11 +92,11 @@ returns-clause-in_image g c =
 
 pub returns-clause-answer : goal.returns-clause-answer
 returns-clause-answer g c =
-    let copy = c.in_ok-read_copy.ensures in
+    let copy = c.in_ok-read_copy.ensures.copied in
     let start = c.from-start.ensures ∙ c.first_sector.ensures in
     let long = reported_length _ _ (g.met.I.Image.sized c.args.image.now) in
     let good = rw (c.decode.ensures, c.size.ensures, copy.same) at c.in_ok-geometry.ensures.fault in
-    let compared = rw copy.same at c.in_ok-check_copy.ensures in
+    let compared = rw copy.same at c.in_ok-check_copy.ensures.compared in
     inr (
       compared.same,
       λ b e.
