@@ -8,3 +8,4 @@ pub mod Rest
 pub mod Run
 pub mod Taken
 pub mod Words
+pub mod ReadsWithin

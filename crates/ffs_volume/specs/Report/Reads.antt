@@ -31,7 +31,11 @@ pathname_reads v lines = 4 * sweep_reads v + path_reads * (v.ncg * v.ipg) + line
 abbrev pub group_reads : Layout → ℕ
 group_reads v = 2 * v.ncg
 
--- the whole check, where it prints so many messages: phases 1 and 1b go over all inodes, and phases 3 and 4 read an
--- inode for each message
+-- all phases, where they print so many messages: phases 1 and 1b go over all inodes, and phases 3 and 4 read an inode
+-- for each message
+abbrev pub phase_reads : Layout → (lines : ℕ) → ℕ
+phase_reads v lines = 2 * sweep_reads v + pathname_reads v lines + lines + group_reads v
+
+-- the whole check
 abbrev pub reads_limit : Layout → (lines : ℕ) → ℕ
-reads_limit v lines = opening_reads + 2 * sweep_reads v + pathname_reads v lines + lines + group_reads v
+reads_limit v lines = opening_reads + phase_reads v lines

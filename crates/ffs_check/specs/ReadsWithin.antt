@@ -1,0 +1,22 @@
+-- How often a check reads its image at most, in reads before and after.
+use Rattle.std.specs.Prelude.{◌≡◌, ◌≤◌, ◌+◌, ℕ, List, length, Option, Ok, Err}
+use Rattle.ffs_image.specs.Device.{Device, ForContents}
+use Rattle.ffs_volume.specs.declared.SuperFault.{SuperFault}
+use Rattle.ffs_volume.specs.Disk.Outcome.{outcome}
+use Rattle.ffs_volume.specs.Disk.Superblock.{Superblock}
+use Rattle.ffs_volume.specs.Report.Reads.{opening_reads, phase_reads, reads_limit}
+use Rattle.ffs_volume.specs.Report.Whole.{phase_lines, report_of}
+use Rattle.ffs_workspace.specs.Places.{AreChunksNumbered}
+
+-- the phases, on a volume of less than 2^40 bytes
+abbrev pub PhasesReadWithin : Superblock → (bytes : List ℕ) → (reads reads' : ℕ) → Type 0
+PhasesReadWithin s bytes reads reads' =
+    AreChunksNumbered s.layout → reads' ≤ reads + phase_reads s.layout (length (phase_lines bytes s))
+
+-- the whole check of an image that gives its bytes: twice where the superblock isn't accepted, else within the limit,
+-- on a volume of less than 2^40 bytes
+pub record ReadsWithin (image : Device) (name : List ℕ) (sector : Option ℕ) (reads reads' : ℕ) : Type 0 where
+  pub refused : ForContents image.contents (λ bytes. (fault : SuperFault) → outcome bytes sector ≡ Err fault
+      → reads' ≤ reads + opening_reads)
+  pub accepted : ForContents image.contents (λ bytes. (s : Superblock) → outcome bytes sector ≡ Ok s
+      → AreChunksNumbered s.layout → reads' ≤ reads + reads_limit s.layout (length (report_of bytes name sector)))
