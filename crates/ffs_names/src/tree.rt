@@ -68,6 +68,12 @@ impl<I: Image> Directories for Tree<'_, I> {
 
     ghost ready = { λ t. IsReady t.geometry.layout (I.device t.image.now) t.windows.now t.kinds.now t.notes.now.items × (t.entries.chunks.walk.geometry ≡ t.geometry) };
 
+    ghost reads = { λ _. 0 };
+
+    ghost cost = { λ _ _ _. 0 };
+
+    ghost to_read = { λ _ _. 0 };
+
     ghost rest = { λ t b. to_come b t.entries };
 
     ghost left = { λ t. entries_left t.entries };

@@ -1,6 +1,6 @@
 //! A window on an image.
 
-ghost use Rattle.std.specs.Prelude.{◌≡◌, ◌+◌, ◌≤◌, true, vec_len};
+ghost use Rattle.std.specs.Prelude.{◌≡◌, ◌+◌, ◌≤◌, ◌↔◌, IsTrue, vec_len};
 
 use ffs_image::{Image, ImageFault};
 use ffs_memory::FixedList;
@@ -32,7 +32,7 @@ impl Window {
 
     // Whether it holds just these bytes.
     fn is_at(&self, place: u64, length: usize) -> bool
-        ensures { result ≡ true → (self.now.place ≡ place) × (self.now.length ≡ length) }
+        ensures { IsTrue result ↔ (self.now.place ≡ place) × (self.now.length ≡ length) }
     {
         self.place == place && self.length == length
     }
@@ -53,6 +53,8 @@ impl Window {
         ensures fills { FillsWindow (I.device image.old) (I.device image.new) place length self.old
             self.new result }
         ensures counted { I.reads image.new ≤ I.reads image.old + 1 }
+        ensures again { self.old.place ≡ place → self.old.length ≡ length
+            → I.reads image.new ≤ I.reads image.old }
     {
         if self.is_at(place, length) {
             return Ok(());

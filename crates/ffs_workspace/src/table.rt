@@ -1,6 +1,6 @@
 //! Inodes, read by pieces of their table.
 
-ghost use Rattle.std.specs.Prelude.{◌≡◌, ◌*◌, ◌+◌, ◌<◌, ◌≤◌, IfOk, OnOk, IsTrue};
+ghost use Rattle.std.specs.Prelude.{◌≡◌, ◌*◌, ◌+◌, ◌<◌, ◌≤◌, ◌↔◌, IfOk, OnOk, IsTrue};
 ghost use Rattle.ffs_volume.specs.declared.constants.TheConstants.{DINODE_SIZE};
 ghost use Rattle.ffs_workspace.specs.Tables.{DividesBlock, table_place};
 
@@ -63,7 +63,7 @@ impl Table {
     // Whether the window holds an inode.
     #[inline(always)]
     fn has(&self, number: u32) -> bool
-        ensures { IsTrue result → HasInode self.now number }
+        ensures { IsTrue result ↔ HasInode self.now number }
     {
         self.first <= number && number - self.first < self.count
     }
@@ -118,6 +118,7 @@ impl Table {
         ensures leaves { TableAfter geometry.now.layout (I.device image.old) (I.device image.new)
             self.new result }
         ensures counted { I.reads image.new ≤ I.reads image.old + 1 }
+        ensures again { HasInode self.old number → I.reads image.new ≤ I.reads image.old }
     {
         if !self.has(number) {
             self.read_piece(geometry, number, geometry.layout.inopb, image)?;
@@ -141,6 +142,7 @@ impl Table {
         ensures reads { ReadsInode geometry.now.layout (I.device image.old) (I.device image.new) number
             self.new result }
         ensures counted { I.reads image.new ≤ I.reads image.old + 1 }
+        ensures again { HasInode self.old number → I.reads image.new ≤ I.reads image.old }
     {
         let at = self.load(geometry, number, image)?;
         let bytes = self.window.bytes();
@@ -181,8 +183,9 @@ impl Table {
     ) -> Result<Inode, ImageFault>
         requires number { number < geometry.now.layout.ncg * geometry.now.layout.ipg }
         requires ready { CanReadInodes geometry.now.layout (I.device image.old) self.old }
-        ensures { ReadsInode geometry.now.layout (I.device image.old) (I.device image.new) number
+        ensures reads { ReadsInode geometry.now.layout (I.device image.old) (I.device image.new) number
             self.new result }
+        ensures counted { I.reads image.new ≤ I.reads image.old + 1 }
     {
         if !self.has(number) {
             let count = self.count_to_read(number);

@@ -8,8 +8,8 @@ inode_by_part-requires-2-clause-ready g c =
     let v = c.args.geometry.now.layout in
     record {
       volume = subst (λ (d : Device). v.size * v.fsize ≤ d.size) (sym c.in_ok-far.ensures.read) c.requires.ready.volume;
-      made = c.inode_by_part.ensures.kept.made;
-      holds = c.inode_by_part.ensures.kept.holds;
+      made = c.inode_by_part.ensures.reads.kept.made;
+      holds = c.inode_by_part.ensures.reads.kept.holds;
     }
 
 pub inode_by_part-requires-3-clause-ready : goal.inode_by_part-requires-3-clause-ready
@@ -18,6 +18,6 @@ inode_by_part-requires-3-clause-ready g c =
     record {
       volume = subst (λ (d : Device). v.size * v.fsize ≤ d.size)
           (sym (c.in_ok-next.ensures.read ∙ c.in_ok-far.ensures.read)) c.requires.ready.volume;
-      made = c.inode_by_part-2.ensures.kept.made;
-      holds = c.inode_by_part-2.ensures.kept.holds;
+      made = c.inode_by_part-2.ensures.reads.kept.made;
+      holds = c.inode_by_part-2.ensures.reads.kept.holds;
     }

@@ -34,7 +34,7 @@ returns-clause-chunks g c = λ b t n dir.
     let sound = c.args.geometry.now.sound in
     let d = c.args.dir in
     let is = dir_is v b d dir in
-    let inode = c.in_ok-inode.ensures.inode b t in
+    let inode = c.in_ok-inode.ensures.reads.inode b t in
     let cut : c.args.note ≡ cut_at v b d =
     sym (below_is_cut c.args.note (rw c.in_default.is at c.address_in.ensures)) ∙ (ap cut_in n ∙ cut_is_noted v b d sound)
     in

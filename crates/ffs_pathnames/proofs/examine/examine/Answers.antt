@@ -28,8 +28,8 @@ returns-clause-found g c = λ b k.
     let sound = c.args.geometry.now.sound in
     let number = (dir_is v b c.args.dir d).0 in
     let class = (dir_is v b c.args.dir d).1 in
-    let t1 = ap (λ x. x.contents) c.in_ok-inode.ensures.read ∙ k.gives_bytes in
-    let inode = c.in_ok-inode.ensures.inode b k.gives_bytes in
+    let t1 = ap (λ x. x.contents) c.in_ok-inode.ensures.reads.read ∙ k.gives_bytes in
+    let inode = c.in_ok-inode.ensures.reads.inode b k.gives_bytes in
     let small = subst (λ i. i.size < 2 ^ 31) (sym inode) (dir_size v (inode_of v b c.args.dir) class) in
     let cut = c.cut_of-cut.ensures ∙ (ap cut_in (h.notes c.args.dir) ∙ cut_is_noted v b c.args.dir sound) in
     let chunks = chunks_are v b c.args.dir c.in_ok-inode.inode c.cut_of-cut.result sound number inode cut in
@@ -67,7 +67,7 @@ pub look_directory-requires-clause-ready : goal.look_directory-requires-clause-r
 look_directory-requires-clause-ready g c =
     let v = c.args.geometry.now.layout in
     let w = c.args.workspace.now in
-    subst (λ d. CanReadChunks v d w.windows.blocks w.windows.chunk) (sym c.in_ok-inode.ensures.read)
+    subst (λ d. CanReadChunks v d w.windows.blocks w.windows.chunk) (sym c.in_ok-inode.ensures.reads.read)
     (can_read_in v _ w c.requires.ready.ready)
 
 pub look_directory-requires-clause-words : goal.look_directory-requires-clause-words
@@ -82,7 +82,7 @@ pub returns-clause-leaves : goal.returns-clause-leaves
 returns-clause-leaves g c =
     let v = c.args.geometry.now.layout in
     let w = c.args.workspace.now in
-    let one = c.in_ok-inode.ensures.read in
+    let one = c.in_ok-inode.ensures.reads.read in
     let look = c.look_directory.ensures.leaves in
     let two = c.in_ok-found.ensures.leaves.read in
     record {
@@ -90,7 +90,7 @@ returns-clause-leaves g c =
       ready = ready_looked v (g.I.Image.device c.args.image.now) (g.I.Image.device c.inode_by_part.new.image) _ w
           c.inode_by_part.new.self
           c.look_directory.new.blocks c.look_directory.new.data c.look_directory.new.words c.requires.ready.ready
-          (ap (λ d. d.contents) one) (ap (λ d. d.size) one) c.inode_by_part.ensures.kept
+          (ap (λ d. d.contents) one) (ap (λ d. d.size) one) c.inode_by_part.ensures.reads.kept
           (ap (λ d. d.contents) two) look.ready c.look_directory.ensures.words_long;
       read = two ∙ one;
     }
@@ -102,12 +102,12 @@ returns-in_err-inode-clause-found g c =
 
 pub returns-in_err-inode-clause-leaves : goal.returns-in_err-inode-clause-leaves
 returns-in_err-inode-clause-leaves g c =
-    let err = c.in_err-inode.ensures.read in
+    let err = c.in_err-inode.ensures.reads.read in
     let p = err_from_is_err_and c.from_residual.result c.from_residual.ensures.1 in
     rw (p.1, p.2) (record {
       lists = record { survey = windows_leave _ _ refl; flags = refl; places = λ x. refl };
       ready = ready_table c.args.geometry.now.layout (g.I.Image.device c.args.image.now) _ c.args.workspace.now
-          c.inode_by_part.new.self err.contents err.size c.inode_by_part.ensures.kept c.requires.ready.ready;
+          c.inode_by_part.new.self err.contents err.size c.inode_by_part.ensures.reads.kept c.requires.ready.ready;
       read = err;
     })
 
@@ -119,7 +119,7 @@ pub returns-in_err-found-clause-leaves : goal.returns-in_err-found-clause-leaves
 returns-in_err-found-clause-leaves g c =
     let v = c.args.geometry.now.layout in
     let w = c.args.workspace.now in
-    let one = c.in_ok-inode.ensures.read in
+    let one = c.in_ok-inode.ensures.reads.read in
     let look = c.look_directory.ensures.leaves in
     let two = c.in_err-found.ensures.leaves.read in
     let p = err_from_is_err_and c.from_residual-in_err-found.result c.from_residual-in_err-found.ensures.1 in
@@ -128,7 +128,7 @@ returns-in_err-found-clause-leaves g c =
       ready = ready_looked v (g.I.Image.device c.args.image.now) (g.I.Image.device c.inode_by_part.new.image) _ w
           c.inode_by_part.new.self
           c.look_directory.new.blocks c.look_directory.new.data c.look_directory.new.words c.requires.ready.ready
-          (ap (λ d. d.contents) one) (ap (λ d. d.size) one) c.inode_by_part.ensures.kept two.contents look.ready
+          (ap (λ d. d.contents) one) (ap (λ d. d.size) one) c.inode_by_part.ensures.reads.kept two.contents look.ready
           c.look_directory.ensures.words_long;
       read = subst (λ d. Faulted d (g.I.Image.device c.look_directory.new.image) c.in_err-found.field-0.0.sector) one
           two;

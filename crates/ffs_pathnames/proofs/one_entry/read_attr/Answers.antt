@@ -15,7 +15,7 @@ inode_by_part-requires g c =
 
 pub returns-in_err-inode : goal.returns-in_err-inode
 returns-in_err-inode g c =
-    let err = c.in_err-inode.ensures.read in
+    let err = c.in_err-inode.ensures.reads.read in
     let p = err_from_is_err_and c.from_residual.result c.from_residual.ensures.1 in
     rw (p.1, p.2) (record {
       attr = _;
@@ -23,7 +23,7 @@ returns-in_err-inode g c =
         lists = refl;
         chunk = refl;
         ready = ready_table c.args.geometry.now.layout (g.I.Image.device c.args.image.now) _ c.args.workspace.now
-            c.inode_by_part.new.self err.contents err.size c.inode_by_part.ensures.kept c.requires.ready;
+            c.inode_by_part.new.self err.contents err.size c.inode_by_part.ensures.reads.kept c.requires.ready;
         read = err;
       };
     })
@@ -31,14 +31,14 @@ returns-in_err-inode g c =
 pub returns : goal.returns
 unfolding attributes volume_of volume_with
 returns g c =
-    let ok = c.in_ok-inode.ensures.read in
+    let ok = c.in_ok-inode.ensures.reads.read in
     record {
-      attr = λ b k. c.of.ensures ∙ ap (λ i. attributes_of c.args.number i) (c.in_ok-inode.ensures.inode b k);
+      attr = λ b k. c.of.ensures ∙ ap (λ i. attributes_of c.args.number i) (c.in_ok-inode.ensures.reads.inode b k);
       reads = record {
         lists = refl;
         chunk = refl;
         ready = ready_table c.args.geometry.now.layout (g.I.Image.device c.args.image.now) _ c.args.workspace.now
-            c.inode_by_part.new.self (ap (λ d. d.contents) ok) (ap (λ d. d.size) ok) c.inode_by_part.ensures.kept c.requires.ready;
+            c.inode_by_part.new.self (ap (λ d. d.contents) ok) (ap (λ d. d.size) ok) c.inode_by_part.ensures.reads.kept c.requires.ready;
         read = ok;
       };
     }

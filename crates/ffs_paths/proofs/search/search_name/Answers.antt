@@ -37,7 +37,7 @@ returns-then-names-clause-name g c = λ b t claims survey is dir.
     let x = c.args.dir in
     let o = rw c.in-Some.is at c.in_ok-entry.ensures.entry in
     c.set_name.ensures ∙ (c.name.ensures ∙ sym (ap (name_in x) (begun _ b c.args.workspace.now c.args.parent _ _ _
-    c.args.geometry.now.sound claims dir (c.in_ok-inode.ensures.inode b t) c.cut_of-cut.ensures
+    c.args.geometry.now.sound claims dir (c.in_ok-inode.ensures.reads.inode b t) c.cut_of-cut.ensures
     c.start-entries.ensures.begins)
     ∙ (i.name b t ∙ (ap (name_in x) (o b (ap (λ d. d.contents) i.reads.read ∙ t)).entries
     ∙ name_in-here x (roled_of c.in-Some.entry (last_name c.next.new.self)) (to_come b c.next.new.self)
@@ -50,7 +50,7 @@ returns-clause-name g c = λ b t claims survey is dir.
     let x = c.args.dir in
     let o = rw c.in_default.is at c.in_ok-entry.ensures.entry in
     i.none ∙ sym (ap (name_in x) (begun _ b c.args.workspace.now c.args.parent _ _ _
-    c.args.geometry.now.sound claims dir (c.in_ok-inode.ensures.inode b t) c.cut_of-cut.ensures
+    c.args.geometry.now.sound claims dir (c.in_ok-inode.ensures.reads.inode b t) c.cut_of-cut.ensures
     c.start-entries.ensures.begins)
     ∙ (i.name b t ∙ ap (name_in x) (o b (ap (λ d. d.contents) i.reads.read ∙ t)).entries))
 

@@ -17,7 +17,7 @@ returns-clause-chunk g c = λ b t.
     let fits = h.whole in
     let chunk = chunk_held h.place h.length h.next b (held_bytes c.fill.new.self) c.copy_from_slice.new.self
     c.bytes.result.now (omega arith) c.copy_from_slice.ensures.after c.bytes.ensures
-    (c.in_ok-fill.ensures.bytes b (ap (λ d. d.contents) c.in_ok-advance.ensures.leaves.read ∙ t)) in
+    (c.in_ok-fill.ensures.fills.bytes b (ap (λ d. d.contents) c.in_ok-advance.ensures.leaves.read ∙ t)) in
     record {
       chunks = hand_step s.walk.geometry.layout.order c.args.self.now.walk.geometry.layout.order b h.place h.offset
           h.next h.count c.copy_from_slice.new.self (chunks_after b s (steps_left b s.walk))
@@ -40,7 +40,7 @@ returns-clause-place g c = λ b t.
     let fits = h.whole in
     chunk_held h.place h.length h.next b (held_bytes c.fill.new.self) c.copy_from_slice.new.self c.bytes.result.now
     (omega arith) c.copy_from_slice.ensures.after c.bytes.ensures
-    (c.in_ok-fill.ensures.bytes b (ap (λ d. d.contents) c.in_ok-advance.ensures.leaves.read ∙ t))
+    (c.in_ok-fill.ensures.fills.bytes b (ap (λ d. d.contents) c.in_ok-advance.ensures.leaves.read ∙ t))
     ∙ ap (λ n. piece (h.place + 512 * n) 512 b) (omega arith)
 
 pub advance-requires : goal.advance-requires
@@ -106,7 +106,7 @@ pub fill-requires-clause-holds : goal.fill-requires-clause-holds
 fill-requires-clause-holds g c = rw (ap (λ d. d.contents) c.in_ok-advance.ensures.leaves.read) c.requires.holds
 
 pub bytes-requires : goal.bytes-requires
-bytes-requires g c = c.fill.ensures.holds.fits
+bytes-requires g c = c.fill.ensures.fills.holds.fits
 
 pub returns-in_err-fill-clause-chunk : goal.returns-in_err-fill-clause-chunk
 returns-in_err-fill-clause-chunk g c =
@@ -128,7 +128,7 @@ returns-in_err-fill-clause-runs g c =
 pub returns-in_err-fill-clause-leaves : goal.returns-in_err-fill-clause-leaves
 returns-in_err-fill-clause-leaves g c =
     let went = c.in_ok-advance.ensures.leaves in
-    let err = c.in_err-fill.ensures.read in
+    let err = c.in_err-fill.ensures.fills.read in
     let p = err_from_is_err_and c.from_residual-in_err-fill.result c.from_residual-in_err-fill.ensures.1 in
     rw (p.1, p.2) (record {
       same = went.same;
@@ -138,8 +138,8 @@ returns-in_err-fill-clause-leaves g c =
           room = went.ready.room;
           holds = rw err.contents went.ready.holds;
         };
-        room = c.fill.ensures.room ∙ c.requires.room;
-        holds = c.fill.ensures.holds;
+        room = c.fill.ensures.fills.room ∙ c.requires.room;
+        holds = c.fill.ensures.fills.holds;
       };
       read = rw went.read at err;
     })
@@ -147,7 +147,7 @@ returns-in_err-fill-clause-leaves g c =
 pub returns-clause-leaves : goal.returns-clause-leaves
 returns-clause-leaves g c =
     let went = c.in_ok-advance.ensures.leaves in
-    let read = c.in_ok-fill.ensures.read in
+    let read = c.in_ok-fill.ensures.fills.read in
     record {
       same = record {
         geometry = went.same.geometry;
@@ -158,8 +158,8 @@ returns-clause-leaves g c =
       };
       ready = record {
         walk = rw read went.ready;
-        room = c.fill.ensures.room ∙ c.requires.room;
-        holds = c.fill.ensures.holds;
+        room = c.fill.ensures.fills.room ∙ c.requires.room;
+        holds = c.fill.ensures.fills.holds;
       };
       read = read ∙ went.read;
     }

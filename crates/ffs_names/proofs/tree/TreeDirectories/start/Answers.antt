@@ -24,16 +24,16 @@ returns-then-not-is_dir-clause-rest g c = λ b k.
 pub returns-clause-reader : goal.returns-clause-reader
 returns-clause-reader g c =
     let r = c.requires.ready.0 in
-    let device = c.in_ok-inode.ensures.read in
+    let device = c.in_ok-inode.ensures.reads.read in
     record {
       is_ready = (
         record {
           volume = rw device r.volume;
-          table = c.inode_by_part.ensures.kept.made;
+          table = c.inode_by_part.ensures.reads.kept.made;
           blocks = r.blocks;
           chunk = r.chunk;
           names = r.names;
-          table_holds = c.inode_by_part.ensures.kept.holds;
+          table_holds = c.inode_by_part.ensures.reads.kept.holds;
           blocks_hold = rw device r.blocks_hold;
           chunk_holds = rw device r.chunk_holds;
           names_hold = rw device r.names_hold;
@@ -53,7 +53,7 @@ returns-clause-rest g c = λ b k.
     let dir = sym (kind_dirs v b t.kinds.now c.args.dir (k.kinds c.args.dir))
     ∙ (sym c.is_dir.ensures ∙ c.if-not-is_dir.false) in
     let is = dir_is v b c.args.dir dir in
-    let inode = c.in_ok-inode.ensures.inode b k.bytes in
+    let inode = c.in_ok-inode.ensures.reads.inode b k.bytes in
     let inside : c.args.dir < length t.notes.now.items = grind (arith, common_steps) in
     let note : c.index-note.result.now ≡ note_at v b c.args.dir =
     (c.index-note.ensures ∙ get_or_default_zero t.notes.now.items c.args.dir c.index-note.result.now inside)
@@ -81,7 +81,7 @@ returns-clause-sound g c = λ b k.
     let dir = sym (kind_dirs v b t.kinds.now c.args.dir (k.kinds c.args.dir))
     ∙ (sym c.is_dir.ensures ∙ c.if-not-is_dir.false) in
     let is = dir_is v b c.args.dir dir in
-    let inode = c.in_ok-inode.ensures.inode b k.bytes in
+    let inode = c.in_ok-inode.ensures.reads.inode b k.bytes in
     let inside : c.args.dir < length t.notes.now.items = grind (arith, common_steps) in
     let note : c.index-note.result.now ≡ note_at v b c.args.dir =
     (c.index-note.ensures ∙ get_or_default_zero t.notes.now.items c.args.dir c.index-note.result.now inside)
@@ -159,17 +159,17 @@ returns-clause-left g c = c.restart-2.new.self.few
 pub returns-in_err-inode-clause-reader : goal.returns-in_err-inode-clause-reader
 returns-in_err-inode-clause-reader g c =
     let r = c.requires.ready.0 in
-    let err = c.in_err-inode.ensures.read in
+    let err = c.in_err-inode.ensures.reads.read in
     let p = err_from_is_err_and c.from_residual.result c.from_residual.ensures.1 in
     rw (p.1, p.2) (record {
       is_ready = (
         record {
           volume = rw err.size r.volume;
-          table = c.inode_by_part.ensures.kept.made;
+          table = c.inode_by_part.ensures.reads.kept.made;
           blocks = r.blocks;
           chunk = r.chunk;
           names = r.names;
-          table_holds = c.inode_by_part.ensures.kept.holds;
+          table_holds = c.inode_by_part.ensures.reads.kept.holds;
           blocks_hold = rw err.contents r.blocks_hold;
           chunk_holds = rw err.contents r.chunk_holds;
           names_hold = rw err.contents r.names_hold;

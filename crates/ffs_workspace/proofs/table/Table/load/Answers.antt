@@ -14,5 +14,5 @@ returns-clause-there g c =
           (search rules) (rw w.self-is w.in_ok-read_piece.ensures.has)
       | else-not-has w ↦
           held_there v (g.I.Image.device c.args.image.now).contents c.args.number c.if-not-has.self
-          (rw w.self-is ready.made) (rw w.self-is ready.holds) (rw w.self-is (c.has.ensures (search rules)))
+          (rw w.self-is ready.made) (rw w.self-is ready.holds) (rw w.self-is (c.has.ensures.0 (search rules)))
     ]
