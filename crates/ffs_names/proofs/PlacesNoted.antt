@@ -224,7 +224,7 @@ AreWaiting v b parents first ws p all rest = (x : ℕ) → is_child parents p x 
 
 pub waiting_first : (v : Layout) (b parents ws : List ℕ) (p : ℕ) (all : List RoledEntry) →
     AreWaiting v b parents ws ws p all all
-waiting_first v b parents ws p all x child named before = elim before [ | inl none ↦ inr (none, named) | inr is ↦ inl is ]
+waiting_first v b parents ws p all x child named before = elim before [ inl none ↦ inr (none, named) | inr is ↦ inl is ]
 
 -- after a chunk is noted
 pub waiting_after : (v : Layout) (b parents first old new : List ℕ) (p place at offset : ℕ) (bytes : List ℕ)
@@ -271,10 +271,12 @@ waiting_after v b parents first old new p place at offset bytes all rest later w
         let chunk = chunk_of v.order offset bytes in
         let unnamed : list_any (is_naming_entry x) (roled_chunk chunk) ≡ false =
         any_naming-roled x (offset == 0) false 0 0 (entries_of v.order bytes) ∙ e in
-        inr (placed true false (eq-eqb (place_in (slice_index old x)) 0 none) e ∙ none,
-        ap (λ (y : Bool). y || list_any (is_naming_entry x) (flat_map roled_chunk later)) (sym unnamed)
-        ∙ (sym (list_any-append (is_naming_entry x) (roled_chunk chunk) (flat_map roled_chunk later))
-        ∙ (ap (λ (cs : List Chunk). list_any (is_naming_entry x) (flat_map roled_chunk cs)) (sym next) ∙ coming)))
+        inr (
+          placed true false (eq-eqb (place_in (slice_index old x)) 0 none) e ∙ none,
+          ap (λ (y : Bool). y || list_any (is_naming_entry x) (flat_map roled_chunk later)) (sym unnamed)
+              ∙ (sym (list_any-append (is_naming_entry x) (roled_chunk chunk) (flat_map roled_chunk later))
+              ∙ (ap (λ (cs : List Chunk). list_any (is_naming_entry x) (flat_map roled_chunk cs)) (sym next) ∙ coming)),
+        )
 
 -- words have room for the number of each chunk of the volume
 pub room_for : (v : Layout) (at : ℕ) → AreChunksNumbered v → at + 512 ≤ v.size * v.fsize → place_of (at / 512) ≢ 0
@@ -450,15 +452,17 @@ level_under g x k h = go (first_below (level_edge g k x) g.count) refl
         let first = first_below-some (level_edge g k x) g.count p e in
         let link = (and_parts (is_value (level g p) k) (edge g p x) first.passes).1 in
         let other : (x == 2) ≡ false =
-        sym (within-zero g x) ∙ (level-some g (suc k) x h).0.least 0 (omega arith) in
-        (p, record {
-          other = other;
-          dir = (edge-parts g p x link).0;
-          joined = ap is_some h;
-          up = cond-false (x == 2) (Some 2) (parent_by g x (level g x)) other ∙ (ap (parent_by g x) h ∙ e);
-          below = first.below;
-          link = link;
-        })
+        sym (within-zero g x) ∙ (level-some g (suc k) x h).0.least 0 (omega arith) in (
+          p,
+          record {
+            other = other;
+            dir = (edge-parts g p x link).0;
+            joined = ap is_some h;
+            up = cond-false (x == 2) (Some 2) (parent_by g x (level g x)) other ∙ (ap (parent_by g x) h ∙ e);
+            below = first.below;
+            link = link;
+          },
+        )
 
 -- a place is noted of each directory that is reached and isn't the root, or its parent is due
 abbrev pub AreComing : Layout → List ℕ → (words : List ℕ) → Type 0
@@ -485,10 +489,13 @@ coming_first v b w words long begins survey x p under =
     let other = eqb-false x 2 under.other in
     let over : 2 < x = elim (cases_order x 2) [
       | inl e ↦ absurd (other e)
-      | inr o ↦ elim o [ | inl l ↦ absurd (omega arith) | inr l ↦ l ]
+      | inr o ↦ elim o [ inl l ↦ absurd (omega arith) | inr l ↦ l ]
     ] in
-    inr (begins.none x, ap (λ (n : ℕ). is_due (slice_index words n)) (sym up)
-    ∙ begins.due x over (omega arith) (survey.reached x ∙ under.joined) (omega arith) (omega arith))
+    inr (
+      begins.none x,
+      ap (λ (n : ℕ). is_due (slice_index words n)) (sym up)
+          ∙ begins.due x over (omega arith) (survey.reached x ∙ under.joined) (omega arith) (omega arith),
+    )
 
 -- after the directory dir, which was due, is noted
 pub coming_noted : (v : Layout) (b : List ℕ) (w : Workspace) (old mid new : List ℕ) (d : ℕ) → HoldsSurvey v b w →
@@ -519,7 +526,7 @@ coming_noted v b w old mid new d survey numbered same due noted children coming 
         and_from (slice_index w.parents.items x == d) (not (x == 2)) (eq-eqb (slice_index w.parents.items x) d (up ∙ e))
         (not_from_false (x == 2) under.other) in
         let named = subst (λ (n : ℕ). list_any (is_naming_entry x) (roled_entries (volume_of v b) n) ≡ true) e link.1 in
-        inl ((noted dir).all numbered x child named (elim before [ | inl is ↦ inr is | inr w ↦ inl w.0 ]))
+        inl ((noted dir).all numbered x child named (elim before [ inl is ↦ inr is | inr w ↦ inl w.0 ]))
     go (inr o) =
         let child : is_child w.parents.items d x ≡ false =
         ap (λ (m : Bool). m && not (x == 2)) (ne_eqb (slice_index w.parents.items x) d (λ e. o (sym up ∙ e))) in
@@ -529,13 +536,14 @@ coming_noted v b w old mid new d survey numbered same due noted children coming 
         ]
 
 -- where nothing is due any more, all are noted
-pub coming_end : (v : Layout) (b words : List ℕ) → ((x : ℕ) → is_due (slice_index words x) ≡ false) →
+pub coming_end : (v : Layout) (b words : List ℕ) → ((x : ℕ) → x < inodes_of v → is_due (slice_index words x) ≡ false) →
     AreComing v b words → AreNoted v b words
 coming_end v b words none coming x k h =
     let under = level_under (graph_of (volume_of v b)) x k h in
     elim (coming x under.0 under.1) [
       | inl is ↦ is
-      | inr w ↦ absurd (both_ways (is_due (slice_index words under.0)) (none under.0) w.1)
+      | inr w ↦ absurd (both_ways (is_due (slice_index words under.0)) (none under.0
+          (dir_number v b under.0 (edge-parts (graph_of (volume_of v b)) under.0 x under.1.link).1).1) w.1)
     ]
 
 -- what is due stays so at another number

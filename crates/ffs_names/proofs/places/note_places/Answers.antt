@@ -1,11 +1,32 @@
-use Rattle.std.proofs.Common.{◌≡◌, ◌≢◌, ◌<◌, ◌∙◌, List, ℕ, ap, arith, length, subst, sym, slice_index, slice_set}
+use Rattle.std.proofs.Common.{◌≡◌, ◌≢◌, Bool, suc, refl, rules, ◌<◌, ◌∙◌, List, ℕ, ap, arith, length, subst, sym, slice_index, slice_set}
 use Rattle.std.proofs.lemmas.Grind.{common_steps, get_or_default_zero}
 use Rattle.ffs_workspace.specs.declared.workspace.Workspace.{Workspace}
+use Rattle.ffs_workspace.specs.Lengths.{inodes_of}
 use Rattle.ffs_workspace.specs.Places.{is_due, place_in}
-use Rattle.ffs_names.specs.Noting.{KeepsDue}
-use Rattle.ffs_names.proofs.PlacesNoted.{claims_noted, coming_end, coming_noted, passed_next, passed_over, places_after, places_same, set_other, set_same, survey_noted}
+use Rattle.ffs_names.specs.Noting.{BeginsNotes, KeepsDue}
+use Rattle.ffs_names.proofs.PlacesNoted.{claims_noted, coming_end, coming_first, coming_noted, passed_next, passed_over, places_after, places_same, set_other, set_same, survey_noted}
 use Rattle.ffs_names.proofs.places.note_places.Goals as goal
 use Rattle.ffs_names.proofs.places.note_places.Goals.{then-is_due+in_ok-note_directory, else-is_due}
+
+pub loop-dir-init : goal.loop-dir-init
+loop-dir-init g c =
+    let v = c.args.geometry.now.layout in
+    let w = c.args.workspace.now in
+    let words = c.mark_parents.new.words.items in
+    let begins : BeginsNotes w.reached.items w.parents.items words =
+    subst (λ (rs : List Bool). BeginsNotes rs w.parents.items words) c.deref.ensures.value c.mark_parents.ensures.begins in
+    let long : length w.reached.items ≡ inodes_of v =
+    sym (ap length c.deref.ensures.value) ∙ (c.deref.ensures.len ∙ c.requires.made.reached) in
+    record {
+      same = refl;
+      lists = refl;
+      ready = search rules;
+      low = omega arith;
+      passed = begins.low;
+      places = λ b t claims survey x p k there is.
+          let none : 0 ≡ suc k = sym (begins.none x) ∙ there in absurd (omega arith);
+      noted = λ b t claims survey numbered. coming_first v b w words long begins survey;
+    }
 
 pub loop-dir-preserved : goal.loop-dir-preserved
 loop-dir-preserved g c =
@@ -74,5 +95,6 @@ returns-clause-places g c = λ b t claims survey.
 pub returns-clause-noted : goal.returns-clause-noted
 returns-clause-noted g c = λ b t claims survey numbered.
     let inv = c.loop-dir.invariant in
-    coming_end c.args.geometry.now.layout b c.loop-dir.workspace.queue.items ?
+    coming_end c.args.geometry.now.layout b c.loop-dir.workspace.queue.items
+    (λ x l. inv.passed x (omega arith))
     (inv.noted b t claims survey numbered)
