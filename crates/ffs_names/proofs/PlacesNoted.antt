@@ -1,9 +1,12 @@
 -- What is noted of places, entry by entry, chunk by chunk and directory by directory.
 use Rattle.std.proofs.Common.{◌≡◌, ◌≢◌, ℕ, zero, suc, ◌+◌, ◌-◌, ◌*◌, ◌/◌, ◌%◌, ◌^◌, ◌<◌, Bool, true, false, List, [], ◌∷◌, length}
 use Rattle.std.proofs.Common.{Option, Some, None, refl, sym, ap, subst, ◌∙◌, arith, inl, inr, rules, vec_len}
-use Rattle.std.specs.Prelude.{not, ◌&&◌, ◌||◌, ◌==◌, ◌⊎◌, if◌then◌else◌, nat_lt, slice_index, slice_set, unwrap_or, option_map}
+use Rattle.std.specs.Prelude.{not, ◌&&◌, ◌||◌, ◌==◌, ◌⊎◌, if◌then◌else◌, nat_le, nat_lt, is_some, slice_index, slice_set, unwrap_or}
+use Rattle.std.specs.Prelude.{option_map, ◌≤◌}
 use Rattle.std.specs.List.{list_any, flat_map}
-use Rattle.std.proofs.lemmas.Bool.{cases_eq, and_parts, both_ways, eqb-true, eq-eqb, cond-false, not-true}
+use Rattle.std.proofs.lemmas.Bool.{cases_eq, cases_order, and_from, and_parts, both_ways, eqb-false, eqb-true, eq-eqb, cond-false}
+use Rattle.std.proofs.lemmas.Bool.{leb-true, ltb-false, ltb-true, ne_eqb, not_from_false, not-true}
+use Rattle.std.proofs.lemmas.List.Folds.{list_any-append}
 use Rattle.std.proofs.lemmas.Bool.Decides.{nat_tests}
 use Rattle.std.proofs.lemmas.List.{get_or-set_other, get_or-set_same}
 use Rattle.ffs_layout.specs.declared.entry.Entry.{Entry as CodeEntry}
@@ -11,19 +14,25 @@ use Rattle.ffs_layout.specs.Entry.{entry_value}
 use Rattle.ffs_volume.specs.declared.Layout.{Layout}
 use Rattle.ffs_volume.specs.declared.Order.{Order}
 use Rattle.ffs_volume.specs.Disk.Numbers.{piece}
-use Rattle.ffs_volume.proofs.SearchLaws.{first_below-some}
+use Rattle.ffs_volume.specs.Laws.Levels.{IsLevel}
+use Rattle.ffs_volume.proofs.LevelLaws.{level-before, level-is, level-some, within-zero}
+use Rattle.ffs_volume.proofs.SearchLaws.{first_below-none, first_below-some}
+use Rattle.ffs_volume.proofs.Unreached.{edge-parts}
+use Rattle.ffs_volume.specs.Disk.Search.{first_below}
 use Rattle.ffs_volume.specs.Directories.Climb.{is_value}
 use Rattle.ffs_volume.specs.Directories.Entries.{Chunk, Entry, chunk_of, entries_of, entry_at}
-use Rattle.ffs_volume.specs.Directories.Graph.{Graph, edge, is_naming_dir, is_naming_entry, level, level_edge, parent, parent_by}
+use Rattle.ffs_volume.specs.Directories.Graph.{Graph, edge, is_naming_dir, is_naming_entry, level, level_edge, parent, parent_by, reached}
 use Rattle.ffs_volume.specs.Directories.Parents.{graph_of}
-use Rattle.ffs_volume.specs.Directories.Roles.{RoledEntry, is_dir, role_of, roled_chunk, roled_entries, roled_from}
-use Rattle.ffs_volume.specs.Directories.Volumes.{volume_of}
+use Rattle.ffs_volume.specs.Directories.Roles.{RoledEntry, is_dir, is_inode, role_of, roled_chunk, roled_entries, roled_from}
+use Rattle.ffs_volume.specs.Directories.Volumes.{volume_of, volume_with}
 use Rattle.ffs_workspace.specs.declared.workspace.Workspace.{Workspace}
 use Rattle.ffs_workspace.specs.declared.table.Table.{Table}
 use Rattle.ffs_workspace.specs.Holds.{bool_at, HoldsClaims, HoldsSurvey}
 use Rattle.ffs_workspace.specs.Ready.{IsReady}
 use Rattle.ffs_workspace.specs.Tables.{KeepsTable}
-use Rattle.ffs_workspace.specs.Places.{ArePlaces, entries_in_chunk, is_due, name_in, place_in, place_of}
+use Rattle.ffs_workspace.specs.Places.{entries_in_chunk, is_due, name_in, place_in, place_of}
+use Rattle.ffs_workspace.specs.Places.{ArePlaces, AreChunksNumbered, AreNoted, IsNoted}
+use Rattle.ffs_workspace.specs.Lengths.{inodes_of}
 use Rattle.ffs_workspace.proofs.PlaceLaws.{any_naming-roled, name_in-after, name_in-among, name_in-roled}
 use Rattle.ffs_image.specs.Device.{Device}
 use Rattle.ffs_walk.specs.declared.blocks.Blocks.{Blocks}
@@ -32,7 +41,7 @@ use Rattle.ffs_walk.specs.Windows.{WindowHolds}
 use Rattle.std.specs.declared.vec.Vec.{Vec}
 use Rattle.std.specs.declared.alloc.Global.{Global}
 use Rattle.ffs_names.specs.Windows.{CanReadChunks}
-use Rattle.ffs_names.specs.Noting.{is_child, is_found, KeepsDue, NotesChildren, NotesChunk, NotesEntries}
+use Rattle.ffs_names.specs.Noting.{is_child, is_found, BeginsNotes, KeepsDue, NotesChildren, NotesChunk, NotesEntries}
 
 -- ENTRIES OF A CHUNK
 
@@ -125,15 +134,21 @@ abbrev pub AreToCome : (parents ws : List ℕ) (p : ℕ) (all rest : List RoledE
 AreToCome parents ws p all rest = (x : ℕ) → is_child parents p x ≡ true → place_in (slice_index ws x) ≡ 0 →
     name_in x all ≡ name_in x rest
 
+-- each place that is noted anew is that of a chunk whose first plain entry that names the inode has the name of the
+-- first one of all
+abbrev pub HavePlaces : (v : Layout) (b old new : List ℕ) (all : List RoledEntry) → Type 0
+HavePlaces v b old new all = (x k : ℕ) → place_in (slice_index new x) ≡ suc k → (place_in (slice_index old x) ≡ suc k)
+    ⊎ (name_in x (entries_in_chunk v b k) ≡ name_in x all)
+
 -- a chunk that is noted has the first one of those whose place it is
 pub noted_chunk : (v : Layout) (b parents first old new : List ℕ) (p place at offset : ℕ) (bytes : List ℕ)
     (all : List RoledEntry) (rest later : List Chunk) → at % 512 ≡ 0 → place ≡ place_of (at / 512) → place ≢ 0 →
     bytes ≡ piece at 512 b → rest ≡ chunk_of v.order offset bytes ∷ later →
     NotesChunk parents old new p place (roled_from false 0 (entries_of v.order bytes)) →
-    AreToCome parents old p all (flat_map roled_chunk rest) → NotesEntries v b parents first old p all →
-    NotesEntries v b parents first new p all
+    AreToCome parents old p all (flat_map roled_chunk rest) → HavePlaces v b first old all →
+    HavePlaces v b first new all
 noted_chunk v b parents first old new p place at offset bytes all rest later whole number some is next noted coming before =
-    record { places = λ x k h. go x k (is_found parents old p found x) refl h }
+    λ x k h. go x k (is_found parents old p found x) refl h
   where
     found : List RoledEntry
     found = roled_from false 0 (entries_of v.order bytes)
@@ -162,7 +177,7 @@ noted_chunk v b parents first old new p place at offset bytes all rest later who
         inr (here x k e (sym (noted.places x ∙ ap (λ (f : Bool). if f then place
         else place_in (slice_index old x)) e) ∙ h))
     go x k false e h =
-        before.places x k (sym (noted.places x ∙ ap (λ (f : Bool). if f then place
+        before x k (sym (noted.places x ∙ ap (λ (f : Bool). if f then place
         else place_in (slice_index old x)) e) ∙ h)
 
 -- and those of which none is noted still have theirs to come
@@ -194,6 +209,94 @@ coming_after v parents old new p place offset bytes all rest later some next not
         ∙ (ap (λ (cs : List Chunk). name_in x (flat_map roled_chunk cs)) next
         ∙ name_in-after x (roled_chunk chunk) (flat_map roled_chunk later) unnamed)
     go y e false q = absurd (both_ways (place_in (slice_index old x) == 0) q (eq-eqb (place_in (slice_index old x)) 0 (by y false e q)))
+
+-- a place that is right stays so where the word keeps it
+pub noted_still : (v : Layout) (b old new : List ℕ) (x : ℕ) →
+    place_in (slice_index new x) ≡ place_in (slice_index old x) → IsNoted v b old x → IsNoted v b new x
+noted_still v b old new x same h =
+    record { chunk = h.chunk; place = same ∙ h.place; inside = h.inside; named = h.named }
+
+-- of an inode with the parent p that some entries of p name, a place is noted, or one of those to come names it
+abbrev pub AreWaiting : (v : Layout) (b parents first ws : List ℕ) (p : ℕ) (all rest : List RoledEntry) → Type 0
+AreWaiting v b parents first ws p all rest = (x : ℕ) → is_child parents p x ≡ true →
+    list_any (is_naming_entry x) all ≡ true → (place_in (slice_index first x) ≡ 0) ⊎ IsNoted v b first x →
+    IsNoted v b ws x ⊎ ((place_in (slice_index ws x) ≡ 0) × (list_any (is_naming_entry x) rest ≡ true))
+
+pub waiting_first : (v : Layout) (b parents ws : List ℕ) (p : ℕ) (all : List RoledEntry) →
+    AreWaiting v b parents ws ws p all all
+waiting_first v b parents ws p all x child named before = elim before [ inl none ↦ inr (none, named) | inr is ↦ inl is ]
+
+-- after a chunk is noted
+pub waiting_after : (v : Layout) (b parents first old new : List ℕ) (p place at offset : ℕ) (bytes : List ℕ)
+    (all : List RoledEntry) (rest later : List Chunk) → at % 512 ≡ 0 → place ≡ place_of (at / 512) → place ≢ 0 →
+    at + 512 ≤ v.size * v.fsize → bytes ≡ piece at 512 b → rest ≡ chunk_of v.order offset bytes ∷ later →
+    NotesChunk parents old new p place (roled_from false 0 (entries_of v.order bytes)) →
+    AreWaiting v b parents first old p all (flat_map roled_chunk rest) →
+    AreWaiting v b parents first new p all (flat_map roled_chunk later)
+waiting_after v b parents first old new p place at offset bytes all rest later whole number some inside is next noted waiting x child named before =
+    elim (waiting x child named before) [
+      | inl done ↦ inl (noted_still v b old new x (kept done.chunk done.place) done)
+      | inr w ↦ go w.0 w.1 (list_any (is_naming_entry x) found) refl
+    ]
+  where
+    found : List RoledEntry
+    found = roled_from false 0 (entries_of v.order bytes)
+
+    placed : (z y : Bool) → (place_in (slice_index old x) == 0) ≡ z → list_any (is_naming_entry x) found ≡ y →
+        place_in (slice_index new x) ≡ (if z && y then place else place_in (slice_index old x))
+    placed z y q e = noted.places x
+        ∙ (ap (λ (m : Bool). if m && ((place_in (slice_index old x) == 0) && list_any (is_naming_entry x) found) then place
+        else place_in (slice_index old x)) child
+        ∙ (ap (λ (w : Bool). if w && list_any (is_naming_entry x) found then place else place_in (slice_index old x)) q
+        ∙ ap (λ (w : Bool). if z && w then place else place_in (slice_index old x)) e))
+
+    kept : (k : ℕ) → place_in (slice_index old x) ≡ suc k → place_in (slice_index new x) ≡ place_in (slice_index old x)
+    kept k there = placed false (list_any (is_naming_entry x) found)
+        (ne_eqb (place_in (slice_index old x)) 0 (λ z. let e : suc k ≡ 0 = sym there ∙ z in absurd (omega arith))) refl
+
+    go : place_in (slice_index old x) ≡ 0 → list_any (is_naming_entry x) (flat_map roled_chunk rest) ≡ true → (y : Bool) →
+        list_any (is_naming_entry x) found ≡ y →
+        IsNoted v b new x ⊎ ((place_in (slice_index new x) ≡ 0)
+        × (list_any (is_naming_entry x) (flat_map roled_chunk later) ≡ true))
+    go none coming true e =
+        let same : at ≡ 512 * (at / 512) = omega arith in
+        inl (record {
+          chunk = at / 512;
+          place = placed true true (eq-eqb (place_in (slice_index old x)) 0 none) e ∙ (number ∙ place_is (at / 512) (λ z. some (number ∙ z)));
+          inside = omega arith;
+          named = ap (λ (xs : List ℕ). list_any (is_naming_entry x) (roled_from false 0 (entries_of v.order xs)))
+              (sym (is ∙ ap (λ (n : ℕ). piece n 512 b) same)) ∙ e;
+        })
+    go none coming false e =
+        let chunk = chunk_of v.order offset bytes in
+        let unnamed : list_any (is_naming_entry x) (roled_chunk chunk) ≡ false =
+        any_naming-roled x (offset == 0) false 0 0 (entries_of v.order bytes) ∙ e in
+        inr (
+          placed true false (eq-eqb (place_in (slice_index old x)) 0 none) e ∙ none,
+          ap (λ (y : Bool). y || list_any (is_naming_entry x) (flat_map roled_chunk later)) (sym unnamed)
+              ∙ (sym (list_any-append (is_naming_entry x) (roled_chunk chunk) (flat_map roled_chunk later))
+              ∙ (ap (λ (cs : List Chunk). list_any (is_naming_entry x) (flat_map roled_chunk cs)) (sym next) ∙ coming)),
+        )
+
+-- words have room for the number of each chunk of the volume
+pub room_for : (v : Layout) (at : ℕ) → AreChunksNumbered v → at + 512 ≤ v.size * v.fsize → place_of (at / 512) ≢ 0
+room_for v at numbered inside = go (nat_lt (at / 512) (2 ^ 31 - 1)) refl
+  where
+    go : (low : Bool) → nat_lt (at / 512) (2 ^ 31 - 1) ≡ low → (if low then at / 512 + 1 else 0) ≢ 0
+    go true e = λ z. absurd (omega arith)
+    go false e = absurd (omega (arith, ltb-false (at / 512) (2 ^ 31 - 1) e))
+
+-- where no chunk is left, all are noted
+pub all_noted : (v : Layout) (b parents first ws : List ℕ) (p : ℕ) (all : List RoledEntry) (rest : List Chunk) →
+    rest ≡ [] → AreWaiting v b parents first ws p all (flat_map roled_chunk rest) → (x : ℕ) →
+    is_child parents p x ≡ true → list_any (is_naming_entry x) all ≡ true →
+    (place_in (slice_index first x) ≡ 0) ⊎ IsNoted v b first x → IsNoted v b ws x
+all_noted v b parents first ws p all rest none waiting x child named before =
+    elim (waiting x child named before) [
+      | inl is ↦ is
+      | inr w ↦ absurd (both_ways (list_any (is_naming_entry x) (flat_map roled_chunk rest))
+          (ap (λ (cs : List Chunk). list_any (is_naming_entry x) (flat_map roled_chunk cs)) none) w.1)
+    ]
 
 -- what is noted of other inodes, and what is due
 pub children_none : (parents ws : List ℕ) (p : ℕ) → NotesChildren parents ws ws p
@@ -320,3 +423,130 @@ passed_over ws i passed before x l = elim (cases_eq x i) [
   | inl e ↦ ap (λ (n : ℕ). is_due (slice_index ws n)) e ∙ passed
   | inr o ↦ before x (omega arith)
 ]
+
+-- DIRECTORIES THAT ARE REACHED
+
+-- p is the parent of x, a directory that is reached and isn't the root
+pub record IsUnder (g : Graph) (x p : ℕ) : Type 0 where
+  pub other : (x == 2) ≡ false
+  pub dir : g.is_dir x ≡ true
+  pub joined : reached g x ≡ true
+  pub up : parent g x ≡ Some p
+  pub below : p < g.count
+  pub link : edge g p x ≡ true
+
+-- a directory with a level above 0 has a parent
+pub level_under : (g : Graph) (x k : ℕ) → level g x ≡ Some (suc k) → (p : ℕ) × IsUnder g x p
+unfolding parent
+level_under g x k h = go (first_below (level_edge g k x) g.count) refl
+  where
+    before : (s : ℕ) × (s < g.count) × IsLevel g k s × (edge g s x ≡ true)
+    before = level-before g k x (level-some g (suc k) x h).0
+
+    go : (o : Option ℕ) → first_below (level_edge g k x) g.count ≡ o → (p : ℕ) × IsUnder g x p
+    go None e = absurd (both_ways (level_edge g k x before.0)
+        (first_below-none (level_edge g k x) g.count e before.0 before.1)
+        (and_from (is_value (level g before.0) k) (edge g before.0 x)
+        (ap (λ (o : Option ℕ). is_value o k) (level-is g k before.0 before.1 before.2) ∙ eq-eqb k k refl) before.3))
+    go (Some p) e =
+        let first = first_below-some (level_edge g k x) g.count p e in
+        let link = (and_parts (is_value (level g p) k) (edge g p x) first.passes).1 in
+        let other : (x == 2) ≡ false =
+        sym (within-zero g x) ∙ (level-some g (suc k) x h).0.least 0 (omega arith) in (
+          p,
+          record {
+            other = other;
+            dir = (edge-parts g p x link).0;
+            joined = ap is_some h;
+            up = cond-false (x == 2) (Some 2) (parent_by g x (level g x)) other ∙ (ap (parent_by g x) h ∙ e);
+            below = first.below;
+            link = link;
+          },
+        )
+
+-- a place is noted of each directory that is reached and isn't the root, or its parent is due
+abbrev pub AreComing : Layout → List ℕ → (words : List ℕ) → Type 0
+AreComing v b words = (x p : ℕ) → IsUnder (graph_of (volume_of v b)) x p →
+    IsNoted v b words x ⊎ ((place_in (slice_index words x) ≡ 0) × (is_due (slice_index words p) ≡ true))
+
+-- the number of a directory
+dir_number : (v : Layout) (b : List ℕ) (x : ℕ) → is_dir (volume_of v b) x ≡ true → (2 ≤ x) × (x < inodes_of v)
+unfolding volume_of volume_with
+dir_number v b x h =
+    let inode = (and_parts (is_inode (volume_of v b) x) _ h).0 in
+    let parts = and_parts (nat_le 2 x) (nat_lt x (inodes_of v)) inode in
+    (leb-true 2 x parts.0, ltb-true x (inodes_of v) parts.1)
+
+pub coming_first : (v : Layout) (b : List ℕ) (w : Workspace) (words : List ℕ) →
+    length w.reached.items ≡ inodes_of v → BeginsNotes w.reached.items w.parents.items words → HoldsSurvey v b w →
+    AreComing v b words
+coming_first v b w words long begins survey x p under =
+    let up : slice_index w.parents.items x ≡ p =
+    survey.parents x ∙ ap (λ (o : Option ℕ). unwrap_or o 0) under.up in
+    let above = dir_number v b p (edge-parts (graph_of (volume_of v b)) p x under.link).1 in
+    let here = dir_number v b x under.dir in
+    let low = above.0 in let high = above.1 in let least = here.0 in let most = here.1 in
+    let other = eqb-false x 2 under.other in
+    let over : 2 < x = elim (cases_order x 2) [
+      | inl e ↦ absurd (other e)
+      | inr o ↦ elim o [ inl l ↦ absurd (omega arith) | inr l ↦ l ]
+    ] in
+    inr (
+      begins.none x,
+      ap (λ (n : ℕ). is_due (slice_index words n)) (sym up)
+          ∙ begins.due x over (omega arith) (survey.reached x ∙ under.joined) (omega arith) (omega arith),
+    )
+
+-- after the directory dir, which was due, is noted
+pub coming_noted : (v : Layout) (b : List ℕ) (w : Workspace) (old mid new : List ℕ) (d : ℕ) → HoldsSurvey v b w →
+    AreChunksNumbered v →
+    ((x : ℕ) → place_in (slice_index mid x) ≡ place_in (slice_index old x)) →
+    ((x : ℕ) → x ≢ d → is_due (slice_index mid x) ≡ is_due (slice_index old x)) →
+    (is_dir (volume_of v b) d ≡ true →
+    NotesEntries v b w.parents.items mid new d (roled_entries (volume_of v b) d)) →
+    NotesChildren w.parents.items mid new d → AreComing v b old → AreComing v b new
+coming_noted v b w old mid new d survey numbered same due noted children coming x p under = go (cases_eq p d)
+  where
+    up : slice_index w.parents.items x ≡ p
+    up = survey.parents x ∙ ap (λ (o : Option ℕ). unwrap_or o 0) under.up
+
+    before : IsNoted v b mid x ⊎ ((place_in (slice_index mid x) ≡ 0) × (is_due (slice_index old p) ≡ true))
+    before = elim (coming x p under) [
+      | inl is ↦ inl (noted_still v b old mid x (same x) is)
+      | inr w ↦ inr (same x ∙ w.0, w.1)
+    ]
+
+    go : (p ≡ d) ⊎ (p ≢ d) →
+        IsNoted v b new x ⊎ ((place_in (slice_index new x) ≡ 0) × (is_due (slice_index new p) ≡ true))
+    go (inl e) =
+        let link = and_parts (is_dir (volume_of v b) p) (list_any (is_naming_entry x) (roled_entries (volume_of v b) p))
+        (and_parts (is_dir (volume_of v b) x) (is_naming_dir (graph_of (volume_of v b)) p x) under.link).1 in
+        let dir : is_dir (volume_of v b) d ≡ true = subst (λ (n : ℕ). is_dir (volume_of v b) n ≡ true) e link.0 in
+        let child : is_child w.parents.items d x ≡ true =
+        and_from (slice_index w.parents.items x == d) (not (x == 2)) (eq-eqb (slice_index w.parents.items x) d (up ∙ e))
+        (not_from_false (x == 2) under.other) in
+        let named = subst (λ (n : ℕ). list_any (is_naming_entry x) (roled_entries (volume_of v b) n) ≡ true) e link.1 in
+        inl ((noted dir).all numbered x child named (elim before [ inl is ↦ inr is | inr w ↦ inl w.0 ]))
+    go (inr o) =
+        let child : is_child w.parents.items d x ≡ false =
+        ap (λ (m : Bool). m && not (x == 2)) (ne_eqb (slice_index w.parents.items x) d (λ e. o (sym up ∙ e))) in
+        elim before [
+          | inl is ↦ inl (noted_still v b mid new x (children.others x child) is)
+          | inr w ↦ inr (children.others x child ∙ w.0, children.due p ∙ (due p o ∙ w.1))
+        ]
+
+-- where nothing is due any more, all are noted
+pub coming_end : (v : Layout) (b words : List ℕ) → ((x : ℕ) → x < inodes_of v → is_due (slice_index words x) ≡ false) →
+    AreComing v b words → AreNoted v b words
+coming_end v b words none coming x k h =
+    let under = level_under (graph_of (volume_of v b)) x k h in
+    elim (coming x under.0 under.1) [
+      | inl is ↦ is
+      | inr w ↦ absurd (both_ways (is_due (slice_index words under.0)) (none under.0
+          (dir_number v b under.0 (edge-parts (graph_of (volume_of v b)) under.0 x under.1.link).1).1) w.1)
+    ]
+
+-- what is due stays so at another number
+pub set_other : {A : Type 0} (f : ℕ → A) (ws : List ℕ) (i word x : ℕ) → x ≢ i →
+    f (slice_index (slice_set ws i word) x) ≡ f (slice_index ws x)
+set_other f ws i word x o = ap f (get_or-set_other ws i x word 0 o)

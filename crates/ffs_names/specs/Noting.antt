@@ -1,11 +1,13 @@
 -- What chunks of a directory p note of the places of parent entries. Words are as in `Places` of ffs_workspace.
-use Rattle.std.specs.Prelude.{◌≡◌, ◌⊎◌, ℕ, suc, ◌<◌, ◌==◌, Bool, false, not, ◌&&◌, if◌then◌else◌, List, slice_index}
+use Rattle.std.specs.Prelude.{◌≡◌, ◌⊎◌, ℕ, suc, ◌<◌, ◌≤◌, ◌==◌, Bool, true, false, not, ◌&&◌, if◌then◌else◌, List, slice_index}
+use Rattle.std.specs.Prelude.{length}
 use Rattle.std.specs.List.{list_any}
 use Rattle.ffs_volume.specs.declared.constants.TheConstants.{ROOTINO}
 use Rattle.ffs_volume.specs.declared.Layout.{Layout}
 use Rattle.ffs_volume.specs.Directories.Graph.{is_naming_entry}
 use Rattle.ffs_volume.specs.Directories.Roles.{RoledEntry}
-use Rattle.ffs_workspace.specs.Places.{entries_in_chunk, is_due, name_in, place_in}
+use Rattle.ffs_volume.specs.Encodings.Lists.{bool_at}
+use Rattle.ffs_workspace.specs.Places.{entries_in_chunk, is_due, name_in, place_in, AreChunksNumbered, IsNoted}
 
 -- p is the parent of x. The root has no parent entry
 abbrev pub is_child : (parents : List ℕ) (p x : ℕ) → Bool
@@ -27,17 +29,24 @@ pub record NotesChunk (parents old new : List ℕ) (p place : ℕ) (es : List Ro
   pub due : KeepsDue old new
 
 -- each place that is noted anew is that of an inode with the parent p: the first plain entry of the chunk that names it
--- has the name of the first one of p, which has the entries es
+-- has the name of the first one of p, which has the entries es. Where words have room for all chunks, a place is noted
+-- of each inode with the parent p that a plain one of these entries names, if none or a right one was noted before
 pub record NotesEntries (v : Layout) (b parents old new : List ℕ) (p : ℕ) (es : List RoledEntry) : Type 0 where
   pub places : (x k : ℕ) → place_in (slice_index new x) ≡ suc k → (place_in (slice_index old x) ≡ suc k)
       ⊎ (name_in x (entries_in_chunk v b k) ≡ name_in x es)
+  pub all : AreChunksNumbered v → (x : ℕ) → is_child parents p x ≡ true → list_any (is_naming_entry x) es ≡ true →
+      (place_in (slice_index old x) ≡ 0) ⊎ IsNoted v b old x → IsNoted v b new x
 
 -- no place of an inode with another parent is noted, and what is due stays so
 pub record NotesChildren (parents old new : List ℕ) (p : ℕ) : Type 0 where
   pub others : (x : ℕ) → is_child parents p x ≡ false → place_in (slice_index new x) ≡ place_in (slice_index old x)
   pub due : KeepsDue old new
 
--- no place is noted, and no number below that of the root is due
-pub record BeginsNotes (words : List ℕ) : Type 0 where
+-- no place is noted, no number below that of the root is due, and the parent of each inode above the root that is
+-- reached is due
+pub record BeginsNotes (reached : List Bool) (parents words : List ℕ) : Type 0 where
   pub none : (x : ℕ) → place_in (slice_index words x) ≡ 0
   pub low : (x : ℕ) → x < ROOTINO → is_due (slice_index words x) ≡ false
+  pub due : (x : ℕ) → ROOTINO < x → x < length reached → bool_at reached x ≡ true →
+      ROOTINO ≤ slice_index parents x → slice_index parents x < length reached →
+      is_due (slice_index words (slice_index parents x)) ≡ true

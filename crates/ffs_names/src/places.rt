@@ -11,7 +11,7 @@ ghost use Rattle.ffs_volume.specs.Directories.Volumes.{volume_of};
 ghost use Rattle.ffs_workspace.specs.Holds.{HoldsClaims, HoldsSurvey};
 ghost use Rattle.ffs_workspace.specs.Lengths.{inodes_of};
 ghost use Rattle.ffs_workspace.specs.Notes.{note_at};
-ghost use Rattle.ffs_workspace.specs.Places.{is_due, place_in};
+ghost use Rattle.ffs_workspace.specs.Places.{is_due, place_in, AreChunksNumbered, AreNoted};
 ghost use Rattle.ffs_workspace.specs.Ready.{IsReady};
 ghost use Rattle.ffs_workspace.specs.Tables.{CanReadInodes, TableAfter};
 ghost use Rattle.ffs_names.specs.Noting.{is_child, BeginsNotes, NotesChildren, NotesChunk, NotesEntries};
@@ -205,7 +205,7 @@ fn note_directory<I: Image>(
 fn mark_parents(reached: &[bool], parents: &FilledList<u32>, words: &mut FilledList<u32>)
     requires lengths { (vec_len parents.now ≡ length reached.now)
         × (vec_len words.old ≡ length reached.now) × (length reached.now < 2 ^ 31) }
-    ensures begins { BeginsNotes words.new.items }
+    ensures begins { BeginsNotes reached.now parents.now.items words.new.items }
     ensures long { vec_len words.new ≡ vec_len words.old }
 {
     words.fill(0);
@@ -239,6 +239,10 @@ pub fn note_places<I: Image>(
         (λ b. HoldsClaims geometry.now.layout b workspace.old
         → HoldsSurvey geometry.now.layout b workspace.old
         → HoldsSurvey geometry.now.layout b workspace.new)) }
+    ensures noted { OnOk result (ForContents (I.device image.old).contents
+        (λ b. HoldsClaims geometry.now.layout b workspace.old
+        → HoldsSurvey geometry.now.layout b workspace.old → AreChunksNumbered geometry.now.layout
+        → AreNoted geometry.now.layout b workspace.new.queue.items)) }
     ensures none_due { OnOk result ((x : ℕ)
         → is_due (slice_index workspace.new.queue.items x) ≡ false) }
     ensures ready { IsReady geometry.now.layout (I.device image.new) workspace.new }

@@ -1,10 +1,15 @@
-use Rattle.std.proofs.Common.{◌≡◌, length, vec_len}
-use Rattle.ffs_names.specs.Noting.{BeginsNotes}
+use Rattle.std.proofs.Common.{◌≡◌, ◌<◌, ◌≤◌, ℕ, true, false, length, slice_index, vec_len}
+use Rattle.ffs_volume.specs.Encodings.Lists.{bool_at}
+use Rattle.ffs_workspace.specs.Places.{is_due, place_in}
 use Rattle.ffs_names.proofs.places.mark_parents.Given as goal
 
 abbrev pub invariant-loop-number : goal.invariant-loop-number
 invariant-loop-number l = record {
   count : l.count ≡ length l.reached;
   long : vec_len l.words ≡ length l.reached;
-  begins : BeginsNotes l.words.items;
+  none : (x : ℕ) → place_in (slice_index l.words.items x) ≡ 0;
+  low : (x : ℕ) → x < 2 → is_due (slice_index l.words.items x) ≡ false;
+  due : (x : ℕ) → 2 < x → x < l.number → bool_at l.reached x ≡ true → 2 ≤ slice_index l.parents.items x →
+      slice_index l.parents.items x < length l.reached →
+      is_due (slice_index l.words.items (slice_index l.parents.items x)) ≡ true;
 }

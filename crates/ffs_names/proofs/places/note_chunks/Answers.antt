@@ -1,10 +1,10 @@
-use Rattle.std.proofs.Common.{◌≡◌, ◌∷◌, ◌∙◌, ℕ, List, Some, ap, sym}
+use Rattle.std.proofs.Common.{◌≡◌, ◌∷◌, ◌∙◌, ◌+◌, ◌*◌, ◌≤◌, ℕ, List, Some, ap, sym}
 use Rattle.std.specs.List.{flat_map}
 use Rattle.ffs_volume.specs.Disk.Numbers.{piece}
 use Rattle.ffs_volume.specs.Directories.Entries.{chunk_of}
 use Rattle.ffs_volume.specs.Directories.Roles.{roled_chunk}
 use Rattle.ffs_names.specs.Readings.{rest}
-use Rattle.ffs_names.proofs.PlacesNoted.{children_more, coming_after, noted_chunk}
+use Rattle.ffs_names.proofs.PlacesNoted.{all_noted, children_more, coming_after, noted_chunk, room_for, waiting_after}
 use Rattle.ffs_names.proofs.places.note_chunks.Goals as goal
 
 pub chunks-preserved : goal.chunks-preserved
@@ -26,6 +26,8 @@ chunks-preserved g c =
     c.next.new.self) inv.geometry in
     let is = λ (b : List ℕ) (t : (g.I.Image.device c.args.image.now).contents ≡ Some b).
     there b (now b t) ∙ ap (λ (n : ℕ). piece n 512 b) (sym c.last_place.ensures.value) in
+    let inside : c.last_place.result + 512 ≤ v.size * v.fsize =
+    rw (sym c.last_place.ensures.value, inv.geometry) at (rw c.in-Some.is at c.in_ok-_offset.ensures.inside) in
     record {
       same = went.read ∙ inv.same;
       geometry = went.geometry ∙ inv.geometry;
@@ -40,6 +42,10 @@ chunks-preserved g c =
       to_come = λ b t. coming_after v parents old new c.args.dir c.place_of-place.result c.in-Some._offset
           c.next.new.chunk (flat_map roled_chunk (rest b first)) (rest b c.chunks.chunks) (rest b c.next.new.self)
           c.if-place-eq0.false (next b t) c.note_chunk.ensures.noted (inv.to_come b t);
+      waiting = λ b t. waiting_after v b parents words old new c.args.dir c.place_of-place.result c.last_place.result
+          c.in-Some._offset c.next.new.chunk (flat_map roled_chunk (rest b first)) (rest b c.chunks.chunks)
+          (rest b c.next.new.self) c.last_place.ensures.aligned c.place_of-place.ensures.value c.if-place-eq0.false
+          inside (is b t) (next b t) c.note_chunk.ensures.noted (inv.waiting b t);
     }
 
 pub returns-clause-leaves : goal.returns-clause-leaves
@@ -50,4 +56,39 @@ returns-clause-leaves g c =
       geometry = went.geometry ∙ inv.geometry;
       ready = rw inv.geometry at went.ready;
       read = went.read ∙ inv.same;
+    }
+
+pub returns-then-place-eq0-clause-leaves : goal.returns-then-place-eq0-clause-leaves
+returns-then-place-eq0-clause-leaves g c =
+    let inv = c.chunks.invariant in
+    let went = c.in_ok-_offset.ensures.leaves in
+    record {
+      geometry = went.geometry ∙ inv.geometry;
+      ready = rw inv.geometry at went.ready;
+      read = went.read ∙ inv.same;
+    }
+
+pub returns-then-place-eq0-clause-noted : goal.returns-then-place-eq0-clause-noted
+returns-then-place-eq0-clause-noted g c = λ b t.
+    let inv = c.chunks.invariant in
+    let v = c.args.chunks.now.walk.geometry.layout in
+    let inside : c.last_place.result + 512 ≤ v.size * v.fsize =
+    rw (sym c.last_place.ensures.value, inv.geometry) at (rw c.in-Some.is at c.in_ok-_offset.ensures.inside) in
+    record {
+      places = inv.noted b t;
+      all = λ numbered x child named before.
+          absurd (room_for v c.last_place.result numbered inside
+          (sym c.place_of-place.ensures.value ∙ c.if-place-eq0.true));
+    }
+
+pub returns-clause-noted : goal.returns-clause-noted
+returns-clause-noted g c = λ b t.
+    let inv = c.chunks.invariant in
+    let v = c.args.chunks.now.walk.geometry.layout in
+    let now : (g.I.Image.device c.chunks.image).contents ≡ Some b = ap (λ d. d.contents) inv.same ∙ t in
+    let none = (rw c.in_default.is at (c.in_ok-_offset.ensures.chunk b now)).chunks.0 in
+    record {
+      places = inv.noted b t;
+      all = λ numbered. all_noted v b c.args.parents.now.items c.args.words.now.items c.chunks.words.items c.args.dir
+          (flat_map roled_chunk (rest b c.args.chunks.now)) (rest b c.chunks.chunks) none (inv.waiting b t);
     }

@@ -2,10 +2,10 @@ use Rattle.std.proofs.Common.{◌≡◌, vec_len}
 use Rattle.std.specs.List.{flat_map}
 use Rattle.ffs_image.specs.Device.{ForContents}
 use Rattle.ffs_volume.specs.Directories.Roles.{roled_chunk}
-use Rattle.ffs_names.specs.Noting.{NotesChildren, NotesEntries}
+use Rattle.ffs_names.specs.Noting.{NotesChildren}
 use Rattle.ffs_names.specs.Readings.{rest}
 use Rattle.ffs_names.specs.Windows.{CanReadChunks}
-use Rattle.ffs_names.proofs.PlacesNoted.{AreToCome}
+use Rattle.ffs_names.proofs.PlacesNoted.{AreToCome, AreWaiting, HavePlaces}
 use Rattle.ffs_names.proofs.places.note_chunks.Given as goal
 
 abbrev pub invariant-chunks : goal.invariant-chunks
@@ -15,8 +15,11 @@ invariant-chunks g l = let device = g.I.Image.device in record {
   ready : CanReadChunks l.fn.chunks.walk.geometry.layout (device l.image) l.blocks l.data;
   long : vec_len l.words ≡ vec_len l.fn.words;
   children : NotesChildren l.parents.items l.fn.words.items l.words.items l.dir;
-  noted : ForContents (device l.fn.image).contents (λ b. NotesEntries l.fn.chunks.walk.geometry.layout b l.parents.items
-      l.fn.words.items l.words.items l.dir (flat_map roled_chunk (rest b l.fn.chunks)));
+  noted : ForContents (device l.fn.image).contents (λ b. HavePlaces l.fn.chunks.walk.geometry.layout b
+      l.fn.words.items l.words.items (flat_map roled_chunk (rest b l.fn.chunks)));
+  waiting : ForContents (device l.fn.image).contents (λ b. AreWaiting l.fn.chunks.walk.geometry.layout b
+      l.parents.items l.fn.words.items l.words.items l.dir (flat_map roled_chunk (rest b l.fn.chunks))
+      (flat_map roled_chunk (rest b l.chunks)));
   to_come : ForContents (device l.fn.image).contents (λ b. AreToCome l.parents.items l.words.items l.dir
       (flat_map roled_chunk (rest b l.fn.chunks)) (flat_map roled_chunk (rest b l.chunks)));
 }

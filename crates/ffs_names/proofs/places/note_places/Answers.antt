@@ -1,11 +1,32 @@
-use Rattle.std.proofs.Common.{◌≡◌, ◌<◌, ◌∙◌, List, ℕ, ap, arith, length, subst, sym, slice_index, slice_set}
+use Rattle.std.proofs.Common.{◌≡◌, ◌≢◌, Bool, suc, refl, rules, ◌<◌, ◌∙◌, List, ℕ, ap, arith, length, subst, sym, slice_index, slice_set}
 use Rattle.std.proofs.lemmas.Grind.{common_steps, get_or_default_zero}
 use Rattle.ffs_workspace.specs.declared.workspace.Workspace.{Workspace}
+use Rattle.ffs_workspace.specs.Lengths.{inodes_of}
 use Rattle.ffs_workspace.specs.Places.{is_due, place_in}
-use Rattle.ffs_names.specs.Noting.{KeepsDue}
-use Rattle.ffs_names.proofs.PlacesNoted.{claims_noted, passed_next, passed_over, places_after, places_same, set_same, survey_noted}
+use Rattle.ffs_names.specs.Noting.{BeginsNotes, KeepsDue}
+use Rattle.ffs_names.proofs.PlacesNoted.{claims_noted, coming_end, coming_first, coming_noted, passed_next, passed_over, places_after, places_same, set_other, set_same, survey_noted}
 use Rattle.ffs_names.proofs.places.note_places.Goals as goal
 use Rattle.ffs_names.proofs.places.note_places.Goals.{then-is_due+in_ok-note_directory, else-is_due}
+
+pub loop-dir-init : goal.loop-dir-init
+loop-dir-init g c =
+    let v = c.args.geometry.now.layout in
+    let w = c.args.workspace.now in
+    let words = c.mark_parents.new.words.items in
+    let begins : BeginsNotes w.reached.items w.parents.items words =
+    subst (λ (rs : List Bool). BeginsNotes rs w.parents.items words) c.deref.ensures.value c.mark_parents.ensures.begins in
+    let long : length w.reached.items ≡ inodes_of v =
+    sym (ap length c.deref.ensures.value) ∙ (c.deref.ensures.len ∙ c.requires.made.reached) in
+    record {
+      same = refl;
+      lists = refl;
+      ready = search rules;
+      low = omega arith;
+      passed = begins.low;
+      places = λ b t claims survey x p k there is.
+          let none : 0 ≡ suc k = sym (begins.none x) ∙ there in absurd (omega arith);
+      noted = λ b t claims survey numbered. coming_first v b w words long begins survey;
+    }
 
 pub loop-dir-preserved : goal.loop-dir-preserved
 loop-dir-preserved g c =
@@ -27,6 +48,8 @@ loop-dir-preserved g c =
           let same : (x : ℕ) → place_in (slice_index mid.queue.items x) ≡ place_in (slice_index old x) =
           λ x. ap (λ (ws : List ℕ). place_in (slice_index ws x)) set
           ∙ set_same place_in old dir w.passed.result inside (w.passed.ensures.place ∙ ap place_in word) x in
+          let other : (x : ℕ) → x ≢ dir → is_due (slice_index mid.queue.items x) ≡ is_due (slice_index old x) =
+          λ x o. ap (λ (ws : List ℕ). is_due (slice_index ws x)) set ∙ set_other is_due old dir w.passed.result x o in
           let lists : mid ≡ record first { windows = mid.windows; queue = mid.queue } =
           ap (λ (x : Workspace). record x { queue = w.set.new.self }) inv.lists in
           rw (w.image-is, w.workspace-is) (record {
@@ -43,6 +66,12 @@ loop-dir-preserved g c =
                 (survey_noted v b first mid lists survey right)
                 (noted.noted b (ap (λ d. d.contents) inv.same ∙ t) (claims_noted v b first mid lists claims))
                 noted.children right;
+            noted = λ b t claims survey numbered.
+                coming_noted v b mid old mid.queue.items new.queue.items dir
+                (survey_noted v b first mid lists survey (places_same v b old mid.queue.items same (inv.places b t claims survey)))
+                numbered same other
+                (noted.noted b (ap (λ d. d.contents) inv.same ∙ t) (claims_noted v b first mid lists claims))
+                noted.children (inv.noted b t claims survey numbered);
           })
       | else-is_due w ↦
           rw (w.image-is, w.workspace-is) (record {
@@ -53,6 +82,7 @@ loop-dir-preserved g c =
             passed = passed_over old dir
                 (ap is_due (sym word) ∙ (sym c.is_due.ensures ∙ w.if-is_due.false)) inv.passed;
             places = inv.places;
+            noted = inv.noted;
           })
     ]
 
@@ -61,3 +91,10 @@ returns-clause-places g c = λ b t claims survey.
     let inv = c.loop-dir.invariant in
     survey_noted c.args.geometry.now.layout b c.args.workspace.now c.loop-dir.workspace inv.lists survey
     (inv.places b t claims survey)
+
+pub returns-clause-noted : goal.returns-clause-noted
+returns-clause-noted g c = λ b t claims survey numbered.
+    let inv = c.loop-dir.invariant in
+    coming_end c.args.geometry.now.layout b c.loop-dir.workspace.queue.items
+    (λ x l. inv.passed x (omega arith))
+    (inv.noted b t claims survey numbered)

@@ -1,8 +1,9 @@
 use Rattle.std.proofs.Common.{◌≡◌, ◌<◌, ◌≤◌, ℕ, false, slice_index}
 use Rattle.ffs_image.specs.Device.{ForContents}
 use Rattle.ffs_workspace.specs.Holds.{HoldsClaims, HoldsSurvey}
-use Rattle.ffs_workspace.specs.Places.{is_due, ArePlaces}
+use Rattle.ffs_workspace.specs.Places.{is_due, AreChunksNumbered, ArePlaces}
 use Rattle.ffs_workspace.specs.Ready.{IsReady}
+use Rattle.ffs_names.proofs.PlacesNoted.{AreComing}
 use Rattle.ffs_names.proofs.places.note_places.Given as goal
 
 abbrev pub invariant-loop-dir : goal.invariant-loop-dir
@@ -14,4 +15,7 @@ invariant-loop-dir g l = let device = g.I.Image.device in record {
   passed : (x : ℕ) → x < l.dir → is_due (slice_index l.workspace.queue.items x) ≡ false;
   places : ForContents (device l.fn.image).contents (λ b. HoldsClaims l.geometry.layout b l.fn.workspace →
       HoldsSurvey l.geometry.layout b l.fn.workspace → ArePlaces l.geometry.layout b l.workspace.queue.items);
+  noted : ForContents (device l.fn.image).contents (λ b. HoldsClaims l.geometry.layout b l.fn.workspace →
+      HoldsSurvey l.geometry.layout b l.fn.workspace → AreChunksNumbered l.geometry.layout →
+      AreComing l.geometry.layout b l.workspace.queue.items);
 }
