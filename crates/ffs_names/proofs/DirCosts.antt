@@ -1,5 +1,5 @@
 -- Laws of the reads that directories take.
-use Rattle.std.proofs.Common.{◌≡◌, ◌∙◌, ◌+◌, ℕ, Bool, true, List, ap}
+use Rattle.std.proofs.Common.{◌≡◌, ◌∙◌, ◌+◌, ℕ, Bool, true, false, List, ap}
 use Rattle.std.specs.Prelude.{if◌then◌else◌}
 use Rattle.ffs_volume.specs.declared.Inode.{Inode}
 use Rattle.ffs_volume.specs.declared.Layout.{Layout}
@@ -15,6 +15,9 @@ use Rattle.ffs_names.specs.Costs.{directory_cost, directory_runs}
 pub cost_is : (v : Layout) (b : List ℕ) (d : ℕ) → is_dir (volume_of v b) d ≡ true →
     directory_cost v b d ≡ 1 + directory_runs v b d
 cost_is v b d is = ap (λ (x : Bool). if x then 1 + directory_runs v b d else 0) is
+
+pub cost_none : (v : Layout) (b : List ℕ) (d : ℕ) → is_dir (volume_of v b) d ≡ false → directory_cost v b d ≡ 0
+cost_none v b d none = ap (λ (x : Bool). if x then 1 + directory_runs v b d else 0) none
 
 -- the Runs of its inode, by its cut
 pub runs_are : (v : Layout) (b : List ℕ) (d : ℕ) (i : Inode) (cut : ℕ) → i ≡ inode_of v b d → cut ≡ cut_at v b d →

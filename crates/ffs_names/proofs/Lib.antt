@@ -16,3 +16,4 @@ mod Shaped
 pub mod ReadCounts
 pub mod EntryCounts
 pub mod DirCosts
+pub mod RunSums
