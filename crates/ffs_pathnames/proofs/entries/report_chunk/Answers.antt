@@ -15,6 +15,7 @@ use Rattle.ffs_pathnames.proofs.Begun.{image_same}
 use Rattle.ffs_pathnames.proofs.Looking.{roled_at_place, seen_next, none}
 use Rattle.ffs_workspace.proofs.Leaving.{leaves_all, leaves_more}
 use Rattle.ffs_pathnames.proofs.Passing.{entry_reported, entry_passed, none_left, knows_on}
+use Rattle.ffs_pathnames.proofs.StampLaws.{keep_more}
 use Rattle.ffs_pathnames.proofs.entries.report_chunk.Goals as goal
 
 pub entries-init : goal.entries-init
@@ -26,6 +27,7 @@ entries-init g c =
       ready = record { ready = c.requires.ready; siblings = c.requires.siblings };
       device = refl;
       survey = leaves_all _;
+      places = λ x. refl;
       path = refl;
       marks = λ b k. refl;
       said = of_begins _ (λ (b : List ℕ). map of_tree
@@ -69,6 +71,7 @@ returns-in_err-report_entry-clause-leaves g c =
     rw (p.1, p.2) (record {
       image = image_same (Unit {0}) (Unit {0}) _ _ _ c.in_err-report_entry.field-0.0 inv.device left.image;
       survey = leaves_more _ _ _ inv.survey left.survey;
+      places = keep_more _ _ _ inv.places left.places;
       ready = left.ready;
     })
 
@@ -98,6 +101,7 @@ entries-preserved g c =
       ready = ok.leaves.ready;
       device = ok.leaves.image ∙ inv.device;
       survey = leaves_more _ _ _ inv.survey ok.leaves.survey;
+      places = keep_more _ _ _ inv.places ok.leaves.places;
       path = ok.same ∙ inv.path;
       marks = λ b k. entry_passed (volume_of v b) c.args.dir _ m m' seen here there next (ok.marks b (know b k))
           (inv.marks b k);

@@ -12,6 +12,7 @@ use Rattle.ffs_pathnames.specs.Gathers.{marks_of}
 use Rattle.ffs_pathnames.specs.DirectoryContext.{DirectoryContext, KnowsPath}
 use Rattle.ffs_pathnames.specs.Marks.{after_entries, entries_reported}
 use Rattle.ffs_pathnames.proofs.Looking.{roled_at_place}
+use Rattle.ffs_pathnames.specs.Stamps.{KeepPlaces}
 use Rattle.ffs_pathnames.proofs.entries.report_chunk.Given as goal
 
 abbrev pub invariant-entries : goal.invariant-entries
@@ -21,6 +22,7 @@ invariant-entries g l = let reported_by = g.I.Image.device in let v = l.geometry
   ready : ReadyWith v (reported_by l.image) l.workspace l.siblings;
   device : reported_by l.image ≡ reported_by l.fn.image;
   survey : LeavesSurvey l.fn.workspace l.workspace;
+  places : KeepPlaces l.fn.workspace.queue.items l.workspace.queue.items;
   path : l.texts.paths.directory ≡ l.fn.texts.paths.directory;
   marks : ForBytes (DirectoryContext v (reported_by l.fn.image).contents l.fn.workspace l.dir) (λ b.
       after_entries (volume_of v b) l.dir (marks_of l.fn.workspace) (roled_from l.first 0 (entries_of v.order l.chunk))
