@@ -1,5 +1,6 @@
 pub mod Children
 pub mod ChunkNames
+pub mod Climbed
 pub mod Ends
 pub mod Keeping
 pub mod Longer

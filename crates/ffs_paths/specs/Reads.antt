@@ -1,14 +1,16 @@
--- What a call that only reads the image leaves of a workspace.
-use Rattle.std.specs.Prelude.{◌≡◌, ◌*◌, ◌<◌, ℕ, List, Result, Some}
+-- What a call that only reads the image leaves of a workspace, and how often it reads.
+use Rattle.std.specs.Prelude.{◌≡◌, ◌+◌, ◌*◌, ◌/◌, ◌<◌, ◌≤◌, ℕ, List, Option, Result, Some}
 use Rattle.ffs_image.specs.Device.{Device}
 use Rattle.ffs_image.specs.Reads.{ReadAfter}
 use Rattle.ffs_image.specs.declared.image.ImageFault.{ImageFault}
+use Rattle.ffs_volume.specs.declared.constants.TheConstants.{MAXPATHLEN}
 use Rattle.ffs_volume.specs.declared.Layout.{Layout}
 use Rattle.ffs_volume.specs.Directories.Graph.{Graph}
 use Rattle.ffs_volume.specs.Directories.Parents.{graph_of}
 use Rattle.ffs_volume.specs.Directories.Volumes.{volume_of}
 use Rattle.ffs_workspace.specs.declared.workspace.Workspace.{Workspace}
 use Rattle.ffs_workspace.specs.Holds.{HoldsClaims, HoldsSurvey}
+use Rattle.ffs_workspace.specs.Places.{AreNoted}
 use Rattle.ffs_workspace.specs.Ready.{IsReady}
 
 -- the workspace is ready for reads of the inode x
@@ -30,3 +32,26 @@ pub record OnlyReads {T : Type 0} (v : Layout) (old new : Device) (before after 
 abbrev pub ForTree : Layout → Device → Workspace → (Graph → Type 0) → Type 0
 ForTree v d w P = (b : List ℕ) → d.contents ≡ Some b → HoldsClaims v b w → HoldsSurvey v b w
     → P (graph_of (volume_of v b))
+
+-- so many reads were made at most, and none into the window of indirect blocks
+pub record ReadsFew (most reads reads' : ℕ) (before after : Workspace) : Type 0 where
+  pub count : reads' ≤ reads + most
+  pub blocks : after.windows.blocks ≡ before.windows.blocks
+
+-- the image gives these bytes, the workspace holds what the block check and the survey leave, and it notes the place of
+-- each directory that is reached
+pub record KnowsPlaces (v : Layout) (contents : Option (List ℕ)) (w : Workspace) (b : List ℕ) : Type 0 where
+  pub gives_bytes : contents ≡ Some b
+  pub claims : HoldsClaims v b w
+  pub survey : HoldsSurvey v b w
+  pub places : AreNoted v b w.queue.items
+
+-- so many reads were made at most, where each place is noted
+abbrev pub ReadsAtMost : (most : ℕ) → Layout → Device → (before after : Workspace) → (reads reads' : ℕ) → Type 0
+ReadsAtMost most v d before after reads reads' = (b : List ℕ) → KnowsPlaces v d.contents before b
+    → ReadsFew most reads reads' before after
+
+-- the way up to the root: a chunk for each name that has room in a path, and for one that has none any more. Each name
+-- takes two bytes at least, with its slash
+abbrev pub climb_reads : ℕ
+climb_reads = MAXPATHLEN / 2 + 1

@@ -1,10 +1,12 @@
 //! The way from a directory up to the root.
 
-ghost use Rattle.std.specs.Prelude.{◌≡◌, ℕ, Some, IfOk};
+ghost use Rattle.std.specs.Prelude.{◌≡◌, ℕ, List, Some, IfOk};
 ghost use Rattle.ffs_volume.specs.Directories.Graph.{level};
+ghost use Rattle.ffs_volume.specs.Directories.Parents.{graph_of};
 ghost use Rattle.ffs_volume.specs.Directories.Paths.{names_down};
+ghost use Rattle.ffs_volume.specs.Directories.Volumes.{volume_of};
 ghost use Rattle.ffs_paths.specs.Buffers.{HoldsNames};
-ghost use Rattle.ffs_paths.specs.Reads.{ForTree, IsReadyFor, OnlyReads};
+ghost use Rattle.ffs_paths.specs.Reads.{ForTree, IsReadyFor, KnowsPlaces, OnlyReads, ReadsFew, climb_reads};
 
 use crate::buffer::PathBuffer;
 use crate::entry_name::NameText;
@@ -30,6 +32,10 @@ pub fn climb<I: Image>(
         (k : ℕ) → level g dir ≡ Some k → HoldsNames path (names_down g k dir))) }
     ensures reads { OnlyReads geometry.now.layout (I.device image.old) (I.device image.new)
         workspace.old workspace.new result }
+    ensures counted { (b : List ℕ) (k : ℕ)
+        → KnowsPlaces geometry.now.layout (I.device image.old).contents workspace.old b
+        → level (graph_of (volume_of geometry.now.layout b)) dir ≡ Some k
+        → ReadsFew climb_reads (I.reads image.old) (I.reads image.new) workspace.old workspace.new }
 {
     let count = workspace.notes.len();
     let mut path = PathBuffer::new();

@@ -4,7 +4,8 @@
 //! the definition's path, cut to `?` and its longest end of whole names where it is longer.
 //! `Siblings` makes the paths of one directory after another, and keeps what the next can use.
 //! The name of a directory in its parent is read from the chunk that the workspace notes as its
-//! place, and where it isn't there, searched in all entries of the parent.
+//! place, and where it isn't there, searched in all entries of the parent. Where the place of each
+//! directory is noted, a path makes at most 514 reads.
 //!
 //! It rests on `ffs_names` and `ffs_workspace`.
 #![tactic(auto)]

@@ -1,10 +1,14 @@
 //! The name of a directory in its parent.
 
-ghost use Rattle.std.specs.Prelude.{◌≡◌, ◌*◌, ◌<◌, ℕ, true, false, IfOk, OnOk};
+ghost use Rattle.std.specs.Prelude.{◌≡◌, ◌*◌, ◌<◌, ℕ, true, false, IfOk, OnOk, length};
+ghost use Rattle.std.specs.List.{list_any};
+ghost use Rattle.ffs_image.specs.Device.{ForContents};
 ghost use Rattle.ffs_volume.specs.Directories.Entries.{entries_of};
+ghost use Rattle.ffs_volume.specs.Directories.Graph.{is_naming_entry};
 ghost use Rattle.ffs_volume.specs.Directories.Roles.{roled_from};
 ghost use Rattle.ffs_paths.specs.Climbing.{name_in, IsNameIn};
-ghost use Rattle.ffs_paths.specs.Reads.{ForTree, IsReadyFor, OnlyReads};
+ghost use Rattle.ffs_paths.specs.Reads.{ForTree, IsReadyFor, OnlyReads, ReadsFew};
+ghost use Rattle.ffs_workspace.specs.Places.{IsNoted};
 
 use crate::entry_name::{NameText, names, set_name};
 use crate::search::search_name;
@@ -18,8 +22,11 @@ use ffs_workspace::{Workspace, place_in};
 /// Finds the name of an inode in a chunk, by its first plain entry there. Returns whether there is
 /// one.
 fn find_in_chunk(order: Order, chunk: &[u8; DIRBLKSIZ], number: u32, name: &mut NameText) -> bool
-    ensures { result ≡ true → name.new.items
+    ensures name { result ≡ true → name.new.items
         ≡ name_in number (roled_from false 0 (entries_of order chunk.now)) }
+    ensures some { result ≡ true → 0 < length name.new.items }
+    ensures found { list_any (is_naming_entry number)
+        (roled_from false 0 (entries_of order chunk.now)) ≡ true → result ≡ true }
 {
     let mut place = 0usize;
     let mut index = 0usize;
@@ -47,8 +54,13 @@ fn find_by_place<I: Image>(
     ensures name { IfOk result (λ found. found ≡ true
         → ForTree geometry.now.layout (I.device image.old) workspace.old
         (λ g. (parent : ℕ) → IsNameIn g dir parent name.new.items)) }
+    ensures some { IfOk result (λ found. found ≡ true → 0 < length name.new.items) }
+    ensures found { IfOk result (λ found. ForContents (I.device image.old).contents (λ b.
+        IsNoted geometry.now.layout b workspace.old.queue.items dir → found ≡ true)) }
     ensures reads { OnlyReads geometry.now.layout (I.device image.old) (I.device image.new)
         workspace.old workspace.new result }
+    ensures counted { ReadsFew 1 (I.reads image.old) (I.reads image.new) workspace.old
+        workspace.new }
 {
     let Some(chunk) = place_in(workspace.queue[dir as usize]) else {
         return Ok(false);
@@ -82,8 +94,13 @@ pub fn find_name<I: Image>(
     requires parent { parent < geometry.now.layout.ncg * geometry.now.layout.ipg }
     ensures name { OnOk result (ForTree geometry.now.layout (I.device image.old) workspace.old
         (λ g. IsNameIn g dir parent name.new.items)) }
+    ensures some { OnOk result (ForContents (I.device image.old).contents (λ b.
+        IsNoted geometry.now.layout b workspace.old.queue.items dir → 0 < length name.new.items)) }
     ensures reads { OnlyReads geometry.now.layout (I.device image.old) (I.device image.new)
         workspace.old workspace.new result }
+    ensures counted { ForContents (I.device image.old).contents (λ b.
+        IsNoted geometry.now.layout b workspace.old.queue.items dir
+        → ReadsFew 1 (I.reads image.old) (I.reads image.new) workspace.old workspace.new) }
 {
     if find_by_place(geometry, image, workspace, dir, name)? {
         return Ok(());

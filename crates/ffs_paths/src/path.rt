@@ -3,7 +3,7 @@
 ghost use Rattle.std.specs.Prelude.{◌≡◌, option_map, IfOk, OnOk};
 ghost use Rattle.ffs_paths.specs.Climbing.{path_in};
 ghost use Rattle.ffs_paths.specs.DirectoryPaths.{IsPathOf};
-ghost use Rattle.ffs_paths.specs.Reads.{ForTree, IsReadyFor, OnlyReads};
+ghost use Rattle.ffs_paths.specs.Reads.{ForTree, IsReadyFor, OnlyReads, ReadsAtMost, climb_reads};
 
 use crate::buffer::{PathBuffer, PathText};
 use crate::climb::climb;
@@ -27,6 +27,8 @@ pub fn directory_path<I: Image>(
         ForTree geometry.now.layout (I.device image.old) workspace.old (λ g. IsPathOf g dir path)) }
     ensures reads { OnlyReads geometry.now.layout (I.device image.old) (I.device image.new)
         workspace.old workspace.new result }
+    ensures counted { ReadsAtMost climb_reads geometry.now.layout (I.device image.old)
+        workspace.old workspace.new (I.reads image.old) (I.reads image.new) }
 {
     let mut names = PathBuffer::new();
     let reached = workspace.reached[dir as usize];
@@ -54,6 +56,8 @@ pub fn path_of<I: Image>(
         (λ g. text.new.items ≡ path_in g dir (option_map (λ n. n.now) name.entry))) }
     ensures reads { OnlyReads geometry.now.layout (I.device image.old) (I.device image.new)
         workspace.old workspace.new result }
+    ensures counted { ReadsAtMost climb_reads geometry.now.layout (I.device image.old)
+        workspace.old workspace.new (I.reads image.old) (I.reads image.new) }
 {
     let path = directory_path(geometry, image, workspace, dir)?;
     match name {

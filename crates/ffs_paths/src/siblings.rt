@@ -5,7 +5,8 @@ ghost use Rattle.ffs_volume.specs.Directories.Paths.{dir_path};
 ghost use Rattle.ffs_workspace.specs.declared.workspace.Workspace.{Workspace as WorkspaceIn};
 ghost use Rattle.ffs_paths.specs.Climbing.{IsParentOf};
 ghost use Rattle.ffs_paths.specs.DirectoryPaths.{IsPathOf};
-ghost use Rattle.ffs_paths.specs.Reads.{ForTree};
+ghost use Rattle.ffs_paths.specs.Reads.{ForTree, ReadsAtMost, climb_reads};
+ghost use Rattle.ffs_volume.specs.Report.Reads.{path_reads};
 
 use crate::buffer::{PathBuffer, PathText};
 use crate::entry_name::NameText;
@@ -82,6 +83,8 @@ impl Siblings {
         ensures kept { OnOk result (self.new.parent ≡ dir) }
         ensures leaves { PathLeaves geometry.now.layout (I.device image.old) (I.device image.new)
             workspace.old workspace.new self.new result }
+        ensures counted { ReadsAtMost climb_reads geometry.now.layout (I.device image.old)
+            workspace.old workspace.new (I.reads image.old) (I.reads image.new) }
     {
         if self.parent == dir {
             return Ok(());
@@ -114,6 +117,8 @@ impl Siblings {
             (λ g. IsPathOf g dir path)) }
         ensures leaves { PathLeaves geometry.now.layout (I.device image.old) (I.device image.new)
             workspace.old workspace.new self.new result }
+        ensures counted { ReadsAtMost path_reads geometry.now.layout (I.device image.old)
+            workspace.old workspace.new (I.reads image.old) (I.reads image.new) }
     {
         let Some(parent) = parent_above(workspace, dir) else {
             return directory_path(geometry, image, workspace, dir);
@@ -142,6 +147,8 @@ impl Siblings {
             (λ g. text.new.items ≡ dir_path g dir)) }
         ensures leaves { PathLeaves geometry.now.layout (I.device image.old) (I.device image.new)
             workspace.old workspace.new self.new result }
+        ensures counted { ReadsAtMost path_reads geometry.now.layout (I.device image.old)
+            workspace.old workspace.new (I.reads image.old) (I.reads image.new) }
     {
         self.path_to(geometry, image, workspace, dir)?.put(text);
         Ok(())

@@ -1,4 +1,4 @@
-use Rattle.std.proofs.Common.{◌≡◌, ◌∙◌, ◌∷◌, ap, sym, subst, arith, ℕ}
+use Rattle.std.proofs.Common.{◌≡◌, ◌<◌, ◌∙◌, ◌∷◌, ap, length, sym, subst, arith, ℕ}
 use Rattle.std.proofs.lemmas.List.{get_or_default}
 use Rattle.std.specs.Prelude.{slice_index}
 use Rattle.std.specs.Option.{unwrap_or}
@@ -7,6 +7,7 @@ use Rattle.ffs_volume.specs.Directories.Parents.{graph_of}
 use Rattle.ffs_volume.specs.Directories.Volumes.{volume_of}
 use Rattle.ffs_paths.specs.Climbing.{IsNameIn}
 use Rattle.ffs_paths.specs.Buffers.{HoldsNames}
+use Rattle.ffs_paths.proofs.Climbed.{climb_ends, climb_fails, climb_more, noted_here}
 use Rattle.ffs_paths.proofs.Keeping.{reads_then, tree_on}
 use Rattle.ffs_paths.proofs.Ways.{HasParent, way_root, way_cut, way_long, way_up, count_is}
 use Rattle.ffs_paths.proofs.climb.climb.Goals as goal
@@ -74,4 +75,24 @@ up-preserved g c =
           up.on c.push_front.new.self
           (λ following held. subst (λ n. HoldsNames c.push_front.new.self (n ∷ following)) name
           (c.push_front.ensures following held));
+      counted = λ b k knows l.
+          let t = ap (λ d. d.contents) i.reads.read ∙ knows.gives_bytes in
+          let way = i.path b knows.gives_bytes knows.claims knows.survey k l in
+          let noted = noted_here v b c.args.workspace.now c.up.workspace way.left c.up.at knows.places i.reads.lists
+          way.level c.if-at-eq-ROOTINO.false in
+          climb_more c.as_slice.result.now (i.counted b k knows l) c.if-path.false (found.counted b t noted)
+          (subst (λ name. 0 < length name) (sym c.as_slice.ensures.value) (found.some b t noted)) c.push_front.ensures;
     }
+
+-- a read failed, with names that have room
+pub returns-in_err-find_name-clause-counted : goal.returns-in_err-find_name-clause-counted
+returns-in_err-find_name-clause-counted g c = λ b k knows l.
+    let i = c.up.invariant in
+    let way = i.path b knows.gives_bytes knows.claims knows.survey k l in
+    climb_fails (i.counted b k knows l) c.if-path.false
+    (c.in_err-find_name.ensures.counted b (ap (λ d. d.contents) i.reads.read ∙ knows.gives_bytes)
+    (noted_here c.args.geometry.now.layout b c.args.workspace.now c.up.workspace way.left c.up.at knows.places
+    i.reads.lists way.level c.if-at-eq-ROOTINO.false))
+
+pub returns-clause-counted : goal.returns-clause-counted
+returns-clause-counted g c = λ b k knows l. climb_ends (c.up.invariant.counted b k knows l)

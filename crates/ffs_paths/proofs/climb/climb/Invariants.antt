@@ -1,6 +1,9 @@
-use Rattle.std.proofs.Common.{◌≡◌, ℕ, ◌<◌, ◌*◌, Some, Ok}
+use Rattle.std.proofs.Common.{◌≡◌, ℕ, ◌<◌, ◌*◌, List, Some, Ok}
 use Rattle.ffs_volume.specs.Directories.Graph.{level}
-use Rattle.ffs_paths.specs.Reads.{ForTree, OnlyReads}
+use Rattle.ffs_volume.specs.Directories.Parents.{graph_of}
+use Rattle.ffs_volume.specs.Directories.Volumes.{volume_of}
+use Rattle.ffs_paths.specs.Reads.{ForTree, KnowsPlaces, OnlyReads}
+use Rattle.ffs_paths.proofs.Climbed.{HasClimbed}
 use Rattle.ffs_paths.proofs.Ways.{IsOnWay}
 use Rattle.ffs_paths.proofs.climb.climb.Given as goal
 
@@ -11,4 +14,7 @@ invariant-up g l = let device = g.I.Image.device in record {
       (Ok tt);
   path : ForTree l.geometry.layout (device l.fn.image) l.fn.workspace
       (λ tree. (k : ℕ) → level tree l.dir ≡ Some k → IsOnWay tree k l.dir l.at l.step l.path);
+  counted : (b : List ℕ) (k : ℕ) → KnowsPlaces l.geometry.layout (device l.fn.image).contents l.fn.workspace b
+      → level (graph_of (volume_of l.geometry.layout b)) l.dir ≡ Some k
+      → HasClimbed l.step (g.I.Image.reads l.fn.image) (g.I.Image.reads l.image) l.fn.workspace l.workspace l.path;
 }

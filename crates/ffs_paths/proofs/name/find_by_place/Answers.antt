@@ -17,12 +17,12 @@ returns-clause-name g c = λ found b t claims survey parent is dir.
     let word : place_in (slice_index w.queue.items c.args.dir) ≡ suc c.in-Some.chunk =
     ap place_in (sym (c.index.ensures ∙ get_or_default w.queue.items c.args.dir c.index.result.now 0 (omega arith)))
     ∙ c.in-Some.ensures in
-    let bytes = c.copy_from_slice.ensures.after ∙ (c.bytes.ensures ∙ (c.in_ok-fill.ensures.bytes b t
+    let bytes = c.copy_from_slice.ensures.after ∙ (c.bytes.ensures ∙ (c.in_ok-fill.ensures.fills.bytes b t
     ∙ ap (λ k. piece (512 * k) 512 b) c.from.ensures)) in
-    c.find_in_chunk.ensures found ∙ (ap (λ xs. name_in c.args.dir (roled_from false 0 (entries_of v.order xs))) bytes
+    c.find_in_chunk.ensures.name found ∙ (ap (λ xs. name_in c.args.dir (roled_from false 0 (entries_of v.order xs))) bytes
     ∙ survey.places c.args.dir parent c.in-Some.chunk word is)
 
 pub returns-clause-reads : goal.returns-clause-reads
 returns-clause-reads g c =
-    let read = c.in_ok-fill.ensures in
+    let read = c.in_ok-fill.ensures.fills in
     name_read _ _ _ c.args.workspace.now c.fill.new.self _ c.requires.ready read.room read.holds read.read

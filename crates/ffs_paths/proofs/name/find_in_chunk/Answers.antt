@@ -1,13 +1,29 @@
-use Rattle.std.proofs.Common.{◌∙◌, sym, arith}
+use Rattle.std.proofs.Common.{◌≡◌, ◌<◌, ◌∙◌, None, ap, length, option_map, subst, sym, arith}
+use Rattle.std.proofs.lemmas.Bool.{both_ways}
+use Rattle.ffs_volume.specs.Directories.Entries.{entry_at}
 use Rattle.ffs_layout.specs.Entry.{entry_value}
-use Rattle.ffs_paths.proofs.ChunkNames.{chunk_here, chunk_past}
+use Rattle.ffs_paths.proofs.ChunkNames.{chunk_here, chunk_past, named_none, named_past, plain_named}
 use Rattle.ffs_paths.proofs.name.find_in_chunk.Goals as goal
 
-pub returns-then-names : goal.returns-then-names
-returns-then-names c = λ _.
+pub returns-then-names-clause-name : goal.returns-then-names-clause-name
+returns-then-names-clause-name c = λ _.
     c.set_name.ensures ∙ sym (c.entries.invariant.name ∙ chunk_here c.args.number c.args.order c.args.chunk.now
     c.entries.index c.entries.place (entry_value c.in-Some.entry) c.role_of.result c.in-Some.ensures.some
     c.role_of.ensures (sym c.names.ensures ∙ c.if-names.true))
+
+pub returns-then-names-clause-some : goal.returns-then-names-clause-some
+returns-then-names-clause-some c = λ _.
+    let named = plain_named c.args.number c.args.order c.args.chunk.now
+    c.entries.index c.entries.place (entry_value c.in-Some.entry) c.role_of.result c.told-chunk c.in-Some.ensures.some
+    c.role_of.ensures (sym c.names.ensures ∙ c.if-names.true) in
+    subst (λ name. 0 < length name) (sym c.set_name.ensures) named
+
+pub returns-clause-found : goal.returns-clause-found
+returns-clause-found c = λ h.
+    let none : entry_at c.args.order c.args.chunk.now c.entries.place ≡ None =
+    sym c.entry_at.ensures.value ∙ ap (option_map entry_value) c.in_default.is in
+    absurd (both_ways _ (c.entries.invariant.named
+    ∙ named_none c.args.number c.args.order c.args.chunk.now c.entries.index c.entries.place none) h)
 
 pub entries-preserved : goal.entries-preserved
 entries-preserved c =
@@ -17,6 +33,9 @@ entries-preserved c =
       place = omega arith;
       index = omega arith;
       name = c.entries.invariant.name ∙ chunk_past c.args.number c.args.order c.args.chunk.now c.entries.index
+          c.entries.place (entry_value c.in-Some.entry) c.role_of.result c.in-Some.ensures.some c.role_of.ensures
+          (sym c.names.ensures ∙ c.if-names.false);
+      named = c.entries.invariant.named ∙ named_past c.args.number c.args.order c.args.chunk.now c.entries.index
           c.entries.place (entry_value c.in-Some.entry) c.role_of.result c.in-Some.ensures.some c.role_of.ensures
           (sym c.names.ensures ∙ c.if-names.false);
     })

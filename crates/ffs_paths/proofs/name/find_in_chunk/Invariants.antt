@@ -1,5 +1,7 @@
 use Rattle.std.proofs.Common.{◌≡◌, ◌≤◌, ◌-◌, false}
+use Rattle.std.specs.List.{list_any}
 use Rattle.ffs_volume.specs.Directories.Entries.{entries_from}
+use Rattle.ffs_volume.specs.Directories.Graph.{is_naming_entry}
 use Rattle.ffs_volume.specs.Directories.Roles.{roled_from}
 use Rattle.ffs_paths.specs.Climbing.{name_in}
 use Rattle.ffs_paths.proofs.name.find_in_chunk.Given as goal
@@ -10,6 +12,8 @@ invariant-entries l = record {
   index : l.index ≤ l.place;
   name : name_in l.number (roled_from false 0 (entries_from l.order l.chunk 64 0))
       ≡ name_in l.number (roled_from false l.index (entries_from l.order l.chunk 64 l.place));
+  named : list_any (is_naming_entry l.number) (roled_from false 0 (entries_from l.order l.chunk 64 0))
+      ≡ list_any (is_naming_entry l.number) (roled_from false l.index (entries_from l.order l.chunk 64 l.place));
 }
 
 abbrev pub decreases-entries : goal.decreases-entries

@@ -20,3 +20,24 @@ returns-in_ok-names-clause-path g c = λ b t claims survey.
     let k = level_of G c.args.dir (sym (survey.reached c.args.dir) ∙ on) in
     subst (HoldsPath _) (sym (ap (option_map (λ n. names_down G n c.args.dir)) k.1))
     (c.if-reached.true, c.in_ok-names.ensures.path b t claims survey k.0 k.1, down_single v b k.0 c.args.dir)
+
+-- the way up is climbed, whether a read failed or not
+pub returns-in_err-names-clause-counted : goal.returns-in_err-names-clause-counted
+returns-in_err-names-clause-counted g c = λ b knows.
+    let long = c.requires.ready.made.reached in
+    let dir = c.requires.number in
+    let on = sym (c.index-reached.ensures ∙ get_or_default c.args.workspace.now.reached.items c.args.dir
+    c.index-reached.result.now false (omega arith)) ∙ c.if-reached.true in
+    let k = level_of (graph_of (volume_of c.args.geometry.now.layout b)) c.args.dir
+    (sym (knows.survey.reached c.args.dir) ∙ on) in
+    c.in_err-names.ensures.counted b k.0 knows k.1
+
+pub returns-in_ok-names-clause-counted : goal.returns-in_ok-names-clause-counted
+returns-in_ok-names-clause-counted g c = λ b knows.
+    let long = c.requires.ready.made.reached in
+    let dir = c.requires.number in
+    let on = sym (c.index-reached.ensures ∙ get_or_default c.args.workspace.now.reached.items c.args.dir
+    c.index-reached.result.now false (omega arith)) ∙ c.if-reached.true in
+    let k = level_of (graph_of (volume_of c.args.geometry.now.layout b)) c.args.dir
+    (sym (knows.survey.reached c.args.dir) ∙ on) in
+    c.in_ok-names.ensures.counted b k.0 knows k.1

@@ -1,4 +1,4 @@
-use Rattle.std.proofs.Common.{sym, subst, arith}
+use Rattle.std.proofs.Common.{◌∙◌, ap, sym, subst, arith}
 use Rattle.ffs_volume.specs.Directories.Parents.{graph_of}
 use Rattle.ffs_volume.specs.Directories.Volumes.{volume_of}
 use Rattle.ffs_paths.specs.Climbing.{IsNameIn, IsParentOf}
@@ -6,6 +6,7 @@ use Rattle.ffs_paths.specs.Reads.{ForTree}
 use Rattle.ffs_paths.specs.Siblings.{AreSiblings}
 use Rattle.ffs_paths.specs.declared.siblings.Siblings.{Siblings}
 use Rattle.ffs_paths.proofs.Children.{child_made, siblings_are}
+use Rattle.ffs_paths.proofs.Climbed.{few_then, noted_child}
 use Rattle.ffs_paths.proofs.Keeping.{leaves_kept, reads_then, tree_on}
 use Rattle.ffs_paths.proofs.siblings.Siblings.path_to.Goals as goal
 
@@ -36,4 +37,18 @@ returns g c =
           child_made (graph_of (volume_of v b)) s c.child.result (siblings b t claims survey) (omega arith)
           (rw c.as_slice.ensures.value at c.child.ensures);
       leaves = leaves_kept s (reads_then reads c.in_ok-find_name.ensures.reads) siblings;
+      counted = λ b knows. few_then (kept.counted b knows)
+          (c.in_ok-find_name.ensures.counted b (ap (λ d. d.contents) reads.read ∙ knows.gives_bytes)
+          (noted_child v _ b w c.keep_path_of.new.workspace c.args.dir first.parent knows of reads.lists));
     }
+
+-- a read of the child's name failed
+pub returns-in_err-find_name-clause-counted : goal.returns-in_err-find_name-clause-counted
+returns-in_err-find_name-clause-counted g c = λ b knows.
+    let kept = c.in_ok-keep_path_of.ensures in
+    let reads = kept.leaves.reads in
+    let of : IsParentOf c.args.workspace.now c.args.dir c.in-Some.parent = rw c.in-Some.is at c.parent_above.ensures in
+    few_then (kept.counted b knows)
+    (c.in_err-find_name.ensures.counted b (ap (λ d. d.contents) reads.read ∙ knows.gives_bytes)
+    (noted_child c.args.geometry.now.layout _ b c.args.workspace.now c.keep_path_of.new.workspace c.args.dir
+    c.in-Some.parent knows of reads.lists))
