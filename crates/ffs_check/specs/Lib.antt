@@ -4,8 +4,8 @@ pub mod Followed
 pub mod Headline
 pub mod Opening
 pub mod PhaseEnds
+pub mod ReadsWithin
 pub mod Rest
 pub mod Run
 pub mod Taken
 pub mod Words
-pub mod ReadsWithin
