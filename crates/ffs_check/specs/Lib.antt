@@ -3,8 +3,8 @@ pub mod Failures
 pub mod Headline
 pub mod Opening
 pub mod PhaseEnds
+pub mod ReadsWithin
 pub mod Rest
 pub mod Run
 pub mod Taken
 pub mod Words
-pub mod ReadsWithin

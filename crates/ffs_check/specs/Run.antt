@@ -10,6 +10,7 @@ use Rattle.ffs_volume.specs.Report.Whole.{status_of}
 use Rattle.ffs_volume.specs.Messages.Texts.{text_of}
 use Rattle.ffs_report.specs.Sink.{Sink, Took, BrokeOff}
 use Rattle.ffs_check.specs.Headline.{Headline}
+use Rattle.ffs_check.specs.ReadsWithin.{ReadsWithin}
 use Rattle.ffs_check.specs.Taken.{TakesOfSystem}
 use Rattle.ffs_check.specs.Words.{AskFor, LacksMemory, refusals}
 
@@ -22,15 +23,15 @@ abbrev pub IsPrinted : Sink → Sink → List ℕ → Type 0
 IsPrinted out out' text = Took out out' text ⊎ BrokeOff out out' text
 
 -- an image was opened under a name and checked, and the status is that of its end
-pub record IsChecked (I : Type 0) (device : I → Device) (opens : List ℕ → I
-    → Type 0) (name : List ℕ) (sector : Option ℕ)
-    (out out' : Sink) (status : ℕ) : Type 0 where
+pub record IsChecked (I : Type 0) (device : I → Device) (reads : I → ℕ) (opens : List ℕ → I → Type 0)
+    (name : List ℕ) (sector : Option ℕ) (out out' : Sink) (status : ℕ) : Type 0 where
   pub image : I
   pub image' : I
   pub opened : opens name image
   pub end : End
   pub headline : Headline (device image) (device image') name sector out out' end
   pub memory : TakesOfSystem (device image) sector end
+  pub within : ReadsWithin (device image) name sector (reads image) (reads image')
   pub status_is : status ≡ status_of end
 
 -- no image could be opened under a name
@@ -42,18 +43,18 @@ pub record IsUnopened (refuses : List ℕ → OpenFault → Type 0) (name : List
   pub status_is : status ≡ 8
 
 -- the image of a name was checked, or couldn't be opened
-abbrev pub CheckedBy : {I : Type 0} → (I → Device) → (List ℕ → I → Type 0) → (List ℕ → OpenFault → Type 0) → List ℕ
-    → Option ℕ → Sink → Sink → ℕ → Type 0
-CheckedBy {I} device opens refuses name sector out out' status =
-    IsChecked I device opens name sector out out' status ⊎ IsUnopened refuses name out out' status
+abbrev pub CheckedBy : {I : Type 0} → (I → Device) → (reads : I → ℕ) → (List ℕ → I → Type 0)
+    → (List ℕ → OpenFault → Type 0) → List ℕ → Option ℕ → Sink → Sink → ℕ → Type 0
+CheckedBy {I} device reads opens refuses name sector out out' status =
+    IsChecked I device reads opens name sector out out' status ⊎ IsUnopened refuses name out out' status
 
 -- the words ask for an image and a sector, and that image was checked at that sector, or couldn't be opened
-pub record RunsAsAsked (I : Type 0) (device : I → Device) (opens : List ℕ → I → Type 0)
+pub record RunsAsAsked (I : Type 0) (device : I → Device) (reads : I → ℕ) (opens : List ℕ → I → Type 0)
     (refuses : List ℕ → OpenFault → Type 0) (words : List (List ℕ)) (out out' : Sink) (status : ℕ) : Type 0 where
   pub name : List ℕ
   pub sector : Option ℕ
   pub asked : AskFor words name sector
-  pub checked : CheckedBy device opens refuses name sector out out' status
+  pub checked : CheckedBy device reads opens refuses name sector out out' status
 
 -- the words are wrong, or ask for the help or the version: nothing is printed to the output
 pub record IsRefused (words : List (List ℕ)) (out out' : Sink) (status : ℕ) : Type 0 where
@@ -68,10 +69,10 @@ pub record HasNoWords (words : List (List ℕ)) (out out' : Sink) (status : ℕ)
   pub status_is : status ≡ 8
 
 -- how a run ends
-abbrev pub RunEnds : {I : Type 0} → (I → Device) → (List ℕ → I → Type 0) → (List ℕ → OpenFault → Type 0)
-    → List (List ℕ) → Sink → Sink → ℕ → Type 0
-RunEnds {I} device opens refuses words out out' status =
-    RunsAsAsked I device opens refuses words out out' status ⊎ (IsRefused words out out' status
+abbrev pub RunEnds : {I : Type 0} → (I → Device) → (reads : I → ℕ) → (List ℕ → I → Type 0)
+    → (List ℕ → OpenFault → Type 0) → List (List ℕ) → Sink → Sink → ℕ → Type 0
+RunEnds {I} device reads opens refuses words out out' status =
+    RunsAsAsked I device reads opens refuses words out out' status ⊎ (IsRefused words out out' status
     ⊎ HasNoWords words out out' status)
 
 -- a writer was flushed after a run with a status: the status stays where the flush succeeded, and is 8 where it failed
@@ -96,7 +97,7 @@ FlushedAfter was_flushed contents old new ran_status status =
     IsUnprinted old new ran_status status ⊎ IsFlushed was_flushed contents old new ran_status status
 
 -- the same over a writer, which is flushed after the run
-pub record RanOver {I S : Type 0} (device : I → Device) (opens : List ℕ → I → Type 0)
+pub record RanOver {I S : Type 0} (device : I → Device) (reads : I → ℕ) (opens : List ℕ → I → Type 0)
     (refuses : List ℕ → OpenFault → Type 0) (was_flushed : S → Result (Unit {0}) Error → S → Type 0)
     (contents : S → Option (List ℕ)) (words : List (List ℕ)) (old new : S) (status : ℕ) : Type 0 where
   pub out : Sink
@@ -106,5 +107,5 @@ pub record RanOver {I S : Type 0} (device : I → Device) (opens : List ℕ → 
   pub unfailed : out.failures ≡ 0
   pub after : out'.taken ≡ contents between
   pub ran_status : ℕ
-  pub ran : RunEnds device opens refuses words out out' ran_status
+  pub ran : RunEnds device reads opens refuses words out out' ran_status
   pub flushed : FlushedAfter was_flushed contents between new ran_status status

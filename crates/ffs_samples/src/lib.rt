@@ -229,6 +229,8 @@ impl<I: Image + Drop> Watched<I> {
 impl<I: Image + Drop> Image for Watched<I> {
     ghost device = { λ w. I.device w.inner };
 
+    ghost reads = { λ w. I.reads w.inner };
+
     ghost sized = { λ w. I.sized w.inner };
 
     fn size(&self) -> u64 {

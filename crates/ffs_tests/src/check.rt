@@ -63,19 +63,19 @@ const WORDS: Args<'static> = Args {
     sector: None,
 };
 
-// The volume with a root alone, and one number more.
-fn volume(order: Order, number: Number, alloc: Global) -> Result<MemoryImage, AllocError> {
+/// The volume with a root alone, and these numbers more.
+pub fn volume(order: Order, more: &[Number], alloc: Global) -> Result<MemoryImage, AllocError> {
     let mut bytes = base(order, alloc)?;
     put(order, bytes.as_mut_slice(), &ROOT);
     for (place, text) in BYTES {
         put_bytes(bytes.as_mut_slice(), place, text);
     }
-    put(order, bytes.as_mut_slice(), &[number]);
+    put(order, bytes.as_mut_slice(), more);
     Ok(MemoryImage::new(bytes))
 }
 
-// How a check of an image ends, and what it prints.
-fn checked<I: Image>(image: &mut I, alloc: Global) -> (End, Vec<u8>) {
+/// How a check of an image ends, and what it prints.
+pub fn checked<I: Image>(image: &mut I, alloc: Global) -> (End, Vec<u8>) {
     let mut text = Vec::new(alloc);
     let end = check(alloc, image, &WORDS, &mut Counted::new(&mut text));
     (end, text)
@@ -83,7 +83,7 @@ fn checked<I: Image>(image: &mut I, alloc: Global) -> (End, Vec<u8>) {
 
 // The same of the volume with a root alone, and one number more.
 fn checked_with(order: Order, number: Number, alloc: Global) -> Result<(End, Vec<u8>), AllocError> {
-    let mut image = volume(order, number, alloc)?;
+    let mut image = volume(order, &[number], alloc)?;
     Ok(checked(&mut image, alloc))
 }
 
@@ -114,13 +114,13 @@ fn defects_and_a_stop(rt: HostRuntime) -> Result<(), Fail> {
 
 // The root's chunk, in sector 72, can't be read.
 fn checked_unreadable(alloc: Global) -> Result<(End, Vec<u8>), AllocError> {
-    let inner = volume(Order::Little, (0, 1, 0), alloc)?;
+    let inner = volume(Order::Little, &[], alloc)?;
     Ok(checked(&mut FuseImage::touching(inner, 72), alloc))
 }
 
 // The output stops after twenty bytes.
 fn checked_unwritable(alloc: Global) -> Result<(End, Vec<u8>), AllocError> {
-    let mut image = volume(Order::Little, (0, 1, 0), alloc)?;
+    let mut image = volume(Order::Little, &[], alloc)?;
     let mut writer = FuseWriter::new(Vec::new(alloc), 20);
     let end = check(alloc, &mut image, &WORDS, &mut Counted::new(&mut writer));
     Ok((end, writer.into_inner()))

@@ -12,3 +12,5 @@ mod files;
 mod image;
 #[cfg(test)]
 mod memory;
+#[cfg(test)]
+mod reads;

@@ -1,4 +1,4 @@
-use Rattle.std.proofs.Common.{inl, inr, false}
+use Rattle.std.proofs.Common.{arith, inl, inr, false}
 use Rattle.ffs_layout.specs.Super.{seen}
 use Rattle.ffs_volume.specs.Directories.PathnameCheck.{continues_after_root}
 use Rattle.ffs_volume.specs.Report.Whole.{phase_lines}
@@ -33,3 +33,9 @@ returns-in-Err-clause-refused g c e = c.in-Err.ensures.asks.rose
 
 pub returns-in-Err-clause-asked : goal.returns-in-Err-clause-asked
 returns-in-Err-clause-asked g c = inr c.in-Err.ensures.asks
+
+pub returns-in-Ok-clause-reads : goal.returns-in-Ok-clause-reads
+returns-in-Ok-clause-reads g c = λ bytes t. c.run_rest.ensures.reads bytes (t, c.in-Ok.ensures.new.fresh)
+
+pub returns-in-Err-clause-reads : goal.returns-in-Err-clause-reads
+returns-in-Err-clause-reads g c = λ bytes t numbered. omega arith

@@ -3,6 +3,7 @@ use Rattle.ffs_report.specs.Progress.{progress}
 use Rattle.ffs_check.proofs.Counting.{reads_failed, writes_failed}
 use Rattle.ffs_check.proofs.Follows.{found_ends, not_refused}
 use Rattle.ffs_check.proofs.Headlines.{opening_ends, headline_at}
+use Rattle.ffs_check.proofs.Reading.{found_within, opened_within}
 use Rattle.ffs_check.proofs.Taken.{takes, opened_for_memory}
 use Rattle.ffs_check.proofs.check.check_in.Goals as goal
 
@@ -44,3 +45,11 @@ returns-in-Err-clause-memory g c = inl refl
 
 pub returns-in-Err-clause-refused : goal.returns-in-Err-clause-refused
 returns-in-Err-clause-refused g c e = absurd (opened_for_memory _ _ _ _ _ _ _ c.in-Err.ensures.opened e)
+
+pub returns-in-Err-clause-reads : goal.returns-in-Err-clause-reads
+returns-in-Err-clause-reads g c = opened_within _ _ _ _ _ c.in-Err.ensures.reads
+
+pub returns-in-Ok-clause-reads : goal.returns-in-Ok-clause-reads
+returns-in-Ok-clause-reads g c =
+    found_within _ _ _ _ _ _ c.in-Ok.found _ _ _ c.in-Ok.ensures.opened c.in-Ok.ensures.reads
+    c.check_found.ensures.reads

@@ -1,0 +1,128 @@
+-- How often a check reads its image.
+use Rattle.std.proofs.Common.{◌≡◌, ◌≤◌, ◌<◌, ◌+◌, ◌-◌, ◌*◌, ◌^◌, ℕ, Bool, true, List, [], ◌∷◌, ◌++◌, length, map}
+use Rattle.std.proofs.Common.{ap, ◌∙◌, sym, refl, subst, arith, Option, Some, Result, Ok, Err}
+use Rattle.std.proofs.lemmas.List.{length-append, length-map}
+use Rattle.ffs_image.specs.Device.{Device, ForContents}
+use Rattle.ffs_volume.specs.declared.Layout.{Layout}
+use Rattle.ffs_volume.specs.declared.SuperFault.{SuperFault}
+use Rattle.ffs_volume.specs.Directories.Connectivity.{connectivity_lines}
+use Rattle.ffs_volume.specs.Directories.PathnameCheck.{continues_after_root, pathname_lines}
+use Rattle.ffs_volume.specs.Directories.ReferenceCheck.{reference_lines}
+use Rattle.ffs_volume.specs.Directories.Volumes.{volume_of}
+use Rattle.ffs_volume.specs.Disk.Outcome.{outcome}
+use Rattle.ffs_volume.specs.Disk.Superblock.{Superblock}
+use Rattle.ffs_volume.specs.Messages.Kinds.{Message, of_tree}
+use Rattle.ffs_volume.specs.Report.Memory.{runs_limit}
+use Rattle.ffs_volume.specs.Report.Reads.{group_reads, opening_reads, pathname_reads, phase_reads, reads_limit, sweep_reads}
+use Rattle.ffs_volume.specs.Report.Whole.{phase_lines, report_of}
+use Rattle.ffs_layout.specs.declared.superblock.Super.{Super}
+use Rattle.ffs_layout.specs.Super.{ReadsSuper, seen}
+use Rattle.ffs_report.specs.Progress.{Progress}
+use Rattle.ffs_phase.specs.Known.{ForBytes, IsContents}
+use Rattle.ffs_workspace.specs.Places.{AreChunksNumbered}
+use Rattle.ffs_check.specs.Headline.{opened_lines}
+use Rattle.ffs_check.specs.Opening.{SaysOpening}
+use Rattle.ffs_check.specs.ReadsWithin.{PhasesReadWithin, ReadsWithin}
+use Rattle.ffs_check.specs.Rest.{phase1_part, phase1b_part, phase2_part, phase3_part, phase4_part, from_phase5}
+use Rattle.ffs_check.specs.Rest.{from_phase1b, from_phase2, after_phase2, from_phase3, from_phase4}
+use Rattle.ffs_check.proofs.Headlines.{whole_there}
+use Rattle.ffs_check.proofs.Joins.{text_parts}
+use Rattle.ffs_check.proofs.Openings.{found_of, unfailed_of}
+
+-- the messages of phase 2, and of what follows it, are among those of the phases
+pub names_among : (bytes : List ℕ) (s : Superblock) →
+    length (pathname_lines (volume_of s.layout bytes))
+    + length (after_phase2 (continues_after_root (volume_of s.layout bytes)) bytes s)
+    ≤ length (phase_lines bytes s)
+names_among bytes s =
+    let names = pathname_lines (volume_of s.layout bytes) in
+    let later = after_phase2 (continues_after_root (volume_of s.layout bytes)) bytes s in
+    let parts = ap length (text_parts bytes s) in
+    let first = length-append (phase1_part bytes s) (from_phase1b bytes s) in
+    let again = length-append (phase1b_part bytes s) (from_phase2 bytes s) in
+    let named = length-append (phase2_part bytes s) later in
+    let many = length-map names of_tree in
+    omega (arith, parts, first, again, named, many)
+
+-- so are those of phases 3 and 4
+pub later_among : (bytes : List ℕ) (s : Superblock) → continues_after_root (volume_of s.layout bytes) ≡ true →
+    length (pathname_lines (volume_of s.layout bytes)) + (length (connectivity_lines (volume_of s.layout bytes))
+    + length (reference_lines (volume_of s.layout bytes))) ≤ length (phase_lines bytes s)
+later_among bytes s goes =
+    let links = connectivity_lines (volume_of s.layout bytes) in
+    let counts = reference_lines (volume_of s.layout bytes) in
+    let on : length (after_phase2 (continues_after_root (volume_of s.layout bytes)) bytes s)
+    ≡ length (from_phase3 bytes s) = ap (λ go. length (after_phase2 go bytes s)) goes in
+    let first = length-append (phase3_part bytes s) (from_phase4 bytes s) in
+    let second = length-append (phase4_part bytes s) (from_phase5 bytes s) in
+    omega (arith, names_among bytes s, on, first, second, length-map links of_tree, length-map counts of_tree)
+
+-- more messages, more reads
+pub names_more : (v : Layout) (n m : ℕ) → n ≤ m → pathname_reads v n ≤ pathname_reads v m
+names_more v n m h = omega (arith, h)
+
+pub phases_more : (v : Layout) (n m : ℕ) → n ≤ m → phase_reads v n ≤ phase_reads v m
+phases_more v n m h = omega (arith, h)
+
+-- phase 1, and then phase 1b or nothing
+pub scanned_reads : (v : Layout) (reads first again runs : ℕ) → first ≤ reads + v.ncg * v.ipg + runs →
+    runs ≤ runs_limit v → again ≤ first + sweep_reads v → again ≤ reads + 2 * sweep_reads v
+scanned_reads v reads first again runs one most two = omega (arith, one, most, two)
+
+pub scanned_within : (v : Layout) (lines reads now : ℕ) → now ≤ reads + 2 * sweep_reads v →
+    now ≤ reads + phase_reads v lines
+scanned_within v lines reads now h = omega (arith, h)
+
+-- phase 2
+pub named_reads : (v : Layout) (names lines reads again now : ℕ) → again ≤ reads + 2 * sweep_reads v →
+    now ≤ again + pathname_reads v names → names ≤ lines →
+    now ≤ reads + 2 * sweep_reads v + pathname_reads v lines
+named_reads v names lines reads again now before h among = omega (arith, before, h, names_more v names lines among)
+
+-- phases 3 to 5
+pub later_within : (v : Layout) (lines some reads before now : ℕ) →
+    before ≤ reads + 2 * sweep_reads v + pathname_reads v lines → now ≤ before + some + group_reads v →
+    some ≤ lines → now ≤ reads + phase_reads v lines
+later_within v lines some reads before now named h among = omega (arith, named, h, among)
+
+-- the messages of the phases are among those of the report
+report_among : (bytes name : List ℕ) (sector : Option ℕ) (s : Superblock) → Ok s ≡ outcome bytes sector →
+    length (phase_lines bytes s) ≤ length (report_of bytes name sector)
+report_among bytes name sector s accepted =
+    let whole = ap length (whole_there bytes name sector s (phase_lines bytes s) accepted refl) in
+    omega (arith, whole, length-append (opened_lines name sector s) (phase_lines bytes s))
+
+-- a superblock was accepted, and the phases follow, or nothing is read any more
+pub found_within : (image on : Device) (name : List ℕ) (sector : Option ℕ) (start p : Progress) (found : Super)
+    (reads between reads' : ℕ) → SaysOpening image on start p name sector (Ok found) → between ≤ reads + opening_reads →
+    ForBytes (IsContents on.contents) (λ bytes. PhasesReadWithin (seen found) bytes between reads') →
+    ReadsWithin image name sector reads reads'
+found_within image on name sector start p found reads between reads' o opened follows =
+    let answers = subst (λ r. ReadsSuper image on sector r) o.ends.1 o.answers in
+    let still = unfailed_of image on sector (seen found) answers in
+    let is = found_of image on sector (seen found) answers in
+    record {
+      refused = λ bytes t fault e. let no : Ok (seen found) ≡ Err fault = is bytes t ∙ e in absurd (cc);
+      accepted = λ bytes t s e numbered.
+          let same : seen found ≡ s = ap (λ r. found_or r s) (is bytes t ∙ e) in
+          let within : PhasesReadWithin s bytes between reads' =
+          subst (λ x. PhasesReadWithin x bytes between reads') same (follows bytes (ap (λ d. d.contents) still ∙ t)) in
+          omega (
+            arith,
+            opened,
+            within numbered,
+            phases_more s.layout _ _ (report_among bytes name sector s (sym e)),
+          );
+    }
+  where
+    found_or : Result Superblock SuperFault → Superblock → Superblock
+    found_or (Ok s) d = s
+    found_or (Err fault) d = d
+
+-- nothing was read but the superblock and its last copy
+pub opened_within : (image : Device) (name : List ℕ) (sector : Option ℕ) (reads reads' : ℕ) →
+    reads' ≤ reads + opening_reads → ReadsWithin image name sector reads reads'
+opened_within image name sector reads reads' opened = record {
+  refused = λ bytes t fault e. opened;
+  accepted = λ bytes t s e numbered. omega (arith, opened);
+}
