@@ -9,7 +9,7 @@ use Rattle.ffs_workspace.proofs.Leaving.{claims_left, survey_left, leaves_more, 
 use Rattle.ffs_pathnames.specs.Gathers.{marks_of}
 use Rattle.ffs_pathnames.proofs.Passed.{passes}
 use Rattle.ffs_pathnames.proofs.SeesLaws.{sees}
-use Rattle.ffs_pathnames.proofs.StampLaws.{places_kept, windows_keep, keep_more}
+use Rattle.ffs_pathnames.proofs.StampLaws.{keep_more, places_kept, windows_keep}
 use Rattle.ffs_paths.proofs.Keeping.{siblings_on}
 use Rattle.ffs_pathnames.proofs.entries.report_entry.Goals as goal
 
@@ -98,3 +98,8 @@ returns-clause-marks g c = λ b k.
     (c.pass.ensures.after (volume_of v b) shows)
     (with_items_is here.flags c.pass.new.flags (c.pass.auto.flags ∙ c.as_mut_slice.ensures.len))
     refl
+
+pub returns-clause-counted : goal.returns-clause-counted
+returns-clause-counted g c = λ b k noted.
+    let said = c.in_ok-say_entry.ensures.counted b k noted in
+    record { count = said.count; blocks = said.blocks }
