@@ -157,8 +157,8 @@ pub fn report_chunk<I: Image, W: Output>(
     ensures counted { ReadsByLines geometry.now.layout
         (DirectoryContext geometry.now.layout (I.device image.old).contents workspace.old dir)
         (λ b. marks.entries_reported (volume_of geometry.now.layout b) dir (marks_of workspace.old)
-        (roled_from first 0 (entries_of geometry.now.layout.order chunk.now))) workspace.old workspace.new
-        (I.reads image.old) (I.reads image.new) }
+        (roled_from first 0 (entries_of geometry.now.layout.order chunk.now)))
+        workspace.old workspace.new (I.reads image.old) (I.reads image.new) }
 {
     let order = geometry.layout.order;
     let mut place = 0usize;
