@@ -16,7 +16,7 @@ use Rattle.ffs_volume.specs.Blocks.Claims.{after_steps, after_owner, after_owner
 use Rattle.ffs_volume.specs.Laws.ClaimBounds.{used_bits}
 use Rattle.ffs_volume.specs.Blocks.BlockCheck.{Offer}
 use Rattle.ffs_volume.specs.Report.Whole.{run_count}
-use Rattle.ffs_volume.proofs.Weights.{cond_holds, owner_moves}
+use Rattle.ffs_volume.proofs.Potentials.{cond_holds, owner_moves}
 use Rattle.ffs_workspace.specs.Lengths.{set_count}
 use Rattle.ffs_claims.specs.Reporting.{after_first}
 use Rattle.ffs_claims.specs.SecondLook.{step_runs, steps_runs, owners_runs, looked_at, second_look}
@@ -94,7 +94,7 @@ inodes_move v image s (x ∷ xs) g h =
     let more = inodes_move v image (after_owner v s (owner_of v image x)) xs g (one.used_length ∙ h) in
     let few = one.bad_cap (omega arith) in
     let few_dups = one.dups_cap (omega arith) in
-    (omega (arith, one.weighs, more.0, few, few_dups), more.1)
+    (omega (arith, one.few_runs, more.0, few, few_dups), more.1)
 
 pub look_fits : (v : Layout) (bytes : List ℕ) → IsAcceptedLayout v → second_look v bytes < 2 ^ 64
 unfolding run_count owners_of no_claims reserved_map

@@ -25,8 +25,8 @@ use ffs_volume::constants::{LINKS_MET, ROOTINO};
 use ffs_volume::kinds::Kind;
 use ffs_workspace::Workspace;
 
-// Whether an inode is dead: marked or a directory of size 0, not the root, and named by no plain
-// entry.
+/// Whether an inode is dead: marked or a directory of size 0, not the root, and named by no plain
+/// entry.
 fn is_dead(workspace: &Workspace, number: u32) -> bool
     requires { HasPlace workspace.now number }
     ensures { result ≡ is_dead_by workspace.now number }
@@ -39,8 +39,8 @@ fn is_dead(workspace: &Workspace, number: u32) -> bool
     suspect && number != ROOTINO && !workspace.named[place]
 }
 
-// Whether nothing is reported of an inode that is allocated: it isn't dead, and each of its links
-// has a reference.
+/// Whether nothing is reported of an inode that is allocated: it isn't dead, and each of its links
+/// has a reference.
 fn is_right(workspace: &Workspace, number: u32) -> bool
     requires { HasPlace workspace.now number }
     ensures { result ≡ is_met workspace.now number }
@@ -51,7 +51,7 @@ fn is_right(workspace: &Workspace, number: u32) -> bool
 /// How many free inodes are passed over at once.
 const FREE_RUN: usize = 64;
 
-// How many inodes from one on are passed over, since they are free: 64, or only the first, or none.
+/// How many inodes from one on are passed over, since they are free: 64, or only the first, or none.
 fn free_run(kinds: &[u8], first: usize) -> usize
     requires { first < length kinds.now }
     ensures { IsFreeRun kinds.now first result }
@@ -68,7 +68,7 @@ fn free_run(kinds: &[u8], first: usize) -> usize
     }
 }
 
-// Reports what is wrong with an allocated inode. It is read only where it has a line.
+/// Reports what is wrong with an allocated inode. It is read only where it has a line.
 fn check_inode<I: Image, W: Output>(
     workspace: &mut Workspace,
     geometry: &Geometry,

@@ -22,7 +22,7 @@ use Rattle.ffs_volume.specs.Messages.Kinds.{TreeMessage, of_tree, lines_from}
 use Rattle.ffs_volume.specs.Report.Memory.{runs_limit}
 use Rattle.ffs_volume.specs.Report.Whole.{run_count}
 use Rattle.ffs_volume.proofs.Numbered.{from_next}
-use Rattle.ffs_volume.proofs.Weights.{owner_moves}
+use Rattle.ffs_volume.proofs.Potentials.{owner_moves}
 use Rattle.ffs_names.specs.Costs.{directory_cost, directory_runs}
 use Rattle.ffs_pathnames.specs.Begins.{dir_starts}
 use Rattle.ffs_pathnames.proofs.Begun.{lines_parts}
@@ -65,7 +65,7 @@ inodes_move v image s (x ∷ xs) g h =
     let more = inodes_move v image (after_owner v s (owner_of v image x)) xs g (one.used_length ∙ h) in
     let few = one.bad_cap (omega arith) in
     let few_dups = one.dups_cap (omega arith) in
-    (omega (arith, one.weighs, more.0, few, few_dups), more.1)
+    (omega (arith, one.few_runs, more.0, few, few_dups), more.1)
 
 -- so the Runs that are seen are bounded
 pub runs_bounded : (v : Layout) (image : List ℕ) → IsAcceptedLayout v → run_count v image ≤ runs_limit v

@@ -20,7 +20,7 @@ mod dup_line;
 mod fuse;
 mod line;
 mod line_buffer;
-mod names;
+mod tree_lines;
 mod outlet;
 mod output;
 mod piece;

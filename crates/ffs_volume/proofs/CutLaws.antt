@@ -12,7 +12,7 @@ use Rattle.ffs_volume.specs.Blocks.Steps.{steps_of}
 use Rattle.ffs_volume.specs.Blocks.Owners.{owner_of}
 use Rattle.ffs_volume.specs.Blocks.Claims.{Claims, no_claims, reserved_map, at_next_inode, after_steps, after_owner}
 use Rattle.ffs_volume.specs.Blocks.Claims.{after_owners}
-use Rattle.ffs_volume.proofs.Weights.{owner_moves, kept_bound}
+use Rattle.ffs_volume.proofs.Potentials.{owner_moves, kept_bound}
 use Rattle.ffs_volume.specs.Blocks.KeptSteps.{claims_before, kept_steps_of}
 use Rattle.ffs_volume.specs.Directories.Volumes.{is_inode_number, kept_steps_of_inode}
 use Rattle.ffs_volume.specs.Encodings.Replay.{cut_of, cut_at, fresh_replay, replayed_steps}

@@ -17,7 +17,7 @@ use Rattle.ffs_volume.specs.Blocks.Claims.{Claims, no_claims, reserved_map, at_n
 use Rattle.ffs_volume.specs.Blocks.KeptSteps.{claims_before}
 use Rattle.ffs_volume.specs.Directories.Volumes.{class_at, is_inode_number}
 use Rattle.ffs_volume.specs.Encodings.Replay.{cut_of, cut_at}
-use Rattle.ffs_volume.proofs.Weights.{owner_moves, kept_bound}
+use Rattle.ffs_volume.proofs.Potentials.{owner_moves, kept_bound}
 use Rattle.ffs_volume.proofs.CutLaws.{cut_is}
 use Rattle.ffs_workspace.specs.Notes.{first_noted, noted_below, has_one_chunk, note_of, note_at, cut_in}
 

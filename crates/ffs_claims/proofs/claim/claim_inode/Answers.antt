@@ -10,7 +10,7 @@ use Rattle.ffs_workspace.specs.Holds.{claims_of}
 use Rattle.ffs_claims.specs.Leaves.{Stored}
 use Rattle.ffs_claims.specs.Lines.{of_lines, owner_with}
 use Rattle.ffs_claims.proofs.Inodes.{owner_is, ok_then, ok_where}
-use Rattle.ffs_claims.proofs.Weights.{used_below}
+use Rattle.ffs_claims.proofs.Potentials.{used_below}
 use Rattle.ffs_workspace.proofs.Readiness.{ready_table}
 use Rattle.ffs_claims.proofs.claim.claim_inode.Goals as goal
 

@@ -8,7 +8,7 @@ use Rattle.ffs_volume.specs.Laws.Geometry.{IsAcceptedLayout}
 use Rattle.ffs_volume.specs.Blocks.Owners.{owner_of, owners_of, inode_numbers}
 use Rattle.ffs_volume.specs.Blocks.Claims.{Claims, no_claims, after_owner, after_owners}
 use Rattle.ffs_volume.specs.Laws.ClaimBounds.{used_bits}
-use Rattle.ffs_volume.proofs.Weights.{owner_moves}
+use Rattle.ffs_volume.proofs.Potentials.{owner_moves}
 use Rattle.ffs_volume.specs.Report.Whole.{run_count}
 use Rattle.ffs_certificate.specs.Bounded.{ClaimsAreBounded}
 use Rattle.ffs_certificate.proofs.BlocksSilent.{reserved_length}
@@ -24,7 +24,7 @@ inodes_move v image s (x ∷ xs) g h =
     let more = inodes_move v image (after_owner v s (owner_of v image x)) xs g (one.used_length ∙ h) in
     let few = one.bad_cap (omega arith) in
     let few_dups = one.dups_cap (omega arith) in
-    (omega (arith, one.weighs, more.0, few, few_dups), more.1)
+    (omega (arith, one.few_runs, more.0, few, few_dups), more.1)
 
 pub claims_bounded : ClaimsAreBounded
 unfolding run_count owners_of no_claims
