@@ -18,7 +18,7 @@ use Rattle.ffs_report.specs.Sink.{Sink}
 use Rattle.ffs_report.specs.Progress.{Progress, Said, Stopped, starts}
 use Rattle.ffs_layout.specs.declared.superblock.Super.{Super}
 use Rattle.ffs_layout.specs.Super.{ReadsSuper, superblock_in}
-use Rattle.ffs_phase.specs.Known.{IsContents}
+use Rattle.ffs_report.specs.Known.{IsContents}
 use Rattle.ffs_check.specs.Ends.{Ends}
 use Rattle.ffs_check.specs.Opening.{SaysOpening}
 use Rattle.ffs_check.specs.PhaseEnds.{IsCutByRead, IsEndByRoot, SaysRefusal}

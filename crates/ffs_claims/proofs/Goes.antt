@@ -21,9 +21,9 @@ use Rattle.ffs_volume.proofs.Potentials.{in_range_below}
 use Rattle.ffs_volume.specs.Messages.Kinds.{Message, of_blocks}
 use Rattle.ffs_report.specs.Progress.{Progress, Said, Stopped}
 use Rattle.ffs_report.proofs.Reports.{stopped_more, said_then, stopped_after}
-use Rattle.ffs_phase.specs.Known.{ForBytes}
-use Rattle.ffs_phase.specs.Runs.{SaidOf, SaidTo}
-use Rattle.ffs_phase.proofs.Reporting.{of_says, of_same}
+use Rattle.ffs_report.specs.Known.{ForBytes}
+use Rattle.ffs_report.specs.Runs.{SaidOf, SaidTo}
+use Rattle.ffs_report.proofs.Reporting.{of_says, of_same}
 use Rattle.ffs_claims.specs.Lines.{of_lines, is_dup, bad_lines}
 
 pub lines_append : (xs ys : List BlockMessage) → of_lines (xs ++ ys) ≡ of_lines xs ++ of_lines ys

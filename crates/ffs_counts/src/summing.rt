@@ -10,7 +10,7 @@ ghost use Rattle.ffs_layout.specs.Super.{superblock_in};
 ghost use Rattle.ffs_maps.specs.Bits.{bits_of};
 ghost use Rattle.ffs_report.specs.Lines.{message_of};
 ghost use Rattle.ffs_report.specs.Progress.{progress};
-ghost use Rattle.ffs_phase.specs.Runs.{PhaseRuns};
+ghost use Rattle.ffs_report.specs.Runs.{PhaseRuns};
 ghost use Rattle.ffs_image.specs.Device.{Device};
 ghost use Rattle.ffs_groups.specs.Inodes.{class_in};
 ghost use Rattle.ffs_workspace.specs.Holds.{HoldsClaims};
@@ -19,8 +19,7 @@ ghost use Rattle.ffs_counts.specs.Reserved.{HasReserved, used_in};
 
 use ffs_layout::{Geometry, Super};
 use ffs_maps::FragmentMap;
-use ffs_phase::RunFault;
-use ffs_report::{Line, Output, Report};
+use ffs_report::{Line, Output, Report, RunFault};
 use ffs_volume::kinds::Kind;
 use ffs_workspace::Workspace;
 

@@ -5,7 +5,7 @@ use Rattle.ffs_volume.specs.Blocks.Inodes.{class_of}
 use Rattle.ffs_volume.specs.Blocks.Owners.{Owner, owner_of}
 use Rattle.ffs_volume.specs.Blocks.BlockCheck.{owner_lines}
 use Rattle.ffs_volume.specs.Blocks.Claims.{after_owner}
-use Rattle.ffs_phase.proofs.Reporting.{of_begins, of_reads, reports_same, reports_knowing}
+use Rattle.ffs_report.proofs.Reporting.{of_begins, of_reads, reports_same, reports_knowing}
 use Rattle.ffs_workspace.specs.Holds.{claims_of}
 use Rattle.ffs_claims.specs.Leaves.{Stored}
 use Rattle.ffs_claims.specs.Lines.{of_lines, owner_with}

@@ -7,7 +7,7 @@ use Rattle.ffs_volume.specs.Blocks.Steps.{steps_of}
 use Rattle.ffs_volume.specs.Blocks.BlockCheck.{count_lines, owner_lines}
 use Rattle.ffs_volume.specs.Blocks.Claims.{Claims, lines_of_steps, after_steps}
 use Rattle.ffs_volume.proofs.Potentials.{kept_bound}
-use Rattle.ffs_phase.proofs.Reporting.{of_part, of_fault, of_says, of_stops, of_begins, of_same}
+use Rattle.ffs_report.proofs.Reporting.{of_part, of_fault, of_says, of_stops, of_begins, of_same}
 use Rattle.ffs_volume.specs.Laws.ClaimBounds.{used_bits}
 use Rattle.ffs_workspace.specs.Holds.{claims_of}
 use Rattle.ffs_claims.specs.Lines.{of_lines, counted_owner, owner_with}
