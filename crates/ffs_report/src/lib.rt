@@ -26,7 +26,6 @@ mod fault;
 mod fuse;
 mod line;
 mod line_buffer;
-mod tree_lines;
 mod outlet;
 mod output;
 mod piece;
@@ -34,6 +33,7 @@ pub mod print;
 mod report;
 mod say;
 mod silent;
+mod tree_lines;
 
 pub use counted::Counted;
 pub use fault::RunFault;
