@@ -25,7 +25,7 @@ owners_length v image s [] g h = h
 owners_length v image s (x ∷ xs) g h = owners_length v image (after_owner v s (owner_of v image x)) xs g
     ((owner_moves v image s x g h).used_length ∙ h)
 
-before_length : (v : Layout) (image : List ℕ) (x : ℕ) → IsAcceptedLayout v → length (claims_before v image x).used ≡
+pub before_length : (v : Layout) (image : List ℕ) (x : ℕ) → IsAcceptedLayout v → length (claims_before v image x).used ≡
     v.size
 unfolding claims_before no_claims reserved_map
 before_length v image x g = owners_length v image (no_claims v) (range_with_len 2 (x - 2)) g

@@ -17,6 +17,7 @@ pub mod AreaLaws
 pub mod RunLaws
 pub mod StepLaws
 pub mod Potentials
+pub mod RunBounds
 pub mod CutLaws
 pub mod ChunkLaws
 pub mod Pigeon
