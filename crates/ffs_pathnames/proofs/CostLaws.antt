@@ -22,7 +22,6 @@ use Rattle.ffs_volume.specs.Messages.Kinds.{TreeMessage, of_tree, lines_from}
 use Rattle.ffs_volume.specs.Report.Memory.{runs_limit}
 use Rattle.ffs_volume.specs.Report.Whole.{run_count}
 use Rattle.ffs_volume.proofs.Numbered.{from_next}
-use Rattle.ffs_volume.proofs.Potentials.{owner_moves}
 use Rattle.ffs_names.specs.Costs.{directory_cost, directory_runs}
 use Rattle.ffs_pathnames.specs.Begins.{dir_starts}
 use Rattle.ffs_pathnames.proofs.Begun.{lines_parts}
