@@ -54,7 +54,8 @@ next_long lines d n h = lines_long (lines_from lines d (n - d)) (lines d) (lines
     (from_next lines d n h)
 
 -- reads so far, where a directory is checked, of k for each line and p for each path
-pub checked_on : (k p n reads reads' more costs cost before here there all : ℕ) → reads' ≤ reads + (2 * cost + p + k * here)
+pub checked_on : (k p n reads reads' more costs cost before here there all : ℕ)
+    → reads' ≤ reads + (2 * cost + p + k * here)
     → reads + k * (here + there) ≤ before + (more + 2 * costs + p * n + k * all)
     → reads' + k * there ≤ before + (more + 2 * (costs + cost) + p * (n + 1) + k * all)
 checked_on k p n reads reads' more costs cost before here there all one so_far = omega arith
