@@ -12,7 +12,7 @@ use Rattle.ffs_volume.specs.Directories.Roles.{Volume, is_dir, is_inode, is_allo
 use Rattle.ffs_volume.specs.Directories.Roles.{references}
 use Rattle.ffs_volume.specs.Directories.Climb.{is_value}
 use Rattle.ffs_volume.proofs.ClimbLaws.{is_value-true}
-use Rattle.ffs_volume.specs.Directories.Graph.{Graph, parent, parent_entry_index, is_lost, reached, NamedOnce}
+use Rattle.ffs_volume.specs.Directories.Graph.{Graph, parent, parent_entry_index, is_lost, reached, IsNamedOnce}
 use Rattle.ffs_volume.proofs.Graphs.{AllReached, NoExtraneous}
 use Rattle.ffs_volume.proofs.Unreached.{lost-true}
 use Rattle.ffs_certificate.proofs.Lost.{silent-reached}
@@ -131,7 +131,7 @@ no_extraneous v vol un q s j d t h =
     (is_value-true (parent (graph_of v) d) s both.0, is_value-true (parent_entry_index (graph_of v) d) j both.1)
 
 -- the parent of a directory that is named once is where that name is
-pub parent_once : (v : Volume) (d : ℕ) → d ≢ 2 → reached (graph_of v) d ≡ true → (o : NamedOnce (graph_of v) d) →
+pub parent_once : (v : Volume) (d : ℕ) → d ≢ 2 → reached (graph_of v) d ≡ true → (o : IsNamedOnce (graph_of v) d) →
     parent (graph_of v) d ≡ Some o.in_dir
 parent_once v d n r o =
     let e = has_parent_entry (graph_of v) d n r in

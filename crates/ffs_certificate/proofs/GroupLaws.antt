@@ -23,7 +23,7 @@ use Rattle.ffs_certificate.proofs.BlocksSilent.{nil_is, right_quiet, runs_below,
 use Rattle.ffs_certificate.proofs.BlocksSilent.{blocks_silent}
 use Rattle.ffs_volume.specs.Groups.Records.{group_block, summary_record, group_numbers, has_right_magic, maps_fit}
 use Rattle.ffs_volume.specs.Groups.Records.{has_right_maps, has_right_sums, has_right_record, has_right_totals}
-use Rattle.ffs_volume.specs.Groups.Records.{GroupRight, GroupsRight}
+use Rattle.ffs_volume.specs.Groups.Records.{IsGroupRight, AreGroupsRight}
 use Rattle.ffs_volume.specs.Groups.GroupCheck.{unless, group_lines, all_group_lines, is_reported, reported_once}
 use Rattle.ffs_volume.specs.Groups.GroupCheck.{unreported, phase5_lines, is_free_of_kept, is_free_of_runs}
 
@@ -93,7 +93,7 @@ module _ (v : Layout) (image : List ℕ) (totals : List ℤ) (free : ℕ → Boo
       (maps_fit v (group_block v image c) && has_right_maps v free class c (group_block v image c))
       (has_right_sums v free class c (group_block v image c)) (GroupMagic c)
 
-  group_facts : (c : ℕ) → is_group_right v image free class c ≡ true → GroupRight v image free class c
+  group_facts : (c : ℕ) → is_group_right v image free class c ≡ true → IsGroupRight v image free class c
   group_facts c e =
       let a = and_parts (has_right_magic v (group_block v image c)) _ e in
       let b = and_parts (has_right_record v free class c (summary_record v image c)) _ a.1 in
@@ -102,7 +102,7 @@ module _ (v : Layout) (image : List ℕ) (totals : List ℤ) (free : ℕ → Boo
       let f = and_parts (maps_fit v (group_block v image c)) _ d.0 in
       record { magic = a.0; places = f.0; maps = f.1; sums = d.1; record_is = b.0 }
 
-  group_test : (c : ℕ) → GroupRight v image free class c → is_group_right v image free class c ≡ true
+  group_test : (c : ℕ) → IsGroupRight v image free class c → is_group_right v image free class c ≡ true
   group_test c g = and_from _ _ g.magic (and_from _ _ g.record_is (and_from _ _ (and_from _ _ g.places g.maps) g.sums))
 
   all_say : is_nil (phase5_lines v image totals free class)
@@ -118,7 +118,7 @@ module _ (v : Layout) (image : List ℕ) (totals : List ℤ) (free : ℕ → Boo
         nil_unless (has_right_totals v free class totals) FreeCounts,
       ) refl)
 
-  pub phase5_silent : (phase5_lines v image totals free class ≡ []) ↔ GroupsRight v image totals free class
+  pub phase5_silent : (phase5_lines v image totals free class ≡ []) ↔ AreGroupsRight v image totals free class
   phase5_silent = (
     (λ e.
         let parts = and_parts (list_all (λ c. is_nil (group_lines v image free class c)) (group_numbers v))
@@ -213,7 +213,7 @@ block_and_group_lines v image totals os class =
 
 pub blocks_and_groups : (v : Layout) (image : List ℕ) (totals : List ℤ) (os : List Owner) (class : ℕ → Class) →
     (block_and_group_lines v image totals os class ≡ []) ↔
-    (BlocksRight v os × GroupsRight v image totals (is_free_of_runs v os) class)
+    (BlocksRight v os × AreGroupsRight v image totals (is_free_of_runs v os) class)
 blocks_and_groups v image totals os class = (
   (λ e.
       let parts = and_parts (is_nil (phase1_lines v os ++ phase1b_lines v os))
@@ -222,12 +222,12 @@ blocks_and_groups v image totals os class = (
       (phase5_lines v image totals (is_free_of_kept v os) class)) ∙ ap is_nil e) in
       let right = (blocks_silent v os).0 (nil_is _ parts.0) in (
         right,
-        subst (λ free. GroupsRight v image totals free class) (same_free v os right)
+        subst (λ free. AreGroupsRight v image totals free class) (same_free v os right)
             ((phase5_silent v image totals (is_free_of_kept v os) class).0 (nil_is _ parts.1)),
       )),
   (λ r.
       let first = (blocks_silent v os).1 r.0 in
-      let groups = subst (λ free. GroupsRight v image totals free class) (sym (same_free v os r.0)) r.1 in
+      let groups = subst (λ free. AreGroupsRight v image totals free class) (sym (same_free v os r.0)) r.1 in
       let last = (phase5_silent v image totals (is_free_of_kept v os) class).1 groups in
       rw (first, last) refl),
 )

@@ -15,7 +15,7 @@ use Rattle.ffs_volume.specs.Blocks.Owners.{Owner, owners_of}
 use Rattle.ffs_volume.specs.Blocks.BlockCheck.{phase1_lines, phase1b_lines, has_rescan}
 use Rattle.ffs_volume.specs.Consistent.BlocksRight.{BlocksRight}
 use Rattle.ffs_certificate.proofs.BlocksSilent.{phase1_silent, phase1b_silent}
-use Rattle.ffs_volume.specs.Groups.Records.{GroupsRight}
+use Rattle.ffs_volume.specs.Groups.Records.{AreGroupsRight}
 use Rattle.ffs_volume.specs.Groups.GroupCheck.{phase5_lines, is_free_of_kept}
 use Rattle.ffs_certificate.proofs.GroupLaws.{phase5_silent, same_free}
 use Rattle.ffs_volume.specs.Messages.Kinds.{Message, TreeMessage, optimization, minfree, mounted, phase1b, of_blocks}
@@ -218,7 +218,7 @@ forward image super g h =
       dirs = dirs.dirs;
       links = dirs.links;
       counts = dirs.counts;
-      groups = subst (λ free. GroupsRight super.layout image super.cstotal free (class_at super.layout image))
+      groups = subst (λ free. AreGroupsRight super.layout image super.cstotal free (class_at super.layout image))
           (same_free super.layout (owners_of super.layout image) blocks)
           ((phase5_silent super.layout image super.cstotal (is_free_of_kept super.layout (owners_of super.layout image))
           (class_at super.layout image)).0 s.later.groups);
@@ -236,7 +236,7 @@ backward image super g c =
     (whole_unmarked super.layout image blocks)).1 right) in
     let groups = (phase5_silent super.layout image super.cstotal
     (is_free_of_kept super.layout (owners_of super.layout image)) (class_at super.layout image)).1
-    (subst (λ free. GroupsRight super.layout image super.cstotal free (class_at super.layout image))
+    (subst (λ free. AreGroupsRight super.layout image super.cstotal free (class_at super.layout image))
     (sym (same_free super.layout (owners_of super.layout image) blocks)) c.groups) in
     quiet_from (super_lines super) _ (settings_quiet super c.settings)
     (text_quiet image super (phase1b_silent super.layout (owners_of super.layout image) blocks)

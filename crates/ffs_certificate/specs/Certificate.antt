@@ -6,7 +6,7 @@ use Rattle.ffs_volume.specs.Blocks.Owners.{Owner, owners_of}
 use Rattle.ffs_volume.specs.Blocks.Claims.{is_set, no_claims, after_owners}
 use Rattle.ffs_volume.specs.Blocks.BlockCheck.{phase1_lines, phase1b_lines, kept_in_owners}
 use Rattle.ffs_volume.specs.Consistent.BlocksRight.{BlocksRight}
-use Rattle.ffs_volume.specs.Groups.Records.{GroupsRight}
+use Rattle.ffs_volume.specs.Groups.Records.{AreGroupsRight}
 use Rattle.ffs_volume.specs.Groups.GroupCheck.{phase5_lines, is_free_of_kept, is_free_of_runs}
 use Rattle.ffs_volume.specs.Blocks.Keeping.{all_offers, is_claimed_before, verdicts, kept_by_rule}
 use Rattle.ffs_volume.specs.Directories.Volumes.{class_at}
@@ -17,7 +17,7 @@ BlocksAndGroups = (v : Layout) (image : List ℕ) (totals : List ℤ) →
     ((phase1_lines v (owners_of v image) ++ phase1b_lines v (owners_of v image))
     ++ phase5_lines v image totals (is_free_of_kept v (owners_of v image)) (class_at v image) ≡ [])
     ↔ (BlocksRight v (owners_of v image)
-    × GroupsRight v image totals (is_free_of_runs v (owners_of v image)) (class_at v image))
+    × AreGroupsRight v image totals (is_free_of_runs v (owners_of v image)) (class_at v image))
 
 -- the fold keeps what the rule keeps: the offers in order, and so the fragments
 pub record KeepsByRule (v : Layout) (os : List Owner) : Type 0 where

@@ -9,7 +9,7 @@ use Rattle.ffs_volume.specs.Disk.Outcome.{outcome}
 use Rattle.ffs_volume.specs.Blocks.Owners.{owners_of}
 use Rattle.ffs_volume.specs.Blocks.BlockCheck.{phase1_lines}
 use Rattle.ffs_volume.specs.Consistent.BlocksRight.{is_right_class, AreRunsRight, BlocksRight}
-use Rattle.ffs_volume.specs.Groups.Records.{GroupsRight}
+use Rattle.ffs_volume.specs.Groups.Records.{AreGroupsRight}
 use Rattle.ffs_volume.specs.Groups.GroupCheck.{phase5_lines, is_free_of_kept, is_free_of_runs}
 use Rattle.ffs_volume.specs.Directories.Entries.{Entry}
 use Rattle.ffs_volume.specs.Blocks.Inodes.{is_allocated}
@@ -101,7 +101,7 @@ pub record ConditionsReported (image : List ℕ) (s : Superblock) : Type 0 where
   pub groups : BlocksRight s.layout (owners_of s.layout image) →
       (phase5_lines s.layout image s.cstotal (is_free_of_kept s.layout (owners_of s.layout image))
       (class_at s.layout image) ≡ [])
-      ↔ GroupsRight s.layout image s.cstotal (is_free_of_runs s.layout (owners_of s.layout image))
+      ↔ AreGroupsRight s.layout image s.cstotal (is_free_of_runs s.layout (owners_of s.layout image))
       (class_at s.layout image)
 
 -- for each accepted superblock

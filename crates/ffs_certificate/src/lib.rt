@@ -1,8 +1,10 @@
 //! Laws of the definitions of `ffs_volume`: status 0 is a certificate.
 //!
-//! A report without a defect is the same as consistency, both ways (`certified`,
-//! `silent_is_right`); the end of a run is by its report (`report_is_right`); claims are bounded
-//! (`claims_are_bounded`). Each function is a law: its contract is the statement, and nothing runs.
+//! A report without a defect, and the end `Consistent`, are each the same as consistency, both ways
+//! (`report_is_right`); for directories with nothing marked so is a silent check of them
+//! (`silent_is_right`), and for blocks and groups `blocks_and_groups_are_certified`; claims are
+//! bounded (`claims_are_bounded`). Each function is a law: its contract is the statement, and
+//! nothing runs.
 //!
 //! It rests on `ffs_volume`.
 #![tactic(auto)]

@@ -41,7 +41,8 @@ pub record IsEndOfReport (image : Device) (sector : Option ℕ) (text : List Mes
   pub certifies : ForContents image.contents (λ bytes. (s : Superblock) → outcome bytes sector ≡ Ok s
       → Certifies bytes s text end)
 
--- a read of the superblock, or of its last copy, failed: what is said before the fault's line is the opening line
+-- a read of the superblock, or of its last copy, failed: what is said before the fault's line are the image's name and
+-- the sector, if one is asked for
 pub record IsCutAtSuper (image image' : Device) (name : List ℕ) (sector : Option ℕ) (said : List Message)
     (line : Message) (end : End) : Type 0 where
   pub faulted : Faulted image image' image'.failed

@@ -59,7 +59,7 @@ after_phase2 goes image s = if goes then from_phase3 image s else []
 abbrev pub from_phase2 : List ℕ → Superblock → List Message
 from_phase2 image s = phase2_part image s ++ after_phase2 (continues_after_root (volume_of s.layout image)) image s
 
--- the second look at the blocks and what follows it
+-- phase 1b, where it runs, and what follows it
 abbrev pub from_phase1b : List ℕ → Superblock → List Message
 from_phase1b image s = phase1b_part image s ++ from_phase2 image s
 

@@ -63,7 +63,7 @@ pub record IsRefused (words : List (List ℕ)) (out out' : Sink) (status : ℕ) 
   pub status_is : status ≡ 2
 
 -- memory was refused while the words were read
-pub record HasNoWords (words : List (List ℕ)) (out out' : Sink) (status : ℕ) : Type 0 where
+pub record HadNoMemory (words : List (List ℕ)) (out out' : Sink) (status : ℕ) : Type 0 where
   pub lacked : LacksMemory words
   pub printed : IsPrinted out out' (text_of cannot_alloc)
   pub status_is : status ≡ 8
@@ -73,7 +73,7 @@ abbrev pub RunEnds : {I : Type 0} → (I → Device) → (reads : I → ℕ) →
     → (List ℕ → OpenFault → Type 0) → List (List ℕ) → Sink → Sink → ℕ → Type 0
 RunEnds {I} device reads opens refuses words out out' status =
     RunsAsAsked I device reads opens refuses words out out' status ⊎ (IsRefused words out out' status
-    ⊎ HasNoWords words out out' status)
+    ⊎ HadNoMemory words out out' status)
 
 -- a writer was flushed after a run with a status: the status stays where the flush succeeded, and is 8 where it failed
 pub record IsFlushed {S : Type 0} (was_flushed : S → Result (Unit {0}) Error → S → Type 0)

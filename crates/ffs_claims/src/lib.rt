@@ -2,8 +2,8 @@
 //! 1b of fsck(8)).
 //!
 //! `phase1` and `phase1b` print the block check's text, and leave classes, claims, notes and marks
-//! in the workspace. Each of them looks at no more than `size + 22 * inodes` Runs, whatever the
-//! image holds.
+//! in the workspace. `phase1` looks at no more than `size + 22 * inodes` Runs, whatever the image
+//! holds, and `phase1b` at no more than it did, where the image gives its bytes.
 //!
 //! ```text
 //! phase1(&geometry, &mut image, &mut workspace, &mut report)?;

@@ -34,7 +34,7 @@ pub fn check_inode<I: Image, W: Output>(
     requires ready { IsReady geometry.now.layout (I.device image.old) workspace.old }
     requires number { (2 ≤ number) × (number < inodes_of geometry.now.layout) }
     requires leaders { HasLeaders workspace.old }
-    ensures runs { PhaseRuns (λ bytes. IsContents (I.device image.old).contents bytes
+    ensures prints { PhaseRuns (λ bytes. IsContents (I.device image.old).contents bytes
         × HoldsClaims geometry.now.layout bytes workspace.old
         × HoldsSurvey geometry.now.layout bytes workspace.old)
         (λ bytes. map of_tree (cut_off_lines (volume_of geometry.now.layout bytes) number))

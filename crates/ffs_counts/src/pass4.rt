@@ -79,7 +79,7 @@ fn check_inode<I: Image, W: Output>(
     requires number { number < inodes_of geometry.now.layout }
     requires used { is_allocated (class_of_kind (slice_index workspace.old.kinds.items number))
         ≡ true }
-    ensures runs { PhaseRuns (λ bytes. IsContents (I.device image.old).contents bytes
+    ensures prints { PhaseRuns (λ bytes. IsContents (I.device image.old).contents bytes
         × HoldsFindings geometry.now.layout bytes workspace.old)
         (λ bytes. map of_tree (reference_lines_at (volume_of geometry.now.layout bytes) number))
         (I.device image.old) (I.device image.new) (progress W.sink report.old)
@@ -121,7 +121,7 @@ pub fn phase4<I: Image, W: Output>(
     report: &mut Report<'_, W>,
 ) -> Result<(), RunFault>
     requires ready { IsReady geometry.now.layout (I.device image.old) workspace.old }
-    ensures runs { PhaseRuns (λ bytes. IsContents (I.device image.old).contents bytes
+    ensures prints { PhaseRuns (λ bytes. IsContents (I.device image.old).contents bytes
         × HoldsFindings geometry.now.layout bytes workspace.old)
         (λ bytes. phase4_heading ∷ map of_tree
         (reference_lines (volume_of geometry.now.layout bytes)))

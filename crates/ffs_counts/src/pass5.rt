@@ -33,7 +33,7 @@ pub fn phase5<I: Image, W: Output>(
     report: &mut Report<'_, W>,
 ) -> Result<(), RunFault>
     requires ready { IsReady superblock.now.geometry.layout (I.device image.old) workspace.old }
-    ensures runs { PhaseRuns (λ bytes. IsContents (I.device image.old).contents bytes
+    ensures prints { PhaseRuns (λ bytes. IsContents (I.device image.old).contents bytes
         × HoldsClaims superblock.now.geometry.layout bytes workspace.old)
         (λ bytes. phase5_heading ∷ group_check_lines bytes (superblock_in superblock.now))
         (I.device image.old) (I.device image.new) (progress W.sink report.old)

@@ -17,17 +17,17 @@ use ffs_layout::{Geometry, Group, GroupSummary};
 use ffs_maps::FragmentMap;
 use ffs_volume::constants::CG_MAGIC;
 
-/// What is found in the records of a group: each field is true where nothing is wrong.
+/// What is right in the records of a group.
 #[derive(Clone, Copy, Debug)]
 pub struct Findings {
     /// The group block has its magic number. Where it hasn't, phase 5 reports neither `maps` nor
     /// `sums`.
     pub magic: bool,
-    /// The record in the summary area.
+    /// The record in the summary area is right.
     pub counts: bool,
-    /// The places and the bits of the maps.
+    /// The places and the bits of the maps are right.
     pub maps: bool,
-    /// The numbers of the group block.
+    /// The numbers of the group block are right.
     pub sums: bool,
 }
 

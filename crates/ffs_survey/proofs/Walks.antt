@@ -7,7 +7,7 @@ use Rattle.std.proofs.lemmas.Bool.{or_left, or_right, or_from, le-leb, leb-true,
 use Rattle.std.proofs.lemmas.Bool.{cond-true, cond-false, false_from_ne_true}
 use Rattle.std.proofs.lemmas.List.{get_or_past}
 use Rattle.std.proofs.lemmas.List.Sums.{sum_by-set, sum_by-cons}
-use Rattle.ffs_volume.specs.Directories.Climb.{climb, OnCycle, is_leader_within}
+use Rattle.ffs_volume.specs.Directories.Climb.{climb, IsOnCycle, is_leader_within}
 use Rattle.ffs_volume.proofs.ClimbLaws.{climb-zero, climb-one, climb-suc, climb-add, climb-last, cycle-along}
 use Rattle.ffs_volume.proofs.ClimbLaws.{
   cycle-next,
@@ -30,7 +30,7 @@ pub record Walking (f : ℕ → Option ℕ) (start mark steps place : ℕ) (old 
   pub path : (i x : ℕ) → i < steps → climb f i start ≡ Some x → number_at new x ≡ mark
   pub count : steps + zeros new ≡ zeros old
 
-pub cycle-back : (f : ℕ → Option ℕ) (j y p : ℕ) → OnCycle f y → climb f j y ≡ Some p → (m : ℕ) × (climb f m p ≡ Some y)
+pub cycle-back : (f : ℕ → Option ℕ) (j y p : ℕ) → IsOnCycle f y → climb f j y ≡ Some p → (m : ℕ) × (climb f m p ≡ Some y)
 cycle-back f j y p c h =
     let w = cycle-within f j y p c h in
     let b = w.1 in
@@ -139,7 +139,7 @@ walked f start mark steps place old new m c s e = record {
 
 -- a new one on a cycle is above what is above the last place
 pub above_last : (f : ℕ → Option ℕ) (start mark steps place x next : ℕ) (old new : List ℕ) →
-    Stamped f start mark steps place old new → f place ≡ Some next → IsNew old new x → OnCycle f x →
+    Stamped f start mark steps place old new → f place ≡ Some next → IsNew old new x → IsOnCycle f x →
     (k : ℕ) × (climb f k next ≡ Some x)
 above_last f start mark steps place x next old new s h i c =
     let p = s.passed x i in
@@ -151,7 +151,7 @@ above_last f start mark steps place x next old new s h i c =
 
 -- nothing above: no cycle
 pub no_cycle_end : (f : ℕ → Option ℕ) (start mark steps place x : ℕ) (old new : List ℕ) →
-    Stamped f start mark steps place old new → f place ≡ None → IsNew old new x → OnCycle f x → ⊥
+    Stamped f start mark steps place old new → f place ≡ None → IsNew old new x → IsOnCycle f x → ⊥
 no_cycle_end f start mark steps place x old new s h i c =
     let p = s.passed x i in
     let b = p.1 in
@@ -165,7 +165,7 @@ no_cycle_end f start mark steps place x old new s h i c =
 -- an older stamp above: no cycle
 pub no_cycle_old : (f : ℕ → Option ℕ) (start mark steps place next x : ℕ) (old new : List ℕ) → IsClosed f old →
     Stamped f start mark steps place old new → f place ≡ Some next → number_at old next ≢ 0 → IsNew old new x →
-    OnCycle f x → ⊥
+    IsOnCycle f x → ⊥
 no_cycle_old f start mark steps place next x old new cl s h o i c =
     let k = above_last f start mark steps place x next old new s h i c in
     closed-climb f old k.0 next x cl o k.1 i.was
@@ -282,7 +282,7 @@ round_step f found steps place least next least' r n h a b w = record {
 }
 
 -- a way round takes no more steps than the cycle has
-pub round_short : (f : ℕ → Option ℕ) (found steps place least n : ℕ) (c : OnCycle f found) → c.length < n →
+pub round_short : (f : ℕ → Option ℕ) (found steps place least n : ℕ) (c : IsOnCycle f found) → c.length < n →
     Rounding f found steps place least → (place ≡ found → ⊥) → steps < n
 round_short f found steps place least n c l r m =
     elim (cases_lt steps (suc c.length)) [
@@ -295,13 +295,13 @@ round_short f found steps place least n c l r m =
     ]
 
 -- back at `found`, the least so far is the least of all
-pub round_end : (f : ℕ → Option ℕ) (found steps place least n : ℕ) (c : OnCycle f found) → c.length < n →
+pub round_end : (f : ℕ → Option ℕ) (found steps place least n : ℕ) (c : IsOnCycle f found) → c.length < n →
     Rounding f found steps place least → place ≡ found → least < n → IsLeastOn f n found least
 unfolding cycle-along
 round_end f found steps place least n c l r e low =
     let p = r.moved in
     let q : suc (steps - 1) ≡ steps = omega arith in
-    let d : OnCycle f found =
+    let d : IsOnCycle f found =
     record { length = steps - 1; returns = ap (λ k. climb f k found) q ∙ (r.place_is ∙ ap Some e) } in
     let a = r.among in
     record {
@@ -327,7 +327,7 @@ unstamped f start mark old new x w z =
 
 -- a walk that found no cycle
 pub marks_none : (f : ℕ → Option ℕ) (n start mark : ℕ) (old new : List ℕ) (leader : List Bool) →
-    Walked f start mark old new → ((x : ℕ) → IsNew old new x → OnCycle f x → ⊥) → Marks f n old leader →
+    Walked f start mark old new → ((x : ℕ) → IsNew old new x → IsOnCycle f x → ⊥) → Marks f n old leader →
     Marks f n new leader
 marks_none f n start mark old new leader w none m = record {
   long = m.long;
@@ -370,7 +370,7 @@ marks_found f n start mark found e old new leader l c w g i m = record {
 
 -- on a cycle the list holds what is above
 -- a cycle continues, by the list
-pub up_cycle : (parents : List ℕ) (x : ℕ) → OnCycle (up_of parents) x → (up_of parents x ≡ Some (number_at parents x))
+pub up_cycle : (parents : List ℕ) (x : ℕ) → IsOnCycle (up_of parents) x → (up_of parents x ≡ Some (number_at parents x))
     × (number_at parents x < length parents)
 up_cycle parents x c =
     elim (cases_eq (number_at parents x) 0) [

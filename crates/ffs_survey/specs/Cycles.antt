@@ -2,7 +2,7 @@
 use Rattle.std.specs.Prelude.{◌≡◌, ◌≢◌, ℕ, ◌<◌, ◌≤◌, ◌^◌, ◌==◌, ◌||◌, nat_le, Bool, false, cond}
 use Rattle.std.specs.Prelude.{List, length, All, Option, None, Some}
 use Rattle.std.specs.List.{sum_by}
-use Rattle.ffs_volume.specs.Directories.Climb.{climb, OnCycle, IsLeader, is_leader_within}
+use Rattle.ffs_volume.specs.Directories.Climb.{climb, IsOnCycle, IsLeader, is_leader_within}
 use Rattle.ffs_survey.specs.Survey.{number_at, bool_at}
 use Rattle.ffs_survey.specs.Discover.{bit}
 
@@ -44,16 +44,16 @@ pub record CanFollow (parents stamp : List ℕ) (start : ℕ) : Type 0 where
 pub record ComesBack (parents : List ℕ) (found : ℕ) : Type 0 where
   pub few : length parents < 2 ^ 31
   pub low : found < length parents
-  pub cycle : OnCycle (up_of parents) found
+  pub cycle : IsOnCycle (up_of parents) found
   pub short : cycle.length < length parents
 
 -- `found` is on a cycle, and each newly stamped number on a cycle is on that one
 pub record FindsCycle (f : ℕ → Option ℕ) (n : ℕ) (old new : List ℕ) (found : ℕ) : Type 0 where
   pub low : found < n
   pub fresh : IsNew old new found
-  pub cycle : OnCycle f found
+  pub cycle : IsOnCycle f found
   pub short : cycle.length < n
-  pub only : (x : ℕ) → IsNew old new x → OnCycle f x → (k : ℕ) × (climb f k found ≡ Some x)
+  pub only : (x : ℕ) → IsNew old new x → IsOnCycle f x → (k : ℕ) × (climb f k found ≡ Some x)
 
 -- e is the least number on the cycle of `found`
 pub record IsLeastOn (f : ℕ → Option ℕ) (n found e : ℕ) : Type 0 where

@@ -1,6 +1,6 @@
 //! Cycles of parents.
 ghost use Rattle.std.specs.Prelude.{◌≡◌, ◌<◌, ◌+◌, ℕ, length, MatchOption, false, vec_len};
-ghost use Rattle.ffs_volume.specs.Directories.Climb.{OnCycle, is_leader_within};
+ghost use Rattle.ffs_volume.specs.Directories.Climb.{IsOnCycle, is_leader_within};
 ghost use Rattle.ffs_survey.specs.Survey.{bool_at};
 ghost use Rattle.ffs_survey.specs.Cycles.{up_of, CanFollow, ComesBack, IsNew, CanMark, Walked, FindsCycle, IsLeastOn, Marks};
 
@@ -16,7 +16,7 @@ fn walk(start: u32, parents: &FilledList<u32>, stamp: &mut FilledList<u32>) -> O
     ensures stamps_long { vec_len stamp.new ≡ vec_len stamp.old }
     ensures cycle { MatchOption result
         ((x : ℕ) → IsNew stamp.old.items stamp.new.items x
-        → OnCycle (up_of parents.now.items) x → ⊥)
+        → IsOnCycle (up_of parents.now.items) x → ⊥)
         (λ found. FindsCycle (up_of parents.now.items) (length parents.now.items) stamp.old.items
         stamp.new.items found) }
 {

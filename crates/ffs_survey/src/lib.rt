@@ -5,7 +5,7 @@
 //! `survey` leaves what is reached, parents and references as the definitions have them;
 //! `mark_leaders` marks one directory of each cycle of parents.
 //!
-//! It rests on `ffs_volume` and `ffs_image`.
+//! It rests on `ffs_volume`, `ffs_image` and `ffs_memory`.
 #![tactic(auto)]
 
 mod cycles;

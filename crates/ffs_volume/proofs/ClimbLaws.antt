@@ -7,7 +7,7 @@ use Rattle.std.proofs.lemmas.Bool.{not-true, not-false, not_from_true, not_from_
 use Rattle.ffs_volume.specs.Disk.Search.{some_below}
 use Rattle.ffs_volume.proofs.SearchLaws.{some_below-gives, some_below-from, some_below-false, some_below-none}
 use Rattle.ffs_volume.proofs.Pigeon.{pigeon}
-use Rattle.ffs_volume.specs.Directories.Climb.{climb, is_value, none_or_at_least, is_leader_within, OnCycle, IsLeader}
+use Rattle.ffs_volume.specs.Directories.Climb.{climb, is_value, none_or_at_least, is_leader_within, IsOnCycle, IsLeader}
 
 -- where the test holds, the number is below n and f leads to a number where it holds
 pub record StaysBelow (f : ℕ → Option ℕ) (p : ℕ → Bool) (n : ℕ) : Type 0 where
@@ -49,7 +49,7 @@ climb-add f (suc j) k d e h =
     let q : suc j + k ≡ suc (j + k) = omega arith in
     ap (λ m. climb f m d) q ∙ ap (option_and_then f) (climb-add f j k d e h)
 
-unfoldable pub cycle-along : (f : ℕ → Option ℕ) (k d e : ℕ) → OnCycle f d → climb f k d ≡ Some e → OnCycle f e
+unfoldable pub cycle-along : (f : ℕ → Option ℕ) (k d e : ℕ) → IsOnCycle f d → climb f k d ≡ Some e → IsOnCycle f e
 cycle-along f k d e c h = record {
   length = c.length;
   returns =
@@ -59,7 +59,7 @@ cycle-along f k d e c h = record {
 }
 
 -- a cycle continues
-pub cycle-next : (f : ℕ → Option ℕ) (d : ℕ) → OnCycle f d → (e : ℕ) × (f d ≡ Some e)
+pub cycle-next : (f : ℕ → Option ℕ) (d : ℕ) → IsOnCycle f d → (e : ℕ) × (f d ≡ Some e)
 cycle-next f d c = go (f d) refl
   where
     go : (o : Option ℕ) → f d ≡ o → (e : ℕ) × (f d ≡ Some e)
@@ -74,7 +74,7 @@ cycle-next f d c = go (f d) refl
             none_at zero e r = let q = sym (climb-one f d ∙ h) ∙ r in cc
             none_at (suc k) e r = let l = climb-last f (suc k) d e r in none_at k l.0 l.1
 
-pub cycle-goes : (f : ℕ → Option ℕ) (k d : ℕ) → OnCycle f d → (e : ℕ) × (climb f k d ≡ Some e)
+pub cycle-goes : (f : ℕ → Option ℕ) (k d : ℕ) → IsOnCycle f d → (e : ℕ) × (climb f k d ≡ Some e)
 cycle-goes f zero d c = (d, climb-zero f d)
 cycle-goes f (suc k) d c =
     let p = cycle-goes f k d c in
@@ -82,7 +82,7 @@ cycle-goes f (suc k) d c =
     (q.0, climb-suc f k d p.0 p.1 ∙ q.1)
 
 -- what a cycle reaches, it reaches on the first way round
-pub cycle-within : (f : ℕ → Option ℕ) (m d s : ℕ) (c : OnCycle f d) → climb f m d ≡ Some s → (k : ℕ) × (k ≤ c.length)
+pub cycle-within : (f : ℕ → Option ℕ) (m d s : ℕ) (c : IsOnCycle f d) → climb f m d ≡ Some s → (k : ℕ) × (k ≤ c.length)
     × (climb f k d ≡ Some s)
 cycle-within f zero d s c h = (0, omega arith, h)
 cycle-within f (suc m) d s c h =
@@ -120,7 +120,7 @@ is_leader_within-true f n d h =
     let p = and_parts (some_below (λ k. is_value (climb f (suc k) d) d) n)
     (not (some_below (λ k. not (none_or_at_least (climb f k d) d)) n)) h in
     let w = some_below-gives (λ k. is_value (climb f (suc k) d) d) n p.0 in
-    let c : OnCycle f d = record { length = w.0; returns = is_value-true _ d w.1.passes } in
+    let c : IsOnCycle f d = record { length = w.0; returns = is_value-true _ d w.1.passes } in
     record {
       cycle = c;
       least = λ k s e.
@@ -142,7 +142,7 @@ goes_on f p n d g h (suc k) =
 
 -- somewhere above d there is a cycle of at most n steps
 pub cycle_above : (f : ℕ → Option ℕ) (p : ℕ → Bool) (n d : ℕ) → StaysBelow f p n → p d ≡ true → (x : ℕ) × (p x ≡ true)
-    × ((c : OnCycle f x) × (c.length < n))
+    × ((c : IsOnCycle f x) × (c.length < n))
 cycle_above f p n d g h =
     let r = pigeon n (λ k. (goes_on f p n d g h k).0) (λ i l. let a = goes_on f p n d g h i in g.below a.0 a.2) in
     let a = goes_on f p n d g h r.first in
@@ -164,7 +164,7 @@ cycle_above f p n d g h =
     )
 
 -- the least number on a cycle
-pub leader_on : (f : ℕ → Option ℕ) (p : ℕ → Bool) (n x : ℕ) → StaysBelow f p n → p x ≡ true → (c : OnCycle f x) →
+pub leader_on : (f : ℕ → Option ℕ) (p : ℕ → Bool) (n x : ℕ) → StaysBelow f p n → p x ≡ true → (c : IsOnCycle f x) →
     c.length < n → (e : ℕ) × (p e ≡ true) × (is_leader_within f n e ≡ true)
 unfolding cycle-along
 leader_on f p n x g h c l =
@@ -177,7 +177,7 @@ leader_on f p n x g h c l =
     let a = goes_on f p n x g h v.0 in
     let same : Some a.0 ≡ Some w.0 = sym a.1 ∙ at in
     let eq : a.0 ≡ w.0 = cc in
-    let d : OnCycle f w.0 = cycle-along f v.0 x w.0 c at in
+    let d : IsOnCycle f w.0 = cycle-along f v.0 x w.0 c at in
     let i : IsLeader f w.0 = record {
       cycle = d;
       least = λ k s e.

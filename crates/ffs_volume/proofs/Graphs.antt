@@ -3,7 +3,7 @@ use Rattle.std.specs.Prelude.{◌≡◌, ◌≢◌, ℕ, ◌<◌, Bool, true, fa
 use Rattle.ffs_volume.specs.declared.constants.TheConstants.{ROOTINO}
 use Rattle.ffs_volume.specs.Directories.Graph.{Graph, reached, parent, parent_entry_index, is_dead_in, is_unref_dir_in}
 use Rattle.ffs_volume.specs.Directories.Graph.{is_naming_entry_at}
-use Rattle.ffs_volume.specs.Directories.Graph.{NamedOnce}
+use Rattle.ffs_volume.specs.Directories.Graph.{IsNamedOnce}
 
 -- a directory has the number of an inode, and there is an inode 2
 pub record IsSane (g : Graph) : Type 0 where
@@ -32,5 +32,5 @@ NoExtraneous g = (s j d : ℕ) → is_naming_entry_at g s j d ≡ true → g.is_
 
 -- each directory but 2 is named by one plain entry, and 2 by none
 pub record LinksRight (g : Graph) : Type 0 where
-  pub once : (d : ℕ) → g.is_dir d ≡ true → d ≢ ROOTINO → NamedOnce g d
+  pub once : (d : ℕ) → g.is_dir d ≡ true → d ≢ ROOTINO → IsNamedOnce g d
   pub root : (s j : ℕ) → is_naming_entry_at g s j ROOTINO ≡ false

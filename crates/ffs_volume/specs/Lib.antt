@@ -24,8 +24,9 @@
 --
 -- Statements. `==` is a test, and `≡` a statement. Between statements `×` is "and", `⊎` is "or", `≢` is "is not" and
 -- `Unit {0}` asks nothing. `A → B` between statements is "if A then B", `(x : A) → P` says that P holds of each x, and
--- `(x : A) × B` that there is an x. `IsSomeAnd o p` says that o has a value, and that p holds of it. A record of `Type
--- 0` is a statement, and asks all its fields; a field that is a number or a list says that there is one.
+-- `(x : A) × B` that there is an x. `IsSomeAnd o p` says that o has a value, and that p holds of it. A record with
+-- fields that are statements is a statement, and asks them all; what other fields it has, as a number or a list, it
+-- says that there is one. A record whose fields are all values is a value, as `Superblock`.
 pub mod Disk
 pub mod Blocks
 pub mod Messages

@@ -1,5 +1,5 @@
-//! The numbers of the format that have a name in the field: each is stated here once, for code and
-//! definitions.
+//! The numbers of the format that have a name in the field, for code and definitions, and, at the
+//! end, those by which a workspace stores kinds of inodes and counts of references.
 
 /// The magic number of a superblock (fs(5)).
 pub const FS_MAGIC: u32 = 0x011954;

@@ -45,8 +45,9 @@ pub struct Workspace {
     pub named: FixedList<bool>,
     /// The directories that are reached from the root.
     pub reached: FixedList<bool>,
-    /// Flags that the survey and phases 2 and 3 use one after another, each for its own purpose
-    /// (`docs/CONTRIBUTING.md`, "Change what is read").
+    /// Flags that the survey and phases 2 and 3 use one after another: the calm directories; in phase
+    /// 2, of marked inodes, those that a plain entry has named; in phase 3 the least directory of
+    /// each cycle of parents.
     pub flags: FixedList<bool>,
     /// How many entries refer to each inode, counted on from `links_start`.
     pub references: FilledList<u64>,
@@ -55,8 +56,9 @@ pub struct Workspace {
     pub notes: FilledList<u32>,
     /// The parent of each directory, or 0.
     pub parents: FilledList<u32>,
-    /// Numbers that the survey and phases 2 and 3 use one after another, each for its own purpose.
-    /// Between them, of each directory, the place of its parent entry, if it is noted (`place_in`).
+    /// Words that the survey and phases 2 and 3 use one after another: the directories of a level
+    /// that are still to be read; in phase 2, of each directory, where its parent entry is
+    /// (`place_in`), and whether that is due; in phase 3 which walk over parents met it.
     pub queue: FilledList<u32>,
     /// How many Runs phase 1 has looked at.
     pub runs_seen: u64,

@@ -8,7 +8,7 @@ use Rattle.ffs_volume.specs.Blocks.Inodes.{type_of}
 use Rattle.ffs_volume.specs.Directories.Entries.{Entry}
 use Rattle.ffs_volume.specs.Directories.Roles.{Volume, RoledEntry, is_dir, is_allocated_inode}
 use Rattle.ffs_volume.specs.Directories.Roles.{roled_entries, dot, dotdot, references}
-use Rattle.ffs_volume.specs.Directories.Graph.{reached, is_naming_entry_at, NamedOnce}
+use Rattle.ffs_volume.specs.Directories.Graph.{reached, is_naming_entry_at, IsNamedOnce}
 use Rattle.ffs_volume.specs.Directories.Parents.{graph_of, nth_roled}
 use Rattle.ffs_volume.specs.Directories.PathnameCheck.{are_sound}
 
@@ -45,7 +45,7 @@ pub record AreDirsRight (vol : Volume) : Type 0 where
 -- a directory is named by exactly one plain entry and reached from 2, and its `..` has the number of the directory with
 -- that entry
 pub record IsLinked (vol : Volume) (d : ℕ) : Type 0 where
-  pub once : NamedOnce (graph_of vol) d
+  pub once : IsNamedOnce (graph_of vol) d
   pub reached_from_root : reached (graph_of vol) d ≡ true
   pub dotdot_right : IsSomeAnd (dotdot vol d) (λ e. e.number ≡ once.in_dir)
 

@@ -4,7 +4,7 @@ use Rattle.std.specs.List.{list_all}
 use Rattle.ffs_volume.specs.Disk.Superblock.{Superblock}
 use Rattle.ffs_volume.specs.Blocks.Owners.{owners_of}
 use Rattle.ffs_volume.specs.Consistent.BlocksRight.{is_right_class, AreRunsRight}
-use Rattle.ffs_volume.specs.Groups.Records.{GroupsRight}
+use Rattle.ffs_volume.specs.Groups.Records.{AreGroupsRight}
 use Rattle.ffs_volume.specs.Groups.GroupCheck.{is_free_of_runs}
 use Rattle.ffs_volume.specs.Consistent.DirectoriesRight.{AreDirsRight, AreLinksRight, AreCountsRight}
 use Rattle.ffs_volume.specs.Directories.Volumes.{class_at, whole_volume}
@@ -30,5 +30,5 @@ pub record IsConsistent (image : List ℕ) (s : Superblock) : Type 0 where
   -- each count of links is that of the references
   pub counts : AreCountsRight (whole_volume s.layout image)
   -- the groups' records and the superblock's totals are right
-  pub groups : GroupsRight s.layout image s.cstotal (is_free_of_runs s.layout (owners_of s.layout image))
+  pub groups : AreGroupsRight s.layout image s.cstotal (is_free_of_runs s.layout (owners_of s.layout image))
       (class_at s.layout image)

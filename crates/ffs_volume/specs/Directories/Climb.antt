@@ -27,11 +27,11 @@ is_leader_within f n d =
     && not (some_below (λ k. not (none_or_at_least (climb f k d) d)) n)
 
 -- following f leads from d back to d in length + 1 steps
-pub record OnCycle (f : ℕ → Option ℕ) (d : ℕ) : Type 0 where
+pub record IsOnCycle (f : ℕ → Option ℕ) (d : ℕ) : Type 0 where
   pub length : ℕ
   pub returns : climb f (suc length) d ≡ Some d
 
 -- d is the least number on a cycle
 pub record IsLeader (f : ℕ → Option ℕ) (d : ℕ) : Type 0 where
-  pub cycle : OnCycle f d
+  pub cycle : IsOnCycle f d
   pub least : (k s : ℕ) → climb f k d ≡ Some s → d ≤ s

@@ -105,7 +105,7 @@ abbrev pub is_naming_entry_at : (g : Graph) (s j x : ℕ) → Bool
 is_naming_entry_at g s j x = g.is_dir s && test_at (is_naming_entry x) j (g.entries s)
 
 -- exactly one plain entry names d: the one at this index of `in_dir`
-pub record NamedOnce (g : Graph) (d : ℕ) : Type 0 where
+pub record IsNamedOnce (g : Graph) (d : ℕ) : Type 0 where
   pub in_dir : ℕ
   pub index : ℕ
   pub there : is_naming_entry_at g in_dir index d ≡ true

@@ -166,7 +166,7 @@ unfoldable pub has_right_totals : Layout → (ℕ → Bool) → (ℕ → Class) 
 has_right_totals v free class total = has_totals total (right_total v free class)
 
 -- the group block and the summary record of group c are right
-pub record GroupRight (v : Layout) (image : List ℕ) (free : ℕ → Bool) (class : ℕ → Class) (c : ℕ) : Type 0 where
+pub record IsGroupRight (v : Layout) (image : List ℕ) (free : ℕ → Bool) (class : ℕ → Class) (c : ℕ) : Type 0 where
   pub magic : has_right_magic v (group_block v image c) ≡ true
   pub places : maps_fit v (group_block v image c) ≡ true
   pub maps : has_right_maps v free class c (group_block v image c) ≡ true
@@ -174,7 +174,7 @@ pub record GroupRight (v : Layout) (image : List ℕ) (free : ℕ → Bool) (cla
   pub record_is : has_right_record v free class c (summary_record v image c) ≡ true
 
 -- all groups are right, and so are the superblock's totals
-pub record GroupsRight (v : Layout) (image : List ℕ) (totals : List ℤ) (free : ℕ → Bool) (class : ℕ → Class)
+pub record AreGroupsRight (v : Layout) (image : List ℕ) (totals : List ℤ) (free : ℕ → Bool) (class : ℕ → Class)
     : Type 0 where
-  pub groups : (c : ℕ) → c < v.ncg → GroupRight v image free class c
+  pub groups : (c : ℕ) → c < v.ncg → IsGroupRight v image free class c
   pub total : has_right_totals v free class totals ≡ true

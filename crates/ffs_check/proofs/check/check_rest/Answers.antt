@@ -8,8 +8,8 @@ use Rattle.ffs_volume.specs.Directories.Volumes.{volume_of}
 use Rattle.ffs_check.proofs.Endings.{opening_defect, prints_phases, prints_at}
 use Rattle.ffs_check.proofs.check.check_rest.Goals as goal
 
-pub returns-clause-runs : goal.returns-clause-runs
-returns-clause-runs g c =
+pub returns-clause-prints : goal.returns-clause-prints
+returns-clause-prints g c =
     let s = superblock_in c.args.found.now in
     prints_at (super_lines s) _ (λ bytes. phase_lines bytes s) (λ bytes. continues_after_root (volume_of s.layout bytes)) _ _ _
     (g.W.Output.sink c.run_rest.new.report.out.now) _ _ (search rules)

@@ -17,8 +17,8 @@ use Rattle.ffs_connectivity.proofs.Unreached.{count_begin, lines_begin}
 use Rattle.ffs_volume.proofs.Numbered.{count_next, from_next, from_end}
 use Rattle.ffs_connectivity.proofs.pass3.phase3.Goals as goal
 
-pub returns-in_err-say-clause-runs : goal.returns-in_err-say-clause-runs
-returns-in_err-say-clause-runs g c =
+pub returns-in_err-say-clause-prints : goal.returns-in_err-say-clause-prints
+returns-in_err-say-clause-prints g c =
     let p = err_from_is_err_and c.from_residual.result c.from_residual.ensures.1 in
     let v = c.args.geometry.now.layout in
     rw (p.1, p.2) (record {
@@ -29,8 +29,8 @@ returns-in_err-say-clause-runs g c =
           c.in_err-say.ensures.said;
     })
 
-pub returns-then-first-len-clause-runs : goal.returns-then-first-len-clause-runs
-returns-then-first-len-clause-runs g c =
+pub returns-then-first-len-clause-prints : goal.returns-then-first-len-clause-prints
+returns-then-first-len-clause-prints g c =
     let v = c.args.geometry.now.layout in
     record {
       image = search rules;
@@ -84,8 +84,8 @@ loop-number-init g c =
           c.in_ok-say.ensures.said;
     }
 
-pub returns-in_err-check_inode-clause-runs : goal.returns-in_err-check_inode-clause-runs
-returns-in_err-check_inode-clause-runs g c =
+pub returns-in_err-check_inode-clause-prints : goal.returns-in_err-check_inode-clause-prints
+returns-in_err-check_inode-clause-prints g c =
     let p = err_from_is_err_and c.from_residual-in_err-check_inode.result
     c.from_residual-in_err-check_inode.ensures.1 in
     let v = c.args.geometry.now.layout in
@@ -105,7 +105,7 @@ returns-in_err-check_inode-clause-runs g c =
             ap (λ d. d.contents) inv.device ∙ k.0,
             claims_left v bytes _ _ inv.survey k.1,
             survey_left v bytes _ _ inv.survey k.2,
-          )) c.in_err-check_inode.ensures.runs.text);
+          )) c.in_err-check_inode.ensures.prints.text);
     })
 
 pub loop-number-preserved : goal.loop-number-preserved
@@ -141,8 +141,8 @@ loop-number-preserved g c =
           (said_knows _ _ _ _ _ _ known ok.runs.text);
     }
 
-pub returns-clause-runs : goal.returns-clause-runs
-returns-clause-runs g c =
+pub returns-clause-prints : goal.returns-clause-prints
+returns-clause-prints g c =
     let v = c.args.geometry.now.layout in
     let inv = c.loop-number.invariant in
     let n = c.loop-number.number in

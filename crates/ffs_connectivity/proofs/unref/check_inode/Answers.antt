@@ -8,8 +8,8 @@ use Rattle.ffs_connectivity.specs.Lines.{cut_off_lines}
 use Rattle.ffs_connectivity.proofs.CutOff.{attributes_are, cut_off_is, one_line, silent, heard}
 use Rattle.ffs_connectivity.proofs.unref.check_inode.Goals as goal
 
-pub returns-then-not-cut_off-clause-runs : goal.returns-then-not-cut_off-clause-runs
-returns-then-not-cut_off-clause-runs g c =
+pub returns-then-not-cut_off-clause-prints : goal.returns-then-not-cut_off-clause-prints
+returns-then-not-cut_off-clause-prints g c =
     let v = c.args.geometry.now.layout in
     record {
       image = refl;
@@ -21,8 +21,8 @@ returns-then-not-cut_off-clause-runs g c =
           refl c.is_unref-cut_off.ensures k.1 k.2) ∙ c.if-not-cut_off.true));
     }
 
-pub returns-in_err-inode-clause-runs : goal.returns-in_err-inode-clause-runs
-returns-in_err-inode-clause-runs g c =
+pub returns-in_err-inode-clause-prints : goal.returns-in_err-inode-clause-prints
+returns-in_err-inode-clause-prints g c =
     let p = err_from_is_err_and c.from_residual.result c.from_residual.ensures.1 in
     rw (p.1, p.2) (record {
       image = search rules;
@@ -31,8 +31,8 @@ returns-in_err-inode-clause-runs g c =
           c.args.number)) _);
     })
 
-pub returns-in_err-say-clause-runs : goal.returns-in_err-say-clause-runs
-returns-in_err-say-clause-runs g c =
+pub returns-in_err-say-clause-prints : goal.returns-in_err-say-clause-prints
+returns-in_err-say-clause-prints g c =
     let p = err_from_is_err_and c.from_residual-in_err-say.result c.from_residual-in_err-say.ensures.1 in
     let v = c.args.geometry.now.layout in
     rw (p.1, p.2) (record {
@@ -50,8 +50,8 @@ returns-in_err-say-clause-runs g c =
           c.in_err-say.ensures.said;
     })
 
-pub returns-clause-runs : goal.returns-clause-runs
-returns-clause-runs g c =
+pub returns-clause-prints : goal.returns-clause-prints
+returns-clause-prints g c =
     let v = c.args.geometry.now.layout in
     record {
       image = search rules;

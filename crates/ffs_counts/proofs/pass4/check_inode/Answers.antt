@@ -13,8 +13,8 @@ use Rattle.ffs_counts.proofs.Unmet.{unmet_line}
 use Rattle.ffs_workspace.proofs.Readiness.{ready_table}
 use Rattle.ffs_counts.proofs.pass4.check_inode.Goals as goal
 
-pub returns-then-is_right-clause-runs : goal.returns-then-is_right-clause-runs
-returns-then-is_right-clause-runs g c =
+pub returns-then-is_right-clause-prints : goal.returns-then-is_right-clause-prints
+returns-then-is_right-clause-prints g c =
     let v = c.args.geometry.now.layout in
     let n = c.args.number in
     record {
@@ -26,15 +26,15 @@ returns-then-is_right-clause-runs g c =
           (sym c.is_right.ensures ∙ c.if-is_right.true)));
     }
 
-pub returns-in_err-inode-clause-runs : goal.returns-in_err-inode-clause-runs
-returns-in_err-inode-clause-runs g c =
+pub returns-in_err-inode-clause-prints : goal.returns-in_err-inode-clause-prints
+returns-in_err-inode-clause-prints g c =
     let p = err_from_is_err_and c.from_residual.result c.from_residual.ensures.1 in
     let lines : List _ → List Message =
     λ bytes. map of_tree (reference_lines_at (volume_of c.args.geometry.now.layout bytes) c.args.number) in
     rw (p.1, p.2) (record { image = search rules; text = of_reads _ lines _ _ _ (of_begins _ lines _) })
 
-pub returns-in_err-say_line-clause-runs : goal.returns-in_err-say_line-clause-runs
-returns-in_err-say_line-clause-runs g c =
+pub returns-in_err-say_line-clause-prints : goal.returns-in_err-say_line-clause-prints
+returns-in_err-say_line-clause-prints g c =
     let p = err_from_is_err_and c.from_residual-in_err-say_line.result c.from_residual-in_err-say_line.ensures.1 in
     let v = c.args.geometry.now.layout in
     let w = c.args.workspace.now in
@@ -66,8 +66,8 @@ returns-in_err-say_line-clause-runs g c =
           c.in_err-say_line.ensures;
     })
 
-pub returns-clause-runs : goal.returns-clause-runs
-returns-clause-runs g c =
+pub returns-clause-prints : goal.returns-clause-prints
+returns-clause-prints g c =
     let v = c.args.geometry.now.layout in
     let w = c.args.workspace.now in
     let n = c.args.number in

@@ -12,8 +12,8 @@ use Rattle.ffs_counts.proofs.Holding.{count_begin, count_free, free_lines, held_
 use Rattle.ffs_volume.proofs.Numbered.{count_next, from_next, from_end}
 use Rattle.ffs_counts.proofs.pass4.phase4.Goals as goal
 
-pub returns-in_err-say-clause-runs : goal.returns-in_err-say-clause-runs
-returns-in_err-say-clause-runs g c =
+pub returns-in_err-say-clause-prints : goal.returns-in_err-say-clause-prints
+returns-in_err-say-clause-prints g c =
     let p = err_from_is_err_and c.from_residual.result c.from_residual.ensures.1 in
     let v = c.args.geometry.now.layout in
     rw (p.1, p.2) (record {
@@ -42,8 +42,8 @@ loop-number-init g c =
           c.in_ok-say.ensures.said;
     }
 
-pub returns-in_err-check_inode-clause-runs : goal.returns-in_err-check_inode-clause-runs
-returns-in_err-check_inode-clause-runs g c =
+pub returns-in_err-check_inode-clause-prints : goal.returns-in_err-check_inode-clause-prints
+returns-in_err-check_inode-clause-prints g c =
     let p = err_from_is_err_and c.from_residual-in_err-check_inode.result
     c.from_residual-in_err-check_inode.ensures.1 in
     let v = c.args.geometry.now.layout in
@@ -64,7 +64,7 @@ returns-in_err-check_inode-clause-runs g c =
           (λ bytes k. (
             ap (λ d. d.contents) inv.device ∙ k.0,
             findings_held v bytes _ _ inv.held k.1,
-          )) c.in_err-check_inode.ensures.runs.text);
+          )) c.in_err-check_inode.ensures.prints.text);
     })
 
 pub loop-number-preserved-then-free-eq0 : goal.loop-number-preserved-then-free-eq0
@@ -121,8 +121,8 @@ loop-number-preserved g c =
           (omega (arith, c.free_run-free.ensures.within, c.deref.ensures.len, inv.ready.made.kinds)));
     }
 
-pub returns-clause-runs : goal.returns-clause-runs
-returns-clause-runs g c =
+pub returns-clause-prints : goal.returns-clause-prints
+returns-clause-prints g c =
     let v = c.args.geometry.now.layout in
     let inv = c.loop-number.invariant in
     let n = c.loop-number.number in

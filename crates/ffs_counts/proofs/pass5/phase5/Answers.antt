@@ -17,8 +17,8 @@ use Rattle.ffs_counts.proofs.GroupText.{counts_held, lines_held, totals_right, u
 use Rattle.ffs_counts.proofs.Holding.{held_on}
 use Rattle.ffs_counts.proofs.pass5.phase5.Goals as goal
 
-pub returns-in_err-say-clause-runs : goal.returns-in_err-say-clause-runs
-returns-in_err-say-clause-runs g c =
+pub returns-in_err-say-clause-prints : goal.returns-in_err-say-clause-prints
+returns-in_err-say-clause-prints g c =
     let p = err_from_is_err_and c.from_residual.result c.from_residual.ensures.1 in
     let lines : List ℕ → List Message = λ bytes. group_check_lines bytes (superblock_in c.args.superblock.now) in
     rw (p.1, p.2) (record {
@@ -50,13 +50,13 @@ loop-group-init g c =
           (omega arith));
     }
 
-pub returns-in_err-found-clause-runs : goal.returns-in_err-found-clause-runs
-returns-in_err-found-clause-runs g c =
+pub returns-in_err-found-clause-prints : goal.returns-in_err-found-clause-prints
+returns-in_err-found-clause-prints g c =
     let p = err_from_is_err_and c.from_residual-in_err-found.result c.from_residual-in_err-found.ensures.1 in
     rw (p.1, p.2) (record { image = search rules; text = of_reads _ _ _ _ _ c.loop-group.invariant.said })
 
-pub returns-in_err-say_group-clause-runs : goal.returns-in_err-say_group-clause-runs
-returns-in_err-say_group-clause-runs g c =
+pub returns-in_err-say_group-clause-prints : goal.returns-in_err-say_group-clause-prints
+returns-in_err-say_group-clause-prints g c =
     let p = err_from_is_err_and c.from_residual-in_err-say_group.result c.from_residual-in_err-say_group.ensures.1 in
     let v = c.args.superblock.now.geometry.layout in
     let sums = c.args.superblock.now.cstotal in
@@ -115,8 +115,8 @@ loop-group-preserved g c =
           c.in_ok-say_group.ensures.said;
     }
 
-pub returns-in_err-say_unless-clause-runs : goal.returns-in_err-say_unless-clause-runs
-returns-in_err-say_unless-clause-runs g c =
+pub returns-in_err-say_unless-clause-prints : goal.returns-in_err-say_unless-clause-prints
+returns-in_err-say_unless-clause-prints g c =
     let p = err_from_is_err_and c.from_residual-in_err-say_unless.result c.from_residual-in_err-say_unless.ensures.1 in
     let v = c.args.superblock.now.geometry.layout in
     let sums = c.args.superblock.now.cstotal in
@@ -137,8 +137,8 @@ returns-in_err-say_unless-clause-runs g c =
           c.in_err-say_unless.ensures.said;
     })
 
-pub returns-clause-runs : goal.returns-clause-runs
-returns-clause-runs g c =
+pub returns-clause-prints : goal.returns-clause-prints
+returns-clause-prints g c =
     let v = c.args.superblock.now.geometry.layout in
     let sums = c.args.superblock.now.cstotal in
     let w = c.args.workspace.now in

@@ -1,6 +1,6 @@
 use Rattle.std.proofs.Common.{◌≡◌, ◌≢◌, ℕ, ◌+◌, ◌<◌, ◌≤◌, List, length, arith, sym, ◌∙◌, subst, set, None, Some, ◌⊎◌, ap, refl}
 use Rattle.std.proofs.Common.{inl, inr}
-use Rattle.ffs_volume.specs.Directories.Climb.{OnCycle}
+use Rattle.ffs_volume.specs.Directories.Climb.{IsOnCycle}
 use Rattle.std.specs.Prelude.{suc}
 use Rattle.ffs_survey.specs.Survey.{number_at}
 use Rattle.ffs_survey.specs.Cycles.{up_of, zeros, IsNew, IsClosed, Walked}
@@ -32,7 +32,7 @@ mark_some start = λ z. absurd (omega arith)
 pub walked_none : (parent : List ℕ) (start steps place : ℕ) (old now : List ℕ) → Here parent start steps place old now →
     (number_at parent place ≡ 0) ⊎ (length parent ≤ number_at parent place)
     → Walked (up_of parent) start (start + 1) old now
-    × ((x : ℕ) → IsNew old now x → OnCycle (up_of parent) x → ⊥)
+    × ((x : ℕ) → IsNew old now x → IsOnCycle (up_of parent) x → ⊥)
 walked_none parent start steps place old now h z =
     let e = up_of-none parent place z in (
       walked (up_of parent) start (start + 1) steps place old now (mark_some start) h.closed h.state
