@@ -6,7 +6,7 @@ use Rattle.ffs_volume.specs.declared.End.{End}
 use Rattle.ffs_volume.specs.declared.End.TheVariants.{Consistent, Defects, Refused, RootStop}
 use Rattle.ffs_volume.specs.declared.End.TheVariants.{ReadFault, WriteFault, NoMemory}
 
--- of the counts of failed reads before and after
+-- what an end says of the counts of failed reads before and after
 abbrev pub ReadsFailed : End → ℕ → ℕ → Type 0
 ReadsFailed Consistent old new = new ≡ old
 ReadsFailed Defects old new = new ≡ old
@@ -16,7 +16,7 @@ ReadsFailed (Refused fault) old new = (new ≡ old) ⊎ Rose old new
 ReadsFailed (ReadFault sector) old new = Rose old new
 ReadsFailed WriteFault old new = (new ≡ old) ⊎ Rose old new
 
--- of the counts of failed writes before and after
+-- what an end says of the counts of failed writes before and after
 abbrev pub WritesFailed : End → ℕ → ℕ → Type 0
 WritesFailed Consistent old new = new ≡ old
 WritesFailed Defects old new = new ≡ old

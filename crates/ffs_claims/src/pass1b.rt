@@ -101,7 +101,7 @@ fn rewalk<I: Image, W: Output>(
 }
 
 /// Reads an inode by its number, and walks over its blocks again.
-fn renumbered<I: Image, W: Output>(
+fn rewalk_inode<I: Image, W: Output>(
     workspace: &mut Workspace,
     geometry: &Geometry,
     number: u32,
@@ -165,7 +165,7 @@ pub fn phase1b<I: Image, W: Output>(
         if !workspace.has_dups() {
             break;
         }
-        renumbered(workspace, geometry, number, image, report)?;
+        rewalk_inode(workspace, geometry, number, image, report)?;
     }
     Ok(())
 }

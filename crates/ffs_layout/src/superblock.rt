@@ -65,7 +65,7 @@ fn layouts_agree(
     agree_at(order, &LAYOUT_PLACES, bytes, copy)
 }
 
-/// Reads a superblock.
+/// Reads the bytes of a superblock, the primary or a copy.
 fn read_copy<I: Image>(
     image: &mut I,
     at: u64,
@@ -99,7 +99,7 @@ pub struct Super {
     pub optim: i32,
     /// The percentage of blocks that are to stay free.
     pub minfree: i32,
-    /// Directories, free blocks, free inodes and free fragments of the volume.
+    /// Directories, free blocks, free inodes, and the free fragments of blocks that aren't all free.
     pub cstotal: [i32; 4],
     /// Where the volume was mounted last, up to the first NUL.
     pub mount: [u8; MAXMNTLEN],

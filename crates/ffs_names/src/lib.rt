@@ -3,7 +3,7 @@
 //! `Entries::next` returns the entries of a directory in their order, from the Runs that its inode
 //! keeps. `survey` leaves in the workspace how often each inode is referred to, which directories
 //! are reached from inode 2, and the parent of each directory. `note_places` notes where in the
-//! image each of them has its parent entry.
+//! image the parent entry of each of these directories is.
 //!
 //! ```text
 //! survey(&geometry, &mut image, &mut workspace)?;

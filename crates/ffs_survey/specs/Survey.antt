@@ -19,7 +19,7 @@ suspect_at kinds marked x = bool_at marked x || (nat_le 2 x && (number_at kinds 
 abbrev pub graph_with : List ℕ → (ℕ → List RoledEntry) → Graph
 graph_with kinds entries = record { count = length kinds; is_dir = dir_at kinds; entries = entries }
 
--- how many entries of s that count name x, where s is a directory
+-- how many entries of s refer to x, where s is a directory
 abbrev pub counted_in : Graph → ℕ → ℕ → ℕ
 counted_in g s x = if g.is_dir s then count_by (refers x) (g.entries s) else 0
 
@@ -27,7 +27,7 @@ unfoldable pub references_below : Graph → ℕ → ℕ → ℕ
 references_below g x zero = 0
 references_below g x (suc s) = references_below g x s + counted_in g s x
 
--- how many entries that count name x
+-- how many entries refer to x
 abbrev pub references_to : Graph → ℕ → ℕ
 references_to g x = references_below g x g.count
 
@@ -39,8 +39,8 @@ most_start = NO_LINKS
 abbrev pub start_in : (starts : List ℕ) (x : ℕ) → ℕ
 start_in starts x = min (number_at starts x) most_start
 
--- these lists hold of each inode how many entries that count name it, counted on from where it starts, whether a plain
--- one does, whether it is reached from inode 2, and its parent, 0 for none
+-- these lists hold of each inode how many entries refer to it, counted on from where it starts, whether a plain one
+-- names it, whether it is reached from inode 2, and its parent, 0 for none
 pub record IsSurvey (g : Graph) (starts references : List ℕ) (flags marks : List Bool) (parents : List ℕ) : Type 0 where
   pub counts : (x : ℕ) → x < g.count → number_at references x ≡ start_in starts x + references_to g x
   pub names : (x : ℕ) → x < g.count → bool_at flags x ≡ is_named g x

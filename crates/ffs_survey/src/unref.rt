@@ -1,4 +1,4 @@
-//! Directories that hang below nothing.
+//! Which inodes are suspect or dead, and of which directories UNREF DIR is reported.
 ghost use Rattle.std.specs.Prelude.{◌≡◌, ◌≢◌, ◌<◌, length, MatchOption};
 ghost use Rattle.ffs_volume.specs.Directories.Graph.{Graph, is_dead_in, is_unref_dir_in};
 ghost use Rattle.ffs_survey.specs.Survey.{suspect_at, IsTree, AreNamed, number_at};

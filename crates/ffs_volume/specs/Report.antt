@@ -1,4 +1,4 @@
--- The report: its opening, its messages, its end and its status, and the bounds on memory and on Runs.
+-- The report: its opening, its messages, its end and its status, and the bounds on memory, on Runs and on reads.
 pub mod Opening
 pub mod Whole
 pub mod Memory

@@ -287,7 +287,7 @@ pub enum Label {
     Dir,
     /// Any other file.
     File,
-    /// Of no known type: its path is shown as that of a name.
+    /// Not allocated, or of class Unknown: its path is shown after NAME=.
     Name,
 }
 

@@ -32,7 +32,7 @@ claims_of w = record {
   tail = w.tail;
 }
 
--- nothing was claimed, doubled, found or marked yet
+-- nothing is claimed, dup, counted, noted or marked yet
 pub record IsFresh (v : Layout) (w : Workspace) : Type 0 where
   pub claimed : bits_of w.claimed ≡ replicate v.size false
   pub duplicates : bits_of w.duplicates ≡ replicate v.size false

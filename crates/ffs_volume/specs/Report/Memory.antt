@@ -1,10 +1,10 @@
--- The memory that a check may hold.
+-- The memory that a check may hold, and the Runs that it may see.
 use Rattle.std.specs.Prelude.{ℕ, ◌+◌, ◌*◌}
 use Rattle.std.specs.Int.{div_ceil}
 use Rattle.ffs_volume.specs.declared.Layout.{Layout}
 
--- the most bytes that the lists and buffers of a check take: three maps of the fragments, 25 bytes an inode, eight
--- blocks and a page
+-- a bound on the bytes that the lists and buffers of a check take. They take two maps of the fragments, 25 bytes an
+-- inode and six blocks (`held_of` of ffs_workspace): the bound has room for a third map, two blocks and a page
 abbrev pub held_limit : Layout → ℕ
 held_limit v = 3 * (8 * div_ceil v.size 64) + 25 * (v.ncg * v.ipg) + 8 * v.bsize + 4096
 

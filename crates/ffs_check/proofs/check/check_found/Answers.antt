@@ -18,7 +18,7 @@ run_rest-requires g c = record {
 
 pub returns-in-Ok-clause-followed : goal.returns-in-Ok-clause-followed
 returns-in-Ok-clause-followed g c =
-    let s = superblock_in c.args.found.now in
+    let s = superblock_in c.args.superblock.now in
     inr (ran_known false _ _ (λ bytes. phase_lines bytes s) (λ bytes. continues_after_root (volume_of s.layout bytes)) _
     _ _ _ _ (λ bytes t. (t, c.in-Ok.ensures.new.fresh)) c.run_rest.ensures.ran)
 

@@ -10,7 +10,7 @@ use Rattle.ffs_check.proofs.check.check_rest.Goals as goal
 
 pub returns-clause-prints : goal.returns-clause-prints
 returns-clause-prints g c =
-    let s = superblock_in c.args.found.now in
+    let s = superblock_in c.args.superblock.now in
     prints_at (super_lines s) _ (λ bytes. phase_lines bytes s) (λ bytes. continues_after_root (volume_of s.layout bytes)) _ _ _
     (g.W.Output.sink c.run_rest.new.report.out.now) _ _ (search rules)
     (prints_phases _ (super_lines s) (c.opening_defects.ensures ∙ opening_defect s) _ (λ bytes. phase_lines bytes s)

@@ -9,10 +9,10 @@ use Rattle.ffs_check.proofs.opening.say_super.Goals as goal
 pub returns-in_err-say_settings : goal.returns-in_err-say_settings
 returns-in_err-say_settings g c =
     let p = err_from_is_err_and c.from_residual.result c.from_residual.ensures.1 in
-    rw (p.1) (stopped_more _ _ (setting_lines (superblock_in c.args.found.now))
-    (mounted (before_nul c.args.found.now.mount) ∷ []) c.in_err-say_settings.ensures)
+    rw (p.1) (stopped_more _ _ (setting_lines (superblock_in c.args.superblock.now))
+    (mounted (before_nul c.args.superblock.now.mount) ∷ []) c.in_err-say_settings.ensures)
 
 pub returns : goal.returns
 returns g c =
-    says_then _ _ _ (setting_lines (superblock_in c.args.found.now)) (mounted (before_nul c.args.found.now.mount) ∷ []) _
+    says_then _ _ _ (setting_lines (superblock_in c.args.superblock.now)) (mounted (before_nul c.args.superblock.now.mount) ∷ []) _
     c.in_ok-say_settings.ensures (rw c.before_nul.ensures at c.say.ensures.said)

@@ -71,8 +71,8 @@ loop-number-init g c =
           c.in_ok-say.ensures.said;
     }
 
-pub renumbered-requires : goal.renumbered-requires
-renumbered-requires g c =
+pub rewalk_inode-requires : goal.rewalk_inode-requires
+rewalk_inode-requires g c =
     let inv = c.loop-number.invariant in
     record {
       can = record {
@@ -82,9 +82,9 @@ renumbered-requires g c =
       };
     }
 
-pub returns-in_err-renumbered-clause-prints : goal.returns-in_err-renumbered-clause-prints
-returns-in_err-renumbered-clause-prints g c =
-    let p = err_from_is_err_and c.from_residual-in_err-renumbered.result c.from_residual-in_err-renumbered.ensures.1 in
+pub returns-in_err-rewalk_inode-clause-prints : goal.returns-in_err-rewalk_inode-clause-prints
+returns-in_err-rewalk_inode-clause-prints g c =
+    let p = err_from_is_err_and c.from_residual-in_err-rewalk_inode.result c.from_residual-in_err-rewalk_inode.ensures.1 in
     let v = c.args.geometry.now.layout in
     let inv = c.loop-number.invariant in
     let n = c.loop-number.number in
@@ -94,8 +94,8 @@ returns-in_err-renumbered-clause-prints g c =
     let inside = is_inside v n inv.low lt in
     let cut = ap (λ z. slice_index z.items n) inv.claims.notes in
     rw (p.1, p.2) (record {
-      image = image_from {T = Unit {0}} _ _ (g.I.Image.device c.renumbered.new.image)
-          (Err c.in_err-renumbered.field-0.0) inv.device c.in_err-renumbered.ensures.rewalks.left.image;
+      image = image_from {T = Unit {0}} _ _ (g.I.Image.device c.rewalk_inode.new.image)
+          (Err c.in_err-rewalk_inode.field-0.0) inv.device c.in_err-rewalk_inode.ensures.rewalks.left.image;
       text = of_fault (Unit {0}) (Unit {0}) _
           (λ bytes. of_lines (first_offer_lines d (kept_in_owners v (claims_before v bytes n) (owners_from v bytes n))))
           (λ bytes. of_lines (first_offer_lines d
@@ -103,17 +103,17 @@ returns-in_err-renumbered-clause-prints g c =
           (λ bytes. of_lines (first_offer_lines
           (after_first d (offers_again v n (cut_in (slice_index notes n)) fresh_replay (steps_of v (inode_of v bytes n) bytes)))
           (kept_in_owners v (claims_before v bytes (n + 1)) (owners_from v bytes (n + 1)))))
-          _ _ _ _ c.in_err-renumbered.field-0.0
+          _ _ _ _ c.in_err-rewalk_inode.field-0.0
           inv.said
           (λ bytes k. lines_split d _ _ _ _
           (kept_next v bytes notes n c.args.geometry.now.sound inv.low lt inside
           (ap cut_in (cut ∙ k.1.notes n) ∙ cut_is_noted v bytes n c.args.geometry.now.sound)) refl)
-          (reports_knowing (Unit {0}) _ _ _ _ _ (Err c.in_err-renumbered.field-0.0)
-          (λ bytes k. ap (λ d. d.contents) inv.device ∙ k.0) c.in_err-renumbered.ensures.rewalks.text);
+          (reports_knowing (Unit {0}) _ _ _ _ _ (Err c.in_err-rewalk_inode.field-0.0)
+          (λ bytes k. ap (λ d. d.contents) inv.device ∙ k.0) c.in_err-rewalk_inode.ensures.rewalks.text);
     })
 
-pub returns-in_err-renumbered-clause-runs : goal.returns-in_err-renumbered-clause-runs
-returns-in_err-renumbered-clause-runs g c = λ bytes k.
+pub returns-in_err-rewalk_inode-clause-runs : goal.returns-in_err-rewalk_inode-clause-runs
+returns-in_err-rewalk_inode-clause-runs g c = λ bytes k.
     let v = c.args.geometry.now.layout in
     let inv = c.loop-number.invariant in
     let n = c.loop-number.number in
@@ -124,7 +124,7 @@ returns-in_err-renumbered-clause-runs g c = λ bytes k.
     omega (
       arith,
       inv.runs bytes k,
-      c.renumbered.ensures.rewalks.runs bytes (ap (λ d. d.contents) inv.device ∙ k.0),
+      c.rewalk_inode.ensures.rewalks.runs bytes (ap (λ d. d.contents) inv.device ∙ k.0),
       runs_on v bytes notes n c.args.geometry.now.sound inv.low inside
           (ap cut_in (cut ∙ k.1.notes n) ∙ cut_is_noted v bytes n c.args.geometry.now.sound),
       runs_most v bytes (n + 1) (omega arith) (λ h. omega arith),
@@ -136,7 +136,7 @@ loop-number-preserved g c =
     let inv = c.loop-number.invariant in
     let n = c.loop-number.number in
     let d = bits_of c.loop-number.workspace.duplicates in
-    let d' = bits_of c.renumbered.new.workspace.duplicates in
+    let d' = bits_of c.rewalk_inode.new.workspace.duplicates in
     let notes = c.loop-number.workspace.notes.items in
     let lt : n < inodes_of v = omega arith in
     let inside = is_inside v n inv.low lt in
@@ -149,21 +149,21 @@ loop-number-preserved g c =
     + looked_at d' (owners_runs v (claims_before v bytes (n + 1)) (owners_from v bytes (n + 1)))) =
     λ bytes k. looked_on v bytes notes n d d' c.args.geometry.now.sound inv.low lt inside
     (ap cut_in (cut ∙ k.1.notes n) ∙ cut_is_noted v bytes n c.args.geometry.now.sound)
-    (c.in_ok-renumbered.ensures.rewalks.rewalked bytes (image ∙ k.0)).reported.dup in
+    (c.in_ok-rewalk_inode.ensures.rewalks.rewalked bytes (image ∙ k.0)).reported.dup in
     record {
-      ready = c.renumbered.ensures.rewalks.left.ready;
-      device = c.in_ok-renumbered.ensures.rewalks.left.image ∙ inv.device;
-      claims = claims_then _ _ _ inv.claims c.renumbered.ensures.rewalks.left.claims;
+      ready = c.rewalk_inode.ensures.rewalks.left.ready;
+      device = c.in_ok-rewalk_inode.ensures.rewalks.left.image ∙ inv.device;
+      claims = claims_then _ _ _ inv.claims c.rewalk_inode.ensures.rewalks.left.claims;
       low = omega arith;
       high = λ h. omega arith;
       runs = λ bytes k. omega (
         arith,
         inv.runs bytes k,
-        c.renumbered.ensures.rewalks.runs bytes (image ∙ k.0),
+        c.rewalk_inode.ensures.rewalks.runs bytes (image ∙ k.0),
         runs_on v bytes notes n c.args.geometry.now.sound inv.low inside
             (ap cut_in (cut ∙ k.1.notes n) ∙ cut_is_noted v bytes n c.args.geometry.now.sound),
       );
-      reads = runs_pay_then _ _ _ _ _ _ _ _ inv.reads c.renumbered.ensures.counted (omega (arith, inv.low));
+      reads = runs_pay_then _ _ _ _ _ _ _ _ inv.reads c.rewalk_inode.ensures.counted (omega (arith, inv.low));
       count = λ bytes k.
           let fits : c.loop-number.workspace.runs_again + looked_at d
           (steps_runs_again v n (cut_in (slice_index notes n)) fresh_replay (steps_of v (inode_of v bytes n) bytes)) < 2 ^ 64 =
@@ -172,7 +172,7 @@ loop-number-preserved g c =
             arith,
             inv.count bytes k,
             on bytes k,
-            (c.in_ok-renumbered.ensures.rewalks.rewalked bytes (image ∙ k.0)).count
+            (c.in_ok-rewalk_inode.ensures.rewalks.rewalked bytes (image ∙ k.0)).count
                 fits,
           );
       reported = λ bytes k. reporting_more _
@@ -180,7 +180,7 @@ loop-number-preserved g c =
           (kept_in_owners v (claims_before v bytes (n + 1)) (owners_from v bytes (n + 1))) _ _ _ _
           (inv.reported bytes k) (kept_next v bytes notes n c.args.geometry.now.sound inv.low lt inside
           (ap cut_in (cut ∙ k.1.notes n) ∙ cut_is_noted v bytes n c.args.geometry.now.sound))
-          (c.in_ok-renumbered.ensures.rewalks.rewalked bytes (image ∙ k.0)).reported;
+          (c.in_ok-rewalk_inode.ensures.rewalks.rewalked bytes (image ∙ k.0)).reported;
       said = of_part _ (λ bytes. of_lines
           (first_offer_lines d (kept_in_owners v (claims_before v bytes n) (owners_from v bytes n))))
           (λ bytes. of_lines (first_offer_lines d
@@ -189,8 +189,8 @@ loop-number-preserved g c =
           (kept_in_owners v (claims_before v bytes (n + 1)) (owners_from v bytes (n + 1))))) _ _ _ _ inv.said
           (λ bytes k. lines_split d d' _ _ _ (kept_next v bytes notes n c.args.geometry.now.sound inv.low lt inside
           (ap cut_in (cut ∙ k.1.notes n) ∙ cut_is_noted v bytes n c.args.geometry.now.sound))
-          (c.in_ok-renumbered.ensures.rewalks.rewalked bytes (image ∙ k.0)).reported.dup)
-          (said_knows _ _ _ _ _ _ (λ bytes k. image ∙ k.0) c.in_ok-renumbered.ensures.rewalks.text);
+          (c.in_ok-rewalk_inode.ensures.rewalks.rewalked bytes (image ∙ k.0)).reported.dup)
+          (said_knows _ _ _ _ _ _ (λ bytes k. image ∙ k.0) c.in_ok-rewalk_inode.ensures.rewalks.text);
     }
 
 pub returns-then-not-has_dups : goal.returns-then-not-has_dups
@@ -255,9 +255,9 @@ pub returns-in_err-say-clause-ready : goal.returns-in_err-say-clause-ready
 returns-in_err-say-clause-ready g c = ready_unseen c.args.geometry.now.layout (g.I.Image.device c.args.image.now)
     c.args.workspace.now 0 c.requires.ready
 
-pub returns-in_err-renumbered-clause-reads : goal.returns-in_err-renumbered-clause-reads
-returns-in_err-renumbered-clause-reads g c =
+pub returns-in_err-rewalk_inode-clause-reads : goal.returns-in_err-rewalk_inode-clause-reads
+returns-in_err-rewalk_inode-clause-reads g c =
     let inv = c.loop-number.invariant in
     let most : c.loop-number.number < inodes_of c.args.geometry.now.layout = omega arith in
     runs_pay_all _ _ _ _ _
-    (runs_pay_then _ _ _ _ (c.loop-number.number - 1) _ _ _ inv.reads c.renumbered.ensures.counted (omega arith)) (omega (arith, most, inv.low))
+    (runs_pay_then _ _ _ _ (c.loop-number.number - 1) _ _ _ inv.reads c.rewalk_inode.ensures.counted (omega arith)) (omega (arith, most, inv.low))

@@ -17,7 +17,7 @@ use Rattle.ffs_workspace.proofs.Readiness.{ready_table}
 use Rattle.ffs_workspace.specs.Notes.{cut_in}
 use Rattle.ffs_claims.proofs.Rewalks.{rewalked_from}
 use Rattle.ffs_claims.specs.SecondLook.{Rewalked}
-use Rattle.ffs_claims.proofs.pass1b.renumbered.Goals as goal
+use Rattle.ffs_claims.proofs.pass1b.rewalk_inode.Goals as goal
 
 pub inode-requires : goal.inode-requires
 inode-requires g c =
