@@ -16,8 +16,8 @@ fn set_bits(map: &FragmentMap, alloc: Global) -> Result<Vec<u32>, AllocError> {
     Ok(set)
 }
 
-/// How many bytes a new map takes, and the bits that are set in it, after one is set, and after that
-/// one is cleared.
+/// How many bytes a new map takes, and the bits that are set in it, after one is set, and after
+/// that one is cleared.
 fn one_bit(alloc: Global) -> Result<(u64, [Vec<u32>; 3]), AllocError> {
     let mut map = FragmentMap::new(alloc, 130)?;
     let held = map.held();

@@ -66,8 +66,8 @@ fn word(address: u16, index: u16, number: u64) -> Number {
     )
 }
 
-/// The same of the small volume with these words, and how many reads the walk makes, and how many of
-/// them aren't of a whole block that may hold data.
+/// The same of the small volume with these words, and how many reads the walk makes, and how many
+/// of them aren't of a whole block that may hold data.
 fn walked(
     order: Order,
     words: &[Number],

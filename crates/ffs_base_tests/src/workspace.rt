@@ -73,8 +73,8 @@ fn inode_in_its_table(rt: HostRuntime) -> Result<(), Fail> {
     Ok(())
 }
 
-/// Inodes, and for each the part of the table that is held after it is read: the number of the first
-/// inode there, and how many there are.
+/// Inodes, and for each the part of the table that is held after it is read: the number of the
+/// first inode there, and how many there are.
 type Parts = [(Inode, u32, u32); 3];
 
 /// The inodes 8, 12 and 2, by parts of the table.

@@ -50,7 +50,8 @@ fn is_right(workspace: &Workspace, number: u32) -> bool
 /// How many free inodes are passed over at once.
 const FREE_RUN: usize = 64;
 
-/// How many inodes from one on are passed over, since they are free: 64, or only the first, or none.
+/// How many inodes from one on are passed over, since they are free: 64, or only the first, or
+/// none.
 fn free_run(kinds: &[u8], first: usize) -> usize
     requires { first < length kinds.now }
     ensures { IsFreeRun kinds.now first result }

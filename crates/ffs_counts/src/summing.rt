@@ -62,8 +62,8 @@ fn reserved_count(geometry: &Geometry) -> u32
     count
 }
 
-/// How many fragments are claimed; reserved ones don't count. Their bits were all set before any was
-/// claimed. In a map that lacks some the difference stops at 0, and nothing is said of it.
+/// How many fragments are claimed; reserved ones don't count. Their bits were all set before any
+/// was claimed. In a map that lacks some the difference stops at 0, and nothing is said of it.
 fn used_count(geometry: &Geometry, used: &FragmentMap) -> u32
     requires { used.now.size ≡ geometry.now.layout.size }
     ensures { HasReserved geometry.now.layout (bits_of used.now)

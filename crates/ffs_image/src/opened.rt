@@ -21,7 +21,8 @@ pub struct OpenedFile<F: RawFile> {
     ghost sized: { ForContents (F.contents file) (λ bytes. length bytes ≡ size) },
 }
 
-/// The place of a file's end, so that a block device has its size too. What can't seek has no bytes.
+/// The place of a file's end, so that a block device has its size too. What can't seek has no
+/// bytes.
 fn size_of<F: RawFile>(file: &mut F) -> u64
     ensures end { IsSized F.was_sought file.old file.new result }
     ensures bytes { ForContents (F.contents file.new) (λ bytes. length bytes ≡ result) }

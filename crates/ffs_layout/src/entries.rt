@@ -18,8 +18,8 @@ fn is_valid_record_length(place: usize, len: u16) -> bool
     len % 4 == 0 && 8 <= len && place + usize::from(len) <= DIRBLKSIZ
 }
 
-/// Whether one of a few bytes is NUL or `/`. All are looked at, with no test that ends the loop: the
-/// machine takes them at once.
+/// Whether one of a few bytes is NUL or `/`. All are looked at, with no test that ends the loop:
+/// the machine takes them at once.
 #[inline]
 fn has_mark_at_once<const N: usize>(part: &[u8; N]) -> bool
     ensures { result ≡ has_mark part.now }

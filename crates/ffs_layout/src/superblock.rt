@@ -99,7 +99,8 @@ pub struct Super {
     pub optim: i32,
     /// The percentage of blocks that are to stay free.
     pub minfree: i32,
-    /// Directories, free blocks, free inodes, and the free fragments of blocks that aren't all free.
+    /// Directories, free blocks, free inodes, and the free fragments of blocks that aren't all
+    /// free.
     pub cstotal: [i32; 4],
     /// Where the volume was mounted last, up to the first NUL.
     pub mount: [u8; MAXMNTLEN],

@@ -22,8 +22,8 @@ ghost use Rattle.ffs_maps.specs.WordBits.{bits_of_words, set_among};
 use ffs_memory::{Memory, SystemMemory, ZeroedWords};
 use std::alloc::{AllocError, Global};
 
-/// Whether all these words are equal to this one. The loop doesn't stop early, so that the processor
-/// can compare several at once.
+/// Whether all these words are equal to this one. The loop doesn't stop early, so that the
+/// processor can compare several at once.
 fn are_alike(words: &[u64], word: u64) -> bool
     ensures { IsTrue result ↔ All (λ w. w ≡ word) words.now }
 {

@@ -37,8 +37,8 @@ pub enum Root {
 /// The text is that of a workspace that holds what the block check found. At `Ok` the workspace
 /// holds what the survey found.
 ///
-/// Where a word has room for the number of each chunk (a volume below 2^40 bytes), the image is read
-/// at most `pathname_reads` times, also where a read failed.
+/// Where a word has room for the number of each chunk (a volume below 2^40 bytes), the image is
+/// read at most `pathname_reads` times, also where a read failed.
 ///
 /// # Errors
 /// A read of the image that failed, and a write of the report that failed.

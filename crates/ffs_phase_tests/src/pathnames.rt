@@ -70,8 +70,8 @@ fn entries_of_the_root(rt: HostRuntime) -> Result<(), Fail> {
     Ok(())
 }
 
-/// The verdict on a marked file, before two entries of the root are passed; those on a directory and
-/// on the file after it, and then the word of the directory.
+/// The verdict on a marked file, before two entries of the root are passed; those on a directory
+/// and on the file after it, and then the word of the directory.
 fn verdicts_in_turn(alloc: Global) -> Result<([Verdict; 3], u32), AllocError> {
     let parents = numbers(&PARENTS, alloc)?;
     let inodes = Inodes {
@@ -91,8 +91,8 @@ fn verdicts_in_turn(alloc: Global) -> Result<([Verdict; 3], u32), AllocError> {
     Ok(([first, second, third], words[4]))
 }
 
-/// The second entry of the root that names a directory is one too many; a marked file is reported at
-/// the first alone. The place that is noted stays.
+/// The second entry of the root that names a directory is one too many; a marked file is reported
+/// at the first alone. The place that is noted stays.
 #[test]
 fn second_names(rt: HostRuntime) -> Result<(), Fail> {
     let first = Faults {

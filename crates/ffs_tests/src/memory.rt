@@ -156,7 +156,8 @@ fn claimed(alloc: Global) -> Result<([bool; 3], [u64; 4]), AllocError> {
     ))
 }
 
-/// The bits of a mask are claimed where none of them is set: beside bits that are, but not over one.
+/// The bits of a mask are claimed where none of them is set: beside bits that are, but not over
+/// one.
 #[test]
 fn bits_claimed_once(rt: HostRuntime) -> Result<(), Fail> {
     let (made, words) = claimed(rt.alloc())?;

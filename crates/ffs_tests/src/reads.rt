@@ -45,17 +45,18 @@ const NAMED: [Number; 6] = [
     (36896, 1, 102),
 ];
 
-/// How a check of the volume with a root alone, and these numbers more, ends, and how often it reads.
+/// How a check of the volume with a root alone, and these numbers more, ends, and how often it
+/// reads.
 fn counted(order: Order, more: &[Number], alloc: Global) -> Result<(End, u64), AllocError> {
     let mut image = CountedImage::new(volume(order, more, alloc)?);
     let (end, _) = checked(&mut image, alloc);
     Ok((end, image.reads()))
 }
 
-/// The counts are those of the system calls of the program on the same bytes in a file. A clean volume
-/// of this size has six: the superblock and its copy, the inodes, the root's chunk, and the summary
-/// record and the block of the group. With a second directory there is its chunk; with two indirect
-/// blocks these, and the first one again in phase 1b. Other defects ask for no more.
+/// The counts are those of the system calls of the program on the same bytes in a file. A clean
+/// volume of this size has six: the superblock and its copy, the inodes, the root's chunk, and the
+/// summary record and the block of the group. With a second directory there is its chunk; with two
+/// indirect blocks these, and the first one again in phase 1b. Other defects ask for no more.
 #[test]
 fn reads_of_a_check(rt: HostRuntime) -> Result<(), Fail> {
     let cases: [(&[Number], End, u64); 7] = [

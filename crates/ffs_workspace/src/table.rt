@@ -149,9 +149,9 @@ impl Table {
         Ok(decode_inode(geometry.layout.order, &bytes[at..at + DINODE_SIZE]))
     }
 
-    /// Whether an inode's sector begins where the inodes that are held end, as where the caller goes
-    /// along the table. Where none is held they end at `first`. No answer depends on it: it decides
-    /// only how much is read.
+    /// Whether an inode's sector begins where the inodes that are held end, as where the caller
+    /// goes along the table. Where none is held they end at `first`. No answer depends on it: it
+    /// decides only how much is read.
     fn follows(&self, number: u32) -> bool {
         number >= self.first && (number - self.first) / SECTOR_INODES == self.count / SECTOR_INODES
     }

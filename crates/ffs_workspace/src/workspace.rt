@@ -45,9 +45,9 @@ pub struct Workspace {
     pub named: FixedList<bool>,
     /// The directories that are reached from the root.
     pub reached: FixedList<bool>,
-    /// Flags that the survey and phases 2 and 3 use one after another: the calm directories; in phase
-    /// 2, of marked inodes, those that a plain entry has named; in phase 3 the least directory of
-    /// each cycle of parents.
+    /// Flags that the survey and phases 2 and 3 use one after another: the calm directories; in
+    /// phase 2, of marked inodes, those that a plain entry has named; in phase 3 the least
+    /// directory of each cycle of parents.
     pub flags: FixedList<bool>,
     /// How many entries refer to each inode, counted on from `links_start`.
     pub references: FilledList<u64>,
