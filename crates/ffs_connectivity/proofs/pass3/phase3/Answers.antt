@@ -125,7 +125,7 @@ loop-number-preserved g c =
     ) in
     record {
       ready = ok.stays.ready;
-      device = ok.runs.image ∙ inv.device;
+      device = ok.prints.image ∙ inv.device;
       low = omega arith;
       survey = leaves_more _ _ _ inv.survey (windows_leave _ _ ok.stays.held);
       leaders = leaders_held _ _ ok.stays.held inv.leaders;
@@ -138,7 +138,7 @@ loop-number-preserved g c =
           (λ bytes. map of_tree (lines_from (cut_off_lines (volume_of v bytes)) (n + 1) (inodes_of v - (n + 1)))) _ _ _
           _ inv.said
           (λ bytes k. from_next (cut_off_lines (volume_of v bytes)) n (inodes_of v) (omega arith))
-          (said_knows _ _ _ _ _ _ known ok.runs.text);
+          (said_knows _ _ _ _ _ _ known ok.prints.text);
     }
 
 pub returns-clause-prints : goal.returns-clause-prints

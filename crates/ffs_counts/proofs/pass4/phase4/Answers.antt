@@ -76,7 +76,7 @@ loop-number-preserved-then-free-eq0 g c =
     record {
       within = omega (arith, c.loop-number-test.true);
       ready = ok.stays.ready;
-      device = ok.runs.image ∙ inv.device;
+      device = ok.prints.image ∙ inv.device;
       held = held_on c.args.workspace.now c.loop-number.workspace c.check_inode.new.workspace inv.held ok.stays.held;
       reads = λ bytes k.
           let on = count_next (reference_lines_at (volume_of v bytes)) n (inodes_of v)
@@ -93,7 +93,7 @@ loop-number-preserved-then-free-eq0 g c =
           (said_knows _ _ _ _ _ _ (λ bytes k. (
             ap (λ d. d.contents) inv.device ∙ k.0,
             findings_held v bytes _ _ inv.held k.1,
-          )) ok.runs.text);
+          )) ok.prints.text);
     }
 
 pub loop-number-preserved : goal.loop-number-preserved
