@@ -277,6 +277,17 @@ def _(v):
     v.book()
 
 
+@image("directory_holds_block_twice", "a directory holds the same block twice: its entries are there twice")
+def _(v):
+    v.chunk(40, [(3, 4, b"."), (2, 4, b".."), (4, 8, b"f")])
+    for k in range(1, 8):
+        v.chunk(40, [(0, 0, b"")], at=512 * k)
+    v.inode(3, mode=0o040755, nlink=2, size=8192, direct=[40, 40], blocks=16)
+    small_file(v, 4)
+    v.root((3, 4, b"a"), nlink=3)
+    v.book()
+
+
 def chain(v, depth):
     """Directories, each in the one before, the first in the root, with names of 255 bytes."""
     for k in range(depth):

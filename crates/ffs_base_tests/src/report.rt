@@ -621,8 +621,8 @@ fn reports_references(rt: HostRuntime) {
     );
 }
 
-/// Whether each of two calls is refused and no defect was said, how many writes failed, and what was
-/// written, where a writer takes this many bytes.
+/// Whether each of two calls is refused and no defect was said, how many writes failed, and what
+/// was written, where a writer takes this many bytes.
 fn stopped(bytes: u64, alloc: Global) -> ([bool; 3], u64, Vec<u8>) {
     let mut writer = FuseWriter::new(Vec::new(alloc), bytes);
     let mut out = Counted::new(&mut writer);

@@ -46,6 +46,14 @@ impl Directories for Listed {
 
     ghost ended = { λ _ _. Unit {0} };
 
+    ghost reads = { λ _. 0 };
+
+    ghost cost = { λ _ _ _. 0 };
+
+    ghost to_read = { λ _ _. 0 };
+
+    ghost held = { λ _. Unit {0} };
+
     fn start(&mut self, dir: u32) -> Result<(), ImageFault> {
         self.dir = dir as usize;
         self.place = 0;

@@ -181,8 +181,8 @@ fn gaps_passed_over(rt: HostRuntime) -> Result<(), Fail> {
     Ok(())
 }
 
-// Whether a walk whose first read fails ends with that, how many reads failed, and the sector of the
-// last one.
+// Whether a walk whose first read fails ends with that, how many reads failed, and the sector of
+// the last one.
 fn cut_short(inode: &Inode, alloc: Global) -> Result<(bool, u64, u64), Fail> {
     let geometry = geometry(Order::Little)?;
     let memory = image_of(Order::Little, &[], alloc)?;

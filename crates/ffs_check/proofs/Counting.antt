@@ -27,56 +27,61 @@ writes_none (Refused fault) old new c e = e
 writes_none (ReadFault sector) old new c e = e
 writes_none WriteFault old new c e = absurd (cc)
 
--- before the line that says so, one read had failed, or the memory was refused
-read_before : (image image' : Device) (name : List ℕ) (sector : Option ℕ) (text said : List Message) (line : Message) →
-    IsCutShort image image' name sector text said line →
-    ReadsFailed WriteFault image.failures image'.failures
-read_before image image' name sector text said line (inl super) = inr super.faulted.rose
-read_before image image' name sector text said line (inr rest) =
-    elim rest [ inl later ↦ inr later.faulted.rose | inr unstarted ↦ inl (ap (λ d. d.failures) unstarted.unread) ]
+-- where a run is cut short, one read had failed, or the memory was refused
+cut_reads : (image image' : Device) (name : List ℕ) (sector : Option ℕ) (text said : List Message) (line : Message)
+    (end : End) → IsCutShort image image' name sector text said line end →
+    ReadsFailed end image.failures image'.failures × ReadsFailed WriteFault image.failures image'.failures
+cut_reads image image' name sector text said line end (inl super) = (
+  subst (λ e. ReadsFailed e image.failures image'.failures) (sym super.end_is) (inr super.faulted.rose),
+  inr super.faulted.rose,
+)
+cut_reads image image' name sector text said line end (inr (inl later)) = (
+  subst (λ e. ReadsFailed e image.failures image'.failures) (sym later.end_is) later.faulted.rose,
+  inr later.faulted.rose,
+)
+cut_reads image image' name sector text said line end (inr (inr unstarted)) =
+    let same = ap (λ (d : Device). d.failures) unstarted.no_read_failed in
+    (subst (λ e. ReadsFailed e image.failures image'.failures) (sym unstarted.end_is) same, inl same)
+
+cut_writes : (image image' : Device) (name : List ℕ) (sector : Option ℕ) (text said : List Message) (line : Message)
+    (end : End) (old new : ℕ) → IsCutShort image image' name sector text said line end → new ≡ old →
+    WritesFailed end old new
+cut_writes image image' name sector text said line end old new (inl super) e =
+    subst (λ x. WritesFailed x old new) (sym super.end_is) e
+cut_writes image image' name sector text said line end old new (inr (inl later)) e =
+    subst (λ x. WritesFailed x old new) (sym later.end_is) e
+cut_writes image image' name sector text said line end old new (inr (inr unstarted)) e =
+    subst (λ x. WritesFailed x old new) (sym unstarted.end_is) e
 
 module _ (image image' : Device) (name : List ℕ) (sector : Option ℕ) (out out' : Sink) (end : End)
     (h : Headline image image' name sector out out' end) where
   pub reads_failed : ReadsFailed end image.failures image'.failures
   reads_failed = elim h.ends [
-    | inl all ↦ reads_none end image.failures image'.failures all.completed (ap (λ d. d.failures) all.unread)
+    | inl all ↦ reads_none end image.failures image'.failures all.end_is.completed
+        (ap (λ d. d.failures) all.no_read_failed)
     | inr r ↦ elim r [
-      | inl super ↦ subst (λ e. ReadsFailed e image.failures image'.failures) (sym super.end_is)
-          (inr super.cut.faulted.rose)
-      | inr r' ↦ elim r' [
-        | inl later ↦ subst (λ e. ReadsFailed e image.failures image'.failures) (sym later.end_is)
-            later.cut.faulted.rose
-        | inr r'' ↦ elim r'' [
-          | inl refused ↦ subst (λ e. ReadsFailed e image.failures image'.failures) (sym refused.end_is)
-              (ap (λ d. d.failures) refused.cut.unread)
-          | inr stops ↦ elim stops [
-            | inl broken ↦ subst (λ e. ReadsFailed e image.failures image'.failures) (sym broken.end_is)
-                (inl (ap (λ d. d.failures) broken.unread))
-            | inr inside ↦ subst (λ e. ReadsFailed e image.failures image'.failures) (sym inside.end_is)
-                (read_before image image' name sector h.text inside.said inside.line inside.cut)
+      | inl short ↦
+          let failed = cut_reads image image' name sector h.text short.said short.line short.fault_end short.cut in
+          elim short.ends [
+            | inl went ↦ subst (λ e. ReadsFailed e image.failures image'.failures) (sym went.1) failed.0
+            | inr broke ↦ subst (λ e. ReadsFailed e image.failures image'.failures) (sym broke.1) failed.1
           ]
-        ]
-      ]
+      | inr part ↦ subst (λ e. ReadsFailed e image.failures image'.failures) (sym part.end_is)
+          (inl (ap (λ d. d.failures) part.no_read_failed))
     ]
   ]
 
   pub writes_failed : WritesFailed end out.failures out'.failures
   writes_failed = elim h.ends [
-    | inl all ↦ writes_none end out.failures out'.failures all.completed all.took.failures
+    | inl all ↦ writes_none end out.failures out'.failures all.end_is.completed all.went_out.failures
     | inr r ↦ elim r [
-      | inl super ↦ subst (λ e. WritesFailed e out.failures out'.failures) (sym super.end_is) super.took.failures
-      | inr r' ↦ elim r' [
-        | inl later ↦ subst (λ e. WritesFailed e out.failures out'.failures) (sym later.end_is) later.took.failures
-        | inr r'' ↦ elim r'' [
-          | inl refused ↦ subst (λ e. WritesFailed e out.failures out'.failures) (sym refused.end_is)
-              refused.took.failures
-          | inr stops ↦ elim stops [
-            | inl broken ↦ subst (λ e. WritesFailed e out.failures out'.failures) (sym broken.end_is)
-                broken.broke_off.rose
-            | inr inside ↦ subst (λ e. WritesFailed e out.failures out'.failures) (sym inside.end_is)
-                (rw inside.took.failures at inside.broke_off.rose)
-          ]
-        ]
+      | inl short ↦ elim short.ends [
+        | inl went ↦ subst (λ e. WritesFailed e out.failures out'.failures) (sym went.1)
+            (cut_writes image image' name sector h.text short.said short.line short.fault_end out.failures
+            out'.failures short.cut went.0.failures)
+        | inr broke ↦ subst (λ e. WritesFailed e out.failures out'.failures) (sym broke.1)
+            (rw broke.0.went_out.failures at broke.0.broke_off.rose)
       ]
+      | inr part ↦ subst (λ e. WritesFailed e out.failures out'.failures) (sym part.end_is) part.broke_off.rose
     ]
   ]

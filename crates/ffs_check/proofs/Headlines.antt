@@ -1,31 +1,30 @@
 -- The headline, of an opening and of what follows it.
 use Rattle.std.proofs.Common.{◌≡◌, inl, inr, refl, ◌∙◌, sym, ap, subst, ℕ, Bool, true, false, List, [], ◌∷◌, ◌++◌}
 use Rattle.std.proofs.Common.{append_assoc, append-nil, Option, Some, None, Result, Ok, Err}
-use Rattle.ffs_image.specs.Device.{Device, ForContents}
+use Rattle.ffs_image.specs.Device.{Device, Faulted, ForContents}
 use Rattle.ffs_volume.specs.declared.SuperFault.{SuperFault}
 use Rattle.ffs_volume.specs.declared.SuperFault.TheVariants.{CannotRead}
 use Rattle.ffs_volume.specs.declared.End.{End}
-use Rattle.ffs_volume.specs.declared.End.TheVariants.{Consistent, Defects, Refused, RootStop, ReadFault, WriteFault}
-use Rattle.ffs_volume.specs.declared.End.TheVariants.{NoMemory}
+use Rattle.ffs_volume.specs.declared.End.TheVariants.{Refused, WriteFault}
 use Rattle.ffs_volume.specs.Disk.Superblock.{Superblock}
 use Rattle.ffs_volume.specs.Disk.Outcome.{outcome}
-use Rattle.ffs_volume.specs.Messages.Kinds.{Message, cannot_read, has_defect}
+use Rattle.ffs_volume.specs.Messages.Kinds.{Message, has_defect}
 use Rattle.ffs_volume.specs.Report.Opening.{head_lines, super_lines, fault_line, opening_lines}
 use Rattle.ffs_volume.specs.Directories.PathnameCheck.{continues_after_root}
 use Rattle.ffs_volume.specs.Report.Whole.{phase_lines, report_lines, end_by, end_of, lines_by_outcome, end_by_outcome}
 use Rattle.ffs_volume.specs.Report.Whole.{report_of, report_end}
-use Rattle.ffs_volume.specs.Messages.Texts.{texts_of}
 use Rattle.ffs_volume.specs.Directories.Volumes.{volume_of}
 use Rattle.std.specs.Borrow.{GName}
-use Rattle.ffs_report.specs.Sink.{Sink, Took}
+use Rattle.ffs_report.specs.Sink.{Sink}
 use Rattle.ffs_report.specs.Progress.{Progress, Said, Stopped, starts}
 use Rattle.ffs_report.proofs.Reports.{stopped_after, stopped_more}
-use Rattle.ffs_layout.specs.Super.{ReadsSuper}
+use Rattle.ffs_layout.specs.Super.{IsSuperSector, ReadsSuper}
 use Rattle.ffs_certificate.proofs.ReportLaws.{certified}
-use Rattle.ffs_check.specs.Opening.{Opened, OpeningStopped}
-use Rattle.ffs_check.specs.Headline.{is_completed, Certifies, opened_lines, Headline}
-use Rattle.ffs_check.proofs.Openings.{broke_off, broke_in_line}
-use Rattle.ffs_check.proofs.Endings.{at_reported, at_gives_bytes}
+use Rattle.ffs_check.specs.Ends.{BrokeOffInLine}
+use Rattle.ffs_check.specs.Opening.{SaysOpening}
+use Rattle.ffs_check.specs.Headline.{is_completed, Certifies, opened_lines, Headline, IsCutShort}
+use Rattle.ffs_check.proofs.EndLaws.{broke_off, broke_in_line}
+use Rattle.ffs_check.proofs.Endings.{at_contents, at_known}
 
 -- ---- the report, in its parts
 no_defect_head : (name : List ℕ) (sector : Option ℕ) (xs : List Message) → has_defect (head_lines name sector ++ xs)
@@ -102,28 +101,45 @@ certifies bytes name sector text end t e s o =
       text_says = ((λ p. law.silent.0 (sym defect ∙ p)), (λ p. defect ∙ law.silent.1 p));
     }
 
+-- a read of the superblock, or of its last copy, failed
+cut_at_super : (image image' : Device) (name : List ℕ) (sector : Option ℕ) (fault : SuperFault) →
+    fault ≡ CannotRead image'.failed → Faulted image image' image'.failed →
+    ForContents image.contents (λ bytes. IsSuperSector bytes sector image'.failed) → (text : List Message) →
+    IsCutShort image image' name sector text (head_lines name sector) (fault_line fault) (Refused fault)
+cut_at_super image image' name sector fault e f at text = inl (record {
+  faulted = f;
+  place = at;
+  said_is = refl;
+  line_is = ap fault_line e;
+  end_is = ap Refused e;
+})
+
 module _ (image image' : Device) (name : List ℕ) (sector : Option ℕ) (output : GName) (sink : Sink) (p : Progress) where
+  -- the report, where the superblock's read failed: what comes after the opening line is the image's
+  whole_report : List Message
+  whole_report = head_lines name sector
+      ++ at_contents image.contents (λ bytes. lines_by_outcome bytes (outcome bytes sector))
+
+  whole_right : ForContents image.contents (λ bytes. whole_report ≡ report_of bytes name sector)
+  whole_right bytes t = ap (λ more. head_lines name sector ++ more)
+      (at_known image.contents (λ bytes. lines_by_outcome bytes (outcome bytes sector)) bytes t)
+      ∙ report_there bytes name sector (outcome bytes sector) refl
+
   -- ---- the opening ended the run
   refused : (fault : SuperFault) → ReadsSuper image image' sector (Err fault) →
       Said (starts output sink) p (opening_lines name sector (Err fault)) →
       Headline image image' name sector sink p.sink (Refused fault)
-  refused fault (inl unread) said =
-      let there : fault ≡ CannotRead image'.failed = unread.0.0 in
-      record {
-        text = head_lines name sector
-            ++ at_reported image.contents (λ bytes. lines_by_outcome bytes (outcome bytes sector));
-        is_report = λ bytes t. ap (λ more. head_lines name sector ++ more)
-            (at_gives_bytes image.contents (λ bytes. lines_by_outcome bytes (outcome bytes sector)) bytes t)
-            ∙ report_there bytes name sector (outcome bytes sector) refl;
-        ends = inr (inl (record {
-          said = head_lines name sector;
-          line = cannot_read image'.failed;
-          cut = record { faulted = unread.0.1; place = unread.1; said_is = refl; line_is = refl };
-          took = subst (λ f. Took sink p.sink (texts_of (head_lines name sector ++ (fault_line f ∷ [])))) there
-              said.took;
-          end_is = ap Refused there;
-        }));
-      }
+  refused fault (inl failed) said = record {
+    text = whole_report;
+    is_report = whole_right;
+    ends = inr (inl (record {
+      said = head_lines name sector;
+      line = fault_line fault;
+      fault_end = Refused fault;
+      cut = cut_at_super image image' name sector fault failed.0.0 failed.0.1 failed.1 whole_report;
+      ends = inl (said.took, refl);
+    }));
+  }
   refused fault (inr read) said =
       let report : ForContents image.contents
       (λ bytes. opening_lines name sector (Err fault) ≡ report_of bytes name sector) =
@@ -134,75 +150,72 @@ module _ (image image' : Device) (name : List ℕ) (sector : Option ℕ) (output
         text = opening_lines name sector (Err fault);
         is_report = report;
         ends = inl (record {
-          unread = read.0;
-          took = said.took;
-          completed = refl;
-          end_is = last;
-          certifies = λ bytes t. certifies bytes name sector (opening_lines name sector (Err fault)) (Refused fault)
-              (report bytes t) (last bytes t);
+          no_read_failed = read.0;
+          went_out = said.took;
+          end_is = record {
+            completed = refl;
+            value = last;
+            certifies = λ bytes t. certifies bytes name sector (opening_lines name sector (Err fault)) (Refused fault)
+                (report bytes t) (last bytes t);
+          };
         });
       }
 
   -- the output failed where no read had
-  stopped : (found : Result Superblock SuperFault) → OpeningStopped image image' (starts output sink) p name sector
-      found → Headline image image' name sector sink p.sink WriteFault
-  stopped found stop =
-      let text = opening_lines name sector found ++ at_reported image.contents (λ bytes. more_of bytes found) in
+  stopped : (found : Result Superblock SuperFault) → image' ≡ image →
+      ForContents image.contents (λ bytes. found ≡ outcome bytes sector) →
+      Stopped (starts output sink) p (opening_lines name sector found) →
+      Headline image image' name sector sink p.sink WriteFault
+  stopped found none_failed right stop =
+      let text = opening_lines name sector found ++ at_contents image.contents (λ bytes. more_of bytes found) in
       record {
         text = text;
         is_report = λ bytes t. ap (λ more. opening_lines name sector found ++ more)
-            (at_gives_bytes image.contents (λ bytes. more_of bytes found) bytes t)
-            ∙ opening_then bytes name sector found ∙ report_there bytes name sector found (stop.outcome_is bytes t);
-        ends = inr (inr (inr (inr (inl (record {
-          unread = stop.unread;
-          broke_off = broke_off output sink p text
+            (at_known image.contents (λ bytes. more_of bytes found) bytes t)
+            ∙ opening_then bytes name sector found ∙ report_there bytes name sector found (right bytes t);
+        ends = inr (inr (record {
+          no_read_failed = none_failed;
+          broke_off = broke_off (starts output sink) p text refl
               (stopped_more (starts output sink) p (opening_lines name sector found)
-              (at_reported image.contents (λ bytes. more_of bytes found)) stop.stopped);
+              (at_contents image.contents (λ bytes. more_of bytes found)) stop);
           end_is = refl;
-        })))));
+        }));
       }
 
   -- the output failed in the line of a fault
-  stopped_in_line : (fault : SuperFault) → ReadsSuper image image' sector (Err fault) → (between : Progress) →
-      Said (starts output sink) between (head_lines name sector) → Stopped between p (fault_line fault ∷ []) →
+  stopped_in_line : (fault : SuperFault) → ReadsSuper image image' sector (Err fault) →
+      BrokeOffInLine Said Stopped (starts output sink) p (head_lines name sector) (fault_line fault) →
       Headline image image' name sector sink p.sink WriteFault
-  stopped_in_line fault (inl unread) between said stop = record {
-    text = head_lines name sector
-        ++ at_reported image.contents (λ bytes. lines_by_outcome bytes (outcome bytes sector));
-    is_report = λ bytes t. ap (λ more. head_lines name sector ++ more)
-        (at_gives_bytes image.contents (λ bytes. lines_by_outcome bytes (outcome bytes sector)) bytes t)
-        ∙ report_there bytes name sector (outcome bytes sector) refl;
-    ends = inr (inr (inr (inr (inr (record {
+  stopped_in_line fault (inl failed) stop = record {
+    text = whole_report;
+    is_report = whole_right;
+    ends = inr (inl (record {
       said = head_lines name sector;
       line = fault_line fault;
-      cut = inl (record { faulted = unread.0.1; place = unread.1; said_is = refl; line_is = ap fault_line unread.0.0 });
-      between = between.sink;
-      took = said.took;
-      broke_off = broke_in_line output sink between p (head_lines name sector) (fault_line fault) said stop;
-      end_is = refl;
-    })))));
+      fault_end = Refused fault;
+      cut = cut_at_super image image' name sector fault failed.0.0 failed.0.1 failed.1 whole_report;
+      ends = inr (broke_in_line (starts output sink) p (head_lines name sector) (fault_line fault) refl stop, refl);
+    }));
   }
-  stopped_in_line fault (inr read) between said stop = stopped (Err fault) (record {
-    unread = read.0;
-    outcome_is = read.1;
-    stopped = stopped_after (starts output sink) between p (head_lines name sector) (fault_line fault ∷ []) said stop;
-  })
+  stopped_in_line fault (inr read) stop = stopped (Err fault) read.0 read.1
+      (stopped_after (starts output sink) stop.between p (head_lines name sector) (fault_line fault ∷ []) stop.went_out
+      stop.broke_off)
 
   -- the opening's answer
-  pub opening_ends : (end : End) → Opened image image' (starts output sink) p name sector (Err end) →
+  pub opening_ends : (end : End) → SaysOpening image image' (starts output sink) p name sector (Err end) →
       Headline image image' name sector sink p.sink end
-  opening_ends (Refused fault) o = refused fault (subst (λ f. ReadsSuper image image' sector f) o.ends.1 o.answers)
-      (subst (λ f. Said (starts output sink) p (opening_lines name sector f)) o.ends.1 o.ends.0)
-  opening_ends WriteFault o = elim o.ends [
-    | inl stop ↦ stopped o.found stop
-    | inr stop ↦ stopped_in_line stop.fault (subst (λ f. ReadsSuper image image' sector f) stop.found_is o.answers)
-        stop.between stop.said stop.stopped
+  opening_ends end o = elim o.ends [
+    | inl not_accepted ↦ subst (λ e. Headline image image' name sector sink p.sink e) (sym not_accepted.end_is)
+        (refused not_accepted.fault
+        (subst (λ f. ReadsSuper image image' sector f) not_accepted.found_is o.answers) not_accepted.went_out)
+    | inr stops ↦ elim stops [
+      | inl stop ↦ subst (λ e. Headline image image' name sector sink p.sink e) (sym stop.end_is)
+          (stopped o.found stop.no_read_failed stop.found_is stop.broke_off)
+      | inr stop ↦ subst (λ e. Headline image image' name sector sink p.sink e) (sym stop.end_is)
+          (stopped_in_line stop.fault (subst (λ f. ReadsSuper image image' sector f) stop.found_is o.answers)
+          stop.in_line)
+    ]
   ]
-  opening_ends Consistent o = absurd o.ends
-  opening_ends Defects o = absurd o.ends
-  opening_ends RootStop o = absurd o.ends
-  opening_ends (ReadFault at) o = absurd o.ends
-  opening_ends NoMemory o = absurd o.ends
 
 pub headline_at : (image image' : Device) (name : List ℕ) (sector : Option ℕ) (out at at' : Sink) (end : End) → at ≡ at'
     →

@@ -8,7 +8,7 @@ use Rattle.ffs_phase.specs.Known.{ForBytes}
 use Rattle.ffs_phase.specs.Runs.{ImageAfter}
 use Rattle.ffs_phase.specs.declared.fault.RunFault.{RunFault}
 use Rattle.ffs_phase.specs.declared.fault.RunFault.TheVariants.{Read, Out}
-use Rattle.ffs_check.specs.Rest.{first_part, scanned_lines}
+use Rattle.ffs_check.specs.Rest.{phase1_part, from_phase1b}
 
 pub on_knows : (T : Type 0) (knows known P : List ℕ → Type 0) (r : Result T RunFault) → ForBytes knows known →
     OnOk r (ForBytes known P) → OnOk r (ForBytes knows P)
@@ -27,6 +27,6 @@ reads_fault T E old new (Read fault) h = h
 reads_fault T E old new (Out fault) h = h
 
 -- the whole text: phase 1, and what follows it
-pub text_parts : (bytes : List ℕ) (s : Superblock) → phase_lines bytes s ≡ first_part bytes s ++ scanned_lines bytes s
+pub text_parts : (bytes : List ℕ) (s : Superblock) → phase_lines bytes s ≡ phase1_part bytes s ++ from_phase1b bytes s
 unfolding phase_lines later_phase_lines
 text_parts bytes s = refl

@@ -21,26 +21,26 @@ use Rattle.ffs_report.specs.Progress.{Progress}
 use Rattle.ffs_phase.specs.Known.{ForBytes, IsContents}
 use Rattle.ffs_workspace.specs.Places.{AreChunksNumbered}
 use Rattle.ffs_check.specs.Headline.{opened_lines}
-use Rattle.ffs_check.specs.Opening.{Opened}
+use Rattle.ffs_check.specs.Opening.{SaysOpening}
 use Rattle.ffs_check.specs.ReadsWithin.{PhasesReadWithin, ReadsWithin}
-use Rattle.ffs_check.specs.Rest.{first_part, again_part, names_part, links_part, counts_part, ended_lines}
-use Rattle.ffs_check.specs.Rest.{scanned_lines, named_lines, followed_lines, linked_lines, reference_lines_at}
+use Rattle.ffs_check.specs.Rest.{phase1_part, phase1b_part, phase2_part, phase3_part, phase4_part, from_phase5}
+use Rattle.ffs_check.specs.Rest.{from_phase1b, from_phase2, after_phase2, from_phase3, from_phase4}
 use Rattle.ffs_check.proofs.Headlines.{whole_there}
 use Rattle.ffs_check.proofs.Joins.{text_parts}
-use Rattle.ffs_check.proofs.Openings.{found_of, still_of}
+use Rattle.ffs_check.proofs.Openings.{found_of, unfailed_of}
 
 -- the messages of phase 2, and of what follows it, are among those of the phases
 pub names_among : (bytes : List ℕ) (s : Superblock) →
     length (pathname_lines (volume_of s.layout bytes))
-    + length (followed_lines (continues_after_root (volume_of s.layout bytes)) bytes s)
+    + length (after_phase2 (continues_after_root (volume_of s.layout bytes)) bytes s)
     ≤ length (phase_lines bytes s)
 names_among bytes s =
     let names = pathname_lines (volume_of s.layout bytes) in
-    let later = followed_lines (continues_after_root (volume_of s.layout bytes)) bytes s in
+    let later = after_phase2 (continues_after_root (volume_of s.layout bytes)) bytes s in
     let parts = ap length (text_parts bytes s) in
-    let first = length-append (first_part bytes s) (scanned_lines bytes s) in
-    let again = length-append (again_part bytes s) (named_lines bytes s) in
-    let named = length-append (names_part bytes s) later in
+    let first = length-append (phase1_part bytes s) (from_phase1b bytes s) in
+    let again = length-append (phase1b_part bytes s) (from_phase2 bytes s) in
+    let named = length-append (phase2_part bytes s) later in
     let many = length-map names of_tree in
     omega (arith, parts, first, again, named, many)
 
@@ -51,10 +51,10 @@ pub later_among : (bytes : List ℕ) (s : Superblock) → continues_after_root (
 later_among bytes s goes =
     let links = connectivity_lines (volume_of s.layout bytes) in
     let counts = reference_lines (volume_of s.layout bytes) in
-    let on : length (followed_lines (continues_after_root (volume_of s.layout bytes)) bytes s)
-    ≡ length (linked_lines bytes s) = ap (λ go. length (followed_lines go bytes s)) goes in
-    let first = length-append (links_part bytes s) (reference_lines_at bytes s) in
-    let second = length-append (counts_part bytes s) (ended_lines bytes s) in
+    let on : length (after_phase2 (continues_after_root (volume_of s.layout bytes)) bytes s)
+    ≡ length (from_phase3 bytes s) = ap (λ go. length (after_phase2 go bytes s)) goes in
+    let first = length-append (phase3_part bytes s) (from_phase4 bytes s) in
+    let second = length-append (phase4_part bytes s) (from_phase5 bytes s) in
     omega (arith, names_among bytes s, on, first, second, length-map links of_tree, length-map counts of_tree)
 
 -- more messages, more reads
@@ -94,12 +94,12 @@ report_among bytes name sector s accepted =
 
 -- a superblock was accepted, and the phases follow, or nothing is read any more
 pub found_within : (image on : Device) (name : List ℕ) (sector : Option ℕ) (start p : Progress) (found : Super)
-    (reads between reads' : ℕ) → Opened image on start p name sector (Ok found) → between ≤ reads + opening_reads →
+    (reads between reads' : ℕ) → SaysOpening image on start p name sector (Ok found) → between ≤ reads + opening_reads →
     ForBytes (IsContents on.contents) (λ bytes. PhasesReadWithin (seen found) bytes between reads') →
     ReadsWithin image name sector reads reads'
 found_within image on name sector start p found reads between reads' o opened follows =
     let answers = subst (λ r. ReadsSuper image on sector r) o.ends.1 o.answers in
-    let still = still_of image on sector (seen found) answers in
+    let still = unfailed_of image on sector (seen found) answers in
     let is = found_of image on sector (seen found) answers in
     record {
       refused = λ bytes t fault e. let no : Ok (seen found) ≡ Err fault = is bytes t ∙ e in absurd (cc);

@@ -16,7 +16,7 @@ use Rattle.ffs_phase.specs.declared.fault.RunFault.{RunFault}
 use Rattle.ffs_phase.specs.declared.fault.RunFault.TheVariants.{Read, Out}
 use Rattle.ffs_phase.proofs.Reporting.{of_says, of_fault, reports_knowing}
 use Rattle.ffs_pathnames.specs.GoesOn.{AtReadFault}
-use Rattle.ffs_check.specs.Ends.{ReportsBefore}
+use Rattle.ffs_check.specs.PhaseEnds.{ReportsBefore}
 use Rattle.ffs_check.proofs.Stages.{Stage, falls, some_more, more_after}
 
 -- a root that is no directory has a line, and after a directory the run continues

@@ -5,7 +5,7 @@ use Rattle.ffs_memory.specs.Account.{Account, Rose, unused}
 use Rattle.ffs_memory.specs.System.{account_of}
 use Rattle.ffs_memory.specs.declared.system.SystemMemory.{SystemMemory}
 use Rattle.ffs_volume.specs.declared.End.{End}
-use Rattle.ffs_volume.specs.declared.End.TheVariants.{Consistent, Defects, RootStop, ReadFault, WriteFault, NoMemory}
+use Rattle.ffs_volume.specs.declared.End.TheVariants.{Consistent, Defects, Refused, RootStop, ReadFault, WriteFault, NoMemory}
 use Rattle.ffs_volume.specs.Messages.Kinds.{Message}
 use Rattle.ffs_volume.specs.Disk.Outcome.{outcome}
 use Rattle.ffs_volume.specs.Report.Whole.{end_by}
@@ -14,8 +14,8 @@ use Rattle.ffs_report.specs.Progress.{Progress}
 use Rattle.ffs_layout.specs.declared.superblock.Super.{Super}
 use Rattle.ffs_layout.specs.Super.{ReadsSuper, seen}
 use Rattle.ffs_workspace.specs.Lengths.{held_of}
-use Rattle.ffs_check.specs.Ends.{PhasesRan}
-use Rattle.ffs_check.specs.Opening.{Opened, OpeningSays}
+use Rattle.ffs_check.specs.PhaseEnds.{SaysPhases}
+use Rattle.ffs_check.specs.Opening.{SaysOpening}
 use Rattle.ffs_check.specs.Taken.{Asked, Takes, TakesOfSystem, TakesWorkspace}
 
 accepted_by : (image image' : Device) (sector : Option ℕ) (s : Superblock) → ReadsSuper image image' sector (Ok s) →
@@ -25,7 +25,7 @@ accepted_by image image' sector s (inr read) = λ bytes t. sym (read.1 bytes t)
 
 pub takes : (image on : Device) (name : List ℕ) (sector : Option ℕ) (start p : Progress) (found : Super)
     (old new : Account) →
-    Opened image on start p name sector (Ok found) → Asked old new (held_of found.geometry.layout) →
+    SaysOpening image on start p name sector (Ok found) → Asked old new (held_of found.geometry.layout) →
     TakesWorkspace image sector old new
 takes image on name sector start p found old new o a = record {
   found = seen found;
@@ -39,26 +39,34 @@ not_by true true e = (let w : Defects ≡ NoMemory = e in cc)
 not_by true false e = (let w : Consistent ≡ NoMemory = e in cc)
 not_by false defect e = (let w : RootStop ≡ NoMemory = e in cc)
 
+not_broken : WriteFault ≡ NoMemory → ⊥
+not_broken e = (let w : WriteFault ≡ NoMemory = e in cc)
+
 -- phases that have run don't end for want of memory
-pub not_for_memory : (knows : List ℕ → Type 0) (lines : List ℕ → List Message) (goes : List ℕ → Bool)
+pub not_for_memory : (knows : List ℕ → Type 0) (lines : List ℕ → List Message) (continues : List ℕ → Bool)
     (image image' : Device) (old new : Progress) (end : End) →
-    PhasesRan false knows lines goes image image' old new end → end ≡ NoMemory → ⊥
-not_for_memory knows lines goes image image' old new end ran e = elim ran.ends [
-  | inl all ↦ not_by all.on new.defect (sym all.end_is ∙ e)
+    SaysPhases false knows lines continues image image' old new end → end ≡ NoMemory → ⊥
+not_for_memory knows lines continues image image' old new end ran e = elim ran.ends [
+  | inl all ↦ not_by all.end_is.continued new.defect (sym all.end_is.end_is ∙ e)
   | inr rest ↦ elim rest [
-    | inl short ↦ (let w : ReadFault short.sector ≡ NoMemory = sym short.end_is ∙ e in cc)
-    | inr stops ↦ elim stops [
-      | inl stop ↦ (let w : WriteFault ≡ NoMemory = sym stop.end_is ∙ e in cc)
-      | inr inside ↦ (let w : WriteFault ≡ NoMemory = sym inside.end_is ∙ e in cc)
+    | inl short ↦ elim short.ends [
+      | inl went ↦ (let w : ReadFault short.cut.sector ≡ NoMemory = sym short.cut.end_is ∙ sym went.1 ∙ e in cc)
+      | inr broke ↦ not_broken (sym broke.1 ∙ e)
     ]
+    | inr part ↦ not_broken (sym part.end_is ∙ e)
   ]
 ]
 
 -- nor does an opening
 pub opened_for_memory : (image on : Device) (old new : Progress) (name : List ℕ) (sector : Option ℕ) (end : End) →
-    Opened image on old new name sector (Err end) → end ≡ NoMemory → ⊥
-opened_for_memory image on old new name sector end o e =
-    subst (λ (x : End). OpeningSays image on old new name sector o.found (Err x)) e o.ends
+    SaysOpening image on old new name sector (Err end) → end ≡ NoMemory → ⊥
+opened_for_memory image on old new name sector end o e = elim o.ends [
+  | inl refused ↦ (let w : Refused refused.fault ≡ NoMemory = sym refused.end_is ∙ e in cc)
+  | inr stops ↦ elim stops [
+    | inl stop ↦ not_broken (sym stop.end_is ∙ e)
+    | inr stop ↦ not_broken (sym stop.end_is ∙ e)
+  ]
+]
 
 -- a check over the memory of the system, which was new
 pub of_system : (image : Device) (sector : Option ℕ) (end : End) (memory memory' : SystemMemory) →

@@ -11,9 +11,9 @@ use Rattle.ffs_volume.specs.Consistent.Volume.{IsConsistent}
 use Rattle.ffs_volume.specs.Messages.Kinds.{Message, cannot_read, cannot_alloc, has_defect}
 use Rattle.ffs_volume.specs.Report.Opening.{head_lines, super_lines}
 use Rattle.ffs_volume.specs.Report.Whole.{report_of, report_end}
-use Rattle.ffs_volume.specs.Messages.Texts.{text_of, texts_of}
-use Rattle.ffs_report.specs.Sink.{Sink, Took, BrokeOff}
+use Rattle.ffs_report.specs.Sink.{Sink}
 use Rattle.ffs_layout.specs.Super.{IsSuperSector}
+use Rattle.ffs_check.specs.Ends.{BrokeOffIn, Ends, Printed}
 
 -- the end of a run that no fault and no want of memory ended
 abbrev pub is_completed : End → Bool
@@ -34,37 +34,26 @@ pub record Certifies (image : List ℕ) (s : Superblock) (text : List Message) (
 abbrev pub opened_lines : List ℕ → Option ℕ → Superblock → List Message
 opened_lines name sector s = head_lines name sector ++ super_lines s
 
--- no read failed: the whole report was printed, its end is answered, and on an accepted superblock it certifies
-pub record Reported (image image' : Device) (sector : Option ℕ) (text : List Message) (out out' : Sink) (end : End)
-    : Type 0 where
-  pub unread : image' ≡ image
-  pub took : Took out out' (texts_of text)
+-- the end of a whole report; on an accepted superblock it certifies
+pub record IsEndOfReport (image : Device) (sector : Option ℕ) (text : List Message) (end : End) : Type 0 where
   pub completed : is_completed end ≡ true
-  pub end_is : ForContents image.contents (λ bytes. end ≡ report_end bytes sector)
+  pub value : ForContents image.contents (λ bytes. end ≡ report_end bytes sector)
   pub certifies : ForContents image.contents (λ bytes. (s : Superblock) → outcome bytes sector ≡ Ok s
       → Certifies bytes s text end)
 
 -- a read of the superblock, or of its last copy, failed: what is said before the fault's line is the opening line
 pub record IsCutAtSuper (image image' : Device) (name : List ℕ) (sector : Option ℕ) (said : List Message)
-    (line : Message) : Type 0 where
+    (line : Message) (end : End) : Type 0 where
   pub faulted : Faulted image image' image'.failed
   pub place : ForContents image.contents (λ bytes. IsSuperSector bytes sector image'.failed)
   pub said_is : said ≡ head_lines name sector
   pub line_is : line ≡ cannot_read image'.failed
-
--- a read of the superblock, or of its last copy, failed, and that was printed
-pub record CutAtSuper (image image' : Device) (name : List ℕ) (sector : Option ℕ) (out out' : Sink) (end : End)
-    : Type 0 where
-  pub said : List Message
-  pub line : Message
-  pub cut : IsCutAtSuper image image' name sector said line
-  pub took : Took out out' (texts_of (said ++ (line ∷ [])))
   pub end_is : end ≡ Refused (CannotRead image'.failed)
 
 -- a later read failed: what is said before the fault's line is the opening, through the mount line, and whole messages
 -- of the report. Messages are missing: no read fails after the report's last one
 pub record IsCutLater (image image' : Device) (name : List ℕ) (sector : Option ℕ) (text said : List Message)
-    (line : Message) : Type 0 where
+    (line : Message) (end : End) : Type 0 where
   pub faulted : Faulted image image' image'.failed
   pub found : Superblock
   pub accepted : ForContents image.contents (λ bytes. outcome bytes sector ≡ Ok found)
@@ -74,67 +63,30 @@ pub record IsCutLater (image image' : Device) (name : List ℕ) (sector : Option
   pub whole : said ++ rest ≡ text
   pub more : ForContents image.contents (λ bytes. 0 < length rest)
   pub line_is : line ≡ cannot_read image'.failed
-
--- a later read failed, and that was printed
-pub record CutLater (image image' : Device) (name : List ℕ) (sector : Option ℕ) (text : List Message)
-    (out out' : Sink) (end : End) : Type 0 where
-  pub said : List Message
-  pub line : Message
-  pub cut : IsCutLater image image' name sector text said line
-  pub took : Took out out' (texts_of (said ++ (line ∷ [])))
   pub end_is : end ≡ ReadFault image'.failed
 
 -- the memory of the check is refused: what is said before that is the opening, through the mount line
 pub record IsUnstarted (image image' : Device) (name : List ℕ) (sector : Option ℕ) (said : List Message)
-    (line : Message) : Type 0 where
-  pub unread : image' ≡ image
+    (line : Message) (end : End) : Type 0 where
+  pub no_read_failed : image' ≡ image
   pub found : Superblock
   pub accepted : ForContents image.contents (λ bytes. outcome bytes sector ≡ Ok found)
   pub said_is : said ≡ opened_lines name sector found
   pub line_is : line ≡ cannot_alloc
-
--- the memory of the check was refused, and that was printed
-pub record Unstarted (image image' : Device) (name : List ℕ) (sector : Option ℕ) (out out' : Sink) (end : End)
-    : Type 0 where
-  pub said : List Message
-  pub line : Message
-  pub cut : IsUnstarted image image' name sector said line
-  pub took : Took out out' (texts_of (said ++ (line ∷ [])))
   pub end_is : end ≡ NoMemory
 
--- a read failed or the memory was refused: what is said before the line that says so
-abbrev pub IsCutShort : Device → Device → List ℕ → Option ℕ → List Message → List Message → Message → Type 0
-IsCutShort image image' name sector text said line =
-    IsCutAtSuper image image' name sector said line
-    ⊎ (IsCutLater image image' name sector text said line
-    ⊎ IsUnstarted image image' name sector said line)
+-- a read failed or the memory was refused: what is said before the line that says so, that line, and the end
+abbrev pub IsCutShort : Device → Device → List ℕ → Option ℕ → List Message → List Message → Message → End → Type 0
+IsCutShort image image' name sector text said line end =
+    IsCutAtSuper image image' name sector said line end
+    ⊎ (IsCutLater image image' name sector text said line end
+    ⊎ IsUnstarted image image' name sector said line end)
 
--- the output failed where no read had: a prefix of the report's bytes went out, and nothing more
-pub record BrokenOff (image image' : Device) (text : List Message) (out out' : Sink) (end : End) : Type 0 where
-  pub unread : image' ≡ image
-  pub broke_off : BrokeOff out out' (texts_of text)
-  pub end_is : end ≡ WriteFault
-
--- a read failed or the memory was refused, and then the output failed in the line that says so: what is said before
--- that line went out whole, then a prefix of the line, and nothing more
-pub record BrokenInLine (image image' : Device) (name : List ℕ) (sector : Option ℕ) (text : List Message)
-    (out out' : Sink) (end : End) : Type 0 where
-  pub said : List Message
-  pub line : Message
-  pub cut : IsCutShort image image' name sector text said line
-  pub between : Sink
-  pub took : Took out between (texts_of said)
-  pub broke_off : BrokeOff between out' (text_of line)
-  pub end_is : end ≡ WriteFault
-
--- the headline: `text` is the whole report where the image gives its bytes, and the run ends in one of these ways
+-- the headline: `text` is the whole report where the image gives its bytes. It was printed whole, or cut short by a
+-- fault, whose line was printed after it, or the output failed
 pub record Headline (image image' : Device) (name : List ℕ) (sector : Option ℕ) (out out' : Sink) (end : End)
     : Type 0 where
   pub text : List Message
   pub is_report : ForContents image.contents (λ bytes. text ≡ report_of bytes name sector)
-  pub ends : Reported image image' sector text out out' end
-      ⊎ (CutAtSuper image image' name sector out out' end
-      ⊎ (CutLater image image' name sector text out out' end
-      ⊎ (Unstarted image image' name sector out out' end
-      ⊎ (BrokenOff image image' text out out' end
-      ⊎ BrokenInLine image image' name sector text out out' end))))
+  pub ends : Ends Printed BrokeOffIn image image' out out' text (IsEndOfReport image sector text)
+      (IsCutShort image image' name sector text) end

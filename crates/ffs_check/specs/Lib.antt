@@ -1,6 +1,5 @@
 pub mod Ends
 pub mod Failures
-pub mod Followed
 pub mod Headline
 pub mod Opening
 pub mod PhaseEnds

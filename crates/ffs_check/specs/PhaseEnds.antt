@@ -1,23 +1,98 @@
--- How the answer of the phases is reported, and which end it makes.
-use Rattle.std.specs.Prelude.{◌≡◌, ◌⊎◌, ℕ, Bool, ◌||◌, [], ◌∷◌, Result, Ok, Err}
+-- How the phases of a run end. `knows` is what is known of the image's bytes, `lines` the text that they determine, and
+-- `continues` whether the run continues after the root.
+use Rattle.std.specs.Prelude.{◌≡◌, ◌⊎◌, ◌<◌, ℕ, Bool, false, ◌||◌, List, [], ◌∷◌, ◌++◌, length, Result, Ok, Err}
+use Rattle.ffs_image.specs.Device.{Device, Faulted}
 use Rattle.ffs_volume.specs.declared.End.{End}
-use Rattle.ffs_volume.specs.declared.End.TheVariants.{ReadFault, WriteFault}
-use Rattle.ffs_volume.specs.Messages.Kinds.{cannot_read}
-use Rattle.ffs_volume.specs.Report.Whole.{end_by}
+use Rattle.ffs_volume.specs.declared.End.TheVariants.{ReadFault, WriteFault, NoMemory}
+use Rattle.ffs_volume.specs.Messages.Kinds.{Message, cannot_alloc, cannot_read, has_defect}
+use Rattle.ffs_volume.specs.Disk.Superblock.{Superblock}
+use Rattle.ffs_volume.specs.Directories.PathnameCheck.{continues_after_root}
+use Rattle.ffs_volume.specs.Directories.Volumes.{volume_of}
+use Rattle.ffs_volume.specs.Report.Whole.{end_by, phase_lines}
+use Rattle.ffs_report.specs.Sink.{Sink}
 use Rattle.ffs_report.specs.Progress.{Progress, Said, Stopped}
+use Rattle.ffs_phase.specs.Known.{ForBytes, IsContents}
+use Rattle.ffs_phase.specs.Runs.{SaidOf, StoppedOf}
 use Rattle.ffs_phase.specs.declared.fault.RunFault.{RunFault}
 use Rattle.ffs_phase.specs.declared.fault.RunFault.TheVariants.{Read, Out}
 use Rattle.ffs_pathnames.specs.declared.pass2.Root.{Root}
 use Rattle.ffs_pathnames.specs.GoesOn.{is_go}
+use Rattle.ffs_check.specs.Ends.{BrokeOffIn, Ends, Printed}
 
--- the line of a read's fault was said, or the output failed in it
-abbrev pub FaultReported : Progress → Progress → ℕ → End → Type 0
-FaultReported old new sector end =
-    (Said old new (cannot_read sector ∷ []) × (end ≡ ReadFault sector))
-    ⊎ (Stopped old new (cannot_read sector ∷ []) × (end ≡ WriteFault))
+-- a read failed before the text was complete: whole messages were said, and others were to come
+pub record SaidBefore (knows : List ℕ → Type 0) (all : List ℕ → List Message) (old new : Progress) : Type 0 where
+  pub rest : List ℕ → List Message
+  pub prefix : SaidOf knows rest all old new
+  pub more : ForBytes knows (λ bytes. 0 < length (rest bytes))
 
--- the end that an answer of the phases makes, where a defect was reported before or not; a read's fault is reported
+-- all messages at Ok, whole ones but not all at a read's fault, a prefix of their bytes at a fault of the output
+abbrev pub ReportsBefore : {T : Type 0} → (List ℕ → Type 0) → (List ℕ → List Message) → Progress → Progress →
+    Result T RunFault → Type 0
+ReportsBefore knows all old new (Ok x) = SaidOf knows (λ bytes. []) all old new
+ReportsBefore knows all old new (Err (Read fault)) = SaidBefore knows all old new
+ReportsBefore knows all old new (Err (Out fault)) = StoppedOf knows all old new
+
+-- a fault's line was said, and the end is the fault's; or the output failed in it
+abbrev pub LineEnds : Progress → Progress → Message → End → End → Type 0
+LineEnds old new line fault_end end =
+    (Said old new (line ∷ []) × (end ≡ fault_end)) ⊎ (Stopped old new (line ∷ []) × (end ≡ WriteFault))
+
+-- the line of a failed read was said, or the output failed in it
+abbrev pub SaysReadFault : Progress → Progress → ℕ → End → Type 0
+SaysReadFault old new sector end = LineEnds old new (cannot_read sector) (ReadFault sector) end
+
+-- the line of a refused memory was said, or the output failed in it
+abbrev pub SaysRefusal : Progress → Progress → End → Type 0
+SaysRefusal old new end = LineEnds old new cannot_alloc NoMemory end
+
+-- the end that an answer of the phases makes, where a defect was reported before or not; a failed read is said
 abbrev pub EndsAs : Bool → Progress → Progress → Result Root RunFault → End → Type 0
 EndsAs before old new (Ok root) end = (new ≡ old) × (end ≡ end_by (is_go root) (before || old.defect))
-EndsAs before old new (Err (Read fault)) end = FaultReported old new fault.sector end
+EndsAs before old new (Err (Read fault)) end = SaysReadFault old new fault.sector end
 EndsAs before old new (Err (Out fault)) end = (new ≡ old) × (end ≡ WriteFault)
+
+-- the end is by whether the run continued after the root, and by whether a defect was reported
+pub record IsEndByRoot (knows : List ℕ → Type 0) (continues : List ℕ → Bool) (defect : Bool) (end : End) : Type 0 where
+  pub continued : Bool
+  pub by_root : ForBytes knows (λ bytes. continued ≡ continues bytes)
+  pub end_is : end ≡ end_by continued defect
+
+-- a read failed before the text was complete: whole messages of it were said, and others were to come
+pub record IsCutByRead (knows : List ℕ → Type 0) (text : List Message) (image image' : Device) (said : List Message)
+    (line : Message) (end : End) : Type 0 where
+  pub sector : ℕ
+  pub faulted : Faulted image image' sector
+  pub rest : List Message
+  pub whole : said ++ rest ≡ text
+  pub more : ForBytes knows (λ bytes. 0 < length rest)
+  pub line_is : line ≡ cannot_read sector
+  pub end_is : end ≡ ReadFault sector
+
+-- the phases have put out what they report of the image's bytes. `has_defect_by` says whether a defect was reported,
+-- before them or in their text. There is no end for want of memory
+pub record PhasesEnd {C : Type 0} (whole broken : C → C → List Message → Type 0) (has_defect_by : List Message → Bool)
+    (knows : List ℕ → Type 0) (lines : List ℕ → List Message) (continues : List ℕ → Bool) (image image' : Device)
+    (old new : C) (end : End) : Type 0 where
+  pub text : List Message
+  pub right : ForBytes knows (λ bytes. text ≡ lines bytes)
+  pub ends : Ends whole broken image image' old new text (IsEndByRoot knows continues (has_defect_by text))
+      (IsCutByRead knows text image image') end
+
+-- of a report: it keeps whether it has said a defect, and a defect may have been reported before it
+abbrev pub SaysPhases : Bool → (List ℕ → Type 0) → (List ℕ → List Message) → (List ℕ → Bool) → Device → Device →
+    Progress → Progress → End → Type 0
+SaysPhases before knows lines continues image image' old new end =
+    PhasesEnd Said Stopped (λ text. before || new.defect) knows lines continues image image' old new end
+
+-- of an output: these messages were reported before
+abbrev pub PrintsPhases : List Message → (List ℕ → Type 0) → (List ℕ → List Message) → (List ℕ → Bool) → Device →
+    Device → Sink → Sink → End → Type 0
+PrintsPhases before knows lines continues image image' out out' end =
+    PhasesEnd Printed BrokeOffIn (λ text. has_defect (before ++ text)) knows lines continues image image' out out' end
+
+-- what follows an accepted superblock: the memory of the check was refused, and that was said; or its phases have run
+abbrev pub SaysRest : Superblock → Device → Device → Progress → Progress → End → Type 0
+SaysRest s image image' old new end =
+    ((image' ≡ image) × SaysRefusal old new end)
+    ⊎ SaysPhases false (IsContents image.contents) (λ bytes. phase_lines bytes s)
+    (λ bytes. continues_after_root (volume_of s.layout bytes)) image image' old new end

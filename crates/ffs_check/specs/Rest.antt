@@ -18,50 +18,50 @@ use Rattle.ffs_workspace.specs.Holds.{IsFresh, HoldsPhase1}
 use Rattle.ffs_workspace.specs.Lengths.{has_dups}
 
 -- what each phase reports, with its heading
-abbrev pub first_part : List ℕ → Superblock → List Message
-first_part image s = phase1 ∷ map of_blocks (phase1_lines s.layout (owners_of s.layout image))
+abbrev pub phase1_part : List ℕ → Superblock → List Message
+phase1_part image s = phase1 ∷ map of_blocks (phase1_lines s.layout (owners_of s.layout image))
 
-abbrev pub again_part : List ℕ → Superblock → List Message
-again_part image s = rescan_lines s.layout image
+abbrev pub phase1b_part : List ℕ → Superblock → List Message
+phase1b_part image s = rescan_lines s.layout image
 
-abbrev pub names_part : List ℕ → Superblock → List Message
-names_part image s = phase2 ∷ map of_tree (pathname_lines (volume_of s.layout image))
+abbrev pub phase2_part : List ℕ → Superblock → List Message
+phase2_part image s = phase2 ∷ map of_tree (pathname_lines (volume_of s.layout image))
 
-abbrev pub links_part : List ℕ → Superblock → List Message
-links_part image s = phase3 ∷ map of_tree (connectivity_lines (volume_of s.layout image))
+abbrev pub phase3_part : List ℕ → Superblock → List Message
+phase3_part image s = phase3 ∷ map of_tree (connectivity_lines (volume_of s.layout image))
 
-abbrev pub counts_part : List ℕ → Superblock → List Message
-counts_part image s = phase4 ∷ map of_tree (reference_lines (volume_of s.layout image))
+abbrev pub phase4_part : List ℕ → Superblock → List Message
+phase4_part image s = phase4 ∷ map of_tree (reference_lines (volume_of s.layout image))
 
-abbrev pub groups_part : List ℕ → Superblock → List Message
-groups_part image s = phase5 ∷ group_check_lines image s
+abbrev pub phase5_part : List ℕ → Superblock → List Message
+phase5_part image s = phase5 ∷ group_check_lines image s
 
 abbrev pub summary_part : List ℕ → Superblock → List Message
 summary_part image s = summary_of s (file_count s.layout image) (used_count s.layout image) ∷ []
 
 -- phase 5 and the summary
-abbrev pub ended_lines : List ℕ → Superblock → List Message
-ended_lines image s = groups_part image s ++ summary_part image s
+abbrev pub from_phase5 : List ℕ → Superblock → List Message
+from_phase5 image s = phase5_part image s ++ summary_part image s
 
 -- phases 4 and 5 and the summary
-abbrev pub reference_lines_at : List ℕ → Superblock → List Message
-reference_lines_at image s = counts_part image s ++ ended_lines image s
+abbrev pub from_phase4 : List ℕ → Superblock → List Message
+from_phase4 image s = phase4_part image s ++ from_phase5 image s
 
 -- phases 3 to 5 and the summary
-abbrev pub linked_lines : List ℕ → Superblock → List Message
-linked_lines image s = links_part image s ++ reference_lines_at image s
+abbrev pub from_phase3 : List ℕ → Superblock → List Message
+from_phase3 image s = phase3_part image s ++ from_phase4 image s
 
 -- the same, where the run continues after the root
-abbrev pub followed_lines : Bool → List ℕ → Superblock → List Message
-followed_lines goes image s = if goes then linked_lines image s else []
+abbrev pub after_phase2 : Bool → List ℕ → Superblock → List Message
+after_phase2 goes image s = if goes then from_phase3 image s else []
 
 -- phase 2 and what follows it
-abbrev pub named_lines : List ℕ → Superblock → List Message
-named_lines image s = names_part image s ++ followed_lines (continues_after_root (volume_of s.layout image)) image s
+abbrev pub from_phase2 : List ℕ → Superblock → List Message
+from_phase2 image s = phase2_part image s ++ after_phase2 (continues_after_root (volume_of s.layout image)) image s
 
 -- the second look at the blocks and what follows it
-abbrev pub scanned_lines : List ℕ → Superblock → List Message
-scanned_lines image s = again_part image s ++ named_lines image s
+abbrev pub from_phase1b : List ℕ → Superblock → List Message
+from_phase1b image s = phase1b_part image s ++ from_phase2 image s
 
 -- where the phases begin: the image gives the bytes, and the workspace holds nothing yet
 abbrev pub IsBegun : Layout → Device → Workspace → List ℕ → Type 0

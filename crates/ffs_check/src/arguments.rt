@@ -14,7 +14,7 @@ use std::alloc::{AllocError, Global};
 const SECTOR_END: i64 = 4194304;
 
 // `-n` or `-N`: nothing is written.
-fn no_argument<'a>(alloc: Global) -> Result<Arg<'a>, AllocError>
+fn answer_no_argument<'a>(alloc: Global) -> Result<Arg<'a>, AllocError>
     ensures rule { IfOk result (λ argument. rule_of argument ≡ no_rule) }
     ensures local { IfOk result (λ argument. argument.global ≡ false) }
 {
@@ -54,12 +54,12 @@ fn command<'a>(alloc: Global) -> Result<Command<'a>, Error>
     ensures { MatchResult result (λ command. app_of command ≡ program)
         (λ error. kind_of error ≡ OutOfMemory) }
 {
-    let no = no_argument(alloc)?;
+    let answer_no = answer_no_argument(alloc)?;
     Ok(
         Command::new(alloc, "fsck_ffs")
             .no_binary_name(true)
             .version(VERSION)
-            .arg(no)?
+            .arg(answer_no)?
             .arg(sector_argument(alloc))?
             .arg(image_argument(alloc))?,
     )

@@ -1,10 +1,11 @@
 //! The files of a system, as far as an image needs them.
 //!
-//! An image is opened by its name, asked for its end, and read at a place. The functions that do so are over the two
-//! traits here, whose facts are of any system: which name was opened, where a file was read, how often it was tried. Of
-//! std these lines are trusted, in the impls at the end of this file: its metadata reports which name is that of a FIFO;
-//! its open opens the file of the name as given, for reading alone; its seek to the end gives the number of bytes; its
-//! `read_at` gives bytes of that place, or an error.
+//! An image is opened by its name, asked for its end, and read at a place. The functions that do so
+//! are over the two traits here, whose facts are of any system: which name was opened, where a file
+//! was read, how often it was tried. Of std these lines are trusted, in the impls at the end of
+//! this file: its metadata reports which name is that of a FIFO; its open opens the file of the
+//! name as given, for reading alone; its seek to the end gives the number of bytes; its `read_at`
+//! gives bytes of that place, or an error.
 ghost use Rattle.std.specs.Prelude.{◌≡◌, ◌≤◌, ℕ, Bool, List, length, take, Option, Result, IfOk, IfSome};
 ghost use Rattle.std.specs.Io.{ReadsAtMost};
 ghost use Rattle.std.specs.Result.{result_unwrap_or};
@@ -25,7 +26,8 @@ pub trait RawFile {
     /// It was asked for its end: the file before, the answer, and the file after.
     ghost was_sought: { Self → Result ℕ Error → Self → Type 0 };
 
-    /// It was read: the file before, the place, how many bytes were asked for, the answer, and the file after.
+    /// It was read: the file before, the place, how many bytes were asked for, the answer, and the
+    /// file after.
     ghost was_read: { Self → ℕ → ℕ → Result ℕ Error → Self → Type 0 };
 
     /// The place of its end, in bytes: that of a block device too.

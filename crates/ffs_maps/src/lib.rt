@@ -1,9 +1,9 @@
 //! A bit for each fragment of a volume, in words of 64.
 //!
 //! A `FragmentMap` is its list of bits: `get`, `set` and `clear` read and write one of them,
-//! `set_run` sets a run of them, and `claim` sets a run that lies in one word where none of its bits
-//! is set yet. `count` counts the set bits of a part, and `count_ones` gives those of the whole map,
-//! which are counted as they change.
+//! `set_run` sets a run of them, and `claim` sets a run that lies in one word where none of its
+//! bits is set yet. `count` counts the set bits of a part, and `count_ones` gives those of the
+//! whole map, which are counted as they change.
 //!
 //! ```text
 //! let mut claimed = FragmentMap::new(alloc, geometry.layout.size)?;

@@ -2,7 +2,8 @@
 ghost use Rattle.std.specs.Prelude.{◌≡◌, ◌≤◌, ◌<◌, [], replicate, vec_capacity, vec_len};
 ghost use Rattle.ffs_memory.specs.Words.{Touches};
 
-// Touches the elements up to an index: each that wasn't touched is `rest`, in the memory that was taken.
+// Touches the elements up to an index: each that wasn't touched is `rest`, in the memory that was
+// taken.
 #[inline(always)]
 pub(crate) fn touch<T: Copy>(touched: &mut Vec<T>, index: usize, rest: T)
     requires { index < vec_capacity touched.old }

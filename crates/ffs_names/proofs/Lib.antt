@@ -13,3 +13,7 @@ pub mod RunsSeen
 pub mod GapsLeft
 pub mod Continuing
 mod Shaped
+pub mod ReadCounts
+pub mod EntryCounts
+pub mod DirCosts
+pub mod RunSums

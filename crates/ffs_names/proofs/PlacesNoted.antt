@@ -41,7 +41,7 @@ use Rattle.ffs_walk.specs.Windows.{WindowHolds}
 use Rattle.std.specs.declared.vec.Vec.{Vec}
 use Rattle.std.specs.declared.alloc.Global.{Global}
 use Rattle.ffs_names.specs.Windows.{CanReadChunks}
-use Rattle.ffs_names.specs.Noting.{is_child, is_found, BeginsNotes, KeepsDue, NotesChildren, NotesChunk, NotesEntries}
+use Rattle.ffs_names.specs.Noting.{is_child, is_found, BeginsNotes, IsParent, KeepsDue, NotesChildren, NotesChunk, NotesEntries}
 
 -- ENTRIES OF A CHUNK
 
@@ -550,3 +550,43 @@ coming_end v b words none coming x k h =
 pub set_other : {A : Type 0} (f : ℕ → A) (ws : List ℕ) (i word x : ℕ) → x ≢ i →
     f (slice_index (slice_set ws i word) x) ≡ f (slice_index ws x)
 set_other f ws i word x o = ap f (get_or-set_other ws i x word 0 o)
+
+-- WHAT IS DUE
+
+-- only parents are due: one more of them is, and one isn't any more
+abbrev pub OnlyParents : (parents ws : List ℕ) → Type 0
+OnlyParents parents ws = (p : ℕ) → is_due (slice_index ws p) ≡ true → IsParent parents p
+
+pub only_more : (parents ws : List ℕ) (child i word : ℕ) → 2 < child → slice_index parents child ≡ i → 2 ≤ i →
+    OnlyParents parents ws → OnlyParents parents (slice_set ws i word)
+only_more parents ws child i word above up low only p h = elim (cases_eq p i) [
+  | inl e ↦ record { child = child; above_root = above; up = up ∙ sym e; from_root = subst (λ n. 2 ≤ n) (sym e) low }
+  | inr o ↦ only p (sym (set_other is_due ws i word p o) ∙ h)
+]
+
+pub only_fewer : (parents old new : List ℕ) (i word : ℕ) → i < length old → is_due word ≡ false →
+    KeepsDue (slice_set old i word) new → OnlyParents parents old → OnlyParents parents new
+only_fewer parents old new i word low passed keeps only p h = elim (cases_eq p i) [
+  | inl e ↦ absurd (both_ways (is_due word) passed
+      (sym (ap is_due (get_or-set_same old i word 0 low)) ∙ (ap (λ (n : ℕ). is_due (slice_index (slice_set old i word) n))
+      (sym e) ∙ (sym (keeps p) ∙ h))))
+  | inr o ↦ only p (sym (set_other is_due old i word p o) ∙ (sym (keeps p) ∙ h))
+]
+
+-- a parent that the survey found is a directory
+pub parent_is_dir : (v : Layout) (b : List ℕ) (w : Workspace) (p : ℕ) → HoldsSurvey v b w →
+    IsParent w.parents.items p → is_dir (volume_of v b) p ≡ true
+parent_is_dir v b w p survey under =
+    go (parent (graph_of (volume_of v b)) under.child) refl
+  where
+    found : (o : Option ℕ) → parent (graph_of (volume_of v b)) under.child ≡ o → unwrap_or o 0 ≡ p
+    found o e = ap (λ (o : Option ℕ). unwrap_or o 0) (sym e) ∙ (sym (survey.parents under.child) ∙ under.up)
+
+    other : (under.child == 2) ≡ false
+    other = let above = under.above_root in grind (arith, nat_tests)
+
+    go : (o : Option ℕ) → parent (graph_of (volume_of v b)) under.child ≡ o → is_dir (volume_of v b) p ≡ true
+    go None e = let none : 0 ≡ p = found None e in let low = under.from_root in absurd (omega arith)
+    go (Some s) e =
+        let same : s ≡ p = found (Some s) e in
+        parent_dir (graph_of (volume_of v b)) under.child p other (e ∙ ap Some same)

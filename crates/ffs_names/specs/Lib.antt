@@ -10,3 +10,4 @@ pub mod Trees
 pub mod Surveys
 pub mod Noting
 pub mod SeenRuns
+pub mod Costs

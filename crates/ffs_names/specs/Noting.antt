@@ -42,11 +42,19 @@ pub record NotesChildren (parents old new : List ℕ) (p : ℕ) : Type 0 where
   pub others : (x : ℕ) → is_child parents p x ≡ false → place_in (slice_index new x) ≡ place_in (slice_index old x)
   pub due : KeepsDue old new
 
+-- p is a parent of an inode above the root
+pub record IsParent (parents : List ℕ) (p : ℕ) : Type 0 where
+  pub child : ℕ
+  pub above_root : ROOTINO < child
+  pub up : slice_index parents child ≡ p
+  pub from_root : ROOTINO ≤ p
+
 -- no place is noted, no number below that of the root is due, and the parent of each inode above the root that is
--- reached is due
+-- reached is due, and only parents are
 pub record BeginsNotes (reached : List Bool) (parents words : List ℕ) : Type 0 where
   pub none : (x : ℕ) → place_in (slice_index words x) ≡ 0
   pub low : (x : ℕ) → x < ROOTINO → is_due (slice_index words x) ≡ false
   pub due : (x : ℕ) → ROOTINO < x → x < length reached → bool_at reached x ≡ true →
       ROOTINO ≤ slice_index parents x → slice_index parents x < length reached →
       is_due (slice_index words (slice_index parents x)) ≡ true
+  pub only : (p : ℕ) → is_due (slice_index words p) ≡ true → IsParent parents p

@@ -10,6 +10,8 @@ ghost use Rattle.ffs_volume.specs.declared.Step.TheVariants.{Run};
 ghost use Rattle.ffs_names.specs.Fits.{CursorFits};
 ghost use Rattle.ffs_names.specs.SeenRuns.{RunsAreSeen};
 ghost use Rattle.ffs_names.specs.Windows.{CanWalkDir, CanReadChunks};
+ghost use Rattle.ffs_survey.specs.Costs.{TakesReads};
+ghost use Rattle.ffs_walk.specs.declared.window.Window.{Window as WindowIn};
 
 use crate::run_cursor::RunCursor;
 use ffs_image::{Image, ImageFault};
@@ -43,6 +45,7 @@ pub struct Chunks {
 }
 
 impl Chunks {
+    ghost use Rattle.ffs_names.specs.Costs.{to_read, BeginsReads, HoldsReading, SeesRun};
     ghost use Rattle.ffs_names.specs.RunCursors.{last_place};
     ghost use Rattle.ffs_names.specs.Readings.{all_chunks, rest, runs_left, IsSame, CanSee, LeavesWalk, LeavesChunks, LeavesReading, Continues, ContinuesTo, GivesChunk, BeginsAt};
 
@@ -53,6 +56,7 @@ impl Chunks {
             → Continues b self.old (Run start len block ∷ steps) self.new steps }
         ensures same { IsSame self.old self.new }
         ensures walk { self.new.walk ≡ self.old.walk }
+        ensures reads { SeesRun self.old self.new start len block }
     {
         let geometry = self.walk.geometry;
         let in_range = geometry.in_range(start, len);
@@ -79,6 +83,10 @@ impl Chunks {
             (ForContents (I.device image.old).contents (λ b. all_chunks b self.new ≡ []))) }
         ensures runs { OnErr result (ForContents (I.device image.old).contents
             (λ b. self.new.runs + runs_left b self.new ≤ self.old.runs + runs_left b self.old)) }
+        ensures reads { (w : WindowIn) → HoldsReading blocks.old w self.old
+            → ForContents (I.device image.old).contents (λ b. TakesReads (I.reads image.old)
+            (I.reads image.new) (to_read b self.old) (to_read b self.new)
+            (HoldsReading blocks.new w self.new) result) }
         ensures leaves { LeavesWalk self.old self.new (I.device image.old) (I.device image.new)
             blocks.new result }
     {
@@ -118,6 +126,10 @@ impl Chunks {
             ≤ self.old.walk.geometry.layout.size * self.old.walk.geometry.layout.fsize)) }
         ensures runs { OnErr result (ForContents (I.device image.old).contents
             (λ b. self.new.runs + runs_left b self.new ≤ self.old.runs + runs_left b self.old)) }
+        ensures reads { HoldsReading blocks.old «data».old self.old
+            → ForContents (I.device image.old).contents (λ b. TakesReads (I.reads image.old)
+            (I.reads image.new) (to_read b self.old) (to_read b self.new)
+            (HoldsReading blocks.new «data».new self.new) result) }
         ensures leaves { LeavesChunks self.old self.new (I.device image.old) (I.device image.new)
             blocks.new «data».new result }
     {
@@ -137,6 +149,7 @@ impl Chunks {
     #[inline(always)]
     pub fn start(geometry: &Geometry, inode: &Inode, cut: u32) -> Chunks
         ensures begins { BeginsAt geometry.now.layout inode.now cut result }
+        ensures reads { BeginsReads result }
         ensures geometry { result.walk.geometry ≡ geometry.now }
     {
         Chunks::of_class(geometry, inode, class_of(geometry, inode), cut)
@@ -147,6 +160,7 @@ impl Chunks {
     pub fn of_class(geometry: &Geometry, inode: &Inode, class: Class, cut: u32) -> Chunks
         ensures begins { class ≡ inodes.class_of geometry.now.layout inode.now
             → BeginsAt geometry.now.layout inode.now cut result }
+        ensures reads { BeginsReads result }
         ensures geometry { result.walk.geometry ≡ geometry.now }
     {
         let taken = taken_of(inode.size);
@@ -167,6 +181,7 @@ impl Chunks {
     pub fn restart(&mut self, inode: &Inode, class: Class, cut: u32)
         ensures begins { class ≡ inodes.class_of self.old.walk.geometry.layout inode.now
             → BeginsAt self.old.walk.geometry.layout inode.now cut self.new }
+        ensures reads { BeginsReads self.new }
         ensures geometry { self.new.walk.geometry ≡ self.old.walk.geometry }
     {
         let taken = taken_of(inode.size);
@@ -208,6 +223,11 @@ impl Chunks {
             (λ _. self.new.budget ≡ 0) }
         ensures over { self.old.budget ≡ 0 → result ≡ Ok None }
         ensures counted { self.old.runs ≤ self.new.runs }
+        ensures reads { HoldsReading blocks.old «data».old self.old
+            → ForContents (I.device image.old).contents (λ b. TakesReads (I.reads image.old)
+            (I.reads image.new) (to_read b self.old) (to_read b self.new)
+            (HoldsReading blocks.new «data».new self.new) result) }
+        ensures unread { self.old.budget ≡ 0 → I.reads image.new ≤ I.reads image.old }
         ensures leaves { LeavesReading self.old self.new (I.device image.old)
             (I.device image.new) blocks.new «data».new result }
     {

@@ -6,6 +6,9 @@ ghost use Rattle.ffs_volume.specs.Blocks.Inodes as inodes;
 ghost use Rattle.ffs_volume.specs.Directories.Entries.{entry_at as entry_in};
 ghost use Rattle.ffs_names.specs.RightShapes.{is_right_size};
 ghost use Rattle.ffs_names.specs.Windows.{CanWalkDir, CanReadChunks};
+ghost use Rattle.ffs_survey.specs.Costs.{TakesReads};
+ghost use Rattle.ffs_walk.specs.declared.blocks.Blocks.{Blocks as BlocksIn};
+ghost use Rattle.ffs_walk.specs.declared.window.Window.{Window as WindowIn};
 
 use crate::chunks::Chunks;
 use crate::gap::gap_of;
@@ -53,6 +56,7 @@ fn has_right_size(inode: &Inode) -> bool
 }
 
 impl Entries {
+    ghost use Rattle.ffs_names.specs.Costs.{entries_to_read, BeginsEntries, HoldsEntries};
     ghost use Rattle.ffs_survey.specs.Reading.{roled_of};
     ghost use Rattle.ffs_names.specs.Readings.{LeavesReading, LeavesWalk};
     ghost use Rattle.ffs_names.specs.Shapes.{has_right_shape, HasEnded, BeginsDirectory, GivesEntry, IsSameChunk};
@@ -62,6 +66,7 @@ impl Entries {
     /// eleventh dup offer cut it, else 0.
     pub fn start(geometry: &Geometry, inode: &Inode, cut: u32) -> Entries
         ensures begins { BeginsDirectory geometry.now.layout inode.now cut result }
+        ensures reads { BeginsEntries geometry.now.layout inode.now cut result }
         ensures place { result.place ≡ 512 }
         ensures geometry { result.chunks.walk.geometry ≡ geometry.now }
     {
@@ -82,6 +87,8 @@ impl Entries {
     /// A reading of no entries.
     pub fn none(geometry: &Geometry) -> Entries
         ensures entries { (b : List ℕ) → to_come b result ≡ [] }
+        ensures reads { (b : List ℕ) → entries_to_read b result ≡ 0 }
+        ensures held { (blocks : BlocksIn) (w : WindowIn) → HoldsEntries blocks w result }
         ensures geometry { result.chunks.walk.geometry ≡ geometry.now }
     {
         let inode = Inode {
@@ -104,6 +111,8 @@ impl Entries {
     pub fn restart(&mut self, inode: &Inode, class: Class, cut: u32)
         ensures begins { class ≡ inodes.class_of self.old.chunks.walk.geometry.layout inode.now
             → BeginsDirectory self.old.chunks.walk.geometry.layout inode.now cut self.new }
+        ensures reads { class ≡ inodes.class_of self.old.chunks.walk.geometry.layout inode.now
+            → BeginsEntries self.old.chunks.walk.geometry.layout inode.now cut self.new }
         ensures geometry { self.new.chunks.walk.geometry ≡ self.old.chunks.walk.geometry }
     {
         self.place = DIRBLKSIZ;
@@ -117,6 +126,8 @@ impl Entries {
     pub fn stop(&mut self)
         ensures entries { (b : List ℕ) → to_come b self.new ≡ [] }
         ensures shape { (b : List ℕ) → has_right_shape b self.new ≡ false }
+        ensures reads { (b : List ℕ) → entries_to_read b self.new ≡ 0 }
+        ensures held { (blocks : BlocksIn) (w : WindowIn) → HoldsEntries blocks w self.new }
         ensures geometry { self.new.chunks.walk.geometry ≡ self.old.chunks.walk.geometry }
     {
         self.place = DIRBLKSIZ;
@@ -175,6 +186,10 @@ impl Entries {
         ensures inside { IfOk result (λ o. IfSome o (λ _.
             (self.old.place < 512 → IsInside self.old) → IsInside self.new)) }
         ensures left { IfOk result (λ named. IfSome named (λ _. left self.new < left self.old)) }
+        ensures reads { HoldsEntries blocks.old window.old self.old
+            → ForContents (I.device image.old).contents (λ b. TakesReads (I.reads image.old)
+            (I.reads image.new) (entries_to_read b self.old) (entries_to_read b self.new)
+            (HoldsEntries blocks.new window.new self.new) result) }
         ensures leaves { LeavesReading self.old.chunks self.new.chunks (I.device image.old)
             (I.device image.new) blocks.new window.new result }
     {
@@ -210,6 +225,10 @@ impl Entries {
         requires { CanWalkDir self.old.chunks.walk.geometry.layout (I.device image.old) blocks.old }
         ensures sound { IfOk result (λ right. ForContents (I.device image.old).contents
             (λ b. HasEnded b self.old → right ≡ has_right_shape b self.old)) }
+        ensures reads { (w : WindowIn) → HoldsEntries blocks.old w self.old
+            → ForContents (I.device image.old).contents (λ b. TakesReads (I.reads image.old)
+            (I.reads image.new) (entries_to_read b self.old) (entries_to_read b self.new)
+            (HoldsEntries blocks.new w self.new) result) }
         ensures leaves { LeavesWalk self.old.chunks self.new.chunks (I.device image.old)
             (I.device image.new) blocks.new result }
     {

@@ -1,11 +1,12 @@
 //! The survey of a volume's directories.
 
-ghost use Rattle.std.specs.Prelude.{OnOk};
+ghost use Rattle.std.specs.Prelude.{◌+◌, ◌≤◌, OnOk};
 ghost use Rattle.ffs_image.specs.Device.{ForContents};
 ghost use Rattle.ffs_image.specs.Reads.{ReadAfter};
 ghost use Rattle.ffs_workspace.specs.Ready.{IsReady};
 ghost use Rattle.ffs_workspace.specs.Holds.{HoldsClaims, HoldsReferences, HoldsStarts, HoldsSurvey};
 ghost use Rattle.ffs_names.specs.Surveys.{IsUntouched, FlagsCalm};
+ghost use Rattle.ffs_names.specs.Costs.{directories_cost};
 
 use crate::entries::Entries;
 use crate::tree::Tree;
@@ -37,6 +38,9 @@ pub fn survey<I: Image>(
     ensures calm { OnOk result (ForContents (I.device image.old).contents
         (λ b. HoldsClaims geometry.now.layout b workspace.old
         → FlagsCalm geometry.now.layout b workspace.new)) }
+    ensures reads { ForContents (I.device image.old).contents
+        (λ b. HoldsClaims geometry.now.layout b workspace.old
+        → I.reads image.new ≤ I.reads image.old + directories_cost geometry.now.layout b) }
     ensures same { IsUntouched workspace.old workspace.new }
     ensures ready { IsReady geometry.now.layout (I.device image.new) workspace.new }
     ensures read { ReadAfter (I.device image.old) (I.device image.new) result }

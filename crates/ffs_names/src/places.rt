@@ -1,6 +1,6 @@
 //! Where the parent entries of directories are in the image.
 
-ghost use Rattle.std.specs.Prelude.{◌≡◌, ◌+◌, ◌*◌, ◌<◌, ◌^◌, ◌∷◌, [], ℕ, true, false, IfOk, OnOk, length, slice_index, vec_len};
+ghost use Rattle.std.specs.Prelude.{◌≡◌, ◌+◌, ◌*◌, ◌<◌, ◌≤◌, ◌^◌, ◌∷◌, [], ℕ, true, false, IfOk, OnOk, MatchResult, length, slice_index, vec_len};
 ghost use Rattle.std.specs.List.{flat_map};
 ghost use Rattle.ffs_image.specs.Device.{ForContents};
 ghost use Rattle.ffs_image.specs.Reads.{ReadAfter};
@@ -16,6 +16,7 @@ ghost use Rattle.ffs_workspace.specs.Ready.{IsReady};
 ghost use Rattle.ffs_workspace.specs.Tables.{CanReadInodes, TableAfter};
 ghost use Rattle.ffs_names.specs.Noting.{is_child, BeginsNotes, NotesChildren, NotesChunk, NotesEntries};
 ghost use Rattle.ffs_names.specs.Readings.{rest, LeavesReading};
+ghost use Rattle.ffs_names.specs.Costs.{directories_cost, directory_cost, to_read, BeginsReads, HoldsReading};
 ghost use Rattle.ffs_names.specs.Windows.{CanReadChunks};
 
 use crate::chunks::Chunks;
@@ -116,6 +117,9 @@ fn note_chunks<I: Image>(
         words.new.items dir (flat_map roled_chunk (rest b chunks.old)))) }
     ensures children { NotesChildren parents.now.items words.old.items words.new.items dir }
     ensures long { vec_len words.new ≡ vec_len words.old }
+    ensures reads { HoldsReading blocks.old «data».old chunks.old
+        → ForContents (I.device image.old).contents
+        (λ b. I.reads image.new ≤ I.reads image.old + to_read b chunks.old) }
     ensures leaves { LeavesReading chunks.old chunks.new (I.device image.old)
         (I.device image.new) blocks.new «data».new result }
 {
@@ -149,6 +153,14 @@ fn chunks_of<I: Image>(
         (λ b. note ≡ note_at geometry.now.layout b dir
         → is_dir (volume_of geometry.now.layout b) dir ≡ true
         → flat_map roled_chunk (rest b c) ≡ roled_entries (volume_of geometry.now.layout b) dir)) }
+    ensures begins { IfOk result BeginsReads }
+    ensures reads { ForContents (I.device image.old).contents
+        (λ b. note ≡ note_at geometry.now.layout b dir
+        → is_dir (volume_of geometry.now.layout b) dir ≡ true → MatchResult result
+        (λ c. I.reads image.new + to_read b c
+        ≤ I.reads image.old + directory_cost geometry.now.layout b dir)
+        (λ _. I.reads image.new
+        ≤ I.reads image.old + directory_cost geometry.now.layout b dir)) }
     ensures geometry { IfOk result (λ c. c.walk.geometry ≡ geometry.now) }
     ensures leaves { TableAfter geometry.now.layout (I.device image.old) (I.device image.new)
         table.new result }
@@ -180,6 +192,10 @@ fn note_directory<I: Image>(
         workspace.new.queue.items dir (roled_entries (volume_of geometry.now.layout b) dir))) }
     ensures children { NotesChildren workspace.old.parents.items workspace.old.queue.items
         workspace.new.queue.items dir }
+    ensures reads { ForContents (I.device image.old).contents
+        (λ b. HoldsClaims geometry.now.layout b workspace.old
+        → is_dir (volume_of geometry.now.layout b) dir ≡ true
+        → I.reads image.new ≤ I.reads image.old + directory_cost geometry.now.layout b dir) }
     ensures lists { workspace.new ≡ record workspace.old {
       windows = workspace.new.windows;
       queue = workspace.new.queue;
@@ -243,6 +259,10 @@ pub fn note_places<I: Image>(
         (λ b. HoldsClaims geometry.now.layout b workspace.old
         → HoldsSurvey geometry.now.layout b workspace.old → AreChunksNumbered geometry.now.layout
         → AreNoted geometry.now.layout b workspace.new.queue.items)) }
+    ensures reads { ForContents (I.device image.old).contents
+        (λ b. HoldsClaims geometry.now.layout b workspace.old
+        → HoldsSurvey geometry.now.layout b workspace.old
+        → I.reads image.new ≤ I.reads image.old + directories_cost geometry.now.layout b) }
     ensures none_due { OnOk result ((x : ℕ)
         → is_due (slice_index workspace.new.queue.items x) ≡ false) }
     ensures ready { IsReady geometry.now.layout (I.device image.new) workspace.new }

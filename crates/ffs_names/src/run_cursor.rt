@@ -33,6 +33,7 @@ impl RunCursor {
     pub fn empty() -> RunCursor
         ensures none { (layout : Layout) (b : List ℕ) → cursor_chunks layout b result ≡ [] }
         ensures next { result.next ≡ result.count }
+        ensures first { result.next ≡ 0 }
         ensures fits { (layout : Layout) → CursorFits layout result }
     {
         RunCursor {
@@ -52,6 +53,7 @@ impl RunCursor {
         ensures chunks { (b : List ℕ) → cursor_chunks geometry.now.layout b result
             ≡ run_chunks (reading_by geometry.now.layout b taken) start len
             (block * geometry.now.layout.bsize) }
+        ensures first { result.next ≡ 0 }
         ensures fits { CursorFits geometry.now.layout result }
     {
         if block >= 1 << 31 {

@@ -53,6 +53,7 @@ impl<I: Image> Directories for Tree<'_, I> {
     ghost use Rattle.ffs_names.specs.Trees.{Base as TreeBase, KnowsTree, dir_entries, dir_sound, IsReady};
     ghost use Rattle.ffs_names.specs.Shapes.{has_right_shape, HasEnded};
     ghost use Rattle.ffs_names.specs.Entering.{to_come, left as entries_left, last_name};
+    ghost use Rattle.ffs_names.specs.Costs.{directory_cost, entries_to_read, HoldsEntries};
 
     ghost Base = { TreeBase };
 
@@ -68,11 +69,13 @@ impl<I: Image> Directories for Tree<'_, I> {
 
     ghost ready = { λ t. IsReady t.geometry.layout (I.device t.image.now) t.windows.now t.kinds.now t.notes.now.items × (t.entries.chunks.walk.geometry ≡ t.geometry) };
 
-    ghost reads = { λ _. 0 };
+    ghost reads = { λ t. I.reads t.image.now };
 
-    ghost cost = { λ _ _ _. 0 };
+    ghost cost = { λ t b dir. directory_cost t.layout b dir };
 
-    ghost to_read = { λ _ _. 0 };
+    ghost to_read = { λ t b. entries_to_read b t.entries };
+
+    ghost held = { λ t. HoldsEntries t.windows.now.blocks t.windows.now.chunk t.entries };
 
     ghost rest = { λ t b. to_come b t.entries };
 

@@ -16,6 +16,7 @@ pub mod Passed
 pub mod Passing
 pub mod FirstTwo
 pub mod InOrder
+pub mod LineCounts
 pub mod Begun
 pub mod EmptyLaws
 pub mod Carrying

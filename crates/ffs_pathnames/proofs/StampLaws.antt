@@ -9,7 +9,7 @@ use Rattle.ffs_volume.specs.Directories.Roles.{Volume, is_dir, is_plain}
 use Rattle.ffs_volume.specs.Encodings.Kinds.{is_dir_kind}
 use Rattle.std.proofs.lemmas.Bool.{and_from, and_parts, eqb-true, eq-eqb, lt-ltb}
 use Rattle.ffs_workspace.specs.declared.workspace.Workspace.{Workspace}
-use Rattle.ffs_workspace.specs.Places.{is_due, place_in, ArePlaces}
+use Rattle.ffs_workspace.specs.Places.{is_due, place_in, ArePlaces, AreNoted}
 use Rattle.ffs_pathnames.specs.Examines.{LeavesQueue}
 use Rattle.ffs_pathnames.specs.declared.inodes.Inodes.{Inodes}
 use Rattle.ffs_pathnames.specs.Marks.{Marks, belongs, after_look, after_name, after_roled, is_due as is_due_in}
@@ -76,6 +76,20 @@ same_places ws ws' x word set same y = ap (λ l. place_in (slice_index l y)) set
 pub places_kept : (v : Layout) (b : List ℕ) (old new : List ℕ) → KeepPlaces old new → ArePlaces v b old →
     ArePlaces v b new
 places_kept v b old new keep places x p k noted above = places x p k (sym (keep x) ∙ noted) above
+
+pub keep_more : (a b c : List ℕ) → KeepPlaces a b → KeepPlaces b c → KeepPlaces a c
+keep_more a b c p q x = q x ∙ p x
+
+-- where the windows alone have changed
+pub windows_keep : (old new : Workspace) → new ≡ record old { windows = new.windows } →
+    KeepPlaces old.queue.items new.queue.items
+windows_keep old new e x = ap (λ (w : Workspace). place_in (slice_index w.queue.items x)) e
+
+-- a place is noted of the same directories
+pub noted_kept : (v : Layout) (b : List ℕ) (old new : List ℕ) → KeepPlaces old new → AreNoted v b old → AreNoted v b new
+noted_kept v b old new keep noted x k reached =
+    let n = noted x k reached in
+    record { chunk = n.chunk; place = keep x ∙ n.place; inside = n.inside; named = n.named }
 
 -- where the words and windows alone have changed
 pub queue_leaves : (old new : Workspace) → new ≡ record old { queue = new.queue; windows = new.windows } →

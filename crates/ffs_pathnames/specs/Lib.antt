@@ -15,4 +15,5 @@ pub mod Calm
 pub mod MarksRight
 pub mod Before
 pub mod Ready
+pub mod LineReads
 pub mod Looks

@@ -8,6 +8,7 @@ use Rattle.ffs_workspace.specs.Leaves.{LeavesSurvey}
 use Rattle.ffs_phase.specs.Runs.{ImageAfter}
 use Rattle.ffs_phase.specs.declared.fault.RunFault.{RunFault}
 use Rattle.ffs_paths.specs.declared.siblings.Siblings.{Siblings}
+use Rattle.ffs_pathnames.specs.Stamps.{KeepPlaces}
 pub use Rattle.ffs_paths.specs.Siblings.{ReadyWith, ReadyToPath, PathLeaves}
 
 -- paths can be made after a call; where it failed, nothing of a directory and its children may be right
@@ -16,11 +17,12 @@ ReadyAfter v d w s (Ok x) = ReadyWith v d w s
 ReadyAfter v d w s (Err e) = IsReady v d w
 
 -- what a call of the phase leaves: the image, but for a read that failed, what the block check and the survey found,
--- and all that the next call asks for
+-- the places that words note, and all that the next call asks for
 pub record PhaseLeaves {T : Type 0} (v : Layout) (d d' : Device) (w w' : Workspace) (s : Siblings)
     (result : Result T RunFault) : Type 0 where
   pub image : ImageAfter d d' result
   pub survey : LeavesSurvey w w'
+  pub places : KeepPlaces w.queue.items w'.queue.items
   pub ready : ReadyAfter v d' w' s result
 
 -- the same of a call that changes nothing of the workspace but its windows; the chunk of the current directory is as

@@ -18,6 +18,7 @@ ghost use Rattle.ffs_pathnames.specs.Begins.{dir_starts, started_entry, IsBegun}
 ghost use Rattle.ffs_pathnames.specs.Header.{header_reported};
 ghost use Rattle.ffs_pathnames.specs.Gathers.{marks_of};
 ghost use Rattle.ffs_pathnames.specs.DirectoryContext.{DirectoryContext};
+ghost use Rattle.ffs_pathnames.specs.LineReads.{ReadsByLines};
 ghost use Rattle.ffs_pathnames.specs.MarksRight.{AreRightBefore};
 ghost use Rattle.ffs_pathnames.specs.Ready.{ReadyToPath, PhaseLeaves, LinesLeave};
 
@@ -91,6 +92,14 @@ fn report_header<I: Image, W: Output>(
         (progress W.sink report.old) (progress W.sink report.new) result }
     ensures leaves { LinesLeave geometry.now.layout (I.device image.old) (I.device image.new)
         workspace.old workspace.new siblings.new result }
+    ensures counted { ReadsByLines geometry.now.layout (λ b. DirectoryContext geometry.now.layout
+        (I.device image.old).contents workspace.old dir b
+        × (size ≡ (inode_of geometry.now.layout b dir).size))
+        (λ b. header_reported (attributes (volume_of geometry.now.layout b) dir)
+        (dir_path (graph_of (volume_of geometry.now.layout b)) dir) dir parent
+        shape.entry.gap shape.entry.sound (option_map entry_value shape.entry.first)
+        (option_map entry_value shape.entry.second)) workspace.old workspace.new
+        (I.reads image.old) (I.reads image.new) }
 {
     if is_in_order(dir, parent, size, shape) {
         return Ok(());

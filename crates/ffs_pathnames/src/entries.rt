@@ -12,6 +12,7 @@ ghost use Rattle.ffs_report.specs.Progress.{progress};
 ghost use Rattle.ffs_pathnames.specs.Gathers.{marks_of};
 ghost use Rattle.ffs_pathnames.specs.DirectoryContext.{DirectoryContext, KnowsPath};
 ghost use Rattle.ffs_pathnames.specs.Marks as marks;
+ghost use Rattle.ffs_pathnames.specs.LineReads.{ReadsByLines};
 ghost use Rattle.ffs_pathnames.specs.Ready.{ReadyToPath, PhaseLeaves, LinesLeave};
 
 use crate::inodes::Inodes;
@@ -49,6 +50,11 @@ fn say_entry<I: Image, W: Output>(
     ensures same { texts.new.paths.directory ≡ texts.old.paths.directory }
     ensures leaves { LinesLeave geometry.now.layout (I.device image.old) (I.device image.new)
         workspace.old workspace.new siblings.new result }
+    ensures counted { ReadsByLines geometry.now.layout
+        (DirectoryContext geometry.now.layout (I.device image.old).contents workspace.old dir)
+        (λ b. marks.entry_lines_of (volume_of geometry.now.layout b) dir (marks_of workspace.old)
+        (record { role = role; entry = entry_value entry.now })) workspace.old workspace.new
+        (I.reads image.old) (I.reads image.new) }
 {
     match role {
         Role::Empty => Ok(()),
@@ -90,6 +96,12 @@ pub fn report_entry<I: Image, W: Output>(
         (record { role = role; entry = entry_value entry.now }) ≡ marks_of workspace.new)) }
     ensures leaves { PhaseLeaves geometry.now.layout (I.device image.old) (I.device image.new)
         workspace.old workspace.new siblings.new result }
+    ensures chunk { workspace.new.windows.chunk ≡ workspace.old.windows.chunk }
+    ensures counted { ReadsByLines geometry.now.layout
+        (DirectoryContext geometry.now.layout (I.device image.old).contents workspace.old dir)
+        (λ b. marks.entry_lines_of (volume_of geometry.now.layout b) dir (marks_of workspace.old)
+        (record { role = role; entry = entry_value entry.now })) workspace.old workspace.new
+        (I.reads image.old) (I.reads image.new) }
 {
     say_entry(
         geometry, image, workspace, siblings, report, dir, role, entry, texts,
@@ -141,6 +153,12 @@ pub fn report_chunk<I: Image, W: Output>(
         ≡ marks_of workspace.new)) }
     ensures leaves { PhaseLeaves geometry.now.layout (I.device image.old) (I.device image.new)
         workspace.old workspace.new siblings.new result }
+    ensures chunk { workspace.new.windows.chunk ≡ workspace.old.windows.chunk }
+    ensures counted { ReadsByLines geometry.now.layout
+        (DirectoryContext geometry.now.layout (I.device image.old).contents workspace.old dir)
+        (λ b. marks.entries_reported (volume_of geometry.now.layout b) dir (marks_of workspace.old)
+        (roled_from first 0 (entries_of geometry.now.layout.order chunk.now)))
+        workspace.old workspace.new (I.reads image.old) (I.reads image.new) }
 {
     let order = geometry.layout.order;
     let mut place = 0usize;

@@ -18,7 +18,9 @@ ghost use Rattle.ffs_pathnames.specs.Gathers.{asks_attr, asks_path, is_silent};
 ghost use Rattle.ffs_pathnames.specs.DirectoryContext.{DirectoryContext, KnowsPath};
 ghost use Rattle.ffs_paths.specs.DirectoryPaths.{IsPathOf};
 ghost use Rattle.ffs_paths.specs.LastPaths.{last_path};
-ghost use Rattle.ffs_paths.specs.Reads.{ForTree, IsReadyFor, OnlyReads};
+ghost use Rattle.ffs_paths.specs.Reads.{ForTree, IsReadyFor, OnlyReads, ReadsAtMost, ReadsFew};
+ghost use Rattle.ffs_volume.specs.Report.Reads.{line_reads, path_reads};
+ghost use Rattle.ffs_pathnames.specs.LineReads.{ReadsByLines};
 ghost use Rattle.ffs_pathnames.specs.Marks.{plain_reported};
 ghost use Rattle.ffs_pathnames.specs.Ready.{ReadyWith, ReadyToPath, PathLeaves, LinesLeave, LineLeaves};
 
@@ -58,6 +60,8 @@ pub fn read_attr<I: Image>(
         (λ b. a ≡ attributes (volume_of geometry.now.layout b) number)) }
     ensures reads { OnlyReads geometry.now.layout (I.device image.old) (I.device image.new)
         workspace.old workspace.new result }
+    ensures counted { ReadsFew 1 (I.reads image.old) (I.reads image.new) workspace.old
+        workspace.new }
 {
     let inode = workspace
         .windows
@@ -94,6 +98,8 @@ fn gather_path<I: Image>(
         (λ g. IsTrue wanted → text.new.items ≡ dir_path g dir)) }
     ensures leaves { PathLeaves geometry.now.layout (I.device image.old) (I.device image.new)
         workspace.old workspace.new siblings.new result }
+    ensures counted { ReadsAtMost path_reads geometry.now.layout (I.device image.old)
+        workspace.old workspace.new (I.reads image.old) (I.reads image.new) }
 {
     if !wanted {
         return Ok(());
@@ -125,6 +131,8 @@ fn gather<I: Image>(
     ensures same { texts.new.paths.directory ≡ texts.old.paths.directory }
     ensures leaves { PathLeaves geometry.now.layout (I.device image.old) (I.device image.new)
         workspace.old workspace.new siblings.new result }
+    ensures counted { ReadsAtMost line_reads geometry.now.layout (I.device image.old)
+        workspace.old workspace.new (I.reads image.old) (I.reads image.new) }
 {
     let (wants_attr, wants_path) = asks(verdict);
     texts.paths.put(entry.name);
@@ -207,6 +215,11 @@ pub fn report_plain<I: Image, W: Output>(
     ensures same { texts.new.paths.directory ≡ texts.old.paths.directory }
     ensures leaves { LinesLeave geometry.now.layout (I.device image.old) (I.device image.new)
         workspace.old workspace.new siblings.new result }
+    ensures counted { ReadsByLines geometry.now.layout
+        (DirectoryContext geometry.now.layout (I.device image.old).contents workspace.old dir)
+        (λ b. plain_reported (volume_of geometry.now.layout b) dir (marks_of workspace.old)
+        (entry_value entry.now)) workspace.old workspace.new
+        (I.reads image.old) (I.reads image.new) }
 {
     let verdict = verdict_of(workspace, dir, entry);
     if is_silent(&verdict) {
@@ -247,6 +260,11 @@ pub fn report_extra<I: Image, W: Output>(
     ensures same { texts.new.paths.directory ≡ texts.old.paths.directory }
     ensures leaves { LineLeaves geometry.now.layout (I.device image.old) (I.device image.new)
         workspace.old workspace.new result }
+    ensures counted { ReadsByLines geometry.now.layout
+        (DirectoryContext geometry.now.layout (I.device image.old).contents workspace.old dir)
+        (λ b. extra_lines (attributes (volume_of geometry.now.layout b) dir)
+        (dir_path (graph_of (volume_of geometry.now.layout b)) dir) (entry_value entry.now))
+        workspace.old workspace.new (I.reads image.old) (I.reads image.new) }
 {
     let paths = &texts.paths;
     paths.directory.put(&mut texts.directory);
@@ -275,6 +293,8 @@ pub fn gather_dir<I: Image>(
         → path.new.items ≡ dir_path (graph_of (volume_of geometry.now.layout b)) dir) }
     ensures leaves { PathLeaves geometry.now.layout (I.device image.old) (I.device image.new)
         workspace.old workspace.new siblings.new result }
+    ensures counted { ReadsAtMost line_reads geometry.now.layout (I.device image.old)
+        workspace.old workspace.new (I.reads image.old) (I.reads image.new) }
 {
     siblings.put_path(geometry, image, workspace, dir, path)?;
     let attr = read_attr(geometry, image, workspace, dir)?;

@@ -1,4 +1,5 @@
-//! Roles of entries, as dir(5) has them, and the chunks of a directory whose blocks share a fragment.
+//! Roles of entries, as dir(5) has them, and the chunks of a directory whose blocks share a
+//! fragment.
 
 ghost use Rattle.std.specs.Prelude.{◌*◌, ◌≤◌};
 

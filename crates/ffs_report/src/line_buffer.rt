@@ -3,8 +3,8 @@ ghost use Rattle.std.specs.Prelude.{◌≡◌, ◌≤◌, ◌*◌, length, take}
 
 use crate::output::{OutFault, Output};
 
-/// The room for a line and its questions, in bytes. A path has at most 1,024 and a name 255; only the name of an image may be
-/// longer.
+/// The room for a line and its questions, in bytes. A path has at most 1,024 and a name 255; only
+/// the name of an image may be longer.
 const LINE_ROOM: usize = 2048;
 
 /// The bytes of a pair. The machine moves them at once.

@@ -1,7 +1,8 @@
 //! What a writer below is asked: one write or one flush by each call.
 //!
-//! What is over this trait can say how often it asks, and what it does with the answer. A std writer doesn't say that:
-//! of each, the two lines of the impl at the end of this file are trusted to ask it once.
+//! What is over this trait can say how often it asks, and what it does with the answer. A std
+//! writer doesn't say that: of each, the two lines of the impl at the end of this file are trusted
+//! to ask it once.
 ghost use Rattle.std.specs.Prelude.{ℕ, List, Option, Result};
 ghost use Rattle.std.specs.Io.{WritesAtMost};
 ghost use Rattle.std.specs.Io.KnownBytes.{WriteAppends, Keeps};

@@ -10,9 +10,10 @@ use crate::outlet::Outlet;
 use std::io;
 use std::io::{ErrorKind, Write};
 
-/// A writer over another one that passes nothing on after its first failure: no write and no flush reaches the writer
-/// below, whoever asks. A buffer above it so stays silent when it is flushed or dropped after a write that failed. A write that
-/// a signal interrupts is tried again; one that takes nothing has failed.
+/// A writer over another one that passes nothing on after its first failure: no write and no flush
+/// reaches the writer below, whoever asks. A buffer above it so stays silent when it is flushed or
+/// dropped after a write that failed. A write that a signal interrupts is tried again; one that
+/// takes nothing has failed.
 #[derive(Drop)]
 pub struct SilentWriter<S> {
     inner: S,

@@ -164,8 +164,8 @@ fn flag_calm<D: Directories>(
     ensures reader { LeavesReader (D.ready directories.new) (D.base directories.old)
         (D.base directories.new) (D.device directories.old) (D.device directories.new) result }
     ensures counted { (b : List ℕ) → D.knows (D.base directories.old) b
-        → D.reads directories.new ≤ D.reads directories.old
-        + D.to_read directories.old b }
+        → D.held directories.old
+        → D.reads directories.new ≤ D.reads directories.old + D.to_read directories.old b }
 {
     let number = from as usize;
     if !quiet || count < 2 || number >= calm.len() {

@@ -103,8 +103,8 @@ fn read_within<I: Image>(image: &mut I, at: u64, buf: &mut [u8]) -> Option<Resul
 }
 
 // What is found of a file: its size when it was opened, four of its bytes, what came of the read of
-// them, and of a second one after the file was cut, how many reads failed, and the sector of the last
-// one that did.
+// them, and of a second one after the file was cut, how many reads failed, and the sector of the
+// last one that did.
 type CutFile = (u64, [u8; 4], [Option<Result<(), ImageFault>>; 2], [u64; 2]);
 
 // A file of 1,024 bytes, which is cut to 1,022 after the first read, and removed.

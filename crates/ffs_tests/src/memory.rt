@@ -36,8 +36,8 @@ fn refused(k: u64, alloc: Global) -> Result<(End, Vec<u8>, FuseMemory<SystemMemo
     Ok((end, text, memory))
 }
 
-// How a check ends whose k-th request is refused, what it prints, and how many requests were refused
-// and bytes granted.
+// How a check ends whose k-th request is refused, what it prints, and how many requests were
+// refused and bytes granted.
 fn counted(k: u64, alloc: Global) -> Result<(End, Vec<u8>, [u64; 2]), Fail> {
     let (end, text, memory) = refused(k, alloc)?;
     Ok((end, text, [memory.refused(), memory.granted()]))

@@ -420,6 +420,7 @@ impl Walk {
     pub fn of_class(geometry: &Geometry, inode: &Inode, class: Class) -> Walk
         ensures walk { class ≡ inodes.class_of geometry.now.layout inode.now
             → IsWalkOf geometry.now inode.now result }
+        ensures top { IsAtTop result }
         ensures geometry { result.geometry ≡ geometry.now }
     {
         let blocks = walked_blocks(geometry, inode, class);

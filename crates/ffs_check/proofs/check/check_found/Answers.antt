@@ -3,7 +3,7 @@ use Rattle.ffs_layout.specs.Super.{seen}
 use Rattle.ffs_volume.specs.Directories.PathnameCheck.{continues_after_root}
 use Rattle.ffs_volume.specs.Report.Whole.{phase_lines}
 use Rattle.ffs_volume.specs.Directories.Volumes.{volume_of}
-use Rattle.ffs_check.proofs.Endings.{ran_knows}
+use Rattle.ffs_check.proofs.Endings.{ran_known}
 use Rattle.ffs_check.proofs.Taken.{not_for_memory}
 use Rattle.ffs_check.proofs.check.check_found.Goals as goal
 
@@ -19,7 +19,7 @@ run_rest-requires g c = record {
 pub returns-in-Ok-clause-followed : goal.returns-in-Ok-clause-followed
 returns-in-Ok-clause-followed g c =
     let s = seen c.args.found.now in
-    inr (ran_knows false _ _ (λ bytes. phase_lines bytes s) (λ bytes. continues_after_root (volume_of s.layout bytes)) _
+    inr (ran_known false _ _ (λ bytes. phase_lines bytes s) (λ bytes. continues_after_root (volume_of s.layout bytes)) _
     _ _ _ _ (λ bytes t. (t, c.in-Ok.ensures.new.fresh)) c.run_rest.ensures.ran)
 
 pub returns-in-Ok-clause-refused : goal.returns-in-Ok-clause-refused

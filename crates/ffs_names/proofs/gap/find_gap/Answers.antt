@@ -1,11 +1,14 @@
-use Rattle.std.proofs.Common.{refl, sym, ap, ◌∙◌, false, List}
+use Rattle.std.proofs.Common.{refl, sym, ap, ◌∙◌, ◌∷◌, false, List, arith}
 use Rattle.std.proofs.lemmas.Result.{err_from_is_err_and}
 use Rattle.ffs_volume.specs.declared.Step.{Step}
+use Rattle.ffs_volume.specs.declared.Step.TheVariants.{Run}
 use Rattle.ffs_walk.specs.Rests.{rest}
 use Rattle.ffs_walk.specs.Keepings.{replay_in}
 use Rattle.ffs_names.specs.Readings.{gap_after}
 use Rattle.ffs_names.proofs.GapsLeft.{gap_over_tail, gap_seen, gap_to_run, gap_past_run, gap_unseen}
-use Rattle.ffs_names.proofs.Continuing.{walk_volume, walk_room, walk_holds, walk_on}
+use Rattle.ffs_names.proofs.Continuing.{walk_volume, walk_room, walk_holds, walk_on, replayed_over}
+use Rattle.ffs_names.proofs.Advances.{runs_on, runs_tail}
+use Rattle.ffs_names.proofs.ReadCounts.{entered_one, run_counts, runs_gap}
 use Rattle.ffs_names.proofs.Pieces.{no_more}
 use Rattle.ffs_names.proofs.gap.find_gap.Goals as goal
 
@@ -47,6 +50,24 @@ steps-preserved-in-Some-Run g c =
           (replay_in c.take-taken.new.self) (rest b w) r.start r.len r._block false
           (c.take-taken.ensures.replays w.geometry.layout r.start r._block c.in_range-in_range.ensures).after
           c.take-taken.ensures.cut));
+      held = λ u h.
+          let old = inv.held u h in
+          let held = (c.in_ok-next.ensures.counted old.frames).held in
+          record {
+            frames = record { single = held.single; double = held.double; triple = held.triple };
+            run = old.run;
+          };
+      reads = λ u h b t.
+          let paid = rw r.field-0-is at (rw r.is at (c.in_ok-next.ensures.counted (inv.held u h).frames).paid) in
+          let run = Run r.start r.len r._block ∷ rest b w in
+          let e = runs_on s.walk.geometry.layout w.geometry.layout s.keeping.cut (replay_in s.keeping) (rest b s.walk) run
+          (ap (λ x. x.layout) c.next.ensures.same.geometry) (read b (ap (λ d. d.contents) inv.same ∙ t)) in
+          let one = run_counts w.geometry.layout s.keeping.cut c.take-taken.new.self.cut (replay_in s.keeping)
+          (replay_in c.take-taken.new.self) (rest b w) r.start r.len r._block
+          (sym c.is_replay_open.ensures ∙ c.steps-test.true)
+          (c.take-taken.ensures.replays w.geometry.layout r.start r._block c.in_range-in_range.ensures).after
+          c.take-taken.ensures.cut in
+          omega (arith, paid, e, one, entered_one r.start r.len r._block, inv.reads u h b t);
     }
 
 pub steps-preserved : goal.steps-preserved
@@ -72,6 +93,15 @@ steps-preserved g c =
           ∙ sym (gap_over_tail s.walk.geometry.layout w.geometry.layout s.keeping.cut (replay_in s.keeping) false
           (rest b s.walk) (rest b w)
           (ap (λ x. x.layout) c.next.ensures.same.geometry) (read b (ap (λ d. d.contents) inv.same ∙ t)));
+      held = λ u h. let old = inv.held u h in record {
+        frames = (c.in_ok-next.ensures.counted old.frames).held;
+        run = old.run;
+      };
+      reads = λ u h b t.
+          let paid = rw r.field-0-is at (rw r.is at (c.in_ok-next.ensures.counted (inv.held u h).frames).paid) in
+          let e = runs_tail s.walk.geometry.layout w.geometry.layout s.keeping.cut (replay_in s.keeping) (rest b s.walk)
+          (rest b w) (ap (λ x. x.layout) c.next.ensures.same.geometry) (read b (ap (λ d. d.contents) inv.same ∙ t)) in
+          omega (arith, paid, e, inv.reads u h b t);
     }
 
 pub returns-in-Some-Gap-clause-gap : goal.returns-in-Some-Gap-clause-gap
@@ -136,6 +166,8 @@ steps-init g c = record {
   kept = record { geometry = refl; cut = refl; taken = refl; budget = refl; runs = no_more _ };
   ready = c.requires;
   gap = λ b t. refl;
+  held = λ w h. h;
+  reads = λ w h b t. omega arith;
 }
 
 pub take-taken-requires : goal.take-taken-requires
@@ -208,3 +240,49 @@ returns-in_err-next-clause-leaves g c =
 pub returns-clause-leaves : goal.returns-clause-leaves
 returns-clause-leaves g c =
     let inv = c.steps.invariant in record { same = inv.kept; ready = inv.ready; read = inv.same }
+
+pub returns-in_err-next-clause-reads : goal.returns-in_err-next-clause-reads
+returns-in_err-next-clause-reads g c =
+    let p = err_from_is_err_and c.from_residual.result c.from_residual.ensures.1 in
+    rw p.1 (λ u h b t.
+    let inv = c.steps.invariant in
+    let most = (c.in_err-next.ensures.counted (inv.held u h).frames).most in
+    record { most = omega (arith, most, inv.reads u h b t); paid = tt; held = tt })
+
+pub returns-in-None-clause-reads : goal.returns-in-None-clause-reads
+returns-in-None-clause-reads g c = λ u h b t.
+    let inv = c.steps.invariant in
+    let s = c.steps.chunks in
+    let counted = c.in_ok-next.ensures.counted (inv.held u h).frames in
+    let paid = rw c.in-None.is at counted.paid in
+    let none = c.in_ok-next.ensures.step.over c.in-None.is in
+    let o = replayed_over b c.next.new.self s.walk.geometry.layout s.keeping.cut (replay_in s.keeping) (rest b s.walk)
+    none in
+    record {
+      most = omega (arith, paid, inv.reads u h b t);
+      paid = omega (arith, paid, o, inv.reads u h b t);
+      held = record { frames = counted.held; run = (inv.held u h).run };
+    }
+
+pub returns-in-Some-Gap-clause-reads : goal.returns-in-Some-Gap-clause-reads
+returns-in-Some-Gap-clause-reads g c = λ u h b t.
+    let inv = c.steps.invariant in
+    let s = c.steps.chunks in
+    let w = c.next.new.self in
+    let r = c.in-Some-Gap in
+    let read = rw r.field-0-is at (rw r.is at c.in_ok-next.ensures.step.steps) in
+    let counted = c.in_ok-next.ensures.counted (inv.held u h).frames in
+    let paid = rw r.field-0-is at (rw r.is at counted.paid) in
+    let e = runs_gap s.walk.geometry.layout w.geometry.layout s.keeping.cut (replay_in s.keeping) (rest b s.walk)
+    (rest b w) (ap (λ x. x.layout) c.next.ensures.same.geometry) (read b (ap (λ d. d.contents) inv.same ∙ t)) in
+    record {
+      most = omega (arith, paid, inv.reads u h b t);
+      paid = omega (arith, paid, e, inv.reads u h b t);
+      held = record { frames = counted.held; run = (inv.held u h).run };
+    }
+
+pub returns-clause-reads : goal.returns-clause-reads
+returns-clause-reads g c = λ u h b t.
+    let inv = c.steps.invariant in
+    let now = inv.reads u h b t in
+    record { most = omega (arith, now); paid = now; held = inv.held u h }

@@ -1,6 +1,8 @@
-use Rattle.std.proofs.Common.{◌≡◌}
+use Rattle.std.proofs.Common.{◌≡◌, ◌≤◌, ◌+◌}
 use Rattle.ffs_image.specs.Device.{ForContents}
 use Rattle.ffs_walk.specs.Rests.{left}
+use Rattle.ffs_walk.specs.declared.window.Window.{Window}
+use Rattle.ffs_names.specs.Costs.{HoldsReading, to_read}
 use Rattle.ffs_names.specs.Windows.{CanWalkDir}
 use Rattle.ffs_names.specs.Readings.{gap_left, IsSame}
 use Rattle.ffs_names.proofs.gap.find_gap.Given as goal
@@ -11,6 +13,9 @@ invariant-steps g l = let device = g.I.Image.device in record {
   kept : IsSame l.initial.chunks l.chunks;
   ready : CanWalkDir l.initial.chunks.walk.geometry.layout (device l.image) l.blocks;
   gap : ForContents (device l.initial.image).contents (λ b. gap_left b l.initial.chunks ≡ gap_left b l.chunks);
+  held : (w : Window) → HoldsReading l.initial.blocks w l.initial.chunks → HoldsReading l.blocks w l.chunks;
+  reads : (w : Window) → HoldsReading l.initial.blocks w l.initial.chunks → ForContents (device l.initial.image).contents
+      (λ b. g.I.Image.reads l.image + to_read b l.chunks ≤ g.I.Image.reads l.initial.image + to_read b l.initial.chunks);
 }
 
 abbrev pub decreases-steps : goal.decreases-steps

@@ -1,4 +1,4 @@
-use Rattle.std.proofs.Common.{◌∙◌, ap, refl, subst, sym, rules, arith}
+use Rattle.std.proofs.Common.{◌∙◌, ◌≡◌, ◌*◌, length, ap, refl, subst, sym, rules, arith}
 use Rattle.std.specs.Prelude.{slice_index}
 use Rattle.std.proofs.lemmas.List.{with_items_is}
 use Rattle.ffs_volume.proofs.Sizes.{some_inodes}
@@ -112,3 +112,15 @@ survey-surveyed-requires-clause-lists g c = record {
   parents = search (rules, arith);
   queue = search (rules, arith);
 }
+
+pub returns-clause-reads : goal.returns-clause-reads
+returns-clause-reads g c = λ b t h.
+    let v = c.args.geometry.now.layout in
+    let image = c.image-1.given.1 (sym (ap (λ x. x.image_lent) c.survey-surveyed.ensures.reader.same)) in
+    let most = c.survey-surveyed.ensures.counted b (record {
+      bytes = t;
+      kinds = λ x. ap (λ ks. slice_index ks x) c.deref.ensures.value ∙ h.kinds x;
+      notes = h.notes;
+    }) in
+    let all : length c.deref-2.result.now ≡ v.ncg * v.ipg = omega (arith, c.deref-2.ensures.len, c.requires.made.kinds) in
+    rw image (rw all at most)

@@ -1,4 +1,4 @@
-use Rattle.std.proofs.Common.{◌≡◌, ◌∷◌, ◌∙◌, ◌+◌, ◌*◌, ◌≤◌, ℕ, List, Some, ap, sym}
+use Rattle.std.proofs.Common.{◌≡◌, ◌∷◌, ◌∙◌, ◌+◌, ◌*◌, ◌≤◌, ℕ, List, Some, ap, sym, arith}
 use Rattle.std.specs.List.{flat_map}
 use Rattle.ffs_volume.specs.Disk.Numbers.{piece}
 use Rattle.ffs_volume.specs.Directories.Entries.{chunk_of}
@@ -35,6 +35,10 @@ chunks-preserved g c =
       long = c.note_chunk.ensures.long ∙ inv.long;
       children = children_more parents words old new c.args.dir c.place_of-place.result _ c.note_chunk.ensures.noted
           inv.children;
+      reads = λ held b t.
+          let old = inv.reads held b t in
+          let took = c.in_ok-_offset.ensures.reads old.1 b (now b t) in
+          (omega (arith, took.paid, old.0), took.held);
       noted = λ b t. noted_chunk v b parents words old new c.args.dir c.place_of-place.result c.last_place.result
           c.in-Some._offset c.next.new.chunk (flat_map roled_chunk (rest b first)) (rest b c.chunks.chunks)
           (rest b c.next.new.self) c.last_place.ensures.aligned c.place_of-place.ensures.value c.if-place-eq0.false
@@ -92,3 +96,25 @@ returns-clause-noted g c = λ b t.
       all = λ numbered. all_noted v b c.args.parents.now.items c.args.words.now.items c.chunks.words.items c.args.dir
           (flat_map roled_chunk (rest b c.args.chunks.now)) (rest b c.chunks.chunks) none (inv.waiting b t);
     }
+
+-- the reads that were made
+pub returns-clause-reads : goal.returns-clause-reads
+returns-clause-reads g c = λ held b t.
+    let inv = c.chunks.invariant in
+    let old = inv.reads held b t in
+    let took = c.in_ok-_offset.ensures.reads old.1 b (ap (λ d. d.contents) inv.same ∙ t) in
+    omega (arith, took.most, old.0)
+
+pub returns-then-place-eq0-clause-reads : goal.returns-then-place-eq0-clause-reads
+returns-then-place-eq0-clause-reads g c = λ held b t.
+    let inv = c.chunks.invariant in
+    let old = inv.reads held b t in
+    let took = c.in_ok-_offset.ensures.reads old.1 b (ap (λ d. d.contents) inv.same ∙ t) in
+    omega (arith, took.most, old.0)
+
+pub returns-in_err-_offset-clause-reads : goal.returns-in_err-_offset-clause-reads
+returns-in_err-_offset-clause-reads g c = λ held b t.
+    let inv = c.chunks.invariant in
+    let old = inv.reads held b t in
+    let took = c.in_err-_offset.ensures.reads old.1 b (ap (λ d. d.contents) inv.same ∙ t) in
+    omega (arith, took.most, old.0)

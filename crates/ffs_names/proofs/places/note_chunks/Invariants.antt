@@ -1,8 +1,9 @@
-use Rattle.std.proofs.Common.{◌≡◌, vec_len}
+use Rattle.std.proofs.Common.{◌≡◌, ◌≤◌, ◌+◌, vec_len}
 use Rattle.std.specs.List.{flat_map}
 use Rattle.ffs_image.specs.Device.{ForContents}
 use Rattle.ffs_volume.specs.Directories.Roles.{roled_chunk}
 use Rattle.ffs_names.specs.Noting.{NotesChildren}
+use Rattle.ffs_names.specs.Costs.{HoldsReading, to_read}
 use Rattle.ffs_names.specs.Readings.{rest}
 use Rattle.ffs_names.specs.Windows.{CanReadChunks}
 use Rattle.ffs_names.proofs.PlacesNoted.{AreToCome, AreWaiting, HavePlaces}
@@ -15,6 +16,9 @@ invariant-chunks g l = let device = g.I.Image.device in record {
   ready : CanReadChunks l.fn.chunks.walk.geometry.layout (device l.image) l.blocks l.data;
   long : vec_len l.words ≡ vec_len l.fn.words;
   children : NotesChildren l.parents.items l.fn.words.items l.words.items l.dir;
+  reads : HoldsReading l.fn.blocks l.fn.data l.fn.chunks → ForContents (device l.fn.image).contents
+      (λ b. (g.I.Image.reads l.image + to_read b l.chunks ≤ g.I.Image.reads l.fn.image + to_read b l.fn.chunks)
+      × HoldsReading l.blocks l.data l.chunks);
   noted : ForContents (device l.fn.image).contents (λ b. HavePlaces l.fn.chunks.walk.geometry.layout b
       l.fn.words.items l.words.items (flat_map roled_chunk (rest b l.fn.chunks)));
   waiting : ForContents (device l.fn.image).contents (λ b. AreWaiting l.fn.chunks.walk.geometry.layout b

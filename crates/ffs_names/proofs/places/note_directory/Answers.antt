@@ -36,3 +36,26 @@ returns-clause-ready g c =
     c.note_chunks.new.data c.note_chunks.new.words (ap (λ d. d.contents) begun.leaves.read) begun.leaves.kept
     (contents_kept _ _ c.note_chunks.result went.read) (rw begun.geometry at went.ready) c.note_chunks.ensures.long
     c.requires.ready
+
+pub returns-clause-reads : goal.returns-clause-reads
+returns-clause-reads g c = λ b t claims dir.
+    let w = c.args.workspace.now in
+    let begun = c.in_ok-chunks.ensures in
+    let inside : c.args.dir < length w.notes.items = grind (arith, common_steps) in
+    let note : c.index-note.result.now ≡ note_at c.args.geometry.now.layout b c.args.dir =
+    (c.index-note.ensures ∙ get_or_default_zero w.notes.items c.args.dir c.index-note.result.now inside)
+    ∙ claims.notes c.args.dir in
+    omega (
+      arith,
+      begun.reads b t note dir,
+      c.note_chunks.ensures.reads (begun.begins.held _ _) b (ap (λ d. d.contents) begun.leaves.read ∙ t),
+    )
+
+pub returns-in_err-chunks-clause-reads : goal.returns-in_err-chunks-clause-reads
+returns-in_err-chunks-clause-reads g c = λ b t claims dir.
+    let w = c.args.workspace.now in
+    let inside : c.args.dir < length w.notes.items = grind (arith, common_steps) in
+    let note : c.index-note.result.now ≡ note_at c.args.geometry.now.layout b c.args.dir =
+    (c.index-note.ensures ∙ get_or_default_zero w.notes.items c.args.dir c.index-note.result.now inside)
+    ∙ claims.notes c.args.dir in
+    c.in_err-chunks.ensures.reads b t note dir

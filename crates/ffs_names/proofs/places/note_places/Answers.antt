@@ -1,10 +1,13 @@
-use Rattle.std.proofs.Common.{◌≡◌, ◌≢◌, Bool, suc, refl, rules, ◌<◌, ◌∙◌, List, ℕ, ap, arith, length, subst, sym, slice_index, slice_set}
+use Rattle.std.proofs.Common.{◌≡◌, ◌≢◌, Bool, suc, refl, rules, ◌<◌, ◌*◌, ◌+◌, ◌∙◌, true, List, ℕ, ap, arith, length, subst, sym, slice_index, slice_set}
 use Rattle.std.proofs.lemmas.Grind.{common_steps, get_or_default_zero}
 use Rattle.ffs_workspace.specs.declared.workspace.Workspace.{Workspace}
 use Rattle.ffs_workspace.specs.Lengths.{inodes_of}
 use Rattle.ffs_workspace.specs.Places.{is_due, place_in}
 use Rattle.ffs_names.specs.Noting.{BeginsNotes, KeepsDue}
-use Rattle.ffs_names.proofs.PlacesNoted.{claims_noted, coming_end, coming_first, coming_noted, passed_next, passed_over, places_after, places_same, set_other, set_same, survey_noted}
+use Rattle.ffs_names.proofs.PlacesNoted.{claims_noted, coming_end, coming_first, coming_noted, only_fewer, parent_is_dir, passed_next, passed_over, places_after, places_same, set_other, set_same, survey_noted}
+use Rattle.ffs_volume.proofs.Sizes.{some_inodes}
+use Rattle.ffs_survey.proofs.Costs.{cost_take, costs_rise}
+use Rattle.ffs_names.specs.Costs.{directory_cost}
 use Rattle.ffs_names.proofs.places.note_places.Goals as goal
 use Rattle.ffs_names.proofs.places.note_places.Goals.{then-is_due+in_ok-note_directory, else-is_due}
 
@@ -23,6 +26,8 @@ loop-dir-init g c =
       ready = search rules;
       low = omega arith;
       passed = begins.low;
+      only = begins.only;
+      reads = λ b t claims survey. omega arith;
       places = λ b t claims survey x p k there is.
           let none : 0 ≡ suc k = sym (begins.none x) ∙ there in absurd (omega arith);
       noted = λ b t claims survey numbered. coming_first v b w words long begins survey;
@@ -48,6 +53,10 @@ loop-dir-preserved g c =
           let same : (x : ℕ) → place_in (slice_index mid.queue.items x) ≡ place_in (slice_index old x) =
           λ x. ap (λ (ws : List ℕ). place_in (slice_index ws x)) set
           ∙ set_same place_in old dir w.passed.result inside (w.passed.ensures.place ∙ ap place_in word) x in
+          let set_due : KeepsDue (slice_set old dir w.passed.result) new.queue.items =
+          subst (λ (ws : List ℕ). KeepsDue ws new.queue.items) set noted.children.due in
+          let due : is_due (slice_index old dir) ≡ true =
+          ap is_due (sym word) ∙ (sym c.is_due.ensures ∙ w.if-is_due.true) in
           let other : (x : ℕ) → x ≢ dir → is_due (slice_index mid.queue.items x) ≡ is_due (slice_index old x) =
           λ x o. ap (λ (ws : List ℕ). is_due (slice_index ws x)) set ∙ set_other is_due old dir w.passed.result x o in
           let lists : mid ≡ record first { windows = mid.windows; queue = mid.queue } =
@@ -58,8 +67,15 @@ loop-dir-preserved g c =
                 ∙ ap (λ (x : Workspace). record x { windows = new.windows; queue = new.queue }) inv.lists;
             ready = noted.ready;
             low = omega arith;
-            passed = passed_next old new.queue.items dir w.passed.result inside w.passed.ensures.passed
-                (subst (λ (ws : List ℕ). KeepsDue ws new.queue.items) set noted.children.due) inv.passed;
+            passed = passed_next old new.queue.items dir w.passed.result inside w.passed.ensures.passed set_due
+                inv.passed;
+            only = only_fewer first.parents.items old new.queue.items dir w.passed.result inside
+                w.passed.ensures.passed set_due inv.only;
+            reads = λ b t claims survey.
+                let is = parent_is_dir v b first dir survey (inv.only dir due) in
+                let took = noted.reads b (ap (λ d. d.contents) inv.same ∙ t) (claims_noted v b first mid lists claims) is in
+                let more = cost_take (λ s. true) (directory_cost v b) dir refl in
+                omega (arith, took, more, inv.reads b t claims survey);
             places = λ b t claims survey.
                 let right = places_same v b old mid.queue.items same (inv.places b t claims survey) in
                 places_after v b mid mid.queue.items new.queue.items dir
@@ -81,6 +97,10 @@ loop-dir-preserved g c =
             low = omega arith;
             passed = passed_over old dir
                 (ap is_due (sym word) ∙ (sym c.is_due.ensures ∙ w.if-is_due.false)) inv.passed;
+            only = inv.only;
+            reads = λ b t claims survey.
+                let more = cost_take (λ s. true) (directory_cost v b) dir refl in
+                omega (arith, more, inv.reads b t claims survey);
             places = inv.places;
             noted = inv.noted;
           })
@@ -98,3 +118,34 @@ returns-clause-noted g c = λ b t claims survey numbered.
     coming_end c.args.geometry.now.layout b c.loop-dir.workspace.queue.items
     (λ x l. inv.passed x (omega arith))
     (inv.noted b t claims survey numbered)
+
+-- the reads that were made
+pub returns-clause-reads : goal.returns-clause-reads
+returns-clause-reads g c = λ b t claims survey.
+    let v = c.args.geometry.now.layout in
+    let inv = c.loop-dir.invariant in
+    let some = some_inodes v c.args.geometry.now.sound in
+    let all = costs_rise (λ s. true) (directory_cost v b) c.loop-dir.dir (v.ncg * v.ipg) (omega arith) in
+    omega (arith, all, inv.reads b t claims survey)
+
+pub returns-in_err-note_directory-clause-reads : goal.returns-in_err-note_directory-clause-reads
+returns-in_err-note_directory-clause-reads g c = λ b t claims survey.
+    let v = c.args.geometry.now.layout in
+    let inv = c.loop-dir.invariant in
+    let first = c.args.workspace.now in
+    let old = c.loop-dir.workspace.queue.items in
+    let dir = c.loop-dir.dir in
+    let inside : dir < length old = grind (arith, common_steps) in
+    let word : c.index-word.result.now ≡ slice_index old dir =
+    c.index-word.ensures ∙ get_or_default_zero old dir c.index-word.result.now inside in
+    let due : is_due (slice_index old dir) ≡ true =
+    ap is_due (sym word) ∙ (sym c.is_due.ensures ∙ c.if-is_due.true) in
+    let mid : Workspace = record c.loop-dir.workspace { queue = c.set.new.self } in
+    let lists : mid ≡ record first { windows = mid.windows; queue = mid.queue } =
+    ap (λ (x : Workspace). record x { queue = c.set.new.self }) inv.lists in
+    let is = parent_is_dir v b first dir survey (inv.only dir due) in
+    let took = c.in_err-note_directory.ensures.reads b (ap (λ d. d.contents) inv.same ∙ t)
+    (claims_noted v b first mid lists claims) is in
+    let more = cost_take (λ s. true) (directory_cost v b) dir refl in
+    let all = costs_rise (λ s. true) (directory_cost v b) (dir + 1) (v.ncg * v.ipg) (omega arith) in
+    omega (arith, took, more, all, inv.reads b t claims survey)

@@ -1,9 +1,11 @@
-use Rattle.std.proofs.Common.{◌≡◌, ◌<◌, ◌≤◌, ℕ, false, slice_index}
+use Rattle.std.proofs.Common.{◌≡◌, ◌<◌, ◌≤◌, ◌+◌, ℕ, false, slice_index}
 use Rattle.ffs_image.specs.Device.{ForContents}
 use Rattle.ffs_workspace.specs.Holds.{HoldsClaims, HoldsSurvey}
 use Rattle.ffs_workspace.specs.Places.{is_due, AreChunksNumbered, ArePlaces}
 use Rattle.ffs_workspace.specs.Ready.{IsReady}
-use Rattle.ffs_names.proofs.PlacesNoted.{AreComing}
+use Rattle.ffs_survey.specs.Costs.{costs_all}
+use Rattle.ffs_names.specs.Costs.{directory_cost}
+use Rattle.ffs_names.proofs.PlacesNoted.{AreComing, OnlyParents}
 use Rattle.ffs_names.proofs.places.note_places.Given as goal
 
 abbrev pub invariant-loop-dir : goal.invariant-loop-dir
@@ -13,6 +15,10 @@ invariant-loop-dir g l = let device = g.I.Image.device in record {
   ready : IsReady l.geometry.layout (device l.image) l.workspace;
   low : 2 ≤ l.dir;
   passed : (x : ℕ) → x < l.dir → is_due (slice_index l.workspace.queue.items x) ≡ false;
+  only : OnlyParents l.fn.workspace.parents.items l.workspace.queue.items;
+  reads : ForContents (device l.fn.image).contents (λ b. HoldsClaims l.geometry.layout b l.fn.workspace →
+      HoldsSurvey l.geometry.layout b l.fn.workspace →
+      g.I.Image.reads l.image ≤ g.I.Image.reads l.fn.image + costs_all (directory_cost l.geometry.layout b) l.dir);
   places : ForContents (device l.fn.image).contents (λ b. HoldsClaims l.geometry.layout b l.fn.workspace →
       HoldsSurvey l.geometry.layout b l.fn.workspace → ArePlaces l.geometry.layout b l.workspace.queue.items);
   noted : ForContents (device l.fn.image).contents (λ b. HoldsClaims l.geometry.layout b l.fn.workspace →

@@ -7,6 +7,7 @@ use Rattle.ffs_pathnames.proofs.Begun.{said_same, fault_same, image_same, starts
 use Rattle.ffs_pathnames.proofs.Passing.{knows_on}
 use Rattle.ffs_workspace.proofs.Leaving.{leaves_more, survey_left, windows_leave}
 use Rattle.ffs_paths.proofs.Keeping.{siblings_on}
+use Rattle.ffs_pathnames.proofs.StampLaws.{windows_keep, keep_more}
 use Rattle.ffs_pathnames.proofs.check.begin_directory.Goals as goal
 
 pub report_header-requires : goal.report_header-requires
@@ -89,7 +90,7 @@ pub returns-in_err-examined-clause-leaves : goal.returns-in_err-examined-clause-
 returns-in_err-examined-clause-leaves g c =
     let left = c.in_err-examined.ensures.leaves in
     let p = err_from_is_err_and c.from_residual.result c.from_residual.ensures.1 in
-    rw (p.1, p.2) (record { image = left.read; survey = left.lists.survey; ready = left.ready })
+    rw (p.1, p.2) (record { image = left.read; survey = left.lists.survey; places = left.lists.places; ready = left.ready })
 
 pub returns-in_err-report_header-clause-leaves : goal.returns-in_err-report_header-clause-leaves
 returns-in_err-report_header-clause-leaves g c =
@@ -100,6 +101,7 @@ returns-in_err-report_header-clause-leaves g c =
     rw (p.1, p.2) (record {
       image = image_same (Unit {0}) DirectorySummary _ _ _ c.in_err-report_header.field-0.0 one.read two.image;
       survey = leaves_more _ _ _ one.lists.survey (windows_leave _ _ two.lists);
+      places = keep_more _ _ _ one.lists.places (windows_keep c.examine.new.workspace c.report_header.new.workspace two.lists);
       ready = two.ready;
     })
 
@@ -110,5 +112,6 @@ returns-clause-leaves g c =
     record {
       image = two.image ∙ one.read;
       survey = leaves_more _ _ _ one.lists.survey (windows_leave _ _ two.lists);
+      places = keep_more _ _ _ one.lists.places (windows_keep c.examine.new.workspace c.report_header.new.workspace two.lists);
       ready = two.ready;
     }

@@ -14,6 +14,7 @@ use Rattle.ffs_pathnames.specs.Marks.{entries_reported}
 use Rattle.ffs_pathnames.proofs.Begun.{said_same, directory_is, lines_parts, quiet_parts, reported_parts, quiet_after}
 use Rattle.ffs_pathnames.proofs.Begun.{reported_after, on_ok}
 use Rattle.ffs_pathnames.proofs.Passing.{knows_on}
+use Rattle.ffs_pathnames.proofs.StampLaws.{keep_more}
 use Rattle.ffs_pathnames.proofs.check.check_directory.Goals as goal
 
 pub returns-in_err-examined-clause-text : goal.returns-in_err-examined-clause-text
@@ -90,5 +91,6 @@ returns-clause-leaves g c =
       image = subst (λ d. ImageAfter d (g.I.Image.device c.report_directory.new.image) c.report_directory.result)
           begun.image left.image;
       survey = leaves_more _ _ _ begun.survey left.survey;
+      places = keep_more _ _ _ begun.places left.places;
       ready = left.ready;
     }

@@ -9,8 +9,9 @@ use Rattle.ffs_volume.specs.Directories.Volumes.{volume_of}
 use Rattle.ffs_layout.specs.Entry.{entry_value}
 use Rattle.ffs_report.proofs.Reports.{said_none}
 use Rattle.ffs_phase.proofs.Reporting.{of_begins, of_says, of_stops, of_reads}
-use Rattle.ffs_pathnames.specs.Header.{header_reported}
+use Rattle.ffs_pathnames.specs.Header.{header_reported, is_right_header}
 use Rattle.ffs_pathnames.proofs.Begun.{attr_size}
+use Rattle.ffs_pathnames.proofs.LineCounts.{by_line, header_some, knows_places}
 use Rattle.ffs_pathnames.proofs.check.report_header.Goals as goal
 
 pub returns-then-is_in_order-clause-text : goal.returns-then-is_in_order-clause-text
@@ -64,3 +65,36 @@ returns-clause-text g c =
     ∙ ap (λ q. reported c.in_ok-attr.attr q) (sym (c.as_slice.ensures.value ∙ c.in_ok-attr.ensures.path b k.0)))
     ∙ sym (append-nil (map of_tree ms)))
     c.in_ok-say_header.ensures
+
+pub returns-in_err-attr-clause-counted : goal.returns-in_err-attr-clause-counted
+returns-in_err-attr-clause-counted g c = λ b k noted.
+    let v = c.args.geometry.now.layout in
+    let s = c.args.shape in
+    by_line _ (c.in_err-attr.ensures.counted b (knows_places _ _ _ _ b k.0 noted))
+    (header_some (attributes (volume_of v b) c.args.dir) (dir_path (graph_of (volume_of v b)) c.args.dir) c.args.dir
+    c.args.parent s.gap s.sound (option_map entry_value s.first) (option_map entry_value s.second)
+    (ap (λ n. is_right_header n c.args.dir c.args.parent s.gap s.sound (option_map entry_value s.first)
+    (option_map entry_value s.second)) (attr_size v b c.args.dir ∙ sym k.1)
+    ∙ (sym c.is_in_order.ensures.value ∙ c.if-is_in_order.false)))
+
+pub returns-in_err-say_header-clause-counted : goal.returns-in_err-say_header-clause-counted
+returns-in_err-say_header-clause-counted g c = λ b k noted.
+    let v = c.args.geometry.now.layout in
+    let s = c.args.shape in
+    by_line _ (c.in_ok-attr.ensures.counted b (knows_places _ _ _ _ b k.0 noted))
+    (header_some (attributes (volume_of v b) c.args.dir) (dir_path (graph_of (volume_of v b)) c.args.dir) c.args.dir
+    c.args.parent s.gap s.sound (option_map entry_value s.first) (option_map entry_value s.second)
+    (ap (λ n. is_right_header n c.args.dir c.args.parent s.gap s.sound (option_map entry_value s.first)
+    (option_map entry_value s.second)) (attr_size v b c.args.dir ∙ sym k.1)
+    ∙ (sym c.is_in_order.ensures.value ∙ c.if-is_in_order.false)))
+
+pub returns-clause-counted : goal.returns-clause-counted
+returns-clause-counted g c = λ b k noted.
+    let v = c.args.geometry.now.layout in
+    let s = c.args.shape in
+    by_line _ (c.in_ok-attr.ensures.counted b (knows_places _ _ _ _ b k.0 noted))
+    (header_some (attributes (volume_of v b) c.args.dir) (dir_path (graph_of (volume_of v b)) c.args.dir) c.args.dir
+    c.args.parent s.gap s.sound (option_map entry_value s.first) (option_map entry_value s.second)
+    (ap (λ n. is_right_header n c.args.dir c.args.parent s.gap s.sound (option_map entry_value s.first)
+    (option_map entry_value s.second)) (attr_size v b c.args.dir ∙ sym k.1)
+    ∙ (sym c.is_in_order.ensures.value ∙ c.if-is_in_order.false)))

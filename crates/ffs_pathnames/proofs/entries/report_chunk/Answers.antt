@@ -12,9 +12,11 @@ use Rattle.ffs_pathnames.specs.Gathers.{marks_of}
 use Rattle.ffs_pathnames.specs.DirectoryContext.{DirectoryContext}
 use Rattle.ffs_pathnames.specs.Marks.{after_roled, after_entries, entry_lines_of, entries_reported}
 use Rattle.ffs_pathnames.proofs.Begun.{image_same}
+use Rattle.ffs_pathnames.proofs.LineCounts.{entry_counted, has_begun, read_all, read_more}
 use Rattle.ffs_pathnames.proofs.Looking.{roled_at_place, seen_next, none}
 use Rattle.ffs_workspace.proofs.Leaving.{leaves_all, leaves_more}
 use Rattle.ffs_pathnames.proofs.Passing.{entry_reported, entry_passed, none_left, knows_on}
+use Rattle.ffs_pathnames.proofs.StampLaws.{keep_more, noted_kept}
 use Rattle.ffs_pathnames.proofs.entries.report_chunk.Goals as goal
 
 pub entries-init : goal.entries-init
@@ -26,11 +28,14 @@ entries-init g c =
       ready = record { ready = c.requires.ready; siblings = c.requires.siblings };
       device = refl;
       survey = leaves_all _;
+      places = λ x. refl;
+      chunk = refl;
       path = refl;
       marks = λ b k. refl;
       said = of_begins _ (λ (b : List ℕ). map of_tree
           (entries_reported (volume_of v b) c.args.dir (marks_of c.args.workspace.now)
           (roled_from c.args.first 0 (entries_of v.order c.args.chunk.now)))) _;
+      counted = λ b k noted. has_begun _ _ _;
     }
 
 pub returns-in_err-report_entry-clause-text : goal.returns-in_err-report_entry-clause-text
@@ -69,8 +74,31 @@ returns-in_err-report_entry-clause-leaves g c =
     rw (p.1, p.2) (record {
       image = image_same (Unit {0}) (Unit {0}) _ _ _ c.in_err-report_entry.field-0.0 inv.device left.image;
       survey = leaves_more _ _ _ inv.survey left.survey;
+      places = keep_more _ _ _ inv.places left.places;
       ready = left.ready;
     })
+
+pub returns-in_err-report_entry-clause-chunk : goal.returns-in_err-report_entry-clause-chunk
+returns-in_err-report_entry-clause-chunk g c = c.in_err-report_entry.ensures.chunk ∙ c.entries.invariant.chunk
+
+pub returns-in_err-report_entry-clause-counted : goal.returns-in_err-report_entry-clause-counted
+returns-in_err-report_entry-clause-counted g c = λ b k noted.
+    let v = c.args.geometry.now.layout in
+    let inv = c.entries.invariant in
+    let e = entry_value c.in-Some.entry in
+    let seen : RoledEntry = record { role = c.role_of-role.result; entry = e } in
+    let m = marks_of c.entries.workspace in
+    let next = seen_next v.order c.args.chunk.now c.args.first c.entries.index c.entries.place e c.role_of-role.result
+    c.in-Some.ensures.some c.role_of-role.ensures in
+    read_all (read_more _ _ (inv.counted b k noted)
+    (entry_counted (volume_of v b) c.args.dir m (after_roled (volume_of v b) c.args.dir m seen) seen
+    (roled_at_place v.order c.args.chunk.now c.args.first c.entries.index c.entries.place)
+    (roled_at_place v.order c.args.chunk.now c.args.first (c.entries.index + 1)
+    (c.entries.place + c.in-Some.entry.length)) next refl)
+    (c.in_err-report_entry.ensures.counted b
+    (knows_on v _ _ c.args.workspace.now c.entries.workspace c.args.dir b (ap (λ d. d.contents) inv.device) inv.survey
+    k)
+    (noted_kept v b _ _ inv.places noted)))
 
 pub entries-preserved : goal.entries-preserved
 entries-preserved g c =
@@ -98,6 +126,8 @@ entries-preserved g c =
       ready = ok.leaves.ready;
       device = ok.leaves.image ∙ inv.device;
       survey = leaves_more _ _ _ inv.survey ok.leaves.survey;
+      places = keep_more _ _ _ inv.places ok.leaves.places;
+      chunk = ok.chunk ∙ inv.chunk;
       path = ok.same ∙ inv.path;
       marks = λ b k. entry_passed (volume_of v b) c.args.dir _ m m' seen here there next (ok.marks b (know b k))
           (inv.marks b k);
@@ -109,6 +139,9 @@ entries-preserved g c =
             knows = know b k.knows;
             path = subst (IsPathOf (graph_of (volume_of v b)) c.args.dir) (sym inv.path) k.path;
           }) ok.text);
+      counted = λ b k noted. read_more _ _ (inv.counted b k noted)
+          (entry_counted (volume_of v b) c.args.dir m m' seen here there next (ok.marks b (know b k)))
+          (ok.counted b (know b k) (noted_kept v b _ _ inv.places noted));
     })
 
 pub returns-clause-text : goal.returns-clause-text
@@ -130,3 +163,6 @@ returns-clause-marks g c = λ b k.
     let end = none_left v.order c.args.chunk.now c.args.first c.entries.index c.entries.place
     (none v.order c.args.chunk.now c.entries.place c.entry_at.result c.in_default.is c.entry_at.ensures.value) in
     c.entries.invariant.marks b k ∙ ap (after_entries (volume_of v b) c.args.dir (marks_of c.entries.workspace)) end
+
+pub returns-clause-counted : goal.returns-clause-counted
+returns-clause-counted g c = λ b k noted. read_all (c.entries.invariant.counted b k noted)

@@ -1,4 +1,4 @@
-use Rattle.std.proofs.Common.{◌≡◌, ◌≤◌, ◌-◌, map}
+use Rattle.std.proofs.Common.{◌≡◌, ◌≤◌, ◌-◌, ℕ, List, length, map}
 use Rattle.ffs_volume.specs.Directories.Entries.{entries_of}
 use Rattle.ffs_volume.specs.Messages.Kinds.{of_tree}
 use Rattle.ffs_volume.specs.Directories.Roles.{roled_from}
@@ -11,6 +11,9 @@ use Rattle.ffs_pathnames.specs.Ready.{ReadyWith}
 use Rattle.ffs_pathnames.specs.Gathers.{marks_of}
 use Rattle.ffs_pathnames.specs.DirectoryContext.{DirectoryContext, KnowsPath}
 use Rattle.ffs_pathnames.specs.Marks.{after_entries, entries_reported}
+use Rattle.ffs_workspace.specs.Places.{AreNoted}
+use Rattle.ffs_pathnames.specs.Stamps.{KeepPlaces}
+use Rattle.ffs_pathnames.proofs.LineCounts.{HasRead}
 use Rattle.ffs_pathnames.proofs.Looking.{roled_at_place}
 use Rattle.ffs_pathnames.proofs.entries.report_chunk.Given as goal
 
@@ -21,6 +24,8 @@ invariant-entries g l = let reported_by = g.I.Image.device in let v = l.geometry
   ready : ReadyWith v (reported_by l.image) l.workspace l.siblings;
   device : reported_by l.image ≡ reported_by l.fn.image;
   survey : LeavesSurvey l.fn.workspace l.workspace;
+  places : KeepPlaces l.fn.workspace.queue.items l.workspace.queue.items;
+  chunk : l.workspace.windows.chunk ≡ l.fn.workspace.windows.chunk;
   path : l.texts.paths.directory ≡ l.fn.texts.paths.directory;
   marks : ForBytes (DirectoryContext v (reported_by l.fn.image).contents l.fn.workspace l.dir) (λ b.
       after_entries (volume_of v b) l.dir (marks_of l.fn.workspace) (roled_from l.first 0 (entries_of v.order l.chunk))
@@ -33,6 +38,13 @@ invariant-entries g l = let reported_by = g.I.Image.device in let v = l.geometry
       (λ b. map of_tree (entries_reported (volume_of v b) l.dir (marks_of l.fn.workspace)
       (roled_from l.first 0 (entries_of v.order l.chunk))))
       (progress g.W.Output.sink l.fn.report) (progress g.W.Output.sink l.report);
+  counted : (b : List ℕ) → DirectoryContext v (reported_by l.fn.image).contents l.fn.workspace l.dir b
+      → AreNoted v b l.fn.workspace.queue.items
+      → HasRead (length (entries_reported (volume_of v b) l.dir (marks_of l.fn.workspace)
+      (roled_from l.first 0 (entries_of v.order l.chunk))))
+      (length (entries_reported (volume_of v b) l.dir (marks_of l.workspace)
+      (roled_at_place v.order l.chunk l.first l.index l.place)))
+      (g.I.Image.reads l.fn.image) (g.I.Image.reads l.image) l.fn.workspace l.workspace;
 }
 
 abbrev pub decreases-entries : goal.decreases-entries

@@ -9,7 +9,7 @@ use Rattle.ffs_workspace.proofs.Leaving.{claims_left, survey_left, leaves_more, 
 use Rattle.ffs_pathnames.specs.Gathers.{marks_of}
 use Rattle.ffs_pathnames.proofs.Passed.{passes}
 use Rattle.ffs_pathnames.proofs.SeesLaws.{sees}
-use Rattle.ffs_pathnames.proofs.StampLaws.{places_kept}
+use Rattle.ffs_pathnames.proofs.StampLaws.{keep_more, places_kept, windows_keep}
 use Rattle.ffs_paths.proofs.Keeping.{siblings_on}
 use Rattle.ffs_pathnames.proofs.entries.report_entry.Goals as goal
 
@@ -17,7 +17,12 @@ pub returns-in_err-say_entry-clause-leaves : goal.returns-in_err-say_entry-claus
 returns-in_err-say_entry-clause-leaves g c =
     let left = c.in_err-say_entry.ensures.leaves in
     let p = err_from_is_err_and c.from_residual.result c.from_residual.ensures.1 in
-    rw (p.1, p.2) (record { image = left.image; survey = windows_leave _ _ left.lists; ready = left.ready })
+    rw (p.1, p.2) (record {
+      image = left.image;
+      survey = windows_leave _ _ left.lists;
+      places = windows_keep c.args.workspace.now c.say_entry.new.workspace left.lists;
+      ready = left.ready;
+    })
 
 pub returns-clause-leaves : goal.returns-clause-leaves
 returns-clause-leaves g c =
@@ -41,6 +46,7 @@ returns-clause-leaves g c =
     record {
       image = left.image;
       survey = leaves_more _ _ _ (windows_leave _ _ left.lists) marks;
+      places = keep_more _ _ _ (windows_keep c.args.workspace.now c.say_entry.new.workspace left.lists) c.pass.ensures.places;
       ready = record {
         ready = record {
           made = record {
@@ -92,3 +98,8 @@ returns-clause-marks g c = λ b k.
     (c.pass.ensures.after (volume_of v b) shows)
     (with_items_is here.flags c.pass.new.flags (c.pass.auto.flags ∙ c.as_mut_slice.ensures.len))
     refl
+
+pub returns-clause-counted : goal.returns-clause-counted
+returns-clause-counted g c = λ b k noted.
+    let said = c.in_ok-say_entry.ensures.counted b k noted in
+    record { count = said.count; blocks = said.blocks }

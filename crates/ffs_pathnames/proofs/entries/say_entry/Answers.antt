@@ -34,6 +34,14 @@ pub returns-in-Plain-clause-text : goal.returns-in-Plain-clause-text
 unfolding entry_lines_of
 returns-in-Plain-clause-text g c = rw (c.in-Plain.is) c.report_plain.ensures.text
 
+pub returns-in-Extra-clause-counted : goal.returns-in-Extra-clause-counted
+unfolding entry_lines_of
+returns-in-Extra-clause-counted g c = rw (c.in-Extra.is) c.report_extra.ensures.counted
+
+pub returns-in-Plain-clause-counted : goal.returns-in-Plain-clause-counted
+unfolding entry_lines_of
+returns-in-Plain-clause-counted g c = rw (c.in-Plain.is) c.report_plain.ensures.counted
+
 -- what is kept of siblings stays right over a line for which an inode alone is read
 line_leaves : {T : Type 0} (v : Layout) (d d' : Device) (w w' : Workspace) (s : Siblings) (result : Result T RunFault)
     → KeepSiblings v d.contents w s → LineLeaves v d d' w w' result → LinesLeave v d d' w w' s result

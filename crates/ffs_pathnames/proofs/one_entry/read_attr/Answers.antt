@@ -26,6 +26,7 @@ returns-in_err-inode g c =
             c.inode_by_part.new.self err.contents err.size c.inode_by_part.ensures.reads.kept c.requires.ready;
         read = err;
       };
+      counted = record { count = c.in_err-inode.ensures.counted; blocks = refl };
     })
 
 pub returns : goal.returns
@@ -41,4 +42,5 @@ returns g c =
             c.inode_by_part.new.self (ap (λ d. d.contents) ok) (ap (λ d. d.size) ok) c.inode_by_part.ensures.reads.kept c.requires.ready;
         read = ok;
       };
+      counted = record { count = c.in_ok-inode.ensures.counted; blocks = refl };
     }

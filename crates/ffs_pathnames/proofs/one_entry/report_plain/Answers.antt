@@ -11,6 +11,7 @@ use Rattle.ffs_phase.proofs.Reporting.{of_begins, of_says, of_stops, of_reads}
 use Rattle.ffs_pathnames.specs.Gathers.{marks_of}
 use Rattle.ffs_pathnames.specs.Marks.{plain_reported}
 use Rattle.ffs_pathnames.specs.Verdicts.{verdict_reported}
+use Rattle.ffs_pathnames.proofs.LineCounts.{by_line, knows_places, plain_some}
 use Rattle.ffs_pathnames.proofs.VerdictLaws.{silent_reported}
 use Rattle.ffs_pathnames.proofs.one_entry.report_plain.Goals as goal
 
@@ -71,3 +72,25 @@ returns-clause-text g c =
     c.last.result.now q) (sym c.as_slice.ensures.value))))
     ∙ sym (append-nil (map of_tree ms)))
     c.in_ok-say_verdict.ensures
+
+-- a verdict with a line
+pub returns-in_err-attr-clause-counted : goal.returns-in_err-attr-clause-counted
+returns-in_err-attr-clause-counted g c = λ b k noted.
+    by_line _ (c.in_err-attr.ensures.counted b (knows_places _ _ _ _ b k noted))
+    (plain_some _ c.args.dir _ (entry_value c.args.entry.now) c.verdict_of-verdict.result
+    (c.verdict_of-verdict.ensures.verdict c.args.geometry.now.layout b c.requires.ready.ready.made k.claims k.survey)
+    (sym c.is_silent.ensures ∙ c.if-is_silent.false))
+
+pub returns-in_err-say_verdict-clause-counted : goal.returns-in_err-say_verdict-clause-counted
+returns-in_err-say_verdict-clause-counted g c = λ b k noted.
+    by_line _ (c.in_ok-attr.ensures.counted b (knows_places _ _ _ _ b k noted))
+    (plain_some _ c.args.dir _ (entry_value c.args.entry.now) c.verdict_of-verdict.result
+    (c.verdict_of-verdict.ensures.verdict c.args.geometry.now.layout b c.requires.ready.ready.made k.claims k.survey)
+    (sym c.is_silent.ensures ∙ c.if-is_silent.false))
+
+pub returns-clause-counted : goal.returns-clause-counted
+returns-clause-counted g c = λ b k noted.
+    by_line _ (c.in_ok-attr.ensures.counted b (knows_places _ _ _ _ b k noted))
+    (plain_some _ c.args.dir _ (entry_value c.args.entry.now) c.verdict_of-verdict.result
+    (c.verdict_of-verdict.ensures.verdict c.args.geometry.now.layout b c.requires.ready.ready.made k.claims k.survey)
+    (sym c.is_silent.ensures ∙ c.if-is_silent.false))

@@ -21,6 +21,7 @@ use Rattle.ffs_pathnames.specs.DirectoryContext.{DirectoryContext}
 use Rattle.ffs_pathnames.specs.Marks.{after_entries, entries_reported}
 use Rattle.ffs_pathnames.proofs.Passing.{chunk_reported, chunk_passed, knows_on, all_read, marks_on}
 use Rattle.ffs_pathnames.proofs.ReadyLaws.{with_chunk, can_read_in, ready_next, ready_read}
+use Rattle.ffs_pathnames.proofs.StampLaws.{windows_keep, keep_more}
 use Rattle.ffs_pathnames.proofs.second_look.report_directory.Goals as goal
 
 pub returns-in_err-path-clause-text : goal.returns-in_err-path-clause-text
@@ -32,7 +33,12 @@ pub returns-in_err-path-clause-leaves : goal.returns-in_err-path-clause-leaves
 returns-in_err-path-clause-leaves g c =
     let left = c.in_err-path.ensures.leaves.reads in
     let p = err_from_is_err_and c.from_residual.result c.from_residual.ensures.1 in
-    rw (p.1, p.2) (record { image = left.read; survey = windows_leave _ _ left.lists; ready = left.ready })
+    rw (p.1, p.2) (record {
+      image = left.read;
+      survey = windows_leave _ _ left.lists;
+      places = windows_keep c.args.workspace.now c.path_to.new.workspace left.lists;
+      ready = left.ready;
+    })
 
 pub chunks-init : goal.chunks-init
 chunks-init g c =
@@ -57,6 +63,7 @@ chunks-init g c =
       device = ok.read;
       geometry = c.start-chunks.ensures.geometry;
       survey = windows_leave _ _ ok.lists;
+      places = windows_keep c.args.workspace.now here ok.lists;
       path = λ b k. subst (IsPathOf (graph_of (volume_of v b)) c.args.dir) (sym c.of.ensures)
           (c.in_ok-path.ensures.path b k.gives_bytes k.claims k.survey);
       marks = λ b k. ap (λ q. after_entries (volume_of v b) c.args.dir q (roled_entries (volume_of v b) c.args.dir))
@@ -84,6 +91,7 @@ returns-in_err-offset-clause-leaves g c =
           read.leaves.read;
       survey = leaves_more _ _ _ inv.survey
           (windows_leave c.chunks.workspace (with_chunk c.chunks.workspace c.next.new.blocks c.next.new.data) refl);
+      places = inv.places;
       ready = ready_read _ _ _ c.chunks.workspace _ _ inv.ready.ready read.leaves.read.contents
           (rw inv.geometry at read.leaves.ready);
     })
@@ -107,6 +115,7 @@ returns-clause-leaves g c =
       image = read.leaves.read ∙ inv.device;
       survey = leaves_more _ _ _ inv.survey
           (windows_leave c.chunks.workspace (with_chunk c.chunks.workspace c.next.new.blocks c.next.new.data) refl);
+      places = inv.places;
       ready = ready_next _ _ _ c.chunks.workspace _ _ _ inv.ready read.leaves.read
           (rw inv.geometry at read.leaves.ready);
     }
@@ -140,6 +149,7 @@ chunks-preserved g c =
       device = same;
       geometry = read.leaves.geometry ∙ inv.geometry;
       survey = leaves_more _ _ _ kept ok.leaves.survey;
+      places = keep_more _ _ _ inv.places ok.leaves.places;
       path = λ b k. subst (IsPathOf (graph_of (volume_of v b)) c.args.dir) (sym ok.same) (inv.path b k);
       marks = λ b k. chunk_passed (volume_of v b) c.args.dir _ m m' here (rest b c.chunks.chunks)
           (rest b c.next.new.self) (next b k) (ok.marks b (know b k)) (inv.marks b k);
@@ -204,6 +214,7 @@ returns-in_err-report_chunk-clause-leaves g c =
       image = subst (λ d. ImageAfter {T = Unit {0}} d (g.I.Image.device c.report_chunk.new.image)
           (Err c.in_err-report_chunk.field-0.0)) (c.in_ok-offset.ensures.leaves.read ∙ inv.device) left.image;
       survey = leaves_more _ _ _ kept left.survey;
+      places = keep_more _ _ _ inv.places left.places;
       ready = left.ready;
     })
 

@@ -15,6 +15,7 @@ use Rattle.ffs_pathnames.specs.Ready.{ReadyWith}
 use Rattle.ffs_pathnames.specs.Gathers.{marks_of}
 use Rattle.ffs_pathnames.specs.DirectoryContext.{DirectoryContext}
 use Rattle.ffs_pathnames.specs.Marks.{after_entries, entries_reported}
+use Rattle.ffs_pathnames.specs.Stamps.{KeepPlaces}
 use Rattle.ffs_pathnames.proofs.second_look.report_directory.Given as goal
 
 abbrev pub invariant-chunks : goal.invariant-chunks
@@ -23,6 +24,7 @@ invariant-chunks g l = let reported_by = g.I.Image.device in let v = l.geometry.
   device : reported_by l.image ≡ reported_by l.fn.image;
   geometry : l.chunks.walk.geometry ≡ l.geometry;
   survey : LeavesSurvey l.fn.workspace l.workspace;
+  places : KeepPlaces l.fn.workspace.queue.items l.workspace.queue.items;
   path : ForBytes (DirectoryContext v (reported_by l.fn.image).contents l.fn.workspace l.dir)
       (λ b. IsPathOf (graph_of (volume_of v b)) l.dir l.texts.paths.directory);
   marks : ForBytes (λ b. DirectoryContext v (reported_by l.fn.image).contents l.fn.workspace l.dir b

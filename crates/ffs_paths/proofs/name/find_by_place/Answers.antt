@@ -19,7 +19,8 @@ returns-clause-name g c = λ found b t claims survey parent is dir.
     ∙ c.in-Some.ensures in
     let bytes = c.copy_from_slice.ensures.after ∙ (c.bytes.ensures ∙ (c.in_ok-fill.ensures.fills.bytes b t
     ∙ ap (λ k. piece (512 * k) 512 b) c.from.ensures)) in
-    c.find_in_chunk.ensures.name found ∙ (ap (λ xs. name_in c.args.dir (roled_from false 0 (entries_of v.order xs))) bytes
+    c.find_in_chunk.ensures.name found
+    ∙ (ap (λ xs. name_in c.args.dir (roled_from false 0 (entries_of v.order xs))) bytes
     ∙ survey.places c.args.dir parent c.in-Some.chunk word is)
 
 pub returns-clause-reads : goal.returns-clause-reads

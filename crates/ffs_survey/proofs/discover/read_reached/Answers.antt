@@ -24,7 +24,8 @@ loop-entry-preserved g c =
       base = search rules;
       device = search rules;
       reads = let r = rw inv.base at c.in_ok-entry.ensures.counted in
-          λ b k. let now = r b k in let old = inv.reads b k in omega (arith, now, old);
+          λ b k. let now = (r b k (inv.held b k)).paid in let old = inv.reads b k in omega (arith, now, old);
+      held = let r = rw inv.base at c.in_ok-entry.ensures.counted in λ b k. (r b k (inv.held b k)).held;
       same_length = c.count_entry.ensures.same_length ∙ inv.same_length;
       parents_long = c.visit-high.ensures.parents_long ∙ inv.parents_long;
       queue_long = c.visit-high.ensures.queue_long ∙ inv.queue_long;
@@ -98,18 +99,19 @@ returns-clause-counted g c =
     let flag = rw (c.in_ok-entry.ensures.reader.same, inv.base) at c.in_ok-flag_calm.ensures.counted in
     λ b k.
     let one = inv.reads b k in
-    let two = read b k in
-    let three = flag b k in
+    let now = read b k (inv.held b k) in
+    let two = now.paid in
+    let three = flag b k now.held in
     omega (arith, one, two, three)
 
 pub returns-in_err-start-clause-counted : goal.returns-in_err-start-clause-counted
-returns-in_err-start-clause-counted g c = λ b k. let r = c.in_err-start.ensures.counted b k in omega (arith, r)
+returns-in_err-start-clause-counted g c = λ b k. let r = (c.in_err-start.ensures.counted b k).most in omega (arith, r)
 
 pub returns-in_err-entry-clause-counted : goal.returns-in_err-entry-clause-counted
 returns-in_err-entry-clause-counted g c =
     let inv = c.loop-entry.invariant in
     let read = rw inv.base at c.in_err-entry.ensures.counted in
-    λ b k. let one = inv.reads b k in let two = read b k in omega (arith, one, two)
+    λ b k. let one = inv.reads b k in let two = (read b k (inv.held b k)).most in omega (arith, one, two)
 
 pub returns-in_err-flag_calm-clause-counted : goal.returns-in_err-flag_calm-clause-counted
 returns-in_err-flag_calm-clause-counted g c =
@@ -118,6 +120,7 @@ returns-in_err-flag_calm-clause-counted g c =
     let flag = rw (c.in_ok-entry.ensures.reader.same, inv.base) at c.in_err-flag_calm.ensures.counted in
     λ b k.
     let one = inv.reads b k in
-    let two = read b k in
-    let three = flag b k in
+    let now = read b k (inv.held b k) in
+    let two = now.paid in
+    let three = flag b k now.held in
     omega (arith, one, two, three)

@@ -12,6 +12,8 @@ invariant-loop-entry g l = record {
   reads : (b : List ℕ) → g.D.Directories.knows (g.D.Directories.base l.fn.directories) b →
       g.D.Directories.reads l.directories + g.D.Directories.to_read l.directories b
       ≤ g.D.Directories.reads l.fn.directories + g.D.Directories.cost (g.D.Directories.base l.fn.directories) b l.from;
+  held : (b : List ℕ) → g.D.Directories.knows (g.D.Directories.base l.fn.directories) b →
+      g.D.Directories.held l.directories;
   same_length : vec_len l.references ≡ vec_len l.fn.references;
   parents_long : vec_len l.parents ≡ vec_len l.fn.parents;
   queue_long : vec_len l.queue ≡ vec_len l.fn.queue;

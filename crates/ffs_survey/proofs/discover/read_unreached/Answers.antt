@@ -22,7 +22,8 @@ loop-entry-preserved g c =
       base = search rules;
       device = search rules;
       reads = let r = rw inv.base at c.in_ok-entry.ensures.counted in
-          λ b k. let now = r b k in let old = inv.reads b k in omega (arith, now, old);
+          λ b k. let now = (r b k (inv.held b k)).paid in let old = inv.reads b k in omega (arith, now, old);
+      held = let r = rw inv.base at c.in_ok-entry.ensures.counted in λ b k. (r b k (inv.held b k)).held;
       same_length = c.count_entry.ensures.same_length ∙ inv.same_length;
       parents_long = c.adopt.ensures.parents_long ∙ inv.parents_long;
       left = let l = inv.left in omega (arith, l, fell);
@@ -47,13 +48,13 @@ pub returns-clause-counted : goal.returns-clause-counted
 returns-clause-counted g c =
     let inv = c.loop-entry.invariant in
     let read = rw inv.base at c.in_ok-entry.ensures.counted in
-    λ b k. let one = inv.reads b k in let two = read b k in omega (arith, one, two)
+    λ b k. let one = inv.reads b k in let two = (read b k (inv.held b k)).most in omega (arith, one, two)
 
 pub returns-in_err-start-clause-counted : goal.returns-in_err-start-clause-counted
-returns-in_err-start-clause-counted g c = λ b k. let r = c.in_err-start.ensures.counted b k in omega (arith, r)
+returns-in_err-start-clause-counted g c = λ b k. let r = (c.in_err-start.ensures.counted b k).most in omega (arith, r)
 
 pub returns-in_err-entry-clause-counted : goal.returns-in_err-entry-clause-counted
 returns-in_err-entry-clause-counted g c =
     let inv = c.loop-entry.invariant in
     let read = rw inv.base at c.in_err-entry.ensures.counted in
-    λ b k. let one = inv.reads b k in let two = read b k in omega (arith, one, two)
+    λ b k. let one = inv.reads b k in let two = (read b k (inv.held b k)).most in omega (arith, one, two)

@@ -11,6 +11,7 @@ use Rattle.ffs_names.proofs.GapsLeft.{gap_same, gap_over_tail, gap_seen, walked_
 use Rattle.ffs_names.proofs.Pieces.{no_more}
 use Rattle.ffs_names.proofs.Continuing.{continues_here, continues_more, counts_same, counts_more, replayed_over}
 use Rattle.ffs_names.proofs.Continuing.{walk_volume, walk_room, walk_holds, walk_on}
+use Rattle.ffs_walk.specs.Counts.{unread}
 use Rattle.ffs_names.proofs.chunks.Chunks.advance.Goals as goal
 
 pub steps-init : goal.steps-init
@@ -19,6 +20,8 @@ steps-init g c = record {
   same = record { geometry = refl; cut = refl; taken = refl; budget = refl; runs = no_more _ };
   ready = c.requires;
   device = refl;
+  held = λ w h. h;
+  reads = λ w h b t. omega arith;
 }
 
 pub next-requires : goal.next-requires
@@ -62,6 +65,16 @@ steps-preserved-in-Some-Tail g c =
       ready = walk_on _ _ _ _ _ _ i.ready i.same.geometry (ap (λ d. d.size) c.in_ok-next.ensures.leaves.read)
           c.next.ensures.leaves.kept.size c.next.ensures.leaves.kept.holds;
       device = c.in_ok-next.ensures.leaves.read ∙ i.device;
+      held = λ w h. let old = i.held w h in record {
+        frames = (c.in_ok-next.ensures.counted old.frames).held;
+        run = old.run;
+      };
+      reads = λ u h b t.
+          let paid = rw c.in-Some-Tail.field-0-is at (rw c.in-Some-Tail.is at (c.in_ok-next.ensures.counted (i.held u
+          h).frames).paid) in
+          let e = runs_tail v w.geometry.layout s.keeping.cut r (steps_left b s.walk) (steps_left b w) same
+          (steps b t) in
+          omega (arith, paid, e, i.reads u h b t);
     }
 
 pub skip_gaps-requires : goal.skip_gaps-requires
@@ -121,6 +134,15 @@ steps-preserved g c =
       };
       ready = ready;
       device = device;
+      held = λ u h. let old = i.held u h in record {
+        frames = c.skip_gaps.ensures.counted.held _ (c.in_ok-next.ensures.counted old.frames).held;
+        run = old.run;
+      };
+      reads = λ u h b t.
+          let paid = rw c.in-Some-Gap.field-0-is at (rw c.in-Some-Gap.is at (c.in_ok-next.ensures.counted (i.held u
+          h).frames).paid) in
+          let e = runs_gaps v v' s.keeping.cut r n (steps_left b s.walk) (steps_left b w') same (steps b t) in
+          omega (arith, paid, c.skip_gaps.ensures.counted.unread, e, i.reads u h b t);
     }
 
 pub steps-preserved-in-Some-Run : goal.steps-preserved-in-Some-Run
@@ -161,6 +183,17 @@ steps-preserved-in-Some-Run g c =
       ready = walk_on _ _ _ _ _ _ i.ready i.same.geometry (ap (λ d. d.size) c.in_ok-next.ensures.leaves.read)
           c.next.ensures.leaves.kept.size c.next.ensures.leaves.kept.holds;
       device = c.in_ok-next.ensures.leaves.read ∙ i.device;
+      held = λ u h. let old = i.held u h in record {
+        frames = rw c.see.ensures.walk (c.in_ok-next.ensures.counted old.frames).held;
+        run = c.see.ensures.reads.held u;
+      };
+      reads = λ u h b t.
+          let paid = rw x.field-0-is at (rw x.is at (c.in_ok-next.ensures.counted (i.held u h).frames).paid) in
+          let run = Run x.start x.len x.block ∷ steps_left b w in
+          let e = runs_on v w.geometry.layout s.keeping.cut r (steps_left b s.walk) run same (steps b t) in
+          let k = walked_runs b c.see.new.self w c.see.ensures.walk in
+          let on : unread c.see.new.self.walk ≡ unread w = ap unread c.see.ensures.walk in
+          omega (arith, paid, e, k, on, c.see.ensures.reads.reads (steps_left b w), i.reads u h b t);
     }
 
 pub returns-then-not-is_replay_open-clause-found : goal.returns-then-not-is_replay_open-clause-found
@@ -314,3 +347,40 @@ returns-clause-continues g c = c.steps.invariant.continues
 pub returns-clause-leaves : goal.returns-clause-leaves
 returns-clause-leaves g c =
     let i = c.steps.invariant in record { same = i.same; ready = i.ready; read = i.device }
+
+-- the reads that were made, and what is held
+pub returns-then-not-is_replay_open-clause-reads : goal.returns-then-not-is_replay_open-clause-reads
+returns-then-not-is_replay_open-clause-reads g c = λ u h b t.
+    let i = c.steps.invariant in
+    let now = i.reads u h b t in
+    record { most = omega (arith, now); paid = now; held = i.held u h }
+
+pub returns-in_err-next-clause-reads : goal.returns-in_err-next-clause-reads
+returns-in_err-next-clause-reads g c =
+    let p = err_from_is_err_and c.from_residual.result c.from_residual.ensures.1 in
+    rw p.1 (λ u h b t.
+    let i = c.steps.invariant in
+    let most = (c.in_err-next.ensures.counted (i.held u h).frames).most in
+    record { most = omega (arith, most, i.reads u h b t); paid = tt; held = tt })
+
+pub returns-in-None-clause-reads : goal.returns-in-None-clause-reads
+returns-in-None-clause-reads g c = λ u h b t.
+    let i = c.steps.invariant in
+    let s = c.steps.self in
+    let w = c.next.new.self in
+    let counted = c.in_ok-next.ensures.counted (i.held u h).frames in
+    let paid = rw c.in-None.is at counted.paid in
+    let none = c.in_ok-next.ensures.step.over c.in-None.is in
+    let o = replayed_over b w s.walk.geometry.layout s.keeping.cut (replay_in s.keeping) (steps_left b s.walk) none in
+    let now = i.reads u h b t in
+    record {
+      most = omega (arith, paid, now);
+      paid = omega (arith, paid, o, now);
+      held = record { frames = counted.held; run = (i.held u h).run };
+    }
+
+pub returns-clause-reads : goal.returns-clause-reads
+returns-clause-reads g c = λ u h b t.
+    let i = c.steps.invariant in
+    let now = i.reads u h b t in
+    record { most = omega (arith, now); paid = now; held = i.held u h }

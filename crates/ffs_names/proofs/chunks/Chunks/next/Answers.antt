@@ -36,3 +36,17 @@ returns-in-Ok-None-clause-chunk g c = λ b t.
       runs = read.runs;
       gap = read.gap;
     }
+
+pub returns-in-Ok-Some-clause-reads : goal.returns-in-Ok-Some-clause-reads
+returns-in-Ok-Some-clause-reads g c = λ held b t.
+    let took = c.in-Ok-Some.ensures.reads held b t in
+    record {
+      most = took.most;
+      paid = took.paid;
+      held = record { frames = took.held.frames; run = took.held.run };
+    }
+
+pub returns-in-Err-clause-reads : goal.returns-in-Err-clause-reads
+returns-in-Err-clause-reads g c = λ held b t.
+    let took = c.in-Err.ensures.reads held b t in
+    record { most = took.most; paid = tt; held = tt }

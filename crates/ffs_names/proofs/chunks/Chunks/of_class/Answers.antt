@@ -4,6 +4,7 @@ use Rattle.ffs_walk.specs.Rests.{rest as steps_left}
 use Rattle.ffs_walk.specs.Keepings.{replay_in}
 use Rattle.ffs_names.specs.RunCursors.{cursor_chunks}
 use Rattle.ffs_names.proofs.Begins.{begun, runs_begun, gap_begun}
+use Rattle.ffs_names.proofs.ReadCounts.{begins_reads}
 use Rattle.ffs_names.proofs.chunks.Chunks.of_class.Goals as goal
 
 pub invariant_of-result : goal.invariant_of-result
@@ -36,3 +37,6 @@ returns-clause-begins c = λ known.
           (steps_left b c.of_class.result) (all b) same c.start.ensures.cut c.start.ensures.fresh
           (walk.steps b);
     }
+
+pub returns-clause-reads : goal.returns-clause-reads
+returns-clause-reads c = begins_reads _ c.of_class.ensures.top c.empty.ensures.next

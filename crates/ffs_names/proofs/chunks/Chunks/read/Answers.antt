@@ -5,6 +5,7 @@ use Rattle.ffs_walk.specs.Windows.{held_bytes}
 use Rattle.ffs_walk.specs.Rests.{rest as steps_left}
 use Rattle.ffs_names.specs.Readings.{all_chunks, chunks_after}
 use Rattle.ffs_names.proofs.Pieces.{chunk_held, hand_step}
+use Rattle.ffs_names.proofs.ReadCounts.{given_one, run_paid}
 use Rattle.ffs_names.proofs.chunks.Chunks.read.Goals as goal
 
 pub returns-clause-chunk : goal.returns-clause-chunk
@@ -162,4 +163,40 @@ returns-clause-leaves g c =
         holds = c.fill.ensures.fills.holds;
       };
       read = read ∙ went.read;
+    }
+
+pub returns-in_err-advance-clause-reads : goal.returns-in_err-advance-clause-reads
+returns-in_err-advance-clause-reads g c =
+    let p = err_from_is_err_and c.from_residual.result c.from_residual.ensures.1 in
+    rw p.1 (λ held b t.
+    let took = c.in_err-advance.ensures.reads c.args.«data».now held b t in
+    record { most = took.most; paid = tt; held = tt })
+
+pub returns-then-not-branch-clause-reads : goal.returns-then-not-branch-clause-reads
+returns-then-not-branch-clause-reads g c = λ held b t.
+    let took = c.in_ok-advance.ensures.reads c.args.«data».now held b t in
+    record { most = took.most; paid = took.paid; held = took.held }
+
+-- the chunks of the Run are read, unless the window has them
+pub returns-in_err-fill-clause-reads : goal.returns-in_err-fill-clause-reads
+returns-in_err-fill-clause-reads g c =
+    let p = err_from_is_err_and c.from_residual-in_err-fill.result c.from_residual-in_err-fill.ensures.1 in
+    rw p.1 (λ held b t.
+    let took = c.in_ok-advance.ensures.reads c.args.«data».now held b t in
+    let h = c.advance.new.self.run_cursor in
+    let more = rw c.if-not-branch.false at c.in_ok-advance.ensures.found in
+    let run = run_paid h c.args.«data».now _ _ more took.held.run c.fill.ensures.counted c.fill.ensures.again in
+    record { most = omega (arith, took.paid, run); paid = tt; held = tt })
+
+pub returns-clause-reads : goal.returns-clause-reads
+returns-clause-reads g c = λ held b t.
+    let took = c.in_ok-advance.ensures.reads c.args.«data».now held b t in
+    let h = c.advance.new.self.run_cursor in
+    let more = rw c.if-not-branch.false at c.in_ok-advance.ensures.found in
+    let run = run_paid h c.args.«data».now _ _ more took.held.run c.fill.ensures.counted c.fill.ensures.again in
+    let given = given_one h.next h.count in
+    record {
+      most = omega (arith, took.paid, run);
+      paid = omega (arith, took.paid, run, given);
+      held = record { frames = took.held.frames; run = λ some left. c.in_ok-fill.ensures.fills.place };
     }

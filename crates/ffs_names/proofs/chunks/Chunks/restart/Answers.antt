@@ -4,6 +4,7 @@ use Rattle.ffs_walk.specs.Rests.{rest as steps_left}
 use Rattle.ffs_walk.specs.Keepings.{replay_in}
 use Rattle.ffs_names.specs.RunCursors.{cursor_chunks}
 use Rattle.ffs_names.proofs.Begins.{begun, runs_begun, gap_begun}
+use Rattle.ffs_names.proofs.ReadCounts.{begins_reads}
 use Rattle.ffs_names.proofs.chunks.Chunks.restart.Goals as goal
 
 pub returns-clause-begins : goal.returns-clause-begins
@@ -35,3 +36,6 @@ invariant_of-self c = record {
   few = omega (arith, c.taken_of-taken.ensures.small);
   cursor_fits = c.empty-self.ensures.fits c.restart.new.self.geometry.layout;
 }
+
+pub returns-clause-reads : goal.returns-clause-reads
+returns-clause-reads c = begins_reads _ c.restart.ensures.top c.empty-self.ensures.next

@@ -5,6 +5,7 @@ use Rattle.ffs_walk.specs.Keepings.{replay_in}
 use Rattle.ffs_names.proofs.SeenSteps.{no_run_cursor, run_continues, kept_run, no_kept_run, no_data_run, no_block_run}
 use Rattle.ffs_names.proofs.SeenSteps.{runs_seen}
 use Rattle.ffs_names.proofs.GapsLeft.{gap_past_run}
+use Rattle.ffs_names.proofs.ReadCounts.{entered_none, entered_one, first_held, over_held, run_at_most, run_counts, run_over}
 use Rattle.ffs_names.proofs.chunks.Chunks.see.Goals as goal
 
 pub returns-in-Some-clause-continues : goal.returns-in-Some-clause-continues
@@ -102,4 +103,60 @@ returns-then-not-in_range-clause-continues c = λ b steps.
       gap = gap_past_run v s.keeping.cut c.take.new.self.cut (replay_in s.keeping) (replay_in c.take.new.self) steps
           c.args.start c.args.len c.args.block s.gap
           after c.take.ensures.cut;
+    }
+
+pub returns-in-Some-clause-reads : goal.returns-in-Some-clause-reads
+returns-in-Some-clause-reads c =
+    let s = c.args.self.now in
+    let v = s.walk.geometry.layout in
+    let after = (c.take.ensures.replays v c.args.start c.args.block c.in_range-in_range.ensures).after in
+    record {
+      reads = λ steps.
+          let runs = run_counts v s.keeping.cut c.take.new.self.cut (replay_in s.keeping) (replay_in c.take.new.self)
+          steps c.args.start c.args.len c.args.block c.requires.seen after c.take.ensures.cut in
+          let block = entered_none c.args.start c.args.len c.args.block c.in-Some.block c.in-Some.is in
+          omega (arith, runs, block, run_at_most c.of_run-self.result);
+      held = first_held c.of_run-self.result c.of_run-self.ensures.first;
+    }
+
+pub returns-in_default-clause-reads : goal.returns-in_default-clause-reads
+returns-in_default-clause-reads c =
+    let s = c.args.self.now in
+    let v = s.walk.geometry.layout in
+    let after = (c.take.ensures.replays v c.args.start c.args.block c.in_range-in_range.ensures).after in
+    record {
+      reads = λ steps.
+          let runs = run_counts v s.keeping.cut c.take.new.self.cut (replay_in s.keeping) (replay_in c.take.new.self)
+          steps c.args.start c.args.len c.args.block c.requires.seen after c.take.ensures.cut in
+          let one = entered_one c.args.start c.args.len c.args.block in
+          omega (arith, runs, one, run_over s.run_cursor c.requires.empty);
+      held = over_held s.run_cursor c.requires.empty;
+    }
+
+pub returns-then-take-len-clause-reads : goal.returns-then-take-len-clause-reads
+returns-then-take-len-clause-reads c =
+    let s = c.args.self.now in
+    let v = s.walk.geometry.layout in
+    let after = (c.take.ensures.replays v c.args.start c.args.block c.in_range-in_range.ensures).after in
+    record {
+      reads = λ steps.
+          let runs = run_counts v s.keeping.cut c.take.new.self.cut (replay_in s.keeping) (replay_in c.take.new.self)
+          steps c.args.start c.args.len c.args.block c.requires.seen after c.take.ensures.cut in
+          let one = entered_one c.args.start c.args.len c.args.block in
+          omega (arith, runs, one, run_over s.run_cursor c.requires.empty);
+      held = over_held s.run_cursor c.requires.empty;
+    }
+
+pub returns-then-not-in_range-clause-reads : goal.returns-then-not-in_range-clause-reads
+returns-then-not-in_range-clause-reads c =
+    let s = c.args.self.now in
+    let v = s.walk.geometry.layout in
+    let after = (c.take.ensures.replays v c.args.start c.args.block c.in_range-in_range.ensures).after in
+    record {
+      reads = λ steps.
+          let runs = run_counts v s.keeping.cut c.take.new.self.cut (replay_in s.keeping) (replay_in c.take.new.self)
+          steps c.args.start c.args.len c.args.block c.requires.seen after c.take.ensures.cut in
+          let one = entered_one c.args.start c.args.len c.args.block in
+          omega (arith, runs, one, run_over s.run_cursor c.requires.empty);
+      held = over_held s.run_cursor c.requires.empty;
     }

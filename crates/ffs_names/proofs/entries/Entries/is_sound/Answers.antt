@@ -1,6 +1,7 @@
 use Rattle.std.proofs.Common.{refl, sym, ap, ◌∙◌, not, arith}
 use Rattle.std.proofs.lemmas.Result.{err_from_is_err_and}
 use Rattle.ffs_names.proofs.Pieces.{no_more}
+use Rattle.ffs_names.proofs.EntryCounts.{looks_on}
 use Rattle.ffs_names.proofs.entries.Entries.is_sound.Goals as goal
 
 pub gap_of-requires : goal.gap_of-requires
@@ -46,3 +47,17 @@ returns-clause-sound g c = λ b t ended.
 pub returns-clause-leaves : goal.returns-clause-leaves
 returns-clause-leaves g c =
     let left = c.in_ok-gap.ensures.leaves in record { same = left.same; ready = left.ready; read = left.read }
+
+pub returns-in_err-gap-clause-reads : goal.returns-in_err-gap-clause-reads
+returns-in_err-gap-clause-reads g c =
+    let p = err_from_is_err_and c.from_residual.result c.from_residual.ensures.1 in
+    rw p.1 (λ w held b t.
+    let took = looks_on b c.args.self.now.sound c.args.self.now.chunks c.gap_of.new.chunks _ _ w w _ _ _
+    c.if-not-self.false (λ h. c.in_err-gap.ensures.reads w h b t) held in
+    record { most = took.most; paid = tt; held = tt })
+
+pub returns-clause-reads : goal.returns-clause-reads
+returns-clause-reads g c = λ w held b t.
+    let took = looks_on b c.args.self.now.sound c.args.self.now.chunks c.gap_of.new.chunks _ _ w w _ _ _
+    c.if-not-self.false (λ h. c.in_ok-gap.ensures.reads w h b t) held in
+    record { most = took.most; paid = took.paid; held = took.held }

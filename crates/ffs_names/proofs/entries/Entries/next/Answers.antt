@@ -6,6 +6,7 @@ use Rattle.ffs_names.specs.RunCursors.{last_place}
 use Rattle.ffs_names.proofs.Continuing.{can_read, can_read_here}
 use Rattle.ffs_names.proofs.Entered.{none_came, chunk_came}
 use Rattle.ffs_names.proofs.Shaped.{shape_came, shape_ended, shape_same, fills_whole}
+use Rattle.ffs_names.proofs.EntryCounts.{and_left, goes_on, same_holds, same_reads}
 use Rattle.ffs_names.proofs.entries.Entries.next.Goals as goal
 
 pub returns-in-Some-clause-entry : goal.returns-in-Some-clause-entry
@@ -65,6 +66,14 @@ chunks-preserved g c =
           let o = rw c.in-Some-2.is at c.in_ok-next.ensures.inside in
           subst (λ q. last_place c.next.new.self.run_cursor + 512 ≤ q.layout.size * q.layout.fsize)
           (sym c.next.ensures.leaves.geometry) o;
+      reads = λ held b t.
+          let now = i.reads held b t in
+          let f = rw c.in-Some-2.is at c.in_ok-next.ensures.budget in
+          let took = goes_on b s.sound _ s.chunks c.next.new.self _ _ _ _ _ _ _ (and_left s.sound _) (omega (arith, f))
+          c.in_ok-next.ensures.unread (λ h. c.in_ok-next.ensures.reads h b (ap (λ d. d.contents) i.device ∙ t))
+          (same_holds _ _ _ _ _ _ same.sound same.chunks now.1) in
+          let e = same_reads b c.chunks.self.sound s.sound c.chunks.self.chunks s.chunks same.sound same.chunks in
+          (omega (arith, took.paid, e, now.0), took.held);
       left = let f = rw c.in-Some-2.is at c.in_ok-next.ensures.budget in let k = ap (λ x. x.budget) same.chunks in
           omega (arith, f, k, i.left);
       geometry = c.next.ensures.leaves.geometry ∙ geometry;
@@ -88,6 +97,7 @@ chunks-init g c = record {
   shape = λ b t. refl;
   place = λ b t held. held;
   inside = λ held. held;
+  reads = λ held b t. (omega arith, held);
   left = omega arith;
   geometry = refl;
   ready = c.requires;
@@ -185,3 +195,48 @@ returns-in_err-next-clause-leaves g c =
       ready = can_read_here _ _ _ _ _ c.next.ensures.leaves.ready geometry;
       read = rw i.device at err;
     })
+
+pub returns-in-Some-clause-reads : goal.returns-in-Some-clause-reads
+returns-in-Some-clause-reads g c = λ held b t.
+    let i = c.chunks.invariant in
+    let now = i.reads held b t in
+    let s = c.take.new.self in
+    let same = c.take.ensures.same in
+    let e = same_reads b c.chunks.self.sound s.sound c.chunks.self.chunks s.chunks same.sound same.chunks in
+    record {
+      most = omega (arith, now.0);
+      paid = omega (arith, e, now.0);
+      held = same_holds _ _ _ _ _ _ same.sound same.chunks now.1;
+    }
+
+pub returns-in-None-2-clause-reads : goal.returns-in-None-2-clause-reads
+returns-in-None-2-clause-reads g c = λ held b t.
+    let i = c.chunks.invariant in
+    let now = i.reads held b t in
+    let s = c.take.new.self in
+    let same = c.take.ensures.same in
+    let f = rw c.in-None-2.is at c.in_ok-next.ensures.budget in
+    let took = goes_on b s.sound _ s.chunks c.next.new.self _ _ _ _ _ _ _ (and_left s.sound _) (omega (arith, f))
+    c.in_ok-next.ensures.unread (λ h. c.in_ok-next.ensures.reads h b (ap (λ d. d.contents) i.device ∙ t))
+    (same_holds _ _ _ _ _ _ same.sound same.chunks now.1) in
+    let e = same_reads b c.chunks.self.sound s.sound c.chunks.self.chunks s.chunks same.sound same.chunks in
+    record {
+      most = omega (arith, took.most, e, now.0);
+      paid = omega (arith, took.paid, e, now.0);
+      held = took.held;
+    }
+
+pub returns-in_err-next-clause-reads : goal.returns-in_err-next-clause-reads
+returns-in_err-next-clause-reads g c =
+    let p = err_from_is_err_and c.from_residual.result c.from_residual.ensures.1 in
+    rw p.1 (λ held b t.
+    let i = c.chunks.invariant in
+    let now = i.reads held b t in
+    let s = c.take.new.self in
+    let same = c.take.ensures.same in
+    let f = c.in_err-next.ensures.budget in
+    let took = goes_on b s.sound s.sound s.chunks c.next.new.self _ _ _ _ _ _ _ (λ h. h) (omega (arith, f))
+    c.in_err-next.ensures.unread (λ h. c.in_err-next.ensures.reads h b (ap (λ d. d.contents) i.device ∙ t))
+    (same_holds _ _ _ _ _ _ same.sound same.chunks now.1) in
+    let e = same_reads b c.chunks.self.sound s.sound c.chunks.self.chunks s.chunks same.sound same.chunks in
+    record { most = omega (arith, took.most, e, now.0); paid = tt; held = tt })

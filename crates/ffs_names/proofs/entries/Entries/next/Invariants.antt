@@ -1,6 +1,7 @@
-use Rattle.std.proofs.Common.{◌≡◌, ◌≤◌, ◌<◌}
+use Rattle.std.proofs.Common.{◌≡◌, ◌≤◌, ◌<◌, ◌+◌}
 use Rattle.ffs_image.specs.Device.{ForContents}
 use Rattle.ffs_names.specs.Windows.{CanReadChunks}
+use Rattle.ffs_names.specs.Costs.{HoldsEntries, entries_to_read}
 use Rattle.ffs_names.specs.Shapes.{has_right_shape}
 use Rattle.ffs_names.specs.Entering.{to_come, left, IsInside, MayTake}
 use Rattle.ffs_names.proofs.entries.Entries.next.Given as goal
@@ -12,6 +13,9 @@ invariant-chunks g l = record {
       (λ b. has_right_shape b l.self ≡ has_right_shape b l.fn.self);
   place : ForContents (g.I.Image.device l.fn.image).contents (λ b. MayTake b l.fn.self → MayTake b l.self);
   inside : (l.fn.self.place < 512 → IsInside l.fn.self) → l.self.place < 512 → IsInside l.self;
+  reads : HoldsEntries l.fn.blocks l.fn.window l.fn.self → ForContents (g.I.Image.device l.fn.image).contents
+      (λ b. (g.I.Image.reads l.image + entries_to_read b l.self
+      ≤ g.I.Image.reads l.fn.image + entries_to_read b l.fn.self) × HoldsEntries l.blocks l.window l.self);
   left : left l.self ≤ left l.fn.self;
   geometry : l.self.chunks.walk.geometry ≡ l.fn.self.chunks.walk.geometry;
   ready : CanReadChunks l.fn.self.chunks.walk.geometry.layout (g.I.Image.device l.image) l.blocks l.window;

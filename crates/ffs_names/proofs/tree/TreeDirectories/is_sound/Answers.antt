@@ -33,3 +33,6 @@ returns-clause-reader g c =
       same = rw contents refl;
       read = left.read;
     }
+
+pub returns-clause-counted : goal.returns-clause-counted
+returns-clause-counted g c = λ b k held. c.is_sound.ensures.reads _ held b k.bytes

@@ -10,3 +10,6 @@ returns-clause-sound g c = ok_on c.next.result _ _ c.next.ensures.entry (λ o h 
 pub returns-clause-ended : goal.returns-clause-ended
 returns-clause-ended g c = if_ok c.next.result _ _ c.next.ensures.entry
     (λ o h. none_ended o _ (λ b k. (h b k.bytes).ended))
+
+pub returns-clause-counted : goal.returns-clause-counted
+returns-clause-counted g c = λ b k held. c.next.ensures.reads held b k.bytes

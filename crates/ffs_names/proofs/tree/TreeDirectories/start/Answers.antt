@@ -12,6 +12,9 @@ use Rattle.ffs_workspace.proofs.NoteLaws.{below_is_cut, cut_is_noted, address_is
 use Rattle.ffs_volume.specs.Encodings.Replay.{cut_at}
 use Rattle.ffs_names.proofs.OneChunks.{one_chunk_class, one_chunk_is, entries_by, shape_by}
 use Rattle.ffs_names.proofs.DirLaws.{dir_is, dir_size, dir_seen, shape_seen, kind_dirs}
+use Rattle.ffs_volume.specs.Encodings.Replay.{fresh_replay}
+use Rattle.ffs_volume.specs.Encodings.ReplayCounts.{replayed_runs}
+use Rattle.ffs_names.proofs.DirCosts.{cost_is, runs_are}
 use Rattle.ffs_names.proofs.tree.TreeDirectories.start.Goals as goal
 
 pub returns-then-not-is_dir-clause-rest : goal.returns-then-not-is_dir-clause-rest
@@ -193,3 +196,71 @@ returns-in_err-inode-clause-left g c =
 pub returns-in_err-inode-clause-sound : goal.returns-in_err-inode-clause-sound
 returns-in_err-inode-clause-sound g c =
     let p = err_from_is_err_and c.from_residual.result c.from_residual.ensures.1 in rw p.1 tt
+
+-- the reads that were made, and those that are still to come
+pub returns-then-not-is_dir-clause-counted : goal.returns-then-not-is_dir-clause-counted
+returns-then-not-is_dir-clause-counted g c = λ b k.
+    let none = c.stop.ensures.reads b in
+    record { most = omega arith; paid = omega (arith, none); held = c.stop.ensures.held _ _ }
+
+pub returns-clause-counted : goal.returns-clause-counted
+returns-clause-counted g c = λ b k.
+    let t = c.args.self.now in
+    let v = t.geometry.layout in
+    let dir = sym (kind_dirs v b t.kinds.now c.args.dir (k.kinds c.args.dir))
+    ∙ (sym c.is_dir.ensures ∙ c.if-not-is_dir.false) in
+    let is = dir_is v b c.args.dir dir in
+    let inode = c.in_ok-inode.ensures.reads.inode b k.bytes in
+    let inside : c.args.dir < length t.notes.now.items = grind (arith, common_steps) in
+    let note : c.index-note.result.now ≡ note_at v b c.args.dir =
+    (c.index-note.ensures ∙ get_or_default_zero t.notes.now.items c.args.dir c.index-note.result.now inside)
+    ∙ k.notes c.args.dir in
+    let cut : c.index-note.result.now ≡ cut_at v b c.args.dir =
+    sym (below_is_cut c.index-note.result.now (rw c.in_default.is at c.address_in.ensures)) ∙ (ap cut_in note ∙ cut_is_noted v b c.args.dir t.geometry.sound) in
+    let known = sym (ap (class_of v) inode ∙ is.1) in
+    let begins = (rw c.requires.ready.1 at c.restart-2.ensures.reads) known in
+    let runs = runs_are v b c.args.dir c.in_ok-inode.inode c.index-note.result.now inode cut in
+    let cost = cost_is v b c.args.dir dir in
+    let one = c.in_ok-inode.ensures.counted in
+    record {
+      most = omega (arith, one, cost);
+      paid = omega (arith, one, cost, runs, begins.to_read b);
+      held = begins.held _ _;
+    }
+
+pub returns-in-Some-clause-counted : goal.returns-in-Some-clause-counted
+returns-in-Some-clause-counted g c = λ b k.
+    let t = c.args.self.now in
+    let v = t.geometry.layout in
+    let d = c.args.dir in
+    let dir = sym (kind_dirs v b t.kinds.now d (k.kinds d)) ∙ (sym c.is_dir.ensures ∙ c.if-not-is_dir.false) in
+    let is = dir_is v b d dir in
+    let inside : d < length t.notes.now.items = grind (arith, common_steps) in
+    let noted : note_at v b d ≡ first_noted + c.in-Some.address =
+    sym (k.notes d) ∙ (sym (c.index-note.ensures ∙ get_or_default_zero t.notes.now.items d c.index-note.result.now inside)
+    ∙ c.in-Some.ensures) in
+    let at = address_is_noted v b d c.in-Some.address t.geometry.sound noted in
+    let one : IsOneChunkAt (class_of v (inode_of v b d)) (inode_of v b d) c.in-Some.address =
+    record { is_dir = is.1; size = at.size; address_is = at.address_is } in
+    let begins = (rw (c.requires.ready.1, c.one_chunk_at.ensures) at c.restart.ensures.reads)
+    (sym (one_chunk_class v c.in-Some.address t.geometry.sound)) in
+    let runs = one_chunk_is v (inode_of v b d) b c.in-Some.address (λ size steps. replayed_runs v 0 fresh_replay steps)
+    t.geometry.sound one
+    ∙ runs_are v b d (inode_of v b d) 0 refl (sym (address_is_whole v b d c.in-Some.address t.geometry.sound noted)) in
+    let cost = cost_is v b d dir in
+    record {
+      most = omega arith;
+      paid = omega (arith, cost, runs, begins.to_read b);
+      held = begins.held _ _;
+    }
+
+pub returns-in_err-inode-clause-counted : goal.returns-in_err-inode-clause-counted
+returns-in_err-inode-clause-counted g c =
+    let p = err_from_is_err_and c.from_residual.result c.from_residual.ensures.1 in
+    rw p.1 (λ b k.
+    let t = c.args.self.now in
+    let v = t.geometry.layout in
+    let dir = sym (kind_dirs v b t.kinds.now c.args.dir (k.kinds c.args.dir))
+    ∙ (sym c.is_dir.ensures ∙ c.if-not-is_dir.false) in
+    let cost = cost_is v b c.args.dir dir in
+    record { most = omega (arith, c.in_err-inode.ensures.counted, cost); paid = tt; held = tt })

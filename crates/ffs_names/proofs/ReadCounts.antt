@@ -1,0 +1,109 @@
+-- Laws of the reads that are still to come of a reading.
+use Rattle.std.proofs.Common.{◌≡◌, ◌<◌, ◌≤◌, ◌+◌, ◌∷◌, ◌∙◌, ℕ, Bool, true, false, List, Option, Some, None, arith, refl, ap, sym}
+use Rattle.std.specs.Prelude.{◌==◌, ◌&&◌, nat_lt, if◌then◌else◌, Result, Ok, Err}
+use Rattle.std.proofs.lemmas.Bool.Decides.{nat_tests}
+use Rattle.ffs_image.specs.declared.image.ImageFault.{ImageFault}
+use Rattle.ffs_volume.specs.declared.Layout.{Layout}
+use Rattle.ffs_volume.specs.declared.Step.{Step}
+use Rattle.ffs_volume.specs.declared.Step.TheVariants.{Run, Gap}
+use Rattle.ffs_volume.specs.Encodings.Replay.{Replay, is_replay_open}
+use Rattle.ffs_volume.specs.Encodings.ReplayCounts.{replay_step_by_cut, replayed_runs}
+use Rattle.ffs_walk.specs.Counts.{entered, unread}
+use Rattle.ffs_walk.specs.Rests.{IsAtTop}
+use Rattle.ffs_walk.specs.declared.window.Window.{Window}
+use Rattle.ffs_walk.proofs.Counted.{top_held, top_unread}
+use Rattle.ffs_survey.specs.Costs.{TakesReads}
+use Rattle.ffs_names.specs.Costs.{BeginsReads, HoldsRun, unread_run}
+use Rattle.ffs_names.specs.Readings.{runs_left}
+use Rattle.ffs_names.specs.declared.chunks.Chunks.{Chunks}
+use Rattle.ffs_names.specs.declared.run_cursor.RunCursor.{RunCursor}
+use Rattle.ffs_names.proofs.Continuing.{counts_here}
+use Rattle.ffs_names.proofs.SeenSteps.{runs_seen}
+
+one_or_none : (x : Bool) → (if x then 1 else 0) ≤ 1
+one_or_none true = omega arith
+one_or_none false = omega arith
+
+-- the current Run is one read at most, and none where it has no chunk left, or one was given
+pub run_at_most : (h : RunCursor) → unread_run h ≤ 1
+run_at_most h = one_or_none ((h.next == 0) && nat_lt 0 h.count)
+
+none_left : (n m : ℕ) → n ≡ m → ((n == 0) && nat_lt 0 m) ≡ false
+none_left n m e = grind (arith, nat_tests)
+
+pub run_over : (h : RunCursor) → h.next ≡ h.count → unread_run h ≡ 0
+run_over h e = ap (λ (x : Bool). if◌then◌else◌ {A = ℕ} x 1 0) (none_left h.next h.count e)
+
+was_begun : (n m : ℕ) → 0 < n → ((n == 0) && nat_lt 0 m) ≡ false
+was_begun n m l = grind (arith, nat_tests)
+
+pub given_one : (n m : ℕ) → if◌then◌else◌ {A = ℕ} ((n + 1 == 0) && nat_lt 0 m) 1 0 ≡ 0
+given_one n m = ap (λ (x : Bool). if◌then◌else◌ {A = ℕ} x 1 0) (was_begun (n + 1) m (omega arith))
+
+some_begun : (n m : ℕ) → n < m → ((n == 0) && nat_lt 0 m) ≡ false → 0 < n
+some_begun n m l h = grind (arith, nat_tests)
+
+pays_one : (x : Bool) (reads reads' : ℕ) → reads' ≤ reads + 1 → (x ≡ false → reads' ≤ reads) →
+    reads' ≤ reads + (if x then 1 else 0)
+pays_one true reads reads' one none = one
+pays_one false reads reads' one none = let h = none refl in omega (arith, h)
+
+-- the chunks of the current Run are read once
+pub run_paid : (h : RunCursor) (w : Window) (reads reads' : ℕ) → h.next < h.count → HoldsRun w h → reads' ≤ reads + 1 →
+    (w.place ≡ h.place → w.length ≡ h.length → reads' ≤ reads) → reads' ≤ reads + unread_run h
+run_paid h w reads reads' left held one again = pays_one ((h.next == 0) && nat_lt 0 h.count) reads reads' one
+    (λ begun. let at = held (some_begun h.next h.count left begun) left in again at.0 at.1)
+
+-- a window needs no Run of which no chunk was given, or none is left
+pub first_held : (h : RunCursor) → h.next ≡ 0 → (w : Window) → HoldsRun w h
+first_held h first w = λ some left. absurd (omega (arith, first, some))
+
+pub over_held : (h : RunCursor) → h.next ≡ h.count → (w : Window) → HoldsRun w h
+over_held h over w = λ some left. absurd (omega (arith, over, left))
+
+none_more : (u r n : ℕ) → u ≡ 0 → r ≡ 0 → u + (r + n) ≡ n
+none_more u r n e f = omega (arith, e, f)
+
+-- a reading that begins
+pub begins_reads : (c : Chunks) → IsAtTop c.walk → c.run_cursor.next ≡ c.run_cursor.count → BeginsReads c
+begins_reads c top over = record {
+  to_read = λ b. none_more (unread c.walk) (unread_run c.run_cursor) (runs_left b c) (top_unread c.walk top)
+      (run_over c.run_cursor over);
+  held = λ blocks w. record { frames = top_held c.walk top blocks; run = over_held c.run_cursor over w };
+}
+
+-- a Run that is seen, of those that a reading has still to look at
+pub run_counts : (v : Layout) (cut cut' : ℕ) (r q : Replay) (steps : List Step) (start len : ℕ) (block : Option ℕ)
+    → is_replay_open cut r ≡ true → q ≡ replay_step_by_cut v cut r (Run start len block) → cut' ≡ cut
+    → 1 + replayed_runs v cut' q steps ≤ replayed_runs v cut r (Run start len block ∷ steps)
+run_counts v cut cut' r q steps start len block seen after same =
+    let all = (runs_seen v cut cut' r q steps start len block 0 1 seen after same (counts_here 1)).most in
+    omega (arith, all)
+
+pub entered_one : (start len : ℕ) (block : Option ℕ) → entered (Run start len block) ≤ 1
+entered_one start len None = omega arith
+entered_one start len (Some block) = omega arith
+
+pub entered_none : (start len : ℕ) (block : Option ℕ) (at : ℕ) → block ≡ Some at → entered (Run start len block) ≡ 0
+entered_none start len None at e = cc
+entered_none start len (Some block) at e = refl
+
+-- a Gap is no Run
+pub runs_gap : (v v' : Layout) (cut : ℕ) (r : Replay) (old new : List Step) → v' ≡ v → old ≡ Gap ∷ new →
+    replayed_runs v' cut r new ≡ replayed_runs v cut r old
+runs_gap v v' cut r old new e o = ap (λ x. replayed_runs x cut r new) e
+    ∙ (none (replayed_runs v cut r new) ∙ ap (replayed_runs v cut r) (sym o))
+  where
+    none : (n : ℕ) → n ≡ 0 + n
+    none n = omega arith
+
+-- no read is made, and nothing changes
+pub takes_none : {T : Type 0} (reads before : ℕ) (held : Type 0) (x : T) → held →
+    TakesReads reads reads before before held (Ok x)
+takes_none reads before held x h = record { most = omega arith; paid = omega arith; held = h }
+
+-- a call that failed
+pub takes_failed : {T : Type 0} (reads reads' before after : ℕ) (held : Type 0) (fault : ImageFault)
+    (result : Result T ImageFault) → result ≡ Err fault → reads' ≤ reads + before →
+    TakesReads reads reads' before after held result
+takes_failed reads reads' before after held fault result e most = rw e (record { most = most; paid = tt; held = tt })

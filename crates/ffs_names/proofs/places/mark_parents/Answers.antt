@@ -1,0 +1,36 @@
+use Rattle.std.proofs.Common.{◌≡◌, ◌<◌, ◌≤◌, ◌∙◌, arith, length, rules, slice_index, subst, sym}
+use Rattle.std.proofs.lemmas.Grind.{common_steps, get_or_default_zero}
+use Rattle.ffs_names.proofs.PlacesNoted.{OnlyParents, only_more}
+use Rattle.ffs_names.proofs.places.mark_parents.Goals as goal
+use Rattle.ffs_names.proofs.places.mark_parents.Goals.{then-reached-number+then-contains, else-reached-number}
+
+pub loop-number-preserved : goal.loop-number-preserved
+loop-number-preserved c =
+    let inv = c.loop-number.invariant in
+    elim c.if-reached-number.branch [
+      | then-reached-number+then-contains w ↦ rw w.words-is (record {
+        count = search rules;
+        long = search rules;
+        none = grind (arith, common_steps);
+        low = grind (arith, common_steps);
+        only =
+            let parents = c.args.parents.now.items in
+            let number = c.loop-number.number in
+            let inside : number < length parents = grind (arith, common_steps) in
+            let up : slice_index parents number ≡ c.index.result.now =
+            sym (c.index.ensures ∙ get_or_default_zero parents number c.index.result.now inside) in
+            let low : 2 ≤ c.index.result.now = grind (arith, common_steps) in
+            subst (OnlyParents parents) (sym w.set.ensures.items)
+            (only_more parents c.loop-number.words.items number c.index.result.now w.due.result (omega arith) up low
+            inv.only);
+        due = grind (arith, common_steps);
+      })
+      | else-reached-number w ↦ rw w.words-is (record {
+        count = search rules;
+        long = search rules;
+        none = inv.none;
+        low = inv.low;
+        only = inv.only;
+        due = grind (arith, common_steps);
+      })
+    ]

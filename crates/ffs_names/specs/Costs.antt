@@ -1,0 +1,78 @@
+-- How many reads of the image a reading of a directory still takes, and how many a directory takes in all.
+use Rattle.std.specs.Prelude.{◌≡◌, ℕ, ◌+◌, ◌*◌, ◌<◌, ◌≤◌, ◌==◌, Bool, true, ◌&&◌, ◌||◌, nat_lt, if◌then◌else◌, List, ◌∷◌, Option}
+use Rattle.ffs_volume.specs.declared.Inode.{Inode}
+use Rattle.ffs_volume.specs.declared.Layout.{Layout}
+use Rattle.ffs_volume.specs.declared.Step.{Step}
+use Rattle.ffs_volume.specs.declared.Step.TheVariants.{Run}
+use Rattle.ffs_volume.specs.Blocks.Inodes.{inode_of}
+use Rattle.ffs_volume.specs.Blocks.Steps.{steps_of}
+use Rattle.ffs_volume.specs.Directories.Roles.{is_dir}
+use Rattle.ffs_volume.specs.Directories.Volumes.{volume_of}
+use Rattle.ffs_volume.specs.Encodings.Replay.{cut_at, fresh_replay}
+use Rattle.ffs_volume.specs.Encodings.ReplayCounts.{replayed_runs}
+use Rattle.ffs_walk.specs.Counts.{AreHeld, entered, unread}
+use Rattle.ffs_walk.specs.declared.blocks.Blocks.{Blocks}
+use Rattle.ffs_walk.specs.declared.window.Window.{Window}
+use Rattle.ffs_survey.specs.Costs.{costs_all}
+use Rattle.ffs_names.specs.Readings.{runs_after, runs_left}
+use Rattle.ffs_names.specs.declared.chunks.Chunks.{Chunks}
+use Rattle.ffs_names.specs.declared.entries.Entries.{Entries}
+use Rattle.ffs_names.specs.declared.run_cursor.RunCursor.{RunCursor}
+
+-- 1 where the current Run has chunks and is still to be read: none of them was given yet
+abbrev pub unread_run : RunCursor → ℕ
+unread_run h = if (h.next == 0) && nat_lt 0 h.count then 1 else 0
+
+-- at most how many reads a reading of an image of these bytes still takes: the indirect blocks that it is in, the
+-- current Run, and the Runs that it has still to look at
+abbrev pub to_read : List ℕ → Chunks → ℕ
+to_read b c = unread c.walk + (unread_run c.run_cursor + runs_left b c)
+
+-- the window has the current Run, where a chunk of it was given and another is left
+abbrev pub HoldsRun : Window → RunCursor → Type 0
+HoldsRun w h = 0 < h.next → h.next < h.count → (w.place ≡ h.place) × (w.length ≡ h.length)
+
+-- what a reading has read and needs again is held
+pub record HoldsReading (blocks : Blocks) (w : Window) (c : Chunks) : Type 0 where
+  pub frames : AreHeld blocks c.walk
+  pub run : HoldsRun w c.run_cursor
+
+-- a reading that begins still takes a read for each Run that it may look at, and needs nothing that was read
+pub record BeginsReads (c : Chunks) : Type 0 where
+  pub to_read : (b : List ℕ) → to_read b c ≡ runs_left b c
+  pub held : (blocks : Blocks) (w : Window) → HoldsReading blocks w c
+
+-- a Run that is seen takes one read at most: it is an indirect block, or it has chunks
+pub record SeesRun (old new : Chunks) (start len : ℕ) (block : Option ℕ) : Type 0 where
+  pub reads : (steps : List Step) → unread_run new.run_cursor + (entered (Run start len block) + runs_after new steps)
+      ≤ runs_after old (Run start len block ∷ steps)
+  pub held : (w : Window) → HoldsRun w new.run_cursor
+
+-- a chunk may still come, or a hole may still be looked for
+abbrev pub may_read : Entries → Bool
+may_read r = r.sound || nat_lt 0 r.chunks.budget
+
+-- at most how many reads a reading of entries still takes
+abbrev pub entries_to_read : List ℕ → Entries → ℕ
+entries_to_read b r = if may_read r then to_read b r.chunks else 0
+
+-- what it has read and needs again is held
+abbrev pub HoldsEntries : Blocks → Window → Entries → Type 0
+HoldsEntries blocks w r = may_read r ≡ true → HoldsReading blocks w r.chunks
+
+-- a reading of the entries of a directory begins: it takes a read for each Run that is seen
+pub record BeginsEntries (v : Layout) (inode : Inode) (cut : ℕ) (r : Entries) : Type 0 where
+  pub to_read : (b : List ℕ) → entries_to_read b r ≤ replayed_runs v cut fresh_replay (steps_of v inode b)
+  pub held : (blocks : Blocks) (w : Window) → HoldsEntries blocks w r
+
+-- how many Runs of the inode x are seen
+abbrev pub directory_runs : Layout → List ℕ → ℕ → ℕ
+directory_runs v b x = replayed_runs v (cut_at v b x) fresh_replay (steps_of v (inode_of v b x) b)
+
+-- at most how many reads a directory takes: its inode, and each of its Runs that is seen; none another inode
+abbrev pub directory_cost : Layout → List ℕ → ℕ → ℕ
+directory_cost v b x = if is_dir (volume_of v b) x then 1 + directory_runs v b x else 0
+
+-- all directories
+abbrev pub directories_cost : Layout → List ℕ → ℕ
+directories_cost v b = costs_all (directory_cost v b) (v.ncg * v.ipg)
