@@ -17,7 +17,7 @@ use Rattle.std.specs.Borrow.{GName}
 use Rattle.ffs_report.specs.Sink.{Sink}
 use Rattle.ffs_report.specs.Progress.{Progress, Said, Stopped, starts}
 use Rattle.ffs_layout.specs.declared.superblock.Super.{Super}
-use Rattle.ffs_layout.specs.Super.{ReadsSuper, seen}
+use Rattle.ffs_layout.specs.Super.{ReadsSuper, superblock_in}
 use Rattle.ffs_phase.specs.Known.{IsContents}
 use Rattle.ffs_check.specs.Ends.{Ends}
 use Rattle.ffs_check.specs.Opening.{SaysOpening}
@@ -116,13 +116,13 @@ module _ (image : Device) (name : List ℕ) (sector : Option ℕ) (output : GNam
 
 pub found_ends : (image on image' : Device) (name : List ℕ) (sector : Option ℕ) (output : GName) (sink : Sink)
     (p new : Progress) (found : Super) (end : End) →
-    SaysOpening image on (starts output sink) p name sector (Ok found) → SaysRest (seen found) on image' p new end →
+    SaysOpening image on (starts output sink) p name sector (Ok found) → SaysRest (superblock_in found) on image' p new end →
     Headline image image' name sector sink new.sink end
 found_ends image on image' name sector output sink p new found end o f =
     let answers = subst (λ r. ReadsSuper image on sector r) o.ends.1 o.answers in
-    follows image name sector output sink (seen found) (found_of image on sector (seen found) answers) p
+    follows image name sector output sink (superblock_in found) (found_of image on sector (superblock_in found) answers) p
     (subst (λ r. Said (starts output sink) p (opening_lines name sector r)) o.ends.1 o.ends.0) image' new end
-    (subst (λ d. SaysRest (seen found) d image' p new end) (unfailed_of image on sector (seen found) answers) f)
+    (subst (λ d. SaysRest (superblock_in found) d image' p new end) (unfailed_of image on sector (superblock_in found) answers) f)
 
 -- a run after an accepted superblock doesn't refuse it
 not_by : (on defect : Bool) (fault : SuperFault) → end_by on defect ≡ Refused fault → ⊥

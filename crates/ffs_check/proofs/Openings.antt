@@ -14,7 +14,7 @@ use Rattle.ffs_report.specs.Sink.{Sink}
 use Rattle.ffs_report.specs.Progress.{Progress, Said, Stopped, starts}
 use Rattle.ffs_report.proofs.Reports.{said_then, stopped_after, stopped_more}
 use Rattle.ffs_layout.specs.declared.superblock.Super.{Super}
-use Rattle.ffs_layout.specs.Super.{ReadsSuper, seen}
+use Rattle.ffs_layout.specs.Super.{ReadsSuper, superblock_in}
 use Rattle.ffs_check.specs.Ends.{BrokeOffIn, Printed}
 use Rattle.ffs_check.specs.Opening.{OpeningEnds, PrintsOpening, SaysOpening}
 use Rattle.ffs_check.proofs.EndLaws.{broke_in_line, broke_off}
@@ -54,23 +54,23 @@ module _ (image : Device) (name : List ℕ) (sector : Option ℕ) (old head : Pr
   }
 
   module _ (image' : Device) (new : Progress) (said : Said old head (head_lines name sector)) where
-    module _ (super : Super) (answers : ReadsSuper image image' sector (Ok (seen super))) where
-      pub accepted : Said head new (super_lines (seen super)) → SaysOpening image image' old new name sector (Ok super)
+    module _ (super : Super) (answers : ReadsSuper image image' sector (Ok (superblock_in super))) where
+      pub accepted : Said head new (super_lines (superblock_in super)) → SaysOpening image image' old new name sector (Ok super)
       accepted more = record {
-        found = Ok (seen super);
+        found = Ok (superblock_in super);
         answers = answers;
-        ends = (said_then old head new (head_lines name sector) (super_lines (seen super)) said more, refl);
+        ends = (said_then old head new (head_lines name sector) (super_lines (superblock_in super)) said more, refl);
       }
 
-      pub at_super : Stopped head new (super_lines (seen super)) →
+      pub at_super : Stopped head new (super_lines (superblock_in super)) →
           SaysOpening image image' old new name sector (Err WriteFault)
       at_super stopped = record {
-        found = Ok (seen super);
+        found = Ok (superblock_in super);
         answers = answers;
         ends = inr (inl (record {
-          no_read_failed = unfailed_of image image' sector (seen super) answers;
-          found_is = found_of image image' sector (seen super) answers;
-          broke_off = stopped_after old head new (head_lines name sector) (super_lines (seen super)) said stopped;
+          no_read_failed = unfailed_of image image' sector (superblock_in super) answers;
+          found_is = found_of image image' sector (superblock_in super) answers;
+          broke_off = stopped_after old head new (head_lines name sector) (super_lines (superblock_in super)) said stopped;
           end_is = refl;
         }));
       }

@@ -16,7 +16,7 @@ use Rattle.ffs_volume.specs.Report.Memory.{runs_limit}
 use Rattle.ffs_volume.specs.Report.Reads.{group_reads, opening_reads, pathname_reads, phase_reads, reads_limit, sweep_reads}
 use Rattle.ffs_volume.specs.Report.Whole.{phase_lines, report_of}
 use Rattle.ffs_layout.specs.declared.superblock.Super.{Super}
-use Rattle.ffs_layout.specs.Super.{ReadsSuper, seen}
+use Rattle.ffs_layout.specs.Super.{ReadsSuper, superblock_in}
 use Rattle.ffs_report.specs.Progress.{Progress}
 use Rattle.ffs_phase.specs.Known.{ForBytes, IsContents}
 use Rattle.ffs_workspace.specs.Places.{AreChunksNumbered}
@@ -95,16 +95,16 @@ report_among bytes name sector s accepted =
 -- a superblock was accepted, and the phases follow, or nothing is read any more
 pub found_within : (image on : Device) (name : List ℕ) (sector : Option ℕ) (start p : Progress) (found : Super)
     (reads between reads' : ℕ) → SaysOpening image on start p name sector (Ok found) → between ≤ reads + opening_reads →
-    ForBytes (IsContents on.contents) (λ bytes. PhasesReadWithin (seen found) bytes between reads') →
+    ForBytes (IsContents on.contents) (λ bytes. PhasesReadWithin (superblock_in found) bytes between reads') →
     ReadsWithin image name sector reads reads'
 found_within image on name sector start p found reads between reads' o opened follows =
     let answers = subst (λ r. ReadsSuper image on sector r) o.ends.1 o.answers in
-    let still = unfailed_of image on sector (seen found) answers in
-    let is = found_of image on sector (seen found) answers in
+    let still = unfailed_of image on sector (superblock_in found) answers in
+    let is = found_of image on sector (superblock_in found) answers in
     record {
-      refused = λ bytes t fault e. let no : Ok (seen found) ≡ Err fault = is bytes t ∙ e in absurd (cc);
+      refused = λ bytes t fault e. let no : Ok (superblock_in found) ≡ Err fault = is bytes t ∙ e in absurd (cc);
       accepted = λ bytes t s e numbered.
-          let same : seen found ≡ s = ap (λ r. found_or r s) (is bytes t ∙ e) in
+          let same : superblock_in found ≡ s = ap (λ r. found_or r s) (is bytes t ∙ e) in
           let within : PhasesReadWithin s bytes between reads' =
           subst (λ x. PhasesReadWithin x bytes between reads') same (follows bytes (ap (λ d. d.contents) still ∙ t)) in
           omega (

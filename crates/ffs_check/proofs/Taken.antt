@@ -12,7 +12,7 @@ use Rattle.ffs_volume.specs.Report.Whole.{end_by}
 use Rattle.ffs_volume.specs.Disk.Superblock.{Superblock}
 use Rattle.ffs_report.specs.Progress.{Progress}
 use Rattle.ffs_layout.specs.declared.superblock.Super.{Super}
-use Rattle.ffs_layout.specs.Super.{ReadsSuper, seen}
+use Rattle.ffs_layout.specs.Super.{ReadsSuper, superblock_in}
 use Rattle.ffs_workspace.specs.Lengths.{held_of}
 use Rattle.ffs_check.specs.PhaseEnds.{SaysPhases}
 use Rattle.ffs_check.specs.Opening.{SaysOpening}
@@ -28,8 +28,8 @@ pub takes : (image on : Device) (name : List ℕ) (sector : Option ℕ) (start p
     SaysOpening image on start p name sector (Ok found) → Asked old new (held_of found.geometry.layout) →
     TakesWorkspace image sector old new
 takes image on name sector start p found old new o a = record {
-  found = seen found;
-  accepted = accepted_by image on sector (seen found) (subst (λ r. ReadsSuper image on sector r) o.ends.1 o.answers);
+  found = superblock_in found;
+  accepted = accepted_by image on sector (superblock_in found) (subst (λ r. ReadsSuper image on sector r) o.ends.1 o.answers);
   asked = a;
   within = omega arith;
 }

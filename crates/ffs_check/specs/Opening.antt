@@ -11,7 +11,7 @@ use Rattle.ffs_volume.specs.Report.Opening.{fault_line, head_lines, opening_line
 use Rattle.ffs_report.specs.Sink.{Sink}
 use Rattle.ffs_report.specs.Progress.{Progress, Said, Stopped}
 use Rattle.ffs_layout.specs.declared.superblock.Super.{Super}
-use Rattle.ffs_layout.specs.Super.{ReadsSuper, seen}
+use Rattle.ffs_layout.specs.Super.{ReadsSuper, superblock_in}
 use Rattle.ffs_check.specs.Ends.{BrokeOffIn, BrokeOffInLine, Printed}
 
 -- the superblock isn't accepted, and that went out
@@ -42,7 +42,7 @@ pub record OpeningBrokeInLine {C : Type 0} (whole broken : C → C → List Mess
 abbrev pub OpeningEnds : {C : Type 0} → (whole broken : C → C → List Message → Type 0) → Device → Device → C → C →
     List ℕ → Option ℕ → Result Superblock SuperFault → Result Super End → Type 0
 OpeningEnds whole broken image image' old new name sector found (Ok super) =
-    whole old new (opening_lines name sector found) × (found ≡ Ok (seen super))
+    whole old new (opening_lines name sector found) × (found ≡ Ok (superblock_in super))
 OpeningEnds whole broken image image' old new name sector found (Err end) =
     OpeningRefused whole old new name sector found end
     ⊎ (OpeningBrokeOff broken image image' old new name sector found end

@@ -4,7 +4,7 @@ ghost use Rattle.std.specs.Prelude.{◌+◌, ◌≤◌, ◌∷◌};
 ghost use Rattle.ffs_volume.specs.Messages.Kinds.{phase5 as phase5_heading};
 ghost use Rattle.ffs_volume.specs.Report.Reads.{group_reads};
 ghost use Rattle.ffs_volume.specs.Report.Whole.{group_check_lines};
-ghost use Rattle.ffs_layout.specs.Super.{seen};
+ghost use Rattle.ffs_layout.specs.Super.{superblock_in};
 ghost use Rattle.ffs_report.specs.Progress.{progress};
 ghost use Rattle.ffs_phase.specs.Known.{IsContents};
 ghost use Rattle.ffs_phase.specs.Runs.{PhaseRuns};
@@ -36,7 +36,7 @@ pub fn phase5<I: Image, W: Output>(
     requires ready { IsReady superblock.now.geometry.layout (I.device image.old) workspace.old }
     ensures runs { PhaseRuns (λ bytes. IsContents (I.device image.old).contents bytes
         × HoldsClaims superblock.now.geometry.layout bytes workspace.old)
-        (λ bytes. phase5_heading ∷ group_check_lines bytes (seen superblock.now))
+        (λ bytes. phase5_heading ∷ group_check_lines bytes (superblock_in superblock.now))
         (I.device image.old) (I.device image.new) (progress W.sink report.old)
         (progress W.sink report.new) result }
     ensures reads { I.reads image.new

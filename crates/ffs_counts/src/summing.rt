@@ -6,7 +6,7 @@ ghost use Rattle.ffs_volume.specs.Disk.Areas.{cgbase, is_reserved};
 ghost use Rattle.ffs_volume.specs.Groups.Records.{group_size};
 ghost use Rattle.ffs_volume.specs.Blocks.Inodes.{is_file_or_dir};
 ghost use Rattle.ffs_volume.specs.Report.Whole.{summary_of, file_count as files_of, used_count as used_of};
-ghost use Rattle.ffs_layout.specs.Super.{seen};
+ghost use Rattle.ffs_layout.specs.Super.{superblock_in};
 ghost use Rattle.ffs_maps.specs.Bits.{bits_of};
 ghost use Rattle.ffs_report.specs.Lines.{message_of};
 ghost use Rattle.ffs_report.specs.Progress.{progress};
@@ -90,7 +90,7 @@ fn tenths_of(frags: i32, dsize: u32) -> i64
 }
 
 fn summary_line(superblock: &Super, files: u32, used: u32) -> Line<'static>
-    ensures { message_of result ≡ summary_of (seen superblock.now) files used }
+    ensures { message_of result ≡ summary_of (superblock_in superblock.now) files used }
 {
     let blocks = superblock.cstotal[1];
     let frags = superblock.cstotal[3];
@@ -117,7 +117,7 @@ pub fn summary<W: Output>(
     requires { IsFor superblock.now.geometry.layout workspace.now }
     ensures { (device : Device) → PhaseRuns
         (λ bytes. HoldsClaims superblock.now.geometry.layout bytes workspace.now)
-        (λ bytes. summary_of (seen superblock.now) (files_of superblock.now.geometry.layout bytes)
+        (λ bytes. summary_of (superblock_in superblock.now) (files_of superblock.now.geometry.layout bytes)
         (used_of superblock.now.geometry.layout bytes) ∷ [])
         device device (progress W.sink report.old) (progress W.sink report.new) result }
 {

@@ -12,7 +12,7 @@ use Rattle.ffs_volume.specs.Disk.Superblock.{layout_of, superblock_of}
 use Rattle.ffs_volume.proofs.AreaLaws.{copy_inside}
 use Rattle.ffs_layout.specs.declared.superblock.Super.{Super}
 use Rattle.ffs_layout.specs.Copies.{IsUnreadCopy, IsCopyFault}
-use Rattle.ffs_layout.specs.Super.{seen}
+use Rattle.ffs_layout.specs.Super.{superblock_in}
 
 none_asked : (sector : Option ℕ) → is_some sector ≡ false → sector ≡ None
 none_asked None e = refl
@@ -39,7 +39,7 @@ copy_fault v old new sector order bytes answer at geometry v_is inside none at_i
       | inr past ↦ let held = copy_inside v geometry in absurd (omega (arith, past.1))
     ]
 
-pub seen_layout : (super : Super) (order : Order) (bytes : List ℕ) → seen super ≡ superblock_of order bytes →
+pub seen_layout : (super : Super) (order : Order) (bytes : List ℕ) → superblock_in super ≡ superblock_of order bytes →
     super.geometry.layout ≡ layout_of order bytes
 unfolding superblock_of
 seen_layout super order bytes e = ap (λ s. s.layout) e

@@ -7,19 +7,19 @@ use Rattle.ffs_layout.specs.Reads.{ReadFailed}
 use Rattle.ffs_layout.specs.declared.superblock.Super.{Super}
 use Rattle.ffs_volume.specs.Disk.Superblock.{Superblock, order_of, layout_of}
 
-abbrev pub seen : Super → Superblock
-seen s = record {
+-- the superblock that a value in memory stands for
+abbrev pub superblock_in : Super → Superblock
+superblock_in s = record {
   layout = s.geometry.layout;
   optim = s.optim;
   minfree = s.minfree;
   cstotal = s.cstotal;
-  mount =
-      s.mount;
+  mount = s.mount;
 }
 
 -- The superblock of an answer, or its fault.
 abbrev pub found_of : Result Super SuperFault → Result Superblock SuperFault
-found_of (Ok super) = Ok (seen super)
+found_of (Ok super) = Ok (superblock_in super)
 found_of (Err fault) = Err fault
 
 -- The sector of the last copy, for these bytes of the superblock.
@@ -38,6 +38,6 @@ ReadsSuper old new sector found =
     ⊎ ((new ≡ old) × ((b : List ℕ) → old.contents ≡ Some b → found ≡ outcome b sector))
 
 -- Why the superblock at a sector can't be read: a read failed there, or it lies past the end.
-abbrev pub IsUnread : Device → Device → Option ℕ → ℕ → Type 0
-IsUnread old new sector at = Faulted old new at ⊎ ((new ≡ old) × (at ≡ super_sector sector)
+abbrev pub IsUnreadable : Device → Device → Option ℕ → ℕ → Type 0
+IsUnreadable old new sector at = Faulted old new at ⊎ ((new ≡ old) × (at ≡ super_sector sector)
     × (old.size < at * 512 + 1376))

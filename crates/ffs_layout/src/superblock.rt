@@ -8,7 +8,7 @@ ghost use Rattle.std.specs.List.{list_all};
 ghost use Rattle.ffs_volume.specs.Disk.Superblock.{layout_of, order_of, superblock_of};
 ghost use Rattle.ffs_layout.specs.Accepted.{IsAccepted};
 ghost use Rattle.ffs_layout.specs.Copies.{IsCopy, IsUnreadCopy, CopyAgrees, IsCopyFault};
-ghost use Rattle.ffs_layout.specs.Super.{ReadsSuper, IsUnread, found_of, seen};
+ghost use Rattle.ffs_layout.specs.Super.{ReadsSuper, IsUnreadable, found_of, superblock_in};
 
 use crate::geometry::Geometry;
 use crate::layout::decode;
@@ -111,14 +111,14 @@ impl Super {
 
     /// Whether `optim` is 0 (time) or 1 (space).
     pub fn has_optimization(&self) -> bool
-        ensures { result ≡ has_valid_optim (seen self.now) }
+        ensures { result ≡ has_valid_optim (superblock_in self.now) }
     {
         0 <= self.optim && self.optim <= 1
     }
 
     /// Whether `minfree` is a percentage from 0 to 99.
     pub fn has_minfree(&self) -> bool
-        ensures { result ≡ has_valid_minfree (seen self.now) }
+        ensures { result ≡ has_valid_minfree (superblock_in self.now) }
     {
         0 <= self.minfree && self.minfree <= 99
     }
@@ -127,7 +127,7 @@ impl Super {
     /// then.
     pub fn opening_defects(&self) -> bool
         ensures { result
-            ≡ not (has_valid_optim (seen self.now) && has_valid_minfree (seen self.now)) }
+            ≡ not (has_valid_optim (superblock_in self.now) && has_valid_minfree (superblock_in self.now)) }
     {
         !(self.has_optimization() && self.has_minfree())
     }
@@ -137,7 +137,7 @@ impl Super {
 #[tactic(auto, unfolding(ffs_volume::specs::Disk::Superblock::superblock_of))]
 fn make_super(order: Order, bytes: &[u8; SUPERBLOCK_BYTES], geometry: Geometry) -> Super
     requires { geometry.layout ≡ layout_of order bytes.now }
-    ensures { seen result ≡ superblock_of order bytes.now }
+    ensures { superblock_in result ≡ superblock_of order bytes.now }
 {
     let mut mount = [0; MAXMNTLEN];
     mount.copy_from_slice(&bytes[212..724]);
@@ -203,7 +203,7 @@ pub fn read_super<I: Image>(image: &mut I, sector: Option<u32>) -> Result<Super,
 
     // What can't be read is a failed read, or lies past the image's end.
     ensures unread { IfErr result (λ fault. (at : ℕ) → fault ≡ SuperFault.CannotRead at
-        → IsUnread (I.device image.old) (I.device image.new) sector at) }
+        → IsUnreadable (I.device image.old) (I.device image.new) sector at) }
 
     // A failed read is returned, by its sector. With none, the result is the outcome, where the
     // bytes are given.

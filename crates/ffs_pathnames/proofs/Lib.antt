@@ -22,3 +22,4 @@ pub mod EmptyLaws
 pub mod Carrying
 pub mod Skipping
 mod SilentLaws
+pub mod CostLaws

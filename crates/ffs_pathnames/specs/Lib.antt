@@ -17,3 +17,4 @@ pub mod Before
 pub mod Ready
 pub mod LineReads
 pub mod Looks
+pub mod Costs

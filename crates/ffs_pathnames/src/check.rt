@@ -1,5 +1,5 @@
 //! The pathname check of one directory.
-ghost use Rattle.std.specs.Prelude.{suc, ◌≡◌, ◌<◌, ◌≤◌, ℕ, List, OnOk, IfOk, map, option_map, vec_len};
+ghost use Rattle.std.specs.Prelude.{suc, ◌≡◌, ◌+◌, ◌<◌, ◌≤◌, ℕ, List, OnOk, IfOk, length, map, option_map, vec_len};
 ghost use Rattle.ffs_volume.specs.Messages.Kinds.{of_tree};
 ghost use Rattle.ffs_volume.specs.Directories.PathnameCheck.{sized_dir_lines};
 ghost use Rattle.ffs_volume.specs.Directories.Volumes.{volume_of};
@@ -14,7 +14,9 @@ ghost use Rattle.ffs_volume.specs.Directories.PathnameCheck.{attributes};
 ghost use Rattle.ffs_volume.specs.Directories.Paths.{dir_path};
 ghost use Rattle.ffs_layout.specs.Entry.{entry_value};
 ghost use Rattle.ffs_workspace.specs.Holds.{HoldsSurvey};
+ghost use Rattle.ffs_workspace.specs.Places.{AreNoted};
 ghost use Rattle.ffs_pathnames.specs.Begins.{dir_starts, started_entry, IsBegun};
+ghost use Rattle.ffs_pathnames.specs.Costs.{begin_reads, check_reads};
 ghost use Rattle.ffs_pathnames.specs.Header.{header_reported};
 ghost use Rattle.ffs_pathnames.specs.Gathers.{marks_of};
 ghost use Rattle.ffs_pathnames.specs.DirectoryContext.{DirectoryContext};
@@ -129,6 +131,11 @@ fn begin_directory<I: Image, W: Output>(
     ensures begun { IfOk result (λ e. ForBytes
         (DirectoryContext geometry.now.layout (I.device image.old).contents workspace.old dir)
         (λ b. IsBegun geometry.now.layout b dir workspace.old e workspace.new)) }
+    ensures reads { ForBytes
+        (DirectoryContext geometry.now.layout (I.device image.old).contents workspace.old dir)
+        (λ b. AreNoted geometry.now.layout b workspace.old.queue.items
+        → I.reads image.new ≤ I.reads image.old + begin_reads geometry.now.layout b dir
+        (length (dir_starts (volume_of geometry.now.layout b) dir))) }
     ensures leaves { PhaseLeaves geometry.now.layout (I.device image.old) (I.device image.new)
         workspace.old workspace.new siblings.new result }
 {
@@ -182,6 +189,12 @@ pub fn check_directory<I: Image, W: Output>(
         × AreRightBefore (volume_of geometry.now.layout b) dir (marks_of workspace.old))
         (λ b. AreRightBefore (volume_of geometry.now.layout b) (suc dir)
         (marks_of workspace.new))) }
+    ensures reads { ForBytes
+        (λ b. DirectoryContext geometry.now.layout (I.device image.old).contents workspace.old dir b
+        × AreRightBefore (volume_of geometry.now.layout b) dir (marks_of workspace.old))
+        (λ b. AreNoted geometry.now.layout b workspace.old.queue.items
+        → I.reads image.new ≤ I.reads image.old + check_reads geometry.now.layout b dir
+        (length (sized_dir_lines (volume_of geometry.now.layout b) dir))) }
     ensures leaves { PhaseLeaves geometry.now.layout (I.device image.old) (I.device image.new)
         workspace.old workspace.new siblings.new result }
 {

@@ -1,8 +1,11 @@
 //! A first look at a directory.
-ghost use Rattle.std.specs.Prelude.{◌≡◌, ◌*◌, ◌<◌, ◌==◌, true, false, List, ◌∷◌, Some, IfOk, vec_len};
+ghost use Rattle.std.specs.Prelude.{◌≡◌, ◌+◌, ◌*◌, ◌<◌, ◌≤◌, ◌==◌, true, false, List, ◌∷◌, Some, IfOk, vec_len};
 ghost use Rattle.ffs_image.specs.Device.{ForContents};
 ghost use Rattle.ffs_volume.specs.declared.Order.{Order};
+ghost use Rattle.ffs_volume.specs.Blocks.Steps.{steps_of};
 ghost use Rattle.ffs_volume.specs.Directories.Entries.{Chunk, chunk_of};
+ghost use Rattle.ffs_volume.specs.Encodings.Replay.{fresh_replay};
+ghost use Rattle.ffs_volume.specs.Encodings.ReplayCounts.{replayed_runs};
 ghost use Rattle.ffs_names.specs.Windows.{CanReadChunks};
 ghost use Rattle.ffs_pathnames.specs.Sees.{CanStamp};
 ghost use Rattle.ffs_pathnames.specs.Looks.{IsFirstLook};
@@ -75,6 +78,10 @@ pub fn look_directory<I: Image>(
         words.new.items start.new)) }
     ensures places { KeepPlaces words.old.items words.new.items }
     ensures words_long { vec_len words.new ≡ vec_len words.old }
+    ensures reads { ForContents (I.device image.old).contents
+        (λ b. I.reads image.new ≤ I.reads image.old
+        + replayed_runs geometry.now.layout cut fresh_replay
+        (steps_of geometry.now.layout inode.now b)) }
     ensures leaves { ChunksLeave geometry.now.layout (I.device image.old) (I.device image.new)
         blocks.new «data».new result }
 {

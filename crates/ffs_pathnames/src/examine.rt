@@ -1,6 +1,7 @@
 //! What is found of a directory before anything is reported of it.
-ghost use Rattle.std.specs.Prelude.{◌≤◌, IfOk};
+ghost use Rattle.std.specs.Prelude.{◌+◌, ◌≤◌, IfOk};
 ghost use Rattle.ffs_phase.specs.Known.{ForBytes};
+ghost use Rattle.ffs_names.specs.Costs.{directory_cost};
 ghost use Rattle.ffs_paths.specs.Reads.{IsReadyFor};
 ghost use Rattle.ffs_pathnames.specs.DirectoryContext.{DirectoryContext};
 ghost use Rattle.ffs_pathnames.specs.Examines.{ExamineLeaves, AreFound};
@@ -38,6 +39,9 @@ pub fn examine<I: Image>(
     ensures found { IfOk result (λ e. ForBytes
         (DirectoryContext geometry.now.layout (I.device image.old).contents workspace.old dir)
         (λ b. AreFound geometry.now.layout b dir workspace.old e workspace.new start.new)) }
+    ensures reads { ForBytes
+        (DirectoryContext geometry.now.layout (I.device image.old).contents workspace.old dir)
+        (λ b. I.reads image.new ≤ I.reads image.old + directory_cost geometry.now.layout b dir) }
     ensures leaves { ExamineLeaves geometry.now.layout (I.device image.old) (I.device image.new)
         workspace.old workspace.new result }
 {

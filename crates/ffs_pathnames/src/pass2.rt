@@ -1,6 +1,6 @@
 //! Phase 2: pathnames (fsck(8)).
 
-ghost use Rattle.std.specs.Prelude.{◌≡◌, ◌⊎◌, [], ◌∷◌, true, OnOk, IfOk, map};
+ghost use Rattle.std.specs.Prelude.{◌≡◌, ◌+◌, ◌≤◌, ◌⊎◌, [], ◌∷◌, true, OnOk, IfOk, length, map};
 ghost use Rattle.ffs_phase.specs.Known.{IsContents, ForBytes};
 ghost use Rattle.ffs_phase.specs.Runs.{ImageAfter, PhaseReports};
 ghost use Rattle.ffs_report.specs.Progress.{Said, progress};
@@ -8,7 +8,9 @@ ghost use Rattle.ffs_volume.specs.Messages.Kinds as messages;
 ghost use Rattle.ffs_volume.specs.Messages.Kinds.{of_tree};
 ghost use Rattle.ffs_volume.specs.Directories.PathnameCheck.{continues_after_root, pathname_lines};
 ghost use Rattle.ffs_volume.specs.Directories.Volumes.{volume_of};
+ghost use Rattle.ffs_volume.specs.Report.Reads.{pathname_reads};
 ghost use Rattle.ffs_workspace.specs.Holds.{HoldsClaims, HoldsReferences, HoldsStarts, HoldsSurvey};
+ghost use Rattle.ffs_workspace.specs.Places.{AreChunksNumbered};
 ghost use Rattle.ffs_pathnames.specs.GoesOn.{AtReadFault, is_go};
 ghost use Rattle.ffs_workspace.specs.Ready.{IsReady};
 
@@ -35,6 +37,9 @@ pub enum Root {
 ///
 /// The text is that of a workspace that holds what the block check found. At `Ok` the workspace
 /// holds what the survey found.
+///
+/// Where a word has room for the number of each chunk (below 2^40 bytes), the image is read at most
+/// `pathname_reads` times, also where a read failed: each directory four times at most.
 ///
 /// # Errors
 /// A read of the image that failed, and a write of the report that failed.
@@ -71,6 +76,11 @@ pub fn phase2<I: Image, W: Output>(
         × HoldsClaims geometry.now.layout b workspace.old
         × HoldsStarts geometry.now.layout b workspace.old)
         (λ b. HoldsReferences geometry.now.layout b workspace.new)) }
+    ensures reads { ForBytes (λ b. IsContents (I.device image.old).contents b
+        × HoldsClaims geometry.now.layout b workspace.old)
+        (λ b. AreChunksNumbered geometry.now.layout
+        → I.reads image.new ≤ I.reads image.old + pathname_reads geometry.now.layout
+        (length (pathname_lines (volume_of geometry.now.layout b)))) }
     ensures ready { IsReady geometry.now.layout (I.device image.new) workspace.new }
 {
     report.say(&Line::Heading(Heading::Phase2))?;

@@ -1,5 +1,5 @@
 //! A second reading of a directory, where something is reported of its entries.
-ghost use Rattle.std.specs.Prelude.{◌≡◌, OnOk, map};
+ghost use Rattle.std.specs.Prelude.{◌≡◌, ◌+◌, ◌≤◌, OnOk, length, map};
 ghost use Rattle.ffs_volume.specs.Blocks.Inodes.{inode_of};
 ghost use Rattle.ffs_volume.specs.Messages.Kinds.{of_tree};
 ghost use Rattle.ffs_volume.specs.Directories.Roles.{roled_entries};
@@ -7,6 +7,8 @@ ghost use Rattle.ffs_volume.specs.Directories.Volumes.{volume_of};
 ghost use Rattle.ffs_phase.specs.Known.{ForBytes};
 ghost use Rattle.ffs_phase.specs.Runs.{PhaseReports};
 ghost use Rattle.ffs_report.specs.Progress.{progress};
+ghost use Rattle.ffs_workspace.specs.Places.{AreNoted};
+ghost use Rattle.ffs_pathnames.specs.Costs.{report_reads};
 ghost use Rattle.ffs_pathnames.specs.Gathers.{marks_of};
 ghost use Rattle.ffs_pathnames.specs.DirectoryContext.{DirectoryContext};
 ghost use Rattle.ffs_pathnames.specs.Marks as marks;
@@ -49,6 +51,13 @@ pub fn report_directory<I: Image, W: Output>(
         × (inode.now ≡ inode_of geometry.now.layout b dir)) (λ b.
         marks.after_entries (volume_of geometry.now.layout b) dir (marks_of workspace.old)
         (roled_entries (volume_of geometry.now.layout b) dir) ≡ marks_of workspace.new)) }
+    ensures reads { ForBytes (λ b. DirectoryContext geometry.now.layout
+        (I.device image.old).contents workspace.old dir b
+        × (inode.now ≡ inode_of geometry.now.layout b dir))
+        (λ b. AreNoted geometry.now.layout b workspace.old.queue.items
+        → I.reads image.new ≤ I.reads image.old + report_reads geometry.now.layout b dir
+        (length (marks.entries_reported (volume_of geometry.now.layout b) dir
+        (marks_of workspace.old) (roled_entries (volume_of geometry.now.layout b) dir)))) }
     ensures leaves { PhaseLeaves geometry.now.layout (I.device image.old) (I.device image.new)
         workspace.old workspace.new siblings.new result }
 {

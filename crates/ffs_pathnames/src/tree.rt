@@ -1,5 +1,5 @@
 //! The pathname check of the root, and of one directory after another.
-ghost use Rattle.std.specs.Prelude.{suc, ◌≡◌, ◌-◌, ◌<◌, ◌≤◌, ℕ, true, false, OnOk, IfOk, map, vec_len};
+ghost use Rattle.std.specs.Prelude.{suc, ◌≡◌, ◌+◌, ◌-◌, ◌<◌, ◌≤◌, ℕ, true, false, OnOk, IfOk, length, map, vec_len};
 ghost use Rattle.ffs_phase.specs.Known.{ForBytes};
 ghost use Rattle.ffs_phase.specs.Runs.{PhaseReports};
 ghost use Rattle.ffs_report.specs.Progress.{progress};
@@ -8,7 +8,9 @@ ghost use Rattle.ffs_volume.specs.Directories.PathnameCheck.{continues_after_roo
 ghost use Rattle.ffs_volume.specs.Directories.Volumes.{volume_of};
 ghost use Rattle.ffs_workspace.specs.Holds.{HoldsClaims, HoldsSurvey};
 ghost use Rattle.ffs_workspace.specs.Lengths.{inodes_of};
+ghost use Rattle.ffs_workspace.specs.Places.{AreChunksNumbered, AreNoted};
 ghost use Rattle.ffs_pathnames.specs.Before.{IsBefore, is_looked_at};
+ghost use Rattle.ffs_pathnames.specs.Costs.{check_reads, tree_reads};
 ghost use Rattle.ffs_pathnames.specs.Gathers.{AreAsLong};
 ghost use Rattle.ffs_pathnames.specs.GoesOn.{AtReadFault, is_go};
 ghost use Rattle.ffs_workspace.specs.Ready.{IsReady};
@@ -75,6 +77,11 @@ fn check_inode<I: Image, W: Output>(
         (λ b. IsBefore geometry.now.layout (I.device image.old).contents workspace.old number b)
         (λ b. IsBefore geometry.now.layout (I.device image.old).contents workspace.new (suc number)
         b)) }
+    ensures reads { ForBytes
+        (λ b. IsBefore geometry.now.layout (I.device image.old).contents workspace.old number b)
+        (λ b. AreNoted geometry.now.layout b workspace.old.queue.items
+        → I.reads image.new ≤ I.reads image.old + check_reads geometry.now.layout b number
+        (length (directory_lines (volume_of geometry.now.layout b) number))) }
     ensures leaves { PhaseLeaves geometry.now.layout (I.device image.old) (I.device image.new)
         workspace.old workspace.new siblings.new result }
 {
@@ -106,6 +113,12 @@ fn check_inodes<I: Image, W: Output>(
     // Where no directory is looked at, nothing is read.
     ensures unread { ((x : ℕ) → 2 ≤ x → x < inodes_of geometry.now.layout
         → is_looked_at workspace.old x ≡ false) → workspace.new ≡ workspace.old }
+    ensures reads { ForBytes
+        (λ b. IsBefore geometry.now.layout (I.device image.old).contents workspace.old 2 b)
+        (λ b. AreChunksNumbered geometry.now.layout
+        → I.reads image.new ≤ I.reads image.old + tree_reads geometry.now.layout b
+        (length (lines_from (directory_lines (volume_of geometry.now.layout b)) 2
+        (inodes_of geometry.now.layout - 2)))) }
     ensures leaves { TreeLeaves geometry.now.layout (I.device image.old) (I.device image.new)
         workspace.old workspace.new result }
 {
@@ -150,6 +163,11 @@ pub fn check_tree<I: Image, W: Output>(
         (λ b. IsBefore geometry.now.layout (I.device image.old).contents workspace.old 2 b)
         (λ b. HoldsClaims geometry.now.layout b workspace.new
         × HoldsSurvey geometry.now.layout b workspace.new)) }
+    ensures reads { ForBytes
+        (λ b. IsBefore geometry.now.layout (I.device image.old).contents workspace.old 2 b)
+        (λ b. AreChunksNumbered geometry.now.layout
+        → I.reads image.new ≤ I.reads image.old + tree_reads geometry.now.layout b
+        (length (pathname_lines (volume_of geometry.now.layout b)))) }
     ensures leaves { TreeLeaves geometry.now.layout (I.device image.old) (I.device image.new)
         workspace.old workspace.new result }
 {

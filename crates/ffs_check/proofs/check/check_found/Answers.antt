@@ -1,5 +1,5 @@
 use Rattle.std.proofs.Common.{arith, inl, inr, false}
-use Rattle.ffs_layout.specs.Super.{seen}
+use Rattle.ffs_layout.specs.Super.{superblock_in}
 use Rattle.ffs_volume.specs.Directories.PathnameCheck.{continues_after_root}
 use Rattle.ffs_volume.specs.Report.Whole.{phase_lines}
 use Rattle.ffs_volume.specs.Directories.Volumes.{volume_of}
@@ -18,7 +18,7 @@ run_rest-requires g c = record {
 
 pub returns-in-Ok-clause-followed : goal.returns-in-Ok-clause-followed
 returns-in-Ok-clause-followed g c =
-    let s = seen c.args.found.now in
+    let s = superblock_in c.args.found.now in
     inr (ran_known false _ _ (λ bytes. phase_lines bytes s) (λ bytes. continues_after_root (volume_of s.layout bytes)) _
     _ _ _ _ (λ bytes t. (t, c.in-Ok.ensures.new.fresh)) c.run_rest.ensures.ran)
 

@@ -21,8 +21,8 @@ returns-in-Ok-clause-headline g c =
     (progress g.W.Output.sink c.check_found.new.report) c.in-Ok.found _
     (rw c.new-report.ensures at c.in-Ok.ensures.opened) c.check_found.ensures.followed)
 
-pub returns-in-Ok-clause-unread : goal.returns-in-Ok-clause-unread
-returns-in-Ok-clause-unread g c at e = absurd (not_refused _ _ _ _ _ _ _ c.check_found.ensures.followed e)
+pub returns-in-Ok-clause-unreadable : goal.returns-in-Ok-clause-unreadable
+returns-in-Ok-clause-unreadable g c at e = absurd (not_refused _ _ _ _ _ _ _ c.check_found.ensures.followed e)
 
 pub returns-in-Err-clause-failures : goal.returns-in-Err-clause-failures
 returns-in-Err-clause-failures g c = record {

@@ -1,5 +1,5 @@
 use Rattle.std.proofs.Common.{rules, ◌∙◌}
-use Rattle.ffs_layout.specs.Super.{seen}
+use Rattle.ffs_layout.specs.Super.{superblock_in}
 use Rattle.ffs_report.specs.Progress.{progress}
 use Rattle.ffs_volume.specs.Directories.PathnameCheck.{continues_after_root}
 use Rattle.ffs_volume.specs.Report.Whole.{phase_lines}
@@ -9,7 +9,7 @@ use Rattle.ffs_check.proofs.check.check_rest.Goals as goal
 
 pub returns-clause-runs : goal.returns-clause-runs
 returns-clause-runs g c =
-    let s = seen c.args.found.now in
+    let s = superblock_in c.args.found.now in
     prints_at _ _ (λ bytes. phase_lines bytes s) (λ bytes. continues_after_root (volume_of s.layout bytes)) _ _ _
     (g.W.Output.sink c.run_rest.new.report.out.now) _ _ (search rules)
     (prints_phases _ _ (c.opening_defects.ensures ∙ opening_defect s) _ (λ bytes. phase_lines bytes s)

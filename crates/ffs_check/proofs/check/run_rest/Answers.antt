@@ -1,4 +1,4 @@
-use Rattle.ffs_layout.specs.Super.{seen}
+use Rattle.ffs_layout.specs.Super.{superblock_in}
 use Rattle.ffs_volume.specs.Directories.PathnameCheck.{continues_after_root}
 use Rattle.ffs_volume.specs.Report.Whole.{phase_lines}
 use Rattle.ffs_volume.specs.Directories.Volumes.{volume_of}
@@ -7,7 +7,7 @@ use Rattle.ffs_check.proofs.check.run_rest.Goals as goal
 
 pub returns-clause-ran : goal.returns-clause-ran
 returns-clause-ran g c =
-    let s = seen c.args.found.now in
+    let s = superblock_in c.args.found.now in
     ran c.args.before _ (λ bytes. phase_lines bytes s) (λ bytes. continues_after_root (volume_of s.layout bytes)) _ _
     (λ bytes k. k.0) _ _ _ _
     c.run_phases-answer.result c.run_phases-answer.ensures.text c.run_phases-answer.ensures.image

@@ -2,17 +2,17 @@ use Rattle.std.proofs.Common.{◌∷◌, []}
 use Rattle.std.proofs.lemmas.Result.{err_from_is_err_and}
 use Rattle.ffs_volume.specs.Messages.Kinds.{mounted}
 use Rattle.ffs_volume.specs.Report.Opening.{before_nul, setting_lines}
-use Rattle.ffs_layout.specs.Super.{seen}
+use Rattle.ffs_layout.specs.Super.{superblock_in}
 use Rattle.ffs_report.proofs.Reports.{says_then, stopped_more}
 use Rattle.ffs_check.proofs.opening.say_super.Goals as goal
 
 pub returns-in_err-say_settings : goal.returns-in_err-say_settings
 returns-in_err-say_settings g c =
     let p = err_from_is_err_and c.from_residual.result c.from_residual.ensures.1 in
-    rw (p.1) (stopped_more _ _ (setting_lines (seen c.args.found.now))
+    rw (p.1) (stopped_more _ _ (setting_lines (superblock_in c.args.found.now))
     (mounted (before_nul c.args.found.now.mount) ∷ []) c.in_err-say_settings.ensures)
 
 pub returns : goal.returns
 returns g c =
-    says_then _ _ _ (setting_lines (seen c.args.found.now)) (mounted (before_nul c.args.found.now.mount) ∷ []) _
+    says_then _ _ _ (setting_lines (superblock_in c.args.found.now)) (mounted (before_nul c.args.found.now.mount) ∷ []) _
     c.in_ok-say_settings.ensures (rw c.before_nul.ensures at c.say.ensures.said)

@@ -5,7 +5,7 @@ use Rattle.ffs_volume.specs.Messages.Kinds.{Message, of_blocks}
 use Rattle.ffs_volume.specs.Messages.Kinds.{phase5 as phase5_heading}
 use Rattle.ffs_volume.specs.Groups.GroupCheck.{reported_once, unless}
 use Rattle.ffs_volume.specs.Report.Whole.{group_check_lines}
-use Rattle.ffs_layout.specs.Super.{seen}
+use Rattle.ffs_layout.specs.Super.{superblock_in}
 use Rattle.ffs_maps.specs.Bits.{bits_of}
 use Rattle.ffs_groups.specs.Check.{lines_of}
 use Rattle.ffs_groups.specs.Free.{free_in}
@@ -20,7 +20,7 @@ use Rattle.ffs_counts.proofs.pass5.phase5.Goals as goal
 pub returns-in_err-say-clause-runs : goal.returns-in_err-say-clause-runs
 returns-in_err-say-clause-runs g c =
     let p = err_from_is_err_and c.from_residual.result c.from_residual.ensures.1 in
-    let lines : List ℕ → List Message = λ bytes. group_check_lines bytes (seen c.args.superblock.now) in
+    let lines : List ℕ → List Message = λ bytes. group_check_lines bytes (superblock_in c.args.superblock.now) in
     rw (p.1, p.2) (record {
       image = refl;
       text = of_stops _ (λ bytes. phase5_heading ∷ lines bytes) lines _ (phase5_heading ∷ []) _ _ _
@@ -34,7 +34,7 @@ loop-group-init g c =
     let w = c.args.workspace.now in
     let free = free_in (bits_of w.claimed) v.size in
     let class = class_in w.kinds.items in
-    let lines : List ℕ → List Message = λ bytes. group_check_lines bytes (seen c.args.superblock.now) in
+    let lines : List ℕ → List Message = λ bytes. group_check_lines bytes (superblock_in c.args.superblock.now) in
     record {
       device = refl;
       stays = record { held = refl; ready = c.requires.ready };

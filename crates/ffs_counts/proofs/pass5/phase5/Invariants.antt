@@ -1,7 +1,7 @@
 use Rattle.std.proofs.Common.{◌≡◌, ◌+◌, ◌-◌, ◌*◌, ◌≤◌, ◌∷◌}
 use Rattle.ffs_volume.specs.Messages.Kinds.{phase5 as phase5_heading}
 use Rattle.ffs_volume.specs.Report.Whole.{group_check_lines}
-use Rattle.ffs_layout.specs.Super.{seen}
+use Rattle.ffs_layout.specs.Super.{superblock_in}
 use Rattle.ffs_maps.specs.Bits.{bits_of}
 use Rattle.ffs_report.specs.Progress.{progress}
 use Rattle.ffs_phase.specs.Known.{IsContents}
@@ -30,6 +30,6 @@ invariant-loop-group g l =
       said : SaidOf (λ bytes. IsContents (g.I.Image.device l.fn.image).contents bytes
           × HoldsClaims v bytes l.fn.workspace)
           (λ bytes. rest_lines v bytes sums free class (reported_of l.once) l.group (v.ncg - l.group))
-          (λ bytes. phase5_heading ∷ group_check_lines bytes (seen l.superblock))
+          (λ bytes. phase5_heading ∷ group_check_lines bytes (superblock_in l.superblock))
           (progress g.W.Output.sink l.fn.report) (progress g.W.Output.sink l.report);
     }

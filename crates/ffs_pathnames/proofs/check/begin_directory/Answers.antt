@@ -1,4 +1,4 @@
-use Rattle.std.proofs.Common.{◌∙◌, ap, map}
+use Rattle.std.proofs.Common.{◌∙◌, ap, map, arith, length}
 use Rattle.std.proofs.lemmas.Result.{err_from_is_err_and}
 use Rattle.ffs_volume.specs.Messages.Kinds.{of_tree}
 use Rattle.ffs_phase.proofs.Reporting.{of_begins, of_reads}
@@ -7,7 +7,7 @@ use Rattle.ffs_pathnames.proofs.Begun.{said_same, fault_same, image_same, starts
 use Rattle.ffs_pathnames.proofs.Passing.{knows_on}
 use Rattle.ffs_workspace.proofs.Leaving.{leaves_more, survey_left, windows_leave}
 use Rattle.ffs_paths.proofs.Keeping.{siblings_on}
-use Rattle.ffs_pathnames.proofs.StampLaws.{windows_keep, keep_more}
+use Rattle.ffs_pathnames.proofs.StampLaws.{windows_keep, keep_more, noted_kept}
 use Rattle.ffs_pathnames.proofs.check.begin_directory.Goals as goal
 
 pub report_header-requires : goal.report_header-requires
@@ -115,3 +115,47 @@ returns-clause-leaves g c =
       places = keep_more _ _ _ one.lists.places (windows_keep c.examine.new.workspace c.report_header.new.workspace two.lists);
       ready = two.ready;
     }
+
+-- the reads
+pub returns-in_err-examined-clause-reads : goal.returns-in_err-examined-clause-reads
+returns-in_err-examined-clause-reads g c = λ b k noted.
+    let examined = c.examine.ensures.reads b k in
+    omega (arith, examined)
+
+pub returns-in_err-report_header-clause-reads : goal.returns-in_err-report_header-clause-reads
+returns-in_err-report_header-clause-reads g c = λ b k noted.
+    let v = c.args.geometry.now.layout in
+    let found = c.in_ok-examined.ensures.found b k in
+    let lists = c.in_ok-examined.ensures.leaves.lists in
+    let examined = c.examine.ensures.reads b k in
+    let said = (c.report_header.ensures.counted b (
+      knows_on v _ _ c.args.workspace.now c.examine.new.workspace c.args.dir b
+          (ap (λ d. d.contents) c.in_ok-examined.ensures.leaves.read) lists.survey k,
+      ap (λ i. i.size) found.inode,
+    ) (noted_kept v b c.args.workspace.now.queue.items c.examine.new.workspace.queue.items lists.places noted)).count in
+    let long = ap length (starts_are v b c.args.dir c.args.workspace.now c.examine.new.workspace
+    c.in_ok-examined.examined c.examine.new.start _ _ _ found
+    (c.parent_of-parent.ensures v b
+    (survey_left v b c.args.workspace.now c.examine.new.workspace lists.survey k.survey))
+    c.first_two.ensures.first c.first_two.ensures.second) in
+    let now = rw long at said in
+    omega (arith, examined, now)
+
+pub returns-clause-reads : goal.returns-clause-reads
+returns-clause-reads g c = λ b k noted.
+    let v = c.args.geometry.now.layout in
+    let found = c.in_ok-examined.ensures.found b k in
+    let lists = c.in_ok-examined.ensures.leaves.lists in
+    let examined = c.examine.ensures.reads b k in
+    let said = (c.report_header.ensures.counted b (
+      knows_on v _ _ c.args.workspace.now c.examine.new.workspace c.args.dir b
+          (ap (λ d. d.contents) c.in_ok-examined.ensures.leaves.read) lists.survey k,
+      ap (λ i. i.size) found.inode,
+    ) (noted_kept v b c.args.workspace.now.queue.items c.examine.new.workspace.queue.items lists.places noted)).count in
+    let long = ap length (starts_are v b c.args.dir c.args.workspace.now c.examine.new.workspace
+    c.in_ok-examined.examined c.examine.new.start _ _ _ found
+    (c.parent_of-parent.ensures v b
+    (survey_left v b c.args.workspace.now c.examine.new.workspace lists.survey k.survey))
+    c.first_two.ensures.first c.first_two.ensures.second) in
+    let now = rw long at said in
+    omega (arith, examined, now)

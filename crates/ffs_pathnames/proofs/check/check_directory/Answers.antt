@@ -1,4 +1,4 @@
-use Rattle.std.proofs.Common.{refl, sym, ap, subst, ◌∙◌, ℕ, List, map, Err}
+use Rattle.std.proofs.Common.{refl, sym, ap, subst, ◌∙◌, ℕ, List, map, Err, length, arith}
 use Rattle.std.proofs.lemmas.Result.{err_from_is_err_and}
 use Rattle.ffs_volume.specs.Messages.Kinds.{of_tree}
 use Rattle.ffs_volume.specs.Directories.PathnameCheck.{sized_dir_lines, lines_of_entries}
@@ -14,7 +14,11 @@ use Rattle.ffs_pathnames.specs.Marks.{entries_reported}
 use Rattle.ffs_pathnames.proofs.Begun.{said_same, directory_is, lines_parts, quiet_parts, reported_parts, quiet_after}
 use Rattle.ffs_pathnames.proofs.Begun.{reported_after, on_ok}
 use Rattle.ffs_pathnames.proofs.Passing.{knows_on}
-use Rattle.ffs_pathnames.proofs.StampLaws.{keep_more}
+use Rattle.ffs_pathnames.proofs.StampLaws.{keep_more, noted_kept}
+use Rattle.ffs_volume.specs.Report.Reads.{line_reads, path_reads}
+use Rattle.ffs_names.specs.Costs.{directory_cost, directory_runs}
+use Rattle.ffs_pathnames.proofs.CostLaws.{checked_twice, cost_of_dir, lines_long, starts_within}
+use Rattle.std.proofs.Math.Nat.{mul-le-mul_left}
 use Rattle.ffs_pathnames.proofs.check.check_directory.Goals as goal
 
 pub returns-in_err-examined-clause-text : goal.returns-in_err-examined-clause-text
@@ -94,3 +98,35 @@ returns-clause-leaves g c =
       places = keep_more _ _ _ begun.places left.places;
       ready = left.ready;
     }
+
+pub returns-in_err-examined-clause-reads : goal.returns-in_err-examined-clause-reads
+returns-in_err-examined-clause-reads g c = λ b k noted.
+    let within = mul-le-mul_left line_reads (starts_within (volume_of c.args.geometry.now.layout b) c.args.dir) in
+    let begun = c.begin_directory.ensures.reads b k.0 noted in
+    omega (arith, begun, within)
+
+pub returns-then-examined-clause-reads : goal.returns-then-examined-clause-reads
+returns-then-examined-clause-reads g c = λ b k noted.
+    let within = mul-le-mul_left line_reads (starts_within (volume_of c.args.geometry.now.layout b) c.args.dir) in
+    let begun = c.begin_directory.ensures.reads b k.0 noted in
+    omega (arith, begun, within)
+
+pub returns-clause-reads : goal.returns-clause-reads
+returns-clause-reads g c = λ b k noted.
+    let v = c.args.geometry.now.layout in
+    let left = c.in_ok-examined.ensures.leaves in
+    let begun = c.in_ok-examined.ensures.begun b k.0 in
+    let m = marks_of c.begin_directory.new.workspace in
+    checked_twice line_reads path_reads _ _ _ (directory_cost v b c.args.dir) (directory_runs v b c.args.dir)
+    (length (dir_starts (volume_of v b) c.args.dir))
+    (length (entries_reported (volume_of v b) c.args.dir m (roled_entries (volume_of v b) c.args.dir)))
+    (length (sized_dir_lines (volume_of v b) c.args.dir))
+    (c.begin_directory.ensures.reads b k.0 noted)
+    (c.report_directory.ensures.reads b (
+      knows_on v _ _ c.args.workspace.now c.begin_directory.new.workspace c.args.dir b
+          (ap (λ d. d.contents) left.image) left.survey k.0,
+      begun.inode,
+    ) (noted_kept v b c.args.workspace.now.queue.items c.begin_directory.new.workspace.queue.items left.places noted))
+    (cost_of_dir v b c.args.dir k.0.dir)
+    (lines_long _ _ _ (reported_parts (volume_of v b) c.args.dir (marks_of c.args.workspace.now) m
+    (directory_is (volume_of v b) c.args.dir c.requires.dir k.0.dir) k.1 begun.marks))

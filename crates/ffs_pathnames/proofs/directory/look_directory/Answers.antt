@@ -1,4 +1,4 @@
-use Rattle.std.proofs.Common.{◌≡◌, refl, sym, ap, subst, ◌∙◌, ℕ, List, ◌∷◌, Some}
+use Rattle.std.proofs.Common.{◌≡◌, refl, sym, ap, subst, ◌∙◌, ℕ, List, ◌∷◌, Some, arith}
 use Rattle.std.proofs.lemmas.Result.{err_from_is_err_and}
 use Rattle.std.specs.Prelude.{◌==◌, ◌||◌}
 use Rattle.ffs_image.specs.Device.{Faulted}
@@ -30,6 +30,11 @@ chunks-init g c = let first = stamps_in c.args.inodes.now c.args.words.now.items
   gap = λ b t. sym (ap (λ x. x || gap_left b c.start-chunks.result) c.start-chunks.ensures.begins.gap ∙
       c.start-chunks.ensures.begins.gap_left b);
   started = λ b t h. ap (find (λ x. x.offset == 0)) (sym (c.start-chunks.ensures.begins.chunks b h));
+  held = λ b t. c.start-chunks.ensures.reads.held c.args.blocks.now c.args.«data».now;
+  reads = λ b t.
+      let all = c.start-chunks.ensures.reads.to_read b in
+      let runs = c.start-chunks.ensures.begins.runs_left b in
+      omega (arith, all, runs);
 }
 
 pub chunks-preserved : goal.chunks-preserved
@@ -64,6 +69,10 @@ chunks-preserved g c =
       gap = λ b t. inv.gap b t ∙ sym (read b (now b t)).gap;
       started = λ b t h. inv.started b t h ∙ (ap (λ l. start_of l c.chunks.started order c.chunks.start) (next b t)
           ∙ c.keep_start-started.ensures order (rest b c.next.new.self));
+      held = λ b t. (c.in_ok-offset.ensures.reads (inv.held b t) b (now b t)).held;
+      reads = λ b t.
+          let paid = (c.in_ok-offset.ensures.reads (inv.held b t) b (now b t)).paid in
+          omega (arith, paid, inv.reads b t);
     }
 
 pub returns-clause-found : goal.returns-clause-found
@@ -132,3 +141,26 @@ returns-clause-leaves g c =
       };
       read = gap.leaves.read ∙ (read.leaves.read ∙ inv.same);
     }
+
+-- the reads
+pub returns-in_err-offset-clause-reads : goal.returns-in_err-offset-clause-reads
+returns-in_err-offset-clause-reads g c = λ b t.
+    let inv = c.chunks.invariant in
+    let most = (c.next.ensures.reads (inv.held b t) b (ap (λ d. d.contents) inv.same ∙ t)).most in
+    omega (arith, most, inv.reads b t)
+
+pub returns-in_err-gap-clause-reads : goal.returns-in_err-gap-clause-reads
+returns-in_err-gap-clause-reads g c = λ b t.
+    let inv = c.chunks.invariant in
+    let took = c.in_ok-offset.ensures.reads (inv.held b t) b (ap (λ d. d.contents) inv.same ∙ t) in
+    let most = (c.gap_of.ensures.reads c.next.new.data took.held b
+    (ap (λ d. d.contents) (c.in_ok-offset.ensures.leaves.read ∙ inv.same) ∙ t)).most in
+    omega (arith, most, took.paid, inv.reads b t)
+
+pub returns-clause-reads : goal.returns-clause-reads
+returns-clause-reads g c = λ b t.
+    let inv = c.chunks.invariant in
+    let took = c.in_ok-offset.ensures.reads (inv.held b t) b (ap (λ d. d.contents) inv.same ∙ t) in
+    let most = (c.gap_of.ensures.reads c.next.new.data took.held b
+    (ap (λ d. d.contents) (c.in_ok-offset.ensures.leaves.read ∙ inv.same) ∙ t)).most in
+    omega (arith, most, took.paid, inv.reads b t)

@@ -1,4 +1,4 @@
-use Rattle.std.proofs.Common.{◌≡◌, ◌<◌, ◌^◌, ◌&&◌, ◌||◌, vec_len}
+use Rattle.std.proofs.Common.{◌≡◌, ◌<◌, ◌^◌, ◌&&◌, ◌||◌, vec_len, ◌+◌, ◌≤◌}
 use Rattle.std.specs.Prelude.{◌==◌}
 use Rattle.std.specs.List.{flat_map, find}
 use Rattle.ffs_image.specs.Device.{ForContents}
@@ -13,6 +13,8 @@ use Rattle.ffs_pathnames.specs.Marks.{are_quiet, after_looks}
 use Rattle.ffs_pathnames.specs.Sees.{Sees, stamps_in}
 use Rattle.ffs_pathnames.specs.Stamps.{KeepPlaces}
 use Rattle.ffs_pathnames.specs.Reads.{chunks_read, start_of}
+use Rattle.ffs_volume.specs.Encodings.ReplayCounts.{replayed_runs}
+use Rattle.ffs_names.specs.Costs.{to_read, HoldsReading}
 use Rattle.ffs_pathnames.proofs.directory.look_directory.Given as goal
 
 abbrev pub invariant-chunks : goal.invariant-chunks
@@ -38,6 +40,10 @@ invariant-chunks g l = let device = g.I.Image.device in record {
   started : ForContents (device l.initial.image).contents (λ b. l.inode.size < 2 ^ 31 →
       find (λ c. c.offset == 0) (chunks_read l.geometry.layout l.inode l.cut b) ≡ start_of (rest b l.chunks) l.started
       l.order l.start);
+  held : ForContents (device l.initial.image).contents (λ b. HoldsReading l.blocks l.data l.chunks);
+  reads : ForContents (device l.initial.image).contents (λ b. g.I.Image.reads l.image + to_read b l.chunks
+      ≤ g.I.Image.reads l.initial.image
+      + replayed_runs l.geometry.layout l.cut fresh_replay (steps_of l.geometry.layout l.inode b));
 }
 
 abbrev pub decreases-chunks : goal.decreases-chunks

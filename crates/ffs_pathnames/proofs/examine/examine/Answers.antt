@@ -17,6 +17,7 @@ use Rattle.ffs_pathnames.proofs.ChunkLaws.{chunks_are, gap_is, seen_are}
 use Rattle.ffs_pathnames.proofs.ReadyLaws.{can_read_in, ready_looked}
 use Rattle.ffs_pathnames.proofs.SeesLaws.{sees}
 use Rattle.ffs_pathnames.proofs.StampLaws.{queue_leaves}
+use Rattle.ffs_pathnames.proofs.CostLaws.{cost_of_dir, runs_are}
 use Rattle.ffs_pathnames.proofs.examine.examine.Goals as goal
 
 pub returns-clause-found : goal.returns-clause-found
@@ -133,3 +134,34 @@ returns-in_err-found-clause-leaves g c =
       read = subst (λ d. Faulted d (g.I.Image.device c.look_directory.new.image) c.in_err-found.field-0.0.sector) one
           two;
     })
+
+-- the reads
+pub returns-in_err-inode-clause-reads : goal.returns-in_err-inode-clause-reads
+returns-in_err-inode-clause-reads g c = λ b k.
+    let one = c.inode_by_part.ensures.counted in
+    let cost = cost_of_dir c.args.geometry.now.layout b c.args.dir k.dir in
+    omega (arith, one, cost)
+
+pub returns-in_err-found-clause-reads : goal.returns-in_err-found-clause-reads
+returns-in_err-found-clause-reads g c = λ b k.
+    let v = c.args.geometry.now.layout in
+    let number = c.args.dir in
+    let one = c.inode_by_part.ensures.counted in
+    let look = c.look_directory.ensures.reads b (ap (λ x. x.contents) c.in_ok-inode.ensures.reads.read ∙ k.gives_bytes) in
+    let cut = c.cut_of-cut.ensures ∙ (ap cut_in (k.claims.notes number) ∙ cut_is_noted v b number c.args.geometry.now.sound) in
+    let runs = runs_are v b number c.in_ok-inode.inode c.cut_of-cut.result
+    (c.in_ok-inode.ensures.reads.inode b k.gives_bytes) cut in
+    let cost = cost_of_dir v b number k.dir in
+    omega (arith, one, look, runs, cost)
+
+pub returns-clause-reads : goal.returns-clause-reads
+returns-clause-reads g c = λ b k.
+    let v = c.args.geometry.now.layout in
+    let number = c.args.dir in
+    let one = c.inode_by_part.ensures.counted in
+    let look = c.look_directory.ensures.reads b (ap (λ x. x.contents) c.in_ok-inode.ensures.reads.read ∙ k.gives_bytes) in
+    let cut = c.cut_of-cut.ensures ∙ (ap cut_in (k.claims.notes number) ∙ cut_is_noted v b number c.args.geometry.now.sound) in
+    let runs = runs_are v b number c.in_ok-inode.inode c.cut_of-cut.result
+    (c.in_ok-inode.ensures.reads.inode b k.gives_bytes) cut in
+    let cost = cost_of_dir v b number k.dir in
+    omega (arith, one, look, runs, cost)

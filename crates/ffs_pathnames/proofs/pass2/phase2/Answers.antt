@@ -1,4 +1,4 @@
-use Rattle.std.proofs.Common.{[], ◌∷◌, List, ℕ, map, refl, ap, ◌∙◌, inl, inr}
+use Rattle.std.proofs.Common.{[], ◌∷◌, List, ℕ, map, refl, ap, ◌∙◌, inl, inr, arith}
 use Rattle.std.proofs.lemmas.Result.{err_from_is_err_and}
 use Rattle.ffs_phase.proofs.Reporting.{of_begins, of_says, of_stops, of_reads, of_last, reports_knowing}
 use Rattle.ffs_volume.specs.Messages.Kinds.{of_tree, phase2}
@@ -9,6 +9,8 @@ use Rattle.ffs_pathnames.proofs.Begun.{on_ok}
 use Rattle.ffs_pathnames.proofs.Carrying.{on_all, if_ok, at_fault, at_fault_more, claims_untouched, before_first}
 use Rattle.ffs_pathnames.proofs.Carrying.{references_on}
 use Rattle.ffs_pathnames.proofs.SilentLaws.{calm_silent}
+use Rattle.ffs_pathnames.proofs.CostLaws.{runs_bounded}
+use Rattle.ffs_names.proofs.RunSums.{costs_bounded}
 use Rattle.ffs_pathnames.proofs.pass2.phase2.Goals as goal
 
 pub returns-in_err-say-clause-text : goal.returns-in_err-say-clause-text
@@ -105,3 +107,26 @@ returns-clause-references g c =
 
 pub check_tree-requires : goal.check_tree-requires
 check_tree-requires g c = c.clear_marks.ensures.ready _ _ c.in_ok-survey.ensures.ready
+
+pub returns-in_err-survey-clause-reads : goal.returns-in_err-survey-clause-reads
+returns-in_err-survey-clause-reads g c = λ b k numbered.
+    let v = c.args.geometry.now.layout in
+    let once = c.survey.ensures.reads b k.0 k.1 in
+    let most = costs_bounded v b c.args.geometry.now.sound in
+    let runs = runs_bounded v b c.args.geometry.now.sound in
+    omega (arith, once, most, runs)
+
+pub returns-clause-reads : goal.returns-clause-reads
+returns-clause-reads g c = λ b k numbered.
+    let v = c.args.geometry.now.layout in
+    let found = c.in_ok-survey.ensures in
+    let clear = c.clear_marks.ensures in
+    let made = (clear.ready v _ found.ready).made in
+    let once = c.survey.ensures.reads b k.0 k.1 in
+    let most = costs_bounded v b c.args.geometry.now.sound in
+    let runs = runs_bounded v b c.args.geometry.now.sound in
+    let rest = c.check_tree.ensures.reads b (before_first v _ b _ _ (ap (λ d. d.contents) found.read ∙ k.0)
+    (claims_untouched v b _ _ found.same k.1) (found.survey b k.0 k.1) made clear.clear
+    (λ x set. calm_silent v b _ c.args.geometry.now.sound found.ready.made
+    (claims_untouched v b _ _ found.same k.1) (found.survey b k.0 k.1) (found.calm b k.0 k.1) x set)) numbered in
+    omega (arith, once, most, runs, rest)

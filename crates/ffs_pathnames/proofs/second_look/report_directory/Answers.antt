@@ -1,4 +1,4 @@
-use Rattle.std.proofs.Common.{◌≡◌, refl, sym, ap, subst, ◌∙◌, ℕ, List, [], ◌∷◌, map, Err}
+use Rattle.std.proofs.Common.{◌≡◌, refl, sym, ap, subst, ◌∙◌, ℕ, List, [], ◌∷◌, map, Err, arith, length}
 use Rattle.std.specs.List.{flat_map}
 use Rattle.std.proofs.lemmas.Result.{err_from_is_err_and}
 use Rattle.ffs_image.specs.Device.{Faulted}
@@ -21,7 +21,10 @@ use Rattle.ffs_pathnames.specs.DirectoryContext.{DirectoryContext}
 use Rattle.ffs_pathnames.specs.Marks.{after_entries, entries_reported}
 use Rattle.ffs_pathnames.proofs.Passing.{chunk_reported, chunk_passed, knows_on, all_read, marks_on}
 use Rattle.ffs_pathnames.proofs.ReadyLaws.{with_chunk, can_read_in, ready_next, ready_read}
-use Rattle.ffs_pathnames.proofs.StampLaws.{windows_keep, keep_more}
+use Rattle.ffs_pathnames.proofs.StampLaws.{windows_keep, keep_more, noted_kept}
+use Rattle.ffs_volume.specs.Report.Reads.{line_reads}
+use Rattle.ffs_names.specs.Costs.{to_read}
+use Rattle.ffs_pathnames.proofs.CostLaws.{lines_long, reported_on, runs_are, same_long}
 use Rattle.ffs_pathnames.proofs.second_look.report_directory.Goals as goal
 
 pub returns-in_err-path-clause-text : goal.returns-in_err-path-clause-text
@@ -49,21 +52,45 @@ chunks-init g c =
     let same = marks_on c.args.workspace.now here ok.lists in
     let all = λ (b : List ℕ). map of_tree
     (entries_reported (volume_of v b) c.args.dir m (roled_entries (volume_of v b) c.args.dir)) in
+    let cut = λ (b : List ℕ)
+    (k : DirectoryContext v (g.I.Image.device c.args.image.now).contents c.args.workspace.now c.args.dir b
+    × (c.args.inode.now ≡ inode_of v b c.args.dir)).
+    c.cut_of-cut.ensures
+    ∙ (ap cut_in ((claims_left v b c.args.workspace.now here (windows_leave _ _ ok.lists) k.0.claims).notes c.args.dir)
+    ∙ cut_is_noted v b c.args.dir c.args.geometry.now.sound) in
     let seen = λ (b : List ℕ)
     (k : DirectoryContext v (g.I.Image.device c.args.image.now).contents c.args.workspace.now c.args.dir b
     × (c.args.inode.now ≡ inode_of v b c.args.dir)).
     all_read v b c.args.dir c.args.inode.now c.cut_of-cut.result (rest b c.start-chunks.result)
-    c.args.geometry.now.sound k.0.dir k.1
-    (c.cut_of-cut.ensures
-    ∙ (ap cut_in ((claims_left v b c.args.workspace.now here (windows_leave _ _ ok.lists) k.0.claims).notes c.args.dir)
-    ∙ cut_is_noted v b c.args.dir c.args.geometry.now.sound))
+    c.args.geometry.now.sound k.0.dir k.1 (cut b k)
     (c.start-chunks.ensures.begins.chunks b) in
+    let same_lines = λ (b : List ℕ)
+    (k : DirectoryContext v (g.I.Image.device c.args.image.now).contents c.args.workspace.now c.args.dir b
+    × (c.args.inode.now ≡ inode_of v b c.args.dir)).
+    ap (λ q. map of_tree
+    (entries_reported (volume_of v b) c.args.dir q (roled_entries (volume_of v b) c.args.dir))) same
+    ∙ ap (λ es. map of_tree (entries_reported (volume_of v b) c.args.dir (marks_of here) es)) (sym (seen b k)) in
     record {
       ready = record { ready = ok.ready; siblings = c.in_ok-path.ensures.leaves.siblings };
       device = ok.read;
       geometry = c.start-chunks.ensures.geometry;
       survey = windows_leave _ _ ok.lists;
       places = windows_keep c.args.workspace.now here ok.lists;
+      held = λ b k noted. c.start-chunks.ensures.reads.held here.windows.blocks here.windows.chunk;
+      reads = λ b k noted.
+          let few = (c.path_to.ensures.counted b (record {
+            gives_bytes = k.0.gives_bytes;
+            claims = k.0.claims;
+            survey = k.0.survey;
+            places = noted;
+          })).count in
+          let all = c.start-chunks.ensures.reads.to_read b in
+          let left = c.start-chunks.ensures.begins.runs_left b in
+          let runs = runs_are v b c.args.dir c.args.inode.now c.cut_of-cut.result k.1 (cut b k) in
+          let long = same_long (entries_reported (volume_of v b) c.args.dir m (roled_entries (volume_of v b) c.args.dir))
+          (entries_reported (volume_of v b) c.args.dir (marks_of here)
+          (flat_map roled_chunk (rest b c.start-chunks.result))) (same_lines b k) in
+          rw long (omega (arith, few, all, left, runs));
       path = λ b k. subst (IsPathOf (graph_of (volume_of v b)) c.args.dir) (sym c.of.ensures)
           (c.in_ok-path.ensures.path b k.gives_bytes k.claims k.survey);
       marks = λ b k. ap (λ q. after_entries (volume_of v b) c.args.dir q (roled_entries (volume_of v b) c.args.dir))
@@ -71,9 +98,7 @@ chunks-init g c =
       said = of_same _ all (λ (b : List ℕ). map of_tree
           (entries_reported (volume_of v b) c.args.dir (marks_of here)
           (flat_map roled_chunk (rest b c.start-chunks.result)))) all _ _ (of_begins _ all _)
-          (λ b k. ap (λ q. map of_tree
-          (entries_reported (volume_of v b) c.args.dir q (roled_entries (volume_of v b) c.args.dir))) same
-          ∙ ap (λ es. map of_tree (entries_reported (volume_of v b) c.args.dir (marks_of here) es)) (sym (seen b k)));
+          same_lines;
     }
 
 pub returns-in_err-offset-clause-text : goal.returns-in_err-offset-clause-text
@@ -150,6 +175,22 @@ chunks-preserved g c =
       geometry = read.leaves.geometry ∙ inv.geometry;
       survey = leaves_more _ _ _ kept ok.leaves.survey;
       places = keep_more _ _ _ inv.places ok.leaves.places;
+      held = λ b k noted.
+          let took = read.reads (inv.held b k noted) b (ap (λ d. d.contents) inv.device ∙ k.0.gives_bytes) in
+          let few = c.report_chunk.ensures.counted b (know b k)
+          (noted_kept v b c.args.workspace.now.queue.items c.chunks.workspace.queue.items inv.places noted) in
+          rw (few.blocks, c.report_chunk.ensures.chunk) took.held;
+      reads = λ b k noted.
+          let took = read.reads (inv.held b k noted) b (ap (λ d. d.contents) inv.device ∙ k.0.gives_bytes) in
+          let few = c.report_chunk.ensures.counted b (know b k)
+          (noted_kept v b c.args.workspace.now.queue.items c.chunks.workspace.queue.items inv.places noted) in
+          reported_on line_reads _ _ _ (to_read b c.chunks.chunks) (to_read b c.next.new.self)
+          (length (entries_reported (volume_of v b) c.args.dir m (roled_chunk here)))
+          (length (entries_reported (volume_of v b) c.args.dir m' (flat_map roled_chunk (rest b c.next.new.self))))
+          (length (entries_reported (volume_of v b) c.args.dir m (flat_map roled_chunk (rest b c.chunks.chunks)))) _
+          took.paid few.count
+          (lines_long _ _ _ (chunk_reported (volume_of v b) c.args.dir m m' here (rest b c.chunks.chunks)
+          (rest b c.next.new.self) (next b k) (ok.marks b (know b k)))) (inv.reads b k noted);
       path = λ b k. subst (IsPathOf (graph_of (volume_of v b)) c.args.dir) (sym ok.same) (inv.path b k);
       marks = λ b k. chunk_passed (volume_of v b) c.args.dir _ m m' here (rest b c.chunks.chunks)
           (rest b c.next.new.self) (next b k) (ok.marks b (know b k)) (inv.marks b k);
@@ -237,3 +278,54 @@ returns-clause-marks g c = λ b k.
     let came = rw c.in_default.is at c.in_ok-offset.ensures.chunk in
     inv.marks b k ∙ ap (λ cs. after_entries (volume_of v b) c.args.dir (marks_of c.chunks.workspace)
     (flat_map roled_chunk cs)) (came b (ap (λ d. d.contents) inv.device ∙ k.0.gives_bytes)).chunks.0
+
+-- the reads
+pub returns-in_err-path-clause-reads : goal.returns-in_err-path-clause-reads
+returns-in_err-path-clause-reads g c = λ b k noted.
+    let few = (c.path_to.ensures.counted b (record {
+      gives_bytes = k.0.gives_bytes;
+      claims = k.0.claims;
+      survey = k.0.survey;
+      places = noted;
+    })).count in
+    omega (arith, few)
+
+pub returns-in_err-offset-clause-reads : goal.returns-in_err-offset-clause-reads
+returns-in_err-offset-clause-reads g c = λ b k noted.
+    let inv = c.chunks.invariant in
+    let most = (c.next.ensures.reads (inv.held b k noted) b (ap (λ d. d.contents) inv.device ∙ k.0.gives_bytes)).most in
+    omega (arith, most, inv.reads b k noted)
+
+pub returns-in_err-report_chunk-clause-reads : goal.returns-in_err-report_chunk-clause-reads
+returns-in_err-report_chunk-clause-reads g c = λ b k noted.
+    let v = c.args.geometry.now.layout in
+    let inv = c.chunks.invariant in
+    let read = c.in_ok-offset.ensures in
+    let m = marks_of c.chunks.workspace in
+    let between = with_chunk c.chunks.workspace c.next.new.blocks c.next.new.data in
+    let kept : LeavesSurvey c.args.workspace.now between =
+    leaves_more _ _ _ inv.survey (windows_leave c.chunks.workspace between refl) in
+    let know = knows_on v (g.I.Image.device c.args.image.now).contents (g.I.Image.device c.next.new.image).contents
+    c.args.workspace.now between c.args.dir b (ap (λ d. d.contents) (read.leaves.read ∙ inv.device)) kept k.0 in
+    let here : Chunk = chunk_of v.order c.in-Some.offset c.next.new.chunk in
+    let came = rw c.in-Some.is at read.chunk in
+    let next = (came b (ap (λ d. d.contents) inv.device ∙ k.0.gives_bytes)).chunks ∙ ap
+    (λ q. chunk_of q.layout.order c.in-Some.offset c.next.new.chunk ∷ rest b c.next.new.self) inv.geometry in
+    let after = after_entries (volume_of v b) c.args.dir m (roled_chunk here) in
+    let took = read.reads (inv.held b k noted) b (ap (λ d. d.contents) inv.device ∙ k.0.gives_bytes) in
+    let few = c.report_chunk.ensures.counted b know
+    (noted_kept v b c.args.workspace.now.queue.items c.chunks.workspace.queue.items inv.places noted) in
+    let most = reported_on line_reads _ _ _ (to_read b c.chunks.chunks) (to_read b c.next.new.self)
+    (length (entries_reported (volume_of v b) c.args.dir m (roled_chunk here)))
+    (length (entries_reported (volume_of v b) c.args.dir after (flat_map roled_chunk (rest b c.next.new.self))))
+    (length (entries_reported (volume_of v b) c.args.dir m (flat_map roled_chunk (rest b c.chunks.chunks)))) _
+    took.paid few.count
+    (lines_long _ _ _ (chunk_reported (volume_of v b) c.args.dir m after here (rest b c.chunks.chunks)
+    (rest b c.next.new.self) next refl)) (inv.reads b k noted) in
+    omega (arith, most)
+
+pub returns-clause-reads : goal.returns-clause-reads
+returns-clause-reads g c = λ b k noted.
+    let inv = c.chunks.invariant in
+    let most = (c.next.ensures.reads (inv.held b k noted) b (ap (λ d. d.contents) inv.device ∙ k.0.gives_bytes)).most in
+    omega (arith, most, inv.reads b k noted)

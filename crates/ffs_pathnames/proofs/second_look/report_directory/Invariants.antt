@@ -1,4 +1,4 @@
-use Rattle.std.proofs.Common.{◌≡◌, map}
+use Rattle.std.proofs.Common.{◌≡◌, map, ◌+◌, ◌*◌, ◌≤◌, length}
 use Rattle.std.specs.List.{flat_map}
 use Rattle.ffs_volume.specs.Blocks.Inodes.{inode_of}
 use Rattle.ffs_volume.specs.Messages.Kinds.{of_tree}
@@ -16,6 +16,10 @@ use Rattle.ffs_pathnames.specs.Gathers.{marks_of}
 use Rattle.ffs_pathnames.specs.DirectoryContext.{DirectoryContext}
 use Rattle.ffs_pathnames.specs.Marks.{after_entries, entries_reported}
 use Rattle.ffs_pathnames.specs.Stamps.{KeepPlaces}
+use Rattle.ffs_volume.specs.Report.Reads.{line_reads}
+use Rattle.ffs_names.specs.Costs.{to_read, HoldsReading}
+use Rattle.ffs_workspace.specs.Places.{AreNoted}
+use Rattle.ffs_pathnames.specs.Costs.{report_reads}
 use Rattle.ffs_pathnames.proofs.second_look.report_directory.Given as goal
 
 abbrev pub invariant-chunks : goal.invariant-chunks
@@ -31,6 +35,16 @@ invariant-chunks g l = let reported_by = g.I.Image.device in let v = l.geometry.
       × (l.inode ≡ inode_of v b l.dir)) (λ b.
       after_entries (volume_of v b) l.dir (marks_of l.fn.workspace) (roled_entries (volume_of v b) l.dir)
       ≡ after_entries (volume_of v b) l.dir (marks_of l.workspace) (flat_map roled_chunk (rest b l.chunks)));
+  held : ForBytes (λ b. DirectoryContext v (reported_by l.fn.image).contents l.fn.workspace l.dir b
+      × (l.inode ≡ inode_of v b l.dir)) (λ b. AreNoted v b l.fn.workspace.queue.items
+      → HoldsReading l.workspace.windows.blocks l.workspace.windows.chunk l.chunks);
+  reads : ForBytes (λ b. DirectoryContext v (reported_by l.fn.image).contents l.fn.workspace l.dir b
+      × (l.inode ≡ inode_of v b l.dir)) (λ b. AreNoted v b l.fn.workspace.queue.items
+      → g.I.Image.reads l.image + to_read b l.chunks
+      + line_reads * length (entries_reported (volume_of v b) l.dir (marks_of l.workspace)
+      (flat_map roled_chunk (rest b l.chunks)))
+      ≤ g.I.Image.reads l.fn.image + report_reads v b l.dir (length (entries_reported (volume_of v b) l.dir
+      (marks_of l.fn.workspace) (roled_entries (volume_of v b) l.dir))));
   said : SaidOf (λ b. DirectoryContext v (reported_by l.fn.image).contents l.fn.workspace l.dir b
       × (l.inode ≡ inode_of v b l.dir))
       (λ b. map of_tree (entries_reported (volume_of v b) l.dir (marks_of l.workspace)

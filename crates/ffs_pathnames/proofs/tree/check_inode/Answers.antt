@@ -39,3 +39,10 @@ pub returns-clause-before : goal.returns-clause-before
 returns-clause-before g c = λ b k.
     before_skipped c.args.geometry.now.layout _ _ c.args.number b c.args.geometry.now.sound
     (sym c.is_looked_at.ensures ∙ c.if-is_looked_at.false) k
+
+pub returns-then-is_looked_at-clause-reads : goal.returns-then-is_looked_at-clause-reads
+returns-then-is_looked_at-clause-reads g c = λ b k noted.
+    let v = c.args.geometry.now.layout in
+    let looked = (and_parts _ _ (sym c.is_looked_at.ensures ∙ c.if-is_looked_at.true)).0 in
+    rw (lines_looked v _ _ c.args.number b looked k)
+    (c.check_directory.ensures.reads b (directory_context v _ _ c.args.number b looked k, k.marks) noted)

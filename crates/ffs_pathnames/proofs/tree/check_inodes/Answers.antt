@@ -1,4 +1,4 @@
-use Rattle.std.proofs.Common.{◌+◌, ◌-◌, ◌<◌, [], map, refl, sym, ap, subst, ◌≡◌, ◌∙◌, suc, arith, rules, Err, List, ℕ}
+use Rattle.std.proofs.Common.{◌+◌, ◌-◌, ◌<◌, [], map, refl, sym, ap, subst, ◌≡◌, ◌∙◌, suc, arith, rules, Err, List, ℕ, ◌≤◌, length, true}
 use Rattle.std.proofs.lemmas.Bool.{both_ways}
 use Rattle.std.proofs.lemmas.Result.{err_from_is_err_and}
 use Rattle.ffs_volume.proofs.Numbered.{from_next, from_end}
@@ -12,6 +12,13 @@ use Rattle.ffs_workspace.specs.Lengths.{inodes_of}
 use Rattle.ffs_pathnames.specs.Before.{IsBefore}
 use Rattle.ffs_pathnames.proofs.Carrying.{before_reported}
 use Rattle.ffs_pathnames.proofs.Skipping.{before_unseen, lines_unseen, noted_before}
+use Rattle.ffs_volume.specs.Report.Reads.{line_reads, path_reads}
+use Rattle.ffs_survey.specs.Costs.{costs_all}
+use Rattle.ffs_survey.proofs.Costs.{cost_take, costs_rise}
+use Rattle.ffs_names.specs.Costs.{directories_cost, directory_cost}
+use Rattle.ffs_pathnames.proofs.StampLaws.{noted_kept}
+use Rattle.ffs_pathnames.proofs.CostLaws.{checked_on, next_long, same_long}
+use Rattle.std.proofs.Math.Nat.{mul-le-mul_left}
 use Rattle.ffs_pathnames.proofs.tree.check_inodes.Goals as goal
 
 pub first_looked_at-first-requires-clause-some : goal.first_looked_at-first-requires-clause-some
@@ -47,6 +54,14 @@ loop-number-init g c =
       device = noted.read;
       low = first.ensures.range.0;
       references = ap (λ (w : Workspace). w.references) noted.lists;
+      noted = λ b k numbered. noted.noted b k.gives_bytes k.claims k.survey numbered;
+      reads = λ b k numbered.
+          let made : g.I.Image.reads c.note_places.new.image ≤ g.I.Image.reads c.args.image.now + directories_cost v b =
+          c.note_places.ensures.reads b k.gives_bytes k.claims k.survey in
+          rw (same_long (lines_from (directory_lines (volume_of v b)) 2 (inodes_of v - 2))
+          (lines_from (directory_lines (volume_of v b)) first.result (inodes_of v - first.result))
+          (lines_unseen v _ _ b first.result (inodes_of v) c.args.geometry.now.sound first.ensures.range.0
+          first.ensures.range.1 first.ensures.before k)) (omega (arith, made));
       before = λ b k. noted_before v _ _ _ _ first.result b first.ensures.range.0 refl noted.lists noted.ready.made
           (noted.places b k.gives_bytes k.claims k.survey) noted.none_due
           (before_unseen v _ _ b first.result c.args.geometry.now.sound first.ensures.range.0 first.ensures.before k);
@@ -86,6 +101,16 @@ loop-number-preserved g c =
       device = search rules;
       low = omega arith;
       references = ok.leaves.survey.references ∙ inv.references;
+      noted = λ b k numbered. noted_kept v b c.loop-number.workspace.queue.items
+          c.check_inode.new.workspace.queue.items ok.leaves.places (inv.noted b k numbered);
+      reads = λ b k numbered.
+          let lines = directory_lines (volume_of v b) in
+          rw (cost_take (λ s. true) (directory_cost v b) n refl) (checked_on line_reads path_reads n _ _ (directories_cost v b)
+          (costs_all (directory_cost v b) n) (directory_cost v b n) (g.I.Image.reads c.args.image.now) (length (lines n))
+          (length (lines_from lines (n + 1) (inodes_of v - (n + 1)))) (length (lines_from lines 2 (inodes_of v - 2)))
+          (c.check_inode.ensures.reads b
+          (before_reported v _ _ _ n b (ap (λ d. d.contents) inv.device) (inv.before b k)) (inv.noted b k numbered))
+          (rw (next_long lines n (inodes_of v) (omega arith)) at (inv.reads b k numbered)));
       before = λ b k. subst (λ d. IsBefore v (g.I.Image.device c.args.image.now).contents c.check_inode.new.workspace d
           b) q
           (before_reported v _ _ _ (suc n) b (sym (ap (λ d. d.contents) inv.device))
@@ -116,3 +141,37 @@ returns-clause-unread g c = λ none.
     let first = c.first_looked_at-first in
     let below : first.result < inodes_of c.args.geometry.now.layout = omega arith in
     absurd (both_ways _ (none first.result first.ensures.range.0 below) (first.ensures.found below))
+
+-- the reads
+pub returns-in_err-note_places-clause-reads : goal.returns-in_err-note_places-clause-reads
+returns-in_err-note_places-clause-reads g c = λ b k numbered.
+    let v = c.args.geometry.now.layout in
+    let made : g.I.Image.reads c.note_places.new.image ≤ g.I.Image.reads c.args.image.now + directories_cost v b =
+    c.note_places.ensures.reads b k.gives_bytes k.claims k.survey in
+    omega (arith, made)
+
+pub returns-in_err-check_inode-clause-reads : goal.returns-in_err-check_inode-clause-reads
+returns-in_err-check_inode-clause-reads g c = λ b k numbered.
+    let v = c.args.geometry.now.layout in
+    let inv = c.loop-number.invariant in
+    let n = c.loop-number.number in
+    let lines = directory_lines (volume_of v b) in
+    let last = checked_on line_reads path_reads n _ _ (directories_cost v b)
+    (costs_all (directory_cost v b) n) (directory_cost v b n) (g.I.Image.reads c.args.image.now) (length (lines n))
+    (length (lines_from lines (n + 1) (inodes_of v - (n + 1)))) (length (lines_from lines 2 (inodes_of v - 2)))
+    (c.check_inode.ensures.reads b
+    (before_reported v _ _ _ n b (ap (λ d. d.contents) inv.device) (inv.before b k)) (inv.noted b k numbered))
+    (rw (next_long lines n (inodes_of v) (omega arith)) at (inv.reads b k numbered)) in
+    let taken = cost_take (λ s. true) (directory_cost v b) n refl in
+    let rise = costs_rise (λ s. true) (directory_cost v b) (n + 1) (inodes_of v) (omega arith) in
+    let paths = mul-le-mul_left {m = n + 1} {n = inodes_of v} path_reads (omega arith) in
+    omega (arith, last, taken, rise, paths)
+
+pub returns-clause-reads : goal.returns-clause-reads
+returns-clause-reads g c = λ b k numbered.
+    let v = c.args.geometry.now.layout in
+    let n = c.loop-number.number in
+    let now = c.loop-number.invariant.reads b k numbered in
+    let rise = costs_rise (λ s. true) (directory_cost v b) n (inodes_of v) (omega arith) in
+    let paths = mul-le-mul_left {m = n} {n = inodes_of v} path_reads (omega arith) in
+    omega (arith, now, rise, paths)

@@ -1,4 +1,4 @@
-use Rattle.std.proofs.Common.{◌≡◌, ◌-◌, ◌≤◌, map}
+use Rattle.std.proofs.Common.{◌≡◌, ◌+◌, ◌*◌, ◌-◌, ◌≤◌, length, map}
 use Rattle.ffs_phase.specs.Known.{ForBytes}
 use Rattle.ffs_phase.specs.Runs.{SaidOf}
 use Rattle.ffs_report.specs.Progress.{progress}
@@ -8,6 +8,10 @@ use Rattle.ffs_volume.specs.Directories.Volumes.{volume_of}
 use Rattle.ffs_workspace.specs.Lengths.{inodes_of}
 use Rattle.ffs_pathnames.specs.Ready.{ReadyWith}
 use Rattle.ffs_pathnames.specs.Before.{IsBefore}
+use Rattle.ffs_volume.specs.Report.Reads.{line_reads, path_reads}
+use Rattle.ffs_survey.specs.Costs.{costs_all}
+use Rattle.ffs_names.specs.Costs.{directories_cost, directory_cost}
+use Rattle.ffs_workspace.specs.Places.{AreChunksNumbered, AreNoted}
 use Rattle.ffs_pathnames.proofs.tree.check_inodes.Given as goal
 
 abbrev pub invariant-loop-number : goal.invariant-loop-number
@@ -16,6 +20,16 @@ invariant-loop-number g l = record {
   device : g.I.Image.device l.image ≡ g.I.Image.device l.fn.image;
   low : 2 ≤ l.number;
   references : l.workspace.references ≡ l.fn.workspace.references;
+  noted : ForBytes (λ b. IsBefore l.geometry.layout (g.I.Image.device l.fn.image).contents l.fn.workspace 2 b)
+      (λ b. AreChunksNumbered l.geometry.layout → AreNoted l.geometry.layout b l.workspace.queue.items);
+  reads : ForBytes (λ b. IsBefore l.geometry.layout (g.I.Image.device l.fn.image).contents l.fn.workspace 2 b)
+      (λ b. AreChunksNumbered l.geometry.layout → g.I.Image.reads l.image
+      + line_reads * length (lines_from (directory_lines (volume_of l.geometry.layout b)) l.number
+      (inodes_of l.geometry.layout - l.number))
+      ≤ g.I.Image.reads l.fn.image + (directories_cost l.geometry.layout b
+      + 2 * costs_all (directory_cost l.geometry.layout b) l.number + path_reads * l.number
+      + line_reads * length (lines_from (directory_lines (volume_of l.geometry.layout b)) 2
+      (inodes_of l.geometry.layout - 2))));
   before : ForBytes (λ b. IsBefore l.geometry.layout (g.I.Image.device l.fn.image).contents l.fn.workspace 2 b)
       (λ b. IsBefore l.geometry.layout (g.I.Image.device l.fn.image).contents l.workspace l.number b);
   said : SaidOf (λ b. IsBefore l.geometry.layout (g.I.Image.device l.fn.image).contents l.fn.workspace 2 b)

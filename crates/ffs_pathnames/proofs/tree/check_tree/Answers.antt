@@ -1,4 +1,4 @@
-use Rattle.std.proofs.Common.{[], List, ℕ, map, refl, sym, ◌∙◌, append-nil, true, false, arith}
+use Rattle.std.proofs.Common.{[], List, ℕ, map, refl, sym, ◌∙◌, append-nil, true, false, arith, length}
 use Rattle.std.specs.Prelude.{◌-◌}
 use Rattle.std.proofs.lemmas.Result.{err_from_is_err_and}
 use Rattle.ffs_volume.proofs.Sizes.{some_inodes}
@@ -10,6 +10,9 @@ use Rattle.ffs_volume.specs.Encodings.Kinds.{is_dir_kind}
 use Rattle.ffs_workspace.specs.Lengths.{inodes_of}
 use Rattle.ffs_pathnames.specs.Before.{root_said}
 use Rattle.ffs_pathnames.proofs.Carrying.{at_fault, goes_is, root_kind_is, root_marked_is, tree_is, tree_lines}
+use Rattle.ffs_volume.specs.Report.Reads.{line_reads}
+use Rattle.ffs_pathnames.proofs.CostLaws.{lines_long}
+use Rattle.std.proofs.Math.Nat.{mul-le-mul_left}
 use Rattle.ffs_pathnames.proofs.tree.check_tree.Goals as goal
 
 pub index-kind-requires : goal.index-kind-requires
@@ -108,3 +111,33 @@ returns-in_ok-check_inodes-in-Go-clause-goes g c = λ b k. c.in-Go.ensures
 
 pub returns-in-Stop-clause-holds : goal.returns-in-Stop-clause-holds
 returns-in-Stop-clause-holds g c = λ b k. (k.claims, k.survey)
+
+pub returns-in_err-check_inodes-in-Go-clause-reads : goal.returns-in_err-check_inodes-in-Go-clause-reads
+returns-in_err-check_inodes-in-Go-clause-reads g c = λ b k numbered.
+    let v = c.args.geometry.now.layout in
+    let w = c.args.workspace.now in
+    let kind = c.index-kind.result.now in
+    let marked = c.index-marked.result.now in
+    let long = lines_long (pathname_lines (volume_of v b)) (root_said kind marked) (tree_lines v b true)
+    (tree_is v b w kind marked true
+    (root_kind_is v w _ c.args.geometry.now.sound c.requires.made c.index-kind.ensures)
+    (root_marked_is v w _ c.args.geometry.now.sound c.requires.made c.index-marked.ensures) k.claims c.in-Go.ensures) in
+    let reads = c.check_inodes.ensures.reads b k numbered in
+    let more = mul-le-mul_left {m = length (tree_lines v b true)} {n = length (pathname_lines (volume_of v b))} line_reads
+    (omega (arith, long)) in
+    omega (arith, reads, more)
+
+pub returns-in_ok-check_inodes-in-Go-clause-reads : goal.returns-in_ok-check_inodes-in-Go-clause-reads
+returns-in_ok-check_inodes-in-Go-clause-reads g c = λ b k numbered.
+    let v = c.args.geometry.now.layout in
+    let w = c.args.workspace.now in
+    let kind = c.index-kind.result.now in
+    let marked = c.index-marked.result.now in
+    let long = lines_long (pathname_lines (volume_of v b)) (root_said kind marked) (tree_lines v b true)
+    (tree_is v b w kind marked true
+    (root_kind_is v w _ c.args.geometry.now.sound c.requires.made c.index-kind.ensures)
+    (root_marked_is v w _ c.args.geometry.now.sound c.requires.made c.index-marked.ensures) k.claims c.in-Go.ensures) in
+    let reads = c.check_inodes.ensures.reads b k numbered in
+    let more = mul-le-mul_left {m = length (tree_lines v b true)} {n = length (pathname_lines (volume_of v b))} line_reads
+    (omega (arith, long)) in
+    omega (arith, reads, more)
