@@ -10,7 +10,7 @@ use ffs_samples::{Number, geometry, put};
 use std::alloc::{AllocError, Global};
 use std::test::Fail;
 
-// The words of its group block that aren't 0, by their place.
+/// The words of its group block that aren't 0, by their place.
 const BLOCK: [Number; 13] = [
     (4, 4, 0x00090255),
     (20, 4, 128),
@@ -36,7 +36,7 @@ fn reported(findings: Findings) -> [bool; 4] {
     ]
 }
 
-// The root alone, whose chunk is fragment 36: 33 to 35 and 37 to 39 are free, and 22 whole blocks.
+/// The root alone, whose chunk is fragment 36: 33 to 35 and 37 to 39 are free, and 22 whole blocks.
 fn used_by_root(alloc: Global) -> Result<FragmentMap, AllocError>
     ensures { IfOk result (λ map. map.size ≡ 128) }
 {
@@ -52,7 +52,7 @@ fn kinds_of_root() -> [u8; 32] {
     kinds
 }
 
-// A summary record with these counts, and the group block with this word in place of its own.
+/// A summary record with these counts, and the group block with this word in place of its own.
 fn records(summary: [u8; 4], wrong: Number) -> ([u8; 16], [u8; 1024]) {
     let [dirs, blocks, inodes, fragments] = summary;
     let record = [
@@ -64,7 +64,7 @@ fn records(summary: [u8; 4], wrong: Number) -> ([u8; 16], [u8; 1024]) {
     (record, block)
 }
 
-// The counts of the summary and of the runs.
+/// The counts of the summary and of the runs.
 fn counts_of_root(alloc: Global) -> Result<([u32; 4], [u64; 9]), Fail> {
     let geometry = geometry(Order::Little)?;
     let used = used_by_root(alloc)?;
@@ -83,7 +83,7 @@ fn counts_of_a_root(rt: HostRuntime) -> Result<(), Fail> {
     Ok(())
 }
 
-// What is found of the root's group with this summary record, and this word in its group block.
+/// What is found of the root's group with this summary record, and this word in its group block.
 fn findings(summary: [u8; 4], wrong: Number, alloc: Global) -> Result<[bool; 4], Fail> {
     let geometry = geometry(Order::Little)?;
     let used = used_by_root(alloc)?;

@@ -13,8 +13,8 @@ fn fault(bytes: Vec<u8>, sector: Option<u32>) -> Option<SuperFault> {
     read_super(&mut image, sector).err()
 }
 
-// The outcomes of an image with a wrong magic in its first superblock, of one that is cut, and of
-// one whose copy differs.
+/// The outcomes of an image with a wrong magic in its first superblock, of one that is cut, and of
+/// one whose copy differs.
 fn faults(order: Order, alloc: Global) -> Result<[Option<SuperFault>; 6], AllocError> {
     let mut wrong = base(order, alloc)?;
     put(order, wrong.as_mut_slice(), &[(8192 + 1372, 4, 0)]);
@@ -51,7 +51,7 @@ fn superblocks(rt: HostRuntime) -> Result<(), Fail> {
     Ok(())
 }
 
-// The outcomes of an image whose copy of the superblock is in the other order.
+/// The outcomes of an image whose copy of the superblock is in the other order.
 fn faults_of_turned(alloc: Global) -> Result<[Option<SuperFault>; 2], AllocError> {
     let mut turned = base(Order::Little, alloc)?;
     put_super(Order::Big, turned.as_mut_slice(), 16384);
@@ -70,7 +70,7 @@ fn first_sectors(rt: HostRuntime) -> Result<(), Fail> {
     Ok(())
 }
 
-// The superblock of the base image with these numbers in the places.
+/// The superblock of the base image with these numbers in the places.
 fn found_with(
     sector: Option<u32>,
     numbers: &[(usize, u64)],
@@ -108,7 +108,7 @@ fn settings(rt: HostRuntime) -> Result<(), Fail> {
     Ok(())
 }
 
-// Two groups, the second of them moved by four fragments.
+/// Two groups, the second of them moved by four fragments.
 const TWO_GROUPS: [(usize, u64); 6] = [(36, 250), (40, 201), (44, 2), (24, 4), (28, 0), (176, 2)];
 
 #[test]
@@ -179,8 +179,8 @@ fn areas(rt: HostRuntime) -> Result<(), Fail> {
     Ok(())
 }
 
-// The inode of a directory of 4,402,345,721,856 bytes, with numbers below 0 and an address in the
-// last place.
+/// The inode of a directory of 4,402,345,721,856 bytes, with numbers below 0 and an address in the
+/// last place.
 const INODE: [Number; 8] = [
     (0, 2, 0o40755),
     (2, 2, 0xfffe),
@@ -217,7 +217,7 @@ fn inodes(rt: HostRuntime) -> Result<(), Fail> {
     Ok(())
 }
 
-// A group block: the words that aren't 0.
+/// A group block: the words that aren't 0.
 const GROUP: [Number; 10] = [
     (4, 4, 0x090255),
     (12, 4, 7),
@@ -254,7 +254,7 @@ fn groups(rt: HostRuntime) -> Result<(), Fail> {
     Ok(())
 }
 
-// The chunk of a root: `.` of 12 bytes, then `..` that fills the chunk.
+/// The chunk of a root: `.` of 12 bytes, then `..` that fills the chunk.
 fn root(order: Order) -> [u8; 512] {
     let mut chunk = [0u8; 512];
     put(order, &mut chunk, &[(0, 4, 2)]);
@@ -266,7 +266,7 @@ fn root(order: Order) -> [u8; 512] {
     chunk
 }
 
-// Whether it is an entry of the root, of this length and name.
+/// Whether it is an entry of the root, of this length and name.
 fn is_dot(entry: Option<Entry<'_>>, length: u16, name: &[u8]) -> bool {
     match entry {
         Some(entry) => {
@@ -276,7 +276,7 @@ fn is_dot(entry: Option<Entry<'_>>, length: u16, name: &[u8]) -> bool {
     }
 }
 
-// Whether a chunk begins with the root's `.` and `..`.
+/// Whether a chunk begins with the root's `.` and `..`.
 fn are_dots(chunk: &[u8; 512], order: Order) -> [bool; 2] {
     [
         is_dot(entry_at(order, chunk, 0), 12, b"."),
@@ -284,8 +284,8 @@ fn are_dots(chunk: &[u8; 512], order: Order) -> [bool; 2] {
     ]
 }
 
-// Whether there are entries at byte 4 and at the end of a chunk, and at byte 12 where its length
-// there goes past the end.
+/// Whether there are entries at byte 4 and at the end of a chunk, and at byte 12 where its length
+/// there goes past the end.
 fn stands_elsewhere(chunk: &[u8; 512], order: Order) -> [bool; 3] {
     let mut long = *chunk;
     put(order, &mut long, &[(16, 2, 504)]);
@@ -296,7 +296,7 @@ fn stands_elsewhere(chunk: &[u8; 512], order: Order) -> [bool; 3] {
     ]
 }
 
-// Whether there is an entry at byte 500 whose name, with its length before it, is this.
+/// Whether there is an entry at byte 500 whose name, with its length before it, is this.
 fn stands_last(chunk: &[u8; 512], order: Order, name: &[u8]) -> bool {
     let mut last = *chunk;
     put(order, &mut last, &[(500, 4, 5)]);

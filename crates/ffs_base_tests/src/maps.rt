@@ -5,7 +5,7 @@ use ffs_maps::FragmentMap;
 use std::alloc::{AllocError, Global};
 use std::test::Fail;
 
-// The fragments whose bits are set, in their order.
+/// The fragments whose bits are set, in their order.
 fn set_bits(map: &FragmentMap, alloc: Global) -> Result<Vec<u32>, AllocError> {
     let mut set = Vec::new(alloc);
     for fragment in 0..map.size {
@@ -16,8 +16,8 @@ fn set_bits(map: &FragmentMap, alloc: Global) -> Result<Vec<u32>, AllocError> {
     Ok(set)
 }
 
-// How many bytes a new map takes, and the bits that are set in it, after one is set, and after that
-// one is cleared.
+/// How many bytes a new map takes, and the bits that are set in it, after one is set, and after that
+/// one is cleared.
 fn one_bit(alloc: Global) -> Result<(u64, [Vec<u32>; 3]), AllocError> {
     let mut map = FragmentMap::new(alloc, 130)?;
     let held = map.held();
@@ -38,7 +38,7 @@ fn single_bits(rt: HostRuntime) -> Result<(), Fail> {
     Ok(())
 }
 
-// The bits that are set, and the words of bits that are clear from two places on.
+/// The bits that are set, and the words of bits that are clear from two places on.
 fn short_run(alloc: Global) -> Result<(Vec<u32>, [u64; 2]), AllocError> {
     let mut map = FragmentMap::new(alloc, 130)?;
     map.set_run(62, 5);
@@ -46,7 +46,7 @@ fn short_run(alloc: Global) -> Result<(Vec<u32>, [u64; 2]), AllocError> {
     Ok((set_bits(&map, alloc)?, clear))
 }
 
-// The run 62 to 66 lies in two words.
+/// The run 62 to 66 lies in two words.
 #[test]
 fn run_in_two_words(rt: HostRuntime) -> Result<(), Fail> {
     let (set, clear) = short_run(rt.alloc())?;
@@ -55,7 +55,7 @@ fn run_in_two_words(rt: HostRuntime) -> Result<(), Fail> {
     Ok(())
 }
 
-// The bits that are set, and how many of them are in eight ranges.
+/// The bits that are set, and how many of them are in eight ranges.
 fn two_runs(alloc: Global) -> Result<(Vec<u32>, [u32; 8]), AllocError> {
     let mut map = FragmentMap::new(alloc, 500)?;
     map.set_run(60, 140);
@@ -73,7 +73,7 @@ fn two_runs(alloc: Global) -> Result<(Vec<u32>, [u32; 8]), AllocError> {
     Ok((set_bits(&map, alloc)?, counts))
 }
 
-// Runs of more than a word, 60 to 199 and 300 to 319, and how many of their bits are in others.
+/// Runs of more than a word, 60 to 199 and 300 to 319, and how many of their bits are in others.
 #[test]
 fn longer_runs(rt: HostRuntime) -> Result<(), Fail> {
     let (set, counts) = two_runs(rt.alloc())?;
@@ -86,7 +86,7 @@ fn longer_runs(rt: HostRuntime) -> Result<(), Fail> {
     Ok(())
 }
 
-// Which of four claims are made, and the bits that are set before the last one.
+/// Which of four claims are made, and the bits that are set before the last one.
 fn four_claims(alloc: Global) -> Result<([bool; 4], Vec<u32>), AllocError> {
     let mut map = FragmentMap::new(alloc, 130)?;
     let first = map.claim(8, 4);
@@ -105,7 +105,7 @@ fn claims(rt: HostRuntime) -> Result<(), Fail> {
     Ok(())
 }
 
-// Whether a claim of a whole word is made, and the bits that are set.
+/// Whether a claim of a whole word is made, and the bits that are set.
 fn word_claim(alloc: Global) -> Result<(bool, Vec<u32>), AllocError> {
     let mut map = FragmentMap::new(alloc, 130)?;
     let made = map.claim(64, 64);
@@ -124,7 +124,7 @@ fn whole_word(rt: HostRuntime) -> Result<(), Fail> {
     Ok(())
 }
 
-// How many bits are set at first and after each of five steps, and which claims are made.
+/// How many bits are set at first and after each of five steps, and which claims are made.
 fn counted(alloc: Global) -> Result<([u32; 6], [bool; 3]), AllocError> {
     let mut map = FragmentMap::new(alloc, 130)?;
     let fresh = map.count_ones();
@@ -149,7 +149,7 @@ fn counted(alloc: Global) -> Result<([u32; 6], [bool; 3]), AllocError> {
     ))
 }
 
-// Bits that are set twice, cleared twice and claimed: 5, 64 to 127, and the last two.
+/// Bits that are set twice, cleared twice and claimed: 5, 64 to 127, and the last two.
 #[test]
 fn ones(rt: HostRuntime) -> Result<(), Fail> {
     let (counts, made) = counted(rt.alloc())?;
@@ -158,7 +158,7 @@ fn ones(rt: HostRuntime) -> Result<(), Fail> {
     Ok(())
 }
 
-// How many bits of four parts are set, and of all.
+/// How many bits of four parts are set, and of all.
 fn parts_counted(alloc: Global) -> Result<[u32; 5], AllocError> {
     let mut map = FragmentMap::new(alloc, 640)?;
     map.set_run(0, 256);
@@ -172,8 +172,8 @@ fn parts_counted(alloc: Global) -> Result<[u32; 5], AllocError> {
     ])
 }
 
-// Parts whose words are all set, all clear, and neither: the bits up to 255 are set, and 300 to
-// 319.
+/// Parts whose words are all set, all clear, and neither: the bits up to 255 are set, and 300 to
+/// 319.
 #[test]
 fn ones_of_alike_words(rt: HostRuntime) -> Result<(), Fail> {
     same(&rt, &parts_counted(rt.alloc())?, &[256, 128, 0, 276, 276]);

@@ -1,8 +1,7 @@
 //! What ends a run before its report is complete.
 
 use ffs_image::ImageFault;
-use ffs_phase::RunFault;
-use ffs_report::OutFault;
+use ffs_report::{OutFault, RunFault};
 use std::test::Fail;
 
 fn failed_read() -> Result<(), RunFault> {

@@ -7,7 +7,7 @@ use std::io;
 use std::io::{BufWriter, ErrorKind, Write};
 use std::test::Fail;
 
-// A writer whose n-th write fails, and no other. It keeps what the others took.
+/// A writer whose n-th write fails, and no other. It keeps what the others took.
 #[derive(Drop)]
 struct FailsOnce {
     nth: u64,
@@ -47,7 +47,7 @@ impl Write for FailsOnce {
 const TEXT: &[u8] =
     b"** Phase 1 - Check Blocks and Sizes\n** Phase 1 - Check Blocks and Sizes\n** Phase 1 - Check Blocks and Sizes\n** Phase 1 - Check Blocks and Sizes\n";
 
-// Says a line four times, and flushes.
+/// Says a line four times, and flushes.
 fn say_four<W: Output>(out: &mut W) -> bool {
     let mut report = Report::new(out);
     let mut fine = true;
@@ -57,7 +57,7 @@ fn say_four<W: Output>(out: &mut W) -> bool {
     fine
 }
 
-// What came of four lines whose n-th write fails, and of a flush.
+/// What came of four lines whose n-th write fails, and of a flush.
 #[derive(Drop)]
 struct Outcome {
     said: bool,
@@ -101,7 +101,7 @@ fn an_interrupted_write_is_tried_again(rt: HostRuntime) -> Result<(), Fail> {
     Ok(())
 }
 
-// Whether an empty write, one of a byte, another empty one and a flush are fine.
+/// Whether an empty write, one of a byte, another empty one and a flush are fine.
 fn written_to_none() -> [bool; 4] {
     let mut none: [u8; 0] = [];
     let mut writer = SilentWriter::new(none.as_mut_slice());
@@ -119,7 +119,7 @@ fn a_write_that_takes_nothing_fails(rt: HostRuntime) -> Result<(), Fail> {
     Ok(())
 }
 
-// A write that fails isn't tried again by an output, not even one that a signal interrupts.
+/// A write that fails isn't tried again by an output, not even one that a signal interrupts.
 #[test]
 fn a_put_is_one_write(rt: HostRuntime) -> Result<(), Fail> {
     for kind in [ErrorKind::StorageFull, ErrorKind::Interrupted] {

@@ -124,7 +124,7 @@ const NAMED: [bool; 8] = [false, false, false, true, true, true, true, false];
 
 const REACHED: [bool; 8] = [false, false, true, true, false, false, false, false];
 
-// Where counts start that continue from what the list holds, at most 32769.
+/// Where counts start that continue from what the list holds, at most 32769.
 fn starts(alloc: Global) -> Result<FilledList<u64>, AllocError>
     ensures { IfOk result (λ list. vec_len list ≡ 8) }
 {
@@ -139,7 +139,7 @@ fn starts(alloc: Global) -> Result<FilledList<u64>, AllocError>
     Ok(list)
 }
 
-// What a survey of the volume leaves.
+/// What a survey of the volume leaves.
 #[derive(Drop)]
 struct Surveyed {
     references: [u64; 8],
@@ -195,7 +195,7 @@ fn surveys_a_tree_and_a_cycle(rt: HostRuntime) -> Result<(), Fail> {
     Ok(())
 }
 
-// The directories that lead a cycle, and which of four are unreferenced.
+/// The directories that lead a cycle, and which of four are unreferenced.
 fn leaders(alloc: Global) -> Result<([bool; 8], [bool; 4]), AllocError> {
     let parents = numbers(&PARENTS, alloc)?;
     let mut queue = numbers(&[7; 8], alloc)?;
@@ -216,7 +216,7 @@ fn leaders(alloc: Global) -> Result<([bool; 8], [bool; 4]), AllocError> {
     Ok((leaders, unref))
 }
 
-// The least number of each cycle leads it: the root's own, and that of 5 and 6.
+/// The least number of each cycle leads it: the root's own, and that of 5 and 6.
 #[test]
 fn leads_a_cycle_by_its_least_number(rt: HostRuntime) -> Result<(), Fail> {
     let (leaders, unref) = leaders(rt.alloc())?;

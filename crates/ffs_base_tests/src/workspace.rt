@@ -13,7 +13,7 @@ use ffs_workspace::{Table, Workspace, address_in, cut_in, links_start, note_of};
 use std::alloc::Global;
 use std::test::Fail;
 
-// Two maps of two words, 25 bytes for each inode, and six blocks.
+/// Two maps of two words, 25 bytes for each inode, and six blocks.
 fn fresh(alloc: Global) -> Result<(u64, bool, [u64; 2]), Fail> {
     let geometry = geometry(Order::Little)?;
     let workspace = Workspace::new(alloc, &geometry)?;
@@ -30,7 +30,7 @@ fn fresh_workspace(rt: HostRuntime) -> Result<(), Fail> {
     Ok(())
 }
 
-// The inode 2, in the table that begins at byte 28,672.
+/// The inode 2, in the table that begins at byte 28,672.
 const ROOT: [Number; 4] = [
     (28928, 2, 0o40755),
     (28930, 2, 2),
@@ -38,7 +38,7 @@ const ROOT: [Number; 4] = [
     (28968, 4, 36),
 ];
 
-// The inodes 2 and 3, by whole blocks of the table.
+/// The inodes 2 and 3, by whole blocks of the table.
 fn by_blocks<I: Image>(
     geometry: &Geometry,
     table: &mut Table,
@@ -59,7 +59,7 @@ fn root_by_blocks(alloc: Global) -> Result<[Inode; 2], Fail> {
     Ok(by_blocks(&geometry, &mut workspace.windows.table, &mut image)?)
 }
 
-// The mode, the number of links and the size of an inode.
+/// The mode, the number of links and the size of an inode.
 fn seen(inode: &Inode) -> (u16, i16, u64) {
     (inode.mode, inode.nlink, inode.size)
 }
@@ -73,11 +73,11 @@ fn inode_in_its_table(rt: HostRuntime) -> Result<(), Fail> {
     Ok(())
 }
 
-// Inodes, and for each the part of the table that is held after it is read: the number of the first
-// inode there, and how many there are.
+/// Inodes, and for each the part of the table that is held after it is read: the number of the first
+/// inode there, and how many there are.
 type Parts = [(Inode, u32, u32); 3];
 
-// The inodes 8, 12 and 2, by parts of the table.
+/// The inodes 8, 12 and 2, by parts of the table.
 fn by_parts<I: Image>(
     geometry: &Geometry,
     table: &mut Table,
@@ -116,8 +116,8 @@ fn inode_in_a_part(rt: HostRuntime) -> Result<(), Fail> {
     Ok(())
 }
 
-// A directory of one chunk is noted by its address, from 2,147,483,776 on. Where duplicates cut an
-// inode, its cut is noted.
+/// A directory of one chunk is noted by its address, from 2,147,483,776 on. Where duplicates cut an
+/// inode, its cut is noted.
 #[test]
 fn notes(rt: HostRuntime) {
     let mut directory = inode(0o40755, 512);
@@ -132,7 +132,7 @@ fn notes(rt: HostRuntime) {
     same(&rt, &address_in(2_147_483_812), &Some(36));
 }
 
-// A count of references starts below 32768 by the links, and at 32769 where there is none.
+/// A count of references starts below 32768 by the links, and at 32769 where there is none.
 #[test]
 fn starts_by_links(rt: HostRuntime) {
     same(&rt, &(links_start(1), links_start(2)), &(32767, 32766));

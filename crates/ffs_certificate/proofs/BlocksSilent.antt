@@ -23,12 +23,12 @@ pub nil_is : {X : Type 0} (xs : List X) → is_nil xs ≡ true → xs ≡ []
 nil_is [] e = refl
 nil_is (x ∷ xs) e = absurd (cc)
 
-ok_below : (v : Layout) (fs : List ℕ) → list_all (is_fragment_in_range v) fs ≡ true → are_below v.size fs ≡ true
+in_range_below : (v : Layout) (fs : List ℕ) → list_all (is_fragment_in_range v) fs ≡ true → are_below v.size fs ≡ true
 unfolding is_fragment_in_range
-ok_below v [] e = refl
-ok_below v (f ∷ fs) e =
+in_range_below v [] e = refl
+in_range_below v (f ∷ fs) e =
     let a = and_parts (is_fragment_in_range v f) (list_all (is_fragment_in_range v) fs) e in
-    and_from (nat_lt f v.size) _ (and_parts (nat_lt f v.size) _ a.0).0 (ok_below v fs a.1)
+    and_from (nat_lt f v.size) _ (and_parts (nat_lt f v.size) _ a.0).0 (in_range_below v fs a.1)
 
 -- the fragments of Runs in range are below the size
 pub runs_below : (v : Layout) (steps : List Step) → list_all (is_step_in_range v) steps ≡ true →
@@ -37,7 +37,7 @@ runs_below v [] e = refl
 runs_below v (Run start len block ∷ steps) e =
     let a = and_parts (is_step_in_range v (Run start len block)) (list_all (is_step_in_range v) steps) e in
     list_all-append (λ f. nat_lt f v.size) (range_with_len start len) (fragments_of steps)
-    ∙ and_from _ _ (ok_below v (range_with_len start len) (run_ok v start len a.0)) (runs_below v steps a.1)
+    ∙ and_from _ _ (in_range_below v (range_with_len start len) (run_ok v start len a.0)) (runs_below v steps a.1)
 runs_below v (Tail ∷ steps) e = runs_below v steps e
 runs_below v (Gap ∷ steps) e = runs_below v steps e
 

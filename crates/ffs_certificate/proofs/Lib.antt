@@ -22,7 +22,7 @@ pub mod Forward
 pub mod DirsCertificate
 pub mod Dirs
 pub mod Backward
-pub mod Weights
+pub mod Potentials
 pub mod ClassLines
 pub mod ConditionLaws
 pub mod BaseReport

@@ -18,7 +18,7 @@ use Rattle.ffs_report.specs.Sink.{Sink}
 use Rattle.ffs_report.specs.Progress.{Progress, Said, Stopped, starts}
 use Rattle.ffs_layout.specs.declared.superblock.Super.{Super}
 use Rattle.ffs_layout.specs.Super.{ReadsSuper, superblock_in}
-use Rattle.ffs_phase.specs.Known.{IsContents}
+use Rattle.ffs_report.specs.Known.{IsContents}
 use Rattle.ffs_check.specs.Ends.{Ends}
 use Rattle.ffs_check.specs.Opening.{SaysOpening}
 use Rattle.ffs_check.specs.PhaseEnds.{IsCutByRead, IsEndByRoot, SaysRefusal}
@@ -61,7 +61,8 @@ module _ (image : Device) (name : List ℕ) (sector : Option ℕ) (output : GNam
       record {
         text = text;
         is_report = report;
-        ends = ends_printed image image' text _ _ _ end output sink new (λ said e. e) ends;
+        ends = ends_printed image image' text (IsEndOfReport image sector text) (IsEndOfReport image sector text)
+            (IsCutShort image image' name sector text) end output sink new (λ said e. e) ends;
       }
 
   module _ (text : List Message)
@@ -109,9 +110,16 @@ module _ (image : Device) (name : List ℕ) (sector : Option ℕ) (output : GNam
   follows (inr ran) = record {
     text = opened_lines name sector s ++ ran.text;
     is_report = report ran.text ran.right;
-    ends = ends_printed image image' (opened_lines name sector s ++ ran.text) _ _ _ end output sink new (λ said e. e)
-        (ends_after image image' (opened_lines name sector s) ran.text _ _ _ _ end (starts output sink) p new opened
-        (whole ran.text ran.right) (later ran.text ran.right) ran.ends);
+    ends = ends_printed image image' (opened_lines name sector s ++ ran.text)
+        (IsEndOfReport image sector (opened_lines name sector s ++ ran.text))
+        (IsEndOfReport image sector (opened_lines name sector s ++ ran.text))
+        (IsCutShort image image' name sector (opened_lines name sector s ++ ran.text)) end output sink new (λ said e. e)
+        (ends_after image image' (opened_lines name sector s) ran.text
+        (IsEndByRoot (IsContents image.contents) (λ bytes. continues_after_root (volume_of s.layout bytes))
+        (false || new.defect)) (IsEndOfReport image sector (opened_lines name sector s ++ ran.text))
+        (IsCutByRead (IsContents image.contents) ran.text image image')
+        (IsCutShort image image' name sector (opened_lines name sector s ++ ran.text)) end (starts output sink) p new
+        opened (whole ran.text ran.right) (later ran.text ran.right) ran.ends);
   }
 
 pub found_ends : (image on image' : Device) (name : List ℕ) (sector : Option ℕ) (output : GName) (sink : Sink)

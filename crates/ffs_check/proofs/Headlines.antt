@@ -114,29 +114,31 @@ cut_at_super image image' name sector fault e f at text = inl (record {
   end_is = ap Refused e;
 })
 
+-- the report, where the superblock's read failed: what comes after the opening line is the image's
+abbrev whole_report : Device → List ℕ → Option ℕ → List Message
+whole_report image name sector = head_lines name sector
+    ++ at_contents image.contents (λ bytes. lines_by_outcome bytes (outcome bytes sector))
+
+whole_right : (image : Device) (name : List ℕ) (sector : Option ℕ) →
+    ForContents image.contents (λ bytes. whole_report image name sector ≡ report_of bytes name sector)
+whole_right image name sector bytes t = ap (λ more. head_lines name sector ++ more)
+    (at_known image.contents (λ bytes. lines_by_outcome bytes (outcome bytes sector)) bytes t)
+    ∙ report_there bytes name sector (outcome bytes sector) refl
+
 module _ (image image' : Device) (name : List ℕ) (sector : Option ℕ) (output : GName) (sink : Sink) (p : Progress) where
-  -- the report, where the superblock's read failed: what comes after the opening line is the image's
-  whole_report : List Message
-  whole_report = head_lines name sector
-      ++ at_contents image.contents (λ bytes. lines_by_outcome bytes (outcome bytes sector))
-
-  whole_right : ForContents image.contents (λ bytes. whole_report ≡ report_of bytes name sector)
-  whole_right bytes t = ap (λ more. head_lines name sector ++ more)
-      (at_known image.contents (λ bytes. lines_by_outcome bytes (outcome bytes sector)) bytes t)
-      ∙ report_there bytes name sector (outcome bytes sector) refl
-
   -- ---- the opening ended the run
   refused : (fault : SuperFault) → ReadsSuper image image' sector (Err fault) →
       Said (starts output sink) p (opening_lines name sector (Err fault)) →
       Headline image image' name sector sink p.sink (Refused fault)
   refused fault (inl failed) said = record {
-    text = whole_report;
-    is_report = whole_right;
+    text = whole_report image name sector;
+    is_report = whole_right image name sector;
     ends = inr (inl (record {
       said = head_lines name sector;
       line = fault_line fault;
       fault_end = Refused fault;
-      cut = cut_at_super image image' name sector fault failed.0.0 failed.0.1 failed.1 whole_report;
+      cut = cut_at_super image image' name sector fault failed.0.0 failed.0.1 failed.1
+          (whole_report image name sector);
       ends = inl (said.took, refl);
     }));
   }
@@ -187,13 +189,14 @@ module _ (image image' : Device) (name : List ℕ) (sector : Option ℕ) (output
       BrokeOffInLine Said Stopped (starts output sink) p (head_lines name sector) (fault_line fault) →
       Headline image image' name sector sink p.sink WriteFault
   stopped_in_line fault (inl failed) stop = record {
-    text = whole_report;
-    is_report = whole_right;
+    text = whole_report image name sector;
+    is_report = whole_right image name sector;
     ends = inr (inl (record {
       said = head_lines name sector;
       line = fault_line fault;
       fault_end = Refused fault;
-      cut = cut_at_super image image' name sector fault failed.0.0 failed.0.1 failed.1 whole_report;
+      cut = cut_at_super image image' name sector fault failed.0.0 failed.0.1 failed.1
+          (whole_report image name sector);
       ends = inr (broke_in_line (starts output sink) p (head_lines name sector) (fault_line fault) refl stop, refl);
     }));
   }

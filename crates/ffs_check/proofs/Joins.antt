@@ -4,10 +4,10 @@ use Rattle.std.proofs.Common.{◌≡◌, refl, ℕ, List, ◌++◌, Result, Ok, 
 use Rattle.ffs_image.specs.Device.{Device}
 use Rattle.ffs_volume.specs.Disk.Superblock.{Superblock}
 use Rattle.ffs_volume.specs.Report.Whole.{phase_lines, later_phase_lines}
-use Rattle.ffs_phase.specs.Known.{ForBytes}
-use Rattle.ffs_phase.specs.Runs.{ImageAfter}
-use Rattle.ffs_phase.specs.declared.fault.RunFault.{RunFault}
-use Rattle.ffs_phase.specs.declared.fault.RunFault.TheVariants.{Read, Out}
+use Rattle.ffs_report.specs.Known.{ForBytes}
+use Rattle.ffs_report.specs.Runs.{ImageAfter}
+use Rattle.ffs_report.specs.declared.fault.RunFault.{RunFault}
+use Rattle.ffs_report.specs.declared.fault.RunFault.TheVariants.{Read, Out}
 use Rattle.ffs_check.specs.Rest.{phase1_part, from_phase1b}
 
 pub on_knows : (T : Type 0) (knows known P : List ℕ → Type 0) (r : Result T RunFault) → ForBytes knows known →

@@ -18,7 +18,7 @@ use Rattle.ffs_volume.specs.Report.Whole.{phase_lines, report_of}
 use Rattle.ffs_layout.specs.declared.superblock.Super.{Super}
 use Rattle.ffs_layout.specs.Super.{ReadsSuper, superblock_in}
 use Rattle.ffs_report.specs.Progress.{Progress}
-use Rattle.ffs_phase.specs.Known.{ForBytes, IsContents}
+use Rattle.ffs_report.specs.Known.{ForBytes, IsContents}
 use Rattle.ffs_workspace.specs.Places.{AreChunksNumbered}
 use Rattle.ffs_check.specs.Headline.{opened_lines}
 use Rattle.ffs_check.specs.Opening.{SaysOpening}

@@ -10,11 +10,11 @@ use Rattle.ffs_volume.specs.Directories.PathnameCheck.{continues_after_root, dir
 use Rattle.ffs_volume.specs.Directories.PathnameCheck.{root_lines}
 use Rattle.ffs_volume.specs.Directories.PathnameCheck.{root_lines_of}
 use Rattle.ffs_report.specs.Progress.{Progress, Said}
-use Rattle.ffs_phase.specs.Known.{ForBytes}
-use Rattle.ffs_phase.specs.Runs.{PhaseReports}
-use Rattle.ffs_phase.specs.declared.fault.RunFault.{RunFault}
-use Rattle.ffs_phase.specs.declared.fault.RunFault.TheVariants.{Read, Out}
-use Rattle.ffs_phase.proofs.Reporting.{of_says, of_fault, reports_knowing}
+use Rattle.ffs_report.specs.Known.{ForBytes}
+use Rattle.ffs_report.specs.Runs.{PhaseReports}
+use Rattle.ffs_report.specs.declared.fault.RunFault.{RunFault}
+use Rattle.ffs_report.specs.declared.fault.RunFault.TheVariants.{Read, Out}
+use Rattle.ffs_report.proofs.Reporting.{of_says, of_fault, reports_knowing}
 use Rattle.ffs_pathnames.specs.GoesOn.{AtReadFault}
 use Rattle.ffs_check.specs.PhaseEnds.{ReportsBefore}
 use Rattle.ffs_check.proofs.Stages.{Stage, falls, some_more, more_after}

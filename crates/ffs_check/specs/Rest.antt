@@ -2,7 +2,7 @@
 -- bytes there.
 use Rattle.std.specs.Prelude.{◌≡◌, ℕ, Bool, if◌then◌else◌, List, [], ◌∷◌, ◌++◌, map}
 use Rattle.ffs_image.specs.Device.{Device}
-use Rattle.ffs_phase.specs.Known.{IsContents}
+use Rattle.ffs_report.specs.Known.{IsContents}
 use Rattle.ffs_volume.specs.declared.Layout.{Layout}
 use Rattle.ffs_volume.specs.Disk.Superblock.{Superblock}
 use Rattle.ffs_volume.specs.Messages.Kinds.{Message, phase1, phase2, phase3, phase4, phase5, of_blocks, of_tree}

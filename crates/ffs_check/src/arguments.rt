@@ -13,7 +13,7 @@ use std::alloc::{AllocError, Global};
 /// The first sector that can't be asked for.
 const SECTOR_END: i64 = 4194304;
 
-// `-n` or `-N`: nothing is written.
+/// `-n` or `-N`: nothing is written.
 fn answer_no_argument<'a>(alloc: Global) -> Result<Arg<'a>, AllocError>
     ensures rule { IfOk result (λ argument. rule_of argument ≡ no_rule) }
     ensures local { IfOk result (λ argument. argument.global ≡ false) }
@@ -27,7 +27,7 @@ fn answer_no_argument<'a>(alloc: Global) -> Result<Arg<'a>, AllocError>
     )
 }
 
-// `-b sector`: where the superblock is.
+/// `-b sector`: where the superblock is.
 fn sector_argument<'a>(alloc: Global) -> Arg<'a>
     ensures rule { rule_of result ≡ sector_rule }
     ensures local { result.global ≡ false }
@@ -39,7 +39,7 @@ fn sector_argument<'a>(alloc: Global) -> Arg<'a>
         .value_parser(clap::value_parser!(u32).range(1..SECTOR_END))
 }
 
-// The image.
+/// The image.
 fn image_argument<'a>(alloc: Global) -> Arg<'a>
     ensures rule { rule_of result ≡ image_rule }
     ensures local { result.global ≡ false }
@@ -49,7 +49,7 @@ fn image_argument<'a>(alloc: Global) -> Arg<'a>
         .action(ArgAction::Set)
 }
 
-// The arguments that the program takes.
+/// The arguments that the program takes.
 fn command<'a>(alloc: Global) -> Result<Command<'a>, Error>
     ensures { MatchResult result (λ command. app_of command ≡ program)
         (λ error. kind_of error ≡ OutOfMemory) }
@@ -65,7 +65,7 @@ fn command<'a>(alloc: Global) -> Result<Command<'a>, Error>
     )
 }
 
-// Asks `clap` what the words say: the one call that may say of them that memory was refused.
+/// Asks `clap` what the words say: the one call that may say of them that memory was refused.
 #[tactic(auto, unfolding(crate::specs::Words::LacksMemory))]
 fn matches_of<'a>(alloc: Global, words: &'a [&'a str]) -> Result<ArgMatches<'a>, Error>
     ensures { MatchResult result (HasMatches (map (λ word. word.now) words.now))

@@ -36,7 +36,7 @@ const SECTOR_RANGE: &str = "a sector is 1 to 4194303";
 /// The letters of fsck(8) that ask for repair.
 const REPAIR_LETTERS: [char; 3] = ['y', 'p', 'f'];
 
-// Passes a text on to the end of its first line.
+/// Passes a text on to the end of its first line.
 #[derive(Drop)]
 struct FirstLine<'a, E> {
     inner: &'a mut E,
@@ -63,17 +63,17 @@ impl<E: Write> Write for FirstLine<'_, E> {
     }
 }
 
-// Whether a word asks for repair: `-y`, or such a letter among others.
+/// Whether a word asks for repair: `-y`, or such a letter among others.
 fn asks_for_repair(word: &str) -> bool {
     word.starts_with('-') && !word.starts_with("--") && word.contains(REPAIR_LETTERS.as_slice())
 }
 
-// Writes what is wrong, and the usage.
+/// Writes what is wrong, and the usage.
 fn write_wrong<E: Write>(errors: &mut E, wrong: &str) -> io::Result<()> {
     write!(errors, "error: {wrong}\n\n{USAGE}")
 }
 
-// Writes the first line of what `clap` says, and the usage.
+/// Writes the first line of what `clap` says, and the usage.
 fn write_first_line<E: Write>(errors: &mut E, error: &Error) -> io::Result<()> {
     let mut line = FirstLine {
         inner: errors,

@@ -21,7 +21,7 @@ use Rattle.ffs_volume.specs.Blocks.Owners.{Owner, owners_of}
 use Rattle.ffs_volume.specs.Blocks.Claims.{Claims, no_claims, at_next_inode, is_open, is_set, after_offer, after_offers}
 use Rattle.ffs_volume.specs.Blocks.Claims.{after_run, after_step, after_steps, after_owner, after_owners, offer_lines}
 use Rattle.ffs_volume.specs.Blocks.Claims.{lines_of_offers, run_lines, step_lines, lines_of_steps}
-use Rattle.ffs_volume.proofs.Weights.{cond_holds, ok_below, count_set}
+use Rattle.ffs_volume.proofs.Potentials.{cond_holds, in_range_below, count_set}
 use Rattle.ffs_volume.specs.Blocks.BlockCheck.{Offer, class_lines, count_lines, owner_lines, lines_of_owners}
 use Rattle.ffs_volume.specs.Blocks.BlockCheck.{kept_in_owners, phase1_lines, phase1b_lines, is_dup_line, has_rescan}
 use Rattle.ffs_volume.specs.Blocks.BlockCheck.{blames, first_offer_lines}
@@ -81,7 +81,7 @@ offer_doubles v i s f h = one (nat_lt s.dups 11) refl (is_fragment_in_range v f)
     one true q true kq false uq = from [] (record s { kept = s.kept + 1; used = slice_set s.used f true })
         (rw (q, kq, uq) refl) (rw (q, kq, uq) refl) (refl, refl)
     one true q true kq true uq =
-        let low = ok_below v f kq in
+        let low = in_range_below v f kq in
         from (Dup f i ∷ (if s.dups == 10 then ManyDup i ∷ [] else []))
         (record s { kept = s.kept + 1; dups = s.dups + 1; dup = slice_set s.dup f true }) (rw (q, kq, uq) refl)
         (rw (q, kq, uq) refl)

@@ -17,13 +17,13 @@ use Rattle.ffs_volume.specs.Blocks.Steps.{steps_of, steps_of_addresses, is_walke
 use Rattle.ffs_volume.specs.Disk.Areas.{is_fragment_in_range, is_run_in_range}
 use Rattle.ffs_volume.specs.Blocks.Claims.{Claims, is_open, is_set, after_offer, after_offers, after_step, after_steps}
 use Rattle.ffs_volume.specs.Blocks.Claims.{offer_lines, lines_of_offers, step_lines, lines_of_steps, run_lines}
-use Rattle.ffs_volume.proofs.Weights.{ok_below}
+use Rattle.ffs_volume.proofs.Potentials.{in_range_below}
 use Rattle.ffs_volume.specs.Messages.Kinds.{Message, of_blocks}
 use Rattle.ffs_report.specs.Progress.{Progress, Said, Stopped}
 use Rattle.ffs_report.proofs.Reports.{stopped_more, said_then, stopped_after}
-use Rattle.ffs_phase.specs.Known.{ForBytes}
-use Rattle.ffs_phase.specs.Runs.{SaidOf, SaidTo}
-use Rattle.ffs_phase.proofs.Reporting.{of_says, of_same}
+use Rattle.ffs_report.specs.Known.{ForBytes}
+use Rattle.ffs_report.specs.Runs.{SaidOf, SaidTo}
+use Rattle.ffs_report.proofs.Reporting.{of_says, of_same}
 use Rattle.ffs_claims.specs.Lines.{of_lines, is_dup, bad_lines}
 
 pub lines_append : (xs ys : List BlockMessage) → of_lines (xs ++ ys) ≡ of_lines xs ++ of_lines ys
@@ -41,7 +41,7 @@ range_more j n m e = rw e (search rules)
 
 -- a dup offer is a fragment of the volume
 pub dup_below : (v : Layout) (s : Claims) (f : ℕ) → is_dup v s f ≡ true → f < v.size
-dup_below v s f e = ok_below v f (and_parts (is_fragment_in_range v f) (is_set s.used f)
+dup_below v s f e = in_range_below v f (and_parts (is_fragment_in_range v f) (is_set s.used f)
     (and_parts (nat_lt s.dups 11) _ e).1).0
 
 -- an offer is kept at most once, and no Run is seen by it

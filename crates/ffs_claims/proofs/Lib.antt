@@ -1,5 +1,5 @@
 pub mod Frames
-pub mod Weights
+pub mod Potentials
 pub mod Rescans
 pub mod Goes
 pub mod OneBit

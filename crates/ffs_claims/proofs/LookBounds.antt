@@ -16,7 +16,8 @@ use Rattle.ffs_volume.specs.Blocks.Claims.{after_steps, after_owner, after_owner
 use Rattle.ffs_volume.specs.Laws.ClaimBounds.{used_bits}
 use Rattle.ffs_volume.specs.Blocks.BlockCheck.{Offer}
 use Rattle.ffs_volume.specs.Report.Whole.{run_count}
-use Rattle.ffs_volume.proofs.Weights.{cond_holds, owner_moves}
+use Rattle.ffs_volume.proofs.Potentials.{cond_holds}
+use Rattle.ffs_volume.proofs.RunBounds.{runs_bounded}
 use Rattle.ffs_workspace.specs.Lengths.{set_count}
 use Rattle.ffs_claims.specs.Reporting.{after_first}
 use Rattle.ffs_claims.specs.SecondLook.{step_runs, steps_runs, owners_runs, looked_at, second_look}
@@ -83,25 +84,7 @@ look_most v bytes =
       owners_seen v (no_claims v) (owners_of v bytes),
     )
 
--- and each Run that is seen uses up a fragment, a bad Run or a dup offer
-inodes_move : (v : Layout) (image : List ℕ) (s : Claims) (xs : List ℕ) → IsAcceptedLayout v → length s.used ≡ v.size →
-    ((after_owners v s (map (owner_of v image) xs)).runs + used_bits s ≤ s.runs
-    + used_bits (after_owners v s (map (owner_of v image) xs)) + 22 * length xs)
-    × (length (after_owners v s (map (owner_of v image) xs)).used ≡ v.size)
-inodes_move v image s [] g h = (omega arith, h)
-inodes_move v image s (x ∷ xs) g h =
-    let one = owner_moves v image s x g h in
-    let more = inodes_move v image (after_owner v s (owner_of v image x)) xs g (one.used_length ∙ h) in
-    let few = one.bad_cap (omega arith) in
-    let few_dups = one.dups_cap (omega arith) in
-    (omega (arith, one.weighs, more.0, few, few_dups), more.1)
-
+-- and the Runs that are seen are bounded
 pub look_fits : (v : Layout) (bytes : List ℕ) → IsAcceptedLayout v → second_look v bytes < 2 ^ 64
-unfolding run_count owners_of no_claims reserved_map
 look_fits v bytes g =
-    let all = inodes_move v bytes (no_claims v) (inode_numbers v) g
-    (length-map-range_with_len (is_reserved v) 0 v.size) in
-    let many = length-range_with_len 2 (v.ncg * v.ipg - 2) in
-    let used = count_by-le-length (λ b. b) (after_owners v (no_claims v)
-    (map (owner_of v bytes) (inode_numbers v))).used in
-    omega (arith, all.0, all.1, many, used, look_most v bytes, g.numbers.inodes_below, g.numbers.size_below)
+    omega (arith, runs_bounded v bytes g, look_most v bytes, g.numbers.inodes_below, g.numbers.size_below)

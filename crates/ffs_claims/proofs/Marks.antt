@@ -22,7 +22,7 @@ use Rattle.ffs_volume.specs.Blocks.BlockCheck.{blames, class_lines, count_lines,
 use Rattle.ffs_volume.specs.Blocks.BlockCheck.{phase1_lines, phase1b_lines, is_marked}
 use Rattle.ffs_volume.specs.Blocks.KeptSteps.{claims_before}
 use Rattle.ffs_volume.specs.Directories.Volumes.{is_inode_number, marked_at}
-use Rattle.ffs_volume.proofs.Weights.{cond_holds}
+use Rattle.ffs_volume.proofs.Potentials.{cond_holds}
 use Rattle.ffs_workspace.specs.Holds.{has_blame, first_marked_at}
 use Rattle.ffs_workspace.specs.Lengths.{inodes_of}
 use Rattle.ffs_claims.proofs.Numbers.{before_next, before_first}

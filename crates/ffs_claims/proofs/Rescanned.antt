@@ -21,7 +21,7 @@ use Rattle.ffs_volume.specs.Blocks.Claims.{after_steps, after_owner, after_owner
 use Rattle.ffs_volume.specs.Blocks.BlockCheck.{Offer, blames, kept_in_offers, kept_in_step, kept_in_steps}
 use Rattle.ffs_volume.specs.Blocks.BlockCheck.{kept_in_owners, first_offer_lines, phase1b_lines}
 use Rattle.ffs_volume.specs.Blocks.KeptSteps.{claims_before}
-use Rattle.ffs_volume.proofs.Weights.{cond_holds}
+use Rattle.ffs_volume.proofs.Potentials.{cond_holds}
 use Rattle.ffs_volume.specs.Encodings.Replay.{fresh_replay, cut_of, cut_at}
 use Rattle.ffs_volume.specs.Encodings.ReplayCounts.{replayed_runs}
 use Rattle.ffs_volume.proofs.ReplayLaws.{replay_is_runs}

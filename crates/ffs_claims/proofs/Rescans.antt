@@ -13,7 +13,7 @@ use Rattle.ffs_volume.specs.Blocks.BlockCheck.{Offer, kept_in_offers, kept_in_ru
 use Rattle.ffs_volume.specs.Blocks.BlockCheck.{offer_of}
 use Rattle.ffs_volume.specs.Encodings.Replay.{Replay, fresh_replay, cut_of, is_replay_open, replay_after_step}
 use Rattle.ffs_volume.specs.Encodings.ReplayCounts.{replay_step_by_cut}
-use Rattle.ffs_volume.proofs.Weights.{cond_holds}
+use Rattle.ffs_volume.proofs.Potentials.{cond_holds}
 use Rattle.ffs_volume.proofs.ReplayIsKeeping.{replay_of, seen_replays, step_replays, step_few}
 use Rattle.ffs_walk.specs.Keepings.{run_taken}
 use Rattle.ffs_claims.specs.SecondLook.{step_runs, steps_runs, step_runs_again, steps_runs_again}

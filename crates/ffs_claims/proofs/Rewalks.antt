@@ -14,9 +14,9 @@ use Rattle.ffs_volume.specs.Encodings.ReplayCounts.{seen_run, replayed_runs, rep
 use Rattle.ffs_volume.proofs.ReplayLaws.{counted_same}
 use Rattle.ffs_report.specs.Progress.{Progress, Said}
 use Rattle.ffs_walk.specs.Keepings.{run_taken}
-use Rattle.ffs_phase.specs.Known.{ForBytes}
-use Rattle.ffs_phase.specs.Runs.{SaidOf}
-use Rattle.ffs_phase.proofs.Reporting.{of_says, of_same}
+use Rattle.ffs_report.specs.Known.{ForBytes}
+use Rattle.ffs_report.specs.Runs.{SaidOf}
+use Rattle.ffs_report.proofs.Reporting.{of_says, of_same}
 use Rattle.ffs_maps.specs.Bits.{bits_of}
 use Rattle.ffs_workspace.specs.declared.workspace.Workspace.{Workspace}
 use Rattle.ffs_workspace.specs.declared.workspace.Windows.{Windows}

@@ -7,7 +7,7 @@ use Rattle.ffs_volume.specs.declared.Layout.{Layout}
 use Rattle.ffs_volume.specs.declared.BlockMessage.{BlockMessage}
 use Rattle.ffs_volume.specs.Disk.Areas.{is_fragment_in_range, is_run_in_range}
 use Rattle.ffs_volume.specs.Blocks.Claims.{Claims, is_set, after_offer, after_offers, offer_lines, lines_of_offers}
-use Rattle.ffs_volume.proofs.Weights.{each_ok, ok_below}
+use Rattle.ffs_volume.proofs.Potentials.{each_ok, in_range_below}
 use Rattle.ffs_maps.specs.Bits.{set_run, AreClear}
 
 -- all its fragments are unclaimed: its offers are claimed at once, and nothing is reported of them
@@ -48,4 +48,4 @@ whole_is v s start len few fits clear = whole_from v s start len few (λ k low. 
 -- a Run in range ends in the volume
 pub run_below : (v : Layout) (start len : ℕ) → 0 < len → is_run_in_range v start len ≡ true → start + len ≤ v.size
 run_below v start len some fits = let last =
-    ok_below v (start + (len - 1)) (each_ok v start len (len - 1) fits (omega arith)) in omega arith
+    in_range_below v (start + (len - 1)) (each_ok v start len (len - 1) fits (omega arith)) in omega arith

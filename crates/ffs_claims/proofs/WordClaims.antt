@@ -10,7 +10,7 @@ use Rattle.ffs_volume.specs.Disk.Areas.{is_run_in_range}
 use Rattle.ffs_volume.specs.Blocks.Claims.{Claims, after_step, after_steps, is_open, lines_of_steps, step_lines}
 use Rattle.ffs_volume.specs.Laws.ClaimBounds.{ClaimBound}
 use Rattle.ffs_volume.specs.Laws.RunLengths.{HasLength}
-use Rattle.ffs_volume.proofs.Weights.{moves_then, stays}
+use Rattle.ffs_volume.proofs.Potentials.{moves_then, stays}
 use Rattle.ffs_maps.specs.Bits.{AreClear, set_run}
 use Rattle.ffs_maps.proofs.Bits.{bits_long}
 use Rattle.ffs_walk.specs.declared.walk.Walk.{Walk}
@@ -25,7 +25,7 @@ use Rattle.ffs_workspace.specs.Holds.{claims_of}
 use Rattle.ffs_workspace.specs.Lengths.{IsFor}
 use Rattle.ffs_claims.specs.Leaves.{ClaimsOnly}
 use Rattle.ffs_claims.specs.Words.{ClaimsSilently, ClaimsWords}
-use Rattle.ffs_claims.proofs.Weights.{moves_on}
+use Rattle.ffs_claims.proofs.Potentials.{moves_on}
 use Rattle.ffs_claims.proofs.Frames.{only_none, only_then}
 use Rattle.ffs_claims.proofs.Whole.{whole_is}
 
@@ -106,7 +106,7 @@ kept_room v u w made uncut m =
     let few : w.bad < 11 = ltb-true w.bad 11 both.0 in
     let few' : w.dups < 11 = ltb-true w.dups 11 both.1 in
     let size : length (claims_of w).used ≡ v.size = bits_long w.claimed ∙ made.claimed in
-    omega (arith, m.keeps, few, few', size, count_by-le-length (λ b. b) (claims_of w).used)
+    omega (arith, m.few_kept, few, few', size, count_by-le-length (λ b. b) (claims_of w).used)
 
 -- no word is passed over, and some after others
 pub words_none : (v : Layout) (w : Workspace) (walk : Walk) → IsFor v w → is_open (claims_of w) ≡ true →

@@ -10,9 +10,9 @@ use Rattle.ffs_volume.specs.Blocks.Claims.{Claims, after_owner, after_steps, is_
 use Rattle.ffs_volume.specs.Blocks.BlockCheck.{owner_lines}
 use Rattle.ffs_volume.specs.Laws.ClaimBounds.{used_bits, ClaimBound}
 use Rattle.ffs_report.specs.Progress.{Progress, Says}
-use Rattle.ffs_phase.specs.Known.{ForBytes, IsContents}
-use Rattle.ffs_phase.specs.Runs.{ImageAfter, PhaseReports}
-use Rattle.ffs_phase.specs.declared.fault.RunFault.{RunFault}
+use Rattle.ffs_report.specs.Known.{ForBytes, IsContents}
+use Rattle.ffs_report.specs.Runs.{ImageAfter, PhaseReports}
+use Rattle.ffs_report.specs.declared.fault.RunFault.{RunFault}
 use Rattle.ffs_workspace.specs.declared.workspace.Workspace.{Workspace}
 use Rattle.ffs_workspace.specs.Holds.{claims_of}
 use Rattle.ffs_workspace.specs.Lengths.{IsFor, inodes_of}

@@ -16,9 +16,9 @@ use Rattle.ffs_volume.specs.Encodings.Replay.{Replay, is_replay_open, fresh_repl
 use Rattle.ffs_volume.specs.Encodings.ReplayCounts.{replayed_runs, replay_step_by_cut}
 use Rattle.ffs_image.specs.Device.{Device}
 use Rattle.ffs_report.specs.Progress.{Progress}
-use Rattle.ffs_phase.specs.Known.{ForBytes, IsContents}
-use Rattle.ffs_phase.specs.Runs.{PhaseReports}
-use Rattle.ffs_phase.specs.declared.fault.RunFault.{RunFault}
+use Rattle.ffs_report.specs.Known.{ForBytes, IsContents}
+use Rattle.ffs_report.specs.Runs.{PhaseReports}
+use Rattle.ffs_report.specs.declared.fault.RunFault.{RunFault}
 use Rattle.ffs_maps.specs.Bits.{bits_of}
 use Rattle.ffs_walk.specs.Keepings.{replay_in, run_taken}
 use Rattle.ffs_walk.specs.declared.keeping.Keeping.{Keeping}

@@ -10,7 +10,7 @@
 //! if workspace.has_dups() { phase1b(&geometry, &mut image, &mut workspace, &mut report)?; }
 //! ```
 //!
-//! It rests on `ffs_workspace` and `ffs_phase`.
+//! It rests on `ffs_workspace` and `ffs_report`.
 #![tactic(auto)]
 
 mod area;

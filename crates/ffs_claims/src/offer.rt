@@ -72,7 +72,7 @@ fn fragment_in_range(geometry: &Geometry, fragment: u64, in_range: bool) -> bool
 
 /// Takes an offer, and says whether it is dup. `in_range` says that its Run is in range.
 #[inline(always)]
-#[tactic(auto, using(ffs_volume::proofs::Weights::ok_below))]
+#[tactic(auto, using(ffs_volume::proofs::Potentials::in_range_below))]
 fn take(workspace: &mut Workspace, geometry: &Geometry, fragment: u64, in_range: bool) -> bool
     requires { CanOffer geometry.now.layout workspace.old 1 in_range
         (is_fragment_in_range geometry.now.layout fragment) }

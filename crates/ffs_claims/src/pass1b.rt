@@ -2,8 +2,8 @@
 
 ghost use Rattle.std.specs.Prelude.{◌≡◌, ◌+◌, ◌-◌, ◌*◌, ◌<◌, ◌≤◌, ◌^◌, ◌∷◌, OnOk, true, slice_index};
 ghost use Rattle.ffs_report.specs.Progress.{progress, Says};
-ghost use Rattle.ffs_phase.specs.Known.{ForBytes, IsContents};
-ghost use Rattle.ffs_phase.specs.Runs.{PhaseRuns};
+ghost use Rattle.ffs_report.specs.Known.{ForBytes, IsContents};
+ghost use Rattle.ffs_report.specs.Runs.{PhaseRuns};
 ghost use Rattle.ffs_volume.specs.Blocks.BlockCheck.{first_offer_lines, phase1b_lines};
 ghost use Rattle.ffs_volume.specs.Messages.Kinds as messages;
 ghost use Rattle.ffs_volume.specs.Blocks.Owners.{owners_of};
@@ -26,8 +26,7 @@ ghost use Rattle.ffs_claims.specs.SecondLook.{Counted, Rewalks, RunsPay, StepRep
 use crate::report_claim::report_run;
 use ffs_image::Image;
 use ffs_layout::Geometry;
-use ffs_phase::RunFault;
-use ffs_report::{Heading, Line, OutFault, Output, Report};
+use ffs_report::{Heading, Line, OutFault, Output, Report, RunFault};
 use ffs_volume::{Inode, Step};
 use ffs_walk::{Keeping, Walk};
 use ffs_workspace::Workspace;

@@ -118,7 +118,7 @@ fn cut_of(workspace: &Workspace) -> u32
     workspace.kept.min(4294967295) as u32
 }
 
-// Where the count of an inode's references starts.
+/// Where the count of an inode's references starts.
 #[inline(always)]
 fn start_of(class: Class, inode: &Inode) -> u64
     ensures { result ≡ start_of class inode.now }
@@ -129,8 +129,8 @@ fn start_of(class: Class, inode: &Inode) -> u64
     }
 }
 
-// Sets what is noted of an inode, if that isn't what the list holds already: so its memory is
-// touched only for inodes of which something is noted.
+/// Sets what is noted of an inode, if that isn't what the list holds already: so its memory is
+/// touched only for inodes of which something is noted.
 #[inline(always)]
 fn store_note(list: &mut FilledList<u32>, number: usize, note: u32)
     requires { number < vec_len list.old }
@@ -142,8 +142,8 @@ fn store_note(list: &mut FilledList<u32>, number: usize, note: u32)
     }
 }
 
-// The same for where the count of an inode's references starts: memory is touched only for inodes
-// that are in use.
+/// The same for where the count of an inode's references starts: memory is touched only for inodes
+/// that are in use.
 #[inline(always)]
 fn store_start(list: &mut FilledList<u64>, number: usize, start: u64)
     requires { number < vec_len list.old }

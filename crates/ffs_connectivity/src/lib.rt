@@ -7,7 +7,7 @@
 //! phase3(&geometry, &mut image, &mut workspace, &mut report)?;
 //! ```
 //!
-//! It rests on `ffs_survey`, `ffs_workspace` and `ffs_phase`.
+//! It rests on `ffs_survey`, `ffs_workspace` and `ffs_report`.
 #![tactic(auto)]
 
 mod pass3;

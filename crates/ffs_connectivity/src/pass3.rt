@@ -2,8 +2,8 @@
 
 ghost use Rattle.std.specs.Prelude.{◌≡◌, ◌+◌, ◌<◌, ◌≤◌, ◌^◌, ◌∷◌, length, map};
 ghost use Rattle.ffs_report.specs.Progress.{progress};
-ghost use Rattle.ffs_phase.specs.Known.{ForBytes, IsContents};
-ghost use Rattle.ffs_phase.specs.Runs.{PhaseRuns};
+ghost use Rattle.ffs_report.specs.Known.{ForBytes, IsContents};
+ghost use Rattle.ffs_report.specs.Runs.{PhaseRuns};
 ghost use Rattle.ffs_volume.specs.Directories.Connectivity.{connectivity_lines};
 ghost use Rattle.ffs_volume.specs.Messages.Kinds as messages;
 ghost use Rattle.ffs_volume.specs.Messages.Kinds.{of_tree};
@@ -16,8 +16,7 @@ ghost use Rattle.ffs_workspace.specs.Ready.{IsReady};
 use crate::unref::check_inode;
 use ffs_image::Image;
 use ffs_layout::Geometry;
-use ffs_phase::RunFault;
-use ffs_report::{Heading, Line, Output, Report};
+use ffs_report::{Heading, Line, Output, Report, RunFault};
 use ffs_survey::{is_dir, mark_leaders};
 use ffs_workspace::Workspace;
 

@@ -2,8 +2,8 @@
 
 ghost use Rattle.std.specs.Prelude.{◌≡◌, ◌+◌, ◌<◌, ◌≤◌, length, map};
 ghost use Rattle.ffs_report.specs.Progress.{progress};
-ghost use Rattle.ffs_phase.specs.Known.{ForBytes, IsContents};
-ghost use Rattle.ffs_phase.specs.Runs.{PhaseRuns};
+ghost use Rattle.ffs_report.specs.Known.{ForBytes, IsContents};
+ghost use Rattle.ffs_report.specs.Runs.{PhaseRuns};
 ghost use Rattle.ffs_volume.specs.Messages.Kinds.{of_tree};
 ghost use Rattle.ffs_volume.specs.Directories.Volumes.{volume_of};
 ghost use Rattle.ffs_workspace.specs.Holds.{HoldsClaims, HoldsSurvey};
@@ -14,8 +14,7 @@ ghost use Rattle.ffs_connectivity.specs.Lines.{cut_off_lines};
 
 use ffs_image::Image;
 use ffs_layout::Geometry;
-use ffs_phase::RunFault;
-use ffs_report::{Line, Output, ReferenceLine, Report};
+use ffs_report::{Line, Output, ReferenceLine, Report, RunFault};
 use ffs_survey::is_unref;
 use ffs_volume::Attr;
 use ffs_workspace::Workspace;

@@ -13,7 +13,7 @@ use Rattle.ffs_volume.specs.Disk.Areas.{is_fragment_in_range, is_reserved, is_ru
 use Rattle.ffs_volume.specs.Blocks.Owners.{Owner}
 use Rattle.ffs_volume.specs.Blocks.Claims.{Claims, is_set, is_open, no_claims, reserved_map, after_offer, after_offers}
 use Rattle.ffs_volume.specs.Blocks.Claims.{after_run, after_step, after_steps, after_owner, after_owners}
-use Rattle.ffs_volume.proofs.Weights.{cond_holds}
+use Rattle.ffs_volume.proofs.Potentials.{cond_holds}
 use Rattle.ffs_counts.specs.Reserved.{HasReserved}
 
 -- each fragment that is used is used afterwards

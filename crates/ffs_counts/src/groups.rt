@@ -23,8 +23,8 @@ const RECORDS_AT_ONCE: u32 = 256;
 /// The bytes of one of them.
 const RECORD_SIZE: usize = CSUM_SIZE as usize;
 
-// Reads the summary record of a group with those round it, unless the window holds them: 256
-// records, or those that are left. Returns where the group's record begins in the window, in bytes.
+/// Reads the summary record of a group with those round it, unless the window holds them: 256
+/// records, or those that are left. Returns where the group's record begins in the window, in bytes.
 fn read_summaries<I: Image>(
     geometry: &Geometry,
     image: &mut I,

@@ -5,8 +5,8 @@ ghost use Rattle.ffs_volume.specs.Messages.Kinds.{of_tree, phase4 as phase4_head
 ghost use Rattle.ffs_volume.specs.Directories.ReferenceCheck.{reference_lines_at, reference_lines};
 ghost use Rattle.ffs_volume.specs.Directories.Volumes.{volume_of};
 ghost use Rattle.ffs_report.specs.Progress.{progress};
-ghost use Rattle.ffs_phase.specs.Known.{ForBytes, IsContents};
-ghost use Rattle.ffs_phase.specs.Runs.{PhaseRuns};
+ghost use Rattle.ffs_report.specs.Known.{ForBytes, IsContents};
+ghost use Rattle.ffs_report.specs.Runs.{PhaseRuns};
 ghost use Rattle.ffs_workspace.specs.Holds.{HoldsFindings};
 ghost use Rattle.ffs_volume.specs.Blocks.Inodes.{is_allocated};
 ghost use Rattle.ffs_volume.specs.Encodings.Kinds.{class_of_kind};
@@ -19,14 +19,13 @@ use crate::reference::{line_for, references_by, say_line};
 use ffs_groups::are_used;
 use ffs_image::Image;
 use ffs_layout::Geometry;
-use ffs_phase::RunFault;
-use ffs_report::{Heading, Line, Output, Report};
+use ffs_report::{Heading, Line, Output, Report, RunFault};
 use ffs_volume::constants::{LINKS_MET, ROOTINO};
 use ffs_volume::kinds::Kind;
 use ffs_workspace::Workspace;
 
-// Whether an inode is dead: marked or a directory of size 0, not the root, and named by no plain
-// entry.
+/// Whether an inode is dead: marked or a directory of size 0, not the root, and named by no plain
+/// entry.
 fn is_dead(workspace: &Workspace, number: u32) -> bool
     requires { HasPlace workspace.now number }
     ensures { result ≡ is_dead_by workspace.now number }
@@ -39,8 +38,8 @@ fn is_dead(workspace: &Workspace, number: u32) -> bool
     suspect && number != ROOTINO && !workspace.named[place]
 }
 
-// Whether nothing is reported of an inode that is allocated: it isn't dead, and each of its links
-// has a reference.
+/// Whether nothing is reported of an inode that is allocated: it isn't dead, and each of its links
+/// has a reference.
 fn is_right(workspace: &Workspace, number: u32) -> bool
     requires { HasPlace workspace.now number }
     ensures { result ≡ is_met workspace.now number }
@@ -51,7 +50,7 @@ fn is_right(workspace: &Workspace, number: u32) -> bool
 /// How many free inodes are passed over at once.
 const FREE_RUN: usize = 64;
 
-// How many inodes from one on are passed over, since they are free: 64, or only the first, or none.
+/// How many inodes from one on are passed over, since they are free: 64, or only the first, or none.
 fn free_run(kinds: &[u8], first: usize) -> usize
     requires { first < length kinds.now }
     ensures { IsFreeRun kinds.now first result }
@@ -68,7 +67,7 @@ fn free_run(kinds: &[u8], first: usize) -> usize
     }
 }
 
-// Reports what is wrong with an allocated inode. It is read only where it has a line.
+/// Reports what is wrong with an allocated inode. It is read only where it has a line.
 fn check_inode<I: Image, W: Output>(
     workspace: &mut Workspace,
     geometry: &Geometry,

@@ -6,8 +6,8 @@ ghost use Rattle.ffs_volume.specs.Report.Reads.{group_reads};
 ghost use Rattle.ffs_volume.specs.Report.Whole.{group_check_lines};
 ghost use Rattle.ffs_layout.specs.Super.{superblock_in};
 ghost use Rattle.ffs_report.specs.Progress.{progress};
-ghost use Rattle.ffs_phase.specs.Known.{IsContents};
-ghost use Rattle.ffs_phase.specs.Runs.{PhaseRuns};
+ghost use Rattle.ffs_report.specs.Known.{IsContents};
+ghost use Rattle.ffs_report.specs.Runs.{PhaseRuns};
 ghost use Rattle.ffs_workspace.specs.Holds.{HoldsClaims};
 ghost use Rattle.ffs_workspace.specs.Ready.{IsReady, StaysReady};
 
@@ -17,8 +17,7 @@ use crate::totals::Totals;
 use ffs_groups::group_counts;
 use ffs_image::Image;
 use ffs_layout::Super;
-use ffs_phase::RunFault;
-use ffs_report::{Heading, Line, Output, Report};
+use ffs_report::{Heading, Line, Output, Report, RunFault};
 use ffs_volume::BlockMessage;
 use ffs_workspace::Workspace;
 

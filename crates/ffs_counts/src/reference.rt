@@ -22,7 +22,7 @@ pub fn references_by(count: u64, inode: &Inode) -> u64
     count.saturating_sub(links_start(inode.nlink))
 }
 
-// Whether a count of links is this number.
+/// Whether a count of links is this number.
 fn is_links(nlink: i16, references: u64) -> bool
     ensures { result ≡ equals_natural nlink references }
 {

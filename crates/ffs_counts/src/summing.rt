@@ -10,7 +10,7 @@ ghost use Rattle.ffs_layout.specs.Super.{superblock_in};
 ghost use Rattle.ffs_maps.specs.Bits.{bits_of};
 ghost use Rattle.ffs_report.specs.Lines.{message_of};
 ghost use Rattle.ffs_report.specs.Progress.{progress};
-ghost use Rattle.ffs_phase.specs.Runs.{PhaseRuns};
+ghost use Rattle.ffs_report.specs.Runs.{PhaseRuns};
 ghost use Rattle.ffs_image.specs.Device.{Device};
 ghost use Rattle.ffs_groups.specs.Inodes.{class_in};
 ghost use Rattle.ffs_workspace.specs.Holds.{HoldsClaims};
@@ -19,12 +19,11 @@ ghost use Rattle.ffs_counts.specs.Reserved.{HasReserved, used_in};
 
 use ffs_layout::{Geometry, Super};
 use ffs_maps::FragmentMap;
-use ffs_phase::RunFault;
-use ffs_report::{Line, Output, Report};
+use ffs_report::{Line, Output, Report, RunFault};
 use ffs_volume::kinds::Kind;
 use ffs_workspace::Workspace;
 
-// How many files and directories there are.
+/// How many files and directories there are.
 fn file_count(kinds: &[u8]) -> u32
     requires { length kinds.now < 2 ^ 32 }
     ensures { result ≡ count_by (λ x. is_file_or_dir (class_in kinds.now x))
@@ -37,8 +36,8 @@ fn file_count(kinds: &[u8]) -> u32
     files
 }
 
-// How many fragments of a group are reserved. They lie together: in the first group all before
-// the end of the summary area, in another what the group keeps for itself.
+/// How many fragments of a group are reserved. They lie together: in the first group all before
+/// the end of the summary area, in another what the group keeps for itself.
 fn reserved_in_group(geometry: &Geometry, group: u32) -> u32
     requires { group < geometry.now.layout.ncg }
     ensures { result ≡ count_by (is_reserved geometry.now.layout)
@@ -51,7 +50,7 @@ fn reserved_in_group(geometry: &Geometry, group: u32) -> u32
     geometry.cgdmin(group) - geometry.cgsblock(group)
 }
 
-// How many fragments are reserved.
+/// How many fragments are reserved.
 fn reserved_count(geometry: &Geometry) -> u32
     ensures { result ≡ count_by (is_reserved geometry.now.layout)
         (range_with_len 0 geometry.now.layout.size) }
@@ -63,8 +62,8 @@ fn reserved_count(geometry: &Geometry) -> u32
     count
 }
 
-// How many fragments are claimed; reserved ones don't count. Their bits were all set before any was
-// claimed. In a map that lacks some the difference stops at 0, and nothing is said of it.
+/// How many fragments are claimed; reserved ones don't count. Their bits were all set before any was
+/// claimed. In a map that lacks some the difference stops at 0, and nothing is said of it.
 fn used_count(geometry: &Geometry, used: &FragmentMap) -> u32
     requires { used.now.size ≡ geometry.now.layout.size }
     ensures { HasReserved geometry.now.layout (bits_of used.now)
@@ -73,15 +72,15 @@ fn used_count(geometry: &Geometry, used: &FragmentMap) -> u32
     used.count_ones().saturating_sub(reserved_count(geometry))
 }
 
-// Free fragments in all: the loose ones, and those of free blocks.
+/// Free fragments in all: the loose ones, and those of free blocks.
 fn free_in_all(frags: i32, frag: u8, blocks: i32) -> i64
     ensures { result ≡ frags +ℤ pos frag *ℤ blocks }
 {
     i64::from(frags) + i64::from(frag) * i64::from(blocks)
 }
 
-// The loose fragments as a share of the data fragments, in tenths of a percent, rounded toward
-// zero.
+/// The loose fragments as a share of the data fragments, in tenths of a percent, rounded toward
+/// zero.
 fn tenths_of(frags: i32, dsize: u32) -> i64
     requires { 0 < dsize }
     ensures { result ≡ int_div (frags *ℤ pos 1000) (pos dsize) }

@@ -20,7 +20,7 @@ pub struct Totals {
     pub fragments: u64,
 }
 
-// Whether a number of the superblock is this count.
+/// Whether a number of the superblock is this count.
 fn is_count_of(found: i32, right: u64) -> bool
     ensures { result ≡ equals_natural found right }
 {

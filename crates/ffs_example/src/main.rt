@@ -32,7 +32,7 @@ fn main(rt: HostRuntime) -> io::Result<()> {
     rt.stdout().write_all(report.as_slice())
 }
 
-// What the end of a check says, in a word.
+/// What the end of a check says, in a word.
 fn verdict(end: &End) -> &'static str {
     match end {
         End::Consistent => "Consistent",

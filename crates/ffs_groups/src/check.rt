@@ -31,8 +31,8 @@ pub struct Findings {
     pub sums: bool,
 }
 
-// Whether a number of an image is the right one, which is below 2^31: its bits are those of the
-// right one.
+/// Whether a number of an image is the right one, which is below 2^31: its bits are those of the
+/// right one.
 #[tactic(auto, unfolding(crate::specs::Check::has_bits_of))]
 fn is_right(found: i32, right: u32) -> bool
     ensures { result ≡ has_bits_of found right }
@@ -60,7 +60,7 @@ fn same_runs(found: &[i32; 8], right: &[u64; 9]) -> bool
     true
 }
 
-// Whether the maps end within the group block.
+/// Whether the maps end within the group block.
 fn places_fit(geometry: &Geometry, found: &Group) -> bool
     ensures { result ≡ (nat_le (found.now.iusedoff + div_ceil geometry.now.layout.ipg 8)
         geometry.now.layout.cgsize

@@ -43,7 +43,7 @@ pub struct FreeCounts {
 }
 
 impl FreeCounts {
-    // Counts a run that ends.
+    /// Counts a run that ends.
     fn end_run(&mut self, run: u32)
         requires run { run ≤ 8 }
         requires below { AreBelow (2 ^ 64 - 1) self.old }
@@ -54,7 +54,7 @@ impl FreeCounts {
         }
     }
 
-    // Counts the free fragments of a block that isn't free as a whole.
+    /// Counts the free fragments of a block that isn't free as a whole.
     fn add_loose(&mut self, bits: u64, frag: u32)
         requires { HasRoomToCount 1 frag (2 ^ 63) self.old }
         ensures { Grown 0 (count_by (λ f. f) (word_bits bits 0 frag))
@@ -74,7 +74,7 @@ impl FreeCounts {
         self.end_run(run);
     }
 
-    // Counts a block.
+    /// Counts a block.
     fn add_block(&mut self, bits: u64, frag: u32)
         requires { HasRoomToCount 1 frag (2 ^ 63) self.old }
         ensures { Grown (whole_in (word_bits bits 0 frag)) (loose_in (word_bits bits 0 frag))
@@ -89,7 +89,7 @@ impl FreeCounts {
         }
     }
 
-    // Counts the blocks of a word. Most words have no free fragment, or only free ones.
+    /// Counts the blocks of a word. Most words have no free fragment, or only free ones.
     fn add_word(&mut self, word: u64, blocks: u32, frag: u32)
         requires { HasRoomToCount blocks frag (2 ^ 62) self.old }
         ensures { Added (λ b. word_bits (word / 2 ^ (b * frag)) 0 frag) 0 blocks self.old self.new }
@@ -111,7 +111,7 @@ impl FreeCounts {
         }
     }
 
-    // Counts some blocks from a fragment on, by words.
+    /// Counts some blocks from a fragment on, by words.
     fn add_words(&mut self, used: &FragmentMap, start: u64, blocks: u32, frag: u32)
         requires { HasBlocks start frag (2 ^ 61) self.old }
         ensures { Added (bits_from (free_in (bits_of used.now) used.now.size) start frag) 0 blocks
@@ -127,7 +127,7 @@ impl FreeCounts {
         }
     }
 
-    // Counts some blocks from a fragment on.
+    /// Counts some blocks from a fragment on.
     fn add_blocks(&mut self, used: &FragmentMap, start: u64, blocks: u32, frag: u32)
         requires { HasBlocks start frag (2 ^ 61) self.old }
         ensures { Added (bits_from (free_in (bits_of used.now) used.now.size) start frag) 0 blocks

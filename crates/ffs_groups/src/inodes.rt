@@ -61,15 +61,15 @@ pub fn are_used(kinds: &[u8]) -> Option<bool>
 /// How many inodes are counted in bytes, before the counts are added up: fewer than 256.
 const INODES_AT_ONCE: usize = 192;
 
-// How many of a few inodes are directories, and how many are free. A byte holds each, so that the
-// compiler counts many at once.
+/// How many of a few inodes are directories, and how many are free. A byte holds each, so that the
+/// compiler counts many at once.
 #[derive(Clone, Copy)]
 struct FewCounts {
     dirs: u8,
     free: u8,
 }
 
-// The directories and the free ones of a few inodes from one on.
+/// The directories and the free ones of a few inodes from one on.
 fn few_counts(kinds: &[u8], first: usize, end: usize) -> FewCounts
     requires { AreFew kinds.now first end }
     ensures { AreCounted (class_in kinds.now) first end result.dirs result.free }

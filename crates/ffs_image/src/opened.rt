@@ -21,7 +21,7 @@ pub struct OpenedFile<F: RawFile> {
     ghost sized: { ForContents (F.contents file) (λ bytes. length bytes ≡ size) },
 }
 
-// The place of a file's end, so that a block device has its size too. What can't seek has no bytes.
+/// The place of a file's end, so that a block device has its size too. What can't seek has no bytes.
 fn size_of<F: RawFile>(file: &mut F) -> u64
     ensures end { IsSized F.was_sought file.old file.new result }
     ensures bytes { ForContents (F.contents file.new) (λ bytes. length bytes ≡ result) }
@@ -29,7 +29,7 @@ fn size_of<F: RawFile>(file: &mut F) -> u64
     file.end().unwrap_or(0)
 }
 
-// Whether a signal interrupted the read that has this answer.
+/// Whether a signal interrupted the read that has this answer.
 fn is_interrupted(answer: &io::Result<usize>) -> bool
     ensures { IsTrue result ↔ IsInterrupted answer.now }
 {
@@ -39,7 +39,7 @@ fn is_interrupted(answer: &io::Result<usize>) -> bool
     }
 }
 
-// Reads a file at a place, and again where a signal interrupts that.
+/// Reads a file at a place, and again where a signal interrupts that.
 fn read_uninterrupted<F: RawFile>(file: &mut F, buf: &mut [u8], at: u64) -> io::Result<usize>
     ensures bound { ReadsAtMost result buf.new }
     ensures bytes { IfOk result (λ n. AreAt (F.contents file.old) at (take n buf.new)) }

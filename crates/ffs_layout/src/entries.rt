@@ -10,7 +10,7 @@ use crate::numbers::{u16_at, u32_at};
 use ffs_volume::Order;
 use ffs_volume::constants::{DIRBLKSIZ, DIRENT_HEADER};
 
-// Whether a record of this length may be at the place.
+/// Whether a record of this length may be at the place.
 fn is_valid_record_length(place: usize, len: u16) -> bool
     requires { place ≤ 512 }
     ensures { result ≡ fits place len }
@@ -18,8 +18,8 @@ fn is_valid_record_length(place: usize, len: u16) -> bool
     len % 4 == 0 && 8 <= len && place + usize::from(len) <= DIRBLKSIZ
 }
 
-// Whether one of a few bytes is NUL or `/`. All are looked at, with no test that ends the loop: the
-// machine takes them at once.
+/// Whether one of a few bytes is NUL or `/`. All are looked at, with no test that ends the loop: the
+/// machine takes them at once.
 #[inline]
 fn has_mark_at_once<const N: usize>(part: &[u8; N]) -> bool
     ensures { result ≡ has_mark part.now }
@@ -31,8 +31,8 @@ fn has_mark_at_once<const N: usize>(part: &[u8; N]) -> bool
     has_mark
 }
 
-// Whether one of at most three bytes is NUL or `/`. Most bytes of names are greater than both: one
-// test passes them.
+/// Whether one of at most three bytes is NUL or `/`. Most bytes of names are greater than both: one
+/// test passes them.
 #[inline]
 fn has_mark_of_three(bytes: &[u8]) -> bool
     ensures { result ≡ has_mark bytes.now }
@@ -45,8 +45,8 @@ fn has_mark_of_three(bytes: &[u8]) -> bool
     false
 }
 
-// Whether one of at most eight bytes is NUL or `/`: of the first four or the last four, which have
-// some in common where they are fewer than eight.
+/// Whether one of at most eight bytes is NUL or `/`: of the first four or the last four, which have
+/// some in common where they are fewer than eight.
 #[inline]
 fn has_mark_of_eight(bytes: &[u8]) -> bool
     requires { length bytes.now ≤ 8 }
@@ -61,8 +61,8 @@ fn has_mark_of_eight(bytes: &[u8]) -> bool
     has_mark_at_once(first) || has_mark_at_once(last)
 }
 
-// Whether a byte is NUL or `/`, as none of a name is. The last eight bytes may have some in common
-// with those before.
+/// Whether a byte is NUL or `/`, as none of a name is. The last eight bytes may have some in common
+/// with those before.
 #[inline]
 fn has_nul_or_slash(bytes: &[u8]) -> bool
     ensures { result ≡ (list_any (λ b. b == 0) bytes.now || list_any (λ b. b == 47) bytes.now) }
@@ -79,7 +79,7 @@ fn has_nul_or_slash(bytes: &[u8]) -> bool
     has_mark_at_once(last)
 }
 
-// Whether the record at the place has a name.
+/// Whether the record at the place has a name.
 fn has_valid_name(chunk: &[u8; DIRBLKSIZ], place: usize) -> bool
     requires { place + (8 + slice_index chunk.now (place + 7)) + 1 ≤ 512 }
     ensures { result ≡ named chunk.now place }
@@ -89,7 +89,7 @@ fn has_valid_name(chunk: &[u8; DIRBLKSIZ], place: usize) -> bool
     len != 0 && !has_nul_or_slash(name) && chunk[place + DIRENT_HEADER + len] == 0
 }
 
-// Whether the record at the place holds its name, and has a type.
+/// Whether the record at the place holds its name, and has a type.
 fn has_valid_type_and_name(chunk: &[u8; DIRBLKSIZ], place: usize, len: u16) -> bool
     requires { IsTrue (fits place len) }
     ensures { result ≡ held chunk.now place len }
@@ -99,7 +99,7 @@ fn has_valid_type_and_name(chunk: &[u8; DIRBLKSIZ], place: usize, len: u16) -> b
         && has_valid_name(chunk, place)
 }
 
-// The well formed entry at a place of a chunk.
+/// The well formed entry at a place of a chunk.
 #[inline(always)]
 #[tactic(auto, unfolding(ffs_volume::specs::Directories::Entries::entry_at, ffs_volume::specs::Directories::Entries::is_well_formed, ffs_volume::specs::Directories::Entries::entry_read))]
 fn entry_of(order: Order, chunk: &[u8; DIRBLKSIZ], place: usize) -> Option<Entry<'_>>

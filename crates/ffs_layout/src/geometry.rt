@@ -108,8 +108,8 @@ impl Geometry {
             + DINODE_SIZE as u64 * u64::from(inode % self.layout.ipg)
     }
 
-    // Whether the fragment is metadata of its group: the copy of the superblock, the group block
-    // and the inodes.
+    /// Whether the fragment is metadata of its group: the copy of the superblock, the group block
+    /// and the inodes.
     #[tactic(auto, using(ffs_volume::proofs::AreaLaws::is_kept_group, ffs_volume::proofs::AreaLaws::group_below))]
     fn is_group_metadata(&self, fragment: u32) -> bool
         requires { fragment < self.now.layout.size }

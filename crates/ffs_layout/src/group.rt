@@ -78,7 +78,7 @@ impl Group {
     }
 }
 
-// The eight counts of runs, in their order.
+/// The eight counts of runs, in their order.
 fn runs_of(order: Order, bytes: &[u8]) -> [i32; 8]
     requires { 168 ≤ length bytes.now }
     ensures { result ≡ map (λ k. i32_in order (52 + 4 * k) bytes.now) (range_with_len 0 8) }

@@ -25,7 +25,7 @@ pub fn decode_inode(order: Order, bytes: &[u8]) -> Inode
     }
 }
 
-// The numbers of an inode.
+/// The numbers of an inode.
 #[inline(always)]
 #[tactic(auto, unfolding(ffs_volume::specs::Blocks::Inodes::inode_from_bytes))]
 fn fields_of(order: Order, bytes: &[u8]) -> Inode
@@ -43,7 +43,7 @@ fn fields_of(order: Order, bytes: &[u8]) -> Inode
     }
 }
 
-// The fifteen addresses, in their order.
+/// The fifteen addresses, in their order.
 #[inline(always)]
 fn addresses_of(order: Order, bytes: &[u8]) -> [u32; 15]
     requires { 128 ≤ length bytes.now }

@@ -19,7 +19,7 @@ use ffs_volume::{LAYOUT_PLACES, Order, SuperFault};
 
 const PRIMARY_SECTOR: u32 = 16;
 
-// The order in which the magic number reads right.
+/// The order in which the magic number reads right.
 #[tactic(auto, unfolding(ffs_volume::specs::Disk::Superblock::order_of))]
 fn order_of_magic(bytes: &[u8; SUPERBLOCK_BYTES]) -> Option<Order>
     ensures { result ≡ order_of bytes.now }
@@ -33,7 +33,7 @@ fn order_of_magic(bytes: &[u8; SUPERBLOCK_BYTES]) -> Option<Order>
     }
 }
 
-// Whether the two agree in the numbers at these places.
+/// Whether the two agree in the numbers at these places.
 fn agree_at(
     order: Order,
     places: &[u16],
@@ -53,7 +53,7 @@ fn agree_at(
     true
 }
 
-// Whether the copy agrees in each number of the layout.
+/// Whether the copy agrees in each number of the layout.
 #[tactic(auto, unfolding(ffs_volume::specs::Disk::Outcome::agree))]
 fn layouts_agree(
     order: Order,
@@ -65,7 +65,7 @@ fn layouts_agree(
     agree_at(order, &LAYOUT_PLACES, bytes, copy)
 }
 
-// Reads a superblock.
+/// Reads a superblock.
 fn read_copy<I: Image>(
     image: &mut I,
     at: u64,
@@ -133,7 +133,7 @@ impl Super {
     }
 }
 
-// The superblock in the bytes, whose layout is accepted.
+/// The superblock in the bytes, whose layout is accepted.
 #[tactic(auto, unfolding(ffs_volume::specs::Disk::Superblock::superblock_of))]
 fn make_super(order: Order, bytes: &[u8; SUPERBLOCK_BYTES], geometry: Geometry) -> Super
     requires { geometry.layout ≡ layout_of order bytes.now }
@@ -155,7 +155,7 @@ fn make_super(order: Order, bytes: &[u8; SUPERBLOCK_BYTES], geometry: Geometry) 
     }
 }
 
-// Compares the last copy, where no sector was asked for.
+/// Compares the last copy, where no sector was asked for.
 #[tactic(auto, unfolding(ffs_volume::specs::Disk::Outcome::copy_agrees))]
 fn check_copy<I: Image>(
     image: &mut I,

@@ -22,8 +22,8 @@ ghost use Rattle.ffs_maps.specs.WordBits.{bits_of_words, set_among};
 use ffs_memory::{Memory, SystemMemory, ZeroedWords};
 use std::alloc::{AllocError, Global};
 
-// Whether each of some words is this one. No word ends the loop, so that some are compared at
-// a time.
+/// Whether each of some words is this one. No word ends the loop, so that some are compared at
+/// a time.
 fn are_alike(words: &[u64], word: u64) -> bool
     ensures { IsTrue result ↔ All (λ w. w ≡ word) words.now }
 {
@@ -125,7 +125,7 @@ impl FragmentMap {
         clear & ((1 << left) - 1)
     }
 
-    // How many bits of a run in one word are set.
+    /// How many bits of a run in one word are set.
     fn count_in_word(&self, start: u32, len: u32) -> u32
         requires one_word { start % 64 + len ≤ 64 }
         requires below { start + len ≤ self.now.size }
@@ -139,8 +139,8 @@ impl FragmentMap {
         bits.count_ones()
     }
 
-    // How many bits are set in the words from `first` on and below `last`. Mostly these words are
-    // alike: then the bits of one are counted.
+    /// How many bits are set in the words from `first` on and below `last`. Mostly these words are
+    /// alike: then the bits of one are counted.
     fn count_in_words(&self, first: u32, last: u32) -> u32
         requires order { first ≤ last }
         requires below { 64 * last ≤ self.now.size }
@@ -204,7 +204,7 @@ impl FragmentMap {
         self.words.set(index, word & !(1 << (fragment % 64)));
     }
 
-    // Sets the bits of a run in one word.
+    /// Sets the bits of a run in one word.
     fn set_in_word(&mut self, start: u32, len: u32)
         requires { IsInWord start len self.old.size }
         ensures { HasBits self.new self.old.size (set_run (bits_of self.old) start len) }

@@ -1,6 +1,6 @@
 -- What several requests result in.
 use Rattle.std.proofs.Common.{◌≡◌, ℕ, ◌+◌, ◌≤◌, arith, ◌∙◌}
-use Rattle.ffs_memory.specs.Account.{Account, Granted, GaveUp, Refused}
+use Rattle.ffs_memory.specs.Account.{Account, Granted, GaveUp, RequestRefused}
 
 -- two grants, one after the other
 pub granted_both : (a b c : Account) (m n total : ℕ) → Granted a b m → Granted b c n → m + n ≡ total → Granted a c total
@@ -28,5 +28,5 @@ gave_up_within a b n limit h room = record {
 }
 
 -- a refusal of one request
-pub gave_up_at : (a b : Account) (limit : ℕ) → Refused a b → GaveUp a b limit
+pub gave_up_at : (a b : Account) (limit : ℕ) → RequestRefused a b → GaveUp a b limit
 gave_up_at a b limit h = record { most = omega (arith, h.granted); rose = h.rose }

@@ -30,7 +30,7 @@ pub record GaveUp (old new : Account) (limit : ℕ) : Type 0 where
   pub rose : Rose old.refused new.refused
 
 -- a request was refused, and so nothing was granted
-pub record Refused (old new : Account) : Type 0 where
+pub record RequestRefused (old new : Account) : Type 0 where
   pub granted : new.granted ≡ old.granted
   pub rose : Rose old.refused new.refused
 
@@ -47,7 +47,7 @@ pub record Given {A : Type 0} (old new : Account) (n bytes : ℕ) (x : A) (list 
 
 -- the outcome of one request for a list
 abbrev pub Gives : {A E : Type 0} → Account → Account → ℕ → ℕ → A → Result (FixedList A) E → Type 0
-Gives old new n bytes x result = MatchResult result (Given old new n bytes x) (λ _. Refused old new)
+Gives old new n bytes x result = MatchResult result (Given old new n bytes x) (λ _. RequestRefused old new)
 
 -- n words that are 0 until they are set were granted, in memory that has room for no more
 pub record GivenWords (old new : Account) (n : ℕ) (words : Words) : Type 0 where
@@ -57,7 +57,7 @@ pub record GivenWords (old new : Account) (n : ℕ) (words : Words) : Type 0 whe
 
 -- the outcome of one request for such words
 abbrev pub GivesWords : {E : Type 0} → Account → Account → ℕ → Result Words E → Type 0
-GivesWords old new n result = MatchResult result (GivenWords old new n) (λ _. Refused old new)
+GivesWords old new n result = MatchResult result (GivenWords old new n) (λ _. RequestRefused old new)
 
 -- a list with room for n elements of a size and for no more was made, and has none yet; the account rose by that room
 pub record MadeRoom {A : Type 0} (old new : Account) (n size : ℕ) (list : Vec A Global) : Type 0 where
@@ -68,7 +68,7 @@ pub record MadeRoom {A : Type 0} (old new : Account) (n size : ℕ) (list : Vec 
 
 -- the outcome of one request for room
 abbrev pub MakesRoom : {A E : Type 0} → Account → Account → ℕ → ℕ → Result (Vec A Global) E → Type 0
-MakesRoom old new n size result = MatchResult result (MadeRoom old new n size) (λ _. Refused old new)
+MakesRoom old new n size result = MatchResult result (MadeRoom old new n size) (λ _. RequestRefused old new)
 
 -- the outcome of asking for these bytes, in one request or in several
 abbrev pub Asks : {T E : Type 0} → Account → Account → ℕ → Result T E → Type 0

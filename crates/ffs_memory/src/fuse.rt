@@ -33,7 +33,7 @@ impl<M: Memory> FuseMemory<M> {
         }
     }
 
-    // Counts a request: whether it is the one to be refused, which is counted too.
+    /// Counts a request: whether it is the one to be refused, which is counted too.
     fn blows(&mut self) -> bool
         ensures value { result ≡ is_blown self.old.left }
         ensures counted { self.new ≡ record self.old {

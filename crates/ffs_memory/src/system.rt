@@ -29,7 +29,7 @@ impl SystemMemory {
         }
     }
 
-    // So many elements, each the same, which are written.
+    /// So many elements, each the same, which are written.
     fn written<T: Copy>(&mut self, n: usize, value: T) -> Result<FixedList<T>, AllocError>
         ensures { Gives (account_of self.old) (account_of self.new) n (type_size T.row * n) value
             result }
@@ -38,7 +38,7 @@ impl SystemMemory {
         Ok(FixedList::new(filled(empty, n, value)))
     }
 
-    // So many elements, each the same, of which none is written yet.
+    /// So many elements, each the same, of which none is written yet.
     fn unwritten<T: Copy>(&mut self, n: usize, value: T) -> Result<FilledList<T>, AllocError>
         ensures { Gives (account_of self.old) (account_of self.new) n (type_size T.row * n) value
             result }

@@ -14,11 +14,11 @@ use Rattle.ffs_volume.specs.Directories.PathnameCheck.{attributes, are_sound, si
 use Rattle.ffs_volume.specs.Directories.Paths.{dir_path}
 use Rattle.ffs_volume.specs.Directories.Roles.{Volume, nth_entry, is_dir, is_inode, roled_entries, start_entry}
 use Rattle.ffs_volume.specs.Directories.Volumes.{volume_of, volume_with}
-use Rattle.ffs_phase.specs.Known.{ForBytes}
+use Rattle.ffs_report.specs.Known.{ForBytes}
 use Rattle.ffs_image.specs.Device.{Device, Faulted}
-use Rattle.ffs_phase.specs.Runs.{ImageAfter, SaidOf, PhaseReports}
-use Rattle.ffs_phase.specs.declared.fault.RunFault.{RunFault}
-use Rattle.ffs_phase.specs.declared.fault.RunFault.TheVariants.{Read, Out}
+use Rattle.ffs_report.specs.Runs.{ImageAfter, SaidOf, PhaseReports}
+use Rattle.ffs_report.specs.declared.fault.RunFault.{RunFault}
+use Rattle.ffs_report.specs.declared.fault.RunFault.TheVariants.{Read, Out}
 use Rattle.ffs_report.specs.Progress.{Progress}
 use Rattle.ffs_workspace.specs.declared.workspace.Workspace.{Workspace}
 use Rattle.ffs_pathnames.specs.declared.examine.DirectorySummary.{DirectorySummary}

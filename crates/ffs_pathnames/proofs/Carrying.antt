@@ -26,8 +26,8 @@ use Rattle.ffs_volume.specs.Encodings.Kinds.{kind_at, is_dir_kind, is_empty_dir_
 use Rattle.ffs_workspace.specs.Lengths.{IsFor, inodes_of}
 use Rattle.ffs_workspace.proofs.KindLaws.{reports_at, suspect_is}
 use Rattle.ffs_maps.specs.Bits.{bits_of}
-use Rattle.ffs_phase.specs.declared.fault.RunFault.{RunFault}
-use Rattle.ffs_phase.specs.declared.fault.RunFault.TheVariants.{Read, Out}
+use Rattle.ffs_report.specs.declared.fault.RunFault.{RunFault}
+use Rattle.ffs_report.specs.declared.fault.RunFault.TheVariants.{Read, Out}
 use Rattle.ffs_pathnames.specs.GoesOn.{AtReadFault}
 use Rattle.ffs_pathnames.specs.Before.{AreClear, IsBefore, is_looked_at, root_said}
 use Rattle.ffs_workspace.specs.Leaves.{LeavesSurvey}

@@ -22,7 +22,6 @@ use Rattle.ffs_volume.specs.Messages.Kinds.{TreeMessage, of_tree, lines_from}
 use Rattle.ffs_volume.specs.Report.Memory.{runs_limit}
 use Rattle.ffs_volume.specs.Report.Whole.{run_count}
 use Rattle.ffs_volume.proofs.Numbered.{from_next}
-use Rattle.ffs_volume.proofs.Weights.{owner_moves}
 use Rattle.ffs_names.specs.Costs.{directory_cost, directory_runs}
 use Rattle.ffs_pathnames.specs.Begins.{dir_starts}
 use Rattle.ffs_pathnames.proofs.Begun.{lines_parts}
@@ -53,34 +52,6 @@ pub next_long : (lines : ℕ → List TreeMessage) (d n : ℕ) → d < n → len
     ≡ length (lines d) + length (lines_from lines (d + 1) (n - (d + 1)))
 next_long lines d n h = lines_long (lines_from lines d (n - d)) (lines d) (lines_from lines (d + 1) (n - (d + 1)))
     (from_next lines d n h)
-
--- over inodes, what is beside a first claim is at most 22 for each
-inodes_move : (v : Layout) (image : List ℕ) (s : Claims) (xs : List ℕ) → IsAcceptedLayout v → length s.used ≡ v.size →
-    ((after_owners v s (map (owner_of v image) xs)).runs + used_bits s ≤ s.runs
-    + used_bits (after_owners v s (map (owner_of v image) xs)) + 22 * length xs)
-    × (length (after_owners v s (map (owner_of v image) xs)).used ≡ v.size)
-inodes_move v image s [] g h = (omega arith, h)
-inodes_move v image s (x ∷ xs) g h =
-    let one = owner_moves v image s x g h in
-    let more = inodes_move v image (after_owner v s (owner_of v image x)) xs g (one.used_length ∙ h) in
-    let few = one.bad_cap (omega arith) in
-    let few_dups = one.dups_cap (omega arith) in
-    (omega (arith, one.weighs, more.0, few, few_dups), more.1)
-
--- so the Runs that are seen are bounded
-pub runs_bounded : (v : Layout) (image : List ℕ) → IsAcceptedLayout v → run_count v image ≤ runs_limit v
-unfolding run_count owners_of no_claims reserved_map
-runs_bounded v image g =
-    let all = inodes_move v image (no_claims v) (inode_numbers v) g
-    (length-map-range_with_len (is_reserved v) 0 v.size) in
-    let many = length-range_with_len 2 (v.ncg * v.ipg - 2) in
-    omega (
-      arith,
-      all.0,
-      all.1,
-      many,
-      count_by-le-length (λ b. b) (after_owners v (no_claims v) (map (owner_of v image) (inode_numbers v))).used,
-    )
 
 -- reads so far, where a directory is checked, of k for each line and p for each path
 pub checked_on : (k p n reads reads' more costs cost before here there all : ℕ) → reads' ≤ reads + (2 * cost + p + k * here)

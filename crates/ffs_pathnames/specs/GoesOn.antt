@@ -1,7 +1,7 @@
 -- Whether the run continues after the root, and what that says of a read that failed.
 use Rattle.std.specs.Prelude.{Bool, true, false, Result, Ok, Err, ⊤}
-use Rattle.ffs_phase.specs.declared.fault.RunFault.{RunFault}
-use Rattle.ffs_phase.specs.declared.fault.RunFault.TheVariants.{Read, Out}
+use Rattle.ffs_report.specs.declared.fault.RunFault.{RunFault}
+use Rattle.ffs_report.specs.declared.fault.RunFault.TheVariants.{Read, Out}
 use Rattle.ffs_pathnames.specs.declared.pass2.Root.{Root}
 use Rattle.ffs_pathnames.specs.declared.pass2.Root.TheVariants.{Go, Stop}
 

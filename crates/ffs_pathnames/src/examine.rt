@@ -1,6 +1,6 @@
 //! What is found of a directory before anything is reported of it.
 ghost use Rattle.std.specs.Prelude.{◌+◌, ◌≤◌, IfOk};
-ghost use Rattle.ffs_phase.specs.Known.{ForBytes};
+ghost use Rattle.ffs_report.specs.Known.{ForBytes};
 ghost use Rattle.ffs_names.specs.Costs.{directory_cost};
 ghost use Rattle.ffs_paths.specs.Reads.{IsReadyFor};
 ghost use Rattle.ffs_pathnames.specs.DirectoryContext.{DirectoryContext};

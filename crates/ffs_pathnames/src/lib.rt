@@ -7,7 +7,7 @@
 //! let root = phase2(&geometry, &mut image, &mut workspace, &mut report)?;
 //! ```
 //!
-//! It rests on `ffs_paths`, `ffs_names` and `ffs_phase`.
+//! It rests on `ffs_paths`, `ffs_names` and `ffs_report`.
 #![tactic(auto)]
 
 mod check;

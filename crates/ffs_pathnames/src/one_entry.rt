@@ -8,7 +8,7 @@ ghost use Rattle.ffs_volume.specs.Directories.Parents.{graph_of};
 ghost use Rattle.ffs_volume.specs.Directories.Paths.{dir_path};
 ghost use Rattle.ffs_volume.specs.Directories.Volumes.{volume_of};
 ghost use Rattle.ffs_layout.specs.Entry.{entry_value};
-ghost use Rattle.ffs_phase.specs.Runs.{PhaseReports};
+ghost use Rattle.ffs_report.specs.Runs.{PhaseReports};
 ghost use Rattle.ffs_report.specs.Progress.{progress};
 ghost use Rattle.ffs_volume.specs.declared.Layout.{Layout};
 ghost use Rattle.ffs_workspace.specs.Lengths.{IsFor};
@@ -31,8 +31,7 @@ use ffs_image::{Image, ImageFault};
 use ffs_layout::{Entry, Geometry};
 use ffs_names::is_one_dot;
 use ffs_paths::{EntryPaths, PathText, Siblings};
-use ffs_phase::RunFault;
-use ffs_report::{DotLine, Line, OutFault, Output, Report};
+use ffs_report::{DotLine, Line, OutFault, Output, Report, RunFault};
 use ffs_volume::Attr;
 use ffs_workspace::Workspace;
 

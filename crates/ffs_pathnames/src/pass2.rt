@@ -1,8 +1,8 @@
 //! Phase 2: pathnames (fsck(8)).
 
 ghost use Rattle.std.specs.Prelude.{◌≡◌, ◌+◌, ◌≤◌, ◌⊎◌, [], ◌∷◌, true, OnOk, IfOk, length, map};
-ghost use Rattle.ffs_phase.specs.Known.{IsContents, ForBytes};
-ghost use Rattle.ffs_phase.specs.Runs.{ImageAfter, PhaseReports};
+ghost use Rattle.ffs_report.specs.Known.{IsContents, ForBytes};
+ghost use Rattle.ffs_report.specs.Runs.{ImageAfter, PhaseReports};
 ghost use Rattle.ffs_report.specs.Progress.{Said, progress};
 ghost use Rattle.ffs_volume.specs.Messages.Kinds as messages;
 ghost use Rattle.ffs_volume.specs.Messages.Kinds.{of_tree};
@@ -19,8 +19,7 @@ use crate::tree::check_tree;
 use ffs_image::Image;
 use ffs_layout::Geometry;
 use ffs_names::survey;
-use ffs_phase::RunFault;
-use ffs_report::{Heading, Line, Output, Report};
+use ffs_report::{Heading, Line, Output, Report, RunFault};
 use ffs_workspace::Workspace;
 
 /// Whether the run continues after the root, or stops there since inode 2 is no directory.

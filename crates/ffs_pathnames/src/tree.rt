@@ -1,7 +1,7 @@
 //! The pathname check of the root, and of one directory after another.
 ghost use Rattle.std.specs.Prelude.{suc, ◌≡◌, ◌+◌, ◌-◌, ◌<◌, ◌≤◌, ℕ, true, false, OnOk, IfOk, length, map, vec_len};
-ghost use Rattle.ffs_phase.specs.Known.{ForBytes};
-ghost use Rattle.ffs_phase.specs.Runs.{PhaseReports};
+ghost use Rattle.ffs_report.specs.Known.{ForBytes};
+ghost use Rattle.ffs_report.specs.Runs.{PhaseReports};
 ghost use Rattle.ffs_report.specs.Progress.{progress};
 ghost use Rattle.ffs_volume.specs.Messages.Kinds.{of_tree, lines_from};
 ghost use Rattle.ffs_volume.specs.Directories.PathnameCheck.{continues_after_root, directory_lines, pathname_lines};
@@ -23,8 +23,7 @@ use ffs_image::Image;
 use ffs_layout::Geometry;
 use ffs_names::note_places;
 use ffs_paths::Siblings;
-use ffs_phase::RunFault;
-use ffs_report::{Output, Report};
+use ffs_report::{Output, Report, RunFault};
 use ffs_volume::constants::{DT_DIR, ROOTINO};
 use ffs_workspace::Workspace;
 

@@ -7,18 +7,17 @@ use crate::compare::same;
 use ffs_claims::{phase1, phase1b};
 use ffs_image::{Image, MemoryImage};
 use ffs_layout::{Geometry, Order};
-use ffs_phase::RunFault;
-use ffs_report::{Counted, Output, Report};
+use ffs_report::{Counted, Output, Report, RunFault};
 use ffs_samples::{Number, Watched, geometry, put};
 use ffs_workspace::Workspace;
 use std::alloc::{AllocError, Global};
 use std::test::Fail;
 
-// Words that are the same, one after the other: the place of the first one, how many they are, the
-// word.
+/// Words that are the same, one after the other: the place of the first one, how many they are, the
+/// word.
 type Words = (usize, usize, u64);
 
-// The inode 2: a directory of 512 bytes in the fragment 36.
+/// The inode 2: a directory of 512 bytes in the fragment 36.
 const ROOT: [Number; 4] = [
     (28928, 4, 0x000241ed),
     (28936, 4, 512),
@@ -26,7 +25,7 @@ const ROOT: [Number; 4] = [
     (29032, 4, 2),
 ];
 
-// The inode 3 is at byte 29,056 and the inode 4 at 29,184; addresses are at 40, sectors at 104.
+/// The inode 3 is at byte 29,056 and the inode 4 at 29,184; addresses are at 40, sectors at 104.
 const SHARED: [Words; 8] = [
     (29056, 1, 0x000181a4),
     (29064, 1, 100),
@@ -38,7 +37,7 @@ const SHARED: [Words; 8] = [
     (29288, 1, 2),
 ];
 
-// The inodes 3 and 5 share a fragment, and 4 and 6 another one.
+/// The inodes 3 and 5 share a fragment, and 4 and 6 another one.
 const SHARED_TWICE: [Words; 16] = [
     (29056, 1, 0x000181a4),
     (29064, 1, 100),
@@ -69,7 +68,7 @@ const TEN_BAD: [Words; 6] = [
     (29160, 1, 16),
 ];
 
-// A triple indirect block, all of whose words are its own address.
+/// A triple indirect block, all of whose words are its own address.
 const TREE: [Words; 5] = [
     (29056, 1, 0x000181a4),
     (29064, 1, 4243456),
@@ -78,7 +77,7 @@ const TREE: [Words; 5] = [
     (40960, 1024, 40),
 ];
 
-// Writes words that are the same one after the other.
+/// Writes words that are the same one after the other.
 fn put_words(bytes: &mut [u8], words: &[Words])
     ensures { length bytes.new ≡ length bytes.old }
 {
@@ -90,7 +89,7 @@ fn put_words(bytes: &mut [u8], words: &[Words])
     }
 }
 
-// An image with the root and these words.
+/// An image with the root and these words.
 fn image_with(words: &[Words], alloc: Global) -> Result<MemoryImage, AllocError>
     ensures { IfOk result (λ m. length m ≡ 131072) }
 {
@@ -100,7 +99,7 @@ fn image_with(words: &[Words], alloc: Global) -> Result<MemoryImage, AllocError>
     Ok(MemoryImage::new(bytes))
 }
 
-// The block check, with its second look where there are duplicates.
+/// The block check, with its second look where there are duplicates.
 fn check_blocks<I: Image, W: Output>(
     geometry: &Geometry,
     image: &mut I,
@@ -116,7 +115,7 @@ fn check_blocks<I: Image, W: Output>(
     Ok(())
 }
 
-// What the block check of an image gives, and how many Runs its two looks see.
+/// What the block check of an image gives, and how many Runs its two looks see.
 fn checked<I: Image>(
     geometry: &Geometry,
     image: &mut I,
@@ -133,7 +132,7 @@ fn checked<I: Image>(
     Ok((text, runs))
 }
 
-// The same of the image with these words, and how many reads it makes.
+/// The same of the image with these words, and how many reads it makes.
 fn checked_with(
     geometry: &Geometry,
     words: &[Words],
@@ -146,8 +145,8 @@ fn checked_with(
     Ok((text, runs, image.reads))
 }
 
-// What is reported of each image, and how many Runs its two looks see: the second one ends as soon
-// as each DUP's first claim is reported.
+/// What is reported of each image, and how many Runs its two looks see: the second one ends as soon
+/// as each DUP's first claim is reported.
 #[test]
 fn block_checks(rt: HostRuntime) -> Result<(), Fail> {
     let geometry = geometry(Order::Little)?;

@@ -12,8 +12,8 @@ use ffs_workspace::Workspace;
 use std::alloc::{AllocError, Global};
 use std::test::Fail;
 
-// Directories 2 to 8: 2 is reached, 3 has no parent, 4 is empty and without a name, 5 and 6 are
-// each other's parents, 4 is that of 7, and 3 that of 8.
+/// Directories 2 to 8: 2 is reached, 3 has no parent, 4 is empty and without a name, 5 and 6 are
+/// each other's parents, 4 is that of 7, and 3 that of 8.
 fn surveyed(alloc: Global, geometry: &Geometry) -> Result<Workspace, AllocError>
     requires { inodes_of geometry.now.layout ≡ 32 }
     ensures made { IfOk result (λ w. IsFor geometry.now.layout w) }
@@ -27,7 +27,7 @@ fn surveyed(alloc: Global, geometry: &Geometry) -> Result<Workspace, AllocError>
     Ok(workspace)
 }
 
-// Inode 3: a directory of 512 bytes, changed a day after the epoch, of the owner 7.
+/// Inode 3: a directory of 512 bytes, changed a day after the epoch, of the owner 7.
 const LOST: [Number; 4] = [
     (29056, 2, 0o40755),
     (29064, 8, 512),
@@ -35,7 +35,7 @@ const LOST: [Number; 4] = [
     (29168, 4, 7),
 ];
 
-// What the connectivity check prints of them, and whether it found a defect.
+/// What the connectivity check prints of them, and whether it found a defect.
 fn reported(alloc: Global) -> Result<(Vec<u8>, bool), Fail> {
     let geometry = geometry(Order::Little)?;
     let mut workspace = surveyed(alloc, &geometry)?;

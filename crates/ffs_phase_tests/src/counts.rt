@@ -10,20 +10,19 @@ use ffs_claims::phase1;
 use ffs_counts::{phase4, phase5, summary};
 use ffs_image::{Image, MemoryImage};
 use ffs_layout::{Geometry, Order, Super};
-use ffs_phase::RunFault;
-use ffs_report::{Counted, Output, Report};
+use ffs_report::{Counted, Output, Report, RunFault};
 use ffs_samples::{Number, geometry, image_of, put, set_first, set_first_filled};
 use ffs_workspace::Workspace;
 use std::alloc::{AllocError, Global};
 use std::test::Fail;
 
-// The counts of references of inodes 0 to 7.
+/// The counts of references of inodes 0 to 7.
 const REFERENCES: [u64; 8] = [0, 0, 32766 + 2, 32767, 32769, 32767 + 2, 32769, 32767];
 
-// What phases before have found. Directory 2 has two references; the files 3 to 5 have none, none
-// and two, and 3 is marked and named by an entry; 6 is an empty directory and 7 a marked file,
-// neither of them named. Each count is the references and 32768 less the links, or 32769 where
-// there is no link.
+/// What phases before have found. Directory 2 has two references; the files 3 to 5 have none, none
+/// and two, and 3 is marked and named by an entry; 6 is an empty directory and 7 a marked file,
+/// neither of them named. Each count is the references and 32768 less the links, or 32769 where
+/// there is no link.
 fn referred(alloc: Global, geometry: &Geometry) -> Result<Workspace, AllocError>
     requires { inodes_of geometry.now.layout ≡ 32 }
     ensures made { IfOk result (λ w. IsFor geometry.now.layout w) }
@@ -40,7 +39,7 @@ fn referred(alloc: Global, geometry: &Geometry) -> Result<Workspace, AllocError>
     Ok(workspace)
 }
 
-// The modes and links of inodes 2 to 7: 2 links, 1, 0, 1, 0 and 1.
+/// The modes and links of inodes 2 to 7: 2 links, 1, 0, 1, 0 and 1.
 const INODES: [Number; 10] = [
     (28928, 2, 0o40755),
     (28930, 2, 2),
@@ -54,7 +53,7 @@ const INODES: [Number; 10] = [
     (29570, 2, 1),
 ];
 
-// What the reference check prints of them.
+/// What the reference check prints of them.
 fn reported(alloc: Global) -> Result<Vec<u8>, Fail> {
     let geometry = geometry(Order::Big)?;
     let mut workspace = referred(alloc, &geometry)?;
@@ -77,7 +76,7 @@ fn reference_check(rt: HostRuntime) -> Result<(), Fail> {
     Ok(())
 }
 
-// A root in the fragment 36, and the records of its group: the group block is at byte 24,576.
+/// A root in the fragment 36, and the records of its group: the group block is at byte 24,576.
 const ROOT: [Number; 21] = [
     (28928, 2, 0o40755),
     (28936, 8, 512),
@@ -102,7 +101,7 @@ const ROOT: [Number; 21] = [
     (32780, 4, 6),
 ];
 
-// An image with a volume's numbers and one more.
+/// An image with a volume's numbers and one more.
 fn volume_with(numbers: &[Number], number: Number, alloc: Global) -> Result<MemoryImage, AllocError>
     ensures { IfOk result (λ m. length m ≡ 131072) }
 {
@@ -112,7 +111,7 @@ fn volume_with(numbers: &[Number], number: Number, alloc: Global) -> Result<Memo
     Ok(MemoryImage::new(bytes))
 }
 
-// The block check, the group check and the summary.
+/// The block check, the group check and the summary.
 fn check_groups<I: Image, W: Output>(
     superblock: &Super,
     image: &mut I,
@@ -126,8 +125,8 @@ fn check_groups<I: Image, W: Output>(
     summary(superblock, workspace, report)
 }
 
-// What they print of the root's volume with one number more, where the superblock counts this many
-// free fragments.
+/// What they print of the root's volume with one number more, where the superblock counts this many
+/// free fragments.
 fn counted(fragments: i32, number: Number, alloc: Global) -> Result<Vec<u8>, Fail> {
     let superblock = Super {
         geometry: geometry(Order::Little)?,
@@ -145,7 +144,7 @@ fn counted(fragments: i32, number: Number, alloc: Global) -> Result<Vec<u8>, Fai
     Ok(text)
 }
 
-// The headings of the two phases, the lines of defects, and the last line.
+/// The headings of the two phases, the lines of defects, and the last line.
 fn expected(defects: &[u8], last: &[u8], alloc: Global) -> Result<Vec<u8>, Fail> {
     let mut text = Vec::new(alloc);
     text.extend_from_slice(
@@ -156,8 +155,8 @@ fn expected(defects: &[u8], last: &[u8], alloc: Global) -> Result<Vec<u8>, Fail>
     Ok(text)
 }
 
-// Nothing is wrong; the superblock, the summary record, the fragment map, the group's count of
-// fragments, its magic.
+/// Nothing is wrong; the superblock, the summary record, the fragment map, the group's count of
+/// fragments, its magic.
 #[test]
 fn group_checks(rt: HostRuntime) -> Result<(), Fail> {
     let right: &[u8] = b"1 files, 1 used, 94 free (6 frags, 22 blocks, 6.3% fragmentation)\n";

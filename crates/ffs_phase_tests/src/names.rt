@@ -14,7 +14,7 @@ use ffs_walk::{Blocks, Window};
 use std::alloc::{AllocError, Global};
 use std::test::Fail;
 
-// An entry of a directory, whose name is cut to the 255 bytes that an entry has at most.
+/// An entry of a directory, whose name is cut to the 255 bytes that an entry has at most.
 fn entry<'a>(number: u32, name: &'a [u8]) -> Entry<'a> {
     Entry {
         number,
@@ -39,7 +39,7 @@ fn roles(rt: HostRuntime) -> Result<(), Fail> {
     Ok(())
 }
 
-// The place of each chunk, its first byte and its last.
+/// The place of each chunk, its first byte and its last.
 fn chunks_of<I: Image>(
     geometry: &Geometry,
     inode: &Inode,
@@ -66,8 +66,8 @@ fn chunks_of<I: Image>(
     Ok(found)
 }
 
-// What the chunks of a directory hold whose first block is the fragments 40 to 43 and whose second
-// one is 40, where this many offers of it are kept (0: all).
+/// What the chunks of a directory hold whose first block is the fragments 40 to 43 and whose second
+/// one is 40, where this many offers of it are kept (0: all).
 fn chunks_kept(cut: u32, alloc: Global) -> Result<Vec<(u64, u8, u8)>, Fail> {
     let geometry = geometry(Order::Little)?;
     let numbers = [
@@ -88,7 +88,7 @@ fn chunks_kept(cut: u32, alloc: Global) -> Result<Vec<(u64, u8, u8)>, Fail> {
     Ok(chunks_of(&geometry, &directory, cut, &mut image, alloc)?)
 }
 
-// Where four offers are kept, the second block isn't.
+/// Where four offers are kept, the second block isn't.
 #[test]
 fn same_fragment_twice(rt: HostRuntime) -> Result<(), Fail> {
     let first = [

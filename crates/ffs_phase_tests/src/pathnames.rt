@@ -10,8 +10,8 @@ use ffs_workspace::due;
 use std::alloc::{AllocError, Global};
 use std::test::Fail;
 
-// Inode 2 is the root, 3 a file, 4 a directory, 6 a directory of size 0, 7 of no known type, 8 a
-// marked file.
+/// Inode 2 is the root, 3 a file, 4 a directory, 6 a directory of size 0, 7 of no known type, 8 a
+/// marked file.
 const KINDS: [u8; 9] = [0, 0, 4, 8, 4, 0, 5, 15, 8];
 
 const MARKED: [bool; 9] = [false, false, false, false, false, false, false, false, true];
@@ -27,7 +27,7 @@ fn entry(number: u32, kind: u8) -> Entry<'static> {
     }
 }
 
-// What is wrong with an inode that is not marked.
+/// What is wrong with an inode that is not marked.
 fn named(label: Label, suspect: bool, extraneous: bool, kind: bool) -> Verdict {
     Verdict::Named(Faults {
         suspect,
@@ -70,8 +70,8 @@ fn entries_of_the_root(rt: HostRuntime) -> Result<(), Fail> {
     Ok(())
 }
 
-// The verdict on a marked file, before two entries of the root are passed; those on a directory and
-// on the file after it, and then the word of the directory.
+/// The verdict on a marked file, before two entries of the root are passed; those on a directory and
+/// on the file after it, and then the word of the directory.
 fn verdicts_in_turn(alloc: Global) -> Result<([Verdict; 3], u32), AllocError> {
     let parents = numbers(&PARENTS, alloc)?;
     let inodes = Inodes {
@@ -91,8 +91,8 @@ fn verdicts_in_turn(alloc: Global) -> Result<([Verdict; 3], u32), AllocError> {
     Ok(([first, second, third], words[4]))
 }
 
-// The second entry of the root that names a directory is one too many; a marked file is reported at
-// the first alone. The place that is noted stays.
+/// The second entry of the root that names a directory is one too many; a marked file is reported at
+/// the first alone. The place that is noted stays.
 #[test]
 fn second_names(rt: HostRuntime) -> Result<(), Fail> {
     let first = Faults {

@@ -12,7 +12,7 @@ use ffs_workspace::{Workspace, is_due, note_of, place_in};
 use std::alloc::{AllocError, Global};
 use std::test::Fail;
 
-// 2 is the parent of 3, and 3 that of 5. The only chunk of 2 is noted: it is at fragment 40.
+/// 2 is the parent of 3, and 3 that of 5. The only chunk of 2 is noted: it is at fragment 40.
 fn surveyed(alloc: Global, geometry: &Geometry) -> Result<Workspace, AllocError>
     requires { inodes_of geometry.now.layout ≡ 32 }
     ensures made { IfOk result (λ w. IsFor geometry.now.layout w) }
@@ -32,8 +32,8 @@ fn surveyed(alloc: Global, geometry: &Geometry) -> Result<Workspace, AllocError>
     Ok(workspace)
 }
 
-// The root has `.`, `a` (3) and `b` (4). Inode 3 has 1,024 bytes at fragment 41: an empty entry,
-// and then `c` (5).
+/// The root has `.`, `a` (3) and `b` (4). Inode 3 has 1,024 bytes at fragment 41: an empty entry,
+/// and then `c` (5).
 const NUMBERS: [Number; 19] = [
     (29056, 2, 0o40755),
     (29064, 8, 1024),
@@ -56,7 +56,7 @@ const NUMBERS: [Number; 19] = [
     (42502, 4, 0x0063_0104),
 ];
 
-// The chunks that are noted of inodes 2 to 5, and whether a word is due.
+/// The chunks that are noted of inodes 2 to 5, and whether a word is due.
 fn noted(alloc: Global) -> Result<([Option<u32>; 4], bool), Fail> {
     let geometry = geometry(Order::Little)?;
     let mut workspace = surveyed(alloc, &geometry)?;

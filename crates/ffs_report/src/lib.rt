@@ -7,20 +7,25 @@
 //! `SilentWriter` passes nothing on after its first failure, and a `FuseWriter` fails after some
 //! bytes.
 //!
+//! What each phase owes is said here too: `PhaseReports` says in one clause what was printed at Ok
+//! (all lines of the phase), at a failed read (a prefix of them, in whole lines) and at a failed
+//! write (a prefix of their bytes); `ImageAfter` says what became of the image, and `PhaseRuns`
+//! says both. `RunFault` is the error of every phase.
+//!
 //! ```text
 //! let mut report = Report::new(&mut out);
 //! report.say(&Line::Heading(Heading::Phase1))?;
 //! ```
 //!
-//! It rests on `ffs_volume`.
+//! It rests on `ffs_volume` and `ffs_image`.
 #![tactic(auto)]
 
 mod counted;
 mod dup_line;
+mod fault;
 mod fuse;
 mod line;
 mod line_buffer;
-mod names;
 mod outlet;
 mod output;
 mod piece;
@@ -28,8 +33,10 @@ pub mod print;
 mod report;
 mod say;
 mod silent;
+mod tree_lines;
 
 pub use counted::Counted;
+pub use fault::RunFault;
 pub use fuse::FuseWriter;
 pub use line::{DirectoryLine, DotLine, EntryLine, Heading, Line, ReferenceLine};
 pub use outlet::Outlet;

@@ -6,10 +6,10 @@ ghost use Rattle.ffs_volume.specs.Messages.Texts.{text_of, fault_text, opening_t
 
 use crate::line::{Heading, Line};
 use crate::line_buffer::LineBuffer;
-use crate::names::{print_directory, print_dot, print_entry, print_reference};
 use crate::output::{OutFault, Output};
 use crate::piece::Piece;
 use crate::print::{print, print_count, print_digits, print_number, print_pieces};
+use crate::tree_lines::{print_directory, print_dot, print_entry, print_reference};
 use ffs_volume::texts::*;
 use ffs_volume::{BlockMessage, SuperFault};
 use itoa::Buffer;

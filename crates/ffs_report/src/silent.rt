@@ -40,12 +40,12 @@ impl<S: Outlet> SilentWriter<S> {
     }
 }
 
-// The error of each call after a failure.
+/// The error of each call after a failure.
 fn silence() -> io::Error {
     io::Error::from(ErrorKind::BrokenPipe)
 }
 
-// Whether a signal interrupted the write that has this answer.
+/// Whether a signal interrupted the write that has this answer.
 fn is_interrupted(answer: &io::Result<usize>) -> bool
     ensures { IsTrue result ↔ IsInterrupted answer.now }
 {
@@ -55,7 +55,7 @@ fn is_interrupted(answer: &io::Result<usize>) -> bool
     }
 }
 
-// One write, tried again where a signal interrupts it.
+/// One write, tried again where a signal interrupts it.
 fn write_uninterrupted<S: Outlet>(inner: &mut S, buf: &[u8]) -> io::Result<usize>
     ensures bound { WritesAtMost result buf.now }
     ensures bytes { WriteAppends (S.contents inner.old) (S.contents inner.new) result buf.now }

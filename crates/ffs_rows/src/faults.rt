@@ -10,7 +10,7 @@ use ffs_volume::{End, SuperFault};
 use std::io;
 use std::io::{ErrorKind, Write};
 
-// The rows over which each read and each write fails in turn.
+/// The rows over which each read and each write fails in turn.
 const ROWS: [&str; 4] = [
     "clean 0",
     "shared_fragment 1",
@@ -18,13 +18,13 @@ const ROWS: [&str; 4] = [
     "lost_cycle 1",
 ];
 
-// The rows with trees of indirect blocks that point to themselves.
+/// The rows with trees of indirect blocks that point to themselves.
 const TREES: [&str; 2] = ["triple_tree_self 1", "indirect_claims_itself 1"];
 
-// The read that fails in a run over one of them: the run makes fewer reads, so it never comes.
+/// The read that fails in a run over one of them: the run makes fewer reads, so it never comes.
 const READS: u64 = 300;
 
-// What is printed of the clean image where the chunk of its root can't be read.
+/// What is printed of the clean image where the chunk of its root can't be read.
 const CUT_AT_ROOT: &[u8] =
     b"** t.img (NO WRITE)\n** Last Mounted on /mnt\n** Phase 1 - Check Blocks and Sizes\n** Phase 2 - Check Pathnames\nCAN NOT READ: BLK 72\n";
 
@@ -46,7 +46,7 @@ pub fn compare(rt: &HostRuntime, tally: &mut Tally) -> io::Result<()> {
     fail_root(rt, tally)
 }
 
-// The read of the root's chunk fails.
+/// The read of the root's chunk fails.
 fn fail_root(rt: &HostRuntime, tally: &mut Tally) -> io::Result<()> {
     let row = Row::read(rt, "clean 8")?;
     let mut image = FuseImage::touching(row.in_memory(rt.alloc())?, 72);
@@ -55,7 +55,7 @@ fn fail_root(rt: &HostRuntime, tally: &mut Tally) -> io::Result<()> {
     tally.count(rt, row.name.as_str(), "its root fails", agrees)
 }
 
-// A run makes fewer reads than would blow a fuse.
+/// A run makes fewer reads than would blow a fuse.
 fn bound_reads(rt: &HostRuntime, row: &Row, tally: &mut Tally) -> io::Result<()> {
     let mut image = FuseImage::nth(row.in_memory(rt.alloc())?, READS);
     let (end, text) = row.checked(rt.alloc(), &mut image);
@@ -63,7 +63,7 @@ fn bound_reads(rt: &HostRuntime, row: &Row, tally: &mut Tally) -> io::Result<()>
     tally.count(rt, row.name.as_str(), "few reads", agrees)
 }
 
-// Each read fails in turn, until a run has no failure.
+/// Each read fails in turn, until a run has no failure.
 fn fail_reads(rt: &HostRuntime, row: &Row, tally: &mut Tally) -> io::Result<()> {
     for k in 1..u64::MAX {
         let mut image = FuseImage::nth(row.in_memory(rt.alloc())?, k);
@@ -82,13 +82,13 @@ fn fail_reads(rt: &HostRuntime, row: &Row, tally: &mut Tally) -> io::Result<()> 
     Ok(())
 }
 
-// Whether a text is a prefix of a report that ends with a whole line, and then a last line.
+/// Whether a text is a prefix of a report that ends with a whole line, and then a last line.
 fn is_cut(text: &[u8], report: &[u8], last: &[u8]) -> bool {
     let (prefix, end) = text.split_at(text.len().saturating_sub(last.len()));
     end == last && report.starts_with(prefix) && prefix.ends_with(b"\n".as_slice())
 }
 
-// The writer stops at each byte in turn.
+/// The writer stops at each byte in turn.
 fn fail_writes(rt: &HostRuntime, row: &Row, tally: &mut Tally) -> io::Result<()> {
     let args = Args {
         name: "t.img",
@@ -110,7 +110,7 @@ fn fail_writes(rt: &HostRuntime, row: &Row, tally: &mut Tally) -> io::Result<()>
     Ok(())
 }
 
-// A writer that takes all bytes, and whose flush fails.
+/// A writer that takes all bytes, and whose flush fails.
 #[derive(Drop)]
 struct Unflushed {
     text: Vec<u8>,
@@ -126,7 +126,7 @@ impl Write for Unflushed {
     }
 }
 
-// Of a run in a file the last flush alone fails.
+/// Of a run in a file the last flush alone fails.
 fn fail_flush(rt: &HostRuntime, row: &Row, tally: &mut Tally) -> io::Result<()> {
     let mut out = Unflushed {
         text: Vec::new(rt.alloc()),

@@ -29,8 +29,8 @@ pub fn compare(rt: &HostRuntime, tally: &mut Tally) -> io::Result<()> {
     cut(rt, &copy, 17760, [NO_COPY, TOO_SHORT_FOR_COPY], tally)
 }
 
-// Compares the checks of each prefix of a row's image with a text for those below a length, and one
-// for the others.
+/// Compares the checks of each prefix of a row's image with a text for those below a length, and one
+/// for the others.
 fn cut(
     rt: &HostRuntime,
     row: &Row,

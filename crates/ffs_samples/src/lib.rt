@@ -110,7 +110,7 @@ pub fn image_of(order: Order, numbers: &[Number], alloc: Global) -> Result<Memor
     Ok(MemoryImage::new(bytes))
 }
 
-// The superblock of a volume with one group: place, number.
+/// The superblock of a volume with one group: place, number.
 const NUMBERS: [(usize, u64); 30] = [
     (8, 16),
     (12, 24),

@@ -28,7 +28,7 @@ pub fn is_dead(number: u32, kinds: &[u8], marked: &[bool], named: &[bool]) -> bo
     is_suspect(kinds, marked, number as usize) && number != ROOTINO && !named[number as usize]
 }
 
-// The parent of a directory, if it has one.
+/// The parent of a directory, if it has one.
 fn parent_of(parents: &FilledList<u32>, dir: u32) -> Option<u32>
     ensures { MatchOption result (number_at parents.now.items dir ≡ 0)
         (λ above. (above ≡ number_at parents.now.items dir) × (above ≢ 0)) }

@@ -13,8 +13,8 @@ use ffs_volume::{End, SuperFault};
 use std::alloc::{AllocError, Global};
 use std::test::Fail;
 
-// What a volume holds whose root is all that there is: the group block at byte 24,576, its inode,
-// its summary record, and the root's own two entries.
+/// What a volume holds whose root is all that there is: the group block at byte 24,576, its inode,
+/// its summary record, and the root's own two entries.
 const ROOT: [Number; 25] = [
     (24580, 4, 0x090255),
     (24596, 4, 128),
@@ -43,8 +43,8 @@ const ROOT: [Number; 25] = [
     (36882, 1, 4),
 ];
 
-// The maps of the group, and the names of the two entries with the second one's length: the same
-// bytes in both orders.
+/// The maps of the group, and the names of the two entries with the second one's length: the same
+/// bytes in both orders.
 const BYTES: [(usize, &[u8]); 4] = [
     (
         24744,
@@ -81,7 +81,7 @@ pub fn checked<I: Image>(image: &mut I, alloc: Global) -> (End, Vec<u8>) {
     (end, text)
 }
 
-// The same of the volume with a root alone, and one number more.
+/// The same of the volume with a root alone, and one number more.
 fn checked_with(order: Order, number: Number, alloc: Global) -> Result<(End, Vec<u8>), AllocError> {
     let mut image = volume(order, &[number], alloc)?;
     Ok(checked(&mut image, alloc))
@@ -97,7 +97,7 @@ fn consistent_volume(rt: HostRuntime) -> Result<(), Fail> {
     Ok(())
 }
 
-// The root's count of links is 3; inode 2 is no inode.
+/// The root's count of links is 3; inode 2 is no inode.
 #[test]
 fn defects_and_a_stop(rt: HostRuntime) -> Result<(), Fail> {
     let stopped = b"ROOT INODE UNALLOCATED\nALLOCATE? no\n\n".as_slice();
@@ -112,13 +112,13 @@ fn defects_and_a_stop(rt: HostRuntime) -> Result<(), Fail> {
     Ok(())
 }
 
-// The root's chunk, in sector 72, can't be read.
+/// The root's chunk, in sector 72, can't be read.
 fn checked_unreadable(alloc: Global) -> Result<(End, Vec<u8>), AllocError> {
     let inner = volume(Order::Little, &[], alloc)?;
     Ok(checked(&mut FuseImage::touching(inner, 72), alloc))
 }
 
-// The output stops after twenty bytes.
+/// The output stops after twenty bytes.
 fn checked_unwritable(alloc: Global) -> Result<(End, Vec<u8>), AllocError> {
     let mut image = volume(Order::Little, &[], alloc)?;
     let mut writer = FuseWriter::new(Vec::new(alloc), 20);
@@ -155,7 +155,7 @@ fn statuses(rt: HostRuntime) -> Result<(), Fail> {
     Ok(())
 }
 
-// The status of a run of these words, what it prints, and what it prints to its errors.
+/// The status of a run of these words, what it prints, and what it prints to its errors.
 fn ran(rt: &HostRuntime, words: &[&str]) -> (u8, Vec<u8>, Vec<u8>) {
     let mut out = Vec::new(rt.alloc());
     let mut errors = Vec::new(rt.alloc());
@@ -200,7 +200,7 @@ fn wrong_words(rt: HostRuntime) -> Result<(), Fail> {
     Ok(())
 }
 
-// Words for which clap needs more memory than for two.
+/// Words for which clap needs more memory than for two.
 #[test]
 fn no_such_file(rt: HostRuntime) -> Result<(), Fail> {
     let words = ["-N", "-nn", "-b", "32", "-N", "missing.img"];
@@ -214,8 +214,8 @@ fn no_such_file(rt: HostRuntime) -> Result<(), Fail> {
     Ok(())
 }
 
-// How the opening of an image of zeros ends whose sector 32 can't be read, at its first superblock
-// and at a copy there, and what is printed.
+/// How the opening of an image of zeros ends whose sector 32 can't be read, at its first superblock
+/// and at a copy there, and what is printed.
 fn refused(alloc: Global) -> Result<([Option<End>; 2], Vec<u8>), Fail> {
     let zeros = vec![in alloc; 0u8; 131072]?;
     let mut image = FuseImage::touching(MemoryImage::new(zeros), 32);

@@ -11,7 +11,7 @@ const LONG: &str = "ffs_image_long_n.img";
 
 const LETTERS: &[u8; 4] = b"abcd";
 
-// A system whose files have four letters. Each read gives one of them, and every second one fails.
+/// A system whose files have four letters. Each read gives one of them, and every second one fails.
 #[derive(Clone, Copy)]
 struct Letters {
     fifo: bool,

@@ -23,14 +23,14 @@ const ODD: &str = "ffs_image_odd.img";
 
 const READ_ONLY: &str = "ffs_image_read_only.img";
 
-// An image of zeros, and `abcd` at 1022.
+/// An image of zeros, and `abcd` at 1022.
 fn letters(alloc: Global) -> Result<MemoryImage, AllocError>
     ensures { IfOk result (λ m. length m ≡ 131072) }
 {
     image_of(Order::Little, &[(1022, 4, 0x6463_6261)], alloc)
 }
 
-// Reads four bytes in sector 0, then in sectors 1 and 2, then in sector 2.
+/// Reads four bytes in sector 0, then in sectors 1 and 2, then in sector 2.
 fn three_reads<I: Image>(image: &mut I) -> [Result<(), ImageFault>; 3]
     requires { 131072 ≤ (I.device image.old).size }
 {
@@ -42,7 +42,7 @@ fn three_reads<I: Image>(image: &mut I) -> [Result<(), ImageFault>; 3]
     ]
 }
 
-// The size of the image with the letters, and six bytes about them.
+/// The size of the image with the letters, and six bytes about them.
 fn letters_read(alloc: Global) -> Result<(u64, [u8; 6]), Fail> {
     let mut image = letters(alloc)?;
     let mut found = [9u8; 6];
@@ -58,17 +58,17 @@ fn memory_reads(rt: HostRuntime) -> Result<(), Fail> {
     Ok(())
 }
 
-// What came of three reads, how many of them failed, and the sector of the last one that did.
+/// What came of three reads, how many of them failed, and the sector of the last one that did.
 type ThreeReads = ([Result<(), ImageFault>; 3], [u64; 2]);
 
-// The reads of an image whose k-th read fails.
+/// The reads of an image whose k-th read fails.
 fn reads_of_nth(k: u64, alloc: Global) -> Result<ThreeReads, AllocError> {
     let mut image = FuseImage::nth(letters(alloc)?, k);
     let reads = three_reads(&mut image);
     Ok((reads, [image.failures(), image.failed()]))
 }
 
-// The reads of an image whose reads of a sector fail.
+/// The reads of an image whose reads of a sector fail.
 fn reads_touching(sector: u64, alloc: Global) -> Result<ThreeReads, AllocError> {
     let mut image = FuseImage::touching(letters(alloc)?, sector);
     let reads = three_reads(&mut image);
@@ -93,7 +93,7 @@ fn fuses_fail_their_reads(rt: HostRuntime) -> Result<(), Fail> {
     Ok(())
 }
 
-// What comes of a read, or nothing where the image is too small for it.
+/// What comes of a read, or nothing where the image is too small for it.
 fn read_within<I: Image>(image: &mut I, at: u64, buf: &mut [u8]) -> Option<Result<(), ImageFault>> {
     let size = image.size();
     if size < at || size - at < buf.len() as u64 {
@@ -102,12 +102,12 @@ fn read_within<I: Image>(image: &mut I, at: u64, buf: &mut [u8]) -> Option<Resul
     Some(image.read_at(at, buf))
 }
 
-// What is found of a file: its size when it was opened, four of its bytes, what came of the read of
-// them, and of a second one after the file was cut, how many reads failed, and the sector of the
-// last one that did.
+/// What is found of a file: its size when it was opened, four of its bytes, what came of the read of
+/// them, and of a second one after the file was cut, how many reads failed, and the sector of the
+/// last one that did.
 type CutFile = (u64, [u8; 4], [Option<Result<(), ImageFault>>; 2], [u64; 2]);
 
-// A file of 1,024 bytes, which is cut to 1,022 after the first read, and removed.
+/// A file of 1,024 bytes, which is cut to 1,022 after the first read, and removed.
 fn cut_file<R: Files<File = File>>(files: &R) -> Result<CutFile, Fail> {
     fs::write(files, NAME, [7u8; 1024].as_slice())?;
     let mut image = FileImage::open(files, NAME)?;
@@ -124,7 +124,7 @@ fn cut_file<R: Files<File = File>>(files: &R) -> Result<CutFile, Fail> {
     ))
 }
 
-// A file that is shorter than when it was opened fails the reads past its end.
+/// A file that is shorter than when it was opened fails the reads past its end.
 #[test]
 fn file_reads(rt: HostRuntime) -> Result<(), Fail> {
     let (size, found, reads, failures) = cut_file(&rt)?;
@@ -139,7 +139,7 @@ fn file_reads(rt: HostRuntime) -> Result<(), Fail> {
     Ok(())
 }
 
-// The size of a file's image, two of its bytes, and what came of the read of them.
+/// The size of a file's image, two of its bytes, and what came of the read of them.
 type TwoBytes = (u64, [u8; 2], Option<Result<(), ImageFault>>);
 
 fn two_bytes<R: Files<File = File>>(files: &R, name: &str, at: u64) -> Result<TwoBytes, Fail> {
@@ -149,8 +149,8 @@ fn two_bytes<R: Files<File = File>>(files: &R, name: &str, at: u64) -> Result<Tw
     Ok((image.size(), found, read))
 }
 
-// An image that isn't a whole number of sectors has its size, and opening and reading change
-// nothing. A file that is missing isn't made.
+/// An image that isn't a whole number of sectors has its size, and opening and reading change
+/// nothing. A file that is missing isn't made.
 #[test]
 fn file_is_left_as_it_is(rt: HostRuntime) -> Result<(), Fail> {
     fs::write(&rt, ODD, [7u8; 1001].as_slice())?;
@@ -170,7 +170,7 @@ fn file_is_left_as_it_is(rt: HostRuntime) -> Result<(), Fail> {
     Ok(())
 }
 
-// Files of a system that are opened for reading alone, and nothing else of it.
+/// Files of a system that are opened for reading alone, and nothing else of it.
 #[derive(Clone, Copy)]
 struct ReadOnly<'a, R> {
     files: &'a R,
@@ -230,7 +230,7 @@ impl<R: Files<File = File>> Files for ReadOnly<'_, R> {
     }
 }
 
-// Whether a file is opened for writing.
+/// Whether a file is opened for writing.
 fn opens_for_writing<R: Files<File = File>>(files: &R, name: &str) -> bool {
     OpenOptions::new()
         .read(true)
@@ -253,7 +253,7 @@ fn opens_for_reading_alone(rt: HostRuntime) -> Result<(), Fail> {
     Ok(())
 }
 
-// How a check of what has this name ends, and what it prints.
+/// How a check of what has this name ends, and what it prints.
 fn checked<R: Files<File = File>>(
     files: &R,
     name: &str,
@@ -266,7 +266,7 @@ fn checked<R: Files<File = File>>(
     Ok((end, text))
 }
 
-// A directory can't be read, and a device without bytes has none.
+/// A directory can't be read, and a device without bytes has none.
 #[test]
 fn no_superblock_in_a_directory(rt: HostRuntime) -> Result<(), Fail> {
     let refused = End::Refused(SuperFault::CannotRead { sector: 16 });

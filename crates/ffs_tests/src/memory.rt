@@ -15,15 +15,15 @@ use ffs_volume::End;
 use std::alloc::{AllocError, Global};
 use std::test::Fail;
 
-// Two maps, nine lists with an item for each inode, and four buffers.
+/// Two maps, nine lists with an item for each inode, and four buffers.
 const REQUESTS: u64 = 15;
 
-// Two maps of two words, 25 bytes for each of 32 inodes, and six blocks.
+/// Two maps of two words, 25 bytes for each of 32 inodes, and six blocks.
 const HELD: u64 = 2 * 16 + 25 * 32 + 6 * 4096;
 
 const UNSTARTED: &[u8] = b"** t.img (NO WRITE)\n** Last Mounted on /mnt\ncannot alloc maps\n";
 
-// How a check ends whose k-th request is refused, with what it printed, and the memory after it.
+/// How a check ends whose k-th request is refused, with what it printed, and the memory after it.
 fn refused(k: u64, alloc: Global) -> Result<(End, Vec<u8>, FuseMemory<SystemMemory>), Fail> {
     let mut image = MemoryImage::new(base(Order::Little, alloc)?);
     let args = Args {
@@ -36,8 +36,8 @@ fn refused(k: u64, alloc: Global) -> Result<(End, Vec<u8>, FuseMemory<SystemMemo
     Ok((end, text, memory))
 }
 
-// How a check ends whose k-th request is refused, what it prints, and how many requests were
-// refused and bytes granted.
+/// How a check ends whose k-th request is refused, what it prints, and how many requests were
+/// refused and bytes granted.
 fn counted(k: u64, alloc: Global) -> Result<(End, Vec<u8>, [u64; 2]), Fail> {
     let (end, text, memory) = refused(k, alloc)?;
     Ok((end, text, [memory.refused(), memory.granted()]))
@@ -54,14 +54,14 @@ fn each_request_refused(rt: HostRuntime) -> Result<(), Fail> {
     Ok(())
 }
 
-// The bytes granted for a thousand words, and how many they are.
+/// The bytes granted for a thousand words, and how many they are.
 fn thousand_words(alloc: Global) -> Result<(u64, usize), AllocError> {
     let mut memory = SystemMemory::new(alloc);
     let words = memory.zeroed_words(1000)?;
     Ok((memory.granted(), words.len()))
 }
 
-// The last of a thousand words; those about 700 once it is set; 3 and 700 once 3 is set too.
+/// The last of a thousand words; those about 700 once it is set; 3 and 700 once 3 is set too.
 fn words_seen(alloc: Global) -> Result<[u64; 6], AllocError> {
     let mut words = SystemMemory::new(alloc).zeroed_words(1000)?;
     let last = words.get(999);
@@ -71,20 +71,20 @@ fn words_seen(alloc: Global) -> Result<[u64; 6], AllocError> {
     Ok([last, before, at, after, words.get(3), words.get(700)])
 }
 
-// A volume of one group with more inodes than 16 bits can count: its fragments, its inodes, and
-// where its data begins.
+/// A volume of one group with more inodes than 16 bits can count: its fragments, its inodes, and
+/// where its data begins.
 const FRAGMENTS: u64 = 8320;
 
 const INODES: u64 = 65568;
 
 const DATA: u64 = 8224;
 
-// Two maps of 130 words, 25 bytes for each inode, and six blocks.
+/// Two maps of 130 words, 25 bytes for each inode, and six blocks.
 const MANY_HELD: u64 = 2 * 8 * 130 + 25 * INODES + 6 * 4096;
 
 const NO_ROOT: &[u8] = b"** Phase 2 - Check Pathnames\nROOT INODE UNALLOCATED\nALLOCATE? no\n\n";
 
-// What its superblock has in other places than that of the base volume, and what is there.
+/// What its superblock has in other places than that of the base volume, and what is there.
 const CHANGED: [(usize, u64); 5] = [
     (20, DATA),
     (36, FRAGMENTS),
@@ -93,13 +93,13 @@ const CHANGED: [(usize, u64); 5] = [
     (188, FRAGMENTS),
 ];
 
-// So many bytes, each 0.
+/// So many bytes, each 0.
 fn zeros(count: usize, alloc: Global) -> Result<Vec<u8>, AllocError> {
     let bytes = vec![in alloc; 0u8; count]?;
     Ok(bytes)
 }
 
-// The image of that volume, whose inodes are all free.
+/// The image of that volume, whose inodes are all free.
 fn many_inodes(alloc: Global) -> Result<MemoryImage, AllocError> {
     let mut bytes = zeros(8519680, alloc)?;
     for at in [8192, 16384] {
@@ -132,7 +132,7 @@ fn more_inodes_than_16_bits(rt: HostRuntime) -> Result<(), Fail> {
     Ok(())
 }
 
-// Words are 0 until they are set, and the others stay.
+/// Words are 0 until they are set, and the others stay.
 #[test]
 fn words_set_and_unset(rt: HostRuntime) -> Result<(), Fail> {
     same(&rt, &thousand_words(rt.alloc())?, &(8000, 1000));
@@ -140,8 +140,8 @@ fn words_set_and_unset(rt: HostRuntime) -> Result<(), Fail> {
     Ok(())
 }
 
-// Which of three claims are made, and what each leaves of its word, and the third of the word
-// before.
+/// Which of three claims are made, and what each leaves of its word, and the third of the word
+/// before.
 fn claimed(alloc: Global) -> Result<([bool; 3], [u64; 4]), AllocError> {
     let mut words = SystemMemory::new(alloc).zeroed_words(1000)?;
     words.set(3, 9);
@@ -156,7 +156,7 @@ fn claimed(alloc: Global) -> Result<([bool; 3], [u64; 4]), AllocError> {
     ))
 }
 
-// The bits of a mask are claimed where none of them is set: beside bits that are, but not over one.
+/// The bits of a mask are claimed where none of them is set: beside bits that are, but not over one.
 #[test]
 fn bits_claimed_once(rt: HostRuntime) -> Result<(), Fail> {
     let (made, words) = claimed(rt.alloc())?;
@@ -165,14 +165,14 @@ fn bits_claimed_once(rt: HostRuntime) -> Result<(), Fail> {
     Ok(())
 }
 
-// The bytes granted for a thousand numbers, and how many they are.
+/// The bytes granted for a thousand numbers, and how many they are.
 fn thousand_numbers(alloc: Global) -> Result<(u64, usize), AllocError> {
     let mut memory = SystemMemory::new(alloc);
     let list = memory.numbers(1000)?;
     Ok((memory.granted(), list.len()))
 }
 
-// The last number of a thousand; those about 700 once it is set; 3 and 700 once 3 is set too.
+/// The last number of a thousand; those about 700 once it is set; 3 and 700 once 3 is set too.
 fn numbers_seen(alloc: Global) -> Result<[u32; 6], AllocError> {
     let mut list = SystemMemory::new(alloc).numbers(1000)?;
     let last = list[999];
@@ -182,8 +182,8 @@ fn numbers_seen(alloc: Global) -> Result<[u32; 6], AllocError> {
     Ok([last, before, at, after, list[3], list[700]])
 }
 
-// How many numbers a list has that is filled after 3 and 700 were set, and three of them; those
-// about 1 once it is set.
+/// How many numbers a list has that is filled after 3 and 700 were set, and three of them; those
+/// about 1 once it is set.
 fn filled_numbers_seen(alloc: Global) -> Result<(usize, [u32; 6]), AllocError> {
     let mut list = SystemMemory::new(alloc).numbers(1000)?;
     list.set(700, 7);
@@ -195,7 +195,7 @@ fn filled_numbers_seen(alloc: Global) -> Result<(usize, [u32; 6]), AllocError> {
     Ok((count, [low, high, last, list[0], list[1], list[2]]))
 }
 
-// Numbers are 0 until one is set, and again once the list is filled.
+/// Numbers are 0 until one is set, and again once the list is filled.
 #[test]
 fn numbers_set_and_filled(rt: HostRuntime) -> Result<(), Fail> {
     same(&rt, &thousand_numbers(rt.alloc())?, &(4000, 1000));
@@ -208,7 +208,7 @@ fn numbers_set_and_filled(rt: HostRuntime) -> Result<(), Fail> {
     Ok(())
 }
 
-// A list of eight numbers, of which the first four are set.
+/// A list of eight numbers, of which the first four are set.
 fn eight(alloc: Global) -> Result<FilledList<u32>, AllocError>
     ensures { IfOk result (λ list. vec_len list ≡ 8) }
 {
@@ -217,7 +217,7 @@ fn eight(alloc: Global) -> Result<FilledList<u32>, AllocError>
     Ok(list)
 }
 
-// The eight numbers after these parts were put in order, one after the other.
+/// The eight numbers after these parts were put in order, one after the other.
 fn sorted(parts: &[(usize, usize)], alloc: Global) -> Result<[u32; 8], AllocError> {
     let mut list = eight(alloc)?;
     for &(from, to) in parts {
@@ -234,7 +234,7 @@ fn sorted(parts: &[(usize, usize)], alloc: Global) -> Result<[u32; 8], AllocErro
     Ok(found)
 }
 
-// Part of a list is put in order, what wasn't set among it, and the numbers beside it stay.
+/// Part of a list is put in order, what wasn't set among it, and the numbers beside it stay.
 #[test]
 fn part_sorted(rt: HostRuntime) -> Result<(), Fail> {
     let [none, some, all] = [

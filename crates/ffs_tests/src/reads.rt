@@ -9,7 +9,7 @@ use ffs_volume::{End, SuperFault};
 use std::alloc::{AllocError, Global};
 use std::test::Fail;
 
-// Inode 3 is a directory of size 512, whose chunk of zeros is fragment 40.
+/// Inode 3 is a directory of size 512, whose chunk of zeros is fragment 40.
 const LOST: [Number; 5] = [
     (29056, 2, 0o40755),
     (29058, 2, 2),
@@ -18,8 +18,8 @@ const LOST: [Number; 5] = [
     (29160, 4, 2),
 ];
 
-// Inodes 3 and 4 are files of 13 blocks, of which the last alone has an address: for both fragment
-// 52, in the indirect blocks at fragments 44 and 48.
+/// Inodes 3 and 4 are files of 13 blocks, of which the last alone has an address: for both fragment
+/// 52, in the indirect blocks at fragments 44 and 48.
 const SHARED: [Number; 12] = [
     (29056, 2, 0o100644),
     (29058, 2, 1),
@@ -35,7 +35,7 @@ const SHARED: [Number; 12] = [
     (49152, 4, 52),
 ];
 
-// The root's third entry names inode 5, which is free.
+/// The root's third entry names inode 5, which is free.
 const NAMED: [Number; 6] = [
     (36880, 2, 12),
     (36888, 4, 5),
@@ -45,17 +45,17 @@ const NAMED: [Number; 6] = [
     (36896, 1, 102),
 ];
 
-// How a check of the volume with a root alone, and these numbers more, ends, and how often it reads.
+/// How a check of the volume with a root alone, and these numbers more, ends, and how often it reads.
 fn counted(order: Order, more: &[Number], alloc: Global) -> Result<(End, u64), AllocError> {
     let mut image = CountedImage::new(volume(order, more, alloc)?);
     let (end, _) = checked(&mut image, alloc);
     Ok((end, image.reads()))
 }
 
-// The counts are those of the system calls of the program on the same bytes in a file. A clean volume
-// of this size has six: the superblock and its copy, the inodes, the root's chunk, and the summary
-// record and the block of the group. With a second directory there is its chunk; with two indirect
-// blocks these, and the first one again in phase 1b. Other defects ask for no more.
+/// The counts are those of the system calls of the program on the same bytes in a file. A clean volume
+/// of this size has six: the superblock and its copy, the inodes, the root's chunk, and the summary
+/// record and the block of the group. With a second directory there is its chunk; with two indirect
+/// blocks these, and the first one again in phase 1b. Other defects ask for no more.
 #[test]
 fn reads_of_a_check(rt: HostRuntime) -> Result<(), Fail> {
     let cases: [(&[Number], End, u64); 7] = [

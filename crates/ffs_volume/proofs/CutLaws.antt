@@ -12,7 +12,7 @@ use Rattle.ffs_volume.specs.Blocks.Steps.{steps_of}
 use Rattle.ffs_volume.specs.Blocks.Owners.{owner_of}
 use Rattle.ffs_volume.specs.Blocks.Claims.{Claims, no_claims, reserved_map, at_next_inode, after_steps, after_owner}
 use Rattle.ffs_volume.specs.Blocks.Claims.{after_owners}
-use Rattle.ffs_volume.proofs.Weights.{owner_moves, kept_bound}
+use Rattle.ffs_volume.proofs.Potentials.{owner_moves, kept_bound}
 use Rattle.ffs_volume.specs.Blocks.KeptSteps.{claims_before, kept_steps_of}
 use Rattle.ffs_volume.specs.Directories.Volumes.{is_inode_number, kept_steps_of_inode}
 use Rattle.ffs_volume.specs.Encodings.Replay.{cut_of, cut_at, fresh_replay, replayed_steps}
@@ -25,7 +25,7 @@ owners_length v image s [] g h = h
 owners_length v image s (x ∷ xs) g h = owners_length v image (after_owner v s (owner_of v image x)) xs g
     ((owner_moves v image s x g h).used_length ∙ h)
 
-before_length : (v : Layout) (image : List ℕ) (x : ℕ) → IsAcceptedLayout v → length (claims_before v image x).used ≡
+pub before_length : (v : Layout) (image : List ℕ) (x : ℕ) → IsAcceptedLayout v → length (claims_before v image x).used ≡
     v.size
 unfolding claims_before no_claims reserved_map
 before_length v image x g = owners_length v image (no_claims v) (range_with_len 2 (x - 2)) g

@@ -16,7 +16,8 @@ pub mod OutcomeLaws
 pub mod AreaLaws
 pub mod RunLaws
 pub mod StepLaws
-pub mod Weights
+pub mod Potentials
+pub mod RunBounds
 pub mod CutLaws
 pub mod ChunkLaws
 pub mod Pigeon

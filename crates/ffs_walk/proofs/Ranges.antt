@@ -1,3 +1,4 @@
+-- The first number of a range, and the others.
 use Rattle.std.proofs.Common.{◌≡◌, ℕ, ◌+◌, ◌-◌, ◌<◌, List, ◌∷◌, ◌++◌, arith, rules, refl}
 use Rattle.std.specs.List.{flat_map, range_with_len}
 

@@ -1,3 +1,4 @@
+-- The steps of a file at each level of indirect blocks, and of a walk that has nothing left there.
 use Rattle.std.proofs.Common.{◌≡◌, ℕ, ◌+◌, ◌-◌, ◌*◌, ◌<◌, ◌≤◌, List, [], ◌∷◌, ◌++◌, slice_index, append_assoc, Option}
 use Rattle.std.proofs.Common.{Some, None, arith, refl, ◌∙◌}
 use Rattle.std.specs.Prelude.{◌↔◌}

@@ -54,8 +54,8 @@ fn is_short_symlink(geometry: &Geometry, inode: &Inode) -> bool
     inode.mode / 4096 == u16::from(DT_LNK) && inode.size < u64::from(geometry.layout.maxsymlinklen)
 }
 
-// Whether an address from an index on isn't zero. All fifteen are looked at, with no branch that
-// depends on the index: sizes of files are mixed, and no processor foresees such a branch.
+/// Whether an address from an index on isn't zero. All fifteen are looked at, with no branch that
+/// depends on the index: sizes of files are mixed, and no processor foresees such a branch.
 #[inline(always)]
 fn any_nonzero(addresses: &[u32; 15], from: usize) -> bool
     ensures { result ≡ inodes.any_nonzero (drop from addresses.now) }
@@ -67,7 +67,7 @@ fn any_nonzero(addresses: &[u32; 15], from: usize) -> bool
     bits != 0
 }
 
-// Whether the addresses of an inode of the class are walked.
+/// Whether the addresses of an inode of the class are walked.
 fn is_walked(geometry: &Geometry, inode: &Inode, class: Class) -> bool
     ensures { class ≡ inodes.class_of geometry.now.layout inode.now
         → result ≡ steps.is_walked geometry.now.layout inode.now }

@@ -30,7 +30,7 @@ impl Window {
         }
     }
 
-    // Whether it holds just these bytes.
+    /// Whether it holds just these bytes.
     fn is_at(&self, place: u64, length: usize) -> bool
         ensures { IsTrue result ↔ (self.now.place ≡ place) × (self.now.length ≡ length) }
     {

@@ -17,22 +17,9 @@ use Rattle.ffs_volume.specs.Blocks.Claims.{Claims, no_claims, reserved_map, at_n
 use Rattle.ffs_volume.specs.Blocks.KeptSteps.{claims_before}
 use Rattle.ffs_volume.specs.Directories.Volumes.{class_at, is_inode_number}
 use Rattle.ffs_volume.specs.Encodings.Replay.{cut_of, cut_at}
-use Rattle.ffs_volume.proofs.Weights.{owner_moves, kept_bound}
-use Rattle.ffs_volume.proofs.CutLaws.{cut_is}
+use Rattle.ffs_volume.proofs.Potentials.{owner_moves, kept_bound}
+use Rattle.ffs_volume.proofs.CutLaws.{before_length, cut_is}
 use Rattle.ffs_workspace.specs.Notes.{first_noted, noted_below, has_one_chunk, note_of, note_at, cut_in}
-
--- the map keeps its length from inode to inode
-owners_length : (v : Layout) (image : List ℕ) (s : Claims) (xs : List ℕ) → IsAcceptedLayout v → length s.used ≡ v.size →
-    length (after_owners v s (map (owner_of v image) xs)).used ≡ v.size
-owners_length v image s [] g h = h
-owners_length v image s (x ∷ xs) g h = owners_length v image (after_owner v s (owner_of v image x)) xs g
-    ((owner_moves v image s x g h).used_length ∙ h)
-
-before_length : (v : Layout) (image : List ℕ) (x : ℕ) → IsAcceptedLayout v → length (claims_before v image x).used ≡
-    v.size
-unfolding claims_before no_claims reserved_map
-before_length v image x g = owners_length v image (no_claims v) (range_with_len 2 (x - 2)) g
-    (length-map-range_with_len (is_reserved v) 0 v.size)
 
 -- an inode keeps fewer offers than the first note of an address
 kept_few : (v : Layout) (image : List ℕ) (x : ℕ) → IsAcceptedLayout v

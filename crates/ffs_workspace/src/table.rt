@@ -60,7 +60,7 @@ impl Table {
         }
     }
 
-    // Whether the window holds an inode.
+    /// Whether the window holds an inode.
     #[inline(always)]
     fn has(&self, number: u32) -> bool
         ensures { IsTrue result ↔ HasInode self.now number }
@@ -75,7 +75,7 @@ impl Table {
         self.count = 0;
     }
 
-    // Reads the piece of the table, of `count` inodes, that has an inode.
+    /// Reads the piece of the table, of `count` inodes, that has an inode.
     #[tactic(auto, using(crate::proofs::TablePlaces::piece_room))]
     fn read_piece<I: Image>(
         &mut self,
@@ -101,8 +101,8 @@ impl Table {
         Ok(())
     }
 
-    // Reads the block of the table that has an inode, unless the window holds the inode. Returns
-    // where its bytes are in the window.
+    /// Reads the block of the table that has an inode, unless the window holds the inode. Returns
+    /// where its bytes are in the window.
     #[inline(always)]
     #[tactic(auto, using(crate::proofs::TablePlaces::block_divides))]
     fn load<I: Image>(
@@ -149,14 +149,14 @@ impl Table {
         Ok(decode_inode(geometry.layout.order, &bytes[at..at + DINODE_SIZE]))
     }
 
-    // Whether an inode's sector begins where the inodes that are held end, as where the caller goes
-    // along the table. Where none is held they end at `first`. No answer depends on it: it decides
-    // only how much is read.
+    /// Whether an inode's sector begins where the inodes that are held end, as where the caller goes
+    /// along the table. Where none is held they end at `first`. No answer depends on it: it decides
+    /// only how much is read.
     fn follows(&self, number: u32) -> bool {
         number >= self.first && (number - self.first) / SECTOR_INODES == self.count / SECTOR_INODES
     }
 
-    // How many inodes are read where one isn't held.
+    /// How many inodes are read where one isn't held.
     #[tactic(auto, using(crate::proofs::TablePlaces::parts_divide, crate::proofs::TablePlaces::sectors_divide))]
     fn count_to_read(&self, number: u32) -> u32
         ensures { DividesBlocks result }

@@ -200,7 +200,7 @@ impl Windows {
     }
 }
 
-// Four lists with a flag for each inode.
+/// Four lists with a flag for each inode.
 type Flags = (
     FixedList<bool>,
     FixedList<bool>,
@@ -220,7 +220,7 @@ fn four_flags<M: Memory>(memory: &mut M, n: usize) -> Result<Flags, AllocError>
     Ok((first, second, third, fourth))
 }
 
-// Three lists with a number for each inode.
+/// Three lists with a number for each inode.
 type Numbers = (FilledList<u32>, FilledList<u32>, FilledList<u32>);
 
 fn three_numbers<M: Memory>(memory: &mut M, n: usize) -> Result<Numbers, AllocError>

@@ -42,7 +42,7 @@ fn main(rt: HostRuntime) -> ExitCode {
     print_report(&rt, texts.as_slice())
 }
 
-// Runs the check over a buffer for standard output, which has none of its own.
+/// Runs the check over a buffer for standard output, which has none of its own.
 fn print_report(rt: &HostRuntime, words: &[&str]) -> ExitCode {
     let stdout = SilentWriter::new(rt.stdout());
     let status = if is_watched(rt) {
@@ -59,8 +59,8 @@ fn print_report(rt: &HostRuntime, words: &[&str]) -> ExitCode {
     ExitCode::from(status)
 }
 
-// Whether standard output is a terminal, so that somebody may wait for each line. The devices of
-// memory, such as /dev/null, are no terminals.
+/// Whether standard output is a terminal, so that somebody may wait for each line. The devices of
+/// memory, such as /dev/null, are no terminals.
 fn is_watched(rt: &HostRuntime) -> bool {
     match fs::metadata(rt, "/dev/stdout") {
         Ok(metadata) => {
@@ -70,12 +70,12 @@ fn is_watched(rt: &HostRuntime) -> bool {
     }
 }
 
-// The major number of a device (makedev(3)).
+/// The major number of a device (makedev(3)).
 fn major(device: u64) -> u64 {
     device / 256 % 4096
 }
 
-// Reports that memory was refused before the check began.
+/// Reports that memory was refused before the check began.
 fn no_memory(rt: &HostRuntime) -> ExitCode {
     let _ = rt.stdout().write_all(b"cannot alloc maps\n");
     ExitCode::from(NO_MEMORY)

@@ -1,4 +1,4 @@
-use Rattle.ffs_certificate.proofs.Weights.{claims_bounded}
+use Rattle.ffs_certificate.proofs.Potentials.{claims_bounded}
 use Rattle.ffs_certificate.proofs.claims_are_bounded.Goals as goal
 
 pub returns : goal.returns

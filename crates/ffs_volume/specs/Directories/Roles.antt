@@ -77,7 +77,7 @@ pub record RoledEntry : Type 0 where
   pub role : Role
   pub entry : Entry
 
--- the entries from an index of a chunk on, and all entries of a chunk, with their roles
+-- the entries from an index of a chunk on, with their roles
 unfoldable pub roled_from : (first : Bool) (index : ℕ) (es : List Entry) → List RoledEntry
 roled_from first index [] = []
 roled_from first index (e ∷ es) = record { role = role_of first index e; entry = e } ∷ roled_from first (suc index) es

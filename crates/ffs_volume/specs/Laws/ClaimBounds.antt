@@ -18,8 +18,8 @@ offers_potential s = used_bits s + 8 * s.bad + s.dups
 -- from s to s', Runs and kept offers rise by no more than the potentials, maps keep their lengths, and bad Runs and
 -- dup offers stay at most eleven
 pub record ClaimBound (s s' : Claims) : Type 0 where
-  pub weighs : s'.runs + potential s ≤ s.runs + potential s'
-  pub keeps : s'.kept + offers_potential s ≤ s.kept + offers_potential s'
+  pub few_runs : s'.runs + potential s ≤ s.runs + potential s'
+  pub few_kept : s'.kept + offers_potential s ≤ s.kept + offers_potential s'
   pub used_length : length s'.used ≡ length s.used
   pub dup_length : length s'.dup ≡ length s.dup
   pub bad_cap : s.bad ≤ MAXBAD + 1 → s'.bad ≤ MAXBAD + 1

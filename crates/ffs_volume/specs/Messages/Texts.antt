@@ -123,7 +123,7 @@ extraneous_text path directory =
     concat (map shown path ∷ texts.EXTRANEOUS.now ∷ map shown directory
     ∷ texts.REMOVE.now ∷ [])
 
--- the count of links and the count of references: the end of the LINK COUNT message, and that whole message
+-- the count of links and the count of references: the end of the LINK COUNT message
 abbrev pub counts_text : ℤ → ℕ → List ℕ
 counts_text nlink references = concat (
     texts.COUNT.now ∷ signed_decimal nlink ∷ texts.SHOULD_BE.now ∷ decimal references

@@ -2,6 +2,7 @@ use Rattle.std.proofs.Common.{rules, ◌∙◌}
 use Rattle.ffs_layout.specs.Super.{superblock_in}
 use Rattle.ffs_report.specs.Progress.{progress}
 use Rattle.ffs_volume.specs.Directories.PathnameCheck.{continues_after_root}
+use Rattle.ffs_volume.specs.Report.Opening.{super_lines}
 use Rattle.ffs_volume.specs.Report.Whole.{phase_lines}
 use Rattle.ffs_volume.specs.Directories.Volumes.{volume_of}
 use Rattle.ffs_check.proofs.Endings.{opening_defect, prints_phases, prints_at}
@@ -10,9 +11,9 @@ use Rattle.ffs_check.proofs.check.check_rest.Goals as goal
 pub returns-clause-runs : goal.returns-clause-runs
 returns-clause-runs g c =
     let s = superblock_in c.args.found.now in
-    prints_at _ _ (λ bytes. phase_lines bytes s) (λ bytes. continues_after_root (volume_of s.layout bytes)) _ _ _
+    prints_at (super_lines s) _ (λ bytes. phase_lines bytes s) (λ bytes. continues_after_root (volume_of s.layout bytes)) _ _ _
     (g.W.Output.sink c.run_rest.new.report.out.now) _ _ (search rules)
-    (prints_phases _ _ (c.opening_defects.ensures ∙ opening_defect s) _ (λ bytes. phase_lines bytes s)
+    (prints_phases _ (super_lines s) (c.opening_defects.ensures ∙ opening_defect s) _ (λ bytes. phase_lines bytes s)
     (λ bytes. continues_after_root (volume_of s.layout bytes)) _ _
     _ (g.W.Output.sink c.args.out.now) (progress g.W.Output.sink c.run_rest.new.report) _
     (rw c.new-report.ensures at c.run_rest.ensures.ran))

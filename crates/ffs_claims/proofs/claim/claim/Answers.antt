@@ -8,13 +8,13 @@ use Rattle.ffs_volume.specs.declared.Step.{Step}
 use Rattle.ffs_volume.specs.declared.Step.TheVariants.{Gap}
 use Rattle.ffs_volume.specs.Blocks.Steps.{steps_of, is_walked}
 use Rattle.ffs_volume.specs.Blocks.Claims.{after_steps, after_step, lines_of_steps, step_lines, is_open}
-use Rattle.ffs_volume.proofs.Weights.{stays, kept_bound, moves_then}
-use Rattle.ffs_phase.specs.Known.{ForBytes, IsContents}
-use Rattle.ffs_phase.proofs.Reporting.{of_begins, of_stops, of_reads, of_same}
+use Rattle.ffs_volume.proofs.Potentials.{stays, kept_bound, moves_then}
+use Rattle.ffs_report.specs.Known.{ForBytes, IsContents}
+use Rattle.ffs_report.proofs.Reporting.{of_begins, of_stops, of_reads, of_same}
 use Rattle.ffs_workspace.specs.Holds.{claims_of}
 use Rattle.ffs_workspace.specs.Ready.{IsReady}
 use Rattle.ffs_claims.specs.Lines.{of_lines}
-use Rattle.ffs_claims.proofs.Weights.{moves_on, seen_bound, used_below}
+use Rattle.ffs_claims.proofs.Potentials.{moves_on, seen_bound, used_below}
 use Rattle.ffs_claims.proofs.Goes.{claims_on, lines_on, steps_said, cut_stays, cut_silent, gaps_stay, gaps_silent}
 use Rattle.ffs_claims.proofs.Goes.{without_steps}
 use Rattle.ffs_claims.proofs.Frames.{found_none, found_still, found_then, ready_still, ready_read, ready_walked}

@@ -6,13 +6,13 @@ use Rattle.ffs_maps.proofs.Bits.{bits_long}
 use Rattle.ffs_volume.specs.Blocks.Steps.{steps_of}
 use Rattle.ffs_volume.specs.Blocks.BlockCheck.{count_lines, owner_lines}
 use Rattle.ffs_volume.specs.Blocks.Claims.{Claims, lines_of_steps, after_steps}
-use Rattle.ffs_volume.proofs.Weights.{kept_bound}
-use Rattle.ffs_phase.proofs.Reporting.{of_part, of_fault, of_says, of_stops, of_begins, of_same}
+use Rattle.ffs_volume.proofs.Potentials.{kept_bound}
+use Rattle.ffs_report.proofs.Reporting.{of_part, of_fault, of_says, of_stops, of_begins, of_same}
 use Rattle.ffs_volume.specs.Laws.ClaimBounds.{used_bits}
 use Rattle.ffs_workspace.specs.Holds.{claims_of}
 use Rattle.ffs_claims.specs.Lines.{of_lines, counted_owner, owner_with}
 use Rattle.ffs_claims.proofs.Inodes.{class_said, class_stopped, count_right, free_claims, free_silent}
-use Rattle.ffs_claims.proofs.Weights.{used_below}
+use Rattle.ffs_claims.proofs.Potentials.{used_below}
 use Rattle.ffs_claims.proofs.Frames.{ready_begun, ready_stored}
 use Rattle.ffs_claims.proofs.claim.claim_read_inode.Goals.{in-Free, in_default}
 use Rattle.ffs_claims.proofs.claim.claim_read_inode.Goals as goal
@@ -192,7 +192,7 @@ returns-clause-claiming g c = record {
       let used = ap (λ w. used_bits (claims_of w)) c.store-2.ensures.rest in
       record {
         image = c.in_ok-claim.ensures.claiming.left.image;
-        moves = omega (arith, begun, claims, stored, used, m.weighs, m.bad_cap, m.dups_cap, bad, dups);
+        moves = omega (arith, begun, claims, stored, used, m.few_runs, m.bad_cap, m.dups_cap, bad, dups);
         bound = omega (arith, begun, claims, stored, c.claim.ensures.claiming.left.bound);
         again = ap (λ w. w.runs_again) c.store-2.ensures.rest ∙ c.claim.ensures.claiming.left.found.again
             ∙ ap (λ w. w.runs_again) c.begin.ensures;

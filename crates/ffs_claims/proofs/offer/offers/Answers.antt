@@ -3,9 +3,9 @@ use Rattle.std.specs.List.{range_with_len}
 use Rattle.std.proofs.lemmas.Result.{err_from_is_err_and}
 use Rattle.ffs_volume.specs.Disk.Areas.{is_fragment_in_range}
 use Rattle.ffs_volume.specs.Blocks.Claims.{offer_lines, lines_of_offers, after_offers}
-use Rattle.ffs_volume.proofs.Weights.{each_ok}
+use Rattle.ffs_volume.proofs.Potentials.{each_ok}
 use Rattle.ffs_workspace.specs.Holds.{claims_of}
-use Rattle.ffs_phase.proofs.Reporting.{to_begins, to_says, to_stops}
+use Rattle.ffs_report.proofs.Reporting.{to_begins, to_says, to_stops}
 use Rattle.ffs_claims.specs.Lines.{of_lines}
 use Rattle.ffs_claims.proofs.Goes.{offers_after, offers_more, offer_kept, to_same, from_start}
 use Rattle.ffs_claims.proofs.Frames.{offers_none, offers_then}

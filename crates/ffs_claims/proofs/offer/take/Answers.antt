@@ -1,7 +1,7 @@
 use Rattle.std.proofs.Common.{◌≡◌, ◌+◌, nat_lt, true, false, arith, rules, refl, sym, ◌∙◌}
 use Rattle.std.proofs.lemmas.Bool.Decides.{nat_tests}
 use Rattle.ffs_volume.specs.Blocks.Claims.{is_set}
-use Rattle.ffs_volume.proofs.Weights.{ok_below}
+use Rattle.ffs_volume.proofs.Potentials.{in_range_below}
 use Rattle.ffs_maps.specs.Bits.{bits_of}
 use Rattle.ffs_claims.proofs.Frames.{offers_claimed, offers_none}
 use Rattle.ffs_claims.proofs.OneBit.{was_set, is_set_now}
@@ -68,12 +68,12 @@ returns-then-not-fragment_in_range-clause-only c =
 pub claim-requires-clause-below : goal.claim-requires-clause-below
 claim-requires-clause-below c =
     let ok = sym c.fragment_in_range.ensures ∙ c.if-not-fragment_in_range.false in
-    omega (arith, ok_below c.args.geometry.now.layout c.args.fragment ok, c.requires.room.made.claimed)
+    omega (arith, in_range_below c.args.geometry.now.layout c.args.fragment ok, c.requires.room.made.claimed)
 
 pub set-requires : goal.set-requires
 set-requires c =
     let ok = sym c.fragment_in_range.ensures ∙ c.if-not-fragment_in_range.false in
-    omega (arith, ok_below c.args.geometry.now.layout c.args.fragment ok, c.requires.room.made.duplicates)
+    omega (arith, in_range_below c.args.geometry.now.layout c.args.fragment ok, c.requires.room.made.duplicates)
 
 pub returns-then-claim-clause-only : goal.returns-then-claim-clause-only
 returns-then-claim-clause-only c =

@@ -2,8 +2,8 @@ use Rattle.std.proofs.Common.{rules}
 use Rattle.std.proofs.Common.{inl, inr, arith, refl, sym, ◌∷◌, ◌+◌, ◌≤◌, ◌<◌, [], List, ap, ◌∙◌, Err, false}
 use Rattle.std.proofs.lemmas.Bool.{cases_lt}
 use Rattle.std.proofs.lemmas.Result.{err_from_is_err_and}
-use Rattle.ffs_phase.proofs.Reporting.{of_begins, of_says, of_part, of_fault, of_stops, of_same, reports_knowing}
-use Rattle.ffs_phase.proofs.Reporting.{said_knows}
+use Rattle.ffs_report.proofs.Reporting.{of_begins, of_says, of_part, of_fault, of_stops, of_same, reports_knowing}
+use Rattle.ffs_report.proofs.Reporting.{said_knows}
 use Rattle.ffs_volume.specs.Blocks.BlockCheck.{owner_lines, lines_of_owners, phase1_lines}
 use Rattle.ffs_volume.specs.Blocks.Claims.{Claims, after_owner}
 use Rattle.ffs_volume.specs.Messages.Kinds.{Message, phase1}
@@ -16,7 +16,7 @@ use Rattle.ffs_volume.specs.Encodings.Links.{start_at}
 use Rattle.ffs_workspace.specs.Lengths.{inodes_of}
 use Rattle.ffs_claims.specs.Lines.{of_lines, owners_from}
 use Rattle.ffs_claims.proofs.Duplicates.{dups_are}
-use Rattle.ffs_claims.proofs.Weights.{used_below}
+use Rattle.ffs_claims.proofs.Potentials.{used_below}
 use Rattle.ffs_claims.proofs.Frames.{image_from, ready_still}
 use Rattle.ffs_claims.proofs.Numbers.{before_next, before_first, before_end, lines_next, lines_end, filled_next}
 use Rattle.ffs_claims.proofs.Numbers.{filled_end, filled_begin, is_inside, is_outside, kind_out, kind_in, mark_out}

@@ -3,8 +3,8 @@ use Rattle.std.proofs.Common.{◌≡◌, ◌≤◌, ◌+◌, ◌-◌, ◌^◌, �
 use Rattle.std.specs.Prelude.{slice_index}
 use Rattle.std.proofs.lemmas.Result.{err_from_is_err_and}
 use Rattle.ffs_maps.specs.Bits.{bits_of}
-use Rattle.ffs_phase.proofs.Reporting.{of_begins, of_says, of_part, of_fault, of_stops, of_same, reports_knowing}
-use Rattle.ffs_phase.proofs.Reporting.{said_knows}
+use Rattle.ffs_report.proofs.Reporting.{of_begins, of_says, of_part, of_fault, of_stops, of_same, reports_knowing}
+use Rattle.ffs_report.proofs.Reporting.{said_knows}
 use Rattle.ffs_workspace.specs.Notes.{cut_in}
 use Rattle.ffs_workspace.proofs.NoteLaws.{cut_is_noted}
 use Rattle.ffs_volume.specs.Blocks.BlockCheck.{Offer, first_offer_lines, kept_in_owners, phase1b_lines}
@@ -26,7 +26,7 @@ use Rattle.ffs_claims.proofs.Rescanned.{all_kept, lines_split, starts_hold}
 use Rattle.ffs_claims.proofs.Rewalks.{reporting_over}
 use Rattle.ffs_claims.proofs.Duplicates.{none_first, none_left, some_left}
 use Rattle.ffs_claims.proofs.Reportings.{reporting_more, reporting_ends, reporting_same}
-use Rattle.ffs_phase.specs.Known.{ForBytes, IsContents}
+use Rattle.ffs_report.specs.Known.{ForBytes, IsContents}
 use Rattle.ffs_workspace.specs.Holds.{HoldsPhase1}
 use Rattle.ffs_claims.specs.SecondLook.{looked_at, owners_runs, steps_runs_again}
 use Rattle.ffs_claims.proofs.Looks.{looked_none}

@@ -10,8 +10,8 @@ use Rattle.ffs_walk.specs.Keepings.{replay_in}
 use Rattle.ffs_walk.specs.Rests.{rest}
 use Rattle.ffs_walk.specs.Counts.{unread}
 use Rattle.ffs_walk.proofs.Counted.{top_held, top_unread}
-use Rattle.ffs_phase.specs.Known.{ForBytes, IsContents}
-use Rattle.ffs_phase.proofs.Reporting.{of_begins, of_stops, of_reads, of_same}
+use Rattle.ffs_report.specs.Known.{ForBytes, IsContents}
+use Rattle.ffs_report.proofs.Reporting.{of_begins, of_stops, of_reads, of_same}
 use Rattle.ffs_workspace.specs.Lengths.{set_count}
 use Rattle.ffs_claims.specs.Lines.{of_lines}
 use Rattle.ffs_claims.specs.Rescan.{step_offers_again, offers_again}

@@ -3,8 +3,8 @@ use Rattle.ffs_volume.specs.Blocks.BlockCheck.{first_offer_lines}
 use Rattle.ffs_volume.specs.Blocks.Steps.{steps_of}
 use Rattle.ffs_volume.specs.Encodings.Replay.{fresh_replay, is_replay_open}
 use Rattle.ffs_report.specs.Progress.{progress}
-use Rattle.ffs_phase.specs.Known.{ForBytes, IsContents}
-use Rattle.ffs_phase.specs.Runs.{SaidOf}
+use Rattle.ffs_report.specs.Known.{ForBytes, IsContents}
+use Rattle.ffs_report.specs.Runs.{SaidOf}
 use Rattle.ffs_maps.specs.Bits.{bits_of}
 use Rattle.ffs_walk.specs.Counts.{AreHeld, unread}
 use Rattle.ffs_walk.specs.Keepings.{replay_in}

@@ -1,5 +1,5 @@
 use Rattle.std.proofs.Common.{◌∙◌, ap, arith}
-use Rattle.ffs_claims.proofs.Weights.{seen_bound}
+use Rattle.ffs_claims.proofs.Potentials.{seen_bound}
 use Rattle.ffs_claims.proofs.WordClaims.{kept_room, words_none, words_once, words_then}
 use Rattle.ffs_claims.proofs.words.claim_held_words.Goals as goal
 

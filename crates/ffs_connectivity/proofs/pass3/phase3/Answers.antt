@@ -4,9 +4,9 @@ use Rattle.std.proofs.lemmas.Result.{err_from_is_err_and}
 use Rattle.ffs_volume.specs.Directories.Connectivity.{connectivity_lines}
 use Rattle.ffs_volume.specs.Messages.Kinds.{Message, of_tree, phase3, lines_from}
 use Rattle.ffs_volume.specs.Directories.Volumes.{volume_of}
-use Rattle.ffs_phase.specs.Known.{ForBytes, IsContents}
-use Rattle.ffs_phase.proofs.Reporting.{of_begins, of_says, of_stops, of_same, of_part, of_fault, said_knows}
-use Rattle.ffs_phase.proofs.Reporting.{reports_knowing}
+use Rattle.ffs_report.specs.Known.{ForBytes, IsContents}
+use Rattle.ffs_report.proofs.Reporting.{of_begins, of_says, of_stops, of_same, of_part, of_fault, said_knows}
+use Rattle.ffs_report.proofs.Reporting.{reports_knowing}
 use Rattle.ffs_workspace.specs.Holds.{bool_at, HoldsClaims, HoldsSurvey}
 use Rattle.ffs_workspace.specs.Lengths.{inodes_of}
 use Rattle.ffs_connectivity.specs.Lines.{cut_off_lines}

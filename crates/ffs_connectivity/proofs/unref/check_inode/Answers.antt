@@ -3,7 +3,7 @@ use Rattle.std.proofs.lemmas.Result.{err_from_is_err_and}
 use Rattle.ffs_volume.specs.declared.Attr.{Attr}
 use Rattle.ffs_volume.specs.Messages.Kinds.{of_tree, unref_dir}
 use Rattle.ffs_volume.specs.Directories.Volumes.{volume_of}
-use Rattle.ffs_phase.proofs.Reporting.{of_begins, of_same, of_says, of_stops, of_reads}
+use Rattle.ffs_report.proofs.Reporting.{of_begins, of_same, of_says, of_stops, of_reads}
 use Rattle.ffs_connectivity.specs.Lines.{cut_off_lines}
 use Rattle.ffs_connectivity.proofs.CutOff.{attributes_are, cut_off_is, one_line, silent, heard}
 use Rattle.ffs_connectivity.proofs.unref.check_inode.Goals as goal

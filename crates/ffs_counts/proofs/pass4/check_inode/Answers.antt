@@ -4,7 +4,7 @@ use Rattle.ffs_volume.specs.Encodings.Links.{links_start}
 use Rattle.ffs_volume.specs.Messages.Kinds.{TreeMessage, Message, of_tree}
 use Rattle.ffs_volume.specs.Directories.ReferenceCheck.{reference_lines_at}
 use Rattle.ffs_volume.specs.Directories.Volumes.{volume_of}
-use Rattle.ffs_phase.proofs.Reporting.{of_begins, of_same, of_says, of_stops, of_reads}
+use Rattle.ffs_report.proofs.Reporting.{of_begins, of_same, of_says, of_stops, of_reads}
 use Rattle.ffs_workspace.specs.Holds.{bool_at}
 use Rattle.ffs_volume.specs.Directories.PathnameCheck.{attributes_of}
 use Rattle.ffs_counts.specs.References.{lines_as}

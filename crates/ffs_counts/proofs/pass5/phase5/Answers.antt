@@ -10,7 +10,7 @@ use Rattle.ffs_maps.specs.Bits.{bits_of}
 use Rattle.ffs_groups.specs.Check.{lines_of}
 use Rattle.ffs_groups.specs.Free.{free_in}
 use Rattle.ffs_groups.specs.Inodes.{class_in}
-use Rattle.ffs_phase.proofs.Reporting.{of_begins, of_same, of_says, of_stops, of_reads}
+use Rattle.ffs_report.proofs.Reporting.{of_begins, of_same, of_says, of_stops, of_reads}
 use Rattle.ffs_counts.specs.Once.{reported_of, reported_after}
 use Rattle.ffs_counts.proofs.GroupText.{check_is, rest_lines, groups_begin, groups_go_on, groups_end, totals_next}
 use Rattle.ffs_counts.proofs.GroupText.{counts_held, lines_held, totals_right, up_next}

@@ -5,7 +5,7 @@ use Rattle.ffs_volume.specs.Report.Whole.{summary_of, file_count, used_count}
 use Rattle.ffs_layout.specs.Super.{superblock_in}
 use Rattle.ffs_maps.specs.Bits.{bits_of}
 use Rattle.ffs_report.specs.Lines.{message_of}
-use Rattle.ffs_phase.proofs.Reporting.{of_begins, of_says, of_stops}
+use Rattle.ffs_report.proofs.Reporting.{of_begins, of_says, of_stops}
 use Rattle.ffs_counts.proofs.Classes.{files_are, used_are}
 use Rattle.ffs_counts.proofs.summing.summary.Goals as goal
 

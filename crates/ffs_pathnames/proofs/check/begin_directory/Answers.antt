@@ -1,7 +1,7 @@
 use Rattle.std.proofs.Common.{◌∙◌, ap, map, arith, length}
 use Rattle.std.proofs.lemmas.Result.{err_from_is_err_and}
 use Rattle.ffs_volume.specs.Messages.Kinds.{of_tree}
-use Rattle.ffs_phase.proofs.Reporting.{of_begins, of_reads}
+use Rattle.ffs_report.proofs.Reporting.{of_begins, of_reads}
 use Rattle.ffs_pathnames.specs.declared.examine.DirectorySummary.{DirectorySummary}
 use Rattle.ffs_pathnames.proofs.Begun.{said_same, fault_same, image_same, starts_are, begun_is}
 use Rattle.ffs_pathnames.proofs.Passing.{knows_on}

@@ -8,7 +8,7 @@ use Rattle.ffs_volume.specs.Directories.Paths.{dir_path}
 use Rattle.ffs_volume.specs.Directories.Volumes.{volume_of}
 use Rattle.ffs_layout.specs.Entry.{entry_value}
 use Rattle.ffs_report.proofs.Reports.{said_none}
-use Rattle.ffs_phase.proofs.Reporting.{of_begins, of_says, of_stops, of_reads}
+use Rattle.ffs_report.proofs.Reporting.{of_begins, of_says, of_stops, of_reads}
 use Rattle.ffs_pathnames.specs.Header.{header_reported, is_right_header}
 use Rattle.ffs_pathnames.proofs.Begun.{attr_size}
 use Rattle.ffs_pathnames.proofs.LineCounts.{by_line, header_some, knows_places}

@@ -3,7 +3,7 @@ use Rattle.std.specs.Prelude.{Result, Ok, Err}
 use Rattle.ffs_image.specs.Device.{Device}
 use Rattle.ffs_volume.specs.declared.Layout.{Layout}
 use Rattle.ffs_workspace.specs.declared.workspace.Workspace.{Workspace}
-use Rattle.ffs_phase.specs.declared.fault.RunFault.{RunFault}
+use Rattle.ffs_report.specs.declared.fault.RunFault.{RunFault}
 use Rattle.ffs_report.proofs.Reports.{said_none}
 use Rattle.ffs_paths.specs.Siblings.{KeepSiblings}
 use Rattle.ffs_paths.specs.declared.siblings.Siblings.{Siblings}

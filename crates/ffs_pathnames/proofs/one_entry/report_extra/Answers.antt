@@ -6,7 +6,7 @@ use Rattle.ffs_volume.specs.Directories.Parents.{graph_of}
 use Rattle.ffs_volume.specs.Directories.Paths.{dir_path}
 use Rattle.ffs_volume.specs.Directories.Volumes.{volume_of}
 use Rattle.ffs_layout.specs.Entry.{entry_value}
-use Rattle.ffs_phase.proofs.Reporting.{of_begins, of_says, of_stops, of_reads}
+use Rattle.ffs_report.proofs.Reporting.{of_begins, of_says, of_stops, of_reads}
 use Rattle.ffs_paths.proofs.Climbed.{few_more}
 use Rattle.ffs_pathnames.proofs.LineCounts.{by_line, extra_some}
 use Rattle.ffs_pathnames.proofs.one_entry.report_extra.Goals as goal

@@ -7,7 +7,7 @@ use Rattle.ffs_volume.specs.Directories.Paths.{dir_path, entry_path}
 use Rattle.ffs_volume.specs.Directories.Volumes.{volume_of}
 use Rattle.ffs_layout.specs.Entry.{entry_value}
 use Rattle.ffs_report.proofs.Reports.{said_none}
-use Rattle.ffs_phase.proofs.Reporting.{of_begins, of_says, of_stops, of_reads}
+use Rattle.ffs_report.proofs.Reporting.{of_begins, of_says, of_stops, of_reads}
 use Rattle.ffs_pathnames.specs.Gathers.{marks_of}
 use Rattle.ffs_pathnames.specs.Marks.{plain_reported}
 use Rattle.ffs_pathnames.specs.Verdicts.{verdict_reported}

@@ -1,6 +1,6 @@
 use Rattle.std.proofs.Common.{[], ◌∷◌, List, ℕ, map, refl, ap, ◌∙◌, inl, inr, arith}
 use Rattle.std.proofs.lemmas.Result.{err_from_is_err_and}
-use Rattle.ffs_phase.proofs.Reporting.{of_begins, of_says, of_stops, of_reads, of_last, reports_knowing}
+use Rattle.ffs_report.proofs.Reporting.{of_begins, of_says, of_stops, of_reads, of_last, reports_knowing}
 use Rattle.ffs_volume.specs.Messages.Kinds.{of_tree, phase2}
 use Rattle.ffs_volume.specs.Directories.PathnameCheck.{pathname_lines}
 use Rattle.ffs_volume.specs.Directories.Volumes.{volume_of}
@@ -9,7 +9,7 @@ use Rattle.ffs_pathnames.proofs.Begun.{on_ok}
 use Rattle.ffs_pathnames.proofs.Carrying.{on_all, if_ok, at_fault, at_fault_more, claims_untouched, before_first}
 use Rattle.ffs_pathnames.proofs.Carrying.{references_on}
 use Rattle.ffs_pathnames.proofs.SilentLaws.{calm_silent}
-use Rattle.ffs_pathnames.proofs.CostLaws.{runs_bounded}
+use Rattle.ffs_volume.proofs.RunBounds.{runs_bounded}
 use Rattle.ffs_names.proofs.RunSums.{costs_bounded}
 use Rattle.ffs_pathnames.proofs.pass2.phase2.Goals as goal
 

@@ -3,7 +3,7 @@ use Rattle.std.proofs.lemmas.Bool.{both_ways}
 use Rattle.std.proofs.lemmas.Result.{err_from_is_err_and}
 use Rattle.ffs_volume.proofs.Numbered.{from_next, from_end}
 use Rattle.ffs_volume.proofs.Sizes.{some_inodes}
-use Rattle.ffs_phase.proofs.Reporting.{of_begins, of_same, of_part, of_fault, of_reads, said_knows, reports_knowing}
+use Rattle.ffs_report.proofs.Reporting.{of_begins, of_same, of_part, of_fault, of_reads, said_knows, reports_knowing}
 use Rattle.ffs_volume.specs.Messages.Kinds.{of_tree, lines_from}
 use Rattle.ffs_volume.specs.Directories.PathnameCheck.{directory_lines}
 use Rattle.ffs_volume.specs.Directories.Volumes.{volume_of}

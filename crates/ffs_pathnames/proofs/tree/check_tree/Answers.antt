@@ -2,7 +2,7 @@ use Rattle.std.proofs.Common.{[], List, ℕ, map, refl, sym, ◌∙◌, append-n
 use Rattle.std.specs.Prelude.{◌-◌}
 use Rattle.std.proofs.lemmas.Result.{err_from_is_err_and}
 use Rattle.ffs_volume.proofs.Sizes.{some_inodes}
-use Rattle.ffs_phase.proofs.Reporting.{of_begins, of_says, of_stops, of_part, of_fault}
+use Rattle.ffs_report.proofs.Reporting.{of_begins, of_says, of_stops, of_part, of_fault}
 use Rattle.ffs_volume.specs.Messages.Kinds.{of_tree, lines_from}
 use Rattle.ffs_volume.specs.Directories.PathnameCheck.{directory_lines, pathname_lines}
 use Rattle.ffs_volume.specs.Directories.Volumes.{volume_of}

@@ -1,22 +1,22 @@
--- Each Run that is seen uses up a fragment, a bad Run or a dup offer: so claims are bounded.
+-- A bound on the Runs that are seen: one for each fragment, and 22 for each inode.
 use Rattle.std.proofs.Common.{◌≡◌, ℕ, ◌+◌, ◌-◌, ◌*◌, ◌≤◌, List, [], ◌∷◌, length, arith, ◌∙◌}
 use Rattle.std.specs.Prelude.{map}
-use Rattle.std.proofs.lemmas.List.FromFn.{length-range_with_len}
+use Rattle.std.proofs.lemmas.List.FromFn.{length-range_with_len, length-map-range_with_len}
 use Rattle.std.proofs.lemmas.List.Sums.{count_by-le-length}
 use Rattle.ffs_volume.specs.declared.Layout.{Layout}
+use Rattle.ffs_volume.specs.Disk.Areas.{is_reserved}
 use Rattle.ffs_volume.specs.Laws.Geometry.{IsAcceptedLayout}
-use Rattle.ffs_volume.specs.Blocks.Owners.{owner_of, owners_of, inode_numbers}
-use Rattle.ffs_volume.specs.Blocks.Claims.{Claims, no_claims, after_owner, after_owners}
 use Rattle.ffs_volume.specs.Laws.ClaimBounds.{used_bits}
-use Rattle.ffs_volume.proofs.Weights.{owner_moves}
+use Rattle.ffs_volume.specs.Blocks.Owners.{owner_of, owners_of, inode_numbers}
+use Rattle.ffs_volume.specs.Blocks.Claims.{Claims, reserved_map, no_claims, after_owner, after_owners}
+use Rattle.ffs_volume.specs.Report.Memory.{runs_limit}
 use Rattle.ffs_volume.specs.Report.Whole.{run_count}
-use Rattle.ffs_certificate.specs.Bounded.{ClaimsAreBounded}
-use Rattle.ffs_certificate.proofs.BlocksSilent.{reserved_length}
+use Rattle.ffs_volume.proofs.Potentials.{owner_moves}
 
 -- over inodes, what is beside a first claim is at most 22 for each
 inodes_move : (v : Layout) (image : List ℕ) (s : Claims) (xs : List ℕ) → IsAcceptedLayout v → length s.used ≡ v.size →
-    ((after_owners v s (map (owner_of v image) xs)).runs + used_bits s ≤ s.runs + used_bits
-    (after_owners v s (map (owner_of v image) xs)) + 22 * length xs)
+    ((after_owners v s (map (owner_of v image) xs)).runs + used_bits s ≤ s.runs
+    + used_bits (after_owners v s (map (owner_of v image) xs)) + 22 * length xs)
     × (length (after_owners v s (map (owner_of v image) xs)).used ≡ v.size)
 inodes_move v image s [] g h = (omega arith, h)
 inodes_move v image s (x ∷ xs) g h =
@@ -24,12 +24,13 @@ inodes_move v image s (x ∷ xs) g h =
     let more = inodes_move v image (after_owner v s (owner_of v image x)) xs g (one.used_length ∙ h) in
     let few = one.bad_cap (omega arith) in
     let few_dups = one.dups_cap (omega arith) in
-    (omega (arith, one.weighs, more.0, few, few_dups), more.1)
+    (omega (arith, one.few_runs, more.0, few, few_dups), more.1)
 
-pub claims_bounded : ClaimsAreBounded
-unfolding run_count owners_of no_claims
-claims_bounded v image g =
-    let all = inodes_move v image (no_claims v) (inode_numbers v) g (reserved_length v) in
+pub runs_bounded : (v : Layout) (image : List ℕ) → IsAcceptedLayout v → run_count v image ≤ runs_limit v
+unfolding run_count owners_of no_claims reserved_map
+runs_bounded v image g =
+    let all = inodes_move v image (no_claims v) (inode_numbers v) g
+    (length-map-range_with_len (is_reserved v) 0 v.size) in
     let many = length-range_with_len 2 (v.ncg * v.ipg - 2) in
     omega (
       arith,

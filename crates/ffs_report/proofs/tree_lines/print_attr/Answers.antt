@@ -8,7 +8,7 @@ use Rattle.ffs_volume.specs.declared.texts.TheConstants as texts
 use Rattle.ffs_report.specs.Piece.{octal}
 use Rattle.ffs_report.proofs.Sinks.{prints_then, prints_pair_then, prints_parts_then}
 use Rattle.ffs_report.proofs.Sinks.{prints_broken, prints_pair_broken, prints_parts_broken}
-use Rattle.ffs_report.proofs.names.print_attr.Goals as goal
+use Rattle.ffs_report.proofs.tree_lines.print_attr.Goals as goal
 
 -- the inode's number, and its size, with the texts around them
 abbrev number : Attr → List (List ℕ)

@@ -3,7 +3,7 @@ use Rattle.std.specs.List.{concat}
 use Rattle.ffs_volume.specs.declared.texts.TheConstants as texts
 use Rattle.ffs_report.specs.Piece.{shown}
 use Rattle.ffs_report.proofs.Inodes.{inode_then, inode_broken}
-use Rattle.ffs_report.proofs.names.print_in_the_way.Goals as goal
+use Rattle.ffs_report.proofs.tree_lines.print_in_the_way.Goals as goal
 
 pub returns-in_err-print_inode : goal.returns-in_err-print_inode
 returns-in_err-print_inode g c =

@@ -1,9 +1,9 @@
 //! What ends a run.
-ghost use Rattle.ffs_phase.specs.declared.fault.RunFault.TheVariants.{Read, Out};
+ghost use Rattle.ffs_report.specs.declared.fault.RunFault.TheVariants.{Read, Out};
 ghost use Rattle.std.specs.Prelude.{◌≡◌};
 
+use crate::output::OutFault;
 use ffs_image::ImageFault;
-use ffs_report::OutFault;
 
 /// What ends a run before its report is complete: a read of the image that failed, or a write of
 /// the report.

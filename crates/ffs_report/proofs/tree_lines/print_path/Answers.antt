@@ -4,7 +4,7 @@ use Rattle.ffs_volume.specs.Messages.Texts.{path_label}
 use Rattle.ffs_report.specs.Piece.{shown}
 use Rattle.ffs_report.proofs.Sinks.{prints_then, prints_broken, prints_end}
 use Rattle.ffs_report.proofs.Inodes.{inode_then, inode_broken}
-use Rattle.ffs_report.proofs.names.print_path.Goals as goal
+use Rattle.ffs_report.proofs.tree_lines.print_path.Goals as goal
 
 pub returns-in_err-print_inode : goal.returns-in_err-print_inode
 returns-in_err-print_inode g c =

@@ -1,6 +1,6 @@
 use Rattle.std.proofs.Common.{◌≡◌, to_z, of_z, arith, w16}
 use Rattle.std.proofs.lemmas.Int.{to_z-of_z}
-use Rattle.ffs_report.proofs.names.print_reference.Goals as goal
+use Rattle.ffs_report.proofs.tree_lines.print_reference.Goals as goal
 
 pub returns-in-LinkCount : goal.returns-in-LinkCount
 returns-in-LinkCount g c =

@@ -6,7 +6,7 @@ use Rattle.std.specs.List.{concat}
 use Rattle.ffs_volume.specs.declared.texts.TheConstants as texts
 use Rattle.ffs_report.proofs.Sinks.{prints_pair_then, prints_pair_broken, prints_pair_end}
 use Rattle.ffs_report.proofs.Inodes.{labelled_then, labelled_broken}
-use Rattle.ffs_report.proofs.names.print_links.Goals as goal
+use Rattle.ffs_report.proofs.tree_lines.print_links.Goals as goal
 
 pub returns-in_err-print_kind : goal.returns-in_err-print_kind
 returns-in_err-print_kind g c =

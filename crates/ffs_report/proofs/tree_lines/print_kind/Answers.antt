@@ -1,6 +1,6 @@
 use Rattle.ffs_volume.specs.Messages.Texts.{file_label, inode_text}
 use Rattle.ffs_report.proofs.Sinks.{prints_then, prints_broken}
-use Rattle.ffs_report.proofs.names.print_kind.Goals as goal
+use Rattle.ffs_report.proofs.tree_lines.print_kind.Goals as goal
 
 pub returns-in_err-print : goal.returns-in_err-print
 returns-in_err-print g c =

@@ -34,9 +34,9 @@ count_set bits f h e =
     let k = sum_by-set (λ b. if b then 1 else 0) bits f true false h in
     omega (arith, rw e at k)
 
-pub ok_below : (v : Layout) (f : ℕ) → is_fragment_in_range v f ≡ true → f < v.size
+pub in_range_below : (v : Layout) (f : ℕ) → is_fragment_in_range v f ≡ true → f < v.size
 unfolding is_fragment_in_range
-ok_below v f h = grind (arith, nat_tests)
+in_range_below v f h = grind (arith, nat_tests)
 
 -- each fragment of a Run in range is ok
 pub each_ok : (v : Layout) (start len k : ℕ) → is_run_in_range v start len ≡ true → k < len →
@@ -46,7 +46,7 @@ each_ok v start len k h low = (and_parts (is_fragment_in_range v (start + k)) _ 
 
 -- what offers don't change, or take away, and how many of them are kept
 record Keeps (s s' : Claims) (len : ℕ) : Type 0 where
-  weighs : potential s ≤ potential s'
+  few_runs : potential s ≤ potential s'
   used_length : length s'.used ≡ length s.used
   dup_length : length s'.dup ≡ length s.dup
   runs_is : s'.runs ≡ s.runs
@@ -54,15 +54,15 @@ record Keeps (s s' : Claims) (len : ℕ) : Type 0 where
   dups_cap : s.dups ≤ 11 → s'.dups ≤ 11
   most : s'.kept ≤ s.kept + len
 
-offer_keeps : (v : Layout) (s : Claims) (f : ℕ) → length s.used ≡ v.size → Keeps s (after_offer v s f) 1
-offer_keeps v s f h =
+offer_few_kept : (v : Layout) (s : Claims) (f : ℕ) → length s.used ≡ v.size → Keeps s (after_offer v s f) 1
+offer_few_kept v s f h =
     cond_holds (λ s'. Keeps s s' 1) (nat_lt s.dups 11) _ _
     (λ more_dups. let low : s.dups < 11 = ltb-true s.dups 11 more_dups in
     cond_holds (λ s'. Keeps s s' 1) (is_fragment_in_range v f) _ _
-    (λ ok. let below : f < length s.used = omega (arith, h, ok_below v f ok) in
+    (λ ok. let below : f < length s.used = omega (arith, h, in_range_below v f ok) in
     cond_holds (λ s'. Keeps s s' 1) (is_set s.used f) _ _
     (λ set. record {
-      weighs = omega arith;
+      few_runs = omega arith;
       used_length = refl;
       dup_length = length-set s.dup f true;
       runs_is = refl;
@@ -71,7 +71,7 @@ offer_keeps v s f h =
       most = omega arith;
     })
     (λ clear. record {
-      weighs = omega (arith, count_set s.used f below clear);
+      few_runs = omega (arith, count_set s.used f below clear);
       used_length = length-set s.used f true;
       dup_length = refl;
       runs_is = refl;
@@ -80,7 +80,7 @@ offer_keeps v s f h =
       most = omega arith;
     }))
     (λ _. record {
-      weighs = omega arith;
+      few_runs = omega arith;
       used_length = refl;
       dup_length = refl;
       runs_is = refl;
@@ -89,7 +89,7 @@ offer_keeps v s f h =
       most = omega arith;
     }))
     (λ _. record {
-      weighs = omega arith;
+      few_runs = omega arith;
       used_length = refl;
       dup_length = refl;
       runs_is = refl;
@@ -99,11 +99,11 @@ offer_keeps v s f h =
     })
 
 -- an ok offer that is kept weighs
-offer_weighs : (v : Layout) (s : Claims) (f : ℕ) → length s.used ≡ v.size → nat_lt s.dups 11 ≡ true →
+offer_few_runs : (v : Layout) (s : Claims) (f : ℕ) → length s.used ≡ v.size → nat_lt s.dups 11 ≡ true →
     is_fragment_in_range v f ≡ true →
     potential s + 1 ≤ potential (after_offer v s f)
-offer_weighs v s f h more_dups ok =
-    let below : f < length s.used = omega (arith, h, ok_below v f ok) in
+offer_few_runs v s f h more_dups ok =
+    let below : f < length s.used = omega (arith, h, in_range_below v f ok) in
     rw (more_dups, ok)
     (cond_holds (λ s'. potential s + 1 ≤ potential s') (is_set s.used f) _ _
     (λ set. omega arith)
@@ -113,7 +113,7 @@ offer_weighs v s f h more_dups ok =
 offer_level : (v : Layout) (s : Claims) (f : ℕ) → length s.used ≡ v.size → is_fragment_in_range v f ≡ true →
     (after_offer v s f).kept + offers_potential s ≤ s.kept + offers_potential (after_offer v s f)
 offer_level v s f h ok =
-    let below : f < length s.used = omega (arith, h, ok_below v f ok) in
+    let below : f < length s.used = omega (arith, h, in_range_below v f ok) in
     cond_holds (λ (t : Claims). t.kept + offers_potential s ≤ s.kept + offers_potential t) (nat_lt s.dups 11) _ _
     (λ _. rw ok (cond_holds (λ (t : Claims). t.kept + offers_potential s ≤ s.kept + offers_potential t)
     (is_set s.used f) _ _
@@ -125,7 +125,7 @@ offer_level v s f h ok =
 offers_keep : (v : Layout) (s : Claims) (start len : ℕ) → length s.used ≡ v.size →
     Keeps s (after_offers v s (range_with_len start len)) len
 offers_keep v s start zero h = record {
-  weighs = omega arith;
+  few_runs = omega arith;
   used_length = refl;
   dup_length = refl;
   runs_is = refl;
@@ -134,10 +134,10 @@ offers_keep v s start zero h = record {
   most = omega arith;
 }
 offers_keep v s start (suc len) h =
-    let one = offer_keeps v s start h in
+    let one = offer_few_kept v s start h in
     let more = offers_keep v (after_offer v s start) (start + 1) len (one.used_length ∙ h) in
     record {
-      weighs = omega (arith, one.weighs, more.weighs);
+      few_runs = omega (arith, one.few_runs, more.few_runs);
       used_length = more.used_length ∙ one.used_length;
       dup_length = more.dup_length ∙ one.dup_length;
       runs_is = more.runs_is ∙ one.runs_is;
@@ -151,9 +151,9 @@ offers_weigh : (v : Layout) (s : Claims) (start len : ℕ) → length s.used ≡
     potential s + 1 ≤ potential (after_offers v s (range_with_len start len))
 offers_weigh v s start zero h more_dups ok some = absurd (omega arith)
 offers_weigh v s start (suc len) h more_dups ok some =
-    let one = offer_keeps v s start h in
+    let one = offer_few_kept v s start h in
     let more = offers_keep v (after_offer v s start) (start + 1) len (one.used_length ∙ h) in
-    omega (arith, offer_weighs v s start h more_dups ok, more.weighs)
+    omega (arith, offer_few_runs v s start h more_dups ok, more.few_runs)
 
 offers_level : (v : Layout) (s : Claims) (start len : ℕ) → length s.used ≡ v.size →
     ((k : ℕ) → k < len → is_fragment_in_range v (start + k) ≡ true) →
@@ -164,14 +164,14 @@ offers_level v s start (suc len) h ok =
     let first : is_fragment_in_range v start ≡ true = ap (is_fragment_in_range v) (omega arith) ∙ ok 0 (omega arith) in
     let rest : (k : ℕ) → k < len → is_fragment_in_range v (start + 1 + k) ≡ true =
     λ k low. ap (is_fragment_in_range v) (omega arith) ∙ ok (k + 1) (omega arith) in
-    let one = offer_keeps v s start h in
+    let one = offer_few_kept v s start h in
     let more = offers_level v (after_offer v s start) (start + 1) len (one.used_length ∙ h) rest in
     omega (arith, offer_level v s start h first, more)
 
 pub stays : (s : Claims) → ClaimBound s s
 stays s = record {
-  weighs = omega arith;
-  keeps = omega arith;
+  few_runs = omega arith;
+  few_kept = omega arith;
   used_length = refl;
   dup_length = refl;
   bad_cap = λ c. c;
@@ -192,8 +192,8 @@ run_moves v s start len h some small few more_dups =
     let more = offers_weigh v seen start len h more_dups first some in
     let level = offers_level v seen start len h (λ k lt. each_ok v start len k fits lt) in
     record {
-      weighs = omega (arith, keep.runs_is, more);
-      keeps = omega (arith, keep.bad_is, level);
+      few_runs = omega (arith, keep.runs_is, more);
+      few_kept = omega (arith, keep.bad_is, level);
       used_length = keep.used_length;
       dup_length = keep.dup_length;
       bad_cap = λ c. omega (arith, keep.bad_is);
@@ -201,8 +201,8 @@ run_moves v s start len h some small few more_dups =
     })
     (λ _. cond_holds (ClaimBound s) (s.bad == 10) _ _
     (λ _. record {
-      weighs = omega arith;
-      keeps = omega arith;
+      few_runs = omega arith;
+      few_kept = omega arith;
       used_length = refl;
       dup_length = refl;
       bad_cap = λ c. omega arith;
@@ -212,8 +212,8 @@ run_moves v s start len h some small few more_dups =
     let seen : Claims = record s { runs = s.runs + 1; bad = s.bad + 1 } in
     let keep = offers_keep v seen start len h in
     record {
-      weighs = omega (arith, keep.runs_is, keep.weighs);
-      keeps = omega (arith, keep.bad_is, keep.most, keep.weighs);
+      few_runs = omega (arith, keep.runs_is, keep.few_runs);
+      few_kept = omega (arith, keep.bad_is, keep.most, keep.few_runs);
       used_length = keep.used_length;
       dup_length = keep.dup_length;
       bad_cap = λ c. omega (arith, keep.bad_is);
@@ -230,8 +230,8 @@ step_moves v s (Run start len block) h small some =
 step_moves v s Tail h small some =
     cond_holds (ClaimBound s) (is_open s) _ _
     (λ _. record {
-      weighs = omega arith;
-      keeps = omega arith;
+      few_runs = omega arith;
+      few_kept = omega arith;
       used_length = refl;
       dup_length = refl;
       bad_cap = λ c. c;
@@ -243,8 +243,8 @@ step_moves v s Gap h small some = stays s
 -- one step after the other
 pub moves_then : (s t u : Claims) → ClaimBound s t → ClaimBound t u → ClaimBound s u
 moves_then s t u a b = record {
-  weighs = omega (arith, a.weighs, b.weighs);
-  keeps = omega (arith, a.keeps, b.keeps);
+  few_runs = omega (arith, a.few_runs, b.few_runs);
+  few_kept = omega (arith, a.few_kept, b.few_kept);
   used_length = b.used_length ∙ a.used_length;
   dup_length = b.dup_length ∙ a.dup_length;
   bad_cap = λ c. b.bad_cap (a.bad_cap c);
@@ -270,4 +270,4 @@ owner_moves v image s x g h = steps_move v (at_next_inode s) (steps_of v (inode_
 pub kept_bound : (s0 s : Claims) (size : ℕ) → length s.used ≡ size → s0.bad ≤ 11 → s0.dups ≤ 11 → s0.kept ≡ 0 →
     ClaimBound s0 s → s.kept ≤ size + 99
 kept_bound s0 s size h bad dups none m =
-    omega (arith, h, m.keeps, m.bad_cap bad, m.dups_cap dups, count_by-le-length (λ b. b) s.used)
+    omega (arith, h, m.few_kept, m.bad_cap bad, m.dups_cap dups, count_by-le-length (λ b. b) s.used)

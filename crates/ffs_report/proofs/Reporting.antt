@@ -15,10 +15,10 @@ use Rattle.std.proofs.Common.{Err}
 use Rattle.ffs_volume.specs.Messages.Kinds.{Message}
 use Rattle.ffs_report.specs.Progress.{Progress, Said, Stopped, Says}
 use Rattle.ffs_report.proofs.Reports.{said_none, said_then, stopped_after, stopped_more}
-use Rattle.ffs_phase.specs.Known.{ForBytes}
-use Rattle.ffs_phase.specs.Runs.{SaidTo, SaidOf, SaidPrefixOf, StoppedOf, PhaseReports}
-use Rattle.ffs_phase.specs.declared.fault.RunFault.{RunFault}
-use Rattle.ffs_phase.specs.declared.fault.RunFault.TheVariants.{Read, Out}
+use Rattle.ffs_report.specs.Known.{ForBytes}
+use Rattle.ffs_report.specs.Runs.{SaidTo, SaidOf, SaidPrefixOf, StoppedOf, PhaseReports}
+use Rattle.ffs_report.specs.declared.fault.RunFault.{RunFault}
+use Rattle.ffs_report.specs.declared.fault.RunFault.TheVariants.{Read, Out}
 
 -- ---- messages that are known
 pub to_begins : (all : List Message) (a : Progress) → SaidTo all all a a

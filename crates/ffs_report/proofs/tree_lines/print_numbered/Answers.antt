@@ -4,7 +4,7 @@ use Rattle.std.specs.List.{concat}
 use Rattle.ffs_volume.specs.declared.texts.TheConstants as texts
 use Rattle.ffs_report.specs.Piece.{shown}
 use Rattle.ffs_report.proofs.Sinks.{prints_then, prints_parts_then, prints_broken, prints_parts_broken, prints_end}
-use Rattle.ffs_report.proofs.names.print_numbered.Goals as goal
+use Rattle.ffs_report.proofs.tree_lines.print_numbered.Goals as goal
 
 pub returns-in_err-print_number : goal.returns-in_err-print_number
 returns-in_err-print_number g c =

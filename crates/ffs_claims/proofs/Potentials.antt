@@ -7,7 +7,7 @@ use Rattle.ffs_volume.specs.declared.Step.{Step}
 use Rattle.ffs_volume.specs.Laws.RunLengths.{HasLength}
 use Rattle.ffs_volume.specs.Blocks.Claims.{Claims, is_open, after_step}
 use Rattle.ffs_volume.specs.Laws.ClaimBounds.{used_bits, ClaimBound}
-use Rattle.ffs_volume.proofs.Weights.{step_moves, moves_then}
+use Rattle.ffs_volume.proofs.Potentials.{step_moves, moves_then}
 use Rattle.ffs_maps.proofs.Bits.{bits_long}
 use Rattle.ffs_workspace.specs.declared.workspace.Workspace.{Workspace}
 use Rattle.ffs_workspace.specs.Holds.{claims_of}
@@ -27,7 +27,7 @@ bound_open s0 s size h free m =
     let both = and_parts (nat_lt s.bad 11) (nat_lt s.dups 11) free in
     let few : s.bad < 11 = ltb-true s.bad 11 both.0 in
     let few' : s.dups < 11 = ltb-true s.dups 11 both.1 in
-    omega (arith, h, m.weighs, few, few', count_by-le-length (λ b. b) s.used)
+    omega (arith, h, m.few_runs, few, few', count_by-le-length (λ b. b) s.used)
 
 -- at most the volume's fragments are used
 pub used_below : (v : Layout) (w : Workspace) → IsFor v w → used_bits (claims_of w) ≤ v.size

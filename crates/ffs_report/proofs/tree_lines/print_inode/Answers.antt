@@ -1,7 +1,7 @@
 use Rattle.std.proofs.Common.{◌++◌}
 use Rattle.ffs_volume.specs.Messages.Texts.{attr_text}
 use Rattle.ffs_report.proofs.Sinks.{prints_then, prints_broken}
-use Rattle.ffs_report.proofs.names.print_inode.Goals as goal
+use Rattle.ffs_report.proofs.tree_lines.print_inode.Goals as goal
 
 pub returns-in_err-print : goal.returns-in_err-print
 returns-in_err-print g c =
