@@ -1,26 +1,17 @@
 -- Laws of the most reads of the pathname check.
-use Rattle.std.proofs.Common.{◌≡◌, ◌<◌, ◌≤◌, ◌+◌, ◌*◌, ◌-◌, ◌∙◌, ℕ, Bool, true, List, [], ◌∷◌, ◌++◌, length, map, refl, ap, arith, length-append}
+use Rattle.std.proofs.Common.{◌≡◌, ◌<◌, ◌≤◌, ◌+◌, ◌*◌, ◌-◌, ◌∙◌, ℕ, Bool, true, List, ◌++◌, length, map, refl, ap, arith, length-append}
 use Rattle.std.specs.Prelude.{if◌then◌else◌}
 use Rattle.std.proofs.lemmas.List.{length-map}
-use Rattle.std.proofs.lemmas.List.FromFn.{length-range_with_len, length-map-range_with_len}
-use Rattle.std.proofs.lemmas.List.Sums.{count_by-le-length}
 use Rattle.ffs_volume.specs.declared.Layout.{Layout}
-use Rattle.ffs_volume.specs.Blocks.Claims.{Claims, reserved_map, no_claims, after_owner, after_owners}
 use Rattle.ffs_volume.specs.declared.Inode.{Inode}
 use Rattle.ffs_volume.specs.Blocks.Inodes.{inode_of}
 use Rattle.ffs_volume.specs.Blocks.Steps.{steps_of}
 use Rattle.ffs_volume.specs.Encodings.Replay.{cut_at, fresh_replay}
 use Rattle.ffs_volume.specs.Encodings.ReplayCounts.{replayed_runs}
-use Rattle.ffs_volume.specs.Blocks.Owners.{owner_of, owners_of, inode_numbers}
-use Rattle.ffs_volume.specs.Disk.Areas.{is_reserved}
-use Rattle.ffs_volume.specs.Laws.ClaimBounds.{used_bits}
-use Rattle.ffs_volume.specs.Laws.Geometry.{IsAcceptedLayout}
 use Rattle.ffs_volume.specs.Directories.PathnameCheck.{sized_dir_lines, lines_of_entries}
 use Rattle.ffs_volume.specs.Directories.Roles.{Volume, is_dir, roled_entries}
 use Rattle.ffs_volume.specs.Directories.Volumes.{volume_of}
 use Rattle.ffs_volume.specs.Messages.Kinds.{TreeMessage, of_tree, lines_from}
-use Rattle.ffs_volume.specs.Report.Memory.{runs_limit}
-use Rattle.ffs_volume.specs.Report.Whole.{run_count}
 use Rattle.ffs_volume.proofs.Numbered.{from_next}
 use Rattle.ffs_names.specs.Costs.{directory_cost, directory_runs}
 use Rattle.ffs_pathnames.specs.Begins.{dir_starts}
@@ -53,23 +44,22 @@ pub next_long : (lines : ℕ → List TreeMessage) (d n : ℕ) → d < n → len
 next_long lines d n h = lines_long (lines_from lines d (n - d)) (lines d) (lines_from lines (d + 1) (n - (d + 1)))
     (from_next lines d n h)
 
--- reads so far, where a directory is checked, of k for each line and p for each path
-pub checked_on : (k p n reads reads' more costs cost before here there all : ℕ)
-    → reads' ≤ reads + (2 * cost + p + k * here)
-    → reads + k * (here + there) ≤ before + (more + 2 * costs + p * n + k * all)
-    → reads' + k * there ≤ before + (more + 2 * (costs + cost) + p * (n + 1) + k * all)
-checked_on k p n reads reads' more costs cost before here there all one so_far = omega arith
+-- reads so far, where a directory is checked, of k for each line
+pub checked_on : (k reads reads' more costs cost before here there all : ℕ) → reads' ≤ reads + (2 * cost + k * here)
+    → reads + k * (here + there) ≤ before + (more + 2 * costs + k * all)
+    → reads' + k * there ≤ before + (more + 2 * (costs + cost) + k * all)
+checked_on k reads reads' more costs cost before here there all one so_far = omega arith
 
 -- a directory costs its inode and its Runs
 pub cost_of_dir : (v : Layout) (b : List ℕ) (d : ℕ) → is_dir (volume_of v b) d ≡ true →
     directory_cost v b d ≡ 1 + directory_runs v b d
 cost_of_dir v b d e = ap (λ (t : Bool). if◌then◌else◌ {A = ℕ} t (1 + directory_runs v b d) 0) e
 
--- a directory is begun, and reported, with k reads for each line and p for its path
-pub checked_twice : (k p reads reads' reads'' cost runs here more all : ℕ) → reads' ≤ reads + (cost + k * here)
-    → reads'' ≤ reads' + (p + runs + k * more) → cost ≡ 1 + runs → all ≡ here + more
-    → reads'' ≤ reads + (2 * cost + p + k * all)
-checked_twice k p reads reads' reads'' cost runs here more all one two is e = rw e (omega (arith, one, two, is))
+-- a directory is begun, and reported, with k reads for each line
+pub checked_twice : (k reads reads' reads'' cost runs here more all : ℕ) → reads' ≤ reads + (cost + k * here)
+    → reads'' ≤ reads' + (runs + k * more) → cost ≡ 1 + runs → all ≡ here + more
+    → reads'' ≤ reads + (2 * cost + k * all)
+checked_twice k reads reads' reads'' cost runs here more all one two is e = rw e (omega (arith, one, two, is))
 
 -- its Runs, by the inode and the cut that were read
 pub runs_are : (v : Layout) (b : List ℕ) (d : ℕ) (inode : Inode) (cut : ℕ) → inode ≡ inode_of v b d → cut ≡ cut_at v b d

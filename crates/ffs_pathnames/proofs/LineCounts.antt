@@ -2,7 +2,8 @@
 use Rattle.std.proofs.Common.{◌≡◌, ◌≤◌, ◌+◌, ◌*◌, ◌==◌, ◌%◌, ℕ, refl, sym, ap, subst, ◌∙◌, arith}
 use Rattle.std.proofs.Common.{Bool, true, false, not, ◌&&◌, ◌||◌, if◌then◌else◌, nat_lt, Option, None, Some}
 use Rattle.std.proofs.Common.{List, [], ◌∷◌, ◌++◌, length, length-append}
-use Rattle.std.specs.Prelude.{cond}
+use Rattle.std.specs.Prelude.{cond, Ok}
+use Rattle.ffs_image.specs.Device.{Device}
 use Rattle.ffs_volume.specs.declared.Attr.{Attr}
 use Rattle.ffs_volume.specs.declared.Layout.{Layout}
 use Rattle.ffs_volume.specs.Directories.Entries.{Entry, is_live}
@@ -12,7 +13,8 @@ use Rattle.ffs_volume.specs.Messages.Kinds.{TreeMessage, reported, extraneous, k
 use Rattle.ffs_volume.specs.Report.Reads.{line_reads}
 use Rattle.ffs_workspace.specs.Places.{AreNoted}
 use Rattle.ffs_workspace.specs.declared.workspace.Workspace.{Workspace}
-use Rattle.ffs_paths.specs.Reads.{KnowsPlaces, ReadsFew}
+use Rattle.ffs_workspace.proofs.Leaving.{claims_held, survey_held}
+use Rattle.ffs_paths.specs.Reads.{KnowsPlaces, OnlyReads, ReadsFew}
 use Rattle.ffs_paths.proofs.Climbed.{few_more}
 use Rattle.ffs_pathnames.specs.DirectoryContext.{DirectoryContext}
 use Rattle.ffs_pathnames.specs.Gathers.{IsVerdict, is_silent}
@@ -33,11 +35,21 @@ knows_places v contents w d b k noted = record {
   places = noted;
 }
 
+-- and so after a call that only read
+pub places_on : {T : Type 0} {v : Layout} {d d' : Device} {w w' : Workspace} {x : T} (b : List ℕ) →
+    OnlyReads v d d' w w' (Ok x) → KnowsPlaces v d.contents w b → KnowsPlaces v d'.contents w' b
+places_on {v = v} {w = w} {w' = w'} b r k = record {
+  gives_bytes = ap (λ d. d.contents) r.read ∙ k.gives_bytes;
+  claims = claims_held v b w w' r.lists k.claims;
+  survey = survey_held v b w w' r.lists k.survey;
+  places = subst (AreNoted v b) (sym (ap (λ (q : Workspace). q.queue.items) r.lists)) k.places;
+}
+
 pub by_line : {reads reads' : ℕ} {w w' : Workspace} (n : ℕ) → ReadsFew line_reads reads reads' w w' → 1 ≤ n →
     ReadsFew (line_reads * n) reads reads' w w'
 by_line n few some = few_more few (times n some)
   where
-    times : (n : ℕ) → 1 ≤ n → 515 ≤ 515 * n
+    times : (n : ℕ) → 1 ≤ n → 1029 ≤ 1029 * n
     times n some = omega arith
 
 -- so much was read for some lines, and the rest are to come
@@ -56,8 +68,8 @@ read_more {all = all} {rest = rest} {reads = reads} {reads' = reads'} {reads'' =
   blocks = few.blocks ∙ has.blocks;
 }
   where
-    sum : (all rest reads reads' reads'' n more : ℕ) → reads' + 515 * rest ≤ reads + 515 * all → rest ≡ n + more
-        → reads'' ≤ reads' + 515 * n → reads'' + 515 * more ≤ reads + 515 * all
+    sum : (all rest reads reads' reads'' n more : ℕ) → reads' + 1029 * rest ≤ reads + 1029 * all → rest ≡ n + more
+        → reads'' ≤ reads' + 1029 * n → reads'' + 1029 * more ≤ reads + 1029 * all
     sum all rest reads reads' reads'' n more a b c = omega arith
 
 pub read_all : {all rest reads reads' : ℕ} {w w' : Workspace} → HasRead all rest reads reads' w w' →
@@ -65,7 +77,7 @@ pub read_all : {all rest reads reads' : ℕ} {w w' : Workspace} → HasRead all 
 read_all {all = all} {rest = rest} {reads = reads} {reads' = reads'} has =
     record { count = most all rest reads reads' has.count; blocks = has.blocks }
   where
-    most : (all rest reads reads' : ℕ) → reads' + 515 * rest ≤ reads + 515 * all → reads' ≤ reads + 515 * all
+    most : (all rest reads reads' : ℕ) → reads' + 1029 * rest ≤ reads + 1029 * all → reads' ≤ reads + 1029 * all
     most all rest reads reads' h = omega arith
 
 -- ---- how many lines there are

@@ -21,7 +21,6 @@ use Rattle.ffs_names.proofs.DirLaws.{dir_is, dir_size, dir_seen}
 use Rattle.ffs_volume.specs.Messages.Kinds.{TreeMessage, of_tree}
 use Rattle.ffs_volume.specs.Directories.Roles.{Volume, RoledEntry, roled_chunk, roled_from, roled_entries, is_dir}
 use Rattle.ffs_workspace.specs.Leaves.{LeavesSurvey}
-use Rattle.ffs_pathnames.specs.Gathers.{marks_of}
 use Rattle.ffs_pathnames.specs.DirectoryContext.{DirectoryContext}
 use Rattle.ffs_pathnames.specs.Marks.{Marks, after_roled, after_entries, entry_lines_of, entries_reported}
 use Rattle.ffs_workspace.proofs.Leaving.{claims_left, survey_left}
@@ -109,7 +108,3 @@ all_read v b d i cut cs g dir e k read =
     let p = dir_is v b d dir in
     let small : i.size < 2 ^ 31 = subst (λ (x : Inode). x.size < 2 ^ 31) (sym e) (dir_size v (inode_of v b d) p.1) in
     ap (flat_map roled_chunk) (read small) ∙ dir_seen v b d i cut g p.0 e k
-
--- the marks stay where their lists do
-pub marks_on : (old new : Workspace) → new ≡ record old { windows = new.windows } → marks_of old ≡ marks_of new
-marks_on old new e = sym (ap marks_of e)

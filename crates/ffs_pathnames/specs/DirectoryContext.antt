@@ -1,13 +1,14 @@
 -- What is known of an image's bytes during the pathname check of a directory.
-use Rattle.std.specs.Prelude.{◌≡◌, ℕ, true, List, Option, Some}
+use Rattle.std.specs.Prelude.{◌≡◌, ℕ, true, IsTrue, List, Option, Some}
 use Rattle.ffs_volume.specs.declared.Layout.{Layout}
+use Rattle.ffs_volume.specs.Directories.Graph.{Graph}
 use Rattle.ffs_volume.specs.Directories.Parents.{graph_of}
 use Rattle.ffs_volume.specs.Directories.Roles.{is_dir}
 use Rattle.ffs_volume.specs.Directories.Volumes.{volume_of}
 use Rattle.ffs_workspace.specs.declared.workspace.Workspace.{Workspace}
 use Rattle.ffs_workspace.specs.Holds.{HoldsClaims, HoldsSurvey}
-use Rattle.ffs_paths.specs.declared.kept.DirectoryPath.{DirectoryPath}
 use Rattle.ffs_paths.specs.DirectoryPaths.{IsPathOf}
+use Rattle.ffs_pathnames.specs.declared.one_entry.EntryTexts.{EntryTexts}
 
 -- the image gives them, the workspace holds what the block check and the survey leave, and d is a directory
 pub record DirectoryContext (v : Layout) (contents : Option (List ℕ)) (w : Workspace) (d : ℕ) (b : List ℕ) :
@@ -17,8 +18,12 @@ pub record DirectoryContext (v : Layout) (contents : Option (List ℕ)) (w : Wor
   pub survey : HoldsSurvey v b w
   pub dir : is_dir (volume_of v b) d ≡ true
 
--- and this is the path of d
-pub record KnowsPath (v : Layout) (contents : Option (List ℕ)) (w : Workspace) (d : ℕ) (p : DirectoryPath)
+-- the path of a directory, where it is begun, is that of d
+abbrev pub BeginsPathOf : Graph → ℕ → EntryTexts → Type 0
+BeginsPathOf g d t = IsTrue t.begun → IsPathOf g d t.paths.directory
+
+-- and the path that is begun, if any, is that of d
+pub record KnowsPath (v : Layout) (contents : Option (List ℕ)) (w : Workspace) (d : ℕ) (t : EntryTexts)
     (b : List ℕ) : Type 0 where
   pub knows : DirectoryContext v contents w d b
-  pub path : IsPathOf (graph_of (volume_of v b)) d p
+  pub path : BeginsPathOf (graph_of (volume_of v b)) d t

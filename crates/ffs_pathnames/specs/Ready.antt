@@ -40,11 +40,3 @@ pub record TreeLeaves {T : Type 0} (v : Layout) (d d' : Device) (w w' : Workspac
   pub image : ImageAfter d d' result
   pub references : w'.references ≡ w.references
   pub ready : IsReady v d' w'
-
--- what a line leaves for which an inode is read; the chunk of the current directory is as it was
-pub record LineLeaves {T : Type 0} (v : Layout) (d d' : Device) (w w' : Workspace) (result : Result T RunFault) :
-    Type 0 where
-  pub image : ImageAfter d d' result
-  pub lists : w' ≡ record w { windows = w'.windows }
-  pub chunk : w'.windows.chunk ≡ w.windows.chunk
-  pub ready : IsReady v d' w'

@@ -3,6 +3,7 @@ ghost use Rattle.std.specs.Prelude.{◌≡◌, ◌≤◌, length, OnOk, map};
 ghost use Rattle.ffs_volume.specs.declared.Role.{Role};
 ghost use Rattle.ffs_volume.specs.Directories.Entries.{entries_of};
 ghost use Rattle.ffs_volume.specs.Messages.Kinds.{of_tree};
+ghost use Rattle.ffs_volume.specs.Directories.Parents.{graph_of};
 ghost use Rattle.ffs_volume.specs.Directories.Roles.{roled_from};
 ghost use Rattle.ffs_volume.specs.Directories.Volumes.{volume_of};
 ghost use Rattle.ffs_layout.specs.Entry.{entry_value};
@@ -10,7 +11,7 @@ ghost use Rattle.ffs_report.specs.Known.{ForBytes};
 ghost use Rattle.ffs_report.specs.Runs.{PhaseReports};
 ghost use Rattle.ffs_report.specs.Progress.{progress};
 ghost use Rattle.ffs_pathnames.specs.Gathers.{marks_of};
-ghost use Rattle.ffs_pathnames.specs.DirectoryContext.{DirectoryContext, KnowsPath};
+ghost use Rattle.ffs_pathnames.specs.DirectoryContext.{BeginsPathOf, DirectoryContext, KnowsPath};
 ghost use Rattle.ffs_pathnames.specs.Marks as marks;
 ghost use Rattle.ffs_pathnames.specs.LineReads.{ReadsByLines};
 ghost use Rattle.ffs_pathnames.specs.Ready.{ReadyToPath, PhaseLeaves, LinesLeave};
@@ -42,11 +43,13 @@ fn say_entry<I: Image, W: Output>(
     requires ready { ReadyToPath geometry.now.layout (I.device image.old) workspace.old
         siblings.old dir }
     ensures text { PhaseReports (KnowsPath geometry.now.layout (I.device image.old).contents
-        workspace.old dir texts.old.paths.directory)
+        workspace.old dir texts.old)
         (λ b. map of_tree (marks.entry_lines_of (volume_of geometry.now.layout b) dir
         (marks_of workspace.old) (record { role = role; entry = entry_value entry.now })))
         (progress W.sink report.old) (progress W.sink report.new) result }
-    ensures same { texts.new.paths.directory ≡ texts.old.paths.directory }
+    ensures path { ForBytes (KnowsPath geometry.now.layout (I.device image.old).contents
+        workspace.old dir texts.old)
+        (λ b. BeginsPathOf (graph_of (volume_of geometry.now.layout b)) dir texts.new) }
     ensures leaves { LinesLeave geometry.now.layout (I.device image.old) (I.device image.new)
         workspace.old workspace.new siblings.new result }
     ensures counted { ReadsByLines geometry.now.layout
@@ -59,7 +62,9 @@ fn say_entry<I: Image, W: Output>(
         Role::Empty => Ok(()),
         Role::Dot => Ok(()),
         Role::Dotdot => Ok(()),
-        Role::Extra => report_extra(geometry, image, workspace, report, dir, entry, texts),
+        Role::Extra => report_extra(
+            geometry, image, workspace, siblings, report, dir, entry, texts,
+        ),
         Role::Plain => report_plain(
             geometry, image, workspace, siblings, report, dir, entry, texts,
         ),
@@ -84,11 +89,13 @@ pub fn report_entry<I: Image, W: Output>(
     requires ready { ReadyToPath geometry.now.layout (I.device image.old) workspace.old
         siblings.old dir }
     ensures text { PhaseReports (KnowsPath geometry.now.layout (I.device image.old).contents
-        workspace.old dir texts.old.paths.directory)
+        workspace.old dir texts.old)
         (λ b. map of_tree (marks.entry_lines_of (volume_of geometry.now.layout b) dir
         (marks_of workspace.old) (record { role = role; entry = entry_value entry.now })))
         (progress W.sink report.old) (progress W.sink report.new) result }
-    ensures same { texts.new.paths.directory ≡ texts.old.paths.directory }
+    ensures path { ForBytes (KnowsPath geometry.now.layout (I.device image.old).contents
+        workspace.old dir texts.old)
+        (λ b. BeginsPathOf (graph_of (volume_of geometry.now.layout b)) dir texts.new) }
     ensures marks { OnOk result (ForBytes
         (DirectoryContext geometry.now.layout (I.device image.old).contents workspace.old dir) (λ b.
         marks.after_roled (volume_of geometry.now.layout b) dir (marks_of workspace.old)
@@ -139,12 +146,14 @@ pub fn report_chunk<I: Image, W: Output>(
 ) -> Result<(), RunFault>
     requires { ReadyToPath geometry.now.layout (I.device image.old) workspace.old siblings.old dir }
     ensures text { PhaseReports (KnowsPath geometry.now.layout (I.device image.old).contents
-        workspace.old dir texts.old.paths.directory)
+        workspace.old dir texts.old)
         (λ b. map of_tree (marks.entries_reported (volume_of geometry.now.layout b) dir
         (marks_of workspace.old) (roled_from first 0
         (entries_of geometry.now.layout.order chunk.now))))
         (progress W.sink report.old) (progress W.sink report.new) result }
-    ensures same { texts.new.paths.directory ≡ texts.old.paths.directory }
+    ensures path { ForBytes (KnowsPath geometry.now.layout (I.device image.old).contents
+        workspace.old dir texts.old)
+        (λ b. BeginsPathOf (graph_of (volume_of geometry.now.layout b)) dir texts.new) }
     ensures marks { OnOk result (ForBytes
         (DirectoryContext geometry.now.layout (I.device image.old).contents workspace.old dir) (λ b.
         marks.after_entries (volume_of geometry.now.layout b) dir (marks_of workspace.old)

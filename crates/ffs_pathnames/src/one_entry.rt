@@ -1,5 +1,5 @@
 //! The lines of a plain entry.
-ghost use Rattle.std.specs.Prelude.{◌≡◌, ◌*◌, ◌<◌, ◌≤◌, ℕ, List, length, Some, OnOk, IfOk, IsTrue, map, vec_len};
+ghost use Rattle.std.specs.Prelude.{◌≡◌, ◌+◌, ◌*◌, ◌<◌, ◌≤◌, ℕ, false, List, length, Some, OnOk, IfOk, IsTrue, map, vec_len};
 ghost use Rattle.ffs_image.specs.Device.{ForContents};
 ghost use Rattle.ffs_volume.specs.Messages.Kinds.{of_tree};
 ghost use Rattle.ffs_volume.specs.Directories.PathnameCheck.{attributes, extra_lines};
@@ -8,6 +8,7 @@ ghost use Rattle.ffs_volume.specs.Directories.Parents.{graph_of};
 ghost use Rattle.ffs_volume.specs.Directories.Paths.{dir_path};
 ghost use Rattle.ffs_volume.specs.Directories.Volumes.{volume_of};
 ghost use Rattle.ffs_layout.specs.Entry.{entry_value};
+ghost use Rattle.ffs_report.specs.Known.{ForBytes};
 ghost use Rattle.ffs_report.specs.Runs.{PhaseReports};
 ghost use Rattle.ffs_report.specs.Progress.{progress};
 ghost use Rattle.ffs_volume.specs.declared.Layout.{Layout};
@@ -15,14 +16,14 @@ ghost use Rattle.ffs_workspace.specs.Lengths.{IsFor};
 ghost use Rattle.ffs_workspace.specs.Holds.{HoldsClaims, HoldsSurvey};
 ghost use Rattle.ffs_pathnames.specs.Gathers.{IsEnough, IsVerdict, AreAsLong, marks_of};
 ghost use Rattle.ffs_pathnames.specs.Gathers.{asks_attr, asks_path, is_silent};
-ghost use Rattle.ffs_pathnames.specs.DirectoryContext.{DirectoryContext, KnowsPath};
+ghost use Rattle.ffs_pathnames.specs.DirectoryContext.{BeginsPathOf, DirectoryContext, KnowsPath};
 ghost use Rattle.ffs_paths.specs.DirectoryPaths.{IsPathOf};
 ghost use Rattle.ffs_paths.specs.LastPaths.{last_path};
 ghost use Rattle.ffs_paths.specs.Reads.{ForTree, IsReadyFor, OnlyReads, ReadsAtMost, ReadsFew};
 ghost use Rattle.ffs_volume.specs.Report.Reads.{line_reads, path_reads};
 ghost use Rattle.ffs_pathnames.specs.LineReads.{ReadsByLines};
 ghost use Rattle.ffs_pathnames.specs.Marks.{plain_reported};
-ghost use Rattle.ffs_pathnames.specs.Ready.{ReadyWith, ReadyToPath, PathLeaves, LinesLeave, LineLeaves};
+ghost use Rattle.ffs_pathnames.specs.Ready.{ReadyWith, ReadyToPath, PathLeaves, LinesLeave};
 
 use crate::inodes::Inodes;
 use crate::lines::say_verdict;
@@ -30,7 +31,7 @@ use crate::verdict::{Verdict, entry_verdict};
 use ffs_image::{Image, ImageFault};
 use ffs_layout::{Entry, Geometry};
 use ffs_names::is_one_dot;
-use ffs_paths::{EntryPaths, PathText, Siblings};
+use ffs_paths::{DirectoryPath, EntryPaths, PathBuffer, PathText, Siblings};
 use ffs_report::{DotLine, Line, OutFault, Output, Report, RunFault};
 use ffs_volume::Attr;
 use ffs_workspace::Workspace;
@@ -38,10 +39,59 @@ use ffs_workspace::Workspace;
 /// The texts of the lines of an entry, which the next entry's are written over.
 #[derive(Drop)]
 pub struct EntryTexts {
+    /// Whether the path of the directory that the entries are in is there: the first line makes it.
+    pub begun: bool,
     /// The path of the entry.
     pub paths: EntryPaths,
     /// The path of a directory, as that which the entry names.
     pub directory: PathText,
+}
+
+impl EntryTexts {
+    /// Those of a directory whose path isn't made yet.
+    pub fn none() -> EntryTexts
+        ensures { result.begun ≡ false }
+    {
+        EntryTexts {
+            begun: false,
+            paths: EntryPaths::of(DirectoryPath {
+                reached: false,
+                names: PathBuffer::new(),
+            }),
+            directory: PathText::new(),
+        }
+    }
+}
+
+/// Makes the path of a directory for the lines on its entries, where it isn't there.
+fn begin_paths<I: Image>(
+    geometry: &Geometry,
+    image: &mut I,
+    workspace: &mut Workspace,
+    siblings: &mut Siblings,
+    dir: u32,
+    texts: &mut EntryTexts,
+) -> Result<(), ImageFault>
+    requires { ReadyToPath geometry.now.layout (I.device image.old) workspace.old siblings.old dir }
+    ensures made { OnOk result (ForBytes (KnowsPath geometry.now.layout
+        (I.device image.old).contents workspace.old dir texts.old)
+        (λ b. IsPathOf (graph_of (volume_of geometry.now.layout b)) dir
+        texts.new.paths.directory)) }
+    ensures path { ForBytes (KnowsPath geometry.now.layout (I.device image.old).contents
+        workspace.old dir texts.old)
+        (λ b. BeginsPathOf (graph_of (volume_of geometry.now.layout b)) dir texts.new) }
+    ensures leaves { PathLeaves geometry.now.layout (I.device image.old) (I.device image.new)
+        workspace.old workspace.new siblings.new result }
+    ensures counted { ReadsAtMost path_reads geometry.now.layout (I.device image.old)
+        workspace.old workspace.new (I.reads image.old) (I.reads image.new) }
+{
+    if texts.begun {
+        return Ok(());
+    }
+    let path = siblings.path_to(geometry, image, workspace, dir)?;
+    texts.paths = EntryPaths::of(path);
+    texts.begun = true;
+    Ok(())
 }
 
 /// Reads what messages show of the inode of a number.
@@ -106,8 +156,8 @@ fn gather_path<I: Image>(
     siblings.put_path(geometry, image, workspace, dir, text)
 }
 
-/// Gathers what the messages on an entry show: the two paths into `texts`, and the attributes of
-/// the inode that it names.
+/// Gathers what the messages on an entry show, where the path of its directory is made: the two
+/// paths into `texts`, and the attributes of the inode that it names.
 #[inline(always)]
 fn gather<I: Image>(
     geometry: &Geometry,
@@ -128,9 +178,10 @@ fn gather<I: Image>(
         IsEnough (volume_of geometry.now.layout b) verdict.now dir entry.now.number
         entry.now.name.now a (last_path texts.new.paths) texts.new.directory.items) }
     ensures same { texts.new.paths.directory ≡ texts.old.paths.directory }
+    ensures begun { texts.new.begun ≡ texts.old.begun }
     ensures leaves { PathLeaves geometry.now.layout (I.device image.old) (I.device image.new)
         workspace.old workspace.new siblings.new result }
-    ensures counted { ReadsAtMost line_reads geometry.now.layout (I.device image.old)
+    ensures counted { ReadsAtMost (path_reads + 1) geometry.now.layout (I.device image.old)
         workspace.old workspace.new (I.reads image.old) (I.reads image.new) }
 {
     let (wants_attr, wants_path) = asks(verdict);
@@ -154,6 +205,69 @@ fn gather<I: Image>(
         &mut texts.directory,
     )?;
     let attr = read_attr(geometry, image, workspace, entry.number)?;
+    Ok(attr)
+}
+
+/// Gathers what the messages on an entry of a directory show, and makes the path of that directory
+/// where it isn't there.
+fn gather_entry<I: Image>(
+    geometry: &Geometry,
+    image: &mut I,
+    workspace: &mut Workspace,
+    siblings: &mut Siblings,
+    dir: u32,
+    entry: &Entry<'_>,
+    verdict: &Verdict,
+    texts: &mut EntryTexts,
+) -> Result<Attr, ImageFault>
+    requires ready { ReadyToPath geometry.now.layout (I.device image.old) workspace.old
+        siblings.old dir }
+    requires number { IsTrue (asks_attr verdict.now) → entry.now.number
+        < geometry.now.layout.ncg * geometry.now.layout.ipg }
+    ensures enough { IfOk result (λ a. ForBytes (KnowsPath geometry.now.layout
+        (I.device image.old).contents workspace.old dir texts.old) (λ b.
+        IsEnough (volume_of geometry.now.layout b) verdict.now dir entry.now.number
+        entry.now.name.now a (last_path texts.new.paths) texts.new.directory.items)) }
+    ensures path { ForBytes (KnowsPath geometry.now.layout (I.device image.old).contents
+        workspace.old dir texts.old)
+        (λ b. BeginsPathOf (graph_of (volume_of geometry.now.layout b)) dir texts.new) }
+    ensures leaves { PathLeaves geometry.now.layout (I.device image.old) (I.device image.new)
+        workspace.old workspace.new siblings.new result }
+    ensures counted { ReadsAtMost line_reads geometry.now.layout (I.device image.old)
+        workspace.old workspace.new (I.reads image.old) (I.reads image.new) }
+{
+    begin_paths(geometry, image, workspace, siblings, dir, texts)?;
+    gather(geometry, image, workspace, siblings, entry, verdict, texts)
+}
+
+/// Gathers what the message on an extra entry of a directory shows: the path of the directory into
+/// `texts`, and its attributes.
+fn gather_extra<I: Image>(
+    geometry: &Geometry,
+    image: &mut I,
+    workspace: &mut Workspace,
+    siblings: &mut Siblings,
+    dir: u32,
+    texts: &mut EntryTexts,
+) -> Result<Attr, ImageFault>
+    requires { ReadyToPath geometry.now.layout (I.device image.old) workspace.old siblings.old dir }
+    ensures attr { IfOk result (λ a. ForContents (I.device image.old).contents
+        (λ b. a ≡ attributes (volume_of geometry.now.layout b) dir)) }
+    ensures text { OnOk result (ForBytes (KnowsPath geometry.now.layout
+        (I.device image.old).contents workspace.old dir texts.old) (λ b.
+        texts.new.directory.items ≡ dir_path (graph_of (volume_of geometry.now.layout b)) dir)) }
+    ensures path { ForBytes (KnowsPath geometry.now.layout (I.device image.old).contents
+        workspace.old dir texts.old)
+        (λ b. BeginsPathOf (graph_of (volume_of geometry.now.layout b)) dir texts.new) }
+    ensures leaves { PathLeaves geometry.now.layout (I.device image.old) (I.device image.new)
+        workspace.old workspace.new siblings.new result }
+    ensures counted { ReadsAtMost line_reads geometry.now.layout (I.device image.old)
+        workspace.old workspace.new (I.reads image.old) (I.reads image.new) }
+{
+    begin_paths(geometry, image, workspace, siblings, dir, texts)?;
+    let paths = &texts.paths;
+    paths.directory.put(&mut texts.directory);
+    let attr = read_attr(geometry, image, workspace, dir)?;
     Ok(attr)
 }
 
@@ -207,11 +321,13 @@ pub fn report_plain<I: Image, W: Output>(
     requires ready { ReadyToPath geometry.now.layout (I.device image.old) workspace.old
         siblings.old dir }
     ensures text { PhaseReports (KnowsPath geometry.now.layout (I.device image.old).contents
-        workspace.old dir texts.old.paths.directory)
+        workspace.old dir texts.old)
         (λ b. map of_tree (plain_reported (volume_of geometry.now.layout b) dir
         (marks_of workspace.old) (entry_value entry.now)))
         (progress W.sink report.old) (progress W.sink report.new) result }
-    ensures same { texts.new.paths.directory ≡ texts.old.paths.directory }
+    ensures path { ForBytes (KnowsPath geometry.now.layout (I.device image.old).contents
+        workspace.old dir texts.old)
+        (λ b. BeginsPathOf (graph_of (volume_of geometry.now.layout b)) dir texts.new) }
     ensures leaves { LinesLeave geometry.now.layout (I.device image.old) (I.device image.new)
         workspace.old workspace.new siblings.new result }
     ensures counted { ReadsByLines geometry.now.layout
@@ -224,7 +340,9 @@ pub fn report_plain<I: Image, W: Output>(
     if is_silent(&verdict) {
         return Ok(());
     }
-    let attr = gather(geometry, image, workspace, siblings, entry, &verdict, texts)?;
+    let attr = gather_entry(
+        geometry, image, workspace, siblings, dir, entry, &verdict, texts,
+    )?;
     say_verdict(
         report,
         &verdict,
@@ -245,29 +363,30 @@ pub fn report_extra<I: Image, W: Output>(
     geometry: &Geometry,
     image: &mut I,
     workspace: &mut Workspace,
+    siblings: &mut Siblings,
     report: &mut Report<'_, W>,
     dir: u32,
     entry: &Entry<'_>,
     texts: &mut EntryTexts,
 ) -> Result<(), RunFault>
-    requires { IsReadyFor geometry.now.layout (I.device image.old) workspace.old dir }
+    requires { ReadyToPath geometry.now.layout (I.device image.old) workspace.old siblings.old dir }
     ensures text { PhaseReports (KnowsPath geometry.now.layout (I.device image.old).contents
-        workspace.old dir texts.old.paths.directory)
+        workspace.old dir texts.old)
         (λ b. map of_tree (extra_lines (attributes (volume_of geometry.now.layout b) dir)
         (dir_path (graph_of (volume_of geometry.now.layout b)) dir) (entry_value entry.now)))
         (progress W.sink report.old) (progress W.sink report.new) result }
-    ensures same { texts.new.paths.directory ≡ texts.old.paths.directory }
-    ensures leaves { LineLeaves geometry.now.layout (I.device image.old) (I.device image.new)
-        workspace.old workspace.new result }
+    ensures path { ForBytes (KnowsPath geometry.now.layout (I.device image.old).contents
+        workspace.old dir texts.old)
+        (λ b. BeginsPathOf (graph_of (volume_of geometry.now.layout b)) dir texts.new) }
+    ensures leaves { LinesLeave geometry.now.layout (I.device image.old) (I.device image.new)
+        workspace.old workspace.new siblings.new result }
     ensures counted { ReadsByLines geometry.now.layout
         (DirectoryContext geometry.now.layout (I.device image.old).contents workspace.old dir)
         (λ b. extra_lines (attributes (volume_of geometry.now.layout b) dir)
         (dir_path (graph_of (volume_of geometry.now.layout b)) dir) (entry_value entry.now))
         workspace.old workspace.new (I.reads image.old) (I.reads image.new) }
 {
-    let paths = &texts.paths;
-    paths.directory.put(&mut texts.directory);
-    let attr = read_attr(geometry, image, workspace, dir)?;
+    let attr = gather_extra(geometry, image, workspace, siblings, dir, texts)?;
     say_extra(report, attr, texts.directory.as_slice(), entry)?;
     Ok(())
 }

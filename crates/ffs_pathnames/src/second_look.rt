@@ -19,7 +19,7 @@ use crate::one_entry::EntryTexts;
 use ffs_image::Image;
 use ffs_layout::Geometry;
 use ffs_names::Chunks;
-use ffs_paths::{EntryPaths, PathText, Siblings};
+use ffs_paths::Siblings;
 use ffs_report::{Output, Report, RunFault};
 use ffs_volume::Inode;
 use ffs_volume::constants::DIRBLKSIZ;
@@ -60,14 +60,10 @@ pub fn report_directory<I: Image, W: Output>(
     ensures leaves { PhaseLeaves geometry.now.layout (I.device image.old) (I.device image.new)
         workspace.old workspace.new siblings.new result }
 {
-    let path = siblings.path_to(geometry, image, workspace, dir)?;
     let cut = workspace.cut_of(dir);
     let mut chunks = Chunks::start(geometry, inode, cut);
     let mut chunk = [0u8; DIRBLKSIZ];
-    let mut texts = EntryTexts {
-        paths: EntryPaths::of(path),
-        directory: PathText::new(),
-    };
+    let mut texts = EntryTexts::none();
     'chunks: while let Some(offset) = chunks.next(
         image,
         &mut workspace.windows.blocks,

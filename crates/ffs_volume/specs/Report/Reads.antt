@@ -18,21 +18,22 @@ sweep_reads v = v.ncg * v.ipg + runs_limit v
 abbrev pub path_reads : ℕ
 path_reads = MAXPATHLEN / 2 + 2
 
--- a message of phase 2: the path of the inode that it speaks of, and that inode
+-- a message of phase 2: the path of the directory that it is about, that of the directory that an entry names, and an
+-- inode
 abbrev pub line_reads : ℕ
-line_reads = path_reads + 1
+line_reads = 2 * path_reads + 1
 
--- phase 2: it goes over all directories for the survey, for the places of parent entries, and twice for the messages;
--- each directory's path is made, and what each message shows is read
+-- phase 2: it goes over all directories for the survey, for the places of parent entries, and twice for the messages,
+-- and what each message shows is read
 abbrev pub pathname_reads : Layout → (lines : ℕ) → ℕ
-pathname_reads v lines = 4 * sweep_reads v + path_reads * (v.ncg * v.ipg) + line_reads * lines
+pathname_reads v lines = 4 * sweep_reads v + line_reads * lines
 
 -- phase 5: the block and the summary record of each group
 abbrev pub group_reads : Layout → ℕ
 group_reads v = 2 * v.ncg
 
--- all phases, where so many messages are printed in all: phases 1 and 1b go over all inodes, and phases 3 and 4 read an inode
--- for each message
+-- all phases, where so many messages are printed in all: phases 1 and 1b go over all inodes, and phases 3 and 4 read
+-- an inode for each message
 abbrev pub phase_reads : Layout → (lines : ℕ) → ℕ
 phase_reads v lines = 2 * sweep_reads v + pathname_reads v lines + lines + group_reads v
 

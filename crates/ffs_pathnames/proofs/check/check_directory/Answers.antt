@@ -15,7 +15,7 @@ use Rattle.ffs_pathnames.proofs.Begun.{said_same, directory_is, lines_parts, qui
 use Rattle.ffs_pathnames.proofs.Begun.{reported_after, on_ok}
 use Rattle.ffs_pathnames.proofs.Passing.{knows_on}
 use Rattle.ffs_pathnames.proofs.StampLaws.{keep_more, noted_kept}
-use Rattle.ffs_volume.specs.Report.Reads.{line_reads, path_reads}
+use Rattle.ffs_volume.specs.Report.Reads.{line_reads}
 use Rattle.ffs_names.specs.Costs.{directory_cost, directory_runs}
 use Rattle.ffs_pathnames.proofs.CostLaws.{checked_twice, cost_of_dir, lines_long, starts_within}
 use Rattle.std.proofs.Math.Nat.{mul-le-mul_left}
@@ -117,7 +117,7 @@ returns-clause-reads g c = λ b k noted.
     let left = c.in_ok-examined.ensures.leaves in
     let begun = c.in_ok-examined.ensures.begun b k.0 in
     let m = marks_of c.begin_directory.new.workspace in
-    checked_twice line_reads path_reads _ _ _ (directory_cost v b c.args.dir) (directory_runs v b c.args.dir)
+    checked_twice line_reads _ _ _ (directory_cost v b c.args.dir) (directory_runs v b c.args.dir)
     (length (dir_starts (volume_of v b) c.args.dir))
     (length (entries_reported (volume_of v b) c.args.dir m (roled_entries (volume_of v b) c.args.dir)))
     (length (sized_dir_lines (volume_of v b) c.args.dir))

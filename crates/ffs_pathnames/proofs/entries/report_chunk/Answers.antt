@@ -1,13 +1,11 @@
-use Rattle.std.proofs.Common.{◌+◌, refl, ap, sym, subst, ◌∙◌, arith, ℕ, List, [], map, Err}
+use Rattle.std.proofs.Common.{◌+◌, refl, ap, ◌∙◌, arith, ℕ, List, [], map, Err}
 use Rattle.std.proofs.lemmas.Result.{err_from_is_err_and}
 use Rattle.ffs_volume.specs.Directories.Entries.{entries_of}
 use Rattle.ffs_volume.specs.Messages.Kinds.{of_tree}
-use Rattle.ffs_volume.specs.Directories.Parents.{graph_of}
 use Rattle.ffs_volume.specs.Directories.Roles.{RoledEntry, roled_from}
 use Rattle.ffs_volume.specs.Directories.Volumes.{volume_of}
 use Rattle.ffs_layout.specs.Entry.{entry_value}
 use Rattle.ffs_report.proofs.Reporting.{of_begins, of_same, of_part, of_fault, said_knows, reports_knowing}
-use Rattle.ffs_paths.specs.DirectoryPaths.{IsPathOf}
 use Rattle.ffs_pathnames.specs.Gathers.{marks_of}
 use Rattle.ffs_pathnames.specs.DirectoryContext.{DirectoryContext}
 use Rattle.ffs_pathnames.specs.Marks.{after_roled, after_entries, entry_lines_of, entries_reported}
@@ -30,7 +28,7 @@ entries-init g c =
       survey = leaves_all _;
       places = λ x. refl;
       chunk = refl;
-      path = refl;
+      path = λ b k. k.path;
       marks = λ b k. refl;
       said = of_begins _ (λ (b : List ℕ). map of_tree
           (entries_reported (volume_of v b) c.args.dir (marks_of c.args.workspace.now)
@@ -63,7 +61,7 @@ returns-in_err-report_entry-clause-text g c =
     (λ b k. record {
       knows = knows_on v _ _ c.args.workspace.now c.entries.workspace c.args.dir b
           (ap (λ d. d.contents) inv.device) inv.survey k.knows;
-      path = subst (IsPathOf (graph_of (volume_of v b)) c.args.dir) (sym inv.path) k.path;
+      path = inv.path b k;
     }) c.in_err-report_entry.ensures.text))
 
 pub returns-in_err-report_entry-clause-leaves : goal.returns-in_err-report_entry-clause-leaves
@@ -100,6 +98,15 @@ returns-in_err-report_entry-clause-counted g c = λ b k noted.
     k)
     (noted_kept v b _ _ inv.places noted)))
 
+pub returns-in_err-report_entry-clause-path : goal.returns-in_err-report_entry-clause-path
+returns-in_err-report_entry-clause-path g c = λ b k.
+    let inv = c.entries.invariant in
+    c.report_entry.ensures.path b (record {
+      knows = knows_on c.args.geometry.now.layout _ _ c.args.workspace.now c.entries.workspace c.args.dir b
+          (ap (λ d. d.contents) inv.device) inv.survey k.knows;
+      path = inv.path b k;
+    })
+
 pub entries-preserved : goal.entries-preserved
 entries-preserved g c =
     let v = c.args.geometry.now.layout in
@@ -128,7 +135,7 @@ entries-preserved g c =
       survey = leaves_more _ _ _ inv.survey ok.leaves.survey;
       places = keep_more _ _ _ inv.places ok.leaves.places;
       chunk = ok.chunk ∙ inv.chunk;
-      path = ok.same ∙ inv.path;
+      path = λ b k. c.report_entry.ensures.path b (record { knows = know b k.knows; path = inv.path b k });
       marks = λ b k. entry_passed (volume_of v b) c.args.dir _ m m' seen here there next (ok.marks b (know b k))
           (inv.marks b k);
       said = of_part _ (λ (b : List ℕ). map of_tree (entries_reported (volume_of v b) c.args.dir m here))
@@ -137,7 +144,7 @@ entries-preserved g c =
           (λ b k. entry_reported (volume_of v b) c.args.dir m m' seen here there next (ok.marks b (know b k.knows)))
           (said_knows _ _ _ _ _ _ (λ b k. record {
             knows = know b k.knows;
-            path = subst (IsPathOf (graph_of (volume_of v b)) c.args.dir) (sym inv.path) k.path;
+            path = inv.path b k;
           }) ok.text);
       counted = λ b k noted. read_more _ _ (inv.counted b k noted)
           (entry_counted (volume_of v b) c.args.dir m m' seen here there next (ok.marks b (know b k)))

@@ -1,6 +1,7 @@
 use Rattle.std.proofs.Common.{◌≡◌, ◌≤◌, ◌-◌, ℕ, List, length, map}
 use Rattle.ffs_volume.specs.Directories.Entries.{entries_of}
 use Rattle.ffs_volume.specs.Messages.Kinds.{of_tree}
+use Rattle.ffs_volume.specs.Directories.Parents.{graph_of}
 use Rattle.ffs_volume.specs.Directories.Roles.{roled_from}
 use Rattle.ffs_volume.specs.Directories.Volumes.{volume_of}
 use Rattle.ffs_report.specs.Known.{ForBytes}
@@ -9,7 +10,7 @@ use Rattle.ffs_report.specs.Progress.{progress}
 use Rattle.ffs_workspace.specs.Leaves.{LeavesSurvey}
 use Rattle.ffs_pathnames.specs.Ready.{ReadyWith}
 use Rattle.ffs_pathnames.specs.Gathers.{marks_of}
-use Rattle.ffs_pathnames.specs.DirectoryContext.{DirectoryContext, KnowsPath}
+use Rattle.ffs_pathnames.specs.DirectoryContext.{BeginsPathOf, DirectoryContext, KnowsPath}
 use Rattle.ffs_pathnames.specs.Marks.{after_entries, entries_reported}
 use Rattle.ffs_workspace.specs.Places.{AreNoted}
 use Rattle.ffs_pathnames.specs.Stamps.{KeepPlaces}
@@ -26,13 +27,13 @@ invariant-entries g l = let reported_by = g.I.Image.device in let v = l.geometry
   survey : LeavesSurvey l.fn.workspace l.workspace;
   places : KeepPlaces l.fn.workspace.queue.items l.workspace.queue.items;
   chunk : l.workspace.windows.chunk ≡ l.fn.workspace.windows.chunk;
-  path : l.texts.paths.directory ≡ l.fn.texts.paths.directory;
+  path : ForBytes (KnowsPath v (reported_by l.fn.image).contents l.fn.workspace l.dir l.fn.texts)
+      (λ b. BeginsPathOf (graph_of (volume_of v b)) l.dir l.texts);
   marks : ForBytes (DirectoryContext v (reported_by l.fn.image).contents l.fn.workspace l.dir) (λ b.
       after_entries (volume_of v b) l.dir (marks_of l.fn.workspace) (roled_from l.first 0 (entries_of v.order l.chunk))
       ≡ after_entries (volume_of v b) l.dir (marks_of l.workspace)
       (roled_at_place v.order l.chunk l.first l.index l.place));
-  said : SaidOf (KnowsPath v (reported_by l.fn.image).contents l.fn.workspace l.dir
-      l.fn.texts.paths.directory)
+  said : SaidOf (KnowsPath v (reported_by l.fn.image).contents l.fn.workspace l.dir l.fn.texts)
       (λ b. map of_tree (entries_reported (volume_of v b) l.dir (marks_of l.workspace)
       (roled_at_place v.order l.chunk l.first l.index l.place)))
       (λ b. map of_tree (entries_reported (volume_of v b) l.dir (marks_of l.fn.workspace)

@@ -1,4 +1,4 @@
-use Rattle.std.proofs.Common.{sym, ap, ◌∙◌, ℕ, List, [], map, append-nil, arith}
+use Rattle.std.proofs.Common.{sym, ap, ◌∙◌, ℕ, List, [], map, append-nil}
 use Rattle.std.proofs.lemmas.Result.{err_from_is_err_and}
 use Rattle.ffs_volume.specs.Messages.Kinds.{TreeMessage, of_tree}
 use Rattle.ffs_volume.specs.Directories.PathnameCheck.{attributes, extra_lines}
@@ -7,8 +7,7 @@ use Rattle.ffs_volume.specs.Directories.Paths.{dir_path}
 use Rattle.ffs_volume.specs.Directories.Volumes.{volume_of}
 use Rattle.ffs_layout.specs.Entry.{entry_value}
 use Rattle.ffs_report.proofs.Reporting.{of_begins, of_says, of_stops, of_reads}
-use Rattle.ffs_paths.proofs.Climbed.{few_more}
-use Rattle.ffs_pathnames.proofs.LineCounts.{by_line, extra_some}
+use Rattle.ffs_pathnames.proofs.LineCounts.{by_line, extra_some, knows_places}
 use Rattle.ffs_pathnames.proofs.one_entry.report_extra.Goals as goal
 
 pub returns-in_err-attr-clause-text : goal.returns-in_err-attr-clause-text
@@ -29,7 +28,7 @@ returns-in_err-say_extra-clause-text g c =
     (ap (λ q. extra_lines q (dir_path (graph_of (volume_of v b)) c.args.dir) e)
     (sym (c.in_ok-attr.ensures.attr b k.knows.gives_bytes))
     ∙ ap (λ q. extra_lines c.in_ok-attr.attr q e)
-    (sym (c.as_slice.ensures.value ∙ c.put.ensures (graph_of (volume_of v b)) c.args.dir k.path)))
+    (sym (c.as_slice.ensures.value ∙ c.in_ok-attr.ensures.text b k)))
     ∙ sym (append-nil (map of_tree ms)))
     c.in_err-say_extra.ensures)
 
@@ -45,19 +44,19 @@ returns-clause-text g c =
     (ap (λ q. extra_lines q (dir_path (graph_of (volume_of v b)) c.args.dir) e)
     (sym (c.in_ok-attr.ensures.attr b k.knows.gives_bytes))
     ∙ ap (λ q. extra_lines c.in_ok-attr.attr q e)
-    (sym (c.as_slice.ensures.value ∙ c.put.ensures (graph_of (volume_of v b)) c.args.dir k.path)))
+    (sym (c.as_slice.ensures.value ∙ c.in_ok-attr.ensures.text b k)))
     ∙ sym (append-nil (map of_tree ms)))
     c.in_ok-say_extra.ensures
 
--- an inode is read for one line
+-- paths and an inode are read for one line
 pub returns-in_err-attr-clause-counted : goal.returns-in_err-attr-clause-counted
 returns-in_err-attr-clause-counted g c = λ b k noted.
-    by_line _ (few_more c.in_err-attr.ensures.counted (omega arith)) (extra_some _ _ (entry_value c.args.entry.now))
+    by_line _ (c.in_err-attr.ensures.counted b (knows_places _ _ _ _ b k noted)) (extra_some _ _ (entry_value c.args.entry.now))
 
 pub returns-in_err-say_extra-clause-counted : goal.returns-in_err-say_extra-clause-counted
 returns-in_err-say_extra-clause-counted g c = λ b k noted.
-    by_line _ (few_more c.in_ok-attr.ensures.counted (omega arith)) (extra_some _ _ (entry_value c.args.entry.now))
+    by_line _ (c.in_ok-attr.ensures.counted b (knows_places _ _ _ _ b k noted)) (extra_some _ _ (entry_value c.args.entry.now))
 
 pub returns-clause-counted : goal.returns-clause-counted
 returns-clause-counted g c = λ b k noted.
-    by_line _ (few_more c.in_ok-attr.ensures.counted (omega arith)) (extra_some _ _ (entry_value c.args.entry.now))
+    by_line _ (c.in_ok-attr.ensures.counted b (knows_places _ _ _ _ b k noted)) (extra_some _ _ (entry_value c.args.entry.now))

@@ -47,9 +47,9 @@ returns-in_err-say_verdict-clause-text g c =
     rw (p.1, p.2) (of_stops _ all (λ b. []) _ (map of_tree ms) _ _ _ (of_begins _ all _)
     (λ b k. ap (map of_tree)
     ((c.verdict_of-verdict.ensures.verdict v b c.requires.ready.ready.made k.knows.claims k.knows.survey).reported
-    ∙ (sym (c.in_ok-attr.ensures.enough b c.args.dir k.knows.gives_bytes k.knows.claims k.knows.survey k.path)
+    ∙ (sym (c.in_ok-attr.ensures.enough b k)
     ∙ (ap (λ q. verdict_reported c.verdict_of-verdict.result c.args.entry.now.number c.in_ok-attr.attr q
-    c.gather.new.texts.directory.items) (sym c.last.ensures)
+    c.gather_entry.new.texts.directory.items) (sym c.last.ensures)
     ∙ ap (λ q. verdict_reported c.verdict_of-verdict.result c.args.entry.now.number c.in_ok-attr.attr
     c.last.result.now q) (sym c.as_slice.ensures.value))))
     ∙ sym (append-nil (map of_tree ms)))
@@ -65,9 +65,9 @@ returns-clause-text g c =
     of_says _ all (λ b. []) _ (map of_tree ms) _ _ _ (of_begins _ all _)
     (λ b k. ap (map of_tree)
     ((c.verdict_of-verdict.ensures.verdict v b c.requires.ready.ready.made k.knows.claims k.knows.survey).reported
-    ∙ (sym (c.in_ok-attr.ensures.enough b c.args.dir k.knows.gives_bytes k.knows.claims k.knows.survey k.path)
+    ∙ (sym (c.in_ok-attr.ensures.enough b k)
     ∙ (ap (λ q. verdict_reported c.verdict_of-verdict.result c.args.entry.now.number c.in_ok-attr.attr q
-    c.gather.new.texts.directory.items) (sym c.last.ensures)
+    c.gather_entry.new.texts.directory.items) (sym c.last.ensures)
     ∙ ap (λ q. verdict_reported c.verdict_of-verdict.result c.args.entry.now.number c.in_ok-attr.attr
     c.last.result.now q) (sym c.as_slice.ensures.value))))
     ∙ sym (append-nil (map of_tree ms)))

@@ -1,11 +1,11 @@
 use Rattle.std.proofs.Common.{◌≡◌, refl, sym, ap, subst, ◌∙◌, ℕ, List, [], ◌∷◌, map, Err, arith, length}
 use Rattle.std.specs.List.{flat_map}
+use Rattle.std.proofs.lemmas.Bool.{both_ways}
 use Rattle.std.proofs.lemmas.Result.{err_from_is_err_and}
 use Rattle.ffs_image.specs.Device.{Faulted}
 use Rattle.ffs_volume.specs.Directories.Entries.{Chunk, chunk_of}
 use Rattle.ffs_volume.specs.Blocks.Inodes.{inode_of}
 use Rattle.ffs_volume.specs.Messages.Kinds.{of_tree}
-use Rattle.ffs_volume.specs.Directories.Parents.{graph_of}
 use Rattle.ffs_volume.specs.Directories.Roles.{roled_chunk, roled_entries}
 use Rattle.ffs_volume.specs.Directories.Volumes.{volume_of}
 use Rattle.ffs_workspace.specs.Notes.{cut_in}
@@ -14,50 +14,29 @@ use Rattle.ffs_names.specs.Readings.{rest}
 use Rattle.ffs_report.specs.Runs.{ImageAfter}
 use Rattle.ffs_report.proofs.Reporting.{of_begins, of_reads, of_same, of_part, of_fault, said_knows, reports_knowing}
 use Rattle.ffs_workspace.specs.Leaves.{LeavesSurvey}
-use Rattle.ffs_workspace.proofs.Leaving.{claims_left, leaves_more, windows_leave}
-use Rattle.ffs_paths.specs.DirectoryPaths.{IsPathOf}
+use Rattle.ffs_workspace.proofs.Leaving.{leaves_all, leaves_more, windows_leave}
 use Rattle.ffs_pathnames.specs.Gathers.{marks_of}
 use Rattle.ffs_pathnames.specs.DirectoryContext.{DirectoryContext}
 use Rattle.ffs_pathnames.specs.Marks.{after_entries, entries_reported}
-use Rattle.ffs_pathnames.proofs.Passing.{chunk_reported, chunk_passed, knows_on, all_read, marks_on}
+use Rattle.ffs_pathnames.proofs.Passing.{chunk_reported, chunk_passed, knows_on, all_read}
 use Rattle.ffs_pathnames.proofs.ReadyLaws.{with_chunk, can_read_in, ready_next, ready_read}
-use Rattle.ffs_pathnames.proofs.StampLaws.{windows_keep, keep_more, noted_kept}
+use Rattle.ffs_pathnames.proofs.StampLaws.{keep_more, noted_kept}
 use Rattle.ffs_volume.specs.Report.Reads.{line_reads}
 use Rattle.ffs_names.specs.Costs.{to_read}
 use Rattle.ffs_pathnames.proofs.CostLaws.{lines_long, reported_on, runs_are, same_long}
 use Rattle.ffs_pathnames.proofs.second_look.report_directory.Goals as goal
 
-pub returns-in_err-path-clause-text : goal.returns-in_err-path-clause-text
-returns-in_err-path-clause-text g c =
-    let p = err_from_is_err_and c.from_residual.result c.from_residual.ensures.1 in
-    rw (p.1, p.2) (of_reads _ _ _ _ _ (of_begins _ _ _))
-
-pub returns-in_err-path-clause-leaves : goal.returns-in_err-path-clause-leaves
-returns-in_err-path-clause-leaves g c =
-    let left = c.in_err-path.ensures.leaves.reads in
-    let p = err_from_is_err_and c.from_residual.result c.from_residual.ensures.1 in
-    rw (p.1, p.2) (record {
-      image = left.read;
-      survey = windows_leave _ _ left.lists;
-      places = windows_keep c.args.workspace.now c.path_to.new.workspace left.lists;
-      ready = left.ready;
-    })
-
 pub chunks-init : goal.chunks-init
 chunks-init g c =
     let v = c.args.geometry.now.layout in
-    let ok = c.in_ok-path.ensures.leaves.reads in
-    let here = c.path_to.new.workspace in
     let m = marks_of c.args.workspace.now in
-    let same = marks_on c.args.workspace.now here ok.lists in
     let all = λ (b : List ℕ). map of_tree
     (entries_reported (volume_of v b) c.args.dir m (roled_entries (volume_of v b) c.args.dir)) in
     let cut = λ (b : List ℕ)
     (k : DirectoryContext v (g.I.Image.device c.args.image.now).contents c.args.workspace.now c.args.dir b
     × (c.args.inode.now ≡ inode_of v b c.args.dir)).
     c.cut_of-cut.ensures
-    ∙ (ap cut_in ((claims_left v b c.args.workspace.now here (windows_leave _ _ ok.lists) k.0.claims).notes c.args.dir)
-    ∙ cut_is_noted v b c.args.dir c.args.geometry.now.sound) in
+    ∙ (ap cut_in (k.0.claims.notes c.args.dir) ∙ cut_is_noted v b c.args.dir c.args.geometry.now.sound) in
     let seen = λ (b : List ℕ)
     (k : DirectoryContext v (g.I.Image.device c.args.image.now).contents c.args.workspace.now c.args.dir b
     × (c.args.inode.now ≡ inode_of v b c.args.dir)).
@@ -67,50 +46,40 @@ chunks-init g c =
     let same_lines = λ (b : List ℕ)
     (k : DirectoryContext v (g.I.Image.device c.args.image.now).contents c.args.workspace.now c.args.dir b
     × (c.args.inode.now ≡ inode_of v b c.args.dir)).
-    ap (λ q. map of_tree
-    (entries_reported (volume_of v b) c.args.dir q (roled_entries (volume_of v b) c.args.dir))) same
-    ∙ ap (λ es. map of_tree (entries_reported (volume_of v b) c.args.dir (marks_of here) es)) (sym (seen b k)) in
+    ap (λ es. map of_tree (entries_reported (volume_of v b) c.args.dir m es)) (sym (seen b k)) in
     record {
-      ready = record { ready = ok.ready; siblings = c.in_ok-path.ensures.leaves.siblings };
-      device = ok.read;
+      ready = record { ready = c.requires.ready; siblings = c.requires.siblings };
+      device = refl;
       geometry = c.start-chunks.ensures.geometry;
-      survey = windows_leave _ _ ok.lists;
-      places = windows_keep c.args.workspace.now here ok.lists;
-      held = λ b k noted. c.start-chunks.ensures.reads.held here.windows.blocks here.windows.chunk;
+      survey = leaves_all _;
+      places = λ x. refl;
+      held = λ b k noted.
+          c.start-chunks.ensures.reads.held c.args.workspace.now.windows.blocks c.args.workspace.now.windows.chunk;
       reads = λ b k noted.
-          let few = (c.path_to.ensures.counted b (record {
-            gives_bytes = k.0.gives_bytes;
-            claims = k.0.claims;
-            survey = k.0.survey;
-            places = noted;
-          })).count in
           let all = c.start-chunks.ensures.reads.to_read b in
           let left = c.start-chunks.ensures.begins.runs_left b in
           let runs = runs_are v b c.args.dir c.args.inode.now c.cut_of-cut.result k.1 (cut b k) in
           let long = same_long (entries_reported (volume_of v b) c.args.dir m (roled_entries (volume_of v b) c.args.dir))
-          (entries_reported (volume_of v b) c.args.dir (marks_of here)
-          (flat_map roled_chunk (rest b c.start-chunks.result))) (same_lines b k) in
-          rw long (omega (arith, few, all, left, runs));
-      path = λ b k. subst (IsPathOf (graph_of (volume_of v b)) c.args.dir) (sym c.of.ensures)
-          (c.in_ok-path.ensures.path b k.gives_bytes k.claims k.survey);
-      marks = λ b k. ap (λ q. after_entries (volume_of v b) c.args.dir q (roled_entries (volume_of v b) c.args.dir))
-          same ∙ ap (after_entries (volume_of v b) c.args.dir (marks_of here)) (sym (seen b k));
+          (entries_reported (volume_of v b) c.args.dir m (flat_map roled_chunk (rest b c.start-chunks.result)))
+          (same_lines b k) in
+          rw long (omega (arith, all, left, runs));
+      path = λ b k begun. absurd (both_ways _ c.none-texts.ensures begun);
+      marks = λ b k. ap (after_entries (volume_of v b) c.args.dir m) (sym (seen b k));
       said = of_same _ all (λ (b : List ℕ). map of_tree
-          (entries_reported (volume_of v b) c.args.dir (marks_of here)
-          (flat_map roled_chunk (rest b c.start-chunks.result)))) all _ _ (of_begins _ all _)
-          same_lines;
+          (entries_reported (volume_of v b) c.args.dir m (flat_map roled_chunk (rest b c.start-chunks.result)))) all _ _
+          (of_begins _ all _) same_lines;
     }
 
 pub returns-in_err-offset-clause-text : goal.returns-in_err-offset-clause-text
 returns-in_err-offset-clause-text g c =
-    let p = err_from_is_err_and c.from_residual-in_err-offset.result c.from_residual-in_err-offset.ensures.1 in
+    let p = err_from_is_err_and c.from_residual.result c.from_residual.ensures.1 in
     rw (p.1, p.2) (of_reads _ _ _ _ _ c.chunks.invariant.said)
 
 pub returns-in_err-offset-clause-leaves : goal.returns-in_err-offset-clause-leaves
 returns-in_err-offset-clause-leaves g c =
     let inv = c.chunks.invariant in
     let read = c.in_err-offset.ensures in
-    let p = err_from_is_err_and c.from_residual-in_err-offset.result c.from_residual-in_err-offset.ensures.1 in
+    let p = err_from_is_err_and c.from_residual.result c.from_residual.ensures.1 in
     rw (p.1, p.2) (record {
       image = subst (λ d. Faulted d (g.I.Image.device c.next.new.image) c.in_err-offset.field-0.0.sector) inv.device
           read.leaves.read;
@@ -191,7 +160,7 @@ chunks-preserved g c =
           took.paid few.count
           (lines_long _ _ _ (chunk_reported (volume_of v b) c.args.dir m m' here (rest b c.chunks.chunks)
           (rest b c.next.new.self) (next b k) (ok.marks b (know b k)))) (inv.reads b k noted);
-      path = λ b k. subst (IsPathOf (graph_of (volume_of v b)) c.args.dir) (sym ok.same) (inv.path b k);
+      path = λ b k. c.report_chunk.ensures.path b (record { knows = know b k; path = inv.path b k });
       marks = λ b k. chunk_passed (volume_of v b) c.args.dir _ m m' here (rest b c.chunks.chunks)
           (rest b c.next.new.self) (next b k) (ok.marks b (know b k)) (inv.marks b k);
       said = of_part _ (λ (b : List ℕ). map of_tree
@@ -203,7 +172,7 @@ chunks-preserved g c =
           (λ b k. chunk_reported (volume_of v b) c.args.dir m m' here (rest b c.chunks.chunks) (rest b c.next.new.self)
           (next b k) (ok.marks b (know b k)))
           (said_knows _ _ _ _ _ _ (λ b k. record
-          { knows = know b k; path = inv.path b k.0 }) ok.text);
+          { knows = know b k; path = inv.path b k }) ok.text);
     }
 
 pub returns-in_err-report_chunk-clause-text : goal.returns-in_err-report_chunk-clause-text
@@ -240,7 +209,7 @@ returns-in_err-report_chunk-clause-text g c =
     (λ b k. chunk_reported (volume_of v b) c.args.dir m (after_entries (volume_of v b) c.args.dir m (roled_chunk here))
     here (rest b c.chunks.chunks) (rest b c.next.new.self) (next b k) refl)
     (reports_knowing (Unit {0}) _ _ _ _ _ (Err c.in_err-report_chunk.field-0.0)
-    (λ b k. record { knows = know b k; path = inv.path b k.0 })
+    (λ b k. record { knows = know b k; path = inv.path b k })
     c.in_err-report_chunk.ensures.text))
 
 pub returns-in_err-report_chunk-clause-leaves : goal.returns-in_err-report_chunk-clause-leaves
@@ -280,16 +249,6 @@ returns-clause-marks g c = λ b k.
     (flat_map roled_chunk cs)) (came b (ap (λ d. d.contents) inv.device ∙ k.0.gives_bytes)).chunks.0
 
 -- the reads
-pub returns-in_err-path-clause-reads : goal.returns-in_err-path-clause-reads
-returns-in_err-path-clause-reads g c = λ b k noted.
-    let few = (c.path_to.ensures.counted b (record {
-      gives_bytes = k.0.gives_bytes;
-      claims = k.0.claims;
-      survey = k.0.survey;
-      places = noted;
-    })).count in
-    omega (arith, few)
-
 pub returns-in_err-offset-clause-reads : goal.returns-in_err-offset-clause-reads
 returns-in_err-offset-clause-reads g c = λ b k noted.
     let inv = c.chunks.invariant in

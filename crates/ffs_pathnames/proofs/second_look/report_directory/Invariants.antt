@@ -10,10 +10,9 @@ use Rattle.ffs_report.specs.Runs.{SaidOf}
 use Rattle.ffs_report.specs.Progress.{progress}
 use Rattle.ffs_names.specs.Readings.{rest}
 use Rattle.ffs_workspace.specs.Leaves.{LeavesSurvey}
-use Rattle.ffs_paths.specs.DirectoryPaths.{IsPathOf}
 use Rattle.ffs_pathnames.specs.Ready.{ReadyWith}
 use Rattle.ffs_pathnames.specs.Gathers.{marks_of}
-use Rattle.ffs_pathnames.specs.DirectoryContext.{DirectoryContext}
+use Rattle.ffs_pathnames.specs.DirectoryContext.{BeginsPathOf, DirectoryContext}
 use Rattle.ffs_pathnames.specs.Marks.{after_entries, entries_reported}
 use Rattle.ffs_pathnames.specs.Stamps.{KeepPlaces}
 use Rattle.ffs_volume.specs.Report.Reads.{line_reads}
@@ -29,8 +28,8 @@ invariant-chunks g l = let reported_by = g.I.Image.device in let v = l.geometry.
   geometry : l.chunks.walk.geometry ≡ l.geometry;
   survey : LeavesSurvey l.fn.workspace l.workspace;
   places : KeepPlaces l.fn.workspace.queue.items l.workspace.queue.items;
-  path : ForBytes (DirectoryContext v (reported_by l.fn.image).contents l.fn.workspace l.dir)
-      (λ b. IsPathOf (graph_of (volume_of v b)) l.dir l.texts.paths.directory);
+  path : ForBytes (λ b. DirectoryContext v (reported_by l.fn.image).contents l.fn.workspace l.dir b
+      × (l.inode ≡ inode_of v b l.dir)) (λ b. BeginsPathOf (graph_of (volume_of v b)) l.dir l.texts);
   marks : ForBytes (λ b. DirectoryContext v (reported_by l.fn.image).contents l.fn.workspace l.dir b
       × (l.inode ≡ inode_of v b l.dir)) (λ b.
       after_entries (volume_of v b) l.dir (marks_of l.fn.workspace) (roled_entries (volume_of v b) l.dir)

@@ -12,13 +12,12 @@ use Rattle.ffs_workspace.specs.Lengths.{inodes_of}
 use Rattle.ffs_pathnames.specs.Before.{IsBefore}
 use Rattle.ffs_pathnames.proofs.Carrying.{before_reported}
 use Rattle.ffs_pathnames.proofs.Skipping.{before_unseen, lines_unseen, noted_before}
-use Rattle.ffs_volume.specs.Report.Reads.{line_reads, path_reads}
+use Rattle.ffs_volume.specs.Report.Reads.{line_reads}
 use Rattle.ffs_survey.specs.Costs.{costs_all}
 use Rattle.ffs_survey.proofs.Costs.{cost_take, costs_rise}
 use Rattle.ffs_names.specs.Costs.{directories_cost, directory_cost}
 use Rattle.ffs_pathnames.proofs.StampLaws.{noted_kept}
 use Rattle.ffs_pathnames.proofs.CostLaws.{checked_on, next_long, same_long}
-use Rattle.std.proofs.Math.Nat.{mul-le-mul_left}
 use Rattle.ffs_pathnames.proofs.tree.check_inodes.Goals as goal
 
 pub first_looked_at-first-requires-clause-some : goal.first_looked_at-first-requires-clause-some
@@ -105,7 +104,7 @@ loop-number-preserved g c =
           c.check_inode.new.workspace.queue.items ok.leaves.places (inv.noted b k numbered);
       reads = λ b k numbered.
           let lines = directory_lines (volume_of v b) in
-          rw (cost_take (λ s. true) (directory_cost v b) n refl) (checked_on line_reads path_reads n _ _ (directories_cost v b)
+          rw (cost_take (λ s. true) (directory_cost v b) n refl) (checked_on line_reads _ _ (directories_cost v b)
           (costs_all (directory_cost v b) n) (directory_cost v b n) (g.I.Image.reads c.args.image.now) (length (lines n))
           (length (lines_from lines (n + 1) (inodes_of v - (n + 1)))) (length (lines_from lines 2 (inodes_of v - 2)))
           (c.check_inode.ensures.reads b
@@ -156,7 +155,7 @@ returns-in_err-check_inode-clause-reads g c = λ b k numbered.
     let inv = c.loop-number.invariant in
     let n = c.loop-number.number in
     let lines = directory_lines (volume_of v b) in
-    let last = checked_on line_reads path_reads n _ _ (directories_cost v b)
+    let last = checked_on line_reads _ _ (directories_cost v b)
     (costs_all (directory_cost v b) n) (directory_cost v b n) (g.I.Image.reads c.args.image.now) (length (lines n))
     (length (lines_from lines (n + 1) (inodes_of v - (n + 1)))) (length (lines_from lines 2 (inodes_of v - 2)))
     (c.check_inode.ensures.reads b
@@ -164,8 +163,7 @@ returns-in_err-check_inode-clause-reads g c = λ b k numbered.
     (rw (next_long lines n (inodes_of v) (omega arith)) at (inv.reads b k numbered)) in
     let taken = cost_take (λ s. true) (directory_cost v b) n refl in
     let rise = costs_rise (λ s. true) (directory_cost v b) (n + 1) (inodes_of v) (omega arith) in
-    let paths = mul-le-mul_left {m = n + 1} {n = inodes_of v} path_reads (omega arith) in
-    omega (arith, last, taken, rise, paths)
+    omega (arith, last, taken, rise)
 
 pub returns-clause-reads : goal.returns-clause-reads
 returns-clause-reads g c = λ b k numbered.
@@ -173,5 +171,4 @@ returns-clause-reads g c = λ b k numbered.
     let n = c.loop-number.number in
     let now = c.loop-number.invariant.reads b k numbered in
     let rise = costs_rise (λ s. true) (directory_cost v b) n (inodes_of v) (omega arith) in
-    let paths = mul-le-mul_left {m = n} {n = inodes_of v} path_reads (omega arith) in
-    omega (arith, now, rise, paths)
+    omega (arith, now, rise)

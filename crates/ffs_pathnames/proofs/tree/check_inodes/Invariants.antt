@@ -8,7 +8,7 @@ use Rattle.ffs_volume.specs.Directories.Volumes.{volume_of}
 use Rattle.ffs_workspace.specs.Lengths.{inodes_of}
 use Rattle.ffs_pathnames.specs.Ready.{ReadyWith}
 use Rattle.ffs_pathnames.specs.Before.{IsBefore}
-use Rattle.ffs_volume.specs.Report.Reads.{line_reads, path_reads}
+use Rattle.ffs_volume.specs.Report.Reads.{line_reads}
 use Rattle.ffs_survey.specs.Costs.{costs_all}
 use Rattle.ffs_names.specs.Costs.{directories_cost, directory_cost}
 use Rattle.ffs_workspace.specs.Places.{AreChunksNumbered, AreNoted}
@@ -27,7 +27,7 @@ invariant-loop-number g l = record {
       + line_reads * length (lines_from (directory_lines (volume_of l.geometry.layout b)) l.number
       (inodes_of l.geometry.layout - l.number))
       ≤ g.I.Image.reads l.fn.image + (directories_cost l.geometry.layout b
-      + 2 * costs_all (directory_cost l.geometry.layout b) l.number + path_reads * l.number
+      + 2 * costs_all (directory_cost l.geometry.layout b) l.number
       + line_reads * length (lines_from (directory_lines (volume_of l.geometry.layout b)) 2
       (inodes_of l.geometry.layout - 2))));
   before : ForBytes (λ b. IsBefore l.geometry.layout (g.I.Image.device l.fn.image).contents l.fn.workspace 2 b)
