@@ -6,11 +6,11 @@ returns-in-Err-clause-opened g c = at_head _ _ _ _ _ c.in-Err.ensures
 
 pub returns-in-Ok-say_super-clause-opened : goal.returns-in-Ok-say_super-clause-opened
 returns-in-Ok-say_super-clause-opened g c =
-    accepted _ _ _ _ _ _ _ c.in_default.ensures c.in-Ok.found c.in-Ok.ensures.answer c.in-Ok-say_super.ensures
+    accepted _ _ _ _ _ _ _ c.in_default.ensures c.in-Ok.superblock c.in-Ok.ensures.answer c.in-Ok-say_super.ensures
 
 pub returns-in-Err-say_super-clause-opened : goal.returns-in-Err-say_super-clause-opened
 returns-in-Err-say_super-clause-opened g c =
-    at_super _ _ _ _ _ _ _ c.in_default.ensures c.in-Ok.found c.in-Ok.ensures.answer c.in-Err-say_super.ensures
+    at_super _ _ _ _ _ _ _ c.in_default.ensures c.in-Ok.superblock c.in-Ok.ensures.answer c.in-Err-say_super.ensures
 
 pub returns-in-Ok-say-clause-opened : goal.returns-in-Ok-say-clause-opened
 returns-in-Ok-say-clause-opened g c =
