@@ -1,9 +1,10 @@
 -- How a buffer is filled from a source, piece after piece.
-use Rattle.std.proofs.Common.{◌≡◌, ◌∙◌, sym, ap, ℕ, ◌+◌, ◌-◌, ◌≤◌, List, ◌++◌, length, take, drop, Option, arith}
+use Rattle.std.proofs.Common.{◌≡◌, ◌∙◌, sym, ap, ℕ, ◌+◌, ◌-◌, ◌≤◌, List, ◌++◌, length, take, drop, Option, arith, refl}
+use Rattle.std.proofs.Common.{Result, Ok, suc}
 use Rattle.std.proofs.Math.Seq.{take-add, take-append-add}
-use Rattle.std.proofs.lemmas.List.{take-append-le, drop-drop, length-take-le, length-append}
+use Rattle.std.proofs.lemmas.List.{take-append-le, drop-drop, length-take-le, length-append, length-drop}
 use borrow.Rule.Slice.PartMut.{put_mid, post_of}
-use Rattle.ffs_image.specs.Source.{AreAt}
+use Rattle.ffs_image.specs.Source.{AreAt, IsReadTo}
 
 -- the first bytes of a list into whose rest some were put
 pieces : (f n : ℕ) (xs ys : List ℕ) → f ≤ length xs → n ≤ length ys → take (f + n) (put_mid f (length xs - f) xs ys)
@@ -43,3 +44,17 @@ filled_within f n xs ys p q =
       length-append (take f xs) (ys ++ post_of f (length xs - f) xs),
       length-append ys (post_of f (length xs - f) xs),
     )
+
+-- what is left of a buffer
+pub length_left : (f n : ℕ) (xs : List ℕ) → length xs ≡ n → length (take (length xs - f) (drop f xs)) ≡ n - f
+length_left f n xs e =
+    length-take-le (length xs - f) (drop f xs) (omega (arith, length-drop f xs)) ∙ ap (λ m. m - f) e
+
+-- one read more
+pub read_more : {S E : Type 0} (was_read : S → ℕ → ℕ → Result ℕ E → S → Type 0) (at len before some : ℕ) (a b c : S) →
+    IsReadTo was_read at len before a b → was_read b (at + before) (len - before) (Ok some) c →
+    IsReadTo was_read at len (before + some) a c
+read_more was_read at len before some a b c p q = record {
+  count = suc p.count;
+  pieces = (before, b, p.pieces, record { some = some; read = q; sum = refl });
+}

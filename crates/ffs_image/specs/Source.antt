@@ -1,5 +1,6 @@
 -- What a source of an image's bytes gives, and what a read does to it.
-use Rattle.std.specs.Prelude.{◌≡◌, ◌<◌, ◌≤◌, ℕ, List, length, drop, take, Option, Result, Ok, Err, OnOk, IfOk}
+use Rattle.std.specs.Prelude.{◌≡◌, ◌+◌, ◌-◌, ◌<◌, ◌≤◌, ℕ, zero, suc, List, length, drop, take}
+use Rattle.std.specs.Prelude.{Option, Result, Ok, Err, OnOk, IfOk, MatchResult}
 use Rattle.ffs_image.specs.Device.{ForContents, Rose}
 
 -- its bytes where it gives them, its size in bytes, and how many reads have failed
@@ -33,3 +34,38 @@ pub record GivesSome {E : Type 0} (old new : Stock) (at : ℕ) (xs : List ℕ) (
 pub record Fills {T E : Type 0} (old new : Stock) (at : ℕ) (xs : List ℕ) (result : Result T E) : Type 0 where
   pub bytes : OnOk result (AreAt old.contents at xs)
   pub left : StockAfter old new result
+
+-- after the first ones of len bytes at a place, some more were read, by a read of all that were left
+pub record ReadsMore {S E : Type 0} (was_read : S → ℕ → ℕ → Result ℕ E → S → Type 0) (at len before after : ℕ)
+    (old new : S) : Type 0 where
+  pub some : ℕ
+  pub read : was_read old (at + before) (len - before) (Ok some) new
+  pub sum : after ≡ before + some
+
+-- the first ones of len bytes at a place were read, by so many reads
+abbrev pub Pieces : {S E : Type 0} → (S → ℕ → ℕ → Result ℕ E → S → Type 0) → ℕ → ℕ → ℕ → ℕ → S → S → Type 0
+Pieces was_read at len zero filled old new = (filled ≡ 0) × (new ≡ old)
+Pieces {S} was_read at len (suc n) filled old new =
+    (before : ℕ) × (between : S) × Pieces was_read at len n before old between
+    × ReadsMore was_read at len before filled between new
+
+-- the first ones of len bytes at a place were read, piece after piece
+pub record IsReadTo {S E : Type 0} (was_read : S → ℕ → ℕ → Result ℕ E → S → Type 0) (at len filled : ℕ)
+    (old new : S) : Type 0 where
+  pub count : ℕ
+  pub pieces : Pieces was_read at len count filled old new
+
+-- after some of len bytes at a place the read of the others failed
+pub record FailsAfter {S E : Type 0} (was_read : S → ℕ → ℕ → Result ℕ E → S → Type 0) (at len : ℕ)
+    (old new : S) : Type 0 where
+  pub filled : ℕ
+  pub between : S
+  pub before : IsReadTo was_read at len filled old between
+  pub fault : E
+  pub failed : was_read between (at + filled) (len - filled) (Err fault) new
+
+-- the reads of all of len bytes at a place: piece after piece, up to the first that failed, and no other
+abbrev pub ReadsThrough : {S E T F : Type 0} → (S → ℕ → ℕ → Result ℕ E → S → Type 0) → S → S → ℕ → ℕ
+    → Result T F → Type 0
+ReadsThrough was_read old new at len result =
+    MatchResult result (λ _. IsReadTo was_read at len len old new) (λ _. FailsAfter was_read at len old new)

@@ -1,6 +1,8 @@
 //! An image in a file.
-ghost use Rattle.std.specs.Prelude.{◌≡◌, IfOk, IfErr};
+ghost use Rattle.std.specs.Prelude.{◌≡◌, ◌+◌, ◌≤◌, length, IfOk, IfErr};
 ghost use Rattle.ffs_image.specs.Faults.{fault_of};
+ghost use Rattle.ffs_image.specs.Reads.{ReadsBytes};
+ghost use Rattle.ffs_image.specs.Source.{ReadsThrough};
 ghost use Rattle.ffs_image.specs.System.{IsOpened, IsUnopened};
 
 use crate::image::{Image, ImageFault};
@@ -95,7 +97,17 @@ impl<S: Source> Image for SourceImage<S> {
         self.failed
     }
 
-    fn read_at(&mut self, at: u64, buf: &mut [u8]) -> Result<(), ImageFault> {
+    fn read_at(&mut self, at: u64, buf: &mut [u8]) -> Result<(), ImageFault>
+        requires { at + length buf.old ≤ (S.stock self.old.source).size }
+        ensures bytes { ReadsBytes (⟦<SourceImage<S> as Image>⟧.device self.old)
+            (⟦<SourceImage<S> as Image>⟧.device self.new) at buf.new result }
+        ensures counted { ⟦<SourceImage<S> as Image>⟧.reads self.new ≤
+            ⟦<SourceImage<S> as Image>⟧.reads self.old + 1 }
+
+        // Which reads of the source it takes.
+        ensures source { ReadsThrough S.was_read self.old.source self.new.source at
+            (length buf.old) result }
+    {
         let size = self.size();
         prove!(at <= size);
         match fill(&mut self.source, at, buf) {

@@ -93,6 +93,9 @@ impl<F: RawFile> Source for OpenedFile<F> {
 
     ghost stock = { λ f. record { contents = F.contents f.file; size = f.size; failures = f.failures } };
 
+    ghost was_read = { λ old at len result new.
+        SomeOf (λ file. F.was_read file at len) old.file new.file result };
+
     ghost sized = { λ f. if_given (F.contents f.file) (λ bytes. length bytes ≡ f.size) f.sized };
 
     fn size(&self) -> u64 {

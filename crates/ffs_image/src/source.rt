@@ -1,6 +1,7 @@
 //! Where an image's bytes come from, and how a buffer is filled from there.
-ghost use Rattle.std.specs.Prelude.{◌≡◌, ◌+◌, ◌<◌, ◌^◌, length, IfSome};
-ghost use Rattle.ffs_image.specs.Source.{Fills, GivesSome, Stock};
+ghost use Rattle.std.specs.Prelude.{◌≡◌, ◌+◌, ◌<◌, ◌^◌, ℕ, length, IfSome, Result};
+ghost use Rattle.ffs_image.specs.Source.{Fills, GivesSome, ReadsThrough, Stock};
+ghost use Rattle.ffs_image.specs.declared.source.SourceFault.{SourceFault};
 
 /// A read of a source failed, or gave nothing.
 #[derive(Clone, Copy)]
@@ -10,6 +11,10 @@ pub struct SourceFault;
 pub trait Source {
     /// What is known of it: its bytes, where it gives them, its size, and how many reads failed.
     ghost stock: { Self → Stock };
+
+    /// It was read: the source before, the place, how many bytes were asked for, the answer, and
+    /// the source after.
+    ghost was_read: { Self → ℕ → ℕ → Result ℕ SourceFault → Self → Type 0 };
 
     /// Its size in bytes.
     fn size(&self) -> u64
@@ -25,7 +30,8 @@ pub trait Source {
     /// The read failed, or gave nothing. It is counted once.
     fn read_some(&mut self, at: u64, buf: &mut [u8]) -> Result<usize, SourceFault>
         requires { 0 < length buf.old }
-        ensures { GivesSome (stock self.old) (stock self.new) at buf.new result };
+        ensures gives { GivesSome (stock self.old) (stock self.new) at buf.new result }
+        ensures tried { was_read self.old at (length buf.old) result self.new };
 
     /// Where it gives its bytes, its size is their number.
     ghost sized: { (source : Self) → IfSome (stock source).contents
@@ -35,7 +41,8 @@ pub trait Source {
 /// Fills the buffer with the bytes at a place. The first read that fails ends it.
 pub(crate) fn fill<S: Source>(source: &mut S, at: u64, buf: &mut [u8]) -> Result<(), SourceFault>
     requires { at + length buf.old < 2 ^ 64 }
-    ensures { Fills (S.stock source.old) (S.stock source.new) at buf.new result }
+    ensures fills { Fills (S.stock source.old) (S.stock source.new) at buf.new result }
+    ensures reads { ReadsThrough S.was_read source.old source.new at (length buf.old) result }
 {
     let mut filled = 0;
     while filled < buf.len() {

@@ -43,11 +43,12 @@ module _ {A : Type 0} where
     pub len : vec_len new ≡ vec_len old
     pub room : vec_capacity new ≡ vec_capacity old
 
--- the numbers from one index to before another are put into ascending order; all others stay, and so do length and room
+-- the numbers from one index to before another are put into ascending order, in the same memory; all others stay
 pub record SortsPart (old new : Vec ℕ Global) (from to : ℕ) : Type 0 where
   pub before : take from new.items ≡ take from old.items
   pub moved : IsPermutation (drop from (take to old.items)) (drop from (take to new.items))
   pub rising : IsNonDecreasing (drop from (take to new.items))
   pub after : drop to new.items ≡ drop to old.items
   pub len : vec_len new ≡ vec_len old
+  pub place : vec_ptr new ≡ vec_ptr old
   pub room : vec_capacity new ≡ vec_capacity old

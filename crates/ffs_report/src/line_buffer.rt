@@ -38,7 +38,8 @@ impl LineBuffer {
 
     /// Drops what it holds.
     pub fn clear(&mut self)
-        ensures { self.new.used ≡ 0 }
+        ensures empty { self.new.used ≡ 0 }
+        ensures failures { self.new.failures ≡ self.old.failures }
     {
         self.used = 0;
     }

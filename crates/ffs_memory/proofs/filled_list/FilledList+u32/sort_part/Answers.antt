@@ -1,6 +1,7 @@
 use Rattle.std.proofs.Common.{◌≡◌, ◌<◌, ◌≤◌, ◌+◌, ◌-◌, ◌++◌, ◌∙◌, ap, arith, drop, length, replicate, subst, sym, take, vec_len}
 use Rattle.std.specs.Prelude.{vec_capacity}
 use Rattle.std.specs.List.Sorted.{IsNonDecreasing, IsPermutation}
+use Rattle.std.specs.Vec.{vec_ptr}
 use Rattle.std.proofs.lemmas.List.Sorted.{IsNonDecreasingBy-from_sort}
 use Rattle.std.proofs.lemmas.List.{length-drop, length-take-le}
 use Rattle.ffs_memory.proofs.Parts.{with_part, part_alone, before_part, part_new, part_old, after_part}
@@ -49,5 +50,6 @@ returns c =
           ∙ ap (λ j. drop j (t ++ R)) to
           ∙ ap (drop c.args.to) same);
       len = c.touch.ensures.room ∙ ap vec_len c.self.view_is;
+      place = c.touch.ensures.place ∙ ap vec_ptr c.self.view_is;
       room = c.touch.ensures.room ∙ ap vec_capacity c.self.view_is;
     }
