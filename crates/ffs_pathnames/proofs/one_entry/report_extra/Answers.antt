@@ -48,15 +48,18 @@ returns-clause-text g c =
     ∙ sym (append-nil (map of_tree ms)))
     c.in_ok-say_extra.ensures
 
--- paths and an inode are read for one line
+-- a path and an inode are read for one line
 pub returns-in_err-attr-clause-counted : goal.returns-in_err-attr-clause-counted
 returns-in_err-attr-clause-counted g c = λ b k noted.
-    by_line _ (c.in_err-attr.ensures.counted b (knows_places _ _ _ _ b k noted)) (extra_some _ _ (entry_value c.args.entry.now))
+    by_line _ (c.in_err-attr.ensures.counted b (knows_places _ _ _ _ b k noted))
+    (extra_some _ _ (entry_value c.args.entry.now))
 
 pub returns-in_err-say_extra-clause-counted : goal.returns-in_err-say_extra-clause-counted
 returns-in_err-say_extra-clause-counted g c = λ b k noted.
-    by_line _ (c.in_ok-attr.ensures.counted b (knows_places _ _ _ _ b k noted)) (extra_some _ _ (entry_value c.args.entry.now))
+    by_line _ (c.in_ok-attr.ensures.counted b (knows_places _ _ _ _ b k noted))
+    (extra_some _ _ (entry_value c.args.entry.now))
 
 pub returns-clause-counted : goal.returns-clause-counted
 returns-clause-counted g c = λ b k noted.
-    by_line _ (c.in_ok-attr.ensures.counted b (knows_places _ _ _ _ b k noted)) (extra_some _ _ (entry_value c.args.entry.now))
+    by_line _ (c.in_ok-attr.ensures.counted b (knows_places _ _ _ _ b k noted))
+    (extra_some _ _ (entry_value c.args.entry.now))
