@@ -1,9 +1,10 @@
 //! The steps and the classes of inodes that a reader would work out by hand, in both orders.
 
 ghost use Rattle.std.specs.Prelude.{◌≡◌, ◌*◌, ◌≤◌};
+ghost use Rattle.ffs_walk.specs.Windows.{CanWalk};
 
 use crate::compare::same;
-use ffs_image::{FuseImage, Image};
+use ffs_image::{FuseImage, Image, ImageFault};
 use ffs_layout::{Geometry, Inode, Order};
 use ffs_memory::FixedList;
 use ffs_samples::{Number, ORDERS, Stop, Watched, geometry, image_of, inode};
@@ -157,17 +158,29 @@ fn trees_with_holes(rt: HostRuntime) -> Result<(), Fail> {
     Ok(())
 }
 
-// The first step, how many Gaps are then passed over, and the next step.
-fn passed_over(inode: &Inode, alloc: Global) -> Result<(Option<Step>, u32, Option<Step>), Fail> {
+// The first step of a walk, how many Gaps are then passed over, and the next step.
+fn passed_over<I: Image>(
+    geometry: &Geometry,
+    inode: &Inode,
+    image: &mut I,
+    blocks: &mut Blocks,
+) -> Result<(Option<Step>, u32, Option<Step>), ImageFault>
+    requires { CanWalk geometry.now.layout (I.device image.old) blocks.old }
+{
+    let mut walk = Walk::start(geometry, inode);
+    let first = walk.next(image, blocks)?;
+    let gaps = walk.skip_gaps(blocks);
+    let next = walk.next(image, blocks)?;
+    Ok((first, gaps, next))
+}
+
+// The same of the small volume.
+fn gaps_of(inode: &Inode, alloc: Global) -> Result<(Option<Step>, u32, Option<Step>), Fail> {
     let geometry = geometry(Order::Little)?;
     let mut image = image_of(Order::Little, &[], alloc)?;
     let buffer = vec![in alloc; 0u8; 3 * geometry.layout.bsize as usize]?;
     let mut blocks = Blocks::over(FixedList::new(buffer));
-    let mut walk = Walk::start(&geometry, inode);
-    let first = walk.next(&mut image, &mut blocks)?;
-    let gaps = walk.skip_gaps(&blocks);
-    let next = walk.next(&mut image, &mut blocks)?;
-    Ok((first, gaps, next))
+    Ok(passed_over(&geometry, inode, &mut image, &mut blocks)?)
 }
 
 // The holes after the first one are passed over together, at the inode's own addresses.
@@ -175,7 +188,7 @@ fn passed_over(inode: &Inode, alloc: Global) -> Result<(Option<Step>, u32, Optio
 fn gaps_passed_over(rt: HostRuntime) -> Result<(), Fail> {
     let mut file = inode(0o100644, 4096 * 6);
     file.addresses[4] = 48;
-    let (first, gaps, next) = passed_over(&file, rt.alloc())?;
+    let (first, gaps, next) = gaps_of(&file, rt.alloc())?;
     same(&rt, &(first, gaps), &(Some(Step::Gap), 3));
     same(&rt, &next, &Some(data(48, 4, 4)));
     Ok(())

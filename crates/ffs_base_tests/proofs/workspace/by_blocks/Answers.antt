@@ -7,7 +7,7 @@ pub inode-requires-2-clause-ready : goal.inode-requires-2-clause-ready
 inode-requires-2-clause-ready g c =
     let v = c.args.geometry.now.layout in
     record {
-      volume = subst (λ (d : Device). v.size * v.fsize ≤ d.size) (sym c.in_ok-root.ensures.read) c.requires.ready.volume;
-      made = c.inode.ensures.kept.made;
-      holds = c.inode.ensures.kept.holds;
+      volume = subst (λ (d : Device). v.size * v.fsize ≤ d.size) (sym c.in_ok-root.ensures.reads.read) c.requires.ready.volume;
+      made = c.inode.ensures.reads.kept.made;
+      holds = c.inode.ensures.reads.kept.holds;
     }
