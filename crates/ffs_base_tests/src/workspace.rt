@@ -7,6 +7,7 @@ ghost use Rattle.ffs_workspace.specs.Tables.{CanReadInodes};
 use crate::compare::same;
 use ffs_image::{Image, ImageFault};
 use ffs_layout::{Geometry, Inode, Order};
+use ffs_memory::FixedList;
 use ffs_samples::{Number, geometry, image_of, inode};
 use ffs_volume::Class;
 use ffs_workspace::{Table, Workspace, address_in, cut_in, links_start, note_of};
@@ -55,8 +56,9 @@ fn by_blocks<I: Image>(
 fn root_by_blocks(alloc: Global) -> Result<[Inode; 2], Fail> {
     let geometry = geometry(Order::Little)?;
     let mut image = image_of(Order::Little, &ROOT, alloc)?;
-    let mut workspace = Workspace::new(alloc, &geometry)?;
-    Ok(by_blocks(&geometry, &mut workspace.windows.table, &mut image)?)
+    let buffer = vec![in alloc; 0u8; geometry.layout.bsize as usize]?;
+    let mut table = Table::over(FixedList::new(buffer));
+    Ok(by_blocks(&geometry, &mut table, &mut image)?)
 }
 
 /// The mode, the number of links and the size of an inode.
@@ -97,8 +99,9 @@ fn by_parts<I: Image>(
 fn root_by_parts(alloc: Global) -> Result<Parts, Fail> {
     let geometry = geometry(Order::Little)?;
     let mut image = image_of(Order::Little, &ROOT, alloc)?;
-    let mut workspace = Workspace::new(alloc, &geometry)?;
-    Ok(by_parts(&geometry, &mut workspace.windows.table, &mut image)?)
+    let buffer = vec![in alloc; 0u8; geometry.layout.bsize as usize]?;
+    let mut table = Table::over(FixedList::new(buffer));
+    Ok(by_parts(&geometry, &mut table, &mut image)?)
 }
 
 #[test]

@@ -1,21 +1,20 @@
-use Rattle.std.proofs.Common.{◌≤◌, ◌*◌, ◌∙◌, ap, arith, rules}
-use Rattle.std.specs.Prelude.{vec_len}
+use Rattle.std.proofs.Common.{◌∙◌, sym, subst, arith}
+use Rattle.std.specs.Prelude.{◌*◌, ◌≤◌}
+use Rattle.ffs_image.specs.Device.{Device}
+use Rattle.ffs_layout.specs.declared.geometry.Geometry.{Geometry}
+use Rattle.ffs_walk.specs.Windows.{BlocksHold, CanWalk}
 use Rattle.ffs_base_tests.proofs.walk.passed_over.Goals as goal
 
 pub next-requires-2 : goal.next-requires-2
-next-requires-2 c =
-    let same = c.skip_gaps-gaps.ensures.same.geometry ∙ c.in_ok-first.ensures.same.geometry in
-    let begun = same ∙ c.start-walk.ensures.geometry in
-    let left = c.in_ok-first.ensures.leaves in
-    let fits : 3 * c.in_ok-geometry.geometry.layout.bsize ≤ vec_len c.over-blocks.result.buffer =
-    search (rules, arith) in
-    record {
-      volume = rw begun (omega (
-        arith,
-        ap (λ d. d.size) left.read,
-        c.in_ok-image.ensures,
-        c.in_ok-geometry.ensures.bytes,
-      ));
-      room = rw begun (record { blocks_fit = omega (arith, left.kept.size, fits) });
-      holds = rw same left.kept.holds;
-    }
+next-requires-2 g c =
+    let v = c.args.geometry.now.layout in
+    let after = g.I.Image.device c.next.new.image in
+    let blocks = c.next.new.blocks in
+    let leaves = c.in_ok-first.ensures.leaves in
+    let started = c.start-walk.ensures.geometry in
+    let same = c.skip_gaps-gaps.ensures.same.geometry ∙ c.next.ensures.same.geometry ∙ started in
+    subst (λ (w : Geometry). CanWalk w.layout after blocks) (sym same) (record {
+      volume = subst (λ (d : Device). v.size * v.fsize ≤ d.size) (sym leaves.read) c.requires.volume;
+      room = record { blocks_fit = omega (arith, c.requires.room.blocks_fit, leaves.kept.size) };
+      holds = subst (λ (w : Geometry). BlocksHold w.layout after.contents blocks) started leaves.kept.holds;
+    })
