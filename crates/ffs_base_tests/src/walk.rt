@@ -13,7 +13,7 @@ use ffs_walk::{Blocks, Walk, class_of, has_steps};
 use std::alloc::{AllocError, Global};
 use std::test::Fail;
 
-// The run of a data block.
+/// The run of a data block.
 fn data(start: u32, len: u32, block: u64) -> Step {
     Step::Run {
         start,
@@ -22,7 +22,7 @@ fn data(start: u32, len: u32, block: u64) -> Step {
     }
 }
 
-// The run of an indirect block.
+/// The run of an indirect block.
 fn indirect(start: u32) -> Step {
     Step::Run {
         start,
@@ -31,7 +31,7 @@ fn indirect(start: u32) -> Step {
     }
 }
 
-// The steps that aren't Gaps, and the number of Gaps.
+/// The steps that aren't Gaps, and the number of Gaps.
 fn steps<I: Image>(
     geometry: &Geometry,
     inode: &Inode,
@@ -58,7 +58,7 @@ fn steps<I: Image>(
     Ok((steps, gaps))
 }
 
-// A word of a block, by the block's address and the word's index.
+/// A word of a block, by the block's address and the word's index.
 fn word(address: u16, index: u16, number: u64) -> Number {
     (
         1024 * usize::from(address) + 4 * usize::from(index),
@@ -67,8 +67,8 @@ fn word(address: u16, index: u16, number: u64) -> Number {
     )
 }
 
-// The same of the small volume with these words, and how many reads the walk makes, and how many of
-// them aren't of a whole block that may hold data.
+/// The same of the small volume with these words, and how many reads the walk makes, and how many
+/// of them aren't of a whole block that may hold data.
 fn walked(
     order: Order,
     words: &[Number],
@@ -120,7 +120,7 @@ fn partially_truncated(rt: HostRuntime) -> Result<(), Fail> {
     Ok(())
 }
 
-// Each indirect block that is entered is read once, and whole.
+/// Each indirect block that is entered is read once, and whole.
 #[test]
 fn trees_with_holes(rt: HostRuntime) -> Result<(), Fail> {
     let words = [
@@ -158,7 +158,7 @@ fn trees_with_holes(rt: HostRuntime) -> Result<(), Fail> {
     Ok(())
 }
 
-// The first step of a walk, how many Gaps are then passed over, and the next step.
+/// The first step of a walk, how many Gaps are then passed over, and the next step.
 fn passed_over<I: Image>(
     geometry: &Geometry,
     inode: &Inode,
@@ -174,7 +174,7 @@ fn passed_over<I: Image>(
     Ok((first, gaps, next))
 }
 
-// The same of the small volume.
+/// The same of the small volume.
 fn gaps_of(inode: &Inode, alloc: Global) -> Result<(Option<Step>, u32, Option<Step>), Fail> {
     let geometry = geometry(Order::Little)?;
     let mut image = image_of(Order::Little, &[], alloc)?;
@@ -183,7 +183,7 @@ fn gaps_of(inode: &Inode, alloc: Global) -> Result<(Option<Step>, u32, Option<St
     Ok(passed_over(&geometry, inode, &mut image, &mut blocks)?)
 }
 
-// The holes after the first one are passed over together, at the inode's own addresses.
+/// The holes after the first one are passed over together, at the inode's own addresses.
 #[test]
 fn gaps_passed_over(rt: HostRuntime) -> Result<(), Fail> {
     let mut file = inode(0o100644, 4096 * 6);
@@ -194,8 +194,8 @@ fn gaps_passed_over(rt: HostRuntime) -> Result<(), Fail> {
     Ok(())
 }
 
-// Whether a walk whose first read fails ends with that, how many reads failed, and the sector of
-// the last one.
+/// Whether a walk whose first read fails ends with that, how many reads failed, and the sector of
+/// the last one.
 fn cut_short(inode: &Inode, alloc: Global) -> Result<(bool, u64, u64), Fail> {
     let geometry = geometry(Order::Little)?;
     let memory = image_of(Order::Little, &[], alloc)?;
@@ -212,7 +212,7 @@ fn failed_read_ends(rt: HostRuntime) -> Result<(), Fail> {
     Ok(())
 }
 
-// Inodes of each kind, with their classes, and whether they have steps.
+/// Inodes of each kind, with their classes, and whether they have steps.
 fn kinds_of_inodes() -> [(Inode, Class, bool); 8] {
     let mut early = inode(0o100644, 0);
     early.addresses[0] = 40;
@@ -248,14 +248,14 @@ fn classes(rt: HostRuntime) -> Result<(), Fail> {
     Ok(())
 }
 
-// How many logical blocks a walk over a file of a size goes over, and how many fragments the last
-// one has.
+/// How many logical blocks a walk over a file of a size goes over, and how many fragments the last
+/// one has.
 fn extent(geometry: &Geometry, size: u64) -> (u64, u32) {
     let walk = Walk::start(geometry, &inode(0o100644, size));
     (walk.blocks, walk.last)
 }
 
-// The volume has blocks of 4,096 bytes, in fragments of 1,024.
+/// The volume has blocks of 4,096 bytes, in fragments of 1,024.
 #[test]
 fn sizes_at_edges_of_blocks(rt: HostRuntime) -> Result<(), Fail> {
     let geometry = geometry(Order::Little)?;
