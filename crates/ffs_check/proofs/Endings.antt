@@ -19,7 +19,7 @@ use Rattle.ffs_report.specs.Runs.{ImageAfter}
 use Rattle.ffs_report.specs.declared.fault.RunFault.{RunFault}
 use Rattle.ffs_report.specs.declared.fault.RunFault.TheVariants.{Read, Out}
 use Rattle.ffs_pathnames.specs.declared.pass2.Root.{Root}
-use Rattle.ffs_pathnames.specs.GoesOn.{is_go}
+use Rattle.ffs_pathnames.specs.RootAnswers.{is_go}
 use Rattle.ffs_check.specs.PhaseEnds.{EndsAs, IsCutByRead, IsEndByRoot, PrintsPhases, ReportsBefore, SaysPhases, SaysReadFault}
 use Rattle.ffs_check.proofs.EndLaws.{ends_known, ends_printed, line_after}
 

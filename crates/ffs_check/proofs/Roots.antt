@@ -15,7 +15,7 @@ use Rattle.ffs_report.specs.Runs.{PhaseReports}
 use Rattle.ffs_report.specs.declared.fault.RunFault.{RunFault}
 use Rattle.ffs_report.specs.declared.fault.RunFault.TheVariants.{Read, Out}
 use Rattle.ffs_report.proofs.Reporting.{of_says, of_fault, reports_knowing}
-use Rattle.ffs_pathnames.specs.GoesOn.{AtReadFault}
+use Rattle.ffs_pathnames.specs.RootAnswers.{AtReadFault}
 use Rattle.ffs_check.specs.PhaseEnds.{ReportsBefore}
 use Rattle.ffs_check.proofs.Stages.{Stage, falls, some_more, more_after}
 

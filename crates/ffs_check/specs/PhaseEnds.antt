@@ -16,7 +16,7 @@ use Rattle.ffs_report.specs.Runs.{SaidOf, StoppedOf}
 use Rattle.ffs_report.specs.declared.fault.RunFault.{RunFault}
 use Rattle.ffs_report.specs.declared.fault.RunFault.TheVariants.{Read, Out}
 use Rattle.ffs_pathnames.specs.declared.pass2.Root.{Root}
-use Rattle.ffs_pathnames.specs.GoesOn.{is_go}
+use Rattle.ffs_pathnames.specs.RootAnswers.{is_go}
 use Rattle.ffs_check.specs.Ends.{BrokeOffIn, Ends, Printed}
 
 -- a read failed before the text was complete: whole messages were said, and others were to come

@@ -116,7 +116,8 @@ pub fn summary<W: Output>(
     requires { IsFor superblock.now.geometry.layout workspace.now }
     ensures { (device : Device) → PhaseRuns
         (λ bytes. HoldsClaims superblock.now.geometry.layout bytes workspace.now)
-        (λ bytes. summary_of (superblock_in superblock.now) (files_of superblock.now.geometry.layout bytes)
+        (λ bytes. summary_of (superblock_in superblock.now)
+        (files_of superblock.now.geometry.layout bytes)
         (used_of superblock.now.geometry.layout bytes) ∷ [])
         device device (progress W.sink report.old) (progress W.sink report.new) result }
 {

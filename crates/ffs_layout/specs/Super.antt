@@ -7,7 +7,7 @@ use Rattle.ffs_layout.specs.Reads.{ReadFailed}
 use Rattle.ffs_layout.specs.declared.superblock.Super.{Super}
 use Rattle.ffs_volume.specs.Disk.Superblock.{Superblock, order_of, layout_of}
 
--- the superblock that a value in memory stands for
+-- the superblock that a value in memory is of
 abbrev pub superblock_in : Super → Superblock
 superblock_in s = record {
   layout = s.geometry.layout;

@@ -127,8 +127,8 @@ impl Super {
     /// Whether `optim` or `minfree` has a value that it may not have: the opening reports a defect
     /// then.
     pub fn opening_defects(&self) -> bool
-        ensures { result
-            ≡ not (has_valid_optim (superblock_in self.now) && has_valid_minfree (superblock_in self.now)) }
+        ensures { result ≡ not (has_valid_optim (superblock_in self.now)
+            && has_valid_minfree (superblock_in self.now)) }
     {
         !(self.has_optimization() && self.has_minfree())
     }

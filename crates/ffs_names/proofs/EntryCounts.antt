@@ -68,13 +68,13 @@ may_none : (s : Bool) (n : ℕ) → (s || nat_lt 0 n) ≡ false → n ≡ 0
 may_none true n e = absurd (grind arith)
 may_none false n e = grind (arith, nat_tests)
 
--- a reading of entries goes on by its chunks
-pub goes_on : {T : Type 0} (b : List ℕ) (s s' : Bool) (c c' : Chunks) (blocks blocks' : Blocks) (w w' : Window)
+-- a reading of entries continues by its chunks
+pub continues_by_chunks : {T : Type 0} (b : List ℕ) (s s' : Bool) (c c' : Chunks) (blocks blocks' : Blocks) (w w' : Window)
     (reads reads' : ℕ) (result : Result T ImageFault) → (s' ≡ true → s ≡ true) → c'.budget ≤ c.budget
     → (c.budget ≡ 0 → reads' ≤ reads)
     → (HoldsReading blocks w c → TakesReads reads reads' (to_read b c) (to_read b c') (HoldsReading blocks' w' c') result)
     → HoldsBy blocks w s c → TakesReads reads reads' (reads_by b s c) (reads_by b s' c') (HoldsBy blocks' w' s' c') result
-goes_on b s s' c c' blocks blocks' w w' reads reads' result still less none took held =
+continues_by_chunks b s s' c c' blocks blocks' w w' reads reads' result still less none took held =
     takes_where (may_by s c) (may_by s' c') reads reads' (to_read b c) (to_read b c') (HoldsReading blocks' w' c') result
     (may_still s s' c.budget c'.budget still less) (λ e. none (may_none s c.budget e)) (λ e. took (held e))
 

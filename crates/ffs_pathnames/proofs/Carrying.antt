@@ -28,7 +28,7 @@ use Rattle.ffs_workspace.proofs.KindLaws.{reports_at, suspect_is}
 use Rattle.ffs_maps.specs.Bits.{bits_of}
 use Rattle.ffs_report.specs.declared.fault.RunFault.{RunFault}
 use Rattle.ffs_report.specs.declared.fault.RunFault.TheVariants.{Read, Out}
-use Rattle.ffs_pathnames.specs.GoesOn.{AtReadFault}
+use Rattle.ffs_pathnames.specs.RootAnswers.{AtReadFault}
 use Rattle.ffs_pathnames.specs.Before.{AreClear, IsBefore, is_looked_at, root_said}
 use Rattle.ffs_workspace.specs.Leaves.{LeavesSurvey}
 use Rattle.ffs_pathnames.specs.Gathers.{marks_of}

@@ -9,7 +9,7 @@ pub mod Reads
 pub mod Examines
 pub mod Gathers
 pub mod DirectoryContext
-pub mod GoesOn
+pub mod RootAnswers
 pub mod Begins
 pub mod Calm
 pub mod MarksRight

@@ -11,7 +11,7 @@ ghost use Rattle.ffs_volume.specs.Directories.Volumes.{volume_of};
 ghost use Rattle.ffs_volume.specs.Report.Reads.{pathname_reads};
 ghost use Rattle.ffs_workspace.specs.Holds.{HoldsClaims, HoldsReferences, HoldsStarts, HoldsSurvey};
 ghost use Rattle.ffs_workspace.specs.Places.{AreChunksNumbered};
-ghost use Rattle.ffs_pathnames.specs.GoesOn.{AtReadFault, is_go};
+ghost use Rattle.ffs_pathnames.specs.RootAnswers.{AtReadFault, is_go};
 ghost use Rattle.ffs_workspace.specs.Ready.{IsReady};
 
 use crate::clear::clear_marks;

@@ -3,7 +3,7 @@ ghost use Rattle.std.specs.Prelude.{◌≡◌};
 ghost use Rattle.ffs_report.specs.Progress.{progress};
 ghost use Rattle.ffs_volume.specs.Encodings.Kinds.{is_dir_kind};
 ghost use Rattle.ffs_pathnames.specs.Before.{root_said};
-ghost use Rattle.ffs_pathnames.specs.GoesOn.{is_go};
+ghost use Rattle.ffs_pathnames.specs.RootAnswers.{is_go};
 ghost use Rattle.ffs_pathnames.specs.SaysNames.{SaysNames};
 
 use crate::pass2::Root;

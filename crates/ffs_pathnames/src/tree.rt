@@ -12,7 +12,7 @@ ghost use Rattle.ffs_workspace.specs.Places.{AreChunksNumbered, AreNoted};
 ghost use Rattle.ffs_pathnames.specs.Before.{IsBefore, is_looked_at};
 ghost use Rattle.ffs_pathnames.specs.Costs.{check_reads, tree_reads};
 ghost use Rattle.ffs_pathnames.specs.Gathers.{AreAsLong};
-ghost use Rattle.ffs_pathnames.specs.GoesOn.{AtReadFault, is_go};
+ghost use Rattle.ffs_pathnames.specs.RootAnswers.{AtReadFault, is_go};
 ghost use Rattle.ffs_workspace.specs.Ready.{IsReady};
 ghost use Rattle.ffs_pathnames.specs.Ready.{ReadyToPath, PhaseLeaves, TreeLeaves};
 

@@ -139,8 +139,8 @@ impl Table {
     ) -> Result<Inode, ImageFault>
         requires number { number < geometry.now.layout.ncg * geometry.now.layout.ipg }
         requires ready { CanReadInodes geometry.now.layout (I.device image.old) self.old }
-        ensures reads { ReadsInode geometry.now.layout (I.device image.old) (I.device image.new) number
-            self.new result }
+        ensures reads { ReadsInode geometry.now.layout (I.device image.old) (I.device image.new)
+            number self.new result }
         ensures counted { I.reads image.new ≤ I.reads image.old + 1 }
         ensures again { HasInode self.old number → I.reads image.new ≤ I.reads image.old }
     {
@@ -183,8 +183,8 @@ impl Table {
     ) -> Result<Inode, ImageFault>
         requires number { number < geometry.now.layout.ncg * geometry.now.layout.ipg }
         requires ready { CanReadInodes geometry.now.layout (I.device image.old) self.old }
-        ensures reads { ReadsInode geometry.now.layout (I.device image.old) (I.device image.new) number
-            self.new result }
+        ensures reads { ReadsInode geometry.now.layout (I.device image.old) (I.device image.new)
+            number self.new result }
         ensures counted { I.reads image.new ≤ I.reads image.old + 1 }
     {
         if !self.has(number) {

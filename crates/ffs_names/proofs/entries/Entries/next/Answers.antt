@@ -6,7 +6,7 @@ use Rattle.ffs_names.specs.RunCursors.{last_place}
 use Rattle.ffs_names.proofs.Continuing.{can_read, can_read_here}
 use Rattle.ffs_names.proofs.Entered.{none_came, chunk_came}
 use Rattle.ffs_names.proofs.Shaped.{shape_came, shape_ended, shape_same, fills_whole}
-use Rattle.ffs_names.proofs.EntryCounts.{and_left, goes_on, same_holds, same_reads}
+use Rattle.ffs_names.proofs.EntryCounts.{and_left, continues_by_chunks, same_holds, same_reads}
 use Rattle.ffs_names.proofs.entries.Entries.next.Goals as goal
 
 pub returns-in-Some-clause-entry : goal.returns-in-Some-clause-entry
@@ -69,7 +69,7 @@ chunks-preserved g c =
       reads = λ held b t.
           let now = i.reads held b t in
           let f = rw c.in-Some-2.is at c.in_ok-next.ensures.budget in
-          let took = goes_on b s.sound _ s.chunks c.next.new.self _ _ _ _ _ _ _ (and_left s.sound _) (omega (arith, f))
+          let took = continues_by_chunks b s.sound _ s.chunks c.next.new.self _ _ _ _ _ _ _ (and_left s.sound _) (omega (arith, f))
           c.in_ok-next.ensures.unread (λ h. c.in_ok-next.ensures.reads h b (ap (λ d. d.contents) i.device ∙ t))
           (same_holds _ _ _ _ _ _ same.sound same.chunks now.1) in
           let e = same_reads b c.chunks.self.sound s.sound c.chunks.self.chunks s.chunks same.sound same.chunks in
@@ -216,7 +216,7 @@ returns-in-None-2-clause-reads g c = λ held b t.
     let s = c.take.new.self in
     let same = c.take.ensures.same in
     let f = rw c.in-None-2.is at c.in_ok-next.ensures.budget in
-    let took = goes_on b s.sound _ s.chunks c.next.new.self _ _ _ _ _ _ _ (and_left s.sound _) (omega (arith, f))
+    let took = continues_by_chunks b s.sound _ s.chunks c.next.new.self _ _ _ _ _ _ _ (and_left s.sound _) (omega (arith, f))
     c.in_ok-next.ensures.unread (λ h. c.in_ok-next.ensures.reads h b (ap (λ d. d.contents) i.device ∙ t))
     (same_holds _ _ _ _ _ _ same.sound same.chunks now.1) in
     let e = same_reads b c.chunks.self.sound s.sound c.chunks.self.chunks s.chunks same.sound same.chunks in
@@ -235,7 +235,7 @@ returns-in_err-next-clause-reads g c =
     let s = c.take.new.self in
     let same = c.take.ensures.same in
     let f = c.in_err-next.ensures.budget in
-    let took = goes_on b s.sound s.sound s.chunks c.next.new.self _ _ _ _ _ _ _ (λ h. h) (omega (arith, f))
+    let took = continues_by_chunks b s.sound s.sound s.chunks c.next.new.self _ _ _ _ _ _ _ (λ h. h) (omega (arith, f))
     c.in_err-next.ensures.unread (λ h. c.in_err-next.ensures.reads h b (ap (λ d. d.contents) i.device ∙ t))
     (same_holds _ _ _ _ _ _ same.sound same.chunks now.1) in
     let e = same_reads b c.chunks.self.sound s.sound c.chunks.self.chunks s.chunks same.sound same.chunks in
