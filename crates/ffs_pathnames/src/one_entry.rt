@@ -63,7 +63,38 @@ impl EntryTexts {
     }
 }
 
+/// Makes the path of a directory for the lines on its entries. It is apart from `begin_paths`, since
+/// a function clears the room of its locals each time that it is entered.
+#[inline(never)]
+fn make_paths<I: Image>(
+    geometry: &Geometry,
+    image: &mut I,
+    workspace: &mut Workspace,
+    siblings: &mut Siblings,
+    dir: u32,
+    texts: &mut EntryTexts,
+) -> Result<(), ImageFault>
+    requires { ReadyToPath geometry.now.layout (I.device image.old) workspace.old siblings.old dir }
+    ensures made { OnOk result (ForBytes (KnowsPath geometry.now.layout
+        (I.device image.old).contents workspace.old dir texts.old)
+        (λ b. IsPathOf (graph_of (volume_of geometry.now.layout b)) dir
+        texts.new.paths.directory)) }
+    ensures path { ForBytes (KnowsPath geometry.now.layout (I.device image.old).contents
+        workspace.old dir texts.old)
+        (λ b. BeginsPathOf (graph_of (volume_of geometry.now.layout b)) dir texts.new) }
+    ensures leaves { PathLeaves geometry.now.layout (I.device image.old) (I.device image.new)
+        workspace.old workspace.new siblings.new result }
+    ensures counted { ReadsAtMost path_reads geometry.now.layout (I.device image.old)
+        workspace.old workspace.new (I.reads image.old) (I.reads image.new) }
+{
+    let path = siblings.path_to(geometry, image, workspace, dir)?;
+    texts.paths = EntryPaths::of(path);
+    texts.begun = true;
+    Ok(())
+}
+
 /// Makes the path of a directory for the lines on its entries, where it isn't there.
+#[inline(always)]
 fn begin_paths<I: Image>(
     geometry: &Geometry,
     image: &mut I,
@@ -88,10 +119,7 @@ fn begin_paths<I: Image>(
     if texts.begun {
         return Ok(());
     }
-    let path = siblings.path_to(geometry, image, workspace, dir)?;
-    texts.paths = EntryPaths::of(path);
-    texts.begun = true;
-    Ok(())
+    make_paths(geometry, image, workspace, siblings, dir, texts)
 }
 
 /// Reads what messages show of the inode of a number.
@@ -210,6 +238,7 @@ fn gather<I: Image>(
 
 /// Gathers what the messages on an entry of a directory show, and makes the path of that directory
 /// where it isn't there.
+#[inline(always)]
 fn gather_entry<I: Image>(
     geometry: &Geometry,
     image: &mut I,
