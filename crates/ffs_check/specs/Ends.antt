@@ -1,5 +1,5 @@
--- How a run ends that puts out a text: all of it went out; or a fault cut it short, and after whole messages the fault's
--- line went out; or the output failed. This is said of a report by what it has said (`Progress`), and of an output by
+-- How a run ends that puts out a text: all of it went out; or a fault cut it short, and after whole messages the
+-- fault's line went out; or the output failed. This is said of a report by what it has said (`Progress`), and of an output by
 -- what it took (`Sink`): `whole` and `broken` are what it means there that messages went out, whole or in part.
 use Rattle.std.specs.Prelude.{◌≡◌, ◌⊎◌, List, [], ◌∷◌, ◌++◌}
 use Rattle.ffs_image.specs.Device.{Device}

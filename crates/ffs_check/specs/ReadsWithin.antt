@@ -13,8 +13,8 @@ abbrev pub PhasesReadWithin : Superblock → (bytes : List ℕ) → (reads reads
 PhasesReadWithin s bytes reads reads' =
     AreChunksNumbered s.layout → reads' ≤ reads + phase_reads s.layout (length (phase_lines bytes s))
 
--- the whole check of an image that gives its bytes: at most twice where the superblock isn't accepted, else within the limit,
--- on a volume of less than 2^40 bytes
+-- the whole check of an image that gives its bytes: at most twice where the superblock isn't accepted, else within the
+-- limit, on a volume of less than 2^40 bytes
 pub record ReadsWithin (image : Device) (name : List ℕ) (sector : Option ℕ) (reads reads' : ℕ) : Type 0 where
   pub refused : ForContents image.contents (λ bytes. (fault : SuperFault) → outcome bytes sector ≡ Err fault
       → reads' ≤ reads + opening_reads)
