@@ -434,7 +434,7 @@ fn reports_directories(rt: HostRuntime) {
     );
     reports_directory(
         &rt,
-        DirectoryLine::DirGap { path },
+        DirectoryLine::DirEmpty { path },
         b"DIRECTORY /d?: CONTAINS EMPTY BLOCKS\nADJUST LENGTH? no\n\n",
     );
     reports_directory(
@@ -593,7 +593,7 @@ fn reports_references(rt: HostRuntime) {
     says(&rt, &UNREF, true, UNREF_TEXT);
     reports_reference(
         &rt,
-        ReferenceLine::UnrefUnlinked {
+        ReferenceLine::UnrefZero {
             label: Label::Name,
             attr: FREE,
         },

@@ -56,7 +56,7 @@ pub fn line_for(
     }
     if references == 0 {
         if is_links(count, 0) {
-            return Some(ReferenceLine::UnrefUnlinked { label, attr });
+            return Some(ReferenceLine::UnrefZero { label, attr });
         }
         return Some(ReferenceLine::Unref { label, attr });
     }

@@ -66,7 +66,7 @@ fn say_chunks<W: Output>(
 {
     let empty = Check {
         holds: gap,
-        line: NameLine::Directory(DirectoryLine::DirGap { path }),
+        line: NameLine::Directory(DirectoryLine::DirEmpty { path }),
     };
     let corrupt = Check {
         holds: !sound,

@@ -16,7 +16,7 @@ use Rattle.ffs_report.specs.declared.line.Heading.{Heading as HeadingLine}
 use Rattle.ffs_report.specs.declared.line.Heading.TheVariants.{Phase1, Phase1b, Phase2, Phase3, Phase4, Phase5}
 use Rattle.ffs_report.specs.declared.line.DirectoryLine.{DirectoryLine}
 use Rattle.ffs_report.specs.declared.line.DirectoryLine.TheVariants.{RootNone, RootNotDir, RootSuspect}
-use Rattle.ffs_report.specs.declared.line.DirectoryLine.TheVariants.{DirShort, DirLength, DirGap, DirCorrupt}
+use Rattle.ffs_report.specs.declared.line.DirectoryLine.TheVariants.{DirShort, DirLength, DirEmpty, DirCorrupt}
 use Rattle.ffs_report.specs.declared.line.DotLine.{DotLine}
 use Rattle.ffs_report.specs.declared.line.DotLine.TheVariants.{MissingDot, MissingDotFirst, NumberDot, KindDot}
 use Rattle.ffs_report.specs.declared.line.DotLine.TheVariants.{MissingDotdot, MissingDotdotSecond}
@@ -26,7 +26,7 @@ use Rattle.ffs_report.specs.declared.line.EntryLine.TheVariants.{OutOfRange, Whi
 use Rattle.ffs_report.specs.declared.line.EntryLine.TheVariants.{DupBad, ZeroDir, Extraneous, KindEntry}
 use Rattle.ffs_report.specs.declared.line.ReferenceLine.{ReferenceLine}
 use Rattle.ffs_report.specs.declared.line.ReferenceLine.TheVariants.{UnrefDir, DeadMarked, DeadZero}
-use Rattle.ffs_report.specs.declared.line.ReferenceLine.TheVariants.{Unref, UnrefUnlinked, LinkCount}
+use Rattle.ffs_report.specs.declared.line.ReferenceLine.TheVariants.{Unref, UnrefZero, LinkCount}
 
 abbrev pub heading_message : HeadingLine → Message
 heading_message Phase1 = phase1
@@ -42,7 +42,7 @@ directory_message RootNotDir = root_not_dir
 directory_message RootSuspect = root_suspect
 directory_message (DirShort attr path) = dir_short attr path.now
 directory_message (DirLength path size) = dir_length path.now size
-directory_message (DirGap path) = dir_gap path.now
+directory_message (DirEmpty path) = dir_gap path.now
 directory_message (DirCorrupt attr path) = dir_corrupt attr path.now
 
 abbrev pub dot_message : DotLine → TreeMessage
@@ -71,7 +71,7 @@ reference_message (UnrefDir attr) = unref_dir attr
 reference_message (DeadMarked label attr) = dead_marked label attr
 reference_message (DeadZero attr) = dead_zero attr
 reference_message (Unref label attr) = unref label attr
-reference_message (UnrefUnlinked label attr) = unref_unlinked label attr
+reference_message (UnrefZero label attr) = unref_unlinked label attr
 reference_message (LinkCount label attr count right) = link_count label attr count right
 
 abbrev pub message_of : Line → Message

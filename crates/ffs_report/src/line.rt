@@ -87,7 +87,7 @@ pub enum DirectoryLine<'a> {
     /// Its size, in bytes, is no multiple of 512.
     DirLength { path: &'a [u8], size: u64 },
     /// It has a hole.
-    DirGap { path: &'a [u8] },
+    DirEmpty { path: &'a [u8] },
     /// A chunk of it isn't sound.
     DirCorrupt { attr: Attr, path: &'a [u8] },
 }
@@ -215,7 +215,7 @@ pub enum ReferenceLine {
         attr: Attr,
     },
     /// It has no reference, and its count of links is 0.
-    UnrefUnlinked {
+    UnrefZero {
         label: Label,
         attr: Attr,
     },

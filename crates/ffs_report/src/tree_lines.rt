@@ -201,7 +201,7 @@ pub fn print_directory<W: Output>(out: &mut W, line: &DirectoryLine<'_>) -> Resu
         DirectoryLine::RootSuspect => print(out, ROOT_SUSPECT),
         DirectoryLine::DirShort { attr, path } => print_dir(out, DIR_SHORT, attr, path, FIX),
         DirectoryLine::DirLength { path, size } => print_length(out, path, *size),
-        DirectoryLine::DirGap { path } => print_pieces(
+        DirectoryLine::DirEmpty { path } => print_pieces(
             out,
             &[
                 Piece::Text(DIRECTORY),
@@ -316,7 +316,7 @@ pub fn print_reference<W: Output>(out: &mut W, line: &ReferenceLine) -> Result<(
             attr,
             RECONNECT_OR_CLEAR,
         ),
-        ReferenceLine::UnrefUnlinked { label, attr } => print_kind(out, UNREF, *label, attr, CLEAR),
+        ReferenceLine::UnrefZero { label, attr } => print_kind(out, UNREF, *label, attr, CLEAR),
         ReferenceLine::LinkCount {
             label,
             attr,
