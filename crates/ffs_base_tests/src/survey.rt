@@ -6,7 +6,10 @@ use crate::compare::same;
 use ffs_image::ImageFault;
 use ffs_memory::{FilledList, Memory, SystemMemory};
 use ffs_samples::numbers;
-use ffs_survey::{Directories, Named, is_dead, is_dir, is_suspect, is_unref, mark_leaders, survey};
+use ffs_survey::{
+    Directories, Lists, Named, Surveyed, is_dead, is_dir, is_suspect, is_unref, mark_leaders,
+    survey,
+};
 use ffs_volume::Role;
 use std::alloc::{AllocError, Global};
 use std::test::Fail;
@@ -141,7 +144,7 @@ fn starts(alloc: Global) -> Result<FilledList<u64>, AllocError>
 
 /// What a survey of the volume leaves.
 #[derive(Drop)]
-struct Surveyed {
+struct Left {
     references: [u64; 8],
     parents: [u32; 8],
     named: [bool; 8],
@@ -149,25 +152,25 @@ struct Surveyed {
     calm: [bool; 8],
 }
 
-fn left_by_survey(alloc: Global) -> Result<Surveyed, Fail> {
+fn left_by_survey(alloc: Global) -> Result<Left, Fail> {
     let mut references = starts(alloc)?;
     let mut named = [true; 8];
     let mut reached = [true; 8];
     let mut parents = numbers(&[7; 8], alloc)?;
     let mut calm = [true; 8];
     let mut queue = numbers(&[7; 8], alloc)?;
-    survey(
-        &mut small_volume(),
-        &KINDS,
-        &[false; 8],
-        &mut references,
-        &mut named,
-        &mut reached,
-        &mut parents,
-        &mut calm,
-        &mut queue,
-    )?;
-    let mut left = Surveyed {
+    let mut lists = Lists {
+        kinds: &KINDS,
+        marked: &[false; 8],
+        references: &mut references,
+        named: &mut named,
+        reached: &mut reached,
+        parents: &mut parents,
+        calm: &mut calm,
+        queue: &mut queue,
+    };
+    survey(&mut small_volume(), &mut lists)?;
+    let mut left = Left {
         references: [0; 8],
         parents: [0; 8],
         named,
@@ -201,17 +204,17 @@ fn leaders(alloc: Global) -> Result<([bool; 8], [bool; 4]), AllocError> {
     let mut queue = numbers(&[7; 8], alloc)?;
     let mut leaders = [true; 8];
     mark_leaders(&parents, &mut queue, &mut leaders);
+    let surveyed = Surveyed {
+        kinds: &KINDS,
+        marked: &[false; 8],
+        named: &NAMED,
+        reached: &REACHED,
+        parents: &parents,
+        leaders: &leaders,
+    };
     let mut unref = [false; 4];
     for (found, dir) in unref.iter_mut().zip([2, 3, 5, 6]) {
-        *found = is_unref(
-            dir,
-            &KINDS,
-            &[false; 8],
-            &NAMED,
-            &REACHED,
-            &parents,
-            &leaders,
-        );
+        *found = is_unref(dir, &surveyed);
     }
     Ok((leaders, unref))
 }
@@ -235,8 +238,8 @@ fn judges_single_inodes(rt: HostRuntime) {
     same(
         &rt,
         &[
-            is_dead(7, &KINDS, &[false; 8], &NAMED),
-            is_dead(7, &KINDS, &[true; 8], &NAMED),
+            is_dead(&KINDS, &[false; 8], &NAMED, 7),
+            is_dead(&KINDS, &[true; 8], &NAMED, 7),
         ],
         &[false, true],
     );

@@ -15,7 +15,7 @@ ghost use Rattle.ffs_connectivity.specs.Lines.{cut_off_lines};
 use ffs_image::Image;
 use ffs_layout::Geometry;
 use ffs_report::{Line, Output, ReferenceLine, Report, RunFault};
-use ffs_survey::is_unref;
+use ffs_survey::{Surveyed, is_unref};
 use ffs_volume::Attr;
 use ffs_workspace::Workspace;
 
@@ -48,15 +48,15 @@ pub fn check_inode<I: Image, W: Output>(
     ensures stays { StaysReady geometry.now.layout (I.device image.new) workspace.old
         workspace.new }
 {
-    let cut_off = is_unref(
-        number,
-        &workspace.kinds,
-        &workspace.marked,
-        &workspace.named,
-        &workspace.reached,
-        &workspace.parents,
-        &workspace.flags,
-    );
+    let found = Surveyed {
+        kinds: &workspace.kinds,
+        marked: &workspace.marked,
+        named: &workspace.named,
+        reached: &workspace.reached,
+        parents: &workspace.parents,
+        leaders: &workspace.flags,
+    };
+    let cut_off = is_unref(number, &found);
     if !cut_off {
         return Ok(());
     }

@@ -16,7 +16,7 @@ use Rattle.ffs_volume.specs.Directories.Graph.{
   parent,
   parent_by,
 }
-use Rattle.ffs_survey.specs.Survey.{counted_in, references_below, start_in, IsSurvey}
+use Rattle.ffs_survey.specs.Survey.{counted_in, counted_below, start_in, IsSurvey}
 
 abbrev graph : ℕ → (ℕ → Bool) → (ℕ → List RoledEntry) → Graph
 graph n d e = record { count = n; is_dir = d; entries = e }
@@ -75,12 +75,12 @@ counted_same n d e f h s x = one (d s) refl
     one false b = rw b refl
 
 references_same : (n : ℕ) (d : ℕ → Bool) (e f : ℕ → List RoledEntry) → ((s : ℕ) → d s ≡ true → e s ≡ f s) → (x k : ℕ) →
-    references_below (graph n d e) x k ≡ references_below (graph n d f) x k
-unfolding references_below
+    counted_below (graph n d e) x k ≡ counted_below (graph n d f) x k
+unfolding counted_below
 references_same n d e f h x zero = refl
 references_same n d e f h x (suc k) =
     ap (λ m. m + counted_in (graph n d e) k x) (references_same n d e f h x k)
-    ∙ ap (λ m. references_below (graph n d f) x k + m) (counted_same n d e f h k x)
+    ∙ ap (λ m. counted_below (graph n d f) x k + m) (counted_same n d e f h k x)
 
 -- a survey of a graph is one of each graph with the same entries of directories
 pub survey_same : (n : ℕ) (d : ℕ → Bool) (e f : ℕ → List RoledEntry) (starts counts : List ℕ)

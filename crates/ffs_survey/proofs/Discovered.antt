@@ -10,7 +10,7 @@ use Rattle.std.proofs.lemmas.Bool.{or_left, or_from, cond-true, cond-false}
 use Rattle.std.proofs.lemmas.List.{take_more_set, get_or_past}
 use Rattle.std.proofs.lemmas.List.Sums.{sum_by-set, sum_by_push}
 use Rattle.ffs_survey.specs.Survey.{bool_at, number_at, dir_at, is_dir_kind, graph_with}
-use Rattle.ffs_survey.specs.Discover.{bit, times, unset, from_entries, from_dirs, nothing, Comes, is_free}
+use Rattle.ffs_survey.specs.Discover.{bit, occurrences, unset, from_entries, from_dirs, nothing, Comes, is_free}
 use Rattle.ffs_volume.specs.Directories.Roles.{RoledEntry, is_plain}
 use Rattle.ffs_volume.specs.Directories.Graph.{Graph, is_naming_entry, edge}
 
@@ -68,8 +68,8 @@ comes-then g a b r r' p p' q q' e c = record {
       ∙ ap (λ o. bool_at r x || is_some o) (sym (e x));
   parent = λ x. then_parent (bool_at r x) (bool_at r' x) (a x) (b x) (number_at p x) (number_at p' x) (c.reached x)
       (c.parent x) ∙ ap (λ o. cond (bool_at r x) (number_at p x) (unwrap_or o (number_at p x))) (sym (e x));
-  queue = λ x. then_queue (bool_at r x) (bool_at r' x) (a x) (b x) (times x q) (times x q') (c.reached x) (c.queue x)
-      ∙ ap (λ o. times x q + bit (is_some o && not (bool_at r x))) (sym (e x));
+  queue = λ x. then_queue (bool_at r x) (bool_at r' x) (a x) (b x) (occurrences x q) (occurrences x q') (c.reached x) (c.queue x)
+      ∙ ap (λ o. occurrences x q + bit (is_some o && not (bool_at r x))) (sym (e x));
 }
 
 -- one entry and then the others
@@ -136,10 +136,10 @@ unset-set r m l e =
     let one : bit (not (bool_at r m)) ≡ 1 = ap (λ b. bit (not b)) e in
     omega (arith, h, one)
 
-times-push : (x : ℕ) (q : List ℕ) (c y : ℕ) → c < length q → times x (take (c + 1) (set q c y))
-    ≡ times x (take c q) + bit (y == x)
-unfolding times
-times-push x q c y l = ap (λ z. sum_by (λ y. bit (y == x)) z) (take_more_set q c y l)
+occurrences-push : (x : ℕ) (q : List ℕ) (c y : ℕ) → c < length q → occurrences x (take (c + 1) (set q c y))
+    ≡ occurrences x (take c q) + bit (y == x)
+unfolding occurrences
+occurrences-push x q c y l = ap (λ z. sum_by (λ y. bit (y == x)) z) (take_more_set q c y l)
     ∙ sum_by_push (λ y. bit (y == x)) (take c q) y
 
 -- what one entry discovers
@@ -154,19 +154,19 @@ visit_hit kinds r p q s c e lr lp lq d pl un = record {
   queue = λ x. (at x).2;
 }
   where
-    at : (x : ℕ) → At (bool_at r x) (number_at p x) (times x (take c q)) (from_entries kinds s (e ∷ []) x)
+    at : (x : ℕ) → At (bool_at r x) (number_at p x) (occurrences x (take c q)) (from_entries kinds s (e ∷ []) x)
         (bool_at (set r e.entry.number true) x) (number_at (set p e.entry.number s) x)
-        (times x (take (c + 1) (set q c e.entry.number)))
+        (occurrences x (take (c + 1) (set q c e.entry.number)))
     at x = elim (cases_eq x e.entry.number) [
       | inl y ↦ hit_at _ _ _ _ _ _ _ s (ap (bool_at r) y ∙ un)
           (ap (bool_at (set r e.entry.number true)) y ∙ get_or-set_same r e.entry.number true false lr)
           (from_entry-hit kinds s e x (ap (dir_at kinds) y ∙ d) pl y)
           (ap (number_at (set p e.entry.number s)) y ∙ get_or-set_same p e.entry.number s 0 lp)
-          (times-push x q c e.entry.number lq ∙ ap (λ b. times x (take c q) + bit b) (eq-eqb e.entry.number x (sym y)))
+          (occurrences-push x q c e.entry.number lq ∙ ap (λ b. occurrences x (take c q) + bit b) (eq-eqb e.entry.number x (sym y)))
       | inr n ↦ miss_at _ _ _ _ _ _ _ (get_or-set_other r e.entry.number x true false n) (from_entry-miss kinds s e x n)
           (get_or-set_other p e.entry.number x s 0 n)
-          (times-push x q c e.entry.number lq
-          ∙ (ap (λ b. times x (take c q) + bit b) (ne_eqb e.entry.number x (λ q. n (sym q))) ∙ add-zero _))
+          (occurrences-push x q c e.entry.number lq
+          ∙ (ap (λ b. occurrences x (take c q) + bit b) (ne_eqb e.entry.number x (λ q. n (sym q))) ∙ add-zero _))
     ]
 
 -- the same with another name for what is to go
@@ -175,7 +175,7 @@ pub comes-to : (g h k : ℕ → Option ℕ) (r r' : List Bool) (p p' q q' : List
 comes-to g h k r r' p p' q q' e c = record {
   reached = λ x. ap (λ o. bool_at r' x || is_some o) (sym (e x)) ∙ c.reached x;
   parent = λ x. ap (λ o. cond (bool_at r' x) (number_at p' x) (unwrap_or o (number_at p' x))) (sym (e x)) ∙ c.parent x;
-  queue = λ x. ap (λ o. times x q' + bit (is_some o && not (bool_at r' x))) (sym (e x)) ∙ c.queue x;
+  queue = λ x. ap (λ o. occurrences x q' + bit (is_some o && not (bool_at r' x))) (sym (e x)) ∙ c.queue x;
 }
 
 same_at : (r : Bool) (p t : ℕ) (a : Option ℕ) → (r ≡ true) ⊎ (a ≡ None) → At r p t a r p t
@@ -200,9 +200,9 @@ visit_miss kinds r p q s e h = record { reached = λ x. (at x).0; parent = λ x.
     which x true true true k = inl refl
     which x true true false k = absurd (cc)
 
-    at : (x : ℕ) → At (bool_at r x) (number_at p x) (times x q) (from_entries kinds s (e ∷ []) x) (bool_at r x)
-        (number_at p x) (times x q)
-    at x = same_at (bool_at r x) (number_at p x) (times x q) (from_entries kinds s (e ∷ []) x)
+    at : (x : ℕ) → At (bool_at r x) (number_at p x) (occurrences x q) (from_entries kinds s (e ∷ []) x) (bool_at r x)
+        (number_at p x) (occurrences x q)
+    at x = same_at (bool_at r x) (number_at p x) (occurrences x q) (from_entries kinds s (e ∷ []) x)
         (elim (cases_eq x e.entry.number) [
           | inl y ↦ which (e.entry.number == x) (is_plain e.role) (dir_at kinds x) (bool_at r x)
               (subst (λ z. (is_plain e.role && is_free kinds r z) ≡ false) (sym y) h)

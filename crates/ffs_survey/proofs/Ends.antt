@@ -22,13 +22,13 @@ use Rattle.ffs_volume.proofs.Graphs.{IsSane}
 use Rattle.ffs_volume.proofs.LevelLaws.{within-zero, within-grows, level-is, level-some, level-each, reached-from}
 use Rattle.ffs_volume.proofs.LevelLaws.{reached-level}
 use Rattle.ffs_survey.specs.Survey.{bool_at, number_at}
-use Rattle.ffs_survey.specs.Discover.{bit, times, unset, IsFrontier, LevelsKnown, from_dirs, nothing, Comes}
+use Rattle.ffs_survey.specs.Discover.{bit, occurrences, unset, IsFrontier, LevelsKnown, from_dirs, nothing, Comes}
 use Rattle.ffs_survey.proofs.Discovered.{comes-to, comes-refl}
-use Rattle.ffs_survey.proofs.Frontiers.{times-nil, within-bound, next_level, IsNext}
+use Rattle.ffs_survey.proofs.Frontiers.{occurrences-nil, within-bound, next_level, IsNext}
 
 -- where a level is empty, all is known
 pub no_more : (v : Graph) (k x : ℕ) → IsSane v → IsFrontier v k [] → within v k x ≡ reached v x
-unfolding times
+unfolding occurrences
 no_more v k x sane f =
     elim (cases_Bool (within v k x)) [
       | inl y ↦ y ∙ sym (reached-from v k x (within-bound v k x sane y) y)
@@ -59,9 +59,9 @@ parent-root : (v : Graph) → parent v 2 ≡ Some 2
 unfolding parent
 parent-root v = refl
 
-times-single : (x y : ℕ) → times x (y ∷ []) ≡ bit (y == x)
-unfolding times
-times-single x y = sum_by-cons (λ z. bit (z == x)) y [] ∙ add-zero (bit (y == x))
+occurrences-single : (x y : ℕ) → occurrences x (y ∷ []) ≡ bit (y == x)
+unfolding occurrences
+occurrences-single x y = sum_by-cons (λ z. bit (z == x)) y [] ∙ add-zero (bit (y == x))
 
 pub levels_start : (v : Graph) (r : List Bool) (p : List ℕ) → 2 < length r → 2 < length p →
     ((x : ℕ) → bool_at r x ≡ false) → ((x : ℕ) → number_at p x ≡ 0) →
@@ -79,8 +79,8 @@ levels_start v r p lr lp clear blank = record {
         ∙ sym (ap (λ o. unwrap_or o 0) (cond-false (within v 0 x) (parent v x) None (within-zero v x ∙ ne_eqb x 2 n)))
   ];
   queue = λ x. elim (cases_eq x 2) [
-    | inl y ↦ times-single x 2 ∙ ap bit (eq-eqb 2 x (sym y) ∙ sym (marked x y))
-    | inr n ↦ times-single x 2 ∙ ap bit (ne_eqb 2 x (λ e. n (sym e)) ∙ sym (unmarked x n))
+    | inl y ↦ occurrences-single x 2 ∙ ap bit (eq-eqb 2 x (sym y) ∙ sym (marked x y))
+    | inr n ↦ occurrences-single x 2 ∙ ap bit (ne_eqb 2 x (λ e. n (sym e)) ∙ sym (unmarked x n))
   ];
 }
   where
@@ -97,13 +97,13 @@ frontier_start v sane = record {
         let b = sane.some in
         let lev : level v x ≡ Some 0 = level-is v 0 x (omega arith)
         (record { within_k = within-zero v x ∙ eq-eqb x 2 e; least = λ j l. absurd (omega arith) }) in
-        times-single x 2 ∙ ap bit (eq-eqb 2 x (sym e) ∙ sym (is_value-from (level v x) 0 lev))
+        occurrences-single x 2 ∙ ap bit (eq-eqb 2 x (sym e) ∙ sym (is_value-from (level v x) 0 lev))
     | inr n ↦
-        times-single x 2 ∙ ap bit (ne_eqb 2 x (λ e. n (sym e)) ∙ sym (false_from_ne_true (is_value (level v x) 0) (λ t.
+        occurrences-single x 2 ∙ ap bit (ne_eqb 2 x (λ e. n (sym e)) ∙ sym (false_from_ne_true (is_value (level v x) 0) (λ t.
         let lev = level-some v 0 x (is_value-true (level v x) 0 t) in
         n (eqb-true x 2 (sym (within-zero v x) ∙ lev.0.within_k)))))
   ];
-  rising = ((λ t h. absurd (let e = times-nil t in omega arith)), tt);
+  rising = ((λ t h. absurd (let e = occurrences-nil t in omega arith)), tt);
 }
 
 -- the queue with 2 at its head

@@ -21,66 +21,66 @@ use Rattle.ffs_volume.proofs.LevelLaws.{within-suc, within-zero, within-grows, w
 use Rattle.ffs_volume.proofs.LevelLaws.{level-from}
 use Rattle.ffs_volume.proofs.Unreached.{edge-parts}
 use Rattle.ffs_survey.specs.Survey.{bool_at, number_at, graph_with}
-use Rattle.ffs_survey.specs.Discover.{bit, times, from_dirs, nothing, Comes, Rising, IsFrontier, parent_at, LevelsKnown}
+use Rattle.ffs_survey.specs.Discover.{bit, occurrences, from_dirs, nothing, Comes, Rising, IsFrontier, parent_at, LevelsKnown}
 use Rattle.ffs_survey.proofs.Discovered.{dir_below}
 
-pub times-cons : (t x : ℕ) (xs : List ℕ) → times t (x ∷ xs) ≡ bit (x == t) + times t xs
-unfolding times
-times-cons t x xs = sum_by-cons (λ y. bit (y == t)) x xs
+pub occurrences-cons : (t x : ℕ) (xs : List ℕ) → occurrences t (x ∷ xs) ≡ bit (x == t) + occurrences t xs
+unfolding occurrences
+occurrences-cons t x xs = sum_by-cons (λ y. bit (y == t)) x xs
 
-pub times-nil : (t : ℕ) → times t [] ≡ 0
-unfolding times
-times-nil t = refl
+pub occurrences-nil : (t : ℕ) → occurrences t [] ≡ 0
+unfolding occurrences
+occurrences-nil t = refl
 
 -- a number of x ∷ xs is x or one of xs
-pub times-cases : (t x : ℕ) (xs : List ℕ) → 1 ≤ times t (x ∷ xs) → (x ≡ t) ⊎ (1 ≤ times t xs)
-times-cases t x xs h =
+pub occurrences-cases : (t x : ℕ) (xs : List ℕ) → 1 ≤ occurrences t (x ∷ xs) → (x ≡ t) ⊎ (1 ≤ occurrences t xs)
+occurrences-cases t x xs h =
     elim (cases_eq x t) [
       | inl y ↦ inl y
-      | inr n ↦ inr (let e = times-cons t x xs in let z : bit (x == t) ≡ 0 = ap bit (ne_eqb x t n) in omega arith)
+      | inr n ↦ inr (let e = occurrences-cons t x xs in let z : bit (x == t) ≡ 0 = ap bit (ne_eqb x t n) in omega arith)
     ]
 
-times-index : (t : ℕ) (xs : List ℕ) → 1 ≤ times t xs → (i : ℕ) × (i < length xs) × (get_or xs i 0 ≡ t)
-times-index t [] h = absurd (let e = times-nil t in omega arith)
-times-index t (x ∷ xs) h =
-    elim (times-cases t x xs h) [
+occurrences-index : (t : ℕ) (xs : List ℕ) → 1 ≤ occurrences t xs → (i : ℕ) × (i < length xs) × (get_or xs i 0 ≡ t)
+occurrences-index t [] h = absurd (let e = occurrences-nil t in omega arith)
+occurrences-index t (x ∷ xs) h =
+    elim (occurrences-cases t x xs h) [
       | inl y ↦ (0, omega arith, y)
-      | inr m ↦ let r = times-index t xs m in let l = r.1 in (suc r.0, omega arith, r.2)
+      | inr m ↦ let r = occurrences-index t xs m in let l = r.1 in (suc r.0, omega arith, r.2)
     ]
 
 pub rising-from : (xs : List ℕ) → IsNonDecreasing xs → Rising xs
 rising-from [] h = tt
 rising-from (x ∷ xs) h = (
-  (λ t m. let r = times-index t xs m in let l = r.1 in let o = h 0 (suc r.0) 0 (omega arith) (omega arith) in
+  (λ t m. let r = occurrences-index t xs m in let l = r.1 in let o = h 0 (suc r.0) 0 (omega arith) (omega arith) in
       subst (λ y. x ≤ y) r.2 o),
   rising-from xs (λ i j d a b. h (suc i) (suc j) d (omega arith) (omega arith)),
 )
 
 -- what `find` finds in an ascending list
 abbrev FoundIn : (p : ℕ → Bool) (xs : List ℕ) → Option ℕ → Type 0
-FoundIn p xs None = (t : ℕ) → 1 ≤ times t xs → p t ≡ false
-FoundIn p xs (Some s) = (p s ≡ true) × (1 ≤ times s xs) × ((t : ℕ) → t < s → 1 ≤ times t xs → p t ≡ false)
+FoundIn p xs None = (t : ℕ) → 1 ≤ occurrences t xs → p t ≡ false
+FoundIn p xs (Some s) = (p s ≡ true) × (1 ≤ occurrences s xs) × ((t : ℕ) → t < s → 1 ≤ occurrences t xs → p t ≡ false)
 
 found_cons : (p : ℕ → Bool) (x : ℕ) (xs : List ℕ) (b : Bool) (o : Option ℕ) → p x ≡ b → Rising (x ∷ xs) → FoundIn p xs o
     → FoundIn p (x ∷ xs) (cond b (Some x) o)
 found_cons p x xs true o e r f = (
   e,
-  let c = times-cons x x xs in let one : bit (x == x) ≡ 1 = ap bit (eq-eqb x x refl) in omega arith,
-  λ t l m. elim (times-cases t x xs m) [
+  let c = occurrences-cons x x xs in let one : bit (x == x) ≡ 1 = ap bit (eq-eqb x x refl) in omega arith,
+  λ t l m. elim (occurrences-cases t x xs m) [
     | inl y ↦ absurd (omega arith)
     | inr n ↦ absurd (let q = r.0 t n in omega arith)
   ],
 )
 found_cons p x xs false None e r f =
-    λ t m. elim (times-cases t x xs m) [ inl y ↦ subst (λ z. p z ≡ false) y e | inr n ↦ f t n ]
+    λ t m. elim (occurrences-cases t x xs m) [ inl y ↦ subst (λ z. p z ≡ false) y e | inr n ↦ f t n ]
 found_cons p x xs false (Some s) e r f = (
   f.0,
-  let c = times-cons s x xs in let a = f.1 in omega arith,
-  λ t l m. elim (times-cases t x xs m) [ inl y ↦ subst (λ z. p z ≡ false) y e | inr n ↦ f.2 t l n ],
+  let c = occurrences-cons s x xs in let a = f.1 in omega arith,
+  λ t l m. elim (occurrences-cases t x xs m) [ inl y ↦ subst (λ z. p z ≡ false) y e | inr n ↦ f.2 t l n ],
 )
 
 found : (p : ℕ → Bool) (xs : List ℕ) → Rising xs → FoundIn p xs (find p xs)
-found p [] r = λ t m. absurd (let e = times-nil t in omega arith)
+found p [] r = λ t m. absurd (let e = occurrences-nil t in omega arith)
 found p (x ∷ xs) r = found_cons p x xs (p x) (find p xs) refl r (found p xs r.1)
 
 bit-one : (b : Bool) (n : ℕ) → n ≡ bit b → 1 ≤ n → b ≡ true
@@ -199,7 +199,7 @@ same_cond false n = refl
 pub record IsNext (v : Graph) (k : ℕ) (r' : List Bool) (p' q' : List ℕ) : Type 0 where
   pub reached : (x : ℕ) → bool_at r' x ≡ within v k x
   pub parent : (x : ℕ) → number_at p' x ≡ unwrap_or (parent_at v k x) 0
-  pub members : (x : ℕ) → times x q' ≡ bit (is_value (level v x) k)
+  pub members : (x : ℕ) → occurrences x q' ≡ bit (is_value (level v x) k)
 
 -- the step from level k to the next
 pub next_level : (v : Graph) (k : ℕ) (xs : List ℕ) (r r' : List Bool) (p p' q q' : List ℕ) → IsSane v →
@@ -239,9 +239,9 @@ next_level v k xs r r' p p' q q' sane f n c = record { reached = reached_x; pare
             (cond-false _ (parent v x) None e ∙ sym (cond-false (within v (suc k) x) (parent v x) None
             (within-level v k x sane ∙ or_from (within v k x) _ e (ap is_some h))))
 
-    queue_x : (x : ℕ) → times x q' ≡ bit (is_value (level v x) (suc k))
-    queue_x x = sym (add-zero (times x q'))
-        ∙ (c.queue x ∙ (ap (λ t. t + bit (is_some (from_dirs v xs x) && not (bool_at r x))) (times-nil x)
+    queue_x : (x : ℕ) → occurrences x q' ≡ bit (is_value (level v x) (suc k))
+    queue_x x = sym (add-zero (occurrences x q'))
+        ∙ (c.queue x ∙ (ap (λ t. t + bit (is_some (from_dirs v xs x) && not (bool_at r x))) (occurrences-nil x)
         ∙ (zero-add _ ∙ ap bit
         (ap (λ b. is_some (from_dirs v xs x) && not b) (n.reached x)
         ∙ (ap (λ o. is_some o && not (within v k x)) (found_x x)
@@ -254,14 +254,14 @@ next_level v k xs r r' p p' q q' sane f n c = record { reached = reached_x; pare
         swap_in false b = refl
 
 -- the queue with what is discovered holds each that is marked once
-pub queue_grows : (a : ℕ → Option ℕ) (r r' : List Bool) (p p' q q' : List ℕ) → ((x : ℕ) → times x q ≡ bit (bool_at r x))
-    → Comes a r p [] nothing r' p' q' → (x : ℕ) → times x (q ++ q') ≡ bit (bool_at r' x)
-unfolding times
+pub queue_grows : (a : ℕ → Option ℕ) (r r' : List Bool) (p p' q q' : List ℕ) → ((x : ℕ) → occurrences x q ≡ bit (bool_at r x))
+    → Comes a r p [] nothing r' p' q' → (x : ℕ) → occurrences x (q ++ q') ≡ bit (bool_at r' x)
+unfolding occurrences
 queue_grows a r r' p p' q q' h c x =
-    let one : times x (q ++ q') ≡ times x q + times x q' = sum_by-append (λ y. bit (y == x)) q q' in
+    let one : occurrences x (q ++ q') ≡ occurrences x q + occurrences x q' = sum_by-append (λ y. bit (y == x)) q q' in
     let two = h x in
     let three = c.queue x in
-    let four = times-nil x in
+    let four = occurrences-nil x in
     let five = go (bool_at r x) (bool_at r' x) (is_some (a x)) (c.reached x) in
     omega (arith, one, two, three, four, five)
   where
@@ -274,11 +274,11 @@ queue_grows a r r' p p' q q' h c x =
     go false false true h = absurd (cc)
     go false false false h = refl
 
-times-at : (xs : List ℕ) (i d : ℕ) → i < length xs → 1 ≤ times (get_or xs i d) xs
-times-at [] i d l = absurd (omega arith)
-times-at (x ∷ xs) zero d l = let c = times-cons x x xs in let one : bit (x == x) ≡ 1 = ap bit (eq-eqb x x refl) in
+occurrences-at : (xs : List ℕ) (i d : ℕ) → i < length xs → 1 ≤ occurrences (get_or xs i d) xs
+occurrences-at [] i d l = absurd (omega arith)
+occurrences-at (x ∷ xs) zero d l = let c = occurrences-cons x x xs in let one : bit (x == x) ≡ 1 = ap bit (eq-eqb x x refl) in
     omega arith
-times-at (x ∷ xs) (suc i) d l = let c = times-cons (get_or xs i d) x xs in let h = times-at xs i d (omega arith) in
+occurrences-at (x ∷ xs) (suc i) d l = let c = occurrences-cons (get_or xs i d) x xs in let h = occurrences-at xs i d (omega arith) in
     omega arith
 
 -- what is reached is a directory, where inode 2 is one
@@ -296,16 +296,16 @@ pub front_within : (v : Graph) (k : ℕ) (xs : List ℕ) → IsFrontier v k xs �
     within v k (get_or xs i d) ≡ true
 front_within v k xs f i d l =
     let x = get_or xs i d in
-    let lv = is_value-true _ k (bit-one _ _ (f.members x) (times-at xs i d l)) in
+    let lv = is_value-true _ k (bit-one _ _ (f.members x) (occurrences-at xs i d l)) in
     (level-some v k x lv).0.within_k
 
 pub front_dirs : (v : Graph) (k : ℕ) (xs : List ℕ) → IsSane v → v.is_dir 2 ≡ true → IsFrontier v k xs → (i d : ℕ) →
     i < length xs → v.is_dir (get_or xs i d) ≡ true
 front_dirs v k xs sane two f i d l = within-dir v k (get_or xs i d) sane two (front_within v k xs f i d l)
 
-pub front_from : (v : Graph) (k : ℕ) (xs ys : List ℕ) → ((x : ℕ) → times x xs ≡ bit (is_value (level v x) k)) →
+pub front_from : (v : Graph) (k : ℕ) (xs ys : List ℕ) → ((x : ℕ) → occurrences x xs ≡ bit (is_value (level v x) k)) →
     IsPermutation xs ys → IsNonDecreasing ys → IsFrontier v k ys
-unfolding times
+unfolding occurrences
 front_from v k xs ys m p s =
     record { members = λ x. sum_by-IsPermutation (λ y. bit (y == x)) xs ys p ∙ m x; rising = rising-from ys s }
 

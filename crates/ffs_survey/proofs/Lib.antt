@@ -4,8 +4,9 @@ mod Frontiers
 mod Ends
 mod Totals
 mod Queues
-mod Whole
+mod UnreachedLaws
 mod Walks
 mod UnrefLaws
+mod Lending
 pub mod CalmLaws
 pub mod Costs

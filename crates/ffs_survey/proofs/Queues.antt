@@ -13,7 +13,7 @@ use Rattle.ffs_volume.specs.Directories.Roles.{RoledEntry, refers}
 use Rattle.ffs_volume.specs.Directories.Graph.{Graph, is_naming_dir}
 use Rattle.ffs_volume.proofs.Graphs.{IsSane}
 use Rattle.ffs_survey.specs.Survey.{bool_at, number_at, graph_with, dir_at, counted_in}
-use Rattle.ffs_survey.specs.Discover.{Extends, bit, times, from_dirs, nothing, Comes, IsFrontier, LevelsKnown, IsCount, Counts}
+use Rattle.ffs_survey.specs.Discover.{Extends, bit, occurrences, from_dirs, nothing, Comes, IsFrontier, LevelsKnown, IsCount, Counts}
 use Rattle.ffs_survey.specs.Discover.{IsReachedPart, count_of, any_of, none, never}
 use Rattle.ffs_survey.proofs.Frontiers.{next_level, front_from, queue_grows, IsNext}
 use Rattle.ffs_survey.proofs.Ends.{knows_reached, knows_parent, root_alone, frontier_start}
@@ -25,6 +25,13 @@ extends_on a b c q q' q'' one two = record {
   ordered = let l = one.ordered in let m = two.ordered in omega (arith, l, m);
   kept = sym (take-take a b q'' one.ordered) ∙ ap (take a) two.kept ∙ take-take a b q' one.ordered ∙ one.kept;
 }
+
+-- a queue that is extended, by what it has up to its ends
+pub keeps_queue : (a b : ℕ) (q q' : List ℕ) → Extends a b q q' → take a (take b q') ≡ take a q
+keeps_queue a b q q' e = take-take a b q' e.ordered ∙ e.kept
+
+pub is_extended : (a b : ℕ) (q q' : List ℕ) → a ≤ b → take a (take b q') ≡ take a q → Extends a b q q'
+is_extended a b q q' l kept = record { ordered = l; kept = sym (take-take a b q' l) ∙ kept }
 
 -- a number of the level, in a queue that was extended since
 pub number_kept : (high end at : ℕ) (q q' : List ℕ) → at < high → Extends high end q q' →
@@ -44,7 +51,7 @@ at_place P low at xs all from to =
 -- with what was in the queue before, and without it
 pub comes_after : (a c : ℕ → Option ℕ) (r r' : List Bool) (p p' q new : List ℕ) →
     Comes a r p q c r' p' (q ++ new) → Comes a r p [] c r' p' new
-unfolding times
+unfolding occurrences
 comes_after a c r r' p p' q new h = record {
   reached = h.reached;
   parent = h.parent;
@@ -69,7 +76,7 @@ pub level_after : (v : Graph) (k : ℕ) (xs : List ℕ) (r r' : List Bool) (p p'
     IsFrontier v k xs → LevelsKnown v k r p q
     → Comes (from_dirs v xs) r p [] nothing r' p' new → IsPermutation new ys → IsNonDecreasing ys →
     IsNextLevel v (k + 1) r' p' q ys
-unfolding times
+unfolding occurrences
 level_after v k xs r r' p p' q new ys sane f n c m s =
     let one : suc k ≡ k + 1 = omega arith in
     let next : IsNext v (k + 1) r' p' new =

@@ -9,10 +9,10 @@ use Rattle.std.proofs.lemmas.List.Sums.{sum_by-cons}
 use Rattle.ffs_volume.specs.Disk.Search.{some_below, first_below}
 use Rattle.ffs_volume.proofs.SearchLaws.{some_below-suc, some_below-from, some_below-none}
 use Rattle.ffs_volume.specs.Directories.Graph.{Graph, is_naming_dir}
-use Rattle.ffs_survey.specs.Survey.{counted_in, references_below}
+use Rattle.ffs_survey.specs.Survey.{counted_in, counted_below}
 use Rattle.ffs_survey.specs.Costs.{costs_below}
-use Rattle.ffs_survey.specs.Discover.{bit, times, count_of, any_of, counted_by}
-use Rattle.ffs_survey.proofs.Frontiers.{times-cases, times-cons}
+use Rattle.ffs_survey.specs.Discover.{bit, occurrences, count_of, any_of, counted_by}
+use Rattle.ffs_survey.proofs.Frontiers.{occurrences-cases, occurrences-cons}
 
 abbrev part : (ℕ → ℕ) → ℕ → List ℕ → ℕ
 part c n q = sum_by (λ s. cond (nat_lt s n) (c s) 0) q
@@ -20,15 +20,15 @@ part c n q = sum_by (λ s. cond (nat_lt s n) (c s) 0) q
 abbrev here : ℕ → ℕ → List ℕ → ℕ
 here k n q = sum_by (λ s. cond (s == n) k 0) q
 
-nil-times : (t : ℕ) → times t [] ≡ 0
-unfolding times
-nil-times t = refl
+nil-occurrences : (t : ℕ) → occurrences t [] ≡ 0
+unfolding occurrences
+nil-occurrences t = refl
 
 -- a number that isn't there adds nothing
-here-none : (k n : ℕ) (q : List ℕ) → times n q ≡ 0 → here k n q ≡ 0
+here-none : (k n : ℕ) (q : List ℕ) → occurrences n q ≡ 0 → here k n q ≡ 0
 here-none k n [] h = refl
 here-none k n (y ∷ q) h =
-    let c = times-cons n y q in
+    let c = occurrences-cons n y q in
     let e = sum_by-cons (λ s. cond (s == n) k 0) y q in
     elim (cases_eq y n) [
       | inl same ↦ absurd (let z : bit (y == n) ≡ 1 = ap bit (eq-eqb y n same) in omega arith)
@@ -40,10 +40,10 @@ here-none k n (y ∷ q) h =
     ]
 
 -- and one that is there once adds its share
-here-once : (k n : ℕ) (q : List ℕ) → times n q ≡ 1 → here k n q ≡ k
-here-once k n [] h = absurd (let z = nil-times n in omega arith)
+here-once : (k n : ℕ) (q : List ℕ) → occurrences n q ≡ 1 → here k n q ≡ k
+here-once k n [] h = absurd (let z = nil-occurrences n in omega arith)
 here-once k n (y ∷ q) h =
-    let c = times-cons n y q in
+    let c = occurrences-cons n y q in
     let e = sum_by-cons (λ s. cond (s == n) k 0) y q in
     elim (cases_eq y n) [
       | inl same ↦
@@ -58,7 +58,7 @@ here-once k n (y ∷ q) h =
           omega (arith, e, r, w)
     ]
 
-here-bit : (k n : ℕ) (q : List ℕ) (b : Bool) → times n q ≡ bit b → here k n q ≡ cond b k 0
+here-bit : (k n : ℕ) (q : List ℕ) (b : Bool) → occurrences n q ≡ bit b → here k n q ≡ cond b k 0
 here-bit k n q true h = here-once k n q h
 here-bit k n q false h = here-none k n q h
 
@@ -104,24 +104,24 @@ part-zero c (y ∷ q) =
     let r = part-zero c q in
     omega (arith, a, b, r)
 
-part-is : (c : ℕ → ℕ) (r : ℕ → Bool) (q : List ℕ) → ((s : ℕ) → times s q ≡ bit (r s)) → (n : ℕ) →
+part-is : (c : ℕ → ℕ) (r : ℕ → Bool) (q : List ℕ) → ((s : ℕ) → occurrences s q ≡ bit (r s)) → (n : ℕ) →
     part c n q ≡ costs_below r c n
 part-is c r q h zero = part-zero c q
 part-is c r q h (suc n) = let a = part-suc c n q in let b = here-bit (c n) n q (r n) (h n) in let d =
     part-is c r q h n in omega (arith, a, b, d)
 
 -- a list of numbers below n is whole below n
-part-whole : (c : ℕ → ℕ) (n : ℕ) (q : List ℕ) → ((s : ℕ) → n ≤ s → times s q ≡ 0) → sum_by c q ≡ part c n q
+part-whole : (c : ℕ → ℕ) (n : ℕ) (q : List ℕ) → ((s : ℕ) → n ≤ s → occurrences s q ≡ 0) → sum_by c q ≡ part c n q
 part-whole c n [] h = refl
 part-whole c n (y ∷ q) h =
     let a = sum_by-cons c y q in
     let b = sum_by-cons (λ s. cond (nat_lt s n) (c s) 0) y q in
     let one : bit (y == y) ≡ 1 = ap bit (eq-eqb y y refl) in
-    let t = times-cons y y q in
+    let t = occurrences-cons y y q in
     let low : y < n = (elim (cases_lt y n)
     [ inl l ↦ l | inr g ↦ absurd (let z = h y g in omega (arith, z, t, one)) ]) in
     let d = cond-true (nat_lt y n) (c y) 0 (lt-ltb y n low) in
-    let r = part-whole c n q (λ s g. let z = h s g in let w = times-cons s y q in omega (arith, z, w)) in
+    let r = part-whole c n q (λ s g. let z = h s g in let w = occurrences-cons s y q in omega (arith, z, w)) in
     omega (arith, a, b, d, r)
 
 costs-counted : (r : ℕ → Bool) (g : Graph) (x n : ℕ) → costs_below r (λ s. counted_in g s x) n ≡ counted_by r g x n
@@ -130,29 +130,29 @@ costs-counted r g x zero = refl
 costs-counted r g x (suc n) = ap (λ z. z + cond (r n) (counted_in g n x) 0) (costs-counted r g x n)
 
 -- the costs of a list that holds each that passes once
-pub costs_once : (c : ℕ → ℕ) (r : ℕ → Bool) (q : List ℕ) (n : ℕ) → ((s : ℕ) → times s q ≡ bit (r s)) →
+pub costs_once : (c : ℕ → ℕ) (r : ℕ → Bool) (q : List ℕ) (n : ℕ) → ((s : ℕ) → occurrences s q ≡ bit (r s)) →
     ((s : ℕ) → n ≤ s → r s ≡ false) → sum_by c q ≡ costs_below r c n
 costs_once c r q n h past = part-whole c n q (λ s l. h s ∙ ap bit (past s l)) ∙ part-is c r q h n
 
 -- the count over a list that holds each that passes once
-pub count_all : (g : Graph) (r : ℕ → Bool) (q : List ℕ) (n x : ℕ) → ((s : ℕ) → times s q ≡ bit (r s)) →
+pub count_all : (g : Graph) (r : ℕ → Bool) (q : List ℕ) (n x : ℕ) → ((s : ℕ) → occurrences s q ≡ bit (r s)) →
     ((s : ℕ) → n ≤ s → r s ≡ false) → count_of g q x ≡ counted_by r g x n
 count_all g r q n x h past =
     part-whole (λ s. counted_in g s x) n q (λ s l. h s ∙ ap bit (past s l))
     ∙ (part-is (λ s. counted_in g s x) r q h n ∙ costs-counted r g x n)
 
-any-gives : (p : ℕ → Bool) (q : List ℕ) → list_any p q ≡ true → (y : ℕ) × (1 ≤ times y q) × (p y ≡ true)
+any-gives : (p : ℕ → Bool) (q : List ℕ) → list_any p q ≡ true → (y : ℕ) × (1 ≤ occurrences y q) × (p y ≡ true)
 any-gives p [] h = absurd (cc)
 any-gives p (y ∷ q) h =
     elim (or_cases (p y) (list_any p q) h) [
-      | inl a ↦ (y, let one : bit (y == y) ≡ 1 = ap bit (eq-eqb y y refl) in let t = times-cons y y q in omega arith, a)
-      | inr b ↦ let r = any-gives p q b in (r.0, let t = times-cons r.0 y q in let o = r.1 in omega arith, r.2)
+      | inl a ↦ (y, let one : bit (y == y) ≡ 1 = ap bit (eq-eqb y y refl) in let t = occurrences-cons y y q in omega arith, a)
+      | inr b ↦ let r = any-gives p q b in (r.0, let t = occurrences-cons r.0 y q in let o = r.1 in omega arith, r.2)
     ]
 
-any-from : (p : ℕ → Bool) (q : List ℕ) (y : ℕ) → 1 ≤ times y q → p y ≡ true → list_any p q ≡ true
-any-from p [] y l h = absurd (let e = nil-times y in omega arith)
+any-from : (p : ℕ → Bool) (q : List ℕ) (y : ℕ) → 1 ≤ occurrences y q → p y ≡ true → list_any p q ≡ true
+any-from p [] y l h = absurd (let e = nil-occurrences y in omega arith)
 any-from p (z ∷ q) y l h =
-    elim (times-cases y z q l) [
+    elim (occurrences-cases y z q l) [
       | inl same ↦ or_left (p z) (list_any p q) (ap p same ∙ h)
       | inr m ↦ or_right (p z) (list_any p q) (any-from p q y m h)
     ]
@@ -161,7 +161,7 @@ passes : (b : Bool) (n : ℕ) → n ≡ bit b → 1 ≤ n → b ≡ true
 passes true n e h = refl
 passes false n e h = absurd (omega arith)
 
-pub any_all : (g : Graph) (r : ℕ → Bool) (q : List ℕ) (n x : ℕ) → ((s : ℕ) → times s q ≡ bit (r s)) →
+pub any_all : (g : Graph) (r : ℕ → Bool) (q : List ℕ) (n x : ℕ) → ((s : ℕ) → occurrences s q ≡ bit (r s)) →
     ((s : ℕ) → n ≤ s → r s ≡ false) → any_of g q x ≡ some_below (λ s. r s && is_naming_dir g s x) n
 any_all g r q n x h past =
     elim (cases_Bool (any_of g q x)) [
@@ -174,14 +174,14 @@ any_all g r q n x h past =
       | inr off ↦ off ∙ sym (some_below-none (λ s. r s && is_naming_dir g s x) n
           (λ s l. false_from_ne_true (r s && is_naming_dir g s x) (λ t.
           let p = and_parts (r s) (is_naming_dir g s x) t in
-          let o : times s q ≡ 1 = h s ∙ ap bit p.0 in
+          let o : occurrences s q ≡ 1 = h s ∙ ap bit p.0 in
           both_ways (any_of g q x) off (any-from (λ s. is_naming_dir g s x) q s (omega arith) p.1))))
     ]
 
 -- the two parts of a whole
 pub counted_both : (r : ℕ → Bool) (g : Graph) (x n : ℕ) → counted_by r g x n + counted_by (λ s. not (r s)) g x n
-    ≡ references_below g x n
-unfolding counted_by references_below
+    ≡ counted_below g x n
+unfolding counted_by counted_below
 counted_both r g x zero = refl
 counted_both r g x (suc n) =
     let h = counted_both r g x n in

@@ -18,7 +18,7 @@ use Rattle.ffs_volume.proofs.ClimbLaws.{
 }
 use Rattle.ffs_survey.specs.Survey.{number_at, bool_at}
 use Rattle.ffs_survey.specs.Discover.{bit}
-use Rattle.ffs_survey.specs.Cycles.{up_of, zeros, IsClosed, IsNew, Walked, FindsCycle, IsLeastOn, Marks}
+use Rattle.ffs_survey.specs.Cycles.{up_of, without_stamp, IsClosed, GotStamp, Walked, FindsCycle, IsLeastOn, MarksLeaders}
 
 -- the state of a walk: after `steps` steps from `start` it is at `place`, which has no stamp yet
 pub record Walking (f : ℕ → Option ℕ) (start mark steps place : ℕ) (old new : List ℕ) : Type 0 where
@@ -26,9 +26,9 @@ pub record Walking (f : ℕ → Option ℕ) (start mark steps place : ℕ) (old 
   pub free : number_at new place ≡ 0
   pub kept : (x : ℕ) → number_at old x ≢ 0 → number_at new x ≡ number_at old x
   pub fresh : (x : ℕ) → number_at old x ≡ 0 → number_at new x ≢ 0 → number_at new x ≡ mark
-  pub passed : (x : ℕ) → IsNew old new x → (i : ℕ) × (i < steps) × (climb f i start ≡ Some x)
+  pub passed : (x : ℕ) → GotStamp old new x → (i : ℕ) × (i < steps) × (climb f i start ≡ Some x)
   pub path : (i x : ℕ) → i < steps → climb f i start ≡ Some x → number_at new x ≡ mark
-  pub count : steps + zeros new ≡ zeros old
+  pub count : steps + without_stamp new ≡ without_stamp old
 
 pub cycle-back : (f : ℕ → Option ℕ) (j y p : ℕ) → IsOnCycle f y → climb f j y ≡ Some p → (m : ℕ) × (climb f m p ≡ Some y)
 cycle-back f j y p c h =
@@ -44,10 +44,10 @@ closed-climb f stamp zero x y c s h = let e : Some x ≡ Some y = sym (climb-zer
 closed-climb f stamp (suc k) x y c s h = let l = climb-last f k x y h in
     c.above l.0 y (closed-climb f stamp k x l.0 c s l.1) l.2
 
-pub zeros-set : (stamp : List ℕ) (x m : ℕ) → x < length stamp → number_at stamp x ≡ 0 → (m ≡ 0 → ⊥) →
-    zeros (set stamp x m) + 1 ≡ zeros stamp
-unfolding zeros
-zeros-set stamp x m l e n =
+pub without_stamp-set : (stamp : List ℕ) (x m : ℕ) → x < length stamp → number_at stamp x ≡ 0 → (m ≡ 0 → ⊥) →
+    without_stamp (set stamp x m) + 1 ≡ without_stamp stamp
+unfolding without_stamp
+without_stamp-set stamp x m l e n =
     let h = sum_by-set (λ y. bit (y == 0)) stamp x m 0 l in
     let one : bit (number_at stamp x == 0) ≡ 1 = ap bit (eq-eqb (number_at stamp x) 0 e) in
     let none : bit (m == 0) ≡ 0 = ap bit (ne_eqb m 0 n) in
@@ -58,9 +58,9 @@ pub record Stamped (f : ℕ → Option ℕ) (start mark steps place : ℕ) (old 
   pub place_is : climb f steps start ≡ Some place
   pub kept : (x : ℕ) → number_at old x ≢ 0 → number_at new x ≡ number_at old x
   pub fresh : (x : ℕ) → number_at old x ≡ 0 → number_at new x ≢ 0 → number_at new x ≡ mark
-  pub passed : (x : ℕ) → IsNew old new x → (i : ℕ) × (i ≤ steps) × (climb f i start ≡ Some x)
+  pub passed : (x : ℕ) → GotStamp old new x → (i : ℕ) × (i ≤ steps) × (climb f i start ≡ Some x)
   pub path : (i x : ℕ) → i ≤ steps → climb f i start ≡ Some x → number_at new x ≡ mark
-  pub count : suc steps + zeros new ≡ zeros old
+  pub count : suc steps + without_stamp new ≡ without_stamp old
 
 pub stamped : (f : ℕ → Option ℕ) (start mark steps place : ℕ) (old new : List ℕ) → mark ≢ 0 → place < length new →
     Walking f start mark steps place old new → Stamped f start mark steps place old (set new place mark)
@@ -87,7 +87,7 @@ stamped f start mark steps place old new m l w = record {
           ∙ (ap (λ k. climb f k start) q ∙ w.place_is) in n (cc))
     ]
   ];
-  count = let z = zeros-set new place mark l w.free m in let c = w.count in omega arith;
+  count = let z = without_stamp-set new place mark l w.free m in let c = w.count in omega arith;
 }
 
 -- the next place has no stamp: the walk continues
@@ -139,7 +139,7 @@ walked f start mark steps place old new m c s e = record {
 
 -- a new one on a cycle is above what is above the last place
 pub above_last : (f : ℕ → Option ℕ) (start mark steps place x next : ℕ) (old new : List ℕ) →
-    Stamped f start mark steps place old new → f place ≡ Some next → IsNew old new x → IsOnCycle f x →
+    Stamped f start mark steps place old new → f place ≡ Some next → GotStamp old new x → IsOnCycle f x →
     (k : ℕ) × (climb f k next ≡ Some x)
 above_last f start mark steps place x next old new s h i c =
     let p = s.passed x i in
@@ -151,7 +151,7 @@ above_last f start mark steps place x next old new s h i c =
 
 -- nothing above: no cycle
 pub no_cycle_end : (f : ℕ → Option ℕ) (start mark steps place x : ℕ) (old new : List ℕ) →
-    Stamped f start mark steps place old new → f place ≡ None → IsNew old new x → IsOnCycle f x → ⊥
+    Stamped f start mark steps place old new → f place ≡ None → GotStamp old new x → IsOnCycle f x → ⊥
 no_cycle_end f start mark steps place x old new s h i c =
     let p = s.passed x i in
     let b = p.1 in
@@ -164,7 +164,7 @@ no_cycle_end f start mark steps place x old new s h i c =
 
 -- an older stamp above: no cycle
 pub no_cycle_old : (f : ℕ → Option ℕ) (start mark steps place next x : ℕ) (old new : List ℕ) → IsClosed f old →
-    Stamped f start mark steps place old new → f place ≡ Some next → number_at old next ≢ 0 → IsNew old new x →
+    Stamped f start mark steps place old new → f place ≡ Some next → number_at old next ≢ 0 → GotStamp old new x →
     IsOnCycle f x → ⊥
 no_cycle_old f start mark steps place next x old new cl s h o i c =
     let k = above_last f start mark steps place x next old new s h i c in
@@ -175,7 +175,7 @@ pub finds_cycle : (f : ℕ → Option ℕ) (start mark steps place next n : ℕ)
     Stamped f start mark steps place old new → f place ≡ Some next → number_at old next ≡ 0 → number_at new next ≡ mark
     → next < n → FindsCycle f n old new next
 finds_cycle f start mark steps place next n old new m l s h o e low =
-    let i : IsNew old new next = record { was = o; is = (λ z. m (sym e ∙ z)) } in
+    let i : GotStamp old new next = record { was = o; is = (λ z. m (sym e ∙ z)) } in
     let p = s.passed next i in
     let b = p.1 in
     let q : suc (steps - p.0) + p.0 ≡ suc steps = omega arith in
@@ -219,11 +219,11 @@ up_of-some parents x e l = cond-false ((number_at parents x == 0) || nat_le (len
     (false_from_ne_true (nat_le (length parents) (number_at parents x))
     (λ t. absurd (let b = leb-true (length parents) (number_at parents x) t in omega arith))))
 
-pub zeros-le : (xs : List ℕ) → zeros xs ≤ length xs
-unfolding zeros
-zeros-le [] = omega arith
-zeros-le (zero ∷ r) = let e = sum_by-cons (λ y. bit (y == 0)) 0 r in let h = zeros-le r in omega arith
-zeros-le (suc x ∷ r) = let e = sum_by-cons (λ y. bit (y == 0)) (suc x) r in let h = zeros-le r in
+pub without_stamp-le : (xs : List ℕ) → without_stamp xs ≤ length xs
+unfolding without_stamp
+without_stamp-le [] = omega arith
+without_stamp-le (zero ∷ r) = let e = sum_by-cons (λ y. bit (y == 0)) 0 r in let h = without_stamp-le r in omega arith
+without_stamp-le (suc x ∷ r) = let e = sum_by-cons (λ y. bit (y == 0)) (suc x) r in let h = without_stamp-le r in
     let z : bit (suc x == 0) ≡ 0 = ap bit (ne_eqb (suc x) 0 (λ q. absurd (omega arith))) in omega arith
 
 -- the stamp of what lies above, where it is an old one and where it is not
@@ -327,8 +327,8 @@ unstamped f start mark old new x w z =
 
 -- a walk that found no cycle
 pub marks_none : (f : ℕ → Option ℕ) (n start mark : ℕ) (old new : List ℕ) (leader : List Bool) →
-    Walked f start mark old new → ((x : ℕ) → IsNew old new x → IsOnCycle f x → ⊥) → Marks f n old leader →
-    Marks f n new leader
+    Walked f start mark old new → ((x : ℕ) → GotStamp old new x → IsOnCycle f x → ⊥) → MarksLeaders f n old leader →
+    MarksLeaders f n new leader
 marks_none f n start mark old new leader w none m = record {
   long = m.long;
   known = λ x s. elim (cases_eq (number_at old x) 0) [
@@ -343,7 +343,7 @@ marks_none f n start mark old new leader w none m = record {
 -- a walk that found one
 pub marks_found : (f : ℕ → Option ℕ) (n start mark found e : ℕ) (old new : List ℕ) (leader : List Bool) →
     e < length leader → IsClosed f old → Walked f start mark old new → FindsCycle f n old new found →
-    IsLeastOn f n found e → Marks f n old leader → Marks f n new (set leader e true)
+    IsLeastOn f n found e → MarksLeaders f n old leader → MarksLeaders f n new (set leader e true)
 marks_found f n start mark found e old new leader l c w g i m = record {
   long = length-set leader e true ∙ m.long;
   known = λ x s. elim (cases_eq x e) [

@@ -12,15 +12,15 @@ up_of parents x = cond ((number_at parents x == 0)
     || nat_le (length parents) (number_at parents x)) None (Some (number_at parents x))
 
 -- how many are 0
-unfoldable pub zeros : List ℕ → ℕ
-zeros xs = sum_by (λ y. bit (y == 0)) xs
+unfoldable pub without_stamp : List ℕ → ℕ
+without_stamp xs = sum_by (λ y. bit (y == 0)) xs
 
 -- what is above a stamped number is stamped
 pub record IsClosed (f : ℕ → Option ℕ) (stamp : List ℕ) : Type 0 where
   pub above : (x y : ℕ) → number_at stamp x ≢ 0 → f x ≡ Some y → number_at stamp y ≢ 0
 
 -- x got its stamp between the two
-pub record IsNew (old new : List ℕ) (x : ℕ) : Type 0 where
+pub record GotStamp (old new : List ℕ) (x : ℕ) : Type 0 where
   pub was : number_at old x ≡ 0
   pub is : number_at new x ≢ 0
 
@@ -50,10 +50,10 @@ pub record ComesBack (parents : List ℕ) (found : ℕ) : Type 0 where
 -- `found` is on a cycle, and each newly stamped number on a cycle is on that one
 pub record FindsCycle (f : ℕ → Option ℕ) (n : ℕ) (old new : List ℕ) (found : ℕ) : Type 0 where
   pub low : found < n
-  pub fresh : IsNew old new found
+  pub fresh : GotStamp old new found
   pub cycle : IsOnCycle f found
   pub short : cycle.length < n
-  pub only : (x : ℕ) → IsNew old new x → IsOnCycle f x → (k : ℕ) × (climb f k found ≡ Some x)
+  pub only : (x : ℕ) → GotStamp old new x → IsOnCycle f x → (k : ℕ) × (climb f k found ≡ Some x)
 
 -- e is the least number on the cycle of `found`
 pub record IsLeastOn (f : ℕ → Option ℕ) (n found e : ℕ) : Type 0 where
@@ -63,13 +63,13 @@ pub record IsLeastOn (f : ℕ → Option ℕ) (n found e : ℕ) : Type 0 where
   pub on : (k : ℕ) × (climb f k found ≡ Some e)
 
 -- there is a stamp and a mark for each parent
-pub record CanMark (parents stamp : List ℕ) (leaders : List Bool) : Type 0 where
+pub record CanMarkLeaders (parents stamp : List ℕ) (leaders : List Bool) : Type 0 where
   pub few : length parents < 2 ^ 31
   pub stamps : length stamp ≡ length parents
   pub leaders_long : length leaders ≡ length parents
 
 -- the marks of leaders, where all that is stamped is known
-pub record Marks (f : ℕ → Option ℕ) (n : ℕ) (stamp : List ℕ) (leader : List Bool) : Type 0 where
+pub record MarksLeaders (f : ℕ → Option ℕ) (n : ℕ) (stamp : List ℕ) (leader : List Bool) : Type 0 where
   pub long : length leader ≡ n
   pub known : (x : ℕ) → number_at stamp x ≢ 0 → bool_at leader x ≡ is_leader_within f n x
   pub blank : (x : ℕ) → number_at stamp x ≡ 0 → bool_at leader x ≡ false

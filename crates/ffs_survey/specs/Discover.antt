@@ -18,17 +18,14 @@ pub record Found : Type 0 where
   pub calm : List Bool
   pub queue : List ℕ
 
-abbrev pub found_of : List ℕ → List Bool → List Bool → List ℕ → List Bool → List ℕ → Found
-found_of f n r p c q = record { references = f; named = n; reached = r; parents = p; calm = c; queue = q }
-
 -- 1 for true
 abbrev pub bit : Bool → ℕ
 bit true = 1
 bit false = 0
 
 -- how often x occurs in a list
-unfoldable pub times : ℕ → List ℕ → ℕ
-times x q = sum_by (λ y. bit (y == x)) q
+unfoldable pub occurrences : ℕ → List ℕ → ℕ
+occurrences x q = sum_by (λ y. bit (y == x)) q
 
 -- how many are false
 unfoldable pub unset : List Bool → ℕ
@@ -53,8 +50,8 @@ pub record Comes (a : ℕ → Option ℕ) (r : List Bool) (p q : List ℕ) (c : 
   pub reached : (x : ℕ) → (bool_at r' x || is_some (c x)) ≡ (bool_at r x || is_some (a x))
   pub parent : (x : ℕ) → cond (bool_at r' x) (number_at p' x) (unwrap_or (c x) (number_at p' x))
       ≡ cond (bool_at r x) (number_at p x) (unwrap_or (a x) (number_at p x))
-  pub queue : (x : ℕ) → times x q' + bit (is_some (c x) && not (bool_at r' x))
-      ≡ times x q + bit (is_some (a x) && not (bool_at r x))
+  pub queue : (x : ℕ) → occurrences x q' + bit (is_some (c x) && not (bool_at r' x))
+      ≡ occurrences x q + bit (is_some (a x) && not (bool_at r x))
 
 -- how many of these entries that count name x, and whether a plain one does
 abbrev pub count_in : List RoledEntry → ℕ → ℕ
@@ -98,11 +95,11 @@ pub record IsCount (g : Graph) (ss : List ℕ) (starts f : List ℕ) (m : List B
 -- each number of an ascending list is before no smaller one
 abbrev pub Rising : List ℕ → Type 0
 Rising [] = Unit {0}
-Rising (x ∷ xs) = ((t : ℕ) → 1 ≤ times t xs → x ≤ t) × Rising xs
+Rising (x ∷ xs) = ((t : ℕ) → 1 ≤ occurrences t xs → x ≤ t) × Rising xs
 
 -- the directories of level k, each once, ascending
 pub record IsFrontier (g : Graph) (k : ℕ) (xs : List ℕ) : Type 0 where
-  pub members : (x : ℕ) → times x xs ≡ bit (is_value (level g x) k)
+  pub members : (x : ℕ) → occurrences x xs ≡ bit (is_value (level g x) k)
   pub rising : Rising xs
 
 -- the parents when all levels up to k are known
@@ -114,7 +111,7 @@ parent_at g k x = cond (within g k x) (parent g x) None
 pub record LevelsKnown (g : Graph) (k : ℕ) (r : List Bool) (p q : List ℕ) : Type 0 where
   pub reached : (x : ℕ) → bool_at r x ≡ within g k x
   pub parent : (x : ℕ) → number_at p x ≡ unwrap_or (parent_at g k x) 0
-  pub queue : (x : ℕ) → times x q ≡ bit (bool_at r x)
+  pub queue : (x : ℕ) → occurrences x q ≡ bit (bool_at r x)
 
 -- how many entries of those directories below n that pass name x
 unfoldable pub counted_by : (ℕ → Bool) → Graph → ℕ → ℕ → ℕ
@@ -180,9 +177,9 @@ pub record IsReachedDir (kinds : List ℕ) (r : List Bool) (d : ℕ) : Type 0 wh
   pub marked : bool_at r d ≡ true
 
 -- nothing is found yet, and no count of references is past the greatest start
-pub record NothingFound (f : List ℕ) (n r : List Bool) (p : List ℕ) (flags : List Bool) : Type 0 where
-  pub starts : (x : ℕ) → number_at f x ≤ most_start
-  pub named : (x : ℕ) → bool_at n x ≡ false
-  pub reached : (x : ℕ) → bool_at r x ≡ false
-  pub parents : (x : ℕ) → number_at p x ≡ 0
-  pub calm : (x : ℕ) → bool_at flags x ≡ false
+pub record NothingFound (found : Found) : Type 0 where
+  pub starts : (x : ℕ) → number_at found.references x ≤ most_start
+  pub named : (x : ℕ) → bool_at found.named x ≡ false
+  pub reached : (x : ℕ) → bool_at found.reached x ≡ false
+  pub parents : (x : ℕ) → number_at found.parents x ≡ 0
+  pub calm : (x : ℕ) → bool_at found.calm x ≡ false

@@ -1,5 +1,5 @@
 -- What the reading of directories makes of what a survey has found.
-use Rattle.std.specs.Prelude.{◌≡◌, ℕ, ◌+◌, ◌<◌, ◌==◌, Bool, ◌&&◌, cond, List, length, take, drop}
+use Rattle.std.specs.Prelude.{◌≡◌, ℕ, ◌+◌, ◌<◌, ◌≤◌, ◌==◌, Bool, ◌&&◌, cond, List, length, take, drop}
 use Rattle.ffs_volume.specs.Directories.Roles.{RoledEntry}
 use Rattle.ffs_survey.specs.Survey.{bool_at, number_at, graph_with}
 use Rattle.ffs_survey.specs.Calm.{are_calm, AreCalm, IsFlagged}
@@ -18,10 +18,12 @@ pub record ReadsReached (kinds : List ℕ) (marked : List Bool) (d : ℕ) (entri
       (bool_at old.reached) 0 entries) sound old.calm new.calm
 
 -- what the reading of reached directories makes of what was found, as `reads` says it: no count below n grows by more
--- than `most`, and the queue, which ended at `top`, ends at `end`, with all that is newly reached
+-- than `most`, and the queue, which ended at `top`, keeps what it had and ends at `end`, with all that is newly reached
 pub record Discovers (n most top end : ℕ) (reads : Found → Found → Type 0) (old new : Found) : Type 0 where
   pub grown : GrowsBy n most old.references new.references
   pub ends : end + unset new.reached ≡ top + unset old.reached
+  pub ordered : top ≤ end
+  pub kept : take top new.queue ≡ old.queue
   pub read : reads old new
 
 -- what the reading of a level makes of what was found, as `reads` says it: the queue keeps what it had up to `high`,
@@ -66,8 +68,9 @@ pub record ReadsAllReached (kinds : List ℕ) (marked : List Bool) (entries : �
   pub calm : AreCalm kinds marked new.reached new.parents entries sound new.calm
 
 -- the directory d with these entries, which isn't reached, is read
-pub record ReadsUnreached (kinds : List ℕ) (r : List Bool) (d : ℕ) (entries : List RoledEntry) (f : List ℕ)
-    (m : List Bool) (p f' : List ℕ) (m' : List Bool) (p' : List ℕ) : Type 0 where
-  pub counts : Counts (length kinds) (count_in entries) (any_in entries) f m none never f' m'
-  pub parents : (x : ℕ) → x < length kinds → number_at p' x
-      ≡ cond ((number_at p x == 0) && (is_free kinds r x && any_in entries x)) d (number_at p x)
+pub record ReadsUnreached (kinds : List ℕ) (d : ℕ) (entries : List RoledEntry) (old new : Found) : Type 0 where
+  pub counts : Counts (length kinds) (count_in entries) (any_in entries) old.references old.named none never
+      new.references new.named
+  pub parents : (x : ℕ) → x < length kinds → number_at new.parents x
+      ≡ cond ((number_at old.parents x == 0) && (is_free kinds old.reached x && any_in entries x)) d
+      (number_at old.parents x)

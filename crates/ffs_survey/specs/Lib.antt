@@ -3,6 +3,7 @@ pub mod Reading
 pub mod Discover
 pub mod Cycles
 pub mod Lists
+pub mod Lent
 pub mod SurveyLaws
 pub mod ParentLaws
 pub mod Calm

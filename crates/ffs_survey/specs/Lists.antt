@@ -3,23 +3,6 @@ use Rattle.std.specs.Prelude.{◌≡◌, ℕ, ◌+◌, ◌<◌, ◌≤◌, ◌^�
 use Rattle.ffs_volume.specs.Directories.Climb.{is_leader_within}
 use Rattle.ffs_survey.specs.Survey.{bool_at, number_at}
 use Rattle.ffs_survey.specs.Cycles.{up_of}
-use Rattle.ffs_survey.specs.Discover.{unset}
-
--- which inodes are marked, and which are reached
-pub record MarkLists (kinds : List ℕ) (m r : List Bool) : Type 0 where
-  pub marked : length m ≡ length kinds
-  pub reached : length r ≡ length kinds
-
--- which inodes are reached, and their parents
-pub record TreeLists (kinds : List ℕ) (r : List Bool) (p : List ℕ) : Type 0 where
-  pub reached : length r ≡ length kinds
-  pub parents : length p ≡ length kinds
-
--- the lists of the tree, and a queue that has room after `top` for each inode that isn't reached
-pub record QueueLists (kinds : List ℕ) (r : List Bool) (p : List ℕ) (top : ℕ) (q : List ℕ) : Type 0 where
-  pub reached : length r ≡ length kinds
-  pub parents : length p ≡ length kinds
-  pub room : top + unset r ≤ length q
 
 -- the references of each inode and whether an entry names it: one more reference of x fits
 pub record CountLists (kinds f : List ℕ) (n : List Bool) (x : ℕ) : Type 0 where
@@ -27,26 +10,9 @@ pub record CountLists (kinds f : List ℕ) (n : List Bool) (x : ℕ) : Type 0 wh
   pub named : length n ≡ length kinds
   pub room : x < length kinds → number_at f x + 1 < 2 ^ 64
 
--- the references of each inode, at most so many, and whether an entry names it; and the lists of the tree
-pub record EntryLists (most : ℕ) (kinds f : List ℕ) (n r : List Bool) (p : List ℕ) : Type 0 where
-  pub references : length f ≡ length kinds
-  pub named : length n ≡ length kinds
-  pub reached : length r ≡ length kinds
-  pub parents : length p ≡ length kinds
-  pub few : (x : ℕ) → x < length kinds → number_at f x ≤ most
-
--- those lists, and which inodes are marked
-pub record LevelLists (most : ℕ) (kinds : List ℕ) (m : List Bool) (f : List ℕ) (n r : List Bool) (p : List ℕ) : Type 0
-  where
-    pub marked : length m ≡ length kinds
-    pub references : length f ≡ length kinds
-    pub named : length n ≡ length kinds
-    pub reached : length r ≡ length kinds
-    pub parents : length p ≡ length kinds
-    pub few : (x : ℕ) → x < length kinds → number_at f x ≤ most
-
 -- all lists of a survey: inode 2 is there, and numbers of inodes and places in the queue fit into 31 bits
-pub record SurveyLists (kinds : List ℕ) (m : List Bool) (f : List ℕ) (n r : List Bool) (p q : List ℕ) : Type 0 where
+pub record AreLists (kinds : List ℕ) (m : List Bool) (f : List ℕ) (n r : List Bool) (p : List ℕ) (c : List Bool) (q : List ℕ)
+    : Type 0 where
   pub some : 2 < length kinds
   pub few : length kinds < 2 ^ 31
   pub marked : length m ≡ length kinds
@@ -54,6 +20,7 @@ pub record SurveyLists (kinds : List ℕ) (m : List Bool) (f : List ℕ) (n r : 
   pub named : length n ≡ length kinds
   pub reached : length r ≡ length kinds
   pub parents : length p ≡ length kinds
+  pub calm : length c ≡ length kinds
   pub queue : length q ≡ length kinds
 
 -- which inodes are marked, and which an entry names
@@ -62,7 +29,7 @@ pub record DeadLists (kinds : List ℕ) (m n : List Bool) : Type 0 where
   pub named : length n ≡ length kinds
 
 -- what a survey found, and for each inode whether it is the least number on a cycle of parents
-pub record FoundLists (kinds : List ℕ) (m n r : List Bool) (p : List ℕ) (leaders : List Bool) : Type 0 where
+pub record AreSurveyed (kinds : List ℕ) (m n r : List Bool) (p : List ℕ) (leaders : List Bool) : Type 0 where
   pub marked : length m ≡ length kinds
   pub named : length n ≡ length kinds
   pub reached : length r ≡ length kinds

@@ -23,13 +23,13 @@ graph_with kinds entries = record { count = length kinds; is_dir = dir_at kinds;
 abbrev pub counted_in : Graph → ℕ → ℕ → ℕ
 counted_in g s x = if g.is_dir s then count_by (refers x) (g.entries s) else 0
 
-unfoldable pub references_below : Graph → ℕ → ℕ → ℕ
-references_below g x zero = 0
-references_below g x (suc s) = references_below g x s + counted_in g s x
+unfoldable pub counted_below : Graph → ℕ → ℕ → ℕ
+counted_below g x zero = 0
+counted_below g x (suc s) = counted_below g x s + counted_in g s x
 
 -- how many entries refer to x
 abbrev pub references_to : Graph → ℕ → ℕ
-references_to g x = references_below g x g.count
+references_to g x = counted_below g x g.count
 
 -- the most that a count of references starts at
 abbrev pub most_start : ℕ

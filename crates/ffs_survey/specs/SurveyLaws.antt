@@ -10,12 +10,12 @@ use Rattle.ffs_volume.specs.declared.Class.{Class}
 use Rattle.ffs_volume.specs.declared.Class.TheVariants.{Free, Partial, Unknown, File, Dir}
 use Rattle.ffs_volume.specs.Blocks.Inodes.{inode_of, class_of, type_of, is_known_type, any_nonzero, is_directory}
 use Rattle.ffs_volume.specs.Directories.Roles.{Volume, RoledEntry, roled_entries, is_dir, is_suspect, refers}
-use Rattle.ffs_volume.specs.Directories.Roles.{references, references_below as volume_references_below}
+use Rattle.ffs_volume.specs.Directories.Roles.{references, references_below}
 use Rattle.ffs_volume.specs.Directories.Volumes.{class_at, marked_at, volume_of, volume_with}
 use Rattle.ffs_volume.specs.Directories.Graph.{Graph}
 use Rattle.ffs_volume.specs.Directories.Parents.{graph_of}
 use Rattle.ffs_survey.specs.Survey.{bool_at, number_at, is_dir_kind, dir_at, suspect_at}
-use Rattle.ffs_survey.specs.Survey.{graph_with, references_below, references_to, IsSurvey}
+use Rattle.ffs_survey.specs.Survey.{graph_with, counted_below, references_to, IsSurvey}
 
 -- the graph of a volume's directories, from kinds and entries
 pub graph_is : (v : Volume) (kinds : List ℕ) (entries : ℕ → List RoledEntry) → length kinds ≡ v.count
@@ -37,10 +37,10 @@ survey_is v kinds entries starts f m r p n d e s = subst (λ g. IsSurvey g start
 
 -- the references of the graph are the volume's
 pub references_is : (v : Volume) (x : ℕ) → references_to (graph_of v) x ≡ references v x
-unfolding references_below volume_references_below
+unfolding counted_below references_below
 references_is v x = go v.count
   where
-    go : (n : ℕ) → references_below (graph_of v) x n ≡ volume_references_below v x n
+    go : (n : ℕ) → counted_below (graph_of v) x n ≡ references_below v x n
     go zero = refl
     go (suc n) = ap (λ k. k + (if is_dir v n then count_by (refers x) (roled_entries v n) else 0)) (go n)
 

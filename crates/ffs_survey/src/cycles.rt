@@ -2,7 +2,7 @@
 ghost use Rattle.std.specs.Prelude.{◌≡◌, ◌<◌, ◌+◌, ℕ, length, MatchOption, false, vec_len};
 ghost use Rattle.ffs_volume.specs.Directories.Climb.{IsOnCycle, is_leader_within};
 ghost use Rattle.ffs_survey.specs.Survey.{bool_at};
-ghost use Rattle.ffs_survey.specs.Cycles.{up_of, CanFollow, ComesBack, IsNew, CanMark, Walked, FindsCycle, IsLeastOn, Marks};
+ghost use Rattle.ffs_survey.specs.Cycles.{up_of, CanFollow, ComesBack, GotStamp, CanMarkLeaders, Walked, FindsCycle, IsLeastOn, MarksLeaders};
 
 use crate::numbers::number_of;
 use ffs_memory::FilledList;
@@ -15,7 +15,7 @@ fn walk(start: u32, parents: &FilledList<u32>, stamp: &mut FilledList<u32>) -> O
         stamp.new.items }
     ensures stamps_long { vec_len stamp.new ≡ vec_len stamp.old }
     ensures cycle { MatchOption result
-        ((x : ℕ) → IsNew stamp.old.items stamp.new.items x
+        ((x : ℕ) → GotStamp stamp.old.items stamp.new.items x
         → IsOnCycle (up_of parents.now.items) x → ⊥)
         (λ found. FindsCycle (up_of parents.now.items) (length parents.now.items) stamp.old.items
         stamp.new.items found) }
@@ -70,12 +70,12 @@ fn mark_from(
     leaders: &mut [bool],
 )
     requires walk { CanFollow parents.now.items stamp.old.items start }
-    requires marks { Marks (up_of parents.now.items) (length parents.now.items) stamp.old.items
+    requires marks { MarksLeaders (up_of parents.now.items) (length parents.now.items) stamp.old.items
         leaders.old }
     ensures walked { Walked (up_of parents.now.items) start (start + 1) stamp.old.items
         stamp.new.items }
     ensures stamps_long { vec_len stamp.new ≡ vec_len stamp.old }
-    ensures marks { Marks (up_of parents.now.items) (length parents.now.items) stamp.new.items
+    ensures marks { MarksLeaders (up_of parents.now.items) (length parents.now.items) stamp.new.items
         leaders.new }
 {
     let Some(found) = walk(start, parents, stamp) else {
@@ -88,7 +88,7 @@ fn mark_from(
 /// Marks each number that is the least on a cycle of parents, in time linear in their number. A
 /// parent of 0, or past the list, is none. What `stamp` and `leaders` held before is forgotten.
 pub fn mark_leaders(parents: &FilledList<u32>, stamp: &mut FilledList<u32>, leaders: &mut [bool])
-    requires { CanMark parents.now.items stamp.old.items leaders.old }
+    requires { CanMarkLeaders parents.now.items stamp.old.items leaders.old }
     ensures leads { (x : ℕ) → bool_at leaders.new x
         ≡ is_leader_within (up_of parents.now.items) (length parents.now.items) x }
     ensures stamps_long { vec_len stamp.new ≡ vec_len stamp.old }

@@ -2,8 +2,9 @@
 ghost use Rattle.std.specs.Prelude.{◌≡◌, ◌≢◌, ◌<◌, length, MatchOption};
 ghost use Rattle.ffs_volume.specs.Directories.Graph.{Graph, is_dead_in, is_unref_dir_in};
 ghost use Rattle.ffs_survey.specs.Survey.{suspect_at, IsTree, AreNamed, number_at};
-ghost use Rattle.ffs_survey.specs.Lists.{DeadLists, FoundLists};
+ghost use Rattle.ffs_survey.specs.Lists.{DeadLists};
 
+use crate::lists::Surveyed;
 use crate::named::is_dir;
 use crate::numbers::number_of;
 use ffs_memory::FilledList;
@@ -19,7 +20,7 @@ pub fn is_suspect(kinds: &[u8], marked: &[bool], number: usize) -> bool
 }
 
 /// Whether an inode is dead: suspect, not the root, and named by no plain entry.
-pub fn is_dead(number: u32, kinds: &[u8], marked: &[bool], named: &[bool]) -> bool
+pub fn is_dead(kinds: &[u8], marked: &[bool], named: &[bool], number: u32) -> bool
     requires number { number < length kinds.now }
     requires lists { DeadLists kinds.now marked.now named.now }
     ensures { (graph : Graph) → AreNamed graph kinds.now named.now → result
@@ -39,42 +40,32 @@ fn parent_of(parents: &FilledList<u32>, dir: u32) -> Option<u32>
 
 /// Whether a directory is reported as unreferenced: neither reached nor dead, and without a parent,
 /// with a dead one, or the least number on a cycle of parents.
-pub fn is_unref(
-    dir: u32,
-    kinds: &[u8],
-    marked: &[bool],
-    named: &[bool],
-    reached: &[bool],
-    parents: &FilledList<u32>,
-    leaders: &[bool],
-) -> bool
-    requires dir { dir < length kinds.now }
-    requires lists { FoundLists kinds.now marked.now named.now reached.now parents.now.items
-        leaders.now }
-    ensures { (graph : Graph) → AreNamed graph kinds.now named.now
-        → IsTree graph kinds.now reached.now parents.now.items → result
-        ≡ is_unref_dir_in graph (suspect_at kinds.now marked.now) dir }
+pub fn is_unref(dir: u32, found: &Surveyed<'_>) -> bool
+    requires { dir < length found.now.kinds.now }
+    ensures { (graph : Graph) → AreNamed graph found.now.kinds.now found.now.named.now
+        → IsTree graph found.now.kinds.now found.now.reached.now found.now.parents.now.items
+        → result ≡ is_unref_dir_in graph (suspect_at found.now.kinds.now found.now.marked.now) dir }
 {
-    if !is_dir(kinds, dir as usize) {
+    if !is_dir(found.kinds, dir as usize) {
         return false;
     }
     if dir == ROOTINO {
         return false;
     }
-    if reached[dir as usize] {
+    if found.reached[dir as usize] {
         return false;
     }
-    if is_dead(dir, kinds, marked, named) {
+    if is_dead(found.kinds, found.marked, found.named, dir) {
         return false;
     }
-    let Some(above) = parent_of(parents, dir) else {
+    let Some(above) = parent_of(found.parents, dir) else {
         return true;
     };
-    if above as usize >= kinds.len() {
+    if above as usize >= found.kinds.len() {
         return true;
     }
-    if is_dead(above, kinds, marked, named) {
+    if is_dead(found.kinds, found.marked, found.named, above) {
         return true;
     }
-    leaders[dir as usize]
+    found.leaders[dir as usize]
 }

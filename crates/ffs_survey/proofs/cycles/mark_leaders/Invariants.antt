@@ -1,6 +1,6 @@
 use Rattle.std.proofs.Common.{◌≡◌, ◌≢◌, vec_len, ℕ, ◌<◌, ◌≤◌, length, All}
 use Rattle.ffs_survey.specs.Survey.{number_at}
-use Rattle.ffs_survey.specs.Cycles.{up_of, IsClosed, Marks}
+use Rattle.ffs_survey.specs.Cycles.{up_of, IsClosed, MarksLeaders}
 use Rattle.ffs_survey.proofs.cycles.mark_leaders.Given as goal
 
 abbrev pub invariant-loop-start : goal.invariant-loop-start
@@ -9,5 +9,5 @@ invariant-loop-start l = record {
   closed : IsClosed (up_of l.parents.items) l.stamp.items;
   older : All (λ s. s ≤ l.start) l.stamp.items;
   begun : (x : ℕ) → x < l.start → number_at l.stamp.items x ≢ 0;
-  marks : Marks (up_of l.parents.items) (length l.parents.items) l.stamp.items l.leaders;
+  marks : MarksLeaders (up_of l.parents.items) (length l.parents.items) l.stamp.items l.leaders;
 }

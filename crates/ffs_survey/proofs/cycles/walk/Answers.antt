@@ -3,9 +3,9 @@ use Rattle.std.proofs.Common.{inl, inr}
 use Rattle.ffs_volume.specs.Directories.Climb.{IsOnCycle}
 use Rattle.std.specs.Prelude.{suc}
 use Rattle.ffs_survey.specs.Survey.{number_at}
-use Rattle.ffs_survey.specs.Cycles.{up_of, zeros, IsNew, IsClosed, Walked}
+use Rattle.ffs_survey.specs.Cycles.{up_of, without_stamp, GotStamp, IsClosed, Walked}
 use Rattle.ffs_survey.proofs.Walks.{up_of-none, up_of-some, Walking, Stamped, stamped, walked, walks_on, walk_start}
-use Rattle.ffs_survey.proofs.Walks.{no_cycle_end, no_cycle_old, finds_cycle, zeros-le, zeros-set, stamp_old, stamp_new}
+use Rattle.ffs_survey.proofs.Walks.{no_cycle_end, no_cycle_old, finds_cycle, without_stamp-le, without_stamp-set, stamp_old, stamp_new}
 use Rattle.ffs_survey.proofs.cycles.walk.Goals as goal
 
 -- what is known once the place is stamped
@@ -23,7 +23,7 @@ here parent start steps place old new now b lo ln c w is =
     record {
       state = subst (λ xs. Stamped (up_of parent) start (start + 1) steps place old xs) (sym is) s;
       closed = c;
-      short = let k = s.count in omega (arith, k, zeros-le old);
+      short = let k = s.count in omega (arith, k, without_stamp-le old);
     }
 
 mark_some : (start : ℕ) → start + 1 ≢ 0
@@ -32,7 +32,7 @@ mark_some start = λ z. absurd (omega arith)
 pub walked_none : (parent : List ℕ) (start steps place : ℕ) (old now : List ℕ) → Here parent start steps place old now →
     (number_at parent place ≡ 0) ⊎ (length parent ≤ number_at parent place)
     → Walked (up_of parent) start (start + 1) old now
-    × ((x : ℕ) → IsNew old now x → IsOnCycle (up_of parent) x → ⊥)
+    × ((x : ℕ) → GotStamp old now x → IsOnCycle (up_of parent) x → ⊥)
 walked_none parent start steps place old now h z =
     let e = up_of-none parent place z in (
       walked (up_of parent) start (start + 1) steps place old now (mark_some start) h.closed h.state
@@ -135,9 +135,9 @@ overflow_add-steps c =
 
 pub up-smaller : goal.up-smaller
 up-smaller c =
-    let z = zeros-set c.up.stamp.items c.up.place (c.args.start + 1) (omega arith) c.up.invariant.walking.free
+    let z = without_stamp-set c.up.stamp.items c.up.place (c.args.start + 1) (omega arith) c.up.invariant.walking.free
     (mark_some c.args.start) in
-    omega (arith, z, ap zeros c.set.ensures.items)
+    omega (arith, z, ap without_stamp c.set.ensures.items)
 
 pub up-preserved : goal.up-preserved
 up-preserved c =

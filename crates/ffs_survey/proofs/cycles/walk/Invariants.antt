@@ -1,5 +1,5 @@
 use Rattle.std.proofs.Common.{◌≡◌, ◌+◌, ◌<◌, length, vec_len}
-use Rattle.ffs_survey.specs.Cycles.{up_of, zeros}
+use Rattle.ffs_survey.specs.Cycles.{up_of, without_stamp}
 use Rattle.ffs_survey.proofs.Walks.{Walking}
 use Rattle.ffs_survey.proofs.cycles.walk.Given as goal
 
@@ -11,4 +11,4 @@ invariant-up l = record {
 }
 
 abbrev pub decreases-up : goal.decreases-up
-decreases-up l = zeros l.stamp.items
+decreases-up l = without_stamp l.stamp.items

@@ -1,9 +1,10 @@
-use Rattle.std.proofs.Common.{arith, ◌∙◌, rules, ◌≡◌, ◌∷◌, ◌<◌, List, ℕ, length}
+use Rattle.std.proofs.Common.{arith, ap, ◌∙◌, rules, ◌≡◌, ◌∷◌, ◌<◌, List, ℕ, length}
 use Rattle.ffs_volume.specs.Directories.Roles.{RoledEntry, refers}
 use Rattle.ffs_volume.specs.Directories.Graph.{is_naming_entry}
 use Rattle.ffs_survey.specs.Reading.{roled_of}
 use Rattle.ffs_survey.specs.Survey.{number_at}
 use Rattle.ffs_survey.specs.Discover.{any_in, is_free}
+use Rattle.ffs_survey.specs.Lent.{Lent}
 use Rattle.ffs_survey.proofs.Tally.{entry_counted, bit-le, parent_step}
 use Rattle.ffs_survey.proofs.discover.read_unreached.Goals as goal
 
@@ -17,6 +18,12 @@ loop-entry-preserved g c =
     let cut = λ (b : List ℕ) (k : g.D.Directories.knows (g.D.Directories.base c.args.directories.now) b).
     let q : g.D.Directories.rest c.loop-entry.directories b ≡ e ∷ g.D.Directories.rest c.next.new.self b =
     rw c.in-Some.is at (reported b k) in q in
+    let old = c.args.lists.now in
+    let here = c.loop-entry.lists in
+    let kinds : here.kinds.now ≡ old.kinds.now = ap (λ (x : Lent). x.kinds) inv.same.lent in
+    let counted = rw kinds at c.count_entry.ensures.counted in
+    let kept = c.adopt.ensures.counts in
+    let adopted = rw (kinds, inv.kept.reached) at c.adopt.ensures.parent in
     record {
       ready = search rules;
       base = search rules;
@@ -24,24 +31,27 @@ loop-entry-preserved g c =
       reads = let r = rw inv.base at c.in_ok-entry.ensures.counted in
           λ b k. let now = (r b k (inv.held b k)).paid in let old = inv.reads b k in omega (arith, now, old);
       held = let r = rw inv.base at c.in_ok-entry.ensures.counted in λ b k. (r b k (inv.held b k)).held;
-      same_length = c.count_entry.ensures.same_length ∙ inv.same_length;
-      parents_long = c.adopt.ensures.parents_long ∙ inv.parents_long;
+      same = record { lent = c.adopt.ensures.same.lent ∙ inv.same.lent };
+      kept = record {
+        reached = c.adopt.ensures.kept.reached ∙ inv.kept.reached;
+        calm = c.adopt.ensures.kept.calm ∙ inv.kept.calm;
+      };
       left = let l = inv.left in omega (arith, l, fell);
       grown = λ x l.
           let old = inv.grown x l in
-          let new = c.count_entry.ensures.counted.references x l in
+          let new = counted.references x l in
+          let now = ap (λ items. number_at items x) kept.references in
           let one = bit-le (refers x e) in
-          omega (arith, old, new, one, fell);
+          omega (arith, old, new, now, one, fell);
       counts = λ b k.
-          entry_counted (length c.args.kinds.now) _ _ e (g.D.Directories.rest c.next.new.self b)
-          c.args.references.now.items
-          c.loop-entry.references.items _ c.args.named.now c.loop-entry.named _
-          (rw (cut b k) at (inv.counts b k)) c.count_entry.ensures.counted.references
-          c.count_entry.ensures.counted.named;
+          rw (kept.references, kept.named)
+          (entry_counted (length old.kinds.now) _ _ e (g.D.Directories.rest c.next.new.self b)
+          old.references.now.items here.references.now.items _ old.named.now here.named.now _
+          (rw (cut b k) at (inv.counts b k)) counted.references counted.named);
       parents = λ b k x l.
-          parent_step (is_free c.args.kinds.now c.args.reached.now x) (is_naming_entry x e)
-          (any_in (g.D.Directories.rest c.next.new.self b) x) c.args.from (number_at c.loop-entry.parents.items x) _ _
-          c.requires.from (c.adopt.ensures.parent x l) (rw (cut b k) at (inv.parents b k x l));
+          parent_step (is_free old.kinds.now old.reached.now x) (is_naming_entry x e)
+          (any_in (g.D.Directories.rest c.next.new.self b) x) c.args.from (number_at here.parents.now.items x) _ _
+          c.requires.from (adopted x l) (rw (cut b k) at (inv.parents b k x l));
     }
 
 pub returns-clause-counted : goal.returns-clause-counted

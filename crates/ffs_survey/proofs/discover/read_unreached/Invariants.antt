@@ -1,40 +1,40 @@
-use Rattle.std.proofs.Common.{◌≡◌, ℕ, ◌+◌, ◌<◌, ◌≤◌, ◌^◌, List, length, vec_len, cond, eqb, ◌&&◌}
+use Rattle.std.proofs.Common.{◌≡◌, ℕ, ◌+◌, ◌<◌, ◌≤◌, ◌^◌, List, length, cond, eqb, ◌&&◌}
 use Rattle.ffs_survey.specs.Survey.{number_at}
 use Rattle.ffs_survey.specs.Discover.{Counts, count_in, any_in, is_free}
+use Rattle.ffs_survey.specs.Lent.{SameLists, KeepsReached}
 use Rattle.ffs_survey.proofs.discover.read_unreached.Given as goal
 
 abbrev pub invariant-loop-entry : goal.invariant-loop-entry
-invariant-loop-entry g l = record {
-  ready : g.D.Directories.ready l.directories;
-  base : g.D.Directories.base l.directories ≡ g.D.Directories.base l.fn.directories;
-  device : g.D.Directories.device l.directories ≡ g.D.Directories.device l.fn.directories;
-  reads : (b : List ℕ) → g.D.Directories.knows (g.D.Directories.base l.fn.directories) b →
-      g.D.Directories.reads l.directories + g.D.Directories.to_read l.directories b
-      ≤ g.D.Directories.reads l.fn.directories + g.D.Directories.cost (g.D.Directories.base l.fn.directories) b l.from;
-  held : (b : List ℕ) → g.D.Directories.knows (g.D.Directories.base l.fn.directories) b →
-      g.D.Directories.held l.directories;
-  same_length : vec_len l.references ≡ vec_len l.fn.references;
-  parents_long : vec_len l.parents ≡ vec_len l.fn.parents;
-  left : g.D.Directories.left l.directories ≤ 2 ^ 28;
-  grown : (x : ℕ) → x < length l.kinds → number_at l.references.items x + g.D.Directories.left l.directories ≤ number_at
-      l.fn.references.items x + 2 ^ 28;
-  counts : (b : List ℕ) → g.D.Directories.knows (g.D.Directories.base l.fn.directories) b →
-      Counts (length l.kinds) (count_in (g.D.Directories.entries (g.D.Directories.base l.fn.directories) b l.from))
-      (any_in (g.D.Directories.entries (g.D.Directories.base l.fn.directories) b l.from)) l.fn.references.items
-      l.fn.named
-      (count_in (g.D.Directories.rest l.directories b)) (any_in (g.D.Directories.rest l.directories b))
-      l.references.items
-      l.named;
-  parents : (b : List ℕ) → g.D.Directories.knows (g.D.Directories.base l.fn.directories) b → (x : ℕ) →
-      x < length l.kinds → cond
-      (eqb (number_at l.parents.items x) 0
-      && (is_free l.kinds l.reached x && any_in (g.D.Directories.rest l.directories b) x)) l.from
-      (number_at l.parents.items x) ≡ cond
-      (eqb (number_at l.fn.parents.items x) 0
-      && (is_free l.kinds l.reached x
-      && any_in (g.D.Directories.entries (g.D.Directories.base l.fn.directories) b l.from) x)) l.from
-      (number_at l.fn.parents.items x);
-}
+invariant-loop-entry g l =
+    let old = l.fn.lists in
+    let over = g.D.Directories.base l.fn.directories in
+    let knows = g.D.Directories.knows over in
+    let entries = λ (b : List ℕ). g.D.Directories.entries over b l.from in
+    let rest = g.D.Directories.rest l.directories in
+    let coming = g.D.Directories.left l.directories in
+    record {
+      ready : g.D.Directories.ready l.directories;
+      base : g.D.Directories.base l.directories ≡ over;
+      device : g.D.Directories.device l.directories ≡ g.D.Directories.device l.fn.directories;
+      reads : (b : List ℕ) → knows b → g.D.Directories.reads l.directories + g.D.Directories.to_read l.directories b
+          ≤ g.D.Directories.reads l.fn.directories + g.D.Directories.cost over b l.from;
+      held : (b : List ℕ) → knows b → g.D.Directories.held l.directories;
+      same : SameLists old l.lists;
+      kept : KeepsReached old l.lists;
+      left : coming ≤ 2 ^ 28;
+      grown : (x : ℕ) → x < length old.kinds.now →
+          number_at l.lists.references.now.items x + coming ≤ number_at old.references.now.items x + 2 ^ 28;
+      counts : (b : List ℕ) → knows b → Counts (length old.kinds.now) (count_in (entries b)) (any_in (entries b))
+          old.references.now.items old.named.now (count_in (rest b)) (any_in (rest b))
+          l.lists.references.now.items l.lists.named.now;
+      parents : (b : List ℕ) → knows b → (x : ℕ) → x < length old.kinds.now →
+          cond (eqb (number_at l.lists.parents.now.items x) 0
+          && (is_free old.kinds.now old.reached.now x && any_in (rest b) x)) l.from
+          (number_at l.lists.parents.now.items x)
+          ≡ cond (eqb (number_at old.parents.now.items x) 0
+          && (is_free old.kinds.now old.reached.now x && any_in (entries b) x)) l.from
+          (number_at old.parents.now.items x);
+    }
 
 abbrev pub decreases-loop-entry : goal.decreases-loop-entry
 decreases-loop-entry g l = g.D.Directories.left l.directories

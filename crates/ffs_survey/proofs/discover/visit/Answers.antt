@@ -5,32 +5,32 @@ use Rattle.ffs_survey.proofs.discover.visit.Goals as goal
 
 pub returns-then-not-is_new-clause-comes : goal.returns-then-not-is_new-clause-comes
 returns-then-not-is_new-clause-comes c =
-    visit_miss c.args.kinds.now c.args.reached.now c.args.parents.now.items (take c.args.top c.args.queue.now.items) c.args.from
+    visit_miss c.args.lists.now.kinds.now c.args.lists.now.reached.now c.args.lists.now.parents.now.items (take c.args.top c.args.lists.now.queue.now.items) c.args.from
     (roled_of c.args.entry []) (sym c.is_new.ensures ∙ c.if-not-is_new.true)
 
 pub set-requires-2 : goal.set-requires-2
 set-requires-2 c =
-    let n = new_entry c.args.kinds.now c.args.reached.now (roled_of c.args.entry [])
+    let n = new_entry c.args.lists.now.kinds.now c.args.lists.now.reached.now (roled_of c.args.entry [])
     (sym c.is_new.ensures ∙ c.if-not-is_new.false) in
     let b = n.below in
-    let u = unset-set c.args.reached.now c.args.entry.number (omega (arith, b)) n.unmarked in
+    let u = unset-set c.args.lists.now.reached.now c.args.entry.number (omega (arith, b)) n.unmarked in
     omega (arith, u)
 
 pub returns-clause-top : goal.returns-clause-top
 returns-clause-top c =
-    let n = new_entry c.args.kinds.now c.args.reached.now (roled_of c.args.entry [])
+    let n = new_entry c.args.lists.now.kinds.now c.args.lists.now.reached.now (roled_of c.args.entry [])
     (sym c.is_new.ensures ∙ c.if-not-is_new.false) in
     let b = n.below in
-    let u = unset-set c.args.reached.now c.args.entry.number (omega (arith, b)) n.unmarked in
+    let u = unset-set c.args.lists.now.reached.now c.args.entry.number (omega (arith, b)) n.unmarked in
     omega (arith, u)
 
 pub returns-clause-comes : goal.returns-clause-comes
 returns-clause-comes c =
-    let n = new_entry c.args.kinds.now c.args.reached.now (roled_of c.args.entry [])
+    let n = new_entry c.args.lists.now.kinds.now c.args.lists.now.reached.now (roled_of c.args.entry [])
     (sym c.is_new.ensures ∙ c.if-not-is_new.false) in
     let b = n.below in
-    let u = unset-set c.args.reached.now c.args.entry.number (omega (arith, b)) n.unmarked in
+    let u = unset-set c.args.lists.now.reached.now c.args.entry.number (omega (arith, b)) n.unmarked in
     rw (c.set.ensures.items, c.set-2.ensures.items)
-    (visit_hit c.args.kinds.now c.args.reached.now c.args.parents.now.items c.args.queue.now.items c.args.from c.args.top
+    (visit_hit c.args.lists.now.kinds.now c.args.lists.now.reached.now c.args.lists.now.parents.now.items c.args.lists.now.queue.now.items c.args.from c.args.top
     (roled_of c.args.entry [])
     (omega (arith, b)) (omega (arith, b)) (omega (arith, u)) n.dir n.plain n.unmarked)

@@ -1,47 +1,66 @@
-use Rattle.std.proofs.Common.{◌≡◌, ◌+◌, ◌++◌, take, drop, arith, sym, ◌∙◌, ap, subst}
+use Rattle.std.proofs.Common.{◌≡◌, ◌+◌, ◌++◌, take, drop, arith, sym, ◌∙◌, ap, subst, length}
 use Rattle.ffs_survey.specs.Survey.{graph_with}
-use Rattle.ffs_survey.specs.Discover.{Comes, LevelsKnown, from_dirs, nothing}
+use Rattle.ffs_survey.specs.Discover.{Comes, Extends, LevelsKnown, from_dirs, nothing}
+use Rattle.ffs_survey.specs.Lent.{Lent}
 use Rattle.ffs_survey.proofs.CalmLaws.{front_reached}
 use Rattle.ffs_survey.proofs.Frontiers.{front_dirs, sane_of}
-use Rattle.ffs_survey.proofs.Queues.{comes_after, level_after, queue_parts, IsNextLevel}
+use Rattle.ffs_survey.proofs.Lending.{queue_long}
+use Rattle.ffs_survey.proofs.Queues.{comes_after, is_extended, level_after, queue_parts, IsNextLevel}
 use Rattle.ffs_survey.proofs.levels.next_level.Goals as goal
+
+pub read_level-requires-clause-room : goal.read_level-requires-clause-room
+read_level-requires-clause-room g c =
+    let lists = c.args.lists.now.long in
+    let order = c.requires.room.ordered in
+    let room = c.requires.room.room in
+    record {
+      counts = λ x l.
+          let most = c.requires.room.counted x (omega (arith, l, lists.references)) in
+          omega (arith, most, order, room, lists.few, lists.queue);
+      queue = room;
+    }
 
 pub read_level-requires-clause-frontier : goal.read_level-requires-clause-frontier
 read_level-requires-clause-frontier g c = λ b k i d l.
     let known = c.requires.levels b k in
     let at = known.at in
-    let v = graph_with c.args.kinds.now (g.D.Directories.entries (g.D.Directories.base c.args.directories.now) b) in
+    let kinds = c.args.lists.now.kinds.now in
+    let v = graph_with kinds (g.D.Directories.entries (g.D.Directories.base c.args.directories.now) b) in
     record {
-      dir = front_dirs v known.depth _ (sane_of c.args.kinds.now _ c.requires.lists.some) c.requires.root at.frontier i
-          d l;
+      dir = front_dirs v known.depth _ (sane_of kinds _ c.args.lists.now.long.some) c.requires.root at.frontier i d l;
       marked = front_reached _ _ _ _ _ _ at.frontier at.levels i d l;
     }
 
 pub returns-clause-level : goal.returns-clause-level
 returns-clause-level g c =
     let found = c.in_ok-end.ensures.found in
-    let kept = c.in_ok-end.ensures.queue_kept in
     let sorted = c.sort_part.ensures in
-    let old = c.args.queue.now.items in
-    let mid = c.read_level.new.queue.items in
+    let lists = c.args.lists.now in
+    let after = c.read_level.new.lists in
+    let same = c.in_ok-end.ensures.leaves.lists in
+    let old = lists.queue.now.items in
+    let mid = after.queue.now.items in
     let new = c.sort_part.new.self.items in
     let high = c.args.high in
     let end = c.in_ok-end.end in
+    let kept : Extends high end old mid = is_extended high end old mid found.ordered found.kept in
     let before : take high new ≡ take high old = sorted.before ∙ kept.kept in
     record {
       room = record {
-        ordered = kept.ordered;
-        room = let e = found.ends in let r = c.requires.room.room in
-            omega (arith, e, r, sorted.len, c.in_ok-end.ensures.queue_long);
+        ordered = found.ordered;
+        room = let e = found.ends in let r = c.requires.room.room in let q = queue_long _ _ same in
+            omega (arith, e, r, sorted.len, q);
         counted = λ x l.
             let o = c.requires.room.ordered in
-            let before = c.requires.room.counted x (omega (arith, l, c.in_ok-end.ensures.same_length)) in
-            let grown = found.grown x (omega (arith, l, c.in_ok-end.ensures.same_length)) in
+            let kinds = ap (λ (x : Lent). length x.kinds) same.lent in
+            let before = c.requires.room.counted x
+            (omega (arith, l, kinds, lists.long.references, after.long.references)) in
+            let grown = found.grown x (omega (arith, l, kinds, after.long.references)) in
             omega (arith, o, before, grown);
       };
       kept = before;
       read = λ b k.
-          let v = graph_with c.args.kinds.now
+          let v = graph_with lists.kinds.now
           (g.D.Directories.entries (g.D.Directories.base c.args.directories.now) b) in
           let xs = drop c.args.low (take high old) in
           let parts : take end mid ≡ take high old ++ drop high (take end mid) =
@@ -50,19 +69,19 @@ returns-clause-level g c =
           queue_parts high end new kept.ordered ∙ ap (λ z. z ++ drop high (take end new)) before in
           record {
             level = λ depth at.
-                let comes : Comes (from_dirs v xs) c.args.reached.now c.args.parents.now.items (take high old) nothing
-                c.read_level.new.reached c.read_level.new.parents.items (take end mid) = (found.read b k).comes in
-                let n : IsNextLevel v (depth + 1) c.read_level.new.reached c.read_level.new.parents.items
+                let comes : Comes (from_dirs v xs) lists.reached.now lists.parents.now.items (take high old) nothing
+                after.reached.now after.parents.now.items (take end mid) = (found.read b k).comes in
+                let n : IsNextLevel v (depth + 1) after.reached.now after.parents.now.items
                 (take high old) (drop high (take end new)) =
-                level_after v depth xs c.args.reached.now c.read_level.new.reached c.args.parents.now.items
-                c.read_level.new.parents.items (take high old) (drop high (take end mid)) (drop high (take end new))
-                (sane_of c.args.kinds.now _ c.requires.lists.some) at.frontier at.levels
+                level_after v depth xs lists.reached.now after.reached.now lists.parents.now.items
+                after.parents.now.items (take high old) (drop high (take end mid)) (drop high (take end new))
+                (sane_of lists.kinds.now _ lists.long.some) at.frontier at.levels
                 (comes_after _ _ _ _ _ _ (take high old) (drop high (take end mid)) (rw parts at comes))
                 sorted.moved sorted.rising in
                 record {
                   frontier = n.frontier;
-                  levels = subst (λ q. LevelsKnown v (depth + 1) c.read_level.new.reached
-                      c.read_level.new.parents.items q) (sym whole) n.knows;
+                  levels = subst (λ q. LevelsKnown v (depth + 1) after.reached.now
+                      after.parents.now.items q) (sym whole) n.knows;
                 };
             counts = (found.read b k).counts;
             calm = (found.read b k).calm;

@@ -1,33 +1,33 @@
-use Rattle.std.proofs.Common.{◌≡◌, ℕ, ◌+◌, ◌≤◌, ◌-◌, List, length, take, vec_len}
+use Rattle.std.proofs.Common.{◌≡◌, ℕ, ◌+◌, ◌≤◌, ◌-◌, List, length, take}
 use Rattle.std.specs.List.{sum_by}
 use Rattle.ffs_survey.specs.Survey.{graph_with}
 use Rattle.ffs_survey.specs.Discover.{HasRoomForLevel, AtSomeLevel, IsCount}
 use Rattle.ffs_survey.specs.Calm.{AreCalm}
+use Rattle.ffs_survey.specs.Lent.{SameLists}
 use Rattle.ffs_survey.proofs.levels.survey_reached.Given as goal
 
 abbrev pub invariant-loop-low : goal.invariant-loop-low
-invariant-loop-low g l = record {
-  ready : g.D.Directories.ready l.directories;
-  base : g.D.Directories.base l.directories ≡ g.D.Directories.base l.fn.directories;
-  device : g.D.Directories.device l.directories ≡ g.D.Directories.device l.fn.directories;
-  reads : (b : List ℕ) → g.D.Directories.knows (g.D.Directories.base l.fn.directories) b →
-      g.D.Directories.reads l.directories ≤ g.D.Directories.reads l.fn.directories
-      + sum_by (g.D.Directories.cost (g.D.Directories.base l.fn.directories) b) (take l.low l.queue.items);
-  same_length : vec_len l.references ≡ vec_len l.fn.references;
-  parents_long : vec_len l.parents ≡ vec_len l.fn.parents;
-  queue_long : vec_len l.queue ≡ vec_len l.fn.queue;
-  lengths : length l.reached ≡ length l.kinds;
-  room : HasRoomForLevel l.low l.high l.references.items l.reached l.queue.items;
-  levels : (b : List ℕ) → g.D.Directories.knows (g.D.Directories.base l.fn.directories) b →
-      AtSomeLevel (graph_with l.kinds (g.D.Directories.entries (g.D.Directories.base l.fn.directories) b)) l.low
-      l.high l.reached l.parents.items l.queue.items;
-  counts : (b : List ℕ) → g.D.Directories.knows (g.D.Directories.base l.fn.directories) b →
-      IsCount (graph_with l.kinds (g.D.Directories.entries (g.D.Directories.base l.fn.directories) b))
-      (take l.low l.queue.items) l.fn.references.items l.references.items l.named;
-  calm : (b : List ℕ) → g.D.Directories.knows (g.D.Directories.base l.fn.directories) b →
-      AreCalm l.kinds l.marked l.reached l.parents.items (g.D.Directories.entries (g.D.Directories.base l.fn.directories) b)
-      (g.D.Directories.sound (g.D.Directories.base l.fn.directories) b) l.calm;
-}
+invariant-loop-low g l =
+    let old = l.fn.lists in
+    let over = g.D.Directories.base l.fn.directories in
+    let knows = g.D.Directories.knows over in
+    let graph = λ (b : List ℕ). graph_with old.kinds.now (g.D.Directories.entries over b) in
+    record {
+      ready : g.D.Directories.ready l.directories;
+      base : g.D.Directories.base l.directories ≡ over;
+      device : g.D.Directories.device l.directories ≡ g.D.Directories.device l.fn.directories;
+      reads : (b : List ℕ) → knows b → g.D.Directories.reads l.directories ≤ g.D.Directories.reads l.fn.directories
+          + sum_by (g.D.Directories.cost over b) (take l.low l.lists.queue.now.items);
+      same : SameLists old l.lists;
+      room : HasRoomForLevel l.low l.high l.lists.references.now.items l.lists.reached.now l.lists.queue.now.items;
+      levels : (b : List ℕ) → knows b → AtSomeLevel (graph b) l.low l.high l.lists.reached.now
+          l.lists.parents.now.items l.lists.queue.now.items;
+      counts : (b : List ℕ) → knows b → IsCount (graph b) (take l.low l.lists.queue.now.items)
+          old.references.now.items l.lists.references.now.items l.lists.named.now;
+      calm : (b : List ℕ) → knows b → AreCalm old.kinds.now old.marked.now l.lists.reached.now
+          l.lists.parents.now.items (g.D.Directories.entries over b) (g.D.Directories.sound over b)
+          l.lists.calm.now;
+    }
 
 abbrev pub decreases-loop-low : goal.decreases-loop-low
-decreases-loop-low g l = length l.queue.items - l.low
+decreases-loop-low g l = length l.lists.queue.now.items - l.low

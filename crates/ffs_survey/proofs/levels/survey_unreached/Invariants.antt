@@ -1,25 +1,27 @@
-use Rattle.std.proofs.Common.{◌≡◌, ℕ, ◌+◌, ◌*◌, ◌<◌, ◌≤◌, ◌^◌, List, length, vec_len}
-use Rattle.ffs_survey.specs.Survey.{bool_at, dir_at, number_at, graph_with}
+use Rattle.std.proofs.Common.{◌≡◌, ℕ, ◌+◌, ◌*◌, ◌<◌, ◌≤◌, ◌^◌, List, length}
+use Rattle.ffs_survey.specs.Survey.{number_at, graph_with}
 use Rattle.ffs_survey.specs.Costs.{costs_below}
-use Rattle.std.specs.Prelude.{◌&&◌, not}
-use Rattle.ffs_survey.specs.Discover.{IsBlank, IsRead}
+use Rattle.ffs_survey.specs.Discover.{IsBlank, IsRead, is_free}
+use Rattle.ffs_survey.specs.Lent.{SameLists, KeepsReached}
 use Rattle.ffs_survey.proofs.levels.survey_unreached.Given as goal
 
 abbrev pub invariant-loop-s : goal.invariant-loop-s
-invariant-loop-s g l = record {
-  ready : g.D.Directories.ready l.directories;
-  base : g.D.Directories.base l.directories ≡ g.D.Directories.base l.fn.directories;
-  device : g.D.Directories.device l.directories ≡ g.D.Directories.device l.fn.directories;
-  reads : (b : List ℕ) → g.D.Directories.knows (g.D.Directories.base l.fn.directories) b →
-      g.D.Directories.reads l.directories ≤ g.D.Directories.reads l.fn.directories
-      + costs_below (λ s. dir_at l.kinds s && not (bool_at l.reached s))
-      (g.D.Directories.cost (g.D.Directories.base l.fn.directories) b) l.s;
-  same_length : vec_len l.references ≡ vec_len l.fn.references;
-  parents_long : vec_len l.parents ≡ vec_len l.fn.parents;
-  grown : (x : ℕ) → x < length l.kinds → number_at l.references.items x ≤ number_at l.fn.references.items x + l.s * 2 ^
-      28;
-  read : (b : List ℕ) → g.D.Directories.knows (g.D.Directories.base l.fn.directories) b →
-      IsBlank l.kinds l.reached l.fn.parents.items →
-      IsRead (graph_with l.kinds (g.D.Directories.entries (g.D.Directories.base l.fn.directories) b)) l.kinds l.reached
-      l.s l.fn.references.items l.fn.named l.fn.parents.items l.references.items l.named l.parents.items;
-}
+invariant-loop-s g l =
+    let old = l.fn.lists in
+    let over = g.D.Directories.base l.fn.directories in
+    let knows = g.D.Directories.knows over in
+    record {
+      ready : g.D.Directories.ready l.directories;
+      base : g.D.Directories.base l.directories ≡ over;
+      device : g.D.Directories.device l.directories ≡ g.D.Directories.device l.fn.directories;
+      reads : (b : List ℕ) → knows b → g.D.Directories.reads l.directories ≤ g.D.Directories.reads l.fn.directories
+          + costs_below (is_free old.kinds.now old.reached.now) (g.D.Directories.cost over b) l.s;
+      same : SameLists old l.lists;
+      kept : KeepsReached old l.lists;
+      grown : (x : ℕ) → x < length old.kinds.now →
+          number_at l.lists.references.now.items x ≤ number_at old.references.now.items x + l.s * 2 ^ 28;
+      read : (b : List ℕ) → knows b → IsBlank old.kinds.now old.reached.now old.parents.now.items →
+          IsRead (graph_with old.kinds.now (g.D.Directories.entries over b)) old.kinds.now old.reached.now l.s
+          old.references.now.items old.named.now old.parents.now.items l.lists.references.now.items
+          l.lists.named.now l.lists.parents.now.items;
+    }

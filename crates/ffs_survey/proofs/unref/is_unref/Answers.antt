@@ -10,37 +10,37 @@ use Rattle.ffs_survey.proofs.unref.is_unref.Goals as goal
 
 pub returns-in_default : goal.returns-in_default
 returns-in_default c = λ v n t.
-    let suspect = suspect_at c.args.kinds.now c.args.marked.now in
+    let suspect = suspect_at c.args.found.now.kinds.now c.args.found.now.marked.now in
     let l : IsLost v suspect c.args.dir = record {
       dir = t.dirs c.args.dir ∙ (sym c.is_dir.ensures ∙ c.if-not-is_dir.false);
       not_root = c.if-dir-eq-ROOTINO.false;
-      unreached = sym (t.reaches c.args.dir) ∙ c.if-reached-dir.false;
+      unreached = sym (t.reaches c.args.dir) ∙ c.if-found-dir.false;
       alive = sym (c.is_dead.ensures v n)
           ∙ c.if-is_dead.false;
     } in
-    sym (unref_is v suspect c.args.kinds.now c.args.reached.now c.args.parents.now.items c.args.dir c.requires.lists.parents t
+    sym (unref_is v suspect c.args.found.now.kinds.now c.args.found.now.reached.now c.args.found.now.parents.now.items c.args.dir c.args.found.now.whole.parents t
     l
-    ∙ ap (λ b. b || is_leader_within (up_of c.args.parents.now.items) (length c.args.parents.now.items) c.args.dir)
+    ∙ ap (λ b. b || is_leader_within (up_of c.args.found.now.parents.now.items) (length c.args.found.now.parents.now.items) c.args.dir)
     (cond-true _ true _ (eq-eqb _ 0 c.in_default.ensures)))
 
-pub returns-then-above-kinds : goal.returns-then-above-kinds
-returns-then-above-kinds c = λ v n t.
-    let b = parent-below v c.args.kinds.now c.args.reached.now c.args.parents.now.items c.args.dir t in
+pub returns-then-above-found : goal.returns-then-above-found
+returns-then-above-found c = λ v n t.
+    let b = parent-below v c.args.found.now.kinds.now c.args.found.now.reached.now c.args.found.now.parents.now.items c.args.dir t in
     absurd (omega (arith, c.in-Some.ensures.0))
 
 pub returns : goal.returns
 returns c = λ v n t.
-    let suspect = suspect_at c.args.kinds.now c.args.marked.now in
+    let suspect = suspect_at c.args.found.now.kinds.now c.args.found.now.marked.now in
     let l : IsLost v suspect c.args.dir = record {
       dir = t.dirs c.args.dir ∙ (sym c.is_dir.ensures ∙ c.if-not-is_dir.false);
       not_root = c.if-dir-eq-ROOTINO.false;
-      unreached = sym (t.reaches c.args.dir) ∙ c.if-reached-dir.false;
+      unreached = sym (t.reaches c.args.dir) ∙ c.if-found-dir.false;
       alive = sym (c.is_dead.ensures v n)
           ∙ c.if-is_dead.false;
     } in
-    c.requires.lists.cycles c.args.dir
-    ∙ sym (unref_is v suspect c.args.kinds.now c.args.reached.now c.args.parents.now.items c.args.dir c.requires.lists.parents
+    c.args.found.now.whole.cycles c.args.dir
+    ∙ sym (unref_is v suspect c.args.found.now.kinds.now c.args.found.now.reached.now c.args.found.now.parents.now.items c.args.dir c.args.found.now.whole.parents
     t l
-    ∙ ap (λ b. b || is_leader_within (up_of c.args.parents.now.items) (length c.args.parents.now.items) c.args.dir)
+    ∙ ap (λ b. b || is_leader_within (up_of c.args.found.now.parents.now.items) (length c.args.found.now.parents.now.items) c.args.dir)
     (cond-false _ true _ (ne_eqb _ 0 (λ z. c.in-Some.ensures.1 (c.in-Some.ensures.0 ∙ z)))
     ∙ ap (λ a. is_dead_in v suspect a) (sym c.in-Some.ensures.0) ∙ (sym (c.is_dead-2.ensures v n) ∙ c.if-is_dead-2.false)))

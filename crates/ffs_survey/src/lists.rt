@@ -1,0 +1,45 @@
+//! The lists of a survey.
+ghost use Rattle.ffs_survey.specs.Lists.{AreLists, AreSurveyed};
+
+use ffs_memory::FilledList;
+
+/// The lists that a survey goes by and fills, lent together. Each has a place for every inode, and
+/// inode 2 is there; numbers of inodes and places in the queue fit into 31 bits.
+#[derive(Drop)]
+pub struct Lists<'a> {
+    /// What each inode is: 4 for a directory with a size, 5 for one of size 0.
+    pub kinds: &'a [u8],
+    /// Whether each inode is marked.
+    pub marked: &'a [bool],
+    /// How many entries refer to each inode, counted on from where the list starts.
+    pub references: &'a mut FilledList<u64>,
+    /// Whether a plain entry names each inode.
+    pub named: &'a mut [bool],
+    /// Whether each inode is reached from inode 2.
+    pub reached: &'a mut [bool],
+    /// The parent of each directory, 0 for none.
+    pub parents: &'a mut FilledList<u32>,
+    /// Whether each inode is a directory of which nothing can be reported.
+    pub calm: &'a mut [bool],
+    /// The directories that are reached, level after level.
+    pub queue: &'a mut FilledList<u32>,
+    ghost long: { AreLists kinds.now marked.now references.now.items named.now reached.now parents.now.items calm.now queue.now.items },
+}
+
+/// What a survey left, and which directories lead a cycle of parents.
+#[derive(Clone, Copy)]
+pub struct Surveyed<'a> {
+    /// What each inode is: 4 for a directory with a size, 5 for one of size 0.
+    pub kinds: &'a [u8],
+    /// Whether each inode is marked.
+    pub marked: &'a [bool],
+    /// Whether a plain entry names each inode.
+    pub named: &'a [bool],
+    /// Whether each inode is reached from inode 2.
+    pub reached: &'a [bool],
+    /// The parent of each directory, 0 for none.
+    pub parents: &'a FilledList<u32>,
+    /// Whether each inode is the least on a cycle of parents.
+    pub leaders: &'a [bool],
+    ghost whole: { AreSurveyed kinds.now marked.now named.now reached.now parents.now.items leaders.now },
+}
