@@ -9,7 +9,7 @@ ghost use Rattle.ffs_volume.specs.Blocks.Claims.{after_offer, after_offers, afte
 ghost use Rattle.ffs_report.specs.Progress.{progress, Says};
 ghost use Rattle.ffs_workspace.specs.Holds.{claims_of};
 ghost use Rattle.ffs_walk.specs.Counts.{entered};
-ghost use Rattle.ffs_claims.specs.Leaves.{AreClaims, CanOffer, OffersOnly};
+ghost use Rattle.ffs_claims.specs.Leaves.{AreClaims, CanOffer, HasRoomForOffers, OffersOnly};
 ghost use Rattle.ffs_claims.specs.Lines.{of_lines, is_dup, dup_lines, bad_lines};
 ghost use Rattle.ffs_claims.specs.Claiming.{ClaimsStep, SeesNext};
 
@@ -184,6 +184,32 @@ fn run_in_range<W: Output>(
     Ok(is_open(workspace))
 }
 
+/// Takes the offers of a bad Run of the current inode, which isn't cut. No fragment past the volume
+/// is in range: so a Run that begins there is kept at once, and nothing of it is claimed or dup.
+fn offers_of_bad_run<W: Output>(
+    workspace: &mut Workspace,
+    geometry: &Geometry,
+    number: u32,
+    start: u32,
+    len: u32,
+    report: &mut Report<'_, W>,
+) -> Result<(), OutFault>
+    requires room { HasRoomForOffers geometry.now.layout workspace.old len }
+    requires uncut { workspace.old.dups ≤ MAXDUP }
+    ensures said { Says (progress W.sink report.old) (progress W.sink report.new)
+        (of_lines (lines_of_offers geometry.now.layout number (claims_of workspace.old)
+        (range_with_len start len))) result }
+    ensures claims { OnOk result (claims_of workspace.new
+        ≡ after_offers geometry.now.layout (claims_of workspace.old) (range_with_len start len)) }
+    ensures only { OffersOnly geometry.now.layout workspace.old workspace.new }
+{
+    if start >= geometry.layout.size {
+        workspace.kept += u64::from(len);
+        return Ok(());
+    }
+    offers(workspace, geometry, number, start, len, false, report)
+}
+
 /// Takes a Run of the current inode. Returns whether the next step is seen.
 fn run<W: Output>(
     workspace: &mut Workspace,
@@ -213,7 +239,7 @@ fn run<W: Output>(
     if many {
         return Ok(false);
     }
-    offers(workspace, geometry, number, start, len, false, report)?;
+    offers_of_bad_run(workspace, geometry, number, start, len, report)?;
     Ok(is_open(workspace))
 }
 

@@ -15,13 +15,13 @@ returns-in_err-say_bad-clause-claiming g c = record {
   left = search rules;
 }
 
-pub returns-in_err-offers-clause-claiming : goal.returns-in_err-offers-clause-claiming
-returns-in_err-offers-clause-claiming g c = record {
-  said = let p = err_from_is_err_and c.from_residual-in_err-offers.result c.from_residual-in_err-offers.ensures.1 in
+pub returns-in_err-offers_of_bad_run-clause-claiming : goal.returns-in_err-offers_of_bad_run-clause-claiming
+returns-in_err-offers_of_bad_run-clause-claiming g c = record {
+  said = let p = err_from_is_err_and c.from_residual-in_err-offers_of_bad_run.result c.from_residual-in_err-offers_of_bad_run.ensures.1 in
       rw (p.1) (run_stops_later c.args.geometry.now.layout c.args.number (claims_of c.args.workspace.now) c.args.start
       c.args.len _ _ _
       (sym c.in_range.ensures.value ∙ c.if-in_range.false) (grind (arith, nat_tests)) c.in_ok-say_bad.ensures
-      c.in_err-offers.ensures.said);
+      c.in_err-offers_of_bad_run.ensures.said);
   claims = search rules;
   left = search rules;
 }
@@ -31,7 +31,7 @@ returns-clause-claiming g c = record {
   said = run_said c.args.geometry.now.layout c.args.number (claims_of c.args.workspace.now) c.args.start c.args.len _
       _ _
       (sym c.in_range.ensures.value ∙ c.if-in_range.false) (grind (arith, nat_tests)) c.in_ok-say_bad.ensures
-      c.in_ok-offers.ensures.said;
+      c.in_ok-offers_of_bad_run.ensures.said;
   claims = search rules;
   left = search rules;
 }
