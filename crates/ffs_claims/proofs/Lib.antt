@@ -13,6 +13,7 @@ pub mod Rewalks
 pub mod RunReads
 pub mod Rescanned
 pub mod Whole
+pub mod PastEnd
 pub mod Looks
 pub mod LookBounds
 pub mod SecondLooks

@@ -6,3 +6,4 @@ pub mod SecondLook
 pub mod Area
 pub mod Claiming
 pub mod Words
+pub mod Begins

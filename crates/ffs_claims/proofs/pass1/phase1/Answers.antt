@@ -43,9 +43,9 @@ loop-number-init g c =
     record {
       ready = record {
         ready = ready_still v _ _ _ c.reserve.ensures.only.made c.reserve.ensures.only.windows c.requires.ready;
-        only_data = c.empty-area.ensures v;
+        only_data = c.new-walker.ensures.area;
       };
-      walk = c.ended-walk.ensures.geometry;
+      walk = c.new-walker.ensures.walk;
       device = refl;
       low = omega arith;
       high = λ h. omega arith;

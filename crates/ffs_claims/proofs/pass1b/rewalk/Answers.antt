@@ -23,6 +23,7 @@ use Rattle.ffs_claims.proofs.Rewalks.{open_first, gaps_offer, offers_none, offer
 use Rattle.ffs_claims.proofs.Rewalks.{Rewalking, rewalk_begins, rewalk_on, rewalk_gaps, rewalk_ends, rewalk_over}
 use Rattle.ffs_claims.proofs.Rewalks.{rewalk_said, rewalked_to}
 use Rattle.ffs_claims.proofs.RunReads.{runs_pay_on, runs_pay_less}
+use Rattle.ffs_claims.proofs.pass1b.rewalk.Invariants.{cut_at}
 use Rattle.ffs_claims.proofs.pass1b.rewalk.Goals as goal
 
 pub loop-next-init : goal.loop-next-init
@@ -30,12 +31,12 @@ loop-next-init g c =
     let v = c.args.geometry.now.layout in
     let n = c.args.number in
     let d = bits_of c.args.workspace.now.duplicates in
-    let cut = c.args.cut in
+    let cut = cut_at c.args.workspace.now c.args.number in
     let r = replay_in c.start-keeping.result in
     let begun = c.start-keeping.ensures.fresh in
     record {
       ready = c.requires.can.ready;
-      cut = c.start-keeping.ensures.cut;
+      cut = c.start-keeping.ensures.cut ∙ c.cut_of-cut.ensures;
       going = ap (is_replay_open cut) begun ∙ open_first cut;
       pending = c.requires.can.pending;
       geometry = c.start-walk.ensures.geometry;
@@ -103,7 +104,7 @@ returns-in_err-report_again-clause-rewalks g c =
     let v = c.args.geometry.now.layout in
     let n = c.args.number in
     let d = bits_of c.loop-next.workspace.duplicates in
-    let cut = c.args.cut in
+    let cut = cut_at c.args.workspace.now c.args.number in
     let r = replay_in c.loop-next.keeping in
     let step = c.in-Some.next in
     let ok = c.in_ok-next.ensures.leaves.read in
@@ -149,7 +150,7 @@ loop-next-preserved-then-matches g c =
     let n = c.args.number in
     let d = bits_of c.loop-next.workspace.duplicates in
     let d' = bits_of c.report_again.new.workspace.duplicates in
-    let cut = c.args.cut in
+    let cut = cut_at c.args.workspace.now c.args.number in
     let r = replay_in c.loop-next.keeping in
     let r' = replay_in c.report_again.new.keeping in
     let ok = c.in_ok-next.ensures.leaves.read in
@@ -203,7 +204,7 @@ loop-next-preserved g c =
     let n = c.args.number in
     let d = bits_of c.loop-next.workspace.duplicates in
     let d' = bits_of c.report_again.new.workspace.duplicates in
-    let cut = c.args.cut in
+    let cut = cut_at c.args.workspace.now c.args.number in
     let r = replay_in c.loop-next.keeping in
     let r' = replay_in c.report_again.new.keeping in
     let ok = c.in_ok-next.ensures.leaves.read in
@@ -246,7 +247,7 @@ returns-then-not-is_replay_open-clause-rewalks g c =
     let n = c.args.number in
     let d = bits_of c.loop-next.workspace.duplicates in
     let d' = bits_of c.report_again.new.workspace.duplicates in
-    let cut = c.args.cut in
+    let cut = cut_at c.args.workspace.now c.args.number in
     let r = replay_in c.loop-next.keeping in
     let r' = replay_in c.report_again.new.keeping in
     let ok = c.in_ok-next.ensures.leaves.read in
@@ -262,7 +263,7 @@ returns-then-not-is_replay_open-clause-rewalks g c =
     let read = ready_walked c.args.geometry.now _ _ _ c.loop-next.workspace c.next.new.blocks inv.geometry ok
     c.next.ensures.leaves.kept.size c.next.ensures.leaves.kept.holds inv.ready in
     let walk : ForBytes (IsContents (g.I.Image.device c.args.image.now).contents) (λ bytes.
-    Rewalking v n c.args.cut (steps_of v c.args.inode.now bytes) r' (rest bytes c.next.new.self)
+    Rewalking v n cut (steps_of v c.args.inode.now bytes) r' (rest bytes c.next.new.self)
     c.args.workspace.now c.report_again.new.workspace) =
     λ bytes t. rewalk_on _ _ _ _ c.in-Some.next r r' (rest bytes c.loop-next.walk)
     (rest bytes c.next.new.self) _ c.loop-next.workspace _ c.report_again.new.workspace
@@ -292,7 +293,7 @@ returns-then-not-has_dups-clause-rewalks g c =
     let n = c.args.number in
     let d = bits_of c.loop-next.workspace.duplicates in
     let d' = bits_of c.report_again.new.workspace.duplicates in
-    let cut = c.args.cut in
+    let cut = cut_at c.args.workspace.now c.args.number in
     let r = replay_in c.loop-next.keeping in
     let r' = replay_in c.report_again.new.keeping in
     let ok = c.in_ok-next.ensures.leaves.read in
@@ -308,7 +309,7 @@ returns-then-not-has_dups-clause-rewalks g c =
     let read = ready_walked c.args.geometry.now _ _ _ c.loop-next.workspace c.next.new.blocks inv.geometry ok
     c.next.ensures.leaves.kept.size c.next.ensures.leaves.kept.holds inv.ready in
     let walk : ForBytes (IsContents (g.I.Image.device c.args.image.now).contents) (λ bytes.
-    Rewalking v n c.args.cut (steps_of v c.args.inode.now bytes) r' (rest bytes c.next.new.self)
+    Rewalking v n cut (steps_of v c.args.inode.now bytes) r' (rest bytes c.next.new.self)
     c.args.workspace.now c.report_again.new.workspace) =
     λ bytes t. rewalk_on _ _ _ _ c.in-Some.next r r' (rest bytes c.loop-next.walk)
     (rest bytes c.next.new.self) _ c.loop-next.workspace _ c.report_again.new.workspace
@@ -335,7 +336,7 @@ returns-in_default-clause-rewalks g c =
     let v = c.args.geometry.now.layout in
     let n = c.args.number in
     let d = bits_of c.loop-next.workspace.duplicates in
-    let cut = c.args.cut in
+    let cut = cut_at c.args.workspace.now c.args.number in
     let r = replay_in c.loop-next.keeping in
     let ok = c.in_ok-next.ensures.leaves.read in
     let over = rw (inv.device, c.in_default.is) at c.in_ok-next.ensures.step.steps in
