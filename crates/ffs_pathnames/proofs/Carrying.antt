@@ -29,11 +29,11 @@ use Rattle.ffs_maps.specs.Bits.{bits_of}
 use Rattle.ffs_report.specs.declared.fault.RunFault.{RunFault}
 use Rattle.ffs_report.specs.declared.fault.RunFault.TheVariants.{Read, Out}
 use Rattle.ffs_pathnames.specs.RootAnswers.{AtReadFault}
-use Rattle.ffs_pathnames.specs.Before.{AreClear, IsBefore, is_looked_at, root_said}
+use Rattle.ffs_pathnames.specs.Before.{AreMarksCleared, IsBefore, is_checked, root_said}
 use Rattle.ffs_workspace.specs.Leaves.{LeavesSurvey}
 use Rattle.ffs_pathnames.specs.Gathers.{marks_of}
 use Rattle.ffs_pathnames.specs.DirectoryContext.{DirectoryContext}
-use Rattle.ffs_pathnames.specs.Calm.{IsSilent}
+use Rattle.ffs_pathnames.specs.Calm.{IsSilentDirectory}
 use Rattle.ffs_pathnames.specs.MarksRight.{AreRightBefore}
 use Rattle.ffs_pathnames.specs.Sees.{is_suspect_by}
 use Rattle.std.proofs.lemmas.Bool.{cases_Bool, eqb-true, and_from, and_parts}
@@ -98,8 +98,8 @@ flag_gone true b e = ap not e
 flag_gone false b e = refl
 
 -- without marks all is right before the first directory
-clear_right : (v : Layout) (b : List ℕ) (old w : Workspace) → HoldsClaims v b old → IsFor v w → AreClear old w →
-    ((x : ℕ) → bool_at old.flags.items x ≡ true → IsSilent (volume_of v b) x) →
+clear_right : (v : Layout) (b : List ℕ) (old w : Workspace) → HoldsClaims v b old → IsFor v w → AreMarksCleared old w →
+    ((x : ℕ) → bool_at old.flags.items x ≡ true → IsSilentDirectory (volume_of v b) x) →
     AreRightBefore (volume_of v b) 2 (marks_of w)
 unfolding volume_of volume_with
 clear_right v b old w k m c silent = record {
@@ -115,8 +115,8 @@ clear_right v b old w k m c silent = record {
 }
 
 pub before_first : (v : Layout) (contents : Option (List ℕ)) (b : List ℕ) (old w : Workspace) → contents ≡ Some b →
-    HoldsClaims v b old → HoldsSurvey v b old → IsFor v w → AreClear old w →
-    ((x : ℕ) → bool_at old.flags.items x ≡ true → IsSilent (volume_of v b) x) → IsBefore v contents w 2 b
+    HoldsClaims v b old → HoldsSurvey v b old → IsFor v w → AreMarksCleared old w →
+    ((x : ℕ) → bool_at old.flags.items x ≡ true → IsSilentDirectory (volume_of v b) x) → IsBefore v contents w 2 b
 before_first v contents b old w t h s m c silent = record {
   gives_bytes = t;
   claims = claims_left v b old w c.survey h;
@@ -180,8 +180,8 @@ left_out true false false h e = absurd (cc)
 left_out true true c h e = absurd (cc)
 left_out false b c h e = absurd (cc)
 
-calm_shown : (v : Layout) (contents : Option (List ℕ)) (w : Workspace) (d : ℕ) (b : List ℕ) → is_looked_at w d ≡ false →
-    (slice_index w.kinds.items d == 4) ≡ true → IsBefore v contents w d b → IsSilent (volume_of v b) d
+calm_shown : (v : Layout) (contents : Option (List ℕ)) (w : Workspace) (d : ℕ) (b : List ℕ) → is_checked w d ≡ false →
+    (slice_index w.kinds.items d == 4) ≡ true → IsBefore v contents w d b → IsSilentDirectory (volume_of v b) d
 calm_shown v contents w d b h e k =
     let left = left_out _ (bool_at w.marked.items d) (bool_at w.flags.items d) h e in
     let suspect : is_suspect (volume_of v b) d ≡ false = sym (suspect_shown v b w d k.claims)
@@ -190,7 +190,7 @@ calm_shown v contents w d b h e k =
     k.marks.calm d (and_from (not (is_suspect (volume_of v b) d)) (bool_at w.flags.items d) (ap not suspect) left.1)
 
 lines_left_out : (v : Layout) (contents : Option (List ℕ)) (w : Workspace) (d : ℕ) (b : List ℕ) → 2 ≤ d →
-    is_looked_at w d ≡ false → (slice_index w.kinds.items d == 4) ≡ true → IsBefore v contents w d b →
+    is_checked w d ≡ false → (slice_index w.kinds.items d == 4) ≡ true → IsBefore v contents w d b →
     map of_tree (directory_lines (volume_of v b) d) ≡ []
 lines_left_out v contents w d b two h e k =
     let silent = calm_shown v contents w d b h e k in
@@ -201,14 +201,14 @@ lines_left_out v contents w d b two h e k =
 
 -- an inode that isn't looked at, or is left out
 pub lines_skipped : (v : Layout) (contents : Option (List ℕ)) (w : Workspace) (d : ℕ) (b : List ℕ) → 2 ≤ d →
-    is_looked_at w d ≡ false → IsBefore v contents w d b → map of_tree (directory_lines (volume_of v b) d) ≡ []
+    is_checked w d ≡ false → IsBefore v contents w d b → map of_tree (directory_lines (volume_of v b) d) ≡ []
 lines_skipped v contents w d b two h k = elim (cases_Bool (slice_index w.kinds.items d == 4)) [
   | inl e ↦ lines_left_out v contents w d b two h e k
   | inr e ↦ ap (map of_tree) (lines_other v contents w d b e k)
 ]
 
 pub before_skipped : (v : Layout) (contents : Option (List ℕ)) (w : Workspace) (d : ℕ) (b : List ℕ) → IsAcceptedLayout v
-    → is_looked_at w d ≡ false → IsBefore v contents w d b → IsBefore v contents w (suc d) b
+    → is_checked w d ≡ false → IsBefore v contents w d b → IsBefore v contents w (suc d) b
 before_skipped v contents w d b g h k = elim (cases_Bool (slice_index w.kinds.items d == 4)) [
   | inl e ↦ record {
     gives_bytes = k.gives_bytes;

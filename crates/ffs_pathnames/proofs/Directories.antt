@@ -5,7 +5,7 @@ use Rattle.std.specs.List.{flat_map}
 use Rattle.ffs_volume.specs.Directories.Entries.{Chunk}
 use Rattle.ffs_volume.specs.Directories.Roles.{Volume, RoledEntry, roled_chunk}
 use Rattle.ffs_volume.specs.Directories.PathnameCheck.{are_sound}
-use Rattle.ffs_pathnames.specs.Marks.{is_quiet, are_quiet, after_look, after_looks}
+use Rattle.ffs_pathnames.specs.NameMarks.{is_quiet, are_quiet, after_look, after_looks}
 
 and_assoc : (a b c : Bool) → ((a && b) && c) ≡ (a && (b && c))
 and_assoc true b c = refl

@@ -20,7 +20,7 @@ use Rattle.ffs_pathnames.specs.DirectoryContext.{DirectoryContext}
 use Rattle.ffs_pathnames.specs.Gathers.{IsVerdict, is_silent}
 use Rattle.ffs_pathnames.specs.Header.{dot_in, dotdot_in, dot_said, dotdot_said, header_reported, is_right_dot}
 use Rattle.ffs_pathnames.specs.Header.{is_right_dotdot, is_right_header, shape_reported}
-use Rattle.ffs_pathnames.specs.Marks.{Marks, after_roled, entries_reported, entry_lines_of, plain_reported}
+use Rattle.ffs_pathnames.specs.NameMarks.{NameMarks, after_roled, entries_reported, roled_reported, plain_reported}
 use Rattle.ffs_pathnames.specs.Verdicts.{suspect_message, verdict_reported}
 use Rattle.ffs_pathnames.specs.declared.verdict.Verdict.{Verdict}
 use Rattle.ffs_pathnames.specs.declared.verdict.Verdict.TheVariants.{OutOfRange, Whiteout, Fine, Unallocated, Named}
@@ -99,7 +99,7 @@ verdict_some (Named n) number about path directory h =
     (kind_entry about n.label path) h
 
 -- a plain entry whose verdict isn't silent has one
-pub plain_some : (v : Volume) (s : ℕ) (m : Marks) (e : Entry) (verdict : Verdict) → IsVerdict v s m e verdict →
+pub plain_some : (v : Volume) (s : ℕ) (m : NameMarks) (e : Entry) (verdict : Verdict) → IsVerdict v s m e verdict →
     is_silent verdict ≡ false → 1 ≤ length (plain_reported v s m e)
 plain_some v s m e verdict is h =
     subst (λ ms. 1 ≤ length ms) (sym is.reported) (verdict_some verdict e.number _ _ _ h)
@@ -113,13 +113,13 @@ extra_some about path e = go (is_one_dot e.name) _ _
     go false x y = omega arith
 
 -- those of an entry, and those of the entries after it
-pub entry_counted : (v : Volume) (s : ℕ) (m m' : Marks) (e : RoledEntry) (es es' : List RoledEntry) → es ≡ e ∷ es' →
+pub entry_counted : (v : Volume) (s : ℕ) (m m' : NameMarks) (e : RoledEntry) (es es' : List RoledEntry) → es ≡ e ∷ es' →
     after_roled v s m e ≡ m' →
-    length (entries_reported v s m es) ≡ length (entry_lines_of v s m e) + length (entries_reported v s m' es')
+    length (entries_reported v s m es) ≡ length (roled_reported v s m e) + length (entries_reported v s m' es')
 entry_counted v s m m' e es es' is after =
     ap (λ l. length (entries_reported v s m l)) is
-    ∙ (length-append (entry_lines_of v s m e) (entries_reported v s (after_roled v s m e) es')
-    ∙ ap (λ k. length (entry_lines_of v s m e) + length (entries_reported v s k es')) after)
+    ∙ (length-append (roled_reported v s m e) (entries_reported v s (after_roled v s m e) es')
+    ∙ ap (λ k. length (roled_reported v s m e) + length (entries_reported v s k es')) after)
 
 -- ---- a directory that isn't in order has one before its entries
 shape_some : (short even gap sound : Bool) (x y z t : TreeMessage) →

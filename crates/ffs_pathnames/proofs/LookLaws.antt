@@ -23,8 +23,8 @@ use Rattle.ffs_volume.specs.Directories.PathnameCheck.{has_wrong_type, is_first_
 use Rattle.ffs_volume.specs.Directories.PathnameCheck.{named_lines}
 use Rattle.ffs_volume.specs.Directories.PathnameCheck.{plain_lines, entry_lines, lines_of_entries}
 use Rattle.ffs_volume.specs.Directories.PathnameCheck.{entry_lines_of as lines_by_role}
-use Rattle.ffs_pathnames.specs.Marks.{belongs, after_look, after_looks, is_plain_quiet, is_role_quiet, is_quiet}
-use Rattle.ffs_pathnames.specs.Marks.{are_quiet}
+use Rattle.ffs_pathnames.specs.NameMarks.{belongs, after_look, after_looks, is_plain_quiet, is_role_quiet, is_quiet}
+use Rattle.ffs_pathnames.specs.NameMarks.{are_quiet}
 use Rattle.ffs_pathnames.proofs.Places.{size_of, size_more}
 use Rattle.ffs_pathnames.proofs.MarkLaws.{IsEntry, IsDirectory, from_parent_is, any_more, or_true, or_false}
 use Rattle.ffs_pathnames.proofs.MarkLaws.{other_number}

@@ -25,8 +25,8 @@ use Rattle.ffs_volume.specs.Directories.PathnameCheck.{has_wrong_type, entry_lin
 use Rattle.ffs_volume.specs.Directories.PathnameCheck.{is_first_entry_of_suspect}
 use Rattle.ffs_volume.specs.Directories.PathnameCheck.{is_extraneous, named_lines, plain_lines, entry_lines}
 use Rattle.ffs_volume.specs.Directories.PathnameCheck.{lines_of_entries}
-use Rattle.ffs_pathnames.specs.Marks.{Marks, is_flagged, is_calm, is_due, after_name, after_roled, named_reported}
-use Rattle.ffs_pathnames.specs.Marks.{plain_reported, role_reported, entry_lines_of, entries_reported, belongs}
+use Rattle.ffs_pathnames.specs.NameMarks.{NameMarks, is_flagged, is_calm, is_stamped, after_name, after_roled, named_reported}
+use Rattle.ffs_pathnames.specs.NameMarks.{plain_reported, role_reported, roled_reported, entries_reported, belongs}
 use Rattle.ffs_pathnames.specs.MarksRight.{AreRight}
 use Rattle.ffs_pathnames.proofs.Places.{size_of, size_more, first_here}
 
@@ -119,7 +119,8 @@ from_parent_is v s done es e i p = one (e.entry.number == 2) refl (is_value (par
         ∙ place_is v s done es e i p
     one false q false r = refl
 
-suspect_same : (v : Volume) (s : ℕ) (done es : List RoledEntry) (e : RoledEntry) (m : Marks) → IsEntry v s done e es →
+suspect_same : (v : Volume) (s : ℕ) (done es : List RoledEntry) (e : RoledEntry) (m : NameMarks) → IsEntry v s done e es
+    →
     e.role ≡ Plain → e.entry.number < v.count → e.entry.number ≢ 1 → AreRight v s done m →
     is_first_entry_of_suspect v s (size_of done) e.entry.number
     ≡ (is_suspect v e.entry.number && (not (e.entry.number == 2) && not (is_flagged m e.entry.number)))
@@ -137,21 +138,22 @@ suspect_same v s done es e m i p h other r = one (is_suspect v e.entry.number) r
         ap (λ b. not (e.entry.number == 2) && b)
         (first_name_is v s done es e i p ∙ sym (ap not (r.passed e.entry.number h q other n)))
 
-extraneous_same : (v : Volume) (s : ℕ) (done es : List RoledEntry) (e : RoledEntry) (m : Marks) → IsEntry v s done e es
+extraneous_same : (v : Volume) (s : ℕ) (done es : List RoledEntry) (e : RoledEntry) (m : NameMarks) → IsEntry v s done e
+    es
     → e.role ≡ Plain → e.entry.number < v.count → AreRight v s done m →
-    is_extraneous v s (size_of done) e.entry.number ≡ (is_dir v e.entry.number && not (is_due s m e.entry.number))
+    is_extraneous v s (size_of done) e.entry.number ≡ (is_dir v e.entry.number && not (is_stamped s m e.entry.number))
 extraneous_same v s done es e m i p h r = one (is_dir v e.entry.number) refl
   where
     one : (b : Bool) → is_dir v e.entry.number ≡ b →
         (b && not (is_parent_entry (graph_of v) s (size_of done) e.entry.number))
-        ≡ (b && not (is_due s m e.entry.number))
+        ≡ (b && not (is_stamped s m e.entry.number))
     one false q = refl
     one true q = ap not (from_parent_is v s done es e i p
         ∙ sym (r.due e.entry.number h
         ∙ ap (λ d. (d && (not (e.entry.number == 2) && is_value (parent (graph_of v) e.entry.number) s))
         && not (list_any (is_naming_entry e.entry.number) done)) q))
 
-named_same : (v : Volume) (s : ℕ) (done es : List RoledEntry) (e : RoledEntry) (m : Marks) → IsEntry v s done e es →
+named_same : (v : Volume) (s : ℕ) (done es : List RoledEntry) (e : RoledEntry) (m : NameMarks) → IsEntry v s done e es →
     e.role ≡ Plain → e.entry.number < v.count → e.entry.number ≢ 1 → AreRight v s done m →
     named_lines v s (size_of done) e.entry ≡ named_reported v s m e.entry
 unfolding named_lines
@@ -163,7 +165,8 @@ named_same v s done es e m i p h other r =
     (kind_entry (attributes v e.entry.number) (label_of (v.class e.entry.number))
     (entry_path (graph_of v) s e.entry.name))))
     (suspect_same v s done es e m i p h other r)
-    ∙ ap (λ b. reported (is_suspect v e.entry.number && (not (e.entry.number == 2) && not (is_flagged m e.entry.number)))
+    ∙ ap (λ b. reported (is_suspect v e.entry.number && (not (e.entry.number == 2) && not (is_flagged m
+    e.entry.number)))
     (message_on_suspect v e.entry.number (entry_path (graph_of v) s e.entry.name))
     ++ (reported b (extraneous (entry_path (graph_of v) s e.entry.name) (dir_path (graph_of v) e.entry.number))
     ++ reported (has_wrong_type v e.entry)
@@ -171,7 +174,7 @@ named_same v s done es e m i p h other r =
     (entry_path (graph_of v) s e.entry.name))))
     (extraneous_same v s done es e m i p h r)
 
-plain_same : (v : Volume) (s : ℕ) (done es : List RoledEntry) (e : RoledEntry) (m : Marks) → IsEntry v s done e es →
+plain_same : (v : Volume) (s : ℕ) (done es : List RoledEntry) (e : RoledEntry) (m : NameMarks) → IsEntry v s done e es →
     e.role ≡ Plain → AreRight v s done m →
     plain_lines v s (size_of done) e.entry ≡ plain_reported v s m e.entry
 unfolding plain_lines
@@ -215,10 +218,10 @@ plain_same v s done es e m i p r = one (nat_lt e.entry.number v.count) refl
           (named_same v s done es e m i p (ltb-true e.entry.number v.count q) n r)
     ]
 
-seen_same : (v : Volume) (s : ℕ) (done es : List RoledEntry) (e : RoledEntry) (m : Marks) → IsEntry v s done e es →
+seen_same : (v : Volume) (s : ℕ) (done es : List RoledEntry) (e : RoledEntry) (m : NameMarks) → IsEntry v s done e es →
     AreRight v s done m →
-    entry_lines v s (size_of done) e ≡ entry_lines_of v s m e
-unfolding entry_lines entry_lines_of
+    entry_lines v s (size_of done) e ≡ roled_reported v s m e
+unfolding entry_lines roled_reported
 seen_same v s done es e m i r = one e.role refl
   where
     one : (role : Role) → e.role ≡ role → lines_by_role v s (size_of done) role e.entry
@@ -272,7 +275,7 @@ not_counted v e x t h = elim (cases_eq x e.entry.number) [
   | inr n ↦ other_number x e n
 ]
 
-skips : (v : Volume) (s : ℕ) (done : List RoledEntry) (e : RoledEntry) (m : Marks) →
+skips : (v : Volume) (s : ℕ) (done : List RoledEntry) (e : RoledEntry) (m : NameMarks) →
     (is_plain e.role && nat_lt e.entry.number v.count) ≡ false → AreRight v s done m → AreRight v s (done ++ e ∷ []) m
 skips v s done e m t r = record {
   passed = λ x h q o n. r.passed x h q o n ∙ ap (λ b. some_below (λ t. is_naming_dir (graph_of v) t x) s || b)
@@ -302,7 +305,7 @@ flags_long v n flags = one (is_suspect v n)
     one false = refl
 
 -- and those of inodes that aren't suspect stay
-pub calm_name : (v : Volume) (s n x : ℕ) (m : Marks) → is_calm v (after_name v s m n) x ≡ is_calm v m x
+pub calm_name : (v : Volume) (s n x : ℕ) (m : NameMarks) → is_calm v (after_name v s m n) x ≡ is_calm v m x
 calm_name v s n x m = elim (cases_eq x n) [
   | inl z ↦ same (is_suspect v n) refl z
   | inr o ↦ ap (λ b. not (is_suspect v x) && b) (other_flag v n x m.flags o)
@@ -317,7 +320,7 @@ calm_name v s n x m = elim (cases_eq x n) [
         ap (λ b. not b && slice_index_or (slice_set m.flags n true) x false) suspect
         ∙ sym (ap (λ b. not b && is_flagged m x) suspect)
 
-name_passed : (v : Volume) (s : ℕ) (done : List RoledEntry) (e : RoledEntry) (m : Marks) → e.role ≡ Plain →
+name_passed : (v : Volume) (s : ℕ) (done : List RoledEntry) (e : RoledEntry) (m : NameMarks) → e.role ≡ Plain →
     e.entry.number < v.count → AreRight v s done m →
     (x : ℕ) → x < v.count → is_suspect v x ≡ true → x ≢ 1 → x ≢ 2 →
     is_flagged (after_name v s m e.entry.number) x
@@ -357,9 +360,9 @@ stays s n x stamps o = one (slice_index stamps n == s)
     one true = get_or-set_other stamps n x 0 0 o
     one false = refl
 
-name_due : (v : Volume) (s : ℕ) (done : List RoledEntry) (e : RoledEntry) (m : Marks) → 2 ≤ s → e.role ≡ Plain →
+name_due : (v : Volume) (s : ℕ) (done : List RoledEntry) (e : RoledEntry) (m : NameMarks) → 2 ≤ s → e.role ≡ Plain →
     e.entry.number < v.count → AreRight v s done m →
-    (x : ℕ) → x < v.count → is_due s (after_name v s m e.entry.number) x
+    (x : ℕ) → x < v.count → is_stamped s (after_name v s m e.entry.number) x
     ≡ (belongs v s x && not (list_any (is_naming_entry x) (done ++ e ∷ [])))
 name_due v s done e m two p low r x h = elim (cases_eq x e.entry.number) [
   | inl z ↦
@@ -389,7 +392,7 @@ plain_role Dotdot h = absurd (cc)
 plain_role Extra h = absurd (cc)
 plain_role Empty h = absurd (cc)
 
-pub right_after : (v : Volume) (s : ℕ) (done : List RoledEntry) (e : RoledEntry) (m : Marks) → 2 ≤ s →
+pub right_after : (v : Volume) (s : ℕ) (done : List RoledEntry) (e : RoledEntry) (m : NameMarks) → 2 ≤ s →
     AreRight v s done m → AreRight v s (done ++ e ∷ []) (after_roled v s m e)
 right_after v s done e m two r = one (is_plain e.role && nat_lt e.entry.number v.count) refl
   where
@@ -413,7 +416,7 @@ pub record IsDirectory (v : Volume) (s : ℕ) : Type 0 where
   pub below : s < v.count
   pub from_two : 2 ≤ s
 
-pub right_reported : (v : Volume) (s : ℕ) (done es : List RoledEntry) (m : Marks) → IsDirectory v s →
+pub right_reported : (v : Volume) (s : ℕ) (done es : List RoledEntry) (m : NameMarks) → IsDirectory v s →
     roled_entries v s ≡ done ++ es → AreRight v s done m →
     lines_of_entries v s (size_of done) es ≡ entries_reported v s m es
 unfolding lines_of_entries
@@ -424,4 +427,4 @@ right_reported v s done (e ∷ es) m d whole r =
     let rest = right_reported v s (done ++ e ∷ []) es (after_roled v s m e) d
     (whole ∙ sym (append_assoc done (e ∷ []) es)) (right_after v s done e m d.from_two r) in
     ap (λ ls. ls ++ lines_of_entries v s (suc (size_of done)) es) here
-    ∙ ap (λ ls. entry_lines_of v s m e ++ ls) (ap (λ j. lines_of_entries v s j es) (sym (size_more done e)) ∙ rest)
+    ∙ ap (λ ls. roled_reported v s m e ++ ls) (ap (λ j. lines_of_entries v s j es) (sym (size_more done e)) ∙ rest)

@@ -2,9 +2,9 @@
 use Rattle.std.specs.Prelude.{◌≡◌, ℕ, Bool, List}
 use Rattle.std.proofs.Common.{sym, ap, ◌∙◌}
 use Rattle.ffs_volume.specs.Directories.Roles.{Volume, RoledEntry}
-use Rattle.ffs_pathnames.specs.Marks.{Marks, after_roled}
+use Rattle.ffs_pathnames.specs.NameMarks.{NameMarks, after_roled}
 
-abbrev with_marks : List Bool → List ℕ → Marks
+abbrev with_marks : List Bool → List ℕ → NameMarks
 with_marks p s = record { flags = p; stamps = s }
 
 pub passes : (v : Volume) (d : ℕ) (e : RoledEntry) (p0 p1 p2 p3 : List Bool) (s0 s1 s2 s3 : List ℕ) → p1 ≡ p0 → s1 ≡ s0

@@ -22,45 +22,47 @@ use Rattle.ffs_volume.specs.Messages.Kinds.{TreeMessage, of_tree}
 use Rattle.ffs_volume.specs.Directories.Roles.{Volume, RoledEntry, roled_chunk, roled_from, roled_entries, is_dir}
 use Rattle.ffs_workspace.specs.Leaves.{LeavesSurvey}
 use Rattle.ffs_pathnames.specs.DirectoryContext.{DirectoryContext}
-use Rattle.ffs_pathnames.specs.Marks.{Marks, after_roled, after_entries, entry_lines_of, entries_reported}
+use Rattle.ffs_pathnames.specs.NameMarks.{NameMarks, after_roled, after_entries, roled_reported, entries_reported}
 use Rattle.ffs_workspace.proofs.Leaving.{claims_left, survey_left}
 use Rattle.ffs_pathnames.proofs.Looking.{roled_at_place}
 use Rattle.ffs_workspace.specs.declared.workspace.Workspace.{Workspace}
 
 -- the marks after some entries and others
-pub after_more : (v : Volume) (s : ℕ) (m : Marks) (xs ys : List RoledEntry) → after_entries v s m (xs ++ ys)
+pub after_more : (v : Volume) (s : ℕ) (m : NameMarks) (xs ys : List RoledEntry) → after_entries v s m (xs ++ ys)
     ≡ after_entries v s (after_entries v s m xs) ys
 after_more v s m [] ys = refl
 after_more v s m (x ∷ xs) ys = after_more v s (after_roled v s m x) xs ys
 
 -- what is reported of some entries and others
-pub reported_more : (v : Volume) (s : ℕ) (m : Marks) (xs ys : List RoledEntry) →
+pub reported_more : (v : Volume) (s : ℕ) (m : NameMarks) (xs ys : List RoledEntry) →
     entries_reported v s m (xs ++ ys) ≡ entries_reported v s m xs ++ entries_reported v s (after_entries v s m xs) ys
 reported_more v s m [] ys = refl
 reported_more v s m (x ∷ xs) ys =
-    ap (λ (ms : List TreeMessage). entry_lines_of v s m x ++ ms) (reported_more v s (after_roled v s m x) xs ys)
-    ∙ sym (append_assoc (entry_lines_of v s m x) (entries_reported v s (after_roled v s m x) xs)
+    ap (λ (ms : List TreeMessage). roled_reported v s m x ++ ms) (reported_more v s (after_roled v s m x) xs ys)
+    ∙ sym (append_assoc (roled_reported v s m x) (entries_reported v s (after_roled v s m x) xs)
     (entries_reported v s (after_entries v s (after_roled v s m x) xs) ys))
 
 -- an entry is reported, and the others are to come
-pub entry_reported : (v : Volume) (s : ℕ) (m m' : Marks) (e : RoledEntry) (es es' : List RoledEntry) → es ≡ e ∷ es' →
+pub entry_reported : (v : Volume) (s : ℕ) (m m' : NameMarks) (e : RoledEntry) (es es' : List RoledEntry) → es ≡ e ∷ es'
+    →
     after_roled v s m e ≡ m' →
-    map of_tree (entries_reported v s m es) ≡ map of_tree (entry_lines_of v s m e)
+    map of_tree (entries_reported v s m es) ≡ map of_tree (roled_reported v s m e)
     ++ map of_tree (entries_reported v s m' es')
 entry_reported v s m m' e es es' is after =
     ap (λ l. map of_tree (entries_reported v s m l)) is
-    ∙ (map-append of_tree (entry_lines_of v s m e) (entries_reported v s (after_roled v s m e) es')
-    ∙ ap (λ k. map of_tree (entry_lines_of v s m e) ++ map of_tree (entries_reported v s k es')) after)
+    ∙ (map-append of_tree (roled_reported v s m e) (entries_reported v s (after_roled v s m e) es')
+    ∙ ap (λ k. map of_tree (roled_reported v s m e) ++ map of_tree (entries_reported v s k es')) after)
 
 -- an entry is passed
-pub entry_passed : (v : Volume) (s : ℕ) (all m m' : Marks) (e : RoledEntry) (es es' : List RoledEntry) → es ≡ e ∷ es' →
+pub entry_passed : (v : Volume) (s : ℕ) (all m m' : NameMarks) (e : RoledEntry) (es es' : List RoledEntry) → es ≡ e ∷
+    es' →
     after_roled v s m e ≡ m' →
     all ≡ after_entries v s m es → all ≡ after_entries v s m' es'
 entry_passed v s all m m' e es es' is after q = q
     ∙ (ap (after_entries v s m) is ∙ ap (λ k. after_entries v s k es') after)
 
 -- a chunk is reported, and the others are to come
-pub chunk_reported : (v : Volume) (s : ℕ) (m m' : Marks) (c : Chunk) (cs cs' : List Chunk) → cs ≡ c ∷ cs' →
+pub chunk_reported : (v : Volume) (s : ℕ) (m m' : NameMarks) (c : Chunk) (cs cs' : List Chunk) → cs ≡ c ∷ cs' →
     after_entries v s m (roled_chunk c) ≡ m' →
     map of_tree (entries_reported v s m (flat_map roled_chunk cs))
     ≡ map of_tree (entries_reported v s m (roled_chunk c))
@@ -74,7 +76,7 @@ chunk_reported v s m m' c cs cs' is after =
     ++ map of_tree (entries_reported v s k (flat_map roled_chunk cs'))) after))
 
 -- a chunk is passed
-pub chunk_passed : (v : Volume) (s : ℕ) (all m m' : Marks) (c : Chunk) (cs cs' : List Chunk) → cs ≡ c ∷ cs' →
+pub chunk_passed : (v : Volume) (s : ℕ) (all m m' : NameMarks) (c : Chunk) (cs cs' : List Chunk) → cs ≡ c ∷ cs' →
     after_entries v s m (roled_chunk c) ≡ m' →
     all ≡ after_entries v s m (flat_map roled_chunk cs) → all ≡ after_entries v s m' (flat_map roled_chunk cs')
 chunk_passed v s all m m' c cs cs' is after q =

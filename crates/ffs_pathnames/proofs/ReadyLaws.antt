@@ -1,8 +1,7 @@
 -- What is ready stays so where a chunk is read.
 use Rattle.std.proofs.Common.{◌≡◌, ℕ, refl, sym, ap, subst, ◌∙◌, rules}
-use Rattle.std.specs.Prelude.{Result, vec_len}
+use Rattle.std.specs.Prelude.{Result, Ok, Err, vec_len}
 use Rattle.ffs_image.specs.Device.{Device}
-use Rattle.ffs_image.specs.Reads.{ReadAfter}
 use Rattle.ffs_image.specs.declared.image.ImageFault.{ImageFault}
 use Rattle.std.specs.declared.alloc.Global.{Global}
 use Rattle.std.specs.declared.vec.Vec.{Vec}
@@ -10,6 +9,7 @@ use Rattle.ffs_volume.specs.declared.Layout.{Layout}
 use Rattle.ffs_walk.specs.declared.blocks.Blocks.{Blocks}
 use Rattle.ffs_walk.specs.declared.window.Window.{Window}
 use Rattle.ffs_walk.specs.Windows.{WindowHolds}
+use Rattle.ffs_workspace.specs.declared.workspace.Windows.{Windows}
 use Rattle.ffs_workspace.specs.declared.workspace.Workspace.{Workspace}
 use Rattle.ffs_workspace.specs.Lengths.{inodes_of}
 use Rattle.ffs_workspace.specs.Ready.{IsReady}
@@ -18,13 +18,19 @@ use Rattle.ffs_workspace.specs.declared.table.Table.{Table}
 use Rattle.ffs_workspace.proofs.Readiness.{ready_table}
 use Rattle.ffs_paths.specs.declared.siblings.Siblings.{Siblings}
 use Rattle.ffs_paths.specs.Reads.{OnlyReads}
-use Rattle.ffs_paths.proofs.Keeping.{siblings_held}
+use Rattle.ffs_paths.proofs.Keeping.{kept_on, reads_then, siblings_held}
 use Rattle.ffs_names.specs.Windows.{CanReadChunks}
-use Rattle.ffs_pathnames.specs.Ready.{ReadyWith}
+use Rattle.ffs_pathnames.specs.Ready.{PathLeaves, ReadyWith}
 
 -- a workspace with other blocks and another chunk in its windows
 abbrev pub with_chunk : Workspace → Blocks → Window → Workspace
 with_chunk w blocks chunk = record w { windows = record w.windows { blocks = blocks; chunk = chunk } }
+
+-- the other windows are as they were
+pub others_stay : (w w' : Windows) (blocks : Blocks) (chunk : Window) →
+    w' ≡ record w { blocks = w'.blocks; chunk = w'.chunk }
+    → record w' { blocks = blocks; chunk = chunk } ≡ record w { blocks = blocks; chunk = chunk }
+others_stay w w' blocks chunk same = ap (λ (x : Windows). record x { blocks = blocks; chunk = chunk }) same
 
 pub ready_read : (v : Layout) (d d' : Device) (w : Workspace) (blocks : Blocks) (chunk : Window) → IsReady v d w
     → d'.contents ≡ d.contents → CanReadChunks v d' blocks chunk → IsReady v d' (with_chunk w blocks chunk)
@@ -100,13 +106,9 @@ can_read_in v d w r = record {
   holds = r.windows.chunk;
 }
 
--- what two calls leave that read
-pub reads_more : {E : Type 0} (v : Layout) (d d' d'' : Device) (w w' w'' : Workspace) (q : Result E ImageFault) → d' ≡ d
-    → w' ≡ record w { windows = w'.windows } → w'.windows.chunk ≡ w.windows.chunk →
-    OnlyReads v d' d'' w' w'' q → OnlyReads v d d'' w w'' q
-reads_more v d d' d'' w w' w'' q e lists chunk s = record {
-  lists = s.lists ∙ ap (λ (x : Workspace). record x { windows = w''.windows }) lists;
-  chunk = s.chunk ∙ chunk;
-  ready = s.ready;
-  read = subst (λ x. ReadAfter x d'' q) e s.read;
-}
+-- what a call leaves that made a path, and another that only read
+pub leaves_read : {S T : Type 0} {v : Layout} {d d' d'' : Device} {w w' w'' : Workspace} {s : Siblings} {x : S}
+    (result : Result T ImageFault) → PathLeaves v d d' w w' s (Ok x) → OnlyReads v d' d'' w' w'' result
+    → PathLeaves v d d'' w w'' s result
+leaves_read (Ok y) path read = record { reads = reads_then path.reads read; siblings = kept_on _ read path.siblings }
+leaves_read (Err e) path read = record { reads = reads_then path.reads read; siblings = tt }

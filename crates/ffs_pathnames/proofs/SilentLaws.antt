@@ -50,9 +50,9 @@ use Rattle.ffs_names.specs.Surveys.{FlagsCalm}
 use Rattle.ffs_names.proofs.DirLaws.{kind_dirs}
 use Rattle.ffs_names.proofs.DirLaws as dirs
 use Rattle.ffs_pathnames.specs.Begins.{dir_starts}
-use Rattle.ffs_pathnames.specs.Calm.{IsSilent}
+use Rattle.ffs_pathnames.specs.Calm.{IsSilentDirectory}
 use Rattle.ffs_pathnames.specs.Header.{dot_in, dotdot_in, dot_said, dotdot_said}
-use Rattle.ffs_pathnames.specs.Marks.{belongs, after_look, is_plain_quiet, is_role_quiet, is_quiet, are_quiet}
+use Rattle.ffs_pathnames.specs.NameMarks.{belongs, after_look, is_plain_quiet, is_role_quiet, is_quiet, are_quiet}
 use Rattle.ffs_pathnames.specs.Reads.{chunks_read}
 use Rattle.ffs_pathnames.proofs.ChunkLaws.{chunks_are}
 use Rattle.ffs_pathnames.proofs.InOrder.{silent, two, in_order, dotdot_right}
@@ -434,7 +434,7 @@ unfolding roled_entries
 by_chunks v d s r h = h
 
 pub calm_silent : (v : Layout) (b : List ℕ) (w : Workspace) → IsAcceptedLayout v → IsFor v w → HoldsClaims v b w →
-    HoldsSurvey v b w → FlagsCalm v b w → (d : ℕ) → bool_at w.flags.items d ≡ true → IsSilent (volume_of v b) d
+    HoldsSurvey v b w → FlagsCalm v b w → (d : ℕ) → bool_at w.flags.items d ≡ true → IsSilentDirectory (volume_of v b) d
 calm_silent v b w g m h r f d set =
     let sh = shown v b w m h r in
     let c = f.calm d set in

@@ -14,13 +14,13 @@ use Rattle.ffs_workspace.specs.declared.workspace.Workspace.{Workspace}
 use Rattle.ffs_workspace.specs.Holds.{bool_at, HoldsSurvey}
 use Rattle.ffs_workspace.specs.Lengths.{IsFor}
 use Rattle.ffs_workspace.specs.Places.{is_due}
-use Rattle.ffs_pathnames.specs.Before.{IsBefore, is_looked_at}
+use Rattle.ffs_pathnames.specs.Before.{IsBefore, is_checked}
 use Rattle.ffs_pathnames.proofs.Carrying.{before_skipped, lines_skipped}
 use Rattle.ffs_pathnames.proofs.StampLaws.{none_stamped, stamps_length}
 
 -- none of the inodes from 2 to before n is looked at
 abbrev pub IsUnseen : Workspace → ℕ → Type 0
-IsUnseen w n = (x : ℕ) → 2 ≤ x → x < n → is_looked_at w x ≡ false
+IsUnseen w n = (x : ℕ) → 2 ≤ x → x < n → is_checked w x ≡ false
 
 fewer : (w : Workspace) (n : ℕ) → IsUnseen w (suc n) → IsUnseen w n
 fewer w n h x low below = h x low (omega arith)

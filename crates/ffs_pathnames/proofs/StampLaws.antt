@@ -12,7 +12,7 @@ use Rattle.ffs_workspace.specs.declared.workspace.Workspace.{Workspace}
 use Rattle.ffs_workspace.specs.Places.{is_due, place_in, ArePlaces, AreNoted}
 use Rattle.ffs_pathnames.specs.Examines.{LeavesQueue}
 use Rattle.ffs_pathnames.specs.declared.inodes.Inodes.{Inodes}
-use Rattle.ffs_pathnames.specs.Marks.{Marks, belongs, after_look, after_name, after_roled, is_due as is_due_in}
+use Rattle.ffs_pathnames.specs.NameMarks.{NameMarks, belongs, after_look, after_name, after_roled, is_stamped}
 use Rattle.ffs_pathnames.specs.Sees.{Sees, is_suspect_by, marks_in, stamps_in}
 use Rattle.ffs_pathnames.specs.Stamps.{stamp_of, stamps_of, KeepPlaces}
 
@@ -137,7 +137,7 @@ after_stamp v i s word ws ws' role e sees two plain mine set due =
     ∙ sym (ap (λ t. if t then slice_set (stamps_in i ws) e.number s else stamps_in i ws)
     (and_from (is_plain role) (belongs v s e.number) plain belongs_to))
 
-abbrev marks_of_parts : List Bool → List ℕ → Marks
+abbrev marks_of_parts : List Bool → List ℕ → NameMarks
 marks_of_parts flags stamps = record { flags = flags; stamps = stamps }
 
 -- an entry that names an inode due in s is passed
@@ -153,7 +153,7 @@ after_pass v i s word suspect flags flags' ws ws' role e sees plain below shown 
     let m = marks_in i flags ws in
     ap (λ b. if b then after_name v s m x else m) (and_from (is_plain role) (nat_lt x v.count) plain inside)
     ∙ (ap (λ b. marks_of_parts (if b then slice_set flags x true else flags)
-    (if is_due_in s m x then slice_set m.stamps x 0 else m.stamps)) (sees.suspect x ∙ sym shown)
-    ∙ (ap (λ l. marks_of_parts l (if is_due_in s m x then slice_set m.stamps x 0 else m.stamps)) (sym flagged)
+    (if is_stamped s m x then slice_set m.stamps x 0 else m.stamps)) (sees.suspect x ∙ sym shown)
+    ∙ (ap (λ l. marks_of_parts l (if is_stamped s m x then slice_set m.stamps x 0 else m.stamps)) (sym flagged)
     ∙ (ap (λ b. marks_of_parts flags' (if b then slice_set m.stamps x 0 else m.stamps)) (eq-eqb _ s stamp)
     ∙ ap (marks_of_parts flags') (sym (unstamped i.parents.now.items ws ws' x word set due)))))

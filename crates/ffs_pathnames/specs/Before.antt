@@ -13,7 +13,7 @@ use Rattle.ffs_pathnames.specs.MarksRight.{AreRightBefore}
 use Rattle.ffs_pathnames.specs.Sees.{is_suspect_by}
 
 -- what was found stays; the flags of suspect inodes are taken away, and no others; nothing is stamped
-pub record AreClear (old new : Workspace) : Type 0 where
+pub record AreMarksCleared (old new : Workspace) : Type 0 where
   pub survey : LeavesSurvey old new
   pub flags : (x : ℕ) → bool_at new.flags.items x
       ≡ (bool_at old.flags.items x && not (is_suspect_by old.kinds.items old.marked.items x))
@@ -28,8 +28,8 @@ pub record IsBefore (v : Layout) (contents : Option (List ℕ)) (w : Workspace) 
   pub marks : AreRightBefore (volume_of v b) d (marks_of w)
 
 -- a directory that isn't of size 0 and isn't known to be calm; the flag of a marked one says that an entry has named it
-abbrev pub is_looked_at : Workspace → ℕ → Bool
-is_looked_at w x = (slice_index w.kinds.items x == 4)
+abbrev pub is_checked : Workspace → ℕ → Bool
+is_checked w x = (slice_index w.kinds.items x == 4)
     && (bool_at w.marked.items x || not (bool_at w.flags.items x))
 
 -- what is reported of the root, by its kind and by whether it is marked

@@ -14,8 +14,8 @@ use Rattle.ffs_volume.specs.Directories.Volumes.{volume_of}
 use Rattle.ffs_workspace.specs.declared.workspace.Workspace.{Workspace}
 use Rattle.ffs_pathnames.specs.declared.examine.DirectorySummary.{DirectorySummary}
 use Rattle.ffs_pathnames.specs.Gathers.{marks_of}
-use Rattle.ffs_pathnames.specs.Marks.{are_quiet, after_looks}
-use Rattle.ffs_pathnames.specs.Reads.{start_of}
+use Rattle.ffs_pathnames.specs.NameMarks.{are_quiet, after_looks}
+use Rattle.ffs_pathnames.specs.Reads.{start_chunk}
 use Rattle.ffs_pathnames.specs.Header.{header_reported}
 
 -- of its size, its Gaps, its chunks and its first two entries
@@ -29,10 +29,11 @@ number_if n = if n == 0 then None else Some n
 
 -- an entry of the chunk at the start of the file, if that was found
 abbrev pub started_entry : ℕ → Bool → Order → List ℕ → Option Entry
-started_entry i started order start = option_and_then (λ c. nth_entry i c.entries) (start_of [] started order start)
+started_entry i started order start = option_and_then (λ c. nth_entry i c.entries) (start_chunk [] started order start)
 
 -- its inode is read, its entries were looked at, and each inode that belongs to it is stamped
-pub record IsBegun (v : Layout) (b : List ℕ) (d : ℕ) (old : Workspace) (e : DirectorySummary) (new : Workspace) :
+pub record IsDirectoryBegun (v : Layout) (b : List ℕ) (d : ℕ) (old : Workspace) (e : DirectorySummary) (new : Workspace)
+    :
     Type 0 where
   pub inode : e.inode ≡ inode_of v b d
   pub quiet : e.found.quiet ≡ are_quiet (volume_of v b) d (marks_of old).stamps (roled_entries (volume_of v b) d)

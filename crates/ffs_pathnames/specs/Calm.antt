@@ -2,10 +2,10 @@
 use Rattle.std.specs.Prelude.{◌≡◌, ℕ, ◌<◌, ◌==◌, true, false, List, [], slice_index}
 use Rattle.ffs_volume.specs.Directories.Roles.{Volume, roled_entries}
 use Rattle.ffs_pathnames.specs.Begins.{dir_starts}
-use Rattle.ffs_pathnames.specs.Marks.{are_quiet}
+use Rattle.ffs_pathnames.specs.NameMarks.{are_quiet}
 
 -- nothing is reported before the entries of x, and nothing of these, where no inode is stamped by x yet
-pub record IsSilent (v : Volume) (x : ℕ) : Type 0 where
+pub record IsSilentDirectory (v : Volume) (x : ℕ) : Type 0 where
   pub starts : dir_starts v x ≡ []
   pub entries : (stamps : List ℕ) → ((y : ℕ) → y < v.count → (slice_index stamps y == x) ≡ false)
       → are_quiet v x stamps (roled_entries v x) ≡ true

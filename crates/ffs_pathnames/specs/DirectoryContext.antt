@@ -1,6 +1,9 @@
 -- What is known of an image's bytes during the pathname check of a directory.
 use Rattle.std.specs.Prelude.{◌≡◌, ℕ, true, IsTrue, List, Option, Some}
+use Rattle.ffs_image.specs.Device.{Device}
+use Rattle.ffs_report.specs.Known.{ForBytes}
 use Rattle.ffs_volume.specs.declared.Layout.{Layout}
+use Rattle.ffs_volume.specs.Blocks.Inodes.{inode_of}
 use Rattle.ffs_volume.specs.Directories.Graph.{Graph}
 use Rattle.ffs_volume.specs.Directories.Parents.{graph_of}
 use Rattle.ffs_volume.specs.Directories.Roles.{is_dir}
@@ -8,6 +11,8 @@ use Rattle.ffs_volume.specs.Directories.Volumes.{volume_of}
 use Rattle.ffs_workspace.specs.declared.workspace.Workspace.{Workspace}
 use Rattle.ffs_workspace.specs.Holds.{HoldsClaims, HoldsSurvey}
 use Rattle.ffs_paths.specs.DirectoryPaths.{IsPathOf}
+use Rattle.ffs_pathnames.specs.declared.directory.Directory.{Directory}
+use Rattle.ffs_pathnames.specs.declared.header.DirectoryHeader.{DirectoryHeader}
 use Rattle.ffs_pathnames.specs.declared.one_entry.EntryTexts.{EntryTexts}
 
 -- the image gives them, the workspace holds what the block check and the survey leave, and d is a directory
@@ -27,3 +32,16 @@ pub record KnowsPath (v : Layout) (contents : Option (List ℕ)) (w : Workspace)
     (b : List ℕ) : Type 0 where
   pub knows : DirectoryContext v contents w d b
   pub path : BeginsPathOf (graph_of (volume_of v b)) d t
+
+-- after a call the path that is begun, if any, still is that of x
+abbrev pub KeepsPath : Layout → Device → Workspace → ℕ → (old new : EntryTexts) → Type 0
+KeepsPath v d w x old new =
+    ForBytes (KnowsPath v d.contents w x old) (λ b. BeginsPathOf (graph_of (volume_of v b)) x new)
+
+-- and the inode that was read is that of the directory
+abbrev pub KnowsDirectory : Layout → Device → Workspace → Directory → List ℕ → Type 0
+KnowsDirectory v d w x b = DirectoryContext v d.contents w x.number b × (x.inode ≡ inode_of v b x.number)
+
+-- and the size of a header is that of the directory
+abbrev pub KnowsHeader : Layout → Device → Workspace → DirectoryHeader → List ℕ → Type 0
+KnowsHeader v d w h b = DirectoryContext v d.contents w h.number b × (h.size ≡ (inode_of v b h.number).size)

@@ -11,8 +11,8 @@ use Rattle.ffs_volume.specs.Directories.PathnameCheck.{are_sound}
 use Rattle.ffs_volume.specs.Directories.Volumes.{volume_of}
 use Rattle.ffs_pathnames.specs.declared.examine.DirectorySummary.{DirectorySummary}
 use Rattle.ffs_pathnames.specs.Gathers.{marks_of}
-use Rattle.ffs_pathnames.specs.Marks.{are_quiet, after_looks}
-use Rattle.ffs_pathnames.specs.Reads.{start_of}
+use Rattle.ffs_pathnames.specs.NameMarks.{are_quiet, after_looks}
+use Rattle.ffs_pathnames.specs.Reads.{start_chunk}
 use Rattle.ffs_pathnames.specs.Stamps.{KeepPlaces}
 use Rattle.ffs_workspace.specs.declared.workspace.Workspace.{Workspace}
 use Rattle.ffs_workspace.specs.Leaves.{LeavesSurvey}
@@ -34,12 +34,13 @@ pub record ExamineLeaves {T : Type 0} (v : Layout) (d d' : Device) (old new : Wo
 
 -- its inode, whether a Gap of it is kept, whether its chunks are sound, the chunk at the start of the file, whether
 -- nothing may be reported of its entries; and each inode that belongs to it is stamped
-pub record AreFound (v : Layout) (b : List ℕ) (d : ℕ) (old : Workspace) (e : DirectorySummary) (new : Workspace)
-    (start : List ℕ) : Type 0 where
+pub record IsExamined (v : Layout) (b : List ℕ) (d : ℕ) (old : Workspace) (e : DirectorySummary) (new : Workspace) :
+    Type 0 where
   pub inode : e.inode ≡ inode_of v b d
   pub gap : e.found.gap ≡ (volume_of v b).gap d
   pub sound : e.found.sound ≡ are_sound ((volume_of v b).chunks d)
-  pub started : find (λ c. c.offset == 0) ((volume_of v b).chunks d) ≡ start_of [] e.found.started v.order start
+  pub started : find (λ c. c.offset == 0) ((volume_of v b).chunks d) ≡ start_chunk [] e.found.started v.order
+      e.found.start
   pub quiet : e.found.quiet ≡ are_quiet (volume_of v b) d (marks_of old).stamps (roled_entries (volume_of v b) d)
   pub stamps : (marks_of new).stamps
       ≡ after_looks (volume_of v b) d (marks_of old).stamps (roled_entries (volume_of v b) d)

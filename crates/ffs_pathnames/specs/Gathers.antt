@@ -2,19 +2,25 @@
 use Rattle.std.specs.Prelude.{◌≡◌, ℕ, ◌<◌, ◌^◌, ◌==◌, Bool, true, false, not, ◌||◌, ◌&&◌, IsTrue}
 use Rattle.std.specs.Prelude.{List, length, vec_len}
 use Rattle.ffs_volume.specs.Blocks.Inodes.{is_allocated}
+use Rattle.ffs_volume.specs.declared.constants.TheConstants.{ROOTINO}
 use Rattle.ffs_volume.specs.declared.Attr.{Attr}
-use Rattle.ffs_volume.specs.Directories.Entries.{Entry}
-use Rattle.ffs_volume.specs.Directories.Roles.{Volume, is_dir, is_suspect}
+use Rattle.ffs_volume.specs.declared.Layout.{Layout}
+use Rattle.ffs_volume.specs.Messages.Kinds.{TreeMessage}
+use Rattle.ffs_volume.specs.Directories.Entries.{Entry, entries_of}
+use Rattle.ffs_volume.specs.Directories.Roles.{Volume, RoledEntry, is_dir, is_suspect, roled_from}
 use Rattle.ffs_volume.specs.Directories.Parents.{graph_of}
 use Rattle.ffs_volume.specs.Directories.Paths.{dir_path, entry_path}
-use Rattle.ffs_volume.specs.Directories.PathnameCheck.{attributes, has_wrong_type, label_of}
+use Rattle.ffs_volume.specs.Directories.PathnameCheck.{attributes, extra_lines, has_wrong_type, label_of}
+use Rattle.ffs_layout.specs.Entry.{entry_value}
 use Rattle.ffs_pathnames.specs.declared.inodes.Inodes.{Inodes}
+use Rattle.ffs_pathnames.specs.declared.entries.DirectoryChunk.{DirectoryChunk}
+use Rattle.ffs_pathnames.specs.declared.one_entry.DirectoryEntry.{DirectoryEntry}
 use Rattle.ffs_pathnames.specs.declared.verdict.Faults.{Faults}
 use Rattle.ffs_pathnames.specs.declared.verdict.Verdict.{Verdict}
 use Rattle.ffs_pathnames.specs.declared.verdict.Verdict.TheVariants.{OutOfRange, Whiteout, Fine, Unallocated, Named}
 use Rattle.ffs_pathnames.specs.Verdicts.{verdict_reported}
 use Rattle.ffs_workspace.specs.declared.workspace.Workspace.{Workspace}
-use Rattle.ffs_pathnames.specs.Marks.{Marks, is_due, is_flagged, plain_reported}
+use Rattle.ffs_pathnames.specs.NameMarks.{NameMarks, is_stamped, is_flagged, roled_reported, plain_reported}
 use Rattle.ffs_pathnames.specs.Sees.{Sees}
 use Rattle.ffs_pathnames.specs.Stamps.{stamps_of}
 
@@ -26,8 +32,27 @@ IsEnough v verdict dir number name about path directory =
     (dir_path (graph_of v) number)
 
 -- the marks that a workspace holds during the pathname check
-abbrev pub marks_of : Workspace → Marks
+abbrev pub marks_of : Workspace → NameMarks
 marks_of w = record { flags = w.flags.items; stamps = stamps_of w.parents.items w.queue.items }
+
+-- an entry with its role
+abbrev pub roled_value : DirectoryEntry → RoledEntry
+roled_value e = record { role = e.role; entry = entry_value e.entry }
+
+-- what is reported of it, by the marks of a workspace
+abbrev pub roled_lines : Volume → Workspace → DirectoryEntry → List TreeMessage
+roled_lines v w e = roled_reported v e.dir (marks_of w) (roled_value e)
+
+-- of a plain one, and of an extra one
+abbrev pub plain_lines : Volume → Workspace → DirectoryEntry → List TreeMessage
+plain_lines v w e = plain_reported v e.dir (marks_of w) (entry_value e.entry)
+
+abbrev pub extra_reported : Volume → DirectoryEntry → List TreeMessage
+extra_reported v e = extra_lines (attributes v e.dir) (dir_path (graph_of v) e.dir) (entry_value e.entry)
+
+-- the entries of a chunk with their roles
+abbrev pub roled_in : Layout → DirectoryChunk → List RoledEntry
+roled_in v c = roled_from c.first 0 (entries_of v.order c.bytes.now)
 
 -- whether the messages show the attributes of the inode that the entry names, and its path
 abbrev pub asks_attr : Verdict → Bool
@@ -53,17 +78,17 @@ is_silent Unallocated = false
 is_silent (Named n) = not (n.suspect || (n.extraneous || n.kind))
 
 -- what is wrong with an allocated inode that the entry e of the directory s names, by the lists and by the marks
-pub record AreFaultsOf (i : Inodes) (s : ℕ) (m : Marks) (e : Entry) (n : Faults) : Type 0 where
+pub record AreFaultsOf (i : Inodes) (s : ℕ) (m : NameMarks) (e : Entry) (n : Faults) : Type 0 where
   pub suspect : (v : Volume) → Sees v i
-      → n.suspect ≡ (is_suspect v e.number && (not (e.number == 2) && not (is_flagged m e.number)))
+      → n.suspect ≡ (is_suspect v e.number && (not (e.number == ROOTINO) && not (is_flagged m e.number)))
   pub marked : (v : Volume) → Sees v i → n.marked ≡ v.marked e.number
-  pub extraneous : (v : Volume) → Sees v i → n.extraneous ≡ (is_dir v e.number && not (is_due s m e.number))
+  pub extraneous : (v : Volume) → Sees v i → n.extraneous ≡ (is_dir v e.number && not (is_stamped s m e.number))
   pub kind : (v : Volume) → Sees v i → IsTrue (is_allocated (v.class e.number)) → n.kind ≡ has_wrong_type v e
   pub label : (v : Volume) → Sees v i → IsTrue (is_allocated (v.class e.number))
       → n.label ≡ label_of (v.class e.number)
 
 -- a verdict on the plain entry e of the directory s, by the lists and by the marks
-pub record IsVerdictBy (i : Inodes) (s : ℕ) (m : Marks) (e : Entry) (verdict : Verdict) : Type 0 where
+pub record IsVerdictBy (i : Inodes) (s : ℕ) (m : NameMarks) (e : Entry) (verdict : Verdict) : Type 0 where
   pub below : IsTrue (asks_attr verdict) → e.number < length i.kinds.now
   pub linked : (v : Volume) → Sees v i → IsTrue (asks_path verdict) → is_dir v e.number ≡ true
   pub reported : (v : Volume) → Sees v i → plain_reported v s m e
@@ -71,7 +96,7 @@ pub record IsVerdictBy (i : Inodes) (s : ℕ) (m : Marks) (e : Entry) (verdict :
       (dir_path (graph_of v) e.number)
 
 -- a verdict says what is reported of a plain entry e of the directory s, and asks for the path of a directory alone
-pub record IsVerdict (v : Volume) (s : ℕ) (m : Marks) (e : Entry) (verdict : Verdict) : Type 0 where
+pub record IsVerdict (v : Volume) (s : ℕ) (m : NameMarks) (e : Entry) (verdict : Verdict) : Type 0 where
   pub linked : asks_path verdict ≡ true → is_dir v e.number ≡ true
   pub reported : plain_reported v s m e
       ≡ verdict_reported verdict e.number (attributes v e.number) (entry_path (graph_of v) s e.name)

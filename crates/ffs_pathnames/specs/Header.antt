@@ -1,12 +1,17 @@
 -- What is reported of a directory's size, Gaps and chunks, and of its first two entries, by what was found of them.
-use Rattle.std.specs.Prelude.{ℕ, ◌%◌, ◌==◌, Bool, false, not, ◌&&◌, nat_lt, List, ◌++◌, Option, None, Some}
+use Rattle.std.specs.Prelude.{ℕ, ◌%◌, ◌==◌, Bool, false, not, ◌&&◌, nat_lt, List, ◌++◌, Option, None, Some, option_map}
 use Rattle.ffs_volume.specs.declared.constants.TheConstants.{DIRBLKSIZ, MINDIRSIZE, DT_DIR}
 use Rattle.ffs_volume.specs.declared.Attr.{Attr}
 use Rattle.ffs_volume.specs.Directories.Entries.{Entry, is_live}
-use Rattle.ffs_volume.specs.Directories.Roles.{is_one_dot, is_two_dots, entry_if}
+use Rattle.ffs_volume.specs.Directories.Roles.{Volume, is_one_dot, is_two_dots, entry_if}
 use Rattle.ffs_volume.specs.Messages.Kinds.{TreeMessage, reported, dir_short, dir_length, dir_gap}
 use Rattle.ffs_volume.specs.Messages.Kinds.{dir_corrupt, number_dot, kind_dot, number_dotdot, kind_dotdot}
-use Rattle.ffs_volume.specs.Directories.PathnameCheck.{missing_dot_lines, missing_dotdot_lines, is_wrong_parent}
+use Rattle.ffs_volume.specs.Directories.PathnameCheck.{missing_dot_lines, missing_dotdot_lines}
+use Rattle.ffs_volume.specs.Directories.PathnameCheck.{attributes, is_wrong_parent}
+use Rattle.ffs_volume.specs.Directories.Parents.{graph_of}
+use Rattle.ffs_volume.specs.Directories.Paths.{dir_path}
+use Rattle.ffs_layout.specs.Entry.{entry_value}
+use Rattle.ffs_pathnames.specs.declared.header.DirectoryHeader.{DirectoryHeader}
 
 -- of the size, of whether a Gap is kept, and of whether all chunks are sound
 abbrev pub size_reported : Attr → List ℕ → List TreeMessage
@@ -69,3 +74,16 @@ unfoldable pub header_reported : Attr → List ℕ → ℕ → Option ℕ → Bo
     → List TreeMessage
 header_reported about path d parent gap sound first second = shape_reported about path gap sound
     ++ dots_reported about path d parent first second
+
+-- by a header's own values
+abbrev pub lines_of_header : Attr → List ℕ → DirectoryHeader → List TreeMessage
+lines_of_header about path h = header_reported about path h.number h.parent h.gap h.sound
+    (option_map entry_value h.first) (option_map entry_value h.second)
+
+abbrev pub is_header_right : DirectoryHeader → Bool
+is_header_right h = is_right_header h.size h.number h.parent h.gap h.sound (option_map entry_value h.first)
+    (option_map entry_value h.second)
+
+-- of a directory of a volume
+abbrev pub header_lines : Volume → DirectoryHeader → List TreeMessage
+header_lines v h = lines_of_header (attributes v h.number) (dir_path (graph_of v) h.number) h

@@ -1,4 +1,4 @@
-pub mod Marks
+pub mod NameMarks
 pub mod Stamps
 pub mod SaysNames
 pub mod NameLines

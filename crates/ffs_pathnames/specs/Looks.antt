@@ -2,18 +2,18 @@
 use Rattle.std.specs.Prelude.{◌≡◌, ℕ, ◌<◌, ◌^◌, ◌==◌, Bool, List, []}
 use Rattle.std.specs.List.{flat_map, find}
 use Rattle.ffs_volume.specs.declared.Layout.{Layout}
-use Rattle.ffs_volume.specs.declared.Inode.{Inode}
 use Rattle.ffs_volume.specs.declared.Order.{Order}
 use Rattle.ffs_volume.specs.Blocks.Steps.{steps_of}
 use Rattle.ffs_volume.specs.Directories.Entries.{entries_of, has_gap, is_sound}
 use Rattle.ffs_volume.specs.Directories.PathnameCheck.{are_sound}
 use Rattle.ffs_volume.specs.Directories.Roles.{Volume, roled_chunk, roled_from}
 use Rattle.ffs_volume.specs.Encodings.Replay.{fresh_replay, replayed_steps}
+use Rattle.ffs_pathnames.specs.declared.directory.Directory.{Directory}
 use Rattle.ffs_pathnames.specs.declared.directory.FirstLook.{FirstLook}
 use Rattle.ffs_pathnames.specs.declared.inodes.Inodes.{Inodes}
 use Rattle.ffs_pathnames.specs.declared.look.EntriesSummary.{EntriesSummary}
-use Rattle.ffs_pathnames.specs.Marks.{are_quiet, after_looks}
-use Rattle.ffs_pathnames.specs.Reads.{chunks_read, start_of}
+use Rattle.ffs_pathnames.specs.NameMarks.{are_quiet, after_looks}
+use Rattle.ffs_pathnames.specs.Reads.{chunks_read, start_chunk}
 use Rattle.ffs_pathnames.specs.Sees.{Sees, stamps_in}
 
 -- of a chunk's entries: whether nothing may be reported of them, and whether they fill it; and each inode that belongs
@@ -26,16 +26,17 @@ pub record IsChunkLook (inodes : Inodes) (d : ℕ) (order : Order) (first : Bool
       ≡ after_looks v d (stamps_in inodes old) (roled_from first 0 (entries_of order chunk))
   pub sound : f.sound ≡ is_sound order chunk
 
--- of the chunks of an inode that keeps `cut` offers: whether nothing may be reported of their entries, whether they
--- are all sound, whether a Gap is kept, the chunk at the start of the file; and each inode that belongs to the
--- directory d is stamped, by the words before and after
-pub record IsFirstLook (v : Layout) (inodes : Inodes) (d : ℕ) (i : Inode) (cut : ℕ) (b : List ℕ) (old : List ℕ)
-    (f : FirstLook) (new start : List ℕ) : Type 0 where
-  pub quiet : (volume : Volume) → Sees volume inodes → i.size < 2 ^ 31
-      → f.quiet ≡ are_quiet volume d (stamps_in inodes old) (flat_map roled_chunk (chunks_read v i cut b))
-  pub stamps : (volume : Volume) → Sees volume inodes → i.size < 2 ^ 31 → stamps_in inodes new
-      ≡ after_looks volume d (stamps_in inodes old) (flat_map roled_chunk (chunks_read v i cut b))
-  pub sound : i.size < 2 ^ 31 → f.sound ≡ are_sound (chunks_read v i cut b)
-  pub gap : f.gap ≡ has_gap (replayed_steps v cut fresh_replay (steps_of v i b))
-  pub started : i.size < 2 ^ 31 → find (λ c. c.offset == 0) (chunks_read v i cut b)
-      ≡ start_of [] f.started v.order start
+-- of the chunks of a directory: whether nothing may be reported of their entries, whether they
+-- are all sound, whether a Gap is kept, the chunk at the start of the file; and each inode that belongs to
+-- the directory is stamped, by the words before and after
+pub record IsFirstLook (v : Layout) (inodes : Inodes) (d : Directory) (b : List ℕ) (old : List ℕ) (f : FirstLook)
+    (new : List ℕ) : Type 0 where
+  pub quiet : (volume : Volume) → Sees volume inodes → d.inode.size < 2 ^ 31
+      → f.quiet ≡ are_quiet volume d.number (stamps_in inodes old) (flat_map roled_chunk (chunks_read v d.inode d.cut
+      b))
+  pub stamps : (volume : Volume) → Sees volume inodes → d.inode.size < 2 ^ 31 → stamps_in inodes new
+      ≡ after_looks volume d.number (stamps_in inodes old) (flat_map roled_chunk (chunks_read v d.inode d.cut b))
+  pub sound : d.inode.size < 2 ^ 31 → f.sound ≡ are_sound (chunks_read v d.inode d.cut b)
+  pub gap : f.gap ≡ has_gap (replayed_steps v d.cut fresh_replay (steps_of v d.inode b))
+  pub started : d.inode.size < 2 ^ 31 → find (λ c. c.offset == 0) (chunks_read v d.inode d.cut b)
+      ≡ start_chunk [] f.started v.order f.start

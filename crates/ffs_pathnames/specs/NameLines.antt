@@ -4,7 +4,7 @@ use Rattle.ffs_volume.specs.Messages.Kinds.{TreeMessage, reported}
 use Rattle.ffs_report.specs.Lines.{directory_message, dot_message, entry_message}
 use Rattle.ffs_pathnames.specs.declared.say.NameLine.{NameLine}
 use Rattle.ffs_pathnames.specs.declared.say.NameLine.TheVariants.{Directory, Dot, Entry}
-use Rattle.ffs_pathnames.specs.declared.say.Check.{Check}
+use Rattle.ffs_pathnames.specs.declared.say.LineIf.{LineIf}
 
 abbrev pub name_message : NameLine → TreeMessage
 name_message (Directory line) = directory_message line
@@ -12,5 +12,5 @@ name_message (Dot line) = dot_message line
 name_message (Entry line) = entry_message line
 
 -- two messages, each where its test holds
-abbrev pub two_reported : Check → Check → List TreeMessage
+abbrev pub two_reported : LineIf → LineIf → List TreeMessage
 two_reported a b = reported a.holds (name_message a.line) ++ reported b.holds (name_message b.line)

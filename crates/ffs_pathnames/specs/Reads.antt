@@ -28,5 +28,5 @@ pub record ChunksLeave {T : Type 0} (v : Layout) (d d' : Device) (blocks : Block
   pub read : ReadAfter d d' result
 
 -- the chunk at the start of the file: the one that was found, or else the first of those to come
-abbrev pub start_of : List Chunk → Bool → Order → List ℕ → Option Chunk
-start_of cs started order start = if started then Some (chunk_of order 0 start) else find (λ c. c.offset == 0) cs
+abbrev pub start_chunk : List Chunk → Bool → Order → List ℕ → Option Chunk
+start_chunk cs started order start = if started then Some (chunk_of order 0 start) else find (λ c. c.offset == 0) cs

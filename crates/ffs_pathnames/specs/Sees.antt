@@ -9,7 +9,7 @@ use Rattle.ffs_volume.specs.Encodings.Kinds.{is_dir_kind, is_empty_dir_kind, is_
 use Rattle.ffs_volume.specs.Encodings.Kinds.{is_unknown_kind, type_of_kind, class_of_kind}
 use Rattle.ffs_workspace.specs.Holds.{bool_at}
 use Rattle.ffs_pathnames.specs.declared.inodes.Inodes.{Inodes}
-use Rattle.ffs_pathnames.specs.Marks.{Marks}
+use Rattle.ffs_pathnames.specs.NameMarks.{NameMarks}
 use Rattle.ffs_pathnames.specs.Stamps.{stamps_of}
 
 -- x is marked, or a directory of size 0
@@ -33,11 +33,11 @@ pub record Sees (v : Volume) (i : Inodes) : Type 0 where
 abbrev pub stamps_in : Inodes → (words : List ℕ) → List ℕ
 stamps_in i words = stamps_of i.parents.now.items words
 
-abbrev pub marks_in : Inodes → List Bool → (words : List ℕ) → Marks
+abbrev pub marks_in : Inodes → List Bool → (words : List ℕ) → NameMarks
 marks_in i flags words = record { flags = flags; stamps = stamps_in i words }
 
 -- each inode has a flag and a word
-pub record CanMark (i : Inodes) (flags : List Bool) (words : List ℕ) : Type 0 where
+pub record HasFlagAndWord (i : Inodes) (flags : List Bool) (words : List ℕ) : Type 0 where
   pub flags_long : length flags ≡ length i.kinds.now
   pub words_long : length words ≡ length i.kinds.now
 

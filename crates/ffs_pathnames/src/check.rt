@@ -8,32 +8,29 @@ ghost use Rattle.ffs_report.specs.Runs.{PhaseReports};
 ghost use Rattle.ffs_report.specs.Progress.{progress};
 ghost use Rattle.ffs_volume.specs.declared.Layout.{Layout};
 ghost use Rattle.ffs_volume.specs.Directories.Graph.{parent};
-ghost use Rattle.ffs_volume.specs.Blocks.Inodes.{inode_of};
 ghost use Rattle.ffs_volume.specs.Directories.Parents.{graph_of};
-ghost use Rattle.ffs_volume.specs.Directories.PathnameCheck.{attributes};
-ghost use Rattle.ffs_volume.specs.Directories.Paths.{dir_path};
 ghost use Rattle.ffs_layout.specs.Entry.{entry_value};
 ghost use Rattle.ffs_workspace.specs.Holds.{HoldsSurvey};
 ghost use Rattle.ffs_workspace.specs.Places.{AreNoted};
-ghost use Rattle.ffs_pathnames.specs.Begins.{dir_starts, started_entry, IsBegun};
+ghost use Rattle.ffs_pathnames.specs.Begins.{dir_starts, started_entry, IsDirectoryBegun};
 ghost use Rattle.ffs_pathnames.specs.Costs.{begin_reads, check_reads};
-ghost use Rattle.ffs_pathnames.specs.Header.{header_reported};
+ghost use Rattle.ffs_pathnames.specs.Header.{header_lines};
 ghost use Rattle.ffs_pathnames.specs.Gathers.{marks_of};
-ghost use Rattle.ffs_pathnames.specs.DirectoryContext.{DirectoryContext};
+ghost use Rattle.ffs_pathnames.specs.DirectoryContext.{DirectoryContext, KnowsHeader};
 ghost use Rattle.ffs_pathnames.specs.LineReads.{ReadsByLines};
 ghost use Rattle.ffs_pathnames.specs.MarksRight.{AreRightBefore};
 ghost use Rattle.ffs_pathnames.specs.Ready.{ReadyToPath, PhaseLeaves, LinesLeave};
 
+use crate::directory::{Directory, FirstLook};
 use crate::examine::{DirectorySummary, examine};
 use crate::header::{DirectoryHeader, is_in_order, say_header};
-use crate::one_entry::gather_dir;
+use crate::one_entry::{EntryTexts, gather_dir};
 use crate::second_look::report_directory;
 use ffs_image::Image;
 use ffs_layout::{Entry, Geometry, entry_at};
 use ffs_paths::{PathText, Siblings};
 use ffs_report::{Output, Report, RunFault};
 use ffs_volume::Order;
-use ffs_volume::constants::DIRBLKSIZ;
 use ffs_workspace::Workspace;
 
 /// The parent of a directory, as the survey found it.
@@ -50,64 +47,59 @@ fn parent_of(workspace: &Workspace, dir: u32) -> Option<u32>
 }
 
 /// The first two entries of the chunk at the start of a directory, if that was found.
-fn first_two<'a>(
-    order: Order,
-    start: &'a [u8; DIRBLKSIZ],
-    started: bool,
-) -> (Option<Entry<'a>>, Option<Entry<'a>>)
-    ensures first { option_map entry_value result.0 ≡ started_entry 0 started order start.now }
-    ensures second { option_map entry_value result.1 ≡ started_entry 1 started order start.now }
+fn first_two<'a>(order: Order, found: &'a FirstLook) -> (Option<Entry<'a>>, Option<Entry<'a>>)
+    ensures first { option_map entry_value result.0
+        ≡ started_entry 0 found.now.started order found.now.start }
+    ensures second { option_map entry_value result.1
+        ≡ started_entry 1 found.now.started order found.now.start }
 {
-    if !started {
+    if !found.started {
         return (None, None);
     }
-    match entry_at(order, start, 0) {
+    match entry_at(order, &found.start, 0) {
         None => (None, None),
         Some(entry) => {
-            let second = entry_at(order, start, usize::from(entry.length));
+            let second = entry_at(order, &found.start, usize::from(entry.length));
             (Some(entry), second)
         }
     }
 }
 
-/// Prints the lines of a directory of this size that come before those of its entries.
+/// Prints the lines of a directory that come before those of its entries.
 fn report_header<I: Image, W: Output>(
     geometry: &Geometry,
     image: &mut I,
     workspace: &mut Workspace,
     siblings: &mut Siblings,
     report: &mut Report<'_, W>,
-    dir: u32,
-    parent: Option<u32>,
-    size: u64,
-    shape: DirectoryHeader<'_>,
+    header: DirectoryHeader<'_>,
 ) -> Result<(), RunFault>
-    requires { ReadyToPath geometry.now.layout (I.device image.old) workspace.old siblings.old dir }
-    ensures text { PhaseReports (λ b. DirectoryContext geometry.now.layout
-        (I.device image.old).contents workspace.old dir b
-        × (size ≡ (inode_of geometry.now.layout b dir).size))
-        (λ b. map of_tree (header_reported (attributes (volume_of geometry.now.layout b) dir)
-        (dir_path (graph_of (volume_of geometry.now.layout b)) dir) dir parent
-        shape.entry.gap shape.entry.sound (option_map entry_value shape.entry.first)
-        (option_map entry_value shape.entry.second)))
+    requires { ReadyToPath geometry.now.layout (I.device image.old) workspace.old siblings.old
+        header.number }
+    ensures text { PhaseReports
+        (KnowsHeader geometry.now.layout (I.device image.old) workspace.old header.entry)
+        (λ b. map of_tree (header_lines (volume_of geometry.now.layout b) header.entry))
         (progress W.sink report.old) (progress W.sink report.new) result }
     ensures leaves { LinesLeave geometry.now.layout (I.device image.old) (I.device image.new)
         workspace.old workspace.new siblings.new result }
-    ensures counted { ReadsByLines geometry.now.layout (λ b. DirectoryContext geometry.now.layout
-        (I.device image.old).contents workspace.old dir b
-        × (size ≡ (inode_of geometry.now.layout b dir).size))
-        (λ b. header_reported (attributes (volume_of geometry.now.layout b) dir)
-        (dir_path (graph_of (volume_of geometry.now.layout b)) dir) dir parent
-        shape.entry.gap shape.entry.sound (option_map entry_value shape.entry.first)
-        (option_map entry_value shape.entry.second)) workspace.old workspace.new
-        (I.reads image.old) (I.reads image.new) }
+    ensures counted { ReadsByLines geometry.now.layout
+        (KnowsHeader geometry.now.layout (I.device image.old) workspace.old header.entry)
+        (λ b. header_lines (volume_of geometry.now.layout b) header.entry)
+        workspace.old workspace.new (I.reads image.old) (I.reads image.new) }
 {
-    if is_in_order(dir, parent, size, shape) {
+    if is_in_order(header) {
         return Ok(());
     }
     let mut path = PathText::new();
-    let attr = gather_dir(geometry, image, workspace, siblings, dir, &mut path)?;
-    say_header(report, dir, parent, attr, path.as_slice(), shape)?;
+    let attr = gather_dir(
+        geometry,
+        image,
+        workspace,
+        siblings,
+        header.number,
+        &mut path,
+    )?;
+    say_header(report, attr, path.as_slice(), header)?;
     Ok(())
 }
 
@@ -129,7 +121,7 @@ fn begin_directory<I: Image, W: Output>(
         (progress W.sink report.old) (progress W.sink report.new) result }
     ensures begun { IfOk result (λ e. ForBytes
         (DirectoryContext geometry.now.layout (I.device image.old).contents workspace.old dir)
-        (λ b. IsBegun geometry.now.layout b dir workspace.old e workspace.new)) }
+        (λ b. IsDirectoryBegun geometry.now.layout b dir workspace.old e workspace.new)) }
     ensures reads { ForBytes
         (DirectoryContext geometry.now.layout (I.device image.old).contents workspace.old dir)
         (λ b. AreNoted geometry.now.layout b workspace.old.queue.items
@@ -138,27 +130,19 @@ fn begin_directory<I: Image, W: Output>(
     ensures leaves { PhaseLeaves geometry.now.layout (I.device image.old) (I.device image.new)
         workspace.old workspace.new siblings.new result }
 {
-    let mut start = [0u8; DIRBLKSIZ];
-    let examined = examine(geometry, image, workspace, dir, &mut start)?;
+    let examined = examine(geometry, image, workspace, dir)?;
     let parent = parent_of(workspace, dir);
-    let (first, second) = first_two(geometry.layout.order, &start, examined.found.started);
-    let shape = DirectoryHeader {
+    let (first, second) = first_two(geometry.layout.order, &examined.found);
+    let header = DirectoryHeader {
+        number: dir,
+        parent,
+        size: examined.inode.size,
         gap: examined.found.gap,
         sound: examined.found.sound,
         first,
         second,
     };
-    report_header(
-        geometry,
-        image,
-        workspace,
-        siblings,
-        report,
-        dir,
-        parent,
-        examined.inode.size,
-        shape,
-    )?;
+    report_header(geometry, image, workspace, siblings, report, header)?;
     Ok(examined)
 }
 
@@ -171,12 +155,12 @@ pub fn check_directory<I: Image, W: Output>(
     geometry: &Geometry,
     image: &mut I,
     workspace: &mut Workspace,
-    siblings: &mut Siblings,
+    texts: &mut EntryTexts,
     report: &mut Report<'_, W>,
     dir: u32,
 ) -> Result<(), RunFault>
     requires ready { ReadyToPath geometry.now.layout (I.device image.old) workspace.old
-        siblings.old dir }
+        texts.old.siblings dir }
     requires dir { 2 ≤ dir }
     ensures text { PhaseReports (λ b. DirectoryContext geometry.now.layout
         (I.device image.old).contents workspace.old dir b
@@ -195,19 +179,16 @@ pub fn check_directory<I: Image, W: Output>(
         → I.reads image.new ≤ I.reads image.old + check_reads geometry.now.layout b dir
         (length (sized_dir_lines (volume_of geometry.now.layout b) dir))) }
     ensures leaves { PhaseLeaves geometry.now.layout (I.device image.old) (I.device image.new)
-        workspace.old workspace.new siblings.new result }
+        workspace.old workspace.new texts.new.siblings result }
 {
-    let examined = begin_directory(geometry, image, workspace, siblings, report, dir)?;
+    let examined = begin_directory(geometry, image, workspace, &mut texts.siblings, report, dir)?;
     if examined.found.quiet {
         return Ok(());
     }
-    report_directory(
-        geometry,
-        image,
-        workspace,
-        siblings,
-        report,
-        dir,
-        &examined.inode,
-    )
+    let directory = Directory {
+        number: dir,
+        inode: examined.inode,
+        cut: workspace.cut_of(dir),
+    };
+    report_directory(geometry, image, workspace, texts, report, &directory)
 }

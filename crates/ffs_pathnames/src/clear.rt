@@ -4,7 +4,7 @@ ghost use Rattle.ffs_image.specs.Device.{Device};
 ghost use Rattle.ffs_volume.specs.declared.Layout.{Layout};
 ghost use Rattle.ffs_workspace.specs.Holds.{bool_at};
 ghost use Rattle.ffs_workspace.specs.Ready.{IsReady};
-ghost use Rattle.ffs_pathnames.specs.Before.{AreClear};
+ghost use Rattle.ffs_pathnames.specs.Before.{AreMarksCleared};
 ghost use Rattle.ffs_pathnames.specs.Gathers.{AreAsLong};
 ghost use Rattle.ffs_pathnames.specs.Sees.{is_suspect_by};
 
@@ -28,7 +28,7 @@ fn clear_suspects(inodes: &Inodes<'_>, flags: &mut [bool])
 /// these stay, and say which directories are left out, since nothing can be reported of them.
 pub fn clear_marks(workspace: &mut Workspace)
     requires lengths { AreAsLong workspace.old }
-    ensures clear { AreClear workspace.old workspace.new }
+    ensures clear { AreMarksCleared workspace.old workspace.new }
     ensures ready { (v : Layout) (d : Device) → IsReady v d workspace.old
         → IsReady v d workspace.new }
 {

@@ -9,8 +9,8 @@ ghost use Rattle.ffs_volume.specs.Encodings.ReplayCounts.{replayed_runs};
 ghost use Rattle.ffs_names.specs.Windows.{CanReadChunks};
 ghost use Rattle.ffs_pathnames.specs.Sees.{CanStamp};
 ghost use Rattle.ffs_pathnames.specs.Looks.{IsFirstLook};
-ghost use Rattle.ffs_pathnames.specs.Marks as marks;
-ghost use Rattle.ffs_pathnames.specs.Reads.{start_of, ChunksLeave};
+ghost use Rattle.ffs_pathnames.specs.NameMarks as marks;
+ghost use Rattle.ffs_pathnames.specs.Reads.{start_chunk, ChunksLeave};
 ghost use Rattle.ffs_pathnames.specs.Stamps.{KeepPlaces};
 
 use crate::inodes::Inodes;
@@ -21,7 +21,18 @@ use ffs_memory::FilledList;
 use ffs_names::{Chunks, gap_of};
 use ffs_volume::Inode;
 use ffs_volume::constants::DIRBLKSIZ;
-use ffs_walk::{Blocks, Window};
+use ffs_workspace::Windows;
+
+/// A directory that is read.
+#[derive(Clone, Copy, Debug)]
+pub struct Directory {
+    /// Its number.
+    pub number: u32,
+    /// Its inode.
+    pub inode: Inode,
+    /// How many offers it keeps, or 0 for all (`Workspace::cut_of`).
+    pub cut: u32,
+}
 
 /// What a first look at a directory finds.
 #[derive(Clone, Copy, Debug)]
@@ -34,6 +45,8 @@ pub struct FirstLook {
     pub gap: bool,
     /// Whether a chunk is at the start of the file.
     pub started: bool,
+    /// That chunk.
+    pub start: [u8; DIRBLKSIZ],
 }
 
 /// Keeps a chunk that is at the start of the file, if none is kept yet, and returns whether one is.
@@ -44,8 +57,8 @@ fn keep_start(
     start: &mut [u8; DIRBLKSIZ],
 ) -> bool
     ensures { (order : Order) (cs : List Chunk)
-        → start_of (chunk_of order offset chunk.now ∷ cs) started order start.old
-        ≡ start_of cs result order start.new }
+        → start_chunk (chunk_of order offset chunk.now ∷ cs) started order start.old
+        ≡ start_chunk cs result order start.new }
 {
     if started || offset != 0 {
         return started;
@@ -55,53 +68,61 @@ fn keep_start(
 }
 
 /// Looks at a directory once: at its entries, its chunks, its holes, and the chunk at the start of
-/// the file, which is put into `start`.
+/// the file.
 ///
 /// # Errors
 /// A read of the image that failed.
 pub fn look_directory<I: Image>(
     geometry: &Geometry,
     image: &mut I,
-    blocks: &mut Blocks,
-    data: &mut Window,
+    windows: &mut Windows,
     inodes: &Inodes<'_>,
     words: &mut FilledList<u32>,
-    dir: u32,
-    inode: &Inode,
-    cut: u32,
-    start: &mut [u8; DIRBLKSIZ],
+    directory: &Directory,
 ) -> Result<FirstLook, ImageFault>
-    requires ready { CanReadChunks geometry.now.layout (I.device image.old) blocks.old «data».old }
-    requires words { CanStamp inodes.now dir words.old.items }
+    requires ready { CanReadChunks geometry.now.layout (I.device image.old) windows.old.blocks
+        windows.old.chunk }
+    requires words { CanStamp inodes.now directory.now.number words.old.items }
     ensures found { IfOk result (λ f. ForContents (I.device image.old).contents
-        (λ b. IsFirstLook geometry.now.layout inodes.now dir inode.now cut b words.old.items f
-        words.new.items start.new)) }
+        (λ b. IsFirstLook geometry.now.layout inodes.now directory.now b words.old.items f
+        words.new.items)) }
     ensures places { KeepPlaces words.old.items words.new.items }
     ensures words_long { vec_len words.new ≡ vec_len words.old }
     ensures reads { ForContents (I.device image.old).contents
         (λ b. I.reads image.new ≤ I.reads image.old
-        + replayed_runs geometry.now.layout cut fresh_replay
-        (steps_of geometry.now.layout inode.now b)) }
+        + replayed_runs geometry.now.layout directory.now.cut fresh_replay
+        (steps_of geometry.now.layout directory.now.inode b)) }
+    ensures others { windows.new ≡ record windows.old {
+      blocks = windows.new.blocks;
+      chunk = windows.new.chunk;
+    } }
     ensures leaves { ChunksLeave geometry.now.layout (I.device image.old) (I.device image.new)
-        blocks.new «data».new result }
+        windows.new.blocks windows.new.chunk result }
 {
     let order = geometry.layout.order;
-    let mut chunks = Chunks::start(geometry, inode, cut);
+    let mut chunks = Chunks::start(geometry, &directory.inode, directory.cut);
     let mut chunk = [0u8; DIRBLKSIZ];
+    let mut start = [0u8; DIRBLKSIZ];
     let mut quiet = true;
     let mut sound = true;
     let mut started = false;
-    'chunks: while let Some(offset) = chunks.next(image, blocks, data, &mut chunk)? {
-        let looked = look_chunk(inodes, dir, order, offset == 0, &chunk, words);
+    'chunks: while let Some(offset) = chunks.next(
+        image,
+        &mut windows.blocks,
+        &mut windows.chunk,
+        &mut chunk,
+    )? {
+        let looked = look_chunk(inodes, directory.number, order, offset == 0, &chunk, words);
         quiet &= looked.quiet;
         sound &= looked.sound;
-        started = keep_start(offset, &chunk, started, start);
+        started = keep_start(offset, &chunk, started, &mut start);
     }
-    let gap = gap_of(image, blocks, &mut chunks)?;
+    let gap = gap_of(image, &mut windows.blocks, &mut chunks)?;
     Ok(FirstLook {
         quiet,
         sound,
         gap,
         started,
+        start,
     })
 }

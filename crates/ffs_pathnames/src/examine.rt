@@ -4,14 +4,13 @@ ghost use Rattle.ffs_report.specs.Known.{ForBytes};
 ghost use Rattle.ffs_names.specs.Costs.{directory_cost};
 ghost use Rattle.ffs_paths.specs.Reads.{IsReadyFor};
 ghost use Rattle.ffs_pathnames.specs.DirectoryContext.{DirectoryContext};
-ghost use Rattle.ffs_pathnames.specs.Examines.{ExamineLeaves, AreFound};
+ghost use Rattle.ffs_pathnames.specs.Examines.{ExamineLeaves, IsExamined};
 
-use crate::directory::{FirstLook, look_directory};
+use crate::directory::{Directory, FirstLook, look_directory};
 use crate::inodes::Inodes;
 use ffs_image::{Image, ImageFault};
 use ffs_layout::Geometry;
 use ffs_volume::Inode;
-use ffs_volume::constants::DIRBLKSIZ;
 use ffs_workspace::Workspace;
 
 /// What is known of a directory before anything is reported of it.
@@ -23,7 +22,7 @@ pub struct DirectorySummary {
     pub found: FirstLook,
 }
 
-/// Examines a directory, and puts the chunk at the start of the file into `start`, if it is there.
+/// Examines a directory.
 ///
 /// # Errors
 /// A read of the image that failed.
@@ -32,13 +31,12 @@ pub fn examine<I: Image>(
     image: &mut I,
     workspace: &mut Workspace,
     dir: u32,
-    start: &mut [u8; DIRBLKSIZ],
 ) -> Result<DirectorySummary, ImageFault>
     requires ready { IsReadyFor geometry.now.layout (I.device image.old) workspace.old dir }
     requires dir { 2 ≤ dir }
     ensures found { IfOk result (λ e. ForBytes
         (DirectoryContext geometry.now.layout (I.device image.old).contents workspace.old dir)
-        (λ b. AreFound geometry.now.layout b dir workspace.old e workspace.new start.new)) }
+        (λ b. IsExamined geometry.now.layout b dir workspace.old e workspace.new)) }
     ensures reads { ForBytes
         (DirectoryContext geometry.now.layout (I.device image.old).contents workspace.old dir)
         (λ b. I.reads image.new ≤ I.reads image.old + directory_cost geometry.now.layout b dir) }
@@ -52,17 +50,18 @@ pub fn examine<I: Image>(
         marked: workspace.marked.as_slice(),
         parents: &workspace.parents,
     };
+    let directory = Directory {
+        number: dir,
+        inode,
+        cut,
+    };
     let found = look_directory(
         geometry,
         image,
-        &mut workspace.windows.blocks,
-        &mut workspace.windows.chunk,
+        &mut workspace.windows,
         &inodes,
         &mut workspace.queue,
-        dir,
-        &inode,
-        cut,
-        start,
+        &directory,
     )?;
     Ok(DirectorySummary { inode, found })
 }

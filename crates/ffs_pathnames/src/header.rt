@@ -5,18 +5,24 @@ ghost use Rattle.ffs_volume.specs.Directories.PathnameCheck.{is_wrong_parent};
 ghost use Rattle.ffs_layout.specs.Entry.{entry_value};
 ghost use Rattle.ffs_report.specs.Progress.{progress};
 ghost use Rattle.ffs_pathnames.specs.SaysNames.{SaysNames};
-ghost use Rattle.ffs_pathnames.specs.Header.{size_reported, chunks_reported, shape_reported, there_reported, above_reported, dot_in, dotdot_in, dot_said, dotdot_said, is_right_dot, is_right_dotdot, is_right_header, header_reported};
+ghost use Rattle.ffs_pathnames.specs.Header.{size_reported, chunks_reported, shape_reported, there_reported, above_reported, dot_in, dotdot_in, dot_said, dotdot_said, is_right_dot, is_right_dotdot, is_header_right, lines_of_header};
 
-use crate::say::{Check, NameLine, say_two};
+use crate::say::{LineIf, NameLine, say_two};
 use ffs_layout::Entry;
 use ffs_names::{is_one_dot, is_two_dots};
 use ffs_report::{DirectoryLine, DotLine, Line, OutFault, Output, Report};
 use ffs_volume::Attr;
 use ffs_volume::constants::{DIRBLKSIZ, DT_DIR, MINDIRSIZE};
 
-/// What a first look at a directory found that comes before its entries.
+/// What is known of a directory before its entries are reported.
 #[derive(Clone, Copy, Debug)]
 pub struct DirectoryHeader<'a> {
+    /// Its number.
+    pub number: u32,
+    /// Its parent, as the survey found it.
+    pub parent: Option<u32>,
+    /// Its size.
+    pub size: u64,
     /// Whether a hole of it is kept.
     pub gap: bool,
     /// Whether all its chunks are sound.
@@ -39,11 +45,11 @@ fn say_size<W: Output>(report: &mut Report<'_, W>, attr: Attr, path: &[u8]) -> R
     ensures { SaysNames (progress W.sink report.old) (progress W.sink report.new)
         (size_reported attr path.now) result }
 {
-    let short = Check {
+    let short = LineIf {
         holds: attr.size < MINDIRSIZE,
         line: NameLine::Directory(DirectoryLine::DirShort { attr, path }),
     };
-    let broken = Check {
+    let broken = LineIf {
         holds: has_partial_chunk(attr.size),
         line: NameLine::Directory(DirectoryLine::DirLength {
             path,
@@ -64,11 +70,11 @@ fn say_chunks<W: Output>(
     ensures { SaysNames (progress W.sink report.old) (progress W.sink report.new)
         (chunks_reported attr path.now gap sound) result }
 {
-    let empty = Check {
+    let empty = LineIf {
         holds: gap,
         line: NameLine::Directory(DirectoryLine::DirEmpty { path }),
     };
-    let corrupt = Check {
+    let corrupt = LineIf {
         holds: !sound,
         line: NameLine::Directory(DirectoryLine::DirCorrupt { attr, path }),
     };
@@ -102,11 +108,11 @@ fn say_there<W: Output>(
     ensures { SaysNames (progress W.sink report.old) (progress W.sink report.new)
         (there_reported attr path.now number (entry_value entry.now)) result }
 {
-    let other = Check {
+    let other = LineIf {
         holds: entry.number != number,
         line: NameLine::Dot(DotLine::NumberDot { attr, path }),
     };
-    let kind = Check {
+    let kind = LineIf {
         holds: entry.kind != DT_DIR,
         line: NameLine::Dot(DotLine::KindDot { attr, path }),
     };
@@ -158,11 +164,11 @@ fn say_above<W: Output>(
     ensures { SaysNames (progress W.sink report.old) (progress W.sink report.new)
         (above_reported attr path.now parent (entry_value entry.now)) result }
 {
-    let other = Check {
+    let other = LineIf {
         holds: is_wrong_parent(parent, entry.number),
         line: NameLine::Dot(DotLine::NumberDotdot { attr, path }),
     };
-    let kind = Check {
+    let kind = LineIf {
         holds: entry.kind != DT_DIR,
         line: NameLine::Dot(DotLine::KindDotdot { attr, path }),
     };
@@ -219,20 +225,16 @@ fn say_dotdot<W: Output>(
 #[tactic(auto, unfolding(crate::specs::Header::header_reported))]
 pub fn say_header<W: Output>(
     report: &mut Report<'_, W>,
-    number: u32,
-    parent: Option<u32>,
     attr: Attr,
     path: &[u8],
-    shape: DirectoryHeader<'_>,
+    header: DirectoryHeader<'_>,
 ) -> Result<(), OutFault>
     ensures { SaysNames (progress W.sink report.old) (progress W.sink report.new)
-        (header_reported attr path.now number parent shape.entry.gap shape.entry.sound
-        (option_map entry_value shape.entry.first) (option_map entry_value shape.entry.second))
-        result }
+        (lines_of_header attr path.now header.entry) result }
 {
-    say_shape(report, attr, path, shape.gap, shape.sound)?;
-    say_dot(report, number, attr, path, shape.first)?;
-    say_dotdot(report, parent, attr, path, shape.second)
+    say_shape(report, attr, path, header.gap, header.sound)?;
+    say_dot(report, header.number, attr, path, header.first)?;
+    say_dotdot(report, header.parent, attr, path, header.second)
 }
 
 /// Whether nothing is wrong with `.`, the first entry.
@@ -274,20 +276,17 @@ fn is_shape_right(size: u64, gap: bool, sound: bool) -> bool
     size >= MINDIRSIZE && size % DIRBLKSIZ as u64 == 0 && !gap && sound
 }
 
-/// Whether nothing is reported of a directory of a size before its entries.
-pub fn is_in_order(number: u32, parent: Option<u32>, size: u64, shape: DirectoryHeader<'_>) -> bool
-    ensures value { result ≡ is_right_header size number parent shape.entry.gap shape.entry.sound
-        (option_map entry_value shape.entry.first) (option_map entry_value shape.entry.second) }
-    ensures quiet { IsTrue result → (about : attrs.Attr) (path : List ℕ) → about.size ≡ size →
-        header_reported about path number parent shape.entry.gap shape.entry.sound
-        (option_map entry_value shape.entry.first) (option_map entry_value shape.entry.second)
-        ≡ [] }
+/// Whether nothing is reported of a directory before its entries.
+pub fn is_in_order(header: DirectoryHeader<'_>) -> bool
+    ensures value { result ≡ is_header_right header.entry }
+    ensures quiet { IsTrue result → (about : attrs.Attr) (path : List ℕ)
+        → about.size ≡ header.entry.size → lines_of_header about path header.entry ≡ [] }
 {
-    if !is_shape_right(size, shape.gap, shape.sound) {
+    if !is_shape_right(header.size, header.gap, header.sound) {
         return false;
     }
-    if !is_dot_right(number, shape.first) {
+    if !is_dot_right(header.number, header.first) {
         return false;
     }
-    is_dotdot_right(parent, shape.second)
+    is_dotdot_right(header.parent, header.second)
 }

@@ -22,6 +22,7 @@ pub struct Inodes<'a> {
 
 impl<'a> Inodes<'a> {
     ghost use Rattle.ffs_volume.specs.Encodings.Kinds.{is_dir_kind, is_allocated_kind, is_unknown_kind, type_of_kind};
+    ghost use Rattle.ffs_volume.specs.declared.constants.TheConstants as constants;
     ghost use Rattle.ffs_pathnames.specs.Sees.{is_suspect_by};
     ghost use Rattle.ffs_pathnames.specs.Stamps.{stamps_of};
 
@@ -80,7 +81,8 @@ impl<'a> Inodes<'a> {
     pub fn belongs(&self, inode: u32, parent: u32) -> bool
         requires { inode < length self.now.kinds.now }
         ensures { result ≡ (is_dir_kind (slice_index self.now.kinds.now inode)
-            && (not (inode == 2) && slice_index self.now.parents.now.items inode == parent)) }
+            && (not (inode == constants.ROOTINO)
+            && slice_index self.now.parents.now.items inode == parent)) }
     {
         self.is_dir(inode) && inode != ROOTINO && self.parents[inode as usize] == parent
     }

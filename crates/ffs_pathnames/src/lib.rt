@@ -7,6 +7,17 @@
 //! let root = phase2(&geometry, &mut image, &mut workspace, &mut report)?;
 //! ```
 //!
+//! Its modules, in the order of the phase:
+//!
+//! - `pass2` is the phase. `clear` takes away the survey's flags and stamps that it doesn't need.
+//! - `tree` goes from the root (`root`) over the directories, and `check` checks one of them.
+//! - `examine` reads a directory once: its inode, then its chunks (`directory`), then their entries
+//!   (`look`), by what is known of the inodes that they name (`inodes`).
+//! - `header` says what is wrong with its size, its chunks and its first two entries.
+//! - `second_look` reads its chunks again where something is to be said of their entries: `entries`
+//!   goes over these, `one_entry` gathers what the lines of one show, by its `verdict`.
+//! - `lines` says the lines of a verdict, and `say` a single line.
+//!
 //! It rests on `ffs_paths`, `ffs_names` and `ffs_report`.
 #![tactic(auto)]
 

@@ -4,7 +4,7 @@ ghost use Rattle.ffs_report.specs.Progress.{progress};
 ghost use Rattle.ffs_pathnames.specs.SaysNames.{SaysNames};
 ghost use Rattle.ffs_pathnames.specs.Verdicts.{suspect_message, links_reported, faults_reported, verdict_reported};
 
-use crate::say::{Check, NameLine, say_line, say_two};
+use crate::say::{LineIf, NameLine, say_line, say_two};
 use crate::verdict::{Faults, Verdict};
 use ffs_report::{EntryLine, OutFault, Output, Report};
 use ffs_volume::Attr;
@@ -46,14 +46,14 @@ fn say_links<W: Output>(
     ensures { SaysNames (progress W.sink report.old) (progress W.sink report.new)
         (links_reported faults.now attr path.now directory.now) result }
 {
-    let extraneous = Check {
+    let extraneous = LineIf {
         holds: faults.extraneous,
         line: NameLine::Entry(EntryLine::Extraneous {
             path,
             dir: directory,
         }),
     };
-    let kind = Check {
+    let kind = LineIf {
         holds: faults.kind,
         line: NameLine::Entry(EntryLine::KindEntry {
             label: faults.label,

@@ -5,7 +5,7 @@ ghost use Rattle.ffs_volume.specs.Directories.Roles.{Volume, is_dir};
 ghost use Rattle.ffs_volume.specs.Directories.PathnameCheck.{is_bad_whiteout};
 ghost use Rattle.ffs_layout.specs.Entry.{entry_value};
 ghost use Rattle.ffs_pathnames.specs.Looks.{IsChunkLook};
-ghost use Rattle.ffs_pathnames.specs.Marks as marks;
+ghost use Rattle.ffs_pathnames.specs.NameMarks as marks;
 ghost use Rattle.ffs_pathnames.specs.Sees.{Sees, CanStamp, stamps_in};
 ghost use Rattle.ffs_pathnames.specs.Stamps.{KeepPlaces};
 
@@ -68,11 +68,11 @@ fn is_quiet_plain(inodes: &Inodes<'_>, dir: u32, words: &FilledList<u32>, entry:
     if is_bad_whiteout(entry) {
         return false;
     }
-    entry.number == 1 || is_quiet_inode(inodes, dir, words, entry)
+    entry.number == WINO || is_quiet_inode(inodes, dir, words, entry)
 }
 
 /// Whether it is sure that nothing is reported of an entry. Where it isn't, a line may come or not.
-#[tactic(auto, unfolding(crate::specs::Marks::is_quiet))]
+#[tactic(auto, unfolding(crate::specs::NameMarks::is_quiet))]
 pub fn is_quiet(
     inodes: &Inodes<'_>,
     dir: u32,

@@ -1,5 +1,5 @@
 //! The lines of a plain entry.
-ghost use Rattle.std.specs.Prelude.{◌≡◌, ◌+◌, ◌*◌, ◌<◌, ◌≤◌, ℕ, false, List, length, Some, OnOk, IfOk, IsTrue, map, vec_len};
+ghost use Rattle.std.specs.Prelude.{◌≡◌, ◌+◌, ◌*◌, ◌<◌, ◌≤◌, ℕ, false, List, length, Option, Some, OnOk, IfOk, IsTrue, map, vec_len};
 ghost use Rattle.ffs_image.specs.Device.{ForContents};
 ghost use Rattle.ffs_volume.specs.Messages.Kinds.{of_tree};
 ghost use Rattle.ffs_volume.specs.Directories.PathnameCheck.{attributes, extra_lines};
@@ -15,14 +15,13 @@ ghost use Rattle.ffs_volume.specs.declared.Layout.{Layout};
 ghost use Rattle.ffs_workspace.specs.Lengths.{IsFor};
 ghost use Rattle.ffs_workspace.specs.Holds.{HoldsClaims, HoldsSurvey};
 ghost use Rattle.ffs_pathnames.specs.Gathers.{IsEnough, IsVerdict, AreAsLong, marks_of};
-ghost use Rattle.ffs_pathnames.specs.Gathers.{asks_attr, asks_path, is_silent};
-ghost use Rattle.ffs_pathnames.specs.DirectoryContext.{BeginsPathOf, DirectoryContext, KnowsPath};
+ghost use Rattle.ffs_pathnames.specs.Gathers.{asks_attr, asks_path, extra_reported, is_silent, plain_lines};
+ghost use Rattle.ffs_pathnames.specs.DirectoryContext.{DirectoryContext, KeepsPath, KnowsPath};
 ghost use Rattle.ffs_paths.specs.DirectoryPaths.{IsPathOf};
 ghost use Rattle.ffs_paths.specs.LastPaths.{last_path};
 ghost use Rattle.ffs_paths.specs.Reads.{ForTree, IsReadyFor, OnlyReads, ReadsAtMost, ReadsFew};
 ghost use Rattle.ffs_volume.specs.Report.Reads.{line_reads, path_reads};
 ghost use Rattle.ffs_pathnames.specs.LineReads.{ReadsByLines};
-ghost use Rattle.ffs_pathnames.specs.Marks.{plain_reported};
 ghost use Rattle.ffs_pathnames.specs.Ready.{ReadyWith, ReadyToPath, PathLeaves, LinesLeave};
 
 use crate::inodes::Inodes;
@@ -33,12 +32,25 @@ use ffs_layout::{Entry, Geometry};
 use ffs_names::is_one_dot;
 use ffs_paths::{DirectoryPath, EntryPaths, PathBuffer, PathText, Siblings};
 use ffs_report::{DotLine, Line, OutFault, Output, Report, RunFault};
-use ffs_volume::Attr;
+use ffs_volume::{Attr, Role};
 use ffs_workspace::Workspace;
 
-/// The texts of the lines of an entry, which the next entry's are written over.
+/// An entry of a directory, with its role there.
+#[derive(Clone, Copy, Debug)]
+pub struct DirectoryEntry<'a> {
+    /// The directory.
+    pub dir: u32,
+    /// Its role.
+    pub role: Role,
+    /// The entry.
+    pub entry: Entry<'a>,
+}
+
+/// The texts of the lines of entries, which those of the next entry are written over.
 #[derive(Drop)]
 pub struct EntryTexts {
+    /// What is kept from the path of one directory to that of the next.
+    pub siblings: Siblings,
     /// Whether the path of the directory that the entries are in is there: the first line makes it.
     pub begun: bool,
     /// The path of the entry.
@@ -48,11 +60,16 @@ pub struct EntryTexts {
 }
 
 impl EntryTexts {
-    /// Those of a directory whose path isn't made yet.
-    pub fn none() -> EntryTexts
-        ensures { result.begun ≡ false }
+    ghost use Rattle.ffs_paths.specs.Siblings.{KeepSiblings};
+    ghost use Rattle.ffs_workspace.specs.declared.workspace.Workspace as workspaces;
+
+    /// Of no directory.
+    pub fn none(geometry: &Geometry) -> EntryTexts
+        ensures { (contents : Option (List ℕ)) (w : workspaces.Workspace)
+            → KeepSiblings geometry.now.layout contents w result.siblings }
     {
         EntryTexts {
+            siblings: Siblings::none(geometry),
             begun: false,
             paths: EntryPaths::of(DirectoryPath {
                 reached: false,
@@ -63,31 +80,30 @@ impl EntryTexts {
     }
 }
 
-/// Makes the path of a directory for the lines on its entries. It is apart from `begin_paths`, since
-/// a function clears the room of its locals each time that it is entered.
+/// Makes the path of a directory for the lines on its entries. It is apart from `begin_paths`,
+/// since a function clears the room of its locals each time that it is entered.
 #[inline(never)]
 fn make_paths<I: Image>(
     geometry: &Geometry,
     image: &mut I,
     workspace: &mut Workspace,
-    siblings: &mut Siblings,
-    dir: u32,
     texts: &mut EntryTexts,
+    dir: u32,
 ) -> Result<(), ImageFault>
-    requires { ReadyToPath geometry.now.layout (I.device image.old) workspace.old siblings.old dir }
+    requires { ReadyToPath geometry.now.layout (I.device image.old) workspace.old texts.old.siblings
+        dir }
     ensures made { OnOk result (ForBytes (KnowsPath geometry.now.layout
         (I.device image.old).contents workspace.old dir texts.old)
         (λ b. IsPathOf (graph_of (volume_of geometry.now.layout b)) dir
         texts.new.paths.directory)) }
-    ensures path { ForBytes (KnowsPath geometry.now.layout (I.device image.old).contents
-        workspace.old dir texts.old)
-        (λ b. BeginsPathOf (graph_of (volume_of geometry.now.layout b)) dir texts.new) }
+    ensures path { KeepsPath geometry.now.layout (I.device image.old) workspace.old
+        dir texts.old texts.new }
     ensures leaves { PathLeaves geometry.now.layout (I.device image.old) (I.device image.new)
-        workspace.old workspace.new siblings.new result }
+        workspace.old workspace.new texts.new.siblings result }
     ensures counted { ReadsAtMost path_reads geometry.now.layout (I.device image.old)
         workspace.old workspace.new (I.reads image.old) (I.reads image.new) }
 {
-    let path = siblings.path_to(geometry, image, workspace, dir)?;
+    let path = texts.siblings.path_to(geometry, image, workspace, dir)?;
     texts.paths = EntryPaths::of(path);
     texts.begun = true;
     Ok(())
@@ -99,27 +115,26 @@ fn begin_paths<I: Image>(
     geometry: &Geometry,
     image: &mut I,
     workspace: &mut Workspace,
-    siblings: &mut Siblings,
-    dir: u32,
     texts: &mut EntryTexts,
+    dir: u32,
 ) -> Result<(), ImageFault>
-    requires { ReadyToPath geometry.now.layout (I.device image.old) workspace.old siblings.old dir }
+    requires { ReadyToPath geometry.now.layout (I.device image.old) workspace.old texts.old.siblings
+        dir }
     ensures made { OnOk result (ForBytes (KnowsPath geometry.now.layout
         (I.device image.old).contents workspace.old dir texts.old)
         (λ b. IsPathOf (graph_of (volume_of geometry.now.layout b)) dir
         texts.new.paths.directory)) }
-    ensures path { ForBytes (KnowsPath geometry.now.layout (I.device image.old).contents
-        workspace.old dir texts.old)
-        (λ b. BeginsPathOf (graph_of (volume_of geometry.now.layout b)) dir texts.new) }
+    ensures path { KeepsPath geometry.now.layout (I.device image.old) workspace.old
+        dir texts.old texts.new }
     ensures leaves { PathLeaves geometry.now.layout (I.device image.old) (I.device image.new)
-        workspace.old workspace.new siblings.new result }
+        workspace.old workspace.new texts.new.siblings result }
     ensures counted { ReadsAtMost path_reads geometry.now.layout (I.device image.old)
         workspace.old workspace.new (I.reads image.old) (I.reads image.new) }
 {
     if texts.begun {
         return Ok(());
     }
-    make_paths(geometry, image, workspace, siblings, dir, texts)
+    make_paths(geometry, image, workspace, texts, dir)
 }
 
 /// Reads what messages show of the inode of a number.
@@ -165,23 +180,25 @@ fn gather_path<I: Image>(
     geometry: &Geometry,
     image: &mut I,
     workspace: &mut Workspace,
-    siblings: &mut Siblings,
+    texts: &mut EntryTexts,
     wanted: bool,
     dir: u32,
-    text: &mut PathText,
 ) -> Result<(), ImageFault>
-    requires { ReadyToPath geometry.now.layout (I.device image.old) workspace.old siblings.old dir }
+    requires { ReadyToPath geometry.now.layout (I.device image.old) workspace.old texts.old.siblings
+        dir }
     ensures path { OnOk result (ForTree geometry.now.layout (I.device image.old) workspace.old
-        (λ g. IsTrue wanted → text.new.items ≡ dir_path g dir)) }
+        (λ g. IsTrue wanted → texts.new.directory.items ≡ dir_path g dir)) }
+    ensures same { (texts.new.begun ≡ texts.old.begun) × (texts.new.paths ≡ texts.old.paths) }
     ensures leaves { PathLeaves geometry.now.layout (I.device image.old) (I.device image.new)
-        workspace.old workspace.new siblings.new result }
+        workspace.old workspace.new texts.new.siblings result }
     ensures counted { ReadsAtMost path_reads geometry.now.layout (I.device image.old)
         workspace.old workspace.new (I.reads image.old) (I.reads image.new) }
 {
     if !wanted {
         return Ok(());
     }
-    siblings.put_path(geometry, image, workspace, dir, text)
+    let siblings = &mut texts.siblings;
+    siblings.put_path(geometry, image, workspace, dir, &mut texts.directory)
 }
 
 /// Gathers what the messages on an entry show, where the path of its directory is made: the two
@@ -191,12 +208,12 @@ fn gather<I: Image>(
     geometry: &Geometry,
     image: &mut I,
     workspace: &mut Workspace,
-    siblings: &mut Siblings,
+    texts: &mut EntryTexts,
     entry: &Entry<'_>,
     verdict: &Verdict,
-    texts: &mut EntryTexts,
 ) -> Result<Attr, ImageFault>
-    requires ready { ReadyWith geometry.now.layout (I.device image.old) workspace.old siblings.old }
+    requires ready { ReadyWith geometry.now.layout (I.device image.old) workspace.old
+        texts.old.siblings }
     requires number { IsTrue (asks_attr verdict.now) → entry.now.number
         < geometry.now.layout.ncg * geometry.now.layout.ipg }
     ensures enough { IfOk result (λ a. (b : List ℕ) (dir : ℕ) → (I.device image.old).contents
@@ -208,7 +225,7 @@ fn gather<I: Image>(
     ensures same { texts.new.paths.directory ≡ texts.old.paths.directory }
     ensures begun { texts.new.begun ≡ texts.old.begun }
     ensures leaves { PathLeaves geometry.now.layout (I.device image.old) (I.device image.new)
-        workspace.old workspace.new siblings.new result }
+        workspace.old workspace.new texts.new.siblings result }
     ensures counted { ReadsAtMost (path_reads + 1) geometry.now.layout (I.device image.old)
         workspace.old workspace.new (I.reads image.old) (I.reads image.new) }
 {
@@ -223,17 +240,8 @@ fn gather<I: Image>(
             mtime: 0,
         });
     }
-    gather_path(
-        geometry,
-        image,
-        workspace,
-        siblings,
-        wants_path,
-        entry.number,
-        &mut texts.directory,
-    )?;
-    let attr = read_attr(geometry, image, workspace, entry.number)?;
-    Ok(attr)
+    gather_path(geometry, image, workspace, texts, wants_path, entry.number)?;
+    read_attr(geometry, image, workspace, entry.number)
 }
 
 /// Gathers what the messages on an entry of a directory show, and makes the path of that directory
@@ -243,30 +251,27 @@ fn gather_entry<I: Image>(
     geometry: &Geometry,
     image: &mut I,
     workspace: &mut Workspace,
-    siblings: &mut Siblings,
-    dir: u32,
-    entry: &Entry<'_>,
-    verdict: &Verdict,
     texts: &mut EntryTexts,
+    entry: &DirectoryEntry<'_>,
+    verdict: &Verdict,
 ) -> Result<Attr, ImageFault>
     requires ready { ReadyToPath geometry.now.layout (I.device image.old) workspace.old
-        siblings.old dir }
-    requires number { IsTrue (asks_attr verdict.now) → entry.now.number
+        texts.old.siblings entry.now.dir }
+    requires number { IsTrue (asks_attr verdict.now) → entry.now.entry.number
         < geometry.now.layout.ncg * geometry.now.layout.ipg }
     ensures enough { IfOk result (λ a. ForBytes (KnowsPath geometry.now.layout
-        (I.device image.old).contents workspace.old dir texts.old) (λ b.
-        IsEnough (volume_of geometry.now.layout b) verdict.now dir entry.now.number
-        entry.now.name.now a (last_path texts.new.paths) texts.new.directory.items)) }
-    ensures path { ForBytes (KnowsPath geometry.now.layout (I.device image.old).contents
-        workspace.old dir texts.old)
-        (λ b. BeginsPathOf (graph_of (volume_of geometry.now.layout b)) dir texts.new) }
+        (I.device image.old).contents workspace.old entry.now.dir texts.old) (λ b.
+        IsEnough (volume_of geometry.now.layout b) verdict.now entry.now.dir entry.now.entry.number
+        entry.now.entry.name.now a (last_path texts.new.paths) texts.new.directory.items)) }
+    ensures path { KeepsPath geometry.now.layout (I.device image.old) workspace.old
+        entry.now.dir texts.old texts.new }
     ensures leaves { PathLeaves geometry.now.layout (I.device image.old) (I.device image.new)
-        workspace.old workspace.new siblings.new result }
+        workspace.old workspace.new texts.new.siblings result }
     ensures counted { ReadsAtMost line_reads geometry.now.layout (I.device image.old)
         workspace.old workspace.new (I.reads image.old) (I.reads image.new) }
 {
-    begin_paths(geometry, image, workspace, siblings, dir, texts)?;
-    gather(geometry, image, workspace, siblings, entry, verdict, texts)
+    begin_paths(geometry, image, workspace, texts, entry.dir)?;
+    gather(geometry, image, workspace, texts, &entry.entry, verdict)
 }
 
 /// Gathers what the message on an extra entry of a directory shows: the path of the directory into
@@ -275,29 +280,27 @@ fn gather_extra<I: Image>(
     geometry: &Geometry,
     image: &mut I,
     workspace: &mut Workspace,
-    siblings: &mut Siblings,
-    dir: u32,
     texts: &mut EntryTexts,
+    dir: u32,
 ) -> Result<Attr, ImageFault>
-    requires { ReadyToPath geometry.now.layout (I.device image.old) workspace.old siblings.old dir }
+    requires { ReadyToPath geometry.now.layout (I.device image.old) workspace.old texts.old.siblings
+        dir }
     ensures attr { IfOk result (λ a. ForContents (I.device image.old).contents
         (λ b. a ≡ attributes (volume_of geometry.now.layout b) dir)) }
     ensures text { OnOk result (ForBytes (KnowsPath geometry.now.layout
         (I.device image.old).contents workspace.old dir texts.old) (λ b.
         texts.new.directory.items ≡ dir_path (graph_of (volume_of geometry.now.layout b)) dir)) }
-    ensures path { ForBytes (KnowsPath geometry.now.layout (I.device image.old).contents
-        workspace.old dir texts.old)
-        (λ b. BeginsPathOf (graph_of (volume_of geometry.now.layout b)) dir texts.new) }
+    ensures path { KeepsPath geometry.now.layout (I.device image.old) workspace.old
+        dir texts.old texts.new }
     ensures leaves { PathLeaves geometry.now.layout (I.device image.old) (I.device image.new)
-        workspace.old workspace.new siblings.new result }
+        workspace.old workspace.new texts.new.siblings result }
     ensures counted { ReadsAtMost line_reads geometry.now.layout (I.device image.old)
         workspace.old workspace.new (I.reads image.old) (I.reads image.new) }
 {
-    begin_paths(geometry, image, workspace, siblings, dir, texts)?;
+    begin_paths(geometry, image, workspace, texts, dir)?;
     let paths = &texts.paths;
     paths.directory.put(&mut texts.directory);
-    let attr = read_attr(geometry, image, workspace, dir)?;
-    Ok(attr)
+    read_attr(geometry, image, workspace, dir)
 }
 
 /// The verdict on a plain entry, by what the workspace holds.
@@ -341,41 +344,34 @@ pub fn report_plain<I: Image, W: Output>(
     geometry: &Geometry,
     image: &mut I,
     workspace: &mut Workspace,
-    siblings: &mut Siblings,
-    report: &mut Report<'_, W>,
-    dir: u32,
-    entry: &Entry<'_>,
     texts: &mut EntryTexts,
+    report: &mut Report<'_, W>,
+    entry: &DirectoryEntry<'_>,
 ) -> Result<(), RunFault>
     requires ready { ReadyToPath geometry.now.layout (I.device image.old) workspace.old
-        siblings.old dir }
+        texts.old.siblings entry.now.dir }
     ensures text { PhaseReports (KnowsPath geometry.now.layout (I.device image.old).contents
-        workspace.old dir texts.old)
-        (λ b. map of_tree (plain_reported (volume_of geometry.now.layout b) dir
-        (marks_of workspace.old) (entry_value entry.now)))
+        workspace.old entry.now.dir texts.old)
+        (λ b. map of_tree (plain_lines (volume_of geometry.now.layout b) workspace.old entry.now))
         (progress W.sink report.old) (progress W.sink report.new) result }
-    ensures path { ForBytes (KnowsPath geometry.now.layout (I.device image.old).contents
-        workspace.old dir texts.old)
-        (λ b. BeginsPathOf (graph_of (volume_of geometry.now.layout b)) dir texts.new) }
+    ensures path { KeepsPath geometry.now.layout (I.device image.old) workspace.old
+        entry.now.dir texts.old texts.new }
     ensures leaves { LinesLeave geometry.now.layout (I.device image.old) (I.device image.new)
-        workspace.old workspace.new siblings.new result }
-    ensures counted { ReadsByLines geometry.now.layout
-        (DirectoryContext geometry.now.layout (I.device image.old).contents workspace.old dir)
-        (λ b. plain_reported (volume_of geometry.now.layout b) dir (marks_of workspace.old)
-        (entry_value entry.now)) workspace.old workspace.new
-        (I.reads image.old) (I.reads image.new) }
+        workspace.old workspace.new texts.new.siblings result }
+    ensures counted { ReadsByLines geometry.now.layout (DirectoryContext geometry.now.layout
+        (I.device image.old).contents workspace.old entry.now.dir)
+        (λ b. plain_lines (volume_of geometry.now.layout b) workspace.old entry.now)
+        workspace.old workspace.new (I.reads image.old) (I.reads image.new) }
 {
-    let verdict = verdict_of(workspace, dir, entry);
+    let verdict = verdict_of(workspace, entry.dir, &entry.entry);
     if is_silent(&verdict) {
         return Ok(());
     }
-    let attr = gather_entry(
-        geometry, image, workspace, siblings, dir, entry, &verdict, texts,
-    )?;
+    let attr = gather_entry(geometry, image, workspace, texts, entry, &verdict)?;
     say_verdict(
         report,
         &verdict,
-        entry.number,
+        entry.entry.number,
         attr,
         texts.paths.last(),
         texts.directory.as_slice(),
@@ -392,31 +388,27 @@ pub fn report_extra<I: Image, W: Output>(
     geometry: &Geometry,
     image: &mut I,
     workspace: &mut Workspace,
-    siblings: &mut Siblings,
-    report: &mut Report<'_, W>,
-    dir: u32,
-    entry: &Entry<'_>,
     texts: &mut EntryTexts,
+    report: &mut Report<'_, W>,
+    entry: &DirectoryEntry<'_>,
 ) -> Result<(), RunFault>
-    requires { ReadyToPath geometry.now.layout (I.device image.old) workspace.old siblings.old dir }
+    requires { ReadyToPath geometry.now.layout (I.device image.old) workspace.old
+        texts.old.siblings entry.now.dir }
     ensures text { PhaseReports (KnowsPath geometry.now.layout (I.device image.old).contents
-        workspace.old dir texts.old)
-        (λ b. map of_tree (extra_lines (attributes (volume_of geometry.now.layout b) dir)
-        (dir_path (graph_of (volume_of geometry.now.layout b)) dir) (entry_value entry.now)))
+        workspace.old entry.now.dir texts.old)
+        (λ b. map of_tree (extra_reported (volume_of geometry.now.layout b) entry.now))
         (progress W.sink report.old) (progress W.sink report.new) result }
-    ensures path { ForBytes (KnowsPath geometry.now.layout (I.device image.old).contents
-        workspace.old dir texts.old)
-        (λ b. BeginsPathOf (graph_of (volume_of geometry.now.layout b)) dir texts.new) }
+    ensures path { KeepsPath geometry.now.layout (I.device image.old) workspace.old
+        entry.now.dir texts.old texts.new }
     ensures leaves { LinesLeave geometry.now.layout (I.device image.old) (I.device image.new)
-        workspace.old workspace.new siblings.new result }
-    ensures counted { ReadsByLines geometry.now.layout
-        (DirectoryContext geometry.now.layout (I.device image.old).contents workspace.old dir)
-        (λ b. extra_lines (attributes (volume_of geometry.now.layout b) dir)
-        (dir_path (graph_of (volume_of geometry.now.layout b)) dir) (entry_value entry.now))
+        workspace.old workspace.new texts.new.siblings result }
+    ensures counted { ReadsByLines geometry.now.layout (DirectoryContext geometry.now.layout
+        (I.device image.old).contents workspace.old entry.now.dir)
+        (λ b. extra_reported (volume_of geometry.now.layout b) entry.now)
         workspace.old workspace.new (I.reads image.old) (I.reads image.new) }
 {
-    let attr = gather_extra(geometry, image, workspace, siblings, dir, texts)?;
-    say_extra(report, attr, texts.directory.as_slice(), entry)?;
+    let attr = gather_extra(geometry, image, workspace, texts, entry.dir)?;
+    say_extra(report, attr, texts.directory.as_slice(), &entry.entry)?;
     Ok(())
 }
 
@@ -444,8 +436,7 @@ pub fn gather_dir<I: Image>(
         workspace.old workspace.new (I.reads image.old) (I.reads image.new) }
 {
     siblings.put_path(geometry, image, workspace, dir, path)?;
-    let attr = read_attr(geometry, image, workspace, dir)?;
-    Ok(attr)
+    read_attr(geometry, image, workspace, dir)
 }
 
 /// Says that an entry is extra.

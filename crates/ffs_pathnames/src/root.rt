@@ -7,7 +7,7 @@ ghost use Rattle.ffs_pathnames.specs.RootAnswers.{is_go};
 ghost use Rattle.ffs_pathnames.specs.SaysNames.{SaysNames};
 
 use crate::pass2::Root;
-use crate::say::{Check, NameLine, say_check, say_line};
+use crate::say::{LineIf, NameLine, say_if, say_line};
 use ffs_report::{DirectoryLine, OutFault, Output, Report};
 use ffs_volume::kinds::Kind;
 
@@ -40,11 +40,11 @@ pub fn report_root<W: Output>(
         return say_line(report, &NameLine::Directory(DirectoryLine::RootNone));
     }
     if kind.is_dir() {
-        let suspect = Check {
+        let suspect = LineIf {
             holds: marked || kind.is_empty_dir(),
             line: NameLine::Directory(DirectoryLine::RootSuspect),
         };
-        return say_check(report, &suspect);
+        return say_if(report, &suspect);
     }
     say_line(report, &NameLine::Directory(DirectoryLine::RootNotDir))
 }

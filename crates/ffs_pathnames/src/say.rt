@@ -20,7 +20,7 @@ pub enum NameLine<'a> {
 
 /// A line, and whether it is to be reported.
 #[derive(Clone, Copy, Debug)]
-pub struct Check<'a> {
+pub struct LineIf<'a> {
     /// Whether it is to be reported.
     pub holds: bool,
     /// The line.
@@ -46,12 +46,12 @@ pub fn say_line<W: Output>(report: &mut Report<'_, W>, line: &NameLine<'_>) -> R
 ///
 /// # Errors
 /// A write of the report that failed.
-pub fn say_check<W: Output>(report: &mut Report<'_, W>, check: &Check<'_>) -> Result<(), OutFault>
+pub fn say_if<W: Output>(report: &mut Report<'_, W>, line: &LineIf<'_>) -> Result<(), OutFault>
     ensures { SaysNames (progress W.sink report.old) (progress W.sink report.new)
-        (reported check.now.holds (name_message check.now.line)) result }
+        (reported line.now.holds (name_message line.now.line)) result }
 {
-    if check.holds {
-        return say_line(report, &check.line);
+    if line.holds {
+        return say_line(report, &line.line);
     }
     Ok(())
 }
@@ -62,12 +62,12 @@ pub fn say_check<W: Output>(report: &mut Report<'_, W>, check: &Check<'_>) -> Re
 /// A write of the report that failed.
 pub fn say_two<W: Output>(
     report: &mut Report<'_, W>,
-    first: &Check<'_>,
-    second: &Check<'_>,
+    first: &LineIf<'_>,
+    second: &LineIf<'_>,
 ) -> Result<(), OutFault>
     ensures { SaysNames (progress W.sink report.old) (progress W.sink report.new)
         (two_reported first.now second.now) result }
 {
-    say_check(report, first)?;
-    say_check(report, second)
+    say_if(report, first)?;
+    say_if(report, second)
 }

@@ -9,7 +9,7 @@ ghost use Rattle.ffs_volume.specs.Directories.Volumes.{volume_of};
 ghost use Rattle.ffs_workspace.specs.Holds.{HoldsClaims, HoldsSurvey};
 ghost use Rattle.ffs_workspace.specs.Lengths.{inodes_of};
 ghost use Rattle.ffs_workspace.specs.Places.{AreChunksNumbered, AreNoted};
-ghost use Rattle.ffs_pathnames.specs.Before.{IsBefore, is_looked_at};
+ghost use Rattle.ffs_pathnames.specs.Before.{IsBefore, is_checked};
 ghost use Rattle.ffs_pathnames.specs.Costs.{check_reads, tree_reads};
 ghost use Rattle.ffs_pathnames.specs.Gathers.{AreAsLong};
 ghost use Rattle.ffs_pathnames.specs.RootAnswers.{AtReadFault, is_go};
@@ -17,39 +17,39 @@ ghost use Rattle.ffs_workspace.specs.Ready.{IsReady};
 ghost use Rattle.ffs_pathnames.specs.Ready.{ReadyToPath, PhaseLeaves, TreeLeaves};
 
 use crate::check::check_directory;
+use crate::one_entry::EntryTexts;
 use crate::pass2::Root;
 use crate::root::{report_root, root_of};
 use ffs_image::Image;
 use ffs_layout::Geometry;
 use ffs_names::note_places;
-use ffs_paths::Siblings;
 use ffs_report::{Output, Report, RunFault};
 use ffs_volume::constants::{DT_DIR, ROOTINO};
 use ffs_workspace::Workspace;
 
 /// Whether an inode is a directory that isn't of size 0 and isn't known to be calm. The flag of a
 /// marked one says that an entry has named it.
-fn is_looked_at(workspace: &Workspace, number: u32) -> bool
+fn is_checked(workspace: &Workspace, number: u32) -> bool
     requires kinds { number < vec_len workspace.now.kinds }
     requires lists { AreAsLong workspace.now }
-    ensures { result ≡ is_looked_at workspace.now number }
+    ensures { result ≡ is_checked workspace.now number }
 {
     let index = number as usize;
     workspace.kinds[index] == DT_DIR && (workspace.marked[index] || !workspace.flags[index])
 }
 
-/// The first directory that is looked at (`is_looked_at`), or `count`, how many inodes there are,
-/// where none is.
-fn first_looked_at(workspace: &Workspace, count: u32) -> u32
+/// The first directory that is checked (`is_checked`), or `count`, how many inodes there are, where
+/// none is.
+fn first_checked(workspace: &Workspace, count: u32) -> u32
     requires lists { AreAsLong workspace.now }
     requires count { count ≡ vec_len workspace.now.kinds }
     requires some { 2 ≤ count }
     ensures range { (2 ≤ result) × (result ≤ count) }
-    ensures found { result < count → is_looked_at workspace.now result ≡ true }
-    ensures before { (x : ℕ) → 2 ≤ x → x < result → is_looked_at workspace.now x ≡ false }
+    ensures found { result < count → is_checked workspace.now result ≡ true }
+    ensures before { (x : ℕ) → 2 ≤ x → x < result → is_checked workspace.now x ≡ false }
 {
     for number in ROOTINO..count {
-        if is_looked_at(workspace, number) {
+        if is_checked(workspace, number) {
             return number;
         }
     }
@@ -61,12 +61,12 @@ fn check_inode<I: Image, W: Output>(
     geometry: &Geometry,
     image: &mut I,
     workspace: &mut Workspace,
-    siblings: &mut Siblings,
+    texts: &mut EntryTexts,
     report: &mut Report<'_, W>,
     number: u32,
 ) -> Result<(), RunFault>
     requires ready { ReadyToPath geometry.now.layout (I.device image.old) workspace.old
-        siblings.old number }
+        texts.old.siblings number }
     requires low { 2 ≤ number }
     ensures text { PhaseReports (λ b. IsBefore geometry.now.layout (I.device image.old).contents
         workspace.old number b)
@@ -82,16 +82,16 @@ fn check_inode<I: Image, W: Output>(
         → I.reads image.new ≤ I.reads image.old + check_reads geometry.now.layout b number
         (length (directory_lines (volume_of geometry.now.layout b) number))) }
     ensures leaves { PhaseLeaves geometry.now.layout (I.device image.old) (I.device image.new)
-        workspace.old workspace.new siblings.new result }
+        workspace.old workspace.new texts.new.siblings result }
 {
-    if is_looked_at(workspace, number) {
-        return check_directory(geometry, image, workspace, siblings, report, number);
+    if is_checked(workspace, number) {
+        return check_directory(geometry, image, workspace, texts, report, number);
     }
     Ok(())
 }
 
 /// Prints the lines of each directory and of its entries, in the order of inode numbers. The places
-/// of parent entries are noted first, for the paths, where any directory is looked at.
+/// of parent entries are noted first, for the paths, where any directory is checked.
 fn check_inodes<I: Image, W: Output>(
     geometry: &Geometry,
     image: &mut I,
@@ -109,9 +109,9 @@ fn check_inodes<I: Image, W: Output>(
         (λ b. HoldsClaims geometry.now.layout b workspace.new
         × HoldsSurvey geometry.now.layout b workspace.new)) }
 
-    // Where no directory is looked at, nothing is read.
+    // Where no directory is checked, nothing is read.
     ensures unread { ((x : ℕ) → 2 ≤ x → x < inodes_of geometry.now.layout
-        → is_looked_at workspace.old x ≡ false) → workspace.new ≡ workspace.old }
+        → is_checked workspace.old x ≡ false) → workspace.new ≡ workspace.old }
     ensures reads { ForBytes
         (λ b. IsBefore geometry.now.layout (I.device image.old).contents workspace.old 2 b)
         (λ b. AreChunksNumbered geometry.now.layout
@@ -122,14 +122,14 @@ fn check_inodes<I: Image, W: Output>(
         workspace.old workspace.new result }
 {
     let count = geometry.layout.ncg * geometry.layout.ipg;
-    let first = first_looked_at(workspace, count);
+    let first = first_checked(workspace, count);
     if first == count {
         return Ok(());
     }
     note_places(geometry, image, workspace)?;
-    let mut siblings = Siblings::none(geometry);
+    let mut texts = EntryTexts::none(geometry);
     for number in first..count {
-        check_inode(geometry, image, workspace, &mut siblings, report, number)?;
+        check_inode(geometry, image, workspace, &mut texts, report, number)?;
     }
     Ok(())
 }

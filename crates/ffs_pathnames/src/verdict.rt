@@ -3,15 +3,15 @@ ghost use Rattle.std.specs.Prelude.{◌≡◌, ◌<◌, length, vec_len};
 ghost use Rattle.ffs_volume.specs.Directories.Roles.{Volume};
 ghost use Rattle.ffs_layout.specs.Entry.{entry_value};
 ghost use Rattle.ffs_pathnames.specs.Gathers.{AreFaultsOf, IsVerdictBy};
-ghost use Rattle.ffs_pathnames.specs.Marks as marks;
-ghost use Rattle.ffs_pathnames.specs.Sees.{Sees, CanMark, marks_in};
+ghost use Rattle.ffs_pathnames.specs.NameMarks as marks;
+ghost use Rattle.ffs_pathnames.specs.Sees.{Sees, HasFlagAndWord, marks_in};
 ghost use Rattle.ffs_pathnames.specs.Stamps.{KeepPlaces};
 
 use crate::inodes::Inodes;
 use crate::look::is_bad_whiteout;
 use ffs_layout::Entry;
 use ffs_memory::FilledList;
-use ffs_volume::constants::ROOTINO;
+use ffs_volume::constants::{ROOTINO, WINO};
 use ffs_volume::{Label, Role};
 use ffs_workspace::passed;
 
@@ -54,7 +54,7 @@ fn faults_of(
     entry: &Entry<'_>,
 ) -> Faults
     requires inode { entry.now.number < length inodes.now.kinds.now }
-    requires marks { CanMark inodes.now flags.now words.now.items }
+    requires marks { HasFlagAndWord inodes.now flags.now words.now.items }
     ensures { AreFaultsOf inodes.now dir (marks_in inodes.now flags.now words.now.items)
         (entry_value entry.now) result }
 {
@@ -78,7 +78,7 @@ pub fn entry_verdict(
     words: &FilledList<u32>,
     entry: &Entry<'_>,
 ) -> Verdict
-    requires { CanMark inodes.now flags.now words.now.items }
+    requires { HasFlagAndWord inodes.now flags.now words.now.items }
     ensures { IsVerdictBy inodes.now dir (marks_in inodes.now flags.now words.now.items)
         (entry_value entry.now) result }
 {
@@ -88,7 +88,7 @@ pub fn entry_verdict(
     if is_bad_whiteout(entry) {
         return Verdict::Whiteout;
     }
-    if entry.number == 1 {
+    if entry.number == WINO {
         return Verdict::Fine;
     }
     if !inodes.is_allocated(entry.number) {
@@ -108,7 +108,7 @@ pub fn pass(
     role: Role,
     entry: &Entry<'_>,
 )
-    requires { CanMark inodes.now flags.old words.old.items }
+    requires { HasFlagAndWord inodes.now flags.old words.old.items }
     ensures after { (v : Volume) → Sees v inodes.now →
         marks.after_roled v dir (marks_in inodes.now flags.old words.old.items)
         (record { role = role; entry = entry_value entry.now })

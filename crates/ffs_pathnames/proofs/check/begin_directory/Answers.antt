@@ -38,7 +38,7 @@ returns-in_err-report_header-clause-text g c =
     ))
     (λ b k. ap (map of_tree)
     (starts_are v b c.args.dir c.args.workspace.now c.examine.new.workspace c.in_ok-examined.examined
-    c.examine.new.start _ _ _
+    _ _ _
     (c.in_ok-examined.ensures.found b k)
     (c.parent_of-parent.ensures v b
     (survey_left v b c.args.workspace.now c.examine.new.workspace c.in_ok-examined.ensures.leaves.lists.survey
@@ -57,7 +57,7 @@ returns-clause-text g c =
     ))
     (λ b k. ap (map of_tree)
     (starts_are v b c.args.dir c.args.workspace.now c.examine.new.workspace c.in_ok-examined.examined
-    c.examine.new.start _ _ _
+    _ _ _
     (c.in_ok-examined.ensures.found b k)
     (c.parent_of-parent.ensures v b
     (survey_left v b c.args.workspace.now c.examine.new.workspace c.in_ok-examined.ensures.leaves.lists.survey
@@ -68,7 +68,7 @@ returns-clause-text g c =
 pub returns-clause-begun : goal.returns-clause-begun
 returns-clause-begun g c = λ b k.
     begun_is c.args.geometry.now.layout b c.args.dir c.args.workspace.now c.examine.new.workspace _
-    c.in_ok-examined.examined c.examine.new.start
+    c.in_ok-examined.examined
     (c.in_ok-examined.ensures.found b k) c.in_ok-examined.ensures.leaves.lists
     c.in_ok-report_header.ensures.leaves.lists
 
@@ -90,7 +90,13 @@ pub returns-in_err-examined-clause-leaves : goal.returns-in_err-examined-clause-
 returns-in_err-examined-clause-leaves g c =
     let left = c.in_err-examined.ensures.leaves in
     let p = err_from_is_err_and c.from_residual.result c.from_residual.ensures.1 in
-    rw (p.1, p.2) (record { image = left.read; survey = left.lists.survey; places = left.lists.places; ready = left.ready })
+    rw (p.1, p.2) (record {
+      image = left.read;
+      survey = left.lists.survey;
+      places = left.lists.places;
+      ready =
+          left.ready;
+    })
 
 pub returns-in_err-report_header-clause-leaves : goal.returns-in_err-report_header-clause-leaves
 returns-in_err-report_header-clause-leaves g c =
@@ -101,7 +107,8 @@ returns-in_err-report_header-clause-leaves g c =
     rw (p.1, p.2) (record {
       image = image_same (Unit {0}) DirectorySummary _ _ _ c.in_err-report_header.field-0.0 one.read two.image;
       survey = leaves_more _ _ _ one.lists.survey (windows_leave _ _ two.lists);
-      places = keep_more _ _ _ one.lists.places (windows_keep c.examine.new.workspace c.report_header.new.workspace two.lists);
+      places = keep_more _ _ _ one.lists.places (windows_keep c.examine.new.workspace c.report_header.new.workspace
+          two.lists);
       ready = two.ready;
     })
 
@@ -112,7 +119,8 @@ returns-clause-leaves g c =
     record {
       image = two.image ∙ one.read;
       survey = leaves_more _ _ _ one.lists.survey (windows_leave _ _ two.lists);
-      places = keep_more _ _ _ one.lists.places (windows_keep c.examine.new.workspace c.report_header.new.workspace two.lists);
+      places = keep_more _ _ _ one.lists.places (windows_keep c.examine.new.workspace c.report_header.new.workspace
+          two.lists);
       ready = two.ready;
     }
 
@@ -134,7 +142,7 @@ returns-in_err-report_header-clause-reads g c = λ b k noted.
       ap (λ i. i.size) found.inode,
     ) (noted_kept v b c.args.workspace.now.queue.items c.examine.new.workspace.queue.items lists.places noted)).count in
     let long = ap length (starts_are v b c.args.dir c.args.workspace.now c.examine.new.workspace
-    c.in_ok-examined.examined c.examine.new.start _ _ _ found
+    c.in_ok-examined.examined _ _ _ found
     (c.parent_of-parent.ensures v b
     (survey_left v b c.args.workspace.now c.examine.new.workspace lists.survey k.survey))
     c.first_two.ensures.first c.first_two.ensures.second) in
@@ -153,7 +161,7 @@ returns-clause-reads g c = λ b k noted.
       ap (λ i. i.size) found.inode,
     ) (noted_kept v b c.args.workspace.now.queue.items c.examine.new.workspace.queue.items lists.places noted)).count in
     let long = ap length (starts_are v b c.args.dir c.args.workspace.now c.examine.new.workspace
-    c.in_ok-examined.examined c.examine.new.start _ _ _ found
+    c.in_ok-examined.examined _ _ _ found
     (c.parent_of-parent.ensures v b
     (survey_left v b c.args.workspace.now c.examine.new.workspace lists.survey k.survey))
     c.first_two.ensures.first c.first_two.ensures.second) in

@@ -10,7 +10,7 @@ use Rattle.ffs_workspace.proofs.Leaving.{leaves_more}
 use Rattle.ffs_pathnames.specs.declared.examine.DirectorySummary.{DirectorySummary}
 use Rattle.ffs_pathnames.specs.Begins.{dir_starts}
 use Rattle.ffs_pathnames.specs.Gathers.{marks_of}
-use Rattle.ffs_pathnames.specs.Marks.{entries_reported}
+use Rattle.ffs_pathnames.specs.NameMarks.{entries_reported}
 use Rattle.ffs_pathnames.proofs.Begun.{said_same, directory_is, lines_parts, quiet_parts, reported_parts, quiet_after}
 use Rattle.ffs_pathnames.proofs.Begun.{reported_after, on_ok}
 use Rattle.ffs_pathnames.proofs.Passing.{knows_on}

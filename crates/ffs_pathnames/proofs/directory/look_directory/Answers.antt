@@ -8,10 +8,11 @@ use Rattle.ffs_volume.specs.Directories.Roles.{roled_chunk}
 use Rattle.ffs_volume.specs.Directories.PathnameCheck.{are_sound}
 use Rattle.ffs_names.specs.Readings.{rest, gap_left}
 use Rattle.ffs_walk.specs.Windows.{WindowHolds}
-use Rattle.ffs_pathnames.specs.Marks.{are_quiet, after_looks}
+use Rattle.ffs_pathnames.specs.NameMarks.{are_quiet, after_looks}
 use Rattle.ffs_pathnames.specs.Sees.{stamps_in}
-use Rattle.ffs_pathnames.specs.Reads.{chunks_read, start_of}
+use Rattle.ffs_pathnames.specs.Reads.{chunks_read, start_chunk}
 use Rattle.ffs_pathnames.proofs.Directories.{chunk_quiet, chunk_stamps, chunk_sound, all_quiet, all_stamps, all_sound}
+use Rattle.ffs_pathnames.proofs.ReadyLaws.{others_stay}
 use Rattle.ffs_pathnames.proofs.directory.look_directory.Goals as goal
 
 pub chunks-init : goal.chunks-init
@@ -21,16 +22,17 @@ chunks-init g c = let first = stamps_in c.args.inodes.now c.args.words.now.items
   geometry = c.start-chunks.ensures.geometry;
   words_long = refl;
   places = λ x. refl;
+  others = refl;
   ready = c.requires.ready;
-  quiet = λ b t v s h. ap (λ cs. are_quiet v c.args.dir first (flat_map roled_chunk cs))
+  quiet = λ b t v s h. ap (λ cs. are_quiet v c.args.directory.now.number first (flat_map roled_chunk cs))
       (sym (c.start-chunks.ensures.begins.chunks b h));
-  stamps = λ b t v s h. ap (λ cs. after_looks v c.args.dir first (flat_map roled_chunk cs))
+  stamps = λ b t v s h. ap (λ cs. after_looks v c.args.directory.now.number first (flat_map roled_chunk cs))
       (sym (c.start-chunks.ensures.begins.chunks b h));
   sound = λ b t h. ap are_sound (sym (c.start-chunks.ensures.begins.chunks b h));
   gap = λ b t. sym (ap (λ x. x || gap_left b c.start-chunks.result) c.start-chunks.ensures.begins.gap ∙
       c.start-chunks.ensures.begins.gap_left b);
   started = λ b t h. ap (find (λ x. x.offset == 0)) (sym (c.start-chunks.ensures.begins.chunks b h));
-  held = λ b t. c.start-chunks.ensures.reads.held c.args.blocks.now c.args.«data».now;
+  held = λ b t. c.start-chunks.ensures.reads.held c.args.windows.now.blocks c.args.windows.now.chunk;
   reads = λ b t.
       let all = c.start-chunks.ensures.reads.to_read b in
       let runs = c.start-chunks.ensures.begins.runs_left b in
@@ -55,19 +57,20 @@ chunks-preserved g c =
       geometry = c.in_ok-offset.ensures.leaves.geometry ∙ inv.geometry;
       words_long = c.look_chunk-looked.ensures.words_long ∙ inv.words_long;
       places = λ x. c.look_chunk-looked.ensures.places x ∙ inv.places x;
+      others = others_stay c.args.windows.now c.chunks.windows c.next.new.blocks c.next.new.data inv.others;
       ready = rw inv.geometry at c.in_ok-offset.ensures.leaves.ready;
-      quiet = λ b t v s h. chunk_quiet v c.args.dir old new
+      quiet = λ b t v s h. chunk_quiet v c.args.directory.now.number old new
           (rest b c.chunks.chunks) (rest b c.next.new.self) here
           _ c.chunks.quiet c.look_chunk-looked.result.quiet (next b t) (c.look_chunk-looked.ensures.look.quiet v s)
           (c.look_chunk-looked.ensures.look.stamps v s) (inv.quiet b t v s h);
-      stamps = λ b t v s h. chunk_stamps v c.args.dir old new _
+      stamps = λ b t v s h. chunk_stamps v c.args.directory.now.number old new _
           (rest b c.chunks.chunks) (rest b c.next.new.self) here
           (next b t) (c.look_chunk-looked.ensures.look.stamps v s) (inv.stamps b t v s h);
       sound = λ b t h. chunk_sound (rest b c.chunks.chunks) (rest b c.next.new.self) here _ c.chunks.sound
           c.look_chunk-looked.result.sound
           (next b t) c.look_chunk-looked.ensures.look.sound (inv.sound b t h);
       gap = λ b t. inv.gap b t ∙ sym (read b (now b t)).gap;
-      started = λ b t h. inv.started b t h ∙ (ap (λ l. start_of l c.chunks.started order c.chunks.start) (next b t)
+      started = λ b t h. inv.started b t h ∙ (ap (λ l. start_chunk l c.chunks.started order c.chunks.start) (next b t)
           ∙ c.keep_start-started.ensures order (rest b c.next.new.self));
       held = λ b t. (c.in_ok-offset.ensures.reads (inv.held b t) b (now b t)).held;
       reads = λ b t.
@@ -84,13 +87,14 @@ returns-clause-found g c = λ b t.
     let read = (rw c.in_default.is at c.in_ok-offset.ensures.chunk) b now in
     let none = read.chunks.0 in
     record {
-      quiet = λ v s h. all_quiet v c.args.dir old (rest b c.chunks.chunks) _ c.chunks.quiet none
+      quiet = λ v s h. all_quiet v c.args.directory.now.number old (rest b c.chunks.chunks) _ c.chunks.quiet none
           (inv.quiet b t v s h);
-      stamps = λ v s h. all_stamps v c.args.dir old _ (rest b c.chunks.chunks) none (inv.stamps b t v s h);
+      stamps = λ v s h. all_stamps v c.args.directory.now.number old _ (rest b c.chunks.chunks) none (inv.stamps b t v s
+          h);
       sound = λ h. all_sound (rest b c.chunks.chunks) _ c.chunks.sound none (inv.sound b t h);
       gap = c.in_ok-gap.ensures.gap b later ∙ (read.gap ∙ sym (inv.gap b t));
       started = λ h. inv.started b t h
-          ∙ ap (λ l. start_of l c.chunks.started c.args.geometry.now.layout.order c.chunks.start) none;
+          ∙ ap (λ l. start_chunk l c.chunks.started c.args.geometry.now.layout.order c.chunks.start) none;
     }
 
 pub next-requires : goal.next-requires
@@ -141,6 +145,19 @@ returns-clause-leaves g c =
       };
       read = gap.leaves.read ∙ (read.leaves.read ∙ inv.same);
     }
+
+-- the other windows
+pub returns-in_err-offset-clause-others : goal.returns-in_err-offset-clause-others
+returns-in_err-offset-clause-others g c = others_stay c.args.windows.now c.chunks.windows c.next.new.blocks
+    c.next.new.data c.chunks.invariant.others
+
+pub returns-in_err-gap-clause-others : goal.returns-in_err-gap-clause-others
+returns-in_err-gap-clause-others g c = others_stay c.args.windows.now c.chunks.windows c.gap_of.new.blocks
+    c.next.new.data c.chunks.invariant.others
+
+pub returns-clause-others : goal.returns-clause-others
+returns-clause-others g c = others_stay c.args.windows.now c.chunks.windows c.gap_of.new.blocks c.next.new.data
+    c.chunks.invariant.others
 
 -- the reads
 pub returns-in_err-offset-clause-reads : goal.returns-in_err-offset-clause-reads

@@ -9,42 +9,51 @@ use Rattle.ffs_volume.specs.Blocks.Steps.{steps_of}
 use Rattle.ffs_volume.specs.Encodings.Replay.{fresh_replay, replayed_steps}
 use Rattle.ffs_names.specs.Windows.{CanReadChunks}
 use Rattle.ffs_names.specs.Readings.{rest, gap_left}
-use Rattle.ffs_pathnames.specs.Marks.{are_quiet, after_looks}
+use Rattle.ffs_pathnames.specs.NameMarks.{are_quiet, after_looks}
 use Rattle.ffs_pathnames.specs.Sees.{Sees, stamps_in}
 use Rattle.ffs_pathnames.specs.Stamps.{KeepPlaces}
-use Rattle.ffs_pathnames.specs.Reads.{chunks_read, start_of}
+use Rattle.ffs_pathnames.specs.Reads.{chunks_read, start_chunk}
 use Rattle.ffs_volume.specs.Encodings.ReplayCounts.{replayed_runs}
 use Rattle.ffs_names.specs.Costs.{to_read, HoldsReading}
 use Rattle.ffs_pathnames.proofs.directory.look_directory.Given as goal
 
 abbrev pub invariant-chunks : goal.invariant-chunks
-invariant-chunks g l = let device = g.I.Image.device in record {
-  same : device l.image ≡ device l.initial.image;
-  geometry : l.chunks.walk.geometry ≡ l.geometry;
-  words_long : vec_len l.words ≡ vec_len l.fn.words;
-  places : KeepPlaces l.fn.words.items l.words.items;
-  ready : CanReadChunks l.geometry.layout (device l.image) l.blocks l.data;
-  quiet : ForContents (device l.initial.image).contents (λ b. (v : Volume) → Sees v l.inodes → l.inode.size < 2 ^ 31 →
-      are_quiet v l.dir (stamps_in l.inodes l.initial.words.items)
-      (flat_map roled_chunk (chunks_read l.geometry.layout l.inode l.cut b))
-      ≡ (l.quiet && are_quiet v l.dir (stamps_in l.inodes l.words.items) (flat_map roled_chunk (rest b l.chunks))));
-  stamps : ForContents (device l.initial.image).contents (λ b. (v : Volume) → Sees v l.inodes → l.inode.size < 2 ^ 31 →
-      after_looks v l.dir (stamps_in l.inodes l.initial.words.items)
-      (flat_map roled_chunk (chunks_read l.geometry.layout l.inode l.cut b))
-      ≡ after_looks v l.dir (stamps_in l.inodes l.words.items) (flat_map roled_chunk (rest b l.chunks)));
-  sound : ForContents (device l.initial.image).contents (λ b. l.inode.size < 2 ^ 31 →
-      are_sound (chunks_read l.geometry.layout l.inode l.cut b) ≡ (l.sound && are_sound (rest b l.chunks)));
-  gap : ForContents (device l.initial.image).contents (λ b.
-      has_gap (replayed_steps l.geometry.layout l.cut fresh_replay (steps_of l.geometry.layout l.inode b))
-      ≡ (l.chunks.gap || gap_left b l.chunks));
-  started : ForContents (device l.initial.image).contents (λ b. l.inode.size < 2 ^ 31 →
-      find (λ c. c.offset == 0) (chunks_read l.geometry.layout l.inode l.cut b) ≡ start_of (rest b l.chunks) l.started
-      l.order l.start);
-  held : ForContents (device l.initial.image).contents (λ b. HoldsReading l.blocks l.data l.chunks);
-  reads : ForContents (device l.initial.image).contents (λ b. g.I.Image.reads l.image + to_read b l.chunks
-      ≤ g.I.Image.reads l.initial.image
-      + replayed_runs l.geometry.layout l.cut fresh_replay (steps_of l.geometry.layout l.inode b));
-}
+invariant-chunks g l =
+    let device = g.I.Image.device in
+    let x = l.directory in
+    record {
+      same : device l.image ≡ device l.initial.image;
+      geometry : l.chunks.walk.geometry ≡ l.geometry;
+      words_long : vec_len l.words ≡ vec_len l.fn.words;
+      places : KeepPlaces l.fn.words.items l.words.items;
+      others : l.windows ≡ record l.fn.windows { blocks = l.windows.blocks; chunk = l.windows.chunk };
+      ready : CanReadChunks l.geometry.layout (device l.image) l.windows.blocks l.windows.chunk;
+      quiet : ForContents (device l.initial.image).contents (λ b. (v : Volume) → Sees v l.inodes → x.inode.size < 2 ^ 31
+          →
+          are_quiet v x.number (stamps_in l.inodes l.initial.words.items)
+          (flat_map roled_chunk (chunks_read l.geometry.layout x.inode x.cut b))
+          ≡ (l.quiet && are_quiet v x.number (stamps_in l.inodes l.words.items) (flat_map roled_chunk (rest b
+          l.chunks))));
+      stamps : ForContents (device l.initial.image).contents (λ b. (v : Volume) → Sees v l.inodes → x.inode.size < 2 ^
+          31 →
+          after_looks v x.number (stamps_in l.inodes l.initial.words.items)
+          (flat_map roled_chunk (chunks_read l.geometry.layout x.inode x.cut b))
+          ≡ after_looks v x.number (stamps_in l.inodes l.words.items) (flat_map roled_chunk (rest b l.chunks)));
+      sound : ForContents (device l.initial.image).contents (λ b. x.inode.size < 2 ^ 31 →
+          are_sound (chunks_read l.geometry.layout x.inode x.cut b) ≡ (l.sound && are_sound (rest b l.chunks)));
+      gap : ForContents (device l.initial.image).contents (λ b.
+          has_gap (replayed_steps l.geometry.layout x.cut fresh_replay (steps_of l.geometry.layout x.inode b))
+          ≡ (l.chunks.gap || gap_left b l.chunks));
+      started : ForContents (device l.initial.image).contents (λ b. x.inode.size < 2 ^ 31 →
+          find (λ c. c.offset == 0) (chunks_read l.geometry.layout x.inode x.cut b) ≡ start_chunk (rest b l.chunks)
+          l.started
+          l.order l.start);
+      held : ForContents (device l.initial.image).contents (λ b. HoldsReading l.windows.blocks l.windows.chunk
+          l.chunks);
+      reads : ForContents (device l.initial.image).contents (λ b. g.I.Image.reads l.image + to_read b l.chunks
+          ≤ g.I.Image.reads l.initial.image
+          + replayed_runs l.geometry.layout x.cut fresh_replay (steps_of l.geometry.layout x.inode b));
+    }
 
 abbrev pub decreases-chunks : goal.decreases-chunks
 decreases-chunks g l = l.chunks.budget

@@ -8,7 +8,7 @@ use Rattle.ffs_layout.specs.Entry.{entry_value}
 use Rattle.ffs_report.proofs.Reporting.{of_begins, of_same, of_part, of_fault, said_knows, reports_knowing}
 use Rattle.ffs_pathnames.specs.Gathers.{marks_of}
 use Rattle.ffs_pathnames.specs.DirectoryContext.{DirectoryContext}
-use Rattle.ffs_pathnames.specs.Marks.{after_roled, after_entries, entry_lines_of, entries_reported}
+use Rattle.ffs_pathnames.specs.NameMarks.{after_roled, after_entries, roled_reported, entries_reported}
 use Rattle.ffs_pathnames.proofs.Begun.{image_same}
 use Rattle.ffs_pathnames.proofs.LineCounts.{entry_counted, has_begun, read_all, read_more}
 use Rattle.ffs_pathnames.proofs.Looking.{roled_at_place, seen_next, none}
@@ -20,6 +20,7 @@ use Rattle.ffs_pathnames.proofs.entries.report_chunk.Goals as goal
 pub entries-init : goal.entries-init
 entries-init g c =
     let v = c.args.geometry.now.layout in
+    let x = c.args.chunk.now in
     record {
       place = omega arith;
       index = omega arith;
@@ -31,35 +32,36 @@ entries-init g c =
       path = λ b k. k.path;
       marks = λ b k. refl;
       said = of_begins _ (λ (b : List ℕ). map of_tree
-          (entries_reported (volume_of v b) c.args.dir (marks_of c.args.workspace.now)
-          (roled_from c.args.first 0 (entries_of v.order c.args.chunk.now)))) _;
+          (entries_reported (volume_of v b) x.dir (marks_of c.args.workspace.now)
+          (roled_from x.first 0 (entries_of v.order x.bytes.now)))) _;
       counted = λ b k noted. has_begun _ _ _;
     }
 
 pub returns-in_err-report_entry-clause-text : goal.returns-in_err-report_entry-clause-text
 returns-in_err-report_entry-clause-text g c =
     let v = c.args.geometry.now.layout in
+    let x = c.args.chunk.now in
     let inv = c.entries.invariant in
     let e = entry_value c.in-Some.entry in
-    let seen : RoledEntry = record { role = c.role_of-role.result; entry = e } in
+    let seen : RoledEntry = record { role = c.role_of.result; entry = e } in
     let m = marks_of c.entries.workspace in
-    let here = roled_at_place v.order c.args.chunk.now c.args.first c.entries.index c.entries.place in
-    let there = roled_at_place v.order c.args.chunk.now c.args.first (c.entries.index + 1)
+    let here = roled_at_place v.order x.bytes.now x.first c.entries.index c.entries.place in
+    let there = roled_at_place v.order x.bytes.now x.first (c.entries.index + 1)
     (c.entries.place + c.in-Some.entry.length) in
-    let next = seen_next v.order c.args.chunk.now c.args.first c.entries.index c.entries.place e c.role_of-role.result
-    c.in-Some.ensures.some c.role_of-role.ensures in
+    let next = seen_next v.order x.bytes.now x.first c.entries.index c.entries.place e c.role_of.result
+    c.in-Some.ensures.some c.role_of.ensures in
     let p = err_from_is_err_and c.from_residual.result c.from_residual.ensures.1 in
     rw (p.1, p.2) (of_fault (Unit {0}) (Unit {0}) _
-    (λ (b : List ℕ). map of_tree (entries_reported (volume_of v b) c.args.dir m here))
-    (λ (b : List ℕ). map of_tree (entry_lines_of (volume_of v b) c.args.dir m seen))
+    (λ (b : List ℕ). map of_tree (entries_reported (volume_of v b) x.dir m here))
+    (λ (b : List ℕ). map of_tree (roled_reported (volume_of v b) x.dir m seen))
     (λ (b : List ℕ). map of_tree
-    (entries_reported (volume_of v b) c.args.dir (after_roled (volume_of v b) c.args.dir m seen) there)) _ _ _ _
+    (entries_reported (volume_of v b) x.dir (after_roled (volume_of v b) x.dir m seen) there)) _ _ _ _
     c.in_err-report_entry.field-0.0
-    inv.said (λ b k. entry_reported (volume_of v b) c.args.dir m (after_roled (volume_of v b) c.args.dir m seen) seen
+    inv.said (λ b k. entry_reported (volume_of v b) x.dir m (after_roled (volume_of v b) x.dir m seen) seen
     here there next refl)
     (reports_knowing (Unit {0}) _ _ _ _ _ (Err c.in_err-report_entry.field-0.0)
     (λ b k. record {
-      knows = knows_on v _ _ c.args.workspace.now c.entries.workspace c.args.dir b
+      knows = knows_on v _ _ c.args.workspace.now c.entries.workspace x.dir b
           (ap (λ d. d.contents) inv.device) inv.survey k.knows;
       path = inv.path b k;
     }) c.in_err-report_entry.ensures.text))
@@ -82,27 +84,29 @@ returns-in_err-report_entry-clause-chunk g c = c.in_err-report_entry.ensures.chu
 pub returns-in_err-report_entry-clause-counted : goal.returns-in_err-report_entry-clause-counted
 returns-in_err-report_entry-clause-counted g c = λ b k noted.
     let v = c.args.geometry.now.layout in
+    let x = c.args.chunk.now in
     let inv = c.entries.invariant in
     let e = entry_value c.in-Some.entry in
-    let seen : RoledEntry = record { role = c.role_of-role.result; entry = e } in
+    let seen : RoledEntry = record { role = c.role_of.result; entry = e } in
     let m = marks_of c.entries.workspace in
-    let next = seen_next v.order c.args.chunk.now c.args.first c.entries.index c.entries.place e c.role_of-role.result
-    c.in-Some.ensures.some c.role_of-role.ensures in
+    let next = seen_next v.order x.bytes.now x.first c.entries.index c.entries.place e c.role_of.result
+    c.in-Some.ensures.some c.role_of.ensures in
     read_all (read_more _ _ (inv.counted b k noted)
-    (entry_counted (volume_of v b) c.args.dir m (after_roled (volume_of v b) c.args.dir m seen) seen
-    (roled_at_place v.order c.args.chunk.now c.args.first c.entries.index c.entries.place)
-    (roled_at_place v.order c.args.chunk.now c.args.first (c.entries.index + 1)
+    (entry_counted (volume_of v b) x.dir m (after_roled (volume_of v b) x.dir m seen) seen
+    (roled_at_place v.order x.bytes.now x.first c.entries.index c.entries.place)
+    (roled_at_place v.order x.bytes.now x.first (c.entries.index + 1)
     (c.entries.place + c.in-Some.entry.length)) next refl)
     (c.in_err-report_entry.ensures.counted b
-    (knows_on v _ _ c.args.workspace.now c.entries.workspace c.args.dir b (ap (λ d. d.contents) inv.device) inv.survey
+    (knows_on v _ _ c.args.workspace.now c.entries.workspace x.dir b (ap (λ d. d.contents) inv.device) inv.survey
     k)
     (noted_kept v b _ _ inv.places noted)))
 
 pub returns-in_err-report_entry-clause-path : goal.returns-in_err-report_entry-clause-path
 returns-in_err-report_entry-clause-path g c = λ b k.
+    let x = c.args.chunk.now in
     let inv = c.entries.invariant in
     c.report_entry.ensures.path b (record {
-      knows = knows_on c.args.geometry.now.layout _ _ c.args.workspace.now c.entries.workspace c.args.dir b
+      knows = knows_on c.args.geometry.now.layout _ _ c.args.workspace.now c.entries.workspace x.dir b
           (ap (λ d. d.contents) inv.device) inv.survey k.knows;
       path = inv.path b k;
     })
@@ -110,23 +114,24 @@ returns-in_err-report_entry-clause-path g c = λ b k.
 pub entries-preserved : goal.entries-preserved
 entries-preserved g c =
     let v = c.args.geometry.now.layout in
+    let x = c.args.chunk.now in
     let inv = c.entries.invariant in
     let ok = c.in_ok-report_entry.ensures in
     let e = entry_value c.in-Some.entry in
-    let seen : RoledEntry = record { role = c.role_of-role.result; entry = e } in
+    let seen : RoledEntry = record { role = c.role_of.result; entry = e } in
     let m = marks_of c.entries.workspace in
     let m' = marks_of c.report_entry.new.workspace in
-    let here = roled_at_place v.order c.args.chunk.now c.args.first c.entries.index c.entries.place in
-    let there = roled_at_place v.order c.args.chunk.now c.args.first (c.entries.index + 1)
+    let here = roled_at_place v.order x.bytes.now x.first c.entries.index c.entries.place in
+    let there = roled_at_place v.order x.bytes.now x.first (c.entries.index + 1)
     (c.entries.place + c.in-Some.entry.length) in
-    let next = seen_next v.order c.args.chunk.now c.args.first c.entries.index c.entries.place e c.role_of-role.result
-    c.in-Some.ensures.some c.role_of-role.ensures in
+    let next = seen_next v.order x.bytes.now x.first c.entries.index c.entries.place e c.role_of.result
+    c.in-Some.ensures.some c.role_of.ensures in
     let low = c.in-Some.ensures.room.0 in
     let high = c.in-Some.ensures.room.1 in
     let know = λ (b : List ℕ)
-    (k : DirectoryContext v (g.I.Image.device c.args.image.now).contents c.args.workspace.now c.args.dir b).
+    (k : DirectoryContext v (g.I.Image.device c.args.image.now).contents c.args.workspace.now x.dir b).
     knows_on v (g.I.Image.device c.args.image.now).contents (g.I.Image.device c.entries.image).contents
-    c.args.workspace.now c.entries.workspace c.args.dir b (ap (λ d. d.contents) inv.device) inv.survey k in
+    c.args.workspace.now c.entries.workspace x.dir b (ap (λ d. d.contents) inv.device) inv.survey k in
     rw c.from-place.ensures (record {
       place = omega arith;
       index = omega arith;
@@ -136,40 +141,42 @@ entries-preserved g c =
       places = keep_more _ _ _ inv.places ok.leaves.places;
       chunk = ok.chunk ∙ inv.chunk;
       path = λ b k. c.report_entry.ensures.path b (record { knows = know b k.knows; path = inv.path b k });
-      marks = λ b k. entry_passed (volume_of v b) c.args.dir _ m m' seen here there next (ok.marks b (know b k))
+      marks = λ b k. entry_passed (volume_of v b) x.dir _ m m' seen here there next (ok.marks b (know b k))
           (inv.marks b k);
-      said = of_part _ (λ (b : List ℕ). map of_tree (entries_reported (volume_of v b) c.args.dir m here))
-          (λ (b : List ℕ). map of_tree (entry_lines_of (volume_of v b) c.args.dir m seen))
-          (λ (b : List ℕ). map of_tree (entries_reported (volume_of v b) c.args.dir m' there)) _ _ _ _ inv.said
-          (λ b k. entry_reported (volume_of v b) c.args.dir m m' seen here there next (ok.marks b (know b k.knows)))
+      said = of_part _ (λ (b : List ℕ). map of_tree (entries_reported (volume_of v b) x.dir m here))
+          (λ (b : List ℕ). map of_tree (roled_reported (volume_of v b) x.dir m seen))
+          (λ (b : List ℕ). map of_tree (entries_reported (volume_of v b) x.dir m' there)) _ _ _ _ inv.said
+          (λ b k. entry_reported (volume_of v b) x.dir m m' seen here there next (ok.marks b (know b k.knows)))
           (said_knows _ _ _ _ _ _ (λ b k. record {
             knows = know b k.knows;
             path = inv.path b k;
           }) ok.text);
       counted = λ b k noted. read_more _ _ (inv.counted b k noted)
-          (entry_counted (volume_of v b) c.args.dir m m' seen here there next (ok.marks b (know b k)))
+          (entry_counted (volume_of v b) x.dir m m' seen here there next (ok.marks b (know b k)))
           (ok.counted b (know b k) (noted_kept v b _ _ inv.places noted));
     })
 
 pub returns-clause-text : goal.returns-clause-text
 returns-clause-text g c =
     let v = c.args.geometry.now.layout in
+    let x = c.args.chunk.now in
     let inv = c.entries.invariant in
     let m = marks_of c.entries.workspace in
-    let end = none_left v.order c.args.chunk.now c.args.first c.entries.index c.entries.place
-    (none v.order c.args.chunk.now c.entries.place c.entry_at.result c.in_default.is c.entry_at.ensures.value) in
+    let end = none_left v.order x.bytes.now x.first c.entries.index c.entries.place
+    (none v.order x.bytes.now c.entries.place c.entry_at.result c.in_default.is c.entry_at.ensures.value) in
     of_same _ (λ (b : List ℕ). map of_tree
-    (entries_reported (volume_of v b) c.args.dir m
-    (roled_at_place v.order c.args.chunk.now c.args.first c.entries.index c.entries.place))) (λ b. []) _ _ _
+    (entries_reported (volume_of v b) x.dir m
+    (roled_at_place v.order x.bytes.now x.first c.entries.index c.entries.place))) (λ b. []) _ _ _
     inv.said
-    (λ b k. ap (λ es. map of_tree (entries_reported (volume_of v b) c.args.dir m es)) end)
+    (λ b k. ap (λ es. map of_tree (entries_reported (volume_of v b) x.dir m es)) end)
 
 pub returns-clause-marks : goal.returns-clause-marks
 returns-clause-marks g c = λ b k.
     let v = c.args.geometry.now.layout in
-    let end = none_left v.order c.args.chunk.now c.args.first c.entries.index c.entries.place
-    (none v.order c.args.chunk.now c.entries.place c.entry_at.result c.in_default.is c.entry_at.ensures.value) in
-    c.entries.invariant.marks b k ∙ ap (after_entries (volume_of v b) c.args.dir (marks_of c.entries.workspace)) end
+    let x = c.args.chunk.now in
+    let end = none_left v.order x.bytes.now x.first c.entries.index c.entries.place
+    (none v.order x.bytes.now c.entries.place c.entry_at.result c.in_default.is c.entry_at.ensures.value) in
+    c.entries.invariant.marks b k ∙ ap (after_entries (volume_of v b) x.dir (marks_of c.entries.workspace)) end
 
 pub returns-clause-counted : goal.returns-clause-counted
 returns-clause-counted g c = λ b k noted. read_all (c.entries.invariant.counted b k noted)

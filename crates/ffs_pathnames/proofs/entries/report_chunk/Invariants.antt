@@ -11,7 +11,7 @@ use Rattle.ffs_workspace.specs.Leaves.{LeavesSurvey}
 use Rattle.ffs_pathnames.specs.Ready.{ReadyWith}
 use Rattle.ffs_pathnames.specs.Gathers.{marks_of}
 use Rattle.ffs_pathnames.specs.DirectoryContext.{BeginsPathOf, DirectoryContext, KnowsPath}
-use Rattle.ffs_pathnames.specs.Marks.{after_entries, entries_reported}
+use Rattle.ffs_pathnames.specs.NameMarks.{after_entries, entries_reported}
 use Rattle.ffs_workspace.specs.Places.{AreNoted}
 use Rattle.ffs_pathnames.specs.Stamps.{KeepPlaces}
 use Rattle.ffs_pathnames.proofs.LineCounts.{HasRead}
@@ -19,34 +19,39 @@ use Rattle.ffs_pathnames.proofs.Looking.{roled_at_place}
 use Rattle.ffs_pathnames.proofs.entries.report_chunk.Given as goal
 
 abbrev pub invariant-entries : goal.invariant-entries
-invariant-entries g l = let reported_by = g.I.Image.device in let v = l.geometry.layout in record {
-  place : l.place ≤ 512;
-  index : l.index ≤ l.place;
-  ready : ReadyWith v (reported_by l.image) l.workspace l.siblings;
-  device : reported_by l.image ≡ reported_by l.fn.image;
-  survey : LeavesSurvey l.fn.workspace l.workspace;
-  places : KeepPlaces l.fn.workspace.queue.items l.workspace.queue.items;
-  chunk : l.workspace.windows.chunk ≡ l.fn.workspace.windows.chunk;
-  path : ForBytes (KnowsPath v (reported_by l.fn.image).contents l.fn.workspace l.dir l.fn.texts)
-      (λ b. BeginsPathOf (graph_of (volume_of v b)) l.dir l.texts);
-  marks : ForBytes (DirectoryContext v (reported_by l.fn.image).contents l.fn.workspace l.dir) (λ b.
-      after_entries (volume_of v b) l.dir (marks_of l.fn.workspace) (roled_from l.first 0 (entries_of v.order l.chunk))
-      ≡ after_entries (volume_of v b) l.dir (marks_of l.workspace)
-      (roled_at_place v.order l.chunk l.first l.index l.place));
-  said : SaidOf (KnowsPath v (reported_by l.fn.image).contents l.fn.workspace l.dir l.fn.texts)
-      (λ b. map of_tree (entries_reported (volume_of v b) l.dir (marks_of l.workspace)
-      (roled_at_place v.order l.chunk l.first l.index l.place)))
-      (λ b. map of_tree (entries_reported (volume_of v b) l.dir (marks_of l.fn.workspace)
-      (roled_from l.first 0 (entries_of v.order l.chunk))))
-      (progress g.W.Output.sink l.fn.report) (progress g.W.Output.sink l.report);
-  counted : (b : List ℕ) → DirectoryContext v (reported_by l.fn.image).contents l.fn.workspace l.dir b
-      → AreNoted v b l.fn.workspace.queue.items
-      → HasRead (length (entries_reported (volume_of v b) l.dir (marks_of l.fn.workspace)
-      (roled_from l.first 0 (entries_of v.order l.chunk))))
-      (length (entries_reported (volume_of v b) l.dir (marks_of l.workspace)
-      (roled_at_place v.order l.chunk l.first l.index l.place)))
-      (g.I.Image.reads l.fn.image) (g.I.Image.reads l.image) l.fn.workspace l.workspace;
-}
+invariant-entries g l =
+    let reported_by = g.I.Image.device in
+    let v = l.geometry.layout in
+    let x = l.chunk in
+    record {
+      place : l.place ≤ 512;
+      index : l.index ≤ l.place;
+      ready : ReadyWith v (reported_by l.image) l.workspace l.texts.siblings;
+      device : reported_by l.image ≡ reported_by l.fn.image;
+      survey : LeavesSurvey l.fn.workspace l.workspace;
+      places : KeepPlaces l.fn.workspace.queue.items l.workspace.queue.items;
+      chunk : l.workspace.windows.chunk ≡ l.fn.workspace.windows.chunk;
+      path : ForBytes (KnowsPath v (reported_by l.fn.image).contents l.fn.workspace x.dir l.fn.texts)
+          (λ b. BeginsPathOf (graph_of (volume_of v b)) x.dir l.texts);
+      marks : ForBytes (DirectoryContext v (reported_by l.fn.image).contents l.fn.workspace x.dir) (λ b.
+          after_entries (volume_of v b) x.dir (marks_of l.fn.workspace) (roled_from x.first 0 (entries_of v.order
+          x.bytes.now))
+          ≡ after_entries (volume_of v b) x.dir (marks_of l.workspace)
+          (roled_at_place v.order x.bytes.now x.first l.index l.place));
+      said : SaidOf (KnowsPath v (reported_by l.fn.image).contents l.fn.workspace x.dir l.fn.texts)
+          (λ b. map of_tree (entries_reported (volume_of v b) x.dir (marks_of l.workspace)
+          (roled_at_place v.order x.bytes.now x.first l.index l.place)))
+          (λ b. map of_tree (entries_reported (volume_of v b) x.dir (marks_of l.fn.workspace)
+          (roled_from x.first 0 (entries_of v.order x.bytes.now))))
+          (progress g.W.Output.sink l.fn.report) (progress g.W.Output.sink l.report);
+      counted : (b : List ℕ) → DirectoryContext v (reported_by l.fn.image).contents l.fn.workspace x.dir b
+          → AreNoted v b l.fn.workspace.queue.items
+          → HasRead (length (entries_reported (volume_of v b) x.dir (marks_of l.fn.workspace)
+          (roled_from x.first 0 (entries_of v.order x.bytes.now))))
+          (length (entries_reported (volume_of v b) x.dir (marks_of l.workspace)
+          (roled_at_place v.order x.bytes.now x.first l.index l.place)))
+          (g.I.Image.reads l.fn.image) (g.I.Image.reads l.image) l.fn.workspace l.workspace;
+    }
 
 abbrev pub decreases-entries : goal.decreases-entries
 decreases-entries g l = 512 - l.place

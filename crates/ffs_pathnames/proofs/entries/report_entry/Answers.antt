@@ -2,11 +2,10 @@ use Rattle.std.proofs.Common.{ap, refl, ◌∙◌, rules}
 use Rattle.std.proofs.lemmas.List.{with_items_is}
 use Rattle.std.proofs.lemmas.Result.{err_from_is_err_and}
 use Rattle.ffs_volume.specs.Directories.Volumes.{volume_of}
-use Rattle.ffs_layout.specs.Entry.{entry_value}
 use Rattle.ffs_workspace.specs.declared.workspace.Workspace.{Workspace}
 use Rattle.ffs_workspace.specs.Leaves.{LeavesSurvey}
 use Rattle.ffs_workspace.proofs.Leaving.{claims_left, survey_left, leaves_more, windows_leave}
-use Rattle.ffs_pathnames.specs.Gathers.{marks_of}
+use Rattle.ffs_pathnames.specs.Gathers.{marks_of, roled_value}
 use Rattle.ffs_pathnames.proofs.Passed.{passes}
 use Rattle.ffs_pathnames.proofs.SeesLaws.{sees}
 use Rattle.ffs_pathnames.proofs.StampLaws.{keep_more, places_kept, windows_keep}
@@ -46,7 +45,8 @@ returns-clause-leaves g c =
     record {
       image = left.image;
       survey = leaves_more _ _ _ (windows_leave _ _ left.lists) marks;
-      places = keep_more _ _ _ (windows_keep c.args.workspace.now c.say_entry.new.workspace left.lists) c.pass.ensures.places;
+      places = keep_more _ _ _ (windows_keep c.args.workspace.now c.say_entry.new.workspace left.lists)
+          c.pass.ensures.places;
       ready = record {
         ready = record {
           made = record {
@@ -91,7 +91,7 @@ returns-clause-marks g c = λ b k.
       parents = refl;
       count = c.as_slice.ensures.len ∙ c.in_ok-say_entry.ensures.leaves.ready.ready.made.kinds;
     }) (claims_left v b before here kept k.claims) (survey_left v b before here kept k.survey) in
-    passes (volume_of v b) c.args.dir (record { role = c.args.role; entry = entry_value c.args.entry.now })
+    passes (volume_of v b) c.args.entry.now.dir (roled_value c.args.entry.now)
     before.flags.items _ _ _ (marks_of before).stamps _ _ _
     (c.as_mut_slice.ensures.value ∙ ap (λ (w : Workspace). w.flags.items) left)
     (ap (λ (w : Workspace). (marks_of w).stamps) left)

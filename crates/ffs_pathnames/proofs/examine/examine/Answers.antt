@@ -6,13 +6,15 @@ use Rattle.ffs_volume.specs.Directories.PathnameCheck.{are_sound}
 use Rattle.ffs_volume.specs.Blocks.Inodes.{inode_of}
 use Rattle.ffs_volume.specs.Directories.Volumes.{volume_of}
 use Rattle.ffs_workspace.specs.Notes.{cut_in}
+use Rattle.ffs_workspace.specs.Ready.{IsReady}
+use Rattle.ffs_workspace.specs.declared.workspace.Windows.{Windows}
 use Rattle.ffs_workspace.proofs.NoteLaws.{cut_is_noted}
 use Rattle.ffs_names.proofs.DirLaws.{dir_is, dir_size}
 use Rattle.ffs_names.specs.Windows.{CanReadChunks}
 use Rattle.ffs_workspace.proofs.Readiness.{ready_table}
 use Rattle.ffs_workspace.proofs.Leaving.{windows_leave}
 use Rattle.ffs_pathnames.specs.Gathers.{marks_of}
-use Rattle.ffs_pathnames.specs.Marks.{are_quiet, after_looks}
+use Rattle.ffs_pathnames.specs.NameMarks.{are_quiet, after_looks}
 use Rattle.ffs_pathnames.proofs.ChunkLaws.{chunks_are, gap_is, seen_are}
 use Rattle.ffs_pathnames.proofs.ReadyLaws.{can_read_in, ready_looked}
 use Rattle.ffs_pathnames.proofs.SeesLaws.{sees}
@@ -88,11 +90,14 @@ returns-clause-leaves g c =
     let two = c.in_ok-found.ensures.leaves.read in
     record {
       lists = queue_leaves w _ refl c.look_directory.ensures.places;
-      ready = ready_looked v (g.I.Image.device c.args.image.now) (g.I.Image.device c.inode_by_part.new.image) _ w
+      ready = subst (λ (x : Windows). IsReady v (g.I.Image.device c.look_directory.new.image)
+          (record w { windows = x; queue = c.look_directory.new.words })) (sym c.look_directory.ensures.others)
+          (ready_looked v (g.I.Image.device c.args.image.now) (g.I.Image.device c.inode_by_part.new.image) _ w
           c.inode_by_part.new.self
-          c.look_directory.new.blocks c.look_directory.new.data c.look_directory.new.words c.requires.ready.ready
+          c.look_directory.new.windows.blocks c.look_directory.new.windows.chunk c.look_directory.new.words
+          c.requires.ready.ready
           (ap (λ d. d.contents) one) (ap (λ d. d.size) one) c.inode_by_part.ensures.reads.kept
-          (ap (λ d. d.contents) two) look.ready c.look_directory.ensures.words_long;
+          (ap (λ d. d.contents) two) look.ready c.look_directory.ensures.words_long);
       read = two ∙ one;
     }
 
@@ -126,11 +131,14 @@ returns-in_err-found-clause-leaves g c =
     let p = err_from_is_err_and c.from_residual-in_err-found.result c.from_residual-in_err-found.ensures.1 in
     rw (p.1, p.2) (record {
       lists = queue_leaves w _ refl c.look_directory.ensures.places;
-      ready = ready_looked v (g.I.Image.device c.args.image.now) (g.I.Image.device c.inode_by_part.new.image) _ w
+      ready = subst (λ (x : Windows). IsReady v (g.I.Image.device c.look_directory.new.image)
+          (record w { windows = x; queue = c.look_directory.new.words })) (sym c.look_directory.ensures.others)
+          (ready_looked v (g.I.Image.device c.args.image.now) (g.I.Image.device c.inode_by_part.new.image) _ w
           c.inode_by_part.new.self
-          c.look_directory.new.blocks c.look_directory.new.data c.look_directory.new.words c.requires.ready.ready
+          c.look_directory.new.windows.blocks c.look_directory.new.windows.chunk c.look_directory.new.words
+          c.requires.ready.ready
           (ap (λ d. d.contents) one) (ap (λ d. d.size) one) c.inode_by_part.ensures.reads.kept two.contents look.ready
-          c.look_directory.ensures.words_long;
+          c.look_directory.ensures.words_long);
       read = subst (λ d. Faulted d (g.I.Image.device c.look_directory.new.image) c.in_err-found.field-0.0.sector) one
           two;
     })
@@ -147,8 +155,10 @@ returns-in_err-found-clause-reads g c = λ b k.
     let v = c.args.geometry.now.layout in
     let number = c.args.dir in
     let one = c.inode_by_part.ensures.counted in
-    let look = c.look_directory.ensures.reads b (ap (λ x. x.contents) c.in_ok-inode.ensures.reads.read ∙ k.gives_bytes) in
-    let cut = c.cut_of-cut.ensures ∙ (ap cut_in (k.claims.notes number) ∙ cut_is_noted v b number c.args.geometry.now.sound) in
+    let look = c.look_directory.ensures.reads b (ap (λ x. x.contents) c.in_ok-inode.ensures.reads.read ∙ k.gives_bytes)
+    in
+    let cut = c.cut_of-cut.ensures ∙ (ap cut_in (k.claims.notes number) ∙ cut_is_noted v b number
+    c.args.geometry.now.sound) in
     let runs = runs_are v b number c.in_ok-inode.inode c.cut_of-cut.result
     (c.in_ok-inode.ensures.reads.inode b k.gives_bytes) cut in
     let cost = cost_of_dir v b number k.dir in
@@ -159,8 +169,10 @@ returns-clause-reads g c = λ b k.
     let v = c.args.geometry.now.layout in
     let number = c.args.dir in
     let one = c.inode_by_part.ensures.counted in
-    let look = c.look_directory.ensures.reads b (ap (λ x. x.contents) c.in_ok-inode.ensures.reads.read ∙ k.gives_bytes) in
-    let cut = c.cut_of-cut.ensures ∙ (ap cut_in (k.claims.notes number) ∙ cut_is_noted v b number c.args.geometry.now.sound) in
+    let look = c.look_directory.ensures.reads b (ap (λ x. x.contents) c.in_ok-inode.ensures.reads.read ∙ k.gives_bytes)
+    in
+    let cut = c.cut_of-cut.ensures ∙ (ap cut_in (k.claims.notes number) ∙ cut_is_noted v b number
+    c.args.geometry.now.sound) in
     let runs = runs_are v b number c.in_ok-inode.inode c.cut_of-cut.result
     (c.in_ok-inode.ensures.reads.inode b k.gives_bytes) cut in
     let cost = cost_of_dir v b number k.dir in

@@ -8,31 +8,32 @@ use Rattle.ffs_pathnames.proofs.header.say_header.Goals as goal
 pub returns-in_err-say_shape : goal.returns-in_err-say_shape
 unfolding header_reported
 returns-in_err-say_shape g c =
-    first_stops _ _ (shape_reported c.args.attr c.args.path.now c.args.shape.gap c.args.shape.sound)
-    (dots_reported c.args.attr c.args.path.now c.args.number c.args.parent (option_map entry_value c.args.shape.first)
-    (option_map entry_value c.args.shape.second))
+    first_stops _ _ (shape_reported c.args.attr c.args.path.now c.args.header.gap c.args.header.sound)
+    (dots_reported c.args.attr c.args.path.now c.args.header.number c.args.header.parent (option_map entry_value
+    c.args.header.first)
+    (option_map entry_value c.args.header.second))
     c.from_residual.result c.from_residual.ensures.0 c.in_err-say_shape.ensures
 
 pub returns-in_err-say_dot : goal.returns-in_err-say_dot
 unfolding header_reported
 returns-in_err-say_dot g c =
-    let first = option_map entry_value c.args.shape.first in
-    let second = option_map entry_value c.args.shape.second in
-    names_then _ _ _ (shape_reported c.args.attr c.args.path.now c.args.shape.gap c.args.shape.sound)
-    (dots_reported c.args.attr c.args.path.now c.args.number c.args.parent first second)
+    let first = option_map entry_value c.args.header.first in
+    let second = option_map entry_value c.args.header.second in
+    names_then _ _ _ (shape_reported c.args.attr c.args.path.now c.args.header.gap c.args.header.sound)
+    (dots_reported c.args.attr c.args.path.now c.args.header.number c.args.header.parent first second)
     c.from_residual-in_err-say_dot.result c.in_ok-say_shape.ensures
-    (first_stops _ _ (dot_said c.args.attr c.args.path.now c.args.number first (dot_in first))
-    (dotdot_said c.args.attr c.args.path.now c.args.parent second (dotdot_in second))
+    (first_stops _ _ (dot_said c.args.attr c.args.path.now c.args.header.number first (dot_in first))
+    (dotdot_said c.args.attr c.args.path.now c.args.header.parent second (dotdot_in second))
     c.from_residual-in_err-say_dot.result c.from_residual-in_err-say_dot.ensures.0 c.in_err-say_dot.ensures)
 
 pub returns : goal.returns
 unfolding header_reported
 returns g c =
-    let first = option_map entry_value c.args.shape.first in
-    let second = option_map entry_value c.args.shape.second in
-    names_then _ _ _ (shape_reported c.args.attr c.args.path.now c.args.shape.gap c.args.shape.sound)
-    (dots_reported c.args.attr c.args.path.now c.args.number c.args.parent first second)
+    let first = option_map entry_value c.args.header.first in
+    let second = option_map entry_value c.args.header.second in
+    names_then _ _ _ (shape_reported c.args.attr c.args.path.now c.args.header.gap c.args.header.sound)
+    (dots_reported c.args.attr c.args.path.now c.args.header.number c.args.header.parent first second)
     _ c.in_ok-say_shape.ensures
-    (names_then _ _ _ (dot_said c.args.attr c.args.path.now c.args.number first (dot_in first))
-    (dotdot_said c.args.attr c.args.path.now c.args.parent second (dotdot_in second))
+    (names_then _ _ _ (dot_said c.args.attr c.args.path.now c.args.header.number first (dot_in first))
+    (dotdot_said c.args.attr c.args.path.now c.args.header.parent second (dotdot_in second))
     _ c.in_ok-say_dot.ensures c.say_dotdot.ensures)

@@ -4,31 +4,30 @@ use Rattle.std.proofs.lemmas.Result.{err_from_is_err_and}
 use Rattle.ffs_volume.specs.Directories.Parents.{graph_of}
 use Rattle.ffs_volume.specs.Directories.Volumes.{volume_of}
 use Rattle.ffs_paths.specs.LastPaths.{last_path}
-use Rattle.ffs_paths.proofs.Keeping.{leaves_with, no_reads, siblings_held}
+use Rattle.ffs_paths.proofs.Keeping.{leaves_with, no_reads}
 use Rattle.ffs_paths.proofs.Rooms.{entry_in_room}
+use Rattle.ffs_pathnames.proofs.Carrying.{if_ok}
 use Rattle.ffs_pathnames.proofs.Enough.{enough, path_asks_attr}
-use Rattle.ffs_pathnames.proofs.ReadyLaws.{reads_more}
+use Rattle.ffs_pathnames.proofs.ReadyLaws.{leaves_read}
 use Rattle.ffs_pathnames.proofs.one_entry.gather.Goals as goal
 
 pub returns-clause-enough : goal.returns-clause-enough
-returns-clause-enough g c = λ b dir t h r p.
+returns-clause-enough g c =
     let v = c.args.geometry.now.layout in
-    let t1 = ap (λ x. x.contents) c.in_ok-gather_path.ensures.leaves.reads.read ∙ t in
-    enough (volume_of v b) c.args.verdict.now dir c.args.entry.now.number c.args.entry.now.name.now c.in_ok-attr.attr
-    (last_path c.put.new.self) c.gather_path.new.text.items
-    (λ q. c.in_ok-attr.ensures.attr b t1)
-    (c.put.ensures.path (graph_of (volume_of v b)) dir p
-    ∙ entry_in_room (graph_of (volume_of v b)) dir c.args.entry.now.name.now c.args.entry.now.short)
-    (λ q. c.in_ok-gather_path.ensures.path b t h r (c.asks-wants_attr.ensures.directory ∙ q))
+    let read = c.in_ok-gather_path.ensures.leaves.reads.read in
+    if_ok c.read_attr.result _ _
+    (λ a attr b dir t h r p. enough (volume_of v b) c.args.verdict.now dir c.args.entry.now.number
+    c.args.entry.now.name.now a (last_path c.gather_path.new.texts.paths)
+    c.gather_path.new.texts.directory.items
+    (λ q. attr b (ap (λ x. x.contents) read ∙ t))
+    (ap last_path c.gather_path.ensures.same.1 ∙ (c.put.ensures.path (graph_of (volume_of v b)) dir p
+    ∙ entry_in_room (graph_of (volume_of v b)) dir c.args.entry.now.name.now c.args.entry.now.short))
+    (λ q. c.in_ok-gather_path.ensures.path b t h r (c.asks-wants_attr.ensures.directory ∙ q)))
+    c.read_attr.ensures.attr
 
 pub returns-clause-leaves : goal.returns-clause-leaves
 returns-clause-leaves g c =
-    let path = c.in_ok-gather_path.ensures.leaves in
-    let attr = c.in_ok-attr.ensures.reads in
-    record {
-      reads = reads_more _ _ _ _ _ _ _ _ path.reads.read path.reads.lists path.reads.chunk attr;
-      siblings = siblings_held _ _ _ _ _ _ (ap (λ d. d.contents) attr.read) attr.lists path.siblings;
-    }
+    leaves_read c.read_attr.result c.in_ok-gather_path.ensures.leaves c.read_attr.ensures.reads
 
 pub returns-then-not-wants_attr-clause-enough : goal.returns-then-not-wants_attr-clause-enough
 returns-then-not-wants_attr-clause-enough g c = λ b dir t h r p.
@@ -56,17 +55,6 @@ read_attr-requires g c = record {
   number = c.requires.number (sym c.asks-wants_attr.ensures.attr ∙ c.if-not-wants_attr.false);
 }
 
-pub returns-in_err-attr-clause-leaves : goal.returns-in_err-attr-clause-leaves
-returns-in_err-attr-clause-leaves g c =
-    let path = c.in_ok-gather_path.ensures.leaves in
-    let left = c.in_err-attr.ensures.reads in
-    let p = err_from_is_err_and c.from_residual-in_err-attr.result c.from_residual-in_err-attr.ensures.1 in
-    rw (p.1, p.2) (record {
-      reads = reads_more _ _ _ _ _ _ _ _ path.reads.read path.reads.lists path.reads.chunk
-          (record { lists = left.lists; chunk = left.chunk; ready = left.ready; read = left.read });
-      siblings = tt;
-    })
-
 pub gather_path-requires : goal.gather_path-requires
 gather_path-requires g c = record {
   ready = c.requires.ready.ready;
@@ -81,7 +69,3 @@ returns-then-not-wants_attr-clause-leaves g c =
 pub returns-in_err-gather_path-clause-enough : goal.returns-in_err-gather_path-clause-enough
 returns-in_err-gather_path-clause-enough g c =
     let p = err_from_is_err_and c.from_residual.result c.from_residual.ensures.1 in rw p.1 tt
-
-pub returns-in_err-attr-clause-enough : goal.returns-in_err-attr-clause-enough
-returns-in_err-attr-clause-enough g c =
-    let p = err_from_is_err_and c.from_residual-in_err-attr.result c.from_residual-in_err-attr.ensures.1 in rw p.1 tt

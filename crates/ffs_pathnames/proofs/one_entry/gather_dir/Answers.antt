@@ -1,7 +1,7 @@
 use Rattle.std.proofs.Common.{ap, ◌∙◌}
 use Rattle.std.proofs.lemmas.Result.{err_from_is_err_and}
-use Rattle.ffs_paths.proofs.Keeping.{siblings_held}
-use Rattle.ffs_pathnames.proofs.ReadyLaws.{reads_more}
+use Rattle.ffs_pathnames.proofs.Carrying.{if_ok, on_all}
+use Rattle.ffs_pathnames.proofs.ReadyLaws.{leaves_read}
 use Rattle.ffs_pathnames.proofs.one_entry.gather_dir.Goals as goal
 
 pub put_path-requires : goal.put_path-requires
@@ -30,37 +30,15 @@ read_attr-requires g c = record {
   number = c.requires.number;
 }
 
-pub returns-in_err-attr-clause-attr : goal.returns-in_err-attr-clause-attr
-returns-in_err-attr-clause-attr g c =
-    let p = err_from_is_err_and c.from_residual-in_err-attr.result c.from_residual-in_err-attr.ensures.1 in rw p.1 tt
-
-pub returns-in_err-attr-clause-path : goal.returns-in_err-attr-clause-path
-returns-in_err-attr-clause-path g c =
-    let p = err_from_is_err_and c.from_residual-in_err-attr.result c.from_residual-in_err-attr.ensures.1 in rw p.1 tt
-
-pub returns-in_err-attr-clause-leaves : goal.returns-in_err-attr-clause-leaves
-returns-in_err-attr-clause-leaves g c =
-    let path = c.in_ok-put_path.ensures.leaves in
-    let left = c.in_err-attr.ensures.reads in
-    let p = err_from_is_err_and c.from_residual-in_err-attr.result c.from_residual-in_err-attr.ensures.1 in
-    rw (p.1, p.2) (record {
-      reads = reads_more _ _ _ _ _ _ _ _ path.reads.read path.reads.lists path.reads.chunk
-          (record { lists = left.lists; chunk = left.chunk; ready = left.ready; read = left.read });
-      siblings = tt;
-    })
-
 pub returns-clause-attr : goal.returns-clause-attr
-returns-clause-attr g c = λ b t.
-    c.in_ok-attr.ensures.attr b (ap (λ d. d.contents) c.in_ok-put_path.ensures.leaves.reads.read ∙ t)
+returns-clause-attr g c =
+    if_ok c.read_attr.result _ _
+    (λ a h b t. h b (ap (λ d. d.contents) c.in_ok-put_path.ensures.leaves.reads.read ∙ t)) c.read_attr.ensures.attr
 
 pub returns-clause-path : goal.returns-clause-path
-returns-clause-path g c = λ b k. c.in_ok-put_path.ensures.path b k.gives_bytes k.claims k.survey
+returns-clause-path g c =
+    on_all c.read_attr.result _ (λ b k. c.in_ok-put_path.ensures.path b k.gives_bytes k.claims k.survey)
 
 pub returns-clause-leaves : goal.returns-clause-leaves
 returns-clause-leaves g c =
-    let path = c.in_ok-put_path.ensures.leaves in
-    let attr = c.in_ok-attr.ensures.reads in
-    record {
-      reads = reads_more _ _ _ _ _ _ _ _ path.reads.read path.reads.lists path.reads.chunk attr;
-      siblings = siblings_held _ _ _ _ _ _ (ap (λ d. d.contents) attr.read) attr.lists path.siblings;
-    }
+    leaves_read c.read_attr.result c.in_ok-put_path.ensures.leaves c.read_attr.ensures.reads

@@ -22,7 +22,7 @@ returns-clause-enough g c =
     let begun = c.in_ok-begin_paths.ensures in
     let read = begun.leaves.reads in
     if_ok c.gather.result _ _
-    (λ a h b k. h b c.args.dir (ap (λ d. d.contents) read.read ∙ k.knows.gives_bytes)
+    (λ a h b k. h b c.args.entry.now.dir (ap (λ d. d.contents) read.read ∙ k.knows.gives_bytes)
     (claims_held v b _ _ read.lists k.knows.claims) (survey_held v b _ _ read.lists k.knows.survey) (begun.made b k))
     c.gather.ensures.enough
 
@@ -34,4 +34,5 @@ returns-clause-leaves g c =
 pub returns-clause-counted : goal.returns-clause-counted
 returns-clause-counted g c = λ b k.
     let begun = c.in_ok-begin_paths.ensures in
-    few_more (few_then (begun.counted b k) (c.gather.ensures.counted b (places_on b begun.leaves.reads k))) (omega arith)
+    few_more (few_then (begun.counted b k) (c.gather.ensures.counted b (places_on b begun.leaves.reads k))) (omega
+    arith)

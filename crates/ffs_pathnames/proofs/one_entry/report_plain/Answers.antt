@@ -9,7 +9,7 @@ use Rattle.ffs_layout.specs.Entry.{entry_value}
 use Rattle.ffs_report.proofs.Reports.{said_none}
 use Rattle.ffs_report.proofs.Reporting.{of_begins, of_says, of_stops, of_reads}
 use Rattle.ffs_pathnames.specs.Gathers.{marks_of}
-use Rattle.ffs_pathnames.specs.Marks.{plain_reported}
+use Rattle.ffs_pathnames.specs.NameMarks.{plain_reported}
 use Rattle.ffs_pathnames.specs.Verdicts.{verdict_reported}
 use Rattle.ffs_pathnames.proofs.LineCounts.{by_line, knows_places, plain_some}
 use Rattle.ffs_pathnames.proofs.VerdictLaws.{silent_reported}
@@ -18,15 +18,16 @@ use Rattle.ffs_pathnames.proofs.one_entry.report_plain.Goals as goal
 pub returns-then-is_silent-clause-text : goal.returns-then-is_silent-clause-text
 returns-then-is_silent-clause-text g c =
     let v = c.args.geometry.now.layout in
+    let x = c.args.entry.now in
     let silent = sym c.is_silent.ensures ∙ c.if-is_silent.true in
     record {
       messages = [];
       right = λ b k. sym (ap (map of_tree)
           ((c.verdict_of-verdict.ensures.verdict v b c.requires.ready.ready.made k.knows.claims k.knows.survey).reported
-          ∙ silent_reported c.verdict_of-verdict.result c.args.entry.now.number
-          (attributes (volume_of v b) c.args.entry.now.number)
-          (entry_path (graph_of (volume_of v b)) c.args.dir c.args.entry.now.name.now)
-          (dir_path (graph_of (volume_of v b)) c.args.entry.now.number) silent));
+          ∙ silent_reported c.verdict_of-verdict.result x.entry.number
+          (attributes (volume_of v b) x.entry.number)
+          (entry_path (graph_of (volume_of v b)) x.dir x.entry.name.now)
+          (dir_path (graph_of (volume_of v b)) x.entry.number) silent));
       said = said_none _;
     }
 
@@ -38,9 +39,10 @@ returns-in_err-attr-clause-text g c =
 pub returns-in_err-say_verdict-clause-text : goal.returns-in_err-say_verdict-clause-text
 returns-in_err-say_verdict-clause-text g c =
     let v = c.args.geometry.now.layout in
+    let x = c.args.entry.now in
     let all = λ (b : List ℕ). map of_tree
-    (plain_reported (volume_of v b) c.args.dir (marks_of c.args.workspace.now) (entry_value c.args.entry.now)) in
-    let ms : List TreeMessage = verdict_reported c.verdict_of-verdict.result c.args.entry.now.number c.in_ok-attr.attr
+    (plain_reported (volume_of v b) x.dir (marks_of c.args.workspace.now) (entry_value x.entry)) in
+    let ms : List TreeMessage = verdict_reported c.verdict_of-verdict.result x.entry.number c.in_ok-attr.attr
     c.last.result.now c.as_slice.result.now in
     let p = err_from_is_err_and c.from_residual-in_err-say_verdict.result
     c.from_residual-in_err-say_verdict.ensures.1 in
@@ -48,9 +50,9 @@ returns-in_err-say_verdict-clause-text g c =
     (λ b k. ap (map of_tree)
     ((c.verdict_of-verdict.ensures.verdict v b c.requires.ready.ready.made k.knows.claims k.knows.survey).reported
     ∙ (sym (c.in_ok-attr.ensures.enough b k)
-    ∙ (ap (λ q. verdict_reported c.verdict_of-verdict.result c.args.entry.now.number c.in_ok-attr.attr q
+    ∙ (ap (λ q. verdict_reported c.verdict_of-verdict.result x.entry.number c.in_ok-attr.attr q
     c.gather_entry.new.texts.directory.items) (sym c.last.ensures)
-    ∙ ap (λ q. verdict_reported c.verdict_of-verdict.result c.args.entry.now.number c.in_ok-attr.attr
+    ∙ ap (λ q. verdict_reported c.verdict_of-verdict.result x.entry.number c.in_ok-attr.attr
     c.last.result.now q) (sym c.as_slice.ensures.value))))
     ∙ sym (append-nil (map of_tree ms)))
     c.in_err-say_verdict.ensures)
@@ -58,17 +60,18 @@ returns-in_err-say_verdict-clause-text g c =
 pub returns-clause-text : goal.returns-clause-text
 returns-clause-text g c =
     let v = c.args.geometry.now.layout in
+    let x = c.args.entry.now in
     let all = λ (b : List ℕ). map of_tree
-    (plain_reported (volume_of v b) c.args.dir (marks_of c.args.workspace.now) (entry_value c.args.entry.now)) in
-    let ms : List TreeMessage = verdict_reported c.verdict_of-verdict.result c.args.entry.now.number c.in_ok-attr.attr
+    (plain_reported (volume_of v b) x.dir (marks_of c.args.workspace.now) (entry_value x.entry)) in
+    let ms : List TreeMessage = verdict_reported c.verdict_of-verdict.result x.entry.number c.in_ok-attr.attr
     c.last.result.now c.as_slice.result.now in
     of_says _ all (λ b. []) _ (map of_tree ms) _ _ _ (of_begins _ all _)
     (λ b k. ap (map of_tree)
     ((c.verdict_of-verdict.ensures.verdict v b c.requires.ready.ready.made k.knows.claims k.knows.survey).reported
     ∙ (sym (c.in_ok-attr.ensures.enough b k)
-    ∙ (ap (λ q. verdict_reported c.verdict_of-verdict.result c.args.entry.now.number c.in_ok-attr.attr q
+    ∙ (ap (λ q. verdict_reported c.verdict_of-verdict.result x.entry.number c.in_ok-attr.attr q
     c.gather_entry.new.texts.directory.items) (sym c.last.ensures)
-    ∙ ap (λ q. verdict_reported c.verdict_of-verdict.result c.args.entry.now.number c.in_ok-attr.attr
+    ∙ ap (λ q. verdict_reported c.verdict_of-verdict.result x.entry.number c.in_ok-attr.attr
     c.last.result.now q) (sym c.as_slice.ensures.value))))
     ∙ sym (append-nil (map of_tree ms)))
     c.in_ok-say_verdict.ensures
@@ -76,21 +79,24 @@ returns-clause-text g c =
 -- a verdict with a line
 pub returns-in_err-attr-clause-counted : goal.returns-in_err-attr-clause-counted
 returns-in_err-attr-clause-counted g c = λ b k noted.
+    let x = c.args.entry.now in
     by_line _ (c.in_err-attr.ensures.counted b (knows_places _ _ _ _ b k noted))
-    (plain_some _ c.args.dir _ (entry_value c.args.entry.now) c.verdict_of-verdict.result
+    (plain_some _ x.dir _ (entry_value x.entry) c.verdict_of-verdict.result
     (c.verdict_of-verdict.ensures.verdict c.args.geometry.now.layout b c.requires.ready.ready.made k.claims k.survey)
     (sym c.is_silent.ensures ∙ c.if-is_silent.false))
 
 pub returns-in_err-say_verdict-clause-counted : goal.returns-in_err-say_verdict-clause-counted
 returns-in_err-say_verdict-clause-counted g c = λ b k noted.
+    let x = c.args.entry.now in
     by_line _ (c.in_ok-attr.ensures.counted b (knows_places _ _ _ _ b k noted))
-    (plain_some _ c.args.dir _ (entry_value c.args.entry.now) c.verdict_of-verdict.result
+    (plain_some _ x.dir _ (entry_value x.entry) c.verdict_of-verdict.result
     (c.verdict_of-verdict.ensures.verdict c.args.geometry.now.layout b c.requires.ready.ready.made k.claims k.survey)
     (sym c.is_silent.ensures ∙ c.if-is_silent.false))
 
 pub returns-clause-counted : goal.returns-clause-counted
 returns-clause-counted g c = λ b k noted.
+    let x = c.args.entry.now in
     by_line _ (c.in_ok-attr.ensures.counted b (knows_places _ _ _ _ b k noted))
-    (plain_some _ c.args.dir _ (entry_value c.args.entry.now) c.verdict_of-verdict.result
+    (plain_some _ x.dir _ (entry_value x.entry) c.verdict_of-verdict.result
     (c.verdict_of-verdict.ensures.verdict c.args.geometry.now.layout b c.requires.ready.ready.made k.claims k.survey)
     (sym c.is_silent.ensures ∙ c.if-is_silent.false))

@@ -4,7 +4,6 @@ use Rattle.std.proofs.lemmas.Bool.{both_ways}
 use Rattle.std.proofs.lemmas.Result.{err_from_is_err_and}
 use Rattle.ffs_image.specs.Device.{Faulted}
 use Rattle.ffs_volume.specs.Directories.Entries.{Chunk, chunk_of}
-use Rattle.ffs_volume.specs.Blocks.Inodes.{inode_of}
 use Rattle.ffs_volume.specs.Messages.Kinds.{of_tree}
 use Rattle.ffs_volume.specs.Directories.Roles.{roled_chunk, roled_entries}
 use Rattle.ffs_volume.specs.Directories.Volumes.{volume_of}
@@ -16,8 +15,8 @@ use Rattle.ffs_report.proofs.Reporting.{of_begins, of_reads, of_same, of_part, o
 use Rattle.ffs_workspace.specs.Leaves.{LeavesSurvey}
 use Rattle.ffs_workspace.proofs.Leaving.{leaves_all, leaves_more, windows_leave}
 use Rattle.ffs_pathnames.specs.Gathers.{marks_of}
-use Rattle.ffs_pathnames.specs.DirectoryContext.{DirectoryContext}
-use Rattle.ffs_pathnames.specs.Marks.{after_entries, entries_reported}
+use Rattle.ffs_pathnames.specs.DirectoryContext.{KnowsDirectory}
+use Rattle.ffs_pathnames.specs.NameMarks.{after_entries, entries_reported}
 use Rattle.ffs_pathnames.proofs.Passing.{chunk_reported, chunk_passed, knows_on, all_read}
 use Rattle.ffs_pathnames.proofs.ReadyLaws.{with_chunk, can_read_in, ready_next, ready_read}
 use Rattle.ffs_pathnames.proofs.StampLaws.{keep_more, noted_kept}
@@ -29,26 +28,24 @@ use Rattle.ffs_pathnames.proofs.second_look.report_directory.Goals as goal
 pub chunks-init : goal.chunks-init
 chunks-init g c =
     let v = c.args.geometry.now.layout in
+    let x = c.args.directory.now in
     let m = marks_of c.args.workspace.now in
     let all = λ (b : List ℕ). map of_tree
-    (entries_reported (volume_of v b) c.args.dir m (roled_entries (volume_of v b) c.args.dir)) in
+    (entries_reported (volume_of v b) x.number m (roled_entries (volume_of v b) x.number)) in
     let cut = λ (b : List ℕ)
-    (k : DirectoryContext v (g.I.Image.device c.args.image.now).contents c.args.workspace.now c.args.dir b
-    × (c.args.inode.now ≡ inode_of v b c.args.dir)).
-    c.cut_of-cut.ensures
-    ∙ (ap cut_in (k.0.claims.notes c.args.dir) ∙ cut_is_noted v b c.args.dir c.args.geometry.now.sound) in
+    (k : KnowsDirectory v (g.I.Image.device c.args.image.now) c.args.workspace.now x b).
+    c.requires.cut
+    ∙ (ap cut_in (k.0.claims.notes x.number) ∙ cut_is_noted v b x.number c.args.geometry.now.sound) in
     let seen = λ (b : List ℕ)
-    (k : DirectoryContext v (g.I.Image.device c.args.image.now).contents c.args.workspace.now c.args.dir b
-    × (c.args.inode.now ≡ inode_of v b c.args.dir)).
-    all_read v b c.args.dir c.args.inode.now c.cut_of-cut.result (rest b c.start-chunks.result)
+    (k : KnowsDirectory v (g.I.Image.device c.args.image.now) c.args.workspace.now x b).
+    all_read v b x.number x.inode x.cut (rest b c.start-chunks.result)
     c.args.geometry.now.sound k.0.dir k.1 (cut b k)
     (c.start-chunks.ensures.begins.chunks b) in
     let same_lines = λ (b : List ℕ)
-    (k : DirectoryContext v (g.I.Image.device c.args.image.now).contents c.args.workspace.now c.args.dir b
-    × (c.args.inode.now ≡ inode_of v b c.args.dir)).
-    ap (λ es. map of_tree (entries_reported (volume_of v b) c.args.dir m es)) (sym (seen b k)) in
+    (k : KnowsDirectory v (g.I.Image.device c.args.image.now) c.args.workspace.now x b).
+    ap (λ es. map of_tree (entries_reported (volume_of v b) x.number m es)) (sym (seen b k)) in
     record {
-      ready = record { ready = c.requires.ready; siblings = c.requires.siblings };
+      ready = record { ready = c.requires.ready.ready; siblings = c.requires.ready.siblings };
       device = refl;
       geometry = c.start-chunks.ensures.geometry;
       survey = leaves_all _;
@@ -58,15 +55,15 @@ chunks-init g c =
       reads = λ b k noted.
           let all = c.start-chunks.ensures.reads.to_read b in
           let left = c.start-chunks.ensures.begins.runs_left b in
-          let runs = runs_are v b c.args.dir c.args.inode.now c.cut_of-cut.result k.1 (cut b k) in
-          let long = same_long (entries_reported (volume_of v b) c.args.dir m (roled_entries (volume_of v b) c.args.dir))
-          (entries_reported (volume_of v b) c.args.dir m (flat_map roled_chunk (rest b c.start-chunks.result)))
+          let runs = runs_are v b x.number x.inode x.cut k.1 (cut b k) in
+          let long = same_long (entries_reported (volume_of v b) x.number m (roled_entries (volume_of v b) x.number))
+          (entries_reported (volume_of v b) x.number m (flat_map roled_chunk (rest b c.start-chunks.result)))
           (same_lines b k) in
           rw long (omega (arith, all, left, runs));
-      path = λ b k begun. absurd (both_ways _ c.none-texts.ensures begun);
-      marks = λ b k. ap (after_entries (volume_of v b) c.args.dir m) (sym (seen b k));
+      path = λ b k begun. absurd (both_ways _ refl begun);
+      marks = λ b k. ap (after_entries (volume_of v b) x.number m) (sym (seen b k));
       said = of_same _ all (λ (b : List ℕ). map of_tree
-          (entries_reported (volume_of v b) c.args.dir m (flat_map roled_chunk (rest b c.start-chunks.result)))) all _ _
+          (entries_reported (volume_of v b) x.number m (flat_map roled_chunk (rest b c.start-chunks.result)))) all _ _
           (of_begins _ all _) same_lines;
     }
 
@@ -99,7 +96,7 @@ report_chunk-requires g c =
     let read = c.in_ok-offset.ensures in
     let next = ready_next _ _ _ c.chunks.workspace _ _ _ inv.ready read.leaves.read
     (rw inv.geometry at read.leaves.ready) in
-    record { ready = next.ready; siblings = next.siblings; number = c.requires.number }
+    record { ready = next.ready; siblings = next.siblings; number = c.requires.ready.number }
 
 pub returns-clause-leaves : goal.returns-clause-leaves
 returns-clause-leaves g c =
@@ -117,6 +114,7 @@ returns-clause-leaves g c =
 pub chunks-preserved : goal.chunks-preserved
 chunks-preserved g c =
     let v = c.args.geometry.now.layout in
+    let x = c.args.directory.now in
     let inv = c.chunks.invariant in
     let read = c.in_ok-offset.ensures in
     let ok = c.in_ok-report_chunk.ensures in
@@ -127,15 +125,13 @@ chunks-preserved g c =
     let kept : LeavesSurvey c.args.workspace.now between =
     leaves_more _ _ _ inv.survey (windows_leave c.chunks.workspace between refl) in
     let know = λ (b : List ℕ)
-    (k : DirectoryContext v (g.I.Image.device c.args.image.now).contents c.args.workspace.now c.args.dir b
-    × (c.args.inode.now ≡ inode_of v b c.args.dir)).
+    (k : KnowsDirectory v (g.I.Image.device c.args.image.now) c.args.workspace.now x b).
     knows_on v (g.I.Image.device c.args.image.now).contents (g.I.Image.device c.next.new.image).contents
-    c.args.workspace.now between c.args.dir b (ap (λ d. d.contents) (read.leaves.read ∙ inv.device)) kept k.0 in
+    c.args.workspace.now between x.number b (ap (λ d. d.contents) (read.leaves.read ∙ inv.device)) kept k.0 in
     let here : Chunk = chunk_of v.order c.in-Some.offset c.next.new.chunk in
     let came = rw c.in-Some.is at read.chunk in
     let next = λ (b : List ℕ)
-    (k : DirectoryContext v (g.I.Image.device c.args.image.now).contents c.args.workspace.now c.args.dir b
-    × (c.args.inode.now ≡ inode_of v b c.args.dir)).
+    (k : KnowsDirectory v (g.I.Image.device c.args.image.now) c.args.workspace.now x b).
     (came b (ap (λ d. d.contents) inv.device ∙ k.0.gives_bytes)).chunks ∙ ap
     (λ q. chunk_of q.layout.order c.in-Some.offset c.next.new.chunk ∷ rest b c.next.new.self) inv.geometry in
     record {
@@ -154,22 +150,22 @@ chunks-preserved g c =
           let few = c.report_chunk.ensures.counted b (know b k)
           (noted_kept v b c.args.workspace.now.queue.items c.chunks.workspace.queue.items inv.places noted) in
           reported_on line_reads _ _ _ (to_read b c.chunks.chunks) (to_read b c.next.new.self)
-          (length (entries_reported (volume_of v b) c.args.dir m (roled_chunk here)))
-          (length (entries_reported (volume_of v b) c.args.dir m' (flat_map roled_chunk (rest b c.next.new.self))))
-          (length (entries_reported (volume_of v b) c.args.dir m (flat_map roled_chunk (rest b c.chunks.chunks)))) _
+          (length (entries_reported (volume_of v b) x.number m (roled_chunk here)))
+          (length (entries_reported (volume_of v b) x.number m' (flat_map roled_chunk (rest b c.next.new.self))))
+          (length (entries_reported (volume_of v b) x.number m (flat_map roled_chunk (rest b c.chunks.chunks)))) _
           took.paid few.count
-          (lines_long _ _ _ (chunk_reported (volume_of v b) c.args.dir m m' here (rest b c.chunks.chunks)
+          (lines_long _ _ _ (chunk_reported (volume_of v b) x.number m m' here (rest b c.chunks.chunks)
           (rest b c.next.new.self) (next b k) (ok.marks b (know b k)))) (inv.reads b k noted);
       path = λ b k. c.report_chunk.ensures.path b (record { knows = know b k; path = inv.path b k });
-      marks = λ b k. chunk_passed (volume_of v b) c.args.dir _ m m' here (rest b c.chunks.chunks)
+      marks = λ b k. chunk_passed (volume_of v b) x.number _ m m' here (rest b c.chunks.chunks)
           (rest b c.next.new.self) (next b k) (ok.marks b (know b k)) (inv.marks b k);
       said = of_part _ (λ (b : List ℕ). map of_tree
-          (entries_reported (volume_of v b) c.args.dir m (flat_map roled_chunk (rest b c.chunks.chunks))))
-          (λ (b : List ℕ). map of_tree (entries_reported (volume_of v b) c.args.dir m (roled_chunk here)))
+          (entries_reported (volume_of v b) x.number m (flat_map roled_chunk (rest b c.chunks.chunks))))
+          (λ (b : List ℕ). map of_tree (entries_reported (volume_of v b) x.number m (roled_chunk here)))
           (λ (b : List ℕ). map of_tree
-          (entries_reported (volume_of v b) c.args.dir m' (flat_map roled_chunk (rest b c.next.new.self)))) _ _ _ _
+          (entries_reported (volume_of v b) x.number m' (flat_map roled_chunk (rest b c.next.new.self)))) _ _ _ _
           inv.said
-          (λ b k. chunk_reported (volume_of v b) c.args.dir m m' here (rest b c.chunks.chunks) (rest b c.next.new.self)
+          (λ b k. chunk_reported (volume_of v b) x.number m m' here (rest b c.chunks.chunks) (rest b c.next.new.self)
           (next b k) (ok.marks b (know b k)))
           (said_knows _ _ _ _ _ _ (λ b k. record
           { knows = know b k; path = inv.path b k }) ok.text);
@@ -178,6 +174,7 @@ chunks-preserved g c =
 pub returns-in_err-report_chunk-clause-text : goal.returns-in_err-report_chunk-clause-text
 returns-in_err-report_chunk-clause-text g c =
     let v = c.args.geometry.now.layout in
+    let x = c.args.directory.now in
     let inv = c.chunks.invariant in
     let read = c.in_ok-offset.ensures in
     let m = marks_of c.chunks.workspace in
@@ -185,28 +182,26 @@ returns-in_err-report_chunk-clause-text g c =
     let kept : LeavesSurvey c.args.workspace.now between =
     leaves_more _ _ _ inv.survey (windows_leave c.chunks.workspace between refl) in
     let know = λ (b : List ℕ)
-    (k : DirectoryContext v (g.I.Image.device c.args.image.now).contents c.args.workspace.now c.args.dir b
-    × (c.args.inode.now ≡ inode_of v b c.args.dir)).
+    (k : KnowsDirectory v (g.I.Image.device c.args.image.now) c.args.workspace.now x b).
     knows_on v (g.I.Image.device c.args.image.now).contents (g.I.Image.device c.next.new.image).contents
-    c.args.workspace.now between c.args.dir b (ap (λ d. d.contents) (read.leaves.read ∙ inv.device)) kept k.0 in
+    c.args.workspace.now between x.number b (ap (λ d. d.contents) (read.leaves.read ∙ inv.device)) kept k.0 in
     let here : Chunk = chunk_of v.order c.in-Some.offset c.next.new.chunk in
     let came = rw c.in-Some.is at read.chunk in
     let next = λ (b : List ℕ)
-    (k : DirectoryContext v (g.I.Image.device c.args.image.now).contents c.args.workspace.now c.args.dir b
-    × (c.args.inode.now ≡ inode_of v b c.args.dir)).
+    (k : KnowsDirectory v (g.I.Image.device c.args.image.now) c.args.workspace.now x b).
     (came b (ap (λ d. d.contents) inv.device ∙ k.0.gives_bytes)).chunks ∙ ap
     (λ q. chunk_of q.layout.order c.in-Some.offset c.next.new.chunk ∷ rest b c.next.new.self) inv.geometry in
     let p = err_from_is_err_and c.from_residual-in_err-report_chunk.result
     c.from_residual-in_err-report_chunk.ensures.1 in
     rw (p.1, p.2) (of_fault (Unit {0}) (Unit {0}) _
     (λ (b : List ℕ). map of_tree
-    (entries_reported (volume_of v b) c.args.dir m (flat_map roled_chunk (rest b c.chunks.chunks))))
-    (λ (b : List ℕ). map of_tree (entries_reported (volume_of v b) c.args.dir m (roled_chunk here)))
+    (entries_reported (volume_of v b) x.number m (flat_map roled_chunk (rest b c.chunks.chunks))))
+    (λ (b : List ℕ). map of_tree (entries_reported (volume_of v b) x.number m (roled_chunk here)))
     (λ (b : List ℕ). map of_tree
-    (entries_reported (volume_of v b) c.args.dir (after_entries (volume_of v b) c.args.dir m (roled_chunk here))
+    (entries_reported (volume_of v b) x.number (after_entries (volume_of v b) x.number m (roled_chunk here))
     (flat_map roled_chunk (rest b c.next.new.self)))) _ _ _ _
     c.in_err-report_chunk.field-0.0 inv.said
-    (λ b k. chunk_reported (volume_of v b) c.args.dir m (after_entries (volume_of v b) c.args.dir m (roled_chunk here))
+    (λ b k. chunk_reported (volume_of v b) x.number m (after_entries (volume_of v b) x.number m (roled_chunk here))
     here (rest b c.chunks.chunks) (rest b c.next.new.self) (next b k) refl)
     (reports_knowing (Unit {0}) _ _ _ _ _ (Err c.in_err-report_chunk.field-0.0)
     (λ b k. record { knows = know b k; path = inv.path b k })
@@ -231,21 +226,23 @@ returns-in_err-report_chunk-clause-leaves g c =
 pub returns-clause-text : goal.returns-clause-text
 returns-clause-text g c =
     let v = c.args.geometry.now.layout in
+    let x = c.args.directory.now in
     let inv = c.chunks.invariant in
     let m = marks_of c.chunks.workspace in
     let came = rw c.in_default.is at c.in_ok-offset.ensures.chunk in
     of_same _ (λ (b : List ℕ). map of_tree
-    (entries_reported (volume_of v b) c.args.dir m (flat_map roled_chunk (rest b c.chunks.chunks)))) (λ b. []) _ _ _
+    (entries_reported (volume_of v b) x.number m (flat_map roled_chunk (rest b c.chunks.chunks)))) (λ b. []) _ _ _
     inv.said
-    (λ b k. ap (λ cs. map of_tree (entries_reported (volume_of v b) c.args.dir m (flat_map roled_chunk cs)))
+    (λ b k. ap (λ cs. map of_tree (entries_reported (volume_of v b) x.number m (flat_map roled_chunk cs)))
     (came b (ap (λ d. d.contents) inv.device ∙ k.0.gives_bytes)).chunks.0)
 
 pub returns-clause-marks : goal.returns-clause-marks
 returns-clause-marks g c = λ b k.
     let v = c.args.geometry.now.layout in
+    let x = c.args.directory.now in
     let inv = c.chunks.invariant in
     let came = rw c.in_default.is at c.in_ok-offset.ensures.chunk in
-    inv.marks b k ∙ ap (λ cs. after_entries (volume_of v b) c.args.dir (marks_of c.chunks.workspace)
+    inv.marks b k ∙ ap (λ cs. after_entries (volume_of v b) x.number (marks_of c.chunks.workspace)
     (flat_map roled_chunk cs)) (came b (ap (λ d. d.contents) inv.device ∙ k.0.gives_bytes)).chunks.0
 
 -- the reads
@@ -258,6 +255,7 @@ returns-in_err-offset-clause-reads g c = λ b k noted.
 pub returns-in_err-report_chunk-clause-reads : goal.returns-in_err-report_chunk-clause-reads
 returns-in_err-report_chunk-clause-reads g c = λ b k noted.
     let v = c.args.geometry.now.layout in
+    let x = c.args.directory.now in
     let inv = c.chunks.invariant in
     let read = c.in_ok-offset.ensures in
     let m = marks_of c.chunks.workspace in
@@ -265,21 +263,21 @@ returns-in_err-report_chunk-clause-reads g c = λ b k noted.
     let kept : LeavesSurvey c.args.workspace.now between =
     leaves_more _ _ _ inv.survey (windows_leave c.chunks.workspace between refl) in
     let know = knows_on v (g.I.Image.device c.args.image.now).contents (g.I.Image.device c.next.new.image).contents
-    c.args.workspace.now between c.args.dir b (ap (λ d. d.contents) (read.leaves.read ∙ inv.device)) kept k.0 in
+    c.args.workspace.now between x.number b (ap (λ d. d.contents) (read.leaves.read ∙ inv.device)) kept k.0 in
     let here : Chunk = chunk_of v.order c.in-Some.offset c.next.new.chunk in
     let came = rw c.in-Some.is at read.chunk in
     let next = (came b (ap (λ d. d.contents) inv.device ∙ k.0.gives_bytes)).chunks ∙ ap
     (λ q. chunk_of q.layout.order c.in-Some.offset c.next.new.chunk ∷ rest b c.next.new.self) inv.geometry in
-    let after = after_entries (volume_of v b) c.args.dir m (roled_chunk here) in
+    let after = after_entries (volume_of v b) x.number m (roled_chunk here) in
     let took = read.reads (inv.held b k noted) b (ap (λ d. d.contents) inv.device ∙ k.0.gives_bytes) in
     let few = c.report_chunk.ensures.counted b know
     (noted_kept v b c.args.workspace.now.queue.items c.chunks.workspace.queue.items inv.places noted) in
     let most = reported_on line_reads _ _ _ (to_read b c.chunks.chunks) (to_read b c.next.new.self)
-    (length (entries_reported (volume_of v b) c.args.dir m (roled_chunk here)))
-    (length (entries_reported (volume_of v b) c.args.dir after (flat_map roled_chunk (rest b c.next.new.self))))
-    (length (entries_reported (volume_of v b) c.args.dir m (flat_map roled_chunk (rest b c.chunks.chunks)))) _
+    (length (entries_reported (volume_of v b) x.number m (roled_chunk here)))
+    (length (entries_reported (volume_of v b) x.number after (flat_map roled_chunk (rest b c.next.new.self))))
+    (length (entries_reported (volume_of v b) x.number m (flat_map roled_chunk (rest b c.chunks.chunks)))) _
     took.paid few.count
-    (lines_long _ _ _ (chunk_reported (volume_of v b) c.args.dir m after here (rest b c.chunks.chunks)
+    (lines_long _ _ _ (chunk_reported (volume_of v b) x.number m after here (rest b c.chunks.chunks)
     (rest b c.next.new.self) next refl)) (inv.reads b k noted) in
     omega (arith, most)
 

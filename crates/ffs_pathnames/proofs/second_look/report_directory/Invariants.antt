@@ -1,6 +1,5 @@
 use Rattle.std.proofs.Common.{◌≡◌, map, ◌+◌, ◌*◌, ◌≤◌, length}
 use Rattle.std.specs.List.{flat_map}
-use Rattle.ffs_volume.specs.Blocks.Inodes.{inode_of}
 use Rattle.ffs_volume.specs.Messages.Kinds.{of_tree}
 use Rattle.ffs_volume.specs.Directories.Parents.{graph_of}
 use Rattle.ffs_volume.specs.Directories.Roles.{roled_chunk, roled_entries}
@@ -12,8 +11,8 @@ use Rattle.ffs_names.specs.Readings.{rest}
 use Rattle.ffs_workspace.specs.Leaves.{LeavesSurvey}
 use Rattle.ffs_pathnames.specs.Ready.{ReadyWith}
 use Rattle.ffs_pathnames.specs.Gathers.{marks_of}
-use Rattle.ffs_pathnames.specs.DirectoryContext.{BeginsPathOf, DirectoryContext}
-use Rattle.ffs_pathnames.specs.Marks.{after_entries, entries_reported}
+use Rattle.ffs_pathnames.specs.DirectoryContext.{BeginsPathOf, KnowsDirectory}
+use Rattle.ffs_pathnames.specs.NameMarks.{after_entries, entries_reported}
 use Rattle.ffs_pathnames.specs.Stamps.{KeepPlaces}
 use Rattle.ffs_volume.specs.Report.Reads.{line_reads}
 use Rattle.ffs_names.specs.Costs.{to_read, HoldsReading}
@@ -22,36 +21,37 @@ use Rattle.ffs_pathnames.specs.Costs.{report_reads}
 use Rattle.ffs_pathnames.proofs.second_look.report_directory.Given as goal
 
 abbrev pub invariant-chunks : goal.invariant-chunks
-invariant-chunks g l = let reported_by = g.I.Image.device in let v = l.geometry.layout in record {
-  ready : ReadyWith v (reported_by l.image) l.workspace l.siblings;
-  device : reported_by l.image ≡ reported_by l.fn.image;
-  geometry : l.chunks.walk.geometry ≡ l.geometry;
-  survey : LeavesSurvey l.fn.workspace l.workspace;
-  places : KeepPlaces l.fn.workspace.queue.items l.workspace.queue.items;
-  path : ForBytes (λ b. DirectoryContext v (reported_by l.fn.image).contents l.fn.workspace l.dir b
-      × (l.inode ≡ inode_of v b l.dir)) (λ b. BeginsPathOf (graph_of (volume_of v b)) l.dir l.texts);
-  marks : ForBytes (λ b. DirectoryContext v (reported_by l.fn.image).contents l.fn.workspace l.dir b
-      × (l.inode ≡ inode_of v b l.dir)) (λ b.
-      after_entries (volume_of v b) l.dir (marks_of l.fn.workspace) (roled_entries (volume_of v b) l.dir)
-      ≡ after_entries (volume_of v b) l.dir (marks_of l.workspace) (flat_map roled_chunk (rest b l.chunks)));
-  held : ForBytes (λ b. DirectoryContext v (reported_by l.fn.image).contents l.fn.workspace l.dir b
-      × (l.inode ≡ inode_of v b l.dir)) (λ b. AreNoted v b l.fn.workspace.queue.items
-      → HoldsReading l.workspace.windows.blocks l.workspace.windows.chunk l.chunks);
-  reads : ForBytes (λ b. DirectoryContext v (reported_by l.fn.image).contents l.fn.workspace l.dir b
-      × (l.inode ≡ inode_of v b l.dir)) (λ b. AreNoted v b l.fn.workspace.queue.items
-      → g.I.Image.reads l.image + to_read b l.chunks
-      + line_reads * length (entries_reported (volume_of v b) l.dir (marks_of l.workspace)
-      (flat_map roled_chunk (rest b l.chunks)))
-      ≤ g.I.Image.reads l.fn.image + report_reads v b l.dir (length (entries_reported (volume_of v b) l.dir
-      (marks_of l.fn.workspace) (roled_entries (volume_of v b) l.dir))));
-  said : SaidOf (λ b. DirectoryContext v (reported_by l.fn.image).contents l.fn.workspace l.dir b
-      × (l.inode ≡ inode_of v b l.dir))
-      (λ b. map of_tree (entries_reported (volume_of v b) l.dir (marks_of l.workspace)
-      (flat_map roled_chunk (rest b l.chunks))))
-      (λ b. map of_tree (entries_reported (volume_of v b) l.dir (marks_of l.fn.workspace)
-      (roled_entries (volume_of v b) l.dir)))
-      (progress g.W.Output.sink l.fn.report) (progress g.W.Output.sink l.report);
-}
+invariant-chunks g l =
+    let reported_by = g.I.Image.device in
+    let v = l.geometry.layout in
+    let x = l.directory in
+    record {
+      ready : ReadyWith v (reported_by l.image) l.workspace l.texts.siblings;
+      device : reported_by l.image ≡ reported_by l.fn.image;
+      geometry : l.chunks.walk.geometry ≡ l.geometry;
+      survey : LeavesSurvey l.fn.workspace l.workspace;
+      places : KeepPlaces l.fn.workspace.queue.items l.workspace.queue.items;
+      path : ForBytes (KnowsDirectory v (reported_by l.fn.image) l.fn.workspace x)
+          (λ b. BeginsPathOf (graph_of (volume_of v b)) x.number l.texts);
+      marks : ForBytes (KnowsDirectory v (reported_by l.fn.image) l.fn.workspace x) (λ b.
+          after_entries (volume_of v b) x.number (marks_of l.fn.workspace) (roled_entries (volume_of v b) x.number)
+          ≡ after_entries (volume_of v b) x.number (marks_of l.workspace) (flat_map roled_chunk (rest b l.chunks)));
+      held : ForBytes (KnowsDirectory v (reported_by l.fn.image) l.fn.workspace x)
+          (λ b. AreNoted v b l.fn.workspace.queue.items → HoldsReading l.workspace.windows.blocks
+          l.workspace.windows.chunk l.chunks);
+      reads : ForBytes (KnowsDirectory v (reported_by l.fn.image) l.fn.workspace x)
+          (λ b. AreNoted v b l.fn.workspace.queue.items → g.I.Image.reads l.image + to_read b l.chunks
+          + line_reads * length (entries_reported (volume_of v b) x.number (marks_of l.workspace)
+          (flat_map roled_chunk (rest b l.chunks)))
+          ≤ g.I.Image.reads l.fn.image + report_reads v b x.number (length (entries_reported (volume_of v b) x.number
+          (marks_of l.fn.workspace) (roled_entries (volume_of v b) x.number))));
+      said : SaidOf (KnowsDirectory v (reported_by l.fn.image) l.fn.workspace x)
+          (λ b. map of_tree (entries_reported (volume_of v b) x.number (marks_of l.workspace)
+          (flat_map roled_chunk (rest b l.chunks))))
+          (λ b. map of_tree (entries_reported (volume_of v b) x.number (marks_of l.fn.workspace)
+          (roled_entries (volume_of v b) x.number)))
+          (progress g.W.Output.sink l.fn.report) (progress g.W.Output.sink l.report);
+    }
 
 abbrev pub decreases-chunks : goal.decreases-chunks
 decreases-chunks g l = l.chunks.budget

@@ -8,20 +8,20 @@ use Rattle.ffs_volume.specs.Directories.Volumes.{volume_of}
 use Rattle.ffs_pathnames.proofs.Carrying.{directory_context, lines_looked, lines_skipped, before_next, before_skipped}
 use Rattle.ffs_pathnames.proofs.tree.check_inode.Goals as goal
 
-pub returns-then-is_looked_at-clause-text : goal.returns-then-is_looked_at-clause-text
-returns-then-is_looked_at-clause-text g c =
+pub returns-then-is_checked-clause-text : goal.returns-then-is_checked-clause-text
+returns-then-is_checked-clause-text g c =
     let v = c.args.geometry.now.layout in
-    let looked = (and_parts _ _ (sym c.is_looked_at.ensures ∙ c.if-is_looked_at.true)).0 in
+    let looked = (and_parts _ _ (sym c.is_checked.ensures ∙ c.if-is_checked.true)).0 in
     reports_same (Unit {0}) _ (λ b. map of_tree (sized_dir_lines (volume_of v b) c.args.number))
     (λ b. map of_tree (directory_lines (volume_of v b) c.args.number)) _ _ c.check_directory.result
     (λ b k. sym (ap (map of_tree) (lines_looked v _ _ c.args.number b looked k)))
     (reports_knowing (Unit {0}) _ _ _ _ _ c.check_directory.result
     (λ b k. (directory_context v _ _ c.args.number b looked k, k.marks)) c.check_directory.ensures.text)
 
-pub returns-then-is_looked_at-clause-before : goal.returns-then-is_looked_at-clause-before
-returns-then-is_looked_at-clause-before g c =
+pub returns-then-is_checked-clause-before : goal.returns-then-is_checked-clause-before
+returns-then-is_checked-clause-before g c =
     let v = c.args.geometry.now.layout in
-    let looked = (and_parts _ _ (sym c.is_looked_at.ensures ∙ c.if-is_looked_at.true)).0 in
+    let looked = (and_parts _ _ (sym c.is_checked.ensures ∙ c.if-is_checked.true)).0 in
     on_ok c.check_directory.result _ _
     (λ h b k. before_next v _ _ _ c.args.number b c.check_directory.ensures.leaves.survey
     (h b (directory_context v _ _ c.args.number b looked k, k.marks)) k)
@@ -30,7 +30,7 @@ returns-then-is_looked_at-clause-before g c =
 pub returns-clause-text : goal.returns-clause-text
 returns-clause-text g c =
     let v = c.args.geometry.now.layout in
-    let other = sym c.is_looked_at.ensures ∙ c.if-is_looked_at.false in
+    let other = sym c.is_checked.ensures ∙ c.if-is_checked.false in
     of_same _ (λ b. map of_tree (directory_lines (volume_of v b) c.args.number)) (λ b. []) _ _ _
     (of_begins _ (λ b. map of_tree (directory_lines (volume_of v b) c.args.number)) _)
     (λ b k. lines_skipped v _ _ c.args.number b c.requires.low other k)
@@ -38,11 +38,11 @@ returns-clause-text g c =
 pub returns-clause-before : goal.returns-clause-before
 returns-clause-before g c = λ b k.
     before_skipped c.args.geometry.now.layout _ _ c.args.number b c.args.geometry.now.sound
-    (sym c.is_looked_at.ensures ∙ c.if-is_looked_at.false) k
+    (sym c.is_checked.ensures ∙ c.if-is_checked.false) k
 
-pub returns-then-is_looked_at-clause-reads : goal.returns-then-is_looked_at-clause-reads
-returns-then-is_looked_at-clause-reads g c = λ b k noted.
+pub returns-then-is_checked-clause-reads : goal.returns-then-is_checked-clause-reads
+returns-then-is_checked-clause-reads g c = λ b k noted.
     let v = c.args.geometry.now.layout in
-    let looked = (and_parts _ _ (sym c.is_looked_at.ensures ∙ c.if-is_looked_at.true)).0 in
+    let looked = (and_parts _ _ (sym c.is_checked.ensures ∙ c.if-is_checked.true)).0 in
     rw (lines_looked v _ _ c.args.number b looked k)
     (c.check_directory.ensures.reads b (directory_context v _ _ c.args.number b looked k, k.marks) noted)

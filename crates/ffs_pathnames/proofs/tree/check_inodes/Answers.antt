@@ -20,14 +20,14 @@ use Rattle.ffs_pathnames.proofs.StampLaws.{noted_kept}
 use Rattle.ffs_pathnames.proofs.CostLaws.{checked_on, next_long, same_long}
 use Rattle.ffs_pathnames.proofs.tree.check_inodes.Goals as goal
 
-pub first_looked_at-first-requires-clause-some : goal.first_looked_at-first-requires-clause-some
-first_looked_at-first-requires-clause-some g c =
+pub first_checked-first-requires-clause-some : goal.first_checked-first-requires-clause-some
+first_checked-first-requires-clause-some g c =
     let k = some_inodes c.args.geometry.now.layout c.args.geometry.now.sound in omega (arith, k)
 
 pub returns-then-first-count-clause-text : goal.returns-then-first-count-clause-text
 returns-then-first-count-clause-text g c =
     let v = c.args.geometry.now.layout in
-    let first = c.first_looked_at-first in
+    let first = c.first_checked-first in
     let all = λ (b : List ℕ). map of_tree (lines_from (directory_lines (volume_of v b)) 2 (inodes_of v - 2)) in
     of_same _ all (λ b. []) _ _ _ (of_begins _ all _)
     (λ b k. lines_unseen v _ _ b first.result (inodes_of v) c.args.geometry.now.sound first.ensures.range.0
@@ -45,11 +45,11 @@ returns-in_err-note_places-clause-text g c =
 pub loop-number-init : goal.loop-number-init
 loop-number-init g c =
     let v = c.args.geometry.now.layout in
-    let first = c.first_looked_at-first in
+    let first = c.first_checked-first in
     let noted = c.in_ok-note_places.ensures in
     let all = λ (b : List ℕ). map of_tree (lines_from (directory_lines (volume_of v b)) 2 (inodes_of v - 2)) in
     record {
-      ready = record { ready = noted.ready; siblings = c.none-siblings.ensures _ _ };
+      ready = record { ready = noted.ready; siblings = c.none-texts.ensures _ _ };
       device = noted.read;
       low = first.ensures.range.0;
       references = ap (λ (w : Workspace). w.references) noted.lists;
@@ -105,7 +105,8 @@ loop-number-preserved g c =
       reads = λ b k numbered.
           let lines = directory_lines (volume_of v b) in
           rw (cost_take (λ s. true) (directory_cost v b) n refl) (checked_on line_reads _ _ (directories_cost v b)
-          (costs_all (directory_cost v b) n) (directory_cost v b n) (g.I.Image.reads c.args.image.now) (length (lines n))
+          (costs_all (directory_cost v b) n) (directory_cost v b n) (g.I.Image.reads c.args.image.now) (length (lines
+          n))
           (length (lines_from lines (n + 1) (inodes_of v - (n + 1)))) (length (lines_from lines 2 (inodes_of v - 2)))
           (c.check_inode.ensures.reads b
           (before_reported v _ _ _ n b (ap (λ d. d.contents) inv.device) (inv.before b k)) (inv.noted b k numbered))
@@ -137,7 +138,7 @@ returns-clause-holds g c = λ b k. let now = c.loop-number.invariant.before b k 
 
 pub returns-clause-unread : goal.returns-clause-unread
 returns-clause-unread g c = λ none.
-    let first = c.first_looked_at-first in
+    let first = c.first_checked-first in
     let below : first.result < inodes_of c.args.geometry.now.layout = omega arith in
     absurd (both_ways _ (none first.result first.ensures.range.0 below) (first.ensures.found below))
 
