@@ -1,0 +1,68 @@
+//! The most reads that a check may make (`Report/Reads` of `ffs_volume`).
+ghost use Rattle.std.specs.Prelude.{◌≡◌};
+ghost use Rattle.ffs_volume.specs.Report.Reads.{pathname_reads, reads_limit, sweep_reads};
+ghost use Rattle.ffs_reads.specs.Limits.{in_u64, part_reads};
+
+use crate::parts::Part;
+use ffs_layout::Layout;
+use ffs_volume::constants::MAXPATHLEN;
+
+/// The superblock, and the last copy of it.
+pub const OPENING_READS: u64 = 2;
+
+/// A path: a chunk for each name that has room in it, for the name that has none, and for the last
+/// one.
+const PATH_READS: u64 = MAXPATHLEN as u64 / 2 + 2;
+
+/// A message of phase 2: two paths and an inode.
+const LINE_READS: u64 = 2 * PATH_READS + 1;
+
+/// The block and the summary record of a group.
+const GROUP_READS: u64 = 2;
+
+/// For each inode itself, eleven bad Runs, and eleven with dup offers.
+const INODE_READS: u64 = 23;
+
+/// To go over all inodes and their blocks.
+fn sweep_reads(layout: &Layout) -> u64
+    ensures { result ≡ in_u64 (sweep_reads layout.now) }
+{
+    let inodes = u64::from(layout.ncg) * u64::from(layout.ipg);
+    inodes
+        .saturating_mul(INODE_READS)
+        .saturating_add(layout.size.into())
+}
+
+/// Phase 2, where so many messages are said.
+fn pathname_reads(layout: &Layout, messages: u64) -> u64
+    ensures { result ≡ in_u64 (pathname_reads layout.now messages) }
+{
+    sweep_reads(layout)
+        .saturating_mul(4)
+        .saturating_add(messages.saturating_mul(LINE_READS))
+}
+
+/// A part of a check that says so many messages after its heading.
+pub fn part_reads(part: Part, layout: &Layout, messages: u64) -> u64
+    ensures { result ≡ in_u64 (part_reads part layout.now messages) }
+{
+    match part {
+        Part::Phase1 | Part::Phase1b => sweep_reads(layout),
+        Part::Phase2 => pathname_reads(layout, messages),
+        Part::Phase3 | Part::Phase4 => messages,
+        Part::Phase5 => GROUP_READS * u64::from(layout.ncg),
+        Part::Summary => 0,
+    }
+}
+
+/// A whole check that says so many messages.
+pub fn reads_limit(layout: &Layout, messages: u64) -> u64
+    ensures { result ≡ in_u64 (reads_limit layout.now messages) }
+{
+    sweep_reads(layout)
+        .saturating_mul(2)
+        .saturating_add(pathname_reads(layout, messages))
+        .saturating_add(messages)
+        .saturating_add(GROUP_READS * u64::from(layout.ncg))
+        .saturating_add(OPENING_READS)
+}
