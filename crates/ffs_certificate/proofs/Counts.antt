@@ -12,8 +12,8 @@ use Rattle.ffs_volume.specs.Directories.Connectivity.{is_dead, is_unref_dir, con
 use Rattle.ffs_volume.specs.Disk.Numbers.{equals_natural}
 use Rattle.ffs_volume.specs.Directories.ReferenceCheck.{dead_lines, unref_lines, inode_lines, reference_lines_at}
 use Rattle.ffs_volume.specs.Directories.ReferenceCheck.{reference_lines}
-use Rattle.ffs_certificate.proofs.Silence.{reported-quiet, reported-silent, if-silent, then-quiet, then-silent}
-use Rattle.ffs_certificate.proofs.Silence.{lines-quiet, lines-silent}
+use Rattle.ffs_volume.proofs.Silence.{reported-quiet, reported-silent, if-silent, then-quiet, then-silent}
+use Rattle.ffs_volume.proofs.Silence.{lines-quiet, lines-silent}
 
 pub connectivity-quiet : (v : Volume) → connectivity_lines v ≡ [] → (d : ℕ) → d < v.count → is_unref_dir v d ≡ false
 unfolding connectivity_lines

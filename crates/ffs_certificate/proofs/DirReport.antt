@@ -15,7 +15,7 @@ use Rattle.ffs_volume.specs.Directories.Roles.{references_below}
 use Rattle.ffs_volume.specs.Disk.Search.{first_below, earliest}
 use Rattle.ffs_volume.specs.Directories.Climb.{climb}
 use Rattle.ffs_volume.specs.Directories.Graph.{within, level, parent}
-use Rattle.ffs_volume.specs.Messages.Kinds.{lines_below}
+use Rattle.ffs_volume.specs.Messages.Kinds.{lines_below, unref_dir}
 use Rattle.ffs_volume.specs.Directories.PathnameCheck.{attributes, root_lines, shape_lines, dot_lines, dotdot_lines}
 use Rattle.ffs_volume.specs.Directories.PathnameCheck.{named_lines, plain_lines, entry_lines, lines_of_entries}
 use Rattle.ffs_volume.specs.Directories.PathnameCheck.{sized_dir_lines, pathname_lines}
@@ -29,7 +29,6 @@ use Rattle.ffs_certificate.specs.ReportExamples.{inode_bytes, dir_chunk, two_dir
 use Rattle.ffs_certificate.specs.ReportExamples.{shared_summary, shared_group, shared_image, shared_superblock}
 use Rattle.std.specs.Prelude.{◌≡◌, [], pos}
 use Rattle.ffs_volume.specs.declared.Order.TheVariants.{Little}
-use Rattle.ffs_volume.specs.Messages.Kinds.{unref_dir}
 
 pub named_pathnames : pathname_lines (volume_of (base_layout Little) named_dir) ≡ []
 unfolding bytes_in word zeros base_layout base_superblock base_super base_summary base_group root_inode root_chunk

@@ -19,12 +19,11 @@ use Rattle.ffs_volume.specs.Messages.Kinds.{dir_corrupt, missing_dot, missing_do
 use Rattle.ffs_volume.specs.Messages.Kinds.{missing_dotdot, missing_dotdot_second, number_dotdot, kind_dotdot}
 use Rattle.ffs_volume.specs.Directories.PathnameCheck.{attributes, root_lines, root_lines_of, continues_after_root}
 use Rattle.ffs_volume.specs.Directories.PathnameCheck.{is_short, has_partial_chunk, are_sound, shape_lines, dot_lines}
-use Rattle.ffs_volume.specs.Directories.PathnameCheck.{dot_lines_of, missing_dot_lines, is_wrong_parent}
-use Rattle.ffs_volume.specs.Directories.PathnameCheck.{dotdot_lines, dotdot_lines_of, missing_dotdot_lines}
-use Rattle.ffs_volume.specs.Directories.PathnameCheck.{lines_of_entries, sized_dir_lines, is_looked_at, directory_lines}
-use Rattle.ffs_volume.specs.Directories.PathnameCheck.{pathname_lines}
-use Rattle.ffs_certificate.proofs.Silence.{nil-left, nil-right, nil-both, reported-quiet, reported-silent, then-quiet}
-use Rattle.ffs_certificate.proofs.Silence.{then-silent, lines-quiet, lines-silent}
+use Rattle.ffs_volume.specs.Directories.PathnameCheck.{dot_lines_of, missing_dot_lines, is_wrong_parent, dotdot_lines}
+use Rattle.ffs_volume.specs.Directories.PathnameCheck.{dotdot_lines_of, missing_dotdot_lines, lines_of_entries}
+use Rattle.ffs_volume.specs.Directories.PathnameCheck.{sized_dir_lines, is_looked_at, directory_lines, pathname_lines}
+use Rattle.ffs_volume.proofs.Silence.{nil-left, nil-right, nil-both, reported-quiet, reported-silent, then-quiet}
+use Rattle.ffs_volume.proofs.Silence.{then-silent, lines-quiet, lines-silent}
 use Rattle.ffs_certificate.proofs.Entries.{IsSeenQuiet, entries-quiet, entries-silent}
 
 -- of a directory's size, Gaps and chunks

@@ -17,10 +17,10 @@ use Rattle.ffs_volume.specs.Messages.Kinds.{extra_dot, extra_dotdot}
 use Rattle.ffs_volume.specs.Directories.PathnameCheck.{attributes, label_of, entry_lines, entry_lines_of}
 use Rattle.ffs_volume.specs.Directories.PathnameCheck.{lines_of_entries, plain_lines, named_lines, is_bad_whiteout}
 use Rattle.ffs_volume.specs.Directories.PathnameCheck.{is_first_entry_of_suspect, message_on_suspect, is_extraneous}
-use Rattle.ffs_volume.specs.Directories.PathnameCheck.{has_wrong_type}
-use Rattle.ffs_volume.specs.Directories.PathnameCheck.{extra_lines}
-use Rattle.ffs_certificate.proofs.Silence.{nil-left, nil-right, nil-both, reported-quiet, reported-silent, if-quiet}
-use Rattle.ffs_certificate.proofs.Silence.{if-silent, else-quiet, else-silent}
+use Rattle.ffs_volume.specs.Directories.PathnameCheck.{has_wrong_type, extra_lines}
+use Rattle.ffs_volume.proofs.Silence.{nil-left, nil-right, nil-both, reported-quiet, reported-silent, if-quiet}
+use Rattle.ffs_volume.proofs.Silence.{if-silent, else-quiet, else-silent}
+use Rattle.ffs_volume.proofs.RoleLaws.{plain-true}
 
 -- a plain entry that names an inode from 2 on
 pub record IsNamedQuiet (v : Volume) (s j : ℕ) (e : Entry) : Type 0 where
@@ -150,13 +150,6 @@ entries-silent v s j (f ∷ es) h =
     subst (λ n. IsSeenQuiet v s n e) y (h (suc k) e x)))
 
 -- an entry as the graph sees it
-plain-true : (r : Role) → is_plain r ≡ true → r ≡ Plain
-plain-true Plain h = refl
-plain-true Dot h = absurd (cc)
-plain-true Dotdot h = absurd (cc)
-plain-true Extra h = absurd (cc)
-plain-true Empty h = absurd (cc)
-
 test-gives : (p : RoledEntry → Bool) (j : ℕ) (es : List RoledEntry) → test_at p j es ≡ true → (e : RoledEntry)
     × (nth_roled es j ≡ Some e) × (p e ≡ true)
 test-gives p j [] h = absurd (cc)

@@ -5,6 +5,7 @@ use Rattle.std.specs.Prelude.{nat_lt, nat_le, min, ◌&&◌, ◌||◌, ◌==◌,
 use Rattle.std.specs.List.{range_with_len}
 use Rattle.std.proofs.lemmas.Bool.{and_parts, and_cases, cases_eq, cases_lt, both_ways, eqb-true, eqb-false, ltb-true}
 use Rattle.std.proofs.lemmas.Bool.{ltb-false, lt-ltb, le-ltb, lt-leb}
+use Rattle.std.proofs.Math.Bool.{and-false}
 use Rattle.ffs_volume.specs.declared.Layout.{Layout}
 use Rattle.ffs_volume.specs.declared.Step.{Step}
 use Rattle.ffs_volume.specs.declared.Step.TheVariants.{Run, Tail, Gap}
@@ -72,11 +73,7 @@ pub not_kept : (v : Layout) (i b f : ℕ) (e : List OfferVerdict) → Closed i b
     (offer_verdict v e (counted_offer i b f)).kept ≡ false
 unfolding offer_verdict
 not_kept v i b f e (inl many) = rw (lt-leb b 10 (omega arith)) refl
-not_kept v i b f e (inr many) = rw (lt-leb (dups_of e i) 10 (omega arith)) (one (nat_le b 10))
-  where
-    one : (a : Bool) → (a && false) ≡ false
-    one true = refl
-    one false = refl
+not_kept v i b f e (inr many) = rw (lt-leb (dups_of e i) 10 (omega arith)) (and-false (nat_le b 10))
 
 pub still_closed : (i b : ℕ) (j : OfferVerdict) (e : List OfferVerdict) → Closed i b e → Closed i b (j ∷ e)
 still_closed i b j e (inl many) = inl many
@@ -111,11 +108,7 @@ pub record Tie (v : Layout) (i b : ℕ) (s : Claims) (e : List OfferVerdict) : T
 
 closed_test : (i b : ℕ) (e : List OfferVerdict) → Closed i b e → (nat_lt b 11 && nat_lt (dups_of e i) 11) ≡ false
 closed_test i b e (inl many) = rw (le-ltb b 11 many) refl
-closed_test i b e (inr many) = rw (le-ltb (dups_of e i) 11 many) (one (nat_lt b 11))
-  where
-    one : (a : Bool) → (a && false) ≡ false
-    one true = refl
-    one false = refl
+closed_test i b e (inr many) = rw (le-ltb (dups_of e i) 11 many) (and-false (nat_lt b 11))
 
 closed_tie : (v : Layout) (i b : ℕ) (s : Claims) (e : List OfferVerdict) → is_open s ≡ false → Closed i b e →
     Held v i s e → Tie v i b s e

@@ -4,6 +4,7 @@ use Rattle.std.proofs.Common.{◌∙◌, List, [], ◌∷◌, ◌++◌, length}
 use Rattle.std.specs.Prelude.{nat_lt, ◌&&◌, ◌||◌, ◌==◌, map}
 use Rattle.std.specs.List.{list_all, range_with_len}
 use Rattle.std.proofs.lemmas.Bool.{and_parts, and_from, ne_eqb, ltb-true, lt-ltb}
+use Rattle.std.proofs.Math.Bool.{or-false}
 use Rattle.ffs_volume.specs.declared.Layout.{Layout}
 use Rattle.ffs_volume.specs.declared.Step.{Step}
 use Rattle.ffs_volume.specs.declared.Step.TheVariants.{Run, Tail, Gap}
@@ -25,8 +26,9 @@ use Rattle.ffs_certificate.proofs.BlocksSilent.{reserved_length, reserved_bit}
 use Rattle.ffs_volume.specs.Blocks.Keeping.{CountedOffer, bad_runs_after, counted_offer, step_offers, offers_of_steps}
 use Rattle.ffs_volume.specs.Blocks.Keeping.{all_offers, OfferVerdict, is_claimed_before, dups_of, offer_verdict}
 use Rattle.ffs_volume.specs.Blocks.Keeping.{verdicts, kept_by_rule}
+use Rattle.ffs_volume.proofs.Potentials.{in_range_below}
 use Rattle.ffs_certificate.specs.Certificate.{KeepsByRule}
-use Rattle.ffs_certificate.proofs.KeepingLaws.{kept_of, dups_cons, kept_cons, ok_low}
+use Rattle.ffs_certificate.proofs.KeepingLaws.{kept_of, dups_cons, kept_cons}
 use Rattle.ffs_certificate.proofs.KeepingOwners.{Tie, step_tied, judged_append, kept_append}
 
 -- how many bad Runs some steps have, where `bad_runs` are before
@@ -156,13 +158,9 @@ owners_tied v n s e (o ∷ os) a h r =
 pub start_agrees : (v : Layout) → Agrees v (no_claims v) []
 unfolding no_claims is_fragment_in_range
 start_agrees v = record {
-  used = λ f ok. reserved_bit v f ∙ (rw (lt-ltb f v.size (ok_low v f ok)) (one (is_reserved v f)));
+  used = λ f ok. reserved_bit v f ∙ (rw (lt-ltb f v.size (in_range_below v f ok)) (sym (or-false (is_reserved v f))));
   long = reserved_length v;
 }
-  where
-    one : (b : Bool) → b ≡ (b || false)
-    one true = refl
-    one false = refl
 
 pub rising_range : (v : Layout) (image : List ℕ) (n k : ℕ) → Rising n (map (owner_of v image) (range_with_len n k))
 unfolding owner_of

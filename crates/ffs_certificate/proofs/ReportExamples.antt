@@ -15,7 +15,7 @@ use Rattle.ffs_volume.specs.Directories.Roles.{references_below}
 use Rattle.ffs_volume.specs.Disk.Search.{first_below, earliest}
 use Rattle.ffs_volume.specs.Directories.Climb.{climb}
 use Rattle.ffs_volume.specs.Directories.Graph.{within, level, parent}
-use Rattle.ffs_volume.specs.Messages.Kinds.{lines_below, has_defect}
+use Rattle.ffs_volume.specs.Messages.Kinds.{lines_below, has_defect, opening}
 use Rattle.ffs_volume.specs.Directories.PathnameCheck.{attributes, root_lines, shape_lines, dot_lines, dotdot_lines}
 use Rattle.ffs_volume.specs.Directories.PathnameCheck.{named_lines, plain_lines, entry_lines, lines_of_entries}
 use Rattle.ffs_volume.specs.Directories.PathnameCheck.{sized_dir_lines, pathname_lines}
@@ -25,9 +25,9 @@ use Rattle.ffs_volume.specs.Groups.Records.{right_group_counts, right_frsum, rig
 use Rattle.ffs_volume.specs.Groups.Records.{has_right_maps, has_right_sums, has_right_record, has_right_totals}
 use Rattle.ffs_volume.specs.Groups.GroupCheck.{phase5_lines}
 use Rattle.ffs_volume.specs.Directories.Volumes.{chunk_source_of, volume_with, volume_of}
-use Rattle.ffs_volume.specs.Report.Opening.{setting_lines}
+use Rattle.ffs_volume.specs.Report.Opening.{setting_lines, head_lines}
 use Rattle.ffs_volume.specs.Report.Whole.{file_count, used_count, later_phase_lines, phase_lines, report_lines}
-use Rattle.ffs_volume.specs.Report.Whole.{report_of, report_end}
+use Rattle.ffs_volume.specs.Report.Whole.{report_of, report_end, lines_by_outcome, end_by_outcome}
 use Rattle.ffs_volume.specs.Examples.Images.{bytes_in, word, zeros, base_layout, base_superblock, base_super}
 use Rattle.ffs_volume.specs.Examples.Images.{base_summary, base_group, root_inode, root_chunk, base_image}
 use Rattle.ffs_volume.specs.Examples.DirectoryExamples.{entry_bytes}
@@ -35,9 +35,6 @@ use Rattle.ffs_certificate.specs.ReportExamples.{ReportExamples, inode_bytes, di
 use Rattle.ffs_certificate.specs.ReportExamples.{unnamed_dir, shared_summary, shared_group, shared_image}
 use Rattle.ffs_certificate.specs.ReportExamples.{shared_superblock}
 use Rattle.ffs_volume.specs.declared.Order.TheVariants.{Little, Big}
-use Rattle.ffs_volume.specs.Messages.Kinds.{opening}
-use Rattle.ffs_volume.specs.Report.Opening.{head_lines}
-use Rattle.ffs_volume.specs.Report.Whole.{lines_by_outcome, end_by_outcome}
 use Rattle.ffs_certificate.proofs.ReportLaws.{certified}
 use Rattle.std.specs.Prelude.{codes}
 use Rattle.ffs_volume.proofs.OpeningExamples.{superblock_examples}

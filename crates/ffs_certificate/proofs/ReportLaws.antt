@@ -11,7 +11,7 @@ use Rattle.ffs_volume.specs.declared.End.TheVariants.{Consistent}
 use Rattle.ffs_volume.specs.Disk.Superblock.{Superblock}
 use Rattle.ffs_volume.specs.Laws.Geometry.{IsAcceptedLayout}
 use Rattle.ffs_volume.proofs.AcceptedLaws.{accepted_sound}
-use Rattle.ffs_volume.specs.Blocks.Owners.{Owner, owners_of}
+use Rattle.ffs_volume.specs.Blocks.Owners.{owners_of}
 use Rattle.ffs_volume.specs.Blocks.BlockCheck.{phase1_lines, phase1b_lines, has_rescan}
 use Rattle.ffs_volume.specs.Consistent.BlocksRight.{BlocksRight}
 use Rattle.ffs_certificate.proofs.BlocksSilent.{phase1_silent, phase1b_silent}
@@ -38,7 +38,7 @@ use Rattle.ffs_volume.specs.Directories.Volumes.{class_at, volume_of, whole_volu
 use Rattle.ffs_volume.specs.Consistent.Volume.{AreSettingsRight, IsConsistent}
 use Rattle.ffs_volume.specs.Report.Whole.{rescan_lines, later_phase_lines, phase_lines, report_lines, end_by, end_of}
 use Rattle.ffs_certificate.specs.ReportRight.{IsCertified, ReportIsRight, StopIsReported}
-use Rattle.ffs_certificate.proofs.Silence.{nil-left}
+use Rattle.ffs_volume.proofs.Silence.{nil-left}
 use Rattle.ffs_certificate.proofs.DirsCertificate.{silent_right}
 use Rattle.ffs_certificate.proofs.VolumeLaws.{whole_is_volume, whole_unmarked, same_whole}
 

@@ -15,7 +15,8 @@ use Rattle.ffs_volume.specs.Directories.Roles.{references_below}
 use Rattle.ffs_volume.specs.Disk.Search.{first_below, earliest}
 use Rattle.ffs_volume.specs.Directories.Climb.{climb}
 use Rattle.ffs_volume.specs.Directories.Graph.{within, level, parent}
-use Rattle.ffs_volume.specs.Messages.Kinds.{lines_below}
+use Rattle.ffs_volume.specs.Messages.Kinds.{lines_below, mounted, phase1, phase1b, phase2, phase3, phase4, phase5}
+use Rattle.ffs_volume.specs.Messages.Kinds.{of_blocks, of_tree, summary, dup_bad}
 use Rattle.ffs_volume.specs.Directories.PathnameCheck.{attributes, root_lines, shape_lines, dot_lines, dotdot_lines}
 use Rattle.ffs_volume.specs.Directories.PathnameCheck.{named_lines, plain_lines, entry_lines, lines_of_entries}
 use Rattle.ffs_volume.specs.Directories.PathnameCheck.{sized_dir_lines, pathname_lines}
@@ -28,7 +29,7 @@ use Rattle.ffs_volume.specs.Directories.Volumes.{chunk_source_of, volume_with, v
 use Rattle.ffs_volume.specs.Report.Opening.{setting_lines}
 use Rattle.ffs_volume.specs.Report.Whole.{file_count, used_count, later_phase_lines, phase_lines, report_lines}
 use Rattle.ffs_volume.specs.Examples.Images.{bytes_in, word, zeros, base_layout, base_superblock, base_super}
-use Rattle.ffs_volume.specs.Examples.Images.{base_summary, base_group, root_inode, root_chunk, base_image}
+use Rattle.ffs_volume.specs.Examples.Images.{base_summary, base_group, root_inode, root_chunk, base_image, mount_bytes}
 use Rattle.ffs_volume.specs.Examples.DirectoryExamples.{entry_bytes}
 use Rattle.ffs_certificate.specs.ReportExamples.{inode_bytes, dir_chunk, two_dirs, named_dir, unnamed_dir}
 use Rattle.ffs_certificate.specs.ReportExamples.{shared_summary, shared_group, shared_image, shared_superblock}
@@ -36,10 +37,7 @@ use Rattle.ffs_certificate.specs.ReportExamples.{about_file}
 use Rattle.std.specs.Prelude.{◌≡◌, [], pos}
 use Rattle.ffs_volume.specs.declared.BlockMessage.TheVariants.{Dup}
 use Rattle.ffs_volume.specs.declared.Label.TheVariants.{File as FileLabel}
-use Rattle.ffs_volume.specs.Messages.Kinds.{mounted, phase1, phase1b, phase2, phase3, phase4, phase5, of_blocks}
-use Rattle.ffs_volume.specs.Messages.Kinds.{of_tree, summary, dup_bad}
 use Rattle.ffs_volume.specs.Directories.Paths.{longest_end, path_bytes, names_down, dir_path, entry_path}
-use Rattle.ffs_volume.specs.Examples.Images.{mount_bytes}
 
 pub shared_lines : report_lines shared_image shared_superblock
     ≡ mounted mount_bytes ∷ phase1 ∷ of_blocks (Dup 37 4) ∷ phase1b ∷ of_blocks (Dup 37 3)

@@ -8,11 +8,10 @@ use Rattle.ffs_volume.specs.declared.End.TheVariants.{ReadFault, WriteFault, NoM
 use Rattle.ffs_volume.specs.declared.Label.TheVariants.{Dir as DirLabel, File as FileLabel, Name as NameLabel}
 use Rattle.ffs_volume.specs.declared.Order.TheVariants.{Little}
 use Rattle.ffs_volume.specs.declared.SuperFault.TheVariants.{Magic, Disagree}
-use Rattle.ffs_volume.specs.Messages.Kinds.{bad_super, cannot_read, cannot_alloc, optimization}
-use Rattle.ffs_volume.specs.Messages.Kinds.{minfree, mounted, phase1, of_blocks, of_tree, summary}
-use Rattle.ffs_volume.specs.Messages.Kinds.{root_not_dir, root_suspect, dir_length, missing_dot_first}
-use Rattle.ffs_volume.specs.Messages.Kinds.{kind_dotdot, out_of_range, dup_bad, extraneous, kind_entry}
-use Rattle.ffs_volume.specs.Messages.Kinds.{dead_marked, unref, unref_unlinked, link_count, is_defect}
+use Rattle.ffs_volume.specs.Messages.Kinds.{bad_super, cannot_read, cannot_alloc, optimization, minfree, mounted}
+use Rattle.ffs_volume.specs.Messages.Kinds.{phase1, of_blocks, of_tree, summary, root_not_dir, root_suspect, dir_length}
+use Rattle.ffs_volume.specs.Messages.Kinds.{missing_dot_first, kind_dotdot, out_of_range, dup_bad, extraneous}
+use Rattle.ffs_volume.specs.Messages.Kinds.{kind_entry, dead_marked, unref, unref_unlinked, link_count, is_defect}
 use Rattle.ffs_volume.specs.Report.Opening.{opening_of}
 use Rattle.ffs_volume.specs.Messages.Texts.{texts_of}
 use Rattle.ffs_volume.specs.Report.Memory.{held_limit, runs_limit}

@@ -1,13 +1,14 @@
 -- Laws of the areas of an accepted layout.
 use Rattle.std.proofs.Common.{zero, suc, inl, inr, ◌≡◌, ◌∙◌, ℕ, ◌+◌, ◌-◌, ◌*◌, ◌/◌, ◌<◌, ◌≤◌, Bool, true, false, arith}
 use Rattle.std.proofs.Common.{refl, sym}
-use Rattle.std.proofs.Math.Nat.{div-eq_of_lt-le, mul-le-mul_right, mul_comm, div-add-mod', mod-lt}
+use Rattle.std.proofs.Math.Nat.{div-eq_of_lt-le, mul-le-mul_right, mul_comm}
 use Rattle.std.specs.Int.{div_ceil}
 use Rattle.ffs_volume.specs.Disk.Outcome.{copy_place}
 use Rattle.std.proofs.lemmas.Nat.{div_below}
 use Rattle.std.specs.Prelude.{nat_lt, nat_le, ◌&&◌, ◌||◌}
 use Rattle.std.proofs.lemmas.Bool.{cases_lt}
 use Rattle.std.proofs.lemmas.Bool.Decides.{nat_tests}
+use Rattle.std.proofs.lemmas.Grind.{div_ceil_times}
 use Rattle.ffs_volume.specs.declared.Layout.{Layout}
 use Rattle.ffs_volume.specs.Disk.Search.{first_below, some_below}
 use Rattle.ffs_volume.proofs.SearchLaws.{some_below-suc}
@@ -61,16 +62,12 @@ group_below v f g h = div_below f v.fpg v.ncg (omega arith) (omega arith)
 pub inode_group : (v : Layout) (x : ℕ) → IsAcceptedLayout v → x < v.ncg * v.ipg → x / v.ipg < v.ncg
 inode_group v x g h = div_below x v.ipg v.ncg (omega arith) h
 
--- whole units cover what they are counted from
-div_ceil_covers : (a b : ℕ) → 0 < b → a ≤ div_ceil a b * b
-div_ceil_covers a b h = grind (arith, div-add-mod' a b, mod-lt a h)
-
 -- the last copy of the superblock is in the volume
 pub copy_inside : (v : Layout) → IsAcceptedLayout v → copy_place v + 1376 ≤ v.size * v.fsize
 copy_inside v g =
     let group = g.groups (v.ncg - 1) (omega arith) in
     let units = div_ceil v.sbsize v.fsize in
-    let covered : v.sbsize ≤ div_ceil v.sbsize v.fsize * v.fsize = div_ceil_covers v.sbsize v.fsize (omega arith) in
+    let covered : v.sbsize ≤ div_ceil v.sbsize v.fsize * v.fsize = (div_ceil_times v.sbsize v.fsize (omega arith)).0 in
     let ends : cgsblock v (v.ncg - 1) + div_ceil v.sbsize v.fsize ≤ v.size = omega arith in
     let scaled : (cgsblock v (v.ncg - 1) + div_ceil v.sbsize v.fsize) * v.fsize ≤ v.size * v.fsize =
     mul-le-mul_right v.fsize ends in

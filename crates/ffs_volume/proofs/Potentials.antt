@@ -11,7 +11,6 @@ use Rattle.ffs_volume.specs.declared.Step.{Step}
 use Rattle.ffs_volume.specs.declared.Step.TheVariants.{Run, Tail, Gap}
 use Rattle.ffs_volume.specs.Disk.Areas.{is_fragment_in_range, is_run_in_range}
 use Rattle.ffs_volume.specs.Laws.Geometry.{IsAcceptedLayout}
-use Rattle.ffs_volume.proofs.GeometryLaws.{all_below-at}
 use Rattle.ffs_volume.specs.Blocks.Inodes.{inode_of}
 use Rattle.ffs_volume.specs.Laws.RunLengths.{HasLength}
 use Rattle.ffs_volume.specs.Blocks.Steps.{steps_of}
@@ -20,6 +19,7 @@ use Rattle.ffs_volume.specs.Blocks.Owners.{owner_of}
 use Rattle.ffs_volume.specs.Blocks.Claims.{Claims, at_next_inode, is_set, is_open, after_offer, after_offers, after_run}
 use Rattle.ffs_volume.specs.Blocks.Claims.{after_step, after_steps, after_owner}
 use Rattle.ffs_volume.specs.Laws.ClaimBounds.{potential, offers_potential, ClaimBound}
+use Rattle.ffs_volume.proofs.Below.{all_below-at}
 
 -- a fact of a choice of two, by cases
 pub cond_holds : {A : Type 0} (P : A → Type 0) (b : Bool) (x y : A) → (b ≡ true → P x) → (b ≡ false → P y) →

@@ -1,6 +1,5 @@
 -- A run is in range where its ends show it.
-use Rattle.std.proofs.Common.{zero, suc, inl, inr, ◌≡◌, ℕ, ◌+◌, ◌-◌, ◌*◌, ◌/◌, ◌<◌, ◌≤◌, Bool, true, false, arith, refl}
-use Rattle.std.proofs.Common.{sym, ◌∙◌}
+use Rattle.std.proofs.Common.{inl, inr, ◌≡◌, ℕ, ◌+◌, ◌-◌, ◌*◌, ◌/◌, ◌<◌, ◌≤◌, Bool, true, false, arith, refl, sym, ◌∙◌}
 use Rattle.std.proofs.Math.Nat.{lt-mul-div-succ, mul-div-le}
 use Rattle.std.proofs.lemmas.Bool.{cases_lt}
 use Rattle.std.proofs.lemmas.Bool.Decides.{nat_tests}
@@ -10,21 +9,14 @@ use Rattle.ffs_volume.specs.Disk.Numbers.{all_below}
 use Rattle.ffs_volume.specs.Disk.Areas.{cgbase, cgsblock, cgdmin, is_group_metadata, is_fragment_in_range}
 use Rattle.ffs_volume.specs.Disk.Areas.{is_run_in_range}
 use Rattle.ffs_volume.specs.Laws.Geometry.{IsAcceptedLayout}
-use Rattle.ffs_volume.proofs.GeometryLaws.{all_below-at}
 use Rattle.ffs_volume.proofs.AreaLaws.{in_kept, is_kept_group, group_below, group_is}
+use Rattle.ffs_volume.proofs.Below.{all_below-at, all_below-from}
 
 -- the run of `len` fragments from `start` ends in the volume and in its group, and is before the kept part or after it
 abbrev pub is_apart : Layout → ℕ → ℕ → Bool
 is_apart v start len =
     nat_le (start + len) v.size && nat_le (start + len) (cgbase v (start / v.fpg + 1))
     && (nat_le (start + len) (cgsblock v (start / v.fpg)) || nat_le (cgdmin v (start / v.fpg)) start)
-
-all_below-from : (n : ℕ) (test : ℕ → Bool) → ((k : ℕ) → k < n → test k ≡ true) → all_below n test ≡ true
-unfolding all_below
-all_below-from zero test h = refl
-all_below-from (suc n) test h =
-    let here = h n (omega arith) in
-    rw here (all_below-from n test (λ k lt. h k (omega arith)))
 
 abbrev fits : Layout → ℕ → ℕ → Bool
 fits v start k = is_fragment_in_range v (start + k) && ((start + k) / v.fpg == start / v.fpg)
