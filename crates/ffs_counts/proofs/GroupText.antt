@@ -1,7 +1,6 @@
 -- The lines of phase 5, group after group.
 use Rattle.std.proofs.Common.{◌≡◌, ℕ, suc, ◌+◌, ◌<◌, ◌^◌, Bool, List, [], ◌++◌, map, refl, ap, ◌∙◌, sym, append_assoc}
-use Rattle.std.proofs.Common.{append-nil}
-use Rattle.std.proofs.Common.{arith, slice_index, ℤ}
+use Rattle.std.proofs.Common.{append-nil, arith, slice_index, ℤ}
 use Rattle.std.specs.List.{range_with_len, flat_map, sum_by}
 use Rattle.ffs_volume.specs.declared.Layout.{Layout}
 use Rattle.ffs_volume.specs.declared.Class.{Class}

@@ -1,6 +1,5 @@
 use Rattle.std.proofs.Common.{arith, rules, ◌∙◌, sym, ◌≡◌, ◌+◌, ◌*◌, ◌-◌, ◌<◌, true, false, min}
-use Rattle.ffs_volume.specs.Groups.Records.{bit_at as map_bit}
-use Rattle.ffs_volume.specs.Groups.Records.{same_bit, is_used_inode}
+use Rattle.ffs_volume.specs.Groups.Records.{bit_at as map_bit, same_bit, is_used_inode}
 use Rattle.ffs_groups.specs.Inodes.{class_in}
 use Rattle.ffs_groups.proofs.MapWords.{word_is, map_goes_on, map_fails, map_begins, moved_in}
 use Rattle.ffs_groups.proofs.maps.same_inode_map.Goals as goal
