@@ -5,11 +5,12 @@ use Rattle.ffs_volume.specs.Blocks.Inodes.{class_of}
 use Rattle.ffs_volume.specs.Blocks.Owners.{Owner, owner_of}
 use Rattle.ffs_volume.specs.Blocks.BlockCheck.{owner_lines}
 use Rattle.ffs_volume.specs.Blocks.Claims.{after_owner}
+use Rattle.ffs_volume.proofs.Results.{on_ok as ok_then}
 use Rattle.ffs_report.proofs.Reporting.{of_begins, of_reads, reports_same, reports_knowing}
 use Rattle.ffs_workspace.specs.Holds.{claims_of}
 use Rattle.ffs_claims.specs.Leaves.{Stored}
 use Rattle.ffs_claims.specs.Lines.{of_lines, owner_with}
-use Rattle.ffs_claims.proofs.Inodes.{owner_is, ok_then, ok_where}
+use Rattle.ffs_claims.proofs.Inodes.{owner_is, ok_where}
 use Rattle.ffs_claims.proofs.Potentials.{used_below}
 use Rattle.ffs_workspace.proofs.Readiness.{ready_table}
 use Rattle.ffs_claims.proofs.claim.claim_inode.Goals as goal
