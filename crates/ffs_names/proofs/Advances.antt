@@ -1,7 +1,8 @@
 -- How a reading of chunks goes from step to step.
-use Rattle.std.proofs.Common.{◌≡◌, ℕ, zero, suc, ◌+◌, ◌-◌, ◌*◌, Bool, true, false, List, [], ◌∷◌, ◌++◌, replicate}
+use Rattle.std.proofs.Common.{◌≡◌, ℕ, zero, suc, ◌-◌, ◌*◌, Bool, true, false, List, [], ◌∷◌, ◌++◌, replicate}
 use Rattle.std.proofs.Common.{arith, refl, sym, ap, ◌∙◌}
 use Rattle.std.specs.Prelude.{if◌then◌else◌}
+use Rattle.std.proofs.Math.Nat.{zero-add}
 use Rattle.ffs_volume.specs.declared.Layout.{Layout}
 use Rattle.ffs_volume.specs.declared.Step.{Step}
 use Rattle.ffs_volume.specs.declared.Step.TheVariants.{Run, Tail, Gap}
@@ -10,6 +11,7 @@ use Rattle.ffs_volume.specs.Blocks.Steps.{steps_at, steps_of_addresses}
 use Rattle.ffs_volume.specs.Directories.Entries.{Chunk, chunks_of}
 use Rattle.ffs_volume.specs.Encodings.Replay.{Replay, is_replay_open, replayed_steps}
 use Rattle.ffs_volume.specs.Encodings.ReplayCounts.{replayed_runs}
+use Rattle.ffs_volume.proofs.ReplayLaws.{gaps_seen}
 use Rattle.ffs_walk.specs.declared.walk.Walk.{Walk}
 use Rattle.ffs_walk.specs.Rests.{IsOver, extent_of, rest as steps_left, single_rest, double_rest, triple_rest, top_rest}
 use Rattle.ffs_walk.proofs.WalkSteps.{spent_rest}
@@ -129,21 +131,9 @@ walked_runs b c w e = ap (λ x. runs_after c (steps_left b x)) e
 pub runs_tail : (v v' : Layout) (cut : ℕ) (r : Replay) (old new : List Step) → v' ≡ v → old ≡ Tail ∷ new →
     replayed_runs v' cut r new ≡ replayed_runs v cut r old
 runs_tail v v' cut r old new e o = ap (λ x. replayed_runs x cut r new) e
-    ∙ (zero_more (replayed_runs v cut r new) ∙ ap (replayed_runs v cut r) (sym o))
-  where
-    zero_more : (n : ℕ) → n ≡ 0 + n
-    zero_more n = omega arith
-
-runs_behind : (v : Layout) (cut : ℕ) (r : Replay) (n : ℕ) (steps : List Step) →
-    replayed_runs v cut r (replicate n Gap ++ steps) ≡ replayed_runs v cut r steps
-runs_behind v cut r zero steps = refl
-runs_behind v cut r (suc n) steps = none_more (replayed_runs v cut r (replicate n Gap ++ steps))
-    ∙ runs_behind v cut r n steps
-  where
-    none_more : (m : ℕ) → 0 + m ≡ m
-    none_more m = omega arith
+    ∙ (sym (zero-add (replayed_runs v cut r new)) ∙ ap (replayed_runs v cut r) (sym o))
 
 pub runs_gaps : (v v' : Layout) (cut : ℕ) (r : Replay) (n : ℕ) (old new : List Step) → v' ≡ v →
     old ≡ Gap ∷ (replicate n Gap ++ new) → replayed_runs v' cut r new ≡ replayed_runs v cut r old
 runs_gaps v v' cut r n old new e o = ap (λ x. replayed_runs x cut r new) e
-    ∙ (sym (runs_behind v cut r (suc n) new) ∙ ap (replayed_runs v cut r) (sym o))
+    ∙ (sym (gaps_seen v cut r (suc n) new) ∙ ap (replayed_runs v cut r) (sym o))

@@ -1,6 +1,7 @@
 -- Whether a Gap is among the steps that a reading has still to see.
 use Rattle.std.proofs.Common.{◌≡◌, refl, sym, ap, ◌∙◌, ℕ, Bool, true, false, ◌||◌, List, [], ◌∷◌, ◌++◌, Option}
 use Rattle.std.specs.Prelude.{if◌then◌else◌}
+use Rattle.std.proofs.Math.Bool.{or-true}
 use Rattle.ffs_volume.specs.declared.Layout.{Layout}
 use Rattle.ffs_volume.specs.declared.Step.{Step}
 use Rattle.ffs_volume.specs.declared.Step.TheVariants.{Run, Tail, Gap}
@@ -64,11 +65,7 @@ pub gap_seen : (v v' : Layout) (cut : ℕ) (r : Replay) (gap : Bool) (old new : 
     old ≡ Gap ∷ new → (true || kept_gap v' cut r new) ≡ (gap || kept_gap v cut r old)
 gap_seen v v' cut r gap old new seen o =
     sym (ap (λ l. gap || kept_gap v cut r l) o
-    ∙ (ap (λ x. gap || has_gap ((if x then Gap ∷ [] else []) ++ replayed_steps v cut r new)) seen ∙ one gap))
-  where
-    one : (x : Bool) → (x || true) ≡ true
-    one true = refl
-    one false = refl
+    ∙ (ap (λ x. gap || has_gap ((if x then Gap ∷ [] else []) ++ replayed_steps v cut r new)) seen ∙ or-true gap))
 
 pub gap_to_run : (v v' : Layout) (cut : ℕ) (r : Replay) (gap : Bool) (start len : ℕ) (block : Option ℕ)
     (old new : List Step) → v' ≡ v → old ≡ Run start len block ∷ new →

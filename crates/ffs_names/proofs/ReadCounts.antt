@@ -1,8 +1,8 @@
 -- Laws of the reads that are still to come of a reading.
 use Rattle.std.proofs.Common.{◌≡◌, ◌<◌, ◌≤◌, ◌+◌, ◌∷◌, ◌∙◌, ℕ, Bool, true, false, List, Option, Some, None, arith, refl, ap, sym}
-use Rattle.std.specs.Prelude.{◌==◌, ◌&&◌, nat_lt, if◌then◌else◌, Result, Ok, Err}
+use Rattle.std.specs.Prelude.{◌==◌, ◌&&◌, nat_lt, if◌then◌else◌}
 use Rattle.std.proofs.lemmas.Bool.Decides.{nat_tests}
-use Rattle.ffs_image.specs.declared.image.ImageFault.{ImageFault}
+use Rattle.std.proofs.Math.Nat.{zero-add}
 use Rattle.ffs_volume.specs.declared.Layout.{Layout}
 use Rattle.ffs_volume.specs.declared.Step.{Step}
 use Rattle.ffs_volume.specs.declared.Step.TheVariants.{Run, Gap}
@@ -11,8 +11,7 @@ use Rattle.ffs_volume.specs.Encodings.ReplayCounts.{replay_step_by_cut, replayed
 use Rattle.ffs_walk.specs.Counts.{entered, unread}
 use Rattle.ffs_walk.specs.Rests.{IsAtTop}
 use Rattle.ffs_walk.specs.declared.window.Window.{Window}
-use Rattle.ffs_walk.proofs.Counted.{top_held, top_unread}
-use Rattle.ffs_survey.specs.Costs.{TakesReads}
+use Rattle.ffs_walk.proofs.Counted.{top_held, top_unread, pays}
 use Rattle.ffs_names.specs.Costs.{BeginsReads, HoldsRun, unread_run}
 use Rattle.ffs_names.specs.Readings.{runs_left}
 use Rattle.ffs_names.specs.declared.chunks.Chunks.{Chunks}
@@ -43,15 +42,10 @@ given_one n m = ap (λ (x : Bool). if◌then◌else◌ {A = ℕ} x 1 0) (was_beg
 some_begun : (n m : ℕ) → n < m → ((n == 0) && nat_lt 0 m) ≡ false → 0 < n
 some_begun n m l h = grind (arith, nat_tests)
 
-pays_one : (x : Bool) (reads reads' : ℕ) → reads' ≤ reads + 1 → (x ≡ false → reads' ≤ reads) →
-    reads' ≤ reads + (if x then 1 else 0)
-pays_one true reads reads' one none = one
-pays_one false reads reads' one none = let h = none refl in omega (arith, h)
-
 -- the chunks of the current Run are read once
 pub run_paid : (h : RunCursor) (w : Window) (reads reads' : ℕ) → h.next < h.count → HoldsRun w h → reads' ≤ reads + 1 →
     (w.place ≡ h.place → w.length ≡ h.length → reads' ≤ reads) → reads' ≤ reads + unread_run h
-run_paid h w reads reads' left held one again = pays_one ((h.next == 0) && nat_lt 0 h.count) reads reads' one
+run_paid h w reads reads' left held one again = pays ((h.next == 0) && nat_lt 0 h.count) reads reads' one
     (λ begun. let at = held (some_begun h.next h.count left begun) left in again at.0 at.1)
 
 -- a window needs no Run of which no chunk was given, or none is left
@@ -92,18 +86,4 @@ entered_none start len (Some block) at e = refl
 pub runs_gap : (v v' : Layout) (cut : ℕ) (r : Replay) (old new : List Step) → v' ≡ v → old ≡ Gap ∷ new →
     replayed_runs v' cut r new ≡ replayed_runs v cut r old
 runs_gap v v' cut r old new e o = ap (λ x. replayed_runs x cut r new) e
-    ∙ (none (replayed_runs v cut r new) ∙ ap (replayed_runs v cut r) (sym o))
-  where
-    none : (n : ℕ) → n ≡ 0 + n
-    none n = omega arith
-
--- no read is made, and nothing changes
-pub takes_none : {T : Type 0} (reads before : ℕ) (held : Type 0) (x : T) → held →
-    TakesReads reads reads before before held (Ok x)
-takes_none reads before held x h = record { most = omega arith; paid = omega arith; held = h }
-
--- a call that failed
-pub takes_failed : {T : Type 0} (reads reads' before after : ℕ) (held : Type 0) (fault : ImageFault)
-    (result : Result T ImageFault) → result ≡ Err fault → reads' ≤ reads + before →
-    TakesReads reads reads' before after held result
-takes_failed reads reads' before after held fault result e most = rw e (record { most = most; paid = tt; held = tt })
+    ∙ (sym (zero-add (replayed_runs v cut r new)) ∙ ap (replayed_runs v cut r) (sym o))

@@ -4,11 +4,11 @@ use Rattle.std.proofs.lemmas.Grind.{common_steps, get_or_default_zero}
 use Rattle.std.proofs.Common.{arith}
 use Rattle.ffs_volume.specs.Directories.Roles.{roled_chunk, roled_entries}
 use Rattle.ffs_volume.specs.Directories.Volumes.{volume_of}
+use Rattle.ffs_volume.proofs.Results.{on_ok}
 use Rattle.ffs_workspace.specs.Notes.{note_at}
 use Rattle.ffs_names.specs.Readings.{rest}
 use Rattle.ffs_names.proofs.Continuing.{contents_kept}
 use Rattle.ffs_names.proofs.PlacesNoted.{notes_as, ready_noted}
-use Rattle.ffs_names.proofs.SurveyHolds.{on_ok}
 use Rattle.ffs_names.proofs.places.note_directory.Goals as goal
 
 pub returns-clause-noted : goal.returns-clause-noted
