@@ -1,8 +1,9 @@
 -- The longest end of the names of a path, with one more name before them.
 use Rattle.std.proofs.Common.{◌≡◌, ℕ, suc, ◌+◌, ◌<◌, ◌≤◌, ◌-◌, true, false, List, [], ◌∷◌, ◌++◌, length, drop, refl, ap}
 use Rattle.std.proofs.Common.{◌∙◌, arith, length-append, length-drop}
-use Rattle.std.specs.Prelude.{nat_lt, nat_le, Some, if◌then◌else◌}
+use Rattle.std.specs.Prelude.{nat_lt, Some, if◌then◌else◌}
 use Rattle.std.proofs.lemmas.Bool.Decides.{nat_tests}
+use Rattle.std.proofs.lemmas.Bool.{lt-leb, le-leb}
 use lib.Seq.{take_all}
 use borrow.Rule.Slice.PartMut.{mid_of}
 use Rattle.ffs_volume.specs.Directories.Paths.{joined, longest_end, path_bytes, dir_path_of_names}
@@ -16,12 +17,6 @@ over_is n h = grind (arith, nat_tests)
 pub under_is : (n : ℕ) → n ≤ 1024 → nat_lt 1024 n ≡ false
 under_is n h = grind (arith, nat_tests)
 
-not_le : (n m : ℕ) → m < n → nat_le n m ≡ false
-not_le n m h = grind (arith, nat_tests)
-
-is_le : (n m : ℕ) → n ≤ m → nat_le n m ≡ true
-is_le n m h = grind (arith, nat_tests)
-
 -- the length with a name more
 pub joined-length : (name : List ℕ) (names : List (List ℕ)) → length (joined (name ∷ names))
     ≡ suc (length name + length (joined names))
@@ -31,13 +26,13 @@ pub end-more : (most : ℕ) (name : List ℕ) (names : List (List ℕ)) → most
     longest_end most (name ∷ names) ≡ longest_end most names
 unfolding longest_end
 end-more most name names h = ap (λ b. if b then name ∷ names else longest_end most names)
-    (not_le (length (joined (name ∷ names))) most h)
+    (lt-leb (length (joined (name ∷ names))) most h)
 
 pub end-all : (most : ℕ) (name : List ℕ) (names : List (List ℕ)) → length (joined (name ∷ names)) ≤ most →
     longest_end most (name ∷ names) ≡ name ∷ names
 unfolding longest_end
 end-all most name names h = ap (λ b. if b then name ∷ names else longest_end most names)
-    (is_le (length (joined (name ∷ names))) most h)
+    (le-leb (length (joined (name ∷ names))) most h)
 
 -- names that are cut stay cut
 pub cut-more : (name : List ℕ) (names : List (List ℕ)) → nat_lt 1024 (length (joined names)) ≡ true

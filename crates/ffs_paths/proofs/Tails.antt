@@ -1,8 +1,8 @@
 -- The path of an entry: the longest end of the names before it that leaves room for its own.
 use Rattle.std.proofs.Common.{◌≡◌, ℕ, zero, suc, ◌+◌, ◌-◌, ◌<◌, ◌≤◌, ◌==◌, Bool, true, false, List, [], ◌∷◌, ◌++◌}
 use Rattle.std.proofs.Common.{length, drop, refl, sym, ap, ◌∙◌, arith, append_assoc, append-nil, length-append}
-use Rattle.std.specs.Prelude.{nat_le, max, if◌then◌else◌, ◌||◌}
-use Rattle.std.proofs.lemmas.Bool.{leb-true}
+use Rattle.std.specs.Prelude.{nat_le, max, if◌then◌else◌}
+use Rattle.std.proofs.lemmas.Bool.{leb-true, or_parts}
 use Rattle.std.proofs.lemmas.Bool.Decides.{nat_tests}
 use Rattle.std.proofs.lemmas.List.{drop-drop, drop_all}
 use Rattle.ffs_volume.specs.Directories.Paths.{joined, longest_end, path_bytes}
@@ -71,19 +71,11 @@ name_past : (name rest : List ℕ) (from : ℕ) → has_slash name ≡ false →
     ≡ from_slash (drop (from - length name) rest)
 name_past [] rest from h = ap (λ n. from_slash (drop n rest)) (omega arith)
 name_past (x ∷ name) rest zero h =
-    let p = clear (x == 47) (has_slash name) h in
+    let p = or_parts (x == 47) (has_slash name) h in
     ap (λ b. if b then x ∷ name ++ rest else from_slash (name ++ rest)) p.0
     ∙ (name_past name rest zero p.1 ∙ ap (λ n. from_slash (drop n rest)) (omega arith))
-  where
-    clear : (a b : Bool) → (a || b) ≡ false → (a ≡ false) × (b ≡ false)
-    clear true b e = absurd (cc)
-    clear false b e = (refl, e)
 name_past (x ∷ name) rest (suc from) h =
-    name_past name rest from (clear (x == 47) (has_slash name) h) ∙ ap (λ n. from_slash (drop n rest)) (omega arith)
-  where
-    clear : (a b : Bool) → (a || b) ≡ false → b ≡ false
-    clear true b e = absurd (cc)
-    clear false b e = e
+    name_past name rest from (or_parts (x == 47) (has_slash name) h).1 ∙ ap (λ n. from_slash (drop n rest)) (omega arith)
 
 slash_starts : (names : List (List ℕ)) → from_slash (joined names) ≡ joined names
 slash_starts [] = refl

@@ -1,7 +1,7 @@
 -- The way from a directory up to the root.
 use Rattle.std.proofs.Common.{◌≡◌, ◌≢◌, ℕ, zero, suc, ◌+◌, ◌<◌, ◌==◌, true, false, List, [], ◌∷◌, ◌++◌}
-use Rattle.std.proofs.Common.{Option, Some, None, refl, sym, ap, subst, ◌∙◌, arith, append-nil, append_assoc}
-use Rattle.std.specs.Prelude.{◌*◌, is_some, cond, option_and_then}
+use Rattle.std.proofs.Common.{Option, Some, None, refl, sym, ap, subst, ◌∙◌, arith, append_assoc}
+use Rattle.std.specs.Prelude.{◌*◌, cond, option_and_then}
 use Rattle.std.specs.List.{list_any}
 use Rattle.std.proofs.lemmas.Bool.{both_ways, and_parts, ne_eqb, cond-false, eq-eqb}
 use Rattle.ffs_volume.specs.declared.Layout.{Layout}
@@ -43,16 +43,6 @@ pub record IsOnWay (g : Graph) (k d at step : ℕ) (p : PathBuffer) : Type 0 whe
   pub following : List (List ℕ)
   pub held : HoldsNames p following
   pub whole : names_down g left at ++ following ≡ names_down g k d
-
-pub way_starts : (g : Graph) (k d : ℕ) (p : PathBuffer) → level g d ≡ Some k → HoldsNames p [] → IsOnWay g k d d 0 p
-way_starts g k d p l h = record {
-  left = k;
-  level = l;
-  steps = omega arith;
-  following = [];
-  held = h;
-  whole = append-nil (names_down g k d);
-}
 
 -- a path that is cut holds any names above, too
 pub cut_holds : (p : PathBuffer) (above names : List (List ℕ)) → p.cut ≡ true → HoldsNames p names →
@@ -167,10 +157,3 @@ pub entry_is : (g : Graph) (d : ℕ) (name : List ℕ) (p : DirectoryPath) (text
 unfolding entry_path
 entry_is g d name p text h r f = by_names g d p (λ o. text ≡ in_room (entry_path_of_names name o)) h r
     (λ names held single. f names held single ∙ fits _ (path_text-fits (names ++ name ∷ [])))
-
-pub level_of : (g : Graph) (d : ℕ) → reached g d ≡ true → (k : ℕ) × (level g d ≡ Some k)
-level_of g d h = go (level g d) refl h
-  where
-    go : (o : Option ℕ) → level g d ≡ o → is_some o ≡ true → (k : ℕ) × (level g d ≡ Some k)
-    go (Some k) e s = (k, e)
-    go None e s = absurd (cc)

@@ -4,9 +4,9 @@ use Rattle.ffs_volume.specs.Directories.Parents.{graph_of}
 use Rattle.ffs_volume.specs.Directories.Volumes.{volume_of}
 use Rattle.std.specs.Prelude.{option_map}
 use Rattle.ffs_volume.specs.Directories.Paths.{names_down}
+use Rattle.ffs_volume.proofs.LevelLaws.{reached-level as level_of}
 use Rattle.ffs_paths.specs.DirectoryPaths.{HoldsPath}
 use Rattle.ffs_paths.proofs.Single.{down_single}
-use Rattle.ffs_paths.proofs.Ways.{level_of}
 use Rattle.ffs_paths.proofs.path.directory_path.Goals as goal
 
 pub returns-in_ok-names-clause-path : goal.returns-in_ok-names-clause-path
