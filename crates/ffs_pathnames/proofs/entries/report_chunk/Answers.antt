@@ -11,11 +11,12 @@ use Rattle.ffs_pathnames.specs.DirectoryContext.{DirectoryContext}
 use Rattle.ffs_pathnames.specs.Marks.{after_roled, after_entries, entry_lines_of, entries_reported}
 use Rattle.ffs_pathnames.proofs.Begun.{image_same}
 use Rattle.ffs_pathnames.proofs.LineCounts.{entry_counted, has_begun, read_all, read_more}
-use Rattle.ffs_pathnames.proofs.Looking.{roled_at_place, seen_next, none}
+use Rattle.ffs_pathnames.proofs.Looking.{roled_at_place, seen_next, none_left}
 use Rattle.ffs_workspace.proofs.Leaving.{leaves_all, leaves_more}
-use Rattle.ffs_pathnames.proofs.Passing.{entry_reported, entry_passed, none_left, knows_on}
+use Rattle.ffs_pathnames.proofs.Passing.{entry_reported, entry_passed, knows_on}
 use Rattle.ffs_pathnames.proofs.StampLaws.{keep_more, noted_kept}
 use Rattle.ffs_pathnames.proofs.entries.report_chunk.Goals as goal
+use Rattle.ffs_names.proofs.PlacesNoted.{none_there as none}
 
 pub entries-init : goal.entries-init
 entries-init g c =

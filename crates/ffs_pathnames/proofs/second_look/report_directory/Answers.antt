@@ -23,7 +23,8 @@ use Rattle.ffs_pathnames.proofs.ReadyLaws.{with_chunk, can_read_in, ready_next, 
 use Rattle.ffs_pathnames.proofs.StampLaws.{keep_more, noted_kept}
 use Rattle.ffs_volume.specs.Report.Reads.{line_reads}
 use Rattle.ffs_names.specs.Costs.{to_read}
-use Rattle.ffs_pathnames.proofs.CostLaws.{lines_long, reported_on, runs_are, same_long}
+use Rattle.ffs_names.proofs.DirCosts.{runs_are}
+use Rattle.ffs_pathnames.proofs.CostLaws.{lines_long, reported_on, same_long}
 use Rattle.ffs_pathnames.proofs.second_look.report_directory.Goals as goal
 
 pub chunks-init : goal.chunks-init
