@@ -20,13 +20,13 @@ use Rattle.ffs_volume.specs.Blocks.Claims.{Claims, no_claims, is_set, is_open, a
 use Rattle.ffs_volume.specs.Blocks.Claims.{after_owner, offer_lines, lines_of_offers, step_lines, lines_of_steps}
 use Rattle.ffs_volume.specs.Blocks.BlockCheck.{Offer, class_lines, count_lines, owner_lines, lines_of_owners}
 use Rattle.ffs_volume.specs.Blocks.BlockCheck.{phase1_lines, sectors}
-use Rattle.ffs_volume.specs.Blocks.Keeping.{CountedOffer, bad_runs_after, counted_offer, step_offers, offers_of_steps}
-use Rattle.ffs_volume.specs.Blocks.Keeping.{all_offers, OfferVerdict, is_claimed_before, offer_verdict, verdicts}
-use Rattle.ffs_volume.specs.Blocks.Keeping.{uncounted}
+use Rattle.ffs_volume.specs.Blocks.KeptByRule.{CountedOffer, bad_runs_after, counted_offer, step_offers, offers_of_steps}
+use Rattle.ffs_volume.specs.Blocks.KeptByRule.{all_offers, OfferVerdict, is_claimed_before, offer_verdict, verdicts}
+use Rattle.ffs_volume.specs.Blocks.KeptByRule.{uncounted}
 use Rattle.ffs_certificate.proofs.KeepingLaws.{OfferTie, offer_tied}
 use Rattle.ffs_certificate.proofs.KeepingOwners.{Tie, Closed, not_kept, still_closed, shut_closed, closed_more}
 use Rattle.ffs_certificate.proofs.KeepingOwners.{step_tied}
-use Rattle.ffs_certificate.proofs.KeepingWhole.{Agrees, are_before, before_more, judged_before, steps_before, begins}
+use Rattle.ffs_certificate.proofs.KeepingWhole.{Agrees, are_before, before_more, verdicts_before, steps_before, begins}
 use Rattle.ffs_certificate.proofs.KeepingWhole.{owner_tied, Rising, start_agrees, rising_range}
 
 -- the kept dup ones of some offers

@@ -9,7 +9,7 @@ use Rattle.ffs_volume.specs.declared.Layout.{Layout}
 use Rattle.ffs_volume.specs.Disk.Areas.{is_fragment_in_range, is_reserved}
 use Rattle.ffs_volume.specs.Blocks.Claims.{Claims, is_set, after_offer}
 use Rattle.ffs_certificate.proofs.FreshLaws.{bit}
-use Rattle.ffs_volume.specs.Blocks.Keeping.{counted_offer, OfferVerdict, is_claimed_before, dups_of, offer_verdict}
+use Rattle.ffs_volume.specs.Blocks.KeptByRule.{counted_offer, OfferVerdict, is_claimed_before, dups_of, offer_verdict}
 
 -- how many kept offers of an inode there are
 abbrev pub kept_of : List OfferVerdict → ℕ → ℕ

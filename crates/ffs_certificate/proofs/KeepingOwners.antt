@@ -11,15 +11,15 @@ use Rattle.ffs_volume.specs.declared.Step.TheVariants.{Run, Tail, Gap}
 use Rattle.ffs_volume.specs.Disk.Areas.{is_fragment_in_range, is_run_in_range, is_reserved}
 use Rattle.ffs_volume.specs.Blocks.Claims.{Claims, is_set, is_open, after_offer, after_offers, after_step}
 use Rattle.ffs_volume.specs.Blocks.BlockCheck.{kept_in_offers, kept_in_step}
-use Rattle.ffs_volume.specs.Blocks.Keeping.{CountedOffer, bad_runs_after, counted_offer, step_offers, OfferVerdict}
-use Rattle.ffs_volume.specs.Blocks.Keeping.{is_claimed_before, dups_of, offer_verdict, verdicts, uncounted}
-use Rattle.ffs_volume.specs.Blocks.Keeping.{kept_by_rule}
+use Rattle.ffs_volume.specs.Blocks.KeptByRule.{CountedOffer, bad_runs_after, counted_offer, step_offers, OfferVerdict}
+use Rattle.ffs_volume.specs.Blocks.KeptByRule.{is_claimed_before, dups_of, offer_verdict, verdicts, uncounted}
+use Rattle.ffs_volume.specs.Blocks.KeptByRule.{kept_by_rule}
 use Rattle.ffs_certificate.proofs.KeepingLaws.{kept_of, dups_cons, kept_cons, OfferTie, not_taken, offer_tied}
 
-pub judged_append : (v : Layout) (e : List OfferVerdict) (ps qs : List CountedOffer) →
+pub verdicts-append : (v : Layout) (e : List OfferVerdict) (ps qs : List CountedOffer) →
     verdicts v e (ps ++ qs) ≡ verdicts v (verdicts v e ps) qs
-judged_append v e [] qs = refl
-judged_append v e (p ∷ ps) qs = judged_append v (offer_verdict v e p ∷ e) ps qs
+verdicts-append v e [] qs = refl
+verdicts-append v e (p ∷ ps) qs = verdicts-append v (offer_verdict v e p ∷ e) ps qs
 
 pub kept_append : (v : Layout) (e : List OfferVerdict) (ps qs : List CountedOffer) →
     kept_by_rule v e (ps ++ qs) ≡ kept_by_rule v e ps ++ kept_by_rule v (verdicts v e ps) qs

@@ -4,6 +4,7 @@ use Rattle.std.specs.List.{list_all, list_any}
 use Rattle.ffs_volume.specs.declared.BlockMessage.{BlockMessage}
 use Rattle.ffs_volume.specs.declared.BlockMessage.TheVariants.{PartAlloc, UnknownType}
 use Rattle.ffs_volume.specs.declared.Role.TheVariants.{Extra, Plain}
+use Rattle.ffs_volume.specs.declared.constants.TheConstants.{DT_DIR, WINO}
 use Rattle.ffs_volume.specs.Disk.Superblock.{Superblock}
 use Rattle.ffs_volume.specs.Disk.Outcome.{outcome}
 use Rattle.ffs_volume.specs.Blocks.Owners.{owners_of}
@@ -44,7 +45,7 @@ pub record IsNameUnreported (v : Volume) (e : Entry) : Type 0 where
 pub record IsPlainUnreported (v : Volume) (e : Entry) : Type 0 where
   pub below : nat_lt e.number v.count ≡ true
   pub no_whiteout : is_bad_whiteout e ≡ false
-  pub named : (e.number == 1) ≡ false → IsNameUnreported v e
+  pub named : (e.number == WINO) ≡ false → IsNameUnreported v e
 
 -- a directory isn't of size 0, TOO SHORT, NOT MULTIPLE, with EMPTY BLOCKS or CORRUPTED; `.` and `..` aren't MISSING,
 -- with a bad number of `.` or BAD TYPE VALUE; there is no EXTRA entry
@@ -54,8 +55,8 @@ pub record IsDirUnreported (v : Volume) (d : ℕ) : Type 0 where
   pub broken : has_partial_chunk v d ≡ false
   pub gap : v.gap d ≡ false
   pub sound : are_sound (v.chunks d) ≡ true
-  pub dot_there : IsSomeAnd (dot v d) (λ e. (e.number ≡ d) × (e.kind ≡ 4))
-  pub dotdot_there : IsSomeAnd (dotdot v d) (λ e. e.kind ≡ 4)
+  pub dot_there : IsSomeAnd (dot v d) (λ e. (e.number ≡ d) × (e.kind ≡ DT_DIR))
+  pub dotdot_there : IsSomeAnd (dotdot v d) (λ e. e.kind ≡ DT_DIR)
   pub no_extra : (j : ℕ) (s : RoledEntry) → nth_roled (roled_entries v d) j ≡ Some s → s.role ≢ Extra
   pub plain : (j : ℕ) (s : RoledEntry) → nth_roled (roled_entries v d) j ≡ Some s → s.role ≡ Plain
       → IsPlainUnreported v s.entry

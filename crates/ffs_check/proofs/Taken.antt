@@ -1,7 +1,7 @@
 -- What a check takes of its memory, after an accepted superblock.
 use Rattle.std.proofs.Common.{◌≡◌, arith, inl, inr, ◌∙◌, sym, subst, ℕ, Bool, true, false, List, Option, Ok, Err}
 use Rattle.ffs_image.specs.Device.{Device, ForContents}
-use Rattle.ffs_memory.specs.Account.{Account, Rose, unused}
+use Rattle.ffs_memory.specs.Account.{Account, RefusedOneMore, unused}
 use Rattle.ffs_memory.specs.System.{account_of}
 use Rattle.ffs_memory.specs.declared.system.SystemMemory.{SystemMemory}
 use Rattle.ffs_volume.specs.declared.End.{End}
@@ -71,7 +71,7 @@ opened_for_memory image on old new name sector end o e = elim o.ends [
 -- a check over the memory of the system, which was new
 pub of_system : (image : Device) (sector : Option ℕ) (end : End) (memory memory' : SystemMemory) →
     account_of memory ≡ unused → Takes image sector (account_of memory) (account_of memory') →
-    (end ≡ NoMemory → Rose (account_of memory).refused (account_of memory').refused) → TakesOfSystem image sector end
+    (end ≡ NoMemory → RefusedOneMore (account_of memory) (account_of memory')) → TakesOfSystem image sector end
 of_system image sector end memory memory' begun takes refused = record {
   memory = memory;
   memory' = memory';

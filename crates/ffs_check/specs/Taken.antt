@@ -1,7 +1,7 @@
 -- What a check takes of its memory.
 use Rattle.std.specs.Prelude.{◌≡◌, ◌≤◌, ◌⊎◌, ℕ, Option, Ok}
 use Rattle.ffs_image.specs.Device.{Device, ForContents}
-use Rattle.ffs_memory.specs.Account.{Account, Granted, GaveUp, Rose, unused}
+use Rattle.ffs_memory.specs.Account.{Account, Granted, GaveUp, RefusedOneMore, unused}
 use Rattle.ffs_memory.specs.System.{account_of}
 use Rattle.ffs_memory.specs.declared.system.SystemMemory.{SystemMemory}
 use Rattle.ffs_volume.specs.declared.End.{End}
@@ -34,4 +34,4 @@ pub record TakesOfSystem (image : Device) (sector : Option ℕ) (end : End) : Ty
   pub memory' : SystemMemory
   pub begun : account_of memory ≡ unused
   pub takes : Takes image sector (account_of memory) (account_of memory')
-  pub refused : end ≡ NoMemory → Rose (account_of memory).refused (account_of memory').refused
+  pub refused : end ≡ NoMemory → RefusedOneMore (account_of memory) (account_of memory')

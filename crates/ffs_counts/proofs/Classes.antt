@@ -4,7 +4,7 @@ use Rattle.std.proofs.Common.{count_by, subst, ℤ}
 use Rattle.std.specs.Prelude.{◌&&◌, ◌||◌, ◌==◌, not, nat_le, nat_lt}
 use Rattle.ffs_volume.specs.Blocks.Owners.{owners_of}
 use Rattle.ffs_volume.specs.Blocks.Claims.{no_claims, after_owners}
-use Rattle.ffs_volume.specs.Report.Whole.{file_count, used_count}
+use Rattle.ffs_volume.specs.Report.Whole.{file_count, claimed_count}
 use Rattle.ffs_volume.specs.Blocks.Inodes.{is_file_or_dir, is_directory, is_allocated}
 use Rattle.std.proofs.Common.{◌-◌}
 use Rattle.std.specs.List.{range_with_len}
@@ -164,7 +164,7 @@ files_are v image kinds files n e len ks =
 
 pub used_are : (v : Layout) (image : List ℕ) (used : List Bool) (n : ℕ) →
     (HasReserved v used → n ≡ used_in v used) →
-    used ≡ (after_owners v (no_claims v) (owners_of v image)).used → n ≡ used_count v image
-unfolding used_count
+    used ≡ (after_owners v (no_claims v) (owners_of v image)).used → n ≡ claimed_count v image
+unfolding claimed_count
 used_are v image used n e same = e (subst (HasReserved v) (sym same) (has_reserved v (owners_of v image)))
     ∙ ap (used_in v) same

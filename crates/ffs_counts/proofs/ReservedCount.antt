@@ -9,7 +9,7 @@ use Rattle.std.proofs.lemmas.List.Sums.{sum_by-cons}
 use Rattle.std.proofs.lemmas.Nat.{mul-le}
 use Rattle.ffs_volume.specs.declared.Layout.{Layout}
 use Rattle.ffs_volume.specs.Disk.Areas.{cgbase, cgstart, cgsblock, cgdmin, is_group_metadata, is_reserved}
-use Rattle.ffs_volume.proofs.AreaLaws.{in_kept, is_kept_group, group_is}
+use Rattle.ffs_volume.proofs.AreaLaws.{is_in_metadata_of, is_metadata_of_group, group_is}
 use Rattle.ffs_volume.specs.Blocks.Claims.{is_set}
 use Rattle.ffs_volume.specs.Laws.Geometry.{IsAcceptedLayout}
 use Rattle.ffs_volume.specs.Groups.Records.{group_size}
@@ -62,9 +62,9 @@ first_reserved v f g h = elim (cases_lt f v.csaddr) [
   | inr past ↦ any_of _ _ (is_group_metadata v f) (inr (both_are _ _ (from_ v.csaddr f past) (before f _ h)))
 ]
 
-kept_in : (v : Layout) (c f : ℕ) → IsAcceptedLayout v → cgbase v c ≤ f → f < cgbase v (c + 1) →
-    is_group_metadata v f ≡ (nat_lt c v.ncg && in_kept v c f)
-kept_in v c f g low high = is_kept_group v f g ∙ ap (λ j. nat_lt j v.ncg && in_kept v j f) (group_is v c f low high)
+metadata_in : (v : Layout) (c f : ℕ) → IsAcceptedLayout v → cgbase v c ≤ f → f < cgbase v (c + 1) →
+    is_group_metadata v f ≡ (nat_lt c v.ncg && is_in_metadata_of v c f)
+metadata_in v c f g low high = is_metadata_of_group v f g ∙ ap (λ j. nat_lt j v.ncg && is_in_metadata_of v j f) (group_is v c f low high)
 
 pub base_zero : (v : Layout) → cgbase v 0 ≡ 0
 unfolding cgbase
@@ -78,7 +78,7 @@ first_free v f g low high =
     none_of _ _ (is_group_metadata v f)
     (not_before f (cgdmin v 0) (omega (arith, low, g.summary.csaddr)))
     (second_not _ _ (not_before f _ low))
-    (kept_in v 0 f g (omega (arith, base_zero v)) high
+    (metadata_in v 0 f g (omega (arith, base_zero v)) high
     ∙ second_not _ _ (second_not _ _ (not_before f (cgdmin v 0) (omega (arith, low, g.summary.csaddr)))))
 
 base_up : (v : Layout) (c : ℕ) → 1 ≤ c → cgbase v 1 ≤ cgbase v c
@@ -96,8 +96,8 @@ unfolding is_reserved
 group_reserved v c f g h low high =
     let group = g.groups c h in
     let kept : is_group_metadata v f ≡ true =
-    kept_in v c f g (omega (arith, parts_up v c, low)) (omega (arith, high, group.within_group))
-    ∙ both_are (nat_lt c v.ncg) (in_kept v c f) (before c v.ncg h)
+    metadata_in v c f g (omega (arith, parts_up v c, low)) (omega (arith, high, group.within_group))
+    ∙ both_are (nat_lt c v.ncg) (is_in_metadata_of v c f) (before c v.ncg h)
     (both_are (nat_le (cgsblock v c) f) (nat_lt f (cgdmin v c)) (from_ (cgsblock v c) f low)
     (before f (cgdmin v c) high)) in
     ap (λ k. (nat_lt f (cgdmin v 0) || (nat_le v.csaddr f && nat_lt f (v.csaddr + div_ceil v.cssize v.fsize))) || k)
@@ -115,7 +115,7 @@ group_free v c f g some low high apart =
     (not_before f (cgdmin v 0) (omega (arith, past_summary, g.summary.csaddr)))
     (second_not (nat_le v.csaddr f) (nat_lt f (v.csaddr + div_ceil v.cssize v.fsize))
     (not_before f (v.csaddr + div_ceil v.cssize v.fsize) past_summary))
-    (kept_in v c f g low high ∙ second_not (nat_lt c v.ncg) (in_kept v c f) (elim apart [
+    (metadata_in v c f g low high ∙ second_not (nat_lt c v.ncg) (is_in_metadata_of v c f) (elim apart [
       | inl under ↦ first_not (nat_le (cgsblock v c) f) (nat_lt f (cgdmin v c)) (not_from (cgsblock v c) f under)
       | inr past ↦ second_not (nat_le (cgsblock v c) f) (nat_lt f (cgdmin v c)) (not_before f (cgdmin v c) past)
     ]))

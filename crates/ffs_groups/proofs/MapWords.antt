@@ -208,9 +208,9 @@ word_is block place n word count found right bits h before is_found is_right =
     (λ k l. sym (ap (λ b. same_bit b (nat_eq (bit_at right k) 1)) (is_found k l ∙ moved_bit block place word k)
     ∙ ap (λ b. same_bit (map_bit block place (64 * word + k)) b) (is_right k l)))
 
-pub map_goes_on : (n word count : ℕ) (test : ℕ → Bool) → count ≡ min (n - 64 * word) 64 → 64 * word < n →
+pub map_continues : (n word count : ℕ) (test : ℕ → Bool) → count ≡ min (n - 64 * word) 64 → 64 * word < n →
     all_below (64 * word + count) test ≡ true → all_below (min (64 * (word + 1)) n) test ≡ true
-map_goes_on n word count test e h now =
+map_continues n word count test e h now =
     let at : min (64 * (word + 1)) n ≡ 64 * word + count = omega (arith, e, h) in
     ap (λ j. all_below j test) at ∙ now
 

@@ -27,7 +27,7 @@ min_left a b h e = omega arith
 min_zero : (a b : ℕ) → b ≡ 0 → min a b ≡ 0
 min_zero a b e = omega arith
 
--- the bit of a word at a place is set
+-- the bit of a word at an index is set
 abbrev pub set_in : ℕ → ℕ → Bool
 set_in word k = nat_eq (bit_at word k) 1
 

@@ -10,7 +10,7 @@ use Rattle.ffs_maps.specs.WordBits.{set_among}
 use Rattle.ffs_maps.proofs.Counting.{sum_split, none_counted, count_few}
 use Rattle.ffs_maps.proofs.Masks.{run_outside, run_inside}
 
--- the bit of a place, as a number
+-- the bit at an index, as a number
 abbrev is_one : List Bool → ℕ → ℕ
 is_one bits f = cond (slice_index_or bits f false) 1 0
 

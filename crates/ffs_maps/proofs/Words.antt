@@ -101,7 +101,7 @@ max_left a b e = omega arith
 max_right : (a b : ℕ) → a ≡ 0 → max a b ≡ b
 max_right a b e = omega arith
 
--- two words, put together at a place
+-- two words, put together at the bit of an index
 pub joined : (a b low k : ℕ) → a < 2 ^ 64 → low < 64 → k < 64 → k + low < 64 →
     bit_at (bit_or (a / 2 ^ low) (b * 2 ^ (64 - low) % 2 ^ 64)) k ≡ bit_at a (k + low)
 joined a b low k fits h hk inside =

@@ -13,7 +13,7 @@ use Rattle.ffs_walk.specs.declared.walk.Walk.{Walk}
 use Rattle.ffs_walk.specs.declared.blocks.Blocks.{Blocks}
 use Rattle.ffs_walk.specs.declared.window.Window.{Window}
 use Rattle.ffs_walk.specs.Windows.{BlocksHold, HasRoom}
-use Rattle.ffs_walk.specs.Rests.{IsOver, rest as steps_left}
+use Rattle.ffs_walk.specs.Rests.{IsOver, steps_left}
 use Rattle.ffs_names.specs.declared.chunks.Chunks.{Chunks}
 use Rattle.ffs_names.specs.Windows.{CanWalkDir, CanReadChunks}
 use Rattle.ffs_names.specs.Readings.{Continues, ContinuesTo, CountsOn}

@@ -9,7 +9,7 @@ use Rattle.ffs_volume.specs.Encodings.Replay.{Replay, is_replay_open, is_replaye
 use Rattle.ffs_volume.specs.Encodings.ReplayCounts.{replay_step_by_cut}
 use Rattle.ffs_volume.proofs.ReplayLaws.{counted_same}
 use Rattle.ffs_walk.specs.declared.walk.Walk.{Walk}
-use Rattle.ffs_walk.specs.Rests.{rest as steps_left}
+use Rattle.ffs_walk.specs.Rests.{steps_left}
 use Rattle.ffs_names.specs.declared.chunks.Chunks.{Chunks}
 use Rattle.ffs_names.specs.Readings.{gap_after, gap_left}
 

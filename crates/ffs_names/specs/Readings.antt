@@ -10,7 +10,7 @@ use Rattle.ffs_volume.specs.Blocks.Steps.{steps_of}
 use Rattle.ffs_volume.specs.Directories.Entries.{Chunk, chunk_of, chunks_of, has_gap, bytes_read}
 use Rattle.ffs_volume.specs.Encodings.Replay.{is_replay_open, fresh_replay, replayed_steps}
 use Rattle.ffs_volume.specs.Encodings.ReplayCounts.{replayed_runs}
-use Rattle.ffs_walk.specs.Rests.{rest as steps_left}
+use Rattle.ffs_walk.specs.Rests.{steps_left}
 use Rattle.ffs_image.specs.Device.{Device}
 use Rattle.ffs_image.specs.Reads.{ReadAfter}
 use Rattle.ffs_image.specs.declared.image.ImageFault.{ImageFault}

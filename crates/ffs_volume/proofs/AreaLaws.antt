@@ -38,16 +38,16 @@ group_is v c f low high = div-eq_of_lt-le {k = c} v.fpg {m = f} (omega (arith, m
     (omega (arith, mul_comm (c + 1) v.fpg))
 
 -- whether f is in the metadata of group c
-abbrev pub in_kept : Layout → ℕ → ℕ → Bool
-in_kept v c f = nat_le (cgsblock v c) f && nat_lt f (cgdmin v c)
+abbrev pub is_in_metadata_of : Layout → ℕ → ℕ → Bool
+is_in_metadata_of v c f = nat_le (cgsblock v c) f && nat_lt f (cgdmin v c)
 
--- only a fragment's own group can keep it
-pub is_kept_group : (v : Layout) (f : ℕ) → IsAcceptedLayout v →
-    is_group_metadata v f ≡ (nat_lt (f / v.fpg) v.ncg && in_kept v (f / v.fpg) f)
+-- a fragment can be metadata of its own group alone
+pub is_metadata_of_group : (v : Layout) (f : ℕ) → IsAcceptedLayout v →
+    is_group_metadata v f ≡ (nat_lt (f / v.fpg) v.ncg && is_in_metadata_of v (f / v.fpg) f)
 unfolding is_group_metadata cgstart
-is_kept_group v f g = some_below-only v.ncg (f / v.fpg) (λ c. in_kept v c f) only
+is_metadata_of_group v f g = some_below-only v.ncg (f / v.fpg) (λ c. is_in_metadata_of v c f) only
   where
-    only : (c : ℕ) → c < v.ncg → in_kept v c f ≡ true → c ≡ f / v.fpg
+    only : (c : ℕ) → c < v.ncg → is_in_metadata_of v c f ≡ true → c ≡ f / v.fpg
     only c h e =
         let group = g.groups c h in
         let low : cgsblock v c ≤ f = grind (arith, nat_tests) in
@@ -76,11 +76,11 @@ copy_inside v g =
     mul-le-mul_right v.fsize ends in
     omega arith
 
--- no fragment from size on is kept
-pub kept_below : (v : Layout) (f : ℕ) → IsAcceptedLayout v → v.size ≤ f → is_group_metadata v f ≡ false
-kept_below v f g h = rw (is_kept_group v f g) (away (nat_lt (f / v.fpg) v.ncg) refl)
+-- no fragment from size on is a group's metadata
+pub no_metadata_past_size : (v : Layout) (f : ℕ) → IsAcceptedLayout v → v.size ≤ f → is_group_metadata v f ≡ false
+no_metadata_past_size v f g h = rw (is_metadata_of_group v f g) (away (nat_lt (f / v.fpg) v.ncg) refl)
   where
-    away : (b : Bool) → nat_lt (f / v.fpg) v.ncg ≡ b → (b && in_kept v (f / v.fpg) f) ≡ false
+    away : (b : Bool) → nat_lt (f / v.fpg) v.ncg ≡ b → (b && is_in_metadata_of v (f / v.fpg) f) ≡ false
     away false e = refl
     away true e =
         let lt : f / v.fpg < v.ncg = grind (arith, nat_tests) in

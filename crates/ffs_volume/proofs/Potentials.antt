@@ -98,7 +98,7 @@ offer_few_kept v s f h =
       most = omega arith;
     })
 
--- an ok offer that is kept weighs
+-- an offer in range that is kept raises the potential
 offer_few_runs : (v : Layout) (s : Claims) (f : ℕ) → length s.used ≡ v.size → nat_lt s.dups 11 ≡ true →
     is_fragment_in_range v f ≡ true →
     potential s + 1 ≤ potential (after_offer v s f)
@@ -109,7 +109,7 @@ offer_few_runs v s f h more_dups ok =
     (λ set. omega arith)
     (λ clear. omega (arith, count_set s.used f below clear)))
 
--- and weighs as much as it is kept
+-- and an offer in range is kept no more often than it raises the potential of kept offers
 offer_level : (v : Layout) (s : Claims) (f : ℕ) → length s.used ≡ v.size → is_fragment_in_range v f ≡ true →
     (after_offer v s f).kept + offers_potential s ≤ s.kept + offers_potential (after_offer v s f)
 offer_level v s f h ok =

@@ -11,7 +11,7 @@ use Rattle.ffs_volume.specs.Disk.Areas.{cgbase, cgsblock, cgdmin, is_group_metad
 use Rattle.ffs_volume.specs.Disk.Areas.{is_run_in_range}
 use Rattle.ffs_volume.specs.Laws.Geometry.{IsAcceptedLayout}
 use Rattle.ffs_volume.proofs.GeometryLaws.{all_below-at}
-use Rattle.ffs_volume.proofs.AreaLaws.{in_kept, is_kept_group, group_below, group_is}
+use Rattle.ffs_volume.proofs.AreaLaws.{is_in_metadata_of, is_metadata_of_group, group_below, group_is}
 
 -- the run of `len` fragments from `start` ends in the volume and in its group, and is before the kept part or after it
 abbrev pub is_apart : Layout → ℕ → ℕ → Bool
@@ -34,7 +34,7 @@ module _ (v : Layout) (g : IsAcceptedLayout v) (start len : ℕ) where
   unfolding cgbase
   base_low = mul-div-le start v.fpg
 
-  -- what is apart fits at each place
+  -- what is apart fits at each index
   apart_fits : is_apart v start len ≡ true → (k : ℕ) → k < len → fits v start k ≡ true
   unfolding is_fragment_in_range
   apart_fits h k lt =
@@ -43,24 +43,24 @@ module _ (v : Layout) (g : IsAcceptedLayout v) (start len : ℕ) where
       let low = base_low in
       let same : (start + k) / v.fpg ≡ start / v.fpg =
       group_is v (start / v.fpg) (start + k) (omega arith) (omega arith) in
-      let kept = is_kept_group v (start + k) g in
-      let free : in_kept v (start / v.fpg) (start + k) ≡ false = grind (arith, nat_tests) in
-      let open_is : is_group_metadata v (start + k) ≡ false = grind (arith, nat_tests, kept, same, free) in
+      let metadata = is_metadata_of_group v (start + k) g in
+      let free : is_in_metadata_of v (start / v.fpg) (start + k) ≡ false = grind (arith, nat_tests) in
+      let open_is : is_group_metadata v (start + k) ≡ false = grind (arith, nat_tests, metadata, same, free) in
       grind (arith, nat_tests)
 
-  -- a fragment that fits is below size, of the run's group, and not kept by it
+  -- a fragment that fits is below size, of the run's group, and not metadata of it
   fit_facts : (k : ℕ) → fits v start k ≡ true → (start + k < v.size) × ((start + k) / v.fpg ≡ start / v.fpg)
-      × (in_kept v (start / v.fpg) (start + k) ≡ false)
+      × (is_in_metadata_of v (start / v.fpg) (start + k) ≡ false)
   unfolding is_fragment_in_range
   fit_facts k h =
       let below : start + k < v.size = grind (arith, nat_tests) in
       let same : (start + k) / v.fpg ≡ start / v.fpg = grind (arith, nat_tests) in
       let free : is_group_metadata v (start + k) ≡ false = grind (arith, nat_tests) in
-      let kept = is_kept_group v (start + k) g in
+      let metadata = is_metadata_of_group v (start + k) g in
       let group = group_below v (start + k) g below in
-      (below, same, grind (arith, nat_tests, kept, same, free, group))
+      (below, same, grind (arith, nat_tests, metadata, same, free, group))
 
-  -- what fits at each place is apart
+  -- what fits at each index is apart
   fits_apart : 0 < len → ((k : ℕ) → k < len → fits v start k ≡ true) → is_apart v start len ≡ true
   unfolding cgbase
   fits_apart some h =

@@ -18,7 +18,7 @@ use Rattle.ffs_volume.specs.Laws.Geometry.{IsAcceptedLayout}
 use Rattle.ffs_walk.specs.Windows.{WindowHolds}
 use Rattle.ffs_workspace.specs.declared.table.Table.{Table}
 use Rattle.ffs_workspace.specs.Tables.{DividesBlock, DividesBlocks, table_place}
-use Rattle.ffs_workspace.specs.Tables.{HasInode, IsInPlace, IsTableOf, IsHeldAt}
+use Rattle.ffs_workspace.specs.Tables.{HoldsInode, IsInPlace, IsTableOf, IsHeldAt}
 
 -- a block holds whole inodes
 block_whole : (n : ℕ) → is_block_size n ≡ true → 128 * (n / 128) ≡ n
@@ -148,7 +148,7 @@ in_block x y ipg n some filled whole low high =
 -- the piece of x has each of its inodes in its place
 pub inodes_there : (v : Layout) (n x : ℕ) (t : Table) → IsAcceptedLayout v → DividesBlock v n →
     t.first ≡ x - x % v.ipg % n → t.count ≡ n → t.window.place ≡ table_place v n x → t.window.length ≡ n * 128 →
-    (y : ℕ) → HasInode t y → IsInPlace v t y
+    (y : ℕ) → HoldsInode t y → IsInPlace v t y
 inodes_there v n x t g d first count place length y has =
     let low : x - x % v.ipg % n ≤ y = omega arith in
     let high : y < x - x % v.ipg % n + n = omega arith in
@@ -168,7 +168,7 @@ piece_of place length at n bytes h =
 
 -- the bytes of an inode that is in its place
 pub held_there : (v : Layout) (contents : Option (List ℕ)) (x : ℕ) (t : Table) → IsTableOf v t →
-    WindowHolds contents t.window → HasInode t x → IsHeldAt v contents t x (128 * (x - t.first))
+    WindowHolds contents t.window → HoldsInode t x → IsHeldAt v contents t x (128 * (x - t.first))
 held_there v contents x t made holds has =
     let in_place = made.inodes x has in
     let at = 128 * (x - t.first) in

@@ -20,7 +20,7 @@ use Rattle.ffs_volume.specs.Directories.Graph.{parent}
 use Rattle.ffs_volume.specs.Directories.Parents.{graph_of, is_first_naming_entry, is_parent_entry}
 use Rattle.ffs_volume.specs.Directories.Paths.{dir_path, entry_path}
 use Rattle.ffs_volume.specs.Messages.Kinds.{TreeMessage, reported, lines_below, root_none, root_not_dir}
-use Rattle.ffs_volume.specs.Messages.Kinds.{root_suspect, dir_short, dir_length, dir_gap, dir_corrupt}
+use Rattle.ffs_volume.specs.Messages.Kinds.{root_suspect, dir_short, dir_length, dir_empty, dir_corrupt}
 use Rattle.ffs_volume.specs.Messages.Kinds.{missing_dot, missing_dot_first, number_dot, kind_dot}
 use Rattle.ffs_volume.specs.Messages.Kinds.{missing_dotdot, missing_dotdot_second, number_dotdot}
 use Rattle.ffs_volume.specs.Messages.Kinds.{kind_dotdot, extra_dot, extra_dotdot, out_of_range, whiteout}
@@ -80,7 +80,7 @@ unfoldable pub shape_lines : Volume → ℕ → List TreeMessage
 shape_lines vol d =
     reported (is_short vol d) (dir_short (attributes vol d) (dir_path (graph_of vol) d))
     ++ (reported (has_partial_chunk vol d) (dir_length (dir_path (graph_of vol) d) (vol.inode d).size)
-    ++ (reported (vol.gap d) (dir_gap (dir_path (graph_of vol) d))
+    ++ (reported (vol.gap d) (dir_empty (dir_path (graph_of vol) d))
     ++ reported (not (are_sound (vol.chunks d))) (dir_corrupt (attributes vol d) (dir_path (graph_of vol) d))))
 
 -- the message where there is no `.`, by the entry that is first; it shows the name of a live entry other than `..`

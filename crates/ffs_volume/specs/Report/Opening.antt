@@ -6,7 +6,6 @@ use Rattle.ffs_volume.specs.declared.SuperFault.TheVariants.{CannotRead, Magic, 
 use Rattle.ffs_volume.specs.declared.SuperFault.TheVariants.{Ncyl, TooLarge, Shape, Short, Disagree}
 use Rattle.ffs_volume.specs.Messages.Kinds.{Message, location, opening, mounted}
 use Rattle.ffs_volume.specs.Messages.Kinds.{bad_super, cannot_read, optimization, minfree, unless}
-pub use Rattle.ffs_volume.specs.Messages.Kinds.{unless as message_unless}
 use Rattle.ffs_volume.specs.Disk.Superblock.{Superblock}
 use Rattle.ffs_volume.specs.Disk.Outcome.{outcome}
 

@@ -1,7 +1,7 @@
 use Rattle.std.proofs.Common.{arith, refl, ◌≡◌, ◌==◌, ◌<◌, ◌∙◌, ap, sym, List, ◌++◌, ◌∷◌, true, false, not, replicate}
 use Rattle.std.specs.Prelude.{◌&&◌}
 use Rattle.std.proofs.lemmas.Result.{err_from_is_err_and}
-use Rattle.ffs_walk.specs.Rests.{rest}
+use Rattle.ffs_walk.specs.Rests.{steps_left}
 use Rattle.ffs_walk.proofs.Counted.{top_held, top_unread}
 use Rattle.ffs_maps.proofs.Bits.{length_bits, bits_long}
 use Rattle.ffs_volume.specs.declared.Step.{Step}
@@ -146,7 +146,7 @@ returns-in_err-seen-clause-claiming g c =
           _ _ _ inv.said
           (lines_on _ v c.args.number (claims_of c.loop-next.workspace)
           (after_step v (claims_of c.loop-next.workspace) c.in-Some.next)
-          (λ bytes. rest bytes c.loop-next.walk) (λ bytes. rest bytes c.next.new.self) c.in-Some.next next refl)
+          (λ bytes. steps_left bytes c.loop-next.walk) (λ bytes. steps_left bytes c.next.new.self) c.in-Some.next next refl)
           c.in_err-seen.ensures.claiming.said;
       claims = tt;
       left = record {
@@ -194,7 +194,7 @@ loop-next-preserved-then-matches g c =
     let ready = ready_walked c.args.geometry.now _ _ _ c.loop-next.workspace c.next.new.blocks inv.geometry ok
     c.next.ensures.leaves.kept.size c.next.ensures.leaves.kept.holds inv.ready in
     let gaps : ForBytes (IsContents (g.I.Image.device c.args.image.now).contents)
-    (λ bytes. rest bytes c.next.new.self ≡ replicate c.skip_gaps.result Gap ++ rest bytes c.skip_gaps.new.self) =
+    (λ bytes. steps_left bytes c.next.new.self ≡ replicate c.skip_gaps.result Gap ++ steps_left bytes c.skip_gaps.new.self) =
     λ bytes t. c.skip_gaps.ensures.steps (g.I.Image.device c.next.new.image).contents
     (rw (c.in_ok-next.ensures.same.geometry ∙ inv.geometry) ready.windows.blocks) bytes
     (ap (λ d. d.contents) (ok ∙ inv.device) ∙ t) in
@@ -211,11 +211,11 @@ loop-next-preserved-then-matches g c =
           omega (arith, paid, inv.counted, c.skip_gaps.ensures.counted.unread);
       moves = inv.moves;
       claims = λ bytes t. sym (ap (after_steps v s) (next bytes t ∙ ap (λ (xs : List Step). Gap ∷ xs) (gaps bytes t))
-          ∙ gaps_stay v s c.skip_gaps.result (rest bytes c.skip_gaps.new.self)) ∙ inv.claims bytes t;
+          ∙ gaps_stay v s c.skip_gaps.result (steps_left bytes c.skip_gaps.new.self)) ∙ inv.claims bytes t;
       said = of_same _ _ _ _ _ _ inv.said (λ bytes t. ap (λ (xs : List Step).
           of_lines (lines_of_steps v c.args.number s xs))
           (next bytes t ∙ ap (λ (xs : List Step). Gap ∷ xs) (gaps bytes t))
-          ∙ ap of_lines (gaps_silent v c.args.number s c.skip_gaps.result (rest bytes c.skip_gaps.new.self)));
+          ∙ ap of_lines (gaps_silent v c.args.number s c.skip_gaps.result (steps_left bytes c.skip_gaps.new.self)));
     }
 
 pub claim_words-requires-clause-geometry : goal.claim_words-requires-clause-geometry
@@ -266,8 +266,8 @@ loop-next-preserved g c =
     let claimed : IsReady v (g.I.Image.device c.next.new.image) c.step.new.workspace =
     ready_still v _ _ _ c.step.ensures.claiming.left.only.made c.step.ensures.claiming.left.only.windows read in
     let image = (g.I.Image.device c.next.new.image).contents in
-    let before = claims_on _ v (claims_of c.loop-next.workspace) s (λ bytes. rest bytes c.loop-next.walk)
-    (λ bytes. rest bytes c.next.new.self) _ (λ bytes. after_steps v (claims_of c.args.workspace.now)
+    let before = claims_on _ v (claims_of c.loop-next.workspace) s (λ bytes. steps_left bytes c.loop-next.walk)
+    (λ bytes. steps_left bytes c.next.new.self) _ (λ bytes. after_steps v (claims_of c.args.workspace.now)
     (steps_of v c.args.inode.now bytes)) c.in-Some.next
     next c.in_ok-seen.ensures.claiming.claims.claims_are inv.claims (λ bytes t. refl) in
     record {
@@ -288,8 +288,8 @@ loop-next-preserved g c =
       claims = λ bytes t. words.claims image claimed.windows.blocks bytes (ap (λ d. d.contents) (ok ∙ inv.device) ∙ t)
           ∙ before bytes t;
       said = of_same _ _ _ _ _ _
-          (steps_said _ v c.args.number (claims_of c.loop-next.workspace) s (λ bytes. rest bytes c.loop-next.walk)
-          (λ bytes. rest bytes c.next.new.self) _ _ c.in-Some.next _ _ _
+          (steps_said _ v c.args.number (claims_of c.loop-next.workspace) s (λ bytes. steps_left bytes c.loop-next.walk)
+          (λ bytes. steps_left bytes c.next.new.self) _ _ c.in-Some.next _ _ _
           inv.said next c.in_ok-seen.ensures.claiming.claims.claims_are (λ bytes t. refl)
           c.in_ok-seen.ensures.claiming.said)
           (λ bytes t. ap of_lines (sym (words.lines image claimed.windows.blocks bytes
@@ -308,14 +308,14 @@ returns-then-not-seen-clause-claiming g c =
     let read = ready_walked c.args.geometry.now _ _ _ c.loop-next.workspace c.next.new.blocks inv.geometry ok
     c.next.ensures.leaves.kept.size c.next.ensures.leaves.kept.holds inv.ready in
     record {
-      text = steps_said _ v c.args.number (claims_of c.loop-next.workspace) s (λ bytes. rest bytes c.loop-next.walk)
-          (λ bytes. rest bytes c.next.new.self) _ _ c.in-Some.next _ _ _
+      text = steps_said _ v c.args.number (claims_of c.loop-next.workspace) s (λ bytes. steps_left bytes c.loop-next.walk)
+          (λ bytes. steps_left bytes c.next.new.self) _ _ c.in-Some.next _ _ _
           inv.said next c.in_ok-seen.ensures.claiming.claims.claims_are (λ bytes t. cut_silent v c.args.number
-          (claims_of c.step.new.workspace) (rest bytes c.next.new.self) cut) c.in_ok-seen.ensures.claiming.said;
-      claims = claims_on _ v (claims_of c.loop-next.workspace) s (λ bytes. rest bytes c.loop-next.walk)
-          (λ bytes. rest bytes c.next.new.self) _ _ c.in-Some.next
+          (claims_of c.step.new.workspace) (steps_left bytes c.next.new.self) cut) c.in_ok-seen.ensures.claiming.said;
+      claims = claims_on _ v (claims_of c.loop-next.workspace) s (λ bytes. steps_left bytes c.loop-next.walk)
+          (λ bytes. steps_left bytes c.next.new.self) _ _ c.in-Some.next
           next c.in_ok-seen.ensures.claiming.claims.claims_are inv.claims
-          (λ bytes t. cut_stays v s (rest bytes c.next.new.self) cut);
+          (λ bytes t. cut_stays v s (steps_left bytes c.next.new.self) cut);
       left = record {
         image = ok ∙ inv.device;
         moves = moves_on v (claims_of c.args.workspace.now) (claims_of c.loop-next.workspace)

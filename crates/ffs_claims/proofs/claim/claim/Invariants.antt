@@ -6,7 +6,7 @@ use Rattle.ffs_report.specs.Runs.{SaidOf}
 use Rattle.ffs_volume.specs.Blocks.Steps.{steps_of}
 use Rattle.ffs_volume.specs.Blocks.Claims.{after_steps, lines_of_steps, is_open}
 use Rattle.ffs_volume.specs.Laws.ClaimBounds.{ClaimBound}
-use Rattle.ffs_walk.specs.Rests.{rest, left}
+use Rattle.ffs_walk.specs.Rests.{steps_left, most_steps_left}
 use Rattle.ffs_workspace.specs.Holds.{claims_of}
 use Rattle.ffs_workspace.specs.Ready.{IsReady}
 use Rattle.ffs_claims.specs.Leaves.{SameFound}
@@ -27,14 +27,14 @@ invariant-loop-next g l = record {
       ≤ g.I.Image.reads l.initial.image + l.workspace.runs_seen;
   moves : ClaimBound (claims_of l.initial.workspace) (claims_of l.workspace);
   claims : ForBytes (IsContents (g.I.Image.device l.initial.image).contents) (λ bytes.
-      after_steps l.geometry.layout (claims_of l.workspace) (rest bytes l.walk)
+      after_steps l.geometry.layout (claims_of l.workspace) (steps_left bytes l.walk)
       ≡ after_steps l.geometry.layout (claims_of l.initial.workspace) (steps_of l.geometry.layout l.inode bytes));
   said : SaidOf (IsContents (g.I.Image.device l.initial.image).contents)
-      (λ bytes. of_lines (lines_of_steps l.geometry.layout l.number (claims_of l.workspace) (rest bytes l.walk)))
+      (λ bytes. of_lines (lines_of_steps l.geometry.layout l.number (claims_of l.workspace) (steps_left bytes l.walk)))
       (λ bytes. of_lines (lines_of_steps l.geometry.layout l.number (claims_of l.initial.workspace)
       (steps_of l.geometry.layout l.inode bytes)))
       (progress g.W.Output.sink l.initial.report) (progress g.W.Output.sink l.report);
 }
 
 abbrev pub decreases-loop-next : goal.decreases-loop-next
-decreases-loop-next g l = left l.walk
+decreases-loop-next g l = most_steps_left l.walk

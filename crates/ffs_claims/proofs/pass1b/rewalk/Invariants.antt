@@ -8,7 +8,7 @@ use Rattle.ffs_report.specs.Runs.{SaidOf}
 use Rattle.ffs_maps.specs.Bits.{bits_of}
 use Rattle.ffs_walk.specs.Counts.{AreHeld, unread}
 use Rattle.ffs_walk.specs.Keepings.{replay_in}
-use Rattle.ffs_walk.specs.Rests.{rest, left}
+use Rattle.ffs_walk.specs.Rests.{steps_left, most_steps_left}
 use Rattle.ffs_workspace.specs.Lengths.{set_count}
 use Rattle.ffs_workspace.specs.Ready.{IsReady}
 use Rattle.ffs_claims.specs.Lines.{of_lines}
@@ -32,14 +32,14 @@ invariant-loop-next g l = record {
       l.initial.workspace.runs_again l.workspace.runs_again;
   walk : ForBytes (IsContents (g.I.Image.device l.initial.image).contents) (λ bytes.
       Rewalking l.geometry.layout l.number l.cut (steps_of l.geometry.layout l.inode bytes) (replay_in l.keeping)
-      (rest bytes l.walk) l.initial.workspace l.workspace);
+      (steps_left bytes l.walk) l.initial.workspace l.workspace);
   said : SaidOf (IsContents (g.I.Image.device l.initial.image).contents)
       (λ bytes. of_lines (first_offer_lines (bits_of l.workspace.duplicates)
-      (offers_again l.geometry.layout l.number l.cut (replay_in l.keeping) (rest bytes l.walk))))
+      (offers_again l.geometry.layout l.number l.cut (replay_in l.keeping) (steps_left bytes l.walk))))
       (λ bytes. of_lines (first_offer_lines (bits_of l.initial.workspace.duplicates)
       (offers_again l.geometry.layout l.number l.cut fresh_replay (steps_of l.geometry.layout l.inode bytes))))
       (progress g.W.Output.sink l.initial.report) (progress g.W.Output.sink l.report);
 }
 
 abbrev pub decreases-loop-next : goal.decreases-loop-next
-decreases-loop-next g l = left l.walk
+decreases-loop-next g l = most_steps_left l.walk

@@ -2,7 +2,7 @@ use Rattle.std.proofs.Common.{refl, sym, ap, ◌∙◌, ◌∷◌, false, List, 
 use Rattle.std.proofs.lemmas.Result.{err_from_is_err_and}
 use Rattle.ffs_volume.specs.declared.Step.{Step}
 use Rattle.ffs_volume.specs.declared.Step.TheVariants.{Run}
-use Rattle.ffs_walk.specs.Rests.{rest}
+use Rattle.ffs_walk.specs.Rests.{steps_left}
 use Rattle.ffs_walk.specs.Keepings.{replay_in}
 use Rattle.ffs_names.specs.Readings.{gap_after}
 use Rattle.ffs_names.proofs.GapsLeft.{gap_over_tail, gap_seen, gap_to_run, gap_past_run, gap_unseen}
@@ -44,10 +44,10 @@ steps-preserved-in-Some-Run g c =
           c.next.ensures.leaves.kept.size c.next.ensures.leaves.kept.holds;
       gap = λ b t. inv.gap b t
           ∙ (sym (gap_to_run s.walk.geometry.layout w.geometry.layout s.keeping.cut (replay_in s.keeping) false r.start
-          r.len r._block (rest b s.walk) (rest b w)
+          r.len r._block (steps_left b s.walk) (steps_left b w)
           (ap (λ x. x.layout) c.next.ensures.same.geometry) (read b (ap (λ d. d.contents) inv.same ∙ t)))
           ∙ sym (gap_past_run w.geometry.layout s.keeping.cut c.take-taken.new.self.cut (replay_in s.keeping)
-          (replay_in c.take-taken.new.self) (rest b w) r.start r.len r._block false
+          (replay_in c.take-taken.new.self) (steps_left b w) r.start r.len r._block false
           (c.take-taken.ensures.replays w.geometry.layout r.start r._block c.in_range-in_range.ensures).after
           c.take-taken.ensures.cut));
       held = λ u h.
@@ -59,11 +59,11 @@ steps-preserved-in-Some-Run g c =
           };
       reads = λ u h b t.
           let paid = rw r.field-0-is at (rw r.is at (c.in_ok-next.ensures.counted (inv.held u h).frames).paid) in
-          let run = Run r.start r.len r._block ∷ rest b w in
-          let e = runs_on s.walk.geometry.layout w.geometry.layout s.keeping.cut (replay_in s.keeping) (rest b s.walk) run
+          let run = Run r.start r.len r._block ∷ steps_left b w in
+          let e = runs_on s.walk.geometry.layout w.geometry.layout s.keeping.cut (replay_in s.keeping) (steps_left b s.walk) run
           (ap (λ x. x.layout) c.next.ensures.same.geometry) (read b (ap (λ d. d.contents) inv.same ∙ t)) in
           let one = run_counts w.geometry.layout s.keeping.cut c.take-taken.new.self.cut (replay_in s.keeping)
-          (replay_in c.take-taken.new.self) (rest b w) r.start r.len r._block
+          (replay_in c.take-taken.new.self) (steps_left b w) r.start r.len r._block
           (sym c.is_replay_open.ensures ∙ c.steps-test.true)
           (c.take-taken.ensures.replays w.geometry.layout r.start r._block c.in_range-in_range.ensures).after
           c.take-taken.ensures.cut in
@@ -91,7 +91,7 @@ steps-preserved g c =
           c.next.ensures.leaves.kept.size c.next.ensures.leaves.kept.holds;
       gap = λ b t. inv.gap b t
           ∙ sym (gap_over_tail s.walk.geometry.layout w.geometry.layout s.keeping.cut (replay_in s.keeping) false
-          (rest b s.walk) (rest b w)
+          (steps_left b s.walk) (steps_left b w)
           (ap (λ x. x.layout) c.next.ensures.same.geometry) (read b (ap (λ d. d.contents) inv.same ∙ t)));
       held = λ u h. let old = inv.held u h in record {
         frames = (c.in_ok-next.ensures.counted old.frames).held;
@@ -99,8 +99,8 @@ steps-preserved g c =
       };
       reads = λ u h b t.
           let paid = rw r.field-0-is at (rw r.is at (c.in_ok-next.ensures.counted (inv.held u h).frames).paid) in
-          let e = runs_tail s.walk.geometry.layout w.geometry.layout s.keeping.cut (replay_in s.keeping) (rest b s.walk)
-          (rest b w) (ap (λ x. x.layout) c.next.ensures.same.geometry) (read b (ap (λ d. d.contents) inv.same ∙ t)) in
+          let e = runs_tail s.walk.geometry.layout w.geometry.layout s.keeping.cut (replay_in s.keeping) (steps_left b s.walk)
+          (steps_left b w) (ap (λ x. x.layout) c.next.ensures.same.geometry) (read b (ap (λ d. d.contents) inv.same ∙ t)) in
           omega (arith, paid, e, inv.reads u h b t);
     }
 
@@ -110,8 +110,8 @@ returns-in-Some-Gap-clause-gap g c = λ b t.
     let s = c.steps.chunks in
     let r = c.in-Some-Gap in
     let read = rw r.field-0-is at (rw r.is at c.in_ok-next.ensures.step.steps) in
-    gap_seen s.walk.geometry.layout s.walk.geometry.layout s.keeping.cut (replay_in s.keeping) false (rest b s.walk)
-    (rest b c.next.new.self)
+    gap_seen s.walk.geometry.layout s.walk.geometry.layout s.keeping.cut (replay_in s.keeping) false (steps_left b s.walk)
+    (steps_left b c.next.new.self)
     (sym c.is_replay_open.ensures ∙ c.steps-test.true) (read b (ap (λ d. d.contents) inv.same ∙ t))
     ∙ sym (inv.gap b t)
 
@@ -119,7 +119,7 @@ pub returns-clause-gap : goal.returns-clause-gap
 returns-clause-gap g c = λ b t.
     let inv = c.steps.invariant in
     let s = c.steps.chunks in
-    sym (inv.gap b t ∙ gap_unseen s.walk.geometry.layout s.keeping.cut (replay_in s.keeping) (rest b s.walk)
+    sym (inv.gap b t ∙ gap_unseen s.walk.geometry.layout s.keeping.cut (replay_in s.keeping) (steps_left b s.walk)
     (sym c.is_replay_open.ensures ∙ c.steps-test.false))
 
 pub returns-in-None-clause-gap : goal.returns-in-None-clause-gap
@@ -256,7 +256,7 @@ returns-in-None-clause-reads g c = λ u h b t.
     let counted = c.in_ok-next.ensures.counted (inv.held u h).frames in
     let paid = rw c.in-None.is at counted.paid in
     let none = c.in_ok-next.ensures.step.over c.in-None.is in
-    let o = replayed_over b c.next.new.self s.walk.geometry.layout s.keeping.cut (replay_in s.keeping) (rest b s.walk)
+    let o = replayed_over b c.next.new.self s.walk.geometry.layout s.keeping.cut (replay_in s.keeping) (steps_left b s.walk)
     none in
     record {
       most = omega (arith, paid, inv.reads u h b t);
@@ -273,8 +273,8 @@ returns-in-Some-Gap-clause-reads g c = λ u h b t.
     let read = rw r.field-0-is at (rw r.is at c.in_ok-next.ensures.step.steps) in
     let counted = c.in_ok-next.ensures.counted (inv.held u h).frames in
     let paid = rw r.field-0-is at (rw r.is at counted.paid) in
-    let e = runs_gap s.walk.geometry.layout w.geometry.layout s.keeping.cut (replay_in s.keeping) (rest b s.walk)
-    (rest b w) (ap (λ x. x.layout) c.next.ensures.same.geometry) (read b (ap (λ d. d.contents) inv.same ∙ t)) in
+    let e = runs_gap s.walk.geometry.layout w.geometry.layout s.keeping.cut (replay_in s.keeping) (steps_left b s.walk)
+    (steps_left b w) (ap (λ x. x.layout) c.next.ensures.same.geometry) (read b (ap (λ d. d.contents) inv.same ∙ t)) in
     record {
       most = omega (arith, paid, inv.reads u h b t);
       paid = omega (arith, paid, e, inv.reads u h b t);

@@ -1,6 +1,6 @@
 use Rattle.std.proofs.Common.{◌≡◌, ◌≤◌, ◌+◌}
 use Rattle.ffs_image.specs.Device.{ForContents}
-use Rattle.ffs_walk.specs.Rests.{left}
+use Rattle.ffs_walk.specs.Rests.{most_steps_left}
 use Rattle.ffs_walk.specs.declared.window.Window.{Window}
 use Rattle.ffs_names.specs.Costs.{HoldsReading, to_read}
 use Rattle.ffs_names.specs.Windows.{CanWalkDir}
@@ -19,4 +19,4 @@ invariant-steps g l = let device = g.I.Image.device in record {
 }
 
 abbrev pub decreases-steps : goal.decreases-steps
-decreases-steps g l = left l.chunks.walk
+decreases-steps g l = most_steps_left l.chunks.walk

@@ -2,7 +2,7 @@ use Rattle.std.proofs.Common.{◌≡◌, ◌∙◌, ◌∷◌, ◌++◌, ℕ, Li
 use Rattle.std.proofs.lemmas.Result.{err_from_is_err_and}
 use Rattle.ffs_volume.specs.declared.Step.{Step}
 use Rattle.ffs_volume.specs.declared.Step.TheVariants.{Run, Gap}
-use Rattle.ffs_walk.specs.Rests.{rest as steps_left}
+use Rattle.ffs_walk.specs.Rests.{steps_left}
 use Rattle.ffs_names.specs.Windows.{CanWalkDir}
 use Rattle.ffs_walk.specs.Keepings.{replay_in}
 use Rattle.ffs_names.proofs.Advances.{over_rest, unseen_none, steps_on, end_none, tail_on, gaps_on, runs_on, runs_tail}

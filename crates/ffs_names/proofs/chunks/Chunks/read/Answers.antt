@@ -2,7 +2,7 @@ use Rattle.std.proofs.Common.{◌∙◌, ◌+◌, ◌*◌, ap, sym, arith}
 use Rattle.std.proofs.lemmas.Result.{err_from_is_err_and}
 use Rattle.ffs_volume.specs.Disk.Numbers.{piece}
 use Rattle.ffs_walk.specs.Windows.{held_bytes}
-use Rattle.ffs_walk.specs.Rests.{rest as steps_left}
+use Rattle.ffs_walk.specs.Rests.{steps_left}
 use Rattle.ffs_names.specs.Readings.{all_chunks, chunks_after}
 use Rattle.ffs_names.proofs.Pieces.{chunk_held, hand_step}
 use Rattle.ffs_names.proofs.ReadCounts.{given_one, run_paid}
