@@ -110,6 +110,7 @@ survey-surveyed-requires-clause-lists g c = record {
   named = search (rules, arith);
   reached = search (rules, arith);
   parents = search (rules, arith);
+  calm = search (rules, arith);
   queue = search (rules, arith);
 }
 
