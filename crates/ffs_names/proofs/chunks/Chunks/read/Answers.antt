@@ -32,7 +32,7 @@ pub returns-then-not-branch-clause-chunk : goal.returns-then-not-branch-clause-c
 returns-then-not-branch-clause-chunk g c = λ b t.
     let went = c.in_ok-advance.ensures.continues b t in
     let none = (rw c.if-not-branch.true at c.in_ok-advance.ensures.found) b t in
-    record { chunks = (sym went.chunks ∙ none, none); runs = went.runs; gap = went.gap }
+    record { chunks = (sym went.chunks ∙ none.chunks, none.chunks); runs = went.runs; gap = went.gap }
 
 pub returns-clause-place : goal.returns-clause-place
 returns-clause-place g c = λ b t.
