@@ -31,11 +31,11 @@ returns-clause-ready g c =
     let device = g.I.Image.device in
     let begun = c.in_ok-chunks.ensures in
     let went = c.note_chunks.ensures.leaves in
-    ready_noted c.args.geometry.now.layout (device c.args.image.now) (device c.chunks_of.new.image)
-    (device c.note_chunks.new.image) c.args.workspace.now c.chunks_of.new.table c.note_chunks.new.blocks
-    c.note_chunks.new.data c.note_chunks.new.words (ap (λ d. d.contents) begun.leaves.read) begun.leaves.kept
-    (contents_kept _ _ c.note_chunks.result went.read) (rw begun.geometry at went.ready) c.note_chunks.ensures.long
-    c.requires.ready
+    rw c.note_chunks.ensures.others (ready_noted c.args.geometry.now.layout (device c.args.image.now)
+    (device c.chunks_of.new.image) (device c.note_chunks.new.image) c.args.workspace.now c.chunks_of.new.table
+    c.note_chunks.new.windows.blocks c.note_chunks.new.windows.chunk c.note_chunks.new.words
+    (ap (λ d. d.contents) begun.leaves.read) begun.leaves.kept (contents_kept _ _ c.note_chunks.result went.read)
+    (rw begun.geometry at went.ready) c.note_chunks.ensures.long c.requires.ready)
 
 pub returns-clause-reads : goal.returns-clause-reads
 returns-clause-reads g c = λ b t claims dir.
