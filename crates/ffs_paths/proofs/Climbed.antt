@@ -8,6 +8,7 @@ use Rattle.ffs_volume.specs.Directories.Parents.{graph_of}
 use Rattle.ffs_volume.specs.Directories.Paths.{joined}
 use Rattle.ffs_volume.specs.Directories.Volumes.{volume_of}
 use Rattle.ffs_volume.specs.declared.Layout.{Layout}
+use Rattle.ffs_volume.proofs.LevelLaws.{reached-level}
 use Rattle.ffs_survey.specs.ParentLaws.{root_level}
 use Rattle.ffs_workspace.specs.Places.{AreNoted, IsNoted}
 use Rattle.ffs_workspace.specs.declared.workspace.Workspace.{Workspace}
@@ -16,7 +17,6 @@ use Rattle.ffs_paths.specs.Climbing.{IsParentOf}
 use Rattle.ffs_paths.specs.Reads.{KnowsPlaces, ReadsFew}
 use Rattle.ffs_paths.specs.declared.buffer.PathBuffer.{PathBuffer}
 use Rattle.ffs_paths.proofs.Ends.{joined-length}
-use Rattle.ffs_paths.proofs.Ways.{level_of}
 
 -- so many steps were climbed, with a read for each at most, and with a name for each that takes two bytes at least
 pub record HasClimbed (steps reads reads' : ℕ) (before after : Workspace) (p : PathBuffer) : Type 0 where
@@ -104,5 +104,5 @@ pub noted_child : (v : Layout) (contents : Option (List ℕ)) (b : List ℕ) (w 
     IsNoted v b w'.queue.items d
 noted_child v contents b w w' d s knows of lists =
     let below = of.below in
-    let l = level_of (graph_of (volume_of v b)) d (sym (knows.survey.reached d) ∙ of.reached) in
+    let l = reached-level (graph_of (volume_of v b)) d (sym (knows.survey.reached d) ∙ of.reached) in
     noted_here v b w w' l.0 d knows.places lists l.1 (omega arith)

@@ -1,8 +1,7 @@
 -- What a climb to the root reads, and the path that it gives.
 use Rattle.std.specs.Prelude.{◌≡◌, ◌<◌, ℕ, nat_lt, true, if◌then◌else◌, List, [], ◌∷◌}
-use Rattle.std.specs.Prelude.{length, Option, Some, None, vec_len, slice_index}
+use Rattle.std.specs.Prelude.{length, Some, vec_len, slice_index}
 use Rattle.ffs_volume.specs.Directories.Graph.{Graph, parent}
-use Rattle.ffs_volume.specs.Directories.Paths.{dir_path, entry_path}
 use Rattle.ffs_workspace.specs.declared.workspace.Workspace.{Workspace}
 use Rattle.ffs_workspace.specs.Holds.{bool_at}
 pub use Rattle.ffs_workspace.specs.Places.{name_in}
@@ -23,8 +22,3 @@ pub record IsParentOf (w : Workspace) (dir parent : ℕ) : Type 0 where
 -- that is not reached is so long, where the name has more than 1,022 bytes
 abbrev pub in_room : List ℕ → List ℕ
 in_room path = if nat_lt 1024 (length path) then 63 ∷ [] else path
-
--- the path of a directory, or of an entry of it
-abbrev pub path_in : Graph → ℕ → Option (List ℕ) → List ℕ
-path_in g d None = dir_path g d
-path_in g d (Some name) = in_room (entry_path g d name)
