@@ -1,5 +1,6 @@
 //! What ends a run before its report is complete.
 
+use crate::compare::same;
 use ffs_image::ImageFault;
 use ffs_report::{OutFault, RunFault};
 use std::test::Fail;
@@ -16,10 +17,13 @@ fn failed_write() -> Result<(), RunFault> {
 
 #[test]
 fn faults_of_a_run(rt: HostRuntime) -> Result<(), Fail> {
-    assert_eq!(rt;
-        failed_read(),
-        Err(RunFault::Read(ImageFault { sector: 72 }))
+    same(
+        &rt,
+        &[failed_read(), failed_write()],
+        &[
+            Err(RunFault::Read(ImageFault { sector: 72 })),
+            Err(RunFault::Out(OutFault)),
+        ],
     );
-    assert_eq!(rt; failed_write(), Err(RunFault::Out(OutFault)));
     Ok(())
 }

@@ -119,18 +119,25 @@ fn a_write_that_takes_nothing_fails(rt: HostRuntime) -> Result<(), Fail> {
     Ok(())
 }
 
+/// Which of two puts are fine, where the second write fails, how many of them failed, and the
+/// device after them.
+fn two_puts(kind: ErrorKind, alloc: Global) -> ([bool; 2], u64, FailsOnce) {
+    let mut device = FailsOnce::new(alloc, 2, kind);
+    let mut out = Counted::new(&mut device);
+    let fine = [out.put(b"a").is_ok(), out.put(b"b").is_ok()];
+    let failures = out.failures();
+    drop(out);
+    (fine, failures, device)
+}
+
 /// A write that fails isn't tried again by an output, not even one that a signal interrupts.
 #[test]
 fn a_put_is_one_write(rt: HostRuntime) -> Result<(), Fail> {
     for kind in [ErrorKind::StorageFull, ErrorKind::Interrupted] {
-        let mut device = FailsOnce::new(rt.alloc(), 2, kind);
-        let mut out = Counted::new(&mut device);
-        assert!(rt; out.put(b"a").is_ok());
-        assert!(rt; out.put(b"b").is_err());
-        assert_eq!(rt; out.failures(), 1);
-        drop(out);
-        assert_eq!(rt; device.writes, 2);
-        assert_eq!(rt; device.taken.as_slice(), b"a".as_slice());
+        let (fine, failures, device) = two_puts(kind, rt.alloc());
+        same(&rt, &fine, &[true, false]);
+        same(&rt, &[failures, device.writes], &[1, 2]);
+        same(&rt, &device.taken.as_slice(), &b"a".as_slice());
     }
     Ok(())
 }

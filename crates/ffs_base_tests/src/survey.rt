@@ -7,8 +7,7 @@ use ffs_image::ImageFault;
 use ffs_memory::{FilledList, Memory, SystemMemory};
 use ffs_samples::numbers;
 use ffs_survey::{
-    Directories, Lists, Named, Surveyed, is_dead, is_dir, is_suspect, is_unref, mark_leaders,
-    survey,
+    Directories, Named, Surveyed, is_dead, is_dir, is_suspect, is_unref, mark_leaders, survey,
 };
 use ffs_volume::Role;
 use std::alloc::{AllocError, Global};
@@ -159,17 +158,17 @@ fn left_by_survey(alloc: Global) -> Result<Left, Fail> {
     let mut parents = numbers(&[7; 8], alloc)?;
     let mut calm = [true; 8];
     let mut queue = numbers(&[7; 8], alloc)?;
-    let mut lists = Lists {
-        kinds: &KINDS,
-        marked: &[false; 8],
-        references: &mut references,
-        named: &mut named,
-        reached: &mut reached,
-        parents: &mut parents,
-        calm: &mut calm,
-        queue: &mut queue,
-    };
-    survey(&mut small_volume(), &mut lists)?;
+    survey(
+        &mut small_volume(),
+        &KINDS,
+        &[false; 8],
+        &mut references,
+        &mut named,
+        &mut reached,
+        &mut parents,
+        &mut calm,
+        &mut queue,
+    )?;
     let mut left = Left {
         references: [0; 8],
         parents: [0; 8],

@@ -180,7 +180,9 @@ fn gaps_of(inode: &Inode, alloc: Global) -> Result<(Option<Step>, u32, Option<St
     let mut image = image_of(Order::Little, &[], alloc)?;
     let buffer = vec![in alloc; 0u8; 3 * geometry.layout.bsize as usize]?;
     let mut blocks = Blocks::over(FixedList::new(buffer));
-    Ok(passed_over(&geometry, inode, &mut image, &mut blocks)?)
+    let found = passed_over(&geometry, inode, &mut image, &mut blocks);
+    drop(blocks);
+    Ok(found?)
 }
 
 /// The holes after the first one are passed over together, at the inode's own addresses.

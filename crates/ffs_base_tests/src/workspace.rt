@@ -58,7 +58,9 @@ fn root_by_blocks(alloc: Global) -> Result<[Inode; 2], Fail> {
     let mut image = image_of(Order::Little, &ROOT, alloc)?;
     let buffer = vec![in alloc; 0u8; geometry.layout.bsize as usize]?;
     let mut table = Table::over(FixedList::new(buffer));
-    Ok(by_blocks(&geometry, &mut table, &mut image)?)
+    let found = by_blocks(&geometry, &mut table, &mut image);
+    drop(table);
+    Ok(found?)
 }
 
 /// The mode, the number of links and the size of an inode.
@@ -101,7 +103,9 @@ fn root_by_parts(alloc: Global) -> Result<Parts, Fail> {
     let mut image = image_of(Order::Little, &ROOT, alloc)?;
     let buffer = vec![in alloc; 0u8; geometry.layout.bsize as usize]?;
     let mut table = Table::over(FixedList::new(buffer));
-    Ok(by_parts(&geometry, &mut table, &mut image)?)
+    let found = by_parts(&geometry, &mut table, &mut image);
+    drop(table);
+    Ok(found?)
 }
 
 #[test]

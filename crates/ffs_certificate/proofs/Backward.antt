@@ -13,7 +13,7 @@ use Rattle.ffs_volume.specs.Directories.Climb.{is_value}
 use Rattle.ffs_volume.proofs.ClimbLaws.{is_value-from}
 use Rattle.ffs_volume.specs.Directories.Graph.{parent, parent_entry_index, reached}
 use Rattle.ffs_volume.proofs.Graphs.{AllReached, NoExtraneous}
-use Rattle.ffs_volume.proofs.LevelLaws.{reached-root}
+use Rattle.ffs_volume.proofs.LevelLaws.{reached-root, parent-root}
 use Rattle.ffs_certificate.proofs.Lost.{silent-reached}
 use Rattle.ffs_certificate.proofs.Links.{links-right}
 use Rattle.ffs_volume.specs.Directories.Parents.{graph_of, nth_roled}
@@ -22,12 +22,12 @@ use Rattle.ffs_volume.specs.Directories.Connectivity.{is_unref_dir}
 use Rattle.ffs_volume.specs.Consistent.DirectoriesRight.{IsPlainRight, IsDirRight, AreDirsRight}
 use Rattle.ffs_certificate.specs.Premises.{IsVolume, IsUnmarked}
 use Rattle.ffs_volume.specs.Consistent.DirectoriesRight.{AreLinksRight, AreCountsRight}
-use Rattle.ffs_certificate.proofs.Silence.{and_false-from}
+use Rattle.ffs_volume.proofs.Booleans.{and_false-from}
 use Rattle.ffs_certificate.proofs.Entries.{names_at-from, IsPlainQuiet}
 use Rattle.ffs_certificate.proofs.Dirs.{IsShapeQuiet, IsPathnameQuiet, IsDotdotQuiet}
 use Rattle.ffs_certificate.proofs.Counts.{IsCountQuiet, count-from}
 use Rattle.ffs_certificate.proofs.Suspects.{is_sane, none_suspect, none_dead}
-use Rattle.ffs_certificate.proofs.Forward.{root_is_dir, parent_once, parent_root}
+use Rattle.ffs_certificate.proofs.Forward.{root_is_dir, parent_once}
 
 some-both : (P Q R : Entry → Type 0) (o : Option Entry) → ((e : Entry) → P e → Q e → R e) → IsSomeAnd o P →
     IsSomeAnd o Q → IsSomeAnd o R
@@ -140,7 +140,7 @@ dotdot_from v d s p n k =
 pub dotdot_quiet : (v : Volume) → IsFileOrDir v → (d : ℕ) → is_dir v d ≡ true → IsDotdotQuiet v d (dotdot v d)
 dotdot_quiet v t d h =
     elim (cases_eq d 2) [
-      | inl e ↦ dotdot_from v d 2 (ap (parent (graph_of v)) e ∙ parent_root (graph_of v))
+      | inl e ↦ dotdot_from v d 2 (ap (parent (graph_of v)) e ∙ parent-root (graph_of v))
           (subst (λ x. IsSomeAnd (dotdot v x) (λ e. e.number ≡ 2)) (sym e) t.links.root_dotdot)
           (t.dirs.each d h).dotdot_there
       | inr n ↦

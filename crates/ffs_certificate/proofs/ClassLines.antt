@@ -5,6 +5,7 @@ use Rattle.std.specs.List.{list_all, list_any, range_with_len}
 use Rattle.std.proofs.Common.{◌∙◌}
 use Rattle.std.proofs.lemmas.Bool.{or_from}
 use Rattle.std.proofs.lemmas.List.Folds.{list_any-append}
+use Rattle.std.proofs.Math.Bool.{or-false}
 use Rattle.ffs_volume.specs.declared.Layout.{Layout}
 use Rattle.ffs_volume.specs.declared.Class.{Class}
 use Rattle.ffs_volume.specs.declared.Class.TheVariants.{Free, Partial, Unknown, File, Dir}
@@ -100,11 +101,7 @@ owner_some v s o =
       none_append (lines_of_steps v o.number (at_next_inode s) o.steps) (count_lines v o (after_owner v s o))
           (steps_none v o.number (at_next_inode s) o.steps) (count_none v o (after_owner v s o)),
     )
-    (or_false (not (is_right_class o.class)))
-  where
-    or_false : (a : Bool) → (a || false) ≡ a
-    or_false true = refl
-    or_false false = refl
+    (or-false (not (is_right_class o.class)))
 
 owners_some : (v : Layout) (s : Claims) (os : List Owner) → list_any is_class_message (lines_of_owners v s os)
     ≡ not (list_all (λ o. is_right_class o.class) os)

@@ -1,18 +1,15 @@
 -- Each condition of a consistent volume holds exactly where nothing is reported for it.
 use Rattle.std.specs.Prelude.{◌≡◌, ◌≢◌, ◌↔◌, ℕ, ◌==◌, ◌/◌, true, false, not, nat_lt, nat_le, refl, List, [], Some}
 use Rattle.std.specs.Prelude.{IsSomeAnd}
-use Rattle.std.specs.List.{list_all}
 use Rattle.std.proofs.Common.{arith, sym, ◌∙◌, ap, subst, inl, inr}
 use Rattle.std.proofs.lemmas.Bool.{both_ways, cases_eq, eqb-true, eq-eqb, ne_eqb, lt-ltb, le-leb, leb-true, and_parts}
 use Rattle.std.proofs.lemmas.Bool.{and_from, not-false, not_from_true, not_from_false}
-use Rattle.ffs_volume.specs.declared.Layout.{Layout}
 use Rattle.ffs_volume.specs.declared.Class.{Class}
 use Rattle.ffs_volume.specs.declared.Class.TheVariants.{Free, Partial, Unknown, File, Dir}
 use Rattle.ffs_volume.specs.Disk.Superblock.{Superblock}
 use Rattle.ffs_volume.specs.Laws.Geometry.{IsAcceptedLayout}
 use Rattle.ffs_volume.proofs.AcceptedLaws.{accepted_sound}
-use Rattle.ffs_volume.specs.Blocks.Owners.{Owner, owners_of}
-use Rattle.ffs_volume.specs.Consistent.BlocksRight.{is_right_class, BlocksRight}
+use Rattle.ffs_volume.specs.Blocks.Owners.{owners_of}
 use Rattle.ffs_volume.specs.Groups.Records.{AreGroupsRight}
 use Rattle.ffs_volume.specs.Groups.GroupCheck.{phase5_lines, is_free_of_kept}
 use Rattle.ffs_volume.specs.Directories.Entries.{Entry}
@@ -24,14 +21,14 @@ use Rattle.ffs_volume.specs.Directories.Graph.{parent, parent_entry_index}
 use Rattle.ffs_volume.proofs.Graphs.{NoExtraneous}
 use Rattle.ffs_volume.specs.Directories.Parents.{graph_of, is_parent_entry}
 use Rattle.ffs_volume.specs.Directories.PathnameCheck.{is_wrong_parent, is_extraneous}
-use Rattle.ffs_volume.specs.Consistent.DirectoriesRight.{IsPlainRight, AreDirsRight}
+use Rattle.ffs_volume.specs.Consistent.DirectoriesRight.{IsPlainRight, AreDirsRight, AreLinksRight, AreCountsRight}
 use Rattle.ffs_certificate.specs.Premises.{IsVolume, IsUnmarked}
-use Rattle.ffs_volume.specs.Consistent.DirectoriesRight.{AreLinksRight, AreCountsRight}
 use Rattle.ffs_volume.specs.Directories.Volumes.{class_at, whole_volume}
 use Rattle.ffs_certificate.specs.DirsCertificate.{IsSilent}
 use Rattle.ffs_certificate.specs.Conditions.{IsPlainUnreported, AreDirsUnreported, AreLinksUnreported}
 use Rattle.ffs_certificate.specs.Conditions.{AreCountsUnreported, ConditionsReported, ConditionsAreReported}
-use Rattle.ffs_certificate.proofs.Silence.{and_false-right, and_false-from}
+use Rattle.ffs_volume.proofs.Booleans.{and_false-right, and_false-from}
+use Rattle.ffs_volume.proofs.LevelLaws.{parent-root}
 use Rattle.ffs_certificate.proofs.Live.{plain-live}
 use Rattle.ffs_certificate.proofs.Lost.{silent-reached}
 use Rattle.ffs_certificate.proofs.Links.{links-right}
@@ -39,7 +36,6 @@ use Rattle.ffs_certificate.proofs.Entries.{names_at-gives}
 use Rattle.ffs_certificate.proofs.Counts.{count-true, count-from}
 use Rattle.ffs_certificate.proofs.Suspects.{is_sane, none_suspect, none_dead}
 use Rattle.ffs_certificate.proofs.Forward.{some-map, root_is_dir, whole, whiteout_kind, known-false, parent_once}
-use Rattle.ffs_certificate.proofs.Forward.{parent_root}
 use Rattle.ffs_certificate.proofs.Backward.{IsFileOrDir, shape_quiet, whiteout_good, other_good, link_quiet}
 use Rattle.ffs_certificate.proofs.Backward.{dotdot_quiet, quiet_connectivity}
 use Rattle.ffs_certificate.proofs.DirsCertificate.{silent_right}
@@ -151,7 +147,7 @@ links_right v vol un r q =
             dotdot_right = dotdot_same v d o.in_dir (parent_once v d n (all d h) o) (q.dotdots d h);
           };
       root = links.root;
-      root_dotdot = dotdot_same v 2 2 (parent_root (graph_of v)) (q.dotdots 2 root);
+      root_dotdot = dotdot_same v 2 2 (parent-root (graph_of v)) (q.dotdots 2 root);
     }
   where
     one_entry : (v : Volume) → AreLinksUnreported v → NoExtraneous (graph_of v)

@@ -6,14 +6,14 @@ use Rattle.std.proofs.lemmas.Bool.{eqb-true, eqb-false, eq-eqb, ne_eqb, ltb-true
 use Rattle.ffs_volume.specs.Blocks.Inodes.{is_allocated}
 use Rattle.ffs_volume.specs.Directories.Roles.{Volume, is_inode, is_allocated_inode, references}
 use Rattle.ffs_volume.specs.Messages.Kinds.{TreeMessage, reported, unref_dir, dead_marked, dead_zero, unref}
-use Rattle.ffs_volume.specs.Messages.Kinds.{unref_unlinked, link_count}
+use Rattle.ffs_volume.specs.Messages.Kinds.{unref_zero, link_count}
 use Rattle.ffs_volume.specs.Directories.PathnameCheck.{attributes, label_of}
 use Rattle.ffs_volume.specs.Directories.Connectivity.{is_dead, is_unref_dir, connectivity_lines}
 use Rattle.ffs_volume.specs.Disk.Numbers.{equals_natural}
 use Rattle.ffs_volume.specs.Directories.ReferenceCheck.{dead_lines, unref_lines, inode_lines, reference_lines_at}
 use Rattle.ffs_volume.specs.Directories.ReferenceCheck.{reference_lines}
-use Rattle.ffs_certificate.proofs.Silence.{reported-quiet, reported-silent, if-silent, then-quiet, then-silent}
-use Rattle.ffs_certificate.proofs.Silence.{lines-quiet, lines-silent}
+use Rattle.ffs_volume.proofs.Silence.{reported-quiet, reported-silent, if-silent, then-quiet, then-silent}
+use Rattle.ffs_volume.proofs.Silence.{lines-quiet, lines-silent}
 
 pub connectivity-quiet : (v : Volume) → connectivity_lines v ≡ [] → (d : ℕ) → d < v.count → is_unref_dir v d ≡ false
 unfolding connectivity_lines
@@ -48,7 +48,7 @@ count-quiet v i h =
     let a = first-quiet (is_dead v i) (dead_lines v i) _
     (either-some (v.marked i) (dead_marked (label_of (v.class i)) (attributes v i)) (dead_zero (attributes v i))) h in
     let b = first-quiet (references v i == 0) (unref_lines v i) _
-    (either-some (equals_natural (v.inode i).nlink 0) (unref_unlinked (label_of (v.class i)) (attributes v i))
+    (either-some (equals_natural (v.inode i).nlink 0) (unref_zero (label_of (v.class i)) (attributes v i))
     (unref (label_of (v.class i)) (attributes v i))) a.1 in
     record { alive = a.0; some = eqb-false (references v i) 0 b.0; same = not-false _ (reported-quiet _ m b.1) }
 

@@ -15,24 +15,23 @@ use Rattle.ffs_volume.specs.Directories.Roles.{references_below}
 use Rattle.ffs_volume.specs.Disk.Search.{first_below, earliest}
 use Rattle.ffs_volume.specs.Directories.Climb.{climb}
 use Rattle.ffs_volume.specs.Directories.Graph.{within, level, parent}
-use Rattle.ffs_volume.specs.Messages.Kinds.{lines_below}
+use Rattle.ffs_volume.specs.Messages.Kinds.{lines_below, unref_dir}
 use Rattle.ffs_volume.specs.Directories.PathnameCheck.{attributes, root_lines, shape_lines, dot_lines, dotdot_lines}
 use Rattle.ffs_volume.specs.Directories.PathnameCheck.{named_lines, plain_lines, entry_lines, lines_of_entries}
 use Rattle.ffs_volume.specs.Directories.PathnameCheck.{sized_dir_lines, pathname_lines}
 use Rattle.ffs_volume.specs.Directories.Connectivity.{connectivity_lines}
 use Rattle.ffs_volume.specs.Directories.ReferenceCheck.{inode_lines, reference_lines}
 use Rattle.ffs_volume.specs.Directories.Volumes.{chunk_source_of, volume_with, volume_of}
-use Rattle.ffs_volume.specs.Examples.Images.{bytes_in, word, zeros, base_layout, base_superblock, base_super}
+use Rattle.ffs_volume.specs.Examples.Images.{bytes_in, word, zero_bytes, base_layout, base_superblock, base_super}
 use Rattle.ffs_volume.specs.Examples.Images.{base_summary, base_group, root_inode, root_chunk, base_image}
 use Rattle.ffs_volume.specs.Examples.DirectoryExamples.{entry_bytes}
 use Rattle.ffs_certificate.specs.ReportExamples.{inode_bytes, dir_chunk, two_dirs, named_dir, unnamed_dir}
 use Rattle.ffs_certificate.specs.ReportExamples.{shared_summary, shared_group, shared_image, shared_superblock}
 use Rattle.std.specs.Prelude.{◌≡◌, [], pos}
 use Rattle.ffs_volume.specs.declared.Order.TheVariants.{Little}
-use Rattle.ffs_volume.specs.Messages.Kinds.{unref_dir}
 
 pub named_pathnames : pathname_lines (volume_of (base_layout Little) named_dir) ≡ []
-unfolding bytes_in word zeros base_layout base_superblock base_super base_summary base_group root_inode root_chunk
+unfolding bytes_in word zero_bytes base_layout base_superblock base_super base_summary base_group root_inode root_chunk
     base_image entry_bytes inode_bytes dir_chunk two_dirs named_dir unnamed_dir shared_summary shared_group shared_image
     shared_superblock number all_below u16_at i16_at u32_at u64_at i32_at cgoffset_of cgbase cgstart is_group_metadata
     is_fragment_in_range is_run_in_range is_reserved inode_from_bytes inode_of class_of steps_at steps_of owner_of
@@ -45,7 +44,7 @@ unfolding bytes_in word zeros base_layout base_superblock base_super base_summar
 named_pathnames = refl
 
 pub named_connected : connectivity_lines (volume_of (base_layout Little) named_dir) ≡ []
-unfolding bytes_in word zeros base_layout base_superblock base_super base_summary base_group root_inode root_chunk
+unfolding bytes_in word zero_bytes base_layout base_superblock base_super base_summary base_group root_inode root_chunk
     base_image entry_bytes inode_bytes dir_chunk two_dirs named_dir unnamed_dir shared_summary shared_group shared_image
     shared_superblock number all_below u16_at i16_at u32_at u64_at i32_at cgoffset_of cgbase cgstart is_group_metadata
     is_fragment_in_range is_run_in_range is_reserved inode_from_bytes inode_of class_of steps_at steps_of owner_of
@@ -58,7 +57,7 @@ unfolding bytes_in word zeros base_layout base_superblock base_super base_summar
 named_connected = refl
 
 pub named_references : reference_lines (volume_of (base_layout Little) named_dir) ≡ []
-unfolding bytes_in word zeros base_layout base_superblock base_super base_summary base_group root_inode root_chunk
+unfolding bytes_in word zero_bytes base_layout base_superblock base_super base_summary base_group root_inode root_chunk
     base_image entry_bytes inode_bytes dir_chunk two_dirs named_dir unnamed_dir shared_summary shared_group shared_image
     shared_superblock number all_below u16_at i16_at u32_at u64_at i32_at cgoffset_of cgbase cgstart is_group_metadata
     is_fragment_in_range is_run_in_range is_reserved inode_from_bytes inode_of class_of steps_at steps_of owner_of
@@ -72,7 +71,7 @@ named_references = refl
 
 pub unnamed : connectivity_lines (volume_of (base_layout Little) unnamed_dir)
     ≡ unref_dir (record { number = 3; uid = 0; mode = 16877; size = 512; mtime = pos 0 }) ∷ []
-unfolding bytes_in word zeros base_layout base_superblock base_super base_summary base_group root_inode root_chunk
+unfolding bytes_in word zero_bytes base_layout base_superblock base_super base_summary base_group root_inode root_chunk
     base_image entry_bytes inode_bytes dir_chunk two_dirs named_dir unnamed_dir shared_summary shared_group shared_image
     shared_superblock number all_below u16_at i16_at u32_at u64_at i32_at cgoffset_of cgbase cgstart is_group_metadata
     is_fragment_in_range is_run_in_range is_reserved inode_from_bytes inode_of class_of steps_at steps_of owner_of

@@ -14,18 +14,17 @@ use Rattle.ffs_volume.specs.Directories.Roles.{is_two_dots, roled_entries, dot, 
 use Rattle.ffs_volume.specs.Directories.Graph.{parent}
 use Rattle.ffs_volume.specs.Directories.Parents.{graph_of, nth_roled}
 use Rattle.ffs_volume.specs.Directories.Paths.{dir_path}
-use Rattle.ffs_volume.specs.Messages.Kinds.{reported, lines_below, root_suspect, dir_short, dir_length, dir_gap}
+use Rattle.ffs_volume.specs.Messages.Kinds.{reported, lines_below, root_suspect, dir_short, dir_length, dir_empty}
 use Rattle.ffs_volume.specs.Messages.Kinds.{dir_corrupt, missing_dot, missing_dot_first, number_dot, kind_dot}
 use Rattle.ffs_volume.specs.Messages.Kinds.{missing_dotdot, missing_dotdot_second, number_dotdot, kind_dotdot}
 use Rattle.ffs_volume.specs.Directories.PathnameCheck.{attributes, root_lines, root_lines_of, continues_after_root}
 use Rattle.ffs_volume.specs.Directories.PathnameCheck.{is_short, has_partial_chunk, are_sound, shape_lines, dot_lines}
-use Rattle.ffs_volume.specs.Directories.PathnameCheck.{dot_lines_of, missing_dot_lines, is_wrong_parent}
-use Rattle.ffs_volume.specs.Directories.PathnameCheck.{dotdot_lines, dotdot_lines_of, missing_dotdot_lines}
-use Rattle.ffs_volume.specs.Directories.PathnameCheck.{lines_of_entries, sized_dir_lines, is_looked_at, directory_lines}
-use Rattle.ffs_volume.specs.Directories.PathnameCheck.{pathname_lines}
-use Rattle.ffs_certificate.proofs.Silence.{nil-left, nil-right, nil-both, reported-quiet, reported-silent, then-quiet}
-use Rattle.ffs_certificate.proofs.Silence.{then-silent, lines-quiet, lines-silent}
-use Rattle.ffs_certificate.proofs.Entries.{IsSeenQuiet, entries-quiet, entries-silent}
+use Rattle.ffs_volume.specs.Directories.PathnameCheck.{dot_lines_of, missing_dot_lines, is_wrong_parent, dotdot_lines}
+use Rattle.ffs_volume.specs.Directories.PathnameCheck.{dotdot_lines_of, missing_dotdot_lines, lines_of_entries}
+use Rattle.ffs_volume.specs.Directories.PathnameCheck.{sized_dir_lines, is_looked_at, directory_lines, pathname_lines}
+use Rattle.ffs_volume.proofs.Silence.{nil-left, nil-right, nil-both, reported-quiet, reported-silent, then-quiet}
+use Rattle.ffs_volume.proofs.Silence.{then-silent, lines-quiet, lines-silent}
+use Rattle.ffs_certificate.proofs.Entries.{IsEntryQuiet, entries-quiet, entries-silent}
 
 -- of a directory's size, Gaps and chunks
 pub record IsShapeQuiet (v : Volume) (d : ℕ) : Type 0 where
@@ -42,12 +41,12 @@ shape-quiet v d h =
     let b = nil-right (reported (is_short v d) (dir_short (attributes v d) p)) _ h in
     let c = nil-left (reported (has_partial_chunk v d) (dir_length p (v.inode d).size)) _ b in
     let e = nil-right (reported (has_partial_chunk v d) (dir_length p (v.inode d).size)) _ b in
-    let f = nil-left (reported (v.gap d) (dir_gap p)) _ e in
-    let g = nil-right (reported (v.gap d) (dir_gap p)) _ e in
+    let f = nil-left (reported (v.gap d) (dir_empty p)) _ e in
+    let g = nil-right (reported (v.gap d) (dir_empty p)) _ e in
     record {
       short = reported-quiet _ (dir_short (attributes v d) p) a;
       broken = reported-quiet _ (dir_length p (v.inode d).size) c;
-      gap = reported-quiet _ (dir_gap p) f;
+      gap = reported-quiet _ (dir_empty p) f;
       sound = not-false _ (reported-quiet _ (dir_corrupt (attributes v d) p) g);
     }
 
@@ -59,7 +58,7 @@ shape-silent v d q =
     (reported-silent _ (dir_short (attributes v d) p) q.short)
     (nil-both (reported (has_partial_chunk v d) (dir_length p (v.inode d).size)) _
     (reported-silent _ (dir_length p (v.inode d).size) q.broken)
-    (nil-both (reported (v.gap d) (dir_gap p)) _ (reported-silent _ (dir_gap p) q.gap)
+    (nil-both (reported (v.gap d) (dir_empty p)) _ (reported-silent _ (dir_empty p) q.gap)
     (reported-silent _ (dir_corrupt (attributes v d) p) (not_from_true _ q.sound))))
 
 -- where `.` or `..` isn't there, something is reported
@@ -133,7 +132,7 @@ pub record IsDirQuiet (v : Volume) (d : ℕ) : Type 0 where
   pub shape : IsShapeQuiet v d
   pub dot_there : IsDotQuiet d (dot v d)
   pub dotdot_there : IsDotdotQuiet v d (dotdot v d)
-  pub entries : (j : ℕ) (e : RoledEntry) → nth_roled (roled_entries v d) j ≡ Some e → IsSeenQuiet v d j e
+  pub entries : (j : ℕ) (e : RoledEntry) → nth_roled (roled_entries v d) j ≡ Some e → IsEntryQuiet v d j e
 
 dir-quiet : (v : Volume) (d : ℕ) → sized_dir_lines v d ≡ [] → IsDirQuiet v d
 unfolding sized_dir_lines dot_lines dotdot_lines
@@ -149,7 +148,7 @@ dir-quiet v d h =
       dot_there = dot-quiet v d (dot v d) c;
       dotdot_there = dotdot-quiet v d (dotdot v d) f;
       entries = λ j x t. let z : 0 + j ≡ j = omega arith in
-          subst (λ n. IsSeenQuiet v d n x) z (entries-quiet v d 0 (roled_entries v d) g j x t);
+          subst (λ n. IsEntryQuiet v d n x) z (entries-quiet v d 0 (roled_entries v d) g j x t);
     }
 
 dir-silent : (v : Volume) (d : ℕ) → IsDirQuiet v d → sized_dir_lines v d ≡ []
@@ -160,7 +159,7 @@ dir-silent v d q =
     (nil-both (dotdot_lines v d) (lines_of_entries v d 0 (roled_entries v d))
     (dotdot-silent v d (dotdot v d) q.dotdot_there)
     (entries-silent v d 0 (roled_entries v d)
-    (λ j x t. let z : j ≡ 0 + j = omega arith in subst (λ n. IsSeenQuiet v d n x) z (q.entries j x t)))))
+    (λ j x t. let z : j ≡ 0 + j = omega arith in subst (λ n. IsEntryQuiet v d n x) z (q.entries j x t)))))
 
 -- the whole check: the root, and each directory that isn't empty
 pub record IsPathnameQuiet (v : Volume) : Type 0 where

@@ -1,33 +1,10 @@
 -- The Dup lines of phase 1 are the kept dup offers of the rule, in order.
-use Rattle.std.proofs.Common.{inl, inr, ◌≡◌, ℕ, ◌+◌, ◌-◌, ◌*◌, ◌≤◌, Bool, true, false, arith, refl, sym, ap, ◌∙◌, List}
-use Rattle.std.proofs.Common.{[], ◌∷◌, ◌++◌, append_assoc}
-use Rattle.std.specs.Prelude.{nat_lt, ◌&&◌, ◌||◌, ◌==◌, not, if◌then◌else◌, map}
-use Rattle.std.specs.List.{range_with_len}
-use Rattle.std.proofs.lemmas.Bool.{and_parts, cases_eq, eqb-true, eqb-false, ltb-true}
+use Rattle.std.proofs.Common.{◌≡◌, ℕ, ◌+◌, refl, ap, ◌∙◌, List, [], ◌∷◌, ◌++◌}
+use Rattle.std.specs.Prelude.{◌&&◌, if◌then◌else◌, map}
 use Rattle.ffs_volume.specs.declared.Layout.{Layout}
-use Rattle.ffs_volume.specs.declared.Class.{Class}
-use Rattle.ffs_volume.specs.declared.Class.TheVariants.{Free, Partial, Unknown, File, Dir}
-use Rattle.ffs_volume.specs.declared.Step.{Step}
-use Rattle.ffs_volume.specs.declared.Step.TheVariants.{Run, Tail, Gap}
-use Rattle.ffs_volume.specs.declared.BlockMessage.{BlockMessage}
-use Rattle.ffs_volume.specs.declared.BlockMessage.TheVariants.{PartAlloc, UnknownType, Bad, Dup, ManyBad, ManyDup}
-use Rattle.ffs_volume.specs.declared.BlockMessage.TheVariants.{PartTrunc, BlockCount, GroupMagic, FreeCounts, MapsWrong}
-use Rattle.ffs_volume.specs.declared.BlockMessage.TheVariants.{GroupSums}
-use Rattle.ffs_volume.specs.Disk.Areas.{is_fragment_in_range, is_run_in_range, is_reserved}
-use Rattle.ffs_volume.specs.Blocks.Inodes.{is_file_or_dir}
-use Rattle.ffs_volume.specs.Blocks.Owners.{Owner, owners_of}
-use Rattle.ffs_volume.specs.Blocks.Claims.{Claims, no_claims, is_set, is_open, at_next_inode, after_offer, after_step}
-use Rattle.ffs_volume.specs.Blocks.Claims.{after_owner, offer_lines, lines_of_offers, step_lines, lines_of_steps}
-use Rattle.ffs_volume.specs.Blocks.BlockCheck.{Offer, class_lines, count_lines, owner_lines, lines_of_owners}
-use Rattle.ffs_volume.specs.Blocks.BlockCheck.{phase1_lines, sectors}
-use Rattle.ffs_volume.specs.Blocks.Keeping.{CountedOffer, bad_runs_after, counted_offer, step_offers, offers_of_steps}
-use Rattle.ffs_volume.specs.Blocks.Keeping.{all_offers, OfferVerdict, is_claimed_before, offer_verdict, verdicts}
-use Rattle.ffs_volume.specs.Blocks.Keeping.{uncounted}
-use Rattle.ffs_certificate.proofs.KeepingLaws.{OfferTie, offer_tied}
-use Rattle.ffs_certificate.proofs.KeepingOwners.{Tie, Closed, not_kept, still_closed, shut_closed, closed_more}
-use Rattle.ffs_certificate.proofs.KeepingOwners.{step_tied}
-use Rattle.ffs_certificate.proofs.KeepingWhole.{Agrees, are_before, before_more, judged_before, steps_before, begins}
-use Rattle.ffs_certificate.proofs.KeepingWhole.{owner_tied, Rising, start_agrees, rising_range}
+use Rattle.ffs_volume.specs.Blocks.BlockCheck.{Offer}
+use Rattle.ffs_volume.specs.Blocks.KeptByRule.{CountedOffer, counted_offer, OfferVerdict, offer_verdict, uncounted}
+use Rattle.ffs_certificate.proofs.KeepingOwners.{Closed, not_kept, still_closed}
 
 -- the kept dup ones of some offers
 abbrev pub kept_dups : Layout → List OfferVerdict → List CountedOffer → List Offer

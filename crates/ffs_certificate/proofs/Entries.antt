@@ -17,10 +17,10 @@ use Rattle.ffs_volume.specs.Messages.Kinds.{extra_dot, extra_dotdot}
 use Rattle.ffs_volume.specs.Directories.PathnameCheck.{attributes, label_of, entry_lines, entry_lines_of}
 use Rattle.ffs_volume.specs.Directories.PathnameCheck.{lines_of_entries, plain_lines, named_lines, is_bad_whiteout}
 use Rattle.ffs_volume.specs.Directories.PathnameCheck.{is_first_entry_of_suspect, message_on_suspect, is_extraneous}
-use Rattle.ffs_volume.specs.Directories.PathnameCheck.{has_wrong_type}
-use Rattle.ffs_volume.specs.Directories.PathnameCheck.{extra_lines}
-use Rattle.ffs_certificate.proofs.Silence.{nil-left, nil-right, nil-both, reported-quiet, reported-silent, if-quiet}
-use Rattle.ffs_certificate.proofs.Silence.{if-silent, else-quiet, else-silent}
+use Rattle.ffs_volume.specs.Directories.PathnameCheck.{has_wrong_type, extra_lines}
+use Rattle.ffs_volume.proofs.Silence.{nil-left, nil-right, nil-both, reported-quiet, reported-silent, if-quiet}
+use Rattle.ffs_volume.proofs.Silence.{if-silent, else-quiet, else-silent}
+use Rattle.ffs_volume.proofs.RoleLaws.{plain-true}
 
 -- a plain entry that names an inode from 2 on
 pub record IsNamedQuiet (v : Volume) (s j : ℕ) (e : Entry) : Type 0 where
@@ -93,7 +93,7 @@ plain-silent v s j e q =
     (named-silent v s j e (q.named n)))))
 
 -- an entry: not extra, and quiet if it is plain
-pub record IsSeenQuiet (v : Volume) (s j : ℕ) (e : RoledEntry) : Type 0 where
+pub record IsEntryQuiet (v : Volume) (s j : ℕ) (e : RoledEntry) : Type 0 where
   pub no_extra : e.role ≢ Extra
   pub plain : e.role ≡ Plain → IsPlainQuiet v s j e.entry
 
@@ -104,17 +104,17 @@ extra_reported-some about path e h = go (is_one_dot e.name) h
     go true h = absurd (cc)
     go false h = absurd (cc)
 
-pub seen-quiet : (v : Volume) (s j : ℕ) (e : RoledEntry) → entry_lines v s j e ≡ [] → IsSeenQuiet v s j e
+pub entry-quiet : (v : Volume) (s j : ℕ) (e : RoledEntry) → entry_lines v s j e ≡ [] → IsEntryQuiet v s j e
 unfolding entry_lines
-seen-quiet v s j e h = record {
+entry-quiet v s j e h = record {
   no_extra = λ x. extra_reported-some (attributes v s) (dir_path (graph_of v) s) e.entry
       (sym (ap (λ r. entry_lines_of v s j r e.entry) x) ∙ h);
   plain = λ x. plain-quiet v s j e.entry (sym (ap (λ r. entry_lines_of v s j r e.entry) x) ∙ h);
 }
 
-pub seen-silent : (v : Volume) (s j : ℕ) (e : RoledEntry) → IsSeenQuiet v s j e → entry_lines v s j e ≡ []
+pub entry-silent : (v : Volume) (s j : ℕ) (e : RoledEntry) → IsEntryQuiet v s j e → entry_lines v s j e ≡ []
 unfolding entry_lines
-seen-silent v s j e q = go e.role refl
+entry-silent v s j e q = go e.role refl
   where
     go : (r : Role) → e.role ≡ r → entry_lines_of v s j r e.entry ≡ []
     go Empty x = refl
@@ -125,38 +125,31 @@ seen-silent v s j e q = go e.role refl
 
 -- the entries of a list that is from the place j on
 pub entries-quiet : (v : Volume) (s j : ℕ) (es : List RoledEntry) → lines_of_entries v s j es ≡ [] →
-    (k : ℕ) (e : RoledEntry) → nth_roled es k ≡ Some e → IsSeenQuiet v s (j + k) e
+    (k : ℕ) (e : RoledEntry) → nth_roled es k ≡ Some e → IsEntryQuiet v s (j + k) e
 unfolding lines_of_entries
 entries-quiet v s j [] h k e x = absurd (cc)
 entries-quiet v s j (f ∷ es) h zero e x =
     let q : f ≡ e = cc in
     let z : j ≡ j + 0 = omega arith in
-    subst (λ n. IsSeenQuiet v s n e) z
-    (subst (λ y. IsSeenQuiet v s j y) q (seen-quiet v s j f (nil-left (entry_lines v s j f) _ h)))
+    subst (λ n. IsEntryQuiet v s n e) z
+    (subst (λ y. IsEntryQuiet v s j y) q (entry-quiet v s j f (nil-left (entry_lines v s j f) _ h)))
 entries-quiet v s j (f ∷ es) h (suc k) e x =
     let z : suc j + k ≡ j + suc k = omega arith in
-    subst (λ n. IsSeenQuiet v s n e) z (entries-quiet v s (suc j) es (nil-right (entry_lines v s j f) _ h) k e x)
+    subst (λ n. IsEntryQuiet v s n e) z (entries-quiet v s (suc j) es (nil-right (entry_lines v s j f) _ h) k e x)
 
 pub entries-silent : (v : Volume) (s j : ℕ) (es : List RoledEntry) →
-    ((k : ℕ) (e : RoledEntry) → nth_roled es k ≡ Some e → IsSeenQuiet v s (j + k) e) → lines_of_entries v s j es ≡ []
+    ((k : ℕ) (e : RoledEntry) → nth_roled es k ≡ Some e → IsEntryQuiet v s (j + k) e) → lines_of_entries v s j es ≡ []
 unfolding lines_of_entries
 entries-silent v s j [] h = refl
 entries-silent v s j (f ∷ es) h =
     let z : j + 0 ≡ j = omega arith in
     nil-both (entry_lines v s j f) _
-    (seen-silent v s j f (subst (λ n. IsSeenQuiet v s n f) z (h 0 f refl)))
+    (entry-silent v s j f (subst (λ n. IsEntryQuiet v s n f) z (h 0 f refl)))
     (entries-silent v s (suc j) es (λ k e x.
     let y : j + suc k ≡ suc j + k = omega arith in
-    subst (λ n. IsSeenQuiet v s n e) y (h (suc k) e x)))
+    subst (λ n. IsEntryQuiet v s n e) y (h (suc k) e x)))
 
 -- an entry as the graph sees it
-plain-true : (r : Role) → is_plain r ≡ true → r ≡ Plain
-plain-true Plain h = refl
-plain-true Dot h = absurd (cc)
-plain-true Dotdot h = absurd (cc)
-plain-true Extra h = absurd (cc)
-plain-true Empty h = absurd (cc)
-
 test-gives : (p : RoledEntry → Bool) (j : ℕ) (es : List RoledEntry) → test_at p j es ≡ true → (e : RoledEntry)
     × (nth_roled es j ≡ Some e) × (p e ≡ true)
 test-gives p j [] h = absurd (cc)

@@ -12,7 +12,7 @@ use Rattle.ffs_volume.specs.Directories.Roles.{Volume, is_dir, is_inode, is_allo
 use Rattle.ffs_volume.specs.Directories.Roles.{references}
 use Rattle.ffs_volume.specs.Directories.Climb.{is_value}
 use Rattle.ffs_volume.proofs.ClimbLaws.{is_value-true}
-use Rattle.ffs_volume.specs.Directories.Graph.{Graph, parent, parent_entry_index, is_lost, reached, IsNamedOnce}
+use Rattle.ffs_volume.specs.Directories.Graph.{parent, parent_entry_index, is_lost, reached, IsNamedOnce}
 use Rattle.ffs_volume.proofs.Graphs.{AllReached, NoExtraneous}
 use Rattle.ffs_volume.proofs.Unreached.{lost-true}
 use Rattle.ffs_certificate.proofs.Lost.{silent-reached}
@@ -24,7 +24,8 @@ use Rattle.ffs_volume.specs.Directories.Connectivity.{is_unref_dir}
 use Rattle.ffs_volume.specs.Consistent.DirectoriesRight.{IsDirSize, IsPlainRight, AreDirsRight}
 use Rattle.ffs_certificate.specs.Premises.{IsVolume, IsUnmarked}
 use Rattle.ffs_volume.specs.Consistent.DirectoriesRight.{AreLinksRight, AreCountsRight}
-use Rattle.ffs_certificate.proofs.Silence.{and_false-right}
+use Rattle.ffs_volume.proofs.Booleans.{and_false-right}
+use Rattle.ffs_volume.proofs.LevelLaws.{parent-root}
 use Rattle.ffs_certificate.proofs.Live.{plain-live}
 use Rattle.ffs_certificate.proofs.Entries.{names_at-gives, IsPlainQuiet}
 use Rattle.ffs_certificate.proofs.Dirs.{IsShapeQuiet, IsPathnameQuiet, dir-below, IsDotdotQuiet}
@@ -137,10 +138,6 @@ parent_once v d n r o =
     let e = has_parent_entry (graph_of v) d n r in
     e.2.0 ∙ ap Some (o.only e.0 e.1 e.3).0
 
-pub parent_root : (g : Graph) → parent g 2 ≡ Some 2
-unfolding parent
-parent_root g = refl
-
 -- `..` is the parent
 dotdot_is : (v : Volume) (d s : ℕ) → parent (graph_of v) d ≡ Some s → IsDotdotQuiet v d (dotdot v d) →
     IsSomeAnd (dotdot v d) (λ e. e.number ≡ s)
@@ -164,7 +161,7 @@ links_right v vol un q =
                 (q.pathnames.each d h (sizes d h)).dotdot_there;
           };
       root = links.root;
-      root_dotdot = dotdot_is v 2 2 (parent_root (graph_of v)) (q.pathnames.each 2 root (sizes 2 root)).dotdot_there;
+      root_dotdot = dotdot_is v 2 2 (parent-root (graph_of v)) (q.pathnames.each 2 root (sizes 2 root)).dotdot_there;
     }
 
 -- the counts of links are right

@@ -2,14 +2,16 @@
 use Rattle.std.proofs.Common.{inl, inr, ◌≡◌, ℕ, ◌+◌, ◌<◌, ◌≤◌, Bool, true, false, cond, arith, refl, sym, ap, subst}
 use Rattle.std.proofs.Common.{◌∙◌, List, ◌∷◌, length}
 use Rattle.std.specs.Prelude.{count_by, nat_lt, nat_le, min, ◌&&◌, ◌||◌, ◌==◌, slice_set}
-use Rattle.std.proofs.lemmas.Bool.{and_parts, cases_eq, both_ways, eq-eqb, ne_eqb, ltb-true, ltb-false, le-leb, lt-leb}
+use Rattle.std.proofs.lemmas.Bool.{cases_eq, both_ways, eq-eqb, ne_eqb, ltb-true, ltb-false, le-leb, lt-leb}
 use Rattle.std.proofs.lemmas.List.{get_or-set_same, get_or-set_other, length-set}
 use Rattle.std.proofs.lemmas.List.Sums.{sum_by-cons}
+use Rattle.std.proofs.Math.Bool.{or-true}
 use Rattle.ffs_volume.specs.declared.Layout.{Layout}
 use Rattle.ffs_volume.specs.Disk.Areas.{is_fragment_in_range, is_reserved}
 use Rattle.ffs_volume.specs.Blocks.Claims.{Claims, is_set, after_offer}
 use Rattle.ffs_certificate.proofs.FreshLaws.{bit}
-use Rattle.ffs_volume.specs.Blocks.Keeping.{counted_offer, OfferVerdict, is_claimed_before, dups_of, offer_verdict}
+use Rattle.ffs_volume.specs.Blocks.KeptByRule.{counted_offer, OfferVerdict, is_claimed_before, dups_of, offer_verdict}
+use Rattle.ffs_volume.proofs.Potentials.{in_range_below}
 
 -- how many kept offers of an inode there are
 abbrev pub kept_of : List OfferVerdict → ℕ → ℕ
@@ -44,10 +46,6 @@ taken_other j e f other = rw (ne_eqb j.fragment f other) (one j.kept)
 
 taken_here : (j : OfferVerdict) (e : List OfferVerdict) → j.kept ≡ true → is_claimed_before (j ∷ e) j.fragment ≡ true
 taken_here j e k = rw (k, eq-eqb j.fragment j.fragment refl) refl
-
-or_true : (b : Bool) → (b || true) ≡ true
-or_true true = refl
-or_true false = refl
 
 module _ (v : Layout) (i : ℕ) (s : Claims) (e : List OfferVerdict) (j : OfferVerdict) (t : OfferTie v i s e)
     (mine : j.inode ≡ i) where
@@ -92,7 +90,7 @@ module _ (v : Layout) (i : ℕ) (s : Claims) (e : List OfferVerdict) (j : OfferV
         used = λ f ok. elim (cases_eq j.fragment f) [
           | inl same ↦ subst (λ x. is_set s.used x ≡ (is_reserved v x || is_claimed_before (j ∷ e) x)) same
               (set ∙ sym (ap (λ b. is_reserved v j.fragment || b) (taken_here j e k)
-              ∙ or_true (is_reserved v j.fragment)))
+              ∙ or-true (is_reserved v j.fragment)))
           | inr other ↦ t.used f ok ∙ ap (λ b. is_reserved v f || b) (sym (taken_other j e f other))
         ];
         long = t.long;
@@ -111,7 +109,7 @@ module _ (v : Layout) (i : ℕ) (s : Claims) (e : List OfferVerdict) (j : OfferV
           | inl same ↦ subst (λ x. is_set (slice_set s.used j.fragment true) x
               ≡ (is_reserved v x || is_claimed_before (j ∷ e) x)) same
               (get_or-set_same s.used j.fragment true false (omega arith)
-              ∙ sym (ap (λ b. is_reserved v j.fragment || b) (taken_here j e k) ∙ or_true (is_reserved v j.fragment)))
+              ∙ sym (ap (λ b. is_reserved v j.fragment || b) (taken_here j e k) ∙ or-true (is_reserved v j.fragment)))
           | inr other ↦ get_or-set_other s.used j.fragment f true false (λ q. other (sym q))
               ∙ (t.used f ok ∙ ap (λ b. is_reserved v f || b) (sym (taken_other j e f other)))
         ];
@@ -119,10 +117,6 @@ module _ (v : Layout) (i : ℕ) (s : Claims) (e : List OfferVerdict) (j : OfferV
         kept = kept_more k;
         capped = omega (arith, t.capped, dups_cons j e i);
       }
-
-pub ok_low : (v : Layout) (f : ℕ) → is_fragment_in_range v f ≡ true → f < v.size
-unfolding is_fragment_in_range
-ok_low v f e = ltb-true f v.size (and_parts (nat_lt f v.size) _ e).0
 
 -- one offer of a Run after at most ten bad Runs
 pub offer_tied : (v : Layout) (i b f : ℕ) (s : Claims) (e : List OfferVerdict) → b ≤ 10 → OfferTie v i s e →
@@ -172,6 +166,6 @@ offer_tied v i b f s e few t = go (nat_lt s.dups 11) refl (is_fragment_in_range 
         rw (qa, qo, qu) refl in (
           subst (λ x. OfferTie v i x (offer_verdict v e (counted_offer i b f) ∷ e)) (sym stay)
               (tie_new v i s e (offer_verdict v e (counted_offer i b f)) t refl (kept_is true qa)
-              (rw qo (sym (t.used f qo) ∙ qu)) (ok_low v f qo)),
+              (rw qo (sym (t.used f qo) ∙ qu)) (in_range_below v f qo)),
           kept_is true qa ∙ sym qa,
         )

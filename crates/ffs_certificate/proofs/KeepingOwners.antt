@@ -5,21 +5,22 @@ use Rattle.std.specs.Prelude.{nat_lt, nat_le, min, ◌&&◌, ◌||◌, ◌==◌,
 use Rattle.std.specs.List.{range_with_len}
 use Rattle.std.proofs.lemmas.Bool.{and_parts, and_cases, cases_eq, cases_lt, both_ways, eqb-true, eqb-false, ltb-true}
 use Rattle.std.proofs.lemmas.Bool.{ltb-false, lt-ltb, le-ltb, lt-leb}
+use Rattle.std.proofs.Math.Bool.{and-false}
 use Rattle.ffs_volume.specs.declared.Layout.{Layout}
 use Rattle.ffs_volume.specs.declared.Step.{Step}
 use Rattle.ffs_volume.specs.declared.Step.TheVariants.{Run, Tail, Gap}
 use Rattle.ffs_volume.specs.Disk.Areas.{is_fragment_in_range, is_run_in_range, is_reserved}
 use Rattle.ffs_volume.specs.Blocks.Claims.{Claims, is_set, is_open, after_offer, after_offers, after_step}
 use Rattle.ffs_volume.specs.Blocks.BlockCheck.{kept_in_offers, kept_in_step}
-use Rattle.ffs_volume.specs.Blocks.Keeping.{CountedOffer, bad_runs_after, counted_offer, step_offers, OfferVerdict}
-use Rattle.ffs_volume.specs.Blocks.Keeping.{is_claimed_before, dups_of, offer_verdict, verdicts, uncounted}
-use Rattle.ffs_volume.specs.Blocks.Keeping.{kept_by_rule}
+use Rattle.ffs_volume.specs.Blocks.KeptByRule.{CountedOffer, bad_runs_after, counted_offer, step_offers, OfferVerdict}
+use Rattle.ffs_volume.specs.Blocks.KeptByRule.{is_claimed_before, dups_of, offer_verdict, verdicts, uncounted}
+use Rattle.ffs_volume.specs.Blocks.KeptByRule.{kept_by_rule}
 use Rattle.ffs_certificate.proofs.KeepingLaws.{kept_of, dups_cons, kept_cons, OfferTie, not_taken, offer_tied}
 
-pub judged_append : (v : Layout) (e : List OfferVerdict) (ps qs : List CountedOffer) →
+pub verdicts-append : (v : Layout) (e : List OfferVerdict) (ps qs : List CountedOffer) →
     verdicts v e (ps ++ qs) ≡ verdicts v (verdicts v e ps) qs
-judged_append v e [] qs = refl
-judged_append v e (p ∷ ps) qs = judged_append v (offer_verdict v e p ∷ e) ps qs
+verdicts-append v e [] qs = refl
+verdicts-append v e (p ∷ ps) qs = verdicts-append v (offer_verdict v e p ∷ e) ps qs
 
 pub kept_append : (v : Layout) (e : List OfferVerdict) (ps qs : List CountedOffer) →
     kept_by_rule v e (ps ++ qs) ≡ kept_by_rule v e ps ++ kept_by_rule v (verdicts v e ps) qs
@@ -72,11 +73,7 @@ pub not_kept : (v : Layout) (i b f : ℕ) (e : List OfferVerdict) → Closed i b
     (offer_verdict v e (counted_offer i b f)).kept ≡ false
 unfolding offer_verdict
 not_kept v i b f e (inl many) = rw (lt-leb b 10 (omega arith)) refl
-not_kept v i b f e (inr many) = rw (lt-leb (dups_of e i) 10 (omega arith)) (one (nat_le b 10))
-  where
-    one : (a : Bool) → (a && false) ≡ false
-    one true = refl
-    one false = refl
+not_kept v i b f e (inr many) = rw (lt-leb (dups_of e i) 10 (omega arith)) (and-false (nat_le b 10))
 
 pub still_closed : (i b : ℕ) (j : OfferVerdict) (e : List OfferVerdict) → Closed i b e → Closed i b (j ∷ e)
 still_closed i b j e (inl many) = inl many
@@ -111,11 +108,7 @@ pub record Tie (v : Layout) (i b : ℕ) (s : Claims) (e : List OfferVerdict) : T
 
 closed_test : (i b : ℕ) (e : List OfferVerdict) → Closed i b e → (nat_lt b 11 && nat_lt (dups_of e i) 11) ≡ false
 closed_test i b e (inl many) = rw (le-ltb b 11 many) refl
-closed_test i b e (inr many) = rw (le-ltb (dups_of e i) 11 many) (one (nat_lt b 11))
-  where
-    one : (a : Bool) → (a && false) ≡ false
-    one true = refl
-    one false = refl
+closed_test i b e (inr many) = rw (le-ltb (dups_of e i) 11 many) (and-false (nat_lt b 11))
 
 closed_tie : (v : Layout) (i b : ℕ) (s : Claims) (e : List OfferVerdict) → is_open s ≡ false → Closed i b e →
     Held v i s e → Tie v i b s e

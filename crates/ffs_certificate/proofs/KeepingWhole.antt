@@ -4,6 +4,7 @@ use Rattle.std.proofs.Common.{◌∙◌, List, [], ◌∷◌, ◌++◌, length}
 use Rattle.std.specs.Prelude.{nat_lt, ◌&&◌, ◌||◌, ◌==◌, map}
 use Rattle.std.specs.List.{list_all, range_with_len}
 use Rattle.std.proofs.lemmas.Bool.{and_parts, and_from, ne_eqb, ltb-true, lt-ltb}
+use Rattle.std.proofs.Math.Bool.{or-false}
 use Rattle.ffs_volume.specs.declared.Layout.{Layout}
 use Rattle.ffs_volume.specs.declared.Step.{Step}
 use Rattle.ffs_volume.specs.declared.Step.TheVariants.{Run, Tail, Gap}
@@ -22,12 +23,13 @@ use Rattle.ffs_volume.specs.Blocks.Claims.{after_owners}
 use Rattle.ffs_volume.specs.Blocks.BlockCheck.{kept_in_steps, kept_in_owners}
 use Rattle.ffs_certificate.proofs.FreshLaws.{bit}
 use Rattle.ffs_certificate.proofs.BlocksSilent.{reserved_length, reserved_bit}
-use Rattle.ffs_volume.specs.Blocks.Keeping.{CountedOffer, bad_runs_after, counted_offer, step_offers, offers_of_steps}
-use Rattle.ffs_volume.specs.Blocks.Keeping.{all_offers, OfferVerdict, is_claimed_before, dups_of, offer_verdict}
-use Rattle.ffs_volume.specs.Blocks.Keeping.{verdicts, kept_by_rule}
+use Rattle.ffs_volume.specs.Blocks.KeptByRule.{CountedOffer, bad_runs_after, counted_offer, step_offers, offers_of_steps}
+use Rattle.ffs_volume.specs.Blocks.KeptByRule.{all_offers, OfferVerdict, is_claimed_before, dups_of, offer_verdict}
+use Rattle.ffs_volume.specs.Blocks.KeptByRule.{verdicts, kept_by_rule}
+use Rattle.ffs_volume.proofs.Potentials.{in_range_below}
 use Rattle.ffs_certificate.specs.Certificate.{KeepsByRule}
-use Rattle.ffs_certificate.proofs.KeepingLaws.{kept_of, dups_cons, kept_cons, ok_low}
-use Rattle.ffs_certificate.proofs.KeepingOwners.{Tie, step_tied, judged_append, kept_append}
+use Rattle.ffs_certificate.proofs.KeepingLaws.{kept_of, dups_cons, kept_cons}
+use Rattle.ffs_certificate.proofs.KeepingOwners.{Tie, step_tied, verdicts-append, kept_append}
 
 -- how many bad Runs some steps have, where `bad_runs` are before
 abbrev pub bads_of : Layout → ℕ → List Step → ℕ
@@ -43,7 +45,7 @@ steps_tied v i b s e (step ∷ steps) t =
     let rest = steps_tied v i (bad_runs_after v b step) (after_step v s step) (verdicts v e (step_offers v i b step))
     steps one.0 in (
       subst (λ x. Tie v i (bads_of v (bad_runs_after v b step) steps) (after_steps v (after_step v s step) steps) x)
-          (sym (judged_append v e (step_offers v i b step) (offers_of_steps v i (bad_runs_after v b step) steps)))
+          (sym (verdicts-append v e (step_offers v i b step) (offers_of_steps v i (bad_runs_after v b step) steps)))
           rest.0,
       ap (λ z. z ++ kept_in_steps v i (after_step v s step) steps) one.1
           ∙ (ap (λ z. kept_by_rule v e (step_offers v i b step) ++ z) rest.1
@@ -81,13 +83,13 @@ before_more n m (j ∷ e) le h =
 abbrev places_before : ℕ → List CountedOffer → Bool
 places_before n ps = list_all (λ p. nat_lt p.inode n) ps
 
-pub judged_before : (v : Layout) (n : ℕ) (e : List OfferVerdict) (ps : List CountedOffer) → are_before n e ≡ true →
+pub verdicts_before : (v : Layout) (n : ℕ) (e : List OfferVerdict) (ps : List CountedOffer) → are_before n e ≡ true →
     places_before n ps ≡ true → are_before n (verdicts v e ps) ≡ true
 unfolding offer_verdict
-judged_before v n e [] h g = h
-judged_before v n e (p ∷ ps) h g =
+verdicts_before v n e [] h g = h
+verdicts_before v n e (p ∷ ps) h g =
     let parts = and_parts (nat_lt p.inode n) (places_before n ps) g in
-    judged_before v n (offer_verdict v e p ∷ e) ps (and_from (nat_lt p.inode n) _ parts.0 h) parts.1
+    verdicts_before v n (offer_verdict v e p ∷ e) ps (and_from (nat_lt p.inode n) _ parts.0 h) parts.1
 
 map_before : (i b : ℕ) (fs : List ℕ) → places_before (i + 1) (map (counted_offer i b) fs) ≡ true
 map_before i b [] = refl
@@ -142,12 +144,12 @@ pub owners_tied : (v : Layout) (n : ℕ) (s : Claims) (e : List OfferVerdict) (o
 owners_tied v n s e [] a h r = (a, refl)
 owners_tied v n s e (o ∷ os) a h r =
     let one = owner_tied v s e o a (before_more n o.number e r.0 h) in
-    let after = judged_before v (o.number + 1) e (offers_of_steps v o.number 0 o.steps)
+    let after = verdicts_before v (o.number + 1) e (offers_of_steps v o.number 0 o.steps)
     (before_more n (o.number + 1) e (omega (arith, r.0)) h) (steps_before v o.number 0 o.steps) in
     let rest = owners_tied v (o.number + 1) (after_owner v s o) (verdicts v e (offers_of_steps v o.number 0 o.steps)) os
     (record { used = one.0.held.used; long = one.0.held.long }) after r.1 in (
       subst (λ x. Agrees v (after_owners v (after_owner v s o) os) x)
-          (sym (judged_append v e (offers_of_steps v o.number 0 o.steps) (all_offers v os))) rest.0,
+          (sym (verdicts-append v e (offers_of_steps v o.number 0 o.steps) (all_offers v os))) rest.0,
       ap (λ z. z ++ kept_in_owners v (after_owner v s o) os) one.1
           ∙ (ap (λ z. kept_by_rule v e (offers_of_steps v o.number 0 o.steps) ++ z) rest.1
           ∙ sym (kept_append v e (offers_of_steps v o.number 0 o.steps) (all_offers v os))),
@@ -156,13 +158,9 @@ owners_tied v n s e (o ∷ os) a h r =
 pub start_agrees : (v : Layout) → Agrees v (no_claims v) []
 unfolding no_claims is_fragment_in_range
 start_agrees v = record {
-  used = λ f ok. reserved_bit v f ∙ (rw (lt-ltb f v.size (ok_low v f ok)) (one (is_reserved v f)));
+  used = λ f ok. reserved_bit v f ∙ (rw (lt-ltb f v.size (in_range_below v f ok)) (sym (or-false (is_reserved v f))));
   long = reserved_length v;
 }
-  where
-    one : (b : Bool) → b ≡ (b || false)
-    one true = refl
-    one false = refl
 
 pub rising_range : (v : Layout) (image : List ℕ) (n k : ℕ) → Rising n (map (owner_of v image) (range_with_len n k))
 unfolding owner_of

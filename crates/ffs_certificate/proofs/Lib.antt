@@ -11,7 +11,6 @@ pub mod DupLines
 pub mod DupMap
 pub mod Lost
 pub mod Links
-pub mod Silence
 pub mod ReportLaws
 pub mod Live
 pub mod VolumeLaws

@@ -15,7 +15,7 @@ use Rattle.ffs_volume.specs.Directories.Roles.{references_below}
 use Rattle.ffs_volume.specs.Disk.Search.{first_below, earliest}
 use Rattle.ffs_volume.specs.Directories.Climb.{climb}
 use Rattle.ffs_volume.specs.Directories.Graph.{within, level, parent}
-use Rattle.ffs_volume.specs.Messages.Kinds.{lines_below, has_defect}
+use Rattle.ffs_volume.specs.Messages.Kinds.{lines_below, has_defect, opening}
 use Rattle.ffs_volume.specs.Directories.PathnameCheck.{attributes, root_lines, shape_lines, dot_lines, dotdot_lines}
 use Rattle.ffs_volume.specs.Directories.PathnameCheck.{named_lines, plain_lines, entry_lines, lines_of_entries}
 use Rattle.ffs_volume.specs.Directories.PathnameCheck.{sized_dir_lines, pathname_lines}
@@ -25,19 +25,16 @@ use Rattle.ffs_volume.specs.Groups.Records.{right_group_counts, right_frsum, rig
 use Rattle.ffs_volume.specs.Groups.Records.{has_right_maps, has_right_sums, has_right_record, has_right_totals}
 use Rattle.ffs_volume.specs.Groups.GroupCheck.{phase5_lines}
 use Rattle.ffs_volume.specs.Directories.Volumes.{chunk_source_of, volume_with, volume_of}
-use Rattle.ffs_volume.specs.Report.Opening.{setting_lines}
-use Rattle.ffs_volume.specs.Report.Whole.{file_count, used_count, later_phase_lines, phase_lines, report_lines}
-use Rattle.ffs_volume.specs.Report.Whole.{report_of, report_end}
-use Rattle.ffs_volume.specs.Examples.Images.{bytes_in, word, zeros, base_layout, base_superblock, base_super}
+use Rattle.ffs_volume.specs.Report.Opening.{setting_lines, head_lines}
+use Rattle.ffs_volume.specs.Report.Whole.{file_count, claimed_count, later_phase_lines, phase_lines, report_lines}
+use Rattle.ffs_volume.specs.Report.Whole.{report_of, report_end, lines_by_outcome, end_by_outcome}
+use Rattle.ffs_volume.specs.Examples.Images.{bytes_in, word, zero_bytes, base_layout, base_superblock, base_super}
 use Rattle.ffs_volume.specs.Examples.Images.{base_summary, base_group, root_inode, root_chunk, base_image}
 use Rattle.ffs_volume.specs.Examples.DirectoryExamples.{entry_bytes}
 use Rattle.ffs_certificate.specs.ReportExamples.{ReportExamples, inode_bytes, dir_chunk, two_dirs, named_dir}
 use Rattle.ffs_certificate.specs.ReportExamples.{unnamed_dir, shared_summary, shared_group, shared_image}
 use Rattle.ffs_certificate.specs.ReportExamples.{shared_superblock}
 use Rattle.ffs_volume.specs.declared.Order.TheVariants.{Little, Big}
-use Rattle.ffs_volume.specs.Messages.Kinds.{opening}
-use Rattle.ffs_volume.specs.Report.Opening.{head_lines}
-use Rattle.ffs_volume.specs.Report.Whole.{lines_by_outcome, end_by_outcome}
 use Rattle.ffs_certificate.proofs.ReportLaws.{certified}
 use Rattle.std.specs.Prelude.{codes}
 use Rattle.ffs_volume.proofs.OpeningExamples.{superblock_examples}
@@ -46,7 +43,7 @@ use Rattle.ffs_certificate.proofs.SharedReport.{shared_lines}
 use Rattle.ffs_certificate.proofs.DirReport.{named_pathnames, named_connected, named_references, unnamed}
 
 pub report_examples : ReportExamples
-unfolding bytes_in word zeros base_layout base_superblock base_super base_summary base_group root_inode root_chunk
+unfolding bytes_in word zero_bytes base_layout base_superblock base_super base_summary base_group root_inode root_chunk
     base_image entry_bytes inode_bytes dir_chunk two_dirs named_dir unnamed_dir shared_summary shared_group shared_image
     shared_superblock number all_below u16_at i16_at u32_at u64_at i32_at cgoffset_of cgbase cgstart is_group_metadata
     is_fragment_in_range is_run_in_range is_reserved inode_from_bytes inode_of class_of steps_at steps_of owner_of
@@ -56,7 +53,7 @@ unfolding bytes_in word zeros base_layout base_superblock base_super base_summar
     shape_lines dot_lines dotdot_lines named_lines plain_lines entry_lines lines_of_entries sized_dir_lines
     pathname_lines
     connectivity_lines inode_lines reference_lines right_group_counts right_frsum right_total maps_fit has_right_magic
-    has_right_maps has_right_sums has_right_record has_right_totals phase5_lines setting_lines file_count used_count
+    has_right_maps has_right_sums has_right_record has_right_totals phase5_lines setting_lines file_count claimed_count
     later_phase_lines phase_lines report_lines report_of report_end
 report_examples =
     let accepted = superblock_examples.accepted in

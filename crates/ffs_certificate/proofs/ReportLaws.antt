@@ -11,7 +11,7 @@ use Rattle.ffs_volume.specs.declared.End.TheVariants.{Consistent}
 use Rattle.ffs_volume.specs.Disk.Superblock.{Superblock}
 use Rattle.ffs_volume.specs.Laws.Geometry.{IsAcceptedLayout}
 use Rattle.ffs_volume.proofs.AcceptedLaws.{accepted_sound}
-use Rattle.ffs_volume.specs.Blocks.Owners.{Owner, owners_of}
+use Rattle.ffs_volume.specs.Blocks.Owners.{owners_of}
 use Rattle.ffs_volume.specs.Blocks.BlockCheck.{phase1_lines, phase1b_lines, has_rescan}
 use Rattle.ffs_volume.specs.Consistent.BlocksRight.{BlocksRight}
 use Rattle.ffs_certificate.proofs.BlocksSilent.{phase1_silent, phase1b_silent}
@@ -19,12 +19,11 @@ use Rattle.ffs_volume.specs.Groups.Records.{AreGroupsRight}
 use Rattle.ffs_volume.specs.Groups.GroupCheck.{phase5_lines, is_free_of_kept}
 use Rattle.ffs_certificate.proofs.GroupLaws.{phase5_silent, same_free}
 use Rattle.ffs_volume.specs.Messages.Kinds.{Message, TreeMessage, optimization, minfree, mounted, phase1b, of_blocks}
-use Rattle.ffs_volume.specs.Messages.Kinds.{of_tree, is_defect, has_defect}
+use Rattle.ffs_volume.specs.Messages.Kinds.{of_tree, is_defect, has_defect, unless}
 use Rattle.ffs_volume.specs.Report.Opening.{
   before_nul,
   has_valid_optim,
   has_valid_minfree,
-  message_unless,
   setting_lines,
 }
 use Rattle.ffs_volume.specs.Report.Opening.{super_lines}
@@ -38,7 +37,7 @@ use Rattle.ffs_volume.specs.Directories.Volumes.{class_at, volume_of, whole_volu
 use Rattle.ffs_volume.specs.Consistent.Volume.{AreSettingsRight, IsConsistent}
 use Rattle.ffs_volume.specs.Report.Whole.{rescan_lines, later_phase_lines, phase_lines, report_lines, end_by, end_of}
 use Rattle.ffs_certificate.specs.ReportRight.{IsCertified, ReportIsRight, StopIsReported}
-use Rattle.ffs_certificate.proofs.Silence.{nil-left}
+use Rattle.ffs_volume.proofs.Silence.{nil-left}
 use Rattle.ffs_certificate.proofs.DirsCertificate.{silent_right}
 use Rattle.ffs_certificate.proofs.VolumeLaws.{whole_is_volume, whole_unmarked, same_whole}
 
@@ -63,20 +62,20 @@ quiet_blocks ms e = ap (λ ms. has_defect (map of_blocks ms)) e
 quiet_names : (ms : List TreeMessage) → ms ≡ [] → has_defect (map of_tree ms) ≡ false
 quiet_names ms e = ap (λ ms. has_defect (map of_tree ms)) e
 
-kept_line : (b : Bool) (line : Message) → is_defect line ≡ true → has_defect (message_unless b line) ≡ false → b ≡ true
+kept_line : (b : Bool) (line : Message) → is_defect line ≡ true → has_defect (unless b line) ≡ false → b ≡ true
 kept_line true line d h = refl
 kept_line false line d h = (let r : true ≡ false = sym d ∙ (or_parts (is_defect line) false h).0 in absurd (cc))
 
-no_line : (b : Bool) (line : Message) → b ≡ true → has_defect (message_unless b line) ≡ false
-no_line b line e = ap (λ b. has_defect (message_unless b line)) e
+no_line : (b : Bool) (line : Message) → b ≡ true → has_defect (unless b line) ≡ false
+no_line b line e = ap (λ b. has_defect (unless b line)) e
 
 -- THE SETTINGS
 settings_say : (super : Superblock) → has_defect (super_lines super) ≡ false → AreSettingsRight super
 unfolding setting_lines
 settings_say super h =
     let a = quiet_parts (setting_lines super) (mounted (before_nul super.mount) ∷ []) h in
-    let p = quiet_parts (message_unless (has_valid_optim super) optimization)
-    (message_unless (has_valid_minfree super) (minfree super.minfree)) a.0 in
+    let p = quiet_parts (unless (has_valid_optim super) optimization)
+    (unless (has_valid_minfree super) (minfree super.minfree)) a.0 in
     record {
       optimization = kept_line (has_valid_optim super) optimization refl p.0;
       minfree = kept_line (has_valid_minfree super) (minfree super.minfree) refl p.1;
@@ -86,12 +85,12 @@ settings_quiet : (super : Superblock) → AreSettingsRight super → has_defect 
 unfolding setting_lines
 settings_quiet super s =
     quiet_from (setting_lines super) (mounted (before_nul super.mount) ∷ [])
-    (quiet_from (message_unless (has_valid_optim super) optimization)
-    (message_unless (has_valid_minfree super) (minfree super.minfree))
+    (quiet_from (unless (has_valid_optim super) optimization)
+    (unless (has_valid_minfree super) (minfree super.minfree))
     (no_line (has_valid_optim super) optimization s.optimization)
     (no_line (has_valid_minfree super) (minfree super.minfree) s.minfree)) refl
 
-nil_message : (b : Bool) (message : Message) → message_unless b message ≡ [] → b ≡ true
+nil_message : (b : Bool) (message : Message) → unless b message ≡ [] → b ≡ true
 nil_message true message h = refl
 nil_message false message h = absurd (cc)
 
@@ -104,14 +103,14 @@ pub settings_reported : (super : Superblock) → (setting_lines super ≡ []) �
 unfolding setting_lines
 settings_reported super = (
   (λ h.
-      let p = nil_parts (message_unless (has_valid_optim super) optimization)
-      (message_unless (has_valid_minfree super) (minfree super.minfree)) h in
+      let p = nil_parts (unless (has_valid_optim super) optimization)
+      (unless (has_valid_minfree super) (minfree super.minfree)) h in
       record {
         optimization = nil_message (has_valid_optim super) optimization p.0;
         minfree = nil_message (has_valid_minfree super) (minfree super.minfree) p.1;
       }),
-  (λ r. ap (λ b. message_unless b optimization ++ message_unless (has_valid_minfree super) (minfree super.minfree))
-      r.optimization ∙ ap (λ b. message_unless b (minfree super.minfree)) r.minfree),
+  (λ r. ap (λ b. unless b optimization ++ unless (has_valid_minfree super) (minfree super.minfree))
+      r.optimization ∙ ap (λ b. unless b (minfree super.minfree)) r.minfree),
 )
 
 -- THE ROOT: a run that stops after it has reported so
@@ -252,17 +251,17 @@ end_quiet true true e = absurd (cc)
 end_quiet true false e = refl
 end_quiet false defect e = absurd (cc)
 
-goes_on_quiet : (image : List ℕ) (super : Superblock) → has_defect (report_lines image super) ≡ false →
+quiet_continues : (image : List ℕ) (super : Superblock) → has_defect (report_lines image super) ≡ false →
     continues_after_root (volume_of super.layout image) ≡ true
 unfolding report_lines
-goes_on_quiet image super h =
+quiet_continues image super h =
     root_there (volume_of super.layout image) (text_say image super (quiet_parts (super_lines super) _ h).1).pathnames
 
 end_consistent : (image : List ℕ) (super : Superblock) → has_defect (report_lines image super) ≡ false →
     end_of image super ≡ Consistent
 unfolding end_of
 end_consistent image super h = ap (end_by (continues_after_root (volume_of super.layout image))) h
-    ∙ ap (λ b. end_by b false) (goes_on_quiet image super h)
+    ∙ ap (λ b. end_by b false) (quiet_continues image super h)
 
 consistent_end : (image : List ℕ) (super : Superblock) → end_of image super ≡ Consistent →
     has_defect (report_lines image super) ≡ false

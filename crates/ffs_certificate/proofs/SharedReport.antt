@@ -15,7 +15,8 @@ use Rattle.ffs_volume.specs.Directories.Roles.{references_below}
 use Rattle.ffs_volume.specs.Disk.Search.{first_below, earliest}
 use Rattle.ffs_volume.specs.Directories.Climb.{climb}
 use Rattle.ffs_volume.specs.Directories.Graph.{within, level, parent}
-use Rattle.ffs_volume.specs.Messages.Kinds.{lines_below}
+use Rattle.ffs_volume.specs.Messages.Kinds.{lines_below, mounted, phase1, phase1b, phase2, phase3, phase4, phase5}
+use Rattle.ffs_volume.specs.Messages.Kinds.{of_blocks, of_tree, summary, dup_bad}
 use Rattle.ffs_volume.specs.Directories.PathnameCheck.{attributes, root_lines, shape_lines, dot_lines, dotdot_lines}
 use Rattle.ffs_volume.specs.Directories.PathnameCheck.{named_lines, plain_lines, entry_lines, lines_of_entries}
 use Rattle.ffs_volume.specs.Directories.PathnameCheck.{sized_dir_lines, pathname_lines}
@@ -26,9 +27,9 @@ use Rattle.ffs_volume.specs.Groups.Records.{has_right_maps, has_right_sums, has_
 use Rattle.ffs_volume.specs.Groups.GroupCheck.{phase5_lines}
 use Rattle.ffs_volume.specs.Directories.Volumes.{chunk_source_of, volume_with, volume_of}
 use Rattle.ffs_volume.specs.Report.Opening.{setting_lines}
-use Rattle.ffs_volume.specs.Report.Whole.{file_count, used_count, later_phase_lines, phase_lines, report_lines}
-use Rattle.ffs_volume.specs.Examples.Images.{bytes_in, word, zeros, base_layout, base_superblock, base_super}
-use Rattle.ffs_volume.specs.Examples.Images.{base_summary, base_group, root_inode, root_chunk, base_image}
+use Rattle.ffs_volume.specs.Report.Whole.{file_count, claimed_count, later_phase_lines, phase_lines, report_lines}
+use Rattle.ffs_volume.specs.Examples.Images.{bytes_in, word, zero_bytes, base_layout, base_superblock, base_super}
+use Rattle.ffs_volume.specs.Examples.Images.{base_summary, base_group, root_inode, root_chunk, base_image, mount_bytes}
 use Rattle.ffs_volume.specs.Examples.DirectoryExamples.{entry_bytes}
 use Rattle.ffs_certificate.specs.ReportExamples.{inode_bytes, dir_chunk, two_dirs, named_dir, unnamed_dir}
 use Rattle.ffs_certificate.specs.ReportExamples.{shared_summary, shared_group, shared_image, shared_superblock}
@@ -36,17 +37,14 @@ use Rattle.ffs_certificate.specs.ReportExamples.{about_file}
 use Rattle.std.specs.Prelude.{◌≡◌, [], pos}
 use Rattle.ffs_volume.specs.declared.BlockMessage.TheVariants.{Dup}
 use Rattle.ffs_volume.specs.declared.Label.TheVariants.{File as FileLabel}
-use Rattle.ffs_volume.specs.Messages.Kinds.{mounted, phase1, phase1b, phase2, phase3, phase4, phase5, of_blocks}
-use Rattle.ffs_volume.specs.Messages.Kinds.{of_tree, summary, dup_bad}
 use Rattle.ffs_volume.specs.Directories.Paths.{longest_end, path_bytes, names_down, dir_path, entry_path}
-use Rattle.ffs_volume.specs.Examples.Images.{mount_bytes}
 
 pub shared_lines : report_lines shared_image shared_superblock
     ≡ mounted mount_bytes ∷ phase1 ∷ of_blocks (Dup 37 4) ∷ phase1b ∷ of_blocks (Dup 37 3)
     ∷ phase2 ∷ of_tree (dup_bad (about_file 3) FileLabel (47 ∷ 97 ∷ []))
     ∷ of_tree (dup_bad (about_file 4) FileLabel (47 ∷ 98 ∷ []))
     ∷ phase3 ∷ phase4 ∷ phase5 ∷ summary 3 2 (pos 93) (pos 5) (pos 22) (pos 52) ∷ []
-unfolding bytes_in word zeros base_layout base_superblock base_super base_summary base_group root_inode root_chunk
+unfolding bytes_in word zero_bytes base_layout base_superblock base_super base_summary base_group root_inode root_chunk
     base_image entry_bytes inode_bytes dir_chunk two_dirs named_dir unnamed_dir shared_summary shared_group shared_image
     shared_superblock number all_below u16_at i16_at u32_at u64_at i32_at cgoffset_of cgbase cgstart is_group_metadata
     is_fragment_in_range is_run_in_range is_reserved inode_from_bytes inode_of class_of steps_at steps_of owner_of
@@ -56,6 +54,6 @@ unfolding bytes_in word zeros base_layout base_superblock base_super base_summar
     shape_lines dot_lines dotdot_lines named_lines plain_lines entry_lines lines_of_entries sized_dir_lines
     pathname_lines
     connectivity_lines inode_lines reference_lines right_group_counts right_frsum right_total maps_fit has_right_magic
-    has_right_maps has_right_sums has_right_record has_right_totals phase5_lines setting_lines file_count used_count
+    has_right_maps has_right_sums has_right_record has_right_totals phase5_lines setting_lines file_count claimed_count
     later_phase_lines phase_lines report_lines longest_end path_bytes names_down dir_path entry_path
 shared_lines = refl

@@ -18,7 +18,7 @@ use Rattle.ffs_volume.specs.Directories.Parents.{graph_of, nth_roled, first_nami
 use Rattle.ffs_volume.specs.Directories.PathnameCheck.{is_first_entry_of_suspect}
 use Rattle.ffs_volume.specs.Directories.Connectivity.{is_dead}
 use Rattle.ffs_certificate.specs.Premises.{IsVolume, IsUnmarked}
-use Rattle.ffs_certificate.proofs.Silence.{and_false-from}
+use Rattle.ffs_volume.proofs.Booleans.{and_false-from}
 use Rattle.ffs_certificate.proofs.Entries.{IsNamer, names_at-gives}
 use Rattle.ffs_certificate.proofs.Dirs.{IsPathnameQuiet, dir-below}
 use Rattle.ffs_certificate.proofs.Counts.{IsCountQuiet}

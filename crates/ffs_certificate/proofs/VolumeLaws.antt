@@ -20,8 +20,7 @@ use Rattle.ffs_volume.specs.Blocks.BlockCheck.{is_marked}
 use Rattle.ffs_volume.specs.Consistent.BlocksRight.{is_right_class, BlocksRight}
 use Rattle.ffs_volume.proofs.Sizes.{some_inodes, no_steps}
 use Rattle.ffs_certificate.proofs.GroupLaws.{all_at}
-use Rattle.ffs_volume.specs.Blocks.Claims.{at_next_inode}
-use Rattle.ffs_volume.specs.Blocks.KeptSteps.{kept_steps, kept_steps_of, claims_before}
+use Rattle.ffs_volume.specs.Blocks.KeptSteps.{kept_steps_of}
 use Rattle.ffs_certificate.proofs.SilentLaws.{all_kept, none_marked}
 use Rattle.ffs_volume.specs.Directories.Entries.{chunks_of}
 use Rattle.ffs_volume.specs.Directories.Roles.{roled_chunk, roled_entries}

@@ -8,7 +8,7 @@ use Rattle.ffs_volume.specs.Blocks.BlockCheck.{phase1_lines, phase1b_lines, kept
 use Rattle.ffs_volume.specs.Consistent.BlocksRight.{BlocksRight}
 use Rattle.ffs_volume.specs.Groups.Records.{AreGroupsRight}
 use Rattle.ffs_volume.specs.Groups.GroupCheck.{phase5_lines, is_free_of_kept, is_free_of_runs}
-use Rattle.ffs_volume.specs.Blocks.Keeping.{all_offers, is_claimed_before, verdicts, kept_by_rule}
+use Rattle.ffs_volume.specs.Blocks.KeptByRule.{all_offers, is_claimed_before, verdicts, kept_by_rule}
 use Rattle.ffs_volume.specs.Directories.Volumes.{class_at}
 
 -- no line of phases 1, 1b and 5 exactly where blocks and groups are right

@@ -4,6 +4,7 @@ use Rattle.std.specs.List.{list_all, list_any}
 use Rattle.ffs_volume.specs.declared.BlockMessage.{BlockMessage}
 use Rattle.ffs_volume.specs.declared.BlockMessage.TheVariants.{PartAlloc, UnknownType}
 use Rattle.ffs_volume.specs.declared.Role.TheVariants.{Extra, Plain}
+use Rattle.ffs_volume.specs.declared.constants.TheConstants.{DT_DIR, WINO}
 use Rattle.ffs_volume.specs.Disk.Superblock.{Superblock}
 use Rattle.ffs_volume.specs.Disk.Outcome.{outcome}
 use Rattle.ffs_volume.specs.Blocks.Owners.{owners_of}
@@ -19,8 +20,7 @@ use Rattle.ffs_volume.specs.Directories.Graph.{parent}
 use Rattle.ffs_volume.specs.Directories.Parents.{graph_of, nth_roled}
 use Rattle.ffs_volume.specs.Report.Opening.{setting_lines}
 use Rattle.ffs_volume.specs.Directories.PathnameCheck.{continues_after_root, is_short, has_partial_chunk, are_sound}
-use Rattle.ffs_volume.specs.Directories.PathnameCheck.{is_wrong_parent}
-use Rattle.ffs_volume.specs.Directories.PathnameCheck.{is_bad_whiteout, is_extraneous, has_wrong_type}
+use Rattle.ffs_volume.specs.Directories.PathnameCheck.{is_wrong_parent, is_bad_whiteout, is_extraneous, has_wrong_type}
 use Rattle.ffs_volume.specs.Directories.Connectivity.{is_unref_dir}
 use Rattle.ffs_volume.specs.Disk.Numbers.{equals_natural}
 use Rattle.ffs_volume.specs.Consistent.DirectoriesRight.{AreDirsRight, AreLinksRight, AreCountsRight}
@@ -44,7 +44,7 @@ pub record IsNameUnreported (v : Volume) (e : Entry) : Type 0 where
 pub record IsPlainUnreported (v : Volume) (e : Entry) : Type 0 where
   pub below : nat_lt e.number v.count ≡ true
   pub no_whiteout : is_bad_whiteout e ≡ false
-  pub named : (e.number == 1) ≡ false → IsNameUnreported v e
+  pub named : (e.number == WINO) ≡ false → IsNameUnreported v e
 
 -- a directory isn't of size 0, TOO SHORT, NOT MULTIPLE, with EMPTY BLOCKS or CORRUPTED; `.` and `..` aren't MISSING,
 -- with a bad number of `.` or BAD TYPE VALUE; there is no EXTRA entry
@@ -54,8 +54,8 @@ pub record IsDirUnreported (v : Volume) (d : ℕ) : Type 0 where
   pub broken : has_partial_chunk v d ≡ false
   pub gap : v.gap d ≡ false
   pub sound : are_sound (v.chunks d) ≡ true
-  pub dot_there : IsSomeAnd (dot v d) (λ e. (e.number ≡ d) × (e.kind ≡ 4))
-  pub dotdot_there : IsSomeAnd (dotdot v d) (λ e. e.kind ≡ 4)
+  pub dot_there : IsSomeAnd (dot v d) (λ e. (e.number ≡ d) × (e.kind ≡ DT_DIR))
+  pub dotdot_there : IsSomeAnd (dotdot v d) (λ e. e.kind ≡ DT_DIR)
   pub no_extra : (j : ℕ) (s : RoledEntry) → nth_roled (roled_entries v d) j ≡ Some s → s.role ≢ Extra
   pub plain : (j : ℕ) (s : RoledEntry) → nth_roled (roled_entries v d) j ≡ Some s → s.role ≡ Plain
       → IsPlainUnreported v s.entry

@@ -4,8 +4,7 @@ use Rattle.ffs_volume.specs.Directories.Roles.{Volume}
 use Rattle.ffs_volume.specs.Directories.PathnameCheck.{pathname_lines}
 use Rattle.ffs_volume.specs.Directories.Connectivity.{connectivity_lines}
 use Rattle.ffs_volume.specs.Directories.ReferenceCheck.{reference_lines}
-use Rattle.ffs_volume.specs.Consistent.DirectoriesRight.{AreDirsRight, AreLinksRight}
-use Rattle.ffs_volume.specs.Consistent.DirectoriesRight.{AreCountsRight}
+use Rattle.ffs_volume.specs.Consistent.DirectoriesRight.{AreDirsRight, AreLinksRight, AreCountsRight}
 use Rattle.ffs_certificate.specs.Premises.{IsVolume, IsUnmarked}
 
 -- the three checks report nothing

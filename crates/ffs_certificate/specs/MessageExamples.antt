@@ -8,11 +8,10 @@ use Rattle.ffs_volume.specs.declared.End.TheVariants.{ReadFault, WriteFault, NoM
 use Rattle.ffs_volume.specs.declared.Label.TheVariants.{Dir as DirLabel, File as FileLabel, Name as NameLabel}
 use Rattle.ffs_volume.specs.declared.Order.TheVariants.{Little}
 use Rattle.ffs_volume.specs.declared.SuperFault.TheVariants.{Magic, Disagree}
-use Rattle.ffs_volume.specs.Messages.Kinds.{bad_super, cannot_read, cannot_alloc, optimization}
-use Rattle.ffs_volume.specs.Messages.Kinds.{minfree, mounted, phase1, of_blocks, of_tree, summary}
-use Rattle.ffs_volume.specs.Messages.Kinds.{root_not_dir, root_suspect, dir_length, missing_dot_first}
-use Rattle.ffs_volume.specs.Messages.Kinds.{kind_dotdot, out_of_range, dup_bad, extraneous, kind_entry}
-use Rattle.ffs_volume.specs.Messages.Kinds.{dead_marked, unref, unref_unlinked, link_count, is_defect}
+use Rattle.ffs_volume.specs.Messages.Kinds.{bad_super, cannot_read, cannot_alloc, optimization, minfree, mounted}
+use Rattle.ffs_volume.specs.Messages.Kinds.{phase1, of_blocks, of_tree, summary, root_not_dir, root_suspect, dir_length}
+use Rattle.ffs_volume.specs.Messages.Kinds.{missing_dot_first, kind_dotdot, out_of_range, dup_bad, extraneous}
+use Rattle.ffs_volume.specs.Messages.Kinds.{kind_entry, dead_marked, unref, unref_zero, link_count, is_defect}
 use Rattle.ffs_volume.specs.Report.Opening.{opening_of}
 use Rattle.ffs_volume.specs.Messages.Texts.{texts_of}
 use Rattle.ffs_volume.specs.Report.Memory.{held_limit, runs_limit}
@@ -73,7 +72,7 @@ pub record MessageExamples : Type 0 where
       ++ codes "REMOVE? no\n\nDUP/BAD I=3 OWNER=0 MODE=100644\nSIZE=100 MTIME=0\nNAME=/a\nREMOVE? no\n\n"
       ++ codes "BAD TYPE VALUE I=3 OWNER=0 MODE=100644\nSIZE=100 MTIME=0\nDIR=/a\nFIX? no\n\n"
   -- inodes with the greatest numbers; all that is no directory is called a file
-  pub inodes : texts_of (of_tree (unref FileLabel about_most) ∷ of_tree (unref_unlinked DirLabel about_root)
+  pub inodes : texts_of (of_tree (unref FileLabel about_most) ∷ of_tree (unref_zero DirLabel about_root)
       ∷ of_tree (dead_marked NameLabel (about_file 3)) ∷ of_tree (link_count DirLabel about_root (negsuc 1) 3) ∷ [])
       ≡ codes "UNREF FILE I=5 OWNER=4294967295 MODE=100600\nSIZE=18446744073709551615 MTIME=-1\nRECONNECT? no\n\n"
       ++ codes "CLEAR? no\n\nUNREF DIR I=2 OWNER=0 MODE=40755\nSIZE=512 MTIME=0\nCLEAR? no\n\n"

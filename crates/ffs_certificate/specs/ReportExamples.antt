@@ -15,15 +15,15 @@ use Rattle.ffs_volume.specs.Directories.ReferenceCheck.{reference_lines}
 use Rattle.ffs_volume.specs.Directories.Volumes.{volume_of}
 use Rattle.ffs_volume.specs.Report.Whole.{phase_lines, report_lines, report_of, report_end}
 use Rattle.ffs_volume.specs.Consistent.Volume.{IsConsistent}
-use Rattle.ffs_volume.specs.Examples.Images.{bytes_in, word, zeros, mount_bytes, base_layout}
+use Rattle.ffs_volume.specs.Examples.Images.{bytes_in, word, zero_bytes, mount_bytes, base_layout}
 use Rattle.ffs_volume.specs.Examples.Images.{base_superblock, base_image, root_chunk}
 use Rattle.ffs_volume.specs.Examples.DirectoryExamples.{entry_bytes, one_dot, two_dots}
 
 -- an inode of this mode, count of links and size, with its first address
 unfoldable pub inode_bytes : Order → ℕ → ℕ → ℕ → ℕ → List ℕ
 inode_bytes o mode nlink size address =
-    bytes_in o 2 mode ++ (bytes_in o 2 nlink ++ (zeros 4 ++ (bytes_in o 8 size
-    ++ (zeros 24 ++ (word o address ++ (zeros 60 ++ (word o 2 ++ zeros 20)))))))
+    bytes_in o 2 mode ++ (bytes_in o 2 nlink ++ (zero_bytes 4 ++ (bytes_in o 8 size
+    ++ (zero_bytes 24 ++ (word o address ++ (zero_bytes 60 ++ (word o 2 ++ zero_bytes 20)))))))
 
 -- a chunk with `.` and `..`, and these bytes of entries after them
 unfoldable pub dir_chunk : Order → ℕ → List ℕ → List ℕ
@@ -32,9 +32,9 @@ dir_chunk o d entries = entry_bytes o d 12 4 one_dot ++ (entry_bytes o 2 12 4 tw
 -- a directory inode 3 at fragment 37, and a root whose chunk this is. No superblock, and no group block
 unfoldable pub two_dirs : List ℕ → List ℕ
 two_dirs chunk =
-    zeros 28928 ++ (inode_bytes Little 16877 3 512 36 ++ (inode_bytes Little 16877 2 512 37
-    ++ (zeros 7680 ++ (chunk ++ (zeros 512
-    ++ (dir_chunk Little 3 (entry_bytes Little 0 488 0 []) ++ zeros 512))))))
+    zero_bytes 28928 ++ (inode_bytes Little 16877 3 512 36 ++ (inode_bytes Little 16877 2 512 37
+    ++ (zero_bytes 7680 ++ (chunk ++ (zero_bytes 512
+    ++ (dir_chunk Little 3 (entry_bytes Little 0 488 0 []) ++ zero_bytes 512))))))
 
 unfoldable pub named_dir : List ℕ
 named_dir = two_dirs (dir_chunk Little 2 (entry_bytes Little 3 488 4 (100 ∷ [])))
@@ -49,17 +49,17 @@ shared_summary = word Big 1 ++ (word Big 22 ++ (word Big 27 ++ word Big 5))
 
 unfoldable pub shared_group : List ℕ
 shared_group =
-    zeros 4 ++ (word Big 590421 ++ (zeros 4 ++ (word Big 0 ++ (zeros 4
-    ++ (word Big 128 ++ (shared_summary ++ (zeros 12 ++ (word Big 0 ++ (word Big 0 ++ (word Big 1
-    ++ (word Big 1 ++ (zeros 16 ++ (zeros 8 ++ (word Big 168 ++ (word Big 172 ++ (zeros 68
+    zero_bytes 4 ++ (word Big 590421 ++ (zero_bytes 4 ++ (word Big 0 ++ (zero_bytes 4
+    ++ (word Big 128 ++ (shared_summary ++ (zero_bytes 12 ++ (word Big 0 ++ (word Big 0 ++ (word Big 1
+    ++ (word Big 1 ++ (zero_bytes 16 ++ (zero_bytes 8 ++ (word Big 168 ++ (word Big 172 ++ (zero_bytes 68
     ++ ((31 ∷ 0 ∷ 0 ∷ 0 ∷ 0 ∷ 0 ∷ 0 ∷ 0 ∷ 206 ∷ []) ++ replicate 11 255)))))))))))))))))
 
 unfoldable pub shared_image : List ℕ
 shared_image =
-    zeros 24576 ++ (shared_group ++ (zeros 4164 ++ (inode_bytes Big 16877 2 512 36
-    ++ (inode_bytes Big 33188 1 100 37 ++ (inode_bytes Big 33188 1 100 37 ++ (zeros 3456
-    ++ (shared_summary ++ (zeros 4080
-    ++ (dir_chunk Big 2 (entry_bytes Big 3 12 8 (97 ∷ []) ++ entry_bytes Big 4 476 8 (98 ∷ [])) ++ zeros 3584)))))))))
+    zero_bytes 24576 ++ (shared_group ++ (zero_bytes 4164 ++ (inode_bytes Big 16877 2 512 36
+    ++ (inode_bytes Big 33188 1 100 37 ++ (inode_bytes Big 33188 1 100 37 ++ (zero_bytes 3456
+    ++ (shared_summary ++ (zero_bytes 4080
+    ++ (dir_chunk Big 2 (entry_bytes Big 3 12 8 (97 ∷ []) ++ entry_bytes Big 4 476 8 (98 ∷ [])) ++ zero_bytes 3584)))))))))
 
 unfoldable pub shared_superblock : Superblock
 shared_superblock = record {
@@ -67,7 +67,7 @@ shared_superblock = record {
   optim = pos 0;
   minfree = pos 10;
   cstotal = pos 1 ∷ pos 22 ∷ pos 27 ∷ pos 5 ∷ [];
-  mount = mount_bytes ++ zeros 508;
+  mount = mount_bytes ++ zero_bytes 508;
 }
 
 abbrev pub about_file : ℕ → Attr
@@ -92,7 +92,7 @@ pub record ReportExamples : Type 0 where
       ∷ of_tree (dup_bad (about_file 4) FileLabel (47 ∷ 98 ∷ []))
       ∷ phase3 ∷ phase4 ∷ phase5 ∷ summary 3 2 (pos 93) (pos 5) (pos 22) (pos 52) ∷ []
   -- no root: the run stops
-  pub stopped : phase_lines (zeros 40960) (base_superblock Little) ≡ phase1 ∷ phase2 ∷ of_tree root_none ∷ []
+  pub stopped : phase_lines (zero_bytes 40960) (base_superblock Little) ≡ phase1 ∷ phase2 ∷ of_tree root_none ∷ []
   -- a directory below the root, and the same without its name
   pub named_pathnames : pathname_lines (volume_of (base_layout Little) named_dir) ≡ []
   pub named_connected : connectivity_lines (volume_of (base_layout Little) named_dir) ≡ []

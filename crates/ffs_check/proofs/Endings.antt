@@ -6,9 +6,8 @@ use Rattle.ffs_image.specs.Device.{Device, Faulted}
 use Rattle.ffs_volume.specs.declared.End.{End}
 use Rattle.ffs_volume.specs.declared.End.TheVariants.{ReadFault, WriteFault}
 use Rattle.ffs_volume.specs.Disk.Superblock.{Superblock}
-use Rattle.ffs_volume.specs.Messages.Kinds.{Message, cannot_read, minfree, mounted, optimization, has_defect, is_defect}
+use Rattle.ffs_volume.specs.Messages.Kinds.{Message, cannot_read, minfree, mounted, optimization, has_defect, is_defect, unless}
 use Rattle.ffs_volume.specs.Report.Opening.{before_nul, has_valid_minfree, has_valid_optim, setting_lines, super_lines}
-use Rattle.ffs_volume.specs.Report.Opening.{message_unless}
 use Rattle.ffs_volume.specs.Report.Whole.{end_by}
 use Rattle.std.specs.Borrow.{GName}
 use Rattle.ffs_report.specs.Sink.{Sink}
@@ -173,10 +172,10 @@ prints_at reported knows lines continues image image' out at at' end e prints =
 -- the settings of an accepted superblock report a defect where one of them isn't what it may be
 settings_defect : (a b : Bool) (x y : Message) → is_defect x ≡ true → is_defect y ≡ true → (xs : List Message) →
     has_defect xs ≡ false →
-    not (a && b) ≡ has_defect ((message_unless a x ++ message_unless b y) ++ xs)
+    not (a && b) ≡ has_defect ((unless a x ++ unless b y) ++ xs)
 settings_defect true true x y dx dy xs e = sym e
 settings_defect true false x y dx dy xs e = sym (ap (λ d. d || has_defect xs) dy)
-settings_defect false b x y dx dy xs e = sym (ap (λ d. d || has_defect (message_unless b y ++ xs)) dx)
+settings_defect false b x y dx dy xs e = sym (ap (λ d. d || has_defect (unless b y ++ xs)) dx)
 
 pub opening_defect : (s : Superblock) → not (has_valid_optim s && has_valid_minfree s) ≡ has_defect (super_lines s)
 unfolding setting_lines

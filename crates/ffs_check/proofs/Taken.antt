@@ -1,7 +1,7 @@
 -- What a check takes of its memory, after an accepted superblock.
 use Rattle.std.proofs.Common.{◌≡◌, arith, inl, inr, ◌∙◌, sym, subst, ℕ, Bool, true, false, List, Option, Ok, Err}
 use Rattle.ffs_image.specs.Device.{Device, ForContents}
-use Rattle.ffs_memory.specs.Account.{Account, Rose, unused}
+use Rattle.ffs_memory.specs.Account.{Account, RefusedOneMore, unused}
 use Rattle.ffs_memory.specs.System.{account_of}
 use Rattle.ffs_memory.specs.declared.system.SystemMemory.{SystemMemory}
 use Rattle.ffs_volume.specs.declared.End.{End}
@@ -16,7 +16,7 @@ use Rattle.ffs_layout.specs.Super.{ReadsSuper, superblock_in}
 use Rattle.ffs_workspace.specs.Lengths.{held_of}
 use Rattle.ffs_check.specs.PhaseEnds.{SaysPhases}
 use Rattle.ffs_check.specs.Opening.{SaysOpening}
-use Rattle.ffs_check.specs.Taken.{Asked, Takes, TakesOfSystem, TakesWorkspace}
+use Rattle.ffs_check.specs.Taken.{AsksMemory, Takes, TakesOfSystem, TakesWorkspace}
 
 accepted_by : (image image' : Device) (sector : Option ℕ) (s : Superblock) → ReadsSuper image image' sector (Ok s) →
     ForContents image.contents (λ bytes. outcome bytes sector ≡ Ok s)
@@ -25,7 +25,7 @@ accepted_by image image' sector s (inr read) = λ bytes t. sym (read.1 bytes t)
 
 pub takes : (image on : Device) (name : List ℕ) (sector : Option ℕ) (start p : Progress) (found : Super)
     (old new : Account) →
-    SaysOpening image on start p name sector (Ok found) → Asked old new (held_of found.geometry.layout) →
+    SaysOpening image on start p name sector (Ok found) → AsksMemory old new (held_of found.geometry.layout) →
     TakesWorkspace image sector old new
 takes image on name sector start p found old new o a = record {
   found = superblock_in found;
@@ -71,7 +71,7 @@ opened_for_memory image on old new name sector end o e = elim o.ends [
 -- a check over the memory of the system, which was new
 pub of_system : (image : Device) (sector : Option ℕ) (end : End) (memory memory' : SystemMemory) →
     account_of memory ≡ unused → Takes image sector (account_of memory) (account_of memory') →
-    (end ≡ NoMemory → Rose (account_of memory).refused (account_of memory').refused) → TakesOfSystem image sector end
+    (end ≡ NoMemory → RefusedOneMore (account_of memory) (account_of memory')) → TakesOfSystem image sector end
 of_system image sector end memory memory' begun takes refused = record {
   memory = memory;
   memory' = memory';

@@ -12,7 +12,7 @@ use Rattle.ffs_volume.specs.Directories.Volumes.{volume_of}
 use Rattle.ffs_volume.specs.Directories.PathnameCheck.{pathname_lines, continues_after_root}
 use Rattle.ffs_volume.specs.Directories.Connectivity.{connectivity_lines}
 use Rattle.ffs_volume.specs.Directories.ReferenceCheck.{reference_lines}
-use Rattle.ffs_volume.specs.Report.Whole.{rescan_lines, group_check_lines, summary_of, file_count, used_count}
+use Rattle.ffs_volume.specs.Report.Whole.{rescan_lines, group_check_lines, summary_of, file_count, claimed_count}
 use Rattle.ffs_workspace.specs.declared.workspace.Workspace.{Workspace}
 use Rattle.ffs_workspace.specs.Holds.{IsFresh, HoldsPhase1}
 use Rattle.ffs_workspace.specs.Lengths.{has_dups}
@@ -37,7 +37,7 @@ abbrev pub phase5_part : List ℕ → Superblock → List Message
 phase5_part image s = phase5 ∷ group_check_lines image s
 
 abbrev pub summary_part : List ℕ → Superblock → List Message
-summary_part image s = summary_of s (file_count s.layout image) (used_count s.layout image) ∷ []
+summary_part image s = summary_of s (file_count s.layout image) (claimed_count s.layout image) ∷ []
 
 -- phase 5 and the summary
 abbrev pub from_phase5 : List ℕ → Superblock → List Message

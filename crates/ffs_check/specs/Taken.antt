@@ -1,7 +1,7 @@
 -- What a check takes of its memory.
 use Rattle.std.specs.Prelude.{◌≡◌, ◌≤◌, ◌⊎◌, ℕ, Option, Ok}
 use Rattle.ffs_image.specs.Device.{Device, ForContents}
-use Rattle.ffs_memory.specs.Account.{Account, Granted, GaveUp, Rose, unused}
+use Rattle.ffs_memory.specs.Account.{Account, Granted, GaveUp, RefusedOneMore, unused}
 use Rattle.ffs_memory.specs.System.{account_of}
 use Rattle.ffs_memory.specs.declared.system.SystemMemory.{SystemMemory}
 use Rattle.ffs_volume.specs.declared.End.{End}
@@ -12,15 +12,15 @@ use Rattle.ffs_volume.specs.Disk.Superblock.{Superblock}
 use Rattle.ffs_workspace.specs.Lengths.{held_of}
 
 -- these bytes were granted, or a request was refused before all of them were
-abbrev pub Asked : Account → Account → ℕ → Type 0
-Asked old new bytes = Granted old new bytes ⊎ GaveUp old new bytes
+abbrev pub AsksMemory : Account → Account → ℕ → Type 0
+AsksMemory old new bytes = Granted old new bytes ⊎ GaveUp old new bytes
 
 -- what the workspace of an accepted volume holds was granted and no byte more, which is within the limit, or a request
 -- was refused
 pub record TakesWorkspace (image : Device) (sector : Option ℕ) (old new : Account) : Type 0 where
   pub found : Superblock
   pub accepted : ForContents image.contents (λ bytes. outcome bytes sector ≡ Ok found)
-  pub asked : Asked old new (held_of found.layout)
+  pub asked : AsksMemory old new (held_of found.layout)
   pub within : held_of found.layout ≤ held_limit found.layout
 
 -- nothing was taken, or the workspace of an accepted volume
@@ -34,4 +34,4 @@ pub record TakesOfSystem (image : Device) (sector : Option ℕ) (end : End) : Ty
   pub memory' : SystemMemory
   pub begun : account_of memory ≡ unused
   pub takes : Takes image sector (account_of memory) (account_of memory')
-  pub refused : end ≡ NoMemory → Rose (account_of memory).refused (account_of memory').refused
+  pub refused : end ≡ NoMemory → RefusedOneMore (account_of memory) (account_of memory')

@@ -10,8 +10,8 @@ use Rattle.clap.specs.declared.error.kind.ErrorKind.TheVariants.{OutOfMemory}
 use Rattle.clap.specs.declared.parser.matches.ArgMatches.{ArgMatches}
 
 -- `-n` or `-N`, each as often as one likes: one of them has to be there
-abbrev pub no_rule : Rule
-no_rule = record (new_rule (codes "no")) {
+abbrev pub read_only_rule : Rule
+read_only_rule = record (new_rule (codes "no")) {
   short = Some 110;
   short_aliases = 78 ∷ [];
   action = Some Count;
@@ -38,7 +38,7 @@ unnamed = let a = new_app (codes "fsck_ffs") in
 
 -- the program's words
 abbrev pub program : App
-program = with_rule (with_rule (with_rule unnamed no_rule) sector_rule) image_rule
+program = with_rule (with_rule (with_rule unnamed read_only_rule) sector_rule) image_rule
 
 -- why `clap` refuses the words: nothing where it takes them
 abbrev pub refusals : List Text → Kinds

@@ -2,7 +2,7 @@
 ghost use Rattle.std.specs.Prelude.{◌≡◌, false, map, IfOk, MatchResult};
 ghost use Rattle.clap.specs.Words.{app_of, kind_of, rule_of};
 ghost use Rattle.clap.specs.declared.error.kind.ErrorKind.TheVariants.{OutOfMemory};
-ghost use Rattle.ffs_check.specs.Words.{AreRefusedBy, AskFor, HasMatches, image_rule, no_rule};
+ghost use Rattle.ffs_check.specs.Words.{AreRefusedBy, AskFor, HasMatches, image_rule, read_only_rule};
 ghost use Rattle.ffs_check.specs.Words.{program, sector_rule};
 
 use crate::args::Args;
@@ -14,8 +14,8 @@ use std::alloc::{AllocError, Global};
 const SECTOR_END: i64 = 4194304;
 
 /// `-n` or `-N`: nothing is written.
-fn answer_no_argument<'a>(alloc: Global) -> Result<Arg<'a>, AllocError>
-    ensures rule { IfOk result (λ argument. rule_of argument ≡ no_rule) }
+fn read_only_argument<'a>(alloc: Global) -> Result<Arg<'a>, AllocError>
+    ensures rule { IfOk result (λ argument. rule_of argument ≡ read_only_rule) }
     ensures local { IfOk result (λ argument. argument.global ≡ false) }
 {
     Ok(
@@ -54,12 +54,12 @@ fn command<'a>(alloc: Global) -> Result<Command<'a>, Error>
     ensures { MatchResult result (λ command. app_of command ≡ program)
         (λ error. kind_of error ≡ OutOfMemory) }
 {
-    let answer_no = answer_no_argument(alloc)?;
+    let read_only = read_only_argument(alloc)?;
     Ok(
         Command::new(alloc, "fsck_ffs")
             .no_binary_name(true)
             .version(VERSION)
-            .arg(answer_no)?
+            .arg(read_only)?
             .arg(sector_argument(alloc))?
             .arg(image_argument(alloc))?,
     )

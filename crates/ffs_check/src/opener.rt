@@ -42,12 +42,12 @@ impl<'a, Y: System> FileOpener<'a, Y> {
 impl<Y: System> Opener for FileOpener<'_, Y> {
     type Image = RawImage<Y::File>;
 
-    ghost use Rattle.ffs_image.specs.System.{IsOpened, IsUnopened};
+    ghost use Rattle.ffs_image.specs.System.{IsOpened, OpenFails};
 
     ghost opens = { λ o name image. IsOpened Y.was_looked_up Y.was_opened Y.File.was_sought
         o.system.now name image.source.file image.source.size };
 
-    ghost refuses = { λ o. IsUnopened Y.was_looked_up Y.was_opened o.system.now };
+    ghost refuses = { λ o. OpenFails Y.was_looked_up Y.was_opened o.system.now };
 
     fn open(&self, name: &str) -> Result<RawImage<Y::File>, OpenFault> {
         RawImage::open(self.system, name)

@@ -1,6 +1,6 @@
 -- Whether there is a Dup line, and what is left to report.
 use Rattle.std.proofs.Math.ListN.{get_or-eq_default}
-use Rattle.std.proofs.lemmas.Bool.{cases_lt}
+use Rattle.std.proofs.lemmas.Bool.{cases_lt, eqb-true, not-false}
 use Rattle.std.proofs.lemmas.List.Sums.{sum_by-set}
 use Rattle.std.proofs.Common.{◌≡◌, ◌⊎◌, inl, inr, ℕ, zero, suc, ◌+◌, ◌<◌, ◌≤◌, Bool, true, false, not, ◌&&◌, ◌||◌, ◌==◌}
 use Rattle.std.proofs.Common.{if◌then◌else◌, nat_lt, List, [], ◌∷◌, ◌++◌, length, replicate, slice_set, length-set}
@@ -8,6 +8,8 @@ use Rattle.std.proofs.Common.{◌≢◌, arith, refl, ap, ◌∙◌, sym}
 use Rattle.std.specs.List.{range_with_len, list_any, slice_index_or}
 use Rattle.std.proofs.lemmas.Bool.Decides.{nat_tests}
 use Rattle.std.proofs.lemmas.List.{length-replicate}
+use Rattle.std.proofs.Math.Bool.{or-false, and-false}
+use Rattle.std.proofs.lemmas.List.Folds.{list_any-append}
 use Rattle.ffs_volume.specs.declared.Layout.{Layout}
 use Rattle.ffs_volume.specs.declared.Class.{Class}
 use Rattle.ffs_volume.specs.declared.Class.TheVariants.{Free, Partial, Unknown, File, Dir}
@@ -31,7 +33,7 @@ use Rattle.ffs_workspace.specs.declared.workspace.Workspace.{Workspace}
 use Rattle.ffs_maps.specs.Bits.{bits_of}
 use Rattle.ffs_workspace.specs.Lengths.{set_count}
 use Rattle.ffs_claims.proofs.Goes.{set_again}
-use Rattle.ffs_claims.proofs.Marks.{any_append, or_then, marked_total}
+use Rattle.ffs_claims.proofs.Marks.{or_then, marked_total}
 
 -- some bit is set
 abbrev pub any_set : List Bool → Bool
@@ -60,7 +62,7 @@ Doubles s lines t = ((list_any is_dup_line lines || any_set s.dup) ≡ any_set t
 
 doubles_then : (s t u : Claims) (xs ys : List BlockMessage) → Doubles s xs t → Doubles t ys u → Doubles s (xs ++ ys) u
 doubles_then s t u xs ys p q = (
-  ap (λ (b : Bool). b || any_set s.dup) (any_append is_dup_line xs ys)
+  ap (λ (b : Bool). b || any_set s.dup) (list_any-append is_dup_line xs ys)
       ∙ or_then (list_any is_dup_line xs) (list_any is_dup_line ys) (any_set s.dup) (any_set t.dup) (any_set u.dup) p.0
       q.0,
   q.1 ∙ p.1,
@@ -185,10 +187,6 @@ none_set : (n : ℕ) → set_count (replicate n false) ≡ 0
 none_set zero = refl
 none_set (suc n) = none_set n
 
-or_false : (b : Bool) → (b || false) ≡ b
-or_false true = refl
-or_false false = refl
-
 -- there is a Dup line exactly where a fragment is marked
 pub rescan_is : (v : Layout) (image : List ℕ) → any_set (all_claims v image).dup ≡ has_rescan v (owners_of v image)
 unfolding all_claims phase1_lines no_claims
@@ -196,7 +194,7 @@ rescan_is v image =
     let all = owners_double v (no_claims v) (owners_of v image) (length-replicate v.size false) in
     let clear : any_set (replicate v.size false) ≡ false = ap (λ (n : ℕ). not (n == 0)) (none_set v.size) in
     sym all.0 ∙ ap (λ (b : Bool). list_any is_dup_line (lines_of_owners v (no_claims v) (owners_of v image)) || b) clear
-    ∙ or_false _
+    ∙ or-false _
 
 -- ---- what is left to report
 pub none_clear : (bits : List Bool) (f : ℕ) → set_count bits ≡ 0 → is_set bits f ≡ false
@@ -226,23 +224,16 @@ no_rescan v image w none h = record {
   used = h.used;
   kinds = h.kinds;
   notes = h.notes;
-  marked = λ x. h.marked x ∙ sym (or_false (first_marked_at v image x))
+  marked = λ x. h.marked x ∙ sym (or-false (first_marked_at v image x))
       ∙ ap (λ (b : Bool). first_marked_at v image x || b) (sym (silent x)) ∙ sym (marked_total v image x);
 }
   where
-    zero_of : (n : ℕ) → not (n == 0) ≡ false → n ≡ 0
-    zero_of n e = grind (arith, nat_tests)
-
     lines : phase1b_lines v (owners_of v image) ≡ []
-    lines = first_none v image (zero_of (set_count (all_claims v image).dup) (rescan_is v image ∙ none))
+    lines = first_none v image (eqb-true (set_count (all_claims v image).dup) 0 (not-false _ (rescan_is v image ∙ none)))
 
     silent : (x : ℕ) → (is_inode_number v x && list_any (blames x) (phase1b_lines v (owners_of v image))) ≡ false
     silent x = ap (λ (ls : List BlockMessage). is_inode_number v x && list_any (blames x) ls) lines
-        ∙ and_false (is_inode_number v x)
-      where
-        and_false : (b : Bool) → (b && false) ≡ false
-        and_false true = refl
-        and_false false = refl
+        ∙ and-false (is_inode_number v x)
 
 -- what phase 1 leaves to report
 pub dups_are : (v : Layout) (image : List ℕ) (w : Workspace) → HoldsPhase1 v image w →

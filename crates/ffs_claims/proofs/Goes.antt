@@ -1,10 +1,9 @@
 -- How offers, steps and inodes continue.
-use Rattle.std.proofs.Common.{◌≡◌, ℕ, zero, suc, ◌+◌, ◌-◌, ◌*◌, ◌<◌, ◌≤◌, nat_lt, Bool, true, false, ◌==◌, List, [], ◌∷◌}
+use Rattle.std.proofs.Common.{◌≡◌, ℕ, zero, suc, ◌+◌, ◌-◌, ◌<◌, ◌≤◌, nat_lt, Bool, true, false, ◌==◌, List, [], ◌∷◌}
 use Rattle.std.proofs.Common.{◌++◌, arith, rules, refl, ap, ◌∙◌, sym, slice_set, replicate}
 use Rattle.std.specs.Prelude.{◌&&◌, not, if◌then◌else◌}
 use Rattle.std.specs.Int.{div_ceil}
 use Rattle.std.specs.List.{range_with_len, slice_index_or}
-use Rattle.std.proofs.lemmas.Grind.{div_ceil_times}
 use Rattle.std.proofs.lemmas.Bool.Decides.{nat_tests}
 use Rattle.std.proofs.lemmas.Bool.{and_parts}
 use Rattle.ffs_volume.specs.declared.Layout.{Layout}
@@ -19,6 +18,7 @@ use Rattle.ffs_volume.specs.Blocks.Claims.{Claims, is_open, is_set, after_offer,
 use Rattle.ffs_volume.specs.Blocks.Claims.{offer_lines, lines_of_offers, step_lines, lines_of_steps, run_lines}
 use Rattle.ffs_volume.proofs.Potentials.{in_range_below}
 use Rattle.ffs_volume.specs.Messages.Kinds.{Message, of_blocks}
+use Rattle.ffs_volume.proofs.Sizes.{no_blocks}
 use Rattle.ffs_report.specs.Progress.{Progress, Said, Stopped}
 use Rattle.ffs_report.proofs.Reports.{stopped_more, said_then, stopped_after}
 use Rattle.ffs_report.specs.Known.{ForBytes}
@@ -206,14 +206,6 @@ gaps_silent v inode s (suc n) steps = gaps_silent v inode s n steps
 pub no_steps : (v : Layout) (i : Inode) (bytes : List ℕ) → is_walked v i ≡ false → steps_of v i bytes ≡ []
 unfolding steps_of
 no_steps v i bytes h = rw h refl
-
-none_in : (q b : ℕ) → q * b < b → q ≡ 0
-none_in zero b few = refl
-none_in (suc q) b few = absurd (omega arith)
-
-no_blocks : (size bsize : ℕ) → 0 < bsize → size ≡ 0 → div_ceil size bsize ≡ 0
-no_blocks size bsize some e =
-    none_in (div_ceil size bsize) bsize (omega (arith, (div_ceil_times size bsize some).1, e))
 
 none_to_walk : (walked : Bool) (size bsize : ℕ) → 0 < bsize → (walked && not (size == 0)) ≡ false
     → (if walked then div_ceil size bsize else 0) ≡ 0

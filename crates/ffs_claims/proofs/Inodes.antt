@@ -82,11 +82,6 @@ pub ok_where : {T E : Type 0} (r : Result T E) (contents contents' : Option (Lis
 ok_where (Ok x) contents contents' P Q e more h = λ bytes t. more bytes t (h bytes (e ∙ t))
 ok_where (Err x) contents contents' P Q e more h = h
 
--- what follows from a fact of an Ok answer
-pub ok_then : {T E : Type 0} (r : Result T E) (P Q : Type 0) → (P → Q) → OnOk r P → OnOk r Q
-ok_then (Ok x) P Q more h = more h
-ok_then (Err x) P Q more h = h
-
 -- a free inode has no steps
 free_steps : (v : Layout) (i : Inode) (bytes : List ℕ) → class_of v i ≡ Free → steps_of v i bytes ≡ []
 free_steps v i bytes h = no_steps v i bytes (rw h refl)

@@ -15,10 +15,10 @@ use Rattle.ffs_volume.specs.Blocks.BlockCheck.{Offer}
 use Rattle.ffs_volume.specs.Report.Whole.{run_count}
 use Rattle.ffs_volume.proofs.Potentials.{cond_holds}
 use Rattle.ffs_volume.proofs.RunBounds.{runs_bounded}
+use Rattle.ffs_volume.proofs.ReplayLaws.{offers_runs}
 use Rattle.ffs_workspace.specs.Lengths.{set_count}
 use Rattle.ffs_claims.specs.Reporting.{after_first}
 use Rattle.ffs_claims.specs.SecondLook.{step_runs, steps_runs, owners_runs, looked_at, second_look}
-use Rattle.ffs_claims.proofs.Rescans.{offers_runs}
 
 -- each Run that is seen is counted once
 step_seen : (v : Layout) (i : ℕ) (s : Claims) (step : Step) → s.runs + length (step_runs v i s step)

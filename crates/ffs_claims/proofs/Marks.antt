@@ -5,6 +5,8 @@ use Rattle.std.proofs.Common.{sym}
 use Rattle.std.specs.List.{range_with_len, list_any}
 use Rattle.std.proofs.lemmas.Bool.{cases_eq}
 use Rattle.std.proofs.lemmas.Bool.Decides.{nat_tests}
+use Rattle.std.proofs.Math.Bool.{or-false, and-false, or_assoc}
+use Rattle.std.proofs.lemmas.List.Folds.{list_any-append}
 use Rattle.ffs_volume.specs.declared.Layout.{Layout}
 use Rattle.ffs_volume.specs.declared.Class.{Class}
 use Rattle.ffs_volume.specs.declared.Class.TheVariants.{Free, Partial, Unknown, File, Dir}
@@ -23,19 +25,10 @@ use Rattle.ffs_volume.specs.Blocks.BlockCheck.{phase1_lines, phase1b_lines, is_m
 use Rattle.ffs_volume.specs.Blocks.KeptSteps.{claims_before}
 use Rattle.ffs_volume.specs.Directories.Volumes.{is_inode_number, marked_at}
 use Rattle.ffs_volume.proofs.Potentials.{cond_holds}
+use Rattle.ffs_volume.proofs.OwnerLaws.{before_next}
 use Rattle.ffs_workspace.specs.Holds.{has_blame, first_marked_at}
 use Rattle.ffs_workspace.specs.Lengths.{inodes_of}
-use Rattle.ffs_claims.proofs.Numbers.{before_next, before_first}
-
-pub any_append : {A : Type 0} (test : A → Bool) (xs ys : List A) →
-    list_any test (xs ++ ys) ≡ (list_any test xs || list_any test ys)
-any_append test [] ys = refl
-any_append test (x ∷ xs) ys = one (test x) (any_append test xs ys)
-  where
-    one : (b : Bool) → list_any test (xs ++ ys) ≡ (list_any test xs || list_any test ys) →
-        (b || list_any test (xs ++ ys)) ≡ ((b || list_any test xs) || list_any test ys)
-    one true e = refl
-    one false e = e
+use Rattle.ffs_claims.proofs.Numbers.{before_first}
 
 -- lines that add to what is known: what they report, with what was known, is what then is known
 pub or_then : (a b s t u : Bool) → (a || s) ≡ t → (b || t) ≡ u → ((a || b) || s) ≡ u
@@ -54,7 +47,7 @@ Blames x i s lines t = (list_any (blames x) lines || blamed x i s) ≡ blamed x 
 blames_then : (x i : ℕ) (s t u : Claims) (xs ys : List BlockMessage) → Blames x i s xs t → Blames x i t ys u →
     Blames x i s (xs ++ ys) u
 blames_then x i s t u xs ys p q =
-    ap (λ (b : Bool). b || blamed x i s) (any_append (blames x) xs ys)
+    ap (λ (b : Bool). b || blamed x i s) (list_any-append (blames x) xs ys)
     ∙ or_then (list_any (blames x) xs) (list_any (blames x) ys) (blamed x i s) (blamed x i t) (blamed x i u) p q
 
 -- a line that blames the inode
@@ -188,25 +181,17 @@ count_silent : (v : Layout) (x : ℕ) (o : Owner) (end : Claims) → list_any (b
 count_silent v x o end = cond_holds (λ (ls : List BlockMessage). list_any (blames x) ls ≡ false)
     (is_file_or_dir o.class && (is_open end && not (o.blocks == _))) _ _ (λ _. refl) (λ _. refl)
 
-or_none : (b : Bool) → (b || false) ≡ b
-or_none true = refl
-or_none false = refl
-
-and_none : (b : Bool) → (b && false) ≡ false
-and_none true = refl
-and_none false = refl
-
 owner_blames : (v : Layout) (x : ℕ) (s : Claims) (o : Owner) → list_any (blames x) (owner_lines v s o)
     ≡ ((o.number == x) && has_blame (after_owner v s o))
 owner_blames v x s o =
-    any_append (blames x) (class_lines o.number o.class)
+    list_any-append (blames x) (class_lines o.number o.class)
     (lines_of_steps v o.number (at_next_inode s) o.steps ++ count_lines v o (after_owner v s o))
     ∙ ap (λ (b : Bool). b || list_any (blames x)
     (lines_of_steps v o.number (at_next_inode s) o.steps ++ count_lines v o (after_owner v s o)))
     (class_silent x o.number o.class)
-    ∙ any_append (blames x) (lines_of_steps v o.number (at_next_inode s) o.steps) (count_lines v o (after_owner v s o))
+    ∙ list_any-append (blames x) (lines_of_steps v o.number (at_next_inode s) o.steps) (count_lines v o (after_owner v s o))
     ∙ ap (λ (b : Bool). list_any (blames x) (lines_of_steps v o.number (at_next_inode s) o.steps) || b)
-    (count_silent v x o (after_owner v s o) ∙ sym (and_none (o.number == x)))
+    (count_silent v x o (after_owner v s o) ∙ sym (and-false (o.number == x)))
     ∙ steps_blame v x o.number (at_next_inode s) o.steps
 
 -- of the inodes one after another
@@ -221,7 +206,7 @@ owners_blame v bytes x n zero low = none (nat_le n x && nat_lt x (n + 0)) (grind
     none b e = sym (ap (λ (c : Bool). c && has_blame (after_owner v (claims_before v bytes x) (owner_of v bytes x))) e)
 owners_blame v bytes x n (suc k) low =
     let more = owners_blame v bytes x (n + 1) k (omega arith) in
-    any_append (blames x) (owner_lines v (claims_before v bytes n) (owner_of v bytes n))
+    list_any-append (blames x) (owner_lines v (claims_before v bytes n) (owner_of v bytes n))
     (lines_of_owners v (after_owner v (claims_before v bytes n) (owner_of v bytes n))
     (map (owner_of v bytes) (range_with_len (n + 1) k)))
     ∙ ap (λ (b : Bool). b || list_any (blames x)
@@ -250,7 +235,7 @@ owners_blame v bytes x n (suc k) low =
         && has_blame (after_owner v (claims_before v bytes x) (owner_of v bytes x)))) here
         ∙ ap (λ (b : Bool). has_blame (after_owner v (claims_before v bytes n) (owner_of v bytes n))
         || (b && has_blame (after_owner v (claims_before v bytes x) (owner_of v bytes x)))) past
-        ∙ or_none _ ∙ ap (λ (y : ℕ). has_blame (after_owner v (claims_before v bytes y) (owner_of v bytes y))) e
+        ∙ or-false _ ∙ ap (λ (y : ℕ). has_blame (after_owner v (claims_before v bytes y) (owner_of v bytes y))) e
         ∙ sym (ap (λ (b : Bool). b && has_blame (after_owner v (claims_before v bytes x) (owner_of v bytes x))) inside)
     split (inr apart) =
         let here : (n == x) ≡ false = grind (arith, nat_tests) in
@@ -280,10 +265,6 @@ pub marked_total : (v : Layout) (bytes : List ℕ) (x : ℕ) →
 unfolding first_marked_at is_marked
 marked_total v bytes x = one (is_inode_number v x) refl
   where
-    assoc : (a b d : Bool) → (a || (b || d)) ≡ ((a || b) || d)
-    assoc true b d = refl
-    assoc false b d = refl
-
     one : (i : Bool) → is_inode_number v x ≡ i →
         (if i then is_unknown (class_of v (inode_of v bytes x))
         || list_any (blames x) (phase1_lines v (owners_of v bytes) ++ phase1b_lines v (owners_of v bytes)) else false)
@@ -292,10 +273,10 @@ marked_total v bytes x = one (is_inode_number v x) refl
         || (i && list_any (blames x) (phase1b_lines v (owners_of v bytes))))
     one true q =
         ap (λ (b : Bool). is_unknown (class_of v (inode_of v bytes x)) || b)
-        (any_append (blames x) (phase1_lines v (owners_of v bytes)) (phase1b_lines v (owners_of v bytes))
+        (list_any-append (blames x) (phase1_lines v (owners_of v bytes)) (phase1b_lines v (owners_of v bytes))
         ∙ ap (λ (b : Bool). b || list_any (blames x) (phase1b_lines v (owners_of v bytes)))
         (first_blames v bytes x q))
-        ∙ assoc (is_unknown (class_of v (inode_of v bytes x)))
+        ∙ sym (or_assoc (is_unknown (class_of v (inode_of v bytes x)))
         (has_blame (after_owner v (claims_before v bytes x) (owner_of v bytes x)))
-        (list_any (blames x) (phase1b_lines v (owners_of v bytes)))
+        (list_any (blames x) (phase1b_lines v (owners_of v bytes))))
     one false q = refl

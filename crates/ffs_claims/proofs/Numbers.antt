@@ -1,6 +1,6 @@
 -- The inodes one after another.
 use Rattle.std.proofs.Common.{◌≡◌, ◌⊎◌, inl, inr, ℕ, zero, suc, ◌+◌, ◌-◌, ◌<◌, ◌≤◌, Bool, true, false, ◌||◌}
-use Rattle.std.proofs.Common.{if◌then◌else◌, nat_lt, List, [], ◌∷◌, ◌++◌, length, map, get_or, replicate, min}
+use Rattle.std.proofs.Common.{if◌then◌else◌, nat_lt, List, [], ◌++◌, length, map, get_or, replicate, min}
 use Rattle.std.specs.Prelude.{◌&&◌, ◌==◌, slice_index}
 use Rattle.std.proofs.Common.{slice_set, arith, refl, ap, ◌∙◌, sym}
 use Rattle.std.specs.List.{range_with_len}
@@ -11,7 +11,7 @@ use Rattle.ffs_volume.specs.declared.Layout.{Layout}
 use Rattle.ffs_volume.specs.declared.Inode.{Inode}
 use Rattle.ffs_volume.specs.declared.Class.TheVariants.{Free}
 use Rattle.ffs_volume.specs.Blocks.Inodes.{inode_of, class_of, is_unknown}
-use Rattle.ffs_volume.specs.Blocks.Owners.{Owner, owner_of, owners_of}
+use Rattle.ffs_volume.specs.Blocks.Owners.{owner_of, owners_of}
 use Rattle.ffs_volume.specs.Blocks.Claims.{Claims, no_claims, after_owner, after_owners}
 use Rattle.ffs_volume.specs.Blocks.BlockCheck.{owner_lines, lines_of_owners, phase1_lines}
 use Rattle.ffs_volume.specs.Blocks.KeptSteps.{claims_before}
@@ -24,35 +24,6 @@ use Rattle.ffs_workspace.specs.Holds.{has_blame, first_marked_at, all_claims}
 use Rattle.ffs_workspace.specs.Lengths.{inodes_of}
 use Rattle.ffs_claims.specs.Lines.{of_lines, owners_from}
 use Rattle.ffs_claims.proofs.Goes.{range_more, lines_append}
-
-owners_append : (v : Layout) (s : Claims) (xs ys : List Owner) →
-    after_owners v s (xs ++ ys) ≡ after_owners v (after_owners v s xs) ys
-owners_append v s [] ys = refl
-owners_append v s (x ∷ xs) ys = owners_append v (after_owner v s x) xs ys
-
-range_last : (n k : ℕ) → range_with_len n (suc k) ≡ range_with_len n k ++ ((n + k) ∷ [])
-range_last n zero = let e : n + 0 ≡ n = omega arith in rw e refl
-range_last n (suc k) = let e : n + suc k ≡ n + 1 + k = omega arith in
-    rw e (ap (λ (xs : List ℕ). n ∷ xs) (range_last (n + 1) k))
-
-map_last : (f : ℕ → Owner) (xs : List ℕ) (y : ℕ) → map f (xs ++ (y ∷ [])) ≡ map f xs ++ (f y ∷ [])
-map_last f [] y = refl
-map_last f (x ∷ xs) y = ap (λ (zs : List Owner). f x ∷ zs) (map_last f xs y)
-
--- what is known before the next inode
-pub before_next : (v : Layout) (bytes : List ℕ) (x : ℕ) → 2 ≤ x →
-    claims_before v bytes (x + 1) ≡ after_owner v (claims_before v bytes x) (owner_of v bytes x)
-unfolding claims_before
-before_next v bytes x low =
-    let more : x + 1 - 2 ≡ suc (x - 2) = omega arith in
-    let here : 2 + (x - 2) ≡ x = omega arith in
-    ap (λ (n : ℕ). after_owners v (no_claims v) (map (owner_of v bytes) (range_with_len 2 n))) more
-    ∙ ap (λ (xs : List ℕ). after_owners v (no_claims v) (map (owner_of v bytes) xs)) (range_last 2 (x - 2))
-    ∙ ap (after_owners v (no_claims v)) (map_last (owner_of v bytes) (range_with_len 2 (x - 2)) (2 + (x - 2)))
-    ∙ owners_append v (no_claims v) (map (owner_of v bytes) (range_with_len 2 (x - 2)))
-    (owner_of v bytes (2 + (x - 2)) ∷ [])
-    ∙ ap (λ (n : ℕ). after_owner v (after_owners v (no_claims v) (map (owner_of v bytes) (range_with_len 2 (x - 2))))
-    (owner_of v bytes n)) here
 
 pub before_first : (v : Layout) (bytes : List ℕ) → claims_before v bytes 2 ≡ no_claims v
 unfolding claims_before

@@ -3,7 +3,7 @@ use Rattle.std.proofs.Common.{◌≡◌, ℕ, Bool, true, false, List, slice_set
 use Rattle.std.specs.Prelude.{not}
 use Rattle.std.specs.List.{slice_index_or}
 use Rattle.ffs_volume.specs.Blocks.Claims.{is_set}
-use Rattle.ffs_maps.specs.Bits.{bits_of, AreClear, Claims}
+use Rattle.ffs_maps.specs.Bits.{bits_of, AreClear, ClaimsRun}
 use Rattle.ffs_maps.specs.declared.FragmentMap.{FragmentMap}
 use Rattle.ffs_claims.proofs.Goes.{set_again}
 
@@ -11,7 +11,7 @@ clear_one : (bits : List Bool) (f : ℕ) → is_set bits f ≡ false → AreClea
 clear_one bits f e k low = ap (λ (n : ℕ). slice_index_or bits n false) (omega arith) ∙ e
 
 -- it is claimed where its bit wasn't set
-pub was_set : (old new : FragmentMap) (f : ℕ) (b : Bool) → Claims old new f 1 b → is_set (bits_of old) f ≡ not b
+pub was_set : (old new : FragmentMap) (f : ℕ) (b : Bool) → ClaimsRun old new f 1 b → is_set (bits_of old) f ≡ not b
 was_set old new f true c = ap (λ (n : ℕ). slice_index_or (bits_of old) n false) (omega arith)
     ∙ c.clear refl 0 (omega arith)
 was_set old new f false c = taken (is_set (bits_of old) f) refl
@@ -21,7 +21,7 @@ was_set old new f false c = taken (is_set (bits_of old) f) refl
     taken false e = c.one_word (omega arith) (clear_one (bits_of old) f e)
 
 -- its bit is set then, claimed now or before
-pub is_set_now : (old new : FragmentMap) (f : ℕ) (b : Bool) → Claims old new f 1 b →
+pub is_set_now : (old new : FragmentMap) (f : ℕ) (b : Bool) → ClaimsRun old new f 1 b →
     bits_of new ≡ slice_set (bits_of old) f true
 is_set_now old new f true c = c.claimed refl
 is_set_now old new f false c =

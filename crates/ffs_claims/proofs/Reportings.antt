@@ -12,12 +12,12 @@ use Rattle.ffs_workspace.specs.Holds.{bool_at}
 use Rattle.ffs_claims.specs.Lines.{of_lines}
 use Rattle.ffs_claims.specs.Reporting.{after_first, OffersReported}
 use Rattle.ffs_claims.proofs.Goes.{range_more, lines_append}
-use Rattle.ffs_claims.proofs.Marks.{any_append}
 use Rattle.ffs_claims.proofs.Duplicates.{none_clear, none_first}
 use Rattle.ffs_report.specs.Progress.{Progress, Said}
 use Rattle.ffs_report.proofs.Reports.{said_none}
 use Rattle.std.proofs.Math.ListN.{get_or-eq_default}
-use Rattle.std.proofs.Math.Bool.{or_assoc}
+use Rattle.std.proofs.Math.Bool.{or_assoc, or-false}
+use Rattle.std.proofs.lemmas.List.Folds.{list_any-append}
 use Rattle.ffs_workspace.specs.Lengths.{set_count}
 
 -- offers one after the other
@@ -44,11 +44,7 @@ after_append dup (o ∷ xs) ys = after_append (if is_set dup o.fragment then sli
     ys
 
 pub reported_none : (w : Workspace) → OffersReported [] w w
-reported_none w = record { dup = refl; marked = λ x. none (bool_at w.marked.items x) }
-  where
-    none : (b : Bool) → b ≡ (b || false)
-    none true = refl
-    none false = refl
+reported_none w = record { dup = refl; marked = λ x. sym (or-false (bool_at w.marked.items x)) }
 
 pub reported_then : (u v w : Workspace) (xs ys : List Offer) → OffersReported xs u v → OffersReported ys v w →
     OffersReported (xs ++ ys) u w
@@ -62,7 +58,7 @@ reported_then u v w xs ys a b = record {
       ∙ or_assoc (bool_at u.marked.items x) (list_any (blames x) (first_offer_lines (bits_of u.duplicates) xs))
       (list_any (blames x) (first_offer_lines (after_first (bits_of u.duplicates) xs) ys))
       ∙ ap (λ (m : Bool). bool_at u.marked.items x || m)
-      (sym (any_append (blames x) (first_offer_lines (bits_of u.duplicates) xs)
+      (sym (list_any-append (blames x) (first_offer_lines (bits_of u.duplicates) xs)
       (first_offer_lines (after_first (bits_of u.duplicates) xs) ys))
       ∙ ap (list_any (blames x)) (sym (first_append (bits_of u.duplicates) xs ys)));
 }
@@ -72,15 +68,11 @@ pub reported_out : (old new : Workspace) (i f : ℕ) → slice_index_or (bits_of
     new.duplicates ≡ old.duplicates → new.marked ≡ old.marked → OffersReported (offer_of i f ∷ []) old new
 reported_out old new i f e d m = record {
   dup = ap bits_of d ∙ sym (rw e refl);
-  marked = λ x. ap (λ z. bool_at z.items x) m ∙ none (bool_at old.marked.items x)
+  marked = λ x. ap (λ z. bool_at z.items x) m ∙ sym (or-false (bool_at old.marked.items x))
       ∙ ap (λ (ls : List BlockMessage). bool_at old.marked.items x || list_any (blames x) ls)
       (sym (lines_out old i f e));
 }
   where
-    none : (b : Bool) → b ≡ (b || false)
-    none true = refl
-    none false = refl
-
     lines_out : (w : Workspace) (i f : ℕ) → slice_index_or (bits_of w.duplicates) f false ≡ false →
         first_offer_lines (bits_of w.duplicates) (offer_of i f ∷ []) ≡ []
     lines_out w i f e = rw e refl
@@ -152,14 +144,10 @@ none_after bits (o ∷ os) e = rw (none_clear bits o.fragment e) (none_after bit
 pub none_reported : (w : Workspace) (os : List Offer) → set_count (bits_of w.duplicates) ≡ 0 → OffersReported os w w
 none_reported w os e = record {
   dup = sym (none_after (bits_of w.duplicates) os e);
-  marked = λ x. none (bool_at w.marked.items x)
+  marked = λ x. sym (or-false (bool_at w.marked.items x))
       ∙ ap (λ (ls : List BlockMessage). bool_at w.marked.items x || list_any (blames x) ls)
       (sym (none_first (bits_of w.duplicates) os e));
 }
-  where
-    none : (b : Bool) → b ≡ (b || false)
-    none true = refl
-    none false = refl
 
 -- what is reported is of the map and the marks alone
 pub reported_from : (offers : List Offer) (u u' w : Workspace) → OffersReported offers u' w →

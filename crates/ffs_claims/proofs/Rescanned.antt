@@ -3,9 +3,10 @@ use Rattle.std.proofs.Common.{◌≡◌, ◌⊎◌, inl, inr, ℕ, zero, suc, �
 use Rattle.std.proofs.Common.{◌==◌, if◌then◌else◌, nat_lt, List, [], ◌∷◌, ◌++◌, map, slice_index, slice_set, arith}
 use Rattle.std.proofs.Common.{refl, ap, ◌∙◌, sym}
 use Rattle.std.specs.List.{range_with_len, list_any, list_all}
-use Rattle.std.proofs.lemmas.Bool.{and_from, cases_lt, and_parts}
+use Rattle.std.proofs.lemmas.Bool.{and_from, cases_lt, and_parts, not-true}
 use Rattle.std.proofs.lemmas.List.Folds.{list_all-append}
 use Rattle.std.proofs.lemmas.Bool.Decides.{nat_tests}
+use Rattle.std.proofs.Math.Bool.{or-false}
 use Rattle.ffs_workspace.specs.Notes.{cut_in}
 use Rattle.ffs_volume.specs.declared.Layout.{Layout}
 use Rattle.ffs_volume.specs.declared.Step.{Step}
@@ -28,6 +29,7 @@ use Rattle.ffs_volume.proofs.ReplayLaws.{replay_is_runs}
 use Rattle.ffs_volume.proofs.CutLaws.{cut_is}
 use Rattle.ffs_volume.specs.Report.Whole.{run_count}
 use Rattle.ffs_volume.specs.Directories.Volumes.{is_inode_number}
+use Rattle.ffs_volume.proofs.OwnerLaws.{before_next}
 use Rattle.ffs_maps.specs.Bits.{bits_of}
 use Rattle.ffs_workspace.specs.declared.workspace.Workspace.{Workspace}
 use Rattle.ffs_workspace.specs.Holds.{bool_at, all_claims, first_marked_at, HoldsPhase1, HoldsStarts, HoldsClaims}
@@ -37,7 +39,7 @@ use Rattle.ffs_claims.specs.Rescan.{offers_again}
 use Rattle.ffs_claims.specs.Reporting.{after_first, OffersReported, SameClaims}
 use Rattle.ffs_claims.proofs.Goes.{range_more, lines_append}
 use Rattle.ffs_claims.proofs.Marks.{marked_total}
-use Rattle.ffs_claims.proofs.Numbers.{before_next, before_end, before_first}
+use Rattle.ffs_claims.proofs.Numbers.{before_end, before_first}
 use Rattle.ffs_claims.proofs.Rescans.{inode_again}
 use Rattle.ffs_claims.proofs.Reportings.{Reporting, first_append}
 
@@ -170,12 +172,8 @@ blames_none_of x dup (o ∷ os) e =
     let both = and_parts (not (o.inode == x)) (no_offer x os) e in
     cond_holds (λ (ls : List BlockMessage). list_any (blames x) ls ≡ false) (is_set dup o.fragment) _ _
     (λ _. ap (λ (b : Bool). b || list_any (blames x) (first_offer_lines (slice_set dup o.fragment false) os))
-    (turn (o.inode == x) both.0) ∙ blames_none_of x (slice_set dup o.fragment false) os both.1)
+    (not-true (o.inode == x) both.0) ∙ blames_none_of x (slice_set dup o.fragment false) os both.1)
     (λ _. blames_none_of x dup os both.1)
-  where
-    turn : (b : Bool) → not b ≡ true → b ≡ false
-    turn false e = refl
-    turn true e = cc
 
 -- no line of phase 1b names a number that is no inode's
 outside : (v : Layout) (bytes : List ℕ) (x : ℕ) →
@@ -236,13 +234,9 @@ reported_same u w all d m = record {
   reported = record {
     dup = ap bits_of d;
     marked = λ x. ap (λ z. bool_at z.items x) m
-        ∙ none (bool_at u.marked.items x);
+        ∙ sym (or-false (bool_at u.marked.items x));
   };
 }
-  where
-    none : (b : Bool) → b ≡ (b || false)
-    none true = refl
-    none false = refl
 
 -- the lines and offers of all inodes
 pub all_lines : (v : Layout) (bytes : List ℕ) (dup : List Bool) → dup ≡ (all_claims v bytes).dup →

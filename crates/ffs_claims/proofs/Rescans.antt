@@ -15,19 +15,10 @@ use Rattle.ffs_volume.specs.Encodings.Replay.{Replay, fresh_replay, cut_of, is_r
 use Rattle.ffs_volume.specs.Encodings.ReplayCounts.{replay_step_by_cut}
 use Rattle.ffs_volume.proofs.Potentials.{cond_holds}
 use Rattle.ffs_volume.proofs.ReplayIsKeeping.{replay_of, seen_replays, step_replays, step_few}
+use Rattle.ffs_volume.proofs.PrefixLaws.{full_offers}
 use Rattle.ffs_walk.specs.Keepings.{run_taken}
 use Rattle.ffs_claims.specs.SecondLook.{step_runs, steps_runs, step_runs_again, steps_runs_again}
 use Rattle.ffs_claims.specs.Rescan.{step_offers_again, offers_again}
-
--- offers keep the count of Runs
-pub offers_runs : (v : Layout) (s : Claims) (fs : List ℕ) → (after_offers v s fs).runs ≡ s.runs
-offers_runs v s [] = refl
-offers_runs v s (f ∷ fs) = offers_runs v (after_offer v s f) fs
-    ∙ cond_holds (λ (t : Claims). t.runs ≡ s.runs) (nat_lt s.dups 11) _ _
-    (λ _. cond_holds (λ (t : Claims). t.runs ≡ s.runs) (is_fragment_in_range v f) _ _
-    (λ _. cond_holds (λ (t : Claims). t.runs ≡ s.runs) (is_set s.used f) _ _ (λ _. refl) (λ _. refl))
-    (λ _. refl))
-    (λ _. refl)
 
 -- ---- the offers that are kept are the first ones
 offer_kept : (v : Layout) (s : Claims) (f : ℕ) → nat_lt s.dups 11 ≡ true → (after_offer v s f).kept ≡ s.kept + 1
@@ -36,11 +27,6 @@ offer_kept v s f few =
     (λ _. cond_holds (λ (t : Claims). t.kept ≡ s.kept + 1) (is_set s.used f) _ _ (λ _. refl) (λ _. refl))
     (λ _. refl))
 
-offers_shut : (v : Layout) (i : ℕ) (s : Claims) (fs : List ℕ) → nat_lt s.dups 11 ≡ false →
-    (kept_in_offers v i s fs ≡ []) × (after_offers v s fs ≡ s)
-offers_shut v i s [] full = (refl, refl)
-offers_shut v i s (f ∷ fs) full = let rest = offers_shut v i s fs full in rw full rest
-
 offers_low : (v : Layout) (s : Claims) (fs : List ℕ) → s.kept ≤ (after_offers v s fs).kept
 offers_low v s [] = omega arith
 offers_low v s (f ∷ fs) = one (nat_lt s.dups 11) refl (offers_low v (after_offer v s f) fs)
@@ -48,7 +34,7 @@ offers_low v s (f ∷ fs) = one (nat_lt s.dups 11) refl (offers_low v (after_off
     one : (b : Bool) → nat_lt s.dups 11 ≡ b → (after_offer v s f).kept ≤ (after_offers v (after_offer v s f) fs).kept →
         s.kept ≤ (after_offers v s (f ∷ fs)).kept
     one true few more = omega (arith, offer_kept v s f few, more)
-    one false full more = omega (arith, ap (λ (t : Claims). t.kept) (offers_shut v 0 s (f ∷ fs) full).1)
+    one false full more = omega (arith, ap (λ (t : Claims). t.kept) (full_offers v 0 s (f ∷ fs) full).1)
 
 offers_firsts : (v : Layout) (i : ℕ) (s : Claims) (start len k : ℕ) →
     s.kept + k ≡ (after_offers v s (range_with_len start len)).kept →
@@ -76,7 +62,7 @@ offers_firsts v i s start (suc len) k e = one (nat_lt s.dups 11) refl k e
         (range_with_len (start + 1) len)) few
         ∙ ap (λ z. offer_of i start ∷ z) (more n (omega (arith, h, offer_kept v s start few)))
     one false full n h more =
-        let shut = offers_shut v i s (range_with_len start (suc len)) full in
+        let shut = full_offers v i s (range_with_len start (suc len)) full in
         let none : n ≡ 0 = omega (arith, h, ap (λ (t : Claims). t.kept) shut.1) in
         shut.0 ∙ sym (ap (λ z. map (offer_of i) (range_with_len start z)) none)
 

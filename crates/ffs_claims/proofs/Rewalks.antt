@@ -11,7 +11,7 @@ use Rattle.ffs_volume.specs.declared.BlockMessage.{BlockMessage}
 use Rattle.ffs_volume.specs.Messages.Kinds.{Message}
 use Rattle.ffs_volume.specs.Encodings.Replay.{Replay, fresh_replay, is_replay_open}
 use Rattle.ffs_volume.specs.Encodings.ReplayCounts.{seen_run, replayed_runs, replay_step_by_cut}
-use Rattle.ffs_volume.proofs.ReplayLaws.{counted_same}
+use Rattle.ffs_volume.proofs.ReplayLaws.{counted_same, gaps_seen}
 use Rattle.ffs_report.specs.Progress.{Progress, Said}
 use Rattle.ffs_walk.specs.Keepings.{run_taken}
 use Rattle.ffs_report.specs.Known.{ForBytes}
@@ -107,11 +107,6 @@ pub gaps_offer : (v : Layout) (i cut : ℕ) (r : Replay) (n : ℕ) (R : List Ste
 unfolding offers_again
 gaps_offer v i cut r zero R = refl
 gaps_offer v i cut r (suc n) R = gaps_offer v i cut r n R
-
-pub gaps_seen : (v : Layout) (cut : ℕ) (r : Replay) (n : ℕ) (R : List Step) →
-    replayed_runs v cut r (replicate n Gap ++ R) ≡ replayed_runs v cut r R
-gaps_seen v cut r zero R = refl
-gaps_seen v cut r (suc n) R = omega (arith, gaps_seen v cut r n R)
 
 -- where a second walk is, with the steps R that are left to it: what it reported, and how many Runs it looked at
 pub record Rewalking (v : Layout) (i cut : ℕ) (all : List Step) (r : Replay) (R : List Step) (u w : Workspace) :

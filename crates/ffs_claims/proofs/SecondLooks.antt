@@ -13,6 +13,7 @@ use Rattle.ffs_volume.specs.Blocks.KeptSteps.{claims_before}
 use Rattle.ffs_volume.specs.Encodings.Replay.{fresh_replay, cut_of, cut_at}
 use Rattle.ffs_volume.proofs.CutLaws.{cut_is}
 use Rattle.ffs_volume.specs.Directories.Volumes.{is_inode_number}
+use Rattle.ffs_volume.proofs.OwnerLaws.{before_next}
 use Rattle.ffs_workspace.specs.Holds.{all_claims}
 use Rattle.ffs_workspace.specs.Lengths.{inodes_of}
 use Rattle.ffs_claims.specs.Lines.{owners_from}
@@ -20,7 +21,7 @@ use Rattle.ffs_claims.specs.Rescan.{offers_again}
 use Rattle.ffs_claims.specs.Reporting.{after_first}
 use Rattle.ffs_claims.specs.SecondLook.{owners_runs, looked_at, second_look, steps_runs_again}
 use Rattle.ffs_claims.proofs.Goes.{range_more}
-use Rattle.ffs_claims.proofs.Numbers.{before_next, before_first}
+use Rattle.ffs_claims.proofs.Numbers.{before_first}
 use Rattle.ffs_claims.proofs.Looks.{looked_both, runs_leave}
 use Rattle.ffs_claims.proofs.Rescans.{inode_again}
 

@@ -15,7 +15,7 @@ use Rattle.ffs_maps.specs.Bits.{AreClear, set_run}
 use Rattle.ffs_maps.proofs.Bits.{bits_long}
 use Rattle.ffs_walk.specs.declared.walk.Walk.{Walk}
 use Rattle.ffs_image.specs.Device.{ForContents}
-use Rattle.ffs_walk.specs.Rests.{SameExtent, left, rest}
+use Rattle.ffs_walk.specs.Rests.{SameExtent, most_steps_left, steps_left}
 use Rattle.ffs_walk.specs.Counts.{EntersOnly}
 use Rattle.ffs_walk.proofs.Counted.{enters_none}
 use Rattle.ffs_walk.specs.Windows.{BlocksHold}
@@ -71,22 +71,22 @@ lines_same v number s s' step R R' e now none = rw (e, now, none) refl
 pub words_once : (v : Layout) (a b : Workspace) (x y : Walk) (address : ℕ) → 0 < v.frag → v.frag ≤ 8 → IsFor v a →
     x.geometry.layout ≡ v → address ≡ next_address a.windows.blocks x → PassesWord a.windows.blocks x y →
     ((block : ℕ) → ClaimsSilently v (word_step v.frag address block) a b) → is_open (claims_of b) ≡ true →
-    ClaimsOnly v a b → left y < left x → SameExtent x y → a.runs_seen ≤ b.runs_seen → EntersOnly x y 0 → ClaimsWords v a b x y
+    ClaimsOnly v a b → most_steps_left y < most_steps_left x → SameExtent x y → a.runs_seen ≤ b.runs_seen → EntersOnly x y 0 → ClaimsWords v a b x y
 words_once v a b x y address some small made layout is passes claims uncut only falls same rises counted =
     let block = x.single.first + x.single.next in
     let step = word_step v.frag address block in
     let now : claims_of b ≡ after_step v (claims_of a) step = (claims block).claims in
     let next : (contents : Option (List ℕ)) → BlocksHold v contents a.windows.blocks →
-    ForContents contents (λ bytes. rest bytes x ≡ step ∷ rest bytes y) = λ contents holds bytes e.
+    ForContents contents (λ bytes. steps_left bytes x ≡ step ∷ steps_left bytes y) = λ contents holds bytes e.
     passes.steps contents (subst (λ (l : Layout). BlocksHold l contents a.windows.blocks) (sym layout) holds) bytes e
-    ∙ ap (λ (l : Layout). word_step l.frag (next_address a.windows.blocks x) block ∷ rest bytes y) layout
-    ∙ ap (λ k. word_step v.frag k block ∷ rest bytes y) (sym is) in
+    ∙ ap (λ (l : Layout). word_step l.frag (next_address a.windows.blocks x) block ∷ steps_left bytes y) layout
+    ∙ ap (λ k. word_step v.frag k block ∷ steps_left bytes y) (sym is) in
     record {
       claims = λ contents holds bytes e.
-          claims_same v (claims_of a) (claims_of b) step (rest bytes x) (rest bytes y)
+          claims_same v (claims_of a) (claims_of b) step (steps_left bytes x) (steps_left bytes y)
           (next contents holds bytes e) now;
       lines = λ contents holds bytes e number.
-          lines_same v number (claims_of a) (claims_of b) step (rest bytes x) (rest bytes y)
+          lines_same v number (claims_of a) (claims_of b) step (steps_left bytes x) (steps_left bytes y)
           (next contents holds bytes e) now ((claims block).silent number);
       uncut = uncut;
       moves = moves_on v (claims_of a) (claims_of a) (claims_of b) step (bits_long a.claimed ∙ made.claimed) small

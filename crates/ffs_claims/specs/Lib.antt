@@ -6,4 +6,3 @@ pub mod SecondLook
 pub mod Area
 pub mod Claiming
 pub mod Words
-pub mod Begins

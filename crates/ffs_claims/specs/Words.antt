@@ -6,7 +6,7 @@ use Rattle.ffs_volume.specs.declared.Step.{Step}
 use Rattle.ffs_volume.specs.Blocks.Claims.{after_step, after_steps, is_open, lines_of_steps, step_lines}
 use Rattle.ffs_volume.specs.Laws.ClaimBounds.{ClaimBound}
 use Rattle.ffs_walk.specs.declared.walk.Walk.{Walk}
-use Rattle.ffs_walk.specs.Rests.{SameExtent, left, rest}
+use Rattle.ffs_walk.specs.Rests.{SameExtent, most_steps_left, steps_left}
 use Rattle.ffs_walk.specs.Windows.{BlocksHold}
 use Rattle.ffs_walk.specs.Counts.{EntersOnly}
 use Rattle.ffs_workspace.specs.declared.workspace.Workspace.{Workspace}
@@ -33,15 +33,15 @@ pub record ClaimsSilently (v : Layout) (step : Step) (old new : Workspace) : Typ
 pub record ClaimsWords (v : Layout) (old new : Workspace) (walk walk' : Walk) : Type 0 where
   pub claims : (contents : Option (List ℕ)) → BlocksHold v contents old.windows.blocks →
       ForContents contents (λ bytes.
-      after_steps v (claims_of new) (rest bytes walk') ≡ after_steps v (claims_of old) (rest bytes walk))
+      after_steps v (claims_of new) (steps_left bytes walk') ≡ after_steps v (claims_of old) (steps_left bytes walk))
   pub lines : (contents : Option (List ℕ)) → BlocksHold v contents old.windows.blocks →
       ForContents contents (λ bytes. (number : ℕ) →
-      lines_of_steps v number (claims_of new) (rest bytes walk')
-      ≡ lines_of_steps v number (claims_of old) (rest bytes walk))
+      lines_of_steps v number (claims_of new) (steps_left bytes walk')
+      ≡ lines_of_steps v number (claims_of old) (steps_left bytes walk))
   pub uncut : is_open (claims_of new) ≡ true
   pub moves : ClaimBound (claims_of old) (claims_of new)
   pub only : ClaimsOnly v old new
-  pub falls : left walk' ≤ left walk
+  pub falls : most_steps_left walk' ≤ most_steps_left walk
   pub same : SameExtent walk walk'
   pub rises : old.runs_seen ≤ new.runs_seen
   pub counted : EntersOnly walk walk' 0

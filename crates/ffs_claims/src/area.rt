@@ -1,19 +1,10 @@
-//! Runs, and the data fragments round the last one in range.
+//! The data fragments round the last Run in range.
 
 ghost use Rattle.std.specs.Prelude.{◌≡◌, ◌<◌, ◌↔◌, IsTrue, true, ℕ};
 ghost use Rattle.ffs_volume.specs.declared.Layout.{Layout};
 ghost use Rattle.ffs_volume.specs.Disk.Areas.{is_run_in_range};
 
 use ffs_layout::Geometry;
-
-/// Consecutive fragments that an address of an inode names.
-#[derive(Clone, Copy, Debug)]
-pub struct Run {
-    /// The first fragment.
-    pub start: u32,
-    /// How many they are.
-    pub len: u32,
-}
 
 /// Consecutive fragments, from `start` on and below `end`. Each Run that lies in them is in range.
 #[derive(Clone, Copy, Debug)]
@@ -60,29 +51,29 @@ impl DataArea {
 
     /// Whether a Run lies in the area.
     #[inline(always)]
-    pub fn contains(&self, run: Run) -> bool
-        ensures { IsTrue result ↔ HasRun self.now run.start run.len }
+    pub fn contains(&self, start: u32, len: u32) -> bool
+        ensures { IsTrue result ↔ HasRun self.now start len }
     {
-        self.start <= run.start && u64::from(run.start) + u64::from(run.len) <= u64::from(self.end)
+        self.start <= start && u64::from(start) + u64::from(len) <= u64::from(self.end)
     }
 
     /// Whether a Run is in range. If so, it lies in the area from then on.
     #[inline(always)]
     #[tactic(auto, using(crate::proofs::Whole::run_below))]
-    pub fn in_range(&mut self, geometry: &Geometry, run: Run) -> bool
-        requires some { 0 < run.len }
+    pub fn in_range(&mut self, geometry: &Geometry, start: u32, len: u32) -> bool
+        requires some { 0 < len }
         requires area { IsDataArea geometry.now.layout self.old }
-        ensures value { result ≡ is_run_in_range geometry.now.layout run.start run.len }
+        ensures value { result ≡ is_run_in_range geometry.now.layout start len }
         ensures area { IsDataArea geometry.now.layout self.new }
-        ensures run { IsTrue result → HasRun self.new run.start run.len }
+        ensures run { IsTrue result → HasRun self.new start len }
     {
-        if self.contains(run) {
+        if self.contains(start, len) {
             return true;
         }
-        if !geometry.in_range(run.start, run.len) {
+        if !geometry.in_range(start, len) {
             return false;
         }
-        *self = DataArea::around(geometry, run.start);
+        *self = DataArea::around(geometry, start);
         true
     }
 }

@@ -15,15 +15,12 @@
 
 mod area;
 mod claim;
-mod lines;
 mod offer;
-mod owner;
 mod pass1;
 mod pass1b;
 mod report_claim;
 mod reserve;
 mod store;
-mod walker;
 mod words;
 
 pub use pass1::phase1;

@@ -10,15 +10,14 @@ ghost use Rattle.ffs_report.specs.Progress.{progress, Says};
 ghost use Rattle.ffs_workspace.specs.Holds.{claims_of};
 ghost use Rattle.ffs_walk.specs.Counts.{entered};
 ghost use Rattle.ffs_claims.specs.Leaves.{AreClaims, CanOffer, HasRoomForOffers, OffersOnly};
-ghost use Rattle.ffs_claims.specs.Lines.{of_lines, is_dup};
+ghost use Rattle.ffs_claims.specs.Lines.{of_lines, is_dup, dup_lines, bad_lines};
 ghost use Rattle.ffs_claims.specs.Claiming.{ClaimsStep, SeesNext};
 
-use crate::area::{DataArea, Run};
-use crate::lines::{say_bad, say_dup, say_tail};
+use crate::area::DataArea;
 use ffs_layout::Geometry;
-use ffs_report::{OutFault, Output, Report};
-use ffs_volume::Step;
+use ffs_report::{Line, OutFault, Output, Report};
 use ffs_volume::constants::{MAXBAD, MAXDUP};
+use ffs_volume::{BlockMessage, Step};
 use ffs_workspace::Workspace;
 
 /// Whether the next step of the current inode is seen.
@@ -26,6 +25,38 @@ pub fn is_open(workspace: &Workspace) -> bool
     ensures { result ≡ claims.is_open (claims_of workspace.now) }
 {
     workspace.bad <= MAXBAD && workspace.dups <= MAXDUP
+}
+
+fn say_dup<W: Output>(
+    report: &mut Report<'_, W>,
+    inode: u32,
+    fragment: u32,
+    many: bool,
+) -> Result<(), OutFault>
+    ensures { Says (progress W.sink report.old) (progress W.sink report.new)
+        (of_lines (dup_lines inode fragment many)) result }
+{
+    report.say(&Line::Block(BlockMessage::Dup { fragment, inode }))?;
+    if many {
+        return report.say(&Line::Block(BlockMessage::ManyDup { inode }));
+    }
+    Ok(())
+}
+
+fn say_bad<W: Output>(
+    report: &mut Report<'_, W>,
+    inode: u32,
+    fragment: u32,
+    many: bool,
+) -> Result<(), OutFault>
+    ensures { Says (progress W.sink report.old) (progress W.sink report.new)
+        (of_lines (bad_lines inode fragment many)) result }
+{
+    report.say(&Line::Block(BlockMessage::Bad { fragment, inode }))?;
+    if many {
+        return report.say(&Line::Block(BlockMessage::ManyBad { inode }));
+    }
+    Ok(())
 }
 
 /// Whether the fragment of an offer is in range. Where `in_range` says that its Run is, the
@@ -42,7 +73,7 @@ fn fragment_in_range(geometry: &Geometry, fragment: u64, in_range: bool) -> bool
 /// Takes an offer, and says whether it is dup. `in_range` says that its Run is in range.
 #[inline(always)]
 #[tactic(auto, using(ffs_volume::proofs::Potentials::in_range_below))]
-fn take(geometry: &Geometry, workspace: &mut Workspace, fragment: u64, in_range: bool) -> bool
+fn take(workspace: &mut Workspace, geometry: &Geometry, fragment: u64, in_range: bool) -> bool
     requires { CanOffer geometry.now.layout workspace.old 1 in_range
         (is_fragment_in_range geometry.now.layout fragment) }
     ensures claims { claims_of workspace.new
@@ -68,8 +99,8 @@ fn take(geometry: &Geometry, workspace: &mut Workspace, fragment: u64, in_range:
 
 /// Takes one offer, and reports what is wrong with it.
 fn offer<W: Output>(
-    geometry: &Geometry,
     workspace: &mut Workspace,
+    geometry: &Geometry,
     number: u32,
     fragment: u64,
     in_range: bool,
@@ -85,38 +116,38 @@ fn offer<W: Output>(
     ensures only { OffersOnly geometry.now.layout workspace.old workspace.new }
 {
     let many = workspace.dups == MAXDUP;
-    if !take(geometry, workspace, fragment, in_range) {
+    if !take(workspace, geometry, fragment, in_range) {
         return Ok(());
     }
-    say_dup(number, fragment as u32, many, report)
+    say_dup(report, number, fragment as u32, many)
 }
 
 /// Takes the offers of a Run, one after another, and reports what is wrong with them. `in_range`
 /// says that the Run is in range.
 fn offers<W: Output>(
-    geometry: &Geometry,
     workspace: &mut Workspace,
+    geometry: &Geometry,
     number: u32,
-    run: Run,
+    start: u32,
+    len: u32,
     in_range: bool,
     report: &mut Report<'_, W>,
 ) -> Result<(), OutFault>
-    requires { CanOffer geometry.now.layout workspace.old run.len in_range
-        (is_run_in_range geometry.now.layout run.start run.len) }
+    requires { CanOffer geometry.now.layout workspace.old len in_range
+        (is_run_in_range geometry.now.layout start len) }
     ensures said { Says (progress W.sink report.old) (progress W.sink report.new)
         (of_lines (lines_of_offers geometry.now.layout number (claims_of workspace.old)
-        (range_with_len run.start run.len))) result }
+        (range_with_len start len))) result }
     ensures claims { OnOk result (claims_of workspace.new
-        ≡ after_offers geometry.now.layout (claims_of workspace.old)
-        (range_with_len run.start run.len)) }
+        ≡ after_offers geometry.now.layout (claims_of workspace.old) (range_with_len start len)) }
     ensures only { OffersOnly geometry.now.layout workspace.old workspace.new }
 {
-    for place in 0..run.len {
+    for place in 0..len {
         offer(
-            geometry,
             workspace,
+            geometry,
             number,
-            u64::from(run.start) + u64::from(place),
+            u64::from(start) + u64::from(place),
             in_range,
             report,
         )?;
@@ -127,87 +158,88 @@ fn offers<W: Output>(
 /// Takes a Run in range of the current inode: it is claimed at once where its fragments are all
 /// unclaimed and lie in one word of the map. Returns whether the next step is seen.
 fn run_in_range<W: Output>(
-    geometry: &Geometry,
     workspace: &mut Workspace,
+    geometry: &Geometry,
     number: u32,
-    run: Run,
+    start: u32,
+    len: u32,
     report: &mut Report<'_, W>,
 ) -> Result<bool, OutFault>
-    requires can { CanOffer geometry.now.layout workspace.old run.len true
-        (is_run_in_range geometry.now.layout run.start run.len) }
-    requires some { 0 < run.len }
+    requires can { CanOffer geometry.now.layout workspace.old len true
+        (is_run_in_range geometry.now.layout start len) }
+    requires some { 0 < len }
     requires open { claims.is_open (claims_of workspace.old) ≡ true }
     ensures said { Says (progress W.sink report.old) (progress W.sink report.new)
         (of_lines (lines_of_offers geometry.now.layout number (claims_of workspace.old)
-        (range_with_len run.start run.len))) result }
+        (range_with_len start len))) result }
     ensures claims { IfOk result (AreClaims workspace.new
-        (after_offers geometry.now.layout (claims_of workspace.old)
-        (range_with_len run.start run.len))) }
+        (after_offers geometry.now.layout (claims_of workspace.old) (range_with_len start len))) }
     ensures only { OffersOnly geometry.now.layout workspace.old workspace.new }
 {
-    if workspace.claimed.claim(run.start, run.len) {
-        workspace.kept += u64::from(run.len);
+    if workspace.claimed.claim(start, len) {
+        workspace.kept += u64::from(len);
         return Ok(true);
     }
-    offers(geometry, workspace, number, run, true, report)?;
+    offers(workspace, geometry, number, start, len, true, report)?;
     Ok(is_open(workspace))
 }
 
 /// Takes the offers of a bad Run of the current inode, which isn't cut. No fragment past the volume
 /// is in range: so a Run that begins there is kept at once, and nothing of it is claimed or dup.
 fn offers_of_bad_run<W: Output>(
-    geometry: &Geometry,
     workspace: &mut Workspace,
+    geometry: &Geometry,
     number: u32,
-    run: Run,
+    start: u32,
+    len: u32,
     report: &mut Report<'_, W>,
 ) -> Result<(), OutFault>
-    requires room { HasRoomForOffers geometry.now.layout workspace.old run.len }
+    requires room { HasRoomForOffers geometry.now.layout workspace.old len }
     requires uncut { workspace.old.dups ≤ MAXDUP }
     ensures said { Says (progress W.sink report.old) (progress W.sink report.new)
         (of_lines (lines_of_offers geometry.now.layout number (claims_of workspace.old)
-        (range_with_len run.start run.len))) result }
+        (range_with_len start len))) result }
     ensures claims { OnOk result (claims_of workspace.new
-        ≡ after_offers geometry.now.layout (claims_of workspace.old)
-        (range_with_len run.start run.len)) }
+        ≡ after_offers geometry.now.layout (claims_of workspace.old) (range_with_len start len)) }
     ensures only { OffersOnly geometry.now.layout workspace.old workspace.new }
 {
-    if run.start >= geometry.layout.size {
-        workspace.kept += u64::from(run.len);
+    if start >= geometry.layout.size {
+        workspace.kept += u64::from(len);
         return Ok(());
     }
-    offers(geometry, workspace, number, run, false, report)
+    offers(workspace, geometry, number, start, len, false, report)
 }
 
 /// Takes a Run of the current inode. Returns whether the next step is seen.
-fn take_run<W: Output>(
-    geometry: &Geometry,
+fn run<W: Output>(
     workspace: &mut Workspace,
+    geometry: &Geometry,
     area: &mut DataArea,
     number: u32,
-    run: Run,
+    start: u32,
+    len: u32,
     report: &mut Report<'_, W>,
 ) -> Result<bool, OutFault>
     requires next { SeesNext geometry.now.layout workspace.old area.old }
-    requires some { 0 < run.len }
+    requires some { 0 < len }
     ensures claiming { ClaimsStep geometry.now.layout
-        (run_lines geometry.now.layout number (claims_of workspace.old) run.start run.len)
-        (after_run geometry.now.layout (claims_of workspace.old) run.start run.len)
+        (run_lines geometry.now.layout number (claims_of workspace.old) start len)
+        (after_run geometry.now.layout (claims_of workspace.old) start len)
         (progress W.sink report.old) (progress W.sink report.new) workspace.old workspace.new
         area.new result }
     ensures runs { workspace.new.runs_seen ≡ workspace.old.runs_seen + 1 }
 {
     workspace.runs_seen += 1;
-    if area.in_range(geometry, run) {
-        return run_in_range(geometry, workspace, number, run, report);
+    if area.in_range(geometry, start, len) {
+        return run_in_range(workspace, geometry, number, start, len, report);
     }
     let many = workspace.bad == MAXBAD;
     workspace.bad += 1;
-    say_bad(number, run.start, many, report)?;
+    say_bad(report, number, start, many)?;
     if many {
         return Ok(false);
     }
-    offers_of_bad_run(geometry, workspace, number, run, report)?;
+    offers_of_bad_run(workspace, geometry, number, start, len, report)?;
     Ok(is_open(workspace))
 }
 
@@ -216,8 +248,8 @@ fn take_run<W: Output>(
 /// # Errors
 /// A write of the report that failed.
 pub fn step<W: Output>(
-    geometry: &Geometry,
     workspace: &mut Workspace,
+    geometry: &Geometry,
     area: &mut DataArea,
     number: u32,
     step: Step,
@@ -235,13 +267,12 @@ pub fn step<W: Output>(
 {
     match step {
         Step::Run { start, len, .. } => {
-            let run = Run { start, len };
-            take_run(geometry, workspace, area, number, run, report)
+            run(workspace, geometry, area, number, start, len, report)
         }
         Step::Tail => {
             if !workspace.tail {
                 workspace.tail = true;
-                say_tail(number, report)?;
+                report.say(&Line::Block(BlockMessage::PartTrunc { inode: number }))?;
             }
             Ok(true)
         }

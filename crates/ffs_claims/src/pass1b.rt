@@ -2,7 +2,7 @@
 
 ghost use Rattle.std.specs.Prelude.{◌≡◌, ◌+◌, ◌-◌, ◌*◌, ◌<◌, ◌≤◌, ◌^◌, ◌∷◌, OnOk, true, slice_index};
 ghost use Rattle.ffs_report.specs.Progress.{progress, Says};
-ghost use Rattle.ffs_report.specs.Known.{ForBytes};
+ghost use Rattle.ffs_report.specs.Known.{ForBytes, IsContents};
 ghost use Rattle.ffs_report.specs.Runs.{PhaseRuns};
 ghost use Rattle.ffs_volume.specs.Blocks.BlockCheck.{first_offer_lines, phase1b_lines};
 ghost use Rattle.ffs_volume.specs.Messages.Kinds as messages;
@@ -15,16 +15,14 @@ ghost use Rattle.ffs_volume.specs.Encodings.ReplayCounts.{seen_run};
 ghost use Rattle.ffs_maps.specs.Bits.{bits_of};
 ghost use Rattle.ffs_walk.specs.Counts.{entered};
 ghost use Rattle.ffs_walk.specs.Keepings.{replay_in};
-ghost use Rattle.ffs_workspace.specs.Holds.{HoldsClaims, HoldsStarts};
+ghost use Rattle.ffs_workspace.specs.Holds.{HoldsPhase1, HoldsClaims, HoldsStarts};
 ghost use Rattle.ffs_workspace.specs.Notes.{cut_in};
 ghost use Rattle.ffs_workspace.specs.Ready.{IsReady};
-ghost use Rattle.ffs_claims.specs.Begins.{BeginsPhase1b};
 ghost use Rattle.ffs_claims.specs.Lines.{of_lines};
 ghost use Rattle.ffs_claims.specs.Rescan.{step_offers_again};
 ghost use Rattle.ffs_claims.specs.Reporting.{CanReport, CanRewalk, ReportsOnly};
 ghost use Rattle.ffs_claims.specs.SecondLook.{Counted, Rewalks, RunsPay, StepReported, second_look};
 
-use crate::area::Run;
 use crate::report_claim::report_run;
 use ffs_image::Image;
 use ffs_layout::Geometry;
@@ -36,8 +34,8 @@ use ffs_workspace::Workspace;
 /// Reports, of the fragments that a step of the current inode keeps, those whose first claim isn't
 /// reported yet.
 fn report_again<W: Output>(
-    geometry: &Geometry,
     workspace: &mut Workspace,
+    geometry: &Geometry,
     number: u32,
     keeping: &mut Keeping,
     step: Step,
@@ -62,8 +60,7 @@ fn report_again<W: Output>(
         Step::Run { start, len, .. } => {
             workspace.runs_again = workspace.runs_again.saturating_add(1);
             let taken = keeping.take(len, geometry.in_range(start, len));
-            let run = Run { start, len: taken };
-            report_run(geometry, workspace, number, run, report)
+            report_run(workspace, geometry, number, start, taken, report)
         }
         Step::Tail | Step::Gap => Ok(()),
     }
@@ -71,26 +68,25 @@ fn report_again<W: Output>(
 
 /// Walks over the blocks of an inode again, until nothing is left to report.
 fn rewalk<I: Image, W: Output>(
-    geometry: &Geometry,
-    image: &mut I,
     workspace: &mut Workspace,
+    geometry: &Geometry,
     number: u32,
+    cut: u32,
     inode: &Inode,
+    image: &mut I,
     report: &mut Report<'_, W>,
 ) -> Result<(), RunFault>
     requires can { CanRewalk geometry.now.layout (I.device image.old) workspace.old number }
-    ensures rewalks { Rewalks geometry.now.layout number
-        (cut_in (slice_index workspace.old.notes.items number)) (λ _. inode.now)
+    ensures rewalks { Rewalks geometry.now.layout number cut (λ _. inode.now)
         (I.device image.old) (I.device image.new) (progress W.sink report.old)
         (progress W.sink report.new) workspace.old workspace.new result }
     ensures counted { RunsPay (I.reads image.old) (I.reads image.new) workspace.old.runs_again
         workspace.new.runs_again }
 {
-    let cut = workspace.cut_of(number);
     let mut keeping = Keeping::start(cut);
     let mut walk = Walk::start(geometry, inode);
     while let Some(next) = walk.next(image, &mut workspace.windows.blocks)? {
-        report_again(geometry, workspace, number, &mut keeping, next, report)?;
+        report_again(workspace, geometry, number, &mut keeping, next, report)?;
         if !keeping.is_replay_open() {
             break;
         }
@@ -106,10 +102,10 @@ fn rewalk<I: Image, W: Output>(
 
 /// Reads an inode by its number, and walks over its blocks again.
 fn rewalk_inode<I: Image, W: Output>(
-    geometry: &Geometry,
-    image: &mut I,
     workspace: &mut Workspace,
+    geometry: &Geometry,
     number: u32,
+    image: &mut I,
     report: &mut Report<'_, W>,
 ) -> Result<(), RunFault>
     requires can { CanRewalk geometry.now.layout (I.device image.old) workspace.old number }
@@ -122,7 +118,8 @@ fn rewalk_inode<I: Image, W: Output>(
         workspace.old.runs_again workspace.new.runs_again }
 {
     let inode = workspace.windows.table.inode(geometry, number, image)?;
-    rewalk(geometry, image, workspace, number, &inode, report)
+    let cut = workspace.cut_of(number);
+    rewalk(workspace, geometry, number, cut, &inode, image, report)
 }
 
 /// Walks over the blocks of the inodes again, until each fragment with a DUP line has its first
@@ -139,21 +136,23 @@ pub fn phase1b<I: Image, W: Output>(
     report: &mut Report<'_, W>,
 ) -> Result<(), RunFault>
     requires ready { IsReady geometry.now.layout (I.device image.old) workspace.old }
-    ensures prints { PhaseRuns
-        (BeginsPhase1b geometry.now.layout (I.device image.old) workspace.old)
+    ensures prints { PhaseRuns (λ bytes. IsContents (I.device image.old).contents bytes
+        × HoldsPhase1 geometry.now.layout bytes workspace.old)
         (λ bytes. messages.phase1b ∷ of_lines
         (phase1b_lines geometry.now.layout (owners_of geometry.now.layout bytes)))
         (I.device image.old) (I.device image.new) (progress W.sink report.old)
         (progress W.sink report.new) result }
     ensures holds { OnOk result (ForBytes
-        (BeginsPhase1b geometry.now.layout (I.device image.old) workspace.old)
+        (λ bytes. IsContents (I.device image.old).contents bytes
+        × HoldsPhase1 geometry.now.layout bytes workspace.old)
         (λ bytes. HoldsClaims geometry.now.layout bytes workspace.new
         × HoldsStarts geometry.now.layout bytes workspace.new)) }
-    ensures runs { ForBytes
-        (BeginsPhase1b geometry.now.layout (I.device image.old) workspace.old)
+    ensures runs { ForBytes (λ bytes. IsContents (I.device image.old).contents bytes
+        × HoldsPhase1 geometry.now.layout bytes workspace.old)
         (λ bytes. workspace.new.runs_again ≤ run_count geometry.now.layout bytes) }
     ensures count { OnOk result (ForBytes
-        (BeginsPhase1b geometry.now.layout (I.device image.old) workspace.old)
+        (λ bytes. IsContents (I.device image.old).contents bytes
+        × HoldsPhase1 geometry.now.layout bytes workspace.old)
         (λ bytes. workspace.new.runs_again ≡ second_look geometry.now.layout bytes)) }
     ensures reads { workspace.new.runs_again < 2 ^ 64 - 1 → I.reads image.new ≤ I.reads image.old
         + geometry.now.layout.ncg * geometry.now.layout.ipg + workspace.new.runs_again }
@@ -166,7 +165,7 @@ pub fn phase1b<I: Image, W: Output>(
         if !workspace.has_dups() {
             break;
         }
-        rewalk_inode(geometry, image, workspace, number, report)?;
+        rewalk_inode(workspace, geometry, number, image, report)?;
     }
     Ok(())
 }

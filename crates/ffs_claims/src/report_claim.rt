@@ -8,7 +8,6 @@ ghost use Rattle.ffs_maps.specs.Bits.{bits_of};
 ghost use Rattle.ffs_claims.specs.Lines.{of_lines};
 ghost use Rattle.ffs_claims.specs.Reporting.{CanReport, OffersReported, OffersReportedOnly};
 
-use crate::area::Run;
 use ffs_layout::Geometry;
 use ffs_report::{Line, OutFault, Output, Report};
 use ffs_volume::BlockMessage;
@@ -17,8 +16,8 @@ use ffs_workspace::Workspace;
 /// Reports an offer, and marks its inode, where its fragment has a DUP line whose first claim isn't
 /// reported yet.
 fn report_claim<W: Output>(
-    geometry: &Geometry,
     workspace: &mut Workspace,
+    geometry: &Geometry,
     number: u32,
     fragment: u64,
     report: &mut Report<'_, W>,
@@ -52,27 +51,28 @@ fn report_claim<W: Output>(
 /// # Errors
 /// A write of the report that failed.
 pub fn report_run<W: Output>(
-    geometry: &Geometry,
     workspace: &mut Workspace,
+    geometry: &Geometry,
     number: u32,
-    run: Run,
+    start: u32,
+    len: u32,
     report: &mut Report<'_, W>,
 ) -> Result<(), OutFault>
     requires can { CanReport geometry.now.layout workspace.old number }
     ensures said { Says (progress W.sink report.old) (progress W.sink report.new)
         (of_lines (first_offer_lines (bits_of workspace.old.duplicates)
-        (map (offer_of number) (range_with_len run.start run.len)))) result }
+        (map (offer_of number) (range_with_len start len)))) result }
     ensures reported { OnOk result (OffersReported
-        (map (offer_of number) (range_with_len run.start run.len))
+        (map (offer_of number) (range_with_len start len))
         workspace.old workspace.new) }
     ensures only { OffersReportedOnly geometry.now.layout workspace.old workspace.new }
 {
-    for place in 0..run.len {
+    for place in 0..len {
         report_claim(
-            geometry,
             workspace,
+            geometry,
             number,
-            u64::from(run.start) + u64::from(place),
+            u64::from(start) + u64::from(place),
             report,
         )?;
     }

@@ -14,7 +14,7 @@ use ffs_workspace::Workspace;
 
 /// Sets the bits of the reserved fragments: all before the data of the first group, the summary
 /// area, and the metadata of each group.
-fn set_reserved(geometry: &Geometry, map: &mut FragmentMap)
+fn set_reserved(map: &mut FragmentMap, geometry: &Geometry)
     requires size { map.old.size ≡ geometry.now.layout.size }
     ensures size { map.new.size ≡ geometry.now.layout.size }
     ensures bits { bits_of map.old ≡ replicate geometry.now.layout.size false → bits_of map.new
@@ -31,7 +31,7 @@ fn set_reserved(geometry: &Geometry, map: &mut FragmentMap)
 
 /// Sets the reserved fragments in the map `claimed`, and the count of Runs and all counts of the
 /// current inode to 0.
-pub fn reserve(geometry: &Geometry, workspace: &mut Workspace)
+pub fn reserve(workspace: &mut Workspace, geometry: &Geometry)
     requires made { IsFor geometry.now.layout workspace.old }
     ensures claims { IsFresh geometry.now.layout workspace.old → claims_of workspace.new
         ≡ no_claims geometry.now.layout }
@@ -40,5 +40,5 @@ pub fn reserve(geometry: &Geometry, workspace: &mut Workspace)
 {
     begin(workspace);
     workspace.runs_seen = 0;
-    set_reserved(geometry, &mut workspace.claimed);
+    set_reserved(&mut workspace.claimed, geometry);
 }

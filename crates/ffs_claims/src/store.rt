@@ -1,17 +1,22 @@
 //! What is kept of each inode.
 
-ghost use Rattle.std.specs.Prelude.{◌≡◌, ◌<◌, ◌||◌, false, min, slice_set, vec_len};
-ghost use Rattle.ffs_volume.specs.Blocks.Inodes.{is_unknown};
+ghost use Rattle.std.specs.Prelude.{◌≡◌, ◌<◌, ◌^◌, ◌||◌, false, min, slice_set, vec_len};
+ghost use Rattle.ffs_volume.specs.Blocks.BlockCheck.{class_lines, count_lines};
+ghost use Rattle.ffs_volume.specs.Blocks.Inodes.{is_file_or_dir, is_unknown};
 ghost use Rattle.ffs_volume.specs.Encodings.Replay.{cut_of};
+ghost use Rattle.ffs_report.specs.Progress.{progress, Says};
 ghost use Rattle.ffs_workspace.specs.Holds.{claims_of, has_blame};
 ghost use Rattle.ffs_volume.specs.Encodings.Kinds.{kind_of};
 ghost use Rattle.ffs_volume.specs.Encodings.Links.{start_of};
 ghost use Rattle.ffs_claims.specs.Leaves.{HasInode, Stored};
+ghost use Rattle.ffs_claims.specs.Lines.{of_lines, counted_owner};
 
-use crate::owner::Owner;
+use crate::offer::is_open;
+use ffs_layout::Geometry;
 use ffs_memory::FilledList;
-use ffs_volume::constants::{DT_DIR, EMPTY_DIR, MAXDUP, UNKNOWN_TYPE};
-use ffs_volume::{Class, Inode};
+use ffs_report::{Line, OutFault, Output, Report};
+use ffs_volume::constants::{DEV_BSIZE, DT_DIR, EMPTY_DIR, MAXDUP, UNKNOWN_TYPE};
+use ffs_volume::{BlockMessage, Class, Inode};
 use ffs_workspace::{Workspace, links_start, note_of};
 
 /// The next inode becomes the current one.
@@ -22,6 +27,62 @@ pub fn begin(workspace: &mut Workspace)
     workspace.dups = 0;
     workspace.kept = 0;
     workspace.tail = false;
+}
+
+/// Reports an inode of class Partial or Unknown.
+///
+/// # Errors
+/// A write of the report that failed.
+pub fn say_class<W: Output>(
+    report: &mut Report<'_, W>,
+    number: u32,
+    class: Class,
+) -> Result<(), OutFault>
+    ensures { Says (progress W.sink report.old) (progress W.sink report.new)
+        (of_lines (class_lines number class)) result }
+{
+    match class {
+        Class::Partial => report.say(&Line::Block(BlockMessage::PartAlloc { inode: number })),
+        Class::Unknown => report.say(&Line::Block(BlockMessage::UnknownType { inode: number })),
+        Class::Free | Class::File | Class::Dir => Ok(()),
+    }
+}
+
+fn is_file_or_dir(class: Class) -> bool
+    ensures { result ≡ is_file_or_dir class }
+{
+    match class {
+        Class::File | Class::Dir => true,
+        Class::Free | Class::Partial | Class::Unknown => false,
+    }
+}
+
+/// Reports an inode whose count of sectors of 512 bytes is wrong.
+///
+/// # Errors
+/// A write of the report that failed.
+pub fn say_count<W: Output>(
+    workspace: &Workspace,
+    geometry: &Geometry,
+    number: u32,
+    class: Class,
+    found: u32,
+    report: &mut Report<'_, W>,
+) -> Result<(), OutFault>
+    requires { workspace.now.kept < 2 ^ 40 }
+    ensures { Says (progress W.sink report.old) (progress W.sink report.new)
+        (of_lines (count_lines geometry.now.layout (counted_owner number class found)
+        (claims_of workspace.now))) result }
+{
+    let right = workspace.kept * (u64::from(geometry.layout.fsize) / DEV_BSIZE);
+    if is_file_or_dir(class) && is_open(workspace) && u64::from(found) != right {
+        return report.say(&Line::Block(BlockMessage::BlockCount {
+            inode: number,
+            found,
+            right,
+        }));
+    }
+    Ok(())
 }
 
 #[inline(always)]
@@ -96,10 +157,9 @@ fn store_start(list: &mut FilledList<u64>, number: usize, start: u64)
 
 /// Keeps what later phases want of the current inode.
 #[inline(always)]
-pub fn store(workspace: &mut Workspace, owner: &Owner)
-    requires number { HasInode owner.now.number workspace.old }
-    ensures stored { Stored owner.now.number owner.now.class owner.now.inode workspace.old
-        workspace.new }
+pub fn store(workspace: &mut Workspace, number: u32, class: Class, inode: &Inode)
+    requires number { HasInode number workspace.old }
+    ensures stored { Stored number class inode.now workspace.old workspace.new }
     ensures rest { workspace.new ≡ record workspace.old {
       kinds = workspace.new.kinds;
       marked = workspace.new.marked;
@@ -107,13 +167,15 @@ pub fn store(workspace: &mut Workspace, owner: &Owner)
       references = workspace.new.references;
     } }
 {
-    let number = owner.number as usize;
-    let kind = kind_of(owner.class, &owner.inode);
-    let marked = is_marked(workspace, owner.class);
-    let note = note_of(owner.class, &owner.inode, cut_of(workspace));
-    let start = start_of(owner.class, &owner.inode);
-    workspace.kinds[number] = kind;
-    workspace.marked[number] = marked;
-    store_note(&mut workspace.notes, number, note);
-    store_start(&mut workspace.references, number, start);
+    let kind = kind_of(class, inode);
+    let marked = is_marked(workspace, class);
+    let note = note_of(class, inode, cut_of(workspace));
+    workspace.kinds[number as usize] = kind;
+    workspace.marked[number as usize] = marked;
+    store_note(&mut workspace.notes, number as usize, note);
+    store_start(
+        &mut workspace.references,
+        number as usize,
+        start_of(class, inode),
+    );
 }

@@ -8,7 +8,7 @@ ghost use Rattle.ffs_claims.specs.Claiming.{SeesNext};
 ghost use Rattle.ffs_claims.specs.Leaves.{ClaimsOnly};
 ghost use Rattle.ffs_claims.specs.Words.{ClaimsSilently, ClaimsWords, SeesWord};
 
-use crate::area::{DataArea, Run};
+use crate::area::DataArea;
 use ffs_layout::Geometry;
 use ffs_walk::Walk;
 use ffs_workspace::Workspace;
@@ -18,8 +18,8 @@ use ffs_workspace::Workspace;
 /// map. Returns whether it was so: if not, nothing has changed.
 #[inline(always)]
 fn claim_address(
-    geometry: &Geometry,
     workspace: &mut Workspace,
+    geometry: &Geometry,
     area: &DataArea,
     address: u32,
 ) -> bool
@@ -34,18 +34,15 @@ fn claim_address(
     if address == 0 {
         return true;
     }
-    let run = Run {
-        start: address,
-        len: geometry.layout.frag,
-    };
-    if !area.contains(run) {
+    let len = geometry.layout.frag;
+    if !area.contains(address, len) {
         return false;
     }
-    if !workspace.claimed.claim(run.start, run.len) {
+    if !workspace.claimed.claim(address, len) {
         return false;
     }
     workspace.runs_seen += 1;
-    workspace.kept += u64::from(run.len);
+    workspace.kept += u64::from(len);
     true
 }
 
@@ -53,8 +50,8 @@ fn claim_address(
 /// nothing is to be reported of them. The block is held.
 #[inline(never)]
 fn claim_held_words(
-    geometry: &Geometry,
     workspace: &mut Workspace,
+    geometry: &Geometry,
     area: &DataArea,
     walk: &mut Walk,
 )
@@ -67,7 +64,7 @@ fn claim_held_words(
     let geometry = *geometry;
     while walk.has_word() {
         let address = walk.next_address(&workspace.windows.blocks);
-        if !claim_address(&geometry, workspace, area, address) {
+        if !claim_address(workspace, &geometry, area, address) {
             return;
         }
         walk.pass_word();
@@ -78,12 +75,12 @@ fn claim_held_words(
 /// nothing is to be reported of them and each Run is claimed at once. The claims are then those
 /// that the steps of these words would leave.
 #[inline(always)]
-pub fn claim_words(geometry: &Geometry, workspace: &mut Workspace, area: &DataArea, walk: &mut Walk)
+pub fn claim_words(workspace: &mut Workspace, geometry: &Geometry, area: &DataArea, walk: &mut Walk)
     requires next { SeesNext geometry.now.layout workspace.old area.now }
     requires geometry { walk.old.geometry ≡ geometry.now }
     ensures { ClaimsWords geometry.now.layout workspace.old workspace.new walk.old walk.new }
 {
     if walk.is_in_held_block(&workspace.windows.blocks) {
-        claim_held_words(geometry, workspace, area, walk);
+        claim_held_words(workspace, geometry, area, walk);
     }
 }

@@ -1,3 +1,3 @@
-pub mod CutOff
+pub mod UnrefLines
 pub mod Leaving
 pub mod Unreached

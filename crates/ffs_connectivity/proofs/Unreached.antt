@@ -17,8 +17,8 @@ use Rattle.ffs_survey.specs.SurveyLaws.{dirs_of_kinds}
 use Rattle.ffs_workspace.specs.declared.workspace.Workspace.{Workspace}
 use Rattle.ffs_workspace.specs.Holds.{HoldsClaims, HoldsSurvey}
 use Rattle.ffs_workspace.specs.Lengths.{inodes_of}
-use Rattle.ffs_connectivity.specs.Lines.{cut_off_lines}
-use Rattle.ffs_connectivity.proofs.CutOff.{count_is, kind_at_is}
+use Rattle.ffs_connectivity.specs.Lines.{unref_dir_lines}
+use Rattle.ffs_connectivity.proofs.UnrefLines.{count_is, kind_at_is}
 use Rattle.ffs_volume.proofs.Numbered.{all_from}
 
 not_lost : (d n r a z : Bool) → (d && not r) ≡ false → ((d && (n && (not r && a))) && z) ≡ false
@@ -30,7 +30,7 @@ not_lost true true false a z e = absurd (cc)
 -- what is no directory, or is reached, has no line
 pub no_line : (v : Layout) (b : List ℕ) (w : Workspace) (kinds : List ℕ) (reaches : List Bool) (d : ℕ) →
     kinds ≡ w.kinds.items → reaches ≡ w.reached.items → is_free kinds reaches d ≡ false →
-    HoldsClaims v b w → HoldsSurvey v b w → cut_off_lines (volume_of v b) d ≡ []
+    HoldsClaims v b w → HoldsSurvey v b w → unref_dir_lines (volume_of v b) d ≡ []
 no_line v b w kinds reaches d ek er e h s =
     let vol = volume_of v b in
     let g = graph_of vol in
@@ -60,10 +60,10 @@ pub lines_begin : (v : Layout) (b : List ℕ) (w : Workspace) (kinds : List ℕ)
     kinds ≡ w.kinds.items → reaches ≡ w.reached.items → first ≤ inodes_of v →
     ((x : ℕ) → x < first → is_free kinds reaches x ≡ false) → HoldsClaims v b w → HoldsSurvey v b w →
     map of_tree (connectivity_lines (volume_of v b))
-    ≡ map of_tree (lines_from (cut_off_lines (volume_of v b)) first (inodes_of v - first))
+    ≡ map of_tree (lines_from (unref_dir_lines (volume_of v b)) first (inodes_of v - first))
 unfolding connectivity_lines
 lines_begin v b w kinds reaches first ek er low free h s =
-    let lines = cut_off_lines (volume_of v b) in
+    let lines = unref_dir_lines (volume_of v b) in
     ap (map of_tree) (ap (lines_below lines) (count_is v b) ∙ all_from lines (inodes_of v)
     ∙ lines_later lines first 0 first (inodes_of v) (omega arith) low
     (λ x l. no_line v b w kinds reaches x ek er (free x l) h s))
@@ -73,8 +73,8 @@ pub count_begin : (v : Layout) (b : List ℕ) (w : Workspace) (kinds : List ℕ)
     kinds ≡ w.kinds.items → reaches ≡ w.reached.items → first ≤ inodes_of v →
     ((x : ℕ) → x < first → is_free kinds reaches x ≡ false) → HoldsClaims v b w → HoldsSurvey v b w →
     length (connectivity_lines (volume_of v b))
-    ≡ length (lines_from (cut_off_lines (volume_of v b)) first (inodes_of v - first))
+    ≡ length (lines_from (unref_dir_lines (volume_of v b)) first (inodes_of v - first))
 count_begin v b w kinds reaches first ek er low free h s =
     sym (length-map (connectivity_lines (volume_of v b)) of_tree)
     ∙ ap length (lines_begin v b w kinds reaches first ek er low free h s)
-    ∙ length-map (lines_from (cut_off_lines (volume_of v b)) first (inodes_of v - first)) of_tree
+    ∙ length-map (lines_from (unref_dir_lines (volume_of v b)) first (inodes_of v - first)) of_tree

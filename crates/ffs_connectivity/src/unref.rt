@@ -10,7 +10,7 @@ ghost use Rattle.ffs_workspace.specs.Holds.{HoldsClaims, HoldsSurvey};
 ghost use Rattle.ffs_workspace.specs.Lengths.{inodes_of};
 ghost use Rattle.ffs_workspace.specs.Ready.{IsReady, StaysReady};
 ghost use Rattle.ffs_connectivity.specs.Leaders.{HasLeaders};
-ghost use Rattle.ffs_connectivity.specs.Lines.{cut_off_lines};
+ghost use Rattle.ffs_connectivity.specs.Lines.{unref_dir_lines};
 
 use ffs_image::Image;
 use ffs_layout::Geometry;
@@ -37,14 +37,14 @@ pub fn check_inode<I: Image, W: Output>(
     ensures prints { PhaseRuns (λ bytes. IsContents (I.device image.old).contents bytes
         × HoldsClaims geometry.now.layout bytes workspace.old
         × HoldsSurvey geometry.now.layout bytes workspace.old)
-        (λ bytes. map of_tree (cut_off_lines (volume_of geometry.now.layout bytes) number))
+        (λ bytes. map of_tree (unref_dir_lines (volume_of geometry.now.layout bytes) number))
         (I.device image.old) (I.device image.new) (progress W.sink report.old)
         (progress W.sink report.new) result }
     ensures reads { ForBytes (λ bytes. IsContents (I.device image.old).contents bytes
         × HoldsClaims geometry.now.layout bytes workspace.old
         × HoldsSurvey geometry.now.layout bytes workspace.old)
         (λ bytes. I.reads image.new ≤ I.reads image.old
-        + length (cut_off_lines (volume_of geometry.now.layout bytes) number)) }
+        + length (unref_dir_lines (volume_of geometry.now.layout bytes) number)) }
     ensures stays { StaysReady geometry.now.layout (I.device image.new) workspace.old
         workspace.new }
 {
@@ -56,8 +56,8 @@ pub fn check_inode<I: Image, W: Output>(
         parents: &workspace.parents,
         leaders: &workspace.flags,
     };
-    let cut_off = is_unref(number, &found);
-    if !cut_off {
+    let unref = is_unref(number, &found);
+    if !unref {
         return Ok(());
     }
     let inode = workspace.windows.table.inode(geometry, number, image)?;

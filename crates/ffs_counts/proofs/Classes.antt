@@ -1,14 +1,12 @@
 -- The lines of groups, by the kinds of inodes in place of their classes.
 use Rattle.std.proofs.Common.{◌≡◌, ℕ, ◌+◌, ◌*◌, Bool, true, false, List, ◌++◌, refl, ap, ◌∙◌, sym, slice_index}
-use Rattle.std.proofs.Common.{count_by, subst, ℤ}
+use Rattle.std.proofs.Common.{count_by, subst, ℤ, ◌-◌}
 use Rattle.std.specs.Prelude.{◌&&◌, ◌||◌, ◌==◌, not, nat_le, nat_lt}
 use Rattle.ffs_volume.specs.Blocks.Owners.{owners_of}
 use Rattle.ffs_volume.specs.Blocks.Claims.{no_claims, after_owners}
-use Rattle.ffs_volume.specs.Report.Whole.{file_count, used_count}
-use Rattle.ffs_volume.specs.Blocks.Inodes.{is_file_or_dir, is_directory, is_allocated}
-use Rattle.std.proofs.Common.{◌-◌}
-use Rattle.std.specs.List.{range_with_len}
-use Rattle.std.specs.List.{flat_map, sum_by}
+use Rattle.ffs_volume.specs.Report.Whole.{file_count, claimed_count}
+use Rattle.ffs_volume.specs.Blocks.Inodes.{is_file_or_dir, is_directory, is_allocated, inode_of}
+use Rattle.std.specs.List.{range_with_len, flat_map, sum_by}
 use Rattle.std.proofs.Math.Path.{fun_ext}
 use Rattle.std.proofs.lemmas.Bool.{true≢false}
 use Rattle.ffs_volume.specs.declared.Layout.{Layout}
@@ -19,7 +17,6 @@ use Rattle.ffs_volume.specs.declared.BlockMessage.{BlockMessage}
 use Rattle.ffs_volume.specs.declared.BlockMessage.TheVariants.{FreeCounts}
 use Rattle.ffs_volume.specs.Disk.Numbers.{u32_at, all_below}
 use Rattle.ffs_volume.specs.Disk.Areas.{cgbase}
-use Rattle.ffs_volume.specs.Blocks.Inodes.{inode_of}
 use Rattle.ffs_volume.specs.Directories.Volumes.{class_at}
 use Rattle.ffs_volume.specs.Groups.Records.{GroupCounts, is_used_inode, is_dir_inode, is_free_block, block_bits}
 use Rattle.ffs_volume.specs.Groups.Records.{block_numbers, group_inodes, group_numbers, group_size, right_group_counts}
@@ -164,7 +161,7 @@ files_are v image kinds files n e len ks =
 
 pub used_are : (v : Layout) (image : List ℕ) (used : List Bool) (n : ℕ) →
     (HasReserved v used → n ≡ used_in v used) →
-    used ≡ (after_owners v (no_claims v) (owners_of v image)).used → n ≡ used_count v image
-unfolding used_count
+    used ≡ (after_owners v (no_claims v) (owners_of v image)).used → n ≡ claimed_count v image
+unfolding claimed_count
 used_are v image used n e same = e (subst (HasReserved v) (sym same) (has_reserved v (owners_of v image)))
     ∙ ap (used_in v) same

@@ -1,7 +1,6 @@
 -- The lines of phase 5, group after group.
 use Rattle.std.proofs.Common.{◌≡◌, ℕ, suc, ◌+◌, ◌<◌, ◌^◌, Bool, List, [], ◌++◌, map, refl, ap, ◌∙◌, sym, append_assoc}
-use Rattle.std.proofs.Common.{append-nil}
-use Rattle.std.proofs.Common.{arith, slice_index, ℤ}
+use Rattle.std.proofs.Common.{append-nil, arith, slice_index, ℤ}
 use Rattle.std.specs.List.{range_with_len, flat_map, sum_by}
 use Rattle.ffs_volume.specs.declared.Layout.{Layout}
 use Rattle.ffs_volume.specs.declared.Class.{Class}
@@ -15,7 +14,7 @@ use Rattle.ffs_volume.specs.Groups.Records.{GroupCounts, right_group_counts, rig
 use Rattle.ffs_volume.specs.Groups.GroupCheck.{AlreadyReported, group_lines, reported_once, unreported, unless}
 use Rattle.ffs_volume.specs.Groups.GroupCheck.{phase5_lines, is_free_of_kept}
 use Rattle.ffs_groups.specs.declared.counts.SummaryCounts.{SummaryCounts}
-use Rattle.ffs_groups.specs.Check.{counted}
+use Rattle.ffs_groups.specs.Check.{group_counts_of}
 use Rattle.ffs_groups.specs.Free.{free_in}
 use Rattle.ffs_groups.specs.Inodes.{class_in}
 use Rattle.ffs_groups.proofs.Sums.{sum_more}
@@ -71,7 +70,7 @@ next_sum f n old new e g =
 
 pub totals_next : (v : Layout) (free : ℕ → Bool) (class : ℕ → Class) (n : ℕ) (old new : Totals) (s : SummaryCounts) →
     AreTotals v free class n old →
-    new ≡ with_counts old s → counted s ≡ right_group_counts v free class n → AreTotals v free class (n + 1) new
+    new ≡ with_counts old s → group_counts_of s ≡ right_group_counts v free class n → AreTotals v free class (n + 1) new
 totals_next v free class n old new s a e right = record {
   dirs = next_sum (λ c. (right_group_counts v free class c).dirs) n old.dirs new.dirs a.dirs
       (ap (λ t. t.dirs) e ∙ ap (λ (r : GroupCounts). old.dirs + r.dirs) right);

@@ -14,10 +14,6 @@ use Rattle.ffs_walk.specs.declared.window.Window.{Window}
 use Rattle.ffs_workspace.proofs.TablePlaces.{piece_of}
 use Rattle.ffs_counts.specs.Records.{HoldsRecord, first_read, records_read}
 
--- so many bytes lie in as many fragments as that takes
-covers : (n k : ℕ) → 0 < k → n ≤ div_ceil n k * k
-covers n k h = (div_ceil_times n k h).0
-
 pub group_ends : (start block inodes parts size fsize cgsize fragments : ℕ) → cgsize ≤ fragments * fsize →
     block + fragments ≤ inodes → inodes ≤ parts → start + parts ≤ size →
     (start + block) * fsize + cgsize ≤ size * fsize
@@ -33,14 +29,14 @@ records_end csaddr size fsize cssize fragments c n ncg a b d e =
 pub block_inside : (v : Layout) (c : ℕ) → IsAcceptedLayout v → c < v.ncg → group_place v c + v.cgsize ≤ v.size * v.fsize
 block_inside v c g h =
     group_ends (cgstart v c) v.cblkno v.iblkno v.dblkno v.size v.fsize v.cgsize (div_ceil v.cgsize v.fsize)
-    (covers v.cgsize v.fsize (omega (arith, g.sizes.fsize_low)))
+    (div_ceil_times v.cgsize v.fsize (omega (arith, g.sizes.fsize_low))).0
     g.parts.block_fits (omega (arith, g.parts.inodes_fit)) (g.groups c h).within_size
 
 pub records_inside : (v : Layout) (c n : ℕ) → IsAcceptedLayout v → c + n ≤ v.ncg →
     summary_place v c + 16 * n ≤ v.size * v.fsize
 records_inside v c n g h =
     records_end v.csaddr v.size v.fsize v.cssize (div_ceil v.cssize v.fsize) c n v.ncg
-    (covers v.cssize v.fsize (omega (arith, g.sizes.fsize_low)))
+    (div_ceil_times v.cssize v.fsize (omega (arith, g.sizes.fsize_low))).0
     g.summary.summary_in_size g.summary.room h
 
 -- the record of a group is where it is counted to, in a window that holds the records that are read with it

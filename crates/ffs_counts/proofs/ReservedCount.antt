@@ -4,12 +4,12 @@ use Rattle.std.proofs.Common.{◌&&◌, ◌||◌, nat_lt, nat_le, List, count_by
 use Rattle.std.specs.List.{range_with_len, sum_by}
 use Rattle.std.specs.Int.{div_ceil}
 use Rattle.std.proofs.Math.Nat.{mul_comm}
-use Rattle.std.proofs.lemmas.Bool.{cases_lt, true≢false}
+use Rattle.std.proofs.lemmas.Bool.{cases_lt, true≢false, lt-ltb, le-ltb, le-leb, lt-leb, and_from, and_left, and_right}
 use Rattle.std.proofs.lemmas.List.Sums.{sum_by-cons}
 use Rattle.std.proofs.lemmas.Nat.{mul-le}
 use Rattle.ffs_volume.specs.declared.Layout.{Layout}
 use Rattle.ffs_volume.specs.Disk.Areas.{cgbase, cgstart, cgsblock, cgdmin, is_group_metadata, is_reserved}
-use Rattle.ffs_volume.proofs.AreaLaws.{in_kept, is_kept_group, group_is}
+use Rattle.ffs_volume.proofs.AreaLaws.{is_in_metadata_of, is_metadata_of_group, group_is}
 use Rattle.ffs_volume.specs.Blocks.Claims.{is_set}
 use Rattle.ffs_volume.specs.Laws.Geometry.{IsAcceptedLayout}
 use Rattle.ffs_volume.specs.Groups.Records.{group_size}
@@ -17,18 +17,6 @@ use Rattle.ffs_maps.proofs.Counting.{count_join_at}
 use Rattle.ffs_groups.proofs.Words.{sum_const}
 
 -- ---- which fragments are reserved
-before : (a b : ℕ) → a < b → nat_lt a b ≡ true
-before a b h = grind arith
-
-not_before : (a b : ℕ) → b ≤ a → nat_lt a b ≡ false
-not_before a b h = grind arith
-
-from_ : (a b : ℕ) → a ≤ b → nat_le a b ≡ true
-from_ a b h = grind arith
-
-not_from : (a b : ℕ) → b < a → nat_le a b ≡ false
-not_from a b h = grind arith
-
 any_of : (a b k : Bool) → (a ≡ true) ⊎ (b ≡ true) → ((a || b) || k) ≡ true
 any_of true b k h = refl
 any_of false true k h = refl
@@ -43,28 +31,18 @@ last_length_of false false = refl
 none_of : (a b k : Bool) → a ≡ false → b ≡ false → k ≡ false → ((a || b) || k) ≡ false
 none_of a b k e f g = rw (e, f, g) refl
 
-both_are : (a b : Bool) → a ≡ true → b ≡ true → (a && b) ≡ true
-both_are a b e f = rw (e, f) refl
-
-second_not : (a b : Bool) → b ≡ false → (a && b) ≡ false
-second_not true b e = e
-second_not false b e = refl
-
-first_not : (a b : Bool) → a ≡ false → (a && b) ≡ false
-first_not a b e = rw e refl
-
 -- in group 0, all up to the end of the summary area
 first_reserved : (v : Layout) (f : ℕ) → IsAcceptedLayout v → f < v.csaddr + div_ceil v.cssize v.fsize → is_reserved v f
     ≡ true
 unfolding is_reserved
 first_reserved v f g h = elim (cases_lt f v.csaddr) [
-  | inl low ↦ any_of _ _ (is_group_metadata v f) (inl (before f (cgdmin v 0) (omega (arith, low, g.summary.csaddr))))
-  | inr past ↦ any_of _ _ (is_group_metadata v f) (inr (both_are _ _ (from_ v.csaddr f past) (before f _ h)))
+  | inl low ↦ any_of _ _ (is_group_metadata v f) (inl (lt-ltb f (cgdmin v 0) (omega (arith, low, g.summary.csaddr))))
+  | inr past ↦ any_of _ _ (is_group_metadata v f) (inr (and_from _ _ (le-leb v.csaddr f past) (lt-ltb f _ h)))
 ]
 
-kept_in : (v : Layout) (c f : ℕ) → IsAcceptedLayout v → cgbase v c ≤ f → f < cgbase v (c + 1) →
-    is_group_metadata v f ≡ (nat_lt c v.ncg && in_kept v c f)
-kept_in v c f g low high = is_kept_group v f g ∙ ap (λ j. nat_lt j v.ncg && in_kept v j f) (group_is v c f low high)
+metadata_in : (v : Layout) (c f : ℕ) → IsAcceptedLayout v → cgbase v c ≤ f → f < cgbase v (c + 1) →
+    is_group_metadata v f ≡ (nat_lt c v.ncg && is_in_metadata_of v c f)
+metadata_in v c f g low high = is_metadata_of_group v f g ∙ ap (λ j. nat_lt j v.ncg && is_in_metadata_of v j f) (group_is v c f low high)
 
 pub base_zero : (v : Layout) → cgbase v 0 ≡ 0
 unfolding cgbase
@@ -76,10 +54,10 @@ first_free : (v : Layout) (f : ℕ) → IsAcceptedLayout v → v.csaddr + div_ce
 unfolding is_reserved
 first_free v f g low high =
     none_of _ _ (is_group_metadata v f)
-    (not_before f (cgdmin v 0) (omega (arith, low, g.summary.csaddr)))
-    (second_not _ _ (not_before f _ low))
-    (kept_in v 0 f g (omega (arith, base_zero v)) high
-    ∙ second_not _ _ (second_not _ _ (not_before f (cgdmin v 0) (omega (arith, low, g.summary.csaddr)))))
+    (le-ltb f (cgdmin v 0) (omega (arith, low, g.summary.csaddr)))
+    (and_right _ _ (le-ltb f _ low))
+    (metadata_in v 0 f g (omega (arith, base_zero v)) high
+    ∙ and_right _ _ (and_right _ _ (le-ltb f (cgdmin v 0) (omega (arith, low, g.summary.csaddr)))))
 
 base_up : (v : Layout) (c : ℕ) → 1 ≤ c → cgbase v 1 ≤ cgbase v c
 unfolding cgbase
@@ -96,10 +74,10 @@ unfolding is_reserved
 group_reserved v c f g h low high =
     let group = g.groups c h in
     let kept : is_group_metadata v f ≡ true =
-    kept_in v c f g (omega (arith, parts_up v c, low)) (omega (arith, high, group.within_group))
-    ∙ both_are (nat_lt c v.ncg) (in_kept v c f) (before c v.ncg h)
-    (both_are (nat_le (cgsblock v c) f) (nat_lt f (cgdmin v c)) (from_ (cgsblock v c) f low)
-    (before f (cgdmin v c) high)) in
+    metadata_in v c f g (omega (arith, parts_up v c, low)) (omega (arith, high, group.within_group))
+    ∙ and_from (nat_lt c v.ncg) (is_in_metadata_of v c f) (lt-ltb c v.ncg h)
+    (and_from (nat_le (cgsblock v c) f) (nat_lt f (cgdmin v c)) (le-leb (cgsblock v c) f low)
+    (lt-ltb f (cgdmin v c) high)) in
     ap (λ k. (nat_lt f (cgdmin v 0) || (nat_le v.csaddr f && nat_lt f (v.csaddr + div_ceil v.cssize v.fsize))) || k)
     kept
     ∙ last_length_of (nat_lt f (cgdmin v 0)) (nat_le v.csaddr f && nat_lt f (v.csaddr + div_ceil v.cssize v.fsize))
@@ -112,12 +90,12 @@ group_free v c f g some low high apart =
     omega (arith, g.summary.summary_in_group, base_up v c some, low) in
     none_of (nat_lt f (cgdmin v 0)) (nat_le v.csaddr f && nat_lt f (v.csaddr + div_ceil v.cssize v.fsize))
     (is_group_metadata v f)
-    (not_before f (cgdmin v 0) (omega (arith, past_summary, g.summary.csaddr)))
-    (second_not (nat_le v.csaddr f) (nat_lt f (v.csaddr + div_ceil v.cssize v.fsize))
-    (not_before f (v.csaddr + div_ceil v.cssize v.fsize) past_summary))
-    (kept_in v c f g low high ∙ second_not (nat_lt c v.ncg) (in_kept v c f) (elim apart [
-      | inl under ↦ first_not (nat_le (cgsblock v c) f) (nat_lt f (cgdmin v c)) (not_from (cgsblock v c) f under)
-      | inr past ↦ second_not (nat_le (cgsblock v c) f) (nat_lt f (cgdmin v c)) (not_before f (cgdmin v c) past)
+    (le-ltb f (cgdmin v 0) (omega (arith, past_summary, g.summary.csaddr)))
+    (and_right (nat_le v.csaddr f) (nat_lt f (v.csaddr + div_ceil v.cssize v.fsize))
+    (le-ltb f (v.csaddr + div_ceil v.cssize v.fsize) past_summary))
+    (metadata_in v c f g low high ∙ and_right (nat_lt c v.ncg) (is_in_metadata_of v c f) (elim apart [
+      | inl under ↦ and_left (nat_le (cgsblock v c) f) (nat_lt f (cgdmin v c)) (lt-leb (cgsblock v c) f under)
+      | inr past ↦ and_right (nat_le (cgsblock v c) f) (nat_lt f (cgdmin v c)) (le-ltb f (cgdmin v c) past)
     ]))
 
 -- ---- counts of runs

@@ -1,8 +1,7 @@
 -- Messages that are reported once, in parts.
-use Rattle.std.proofs.Common.{◌≡◌, Bool, true, false, List, [], ◌∷◌, ◌++◌, map, refl, ap, ◌∙◌, sym}
+use Rattle.std.proofs.Common.{◌≡◌, Bool, true, false, List, [], ◌∷◌, ◌++◌, map, refl, ap, ◌∙◌, sym, subst, Result}
 use Rattle.ffs_volume.specs.declared.BlockMessage.{BlockMessage}
 use Rattle.ffs_volume.specs.Groups.GroupCheck.{AlreadyReported, is_reported, note_reported, reported_once}
-use Rattle.std.proofs.Common.{subst, Result}
 use Rattle.std.proofs.lemmas.List.{map-append}
 use Rattle.ffs_volume.specs.Messages.Kinds.{Message, of_blocks}
 use Rattle.ffs_report.specs.Progress.{Progress, Said, Stopped, Says}

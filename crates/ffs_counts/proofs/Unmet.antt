@@ -18,7 +18,7 @@ use Rattle.ffs_volume.specs.Directories.Roles.{references}
 use Rattle.ffs_volume.specs.Directories.Volumes.{volume_of}
 use Rattle.ffs_volume.specs.Encodings.Kinds.{class_of_kind}
 use Rattle.ffs_volume.specs.Encodings.Links.{links_start}
-use Rattle.ffs_volume.specs.Messages.Kinds.{reported, unref, unref_unlinked, link_count}
+use Rattle.ffs_volume.specs.Messages.Kinds.{reported, unref, unref_zero, link_count}
 use Rattle.ffs_workspace.specs.declared.workspace.Workspace.{Workspace}
 use Rattle.ffs_workspace.specs.Holds.{HoldsFindings, bool_at}
 use Rattle.ffs_workspace.specs.Lengths.{inodes_of}
@@ -69,7 +69,7 @@ one_reported false m label attr nlink r unequal =
     go (r == 0) (equals_natural nlink 0) (equals_natural nlink r) (unequal refl)
   where
     go : (none zero same : Bool) → (none ≡ false → same ≡ false) →
-        length (if none then (if zero then unref_unlinked label attr ∷ [] else unref label attr ∷ [])
+        length (if none then (if zero then unref_zero label attr ∷ [] else unref label attr ∷ [])
         else reported (not same) (link_count label attr nlink r)) ≡ 1
     go true true same h = refl
     go true false same h = refl

@@ -4,8 +4,8 @@ use Rattle.ffs_volume.specs.Blocks.Inodes.{is_allocated}
 use Rattle.ffs_groups.specs.Inodes.{class_in}
 use Rattle.ffs_workspace.specs.declared.workspace.Workspace.{Workspace}
 
--- the lists by which an inode is reported have a place for it
-pub record HasPlace (w : Workspace) (number : ℕ) : Type 0 where
+-- the lists by which an inode is reported have an element for it
+pub record HasElements (w : Workspace) (number : ℕ) : Type 0 where
   pub kinds : number < vec_len w.kinds
   pub marked : number < vec_len w.marked
   pub named : number < vec_len w.named

@@ -6,7 +6,7 @@ use Rattle.ffs_volume.specs.declared.Attr.{Attr}
 use Rattle.ffs_volume.specs.declared.Label.{Label}
 use Rattle.ffs_volume.specs.Disk.Numbers.{equals_natural}
 use Rattle.ffs_volume.specs.Messages.Kinds.{TreeMessage, reported, dead_marked}
-use Rattle.ffs_volume.specs.Messages.Kinds.{dead_zero, unref, unref_unlinked, link_count}
+use Rattle.ffs_volume.specs.Messages.Kinds.{dead_zero, unref, unref_zero, link_count}
 use Rattle.ffs_volume.specs.Encodings.Kinds.{is_empty_dir_kind}
 use Rattle.ffs_workspace.specs.declared.workspace.Workspace.{Workspace}
 use Rattle.ffs_workspace.specs.Holds.{bool_at}
@@ -17,7 +17,7 @@ use Rattle.ffs_report.specs.declared.line.ReferenceLine.{ReferenceLine}
 abbrev pub reference_reported : Bool → Bool → Label → Attr → ℤ → ℕ → List TreeMessage
 reference_reported dead marked label attr nlink refs =
     if dead then (if marked then dead_marked label attr ∷ [] else dead_zero attr ∷ [])
-    else (if refs == 0 then (if equals_natural nlink 0 then unref_unlinked label attr ∷ [] else unref label attr ∷ [])
+    else (if refs == 0 then (if equals_natural nlink 0 then unref_zero label attr ∷ [] else unref label attr ∷ [])
     else reported (not (equals_natural nlink refs)) (link_count label attr nlink refs))
 
 -- a line, if there is one

@@ -11,7 +11,7 @@ ghost use Rattle.ffs_groups.specs.Inodes.{class_in};
 ghost use Rattle.ffs_workspace.specs.Ready.{IsReady, StaysReady};
 ghost use Rattle.ffs_counts.specs.Records.{CanReadRecord, ReadsRecord};
 
-use ffs_groups::{Counts, Findings, compare_group};
+use ffs_groups::{Counts, Findings, Usage, compare_group};
 use ffs_image::{Image, ImageFault};
 use ffs_layout::Geometry;
 use ffs_volume::constants::CSUM_SIZE;
@@ -79,10 +79,13 @@ pub fn read_group<I: Image>(
         .chunk
         .fill(image, place, geometry.layout.cgsize as usize)?;
     let records = windows.table.window.bytes();
+    let usage = Usage {
+        fragments: &workspace.claimed,
+        kinds: &workspace.kinds,
+    };
     Ok(compare_group(
         geometry,
-        &workspace.claimed,
-        &workspace.kinds,
+        &usage,
         counts,
         group,
         &records[at..at + RECORD_SIZE],

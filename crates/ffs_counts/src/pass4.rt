@@ -12,7 +12,7 @@ ghost use Rattle.ffs_volume.specs.Blocks.Inodes.{is_allocated};
 ghost use Rattle.ffs_volume.specs.Encodings.Kinds.{class_of_kind};
 ghost use Rattle.ffs_workspace.specs.Lengths.{inodes_of};
 ghost use Rattle.ffs_workspace.specs.Ready.{IsReady, StaysReady};
-ghost use Rattle.ffs_counts.specs.Ready.{HasPlace, IsFreeRun};
+ghost use Rattle.ffs_counts.specs.Ready.{HasElements, IsFreeRun};
 ghost use Rattle.ffs_counts.specs.References.{is_dead_by, is_met};
 
 use crate::reference::{line_for, references_by, say_line};
@@ -27,21 +27,21 @@ use ffs_workspace::Workspace;
 /// Whether an inode is dead: marked or a directory of size 0, not the root, and named by no plain
 /// entry.
 fn is_dead(workspace: &Workspace, number: u32) -> bool
-    requires { HasPlace workspace.now number }
+    requires { HasElements workspace.now number }
     ensures { result ≡ is_dead_by workspace.now number }
 {
-    let place = number as usize;
+    let index = number as usize;
     let kind = Kind {
-        code: workspace.kinds[place],
+        code: workspace.kinds[index],
     };
-    let suspect = workspace.marked[place] || kind.is_empty_dir();
-    suspect && number != ROOTINO && !workspace.named[place]
+    let suspect = workspace.marked[index] || kind.is_empty_dir();
+    suspect && number != ROOTINO && !workspace.named[index]
 }
 
 /// Whether nothing is reported of an inode that is allocated: it isn't dead, and each of its links
 /// has a reference.
 fn is_right(workspace: &Workspace, number: u32) -> bool
-    requires { HasPlace workspace.now number }
+    requires { HasElements workspace.now number }
     ensures { result ≡ is_met workspace.now number }
 {
     workspace.references[number as usize] == LINKS_MET && !is_dead(workspace, number)
@@ -95,11 +95,11 @@ fn check_inode<I: Image, W: Output>(
     if is_right(workspace, number) {
         return Ok(());
     }
-    let place = number as usize;
+    let index = number as usize;
     let dead = is_dead(workspace, number);
-    let marked = workspace.marked[place];
-    let kind = workspace.kinds[place];
-    let count = workspace.references[place];
+    let marked = workspace.marked[index];
+    let kind = workspace.kinds[index];
+    let count = workspace.references[index];
     let inode = workspace.windows.table.inode(geometry, number, image)?;
     let references = references_by(count, &inode);
     let line = line_for(dead, marked, kind, references, number, &inode);

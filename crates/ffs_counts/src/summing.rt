@@ -5,7 +5,7 @@ ghost use Rattle.std.specs.List.{range_with_len};
 ghost use Rattle.ffs_volume.specs.Disk.Areas.{cgbase, is_reserved};
 ghost use Rattle.ffs_volume.specs.Groups.Records.{group_size};
 ghost use Rattle.ffs_volume.specs.Blocks.Inodes.{is_file_or_dir};
-ghost use Rattle.ffs_volume.specs.Report.Whole.{summary_of, file_count as files_of, used_count as used_of};
+ghost use Rattle.ffs_volume.specs.Report.Whole.{summary_of, file_count as files_of, claimed_count as claimed_of};
 ghost use Rattle.ffs_layout.specs.Super.{superblock_in};
 ghost use Rattle.ffs_maps.specs.Bits.{bits_of};
 ghost use Rattle.ffs_report.specs.Lines.{message_of};
@@ -64,7 +64,7 @@ fn reserved_count(geometry: &Geometry) -> u32
 
 /// How many fragments are claimed; reserved ones don't count. Their bits were all set before any
 /// was claimed. In a map that lacks some the difference stops at 0, and nothing is said of it.
-fn used_count(geometry: &Geometry, used: &FragmentMap) -> u32
+fn claimed_count(geometry: &Geometry, used: &FragmentMap) -> u32
     requires { used.now.size ≡ geometry.now.layout.size }
     ensures { HasReserved geometry.now.layout (bits_of used.now)
         → result ≡ used_in geometry.now.layout (bits_of used.now) }
@@ -118,11 +118,11 @@ pub fn summary<W: Output>(
         (λ bytes. HoldsClaims superblock.now.geometry.layout bytes workspace.now)
         (λ bytes. summary_of (superblock_in superblock.now)
         (files_of superblock.now.geometry.layout bytes)
-        (used_of superblock.now.geometry.layout bytes) ∷ [])
+        (claimed_of superblock.now.geometry.layout bytes) ∷ [])
         device device (progress W.sink report.old) (progress W.sink report.new) result }
 {
     let files = file_count(&workspace.kinds);
-    let used = used_count(&superblock.geometry, &workspace.claimed);
+    let used = claimed_count(&superblock.geometry, &workspace.claimed);
     report.say(&summary_line(superblock, files, used))?;
     Ok(())
 }

@@ -8,10 +8,11 @@ use Rattle.std.proofs.lemmas.Nat.{mul-add-lt, mul-le, div-add-mod'}
 use Rattle.std.proofs.lemmas.List.Sums.{count_by-le-length}
 use Rattle.ffs_maps.specs.Bits.{is_clear}
 use Rattle.ffs_maps.proofs.Words.{bit_shr}
+use Rattle.ffs_maps.proofs.Counting.{sum_split}
 use Rattle.ffs_volume.specs.Groups.Records.{has_bits, is_free_block, free_stretches}
 use Rattle.ffs_groups.specs.declared.free.FreeCounts.{FreeCounts}
 use Rattle.ffs_groups.specs.Free.{word_bits, whole_in, loose_in, runs_in, AreBelow, Added, free_in}
-use Rattle.ffs_groups.proofs.Sums.{sum_split, sum_more, sum_same, sum_within, map_same}
+use Rattle.ffs_groups.proofs.Sums.{sum_more, sum_same, sum_within, map_same}
 use Rattle.ffs_groups.proofs.MapWords.{map_parts}
 use Rattle.ffs_groups.proofs.Runs.{runs_few}
 

@@ -8,9 +8,9 @@ use Rattle.ffs_volume.specs.declared.Class.{Class}
 use Rattle.ffs_volume.specs.Disk.Numbers.{i32_at, u32_at, all_below}
 use Rattle.ffs_volume.specs.Groups.Records.{GroupCounts, has_summary, right_group_counts, right_frsum, group_size}
 use Rattle.ffs_volume.specs.Groups.Records.{has_right_sums}
-use Rattle.ffs_layout.specs.Group.{summary_of}
+use Rattle.ffs_layout.specs.Group.{group_summary_at}
 use Rattle.ffs_groups.specs.declared.counts.Counts.{Counts}
-use Rattle.ffs_groups.specs.Check.{AreCounts, counted, has_bits_of, same_counts, same_run}
+use Rattle.ffs_groups.specs.Check.{AreCounts, group_counts_of, has_bits_of, same_counts, same_run}
 use Rattle.ffs_groups.specs.declared.counts.SummaryCounts.{SummaryCounts}
 use Rattle.ffs_groups.specs.declared.free.FreeCounts.{FreeCounts}
 use Rattle.ffs_groups.specs.declared.inodes.InodeCounts.{InodeCounts}
@@ -22,7 +22,7 @@ use Rattle.ffs_groups.proofs.Signs.{bits_are}
 -- the summary of an image is compared as the words in its bytes
 pub summary_as : (v : Layout) (place : ℕ) (bytes : List ℕ) (right : SummaryCounts) →
     ((k : ℕ) → slice_index bytes k < 256) →
-    same_counts (summary_of v.order place bytes) right ≡ has_summary v place bytes (counted right)
+    same_counts (group_summary_at v.order place bytes) right ≡ has_summary v place bytes (group_counts_of right)
 summary_as v place bytes right h = rw (
   bits_are v.order place bytes right.dirs h,
   bits_are v.order (place + 4) bytes right.blocks h,
@@ -41,7 +41,7 @@ run_as v block runs k h l =
 pub sums_as : (v : Layout) (free : ℕ → Bool) (class : ℕ → Class) (c : ℕ) (block : List ℕ) (counts : Counts) →
     ((k : ℕ) → slice_index block k < 256) → AreCounts v free class c counts →
     (has_bits_of (i32_at v.order 12 block) c && (has_bits_of (i32_at v.order 20 block) (group_size v c)
-    && (same_counts (summary_of v.order 24 block) counts.summary
+    && (same_counts (group_summary_at v.order 24 block) counts.summary
     && all_below 8 (λ k. same_run (map (λ j. i32_at v.order (52 + 4 * j) block) (range_with_len 0 8)) counts.runs k))))
     ≡ has_right_sums v free class c block
 unfolding has_right_sums

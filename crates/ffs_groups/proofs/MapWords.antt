@@ -1,21 +1,17 @@
 -- The words of a map.
 use Rattle.std.proofs.Common.{◌≡◌, inl, inr, ℕ, zero, suc, ◌+◌, ◌-◌, ◌*◌, ◌/◌, ◌%◌, ◌^◌, ◌<◌, ◌≤◌, Bool, true, false}
-use Rattle.std.proofs.Common.{List, arith, refl, ap, ◌∙◌, sym, nat_eq, min, max, bit_and, bit_or, slice_index}
+use Rattle.std.proofs.Common.{List, arith, refl, ap, ◌∙◌, sym, nat_eq, min, bit_and, bit_or, slice_index}
 use Rattle.std.specs.Prelude.{◌&&◌}
 use Rattle.std.specs.Int.{bit_at, w64}
 use Rattle.std.specs.Int.RustNames.{bit_xor}
-use Rattle.std.proofs.lemmas.Bool.{cases_lt, and_parts, true≢false}
+use Rattle.std.proofs.lemmas.Bool.{cases_lt, true≢false}
 use Rattle.std.proofs.lemmas.Nat.Bits.{bit_at_and, bit_at_or, bit_at_xor, bit_at-lt, bit_at-zero, bit_at_ones}
 use Rattle.std.proofs.lemmas.Nat.Bits.{bit_at_ones_above, bit_at_above, same_from_bits, ones_shr, bit_at_set_same}
 use Rattle.ffs_maps.proofs.Words.{bit_mod, bit_shl_low, bit_shl_high}
+use Rattle.ffs_maps.proofs.BitNumbers.{max_zero, min_zero, zero_max, zero_min}
 use Rattle.ffs_volume.specs.Disk.Numbers.{all_below}
 use Rattle.ffs_volume.specs.Groups.Records.{bit_at as map_bit, same_bit}
-
-max_low : (a b : ℕ) → b ≡ 0 → max a b ≡ a
-max_low a b e = omega arith
-
-max_high : (a b : ℕ) → a ≡ 0 → max a b ≡ b
-max_high a b e = omega arith
+use Rattle.ffs_volume.proofs.Below.{all_below-at, all_below-from}
 
 mod_small : (x : ℕ) → x % 2 ^ 64 < 2 ^ 64
 mod_small x = omega arith
@@ -30,12 +26,12 @@ byte_low bytes place byte word b h is low high k below =
     ap (λ x. nat_eq x 1) (bit_at_or word (b * 2 ^ (8 * byte) % 2 ^ 64) k)
     ∙ elim (cases_lt k (8 * byte)) [
       | inl inside ↦ ap (λ x. nat_eq x 1)
-          (max_low _ _ (bit_mod (b * 2 ^ (8 * byte)) 64 k (omega arith) ∙ bit_shl_low b (8 * byte) k inside))
+          (max_zero _ _ (bit_mod (b * 2 ^ (8 * byte)) 64 k (omega arith) ∙ bit_shl_low b (8 * byte) k inside))
           ∙ low k inside
       | inr above ↦
           let at : k / 8 ≡ byte = omega arith in
           let bit : k - 8 * byte ≡ k % 8 = omega arith in
-          ap (λ x. nat_eq x 1) (max_high _ _ (high k above) ∙ bit_mod (b * 2 ^ (8 * byte)) 64 k (omega arith)
+          ap (λ x. nat_eq x 1) (zero_max _ _ (high k above) ∙ bit_mod (b * 2 ^ (8 * byte)) 64 k (omega arith)
           ∙ bit_shl_high b (8 * byte) k above)
           ∙ ap (λ x. nat_eq (bit_at x (k - 8 * byte)) 1) is
           ∙ ap (λ j. nat_eq (bit_at (slice_index bytes (place + byte)) j) 1) bit
@@ -46,7 +42,7 @@ pub byte_high : (byte word b : ℕ) → byte < 8 → b < 256 → ((k : ℕ) → 
     (k : ℕ) → 8 * (byte + 1) ≤ k → bit_at (bit_or word (b * 2 ^ (8 * byte) % 2 ^ 64)) k ≡ 0
 byte_high byte word b h fits high k above =
     bit_at_or word (b * 2 ^ (8 * byte) % 2 ^ 64) k
-    ∙ max_high _ _ (high k (omega arith))
+    ∙ zero_max _ _ (high k (omega arith))
     ∙ elim (cases_lt k 64) [
       | inl inside ↦ bit_mod (b * 2 ^ (8 * byte)) 64 k inside ∙ bit_shl_high b (8 * byte) k (omega arith)
           ∙ bit_at_above b 8 (k - 8 * byte) fits (omega arith)
@@ -54,20 +50,6 @@ byte_high byte word b h fits high k above =
     ]
 
 -- ---- two words with the same bits
-all_true : (n : ℕ) (test : ℕ → Bool) → ((k : ℕ) → k < n → test k ≡ true) → all_below n test ≡ true
-unfolding all_below
-all_true zero test e = refl
-all_true (suc n) test e = ap (λ b. b && all_below n test) (e n (omega arith))
-    ∙ all_true n test (λ k h. e k (omega arith))
-
-pub true_at : (n k : ℕ) (test : ℕ → Bool) → all_below n test ≡ true → k < n → test k ≡ true
-unfolding all_below
-true_at zero k test all h = absurd (omega arith)
-true_at (suc n) k test all h = elim (cases_lt k n) [
-  | inl low ↦ true_at n k test (and_parts (test n) (all_below n test) all).1 low
-  | inr past ↦ let same : k ≡ n = omega arith in ap test same ∙ (and_parts (test n) (all_below n test) all).0
-]
-
 pub same_below : (n : ℕ) (f g : ℕ → Bool) → ((k : ℕ) → k < n → f k ≡ g k) → all_below n f ≡ all_below n g
 unfolding all_below
 same_below zero f g e = refl
@@ -116,12 +98,6 @@ no_difference a (suc (suc b)) h g e = absurd (omega arith)
 zero_of_min : (a b : ℕ) → a < 2 → b ≡ 1 → min a b ≡ 0 → a ≡ 0
 zero_of_min a b h e f = omega arith
 
-min_low : (a b : ℕ) → a ≡ 0 → min a b ≡ 0
-min_low a b e = omega arith
-
-min_high : (a b : ℕ) → b ≡ 0 → min a b ≡ 0
-min_high a b e = omega arith
-
 same_from_zero : (a b n : ℕ) → bit_and (bit_xor a b) (2 ^ n - 1) ≡ 0 → (k : ℕ) → k < n →
     same_bit (nat_eq (bit_at a k) 1) (nat_eq (bit_at b k) 1) ≡ true
 same_from_zero a b n e k h =
@@ -135,10 +111,10 @@ zero_from_same : (a b n : ℕ) → ((k : ℕ) → k < n → same_bit (nat_eq (bi
 zero_from_same a b n same =
     same_from_bits (bit_and (bit_xor a b) (2 ^ n - 1)) 0
     (λ k. bit_at_and (bit_xor a b) (2 ^ n - 1) k ∙ elim (cases_lt k n) [
-      | inl low ↦ min_low _ _
+      | inl low ↦ zero_min _ _
           (bit_at_xor a b k ∙ no_difference (bit_at a k) (bit_at b k) (bit_at-lt a k) (bit_at-lt b k) (same k low))
           ∙ sym (bit_at-zero k)
-      | inr past ↦ min_high _ _ (bit_at_ones_above n k past) ∙ sym (bit_at-zero k)
+      | inr past ↦ min_zero _ _ (bit_at_ones_above n k past) ∙ sym (bit_at-zero k)
     ])
 
 zero_test : (x : ℕ) → x ≡ 0 → nat_eq x 0 ≡ true
@@ -159,14 +135,14 @@ is_same_word a b n = go (bit_and (bit_xor a b) (2 ^ n - 1)) refl
         (bit_and (bit_xor a b) (2 ^ n - 1) ≡ 0 → ⊥) → false ≡ x
     other true e apart = absurd
         (apart (zero_from_same a b n
-        (λ k h. true_at n k (λ k. same_bit (nat_eq (bit_at a k) 1) (nat_eq (bit_at b k) 1)) e h)))
+        (λ k h. all_below-at n k (λ k. same_bit (nat_eq (bit_at a k) 1) (nat_eq (bit_at b k) 1)) e h)))
     other false e apart = refl
 
     go : (x : ℕ) → bit_and (bit_xor a b) (2 ^ n - 1) ≡ x →
         nat_eq (bit_and (bit_xor a b) (2 ^ n - 1)) 0 ≡ all_below n
         (λ k. same_bit (nat_eq (bit_at a k) 1) (nat_eq (bit_at b k) 1))
     go zero e = zero_test _ e
-        ∙ sym (all_true n (λ k. same_bit (nat_eq (bit_at a k) 1) (nat_eq (bit_at b k) 1)) (same_from_zero a b n e))
+        ∙ sym (all_below-from n (λ k. same_bit (nat_eq (bit_at a k) 1) (nat_eq (bit_at b k) 1)) (same_from_zero a b n e))
     go (suc x) e = ap (λ y. nat_eq y 0) e ∙ one_test x ∙ other _ refl (λ z. suc_not_zero x (sym e ∙ z))
 
 pub set_same : (word k : ℕ) → k < 64 → nat_eq (bit_at (bit_or word (1 * 2 ^ k % 2 ^ 64)) k) 1 ≡ true
@@ -208,9 +184,9 @@ word_is block place n word count found right bits h before is_found is_right =
     (λ k l. sym (ap (λ b. same_bit b (nat_eq (bit_at right k) 1)) (is_found k l ∙ moved_bit block place word k)
     ∙ ap (λ b. same_bit (map_bit block place (64 * word + k)) b) (is_right k l)))
 
-pub map_goes_on : (n word count : ℕ) (test : ℕ → Bool) → count ≡ min (n - 64 * word) 64 → 64 * word < n →
+pub map_continues : (n word count : ℕ) (test : ℕ → Bool) → count ≡ min (n - 64 * word) 64 → 64 * word < n →
     all_below (64 * word + count) test ≡ true → all_below (min (64 * (word + 1)) n) test ≡ true
-map_goes_on n word count test e h now =
+map_continues n word count test e h now =
     let at : min (64 * (word + 1)) n ≡ 64 * word + count = omega (arith, e, h) in
     ap (λ j. all_below j test) at ∙ now
 
@@ -237,20 +213,6 @@ all_fails n m test h now =
 
 pub moved_in : (bits : ℕ → Bool) (first word k : ℕ) → bits (first + 64 * word + k) ≡ bits (first + (64 * word + k))
 moved_in bits first word k = let e : first + 64 * word + k ≡ first + (64 * word + k) = omega arith in ap bits e
-
--- ---- a test that fails at a number
-pub fails_at : (n k : ℕ) (test : ℕ → Bool) → k < n → test k ≡ false → all_below n test ≡ false
-fails_at n k test h e = go (all_below n test) refl
-  where
-    go : (b : Bool) → all_below n test ≡ b → all_below n test ≡ false
-    go true f = absurd (true≢false (sym (true_at n k test f h) ∙ e))
-    go false f = f
-
-pub one_more : (n : ℕ) (test : ℕ → Bool) → all_below n test ≡ true → test n ≡ true → all_below (n + 1) test ≡ true
-one_more n test all e = all_true (n + 1) test (λ k h. elim (cases_lt k n) [
-  | inl low ↦ true_at n k test all low
-  | inr past ↦ let same : k ≡ n = omega arith in ap test same ∙ e
-])
 
 -- a map, by its whole words and the bits after them
 pub map_parts : (block : List ℕ) (place words count n at first : ℕ) (bits : ℕ → Bool) → n ≡ 64 * words + count →

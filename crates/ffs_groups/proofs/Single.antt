@@ -1,6 +1,6 @@
 -- Blocks of one fragment.
-use Rattle.std.proofs.Common.{◌≡◌, inl, inr, ℕ, zero, suc, ◌+◌, ◌-◌, ◌*◌, ◌/◌, ◌^◌, ◌<◌, ◌≤◌, Bool, true, false, List}
-use Rattle.std.proofs.Common.{[], ◌∷◌, map, cond, get_or, arith, refl, ap, ◌∙◌, sym, nat_eq, min, bit_and, count_ones}
+use Rattle.std.proofs.Common.{◌≡◌, inl, inr, ℕ, ◌+◌, ◌-◌, ◌*◌, ◌/◌, ◌^◌, ◌≤◌, Bool, true, false, List}
+use Rattle.std.proofs.Common.{[], ◌∷◌, map, cond, get_or, arith, refl, ap, ◌∙◌, sym, nat_eq, bit_and, count_ones}
 use Rattle.std.proofs.Common.{count_by, slice_index}
 use Rattle.std.specs.List.{range_with_len, sum_by}
 use Rattle.std.specs.Int.{bit_at}
@@ -11,21 +11,11 @@ use lib.Lanes.{mask_l}
 use Rattle.std.proofs.lemmas.Simd.{bit_mask_l, ones-mask_l}
 use Rattle.std.proofs.lemmas.Nat.Bits.{bit_at_and, bit_at-lt, bit_at_ones, bit_at_ones_above, same_from_bits, ones_shr}
 use Rattle.ffs_maps.proofs.Words.{bit_shr}
+use Rattle.ffs_maps.proofs.BitNumbers.{min_one, min_zero, one_bit}
 use Rattle.ffs_groups.specs.declared.free.FreeCounts.{FreeCounts}
 use Rattle.ffs_groups.specs.Free.{word_bits, whole_in, loose_in, runs_in, Added}
 use Rattle.ffs_groups.proofs.Sums.{sum_same}
 use Rattle.ffs_groups.proofs.Words.{sum_const}
-
-one_bit : (b : ℕ) → b < 2 → b ≡ cond (nat_eq b 1) 1 0
-one_bit zero h = refl
-one_bit (suc zero) h = refl
-one_bit (suc (suc b)) h = absurd (omega arith)
-
-min_left : (a b : ℕ) → a < 2 → b ≡ 1 → min a b ≡ a
-min_left a b h e = omega arith
-
-min_zero : (a b : ℕ) → b ≡ 0 → min a b ≡ 0
-min_zero a b e = omega arith
 
 -- the bit of a word at a place is set
 abbrev pub set_in : ℕ → ℕ → Bool
@@ -46,7 +36,7 @@ ones_below word n h =
     at : (i : ℕ) → bit_at (bit_and word (2 ^ n - 1)) i ≡ cond
         (get_or (map (set_in word) (range_with_len 0 n)) i false) 1 0
     at i = elim (cases_lt i n) [
-      | inl low ↦ bit_at_and word (2 ^ n - 1) i ∙ min_left _ _ (bit_at-lt word i) (bit_at_ones n i low)
+      | inl low ↦ bit_at_and word (2 ^ n - 1) i ∙ min_one _ _ (bit_at-lt word i) (bit_at_ones n i low)
           ∙ one_bit (bit_at word i) (bit_at-lt word i)
           ∙ ap (λ b. cond b 1 0) (sym (get_or-map-range_with_len (set_in word) 0 n i i false low (omega arith)))
       | inr past ↦ bit_at_and word (2 ^ n - 1) i ∙ min_zero (bit_at word i) _ (bit_at_ones_above n i past)

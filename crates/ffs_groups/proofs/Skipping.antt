@@ -1,5 +1,5 @@
 -- Inodes whose kinds are not looked at, and words of inodes that are all in use or all free.
-use Rattle.std.proofs.Common.{◌≡◌, inl, inr, ℕ, ◌+◌, ◌-◌, ◌*◌, ◌^◌, ◌<◌, ◌≤◌, Bool, true, false, List, cond, arith, ap}
+use Rattle.std.proofs.Common.{◌≡◌, inl, inr, ℕ, ◌+◌, ◌-◌, ◌^◌, ◌<◌, ◌≤◌, Bool, true, false, List, cond, arith, ap}
 use Rattle.std.proofs.Common.{◌∙◌, sym, count_by, nat_eq, max, slice_index}
 use Rattle.std.specs.Prelude.{◌&&◌, ◌||◌, not, nat_le, nat_lt}
 use Rattle.std.specs.List.{range_with_len}
@@ -10,14 +10,7 @@ use Rattle.ffs_volume.specs.Blocks.Inodes.{is_allocated, is_directory}
 use Rattle.ffs_volume.specs.Encodings.Kinds.{class_of_kind}
 use Rattle.ffs_volume.specs.Groups.Records.{is_used_inode, is_dir_inode}
 use Rattle.ffs_groups.specs.Inodes.{class_in}
-use Rattle.ffs_groups.proofs.Sums.{sum_split}
-use Rattle.ffs_groups.proofs.Words.{sum_const}
-
-none_counted : (p : ℕ → Bool) (a n : ℕ) → ((k : ℕ) → k < n → p (a + k) ≡ false) → count_by p (range_with_len a n) ≡ 0
-none_counted p a n none =
-    let zeros : count_by p (range_with_len a n) ≡ n * 0 =
-    sum_const (λ x. cond (p x) 1 0) 0 a n (λ k h. ap (λ b. cond b 1 0) (none k h)) in
-    omega (arith, zeros)
+use Rattle.ffs_maps.proofs.Counting.{sum_split, none_counted}
 
 -- a count of numbers from 2 on is a count of all, where neither 0 nor 1 counts
 pub count_from_two : (p : ℕ → Bool) (first len start n count : ℕ) → ((x : ℕ) → x < 2 → p x ≡ false) →

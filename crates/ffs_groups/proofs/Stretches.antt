@@ -1,13 +1,14 @@
 -- Fragments of which all are free, or none is.
 use Rattle.std.proofs.Common.{◌≡◌, ℕ, suc, ◌+◌, ◌-◌, ◌*◌, ◌<◌, ◌≤◌, Bool, true, false, List, cond, arith, ap, ◌∙◌, refl}
-use Rattle.std.proofs.Common.{count_by, map, nat_lt}
+use Rattle.std.proofs.Common.{count_by, map}
 use Rattle.std.specs.Prelude.{◌&&◌, not}
 use Rattle.std.specs.List.{range_with_len}
 use Rattle.std.proofs.lemmas.List.Sums.{sum_by-cons}
 use Rattle.std.proofs.lemmas.Nat.{mul-add-lt}
+use Rattle.std.proofs.lemmas.Bool.{lt-ltb}
 use Rattle.ffs_volume.specs.Blocks.Claims.{is_set}
 use Rattle.ffs_groups.specs.Free.{free_in, bits_from}
-use Rattle.ffs_groups.proofs.Sums.{sum_split, count_within}
+use Rattle.ffs_maps.proofs.Counting.{sum_split, count_within}
 
 abbrev num : Bool → ℕ
 num b = cond b 1 0
@@ -45,11 +46,8 @@ all_at p a n k e h = go (p (a + k)) refl
       count_within p (a + k + 1) (n - k - 1),
     ))
 
-below_size : (f size : ℕ) → f < size → nat_lt f size ≡ true
-below_size f size h = grind arith
-
 free_by : (used : List Bool) (size f : ℕ) (x : Bool) → f < size → is_set used f ≡ x → free_in used size f ≡ not x
-free_by used size f x h e = ap (λ b. b && not (is_set used f)) (below_size f size h) ∙ ap not e
+free_by used size f x h e = ap (λ b. b && not (is_set used f)) (lt-ltb f size h) ∙ ap not e
 
 -- no bit is set: all fragments are free
 pub all_free : (used : List Bool) (size start n count k : ℕ) → start + n ≤ size →

@@ -1,28 +1,9 @@
 -- Sums over numbers in a row.
-use mir.Val.{bool_byte}
-use Rattle.std.proofs.Common.{◌≡◌, ℕ, zero, suc, ◌+◌, ◌*◌, ◌<◌, ◌≤◌, Bool, true, false, [], ◌∷◌, map, cond, arith, refl}
+use Rattle.std.proofs.Common.{◌≡◌, ℕ, zero, suc, ◌+◌, ◌*◌, ◌<◌, ◌≤◌, Bool, [], ◌∷◌, map, cond, arith, refl}
 use Rattle.std.proofs.Common.{ap, ◌∙◌, count_by, ◌^◌}
 use Rattle.std.specs.List.{range_with_len, sum_by}
-use Rattle.std.proofs.lemmas.List.Sums.{sum_by-cons, count_by-le-length}
-use Rattle.std.proofs.lemmas.List.FromFn.{length-range_with_len}
-
-none_before : (x : ℕ) → x ≡ 0 + x
-none_before x = omega arith
-
-pub sum_split : (f : ℕ → ℕ) (a n m t : ℕ) → t ≡ n + m →
-    sum_by f (range_with_len a t) ≡ sum_by f (range_with_len a n) + sum_by f (range_with_len (a + n) m)
-sum_split f a zero m t e =
-    let at : a + 0 ≡ a = omega arith in
-    let same : t ≡ m = omega (arith, e) in
-    rw (at, same) (none_before (sum_by f (range_with_len a m)))
-sum_split f a (suc n) m zero e = absurd (omega arith)
-sum_split f a (suc n) m (suc t) e =
-    let k : a + 1 + n ≡ a + suc n = omega arith in
-    let rest : sum_by f (range_with_len (a + 1) t) ≡ sum_by f (range_with_len (a + 1) n) + sum_by f
-    (range_with_len (a + suc n) m) =
-    sum_split f (a + 1) n m t (omega (arith, e))
-    ∙ ap (λ j. sum_by f (range_with_len (a + 1) n) + sum_by f (range_with_len j m)) k in
-    omega (arith, rest, sum_by-cons f a (range_with_len (a + 1) t), sum_by-cons f a (range_with_len (a + 1) n))
+use Rattle.std.proofs.lemmas.List.Sums.{sum_by-cons}
+use Rattle.ffs_maps.proofs.Counting.{sum_split, count_within}
 
 pub sum_more : (f : ℕ → ℕ) (a n : ℕ) → sum_by f (range_with_len a (n + 1)) ≡ sum_by f (range_with_len a n) + f (a + n)
 sum_more f a n = omega (arith, sum_split f a n 1 (n + 1) refl, sum_by-cons f (a + n) [])
@@ -55,9 +36,6 @@ map_same f g a c (suc n) e =
     ∙ e 0 (omega arith) ∙ ap g r in
     ap (λ x. x ∷ map f (range_with_len (a + 1) n)) first ∙ ap (λ xs. g c ∷ xs) rest
 
-pub count_within : (p : ℕ → Bool) (a n : ℕ) → count_by p (range_with_len a n) ≤ n
-count_within p a n = omega (arith, count_by-le-length p (range_with_len a n), length-range_with_len a n)
-
 -- one number more is counted
 pub count_more : (p : ℕ → Bool) (a n count r : ℕ) (b : Bool) → count ≡ count_by p (range_with_len a n) →
     r ≡ cond b 1 0 → b ≡ p (a + n) →
@@ -74,8 +52,3 @@ count_below p a n limit count r b e f g h =
 pub count_fits : (p : ℕ → Bool) (a n m count r : ℕ) (b : Bool) → count ≡ count_by p (range_with_len a n) →
     r ≡ cond b 1 0 → b ≡ p (a + n) → n < m → m < 2 ^ 32 → count + r < 2 ^ 32
 count_fits p a n m count r b e f g h fits = omega (arith, count_more p a n count r b e f g, count_within p a (n + 1))
-
--- what a test is as a number
-pub one_if : (b : Bool) (n : ℕ) → n ≡ bool_byte b → n ≡ cond b 1 0
-one_if true n e = e
-one_if false n e = e

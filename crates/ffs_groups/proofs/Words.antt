@@ -10,13 +10,13 @@ use Rattle.std.proofs.lemmas.Nat.{mul-add-lt, mul-le, div-add-mod'}
 use Rattle.std.proofs.lemmas.Nat.Bits.{bit_at-zero, bit_at_and, bit_at_ones}
 use Rattle.std.proofs.lemmas.List.Sums.{sum_by-cons}
 use Rattle.ffs_maps.proofs.Words.{bit_shr, small}
+use Rattle.ffs_maps.proofs.Counting.{sum_split}
 use Rattle.ffs_volume.specs.Blocks.Claims.{is_set}
 use Rattle.ffs_volume.specs.Disk.Areas.{cgbase}
 use Rattle.ffs_volume.specs.declared.Layout.{Layout}
 use Rattle.ffs_volume.specs.Groups.Records.{is_free_block, free_stretches, block_bits, right_frsum, group_size}
 use Rattle.ffs_groups.specs.declared.free.FreeCounts.{FreeCounts}
 use Rattle.ffs_groups.specs.Free.{word_bits, whole_in, loose_in, runs_in, Added, AreFree, free_in}
-use Rattle.ffs_groups.proofs.Sums.{sum_split}
 use Rattle.ffs_groups.proofs.Whole.{all_set}
 
 -- ---- a sum of equal numbers
@@ -76,21 +76,21 @@ adds_all f a n e = (
 same_plus : (new old s n : ℕ) → s ≡ n * 0 → new ≡ old → new ≡ old + s
 same_plus new old s n e same = omega (arith, e, same)
 
+from_zero : (f : ℕ → ℕ) (k m : ℕ) → f k ≡ m → f (0 + k) ≡ m
+from_zero f k m e = let z : 0 + k ≡ k = omega arith in ap f z ∙ e
+
 -- nothing is added by blocks that add nothing each
 pub added_none : (bits : ℕ → List Bool) (n : ℕ) (old : FreeCounts) →
     ((b : ℕ) → b < n → (whole_in (bits b) ≡ 0) × (loose_in (bits b) ≡ 0) × ((j : ℕ) → runs_in j (bits b) ≡ 0)) →
     Added bits 0 n old old
 added_none bits n old none = record {
   blocks = same_plus _ _ _ n
-      (sum_const (λ b. whole_in (bits b)) 0 0 n (λ k h. at (λ b. whole_in (bits b)) k 0 (none k h).0)) refl;
+      (sum_const (λ b. whole_in (bits b)) 0 0 n (λ k h. from_zero (λ b. whole_in (bits b)) k 0 (none k h).0)) refl;
   fragments = same_plus _ _ _ n
-      (sum_const (λ b. loose_in (bits b)) 0 0 n (λ k h. at (λ b. loose_in (bits b)) k 0 (none k h).1)) refl;
+      (sum_const (λ b. loose_in (bits b)) 0 0 n (λ k h. from_zero (λ b. loose_in (bits b)) k 0 (none k h).1)) refl;
   runs = λ j. same_plus _ _ _ n
-      (sum_const (λ b. runs_in j (bits b)) 0 0 n (λ k h. at (λ b. runs_in j (bits b)) k 0 ((none k h).2 j))) refl;
+      (sum_const (λ b. runs_in j (bits b)) 0 0 n (λ k h. from_zero (λ b. runs_in j (bits b)) k 0 ((none k h).2 j))) refl;
 }
-  where
-    at : (f : ℕ → ℕ) (k m : ℕ) → f k ≡ m → f (0 + k) ≡ m
-    at f k m e = let z : 0 + k ≡ k = omega arith in ap f z ∙ e
 
 plus_ones : (new old s n : ℕ) → s ≡ n * 1 → new ≡ old + n → new ≡ old + s
 plus_ones new old s n e more = omega (arith, e, more)
@@ -102,15 +102,12 @@ pub added_all : (bits : ℕ → List Bool) (n : ℕ) (old new : FreeCounts) →
     ((j : ℕ) → slice_index new.runs j ≡ slice_index old.runs j) → Added bits 0 n old new
 added_all bits n old new all blocks fragments runs = record {
   blocks = plus_ones _ _ _ n
-      (sum_const (λ b. whole_in (bits b)) 1 0 n (λ k h. at (λ b. whole_in (bits b)) k 1 (all k h).0)) blocks;
+      (sum_const (λ b. whole_in (bits b)) 1 0 n (λ k h. from_zero (λ b. whole_in (bits b)) k 1 (all k h).0)) blocks;
   fragments = same_plus _ _ _ n
-      (sum_const (λ b. loose_in (bits b)) 0 0 n (λ k h. at (λ b. loose_in (bits b)) k 0 (all k h).1)) fragments;
+      (sum_const (λ b. loose_in (bits b)) 0 0 n (λ k h. from_zero (λ b. loose_in (bits b)) k 0 (all k h).1)) fragments;
   runs = λ j. same_plus _ _ _ n
-      (sum_const (λ b. runs_in j (bits b)) 0 0 n (λ k h. at (λ b. runs_in j (bits b)) k 0 ((all k h).2 j))) (runs j);
+      (sum_const (λ b. runs_in j (bits b)) 0 0 n (λ k h. from_zero (λ b. runs_in j (bits b)) k 0 ((all k h).2 j))) (runs j);
 }
-  where
-    at : (f : ℕ → ℕ) (k m : ℕ) → f k ≡ m → f (0 + k) ≡ m
-    at f k m e = let z : 0 + k ≡ k = omega arith in ap f z ∙ e
 
 -- ---- a word of zeros, and a word of ones
 no_bit : (word s k : ℕ) → word ≡ 0 → nat_eq (bit_at (word / 2 ^ s) (0 + k)) 1 ≡ false

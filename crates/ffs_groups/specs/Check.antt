@@ -15,8 +15,8 @@ use Rattle.ffs_groups.specs.declared.counts.SummaryCounts.{SummaryCounts}
 use Rattle.ffs_groups.specs.declared.check.Findings.{Findings}
 
 -- the four counts
-abbrev pub counted : SummaryCounts → GroupCounts
-counted s = record { dirs = s.dirs; blocks = s.blocks; inodes = s.inodes; fragments = s.fragments }
+abbrev pub group_counts_of : SummaryCounts → GroupCounts
+group_counts_of s = record { dirs = s.dirs; blocks = s.blocks; inodes = s.inodes; fragments = s.fragments }
 
 -- the bits of a signed number are those of a count
 unfoldable pub has_bits_of : ℤ → ℕ → Bool
@@ -34,7 +34,7 @@ same_run found right length = has_bits_of (slice_index_or found length (pos 0)) 
 
 -- the counts of group c are right
 pub record AreCounts (v : Layout) (free : ℕ → Bool) (class : ℕ → Class) (c : ℕ) (counts : Counts) : Type 0 where
-  pub summary : counted counts.summary ≡ right_group_counts v free class c
+  pub summary : group_counts_of counts.summary ≡ right_group_counts v free class c
   pub runs : (k : ℕ) → slice_index counts.runs k ≡ right_frsum v free c k
 
 -- what is reported of a group where such things are found

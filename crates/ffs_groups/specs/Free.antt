@@ -12,9 +12,9 @@ use Rattle.ffs_groups.specs.declared.free.FreeCounts.{FreeCounts}
 abbrev pub free_in : List Bool → ℕ → ℕ → Bool
 free_in used size f = nat_lt f size && not (is_set used f)
 
--- the bits of a word from a place on, so many of them
+-- the bits of a word from an index on, so many of them
 abbrev pub word_bits : ℕ → ℕ → ℕ → List Bool
-word_bits word place n = map (λ k. nat_eq (bit_at word k) 1) (range_with_len place n)
+word_bits word index n = map (λ k. nat_eq (bit_at word k) 1) (range_with_len index n)
 
 -- which fragments are free of block b of those that begin at a fragment
 abbrev pub bits_from : (free : ℕ → Bool) (start frag b : ℕ) → List Bool

@@ -17,6 +17,15 @@ use ffs_layout::{Geometry, Group, GroupSummary};
 use ffs_maps::FragmentMap;
 use ffs_volume::constants::CG_MAGIC;
 
+/// What of a volume is in use.
+#[derive(Clone, Copy)]
+pub struct Usage<'a> {
+    /// The fragments that are used.
+    pub fragments: &'a FragmentMap,
+    /// The kind of each inode.
+    pub kinds: &'a [u8],
+}
+
 /// What is right in the records of a group.
 #[derive(Clone, Copy, Debug)]
 pub struct Findings {
@@ -75,13 +84,13 @@ fn places_fit(geometry: &Geometry, found: &Group) -> bool
 
 fn maps_are_right(
     geometry: &Geometry,
-    used: &FragmentMap,
-    kinds: &[u8],
+    usage: &Usage<'_>,
     group: u32,
     found: &Group,
     block: &[u8],
 ) -> bool
-    requires maps { HasMaps geometry.now.layout used.now.size kinds.now group }
+    requires maps { HasMaps geometry.now.layout usage.now.fragments.now.size usage.now.kinds.now
+        group }
     requires block { length block.now ≡ geometry.now.layout.cgsize }
     ensures { result
         ≡ ((nat_le (found.now.iusedoff + div_ceil geometry.now.layout.ipg 8)
@@ -89,14 +98,14 @@ fn maps_are_right(
         && nat_le (found.now.freeoff + div_ceil geometry.now.layout.fpg 8)
         geometry.now.layout.cgsize)
         && (has_bits block.now found.now.iusedoff geometry.now.layout.ipg
-        (λ k. is_used_inode (class_in kinds.now) (group * geometry.now.layout.ipg + k))
+        (λ k. is_used_inode (class_in usage.now.kinds.now) (group * geometry.now.layout.ipg + k))
         && has_bits block.now found.now.freeoff (group_size geometry.now.layout group)
-        (λ k. free_in (bits_of used.now) geometry.now.layout.size
+        (λ k. free_in (bits_of usage.now.fragments.now) geometry.now.layout.size
         (cgbase geometry.now.layout group + k)))) }
 {
     places_fit(geometry, found)
-        && same_inode_map(geometry, kinds, group, block, found.iusedoff)
-        && same_fragment_map(geometry, used, group, block, found.freeoff)
+        && same_inode_map(geometry, usage.kinds, group, block, found.iusedoff)
+        && same_fragment_map(geometry, usage.fragments, group, block, found.freeoff)
 }
 
 fn sums_are_right(geometry: &Geometry, counts: &Counts, group: u32, found: &Group) -> bool
@@ -116,27 +125,28 @@ fn sums_are_right(geometry: &Geometry, counts: &Counts, group: u32, found: &Grou
 /// (fs(5)).
 pub fn compare_group(
     geometry: &Geometry,
-    used: &FragmentMap,
-    kinds: &[u8],
+    usage: &Usage<'_>,
     counts: &Counts,
     group: u32,
     summary: &[u8],
     block: &[u8],
 ) -> Findings
-    requires maps { HasMaps geometry.now.layout used.now.size kinds.now group }
+    requires maps { HasMaps geometry.now.layout usage.now.fragments.now.size usage.now.kinds.now
+        group }
     requires counts { AreCounts geometry.now.layout
-        (free_in (bits_of used.now) geometry.now.layout.size) (class_in kinds.now) group
-        counts.now }
+        (free_in (bits_of usage.now.fragments.now) geometry.now.layout.size)
+        (class_in usage.now.kinds.now) group counts.now }
     requires records { HasRecords geometry.now.layout summary.now block.now }
-    ensures { AreFound geometry.now.layout (free_in (bits_of used.now) geometry.now.layout.size)
-        (class_in kinds.now) group summary.now block.now result }
+    ensures { AreFound geometry.now.layout
+        (free_in (bits_of usage.now.fragments.now) geometry.now.layout.size)
+        (class_in usage.now.kinds.now) group summary.now block.now result }
 {
     let found = Group::decode(geometry.layout.order, block);
     let record = GroupSummary::decode(geometry.layout.order, 0, summary);
     Findings {
         magic: found.magic == CG_MAGIC,
         counts: same_summary(&record, &counts.summary),
-        maps: maps_are_right(geometry, used, kinds, group, &found, block),
+        maps: maps_are_right(geometry, usage, group, &found, block),
         sums: sums_are_right(geometry, counts, group, &found),
     }
 }

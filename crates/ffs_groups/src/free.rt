@@ -62,8 +62,8 @@ impl FreeCounts {
             self.new }
     {
         let mut run = 0;
-        for place in 0..frag {
-            if bits >> place & 1 == 1 {
+        for index in 0..frag {
+            if bits >> index & 1 == 1 {
                 self.fragments += 1;
                 run += 1;
             } else {

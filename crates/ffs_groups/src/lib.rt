@@ -6,7 +6,8 @@
 //!
 //! ```text
 //! let counts = group_counts(&geometry, &used, kinds, group);
-//! let findings = compare_group(&geometry, &used, kinds, &counts, group, summary, block);
+//! let usage = Usage { fragments: &used, kinds };
+//! let findings = compare_group(&geometry, &usage, &counts, group, summary, block);
 //! ```
 //!
 //! It rests on `ffs_maps` and `ffs_layout`.
@@ -18,7 +19,7 @@ mod free;
 mod inodes;
 mod maps;
 
-pub use check::{Findings, compare_group};
+pub use check::{Findings, Usage, compare_group};
 pub use counts::{Counts, SummaryCounts, group_counts};
 pub use inodes::are_used;
 pub use maps::group_fragments;

@@ -39,13 +39,13 @@ fn word_at(map: &[u8], place: usize, bytes: usize) -> u64
 }
 
 /// A word with one bit more.
-fn with_bit(word: u64, place: u32, bit: bool) -> u64
-    requires place { place < 64 }
-    requires clear { bit_at word place ≡ 0 }
-    ensures bit { nat_eq (bit_at result place) 1 ≡ bit }
-    ensures other { (k : ℕ) → k ≢ place → bit_at result k ≡ bit_at word k }
+fn with_bit(word: u64, index: u32, bit: bool) -> u64
+    requires index { index < 64 }
+    requires clear { bit_at word index ≡ 0 }
+    ensures bit { nat_eq (bit_at result index) 1 ≡ bit }
+    ensures other { (k : ℕ) → k ≢ index → bit_at result k ≡ bit_at word k }
 {
-    if bit { word | 1 << place } else { word }
+    if bit { word | 1 << index } else { word }
 }
 
 /// A word of which each bit is set, or none.
@@ -68,8 +68,8 @@ fn used_word(kinds: &[u8], first: usize, count: u32) -> u64
         }
     }
     let mut word = 0;
-    for place in 0..count {
-        word = with_bit(word, place, is_used_at(kinds, first + place as usize));
+    for index in 0..count {
+        word = with_bit(word, index, is_used_at(kinds, first + index as usize));
     }
     word
 }

@@ -7,13 +7,13 @@ use Rattle.std.specs.IoError.{error_kind}
 use Rattle.ffs_image.specs.declared.file.OpenFault.{OpenFault}
 use Rattle.ffs_image.specs.declared.file.OpenFault.TheVariants as fault
 
-abbrev pub fault_at : ErrorKind → OpenFault
-fault_at NotFound = fault.NotFound
-fault_at NotADirectory = fault.NotFound
-fault_at PermissionDenied = fault.Denied
-fault_at InvalidFilename = fault.BadName
-fault_at InvalidInput = fault.BadName
-fault_at _ = fault.Other
+abbrev pub open_fault_of_kind : ErrorKind → OpenFault
+open_fault_of_kind NotFound = fault.NotFound
+open_fault_of_kind NotADirectory = fault.NotFound
+open_fault_of_kind PermissionDenied = fault.Denied
+open_fault_of_kind InvalidFilename = fault.BadName
+open_fault_of_kind InvalidInput = fault.BadName
+open_fault_of_kind _ = fault.Other
 
-abbrev pub fault_of : Error → OpenFault
-fault_of error = fault_at (error_kind error)
+abbrev pub open_fault_of : Error → OpenFault
+open_fault_of error = open_fault_of_kind (error_kind error)

@@ -1,9 +1,9 @@
 //! An image in a file.
 ghost use Rattle.std.specs.Prelude.{◌≡◌, ◌+◌, ◌≤◌, length, IfOk, IfErr};
-ghost use Rattle.ffs_image.specs.Faults.{fault_of};
+ghost use Rattle.ffs_image.specs.Faults.{open_fault_of};
 ghost use Rattle.ffs_image.specs.Reads.{ReadsBytes};
 ghost use Rattle.ffs_image.specs.Source.{ReadsThrough};
-ghost use Rattle.ffs_image.specs.System.{IsOpened, IsUnopened};
+ghost use Rattle.ffs_image.specs.System.{IsOpened, OpenFails};
 
 use crate::image::{Image, ImageFault};
 use crate::opened::OpenedFile;
@@ -36,7 +36,7 @@ pub enum OpenFault {
 impl OpenFault {
     /// What an error of the system means.
     pub(crate) fn of(error: &io::Error) -> OpenFault
-        ensures { result ≡ fault_of error.now }
+        ensures { result ≡ open_fault_of error.now }
     {
         match error.kind() {
             ErrorKind::NotFound | ErrorKind::NotADirectory => OpenFault::NotFound,
@@ -69,7 +69,7 @@ impl<F: RawFile + Drop> SourceImage<OpenedFile<F>> {
         ensures opened { IfOk result (λ image. IsOpened Y.was_looked_up Y.was_opened F.was_sought
             system.now name.now image.source.file image.source.size) }
         ensures failures { IfOk result (λ image. (image.source.failures ≡ 0) × (image.failed ≡ 0)) }
-        ensures refused { IfErr result (IsUnopened Y.was_looked_up Y.was_opened system.now
+        ensures refused { IfErr result (OpenFails Y.was_looked_up Y.was_opened system.now
             name.now) }
     {
         let source = OpenedFile::open(system, name)?;
@@ -108,6 +108,7 @@ impl<S: Source> Image for SourceImage<S> {
         ensures source { ReadsThrough S.was_read self.old.source self.new.source at
             (length buf.old) result }
     {
+        // The size is a u64, so no place of the read is past the last one.
         let size = self.size();
         prove!(at <= size);
         match fill(&mut self.source, at, buf) {

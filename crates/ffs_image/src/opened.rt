@@ -1,11 +1,13 @@
 //! A file that is open for reading alone.
-ghost use Rattle.std.specs.Prelude.{◌≡◌, ◌↔◌, length, take, IfOk, IsTrue, IfErr};
+ghost use Rattle.std.specs.Prelude.{◌≡◌, length, take, IfOk, IfErr};
 ghost use Rattle.std.specs.Io.{ReadsAtMost};
 ghost use Rattle.ffs_image.specs.Device.{ForContents};
+ghost use Rattle.ffs_image.specs.Interrupted.{IsTriedAgain};
 ghost use Rattle.ffs_image.specs.Source.{AreAt, GivesSome};
-ghost use Rattle.ffs_image.specs.System.{IsInterrupted, IsOpened, IsSized, IsTriedAgain, IsUnopened, SomeOf};
+ghost use Rattle.ffs_image.specs.System.{IsEndOf, IsOpened, OpenFails, SomeOf};
 
 use crate::file::OpenFault;
+use crate::interrupted::is_interrupted;
 use crate::source::{Source, SourceFault};
 use crate::system::{RawFile, System};
 use std::io;
@@ -24,20 +26,10 @@ pub struct OpenedFile<F: RawFile> {
 /// The place of a file's end, so that a block device has its size too. What can't seek has no
 /// bytes.
 fn size_of<F: RawFile>(file: &mut F) -> u64
-    ensures end { IsSized F.was_sought file.old file.new result }
+    ensures end { IsEndOf F.was_sought file.old file.new result }
     ensures bytes { ForContents (F.contents file.new) (λ bytes. length bytes ≡ result) }
 {
     file.end().unwrap_or(0)
-}
-
-/// Whether a signal interrupted the read that has this answer.
-fn is_interrupted(answer: &io::Result<usize>) -> bool
-    ensures { IsTrue result ↔ IsInterrupted answer.now }
-{
-    match answer {
-        Ok(_) => false,
-        Err(error) => error.kind() == ErrorKind::Interrupted,
-    }
 }
 
 /// Reads a file at a place, and again where a signal interrupts that.
@@ -67,7 +59,7 @@ impl<F: RawFile + Drop> OpenedFile<F> {
         ensures opened { IfOk result (λ opened. IsOpened Y.was_looked_up Y.was_opened F.was_sought
             system.now name.now opened.file opened.size) }
         ensures failures { IfOk result (λ opened. opened.failures ≡ 0) }
-        ensures refused { IfErr result (IsUnopened Y.was_looked_up Y.was_opened system.now
+        ensures refused { IfErr result (OpenFails Y.was_looked_up Y.was_opened system.now
             name.now) }
     {
         match system.is_fifo(name) {

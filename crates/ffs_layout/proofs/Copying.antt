@@ -1,7 +1,7 @@
 -- Copies of a superblock that are read, and faults of them.
-use Rattle.std.proofs.Common.{◌≡◌, ℕ, ◌*◌, ◌/◌, ◌≤◌, false, List, Option, Some, None, arith, refl, ap, ◌∙◌, inl, inr}
+use Rattle.std.proofs.Common.{◌≡◌, ℕ, ◌*◌, ◌/◌, ◌≤◌, false, List, Option, arith, ap, ◌∙◌, inl, inr}
 use Rattle.std.specs.Option.{is_some}
-use Rattle.ffs_image.specs.Device.{Device, Faulted}
+use Rattle.ffs_image.specs.Device.{Device}
 use Rattle.ffs_volume.specs.declared.Layout.{Layout}
 use Rattle.ffs_volume.specs.declared.Order.{Order}
 use Rattle.ffs_volume.specs.declared.SuperFault.{SuperFault}
@@ -10,17 +10,10 @@ use Rattle.ffs_volume.specs.Laws.Geometry.{IsAcceptedLayout}
 use Rattle.ffs_volume.specs.Disk.Outcome.{copy_place}
 use Rattle.ffs_volume.specs.Disk.Superblock.{layout_of, superblock_of}
 use Rattle.ffs_volume.proofs.AreaLaws.{copy_inside}
+use Rattle.ffs_volume.proofs.SearchLaws.{is_some-none}
 use Rattle.ffs_layout.specs.declared.superblock.Super.{Super}
 use Rattle.ffs_layout.specs.Copies.{IsUnreadCopy, IsCopyFault}
 use Rattle.ffs_layout.specs.Super.{superblock_in}
-
-none_asked : (sector : Option ℕ) → is_some sector ≡ false → sector ≡ None
-none_asked None e = refl
-none_asked (Some sector) e = cc
-
--- the fault is in the sector that the image now gives
-pub faulted_there : (old new : Device) (sector : ℕ) → Faulted old new sector → Faulted old new new.failed
-faulted_there old new sector f = record { contents = f.contents; size = f.size; failed = refl; rose = f.rose }
 
 -- a copy that isn't read is one whose read fails, since an accepted volume holds its copies
 pub copy_fault : (v : Layout) (old new : Device) (sector : Option ℕ) (order : Order) (bytes : List ℕ)
@@ -32,7 +25,7 @@ copy_fault v old new sector order bytes answer at geometry v_is inside none at_i
     let place : at ≡ copy_place (layout_of order bytes) = at_is ∙ ap copy_place v_is in
     elim unread.cause [
       | inl failed ↦ inl (record {
-        compared = none_asked sector none;
+        compared = is_some-none sector none;
         fault = unread.fault ∙ ap (λ (n : ℕ). CannotRead (n / 512)) place;
         failed = rw place at failed;
       })

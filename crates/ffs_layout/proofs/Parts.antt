@@ -5,6 +5,7 @@ use Rattle.std.specs.Simd.{first_chunks}
 use Rattle.std.proofs.Math.Nat.{suc-mul, zero-mul}
 use Rattle.std.proofs.lemmas.List.{drop-drop, take-append-drop}
 use Rattle.std.proofs.lemmas.List.Folds.{list_any-append}
+use Rattle.std.proofs.Math.Bool.{or-true}
 use Rattle.ffs_layout.specs.Entry.{has_mark}
 
 -- the part at an index
@@ -54,11 +55,7 @@ mark_some n count xs parts i d are below some =
 mark_left : (xs : List ℕ) (k : ℕ) → has_mark (drop k xs) ≡ true → has_mark xs ≡ true
 mark_left xs k some =
     ap has_mark (sym (take-append-drop k xs)) ∙ mark_append (take k xs) (drop k xs)
-    ∙ (ap (λ b. has_mark (take k xs) || b) some ∙ or_true (has_mark (take k xs)))
-  where
-    or_true : (b : Bool) → (b || true) ≡ true
-    or_true true = refl
-    or_true false = refl
+    ∙ (ap (λ b. has_mark (take k xs) || b) some ∙ or-true (has_mark (take k xs)))
 
 -- where what is left decides, more of it does too
 pub mark_from : (xs : List ℕ) (j k : ℕ) → j ≤ k → has_mark xs ≡ has_mark (drop k xs) → has_mark (drop j xs)

@@ -110,7 +110,7 @@ impl Geometry {
 
     /// Whether the fragment is metadata of its group: the copy of the superblock, the group block
     /// and the inodes.
-    #[tactic(auto, using(ffs_volume::proofs::AreaLaws::is_kept_group, ffs_volume::proofs::AreaLaws::group_below))]
+    #[tactic(auto, using(ffs_volume::proofs::AreaLaws::is_metadata_of_group, ffs_volume::proofs::AreaLaws::group_below))]
     fn is_group_metadata(&self, fragment: u32) -> bool
         requires { fragment < self.now.layout.size }
         ensures { result ≡ is_group_metadata self.now.layout fragment }
@@ -144,7 +144,7 @@ impl Geometry {
 
     /// Whether the fragment is reserved: in the boot area, in the summary area, or metadata of a
     /// group.
-    #[tactic(auto, using(ffs_volume::proofs::AreaLaws::kept_below), unfolding(ffs_volume::specs::Disk::Areas::is_reserved))]
+    #[tactic(auto, using(ffs_volume::proofs::AreaLaws::no_metadata_past_size), unfolding(ffs_volume::specs::Disk::Areas::is_reserved))]
     pub fn reserved(&self, fragment: u64) -> bool
         ensures { result ≡ is_reserved self.now.layout fragment }
     {

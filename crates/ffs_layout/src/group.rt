@@ -3,7 +3,7 @@
 ghost use Rattle.std.specs.Prelude.{◌≡◌, ◌≤◌, ◌+◌, ◌*◌, length, map};
 ghost use Rattle.std.specs.List.{range_with_len};
 ghost use Rattle.ffs_volume.specs.Disk.Numbers.{i32_at as i32_in};
-ghost use Rattle.ffs_layout.specs.Group.{group_of, summary_of};
+ghost use Rattle.ffs_layout.specs.Group.{group_of, group_summary_at};
 
 use crate::numbers::{i32_at, u32_at};
 use ffs_volume::Order;
@@ -26,7 +26,7 @@ impl GroupSummary {
     /// fragments.
     pub fn decode(order: Order, place: usize, bytes: &[u8]) -> GroupSummary
         requires { place + 16 ≤ length bytes.now }
-        ensures { result ≡ summary_of order place bytes.now }
+        ensures { result ≡ group_summary_at order place bytes.now }
     {
         GroupSummary {
             dirs: i32_at(order, place, bytes),

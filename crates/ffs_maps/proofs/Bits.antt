@@ -1,4 +1,4 @@
--- The bits of a map, by its words: how long the list is, what a place has, and what is set.
+-- The bits of a map, by its words: how long the list is, what is at an index, and what is set.
 use Rattle.std.proofs.Common.{◌≡◌, ◌≢◌, inl, inr, ℕ, zero, suc, ◌+◌, ◌*◌, ◌/◌, ◌%◌, ◌^◌, ◌<◌, Bool, true, false}
 use Rattle.std.proofs.Common.{List, length, get_or, nat_eq, slice_set, replicate, bit_or, bit_and, arith, refl}
 use Rattle.std.proofs.Common.{ap, ◌∙◌, sym, length-set}

@@ -1,7 +1,7 @@
 -- How many bits of a run are set.
 use Rattle.std.proofs.Common.{◌≡◌, ◌⊎◌, inl, inr, ℕ, zero, suc, ◌+◌, ◌-◌, ◌*◌, ◌/◌, ◌%◌, ◌^◌, ◌<◌, ◌≤◌, Bool, false}
 use Rattle.std.proofs.Common.{List, length, cond, map, get_or, nat_eq, bit_and, count_ones, count_by, arith, refl, ap, ◌∙◌}
-use Rattle.std.proofs.Common.{sym, min, take, drop}
+use Rattle.std.proofs.Common.{sym, take, drop}
 use Rattle.std.specs.List.{range_with_len, sum_by, slice_index_or, All}
 use Rattle.std.specs.Int.{bit_at}
 use Rattle.std.proofs.lemmas.Bool.{cases_lt}
@@ -16,6 +16,7 @@ use Rattle.std.proofs.lemmas.Nat.Bits.{bit_at_ones_above, same_from_bits, ones_s
 use Rattle.ffs_maps.specs.WordBits.{bits_of_words, set_among}
 use Rattle.ffs_maps.proofs.Bits.{get_bits}
 use Rattle.ffs_maps.proofs.Words.{bit_shr}
+use Rattle.ffs_maps.proofs.BitNumbers.{min_one, min_zero, one_bit}
 
 -- a count over a run, in two parts
 pub sum_split : (f : ℕ → ℕ) (a n m t : ℕ) → t ≡ n + m → sum_by f (range_with_len a t) ≡ sum_by f (range_with_len a n)
@@ -44,13 +45,8 @@ count_join_at p a b end m x y h e f g =
     let at : b ≡ a + (b - a) = omega arith in
     count_join p a (b - a) m (end - a) x y (omega (arith, e, h)) f (g ∙ ap (λ j. count_by p (range_with_len j m)) at)
 
-pub count_few : (p : ℕ → Bool) (a n : ℕ) → count_by p (range_with_len a n) ≤ n
-count_few p a n = omega (arith, count_by-le-length p (range_with_len a n), length-range_with_len a n)
-
-one_bit : (b : ℕ) → b < 2 → b ≡ cond (nat_eq b 1) 1 0
-one_bit zero h = refl
-one_bit (suc zero) h = refl
-one_bit (suc (suc b)) h = absurd (omega arith)
+pub count_within : (p : ℕ → Bool) (a n : ℕ) → count_by p (range_with_len a n) ≤ n
+count_within p a n = omega (arith, count_by-le-length p (range_with_len a n), length-range_with_len a n)
 
 -- a number whose bits are tests of the places from a on, and which has no other bits
 ones_by : (p : ℕ → Bool) (x a n : ℕ) → ((i : ℕ) → i < n → bit_at x i ≡ cond (p (a + i)) 1 0) →
@@ -66,12 +62,6 @@ ones_by p x a n low high =
       | inr h ↦ high i h ∙ ap (λ b. cond b 1 0)
           (sym (get_or_past (map p (range_with_len a n)) i false (omega (arith, h, length-map-range_with_len p a n))))
     ]
-
-min_left : (a b : ℕ) → a < 2 → b ≡ 1 → min a b ≡ a
-min_left a b h e = omega arith
-
-min_zero : (a b : ℕ) → b ≡ 0 → min a b ≡ 0
-min_zero a b e = omega arith
 
 sub_twice : (k : ℕ) → k ≤ 64 → 64 - (64 - k) ≡ k
 sub_twice k h = omega arith
@@ -99,7 +89,7 @@ ones_in_word words size start len w h below is =
         ∙ ap (λ j. nat_eq (bit_at (get_or words (start / 64) 0) j) 1) bit
         ∙ ap (λ x. nat_eq (bit_at x (i + start % 64)) 1) (sym is) in
         bit_at_and (w / 2 ^ (start % 64)) (2 ^ len - 1) i
-        ∙ min_left _ _ (bit_at-lt (w / 2 ^ (start % 64)) i) (bit_at_ones len i l)
+        ∙ min_one _ _ (bit_at-lt (w / 2 ^ (start % 64)) i) (bit_at_ones len i l)
         ∙ bit_shr w (start % 64) i
         ∙ one_bit (bit_at w (i + start % 64)) (bit_at-lt w (i + start % 64))
         ∙ ap (λ b. cond b 1 0) (sym here)

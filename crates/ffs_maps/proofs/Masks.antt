@@ -12,6 +12,7 @@ use Rattle.std.proofs.lemmas.Nat.Bits.{bit_at_mask_below, bit_at_mask_above, one
 use Rattle.ffs_maps.specs.Bits.{set_run, AreClear}
 use Rattle.ffs_maps.specs.WordBits.{is_bit, bits_of_words}
 use Rattle.ffs_maps.proofs.Bits.{length_bits, get_bits}
+use Rattle.ffs_maps.proofs.BitNumbers.{max_zero, min_zero, zero_min}
 
 sub_twice : (n k : ℕ) → k ≤ n → n - (n - k) ≡ k
 sub_twice n k h = omega arith
@@ -77,12 +78,6 @@ clear_run words size start len h below e = λ k low.
     ∙ ap (λ x. nat_eq x 1) (min_one _ (bit_at-lt _ (start % 64 + k))
     (rw (bit_at_mask_inside (start % 64) (start % 64 + len) (start % 64 + k) (omega arith) (omega arith)) at none))
 
-min_zero : (a b : ℕ) → b ≡ 0 → min a b ≡ 0
-min_zero a b e = omega arith
-
-zero_min : (a b : ℕ) → a ≡ 0 → min a b ≡ 0
-zero_min a b e = omega arith
-
 not_one : (b : ℕ) → b < 2 → nat_eq b 1 ≡ false → b ≡ 0
 not_one b h e = grind arith
 
@@ -114,9 +109,6 @@ run_clear words size start len h below clear =
       ]
     ]
 
-or_zero : (a b : ℕ) → b ≡ 0 → max a b ≡ a
-or_zero a b e = omega arith
-
 or_one : (a b : ℕ) → a < 2 → b ≡ 1 → max a b ≡ 1
 or_one a b h e = omega arith
 
@@ -147,7 +139,7 @@ mark_run words size start len w h below some inside is_w =
     outside : (f : ℕ) (d : Bool) → f < size → (f < start) ⊎ (start + len ≤ f) →
         is_bit (slice_set words (start / 64) (bit_or w (2 ^ (start % 64 + len) - 2 ^ (start % 64)))) f ≡ is_bit words f
     outside f d low apart = elim (cases_eq (f / 64) (start / 64)) [
-      | inl e ↦ same_word f e ∙ ap (λ x. nat_eq x 1) (or_zero _ _ (elim apart [
+      | inl e ↦ same_word f e ∙ ap (λ x. nat_eq x 1) (max_zero _ _ (elim apart [
         | inl a ↦ bit_at_mask_below (start % 64) (start % 64 + len) (f % 64) (omega arith)
         | inr b ↦ bit_at_mask_above (start % 64) (start % 64 + len) (f % 64) (omega arith)
       ]))

@@ -7,10 +7,10 @@ use Rattle.std.proofs.lemmas.List.{get_or-set_other, get_or-set_same}
 use Rattle.std.proofs.lemmas.List.Sums.{sum_by-cons}
 use Rattle.ffs_maps.specs.Bits.{set_run, AreClear}
 use Rattle.ffs_maps.specs.WordBits.{set_among}
-use Rattle.ffs_maps.proofs.Counting.{sum_split, none_counted, count_few}
+use Rattle.ffs_maps.proofs.Counting.{sum_split, none_counted, count_within}
 use Rattle.ffs_maps.proofs.Masks.{run_outside, run_inside}
 
--- the bit of a place, as a number
+-- the bit at an index, as a number
 abbrev is_one : List Bool → ℕ → ℕ
 is_one bits f = cond (slice_index_or bits f false) 1 0
 
@@ -107,7 +107,8 @@ one_set bits size k b is h =
           (elim apart [ inl a ↦ (λ e. omega arith) | inr c ↦ (λ e. omega arith) ])),
     )
 
-one_if : (b : Bool) (n : ℕ) → n ≡ bool_byte b → n ≡ cond b 1 0
+-- what a test is as a number
+pub one_if : (b : Bool) (n : ℕ) → n ≡ bool_byte b → n ≡ cond b 1 0
 one_if true n e = e
 one_if false n e = e
 
@@ -141,9 +142,9 @@ run_raised bits size start len ones n is h counted was = omega (
   run_set bits size start len is h,
   counted,
   was,
-  count_few (λ f. slice_index_or bits f false) start len,
+  count_within (λ f. slice_index_or bits f false) start len,
 )
 
 -- some of the bits are set at most
 pub few_among : (bits : List Bool) (a n : ℕ) → set_among bits a n ≤ n
-few_among bits a n = count_few (λ f. slice_index_or bits f false) a n
+few_among bits a n = count_within (λ f. slice_index_or bits f false) a n

@@ -1,10 +1,10 @@
 -- The bits of a word that is shifted, cut off or turned.
-use Rattle.std.proofs.Common.{◌≡◌, inl, inr, ℕ, zero, suc, ◌+◌, ◌-◌, ◌*◌, ◌/◌, ◌%◌, ◌^◌, ◌<◌, ◌≤◌, true, false, List}
-use Rattle.std.proofs.Common.{get_or, nat_eq, nat_lt, bit_or, bit_and, arith, refl, ap, ◌∙◌, sym, min, max}
+use Rattle.std.proofs.Common.{◌≡◌, inl, inr, ℕ, zero, suc, ◌+◌, ◌-◌, ◌*◌, ◌/◌, ◌%◌, ◌^◌, ◌<◌, ◌≤◌, false, List}
+use Rattle.std.proofs.Common.{get_or, nat_eq, bit_or, bit_and, arith, refl, ap, ◌∙◌, sym}
 use Rattle.std.specs.Prelude.{not, ◌&&◌}
 use Rattle.std.specs.List.{slice_index_or}
 use Rattle.std.specs.Int.{bit_at, w64}
-use Rattle.std.proofs.lemmas.Bool.{cases_lt}
+use Rattle.std.proofs.lemmas.Bool.{cases_lt, lt-ltb, le-ltb}
 use Rattle.std.proofs.lemmas.Nat.{div-add-mod', one_shl}
 use Rattle.std.proofs.Math.Nat.{one-le-pow}
 use Rattle.std.proofs.lemmas.Nat.Bits.{bit_at_or, bit_at_and, bit_at_not, bit_at-zero, bit_at-lt, bit_at_ones}
@@ -12,6 +12,7 @@ use Rattle.std.proofs.lemmas.Nat.Bits.{bit_at_ones_above, bit_at_above, bit_at_c
 use Rattle.ffs_maps.specs.Bits.{is_clear}
 use Rattle.ffs_maps.specs.WordBits.{bits_of_words}
 use Rattle.ffs_maps.proofs.Bits.{get_bits}
+use Rattle.ffs_maps.proofs.BitNumbers.{max_zero, min_one, min_zero, zero_max}
 
 some_pow : (s : ℕ) → 0 < 2 ^ s
 some_pow s = omega (arith, one-le-pow s 2 (omega arith))
@@ -44,12 +45,6 @@ flip zero h = refl
 flip (suc zero) h = refl
 flip (suc (suc b)) h = absurd (omega arith)
 
-below_size : (a b : ℕ) → a < b → nat_lt a b ≡ true
-below_size a b h = grind arith
-
-past_size : (a b : ℕ) → b ≤ a → nat_lt a b ≡ false
-past_size a b h = grind arith
-
 -- a fragment of the map, by its bit in the turned word
 pub clear_is : (words : List ℕ) (size index k w : ℕ) → k < 64 → w < 2 ^ 64 → w ≡ get_or words index 0 →
     64 * index + k < size →
@@ -64,16 +59,10 @@ clear_is words size index k w h fits e low =
     ∙ ap (λ j. nat_eq (bit_at (get_or words ((64 * index + k) / 64) 0) j) 1) (sym bit)
     ∙ sym (get_bits words size (64 * index + k) false low))
     ∙ ap (λ b. b && not (slice_index_or (bits_of_words words size) (64 * index + k) false))
-    (sym (below_size (64 * index + k) size low))
+    (sym (lt-ltb (64 * index + k) size low))
 
 pub not_clear : (words : List ℕ) (size f : ℕ) → size ≤ f → is_clear (bits_of_words words size) size f ≡ false
-not_clear words size f h = ap (λ b. b && not (slice_index_or (bits_of_words words size) f false)) (past_size f size h)
-
-min_zero : (a b : ℕ) → b ≡ 0 → min a b ≡ 0
-min_zero a b e = omega arith
-
-min_one : (a b : ℕ) → a < 2 → b ≡ 1 → min a b ≡ a
-min_one a b h e = omega arith
+not_clear words size f h = ap (λ b. b && not (slice_index_or (bits_of_words words size) f false)) (le-ltb f size h)
 
 pub small : (n : ℕ) → n < 64 → 1 * 2 ^ n % 2 ^ 64 - 1 ≡ 2 ^ n - 1
 small n h = ap (λ x. x - 1) (one_shl n 64 h)
@@ -95,23 +84,17 @@ clear_in_last words size index k w h fits e within last =
           ∙ sym (not_clear words size (64 * index + k) (omega arith))
     ]
 
-max_left : (a b : ℕ) → b ≡ 0 → max a b ≡ a
-max_left a b e = omega arith
-
-max_right : (a b : ℕ) → a ≡ 0 → max a b ≡ b
-max_right a b e = omega arith
-
 -- two words, put together at a place
 pub joined : (a b low k : ℕ) → a < 2 ^ 64 → low < 64 → k < 64 → k + low < 64 →
     bit_at (bit_or (a / 2 ^ low) (b * 2 ^ (64 - low) % 2 ^ 64)) k ≡ bit_at a (k + low)
 joined a b low k fits h hk inside =
     bit_at_or (a / 2 ^ low) (b * 2 ^ (64 - low) % 2 ^ 64) k
-    ∙ max_left _ _ (bit_mod (b * 2 ^ (64 - low)) 64 k hk ∙ bit_shl_low b (64 - low) k (omega arith))
+    ∙ max_zero _ _ (bit_mod (b * 2 ^ (64 - low)) 64 k hk ∙ bit_shl_low b (64 - low) k (omega arith))
     ∙ bit_shr a low k
 
 pub joined_above : (a b low k : ℕ) → a < 2 ^ 64 → low < 64 → k < 64 → 64 ≤ k + low →
     bit_at (bit_or (a / 2 ^ low) (b * 2 ^ (64 - low) % 2 ^ 64)) k ≡ bit_at b (k - (64 - low))
 joined_above a b low k fits h hk above =
     bit_at_or (a / 2 ^ low) (b * 2 ^ (64 - low) % 2 ^ 64) k
-    ∙ max_right _ _ (bit_shr a low k ∙ bit_at_above a 64 (k + low) fits above)
+    ∙ zero_max _ _ (bit_shr a low k ∙ bit_at_above a 64 (k + low) fits above)
     ∙ bit_mod (b * 2 ^ (64 - low)) 64 k hk ∙ bit_shl_high b (64 - low) k (omega arith)

@@ -1,3 +1,4 @@
+-- The bits of a map of fragments, and what a call leaves of them.
 use Rattle.std.specs.Prelude.{◌≡◌, ℕ, zero, suc, ◌+◌, ◌%◌, ◌<◌, ◌≤◌, Bool, IsTrue, true, false}
 use Rattle.std.specs.Prelude.{not, ◌&&◌, List, nat_lt, slice_set}
 use Rattle.std.specs.List.{slice_index_or}
@@ -13,12 +14,12 @@ pub record HasBits (m : FragmentMap) (n : ℕ) (set : List Bool) : Type 0 where
   pub size : m.size ≡ n
   pub bits : bits_of m ≡ set
 
--- so many bits from a place on are set
+-- so many bits from an index on are set
 abbrev pub set_run : List Bool → ℕ → ℕ → List Bool
 set_run bits start zero = bits
 set_run bits start (suc len) = set_run (slice_set bits start true) (start + 1) len
 
--- so many bits from a place on are clear
+-- so many bits from an index on are clear
 abbrev pub AreClear : List Bool → ℕ → ℕ → Type 0
 AreClear bits start len = (k : ℕ) → k < len → slice_index_or bits (start + k) false ≡ false
 
@@ -30,7 +31,7 @@ pub record IsInWord (start len n : ℕ) : Type 0 where
 
 -- a run is claimed where none of its bits was set, and its bits are set then: else nothing is changed. One that lies in
 -- one word is always claimed where none of its bits was set
-pub record Claims (old new : FragmentMap) (start len : ℕ) (claimed_now : Bool) : Type 0 where
+pub record ClaimsRun (old new : FragmentMap) (start len : ℕ) (claimed_now : Bool) : Type 0 where
   pub size : new.size ≡ old.size
   pub clear : IsTrue claimed_now → AreClear (bits_of old) start len
   pub claimed : IsTrue claimed_now → bits_of new ≡ set_run (bits_of old) start len

@@ -11,6 +11,6 @@ is_bit words f = nat_eq (bit_at (slice_index words (f / 64)) (f % 64)) 1
 unfoldable pub bits_of_words : List ℕ → ℕ → List Bool
 bits_of_words words size = map (is_bit words) (range_with_len 0 size)
 
--- how many of some bits from a place on are set
+-- how many of some bits from an index on are set
 abbrev pub set_among : List Bool → ℕ → ℕ → ℕ
 set_among bits start len = count_by (λ f. slice_index_or bits f false) (range_with_len start len)

@@ -47,7 +47,7 @@ pub struct FragmentMap {
 }
 
 impl FragmentMap {
-    ghost use Rattle.ffs_maps.specs.Bits.{bits_of, set_run, is_clear, HasBits, IsInWord, Claims};
+    ghost use Rattle.ffs_maps.specs.Bits.{bits_of, set_run, is_clear, HasBits, IsInWord, ClaimsRun};
 
     /// A map with no bit set, in the memory of an allocator.
     ///
@@ -222,11 +222,11 @@ impl FragmentMap {
         ensures { HasBits self.new self.old.size (set_run (bits_of self.old) start len) }
     {
         let end = start + len;
-        let mut place = start;
-        while place < end {
-            let some = (64 - place % 64).min(end - place);
-            self.set_in_word(place, some);
-            place += some;
+        let mut index = start;
+        while index < end {
+            let some = (64 - index % 64).min(end - index);
+            self.set_in_word(index, some);
+            index += some;
         }
     }
 
@@ -235,7 +235,7 @@ impl FragmentMap {
     pub fn claim(&mut self, start: u32, len: u32) -> bool
         requires some { 0 < len }
         requires below { start + len ≤ self.old.size }
-        ensures { Claims self.old self.new start len result }
+        ensures { ClaimsRun self.old self.new start len result }
     {
         let low = start % 64;
         if len > 64 - low {

@@ -1,6 +1,5 @@
 -- Lists of which some elements are touched, and one value is in the rest of their memory.
-use Rattle.std.proofs.Common.{◌≡◌, ◌<◌, ◌+◌, ◌-◌, ◌++◌, ℕ, List, arith, ap, sym, ◌∙◌, replicate}
-use Rattle.std.proofs.Common.{slice_set, vec_len}
+use Rattle.std.proofs.Common.{◌≡◌, ◌<◌, ◌+◌, ◌-◌, ◌++◌, ℕ, List, arith, ap, sym, ◌∙◌, replicate, slice_set, vec_len}
 use Rattle.std.proofs.lemmas.List.{append_assoc, replicate-append-replicate, set-append_left}
 use Rattle.std.specs.Prelude.{vec_capacity}
 use Rattle.std.specs.declared.vec.Vec.{Vec}

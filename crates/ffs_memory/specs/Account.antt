@@ -14,9 +14,9 @@ pub record Account : Type 0 where
 abbrev pub unused : Account
 unused = record { granted = 0; refused = 0 }
 
--- a count of refusals rose by one, up to its last value
-abbrev pub Rose : ℕ → ℕ → Type 0
-Rose old new = new ≡ min (old + 1) (2 ^ 64 - 1)
+-- one request more was refused: the count of refusals rose by one, up to its last value
+abbrev pub RefusedOneMore : Account → Account → Type 0
+RefusedOneMore old new = new.refused ≡ min (old.refused + 1) (2 ^ 64 - 1)
 
 -- these bytes were granted, and no request was refused; the count is exact as long as it is a u64's
 pub record Granted (old new : Account) (bytes : ℕ) : Type 0 where
@@ -27,12 +27,12 @@ pub record Granted (old new : Account) (bytes : ℕ) : Type 0 where
 -- one request was refused, and at most these bytes were granted before
 pub record GaveUp (old new : Account) (limit : ℕ) : Type 0 where
   pub most : new.granted ≤ old.granted + limit
-  pub rose : Rose old.refused new.refused
+  pub rose : RefusedOneMore old new
 
 -- a request was refused, and so nothing was granted
 pub record RequestRefused (old new : Account) : Type 0 where
   pub granted : new.granted ≡ old.granted
-  pub rose : Rose old.refused new.refused
+  pub rose : RefusedOneMore old new
 
 -- the list has n elements, each is x, and its memory has room for no more
 pub record IsFilled {A : Type 0} (n : ℕ) (x : A) (list : FixedList A) : Type 0 where

@@ -38,7 +38,7 @@ module _ {A : Type 0} where
     pub room : vec_capacity new ≡ vec_capacity old
 
   -- each element is x, and there is as much memory as before
-  pub record Fills (old new : Vec A Global) (x : A) : Type 0 where
+  pub record SetsAll (old new : Vec A Global) (x : A) : Type 0 where
     pub items : new.items ≡ replicate (vec_len old) x
     pub len : vec_len new ≡ vec_len old
     pub room : vec_capacity new ≡ vec_capacity old

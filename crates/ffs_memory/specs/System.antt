@@ -5,8 +5,8 @@ use Rattle.ffs_memory.specs.declared.system.SystemMemory.{SystemMemory}
 
 -- the account of an allocator whose requests are counted. It is shut: who has no part in the counting knows it by the
 -- clauses of the calls that were made, and can't make one up
-unfoldable pub counted : CountedAllocator → Account
-counted a = record { granted = a.granted; refused = a.refused }
+unfoldable pub allocator_account : CountedAllocator → Account
+allocator_account a = record { granted = a.granted; refused = a.refused }
 
 abbrev pub account_of : SystemMemory → Account
-account_of m = counted m.allocator
+account_of m = allocator_account m.allocator

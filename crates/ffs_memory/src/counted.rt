@@ -2,7 +2,7 @@
 ghost use Rattle.std.specs.Prelude.{◌≡◌};
 ghost use Rattle.std.specs.Mem.{type_size};
 ghost use Rattle.ffs_memory.specs.Account.{MakesRoom, unused};
-ghost use Rattle.ffs_memory.specs.System.{counted};
+ghost use Rattle.ffs_memory.specs.System.{allocator_account};
 
 use std::alloc::{AllocError, Global};
 
@@ -17,9 +17,9 @@ pub(crate) struct CountedAllocator {
 
 impl CountedAllocator {
     /// This allocator, of which nothing was asked yet.
-    #[tactic(auto, unfolding(crate::specs::System::counted))]
+    #[tactic(auto, unfolding(crate::specs::System::allocator_account))]
     pub(crate) fn new(alloc: Global) -> CountedAllocator
-        ensures { counted result ≡ unused }
+        ensures { allocator_account result ≡ unused }
     {
         CountedAllocator {
             alloc,
@@ -29,17 +29,17 @@ impl CountedAllocator {
     }
 
     /// How many bytes it gave. The count stops at the greatest u64.
-    #[tactic(auto, unfolding(crate::specs::System::counted))]
+    #[tactic(auto, unfolding(crate::specs::System::allocator_account))]
     pub(crate) fn granted(&self) -> u64
-        ensures { result ≡ (counted self.now).granted }
+        ensures { result ≡ (allocator_account self.now).granted }
     {
         self.granted
     }
 
     /// How many requests it refused. The count stops at the greatest u64.
-    #[tactic(auto, unfolding(crate::specs::System::counted))]
+    #[tactic(auto, unfolding(crate::specs::System::allocator_account))]
     pub(crate) fn refused(&self) -> u64
-        ensures { result ≡ (counted self.now).refused }
+        ensures { result ≡ (allocator_account self.now).refused }
     {
         self.refused
     }
@@ -48,13 +48,14 @@ impl CountedAllocator {
     ///
     /// # Errors
     /// The memory was refused.
-    #[tactic(auto, unfolding(crate::specs::System::counted))]
+    #[tactic(auto, unfolding(crate::specs::System::allocator_account))]
     pub(crate) fn room_for<T: Copy>(
         &mut self,
         count: usize,
         element: T,
     ) -> Result<Vec<T>, AllocError>
-        ensures { MakesRoom (counted self.old) (counted self.new) count (type_size T.row) result }
+        ensures { MakesRoom (allocator_account self.old) (allocator_account self.new) count
+            (type_size T.row) result }
     {
         match Vec::with_capacity(self.alloc, count) {
             Ok(room) => {

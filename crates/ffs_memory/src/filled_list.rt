@@ -1,7 +1,7 @@
 //! Lists that hold one value until another is set.
 ghost use Rattle.std.specs.Prelude.{◌≡◌, ◌<◌, ◌≤◌, slice_index_or, vec_capacity, vec_len};
 ghost use Rattle.ffs_memory.specs.Account.{IsFilled};
-ghost use Rattle.ffs_memory.specs.Filled.{Sets, Fills, SortsPart};
+ghost use Rattle.ffs_memory.specs.Filled.{Sets, SetsAll, SortsPart};
 
 use crate::touching::touch;
 use std::marker::Model;
@@ -61,7 +61,7 @@ impl<T: Copy> FilledList<T> {
 
     /// Sets all elements to one value. None is touched then, and the memory is kept.
     pub fn fill(&mut self, value: T)
-        ensures { Fills self.old self.new value }
+        ensures { SetsAll self.old self.new value }
     {
         self.touched.clear();
         self.rest = value;

@@ -1,6 +1,6 @@
 //! A memory that refuses a request where it is asked to.
 ghost use Rattle.std.specs.Prelude.{◌≡◌, ◌+◌, ◌-◌, ◌*◌, ◌^◌, min, if◌then◌else◌, false};
-ghost use Rattle.ffs_memory.specs.Fuse.{Serves, ServesWords, IsFused, is_blown, left_after};
+ghost use Rattle.ffs_memory.specs.Fuse.{Serves, ServesWords, IsFusedMemory, is_blown, left_after};
 
 use crate::filled_list::FilledList;
 use crate::fixed_list::FixedList;
@@ -23,8 +23,9 @@ impl<M: Memory> FuseMemory<M> {
     /// A memory that passes requests on to `inner`, but refuses the `k`-th one from now on, counted
     /// from 1. Where `k` is 0, it passes all on.
     pub fn nth(inner: M, k: u64) -> FuseMemory<M>
-        ensures { IsFused M.account ⟦<FuseMemory<M> as Memory>⟧.account inner k result }
+        ensures { IsFusedMemory M.account ⟦<FuseMemory<M> as Memory>⟧.account inner k result }
     {
+        // No more than the last u64, so `own` adds nothing to it yet.
         let _bounded = inner.refused();
         FuseMemory {
             inner,

@@ -11,7 +11,7 @@ use Rattle.ffs_volume.specs.Directories.Entries.{Chunk, chunks_of}
 use Rattle.ffs_volume.specs.Encodings.Replay.{Replay, is_replay_open, replayed_steps}
 use Rattle.ffs_volume.specs.Encodings.ReplayCounts.{replayed_runs}
 use Rattle.ffs_walk.specs.declared.walk.Walk.{Walk}
-use Rattle.ffs_walk.specs.Rests.{IsOver, extent_of, rest as steps_left, single_rest, double_rest, triple_rest, top_rest}
+use Rattle.ffs_walk.specs.Rests.{IsOver, extent_of, steps_left, single_rest, double_rest, triple_rest, top_rest}
 use Rattle.ffs_walk.proofs.WalkSteps.{spent_rest}
 use Rattle.ffs_names.specs.declared.run_cursor.RunCursor.{RunCursor}
 use Rattle.ffs_names.specs.declared.chunks.Chunks.{Chunks}
@@ -48,9 +48,9 @@ tail_after v b taken cut r steps = one (is_replay_open cut r)
     one true = refl
     one false = refl
 
-pub gap_behind : (v : Layout) (b : List ℕ) (taken cut : ℕ) (r : Replay) (steps : List Step) →
+pub gap_after : (v : Layout) (b : List ℕ) (taken cut : ℕ) (r : Replay) (steps : List Step) →
     following v b taken cut r (Gap ∷ steps) ≡ following v b taken cut r steps
-gap_behind v b taken cut r steps = one (is_replay_open cut r)
+gap_after v b taken cut r steps = one (is_replay_open cut r)
   where
     one : (x : Bool) → chunks_of (reading_by v b taken) (is_run_in_range v)
         ((if x then Gap ∷ [] else []) ++ replayed_steps v cut r steps) ≡ following v b taken cut r steps
@@ -62,7 +62,7 @@ pub none_seen : (v : Layout) (b : List ℕ) (taken cut : ℕ) (r : Replay) (step
     is_replay_open cut r ≡ false → following v b taken cut r steps ≡ []
 none_seen v b taken cut r [] h = refl
 none_seen v b taken cut r (Tail ∷ steps) h = tail_after v b taken cut r steps ∙ none_seen v b taken cut r steps h
-none_seen v b taken cut r (Gap ∷ steps) h = gap_behind v b taken cut r steps ∙ none_seen v b taken cut r steps h
+none_seen v b taken cut r (Gap ∷ steps) h = gap_after v b taken cut r steps ∙ none_seen v b taken cut r steps h
 none_seen v b taken cut r (Run start len block ∷ steps) h = rw h (none_seen v b taken cut r steps h)
 
 -- how a step continues, where the state of the replay is kept
@@ -85,7 +85,7 @@ gaps_after : (v : Layout) (b : List ℕ) (taken cut : ℕ) (r : Replay) (n : ℕ
     following v b taken cut r (replicate n Gap ++ steps) ≡ following v b taken cut r steps
 gaps_after v b taken cut r zero steps = refl
 gaps_after v b taken cut r (suc n) steps =
-    gap_behind v b taken cut r (replicate n Gap ++ steps) ∙ gaps_after v b taken cut r n steps
+    gap_after v b taken cut r (replicate n Gap ++ steps) ∙ gaps_after v b taken cut r n steps
 
 pub gaps_on : (v v' : Layout) (b : List ℕ) (h : RunCursor) (taken cut : ℕ) (r : Replay) (n : ℕ) (old new : List Step)
     → v' ≡ v → old ≡ Gap ∷ (replicate n Gap ++ new)
@@ -134,11 +134,11 @@ runs_tail v v' cut r old new e o = ap (λ x. replayed_runs x cut r new) e
     zero_more : (n : ℕ) → n ≡ 0 + n
     zero_more n = omega arith
 
-runs_behind : (v : Layout) (cut : ℕ) (r : Replay) (n : ℕ) (steps : List Step) →
+runs_after_gaps : (v : Layout) (cut : ℕ) (r : Replay) (n : ℕ) (steps : List Step) →
     replayed_runs v cut r (replicate n Gap ++ steps) ≡ replayed_runs v cut r steps
-runs_behind v cut r zero steps = refl
-runs_behind v cut r (suc n) steps = none_more (replayed_runs v cut r (replicate n Gap ++ steps))
-    ∙ runs_behind v cut r n steps
+runs_after_gaps v cut r zero steps = refl
+runs_after_gaps v cut r (suc n) steps = none_more (replayed_runs v cut r (replicate n Gap ++ steps))
+    ∙ runs_after_gaps v cut r n steps
   where
     none_more : (m : ℕ) → 0 + m ≡ m
     none_more m = omega arith
@@ -146,4 +146,4 @@ runs_behind v cut r (suc n) steps = none_more (replayed_runs v cut r (replicate 
 pub runs_gaps : (v v' : Layout) (cut : ℕ) (r : Replay) (n : ℕ) (old new : List Step) → v' ≡ v →
     old ≡ Gap ∷ (replicate n Gap ++ new) → replayed_runs v' cut r new ≡ replayed_runs v cut r old
 runs_gaps v v' cut r n old new e o = ap (λ x. replayed_runs x cut r new) e
-    ∙ (sym (runs_behind v cut r (suc n) new) ∙ ap (replayed_runs v cut r) (sym o))
+    ∙ (sym (runs_after_gaps v cut r (suc n) new) ∙ ap (replayed_runs v cut r) (sym o))

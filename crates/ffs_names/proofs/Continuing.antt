@@ -13,10 +13,10 @@ use Rattle.ffs_walk.specs.declared.walk.Walk.{Walk}
 use Rattle.ffs_walk.specs.declared.blocks.Blocks.{Blocks}
 use Rattle.ffs_walk.specs.declared.window.Window.{Window}
 use Rattle.ffs_walk.specs.Windows.{BlocksHold, HasRoom}
-use Rattle.ffs_walk.specs.Rests.{IsOver, rest as steps_left}
+use Rattle.ffs_walk.specs.Rests.{IsOver, steps_left}
 use Rattle.ffs_names.specs.declared.chunks.Chunks.{Chunks}
 use Rattle.ffs_names.specs.Windows.{CanWalkDir, CanReadChunks}
-use Rattle.ffs_names.specs.Readings.{Continues, ContinuesTo, CountsOn}
+use Rattle.ffs_names.specs.Readings.{Continues, ContinuesTo, CountsOn, IsSame}
 use Rattle.ffs_names.proofs.Advances.{over_rest}
 
 pub counts_here : (n : ℕ) → CountsOn n n
@@ -44,6 +44,15 @@ continues_more b c c' c'' steps steps' steps'' h k = record {
   chunks = k.chunks ∙ h.chunks;
   runs = counts_more _ _ _ h.runs k.runs;
   gap = k.gap ∙ h.gap;
+}
+
+pub same_more : (c c' c'' : Chunks) → IsSame c c' → IsSame c' c'' → IsSame c c''
+same_more c c' c'' h k = record {
+  geometry = k.geometry ∙ h.geometry;
+  cut = k.cut ∙ h.cut;
+  taken = k.taken ∙ h.taken;
+  budget = k.budget ∙ h.budget;
+  runs = let one = h.runs in let two = k.runs in omega arith;
 }
 
 -- a walk that is over has no Runs left

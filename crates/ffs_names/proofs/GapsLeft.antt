@@ -1,6 +1,7 @@
 -- Whether a Gap is among the steps that a reading has still to see.
 use Rattle.std.proofs.Common.{◌≡◌, refl, sym, ap, ◌∙◌, ℕ, Bool, true, false, ◌||◌, List, [], ◌∷◌, ◌++◌, Option}
 use Rattle.std.specs.Prelude.{if◌then◌else◌}
+use Rattle.std.proofs.lemmas.Bool.{or_right}
 use Rattle.ffs_volume.specs.declared.Layout.{Layout}
 use Rattle.ffs_volume.specs.declared.Step.{Step}
 use Rattle.ffs_volume.specs.declared.Step.TheVariants.{Run, Tail, Gap}
@@ -9,7 +10,7 @@ use Rattle.ffs_volume.specs.Encodings.Replay.{Replay, is_replay_open, is_replaye
 use Rattle.ffs_volume.specs.Encodings.ReplayCounts.{replay_step_by_cut}
 use Rattle.ffs_volume.proofs.ReplayLaws.{counted_same}
 use Rattle.ffs_walk.specs.declared.walk.Walk.{Walk}
-use Rattle.ffs_walk.specs.Rests.{rest as steps_left}
+use Rattle.ffs_walk.specs.Rests.{steps_left}
 use Rattle.ffs_names.specs.declared.chunks.Chunks.{Chunks}
 use Rattle.ffs_names.specs.Readings.{gap_after, gap_left}
 
@@ -48,6 +49,11 @@ gap_unseen v cut r (Gap ∷ steps) h = ap (λ x. has_gap ((if x then Gap ∷ [] 
     ∙ gap_unseen v cut r steps h
 gap_unseen v cut r (Run start len block ∷ steps) h = rw h (gap_unseen v cut r steps h)
 
+-- where no Gap is left, what was seen stands
+pub gap_ended : (gap left : Bool) → left ≡ false → (gap || left) ≡ gap
+gap_ended true left e = refl
+gap_ended false left e = e
+
 -- a walk continues: to its end, over a Tail, over a Gap that is seen, to a Run
 pub gap_same : (v v' : Layout) (cut : ℕ) (r : Replay) (gap : Bool) (old new : List Step) → v' ≡ v → old ≡ new →
     (gap || kept_gap v' cut r new) ≡ (gap || kept_gap v cut r old)
@@ -64,16 +70,8 @@ pub gap_seen : (v v' : Layout) (cut : ℕ) (r : Replay) (gap : Bool) (old new : 
     old ≡ Gap ∷ new → (true || kept_gap v' cut r new) ≡ (gap || kept_gap v cut r old)
 gap_seen v v' cut r gap old new seen o =
     sym (ap (λ l. gap || kept_gap v cut r l) o
-    ∙ (ap (λ x. gap || has_gap ((if x then Gap ∷ [] else []) ++ replayed_steps v cut r new)) seen ∙ one gap))
-  where
-    one : (x : Bool) → (x || true) ≡ true
-    one true = refl
-    one false = refl
-
-pub gap_to_run : (v v' : Layout) (cut : ℕ) (r : Replay) (gap : Bool) (start len : ℕ) (block : Option ℕ)
-    (old new : List Step) → v' ≡ v → old ≡ Run start len block ∷ new →
-    (gap || kept_gap v' cut r (Run start len block ∷ new)) ≡ (gap || kept_gap v cut r old)
-gap_to_run v v' cut r gap start len block old new e o = gap_same v v' cut r gap old (Run start len block ∷ new) e o
+    ∙ (ap (λ x. gap || has_gap ((if x then Gap ∷ [] else []) ++ replayed_steps v cut r new)) seen
+    ∙ or_right gap true refl))
 
 -- a Run is seen
 pub gap_past_run : (v : Layout) (cut cut' : ℕ) (r q : Replay) (steps : List Step) (start len : ℕ) (block : Option ℕ)

@@ -222,10 +222,6 @@ AreWaiting v b parents first ws p all rest = (x : ℕ) → is_child parents p x 
     list_any (is_naming_entry x) all ≡ true → (place_in (slice_index first x) ≡ 0) ⊎ IsNoted v b first x →
     IsNoted v b ws x ⊎ ((place_in (slice_index ws x) ≡ 0) × (list_any (is_naming_entry x) rest ≡ true))
 
-pub waiting_first : (v : Layout) (b parents ws : List ℕ) (p : ℕ) (all : List RoledEntry) →
-    AreWaiting v b parents ws ws p all all
-waiting_first v b parents ws p all x child named before = elim before [ inl none ↦ inr (none, named) | inr is ↦ inl is ]
-
 -- after a chunk is noted
 pub waiting_after : (v : Layout) (b parents first old new : List ℕ) (p place at offset : ℕ) (bytes : List ℕ)
     (all : List RoledEntry) (rest later : List Chunk) → at % 512 ≡ 0 → place ≡ place_of (at / 512) → place ≢ 0 →
@@ -299,9 +295,6 @@ all_noted v b parents first ws p all rest none waiting x child named before =
     ]
 
 -- what is noted of other inodes, and what is due
-pub children_none : (parents ws : List ℕ) (p : ℕ) → NotesChildren parents ws ws p
-children_none parents ws p = record { others = λ x h. refl; due = λ x. refl }
-
 pub children_more : (parents first old new : List ℕ) (p place : ℕ) (es : List RoledEntry) →
     NotesChunk parents old new p place es → NotesChildren parents first old p → NotesChildren parents first new p
 children_more parents first old new p place es noted before = record {

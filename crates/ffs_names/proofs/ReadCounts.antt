@@ -5,7 +5,7 @@ use Rattle.std.proofs.lemmas.Bool.Decides.{nat_tests}
 use Rattle.ffs_image.specs.declared.image.ImageFault.{ImageFault}
 use Rattle.ffs_volume.specs.declared.Layout.{Layout}
 use Rattle.ffs_volume.specs.declared.Step.{Step}
-use Rattle.ffs_volume.specs.declared.Step.TheVariants.{Run, Gap}
+use Rattle.ffs_volume.specs.declared.Step.TheVariants.{Run}
 use Rattle.ffs_volume.specs.Encodings.Replay.{Replay, is_replay_open}
 use Rattle.ffs_volume.specs.Encodings.ReplayCounts.{replay_step_by_cut, replayed_runs}
 use Rattle.ffs_walk.specs.Counts.{entered, unread}
@@ -33,6 +33,10 @@ none_left n m e = grind (arith, nat_tests)
 
 pub run_over : (h : RunCursor) → h.next ≡ h.count → unread_run h ≡ 0
 run_over h e = ap (λ (x : Bool). if◌then◌else◌ {A = ℕ} x 1 0) (none_left h.next h.count e)
+
+-- so where it is passed over
+pub run_passed : (n : ℕ) → if◌then◌else◌ {A = ℕ} ((n == 0) && nat_lt 0 n) 1 0 ≡ 0
+run_passed n = ap (λ (x : Bool). if◌then◌else◌ {A = ℕ} x 1 0) (none_left n n refl)
 
 was_begun : (n m : ℕ) → 0 < n → ((n == 0) && nat_lt 0 m) ≡ false
 was_begun n m l = grind (arith, nat_tests)
@@ -87,23 +91,3 @@ entered_one start len (Some block) = omega arith
 pub entered_none : (start len : ℕ) (block : Option ℕ) (at : ℕ) → block ≡ Some at → entered (Run start len block) ≡ 0
 entered_none start len None at e = cc
 entered_none start len (Some block) at e = refl
-
--- a Gap is no Run
-pub runs_gap : (v v' : Layout) (cut : ℕ) (r : Replay) (old new : List Step) → v' ≡ v → old ≡ Gap ∷ new →
-    replayed_runs v' cut r new ≡ replayed_runs v cut r old
-runs_gap v v' cut r old new e o = ap (λ x. replayed_runs x cut r new) e
-    ∙ (none (replayed_runs v cut r new) ∙ ap (replayed_runs v cut r) (sym o))
-  where
-    none : (n : ℕ) → n ≡ 0 + n
-    none n = omega arith
-
--- no read is made, and nothing changes
-pub takes_none : {T : Type 0} (reads before : ℕ) (held : Type 0) (x : T) → held →
-    TakesReads reads reads before before held (Ok x)
-takes_none reads before held x h = record { most = omega arith; paid = omega arith; held = h }
-
--- a call that failed
-pub takes_failed : {T : Type 0} (reads reads' before after : ℕ) (held : Type 0) (fault : ImageFault)
-    (result : Result T ImageFault) → result ≡ Err fault → reads' ≤ reads + before →
-    TakesReads reads reads' before after held result
-takes_failed reads reads' before after held fault result e most = rw e (record { most = most; paid = tt; held = tt })

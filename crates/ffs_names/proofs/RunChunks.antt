@@ -8,8 +8,9 @@ use Rattle.ffs_volume.specs.declared.Layout.{Layout}
 use Rattle.ffs_volume.specs.Disk.Areas.{is_run_in_range}
 use Rattle.ffs_volume.specs.Laws.Geometry.{IsAcceptedLayout}
 use Rattle.ffs_volume.specs.Disk.Numbers.{piece}
-use Rattle.ffs_volume.specs.Disk.Outcome.{has_valid_sizes, is_fragment_size, is_valid_layout}
+use Rattle.ffs_volume.specs.Disk.Outcome.{has_valid_sizes, is_fragment_size}
 use Rattle.ffs_volume.specs.Directories.Entries.{ChunkSource, chunk_of, run_chunks}
+use Rattle.ffs_volume.proofs.GeometryLaws.{shape_holds}
 use Rattle.ffs_walk.proofs.Areas.{in_range-below}
 
 -- a Run after what is read has none
@@ -43,17 +44,13 @@ fragment_whole : (n : ℕ) → is_fragment_size n ≡ true → 512 * (n / 512) �
 unfolding is_fragment_size
 fragment_whole n h = grind (arith, nat_tests)
 
-sizes_are : (v : Layout) → is_valid_layout v ≡ true → has_valid_sizes v ≡ true
-unfolding is_valid_layout
-sizes_are v h = grind (arith, nat_tests)
-
 fragment_is : (v : Layout) → has_valid_sizes v ≡ true → is_fragment_size v.fsize ≡ true
 unfolding has_valid_sizes
 fragment_is v h = grind (arith, nat_tests)
 
 pub run_aligned : (v : Layout) (start : ℕ) → IsAcceptedLayout v → start * v.fsize % 512 ≡ 0
 run_aligned v start g =
-    let whole = fragment_whole v.fsize (fragment_is v (sizes_are v g.shaped)) in
+    let whole = fragment_whole v.fsize (fragment_is v (shape_holds v g.shaped).0) in
     ap (λ (n : ℕ). start * n % 512) (sym whole ∙ mul_comm 512 (v.fsize / 512))
     ∙ (ap (λ (n : ℕ). n % 512) (sym (mul_assoc start (v.fsize / 512) 512))
     ∙ mul-mod_left (start * (v.fsize / 512)) 512)

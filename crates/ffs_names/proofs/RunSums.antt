@@ -1,5 +1,5 @@
 -- All directories take at most a read for each inode, and one for each Run that the block check sees.
-use Rattle.std.proofs.Common.{◌≡◌, ◌∙◌, ◌+◌, ◌-◌, ◌*◌, ◌<◌, ◌≤◌, ◌∷◌, ◌++◌, [], ℕ, zero, suc, Bool, true, false, List, map, ap, arith, inl, inr, refl}
+use Rattle.std.proofs.Common.{◌≡◌, ◌+◌, ◌-◌, ◌*◌, ◌<◌, ◌≤◌, [], ℕ, zero, suc, Bool, true, false, List, map, ap, arith, inl, inr, refl}
 use Rattle.std.specs.List.{range_with_len}
 use Rattle.std.proofs.lemmas.Bool.{cases_lt}
 use Rattle.std.proofs.lemmas.Bool.Decides.{nat_tests}
@@ -7,46 +7,19 @@ use Rattle.ffs_volume.specs.declared.Layout.{Layout}
 use Rattle.ffs_volume.specs.Laws.Geometry.{IsAcceptedLayout}
 use Rattle.ffs_volume.specs.Blocks.Inodes.{inode_of}
 use Rattle.ffs_volume.specs.Blocks.Steps.{steps_of}
-use Rattle.ffs_volume.specs.Blocks.Owners.{Owner, owner_of, owners_of}
-use Rattle.ffs_volume.specs.Blocks.Claims.{Claims, no_claims, after_owner, after_owners}
+use Rattle.ffs_volume.specs.Blocks.Owners.{owner_of, owners_of}
+use Rattle.ffs_volume.specs.Blocks.Claims.{Claims, no_claims, after_owners}
 use Rattle.ffs_volume.specs.Blocks.KeptSteps.{claims_before}
 use Rattle.ffs_volume.specs.Directories.Roles.{is_dir}
 use Rattle.ffs_volume.specs.Directories.Volumes.{is_inode_number, volume_of}
 use Rattle.ffs_volume.specs.Report.Whole.{run_count}
 use Rattle.ffs_volume.proofs.ReplayLaws.{replay_is_runs}
+use Rattle.ffs_volume.proofs.OwnerLaws.{before_next}
 use Rattle.ffs_survey.specs.Costs.{costs_all}
 use Rattle.ffs_names.specs.Costs.{directory_cost, directories_cost}
 use Rattle.ffs_names.proofs.DirCosts.{cost_is, cost_none}
 use Rattle.ffs_names.proofs.DirLaws.{dir_is}
 use Rattle.ffs_names.proofs.RunsSeen.{runs_seen_by}
-
-owners_append : (v : Layout) (s : Claims) (xs ys : List Owner) →
-    after_owners v s (xs ++ ys) ≡ after_owners v (after_owners v s xs) ys
-owners_append v s [] ys = refl
-owners_append v s (x ∷ xs) ys = owners_append v (after_owner v s x) xs ys
-
-range_last : (n k : ℕ) → range_with_len n (suc k) ≡ range_with_len n k ++ ((n + k) ∷ [])
-range_last n zero = let e : n + 0 ≡ n = omega arith in rw e refl
-range_last n (suc k) = let e : n + suc k ≡ n + 1 + k = omega arith in
-    rw e (ap (λ (xs : List ℕ). n ∷ xs) (range_last (n + 1) k))
-
-map_last : (f : ℕ → Owner) (xs : List ℕ) (y : ℕ) → map f (xs ++ (y ∷ [])) ≡ map f xs ++ (f y ∷ [])
-map_last f [] y = refl
-map_last f (x ∷ xs) y = ap (λ (zs : List Owner). f x ∷ zs) (map_last f xs y)
-
--- the state before the next inode
-next_state : (v : Layout) (b : List ℕ) (x : ℕ) → 2 ≤ x →
-    claims_before v b (x + 1) ≡ after_owner v (claims_before v b x) (owner_of v b x)
-unfolding claims_before
-next_state v b x low =
-    let more : x + 1 - 2 ≡ suc (x - 2) = omega arith in
-    let here : 2 + (x - 2) ≡ x = omega arith in
-    ap (λ (n : ℕ). after_owners v (no_claims v) (map (owner_of v b) (range_with_len 2 n))) more
-    ∙ ap (λ (xs : List ℕ). after_owners v (no_claims v) (map (owner_of v b) xs)) (range_last 2 (x - 2))
-    ∙ ap (after_owners v (no_claims v)) (map_last (owner_of v b) (range_with_len 2 (x - 2)) (2 + (x - 2)))
-    ∙ owners_append v (no_claims v) (map (owner_of v b) (range_with_len 2 (x - 2))) (owner_of v b (2 + (x - 2)) ∷ [])
-    ∙ ap (λ (n : ℕ). after_owner v (after_owners v (no_claims v) (map (owner_of v b) (range_with_len 2 (x - 2))))
-    (owner_of v b n)) here
 
 -- no inode is before the root
 low_state : (v : Layout) (b : List ℕ) (x : ℕ) → x < 2 → claims_before v b (x + 1) ≡ claims_before v b x
@@ -62,7 +35,7 @@ runs_rise v b x = elim (cases_lt x 2) [
   | inl low ↦ omega (arith, ap (λ (s : Claims). s.runs) (low_state v b x low))
   | inr high ↦ omega (
     arith,
-    ap (λ (s : Claims). s.runs) (next_state v b x high),
+    ap (λ (s : Claims). s.runs) (before_next v b x high),
     replay_is_runs v (claims_before v b x) (steps_of v (inode_of v b x) b),
   )
 ]
@@ -79,7 +52,7 @@ one_more v b x g = by (is_dir (volume_of v b) x) refl
         directory_cost v b x + (claims_before v b x).runs ≤ 1 + (claims_before v b (x + 1)).runs
     by true e =
         let inside = (dir_is v b x e).0 in
-        let next = ap (λ (s : Claims). s.runs) (next_state v b x (from_root v x inside)) in
+        let next = ap (λ (s : Claims). s.runs) (before_next v b x (from_root v x inside)) in
         omega (arith, cost_is v b x e, next, runs_seen_by v b x g inside)
     by false e = omega (arith, cost_none v b x e, runs_rise v b x)
 

@@ -16,7 +16,7 @@ use Rattle.ffs_names.specs.declared.run_cursor.RunCursor.{RunCursor}
 use Rattle.ffs_names.specs.RunCursors.{cursor_chunks, reading_by}
 use Rattle.ffs_names.specs.Readings.{CountsOn}
 
--- a hand with nothing left
+-- a Run with no chunk left
 pub no_run_cursor : (v : Layout) (b : List ℕ) (h : RunCursor) → h.next ≡ h.count → cursor_chunks v b h ≡ []
 no_run_cursor v b h e =
     let z : h.count - h.next ≡ 0 = omega arith in

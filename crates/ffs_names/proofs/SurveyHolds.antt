@@ -28,10 +28,6 @@ use Rattle.std.proofs.lemmas.Bool.{and_parts}
 use Rattle.ffs_names.proofs.DirLaws.{kind_dirs}
 use Rattle.ffs_names.proofs.SameGraphs.{survey_same}
 
-pub on_ok : {T E : Type 0} (r : Result T E) (P Q : Type 0) → (P → Q) → OnOk r P → OnOk r Q
-on_ok (Ok x) P Q f h = f h
-on_ok (Err e) P Q f h = h
-
 pub if_ok : {T E : Type 0} (r : Result T E) (P Q : T → Type 0) → IfOk r P → ((x : T) → P x → Q x) → IfOk r Q
 if_ok (Ok x) P Q h f = f x h
 if_ok (Err e) P Q h f = h

@@ -1,5 +1,5 @@
 -- What a reading of a directory has still to give.
-use Rattle.std.specs.Prelude.{◌≡◌, ◌<◌, ◌≤◌, ◌^◌, ℕ, ◌+◌, Bool, true, false, ◌||◌, Result, List, [], ◌∷◌, ◌++◌, take}
+use Rattle.std.specs.Prelude.{◌≡◌, ◌<◌, ◌≤◌, ◌^◌, ℕ, ◌+◌, ◌-◌, Bool, true, false, ◌||◌, Result, List, [], ◌∷◌, ◌++◌, take}
 use Rattle.std.specs.Prelude.{Option}
 use Rattle.std.specs.Prelude.{MatchOption}
 use Rattle.ffs_volume.specs.declared.Layout.{Layout}
@@ -10,7 +10,7 @@ use Rattle.ffs_volume.specs.Blocks.Steps.{steps_of}
 use Rattle.ffs_volume.specs.Directories.Entries.{Chunk, chunk_of, chunks_of, has_gap, bytes_read}
 use Rattle.ffs_volume.specs.Encodings.Replay.{is_replay_open, fresh_replay, replayed_steps}
 use Rattle.ffs_volume.specs.Encodings.ReplayCounts.{replayed_runs}
-use Rattle.ffs_walk.specs.Rests.{rest as steps_left}
+use Rattle.ffs_walk.specs.Rests.{most_steps_left, steps_left}
 use Rattle.ffs_image.specs.Device.{Device}
 use Rattle.ffs_image.specs.Reads.{ReadAfter}
 use Rattle.ffs_image.specs.declared.image.ImageFault.{ImageFault}
@@ -49,6 +49,15 @@ gap_after c steps = has_gap (replayed_steps c.walk.geometry.layout c.keeping.cut
 
 abbrev pub gap_left : List ℕ → Chunks → Bool
 gap_left b c = gap_after c (steps_left b c.walk)
+
+-- a reading has seen all its steps: it has no chunk left, and no hole
+pub record HasSeenAll (b : List ℕ) (c : Chunks) : Type 0 where
+  pub chunks : all_chunks b c ≡ []
+  pub gap : gap_left b c ≡ false
+
+-- at most how many steps a reading has still to see and chunks of the current Run to give, whatever the image holds
+abbrev pub ahead : Chunks → ℕ
+ahead c = most_steps_left c.walk + (c.run_cursor.count - c.run_cursor.next)
 
 -- a count and what is still to be counted: their sum stays, or falls where a u64 has no room for it
 pub record CountsOn (before after : ℕ) : Type 0 where

@@ -47,7 +47,8 @@ pub struct Chunks {
 impl Chunks {
     ghost use Rattle.ffs_names.specs.Costs.{to_read, BeginsReads, HoldsReading, SeesRun};
     ghost use Rattle.ffs_names.specs.RunCursors.{last_place};
-    ghost use Rattle.ffs_names.specs.Readings.{all_chunks, rest, runs_left, IsSame, CanSee, LeavesWalk, LeavesChunks, LeavesReading, Continues, ContinuesTo, GivesChunk, BeginsAt};
+    ghost use Rattle.ffs_walk.specs.Rests.{most_steps_left};
+    ghost use Rattle.ffs_names.specs.Readings.{ahead, all_chunks, rest, runs_left, HasSeenAll, IsSame, CanSee, LeavesWalk, LeavesChunks, LeavesReading, Continues, ContinuesTo, GivesChunk, BeginsAt};
 
     /// A Run is seen. Only one of data that is kept whole, and is in range, has chunks.
     fn see(&mut self, start: u32, len: u32, block: Option<u64>)
@@ -74,13 +75,19 @@ impl Chunks {
 
     /// Moves on to a Run with a chunk, if the current Run has none left. Returns whether there is
     /// one.
-    fn advance<I: Image>(&mut self, image: &mut I, blocks: &mut Blocks) -> Result<bool, ImageFault>
+    pub(crate) fn advance<I: Image>(
+        &mut self,
+        image: &mut I,
+        blocks: &mut Blocks,
+    ) -> Result<bool, ImageFault>
         requires { CanWalkDir self.old.walk.geometry.layout (I.device image.old) blocks.old }
         ensures continues { OnOk result (ForContents (I.device image.old).contents
             (λ b. ContinuesTo b self.old self.new)) }
         ensures found { IfOk result (λ found. MatchBool found
             (self.new.run_cursor.next < self.new.run_cursor.count)
-            (ForContents (I.device image.old).contents (λ b. all_chunks b self.new ≡ []))) }
+            (ForContents (I.device image.old).contents (λ b. HasSeenAll b self.new))) }
+        ensures falls { IfOk result (λ found. found ≡ true
+            → most_steps_left self.new.walk < ahead self.old) }
         ensures runs { OnErr result (ForContents (I.device image.old).contents
             (λ b. self.new.runs + runs_left b self.new ≤ self.old.runs + runs_left b self.old)) }
         ensures reads { (w : WindowIn) → HoldsReading blocks.old w self.old

@@ -158,7 +158,6 @@ impl Entries {
             length: entry.length,
             kind: entry.kind,
         };
-        self.name_len = 0;
         self.name_place = self.place + 8;
         self.name_len = entry.name.len();
         self.place += entry.length as usize;

@@ -10,7 +10,6 @@ ghost use Rattle.ffs_walk.specs.declared.window.Window.{Window as WindowIn};
 
 use crate::chunks::Chunks;
 use ffs_image::{Image, ImageFault};
-use ffs_volume::Step;
 use ffs_walk::{Blocks, Walk};
 
 /// Whether no step is left of a walk.
@@ -24,7 +23,8 @@ fn is_over(walk: &Walk) -> bool
         && !walk.triple.is_left()
 }
 
-/// Whether a hole is among the steps of a directory that are kept, of those that are left.
+/// Walks over the steps that a reading of chunks has left, and returns whether a hole is among all
+/// its steps.
 fn find_gap<I: Image>(
     image: &mut I,
     blocks: &mut Blocks,
@@ -32,7 +32,7 @@ fn find_gap<I: Image>(
 ) -> Result<bool, ImageFault>
     requires { CanWalkDir chunks.old.walk.geometry.layout (I.device image.old) blocks.old }
     ensures gap { IfOk result (λ g. ForContents (I.device image.old).contents (λ b.
-        g ≡ gap_left b chunks.old)) }
+        g ≡ (chunks.old.gap || gap_left b chunks.old))) }
     ensures reads { (w : WindowIn) → HoldsReading blocks.old w chunks.old
         → ForContents (I.device image.old).contents (λ b. TakesReads (I.reads image.old)
         (I.reads image.new) (to_read b chunks.old) (to_read b chunks.new)
@@ -40,24 +40,11 @@ fn find_gap<I: Image>(
     ensures leaves { LeavesWalk chunks.old chunks.new (I.device image.old) (I.device image.new)
         blocks.new result }
 {
-    'steps: while chunks.keeping.is_replay_open() {
-        match chunks.walk.next(image, blocks)? {
-            None => return Ok(false),
-            Some(
-                Step::Run {
-                    start,
-                    len,
-                    block: _block,
-                },
-            ) => {
-                let in_range = chunks.walk.geometry.in_range(start, len);
-                let _taken = chunks.keeping.take(len, in_range);
-            }
-            Some(Step::Tail) => {}
-            Some(Step::Gap) => return Ok(true),
-        }
+    'runs: while chunks.advance(image, blocks)? {
+        // Its chunks are passed over.
+        chunks.run_cursor.next = chunks.run_cursor.count;
     }
-    Ok(false)
+    Ok(chunks.gap)
 }
 
 /// Whether a hole is among the steps of a directory that are kept: those that the reading of its
@@ -81,11 +68,8 @@ pub fn gap_of<I: Image>(
     ensures leaves { LeavesWalk chunks.old chunks.new (I.device image.old) (I.device image.new)
         blocks.new result }
 {
-    if chunks.gap {
-        return Ok(true);
-    }
     if is_over(&chunks.walk) {
-        return Ok(false);
+        return Ok(chunks.gap);
     }
     find_gap(image, blocks, chunks)
 }

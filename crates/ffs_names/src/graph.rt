@@ -12,7 +12,6 @@ use crate::entries::Entries;
 use crate::tree::Tree;
 use ffs_image::{Image, ImageFault};
 use ffs_layout::Geometry;
-use ffs_survey::Lists;
 use ffs_workspace::Workspace;
 
 /// Finds how often each inode is referred to, which inodes a plain entry names, which directories
@@ -54,17 +53,17 @@ pub fn survey<I: Image>(
         notes: &workspace.notes,
         entries: Entries::none(geometry),
     };
-    let mut lists = Lists {
-        kinds: &workspace.kinds,
-        marked: &workspace.marked,
-        references: &mut workspace.references,
-        named: &mut workspace.named,
-        reached: &mut workspace.reached,
-        parents: &mut workspace.parents,
-        calm: &mut workspace.flags,
-        queue: &mut workspace.queue,
-    };
-    let surveyed = ffs_survey::survey(&mut tree, &mut lists);
+    let surveyed = ffs_survey::survey(
+        &mut tree,
+        &workspace.kinds,
+        &workspace.marked,
+        &mut workspace.references,
+        &mut workspace.named,
+        &mut workspace.reached,
+        &mut workspace.parents,
+        &mut workspace.flags,
+        &mut workspace.queue,
+    );
     // No place of a parent entry is noted yet.
     workspace.queue.fill(0);
     surveyed

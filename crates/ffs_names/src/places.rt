@@ -27,8 +27,9 @@ use ffs_layout::{Entry, Geometry, entry_at};
 use ffs_memory::FilledList;
 use ffs_volume::constants::{DIRBLKSIZ, ROOTINO};
 use ffs_volume::{Class, Order, Role};
-use ffs_walk::{Blocks, Window};
-use ffs_workspace::{Table, Workspace, address_in, due, is_due, passed, place_in, place_of};
+use ffs_workspace::{
+    Table, Windows, Workspace, address_in, due, is_due, passed, place_in, place_of,
+};
 
 /// Whether a directory is the parent of an inode other than the root, which has no parent entry.
 fn is_child(parents: &FilledList<u32>, dir: u32, number: u32) -> bool
@@ -101,15 +102,14 @@ fn note_chunk(
 /// A read of the image that failed.
 fn note_chunks<I: Image>(
     image: &mut I,
-    blocks: &mut Blocks,
-    data: &mut Window,
+    windows: &mut Windows,
     chunks: &mut Chunks,
     dir: u32,
     parents: &FilledList<u32>,
     words: &mut FilledList<u32>,
 ) -> Result<(), ImageFault>
-    requires ready { CanReadChunks chunks.old.walk.geometry.layout (I.device image.old) blocks.old
-        «data».old }
+    requires ready { CanReadChunks chunks.old.walk.geometry.layout (I.device image.old)
+        windows.old.blocks windows.old.chunk }
     requires dir { 0 < dir }
     requires lengths { vec_len parents.now ≡ vec_len words.old }
     ensures noted { OnOk result (ForContents (I.device image.old).contents
@@ -117,15 +117,24 @@ fn note_chunks<I: Image>(
         words.new.items dir (flat_map roled_chunk (rest b chunks.old)))) }
     ensures children { NotesChildren parents.now.items words.old.items words.new.items dir }
     ensures long { vec_len words.new ≡ vec_len words.old }
-    ensures reads { HoldsReading blocks.old «data».old chunks.old
+    ensures reads { HoldsReading windows.old.blocks windows.old.chunk chunks.old
         → ForContents (I.device image.old).contents
         (λ b. I.reads image.new ≤ I.reads image.old + to_read b chunks.old) }
     ensures leaves { LeavesReading chunks.old chunks.new (I.device image.old)
-        (I.device image.new) blocks.new «data».new result }
+        (I.device image.new) windows.new.blocks windows.new.chunk result }
+    ensures others { windows.new ≡ record windows.old {
+      blocks = windows.new.blocks;
+      chunk = windows.new.chunk;
+    } }
 {
     let order = chunks.walk.geometry.layout.order;
     let mut chunk = [0u8; DIRBLKSIZ];
-    'chunks: while let Some(_offset) = chunks.next(image, blocks, data, &mut chunk)? {
+    'chunks: while let Some(_offset) = chunks.next(
+        image,
+        &mut windows.blocks,
+        &mut windows.chunk,
+        &mut chunk,
+    )? {
         let place = place_of(chunks.last_place() / DIRBLKSIZ as u64);
         if place == 0 {
             // A later entry must not be taken for one of this chunk.
@@ -208,8 +217,7 @@ fn note_directory<I: Image>(
     let mut chunks = chunks_of(geometry, image, table, dir, note)?;
     note_chunks(
         image,
-        &mut workspace.windows.blocks,
-        &mut workspace.windows.chunk,
+        &mut workspace.windows,
         &mut chunks,
         dir,
         &workspace.parents,

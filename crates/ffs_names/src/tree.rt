@@ -8,7 +8,7 @@ use ffs_image::{Image, ImageFault};
 use ffs_layout::Geometry;
 use ffs_memory::FilledList;
 use ffs_survey::{Directories, Named, is_dir};
-use ffs_volume::constants::DIRBLKSIZ;
+use ffs_volume::constants::{DIRBLKSIZ, DT_DIR};
 use ffs_volume::{Class, Inode};
 use ffs_workspace::{Windows, address_in};
 
@@ -21,8 +21,8 @@ pub(crate) fn one_chunk_at(address: u32) -> Inode
     let mut addresses = [0; 15];
     addresses[0] = address;
     Inode {
-        // A directory (inode(5)).
-        mode: 0o40000,
+        // Its type is above the twelve bits of its permissions (inode(5)).
+        mode: u16::from(DT_DIR) << 12,
         nlink: 0,
         size: DIRBLKSIZ as u64,
         mtime: 0,
@@ -57,7 +57,14 @@ impl<I: Image> Directories for Tree<'_, I> {
 
     ghost Base = { TreeBase };
 
-    ghost base = { λ t. record { layout = t.geometry.layout; contents = (I.device t.image.now).contents; kinds = t.kinds.now; notes = t.notes.now.items; image_lent = t.image.ghost_name; windows_lent = t.windows.ghost_name } };
+    ghost base = { λ t. record {
+      layout = t.geometry.layout;
+      contents = (I.device t.image.now).contents;
+      kinds = t.kinds.now;
+      notes = t.notes.now.items;
+      image_lent = t.image.ghost_name;
+      windows_lent = t.windows.ghost_name;
+    } };
 
     ghost knows = { KnowsTree };
 
@@ -67,7 +74,8 @@ impl<I: Image> Directories for Tree<'_, I> {
 
     ghost device = { λ t. I.device t.image.now };
 
-    ghost ready = { λ t. IsReady t.geometry.layout (I.device t.image.now) t.windows.now t.kinds.now t.notes.now.items × (t.entries.chunks.walk.geometry ≡ t.geometry) };
+    ghost ready = { λ t. IsReady t.geometry.layout (I.device t.image.now) t.windows.now t.kinds.now
+        t.notes.now.items × (t.entries.chunks.walk.geometry ≡ t.geometry) };
 
     ghost reads = { λ t. I.reads t.image.now };
 

@@ -1,7 +1,7 @@
 -- A directory that is begun, and how its lines continue.
-use Rattle.std.proofs.Common.{◌≡◌, ◌≤◌, suc, Result, Ok, refl, sym, ap, subst, ◌∙◌, ℕ, Bool, true, List, [], ◌++◌, map}
+use Rattle.std.proofs.Common.{◌≡◌, ◌≤◌, suc, refl, sym, ap, subst, ◌∙◌, ℕ, Bool, true, List, [], ◌++◌, map}
 use Rattle.std.proofs.Common.{Option, Err, nat_le, nat_lt, append-nil}
-use Rattle.std.specs.Prelude.{option_and_then, OnOk}
+use Rattle.std.specs.Prelude.{option_and_then}
 use Rattle.std.proofs.lemmas.List.{map-append}
 use Rattle.std.proofs.lemmas.Bool.{and_parts, ltb-true}
 use Rattle.ffs_volume.specs.declared.Layout.{Layout}
@@ -159,7 +159,3 @@ pub reported_after : (v : Volume) (d : ℕ) (m m' m'' : NameMarks) → IsDirecto
     m' ≡ looked v d m → after_entries v d m' (roled_entries v d) ≡ m'' → AreRightBefore v (suc d) m''
 reported_after v d m m' m'' dir r e q = subst (AreRightBefore v (suc d))
     (sym (ap (λ k. after_entries v d k (roled_entries v d)) e) ∙ q) (reported_next v d m dir r)
-
-pub on_ok : {T E : Type 0} (r : Result T E) (P Q : Type 0) → (P → Q) → OnOk r P → OnOk r Q
-on_ok (Ok x) P Q f p = f p
-on_ok (Err e) P Q f p = p

@@ -5,6 +5,7 @@ use Rattle.std.specs.List.{list_any}
 use Rattle.std.proofs.Common.{arith, sym, ◌∙◌, ap, subst, inl, inr, append_assoc, append-nil}
 use Rattle.std.proofs.lemmas.List.{get_or-set_other, get_or-set_same, set_past}
 use Rattle.std.proofs.lemmas.Bool.{cases_eq, cases_lt, ne_eqb, eq-eqb, and_parts, cond-false}
+use Rattle.std.proofs.Math.Bool.{and-false, or-false}
 use Rattle.ffs_volume.specs.Directories.Roles.{Volume, RoledEntry, is_dir, is_suspect, is_plain, roled_entries}
 use Rattle.ffs_volume.specs.Disk.Search.{some_below}
 use Rattle.ffs_volume.proofs.SearchLaws.{some_below-suc, first_below-some}
@@ -17,7 +18,7 @@ use Rattle.ffs_pathnames.specs.NameMarks.{NameMarks, is_calm, after_roled, after
 use Rattle.ffs_pathnames.specs.NameMarks.{after_looks, are_quiet}
 use Rattle.ffs_pathnames.specs.Calm.{IsSilentDirectory}
 use Rattle.ffs_pathnames.specs.MarksRight.{AreRight, AreRightBefore}
-use Rattle.ffs_pathnames.proofs.MarkLaws.{IsDirectory, or_false, and_false, calm_name, right_after}
+use Rattle.ffs_pathnames.proofs.MarkLaws.{IsDirectory, calm_name, right_after}
 use Rattle.ffs_pathnames.proofs.LookLaws.{AreStamped, stamped_all, looks_all_long, suspects_unnamed}
 
 -- the parent of a directory names it
@@ -48,7 +49,7 @@ belongs_named v s x h =
 pub unstamped : (v : Volume) (s : ℕ) (m : NameMarks) → AreRightBefore v s m → AreStamped v s [] m.stamps
 unstamped v s m r x h =
     let low = r.stamps x h in
-    ne_eqb (slice_index m.stamps x) s (λ z. absurd (omega (arith, z))) ∙ sym (and_false (belongs v s x))
+    ne_eqb (slice_index m.stamps x) s (λ z. absurd (omega (arith, z))) ∙ sym (and-false (belongs v s x))
 
 abbrev pub looked : Volume → ℕ → NameMarks → NameMarks
 looked v s m = record { flags = m.flags; stamps = after_looks v s m.stamps (roled_entries v s) }
@@ -64,7 +65,7 @@ due_is v s x = one (belongs v s x) refl
 -- once s is looked at, the marks are right before its first entry
 pub looked_right : (v : Volume) (s : ℕ) (m : NameMarks) → AreRightBefore v s m → AreRight v s [] (looked v s m)
 looked_right v s m r = record {
-  passed = λ x h q n o. r.passed x h q n o ∙ sym (or_false (some_below (λ t. is_naming_dir (graph_of v) t x) s));
+  passed = λ x h q n o. r.passed x h q n o ∙ sym (or-false (some_below (λ t. is_naming_dir (graph_of v) t x) s));
   due = λ x h. stamped_all v s [] (roled_entries v s) m.stamps r.stamps_length (unstamped v s m r) x h ∙ due_is v s x;
   flags_length = r.flags_length;
   stamps_length = looks_all_long v s (roled_entries v s) m.stamps ∙ r.stamps_length;
@@ -159,8 +160,8 @@ quiet_next v s m d r h = record {
       ∙ sym (some_below-suc (λ t. is_naming_dir (graph_of v) t x) s
       ∙ (ap (λ b. some_below (λ t. is_naming_dir (graph_of v) t x) s || (is_dir v s && b))
       (suspects_unnamed v s (roled_entries v s) m.stamps x h q n)
-      ∙ (ap (λ b. some_below (λ t. is_naming_dir (graph_of v) t x) s || b) (and_false (is_dir v s))
-      ∙ or_false (some_below (λ t. is_naming_dir (graph_of v) t x) s))));
+      ∙ (ap (λ b. some_below (λ t. is_naming_dir (graph_of v) t x) s || b) (and-false (is_dir v s))
+      ∙ or-false (some_below (λ t. is_naming_dir (graph_of v) t x) s))));
   stamps = λ x l. small_next s _ (looks_small v s (roled_entries v s) m.stamps x (small x (r.stamps x l)));
   flags_length = r.flags_length;
   stamps_length = looks_all_long v s (roled_entries v s) m.stamps ∙ r.stamps_length;
@@ -178,7 +179,7 @@ other_next v s m none r = record {
   passed = λ x h q n o. r.passed x h q n o
       ∙ sym (some_below-suc (λ t. is_naming_dir (graph_of v) t x) s
       ∙ (ap (λ b. some_below (λ t. is_naming_dir (graph_of v) t x) s || b) (none x q n)
-      ∙ or_false (some_below (λ t. is_naming_dir (graph_of v) t x) s)));
+      ∙ or-false (some_below (λ t. is_naming_dir (graph_of v) t x) s)));
   stamps = λ x h. small_next s _ (small x (r.stamps x h));
   flags_length = r.flags_length;
   stamps_length = r.stamps_length;
@@ -200,5 +201,5 @@ pub silent_next : (v : Volume) (s : ℕ) (m : NameMarks) → IsSilentDirectory v
 silent_next v s m silent r =
     other_next v s m
     (λ x q n. ap (λ b. is_dir v s && b)
-    (suspects_unnamed v s (roled_entries v s) m.stamps x (silent_quiet v s m silent r) q n) ∙ and_false (is_dir v s))
+    (suspects_unnamed v s (roled_entries v s) m.stamps x (silent_quiet v s m silent r) q n) ∙ and-false (is_dir v s))
     r

@@ -18,7 +18,7 @@ use Rattle.ffs_volume.specs.Blocks.Inodes.{is_directory, is_allocated}
 use Rattle.ffs_volume.specs.Directories.Roles.{Volume, is_dir, is_suspect, roled_entries}
 use Rattle.ffs_volume.proofs.SearchLaws.{some_below-none}
 use Rattle.ffs_volume.specs.Directories.Volumes.{class_at, marked_at, volume_of, volume_with}
-use Rattle.ffs_volume.proofs.Numbered.{all_from_root, names_append}
+use Rattle.ffs_volume.proofs.Numbered.{all_from_root}
 use Rattle.ffs_names.specs.Surveys.{IsUntouched}
 use Rattle.ffs_workspace.specs.declared.workspace.Workspace.{Workspace}
 use Rattle.ffs_workspace.specs.Holds.{bool_at, HoldsClaims, HoldsReferences, HoldsSurvey}
@@ -37,7 +37,7 @@ use Rattle.ffs_pathnames.specs.Calm.{IsSilentDirectory}
 use Rattle.ffs_pathnames.specs.MarksRight.{AreRightBefore}
 use Rattle.ffs_pathnames.specs.Sees.{is_suspect_by}
 use Rattle.std.proofs.lemmas.Bool.{cases_Bool, eqb-true, and_from, and_parts}
-use Rattle.std.proofs.lemmas.List.{get_or_default}
+use Rattle.std.proofs.lemmas.List.{get_or_default, map-append}
 use Rattle.ffs_volume.proofs.Sizes.{some_inodes}
 use Rattle.std.proofs.Common.{inl, inr, ◌≤◌}
 use Rattle.ffs_pathnames.proofs.Begun.{directory_is, quiet_parts}
@@ -300,4 +300,4 @@ tree_is v b w k m goes e f h q =
     ∙ (ap (λ g. map of_tree (root_said k m ++ (if g then lines_below lines (volume_of v b).count else [])))
     (sym (q ∙ goes_is v b w k e h))
     ∙ (ap (λ l. map of_tree (root_said k m ++ (if goes then l else []))) (lines_begin v b)
-    ∙ names_append (root_said k m) (tree_lines v b goes)))
+    ∙ map-append of_tree (root_said k m) (tree_lines v b goes)))

@@ -1,15 +1,11 @@
 -- A look at the chunks of a directory, one after another.
-use Rattle.std.proofs.Common.{◌≡◌, refl, sym, ap, ◌∙◌, ℕ, Bool, true, false, ◌&&◌, List, [], ◌∷◌, ◌++◌}
-use Rattle.std.proofs.Math.Bool.{and-true}
+use Rattle.std.proofs.Common.{◌≡◌, refl, sym, ap, ◌∙◌, ℕ, Bool, ◌&&◌, List, [], ◌∷◌, ◌++◌}
+use Rattle.std.proofs.Math.Bool.{and-true, and_assoc}
 use Rattle.std.specs.List.{flat_map}
 use Rattle.ffs_volume.specs.Directories.Entries.{Chunk}
 use Rattle.ffs_volume.specs.Directories.Roles.{Volume, RoledEntry, roled_chunk}
 use Rattle.ffs_volume.specs.Directories.PathnameCheck.{are_sound}
 use Rattle.ffs_pathnames.specs.NameMarks.{is_quiet, are_quiet, after_look, after_looks}
-
-and_assoc : (a b c : Bool) → ((a && b) && c) ≡ (a && (b && c))
-and_assoc true b c = refl
-and_assoc false b c = refl
 
 looks-append : (v : Volume) (s : ℕ) (stamps : List ℕ) (xs ys : List RoledEntry) → after_looks v s stamps (xs ++ ys)
     ≡ after_looks v s (after_looks v s stamps xs) ys

@@ -5,6 +5,7 @@ use Rattle.std.specs.Prelude.{if◌then◌else◌}
 use Rattle.std.specs.Option.{unwrap_or}
 use Rattle.std.proofs.Common.{inl, inr, arith}
 use Rattle.std.proofs.lemmas.Bool.{cases_eq, ne_eqb, eq-eqb, and_parts, both_ways, cond-false, cond-true}
+use Rattle.std.proofs.Math.Nat.{zero-add}
 use Rattle.ffs_volume.specs.declared.Order.{Order}
 use Rattle.ffs_volume.specs.Directories.Climb.{is_value}
 use Rattle.ffs_volume.specs.Directories.Entries.{Entry, entry_at, entries_of, entries_from}
@@ -28,11 +29,8 @@ first_is order chunk e h = ap (nth_entry 0) (entries_next order chunk 0 e h)
 pub second_is : (order : Order) (chunk : List ℕ) (e : Entry) → entry_at order chunk 0 ≡ Some e →
     nth_entry 1 (entries_of order chunk) ≡ entry_at order chunk e.length
 second_is order chunk e h = ap (nth_entry 1) (entries_next order chunk 0 e h)
-    ∙ (one (0 + e.length) (entry_at order chunk (0 + e.length)) refl ∙ ap (entry_at order chunk) (from_zero e.length))
+    ∙ (one (0 + e.length) (entry_at order chunk (0 + e.length)) refl ∙ ap (entry_at order chunk) (zero-add e.length))
   where
-    from_zero : (n : ℕ) → 0 + n ≡ n
-    from_zero n = omega arith
-
     one : (place : ℕ) (o : Option Entry) → entry_at order chunk place ≡ o →
         nth_entry 1 (e ∷ entries_from order chunk 64 place) ≡ entry_at order chunk place
     one place None q = ap (λ es. nth_entry 1 (e ∷ es)) (entries_end order chunk place q) ∙ sym q

@@ -35,6 +35,10 @@ knows_places v contents w d b k noted = record {
   places = noted;
 }
 
+-- where nothing is read there are as few reads as one likes
+pub few_none : {n reads : ℕ} {w : Workspace} → ReadsFew n reads reads w w
+few_none = record { count = omega arith; blocks = refl }
+
 -- and so after a call that only read
 pub places_on : {T : Type 0} {v : Layout} {d d' : Device} {w w' : Workspace} {x : T} (b : List ℕ) →
     OnlyReads v d d' w w' (Ok x) → KnowsPlaces v d.contents w b → KnowsPlaces v d'.contents w' b
@@ -104,13 +108,13 @@ pub plain_some : (v : Volume) (s : ℕ) (m : NameMarks) (e : Entry) (verdict : V
 plain_some v s m e verdict is h =
     subst (λ ms. 1 ≤ length ms) (sym is.reported) (verdict_some verdict e.number _ _ _ h)
 
+either_some : (b : Bool) (x y : TreeMessage) → 1 ≤ length (if b then x ∷ [] else y ∷ [])
+either_some true x y = omega arith
+either_some false x y = omega arith
+
 -- so has an extra one
 pub extra_some : (about : Attr) (path : List ℕ) (e : Entry) → 1 ≤ length (extra_lines about path e)
-extra_some about path e = go (is_one_dot e.name) _ _
-  where
-    go : (b : Bool) (x y : TreeMessage) → 1 ≤ length (if b then x ∷ [] else y ∷ [])
-    go true x y = omega arith
-    go false x y = omega arith
+extra_some about path e = either_some (is_one_dot e.name) _ _
 
 -- those of an entry, and those of the entries after it
 pub entry_counted : (v : Volume) (s : ℕ) (m m' : NameMarks) (e : RoledEntry) (es es' : List RoledEntry) → es ≡ e ∷ es' →
@@ -143,10 +147,6 @@ above_some true kind x y h = omega arith
 above_some false false x y h = omega arith
 above_some false true x y h = absurd (cc)
 
-missing_some : (b : Bool) (x y : TreeMessage) → 1 ≤ length (if b then x ∷ [] else y ∷ [])
-missing_some true x y = omega arith
-missing_some false x y = omega arith
-
 dot_some : (about : Attr) (path : List ℕ) (d : ℕ) (first : Option Entry) → is_right_dot d first ≡ false →
     1 ≤ length (dot_said about path d first (dot_in first))
 dot_some about path d None h = omega arith
@@ -155,8 +155,8 @@ dot_some about path d (Some e) h = go (is_live e) (is_one_dot e.name) h
     go : (live one : Bool) → (live && (one && ((e.number == d) && (e.kind == 4)))) ≡ false →
         1 ≤ length (dot_said about path d (Some e) (cond (live && one) (Some e) None))
     go true true h = there_some (e.number == d) (e.kind == 4) _ _ h
-    go true false h = missing_some (is_live e && not (is_two_dots e.name)) _ _
-    go false one h = missing_some (is_live e && not (is_two_dots e.name)) _ _
+    go true false h = either_some (is_live e && not (is_two_dots e.name)) _ _
+    go false one h = either_some (is_live e && not (is_two_dots e.name)) _ _
 
 dotdot_some : (about : Attr) (path : List ℕ) (parent : Option ℕ) (second : Option Entry) →
     is_right_dotdot parent second ≡ false → 1 ≤ length (dotdot_said about path parent second (dotdot_in second))
@@ -166,8 +166,8 @@ dotdot_some about path parent (Some e) h = go (is_live e) (is_two_dots e.name) h
     go : (live two : Bool) → (live && (two && (not (is_wrong_parent parent e.number) && (e.kind == 4)))) ≡ false →
         1 ≤ length (dotdot_said about path parent (Some e) (cond (live && two) (Some e) None))
     go true true h = above_some (is_wrong_parent parent e.number) (e.kind == 4) _ _ h
-    go true false h = missing_some (is_live e && not (is_one_dot e.name)) _ _
-    go false two h = missing_some (is_live e && not (is_one_dot e.name)) _ _
+    go true false h = either_some (is_live e && not (is_one_dot e.name)) _ _
+    go false two h = either_some (is_live e && not (is_one_dot e.name)) _ _
 
 some_of : (a b c : Bool) (xs ys zs : List TreeMessage) → (a && (b && c)) ≡ false → (a ≡ false → 1 ≤ length xs) →
     (b ≡ false → 1 ≤ length ys) → (c ≡ false → 1 ≤ length zs) → 1 ≤ length (xs ++ (ys ++ zs))

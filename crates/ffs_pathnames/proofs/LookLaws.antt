@@ -7,6 +7,7 @@ use Rattle.std.proofs.lemmas.List.{get_or-set_other, get_or-set_same}
 use Rattle.std.proofs.Math.ListN.{length-set}
 use Rattle.std.proofs.lemmas.Bool.{cases_eq, both_ways, ne_eqb, eqb-true, eq-eqb, and_parts, and_from, ltb-true, lt-ltb}
 use Rattle.std.proofs.lemmas.Bool.{not-true}
+use Rattle.std.proofs.Math.Bool.{or-false, or-true}
 use Rattle.ffs_volume.specs.declared.Role.{Role}
 use Rattle.ffs_volume.specs.declared.Role.TheVariants.{Empty, Dot, Dotdot, Extra, Plain}
 use Rattle.ffs_volume.specs.Directories.Entries.{Entry}
@@ -16,7 +17,7 @@ use Rattle.ffs_volume.specs.Directories.Climb.{is_value}
 use Rattle.ffs_volume.specs.Directories.Graph.{is_naming_entry, parent}
 use Rattle.ffs_volume.specs.Directories.Parents.{graph_of, is_parent_entry, is_first_naming_entry}
 use Rattle.ffs_volume.specs.Directories.Paths.{dir_path, entry_path}
-use Rattle.ffs_volume.specs.Messages.Kinds.{TreeMessage, reported, out_of_range, whiteout, unallocated, extraneous}
+use Rattle.ffs_volume.specs.Messages.Kinds.{reported, out_of_range, whiteout, unallocated, extraneous}
 use Rattle.ffs_volume.specs.Messages.Kinds.{kind_entry}
 use Rattle.ffs_volume.specs.Directories.PathnameCheck.{attributes, label_of, is_bad_whiteout, message_on_suspect}
 use Rattle.ffs_volume.specs.Directories.PathnameCheck.{has_wrong_type, is_first_entry_of_suspect, is_extraneous}
@@ -25,8 +26,10 @@ use Rattle.ffs_volume.specs.Directories.PathnameCheck.{plain_lines, entry_lines,
 use Rattle.ffs_volume.specs.Directories.PathnameCheck.{entry_lines_of as lines_by_role}
 use Rattle.ffs_pathnames.specs.NameMarks.{belongs, after_look, after_looks, is_plain_quiet, is_role_quiet, is_quiet}
 use Rattle.ffs_pathnames.specs.NameMarks.{are_quiet}
+use Rattle.ffs_volume.proofs.Silence.{reported-silent}
+use Rattle.ffs_volume.proofs.Booleans.{and_false-right}
 use Rattle.ffs_pathnames.proofs.Places.{size_of, size_more}
-use Rattle.ffs_pathnames.proofs.MarkLaws.{IsEntry, IsDirectory, from_parent_is, any_more, or_true, or_false}
+use Rattle.ffs_pathnames.proofs.MarkLaws.{IsEntry, IsDirectory, from_parent_is, any_more}
 use Rattle.ffs_pathnames.proofs.MarkLaws.{other_number}
 
 -- the inodes that belong to s and are named by the entries of `done` are stamped
@@ -54,18 +57,18 @@ stamped_after v s done e stamps long r x h =
         ∙ (ap (λ k. k == s) (get_or-set_same stamps e.entry.number s 0 inside) ∙ (eq-eqb s s refl
         ∙ sym (ap (λ b. belongs v s x && b)
         (any_more (is_naming_entry x) done e
-        ∙ (ap (λ b. list_any (is_naming_entry x) done || b) named ∙ or_true (list_any (is_naming_entry x) done)))
+        ∙ (ap (λ b. list_any (is_naming_entry x) done || b) named ∙ or-true (list_any (is_naming_entry x) done)))
         ∙ (ap (λ k. belongs v s k && true) z ∙ ap (λ b. b && true) q.1))))
     one true t (inr o) =
         ap (λ k. k == s) (get_or-set_other stamps e.entry.number x s 0 o)
         ∙ (r x h ∙ sym (ap (λ b. belongs v s x && b)
         (any_more (is_naming_entry x) done e
-        ∙ (ap (λ b. list_any (is_naming_entry x) done || b) (other_number x e o) ∙ or_false
+        ∙ (ap (λ b. list_any (is_naming_entry x) done || b) (other_number x e o) ∙ or-false
         (list_any (is_naming_entry x) done)))))
     one false t (inr o) =
         r x h ∙ sym (ap (λ b. belongs v s x && b)
         (any_more (is_naming_entry x) done e
-        ∙ (ap (λ b. list_any (is_naming_entry x) done || b) (other_number x e o) ∙ or_false
+        ∙ (ap (λ b. list_any (is_naming_entry x) done || b) (other_number x e o) ∙ or-false
         (list_any (is_naming_entry x) done))))
     one false t (inl z) =
         r x h ∙ two (is_plain e.role) (belongs v s x) (ap (λ k. is_plain e.role && belongs v s k) z ∙ t)
@@ -140,9 +143,6 @@ quiet_parts v s stamps e h =
       ];
     }
 
-reported_nothing : (b : Bool) (m : TreeMessage) → b ≡ false → reported b m ≡ []
-reported_nothing b m h = ap (λ b. reported b m) h
-
 suspect_quiet : (v : Volume) (s j x : ℕ) → is_suspect v x ≡ false → is_first_entry_of_suspect v s j x ≡ false
 suspect_quiet v s j x h = ap (λ b. b && (not (x == 2) && is_first_naming_entry (graph_of v) s j x)) h
 
@@ -153,10 +153,6 @@ link_quiet : (v : Volume) (s : ℕ) (done es : List RoledEntry) (e : RoledEntry)
     is_extraneous v s (size_of done) e.entry.number ≡ false
 link_quiet v s done es e stamps i p h r q = one (is_dir v e.entry.number) refl
   where
-    none : (b any : Bool) → (b && any) ≡ false → b ≡ true → any ≡ false
-    none true any k z = k
-    none false any k z = absurd (cc)
-
     one : (b : Bool) → is_dir v e.entry.number ≡ b →
         (b && not (is_parent_entry (graph_of v) s (size_of done) e.entry.number)) ≡ false
     one false d = refl
@@ -166,7 +162,7 @@ link_quiet v s done es e stamps i p h r q = one (is_dir v e.entry.number) refl
         let parts = and_parts (belongs v s e.entry.number) (not (slice_index stamps e.entry.number == s)) due in
         let unstamped = not-true (slice_index stamps e.entry.number == s) parts.1 in
         let first : list_any (is_naming_entry e.entry.number) done ≡ false =
-        none (belongs v s e.entry.number) (list_any (is_naming_entry e.entry.number) done)
+        and_false-right (belongs v s e.entry.number) (list_any (is_naming_entry e.entry.number) done)
         (sym (r e.entry.number h) ∙ unstamped)
         parts.0 in
         let mine = (and_parts (is_dir v e.entry.number)
@@ -179,12 +175,12 @@ named_quiet : (v : Volume) (s : ℕ) (done es : List RoledEntry) (e : RoledEntry
     IsNamedQuiet v s stamps e.entry → named_lines v s (size_of done) e.entry ≡ []
 unfolding named_lines
 named_quiet v s done es e stamps i p h r q =
-    let a = reported_nothing _ (message_on_suspect v e.entry.number (entry_path (graph_of v) s e.entry.name))
+    let a = reported-silent _ (message_on_suspect v e.entry.number (entry_path (graph_of v) s e.entry.name))
     (suspect_quiet v s (size_of done) e.entry.number q.suspect) in
-    let b = reported_nothing _
+    let b = reported-silent _
     (extraneous (entry_path (graph_of v) s e.entry.name) (dir_path (graph_of v) e.entry.number))
     (link_quiet v s done es e stamps i p h r q.link) in
-    let c = reported_nothing _
+    let c = reported-silent _
     (kind_entry (attributes v e.entry.number) (label_of (v.class e.entry.number))
     (entry_path (graph_of v) s e.entry.name)) q.kind in
     ap (λ l. l ++ (reported (is_extraneous v s (size_of done) e.entry.number)

@@ -1,9 +1,9 @@
 -- A look at the entries of a chunk, one after another.
-use Rattle.std.proofs.Common.{◌≡◌, refl, sym, ap, ◌∙◌, ℕ, suc, ◌+◌, arith, Bool, true, false, ◌&&◌, ◌==◌, List, [], ◌∷◌}
-use Rattle.std.proofs.Common.{Option, Some, None, option_map}
+use Rattle.std.proofs.Common.{◌≡◌, sym, ap, ◌∙◌, ℕ, suc, ◌+◌, arith, Bool, ◌&&◌, ◌==◌, List, [], ◌∷◌}
+use Rattle.std.proofs.Common.{Some, None}
 use Rattle.std.specs.Prelude.{sum_by}
 use Rattle.std.proofs.lemmas.List.Sums.{sum_by-cons}
-use Rattle.std.proofs.Math.Bool.{and-true}
+use Rattle.std.proofs.Math.Bool.{and-true, and_assoc}
 use Rattle.ffs_volume.specs.declared.Order.{Order}
 use Rattle.ffs_volume.specs.declared.Role.{Role}
 use Rattle.ffs_volume.specs.Directories.Entries.{Entry, entry_at, entries_from}
@@ -12,10 +12,6 @@ use Rattle.ffs_volume.proofs.Reading.{entries_next, entries_end}
 use Rattle.ffs_layout.specs.declared.entry.Entry.{Entry as CodeEntry}
 use Rattle.ffs_layout.specs.Entry.{entry_value}
 use Rattle.ffs_pathnames.specs.NameMarks.{is_quiet, are_quiet, after_look, after_looks}
-
-and_assoc : (a b c : Bool) → (a && (b && c)) ≡ ((a && b) && c)
-and_assoc true b c = refl
-and_assoc false b c = refl
 
 -- the entries from a place on, with their roles
 abbrev pub roled_at_place : Order → List ℕ → Bool → ℕ → ℕ → List RoledEntry
@@ -40,7 +36,7 @@ pub quiet_on : (v : Volume) (s : ℕ) (stamps stamps' : List ℕ) (seen : RoledE
     all ≡ (quiet && are_quiet v s stamps es) → all ≡ (still && are_quiet v s stamps' es')
 quiet_on v s stamps stamps' seen es es' all quiet still e h t q =
     q ∙ (ap (λ l. quiet && are_quiet v s stamps l) e
-    ∙ (and_assoc quiet (is_quiet v s stamps seen) (are_quiet v s (after_look v s stamps seen) es')
+    ∙ (sym (and_assoc quiet (is_quiet v s stamps seen) (are_quiet v s (after_look v s stamps seen) es'))
     ∙ (ap (λ b. b && are_quiet v s (after_look v s stamps seen) es') (sym h)
     ∙ ap (λ l. still && are_quiet v s l es') (sym t))))
 
@@ -61,27 +57,23 @@ length_on order chunk place all e there q =
     more : (a b c : ℕ) → a + (b + c) ≡ (a + b) + c
     more a b c = omega arith
 
--- no entry is at the place
-pub none : (order : Order) (chunk : List ℕ) (place : ℕ) (o : Option CodeEntry) → o ≡ None →
-    option_map entry_value o ≡ entry_at order chunk place → entry_at order chunk place ≡ None
-none order chunk place o e h = sym h ∙ ap (option_map entry_value) e
-
-seen_end : (order : Order) (chunk : List ℕ) (first : Bool) (index place : ℕ) → entry_at order chunk place ≡ None →
+-- no entry is left
+pub none_left : (order : Order) (chunk : List ℕ) (first : Bool) (index place : ℕ) → entry_at order chunk place ≡ None →
     roled_at_place order chunk first index place ≡ []
 unfolding roled_from
-seen_end order chunk first index place h = ap (roled_from first index) (entries_end order chunk place h)
+none_left order chunk first index place h = ap (roled_from first index) (entries_end order chunk place h)
 
 pub quiet_ends : (v : Volume) (s : ℕ) (stamps : List ℕ) (first : Bool) (index : ℕ) (order : Order) (chunk : List ℕ)
     (place : ℕ) (all quiet : Bool) → entry_at order chunk place ≡ None →
     all ≡ (quiet && are_quiet v s stamps (roled_at_place order chunk first index place)) → quiet ≡ all
 quiet_ends v s stamps first index order chunk place all quiet h q =
-    sym (q ∙ (ap (λ l. quiet && are_quiet v s stamps l) (seen_end order chunk first index place h) ∙ and-true quiet))
+    sym (q ∙ (ap (λ l. quiet && are_quiet v s stamps l) (none_left order chunk first index place h) ∙ and-true quiet))
 
 pub stamps_end : (v : Volume) (s : ℕ) (stamps all : List ℕ) (first : Bool) (index : ℕ) (order : Order) (chunk : List ℕ)
     (place : ℕ) → entry_at order chunk place ≡ None →
     all ≡ after_looks v s stamps (roled_at_place order chunk first index place) → stamps ≡ all
 stamps_end v s stamps all first index order chunk place h q =
-    sym (q ∙ ap (after_looks v s stamps) (seen_end order chunk first index place h))
+    sym (q ∙ ap (after_looks v s stamps) (none_left order chunk first index place h))
 
 pub length_ends : (order : Order) (chunk : List ℕ) (place all : ℕ) → entry_at order chunk place ≡ None →
     all ≡ place + sum_by (λ x. x.length) (entries_from order chunk 64 place) → (place == 512) ≡ (all == 512)

@@ -8,6 +8,7 @@ use Rattle.std.proofs.lemmas.List.{get_or-set_other, get_or-set_same}
 use Rattle.std.proofs.Math.ListN.{length-set}
 use Rattle.std.proofs.lemmas.List.Folds.{list_any-append}
 use Rattle.std.proofs.lemmas.Bool.{cases_eq, ne_eqb, eq-eqb, and_parts, and_from, ltb-true, lt-ltb}
+use Rattle.std.proofs.Math.Bool.{and-false, or-false, or-true}
 use Rattle.ffs_volume.specs.declared.Role.{Role}
 use Rattle.ffs_volume.specs.declared.Role.TheVariants.{Empty, Dot, Dotdot, Extra, Plain}
 use Rattle.ffs_volume.specs.Blocks.Inodes.{is_allocated}
@@ -27,6 +28,7 @@ use Rattle.ffs_volume.specs.Directories.PathnameCheck.{is_extraneous, named_line
 use Rattle.ffs_volume.specs.Directories.PathnameCheck.{lines_of_entries}
 use Rattle.ffs_pathnames.specs.NameMarks.{NameMarks, is_flagged, is_calm, is_stamped, after_name, after_roled, named_reported}
 use Rattle.ffs_pathnames.specs.NameMarks.{plain_reported, role_reported, roled_reported, entries_reported, belongs}
+use Rattle.ffs_volume.proofs.RoleLaws.{plain-true}
 use Rattle.ffs_pathnames.specs.MarksRight.{AreRight}
 use Rattle.ffs_pathnames.proofs.Places.{size_of, size_more, first_here}
 
@@ -235,36 +237,20 @@ seen_same v s done es e m i r = one e.role refl
 -- BEHIND ONE ENTRY MORE
 pub any_more : (p : RoledEntry → Bool) (done : List RoledEntry) (e : RoledEntry) →
     list_any p (done ++ e ∷ []) ≡ (list_any p done || p e)
-any_more p done e = list_any-append p done (e ∷ []) ∙ ap (λ b. list_any p done || b) (or_nothing (p e))
-  where
-    or_nothing : (b : Bool) → (b || false) ≡ b
-    or_nothing true = refl
-    or_nothing false = refl
-
-pub or_true : (b : Bool) → (b || true) ≡ true
-or_true true = refl
-or_true false = refl
-
-pub or_false : (b : Bool) → (b || false) ≡ b
-or_false true = refl
-or_false false = refl
-
-pub and_false : (b : Bool) → (b && false) ≡ false
-and_false true = refl
-and_false false = refl
+any_more p done e = list_any-append p done (e ∷ []) ∙ ap (λ b. list_any p done || b) (or-false (p e))
 
 -- an entry that isn't x's
 not_named : (p : RoledEntry → Bool) (done : List RoledEntry) (e : RoledEntry) → p e ≡ false →
     list_any p (done ++ e ∷ []) ≡ list_any p done
-not_named p done e h = any_more p done e ∙ (ap (λ b. list_any p done || b) h ∙ or_false (list_any p done))
+not_named p done e h = any_more p done e ∙ (ap (λ b. list_any p done || b) h ∙ or-false (list_any p done))
 
 is_named : (p : RoledEntry → Bool) (done : List RoledEntry) (e : RoledEntry) → p e ≡ true →
     list_any p (done ++ e ∷ []) ≡ true
-is_named p done e h = any_more p done e ∙ (ap (λ b. list_any p done || b) h ∙ or_true (list_any p done))
+is_named p done e h = any_more p done e ∙ (ap (λ b. list_any p done || b) h ∙ or-true (list_any p done))
 
 pub other_number : (x : ℕ) (e : RoledEntry) → x ≢ e.entry.number → is_naming_entry x e ≡ false
 other_number x e n = ap (λ b. is_plain e.role && b) (ne_eqb e.entry.number x (λ z. n (sym z)))
-    ∙ and_false (is_plain e.role)
+    ∙ and-false (is_plain e.role)
 
 not_counted : (v : Volume) (e : RoledEntry) (x : ℕ) → (is_plain e.role && nat_lt e.entry.number v.count) ≡ false →
     x < v.count → is_naming_entry x e ≡ false
@@ -336,7 +322,7 @@ name_passed v s done e m p low r x h q u n = elim (cases_eq x e.entry.number) [
       ∙ (get_or-set_same m.flags e.entry.number true false inside
       ∙ sym (ap (λ b. some_below (λ t. is_naming_dir (graph_of v) t x) s || b) (is_named (is_naming_entry x) done e
       named)
-      ∙ or_true (some_below (λ t. is_naming_dir (graph_of v) t x) s))))
+      ∙ or-true (some_below (λ t. is_naming_dir (graph_of v) t x) s))))
   | inr o ↦
       other_flag v e.entry.number x m.flags o
       ∙ (r.passed x h q u n ∙ ap (λ b. some_below (λ t. is_naming_dir (graph_of v) t x) s || b)
@@ -371,7 +357,7 @@ name_due v s done e m two p low r x h = elim (cases_eq x e.entry.number) [
       (eq-eqb e.entry.number x (sym z)) in
       ap (λ k. slice_index (after_name v s m e.entry.number).stamps k == s) z
       ∙ (cleared s e.entry.number m.stamps two inside
-      ∙ sym (ap (λ b. belongs v s x && not b) (is_named (is_naming_entry x) done e named) ∙ and_false (belongs v s x)))
+      ∙ sym (ap (λ b. belongs v s x && not b) (is_named (is_naming_entry x) done e named) ∙ and-false (belongs v s x)))
   | inr o ↦
       ap (λ k. k == s) (stays s e.entry.number x m.stamps o)
       ∙ (r.due x h ∙ ap (λ b. belongs v s x && not b) (sym (not_named (is_naming_entry x) done e (other_number x e o))))
@@ -385,13 +371,6 @@ stamps_long s n stamps = one (slice_index stamps n == s)
     one true = length-set stamps n 0
     one false = refl
 
-pub plain_role : (r : Role) → is_plain r ≡ true → r ≡ Plain
-plain_role Plain h = refl
-plain_role Dot h = absurd (cc)
-plain_role Dotdot h = absurd (cc)
-plain_role Extra h = absurd (cc)
-plain_role Empty h = absurd (cc)
-
 pub right_after : (v : Volume) (s : ℕ) (done : List RoledEntry) (e : RoledEntry) (m : NameMarks) → 2 ≤ s →
     AreRight v s done m → AreRight v s (done ++ e ∷ []) (after_roled v s m e)
 right_after v s done e m two r = one (is_plain e.role && nat_lt e.entry.number v.count) refl
@@ -401,7 +380,7 @@ right_after v s done e m two r = one (is_plain e.role && nat_lt e.entry.number v
     one false t = skips v s done e m t r
     one true t =
         let q = and_parts (is_plain e.role) (nat_lt e.entry.number v.count) t in
-        let p = plain_role e.role q.0 in
+        let p = plain-true e.role q.0 in
         let low = ltb-true e.entry.number v.count q.1 in
         record {
           passed = name_passed v s done e m p low r;

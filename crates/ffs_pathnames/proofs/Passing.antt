@@ -1,30 +1,27 @@
 -- Entries are reported and passed, one after another and chunk by chunk.
-use Rattle.std.proofs.Common.{◌≡◌, refl, sym, ap, ◌∙◌, ℕ, ◌<◌, ◌^◌, Bool, true}
-use Rattle.std.proofs.Common.{List, [], ◌∷◌, ◌++◌, append_assoc, map, None}
+use Rattle.std.proofs.Common.{◌≡◌, refl, sym, ap, ◌∙◌, ℕ, ◌<◌, ◌^◌, true}
+use Rattle.std.proofs.Common.{List, [], ◌∷◌, ◌++◌, append_assoc, map}
 use Rattle.std.proofs.Common.{Option, subst}
 use Rattle.std.specs.List.{flat_map}
 use Rattle.std.proofs.lemmas.List.{map-append}
-use Rattle.ffs_volume.specs.declared.Order.{Order}
 use Rattle.ffs_volume.specs.declared.Layout.{Layout}
 use Rattle.ffs_volume.specs.declared.Inode.{Inode}
 use Rattle.ffs_volume.specs.Disk.Areas.{is_run_in_range}
 use Rattle.ffs_volume.specs.Laws.Geometry.{IsAcceptedLayout}
 use Rattle.ffs_volume.specs.Blocks.Inodes.{inode_of}
 use Rattle.ffs_volume.specs.Blocks.Steps.{steps_of}
-use Rattle.ffs_volume.specs.Directories.Entries.{Chunk, entry_at, chunks_of}
+use Rattle.ffs_volume.specs.Directories.Entries.{Chunk, chunks_of}
 use Rattle.ffs_volume.specs.Directories.Entries.{bytes_read}
 use Rattle.ffs_volume.specs.Encodings.Replay.{cut_at, fresh_replay, replayed_steps}
 use Rattle.ffs_volume.specs.Directories.Volumes.{volume_of}
-use Rattle.ffs_volume.proofs.Reading.{entries_end}
 use Rattle.ffs_names.specs.RunCursors.{reading_by}
 use Rattle.ffs_names.proofs.DirLaws.{dir_is, dir_size, dir_seen}
 use Rattle.ffs_volume.specs.Messages.Kinds.{TreeMessage, of_tree}
-use Rattle.ffs_volume.specs.Directories.Roles.{Volume, RoledEntry, roled_chunk, roled_from, roled_entries, is_dir}
+use Rattle.ffs_volume.specs.Directories.Roles.{Volume, RoledEntry, roled_chunk, roled_entries, is_dir}
 use Rattle.ffs_workspace.specs.Leaves.{LeavesSurvey}
 use Rattle.ffs_pathnames.specs.DirectoryContext.{DirectoryContext}
 use Rattle.ffs_pathnames.specs.NameMarks.{NameMarks, after_roled, after_entries, roled_reported, entries_reported}
 use Rattle.ffs_workspace.proofs.Leaving.{claims_left, survey_left}
-use Rattle.ffs_pathnames.proofs.Looking.{roled_at_place}
 use Rattle.ffs_workspace.specs.declared.workspace.Workspace.{Workspace}
 
 -- the marks after some entries and others
@@ -83,12 +80,6 @@ chunk_passed v s all m m' c cs cs' is after q =
     q ∙ (ap (λ l. after_entries v s m (flat_map roled_chunk l)) is
     ∙ (after_more v s m (roled_chunk c) (flat_map roled_chunk cs')
     ∙ ap (λ k. after_entries v s k (flat_map roled_chunk cs')) after))
-
--- no entry is left
-pub none_left : (order : Order) (chunk : List ℕ) (first : Bool) (index place : ℕ) → entry_at order chunk place ≡ None →
-    roled_at_place order chunk first index place ≡ []
-unfolding roled_from
-none_left order chunk first index place h = ap (roled_from first index) (entries_end order chunk place h)
 
 -- what is known of a workspace's lists stays where they stay
 pub knows_on : (v : Layout) (contents contents' : Option (List ℕ)) (old new : Workspace) (d : ℕ) (b : List ℕ) →

@@ -21,7 +21,7 @@ use Rattle.ffs_workspace.proofs.KindLaws.{reports_at, dir_is, suspect_is, type_i
 use Rattle.ffs_pathnames.specs.declared.inodes.Inodes.{Inodes}
 use Rattle.ffs_pathnames.specs.Sees.{Sees}
 
-settled : (c : Class) → is_allocated c ≡ true → is_unknown c ≡ false → is_file_or_dir c ≡ true
+pub settled : (c : Class) → is_allocated c ≡ true → is_unknown c ≡ false → is_file_or_dir c ≡ true
 settled Dir a u = refl
 settled File a u = refl
 settled Unknown a u = absurd (cc)

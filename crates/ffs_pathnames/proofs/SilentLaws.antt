@@ -8,6 +8,7 @@ use Rattle.std.proofs.lemmas.List.{get_or-set_other}
 use Rattle.std.proofs.lemmas.Bool.{both_ways, cases_Bool, cases_eq, eqb-true, eq-eqb, ne_eqb, and_parts, and_from}
 use Rattle.std.proofs.lemmas.Bool.{or_left, or_right, not-true, false_from_ne_true, ltb-true}
 use Rattle.std.proofs.lemmas.Bool.{leb-true}
+use Rattle.std.proofs.Math.Bool.{and-false}
 use Rattle.ffs_volume.specs.declared.Layout.{Layout}
 use Rattle.ffs_volume.specs.declared.Attr.{Attr}
 use Rattle.ffs_volume.specs.declared.Order.{Order}
@@ -19,9 +20,7 @@ use Rattle.ffs_volume.specs.Laws.Geometry.{IsAcceptedLayout}
 use Rattle.ffs_volume.specs.Disk.Areas.{is_run_in_range}
 use Rattle.ffs_volume.specs.Blocks.Steps.{steps_of}
 use Rattle.ffs_names.specs.RunCursors.{reading_by}
-use Rattle.ffs_volume.specs.Blocks.Inodes.{is_allocated, is_unknown, is_file_or_dir, inode_of}
-use Rattle.ffs_volume.specs.declared.Class.{Class}
-use Rattle.ffs_volume.specs.declared.Class.TheVariants.{Free, Partial, Unknown, File, Dir}
+use Rattle.ffs_volume.specs.Blocks.Inodes.{is_allocated, is_unknown, inode_of}
 use Rattle.ffs_volume.specs.Directories.Climb.{is_value}
 use Rattle.ffs_volume.specs.Directories.Entries.{Entry, Chunk, ChunkSource, chunk_of, chunks_of, run_chunks}
 use Rattle.ffs_volume.specs.Directories.Entries.{step_chunks, entries_of, is_sound, is_live, bytes_read}
@@ -37,6 +36,7 @@ use Rattle.ffs_volume.specs.Directories.Volumes.{class_at, volume_of, volume_wit
 use Rattle.ffs_volume.specs.Encodings.Kinds.{kind_at, is_empty_dir_kind, is_allocated_kind}
 use Rattle.ffs_volume.specs.Encodings.Kinds.{is_unknown_kind, type_of_kind}
 use Rattle.ffs_volume.specs.Encodings.Replay.{cut_at, fresh_replay, replayed_steps}
+use Rattle.ffs_volume.proofs.Silence.{nil-both, reported-silent}
 use Rattle.ffs_workspace.specs.declared.workspace.Workspace.{Workspace}
 use Rattle.ffs_workspace.specs.Lengths.{IsFor}
 use Rattle.ffs_workspace.specs.Holds.{bool_at, HoldsClaims, HoldsSurvey}
@@ -55,7 +55,8 @@ use Rattle.ffs_pathnames.specs.Header.{dot_in, dotdot_in, dot_said, dotdot_said}
 use Rattle.ffs_pathnames.specs.NameMarks.{belongs, after_look, is_plain_quiet, is_role_quiet, is_quiet, are_quiet}
 use Rattle.ffs_pathnames.specs.Reads.{chunks_read}
 use Rattle.ffs_pathnames.proofs.ChunkLaws.{chunks_are}
-use Rattle.ffs_pathnames.proofs.InOrder.{silent, two, in_order, dotdot_right}
+use Rattle.ffs_pathnames.proofs.InOrder.{in_order, dotdot_right}
+use Rattle.ffs_pathnames.proofs.SeesLaws.{settled}
 
 -- WHAT THE LISTS SHOW
 record Shown (v : Volume) (kinds : List ℕ) (marked : List Bool) (parents : List ℕ) : Type 0 where
@@ -67,13 +68,6 @@ record Shown (v : Volume) (kinds : List ℕ) (marked : List Bool) (parents : Lis
   kind : (x : ℕ) → is_allocated (v.class x) ≡ true → is_unknown (v.class x) ≡ false → type_of_kind (slice_index kinds x)
       ≡ (v.inode x).mode / 4096
   parent_is : (x : ℕ) → slice_index parents x ≡ unwrap_or (parent (graph_of v) x) 0
-
-settled : (c : Class) → is_allocated c ≡ true → is_unknown c ≡ false → is_file_or_dir c ≡ true
-settled Dir a u = refl
-settled File a u = refl
-settled Unknown a u = absurd (cc)
-settled Partial a u = absurd (cc)
-settled Free a u = absurd (cc)
 
 shown : (v : Layout) (b : List ℕ) (w : Workspace) → IsFor v w → HoldsClaims v b w → HoldsSurvey v b w →
     Shown (volume_of v b) w.kinds.items w.marked.items w.parents.items
@@ -140,7 +134,7 @@ plain_quiet v s parents stamps reached e sh c mine new =
     let type : e.kind ≡ (v.inode x).mode / 4096 = sym (kind_stays e.kind k.not_empty)
     ∙ (ap type_of_kind (sym is) ∙ sh.kind x allocated known) in
     let other : has_wrong_type v e ≡ false = ap (λ z. not (is_unknown (v.class x)) && not z) (eq-eqb e.kind _ type)
-    ∙ and_no (not (is_unknown (v.class x))) in
+    ∙ and-false (not (is_unknown (v.class x))) in
     and_from (nat_lt x v.count) _ (ap (nat_lt x) sh.count ∙ c2.0)
     (and_from (not (is_bad_whiteout e)) _ (ap not (whiteout_none e one k.no_whiteout))
     (or_right (x == 1) _
@@ -149,10 +143,6 @@ plain_quiet v s parents stamps reached e sh c mine new =
     (and_from (not (is_dir v x) || (belongs v s.dir x && not (slice_index stamps x == s.dir))) _
     (link (is_dir v x) _ _ mine new) (ap not other))))))
   where
-    and_no : (b : Bool) → (b && false) ≡ false
-    and_no true = refl
-    and_no false = refl
-
     link : (d b c : Bool) → (d ≡ true → b ≡ true) → (d ≡ true → c ≡ false) → (not d || (b && not c)) ≡ true
     link false b c f g = refl
     link true b c f g = and_from b (not c) (f refl) (ap not (g refl))
@@ -373,7 +363,7 @@ dot_right : (about : Attr) (path : List ℕ) (d : ℕ) (e : Entry) → is_live e
     (e.number == d) ≡ true → (e.kind == 4) ≡ true → dot_said about path d (Some e) (dot_in (Some e)) ≡ []
 dot_right about path d e live name number kind =
     ap (λ t. dot_said about path d (Some e) (cond t (Some e) None)) (ap (λ t. t && is_one_dot e.name) live ∙ name)
-    ∙ two _ _ (silent _ _ (ap not number)) (silent _ _ (ap not kind))
+    ∙ nil-both _ _ (reported-silent _ _ (ap not number)) (reported-silent _ _ (ap not kind))
 
 other_not : (o : Option ℕ) (n above : ℕ) → (n == above) ≡ true → above ≡ unwrap_or o 0 → is_wrong_parent o n ≡ false
 other_not None n above h e = refl

@@ -10,6 +10,7 @@ use Rattle.ffs_volume.specs.Encodings.Kinds.{is_dir_kind}
 use Rattle.std.proofs.lemmas.Bool.{and_from, and_parts, eqb-true, eq-eqb, lt-ltb}
 use Rattle.ffs_workspace.specs.declared.workspace.Workspace.{Workspace}
 use Rattle.ffs_workspace.specs.Places.{is_due, place_in, ArePlaces, AreNoted}
+use Rattle.ffs_workspace.proofs.PlaceLaws.{zero_index}
 use Rattle.ffs_pathnames.specs.Examines.{LeavesQueue}
 use Rattle.ffs_pathnames.specs.declared.inodes.Inodes.{Inodes}
 use Rattle.ffs_pathnames.specs.NameMarks.{NameMarks, belongs, after_look, after_name, after_roled, is_stamped}
@@ -59,19 +60,6 @@ unstamped ps ws ws' x word set due =
 pub none_stamped : (ps ws : List ℕ) (x : ℕ) → is_due (slice_index ws x) ≡ false → slice_index (stamps_of ps ws) x ≡ 0
 none_stamped ps ws x h = stamp_at ps ws x ∙ ap (λ b. if b then slice_index ps x else 0) h
 
--- where the word of an inode changes and notes the same place, each does
-place_set : (ws : List ℕ) (x word y : ℕ) → place_in word ≡ place_in (slice_index ws x) →
-    place_in (slice_index (slice_set ws x word) y) ≡ place_in (slice_index ws y)
-place_set [] x word y h = refl
-place_set (w ∷ ws) zero word zero h = h
-place_set (w ∷ ws) zero word (suc y) h = refl
-place_set (w ∷ ws) (suc x) word zero h = refl
-place_set (w ∷ ws) (suc x) word (suc y) h = place_set ws x word y h
-
-pub same_places : (ws ws' : List ℕ) (x word : ℕ) → ws' ≡ slice_set ws x word →
-    place_in word ≡ place_in (slice_index ws x) → KeepPlaces ws ws'
-same_places ws ws' x word set same y = ap (λ l. place_in (slice_index l y)) set ∙ place_set ws x word y same
-
 -- the same directories have the same places
 pub places_kept : (v : Layout) (b : List ℕ) (old new : List ℕ) → KeepPlaces old new → ArePlaces v b old →
     ArePlaces v b new
@@ -113,13 +101,9 @@ queue_leaves old new e keep = record {
 }
 
 -- where each word is 0, none is due
-none_at : (n x : ℕ) → slice_index (replicate n 0) x ≡ 0
-none_at zero x = refl
-none_at (suc n) zero = refl
-none_at (suc n) (suc x) = none_at n x
 
 pub none_due : (ws : List ℕ) (n x : ℕ) → ws ≡ replicate n 0 → is_due (slice_index ws x) ≡ false
-none_due ws n x e = ap (λ l. is_due (slice_index l x)) e ∙ ap is_due (none_at n x)
+none_due ws n x e = ap (λ l. is_due (slice_index l x)) e ∙ ap is_due (zero_index n x)
 
 -- the inode that an entry names is stamped where it belongs to the directory
 pub after_stamp : (v : Volume) (i : Inodes) (s word : ℕ) (ws ws' : List ℕ) (role : Role) (e : Entry) → Sees v i → 2 ≤ s

@@ -4,7 +4,7 @@ use Rattle.ffs_volume.specs.declared.constants.TheConstants.{DIRBLKSIZ, MINDIRSI
 use Rattle.ffs_volume.specs.declared.Attr.{Attr}
 use Rattle.ffs_volume.specs.Directories.Entries.{Entry, is_live}
 use Rattle.ffs_volume.specs.Directories.Roles.{Volume, is_one_dot, is_two_dots, entry_if}
-use Rattle.ffs_volume.specs.Messages.Kinds.{TreeMessage, reported, dir_short, dir_length, dir_gap}
+use Rattle.ffs_volume.specs.Messages.Kinds.{TreeMessage, reported, dir_short, dir_length, dir_empty}
 use Rattle.ffs_volume.specs.Messages.Kinds.{dir_corrupt, number_dot, kind_dot, number_dotdot, kind_dotdot}
 use Rattle.ffs_volume.specs.Directories.PathnameCheck.{missing_dot_lines, missing_dotdot_lines}
 use Rattle.ffs_volume.specs.Directories.PathnameCheck.{attributes, is_wrong_parent}
@@ -20,7 +20,7 @@ size_reported about path =
     ++ reported (not (nat_lt about.size MINDIRSIZE) && not (about.size % DIRBLKSIZ == 0)) (dir_length path about.size)
 
 abbrev pub chunks_reported : Attr → List ℕ → Bool → Bool → List TreeMessage
-chunks_reported about path gap sound = reported gap (dir_gap path) ++ reported (not sound) (dir_corrupt about path)
+chunks_reported about path gap sound = reported gap (dir_empty path) ++ reported (not sound) (dir_corrupt about path)
 
 abbrev pub shape_reported : Attr → List ℕ → Bool → Bool → List TreeMessage
 shape_reported about path gap sound = size_reported about path ++ chunks_reported about path gap sound

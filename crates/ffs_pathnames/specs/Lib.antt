@@ -16,5 +16,6 @@ pub mod MarksRight
 pub mod Before
 pub mod Ready
 pub mod LineReads
+pub mod EntryLines
 pub mod Looks
 pub mod Costs

@@ -1,14 +1,12 @@
 //! The lines of the entries of a directory, one entry after another.
-ghost use Rattle.std.specs.Prelude.{◌≡◌, ◌≤◌, length, OnOk, map};
-ghost use Rattle.ffs_volume.specs.Messages.Kinds.{of_tree};
+ghost use Rattle.std.specs.Prelude.{◌≡◌, OnOk};
 ghost use Rattle.ffs_volume.specs.Directories.Volumes.{volume_of};
 ghost use Rattle.ffs_report.specs.Known.{ForBytes};
-ghost use Rattle.ffs_report.specs.Runs.{PhaseReports};
 ghost use Rattle.ffs_report.specs.Progress.{progress};
-ghost use Rattle.ffs_pathnames.specs.Gathers.{roled_lines, marks_of, roled_in, roled_value};
-ghost use Rattle.ffs_pathnames.specs.DirectoryContext.{DirectoryContext, KeepsPath, KnowsPath};
+ghost use Rattle.ffs_pathnames.specs.Gathers.{marks_of, roled_in, roled_lines, roled_value};
+ghost use Rattle.ffs_pathnames.specs.DirectoryContext.{DirectoryContext};
 ghost use Rattle.ffs_pathnames.specs.NameMarks as marks;
-ghost use Rattle.ffs_pathnames.specs.LineReads.{ReadsByLines};
+ghost use Rattle.ffs_pathnames.specs.EntryLines.{ReportsEntries};
 ghost use Rattle.ffs_pathnames.specs.Ready.{ReadyToPath, PhaseLeaves, LinesLeave};
 
 use crate::inodes::Inodes;
@@ -44,18 +42,13 @@ fn say_entry<I: Image, W: Output>(
 ) -> Result<(), RunFault>
     requires ready { ReadyToPath geometry.now.layout (I.device image.old) workspace.old
         texts.old.siblings entry.now.dir }
-    ensures text { PhaseReports (KnowsPath geometry.now.layout (I.device image.old).contents
-        workspace.old entry.now.dir texts.old)
-        (λ b. map of_tree (roled_lines (volume_of geometry.now.layout b) workspace.old entry.now))
-        (progress W.sink report.old) (progress W.sink report.new) result }
-    ensures path { KeepsPath geometry.now.layout (I.device image.old) workspace.old
-        entry.now.dir texts.old texts.new }
+    ensures lines { ReportsEntries geometry.now.layout (I.device image.old) workspace.old
+        workspace.new entry.now.dir texts.old texts.new
+        (λ v. roled_lines v workspace.old entry.now)
+        (progress W.sink report.old) (progress W.sink report.new)
+        (I.reads image.old) (I.reads image.new) result }
     ensures leaves { LinesLeave geometry.now.layout (I.device image.old) (I.device image.new)
         workspace.old workspace.new texts.new.siblings result }
-    ensures counted { ReadsByLines geometry.now.layout (DirectoryContext geometry.now.layout
-        (I.device image.old).contents workspace.old entry.now.dir)
-        (λ b. roled_lines (volume_of geometry.now.layout b) workspace.old entry.now)
-        workspace.old workspace.new (I.reads image.old) (I.reads image.new) }
 {
     match entry.role {
         Role::Empty => Ok(()),
@@ -80,12 +73,11 @@ pub fn report_entry<I: Image, W: Output>(
 ) -> Result<(), RunFault>
     requires ready { ReadyToPath geometry.now.layout (I.device image.old) workspace.old
         texts.old.siblings entry.now.dir }
-    ensures text { PhaseReports (KnowsPath geometry.now.layout (I.device image.old).contents
-        workspace.old entry.now.dir texts.old)
-        (λ b. map of_tree (roled_lines (volume_of geometry.now.layout b) workspace.old entry.now))
-        (progress W.sink report.old) (progress W.sink report.new) result }
-    ensures path { KeepsPath geometry.now.layout (I.device image.old) workspace.old
-        entry.now.dir texts.old texts.new }
+    ensures lines { ReportsEntries geometry.now.layout (I.device image.old) workspace.old
+        workspace.new entry.now.dir texts.old texts.new
+        (λ v. roled_lines v workspace.old entry.now)
+        (progress W.sink report.old) (progress W.sink report.new)
+        (I.reads image.old) (I.reads image.new) result }
     ensures marks { OnOk result (ForBytes (DirectoryContext geometry.now.layout
         (I.device image.old).contents workspace.old entry.now.dir)
         (λ b. marks.after_roled (volume_of geometry.now.layout b) entry.now.dir
@@ -93,10 +85,6 @@ pub fn report_entry<I: Image, W: Output>(
     ensures leaves { PhaseLeaves geometry.now.layout (I.device image.old) (I.device image.new)
         workspace.old workspace.new texts.new.siblings result }
     ensures chunk { workspace.new.windows.chunk ≡ workspace.old.windows.chunk }
-    ensures counted { ReadsByLines geometry.now.layout (DirectoryContext geometry.now.layout
-        (I.device image.old).contents workspace.old entry.now.dir)
-        (λ b. roled_lines (volume_of geometry.now.layout b) workspace.old entry.now)
-        workspace.old workspace.new (I.reads image.old) (I.reads image.new) }
 {
     say_entry(geometry, image, workspace, texts, report, entry)?;
     let inodes = Inodes {
@@ -129,13 +117,12 @@ pub fn report_chunk<I: Image, W: Output>(
 ) -> Result<(), RunFault>
     requires { ReadyToPath geometry.now.layout (I.device image.old) workspace.old
         texts.old.siblings chunk.now.dir }
-    ensures text { PhaseReports (KnowsPath geometry.now.layout (I.device image.old).contents
-        workspace.old chunk.now.dir texts.old)
-        (λ b. map of_tree (marks.entries_reported (volume_of geometry.now.layout b) chunk.now.dir
-        (marks_of workspace.old) (roled_in geometry.now.layout chunk.now)))
-        (progress W.sink report.old) (progress W.sink report.new) result }
-    ensures path { KeepsPath geometry.now.layout (I.device image.old) workspace.old
-        chunk.now.dir texts.old texts.new }
+    ensures lines { ReportsEntries geometry.now.layout (I.device image.old) workspace.old
+        workspace.new chunk.now.dir texts.old texts.new
+        (λ v. marks.entries_reported v chunk.now.dir (marks_of workspace.old)
+        (roled_in geometry.now.layout chunk.now))
+        (progress W.sink report.old) (progress W.sink report.new)
+        (I.reads image.old) (I.reads image.new) result }
     ensures marks { OnOk result (ForBytes (DirectoryContext geometry.now.layout
         (I.device image.old).contents workspace.old chunk.now.dir)
         (λ b. marks.after_entries (volume_of geometry.now.layout b) chunk.now.dir
@@ -144,11 +131,6 @@ pub fn report_chunk<I: Image, W: Output>(
     ensures leaves { PhaseLeaves geometry.now.layout (I.device image.old) (I.device image.new)
         workspace.old workspace.new texts.new.siblings result }
     ensures chunk { workspace.new.windows.chunk ≡ workspace.old.windows.chunk }
-    ensures counted { ReadsByLines geometry.now.layout (DirectoryContext geometry.now.layout
-        (I.device image.old).contents workspace.old chunk.now.dir)
-        (λ b. marks.entries_reported (volume_of geometry.now.layout b) chunk.now.dir
-        (marks_of workspace.old) (roled_in geometry.now.layout chunk.now))
-        workspace.old workspace.new (I.reads image.old) (I.reads image.new) }
 {
     let order = geometry.layout.order;
     let mut place = 0usize;

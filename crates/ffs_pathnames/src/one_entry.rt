@@ -1,7 +1,6 @@
 //! The lines of a plain entry.
-ghost use Rattle.std.specs.Prelude.{◌≡◌, ◌+◌, ◌*◌, ◌<◌, ◌≤◌, ℕ, false, List, length, Option, Some, OnOk, IfOk, IsTrue, map, vec_len};
+ghost use Rattle.std.specs.Prelude.{◌≡◌, ◌+◌, ◌*◌, ◌<◌, ◌≤◌, ℕ, false, List, length, Option, Some, OnOk, IfOk, IsTrue, vec_len};
 ghost use Rattle.ffs_image.specs.Device.{ForContents};
-ghost use Rattle.ffs_volume.specs.Messages.Kinds.{of_tree};
 ghost use Rattle.ffs_volume.specs.Directories.PathnameCheck.{attributes, extra_lines};
 ghost use Rattle.ffs_pathnames.specs.SaysNames.{SaysNames};
 ghost use Rattle.ffs_volume.specs.Directories.Parents.{graph_of};
@@ -9,7 +8,6 @@ ghost use Rattle.ffs_volume.specs.Directories.Paths.{dir_path};
 ghost use Rattle.ffs_volume.specs.Directories.Volumes.{volume_of};
 ghost use Rattle.ffs_layout.specs.Entry.{entry_value};
 ghost use Rattle.ffs_report.specs.Known.{ForBytes};
-ghost use Rattle.ffs_report.specs.Runs.{PhaseReports};
 ghost use Rattle.ffs_report.specs.Progress.{progress};
 ghost use Rattle.ffs_volume.specs.declared.Layout.{Layout};
 ghost use Rattle.ffs_workspace.specs.Lengths.{IsFor};
@@ -21,7 +19,7 @@ ghost use Rattle.ffs_paths.specs.DirectoryPaths.{IsPathOf};
 ghost use Rattle.ffs_paths.specs.LastPaths.{last_path};
 ghost use Rattle.ffs_paths.specs.Reads.{ForTree, IsReadyFor, OnlyReads, ReadsAtMost, ReadsFew};
 ghost use Rattle.ffs_volume.specs.Report.Reads.{line_reads, path_reads};
-ghost use Rattle.ffs_pathnames.specs.LineReads.{ReadsByLines};
+ghost use Rattle.ffs_pathnames.specs.EntryLines.{ReportsEntries};
 ghost use Rattle.ffs_pathnames.specs.Ready.{ReadyWith, ReadyToPath, PathLeaves, LinesLeave};
 
 use crate::inodes::Inodes;
@@ -350,18 +348,13 @@ pub fn report_plain<I: Image, W: Output>(
 ) -> Result<(), RunFault>
     requires ready { ReadyToPath geometry.now.layout (I.device image.old) workspace.old
         texts.old.siblings entry.now.dir }
-    ensures text { PhaseReports (KnowsPath geometry.now.layout (I.device image.old).contents
-        workspace.old entry.now.dir texts.old)
-        (λ b. map of_tree (plain_lines (volume_of geometry.now.layout b) workspace.old entry.now))
-        (progress W.sink report.old) (progress W.sink report.new) result }
-    ensures path { KeepsPath geometry.now.layout (I.device image.old) workspace.old
-        entry.now.dir texts.old texts.new }
+    ensures lines { ReportsEntries geometry.now.layout (I.device image.old) workspace.old
+        workspace.new entry.now.dir texts.old texts.new
+        (λ v. plain_lines v workspace.old entry.now)
+        (progress W.sink report.old) (progress W.sink report.new)
+        (I.reads image.old) (I.reads image.new) result }
     ensures leaves { LinesLeave geometry.now.layout (I.device image.old) (I.device image.new)
         workspace.old workspace.new texts.new.siblings result }
-    ensures counted { ReadsByLines geometry.now.layout (DirectoryContext geometry.now.layout
-        (I.device image.old).contents workspace.old entry.now.dir)
-        (λ b. plain_lines (volume_of geometry.now.layout b) workspace.old entry.now)
-        workspace.old workspace.new (I.reads image.old) (I.reads image.new) }
 {
     let verdict = verdict_of(workspace, entry.dir, &entry.entry);
     if is_silent(&verdict) {
@@ -394,18 +387,13 @@ pub fn report_extra<I: Image, W: Output>(
 ) -> Result<(), RunFault>
     requires { ReadyToPath geometry.now.layout (I.device image.old) workspace.old
         texts.old.siblings entry.now.dir }
-    ensures text { PhaseReports (KnowsPath geometry.now.layout (I.device image.old).contents
-        workspace.old entry.now.dir texts.old)
-        (λ b. map of_tree (extra_reported (volume_of geometry.now.layout b) entry.now))
-        (progress W.sink report.old) (progress W.sink report.new) result }
-    ensures path { KeepsPath geometry.now.layout (I.device image.old) workspace.old
-        entry.now.dir texts.old texts.new }
+    ensures lines { ReportsEntries geometry.now.layout (I.device image.old) workspace.old
+        workspace.new entry.now.dir texts.old texts.new
+        (λ v. extra_reported v entry.now)
+        (progress W.sink report.old) (progress W.sink report.new)
+        (I.reads image.old) (I.reads image.new) result }
     ensures leaves { LinesLeave geometry.now.layout (I.device image.old) (I.device image.new)
         workspace.old workspace.new texts.new.siblings result }
-    ensures counted { ReadsByLines geometry.now.layout (DirectoryContext geometry.now.layout
-        (I.device image.old).contents workspace.old entry.now.dir)
-        (λ b. extra_reported (volume_of geometry.now.layout b) entry.now)
-        workspace.old workspace.new (I.reads image.old) (I.reads image.new) }
 {
     let attr = gather_extra(geometry, image, workspace, texts, entry.dir)?;
     say_extra(report, attr, texts.directory.as_slice(), &entry.entry)?;

@@ -11,6 +11,7 @@ use Rattle.ffs_volume.specs.declared.Layout.{Layout}
 use Rattle.ffs_volume.specs.Directories.Parents.{graph_of}
 use Rattle.ffs_volume.specs.Directories.Roles.{is_dir, roled_entries}
 use Rattle.ffs_volume.specs.Directories.Volumes.{volume_of}
+use Rattle.ffs_volume.proofs.LevelLaws.{reached-level}
 use Rattle.ffs_survey.specs.ParentLaws.{parent_above, root_level}
 use Rattle.ffs_workspace.specs.Holds.{HoldsSurvey}
 use Rattle.ffs_workspace.specs.declared.workspace.Workspace.{Workspace}
@@ -21,7 +22,7 @@ use Rattle.ffs_paths.specs.Slashes.{AreSingle}
 use Rattle.ffs_paths.specs.declared.kept.DirectoryPath.{DirectoryPath}
 use Rattle.ffs_paths.specs.declared.siblings.Siblings.{Siblings}
 use Rattle.ffs_paths.proofs.Single.{down_single}
-use Rattle.ffs_paths.proofs.Ways.{down_is, level_of}
+use Rattle.ffs_paths.proofs.Ways.{down_is}
 
 -- s is the parent of the directory d, and the first entry of s that names d has its name
 pub record IsChild (v : Layout) (b : List ℕ) (d s : ℕ) : Type 0 where
@@ -31,7 +32,7 @@ pub record IsChild (v : Layout) (b : List ℕ) (d s : ℕ) : Type 0 where
 
 pub child_is : (v : Layout) (b : List ℕ) (d s : ℕ) → reached (graph_of (volume_of v b)) d ≡ true → d ≢ 2 →
     s ≡ unwrap_or (parent (graph_of (volume_of v b)) d) 0 → IsChild v b d s
-child_is v b d s h n e = let l = level_of g d h in go l.0 l.1
+child_is v b d s h n e = let l = reached-level g d h in go l.0 l.1
   where
     g : Graph
     g = graph_of (volume_of v b)

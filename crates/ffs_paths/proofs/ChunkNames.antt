@@ -7,6 +7,7 @@ use Rattle.std.specs.List.{list_any}
 use Rattle.std.proofs.lemmas.Bool.{and_parts, leb-true, not-true}
 use Rattle.std.proofs.lemmas.Bool.Decides.{nat_tests}
 use Rattle.std.proofs.lemmas.List.{length-take-le}
+use Rattle.std.proofs.lemmas.Option.{cond_some}
 use Rattle.ffs_volume.specs.declared.Order.{Order}
 use Rattle.ffs_volume.specs.declared.Role.{Role}
 use Rattle.ffs_volume.specs.declared.Role.TheVariants.{Empty, Dot, Dotdot, Extra, Plain}
@@ -107,17 +108,13 @@ name_some order chunk place size h live =
     piece_some m place n chunk size (not-true (m == 0) r.1) (leb-true (8 + (m + 4) / 4 * 4) n r.0)
     (leb-true (place + n) 512 q.1)
 
-if_some : (b : Bool) (x y : Entry) → (if b then Some x else None) ≡ Some y → (b ≡ true) × (x ≡ y)
-if_some true x y h = (refl, cc)
-if_some false x y h = absurd (cc)
-
 pub plain_named : (d : ℕ) (order : Order) (chunk : List ℕ) (index place : ℕ) (e : Entry) (role : Role) →
     length chunk ≡ 512 → entry_at order chunk place ≡ Some e → role ≡ role_of false index e
     → (is_plain role && (e.number == d)) ≡ true → 0 < length e.name
 unfolding entry_at entry_read
 plain_named d order chunk index place e role size there is this =
     let plain = and_parts (is_plain role) (e.number == d) this in
-    let s = if_some (is_well_formed order chunk place) (entry_read order chunk place) e there in
+    let s = cond_some (is_well_formed order chunk place) (entry_read order chunk place) e there in
     let live : (u32_at order place chunk == 0) ≡ false = not-true (u32_at order place chunk == 0)
     (ap (λ x. not (x.number == 0)) s.1 ∙ plain_live false index e (ap is_plain (sym is) ∙ plain.0)) in
     subst (λ name. 0 < length name)

@@ -1,6 +1,6 @@
 -- How far a climb to the root has come, and how often it has read.
-use Rattle.std.proofs.Common.{◌≡◌, ◌≢◌, ℕ, zero, suc, ◌+◌, ◌*◌, ◌<◌, ◌≤◌, false, List, [], ◌∷◌, length}
-use Rattle.std.proofs.Common.{Some, refl, sym, ap, subst, ◌∙◌, arith}
+use Rattle.std.proofs.Common.{◌≡◌, ◌≢◌, ℕ, zero, suc, ◌+◌, ◌*◌, ◌<◌, ◌≤◌, false, List, ◌∷◌, length}
+use Rattle.std.proofs.Common.{Some, sym, ap, subst, ◌∙◌, arith}
 use Rattle.std.specs.Prelude.{nat_lt, Option}
 use Rattle.std.proofs.lemmas.Bool.Decides.{nat_tests}
 use Rattle.ffs_volume.specs.Directories.Graph.{level}
@@ -8,6 +8,7 @@ use Rattle.ffs_volume.specs.Directories.Parents.{graph_of}
 use Rattle.ffs_volume.specs.Directories.Paths.{joined}
 use Rattle.ffs_volume.specs.Directories.Volumes.{volume_of}
 use Rattle.ffs_volume.specs.declared.Layout.{Layout}
+use Rattle.ffs_volume.proofs.LevelLaws.{reached-level}
 use Rattle.ffs_survey.specs.ParentLaws.{root_level}
 use Rattle.ffs_workspace.specs.Places.{AreNoted, IsNoted}
 use Rattle.ffs_workspace.specs.declared.workspace.Workspace.{Workspace}
@@ -16,7 +17,6 @@ use Rattle.ffs_paths.specs.Climbing.{IsParentOf}
 use Rattle.ffs_paths.specs.Reads.{KnowsPlaces, ReadsFew}
 use Rattle.ffs_paths.specs.declared.buffer.PathBuffer.{PathBuffer}
 use Rattle.ffs_paths.proofs.Ends.{joined-length}
-use Rattle.ffs_paths.proofs.Ways.{level_of}
 
 -- so many steps were climbed, with a read for each at most, and with a name for each that takes two bytes at least
 pub record HasClimbed (steps reads reads' : ℕ) (before after : Workspace) (p : PathBuffer) : Type 0 where
@@ -37,19 +37,6 @@ few_then one two =
 pub few_more : {m n reads reads' : ℕ} {w w' : Workspace} → ReadsFew m reads reads' w w' → m ≤ n →
     ReadsFew n reads reads' w w'
 few_more one l = let a = one.count in record { count = omega arith; blocks = one.blocks }
-
-pub few_none : {n reads : ℕ} {w : Workspace} → ReadsFew n reads reads w w
-few_none = record { count = omega arith; blocks = refl }
-
--- the climb begins
-pub climb_begins : (reads : ℕ) (w : Workspace) (p : PathBuffer) → HoldsNames p [] → HasClimbed 0 reads reads w w p
-climb_begins reads w p h = record {
-  few = few_none;
-  names = [];
-  held = h;
-  long = omega arith;
-  most = omega arith;
-}
 
 short_way : {steps reads reads' : ℕ} {w w' : Workspace} {p : PathBuffer} → HasClimbed steps reads reads' w w' p →
     p.cut ≡ false → steps + 1 ≤ 513
@@ -104,5 +91,5 @@ pub noted_child : (v : Layout) (contents : Option (List ℕ)) (b : List ℕ) (w 
     IsNoted v b w'.queue.items d
 noted_child v contents b w w' d s knows of lists =
     let below = of.below in
-    let l = level_of (graph_of (volume_of v b)) d (sym (knows.survey.reached d) ∙ of.reached) in
+    let l = reached-level (graph_of (volume_of v b)) d (sym (knows.survey.reached d) ∙ of.reached) in
     noted_here v b w w' l.0 d knows.places lists l.1 (omega arith)

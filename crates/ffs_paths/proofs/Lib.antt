@@ -7,6 +7,5 @@ pub mod Longer
 pub mod Prefixes
 pub mod Rooms
 pub mod Single
-pub mod Tails
 pub mod Ways
 pub mod Windows

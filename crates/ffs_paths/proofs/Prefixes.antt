@@ -11,7 +11,7 @@ use Rattle.ffs_paths.specs.Climbing.{in_room}
 use Rattle.ffs_paths.specs.DirectoryPaths.{IsPathOf}
 use Rattle.ffs_paths.specs.EntryPaths.{BeginsWith}
 use Rattle.ffs_paths.specs.declared.kept.DirectoryPath.{DirectoryPath}
-use Rattle.ffs_paths.proofs.Tails.{entry-whole}
+use Rattle.ffs_paths.proofs.Ends.{entry-whole}
 use Rattle.ffs_paths.proofs.Ways.{entry_is}
 
 -- a name is written after it

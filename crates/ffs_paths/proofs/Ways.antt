@@ -1,15 +1,14 @@
 -- The way from a directory up to the root.
 use Rattle.std.proofs.Common.{◌≡◌, ◌≢◌, ℕ, zero, suc, ◌+◌, ◌<◌, ◌==◌, true, false, List, [], ◌∷◌, ◌++◌}
 use Rattle.std.proofs.Common.{Option, Some, None, refl, sym, ap, subst, ◌∙◌, arith, append-nil, append_assoc}
-use Rattle.std.specs.Prelude.{◌*◌, is_some, cond, option_and_then}
+use Rattle.std.specs.Prelude.{◌*◌, cond, option_and_then}
 use Rattle.std.specs.List.{list_any}
 use Rattle.std.proofs.lemmas.Bool.{both_ways, and_parts, ne_eqb, cond-false, eq-eqb}
 use Rattle.ffs_volume.specs.declared.Layout.{Layout}
 use Rattle.ffs_volume.specs.Directories.Roles.{RoledEntry}
 use Rattle.ffs_volume.specs.Directories.Volumes.{volume_of, volume_with}
-use Rattle.ffs_volume.specs.Directories.Graph.{Graph, level, reached, is_naming_entry, is_naming_dir, parent}
-use Rattle.ffs_volume.specs.Directories.Graph.{parent_entry_index}
-use Rattle.ffs_volume.specs.Directories.Graph.{index_in_parent, first_index}
+use Rattle.ffs_volume.specs.Directories.Graph.{Graph, level, is_naming_entry, is_naming_dir, parent}
+use Rattle.ffs_volume.specs.Directories.Graph.{parent_entry_index, index_in_parent, first_index}
 use Rattle.ffs_volume.proofs.LevelLaws.{level-some, within-zero}
 use Rattle.ffs_volume.specs.Directories.Parents.{nth_roled, graph_of}
 use Rattle.ffs_volume.specs.Directories.Paths.{joined, names_down, names_by_parent, name_of, path_names}
@@ -43,16 +42,6 @@ pub record IsOnWay (g : Graph) (k d at step : ℕ) (p : PathBuffer) : Type 0 whe
   pub following : List (List ℕ)
   pub held : HoldsNames p following
   pub whole : names_down g left at ++ following ≡ names_down g k d
-
-pub way_starts : (g : Graph) (k d : ℕ) (p : PathBuffer) → level g d ≡ Some k → HoldsNames p [] → IsOnWay g k d d 0 p
-way_starts g k d p l h = record {
-  left = k;
-  level = l;
-  steps = omega arith;
-  following = [];
-  held = h;
-  whole = append-nil (names_down g k d);
-}
 
 -- a path that is cut holds any names above, too
 pub cut_holds : (p : PathBuffer) (above names : List (List ℕ)) → p.cut ≡ true → HoldsNames p names →
@@ -143,34 +132,20 @@ count_is v b = refl
 
 -- what holds of the path of a directory: of one that is reached by all names that its buffer may hold, and of one that
 -- isn't
-pub by_names : (g : Graph) (d : ℕ) (p : DirectoryPath) (P : Option (List (List ℕ)) → Type 0) → IsPathOf g d p →
-    p.reached ≡ true → ((names : List (List ℕ)) → HoldsNames p.names names → AreSingle names → P (Some names))
-    → P (path_names g d)
-by_names g d p P h r f = go (path_names g d) h
+pub by_path : (g : Graph) (d : ℕ) (p : DirectoryPath) (P : Option (List (List ℕ)) → Type 0) → IsPathOf g d p
+    → (p.reached ≡ true → (names : List (List ℕ)) → HoldsNames p.names names → AreSingle names → P (Some names))
+    → (p.reached ≡ false → P None) → P (path_names g d)
+by_path g d p P h some none = go (path_names g d) h
   where
     go : (o : Option (List (List ℕ))) → HoldsPath p o → P o
-    go None k = absurd (both_ways _ k r)
-    go (Some names) k = f names k.1 k.2
-
-pub by_none : (g : Graph) (d : ℕ) (p : DirectoryPath) (P : Option (List (List ℕ)) → Type 0) → IsPathOf g d p →
-    p.reached ≡ false → P None → P (path_names g d)
-by_none g d p P h r f = go (path_names g d) h
-  where
-    go : (o : Option (List (List ℕ))) → HoldsPath p o → P o
-    go None k = f
-    go (Some names) k = absurd (both_ways _ r k.0)
+    go None k = none k
+    go (Some names) k = some k.0 names k.1 k.2
 
 pub entry_is : (g : Graph) (d : ℕ) (name : List ℕ) (p : DirectoryPath) (text : List ℕ) → IsPathOf g d p →
     p.reached ≡ true
     → ((names : List (List ℕ)) → HoldsNames p.names names → AreSingle names → text ≡ path_bytes (names ++ name ∷ [])) →
     text ≡ in_room (entry_path g d name)
 unfolding entry_path
-entry_is g d name p text h r f = by_names g d p (λ o. text ≡ in_room (entry_path_of_names name o)) h r
-    (λ names held single. f names held single ∙ fits _ (path_text-fits (names ++ name ∷ [])))
-
-pub level_of : (g : Graph) (d : ℕ) → reached g d ≡ true → (k : ℕ) × (level g d ≡ Some k)
-level_of g d h = go (level g d) refl h
-  where
-    go : (o : Option ℕ) → level g d ≡ o → is_some o ≡ true → (k : ℕ) × (level g d ≡ Some k)
-    go (Some k) e s = (k, e)
-    go None e s = absurd (cc)
+entry_is g d name p text h r f = by_path g d p (λ o. text ≡ in_room (entry_path_of_names name o)) h
+    (λ _ names held single. f names held single ∙ fits _ (path_text-fits (names ++ name ∷ [])))
+    (λ n. absurd (both_ways _ n r))

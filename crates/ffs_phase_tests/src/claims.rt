@@ -115,6 +115,22 @@ fn check_blocks<I: Image, W: Output>(
     Ok(())
 }
 
+/// What the block check prints.
+fn printed<I: Image>(
+    geometry: &Geometry,
+    image: &mut I,
+    workspace: &mut Workspace,
+    alloc: Global,
+) -> Result<Vec<u8>, RunFault>
+    requires { IsReady geometry.now.layout (I.device image.old) workspace.old }
+{
+    let mut text = Vec::new(alloc);
+    let mut out = Counted::new(&mut text);
+    let mut report = Report::new(&mut out);
+    check_blocks(geometry, image, workspace, &mut report)?;
+    Ok(text)
+}
+
 /// What the block check of an image gives, and how many Runs its two looks see.
 fn checked<I: Image>(
     geometry: &Geometry,
@@ -124,12 +140,10 @@ fn checked<I: Image>(
     requires { geometry.now.layout.size * geometry.now.layout.fsize ≤ (I.device image.old).size }
 {
     let mut workspace = Workspace::new(alloc, geometry)?;
-    let mut text = Vec::new(alloc);
-    let mut out = Counted::new(&mut text);
-    let mut report = Report::new(&mut out);
-    check_blocks(geometry, image, &mut workspace, &mut report)?;
+    let text = printed(geometry, image, &mut workspace, alloc);
     let runs = workspace.runs();
-    Ok((text, runs))
+    drop(workspace);
+    Ok((text?, runs))
 }
 
 /// The same of the image with these words, and how many reads it makes.

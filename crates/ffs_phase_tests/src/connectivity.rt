@@ -2,11 +2,13 @@
 
 ghost use Rattle.std.specs.Prelude.{◌≡◌, ℕ, List, Option, IfOk};
 ghost use Rattle.ffs_workspace.specs.Lengths.{IsFor, HoldWindows, inodes_of};
+ghost use Rattle.ffs_workspace.specs.Ready.{IsReady};
 
 use crate::compare::same;
 use ffs_connectivity::phase3;
+use ffs_image::Image;
 use ffs_layout::{Geometry, Order};
-use ffs_report::{Counted, Report};
+use ffs_report::{Counted, Report, RunFault};
 use ffs_samples::{Number, geometry, image_of, set_first, set_first_filled};
 use ffs_workspace::Workspace;
 use std::alloc::{AllocError, Global};
@@ -35,17 +37,31 @@ const LOST: [Number; 4] = [
     (29168, 4, 7),
 ];
 
-/// What the connectivity check prints of them, and whether it found a defect.
-fn reported(alloc: Global) -> Result<(Vec<u8>, bool), Fail> {
-    let geometry = geometry(Order::Little)?;
-    let mut workspace = surveyed(alloc, &geometry)?;
-    let mut image = image_of(Order::Little, &LOST, alloc)?;
+/// What the connectivity check prints, and whether it found a defect.
+fn printed<I: Image>(
+    geometry: &Geometry,
+    image: &mut I,
+    workspace: &mut Workspace,
+    alloc: Global,
+) -> Result<(Vec<u8>, bool), RunFault>
+    requires { IsReady geometry.now.layout (I.device image.old) workspace.old }
+{
     let mut text = Vec::new(alloc);
     let mut out = Counted::new(&mut text);
     let mut report = Report::new(&mut out);
-    phase3(&geometry, &mut image, &mut workspace, &mut report)?;
+    phase3(geometry, image, workspace, &mut report)?;
     let defect = report.any_defect();
     Ok((text, defect))
+}
+
+/// The same of these directories.
+fn reported(alloc: Global) -> Result<(Vec<u8>, bool), Fail> {
+    let geometry = geometry(Order::Little)?;
+    let mut image = image_of(Order::Little, &LOST, alloc)?;
+    let mut workspace = surveyed(alloc, &geometry)?;
+    let found = printed(&geometry, &mut image, &mut workspace, alloc);
+    drop(workspace);
+    Ok(found?)
 }
 
 #[test]

@@ -53,16 +53,30 @@ const INODES: [Number; 10] = [
     (29570, 2, 1),
 ];
 
-/// What the reference check prints of them.
-fn reported(alloc: Global) -> Result<Vec<u8>, Fail> {
-    let geometry = geometry(Order::Big)?;
-    let mut workspace = referred(alloc, &geometry)?;
-    let mut image = image_of(Order::Big, &INODES, alloc)?;
+/// What the reference check prints.
+fn printed<I: Image>(
+    geometry: &Geometry,
+    image: &mut I,
+    workspace: &mut Workspace,
+    alloc: Global,
+) -> Result<Vec<u8>, RunFault>
+    requires { IsReady geometry.now.layout (I.device image.old) workspace.old }
+{
     let mut text = Vec::new(alloc);
     let mut out = Counted::new(&mut text);
     let mut report = Report::new(&mut out);
-    phase4(&geometry, &mut image, &mut workspace, &mut report)?;
+    phase4(geometry, image, workspace, &mut report)?;
     Ok(text)
+}
+
+/// The same of these inodes.
+fn reported(alloc: Global) -> Result<Vec<u8>, Fail> {
+    let geometry = geometry(Order::Big)?;
+    let mut image = image_of(Order::Big, &INODES, alloc)?;
+    let mut workspace = referred(alloc, &geometry)?;
+    let text = printed(&geometry, &mut image, &mut workspace, alloc);
+    drop(workspace);
+    Ok(text?)
 }
 
 #[test]
@@ -125,6 +139,22 @@ fn check_groups<I: Image, W: Output>(
     summary(superblock, workspace, report)
 }
 
+/// What they print.
+fn groups_printed<I: Image>(
+    superblock: &Super,
+    image: &mut I,
+    workspace: &mut Workspace,
+    alloc: Global,
+) -> Result<Vec<u8>, RunFault>
+    requires { IsReady superblock.now.geometry.layout (I.device image.old) workspace.old }
+{
+    let mut text = Vec::new(alloc);
+    let mut out = Counted::new(&mut text);
+    let mut report = Report::new(&mut out);
+    check_groups(superblock, image, workspace, &mut report)?;
+    Ok(text)
+}
+
 /// What they print of the root's volume with one number more, where the superblock counts this many
 /// free fragments.
 fn counted(fragments: i32, number: Number, alloc: Global) -> Result<Vec<u8>, Fail> {
@@ -137,11 +167,9 @@ fn counted(fragments: i32, number: Number, alloc: Global) -> Result<Vec<u8>, Fai
     };
     let mut image = volume_with(&ROOT, number, alloc)?;
     let mut workspace = Workspace::new(alloc, &superblock.geometry)?;
-    let mut text = Vec::new(alloc);
-    let mut out = Counted::new(&mut text);
-    let mut report = Report::new(&mut out);
-    check_groups(&superblock, &mut image, &mut workspace, &mut report)?;
-    Ok(text)
+    let text = groups_printed(&superblock, &mut image, &mut workspace, alloc);
+    drop(workspace);
+    Ok(text?)
 }
 
 /// The headings of the two phases, the lines of defects, and the last line.

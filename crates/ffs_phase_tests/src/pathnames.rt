@@ -38,16 +38,21 @@ fn named(label: Label, suspect: bool, extraneous: bool, kind: bool) -> Verdict {
     })
 }
 
-#[test]
-fn entries_of_the_root(rt: HostRuntime) -> Result<(), Fail> {
-    let parents = numbers(&PARENTS, rt.alloc())?;
+/// The verdict on an entry of the root of this number and type, before any is passed.
+fn verdict_on(number: u32, kind: u8, alloc: Global) -> Result<Verdict, AllocError> {
+    let parents = numbers(&PARENTS, alloc)?;
     let inodes = Inodes {
         kinds: &KINDS,
         marked: &MARKED,
         parents: &parents,
     };
-    let passed = [false; 9];
-    let words = numbers(&[0, 0, 0, 0, due(0), 0, due(0), 0, 0], rt.alloc())?;
+    let words = numbers(&[0, 0, 0, 0, due(0), 0, due(0), 0, 0], alloc)?;
+    let entry = entry(number, kind);
+    Ok(entry_verdict(&inodes, 2, &[false; 9], &words, &entry))
+}
+
+#[test]
+fn entries_of_the_root(rt: HostRuntime) -> Result<(), Fail> {
     let cases = [
         (9, 8, Verdict::OutOfRange),
         (u32::MAX, 14, Verdict::OutOfRange),
@@ -63,9 +68,9 @@ fn entries_of_the_root(rt: HostRuntime) -> Result<(), Fail> {
         (6, 4, named(Label::Dir, true, false, false)),
         (7, 8, named(Label::Name, false, false, false)),
     ];
-    for (number, kind, want) in cases {
-        let verdict = entry_verdict(&inodes, 2, &passed, &words, &entry(number, kind));
-        assert_eq!(rt; verdict, want, "inode {number}, type {kind}");
+    for (number, kind, wanted) in cases {
+        let verdict = verdict_on(number, kind, rt.alloc())?;
+        same(&rt, &(number, kind, verdict), &(number, kind, wanted));
     }
     Ok(())
 }

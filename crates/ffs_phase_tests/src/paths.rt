@@ -1,68 +1,69 @@
 //! Paths about the limit of 1,024 bytes.
+
+use crate::compare::same;
 use ffs_paths::{DirectoryPath, PathBuffer, PathText};
 
-fn written(path: &PathBuffer) -> PathText {
+/// The text of the path that these names make, each put before those that come before it here.
+fn written(names: &[&[u8]]) -> PathText {
+    let mut path = PathBuffer::new();
+    for name in names {
+        path.push_front(name);
+    }
     let mut text = PathText::new();
     path.put(&mut text);
     text
 }
 
+/// How many bytes that path has, and whether it begins with these.
+fn begins(names: &[&[u8]], start: &[u8]) -> (usize, bool) {
+    let text = written(names);
+    (text.len(), text.as_slice().starts_with(start))
+}
+
 #[test]
 fn cuts_what_has_no_room(rt: HostRuntime) {
-    let name = [b'a'; 255];
-    let mut path = PathBuffer::new();
-    path.push_front(&name);
-    path.push_front(&name);
-    path.push_front(&name);
-    assert_eq!(rt; written(&path).len(), 768);
-    path.push_front(&name);
-    let whole = written(&path);
-    assert_eq!(rt; whole.len(), 1024);
-    assert!(rt; whole.as_slice().starts_with(b"/a"));
-    path.push_front(&name);
-    let cut = written(&path);
-    assert_eq!(rt; cut.len(), 769);
-    assert!(rt; cut.as_slice().starts_with(b"?/a"));
-    path.push_front(b"b");
-    assert_eq!(rt; written(&path).as_slice(), cut.as_slice());
+    let long = [b'a'; 255];
+    let name = long.as_slice();
+    same(&rt, &begins(&[name; 3], b"/a"), &(768, true));
+    same(&rt, &begins(&[name; 4], b"/a"), &(1024, true));
+    same(&rt, &begins(&[name; 5], b"?/a"), &(769, true));
+    let more = written(&[name, name, name, name, name, b"b"]);
+    same(&rt, &more.as_slice(), &written(&[name; 5]).as_slice());
 }
 
 #[test]
 fn puts_names_in_front(rt: HostRuntime) {
-    let mut path = PathBuffer::new();
-    assert_eq!(rt; written(&path).as_slice(), b"/".as_slice());
-    path.push_front(b"group");
-    path.push_front(b"etc");
-    assert_eq!(rt; written(&path).as_slice(), b"/etc/group".as_slice());
+    same(&rt, &written(&[]).as_slice(), &b"/".as_slice());
+    let names = [b"group".as_slice(), b"etc"];
+    same(&rt, &written(&names).as_slice(), &b"/etc/group".as_slice());
 }
 
-fn entry_written(path: &DirectoryPath, name: &[u8]) -> PathText {
+/// How many bytes the path of an entry has whose name is this many times `a`, and whether it begins
+/// with these, in a directory that is reached or not and has this path.
+fn entry_begins(reached: bool, names: &[&[u8]], length: usize, start: &[u8]) -> (usize, bool) {
+    let mut path = DirectoryPath {
+        reached,
+        names: PathBuffer::new(),
+    };
+    for name in names {
+        path.names.push_front(name);
+    }
     let mut text = PathText::new();
-    path.put_entry(name, &mut text);
-    text
+    path.put_entry(&[b'a'; 1024][..length.min(1024)], &mut text);
+    (text.len(), text.as_slice().starts_with(start))
 }
 
 #[test]
 fn drops_a_name_that_has_no_room(rt: HostRuntime) {
-    let name = [b'a'; 1024];
-    let mut path = DirectoryPath {
-        reached: false,
-        names: PathBuffer::new(),
-    };
-    let lost = entry_written(&path, &name[..1022]);
-    assert_eq!(rt; lost.len(), 1024);
-    assert!(rt; lost.as_slice().starts_with(b"?/a"));
-    assert_eq!(rt;
-        entry_written(&path, &name[..1023]).as_slice(),
-        b"?".as_slice()
-    );
-    path.reached = true;
-    let whole = entry_written(&path, &name[..1023]);
-    assert_eq!(rt; whole.len(), 1024);
-    assert!(rt; whole.as_slice().starts_with(b"/a"));
-    assert_eq!(rt; entry_written(&path, &name).as_slice(), b"?".as_slice());
-    path.names.push_front(b"b");
-    let cut = entry_written(&path, &name[..1022]);
-    assert_eq!(rt; cut.len(), 1024);
-    assert!(rt; cut.as_slice().starts_with(b"?/a"));
+    let cases: [(bool, &[&[u8]], usize, &[u8], usize); 5] = [
+        (false, &[], 1022, b"?/a", 1024),
+        (false, &[], 1023, b"?", 1),
+        (true, &[], 1023, b"/a", 1024),
+        (true, &[], 1024, b"?", 1),
+        (true, &[b"b"], 1022, b"?/a", 1024),
+    ];
+    for (reached, names, length, start, written) in cases {
+        let found = entry_begins(reached, names, length, start);
+        same(&rt, &found, &(written, true));
+    }
 }

@@ -4,7 +4,9 @@
 ghost use Rattle.std.specs.Prelude.{◌≡◌, ℕ, List, Option, IfOk};
 ghost use Rattle.ffs_workspace.specs.Lengths.{IsFor, HoldWindows, inodes_of};
 
+use crate::compare::same;
 use ffs_layout::{Geometry, Order};
+use ffs_memory::FilledList;
 use ffs_names::note_places;
 use ffs_samples::{Number, geometry, image_of, inode};
 use ffs_volume::Class;
@@ -56,32 +58,35 @@ const NUMBERS: [Number; 19] = [
     (42502, 4, 0x0063_0104),
 ];
 
-/// The chunks that are noted of inodes 2 to 5, and whether a word is due.
+/// The chunks that are noted in the words of inodes 2 to 5, and whether one of them is due.
+fn noted_in(words: &FilledList<u32>) -> ([Option<u32>; 4], bool) {
+    let mut places = [None; 4];
+    let mut due = false;
+    for (place, inode) in places.iter_mut().zip([2, 3, 4, 5]) {
+        if inode < words.len() {
+            let word = words[inode];
+            *place = place_in(word);
+            due |= is_due(word);
+        }
+    }
+    (places, due)
+}
+
+/// The same of the volume.
 fn noted(alloc: Global) -> Result<([Option<u32>; 4], bool), Fail> {
     let geometry = geometry(Order::Little)?;
-    let mut workspace = surveyed(alloc, &geometry)?;
     let mut image = image_of(Order::Little, &NUMBERS, alloc)?;
-    note_places(&geometry, &mut image, &mut workspace)?;
-    let words = [
-        workspace.queue[2],
-        workspace.queue[3],
-        workspace.queue[4],
-        workspace.queue[5],
-    ];
-    let due = is_due(words[0]) || is_due(words[1]) || is_due(words[2]) || is_due(words[3]);
-    let places = [
-        place_in(words[0]),
-        place_in(words[1]),
-        place_in(words[2]),
-        place_in(words[3]),
-    ];
-    Ok((places, due))
+    let mut workspace = surveyed(alloc, &geometry)?;
+    let read = note_places(&geometry, &mut image, &mut workspace);
+    let found = noted_in(&workspace.queue);
+    drop(workspace);
+    read?;
+    Ok(found)
 }
 
 #[test]
 fn notes_places_of_parent_entries(rt: HostRuntime) -> Result<(), Fail> {
-    let (places, due) = noted(rt.alloc())?;
-    assert!(rt; !due);
-    assert_eq!(rt; places, [None, Some(80), None, Some(83)]);
+    let wanted = ([None, Some(80), None, Some(83)], false);
+    same(&rt, &noted(rt.alloc())?, &wanted);
     Ok(())
 }

@@ -13,7 +13,7 @@
 use Rattle.std.proofs.Common.{◌≡◌, refl, ◌∙◌, sym, ap, subst, ℕ, List, [], ◌++◌, append_assoc, append-nil, Result, Ok}
 use Rattle.std.proofs.Common.{Err}
 use Rattle.ffs_volume.specs.Messages.Kinds.{Message}
-use Rattle.ffs_report.specs.Progress.{Progress, Said, Stopped, Says}
+use Rattle.ffs_report.specs.Progress.{Progress, Said, Stopped}
 use Rattle.ffs_report.proofs.Reports.{said_none, said_then, stopped_after, stopped_more}
 use Rattle.ffs_report.specs.Known.{ForBytes}
 use Rattle.ffs_report.specs.Runs.{SaidTo, SaidOf, SaidPrefixOf, StoppedOf, PhaseReports}

@@ -1,16 +1,12 @@
 -- How a report continues. (For the layers above.)
-use Rattle.std.proofs.Common.{◌≡◌, inl, inr, refl, ◌∙◌, sym, ap, List, [], ◌∷◌, ◌++◌, append_assoc, Bool, true, false}
+use Rattle.std.proofs.Common.{◌≡◌, inl, inr, refl, ◌∙◌, sym, ap, List, [], ◌∷◌, ◌++◌, append_assoc}
 use Rattle.std.proofs.Common.{◌||◌, Result, Ok, Err}
 use Rattle.std.proofs.lemmas.List.Concat.{flat_map-append}
-use Rattle.std.proofs.Math.Bool.{or_assoc}
+use Rattle.std.proofs.Math.Bool.{or_assoc, or-false}
 use Rattle.ffs_volume.specs.Messages.Kinds.{Message, is_defect, has_defect}
 use Rattle.ffs_volume.specs.Messages.Texts.{text_of, texts_of}
 use Rattle.ffs_report.specs.Progress.{Progress, Said, Stopped, Says}
 use Rattle.ffs_report.proofs.Sinks.{Appends-then, took_nil, took_then}
-
-or_false : (a : Bool) → (a || false) ≡ a
-or_false true = refl
-or_false false = refl
 
 pub has_defect-append : (xs ys : List Message) → has_defect (xs ++ ys) ≡ (has_defect xs || has_defect ys)
 has_defect-append [] ys = refl
@@ -18,7 +14,7 @@ has_defect-append (x ∷ xs) ys = ap (λ b. is_defect x || b) (has_defect-append
     ∙ sym (or_assoc (is_defect x) (has_defect xs) (has_defect ys))
 
 pub said_none : (a : Progress) → Said a a []
-said_none a = record { output = refl; took = took_nil a.sink; failed = refl; defect = sym (or_false a.defect) }
+said_none a = record { output = refl; took = took_nil a.sink; failed = refl; defect = sym (or-false a.defect) }
 
 pub said_then : (a b c : Progress) (xs ys : List Message) → Said a b xs → Said b c ys → Said a c (xs ++ ys)
 said_then a b c xs ys p q = record {

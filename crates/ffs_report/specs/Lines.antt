@@ -3,11 +3,11 @@ use Rattle.ffs_volume.specs.Messages.Kinds.{Message, location, opening, bad_supe
 use Rattle.ffs_volume.specs.Messages.Kinds.{optimization, minfree, mounted, phase1, phase1b, phase2, phase3}
 use Rattle.ffs_volume.specs.Messages.Kinds.{phase4, phase5, of_blocks, of_tree, summary, TreeMessage}
 use Rattle.ffs_volume.specs.Messages.Kinds.{root_none, root_not_dir, root_suspect, dir_short, dir_length}
-use Rattle.ffs_volume.specs.Messages.Kinds.{dir_gap, dir_corrupt, missing_dot, missing_dot_first}
+use Rattle.ffs_volume.specs.Messages.Kinds.{dir_empty, dir_corrupt, missing_dot, missing_dot_first}
 use Rattle.ffs_volume.specs.Messages.Kinds.{number_dot, kind_dot, missing_dotdot, missing_dotdot_second}
 use Rattle.ffs_volume.specs.Messages.Kinds.{number_dotdot, kind_dotdot, extra_dot, extra_dotdot, out_of_range}
 use Rattle.ffs_volume.specs.Messages.Kinds.{whiteout, unallocated, dup_bad, zero_dir, extraneous, kind_entry}
-use Rattle.ffs_volume.specs.Messages.Kinds.{unref_dir, dead_marked, dead_zero, unref, unref_unlinked, link_count}
+use Rattle.ffs_volume.specs.Messages.Kinds.{unref_dir, dead_marked, dead_zero, unref, unref_zero, link_count}
 use Rattle.ffs_report.specs.declared.line.Line.{Line}
 use Rattle.ffs_report.specs.declared.line.Line.TheVariants.{Location, Opening, BadSuper, CannotRead, CannotAlloc}
 use Rattle.ffs_report.specs.declared.line.Line.TheVariants.{Optimization, Minfree, Mounted, Heading, Block}
@@ -42,7 +42,7 @@ directory_message RootNotDir = root_not_dir
 directory_message RootSuspect = root_suspect
 directory_message (DirShort attr path) = dir_short attr path.now
 directory_message (DirLength path size) = dir_length path.now size
-directory_message (DirEmpty path) = dir_gap path.now
+directory_message (DirEmpty path) = dir_empty path.now
 directory_message (DirCorrupt attr path) = dir_corrupt attr path.now
 
 abbrev pub dot_message : DotLine → TreeMessage
@@ -71,7 +71,7 @@ reference_message (UnrefDir attr) = unref_dir attr
 reference_message (DeadMarked label attr) = dead_marked label attr
 reference_message (DeadZero attr) = dead_zero attr
 reference_message (Unref label attr) = unref label attr
-reference_message (UnrefZero label attr) = unref_unlinked label attr
+reference_message (UnrefZero label attr) = unref_zero label attr
 reference_message (LinkCount label attr count right) = link_count label attr count right
 
 abbrev pub message_of : Line → Message

@@ -4,7 +4,8 @@ use Rattle.std.specs.Prelude.{IsErr, OnErr}
 use Rattle.std.specs.Bool.{OnTrue}
 use Rattle.std.specs.Borrow.{GName}
 use Rattle.std.specs.Io.KnownBytes.{Appends}
-use Rattle.ffs_report.specs.Sink.{Sink, Took, Rose}
+use Rattle.ffs_image.specs.Device.{Rose}
+use Rattle.ffs_report.specs.Sink.{Sink, Took}
 use Rattle.ffs_volume.specs.Messages.Kinds.{Message, has_defect}
 use Rattle.ffs_volume.specs.Messages.Texts.{texts_of}
 use Rattle.ffs_report.specs.declared.report.Report.{Report}

@@ -20,7 +20,7 @@ pub record IsSilenced {S T E : Type 0} (old new : SilentWriter S) (result : Resu
 
 -- a write of len bytes lessens what a fuse still passes on by what it took, and with nothing left it is an error that
 -- no writer below is asked for
-pub record Burns {S E : Type 0} (old new : FuseWriter S) (len : ℕ) (result : Result ℕ E) : Type 0 where
+pub record BurnsAtWrite {S E : Type 0} (old new : FuseWriter S) (len : ℕ) (result : Result ℕ E) : Type 0 where
   pub left : MatchResult result (λ n. new.left + n ≡ old.left) (λ _. new.left ≡ old.left)
   pub blown : old.left ≡ 0 → 0 < len → IsErr result
   pub shut : old.left ≡ 0 → new ≡ old

@@ -1,12 +1,14 @@
 //! A writer that is silent after its first failure.
-ghost use Rattle.std.specs.Prelude.{◌≡◌, ◌↔◌, ◌<◌, length, false, IfOk, IsTrue};
+ghost use Rattle.std.specs.Prelude.{◌≡◌, ◌<◌, length, false, IfOk};
 ghost use Rattle.std.specs.Bool.{OnFalse};
 ghost use Rattle.std.specs.Io.{WritesAtMost};
 ghost use Rattle.std.specs.Io.KnownBytes.{WriteAppends, Keeps};
-ghost use Rattle.ffs_report.specs.Outlet.{IsInterrupted, IsTriedAgain, WritesThrough};
+ghost use Rattle.ffs_image.specs.Interrupted.{IsTriedAgain};
+ghost use Rattle.ffs_report.specs.Outlet.{WritesThrough};
 ghost use Rattle.ffs_report.specs.Writers.{IsSilenced};
 
 use crate::outlet::Outlet;
+use ffs_image::is_interrupted;
 use std::io;
 use std::io::{ErrorKind, Write};
 
@@ -43,16 +45,6 @@ impl<S: Outlet> SilentWriter<S> {
 /// The error of each call after a failure.
 fn silence() -> io::Error {
     io::Error::from(ErrorKind::BrokenPipe)
-}
-
-/// Whether a signal interrupted the write that has this answer.
-fn is_interrupted(answer: &io::Result<usize>) -> bool
-    ensures { IsTrue result ↔ IsInterrupted answer.now }
-{
-    match answer {
-        Ok(_) => false,
-        Err(error) => error.kind() == ErrorKind::Interrupted,
-    }
 }
 
 /// One write, tried again where a signal interrupts it.

@@ -59,8 +59,8 @@ comes_after a c r r' p p' q new h = record {
 }
 
 -- an empty slice of the queue
-pub no_front : (low high : ℕ) (q : List ℕ) → high ≤ low → drop low (take high q) ≡ []
-no_front low high q h = grind (arith, common_steps)
+pub empty_level : (low high : ℕ) (q : List ℕ) → high ≤ low → drop low (take high q) ≡ []
+empty_level low high q h = grind (arith, common_steps)
 
 -- what is after the level, and the level
 pub queue_parts : (low high : ℕ) (q : List ℕ) → low ≤ high → take high q ≡ take low q ++ drop low (take high q)

@@ -70,13 +70,13 @@ fn mark_from(
     leaders: &mut [bool],
 )
     requires walk { CanFollow parents.now.items stamp.old.items start }
-    requires marks { MarksLeaders (up_of parents.now.items) (length parents.now.items) stamp.old.items
-        leaders.old }
+    requires marks { MarksLeaders (up_of parents.now.items) (length parents.now.items)
+        stamp.old.items leaders.old }
     ensures walked { Walked (up_of parents.now.items) start (start + 1) stamp.old.items
         stamp.new.items }
     ensures stamps_long { vec_len stamp.new ≡ vec_len stamp.old }
-    ensures marks { MarksLeaders (up_of parents.now.items) (length parents.now.items) stamp.new.items
-        leaders.new }
+    ensures marks { MarksLeaders (up_of parents.now.items) (length parents.now.items)
+        stamp.new.items leaders.new }
 {
     let Some(found) = walk(start, parents, stamp) else {
         return;

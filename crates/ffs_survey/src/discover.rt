@@ -51,14 +51,14 @@ fn count_entry(entry: Named, kinds: &[u8], references: &mut FilledList<u64>, nam
 }
 
 /// Whether a number is that of a directory that isn't reached yet.
-pub fn is_free(lists: &Lists<'_>, number: usize) -> bool
+pub fn is_free(lists: &Lists, number: usize) -> bool
     ensures { result ≡ is_free_at lists.now.kinds.now lists.now.reached.now number }
 {
     is_dir(lists.kinds, number) && !lists.reached[number]
 }
 
 /// Whether an entry is plain and names a directory that isn't reached yet.
-fn is_new(entry: Named, lists: &Lists<'_>) -> bool
+fn is_new(entry: Named, lists: &Lists) -> bool
     ensures { result ≡ (is_plain_role entry.role
         && is_free_at lists.now.kinds.now lists.now.reached.now entry.number) }
 {
@@ -67,7 +67,7 @@ fn is_new(entry: Named, lists: &Lists<'_>) -> bool
 
 /// Discovers what an entry of the directory `from` names: flags it as reached, gives it its parent
 /// and puts it into the queue.
-fn visit(entry: Named, from: u32, lists: &mut Lists<'_>, top: usize) -> usize
+fn visit(entry: Named, from: u32, lists: &mut Lists, top: usize) -> usize
     requires { HasRoomAfter top lists.old }
     ensures top { result + unset lists.new.reached.now ≡ top + unset lists.old.reached.now }
     ensures comes { Comes (from_entries lists.old.kinds.now from (roled_of entry [] ∷ []))
@@ -102,7 +102,7 @@ fn is_calm_kind(kind: u8, reached: bool) -> bool
 }
 
 /// Whether nothing can be reported of a plain entry.
-fn is_calm_plain(entry: Named, lists: &Lists<'_>) -> bool
+fn is_calm_plain(entry: Named, lists: &Lists) -> bool
     ensures { result ≡ is_calm_plain lists.now.kinds.now lists.now.marked.now
         (bool_at lists.now.reached.now) entry.number entry.kind }
 {
@@ -117,7 +117,7 @@ fn is_calm_plain(entry: Named, lists: &Lists<'_>) -> bool
 
 /// Whether nothing can be reported of the entry at an index of the directory `from`, whose parent
 /// is `above`.
-fn is_calm(entry: Named, index: u32, from: u32, above: u32, lists: &Lists<'_>) -> bool
+fn is_calm(entry: Named, index: u32, from: u32, above: u32, lists: &Lists) -> bool
     ensures { result ≡ is_calm_entry (sight_in lists.now from above) (bool_at lists.now.reached.now)
         index (roled_of entry []) }
 {
@@ -164,7 +164,7 @@ fn flag_calm<D: Directories>(
 fn read_reached<D: Directories>(
     directories: &mut D,
     from: u32,
-    lists: &mut Lists<'_>,
+    lists: &mut Lists,
     top: usize,
 ) -> Result<usize, ImageFault>
     requires ready { D.ready directories.old }
@@ -202,7 +202,7 @@ fn read_reached<D: Directories>(
 /// A read of the image that failed.
 pub fn read_level<D: Directories>(
     directories: &mut D,
-    lists: &mut Lists<'_>,
+    lists: &mut Lists,
     low: usize,
     high: usize,
 ) -> Result<usize, ImageFault>
@@ -235,7 +235,7 @@ pub fn read_level<D: Directories>(
 
 /// Gives the parent `from` to what an entry of this directory names: a directory that isn't reached
 /// and has no parent yet.
-fn adopt(entry: Named, from: u32, lists: &mut Lists<'_>)
+fn adopt(entry: Named, from: u32, lists: &mut Lists)
     ensures parent { (x : ℕ) → x < length lists.old.kinds.now
         → number_at lists.new.parents.now.items x
         ≡ cond ((number_at lists.old.parents.now.items x == 0)
@@ -263,7 +263,7 @@ fn adopt(entry: Named, from: u32, lists: &mut Lists<'_>)
 pub fn read_unreached<D: Directories>(
     directories: &mut D,
     from: u32,
-    lists: &mut Lists<'_>,
+    lists: &mut Lists,
 ) -> Result<(), ImageFault>
     requires ready { D.ready directories.old }
     requires counts { CountsAtMost (2 ^ 60) lists.old }

@@ -20,6 +20,6 @@ mod unref;
 pub use cycles::mark_leaders;
 pub use directories::Directories;
 pub use levels::survey;
-pub use lists::{Lists, Surveyed};
+pub use lists::Surveyed;
 pub use named::{Named, is_dir, is_plain};
 pub use unref::{is_dead, is_suspect, is_unref};

@@ -6,23 +6,23 @@ use ffs_memory::FilledList;
 /// The lists that a survey goes by and fills, lent together. Each has a place for every inode, and
 /// inode 2 is there; numbers of inodes and places in the queue fit into 31 bits.
 #[derive(Drop)]
-pub struct Lists<'a> {
+pub struct Lists<'kinds, 'marked, 'named, 'reached, 'calm, 'lists> {
     /// What each inode is: 4 for a directory with a size, 5 for one of size 0.
-    pub kinds: &'a [u8],
+    pub kinds: &'kinds [u8],
     /// Whether each inode is marked.
-    pub marked: &'a [bool],
+    pub marked: &'marked [bool],
     /// How many entries refer to each inode, counted on from where the list starts.
-    pub references: &'a mut FilledList<u64>,
+    pub references: &'lists mut FilledList<u64>,
     /// Whether a plain entry names each inode.
-    pub named: &'a mut [bool],
+    pub named: &'named mut [bool],
     /// Whether each inode is reached from inode 2.
-    pub reached: &'a mut [bool],
+    pub reached: &'reached mut [bool],
     /// The parent of each directory, 0 for none.
-    pub parents: &'a mut FilledList<u32>,
+    pub parents: &'lists mut FilledList<u32>,
     /// Whether each inode is a directory of which nothing can be reported.
-    pub calm: &'a mut [bool],
+    pub calm: &'calm mut [bool],
     /// The directories that are reached, level after level.
-    pub queue: &'a mut FilledList<u32>,
+    pub queue: &'lists mut FilledList<u32>,
     ghost long: { AreLists kinds.now marked.now references.now.items named.now reached.now parents.now.items calm.now queue.now.items },
 }
 

@@ -2,7 +2,10 @@
 
 ghost use Rattle.std.specs.Prelude.{None, ⊤};
 
-use ffs_image::{FileImage, Image, ImageFault, RawFile, RawImage, System};
+use crate::compare::same;
+use crate::image::{read_within, two_bytes};
+use ffs_image::{Image, ImageFault, RawFile, RawImage, System};
+use std::alloc::Global;
 use std::io::ErrorKind;
 use std::test::Fail;
 use std::{fs, io};
@@ -67,35 +70,53 @@ impl System for Letters {
     }
 }
 
-#[test]
-fn an_interrupted_read_is_tried_again(rt: HostRuntime) -> Result<(), Fail> {
+/// What is found of the letters from 1 on where each second read is interrupted: how many there
+/// are, what came of a read of three, these three, how many reads failed, and the sector of the
+/// last one that did.
+type ThreeLetters = (u64, Option<Result<(), ImageFault>>, [u8; 3], [u64; 2]);
+
+fn interrupted() -> Result<ThreeLetters, Fail> {
     let system = Letters {
         fifo: false,
         kind: ErrorKind::Interrupted,
     };
     let mut image = RawImage::open(&system, "letters")?;
-    assert!(rt; image.size() == 4);
     let mut found = [0u8; 3];
-    image.read_at(1, &mut found)?;
-    assert_eq!(rt; found, *b"bcd");
-    assert_eq!(rt; (image.failures(), image.failed()), (0, 0));
-    Ok(())
+    let read = read_within(&mut image, 1, &mut found);
+    let failures = [image.failures(), image.failed()];
+    Ok((image.size(), read, found, failures))
 }
 
 #[test]
-fn a_read_that_fails_is_not_tried_again(rt: HostRuntime) -> Result<(), Fail> {
+fn an_interrupted_read_is_tried_again(rt: HostRuntime) -> Result<(), Fail> {
+    let wanted = (4, Some(Ok(())), *b"bcd", [0, 0]);
+    same(&rt, &interrupted()?, &wanted);
+    Ok(())
+}
+
+/// What is found of the letters where each second read fails: how many there are, how many reads
+/// failed after the first one, and how many letters there are then; what came of two reads of the
+/// letter at 1, and that letter.
+type OneLetter = ([u64; 3], [Option<Result<(), ImageFault>>; 2], u8);
+
+fn failing() -> Result<OneLetter, Fail> {
     let system = Letters {
         fifo: false,
         kind: ErrorKind::Other,
     };
     let mut image = RawImage::open(&system, "letters")?;
-    assert!(rt; image.size() == 4);
+    let size = image.size();
     let mut found = [0u8; 1];
-    assert_eq!(rt; image.read_at(1, &mut found), Err(ImageFault { sector: 0 }));
-    assert_eq!(rt; image.failures(), 1);
-    assert!(rt; image.size() == 4);
-    image.read_at(1, &mut found)?;
-    assert_eq!(rt; found, *b"b");
+    let first = read_within(&mut image, 1, &mut found);
+    let counts = [size, image.failures(), image.size()];
+    let second = read_within(&mut image, 1, &mut found);
+    Ok((counts, [first, second], found[0]))
+}
+
+#[test]
+fn a_read_that_fails_is_not_tried_again(rt: HostRuntime) -> Result<(), Fail> {
+    let failed = Some(Err(ImageFault { sector: 0 }));
+    same(&rt, &failing()?, &([4, 1, 4], [failed, Some(Ok(()))], b'b'));
     Ok(())
 }
 
@@ -105,24 +126,27 @@ fn a_fifo_is_not_opened(rt: HostRuntime) -> Result<(), Fail> {
         fifo: true,
         kind: ErrorKind::Other,
     };
-    assert!(rt; RawImage::open(&system, "letters").is_err());
+    same(&rt, &RawImage::open(&system, "letters").is_err(), &true);
     Ok(())
+}
+
+/// A name of 4,000 bytes.
+fn long_name(alloc: Global) -> Result<String, Fail> {
+    let mut name = String::new(alloc);
+    for _ in 0..1990 {
+        name.push_str("./")?;
+    }
+    name.push_str(LONG)?;
+    Ok(name)
 }
 
 #[test]
 fn a_name_of_4000_bytes_is_opened(rt: HostRuntime) -> Result<(), Fail> {
     fs::write(&rt, LONG, [7u8; 512].as_slice())?;
-    let mut name = String::new(rt.alloc());
-    for _ in 0..1990 {
-        name.push_str("./")?;
-    }
-    name.push_str(LONG)?;
-    assert_eq!(rt; name.len(), 4000);
-    let mut image = FileImage::open(&rt, name.as_str())?;
-    assert!(rt; image.size() == 512);
-    let mut found = [0u8; 1];
-    image.read_at(511, &mut found)?;
-    assert_eq!(rt; found, [7]);
+    let name = long_name(rt.alloc())?;
+    let found = two_bytes(&rt, name.as_str(), 510)?;
+    same(&rt, &name.len(), &4000);
+    same(&rt, &found, &(512, [7; 2], Some(Ok(()))));
     fs::remove_file(&rt, LONG)?;
     Ok(())
 }

@@ -94,7 +94,11 @@ fn fuses_fail_their_reads(rt: HostRuntime) -> Result<(), Fail> {
 }
 
 /// What comes of a read, or nothing where the image is too small for it.
-fn read_within<I: Image>(image: &mut I, at: u64, buf: &mut [u8]) -> Option<Result<(), ImageFault>> {
+pub fn read_within<I: Image>(
+    image: &mut I,
+    at: u64,
+    buf: &mut [u8],
+) -> Option<Result<(), ImageFault>> {
     let size = image.size();
     if size < at || size - at < buf.len() as u64 {
         return None;
@@ -140,9 +144,9 @@ fn file_reads(rt: HostRuntime) -> Result<(), Fail> {
 }
 
 /// The size of a file's image, two of its bytes, and what came of the read of them.
-type TwoBytes = (u64, [u8; 2], Option<Result<(), ImageFault>>);
+pub type TwoBytes = (u64, [u8; 2], Option<Result<(), ImageFault>>);
 
-fn two_bytes<R: Files<File = File>>(files: &R, name: &str, at: u64) -> Result<TwoBytes, Fail> {
+pub fn two_bytes<R: Files<File = File>>(files: &R, name: &str, at: u64) -> Result<TwoBytes, Fail> {
     let mut image = FileImage::open(files, name)?;
     let mut found = [0u8; 2];
     let read = read_within(&mut image, at, &mut found);

@@ -112,23 +112,34 @@ fn many_inodes(alloc: Global) -> Result<MemoryImage, AllocError> {
     Ok(MemoryImage::new(bytes))
 }
 
-#[test]
-fn more_inodes_than_16_bits(rt: HostRuntime) -> Result<(), Fail> {
+/// How a check of it ends, what it prints, and how many bytes were granted and requests refused.
+fn many_checked(alloc: Global) -> Result<(End, Vec<u8>, [u64; 2]), AllocError> {
     let args = Args {
         name: "t.img",
         sector: None,
     };
-    let mut memory = SystemMemory::new(rt.alloc());
-    let mut image = many_inodes(rt.alloc())?;
-    let mut text = Vec::new(rt.alloc());
+    let mut memory = SystemMemory::new(alloc);
+    let mut image = many_inodes(alloc)?;
+    let mut text = Vec::new(alloc);
     let end = check_in(&mut memory, &mut image, &args, &mut Counted::new(&mut text));
-    assert_eq!(rt; end, End::RootStop);
-    assert!(rt; text.as_slice().ends_with(NO_ROOT));
-    assert_eq!(rt; memory.granted(), MANY_HELD);
-    assert_eq!(rt; memory.refused(), 0);
-    let mut list = memory.numbers(INODES as usize)?;
-    list.set(INODES as usize - 1, 7);
-    assert_eq!(rt; (list[0], list[INODES as usize - 1]), (0, 7));
+    Ok((end, text, [memory.granted(), memory.refused()]))
+}
+
+/// The first and the last of as many numbers, once the last one is set.
+fn many_numbers(alloc: Global) -> Result<[u32; 2], AllocError> {
+    let last = INODES as usize - 1;
+    let mut list = SystemMemory::new(alloc).numbers(INODES as usize)?;
+    list.set(last, 7);
+    Ok([list[0], list[last]])
+}
+
+#[test]
+fn more_inodes_than_16_bits(rt: HostRuntime) -> Result<(), Fail> {
+    let (end, text, counts) = many_checked(rt.alloc())?;
+    same(&rt, &end, &End::RootStop);
+    same(&rt, &text.ends_with(NO_ROOT), &true);
+    same(&rt, &counts, &[MANY_HELD, 0]);
+    same(&rt, &many_numbers(rt.alloc())?, &[0, 7]);
     Ok(())
 }
 

@@ -11,19 +11,19 @@ use Rattle.ffs_volume.specs.Disk.Outcome.{outcome_in, outcome_of, outcome}
 use Rattle.ffs_volume.proofs.GeometryLaws.{geometry_holds}
 use Rattle.ffs_volume.specs.Laws.Accepted.{FitsImage, AcceptedFit}
 
-judged_ok : (fault : Option SuperFault) (agrees : Bool) (super s : Superblock) → super_verdict fault agrees super ≡ Ok s
+super_verdict-ok : (fault : Option SuperFault) (agrees : Bool) (super s : Superblock) → super_verdict fault agrees super ≡ Ok s
     → (fault ≡ None) × (super ≡ s)
 unfolding super_verdict
-judged_ok (Some fault) agrees super s e = absurd (cc)
-judged_ok None true super s e = (refl, cc)
-judged_ok None false super s e = absurd (cc)
+super_verdict-ok (Some fault) agrees super s e = absurd (cc)
+super_verdict-ok None true super s e = (refl, cc)
+super_verdict-ok None false super s e = absurd (cc)
 
 super_layout : (image : List ℕ) (sector : Option ℕ) (bytes : List ℕ) (order : Option Order) (s : Superblock) →
     outcome_of image sector bytes order ≡ Ok s → FitsImage s.layout (length image)
 unfolding outcome_of outcome_in superblock_of
 super_layout image sector bytes None s e = absurd (cc)
 super_layout image sector bytes (Some order) s e =
-    let p = judged_ok (layout_fault (layout_of order bytes) (length image)) (copy_agrees image sector order bytes)
+    let p = super_verdict-ok (layout_fault (layout_of order bytes) (length image)) (copy_agrees image sector order bytes)
     (superblock_of order bytes) s e in
     let g = geometry_holds (layout_of order bytes) (length image) p.0 in
     subst (λ v. FitsImage v (length image)) (ap (λ q. q.layout) p.1) (record { geometry = g.0; inside = g.1 })

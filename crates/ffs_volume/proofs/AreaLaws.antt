@@ -1,13 +1,14 @@
 -- Laws of the areas of an accepted layout.
 use Rattle.std.proofs.Common.{zero, suc, inl, inr, ◌≡◌, ◌∙◌, ℕ, ◌+◌, ◌-◌, ◌*◌, ◌/◌, ◌<◌, ◌≤◌, Bool, true, false, arith}
 use Rattle.std.proofs.Common.{refl, sym}
-use Rattle.std.proofs.Math.Nat.{div-eq_of_lt-le, mul-le-mul_right, mul_comm, div-add-mod', mod-lt}
+use Rattle.std.proofs.Math.Nat.{div-eq_of_lt-le, mul-le-mul_right, mul_comm}
 use Rattle.std.specs.Int.{div_ceil}
 use Rattle.ffs_volume.specs.Disk.Outcome.{copy_place}
 use Rattle.std.proofs.lemmas.Nat.{div_below}
 use Rattle.std.specs.Prelude.{nat_lt, nat_le, ◌&&◌, ◌||◌}
 use Rattle.std.proofs.lemmas.Bool.{cases_lt}
 use Rattle.std.proofs.lemmas.Bool.Decides.{nat_tests}
+use Rattle.std.proofs.lemmas.Grind.{div_ceil_times}
 use Rattle.ffs_volume.specs.declared.Layout.{Layout}
 use Rattle.ffs_volume.specs.Disk.Search.{first_below, some_below}
 use Rattle.ffs_volume.proofs.SearchLaws.{some_below-suc}
@@ -38,16 +39,16 @@ group_is v c f low high = div-eq_of_lt-le {k = c} v.fpg {m = f} (omega (arith, m
     (omega (arith, mul_comm (c + 1) v.fpg))
 
 -- whether f is in the metadata of group c
-abbrev pub in_kept : Layout → ℕ → ℕ → Bool
-in_kept v c f = nat_le (cgsblock v c) f && nat_lt f (cgdmin v c)
+abbrev pub is_in_metadata_of : Layout → ℕ → ℕ → Bool
+is_in_metadata_of v c f = nat_le (cgsblock v c) f && nat_lt f (cgdmin v c)
 
--- only a fragment's own group can keep it
-pub is_kept_group : (v : Layout) (f : ℕ) → IsAcceptedLayout v →
-    is_group_metadata v f ≡ (nat_lt (f / v.fpg) v.ncg && in_kept v (f / v.fpg) f)
+-- a fragment can be metadata of its own group alone
+pub is_metadata_of_group : (v : Layout) (f : ℕ) → IsAcceptedLayout v →
+    is_group_metadata v f ≡ (nat_lt (f / v.fpg) v.ncg && is_in_metadata_of v (f / v.fpg) f)
 unfolding is_group_metadata cgstart
-is_kept_group v f g = some_below-only v.ncg (f / v.fpg) (λ c. in_kept v c f) only
+is_metadata_of_group v f g = some_below-only v.ncg (f / v.fpg) (λ c. is_in_metadata_of v c f) only
   where
-    only : (c : ℕ) → c < v.ncg → in_kept v c f ≡ true → c ≡ f / v.fpg
+    only : (c : ℕ) → c < v.ncg → is_in_metadata_of v c f ≡ true → c ≡ f / v.fpg
     only c h e =
         let group = g.groups c h in
         let low : cgsblock v c ≤ f = grind (arith, nat_tests) in
@@ -61,26 +62,22 @@ group_below v f g h = div_below f v.fpg v.ncg (omega arith) (omega arith)
 pub inode_group : (v : Layout) (x : ℕ) → IsAcceptedLayout v → x < v.ncg * v.ipg → x / v.ipg < v.ncg
 inode_group v x g h = div_below x v.ipg v.ncg (omega arith) h
 
--- whole units cover what they are counted from
-div_ceil_covers : (a b : ℕ) → 0 < b → a ≤ div_ceil a b * b
-div_ceil_covers a b h = grind (arith, div-add-mod' a b, mod-lt a h)
-
 -- the last copy of the superblock is in the volume
 pub copy_inside : (v : Layout) → IsAcceptedLayout v → copy_place v + 1376 ≤ v.size * v.fsize
 copy_inside v g =
     let group = g.groups (v.ncg - 1) (omega arith) in
     let units = div_ceil v.sbsize v.fsize in
-    let covered : v.sbsize ≤ div_ceil v.sbsize v.fsize * v.fsize = div_ceil_covers v.sbsize v.fsize (omega arith) in
+    let covered : v.sbsize ≤ div_ceil v.sbsize v.fsize * v.fsize = (div_ceil_times v.sbsize v.fsize (omega arith)).0 in
     let ends : cgsblock v (v.ncg - 1) + div_ceil v.sbsize v.fsize ≤ v.size = omega arith in
     let scaled : (cgsblock v (v.ncg - 1) + div_ceil v.sbsize v.fsize) * v.fsize ≤ v.size * v.fsize =
     mul-le-mul_right v.fsize ends in
     omega arith
 
--- no fragment from size on is kept
-pub kept_below : (v : Layout) (f : ℕ) → IsAcceptedLayout v → v.size ≤ f → is_group_metadata v f ≡ false
-kept_below v f g h = rw (is_kept_group v f g) (away (nat_lt (f / v.fpg) v.ncg) refl)
+-- no fragment from size on is a group's metadata
+pub no_metadata_past_size : (v : Layout) (f : ℕ) → IsAcceptedLayout v → v.size ≤ f → is_group_metadata v f ≡ false
+no_metadata_past_size v f g h = rw (is_metadata_of_group v f g) (away (nat_lt (f / v.fpg) v.ncg) refl)
   where
-    away : (b : Bool) → nat_lt (f / v.fpg) v.ncg ≡ b → (b && in_kept v (f / v.fpg) f) ≡ false
+    away : (b : Bool) → nat_lt (f / v.fpg) v.ncg ≡ b → (b && is_in_metadata_of v (f / v.fpg) f) ≡ false
     away false e = refl
     away true e =
         let lt : f / v.fpg < v.ncg = grind (arith, nat_tests) in

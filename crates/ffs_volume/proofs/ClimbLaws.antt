@@ -132,11 +132,11 @@ is_leader_within-true f n d h =
     }
 
 -- the steps from d continue
-pub goes_on : (f : ℕ → Option ℕ) (p : ℕ → Bool) (n d : ℕ) → StaysBelow f p n → p d ≡ true → (k : ℕ) →
+pub climb_continues : (f : ℕ → Option ℕ) (p : ℕ → Bool) (n d : ℕ) → StaysBelow f p n → p d ≡ true → (k : ℕ) →
     (s : ℕ) × (climb f k d ≡ Some s) × (p s ≡ true)
-goes_on f p n d g h zero = (d, climb-zero f d, h)
-goes_on f p n d g h (suc k) =
-    let a = goes_on f p n d g h k in
+climb_continues f p n d g h zero = (d, climb-zero f d, h)
+climb_continues f p n d g h (suc k) =
+    let a = climb_continues f p n d g h k in
     let b = g.next a.0 a.2 in
     (b.0, climb-suc f k d a.0 a.1 ∙ b.1, b.2)
 
@@ -144,9 +144,9 @@ goes_on f p n d g h (suc k) =
 pub cycle_above : (f : ℕ → Option ℕ) (p : ℕ → Bool) (n d : ℕ) → StaysBelow f p n → p d ≡ true → (x : ℕ) × (p x ≡ true)
     × ((c : IsOnCycle f x) × (c.length < n))
 cycle_above f p n d g h =
-    let r = pigeon n (λ k. (goes_on f p n d g h k).0) (λ i l. let a = goes_on f p n d g h i in g.below a.0 a.2) in
-    let a = goes_on f p n d g h r.first in
-    let b = goes_on f p n d g h r.second in
+    let r = pigeon n (λ k. (climb_continues f p n d g h k).0) (λ i l. let a = climb_continues f p n d g h i in g.below a.0 a.2) in
+    let a = climb_continues f p n d g h r.first in
+    let b = climb_continues f p n d g h r.second in
     let o : r.first < r.second = r.ordered in
     let u : r.second ≤ n = r.bounded in
     let q : suc (r.second - suc r.first) + r.first ≡ r.second = omega arith in (
@@ -174,7 +174,7 @@ leader_on f p n x g h c l =
     let w = some_below-gives t n (some_below-from t n x (g.below x h) z) in
     let v = some_below-gives (λ k. is_value (climb f k x) w.0) n w.1.passes in
     let at : climb f v.0 x ≡ Some w.0 = is_value-true _ w.0 v.1.passes in
-    let a = goes_on f p n x g h v.0 in
+    let a = climb_continues f p n x g h v.0 in
     let same : Some a.0 ≡ Some w.0 = sym a.1 ∙ at in
     let eq : a.0 ≡ w.0 = cc in
     let d : IsOnCycle f w.0 = cycle-along f v.0 x w.0 c at in
@@ -184,7 +184,7 @@ leader_on f p n x g h c l =
           let far : climb f (k + v.0) x ≡ Some s = climb-add f k v.0 x w.0 at ∙ e in
           let near = cycle-within f (k + v.0) x s c far in
           let lt : near.0 < n = (let q = near.1 in omega arith) in
-          let b = goes_on f p n x g h near.0 in
+          let b = climb_continues f p n x g h near.0 in
           let bs : Some b.0 ≡ Some s = sym b.1 ∙ near.2 in
           let be : b.0 ≡ s = cc in
           elim (cases_lt s w.0) [

@@ -14,7 +14,7 @@ use Rattle.ffs_volume.specs.Directories.PathnameCheck.{named_lines, plain_lines,
 use Rattle.ffs_volume.specs.Directories.PathnameCheck.{sized_dir_lines, pathname_lines}
 use Rattle.ffs_volume.specs.Directories.Connectivity.{connectivity_lines}
 use Rattle.ffs_volume.specs.Directories.ReferenceCheck.{inode_lines, reference_lines}
-use Rattle.ffs_volume.specs.Examples.Images.{bytes_in, word, zeros, root_chunk}
+use Rattle.ffs_volume.specs.Examples.Images.{bytes_in, word, zero_bytes, root_chunk}
 use Rattle.ffs_volume.specs.Examples.DirectoryExamples.{
   entry_bytes,
   with_second_entry,
@@ -23,13 +23,13 @@ use Rattle.ffs_volume.specs.Examples.DirectoryExamples.{
   dots,
   whole_chunk,
 }
-use Rattle.ffs_volume.specs.Examples.DirectoryExamples.{class_in, small, about, alone, lost_entries, below_entries}
+use Rattle.ffs_volume.specs.Examples.DirectoryExamples.{class_with_dirs_below, small, about, alone, lost_entries, below_entries}
 use Rattle.ffs_volume.specs.Examples.DirectoryExamples.{lost_cycle, twice_entries, twice, sub_entries, sub, empty_dir}
 use Rattle.ffs_volume.specs.Examples.DirectoryExamples.{dead_entries, dead_parent, sized, long_name, EntryExamples}
 use Rattle.ffs_volume.specs.Examples.DirectoryExamples.{PathnameExamples, ReferenceExamples}
 
 pub entry_examples : EntryExamples
-unfolding bytes_in word zeros root_chunk entry_bytes with_second_entry entry two_chunks number u16_at u32_at
+unfolding bytes_in word zero_bytes root_chunk entry_bytes with_second_entry entry two_chunks number u16_at u32_at
     is_well_formed
     entry_read entry_at entries_from role_of
 entry_examples = record {
@@ -63,7 +63,7 @@ entry_examples = record {
 }
 
 pub pathname_examples : PathnameExamples
-unfolding entry dots whole_chunk class_in small about alone lost_entries below_entries lost_cycle twice_entries twice
+unfolding entry dots whole_chunk class_with_dirs_below small about alone lost_entries below_entries lost_cycle twice_entries twice
     sub_entries sub empty_dir dead_entries dead_parent sized long_name role_of roled_from roled_entries start_entry dot
     dotdot first_below earliest climb within level parent longest_end path_bytes names_down dir_path entry_path
     lines_below attributes root_lines shape_lines dot_lines dotdot_lines named_lines plain_lines entry_lines
@@ -94,7 +94,7 @@ pathname_examples = record {
 }
 
 pub reference_examples : ReferenceExamples
-unfolding entry dots whole_chunk class_in small about alone lost_entries below_entries lost_cycle twice_entries twice
+unfolding entry dots whole_chunk class_with_dirs_below small about alone lost_entries below_entries lost_cycle twice_entries twice
     empty_dir dead_entries dead_parent role_of roled_from roled_entries references_below first_below earliest climb
     within
     level parent lines_below attributes connectivity_lines inode_lines reference_lines

@@ -1,8 +1,8 @@
 -- Laws of `specs/Disk/Geometry`.
-use Rattle.std.proofs.Common.{zero, suc, inl, inr, ◌≡◌, ℕ, ◌*◌, ◌<◌, ◌≤◌, Bool, true, false, cond, Option, Some, None}
+use Rattle.std.proofs.Common.{◌≡◌, ℕ, ◌*◌, ◌≤◌, Bool, true, false, cond, Option, Some, None}
 use Rattle.std.proofs.Common.{ℤ, pos, negsuc, arith, refl}
 use Rattle.std.specs.Prelude.{nat_lt, ◌==◌, not}
-use Rattle.std.proofs.lemmas.Bool.{cases_lt, and_parts}
+use Rattle.std.proofs.lemmas.Bool.{and_parts}
 use Rattle.std.proofs.lemmas.Bool.Decides.{nat_tests}
 use Rattle.ffs_volume.specs.declared.Layout.{Layout}
 use Rattle.ffs_volume.specs.Disk.Numbers.{zero_if_negative, is_nonnegative, all_below}
@@ -11,6 +11,7 @@ use Rattle.ffs_volume.specs.Disk.Outcome.{is_block_size, is_fragment_size, is_fr
 use Rattle.ffs_volume.specs.Disk.Outcome.{has_valid_numbers, has_valid_parts, has_valid_cylinders, has_valid_group}
 use Rattle.ffs_volume.specs.Disk.Outcome.{has_valid_summary_area, is_valid_layout, layout_fault}
 use Rattle.ffs_volume.specs.Laws.Geometry.{HasSizes, HasNumbers, HasParts, HasGroup, HasSummaryArea, IsAcceptedLayout}
+use Rattle.ffs_volume.proofs.Below.{all_below-at}
 
 -- no fault, so neither this one nor a later one
 pub no_fault : {X : Type 0} (b : Bool) (x : X) (rest : Option X) → cond (not b) (Some x) rest ≡ None → (b ≡ true)
@@ -106,18 +107,8 @@ summary_holds v e = record {
   summary_in_size = grind (arith, nat_tests);
 }
 
--- what passes below n passes at each
-pub all_below-at : (n i : ℕ) (test : ℕ → Bool) → all_below n test ≡ true → i < n → test i ≡ true
-unfolding all_below
-all_below-at zero i test all h = absurd (omega arith)
-all_below-at (suc n) i test all h =
-    let both = and_parts (test n) (all_below n test) all in
-    elim (cases_lt i n) [
-      | inl less ↦ all_below-at n i test both.1 less
-      | inr more ↦ let same : n ≡ i = omega arith in rw (← same) both.0
-    ]
-
-shape_holds : (v : Layout) → is_valid_layout v ≡ true → (has_valid_sizes v ≡ true) × (has_valid_numbers v ≡ true)
+-- what the shape of an accepted layout is made of
+pub shape_holds : (v : Layout) → is_valid_layout v ≡ true → (has_valid_sizes v ≡ true) × (has_valid_numbers v ≡ true)
     × (has_valid_parts v ≡ true) × (all_below v.ncg (has_valid_group v) ≡ true) × (has_valid_summary_area v ≡ true)
 unfolding is_valid_layout
 shape_holds v e =

@@ -7,7 +7,7 @@ use Rattle.ffs_volume.specs.Disk.Search.{some_below}
 use Rattle.ffs_volume.proofs.SearchLaws.{is_some-value, some_below-gives, some_below-from, first_below-is}
 use Rattle.ffs_volume.proofs.SearchLaws.{first_below-some}
 use Rattle.ffs_volume.proofs.Pigeon.{pigeon}
-use Rattle.ffs_volume.specs.Directories.Graph.{Graph, within, level, edge, reached}
+use Rattle.ffs_volume.specs.Directories.Graph.{Graph, within, level, edge, reached, parent}
 use Rattle.ffs_volume.specs.Laws.Levels.{IsLevel}
 
 pub within-suc : (v : Graph) (k d : ℕ) →
@@ -119,3 +119,7 @@ reached-edge v s d a b h e =
 
 pub reached-root : (v : Graph) → 2 < v.count → reached v 2 ≡ true
 reached-root v l = reached-from v 0 2 l (within-zero v 2 ∙ eq-eqb 2 2 refl)
+
+pub parent-root : (v : Graph) → parent v 2 ≡ Some 2
+unfolding parent
+parent-root v = refl

@@ -30,3 +30,9 @@ pub mod Graphs
 pub mod ReplayIsKeeping
 pub mod ReplayLaws
 pub mod AcceptedLaws
+pub mod Below
+pub mod OwnerLaws
+pub mod Silence
+pub mod Booleans
+pub mod RoleLaws
+pub mod Results

@@ -1,12 +1,8 @@
 -- How the lines of numbers in ascending order continue.
-use Rattle.std.proofs.Common.{◌≡◌, ℕ, zero, suc, ◌+◌, ◌-◌, ◌<◌, ◌≤◌, List, [], ◌∷◌, ◌++◌, map, append_assoc, append-nil, length}
+use Rattle.std.proofs.Common.{◌≡◌, ℕ, zero, suc, ◌+◌, ◌-◌, ◌<◌, ◌≤◌, List, [], ◌++◌, map, append_assoc, append-nil, length}
 use Rattle.std.proofs.Common.{refl, ap, ◌∙◌, sym, arith}
-use Rattle.std.proofs.lemmas.List.{length-append}
-use Rattle.ffs_volume.specs.Messages.Kinds.{Message, TreeMessage, of_tree, lines_below, lines_from}
-
-pub names_append : (xs ys : List TreeMessage) → map of_tree (xs ++ ys) ≡ map of_tree xs ++ map of_tree ys
-names_append [] ys = refl
-names_append (x ∷ xs) ys = ap (λ (zs : List Message). of_tree x ∷ zs) (names_append xs ys)
+use Rattle.std.proofs.lemmas.List.{length-append, map-append}
+use Rattle.ffs_volume.specs.Messages.Kinds.{TreeMessage, of_tree, lines_below, lines_from}
 
 -- those below d + k are those below d and the k from d on
 pub below_and_from : (lines : ℕ → List TreeMessage) (k d : ℕ) → lines_below lines (d + k) ≡ lines_below lines d
@@ -49,7 +45,7 @@ from_next lines d n h =
     let q : n - d ≡ suc (n - (d + 1)) = omega arith in
     let r : suc d ≡ d + 1 = omega arith in
     ap (λ (k : ℕ). map of_tree (lines_from lines d k)) q
-    ∙ names_append (lines d) (lines_from lines (suc d) (n - (d + 1)))
+    ∙ map-append of_tree (lines d) (lines_from lines (suc d) (n - (d + 1)))
     ∙ ap (λ (e : ℕ). map of_tree (lines d) ++ map of_tree (lines_from lines e (n - (d + 1)))) r
 
 -- how many these are

@@ -11,13 +11,13 @@ use Rattle.ffs_volume.specs.Disk.Outcome.{has_valid_group, has_valid_summary_are
 use Rattle.ffs_volume.specs.Disk.Outcome.{copy_agrees, outcome, outcome_in, outcome_of}
 use Rattle.ffs_volume.specs.Report.Opening.{setting_lines}
 use Rattle.ffs_volume.specs.Messages.Shown.{octal}
-use Rattle.ffs_volume.specs.Examples.Images.{bytes_in, word, zeros, base_layout, base_superblock, base_super}
+use Rattle.ffs_volume.specs.Examples.Images.{bytes_in, word, zero_bytes, base_layout, base_superblock, base_super}
 use Rattle.ffs_volume.specs.Examples.Images.{base_summary, base_group, root_inode, root_chunk, base_image, changed}
 use Rattle.ffs_volume.specs.Examples.Images.{image_of, fault_of, two_groups}
 use Rattle.ffs_volume.specs.Examples.OpeningExamples.{SuperblockExamples, AreaExamples, OpeningExamples}
 
 pub superblock_examples : SuperblockExamples
-unfolding bytes_in word zeros base_layout base_superblock base_super base_summary base_group root_inode root_chunk
+unfolding bytes_in word zero_bytes base_layout base_superblock base_super base_summary base_group root_inode root_chunk
     base_image changed image_of fault_of number u32_at i32_at count_at layout_of layout_fault is_valid_layout
     has_valid_sizes is_block_size is_fragment_size is_fragment_count has_valid_cylinders has_valid_numbers
     has_valid_parts
@@ -73,7 +73,7 @@ area_examples = record {
 }
 
 pub opening_examples : OpeningExamples
-unfolding bytes_in word zeros base_layout base_superblock base_super base_summary base_group root_inode root_chunk
+unfolding bytes_in word zero_bytes base_layout base_superblock base_super base_summary base_group root_inode root_chunk
     base_image two_groups number u32_at i32_at count_at layout_of layout_fault is_valid_layout has_valid_sizes
     is_block_size is_fragment_size is_fragment_count has_valid_cylinders has_valid_numbers has_valid_parts
     has_valid_group

@@ -11,7 +11,6 @@ use Rattle.ffs_volume.specs.declared.Step.{Step}
 use Rattle.ffs_volume.specs.declared.Step.TheVariants.{Run, Tail, Gap}
 use Rattle.ffs_volume.specs.Disk.Areas.{is_fragment_in_range, is_run_in_range}
 use Rattle.ffs_volume.specs.Laws.Geometry.{IsAcceptedLayout}
-use Rattle.ffs_volume.proofs.GeometryLaws.{all_below-at}
 use Rattle.ffs_volume.specs.Blocks.Inodes.{inode_of}
 use Rattle.ffs_volume.specs.Laws.RunLengths.{HasLength}
 use Rattle.ffs_volume.specs.Blocks.Steps.{steps_of}
@@ -20,6 +19,7 @@ use Rattle.ffs_volume.specs.Blocks.Owners.{owner_of}
 use Rattle.ffs_volume.specs.Blocks.Claims.{Claims, at_next_inode, is_set, is_open, after_offer, after_offers, after_run}
 use Rattle.ffs_volume.specs.Blocks.Claims.{after_step, after_steps, after_owner}
 use Rattle.ffs_volume.specs.Laws.ClaimBounds.{potential, offers_potential, ClaimBound}
+use Rattle.ffs_volume.proofs.Below.{all_below-at}
 
 -- a fact of a choice of two, by cases
 pub cond_holds : {A : Type 0} (P : A → Type 0) (b : Bool) (x y : A) → (b ≡ true → P x) → (b ≡ false → P y) →
@@ -98,7 +98,7 @@ offer_few_kept v s f h =
       most = omega arith;
     })
 
--- an ok offer that is kept weighs
+-- an offer in range that is kept raises the potential
 offer_few_runs : (v : Layout) (s : Claims) (f : ℕ) → length s.used ≡ v.size → nat_lt s.dups 11 ≡ true →
     is_fragment_in_range v f ≡ true →
     potential s + 1 ≤ potential (after_offer v s f)
@@ -109,7 +109,7 @@ offer_few_runs v s f h more_dups ok =
     (λ set. omega arith)
     (λ clear. omega (arith, count_set s.used f below clear)))
 
--- and weighs as much as it is kept
+-- and an offer in range is kept no more often than it raises the potential of kept offers
 offer_level : (v : Layout) (s : Claims) (f : ℕ) → length s.used ≡ v.size → is_fragment_in_range v f ≡ true →
     (after_offer v s f).kept + offers_potential s ≤ s.kept + offers_potential (after_offer v s f)
 offer_level v s f h ok =

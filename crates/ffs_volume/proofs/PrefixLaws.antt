@@ -3,7 +3,8 @@ use Rattle.std.proofs.Common.{inl, inr, ◌≡◌, ℕ, ◌+◌, Bool, true, fal
 use Rattle.std.proofs.Common.{append_assoc, append-nil}
 use Rattle.std.specs.Prelude.{nat_lt, ◌&&◌, ◌==◌, not, if◌then◌else◌, map}
 use Rattle.std.specs.List.{range_with_len}
-use Rattle.std.proofs.lemmas.Bool.{eqb-true}
+use Rattle.std.proofs.lemmas.Bool.{eqb-true, not-true}
+use Rattle.std.proofs.lemmas.List.{map-append}
 use Rattle.ffs_volume.specs.declared.Layout.{Layout}
 use Rattle.ffs_volume.specs.declared.Step.{Step}
 use Rattle.ffs_volume.specs.declared.Step.TheVariants.{Run, Tail, Gap}
@@ -13,11 +14,8 @@ use Rattle.ffs_volume.specs.Blocks.Claims.{Claims, is_open, after_offer, after_o
 use Rattle.ffs_volume.specs.Blocks.BlockCheck.{Offer, kept_in_offers, kept_in_step, kept_in_steps, offer_of}
 use Rattle.ffs_volume.specs.Laws.Meanings.{KeptPrefix}
 
-map_append : (i : ℕ) (fs gs : List ℕ) → map (offer_of i) (fs ++ gs) ≡ map (offer_of i) fs ++ map (offer_of i) gs
-map_append i [] gs = refl
-map_append i (f ∷ fs) gs = ap (λ z. offer_of i f ∷ z) (map_append i fs gs)
-
-full_offers : (v : Layout) (i : ℕ) (s : Claims) (fs : List ℕ) → nat_lt s.dups 11 ≡ false →
+-- where eleven offers were dup, no offer is kept or claims anything
+pub full_offers : (v : Layout) (i : ℕ) (s : Claims) (fs : List ℕ) → nat_lt s.dups 11 ≡ false →
     (kept_in_offers v i s fs ≡ []) × (after_offers v s fs ≡ s)
 full_offers v i s [] q = (refl, refl)
 full_offers v i s (f ∷ fs) q =
@@ -149,11 +147,11 @@ steps_first v i s (step ∷ steps) = one (step_first v i s step) (steps_first v 
             ∙ (ap (λ z. z ++ map (offer_of i) (fragments_of steps))
             (sym (append-nil (kept_in_step v i s step))
             ∙ (ap (λ z. kept_in_step v i s step ++ z) (sym none) ∙ f.parts))
-            ∙ sym (map_append i (step_fragments step) (fragments_of steps))));
+            ∙ sym (map-append (offer_of i) (step_fragments step) (fragments_of steps))));
         end = g.end;
       }
       | inr over ↦
-          let shut : is_open (after_step v s step) ≡ false = one_not (is_open (after_step v s step)) over in
+          let shut : is_open (after_step v s step) ≡ false = not-true (is_open (after_step v s step)) over in
           let rest = shut_steps v i (after_step v s step) steps shut in
           record {
             rest = f.rest ++ map (offer_of i) (fragments_of steps);
@@ -163,11 +161,7 @@ steps_first v i s (step ∷ steps) = one (step_first v i s step) (steps_first v 
                 (append-nil (kept_in_step v i s step))
                 ∙ (sym (append_assoc (kept_in_step v i s step) f.rest (map (offer_of i) (fragments_of steps)))
                 ∙ (ap (λ z. z ++ map (offer_of i) (fragments_of steps)) f.parts
-                ∙ sym (map_append i (step_fragments step) (fragments_of steps)))));
+                ∙ sym (map-append (offer_of i) (step_fragments step) (fragments_of steps)))));
             end = inr (ap (λ x. not (is_open x)) rest.1 ∙ over);
           }
     ]
-      where
-        one_not : (b : Bool) → not b ≡ true → b ≡ false
-        one_not false e = refl
-        one_not true e = absurd (cc)

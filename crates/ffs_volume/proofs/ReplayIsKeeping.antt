@@ -4,6 +4,7 @@ use Rattle.std.proofs.Common.{◌∷◌, ◌++◌}
 use Rattle.std.specs.Prelude.{nat_lt, ◌&&◌, ◌||◌, ◌==◌, min, if◌then◌else◌, map, slice_set}
 use Rattle.std.specs.List.{range_with_len}
 use Rattle.std.proofs.lemmas.Bool.Decides.{nat_tests}
+use Rattle.std.proofs.lemmas.Bool.{and_right}
 use Rattle.ffs_volume.specs.declared.Layout.{Layout}
 use Rattle.ffs_volume.specs.declared.Step.{Step}
 use Rattle.ffs_volume.specs.declared.Step.TheVariants.{Run, Tail, Gap}
@@ -18,7 +19,7 @@ use Rattle.ffs_volume.specs.Blocks.Claims.{
   after_step,
 }
 use Rattle.ffs_volume.specs.Blocks.Claims.{after_steps}
-use Rattle.ffs_volume.specs.Blocks.BlockCheck.{Offer, kept_in_offers, kept_in_step, kept_in_steps, offer_of}
+use Rattle.ffs_volume.specs.Blocks.BlockCheck.{Offer, offer_of}
 use Rattle.ffs_volume.proofs.PrefixLaws.{shut_steps}
 use Rattle.ffs_volume.specs.Blocks.KeptSteps.{is_kept_step, kept_steps}
 use Rattle.ffs_volume.specs.Encodings.Replay.{Replay, fresh_replay, cut_of, is_replay_open, taken_of, replay_after_run}
@@ -187,11 +188,7 @@ steps_grow v s (step ∷ steps) = grows_on s (after_step v s step) (after_steps 
 -- where eleven offers were dup, no more are kept
 full_ends : (v : Layout) (s : Claims) (steps : List Step) → nat_lt s.dups 11 ≡ false →
     (after_steps v s steps).kept ≡ s.kept
-full_ends v s steps e = ap (λ x. x.kept) (shut_steps v 0 s steps (shut (nat_lt s.bad 11) (nat_lt s.dups 11) e)).1
-  where
-    shut : (a b : Bool) → b ≡ false → (a && b) ≡ false
-    shut true b e = e
-    shut false b e = refl
+full_ends v s steps e = ap (λ x. x.kept) (shut_steps v 0 s steps (and_right (nat_lt s.bad 11) (nat_lt s.dups 11) e)).1
 
 -- whether a step is seen, by the counts of the state before it and at the end
 seen_is : (bad sk sd ek ed : ℕ) → sd ≤ ed → ed + sk ≤ ek + sd → sd ≤ sk → (nat_lt sd 11 ≡ false → ek ≡ sk)

@@ -1,6 +1,6 @@
 -- Laws of `specs/Encodings/ReplayCounts`.
 use Rattle.std.proofs.Common.{zero, suc, ◌≡◌, ℕ, ◌+◌, ◌-◌, ◌≤◌, Bool, true, false, arith, refl, sym, ap, ◌∙◌, List, []}
-use Rattle.std.proofs.Common.{◌∷◌, ◌++◌}
+use Rattle.std.proofs.Common.{◌∷◌, ◌++◌, replicate}
 use Rattle.std.specs.Prelude.{nat_lt, ◌&&◌, ◌==◌, if◌then◌else◌, map}
 use Rattle.std.specs.List.{range_with_len}
 use Rattle.std.proofs.lemmas.Bool.Decides.{nat_tests}
@@ -29,7 +29,14 @@ pub record SameReplay (v : Layout) (i cut : ℕ) (r q : Replay) (steps : List St
   pub offers_are : replayed_offers v i cut r steps ≡ replayed_offers v i cut q steps
   pub runs_are : replayed_runs v cut r steps ≡ replayed_runs v cut q steps
 
-offers_runs : (v : Layout) (s : Claims) (fs : List ℕ) → (after_offers v s fs).runs ≡ s.runs
+-- gaps in a row have no Run
+pub gaps_seen : (v : Layout) (cut : ℕ) (r : Replay) (n : ℕ) (steps : List Step) →
+    replayed_runs v cut r (replicate n Gap ++ steps) ≡ replayed_runs v cut r steps
+gaps_seen v cut r zero steps = refl
+gaps_seen v cut r (suc n) steps = omega (arith, gaps_seen v cut r n steps)
+
+-- offers are no Runs
+pub offers_runs : (v : Layout) (s : Claims) (fs : List ℕ) → (after_offers v s fs).runs ≡ s.runs
 offers_runs v s [] = refl
 offers_runs v s (f ∷ fs) = offers_runs v (after_offer v s f) fs
     ∙ one (nat_lt s.dups 11) refl (is_fragment_in_range v f) refl (is_set s.used f) refl

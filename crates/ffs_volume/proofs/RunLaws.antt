@@ -1,6 +1,5 @@
 -- A run is in range where its ends show it.
-use Rattle.std.proofs.Common.{zero, suc, inl, inr, ◌≡◌, ℕ, ◌+◌, ◌-◌, ◌*◌, ◌/◌, ◌<◌, ◌≤◌, Bool, true, false, arith, refl}
-use Rattle.std.proofs.Common.{sym, ◌∙◌}
+use Rattle.std.proofs.Common.{inl, inr, ◌≡◌, ℕ, ◌+◌, ◌-◌, ◌*◌, ◌/◌, ◌<◌, ◌≤◌, Bool, true, false, arith, refl, sym, ◌∙◌}
 use Rattle.std.proofs.Math.Nat.{lt-mul-div-succ, mul-div-le}
 use Rattle.std.proofs.lemmas.Bool.{cases_lt}
 use Rattle.std.proofs.lemmas.Bool.Decides.{nat_tests}
@@ -10,21 +9,14 @@ use Rattle.ffs_volume.specs.Disk.Numbers.{all_below}
 use Rattle.ffs_volume.specs.Disk.Areas.{cgbase, cgsblock, cgdmin, is_group_metadata, is_fragment_in_range}
 use Rattle.ffs_volume.specs.Disk.Areas.{is_run_in_range}
 use Rattle.ffs_volume.specs.Laws.Geometry.{IsAcceptedLayout}
-use Rattle.ffs_volume.proofs.GeometryLaws.{all_below-at}
-use Rattle.ffs_volume.proofs.AreaLaws.{in_kept, is_kept_group, group_below, group_is}
+use Rattle.ffs_volume.proofs.AreaLaws.{is_in_metadata_of, is_metadata_of_group, group_below, group_is}
+use Rattle.ffs_volume.proofs.Below.{all_below-at, all_below-from}
 
 -- the run of `len` fragments from `start` ends in the volume and in its group, and is before the kept part or after it
 abbrev pub is_apart : Layout → ℕ → ℕ → Bool
 is_apart v start len =
     nat_le (start + len) v.size && nat_le (start + len) (cgbase v (start / v.fpg + 1))
     && (nat_le (start + len) (cgsblock v (start / v.fpg)) || nat_le (cgdmin v (start / v.fpg)) start)
-
-all_below-from : (n : ℕ) (test : ℕ → Bool) → ((k : ℕ) → k < n → test k ≡ true) → all_below n test ≡ true
-unfolding all_below
-all_below-from zero test h = refl
-all_below-from (suc n) test h =
-    let here = h n (omega arith) in
-    rw here (all_below-from n test (λ k lt. h k (omega arith)))
 
 abbrev fits : Layout → ℕ → ℕ → Bool
 fits v start k = is_fragment_in_range v (start + k) && ((start + k) / v.fpg == start / v.fpg)
@@ -34,7 +26,7 @@ module _ (v : Layout) (g : IsAcceptedLayout v) (start len : ℕ) where
   unfolding cgbase
   base_low = mul-div-le start v.fpg
 
-  -- what is apart fits at each place
+  -- what is apart fits at each index
   apart_fits : is_apart v start len ≡ true → (k : ℕ) → k < len → fits v start k ≡ true
   unfolding is_fragment_in_range
   apart_fits h k lt =
@@ -43,24 +35,24 @@ module _ (v : Layout) (g : IsAcceptedLayout v) (start len : ℕ) where
       let low = base_low in
       let same : (start + k) / v.fpg ≡ start / v.fpg =
       group_is v (start / v.fpg) (start + k) (omega arith) (omega arith) in
-      let kept = is_kept_group v (start + k) g in
-      let free : in_kept v (start / v.fpg) (start + k) ≡ false = grind (arith, nat_tests) in
-      let open_is : is_group_metadata v (start + k) ≡ false = grind (arith, nat_tests, kept, same, free) in
+      let metadata = is_metadata_of_group v (start + k) g in
+      let free : is_in_metadata_of v (start / v.fpg) (start + k) ≡ false = grind (arith, nat_tests) in
+      let open_is : is_group_metadata v (start + k) ≡ false = grind (arith, nat_tests, metadata, same, free) in
       grind (arith, nat_tests)
 
-  -- a fragment that fits is below size, of the run's group, and not kept by it
+  -- a fragment that fits is below size, of the run's group, and not metadata of it
   fit_facts : (k : ℕ) → fits v start k ≡ true → (start + k < v.size) × ((start + k) / v.fpg ≡ start / v.fpg)
-      × (in_kept v (start / v.fpg) (start + k) ≡ false)
+      × (is_in_metadata_of v (start / v.fpg) (start + k) ≡ false)
   unfolding is_fragment_in_range
   fit_facts k h =
       let below : start + k < v.size = grind (arith, nat_tests) in
       let same : (start + k) / v.fpg ≡ start / v.fpg = grind (arith, nat_tests) in
       let free : is_group_metadata v (start + k) ≡ false = grind (arith, nat_tests) in
-      let kept = is_kept_group v (start + k) g in
+      let metadata = is_metadata_of_group v (start + k) g in
       let group = group_below v (start + k) g below in
-      (below, same, grind (arith, nat_tests, kept, same, free, group))
+      (below, same, grind (arith, nat_tests, metadata, same, free, group))
 
-  -- what fits at each place is apart
+  -- what fits at each index is apart
   fits_apart : 0 < len → ((k : ℕ) → k < len → fits v start k ≡ true) → is_apart v start len ≡ true
   unfolding cgbase
   fits_apart some h =

@@ -63,7 +63,7 @@ is_some-value None e = absurd (cc)
 pub some_below-gives : (p : ℕ → Bool) (n : ℕ) → some_below p n ≡ true → (s : ℕ) × IsFirst p n s
 some_below-gives p n e = let v = is_some-value (first_below p n) e in (v.0, first_below-some p n v.0 v.1)
 
-is_some-none : (o : Option ℕ) → is_some o ≡ false → o ≡ None
+pub is_some-none : (o : Option ℕ) → is_some o ≡ false → o ≡ None
 is_some-none (Some s) e = absurd (cc)
 is_some-none None e = refl
 

@@ -24,7 +24,7 @@ some_inodes v g =
     ]
 
 -- no steps where the size is 0
-no_blocks : (n b : ℕ) → 0 < b → n ≡ 0 → div_ceil n b ≡ 0
+pub no_blocks : (n b : ℕ) → 0 < b → n ≡ 0 → div_ceil n b ≡ 0
 no_blocks n b h e = ap (λ k. div_ceil k b) e ∙ ap (λ q. q + min 1 (0 % b)) (zero-div b)
     ∙ ap (λ r. 0 + min 1 r) (zero-mod b)
 

@@ -6,12 +6,12 @@ use Rattle.ffs_volume.specs.Disk.Areas.{cgoffset_of, cgbase, cgstart, is_group_m
 use Rattle.ffs_volume.specs.Disk.Areas.{is_run_in_range}
 use Rattle.ffs_volume.specs.Blocks.Inodes.{inode_from_bytes, inode_of, class_of}
 use Rattle.ffs_volume.specs.Blocks.Steps.{steps_at, steps_of}
-use Rattle.ffs_volume.specs.Examples.Images.{bytes_in, word, zeros, base_layout, base_super, base_summary, base_group}
+use Rattle.ffs_volume.specs.Examples.Images.{bytes_in, word, zero_bytes, base_layout, base_super, base_summary, base_group}
 use Rattle.ffs_volume.specs.Examples.Images.{root_inode, root_chunk, base_image}
 use Rattle.ffs_volume.specs.Examples.BlockExamples.{inode, file_inode, words_at, StepExamples}
 
 pub step_examples : StepExamples
-unfolding bytes_in word zeros base_layout base_super base_summary base_group root_inode root_chunk base_image inode
+unfolding bytes_in word zero_bytes base_layout base_super base_summary base_group root_inode root_chunk base_image inode
     file_inode words_at number u16_at i16_at u32_at u64_at i32_at is_fragment_in_range is_run_in_range is_group_metadata
     first_below earliest all_below cgoffset_of cgbase cgstart inode_from_bytes inode_of class_of steps_at steps_of
 step_examples = record {

@@ -1,10 +1,11 @@
 -- What is not reached, and what is lost.
-use Rattle.std.specs.Prelude.{◌≡◌, ◌≢◌, ℕ, ◌==◌, Bool, true, false, not, ◌&&◌, refl, Option, None, Some, is_some}
+use Rattle.std.specs.Prelude.{◌≡◌, ◌≢◌, ℕ, ◌==◌, Bool, true, false, not, ◌&&◌, None, Some}
 use Rattle.std.proofs.Common.{◌∙◌, ap}
 use Rattle.std.proofs.lemmas.Bool.{and_parts, and_from, ne_eqb, not_from_false, not-true, eqb-false, cond-false}
 use Rattle.ffs_volume.specs.Disk.Search.{first_below}
 use Rattle.ffs_volume.specs.Directories.Graph.{Graph, level, edge, reached, parent, parent_by, is_lost, is_dead_in}
 use Rattle.ffs_volume.specs.Directories.Graph.{is_naming_dir}
+use Rattle.ffs_volume.proofs.SearchLaws.{is_some-none}
 
 pub edge-parts : (v : Graph) (s d : ℕ) → edge v s d ≡ true → (v.is_dir d ≡ true) × (v.is_dir s ≡ true)
 edge-parts v s d h =
@@ -34,11 +35,7 @@ lost-from v suspect d h =
     (not_from_false _ h.alive)))
 
 pub unreached-level : (v : Graph) (d : ℕ) → reached v d ≡ false → level v d ≡ None
-unreached-level v d h = go (level v d) h
-  where
-    go : (o : Option ℕ) → is_some o ≡ false → o ≡ None
-    go None e = refl
-    go (Some k) e = absurd (cc)
+unreached-level v d h = is_some-none (level v d) h
 
 -- the parent of an unreached directory is the least with an edge to it
 pub parent-unreached : (v : Graph) (d : ℕ) → d ≢ 2 → reached v d ≡ false →

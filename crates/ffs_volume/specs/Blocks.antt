@@ -4,5 +4,5 @@ pub mod Steps
 pub mod Owners
 pub mod Claims
 pub mod BlockCheck
-pub mod Keeping
+pub mod KeptByRule
 pub mod KeptSteps

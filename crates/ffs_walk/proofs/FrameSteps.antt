@@ -5,16 +5,13 @@ use Rattle.std.proofs.lemmas.Bool.Decides.{nat_tests}
 use Rattle.ffs_volume.specs.declared.Layout.{Layout}
 use Rattle.ffs_volume.specs.declared.Step.{Step}
 use Rattle.ffs_walk.specs.declared.frame.Frame.{Frame}
-use Rattle.ffs_volume.specs.Blocks.Steps.{block_bytes}
+use Rattle.ffs_volume.specs.Blocks.Steps.{block_bytes, address_in, tail_of, any_nonzero_from, steps_under, address_at}
+use Rattle.ffs_volume.specs.Blocks.Steps.{indirect_addresses_needed}
 use Rattle.ffs_image.specs.Device.{ForContents}
-use Rattle.ffs_walk.specs.Frames.{frame_rest, frame_left, item_left}
-use Rattle.ffs_volume.specs.Blocks.Steps.{address_in}
-use Rattle.ffs_volume.specs.Blocks.Steps.{tail_of, any_nonzero_from, steps_under, address_at}
+use Rattle.ffs_walk.specs.Frames.{frame_rest, frame_left, item_left, IsFrom, IsSameBlock}
 use Rattle.ffs_walk.specs.declared.frame.Item.{Item}
 use Rattle.ffs_walk.specs.declared.frame.Item.TheVariants.{UnusedWord, Word}
 use Rattle.ffs_walk.specs.Fits.{FrameFits, IsBelow, IsSpent}
-use Rattle.ffs_walk.specs.Frames.{IsFrom, IsSameBlock}
-use Rattle.ffs_volume.specs.Blocks.Steps.{indirect_addresses_needed}
 use Rattle.std.specs.Int.{div_ceil}
 use Rattle.std.proofs.lemmas.Grind.{div_ceil_times}
 use Rattle.std.proofs.Math.Nat.{mul-le-mul_right}

@@ -9,7 +9,7 @@ use Rattle.ffs_volume.specs.Blocks.Steps.{steps_under, steps_at, steps_of_addres
 use Rattle.ffs_walk.specs.declared.frame.Frame.{Frame}
 use Rattle.ffs_walk.specs.declared.walk.Walk.{Walk}
 use Rattle.ffs_walk.specs.Frames.{frame_rest}
-use Rattle.ffs_walk.specs.Rests.{IsAtTop, extent_of, rest, single_rest, double_rest, triple_rest}
+use Rattle.ffs_walk.specs.Rests.{IsAtTop, extent_of, steps_left, single_rest, double_rest, triple_rest}
 use Rattle.ffs_walk.specs.Skips.{EndsZeroAddresses}
 use Rattle.ffs_walk.proofs.FrameSteps.{next_word}
 use Rattle.ffs_walk.proofs.WalkSteps.{next_address, rest_at_top, spent_rest}
@@ -91,7 +91,7 @@ gaps_at_addresses t bytes addresses used (suc n) next h zeros =
 
 -- the same of the addresses of a walk that is in no indirect block
 pub gaps_at_top : (w : Walk) (bytes : List ℕ) (end : ℕ) → IsAtTop w → EndsZeroAddresses w end →
-    rest bytes w ≡ replicate (end - w.next) Gap ++ (single_rest bytes w ++ (double_rest bytes w
+    steps_left bytes w ≡ replicate (end - w.next) Gap ++ (single_rest bytes w ++ (double_rest bytes w
     ++ (triple_rest bytes w ++ steps_of_addresses (extent_of w) bytes w.addresses end (w.used - end))))
 gaps_at_top w bytes end top ends =
     let g = w.geometry.layout in

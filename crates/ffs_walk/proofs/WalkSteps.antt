@@ -12,7 +12,7 @@ use Rattle.ffs_volume.specs.Blocks.Inodes.{addresses_needed}
 use Rattle.ffs_walk.specs.Fits.{IsSpent}
 use Rattle.ffs_walk.specs.declared.frame.Item.{Item}
 use Rattle.ffs_walk.specs.Frames.{frame_rest, frame_left, item_steps}
-use Rattle.ffs_walk.specs.Rests.{extent_of, rest, single_rest, double_rest, triple_rest, top_rest, most_at, left}
+use Rattle.ffs_walk.specs.Rests.{extent_of, steps_left, single_rest, double_rest, triple_rest, top_rest, most_at, most_steps_left}
 use Rattle.ffs_volume.specs.Blocks.Steps.{FileBlocks, data_step, indirect_steps, steps_at, steps_of_addresses}
 use Rattle.ffs_volume.specs.Blocks.Steps.{indirection_of, first_block}
 use Rattle.std.proofs.lemmas.Bool.Decides.{nat_tests}
@@ -56,7 +56,7 @@ pub in_double : (w : Walk) (bytes : List ℕ) (span address first : ℕ) (s : St
     IsSpent w.single →
     indirect_steps (extent_of w) bytes (steps_at (extent_of w) bytes 0) span address first
     ≡ s ∷ frame_rest w.geometry.layout bytes (steps_at (extent_of w) bytes 0) span f →
-    steps_at (extent_of w) bytes 1 address first ++ rest bytes w
+    steps_at (extent_of w) bytes 1 address first ++ steps_left bytes w
     ≡ s ∷ (frame_rest w.geometry.layout bytes (steps_at (extent_of w) bytes 0) 1 f
     ++ (double_rest bytes w ++ (triple_rest bytes w ++ top_rest bytes w)))
 in_double w bytes span address first s f is_one spent e =
@@ -71,7 +71,7 @@ pub in_triple : (w : Walk) (bytes : List ℕ) (span address first : ℕ) (s : St
     IsSpent w.single → IsSpent w.double →
     indirect_steps (extent_of w) bytes (steps_at (extent_of w) bytes 1) span address first
     ≡ s ∷ frame_rest w.geometry.layout bytes (steps_at (extent_of w) bytes 1) span f →
-    steps_at (extent_of w) bytes 2 address first ++ rest bytes w
+    steps_at (extent_of w) bytes 2 address first ++ steps_left bytes w
     ≡ s ∷ (single_rest bytes w
     ++ (frame_rest w.geometry.layout bytes (steps_at (extent_of w) bytes 1) w.geometry.layout.nindir f
     ++ (triple_rest bytes w ++ top_rest bytes w)))
@@ -85,7 +85,7 @@ in_triple w bytes span address first s f is_words spent spent' e =
 
 -- where the frames are spent, the rest is that of the addresses
 pub rest_at_top : (bytes : List ℕ) (w : Walk) → IsSpent w.single → IsSpent w.double → IsSpent w.triple →
-    rest bytes w ≡ top_rest bytes w
+    steps_left bytes w ≡ top_rest bytes w
 rest_at_top bytes w s d t =
     rw (
       spent_rest w.geometry.layout bytes (steps_at (extent_of w) bytes 0) 1 w.single s,
@@ -107,12 +107,12 @@ abbrev pub later_rest : List ℕ → Walk → List Step
 later_rest bytes w = steps_of_addresses (extent_of w) bytes w.addresses (w.next + 1) (w.used - (w.next + 1))
 
 pub at_top : (bytes : List ℕ) (w : Walk) → w.next < w.used → IsSpent w.single → IsSpent w.double → IsSpent w.triple →
-    rest bytes w ≡ steps_at (extent_of w) bytes (indirection_of w.next) (slice_index w.addresses w.next)
+    steps_left bytes w ≡ steps_at (extent_of w) bytes (indirection_of w.next) (slice_index w.addresses w.next)
     (first_block w.geometry.layout.nindir w.next) ++ later_rest bytes w
 at_top bytes w h s d t = rest_at_top bytes w s d t ∙ next_address (extent_of w) bytes w.addresses w.next w.used h
 
 pub top_ends : (bytes : List ℕ) (w : Walk) → w.used ≤ w.next → IsSpent w.single → IsSpent w.double → IsSpent w.triple →
-    rest bytes w ≡ []
+    steps_left bytes w ≡ []
 top_ends bytes w h s d t =
     let none : w.used - w.next ≡ 0 = omega arith in
     rest_at_top bytes w s d t ∙ rw none refl
@@ -121,7 +121,7 @@ pub top_data : (bytes : List ℕ) (w : Walk) (address first : ℕ) (step : Step)
     w.next < w.used → w.next < 12 → IsSpent w.single → IsSpent w.double → IsSpent w.triple →
     address ≡ slice_index w.addresses w.next → first ≡ w.next →
     step ≡ data_step (extent_of w) address first →
-    rest bytes w ≡ step ∷ (single_rest bytes w ++ (double_rest bytes w ++ (triple_rest bytes w ++ later_rest bytes w)))
+    steps_left bytes w ≡ step ∷ (single_rest bytes w ++ (double_rest bytes w ++ (triple_rest bytes w ++ later_rest bytes w)))
 top_data bytes w address first step h low s d t is_address is_first e =
     let level : indirection_of w.next ≡ 0 = omega arith in
     let place : first_block w.geometry.layout.nindir w.next ≡ w.next = grind (arith, nat_tests) in
@@ -144,7 +144,7 @@ pub top_single : (bytes : List ℕ) (w : Walk) (step : Step) (f : Frame) →
     w.next < w.used → w.next ≡ 12 → IsSpent w.single → IsSpent w.double → IsSpent w.triple →
     indirect_steps (extent_of w) bytes (steps_at (extent_of w) bytes 0) 1 (slice_index w.addresses w.next) 12
     ≡ step ∷ frame_rest w.geometry.layout bytes (steps_at (extent_of w) bytes 0) 1 f →
-    rest bytes w ≡ step ∷ (frame_rest w.geometry.layout bytes (steps_at (extent_of w) bytes 0) 1 f
+    steps_left bytes w ≡ step ∷ (frame_rest w.geometry.layout bytes (steps_at (extent_of w) bytes 0) 1 f
     ++ (double_rest bytes w ++ (triple_rest bytes w ++ later_rest bytes w)))
 top_single bytes w step f h is s d t e =
     let level : indirection_of w.next ≡ 1 = omega arith in
@@ -166,7 +166,7 @@ pub top_double : (bytes : List ℕ) (w : Walk) (words : ℕ) (step : Step) (f : 
     indirect_steps (extent_of w) bytes (steps_at (extent_of w) bytes 1) words (slice_index w.addresses w.next)
     (12 + words)
     ≡ step ∷ frame_rest w.geometry.layout bytes (steps_at (extent_of w) bytes 1) words f →
-    rest bytes w ≡ step ∷ (single_rest bytes w
+    steps_left bytes w ≡ step ∷ (single_rest bytes w
     ++ (frame_rest w.geometry.layout bytes (steps_at (extent_of w) bytes 1) w.geometry.layout.nindir f
     ++ (triple_rest bytes w ++ later_rest bytes w)))
 top_double bytes w words step f h is is_words s d t e =
@@ -189,7 +189,7 @@ pub top_triple : (bytes : List ℕ) (w : Walk) (words : ℕ) (step : Step) (f : 
     indirect_steps (extent_of w) bytes (steps_at (extent_of w) bytes 2) (words * words) (slice_index w.addresses w.next)
     (12 + words + words * words)
     ≡ step ∷ frame_rest w.geometry.layout bytes (steps_at (extent_of w) bytes 2) (words * words) f →
-    rest bytes w ≡ step ∷ (single_rest bytes w
+    steps_left bytes w ≡ step ∷ (single_rest bytes w
     ++ (double_rest bytes w ++ (frame_rest w.geometry.layout bytes (steps_at (extent_of w) bytes 2)
     (w.geometry.layout.nindir * w.geometry.layout.nindir) f ++ later_rest bytes w)))
 top_triple bytes w words step f h is is_words s d t e =
@@ -248,7 +248,7 @@ pub double_reported : (contents : Option (List ℕ)) (w : Walk) (words : ℕ) (f
     ++ (single_rest bytes w ++ (frame_rest w.geometry.layout bytes (steps_at (extent_of w) bytes 1)
     w.geometry.layout.nindir f ++ (triple_rest bytes w ++ top_rest bytes w)))
     ≡ step ∷ R bytes) →
-    ForContents contents (λ bytes. rest bytes w ≡ step ∷ R bytes)
+    ForContents contents (λ bytes. steps_left bytes w ≡ step ∷ R bytes)
 double_reported contents w words f item step R is s taken made = λ bytes e.
     let split : double_rest bytes w
     ≡ item_steps (steps_at (extent_of w) bytes 1) item ++ frame_rest w.geometry.layout bytes
@@ -269,7 +269,7 @@ pub triple_reported : (contents : Option (List ℕ)) (w : Walk) (words : ℕ) (f
     ++ (frame_rest w.geometry.layout bytes (steps_at (extent_of w) bytes 2)
     (w.geometry.layout.nindir * w.geometry.layout.nindir) f ++ top_rest bytes w)))
     ≡ step ∷ R bytes) →
-    ForContents contents (λ bytes. rest bytes w ≡ step ∷ R bytes)
+    ForContents contents (λ bytes. steps_left bytes w ≡ step ∷ R bytes)
 triple_reported contents w words f item step R is s d taken made = λ bytes e.
     let split : triple_rest bytes w
     ≡ item_steps (steps_at (extent_of w) bytes 2) item ++ frame_rest w.geometry.layout bytes
@@ -294,7 +294,7 @@ pub some_words : (v : Layout) → IsAcceptedLayout v → 0 < v.nindir
 some_words v sound = omega (arith, sound.sizes.nindir, sound.sizes.bsize_low)
 
 -- nothing is left at the end
-pub top_over : (w : Walk) → w.used ≤ w.next → IsSpent w.single → IsSpent w.double → IsSpent w.triple → left w ≡ 0
+pub top_over : (w : Walk) → w.used ≤ w.next → IsSpent w.single → IsSpent w.double → IsSpent w.triple → most_steps_left w ≡ 0
 top_over w h s d t =
     let words = w.geometry.layout.nindir in
     let none : w.used - w.next ≡ 0 = omega arith in

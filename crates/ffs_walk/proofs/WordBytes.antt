@@ -5,7 +5,7 @@ use Rattle.std.proofs.Common.{◌∷◌, inl, inr, length, take, drop, arith, re
 use Rattle.std.proofs.Math.Nat.{mul-le-mul_right}
 use Rattle.std.proofs.Math.Seq.{take-add}
 use Rattle.std.proofs.lemmas.Bool.Decides.{nat_tests}
-use Rattle.std.proofs.lemmas.Bool.{cases_lt, and_parts, leb-true, not-true}
+use Rattle.std.proofs.lemmas.Bool.{cases_lt, and_parts, leb-true, not-true, eqb-true, not-false, or_parts}
 use Rattle.std.proofs.lemmas.List.{drop-drop}
 use Rattle.std.proofs.lemmas.List.Folds.{list_any-append}
 use Rattle.std.specs.List.{list_any, range_with_len, slice_range}
@@ -76,22 +76,15 @@ any_byte_from v block used h fits =
     ap (λ k. any_nonzero (take k (drop (4 * used) block))) e
     ∙ words_set v block (v.nindir - used) used (omega (arith, h, fits))
 
-or_false : (a b : Bool) → (a || b) ≡ false → (a ≡ false) × (b ≡ false)
-or_false true b e = cc
-or_false false b e = (refl, e)
-
-is_zero : (w : ℕ) → not (w == 0) ≡ false → w ≡ 0
-is_zero w e = grind (arith, nat_tests)
-
 none_set : (word : ℕ → ℕ) (n first i : ℕ) → list_any (λ j. not (word j == 0)) (range_with_len first n) ≡ false → i < n →
     word (first + i) ≡ 0
 none_set word zero first i e h = absurd (omega (arith, h))
 none_set word (suc n) first zero e h =
     let f : first + zero ≡ first = omega arith in
-    ap word f ∙ is_zero (word first) (or_false (not (word first == 0)) _ e).0
+    ap word f ∙ eqb-true (word first) 0 (not-false _ (or_parts (not (word first == 0)) _ e).0)
 none_set word (suc n) first (suc i) e h =
     let f : first + suc i ≡ first + 1 + i = omega arith in
-    ap word f ∙ none_set word n (first + 1) i (or_false (not (word first == 0)) _ e).1 (omega (arith, h))
+    ap word f ∙ none_set word n (first + 1) i (or_parts (not (word first == 0)) _ e).1 (omega (arith, h))
 
 -- some words are all zero where no byte of them is set
 pub no_byte : (v : Layout) (block : List ℕ) (first n k : ℕ) → 4 * (first + n) ≤ length block →

@@ -35,8 +35,8 @@ abbrev pub top_rest : List ℕ → Walk → List Step
 top_rest bytes w = steps_of_addresses (extent_of w) bytes w.addresses w.next (w.used - w.next)
 
 -- the steps that a walk has left, in an image of these bytes
-abbrev pub rest : List ℕ → Walk → List Step
-rest bytes w = single_rest bytes w ++ (double_rest bytes w ++ (triple_rest bytes w ++ top_rest bytes w))
+abbrev pub steps_left : List ℕ → Walk → List Step
+steps_left bytes w = single_rest bytes w ++ (double_rest bytes w ++ (triple_rest bytes w ++ top_rest bytes w))
 
 -- at most how many steps there are at an address of a level of indirection
 abbrev pub most_at : ℕ → ℕ → ℕ
@@ -44,8 +44,8 @@ most_at words zero = 1
 most_at words (suc level) = 2 + words * most_at words level
 
 -- at most how many steps a walk has left, whatever its image holds
-abbrev pub left : Walk → ℕ
-left w =
+abbrev pub most_steps_left : Walk → ℕ
+most_steps_left w =
     frame_left (most_at w.geometry.layout.nindir 0) w.single
     + (frame_left (most_at w.geometry.layout.nindir 1) w.double
     + (frame_left (most_at w.geometry.layout.nindir 2) w.triple
@@ -74,10 +74,10 @@ pub record IsAtTop (w : Walk) : Type 0 where
 -- the next step of a walk in an image of these contents is taken, and the walk has the others left; None comes after
 -- the last
 pub record IsNextStep (contents : Option (List ℕ)) (old new : Walk) (answer : Option Step) : Type 0 where
-  pub steps : ForContents contents (λ bytes. MatchOption answer (rest bytes old ≡ [])
-      (λ step. rest bytes old ≡ step ∷ rest bytes new))
+  pub steps : ForContents contents (λ bytes. MatchOption answer (steps_left bytes old ≡ [])
+      (λ step. steps_left bytes old ≡ step ∷ steps_left bytes new))
   pub fits : IfSome answer (IsStepOf old.geometry.layout.frag old.blocks)
-  pub falls : IfSome answer (λ _. left new < left old)
+  pub falls : IfSome answer (λ _. most_steps_left new < most_steps_left old)
   pub over : answer ≡ None → IsOver new
 
 -- the walks are over as many logical blocks of the same volume
@@ -87,7 +87,7 @@ pub record SameExtent (old new : Walk) : Type 0 where
 
 -- a walk that has all steps of an inode left
 pub record IsWalkOf (g : Geometry) (inode : Inode) (w : Walk) : Type 0 where
-  pub steps : (bytes : List ℕ) → rest bytes w ≡ steps_of g.layout inode bytes
+  pub steps : (bytes : List ℕ) → steps_left bytes w ≡ steps_of g.layout inode bytes
   pub geometry : w.geometry ≡ g
   pub blocks : w.blocks ≡ (if is_walked g.layout inode then logical_blocks_of g.layout inode else 0)
   pub top : IsAtTop w
@@ -109,9 +109,9 @@ pub record Enters (w : Walk) (span address first : ℕ) (made : Step) (frame : F
 
 -- the step is the first that an item of a level means, and the walk has the others left, before those that it had
 pub record IsFirstOf (level : ℕ) (item : Item) (old new : Walk) (step : Step) : Type 0 where
-  pub steps : (bytes : List ℕ) → item_steps (steps_at (extent_of old) bytes level) item ++ rest bytes old
-      ≡ step ∷ rest bytes new
+  pub steps : (bytes : List ℕ) → item_steps (steps_at (extent_of old) bytes level) item ++ steps_left bytes old
+      ≡ step ∷ steps_left bytes new
   pub fits : IsStepOf old.geometry.layout.frag old.blocks step
-  pub left : 1 + left new ≤ item_left (most_at old.geometry.layout.nindir level) item + left old
+  pub left : 1 + most_steps_left new ≤ item_left (most_at old.geometry.layout.nindir level) item + most_steps_left old
   pub same : SameExtent old new
   pub counted : EntersOnly old new (entered step)

@@ -11,7 +11,7 @@ use Rattle.ffs_walk.specs.declared.walk.Walk.{Walk}
 use Rattle.ffs_walk.specs.Fits.{IsSpent}
 use Rattle.ffs_walk.specs.Windows.{BlocksHold, held_address, level_bytes}
 use Rattle.ffs_walk.specs.Frames.{IsSameBlock, frame_left, frame_rest}
-use Rattle.ffs_walk.specs.Rests.{IsAtTop, SameExtent, left, rest}
+use Rattle.ffs_walk.specs.Rests.{IsAtTop, SameExtent, most_steps_left, steps_left}
 use Rattle.ffs_walk.specs.Counts.{EntersOnly}
 
 -- the next word in the block of a frame isn't zero, where the block is held for the level and was read before
@@ -19,7 +19,8 @@ abbrev pub HasNoGapNext : Layout → ℕ → Blocks → Frame → Type 0
 HasNoGapNext v level blocks f = f.fresh ≡ false → held_address level blocks ≡ Some f.address → f.next < f.used
     → 0 < address_in v (level_bytes v level blocks) f.next
 
--- the walk's addresses from the next one on and below an index are zero, and the one at the index isn't, where it is used
+-- the walk's addresses from the next one on and below an index are zero, and the one at the index isn't, where it is
+-- used
 pub record EndsZeroAddresses (w : Walk) (end : ℕ) : Type 0 where
   pub within : (w.next ≤ end) × (end ≤ w.used)
   pub zeros : (k : ℕ) → w.next ≤ k → k < end → slice_index w.addresses k ≡ 0
@@ -47,8 +48,8 @@ pub record PassesZeros (v : Layout) (level : ℕ) (blocks : Blocks) (old new : F
 -- a walk passes over so many gaps, over all that come next in the innermost block that it was in
 pub record PassesGaps (blocks : Blocks) (old new : Walk) (gaps : ℕ) : Type 0 where
   pub steps : (contents : Option (List ℕ)) → BlocksHold old.geometry.layout contents blocks →
-      ForContents contents (λ bytes. rest bytes old ≡ replicate gaps Gap ++ rest bytes new)
-  pub falls : left new ≤ left old
+      ForContents contents (λ bytes. steps_left bytes old ≡ replicate gaps Gap ++ steps_left bytes new)
+  pub falls : most_steps_left new ≤ most_steps_left old
   pub passed : HasPassedGaps old new blocks
   pub same : SameExtent old new
   pub counted : EntersOnly old new 0

@@ -7,7 +7,7 @@ use Rattle.ffs_volume.specs.Blocks.Steps.{address_in}
 use Rattle.ffs_walk.specs.declared.blocks.Blocks.{Blocks}
 use Rattle.ffs_walk.specs.declared.walk.Walk.{Walk}
 use Rattle.ffs_walk.specs.Windows.{BlocksHold, held_address, level_bytes}
-use Rattle.ffs_walk.specs.Rests.{rest}
+use Rattle.ffs_walk.specs.Rests.{steps_left}
 
 -- the single indirect block that a walk is in is held, and was read before
 pub record IsInHeldBlock (blocks : Blocks) (w : Walk) : Type 0 where
@@ -25,7 +25,7 @@ word_step frag address block = if address == 0 then Gap else Run address frag (S
 -- a walk passes over the next word of the single indirect block that it is in: the step at it is passed over
 pub record PassesWord (blocks : Blocks) (old new : Walk) : Type 0 where
   pub steps : (contents : Option (List ℕ)) → BlocksHold old.geometry.layout contents blocks →
-      ForContents contents (λ bytes. rest bytes old
+      ForContents contents (λ bytes. steps_left bytes old
       ≡ word_step old.geometry.layout.frag (next_address blocks old) (old.single.first + old.single.next)
-      ∷ rest bytes new)
+      ∷ steps_left bytes new)
   pub held : IsInHeldBlock blocks new

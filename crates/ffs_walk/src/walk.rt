@@ -56,7 +56,7 @@ impl Walk {
     ghost use Rattle.ffs_walk.specs.Lengths.{IsStepOf};
     ghost use Rattle.ffs_walk.specs.Skips.{EndsZeroAddresses, PassesGaps};
     ghost use Rattle.ffs_walk.specs.Frames.{frame_rest, frame_left, item_steps, item_left};
-    ghost use Rattle.ffs_walk.specs.Rests.{rest, left, extent_of, Enters, IsAtTop, IsDataStep, IsFirstOf, IsNextStep, IsOver, IsWalkOf, SameExtent, UsesNothing};
+    ghost use Rattle.ffs_walk.specs.Rests.{steps_left, most_steps_left, extent_of, Enters, IsAtTop, IsDataStep, IsFirstOf, IsNextStep, IsOver, IsWalkOf, SameExtent, UsesNothing};
     ghost use Rattle.ffs_walk.specs.Windows.{BlocksAfter, CanWalk, HasRoom};
     ghost use Rattle.ffs_walk.specs.Counts.{AreHeld, EntersOnly, StepReads, entered_by};
     ghost use Rattle.ffs_walk.specs.Words.{IsInHeldBlock, PassesWord, next_address};
@@ -179,10 +179,11 @@ impl Walk {
     fn step_at_top(&mut self) -> Option<Step>
         requires { IsAtTop self.old }
         ensures steps { (bytes : List ℕ)
-            → MatchOption result (rest bytes self.old ≡ [])
-            (λ step. rest bytes self.old ≡ step ∷ rest bytes self.new) }
+            → MatchOption result (steps_left bytes self.old ≡ [])
+            (λ step. steps_left bytes self.old ≡ step ∷ steps_left bytes self.new) }
         ensures fits { IfSome result (IsStepOf self.old.geometry.layout.frag self.old.blocks) }
-        ensures left { MatchOption result (left self.old ≡ 0) (λ _. left self.new < left self.old) }
+        ensures left { MatchOption result (most_steps_left self.old ≡ 0)
+            (λ _. most_steps_left self.new < most_steps_left self.old) }
         ensures none { result ≡ None → self.new ≡ self.old }
         ensures over { (self.old.next ≡ self.old.used) ↔ (result ≡ None) }
         ensures same { SameExtent self.old self.new }
@@ -381,7 +382,7 @@ impl Walk {
         requires left { self.old.single.next < self.old.single.used }
         ensures word { (blocks : Blocks) → IsInHeldBlock blocks self.old
             → PassesWord blocks self.old self.new }
-        ensures falls { left self.new < left self.old }
+        ensures falls { most_steps_left self.new < most_steps_left self.old }
         ensures same { SameExtent self.old self.new }
         ensures counted { EntersOnly self.old self.new 0 }
     {

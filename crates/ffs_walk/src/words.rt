@@ -83,17 +83,17 @@ pub fn zeros_end(geometry: &Geometry, block: &[u8], next: u32, used: u32) -> u32
     requires words { (next ≤ used) × (used ≤ geometry.now.layout.nindir) }
     ensures { EndsZeros geometry.now.layout block.now next used result }
 {
-    let mut place = next;
-    if are_zeros(block, place, used, FEW_WORDS) {
-        place += FEW_WORDS;
-        while are_zeros(block, place, used, MANY_WORDS) {
-            place += MANY_WORDS;
+    let mut index = next;
+    if are_zeros(block, index, used, FEW_WORDS) {
+        index += FEW_WORDS;
+        while are_zeros(block, index, used, MANY_WORDS) {
+            index += MANY_WORDS;
         }
-        while are_zeros(block, place, used, FEW_WORDS) {
-            place += FEW_WORDS;
+        while are_zeros(block, index, used, FEW_WORDS) {
+            index += FEW_WORDS;
         }
     }
-    for j in place..used {
+    for j in index..used {
         if word(geometry, block, j) != 0 {
             return j;
         }

@@ -1,19 +1,16 @@
 -- What a note says of an inode.
-use Rattle.std.proofs.Common.{◌≡◌, ℕ, ◌+◌, ◌-◌, ◌<◌, Bool, true, false, List, [], ◌∷◌, arith, length, refl, ap, sym, ◌∙◌}
-use Rattle.std.specs.Prelude.{slice_index, nat_lt, ◌&&◌, ◌==◌, min, if◌then◌else◌, map}
-use Rattle.std.specs.List.{range_with_len}
+use Rattle.std.proofs.Common.{◌≡◌, ℕ, ◌+◌, ◌<◌, Bool, true, false, List, arith, refl, ap, sym, ◌∙◌}
+use Rattle.std.specs.Prelude.{slice_index, nat_lt, ◌&&◌, ◌==◌, min, if◌then◌else◌}
 use Rattle.std.proofs.lemmas.Bool.Decides.{nat_tests}
-use Rattle.std.proofs.lemmas.List.FromFn.{length-map-range_with_len}
 use Rattle.ffs_volume.specs.declared.Layout.{Layout}
 use Rattle.ffs_volume.specs.declared.Inode.{Inode}
 use Rattle.ffs_volume.specs.declared.Class.{Class}
 use Rattle.ffs_volume.specs.declared.Class.TheVariants.{Free, Partial, Unknown, File, Dir}
-use Rattle.ffs_volume.specs.Disk.Areas.{is_reserved}
 use Rattle.ffs_volume.specs.Laws.Geometry.{IsAcceptedLayout}
 use Rattle.ffs_volume.specs.Blocks.Inodes.{inode_of, is_directory}
 use Rattle.ffs_volume.specs.Blocks.Steps.{steps_of}
 use Rattle.ffs_volume.specs.Blocks.Owners.{owner_of}
-use Rattle.ffs_volume.specs.Blocks.Claims.{Claims, no_claims, reserved_map, at_next_inode, after_steps, after_owner, after_owners}
+use Rattle.ffs_volume.specs.Blocks.Claims.{Claims, at_next_inode, after_steps, after_owner}
 use Rattle.ffs_volume.specs.Blocks.KeptSteps.{claims_before}
 use Rattle.ffs_volume.specs.Directories.Volumes.{class_at, is_inode_number}
 use Rattle.ffs_volume.specs.Encodings.Replay.{cut_of, cut_at}

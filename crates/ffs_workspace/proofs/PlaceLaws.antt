@@ -113,7 +113,8 @@ none_noted v b words nothing x p k there is =
     let none : 0 ≡ suc k = sym (ap place_in (nothing x)) ∙ there in
     absurd (cc)
 
-zero_index : (n x : ℕ) → slice_index (replicate n 0) x ≡ 0
+-- a list of zeros
+pub zero_index : (n x : ℕ) → slice_index (replicate n 0) x ≡ 0
 zero_index zero x = refl
 zero_index (suc n) zero = refl
 zero_index (suc n) (suc x) = zero_index n x

@@ -1,7 +1,6 @@
 -- Where inodes are in the blocks of their tables.
 use Rattle.std.proofs.Common.{◌≡◌, ℕ, suc, ◌+◌, ◌-◌, ◌*◌, ◌/◌, ◌%◌, ◌<◌, ◌≤◌, true, Option, List, take, drop, arith, ap}
-use Rattle.std.proofs.Common.{◌∙◌}
-use Rattle.std.proofs.Common.{sym, zero}
+use Rattle.std.proofs.Common.{◌∙◌, sym, zero}
 use Rattle.std.proofs.Math.Nat.{mul-le-mul_right, mul-div_cancel, mul_comm, mul_assoc, div-add-mod', mod-lt}
 use Rattle.std.proofs.Math.Nat.{mul-mod_right, mod_self}
 use Rattle.std.proofs.lemmas.Nat.{div_below, div-mul-add, mod-mul-add}
@@ -13,21 +12,18 @@ use Rattle.ffs_volume.specs.declared.Inode.{Inode}
 use Rattle.ffs_volume.specs.Blocks.Inodes.{inode_from_bytes, inode_of}
 use Rattle.ffs_volume.specs.Disk.Numbers.{piece}
 use Rattle.ffs_volume.specs.Disk.Areas.{cgstart, cgdmin, inode_place}
-use Rattle.ffs_volume.specs.Disk.Outcome.{is_block_size, has_valid_sizes, is_valid_layout}
+use Rattle.ffs_volume.specs.Disk.Outcome.{is_block_size, has_valid_sizes}
 use Rattle.ffs_volume.specs.Laws.Geometry.{IsAcceptedLayout}
+use Rattle.ffs_volume.proofs.GeometryLaws.{shape_holds}
 use Rattle.ffs_walk.specs.Windows.{WindowHolds}
 use Rattle.ffs_workspace.specs.declared.table.Table.{Table}
 use Rattle.ffs_workspace.specs.Tables.{DividesBlock, DividesBlocks, table_place}
-use Rattle.ffs_workspace.specs.Tables.{HasInode, IsInPlace, IsTableOf, IsHeldAt}
+use Rattle.ffs_workspace.specs.Tables.{HoldsInode, IsInPlace, IsTableOf, IsHeldAt}
 
 -- a block holds whole inodes
 block_whole : (n : ℕ) → is_block_size n ≡ true → 128 * (n / 128) ≡ n
 unfolding is_block_size
 block_whole n h = grind (arith, nat_tests)
-
-sizes_are : (v : Layout) → is_valid_layout v ≡ true → has_valid_sizes v ≡ true
-unfolding is_valid_layout
-sizes_are v h = grind (arith, nat_tests)
 
 block_is : (v : Layout) → has_valid_sizes v ≡ true → is_block_size v.bsize ≡ true
 unfolding has_valid_sizes
@@ -35,7 +31,7 @@ block_is v h = grind (arith, nat_tests)
 
 pub inodes_whole : (v : Layout) → IsAcceptedLayout v → 128 * v.inopb ≡ v.bsize
 inodes_whole v g =
-    let size : is_block_size v.bsize ≡ true = block_is v (sizes_are v g.shaped) in
+    let size : is_block_size v.bsize ≡ true = block_is v (shape_holds v g.shaped).0 in
     let same : v.inopb ≡ v.bsize / 128 = g.sizes.inopb in
     let whole : 128 * (v.bsize / 128) ≡ v.bsize = block_whole v.bsize size in
     rw same whole
@@ -112,7 +108,7 @@ block_parts n h = grind (arith, nat_tests)
 -- so it is a whole number of 32 inodes, and of 4
 pub parts_divide : DividesBlocks 32
 parts_divide v g =
-    let whole = block_parts v.bsize (block_is v (sizes_are v g.shaped)) in
+    let whole = block_parts v.bsize (block_is v (shape_holds v g.shaped).0) in
     let same = inodes_whole v g in
     record { some = omega arith; whole = omega (arith, whole, same) }
 
@@ -148,7 +144,7 @@ in_block x y ipg n some filled whole low high =
 -- the piece of x has each of its inodes in its place
 pub inodes_there : (v : Layout) (n x : ℕ) (t : Table) → IsAcceptedLayout v → DividesBlock v n →
     t.first ≡ x - x % v.ipg % n → t.count ≡ n → t.window.place ≡ table_place v n x → t.window.length ≡ n * 128 →
-    (y : ℕ) → HasInode t y → IsInPlace v t y
+    (y : ℕ) → HoldsInode t y → IsInPlace v t y
 inodes_there v n x t g d first count place length y has =
     let low : x - x % v.ipg % n ≤ y = omega arith in
     let high : y < x - x % v.ipg % n + n = omega arith in
@@ -168,7 +164,7 @@ piece_of place length at n bytes h =
 
 -- the bytes of an inode that is in its place
 pub held_there : (v : Layout) (contents : Option (List ℕ)) (x : ℕ) (t : Table) → IsTableOf v t →
-    WindowHolds contents t.window → HasInode t x → IsHeldAt v contents t x (128 * (x - t.first))
+    WindowHolds contents t.window → HoldsInode t x → IsHeldAt v contents t x (128 * (x - t.first))
 held_there v contents x t made holds has =
     let in_place = made.inodes x has in
     let at = 128 * (x - t.first) in

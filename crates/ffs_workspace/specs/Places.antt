@@ -1,6 +1,6 @@
--- Where the parent entry of a directory is in the image, as a word of 32 bits notes it. Its low 31 bits are the place: 0
--- where none is noted, else 1 more than the number of the chunk of 512 bytes of the image that has the entry. Its top
--- bit says that the entry is due: it is still to come in a reading of the parent.
+-- Where the parent entry of a directory is in the image, as a word of 32 bits notes it. Its low 31 bits are the noted
+-- place: 0 where none is noted, else 1 more than the number of the chunk of 512 bytes of the image that has the entry.
+-- Its top bit says that the entry is due: it is still to come in a reading of the parent.
 use Rattle.std.specs.Prelude.{◌≡◌, ℕ, suc, ◌+◌, ◌-◌, ◌*◌, ◌^◌, ◌≤◌, Bool, false, true, not, nat_lt, if◌then◌else◌, List, slice_index}
 use Rattle.std.specs.Prelude.{Some, option_and_then}
 use Rattle.std.specs.List.{list_any}

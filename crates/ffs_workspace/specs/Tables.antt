@@ -29,8 +29,8 @@ abbrev pub table_place : Layout → ℕ → ℕ → ℕ
 table_place v n x = (cgstart v (x / v.ipg) + v.iblkno) * v.fsize + x % v.ipg / n * (n * DINODE_SIZE)
 
 -- the inode x is one of those that are held
-abbrev pub HasInode : Table → ℕ → Type 0
-HasInode t x = (t.first ≤ x) × (x < t.first + t.count)
+abbrev pub HoldsInode : Table → ℕ → Type 0
+HoldsInode t x = (t.first ≤ x) × (x < t.first + t.count)
 
 -- the inode x is in the window, in its place among those that are held
 pub record IsInPlace (v : Layout) (t : Table) (x : ℕ) : Type 0 where
@@ -40,7 +40,7 @@ pub record IsInPlace (v : Layout) (t : Table) (x : ℕ) : Type 0 where
 -- the window has room for a block, and each inode that it has is in its place
 pub record IsTableOf (v : Layout) (t : Table) : Type 0 where
   pub room : vec_len t.window.buffer ≡ v.bsize
-  pub inodes : (x : ℕ) → HasInode t x → IsInPlace v t x
+  pub inodes : (x : ℕ) → HoldsInode t x → IsInPlace v t x
 
 -- inodes of the volume can be read: the image has all of it, and the window holds what the image gives
 pub record CanReadInodes (v : Layout) (d : Device) (t : Table) : Type 0 where

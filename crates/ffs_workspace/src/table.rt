@@ -46,7 +46,7 @@ pub struct Table {
 }
 
 impl Table {
-    ghost use Rattle.ffs_workspace.specs.Tables.{CanReadInodes, HasInode, IsEmptyTable, IsHeldAt, ReadsInode, TableAfter};
+    ghost use Rattle.ffs_workspace.specs.Tables.{CanReadInodes, HoldsInode, IsEmptyTable, IsHeldAt, ReadsInode, TableAfter};
     ghost use Rattle.ffs_workspace.specs.Tables.{DividesBlocks};
 
     /// A table that holds no inode. It takes no memory.
@@ -63,7 +63,7 @@ impl Table {
     /// Whether the window holds an inode.
     #[inline(always)]
     fn has(&self, number: u32) -> bool
-        ensures { IsTrue result ↔ HasInode self.now number }
+        ensures { IsTrue result ↔ HoldsInode self.now number }
     {
         self.first <= number && number - self.first < self.count
     }
@@ -87,7 +87,7 @@ impl Table {
         requires number { number < geometry.now.layout.ncg * geometry.now.layout.ipg }
         requires count { DividesBlock geometry.now.layout count }
         requires ready { CanReadInodes geometry.now.layout (I.device image.old) self.old }
-        ensures has { OnOk result (HasInode self.new number) }
+        ensures has { OnOk result (HoldsInode self.new number) }
         ensures leaves { TableAfter geometry.now.layout (I.device image.old) (I.device image.new)
             self.new result }
         ensures counted { I.reads image.new ≤ I.reads image.old + 1 }
@@ -118,7 +118,7 @@ impl Table {
         ensures leaves { TableAfter geometry.now.layout (I.device image.old) (I.device image.new)
             self.new result }
         ensures counted { I.reads image.new ≤ I.reads image.old + 1 }
-        ensures again { HasInode self.old number → I.reads image.new ≤ I.reads image.old }
+        ensures again { HoldsInode self.old number → I.reads image.new ≤ I.reads image.old }
     {
         if !self.has(number) {
             self.read_piece(geometry, number, geometry.layout.inopb, image)?;
@@ -142,7 +142,7 @@ impl Table {
         ensures reads { ReadsInode geometry.now.layout (I.device image.old) (I.device image.new)
             number self.new result }
         ensures counted { I.reads image.new ≤ I.reads image.old + 1 }
-        ensures again { HasInode self.old number → I.reads image.new ≤ I.reads image.old }
+        ensures again { HoldsInode self.old number → I.reads image.new ≤ I.reads image.old }
     {
         let at = self.load(geometry, number, image)?;
         let bytes = self.window.bytes();

@@ -56,7 +56,7 @@ offer_of i f = record { inode = i; fragment = f }
 
 -- The five definitions below give the kept offers of some fragments, of a Run, of a step, of steps, and of inodes. They
 -- walk from a state s, as the definitions of `Claims` do. Offers are kept, in range or not, until their inode is cut,
--- at its eleventh bad Run or dup offer. `Keeping` says by one rule which they are: read it for the meaning
+-- at its eleventh bad Run or dup offer. `KeptByRule` says by one rule which they are: read it for the meaning
 abbrev pub kept_in_offers : (v : Layout) (inode : ℕ) (s : Claims) (fs : List ℕ) → List Offer
 kept_in_offers v inode s [] = []
 kept_in_offers v inode s (f ∷ fs) =

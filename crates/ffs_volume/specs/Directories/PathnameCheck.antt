@@ -12,19 +12,17 @@ use Rattle.ffs_volume.specs.declared.Label.TheVariants.{Dir as DirLabel, File as
 use Rattle.ffs_volume.specs.declared.Role.{Role}
 use Rattle.ffs_volume.specs.declared.Role.TheVariants.{Empty, Dot, Dotdot, Extra, Plain}
 use Rattle.ffs_volume.specs.Directories.Entries.{Entry, Chunk, is_live}
-use Rattle.ffs_volume.specs.Blocks.Inodes.{type_of}
-use Rattle.ffs_volume.specs.Blocks.Inodes.{is_directory, is_allocated, is_unknown}
+use Rattle.ffs_volume.specs.Blocks.Inodes.{type_of, is_directory, is_allocated, is_unknown}
 use Rattle.ffs_volume.specs.Directories.Roles.{Volume, RoledEntry, is_dir, is_suspect, is_one_dot}
 use Rattle.ffs_volume.specs.Directories.Roles.{is_two_dots, start_entry, dot, dotdot, roled_entries}
 use Rattle.ffs_volume.specs.Directories.Graph.{parent}
 use Rattle.ffs_volume.specs.Directories.Parents.{graph_of, is_first_naming_entry, is_parent_entry}
 use Rattle.ffs_volume.specs.Directories.Paths.{dir_path, entry_path}
-use Rattle.ffs_volume.specs.Messages.Kinds.{TreeMessage, reported, lines_below, root_none, root_not_dir}
-use Rattle.ffs_volume.specs.Messages.Kinds.{root_suspect, dir_short, dir_length, dir_gap, dir_corrupt}
-use Rattle.ffs_volume.specs.Messages.Kinds.{missing_dot, missing_dot_first, number_dot, kind_dot}
-use Rattle.ffs_volume.specs.Messages.Kinds.{missing_dotdot, missing_dotdot_second, number_dotdot}
-use Rattle.ffs_volume.specs.Messages.Kinds.{kind_dotdot, extra_dot, extra_dotdot, out_of_range, whiteout}
-use Rattle.ffs_volume.specs.Messages.Kinds.{unallocated, dup_bad, zero_dir, extraneous, kind_entry}
+use Rattle.ffs_volume.specs.Messages.Kinds.{TreeMessage, reported, lines_below, root_none, root_not_dir, root_suspect}
+use Rattle.ffs_volume.specs.Messages.Kinds.{dir_short, dir_length, dir_empty, dir_corrupt, missing_dot, missing_dot_first}
+use Rattle.ffs_volume.specs.Messages.Kinds.{number_dot, kind_dot, missing_dotdot, missing_dotdot_second, number_dotdot}
+use Rattle.ffs_volume.specs.Messages.Kinds.{kind_dotdot, extra_dot, extra_dotdot, out_of_range, whiteout, unallocated}
+use Rattle.ffs_volume.specs.Messages.Kinds.{dup_bad, zero_dir, extraneous, kind_entry}
 
 -- what messages show of an inode of this number
 abbrev pub attributes_of : ℕ → Inode → Attr
@@ -80,7 +78,7 @@ unfoldable pub shape_lines : Volume → ℕ → List TreeMessage
 shape_lines vol d =
     reported (is_short vol d) (dir_short (attributes vol d) (dir_path (graph_of vol) d))
     ++ (reported (has_partial_chunk vol d) (dir_length (dir_path (graph_of vol) d) (vol.inode d).size)
-    ++ (reported (vol.gap d) (dir_gap (dir_path (graph_of vol) d))
+    ++ (reported (vol.gap d) (dir_empty (dir_path (graph_of vol) d))
     ++ reported (not (are_sound (vol.chunks d))) (dir_corrupt (attributes vol d) (dir_path (graph_of vol) d))))
 
 -- the message where there is no `.`, by the entry that is first; it shows the name of a live entry other than `..`

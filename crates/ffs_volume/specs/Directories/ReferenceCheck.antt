@@ -3,7 +3,7 @@ use Rattle.std.specs.Prelude.{ℕ, ◌==◌, not, List, [], ◌∷◌, if◌then
 use Rattle.ffs_volume.specs.Disk.Numbers.{equals_natural}
 use Rattle.ffs_volume.specs.Directories.Roles.{Volume, is_allocated_inode, references}
 use Rattle.ffs_volume.specs.Messages.Kinds.{TreeMessage, lines_below, reported, dead_marked}
-use Rattle.ffs_volume.specs.Messages.Kinds.{dead_zero, unref, unref_unlinked, link_count}
+use Rattle.ffs_volume.specs.Messages.Kinds.{dead_zero, unref, unref_zero, link_count}
 use Rattle.ffs_volume.specs.Directories.PathnameCheck.{attributes, label_of}
 use Rattle.ffs_volume.specs.Directories.Connectivity.{is_dead}
 
@@ -16,7 +16,7 @@ dead_lines vol i =
 -- the message on an inode without references
 abbrev pub unref_lines : Volume → ℕ → List TreeMessage
 unref_lines vol i =
-    if equals_natural (vol.inode i).nlink 0 then unref_unlinked (label_of (vol.class i)) (attributes vol i) ∷ []
+    if equals_natural (vol.inode i).nlink 0 then unref_zero (label_of (vol.class i)) (attributes vol i) ∷ []
     else unref (label_of (vol.class i)) (attributes vol i) ∷ []
 
 -- the message on an allocated inode: it is dead, has no references, or another count of links

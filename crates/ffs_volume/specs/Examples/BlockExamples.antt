@@ -18,10 +18,10 @@ use Rattle.ffs_volume.specs.Blocks.Steps.{steps_of}
 use Rattle.ffs_volume.specs.Blocks.Owners.{Owner, owners_of}
 use Rattle.ffs_volume.specs.Blocks.Claims.{no_claims, is_set, after_owners}
 use Rattle.ffs_volume.specs.Blocks.BlockCheck.{phase1_lines, phase1b_lines, kept_in_owners}
-use Rattle.ffs_volume.specs.Blocks.Keeping.{all_offers, kept_by_rule}
+use Rattle.ffs_volume.specs.Blocks.KeptByRule.{all_offers, kept_by_rule}
 use Rattle.ffs_volume.specs.Groups.Records.{right_group_counts, right_frsum, right_total}
 use Rattle.ffs_volume.specs.Groups.GroupCheck.{phase5_lines, is_free_of_runs, reported_once, unreported}
-use Rattle.ffs_volume.specs.Examples.Images.{word, zeros, changed, base_layout, base_image, two_groups}
+use Rattle.ffs_volume.specs.Examples.Images.{word, zero_bytes, changed, base_layout, base_image, two_groups}
 
 -- an inode of this mode and size with these addresses, and zeros after them
 unfoldable pub inode : ℕ → ℕ → List ℕ → Inode
@@ -40,7 +40,7 @@ unfoldable pub file_inode : ℕ → List ℕ → Inode
 file_inode size addresses = inode 33188 size addresses
 
 unfoldable pub words_at : Order → List ℕ → List ℕ → List ℕ
-words_at order first second = zeros 40960 ++ (first ++ (zeros (4096 - length first) ++ second))
+words_at order first second = zero_bytes 40960 ++ (first ++ (zero_bytes (4096 - length first) ++ second))
 
 -- the classes of inodes
 pub record ClassExamples : Type 0 where
@@ -156,7 +156,7 @@ pub record ClaimExamples : Type 0 where
       ∷ record { number = 4; class = Unknown; steps = []; blocks = 1 }
       ∷ record { number = 5; class = Free; steps = []; blocks = 1 } ∷ [])
       ≡ PartAlloc 3 ∷ UnknownType 4 ∷ []
-  -- the rule of `Keeping` keeps the same offers as `BlockCheck`
+  -- the rule of `KeptByRule` keeps the same offers as `BlockCheck`
   pub by_rule : kept_in_owners (base_layout Little) (no_claims (base_layout Little))
       (root ∷ file 3 (blocks_at 5 3) 7 ∷ [])
       ≡ kept_by_rule (base_layout Little) [] (all_offers (base_layout Little) (root ∷ file 3 (blocks_at 5 3) 7 ∷ []))
@@ -197,10 +197,10 @@ pub record GroupExamples : Type 0 where
   -- fragment 37 is used, and its bit says free
   pub bit_wrong : groups_reported Little (λ f. base_free f && not (f == 37)) 6 ≡ FreeCounts ∷ MapsWrong ∷ GroupSums ∷ []
   -- no group block: the summary record alone is tested
-  pub no_block : phase5_lines (base_layout Little) (zeros 32768
+  pub no_block : phase5_lines (base_layout Little) (zero_bytes 32768
       ++ (word Little 1 ++ (word Little 22 ++ (word Little 29 ++ word Little 6))))
       (pos 1 ∷ pos 22 ∷ pos 29 ∷ pos 6 ∷ []) base_free base_class ≡ GroupMagic 0 ∷ []
-  pub no_record : phase5_lines (base_layout Little) (zeros 32768)
+  pub no_record : phase5_lines (base_layout Little) (zero_bytes 32768)
       (pos 1 ∷ pos 22 ∷ pos 29 ∷ pos 6 ∷ []) base_free base_class
       ≡ GroupMagic 0 ∷ FreeCounts ∷ []
   -- nothing is free, and the map of fragments passes the end of its block

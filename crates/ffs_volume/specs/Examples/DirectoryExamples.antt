@@ -15,20 +15,20 @@ use Rattle.ffs_volume.specs.Directories.Roles.{Volume, role_of, references}
 use Rattle.ffs_volume.specs.Directories.Graph.{level, parent}
 use Rattle.ffs_volume.specs.Directories.Parents.{graph_of}
 use Rattle.ffs_volume.specs.Directories.Paths.{path_bytes, dir_path, entry_path}
-use Rattle.ffs_volume.specs.Messages.Kinds.{root_none, root_not_dir, root_suspect, dir_short, dir_length, dir_gap}
+use Rattle.ffs_volume.specs.Messages.Kinds.{root_none, root_not_dir, root_suspect, dir_short, dir_length, dir_empty}
 use Rattle.ffs_volume.specs.Messages.Kinds.{missing_dot, missing_dot_first, number_dot, kind_dot, missing_dotdot}
 use Rattle.ffs_volume.specs.Messages.Kinds.{missing_dotdot_second, number_dotdot, kind_dotdot, extra_dot}
 use Rattle.ffs_volume.specs.Messages.Kinds.{extra_dotdot, out_of_range, whiteout, zero_dir, extraneous, kind_entry}
-use Rattle.ffs_volume.specs.Messages.Kinds.{unref_dir, dead_marked, dead_zero, unref, unref_unlinked, link_count}
+use Rattle.ffs_volume.specs.Messages.Kinds.{unref_dir, dead_marked, dead_zero, unref, unref_zero, link_count}
 use Rattle.ffs_volume.specs.Directories.PathnameCheck.{pathname_lines}
 use Rattle.ffs_volume.specs.Directories.Connectivity.{connectivity_lines}
 use Rattle.ffs_volume.specs.Directories.ReferenceCheck.{reference_lines}
-use Rattle.ffs_volume.specs.Examples.Images.{bytes_in, word, zeros, root_chunk}
+use Rattle.ffs_volume.specs.Examples.Images.{bytes_in, word, zero_bytes, root_chunk}
 
 -- the bytes of an entry: its number, length, type and name
 unfoldable pub entry_bytes : Order → ℕ → ℕ → ℕ → List ℕ → List ℕ
 entry_bytes o x n kind name = word o x ++ (bytes_in o 2 n ++
-    (kind ∷ length name ∷ (name ++ zeros (n - 8 - length name))))
+    (kind ∷ length name ∷ (name ++ zero_bytes (n - 8 - length name))))
 
 -- the root's chunk with other bytes after its first entry
 unfoldable pub with_second_entry : Order → List ℕ → List ℕ
@@ -52,7 +52,7 @@ last_entry x kind name = record { number = x; length = 500; kind = kind; name = 
 unfoldable pub two_chunks : ℕ → ChunkSource
 two_chunks taken = record {
   order = Little;
-  image = zeros 1024 ++ (root_chunk Little ++ root_chunk Little);
+  image = zero_bytes 1024 ++ (root_chunk Little ++ root_chunk Little);
   bsize = 4096;
   fsize = 512;
   taken = taken;
@@ -112,15 +112,15 @@ unfoldable pub whole_chunk : List Entry → List Chunk
 whole_chunk es = record { offset = 0; entries = es; sound = true } ∷ []
 
 -- the inodes from 2 to n - 1 are directories
-unfoldable pub class_in : ℕ → ℕ → Class
-class_in n i = if nat_lt i 2 then Free else (if nat_lt i n then Dir else Free)
+unfoldable pub class_with_dirs_below : ℕ → ℕ → Class
+class_with_dirs_below n i = if nat_lt i 2 then Free else (if nat_lt i n then Dir else Free)
 
 -- a volume of directories with one chunk each: those from 2 to n - 1, of 512 bytes, with these counts of links and
 -- these entries
 unfoldable pub small : ℕ → (ℕ → ℕ) → (ℕ → List Entry) → Volume
 small n links es = record {
   count = n;
-  class = class_in n;
+  class = class_with_dirs_below n;
   inode = λ i. record {
     mode = 16877;
     nlink = pos (links i);
@@ -173,7 +173,7 @@ sub es = small 4 (λ i. if i == 2 then 3 else 2) (sub_entries es)
 unfoldable pub empty_dir : List Entry → Volume
 empty_dir es = record {
   count = 4;
-  class = class_in 4;
+  class = class_with_dirs_below 4;
   inode = λ i. record {
     mode = 16877;
     nlink = pos (if i == 2 then 2 else 0);
@@ -199,7 +199,7 @@ dead_entries i = if i == 3 then dots 3 2 (entry 4 4 (120 ∷ []) ∷ []) else (i
 unfoldable pub dead_parent : Volume
 dead_parent = record {
   count = 5;
-  class = class_in 5;
+  class = class_with_dirs_below 5;
   inode = λ i. record { mode = 16877; nlink = pos 2; size = 512; uid = 0; mtime = pos 0; addresses = []; blocks = 0 };
   gap = λ i. false;
   chunks = λ i. whole_chunk (dead_entries i);
@@ -258,7 +258,7 @@ pub record PathnameExamples : Type 0 where
   -- a size below 24, which is reported alone, one that is no multiple of 512, and a hole
   pub too_short : pathname_lines (sized 23) ≡ dir_short (record (about 3) { size = 23 }) (47 ∷ 97 ∷ []) ∷ []
   pub no_multiple : pathname_lines (sized 600) ≡ dir_length (47 ∷ 97 ∷ []) 600 ∷ []
-  pub hole : pathname_lines (record (sub (dots 3 2 [])) { gap = λ i. i == 3 }) ≡ dir_gap (47 ∷ 97 ∷ []) ∷ []
+  pub hole : pathname_lines (record (sub (dots 3 2 [])) { gap = λ i. i == 3 }) ≡ dir_empty (47 ∷ 97 ∷ []) ∷ []
   -- a marked root that is entered is extraneous there, and no more; the type of an unknown inode isn't compared
   pub marked_root_entered : pathname_lines (record (alone (dots 2 2 (entry 2 4 (97 ∷ []) ∷ []))) { marked = λ i. true })
       ≡ root_suspect ∷ extraneous (47 ∷ 97 ∷ []) (47 ∷ []) ∷ []
@@ -301,4 +301,4 @@ pub record ReferenceExamples : Type 0 where
       ≡ unref FileLabel (about 3) ∷ []
   pub unlinked : reference_lines (record (small 4 (λ i. if i == 2 then 2 else 0)
       (λ i. if i == 2 then dots 2 2 [] else [])) { class = λ i. if i == 2 then Dir else File })
-      ≡ unref_unlinked FileLabel (about 3) ∷ []
+      ≡ unref_zero FileLabel (about 3) ∷ []

@@ -17,8 +17,8 @@ bytes_in Big n number = big_bytes n number
 unfoldable pub word : Order → ℕ → List ℕ
 word order number = bytes_in order 4 number
 
-unfoldable pub zeros : ℕ → List ℕ
-zeros n = replicate n 0
+unfoldable pub zero_bytes : ℕ → List ℕ
+zero_bytes n = replicate n 0
 
 -- the bytes of `/mnt`
 abbrev pub mount_bytes : List ℕ
@@ -62,20 +62,20 @@ base_superblock order = record {
   optim = pos 0;
   minfree = pos 10;
   cstotal = pos 1 ∷ pos 22 ∷ pos 29 ∷ pos 6 ∷ [];
-  mount = mount_bytes ++ zeros 508;
+  mount = mount_bytes ++ zero_bytes 508;
 }
 
 unfoldable pub base_super : Order → List ℕ
 base_super o =
-    zeros 8 ++ (word o 16 ++ (word o 24 ++ (word o 28 ++ (word o 32
-    ++ (word o 0 ++ (word o 4294967295 ++ (zeros 4 ++ (word o 128 ++ (word o 95 ++ (word o 1
+    zero_bytes 8 ++ (word o 16 ++ (word o 24 ++ (word o 28 ++ (word o 32
+    ++ (word o 0 ++ (word o 4294967295 ++ (zero_bytes 4 ++ (word o 128 ++ (word o 95 ++ (word o 1
     ++ (word o 4096 ++ (word o 1024 ++ (word o 4 ++ (word o 10
-    ++ (zeros 40 ++ (word o 2048 ++ (zeros 8 ++ (word o 1024 ++ (word o 32 ++ (zeros 4 ++ (word o 0
-    ++ (zeros 20 ++ (word o 32 ++ (word o 1024 ++ (word o 1024
-    ++ (zeros 12 ++ (word o 1 ++ (word o 1 ++ (word o 32 ++ (word o 128
+    ++ (zero_bytes 40 ++ (word o 2048 ++ (zero_bytes 8 ++ (word o 1024 ++ (word o 32 ++ (zero_bytes 4 ++ (word o 0
+    ++ (zero_bytes 20 ++ (word o 32 ++ (word o 1024 ++ (word o 1024
+    ++ (zero_bytes 12 ++ (word o 1 ++ (word o 1 ++ (word o 32 ++ (word o 128
     ++ (word o 1 ++ (word o 22 ++ (word o 29 ++ (word o 6 ++
-    (zeros 4 ++ ((mount_bytes ++ zeros 508) ++ (zeros 596 ++ (word o 60 ++ (word o 2 ++ (zeros 28
-    ++ (word o 1 ++ (zeros 12 ++ word o 72020))))))))))))))))))))))))))))))))))))))))))
+    (zero_bytes 4 ++ ((mount_bytes ++ zero_bytes 508) ++ (zero_bytes 596 ++ (word o 60 ++ (word o 2 ++ (zero_bytes 28
+    ++ (word o 1 ++ (zero_bytes 12 ++ word o 72020))))))))))))))))))))))))))))))))))))))))))
 
 -- the bytes, with another number of four bytes at a place
 unfoldable pub changed : Order → ℕ → ℕ → List ℕ → List ℕ
@@ -83,7 +83,7 @@ changed order place number bytes = take place bytes ++ (word order number ++ dro
 
 -- an image of 131,072 bytes with a superblock and a copy of it
 unfoldable pub image_of : List ℕ → List ℕ → List ℕ
-image_of primary copy = zeros 8192 ++ (primary ++ (zeros 6816 ++ (copy ++ zeros 113312)))
+image_of primary copy = zero_bytes 8192 ++ (primary ++ (zero_bytes 6816 ++ (copy ++ zero_bytes 113312)))
 
 -- the first fault of an image, if there is one
 unfoldable pub fault_of : List ℕ → Option ℕ → Option SuperFault
@@ -128,13 +128,13 @@ two_groups order = record {
 -- the bytes of inode 2, whose directory is at fragment 36, and the 512 bytes of that directory
 unfoldable pub root_inode : Order → List ℕ
 root_inode o =
-    bytes_in o 2 16877 ++ (bytes_in o 2 2 ++ (zeros 4 ++ (bytes_in o 8 512
-    ++ (zeros 24 ++ (word o 36 ++ (zeros 60 ++ (word o 2 ++ zeros 20)))))))
+    bytes_in o 2 16877 ++ (bytes_in o 2 2 ++ (zero_bytes 4 ++ (bytes_in o 8 512
+    ++ (zero_bytes 24 ++ (word o 36 ++ (zero_bytes 60 ++ (word o 2 ++ zero_bytes 20)))))))
 
 unfoldable pub root_chunk : Order → List ℕ
 root_chunk o =
     word o 2 ++ (bytes_in o 2 12 ++ ((4 ∷ 1 ∷ 46 ∷ 0 ∷ 0 ∷ 0 ∷ [])
-    ++ (word o 2 ++ (bytes_in o 2 500 ++ ((4 ∷ 2 ∷ 46 ∷ 46 ∷ []) ++ zeros 490)))))
+    ++ (word o 2 ++ (bytes_in o 2 500 ++ ((4 ∷ 2 ∷ 46 ∷ 46 ∷ []) ++ zero_bytes 490)))))
 
 -- the summary record of the base volume's group, and its group block
 unfoldable pub base_summary : Order → List ℕ
@@ -142,14 +142,14 @@ base_summary o = word o 1 ++ (word o 22 ++ (word o 29 ++ word o 6))
 
 unfoldable pub base_group : Order → List ℕ
 base_group o =
-    zeros 4 ++ (word o 590421 ++ (zeros 4 ++ (word o 0 ++ (zeros 4
-    ++ (word o 128 ++ (base_summary o ++ (zeros 12 ++ (word o 0 ++ (word o 0 ++ (word o 0
-    ++ (word o 2 ++ (zeros 16 ++ (zeros 8 ++ (word o 168 ++ (word o 172 ++ (zeros 68
+    zero_bytes 4 ++ (word o 590421 ++ (zero_bytes 4 ++ (word o 0 ++ (zero_bytes 4
+    ++ (word o 128 ++ (base_summary o ++ (zero_bytes 12 ++ (word o 0 ++ (word o 0 ++ (word o 0
+    ++ (word o 2 ++ (zero_bytes 16 ++ (zero_bytes 8 ++ (word o 168 ++ (word o 172 ++ (zero_bytes 68
     ++ ((7 ∷ 0 ∷ 0 ∷ 0 ∷ 0 ∷ 0 ∷ 0 ∷ 0 ∷ 238 ∷ []) ++ replicate 11 255)))))))))))))))))
 
 -- the whole image of `base_layout`: 131,072 bytes
 unfoldable pub base_image : Order → List ℕ
 base_image o =
-    zeros 8192 ++ (base_super o ++ (zeros 6816 ++ (base_super o
-    ++ (zeros 6816 ++ (base_group o ++ (zeros 4164 ++ (root_inode o ++ (zeros 3712
-    ++ (base_summary o ++ (zeros 4080 ++ (root_chunk o ++ zeros 93696)))))))))))
+    zero_bytes 8192 ++ (base_super o ++ (zero_bytes 6816 ++ (base_super o
+    ++ (zero_bytes 6816 ++ (base_group o ++ (zero_bytes 4164 ++ (root_inode o ++ (zero_bytes 3712
+    ++ (base_summary o ++ (zero_bytes 4080 ++ (root_chunk o ++ zero_bytes 93696)))))))))))

@@ -14,7 +14,7 @@ use Rattle.ffs_volume.specs.Messages.Kinds.{cannot_read, optimization, minfree, 
 use Rattle.ffs_volume.specs.Report.Opening.{setting_lines, opening_lines}
 use Rattle.ffs_volume.specs.Report.Whole.{summary_of}
 use Rattle.ffs_volume.specs.Messages.Shown.{shown, octal}
-use Rattle.ffs_volume.specs.Examples.Images.{zeros, base_layout, base_superblock, base_super, base_image}
+use Rattle.ffs_volume.specs.Examples.Images.{zero_bytes, base_layout, base_superblock, base_super, base_image}
 use Rattle.ffs_volume.specs.Examples.Images.{changed, image_of, fault_of, fault_with, two_groups}
 
 -- the first fault of the base image with another number in the primary alone
@@ -114,7 +114,7 @@ pub record OpeningExamples : Type 0 where
       ≡ opening (116 ∷ []) ∷ mounted (47 ∷ 109 ∷ 110 ∷ 116 ∷ []) ∷ []
   pub unreadable : opening_lines (116 ∷ []) (Some 1) (outcome [] (Some 1))
       ≡ location 1 ∷ opening (116 ∷ []) ∷ cannot_read 1 ∷ []
-  pub refused : opening_lines (116 ∷ []) None (outcome (zeros 9568) None) ≡ opening (116 ∷ []) ∷ bad_super Magic ∷ []
+  pub refused : opening_lines (116 ∷ []) None (outcome (zero_bytes 9568) None) ≡ opening (116 ∷ []) ∷ bad_super Magic ∷ []
   -- settings that aren't valid, and the last that are
   pub settings : setting_lines
       (record { layout = base_layout Little; optim = pos 2; minfree = pos 100; cstotal = []; mount = [] })

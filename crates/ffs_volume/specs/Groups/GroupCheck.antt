@@ -10,9 +10,8 @@ use Rattle.ffs_volume.specs.Disk.Areas.{is_reserved}
 use Rattle.ffs_volume.specs.Blocks.Owners.{Owner, fragments_of, all_steps}
 use Rattle.ffs_volume.specs.Blocks.Claims.{is_set, no_claims, after_owners}
 pub use Rattle.ffs_volume.specs.Messages.Kinds.{unless}
-use Rattle.ffs_volume.specs.Groups.Records.{group_block, summary_record, group_numbers, has_right_magic}
-use Rattle.ffs_volume.specs.Groups.Records.{maps_fit, has_right_maps, has_right_sums, has_right_record}
-use Rattle.ffs_volume.specs.Groups.Records.{has_right_totals}
+use Rattle.ffs_volume.specs.Groups.Records.{group_block, summary_record, group_numbers, has_right_magic, maps_fit}
+use Rattle.ffs_volume.specs.Groups.Records.{has_right_maps, has_right_sums, has_right_record, has_right_totals}
 
 -- the lines of a group whose magic number is right
 abbrev pub records_lines : (v : Layout) (image : List ℕ) (free : ℕ → Bool) (class : ℕ → Class) (c : ℕ) →

@@ -14,7 +14,7 @@ pub data TreeMessage : Type 0 where
   root_suspect : TreeMessage  -- DUPS/BAD IN ROOT INODE
   dir_short : (about : Attr) (path : List ℕ) → TreeMessage  -- DIRECTORY TOO SHORT
   dir_length : (path : List ℕ) (size : ℕ) → TreeMessage  -- LENGTH %d NOT MULTIPLE OF 512
-  dir_gap : (path : List ℕ) → TreeMessage  -- CONTAINS EMPTY BLOCKS: it has a Gap
+  dir_empty : (path : List ℕ) → TreeMessage  -- CONTAINS EMPTY BLOCKS: it has a Gap
   dir_corrupt : (about : Attr) (path : List ℕ) → TreeMessage  -- DIRECTORY CORRUPTED
   missing_dot : (about : Attr) (path : List ℕ) → TreeMessage
   missing_dot_first : (about : Attr) (path name : List ℕ) → TreeMessage  -- MISSING '.', another entry is first
@@ -37,7 +37,7 @@ pub data TreeMessage : Type 0 where
   dead_marked : (label : Label) (about : Attr) → TreeMessage  -- BAD/DUP, in phase 4, of an inode without entry
   dead_zero : (about : Attr) → TreeMessage  -- ZERO LENGTH DIR, in phase 4, of one without entry
   unref : (label : Label) (about : Attr) → TreeMessage  -- UNREF, with links: reconnect it?
-  unref_unlinked : (label : Label) (about : Attr) → TreeMessage  -- UNREF, without links: clear it?
+  unref_zero : (label : Label) (about : Attr) → TreeMessage  -- UNREF, without links: clear it?
   link_count : (label : Label) (about : Attr) (nlink : ℤ) (references : ℕ) → TreeMessage
 
 -- a message of a report: of the opening, a heading, a message of a phase, the summary, or the end of a run that isn't

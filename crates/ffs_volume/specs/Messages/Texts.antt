@@ -17,11 +17,11 @@ use Rattle.ffs_volume.specs.Messages.Kinds.{Message, location, opening, bad_supe
 use Rattle.ffs_volume.specs.Messages.Kinds.{optimization, minfree, mounted, phase1, phase1b, phase2, phase3}
 use Rattle.ffs_volume.specs.Messages.Kinds.{phase4, phase5, of_blocks, of_tree, summary, TreeMessage}
 use Rattle.ffs_volume.specs.Messages.Kinds.{root_none, root_not_dir, root_suspect, dir_short, dir_length}
-use Rattle.ffs_volume.specs.Messages.Kinds.{dir_gap, dir_corrupt, missing_dot, missing_dot_first}
+use Rattle.ffs_volume.specs.Messages.Kinds.{dir_empty, dir_corrupt, missing_dot, missing_dot_first}
 use Rattle.ffs_volume.specs.Messages.Kinds.{number_dot, kind_dot, missing_dotdot, missing_dotdot_second}
 use Rattle.ffs_volume.specs.Messages.Kinds.{number_dotdot, kind_dotdot, extra_dot, extra_dotdot, out_of_range}
 use Rattle.ffs_volume.specs.Messages.Kinds.{whiteout, unallocated, dup_bad, zero_dir, extraneous, kind_entry}
-use Rattle.ffs_volume.specs.Messages.Kinds.{unref_dir, dead_marked, dead_zero, unref, unref_unlinked, link_count}
+use Rattle.ffs_volume.specs.Messages.Kinds.{unref_dir, dead_marked, dead_zero, unref, unref_zero, link_count}
 use Rattle.ffs_volume.specs.Messages.Shown.{shown, octal, sign_text}
 
 -- the label before a path
@@ -103,8 +103,8 @@ block_message_text MapsWrong = texts.MAPS_WRONG.now
 block_message_text GroupSums = texts.GROUP_SUMS.now
 
 -- a directory that has a Gap
-abbrev pub gap_text : List ℕ → List ℕ
-gap_text path =
+abbrev pub empty_blocks_text : List ℕ → List ℕ
+empty_blocks_text path =
     concat (texts.DIRECTORY.now ∷ map shown path ∷ texts.DIR_EMPTY.now ∷ [])
 
 -- a directory whose size is no multiple of 512
@@ -140,7 +140,7 @@ tree_message_text root_not_dir = texts.ROOT_NOT_DIR.now
 tree_message_text root_suspect = texts.ROOT_SUSPECT.now
 tree_message_text (dir_short about path) = path_text texts.DIR_SHORT.now about Dir path texts.FIX.now
 tree_message_text (dir_length path size) = length_text path size
-tree_message_text (dir_gap path) = gap_text path
+tree_message_text (dir_empty path) = empty_blocks_text path
 tree_message_text (dir_corrupt about path) = path_text texts.DIR_CORRUPT.now about Dir path texts.SALVAGE.now
 tree_message_text (missing_dot about path) = path_text texts.MISSING_DOT.now about Dir path texts.FIX.now
 tree_message_text (missing_dot_first about path name) =
@@ -166,7 +166,7 @@ tree_message_text (unref_dir about) = inode_text texts.UNREF_DIR.now about texts
 tree_message_text (dead_marked label about) = labelled_text texts.DEAD_MARKED.now label about texts.CLEAR.now
 tree_message_text (dead_zero about) = inode_text texts.DEAD_ZERO.now about texts.CLEAR.now
 tree_message_text (unref label about) = labelled_text texts.UNREF.now label about texts.RECONNECT_OR_CLEAR.now
-tree_message_text (unref_unlinked label about) = labelled_text texts.UNREF.now label about texts.CLEAR.now
+tree_message_text (unref_zero label about) = labelled_text texts.UNREF.now label about texts.CLEAR.now
 tree_message_text (link_count label about nlink references) = links_text label about nlink references
 
 -- each number with what is after it; the fragmentation in tenths of a percent, its sign first

@@ -1,12 +1,11 @@
 -- The messages of the opening: which volume, its superblock or the first fault of it.
-use Rattle.std.specs.Prelude.{ℕ, ℤ, pos, negsuc, List, [], ◌∷◌, ◌++◌, Bool, true, false}
+use Rattle.std.specs.Prelude.{ℕ, ℤ, pos, negsuc, List, [], ◌∷◌, ◌++◌, Bool, false}
 use Rattle.std.specs.Prelude.{nat_le, nat_lt, take_while, Option, Some, None, Result, Ok, Err}
 use Rattle.ffs_volume.specs.declared.SuperFault.{SuperFault}
 use Rattle.ffs_volume.specs.declared.SuperFault.TheVariants.{CannotRead, Magic, InodeFormat, Ncg, Cpg}
 use Rattle.ffs_volume.specs.declared.SuperFault.TheVariants.{Ncyl, TooLarge, Shape, Short, Disagree}
 use Rattle.ffs_volume.specs.Messages.Kinds.{Message, location, opening, mounted}
 use Rattle.ffs_volume.specs.Messages.Kinds.{bad_super, cannot_read, optimization, minfree, unless}
-pub use Rattle.ffs_volume.specs.Messages.Kinds.{unless as message_unless}
 use Rattle.ffs_volume.specs.Disk.Superblock.{Superblock}
 use Rattle.ffs_volume.specs.Disk.Outcome.{outcome}
 

@@ -32,8 +32,8 @@ unfoldable pub run_count : Layout → List ℕ → ℕ
 run_count v image = (after_owners v (no_claims v) (owners_of v image)).runs
 
 -- how many fragments are claimed; reserved ones don't count
-unfoldable pub used_count : Layout → List ℕ → ℕ
-used_count v image =
+unfoldable pub claimed_count : Layout → List ℕ → ℕ
+claimed_count v image =
     count_by (λ f. is_set (after_owners v (no_claims v) (owners_of v image)).used f && not (is_reserved v f))
     (range_with_len 0 v.size)
 
@@ -70,7 +70,7 @@ later_phase_lines image s =
     phase3 ∷ (map of_tree (connectivity_lines (volume_of s.layout image))
     ++ (phase4 ∷ (map of_tree (reference_lines (volume_of s.layout image))
     ++ (phase5 ∷ (group_check_lines image s
-    ++ (summary_of s (file_count s.layout image) (used_count s.layout image) ∷ []))))))
+    ++ (summary_of s (file_count s.layout image) (claimed_count s.layout image) ∷ []))))))
 
 -- the phases and the summary; the check stops after phase 2 where inode 2 isn't a directory
 unfoldable pub phase_lines : List ℕ → Superblock → List Message

@@ -1,5 +1,5 @@
 use Rattle.std.proofs.Common.{◌≡◌}
-use Rattle.ffs_walk.specs.Rests.{left}
+use Rattle.ffs_walk.specs.Rests.{most_steps_left}
 use Rattle.ffs_walk.specs.Windows.{BlocksHold, HasRoom}
 use Rattle.ffs_base_tests.proofs.walk.steps.Given as goal
 
@@ -12,4 +12,4 @@ invariant-loop-steps g l = record {
 }
 
 abbrev pub decreases-loop-steps : goal.decreases-loop-steps
-decreases-loop-steps g l = left l.walk
+decreases-loop-steps g l = most_steps_left l.walk

@@ -1,8 +1,8 @@
 use Rattle.std.proofs.Common.{◌∙◌, ap, arith, rules, vec_len}
 use Rattle.ffs_base_tests.proofs.workspace.root_by_blocks.Goals as goal
 
-pub by_blocks-requires-clause-ready : goal.by_blocks-requires-clause-ready
-by_blocks-requires-clause-ready c =
+pub by_blocks-found-requires-clause-ready : goal.by_blocks-found-requires-clause-ready
+by_blocks-found-requires-clause-ready c =
     let table = c.over-table.ensures in
     record {
       volume = search rules;

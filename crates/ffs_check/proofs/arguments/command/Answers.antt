@@ -12,6 +12,6 @@ returns c =
     c.new.ensures.app) in
     c.in_ok-arg-3.ensures.shape c.image_argument.ensures.local
     ∙ ap₂ with_rule (c.in_ok-arg-2.ensures.shape c.sector_argument.ensures.local
-    ∙ ap₂ with_rule (c.in_ok-arg.ensures.shape c.in_ok-answer_no.ensures.local
-    ∙ ap₂ with_rule bare_is c.in_ok-answer_no.ensures.rule) c.sector_argument.ensures.rule)
+    ∙ ap₂ with_rule (c.in_ok-arg.ensures.shape c.in_ok-read_only.ensures.local
+    ∙ ap₂ with_rule bare_is c.in_ok-read_only.ensures.rule) c.sector_argument.ensures.rule)
     c.image_argument.ensures.rule

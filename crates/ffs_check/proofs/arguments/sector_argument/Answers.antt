@@ -4,7 +4,7 @@ use Rattle.clap.specs.declared.builder.arg.Arg.{Arg}
 use Rattle.clap.specs.Words.{Rule, new_rule, rule_of}
 use Rattle.clap.specs.declared.builder.ArgAction.TheVariants.{Set}
 use Rattle.clap.specs.declared.builder.value_parser.ValueParser.TheVariants.{Signed}
-use Rattle.ffs_check.proofs.Asked.{parsed}
+use Rattle.ffs_check.proofs.MatchLaws.{parsed}
 use Rattle.ffs_check.proofs.arguments.sector_argument.Goals as goal
 
 pub returns-clause-rule : goal.returns-clause-rule

@@ -7,8 +7,8 @@ use Rattle.ffs_check.proofs.Endings.{ran_known}
 use Rattle.ffs_check.proofs.Taken.{not_for_memory}
 use Rattle.ffs_check.proofs.check.check_found.Goals as goal
 
-pub run_rest-requires : goal.run_rest-requires
-run_rest-requires g c = record {
+pub run_to_end-requires : goal.run_to_end-requires
+run_to_end-requires g c = record {
   ready = record {
     made = c.in-Ok.ensures.new.made;
     volume = c.requires.volume;
@@ -20,10 +20,10 @@ pub returns-in-Ok-clause-followed : goal.returns-in-Ok-clause-followed
 returns-in-Ok-clause-followed g c =
     let s = superblock_in c.args.superblock.now in
     inr (ran_known false _ _ (λ bytes. phase_lines bytes s) (λ bytes. continues_after_root (volume_of s.layout bytes)) _
-    _ _ _ _ (λ bytes t. (t, c.in-Ok.ensures.new.fresh)) c.run_rest.ensures.ran)
+    _ _ _ _ (λ bytes t. (t, c.in-Ok.ensures.new.fresh)) c.run_to_end.ensures.ran)
 
 pub returns-in-Ok-clause-refused : goal.returns-in-Ok-clause-refused
-returns-in-Ok-clause-refused g c e = absurd (not_for_memory _ _ _ _ _ _ _ _ c.run_rest.ensures.ran e)
+returns-in-Ok-clause-refused g c e = absurd (not_for_memory _ _ _ _ _ _ _ _ c.run_to_end.ensures.ran e)
 
 pub returns-in-Ok-clause-asked : goal.returns-in-Ok-clause-asked
 returns-in-Ok-clause-asked g c = inl c.in-Ok.ensures.asks
@@ -35,7 +35,7 @@ pub returns-in-Err-clause-asked : goal.returns-in-Err-clause-asked
 returns-in-Err-clause-asked g c = inr c.in-Err.ensures.asks
 
 pub returns-in-Ok-clause-reads : goal.returns-in-Ok-clause-reads
-returns-in-Ok-clause-reads g c = λ bytes t. c.run_rest.ensures.reads bytes (t, c.in-Ok.ensures.new.fresh)
+returns-in-Ok-clause-reads g c = λ bytes t. c.run_to_end.ensures.reads bytes (t, c.in-Ok.ensures.new.fresh)
 
 pub returns-in-Err-clause-reads : goal.returns-in-Err-clause-reads
 returns-in-Err-clause-reads g c = λ bytes t numbered. omega arith

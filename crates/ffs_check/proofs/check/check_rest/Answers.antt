@@ -12,8 +12,8 @@ pub returns-clause-prints : goal.returns-clause-prints
 returns-clause-prints g c =
     let s = superblock_in c.args.superblock.now in
     prints_at (super_lines s) _ (λ bytes. phase_lines bytes s) (λ bytes. continues_after_root (volume_of s.layout bytes)) _ _ _
-    (g.W.Output.sink c.run_rest.new.report.out.now) _ _ (search rules)
+    (g.W.Output.sink c.run_to_end.new.report.out.now) _ _ (search rules)
     (prints_phases _ (super_lines s) (c.opening_defects.ensures ∙ opening_defect s) _ (λ bytes. phase_lines bytes s)
     (λ bytes. continues_after_root (volume_of s.layout bytes)) _ _
-    _ (g.W.Output.sink c.args.out.now) (progress g.W.Output.sink c.run_rest.new.report) _
-    (rw c.new-report.ensures at c.run_rest.ensures.ran))
+    _ (g.W.Output.sink c.args.out.now) (progress g.W.Output.sink c.run_to_end.new.report) _
+    (rw c.new-report.ensures at c.run_to_end.ensures.ran))

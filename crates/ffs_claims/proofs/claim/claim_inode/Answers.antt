@@ -5,11 +5,12 @@ use Rattle.ffs_volume.specs.Blocks.Inodes.{class_of}
 use Rattle.ffs_volume.specs.Blocks.Owners.{Owner, owner_of}
 use Rattle.ffs_volume.specs.Blocks.BlockCheck.{owner_lines}
 use Rattle.ffs_volume.specs.Blocks.Claims.{after_owner}
+use Rattle.ffs_volume.proofs.Results.{on_ok as ok_then}
 use Rattle.ffs_report.proofs.Reporting.{of_begins, of_reads, reports_same, reports_knowing}
 use Rattle.ffs_workspace.specs.Holds.{claims_of}
 use Rattle.ffs_claims.specs.Leaves.{Stored}
 use Rattle.ffs_claims.specs.Lines.{of_lines, owner_with}
-use Rattle.ffs_claims.proofs.Inodes.{owner_is, ok_then, ok_where}
+use Rattle.ffs_claims.proofs.Inodes.{owner_is, ok_where}
 use Rattle.ffs_claims.proofs.Potentials.{used_below}
 use Rattle.ffs_workspace.proofs.Readiness.{ready_table}
 use Rattle.ffs_claims.proofs.claim.claim_inode.Goals as goal
@@ -22,8 +23,8 @@ inode-requires g c =
       ready = record { volume = ready.volume; made = ready.made.table; holds = ready.windows.table };
     }
 
-pub claim_owner-requires : goal.claim_owner-requires
-claim_owner-requires g c =
+pub claim_read_inode-requires : goal.claim_read_inode-requires
+claim_read_inode-requires g c =
     let ok = c.in_ok-inode.ensures.reads.read in
     record {
       ready = record {
@@ -36,7 +37,6 @@ claim_owner-requires g c =
           only_data = c.requires.ready.claim.only_data;
         };
       };
-      class = c.class_of.ensures;
       walk = c.requires.walk;
     }
 
@@ -73,21 +73,21 @@ returns-clause-claiming g c = record {
       let s = claims_of c.args.workspace.now in
       reports_same (Unit {0}) _
       (λ bytes. of_lines (owner_lines v s (owner_with v bytes c.args.number c.in_ok-inode.inode)))
-      (λ bytes. of_lines (owner_lines v s (owner_of v bytes c.args.number))) _ _ c.claim_owner.result
+      (λ bytes. of_lines (owner_lines v s (owner_of v bytes c.args.number))) _ _ c.claim_read_inode.result
       (λ bytes t. ap (λ (o : Owner). of_lines (owner_lines v s o))
       (owner_is v bytes c.args.number c.in_ok-inode.inode (c.in_ok-inode.ensures.reads.inode bytes t)))
-      (reports_knowing (Unit {0}) _ _ _ _ _ c.claim_owner.result
-      (λ bytes t. ap (λ d. d.contents) c.in_ok-inode.ensures.reads.read ∙ t) c.claim_owner.ensures.claiming.text);
+      (reports_knowing (Unit {0}) _ _ _ _ _ c.claim_read_inode.result
+      (λ bytes t. ap (λ d. d.contents) c.in_ok-inode.ensures.reads.read ∙ t) c.claim_read_inode.ensures.claiming.text);
   claims = let v = c.args.geometry.now.layout in
       let s = claims_of c.args.workspace.now in
-      ok_where c.claim_owner.result _ _
-      (λ bytes. claims_of c.claim_owner.new.workspace
+      ok_where c.claim_read_inode.result _ _
+      (λ bytes. claims_of c.claim_read_inode.new.workspace
       ≡ after_owner v s (owner_with v bytes c.args.number c.in_ok-inode.inode)) _
       (ap (λ d. d.contents) c.in_ok-inode.ensures.reads.read)
       (λ bytes t h. h ∙ ap (λ (o : Owner). after_owner v s o)
       (owner_is v bytes c.args.number c.in_ok-inode.inode (c.in_ok-inode.ensures.reads.inode bytes t)))
-      c.claim_owner.ensures.claiming.claims;
-  left = let left = c.claim_owner.ensures.claiming.left in
+      c.claim_read_inode.ensures.claiming.claims;
+  left = let left = c.claim_read_inode.ensures.claiming.left in
       record {
         image = rw (c.in_ok-inode.ensures.reads.read) at left.image;
         claim = left.claim;
@@ -101,16 +101,15 @@ pub returns-clause-stored : goal.returns-clause-stored
 returns-clause-stored g c =
     let v = c.args.geometry.now.layout in
     let old = c.args.workspace.now in
-    let new = c.claim_owner.new.workspace in
-    ok_then c.claim_owner.result _ _
+    let new = c.claim_read_inode.new.workspace in
+    ok_then c.claim_read_inode.result _ _
     (λ h bytes t.
-    let k = rw c.class_of.ensures at h in
     subst (λ (i : Inode). Stored c.args.number (class_of v i) i old new) (c.in_ok-inode.ensures.reads.inode bytes t)
-    (record { kinds = k.kinds; marked = k.marked; notes = k.notes; starts = k.starts }))
-    c.claim_owner.ensures.stored
+    (record { kinds = h.kinds; marked = h.marked; notes = h.notes; starts = h.starts }))
+    c.claim_read_inode.ensures.stored
 
 pub returns-in_err-inode-clause-counted : goal.returns-in_err-inode-clause-counted
 returns-in_err-inode-clause-counted g c = omega (arith, c.in_err-inode.ensures.counted)
 
 pub returns-clause-counted : goal.returns-clause-counted
-returns-clause-counted g c = omega (arith, c.in_ok-inode.ensures.counted, c.claim_owner.ensures.counted)
+returns-clause-counted g c = omega (arith, c.in_ok-inode.ensures.counted, c.claim_read_inode.ensures.counted)

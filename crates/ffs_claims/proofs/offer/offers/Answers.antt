@@ -19,7 +19,7 @@ returns-in_err-offer-clause-said g c =
     (offer_lines c.args.geometry.now.layout c.args.number (claims_of c.loop-place.workspace) f)) _ _ _
     c.loop-place.invariant.said
     (offers_more c.args.geometry.now.layout c.args.number (claims_of c.loop-place.workspace)
-    (claims_of c.offer.new.workspace) c.args.run.start c.args.run.len c.loop-place.place f
+    (claims_of c.offer.new.workspace) c.args.start c.args.len c.loop-place.place f
     c.loop-place-test.true (omega arith) c.offer.ensures.claims)
     c.in_err-offer.ensures.said)
 
@@ -41,12 +41,12 @@ loop-place-preserved g c =
             (claims_of c.offer.new.workspace) f now,
       );
       claims = inv.claims ∙ offers_after c.args.geometry.now.layout (claims_of c.loop-place.workspace)
-          (claims_of c.offer.new.workspace) c.args.run.start c.args.run.len c.loop-place.place f
+          (claims_of c.offer.new.workspace) c.args.start c.args.len c.loop-place.place f
           c.loop-place-test.true (omega arith) c.offer.ensures.claims;
       said = to_says _ _ _ (of_lines
           (offer_lines c.args.geometry.now.layout c.args.number (claims_of c.loop-place.workspace) f)) _ _ _ inv.said
           (offers_more c.args.geometry.now.layout c.args.number (claims_of c.loop-place.workspace)
-          (claims_of c.offer.new.workspace) c.args.run.start c.args.run.len c.loop-place.place f
+          (claims_of c.offer.new.workspace) c.args.start c.args.len c.loop-place.place f
           c.loop-place-test.true (omega arith) c.offer.ensures.claims)
           c.in_ok-offer.ensures.said;
     }
@@ -58,10 +58,10 @@ loop-place-init g c =
     record {
       only = offers_none c.args.geometry.now.layout c.args.workspace.now c.requires.room.made;
       kept = omega arith;
-      claims = ap (after_offers v s) (from_start c.args.run.start c.args.run.len);
+      claims = ap (after_offers v s) (from_start c.args.start c.args.len);
       said = to_same _ _ _ _ _ (to_begins
-          (of_lines (lines_of_offers v c.args.number s (range_with_len c.args.run.start c.args.run.len))) _)
-          (ap (λ (fs : List ℕ). of_lines (lines_of_offers v c.args.number s fs)) (from_start c.args.run.start c.args.run.len));
+          (of_lines (lines_of_offers v c.args.number s (range_with_len c.args.start c.args.len))) _)
+          (ap (λ (fs : List ℕ). of_lines (lines_of_offers v c.args.number s fs)) (from_start c.args.start c.args.len));
     }
 
 pub offer-requires : goal.offer-requires
@@ -73,6 +73,6 @@ offer-requires g c =
         room = omega (arith, inv.kept, c.requires.room.room, c.loop-place-test.true);
       };
       known = λ fits. ap (is_fragment_in_range c.args.geometry.now.layout) (omega arith)
-          ∙ each_ok c.args.geometry.now.layout c.args.run.start c.args.run.len c.loop-place.place (c.requires.known fits)
+          ∙ each_ok c.args.geometry.now.layout c.args.start c.args.len c.loop-place.place (c.requires.known fits)
           c.loop-place-test.true;
     }

@@ -10,23 +10,23 @@ use Rattle.ffs_claims.proofs.offer.run_in_range.Goals as goal
 pub claim-requires-clause-below : goal.claim-requires-clause-below
 claim-requires-clause-below g c = omega (
   arith,
-  run_below c.args.geometry.now.layout c.args.run.start c.args.run.len c.requires.some (c.requires.can.known refl),
+  run_below c.args.geometry.now.layout c.args.start c.args.len c.requires.some (c.requires.can.known refl),
   c.requires.can.room.made.claimed,
 )
 
 pub returns-then-claim-clause-said : goal.returns-then-claim-clause-said
 returns-then-claim-clause-said g c =
     let few : nat_lt c.args.workspace.now.dups 11 ≡ true = grind (arith, nat_tests) in
-    let whole = whole_is c.args.geometry.now.layout (claims_of c.args.workspace.now) c.args.run.start c.args.run.len few
+    let whole = whole_is c.args.geometry.now.layout (claims_of c.args.workspace.now) c.args.start c.args.len few
     (c.requires.can.known refl) (c.claim.ensures.clear c.if-claim.true) in
     rw (whole.silent c.args.number) (said_none _)
 
 pub returns-then-claim-clause-claims : goal.returns-then-claim-clause-claims
 returns-then-claim-clause-claims g c =
     let few : nat_lt c.args.workspace.now.dups 11 ≡ true = grind (arith, nat_tests) in
-    let whole = whole_is c.args.geometry.now.layout (claims_of c.args.workspace.now) c.args.run.start c.args.run.len few
+    let whole = whole_is c.args.geometry.now.layout (claims_of c.args.workspace.now) c.args.start c.args.len few
     (c.requires.can.known refl) (c.claim.ensures.clear c.if-claim.true) in
-    let more : c.from.result ≡ c.args.run.len = omega arith in
+    let more : c.from.result ≡ c.args.len = omega arith in
     record {
       claims_are = rw (c.claim.ensures.claimed c.if-claim.true, more) (sym whole.claims);
       uncut = sym c.requires.open;

@@ -13,12 +13,13 @@ use Rattle.ffs_volume.specs.Report.Whole.{run_count}
 use Rattle.ffs_workspace.specs.Holds.{claims_of, all_claims, first_marked_at}
 use Rattle.ffs_volume.specs.Encodings.Kinds.{kind_at}
 use Rattle.ffs_volume.specs.Encodings.Links.{start_at}
+use Rattle.ffs_volume.proofs.OwnerLaws.{before_next}
 use Rattle.ffs_workspace.specs.Lengths.{inodes_of}
 use Rattle.ffs_claims.specs.Lines.{of_lines, owners_from}
 use Rattle.ffs_claims.proofs.Duplicates.{dups_are}
 use Rattle.ffs_claims.proofs.Potentials.{used_below}
 use Rattle.ffs_claims.proofs.Frames.{image_from, ready_still}
-use Rattle.ffs_claims.proofs.Numbers.{before_next, before_first, before_end, lines_next, lines_end, filled_next}
+use Rattle.ffs_claims.proofs.Numbers.{before_first, before_end, lines_next, lines_end, filled_next}
 use Rattle.ffs_claims.proofs.Numbers.{filled_end, filled_begin, is_inside, is_outside, kind_out, kind_in, mark_out}
 use Rattle.ffs_claims.proofs.Numbers.{mark_in, note_out, note_in, start_out, start_in, first_lines}
 use Rattle.ffs_claims.proofs.pass1.phase1.Goals as goal
@@ -43,9 +44,9 @@ loop-number-init g c =
     record {
       ready = record {
         ready = ready_still v _ _ _ c.reserve.ensures.only.made c.reserve.ensures.only.windows c.requires.ready;
-        only_data = c.new-walker.ensures.area;
+        only_data = c.empty-area.ensures v;
       };
-      walk = c.new-walker.ensures.walk;
+      walk = c.ended-walk.ensures.geometry;
       device = refl;
       low = omega arith;
       high = λ h. omega arith;

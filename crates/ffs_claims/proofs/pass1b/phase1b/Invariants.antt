@@ -1,6 +1,6 @@
 use Rattle.std.proofs.Common.{◌≡◌, ◌+◌, ◌-◌, ◌<◌, ◌≤◌, ◌∷◌}
 use Rattle.ffs_report.specs.Progress.{progress}
-use Rattle.ffs_report.specs.Known.{ForBytes}
+use Rattle.ffs_report.specs.Known.{ForBytes, IsContents}
 use Rattle.ffs_report.specs.Runs.{SaidOf}
 use Rattle.ffs_volume.specs.Blocks.BlockCheck.{first_offer_lines, kept_in_owners, phase1b_lines}
 use Rattle.ffs_volume.specs.Blocks.Claims.{no_claims}
@@ -8,9 +8,9 @@ use Rattle.ffs_volume.specs.Blocks.KeptSteps.{claims_before}
 use Rattle.ffs_volume.specs.Messages.Kinds.{phase1b}
 use Rattle.ffs_volume.specs.Blocks.Owners.{owners_of}
 use Rattle.ffs_maps.specs.Bits.{bits_of}
+use Rattle.ffs_workspace.specs.Holds.{HoldsPhase1}
 use Rattle.ffs_workspace.specs.Lengths.{inodes_of}
 use Rattle.ffs_workspace.specs.Ready.{IsReady}
-use Rattle.ffs_claims.specs.Begins.{BeginsPhase1b}
 use Rattle.ffs_claims.specs.Lines.{of_lines, owners_from}
 use Rattle.ffs_claims.specs.Reporting.{SameClaims}
 use Rattle.ffs_claims.specs.SecondLook.{RunsPay, looked_at, owners_runs, second_look}
@@ -24,20 +24,24 @@ invariant-loop-number g l = record {
   claims : SameClaims l.fn.workspace l.workspace;
   low : 2 ≤ l.number;
   high : 2 < l.number → l.number ≤ inodes_of l.geometry.layout;
-  runs : ForBytes (BeginsPhase1b l.geometry.layout (g.I.Image.device l.fn.image) l.fn.workspace) (λ bytes.
+  runs : ForBytes (λ bytes. IsContents (g.I.Image.device l.fn.image).contents bytes
+      × HoldsPhase1 l.geometry.layout bytes l.fn.workspace) (λ bytes.
       l.workspace.runs_again ≤ (claims_before l.geometry.layout bytes l.number).runs);
   reads : RunsPay (g.I.Image.reads l.fn.image + (l.number - 2)) (g.I.Image.reads l.image) 0 l.workspace.runs_again;
-  count : ForBytes (BeginsPhase1b l.geometry.layout (g.I.Image.device l.fn.image) l.fn.workspace) (λ bytes.
+  count : ForBytes (λ bytes. IsContents (g.I.Image.device l.fn.image).contents bytes
+      × HoldsPhase1 l.geometry.layout bytes l.fn.workspace) (λ bytes.
       l.workspace.runs_again + looked_at (bits_of l.workspace.duplicates)
       (owners_runs l.geometry.layout (claims_before l.geometry.layout bytes l.number)
       (owners_from l.geometry.layout bytes l.number))
       ≡ second_look l.geometry.layout bytes);
-  reported : ForBytes (BeginsPhase1b l.geometry.layout (g.I.Image.device l.fn.image) l.fn.workspace) (λ bytes.
+  reported : ForBytes (λ bytes. IsContents (g.I.Image.device l.fn.image).contents bytes
+      × HoldsPhase1 l.geometry.layout bytes l.fn.workspace) (λ bytes.
       Reporting (kept_in_owners l.geometry.layout (claims_before l.geometry.layout bytes l.number)
       (owners_from l.geometry.layout bytes l.number))
       (kept_in_owners l.geometry.layout (no_claims l.geometry.layout) (owners_of l.geometry.layout bytes))
       l.fn.workspace l.workspace);
-  said : SaidOf (BeginsPhase1b l.geometry.layout (g.I.Image.device l.fn.image) l.fn.workspace)
+  said : SaidOf (λ bytes. IsContents (g.I.Image.device l.fn.image).contents bytes
+      × HoldsPhase1 l.geometry.layout bytes l.fn.workspace)
       (λ bytes. of_lines (first_offer_lines (bits_of l.workspace.duplicates)
       (kept_in_owners l.geometry.layout (claims_before l.geometry.layout bytes l.number)
       (owners_from l.geometry.layout bytes l.number))))

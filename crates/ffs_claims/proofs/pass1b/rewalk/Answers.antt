@@ -7,7 +7,7 @@ use Rattle.ffs_volume.specs.Encodings.Replay.{Replay, fresh_replay, is_replay_op
 use Rattle.ffs_volume.specs.Encodings.ReplayCounts.{replay_step_by_cut}
 use Rattle.ffs_maps.specs.Bits.{bits_of}
 use Rattle.ffs_walk.specs.Keepings.{replay_in}
-use Rattle.ffs_walk.specs.Rests.{rest}
+use Rattle.ffs_walk.specs.Rests.{steps_left}
 use Rattle.ffs_walk.specs.Counts.{unread}
 use Rattle.ffs_walk.proofs.Counted.{top_held, top_unread}
 use Rattle.ffs_report.specs.Known.{ForBytes, IsContents}
@@ -23,7 +23,6 @@ use Rattle.ffs_claims.proofs.Rewalks.{open_first, gaps_offer, offers_none, offer
 use Rattle.ffs_claims.proofs.Rewalks.{Rewalking, rewalk_begins, rewalk_on, rewalk_gaps, rewalk_ends, rewalk_over}
 use Rattle.ffs_claims.proofs.Rewalks.{rewalk_said, rewalked_to}
 use Rattle.ffs_claims.proofs.RunReads.{runs_pay_on, runs_pay_less}
-use Rattle.ffs_claims.proofs.pass1b.rewalk.Invariants.{cut_at}
 use Rattle.ffs_claims.proofs.pass1b.rewalk.Goals as goal
 
 pub loop-next-init : goal.loop-next-init
@@ -31,12 +30,12 @@ loop-next-init g c =
     let v = c.args.geometry.now.layout in
     let n = c.args.number in
     let d = bits_of c.args.workspace.now.duplicates in
-    let cut = cut_at c.args.workspace.now c.args.number in
+    let cut = c.args.cut in
     let r = replay_in c.start-keeping.result in
     let begun = c.start-keeping.ensures.fresh in
     record {
       ready = c.requires.can.ready;
-      cut = c.start-keeping.ensures.cut ∙ c.cut_of-cut.ensures;
+      cut = c.start-keeping.ensures.cut;
       going = ap (is_replay_open cut) begun ∙ open_first cut;
       pending = c.requires.can.pending;
       geometry = c.start-walk.ensures.geometry;
@@ -48,7 +47,7 @@ loop-next-init g c =
         paid = λ _. omega (arith, top_unread c.start-walk.result c.start-walk.ensures.top);
       };
       walk = λ bytes t. rewalk_begins v n cut (steps_of v c.args.inode.now bytes) r
-          (rest bytes c.start-walk.result) c.args.workspace.now
+          (steps_left bytes c.start-walk.result) c.args.workspace.now
           begun (c.start-walk.ensures.steps bytes);
       said = of_same _ _ _ _ _ _
           (of_begins _ (λ bytes. of_lines
@@ -104,7 +103,7 @@ returns-in_err-report_again-clause-rewalks g c =
     let v = c.args.geometry.now.layout in
     let n = c.args.number in
     let d = bits_of c.loop-next.workspace.duplicates in
-    let cut = cut_at c.args.workspace.now c.args.number in
+    let cut = c.args.cut in
     let r = replay_in c.loop-next.keeping in
     let step = c.in-Some.next in
     let ok = c.in_ok-next.ensures.leaves.read in
@@ -114,10 +113,10 @@ returns-in_err-report_again-clause-rewalks g c =
     let only = c.report_again.ensures.only in
     rw (p.1, p.2) (record {
       text = of_stops _ _ (λ bytes. of_lines (first_offer_lines (after_first d (step_offers_again v n cut r step))
-          (offers_again v n cut (replay_step_by_cut v cut r step) (rest bytes c.next.new.self)))) _
+          (offers_again v n cut (replay_step_by_cut v cut r step) (steps_left bytes c.next.new.self)))) _
           (of_lines (first_offer_lines d (step_offers_again v n cut r step))) _ _ _ inv.said
-          (λ bytes t. lines_step v n cut r (replay_step_by_cut v cut r step) step (rest bytes c.loop-next.walk)
-          (rest bytes c.next.new.self) d (after_first d (step_offers_again v n cut r step)) (next bytes t) refl refl)
+          (λ bytes t. lines_step v n cut r (replay_step_by_cut v cut r step) step (steps_left bytes c.loop-next.walk)
+          (steps_left bytes c.next.new.self) d (after_first d (step_offers_again v n cut r step)) (next bytes t) refl refl)
           (rw inv.cut at c.in_err-report_again.ensures.said);
       rewalked = tt;
       runs = λ bytes t. omega (
@@ -125,7 +124,7 @@ returns-in_err-report_again-clause-rewalks g c =
         (inv.walk bytes t).runs,
         rw inv.cut at c.report_again.ensures.runs.most,
         runs_next v cut r
-            (replay_step_by_cut v cut r step) step (rest bytes c.loop-next.walk) (rest bytes c.next.new.self)
+            (replay_step_by_cut v cut r step) step (steps_left bytes c.loop-next.walk) (steps_left bytes c.next.new.self)
             (next bytes t) refl,
       );
       left = record {
@@ -150,7 +149,7 @@ loop-next-preserved-then-matches g c =
     let n = c.args.number in
     let d = bits_of c.loop-next.workspace.duplicates in
     let d' = bits_of c.report_again.new.workspace.duplicates in
-    let cut = cut_at c.args.workspace.now c.args.number in
+    let cut = c.args.cut in
     let r = replay_in c.loop-next.keeping in
     let r' = replay_in c.report_again.new.keeping in
     let ok = c.in_ok-next.ensures.leaves.read in
@@ -166,7 +165,7 @@ loop-next-preserved-then-matches g c =
     let ready = ready_still v _ _ _ only.made only.windows read in
     let same = c.in_ok-report_again.ensures.reported.cut ∙ inv.cut in
     let gaps : ForBytes (IsContents (g.I.Image.device c.args.image.now).contents)
-    (λ bytes. rest bytes c.next.new.self ≡ replicate c.skip_gaps.result Gap ++ rest bytes c.skip_gaps.new.self) =
+    (λ bytes. steps_left bytes c.next.new.self ≡ replicate c.skip_gaps.result Gap ++ steps_left bytes c.skip_gaps.new.self) =
     λ bytes t. c.skip_gaps.ensures.steps (g.I.Image.device c.next.new.image).contents
     (rw (c.in_ok-next.ensures.same.geometry ∙ inv.geometry) ready.windows.blocks) bytes
     (ap (λ d. d.contents) (ok ∙ inv.device) ∙ t) in
@@ -181,17 +180,17 @@ loop-next-preserved-then-matches g c =
       held = c.skip_gaps.ensures.counted.held _ (rw only.windows reads.held);
       counted = runs_pay_on _ _ _ _ _ _ _ _ _ _ inv.counted c.report_again.ensures.counted paid
           c.skip_gaps.ensures.counted.unread;
-      walk = λ bytes t. rewalk_gaps _ _ _ _ r' c.skip_gaps.result (rest bytes c.next.new.self)
-          (rest bytes c.skip_gaps.new.self) _ _ (gaps bytes t)
-          (rewalk_on _ _ _ _ c.in-Some.next r r' (rest bytes c.loop-next.walk)
-          (rest bytes c.next.new.self) _ c.loop-next.workspace _ c.report_again.new.workspace
+      walk = λ bytes t. rewalk_gaps _ _ _ _ r' c.skip_gaps.result (steps_left bytes c.next.new.self)
+          (steps_left bytes c.skip_gaps.new.self) _ _ (gaps bytes t)
+          (rewalk_on _ _ _ _ c.in-Some.next r r' (steps_left bytes c.loop-next.walk)
+          (steps_left bytes c.next.new.self) _ c.loop-next.workspace _ c.report_again.new.workspace
           (next bytes t) now inv.going inv.pending
           did most exact (inv.walk bytes t));
-      said = rewalk_said _ v n cut r r' c.in-Some.next (λ bytes. rest bytes c.loop-next.walk)
-          (λ bytes. rest bytes c.next.new.self) d d' _ _ _ _ _
+      said = rewalk_said _ v n cut r r' c.in-Some.next (λ bytes. steps_left bytes c.loop-next.walk)
+          (λ bytes. steps_left bytes c.next.new.self) d d' _ _ _ _ _
           inv.said next now did.dup
           (λ bytes t. ap (first_offer_lines d') (ap (offers_again v n cut r') (gaps bytes t)
-          ∙ gaps_offer v n cut r' c.skip_gaps.result (rest bytes c.skip_gaps.new.self)))
+          ∙ gaps_offer v n cut r' c.skip_gaps.result (steps_left bytes c.skip_gaps.new.self)))
           said;
     }
 
@@ -204,7 +203,7 @@ loop-next-preserved g c =
     let n = c.args.number in
     let d = bits_of c.loop-next.workspace.duplicates in
     let d' = bits_of c.report_again.new.workspace.duplicates in
-    let cut = cut_at c.args.workspace.now c.args.number in
+    let cut = c.args.cut in
     let r = replay_in c.loop-next.keeping in
     let r' = replay_in c.report_again.new.keeping in
     let ok = c.in_ok-next.ensures.leaves.read in
@@ -229,12 +228,12 @@ loop-next-preserved g c =
       claims = claims_then _ _ _ (claims_still _ _ _ inv.claims) only.claims;
       held = rw only.windows reads.held;
       counted = runs_pay_on _ _ _ _ _ _ _ _ _ _ inv.counted c.report_again.ensures.counted paid (omega arith);
-      walk = λ bytes t. rewalk_on _ _ _ _ c.in-Some.next r r' (rest bytes c.loop-next.walk)
-          (rest bytes c.next.new.self) _ c.loop-next.workspace _ c.report_again.new.workspace
+      walk = λ bytes t. rewalk_on _ _ _ _ c.in-Some.next r r' (steps_left bytes c.loop-next.walk)
+          (steps_left bytes c.next.new.self) _ c.loop-next.workspace _ c.report_again.new.workspace
           (next bytes t) now inv.going inv.pending
           did most exact (inv.walk bytes t);
-      said = rewalk_said _ v n cut r r' c.in-Some.next (λ bytes. rest bytes c.loop-next.walk)
-          (λ bytes. rest bytes c.next.new.self) d d' _ _ _ _ _
+      said = rewalk_said _ v n cut r r' c.in-Some.next (λ bytes. steps_left bytes c.loop-next.walk)
+          (λ bytes. steps_left bytes c.next.new.self) d d' _ _ _ _ _
           inv.said next now did.dup
           (λ bytes t. refl)
           said;
@@ -247,7 +246,7 @@ returns-then-not-is_replay_open-clause-rewalks g c =
     let n = c.args.number in
     let d = bits_of c.loop-next.workspace.duplicates in
     let d' = bits_of c.report_again.new.workspace.duplicates in
-    let cut = cut_at c.args.workspace.now c.args.number in
+    let cut = c.args.cut in
     let r = replay_in c.loop-next.keeping in
     let r' = replay_in c.report_again.new.keeping in
     let ok = c.in_ok-next.ensures.leaves.read in
@@ -263,21 +262,21 @@ returns-then-not-is_replay_open-clause-rewalks g c =
     let read = ready_walked c.args.geometry.now _ _ _ c.loop-next.workspace c.next.new.blocks inv.geometry ok
     c.next.ensures.leaves.kept.size c.next.ensures.leaves.kept.holds inv.ready in
     let walk : ForBytes (IsContents (g.I.Image.device c.args.image.now).contents) (λ bytes.
-    Rewalking v n cut (steps_of v c.args.inode.now bytes) r' (rest bytes c.next.new.self)
+    Rewalking v n c.args.cut (steps_of v c.args.inode.now bytes) r' (steps_left bytes c.next.new.self)
     c.args.workspace.now c.report_again.new.workspace) =
-    λ bytes t. rewalk_on _ _ _ _ c.in-Some.next r r' (rest bytes c.loop-next.walk)
-    (rest bytes c.next.new.self) _ c.loop-next.workspace _ c.report_again.new.workspace
+    λ bytes t. rewalk_on _ _ _ _ c.in-Some.next r r' (steps_left bytes c.loop-next.walk)
+    (steps_left bytes c.next.new.self) _ c.loop-next.workspace _ c.report_again.new.workspace
     (next bytes t) now inv.going inv.pending
     did most exact (inv.walk bytes t) in
     record {
-      text = rewalk_said _ v n cut r r' c.in-Some.next (λ bytes. rest bytes c.loop-next.walk)
-          (λ bytes. rest bytes c.next.new.self) d d' _ _ _ _ _
+      text = rewalk_said _ v n cut r r' c.in-Some.next (λ bytes. steps_left bytes c.loop-next.walk)
+          (λ bytes. steps_left bytes c.next.new.self) d d' _ _ _ _ _
           inv.said next now did.dup
-          (λ bytes t. ap (first_offer_lines d') (offers_stopped v n cut r' (rest bytes c.next.new.self) shut))
+          (λ bytes t. ap (first_offer_lines d') (offers_stopped v n cut r' (steps_left bytes c.next.new.self) shut))
           said;
-      rewalked = λ bytes t. rewalk_ends _ _ _ _ r' (rest bytes c.next.new.self) _ _
-          (offers_stopped v n cut r' (rest bytes c.next.new.self) shut)
-          (looked_stopped v n cut r' (rest bytes c.next.new.self) d' shut) (walk bytes t);
+      rewalked = λ bytes t. rewalk_ends _ _ _ _ r' (steps_left bytes c.next.new.self) _ _
+          (offers_stopped v n cut r' (steps_left bytes c.next.new.self) shut)
+          (looked_stopped v n cut r' (steps_left bytes c.next.new.self) d' shut) (walk bytes t);
       runs = λ bytes t. omega (arith, (walk bytes t).runs);
       left = record {
         image = ok ∙ inv.device;
@@ -293,7 +292,7 @@ returns-then-not-has_dups-clause-rewalks g c =
     let n = c.args.number in
     let d = bits_of c.loop-next.workspace.duplicates in
     let d' = bits_of c.report_again.new.workspace.duplicates in
-    let cut = cut_at c.args.workspace.now c.args.number in
+    let cut = c.args.cut in
     let r = replay_in c.loop-next.keeping in
     let r' = replay_in c.report_again.new.keeping in
     let ok = c.in_ok-next.ensures.leaves.read in
@@ -309,19 +308,19 @@ returns-then-not-has_dups-clause-rewalks g c =
     let read = ready_walked c.args.geometry.now _ _ _ c.loop-next.workspace c.next.new.blocks inv.geometry ok
     c.next.ensures.leaves.kept.size c.next.ensures.leaves.kept.holds inv.ready in
     let walk : ForBytes (IsContents (g.I.Image.device c.args.image.now).contents) (λ bytes.
-    Rewalking v n cut (steps_of v c.args.inode.now bytes) r' (rest bytes c.next.new.self)
+    Rewalking v n c.args.cut (steps_of v c.args.inode.now bytes) r' (steps_left bytes c.next.new.self)
     c.args.workspace.now c.report_again.new.workspace) =
-    λ bytes t. rewalk_on _ _ _ _ c.in-Some.next r r' (rest bytes c.loop-next.walk)
-    (rest bytes c.next.new.self) _ c.loop-next.workspace _ c.report_again.new.workspace
+    λ bytes t. rewalk_on _ _ _ _ c.in-Some.next r r' (steps_left bytes c.loop-next.walk)
+    (steps_left bytes c.next.new.self) _ c.loop-next.workspace _ c.report_again.new.workspace
     (next bytes t) now inv.going inv.pending
     did most exact (inv.walk bytes t) in
     record {
-      text = rewalk_said _ v n cut r r' c.in-Some.next (λ bytes. rest bytes c.loop-next.walk)
-          (λ bytes. rest bytes c.next.new.self) d d' _ _ _ _ _
+      text = rewalk_said _ v n cut r r' c.in-Some.next (λ bytes. steps_left bytes c.loop-next.walk)
+          (λ bytes. steps_left bytes c.next.new.self) d d' _ _ _ _ _
           inv.said next now did.dup
-          (λ bytes t. none_first d' (offers_again v n cut r' (rest bytes c.next.new.self)) none)
+          (λ bytes t. none_first d' (offers_again v n cut r' (steps_left bytes c.next.new.self)) none)
           said;
-      rewalked = λ bytes t. rewalk_over _ _ _ _ r' (rest bytes c.next.new.self) _ _ none (walk bytes t);
+      rewalked = λ bytes t. rewalk_over _ _ _ _ r' (steps_left bytes c.next.new.self) _ _ none (walk bytes t);
       runs = λ bytes t. omega (arith, (walk bytes t).runs);
       left = record {
         image = ok ∙ inv.device;
@@ -336,19 +335,19 @@ returns-in_default-clause-rewalks g c =
     let v = c.args.geometry.now.layout in
     let n = c.args.number in
     let d = bits_of c.loop-next.workspace.duplicates in
-    let cut = cut_at c.args.workspace.now c.args.number in
+    let cut = c.args.cut in
     let r = replay_in c.loop-next.keeping in
     let ok = c.in_ok-next.ensures.leaves.read in
     let over = rw (inv.device, c.in_default.is) at c.in_ok-next.ensures.step.steps in
     let none : ForBytes (IsContents (g.I.Image.device c.args.image.now).contents)
-    (λ bytes. offers_again v n cut r (rest bytes c.loop-next.walk) ≡ []) =
-    λ bytes t. offers_none v n cut r (rest bytes c.loop-next.walk) (over bytes t) in
+    (λ bytes. offers_again v n cut r (steps_left bytes c.loop-next.walk) ≡ []) =
+    λ bytes t. offers_none v n cut r (steps_left bytes c.loop-next.walk) (over bytes t) in
     record {
       text = of_same _ _ _ _ _ _ inv.said (λ bytes t. ap (λ (os : List Offer). of_lines (first_offer_lines d os))
           (none bytes t));
       rewalked = λ bytes t. rewalked_to _ _ _ _ _ c.loop-next.workspace _
-          (rewalk_ends _ _ _ _ r (rest bytes c.loop-next.walk) _ _ (none bytes t)
-          (looked_over v n cut r (rest bytes c.loop-next.walk) d (over bytes t)) (inv.walk bytes t));
+          (rewalk_ends _ _ _ _ r (steps_left bytes c.loop-next.walk) _ _ (none bytes t)
+          (looked_over v n cut r (steps_left bytes c.loop-next.walk) d (over bytes t)) (inv.walk bytes t));
       runs = λ bytes t. omega (arith, (inv.walk bytes t).runs);
       left = record {
         image = ok ∙ inv.device;

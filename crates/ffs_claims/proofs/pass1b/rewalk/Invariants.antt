@@ -1,5 +1,4 @@
-use Rattle.std.proofs.Common.{◌≡◌, ◌≢◌, ◌+◌, true, ℕ}
-use Rattle.std.specs.Prelude.{slice_index}
+use Rattle.std.proofs.Common.{◌≡◌, ◌≢◌, ◌+◌, true}
 use Rattle.ffs_volume.specs.Blocks.BlockCheck.{first_offer_lines}
 use Rattle.ffs_volume.specs.Blocks.Steps.{steps_of}
 use Rattle.ffs_volume.specs.Encodings.Replay.{fresh_replay, is_replay_open}
@@ -9,10 +8,8 @@ use Rattle.ffs_report.specs.Runs.{SaidOf}
 use Rattle.ffs_maps.specs.Bits.{bits_of}
 use Rattle.ffs_walk.specs.Counts.{AreHeld, unread}
 use Rattle.ffs_walk.specs.Keepings.{replay_in}
-use Rattle.ffs_walk.specs.Rests.{rest, left}
-use Rattle.ffs_workspace.specs.declared.workspace.Workspace.{Workspace}
+use Rattle.ffs_walk.specs.Rests.{steps_left, most_steps_left}
 use Rattle.ffs_workspace.specs.Lengths.{set_count}
-use Rattle.ffs_workspace.specs.Notes.{cut_in}
 use Rattle.ffs_workspace.specs.Ready.{IsReady}
 use Rattle.ffs_claims.specs.Lines.{of_lines}
 use Rattle.ffs_claims.specs.Rescan.{offers_again}
@@ -21,15 +18,11 @@ use Rattle.ffs_claims.specs.SecondLook.{RunsPay}
 use Rattle.ffs_claims.proofs.Rewalks.{Rewalking}
 use Rattle.ffs_claims.proofs.pass1b.rewalk.Given as goal
 
--- the cut of an inode, as phase 1 noted it
-abbrev pub cut_at : Workspace → ℕ → ℕ
-cut_at w number = cut_in (slice_index w.notes.items number)
-
 abbrev pub invariant-loop-next : goal.invariant-loop-next
 invariant-loop-next g l = record {
   ready : IsReady l.geometry.layout (g.I.Image.device l.image) l.workspace;
-  cut : l.keeping.cut ≡ cut_at l.initial.workspace l.number;
-  going : is_replay_open (cut_at l.initial.workspace l.number) (replay_in l.keeping) ≡ true;
+  cut : l.keeping.cut ≡ l.cut;
+  going : is_replay_open l.cut (replay_in l.keeping) ≡ true;
   pending : set_count (bits_of l.workspace.duplicates) ≢ 0;
   geometry : l.walk.geometry ≡ l.geometry;
   device : g.I.Image.device l.image ≡ g.I.Image.device l.initial.image;
@@ -38,18 +31,15 @@ invariant-loop-next g l = record {
   counted : RunsPay (g.I.Image.reads l.initial.image) (g.I.Image.reads l.image + unread l.walk)
       l.initial.workspace.runs_again l.workspace.runs_again;
   walk : ForBytes (IsContents (g.I.Image.device l.initial.image).contents) (λ bytes.
-      Rewalking l.geometry.layout l.number (cut_at l.initial.workspace l.number)
-      (steps_of l.geometry.layout l.inode bytes) (replay_in l.keeping) (rest bytes l.walk) l.initial.workspace
-      l.workspace);
+      Rewalking l.geometry.layout l.number l.cut (steps_of l.geometry.layout l.inode bytes) (replay_in l.keeping)
+      (steps_left bytes l.walk) l.initial.workspace l.workspace);
   said : SaidOf (IsContents (g.I.Image.device l.initial.image).contents)
       (λ bytes. of_lines (first_offer_lines (bits_of l.workspace.duplicates)
-      (offers_again l.geometry.layout l.number (cut_at l.initial.workspace l.number) (replay_in l.keeping)
-      (rest bytes l.walk))))
+      (offers_again l.geometry.layout l.number l.cut (replay_in l.keeping) (steps_left bytes l.walk))))
       (λ bytes. of_lines (first_offer_lines (bits_of l.initial.workspace.duplicates)
-      (offers_again l.geometry.layout l.number (cut_at l.initial.workspace l.number) fresh_replay
-      (steps_of l.geometry.layout l.inode bytes))))
+      (offers_again l.geometry.layout l.number l.cut fresh_replay (steps_of l.geometry.layout l.inode bytes))))
       (progress g.W.Output.sink l.initial.report) (progress g.W.Output.sink l.report);
 }
 
 abbrev pub decreases-loop-next : goal.decreases-loop-next
-decreases-loop-next g l = left l.walk
+decreases-loop-next g l = most_steps_left l.walk

@@ -1,4 +1,4 @@
-use Rattle.std.proofs.Common.{rules, ◌≡◌, arith, ap, ◌∙◌}
+use Rattle.std.proofs.Common.{rules, ◌≡◌, arith, ap, ◌∙◌, ℕ}
 use Rattle.std.specs.Prelude.{slice_index}
 use Rattle.std.proofs.lemmas.Result.{err_from_is_err_and}
 use Rattle.ffs_volume.specs.declared.Inode.{Inode}
@@ -65,36 +65,49 @@ pub returns-clause-rewalks : goal.returns-clause-rewalks
 returns-clause-rewalks g c = record {
   text = let v = c.args.geometry.now.layout in
       let n = c.args.number in
-      let cut = cut_in (slice_index c.args.workspace.now.notes.items n) in
       let d = bits_of c.args.workspace.now.duplicates in
       reports_same (Unit {0}) _
       (λ bytes. of_lines (first_offer_lines d
-      (offers_again v n cut fresh_replay (steps_of v c.in_ok-inode.inode bytes))))
+      (offers_again v n c.cut_of-cut.result fresh_replay
+      (steps_of v c.in_ok-inode.inode bytes))))
       (λ bytes. of_lines (first_offer_lines d
-      (offers_again v n cut fresh_replay (steps_of v (inode_of v bytes n) bytes)))) _ _ c.rewalk.result
-      (λ bytes t. ap (λ (i : Inode). of_lines
-      (first_offer_lines d (offers_again v n cut fresh_replay (steps_of v i bytes))))
-      (c.in_ok-inode.ensures.reads.inode bytes t))
+      (offers_again v n (cut_in (slice_index c.args.workspace.now.notes.items n)) fresh_replay
+      (steps_of v (inode_of v bytes n) bytes)))) _ _ c.rewalk.result
+      (λ bytes t. ap (λ (k : ℕ). of_lines
+      (first_offer_lines d (offers_again v n k fresh_replay (steps_of v c.in_ok-inode.inode bytes))))
+      (c.cut_of-cut.ensures)
+      ∙ ap (λ (i : Inode). of_lines
+      (first_offer_lines d (offers_again v n (cut_in (slice_index c.args.workspace.now.notes.items n)) fresh_replay
+      (steps_of v i bytes)))) (c.in_ok-inode.ensures.reads.inode bytes t))
       (reports_knowing (Unit {0}) _ _ _ _ _ c.rewalk.result
       (λ bytes t. ap (λ d. d.contents) c.in_ok-inode.ensures.reads.read ∙ t)
       c.rewalk.ensures.rewalks.text);
   rewalked = let v = c.args.geometry.now.layout in
       let n = c.args.number in
       let w = c.args.workspace.now in
-      let cut = cut_in (slice_index w.notes.items n) in
+      let i = c.in_ok-inode.inode in
+      let cut : c.cut_of-cut.result ≡ cut_in (slice_index c.args.workspace.now.notes.items c.args.number) =
+      c.cut_of-cut.ensures in
       ok_where c.rewalk.result _ _
-      (λ bytes. Rewalked v n cut (steps_of v c.in_ok-inode.inode bytes)
-      (record w { windows = record w.windows { table = c.inode.new.self } }) c.rewalk.new.workspace)
-      (λ bytes. Rewalked v n cut (steps_of v (inode_of v bytes n) bytes) w c.rewalk.new.workspace)
+      (λ bytes. Rewalked v n c.cut_of-cut.result (steps_of v c.in_ok-inode.inode bytes)
+      (record c.args.workspace.now { windows = record c.args.workspace.now.windows { table = c.inode.new.self } })
+      c.rewalk.new.workspace)
+      (λ bytes. Rewalked v n (cut_in (slice_index c.args.workspace.now.notes.items n)) (steps_of v (inode_of v bytes n) bytes)
+      c.args.workspace.now c.rewalk.new.workspace)
       (ap (λ d. d.contents) c.in_ok-inode.ensures.reads.read)
-      (λ bytes t h. rewalked_from _ _ _ _ w _ _ (rw (c.in_ok-inode.ensures.reads.inode bytes t) at h))
+      (λ bytes t h. rewalked_from _ _ _ _ c.args.workspace.now _ _ (rw (cut, c.in_ok-inode.ensures.reads.inode bytes t) at h))
       c.rewalk.ensures.rewalks.rewalked;
   runs = λ bytes t.
       let v = c.args.geometry.now.layout in
-      let cut = cut_in (slice_index c.args.workspace.now.notes.items c.args.number) in
-      let same : replayed_runs v cut fresh_replay (steps_of v c.in_ok-inode.inode bytes)
-      ≡ replayed_runs v cut fresh_replay (steps_of v (inode_of v bytes c.args.number) bytes) =
-      ap (λ (i : Inode). replayed_runs v cut fresh_replay (steps_of v i bytes))
+      let n = c.args.number in
+      let same : replayed_runs v c.cut_of-cut.result fresh_replay
+      (steps_of v c.in_ok-inode.inode bytes)
+      ≡ replayed_runs v (cut_in (slice_index c.args.workspace.now.notes.items n)) fresh_replay
+      (steps_of v (inode_of v bytes n) bytes) =
+      ap (λ (k : ℕ). replayed_runs v k fresh_replay (steps_of v c.in_ok-inode.inode bytes))
+      (c.cut_of-cut.ensures)
+      ∙ ap (λ (i : Inode).
+      replayed_runs v (cut_in (slice_index c.args.workspace.now.notes.items n)) fresh_replay (steps_of v i bytes))
       (c.in_ok-inode.ensures.reads.inode bytes t) in
       omega (arith, c.rewalk.ensures.rewalks.runs bytes (ap (λ d. d.contents) c.in_ok-inode.ensures.reads.read ∙ t), same);
   left = record {

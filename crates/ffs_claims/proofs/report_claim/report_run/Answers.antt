@@ -19,13 +19,13 @@ loop-place-init g c =
     record {
       only = offers_reported_none c.args.geometry.now.layout w c.requires.can.made;
       reported = reporting_same _ _ _ _ _
-          (reporting_begins (map (offer_of n) (range_with_len c.args.run.start c.args.run.len)) w)
-          (ap (map (offer_of n)) (from_start c.args.run.start c.args.run.len));
+          (reporting_begins (map (offer_of n) (range_with_len c.args.start c.args.len)) w)
+          (ap (map (offer_of n)) (from_start c.args.start c.args.len));
       said = to_same _ _ _ _ _ (to_begins
           (of_lines (first_offer_lines (bits_of w.duplicates)
-          (map (offer_of n) (range_with_len c.args.run.start c.args.run.len)))) _)
+          (map (offer_of n) (range_with_len c.args.start c.args.len)))) _)
           (ap (λ (fs : List ℕ). of_lines (first_offer_lines (bits_of w.duplicates) (map (offer_of n) fs)))
-          (from_start c.args.run.start c.args.run.len));
+          (from_start c.args.start c.args.len));
     }
 
 pub returns-in_err-report_claim-clause-said : goal.returns-in_err-report_claim-clause-said
@@ -35,11 +35,11 @@ returns-in_err-report_claim-clause-said g c =
     let f = c.from.result + c.from-in-loop-place.result in
     let d = bits_of c.loop-place.workspace.duplicates in
     let rest = map (offer_of n)
-    (range_with_len (c.args.run.start + (c.loop-place.place + 1)) (c.args.run.len - (c.loop-place.place + 1))) in
+    (range_with_len (c.args.start + (c.loop-place.place + 1)) (c.args.len - (c.loop-place.place + 1))) in
     rw (p.1) (to_stops _ (of_lines (first_offer_lines (after_first d (offer_of n f ∷ [])) rest)) _
     (of_lines (first_offer_lines d (offer_of n f ∷ []))) _ _ _ c.loop-place.invariant.said
     (ap (λ (os : List Offer). of_lines (first_offer_lines d os))
-    (run_next n c.args.run.start c.args.run.len c.loop-place.place f c.loop-place-test.true (omega arith))
+    (run_next n c.args.start c.args.len c.loop-place.place f c.loop-place-test.true (omega arith))
     ∙ lines_more d (after_first d (offer_of n f ∷ [])) (offer_of n f) rest refl)
     c.in_err-report_claim.ensures.said)
 
@@ -56,8 +56,8 @@ loop-place-preserved g c =
     let d = bits_of c.loop-place.workspace.duplicates in
     let d' = bits_of c.report_claim.new.workspace.duplicates in
     let rest = map (offer_of n)
-    (range_with_len (c.args.run.start + (c.loop-place.place + 1)) (c.args.run.len - (c.loop-place.place + 1))) in
-    let next = run_next n c.args.run.start c.args.run.len c.loop-place.place f c.loop-place-test.true (omega arith) in
+    (range_with_len (c.args.start + (c.loop-place.place + 1)) (c.args.len - (c.loop-place.place + 1))) in
+    let next = run_next n c.args.start c.args.len c.loop-place.place f c.loop-place-test.true (omega arith) in
     record {
       only = offers_reported_then c.args.geometry.now.layout _ _ _ inv.only c.report_claim.ensures.only;
       reported = reporting_more _ (offer_of n f ∷ []) rest _ _ _ _ inv.reported next c.report_claim.ensures.reported;
@@ -73,10 +73,10 @@ returns-clause-said g c =
     let inv = c.loop-place.invariant in
     to_ends _ _ _ _ inv.said (ap
     (λ (os : List Offer). of_lines (first_offer_lines (bits_of c.loop-place.workspace.duplicates) os))
-    (run_over c.args.number c.args.run.start c.args.run.len c.loop-place.place (omega arith)))
+    (run_over c.args.number c.args.start c.args.len c.loop-place.place (omega arith)))
 
 pub returns-clause-reported : goal.returns-clause-reported
 returns-clause-reported g c =
     let inv = c.loop-place.invariant in
     reporting_ends _ _ _ _ inv.reported
-    (run_over c.args.number c.args.run.start c.args.run.len c.loop-place.place (omega arith))
+    (run_over c.args.number c.args.start c.args.len c.loop-place.place (omega arith))

@@ -12,11 +12,11 @@ use Rattle.ffs_claims.proofs.report_claim.report_run.Given as goal
 abbrev pub invariant-loop-place : goal.invariant-loop-place
 invariant-loop-place g l = record {
   only : OffersReportedOnly l.geometry.layout l.initial.workspace l.workspace;
-  reported : Reporting (map (offer_of l.number) (range_with_len (l.run.start + l.place) (l.run.len - l.place)))
-      (map (offer_of l.number) (range_with_len l.run.start l.run.len)) l.initial.workspace l.workspace;
+  reported : Reporting (map (offer_of l.number) (range_with_len (l.start + l.place) (l.len - l.place)))
+      (map (offer_of l.number) (range_with_len l.start l.len)) l.initial.workspace l.workspace;
   said : SaidTo (of_lines (first_offer_lines (bits_of l.workspace.duplicates)
-      (map (offer_of l.number) (range_with_len (l.run.start + l.place) (l.run.len - l.place)))))
+      (map (offer_of l.number) (range_with_len (l.start + l.place) (l.len - l.place)))))
       (of_lines (first_offer_lines (bits_of l.initial.workspace.duplicates)
-      (map (offer_of l.number) (range_with_len l.run.start l.run.len))))
+      (map (offer_of l.number) (range_with_len l.start l.len))))
       (progress g.W.Output.sink l.initial.report) (progress g.W.Output.sink l.report);
 }

@@ -1,4 +1,4 @@
-use Rattle.ffs_walk.specs.Rests.{left}
+use Rattle.ffs_walk.specs.Rests.{most_steps_left}
 use Rattle.ffs_walk.specs.Words.{IsInHeldBlock}
 use Rattle.ffs_claims.specs.Words.{ClaimsWords}
 use Rattle.ffs_claims.proofs.words.claim_held_words.Given as goal
@@ -10,4 +10,4 @@ invariant-loop-geometry l = record {
 }
 
 abbrev pub decreases-loop-geometry : goal.decreases-loop-geometry
-decreases-loop-geometry l = left l.walk
+decreases-loop-geometry l = most_steps_left l.walk

@@ -9,7 +9,7 @@ use Rattle.ffs_report.proofs.Reporting.{of_begins, of_says, of_stops, of_same, o
 use Rattle.ffs_report.proofs.Reporting.{reports_knowing}
 use Rattle.ffs_workspace.specs.Holds.{bool_at, HoldsClaims, HoldsSurvey}
 use Rattle.ffs_workspace.specs.Lengths.{inodes_of}
-use Rattle.ffs_connectivity.specs.Lines.{cut_off_lines}
+use Rattle.ffs_connectivity.specs.Lines.{unref_dir_lines}
 use Rattle.ffs_workspace.proofs.PlaceLaws.{filled_noted}
 use Rattle.ffs_workspace.proofs.Leaving.{claims_left, survey_left, leaves_more, windows_leave}
 use Rattle.ffs_connectivity.proofs.Leaving.{leaders_held}
@@ -40,7 +40,7 @@ returns-then-first-len-clause-prints g c =
           (λ bytes k. ap (λ (xs : List Message). phase3 ∷ xs)
           (lines_begin v bytes c.args.workspace.now _ _ c.first_unreached-first.result c.deref.ensures.value
           c.deref-2.ensures.value (omega arith) c.first_unreached-first.ensures.before k.1 k.2
-          ∙ from_end (cut_off_lines (volume_of v bytes)) _ (inodes_of v) (omega arith)))
+          ∙ from_end (unref_dir_lines (volume_of v bytes)) _ (inodes_of v) (omega arith)))
           c.in_ok-say.ensures.said;
     }
 
@@ -74,7 +74,7 @@ loop-number-init g c =
           c.deref-2.ensures.value (omega arith) c.first_unreached-first.ensures.before k.1 k.2 in
           omega (arith, all);
       said = of_says _ (λ bytes. phase3 ∷ map of_tree (connectivity_lines (volume_of v bytes)))
-          (λ bytes. map of_tree (lines_from (cut_off_lines (volume_of v bytes)) c.first_unreached-first.result
+          (λ bytes. map of_tree (lines_from (unref_dir_lines (volume_of v bytes)) c.first_unreached-first.result
           (inodes_of v - c.first_unreached-first.result))) _ (phase3 ∷ []) _
           _ _
           (of_begins _ (λ bytes. phase3 ∷ map of_tree (connectivity_lines (volume_of v bytes))) _)
@@ -94,12 +94,12 @@ returns-in_err-check_inode-clause-prints g c =
     rw (p.1, p.2) (record {
       image = search rules;
       text = of_fault (Unit {0}) (Unit {0}) _
-          (λ bytes. map of_tree (lines_from (cut_off_lines (volume_of v bytes)) n (inodes_of v - n)))
-          (λ bytes. map of_tree (cut_off_lines (volume_of v bytes) n))
-          (λ bytes. map of_tree (lines_from (cut_off_lines (volume_of v bytes)) (n + 1) (inodes_of v - (n + 1)))) _ _
+          (λ bytes. map of_tree (lines_from (unref_dir_lines (volume_of v bytes)) n (inodes_of v - n)))
+          (λ bytes. map of_tree (unref_dir_lines (volume_of v bytes) n))
+          (λ bytes. map of_tree (lines_from (unref_dir_lines (volume_of v bytes)) (n + 1) (inodes_of v - (n + 1)))) _ _
           _ _
           c.in_err-check_inode.field-0.0
-          inv.said (λ bytes k. from_next (cut_off_lines (volume_of v bytes)) n (inodes_of v) (omega arith))
+          inv.said (λ bytes k. from_next (unref_dir_lines (volume_of v bytes)) n (inodes_of v) (omega arith))
           (reports_knowing (Unit {0}) _ _ _ _ _ (Err c.in_err-check_inode.field-0.0)
           (λ bytes k. (
             ap (λ d. d.contents) inv.device ∙ k.0,
@@ -130,14 +130,14 @@ loop-number-preserved g c =
       survey = leaves_more _ _ _ inv.survey (windows_leave _ _ ok.stays.held);
       leaders = leaders_held _ _ ok.stays.held inv.leaders;
       reads = λ bytes k.
-          let on = count_next (cut_off_lines (volume_of v bytes)) n (inodes_of v) (omega arith) in
+          let on = count_next (unref_dir_lines (volume_of v bytes)) n (inodes_of v) (omega arith) in
           let more = c.check_inode.ensures.reads bytes (known bytes k) in
           omega (arith, inv.reads bytes k, on, more);
-      said = of_part _ (λ bytes. map of_tree (lines_from (cut_off_lines (volume_of v bytes)) n (inodes_of v - n)))
-          (λ bytes. map of_tree (cut_off_lines (volume_of v bytes) n))
-          (λ bytes. map of_tree (lines_from (cut_off_lines (volume_of v bytes)) (n + 1) (inodes_of v - (n + 1)))) _ _ _
+      said = of_part _ (λ bytes. map of_tree (lines_from (unref_dir_lines (volume_of v bytes)) n (inodes_of v - n)))
+          (λ bytes. map of_tree (unref_dir_lines (volume_of v bytes) n))
+          (λ bytes. map of_tree (lines_from (unref_dir_lines (volume_of v bytes)) (n + 1) (inodes_of v - (n + 1)))) _ _ _
           _ inv.said
-          (λ bytes k. from_next (cut_off_lines (volume_of v bytes)) n (inodes_of v) (omega arith))
+          (λ bytes k. from_next (unref_dir_lines (volume_of v bytes)) n (inodes_of v) (omega arith))
           (said_knows _ _ _ _ _ _ known ok.prints.text);
     }
 
@@ -148,10 +148,10 @@ returns-clause-prints g c =
     let n = c.loop-number.number in
     record {
       image = search rules;
-      text = of_same _ (λ bytes. map of_tree (lines_from (cut_off_lines (volume_of v bytes)) n (inodes_of v - n)))
+      text = of_same _ (λ bytes. map of_tree (lines_from (unref_dir_lines (volume_of v bytes)) n (inodes_of v - n)))
           (λ bytes. [])
           _ _ _ inv.said
-          (λ bytes k. from_end (cut_off_lines (volume_of v bytes)) n (inodes_of v) (omega arith));
+          (λ bytes k. from_end (unref_dir_lines (volume_of v bytes)) n (inodes_of v) (omega arith));
     }
 
 pub returns-in_err-check_inode-clause-reads : goal.returns-in_err-check_inode-clause-reads
@@ -159,7 +159,7 @@ returns-in_err-check_inode-clause-reads g c = λ bytes k.
     let v = c.args.geometry.now.layout in
     let inv = c.loop-number.invariant in
     let n = c.loop-number.number in
-    let on = count_next (cut_off_lines (volume_of v bytes)) n (inodes_of v) (omega arith) in
+    let on = count_next (unref_dir_lines (volume_of v bytes)) n (inodes_of v) (omega arith) in
     let more = c.check_inode.ensures.reads bytes (
       ap (λ d. d.contents) inv.device ∙ k.0,
       claims_left v bytes _ _ inv.survey k.1,

@@ -10,7 +10,7 @@ use Rattle.ffs_workspace.specs.Lengths.{inodes_of}
 use Rattle.ffs_workspace.specs.Leaves.{LeavesSurvey}
 use Rattle.ffs_workspace.specs.Ready.{IsReady}
 use Rattle.ffs_connectivity.specs.Leaders.{HasLeaders}
-use Rattle.ffs_connectivity.specs.Lines.{cut_off_lines}
+use Rattle.ffs_connectivity.specs.Lines.{unref_dir_lines}
 use Rattle.ffs_connectivity.proofs.pass3.phase3.Given as goal
 
 abbrev pub invariant-loop-number : goal.invariant-loop-number
@@ -22,12 +22,12 @@ invariant-loop-number g l = record {
   leaders : HasLeaders l.workspace;
   reads : ForBytes (λ bytes. IsContents (g.I.Image.device l.fn.image).contents bytes
       × HoldsClaims l.geometry.layout bytes l.fn.workspace × HoldsSurvey l.geometry.layout bytes l.fn.workspace)
-      (λ bytes. g.I.Image.reads l.image + length (lines_from (cut_off_lines (volume_of l.geometry.layout bytes)) l.number
+      (λ bytes. g.I.Image.reads l.image + length (lines_from (unref_dir_lines (volume_of l.geometry.layout bytes)) l.number
       (inodes_of l.geometry.layout - l.number))
       ≤ g.I.Image.reads l.fn.image + length (connectivity_lines (volume_of l.geometry.layout bytes)));
   said : SaidOf (λ bytes. IsContents (g.I.Image.device l.fn.image).contents bytes
       × HoldsClaims l.geometry.layout bytes l.fn.workspace × HoldsSurvey l.geometry.layout bytes l.fn.workspace)
-      (λ bytes. map of_tree (lines_from (cut_off_lines (volume_of l.geometry.layout bytes)) l.number
+      (λ bytes. map of_tree (lines_from (unref_dir_lines (volume_of l.geometry.layout bytes)) l.number
       (inodes_of l.geometry.layout - l.number)))
       (λ bytes. phase3 ∷ map of_tree (connectivity_lines (volume_of l.geometry.layout bytes)))
       (progress g.W.Output.sink l.fn.report) (progress g.W.Output.sink l.report);

@@ -1,8 +1,7 @@
 use Rattle.std.proofs.Common.{List, ℕ, arith, rules, refl, ap, ◌∙◌, ◌∷◌, [], ◌+◌, ◌-◌, map}
 use Rattle.std.proofs.lemmas.Result.{err_from_is_err_and}
 use Rattle.ffs_volume.specs.declared.BlockMessage.TheVariants.{FreeCounts}
-use Rattle.ffs_volume.specs.Messages.Kinds.{Message, of_blocks}
-use Rattle.ffs_volume.specs.Messages.Kinds.{phase5 as phase5_heading}
+use Rattle.ffs_volume.specs.Messages.Kinds.{Message, of_blocks, phase5 as phase5_heading}
 use Rattle.ffs_volume.specs.Groups.GroupCheck.{reported_once, unless}
 use Rattle.ffs_volume.specs.Report.Whole.{group_check_lines}
 use Rattle.ffs_layout.specs.Super.{superblock_in}

@@ -1,7 +1,7 @@
 use Rattle.std.proofs.Common.{arith, ap, sym, ◌∙◌, ◌≡◌, ◌+◌, count_by, min}
 use Rattle.std.specs.List.{range_with_len}
 use Rattle.ffs_volume.specs.Disk.Areas.{cgbase, is_reserved}
-use Rattle.ffs_maps.proofs.Counting.{count_few}
+use Rattle.ffs_maps.proofs.Counting.{count_within}
 use Rattle.ffs_counts.proofs.ReservedCount.{groups_begin, groups_end, group_more}
 use Rattle.ffs_counts.proofs.summing.reserved_count.Goals as goal
 
@@ -16,7 +16,7 @@ overflow_add-count c =
       arith,
       group_more v c.loop-group.group c.loop-group.count c.reserved_in_group-count.result c.args.geometry.now.sound
           c.loop-group-test.true c.loop-group.invariant c.reserved_in_group-count.ensures,
-      count_few (is_reserved v) 0 (min (cgbase v (c.loop-group.group + 1)) v.size),
+      count_within (is_reserved v) 0 (min (cgbase v (c.loop-group.group + 1)) v.size),
       c.args.geometry.now.sound.numbers.size_below,
     )
 

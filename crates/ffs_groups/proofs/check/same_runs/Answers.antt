@@ -1,7 +1,7 @@
 use Rattle.std.proofs.Common.{rules, arith, refl, sym, ◌≡◌, true, false}
 use Rattle.ffs_volume.specs.Disk.Numbers.{all_below}
+use Rattle.ffs_volume.proofs.Below.{all_below-fails, all_below-more}
 use Rattle.ffs_groups.specs.Check.{has_bits_of, same_run}
-use Rattle.ffs_groups.proofs.MapWords.{fails_at, one_more}
 use Rattle.ffs_groups.proofs.check.same_runs.Goals as goal
 
 pub loop-length-init : goal.loop-length-init
@@ -12,11 +12,11 @@ pub returns-then-from-right : goal.returns-then-from-right
 unfolding has_bits_of
 returns-then-from-right c =
     let differ : same_run c.args.found.now c.args.right.now c.loop-length.length ≡ false = search (rules, arith) in
-    sym (fails_at 8 c.loop-length.length
+    sym (all_below-fails 8 c.loop-length.length
     (λ k. same_run c.args.found.now c.args.right.now k) c.loop-length-test.true differ)
 
 pub loop-length-preserved : goal.loop-length-preserved
 unfolding has_bits_of
 loop-length-preserved c =
     let agree : same_run c.args.found.now c.args.right.now c.loop-length.length ≡ true = search (rules, arith) in
-    one_more c.loop-length.length (λ k. same_run c.args.found.now c.args.right.now k) c.loop-length.invariant agree
+    all_below-more c.loop-length.length (λ k. same_run c.args.found.now c.args.right.now k) c.loop-length.invariant agree

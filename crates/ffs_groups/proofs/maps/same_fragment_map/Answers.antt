@@ -1,8 +1,7 @@
 use Rattle.std.proofs.Common.{arith, rules, refl, ap, sym, ◌∙◌, ◌≡◌, ◌+◌, ◌*◌, ◌/◌, ◌%◌, nat_eq, true, false}
 use Rattle.std.specs.Int.{bit_at}
 use Rattle.std.specs.Prelude.{◌&&◌}
-use Rattle.ffs_volume.specs.Groups.Records.{bit_at as map_bit}
-use Rattle.ffs_volume.specs.Groups.Records.{has_bits, same_bit}
+use Rattle.ffs_volume.specs.Groups.Records.{bit_at as map_bit, has_bits, same_bit}
 use Rattle.ffs_maps.specs.Bits.{bits_of}
 use Rattle.ffs_groups.specs.Free.{free_in}
 use Rattle.ffs_groups.proofs.Adding.{clear_as_free, fragment_map}

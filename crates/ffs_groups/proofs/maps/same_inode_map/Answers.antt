@@ -1,8 +1,7 @@
 use Rattle.std.proofs.Common.{arith, rules, ◌∙◌, sym, ◌≡◌, ◌+◌, ◌*◌, ◌-◌, ◌<◌, true, false, min}
-use Rattle.ffs_volume.specs.Groups.Records.{bit_at as map_bit}
-use Rattle.ffs_volume.specs.Groups.Records.{same_bit, is_used_inode}
+use Rattle.ffs_volume.specs.Groups.Records.{bit_at as map_bit, same_bit, is_used_inode}
 use Rattle.ffs_groups.specs.Inodes.{class_in}
-use Rattle.ffs_groups.proofs.MapWords.{word_is, map_goes_on, map_fails, map_begins, moved_in}
+use Rattle.ffs_groups.proofs.MapWords.{word_is, map_continues, map_fails, map_begins, moved_in}
 use Rattle.ffs_groups.proofs.maps.same_inode_map.Goals as goal
 
 pub loop-word-init : goal.loop-word-init
@@ -37,7 +36,7 @@ loop-word-preserved c =
     let agree : c.same_bits.result ≡ true = search rules in
     let count : c.min-count.result ≡ min (c.args.geometry.now.layout.ipg - 64 * c.loop-word.word) 64 =
     omega (arith, c.min-count.ensures) in
-    map_goes_on c.args.geometry.now.layout.ipg c.loop-word.word c.min-count.result
+    map_continues c.args.geometry.now.layout.ipg c.loop-word.word c.min-count.result
     (λ k. same_bit (map_bit c.args.block.now c.args.place k)
     (is_used_inode (class_in c.args.kinds.now) (c.args.group * c.args.geometry.now.layout.ipg + k))) count low
     (word_is c.args.block.now c.args.place c.args.geometry.now.layout.ipg c.loop-word.word c.min-count.result

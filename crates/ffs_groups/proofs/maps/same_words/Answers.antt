@@ -1,10 +1,9 @@
 use Rattle.std.proofs.Common.{arith, rules, refl, ◌∙◌, sym, ◌≡◌, ◌+◌, ◌*◌, ◌-◌, ◌<◌, true, false, min}
-use Rattle.ffs_volume.specs.Groups.Records.{bit_at as map_bit}
-use Rattle.ffs_volume.specs.Groups.Records.{same_bit}
+use Rattle.ffs_volume.specs.Groups.Records.{bit_at as map_bit, same_bit}
 use Rattle.ffs_maps.specs.Bits.{bits_of}
 use Rattle.ffs_groups.specs.Free.{free_in}
 use Rattle.ffs_groups.proofs.Adding.{clear_as_free}
-use Rattle.ffs_groups.proofs.MapWords.{word_is, map_goes_on, map_fails, map_begins}
+use Rattle.ffs_groups.proofs.MapWords.{word_is, map_continues, map_fails, map_begins}
 use Rattle.ffs_groups.proofs.maps.same_words.Goals as goal
 
 pub loop-word-init : goal.loop-word-init
@@ -34,7 +33,7 @@ loop-word-preserved c =
     let low : 64 * c.loop-word.word < 64 * c.args.words = omega (arith, c.loop-word-test.true) in
     let agree : c.same_bits.result ≡ true = search rules in
     let count : 64 ≡ min (64 * c.args.words - 64 * c.loop-word.word) 64 = omega (arith, c.loop-word-test.true) in
-    map_goes_on (64 * c.args.words) c.loop-word.word 64
+    map_continues (64 * c.args.words) c.loop-word.word 64
     (λ k. same_bit (map_bit c.args.block.now c.args.place k)
     (free_in (bits_of c.args.used.now) c.args.used.now.size (c.args.base + k))) count low
     (word_is c.args.block.now c.args.place

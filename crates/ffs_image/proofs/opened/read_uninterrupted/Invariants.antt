@@ -1,5 +1,5 @@
 use Rattle.std.proofs.Common.{◌≡◌, length}
-use Rattle.ffs_image.specs.System.{Interruptions}
+use Rattle.ffs_image.specs.Interrupted.{Interruptions}
 use Rattle.ffs_image.proofs.opened.read_uninterrupted.Given as goal
 
 abbrev pub invariant-loop : goal.invariant-loop

@@ -3,8 +3,8 @@ use Rattle.std.proofs.lemmas.Result.{err_from_is_err_and}
 use Rattle.ffs_volume.specs.declared.SuperFault.TheVariants.{CannotRead}
 use Rattle.ffs_volume.proofs.OutcomeLaws.{no_read_fault}
 use Rattle.ffs_layout.proofs.Answering.{past_end, magic, fault, disagree, accepted, copy_sector}
-use Rattle.ffs_layout.proofs.Copying.{faulted_there, seen_layout}
-use Rattle.ffs_image.proofs.Devices.{reported_length}
+use Rattle.ffs_layout.proofs.Copying.{seen_layout}
+use Rattle.ffs_image.proofs.Devices.{reported_length, faulted_there}
 use Rattle.ffs_layout.proofs.superblock.read_super.Goals as goal
 
 pub returns-in_err-read_copy-clause-answer : goal.returns-in_err-read_copy-clause-answer

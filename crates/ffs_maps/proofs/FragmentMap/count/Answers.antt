@@ -1,7 +1,7 @@
 use Rattle.std.proofs.Common.{arith, ℕ, ◌-◌, ◌*◌, ◌/◌, false}
 use Rattle.std.specs.List.{slice_index_or}
 use Rattle.ffs_maps.specs.Bits.{bits_of}
-use Rattle.ffs_maps.proofs.Counting.{count_join_at, count_few}
+use Rattle.ffs_maps.proofs.Counting.{count_join_at, count_within}
 use Rattle.ffs_maps.proofs.FragmentMap.count.Goals as goal
 
 pub overflow_add-result : goal.overflow_add-result
@@ -13,8 +13,8 @@ overflow_add-result c =
       c.count_in_word-before.ensures,
       c.count_in_words-words.ensures,
       c.div_ceil-first.ensures,
-      count_few is_set c.args.start (64 * first - c.args.start),
-      count_few is_set (64 * first) (64 * (c.args.end / 64) - 64 * first),
+      count_within is_set c.args.start (64 * first - c.args.start),
+      count_within is_set (64 * first) (64 * (c.args.end / 64) - 64 * first),
     )
 
 pub overflow_add-result-2 : goal.overflow_add-result-2
@@ -28,9 +28,9 @@ overflow_add-result-2 c =
       c.count_in_words-words.ensures,
       c.count_in_word-2.ensures,
       c.div_ceil-first.ensures,
-      count_few is_set c.args.start (64 * first - c.args.start),
-      count_few is_set (64 * first) (64 * last - 64 * first),
-      count_few is_set (64 * last) (c.args.end - 64 * last),
+      count_within is_set c.args.start (64 * first - c.args.start),
+      count_within is_set (64 * first) (64 * last - 64 * first),
+      count_within is_set (64 * last) (c.args.end - 64 * last),
     )
 
 pub returns : goal.returns

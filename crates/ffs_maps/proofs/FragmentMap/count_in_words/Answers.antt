@@ -2,7 +2,7 @@ use Rattle.std.proofs.Common.{arith, rules, ◌≤◌, ◌<◌, ◌+◌, ◌*◌
 use Rattle.std.proofs.lemmas.Bool.{cases_lt}
 use Rattle.std.specs.List.{slice_index_or}
 use Rattle.ffs_maps.specs.Bits.{bits_of}
-use Rattle.ffs_maps.proofs.Counting.{count_join_at, alike_touched, count_few, count_ends, ones_of_word}
+use Rattle.ffs_maps.proofs.Counting.{count_join_at, alike_touched, count_within, count_ends, ones_of_word}
 use Rattle.ffs_maps.proofs.FragmentMap.count_in_words.Goals as goal
 
 pub overflow_mul-result : goal.overflow_mul-result
@@ -15,7 +15,7 @@ overflow_mul-result c =
       alike_touched m.words.list words m.size c.args.first c.min-end.result
           (omega (arith, c.min-end.ensures, c.requires.below)) c.if-start-end.true (omega (arith, c.min-end.ensures))
           fits c.touched-words.ensures.words (c.are_alike.ensures.0 c.if-are_alike.true),
-      count_few (λ f. slice_index_or (bits_of m) f false) (64 * c.args.first)
+      count_within (λ f. slice_index_or (bits_of m) f false) (64 * c.args.first)
           (64 * c.min-end.result - 64 * c.args.first),
       c.min-end.ensures,
       c.ranges.last,
@@ -48,9 +48,9 @@ overflow_add-count c =
       c.loop-index.invariant.count,
       ones_of_word c.args.self.now.words.list c.args.self.now.size index (get_or words index 0) fits
           (sym (c.touched-words.ensures.words index)) (omega (arith, c.min-end.ensures, c.requires.below)),
-      count_few (λ f. slice_index_or (bits_of c.args.self.now) f false) (64 * c.args.first)
+      count_within (λ f. slice_index_or (bits_of c.args.self.now) f false) (64 * c.args.first)
           (64 * index - 64 * c.args.first),
-      count_few (λ f. slice_index_or (bits_of c.args.self.now) f false) (64 * index) 64,
+      count_within (λ f. slice_index_or (bits_of c.args.self.now) f false) (64 * index) 64,
       c.min-end.ensures,
     )
 

@@ -2,9 +2,10 @@ use Rattle.std.proofs.Common.{◌∙◌, ◌≡◌, ◌*◌, length, ap, refl, s
 use Rattle.std.specs.Prelude.{slice_index}
 use Rattle.std.proofs.lemmas.List.{with_items_is}
 use Rattle.ffs_volume.proofs.Sizes.{some_inodes}
+use Rattle.ffs_volume.proofs.Results.{on_ok}
 use Rattle.ffs_workspace.specs.Tables.{IsTableOf}
 use Rattle.ffs_workspace.proofs.PlaceLaws.{filled_noted}
-use Rattle.ffs_names.proofs.SurveyHolds.{on_ok, volume_in, blocks_in, volume_survey, holds_survey, volume_calm}
+use Rattle.ffs_names.proofs.SurveyHolds.{volume_in, blocks_in, volume_survey, holds_survey, volume_calm}
 use Rattle.ffs_names.proofs.SurveyHolds.{holds_calm, holds_references}
 use Rattle.ffs_names.proofs.graph.survey.Goals as goal
 
@@ -110,6 +111,7 @@ survey-surveyed-requires-clause-lists g c = record {
   named = search (rules, arith);
   reached = search (rules, arith);
   parents = search (rules, arith);
+  calm = search (rules, arith);
   queue = search (rules, arith);
 }
 

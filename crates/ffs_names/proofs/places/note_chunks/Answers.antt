@@ -3,6 +3,7 @@ use Rattle.std.specs.List.{flat_map}
 use Rattle.ffs_volume.specs.Disk.Numbers.{piece}
 use Rattle.ffs_volume.specs.Directories.Entries.{chunk_of}
 use Rattle.ffs_volume.specs.Directories.Roles.{roled_chunk}
+use Rattle.ffs_workspace.specs.declared.workspace.Windows.{Windows}
 use Rattle.ffs_names.specs.Readings.{rest}
 use Rattle.ffs_names.proofs.PlacesNoted.{all_noted, children_more, coming_after, noted_chunk, room_for, waiting_after}
 use Rattle.ffs_names.proofs.places.note_chunks.Goals as goal
@@ -33,6 +34,7 @@ chunks-preserved g c =
       geometry = went.geometry ∙ inv.geometry;
       ready = rw inv.geometry at went.ready;
       long = c.note_chunk.ensures.long ∙ inv.long;
+      others = ap (λ (w : Windows). record w { blocks = c.next.new.blocks; chunk = c.next.new.data }) inv.others;
       children = children_more parents words old new c.args.dir c.place_of-place.result _ c.note_chunk.ensures.noted
           inv.children;
       reads = λ held b t.

@@ -4,11 +4,11 @@ use Rattle.std.proofs.lemmas.Grind.{common_steps, get_or_default_zero}
 use Rattle.std.proofs.Common.{arith}
 use Rattle.ffs_volume.specs.Directories.Roles.{roled_chunk, roled_entries}
 use Rattle.ffs_volume.specs.Directories.Volumes.{volume_of}
+use Rattle.ffs_volume.proofs.Results.{on_ok}
 use Rattle.ffs_workspace.specs.Notes.{note_at}
 use Rattle.ffs_names.specs.Readings.{rest}
 use Rattle.ffs_names.proofs.Continuing.{contents_kept}
 use Rattle.ffs_names.proofs.PlacesNoted.{notes_as, ready_noted}
-use Rattle.ffs_names.proofs.SurveyHolds.{on_ok}
 use Rattle.ffs_names.proofs.places.note_directory.Goals as goal
 
 pub returns-clause-noted : goal.returns-clause-noted
@@ -31,11 +31,11 @@ returns-clause-ready g c =
     let device = g.I.Image.device in
     let begun = c.in_ok-chunks.ensures in
     let went = c.note_chunks.ensures.leaves in
-    ready_noted c.args.geometry.now.layout (device c.args.image.now) (device c.chunks_of.new.image)
-    (device c.note_chunks.new.image) c.args.workspace.now c.chunks_of.new.table c.note_chunks.new.blocks
-    c.note_chunks.new.data c.note_chunks.new.words (ap (λ d. d.contents) begun.leaves.read) begun.leaves.kept
-    (contents_kept _ _ c.note_chunks.result went.read) (rw begun.geometry at went.ready) c.note_chunks.ensures.long
-    c.requires.ready
+    rw c.note_chunks.ensures.others (ready_noted c.args.geometry.now.layout (device c.args.image.now)
+    (device c.chunks_of.new.image) (device c.note_chunks.new.image) c.args.workspace.now c.chunks_of.new.table
+    c.note_chunks.new.windows.blocks c.note_chunks.new.windows.chunk c.note_chunks.new.words
+    (ap (λ d. d.contents) begun.leaves.read) begun.leaves.kept (contents_kept _ _ c.note_chunks.result went.read)
+    (rw begun.geometry at went.ready) c.note_chunks.ensures.long c.requires.ready)
 
 pub returns-clause-reads : goal.returns-clause-reads
 returns-clause-reads g c = λ b t claims dir.

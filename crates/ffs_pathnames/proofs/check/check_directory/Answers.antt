@@ -12,12 +12,14 @@ use Rattle.ffs_pathnames.specs.Begins.{dir_starts}
 use Rattle.ffs_pathnames.specs.Gathers.{marks_of}
 use Rattle.ffs_pathnames.specs.NameMarks.{entries_reported}
 use Rattle.ffs_pathnames.proofs.Begun.{said_same, directory_is, lines_parts, quiet_parts, reported_parts, quiet_after}
-use Rattle.ffs_pathnames.proofs.Begun.{reported_after, on_ok}
+use Rattle.ffs_pathnames.proofs.Begun.{reported_after}
 use Rattle.ffs_pathnames.proofs.Passing.{knows_on}
 use Rattle.ffs_pathnames.proofs.StampLaws.{keep_more, noted_kept}
 use Rattle.ffs_volume.specs.Report.Reads.{line_reads}
+use Rattle.ffs_volume.proofs.Results.{on_ok}
 use Rattle.ffs_names.specs.Costs.{directory_cost, directory_runs}
-use Rattle.ffs_pathnames.proofs.CostLaws.{checked_twice, cost_of_dir, lines_long, starts_within}
+use Rattle.ffs_names.proofs.DirCosts.{cost_is as cost_of_dir}
+use Rattle.ffs_pathnames.proofs.CostLaws.{checked_twice, lines_long, starts_within}
 use Rattle.std.proofs.Math.Nat.{mul-le-mul_left}
 use Rattle.ffs_pathnames.proofs.check.check_directory.Goals as goal
 

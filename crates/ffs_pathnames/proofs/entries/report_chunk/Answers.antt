@@ -11,11 +11,12 @@ use Rattle.ffs_pathnames.specs.DirectoryContext.{DirectoryContext}
 use Rattle.ffs_pathnames.specs.NameMarks.{after_roled, after_entries, roled_reported, entries_reported}
 use Rattle.ffs_pathnames.proofs.Begun.{image_same}
 use Rattle.ffs_pathnames.proofs.LineCounts.{entry_counted, has_begun, read_all, read_more}
-use Rattle.ffs_pathnames.proofs.Looking.{roled_at_place, seen_next, none}
+use Rattle.ffs_pathnames.proofs.Looking.{roled_at_place, seen_next, none_left}
 use Rattle.ffs_workspace.proofs.Leaving.{leaves_all, leaves_more}
-use Rattle.ffs_pathnames.proofs.Passing.{entry_reported, entry_passed, none_left, knows_on}
+use Rattle.ffs_pathnames.proofs.Passing.{entry_reported, entry_passed, knows_on}
 use Rattle.ffs_pathnames.proofs.StampLaws.{keep_more, noted_kept}
 use Rattle.ffs_pathnames.proofs.entries.report_chunk.Goals as goal
+use Rattle.ffs_names.proofs.PlacesNoted.{none_there as none}
 
 pub entries-init : goal.entries-init
 entries-init g c =
@@ -37,34 +38,62 @@ entries-init g c =
       counted = λ b k noted. has_begun _ _ _;
     }
 
-pub returns-in_err-report_entry-clause-text : goal.returns-in_err-report_entry-clause-text
-returns-in_err-report_entry-clause-text g c =
-    let v = c.args.geometry.now.layout in
-    let x = c.args.chunk.now in
-    let inv = c.entries.invariant in
-    let e = entry_value c.in-Some.entry in
-    let seen : RoledEntry = record { role = c.role_of.result; entry = e } in
-    let m = marks_of c.entries.workspace in
-    let here = roled_at_place v.order x.bytes.now x.first c.entries.index c.entries.place in
-    let there = roled_at_place v.order x.bytes.now x.first (c.entries.index + 1)
-    (c.entries.place + c.in-Some.entry.length) in
-    let next = seen_next v.order x.bytes.now x.first c.entries.index c.entries.place e c.role_of.result
-    c.in-Some.ensures.some c.role_of.ensures in
-    let p = err_from_is_err_and c.from_residual.result c.from_residual.ensures.1 in
-    rw (p.1, p.2) (of_fault (Unit {0}) (Unit {0}) _
-    (λ (b : List ℕ). map of_tree (entries_reported (volume_of v b) x.dir m here))
-    (λ (b : List ℕ). map of_tree (roled_reported (volume_of v b) x.dir m seen))
-    (λ (b : List ℕ). map of_tree
-    (entries_reported (volume_of v b) x.dir (after_roled (volume_of v b) x.dir m seen) there)) _ _ _ _
-    c.in_err-report_entry.field-0.0
-    inv.said (λ b k. entry_reported (volume_of v b) x.dir m (after_roled (volume_of v b) x.dir m seen) seen
-    here there next refl)
-    (reports_knowing (Unit {0}) _ _ _ _ _ (Err c.in_err-report_entry.field-0.0)
-    (λ b k. record {
-      knows = knows_on v _ _ c.args.workspace.now c.entries.workspace x.dir b
-          (ap (λ d. d.contents) inv.device) inv.survey k.knows;
-      path = inv.path b k;
-    }) c.in_err-report_entry.ensures.text))
+pub returns-in_err-report_entry-clause-lines : goal.returns-in_err-report_entry-clause-lines
+returns-in_err-report_entry-clause-lines g c = record {
+  text =
+      let v = c.args.geometry.now.layout in
+      let x = c.args.chunk.now in
+      let inv = c.entries.invariant in
+      let e = entry_value c.in-Some.entry in
+      let seen : RoledEntry = record { role = c.role_of.result; entry = e } in
+      let m = marks_of c.entries.workspace in
+      let here = roled_at_place v.order x.bytes.now x.first c.entries.index c.entries.place in
+      let there = roled_at_place v.order x.bytes.now x.first (c.entries.index + 1)
+      (c.entries.place + c.in-Some.entry.length) in
+      let next = seen_next v.order x.bytes.now x.first c.entries.index c.entries.place e c.role_of.result
+      c.in-Some.ensures.some c.role_of.ensures in
+      let p = err_from_is_err_and c.from_residual.result c.from_residual.ensures.1 in
+      rw (p.1, p.2) (of_fault (Unit {0}) (Unit {0}) _
+      (λ (b : List ℕ). map of_tree (entries_reported (volume_of v b) x.dir m here))
+      (λ (b : List ℕ). map of_tree (roled_reported (volume_of v b) x.dir m seen))
+      (λ (b : List ℕ). map of_tree
+      (entries_reported (volume_of v b) x.dir (after_roled (volume_of v b) x.dir m seen) there)) _ _ _ _
+      c.in_err-report_entry.field-0.0
+      inv.said (λ b k. entry_reported (volume_of v b) x.dir m (after_roled (volume_of v b) x.dir m seen) seen
+      here there next refl)
+      (reports_knowing (Unit {0}) _ _ _ _ _ (Err c.in_err-report_entry.field-0.0)
+      (λ b k. record {
+        knows = knows_on v _ _ c.args.workspace.now c.entries.workspace x.dir b
+            (ap (λ d. d.contents) inv.device) inv.survey k.knows;
+        path = inv.path b k;
+      }) c.in_err-report_entry.ensures.lines.text));
+  path = λ b k.
+      let x = c.args.chunk.now in
+      let inv = c.entries.invariant in
+      c.report_entry.ensures.lines.path b (record {
+        knows = knows_on c.args.geometry.now.layout _ _ c.args.workspace.now c.entries.workspace x.dir b
+            (ap (λ d. d.contents) inv.device) inv.survey k.knows;
+        path = inv.path b k;
+      });
+  counted = λ b k noted.
+      let v = c.args.geometry.now.layout in
+      let x = c.args.chunk.now in
+      let inv = c.entries.invariant in
+      let e = entry_value c.in-Some.entry in
+      let seen : RoledEntry = record { role = c.role_of.result; entry = e } in
+      let m = marks_of c.entries.workspace in
+      let next = seen_next v.order x.bytes.now x.first c.entries.index c.entries.place e c.role_of.result
+      c.in-Some.ensures.some c.role_of.ensures in
+      read_all (read_more _ _ (inv.counted b k noted)
+      (entry_counted (volume_of v b) x.dir m (after_roled (volume_of v b) x.dir m seen) seen
+      (roled_at_place v.order x.bytes.now x.first c.entries.index c.entries.place)
+      (roled_at_place v.order x.bytes.now x.first (c.entries.index + 1)
+      (c.entries.place + c.in-Some.entry.length)) next refl)
+      (c.in_err-report_entry.ensures.lines.counted b
+      (knows_on v _ _ c.args.workspace.now c.entries.workspace x.dir b (ap (λ d. d.contents) inv.device) inv.survey
+      k)
+      (noted_kept v b _ _ inv.places noted)));
+}
 
 pub returns-in_err-report_entry-clause-leaves : goal.returns-in_err-report_entry-clause-leaves
 returns-in_err-report_entry-clause-leaves g c =
@@ -80,36 +109,6 @@ returns-in_err-report_entry-clause-leaves g c =
 
 pub returns-in_err-report_entry-clause-chunk : goal.returns-in_err-report_entry-clause-chunk
 returns-in_err-report_entry-clause-chunk g c = c.in_err-report_entry.ensures.chunk ∙ c.entries.invariant.chunk
-
-pub returns-in_err-report_entry-clause-counted : goal.returns-in_err-report_entry-clause-counted
-returns-in_err-report_entry-clause-counted g c = λ b k noted.
-    let v = c.args.geometry.now.layout in
-    let x = c.args.chunk.now in
-    let inv = c.entries.invariant in
-    let e = entry_value c.in-Some.entry in
-    let seen : RoledEntry = record { role = c.role_of.result; entry = e } in
-    let m = marks_of c.entries.workspace in
-    let next = seen_next v.order x.bytes.now x.first c.entries.index c.entries.place e c.role_of.result
-    c.in-Some.ensures.some c.role_of.ensures in
-    read_all (read_more _ _ (inv.counted b k noted)
-    (entry_counted (volume_of v b) x.dir m (after_roled (volume_of v b) x.dir m seen) seen
-    (roled_at_place v.order x.bytes.now x.first c.entries.index c.entries.place)
-    (roled_at_place v.order x.bytes.now x.first (c.entries.index + 1)
-    (c.entries.place + c.in-Some.entry.length)) next refl)
-    (c.in_err-report_entry.ensures.counted b
-    (knows_on v _ _ c.args.workspace.now c.entries.workspace x.dir b (ap (λ d. d.contents) inv.device) inv.survey
-    k)
-    (noted_kept v b _ _ inv.places noted)))
-
-pub returns-in_err-report_entry-clause-path : goal.returns-in_err-report_entry-clause-path
-returns-in_err-report_entry-clause-path g c = λ b k.
-    let x = c.args.chunk.now in
-    let inv = c.entries.invariant in
-    c.report_entry.ensures.path b (record {
-      knows = knows_on c.args.geometry.now.layout _ _ c.args.workspace.now c.entries.workspace x.dir b
-          (ap (λ d. d.contents) inv.device) inv.survey k.knows;
-      path = inv.path b k;
-    })
 
 pub entries-preserved : goal.entries-preserved
 entries-preserved g c =
@@ -140,7 +139,7 @@ entries-preserved g c =
       survey = leaves_more _ _ _ inv.survey ok.leaves.survey;
       places = keep_more _ _ _ inv.places ok.leaves.places;
       chunk = ok.chunk ∙ inv.chunk;
-      path = λ b k. c.report_entry.ensures.path b (record { knows = know b k.knows; path = inv.path b k });
+      path = λ b k. c.report_entry.ensures.lines.path b (record { knows = know b k.knows; path = inv.path b k });
       marks = λ b k. entry_passed (volume_of v b) x.dir _ m m' seen here there next (ok.marks b (know b k))
           (inv.marks b k);
       said = of_part _ (λ (b : List ℕ). map of_tree (entries_reported (volume_of v b) x.dir m here))
@@ -150,25 +149,29 @@ entries-preserved g c =
           (said_knows _ _ _ _ _ _ (λ b k. record {
             knows = know b k.knows;
             path = inv.path b k;
-          }) ok.text);
+          }) ok.lines.text);
       counted = λ b k noted. read_more _ _ (inv.counted b k noted)
           (entry_counted (volume_of v b) x.dir m m' seen here there next (ok.marks b (know b k)))
-          (ok.counted b (know b k) (noted_kept v b _ _ inv.places noted));
+          (ok.lines.counted b (know b k) (noted_kept v b _ _ inv.places noted));
     })
 
-pub returns-clause-text : goal.returns-clause-text
-returns-clause-text g c =
-    let v = c.args.geometry.now.layout in
-    let x = c.args.chunk.now in
-    let inv = c.entries.invariant in
-    let m = marks_of c.entries.workspace in
-    let end = none_left v.order x.bytes.now x.first c.entries.index c.entries.place
-    (none v.order x.bytes.now c.entries.place c.entry_at.result c.in_default.is c.entry_at.ensures.value) in
-    of_same _ (λ (b : List ℕ). map of_tree
-    (entries_reported (volume_of v b) x.dir m
-    (roled_at_place v.order x.bytes.now x.first c.entries.index c.entries.place))) (λ b. []) _ _ _
-    inv.said
-    (λ b k. ap (λ es. map of_tree (entries_reported (volume_of v b) x.dir m es)) end)
+pub returns-clause-lines : goal.returns-clause-lines
+returns-clause-lines g c = record {
+  text =
+      let v = c.args.geometry.now.layout in
+      let x = c.args.chunk.now in
+      let inv = c.entries.invariant in
+      let m = marks_of c.entries.workspace in
+      let end = none_left v.order x.bytes.now x.first c.entries.index c.entries.place
+      (none v.order x.bytes.now c.entries.place c.entry_at.result c.in_default.is c.entry_at.ensures.value) in
+      of_same _ (λ (b : List ℕ). map of_tree
+      (entries_reported (volume_of v b) x.dir m
+      (roled_at_place v.order x.bytes.now x.first c.entries.index c.entries.place))) (λ b. []) _ _ _
+      inv.said
+      (λ b k. ap (λ es. map of_tree (entries_reported (volume_of v b) x.dir m es)) end);
+  path = c.entries.invariant.path;
+  counted = λ b k noted. read_all (c.entries.invariant.counted b k noted);
+}
 
 pub returns-clause-marks : goal.returns-clause-marks
 returns-clause-marks g c = λ b k.
@@ -177,6 +180,3 @@ returns-clause-marks g c = λ b k.
     let end = none_left v.order x.bytes.now x.first c.entries.index c.entries.place
     (none v.order x.bytes.now c.entries.place c.entry_at.result c.in_default.is c.entry_at.ensures.value) in
     c.entries.invariant.marks b k ∙ ap (after_entries (volume_of v b) x.dir (marks_of c.entries.workspace)) end
-
-pub returns-clause-counted : goal.returns-clause-counted
-returns-clause-counted g c = λ b k noted. read_all (c.entries.invariant.counted b k noted)

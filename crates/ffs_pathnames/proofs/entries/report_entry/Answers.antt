@@ -99,7 +99,16 @@ returns-clause-marks g c = λ b k.
     (with_items_is here.flags c.pass.new.flags (c.pass.auto.flags ∙ c.as_mut_slice.ensures.len))
     refl
 
-pub returns-clause-counted : goal.returns-clause-counted
-returns-clause-counted g c = λ b k noted.
-    let said = c.in_ok-say_entry.ensures.counted b k noted in
-    record { count = said.count; blocks = said.blocks }
+pub returns-in_err-say_entry-clause-lines : goal.returns-in_err-say_entry-clause-lines
+returns-in_err-say_entry-clause-lines g c =
+    let p = err_from_is_err_and c.from_residual.result c.from_residual.ensures.1 in
+    rw (p.1, p.2) c.in_err-say_entry.ensures.lines
+
+pub returns-clause-lines : goal.returns-clause-lines
+returns-clause-lines g c =
+    let lines = c.in_ok-say_entry.ensures.lines in
+    record {
+      text = lines.text;
+      path = lines.path;
+      counted = λ b k noted. let said = lines.counted b k noted in record { count = said.count; blocks = said.blocks };
+    }

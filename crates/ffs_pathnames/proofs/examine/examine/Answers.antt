@@ -11,6 +11,7 @@ use Rattle.ffs_workspace.specs.declared.workspace.Windows.{Windows}
 use Rattle.ffs_workspace.proofs.NoteLaws.{cut_is_noted}
 use Rattle.ffs_names.proofs.DirLaws.{dir_is, dir_size}
 use Rattle.ffs_names.specs.Windows.{CanReadChunks}
+use Rattle.ffs_names.proofs.DirCosts.{cost_is as cost_of_dir, runs_are}
 use Rattle.ffs_workspace.proofs.Readiness.{ready_table}
 use Rattle.ffs_workspace.proofs.Leaving.{windows_leave}
 use Rattle.ffs_pathnames.specs.Gathers.{marks_of}
@@ -19,7 +20,6 @@ use Rattle.ffs_pathnames.proofs.ChunkLaws.{chunks_are, gap_is, seen_are}
 use Rattle.ffs_pathnames.proofs.ReadyLaws.{can_read_in, ready_looked}
 use Rattle.ffs_pathnames.proofs.SeesLaws.{sees}
 use Rattle.ffs_pathnames.proofs.StampLaws.{queue_leaves}
-use Rattle.ffs_pathnames.proofs.CostLaws.{cost_of_dir, runs_are}
 use Rattle.ffs_pathnames.proofs.examine.examine.Goals as goal
 
 pub returns-clause-found : goal.returns-clause-found

@@ -4,9 +4,10 @@ use Rattle.ffs_layout.specs.Entry.{entry_value}
 use Rattle.ffs_pathnames.specs.NameMarks.{is_quiet}
 use Rattle.ffs_pathnames.specs.Sees.{Sees, stamps_in}
 use Rattle.ffs_pathnames.proofs.Looking.{roled_at_place, seen_next, quiet_on, stamps_on, length_on, quiet_ends}
-use Rattle.ffs_pathnames.proofs.Looking.{stamps_end, length_ends, none}
+use Rattle.ffs_pathnames.proofs.Looking.{stamps_end, length_ends}
 use Rattle.ffs_pathnames.proofs.look.look_chunk.Goals as goal
 use Rattle.ffs_pathnames.proofs.look.look_chunk.Goals.{then-quiet, else-quiet}
+use Rattle.ffs_names.proofs.PlacesNoted.{none_there as none}
 
 pub entries-preserved : goal.entries-preserved
 entries-preserved c =

@@ -5,11 +5,11 @@ use Rattle.ffs_volume.specs.Messages.Kinds.{of_tree, phase2}
 use Rattle.ffs_volume.specs.Directories.PathnameCheck.{pathname_lines}
 use Rattle.ffs_volume.specs.Directories.Volumes.{volume_of}
 use Rattle.ffs_pathnames.specs.declared.pass2.Root.{Root}
-use Rattle.ffs_pathnames.proofs.Begun.{on_ok}
 use Rattle.ffs_pathnames.proofs.Carrying.{on_all, if_ok, at_fault, at_fault_more, claims_untouched, before_first}
 use Rattle.ffs_pathnames.proofs.Carrying.{references_on}
 use Rattle.ffs_pathnames.proofs.SilentLaws.{calm_silent}
 use Rattle.ffs_volume.proofs.RunBounds.{runs_bounded}
+use Rattle.ffs_volume.proofs.Results.{on_ok}
 use Rattle.ffs_names.proofs.RunSums.{costs_bounded}
 use Rattle.ffs_pathnames.proofs.pass2.phase2.Goals as goal
 

@@ -1,4 +1,4 @@
-use Rattle.std.proofs.Common.{◌≡◌, refl, sym, ap, subst, ◌∙◌, ℕ, List, [], ◌∷◌, map, Err, arith, length}
+use Rattle.std.proofs.Common.{refl, sym, ap, subst, ◌∙◌, ℕ, List, [], ◌∷◌, map, Err, arith, length}
 use Rattle.std.specs.List.{flat_map}
 use Rattle.std.proofs.lemmas.Bool.{both_ways}
 use Rattle.std.proofs.lemmas.Result.{err_from_is_err_and}
@@ -22,7 +22,8 @@ use Rattle.ffs_pathnames.proofs.ReadyLaws.{with_chunk, can_read_in, ready_next, 
 use Rattle.ffs_pathnames.proofs.StampLaws.{keep_more, noted_kept}
 use Rattle.ffs_volume.specs.Report.Reads.{line_reads}
 use Rattle.ffs_names.specs.Costs.{to_read}
-use Rattle.ffs_pathnames.proofs.CostLaws.{lines_long, reported_on, runs_are, same_long}
+use Rattle.ffs_names.proofs.DirCosts.{runs_are}
+use Rattle.ffs_pathnames.proofs.CostLaws.{lines_long, reported_on, same_long}
 use Rattle.ffs_pathnames.proofs.second_look.report_directory.Goals as goal
 
 pub chunks-init : goal.chunks-init
@@ -142,12 +143,12 @@ chunks-preserved g c =
       places = keep_more _ _ _ inv.places ok.leaves.places;
       held = λ b k noted.
           let took = read.reads (inv.held b k noted) b (ap (λ d. d.contents) inv.device ∙ k.0.gives_bytes) in
-          let few = c.report_chunk.ensures.counted b (know b k)
+          let few = c.report_chunk.ensures.lines.counted b (know b k)
           (noted_kept v b c.args.workspace.now.queue.items c.chunks.workspace.queue.items inv.places noted) in
           rw (few.blocks, c.report_chunk.ensures.chunk) took.held;
       reads = λ b k noted.
           let took = read.reads (inv.held b k noted) b (ap (λ d. d.contents) inv.device ∙ k.0.gives_bytes) in
-          let few = c.report_chunk.ensures.counted b (know b k)
+          let few = c.report_chunk.ensures.lines.counted b (know b k)
           (noted_kept v b c.args.workspace.now.queue.items c.chunks.workspace.queue.items inv.places noted) in
           reported_on line_reads _ _ _ (to_read b c.chunks.chunks) (to_read b c.next.new.self)
           (length (entries_reported (volume_of v b) x.number m (roled_chunk here)))
@@ -156,7 +157,7 @@ chunks-preserved g c =
           took.paid few.count
           (lines_long _ _ _ (chunk_reported (volume_of v b) x.number m m' here (rest b c.chunks.chunks)
           (rest b c.next.new.self) (next b k) (ok.marks b (know b k)))) (inv.reads b k noted);
-      path = λ b k. c.report_chunk.ensures.path b (record { knows = know b k; path = inv.path b k });
+      path = λ b k. c.report_chunk.ensures.lines.path b (record { knows = know b k; path = inv.path b k });
       marks = λ b k. chunk_passed (volume_of v b) x.number _ m m' here (rest b c.chunks.chunks)
           (rest b c.next.new.self) (next b k) (ok.marks b (know b k)) (inv.marks b k);
       said = of_part _ (λ (b : List ℕ). map of_tree
@@ -168,7 +169,7 @@ chunks-preserved g c =
           (λ b k. chunk_reported (volume_of v b) x.number m m' here (rest b c.chunks.chunks) (rest b c.next.new.self)
           (next b k) (ok.marks b (know b k)))
           (said_knows _ _ _ _ _ _ (λ b k. record
-          { knows = know b k; path = inv.path b k }) ok.text);
+          { knows = know b k; path = inv.path b k }) ok.lines.text);
     }
 
 pub returns-in_err-report_chunk-clause-text : goal.returns-in_err-report_chunk-clause-text
@@ -205,7 +206,7 @@ returns-in_err-report_chunk-clause-text g c =
     here (rest b c.chunks.chunks) (rest b c.next.new.self) (next b k) refl)
     (reports_knowing (Unit {0}) _ _ _ _ _ (Err c.in_err-report_chunk.field-0.0)
     (λ b k. record { knows = know b k; path = inv.path b k })
-    c.in_err-report_chunk.ensures.text))
+    c.in_err-report_chunk.ensures.lines.text))
 
 pub returns-in_err-report_chunk-clause-leaves : goal.returns-in_err-report_chunk-clause-leaves
 returns-in_err-report_chunk-clause-leaves g c =
@@ -270,7 +271,7 @@ returns-in_err-report_chunk-clause-reads g c = λ b k noted.
     (λ q. chunk_of q.layout.order c.in-Some.offset c.next.new.chunk ∷ rest b c.next.new.self) inv.geometry in
     let after = after_entries (volume_of v b) x.number m (roled_chunk here) in
     let took = read.reads (inv.held b k noted) b (ap (λ d. d.contents) inv.device ∙ k.0.gives_bytes) in
-    let few = c.report_chunk.ensures.counted b know
+    let few = c.report_chunk.ensures.lines.counted b know
     (noted_kept v b c.args.workspace.now.queue.items c.chunks.workspace.queue.items inv.places noted) in
     let most = reported_on line_reads _ _ _ (to_read b c.chunks.chunks) (to_read b c.next.new.self)
     (length (entries_reported (volume_of v b) x.number m (roled_chunk here)))

@@ -1,7 +1,7 @@
 use Rattle.std.proofs.Common.{◌+◌, ◌-◌, ◌<◌, [], map, refl, sym, ap, subst, ◌≡◌, ◌∙◌, suc, arith, rules, Err, List, ℕ, ◌≤◌, length, true}
 use Rattle.std.proofs.lemmas.Bool.{both_ways}
 use Rattle.std.proofs.lemmas.Result.{err_from_is_err_and}
-use Rattle.ffs_volume.proofs.Numbered.{from_next, from_end}
+use Rattle.ffs_volume.proofs.Numbered.{from_next, from_end, count_next as next_long}
 use Rattle.ffs_volume.proofs.Sizes.{some_inodes}
 use Rattle.ffs_report.proofs.Reporting.{of_begins, of_same, of_part, of_fault, of_reads, said_knows, reports_knowing}
 use Rattle.ffs_volume.specs.Messages.Kinds.{of_tree, lines_from}
@@ -17,7 +17,7 @@ use Rattle.ffs_survey.specs.Costs.{costs_all}
 use Rattle.ffs_survey.proofs.Costs.{cost_take, costs_rise}
 use Rattle.ffs_names.specs.Costs.{directories_cost, directory_cost}
 use Rattle.ffs_pathnames.proofs.StampLaws.{noted_kept}
-use Rattle.ffs_pathnames.proofs.CostLaws.{checked_on, next_long, same_long}
+use Rattle.ffs_pathnames.proofs.CostLaws.{checked_on, same_long}
 use Rattle.ffs_pathnames.proofs.tree.check_inodes.Goals as goal
 
 pub first_checked-first-requires-clause-some : goal.first_checked-first-requires-clause-some

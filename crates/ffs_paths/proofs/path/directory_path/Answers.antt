@@ -4,9 +4,9 @@ use Rattle.ffs_volume.specs.Directories.Parents.{graph_of}
 use Rattle.ffs_volume.specs.Directories.Volumes.{volume_of}
 use Rattle.std.specs.Prelude.{option_map}
 use Rattle.ffs_volume.specs.Directories.Paths.{names_down}
+use Rattle.ffs_volume.proofs.LevelLaws.{reached-level}
 use Rattle.ffs_paths.specs.DirectoryPaths.{HoldsPath}
 use Rattle.ffs_paths.proofs.Single.{down_single}
-use Rattle.ffs_paths.proofs.Ways.{level_of}
 use Rattle.ffs_paths.proofs.path.directory_path.Goals as goal
 
 pub returns-in_ok-names-clause-path : goal.returns-in_ok-names-clause-path
@@ -17,7 +17,7 @@ returns-in_ok-names-clause-path g c = λ b t claims survey.
     let dir = c.requires.number in
     let on = sym (c.index-reached.ensures ∙ get_or_default c.args.workspace.now.reached.items c.args.dir
     c.index-reached.result.now false (omega arith)) ∙ c.if-reached.true in
-    let k = level_of G c.args.dir (sym (survey.reached c.args.dir) ∙ on) in
+    let k = reached-level G c.args.dir (sym (survey.reached c.args.dir) ∙ on) in
     subst (HoldsPath _) (sym (ap (option_map (λ n. names_down G n c.args.dir)) k.1))
     (c.if-reached.true, c.in_ok-names.ensures.path b t claims survey k.0 k.1, down_single v b k.0 c.args.dir)
 
@@ -28,7 +28,7 @@ returns-in_err-names-clause-counted g c = λ b knows.
     let dir = c.requires.number in
     let on = sym (c.index-reached.ensures ∙ get_or_default c.args.workspace.now.reached.items c.args.dir
     c.index-reached.result.now false (omega arith)) ∙ c.if-reached.true in
-    let k = level_of (graph_of (volume_of c.args.geometry.now.layout b)) c.args.dir
+    let k = reached-level (graph_of (volume_of c.args.geometry.now.layout b)) c.args.dir
     (sym (knows.survey.reached c.args.dir) ∙ on) in
     c.in_err-names.ensures.counted b k.0 knows k.1
 
@@ -38,6 +38,6 @@ returns-in_ok-names-clause-counted g c = λ b knows.
     let dir = c.requires.number in
     let on = sym (c.index-reached.ensures ∙ get_or_default c.args.workspace.now.reached.items c.args.dir
     c.index-reached.result.now false (omega arith)) ∙ c.if-reached.true in
-    let k = level_of (graph_of (volume_of c.args.geometry.now.layout b)) c.args.dir
+    let k = reached-level (graph_of (volume_of c.args.geometry.now.layout b)) c.args.dir
     (sym (knows.survey.reached c.args.dir) ∙ on) in
     c.in_ok-names.ensures.counted b k.0 knows k.1

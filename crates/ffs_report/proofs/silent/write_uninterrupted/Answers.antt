@@ -1,5 +1,5 @@
 use Rattle.std.proofs.Common.{◌≡◌, ◌-◌, ◌^◌, arith}
-use Rattle.ffs_report.proofs.Retries.{given_up}
+use Rattle.ffs_image.proofs.Retries.{given_up}
 use Rattle.ffs_report.proofs.silent.write_uninterrupted.Goals as goal
 
 pub returns-clause-tried : goal.returns-clause-tried

@@ -1,5 +1,5 @@
 use Rattle.std.specs.Io.KnownBytes.{Keeps}
-use Rattle.ffs_report.specs.Outlet.{Interruptions}
+use Rattle.ffs_image.specs.Interrupted.{Interruptions}
 use Rattle.ffs_report.proofs.silent.write_uninterrupted.Given as goal
 
 abbrev pub invariant-loop : goal.invariant-loop

@@ -5,7 +5,7 @@ use Rattle.ffs_survey.specs.Survey.{number_at}
 use Rattle.ffs_survey.specs.Discover.{IsReachedDir}
 use Rattle.ffs_survey.specs.Lent.{Lent}
 use Rattle.ffs_survey.proofs.Lending.{queue_long}
-use Rattle.ffs_survey.proofs.Queues.{at_place, extends_on, is_extended, keeps_queue, no_front, number_kept}
+use Rattle.ffs_survey.proofs.Queues.{at_place, extends_on, is_extended, keeps_queue, empty_level, number_kept}
 use Rattle.ffs_survey.proofs.Costs.{next_cost}
 use Rattle.ffs_survey.proofs.Tally.{dir_counted}
 use Rattle.ffs_survey.proofs.discover.read_level.Goals as goal
@@ -99,7 +99,7 @@ returns-clause-found g c =
       ordered = inv.extends.ordered;
       kept = keeps_queue c.args.high c.loop-at.top _ _ inv.extends;
       read = λ b k.
-          let none = no_front c.loop-at.at c.args.high c.args.lists.now.queue.now.items (omega arith) in
+          let none = empty_level c.loop-at.at c.args.high c.args.lists.now.queue.now.items (omega arith) in
           record {
             comes = rw none at (inv.comes b k);
             counts = rw none at (inv.counts b k);

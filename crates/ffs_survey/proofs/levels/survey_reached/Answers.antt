@@ -8,7 +8,7 @@ use Rattle.ffs_survey.proofs.CalmLaws.{calm_none}
 use Rattle.ffs_survey.proofs.Costs.{costs_part, level_costs, queue_costs}
 use Rattle.ffs_survey.proofs.Frontiers.{sane_of}
 use Rattle.ffs_survey.proofs.Ends.{levels_start, frontier_start, queue_start, unset-le}
-use Rattle.ffs_survey.proofs.Queues.{counted_on, reached_part, alone_part, none_counted, no_front}
+use Rattle.ffs_survey.proofs.Queues.{counted_on, reached_part, alone_part, none_counted, empty_level}
 use Rattle.ffs_survey.proofs.levels.survey_reached.Goals as goal
 
 pub loop-low-init : goal.loop-low-init
@@ -112,7 +112,7 @@ returns-clause-found g c = λ b k.
       part = reached_part c.args.lists.now.kinds.now es at.depth c.args.lists.now.references.now.items c.loop-low.lists.references.now.items
           c.loop-low.lists.named.now c.loop-low.lists.reached.now c.loop-low.lists.parents.now.items (take c.loop-low.high c.loop-low.lists.queue.now.items) reached_long
           (sane_of c.args.lists.now.kinds.now es c.args.lists.now.long.some)
-          (subst F (no_front c.loop-low.low c.loop-low.high c.loop-low.lists.queue.now.items c.loop-low-test.false)
+          (subst F (empty_level c.loop-low.low c.loop-low.high c.loop-low.lists.queue.now.items c.loop-low-test.false)
           at.at.frontier) at.at.levels
           (subst (λ n. IsCount v (take n c.loop-low.lists.queue.now.items) c.args.lists.now.references.now.items c.loop-low.lists.references.now.items
           c.loop-low.lists.named.now) same (inv.counts b k));

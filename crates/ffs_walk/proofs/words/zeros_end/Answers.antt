@@ -3,24 +3,24 @@ use Rattle.std.proofs.lemmas.Bool.{cases_lt}
 use Rattle.ffs_walk.proofs.WordBytes.{more_zeros}
 use Rattle.ffs_walk.proofs.words.zeros_end.Goals as goal
 
-pub loop-place-init : goal.loop-place-init
-loop-place-init c =
+pub loop-index-init : goal.loop-index-init
+loop-index-init c =
     more_zeros c.args.geometry.now.layout c.args.block.now c.args.next c.args.used c.args.next 16
     (omega (arith, c.args.geometry.now.sound.sizes.nindir)) (sym c.are_zeros.ensures ∙ c.if-are_zeros.true)
     (record { low = omega arith; high = c.requires.words.0; zeros = λ k low high. absurd (omega arith) })
 
-pub loop-place-preserved : goal.loop-place-preserved
-loop-place-preserved c =
-    more_zeros c.args.geometry.now.layout c.args.block.now c.args.next c.args.used c.loop-place.place 128
+pub loop-index-preserved : goal.loop-index-preserved
+loop-index-preserved c =
+    more_zeros c.args.geometry.now.layout c.args.block.now c.args.next c.args.used c.loop-index.index 128
     (omega (arith, c.args.geometry.now.sound.sizes.nindir))
-    (sym c.are_zeros-in-loop-place.ensures ∙ c.loop-place-test.true) c.loop-place.invariant
+    (sym c.are_zeros-in-loop-index.ensures ∙ c.loop-index-test.true) c.loop-index.invariant
 
-pub loop-place-then-are_zeros-preserved : goal.loop-place-then-are_zeros-preserved
-loop-place-then-are_zeros-preserved c =
-    more_zeros c.args.geometry.now.layout c.args.block.now c.args.next c.args.used c.loop-place-then-are_zeros.place 16
+pub loop-index-then-are_zeros-preserved : goal.loop-index-then-are_zeros-preserved
+loop-index-then-are_zeros-preserved c =
+    more_zeros c.args.geometry.now.layout c.args.block.now c.args.next c.args.used c.loop-index-then-are_zeros.index 16
     (omega (arith, c.args.geometry.now.sound.sizes.nindir))
-    (sym c.are_zeros-in-loop-place-then-are_zeros.ensures ∙ c.loop-place-then-are_zeros-test.true)
-    c.loop-place-then-are_zeros.invariant
+    (sym c.are_zeros-in-loop-index-then-are_zeros.ensures ∙ c.loop-index-then-are_zeros-test.true)
+    c.loop-index-then-are_zeros.invariant
 
 pub are_zeros-requires-clause-block : goal.are_zeros-requires-clause-block
 are_zeros-requires-clause-block c = omega (arith, c.args.geometry.now.sound.sizes.nindir)
@@ -28,19 +28,19 @@ are_zeros-requires-clause-block c = omega (arith, c.args.geometry.now.sound.size
 pub are_zeros-requires-clause-index : goal.are_zeros-requires-clause-index
 are_zeros-requires-clause-index c = c.requires.words.0
 
-pub are_zeros-requires-in-loop-place-clause-block : goal.are_zeros-requires-in-loop-place-clause-block
-are_zeros-requires-in-loop-place-clause-block c = omega (arith, c.args.geometry.now.sound.sizes.nindir)
+pub are_zeros-requires-in-loop-index-clause-block : goal.are_zeros-requires-in-loop-index-clause-block
+are_zeros-requires-in-loop-index-clause-block c = omega (arith, c.args.geometry.now.sound.sizes.nindir)
 
-pub are_zeros-requires-in-loop-place-clause-index : goal.are_zeros-requires-in-loop-place-clause-index
-are_zeros-requires-in-loop-place-clause-index c = c.loop-place.invariant.high
+pub are_zeros-requires-in-loop-index-clause-index : goal.are_zeros-requires-in-loop-index-clause-index
+are_zeros-requires-in-loop-index-clause-index c = c.loop-index.invariant.high
 
-pub are_zeros-requires-in-loop-place-then-are_zeros-clause-block :
-    goal.are_zeros-requires-in-loop-place-then-are_zeros-clause-block
-are_zeros-requires-in-loop-place-then-are_zeros-clause-block c = omega (arith, c.args.geometry.now.sound.sizes.nindir)
+pub are_zeros-requires-in-loop-index-then-are_zeros-clause-block :
+    goal.are_zeros-requires-in-loop-index-then-are_zeros-clause-block
+are_zeros-requires-in-loop-index-then-are_zeros-clause-block c = omega (arith, c.args.geometry.now.sound.sizes.nindir)
 
-pub are_zeros-requires-in-loop-place-then-are_zeros-clause-index :
-    goal.are_zeros-requires-in-loop-place-then-are_zeros-clause-index
-are_zeros-requires-in-loop-place-then-are_zeros-clause-index c = c.loop-place-then-are_zeros.invariant.high
+pub are_zeros-requires-in-loop-index-then-are_zeros-clause-index :
+    goal.are_zeros-requires-in-loop-index-then-are_zeros-clause-index
+are_zeros-requires-in-loop-index-then-are_zeros-clause-index c = c.loop-index-then-are_zeros.invariant.high
 
 pub loop-j-preserved : goal.loop-j-preserved
 loop-j-preserved c = λ k low high. elim (cases_lt k c.loop-j.j) [

@@ -4,14 +4,14 @@ use Rattle.ffs_volume.specs.Groups.Records.{free_stretches}
 use Rattle.ffs_groups.specs.Free.{word_bits}
 use Rattle.ffs_groups.proofs.free.FreeCounts.add_loose.Given as goal
 
-abbrev pub invariant-loop-place : goal.invariant-loop-place
-invariant-loop-place l = record {
+abbrev pub invariant-loop-index : goal.invariant-loop-index
+invariant-loop-index l = record {
   fragments : l.self.fragments + count_by (λ f. f)
-      (word_bits l.bits l.place (l.frag - l.place)) ≡ l.initial.self.fragments + count_by (λ f. f)
+      (word_bits l.bits l.index (l.frag - l.index)) ≡ l.initial.self.fragments + count_by (λ f. f)
       (word_bits l.bits 0 l.frag);
   runs : (k : ℕ) → slice_index l.self.runs k + count_by (λ n. n == k)
-      (free_stretches l.run (word_bits l.bits l.place (l.frag - l.place)))
+      (free_stretches l.run (word_bits l.bits l.index (l.frag - l.index)))
       ≡ slice_index l.initial.self.runs k + count_by (λ n. n == k) (free_stretches 0 (word_bits l.bits 0 l.frag));
-  run : l.run ≤ l.place;
+  run : l.run ≤ l.index;
   blocks : l.self.blocks ≡ l.initial.self.blocks;
 }

@@ -1,13 +1,13 @@
-use Rattle.std.proofs.Common.{◌≡◌, ◌∙◌, ◌∷◌, ◌++◌, ℕ, List, ap, sym, refl, arith, Some, replicate}
+use Rattle.std.proofs.Common.{◌≡◌, ◌<◌, ◌∙◌, ◌∷◌, ◌++◌, ℕ, List, ap, sym, refl, arith, Some, replicate}
 use Rattle.std.proofs.lemmas.Result.{err_from_is_err_and}
 use Rattle.ffs_volume.specs.declared.Step.{Step}
 use Rattle.ffs_volume.specs.declared.Step.TheVariants.{Run, Gap}
-use Rattle.ffs_walk.specs.Rests.{rest as steps_left}
+use Rattle.ffs_walk.specs.Rests.{most_steps_left, steps_left}
 use Rattle.ffs_names.specs.Windows.{CanWalkDir}
 use Rattle.ffs_walk.specs.Keepings.{replay_in}
 use Rattle.ffs_names.proofs.Advances.{over_rest, unseen_none, steps_on, end_none, tail_on, gaps_on, runs_on, runs_tail}
 use Rattle.ffs_names.proofs.Advances.{runs_gaps, walked, walked_runs}
-use Rattle.ffs_names.proofs.GapsLeft.{gap_same, gap_over_tail, gap_seen, walked_gap}
+use Rattle.ffs_names.proofs.GapsLeft.{gap_same, gap_over_tail, gap_seen, gap_unseen, kept_gap, walked_gap}
 use Rattle.ffs_names.proofs.Pieces.{no_more}
 use Rattle.ffs_names.proofs.Continuing.{continues_here, continues_more, counts_same, counts_more, replayed_over}
 use Rattle.ffs_names.proofs.Continuing.{walk_volume, walk_room, walk_holds, walk_on}
@@ -20,6 +20,8 @@ steps-init g c = record {
   same = record { geometry = refl; cut = refl; taken = refl; budget = refl; runs = no_more _ };
   ready = c.requires;
   device = refl;
+  fewer = no_more _;
+  falls = λ more. omega (arith, more);
   held = λ w h. h;
   reads = λ w h b t. omega arith;
 }
@@ -65,6 +67,8 @@ steps-preserved-in-Some-Tail g c =
       ready = walk_on _ _ _ _ _ _ i.ready i.same.geometry (ap (λ d. d.size) c.in_ok-next.ensures.leaves.read)
           c.next.ensures.leaves.kept.size c.next.ensures.leaves.kept.holds;
       device = c.in_ok-next.ensures.leaves.read ∙ i.device;
+      fewer = omega (arith, rw c.in-Some-Tail.is at c.in_ok-next.ensures.step.falls, i.fewer);
+      falls = λ more. omega (arith, rw c.in-Some-Tail.is at c.in_ok-next.ensures.step.falls, i.fewer);
       held = λ w h. let old = i.held w h in record {
         frames = (c.in_ok-next.ensures.counted old.frames).held;
         run = old.run;
@@ -107,6 +111,10 @@ steps-preserved g c =
     c.next.ensures.leaves.kept.size c.next.ensures.leaves.kept.holds in
     let device = c.in_ok-next.ensures.leaves.read ∙ i.device in
     let holds = walk_holds first w.geometry _ _ ready (c.next.ensures.same.geometry ∙ i.same.geometry) in
+    let passed : most_steps_left w' < most_steps_left s.walk =
+    let next = rw c.in-Some-Gap.is at c.in_ok-next.ensures.step.falls in
+    let gaps = c.skip_gaps.ensures.falls in
+    omega (arith, next, gaps) in
     let gap = λ (b : List ℕ) (t : (g.I.Image.device c.args.image.now).contents ≡ Some b).
     (rw c.in-Some-Gap.field-0-is at (rw c.in-Some-Gap.is at c.in_ok-next.ensures.step.steps)) b
     (ap (λ d. d.contents) i.device ∙ t) in
@@ -134,6 +142,8 @@ steps-preserved g c =
       };
       ready = ready;
       device = device;
+      fewer = omega (arith, passed, i.fewer);
+      falls = λ more. omega (arith, passed, i.fewer);
       held = λ u h. let old = i.held u h in record {
         frames = c.skip_gaps.ensures.counted.held _ (c.in_ok-next.ensures.counted old.frames).held;
         run = old.run;
@@ -183,6 +193,8 @@ steps-preserved-in-Some-Run g c =
       ready = walk_on _ _ _ _ _ _ i.ready i.same.geometry (ap (λ d. d.size) c.in_ok-next.ensures.leaves.read)
           c.next.ensures.leaves.kept.size c.next.ensures.leaves.kept.holds;
       device = c.in_ok-next.ensures.leaves.read ∙ i.device;
+      fewer = rw c.see.ensures.walk (omega (arith, rw x.is at c.in_ok-next.ensures.step.falls, i.fewer));
+      falls = λ more. rw c.see.ensures.walk (omega (arith, rw x.is at c.in_ok-next.ensures.step.falls, i.fewer));
       held = λ u h. let old = i.held u h in record {
         frames = rw c.see.ensures.walk (c.in_ok-next.ensures.counted old.frames).held;
         run = c.see.ensures.reads.held u;
@@ -199,8 +211,12 @@ steps-preserved-in-Some-Run g c =
 pub returns-then-not-is_replay_open-clause-found : goal.returns-then-not-is_replay_open-clause-found
 returns-then-not-is_replay_open-clause-found g c = λ b t.
     let s = c.steps.self in
-    unseen_none s.walk.geometry.layout b s.run_cursor s.taken s.keeping.cut (replay_in s.keeping) (steps_left b s.walk)
-    (omega (arith, c.steps-test.true)) (sym c.is_replay_open.ensures ∙ c.if-not-is_replay_open.true)
+    let shut = sym c.is_replay_open.ensures ∙ c.if-not-is_replay_open.true in
+    record {
+      chunks = unseen_none s.walk.geometry.layout b s.run_cursor s.taken s.keeping.cut (replay_in s.keeping)
+          (steps_left b s.walk) (omega (arith, c.steps-test.true)) shut;
+      gap = gap_unseen s.walk.geometry.layout s.keeping.cut (replay_in s.keeping) (steps_left b s.walk) shut;
+    }
 
 -- a walk that failed is over
 pub returns-in_err-next-clause-runs : goal.returns-in_err-next-clause-runs
@@ -237,8 +253,12 @@ pub returns-in-None-clause-found : goal.returns-in-None-clause-found
 returns-in-None-clause-found g c = λ b t.
     let s = c.steps.self in
     let none = c.in_ok-next.ensures.step.over c.in-None.is in
-    end_none c.next.new.self.geometry.layout b s.run_cursor s.taken s.keeping.cut (replay_in s.keeping)
-    (steps_left b c.next.new.self) (omega (arith, c.steps-test.true)) (over_rest b c.next.new.self none)
+    let over = over_rest b c.next.new.self none in
+    record {
+      chunks = end_none c.next.new.self.geometry.layout b s.run_cursor s.taken s.keeping.cut (replay_in s.keeping)
+          (steps_left b c.next.new.self) (omega (arith, c.steps-test.true)) over;
+      gap = ap (kept_gap c.next.new.self.geometry.layout s.keeping.cut (replay_in s.keeping)) over;
+    }
 
 -- what is kept of the Run and of the sizes, after a step of the walk
 pub invariant_of-self-in-None : goal.invariant_of-self-in-None

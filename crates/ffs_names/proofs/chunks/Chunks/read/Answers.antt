@@ -2,7 +2,7 @@ use Rattle.std.proofs.Common.{◌∙◌, ◌+◌, ◌*◌, ap, sym, arith}
 use Rattle.std.proofs.lemmas.Result.{err_from_is_err_and}
 use Rattle.ffs_volume.specs.Disk.Numbers.{piece}
 use Rattle.ffs_walk.specs.Windows.{held_bytes}
-use Rattle.ffs_walk.specs.Rests.{rest as steps_left}
+use Rattle.ffs_walk.specs.Rests.{steps_left}
 use Rattle.ffs_names.specs.Readings.{all_chunks, chunks_after}
 use Rattle.ffs_names.proofs.Pieces.{chunk_held, hand_step}
 use Rattle.ffs_names.proofs.ReadCounts.{given_one, run_paid}
@@ -32,7 +32,7 @@ pub returns-then-not-branch-clause-chunk : goal.returns-then-not-branch-clause-c
 returns-then-not-branch-clause-chunk g c = λ b t.
     let went = c.in_ok-advance.ensures.continues b t in
     let none = (rw c.if-not-branch.true at c.in_ok-advance.ensures.found) b t in
-    record { chunks = (sym went.chunks ∙ none, none); runs = went.runs; gap = went.gap }
+    record { chunks = (sym went.chunks ∙ none.chunks, none.chunks); runs = went.runs; gap = went.gap }
 
 pub returns-clause-place : goal.returns-clause-place
 returns-clause-place g c = λ b t.

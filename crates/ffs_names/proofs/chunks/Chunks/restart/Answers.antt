@@ -1,6 +1,6 @@
 use Rattle.std.proofs.Common.{ap, refl, arith}
 use Rattle.ffs_volume.specs.Blocks.Steps.{steps_of}
-use Rattle.ffs_walk.specs.Rests.{rest as steps_left}
+use Rattle.ffs_walk.specs.Rests.{steps_left}
 use Rattle.ffs_walk.specs.Keepings.{replay_in}
 use Rattle.ffs_names.specs.RunCursors.{cursor_chunks}
 use Rattle.ffs_names.proofs.Begins.{begun, runs_begun, gap_begun}

@@ -2,7 +2,7 @@ use Rattle.std.proofs.Common.{arith, rules, ◌*◌, ◌+◌, ◌-◌, ◌∷◌
 use Rattle.ffs_volume.specs.declared.Step.{Step}
 use Rattle.ffs_volume.specs.Blocks.Steps.{steps_at}
 use Rattle.ffs_walk.specs.Frames.{frame_rest, frame_left, item_left}
-use Rattle.ffs_walk.specs.Rests.{rest, left, most_at, extent_of}
+use Rattle.ffs_walk.specs.Rests.{steps_left, most_steps_left, most_at, extent_of}
 use Rattle.ffs_walk.proofs.GapSteps.{in_first}
 use Rattle.ffs_walk.proofs.FrameSteps.{item_below, word_fits, kept_fits, words_fit, some_left, item_one, falls_by}
 use Rattle.ffs_walk.proofs.FrameSteps.{falls_in_double, falls_in_triple}
@@ -196,14 +196,14 @@ returns-then-is_left-2-clause-step g c =
     record {
       steps = double_reported _ c.args.self.now c.from-words.result c.take-then-is_left-2.new.self c.in_ok-item-2.item
           c.step_in_double.result
-          (λ bytes. rest bytes c.step_in_double.new.self)
+          (λ bytes. steps_left bytes c.step_in_double.new.self)
           c.from-words.ensures (c.is_left.ensures.spent c.if-is_left.false) c.in_ok-item-2.ensures.item.steps
           c.step_in_double.ensures.steps;
       fits = c.step_in_double.ensures.fits;
       falls = falls_in_double (item_left (most_at words 1) c.in_ok-item-2.item)
           (frame_left (most_at words 1) c.take-then-is_left-2.new.self)
           (frame_left (most_at words 0) w.single) (frame_left (most_at words 1) w.double)
-          (frame_left (most_at words 2) w.triple) ((w.used - w.next) * most_at words 3) (left c.step_in_double.new.self)
+          (frame_left (most_at words 2) w.triple) ((w.used - w.next) * most_at words 3) (most_steps_left c.step_in_double.new.self)
           c.step_in_double.ensures.left (c.in_ok-item-2.ensures.item.falls (most_at words 1));
       over = λ e. absurd (no_step c.step_in_double.result e);
     }
@@ -215,7 +215,7 @@ returns-then-is_left-3-clause-step g c =
     record {
       steps = triple_reported _ c.args.self.now c.from-words.result c.take-then-is_left-3.new.self c.in_ok-item-3.item
           c.step_in_triple.result
-          (λ bytes. rest bytes c.step_in_triple.new.self)
+          (λ bytes. steps_left bytes c.step_in_triple.new.self)
           c.from-words.ensures (c.is_left.ensures.spent c.if-is_left.false)
           (c.is_left-2.ensures.spent c.if-is_left-2.false)
           c.in_ok-item-3.ensures.item.steps c.step_in_triple.ensures.steps;
@@ -223,7 +223,7 @@ returns-then-is_left-3-clause-step g c =
       falls = falls_in_triple (item_left (most_at words 2) c.in_ok-item-3.item)
           (frame_left (most_at words 2) c.take-then-is_left-3.new.self)
           (frame_left (most_at words 0) w.single) (frame_left (most_at words 1) w.double)
-          (frame_left (most_at words 2) w.triple) ((w.used - w.next) * most_at words 3) (left c.step_in_triple.new.self)
+          (frame_left (most_at words 2) w.triple) ((w.used - w.next) * most_at words 3) (most_steps_left c.step_in_triple.new.self)
           c.step_in_triple.ensures.left (c.in_ok-item-3.ensures.item.falls (most_at words 2));
       over = λ e. absurd (no_step c.step_in_triple.result e);
     }

@@ -1,4 +1,4 @@
-use Rattle.std.proofs.Common.{◌≡◌, ℕ, ◌==◌, not, ap, sym, ◌∙◌}
+use Rattle.std.proofs.Common.{ℕ, ◌==◌, not, ap, sym, ◌∙◌}
 use Rattle.ffs_maps.specs.Bits.{bits_of}
 use Rattle.ffs_maps.specs.WordBits.{set_among}
 use Rattle.ffs_maps.proofs.Bits.{bits_long}

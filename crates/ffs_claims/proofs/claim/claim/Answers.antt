@@ -1,7 +1,7 @@
 use Rattle.std.proofs.Common.{arith, refl, ◌≡◌, ◌==◌, ◌<◌, ◌∙◌, ap, sym, List, ◌++◌, ◌∷◌, true, false, not, replicate}
 use Rattle.std.specs.Prelude.{◌&&◌}
 use Rattle.std.proofs.lemmas.Result.{err_from_is_err_and}
-use Rattle.ffs_walk.specs.Rests.{rest}
+use Rattle.ffs_walk.specs.Rests.{steps_left}
 use Rattle.ffs_walk.proofs.Counted.{top_held, top_unread}
 use Rattle.ffs_maps.proofs.Bits.{length_bits, bits_long}
 use Rattle.ffs_volume.specs.declared.Step.{Step}
@@ -18,22 +18,22 @@ use Rattle.ffs_claims.proofs.Potentials.{moves_on, seen_bound, used_below}
 use Rattle.ffs_claims.proofs.Goes.{claims_on, lines_on, steps_said, cut_stays, cut_silent, gaps_stay, gaps_silent}
 use Rattle.ffs_claims.proofs.Goes.{without_steps}
 use Rattle.ffs_claims.proofs.Frames.{found_none, found_still, found_then, ready_still, ready_read, ready_walked}
-use Rattle.ffs_claims.proofs.claim.claim_steps.Goals.{in-Gap, in_default-matches}
-use Rattle.ffs_claims.proofs.claim.claim_steps.Goals as goal
+use Rattle.ffs_claims.proofs.claim.claim.Goals.{in-Gap, in_default-matches}
+use Rattle.ffs_claims.proofs.claim.claim.Goals as goal
 
 pub returns-then-not-has_steps-clause-claiming : goal.returns-then-not-has_steps-clause-claiming
 returns-then-not-has_steps-clause-claiming g c =
     let v = c.args.geometry.now.layout in
     let s = claims_of c.args.workspace.now in
     let some : 0 < v.bsize = omega (arith, c.args.geometry.now.sound.sizes.bsize_low) in
-    let none : (is_walked v c.args.owner.now.inode && not (c.args.owner.now.inode.size == 0)) ≡ false =
+    let none : (is_walked v c.args.inode.now && not (c.args.inode.now.size == 0)) ≡ false =
     sym (c.has_steps.ensures c.requires.class) ∙ c.if-not-has_steps.true in
     record {
       text = of_same _ _ _ _ _ _
-          (of_begins _ (λ bytes. of_lines (lines_of_steps v c.args.owner.now.number s (steps_of v c.args.owner.now.inode bytes))) _)
-          (λ bytes t. ap (λ (xs : List Step). of_lines (lines_of_steps v c.args.owner.now.number s xs))
-          (without_steps v c.args.owner.now.inode bytes some none));
-      claims = λ bytes t. sym (ap (after_steps v s) (without_steps v c.args.owner.now.inode bytes some none));
+          (of_begins _ (λ bytes. of_lines (lines_of_steps v c.args.number s (steps_of v c.args.inode.now bytes))) _)
+          (λ bytes t. ap (λ (xs : List Step). of_lines (lines_of_steps v c.args.number s xs))
+          (without_steps v c.args.inode.now bytes some none));
+      claims = λ bytes t. sym (ap (after_steps v s) (without_steps v c.args.inode.now bytes some none));
       left = record {
         image = refl;
         moves = stays s;
@@ -61,8 +61,8 @@ loop-next-init g c =
       moves = stays s;
       claims = λ bytes t. ap (after_steps v s) ((rw c.requires.walk at c.restart.ensures.walk c.requires.class).steps bytes);
       said = of_same _ _ _ _ _ _
-          (of_begins _ (λ bytes. of_lines (lines_of_steps v c.args.owner.now.number s (steps_of v c.args.owner.now.inode bytes))) _)
-          (λ bytes t. ap (λ (xs : List Step). of_lines (lines_of_steps v c.args.owner.now.number s xs))
+          (of_begins _ (λ bytes. of_lines (lines_of_steps v c.args.number s (steps_of v c.args.inode.now bytes))) _)
+          (λ bytes t. ap (λ (xs : List Step). of_lines (lines_of_steps v c.args.number s xs))
           (sym ((rw c.requires.walk at c.restart.ensures.walk c.requires.class).steps bytes)));
     }
 
@@ -142,11 +142,11 @@ returns-in_err-seen-clause-claiming g c =
     let read = ready_walked c.args.geometry.now _ _ _ c.loop-next.workspace c.next.new.blocks inv.geometry ok
     c.next.ensures.leaves.kept.size c.next.ensures.leaves.kept.holds inv.ready in
     rw (p.1, p.2) (record {
-      text = of_stops _ _ _ _ (of_lines (step_lines v c.args.owner.now.number (claims_of c.loop-next.workspace) c.in-Some.next))
+      text = of_stops _ _ _ _ (of_lines (step_lines v c.args.number (claims_of c.loop-next.workspace) c.in-Some.next))
           _ _ _ inv.said
-          (lines_on _ v c.args.owner.now.number (claims_of c.loop-next.workspace)
+          (lines_on _ v c.args.number (claims_of c.loop-next.workspace)
           (after_step v (claims_of c.loop-next.workspace) c.in-Some.next)
-          (λ bytes. rest bytes c.loop-next.walker.walk) (λ bytes. rest bytes c.next.new.self) c.in-Some.next next refl)
+          (λ bytes. steps_left bytes c.loop-next.walk) (λ bytes. steps_left bytes c.next.new.self) c.in-Some.next next refl)
           c.in_err-seen.ensures.claiming.said;
       claims = tt;
       left = record {
@@ -194,7 +194,7 @@ loop-next-preserved-then-matches g c =
     let ready = ready_walked c.args.geometry.now _ _ _ c.loop-next.workspace c.next.new.blocks inv.geometry ok
     c.next.ensures.leaves.kept.size c.next.ensures.leaves.kept.holds inv.ready in
     let gaps : ForBytes (IsContents (g.I.Image.device c.args.image.now).contents)
-    (λ bytes. rest bytes c.next.new.self ≡ replicate c.skip_gaps.result Gap ++ rest bytes c.skip_gaps.new.self) =
+    (λ bytes. steps_left bytes c.next.new.self ≡ replicate c.skip_gaps.result Gap ++ steps_left bytes c.skip_gaps.new.self) =
     λ bytes t. c.skip_gaps.ensures.steps (g.I.Image.device c.next.new.image).contents
     (rw (c.in_ok-next.ensures.same.geometry ∙ inv.geometry) ready.windows.blocks) bytes
     (ap (λ d. d.contents) (ok ∙ inv.device) ∙ t) in
@@ -211,11 +211,11 @@ loop-next-preserved-then-matches g c =
           omega (arith, paid, inv.counted, c.skip_gaps.ensures.counted.unread);
       moves = inv.moves;
       claims = λ bytes t. sym (ap (after_steps v s) (next bytes t ∙ ap (λ (xs : List Step). Gap ∷ xs) (gaps bytes t))
-          ∙ gaps_stay v s c.skip_gaps.result (rest bytes c.skip_gaps.new.self)) ∙ inv.claims bytes t;
+          ∙ gaps_stay v s c.skip_gaps.result (steps_left bytes c.skip_gaps.new.self)) ∙ inv.claims bytes t;
       said = of_same _ _ _ _ _ _ inv.said (λ bytes t. ap (λ (xs : List Step).
-          of_lines (lines_of_steps v c.args.owner.now.number s xs))
+          of_lines (lines_of_steps v c.args.number s xs))
           (next bytes t ∙ ap (λ (xs : List Step). Gap ∷ xs) (gaps bytes t))
-          ∙ ap of_lines (gaps_silent v c.args.owner.now.number s c.skip_gaps.result (rest bytes c.skip_gaps.new.self)));
+          ∙ ap of_lines (gaps_silent v c.args.number s c.skip_gaps.result (steps_left bytes c.skip_gaps.new.self)));
     }
 
 pub claim_words-requires-clause-geometry : goal.claim_words-requires-clause-geometry
@@ -266,9 +266,9 @@ loop-next-preserved g c =
     let claimed : IsReady v (g.I.Image.device c.next.new.image) c.step.new.workspace =
     ready_still v _ _ _ c.step.ensures.claiming.left.only.made c.step.ensures.claiming.left.only.windows read in
     let image = (g.I.Image.device c.next.new.image).contents in
-    let before = claims_on _ v (claims_of c.loop-next.workspace) s (λ bytes. rest bytes c.loop-next.walker.walk)
-    (λ bytes. rest bytes c.next.new.self) _ (λ bytes. after_steps v (claims_of c.args.workspace.now)
-    (steps_of v c.args.owner.now.inode bytes)) c.in-Some.next
+    let before = claims_on _ v (claims_of c.loop-next.workspace) s (λ bytes. steps_left bytes c.loop-next.walk)
+    (λ bytes. steps_left bytes c.next.new.self) _ (λ bytes. after_steps v (claims_of c.args.workspace.now)
+    (steps_of v c.args.inode.now bytes)) c.in-Some.next
     next c.in_ok-seen.ensures.claiming.claims.claims_are inv.claims (λ bytes t. refl) in
     record {
       ready = ready_still v _ _ _ words.only.made words.only.windows claimed;
@@ -288,12 +288,12 @@ loop-next-preserved g c =
       claims = λ bytes t. words.claims image claimed.windows.blocks bytes (ap (λ d. d.contents) (ok ∙ inv.device) ∙ t)
           ∙ before bytes t;
       said = of_same _ _ _ _ _ _
-          (steps_said _ v c.args.owner.now.number (claims_of c.loop-next.workspace) s (λ bytes. rest bytes c.loop-next.walker.walk)
-          (λ bytes. rest bytes c.next.new.self) _ _ c.in-Some.next _ _ _
+          (steps_said _ v c.args.number (claims_of c.loop-next.workspace) s (λ bytes. steps_left bytes c.loop-next.walk)
+          (λ bytes. steps_left bytes c.next.new.self) _ _ c.in-Some.next _ _ _
           inv.said next c.in_ok-seen.ensures.claiming.claims.claims_are (λ bytes t. refl)
           c.in_ok-seen.ensures.claiming.said)
           (λ bytes t. ap of_lines (sym (words.lines image claimed.windows.blocks bytes
-          (ap (λ d. d.contents) (ok ∙ inv.device) ∙ t) c.args.owner.now.number)));
+          (ap (λ d. d.contents) (ok ∙ inv.device) ∙ t) c.args.number)));
     }
 
 pub returns-then-not-seen-clause-claiming : goal.returns-then-not-seen-clause-claiming
@@ -308,14 +308,14 @@ returns-then-not-seen-clause-claiming g c =
     let read = ready_walked c.args.geometry.now _ _ _ c.loop-next.workspace c.next.new.blocks inv.geometry ok
     c.next.ensures.leaves.kept.size c.next.ensures.leaves.kept.holds inv.ready in
     record {
-      text = steps_said _ v c.args.owner.now.number (claims_of c.loop-next.workspace) s (λ bytes. rest bytes c.loop-next.walker.walk)
-          (λ bytes. rest bytes c.next.new.self) _ _ c.in-Some.next _ _ _
-          inv.said next c.in_ok-seen.ensures.claiming.claims.claims_are (λ bytes t. cut_silent v c.args.owner.now.number
-          (claims_of c.step.new.workspace) (rest bytes c.next.new.self) cut) c.in_ok-seen.ensures.claiming.said;
-      claims = claims_on _ v (claims_of c.loop-next.workspace) s (λ bytes. rest bytes c.loop-next.walker.walk)
-          (λ bytes. rest bytes c.next.new.self) _ _ c.in-Some.next
+      text = steps_said _ v c.args.number (claims_of c.loop-next.workspace) s (λ bytes. steps_left bytes c.loop-next.walk)
+          (λ bytes. steps_left bytes c.next.new.self) _ _ c.in-Some.next _ _ _
+          inv.said next c.in_ok-seen.ensures.claiming.claims.claims_are (λ bytes t. cut_silent v c.args.number
+          (claims_of c.step.new.workspace) (steps_left bytes c.next.new.self) cut) c.in_ok-seen.ensures.claiming.said;
+      claims = claims_on _ v (claims_of c.loop-next.workspace) s (λ bytes. steps_left bytes c.loop-next.walk)
+          (λ bytes. steps_left bytes c.next.new.self) _ _ c.in-Some.next
           next c.in_ok-seen.ensures.claiming.claims.claims_are inv.claims
-          (λ bytes t. cut_stays v s (rest bytes c.next.new.self) cut);
+          (λ bytes t. cut_stays v s (steps_left bytes c.next.new.self) cut);
       left = record {
         image = ok ∙ inv.device;
         moves = moves_on v (claims_of c.args.workspace.now) (claims_of c.loop-next.workspace)
@@ -347,7 +347,7 @@ returns-in_default-clause-claiming g c =
     let over = rw (inv.device, c.in_default.is) at c.in_ok-next.ensures.step.steps in
     record {
       text = of_same _ _ _ _ _ _ inv.said
-          (λ bytes t. ap (λ (xs : List Step). of_lines (lines_of_steps v c.args.owner.now.number s xs)) (over bytes t));
+          (λ bytes t. ap (λ (xs : List Step). of_lines (lines_of_steps v c.args.number s xs)) (over bytes t));
       claims = λ bytes t. sym (ap (after_steps v s) (over bytes t)) ∙ inv.claims bytes t;
       left = record {
         image = ok ∙ inv.device;

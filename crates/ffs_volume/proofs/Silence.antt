@@ -1,6 +1,5 @@
 -- When a list of messages is empty.
-use Rattle.std.specs.Prelude.{◌≡◌, ◌≢◌, ℕ, zero, suc, ◌<◌, Bool, true, false, ◌&&◌, refl, List, [], ◌∷◌, ◌++◌}
-use Rattle.std.specs.Prelude.{if◌then◌else◌}
+use Rattle.std.specs.Prelude.{◌≡◌, ◌≢◌, ℕ, zero, suc, ◌<◌, Bool, true, false, refl, List, [], ◌∷◌, ◌++◌, if◌then◌else◌}
 use Rattle.std.proofs.Common.{arith, sym, ◌∙◌, ap, inl, inr}
 use Rattle.std.proofs.lemmas.Bool.{cases_eq}
 use Rattle.ffs_volume.specs.Messages.Kinds.{TreeMessage, reported, lines_below}
@@ -62,11 +61,3 @@ unfolding lines_below
 lines-silent f zero h = refl
 lines-silent f (suc n) h = nil-both (lines_below f n) (f n) (lines-silent f n (λ i l. h i (omega arith)))
     (h n (omega arith))
-
-pub and_false-right : (a b : Bool) → (a && b) ≡ false → a ≡ true → b ≡ false
-and_false-right true b h e = h
-and_false-right false b h e = absurd (cc)
-
-pub and_false-from : (a b : Bool) → (a ≡ true → b ≡ false) → (a && b) ≡ false
-and_false-from true b h = h refl
-and_false-from false b h = refl

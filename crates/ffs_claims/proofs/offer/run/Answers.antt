@@ -3,13 +3,13 @@ use Rattle.std.proofs.Common.{rules, sym, ◌∙◌, arith}
 use Rattle.std.proofs.lemmas.Bool.Decides.{nat_tests}
 use Rattle.ffs_workspace.specs.Holds.{claims_of}
 use Rattle.ffs_claims.proofs.Goes.{run_stops, run_stops_later, run_said}
-use Rattle.ffs_claims.proofs.offer.take_run.Goals as goal
+use Rattle.ffs_claims.proofs.offer.run.Goals as goal
 
 pub returns-in_err-say_bad-clause-claiming : goal.returns-in_err-say_bad-clause-claiming
 returns-in_err-say_bad-clause-claiming g c = record {
   said = let p = err_from_is_err_and c.from_residual.result c.from_residual.ensures.1 in
-      rw (p.1) (run_stops c.args.geometry.now.layout c.args.number (claims_of c.args.workspace.now) c.args.run.start
-      c.args.run.len _ _
+      rw (p.1) (run_stops c.args.geometry.now.layout c.args.number (claims_of c.args.workspace.now) c.args.start
+      c.args.len _ _
       (sym c.in_range.ensures.value ∙ c.if-in_range.false) c.in_err-say_bad.ensures);
   claims = search rules;
   left = search rules;
@@ -18,8 +18,8 @@ returns-in_err-say_bad-clause-claiming g c = record {
 pub returns-in_err-offers_of_bad_run-clause-claiming : goal.returns-in_err-offers_of_bad_run-clause-claiming
 returns-in_err-offers_of_bad_run-clause-claiming g c = record {
   said = let p = err_from_is_err_and c.from_residual-in_err-offers_of_bad_run.result c.from_residual-in_err-offers_of_bad_run.ensures.1 in
-      rw (p.1) (run_stops_later c.args.geometry.now.layout c.args.number (claims_of c.args.workspace.now) c.args.run.start
-      c.args.run.len _ _ _
+      rw (p.1) (run_stops_later c.args.geometry.now.layout c.args.number (claims_of c.args.workspace.now) c.args.start
+      c.args.len _ _ _
       (sym c.in_range.ensures.value ∙ c.if-in_range.false) (grind (arith, nat_tests)) c.in_ok-say_bad.ensures
       c.in_err-offers_of_bad_run.ensures.said);
   claims = search rules;
@@ -28,7 +28,7 @@ returns-in_err-offers_of_bad_run-clause-claiming g c = record {
 
 pub returns-clause-claiming : goal.returns-clause-claiming
 returns-clause-claiming g c = record {
-  said = run_said c.args.geometry.now.layout c.args.number (claims_of c.args.workspace.now) c.args.run.start c.args.run.len _
+  said = run_said c.args.geometry.now.layout c.args.number (claims_of c.args.workspace.now) c.args.start c.args.len _
       _ _
       (sym c.in_range.ensures.value ∙ c.if-in_range.false) (grind (arith, nat_tests)) c.in_ok-say_bad.ensures
       c.in_ok-offers_of_bad_run.ensures.said;

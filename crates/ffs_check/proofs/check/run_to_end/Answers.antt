@@ -3,7 +3,7 @@ use Rattle.ffs_volume.specs.Directories.PathnameCheck.{continues_after_root}
 use Rattle.ffs_volume.specs.Report.Whole.{phase_lines}
 use Rattle.ffs_volume.specs.Directories.Volumes.{volume_of}
 use Rattle.ffs_check.proofs.Endings.{ran}
-use Rattle.ffs_check.proofs.check.run_rest.Goals as goal
+use Rattle.ffs_check.proofs.check.run_to_end.Goals as goal
 
 pub returns-clause-ran : goal.returns-clause-ran
 returns-clause-ran g c =
