@@ -1,12 +1,12 @@
 -- Nothing is reported of a directory that the survey found calm.
-use Rattle.std.specs.Prelude.{◌≡◌, ◌≢◌, ℕ, suc, ◌<◌, ◌≤◌, ◌*◌, ◌/◌, ◌==◌, Bool, true, false, not, ◌&&◌, ◌||◌, nat_le}
+use Rattle.std.specs.Prelude.{◌≡◌, ◌≢◌, ℕ, suc, ◌<◌, ◌≤◌, ◌*◌, ◌×◌, ◌/◌, ◌==◌, Bool, true, false, not, ◌&&◌, ◌||◌, nat_le}
 use Rattle.std.specs.Prelude.{nat_lt, if◌then◌else◌, cond, refl, List, [], ◌∷◌, ◌++◌, map, length, slice_index}
 use Rattle.std.specs.Prelude.{slice_set, Option, None, Some, option_and_then, sum_by, unwrap_or}
 use Rattle.std.specs.List.{list_any, flat_map, find}
 use Rattle.std.proofs.Common.{arith, sym, ◌∙◌, ap, subst, inl, inr}
 use Rattle.std.proofs.lemmas.List.{get_or-set_other}
 use Rattle.std.proofs.lemmas.Bool.{both_ways, cases_Bool, cases_eq, eqb-true, eq-eqb, ne_eqb, and_parts, and_from}
-use Rattle.std.proofs.lemmas.Bool.{or_left, or_right, not-true, false_from_ne_true, ltb-true}
+use Rattle.std.proofs.lemmas.Bool.{or_cases, or_left, or_right, not-true, false_from_ne_true, ltb-true}
 use Rattle.std.proofs.lemmas.Bool.{leb-true}
 use Rattle.std.proofs.Math.Bool.{and-false}
 use Rattle.ffs_volume.specs.declared.Layout.{Layout}
@@ -52,7 +52,7 @@ use Rattle.ffs_names.proofs.DirLaws as dirs
 use Rattle.ffs_pathnames.specs.Begins.{dir_starts}
 use Rattle.ffs_pathnames.specs.Calm.{IsSilentDirectory}
 use Rattle.ffs_pathnames.specs.Header.{dot_in, dotdot_in, dot_said, dotdot_said}
-use Rattle.ffs_pathnames.specs.NameMarks.{belongs, after_look, is_plain_quiet, is_role_quiet, is_quiet, are_quiet}
+use Rattle.ffs_pathnames.specs.NameMarks.{belongs, after_look, is_inode_quiet, is_plain_quiet, is_role_quiet, is_quiet, are_quiet}
 use Rattle.ffs_pathnames.specs.Reads.{chunks_read}
 use Rattle.ffs_pathnames.proofs.ChunkLaws.{chunks_are}
 use Rattle.ffs_pathnames.proofs.InOrder.{in_order, dotdot_right}
@@ -106,22 +106,31 @@ kind_stays k h = elim (cases_Bool (k == 4)) [
   | inr n ↦ ap (λ b. if b || (k == 5) then 4 else k) n ∙ ap (λ b. if b then 4 else k) h
 ]
 
+-- what is calm of a plain entry that is no whiteout
+abbrev names_calm : Sight → (ℕ → Bool) → Entry → Bool
+names_calm s reached e =
+    nat_le 2 e.number && (not (bool_at s.marked e.number)
+    && ((number_at s.kinds e.number == e.kind) && is_calm_kind e.kind (reached e.number)))
+
 whiteout_none : (e : Entry) → (e.number == 1) ≡ false → (e.kind == 14) ≡ false → is_bad_whiteout e ≡ false
 whiteout_none e a b = ap (λ z. (z && not (e.kind == 14)) || ((e.kind == 14) && not (e.number == 1))) a
     ∙ ap (λ z. z && not (e.number == 1)) b
 
--- a calm plain entry is quiet
-plain_quiet : (v : Volume) (s : Sight) (parents stamps : List ℕ) (reached : ℕ → Bool) (e : Entry) →
+whiteout_right : (e : Entry) → (e.number == 1) ≡ true → (e.kind == 14) ≡ true → is_bad_whiteout e ≡ false
+whiteout_right e a b = ap (λ z. (z && not (e.kind == 14)) || ((e.kind == 14) && not z)) a
+    ∙ ap (λ z. not z || (z && false)) b
+
+-- an inode that a calm plain entry names is quiet
+inode_quiet : (v : Volume) (s : Sight) (parents stamps : List ℕ) (reached : ℕ → Bool) (e : Entry) →
     Shown v s.kinds s.marked parents
-    → is_calm_plain s.kinds s.marked reached e.number e.kind ≡ true
+    → names_calm s reached e ≡ true
     → (is_dir v e.number ≡ true → belongs v s.dir e.number ≡ true) →
     (is_dir v e.number ≡ true → (slice_index stamps e.number == s.dir) ≡ false)
-    → is_plain_quiet v s.dir stamps e ≡ true
-plain_quiet v s parents stamps reached e sh c mine new =
+    → (is_bad_whiteout e ≡ false) × (is_inode_quiet v s.dir stamps e ≡ true)
+inode_quiet v s parents stamps reached e sh c mine new =
     let x = e.number in
     let c1 = and_parts (nat_le 2 x) _ c in
-    let c2 = and_parts (nat_lt x (length s.kinds)) _ c1.1 in
-    let c3 = and_parts (not (bool_at s.marked x)) _ c2.1 in
+    let c3 = and_parts (not (bool_at s.marked x)) _ c1.1 in
     let c4 = and_parts (number_at s.kinds x == e.kind) _ c3.1 in
     let k = calm_kind e.kind (reached x) c4.1 in
     let is : number_at s.kinds x ≡ e.kind = eqb-true _ _ c4.0 in
@@ -135,17 +144,34 @@ plain_quiet v s parents stamps reached e sh c mine new =
     ∙ (ap type_of_kind (sym is) ∙ sh.kind x allocated known) in
     let other : has_wrong_type v e ≡ false = ap (λ z. not (is_unknown (v.class x)) && not z) (eq-eqb e.kind _ type)
     ∙ and-false (not (is_unknown (v.class x))) in
-    and_from (nat_lt x v.count) _ (ap (nat_lt x) sh.count ∙ c2.0)
-    (and_from (not (is_bad_whiteout e)) _ (ap not (whiteout_none e one k.no_whiteout))
-    (or_right (x == 1) _
-    (and_from (is_allocated (v.class x)) _ allocated
+    (whiteout_none e one k.no_whiteout,
+    and_from (is_allocated (v.class x)) _ allocated
     (and_from (not (is_suspect v x)) _ (ap not suspect)
     (and_from (not (is_dir v x) || (belongs v s.dir x && not (slice_index stamps x == s.dir))) _
-    (link (is_dir v x) _ _ mine new) (ap not other))))))
+    (link (is_dir v x) _ _ mine new) (ap not other))))
   where
     link : (d b c : Bool) → (d ≡ true → b ≡ true) → (d ≡ true → c ≡ false) → (not d || (b && not c)) ≡ true
     link false b c f g = refl
     link true b c f g = and_from b (not c) (f refl) (ap not (g refl))
+
+-- a calm plain entry is quiet
+plain_quiet : (v : Volume) (s : Sight) (parents stamps : List ℕ) (reached : ℕ → Bool) (e : Entry) →
+    Shown v s.kinds s.marked parents
+    → is_calm_plain s.kinds s.marked reached e.number e.kind ≡ true
+    → (is_dir v e.number ≡ true → belongs v s.dir e.number ≡ true) →
+    (is_dir v e.number ≡ true → (slice_index stamps e.number == s.dir) ≡ false)
+    → is_plain_quiet v s.dir stamps e ≡ true
+plain_quiet v s parents stamps reached e sh c mine new =
+    let p = and_parts (nat_lt e.number (length s.kinds)) _ c in
+    and_from (nat_lt e.number v.count) _ (ap (nat_lt e.number) sh.count ∙ p.0)
+    (elim (or_cases ((e.number == 1) && (e.kind == 14)) _ p.1) [
+      | inl whiteout ↦
+          let w = and_parts (e.number == 1) _ whiteout in
+          and_from (not (is_bad_whiteout e)) _ (ap not (whiteout_right e w.0 w.1)) (or_left (e.number == 1) _ w.0)
+      | inr named ↦
+          let q = inode_quiet v s parents stamps reached e sh named mine new in
+          and_from (not (is_bad_whiteout e)) _ (ap not q.0) (or_right (e.number == 1) _ q.1)
+    ])
 
 -- calm entries are quiet, where each that was stamped was reached
 calm_quiet : (v : Volume) (s : Sight) (parents : List ℕ) (es : List RoledEntry) (reached : ℕ → Bool) (i : ℕ)

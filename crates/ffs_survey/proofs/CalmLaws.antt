@@ -3,7 +3,7 @@ use Rattle.std.specs.Prelude.{◌≡◌, ℕ, suc, ◌+◌, ◌<◌, ◌==◌, B
 use Rattle.std.specs.Prelude.{List, [], ◌∷◌, length, Option, None, Some, is_some, unwrap_or, refl}
 use Rattle.std.specs.List.{list_any}
 use Rattle.std.proofs.Common.{◌⊎◌, arith, sym, ◌∙◌, ap, subst, inl, inr, get_or}
-use Rattle.std.proofs.lemmas.Bool.{both_ways, cases_lt, eqb-true, and_parts, or_cases, or_parts, not-true}
+use Rattle.std.proofs.lemmas.Bool.{both_ways, cases_lt, eqb-true, leb-true, and_parts, or_cases, or_parts, not-true}
 use mathlib.Core.Path.{fun_ext}
 use Rattle.ffs_volume.specs.declared.Role.{Role}
 use Rattle.ffs_volume.specs.declared.Role.TheVariants.{Empty, Dot, Dotdot, Extra, Plain}
@@ -46,13 +46,20 @@ calm_names_new s reached i x Extra number kind c d n = absurd (cc)
 calm_names_new s reached i x Plain number kind c d n =
     let is : number ≡ x = eqb-true number x n in
     let c1 = and_parts (nat_le 2 i) _ c in
-    let c2 = and_parts (nat_le 2 number) _ c1.1 in
-    let c3 = and_parts (nat_lt number (length s.kinds)) _ c2.1 in
-    let c4 = and_parts (not (bool_at s.marked number)) _ c3.1 in
-    let c5 = and_parts (number_at s.kinds number == kind) _ c4.1 in
-    calm_kind_dir (number_at s.kinds x) kind (reached x) (and_parts (nat_le 2 x) _ d).1
-    (subst (λ z. (number_at s.kinds z == kind) ≡ true) is c5.0)
-    (subst (λ z. is_calm_kind kind (reached z) ≡ true) is c5.1)
+    let c2 = and_parts (nat_lt number (length s.kinds)) _ c1.1 in
+    let low = leb-true 2 x (and_parts (nat_le 2 x) _ d).0 in
+    elim (or_cases ((number == 1) && (kind == 14)) _ c2.1) [
+      | inl whiteout ↦
+          let one = eqb-true number 1 (and_parts (number == 1) _ whiteout).0 in
+          absurd (omega (arith, low, is, one))
+      | inr names ↦
+          let c3 = and_parts (nat_le 2 number) _ names in
+          let c4 = and_parts (not (bool_at s.marked number)) _ c3.1 in
+          let c5 = and_parts (number_at s.kinds number == kind) _ c4.1 in
+          calm_kind_dir (number_at s.kinds x) kind (reached x) (and_parts (nat_le 2 x) _ d).1
+          (subst (λ z. (number_at s.kinds z == kind) ≡ true) is c5.0)
+          (subst (λ z. is_calm_kind kind (reached z) ≡ true) is c5.1)
+    ]
 
 -- directories that calm entries name weren't reached before them
 pub calm_new : (s : Sight) (reached : ℕ → Bool) (i x : ℕ) (es : List RoledEntry) → are_calm s reached i es ≡ true →

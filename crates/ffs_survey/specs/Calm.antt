@@ -2,6 +2,7 @@
 use Rattle.std.specs.Prelude.{◌≡◌, ℕ, suc, ◌==◌, Bool, true, false, not, ◌&&◌}
 use Rattle.std.specs.Prelude.{◌||◌, nat_le, nat_lt, List, [], ◌∷◌, length}
 use Rattle.std.specs.List.{list_any}
+use Rattle.ffs_volume.specs.declared.constants.TheConstants.{WINO, ROOTINO, DT_WHT}
 use Rattle.ffs_volume.specs.declared.Role.{Role}
 use Rattle.ffs_volume.specs.declared.Role.TheVariants.{Empty, Dot, Dotdot, Extra, Plain}
 use Rattle.ffs_volume.specs.Directories.Roles.{RoledEntry}
@@ -20,11 +21,11 @@ abbrev pub is_calm_kind : ℕ → Bool → Bool
 is_calm_kind kind reached =
     not (kind == 0) && (not (kind == 5) && (not (kind == 14) && (not (kind == 15) && not ((kind == 4) && reached))))
 
--- the inode that a plain entry names isn't marked, and has the type of the entry
+-- a plain entry is a whiteout; or the inode that it names isn't marked, and has the type of the entry
 abbrev pub is_calm_plain : List ℕ → List Bool → (ℕ → Bool) → ℕ → ℕ → Bool
 is_calm_plain kinds marked reached x kind =
-    nat_le 2 x && (nat_lt x (length kinds) && (not (bool_at marked x)
-    && ((number_at kinds x == kind) && is_calm_kind kind (reached x))))
+    nat_lt x (length kinds) && (((x == WINO) && (kind == DT_WHT)) || (nat_le ROOTINO x && (not (bool_at marked x)
+    && ((number_at kinds x == kind) && is_calm_kind kind (reached x)))))
 
 -- an entry at an index of the directory: `.` is the first, `..` the second, and all others are empty or plain
 abbrev pub is_calm_role : Sight → (ℕ → Bool) → ℕ → Role → ℕ → ℕ → Bool

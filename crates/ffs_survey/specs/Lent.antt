@@ -4,6 +4,7 @@ use Rattle.std.specs.Borrow.{GName}
 use Rattle.ffs_image.specs.Device.{Device}
 use Rattle.ffs_image.specs.declared.image.ImageFault.{ImageFault}
 use Rattle.ffs_survey.specs.declared.lists.Lists.{Lists}
+use Rattle.ffs_survey.specs.declared.lists.Sight.{Sight as SightLent}
 use Rattle.ffs_survey.specs.Survey.{number_at}
 use Rattle.ffs_survey.specs.Calm.{Sight}
 use Rattle.ffs_survey.specs.Reading.{LeavesReader}
@@ -27,6 +28,10 @@ found_up_to l end = record (all_found l) { queue = take end l.queue.now.items }
 -- what is seen of a directory and its parent
 abbrev pub sight_in : Lists → ℕ → ℕ → Sight
 sight_in l dir above = record { kinds = l.kinds.now; marked = l.marked.now; dir = dir; above = above }
+
+-- the same, as it is lent
+abbrev pub sight_of : SightLent → Sight
+sight_of s = record { kinds = s.kinds.now; marked = s.marked.now; dir = s.dir; above = s.above }
 
 -- what is lent: the kinds and the marks, and the lists by their names
 pub record Lent : Type 0 where

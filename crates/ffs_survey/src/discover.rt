@@ -6,20 +6,20 @@ ghost use Rattle.std.specs.List.{sum_by};
 ghost use Rattle.ffs_memory.specs.Filled.{Sets};
 ghost use Rattle.ffs_survey.specs.Reading.{roled_of, ForKnown, LeavesReader};
 ghost use Rattle.ffs_survey.specs.Lists.{CountLists, GrowsBy};
-ghost use Rattle.ffs_survey.specs.Lent.{all_found, found_up_to, sight_in, SameLists, LeavesLent, KeepsCounts, HasRoomAfter, CanTakeMore, CountsAtMost, KeepsReached};
+ghost use Rattle.ffs_survey.specs.Lent.{all_found, found_up_to, sight_of, SameLists, LeavesLent, KeepsCounts, HasRoomAfter, CanTakeMore, CountsAtMost, KeepsReached};
 ghost use Rattle.ffs_survey.specs.Levels.{Discovers, ReadsReached, ReadsDirs, ReadsUnreached};
 ghost use Rattle.ffs_survey.specs.Survey.{bool_at, number_at};
 ghost use Rattle.ffs_survey.specs.Calm.{is_calm_kind, is_calm_plain, is_calm_entry, IsFlagged};
 ghost use Rattle.ffs_survey.specs.Discover.{unset, Extends, IsCounted, Comes, from_entries, nothing, none, Counts, IsReachedDir, is_free as is_free_at};
 
 use crate::directories::Directories;
-use crate::lists::Lists;
+use crate::lists::{Lists, Sight};
 use crate::named::{Named, is_counted, is_dir, is_plain};
 use crate::numbers::number_of;
 use ffs_image::ImageFault;
 use ffs_memory::FilledList;
 use ffs_volume::Role;
-use ffs_volume::constants::{DT_DIR, DT_WHT, EMPTY_DIR, ROOTINO, UNKNOWN_TYPE};
+use ffs_volume::constants::{DT_DIR, DT_WHT, EMPTY_DIR, ROOTINO, UNKNOWN_TYPE, WINO};
 
 /// Counts one more reference of an inode.
 fn add_one(references: &mut FilledList<u64>, number: usize)
@@ -50,27 +50,31 @@ fn count_entry(entry: Named, kinds: &[u8], references: &mut FilledList<u64>, nam
     }
 }
 
-/// Whether a number is that of a directory that isn't reached yet.
-pub fn is_free(lists: &Lists, number: usize) -> bool
+/// Whether a number is that of a directory that isn't reached yet. `kinds` are those of the lists,
+/// taken out of them before a loop.
+pub fn is_free(kinds: &[u8], lists: &Lists, number: usize) -> bool
+    requires { kinds.now ≡ lists.now.kinds.now }
     ensures { result ≡ is_free_at lists.now.kinds.now lists.now.reached.now number }
 {
-    is_dir(lists.kinds, number) && !lists.reached[number]
+    is_dir(kinds, number) && !lists.reached[number]
 }
 
 /// Whether an entry is plain and names a directory that isn't reached yet.
-fn is_new(entry: Named, lists: &Lists) -> bool
+fn is_new(entry: Named, kinds: &[u8], lists: &Lists) -> bool
+    requires { kinds.now ≡ lists.now.kinds.now }
     ensures { result ≡ (is_plain_role entry.role
         && is_free_at lists.now.kinds.now lists.now.reached.now entry.number) }
 {
-    is_plain(entry.role) && is_free(lists, entry.number as usize)
+    is_plain(entry.role) && is_free(kinds, lists, entry.number as usize)
 }
 
-/// Discovers what an entry of the directory `from` names: flags it as reached, gives it its parent
-/// and puts it into the queue.
-fn visit(entry: Named, from: u32, lists: &mut Lists, top: usize) -> usize
-    requires { HasRoomAfter top lists.old }
+/// Discovers what an entry of the directory in sight names: flags it as reached, gives it its
+/// parent and puts it into the queue.
+fn visit(entry: Named, sight: &Sight, lists: &mut Lists, top: usize) -> usize
+    requires kinds { sight.now.kinds.now ≡ lists.old.kinds.now }
+    requires room { HasRoomAfter top lists.old }
     ensures top { result + unset lists.new.reached.now ≡ top + unset lists.old.reached.now }
-    ensures comes { Comes (from_entries lists.old.kinds.now from (roled_of entry [] ∷ []))
+    ensures comes { Comes (from_entries lists.old.kinds.now sight.now.dir (roled_of entry [] ∷ []))
         lists.old.reached.now lists.old.parents.now.items (take top lists.old.queue.now.items)
         nothing lists.new.reached.now lists.new.parents.now.items
         (take result lists.new.queue.now.items) }
@@ -78,12 +82,12 @@ fn visit(entry: Named, from: u32, lists: &mut Lists, top: usize) -> usize
     ensures counts { KeepsCounts lists.old lists.new }
     ensures same { SameLists lists.old lists.new }
 {
-    if !is_new(entry, lists) {
+    if !is_new(entry, sight.kinds, lists) {
         return top;
     }
     let number = entry.number as usize;
     lists.reached[number] = true;
-    lists.parents.set(number, from);
+    lists.parents.set(number, sight.dir);
     lists.queue.set(top, entry.number);
     top + 1
 }
@@ -101,32 +105,36 @@ fn is_calm_kind(kind: u8, reached: bool) -> bool
     }
 }
 
-/// Whether nothing can be reported of a plain entry.
-fn is_calm_plain(entry: Named, lists: &Lists) -> bool
-    ensures { result ≡ is_calm_plain lists.now.kinds.now lists.now.marked.now
+/// Whether nothing can be reported of a plain entry: a whiteout, or one that names an inode.
+fn is_calm_plain(entry: Named, sight: &Sight, lists: &Lists) -> bool
+    requires { sight.now.kinds.now ≡ lists.now.kinds.now }
+    ensures { result ≡ is_calm_plain sight.now.kinds.now sight.now.marked.now
         (bool_at lists.now.reached.now) entry.number entry.kind }
 {
     let number = entry.number as usize;
-    if number < ROOTINO as usize || number >= lists.kinds.len() {
+    if number >= sight.kinds.len() {
         return false;
     }
-    !lists.marked[number]
-        && lists.kinds[number] == entry.kind
+    if entry.number < ROOTINO {
+        return entry.number == WINO && entry.kind == DT_WHT;
+    }
+    !sight.marked[number]
+        && sight.kinds[number] == entry.kind
         && is_calm_kind(entry.kind, lists.reached[number])
 }
 
-/// Whether nothing can be reported of the entry at an index of the directory `from`, whose parent
-/// is `above`.
-fn is_calm(entry: Named, index: u32, from: u32, above: u32, lists: &Lists) -> bool
-    ensures { result ≡ is_calm_entry (sight_in lists.now from above) (bool_at lists.now.reached.now)
-        index (roled_of entry []) }
+/// Whether nothing can be reported of the entry at an index of the directory in sight.
+fn is_calm(entry: Named, index: u32, sight: &Sight, lists: &Lists) -> bool
+    requires { sight.now.kinds.now ≡ lists.now.kinds.now }
+    ensures { result ≡ is_calm_entry (sight_of sight.now) (bool_at lists.now.reached.now) index
+        (roled_of entry []) }
 {
     match entry.role {
-        Role::Dot => index == 0 && entry.number == from && entry.kind == DT_DIR,
-        Role::Dotdot => index == 1 && entry.number == above && entry.kind == DT_DIR,
+        Role::Dot => index == 0 && entry.number == sight.dir && entry.kind == DT_DIR,
+        Role::Dotdot => index == 1 && entry.number == sight.above && entry.kind == DT_DIR,
         Role::Extra => false,
         Role::Empty => index >= 2,
-        Role::Plain => index >= 2 && is_calm_plain(entry, lists),
+        Role::Plain => index >= 2 && is_calm_plain(entry, sight, lists),
     }
 }
 
@@ -181,14 +189,20 @@ fn read_reached<D: Directories>(
         + D.cost (D.base directories.old) b from }
 {
     let above = number_of(lists.parents, from as usize);
+    let sight = Sight {
+        kinds: lists.kinds,
+        marked: lists.marked,
+        dir: from,
+        above,
+    };
     let mut high = top;
     let mut quiet = true;
     let mut count = 0u32;
     directories.start(from)?;
     while let Some(entry) = directories.next()? {
-        count_entry(entry, lists.kinds, lists.references, lists.named);
-        quiet &= is_calm(entry, count, from, above, lists);
-        high = visit(entry, from, lists, high);
+        count_entry(entry, sight.kinds, lists.references, lists.named);
+        quiet &= is_calm(entry, count, &sight, lists);
+        high = visit(entry, &sight, lists, high);
         count += 1;
     }
     flag_calm(directories, from, quiet, count, lists.calm)?;
@@ -245,7 +259,7 @@ fn adopt(entry: Named, from: u32, lists: &mut Lists)
     ensures kept { KeepsReached lists.old lists.new }
     ensures same { SameLists lists.old lists.new }
 {
-    if !is_new(entry, lists) {
+    if !is_new(entry, lists.kinds, lists) {
         return;
     }
     let number = entry.number as usize;

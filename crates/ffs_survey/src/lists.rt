@@ -1,4 +1,5 @@
 //! The lists of a survey.
+ghost use Rattle.std.specs.Prelude.{◌≡◌, length};
 ghost use Rattle.ffs_survey.specs.Lists.{AreLists, AreSurveyed};
 
 use ffs_memory::FilledList;
@@ -24,6 +25,20 @@ pub struct Lists<'kinds, 'marked, 'named, 'reached, 'calm, 'lists> {
     /// The directories that are reached, level after level.
     pub queue: &'lists mut FilledList<u32>,
     ghost long: { AreLists kinds.now marked.now references.now.items named.now reached.now parents.now.items calm.now queue.now.items },
+}
+
+/// A directory whose entries are read, and what they are compared with.
+#[derive(Clone, Copy)]
+pub struct Sight<'kinds, 'marked> {
+    /// What each inode is: 4 for a directory with a size, 5 for one of size 0.
+    pub kinds: &'kinds [u8],
+    /// Whether each inode is marked.
+    pub marked: &'marked [bool],
+    /// The directory.
+    pub dir: u32,
+    /// Its parent, 0 for none.
+    pub above: u32,
+    ghost long: { length marked.now ≡ length kinds.now },
 }
 
 /// What a survey left, and which directories lead a cycle of parents.

@@ -1,5 +1,5 @@
 use Rattle.std.proofs.Math.Bool.{and_comm}
-use Rattle.std.proofs.Common.{arith, ap, subst, [], ◌∙◌, ◌&&◌, nat_le, rules, ◌≡◌, ◌∷◌, ◌<◌, List, ℕ, take, length}
+use Rattle.std.proofs.Common.{arith, ap, sym, subst, [], ◌∙◌, ◌&&◌, nat_le, rules, ◌≡◌, ◌∷◌, ◌<◌, List, ℕ, take, length}
 use Rattle.ffs_volume.specs.Directories.Roles.{RoledEntry, refers}
 use Rattle.ffs_survey.specs.Reading.{roled_of}
 use Rattle.ffs_survey.specs.Survey.{number_at}
@@ -11,6 +11,12 @@ use Rattle.ffs_survey.proofs.Lending.{queue_long}
 use Rattle.ffs_survey.proofs.Queues.{extends_on, keeps_queue}
 use Rattle.ffs_survey.proofs.Tally.{entry_counted, bit-le}
 use Rattle.ffs_survey.proofs.discover.read_reached.Goals as goal
+
+pub is_calm-quiet-requires : goal.is_calm-quiet-requires
+is_calm-quiet-requires g c = sym (ap (λ (x : Lent). x.kinds) c.loop-entry.invariant.same.lent)
+
+pub visit-high-requires-clause-kinds : goal.visit-high-requires-clause-kinds
+visit-high-requires-clause-kinds g c = sym (ap (λ (x : Lent). x.kinds) c.loop-entry.invariant.same.lent)
 
 pub loop-entry-preserved : goal.loop-entry-preserved
 loop-entry-preserved g c =
@@ -27,9 +33,9 @@ loop-entry-preserved g c =
     let new = c.visit-high.new.lists in
     let kinds : here.kinds.now ≡ old.kinds.now = ap (λ (x : Lent). x.kinds) inv.same.lent in
     let marked : here.marked.now ≡ old.marked.now = ap (λ (x : Lent). x.marked) inv.same.lent in
-    let counted = rw kinds at c.count_entry.ensures.counted in
+    let counted = c.count_entry.ensures.counted in
     let comes = rw kinds at c.visit-high.ensures.comes in
-    let right = rw (kinds, marked) at c.is_calm-quiet.ensures in
+    let right = c.is_calm-quiet.ensures in
     let kept = c.visit-high.ensures.counts in
     record {
       ready = search rules;

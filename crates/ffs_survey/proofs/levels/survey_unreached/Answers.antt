@@ -32,6 +32,9 @@ read_unreached-requires-clause-counts g c = λ x l.
     let most = c.requires.counts x inside in
     omega (arith, old, most, few)
 
+pub is_free-requires : goal.is_free-requires
+is_free-requires g c = sym (ap (λ (x : Lent). x.kinds) c.loop-s.invariant.same.lent)
+
 pub loop-s-preserved-then-not-is_free : goal.loop-s-preserved-then-not-is_free
 loop-s-preserved-then-not-is_free g c =
     let inv = c.loop-s.invariant in
