@@ -1,5 +1,5 @@
 -- Nothing is reported of a directory that the survey found calm.
-use Rattle.std.specs.Prelude.{◌≡◌, ◌≢◌, ℕ, suc, ◌<◌, ◌≤◌, ◌*◌, ◌×◌, ◌/◌, ◌==◌, Bool, true, false, not, ◌&&◌, ◌||◌, nat_le}
+use Rattle.std.specs.Prelude.{◌≡◌, ◌≢◌, ℕ, suc, ◌<◌, ◌≤◌, ◌*◌, ◌/◌, ◌==◌, Bool, true, false, not, ◌&&◌, ◌||◌, nat_le}
 use Rattle.std.specs.Prelude.{nat_lt, if◌then◌else◌, cond, refl, List, [], ◌∷◌, ◌++◌, map, length, slice_index}
 use Rattle.std.specs.Prelude.{slice_set, Option, None, Some, option_and_then, sum_by, unwrap_or}
 use Rattle.std.specs.List.{list_any, flat_map, find}
