@@ -7,7 +7,7 @@ use ffs_image::ImageFault;
 use ffs_memory::{FilledList, Memory, SystemMemory};
 use ffs_samples::numbers;
 use ffs_survey::{
-    Directories, Named, Surveyed, is_dead, is_dir, is_suspect, is_unref, mark_leaders, survey,
+    Directories, EntryHead, Surveyed, is_dead, is_dir, is_suspect, is_unref, mark_leaders, survey,
 };
 use ffs_volume::Role;
 use std::alloc::{AllocError, Global};
@@ -16,7 +16,7 @@ use std::test::Fail;
 /// Four entries for each of eight inodes. It reports nothing of an image.
 #[derive(Drop)]
 struct Listed {
-    entries: [[Named; 4]; 8],
+    entries: [[EntryHead; 4]; 8],
     dir: usize,
     place: usize,
 }
@@ -62,7 +62,7 @@ impl Directories for Listed {
         Ok(())
     }
 
-    fn next(&mut self) -> Result<Option<Named>, ImageFault> {
+    fn next(&mut self) -> Result<Option<EntryHead>, ImageFault> {
         if self.dir >= self.entries.len() || self.place >= 4 {
             return Ok(None);
         }
@@ -76,8 +76,8 @@ impl Directories for Listed {
     }
 }
 
-fn entry(role: Role, number: u32) -> Named {
-    Named {
+fn entry(role: Role, number: u32) -> EntryHead {
+    EntryHead {
         role,
         number,
         length: 12,

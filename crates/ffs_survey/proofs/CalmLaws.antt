@@ -12,10 +12,10 @@ use Rattle.ffs_volume.specs.Directories.Graph.{Graph, is_naming_entry, is_naming
 use Rattle.ffs_volume.proofs.SearchLaws.{first_below-is_none}
 use Rattle.std.proofs.lemmas.List.{get_or_past}
 use Rattle.ffs_survey.specs.Survey.{bool_at, number_at, dir_at, is_dir_kind}
-use Rattle.ffs_survey.specs.Calm.{Sight, is_calm_kind, is_calm_role, is_calm_entry, reached_after, are_calm, IsCalm}
+use Rattle.ffs_survey.specs.Calm.{CurrentDir, is_calm_kind, is_calm_role, is_calm_entry, reached_after, are_calm, IsCalm}
 use Rattle.ffs_survey.specs.Calm.{AreCalm, IsFlagged}
-use Rattle.ffs_survey.specs.Discover.{from_entries, nothing, Comes, IsFrontier, LevelsKnown, is_free_edge, IsRead}
-use Rattle.ffs_survey.proofs.Frontiers.{front_within}
+use Rattle.ffs_survey.specs.Discover.{from_entries, nothing, Comes, IsFrontier, LevelsKnown, is_unreached_edge, IsRead}
+use Rattle.ffs_survey.proofs.Frontiers.{frontier_within}
 use Rattle.ffs_survey.proofs.Discovered.{comes-to}
 
 -- a calm plain entry that names a directory is before any other that reaches it
@@ -36,7 +36,7 @@ calm_kind_dir k kind r d e h =
     last true h = absurd (cc)
     last false h = refl
 
-pub calm_names_new : (s : Sight) (reached : ℕ → Bool) (i x : ℕ) (role : Role) (number kind : ℕ) →
+pub calm_names_new : (s : CurrentDir) (reached : ℕ → Bool) (i x : ℕ) (role : Role) (number kind : ℕ) →
     is_calm_role s reached i role number kind ≡ true → dir_at s.kinds x ≡ true → (is_plain role && (number == x)) ≡ true
     → reached x ≡ false
 calm_names_new s reached i x Empty number kind c d n = absurd (cc)
@@ -62,7 +62,7 @@ calm_names_new s reached i x Plain number kind c d n =
     ]
 
 -- directories that calm entries name weren't reached before them
-pub calm_new : (s : Sight) (reached : ℕ → Bool) (i x : ℕ) (es : List RoledEntry) → are_calm s reached i es ≡ true →
+pub calm_new : (s : CurrentDir) (reached : ℕ → Bool) (i x : ℕ) (es : List RoledEntry) → are_calm s reached i es ≡ true →
     dir_at s.kinds x ≡ true → list_any (is_naming_entry x) es ≡ true → reached x ≡ false
 calm_new s reached i x [] c d n = absurd (cc)
 calm_new s reached i x (e ∷ es) c d n =
@@ -91,9 +91,9 @@ stays_parent false r' a p p' e e' h = absurd (cc)
 pub comes_stays : (a : ℕ → Option ℕ) (r r' : List Bool) (p p' q q' : List ℕ) → Comes a r p q nothing r' p' q' →
     Stays r p r' p'
 comes_stays a r r' p p' q q' c = record {
-  reached = λ x h. stays_reached (bool_at r x) (bool_at r' x) (a x) h (c.reached x);
+  reached = λ x h. stays_reached (bool_at r x) (bool_at r' x) (a x) h (c.reaches x);
   parents = λ x h. stays_parent (bool_at r x) (bool_at r' x) (a x) (number_at p x) (number_at p' x) h
-      (stays_reached (bool_at r x) (bool_at r' x) (a x) h (c.reached x)) (c.parent x);
+      (stays_reached (bool_at r x) (bool_at r' x) (a x) h (c.reaches x)) (c.parent x);
 }
 
 pub calm_stays : (kinds : List ℕ) (m r r' : List Bool) (p p' : List ℕ) (es : List RoledEntry) (sound : Bool) (d : ℕ) →
@@ -101,7 +101,7 @@ pub calm_stays : (kinds : List ℕ) (m r r' : List Bool) (p p' : List ℕ) (es :
 calm_stays kinds m r r' p p' es sound d s c = record {
   before = c.before;
   begins = c.begins;
-  entries_right = subst (λ n. are_calm (record { kinds = kinds; marked = m; dir = d; above = n }) c.before 0 es ≡ true)
+  entries_right = subst (λ n. are_calm (record { kinds = kinds; marked = m; dir = d; parent = n }) c.before 0 es ≡ true)
       (sym (s.parents d c.is_reached)) c.entries_right;
   shape_right = c.shape_right;
   is_reached = s.reached d c.is_reached;
@@ -128,7 +128,7 @@ found_parent true s p p' false c e f g h = absurd (cc)
 pub calm_found : (kinds : List ℕ) (m r r' : List Bool) (p p' q q' : List ℕ) (es : List RoledEntry) (sound : Bool)
     (d : ℕ)
     → Comes (from_entries kinds d es) r p q nothing r' p' q' → bool_at r d ≡ true
-    → are_calm (record { kinds = kinds; marked = m; dir = d; above = number_at p d }) (bool_at r) 0 es ≡ true →
+    → are_calm (record { kinds = kinds; marked = m; dir = d; parent = number_at p d }) (bool_at r) 0 es ≡ true →
     sound ≡ true
     → IsCalm kinds m r' p' es sound d
 calm_found kinds m r r' p p' q q' es sound d c h calm right =
@@ -136,18 +136,18 @@ calm_found kinds m r r' p p' q q' es sound d c h calm right =
     record {
       before = bool_at r;
       begins = h;
-      entries_right = subst (λ n. are_calm (record { kinds = kinds; marked = m; dir = d; above = n }) (bool_at r) 0 es
+      entries_right = subst (λ n. are_calm (record { kinds = kinds; marked = m; dir = d; parent = n }) (bool_at r) 0 es
           ≡ true) (sym (s.parents d h)) calm;
       shape_right = right;
       is_reached = s.reached d h;
       below = λ x dir n.
-          let new = calm_new (record { kinds = kinds; marked = m; dir = d; above = number_at p d }) (bool_at r) 0 x es
+          let new = calm_new (record { kinds = kinds; marked = m; dir = d; parent = number_at p d }) (bool_at r) 0 x es
           calm dir n in
           let t : bool_at r' x ≡ true = found_reached (bool_at r' x) d (dir_at kinds x) (list_any (is_naming_entry x)
           es)
           dir n
           (subst (λ z. (bool_at r' x || is_some (nothing x)) ≡ (z || is_some (from_entries kinds d es x))) new
-          (c.reached x)) in (
+          (c.reaches x)) in (
             t,
             found_parent (bool_at r' x) d (number_at p x) (number_at p' x) (dir_at kinds x)
                 (list_any (is_naming_entry x) es) t
@@ -167,47 +167,47 @@ none_left kinds s x = go (dir_at kinds x)
 
 -- a directory is read
 pub record IsReadWhole (kinds : List ℕ) (m r r' : List Bool) (p p' q q' : List ℕ) (es : List RoledEntry) (d : ℕ)
-    (quiet : Bool) : Type 0 where
+    (calm_so_far : Bool) : Type 0 where
   pub comes : Comes (from_entries kinds d es) r p q nothing r' p' q'
-  pub quiet_is : quiet ≡ are_calm (record { kinds = kinds; marked = m; dir = d; above = number_at p d }) (bool_at r) 0
+  pub calm_is : calm_so_far ≡ are_calm (record { kinds = kinds; marked = m; dir = d; parent = number_at p d }) (bool_at r) 0
       es
 
 pub read_whole : (kinds : List ℕ) (m r r' : List Bool) (p p' q q' : List ℕ) (es rest : List RoledEntry)
-    (d above count : ℕ) (quiet : Bool) → above ≡ number_at p d → rest ≡ []
+    (d parent count : ℕ) (calm_so_far : Bool) → parent ≡ number_at p d → rest ≡ []
     → Comes (from_entries kinds d es) r p q (from_entries kinds d rest) r' p' q'
-    → (quiet && are_calm (record { kinds = kinds; marked = m; dir = d; above = above }) (bool_at r') count rest)
-    ≡ are_calm (record { kinds = kinds; marked = m; dir = d; above = above }) (bool_at r) 0 es
-    → IsReadWhole kinds m r r' p p' q q' es d (quiet && nat_le 2 count)
-read_whole kinds m r r' p p' q q' es rest d above count quiet up none c e = record {
+    → (calm_so_far && are_calm (record { kinds = kinds; marked = m; dir = d; parent = parent }) (bool_at r') count rest)
+    ≡ are_calm (record { kinds = kinds; marked = m; dir = d; parent = parent }) (bool_at r) 0 es
+    → IsReadWhole kinds m r r' p p' q q' es d (calm_so_far && nat_le 2 count)
+read_whole kinds m r r' p p' q q' es rest d parent count calm_so_far up none c e = record {
   comes = comes-to (from_entries kinds d es) (from_entries kinds d []) nothing r r' p p' q q' (λ x. none_left kinds d x)
       (subst (λ z. Comes (from_entries kinds d es) r p q (from_entries kinds d z) r' p' q') none c);
-  quiet_is = subst (λ n. (quiet && nat_le 2 count) ≡ are_calm (record { kinds = kinds; marked = m; dir = d; above = n })
+  calm_is = subst (λ n. (calm_so_far && nat_le 2 count) ≡ are_calm (record { kinds = kinds; marked = m; dir = d; parent = n })
       (bool_at r) 0 es) up
-      (subst (λ z. (quiet && are_calm (record { kinds = kinds; marked = m; dir = d; above = above }) (bool_at r') count
-      z) ≡ are_calm (record { kinds = kinds; marked = m; dir = d; above = above }) (bool_at r) 0 es) none e);
+      (subst (λ z. (calm_so_far && are_calm (record { kinds = kinds; marked = m; dir = d; parent = parent }) (bool_at r') count
+      z) ≡ are_calm (record { kinds = kinds; marked = m; dir = d; parent = parent }) (bool_at r) 0 es) none e);
 }
 
 -- a flag that is set is an old one, or the one that was set now
-flag_cases : (x d : ℕ) (old low quiet sound : Bool) → (old || ((x == d) && (low && (quiet && sound)))) ≡ true
-    → (old ≡ true) ⊎ ((x ≡ d) × ((quiet ≡ true) × (sound ≡ true)))
-flag_cases x d old low quiet sound h = elim (or_cases old _ h) [
+flag_cases : (x d : ℕ) (old low calm_so_far sound : Bool) → (old || ((x == d) && (low && (calm_so_far && sound)))) ≡ true
+    → (old ≡ true) ⊎ ((x ≡ d) × ((calm_so_far ≡ true) × (sound ≡ true)))
+flag_cases x d old low calm_so_far sound h = elim (or_cases old _ h) [
   | inl before ↦ inl before
   | inr now ↦
       let p = and_parts (x == d) _ now in
       let q = and_parts low _ p.1 in
-      inr (eqb-true x d p.0, and_parts quiet sound q.1)
+      inr (eqb-true x d p.0, and_parts calm_so_far sound q.1)
 ]
 
 -- the flags after a directory is read
 pub calm_read : (kinds : List ℕ) (m r r' : List Bool) (p p' q q' : List ℕ) (entries : ℕ → List RoledEntry)
     (sound : ℕ → Bool) (d : ℕ) (f f' : List Bool)
     → Comes (from_entries kinds d (entries d)) r p q nothing r' p' q' → bool_at r d ≡ true
-    → IsFlagged d (are_calm (record { kinds = kinds; marked = m; dir = d; above = number_at p d }) (bool_at r) 0
+    → IsFlagged d (are_calm (record { kinds = kinds; marked = m; dir = d; parent = number_at p d }) (bool_at r) 0
     (entries d)) (sound d) f f'
     → AreCalm kinds m r p entries sound f → AreCalm kinds m r' p' entries sound f'
 calm_read kinds m r r' p p' q q' entries sound d f f' c h flagged old x set =
     elim (flag_cases x d (bool_at f x) (nat_lt d (length f))
-    (are_calm (record { kinds = kinds; marked = m; dir = d; above = number_at p d }) (bool_at r) 0 (entries d))
+    (are_calm (record { kinds = kinds; marked = m; dir = d; parent = number_at p d }) (bool_at r) 0 (entries d))
     (sound d) (sym (flagged x) ∙ set)) [
       | inl before ↦ calm_stays kinds m r r' p p' (entries x) (sound x) x
           (comes_stays (from_entries kinds d (entries d)) r r' p p' q q' c) (old x before)
@@ -234,21 +234,21 @@ some_any true s t = refl
 some_any false s t = refl
 
 -- the step of the loop over a directory
-pub calm_step : (s : Sight) (r r' : List Bool) (p p' q q' : List ℕ) (i : ℕ) (e : RoledEntry) (es : List RoledEntry)
-    (quiet quiet' total : Bool)
+pub calm_step : (s : CurrentDir) (r r' : List Bool) (p p' q q' : List ℕ) (i : ℕ) (e : RoledEntry) (es : List RoledEntry)
+    (calm_so_far calm_so_far' total : Bool)
     → Comes (from_entries s.kinds s.dir (e ∷ [])) r p q nothing r' p' q'
-    → quiet' ≡ (quiet && is_calm_entry s (bool_at r) i e)
-    → (quiet && are_calm s (bool_at r) i (e ∷ es)) ≡ total
-    → (quiet' && are_calm s (bool_at r') (i + 1) es) ≡ total
-calm_step s r r' p p' q q' i e es quiet quiet' total c step old =
+    → calm_so_far' ≡ (calm_so_far && is_calm_entry s (bool_at r) i e)
+    → (calm_so_far && are_calm s (bool_at r) i (e ∷ es)) ≡ total
+    → (calm_so_far' && are_calm s (bool_at r') (i + 1) es) ≡ total
+calm_step s r r' p p' q q' i e es calm_so_far calm_so_far' total c step old =
     let same : bool_at r' ≡ reached_after s.kinds (bool_at r) e =
     fun_ext (λ x. reached_by_entry (bool_at r x) (bool_at r' x) (dir_at s.kinds x) (is_naming_entry x e)
-    (c.reached x ∙ ap (λ z. bool_at r x || z) (some_any (dir_at s.kinds x && (is_naming_entry x e || false)) s.dir 0)))
+    (c.reaches x ∙ ap (λ z. bool_at r x || z) (some_any (dir_at s.kinds x && (is_naming_entry x e || false)) s.dir 0)))
     in
     let next : i + 1 ≡ suc i = omega arith in
-    ap (λ n. quiet' && are_calm s (bool_at r') n es) next
-    ∙ (ap (λ z. quiet' && are_calm s z (suc i) es) same
-    ∙ (ap (λ z. z && are_calm s (reached_after s.kinds (bool_at r) e) (suc i) es) step ∙ (and_again quiet _ _ ∙ old)))
+    ap (λ n. calm_so_far' && are_calm s (bool_at r') n es) next
+    ∙ (ap (λ z. calm_so_far' && are_calm s z (suc i) es) same
+    ∙ (ap (λ z. z && are_calm s (reached_after s.kinds (bool_at r) e) (suc i) es) step ∙ (and_again calm_so_far _ _ ∙ old)))
   where
     and_again : (a b c : Bool) → ((a && b) && c) ≡ (a && (b && c))
     and_again true b c = refl
@@ -267,9 +267,9 @@ calm_unreached kinds m r p p' entries sound f same old x set =
     calm_stays kinds m r r p p' (entries x) (sound x) x (record { reached = λ y h. h; parents = same }) (old x set)
 
 -- the directories of a level are reached
-pub front_reached : (v : Graph) (k : ℕ) (xs : List ℕ) (r : List Bool) (p q : List ℕ) → IsFrontier v k xs →
+pub frontier_reached : (v : Graph) (k : ℕ) (xs : List ℕ) (r : List Bool) (p q : List ℕ) → IsFrontier v k xs →
     LevelsKnown v k r p q → (i d : ℕ) → i < length xs → bool_at r (get_or xs i d) ≡ true
-front_reached v k xs r p q f l i d h = let x = get_or xs i d in l.reached x ∙ front_within v k xs f i d h
+frontier_reached v k xs r p q f l i d h = let x = get_or xs i d in l.reached x ∙ frontier_within v k xs f i d h
 
 reached_below : (r : List Bool) (x : ℕ) → bool_at r x ≡ true → x < length r
 reached_below r x h = elim (cases_lt x (length r)) [
@@ -284,7 +284,7 @@ pub read_stays : (g : Graph) (kinds : List ℕ) (r : List Bool) (n : ℕ) (f f' 
 read_stays g kinds r n f f' m m' p p' long read x h =
     read.parents x (subst (λ z. x < z) long (reached_below r x h))
     ∙ ap (λ o. unwrap_or o (number_at p x))
-    (first_below-is_none (is_free_edge g kinds r x) n
+    (first_below-is_none (is_unreached_edge g kinds r x) n
     (λ s l. taken (dir_at kinds x) (bool_at r x) (not (bool_at r s) && is_naming_dir g s x) h))
   where
     taken : (d b e : Bool) → b ≡ true → ((d && not b) && e) ≡ false

@@ -10,19 +10,19 @@ use Rattle.std.proofs.lemmas.Bool.{or_left, or_from, cond-true, cond-false}
 use Rattle.std.proofs.lemmas.List.{take_more_set, get_or_past}
 use Rattle.std.proofs.lemmas.List.Sums.{sum_by-set, sum_by_push}
 use Rattle.ffs_survey.specs.Survey.{bool_at, number_at, dir_at, is_dir_kind, graph_with}
-use Rattle.ffs_survey.specs.Discover.{bit, occurrences, unset, from_entries, from_dirs, nothing, Comes, is_free}
+use Rattle.ffs_survey.specs.Discover.{bit, occurrences, unset, from_entries, from_dirs, nothing, Comes, is_unreached_dir}
 use Rattle.ffs_volume.specs.Directories.Roles.{RoledEntry, is_plain}
 use Rattle.ffs_volume.specs.Directories.Graph.{Graph, is_naming_entry, edge}
 
 pub comes-refl : (g : ℕ → Option ℕ) (r : List Bool) (p q : List ℕ) → Comes g r p q g r p q
-comes-refl g r p q = record { reached = λ x. refl; parent = λ x. refl; queue = λ x. refl }
+comes-refl g r p q = record { reaches = λ x. refl; parent = λ x. refl; queued = λ x. refl }
 
 pub comes-trans : (g h k : ℕ → Option ℕ) (r r' r'' : List Bool) (p p' p'' q q' q'' : List ℕ) → Comes g r p q h r' p' q'
     → Comes h r' p' q' k r'' p'' q'' → Comes g r p q k r'' p'' q''
 comes-trans g h k r r' r'' p p' p'' q q' q'' a b = record {
-  reached = λ x. b.reached x ∙ a.reached x;
+  reaches = λ x. b.reaches x ∙ a.reaches x;
   parent = λ x. b.parent x ∙ a.parent x;
-  queue = λ x. b.queue x ∙ a.queue x;
+  queued = λ x. b.queued x ∙ a.queued x;
 }
 
 abbrev none_ℕ : Option ℕ
@@ -64,11 +64,11 @@ then_queue false false (Some s) b t t' h e = absurd (cc)
 pub comes-then : (g a b : ℕ → Option ℕ) (r r' : List Bool) (p p' q q' : List ℕ) →
     ((x : ℕ) → g x ≡ option_or (a x) (b x)) → Comes a r p q nothing r' p' q' → Comes g r p q b r' p' q'
 comes-then g a b r r' p p' q q' e c = record {
-  reached = λ x. then_reached (bool_at r x) (bool_at r' x) (a x) (b x) (c.reached x)
+  reaches = λ x. then_reached (bool_at r x) (bool_at r' x) (a x) (b x) (c.reaches x)
       ∙ ap (λ o. bool_at r x || is_some o) (sym (e x));
-  parent = λ x. then_parent (bool_at r x) (bool_at r' x) (a x) (b x) (number_at p x) (number_at p' x) (c.reached x)
+  parent = λ x. then_parent (bool_at r x) (bool_at r' x) (a x) (b x) (number_at p x) (number_at p' x) (c.reaches x)
       (c.parent x) ∙ ap (λ o. cond (bool_at r x) (number_at p x) (unwrap_or o (number_at p x))) (sym (e x));
-  queue = λ x. then_queue (bool_at r x) (bool_at r' x) (a x) (b x) (occurrences x q) (occurrences x q') (c.reached x) (c.queue x)
+  queued = λ x. then_queue (bool_at r x) (bool_at r' x) (a x) (b x) (occurrences x q) (occurrences x q') (c.reaches x) (c.queued x)
       ∙ ap (λ o. occurrences x q + bit (is_some o && not (bool_at r x))) (sym (e x));
 }
 
@@ -149,9 +149,9 @@ pub visit_hit : (kinds : List ℕ) (r : List Bool) (p q : List ℕ) (s c : ℕ) 
     → Comes (from_entries kinds s (e ∷ [])) r p (take c q) nothing (set r e.entry.number true) (set p e.entry.number s)
     (take (c + 1) (set q c e.entry.number))
 visit_hit kinds r p q s c e lr lp lq d pl un = record {
-  reached = λ x. (at x).0;
+  reaches = λ x. (at x).0;
   parent = λ x. (at x).1;
-  queue = λ x. (at x).2;
+  queued = λ x. (at x).2;
 }
   where
     at : (x : ℕ) → At (bool_at r x) (number_at p x) (occurrences x (take c q)) (from_entries kinds s (e ∷ []) x)
@@ -173,9 +173,9 @@ visit_hit kinds r p q s c e lr lp lq d pl un = record {
 pub comes-to : (g h k : ℕ → Option ℕ) (r r' : List Bool) (p p' q q' : List ℕ) → ((x : ℕ) → h x ≡ k x) →
     Comes g r p q h r' p' q' → Comes g r p q k r' p' q'
 comes-to g h k r r' p p' q q' e c = record {
-  reached = λ x. ap (λ o. bool_at r' x || is_some o) (sym (e x)) ∙ c.reached x;
+  reaches = λ x. ap (λ o. bool_at r' x || is_some o) (sym (e x)) ∙ c.reaches x;
   parent = λ x. ap (λ o. cond (bool_at r' x) (number_at p' x) (unwrap_or o (number_at p' x))) (sym (e x)) ∙ c.parent x;
-  queue = λ x. ap (λ o. occurrences x q' + bit (is_some o && not (bool_at r' x))) (sym (e x)) ∙ c.queue x;
+  queued = λ x. ap (λ o. occurrences x q' + bit (is_some o && not (bool_at r' x))) (sym (e x)) ∙ c.queued x;
 }
 
 same_at : (r : Bool) (p t : ℕ) (a : Option ℕ) → (r ≡ true) ⊎ (a ≡ None) → At r p t a r p t
@@ -188,9 +188,9 @@ same_at r p t a h = elim h [ inl y ↦ marked r a y | inr n ↦ miss_at r p t a 
 
 -- an entry that discovers nothing
 pub visit_miss : (kinds : List ℕ) (r : List Bool) (p q : List ℕ) (s : ℕ) (e : RoledEntry)
-    → (is_plain e.role && is_free kinds r e.entry.number) ≡ false →
+    → (is_plain e.role && is_unreached_dir kinds r e.entry.number) ≡ false →
     Comes (from_entries kinds s (e ∷ [])) r p q nothing r p q
-visit_miss kinds r p q s e h = record { reached = λ x. (at x).0; parent = λ x. (at x).1; queue = λ x. (at x).2 }
+visit_miss kinds r p q s e h = record { reaches = λ x. (at x).0; parent = λ x. (at x).1; queued = λ x. (at x).2 }
   where
     which : (x a b c : Bool) → (a && (b && not c)) ≡ false → (c ≡ true)
         ⊎ (cond (b && ((a && x) || false)) (Some s) None ≡ None)
@@ -205,7 +205,7 @@ visit_miss kinds r p q s e h = record { reached = λ x. (at x).0; parent = λ x.
     at x = same_at (bool_at r x) (number_at p x) (occurrences x q) (from_entries kinds s (e ∷ []) x)
         (elim (cases_eq x e.entry.number) [
           | inl y ↦ which (e.entry.number == x) (is_plain e.role) (dir_at kinds x) (bool_at r x)
-              (subst (λ z. (is_plain e.role && is_free kinds r z) ≡ false) (sym y) h)
+              (subst (λ z. (is_plain e.role && is_unreached_dir kinds r z) ≡ false) (sym y) h)
           | inr n ↦ inr (from_entry-miss kinds s e x n)
         ])
 
@@ -227,10 +227,10 @@ pub record IsNewEntry (kinds : List ℕ) (r : List Bool) (e : RoledEntry) : Type
   pub unmarked : bool_at r e.entry.number ≡ false
   pub below : e.entry.number < length kinds
 
-pub new_entry : (kinds : List ℕ) (r : List Bool) (e : RoledEntry) → (is_plain e.role && is_free kinds r e.entry.number)
+pub new_entry : (kinds : List ℕ) (r : List Bool) (e : RoledEntry) → (is_plain e.role && is_unreached_dir kinds r e.entry.number)
     ≡ true → IsNewEntry kinds r e
 new_entry kinds r e h =
-    let a = and_parts (is_plain e.role) (is_free kinds r e.entry.number) h in
+    let a = and_parts (is_plain e.role) (is_unreached_dir kinds r e.entry.number) h in
     let b = and_parts (dir_at kinds e.entry.number) (not (bool_at r e.entry.number)) a.1 in
     record { plain = a.0; dir = b.0; unmarked = not-true _ b.1; below = dir_below kinds e.entry.number b.0 }
 

@@ -83,7 +83,7 @@ found : (p : ℕ → Bool) (xs : List ℕ) → Rising xs → FoundIn p xs (find 
 found p [] r = λ t m. absurd (let e = occurrences-nil t in omega arith)
 found p (x ∷ xs) r = found_cons p x xs (p x) (find p xs) refl r (found p xs r.1)
 
-bit-one : (b : Bool) (n : ℕ) → n ≡ bit b → 1 ≤ n → b ≡ true
+pub bit-one : (b : Bool) (n : ℕ) → n ≡ bit b → 1 ≤ n → b ≡ true
 bit-one true n e h = refl
 bit-one false n e h = absurd (omega arith)
 
@@ -91,9 +91,9 @@ one-bit : (b : Bool) (n : ℕ) → n ≡ bit b → b ≡ true → 1 ≤ n
 one-bit true n e h = omega arith
 one-bit false n e h = absurd (cc)
 
-pub front_first : (v : Graph) (k x : ℕ) (xs : List ℕ) → IsSane v → IsFrontier v k xs →
+pub frontier_first : (v : Graph) (k x : ℕ) (xs : List ℕ) → IsSane v → IsFrontier v k xs →
     from_dirs v xs x ≡ first_below (level_edge v k x) v.count
-front_first v k x xs sane f = go (find (λ s. edge v s x) xs) (found (λ s. edge v s x) xs f.rising)
+frontier_first v k x xs sane f = go (find (λ s. edge v s x) xs) (found (λ s. edge v s x) xs f.rising)
   where
     go : (o : Option ℕ) → FoundIn (λ s. edge v s x) xs o → o ≡ first_below (level_edge v k x) v.count
     go None h = sym (first_below-is_none (level_edge v k x) v.count (λ t l.
@@ -208,11 +208,11 @@ pub next_level : (v : Graph) (k : ℕ) (xs : List ℕ) (r r' : List Bool) (p p' 
 next_level v k xs r r' p p' q q' sane f n c = record { reached = reached_x; parent = parent_x; members = queue_x }
   where
     found_x : (x : ℕ) → from_dirs v xs x ≡ first_below (level_edge v k x) v.count
-    found_x x = front_first v k x xs sane f
+    found_x x = frontier_first v k x xs sane f
 
     reached_x : (x : ℕ) → bool_at r' x ≡ within v (suc k) x
     reached_x x = sym (or-false (bool_at r' x))
-        ∙ (c.reached x ∙ (ap (λ o. bool_at r x || is_some o) (found_x x)
+        ∙ (c.reaches x ∙ (ap (λ o. bool_at r x || is_some o) (found_x x)
         ∙ (ap (λ b. b || some_below (level_edge v k x) v.count) (n.reached x) ∙ sym (within-level v k x sane))))
 
     now_x : (x : ℕ) → number_at p' x ≡ cond (within v k x) (number_at p x)
@@ -241,7 +241,7 @@ next_level v k xs r r' p p' q q' sane f n c = record { reached = reached_x; pare
 
     queue_x : (x : ℕ) → occurrences x q' ≡ bit (is_value (level v x) (suc k))
     queue_x x = sym (add-zero (occurrences x q'))
-        ∙ (c.queue x ∙ (ap (λ t. t + bit (is_some (from_dirs v xs x) && not (bool_at r x))) (occurrences-nil x)
+        ∙ (c.queued x ∙ (ap (λ t. t + bit (is_some (from_dirs v xs x) && not (bool_at r x))) (occurrences-nil x)
         ∙ (zero-add _ ∙ ap bit
         (ap (λ b. is_some (from_dirs v xs x) && not b) (n.reached x)
         ∙ (ap (λ o. is_some o && not (within v k x)) (found_x x)
@@ -260,9 +260,9 @@ unfolding occurrences
 queue_grows a r r' p p' q q' h c x =
     let one : occurrences x (q ++ q') ≡ occurrences x q + occurrences x q' = sum_by-append (λ y. bit (y == x)) q q' in
     let two = h x in
-    let three = c.queue x in
+    let three = c.queued x in
     let four = occurrences-nil x in
-    let five = go (bool_at r x) (bool_at r' x) (is_some (a x)) (c.reached x) in
+    let five = go (bool_at r x) (bool_at r' x) (is_some (a x)) (c.reaches x) in
     omega (arith, one, two, three, four, five)
   where
     go : (m m' s : Bool) → (m' || false) ≡ (m || s) → bit m + bit (s && not m) ≡ bit m'
@@ -292,21 +292,21 @@ within-dir v (suc k) x sane two h =
           (edge-parts v w.0 x (and_parts (within v k w.0) (edge v w.0 x) w.1.passes).1).0
     ]
 
-pub front_within : (v : Graph) (k : ℕ) (xs : List ℕ) → IsFrontier v k xs → (i d : ℕ) → i < length xs →
+pub frontier_within : (v : Graph) (k : ℕ) (xs : List ℕ) → IsFrontier v k xs → (i d : ℕ) → i < length xs →
     within v k (get_or xs i d) ≡ true
-front_within v k xs f i d l =
+frontier_within v k xs f i d l =
     let x = get_or xs i d in
     let lv = is_value-true _ k (bit-one _ _ (f.members x) (occurrences-at xs i d l)) in
     (level-some v k x lv).0.within_k
 
-pub front_dirs : (v : Graph) (k : ℕ) (xs : List ℕ) → IsSane v → v.is_dir 2 ≡ true → IsFrontier v k xs → (i d : ℕ) →
+pub frontier_dirs : (v : Graph) (k : ℕ) (xs : List ℕ) → IsSane v → v.is_dir 2 ≡ true → IsFrontier v k xs → (i d : ℕ) →
     i < length xs → v.is_dir (get_or xs i d) ≡ true
-front_dirs v k xs sane two f i d l = within-dir v k (get_or xs i d) sane two (front_within v k xs f i d l)
+frontier_dirs v k xs sane two f i d l = within-dir v k (get_or xs i d) sane two (frontier_within v k xs f i d l)
 
-pub front_from : (v : Graph) (k : ℕ) (xs ys : List ℕ) → ((x : ℕ) → occurrences x xs ≡ bit (is_value (level v x) k)) →
+pub frontier_from : (v : Graph) (k : ℕ) (xs ys : List ℕ) → ((x : ℕ) → occurrences x xs ≡ bit (is_value (level v x) k)) →
     IsPermutation xs ys → IsNonDecreasing ys → IsFrontier v k ys
 unfolding occurrences
-front_from v k xs ys m p s =
+frontier_from v k xs ys m p s =
     record { members = λ x. sum_by-IsPermutation (λ y. bit (y == x)) xs ys p ∙ m x; rising = rising-from ys s }
 
 pub sane_of : (kinds : List ℕ) (entries : ℕ → List RoledEntry) → 2 < length kinds → IsSane (graph_with kinds entries)

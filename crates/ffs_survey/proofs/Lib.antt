@@ -1,7 +1,7 @@
 mod Discovered
 mod Tally
 mod Frontiers
-mod Ends
+mod LevelEnds
 mod Totals
 mod Queues
 mod UnreachedLaws

@@ -15,8 +15,8 @@ use Rattle.ffs_volume.proofs.Graphs.{IsSane}
 use Rattle.ffs_survey.specs.Survey.{bool_at, number_at, graph_with, dir_at, counted_in}
 use Rattle.ffs_survey.specs.Discover.{Extends, bit, occurrences, from_dirs, nothing, Comes, IsFrontier, LevelsKnown, IsCount, Counts}
 use Rattle.ffs_survey.specs.Discover.{IsReachedPart, count_of, any_of, none, never}
-use Rattle.ffs_survey.proofs.Frontiers.{next_level, front_from, queue_grows, IsNext}
-use Rattle.ffs_survey.proofs.Ends.{knows_reached, knows_parent, root_alone, frontier_start}
+use Rattle.ffs_survey.proofs.Frontiers.{next_level, frontier_from, queue_grows, IsNext}
+use Rattle.ffs_survey.proofs.LevelEnds.{knows_reached, knows_parent, root_alone, frontier_start}
 use Rattle.ffs_survey.proofs.Totals.{count_all, any_all, any_of-append}
 
 -- a queue that is extended twice
@@ -53,9 +53,9 @@ pub comes_after : (a c : ℕ → Option ℕ) (r r' : List Bool) (p p' q new : Li
     Comes a r p q c r' p' (q ++ new) → Comes a r p [] c r' p' new
 unfolding occurrences
 comes_after a c r r' p p' q new h = record {
-  reached = h.reached;
+  reaches = h.reaches;
   parent = h.parent;
-  queue = λ x. let e = h.queue x in let s = sum_by-append (λ y. bit (y == x)) q new in omega (arith, e, s);
+  queued = λ x. let e = h.queued x in let s = sum_by-append (λ y. bit (y == x)) q new in omega (arith, e, s);
 }
 
 -- an empty slice of the queue
@@ -83,7 +83,7 @@ level_after v k xs r r' p p' q new ys sane f n c m s =
     subst (λ j. IsNext v j r' p' new) one (next_level v k xs r r' p p' q new sane f n c) in
     let grown = queue_grows (from_dirs v xs) r r' p p' q new n.queue c in
     record {
-      frontier = front_from v (k + 1) new ys next.members m s;
+      frontier = frontier_from v (k + 1) new ys next.members m s;
       knows = record {
         reached = next.reached;
         parent = next.parent;
@@ -108,11 +108,11 @@ counted_on g low high q q' starts f f' m m' l kept i c =
           let one = ap (λ z. count_of g z x) parts
           ∙ sum_by-append (λ s. counted_in g s x) (take low q) (drop low (take high q)) in
           let two = i.references x b in
-          let three = c.references x b in
+          let three = c.counts x b in
           omega (arith, one, two, three);
       named = λ x b.
           sym (or-false (bool_at m' x))
-          ∙ (c.named x b ∙ (ap (λ y. y || any_of g (drop low (take high q)) x) (i.named x b)
+          ∙ (c.names x b ∙ (ap (λ y. y || any_of g (drop low (take high q)) x) (i.named x b)
           ∙ (sym (any_of-append g (take low q) (drop low (take high q)) x) ∙ ap (λ z. any_of g z x) (sym parts))));
     }
 

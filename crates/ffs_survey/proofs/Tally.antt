@@ -38,9 +38,9 @@ pub entry_counted : (n : ℕ) (c : ℕ → ℕ) (a : ℕ → Bool) (e : RoledEnt
     → ((x : ℕ) → x < n → bool_at m'' x ≡ (bool_at m' x || is_naming_entry x e))
     → Counts n c a f m (count_in rest) (any_in rest) f'' m''
 entry_counted n c a e rest f f' f'' m m' m'' h u w = record {
-  references = λ x l. count_step (number_at f' x) (number_at f'' x) (bit (refers x e)) (count_in rest x) _ (u x l)
-      (ap (λ k. number_at f' x + k) (sym (count_by-step (refers x) e rest)) ∙ h.references x l);
-  named = λ x l. any_step (bool_at m' x) (bool_at m'' x) (is_naming_entry x e) (any_in rest x) _ (w x l) (h.named x l);
+  counts = λ x l. count_step (number_at f' x) (number_at f'' x) (bit (refers x e)) (count_in rest x) _ (u x l)
+      (ap (λ k. number_at f' x + k) (sym (count_by-step (refers x) e rest)) ∙ h.counts x l);
+  names = λ x l. any_step (bool_at m' x) (bool_at m'' x) (is_naming_entry x e) (any_in rest x) _ (w x l) (h.names x l);
 }
 
 -- the step of the loop over a level
@@ -59,19 +59,19 @@ dir_counted n c a kinds entries frontier i f f' f'' m m' m'' l d h k =
     let rest = drop (i + 1) frontier in
     let cut : drop i frontier ≡ s ∷ rest = rw (add-one, drop-cons frontier i 0) in
     record {
-      references = λ x b.
+      counts = λ x b.
           let one = ap (λ z. count_of g z x) cut ∙ sum_by-cons (λ s. counted_in g s x) s rest in
           let two : counted_in g s x ≡ count_in (entries s) x =
           cond-true (dir_at kinds s) (count_in (entries s) x) 0 d in
-          let three = h.references x b in
-          let four = k.references x b in
+          let three = h.counts x b in
+          let four = k.counts x b in
           omega (arith, one, two, three, four);
-      named = λ x b.
+      names = λ x b.
           let two : (is_naming_dir g s x || any_of g rest x) ≡ (any_in (entries s) x || any_of g rest x) =
           ap (λ y. (y && any_in (entries s) x) || any_of g rest x) d in
           any_step (bool_at m' x) (bool_at m'' x) (any_in (entries s) x) (any_of g rest x) _
-          (sym (or-false (bool_at m'' x)) ∙ k.named x b)
-          (ap (λ y. bool_at m' x || y) (sym (ap (λ z. any_of g z x) cut ∙ two)) ∙ h.named x b);
+          (sym (or-false (bool_at m'' x)) ∙ k.names x b)
+          (ap (λ y. bool_at m' x || y) (sym (ap (λ z. any_of g z x) cut ∙ two)) ∙ h.names x b);
     }
 
 pub bit-le : (b : Bool) → bit b ≤ 1

@@ -12,17 +12,13 @@ use Rattle.ffs_volume.specs.Directories.Graph.{Graph, is_naming_dir}
 use Rattle.ffs_survey.specs.Survey.{counted_in, counted_below}
 use Rattle.ffs_survey.specs.Costs.{costs_below}
 use Rattle.ffs_survey.specs.Discover.{bit, occurrences, count_of, any_of, counted_by}
-use Rattle.ffs_survey.proofs.Frontiers.{occurrences-cases, occurrences-cons}
+use Rattle.ffs_survey.proofs.Frontiers.{occurrences-cases, occurrences-cons, occurrences-nil, bit-one}
 
 abbrev part : (ℕ → ℕ) → ℕ → List ℕ → ℕ
 part c n q = sum_by (λ s. cond (nat_lt s n) (c s) 0) q
 
 abbrev here : ℕ → ℕ → List ℕ → ℕ
 here k n q = sum_by (λ s. cond (s == n) k 0) q
-
-nil-occurrences : (t : ℕ) → occurrences t [] ≡ 0
-unfolding occurrences
-nil-occurrences t = refl
 
 -- a number that isn't there adds nothing
 here-none : (k n : ℕ) (q : List ℕ) → occurrences n q ≡ 0 → here k n q ≡ 0
@@ -41,7 +37,7 @@ here-none k n (y ∷ q) h =
 
 -- and one that is there once adds its share
 here-once : (k n : ℕ) (q : List ℕ) → occurrences n q ≡ 1 → here k n q ≡ k
-here-once k n [] h = absurd (let z = nil-occurrences n in omega arith)
+here-once k n [] h = absurd (let z = occurrences-nil n in omega arith)
 here-once k n (y ∷ q) h =
     let c = occurrences-cons n y q in
     let e = sum_by-cons (λ s. cond (s == n) k 0) y q in
@@ -150,16 +146,12 @@ any-gives p (y ∷ q) h =
     ]
 
 any-from : (p : ℕ → Bool) (q : List ℕ) (y : ℕ) → 1 ≤ occurrences y q → p y ≡ true → list_any p q ≡ true
-any-from p [] y l h = absurd (let e = nil-occurrences y in omega arith)
+any-from p [] y l h = absurd (let e = occurrences-nil y in omega arith)
 any-from p (z ∷ q) y l h =
     elim (occurrences-cases y z q l) [
       | inl same ↦ or_left (p z) (list_any p q) (ap p same ∙ h)
       | inr m ↦ or_right (p z) (list_any p q) (any-from p q y m h)
     ]
-
-passes : (b : Bool) (n : ℕ) → n ≡ bit b → 1 ≤ n → b ≡ true
-passes true n e h = refl
-passes false n e h = absurd (omega arith)
 
 pub any_all : (g : Graph) (r : ℕ → Bool) (q : List ℕ) (n x : ℕ) → ((s : ℕ) → occurrences s q ≡ bit (r s)) →
     ((s : ℕ) → n ≤ s → r s ≡ false) → any_of g q x ≡ some_below (λ s. r s && is_naming_dir g s x) n
@@ -167,7 +159,7 @@ any_all g r q n x h past =
     elim (cases_Bool (any_of g q x)) [
       | inl y ↦
           let w = any-gives (λ s. is_naming_dir g s x) q y in
-          let m = passes (r w.0) _ (h w.0) w.1 in
+          let m = bit-one (r w.0) _ (h w.0) w.1 in
           let l : w.0 < n = (elim (cases_lt w.0 n) [ inl l ↦ l | inr b ↦ absurd (both_ways (r w.0) (past w.0 b) m) ]) in
           y ∙ sym (some_below-from (λ s. r s && is_naming_dir g s x) n w.0 l (and_from (r w.0) (is_naming_dir g w.0 x) m
           w.2))

@@ -15,8 +15,8 @@ use Rattle.ffs_volume.proofs.Graphs.{IsSane}
 use Rattle.ffs_volume.proofs.LevelLaws.{reached-edge, reached-root}
 use Rattle.ffs_survey.specs.Survey.{bool_at, number_at, dir_at, is_dir_kind, graph_with, counted_in, start_in}
 use Rattle.ffs_survey.specs.Survey.{IsSurvey}
-use Rattle.ffs_survey.specs.Discover.{Counts, count_in, any_in, none, never, counted_by, IsReachedPart, is_free}
-use Rattle.ffs_survey.specs.Discover.{is_free_edge, IsRead}
+use Rattle.ffs_survey.specs.Discover.{Counts, count_in, any_in, none, never, counted_by, IsReachedPart, is_unreached_dir}
+use Rattle.ffs_survey.specs.Discover.{is_unreached_edge, IsRead}
 use Rattle.ffs_volume.proofs.Unreached.{parent-unreached}
 use Rattle.ffs_survey.proofs.Totals.{counted_both, some_both}
 use Rattle.ffs_survey.proofs.Discovered.{dir_below}
@@ -54,42 +54,42 @@ first_step p s o q q' a z k e h w = go (first_below p s) (p s) refl e h
     go None false i j u = w ∙ (cond-false ((q == 0) && a) s q (and_right (q == 0) a (sym j)) ∙ u)
 
 zero-edge : (kinds : List ℕ) (entries : ℕ → List RoledEntry) (r : List Bool) (x : ℕ) →
-    is_free_edge (graph_with kinds entries) kinds r x 0 ≡ false
+    is_unreached_edge (graph_with kinds entries) kinds r x 0 ≡ false
 zero-edge kinds entries r x =
-    and_right (is_free kinds r x) _ (and_right (not (bool_at r 0)) (is_naming_dir (graph_with kinds entries) 0 x)
+    and_right (is_unreached_dir kinds r x) _ (and_right (not (bool_at r 0)) (is_naming_dir (graph_with kinds entries) 0 x)
     (and_left (dir_at kinds 0) (list_any (is_naming_entry x) (entries 0))
     (and_left (nat_le 2 0) (is_dir_kind (number_at kinds 0)) refl)))
 
 -- a directory without a mark is read
 pub read_on : (kinds : List ℕ) (entries : ℕ → List RoledEntry) (r : List Bool) (s : ℕ) (f f' f'' : List ℕ)
     (m m' m'' : List Bool) (p p' p'' : List ℕ)
-    → is_free kinds r s ≡ true → ((x : ℕ) → is_free kinds r x ≡ true → number_at p x ≡ 0)
+    → is_unreached_dir kinds r s ≡ true → ((x : ℕ) → is_unreached_dir kinds r x ≡ true → number_at p x ≡ 0)
     → IsRead (graph_with kinds entries) kinds r s f m p f' m' p'
     → Counts (length kinds) (count_in (entries s)) (any_in (entries s)) f' m' none never f'' m''
     → ((x : ℕ) → x < length kinds →
-    number_at p'' x ≡ cond ((number_at p' x == 0) && (is_free kinds r x && any_in (entries s) x)) s
+    number_at p'' x ≡ cond ((number_at p' x == 0) && (is_unreached_dir kinds r x && any_in (entries s) x)) s
     (number_at p' x))
     → IsRead (graph_with kinds entries) kinds r (s + 1) f m p f'' m'' p''
 unfolding counted_by
-read_on kinds entries r s f f' f'' m m' m'' p p' p'' free blank i c u =
+read_on kinds entries r s f f' f'' m m' m'' p p' p'' unreached blank i c u =
     subst (λ n. IsRead g kinds r n f m p f'' m'' p'') one (record {
       references = λ x l.
           let a = i.references x l in
-          let b = c.references x l in
+          let b = c.counts x l in
           let d = cond-true (not (bool_at r s)) (counted_in g s x) 0 unmarked in
           let e = cond-true (dir_at kinds s) (count_in (entries s) x) 0 dir in
           omega (arith, a, b, d, e);
       named = λ x l.
-          sym (or-false (bool_at m'' x)) ∙ (c.named x l ∙ (ap (λ y. y || any_in (entries s) x) (i.named x l)
+          sym (or-false (bool_at m'' x)) ∙ (c.names x l ∙ (ap (λ y. y || any_in (entries s) x) (i.named x l)
           ∙ (ap (λ y. (bool_at m x || some_below (λ t. not (bool_at r t) && is_naming_dir g t x) s) || y) (share x)
           ∙ (assoc (bool_at m x) (some_below (λ t. not (bool_at r t) && is_naming_dir g t x) s)
           (not (bool_at r s) && is_naming_dir g s x)
           ∙ ap (λ y. bool_at m x || y) (sym (some_below-suc (λ t. not (bool_at r t) && is_naming_dir g t x) s))))));
       parents = λ x l.
-          first_step (is_free_edge g kinds r x) s (number_at p x) (number_at p' x) (number_at p'' x)
-          (is_free kinds r x && any_in (entries s) x) (zero-edge kinds entries r x)
-          (λ t. blank x (and_parts (is_free kinds r x) (any_in (entries s) x) t).0)
-          (ap (λ y. is_free kinds r x && y) (sym (share x))) (i.parents x l) (u x l);
+          first_step (is_unreached_edge g kinds r x) s (number_at p x) (number_at p' x) (number_at p'' x)
+          (is_unreached_dir kinds r x && any_in (entries s) x) (zero-edge kinds entries r x)
+          (λ t. blank x (and_parts (is_unreached_dir kinds r x) (any_in (entries s) x) t).0)
+          (ap (λ y. is_unreached_dir kinds r x && y) (sym (share x))) (i.parents x l) (u x l);
     })
   where
     g : Graph
@@ -99,10 +99,10 @@ read_on kinds entries r s f f' f'' m m' m'' p p' p'' free blank i c u =
     one = omega arith
 
     dir : dir_at kinds s ≡ true
-    dir = (and_parts (dir_at kinds s) (not (bool_at r s)) free).0
+    dir = (and_parts (dir_at kinds s) (not (bool_at r s)) unreached).0
 
     unmarked : not (bool_at r s) ≡ true
-    unmarked = (and_parts (dir_at kinds s) (not (bool_at r s)) free).1
+    unmarked = (and_parts (dir_at kinds s) (not (bool_at r s)) unreached).1
 
     assoc : (a b d : Bool) → ((a || b) || d) ≡ (a || (b || d))
     assoc true b d = refl
@@ -119,7 +119,7 @@ read_on kinds entries r s f f' f'' m m' m'' p p' p'' free blank i c u =
 -- any other is passed over
 pub read_skip : (kinds : List ℕ) (entries : ℕ → List RoledEntry) (r : List Bool) (s : ℕ) (f f' : List ℕ)
     (m m' : List Bool) (p p' : List ℕ)
-    → is_free kinds r s ≡ false → IsRead (graph_with kinds entries) kinds r s f m p f' m' p' →
+    → is_unreached_dir kinds r s ≡ false → IsRead (graph_with kinds entries) kinds r s f m p f' m' p' →
     IsRead (graph_with kinds entries) kinds r (s + 1) f m p f' m' p'
 unfolding counted_by first_below earliest
 read_skip kinds entries r s f f' m m' p p' taken i = subst (λ n. IsRead g kinds r n f m p f' m' p') one (record {
@@ -130,7 +130,7 @@ read_skip kinds entries r s f f' m m' p p' taken i = subst (λ n. IsRead g kinds
       (sym (some_below-suc (λ t. not (bool_at r t) && is_naming_dir g t x) s ∙ or_skip _ _ (no_share x)));
   parents = λ x l. i.parents x l
       ∙ ap (λ o. unwrap_or o (number_at p x))
-      (same_first (first_below (is_free_edge g kinds r x) s) _ (and_right (is_free kinds r x) _ (no_share x)));
+      (same_first (first_below (is_unreached_edge g kinds r x) s) _ (and_right (is_unreached_dir kinds r x) _ (no_share x)));
 })
   where
     g : Graph
@@ -164,24 +164,24 @@ read_skip kinds entries r s f f' m m' p p' taken i = subst (λ n. IsRead g kinds
     same_first None false h = refl
 
 -- what has no mark and no parent yet
-pub free_blank : (kinds : List ℕ) (entries : ℕ → List RoledEntry) (starts f : List ℕ) (m r : List Bool) (p : List ℕ)
+pub unreached_blank : (kinds : List ℕ) (entries : ℕ → List RoledEntry) (starts f : List ℕ) (m r : List Bool) (p : List ℕ)
     → IsReachedPart (graph_with kinds entries) starts f m r p
-    → (x : ℕ) → is_free kinds r x ≡ true → number_at p x ≡ 0
-free_blank kinds entries starts f m r p i x h =
+    → (x : ℕ) → is_unreached_dir kinds r x ≡ true → number_at p x ≡ 0
+unreached_blank kinds entries starts f m r p i x h =
     let g = graph_with kinds entries in
     let off : bool_at r x ≡ false = not-true _ (and_parts (dir_at kinds x) (not (bool_at r x)) h).1 in
     i.parent x ∙ ap (λ o. unwrap_or o 0) (cond-false (is_some (level g x)) (parent g x) None (sym (i.reached x) ∙ off))
 
 -- a reached directory has no edge to an unreached one
-free_edges : (kinds : List ℕ) (entries : ℕ → List RoledEntry) (r : List Bool) (x s : ℕ) → s < length kinds →
+unreached_edges : (kinds : List ℕ) (entries : ℕ → List RoledEntry) (r : List Bool) (x s : ℕ) → s < length kinds →
     x < length kinds → ((y : ℕ) → bool_at r y ≡ reached (graph_with kinds entries) y) → bool_at r x ≡ false
-    → is_free_edge (graph_with kinds entries) kinds r x s ≡ edge (graph_with kinds entries) s x
-free_edges kinds entries r x s ls lx h off =
+    → is_unreached_edge (graph_with kinds entries) kinds r x s ≡ edge (graph_with kinds entries) s x
+unreached_edges kinds entries r x s ls lx h off =
     elim (cases_Bool (bool_at r s)) [
       | inl y ↦
           let none : edge g s x ≡ false = false_from_ne_true (edge g s x)
           (λ t. both_ways (reached g x) (sym (h x) ∙ off) (reached-edge g s x ls lx (sym (h s) ∙ y) t)) in
-          and_right (is_free kinds r x) _ (and_left (not (bool_at r s)) (is_naming_dir g s x) (ap not y)) ∙ sym none
+          and_right (is_unreached_dir kinds r x) _ (and_left (not (bool_at r s)) (is_naming_dir g s x) (ap not y)) ∙ sym none
       | inr z ↦ go (dir_at kinds x) (bool_at r x) (bool_at r s) (is_naming_dir g s x) off z
     ]
   where
@@ -213,7 +213,7 @@ survey_whole kinds entries given starts f f' m m' r p p' sane lr lp begins i k =
       ∙ (ap (λ b. b || some_below (λ s. not (bool_at r s) && is_naming_dir g s x) (length kinds)) (i.named x l)
       ∙ some_both (bool_at r) (λ s. is_naming_dir g s x) (length kinds));
   reaches = i.reached;
-  ups = λ x. elim (cases_lt x (length kinds)) [ inl l ↦ below x l | inr b ↦ past x b ];
+  parent_is = λ x. elim (cases_lt x (length kinds)) [ inl l ↦ below x l | inr b ↦ past x b ];
 }
   where
     g : Graph
@@ -237,18 +237,18 @@ survey_whole kinds entries given starts f f' m m' r p p' sane lr lp begins i k =
     below : (x : ℕ) → x < length kinds → number_at p' x ≡ unwrap_or (parent g x) 0
     below x l = elim (cases_Bool (bool_at r x)) [
       | inl on ↦
-          let nothing_free : is_free kinds r x ≡ false = and_right (dir_at kinds x) (not (bool_at r x)) (ap not on) in
+          let nothing_free : is_unreached_dir kinds r x ≡ false = and_right (dir_at kinds x) (not (bool_at r x)) (ap not on) in
           k.parents x l ∙ (ap (λ o. unwrap_or o (number_at p x))
-          (first_below-is_none (is_free_edge g kinds r x) (length kinds)
-          (λ s b. and_left (is_free kinds r x) _ nothing_free))
+          (first_below-is_none (is_unreached_edge g kinds r x) (length kinds)
+          (λ s b. and_left (is_unreached_dir kinds r x) _ nothing_free))
           ∙ (i.parent x ∙ ap (λ o. unwrap_or o 0)
           (cond-true (is_some (level g x)) (parent g x) None (sym (i.reached x) ∙ on))))
       | inr off ↦
           let zero_before : number_at p x ≡ 0 = i.parent x
           ∙ ap (λ o. unwrap_or o 0) (cond-false (is_some (level g x)) (parent g x) None (sym (i.reached x) ∙ off)) in
           k.parents x l ∙ (ap (λ o. unwrap_or o (number_at p x))
-          (first_same (is_free_edge g kinds r x) (λ s. edge g s x) (length kinds)
-          (λ s b. free_edges kinds entries r x s b l i.reached off))
+          (first_same (is_unreached_edge g kinds r x) (λ s. edge g s x) (length kinds)
+          (λ s b. unreached_edges kinds entries r x s b l i.reached off))
           ∙ (ap (unwrap_or (first_below (λ s. edge g s x) (length kinds))) zero_before
           ∙ ap (λ o. unwrap_or o 0) (sym (unreached_first x off))))
     ]

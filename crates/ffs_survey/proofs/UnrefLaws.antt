@@ -10,10 +10,10 @@ use Rattle.ffs_volume.specs.Directories.Graph.{Graph, edge, parent, parent_by, l
 use Rattle.ffs_volume.specs.Directories.Graph.{is_unref_dir_in}
 use Rattle.ffs_volume.proofs.Graphs.{IsSane}
 use Rattle.ffs_survey.specs.Survey.{number_at, IsTree}
-use Rattle.ffs_survey.specs.Cycles.{up_of}
+use Rattle.ffs_survey.specs.Cycles.{parent_in}
 use Rattle.ffs_survey.proofs.Discovered.{dir_below}
 use Rattle.ffs_volume.proofs.Unreached.{edge-parts, IsLost, lost-from}
-use Rattle.ffs_survey.proofs.Walks.{up_of-none, up_of-some}
+use Rattle.ffs_survey.proofs.Walks.{parent_in-none, parent_in-some}
 
 -- what a parent is
 pub record IsParent (v : Graph) (s : ℕ) : Type 0 where
@@ -49,20 +49,20 @@ parent-some v x s sane z h =
     ]
 
 pub up_is_parent : (v : Graph) (p : List ℕ) (x : ℕ) → IsSane v → v.is_dir 0 ≡ false → length p ≡ v.count →
-    number_at p x ≡ unwrap_or (parent v x) 0 → up_of p x ≡ parent v x
+    number_at p x ≡ unwrap_or (parent v x) 0 → parent_in p x ≡ parent v x
 up_is_parent v p x sane z l h = go (parent v x) refl
   where
-    go : (o : Option ℕ) → parent v x ≡ o → up_of p x ≡ parent v x
-    go None e = up_of-none p x (inl (h ∙ ap (λ o. unwrap_or o 0) e)) ∙ sym e
+    go : (o : Option ℕ) → parent v x ≡ o → parent_in p x ≡ parent v x
+    go None e = parent_in-none p x (inl (h ∙ ap (λ o. unwrap_or o 0) e)) ∙ sym e
     go (Some s) e =
         let i = parent-some v x s sane z e in
         let n = i.some in
         let b = i.below in
         let q : number_at p x ≡ s = h ∙ ap (λ o. unwrap_or o 0) e in
-        up_of-some p x (λ y. n (sym q ∙ y)) (omega arith) ∙ (ap Some q ∙ sym e)
+        parent_in-some p x (λ y. n (sym q ∙ y)) (omega arith) ∙ (ap Some q ∙ sym e)
 
 pub leads_is : (v : Graph) (p : List ℕ) (n d : ℕ) → IsSane v → v.is_dir 0 ≡ false → length p ≡ v.count →
-    ((x : ℕ) → number_at p x ≡ unwrap_or (parent v x) 0) → is_leader_within (up_of p) n d ≡ is_leader_within (parent v)
+    ((x : ℕ) → number_at p x ≡ unwrap_or (parent v x) 0) → is_leader_within (parent_in p) n d ≡ is_leader_within (parent v)
     n d
 leads_is v p n d sane z l h = ap (λ f. is_leader_within f n d) (fun_ext (λ x. up_is_parent v p x sane z l (h x)))
 
@@ -98,24 +98,24 @@ pub parent-below : (v : Graph) (kinds : List ℕ) (r : List Bool) (p : List ℕ)
 parent-below v kinds r p d t = go (parent v d) refl
   where
     go : (o : Option ℕ) → parent v d ≡ o → number_at p d < length kinds
-    go None e = let q : number_at p d ≡ 0 = t.ups d ∙ ap (λ o. unwrap_or o 0) e in let s = t.some in let c = t.count in
+    go None e = let q : number_at p d ≡ 0 = t.parent_is d ∙ ap (λ o. unwrap_or o 0) e in let s = t.some in let c = t.count in
         omega arith
-    go (Some s) e = let q : number_at p d ≡ s = t.ups d ∙ ap (λ o. unwrap_or o 0) e in
+    go (Some s) e = let q : number_at p d ≡ s = t.parent_is d ∙ ap (λ o. unwrap_or o 0) e in
         let b = (parent-some v d s (tree-sane v kinds r p t) (tree-zero v kinds r p t) e).below in let c = t.count in
         omega arith
 
 pub unref_is : (v : Graph) (suspect : ℕ → Bool) (kinds : List ℕ) (r : List Bool) (p : List ℕ) (d : ℕ) →
     length p ≡ length kinds → IsTree v kinds r p → IsLost v suspect d
     → is_unref_dir_in v suspect d
-    ≡ (cond (number_at p d == 0) true (is_dead_in v suspect (number_at p d)) || is_leader_within (up_of p) (length p) d)
+    ≡ (cond (number_at p d == 0) true (is_dead_in v suspect (number_at p d)) || is_leader_within (parent_in p) (length p) d)
 unref_is v suspect kinds r p d lp t l =
     let sane = tree-sane v kinds r p t in
     let z = tree-zero v kinds r p t in
     let full : length p ≡ v.count = lp ∙ sym t.count in
     ap (λ b. b && (none_or_dead v suspect (parent v d) || is_leader_within (parent v) v.count d)) (lost-from v suspect d
     l)
-    ∙ (ap (λ b. b || is_leader_within (parent v) v.count d) (none_or_dead_is v suspect p d sane z (t.ups d))
+    ∙ (ap (λ b. b || is_leader_within (parent v) v.count d) (none_or_dead_is v suspect p d sane z (t.parent_is d))
     ∙ (ap (λ b. cond (number_at p d == 0) true (is_dead_in v suspect (number_at p d)) || b)
-    (sym (leads_is v p v.count d sane z full t.ups))
-    ∙ ap (λ n. cond (number_at p d == 0) true (is_dead_in v suspect (number_at p d)) || is_leader_within (up_of p) n d)
+    (sym (leads_is v p v.count d sane z full t.parent_is))
+    ∙ ap (λ n. cond (number_at p d == 0) true (is_dead_in v suspect (number_at p d)) || is_leader_within (parent_in p) n d)
     (sym full)))

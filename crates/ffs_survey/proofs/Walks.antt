@@ -18,17 +18,17 @@ use Rattle.ffs_volume.proofs.ClimbLaws.{
 }
 use Rattle.ffs_survey.specs.Survey.{number_at, bool_at}
 use Rattle.ffs_survey.specs.Discover.{bit}
-use Rattle.ffs_survey.specs.Cycles.{up_of, without_stamp, IsClosed, GotStamp, Walked, FindsCycle, IsLeastOn, MarksLeaders}
+use Rattle.ffs_survey.specs.Cycles.{parent_in, unmet, IsClosed, IsMet, Walked, FindsCycle, IsLeastOn, MarksLeaders}
 
--- the state of a walk: after `steps` steps from `start` it is at `place`, which has no stamp yet
-pub record Walking (f : ℕ → Option ℕ) (start mark steps place : ℕ) (old new : List ℕ) : Type 0 where
-  pub place_is : climb f steps start ≡ Some place
-  pub free : number_at new place ≡ 0
+-- the state of a walk: after `steps` steps from `start` it is at the number `at`, which no walk has passed yet
+pub record Walking (f : ℕ → Option ℕ) (start mark steps at : ℕ) (old new : List ℕ) : Type 0 where
+  pub at_is : climb f steps start ≡ Some at
+  pub is_unmet : number_at new at ≡ 0
   pub kept : (x : ℕ) → number_at old x ≢ 0 → number_at new x ≡ number_at old x
   pub fresh : (x : ℕ) → number_at old x ≡ 0 → number_at new x ≢ 0 → number_at new x ≡ mark
-  pub passed : (x : ℕ) → GotStamp old new x → (i : ℕ) × (i < steps) × (climb f i start ≡ Some x)
+  pub passed : (x : ℕ) → IsMet old new x → (i : ℕ) × (i < steps) × (climb f i start ≡ Some x)
   pub path : (i x : ℕ) → i < steps → climb f i start ≡ Some x → number_at new x ≡ mark
-  pub count : steps + without_stamp new ≡ without_stamp old
+  pub count : steps + unmet new ≡ unmet old
 
 pub cycle-back : (f : ℕ → Option ℕ) (j y p : ℕ) → IsOnCycle f y → climb f j y ≡ Some p → (m : ℕ) × (climb f m p ≡ Some y)
 cycle-back f j y p c h =
@@ -37,66 +37,66 @@ cycle-back f j y p c h =
     let q : (suc c.length - w.0) + w.0 ≡ suc c.length = omega arith in
     (suc c.length - w.0, sym (climb-add f (suc c.length - w.0) w.0 y p w.2) ∙ (ap (λ m. climb f m y) q ∙ c.returns))
 
-pub closed-climb : (f : ℕ → Option ℕ) (stamp : List ℕ) (k x y : ℕ) → IsClosed f stamp → number_at stamp x ≢ 0 →
-    climb f k x ≡ Some y → number_at stamp y ≢ 0
-closed-climb f stamp zero x y c s h = let e : Some x ≡ Some y = sym (climb-zero f x) ∙ h in let q : x ≡ y = cc in
-    subst (λ z. number_at stamp z ≢ 0) q s
-closed-climb f stamp (suc k) x y c s h = let l = climb-last f k x y h in
-    c.above l.0 y (closed-climb f stamp k x l.0 c s l.1) l.2
+pub closed-climb : (f : ℕ → Option ℕ) (walk_of : List ℕ) (k x y : ℕ) → IsClosed f walk_of → number_at walk_of x ≢ 0 →
+    climb f k x ≡ Some y → number_at walk_of y ≢ 0
+closed-climb f walk_of zero x y c s h = let e : Some x ≡ Some y = sym (climb-zero f x) ∙ h in let q : x ≡ y = cc in
+    subst (λ z. number_at walk_of z ≢ 0) q s
+closed-climb f walk_of (suc k) x y c s h = let l = climb-last f k x y h in
+    c.parent l.0 y (closed-climb f walk_of k x l.0 c s l.1) l.2
 
-pub without_stamp-set : (stamp : List ℕ) (x m : ℕ) → x < length stamp → number_at stamp x ≡ 0 → (m ≡ 0 → ⊥) →
-    without_stamp (set stamp x m) + 1 ≡ without_stamp stamp
-unfolding without_stamp
-without_stamp-set stamp x m l e n =
-    let h = sum_by-set (λ y. bit (y == 0)) stamp x m 0 l in
-    let one : bit (number_at stamp x == 0) ≡ 1 = ap bit (eq-eqb (number_at stamp x) 0 e) in
+pub unmet-set : (walk_of : List ℕ) (x m : ℕ) → x < length walk_of → number_at walk_of x ≡ 0 → (m ≡ 0 → ⊥) →
+    unmet (set walk_of x m) + 1 ≡ unmet walk_of
+unfolding unmet
+unmet-set walk_of x m l e n =
+    let h = sum_by-set (λ y. bit (y == 0)) walk_of x m 0 l in
+    let one : bit (number_at walk_of x == 0) ≡ 1 = ap bit (eq-eqb (number_at walk_of x) 0 e) in
     let none : bit (m == 0) ≡ 0 = ap bit (ne_eqb m 0 n) in
     omega (arith, h, one, none)
 
--- the stamp is set at the place
-pub record Stamped (f : ℕ → Option ℕ) (start mark steps place : ℕ) (old new : List ℕ) : Type 0 where
-  pub place_is : climb f steps start ≡ Some place
+-- the same, once the walk has passed `at`
+pub record HasPassed (f : ℕ → Option ℕ) (start mark steps at : ℕ) (old new : List ℕ) : Type 0 where
+  pub at_is : climb f steps start ≡ Some at
   pub kept : (x : ℕ) → number_at old x ≢ 0 → number_at new x ≡ number_at old x
   pub fresh : (x : ℕ) → number_at old x ≡ 0 → number_at new x ≢ 0 → number_at new x ≡ mark
-  pub passed : (x : ℕ) → GotStamp old new x → (i : ℕ) × (i ≤ steps) × (climb f i start ≡ Some x)
+  pub passed : (x : ℕ) → IsMet old new x → (i : ℕ) × (i ≤ steps) × (climb f i start ≡ Some x)
   pub path : (i x : ℕ) → i ≤ steps → climb f i start ≡ Some x → number_at new x ≡ mark
-  pub count : suc steps + without_stamp new ≡ without_stamp old
+  pub count : suc steps + unmet new ≡ unmet old
 
-pub stamped : (f : ℕ → Option ℕ) (start mark steps place : ℕ) (old new : List ℕ) → mark ≢ 0 → place < length new →
-    Walking f start mark steps place old new → Stamped f start mark steps place old (set new place mark)
-stamped f start mark steps place old new m l w = record {
-  place_is = w.place_is;
-  kept = λ x o. elim (cases_eq x place) [
-    | inl y ↦ absurd (o (sym (w.kept x o) ∙ (ap (number_at new) y ∙ w.free)))
-    | inr n ↦ get_or-set_other new place x mark 0 n ∙ w.kept x o
+pub has_passed : (f : ℕ → Option ℕ) (start mark steps at : ℕ) (old new : List ℕ) → mark ≢ 0 → at < length new →
+    Walking f start mark steps at old new → HasPassed f start mark steps at old (set new at mark)
+has_passed f start mark steps at old new m l w = record {
+  at_is = w.at_is;
+  kept = λ x o. elim (cases_eq x at) [
+    | inl y ↦ absurd (o (sym (w.kept x o) ∙ (ap (number_at new) y ∙ w.is_unmet)))
+    | inr n ↦ get_or-set_other new at x mark 0 n ∙ w.kept x o
   ];
-  fresh = λ x o s. elim (cases_eq x place) [
-    | inl y ↦ ap (number_at (set new place mark)) y ∙ get_or-set_same new place mark 0 l
-    | inr n ↦ get_or-set_other new place x mark 0 n ∙ w.fresh x o (λ z. s (get_or-set_other new place x mark 0 n ∙ z))
+  fresh = λ x o s. elim (cases_eq x at) [
+    | inl y ↦ ap (number_at (set new at mark)) y ∙ get_or-set_same new at mark 0 l
+    | inr n ↦ get_or-set_other new at x mark 0 n ∙ w.fresh x o (λ z. s (get_or-set_other new at x mark 0 n ∙ z))
   ];
-  passed = λ x i. elim (cases_eq x place) [
-    | inl y ↦ (steps, omega arith, w.place_is ∙ ap Some (sym y))
-    | inr n ↦ let p = w.passed x (record { was = i.was; is = λ z. i.is (get_or-set_other new place x mark 0 n ∙ z) }) in
+  passed = λ x i. elim (cases_eq x at) [
+    | inl y ↦ (steps, omega arith, w.at_is ∙ ap Some (sym y))
+    | inr n ↦ let p = w.passed x (record { was = i.was; is = λ z. i.is (get_or-set_other new at x mark 0 n ∙ z) }) in
         let b = p.1 in (p.0, omega arith, p.2)
   ];
-  path = λ i x b h. elim (cases_eq x place) [
-    | inl y ↦ ap (number_at (set new place mark)) y ∙ get_or-set_same new place mark 0 l
+  path = λ i x b h. elim (cases_eq x at) [
+    | inl y ↦ ap (number_at (set new at mark)) y ∙ get_or-set_same new at mark 0 l
     | inr n ↦ elim (cases_lt i steps) [
-      | inl lt ↦ get_or-set_other new place x mark 0 n ∙ w.path i x lt h
-      | inr ge ↦ absurd (let q : i ≡ steps = omega arith in let e : Some x ≡ Some place = sym h
-          ∙ (ap (λ k. climb f k start) q ∙ w.place_is) in n (cc))
+      | inl lt ↦ get_or-set_other new at x mark 0 n ∙ w.path i x lt h
+      | inr ge ↦ absurd (let q : i ≡ steps = omega arith in let e : Some x ≡ Some at = sym h
+          ∙ (ap (λ k. climb f k start) q ∙ w.at_is) in n (cc))
     ]
   ];
-  count = let z = without_stamp-set new place mark l w.free m in let c = w.count in omega arith;
+  count = let z = unmet-set new at mark l w.is_unmet m in let c = w.count in omega arith;
 }
 
--- the next place has no stamp: the walk continues
-pub walks_on : (f : ℕ → Option ℕ) (start mark steps place next : ℕ) (old new : List ℕ) →
-    Stamped f start mark steps place old new → f place ≡ Some next → number_at new next ≡ 0 →
+-- no walk has passed the next number: the walk continues
+pub walks_on : (f : ℕ → Option ℕ) (start mark steps at next : ℕ) (old new : List ℕ) →
+    HasPassed f start mark steps at old new → f at ≡ Some next → number_at new next ≡ 0 →
     Walking f start mark (suc steps) next old new
-walks_on f start mark steps place next old new s h z = record {
-  place_is = climb-suc f steps start place s.place_is ∙ h;
-  free = z;
+walks_on f start mark steps at next old new s h z = record {
+  at_is = climb-suc f steps start at s.at_is ∙ h;
+  is_unmet = z;
   kept = s.kept;
   fresh = s.fresh;
   passed = λ x i. let p = s.passed x i in let b = p.1 in (p.0, omega arith, p.2);
@@ -104,12 +104,12 @@ walks_on f start mark steps place next old new s h z = record {
   count = s.count;
 }
 
--- the walk ends where nothing is above, or above is stamped
-ends_closed : (f : ℕ → Option ℕ) (start mark steps place : ℕ) (old new : List ℕ) → mark ≢ 0 → IsClosed f old →
-    Stamped f start mark steps place old new → ((y : ℕ) → f place ≡ Some y → number_at new y ≢ 0) → IsClosed f new
-ends_closed f start mark steps place old new m c s e = record {
-  above = λ x y h u. elim (cases_eq (number_at old x) 0) [
-    | inr n ↦ (λ z. c.above x y n u (sym (keep y z) ∙ z))
+-- the walk ends where there is no parent, or one that a walk has passed
+ends_closed : (f : ℕ → Option ℕ) (start mark steps at : ℕ) (old new : List ℕ) → mark ≢ 0 → IsClosed f old →
+    HasPassed f start mark steps at old new → ((y : ℕ) → f at ≡ Some y → number_at new y ≢ 0) → IsClosed f new
+ends_closed f start mark steps at old new m c s e = record {
+  parent = λ x y h u. elim (cases_eq (number_at old x) 0) [
+    | inr n ↦ (λ z. c.parent x y n u (sym (keep y z) ∙ z))
     | inl o ↦
         let p = s.passed x (record { was = o; is = h }) in
         elim (cases_lt p.0 steps) [
@@ -117,8 +117,8 @@ ends_closed f start mark steps place old new m c s e = record {
           | inr ge ↦
               let b = p.1 in
               let q : p.0 ≡ steps = omega arith in
-              let w : Some x ≡ Some place = sym p.2 ∙ (ap (λ k. climb f k start) q ∙ s.place_is) in
-              let xp : x ≡ place = cc in
+              let w : Some x ≡ Some at = sym p.2 ∙ (ap (λ k. climb f k start) q ∙ s.at_is) in
+              let xp : x ≡ at = cc in
               e y (sym (ap f xp) ∙ u)
         ]
   ];
@@ -127,55 +127,55 @@ ends_closed f start mark steps place old new m c s e = record {
     keep : (y : ℕ) → number_at new y ≡ 0 → number_at new y ≡ number_at old y
     keep y z = elim (cases_eq (number_at old y) 0) [ inl o ↦ z ∙ sym o | inr n ↦ s.kept y n ]
 
-pub walked : (f : ℕ → Option ℕ) (start mark steps place : ℕ) (old new : List ℕ) → mark ≢ 0 → IsClosed f old →
-    Stamped f start mark steps place old new → ((y : ℕ) → f place ≡ Some y → number_at new y ≢ 0) →
+pub walked : (f : ℕ → Option ℕ) (start mark steps at : ℕ) (old new : List ℕ) → mark ≢ 0 → IsClosed f old →
+    HasPassed f start mark steps at old new → ((y : ℕ) → f at ≡ Some y → number_at new y ≢ 0) →
     Walked f start mark old new
-walked f start mark steps place old new m c s e = record {
+walked f start mark steps at old new m c s e = record {
   kept = s.kept;
   fresh = s.fresh;
   begun = (λ z. m (sym (s.path 0 start (omega arith) (climb-zero f start)) ∙ z));
-  closed = ends_closed f start mark steps place old new m c s e;
+  closed = ends_closed f start mark steps at old new m c s e;
 }
 
--- a new one on a cycle is above what is above the last place
-pub above_last : (f : ℕ → Option ℕ) (start mark steps place x next : ℕ) (old new : List ℕ) →
-    Stamped f start mark steps place old new → f place ≡ Some next → GotStamp old new x → IsOnCycle f x →
+-- a number on a cycle that this walk met is reached from the parent of the last number
+pub after_last : (f : ℕ → Option ℕ) (start mark steps at x next : ℕ) (old new : List ℕ) →
+    HasPassed f start mark steps at old new → f at ≡ Some next → IsMet old new x → IsOnCycle f x →
     (k : ℕ) × (climb f k next ≡ Some x)
-above_last f start mark steps place x next old new s h i c =
+after_last f start mark steps at x next old new s h i c =
     let p = s.passed x i in
     let b = p.1 in
     let q : (suc steps - p.0) + p.0 ≡ suc steps = omega arith in
     let there : climb f (suc steps - p.0) x ≡ Some next = sym (climb-add f (suc steps - p.0) p.0 start x p.2)
-    ∙ (ap (λ k. climb f k start) q ∙ (climb-suc f steps start place s.place_is ∙ h)) in
+    ∙ (ap (λ k. climb f k start) q ∙ (climb-suc f steps start at s.at_is ∙ h)) in
     cycle-back f (suc steps - p.0) x next c there
 
--- nothing above: no cycle
-pub no_cycle_end : (f : ℕ → Option ℕ) (start mark steps place x : ℕ) (old new : List ℕ) →
-    Stamped f start mark steps place old new → f place ≡ None → GotStamp old new x → IsOnCycle f x → ⊥
-no_cycle_end f start mark steps place x old new s h i c =
+-- no parent: no cycle
+pub no_cycle_end : (f : ℕ → Option ℕ) (start mark steps at x : ℕ) (old new : List ℕ) →
+    HasPassed f start mark steps at old new → f at ≡ None → IsMet old new x → IsOnCycle f x → ⊥
+no_cycle_end f start mark steps at x old new s h i c =
     let p = s.passed x i in
     let b = p.1 in
     let q : (suc steps - p.0) + p.0 ≡ suc steps = omega arith in
     let there : climb f (suc steps - p.0) x ≡ None = sym (climb-add f (suc steps - p.0) p.0 start x p.2)
-    ∙ (ap (λ k. climb f k start) q ∙ (climb-suc f steps start place s.place_is ∙ h)) in
+    ∙ (ap (λ k. climb f k start) q ∙ (climb-suc f steps start at s.at_is ∙ h)) in
     let goes = cycle-goes f (suc steps - p.0) x c in
     let e : None ≡ Some goes.0 = sym there ∙ goes.1 in
     cc
 
--- an older stamp above: no cycle
-pub no_cycle_old : (f : ℕ → Option ℕ) (start mark steps place next x : ℕ) (old new : List ℕ) → IsClosed f old →
-    Stamped f start mark steps place old new → f place ≡ Some next → number_at old next ≢ 0 → GotStamp old new x →
+-- a parent that an earlier walk has passed: no cycle
+pub no_cycle_old : (f : ℕ → Option ℕ) (start mark steps at next x : ℕ) (old new : List ℕ) → IsClosed f old →
+    HasPassed f start mark steps at old new → f at ≡ Some next → number_at old next ≢ 0 → IsMet old new x →
     IsOnCycle f x → ⊥
-no_cycle_old f start mark steps place next x old new cl s h o i c =
-    let k = above_last f start mark steps place x next old new s h i c in
+no_cycle_old f start mark steps at next x old new cl s h o i c =
+    let k = after_last f start mark steps at x next old new s h i c in
     closed-climb f old k.0 next x cl o k.1 i.was
 
--- the walk's own stamp above: a cycle
-pub finds_cycle : (f : ℕ → Option ℕ) (start mark steps place next n : ℕ) (old new : List ℕ) → mark ≢ 0 → steps < n →
-    Stamped f start mark steps place old new → f place ≡ Some next → number_at old next ≡ 0 → number_at new next ≡ mark
+-- a parent that this walk has passed: a cycle
+pub finds_cycle : (f : ℕ → Option ℕ) (start mark steps at next n : ℕ) (old new : List ℕ) → mark ≢ 0 → steps < n →
+    HasPassed f start mark steps at old new → f at ≡ Some next → number_at old next ≡ 0 → number_at new next ≡ mark
     → next < n → FindsCycle f n old new next
-finds_cycle f start mark steps place next n old new m l s h o e low =
-    let i : GotStamp old new next = record { was = o; is = (λ z. m (sym e ∙ z)) } in
+finds_cycle f start mark steps at next n old new m l s h o e low =
+    let i : IsMet old new next = record { was = o; is = (λ z. m (sym e ∙ z)) } in
     let p = s.passed next i in
     let b = p.1 in
     let q : suc (steps - p.0) + p.0 ≡ suc steps = omega arith in
@@ -185,17 +185,17 @@ finds_cycle f start mark steps place next n old new m l s h o e low =
       cycle = record {
         length = steps - p.0;
         returns = sym (climb-add f (suc (steps - p.0)) p.0 start next p.2)
-            ∙ (ap (λ k. climb f k start) q ∙ (climb-suc f steps start place s.place_is ∙ h));
+            ∙ (ap (λ k. climb f k start) q ∙ (climb-suc f steps start at s.at_is ∙ h));
       };
       short = omega arith;
-      only = λ x j c. above_last f start mark steps place x next old new s h j c;
+      only = λ x j c. after_last f start mark steps at x next old new s h j c;
     }
 
 pub walk_start : (f : ℕ → Option ℕ) (start mark : ℕ) (old : List ℕ) → number_at old start ≡ 0 →
     Walking f start mark 0 start old old
 walk_start f start mark old z = record {
-  place_is = climb-zero f start;
-  free = z;
+  at_is = climb-zero f start;
+  is_unmet = z;
   kept = λ x o. refl;
   fresh = λ x o n. absurd (n o);
   passed = λ x i. absurd (i.is i.was);
@@ -203,48 +203,48 @@ walk_start f start mark old z = record {
   count = omega arith;
 }
 
-pub up_of-none : (parents : List ℕ) (x : ℕ) → (number_at parents x ≡ 0) ⊎ (length parents ≤ number_at parents x) →
-    up_of parents x ≡ None
-up_of-none parents x h = cond-true ((number_at parents x == 0) || nat_le (length parents) (number_at parents x)) None
+pub parent_in-none : (parents : List ℕ) (x : ℕ) → (number_at parents x ≡ 0) ⊎ (length parents ≤ number_at parents x) →
+    parent_in parents x ≡ None
+parent_in-none parents x h = cond-true ((number_at parents x == 0) || nat_le (length parents) (number_at parents x)) None
     (Some (number_at parents x)) (elim h [
       | inl z ↦ or_left (number_at parents x == 0) _ (eq-eqb (number_at parents x) 0 z)
       | inr l ↦ or_right (number_at parents x == 0) _ (le-leb (length parents) (number_at parents x) l)
     ])
 
-pub up_of-some : (parents : List ℕ) (x : ℕ) → number_at parents x ≢ 0 → number_at parents x < length parents →
-    up_of parents x ≡ Some (number_at parents x)
-up_of-some parents x e l = cond-false ((number_at parents x == 0) || nat_le (length parents) (number_at parents x)) None
+pub parent_in-some : (parents : List ℕ) (x : ℕ) → number_at parents x ≢ 0 → number_at parents x < length parents →
+    parent_in parents x ≡ Some (number_at parents x)
+parent_in-some parents x e l = cond-false ((number_at parents x == 0) || nat_le (length parents) (number_at parents x)) None
     (Some (number_at parents x))
     (or_from (number_at parents x == 0) _ (ne_eqb (number_at parents x) 0 e)
     (false_from_ne_true (nat_le (length parents) (number_at parents x))
     (λ t. absurd (let b = leb-true (length parents) (number_at parents x) t in omega arith))))
 
-pub without_stamp-le : (xs : List ℕ) → without_stamp xs ≤ length xs
-unfolding without_stamp
-without_stamp-le [] = omega arith
-without_stamp-le (zero ∷ r) = let e = sum_by-cons (λ y. bit (y == 0)) 0 r in let h = without_stamp-le r in omega arith
-without_stamp-le (suc x ∷ r) = let e = sum_by-cons (λ y. bit (y == 0)) (suc x) r in let h = without_stamp-le r in
+pub unmet-le : (xs : List ℕ) → unmet xs ≤ length xs
+unfolding unmet
+unmet-le [] = omega arith
+unmet-le (zero ∷ r) = let e = sum_by-cons (λ y. bit (y == 0)) 0 r in let h = unmet-le r in omega arith
+unmet-le (suc x ∷ r) = let e = sum_by-cons (λ y. bit (y == 0)) (suc x) r in let h = unmet-le r in
     let z : bit (suc x == 0) ≡ 0 = ap bit (ne_eqb (suc x) 0 (λ q. absurd (omega arith))) in omega arith
 
--- the stamp of what lies above, where it is an old one and where it is not
-pub stamp_old : (f : ℕ → Option ℕ) (start mark steps place next : ℕ) (old new : List ℕ) →
-    Stamped f start mark steps place old new → number_at new next ≢ 0 → number_at new next ≢ mark →
+-- which walk has passed the next number: an earlier one, or this one
+pub met_before : (f : ℕ → Option ℕ) (start mark steps at next : ℕ) (old new : List ℕ) →
+    HasPassed f start mark steps at old new → number_at new next ≢ 0 → number_at new next ≢ mark →
     number_at old next ≢ 0
-stamp_old f start mark steps place next old new s n m = λ z. m (s.fresh next z n)
+met_before f start mark steps at next old new s n m = λ z. m (s.fresh next z n)
 
-pub stamp_new : (f : ℕ → Option ℕ) (start mark steps place next : ℕ) (old new : List ℕ) →
-    Stamped f start mark steps place old new → number_at old next < mark → number_at new next ≡ mark →
+pub met_now : (f : ℕ → Option ℕ) (start mark steps at next : ℕ) (old new : List ℕ) →
+    HasPassed f start mark steps at old new → number_at old next < mark → number_at new next ≡ mark →
     number_at old next ≡ 0
-stamp_new f start mark steps place next old new s l e =
+met_now f start mark steps at next old new s l e =
     elim (cases_eq (number_at old next) 0) [
       | inl y ↦ y
       | inr n ↦ absurd (let k = s.kept next n in omega arith)
     ]
 
 -- a way round from `found`: `steps` steps are done, `least` is the least so far
-pub record Rounding (f : ℕ → Option ℕ) (found steps place least : ℕ) : Type 0 where
+pub record Rounding (f : ℕ → Option ℕ) (found steps at least : ℕ) : Type 0 where
   pub moved : 0 < steps
-  pub place_is : climb f steps found ≡ Some place
+  pub at_is : climb f steps found ≡ Some at
   pub lower : (i s : ℕ) → i < steps → climb f i found ≡ Some s → least ≤ s
   pub among : (i : ℕ) × (i < steps) × (climb f i found ≡ Some least)
   pub away : (i : ℕ) → 0 < i → i < steps → climb f i found ≡ Some found → ⊥
@@ -252,57 +252,57 @@ pub record Rounding (f : ℕ → Option ℕ) (found steps place least : ℕ) : T
 pub round_start : (f : ℕ → Option ℕ) (found next : ℕ) → f found ≡ Some next → Rounding f found 1 next found
 round_start f found next h = record {
   moved = omega arith;
-  place_is = climb-one f found ∙ h;
+  at_is = climb-one f found ∙ h;
   lower = λ i s l e. let q : i ≡ 0 = omega arith in let z : Some found ≡ Some s = sym (climb-zero f found)
       ∙ (ap (λ k. climb f k found) (sym q) ∙ e) in let w : found ≡ s = cc in omega arith;
   among = (0, omega arith, climb-zero f found);
   away = λ i a b e. absurd (omega arith);
 }
 
-pub round_step : (f : ℕ → Option ℕ) (found steps place least next least' : ℕ) → Rounding f found steps place least →
-    (place ≡ found → ⊥) → f place ≡ Some next → least' ≤ least → least' ≤ place → (least' ≡ least) ⊎ (least' ≡ place) →
+pub round_step : (f : ℕ → Option ℕ) (found steps at least next least' : ℕ) → Rounding f found steps at least →
+    (at ≡ found → ⊥) → f at ≡ Some next → least' ≤ least → least' ≤ at → (least' ≡ least) ⊎ (least' ≡ at) →
     Rounding f found (suc steps) next least'
-round_step f found steps place least next least' r n h a b w = record {
+round_step f found steps at least next least' r n h a b w = record {
   moved = omega arith;
-  place_is = climb-suc f steps found place r.place_is ∙ h;
+  at_is = climb-suc f steps found at r.at_is ∙ h;
   lower = λ i s l e. elim (cases_lt i steps) [
     | inl lt ↦ let o = r.lower i s lt e in omega arith
-    | inr ge ↦ let q : i ≡ steps = omega arith in let z : Some place ≡ Some s = sym r.place_is
-        ∙ (ap (λ k. climb f k found) (sym q) ∙ e) in let p : place ≡ s = cc in omega arith
+    | inr ge ↦ let q : i ≡ steps = omega arith in let z : Some at ≡ Some s = sym r.at_is
+        ∙ (ap (λ k. climb f k found) (sym q) ∙ e) in let p : at ≡ s = cc in omega arith
   ];
   among = elim w [
     | inl y ↦ let m = r.among in let b = m.1 in (m.0, omega arith, m.2 ∙ ap Some (sym y))
-    | inr y ↦ (steps, omega arith, r.place_is ∙ ap Some (sym y))
+    | inr y ↦ (steps, omega arith, r.at_is ∙ ap Some (sym y))
   ];
   away = λ i p l e. elim (cases_lt i steps) [
     | inl lt ↦ r.away i p lt e
-    | inr ge ↦ let q : i ≡ steps = omega arith in let z : Some place ≡ Some found = sym r.place_is
+    | inr ge ↦ let q : i ≡ steps = omega arith in let z : Some at ≡ Some found = sym r.at_is
         ∙ (ap (λ k. climb f k found) (sym q) ∙ e) in n (cc)
   ];
 }
 
 -- a way round takes no more steps than the cycle has
-pub round_short : (f : ℕ → Option ℕ) (found steps place least n : ℕ) (c : IsOnCycle f found) → c.length < n →
-    Rounding f found steps place least → (place ≡ found → ⊥) → steps < n
-round_short f found steps place least n c l r m =
+pub round_short : (f : ℕ → Option ℕ) (found steps at least n : ℕ) (c : IsOnCycle f found) → c.length < n →
+    Rounding f found steps at least → (at ≡ found → ⊥) → steps < n
+round_short f found steps at least n c l r m =
     elim (cases_lt steps (suc c.length)) [
       | inl lt ↦ omega arith
       | inr ge ↦ absurd (elim (cases_eq steps (suc c.length)) [
-        | inl y ↦ (let z : Some place ≡ Some found = sym r.place_is ∙ (ap (λ k. climb f k found) y ∙ c.returns) in
+        | inl y ↦ (let z : Some at ≡ Some found = sym r.at_is ∙ (ap (λ k. climb f k found) y ∙ c.returns) in
             m (cc))
         | inr o ↦ r.away (suc c.length) (omega arith) (omega arith) c.returns
       ])
     ]
 
 -- back at `found`, the least so far is the least of all
-pub round_end : (f : ℕ → Option ℕ) (found steps place least n : ℕ) (c : IsOnCycle f found) → c.length < n →
-    Rounding f found steps place least → place ≡ found → least < n → IsLeastOn f n found least
+pub round_end : (f : ℕ → Option ℕ) (found steps at least n : ℕ) (c : IsOnCycle f found) → c.length < n →
+    Rounding f found steps at least → at ≡ found → least < n → IsLeastOn f n found least
 unfolding cycle-along
-round_end f found steps place least n c l r e low =
+round_end f found steps at least n c l r e low =
     let p = r.moved in
     let q : suc (steps - 1) ≡ steps = omega arith in
     let d : IsOnCycle f found =
-    record { length = steps - 1; returns = ap (λ k. climb f k found) q ∙ (r.place_is ∙ ap Some e) } in
+    record { length = steps - 1; returns = ap (λ k. climb f k found) q ∙ (r.at_is ∙ ap Some e) } in
     let a = r.among in
     record {
       low = low;
@@ -317,9 +317,9 @@ round_end f found steps place least n c l r e low =
       on = (a.0, a.2);
     }
 
-unstamped : (f : ℕ → Option ℕ) (start mark : ℕ) (old new : List ℕ) (x : ℕ) → Walked f start mark old new →
+still_unmet : (f : ℕ → Option ℕ) (start mark : ℕ) (old new : List ℕ) (x : ℕ) → Walked f start mark old new →
     number_at new x ≡ 0 → number_at old x ≡ 0
-unstamped f start mark old new x w z =
+still_unmet f start mark old new x w z =
     elim (cases_eq (number_at old x) 0) [
       | inl y ↦ y
       | inr n ↦ sym (w.kept x n) ∙ z
@@ -327,7 +327,7 @@ unstamped f start mark old new x w z =
 
 -- a walk that found no cycle
 pub marks_none : (f : ℕ → Option ℕ) (n start mark : ℕ) (old new : List ℕ) (leader : List Bool) →
-    Walked f start mark old new → ((x : ℕ) → GotStamp old new x → IsOnCycle f x → ⊥) → MarksLeaders f n old leader →
+    Walked f start mark old new → ((x : ℕ) → IsMet old new x → IsOnCycle f x → ⊥) → MarksLeaders f n old leader →
     MarksLeaders f n new leader
 marks_none f n start mark old new leader w none m = record {
   long = m.long;
@@ -337,7 +337,7 @@ marks_none f n start mark old new leader w none m = record {
         (false_from_ne_true (is_leader_within f n x)
         (λ t. none x (record { was = z; is = s }) (is_leader_within-true f n x t).cycle))
   ];
-  blank = λ x z. m.blank x (unstamped f start mark old new x w z);
+  blank = λ x z. m.blank x (still_unmet f start mark old new x w z);
 }
 
 -- a walk that found one
@@ -364,29 +364,28 @@ marks_found f n start mark found e old new leader l c w g i m = record {
   ];
   blank = λ x z. elim (cases_eq x e) [
     | inl y ↦ absurd (closed-climb f new i.on.0 found e w.closed g.fresh.is i.on.1 (sym (ap (number_at new) y) ∙ z))
-    | inr ne ↦ get_or-set_other leader e x true false ne ∙ m.blank x (unstamped f start mark old new x w z)
+    | inr ne ↦ get_or-set_other leader e x true false ne ∙ m.blank x (still_unmet f start mark old new x w z)
   ];
 }
 
--- on a cycle the list holds what is above
--- a cycle continues, by the list
-pub up_cycle : (parents : List ℕ) (x : ℕ) → IsOnCycle (up_of parents) x → (up_of parents x ≡ Some (number_at parents x))
+-- the list holds the parent of a number on a cycle
+pub parent_on_cycle : (parents : List ℕ) (x : ℕ) → IsOnCycle (parent_in parents) x → (parent_in parents x ≡ Some (number_at parents x))
     × (number_at parents x < length parents)
-up_cycle parents x c =
+parent_on_cycle parents x c =
     elim (cases_eq (number_at parents x) 0) [
-      | inl z ↦ absurd (let e = cycle-next (up_of parents) x c in
-          let q : None ≡ Some e.0 = sym (up_of-none parents x (inl z)) ∙ e.1 in cc)
+      | inl z ↦ absurd (let e = cycle-next (parent_in parents) x c in
+          let q : None ≡ Some e.0 = sym (parent_in-none parents x (inl z)) ∙ e.1 in cc)
       | inr n ↦ elim (cases_lt (number_at parents x) (length parents)) [
-        | inl l ↦ (up_of-some parents x n l, l)
-        | inr b ↦ absurd (let e = cycle-next (up_of parents) x c in
-            let q : None ≡ Some e.0 = sym (up_of-none parents x (inr b)) ∙ e.1 in cc)
+        | inl l ↦ (parent_in-some parents x n l, l)
+        | inr b ↦ absurd (let e = cycle-next (parent_in parents) x c in
+            let q : None ≡ Some e.0 = sym (parent_in-none parents x (inr b)) ∙ e.1 in cc)
       ]
     ]
 
 -- a number past the list leads no cycle
-pub past_leader : (parents : List ℕ) (n x : ℕ) → length parents ≤ x → is_leader_within (up_of parents) n x ≡ false
-past_leader parents n x b = false_from_ne_true (is_leader_within (up_of parents) n x) (λ t.
-    let i = is_leader_within-true (up_of parents) n x t in
-    let e = cycle-next (up_of parents) x i.cycle in
-    let q : None ≡ Some e.0 = sym (up_of-none parents x (inl (get_or_past parents x 0 b))) ∙ e.1 in
+pub past_leader : (parents : List ℕ) (n x : ℕ) → length parents ≤ x → is_leader_within (parent_in parents) n x ≡ false
+past_leader parents n x b = false_from_ne_true (is_leader_within (parent_in parents) n x) (λ t.
+    let i = is_leader_within-true (parent_in parents) n x t in
+    let e = cycle-next (parent_in parents) x i.cycle in
+    let q : None ≡ Some e.0 = sym (parent_in-none parents x (inl (get_or_past parents x 0 b))) ∙ e.1 in
     cc)

@@ -2,24 +2,25 @@
 use Rattle.std.specs.Prelude.{◌≡◌, ℕ, suc, ◌==◌, Bool, true, false, not, ◌&&◌}
 use Rattle.std.specs.Prelude.{◌||◌, nat_le, nat_lt, List, [], ◌∷◌, length}
 use Rattle.std.specs.List.{list_any}
-use Rattle.ffs_volume.specs.declared.constants.TheConstants.{WINO, ROOTINO, DT_WHT}
+use Rattle.ffs_volume.specs.declared.constants.TheConstants.{WINO, ROOTINO, DT_DIR, DT_WHT, EMPTY_DIR, UNKNOWN_TYPE}
 use Rattle.ffs_volume.specs.declared.Role.{Role}
 use Rattle.ffs_volume.specs.declared.Role.TheVariants.{Empty, Dot, Dotdot, Extra, Plain}
 use Rattle.ffs_volume.specs.Directories.Roles.{RoledEntry}
 use Rattle.ffs_volume.specs.Directories.Graph.{is_naming_entry}
 use Rattle.ffs_survey.specs.Survey.{bool_at, number_at, dir_at}
 
--- the kinds of inodes and which are marked, a directory and its parent
-pub record Sight : Type 0 where
+-- the current directory and its parent, and what its entries are compared with: the kinds of inodes and which are marked
+pub record CurrentDir : Type 0 where
   pub kinds : List ℕ
   pub marked : List Bool
   pub dir : ℕ
-  pub above : ℕ
+  pub parent : ℕ
 
 -- neither unallocated, nor a directory of size 0, a whiteout or of unknown type, nor a directory that is reached
 abbrev pub is_calm_kind : ℕ → Bool → Bool
 is_calm_kind kind reached =
-    not (kind == 0) && (not (kind == 5) && (not (kind == 14) && (not (kind == 15) && not ((kind == 4) && reached))))
+    not (kind == 0) && (not (kind == EMPTY_DIR) && (not (kind == DT_WHT) && (not (kind == UNKNOWN_TYPE)
+    && not ((kind == DT_DIR) && reached))))
 
 -- a plain entry is a whiteout; or the inode that it names isn't marked, and has the type of the entry
 abbrev pub is_calm_plain : List ℕ → List Bool → (ℕ → Bool) → ℕ → ℕ → Bool
@@ -28,14 +29,14 @@ is_calm_plain kinds marked reached x kind =
     && ((number_at kinds x == kind) && is_calm_kind kind (reached x)))))
 
 -- an entry at an index of the directory: `.` is the first, `..` the second, and all others are empty or plain
-abbrev pub is_calm_role : Sight → (ℕ → Bool) → ℕ → Role → ℕ → ℕ → Bool
-is_calm_role s reached i Dot number kind = (i == 0) && ((number == s.dir) && (kind == 4))
-is_calm_role s reached i Dotdot number kind = (i == 1) && ((number == s.above) && (kind == 4))
+abbrev pub is_calm_role : CurrentDir → (ℕ → Bool) → ℕ → Role → ℕ → ℕ → Bool
+is_calm_role s reached i Dot number kind = (i == 0) && ((number == s.dir) && (kind == DT_DIR))
+is_calm_role s reached i Dotdot number kind = (i == 1) && ((number == s.parent) && (kind == DT_DIR))
 is_calm_role s reached i Extra number kind = false
 is_calm_role s reached i Empty number kind = nat_le 2 i
 is_calm_role s reached i Plain number kind = nat_le 2 i && is_calm_plain s.kinds s.marked reached number kind
 
-abbrev pub is_calm_entry : Sight → (ℕ → Bool) → ℕ → RoledEntry → Bool
+abbrev pub is_calm_entry : CurrentDir → (ℕ → Bool) → ℕ → RoledEntry → Bool
 is_calm_entry s reached i e = is_calm_role s reached i e.role e.entry.number e.entry.kind
 
 -- what is reached after an entry: a directory that it names, too
@@ -43,7 +44,7 @@ abbrev pub reached_after : List ℕ → (ℕ → Bool) → RoledEntry → ℕ �
 reached_after kinds reached e x = reached x || (dir_at kinds x && is_naming_entry x e)
 
 -- all entries from an index on, where this is reached before them; the first two aren't missing
-abbrev pub are_calm : Sight → (ℕ → Bool) → ℕ → List RoledEntry → Bool
+abbrev pub are_calm : CurrentDir → (ℕ → Bool) → ℕ → List RoledEntry → Bool
 are_calm s reached i [] = nat_le 2 i
 are_calm s reached i (e ∷ es) = is_calm_entry s reached i e && are_calm s (reached_after s.kinds reached e) (suc i) es
 
@@ -53,7 +54,7 @@ pub record IsCalm (kinds : List ℕ) (marked reached : List Bool) (parents : Lis
     (sound : Bool) (d : ℕ) : Type 0 where
   pub before : ℕ → Bool
   pub begins : before d ≡ true
-  pub entries_right : are_calm (record { kinds = kinds; marked = marked; dir = d; above = number_at parents d })
+  pub entries_right : are_calm (record { kinds = kinds; marked = marked; dir = d; parent = number_at parents d })
       before 0 entries ≡ true
   pub shape_right : sound ≡ true
   pub is_reached : bool_at reached d ≡ true
@@ -65,7 +66,7 @@ abbrev pub AreCalm : List ℕ → List Bool → List Bool → List ℕ → (ℕ 
 AreCalm kinds marked reached parents entries sound calm =
     (d : ℕ) → bool_at calm d ≡ true → IsCalm kinds marked reached parents (entries d) (sound d) d
 
--- the flag of d is set where its entries and its shape are right, and no other flag changes
+-- the flag of d is set where all its entries are calm and its shape is right, and no other flag changes
 abbrev pub IsFlagged : ℕ → Bool → Bool → List Bool → List Bool → Type 0
-IsFlagged d quiet sound old new =
-    (x : ℕ) → bool_at new x ≡ (bool_at old x || ((x == d) && (nat_lt d (length old) && (quiet && sound))))
+IsFlagged d all_calm sound old new =
+    (x : ℕ) → bool_at new x ≡ (bool_at old x || ((x == d) && (nat_lt d (length old) && (all_calm && sound))))

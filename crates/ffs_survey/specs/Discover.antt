@@ -1,4 +1,4 @@
--- What a walk over directories discovers and counts, said by what is still to go.
+-- What a walk over directories discovers and counts, said by what is still to be read.
 use Rattle.std.specs.Prelude.{◌≡◌, ℕ, zero, suc, ◌+◌, ◌*◌, ◌^◌, ◌<◌, ◌≤◌, ◌==◌, Bool, true, false, not, cond}
 use Rattle.std.specs.Prelude.{◌&&◌, ◌||◌, length, take, drop}
 use Rattle.std.specs.Prelude.{if◌then◌else◌, List, [], ◌∷◌, Option, None, Some, is_some, unwrap_or, find, count_by}
@@ -31,7 +31,7 @@ occurrences x q = sum_by (λ y. bit (y == x)) q
 unfoldable pub unset : List Bool → ℕ
 unset flags = sum_by (λ b. bit (not b)) flags
 
--- the parent that x gets from the directory s with these entries to go
+-- the parent that x gets from the directory s with these entries to come
 abbrev pub from_entries : List ℕ → ℕ → List RoledEntry → ℕ → Option ℕ
 from_entries kinds s rest x = cond (dir_at kinds x && list_any (is_naming_entry x) rest) (Some s) None
 
@@ -39,19 +39,19 @@ from_entries kinds s rest x = cond (dir_at kinds x && list_any (is_naming_entry 
 abbrev pub from_dirs : Graph → List ℕ → ℕ → Option ℕ
 from_dirs g ss x = find (λ s. edge g s x) ss
 
--- nothing is to go
+-- nothing is to come
 abbrev pub nothing : ℕ → Option ℕ
 nothing x = None
 
--- With a to go, the reached inodes r, the parents p and the queue q become what r', p' and q'
--- become with c to go.
-pub record Comes (a : ℕ → Option ℕ) (r : List Bool) (p q : List ℕ) (c : ℕ
-    → Option ℕ) (r' : List Bool) (p' q' : List ℕ) : Type 0 where
-  pub reached : (x : ℕ) → (bool_at r' x || is_some (c x)) ≡ (bool_at r x || is_some (a x))
-  pub parent : (x : ℕ) → cond (bool_at r' x) (number_at p' x) (unwrap_or (c x) (number_at p' x))
-      ≡ cond (bool_at r x) (number_at p x) (unwrap_or (a x) (number_at p x))
-  pub queue : (x : ℕ) → occurrences x q' + bit (is_some (c x) && not (bool_at r' x))
-      ≡ occurrences x q + bit (is_some (a x) && not (bool_at r x))
+-- Reading on changes no final result: what was found plus what the entries still to be read would add is the same before
+-- and after. Here of reached inodes, parents and the queue; `todo` is the parent that those entries give a number.
+pub record Comes (todo : ℕ → Option ℕ) (reached : List Bool) (parents queue : List ℕ) (todo' : ℕ → Option ℕ)
+    (reached' : List Bool) (parents' queue' : List ℕ) : Type 0 where
+  pub reaches : (x : ℕ) → (bool_at reached' x || is_some (todo' x)) ≡ (bool_at reached x || is_some (todo x))
+  pub parent : (x : ℕ) → cond (bool_at reached' x) (number_at parents' x) (unwrap_or (todo' x) (number_at parents' x))
+      ≡ cond (bool_at reached x) (number_at parents x) (unwrap_or (todo x) (number_at parents x))
+  pub queued : (x : ℕ) → occurrences x queue' + bit (is_some (todo' x) && not (bool_at reached' x))
+      ≡ occurrences x queue + bit (is_some (todo x) && not (bool_at reached x))
 
 -- how many of these entries that count name x, and whether a plain one does
 abbrev pub count_in : List RoledEntry → ℕ → ℕ
@@ -67,25 +67,25 @@ count_of g ss x = sum_by (λ s. counted_in g s x) ss
 abbrev pub any_of : Graph → List ℕ → ℕ → Bool
 any_of g ss x = list_any (λ s. is_naming_dir g s x) ss
 
--- the counts f and the flags m of the numbers below n become f' and m' with this entry
-pub record IsCounted (n : ℕ) (e : RoledEntry) (f : List ℕ) (m : List Bool) (f' : List ℕ) (m' : List Bool)
-    : Type 0 where
-  pub references : (x : ℕ) → x < n → number_at f' x ≡ number_at f x + bit (refers x e)
-  pub named : (x : ℕ) → x < n → bool_at m' x ≡ (bool_at m x || is_naming_entry x e)
+-- this entry is counted: the references of the numbers below n, and which are named
+pub record IsCounted (n : ℕ) (e : RoledEntry) (references : List ℕ) (named : List Bool) (references' : List ℕ)
+    (named' : List Bool) : Type 0 where
+  pub counts : (x : ℕ) → x < n → number_at references' x ≡ number_at references x + bit (refers x e)
+  pub names : (x : ℕ) → x < n → bool_at named' x ≡ (bool_at named x || is_naming_entry x e)
 
--- none is to go
+-- none is to come
 abbrev pub none : ℕ → ℕ
 none x = 0
 
 abbrev pub never : ℕ → Bool
 never x = false
 
--- With c and a to go, the counts f and the flags m of the numbers below n become what f' and m' become with c' and a'
--- to go.
-pub record Counts (n : ℕ) (c : ℕ → ℕ) (a : ℕ → Bool) (f : List ℕ) (m : List Bool) (c' : ℕ → ℕ) (a' : ℕ
-    → Bool) (f' : List ℕ) (m' : List Bool) : Type 0 where
-  pub references : (x : ℕ) → x < n → number_at f' x + c' x ≡ number_at f x + c x
-  pub named : (x : ℕ) → x < n → (bool_at m' x || a' x) ≡ (bool_at m x || a x)
+-- The same of the references of the numbers below n, and of which are named: the entries still to be read add `count`
+-- references to a number, and name it where `name` says so.
+pub record Counts (n : ℕ) (count : ℕ → ℕ) (name : ℕ → Bool) (references : List ℕ) (named : List Bool)
+    (count' : ℕ → ℕ) (name' : ℕ → Bool) (references' : List ℕ) (named' : List Bool) : Type 0 where
+  pub counts : (x : ℕ) → x < n → number_at references' x + count' x ≡ number_at references x + count x
+  pub names : (x : ℕ) → x < n → (bool_at named' x || name' x) ≡ (bool_at named x || name x)
 
 -- counts, on from these starts, and flags of exactly the entries of these directories
 pub record IsCount (g : Graph) (ss : List ℕ) (starts f : List ℕ) (m : List Bool) : Type 0 where
@@ -128,16 +128,16 @@ pub record IsReachedPart (g : Graph) (starts f : List ℕ) (m r : List Bool) (p 
   pub parent : (x : ℕ) → number_at p x ≡ unwrap_or (cond (is_some (level g x)) (parent g x) None) 0
 
 -- x is a directory that isn't reached
-abbrev pub is_free : List ℕ → List Bool → ℕ → Bool
-is_free kinds r x = dir_at kinds x && not (bool_at r x)
+abbrev pub is_unreached_dir : List ℕ → List Bool → ℕ → Bool
+is_unreached_dir kinds r x = dir_at kinds x && not (bool_at r x)
 
 -- the directory s names the directory x, and neither is reached
-abbrev pub is_free_edge : Graph → List ℕ → List Bool → ℕ → ℕ → Bool
-is_free_edge g kinds r x s = is_free kinds r x && (not (bool_at r s) && is_naming_dir g s x)
+abbrev pub is_unreached_edge : Graph → List ℕ → List Bool → ℕ → ℕ → Bool
+is_unreached_edge g kinds r x s = is_unreached_dir kinds r x && (not (bool_at r s) && is_naming_dir g s x)
 
 -- no directory that isn't reached has a parent
 abbrev pub IsBlank : List ℕ → List Bool → List ℕ → Type 0
-IsBlank kinds r p = (x : ℕ) → is_free kinds r x ≡ true → number_at p x ≡ 0
+IsBlank kinds r p = (x : ℕ) → is_unreached_dir kinds r x ≡ true → number_at p x ≡ 0
 
 -- what the directories below n that aren't reached add to counts and flags, and which parents they
 -- give
@@ -147,7 +147,7 @@ pub record IsRead (g : Graph) (kinds : List ℕ) (r : List Bool) (n : ℕ) (f : 
   pub named : (x : ℕ) → x < g.count → bool_at m' x ≡ (bool_at m x
       || is_some (first_below (λ s. not (bool_at r s) && is_naming_dir g s x) n))
   pub parents : (x : ℕ) → x < g.count
-      → number_at p' x ≡ unwrap_or (first_below (is_free_edge g kinds r x) n) (number_at p x)
+      → number_at p' x ≡ unwrap_or (first_below (is_unreached_edge g kinds r x) n) (number_at p x)
 
 -- A level is in the queue from `low` to `high`: after it there is room for all that isn't reached yet, and no inode has
 -- more references than its start and the directories before it can give.

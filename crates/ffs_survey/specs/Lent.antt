@@ -4,9 +4,9 @@ use Rattle.std.specs.Borrow.{GName}
 use Rattle.ffs_image.specs.Device.{Device}
 use Rattle.ffs_image.specs.declared.image.ImageFault.{ImageFault}
 use Rattle.ffs_survey.specs.declared.lists.Lists.{Lists}
-use Rattle.ffs_survey.specs.declared.lists.Sight.{Sight as SightLent}
+use Rattle.ffs_survey.specs.declared.lists.CurrentDir.{CurrentDir as LentDir}
 use Rattle.ffs_survey.specs.Survey.{number_at}
-use Rattle.ffs_survey.specs.Calm.{Sight}
+use Rattle.ffs_survey.specs.Calm.{CurrentDir}
 use Rattle.ffs_survey.specs.Reading.{LeavesReader}
 use Rattle.ffs_survey.specs.Discover.{Found, unset}
 
@@ -25,13 +25,13 @@ all_found l = record {
 abbrev pub found_up_to : Lists → ℕ → Found
 found_up_to l end = record (all_found l) { queue = take end l.queue.now.items }
 
--- what is seen of a directory and its parent
-abbrev pub sight_in : Lists → ℕ → ℕ → Sight
-sight_in l dir above = record { kinds = l.kinds.now; marked = l.marked.now; dir = dir; above = above }
+-- the current directory, by the lists
+abbrev pub current_in : Lists → ℕ → ℕ → CurrentDir
+current_in l dir parent = record { kinds = l.kinds.now; marked = l.marked.now; dir = dir; parent = parent }
 
--- the same, as it is lent
-abbrev pub sight_of : SightLent → Sight
-sight_of s = record { kinds = s.kinds.now; marked = s.marked.now; dir = s.dir; above = s.above }
+-- as it is lent
+abbrev pub current_of : LentDir → CurrentDir
+current_of s = record { kinds = s.kinds.now; marked = s.marked.now; dir = s.dir; parent = s.parent }
 
 -- what is lent: the kinds and the marks, and the lists by their names
 pub record Lent : Type 0 where

@@ -4,7 +4,7 @@ use Rattle.ffs_volume.specs.Directories.Roles.{RoledEntry}
 use Rattle.ffs_survey.specs.Survey.{bool_at, number_at, graph_with}
 use Rattle.ffs_survey.specs.Calm.{are_calm, AreCalm, IsFlagged}
 use Rattle.ffs_survey.specs.Discover.{Found, Comes, Counts, AtLevel, IsReachedPart, from_entries, from_dirs, nothing}
-use Rattle.ffs_survey.specs.Discover.{count_in, any_in, count_of, any_of, none, never, is_free, unset, HasRoomForLevel}
+use Rattle.ffs_survey.specs.Discover.{count_in, any_in, count_of, any_of, none, never, is_unreached_dir, unset, HasRoomForLevel}
 use Rattle.ffs_survey.specs.Lists.{GrowsBy}
 
 -- the reached directory d with these entries is read
@@ -14,7 +14,7 @@ pub record ReadsReached (kinds : List ℕ) (marked : List Bool) (d : ℕ) (entri
       new.queue
   pub counts : Counts (length kinds) (count_in entries) (any_in entries) old.references old.named none never
       new.references new.named
-  pub calm : IsFlagged d (are_calm (record { kinds = kinds; marked = marked; dir = d; above = number_at old.parents d })
+  pub calm : IsFlagged d (are_calm (record { kinds = kinds; marked = marked; dir = d; parent = number_at old.parents d })
       (bool_at old.reached) 0 entries) sound old.calm new.calm
 
 -- what the reading of reached directories makes of what was found, as `reads` says it: no count below n grows by more
@@ -72,5 +72,5 @@ pub record ReadsUnreached (kinds : List ℕ) (d : ℕ) (entries : List RoledEntr
   pub counts : Counts (length kinds) (count_in entries) (any_in entries) old.references old.named none never
       new.references new.named
   pub parents : (x : ℕ) → x < length kinds → number_at new.parents x
-      ≡ cond ((number_at old.parents x == 0) && (is_free kinds old.reached x && any_in entries x)) d
+      ≡ cond ((number_at old.parents x == 0) && (is_unreached_dir kinds old.reached x && any_in entries x)) d
       (number_at old.parents x)

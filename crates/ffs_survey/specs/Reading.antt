@@ -4,10 +4,10 @@ use Rattle.ffs_image.specs.Device.{Device}
 use Rattle.ffs_image.specs.Reads.{ReadAfter}
 use Rattle.ffs_image.specs.declared.image.ImageFault.{ImageFault}
 use Rattle.ffs_volume.specs.Directories.Roles.{RoledEntry}
-use Rattle.ffs_survey.specs.declared.named.Named.{Named}
+use Rattle.ffs_survey.specs.declared.entry_head.EntryHead.{EntryHead}
 
 -- the entry with its name
-abbrev pub roled_of : Named → List ℕ → RoledEntry
+abbrev pub roled_of : EntryHead → List ℕ → RoledEntry
 roled_of e name = record {
   role = e.role;
   entry = record { number = e.number; length = e.length; kind = e.kind; name = name };

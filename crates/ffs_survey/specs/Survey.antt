@@ -1,7 +1,7 @@
 -- What a survey of directories finds of each inode, and the graph that it goes over.
 use Rattle.std.specs.Prelude.{◌≡◌, ℕ, zero, suc, ◌+◌, ◌<◌, ◌==◌, Bool, ◌&&◌, ◌||◌}
 use Rattle.std.specs.Prelude.{nat_le, min, if◌then◌else◌, List, length, count_by, unwrap_or}
-use Rattle.ffs_volume.specs.declared.constants.TheConstants.{NO_LINKS}
+use Rattle.ffs_volume.specs.declared.constants.TheConstants.{EMPTY_DIR, NO_LINKS}
 use Rattle.ffs_volume.specs.Directories.Roles.{RoledEntry, refers}
 use Rattle.ffs_volume.specs.Directories.Graph.{Graph, is_named, reached, parent}
 pub use Rattle.ffs_volume.specs.Encodings.Lists.{bool_at, number_at}
@@ -13,7 +13,7 @@ dir_at kinds x = nat_le 2 x && is_dir_kind (number_at kinds x)
 
 -- x is suspect: marked, or a directory of size 0
 abbrev pub suspect_at : List ℕ → List Bool → ℕ → Bool
-suspect_at kinds marked x = bool_at marked x || (nat_le 2 x && (number_at kinds x == 5))
+suspect_at kinds marked x = bool_at marked x || (nat_le 2 x && (number_at kinds x == EMPTY_DIR))
 
 -- the graph of the directories of a list of kinds, with these entries
 abbrev pub graph_with : List ℕ → (ℕ → List RoledEntry) → Graph
@@ -45,7 +45,7 @@ pub record IsSurvey (g : Graph) (starts references : List ℕ) (flags marks : Li
   pub counts : (x : ℕ) → x < g.count → number_at references x ≡ start_in starts x + references_to g x
   pub names : (x : ℕ) → x < g.count → bool_at flags x ≡ is_named g x
   pub reaches : (x : ℕ) → bool_at marks x ≡ reached g x
-  pub ups : (x : ℕ) → number_at parents x ≡ unwrap_or (parent g x) 0
+  pub parent_is : (x : ℕ) → number_at parents x ≡ unwrap_or (parent g x) 0
 
 -- these flags hold of each inode of a graph whether a plain entry names it
 pub record AreNamed (g : Graph) (kinds : List ℕ) (flags : List Bool) : Type 0 where
@@ -58,4 +58,4 @@ pub record IsTree (g : Graph) (kinds : List ℕ) (marks : List Bool) (parents : 
   pub count : g.count ≡ length kinds
   pub dirs : (x : ℕ) → g.is_dir x ≡ dir_at kinds x
   pub reaches : (x : ℕ) → bool_at marks x ≡ reached g x
-  pub ups : (x : ℕ) → number_at parents x ≡ unwrap_or (parent g x) 0
+  pub parent_is : (x : ℕ) → number_at parents x ≡ unwrap_or (parent g x) 0

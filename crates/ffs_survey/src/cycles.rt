@@ -2,43 +2,47 @@
 ghost use Rattle.std.specs.Prelude.{◌≡◌, ◌<◌, ◌+◌, ℕ, length, MatchOption, false, vec_len};
 ghost use Rattle.ffs_volume.specs.Directories.Climb.{IsOnCycle, is_leader_within};
 ghost use Rattle.ffs_survey.specs.Survey.{bool_at};
-ghost use Rattle.ffs_survey.specs.Cycles.{up_of, CanFollow, ComesBack, GotStamp, CanMarkLeaders, Walked, FindsCycle, IsLeastOn, MarksLeaders};
+ghost use Rattle.ffs_survey.specs.Cycles.{parent_in, CanFollow, ComesBack, IsMet, CanMarkLeaders, Walked, FindsCycle, IsLeastOn, MarksLeaders};
 
 use crate::numbers::number_of;
 use ffs_memory::FilledList;
 
-/// Walks up from `start` and stamps what it passes, until there is nothing above or a stamp.
-/// Returns a number on the cycle that it closed, if it closed one.
-fn walk(start: u32, parents: &FilledList<u32>, stamp: &mut FilledList<u32>) -> Option<u32>
-    requires { CanFollow parents.now.items stamp.old.items start }
-    ensures walked { Walked (up_of parents.now.items) start (start + 1) stamp.old.items
-        stamp.new.items }
-    ensures stamps_long { vec_len stamp.new ≡ vec_len stamp.old }
+/// Walks from `start` from parent to parent, and notes in `walk_of` what it passes, until there is
+/// no parent or one that a walk has passed. Returns a number on the cycle that it closed, if it
+/// closed one.
+///
+/// `walk_of` has, of each number, 1 more than the start of the walk that passed it, and 0 where
+/// none did.
+fn walk(start: u32, parents: &FilledList<u32>, walk_of: &mut FilledList<u32>) -> Option<u32>
+    requires { CanFollow parents.now.items walk_of.old.items start }
+    ensures walked { Walked (parent_in parents.now.items) start (start + 1) walk_of.old.items
+        walk_of.new.items }
+    ensures walks_long { vec_len walk_of.new ≡ vec_len walk_of.old }
     ensures cycle { MatchOption result
-        ((x : ℕ) → GotStamp stamp.old.items stamp.new.items x
-        → IsOnCycle (up_of parents.now.items) x → ⊥)
-        (λ found. FindsCycle (up_of parents.now.items) (length parents.now.items) stamp.old.items
-        stamp.new.items found) }
+        ((x : ℕ) → IsMet walk_of.old.items walk_of.new.items x
+        → IsOnCycle (parent_in parents.now.items) x → ⊥)
+        (λ found. FindsCycle (parent_in parents.now.items) (length parents.now.items) walk_of.old.items
+        walk_of.new.items found) }
 {
-    let mut place = start;
+    let mut at = start;
     let mut steps = 0u32;
     'up: loop {
-        stamp.set(place as usize, start + 1);
-        let next = number_of(parents, place as usize);
+        walk_of.set(at as usize, start + 1);
+        let next = number_of(parents, at as usize);
         if next == 0 {
             return None;
         }
         if next as usize >= parents.len() {
             return None;
         }
-        let seen = number_of(stamp, next as usize);
+        let seen = number_of(walk_of, next as usize);
         if seen == start + 1 {
             return Some(next);
         }
         if seen != 0 {
             return None;
         }
-        place = next;
+        at = next;
         steps += 1;
     }
 }
@@ -46,39 +50,39 @@ fn walk(start: u32, parents: &FilledList<u32>, stamp: &mut FilledList<u32>) -> O
 /// The least number on the cycle of `found`.
 fn least_on(found: u32, parents: &FilledList<u32>) -> u32
     requires { ComesBack parents.now.items found }
-    ensures { IsLeastOn (up_of parents.now.items) (length parents.now.items) found result }
+    ensures { IsLeastOn (parent_in parents.now.items) (length parents.now.items) found result }
 {
     let mut least = found;
-    let mut place = number_of(parents, found as usize);
+    let mut at = number_of(parents, found as usize);
     let mut steps = 1u32;
-    'round: while place != found {
-        if place < least {
-            least = place;
+    'round: while at != found {
+        if at < least {
+            least = at;
         }
-        place = number_of(parents, place as usize);
+        at = number_of(parents, at as usize);
         steps += 1;
     }
     least
 }
 
-/// Walks up from `start`, and marks the least number of the cycle that the walk closes, if it
-/// closes one.
+/// Walks from `start` from parent to parent, and marks the least number of the cycle that the walk
+/// closes, if it closes one.
 fn mark_from(
     start: u32,
     parents: &FilledList<u32>,
-    stamp: &mut FilledList<u32>,
+    walk_of: &mut FilledList<u32>,
     leaders: &mut [bool],
 )
-    requires walk { CanFollow parents.now.items stamp.old.items start }
-    requires marks { MarksLeaders (up_of parents.now.items) (length parents.now.items)
-        stamp.old.items leaders.old }
-    ensures walked { Walked (up_of parents.now.items) start (start + 1) stamp.old.items
-        stamp.new.items }
-    ensures stamps_long { vec_len stamp.new ≡ vec_len stamp.old }
-    ensures marks { MarksLeaders (up_of parents.now.items) (length parents.now.items)
-        stamp.new.items leaders.new }
+    requires walk { CanFollow parents.now.items walk_of.old.items start }
+    requires marks { MarksLeaders (parent_in parents.now.items) (length parents.now.items)
+        walk_of.old.items leaders.old }
+    ensures walked { Walked (parent_in parents.now.items) start (start + 1) walk_of.old.items
+        walk_of.new.items }
+    ensures walks_long { vec_len walk_of.new ≡ vec_len walk_of.old }
+    ensures marks { MarksLeaders (parent_in parents.now.items) (length parents.now.items)
+        walk_of.new.items leaders.new }
 {
-    let Some(found) = walk(start, parents, stamp) else {
+    let Some(found) = walk(start, parents, walk_of) else {
         return;
     };
     let least = least_on(found, parents);
@@ -86,18 +90,18 @@ fn mark_from(
 }
 
 /// Marks each number that is the least on a cycle of parents, in time linear in their number. A
-/// parent of 0, or past the list, is none. What `stamp` and `leaders` held before is forgotten.
-pub fn mark_leaders(parents: &FilledList<u32>, stamp: &mut FilledList<u32>, leaders: &mut [bool])
-    requires { CanMarkLeaders parents.now.items stamp.old.items leaders.old }
+/// parent of 0, or past the list, is none. What `walk_of` and `leaders` held before is forgotten.
+pub fn mark_leaders(parents: &FilledList<u32>, walk_of: &mut FilledList<u32>, leaders: &mut [bool])
+    requires { CanMarkLeaders parents.now.items walk_of.old.items leaders.old }
     ensures leads { (x : ℕ) → bool_at leaders.new x
-        ≡ is_leader_within (up_of parents.now.items) (length parents.now.items) x }
-    ensures stamps_long { vec_len stamp.new ≡ vec_len stamp.old }
+        ≡ is_leader_within (parent_in parents.now.items) (length parents.now.items) x }
+    ensures walks_long { vec_len walk_of.new ≡ vec_len walk_of.old }
 {
-    stamp.fill(0);
+    walk_of.fill(0);
     leaders.fill(false);
     for start in 0..parents.len() as u32 {
-        if number_of(stamp, start as usize) == 0 {
-            mark_from(start, parents, stamp, leaders);
+        if number_of(walk_of, start as usize) == 0 {
+            mark_from(start, parents, walk_of, leaders);
         }
     }
 }

@@ -6,16 +6,16 @@ ghost use Rattle.std.specs.List.{sum_by};
 ghost use Rattle.ffs_memory.specs.Filled.{Sets};
 ghost use Rattle.ffs_survey.specs.Reading.{roled_of, ForKnown, LeavesReader};
 ghost use Rattle.ffs_survey.specs.Lists.{CountLists, GrowsBy};
-ghost use Rattle.ffs_survey.specs.Lent.{all_found, found_up_to, sight_of, SameLists, LeavesLent, KeepsCounts, HasRoomAfter, CanTakeMore, CountsAtMost, KeepsReached};
+ghost use Rattle.ffs_survey.specs.Lent.{all_found, found_up_to, current_of, SameLists, LeavesLent, KeepsCounts, HasRoomAfter, CanTakeMore, CountsAtMost, KeepsReached};
 ghost use Rattle.ffs_survey.specs.Levels.{Discovers, ReadsReached, ReadsDirs, ReadsUnreached};
 ghost use Rattle.ffs_survey.specs.Survey.{bool_at, number_at};
 ghost use Rattle.ffs_survey.specs.Calm.{is_calm_kind, is_calm_plain, is_calm_entry, IsFlagged};
-ghost use Rattle.ffs_survey.specs.Discover.{unset, Extends, IsCounted, Comes, from_entries, nothing, none, Counts, IsReachedDir, is_free as is_free_at};
+ghost use Rattle.ffs_survey.specs.Discover.{unset, Extends, IsCounted, Comes, from_entries, nothing, none, Counts, IsReachedDir, is_unreached_dir as is_unreached_dir_at};
 
 use crate::directories::Directories;
-use crate::lists::{Lists, Sight};
-use crate::named::{Named, is_counted, is_dir, is_plain};
-use crate::numbers::number_of;
+use crate::entry_head::{EntryHead, is_counted, is_plain};
+use crate::lists::{CurrentDir, Lists};
+use crate::numbers::{is_dir, number_of};
 use ffs_image::ImageFault;
 use ffs_memory::FilledList;
 use ffs_volume::Role;
@@ -34,7 +34,7 @@ fn add_one(references: &mut FilledList<u64>, number: usize)
 
 /// Counts an entry for the inode that it names, and flags that inode as named where the entry is
 /// plain.
-fn count_entry(entry: Named, kinds: &[u8], references: &mut FilledList<u64>, named: &mut [bool])
+fn count_entry(entry: EntryHead, kinds: &[u8], references: &mut FilledList<u64>, named: &mut [bool])
     requires { CountLists kinds.now references.old.items named.old entry.number }
     ensures counted { IsCounted (length kinds.now) (roled_of entry []) references.old.items
         named.old references.new.items named.new }
@@ -52,29 +52,29 @@ fn count_entry(entry: Named, kinds: &[u8], references: &mut FilledList<u64>, nam
 
 /// Whether a number is that of a directory that isn't reached yet. `kinds` are those of the lists,
 /// taken out of them before a loop.
-pub fn is_free(kinds: &[u8], lists: &Lists, number: usize) -> bool
+pub fn is_unreached_dir(kinds: &[u8], lists: &Lists, number: usize) -> bool
     requires { kinds.now ≡ lists.now.kinds.now }
-    ensures { result ≡ is_free_at lists.now.kinds.now lists.now.reached.now number }
+    ensures { result ≡ is_unreached_dir_at lists.now.kinds.now lists.now.reached.now number }
 {
     is_dir(kinds, number) && !lists.reached[number]
 }
 
 /// Whether an entry is plain and names a directory that isn't reached yet.
-fn is_new(entry: Named, kinds: &[u8], lists: &Lists) -> bool
+fn is_new(entry: EntryHead, kinds: &[u8], lists: &Lists) -> bool
     requires { kinds.now ≡ lists.now.kinds.now }
     ensures { result ≡ (is_plain_role entry.role
-        && is_free_at lists.now.kinds.now lists.now.reached.now entry.number) }
+        && is_unreached_dir_at lists.now.kinds.now lists.now.reached.now entry.number) }
 {
-    is_plain(entry.role) && is_free(kinds, lists, entry.number as usize)
+    is_plain(entry.role) && is_unreached_dir(kinds, lists, entry.number as usize)
 }
 
-/// Discovers what an entry of the directory in sight names: flags it as reached, gives it its
+/// Discovers what an entry of the current directory names: flags it as reached, gives it its
 /// parent and puts it into the queue.
-fn visit(entry: Named, sight: &Sight, lists: &mut Lists, top: usize) -> usize
-    requires kinds { sight.now.kinds.now ≡ lists.old.kinds.now }
+fn visit(entry: EntryHead, current: &CurrentDir, lists: &mut Lists, top: usize) -> usize
+    requires kinds { current.now.kinds.now ≡ lists.old.kinds.now }
     requires room { HasRoomAfter top lists.old }
     ensures top { result + unset lists.new.reached.now ≡ top + unset lists.old.reached.now }
-    ensures comes { Comes (from_entries lists.old.kinds.now sight.now.dir (roled_of entry [] ∷ []))
+    ensures comes { Comes (from_entries lists.old.kinds.now current.now.dir (roled_of entry [] ∷ []))
         lists.old.reached.now lists.old.parents.now.items (take top lists.old.queue.now.items)
         nothing lists.new.reached.now lists.new.parents.now.items
         (take result lists.new.queue.now.items) }
@@ -82,12 +82,12 @@ fn visit(entry: Named, sight: &Sight, lists: &mut Lists, top: usize) -> usize
     ensures counts { KeepsCounts lists.old lists.new }
     ensures same { SameLists lists.old lists.new }
 {
-    if !is_new(entry, sight.kinds, lists) {
+    if !is_new(entry, current.kinds, lists) {
         return top;
     }
     let number = entry.number as usize;
     lists.reached[number] = true;
-    lists.parents.set(number, sight.dir);
+    lists.parents.set(number, current.dir);
     lists.queue.set(top, entry.number);
     top + 1
 }
@@ -106,35 +106,35 @@ fn is_calm_kind(kind: u8, reached: bool) -> bool
 }
 
 /// Whether nothing can be reported of a plain entry: a whiteout, or one that names an inode.
-fn is_calm_plain(entry: Named, sight: &Sight, lists: &Lists) -> bool
-    requires { sight.now.kinds.now ≡ lists.now.kinds.now }
-    ensures { result ≡ is_calm_plain sight.now.kinds.now sight.now.marked.now
+fn is_calm_plain(entry: EntryHead, current: &CurrentDir, lists: &Lists) -> bool
+    requires { current.now.kinds.now ≡ lists.now.kinds.now }
+    ensures { result ≡ is_calm_plain current.now.kinds.now current.now.marked.now
         (bool_at lists.now.reached.now) entry.number entry.kind }
 {
     let number = entry.number as usize;
-    if number >= sight.kinds.len() {
+    if number >= current.kinds.len() {
         return false;
     }
     if entry.number < ROOTINO {
         return entry.number == WINO && entry.kind == DT_WHT;
     }
-    !sight.marked[number]
-        && sight.kinds[number] == entry.kind
+    !current.marked[number]
+        && current.kinds[number] == entry.kind
         && is_calm_kind(entry.kind, lists.reached[number])
 }
 
-/// Whether nothing can be reported of the entry at an index of the directory in sight.
-fn is_calm(entry: Named, index: u32, sight: &Sight, lists: &Lists) -> bool
-    requires { sight.now.kinds.now ≡ lists.now.kinds.now }
-    ensures { result ≡ is_calm_entry (sight_of sight.now) (bool_at lists.now.reached.now) index
+/// Whether nothing can be reported of the entry at an index of the current directory.
+fn is_calm(entry: EntryHead, index: u32, current: &CurrentDir, lists: &Lists) -> bool
+    requires { current.now.kinds.now ≡ lists.now.kinds.now }
+    ensures { result ≡ is_calm_entry (current_of current.now) (bool_at lists.now.reached.now) index
         (roled_of entry []) }
 {
     match entry.role {
-        Role::Dot => index == 0 && entry.number == sight.dir && entry.kind == DT_DIR,
-        Role::Dotdot => index == 1 && entry.number == sight.above && entry.kind == DT_DIR,
+        Role::Dot => index == 0 && entry.number == current.dir && entry.kind == DT_DIR,
+        Role::Dotdot => index == 1 && entry.number == current.parent && entry.kind == DT_DIR,
         Role::Extra => false,
         Role::Empty => index >= 2,
-        Role::Plain => index >= 2 && is_calm_plain(entry, sight, lists),
+        Role::Plain => index >= 2 && is_calm_plain(entry, current, lists),
     }
 }
 
@@ -143,13 +143,13 @@ fn is_calm(entry: Named, index: u32, sight: &Sight, lists: &Lists) -> bool
 fn flag_calm<D: Directories>(
     directories: &mut D,
     from: u32,
-    quiet: bool,
+    calm_so_far: bool,
     count: u32,
     calm: &mut [bool],
 ) -> Result<(), ImageFault>
     requires ready { D.ready directories.old }
     ensures flags { OnOk result ((b : List ℕ) → D.knows (D.base directories.old) b
-        → D.ended directories.old b → IsFlagged from (quiet && nat_le 2 count)
+        → D.ended directories.old b → IsFlagged from (calm_so_far && nat_le 2 count)
         (D.sound_so_far directories.old b) calm.old calm.new) }
     ensures reader { LeavesReader (D.ready directories.new) (D.base directories.old)
         (D.base directories.new) (D.device directories.old) (D.device directories.new) result }
@@ -158,7 +158,7 @@ fn flag_calm<D: Directories>(
         → D.reads directories.new ≤ D.reads directories.old + D.to_read directories.old b }
 {
     let number = from as usize;
-    if !quiet || count < 2 || number >= calm.len() {
+    if !calm_so_far || count < 2 || number >= calm.len() {
         return Ok(());
     }
     if directories.is_sound()? {
@@ -168,7 +168,8 @@ fn flag_calm<D: Directories>(
 }
 
 /// Reads the directory `from` of a level: counts its entries, discovers what they name, and flags
-/// it in `calm` if nothing can be reported of it.
+/// it in `calm` if nothing can be reported of it. No count grows by more than 2^28, since a
+/// directory has fewer entries (`Directories::start`).
 fn read_reached<D: Directories>(
     directories: &mut D,
     from: u32,
@@ -188,24 +189,24 @@ fn read_reached<D: Directories>(
         → D.reads directories.new ≤ D.reads directories.old
         + D.cost (D.base directories.old) b from }
 {
-    let above = number_of(lists.parents, from as usize);
-    let sight = Sight {
+    let parent = number_of(lists.parents, from as usize);
+    let current = CurrentDir {
         kinds: lists.kinds,
         marked: lists.marked,
         dir: from,
-        above,
+        parent,
     };
     let mut high = top;
-    let mut quiet = true;
+    let mut calm_so_far = true;
     let mut count = 0u32;
     directories.start(from)?;
     while let Some(entry) = directories.next()? {
-        count_entry(entry, sight.kinds, lists.references, lists.named);
-        quiet &= is_calm(entry, count, &sight, lists);
-        high = visit(entry, &sight, lists, high);
+        count_entry(entry, current.kinds, lists.references, lists.named);
+        calm_so_far &= is_calm(entry, count, &current, lists);
+        high = visit(entry, &current, lists, high);
         count += 1;
     }
-    flag_calm(directories, from, quiet, count, lists.calm)?;
+    flag_calm(directories, from, calm_so_far, count, lists.calm)?;
     Ok(high)
 }
 
@@ -249,11 +250,11 @@ pub fn read_level<D: Directories>(
 
 /// Gives the parent `from` to what an entry of this directory names: a directory that isn't reached
 /// and has no parent yet.
-fn adopt(entry: Named, from: u32, lists: &mut Lists)
+fn adopt(entry: EntryHead, from: u32, lists: &mut Lists)
     ensures parent { (x : ℕ) → x < length lists.old.kinds.now
         → number_at lists.new.parents.now.items x
         ≡ cond ((number_at lists.old.parents.now.items x == 0)
-        && (is_free_at lists.old.kinds.now lists.old.reached.now x
+        && (is_unreached_dir_at lists.old.kinds.now lists.old.reached.now x
         && is_naming_entry x (roled_of entry []))) from (number_at lists.old.parents.now.items x) }
     ensures counts { KeepsCounts lists.old lists.new }
     ensures kept { KeepsReached lists.old lists.new }

@@ -11,15 +11,16 @@
 mod cycles;
 mod directories;
 mod discover;
+mod entry_head;
 mod levels;
 mod lists;
-mod named;
 mod numbers;
 mod unref;
 
 pub use cycles::mark_leaders;
 pub use directories::Directories;
+pub use entry_head::{EntryHead, is_plain};
 pub use levels::survey;
 pub use lists::Surveyed;
-pub use named::{Named, is_dir, is_plain};
+pub use numbers::is_dir;
 pub use unref::{is_dead, is_suspect, is_unref};

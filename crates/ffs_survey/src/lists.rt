@@ -8,7 +8,7 @@ use ffs_memory::FilledList;
 /// inode 2 is there; numbers of inodes and places in the queue fit into 31 bits.
 #[derive(Drop)]
 pub struct Lists<'kinds, 'marked, 'named, 'reached, 'calm, 'lists> {
-    /// What each inode is: 4 for a directory with a size, 5 for one of size 0.
+    /// What each inode is: `DT_DIR` for a directory with a size, `EMPTY_DIR` for one of size 0.
     pub kinds: &'kinds [u8],
     /// Whether each inode is marked.
     pub marked: &'marked [bool],
@@ -27,24 +27,24 @@ pub struct Lists<'kinds, 'marked, 'named, 'reached, 'calm, 'lists> {
     ghost long: { AreLists kinds.now marked.now references.now.items named.now reached.now parents.now.items calm.now queue.now.items },
 }
 
-/// A directory whose entries are read, and what they are compared with.
+/// The directory whose entries are read, and what they are compared with.
 #[derive(Clone, Copy)]
-pub struct Sight<'kinds, 'marked> {
-    /// What each inode is: 4 for a directory with a size, 5 for one of size 0.
+pub struct CurrentDir<'kinds, 'marked> {
+    /// What each inode is: `DT_DIR` for a directory with a size, `EMPTY_DIR` for one of size 0.
     pub kinds: &'kinds [u8],
     /// Whether each inode is marked.
     pub marked: &'marked [bool],
     /// The directory.
     pub dir: u32,
     /// Its parent, 0 for none.
-    pub above: u32,
+    pub parent: u32,
     ghost long: { length marked.now ≡ length kinds.now },
 }
 
 /// What a survey left, and which directories lead a cycle of parents.
 #[derive(Clone, Copy)]
 pub struct Surveyed<'a> {
-    /// What each inode is: 4 for a directory with a size, 5 for one of size 0.
+    /// What each inode is: `DT_DIR` for a directory with a size, `EMPTY_DIR` for one of size 0.
     pub kinds: &'a [u8],
     /// Whether each inode is marked.
     pub marked: &'a [bool],

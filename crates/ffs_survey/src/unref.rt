@@ -5,8 +5,7 @@ ghost use Rattle.ffs_survey.specs.Survey.{suspect_at, IsTree, AreNamed, number_a
 ghost use Rattle.ffs_survey.specs.Lists.{DeadLists};
 
 use crate::lists::Surveyed;
-use crate::named::is_dir;
-use crate::numbers::number_of;
+use crate::numbers::{is_dir, number_of};
 use ffs_memory::FilledList;
 use ffs_volume::constants::{EMPTY_DIR, ROOTINO};
 
@@ -32,10 +31,10 @@ pub fn is_dead(kinds: &[u8], marked: &[bool], named: &[bool], number: u32) -> bo
 /// The parent of a directory, if it has one.
 fn parent_of(parents: &FilledList<u32>, dir: u32) -> Option<u32>
     ensures { MatchOption result (number_at parents.now.items dir ≡ 0)
-        (λ above. (above ≡ number_at parents.now.items dir) × (above ≢ 0)) }
+        (λ parent. (parent ≡ number_at parents.now.items dir) × (parent ≢ 0)) }
 {
-    let above = number_of(parents, dir as usize);
-    if above == 0 { None } else { Some(above) }
+    let parent = number_of(parents, dir as usize);
+    if parent == 0 { None } else { Some(parent) }
 }
 
 /// Whether a directory is reported as unreferenced: neither reached nor dead, and without a parent,
@@ -58,13 +57,13 @@ pub fn is_unref(dir: u32, found: &Surveyed<'_>) -> bool
     if is_dead(found.kinds, found.marked, found.named, dir) {
         return false;
     }
-    let Some(above) = parent_of(found.parents, dir) else {
+    let Some(parent) = parent_of(found.parents, dir) else {
         return true;
     };
-    if above as usize >= found.kinds.len() {
+    if parent as usize >= found.kinds.len() {
         return true;
     }
-    if is_dead(found.kinds, found.marked, found.named, above) {
+    if is_dead(found.kinds, found.marked, found.named, parent) {
         return true;
     }
     found.leaders[dir as usize]

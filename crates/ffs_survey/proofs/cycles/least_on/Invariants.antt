@@ -1,13 +1,13 @@
 use Rattle.std.proofs.Common.{◌-◌, ◌<◌, length}
-use Rattle.ffs_survey.specs.Cycles.{up_of}
+use Rattle.ffs_survey.specs.Cycles.{parent_in}
 use Rattle.ffs_survey.proofs.Walks.{Rounding}
 use Rattle.ffs_survey.proofs.cycles.least_on.Given as goal
 
 abbrev pub invariant-round : goal.invariant-round
 invariant-round l = record {
-  bound : l.place < length l.parents.items;
+  bound : l.at < length l.parents.items;
   low : l.least < length l.parents.items;
-  rounding : Rounding (up_of l.parents.items) l.found l.steps l.place l.least;
+  rounding : Rounding (parent_in l.parents.items) l.found l.steps l.at l.least;
 }
 
 abbrev pub decreases-round : goal.decreases-round

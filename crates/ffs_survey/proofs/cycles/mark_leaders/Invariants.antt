@@ -1,13 +1,13 @@
 use Rattle.std.proofs.Common.{◌≡◌, ◌≢◌, vec_len, ℕ, ◌<◌, ◌≤◌, length, All}
 use Rattle.ffs_survey.specs.Survey.{number_at}
-use Rattle.ffs_survey.specs.Cycles.{up_of, IsClosed, MarksLeaders}
+use Rattle.ffs_survey.specs.Cycles.{parent_in, IsClosed, MarksLeaders}
 use Rattle.ffs_survey.proofs.cycles.mark_leaders.Given as goal
 
 abbrev pub invariant-loop-start : goal.invariant-loop-start
 invariant-loop-start l = record {
-  long : vec_len l.stamp ≡ vec_len l.fn.stamp;
-  closed : IsClosed (up_of l.parents.items) l.stamp.items;
-  older : All (λ s. s ≤ l.start) l.stamp.items;
-  begun : (x : ℕ) → x < l.start → number_at l.stamp.items x ≢ 0;
-  marks : MarksLeaders (up_of l.parents.items) (length l.parents.items) l.stamp.items l.leaders;
+  long : vec_len l.walk_of ≡ vec_len l.fn.walk_of;
+  closed : IsClosed (parent_in l.parents.items) l.walk_of.items;
+  older : All (λ s. s ≤ l.start) l.walk_of.items;
+  begun : (x : ℕ) → x < l.start → number_at l.walk_of.items x ≢ 0;
+  marks : MarksLeaders (parent_in l.parents.items) (length l.parents.items) l.walk_of.items l.leaders;
 }

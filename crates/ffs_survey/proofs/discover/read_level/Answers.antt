@@ -15,7 +15,7 @@ read_reached-requires-clause-room g c =
     let inv = c.loop-at.invariant in
     let room = c.requires.room in
     let few = c.args.lists.now.long.few in
-    let long = c.args.lists.now.long.queue in
+    let long = c.args.lists.now.long.queue_long in
     let level = room.queue in
     record {
       counts = λ x l.

@@ -4,7 +4,7 @@ use Rattle.ffs_volume.specs.Directories.Roles.{RoledEntry, refers}
 use Rattle.ffs_survey.specs.Reading.{roled_of}
 use Rattle.ffs_survey.specs.Survey.{number_at}
 use Rattle.ffs_survey.specs.Calm.{IsFlagged}
-use Rattle.ffs_survey.specs.Lent.{Lent, sight_in}
+use Rattle.ffs_survey.specs.Lent.{Lent, current_in}
 use Rattle.ffs_survey.proofs.Discovered.{entry_step}
 use Rattle.ffs_survey.proofs.CalmLaws.{calm_step, read_whole}
 use Rattle.ffs_survey.proofs.Lending.{queue_long}
@@ -12,8 +12,8 @@ use Rattle.ffs_survey.proofs.Queues.{extends_on, keeps_queue}
 use Rattle.ffs_survey.proofs.Tally.{entry_counted, bit-le}
 use Rattle.ffs_survey.proofs.discover.read_reached.Goals as goal
 
-pub is_calm-quiet-requires : goal.is_calm-quiet-requires
-is_calm-quiet-requires g c = sym (ap (λ (x : Lent). x.kinds) c.loop-entry.invariant.same.lent)
+pub is_calm-calm_so_far-requires : goal.is_calm-calm_so_far-requires
+is_calm-calm_so_far-requires g c = sym (ap (λ (x : Lent). x.kinds) c.loop-entry.invariant.same.lent)
 
 pub visit-high-requires-clause-kinds : goal.visit-high-requires-clause-kinds
 visit-high-requires-clause-kinds g c = sym (ap (λ (x : Lent). x.kinds) c.loop-entry.invariant.same.lent)
@@ -35,7 +35,7 @@ loop-entry-preserved g c =
     let marked : here.marked.now ≡ old.marked.now = ap (λ (x : Lent). x.marked) inv.same.lent in
     let counted = c.count_entry.ensures.counted in
     let comes = rw kinds at c.visit-high.ensures.comes in
-    let right = c.is_calm-quiet.ensures in
+    let right = c.is_calm-calm_so_far.ensures in
     let kept = c.visit-high.ensures.counts in
     record {
       ready = search rules;
@@ -54,7 +54,7 @@ loop-entry-preserved g c =
       left = let l = inv.left in omega (arith, l, fell);
       grown = λ x l.
           let old = inv.grown x l in
-          let new = counted.references x l in
+          let new = counted.counts x l in
           let now = ap (λ items. number_at items x) kept.references in
           let one = bit-le (refers x e) in
           omega (arith, old, new, now, one, fell);
@@ -69,13 +69,13 @@ loop-entry-preserved g c =
           rw (kept.references, kept.named)
           (entry_counted (length old.kinds.now) _ _ e (g.D.Directories.rest c.next.new.self b)
           old.references.now.items here.references.now.items _ old.named.now here.named.now _
-          (rw (cut b k) at (inv.counts b k)) counted.references counted.named);
-      quiet = λ b k.
-          calm_step (sight_in old c.args.from c.number_of-above.result) here.reached.now _ here.parents.now.items _
+          (rw (cut b k) at (inv.counts b k)) counted.counts counted.names);
+      calm_so_far = λ b k.
+          calm_step (current_in old c.args.from c.number_of-parent.result) here.reached.now _ here.parents.now.items _
           (take c.loop-entry.high here.queue.now.items) _ c.loop-entry.count e (g.D.Directories.rest c.next.new.self b)
-          c.loop-entry.quiet _ _
-          comes (cc (and_comm c.loop-entry.quiet c.is_calm-quiet.result, right))
-          (rw (cut b k) at (inv.quiet b k));
+          c.loop-entry.calm_so_far _ _
+          comes (cc (and_comm c.loop-entry.calm_so_far c.is_calm-calm_so_far.result, right))
+          (rw (cut b k) at (inv.calm_so_far b k));
       sound = let s = rw inv.base at c.in_ok-entry.ensures.sound in λ b k. s b k ∙ inv.sound b k;
     }
 
@@ -99,16 +99,16 @@ returns-clause-found g c =
           let end : g.D.Directories.ended c.next.new.self b = rw c.in_default.is at ended b k in
           let w = read_whole old.kinds.now old.marked.now old.reached.now here.reached.now old.parents.now.items
           here.parents.now.items (take c.args.top old.queue.now.items) (take c.loop-entry.high here.queue.now.items)
-          (entries c.args.from) (g.D.Directories.rest c.loop-entry.directories b) c.args.from c.number_of-above.result
-          c.loop-entry.count c.loop-entry.quiet
-          c.number_of-above.ensures none (inv.comes b k) (inv.quiet b k) in
+          (entries c.args.from) (g.D.Directories.rest c.loop-entry.directories b) c.args.from c.number_of-parent.result
+          c.loop-entry.count c.loop-entry.calm_so_far
+          c.number_of-parent.ensures none (inv.comes b k) (inv.calm_so_far b k) in
           record {
             comes = w.comes;
             counts = rw none at (inv.counts b k);
             calm = subst (λ z. IsFlagged c.args.from z
                 (g.D.Directories.sound (g.D.Directories.base c.args.directories.now) b c.args.from) old.calm.now
-                c.flag_calm.new.calm) w.quiet_is
-                (subst (λ z. IsFlagged c.args.from (c.loop-entry.quiet && nat_le 2 c.loop-entry.count) z old.calm.now
+                c.flag_calm.new.calm) w.calm_is
+                (subst (λ z. IsFlagged c.args.from (c.loop-entry.calm_so_far && nat_le 2 c.loop-entry.count) z old.calm.now
                 c.flag_calm.new.calm) (right b k ∙ inv.sound b k) (flags b k end));
           };
     }

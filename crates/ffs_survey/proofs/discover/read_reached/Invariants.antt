@@ -2,7 +2,7 @@ use Rattle.std.proofs.Common.{◌≡◌, ℕ, ◌+◌, ◌<◌, ◌≤◌, ◌^�
 use Rattle.ffs_survey.specs.Survey.{number_at, bool_at}
 use Rattle.ffs_survey.specs.Discover.{Extends, Comes, Counts, from_entries, unset, count_in, any_in}
 use Rattle.ffs_survey.specs.Calm.{are_calm}
-use Rattle.ffs_survey.specs.Lent.{sight_in, SameLists, HasRoomAfter}
+use Rattle.ffs_survey.specs.Lent.{current_in, SameLists, HasRoomAfter}
 use Rattle.ffs_survey.proofs.discover.read_reached.Given as goal
 
 abbrev pub invariant-loop-entry : goal.invariant-loop-entry
@@ -10,7 +10,7 @@ invariant-loop-entry g l =
     let old = l.fn.lists in
     let over = g.D.Directories.base l.fn.directories in
     let knows = g.D.Directories.knows over in
-    let sight = sight_in old l.from l.above in
+    let current = current_in old l.from l.parent in
     let entries = λ (b : List ℕ). g.D.Directories.entries over b l.from in
     let rest = g.D.Directories.rest l.directories in
     let coming = g.D.Directories.left l.directories in
@@ -36,8 +36,8 @@ invariant-loop-entry g l =
       counts : (b : List ℕ) → knows b → Counts (length old.kinds.now) (count_in (entries b)) (any_in (entries b))
           old.references.now.items old.named.now (count_in (rest b)) (any_in (rest b))
           l.lists.references.now.items l.lists.named.now;
-      quiet : (b : List ℕ) → knows b → (l.quiet && are_calm sight (bool_at l.lists.reached.now) l.count (rest b))
-          ≡ are_calm sight (bool_at old.reached.now) 0 (entries b);
+      calm_so_far : (b : List ℕ) → knows b → (l.calm_so_far && are_calm current (bool_at l.lists.reached.now) l.count (rest b))
+          ≡ are_calm current (bool_at old.reached.now) 0 (entries b);
       sound : (b : List ℕ) → knows b →
           g.D.Directories.sound_so_far l.directories b ≡ g.D.Directories.sound over b l.from;
     }

@@ -3,7 +3,7 @@ use Rattle.ffs_volume.specs.Directories.Roles.{RoledEntry, refers}
 use Rattle.ffs_volume.specs.Directories.Graph.{is_naming_entry}
 use Rattle.ffs_survey.specs.Reading.{roled_of}
 use Rattle.ffs_survey.specs.Survey.{number_at}
-use Rattle.ffs_survey.specs.Discover.{any_in, is_free}
+use Rattle.ffs_survey.specs.Discover.{any_in, is_unreached_dir}
 use Rattle.ffs_survey.specs.Lent.{Lent}
 use Rattle.ffs_survey.proofs.Tally.{entry_counted, bit-le, parent_step}
 use Rattle.ffs_survey.proofs.discover.read_unreached.Goals as goal
@@ -39,7 +39,7 @@ loop-entry-preserved g c =
       left = let l = inv.left in omega (arith, l, fell);
       grown = λ x l.
           let old = inv.grown x l in
-          let new = counted.references x l in
+          let new = counted.counts x l in
           let now = ap (λ items. number_at items x) kept.references in
           let one = bit-le (refers x e) in
           omega (arith, old, new, now, one, fell);
@@ -47,9 +47,9 @@ loop-entry-preserved g c =
           rw (kept.references, kept.named)
           (entry_counted (length old.kinds.now) _ _ e (g.D.Directories.rest c.next.new.self b)
           old.references.now.items here.references.now.items _ old.named.now here.named.now _
-          (rw (cut b k) at (inv.counts b k)) counted.references counted.named);
+          (rw (cut b k) at (inv.counts b k)) counted.counts counted.names);
       parents = λ b k x l.
-          parent_step (is_free old.kinds.now old.reached.now x) (is_naming_entry x e)
+          parent_step (is_unreached_dir old.kinds.now old.reached.now x) (is_naming_entry x e)
           (any_in (g.D.Directories.rest c.next.new.self b) x) c.args.from (number_at here.parents.now.items x) _ _
           c.requires.from (adopted x l) (rw (cut b k) at (inv.parents b k x l));
     }

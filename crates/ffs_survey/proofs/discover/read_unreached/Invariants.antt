@@ -1,6 +1,6 @@
 use Rattle.std.proofs.Common.{◌≡◌, ℕ, ◌+◌, ◌<◌, ◌≤◌, ◌^◌, List, length, cond, eqb, ◌&&◌}
 use Rattle.ffs_survey.specs.Survey.{number_at}
-use Rattle.ffs_survey.specs.Discover.{Counts, count_in, any_in, is_free}
+use Rattle.ffs_survey.specs.Discover.{Counts, count_in, any_in, is_unreached_dir}
 use Rattle.ffs_survey.specs.Lent.{SameLists, KeepsReached}
 use Rattle.ffs_survey.proofs.discover.read_unreached.Given as goal
 
@@ -29,10 +29,10 @@ invariant-loop-entry g l =
           l.lists.references.now.items l.lists.named.now;
       parents : (b : List ℕ) → knows b → (x : ℕ) → x < length old.kinds.now →
           cond (eqb (number_at l.lists.parents.now.items x) 0
-          && (is_free old.kinds.now old.reached.now x && any_in (rest b) x)) l.from
+          && (is_unreached_dir old.kinds.now old.reached.now x && any_in (rest b) x)) l.from
           (number_at l.lists.parents.now.items x)
           ≡ cond (eqb (number_at old.parents.now.items x) 0
-          && (is_free old.kinds.now old.reached.now x && any_in (entries b) x)) l.from
+          && (is_unreached_dir old.kinds.now old.reached.now x && any_in (entries b) x)) l.from
           (number_at old.parents.now.items x);
     }
 

@@ -5,7 +5,7 @@ use Rattle.ffs_survey.proofs.discover.visit.Goals as goal
 
 pub returns-then-not-is_new-clause-comes : goal.returns-then-not-is_new-clause-comes
 returns-then-not-is_new-clause-comes c =
-    visit_miss c.args.lists.now.kinds.now c.args.lists.now.reached.now c.args.lists.now.parents.now.items (take c.args.top c.args.lists.now.queue.now.items) c.args.sight.now.dir
+    visit_miss c.args.lists.now.kinds.now c.args.lists.now.reached.now c.args.lists.now.parents.now.items (take c.args.top c.args.lists.now.queue.now.items) c.args.current.now.dir
     (roled_of c.args.entry []) (sym c.is_new.ensures ∙ c.if-not-is_new.true)
 
 pub set-requires-2 : goal.set-requires-2
@@ -31,6 +31,6 @@ returns-clause-comes c =
     let b = n.below in
     let u = unset-set c.args.lists.now.reached.now c.args.entry.number (omega (arith, b)) n.unmarked in
     rw (c.set.ensures.items, c.set-2.ensures.items)
-    (visit_hit c.args.lists.now.kinds.now c.args.lists.now.reached.now c.args.lists.now.parents.now.items c.args.lists.now.queue.now.items c.args.sight.now.dir c.args.top
+    (visit_hit c.args.lists.now.kinds.now c.args.lists.now.reached.now c.args.lists.now.parents.now.items c.args.lists.now.queue.now.items c.args.current.now.dir c.args.top
     (roled_of c.args.entry [])
     (omega (arith, b)) (omega (arith, b)) (omega (arith, u)) n.dir n.plain n.unmarked)

@@ -2,8 +2,8 @@ use Rattle.std.proofs.Common.{◌≡◌, ◌+◌, ◌++◌, take, drop, arith, s
 use Rattle.ffs_survey.specs.Survey.{graph_with}
 use Rattle.ffs_survey.specs.Discover.{Comes, Extends, LevelsKnown, from_dirs, nothing}
 use Rattle.ffs_survey.specs.Lent.{Lent}
-use Rattle.ffs_survey.proofs.CalmLaws.{front_reached}
-use Rattle.ffs_survey.proofs.Frontiers.{front_dirs, sane_of}
+use Rattle.ffs_survey.proofs.CalmLaws.{frontier_reached}
+use Rattle.ffs_survey.proofs.Frontiers.{frontier_dirs, sane_of}
 use Rattle.ffs_survey.proofs.Lending.{queue_long}
 use Rattle.ffs_survey.proofs.Queues.{comes_after, is_extended, level_after, queue_parts, IsNextLevel}
 use Rattle.ffs_survey.proofs.levels.next_level.Goals as goal
@@ -15,8 +15,8 @@ read_level-requires-clause-room g c =
     let room = c.requires.room.room in
     record {
       counts = λ x l.
-          let most = c.requires.room.counted x (omega (arith, l, lists.references)) in
-          omega (arith, most, order, room, lists.few, lists.queue);
+          let most = c.requires.room.counted x (omega (arith, l, lists.references_long)) in
+          omega (arith, most, order, room, lists.few, lists.queue_long);
       queue = room;
     }
 
@@ -27,8 +27,8 @@ read_level-requires-clause-frontier g c = λ b k i d l.
     let kinds = c.args.lists.now.kinds.now in
     let v = graph_with kinds (g.D.Directories.entries (g.D.Directories.base c.args.directories.now) b) in
     record {
-      dir = front_dirs v known.depth _ (sane_of kinds _ c.args.lists.now.long.some) c.requires.root at.frontier i d l;
-      marked = front_reached _ _ _ _ _ _ at.frontier at.levels i d l;
+      dir = frontier_dirs v known.depth _ (sane_of kinds _ c.args.lists.now.long.some) c.requires.root at.frontier i d l;
+      marked = frontier_reached _ _ _ _ _ _ at.frontier at.levels i d l;
     }
 
 pub returns-clause-level : goal.returns-clause-level
@@ -54,8 +54,8 @@ returns-clause-level g c =
             let o = c.requires.room.ordered in
             let kinds = ap (λ (x : Lent). length x.kinds) same.lent in
             let before = c.requires.room.counted x
-            (omega (arith, l, kinds, lists.long.references, after.long.references)) in
-            let grown = found.grown x (omega (arith, l, kinds, after.long.references)) in
+            (omega (arith, l, kinds, lists.long.references_long, after.long.references_long)) in
+            let grown = found.grown x (omega (arith, l, kinds, after.long.references_long)) in
             omega (arith, o, before, grown);
       };
       kept = before;

@@ -24,21 +24,21 @@ returns-clause-same_length g c =
     let lent = c.survey_lists.ensures.leaves.lists.lent in
     let new = c.survey_lists.new.lists in
     let references = c.references-1.given.1 (sym (ap (λ (x : Lent). x.references) lent)) in
-    rw references (new.references.now.ok.0 ∙ (new.long.references
-    ∙ (ap (λ (x : Lent). length x.kinds) lent ∙ (sym c.requires.lists.references ∙ sym c.args.references.now.ok.0))))
+    rw references (new.references.now.ok.0 ∙ (new.long.references_long
+    ∙ (ap (λ (x : Lent). length x.kinds) lent ∙ (sym c.requires.lists.references_long ∙ sym c.args.references.now.ok.0))))
 
 pub returns-clause-parents_long : goal.returns-clause-parents_long
 returns-clause-parents_long g c =
     let lent = c.survey_lists.ensures.leaves.lists.lent in
     let new = c.survey_lists.new.lists in
     let parents = c.parents-1.given.1 (sym (ap (λ (x : Lent). x.parents) lent)) in
-    rw parents (new.parents.now.ok.0 ∙ (new.long.parents
-    ∙ (ap (λ (x : Lent). length x.kinds) lent ∙ (sym c.requires.lists.parents ∙ sym c.args.parents.now.ok.0))))
+    rw parents (new.parents.now.ok.0 ∙ (new.long.parents_long
+    ∙ (ap (λ (x : Lent). length x.kinds) lent ∙ (sym c.requires.lists.parents_long ∙ sym c.args.parents.now.ok.0))))
 
 pub returns-clause-queue_long : goal.returns-clause-queue_long
 returns-clause-queue_long g c =
     let lent = c.survey_lists.ensures.leaves.lists.lent in
     let new = c.survey_lists.new.lists in
     let queue = c.queue-1.given.1 (sym (ap (λ (x : Lent). x.queue) lent)) in
-    rw queue (new.queue.now.ok.0 ∙ (new.long.queue
-    ∙ (ap (λ (x : Lent). length x.kinds) lent ∙ (sym c.requires.lists.queue ∙ sym c.args.queue.now.ok.0))))
+    rw queue (new.queue.now.ok.0 ∙ (new.long.queue_long
+    ∙ (ap (λ (x : Lent). length x.kinds) lent ∙ (sym c.requires.lists.queue_long ∙ sym c.args.queue.now.ok.0))))

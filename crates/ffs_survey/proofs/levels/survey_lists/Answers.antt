@@ -4,7 +4,7 @@ use Rattle.ffs_survey.specs.Lent.{Lent}
 use Rattle.ffs_survey.proofs.CalmLaws.{calm_unreached, read_stays}
 use Rattle.ffs_survey.proofs.Costs.{costs_two}
 use Rattle.ffs_survey.proofs.Frontiers.{sane_of}
-use Rattle.ffs_survey.proofs.UnreachedLaws.{free_blank, survey_whole}
+use Rattle.ffs_survey.proofs.UnreachedLaws.{unreached_blank, survey_whole}
 use Rattle.ffs_survey.proofs.levels.survey_lists.Goals as goal
 
 pub returns-clause-survey : goal.returns-clause-survey
@@ -20,14 +20,14 @@ returns-clause-survey g c =
     λ b k.
     let es = g.D.Directories.entries (g.D.Directories.base c.args.directories.now) b in
     let first = (c.in_ok-survey_reached.ensures.found b k).part in
-    let second = adds b k (free_blank old.kinds.now es _ found.references.now.items found.named.now
+    let second = adds b k (unreached_blank old.kinds.now es _ found.references.now.items found.named.now
     found.reached.now found.parents.now.items first) in
     rw kept.reached
     (survey_whole old.kinds.now es old.references.now.items c.limit_starts.new.references.items
     found.references.now.items new.references.now.items found.named.now new.named.now found.reached.now
     found.parents.now.items new.parents.now.items
-    (sane_of old.kinds.now es old.long.some) (found.long.reached ∙ ap length kinds)
-    (new.long.parents ∙ long ∙ ap length kinds) c.limit_starts.ensures.starts first second)
+    (sane_of old.kinds.now es old.long.some) (found.long.reached_long ∙ ap length kinds)
+    (new.long.parents_long ∙ long ∙ ap length kinds) c.limit_starts.ensures.starts first second)
 
 pub returns-clause-calm : goal.returns-clause-calm
 returns-clause-calm g c =
@@ -41,14 +41,14 @@ returns-clause-calm g c =
     λ b k.
     let es = g.D.Directories.entries (g.D.Directories.base c.args.directories.now) b in
     let first = (c.in_ok-survey_reached.ensures.found b k).part in
-    let second = adds b k (free_blank old.kinds.now es _ found.references.now.items found.named.now
+    let second = adds b k (unreached_blank old.kinds.now es _ found.references.now.items found.named.now
     found.reached.now found.parents.now.items first) in
     let calm = (c.in_ok-survey_reached.ensures.found b k).calm in
     rw (kept.reached, kept.calm)
     (calm_unreached old.kinds.now old.marked.now found.reached.now found.parents.now.items new.parents.now.items es _
     found.calm.now
     (read_stays (graph_with old.kinds.now es) old.kinds.now found.reached.now (length old.kinds.now)
-    _ _ _ _ _ _ (found.long.reached ∙ ap length kinds) second) calm)
+    _ _ _ _ _ _ (found.long.reached_long ∙ ap length kinds) second) calm)
 
 pub returns-clause-counted : goal.returns-clause-counted
 returns-clause-counted g c =

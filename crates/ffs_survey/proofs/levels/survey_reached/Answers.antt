@@ -7,7 +7,7 @@ use Rattle.ffs_survey.proofs.Discovered.{unset-set}
 use Rattle.ffs_survey.proofs.CalmLaws.{calm_none}
 use Rattle.ffs_survey.proofs.Costs.{costs_part, level_costs, queue_costs}
 use Rattle.ffs_survey.proofs.Frontiers.{sane_of}
-use Rattle.ffs_survey.proofs.Ends.{levels_start, frontier_start, queue_start, unset-le}
+use Rattle.ffs_survey.proofs.LevelEnds.{levels_start, frontier_start, queue_start, unset-le}
 use Rattle.ffs_survey.proofs.Queues.{counted_on, reached_part, alone_part, none_counted, empty_level}
 use Rattle.ffs_survey.proofs.levels.survey_reached.Goals as goal
 
@@ -63,10 +63,10 @@ pub returns-clause-starts : goal.returns-clause-starts
 returns-clause-starts g c = λ x l.
     let inv = c.loop-low.invariant in
     let lists = c.loop-low.lists.long in
-    let most = inv.room.counted x (omega (arith, l, lists.references)) in
+    let most = inv.room.counted x (omega (arith, l, lists.references_long)) in
     let order = inv.room.ordered in
     let room = inv.room.room in
-    omega (arith, most, order, room, lists.few, lists.queue)
+    omega (arith, most, order, room, lists.few, lists.queue_long)
 
 pub loop-low-preserved : goal.loop-low-preserved
 loop-low-preserved g c =
@@ -105,7 +105,7 @@ returns-clause-found g c = λ b k.
     let inv = c.loop-low.invariant in
     let low = inv.room.ordered in
     let same : c.loop-low.low ≡ c.loop-low.high = omega (arith, low, c.loop-low-test.false) in
-    let reached_long = c.loop-low.lists.long.reached ∙ ap (λ (x : Lent). length x.kinds) inv.same.lent in
+    let reached_long = c.loop-low.lists.long.reached_long ∙ ap (λ (x : Lent). length x.kinds) inv.same.lent in
     let at = inv.levels b k in
     let F : List ℕ → Type 0 = λ xs. IsFrontier v at.depth xs in
     record {
@@ -139,7 +139,7 @@ returns-clause-costs g c = λ b k.
     let cost = g.D.Directories.cost (g.D.Directories.base c.args.directories.now) b in
     let low = inv.room.ordered in
     let same : c.loop-low.low ≡ c.loop-low.high = omega (arith, low, c.loop-low-test.false) in
-    let reached_long = c.loop-low.lists.long.reached ∙ ap (λ (x : Lent). length x.kinds) inv.same.lent in
+    let reached_long = c.loop-low.lists.long.reached_long ∙ ap (λ (x : Lent). length x.kinds) inv.same.lent in
     let whole = queue_costs cost c.loop-low.lists.reached.now (take c.loop-low.high c.loop-low.lists.queue.now.items) _ reached_long
     (inv.levels b k).at.levels.queue in
     let old = rw same at (inv.reads b k) in
@@ -152,7 +152,7 @@ pub returns-in_err-end-clause-costs : goal.returns-in_err-end-clause-costs
 returns-in_err-end-clause-costs g c =
     let inv = c.loop-low.invariant in
     let read = rw inv.base at c.in_err-end.ensures.counted in
-    let reached_long = c.loop-low.lists.long.reached ∙ ap (λ (x : Lent). length x.kinds) inv.same.lent in
+    let reached_long = c.loop-low.lists.long.reached_long ∙ ap (λ (x : Lent). length x.kinds) inv.same.lent in
     let p = err_from_is_err_and c.from_residual.result c.from_residual.ensures.1 in
     rw p.1 (λ b k.
     let cost = g.D.Directories.cost (g.D.Directories.base c.args.directories.now) b in

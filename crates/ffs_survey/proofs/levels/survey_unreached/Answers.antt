@@ -1,6 +1,6 @@
 use Rattle.std.proofs.Common.{◌≡◌, ◌<◌, rules, arith, ap, refl, sym, ◌∙◌, ◌+◌, length, true, false}
 use Rattle.ffs_survey.specs.Survey.{graph_with}
-use Rattle.ffs_survey.specs.Discover.{is_free}
+use Rattle.ffs_survey.specs.Discover.{is_unreached_dir}
 use Rattle.ffs_survey.specs.Lent.{Lent}
 use Rattle.ffs_survey.proofs.Costs.{cost_skip, cost_take, costs_rise}
 use Rattle.ffs_survey.proofs.UnreachedLaws.{read_start, read_on, read_skip}
@@ -32,31 +32,31 @@ read_unreached-requires-clause-counts g c = λ x l.
     let most = c.requires.counts x inside in
     omega (arith, old, most, few)
 
-pub is_free-requires : goal.is_free-requires
-is_free-requires g c = sym (ap (λ (x : Lent). x.kinds) c.loop-s.invariant.same.lent)
+pub is_unreached_dir-requires : goal.is_unreached_dir-requires
+is_unreached_dir-requires g c = sym (ap (λ (x : Lent). x.kinds) c.loop-s.invariant.same.lent)
 
-pub loop-s-preserved-then-not-is_free : goal.loop-s-preserved-then-not-is_free
-loop-s-preserved-then-not-is_free g c =
+pub loop-s-preserved-then-not-is_unreached_dir : goal.loop-s-preserved-then-not-is_unreached_dir
+loop-s-preserved-then-not-is_unreached_dir g c =
     let inv = c.loop-s.invariant in
     let old = c.args.lists.now in
     let kinds : c.loop-s.lists.kinds.now ≡ old.kinds.now = ap (λ (x : Lent). x.kinds) inv.same.lent in
-    let free : is_free old.kinds.now old.reached.now c.loop-s.s ≡ false =
-    rw (kinds, inv.kept.reached) at (sym c.is_free.ensures ∙ c.if-not-is_free.true) in
+    let unreached : is_unreached_dir old.kinds.now old.reached.now c.loop-s.s ≡ false =
+    rw (kinds, inv.kept.reached) at (sym c.is_unreached_dir.ensures ∙ c.if-not-is_unreached_dir.true) in
     record {
       ready = search rules;
       base = inv.base;
       device = inv.device;
       reads = λ b k.
           let before = inv.reads b k in
-          let none = cost_skip (is_free old.kinds.now old.reached.now)
-          (g.D.Directories.cost (g.D.Directories.base c.args.directories.now) b) c.loop-s.s free in
+          let none = cost_skip (is_unreached_dir old.kinds.now old.reached.now)
+          (g.D.Directories.cost (g.D.Directories.base c.args.directories.now) b) c.loop-s.s unreached in
           omega (arith, before, none);
       same = inv.same;
       kept = inv.kept;
       grown = λ x l. let o = inv.grown x l in omega (arith, o);
       read = λ b k z. read_skip old.kinds.now
           (g.D.Directories.entries (g.D.Directories.base c.args.directories.now) b) old.reached.now c.loop-s.s _ _ _
-          _ _ _ free (inv.read b k z);
+          _ _ _ unreached (inv.read b k z);
     }
 
 pub loop-s-preserved : goal.loop-s-preserved
@@ -65,8 +65,8 @@ loop-s-preserved g c =
     let done = c.in_ok-read_unreached.ensures in
     let old = c.args.lists.now in
     let kinds : c.loop-s.lists.kinds.now ≡ old.kinds.now = ap (λ (x : Lent). x.kinds) inv.same.lent in
-    let free : is_free old.kinds.now old.reached.now c.loop-s.s ≡ true =
-    rw (kinds, inv.kept.reached) at (sym c.is_free.ensures ∙ c.if-not-is_free.false) in
+    let unreached : is_unreached_dir old.kinds.now old.reached.now c.loop-s.s ≡ true =
+    rw (kinds, inv.kept.reached) at (sym c.is_unreached_dir.ensures ∙ c.if-not-is_unreached_dir.false) in
     let grown = rw kinds at done.grown in
     let new = rw (inv.base, kinds, inv.kept.reached) at done.adds in
     record {
@@ -77,8 +77,8 @@ loop-s-preserved g c =
           λ b k.
           let now = r b k in
           let before = inv.reads b k in
-          let one = cost_take (is_free old.kinds.now old.reached.now)
-          (g.D.Directories.cost (g.D.Directories.base c.args.directories.now) b) c.loop-s.s free in
+          let one = cost_take (is_unreached_dir old.kinds.now old.reached.now)
+          (g.D.Directories.cost (g.D.Directories.base c.args.directories.now) b) c.loop-s.s unreached in
           omega (arith, now, before, one);
       same = record { lent = done.leaves.lists.lent ∙ inv.same.lent };
       kept = record { reached = done.kept.reached ∙ inv.kept.reached; calm = done.kept.calm ∙ inv.kept.calm };
@@ -86,13 +86,13 @@ loop-s-preserved g c =
       read = λ b k z.
           read_on old.kinds.now (g.D.Directories.entries (g.D.Directories.base c.args.directories.now) b)
           old.reached.now c.loop-s.s _ _ _ _ _ _ _ _ _
-          free z (inv.read b k z) (new b k).counts (new b k).parents;
+          unreached z (inv.read b k z) (new b k).counts (new b k).parents;
     }
 
 pub returns-clause-counted : goal.returns-clause-counted
 returns-clause-counted g c = λ b k.
     let old = c.loop-s.invariant.reads b k in
-    let rise = costs_rise (is_free c.args.lists.now.kinds.now c.args.lists.now.reached.now)
+    let rise = costs_rise (is_unreached_dir c.args.lists.now.kinds.now c.args.lists.now.reached.now)
     (g.D.Directories.cost (g.D.Directories.base c.args.directories.now) b) c.loop-s.s
     (length c.args.lists.now.kinds.now) (omega arith) in
     omega (arith, old, rise)
@@ -103,13 +103,13 @@ returns-in_err-read_unreached-clause-counted g c =
     let read = rw inv.base at c.in_err-read_unreached.ensures.counted in
     let old = c.args.lists.now in
     let kinds : c.loop-s.lists.kinds.now ≡ old.kinds.now = ap (λ (x : Lent). x.kinds) inv.same.lent in
-    let free : is_free old.kinds.now old.reached.now c.loop-s.s ≡ true =
-    rw (kinds, inv.kept.reached) at (sym c.is_free.ensures ∙ c.if-not-is_free.false) in
+    let unreached : is_unreached_dir old.kinds.now old.reached.now c.loop-s.s ≡ true =
+    rw (kinds, inv.kept.reached) at (sym c.is_unreached_dir.ensures ∙ c.if-not-is_unreached_dir.false) in
     λ b k.
     let cost = g.D.Directories.cost (g.D.Directories.base c.args.directories.now) b in
     let now = read b k in
     let before = inv.reads b k in
-    let one = cost_take (is_free old.kinds.now old.reached.now) cost c.loop-s.s free in
-    let rise = costs_rise (is_free old.kinds.now old.reached.now) cost (c.loop-s.s + 1)
+    let one = cost_take (is_unreached_dir old.kinds.now old.reached.now) cost c.loop-s.s unreached in
+    let rise = costs_rise (is_unreached_dir old.kinds.now old.reached.now) cost (c.loop-s.s + 1)
     (length old.kinds.now) (omega arith) in
     omega (arith, now, before, one, rise)

@@ -1,7 +1,7 @@
 use Rattle.std.proofs.Common.{◌≡◌, ℕ, ◌+◌, ◌*◌, ◌<◌, ◌≤◌, ◌^◌, List, length}
 use Rattle.ffs_survey.specs.Survey.{number_at, graph_with}
 use Rattle.ffs_survey.specs.Costs.{costs_below}
-use Rattle.ffs_survey.specs.Discover.{IsBlank, IsRead, is_free}
+use Rattle.ffs_survey.specs.Discover.{IsBlank, IsRead, is_unreached_dir}
 use Rattle.ffs_survey.specs.Lent.{SameLists, KeepsReached}
 use Rattle.ffs_survey.proofs.levels.survey_unreached.Given as goal
 
@@ -15,7 +15,7 @@ invariant-loop-s g l =
       base : g.D.Directories.base l.directories ≡ over;
       device : g.D.Directories.device l.directories ≡ g.D.Directories.device l.fn.directories;
       reads : (b : List ℕ) → knows b → g.D.Directories.reads l.directories ≤ g.D.Directories.reads l.fn.directories
-          + costs_below (is_free old.kinds.now old.reached.now) (g.D.Directories.cost over b) l.s;
+          + costs_below (is_unreached_dir old.kinds.now old.reached.now) (g.D.Directories.cost over b) l.s;
       same : SameLists old l.lists;
       kept : KeepsReached old l.lists;
       grown : (x : ℕ) → x < length old.kinds.now →

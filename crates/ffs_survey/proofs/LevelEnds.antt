@@ -20,7 +20,7 @@ use Rattle.ffs_volume.specs.Directories.Graph.{
 }
 use Rattle.ffs_volume.proofs.Graphs.{IsSane}
 use Rattle.ffs_volume.proofs.LevelLaws.{within-zero, within-grows, level-is, level-some, level-each, reached-from}
-use Rattle.ffs_volume.proofs.LevelLaws.{reached-level}
+use Rattle.ffs_volume.proofs.LevelLaws.{reached-level, parent-root}
 use Rattle.ffs_survey.specs.Survey.{bool_at, number_at}
 use Rattle.ffs_survey.specs.Discover.{bit, occurrences, unset, IsFrontier, LevelsKnown, from_dirs, nothing, Comes}
 use Rattle.ffs_survey.proofs.Discovered.{comes-to, comes-refl}
@@ -54,10 +54,6 @@ knows_reached v k r p q sane f n x = n.reached x ∙ no_more v k x sane f
 pub knows_parent : (v : Graph) (k : ℕ) (r : List Bool) (p q : List ℕ) → IsSane v → IsFrontier v k [] →
     LevelsKnown v k r p q → (x : ℕ) → number_at p x ≡ unwrap_or (cond (is_some (level v x)) (parent v x) None) 0
 knows_parent v k r p q sane f n x = n.parent x ∙ ap (λ b. unwrap_or (cond b (parent v x) None) 0) (no_more v k x sane f)
-
-parent-root : (v : Graph) → parent v 2 ≡ Some 2
-unfolding parent
-parent-root v = refl
 
 occurrences-single : (x y : ℕ) → occurrences x (y ∷ []) ≡ bit (y == x)
 unfolding occurrences

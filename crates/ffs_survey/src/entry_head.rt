@@ -1,14 +1,12 @@
-//! An entry of a directory, and the kinds of inodes.
+//! An entry of a directory, without its name.
 ghost use Rattle.std.specs.Prelude.{◌≡◌};
 ghost use Rattle.ffs_volume.specs.Directories.Roles.{is_plain as is_plain_role, is_counted as is_counted_role};
-ghost use Rattle.ffs_survey.specs.Survey.{dir_at};
 
 use ffs_volume::Role;
-use ffs_volume::constants::{DT_DIR, EMPTY_DIR, ROOTINO};
 
 /// An entry of a directory, without its name (dir(5)).
 #[derive(Clone, Copy, Debug)]
-pub struct Named {
+pub struct EntryHead {
     /// What it is in its directory.
     pub role: Role,
     /// The inode that it names, or 0.
@@ -43,14 +41,4 @@ pub fn is_counted(role: Role) -> bool
         Role::Extra => false,
         Role::Empty => false,
     }
-}
-
-/// Whether a number is that of a directory, by a list with a kind for each inode: 4 for a directory
-/// with a size, 5 for one of size 0. Inodes 0 and 1 are none.
-pub fn is_dir(kinds: &[u8], number: usize) -> bool
-    ensures { result ≡ dir_at kinds.now number }
-{
-    number >= ROOTINO as usize
-        && number < kinds.len()
-        && (kinds[number] == DT_DIR || kinds[number] == EMPTY_DIR)
 }
