@@ -9,7 +9,8 @@ use Rattle.ffs_volume.specs.Directories.Roles.{RoledEntry}
 use Rattle.ffs_volume.specs.Directories.Graph.{is_naming_entry}
 use Rattle.ffs_survey.specs.Survey.{bool_at, number_at, dir_at}
 
--- the current directory and its parent, and what its entries are compared with: the kinds of inodes and which are marked
+-- the current directory and its parent, and what its entries are compared with: the kinds of inodes and which are
+-- marked
 pub record CurrentDir : Type 0 where
   pub kinds : List ℕ
   pub marked : List Bool

@@ -43,8 +43,8 @@ from_dirs g ss x = find (λ s. edge g s x) ss
 abbrev pub nothing : ℕ → Option ℕ
 nothing x = None
 
--- Reading on changes no final result: what was found plus what the entries still to be read would add is the same before
--- and after. Here of reached inodes, parents and the queue; `todo` is the parent that those entries give a number.
+-- Reading on changes no final result: what was found plus what the entries still to be read would add is the same
+-- before and after. Here of reached inodes, parents and the queue; `todo` is the parent that those entries give.
 pub record Comes (todo : ℕ → Option ℕ) (reached : List Bool) (parents queue : List ℕ) (todo' : ℕ → Option ℕ)
     (reached' : List Bool) (parents' queue' : List ℕ) : Type 0 where
   pub reaches : (x : ℕ) → (bool_at reached' x || is_some (todo' x)) ≡ (bool_at reached x || is_some (todo x))

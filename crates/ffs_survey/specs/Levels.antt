@@ -14,8 +14,12 @@ pub record ReadsReached (kinds : List ℕ) (marked : List Bool) (d : ℕ) (entri
       new.queue
   pub counts : Counts (length kinds) (count_in entries) (any_in entries) old.references old.named none never
       new.references new.named
-  pub calm : IsFlagged d (are_calm (record { kinds = kinds; marked = marked; dir = d; parent = number_at old.parents d })
-      (bool_at old.reached) 0 entries) sound old.calm new.calm
+  pub calm : IsFlagged d (are_calm (record {
+    kinds = kinds;
+    marked = marked;
+    dir = d;
+    parent = number_at old.parents d;
+  }) (bool_at old.reached) 0 entries) sound old.calm new.calm
 
 -- what the reading of reached directories makes of what was found, as `reads` says it: no count below n grows by more
 -- than `most`, and the queue, which ended at `top`, keeps what it had and ends at `end`, with all that is newly reached

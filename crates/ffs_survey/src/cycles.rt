@@ -21,8 +21,8 @@ fn walk(start: u32, parents: &FilledList<u32>, walk_of: &mut FilledList<u32>) ->
     ensures cycle { MatchOption result
         ((x : ℕ) → IsMet walk_of.old.items walk_of.new.items x
         → IsOnCycle (parent_in parents.now.items) x → ⊥)
-        (λ found. FindsCycle (parent_in parents.now.items) (length parents.now.items) walk_of.old.items
-        walk_of.new.items found) }
+        (λ found. FindsCycle (parent_in parents.now.items) (length parents.now.items)
+        walk_of.old.items walk_of.new.items found) }
 {
     let mut at = start;
     let mut steps = 0u32;

@@ -74,7 +74,8 @@ fn visit(entry: EntryHead, current: &CurrentDir, lists: &mut Lists, top: usize) 
     requires kinds { current.now.kinds.now ≡ lists.old.kinds.now }
     requires room { HasRoomAfter top lists.old }
     ensures top { result + unset lists.new.reached.now ≡ top + unset lists.old.reached.now }
-    ensures comes { Comes (from_entries lists.old.kinds.now current.now.dir (roled_of entry [] ∷ []))
+    ensures comes { Comes
+        (from_entries lists.old.kinds.now current.now.dir (roled_of entry [] ∷ []))
         lists.old.reached.now lists.old.parents.now.items (take top lists.old.queue.now.items)
         nothing lists.new.reached.now lists.new.parents.now.items
         (take result lists.new.queue.now.items) }
