@@ -17,6 +17,7 @@ use Rattle.ffs_names.specs.declared.run_cursor.RunCursor.{RunCursor}
 use Rattle.ffs_names.specs.declared.chunks.Chunks.{Chunks}
 use Rattle.ffs_names.specs.RunCursors.{cursor_chunks, reading_by}
 use Rattle.ffs_names.specs.Readings.{all_chunks, chunks_after, runs_after, runs_left}
+use Rattle.ffs_volume.proofs.ReplayLaws.{gaps_seen}
 use Rattle.ffs_names.proofs.SeenSteps.{no_run_cursor}
 
 -- the chunks of steps, of a layout and a replay
@@ -66,19 +67,21 @@ none_seen v b taken cut r (Gap ∷ steps) h = gap_after v b taken cut r steps �
 none_seen v b taken cut r (Run start len block ∷ steps) h = rw h (none_seen v b taken cut r steps h)
 
 -- how a step continues, where the state of the replay is kept
-pub still_on : (v v' : Layout) (b : List ℕ) (h : RunCursor) (taken cut : ℕ) (r : Replay) (step : Step)
+pub still_on : (v v' : Layout) (b : List ℕ) (cursor : RunCursor) (taken cut : ℕ) (r : Replay) (step : Step)
     (old new : List Step) → v' ≡ v → old ≡ step ∷ new
     → following v b taken cut r (step ∷ new) ≡ following v b taken cut r new
-    → cursor_chunks v' b h ++ following v' b taken cut r new ≡ cursor_chunks v b h ++ following v b taken cut r old
-still_on v v' b h taken cut r step old new e o s =
-    ap (λ x. cursor_chunks x b h ++ following x b taken cut r new) e
-    ∙ ap (λ x. cursor_chunks v b h ++ x) (sym s ∙ ap (following v b taken cut r) (sym o))
+    → cursor_chunks v' b cursor ++ following v' b taken cut r new
+    ≡ cursor_chunks v b cursor ++ following v b taken cut r old
+still_on v v' b cursor taken cut r step old new e o s =
+    ap (λ x. cursor_chunks x b cursor ++ following x b taken cut r new) e
+    ∙ ap (λ x. cursor_chunks v b cursor ++ x) (sym s ∙ ap (following v b taken cut r) (sym o))
 
-pub tail_on : (v v' : Layout) (b : List ℕ) (h : RunCursor) (taken cut : ℕ) (r : Replay) (old new : List Step) → v' ≡ v →
-    old ≡ Tail ∷ new
-    → cursor_chunks v' b h ++ following v' b taken cut r new ≡ cursor_chunks v b h ++ following v b taken cut r old
-tail_on v v' b h taken cut r old new e o =
-    still_on v v' b h taken cut r Tail old new e o (tail_after v b taken cut r new)
+pub tail_on : (v v' : Layout) (b : List ℕ) (cursor : RunCursor) (taken cut : ℕ) (r : Replay) (old new : List Step)
+    → v' ≡ v → old ≡ Tail ∷ new
+    → cursor_chunks v' b cursor ++ following v' b taken cut r new
+    ≡ cursor_chunks v b cursor ++ following v b taken cut r old
+tail_on v v' b cursor taken cut r old new e o =
+    still_on v v' b cursor taken cut r Tail old new e o (tail_after v b taken cut r new)
 
 -- over Gaps, a first one and more
 gaps_after : (v : Layout) (b : List ℕ) (taken cut : ℕ) (r : Replay) (n : ℕ) (steps : List Step) →
@@ -87,31 +90,33 @@ gaps_after v b taken cut r zero steps = refl
 gaps_after v b taken cut r (suc n) steps =
     gap_after v b taken cut r (replicate n Gap ++ steps) ∙ gaps_after v b taken cut r n steps
 
-pub gaps_on : (v v' : Layout) (b : List ℕ) (h : RunCursor) (taken cut : ℕ) (r : Replay) (n : ℕ) (old new : List Step)
+pub gaps_on : (v v' : Layout) (b : List ℕ) (cursor : RunCursor) (taken cut : ℕ) (r : Replay) (n : ℕ) (old new : List Step)
     → v' ≡ v → old ≡ Gap ∷ (replicate n Gap ++ new)
-    → cursor_chunks v' b h ++ following v' b taken cut r new ≡ cursor_chunks v b h ++ following v b taken cut r old
-gaps_on v v' b h taken cut r n old new e o =
-    ap (λ x. cursor_chunks x b h ++ following x b taken cut r new) e
-    ∙ ap (λ x. cursor_chunks v b h ++ x)
+    → cursor_chunks v' b cursor ++ following v' b taken cut r new
+    ≡ cursor_chunks v b cursor ++ following v b taken cut r old
+gaps_on v v' b cursor taken cut r n old new e o =
+    ap (λ x. cursor_chunks x b cursor ++ following x b taken cut r new) e
+    ∙ ap (λ x. cursor_chunks v b cursor ++ x)
     (sym (gaps_after v b taken cut r (suc n) new) ∙ ap (following v b taken cut r) (sym o))
 
 -- where the steps are the same
-pub steps_on : (v v' : Layout) (b : List ℕ) (h : RunCursor) (taken cut : ℕ) (r : Replay) (old new : List Step)
+pub steps_on : (v v' : Layout) (b : List ℕ) (cursor : RunCursor) (taken cut : ℕ) (r : Replay) (old new : List Step)
     → v' ≡ v → old ≡ new
-    → cursor_chunks v' b h ++ following v' b taken cut r new ≡ cursor_chunks v b h ++ following v b taken cut r old
-steps_on v v' b h taken cut r old new e o =
-    ap (λ x. cursor_chunks x b h ++ following x b taken cut r new) e ∙ ap
-    (λ x. cursor_chunks v b h ++ following v b taken cut r x) (sym o)
+    → cursor_chunks v' b cursor ++ following v' b taken cut r new
+    ≡ cursor_chunks v b cursor ++ following v b taken cut r old
+steps_on v v' b cursor taken cut r old new e o =
+    ap (λ x. cursor_chunks x b cursor ++ following x b taken cut r new) e ∙ ap
+    (λ x. cursor_chunks v b cursor ++ following v b taken cut r x) (sym o)
 
-pub end_none : (v : Layout) (b : List ℕ) (h : RunCursor) (taken cut : ℕ) (r : Replay) (new : List Step) →
-    h.next ≡ h.count → new ≡ [] → cursor_chunks v b h ++ following v b taken cut r new ≡ []
-end_none v b h taken cut r new e n = ap (λ x. x ++ following v b taken cut r new) (no_run_cursor v b h e)
+pub end_none : (v : Layout) (b : List ℕ) (cursor : RunCursor) (taken cut : ℕ) (r : Replay) (new : List Step) →
+    cursor.next ≡ cursor.count → new ≡ [] → cursor_chunks v b cursor ++ following v b taken cut r new ≡ []
+end_none v b cursor taken cut r new e n = ap (λ x. x ++ following v b taken cut r new) (no_run_cursor v b cursor e)
     ∙ ap (following v b taken cut r) n
 
-pub unseen_none : (v : Layout) (b : List ℕ) (h : RunCursor) (taken cut : ℕ) (r : Replay) (steps : List Step) →
-    h.next ≡ h.count → is_replay_open cut r ≡ false
-    → cursor_chunks v b h ++ following v b taken cut r steps ≡ []
-unseen_none v b h taken cut r steps e n = ap (λ x. x ++ following v b taken cut r steps) (no_run_cursor v b h e)
+pub unseen_none : (v : Layout) (b : List ℕ) (cursor : RunCursor) (taken cut : ℕ) (r : Replay) (steps : List Step) →
+    cursor.next ≡ cursor.count → is_replay_open cut r ≡ false
+    → cursor_chunks v b cursor ++ following v b taken cut r steps ≡ []
+unseen_none v b cursor taken cut r steps e n = ap (λ x. x ++ following v b taken cut r steps) (no_run_cursor v b cursor e)
     ∙ none_seen v b taken cut r steps n
 
 pub runs_on : (v v' : Layout) (cut : ℕ) (r : Replay) (old steps : List Step) → v' ≡ v → old ≡ steps →
@@ -134,16 +139,7 @@ runs_tail v v' cut r old new e o = ap (λ x. replayed_runs x cut r new) e
     zero_more : (n : ℕ) → n ≡ 0 + n
     zero_more n = omega arith
 
-runs_after_gaps : (v : Layout) (cut : ℕ) (r : Replay) (n : ℕ) (steps : List Step) →
-    replayed_runs v cut r (replicate n Gap ++ steps) ≡ replayed_runs v cut r steps
-runs_after_gaps v cut r zero steps = refl
-runs_after_gaps v cut r (suc n) steps = none_more (replayed_runs v cut r (replicate n Gap ++ steps))
-    ∙ runs_after_gaps v cut r n steps
-  where
-    none_more : (m : ℕ) → 0 + m ≡ m
-    none_more m = omega arith
-
 pub runs_gaps : (v v' : Layout) (cut : ℕ) (r : Replay) (n : ℕ) (old new : List Step) → v' ≡ v →
     old ≡ Gap ∷ (replicate n Gap ++ new) → replayed_runs v' cut r new ≡ replayed_runs v cut r old
 runs_gaps v v' cut r n old new e o = ap (λ x. replayed_runs x cut r new) e
-    ∙ (sym (runs_after_gaps v cut r (suc n) new) ∙ ap (replayed_runs v cut r) (sym o))
+    ∙ (sym (gaps_seen v cut r (suc n) new) ∙ ap (replayed_runs v cut r) (sym o))

@@ -19,7 +19,7 @@ chunk_held place length next b held chunk src fits c s h =
     ∙ (ap (λ xs. take 512 (drop (512 * next) xs)) (s ∙ h) ∙ piece_of place length (512 * next) 512 b fits))
 
 -- the first of the current chunks
-pub hand_step : (order order' : Order) (b : List ℕ) (place offset next count : ℕ) (chunk : List ℕ)
+pub cursor_step : (order order' : Order) (b : List ℕ) (place offset next count : ℕ) (chunk : List ℕ)
     (rest all : List Chunk) (from : ℕ) → order ≡ order' → next < count → chunk ≡ piece (place + 512 * next) 512 b →
     from ≡ next
     → map (λ k. chunk_of order (offset + 512 * k) (piece (place + 512 * k) 512 b)) (range_with_len next (count - next))
@@ -27,7 +27,7 @@ pub hand_step : (order order' : Order) (b : List ℕ) (place offset next count :
     → all ≡ chunk_of order' (offset + 512 * from) chunk
     ∷ (map (λ k. chunk_of order (offset + 512 * k) (piece (place + 512 * k) 512 b))
     (range_with_len (next + 1) (count - (next + 1))) ++ rest)
-hand_step order order' b place offset next count chunk rest all from o lt c f a =
+cursor_step order order' b place offset next count chunk rest all from o lt c f a =
     sym a
     ∙ (ap (λ ks. map (λ k. chunk_of order (offset + 512 * k) (piece (place + 512 * k) 512 b)) ks ++ rest)
     (range_step next count lt)

@@ -41,7 +41,7 @@ use Rattle.ffs_walk.specs.Windows.{WindowHolds}
 use Rattle.std.specs.declared.vec.Vec.{Vec}
 use Rattle.std.specs.declared.alloc.Global.{Global}
 use Rattle.ffs_names.specs.Windows.{CanReadChunks}
-use Rattle.ffs_names.specs.Noting.{is_child, is_found, BeginsNotes, IsParent, KeepsDue, NotesChildren, NotesChunk, NotesEntries}
+use Rattle.ffs_names.specs.Noting.{is_child, is_found, BeginsNotes, IsParent, KeepsToRead, NotesChildren, NotesChunk, NotesEntries}
 
 -- ENTRIES OF A CHUNK
 
@@ -54,7 +54,7 @@ none_there order chunk place o e h = sym h ∙ ap (option_map entry_value) e
 pub notes_none : (parents ws : List ℕ) (p place : ℕ) → NotesChunk parents ws ws p place []
 notes_none parents ws p place = record {
   places = λ x. go (is_child parents p x) (place_in (slice_index ws x) == 0) (place_in (slice_index ws x));
-  due = λ x. refl;
+  to_read = λ x. refl;
 }
   where
     go : (m z : Bool) (a : ℕ) → a ≡ (if m && (z && false) then place else a)
@@ -78,7 +78,7 @@ pub notes_then : (parents old mid new : List ℕ) (p place : ℕ) (e : RoledEntr
 notes_then parents old mid new p place e es low one more = record {
   places = λ x. then_on (is_child parents p x) (is_naming_entry x e) (list_any (is_naming_entry x) es) _ _ _ place low
       (one.places x) (more.places x);
-  due = λ x. more.due x ∙ one.due x;
+  to_read = λ x. more.to_read x ∙ one.to_read x;
 }
 
 -- where other entries name the same inodes
@@ -88,7 +88,7 @@ notes_alike : (parents old new : List ℕ) (p place : ℕ) (es fs : List RoledEn
 notes_alike parents old new p place es fs same h = record {
   places = λ x. h.places x ∙ ap (λ y. if is_child parents p x && ((place_in (slice_index old x) == 0) && y) then place
       else place_in (slice_index old x)) (same x);
-  due = h.due;
+  to_read = h.to_read;
 }
 
 -- an entry of a chunk, and those after it
@@ -294,7 +294,7 @@ all_noted v b parents first ws p all rest none waiting x child named before =
           (ap (λ (cs : List Chunk). list_any (is_naming_entry x) (flat_map roled_chunk cs)) none) w.1)
     ]
 
--- what is noted of other inodes, and what is due
+-- what is noted of other inodes, and what is to be read
 pub children_more : (parents first old new : List ℕ) (p place : ℕ) (es : List RoledEntry) →
     NotesChunk parents old new p place es → NotesChildren parents first old p → NotesChildren parents first new p
 children_more parents first old new p place es noted before = record {
@@ -302,7 +302,7 @@ children_more parents first old new p place es noted before = record {
       ∙ (ap (λ (m : Bool). if m && ((place_in (slice_index old x) == 0) && list_any (is_naming_entry x) es) then place
       else place_in (slice_index old x)) h
       ∙ before.others x h);
-  due = λ x. noted.due x ∙ before.due x;
+  to_read = λ x. noted.to_read x ∙ before.to_read x;
 }
 
 -- DIRECTORIES
@@ -401,8 +401,8 @@ ready_noted v d d' d'' w table blocks chunk queue first kept second can long r =
       };
     }
 
--- what is passed, where the next word isn't due any more
-pub passed_next : (old new : List ℕ) (i word : ℕ) → i < length old → is_due word ≡ false → KeepsDue (slice_set old i word) new →
+-- what is passed, where the directory of the next word isn't to be read any more
+pub passed_next : (old new : List ℕ) (i word : ℕ) → i < length old → is_due word ≡ false → KeepsToRead (slice_set old i word) new →
     ((x : ℕ) → x < i → is_due (slice_index old x) ≡ false) → (x : ℕ) → x < i + 1 → is_due (slice_index new x) ≡ false
 passed_next old new i word low passed keeps before x l = keeps x ∙ elim (cases_eq x i) [
   | inl e ↦ ap (λ (n : ℕ). is_due (slice_index (slice_set old i word) n)) e
@@ -457,7 +457,7 @@ level_under g x k h = go (first_below (level_edge g k x) g.count) refl
           },
         )
 
--- a place is noted of each directory that is reached and isn't the root, or its parent is due
+-- a place is noted of each directory that is reached and isn't the root, or its parent is to be read
 abbrev pub AreComing : Layout → List ℕ → (words : List ℕ) → Type 0
 AreComing v b words = (x p : ℕ) → IsUnder (graph_of (volume_of v b)) x p →
     IsNoted v b words x ⊎ ((place_in (slice_index words x) ≡ 0) × (is_due (slice_index words p) ≡ true))
@@ -487,10 +487,10 @@ coming_first v b w words long begins survey x p under =
     inr (
       begins.none x,
       ap (λ (n : ℕ). is_due (slice_index words n)) (sym up)
-          ∙ begins.due x over (omega arith) (survey.reached x ∙ under.joined) (omega arith) (omega arith),
+          ∙ begins.to_read x over (omega arith) (survey.reached x ∙ under.joined) (omega arith) (omega arith),
     )
 
--- after the directory dir, which was due, is noted
+-- after the directory dir, which was to be read, is noted
 pub coming_noted : (v : Layout) (b : List ℕ) (w : Workspace) (old mid new : List ℕ) (d : ℕ) → HoldsSurvey v b w →
     AreChunksNumbered v →
     ((x : ℕ) → place_in (slice_index mid x) ≡ place_in (slice_index old x)) →
@@ -525,10 +525,10 @@ coming_noted v b w old mid new d survey numbered same due noted children coming 
         ap (λ (m : Bool). m && not (x == 2)) (ne_eqb (slice_index w.parents.items x) d (λ e. o (sym up ∙ e))) in
         elim before [
           | inl is ↦ inl (noted_still v b mid new x (children.others x child) is)
-          | inr w ↦ inr (children.others x child ∙ w.0, children.due p ∙ (due p o ∙ w.1))
+          | inr w ↦ inr (children.others x child ∙ w.0, children.to_read p ∙ (due p o ∙ w.1))
         ]
 
--- where nothing is due any more, all are noted
+-- where nothing is to be read any more, all are noted
 pub coming_end : (v : Layout) (b words : List ℕ) → ((x : ℕ) → x < inodes_of v → is_due (slice_index words x) ≡ false) →
     AreComing v b words → AreNoted v b words
 coming_end v b words none coming x k h =
@@ -539,26 +539,26 @@ coming_end v b words none coming x k h =
           (dir_number v b under.0 (edge-parts (graph_of (volume_of v b)) under.0 x under.1.link).1).1) w.1)
     ]
 
--- what is due stays so at another number
+-- what is to be read stays so at another number
 pub set_other : {A : Type 0} (f : ℕ → A) (ws : List ℕ) (i word x : ℕ) → x ≢ i →
     f (slice_index (slice_set ws i word) x) ≡ f (slice_index ws x)
 set_other f ws i word x o = ap f (get_or-set_other ws i x word 0 o)
 
--- WHAT IS DUE
+-- WHAT IS TO BE READ
 
--- only parents are due: one more of them is, and one isn't any more
+-- only parents are to be read: one more of them is, and one isn't any more
 abbrev pub OnlyParents : (parents ws : List ℕ) → Type 0
 OnlyParents parents ws = (p : ℕ) → is_due (slice_index ws p) ≡ true → IsParent parents p
 
 pub only_more : (parents ws : List ℕ) (child i word : ℕ) → 2 < child → slice_index parents child ≡ i → 2 ≤ i →
     OnlyParents parents ws → OnlyParents parents (slice_set ws i word)
 only_more parents ws child i word above up low only p h = elim (cases_eq p i) [
-  | inl e ↦ record { child = child; above_root = above; up = up ∙ sym e; from_root = subst (λ n. 2 ≤ n) (sym e) low }
+  | inl e ↦ record { child = child; after_root = above; parent_is = up ∙ sym e; from_root = subst (λ n. 2 ≤ n) (sym e) low }
   | inr o ↦ only p (sym (set_other is_due ws i word p o) ∙ h)
 ]
 
 pub only_fewer : (parents old new : List ℕ) (i word : ℕ) → i < length old → is_due word ≡ false →
-    KeepsDue (slice_set old i word) new → OnlyParents parents old → OnlyParents parents new
+    KeepsToRead (slice_set old i word) new → OnlyParents parents old → OnlyParents parents new
 only_fewer parents old new i word low passed keeps only p h = elim (cases_eq p i) [
   | inl e ↦ absurd (both_ways (is_due word) passed
       (sym (ap is_due (get_or-set_same old i word 0 low)) ∙ (ap (λ (n : ℕ). is_due (slice_index (slice_set old i word) n))
@@ -573,10 +573,10 @@ parent_is_dir v b w p survey under =
     go (parent (graph_of (volume_of v b)) under.child) refl
   where
     found : (o : Option ℕ) → parent (graph_of (volume_of v b)) under.child ≡ o → unwrap_or o 0 ≡ p
-    found o e = ap (λ (o : Option ℕ). unwrap_or o 0) (sym e) ∙ (sym (survey.parents under.child) ∙ under.up)
+    found o e = ap (λ (o : Option ℕ). unwrap_or o 0) (sym e) ∙ (sym (survey.parents under.child) ∙ under.parent_is)
 
     other : (under.child == 2) ≡ false
-    other = let above = under.above_root in grind (arith, nat_tests)
+    other = let above = under.after_root in grind (arith, nat_tests)
 
     go : (o : Option ℕ) → parent (graph_of (volume_of v b)) under.child ≡ o → is_dir (volume_of v b) p ≡ true
     go None e = let none : 0 ≡ p = found None e in let low = under.from_root in absurd (omega arith)

@@ -11,7 +11,7 @@ use Rattle.ffs_volume.specs.Encodings.ReplayCounts.{replay_step_by_cut, replayed
 use Rattle.ffs_walk.specs.Counts.{entered, unread}
 use Rattle.ffs_walk.specs.Rests.{IsAtTop}
 use Rattle.ffs_walk.specs.declared.window.Window.{Window}
-use Rattle.ffs_walk.proofs.Counted.{top_held, top_unread}
+use Rattle.ffs_walk.proofs.Counted.{pays, top_held, top_unread}
 use Rattle.ffs_survey.specs.Costs.{TakesReads}
 use Rattle.ffs_names.specs.Costs.{BeginsReads, HoldsRun, unread_run}
 use Rattle.ffs_names.specs.Readings.{runs_left}
@@ -25,14 +25,14 @@ one_or_none true = omega arith
 one_or_none false = omega arith
 
 -- the current Run is one read at most, and none where it has no chunk left, or one was given
-pub run_at_most : (h : RunCursor) → unread_run h ≤ 1
-run_at_most h = one_or_none ((h.next == 0) && nat_lt 0 h.count)
+pub run_at_most : (cursor : RunCursor) → unread_run cursor ≤ 1
+run_at_most cursor = one_or_none ((cursor.next == 0) && nat_lt 0 cursor.count)
 
 none_left : (n m : ℕ) → n ≡ m → ((n == 0) && nat_lt 0 m) ≡ false
 none_left n m e = grind (arith, nat_tests)
 
-pub run_over : (h : RunCursor) → h.next ≡ h.count → unread_run h ≡ 0
-run_over h e = ap (λ (x : Bool). if◌then◌else◌ {A = ℕ} x 1 0) (none_left h.next h.count e)
+pub run_over : (cursor : RunCursor) → cursor.next ≡ cursor.count → unread_run cursor ≡ 0
+run_over cursor e = ap (λ (x : Bool). if◌then◌else◌ {A = ℕ} x 1 0) (none_left cursor.next cursor.count e)
 
 -- so where it is passed over
 pub run_passed : (n : ℕ) → if◌then◌else◌ {A = ℕ} ((n == 0) && nat_lt 0 n) 1 0 ≡ 0
@@ -47,23 +47,18 @@ given_one n m = ap (λ (x : Bool). if◌then◌else◌ {A = ℕ} x 1 0) (was_beg
 some_begun : (n m : ℕ) → n < m → ((n == 0) && nat_lt 0 m) ≡ false → 0 < n
 some_begun n m l h = grind (arith, nat_tests)
 
-pays_one : (x : Bool) (reads reads' : ℕ) → reads' ≤ reads + 1 → (x ≡ false → reads' ≤ reads) →
-    reads' ≤ reads + (if x then 1 else 0)
-pays_one true reads reads' one none = one
-pays_one false reads reads' one none = let h = none refl in omega (arith, h)
-
 -- the chunks of the current Run are read once
-pub run_paid : (h : RunCursor) (w : Window) (reads reads' : ℕ) → h.next < h.count → HoldsRun w h → reads' ≤ reads + 1 →
-    (w.place ≡ h.place → w.length ≡ h.length → reads' ≤ reads) → reads' ≤ reads + unread_run h
-run_paid h w reads reads' left held one again = pays_one ((h.next == 0) && nat_lt 0 h.count) reads reads' one
-    (λ begun. let at = held (some_begun h.next h.count left begun) left in again at.0 at.1)
+pub run_paid : (cursor : RunCursor) (w : Window) (reads reads' : ℕ) → cursor.next < cursor.count → HoldsRun w cursor
+    → reads' ≤ reads + 1 → (w.place ≡ cursor.place → w.length ≡ cursor.length → reads' ≤ reads) → reads' ≤ reads + unread_run cursor
+run_paid cursor w reads reads' left held one again = pays ((cursor.next == 0) && nat_lt 0 cursor.count) reads reads' one
+    (λ begun. let at = held (some_begun cursor.next cursor.count left begun) left in again at.0 at.1)
 
 -- a window needs no Run of which no chunk was given, or none is left
-pub first_held : (h : RunCursor) → h.next ≡ 0 → (w : Window) → HoldsRun w h
-first_held h first w = λ some left. absurd (omega (arith, first, some))
+pub first_held : (cursor : RunCursor) → cursor.next ≡ 0 → (w : Window) → HoldsRun w cursor
+first_held cursor first w = λ some left. absurd (omega (arith, first, some))
 
-pub over_held : (h : RunCursor) → h.next ≡ h.count → (w : Window) → HoldsRun w h
-over_held h over w = λ some left. absurd (omega (arith, over, left))
+pub over_held : (cursor : RunCursor) → cursor.next ≡ cursor.count → (w : Window) → HoldsRun w cursor
+over_held cursor over w = λ some left. absurd (omega (arith, over, left))
 
 none_more : (u r n : ℕ) → u ≡ 0 → r ≡ 0 → u + (r + n) ≡ n
 none_more u r n e f = omega (arith, e, f)

@@ -84,11 +84,11 @@ references_same n d e f h x (suc k) =
 
 -- a survey of a graph is one of each graph with the same entries of directories
 pub survey_same : (n : ℕ) (d : ℕ → Bool) (e f : ℕ → List RoledEntry) (starts counts : List ℕ)
-    (flags marks : List Bool) (ups : List ℕ) → ((s : ℕ) → d s ≡ true → e s ≡ f s)
-    → IsSurvey (graph n d e) starts counts flags marks ups → IsSurvey (graph n d f) starts counts flags marks ups
-survey_same n d e f starts counts flags marks ups h s = record {
+    (flags marks : List Bool) (parents : List ℕ) → ((s : ℕ) → d s ≡ true → e s ≡ f s)
+    → IsSurvey (graph n d e) starts counts flags marks parents → IsSurvey (graph n d f) starts counts flags marks parents
+survey_same n d e f starts counts flags marks parents h s = record {
   counts = λ x l. s.counts x l ∙ ap (λ k. start_in starts x + k) (references_same n d e f h x n);
   names = λ x l. s.names x l ∙ ap (λ p. some_below p n) (fun_ext (λ k. names_same n d e f h k x));
   reaches = λ x. s.reaches x ∙ ap (λ o. is_some o) (level_same n d e f h x);
-  ups = λ x. s.ups x ∙ ap (λ o. unwrap_or o 0) (parent_same n d e f h x);
+  parent_is = λ x. s.parent_is x ∙ ap (λ o. unwrap_or o 0) (parent_same n d e f h x);
 }

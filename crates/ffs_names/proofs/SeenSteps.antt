@@ -17,11 +17,11 @@ use Rattle.ffs_names.specs.RunCursors.{cursor_chunks, reading_by}
 use Rattle.ffs_names.specs.Readings.{CountsOn}
 
 -- a Run with no chunk left
-pub no_run_cursor : (v : Layout) (b : List ℕ) (h : RunCursor) → h.next ≡ h.count → cursor_chunks v b h ≡ []
-no_run_cursor v b h e =
-    let z : h.count - h.next ≡ 0 = omega arith in
-    ap (λ n. map (λ k. chunk_of v.order (h.offset + 512 * k) (piece (h.place + 512 * k) 512 b))
-    (range_with_len h.next n)) z
+pub no_run_cursor : (v : Layout) (b : List ℕ) (cursor : RunCursor) → cursor.next ≡ cursor.count → cursor_chunks v b cursor ≡ []
+no_run_cursor v b cursor e =
+    let z : cursor.count - cursor.next ≡ 0 = omega arith in
+    ap (λ n. map (λ k. chunk_of v.order (cursor.offset + 512 * k) (piece (cursor.place + 512 * k) 512 b))
+    (range_with_len cursor.next n)) z
 
 pub run_seen : (v : Layout) (b : List ℕ) (taken cut cut' : ℕ) (r q : Replay) (steps : List Step) (start len : ℕ)
     (block : Option ℕ) (kept : Bool) (found : List Chunk)
@@ -69,19 +69,19 @@ runs_seen v cut cut' r q steps start len block runs runs' s n c l =
       all = λ h. let a = l.all (omega arith) in omega arith;
     }
 
-pub run_continues : (v : Layout) (b : List ℕ) (h h' : RunCursor) (taken cut cut' : ℕ) (r q : Replay)
+pub run_continues : (v : Layout) (b : List ℕ) (cursor cursor' : RunCursor) (taken cut cut' : ℕ) (r q : Replay)
     (steps : List Step) (start len : ℕ) (block : Option ℕ) (kept : Bool)
-    → h.next ≡ h.count → kept ≡ is_replayed v cut r (Run start len block)
+    → cursor.next ≡ cursor.count → kept ≡ is_replayed v cut r (Run start len block)
     → q ≡ replay_step_by_cut v cut r (Run start len block) → cut' ≡ cut
-    → cursor_chunks v b h' ≡ (if kept then step_chunks (reading_by v b taken) (is_run_in_range v) (Run start len block)
+    → cursor_chunks v b cursor' ≡ (if kept then step_chunks (reading_by v b taken) (is_run_in_range v) (Run start len block)
     else [])
-    → cursor_chunks v b h' ++ chunks_of (reading_by v b taken) (is_run_in_range v) (replayed_steps v cut' q steps)
-    ≡ cursor_chunks v b h ++ chunks_of (reading_by v b taken) (is_run_in_range v)
+    → cursor_chunks v b cursor' ++ chunks_of (reading_by v b taken) (is_run_in_range v) (replayed_steps v cut' q steps)
+    ≡ cursor_chunks v b cursor ++ chunks_of (reading_by v b taken) (is_run_in_range v)
     (replayed_steps v cut r (Run start len block ∷ steps))
-run_continues v b h h' taken cut cut' r q steps start len block kept e k n c f =
-    run_seen v b taken cut cut' r q steps start len block kept (cursor_chunks v b h') k n c f
+run_continues v b cursor cursor' taken cut cut' r q steps start len block kept e k n c f =
+    run_seen v b taken cut cut' r q steps start len block kept (cursor_chunks v b cursor') k n c f
     ∙ ap (λ x. x ++ chunks_of (reading_by v b taken) (is_run_in_range v)
-    (replayed_steps v cut r (Run start len block ∷ steps))) (sym (no_run_cursor v b h e))
+    (replayed_steps v cut r (Run start len block ∷ steps))) (sym (no_run_cursor v b cursor e))
 
 -- the chunks of a Run: of one that is kept and in range, and none of another
 pub kept_run : (v : Layout) (b : List ℕ) (taken start len place : ℕ) (block : Option ℕ) (kept passes : Bool)

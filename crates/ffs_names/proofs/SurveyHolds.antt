@@ -20,7 +20,7 @@ use Rattle.ffs_workspace.specs.Places.{ArePlaces}
 use Rattle.ffs_workspace.specs.declared.workspace.Workspace.{Workspace}
 use Rattle.ffs_survey.specs.Survey.{bool_at, dir_at, graph_with, most_start, references_to, IsSurvey}
 use Rattle.ffs_survey.specs.SurveyLaws.{survey_is, references_is}
-use Rattle.ffs_names.specs.Trees.{Base, dir_entries, dir_sound}
+use Rattle.ffs_names.specs.Readers.{Base, dir_entries, dir_sound}
 use Rattle.ffs_names.specs.RightShapes.{is_right_shape, is_right_directory}
 use Rattle.ffs_names.specs.Surveys.{FlagsCalm}
 use Rattle.ffs_survey.specs.Calm.{IsCalm, AreCalm}
@@ -50,17 +50,17 @@ pub blocks_in : (v v' : Layout) (contents contents' : Option (List ℕ)) (blocks
 blocks_in v v' contents contents' blocks e t h = rw (t, ← e) h
 
 -- the survey of the directories of a volume
-pub volume_survey : (t : Base) (b kinds : List ℕ) (starts counts : List ℕ) (flags marks : List Bool) (ups : List ℕ) →
+pub volume_survey : (t : Base) (b kinds : List ℕ) (starts counts : List ℕ) (flags marks : List Bool) (parents : List ℕ) →
     length kinds ≡ inodes_of t.layout
     → ((x : ℕ) → slice_index kinds x ≡ kind_at t.layout b x)
-    → IsSurvey (graph_with kinds (dir_entries t b)) starts counts flags marks ups →
-    IsSurvey (graph_of (volume_of t.layout b)) starts counts flags marks ups
+    → IsSurvey (graph_with kinds (dir_entries t b)) starts counts flags marks parents →
+    IsSurvey (graph_of (volume_of t.layout b)) starts counts flags marks parents
 unfolding volume_of volume_with
-volume_survey t b kinds starts counts flags marks ups n k s =
-    survey_is (volume_of t.layout b) kinds (roled_entries (volume_of t.layout b)) starts counts flags marks ups n
+volume_survey t b kinds starts counts flags marks parents n k s =
+    survey_is (volume_of t.layout b) kinds (roled_entries (volume_of t.layout b)) starts counts flags marks parents n
     (λ x. kind_dirs t.layout b kinds x (k x)) (λ d. refl)
     (survey_same (length kinds) (dir_at kinds) (dir_entries t b) (roled_entries (volume_of t.layout b)) starts counts
-    flags marks ups (λ d e. inside d e) s)
+    flags marks parents (λ d e. inside d e) s)
   where
     inside : (d : ℕ) → dir_at kinds d ≡ true → dir_entries t b d ≡ roled_entries (volume_of t.layout b) d
     inside d e = ap (λ x. if x then roled_entries (volume_of t.layout b) d else [])
@@ -68,13 +68,13 @@ volume_survey t b kinds starts counts flags marks ups n k s =
 
 -- lists that hold the survey of a volume
 pub holds_survey : (v : Layout) (b : List ℕ) (w : Workspace) (starts counts : List ℕ) (flags marks : List Bool)
-    (ups : List ℕ) → w.named.items ≡ flags → w.reached.items ≡ marks → w.parents.items ≡ ups
-    → ArePlaces v b w.queue.items → IsSurvey (graph_of (volume_of v b)) starts counts flags marks ups → HoldsSurvey v b w
+    (parents : List ℕ) → w.named.items ≡ flags → w.reached.items ≡ marks → w.parents.items ≡ parents
+    → ArePlaces v b w.queue.items → IsSurvey (graph_of (volume_of v b)) starts counts flags marks parents → HoldsSurvey v b w
 unfolding volume_of volume_with
-holds_survey v b w starts counts flags marks ups f m u noted s = record {
+holds_survey v b w starts counts flags marks parents f m u noted s = record {
   named = λ x l. ap (λ xs. bool_at xs x) f ∙ s.names x l;
   reached = λ x. ap (λ xs. bool_at xs x) m ∙ s.reaches x;
-  parents = λ x. ap (λ xs. slice_index xs x) u ∙ s.ups x;
+  parents = λ x. ap (λ xs. slice_index xs x) u ∙ s.parent_is x;
   places = noted;
 }
 
@@ -95,10 +95,10 @@ start_low v b x = go (is_allocated (class_at v b x)) (inode_of v b x).nlink
 
 -- and counts that continue from where they start
 pub holds_references : (v : Layout) (b : List ℕ) (old new : Workspace) (starts counts : List ℕ)
-    (flags marks : List Bool) (ups : List ℕ) → old.references.items ≡ starts → new.references.items ≡ counts
-    → HoldsStarts v b old → IsSurvey (graph_of (volume_of v b)) starts counts flags marks ups → HoldsReferences v b new
+    (flags marks : List Bool) (parents : List ℕ) → old.references.items ≡ starts → new.references.items ≡ counts
+    → HoldsStarts v b old → IsSurvey (graph_of (volume_of v b)) starts counts flags marks parents → HoldsReferences v b new
 unfolding volume_of volume_with
-holds_references v b old new starts counts flags marks ups e c h s = record {
+holds_references v b old new starts counts flags marks parents e c h s = record {
   counts = λ x l.
       let begun : slice_index starts x ≡ start_at v b x = sym (ap (λ xs. slice_index xs x) e) ∙ h.starts x in
       let low : min (slice_index starts x) most_start ≡ start_at v b x =
@@ -108,16 +108,16 @@ holds_references v b old new starts counts flags marks ups e c h s = record {
 }
 
 -- flags of a survey of a volume
-pub volume_calm : (t : Base) (b kinds : List ℕ) (marked marks : List Bool) (ups : List ℕ) (flags : List Bool) →
-    AreCalm kinds marked marks ups (dir_entries t b) (dir_sound t b) flags
-    → AreCalm kinds marked marks ups (roled_entries (volume_of t.layout b)) (is_right_directory (volume_of t.layout b))
+pub volume_calm : (t : Base) (b kinds : List ℕ) (marked marks : List Bool) (parents : List ℕ) (flags : List Bool) →
+    AreCalm kinds marked marks parents (dir_entries t b) (dir_sound t b) flags
+    → AreCalm kinds marked marks parents (roled_entries (volume_of t.layout b)) (is_right_directory (volume_of t.layout b))
     flags
-volume_calm t b kinds marked marks ups flags h d set =
+volume_calm t b kinds marked marks parents flags h d set =
     let c = h d set in
     let v = volume_of t.layout b in
     let p = and_parts (is_dir v d) (is_right_shape v d) c.shape_right in
     let es : dir_entries t b d ≡ roled_entries v d = ap (λ x. if x then roled_entries v d else []) p.0 in
-    subst (λ l. IsCalm kinds marked marks ups l (is_right_directory v d) d) es (record {
+    subst (λ l. IsCalm kinds marked marks parents l (is_right_directory v d) d) es (record {
       before = c.before;
       begins = c.begins;
       entries_right = c.entries_right;
@@ -127,13 +127,13 @@ volume_calm t b kinds marked marks ups flags h d set =
     })
 
 -- flags in a workspace
-pub holds_calm : (v : Layout) (b : List ℕ) (w : Workspace) (kinds : List ℕ) (marked marks : List Bool) (ups : List ℕ)
+pub holds_calm : (v : Layout) (b : List ℕ) (w : Workspace) (kinds : List ℕ) (marked marks : List Bool) (parents : List ℕ)
     (flags : List Bool)
-    → w.kinds.items ≡ kinds → w.marked.items ≡ marked → w.reached.items ≡ marks → w.parents.items ≡ ups →
+    → w.kinds.items ≡ kinds → w.marked.items ≡ marked → w.reached.items ≡ marks → w.parents.items ≡ parents →
     w.flags.items ≡ flags
-    → AreCalm kinds marked marks ups (roled_entries (volume_of v b)) (is_right_directory (volume_of v b)) flags →
+    → AreCalm kinds marked marks parents (roled_entries (volume_of v b)) (is_right_directory (volume_of v b)) flags →
     FlagsCalm v b w
-holds_calm v b w kinds marked marks ups flags k m r p f h =
+holds_calm v b w kinds marked marks parents flags k m r p f h =
     let es = roled_entries (volume_of v b) in
     let right = is_right_directory (volume_of v b) in
     record {
@@ -141,5 +141,5 @@ holds_calm v b w kinds marked marks ups flags k m r p f h =
           (subst (λ z. AreCalm kinds z w.reached.items w.parents.items es right w.flags.items) (sym m)
           (subst (λ z. AreCalm kinds marked z w.parents.items es right w.flags.items) (sym r)
           (subst (λ z. AreCalm kinds marked marks z es right w.flags.items) (sym p)
-          (subst (λ z. AreCalm kinds marked marks ups es right z) (sym f) h))));
+          (subst (λ z. AreCalm kinds marked marks parents es right z) (sym f) h))));
     }

@@ -21,7 +21,7 @@ use Rattle.ffs_names.specs.declared.run_cursor.RunCursor.{RunCursor}
 
 -- 1 where the current Run has chunks and is still to be read: none of them was given yet
 abbrev pub unread_run : RunCursor → ℕ
-unread_run h = if (h.next == 0) && nat_lt 0 h.count then 1 else 0
+unread_run cursor = if (cursor.next == 0) && nat_lt 0 cursor.count then 1 else 0
 
 -- at most how many reads a reading of an image of these bytes still takes: the indirect blocks that it is in, the
 -- current Run, and the Runs that it has still to look at
@@ -30,7 +30,7 @@ to_read b c = unread c.walk + (unread_run c.run_cursor + runs_left b c)
 
 -- the window has the current Run, where a chunk of it was given and another is left
 abbrev pub HoldsRun : Window → RunCursor → Type 0
-HoldsRun w h = 0 < h.next → h.next < h.count → (w.place ≡ h.place) × (w.length ≡ h.length)
+HoldsRun w cursor = 0 < cursor.next → cursor.next < cursor.count → (w.place ≡ cursor.place) × (w.length ≡ cursor.length)
 
 -- what a reading has read and needs again is held
 pub record HoldsReading (blocks : Blocks) (w : Window) (c : Chunks) : Type 0 where

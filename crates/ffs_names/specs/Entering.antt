@@ -8,15 +8,15 @@ use Rattle.ffs_names.specs.Readings.{rest}
 use Rattle.ffs_names.specs.RunCursors.{last_place}
 use Rattle.ffs_names.specs.declared.entries.Entries.{Entries}
 
--- those of the current chunk
+-- the entries to come of the current chunk
 abbrev pub here : Entries → List RoledEntry
 here r = roled_from r.first r.index (entries_from r.order r.chunk 64 r.place)
 
--- those, and those of the chunks to come, in an image of these bytes
+-- all entries to come: those of the current chunk, and those of the chunks to come in an image of these bytes
 abbrev pub to_come : List ℕ → Entries → List RoledEntry
 to_come b r = here r ++ flat_map roled_chunk (rest b r.chunks)
 
--- at most how many there are, whatever the image holds
+-- at most how many entries are to come, whatever the image holds
 abbrev pub left : Entries → ℕ
 left r = 64 * r.chunks.budget + (512 - r.place) / 8
 
@@ -28,7 +28,7 @@ last_name r = piece r.name_place r.name_len r.chunk
 abbrev pub IsHeld : List ℕ → Entries → Type 0
 IsHeld b r = r.chunk ≡ piece (last_place r.chunks.run_cursor) 512 b
 
--- so it is if an entry of it may still come
+-- the current chunk is held so, if an entry of it may still come
 abbrev pub MayTake : List ℕ → Entries → Type 0
 MayTake b r = r.place < 512 → IsHeld b r
 

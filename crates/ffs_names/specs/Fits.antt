@@ -6,10 +6,10 @@ use Rattle.ffs_volume.specs.Disk.Areas.{is_run_in_range}
 use Rattle.ffs_names.specs.declared.run_cursor.RunCursor.{RunCursor}
 
 -- the chunks of the current Run have a block's bytes at most, lie in the volume, and are chunks of the image
-pub record CursorFits (v : Layout) (h : RunCursor) : Type 0 where
-  pub in_block : h.length ≤ v.bsize
-  pub in_volume : h.place + h.length ≤ v.size * v.fsize
-  pub aligned : h.place % DIRBLKSIZ ≡ 0
+pub record CursorFits (v : Layout) (cursor : RunCursor) : Type 0 where
+  pub in_block : cursor.length ≤ v.bsize
+  pub in_volume : cursor.place + cursor.length ≤ v.size * v.fsize
+  pub aligned : cursor.place % DIRBLKSIZ ≡ 0
 
 -- a Run of data of a block at most, in range
 pub record IsBlockRun (v : Layout) (start len : ℕ) : Type 0 where

@@ -6,7 +6,7 @@ pub mod Entering
 pub mod RightShapes
 pub mod Shapes
 pub mod OneChunk
-pub mod Trees
+pub mod Readers
 pub mod Surveys
 pub mod Noting
 pub mod SeenRuns

@@ -1,4 +1,5 @@
--- What chunks of a directory p note of the places of parent entries. Words are as in `Places` of ffs_workspace.
+-- What chunks of a directory p note of the places of parent entries. Words are as in `Places` of ffs_workspace, but the
+-- bit that says *due* in phase 2 says here that the chunks of a directory are still to be read.
 use Rattle.std.specs.Prelude.{◌≡◌, ◌⊎◌, ℕ, suc, ◌<◌, ◌≤◌, ◌==◌, Bool, true, false, not, ◌&&◌, if◌then◌else◌, List, slice_index}
 use Rattle.std.specs.Prelude.{length}
 use Rattle.std.specs.List.{list_any}
@@ -18,15 +19,15 @@ abbrev pub is_found : (parents words : List ℕ) (p : ℕ) → List RoledEntry �
 is_found parents words p es x =
     is_child parents p x && ((place_in (slice_index words x) == 0) && list_any (is_naming_entry x) es)
 
--- what is due stays so
-abbrev pub KeepsDue : (old new : List ℕ) → Type 0
-KeepsDue old new = (x : ℕ) → is_due (slice_index new x) ≡ is_due (slice_index old x)
+-- what is to be read stays so
+abbrev pub KeepsToRead : (old new : List ℕ) → Type 0
+KeepsToRead old new = (x : ℕ) → is_due (slice_index new x) ≡ is_due (slice_index old x)
 
 -- the place of a chunk of p with these entries is noted of each inode that is found in it, and of no other
 pub record NotesChunk (parents old new : List ℕ) (p place : ℕ) (es : List RoledEntry) : Type 0 where
   pub places : (x : ℕ) → place_in (slice_index new x)
       ≡ (if is_found parents old p es x then place else place_in (slice_index old x))
-  pub due : KeepsDue old new
+  pub to_read : KeepsToRead old new
 
 -- each place that is noted anew is that of an inode with the parent p: the first plain entry of the chunk that names it
 -- has the name of the first one of p, which has the entries es. Where words have room for all chunks, a place is noted
@@ -37,24 +38,24 @@ pub record NotesEntries (v : Layout) (b parents old new : List ℕ) (p : ℕ) (e
   pub all : AreChunksNumbered v → (x : ℕ) → is_child parents p x ≡ true → list_any (is_naming_entry x) es ≡ true →
       (place_in (slice_index old x) ≡ 0) ⊎ IsNoted v b old x → IsNoted v b new x
 
--- no place of an inode with another parent is noted, and what is due stays so
+-- no place of an inode with another parent is noted, and what is to be read stays so
 pub record NotesChildren (parents old new : List ℕ) (p : ℕ) : Type 0 where
   pub others : (x : ℕ) → is_child parents p x ≡ false → place_in (slice_index new x) ≡ place_in (slice_index old x)
-  pub due : KeepsDue old new
+  pub to_read : KeepsToRead old new
 
--- p is a parent of an inode above the root
+-- p is the parent of an inode with a number greater than the root's
 pub record IsParent (parents : List ℕ) (p : ℕ) : Type 0 where
   pub child : ℕ
-  pub above_root : ROOTINO < child
-  pub up : slice_index parents child ≡ p
+  pub after_root : ROOTINO < child
+  pub parent_is : slice_index parents child ≡ p
   pub from_root : ROOTINO ≤ p
 
--- no place is noted, no number below that of the root is due, and the parent of each inode above the root that is
--- reached is due, and only parents are
+-- no place is noted, no number below the root's is to be read, the parent of each reached inode with a number greater
+-- than the root's is to be read, and only parents are
 pub record BeginsNotes (reached : List Bool) (parents words : List ℕ) : Type 0 where
   pub none : (x : ℕ) → place_in (slice_index words x) ≡ 0
   pub low : (x : ℕ) → x < ROOTINO → is_due (slice_index words x) ≡ false
-  pub due : (x : ℕ) → ROOTINO < x → x < length reached → bool_at reached x ≡ true →
+  pub to_read : (x : ℕ) → ROOTINO < x → x < length reached → bool_at reached x ≡ true →
       ROOTINO ≤ slice_index parents x → slice_index parents x < length reached →
       is_due (slice_index words (slice_index parents x)) ≡ true
   pub only : (p : ℕ) → is_due (slice_index words p) ≡ true → IsParent parents p

@@ -8,8 +8,8 @@ use Rattle.ffs_names.specs.declared.run_cursor.RunCursor.{RunCursor}
 
 -- the chunks of the current Run, in an image of these bytes
 abbrev pub cursor_chunks : Layout → List ℕ → RunCursor → List Chunk
-cursor_chunks v b h = map (λ k. chunk_of v.order (h.offset + 512 * k) (piece (h.place + 512 * k) 512 b))
-    (range_with_len h.next (h.count - h.next))
+cursor_chunks v b cursor = map (λ k. chunk_of v.order (cursor.offset + 512 * k) (piece (cursor.place + 512 * k) 512 b))
+    (range_with_len cursor.next (cursor.count - cursor.next))
 
 -- a directory of which this many bytes are read
 abbrev pub reading_by : Layout → List ℕ → ℕ → ChunkSource
@@ -17,4 +17,4 @@ reading_by v b taken = record { order = v.order; image = b; bsize = v.bsize; fsi
 
 -- where in the image the chunk is that was given last, in bytes
 abbrev pub last_place : RunCursor → ℕ
-last_place h = h.place + 512 * (h.next - 1)
+last_place cursor = cursor.place + 512 * (cursor.next - 1)

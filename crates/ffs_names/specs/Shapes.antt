@@ -10,7 +10,7 @@ use Rattle.ffs_volume.specs.Directories.Entries.{entries_from, has_gap}
 use Rattle.ffs_volume.specs.Directories.Roles.{roled_chunk}
 use Rattle.ffs_volume.specs.Directories.PathnameCheck.{are_sound}
 use Rattle.ffs_volume.specs.Encodings.Replay.{fresh_replay, replayed_steps}
-use Rattle.ffs_survey.specs.declared.named.Named.{Named}
+use Rattle.ffs_survey.specs.declared.entry_head.EntryHead.{EntryHead}
 use Rattle.ffs_survey.specs.Reading.{roled_of}
 use Rattle.ffs_names.specs.RightShapes.{is_right_size}
 use Rattle.ffs_names.specs.Readings.{rest, gap_left, chunks_in}
@@ -38,9 +38,9 @@ pub record BeginsDirectory (v : Layout) (inode : Inode) (cut : ℕ) (r : Entries
       && not (has_gap (replayed_steps v cut fresh_replay (steps_of v inode b)))))
 
 -- the first of the entries to come in an image of these bytes was read; the answer is None where there is none
-pub record GivesEntry (b : List ℕ) (old new : Entries) (answer : Option Named) : Type 0 where
+pub record GivesEntry (b : List ℕ) (old new : Entries) (answer : Option EntryHead) : Type 0 where
   pub entries : MatchOption answer (to_come b old ≡ [])
-      (λ named. to_come b old ≡ roled_of named (last_name new) ∷ to_come b new)
+      (λ head. to_come b old ≡ roled_of head (last_name new) ∷ to_come b new)
   pub shape : has_right_shape b new ≡ has_right_shape b old
   pub ended : IfNone answer (HasEnded b new)
 

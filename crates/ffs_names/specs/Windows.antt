@@ -13,7 +13,7 @@ pub record CanWalkDir (v : Layout) (d : Device) (blocks : Blocks) : Type 0 where
   pub room : vec_len blocks.buffer ≡ 3 * v.bsize
   pub holds : BlocksHold v d.contents blocks
 
--- and so has that of chunks a block
+-- the chunks can be read too: their window has room for a block, and holds what the image gives
 pub record CanReadChunks (v : Layout) (d : Device) (blocks : Blocks) (chunk : Window) : Type 0 where
   pub walk : CanWalkDir v d blocks
   pub room : vec_len chunk.buffer ≡ v.bsize

@@ -120,11 +120,11 @@ impl Chunks {
         &mut self,
         image: &mut I,
         blocks: &mut Blocks,
-        data: &mut Window,
+        window: &mut Window,
         chunk: &mut [u8; DIRBLKSIZ],
     ) -> Result<Option<u64>, ImageFault>
         requires { CanReadChunks self.old.walk.geometry.layout (I.device image.old) blocks.old
-            «data».old }
+            window.old }
         ensures chunk { IfOk result (λ offset. ForContents (I.device image.old).contents
             (λ b. GivesChunk b (all_chunks b) self.old self.new chunk.new offset)) }
         ensures place { IfOk result (λ o. IfSome o (λ _. ForContents (I.device image.old).contents
@@ -133,20 +133,20 @@ impl Chunks {
             ≤ self.old.walk.geometry.layout.size * self.old.walk.geometry.layout.fsize)) }
         ensures runs { OnErr result (ForContents (I.device image.old).contents
             (λ b. self.new.runs + runs_left b self.new ≤ self.old.runs + runs_left b self.old)) }
-        ensures reads { HoldsReading blocks.old «data».old self.old
+        ensures reads { HoldsReading blocks.old window.old self.old
             → ForContents (I.device image.old).contents (λ b. TakesReads (I.reads image.old)
             (I.reads image.new) (to_read b self.old) (to_read b self.new)
-            (HoldsReading blocks.new «data».new self.new) result) }
+            (HoldsReading blocks.new window.new self.new) result) }
         ensures leaves { LeavesChunks self.old self.new (I.device image.old) (I.device image.new)
-            blocks.new «data».new result }
+            blocks.new window.new result }
     {
         if !self.advance(image, blocks)? {
             return Ok(None);
         }
         let run_cursor = self.run_cursor;
-        data.fill(image, run_cursor.place, run_cursor.length as usize)?;
+        window.fill(image, run_cursor.place, run_cursor.length as usize)?;
         let at = DIRBLKSIZ * run_cursor.next as usize;
-        chunk.copy_from_slice(&data.bytes()[at..at + DIRBLKSIZ]);
+        chunk.copy_from_slice(&window.bytes()[at..at + DIRBLKSIZ]);
         self.run_cursor.next += 1;
         Ok(Some(run_cursor.offset + DIRBLKSIZ as u64 * u64::from(run_cursor.next)))
     }
@@ -211,11 +211,11 @@ impl Chunks {
         &mut self,
         image: &mut I,
         blocks: &mut Blocks,
-        data: &mut Window,
+        window: &mut Window,
         chunk: &mut [u8; DIRBLKSIZ],
     ) -> Result<Option<u64>, ImageFault>
         requires { CanReadChunks self.old.walk.geometry.layout (I.device image.old) blocks.old
-            «data».old }
+            window.old }
         ensures chunk { IfOk result (λ offset. ForContents (I.device image.old).contents
             (λ b. GivesChunk b (rest b) self.old self.new chunk.new offset)) }
         ensures place { IfOk result (λ o. IfSome o (λ _. ForContents (I.device image.old).contents
@@ -230,18 +230,18 @@ impl Chunks {
             (λ _. self.new.budget ≡ 0) }
         ensures over { self.old.budget ≡ 0 → result ≡ Ok None }
         ensures counted { self.old.runs ≤ self.new.runs }
-        ensures reads { HoldsReading blocks.old «data».old self.old
+        ensures reads { HoldsReading blocks.old window.old self.old
             → ForContents (I.device image.old).contents (λ b. TakesReads (I.reads image.old)
             (I.reads image.new) (to_read b self.old) (to_read b self.new)
-            (HoldsReading blocks.new «data».new self.new) result) }
-        ensures unread { self.old.budget ≡ 0 → I.reads image.new ≤ I.reads image.old }
+            (HoldsReading blocks.new window.new self.new) result) }
+        ensures spent { self.old.budget ≡ 0 → I.reads image.new ≤ I.reads image.old }
         ensures leaves { LeavesReading self.old self.new (I.device image.old)
-            (I.device image.new) blocks.new «data».new result }
+            (I.device image.new) blocks.new window.new result }
     {
         if self.budget == 0 {
             return Ok(None);
         }
-        match self.read(image, blocks, data, chunk) {
+        match self.read(image, blocks, window, chunk) {
             Ok(None) => Ok(None),
             Ok(Some(offset)) => {
                 self.budget -= 1;

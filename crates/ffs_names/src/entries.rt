@@ -15,7 +15,7 @@ use crate::gap::gap_of;
 use crate::role::role_of;
 use ffs_image::{Image, ImageFault};
 use ffs_layout::{Geometry, entry_at};
-use ffs_survey::Named;
+use ffs_survey::EntryHead;
 use ffs_volume::constants::{DIRBLKSIZ, MINDIRSIZE};
 use ffs_volume::{Class, Inode, Order};
 use ffs_walk::{Blocks, Window};
@@ -137,10 +137,10 @@ impl Entries {
 
     /// Takes the entry at `place`, if one is there.
     #[inline(always)]
-    fn take(&mut self) -> Option<Named>
+    fn take(&mut self) -> Option<EntryHead>
         ensures entries { MatchOption result
             ((b : List ℕ) → to_come b self.new ≡ to_come b self.old)
-            (λ named. (b : List ℕ) → to_come b self.old ≡ roled_of named (last_name self.new)
+            (λ head. (b : List ℕ) → to_come b self.old ≡ roled_of head (last_name self.new)
             ∷ to_come b self.new) }
         ensures left { MatchOption result
             (is_some (entry_in self.new.order self.new.chunk self.new.place) ≡ false)
@@ -152,7 +152,7 @@ impl Entries {
             return None;
         };
         let role = role_of(self.first, self.index, &entry);
-        let named = Named {
+        let head = EntryHead {
             role,
             number: entry.number,
             length: entry.length,
@@ -162,10 +162,10 @@ impl Entries {
         self.name_len = entry.name.len();
         self.place += entry.length as usize;
         self.index += 1;
-        Some(named)
+        Some(head)
     }
 
-    /// The next entry, if there is one. `name` is its name.
+    /// The next entry, if there is one, without its name.
     ///
     /// # Errors
     /// A read of the image that failed.
@@ -175,16 +175,16 @@ impl Entries {
         image: &mut I,
         blocks: &mut Blocks,
         window: &mut Window,
-    ) -> Result<Option<Named>, ImageFault>
+    ) -> Result<Option<EntryHead>, ImageFault>
         requires { CanReadChunks self.old.chunks.walk.geometry.layout (I.device image.old)
             blocks.old window.old }
-        ensures entry { IfOk result (λ named. ForContents (I.device image.old).contents
-            (λ b. GivesEntry b self.old self.new named)) }
+        ensures entry { IfOk result (λ head. ForContents (I.device image.old).contents
+            (λ b. GivesEntry b self.old self.new head)) }
         ensures place { IfOk result (λ o. IfSome o (λ _. ForContents (I.device image.old).contents
             (λ b. MayTake b self.old → IsHeld b self.new))) }
         ensures inside { IfOk result (λ o. IfSome o (λ _.
             (self.old.place < 512 → IsInside self.old) → IsInside self.new)) }
-        ensures left { IfOk result (λ named. IfSome named (λ _. left self.new < left self.old)) }
+        ensures left { IfOk result (λ head. IfSome head (λ _. left self.new < left self.old)) }
         ensures reads { HoldsEntries blocks.old window.old self.old
             → ForContents (I.device image.old).contents (λ b. TakesReads (I.reads image.old)
             (I.reads image.new) (entries_to_read b self.old) (entries_to_read b self.new)
@@ -194,7 +194,7 @@ impl Entries {
     {
         'chunks: loop {
             match self.take() {
-                Some(named) => return Ok(Some(named)),
+                Some(head) => return Ok(Some(head)),
                 None => {
                     self.sound &= self.place == DIRBLKSIZ;
                     self.place = DIRBLKSIZ;

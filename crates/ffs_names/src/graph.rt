@@ -9,7 +9,7 @@ ghost use Rattle.ffs_names.specs.Surveys.{IsUntouched, FlagsCalm};
 ghost use Rattle.ffs_names.specs.Costs.{directories_cost};
 
 use crate::entries::Entries;
-use crate::tree::Tree;
+use crate::reader::DirectoryReader;
 use ffs_image::{Image, ImageFault};
 use ffs_layout::Geometry;
 use ffs_workspace::Workspace;
@@ -45,7 +45,7 @@ pub fn survey<I: Image>(
     ensures ready { IsReady geometry.now.layout (I.device image.new) workspace.new }
     ensures read { ReadAfter (I.device image.old) (I.device image.new) result }
 {
-    let mut tree = Tree {
+    let mut reader = DirectoryReader {
         geometry: *geometry,
         image,
         windows: &mut workspace.windows,
@@ -54,7 +54,7 @@ pub fn survey<I: Image>(
         entries: Entries::none(geometry),
     };
     let surveyed = ffs_survey::survey(
-        &mut tree,
+        &mut reader,
         &workspace.kinds,
         &workspace.marked,
         &mut workspace.references,

@@ -17,9 +17,9 @@ mod entries;
 mod gap;
 mod graph;
 mod places;
+mod reader;
 mod role;
 mod run_cursor;
-mod tree;
 
 pub use chunks::Chunks;
 pub use entries::Entries;

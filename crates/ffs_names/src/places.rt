@@ -20,8 +20,8 @@ ghost use Rattle.ffs_names.specs.Costs.{directories_cost, directory_cost, to_rea
 ghost use Rattle.ffs_names.specs.Windows.{CanReadChunks};
 
 use crate::chunks::Chunks;
+use crate::reader::one_chunk_at;
 use crate::role::role_of;
-use crate::tree::one_chunk_at;
 use ffs_image::{Image, ImageFault};
 use ffs_layout::{Entry, Geometry, entry_at};
 use ffs_memory::FilledList;
@@ -225,8 +225,9 @@ fn note_directory<I: Image>(
     )
 }
 
-/// Marks the parent of each directory that is reached as due, and notes no place.
-fn mark_parents(reached: &[bool], parents: &FilledList<u32>, words: &mut FilledList<u32>)
+/// Sets the top bit of the word of each directory that is the parent of a reached one: its chunks
+/// are still to be read. (In phase 2 the same bit says *due*.) No place is noted.
+fn flag_parents(reached: &[bool], parents: &FilledList<u32>, words: &mut FilledList<u32>)
     requires lengths { (vec_len parents.now ≡ length reached.now)
         × (vec_len words.old ≡ length reached.now) × (length reached.now < 2 ^ 31) }
     ensures begins { BeginsNotes reached.now parents.now.items words.new.items }
@@ -276,7 +277,7 @@ pub fn note_places<I: Image>(
     ensures ready { IsReady geometry.now.layout (I.device image.new) workspace.new }
     ensures read { ReadAfter (I.device image.old) (I.device image.new) result }
 {
-    mark_parents(&workspace.reached, &workspace.parents, &mut workspace.queue);
+    flag_parents(&workspace.reached, &workspace.parents, &mut workspace.queue);
     for dir in ROOTINO..geometry.layout.ncg * geometry.layout.ipg {
         let word = workspace.queue[dir as usize];
         if is_due(word) {

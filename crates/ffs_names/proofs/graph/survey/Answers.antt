@@ -47,8 +47,8 @@ returns-clause-survey g c = on_ok c.survey-surveyed.result _ _ (λ s b t h.
       contents = (g.I.Image.device c.args.image.now).contents;
       kinds = c.deref.result.now;
       notes = w.notes.items;
-      image_lent = c.tree-2-1.given;
-      windows_lent = c.tree-3-1.given.0;
+      image_lent = c.reader-2-1.given;
+      windows_lent = c.reader-3-1.given.0;
     }) b c.deref-2.result.now _ n.references.items n.named n.reached n.parents.items (search rules)
     (λ x. ap (λ ks. slice_index ks x) c.deref-2.ensures.value ∙ h.kinds x) found in
     holds_survey c.args.geometry.now.layout b _ _ n.references.items n.named n.reached n.parents.items
@@ -70,8 +70,8 @@ returns-clause-references g c = on_ok c.survey-surveyed.result _ _ (λ s b t h s
       contents = (g.I.Image.device c.args.image.now).contents;
       kinds = c.deref.result.now;
       notes = w.notes.items;
-      image_lent = c.tree-2-1.given;
-      windows_lent = c.tree-3-1.given.0;
+      image_lent = c.reader-2-1.given;
+      windows_lent = c.reader-3-1.given.0;
     }) b c.deref-2.result.now _ n.references.items n.named n.reached n.parents.items (search rules)
     (λ x. ap (λ ks. slice_index ks x) c.deref-2.ensures.value ∙ h.kinds x) found in
     holds_references c.args.geometry.now.layout b w _ _ n.references.items n.named n.reached n.parents.items
@@ -92,8 +92,8 @@ returns-clause-calm g c = on_ok c.survey-surveyed.result _ _ (λ s b t h.
       contents = (g.I.Image.device c.args.image.now).contents;
       kinds = c.deref.result.now;
       notes = w.notes.items;
-      image_lent = c.tree-2-1.given;
-      windows_lent = c.tree-3-1.given.0;
+      image_lent = c.reader-2-1.given;
+      windows_lent = c.reader-3-1.given.0;
     }) b c.deref-2.result.now c.deref-3.result.now n.reached n.parents.items n.calm found in
     holds_calm c.args.geometry.now.layout b _ c.deref-2.result.now c.deref-3.result.now n.reached n.parents.items n.calm
     (sym c.deref-2.ensures.value) (sym c.deref-3.ensures.value)
@@ -106,13 +106,13 @@ survey-surveyed-requires-clause-lists g c = record {
   some = let k = some_inodes c.args.geometry.now.layout c.args.geometry.now.sound in
       omega (arith, c.deref-2.ensures.len, c.requires.made.kinds, k);
   few = search (rules, arith);
-  marked = search (rules, arith);
-  references = search (rules, arith);
-  named = search (rules, arith);
-  reached = search (rules, arith);
-  parents = search (rules, arith);
-  calm = search (rules, arith);
-  queue = search (rules, arith);
+  marked_long = search (rules, arith);
+  references_long = search (rules, arith);
+  named_long = search (rules, arith);
+  reached_long = search (rules, arith);
+  parents_long = search (rules, arith);
+  calm_long = search (rules, arith);
+  queue_long = search (rules, arith);
 }
 
 pub returns-clause-reads : goal.returns-clause-reads

@@ -34,7 +34,7 @@ chunks-preserved g c =
       geometry = went.geometry ∙ inv.geometry;
       ready = rw inv.geometry at went.ready;
       long = c.note_chunk.ensures.long ∙ inv.long;
-      others = ap (λ (w : Windows). record w { blocks = c.next.new.blocks; chunk = c.next.new.data }) inv.others;
+      others = ap (λ (w : Windows). record w { blocks = c.next.new.blocks; chunk = c.next.new.window }) inv.others;
       children = children_more parents words old new c.args.dir c.place_of-place.result _ c.note_chunk.ensures.noted
           inv.children;
       reads = λ held b t.

@@ -3,7 +3,7 @@ use Rattle.std.proofs.lemmas.Grind.{common_steps, get_or_default_zero}
 use Rattle.ffs_workspace.specs.declared.workspace.Workspace.{Workspace}
 use Rattle.ffs_workspace.specs.Lengths.{inodes_of}
 use Rattle.ffs_workspace.specs.Places.{is_due, place_in}
-use Rattle.ffs_names.specs.Noting.{BeginsNotes, KeepsDue}
+use Rattle.ffs_names.specs.Noting.{BeginsNotes, KeepsToRead}
 use Rattle.ffs_names.proofs.PlacesNoted.{claims_noted, coming_end, coming_first, coming_noted, only_fewer, parent_is_dir, passed_next, passed_over, places_after, places_same, set_other, set_same, survey_noted}
 use Rattle.ffs_volume.proofs.Sizes.{some_inodes}
 use Rattle.ffs_survey.proofs.Costs.{cost_take, costs_rise}
@@ -15,9 +15,9 @@ pub loop-dir-init : goal.loop-dir-init
 loop-dir-init g c =
     let v = c.args.geometry.now.layout in
     let w = c.args.workspace.now in
-    let words = c.mark_parents.new.words.items in
+    let words = c.flag_parents.new.words.items in
     let begins : BeginsNotes w.reached.items w.parents.items words =
-    subst (λ (rs : List Bool). BeginsNotes rs w.parents.items words) c.deref.ensures.value c.mark_parents.ensures.begins in
+    subst (λ (rs : List Bool). BeginsNotes rs w.parents.items words) c.deref.ensures.value c.flag_parents.ensures.begins in
     let long : length w.reached.items ≡ inodes_of v =
     sym (ap length c.deref.ensures.value) ∙ (c.deref.ensures.len ∙ c.requires.made.reached) in
     record {
@@ -53,8 +53,8 @@ loop-dir-preserved g c =
           let same : (x : ℕ) → place_in (slice_index mid.queue.items x) ≡ place_in (slice_index old x) =
           λ x. ap (λ (ws : List ℕ). place_in (slice_index ws x)) set
           ∙ set_same place_in old dir w.passed.result inside (w.passed.ensures.place ∙ ap place_in word) x in
-          let set_due : KeepsDue (slice_set old dir w.passed.result) new.queue.items =
-          subst (λ (ws : List ℕ). KeepsDue ws new.queue.items) set noted.children.due in
+          let set_due : KeepsToRead (slice_set old dir w.passed.result) new.queue.items =
+          subst (λ (ws : List ℕ). KeepsToRead ws new.queue.items) set noted.children.to_read in
           let due : is_due (slice_index old dir) ≡ true =
           ap is_due (sym word) ∙ (sym c.is_due.ensures ∙ w.if-is_due.true) in
           let other : (x : ℕ) → x ≢ dir → is_due (slice_index mid.queue.items x) ≡ is_due (slice_index old x) =

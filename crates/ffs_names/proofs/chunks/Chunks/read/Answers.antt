@@ -4,7 +4,7 @@ use Rattle.ffs_volume.specs.Disk.Numbers.{piece}
 use Rattle.ffs_walk.specs.Windows.{held_bytes}
 use Rattle.ffs_walk.specs.Rests.{steps_left}
 use Rattle.ffs_names.specs.Readings.{all_chunks, chunks_after}
-use Rattle.ffs_names.proofs.Pieces.{chunk_held, hand_step}
+use Rattle.ffs_names.proofs.Pieces.{chunk_held, cursor_step}
 use Rattle.ffs_names.proofs.ReadCounts.{given_one, run_paid}
 use Rattle.ffs_names.proofs.chunks.Chunks.read.Goals as goal
 
@@ -20,7 +20,7 @@ returns-clause-chunk g c = λ b t.
     c.bytes.result.now (omega arith) c.copy_from_slice.ensures.after c.bytes.ensures
     (c.in_ok-fill.ensures.fills.bytes b (ap (λ d. d.contents) c.in_ok-advance.ensures.leaves.read ∙ t)) in
     record {
-      chunks = hand_step s.walk.geometry.layout.order c.args.self.now.walk.geometry.layout.order b h.place h.offset
+      chunks = cursor_step s.walk.geometry.layout.order c.args.self.now.walk.geometry.layout.order b h.place h.offset
           h.next h.count c.copy_from_slice.new.self (chunks_after b s (steps_left b s.walk))
           (all_chunks b c.args.self.now) c.from.result
           order more chunk c.from.ensures went.chunks;
@@ -169,12 +169,12 @@ pub returns-in_err-advance-clause-reads : goal.returns-in_err-advance-clause-rea
 returns-in_err-advance-clause-reads g c =
     let p = err_from_is_err_and c.from_residual.result c.from_residual.ensures.1 in
     rw p.1 (λ held b t.
-    let took = c.in_err-advance.ensures.reads c.args.«data».now held b t in
+    let took = c.in_err-advance.ensures.reads c.args.window.now held b t in
     record { most = took.most; paid = tt; held = tt })
 
 pub returns-then-not-branch-clause-reads : goal.returns-then-not-branch-clause-reads
 returns-then-not-branch-clause-reads g c = λ held b t.
-    let took = c.in_ok-advance.ensures.reads c.args.«data».now held b t in
+    let took = c.in_ok-advance.ensures.reads c.args.window.now held b t in
     record { most = took.most; paid = took.paid; held = took.held }
 
 -- the chunks of the Run are read, unless the window has them
@@ -182,18 +182,18 @@ pub returns-in_err-fill-clause-reads : goal.returns-in_err-fill-clause-reads
 returns-in_err-fill-clause-reads g c =
     let p = err_from_is_err_and c.from_residual-in_err-fill.result c.from_residual-in_err-fill.ensures.1 in
     rw p.1 (λ held b t.
-    let took = c.in_ok-advance.ensures.reads c.args.«data».now held b t in
+    let took = c.in_ok-advance.ensures.reads c.args.window.now held b t in
     let h = c.advance.new.self.run_cursor in
     let more = rw c.if-not-branch.false at c.in_ok-advance.ensures.found in
-    let run = run_paid h c.args.«data».now _ _ more took.held.run c.fill.ensures.counted c.fill.ensures.again in
+    let run = run_paid h c.args.window.now _ _ more took.held.run c.fill.ensures.counted c.fill.ensures.again in
     record { most = omega (arith, took.paid, run); paid = tt; held = tt })
 
 pub returns-clause-reads : goal.returns-clause-reads
 returns-clause-reads g c = λ held b t.
-    let took = c.in_ok-advance.ensures.reads c.args.«data».now held b t in
+    let took = c.in_ok-advance.ensures.reads c.args.window.now held b t in
     let h = c.advance.new.self.run_cursor in
     let more = rw c.if-not-branch.false at c.in_ok-advance.ensures.found in
-    let run = run_paid h c.args.«data».now _ _ more took.held.run c.fill.ensures.counted c.fill.ensures.again in
+    let run = run_paid h c.args.window.now _ _ more took.held.run c.fill.ensures.counted c.fill.ensures.again in
     let given = given_one h.next h.count in
     record {
       most = omega (arith, took.paid, run);

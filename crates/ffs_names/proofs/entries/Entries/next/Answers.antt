@@ -70,7 +70,7 @@ chunks-preserved g c =
           let now = i.reads held b t in
           let f = rw c.in-Some-2.is at c.in_ok-next.ensures.budget in
           let took = continues_by_chunks b s.sound _ s.chunks c.next.new.self _ _ _ _ _ _ _ (and_left s.sound _) (omega (arith, f))
-          c.in_ok-next.ensures.unread (λ h. c.in_ok-next.ensures.reads h b (ap (λ d. d.contents) i.device ∙ t))
+          c.in_ok-next.ensures.spent (λ h. c.in_ok-next.ensures.reads h b (ap (λ d. d.contents) i.device ∙ t))
           (same_holds _ _ _ _ _ _ same.sound same.chunks now.1) in
           let e = same_reads b c.chunks.self.sound s.sound c.chunks.self.chunks s.chunks same.sound same.chunks in
           (omega (arith, took.paid, e, now.0), took.held);
@@ -217,7 +217,7 @@ returns-in-None-2-clause-reads g c = λ held b t.
     let same = c.take.ensures.same in
     let f = rw c.in-None-2.is at c.in_ok-next.ensures.budget in
     let took = continues_by_chunks b s.sound _ s.chunks c.next.new.self _ _ _ _ _ _ _ (and_left s.sound _) (omega (arith, f))
-    c.in_ok-next.ensures.unread (λ h. c.in_ok-next.ensures.reads h b (ap (λ d. d.contents) i.device ∙ t))
+    c.in_ok-next.ensures.spent (λ h. c.in_ok-next.ensures.reads h b (ap (λ d. d.contents) i.device ∙ t))
     (same_holds _ _ _ _ _ _ same.sound same.chunks now.1) in
     let e = same_reads b c.chunks.self.sound s.sound c.chunks.self.chunks s.chunks same.sound same.chunks in
     record {
@@ -236,7 +236,7 @@ returns-in_err-next-clause-reads g c =
     let same = c.take.ensures.same in
     let f = c.in_err-next.ensures.budget in
     let took = continues_by_chunks b s.sound s.sound s.chunks c.next.new.self _ _ _ _ _ _ _ (λ h. h) (omega (arith, f))
-    c.in_err-next.ensures.unread (λ h. c.in_err-next.ensures.reads h b (ap (λ d. d.contents) i.device ∙ t))
+    c.in_err-next.ensures.spent (λ h. c.in_err-next.ensures.reads h b (ap (λ d. d.contents) i.device ∙ t))
     (same_holds _ _ _ _ _ _ same.sound same.chunks now.1) in
     let e = same_reads b c.chunks.self.sound s.sound c.chunks.self.chunks s.chunks same.sound same.chunks in
     record { most = omega (arith, took.most, e, now.0); paid = tt; held = tt })

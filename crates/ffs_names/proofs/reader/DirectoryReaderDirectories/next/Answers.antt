@@ -1,5 +1,5 @@
 use Rattle.ffs_names.proofs.SurveyHolds.{if_ok, ok_on, none_ended}
-use Rattle.ffs_names.proofs.tree.TreeDirectories.next.Goals as goal
+use Rattle.ffs_names.proofs.reader.DirectoryReaderDirectories.next.Goals as goal
 
 pub returns-clause-rest : goal.returns-clause-rest
 returns-clause-rest g c = if_ok c.next.result _ _ c.next.ensures.entry (λ o h b k. (h b k.bytes).entries)

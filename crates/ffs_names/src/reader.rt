@@ -1,4 +1,4 @@
-//! The directories of a volume, as a survey reads them.
+//! The reader of directories that a survey of a volume goes over.
 
 ghost use Rattle.std.specs.Prelude.{◌≡◌};
 ghost use Rattle.ffs_names.specs.OneChunk.{one_chunk_at};
@@ -7,7 +7,7 @@ use crate::entries::Entries;
 use ffs_image::{Image, ImageFault};
 use ffs_layout::Geometry;
 use ffs_memory::FilledList;
-use ffs_survey::{Directories, Named, is_dir};
+use ffs_survey::{Directories, EntryHead, is_dir};
 use ffs_volume::constants::{DIRBLKSIZ, DT_DIR};
 use ffs_volume::{Class, Inode};
 use ffs_workspace::{Windows, address_in};
@@ -32,9 +32,10 @@ pub(crate) fn one_chunk_at(address: u32) -> Inode
     }
 }
 
-/// The directories of a volume: those that the kinds of inodes name, with what is kept of them.
+/// Reads the directories of a volume: those that the kinds of inodes name, with what is kept of
+/// them.
 #[derive(Drop)]
-pub struct Tree<'a, I> {
+pub struct DirectoryReader<'a, I> {
     /// The volume.
     pub geometry: Geometry,
     /// Its image.
@@ -49,13 +50,13 @@ pub struct Tree<'a, I> {
     pub entries: Entries,
 }
 
-impl<I: Image> Directories for Tree<'_, I> {
-    ghost use Rattle.ffs_names.specs.Trees.{Base as TreeBase, KnowsTree, dir_entries, dir_sound, IsReady};
+impl<I: Image> Directories for DirectoryReader<'_, I> {
+    ghost use Rattle.ffs_names.specs.Readers.{Base as ReaderBase, KnowsReader, dir_entries, dir_sound, IsReaderReady};
     ghost use Rattle.ffs_names.specs.Shapes.{has_right_shape, HasEnded};
     ghost use Rattle.ffs_names.specs.Entering.{to_come, left as entries_left, last_name};
     ghost use Rattle.ffs_names.specs.Costs.{directory_cost, entries_to_read, HoldsEntries};
 
-    ghost Base = { TreeBase };
+    ghost Base = { ReaderBase };
 
     ghost base = { λ t. record {
       layout = t.geometry.layout;
@@ -66,7 +67,7 @@ impl<I: Image> Directories for Tree<'_, I> {
       windows_lent = t.windows.ghost_name;
     } };
 
-    ghost knows = { KnowsTree };
+    ghost knows = { KnowsReader };
 
     ghost entries = { dir_entries };
 
@@ -74,8 +75,8 @@ impl<I: Image> Directories for Tree<'_, I> {
 
     ghost device = { λ t. I.device t.image.now };
 
-    ghost ready = { λ t. IsReady t.geometry.layout (I.device t.image.now) t.windows.now t.kinds.now
-        t.notes.now.items × (t.entries.chunks.walk.geometry ≡ t.geometry) };
+    ghost ready = { λ t. IsReaderReady t.geometry.layout (I.device t.image.now) t.windows.now
+        t.kinds.now t.notes.now.items × (t.entries.chunks.walk.geometry ≡ t.geometry) };
 
     ghost reads = { λ t. I.reads t.image.now };
 
@@ -115,7 +116,7 @@ impl<I: Image> Directories for Tree<'_, I> {
     }
 
     #[inline(always)]
-    fn next(&mut self) -> Result<Option<Named>, ImageFault> {
+    fn next(&mut self) -> Result<Option<EntryHead>, ImageFault> {
         let windows = &mut *self.windows;
         self.entries
             .next(self.image, &mut windows.blocks, &mut windows.chunk)

@@ -1,8 +1,8 @@
 use Rattle.std.proofs.Common.{◌≡◌, ◌<◌, ◌≤◌, ◌∙◌, arith, length, rules, slice_index, subst, sym}
 use Rattle.std.proofs.lemmas.Grind.{common_steps, get_or_default_zero}
 use Rattle.ffs_names.proofs.PlacesNoted.{OnlyParents, only_more}
-use Rattle.ffs_names.proofs.places.mark_parents.Goals as goal
-use Rattle.ffs_names.proofs.places.mark_parents.Goals.{then-reached-number+then-contains, else-reached-number}
+use Rattle.ffs_names.proofs.places.flag_parents.Goals as goal
+use Rattle.ffs_names.proofs.places.flag_parents.Goals.{then-reached-number+then-contains, else-reached-number}
 
 pub loop-number-preserved : goal.loop-number-preserved
 loop-number-preserved c =
@@ -23,7 +23,7 @@ loop-number-preserved c =
             subst (OnlyParents parents) (sym w.set.ensures.items)
             (only_more parents c.loop-number.words.items number c.index.result.now w.due.result (omega arith) up low
             inv.only);
-        due = grind (arith, common_steps);
+        to_read = grind (arith, common_steps);
       })
       | else-reached-number w ↦ rw w.words-is (record {
         count = search rules;
@@ -31,6 +31,6 @@ loop-number-preserved c =
         none = inv.none;
         low = inv.low;
         only = inv.only;
-        due = grind (arith, common_steps);
+        to_read = grind (arith, common_steps);
       })
     ]

@@ -1,6 +1,6 @@
 use Rattle.std.proofs.Common.{refl, ◌∙◌}
 use Rattle.ffs_names.proofs.Continuing.{contents_kept}
-use Rattle.ffs_names.proofs.tree.TreeDirectories.is_sound.Goals as goal
+use Rattle.ffs_names.proofs.reader.DirectoryReaderDirectories.is_sound.Goals as goal
 
 pub is_sound-requires : goal.is_sound-requires
 is_sound-requires g c =

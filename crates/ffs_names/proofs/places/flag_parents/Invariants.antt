@@ -2,7 +2,7 @@ use Rattle.std.proofs.Common.{◌≡◌, ◌<◌, ◌≤◌, ℕ, true, false, l
 use Rattle.ffs_volume.specs.Encodings.Lists.{bool_at}
 use Rattle.ffs_workspace.specs.Places.{is_due, place_in}
 use Rattle.ffs_names.specs.Noting.{IsParent}
-use Rattle.ffs_names.proofs.places.mark_parents.Given as goal
+use Rattle.ffs_names.proofs.places.flag_parents.Given as goal
 
 abbrev pub invariant-loop-number : goal.invariant-loop-number
 invariant-loop-number l = record {
@@ -11,7 +11,7 @@ invariant-loop-number l = record {
   none : (x : ℕ) → place_in (slice_index l.words.items x) ≡ 0;
   low : (x : ℕ) → x < 2 → is_due (slice_index l.words.items x) ≡ false;
   only : (p : ℕ) → is_due (slice_index l.words.items p) ≡ true → IsParent l.parents.items p;
-  due : (x : ℕ) → 2 < x → x < l.number → bool_at l.reached x ≡ true → 2 ≤ slice_index l.parents.items x →
+  to_read : (x : ℕ) → 2 < x → x < l.number → bool_at l.reached x ≡ true → 2 ≤ slice_index l.parents.items x →
       slice_index l.parents.items x < length l.reached →
       is_due (slice_index l.words.items (slice_index l.parents.items x)) ≡ true;
 }

@@ -1,4 +1,4 @@
--- The directories of a volume that a survey reads.
+-- The reader of a volume's directories that a survey goes over.
 use Rattle.std.specs.Prelude.{◌≡◌, ◌*◌, ◌≤◌, ℕ, List, [], Option, Some}
 use Rattle.std.specs.Prelude.{slice_index, if◌then◌else◌, Bool, vec_len, length}
 use Rattle.std.specs.Borrow.{GName}
@@ -14,8 +14,8 @@ use Rattle.ffs_workspace.specs.Tables.{IsTableOf}
 use Rattle.ffs_names.specs.RightShapes.{is_right_directory}
 use Rattle.ffs_workspace.specs.declared.workspace.Windows.{Windows}
 
--- what it is over: a layout, the image's bytes where it gives them, the kinds of inodes and what is
--- noted of them, and what it was lent
+-- what a reader of directories is over: a layout, the image's bytes where it gives them, the kinds of inodes and what
+-- is noted of them, and what it was lent
 pub record Base : Type 0 where
   pub layout : Layout
   pub contents : Option (List ℕ)
@@ -25,7 +25,7 @@ pub record Base : Type 0 where
   pub windows_lent : GName
 
 -- these are the image's bytes, and the kinds and notes are those of its inodes
-pub record KnowsTree (t : Base) (b : List ℕ) : Type 0 where
+pub record KnowsReader (t : Base) (b : List ℕ) : Type 0 where
   pub bytes : t.contents ≡ Some b
   pub kinds : (x : ℕ) → slice_index t.kinds x ≡ kind_at t.layout b x
   pub notes : (x : ℕ) → slice_index t.notes x ≡ note_at t.layout b x
@@ -34,12 +34,12 @@ pub record KnowsTree (t : Base) (b : List ℕ) : Type 0 where
 abbrev pub dir_entries : Base → List ℕ → ℕ → List RoledEntry
 dir_entries t b d = if is_dir (volume_of t.layout b) d then roled_entries (volume_of t.layout b) d else []
 
--- it is a directory of a right shape
+-- a number is that of a directory of a right shape
 abbrev pub dir_sound : Base → List ℕ → ℕ → Bool
 dir_sound t b = is_right_directory (volume_of t.layout b)
 
 -- the windows have room, and hold what the image gives; its lists have a place for each inode
-pub record IsReady (v : Layout) (device : Device) (windows : Windows) (kinds notes : List ℕ) : Type 0 where
+pub record IsReaderReady (v : Layout) (device : Device) (windows : Windows) (kinds notes : List ℕ) : Type 0 where
   pub volume : v.size * v.fsize ≤ device.size
   pub table : IsTableOf v windows.table
   pub blocks : vec_len windows.blocks.buffer ≡ 3 * v.bsize

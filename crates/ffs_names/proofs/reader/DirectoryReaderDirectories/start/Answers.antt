@@ -15,7 +15,7 @@ use Rattle.ffs_names.proofs.DirLaws.{dir_is, dir_size, dir_seen, shape_seen, kin
 use Rattle.ffs_volume.specs.Encodings.Replay.{fresh_replay}
 use Rattle.ffs_volume.specs.Encodings.ReplayCounts.{replayed_runs}
 use Rattle.ffs_names.proofs.DirCosts.{cost_is, runs_are}
-use Rattle.ffs_names.proofs.tree.TreeDirectories.start.Goals as goal
+use Rattle.ffs_names.proofs.reader.DirectoryReaderDirectories.start.Goals as goal
 
 pub returns-then-not-is_dir-clause-rest : goal.returns-then-not-is_dir-clause-rest
 returns-then-not-is_dir-clause-rest g c = λ b k.
