@@ -21,8 +21,8 @@ use Rattle.ffs_paths.specs.Siblings.{AreSiblings, LeadsTo}
 use Rattle.ffs_paths.specs.Slashes.{AreSingle}
 use Rattle.ffs_paths.specs.declared.kept.DirectoryPath.{DirectoryPath}
 use Rattle.ffs_paths.specs.declared.siblings.Siblings.{Siblings}
-use Rattle.ffs_paths.proofs.Single.{down_single}
-use Rattle.ffs_paths.proofs.Ways.{down_is}
+use Rattle.ffs_paths.proofs.NoSlashes.{down_single}
+use Rattle.ffs_paths.proofs.WaysUp.{down_is}
 
 -- s is the parent of the directory d, and the first entry of s that names d has its name
 pub record IsChild (v : Layout) (b : List ℕ) (d s : ℕ) : Type 0 where
@@ -50,8 +50,8 @@ child_is v b d s h n e = let l = reached-level g d h in go l.0 l.1
           dir = dir.0;
           leads = record {
             names = names_down g k a.0;
-            above = ap (option_map (λ j. names_down g j a.0)) a.1.near;
-            below = ap (option_map (λ j. names_down g j d)) l ∙ ap Some down;
+            to_parent = ap (option_map (λ j. names_down g j a.0)) a.1.near;
+            to_child = ap (option_map (λ j. names_down g j d)) l ∙ ap Some down;
             single = subst AreSingle down (down_single v b (suc k) d);
           };
         })
@@ -78,5 +78,5 @@ pub child_made : (g : Graph) (s : Siblings) (made : DirectoryPath) → AreSiblin
     → IsPathOf g s.child made
 child_made g s made kept some makes =
     let leads = kept.child some in
-    subst (HoldsPath made) (sym leads.below)
-    (makes leads.names (subst (HoldsPath s.path) leads.above (kept.path (kept.parent some))) leads.single)
+    subst (HoldsPath made) (sym leads.to_child)
+    (makes leads.names (subst (HoldsPath s.path) leads.to_parent (kept.path (kept.parent some))) leads.single)

@@ -18,7 +18,7 @@ use Rattle.ffs_volume.specs.Directories.Graph.{is_naming_entry}
 use Rattle.ffs_volume.specs.Directories.Roles.{is_one_dot, is_plain, is_two_dots, role_of, roled_from}
 use Rattle.ffs_volume.proofs.Reading.{entries_end, entries_next}
 use Rattle.ffs_paths.specs.Climbing.{name_in}
-use Rattle.ffs_paths.proofs.Ways.{name_in-here, name_in-past}
+use Rattle.ffs_paths.proofs.WaysUp.{name_in-here, name_in-past}
 
 -- the entries from one on
 chunk_next : (order : Order) (chunk : List ℕ) (index place : ℕ) (e : Entry) (role : Role) →

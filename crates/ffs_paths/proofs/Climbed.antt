@@ -16,7 +16,7 @@ use Rattle.ffs_paths.specs.Buffers.{HoldsNames}
 use Rattle.ffs_paths.specs.Climbing.{IsParentOf}
 use Rattle.ffs_paths.specs.Reads.{KnowsPlaces, ReadsFew}
 use Rattle.ffs_paths.specs.declared.buffer.PathBuffer.{PathBuffer}
-use Rattle.ffs_paths.proofs.Ends.{joined-length}
+use Rattle.ffs_paths.proofs.LongestEnds.{joined-length}
 
 -- so many steps were climbed, with a read for each at most, and with a name for each that takes two bytes at least
 pub record HasClimbed (steps reads reads' : ℕ) (before after : Workspace) (p : PathBuffer) : Type 0 where

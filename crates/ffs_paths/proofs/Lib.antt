@@ -1,11 +1,11 @@
 pub mod Children
 pub mod ChunkNames
 pub mod Climbed
-pub mod Ends
 pub mod Keeping
 pub mod Longer
+pub mod LongestEnds
+pub mod NoSlashes
 pub mod Prefixes
 pub mod Rooms
-pub mod Single
-pub mod Ways
+pub mod WaysUp
 pub mod Windows

@@ -6,7 +6,7 @@ use Rattle.ffs_volume.specs.Directories.Paths.{joined, longest_end, path_bytes}
 use Rattle.ffs_paths.specs.declared.buffer.PathBuffer.{PathBuffer}
 use Rattle.ffs_paths.specs.Buffers.{HoldsNames}
 use Rattle.ffs_paths.specs.Slashes.{AreSingle, from_slash}
-use Rattle.ffs_paths.proofs.Ends.{over_is, under_is, whole-length, end-whole, slash_end, entry-tail, last-length}
+use Rattle.ffs_paths.proofs.LongestEnds.{over_is, under_is, whole-length, end-whole, slash_end, entry-tail, last-length}
 
 -- all names have room, and a `?` before them, too
 pub room_holds : (p : PathBuffer) (names : List (List ℕ)) → p.cut ≡ false → drop p.start p.bytes ≡ joined names →

@@ -11,8 +11,8 @@ use Rattle.ffs_paths.specs.Climbing.{in_room}
 use Rattle.ffs_paths.specs.DirectoryPaths.{IsPathOf}
 use Rattle.ffs_paths.specs.EntryPaths.{BeginsWith}
 use Rattle.ffs_paths.specs.declared.kept.DirectoryPath.{DirectoryPath}
-use Rattle.ffs_paths.proofs.Ends.{entry-whole}
-use Rattle.ffs_paths.proofs.Ways.{entry_is}
+use Rattle.ffs_paths.proofs.LongestEnds.{entry-whole}
+use Rattle.ffs_paths.proofs.WaysUp.{entry_is}
 
 -- a name is written after it
 pub named : (p : DirectoryPath) (begins k end : ℕ) (bytes name : List ℕ) → length bytes ≡ 1024

@@ -19,8 +19,8 @@ pub record IsParentOf (w : Workspace) (dir parent : ℕ) : Type 0 where
   pub some : 0 < parent
   pub inside : parent < vec_len w.parents
 
--- a path of more than 1,024 bytes has no room, and `?` takes its place. No other than that of an entry of a directory
--- that is not reached is so long, where the name has more than 1,022 bytes
+-- a path of more than 1,024 bytes becomes `?`. Only `?/NAME` can be so long: an entry of an unreached directory whose
+-- name has more than 1,022 bytes.
 abbrev pub in_room : List ℕ → List ℕ
 in_room path = if nat_lt 1024 (length path) then 63 ∷ [] else path
 

@@ -19,8 +19,8 @@ use Rattle.ffs_paths.specs.declared.siblings.Siblings.{Siblings}
 -- the names down to d are those down to s, and one more
 pub record LeadsTo (g : Graph) (s d : ℕ) (name : List ℕ) : Type 0 where
   pub names : List (List ℕ)
-  pub above : path_names g s ≡ Some names
-  pub below : path_names g d ≡ Some (names ++ name ∷ [])
+  pub to_parent : path_names g s ≡ Some names
+  pub to_child : path_names g d ≡ Some (names ++ name ∷ [])
   pub single : AreSingle (names ++ name ∷ [])
 
 -- the path of a directory, and the name of a child in it

@@ -33,7 +33,7 @@ pub struct PathBuffer {
 }
 
 /// Puts `/` and a name before what is from `end` on. Returns where they begin.
-fn put_front(bytes: &mut [u8; MAXPATHLEN], end: usize, name: &[u8]) -> usize
+fn put_before(bytes: &mut [u8; MAXPATHLEN], end: usize, name: &[u8]) -> usize
     requires room { length name.now < end }
     requires end { end ≤ 1024 }
     ensures put { PutsBefore bytes.old end name.now bytes.new result }
@@ -99,7 +99,7 @@ impl PathBuffer {
             self.cut = true;
             return;
         }
-        let start = put_front(&mut self.bytes, self.start, name);
+        let start = put_before(&mut self.bytes, self.start, name);
         self.start = start;
         if start > 0 {
             self.short = start;
@@ -152,7 +152,7 @@ impl PathBuffer {
         ensures { IsLonger self.now from name.now cut result }
     {
         let mut bytes = [0u8; MAXPATHLEN];
-        let end = put_front(&mut bytes, MAXPATHLEN, name);
+        let end = put_before(&mut bytes, MAXPATHLEN, name);
         let start = end - (MAXPATHLEN - from);
         bytes[start..end].copy_from_slice(&self.bytes[from..]);
         let short = if start > 0 {

@@ -19,7 +19,7 @@ use ffs_volume::constants::ROOTINO;
 use ffs_workspace::Workspace;
 
 /// The parent of a directory that is reached and isn't the root.
-fn parent_above(workspace: &Workspace, dir: u32) -> Option<u32>
+fn parent_of(workspace: &Workspace, dir: u32) -> Option<u32>
     requires reached { dir < vec_len workspace.now.reached }
     requires parents { dir < vec_len workspace.now.parents }
     ensures { IfSome result (λ p. IsParentOf workspace.now dir p) }
@@ -102,7 +102,7 @@ impl Siblings {
     /// The path of a directory, for all lines on it and on its entries.
     ///
     /// # Errors
-    /// A read of the image that failed. Then no path is kept that is right.
+    /// A read of the image that failed. The kept path may be wrong then.
     pub fn path_to<I: Image>(
         &mut self,
         geometry: &Geometry,
@@ -120,7 +120,7 @@ impl Siblings {
         ensures counted { ReadsAtMost path_reads geometry.now.layout (I.device image.old)
             workspace.old workspace.new (I.reads image.old) (I.reads image.new) }
     {
-        let Some(parent) = parent_above(workspace, dir) else {
+        let Some(parent) = parent_of(workspace, dir) else {
             return directory_path(geometry, image, workspace, dir);
         };
         self.keep_path_of(geometry, image, workspace, parent)?;
@@ -132,7 +132,7 @@ impl Siblings {
     /// Writes the path of a directory.
     ///
     /// # Errors
-    /// A read of the image that failed. Then no path is kept that is right.
+    /// A read of the image that failed. The kept path may be wrong then.
     pub fn put_path<I: Image>(
         &mut self,
         geometry: &Geometry,

@@ -32,7 +32,7 @@ fn cuts_what_has_no_room(rt: HostRuntime) {
 }
 
 #[test]
-fn puts_names_in_front(rt: HostRuntime) {
+fn puts_names_before(rt: HostRuntime) {
     same(&rt, &written(&[]).as_slice(), &b"/".as_slice());
     let names = [b"group".as_slice(), b"etc"];
     same(&rt, &written(&names).as_slice(), &b"/etc/group".as_slice());

@@ -1,5 +1,5 @@
 use Rattle.std.proofs.Common.{◌∙◌, arith}
-use Rattle.ffs_paths.proofs.Ends.{slash-none}
+use Rattle.ffs_paths.proofs.LongestEnds.{slash-none}
 use Rattle.ffs_paths.proofs.buffer.slash_from.Goals as goal
 
 pub returns-clause-first : goal.returns-clause-first

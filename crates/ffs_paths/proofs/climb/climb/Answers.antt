@@ -9,7 +9,7 @@ use Rattle.ffs_paths.specs.Climbing.{IsNameIn}
 use Rattle.ffs_paths.specs.Buffers.{HoldsNames}
 use Rattle.ffs_paths.proofs.Climbed.{climb_ends, climb_fails, climb_more, noted_here}
 use Rattle.ffs_paths.proofs.Keeping.{reads_then, tree_on}
-use Rattle.ffs_paths.proofs.Ways.{HasParent, way_root, way_cut, way_long, way_up, count_is}
+use Rattle.ffs_paths.proofs.WaysUp.{HasParent, way_root, way_cut, way_long, way_up, count_is}
 use Rattle.ffs_paths.proofs.climb.climb.Goals as goal
 
 pub returns-then-at-eq-ROOTINO-clause-path : goal.returns-then-at-eq-ROOTINO-clause-path

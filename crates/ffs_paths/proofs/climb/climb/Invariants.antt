@@ -4,7 +4,7 @@ use Rattle.ffs_volume.specs.Directories.Parents.{graph_of}
 use Rattle.ffs_volume.specs.Directories.Volumes.{volume_of}
 use Rattle.ffs_paths.specs.Reads.{ForTree, KnowsPlaces, OnlyReads}
 use Rattle.ffs_paths.proofs.Climbed.{HasClimbed}
-use Rattle.ffs_paths.proofs.Ways.{IsOnWay}
+use Rattle.ffs_paths.proofs.WaysUp.{IsOnWay}
 use Rattle.ffs_paths.proofs.climb.climb.Given as goal
 
 abbrev pub invariant-up : goal.invariant-up

@@ -6,7 +6,7 @@ use Rattle.std.specs.Prelude.{option_map}
 use Rattle.ffs_volume.specs.Directories.Paths.{names_down}
 use Rattle.ffs_volume.proofs.LevelLaws.{reached-level}
 use Rattle.ffs_paths.specs.DirectoryPaths.{HoldsPath}
-use Rattle.ffs_paths.proofs.Single.{down_single}
+use Rattle.ffs_paths.proofs.NoSlashes.{down_single}
 use Rattle.ffs_paths.proofs.path.directory_path.Goals as goal
 
 pub returns-in_ok-names-clause-path : goal.returns-in_ok-names-clause-path

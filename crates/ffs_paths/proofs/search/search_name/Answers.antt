@@ -17,7 +17,7 @@ use Rattle.ffs_workspace.specs.declared.workspace.Workspace.{Workspace}
 use Rattle.ffs_workspace.proofs.NoteLaws.{cut_is_noted}
 use Rattle.ffs_paths.specs.Climbing.{name_in}
 use Rattle.ffs_paths.proofs.Keeping.{reads_then}
-use Rattle.ffs_paths.proofs.Ways.{name_in-here, name_in-past}
+use Rattle.ffs_paths.proofs.WaysUp.{name_in-here, name_in-past}
 use Rattle.ffs_paths.proofs.Windows.{chunk_read}
 use Rattle.ffs_paths.proofs.search.search_name.Goals as goal
 

@@ -2,7 +2,7 @@ use Rattle.std.proofs.Common.{◌≡◌, ◌∙◌, [], drop, false, ap, refl, a
 use Rattle.std.proofs.lemmas.List.{drop_all}
 use Rattle.ffs_paths.specs.Buffers.{HoldsNames}
 use Rattle.ffs_paths.specs.declared.buffer.PathBuffer.{PathBuffer}
-use Rattle.ffs_paths.proofs.Ends.{end-none}
+use Rattle.ffs_paths.proofs.LongestEnds.{end-none}
 use Rattle.ffs_paths.proofs.buffer.PathBuffer.new.Goals as goal
 
 none_held : (p : PathBuffer) → p.start ≡ 1024 → p.short ≡ 1024 → p.cut ≡ false → HoldsNames p []

@@ -1,6 +1,6 @@
 use Rattle.std.proofs.Common.{◌++◌, ◌∷◌, [], ◌∙◌, ap, sym, length, arith}
 use Rattle.ffs_volume.specs.Directories.Paths.{joined}
-use Rattle.ffs_paths.proofs.Ends.{text-cut, text-none, text-whole, whole-length, rest-is, under_is, put_cut, put_whole}
+use Rattle.ffs_paths.proofs.LongestEnds.{text-cut, text-none, text-whole, whole-length, rest-is, under_is, put_cut, put_whole}
 use Rattle.ffs_paths.proofs.buffer.PathBuffer.put.Goals as goal
 
 pub returns-then-self : goal.returns-then-self

@@ -1,7 +1,7 @@
 use Rattle.std.proofs.Common.{◌∙◌, ◌++◌, ◌∷◌, ◌+◌, ◌<◌, [], suc, length, drop, ap, sym, arith}
 use Rattle.ffs_volume.specs.Directories.Paths.{joined}
 use Rattle.ffs_paths.specs.Slashes.{from_slash}
-use Rattle.ffs_paths.proofs.Ends.{over_1024, whole-length, entry-past, entry-tail, entry-whole}
+use Rattle.ffs_paths.proofs.LongestEnds.{over_1024, whole-length, entry-past, entry-tail, entry-whole}
 use Rattle.ffs_paths.proofs.buffer.PathBuffer.put_with.Goals as goal
 use Rattle.ffs_paths.proofs.buffer.PathBuffer.put_with.Goals.{else-not-self-via-then-not-self+else-name-self}
 use Rattle.ffs_paths.proofs.buffer.PathBuffer.put_with.Goals.{else-not-self-via-else-not-self}

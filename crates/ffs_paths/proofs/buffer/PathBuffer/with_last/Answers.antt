@@ -2,7 +2,7 @@ use Rattle.std.proofs.Common.{◌∙◌, ◌++◌, ◌∷◌, ◌+◌, ◌<◌, 
 use Rattle.ffs_volume.specs.Directories.Paths.{joined}
 use Rattle.ffs_paths.specs.Buffers.{HoldsNames}
 use Rattle.ffs_paths.specs.Slashes.{from_slash}
-use Rattle.ffs_paths.proofs.Ends.{over_1024, whole-length, joined-last, le_or}
+use Rattle.ffs_paths.proofs.LongestEnds.{over_1024, whole-length, joined-last, le_or}
 use Rattle.ffs_paths.proofs.Longer.{room_holds, full_holds, cut_tail, first_single}
 use Rattle.ffs_paths.proofs.buffer.PathBuffer.with_last.Goals as goal
 use Rattle.ffs_paths.proofs.buffer.PathBuffer.with_last.Goals.{else-not-self-via-then-not-self+else-name-self}

@@ -24,7 +24,7 @@ returns g c =
     let kept = c.in_ok-keep_path_of.ensures in
     let reads = kept.leaves.reads in
     let of : IsParentOf w c.args.dir first.parent =
-    subst (IsParentOf w c.args.dir) (sym kept.kept) (rw c.in-Some.is at c.parent_above.ensures) in
+    subst (IsParentOf w c.args.dir) (sym kept.kept) (rw c.in-Some.is at c.parent_of.ensures) in
     let siblings : ForTree v (g.I.Image.device c.args.image.now) w (λ g. AreSiblings g s) = λ b t claims survey.
     let above = tree_on (λ g. AreSiblings g first) reads kept.leaves.siblings.right b t claims survey in
     siblings_are v b w s survey of (above.path of.some)
@@ -47,7 +47,7 @@ pub returns-in_err-find_name-clause-counted : goal.returns-in_err-find_name-clau
 returns-in_err-find_name-clause-counted g c = λ b knows.
     let kept = c.in_ok-keep_path_of.ensures in
     let reads = kept.leaves.reads in
-    let of : IsParentOf c.args.workspace.now c.args.dir c.in-Some.parent = rw c.in-Some.is at c.parent_above.ensures in
+    let of : IsParentOf c.args.workspace.now c.args.dir c.in-Some.parent = rw c.in-Some.is at c.parent_of.ensures in
     few_then (kept.counted b knows)
     (c.in_err-find_name.ensures.counted b (ap (λ d. d.contents) reads.read ∙ knows.gives_bytes)
     (noted_child c.args.geometry.now.layout _ b c.args.workspace.now c.keep_path_of.new.workspace c.args.dir

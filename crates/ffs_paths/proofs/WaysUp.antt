@@ -22,7 +22,7 @@ use Rattle.ffs_paths.specs.Climbing.{in_room, name_in}
 use Rattle.ffs_paths.specs.DirectoryPaths.{HoldsPath, IsPathOf}
 use Rattle.ffs_paths.specs.Slashes.{AreSingle}
 use Rattle.ffs_paths.specs.declared.kept.DirectoryPath.{DirectoryPath}
-use Rattle.ffs_paths.proofs.Ends.{cut-more}
+use Rattle.ffs_paths.proofs.LongestEnds.{cut-more}
 use Rattle.ffs_paths.proofs.Rooms.{fits}
 
 -- the first name, by the first entry
