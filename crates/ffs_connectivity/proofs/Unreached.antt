@@ -11,7 +11,7 @@ use Rattle.ffs_volume.specs.Directories.PathnameCheck.{attributes}
 use Rattle.ffs_volume.specs.Directories.Roles.{is_suspect, is_dir}
 use Rattle.ffs_volume.specs.Directories.Volumes.{volume_of}
 use Rattle.ffs_volume.specs.Messages.Kinds.{TreeMessage, of_tree, lines_below, lines_from, reported, unref_dir}
-use Rattle.ffs_survey.specs.Discover.{is_free}
+use Rattle.ffs_survey.specs.Discover.{is_unreached_dir}
 use Rattle.ffs_survey.specs.Survey.{bool_at, number_at, dir_at}
 use Rattle.ffs_survey.specs.SurveyLaws.{dirs_of_kinds}
 use Rattle.ffs_workspace.specs.declared.workspace.Workspace.{Workspace}
@@ -29,7 +29,7 @@ not_lost true true false a z e = absurd (cc)
 
 -- what is no directory, or is reached, has no line
 pub no_line : (v : Layout) (b : List ℕ) (w : Workspace) (kinds : List ℕ) (reaches : List Bool) (d : ℕ) →
-    kinds ≡ w.kinds.items → reaches ≡ w.reached.items → is_free kinds reaches d ≡ false →
+    kinds ≡ w.kinds.items → reaches ≡ w.reached.items → is_unreached_dir kinds reaches d ≡ false →
     HoldsClaims v b w → HoldsSurvey v b w → unref_dir_lines (volume_of v b) d ≡ []
 no_line v b w kinds reaches d ek er e h s =
     let vol = volume_of v b in
@@ -37,10 +37,10 @@ no_line v b w kinds reaches d ek er e h s =
     let dir : dir_at kinds d ≡ is_dir vol d =
     dirs_of_kinds v b kinds d (ap (λ (ks : List ℕ). number_at ks d) ek ∙ h.kinds d ∙ kind_at_is v b d) in
     let mark : bool_at reaches d ≡ reached g d = ap (λ (rs : List Bool). bool_at rs d) er ∙ s.reached d in
-    let free : (is_dir vol d && not (reached g d)) ≡ false = rw (dir, mark) at e in
+    let unreached : (is_dir vol d && not (reached g d)) ≡ false = rw (dir, mark) at e in
     ap (λ t. reported t (unref_dir (attributes vol d)))
     (not_lost (is_dir vol d) _ (reached g d) _ (none_or_dead g (is_suspect vol) (parent g d)
-    || is_leader_within (parent g) g.count d) free)
+    || is_leader_within (parent g) g.count d) unreached)
 
 -- the lines from a number on are those from a later one on, where those between have none
 pub lines_later : (lines : ℕ → List TreeMessage) (k d e n : ℕ) → d + k ≡ e → e ≤ n →
@@ -58,23 +58,23 @@ lines_later lines (suc k) d e n at low none =
 -- all lines are those from the first directory on that isn't reached
 pub lines_begin : (v : Layout) (b : List ℕ) (w : Workspace) (kinds : List ℕ) (reaches : List Bool) (first : ℕ) →
     kinds ≡ w.kinds.items → reaches ≡ w.reached.items → first ≤ inodes_of v →
-    ((x : ℕ) → x < first → is_free kinds reaches x ≡ false) → HoldsClaims v b w → HoldsSurvey v b w →
+    ((x : ℕ) → x < first → is_unreached_dir kinds reaches x ≡ false) → HoldsClaims v b w → HoldsSurvey v b w →
     map of_tree (connectivity_lines (volume_of v b))
     ≡ map of_tree (lines_from (unref_dir_lines (volume_of v b)) first (inodes_of v - first))
 unfolding connectivity_lines
-lines_begin v b w kinds reaches first ek er low free h s =
+lines_begin v b w kinds reaches first ek er low unreached h s =
     let lines = unref_dir_lines (volume_of v b) in
     ap (map of_tree) (ap (lines_below lines) (count_is v b) ∙ all_from lines (inodes_of v)
     ∙ lines_later lines first 0 first (inodes_of v) (omega arith) low
-    (λ x l. no_line v b w kinds reaches x ek er (free x l) h s))
+    (λ x l. no_line v b w kinds reaches x ek er (unreached x l) h s))
 
 -- so many there are
 pub count_begin : (v : Layout) (b : List ℕ) (w : Workspace) (kinds : List ℕ) (reaches : List Bool) (first : ℕ) →
     kinds ≡ w.kinds.items → reaches ≡ w.reached.items → first ≤ inodes_of v →
-    ((x : ℕ) → x < first → is_free kinds reaches x ≡ false) → HoldsClaims v b w → HoldsSurvey v b w →
+    ((x : ℕ) → x < first → is_unreached_dir kinds reaches x ≡ false) → HoldsClaims v b w → HoldsSurvey v b w →
     length (connectivity_lines (volume_of v b))
     ≡ length (lines_from (unref_dir_lines (volume_of v b)) first (inodes_of v - first))
-count_begin v b w kinds reaches first ek er low free h s =
+count_begin v b w kinds reaches first ek er low unreached h s =
     sym (length-map (connectivity_lines (volume_of v b)) of_tree)
-    ∙ ap length (lines_begin v b w kinds reaches first ek er low free h s)
+    ∙ ap length (lines_begin v b w kinds reaches first ek er low unreached h s)
     ∙ length-map (lines_from (unref_dir_lines (volume_of v b)) first (inodes_of v - first)) of_tree
