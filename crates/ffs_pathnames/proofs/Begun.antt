@@ -28,7 +28,7 @@ use Rattle.ffs_pathnames.specs.Gathers.{marks_of}
 use Rattle.ffs_pathnames.specs.NameMarks.{NameMarks, are_quiet, entries_reported, after_entries}
 use Rattle.ffs_pathnames.specs.MarksRight.{AreRightBefore}
 use Rattle.ffs_pathnames.specs.Header.{header_reported}
-use Rattle.ffs_pathnames.proofs.Places.{size_of}
+use Rattle.ffs_pathnames.proofs.FirstPlaces.{size_of}
 use Rattle.ffs_pathnames.proofs.MarkLaws.{IsDirectory, right_reported}
 use Rattle.ffs_pathnames.proofs.LookLaws.{quiet_silent}
 use Rattle.ffs_pathnames.proofs.BetweenLaws.{unstamped, looked, looked_right, quiet_next, reported_next}
@@ -78,17 +78,17 @@ attr_size v b d = refl
 pub starts_are : (v : Layout) (b : List ℕ) (d : ℕ) (old new : Workspace) (e : DirectorySummary)
     (above : Option ℕ) (first second : Option Entry) →
     IsExamined v b d old e new → above ≡ parent (graph_of (volume_of v b)) d →
-    first ≡ started_entry 0 e.found.started v.order e.found.start →
-    second ≡ started_entry 1 e.found.started v.order e.found.start →
-    header_reported (attributes (volume_of v b) d) (dir_path (graph_of (volume_of v b)) d) d above e.found.gap
-    e.found.sound first second ≡ dir_starts (volume_of v b) d
+    first ≡ started_entry 0 e.look.started v.order e.look.start →
+    second ≡ started_entry 1 e.look.started v.order e.look.start →
+    header_reported (attributes (volume_of v b) d) (dir_path (graph_of (volume_of v b)) d) d above e.look.gap
+    e.look.sound first second ≡ dir_starts (volume_of v b) d
 unfolding dir_starts start_entry
 starts_are v b d old new e above first second f p q r =
     let V = volume_of v b in
     let A = attributes (volume_of v b) d in
     let P = dir_path (graph_of (volume_of v b)) d in
-    ap (λ x. header_reported A P d x e.found.gap e.found.sound first second) p
-    ∙ (ap (λ x. header_reported A P d (parent (graph_of V) d) x e.found.sound first second) f.gap
+    ap (λ x. header_reported A P d x e.look.gap e.look.sound first second) p
+    ∙ (ap (λ x. header_reported A P d (parent (graph_of V) d) x e.look.sound first second) f.gap
     ∙ (ap (λ x. header_reported A P d (parent (graph_of V) d) (V.gap d) x first second) f.sound
     ∙ (ap (λ x. header_reported A P d (parent (graph_of V) d) (V.gap d) (are_sound (V.chunks d)) x second)
     (q ∙ sym (ap (option_and_then (λ c. nth_entry 0 c.entries)) f.started))

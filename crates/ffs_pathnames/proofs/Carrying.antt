@@ -29,7 +29,7 @@ use Rattle.ffs_maps.specs.Bits.{bits_of}
 use Rattle.ffs_report.specs.declared.fault.RunFault.{RunFault}
 use Rattle.ffs_report.specs.declared.fault.RunFault.TheVariants.{Read, Out}
 use Rattle.ffs_pathnames.specs.RootAnswers.{AtReadFault}
-use Rattle.ffs_pathnames.specs.Before.{AreMarksCleared, IsBefore, is_checked, root_said}
+use Rattle.ffs_pathnames.specs.Before.{AreMarksCleared, IsBefore, is_checked, root_reported}
 use Rattle.ffs_workspace.specs.Leaves.{LeavesSurvey}
 use Rattle.ffs_pathnames.specs.Gathers.{marks_of}
 use Rattle.ffs_pathnames.specs.DirectoryContext.{DirectoryContext}
@@ -228,8 +228,8 @@ before_reported v contents contents' w d b e k =
 -- what is reported of the root
 root_by : (v : Volume) (c : Class) (k : ℕ) (m : Bool) → is_directory c ≡ is_dir_kind k →
     is_allocated c ≡ is_allocated_kind k → is_suspect v 2 ≡ (m || is_empty_dir_kind k) →
-    root_said k m ≡ root_lines_of v c
-unfolding root_said
+    root_reported k m ≡ root_lines_of v c
+unfolding root_reported
 root_by v c k m d a s = go c (k == 0) (is_dir_kind k) refl d a
   where
     tell : Bool → Bool → List TreeMessage
@@ -254,12 +254,12 @@ root_by v c k m d a s = go c (k == 0) (is_dir_kind k) refl d a
 
 pub root_is : (v : Layout) (b : List ℕ) (w : Workspace) (k : ℕ) (m : Bool) → k ≡ slice_index w.kinds.items 2 →
     m ≡ bool_at w.marked.items 2 → HoldsClaims v b w →
-    root_said k m ≡ root_lines (volume_of v b)
+    root_reported k m ≡ root_lines (volume_of v b)
 unfolding root_lines volume_of volume_with
 root_is v b w k m e f h =
     let t = reports_at v b 2 in
-    ap (λ k. root_said k m) (e ∙ h.kinds 2)
-    ∙ (ap (root_said (kind_at v b 2)) (f ∙ h.marked 2)
+    ap (λ k. root_reported k m) (e ∙ h.kinds 2)
+    ∙ (ap (root_reported (kind_at v b 2)) (f ∙ h.marked 2)
     ∙ root_by (volume_of v b) (class_at v b 2) (kind_at v b 2) (marked_at v b 2) t.dir t.allocated (suspect_is v b 2))
 
 -- the kind and the mark of the root, as they are read
@@ -291,13 +291,13 @@ lines_begin v b = all_from_root (directory_lines (volume_of v b)) (inodes_of v) 
 
 pub tree_is : (v : Layout) (b : List ℕ) (w : Workspace) (k : ℕ) (m goes : Bool) → k ≡ slice_index w.kinds.items 2 →
     m ≡ bool_at w.marked.items 2 → HoldsClaims v b w → goes ≡ is_dir_kind k →
-    map of_tree (pathname_lines (volume_of v b)) ≡ map of_tree (root_said k m) ++ map of_tree (tree_lines v b goes)
+    map of_tree (pathname_lines (volume_of v b)) ≡ map of_tree (root_reported k m) ++ map of_tree (tree_lines v b goes)
 unfolding pathname_lines
 tree_is v b w k m goes e f h q =
     let lines = directory_lines (volume_of v b) in
     ap (λ r. map of_tree (r ++ (if continues_after_root (volume_of v b) then lines_below lines (volume_of v b).count
     else []))) (sym (root_is v b w k m e f h))
-    ∙ (ap (λ g. map of_tree (root_said k m ++ (if g then lines_below lines (volume_of v b).count else [])))
+    ∙ (ap (λ g. map of_tree (root_reported k m ++ (if g then lines_below lines (volume_of v b).count else [])))
     (sym (q ∙ goes_is v b w k e h))
-    ∙ (ap (λ l. map of_tree (root_said k m ++ (if goes then l else []))) (lines_begin v b)
-    ∙ map-append of_tree (root_said k m) (tree_lines v b goes)))
+    ∙ (ap (λ l. map of_tree (root_reported k m ++ (if goes then l else []))) (lines_begin v b)
+    ∙ map-append of_tree (root_reported k m) (tree_lines v b goes)))

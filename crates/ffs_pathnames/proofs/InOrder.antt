@@ -9,14 +9,14 @@ use Rattle.ffs_volume.specs.Directories.Entries.{Entry, is_live}
 use Rattle.ffs_volume.specs.Directories.Roles.{is_two_dots}
 use Rattle.ffs_volume.specs.Directories.PathnameCheck.{is_wrong_parent}
 use Rattle.ffs_volume.proofs.Silence.{nil-both, reported-silent}
-use Rattle.ffs_pathnames.specs.Header.{dot_in, dotdot_in, dot_said, dotdot_said, header_reported}
+use Rattle.ffs_pathnames.specs.Header.{dot_in, dotdot_in, dot_reported, dotdot_reported, header_reported}
 
 -- `..`
 pub dotdot_right : (about : Attr) (path : List ℕ) (parent : Option ℕ) (e : Entry) → is_live e ≡ true →
     is_two_dots e.name ≡ true → is_wrong_parent parent e.number ≡ false → (e.kind == 4) ≡ true →
-    dotdot_said about path parent (Some e) (dotdot_in (Some e)) ≡ []
+    dotdot_reported about path parent (Some e) (dotdot_in (Some e)) ≡ []
 dotdot_right about path parent e live name number kind =
-    ap (λ t. dotdot_said about path parent (Some e) (cond t (Some e) None))
+    ap (λ t. dotdot_reported about path parent (Some e) (cond t (Some e) None))
     (ap (λ t. t && is_two_dots e.name) live ∙ name)
     ∙ nil-both _ _ (reported-silent _ _ number) (reported-silent _ _ (ap not kind))
 
@@ -24,7 +24,7 @@ dotdot_right about path parent e live name number kind =
 pub all_right : (about : Attr) (path : List ℕ) (d : ℕ) (parent : Option ℕ) (gap sound : Bool)
     (first second : Option Entry) →
     nat_lt about.size 24 ≡ false → (about.size % 512 == 0) ≡ true → gap ≡ false → sound ≡ true →
-    dot_said about path d first (dot_in first) ≡ [] → dotdot_said about path parent second (dotdot_in second) ≡ [] →
+    dot_reported about path d first (dot_in first) ≡ [] → dotdot_reported about path parent second (dotdot_in second) ≡ [] →
     header_reported about path d parent gap sound first second ≡ []
 unfolding header_reported
 all_right about path d parent gap sound first second long even none all dot dotdot =
@@ -39,7 +39,7 @@ all_right about path d parent gap sound first second long even none all dot dotd
 pub in_order : (about : Attr) (path : List ℕ) (d size : ℕ) (parent : Option ℕ) (gap sound : Bool)
     (first second : Option Entry) → about.size ≡ size →
     (not (nat_lt size 24) && ((size % 512 == 0) && (not gap && sound))) ≡ true →
-    dot_said about path d first (dot_in first) ≡ [] → dotdot_said about path parent second (dotdot_in second) ≡ [] →
+    dot_reported about path d first (dot_in first) ≡ [] → dotdot_reported about path parent second (dotdot_in second) ≡ [] →
     header_reported about path d parent gap sound first second ≡ []
 in_order about path d size parent gap sound first second e h dot dotdot =
     let a = and_parts (not (nat_lt size 24)) ((size % 512 == 0) && (not gap && sound)) h in

@@ -1,4 +1,4 @@
-pub mod Places
+pub mod FirstPlaces
 pub mod StampLaws
 pub mod MarkLaws
 pub mod LookLaws

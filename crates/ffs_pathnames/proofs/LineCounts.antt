@@ -18,7 +18,7 @@ use Rattle.ffs_paths.specs.Reads.{KnowsPlaces, OnlyReads, ReadsFew}
 use Rattle.ffs_paths.proofs.Climbed.{few_more}
 use Rattle.ffs_pathnames.specs.DirectoryContext.{DirectoryContext}
 use Rattle.ffs_pathnames.specs.Gathers.{IsVerdict, is_silent}
-use Rattle.ffs_pathnames.specs.Header.{dot_in, dotdot_in, dot_said, dotdot_said, header_reported, is_right_dot}
+use Rattle.ffs_pathnames.specs.Header.{dot_in, dotdot_in, dot_reported, dotdot_reported, header_reported, is_right_dot}
 use Rattle.ffs_pathnames.specs.Header.{is_right_dotdot, is_right_header, shape_reported}
 use Rattle.ffs_pathnames.specs.NameMarks.{NameMarks, after_roled, entries_reported, roled_reported, plain_reported}
 use Rattle.ffs_pathnames.specs.Verdicts.{suspect_message, verdict_reported}
@@ -148,23 +148,23 @@ above_some false false x y h = omega arith
 above_some false true x y h = absurd (cc)
 
 dot_some : (about : Attr) (path : List ℕ) (d : ℕ) (first : Option Entry) → is_right_dot d first ≡ false →
-    1 ≤ length (dot_said about path d first (dot_in first))
+    1 ≤ length (dot_reported about path d first (dot_in first))
 dot_some about path d None h = omega arith
 dot_some about path d (Some e) h = go (is_live e) (is_one_dot e.name) h
   where
     go : (live one : Bool) → (live && (one && ((e.number == d) && (e.kind == 4)))) ≡ false →
-        1 ≤ length (dot_said about path d (Some e) (cond (live && one) (Some e) None))
+        1 ≤ length (dot_reported about path d (Some e) (cond (live && one) (Some e) None))
     go true true h = there_some (e.number == d) (e.kind == 4) _ _ h
     go true false h = either_some (is_live e && not (is_two_dots e.name)) _ _
     go false one h = either_some (is_live e && not (is_two_dots e.name)) _ _
 
 dotdot_some : (about : Attr) (path : List ℕ) (parent : Option ℕ) (second : Option Entry) →
-    is_right_dotdot parent second ≡ false → 1 ≤ length (dotdot_said about path parent second (dotdot_in second))
+    is_right_dotdot parent second ≡ false → 1 ≤ length (dotdot_reported about path parent second (dotdot_in second))
 dotdot_some about path parent None h = omega arith
 dotdot_some about path parent (Some e) h = go (is_live e) (is_two_dots e.name) h
   where
     go : (live two : Bool) → (live && (two && (not (is_wrong_parent parent e.number) && (e.kind == 4)))) ≡ false →
-        1 ≤ length (dotdot_said about path parent (Some e) (cond (live && two) (Some e) None))
+        1 ≤ length (dotdot_reported about path parent (Some e) (cond (live && two) (Some e) None))
     go true true h = above_some (is_wrong_parent parent e.number) (e.kind == 4) _ _ h
     go true false h = either_some (is_live e && not (is_one_dot e.name)) _ _
     go false two h = either_some (is_live e && not (is_one_dot e.name)) _ _
@@ -190,7 +190,7 @@ pub header_some : (about : Attr) (path : List ℕ) (d : ℕ) (parent : Option �
 unfolding header_reported
 header_some about path d parent gap sound first second h =
     some_of (not (nat_lt about.size 24) && ((about.size % 512 == 0) && (not gap && sound))) (is_right_dot d first)
-    (is_right_dotdot parent second) (shape_reported about path gap sound) (dot_said about path d first (dot_in first))
-    (dotdot_said about path parent second (dotdot_in second)) h
+    (is_right_dotdot parent second) (shape_reported about path gap sound) (dot_reported about path d first (dot_in first))
+    (dotdot_reported about path parent second (dotdot_in second)) h
     (shape_some (nat_lt about.size 24) (about.size % 512 == 0) gap sound _ _ _ _)
     (dot_some about path d first) (dotdot_some about path parent second)

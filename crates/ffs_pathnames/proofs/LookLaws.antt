@@ -28,7 +28,7 @@ use Rattle.ffs_pathnames.specs.NameMarks.{belongs, after_look, after_looks, is_p
 use Rattle.ffs_pathnames.specs.NameMarks.{are_quiet}
 use Rattle.ffs_volume.proofs.Silence.{reported-silent}
 use Rattle.ffs_volume.proofs.Booleans.{and_false-right}
-use Rattle.ffs_pathnames.proofs.Places.{size_of, size_more}
+use Rattle.ffs_pathnames.proofs.FirstPlaces.{size_of, size_more}
 use Rattle.ffs_pathnames.proofs.MarkLaws.{IsEntry, IsDirectory, from_parent_is, any_more}
 use Rattle.ffs_pathnames.proofs.MarkLaws.{other_number}
 

@@ -30,7 +30,7 @@ use Rattle.ffs_pathnames.specs.NameMarks.{NameMarks, is_flagged, is_calm, is_sta
 use Rattle.ffs_pathnames.specs.NameMarks.{plain_reported, role_reported, roled_reported, entries_reported, belongs}
 use Rattle.ffs_volume.proofs.RoleLaws.{plain-true}
 use Rattle.ffs_pathnames.specs.MarksRight.{AreRight}
-use Rattle.ffs_pathnames.proofs.Places.{size_of, size_more, first_here}
+use Rattle.ffs_pathnames.proofs.FirstPlaces.{size_of, size_more, first_here}
 
 -- ONE ENTRY
 -- the directory s is the first with a plain entry that names x exactly where none before it has one

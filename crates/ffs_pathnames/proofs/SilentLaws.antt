@@ -42,7 +42,7 @@ use Rattle.ffs_workspace.specs.Lengths.{IsFor}
 use Rattle.ffs_workspace.specs.Holds.{bool_at, HoldsClaims, HoldsSurvey}
 use Rattle.ffs_workspace.proofs.KindLaws.{reports_at, suspect_is, type_is}
 use Rattle.ffs_survey.specs.Survey.{number_at, dir_at}
-use Rattle.ffs_survey.specs.Calm.{Sight, is_calm_kind, is_calm_plain, is_calm_role, is_calm_entry, reached_after}
+use Rattle.ffs_survey.specs.Calm.{CurrentDir, is_calm_kind, is_calm_plain, is_calm_role, is_calm_entry, reached_after}
 use Rattle.ffs_survey.specs.Calm.{are_calm, IsCalm}
 use Rattle.ffs_survey.proofs.CalmLaws.{calm_names_new, calm_new}
 use Rattle.ffs_names.specs.RightShapes.{is_right_size, is_right_shape}
@@ -51,7 +51,7 @@ use Rattle.ffs_names.proofs.DirLaws.{kind_dirs}
 use Rattle.ffs_names.proofs.DirLaws as dirs
 use Rattle.ffs_pathnames.specs.Begins.{dir_starts}
 use Rattle.ffs_pathnames.specs.Calm.{IsSilentDirectory}
-use Rattle.ffs_pathnames.specs.Header.{dot_in, dotdot_in, dot_said, dotdot_said}
+use Rattle.ffs_pathnames.specs.Header.{dot_in, dotdot_in, dot_reported, dotdot_reported}
 use Rattle.ffs_pathnames.specs.NameMarks.{belongs, after_look, is_inode_quiet, is_plain_quiet, is_role_quiet, is_quiet, are_quiet}
 use Rattle.ffs_pathnames.specs.Reads.{chunks_read}
 use Rattle.ffs_pathnames.proofs.ChunkLaws.{chunks_are}
@@ -107,7 +107,7 @@ kind_stays k h = elim (cases_Bool (k == 4)) [
 ]
 
 -- what is calm of a plain entry that is no whiteout
-abbrev names_calm : Sight → (ℕ → Bool) → Entry → Bool
+abbrev names_calm : CurrentDir → (ℕ → Bool) → Entry → Bool
 names_calm s reached e =
     nat_le 2 e.number && (not (bool_at s.marked e.number)
     && ((number_at s.kinds e.number == e.kind) && is_calm_kind e.kind (reached e.number)))
@@ -121,7 +121,7 @@ whiteout_right e a b = ap (λ z. (z && not (e.kind == 14)) || ((e.kind == 14) &&
     ∙ ap (λ z. not z || (z && false)) b
 
 -- an inode that a calm plain entry names is quiet
-inode_quiet : (v : Volume) (s : Sight) (parents stamps : List ℕ) (reached : ℕ → Bool) (e : Entry) →
+inode_quiet : (v : Volume) (s : CurrentDir) (parents stamps : List ℕ) (reached : ℕ → Bool) (e : Entry) →
     Shown v s.kinds s.marked parents
     → names_calm s reached e ≡ true
     → (is_dir v e.number ≡ true → belongs v s.dir e.number ≡ true) →
@@ -143,19 +143,20 @@ inode_quiet v s parents stamps reached e sh c mine new =
     let type : e.kind ≡ (v.inode x).mode / 4096 = sym (kind_stays e.kind k.not_empty)
     ∙ (ap type_of_kind (sym is) ∙ sh.kind x allocated known) in
     let other : has_wrong_type v e ≡ false = ap (λ z. not (is_unknown (v.class x)) && not z) (eq-eqb e.kind _ type)
-    ∙ and-false (not (is_unknown (v.class x))) in
-    (whiteout_none e one k.no_whiteout,
-    and_from (is_allocated (v.class x)) _ allocated
-    (and_from (not (is_suspect v x)) _ (ap not suspect)
-    (and_from (not (is_dir v x) || (belongs v s.dir x && not (slice_index stamps x == s.dir))) _
-    (link (is_dir v x) _ _ mine new) (ap not other))))
+    ∙ and-false (not (is_unknown (v.class x))) in (
+      whiteout_none e one k.no_whiteout,
+      and_from (is_allocated (v.class x)) _ allocated
+          (and_from (not (is_suspect v x)) _ (ap not suspect)
+          (and_from (not (is_dir v x) || (belongs v s.dir x && not (slice_index stamps x == s.dir))) _
+          (link (is_dir v x) _ _ mine new) (ap not other))),
+    )
   where
     link : (d b c : Bool) → (d ≡ true → b ≡ true) → (d ≡ true → c ≡ false) → (not d || (b && not c)) ≡ true
     link false b c f g = refl
     link true b c f g = and_from b (not c) (f refl) (ap not (g refl))
 
 -- a calm plain entry is quiet
-plain_quiet : (v : Volume) (s : Sight) (parents stamps : List ℕ) (reached : ℕ → Bool) (e : Entry) →
+plain_quiet : (v : Volume) (s : CurrentDir) (parents stamps : List ℕ) (reached : ℕ → Bool) (e : Entry) →
     Shown v s.kinds s.marked parents
     → is_calm_plain s.kinds s.marked reached e.number e.kind ≡ true
     → (is_dir v e.number ≡ true → belongs v s.dir e.number ≡ true) →
@@ -174,7 +175,7 @@ plain_quiet v s parents stamps reached e sh c mine new =
     ])
 
 -- calm entries are quiet, where each that was stamped was reached
-calm_quiet : (v : Volume) (s : Sight) (parents : List ℕ) (es : List RoledEntry) (reached : ℕ → Bool) (i : ℕ)
+calm_quiet : (v : Volume) (s : CurrentDir) (parents : List ℕ) (es : List RoledEntry) (reached : ℕ → Bool) (i : ℕ)
     (stamps : List ℕ) → Shown v s.kinds s.marked parents
     → are_calm s reached i es ≡ true
     → ((x : ℕ) → is_dir v x ≡ true → list_any (is_naming_entry x) es ≡ true → belongs v s.dir x ≡ true)
@@ -302,7 +303,7 @@ role_dotdot first i e h = dotdot_by (is_live e) (is_one_dot e.name) (first && (i
     (first && (i == 1)) h
 
 -- the first calm entry is `.`, and the second is `..`
-calm_first : (s : Sight) (reached : ℕ → Bool) (role : Role) (number kind : ℕ) →
+calm_first : (s : CurrentDir) (reached : ℕ → Bool) (role : Role) (number kind : ℕ) →
     is_calm_role s reached 0 role number kind ≡ true → (role ≡ Dot)
     × (((number == s.dir) ≡ true) × ((kind == 4) ≡ true))
 calm_first s reached Dot number kind h = (refl, and_parts (number == s.dir) (kind == 4) h)
@@ -311,17 +312,17 @@ calm_first s reached Empty number kind h = absurd (cc)
 calm_first s reached Extra number kind h = absurd (cc)
 calm_first s reached Plain number kind h = absurd (cc)
 
-calm_second : (s : Sight) (reached : ℕ → Bool) (role : Role) (number kind : ℕ) →
+calm_second : (s : CurrentDir) (reached : ℕ → Bool) (role : Role) (number kind : ℕ) →
     is_calm_role s reached 1 role number kind ≡ true → (role ≡ Dotdot)
-    × (((number == s.above) ≡ true) × ((kind == 4) ≡ true))
-calm_second s reached Dotdot number kind h = (refl, and_parts (number == s.above) (kind == 4) h)
+    × (((number == s.parent) ≡ true) × ((kind == 4) ≡ true))
+calm_second s reached Dotdot number kind h = (refl, and_parts (number == s.parent) (kind == 4) h)
 calm_second s reached Dot number kind h = absurd (cc)
 calm_second s reached Empty number kind h = absurd (cc)
 calm_second s reached Extra number kind h = absurd (cc)
 calm_second s reached Plain number kind h = absurd (cc)
 
 -- both are in one chunk, at the start of the file
-record AreFirst (s : Sight) (cs : List Chunk) : Type 0 where
+record AreFirst (s : CurrentDir) (cs : List Chunk) : Type 0 where
   first : Entry
   second : Entry
   first_is : option_and_then (λ c. nth_entry 0 c.entries) (find (λ c. c.offset == 0) cs) ≡ Some first
@@ -329,10 +330,10 @@ record AreFirst (s : Sight) (cs : List Chunk) : Type 0 where
   dot : (is_live first ≡ true)
       × ((is_one_dot first.name ≡ true) × (((first.number == s.dir) ≡ true) × ((first.kind == 4) ≡ true)))
   dotdot : (is_live second ≡ true)
-      × ((is_two_dots second.name ≡ true) × (((second.number == s.above) ≡ true) × ((second.kind == 4) ≡ true)))
+      × ((is_two_dots second.name ≡ true) × (((second.number == s.parent) ≡ true) × ((second.kind == 4) ≡ true)))
 
 -- no chunk begins with `..`
-no_second : (s : Sight) (reached : ℕ → Bool) (cs : List Chunk) → Solid cs → are_sound cs ≡ true →
+no_second : (s : CurrentDir) (reached : ℕ → Bool) (cs : List Chunk) → Solid cs → are_sound cs ≡ true →
     are_calm s reached 1 (flat_map roled_chunk cs) ≡ true → ⊥
 unfolding roled_from
 no_second s reached [] solid sound h = absurd (cc)
@@ -349,7 +350,7 @@ no_second s reached (c ∷ cs) solid sound h =
         let z = (and_parts (c.offset == 0) (0 == 1) r.1.1).1 in
         cc
 
-first_two : (s : Sight) (reached : ℕ → Bool) (cs : List Chunk) → Solid cs → are_sound cs ≡ true →
+first_two : (s : CurrentDir) (reached : ℕ → Bool) (cs : List Chunk) → Solid cs → are_sound cs ≡ true →
     are_calm s reached 0 (flat_map roled_chunk cs) ≡ true → AreFirst s cs
 unfolding roled_from
 first_two s reached [] solid sound h = absurd (cc)
@@ -386,9 +387,9 @@ first_two s reached (c ∷ cs) solid sound h = go c.entries refl h
 
 -- WHAT STANDS BEFORE THE ENTRIES
 dot_right : (about : Attr) (path : List ℕ) (d : ℕ) (e : Entry) → is_live e ≡ true → is_one_dot e.name ≡ true →
-    (e.number == d) ≡ true → (e.kind == 4) ≡ true → dot_said about path d (Some e) (dot_in (Some e)) ≡ []
+    (e.number == d) ≡ true → (e.kind == 4) ≡ true → dot_reported about path d (Some e) (dot_in (Some e)) ≡ []
 dot_right about path d e live name number kind =
-    ap (λ t. dot_said about path d (Some e) (cond t (Some e) None)) (ap (λ t. t && is_one_dot e.name) live ∙ name)
+    ap (λ t. dot_reported about path d (Some e) (cond t (Some e) None)) (ap (λ t. t && is_one_dot e.name) live ∙ name)
     ∙ nil-both _ _ (reported-silent _ _ (ap not number)) (reported-silent _ _ (ap not kind))
 
 other_not : (o : Option ℕ) (n above : ℕ) → (n == above) ≡ true → above ≡ unwrap_or o 0 → is_wrong_parent o n ≡ false
@@ -396,7 +397,7 @@ other_not None n above h e = refl
 other_not (Some s) n above h e = ap not (eq-eqb s n (sym e ∙ sym (eqb-true n above h)))
 
 starts_silent : (v : Volume) (d above : ℕ) (cs : List Chunk)
-    (f : AreFirst (record { kinds = []; marked = []; dir = d; above = above }) cs) → cs ≡ v.chunks d
+    (f : AreFirst (record { kinds = []; marked = []; dir = d; parent = above }) cs) → cs ≡ v.chunks d
     → above ≡ unwrap_or (parent (graph_of v) d) 0 → is_right_shape v d ≡ true → dir_starts v d ≡ []
 unfolding dir_starts start_entry attributes
 starts_silent v d above cs f e up right =
@@ -412,9 +413,9 @@ starts_silent v d above cs f e up right =
     in_order about path d (v.inode d).size (parent (graph_of v) d) (v.gap d) (are_sound (v.chunks d))
     (start_entry v d 0) (start_entry v d 1) refl
     (and_from _ _ b.0 (and_from _ _ b.1 (and_from _ _ c.1 c.0)))
-    (ap (λ o. dot_said about path d o (dot_in o)) one ∙ dot_right about path d f.first f.dot.0 f.dot.1.0 f.dot.1.1.0
+    (ap (λ o. dot_reported about path d o (dot_in o)) one ∙ dot_right about path d f.first f.dot.0 f.dot.1.0 f.dot.1.1.0
     f.dot.1.1.1)
-    (ap (λ o. dotdot_said about path (parent (graph_of v) d) o (dotdot_in o)) two
+    (ap (λ o. dotdot_reported about path (parent (graph_of v) d) o (dotdot_in o)) two
     ∙ dotdot_right about path (parent (graph_of v) d) f.second f.dotdot.0 f.dotdot.1.0
     (other_not (parent (graph_of v) d) f.second.number above f.dotdot.1.1.0 up) f.dotdot.1.1.1)
 
@@ -434,7 +435,7 @@ calm_belongs v kinds marked reached parents sound d x two sh c dir named =
     let at = sh.dirs x ∙ dir in
     let up : number_at parents x ≡ d = (c.below x at named).1 in
     let new : c.before x ≡ false =
-    calm_new (record { kinds = kinds; marked = marked; dir = d; above = number_at parents d }) c.before 0 x
+    calm_new (record { kinds = kinds; marked = marked; dir = d; parent = number_at parents d }) c.before 0 x
     (roled_entries v d) c.entries_right at named in
     let none : x ≢ 2 = λ z.
     let root : 2 ≡ d = sym (root_up v) ∙ (sym (sh.parent_is 2) ∙ (ap (number_at parents) (sym z) ∙ up)) in
@@ -444,7 +445,7 @@ calm_belongs v kinds marked reached parents sound d x two sh c dir named =
     (value_of (parent (graph_of v) x) d two (sym (sh.parent_is x) ∙ up)))
 
 -- the entries by the chunks
-by_chunks : (v : Volume) (d : ℕ) (s : Sight) (r : ℕ → Bool) → are_calm s r 0 (roled_entries v d) ≡ true →
+by_chunks : (v : Volume) (d : ℕ) (s : CurrentDir) (r : ℕ → Bool) → are_calm s r 0 (roled_entries v d) ≡ true →
     are_calm s r 0 (flat_map roled_chunk (v.chunks d)) ≡ true
 unfolding roled_entries
 by_chunks v d s r h = h
@@ -458,11 +459,11 @@ calm_silent v b w g m h r f d set =
     let dir = all.0 in
     let two = leb-true 2 d (and_parts (nat_le 2 d) _
     (and_parts (nat_le 2 d && nat_lt d (volume_of v b).count) _ dir).0).0 in
-    let s : Sight = record {
+    let s : CurrentDir = record {
       kinds = w.kinds.items;
       marked = w.marked.items;
       dir = d;
-      above = number_at w.parents.items d;
+      parent = number_at w.parents.items d;
     } in
     let shape = and_parts (is_right_size ((volume_of v b).inode d).size) _ all.1 in
     let firsts = first_two s c.before ((volume_of v b).chunks d) (solid_dir v b d g dir)

@@ -1,6 +1,7 @@
 -- What is known between two directories of the pathname check.
 use Rattle.std.specs.Prelude.{◌≡◌, ℕ, Bool, not, ◌&&◌, ◌||◌, ◌==◌, if◌then◌else◌}
 use Rattle.std.specs.Prelude.{List, [], ◌∷◌, Option, Some, slice_index}
+use Rattle.ffs_volume.specs.declared.constants.TheConstants.{DT_DIR}
 use Rattle.ffs_volume.specs.declared.Layout.{Layout}
 use Rattle.ffs_volume.specs.Messages.Kinds.{TreeMessage, reported, root_none, root_not_dir, root_suspect}
 use Rattle.ffs_volume.specs.Directories.Volumes.{volume_of}
@@ -29,12 +30,12 @@ pub record IsBefore (v : Layout) (contents : Option (List ℕ)) (w : Workspace) 
 
 -- a directory that isn't of size 0 and isn't known to be calm; the flag of a marked one says that an entry has named it
 abbrev pub is_checked : Workspace → ℕ → Bool
-is_checked w x = (slice_index w.kinds.items x == 4)
+is_checked w x = (slice_index w.kinds.items x == DT_DIR)
     && (bool_at w.marked.items x || not (bool_at w.flags.items x))
 
 -- what is reported of the root, by its kind and by whether it is marked
-unfoldable pub root_said : ℕ → Bool → List TreeMessage
-root_said kind marked =
+unfoldable pub root_reported : ℕ → Bool → List TreeMessage
+root_reported kind marked =
     if kind == 0 then root_none ∷ []
     else (if not (is_dir_kind kind) then root_not_dir ∷ []
     else reported (marked || is_empty_dir_kind kind) root_suspect)

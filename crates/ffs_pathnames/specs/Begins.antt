@@ -36,7 +36,7 @@ pub record IsDirectoryBegun (v : Layout) (b : List ℕ) (d : ℕ) (old : Workspa
     :
     Type 0 where
   pub inode : e.inode ≡ inode_of v b d
-  pub quiet : e.found.quiet ≡ are_quiet (volume_of v b) d (marks_of old).stamps (roled_entries (volume_of v b) d)
+  pub quiet : e.look.quiet ≡ are_quiet (volume_of v b) d (marks_of old).stamps (roled_entries (volume_of v b) d)
   pub marks : marks_of new
       ≡ record {
         flags = old.flags.items;

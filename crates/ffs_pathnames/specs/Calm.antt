@@ -5,7 +5,7 @@ use Rattle.ffs_pathnames.specs.Begins.{dir_starts}
 use Rattle.ffs_pathnames.specs.NameMarks.{are_quiet}
 
 -- nothing is reported before the entries of x, and nothing of these, where no inode is stamped by x yet
-pub record IsSilentDirectory (v : Volume) (x : ℕ) : Type 0 where
-  pub starts : dir_starts v x ≡ []
-  pub entries : (stamps : List ℕ) → ((y : ℕ) → y < v.count → (slice_index stamps y == x) ≡ false)
-      → are_quiet v x stamps (roled_entries v x) ≡ true
+pub record IsSilentDirectory (vol : Volume) (x : ℕ) : Type 0 where
+  pub starts : dir_starts vol x ≡ []
+  pub entries : (stamps : List ℕ) → ((y : ℕ) → y < vol.count → (slice_index stamps y == x) ≡ false)
+      → are_quiet vol x stamps (roled_entries vol x) ≡ true

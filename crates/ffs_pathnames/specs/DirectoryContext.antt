@@ -27,7 +27,7 @@ pub record DirectoryContext (v : Layout) (contents : Option (List ℕ)) (w : Wor
 abbrev pub BeginsPathOf : Graph → ℕ → EntryTexts → Type 0
 BeginsPathOf g d t = IsTrue t.begun → IsPathOf g d t.paths.directory
 
--- and the path that is begun, if any, is that of d
+-- the same, and the path that is begun, if any, is that of the directory d
 pub record KnowsPath (v : Layout) (contents : Option (List ℕ)) (w : Workspace) (d : ℕ) (t : EntryTexts)
     (b : List ℕ) : Type 0 where
   pub knows : DirectoryContext v contents w d b
@@ -38,10 +38,10 @@ abbrev pub KeepsPath : Layout → Device → Workspace → ℕ → (old new : En
 KeepsPath v d w x old new =
     ForBytes (KnowsPath v d.contents w x old) (λ b. BeginsPathOf (graph_of (volume_of v b)) x new)
 
--- and the inode that was read is that of the directory
+-- the bytes are those of a directory's context, and the inode that was read is that of the directory
 abbrev pub KnowsDirectory : Layout → Device → Workspace → Directory → List ℕ → Type 0
 KnowsDirectory v d w x b = DirectoryContext v d.contents w x.number b × (x.inode ≡ inode_of v b x.number)
 
--- and the size of a header is that of the directory
+-- the bytes are those of the context of a header's directory, and the header's size is that of the directory
 abbrev pub KnowsHeader : Layout → Device → Workspace → DirectoryHeader → List ℕ → Type 0
 KnowsHeader v d w h b = DirectoryContext v d.contents w h.number b × (h.size ≡ (inode_of v b h.number).size)

@@ -37,10 +37,10 @@ pub record ExamineLeaves {T : Type 0} (v : Layout) (d d' : Device) (old new : Wo
 pub record IsExamined (v : Layout) (b : List ℕ) (d : ℕ) (old : Workspace) (e : DirectorySummary) (new : Workspace) :
     Type 0 where
   pub inode : e.inode ≡ inode_of v b d
-  pub gap : e.found.gap ≡ (volume_of v b).gap d
-  pub sound : e.found.sound ≡ are_sound ((volume_of v b).chunks d)
-  pub started : find (λ c. c.offset == 0) ((volume_of v b).chunks d) ≡ start_chunk [] e.found.started v.order
-      e.found.start
-  pub quiet : e.found.quiet ≡ are_quiet (volume_of v b) d (marks_of old).stamps (roled_entries (volume_of v b) d)
+  pub gap : e.look.gap ≡ (volume_of v b).gap d
+  pub sound : e.look.sound ≡ are_sound ((volume_of v b).chunks d)
+  pub started : find (λ c. c.offset == 0) ((volume_of v b).chunks d) ≡ start_chunk [] e.look.started v.order
+      e.look.start
+  pub quiet : e.look.quiet ≡ are_quiet (volume_of v b) d (marks_of old).stamps (roled_entries (volume_of v b) d)
   pub stamps : (marks_of new).stamps
       ≡ after_looks (volume_of v b) d (marks_of old).stamps (roled_entries (volume_of v b) d)

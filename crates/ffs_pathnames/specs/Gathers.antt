@@ -26,10 +26,10 @@ use Rattle.ffs_pathnames.specs.Stamps.{stamps_of}
 
 -- the messages are the same as with the volume's own attributes and paths
 abbrev pub IsEnough : Volume → Verdict → ℕ → ℕ → List ℕ → Attr → List ℕ → List ℕ → Type 0
-IsEnough v verdict dir number name about path directory =
+IsEnough vol verdict dir number name about path directory =
     verdict_reported verdict number about path directory
-    ≡ verdict_reported verdict number (attributes v number) (entry_path (graph_of v) dir name)
-    (dir_path (graph_of v) number)
+    ≡ verdict_reported verdict number (attributes vol number) (entry_path (graph_of vol) dir name)
+    (dir_path (graph_of vol) number)
 
 -- the marks that a workspace holds during the pathname check
 abbrev pub marks_of : Workspace → NameMarks
@@ -40,15 +40,15 @@ abbrev pub roled_value : DirectoryEntry → RoledEntry
 roled_value e = record { role = e.role; entry = entry_value e.entry }
 
 -- what is reported of it, by the marks of a workspace
-abbrev pub roled_lines : Volume → Workspace → DirectoryEntry → List TreeMessage
-roled_lines v w e = roled_reported v e.dir (marks_of w) (roled_value e)
+abbrev pub roled_lines_by : Volume → Workspace → DirectoryEntry → List TreeMessage
+roled_lines_by vol w e = roled_reported vol e.dir (marks_of w) (roled_value e)
 
 -- of a plain one, and of an extra one
-abbrev pub plain_lines : Volume → Workspace → DirectoryEntry → List TreeMessage
-plain_lines v w e = plain_reported v e.dir (marks_of w) (entry_value e.entry)
+abbrev pub plain_lines_by : Volume → Workspace → DirectoryEntry → List TreeMessage
+plain_lines_by vol w e = plain_reported vol e.dir (marks_of w) (entry_value e.entry)
 
 abbrev pub extra_reported : Volume → DirectoryEntry → List TreeMessage
-extra_reported v e = extra_lines (attributes v e.dir) (dir_path (graph_of v) e.dir) (entry_value e.entry)
+extra_reported vol e = extra_lines (attributes vol e.dir) (dir_path (graph_of vol) e.dir) (entry_value e.entry)
 
 -- the entries of a chunk with their roles
 abbrev pub roled_in : Layout → DirectoryChunk → List RoledEntry
@@ -79,28 +79,28 @@ is_silent (Named n) = not (n.suspect || (n.extraneous || n.kind))
 
 -- what is wrong with an allocated inode that the entry e of the directory s names, by the lists and by the marks
 pub record AreFaultsOf (i : Inodes) (s : ℕ) (m : NameMarks) (e : Entry) (n : Faults) : Type 0 where
-  pub suspect : (v : Volume) → Sees v i
-      → n.suspect ≡ (is_suspect v e.number && (not (e.number == ROOTINO) && not (is_flagged m e.number)))
-  pub marked : (v : Volume) → Sees v i → n.marked ≡ v.marked e.number
-  pub extraneous : (v : Volume) → Sees v i → n.extraneous ≡ (is_dir v e.number && not (is_stamped s m e.number))
-  pub kind : (v : Volume) → Sees v i → IsTrue (is_allocated (v.class e.number)) → n.kind ≡ has_wrong_type v e
-  pub label : (v : Volume) → Sees v i → IsTrue (is_allocated (v.class e.number))
-      → n.label ≡ label_of (v.class e.number)
+  pub suspect : (vol : Volume) → Sees vol i
+      → n.suspect ≡ (is_suspect vol e.number && (not (e.number == ROOTINO) && not (is_flagged m e.number)))
+  pub marked : (vol : Volume) → Sees vol i → n.marked ≡ vol.marked e.number
+  pub extraneous : (vol : Volume) → Sees vol i → n.extraneous ≡ (is_dir vol e.number && not (is_stamped s m e.number))
+  pub kind : (vol : Volume) → Sees vol i → IsTrue (is_allocated (vol.class e.number)) → n.kind ≡ has_wrong_type vol e
+  pub label : (vol : Volume) → Sees vol i → IsTrue (is_allocated (vol.class e.number))
+      → n.label ≡ label_of (vol.class e.number)
 
 -- a verdict on the plain entry e of the directory s, by the lists and by the marks
 pub record IsVerdictBy (i : Inodes) (s : ℕ) (m : NameMarks) (e : Entry) (verdict : Verdict) : Type 0 where
   pub below : IsTrue (asks_attr verdict) → e.number < length i.kinds.now
-  pub linked : (v : Volume) → Sees v i → IsTrue (asks_path verdict) → is_dir v e.number ≡ true
-  pub reported : (v : Volume) → Sees v i → plain_reported v s m e
-      ≡ verdict_reported verdict e.number (attributes v e.number) (entry_path (graph_of v) s e.name)
-      (dir_path (graph_of v) e.number)
+  pub linked : (vol : Volume) → Sees vol i → IsTrue (asks_path verdict) → is_dir vol e.number ≡ true
+  pub reported : (vol : Volume) → Sees vol i → plain_reported vol s m e
+      ≡ verdict_reported verdict e.number (attributes vol e.number) (entry_path (graph_of vol) s e.name)
+      (dir_path (graph_of vol) e.number)
 
 -- a verdict says what is reported of a plain entry e of the directory s, and asks for the path of a directory alone
-pub record IsVerdict (v : Volume) (s : ℕ) (m : NameMarks) (e : Entry) (verdict : Verdict) : Type 0 where
-  pub linked : asks_path verdict ≡ true → is_dir v e.number ≡ true
-  pub reported : plain_reported v s m e
-      ≡ verdict_reported verdict e.number (attributes v e.number) (entry_path (graph_of v) s e.name)
-      (dir_path (graph_of v) e.number)
+pub record IsVerdict (vol : Volume) (s : ℕ) (m : NameMarks) (e : Entry) (verdict : Verdict) : Type 0 where
+  pub linked : asks_path verdict ≡ true → is_dir vol e.number ≡ true
+  pub reported : plain_reported vol s m e
+      ≡ verdict_reported verdict e.number (attributes vol e.number) (entry_path (graph_of vol) s e.name)
+      (dir_path (graph_of vol) e.number)
 
 -- the lists that say something of each inode are as long as one another
 pub record AreAsLong (w : Workspace) : Type 0 where

@@ -32,26 +32,26 @@ dot_in first = entry_if (λ e. is_live e && is_one_dot e.name) first
 abbrev pub dotdot_in : Option Entry → Option Entry
 dotdot_in second = entry_if (λ e. is_live e && is_two_dots e.name) second
 
-abbrev pub there_reported : Attr → List ℕ → ℕ → Entry → List TreeMessage
-there_reported about path d e = reported (not (e.number == d)) (number_dot about path)
+abbrev pub dot_entry_reported : Attr → List ℕ → ℕ → Entry → List TreeMessage
+dot_entry_reported about path d e = reported (not (e.number == d)) (number_dot about path)
     ++ reported (not (e.kind == DT_DIR)) (kind_dot about path)
 
-abbrev pub dot_said : Attr → List ℕ → ℕ → Option Entry → Option Entry → List TreeMessage
-dot_said about path d first None = missing_dot_lines about path first
-dot_said about path d first (Some e) = there_reported about path d e
+abbrev pub dot_reported : Attr → List ℕ → ℕ → Option Entry → Option Entry → List TreeMessage
+dot_reported about path d first None = missing_dot_lines about path first
+dot_reported about path d first (Some e) = dot_entry_reported about path d e
 
 -- `parent` is the directory's parent, if it has one
-abbrev pub above_reported : Attr → List ℕ → Option ℕ → Entry → List TreeMessage
-above_reported about path parent e = reported (is_wrong_parent parent e.number) (number_dotdot about path)
+abbrev pub dotdot_entry_reported : Attr → List ℕ → Option ℕ → Entry → List TreeMessage
+dotdot_entry_reported about path parent e = reported (is_wrong_parent parent e.number) (number_dotdot about path)
     ++ reported (not (e.kind == DT_DIR)) (kind_dotdot about path)
 
-abbrev pub dotdot_said : Attr → List ℕ → Option ℕ → Option Entry → Option Entry → List TreeMessage
-dotdot_said about path parent second None = missing_dotdot_lines about path second
-dotdot_said about path parent second (Some e) = above_reported about path parent e
+abbrev pub dotdot_reported : Attr → List ℕ → Option ℕ → Option Entry → Option Entry → List TreeMessage
+dotdot_reported about path parent second None = missing_dotdot_lines about path second
+dotdot_reported about path parent second (Some e) = dotdot_entry_reported about path parent e
 
 abbrev pub dots_reported : Attr → List ℕ → ℕ → Option ℕ → Option Entry → Option Entry → List TreeMessage
-dots_reported about path d parent first second = dot_said about path d first (dot_in first)
-    ++ dotdot_said about path parent second (dotdot_in second)
+dots_reported about path d parent first second = dot_reported about path d first (dot_in first)
+    ++ dotdot_reported about path parent second (dotdot_in second)
 
 -- the first entry is the directory's `.`, and the second one its `..`
 abbrev pub is_right_dot : ℕ → Option Entry → Bool
@@ -76,8 +76,8 @@ header_reported about path d parent gap sound first second = shape_reported abou
     ++ dots_reported about path d parent first second
 
 -- by a header's own values
-abbrev pub lines_of_header : Attr → List ℕ → DirectoryHeader → List TreeMessage
-lines_of_header about path h = header_reported about path h.number h.parent h.gap h.sound
+abbrev pub header_lines_of : Attr → List ℕ → DirectoryHeader → List TreeMessage
+header_lines_of about path h = header_reported about path h.number h.parent h.gap h.sound
     (option_map entry_value h.first) (option_map entry_value h.second)
 
 abbrev pub is_header_right : DirectoryHeader → Bool
@@ -86,4 +86,4 @@ is_header_right h = is_right_header h.size h.number h.parent h.gap h.sound (opti
 
 -- of a directory of a volume
 abbrev pub header_lines : Volume → DirectoryHeader → List TreeMessage
-header_lines v h = lines_of_header (attributes v h.number) (dir_path (graph_of v) h.number) h
+header_lines v h = header_lines_of (attributes v h.number) (dir_path (graph_of v) h.number) h

@@ -11,7 +11,7 @@ use Rattle.ffs_volume.specs.Encodings.Replay.{fresh_replay, replayed_steps}
 use Rattle.ffs_pathnames.specs.declared.directory.Directory.{Directory}
 use Rattle.ffs_pathnames.specs.declared.directory.FirstLook.{FirstLook}
 use Rattle.ffs_pathnames.specs.declared.inodes.Inodes.{Inodes}
-use Rattle.ffs_pathnames.specs.declared.look.EntriesSummary.{EntriesSummary}
+use Rattle.ffs_pathnames.specs.declared.look.ChunkLook.{ChunkLook}
 use Rattle.ffs_pathnames.specs.NameMarks.{are_quiet, after_looks}
 use Rattle.ffs_pathnames.specs.Reads.{chunks_read, start_chunk}
 use Rattle.ffs_pathnames.specs.Sees.{Sees, stamps_in}
@@ -19,11 +19,11 @@ use Rattle.ffs_pathnames.specs.Sees.{Sees, stamps_in}
 -- of a chunk's entries: whether nothing may be reported of them, and whether they fill it; and each inode that belongs
 -- to the directory d is stamped, by the words before and after
 pub record IsChunkLook (inodes : Inodes) (d : ℕ) (order : Order) (first : Bool) (chunk old : List ℕ)
-    (f : EntriesSummary) (new : List ℕ) : Type 0 where
-  pub quiet : (v : Volume) → Sees v inodes
-      → f.quiet ≡ are_quiet v d (stamps_in inodes old) (roled_from first 0 (entries_of order chunk))
-  pub stamps : (v : Volume) → Sees v inodes → stamps_in inodes new
-      ≡ after_looks v d (stamps_in inodes old) (roled_from first 0 (entries_of order chunk))
+    (f : ChunkLook) (new : List ℕ) : Type 0 where
+  pub quiet : (vol : Volume) → Sees vol inodes
+      → f.quiet ≡ are_quiet vol d (stamps_in inodes old) (roled_from first 0 (entries_of order chunk))
+  pub stamps : (vol : Volume) → Sees vol inodes → stamps_in inodes new
+      ≡ after_looks vol d (stamps_in inodes old) (roled_from first 0 (entries_of order chunk))
   pub sound : f.sound ≡ is_sound order chunk
 
 -- of the chunks of a directory: whether nothing may be reported of their entries, whether they
@@ -31,11 +31,11 @@ pub record IsChunkLook (inodes : Inodes) (d : ℕ) (order : Order) (first : Bool
 -- the directory is stamped, by the words before and after
 pub record IsFirstLook (v : Layout) (inodes : Inodes) (d : Directory) (b : List ℕ) (old : List ℕ) (f : FirstLook)
     (new : List ℕ) : Type 0 where
-  pub quiet : (volume : Volume) → Sees volume inodes → d.inode.size < 2 ^ 31
-      → f.quiet ≡ are_quiet volume d.number (stamps_in inodes old) (flat_map roled_chunk (chunks_read v d.inode d.cut
+  pub quiet : (vol : Volume) → Sees vol inodes → d.inode.size < 2 ^ 31
+      → f.quiet ≡ are_quiet vol d.number (stamps_in inodes old) (flat_map roled_chunk (chunks_read v d.inode d.cut
       b))
-  pub stamps : (volume : Volume) → Sees volume inodes → d.inode.size < 2 ^ 31 → stamps_in inodes new
-      ≡ after_looks volume d.number (stamps_in inodes old) (flat_map roled_chunk (chunks_read v d.inode d.cut b))
+  pub stamps : (vol : Volume) → Sees vol inodes → d.inode.size < 2 ^ 31 → stamps_in inodes new
+      ≡ after_looks vol d.number (stamps_in inodes old) (flat_map roled_chunk (chunks_read v d.inode d.cut b))
   pub sound : d.inode.size < 2 ^ 31 → f.sound ≡ are_sound (chunks_read v d.inode d.cut b)
   pub gap : f.gap ≡ has_gap (replayed_steps v d.cut fresh_replay (steps_of v d.inode b))
   pub started : d.inode.size < 2 ^ 31 → find (λ c. c.offset == 0) (chunks_read v d.inode d.cut b)

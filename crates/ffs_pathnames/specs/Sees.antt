@@ -17,17 +17,17 @@ abbrev pub is_suspect_by : List ℕ → List Bool → ℕ → Bool
 is_suspect_by kinds marked x = bool_at marked x || is_empty_dir_kind (slice_index kinds x)
 
 -- of each inode its kind, whether it is marked, and its parent
-pub record Sees (v : Volume) (i : Inodes) : Type 0 where
-  pub count : v.count ≡ length i.kinds.now
-  pub dir : (x : ℕ) → is_dir v x ≡ is_dir_kind (slice_index i.kinds.now x)
-  pub allocated : (x : ℕ) → is_allocated (v.class x) ≡ is_allocated_kind (slice_index i.kinds.now x)
-  pub unknown : (x : ℕ) → is_unknown (v.class x) ≡ is_unknown_kind (slice_index i.kinds.now x)
-  pub suspect : (x : ℕ) → is_suspect v x ≡ is_suspect_by i.kinds.now i.marked.now x
-  pub marked : (x : ℕ) → v.marked x ≡ bool_at i.marked.now x
-  pub kind : (x : ℕ) → is_allocated (v.class x) ≡ true → is_unknown (v.class x) ≡ false
-      → type_of_kind (slice_index i.kinds.now x) ≡ (v.inode x).mode / 4096
-  pub class : (x : ℕ) → is_allocated (v.class x) ≡ true → v.class x ≡ class_of_kind (slice_index i.kinds.now x)
-  pub parent_is : (x s : ℕ) → 2 ≤ s → is_value (parent (graph_of v) x) s ≡ (slice_index i.parents.now.items x == s)
+pub record Sees (vol : Volume) (i : Inodes) : Type 0 where
+  pub count : vol.count ≡ length i.kinds.now
+  pub dir : (x : ℕ) → is_dir vol x ≡ is_dir_kind (slice_index i.kinds.now x)
+  pub allocated : (x : ℕ) → is_allocated (vol.class x) ≡ is_allocated_kind (slice_index i.kinds.now x)
+  pub unknown : (x : ℕ) → is_unknown (vol.class x) ≡ is_unknown_kind (slice_index i.kinds.now x)
+  pub suspect : (x : ℕ) → is_suspect vol x ≡ is_suspect_by i.kinds.now i.marked.now x
+  pub marked : (x : ℕ) → vol.marked x ≡ bool_at i.marked.now x
+  pub kind : (x : ℕ) → is_allocated (vol.class x) ≡ true → is_unknown (vol.class x) ≡ false
+      → type_of_kind (slice_index i.kinds.now x) ≡ (vol.inode x).mode / 4096
+  pub class : (x : ℕ) → is_allocated (vol.class x) ≡ true → vol.class x ≡ class_of_kind (slice_index i.kinds.now x)
+  pub parent_is : (x s : ℕ) → 2 ≤ s → is_value (parent (graph_of vol) x) s ≡ (slice_index i.parents.now.items x == s)
 
 -- the stamps by these words, and the marks with them
 abbrev pub stamps_in : Inodes → (words : List ℕ) → List ℕ

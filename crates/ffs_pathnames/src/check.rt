@@ -25,7 +25,7 @@ use crate::directory::{Directory, FirstLook};
 use crate::examine::{DirectorySummary, examine};
 use crate::header::{DirectoryHeader, is_in_order, say_header};
 use crate::one_entry::{EntryTexts, gather_dir};
-use crate::second_look::report_directory;
+use crate::reread::report_directory;
 use ffs_image::Image;
 use ffs_layout::{Entry, Geometry, entry_at};
 use ffs_paths::{PathText, Siblings};
@@ -132,13 +132,13 @@ fn begin_directory<I: Image, W: Output>(
 {
     let examined = examine(geometry, image, workspace, dir)?;
     let parent = parent_of(workspace, dir);
-    let (first, second) = first_two(geometry.layout.order, &examined.found);
+    let (first, second) = first_two(geometry.layout.order, &examined.look);
     let header = DirectoryHeader {
         number: dir,
         parent,
         size: examined.inode.size,
-        gap: examined.found.gap,
-        sound: examined.found.sound,
+        gap: examined.look.gap,
+        sound: examined.look.sound,
         first,
         second,
     };
@@ -182,7 +182,7 @@ pub fn check_directory<I: Image, W: Output>(
         workspace.old workspace.new texts.new.siblings result }
 {
     let examined = begin_directory(geometry, image, workspace, &mut texts.siblings, report, dir)?;
-    if examined.found.quiet {
+    if examined.look.quiet {
         return Ok(());
     }
     let directory = Directory {

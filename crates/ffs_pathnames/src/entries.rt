@@ -3,7 +3,7 @@ ghost use Rattle.std.specs.Prelude.{◌≡◌, OnOk};
 ghost use Rattle.ffs_volume.specs.Directories.Volumes.{volume_of};
 ghost use Rattle.ffs_report.specs.Known.{ForBytes};
 ghost use Rattle.ffs_report.specs.Progress.{progress};
-ghost use Rattle.ffs_pathnames.specs.Gathers.{marks_of, roled_in, roled_lines, roled_value};
+ghost use Rattle.ffs_pathnames.specs.Gathers.{marks_of, roled_in, roled_lines_by, roled_value};
 ghost use Rattle.ffs_pathnames.specs.DirectoryContext.{DirectoryContext};
 ghost use Rattle.ffs_pathnames.specs.NameMarks as marks;
 ghost use Rattle.ffs_pathnames.specs.EntryLines.{ReportsEntries};
@@ -32,7 +32,7 @@ pub struct DirectoryChunk<'a> {
 }
 
 /// Prints the lines of an entry, by its role.
-fn say_entry<I: Image, W: Output>(
+fn report_by_role<I: Image, W: Output>(
     geometry: &Geometry,
     image: &mut I,
     workspace: &mut Workspace,
@@ -44,7 +44,7 @@ fn say_entry<I: Image, W: Output>(
         texts.old.siblings entry.now.dir }
     ensures lines { ReportsEntries geometry.now.layout (I.device image.old) workspace.old
         workspace.new entry.now.dir texts.old texts.new
-        (λ v. roled_lines v workspace.old entry.now)
+        (λ v. roled_lines_by v workspace.old entry.now)
         (progress W.sink report.old) (progress W.sink report.new)
         (I.reads image.old) (I.reads image.new) result }
     ensures leaves { LinesLeave geometry.now.layout (I.device image.old) (I.device image.new)
@@ -75,7 +75,7 @@ pub fn report_entry<I: Image, W: Output>(
         texts.old.siblings entry.now.dir }
     ensures lines { ReportsEntries geometry.now.layout (I.device image.old) workspace.old
         workspace.new entry.now.dir texts.old texts.new
-        (λ v. roled_lines v workspace.old entry.now)
+        (λ v. roled_lines_by v workspace.old entry.now)
         (progress W.sink report.old) (progress W.sink report.new)
         (I.reads image.old) (I.reads image.new) result }
     ensures marks { OnOk result (ForBytes (DirectoryContext geometry.now.layout
@@ -86,7 +86,7 @@ pub fn report_entry<I: Image, W: Output>(
         workspace.old workspace.new texts.new.siblings result }
     ensures chunk { workspace.new.windows.chunk ≡ workspace.old.windows.chunk }
 {
-    say_entry(geometry, image, workspace, texts, report, entry)?;
+    report_by_role(geometry, image, workspace, texts, report, entry)?;
     let inodes = Inodes {
         kinds: workspace.kinds.as_slice(),
         marked: workspace.marked.as_slice(),

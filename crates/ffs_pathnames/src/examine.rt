@@ -19,7 +19,7 @@ pub struct DirectorySummary {
     /// Its inode.
     pub inode: Inode,
     /// What a first look at its chunks found.
-    pub found: FirstLook,
+    pub look: FirstLook,
 }
 
 /// Examines a directory.
@@ -55,7 +55,7 @@ pub fn examine<I: Image>(
         inode,
         cut,
     };
-    let found = look_directory(
+    let look = look_directory(
         geometry,
         image,
         &mut workspace.windows,
@@ -63,5 +63,5 @@ pub fn examine<I: Image>(
         &mut workspace.queue,
         &directory,
     )?;
-    Ok(DirectorySummary { inode, found })
+    Ok(DirectorySummary { inode, look })
 }

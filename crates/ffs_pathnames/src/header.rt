@@ -5,7 +5,7 @@ ghost use Rattle.ffs_volume.specs.Directories.PathnameCheck.{is_wrong_parent};
 ghost use Rattle.ffs_layout.specs.Entry.{entry_value};
 ghost use Rattle.ffs_report.specs.Progress.{progress};
 ghost use Rattle.ffs_pathnames.specs.SaysNames.{SaysNames};
-ghost use Rattle.ffs_pathnames.specs.Header.{size_reported, chunks_reported, shape_reported, there_reported, above_reported, dot_in, dotdot_in, dot_said, dotdot_said, is_right_dot, is_right_dotdot, is_header_right, lines_of_header};
+ghost use Rattle.ffs_pathnames.specs.Header.{size_reported, chunks_reported, shape_reported, dot_entry_reported, dotdot_entry_reported, dot_in, dotdot_in, dot_reported, dotdot_reported, is_right_dot, is_right_dotdot, is_header_right, header_lines_of};
 
 use crate::say::{LineIf, NameLine, say_two};
 use ffs_layout::Entry;
@@ -98,7 +98,7 @@ fn say_shape<W: Output>(
 
 /// Says what is wrong with `.`: another number than the directory's own, or another type than a
 /// directory's.
-fn say_there<W: Output>(
+fn say_dot_entry<W: Output>(
     report: &mut Report<'_, W>,
     number: u32,
     attr: Attr,
@@ -106,7 +106,7 @@ fn say_there<W: Output>(
     entry: &Entry<'_>,
 ) -> Result<(), OutFault>
     ensures { SaysNames (progress W.sink report.old) (progress W.sink report.new)
-        (there_reported attr path.now number (entry_value entry.now)) result }
+        (dot_entry_reported attr path.now number (entry_value entry.now)) result }
 {
     let other = LineIf {
         holds: entry.number != number,
@@ -128,7 +128,7 @@ fn say_dot<W: Output>(
     first: Option<Entry<'_>>,
 ) -> Result<(), OutFault>
     ensures { SaysNames (progress W.sink report.old) (progress W.sink report.new)
-        (dot_said attr path.now number (option_map entry_value first.entry)
+        (dot_reported attr path.now number (option_map entry_value first.entry)
         (dot_in (option_map entry_value first.entry))) result }
 {
     match first {
@@ -138,7 +138,7 @@ fn say_dot<W: Output>(
                 return report.say(&Line::Dot(DotLine::MissingDot { attr, path }));
             }
             if is_one_dot(entry.name) {
-                return say_there(report, number, attr, path, &entry);
+                return say_dot_entry(report, number, attr, path, &entry);
             }
             if is_two_dots(entry.name) {
                 return report.say(&Line::Dot(DotLine::MissingDot { attr, path }));
@@ -154,7 +154,7 @@ fn say_dot<W: Output>(
 
 /// Says what is wrong with `..`: another number than the parent's, where there is a parent, or
 /// another type than a directory's.
-fn say_above<W: Output>(
+fn say_dotdot_entry<W: Output>(
     report: &mut Report<'_, W>,
     parent: Option<u32>,
     attr: Attr,
@@ -162,7 +162,7 @@ fn say_above<W: Output>(
     entry: &Entry<'_>,
 ) -> Result<(), OutFault>
     ensures { SaysNames (progress W.sink report.old) (progress W.sink report.new)
-        (above_reported attr path.now parent (entry_value entry.now)) result }
+        (dotdot_entry_reported attr path.now parent (entry_value entry.now)) result }
 {
     let other = LineIf {
         holds: is_wrong_parent(parent, entry.number),
@@ -194,7 +194,7 @@ fn say_dotdot<W: Output>(
     second: Option<Entry<'_>>,
 ) -> Result<(), OutFault>
     ensures { SaysNames (progress W.sink report.old) (progress W.sink report.new)
-        (dotdot_said attr path.now parent (option_map entry_value second.entry)
+        (dotdot_reported attr path.now parent (option_map entry_value second.entry)
         (dotdot_in (option_map entry_value second.entry))) result }
 {
     match second {
@@ -204,7 +204,7 @@ fn say_dotdot<W: Output>(
                 return report.say(&Line::Dot(DotLine::MissingDotdot { attr, path }));
             }
             if is_two_dots(entry.name) {
-                return say_above(report, parent, attr, path, &entry);
+                return say_dotdot_entry(report, parent, attr, path, &entry);
             }
             if is_one_dot(entry.name) {
                 return report.say(&Line::Dot(DotLine::MissingDotdot { attr, path }));
@@ -230,7 +230,7 @@ pub fn say_header<W: Output>(
     header: DirectoryHeader<'_>,
 ) -> Result<(), OutFault>
     ensures { SaysNames (progress W.sink report.old) (progress W.sink report.new)
-        (lines_of_header attr path.now header.entry) result }
+        (header_lines_of attr path.now header.entry) result }
 {
     say_shape(report, attr, path, header.gap, header.sound)?;
     say_dot(report, header.number, attr, path, header.first)?;
@@ -241,7 +241,7 @@ pub fn say_header<W: Output>(
 fn is_dot_right(number: u32, first: Option<Entry<'_>>) -> bool
     ensures value { result ≡ is_right_dot number (option_map entry_value first.entry) }
     ensures quiet { IsTrue result → (about : attrs.Attr) (path : List ℕ) →
-        dot_said about path number (option_map entry_value first.entry)
+        dot_reported about path number (option_map entry_value first.entry)
         (dot_in (option_map entry_value first.entry)) ≡ [] }
 {
     match first {
@@ -257,7 +257,7 @@ fn is_dot_right(number: u32, first: Option<Entry<'_>>) -> bool
 fn is_dotdot_right(parent: Option<u32>, second: Option<Entry<'_>>) -> bool
     ensures value { result ≡ is_right_dotdot parent (option_map entry_value second.entry) }
     ensures quiet { IsTrue result → (about : attrs.Attr) (path : List ℕ) →
-        dotdot_said about path parent (option_map entry_value second.entry)
+        dotdot_reported about path parent (option_map entry_value second.entry)
         (dotdot_in (option_map entry_value second.entry)) ≡ [] }
 {
     match second {
@@ -280,7 +280,7 @@ fn is_shape_right(size: u64, gap: bool, sound: bool) -> bool
 pub fn is_in_order(header: DirectoryHeader<'_>) -> bool
     ensures value { result ≡ is_header_right header.entry }
     ensures quiet { IsTrue result → (about : attrs.Attr) (path : List ℕ)
-        → about.size ≡ header.entry.size → lines_of_header about path header.entry ≡ [] }
+        → about.size ≡ header.entry.size → header_lines_of about path header.entry ≡ [] }
 {
     if !is_shape_right(header.size, header.gap, header.sound) {
         return false;

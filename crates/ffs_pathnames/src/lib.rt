@@ -14,7 +14,7 @@
 //! - `examine` reads a directory once: its inode, then its chunks (`directory`), then their entries
 //!   (`look`), by what is known of the inodes that they name (`inodes`).
 //! - `header` says what is wrong with its size, its chunks and its first two entries.
-//! - `second_look` reads its chunks again where something is to be said of their entries: `entries`
+//! - `reread` reads its chunks again where something is to be said of their entries: `entries`
 //!   goes over these, `one_entry` gathers what the lines of one show, by its `verdict`.
 //! - `lines` says the lines of a verdict, and `say` a single line.
 //!
@@ -32,9 +32,9 @@ mod lines;
 mod look;
 mod one_entry;
 mod pass2;
+mod reread;
 mod root;
 mod say;
-mod second_look;
 mod tree;
 pub mod verdict;
 

@@ -122,7 +122,7 @@ pub fn stamp(
 
 /// What a look at the entries of a chunk finds.
 #[derive(Clone, Copy, Debug)]
-pub struct EntriesSummary {
+pub struct ChunkLook {
     /// Whether it is sure that nothing is reported of them.
     pub quiet: bool,
     /// Whether they fill the chunk.
@@ -137,7 +137,7 @@ pub fn look_chunk(
     first: bool,
     chunk: &[u8; DIRBLKSIZ],
     words: &mut FilledList<u32>,
-) -> EntriesSummary
+) -> ChunkLook
     requires { CanStamp inodes.now dir words.old.items }
     ensures look { IsChunkLook inodes.now dir order first chunk.now words.old.items result
         words.new.items }
@@ -155,7 +155,7 @@ pub fn look_chunk(
         place += usize::from(entry.length);
         index += 1;
     }
-    EntriesSummary {
+    ChunkLook {
         quiet,
         sound: place == DIRBLKSIZ,
     }

@@ -13,7 +13,7 @@ ghost use Rattle.ffs_volume.specs.declared.Layout.{Layout};
 ghost use Rattle.ffs_workspace.specs.Lengths.{IsFor};
 ghost use Rattle.ffs_workspace.specs.Holds.{HoldsClaims, HoldsSurvey};
 ghost use Rattle.ffs_pathnames.specs.Gathers.{IsEnough, IsVerdict, AreAsLong, marks_of};
-ghost use Rattle.ffs_pathnames.specs.Gathers.{asks_attr, asks_path, extra_reported, is_silent, plain_lines};
+ghost use Rattle.ffs_pathnames.specs.Gathers.{asks_attr, asks_path, extra_reported, is_silent, plain_lines_by};
 ghost use Rattle.ffs_pathnames.specs.DirectoryContext.{DirectoryContext, KeepsPath, KnowsPath};
 ghost use Rattle.ffs_paths.specs.DirectoryPaths.{IsPathOf};
 ghost use Rattle.ffs_paths.specs.LastPaths.{last_path};
@@ -230,6 +230,7 @@ fn gather<I: Image>(
     let (wants_attr, wants_path) = asks(verdict);
     texts.paths.put(entry.name);
     if !wants_attr {
+        // No line of this verdict shows attributes, so none are read.
         return Ok(Attr {
             number: entry.number,
             uid: 0,
@@ -350,7 +351,7 @@ pub fn report_plain<I: Image, W: Output>(
         texts.old.siblings entry.now.dir }
     ensures lines { ReportsEntries geometry.now.layout (I.device image.old) workspace.old
         workspace.new entry.now.dir texts.old texts.new
-        (λ v. plain_lines v workspace.old entry.now)
+        (λ v. plain_lines_by v workspace.old entry.now)
         (progress W.sink report.old) (progress W.sink report.new)
         (I.reads image.old) (I.reads image.new) result }
     ensures leaves { LinesLeave geometry.now.layout (I.device image.old) (I.device image.new)

@@ -2,7 +2,7 @@
 ghost use Rattle.std.specs.Prelude.{◌≡◌};
 ghost use Rattle.ffs_report.specs.Progress.{progress};
 ghost use Rattle.ffs_volume.specs.Encodings.Kinds.{is_dir_kind};
-ghost use Rattle.ffs_pathnames.specs.Before.{root_said};
+ghost use Rattle.ffs_pathnames.specs.Before.{root_reported};
 ghost use Rattle.ffs_pathnames.specs.RootAnswers.{is_go};
 ghost use Rattle.ffs_pathnames.specs.SaysNames.{SaysNames};
 
@@ -26,14 +26,14 @@ pub fn root_of(kind: u8) -> Root
 ///
 /// # Errors
 /// A write of the report that failed.
-#[tactic(auto, unfolding(crate::specs::Before::root_said))]
+#[tactic(auto, unfolding(crate::specs::Before::root_reported))]
 pub fn report_root<W: Output>(
     report: &mut Report<'_, W>,
     kind: u8,
     marked: bool,
 ) -> Result<(), OutFault>
     ensures { SaysNames (progress W.sink report.old) (progress W.sink report.new)
-        (root_said kind marked) result }
+        (root_reported kind marked) result }
 {
     let kind = Kind { code: kind };
     if !kind.is_allocated() {

@@ -110,7 +110,7 @@ fn check_inodes<I: Image, W: Output>(
         × HoldsSurvey geometry.now.layout b workspace.new)) }
 
     // Where no directory is checked, nothing is read.
-    ensures unread { ((x : ℕ) → 2 ≤ x → x < inodes_of geometry.now.layout
+    ensures unchecked { ((x : ℕ) → 2 ≤ x → x < inodes_of geometry.now.layout
         → is_checked workspace.old x ≡ false) → workspace.new ≡ workspace.old }
     ensures reads { ForBytes
         (λ b. IsBefore geometry.now.layout (I.device image.old).contents workspace.old 2 b)

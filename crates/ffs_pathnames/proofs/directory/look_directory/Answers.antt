@@ -57,7 +57,7 @@ chunks-preserved g c =
       geometry = c.in_ok-offset.ensures.leaves.geometry ∙ inv.geometry;
       words_long = c.look_chunk-looked.ensures.words_long ∙ inv.words_long;
       places = λ x. c.look_chunk-looked.ensures.places x ∙ inv.places x;
-      others = others_stay c.args.windows.now c.chunks.windows c.next.new.blocks c.next.new.data inv.others;
+      others = others_stay c.args.windows.now c.chunks.windows c.next.new.blocks c.next.new.window inv.others;
       ready = rw inv.geometry at c.in_ok-offset.ensures.leaves.ready;
       quiet = λ b t v s h. chunk_quiet v c.args.directory.now.number old new
           (rest b c.chunks.chunks) (rest b c.next.new.self) here
@@ -125,7 +125,7 @@ returns-in_err-gap-clause-leaves g c =
       ready = record {
         walk = rw (read.leaves.geometry ∙ inv.geometry) at gap.leaves.ready;
         room = chunk.room;
-        holds = subst (λ xs. WindowHolds xs c.next.new.data) (sym gap.leaves.read.contents) chunk.holds;
+        holds = subst (λ xs. WindowHolds xs c.next.new.window) (sym gap.leaves.read.contents) chunk.holds;
       };
       read = subst (λ d. Faulted d (g.I.Image.device c.gap_of.new.image) c.in_err-gap.field-0.0.sector)
           (read.leaves.read ∙ inv.same) gap.leaves.read;
@@ -141,7 +141,7 @@ returns-clause-leaves g c =
       ready = record {
         walk = rw (read.leaves.geometry ∙ inv.geometry) at gap.leaves.ready;
         room = chunk.room;
-        holds = subst (λ d. WindowHolds d.contents c.next.new.data) (sym gap.leaves.read) chunk.holds;
+        holds = subst (λ d. WindowHolds d.contents c.next.new.window) (sym gap.leaves.read) chunk.holds;
       };
       read = gap.leaves.read ∙ (read.leaves.read ∙ inv.same);
     }
@@ -149,14 +149,14 @@ returns-clause-leaves g c =
 -- the other windows
 pub returns-in_err-offset-clause-others : goal.returns-in_err-offset-clause-others
 returns-in_err-offset-clause-others g c = others_stay c.args.windows.now c.chunks.windows c.next.new.blocks
-    c.next.new.data c.chunks.invariant.others
+    c.next.new.window c.chunks.invariant.others
 
 pub returns-in_err-gap-clause-others : goal.returns-in_err-gap-clause-others
 returns-in_err-gap-clause-others g c = others_stay c.args.windows.now c.chunks.windows c.gap_of.new.blocks
-    c.next.new.data c.chunks.invariant.others
+    c.next.new.window c.chunks.invariant.others
 
 pub returns-clause-others : goal.returns-clause-others
-returns-clause-others g c = others_stay c.args.windows.now c.chunks.windows c.gap_of.new.blocks c.next.new.data
+returns-clause-others g c = others_stay c.args.windows.now c.chunks.windows c.gap_of.new.blocks c.next.new.window
     c.chunks.invariant.others
 
 -- the reads
@@ -170,7 +170,7 @@ pub returns-in_err-gap-clause-reads : goal.returns-in_err-gap-clause-reads
 returns-in_err-gap-clause-reads g c = λ b t.
     let inv = c.chunks.invariant in
     let took = c.in_ok-offset.ensures.reads (inv.held b t) b (ap (λ d. d.contents) inv.same ∙ t) in
-    let most = (c.gap_of.ensures.reads c.next.new.data took.held b
+    let most = (c.gap_of.ensures.reads c.next.new.window took.held b
     (ap (λ d. d.contents) (c.in_ok-offset.ensures.leaves.read ∙ inv.same) ∙ t)).most in
     omega (arith, most, took.paid, inv.reads b t)
 
@@ -178,6 +178,6 @@ pub returns-clause-reads : goal.returns-clause-reads
 returns-clause-reads g c = λ b t.
     let inv = c.chunks.invariant in
     let took = c.in_ok-offset.ensures.reads (inv.held b t) b (ap (λ d. d.contents) inv.same ∙ t) in
-    let most = (c.gap_of.ensures.reads c.next.new.data took.held b
+    let most = (c.gap_of.ensures.reads c.next.new.window took.held b
     (ap (λ d. d.contents) (c.in_ok-offset.ensures.leaves.read ∙ inv.same) ∙ t)).most in
     omega (arith, most, took.paid, inv.reads b t)

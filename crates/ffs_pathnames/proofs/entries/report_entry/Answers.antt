@@ -12,24 +12,24 @@ use Rattle.ffs_pathnames.proofs.StampLaws.{keep_more, places_kept, windows_keep}
 use Rattle.ffs_paths.proofs.Keeping.{siblings_on}
 use Rattle.ffs_pathnames.proofs.entries.report_entry.Goals as goal
 
-pub returns-in_err-say_entry-clause-leaves : goal.returns-in_err-say_entry-clause-leaves
-returns-in_err-say_entry-clause-leaves g c =
-    let left = c.in_err-say_entry.ensures.leaves in
+pub returns-in_err-report_by_role-clause-leaves : goal.returns-in_err-report_by_role-clause-leaves
+returns-in_err-report_by_role-clause-leaves g c =
+    let left = c.in_err-report_by_role.ensures.leaves in
     let p = err_from_is_err_and c.from_residual.result c.from_residual.ensures.1 in
     rw (p.1, p.2) (record {
       image = left.image;
       survey = windows_leave _ _ left.lists;
-      places = windows_keep c.args.workspace.now c.say_entry.new.workspace left.lists;
+      places = windows_keep c.args.workspace.now c.report_by_role.new.workspace left.lists;
       ready = left.ready;
     })
 
 pub returns-clause-leaves : goal.returns-clause-leaves
 returns-clause-leaves g c =
-    let left = c.in_ok-say_entry.ensures.leaves in
+    let left = c.in_ok-report_by_role.ensures.leaves in
     let said = left.ready in
     let made = said.ready.made in
     let windows = said.ready.windows in
-    let marks : LeavesSurvey c.say_entry.new.workspace _ = record {
+    let marks : LeavesSurvey c.report_by_role.new.workspace _ = record {
       claimed = refl;
       kinds = refl;
       marked = refl;
@@ -45,7 +45,7 @@ returns-clause-leaves g c =
     record {
       image = left.image;
       survey = leaves_more _ _ _ (windows_leave _ _ left.lists) marks;
-      places = keep_more _ _ _ (windows_keep c.args.workspace.now c.say_entry.new.workspace left.lists)
+      places = keep_more _ _ _ (windows_keep c.args.workspace.now c.report_by_role.new.workspace left.lists)
           c.pass.ensures.places;
       ready = record {
         ready = record {
@@ -81,15 +81,15 @@ returns-clause-leaves g c =
 pub returns-clause-marks : goal.returns-clause-marks
 returns-clause-marks g c = λ b k.
     let v = c.args.geometry.now.layout in
-    let left = c.in_ok-say_entry.ensures.leaves.lists in
+    let left = c.in_ok-report_by_role.ensures.leaves.lists in
     let kept = windows_leave _ _ left in
     let before = c.args.workspace.now in
-    let here = c.say_entry.new.workspace in
+    let here = c.report_by_role.new.workspace in
     let shows = sees v b here _ (record {
       kinds = c.as_slice.ensures.value;
       marked = c.as_slice-2.ensures.value;
       parents = refl;
-      count = c.as_slice.ensures.len ∙ c.in_ok-say_entry.ensures.leaves.ready.ready.made.kinds;
+      count = c.as_slice.ensures.len ∙ c.in_ok-report_by_role.ensures.leaves.ready.ready.made.kinds;
     }) (claims_left v b before here kept k.claims) (survey_left v b before here kept k.survey) in
     passes (volume_of v b) c.args.entry.now.dir (roled_value c.args.entry.now)
     before.flags.items _ _ _ (marks_of before).stamps _ _ _
@@ -99,14 +99,14 @@ returns-clause-marks g c = λ b k.
     (with_items_is here.flags c.pass.new.flags (c.pass.auto.flags ∙ c.as_mut_slice.ensures.len))
     refl
 
-pub returns-in_err-say_entry-clause-lines : goal.returns-in_err-say_entry-clause-lines
-returns-in_err-say_entry-clause-lines g c =
+pub returns-in_err-report_by_role-clause-lines : goal.returns-in_err-report_by_role-clause-lines
+returns-in_err-report_by_role-clause-lines g c =
     let p = err_from_is_err_and c.from_residual.result c.from_residual.ensures.1 in
-    rw (p.1, p.2) c.in_err-say_entry.ensures.lines
+    rw (p.1, p.2) c.in_err-report_by_role.ensures.lines
 
 pub returns-clause-lines : goal.returns-clause-lines
 returns-clause-lines g c =
-    let lines = c.in_ok-say_entry.ensures.lines in
+    let lines = c.in_ok-report_by_role.ensures.lines in
     record {
       text = lines.text;
       path = lines.path;

@@ -42,7 +42,7 @@ returns-clause-found g c = λ b k.
       parents = refl;
       count = c.as_slice.ensures.len ∙ c.requires.ready.ready.made.kinds;
     }) h r in
-    let found = c.in_ok-found.ensures.found b t1 in
+    let found = c.in_ok-look.ensures.found b t1 in
     record {
       inode = inode;
       gap = found.gap ∙ gap_is v b c.args.dir c.in_ok-inode.inode c.cut_of-cut.result sound number inode cut;
@@ -87,7 +87,7 @@ returns-clause-leaves g c =
     let w = c.args.workspace.now in
     let one = c.in_ok-inode.ensures.reads.read in
     let look = c.look_directory.ensures.leaves in
-    let two = c.in_ok-found.ensures.leaves.read in
+    let two = c.in_ok-look.ensures.leaves.read in
     record {
       lists = queue_leaves w _ refl c.look_directory.ensures.places;
       ready = subst (λ (x : Windows). IsReady v (g.I.Image.device c.look_directory.new.image)
@@ -117,18 +117,18 @@ returns-in_err-inode-clause-leaves g c =
       read = err;
     })
 
-pub returns-in_err-found-clause-found : goal.returns-in_err-found-clause-found
-returns-in_err-found-clause-found g c =
-    let p = err_from_is_err_and c.from_residual-in_err-found.result c.from_residual-in_err-found.ensures.1 in rw p.1 tt
+pub returns-in_err-look-clause-found : goal.returns-in_err-look-clause-found
+returns-in_err-look-clause-found g c =
+    let p = err_from_is_err_and c.from_residual-in_err-look.result c.from_residual-in_err-look.ensures.1 in rw p.1 tt
 
-pub returns-in_err-found-clause-leaves : goal.returns-in_err-found-clause-leaves
-returns-in_err-found-clause-leaves g c =
+pub returns-in_err-look-clause-leaves : goal.returns-in_err-look-clause-leaves
+returns-in_err-look-clause-leaves g c =
     let v = c.args.geometry.now.layout in
     let w = c.args.workspace.now in
     let one = c.in_ok-inode.ensures.reads.read in
     let look = c.look_directory.ensures.leaves in
-    let two = c.in_err-found.ensures.leaves.read in
-    let p = err_from_is_err_and c.from_residual-in_err-found.result c.from_residual-in_err-found.ensures.1 in
+    let two = c.in_err-look.ensures.leaves.read in
+    let p = err_from_is_err_and c.from_residual-in_err-look.result c.from_residual-in_err-look.ensures.1 in
     rw (p.1, p.2) (record {
       lists = queue_leaves w _ refl c.look_directory.ensures.places;
       ready = subst (λ (x : Windows). IsReady v (g.I.Image.device c.look_directory.new.image)
@@ -139,7 +139,7 @@ returns-in_err-found-clause-leaves g c =
           c.requires.ready.ready
           (ap (λ d. d.contents) one) (ap (λ d. d.size) one) c.inode_by_part.ensures.reads.kept two.contents look.ready
           c.look_directory.ensures.words_long);
-      read = subst (λ d. Faulted d (g.I.Image.device c.look_directory.new.image) c.in_err-found.field-0.0.sector) one
+      read = subst (λ d. Faulted d (g.I.Image.device c.look_directory.new.image) c.in_err-look.field-0.0.sector) one
           two;
     })
 
@@ -150,8 +150,8 @@ returns-in_err-inode-clause-reads g c = λ b k.
     let cost = cost_of_dir c.args.geometry.now.layout b c.args.dir k.dir in
     omega (arith, one, cost)
 
-pub returns-in_err-found-clause-reads : goal.returns-in_err-found-clause-reads
-returns-in_err-found-clause-reads g c = λ b k.
+pub returns-in_err-look-clause-reads : goal.returns-in_err-look-clause-reads
+returns-in_err-look-clause-reads g c = λ b k.
     let v = c.args.geometry.now.layout in
     let number = c.args.dir in
     let one = c.inode_by_part.ensures.counted in

@@ -1,6 +1,6 @@
 use Rattle.std.proofs.Common.{option_map}
 use Rattle.ffs_layout.specs.Entry.{entry_value}
-use Rattle.ffs_pathnames.specs.Header.{dot_in, dotdot_in, dot_said, dotdot_said, shape_reported, dots_reported}
+use Rattle.ffs_pathnames.specs.Header.{dot_in, dotdot_in, dot_reported, dotdot_reported, shape_reported, dots_reported}
 use Rattle.ffs_pathnames.specs.Header.{header_reported}
 use Rattle.ffs_pathnames.proofs.Saying.{names_then, first_stops}
 use Rattle.ffs_pathnames.proofs.header.say_header.Goals as goal
@@ -22,8 +22,8 @@ returns-in_err-say_dot g c =
     names_then _ _ _ (shape_reported c.args.attr c.args.path.now c.args.header.gap c.args.header.sound)
     (dots_reported c.args.attr c.args.path.now c.args.header.number c.args.header.parent first second)
     c.from_residual-in_err-say_dot.result c.in_ok-say_shape.ensures
-    (first_stops _ _ (dot_said c.args.attr c.args.path.now c.args.header.number first (dot_in first))
-    (dotdot_said c.args.attr c.args.path.now c.args.header.parent second (dotdot_in second))
+    (first_stops _ _ (dot_reported c.args.attr c.args.path.now c.args.header.number first (dot_in first))
+    (dotdot_reported c.args.attr c.args.path.now c.args.header.parent second (dotdot_in second))
     c.from_residual-in_err-say_dot.result c.from_residual-in_err-say_dot.ensures.0 c.in_err-say_dot.ensures)
 
 pub returns : goal.returns
@@ -34,6 +34,6 @@ returns g c =
     names_then _ _ _ (shape_reported c.args.attr c.args.path.now c.args.header.gap c.args.header.sound)
     (dots_reported c.args.attr c.args.path.now c.args.header.number c.args.header.parent first second)
     _ c.in_ok-say_shape.ensures
-    (names_then _ _ _ (dot_said c.args.attr c.args.path.now c.args.header.number first (dot_in first))
-    (dotdot_said c.args.attr c.args.path.now c.args.header.parent second (dotdot_in second))
+    (names_then _ _ _ (dot_reported c.args.attr c.args.path.now c.args.header.number first (dot_in first))
+    (dotdot_reported c.args.attr c.args.path.now c.args.header.parent second (dotdot_in second))
     _ c.in_ok-say_dot.ensures c.say_dotdot.ensures)

@@ -136,8 +136,8 @@ returns-clause-text g c =
 pub returns-clause-holds : goal.returns-clause-holds
 returns-clause-holds g c = λ b k. let now = c.loop-number.invariant.before b k in (now.claims, now.survey)
 
-pub returns-clause-unread : goal.returns-clause-unread
-returns-clause-unread g c = λ none.
+pub returns-clause-unchecked : goal.returns-clause-unchecked
+returns-clause-unchecked g c = λ none.
     let first = c.first_checked-first in
     let below : first.result < inodes_of c.args.geometry.now.layout = omega arith in
     absurd (both_ways _ (none first.result first.ensures.range.0 below) (first.ensures.found below))

@@ -8,7 +8,7 @@ use Rattle.ffs_volume.specs.Directories.PathnameCheck.{directory_lines, pathname
 use Rattle.ffs_volume.specs.Directories.Volumes.{volume_of}
 use Rattle.ffs_volume.specs.Encodings.Kinds.{is_dir_kind}
 use Rattle.ffs_workspace.specs.Lengths.{inodes_of}
-use Rattle.ffs_pathnames.specs.Before.{root_said}
+use Rattle.ffs_pathnames.specs.Before.{root_reported}
 use Rattle.ffs_pathnames.proofs.Carrying.{at_fault, goes_is, root_kind_is, root_marked_is, tree_is, tree_lines}
 use Rattle.ffs_volume.specs.Report.Reads.{line_reads}
 use Rattle.ffs_pathnames.proofs.CostLaws.{lines_long}
@@ -30,7 +30,7 @@ returns-in_err-report_root-clause-text g c =
     let w = c.args.workspace.now in
     let all = λ (b : List ℕ). map of_tree (pathname_lines (volume_of v b)) in
     rw (p.1, p.2) (of_stops _ all (λ b. map of_tree (tree_lines v b (is_dir_kind c.index-kind.result.now))) _
-    (map of_tree (root_said c.index-kind.result.now c.index-marked.result.now)) _ _ _ (of_begins _ all _)
+    (map of_tree (root_reported c.index-kind.result.now c.index-marked.result.now)) _ _ _ (of_begins _ all _)
     (λ b k. tree_is v b w _ _ (is_dir_kind c.index-kind.result.now)
     (root_kind_is v c.args.workspace.now _ c.args.geometry.now.sound c.requires.made c.index-kind.ensures)
     (root_marked_is v c.args.workspace.now _ c.args.geometry.now.sound c.requires.made c.index-marked.ensures)
@@ -46,7 +46,7 @@ returns-in-Stop-clause-text g c =
     let v = c.args.geometry.now.layout in
     let w = c.args.workspace.now in
     let all = λ (b : List ℕ). map of_tree (pathname_lines (volume_of v b)) in
-    of_says _ all (λ b. []) _ (map of_tree (root_said c.index-kind.result.now c.index-marked.result.now)) _ _ _
+    of_says _ all (λ b. []) _ (map of_tree (root_reported c.index-kind.result.now c.index-marked.result.now)) _ _ _
     (of_begins _ all _)
     (λ b k. tree_is v b w _ _ false
     (root_kind_is v c.args.workspace.now _ c.args.geometry.now.sound c.requires.made c.index-kind.ensures)
@@ -68,7 +68,7 @@ returns-in_err-check_inodes-in-Go-clause-text g c =
     let all = λ (b : List ℕ). map of_tree (pathname_lines (volume_of v b)) in
     let part = λ (b : List ℕ). map of_tree (lines_from (directory_lines (volume_of v b)) 2 (inodes_of v - 2)) in
     rw (p.1, p.2) (of_fault (Unit {0}) (Unit {0}) _ part part (λ b. []) _ _ _ _ c.in_err-check_inodes-in-Go.field-0.0
-    (of_says _ all part _ (map of_tree (root_said c.index-kind.result.now c.index-marked.result.now)) _ _ _
+    (of_says _ all part _ (map of_tree (root_reported c.index-kind.result.now c.index-marked.result.now)) _ _ _
     (of_begins _ all _)
     (λ b k. tree_is v b w _ _ true
     (root_kind_is v c.args.workspace.now _ c.args.geometry.now.sound c.requires.made c.index-kind.ensures)
@@ -93,7 +93,7 @@ returns-in_ok-check_inodes-in-Go-clause-text g c =
     let all = λ (b : List ℕ). map of_tree (pathname_lines (volume_of v b)) in
     let part = λ (b : List ℕ). map of_tree (lines_from (directory_lines (volume_of v b)) 2 (inodes_of v - 2)) in
     of_part _ part part (λ b. []) _ _ _ _
-    (of_says _ all part _ (map of_tree (root_said c.index-kind.result.now c.index-marked.result.now)) _ _ _
+    (of_says _ all part _ (map of_tree (root_reported c.index-kind.result.now c.index-marked.result.now)) _ _ _
     (of_begins _ all _)
     (λ b k. tree_is v b w _ _ true
     (root_kind_is v c.args.workspace.now _ c.args.geometry.now.sound c.requires.made c.index-kind.ensures)
@@ -118,7 +118,7 @@ returns-in_err-check_inodes-in-Go-clause-reads g c = λ b k numbered.
     let w = c.args.workspace.now in
     let kind = c.index-kind.result.now in
     let marked = c.index-marked.result.now in
-    let long = lines_long (pathname_lines (volume_of v b)) (root_said kind marked) (tree_lines v b true)
+    let long = lines_long (pathname_lines (volume_of v b)) (root_reported kind marked) (tree_lines v b true)
     (tree_is v b w kind marked true
     (root_kind_is v w _ c.args.geometry.now.sound c.requires.made c.index-kind.ensures)
     (root_marked_is v w _ c.args.geometry.now.sound c.requires.made c.index-marked.ensures) k.claims c.in-Go.ensures) in
@@ -133,7 +133,7 @@ returns-in_ok-check_inodes-in-Go-clause-reads g c = λ b k numbered.
     let w = c.args.workspace.now in
     let kind = c.index-kind.result.now in
     let marked = c.index-marked.result.now in
-    let long = lines_long (pathname_lines (volume_of v b)) (root_said kind marked) (tree_lines v b true)
+    let long = lines_long (pathname_lines (volume_of v b)) (root_reported kind marked) (tree_lines v b true)
     (tree_is v b w kind marked true
     (root_kind_is v w _ c.args.geometry.now.sound c.requires.made c.index-kind.ensures)
     (root_marked_is v w _ c.args.geometry.now.sound c.requires.made c.index-marked.ensures) k.claims c.in-Go.ensures) in

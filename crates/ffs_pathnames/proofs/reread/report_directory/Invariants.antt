@@ -18,7 +18,7 @@ use Rattle.ffs_volume.specs.Report.Reads.{line_reads}
 use Rattle.ffs_names.specs.Costs.{to_read, HoldsReading}
 use Rattle.ffs_workspace.specs.Places.{AreNoted}
 use Rattle.ffs_pathnames.specs.Costs.{report_reads}
-use Rattle.ffs_pathnames.proofs.second_look.report_directory.Given as goal
+use Rattle.ffs_pathnames.proofs.reread.report_directory.Given as goal
 
 abbrev pub invariant-chunks : goal.invariant-chunks
 invariant-chunks g l =

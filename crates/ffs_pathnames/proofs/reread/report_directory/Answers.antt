@@ -24,7 +24,7 @@ use Rattle.ffs_volume.specs.Report.Reads.{line_reads}
 use Rattle.ffs_names.specs.Costs.{to_read}
 use Rattle.ffs_names.proofs.DirCosts.{runs_are}
 use Rattle.ffs_pathnames.proofs.CostLaws.{lines_long, reported_on, same_long}
-use Rattle.ffs_pathnames.proofs.second_look.report_directory.Goals as goal
+use Rattle.ffs_pathnames.proofs.reread.report_directory.Goals as goal
 
 pub chunks-init : goal.chunks-init
 chunks-init g c =
@@ -82,7 +82,7 @@ returns-in_err-offset-clause-leaves g c =
       image = subst (λ d. Faulted d (g.I.Image.device c.next.new.image) c.in_err-offset.field-0.0.sector) inv.device
           read.leaves.read;
       survey = leaves_more _ _ _ inv.survey
-          (windows_leave c.chunks.workspace (with_chunk c.chunks.workspace c.next.new.blocks c.next.new.data) refl);
+          (windows_leave c.chunks.workspace (with_chunk c.chunks.workspace c.next.new.blocks c.next.new.window) refl);
       places = inv.places;
       ready = ready_read _ _ _ c.chunks.workspace _ _ inv.ready.ready read.leaves.read.contents
           (rw inv.geometry at read.leaves.ready);
@@ -106,7 +106,7 @@ returns-clause-leaves g c =
     record {
       image = read.leaves.read ∙ inv.device;
       survey = leaves_more _ _ _ inv.survey
-          (windows_leave c.chunks.workspace (with_chunk c.chunks.workspace c.next.new.blocks c.next.new.data) refl);
+          (windows_leave c.chunks.workspace (with_chunk c.chunks.workspace c.next.new.blocks c.next.new.window) refl);
       places = inv.places;
       ready = ready_next _ _ _ c.chunks.workspace _ _ _ inv.ready read.leaves.read
           (rw inv.geometry at read.leaves.ready);
@@ -122,7 +122,7 @@ chunks-preserved g c =
     let m = marks_of c.chunks.workspace in
     let m' = marks_of c.report_chunk.new.workspace in
     let same = ok.leaves.image ∙ (read.leaves.read ∙ inv.device) in
-    let between = with_chunk c.chunks.workspace c.next.new.blocks c.next.new.data in
+    let between = with_chunk c.chunks.workspace c.next.new.blocks c.next.new.window in
     let kept : LeavesSurvey c.args.workspace.now between =
     leaves_more _ _ _ inv.survey (windows_leave c.chunks.workspace between refl) in
     let know = λ (b : List ℕ)
@@ -179,7 +179,7 @@ returns-in_err-report_chunk-clause-text g c =
     let inv = c.chunks.invariant in
     let read = c.in_ok-offset.ensures in
     let m = marks_of c.chunks.workspace in
-    let between = with_chunk c.chunks.workspace c.next.new.blocks c.next.new.data in
+    let between = with_chunk c.chunks.workspace c.next.new.blocks c.next.new.window in
     let kept : LeavesSurvey c.args.workspace.now between =
     leaves_more _ _ _ inv.survey (windows_leave c.chunks.workspace between refl) in
     let know = λ (b : List ℕ)
@@ -213,7 +213,7 @@ returns-in_err-report_chunk-clause-leaves g c =
     let inv = c.chunks.invariant in
     let left = c.in_err-report_chunk.ensures.leaves in
     let kept = leaves_more _ _ _ inv.survey
-    (windows_leave c.chunks.workspace (with_chunk c.chunks.workspace c.next.new.blocks c.next.new.data) refl) in
+    (windows_leave c.chunks.workspace (with_chunk c.chunks.workspace c.next.new.blocks c.next.new.window) refl) in
     let p = err_from_is_err_and c.from_residual-in_err-report_chunk.result
     c.from_residual-in_err-report_chunk.ensures.1 in
     rw (p.1, p.2) (record {
@@ -260,7 +260,7 @@ returns-in_err-report_chunk-clause-reads g c = λ b k noted.
     let inv = c.chunks.invariant in
     let read = c.in_ok-offset.ensures in
     let m = marks_of c.chunks.workspace in
-    let between = with_chunk c.chunks.workspace c.next.new.blocks c.next.new.data in
+    let between = with_chunk c.chunks.workspace c.next.new.blocks c.next.new.window in
     let kept : LeavesSurvey c.args.workspace.now between =
     leaves_more _ _ _ inv.survey (windows_leave c.chunks.workspace between refl) in
     let know = knows_on v (g.I.Image.device c.args.image.now).contents (g.I.Image.device c.next.new.image).contents
