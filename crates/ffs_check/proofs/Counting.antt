@@ -27,7 +27,7 @@ writes_none (Refused fault) old new c e = e
 writes_none (ReadFault sector) old new c e = e
 writes_none WriteFault old new c e = absurd (cc)
 
--- where a run is cut short, one read had failed, or the memory was refused
+-- where a check is cut short, one read had failed, or the memory was refused
 cut_reads : (image image' : Device) (name : List ℕ) (sector : Option ℕ) (text said : List Message) (line : Message)
     (end : End) → IsCutShort image image' name sector text said line end →
     ReadsFailed end image.failures image'.failures × ReadsFailed WriteFault image.failures image'.failures

@@ -1,4 +1,4 @@
--- Laws of the ways in which a run ends: after an opening, at an output, and where more is known.
+-- Laws of the ways in which a check ends: after an opening, at an output, and where more is known.
 use Rattle.std.proofs.Common.{◌≡◌, ◌⊎◌, inl, inr, refl, sym, ◌∙◌, subst, ap, true, false, List, [], ◌∷◌, ◌++◌, append_assoc, append-nil}
 use Rattle.std.specs.Borrow.{GName}
 use Rattle.ffs_image.specs.Device.{Device}
@@ -20,34 +20,34 @@ line_after a b c said line fault_end end p (inl went) = inl (said_then a b c sai
 line_after a b c said line fault_end end p (inr broke) =
     inr (record { between = b; went_out = p; broke_off = broke.0 }, broke.1)
 
-module _ (image image' : Device) (before text : List Message) (IsEnd IsEnd' : End → Type 0)
-    (IsCut IsCut' : List Message → Message → End → Type 0) (end : End) (a b c : Progress) (p : Said a b before)
-    (to_end : Said a c (before ++ text) → IsEnd end → IsEnd' end)
-    (to_cut : (said : List Message) (line : Message) (e : End) → IsCut said line e → IsCut' (before ++ said) line e)
+module _ (image image' : Device) (earlier text : List Message) (IsEnd IsEnd' : End → Type 0)
+    (IsCut IsCut' : List Message → Message → End → Type 0) (end : End) (a b c : Progress) (p : Said a b earlier)
+    (to_end : Said a c (earlier ++ text) → IsEnd end → IsEnd' end)
+    (to_cut : (said : List Message) (line : Message) (e : End) → IsCut said line e → IsCut' (earlier ++ said) line e)
   where
-    -- the messages before a text are put before what went out of it
+    -- the messages before a text come first, and then what went out of it
     pub ends_after : Ends Said Stopped image image' b c text IsEnd IsCut end →
-        Ends Said Stopped image image' a c (before ++ text) IsEnd' IsCut' end
+        Ends Said Stopped image image' a c (earlier ++ text) IsEnd' IsCut' end
     ends_after (inl all) = inl (record {
       no_read_failed = all.no_read_failed;
-      went_out = said_then a b c before text p all.went_out;
-      end_is = to_end (said_then a b c before text p all.went_out) all.end_is;
+      went_out = said_then a b c earlier text p all.went_out;
+      end_is = to_end (said_then a b c earlier text p all.went_out) all.end_is;
     })
     ends_after (inr (inl short)) = inr (inl (record {
-      said = before ++ short.said;
+      said = earlier ++ short.said;
       line = short.line;
       fault_end = short.fault_end;
       cut = to_cut short.said short.line short.fault_end short.cut;
       ends = elim short.ends [
         | inl went ↦ inl (
-          subst (λ ms. Said a c ms) (sym (append_assoc before short.said (short.line ∷ [])))
-              (said_then a b c before (short.said ++ (short.line ∷ [])) p went.0),
+          subst (λ ms. Said a c ms) (sym (append_assoc earlier short.said (short.line ∷ [])))
+              (said_then a b c earlier (short.said ++ (short.line ∷ [])) p went.0),
           went.1,
         )
         | inr broke ↦ inr (
           record {
             between = broke.0.between;
-            went_out = said_then a b broke.0.between before short.said p broke.0.went_out;
+            went_out = said_then a b broke.0.between earlier short.said p broke.0.went_out;
             broke_off = broke.0.broke_off;
           },
           broke.1,
@@ -56,7 +56,7 @@ module _ (image image' : Device) (before text : List Message) (IsEnd IsEnd' : En
     }))
     ends_after (inr (inr part)) = inr (inr (record {
       no_read_failed = part.no_read_failed;
-      broke_off = stopped_after a b c before text p part.broke_off;
+      broke_off = stopped_after a b c earlier text p part.broke_off;
       end_is = part.end_is;
     }))
 
@@ -112,8 +112,8 @@ module _ (image image' : Device) (text : List Message) (IsEnd IsEnd' : End → T
   }))
 
 -- where more is known of the end and of the cut
-pub ends_known : {C : Type 0} (whole broken : C → C → List Message → Type 0) (image image' : Device) (old new : C)
-    (text : List Message) (IsEnd IsEnd' : End → Type 0) (IsCut IsCut' : List Message → Message → End → Type 0)
+pub ends_known : {Sent : Type 0} (whole broken : Sent → Sent → List Message → Type 0) (image image' : Device)
+    (old new : Sent) (text : List Message) (IsEnd IsEnd' : End → Type 0) (IsCut IsCut' : List Message → Message → End → Type 0)
     (end : End) → (IsEnd end → IsEnd' end) →
     ((said : List Message) (line : Message) (e : End) → IsCut said line e → IsCut' said line e) →
     Ends whole broken image image' old new text IsEnd IsCut end →

@@ -1,4 +1,4 @@
--- How what the phases answered is reported, and how a run so ends.
+-- How what the phases answered is reported, and how a check so ends.
 use Rattle.std.specs.Prelude.{IfOk}
 use Rattle.std.proofs.Common.{◌≡◌, inl, inr, refl, ◌∙◌, sym, ap, subst, ℕ, Bool, true, false, not, ◌&&◌, ◌||◌, List, []}
 use Rattle.std.proofs.Common.{◌∷◌, ◌++◌, ◌<◌, length, append-nil, Option, Some, None, Result, Ok, Err}
@@ -19,7 +19,7 @@ use Rattle.ffs_report.specs.declared.fault.RunFault.{RunFault}
 use Rattle.ffs_report.specs.declared.fault.RunFault.TheVariants.{Read, Out}
 use Rattle.ffs_pathnames.specs.declared.pass2.Root.{Root}
 use Rattle.ffs_pathnames.specs.RootAnswers.{is_go}
-use Rattle.ffs_check.specs.PhaseEnds.{EndsAs, IsCutByRead, IsEndByRoot, PrintsPhases, ReportsBefore, SaysPhases, SaysReadFault}
+use Rattle.ffs_check.specs.PhaseEnds.{EndsAs, IsCutByRead, IsEndByRoot, PrintsPhases, ReportsOrStopsEarly, SaysPhases, SaysReadFault}
 use Rattle.ffs_check.proofs.EndLaws.{ends_known, ends_printed, line_after}
 
 -- what an image's bytes determine, and nothing for an image that doesn't give them
@@ -31,12 +31,7 @@ pub at_known : (contents : Option (List ℕ)) (lines : List ℕ → List Message
     contents ≡ Some bytes → at_contents contents lines ≡ lines bytes
 at_known contents lines bytes e = rw e refl
 
--- the fault of a read, as the image gives it
-pub faulted_there : (image image' : Device) (sector : ℕ) → Faulted image image' sector →
-    Faulted image image' image'.failed
-faulted_there image image' sector f = record { contents = f.contents; size = f.size; failed = refl; rose = f.rose }
-
-module _ (before : Bool) (knows : List ℕ → Type 0) (lines : List ℕ → List Message) (continues : List ℕ → Bool)
+module _ (had_defect : Bool) (knows : List ℕ → Type 0) (lines : List ℕ → List Message) (continues : List ℕ → Bool)
     (image image' : Device) (gives : ForBytes knows (IsContents image.contents)) (a b c : Progress) (end : End) where
   -- what was said and the rest, as the image's bytes determine it
   right_with : (prefix : List Message) (rest : List ℕ → List Message) →
@@ -46,9 +41,9 @@ module _ (before : Bool) (knows : List ℕ → Type 0) (lines : List ℕ → Lis
       ap (λ more. prefix ++ more) (at_known image.contents rest bytes (gives bytes k)) ∙ right bytes k
 
   -- all was said
-  whole : (root : Root) → ReportsBefore knows lines a b (Ok root) → image' ≡ image →
-      ForBytes knows (λ bytes. is_go root ≡ continues bytes) → EndsAs before b c (Ok root) end →
-      SaysPhases before knows lines continues image image' a c end
+  whole : (root : Root) → ReportsOrStopsEarly knows lines a b (Ok root) → image' ≡ image →
+      ForBytes knows (λ bytes. is_go root ≡ continues bytes) → EndsAs had_defect b c (Ok root) end →
+      SaysPhases had_defect knows lines continues image image' a c end
   whole root p none_failed by_root e = record {
     text = p.messages;
     right = λ bytes k. sym (append-nil p.messages) ∙ p.right bytes k;
@@ -58,7 +53,7 @@ module _ (before : Bool) (knows : List ℕ → Type 0) (lines : List ℕ → Lis
       end_is = record {
         continued = is_go root;
         by_root = by_root;
-        end_is = e.1 ∙ ap (λ to. end_by (is_go root) (before || to.defect)) (sym e.0);
+        end_is = e.1 ∙ ap (λ to. end_by (is_go root) (had_defect || to.defect)) (sym e.0);
       };
     });
   }
@@ -67,7 +62,7 @@ module _ (before : Bool) (knows : List ℕ → Type 0) (lines : List ℕ → Lis
   cut : (sector : ℕ) (prefix : List Message) (rest : List ℕ → List Message) →
       ForBytes knows (λ bytes. prefix ++ rest bytes ≡ lines bytes) →
       ForBytes knows (λ bytes. 0 < length (rest bytes)) → Said a b prefix → Faulted image image' sector →
-      SaysReadFault b c sector end → SaysPhases before knows lines continues image image' a c end
+      SaysReadFault b c sector end → SaysPhases had_defect knows lines continues image image' a c end
   cut sector prefix rest right more said f reported = record {
     text = prefix ++ at_contents image.contents rest;
     right = right_with prefix rest right;
@@ -91,7 +86,7 @@ module _ (before : Bool) (knows : List ℕ → Type 0) (lines : List ℕ → Lis
   -- the output failed
   part : (prefix : List Message) (rest : List ℕ → List Message) →
       ForBytes knows (λ bytes. prefix ++ rest bytes ≡ lines bytes) → Stopped a b prefix → image' ≡ image →
-      c ≡ b → end ≡ WriteFault → SaysPhases before knows lines continues image image' a c end
+      c ≡ b → end ≡ WriteFault → SaysPhases had_defect knows lines continues image image' a c end
   part prefix rest right stopped none_failed same e = record {
     text = prefix ++ at_contents image.contents rest;
     right = right_with prefix rest right;
@@ -103,9 +98,9 @@ module _ (before : Bool) (knows : List ℕ → Type 0) (lines : List ℕ → Lis
     }));
   }
 
-  pub ran : (r : Result Root RunFault) → ReportsBefore knows lines a b r → ImageAfter image image' r →
-      IfOk r (λ root. ForBytes knows (λ bytes. is_go root ≡ continues bytes)) → EndsAs before b c r end →
-      SaysPhases before knows lines continues image image' a c end
+  pub ran : (r : Result Root RunFault) → ReportsOrStopsEarly knows lines a b r → ImageAfter image image' r →
+      IfOk r (λ root. ForBytes knows (λ bytes. is_go root ≡ continues bytes)) → EndsAs had_defect b c r end →
+      SaysPhases had_defect knows lines continues image image' a c end
   ran (Ok root) p none_failed by_root e = whole root p none_failed by_root e
   ran (Err (Read fault)) p f by_root e =
       cut fault.sector p.prefix.messages p.rest p.prefix.right p.more p.prefix.said f e
@@ -134,11 +129,11 @@ cut_known knows known text image image' said line end more c = record {
   end_is = c.end_is;
 }
 
-pub ran_known : (before : Bool) (knows known : List ℕ → Type 0) (lines : List ℕ → List Message)
+pub ran_known : (had_defect : Bool) (knows known : List ℕ → Type 0) (lines : List ℕ → List Message)
     (continues : List ℕ → Bool) (image image' : Device) (a b : Progress) (end : End) → ForBytes knows known →
-    SaysPhases before known lines continues image image' a b end →
-    SaysPhases before knows lines continues image image' a b end
-ran_known before knows known lines continues image image' a b end more ran = record {
+    SaysPhases had_defect known lines continues image image' a b end →
+    SaysPhases had_defect knows lines continues image image' a b end
+ran_known had_defect knows known lines continues image image' a b end more ran = record {
   text = ran.text;
   right = λ bytes k. ran.right bytes (more bytes k);
   ends = ends_known Said Stopped image image' a b ran.text _ _ _ _ end
@@ -147,27 +142,27 @@ ran_known before knows known lines continues image image' a b end more ran = rec
 }
 
 -- what a report said that had just begun went to its output
-pub prints_phases : (before : Bool) (reported : List Message) → before ≡ has_defect reported →
+pub prints_phases : (had_defect : Bool) (earlier : List Message) → had_defect ≡ has_defect earlier →
     (knows : List ℕ → Type 0) (lines : List ℕ → List Message) (continues : List ℕ → Bool) (image image' : Device)
     (output : GName) (sink : Sink) (new : Progress) (end : End) →
-    SaysPhases before knows lines continues image image' (starts output sink) new end →
-    PrintsPhases reported knows lines continues image image' sink new.sink end
-prints_phases before reported e knows lines continues image image' output sink new end ran = record {
+    SaysPhases had_defect knows lines continues image image' (starts output sink) new end →
+    PrintsPhases earlier knows lines continues image image' sink new.sink end
+prints_phases had_defect earlier e knows lines continues image image' output sink new end ran = record {
   text = ran.text;
   right = ran.right;
-  ends = ends_printed image image' ran.text (IsEndByRoot knows continues (before || new.defect)) _
+  ends = ends_printed image image' ran.text (IsEndByRoot knows continues (had_defect || new.defect)) _
       (IsCutByRead knows ran.text image image') end output sink new
       (λ said is_end. end_known knows knows continues _ _ end (λ bytes k. k)
-      (ap (λ defect. before || defect) said.defect ∙ ap (λ b. b || has_defect ran.text) e
-      ∙ sym (has_defect-append reported ran.text)) is_end) ran.ends;
+      (ap (λ defect. had_defect || defect) said.defect ∙ ap (λ b. b || has_defect ran.text) e
+      ∙ sym (has_defect-append earlier ran.text)) is_end) ran.ends;
 }
 
-pub prints_at : (reported : List Message) (knows : List ℕ → Type 0) (lines : List ℕ → List Message)
+pub prints_at : (earlier : List Message) (knows : List ℕ → Type 0) (lines : List ℕ → List Message)
     (continues : List ℕ → Bool) (image image' : Device) (out at at' : Sink) (end : End) → at ≡ at' →
-    PrintsPhases reported knows lines continues image image' out at end →
-    PrintsPhases reported knows lines continues image image' out at' end
-prints_at reported knows lines continues image image' out at at' end e prints =
-    subst (λ to. PrintsPhases reported knows lines continues image image' out to end) e prints
+    PrintsPhases earlier knows lines continues image image' out at end →
+    PrintsPhases earlier knows lines continues image image' out at' end
+prints_at earlier knows lines continues image image' out at at' end e prints =
+    subst (λ to. PrintsPhases earlier knows lines continues image image' out to end) e prints
 
 -- the settings of an accepted superblock report a defect where one of them isn't what it may be
 settings_defect : (a b : Bool) (x y : Message) → is_defect x ≡ true → is_defect y ≡ true → (xs : List Message) →

@@ -1,7 +1,8 @@
--- The headline, of a run after an accepted superblock.
+-- The headline, of a check after an accepted superblock.
 use Rattle.std.proofs.Common.{◌≡◌, inl, inr, refl, ◌∙◌, sym, ap, subst, ℕ, Bool, true, false, ◌||◌, List, [], ◌∷◌, ◌++◌}
 use Rattle.std.proofs.Common.{append_assoc, Option, Ok}
 use Rattle.ffs_image.specs.Device.{Device, ForContents}
+use Rattle.ffs_image.proofs.Devices.{faulted_there}
 use Rattle.ffs_volume.specs.declared.SuperFault.{SuperFault}
 use Rattle.ffs_volume.specs.declared.End.{End}
 use Rattle.ffs_volume.specs.declared.End.TheVariants.{Consistent, Defects, Refused, RootStop, ReadFault, WriteFault}
@@ -26,7 +27,7 @@ use Rattle.ffs_check.specs.PhaseEnds.{SaysRest}
 use Rattle.ffs_check.specs.Headline.{is_completed, opened_lines, Headline, IsCutShort, IsEndOfReport}
 use Rattle.ffs_check.proofs.EndLaws.{broke_in_line, ends_after, ends_printed, line_after}
 use Rattle.ffs_check.proofs.Openings.{found_of, unfailed_of}
-use Rattle.ffs_check.proofs.Endings.{at_contents, at_known, faulted_there}
+use Rattle.ffs_check.proofs.Endings.{at_contents, at_known}
 use Rattle.ffs_check.proofs.Headlines.{whole_there, defect_there, end_of_there, end_there, completed_by, certifies}
 
 module _ (image : Device) (name : List ℕ) (sector : Option ℕ) (output : GName) (sink : Sink) (s : Superblock)
@@ -132,7 +133,7 @@ found_ends image on image' name sector output sink p new found end o f =
     (subst (λ r. Said (starts output sink) p (opening_lines name sector r)) o.ends.1 o.ends.0) image' new end
     (subst (λ d. SaysRest (superblock_in found) d image' p new end) (unfailed_of image on sector (superblock_in found) answers) f)
 
--- a run after an accepted superblock doesn't refuse it
+-- a check after an accepted superblock doesn't refuse it
 not_by : (on defect : Bool) (fault : SuperFault) → end_by on defect ≡ Refused fault → ⊥
 not_by true true fault e = (let w : Defects ≡ Refused fault = e in cc)
 not_by true false fault e = (let w : Consistent ≡ Refused fault = e in cc)

@@ -30,7 +30,7 @@ use Rattle.ffs_check.proofs.Endings.{at_contents, at_known}
 no_defect_head : (name : List ℕ) (sector : Option ℕ) (xs : List Message) → has_defect (head_lines name sector ++ xs)
     ≡ has_defect xs
 no_defect_head name None xs = refl
-no_defect_head name (Some at) xs = refl
+no_defect_head name (Some sector) xs = refl
 
 report_there : (bytes name : List ℕ) (sector : Option ℕ) (found : Result Superblock SuperFault) →
     found ≡ outcome bytes sector → head_lines name sector ++ lines_by_outcome bytes found ≡ report_of bytes name sector
@@ -126,7 +126,7 @@ whole_right image name sector bytes t = ap (λ more. head_lines name sector ++ m
     ∙ report_there bytes name sector (outcome bytes sector) refl
 
 module _ (image image' : Device) (name : List ℕ) (sector : Option ℕ) (output : GName) (sink : Sink) (p : Progress) where
-  -- ---- the opening ended the run
+  -- ---- the opening ended the check
   refused : (fault : SuperFault) → ReadsSuper image image' sector (Err fault) →
       Said (starts output sink) p (opening_lines name sector (Err fault)) →
       Headline image image' name sector sink p.sink (Refused fault)

@@ -1,4 +1,4 @@
--- How the phases of a run join: a part of the text, and then the rest of it.
+-- How the phases of a check join: a part of the text, and then the rest of it.
 use Rattle.std.specs.Prelude.{OnOk}
 use Rattle.std.proofs.Common.{◌≡◌, refl, ℕ, List, ◌++◌, Result, Ok, Err}
 use Rattle.ffs_image.specs.Device.{Device}

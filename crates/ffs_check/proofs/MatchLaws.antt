@@ -12,7 +12,7 @@ use Rattle.clap.specs.declared.builder.value_parser.ValueParser.{ValueParser}
 use Rattle.clap.specs.declared.error.Error.{Error}
 use Rattle.clap.specs.declared.error.kind.ErrorKind.TheVariants.{OutOfMemory}
 use Rattle.clap.proofs.OnLiterals.{clap_on_literals}
-use Rattle.ffs_check.specs.Words.{IsSector, program}
+use Rattle.ffs_check.specs.CommandWords.{IsSector, program}
 
 pub simple : is_simple program ≡ true
 unfolding clap_on_literals
@@ -52,7 +52,7 @@ pub parsed : (a b : Arg) (q : ValueParser) → b ≡ record a { value_parser = b
     → rule_of b ≡ record (rule_of a) { parser = Some q }
 parsed a b q others is = ap rule_of others ∙ ap (λ p. record (rule_of a) { parser = p }) is
 
--- an error where the words are taken is for want of memory
+-- an error where the words are taken says that memory was refused
 pub memory_alone : (kinds : Kinds) (e : Error) → kinds ≡ [] → HasKind kinds e → kind_of e ≡ OutOfMemory
 memory_alone kinds e none has = elim has [
   | inl memory ↦ memory

@@ -14,9 +14,9 @@ abbrev pub is_set : ℕ → Bool
 is_set byte = nat_lt 0 byte
 
 -- one byte more that isn't NUL
-pub goes_on : (xs : List ℕ) (i : ℕ) → i ≤ prefix_len is_set xs → i < length xs → 0 < get_or xs i 0 →
+pub one_byte_more : (xs : List ℕ) (i : ℕ) → i ≤ prefix_len is_set xs → i < length xs → 0 < get_or xs i 0 →
     i + 1 ≤ prefix_len is_set xs
-goes_on xs i h inside set = elim (cases_lt i (prefix_len is_set xs)) [
+one_byte_more xs i h inside set = elim (cases_lt i (prefix_len is_set xs)) [
   | inl less ↦ omega arith
   | inr more ↦
       let same : prefix_len is_set xs ≡ i = omega arith in

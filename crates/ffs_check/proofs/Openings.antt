@@ -31,12 +31,12 @@ found_there contents sector b e = rw e refl
 -- where a superblock was accepted, nothing was read in vain
 pub unfailed_of : (image image' : Device) (sector : Option ℕ) (s : Superblock) → ReadsSuper image image' sector (Ok s) →
     image' ≡ image
-unfailed_of image image' sector s (inl unread) = absurd unread.0.0
+unfailed_of image image' sector s (inl failed) = absurd failed.0.0
 unfailed_of image image' sector s (inr read) = read.0
 
 pub found_of : (image image' : Device) (sector : Option ℕ) (s : Superblock) → ReadsSuper image image' sector (Ok s) →
     ForContents image.contents (λ bytes. Ok s ≡ outcome bytes sector)
-found_of image image' sector s (inl unread) = absurd unread.0.0
+found_of image image' sector s (inl failed) = absurd failed.0.0
 found_of image image' sector s (inr read) = read.1
 
 module _ (image : Device) (name : List ℕ) (sector : Option ℕ) (old head : Progress) where

@@ -1,4 +1,4 @@
--- Where phase 2 answers a fault: messages are to come, also where the run stops after the root.
+-- Where phase 2 answers a fault: messages are to come, also where the check stops after the root.
 use Rattle.std.proofs.Common.{◌≡◌, ◌<◌, ◌⊎◌, inl, inr, ℕ, Bool, true, if◌then◌else◌, List, [], ◌∷◌, ◌++◌, length, map}
 use Rattle.std.proofs.Common.{Err}
 use Rattle.ffs_volume.specs.declared.Class.{Class}
@@ -16,10 +16,10 @@ use Rattle.ffs_report.specs.declared.fault.RunFault.{RunFault}
 use Rattle.ffs_report.specs.declared.fault.RunFault.TheVariants.{Read, Out}
 use Rattle.ffs_report.proofs.Reporting.{of_says, of_fault, reports_knowing}
 use Rattle.ffs_pathnames.specs.RootAnswers.{AtReadFault}
-use Rattle.ffs_check.specs.PhaseEnds.{ReportsBefore}
+use Rattle.ffs_check.specs.PhaseEnds.{ReportsOrStopsEarly}
 use Rattle.ffs_check.proofs.Stages.{Stage, falls, some_more, more_after}
 
--- a root that is no directory has a line, and after a directory the run continues
+-- a root that is no directory has a line, and after a directory the check continues
 some_root : (v : Volume) (c : Class) (lines : Bool → List TreeMessage) (rest : Bool → List Message)
     → 0 < length (rest true) →
     0 < length (map of_tree (root_lines_of v c ++ lines (is_directory c)) ++ rest (is_directory c))
@@ -35,7 +35,7 @@ unfolding pathname_lines root_lines
 root_or_more v rest h = some_root v (v.class 2) (λ on. if on then lines_below (directory_lines v) v.count else [])
     rest h
 
--- phase 2 answered a fault: its heading alone was said, or the run continues after the root
+-- phase 2 answered a fault: its heading alone was said, or the check continues after the root
 pub falls_root : (T E : Type 0) (first known : List ℕ → Type 0) (goes : List ℕ → Bool)
     (rest lines rest' all : List ℕ → List Message) (heading : Message) (a b c : Progress) (fault : RunFault) →
     ForBytes first (λ bytes. goes bytes ≡ true → 0 < length (rest' bytes)) →
@@ -43,7 +43,7 @@ pub falls_root : (T E : Type 0) (first known : List ℕ → Type 0) (goes : List
     Stage first known rest all a b → ForBytes known (λ bytes. rest bytes ≡ heading ∷ (lines bytes ++ rest' bytes)) →
     PhaseReports {T = T} known (λ bytes. heading ∷ lines bytes) b c (Err fault) →
     AtReadFault {T = T} (Err fault) (Said b c (heading ∷ []) ⊎ ForBytes known (λ bytes. goes bytes ≡ true)) →
-    ReportsBefore {T = E} first all a c (Err fault)
+    ReportsOrStopsEarly {T = E} first all a c (Err fault)
 falls_root T E first known goes rest lines rest' all heading a b c (Read fault) more some s e p (inl said) = record {
   rest = λ bytes. lines bytes ++ rest' bytes;
   prefix = of_says first rest (λ bytes. lines bytes ++ rest' bytes) all (heading ∷ []) a b c s.said

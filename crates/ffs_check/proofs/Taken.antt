@@ -20,7 +20,7 @@ use Rattle.ffs_check.specs.Taken.{AsksMemory, Takes, TakesOfSystem, TakesWorkspa
 
 accepted_by : (image image' : Device) (sector : Option ℕ) (s : Superblock) → ReadsSuper image image' sector (Ok s) →
     ForContents image.contents (λ bytes. outcome bytes sector ≡ Ok s)
-accepted_by image image' sector s (inl unread) = absurd unread.0.0
+accepted_by image image' sector s (inl failed) = absurd failed.0.0
 accepted_by image image' sector s (inr read) = λ bytes t. sym (read.1 bytes t)
 
 pub takes : (image on : Device) (name : List ℕ) (sector : Option ℕ) (start p : Progress) (found : Super)
@@ -42,7 +42,7 @@ not_by false defect e = (let w : RootStop ≡ NoMemory = e in cc)
 not_broken : WriteFault ≡ NoMemory → ⊥
 not_broken e = (let w : WriteFault ≡ NoMemory = e in cc)
 
--- phases that have run don't end for want of memory
+-- phases that have run don't end as `NoMemory`
 pub not_for_memory : (knows : List ℕ → Type 0) (lines : List ℕ → List Message) (continues : List ℕ → Bool)
     (image image' : Device) (old new : Progress) (end : End) →
     SaysPhases false knows lines continues image image' old new end → end ≡ NoMemory → ⊥

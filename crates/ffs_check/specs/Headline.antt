@@ -15,7 +15,7 @@ use Rattle.ffs_report.specs.Sink.{Sink}
 use Rattle.ffs_layout.specs.Super.{IsSuperSector}
 use Rattle.ffs_check.specs.Ends.{BrokeOffIn, Ends, Printed}
 
--- the end of a run that no fault and no want of memory ended
+-- the end of a check that no fault ended, and no refusal of memory
 abbrev pub is_completed : End → Bool
 is_completed Consistent = true
 is_completed Defects = true
@@ -32,62 +32,62 @@ pub record Certifies (image : List ℕ) (s : Superblock) (text : List Message) (
 
 -- the opening of an accepted superblock, through the mount line
 abbrev pub opened_lines : List ℕ → Option ℕ → Superblock → List Message
-opened_lines name sector s = head_lines name sector ++ super_lines s
+opened_lines name asked_sector s = head_lines name asked_sector ++ super_lines s
 
 -- the end of a whole report; on an accepted superblock it certifies
-pub record IsEndOfReport (image : Device) (sector : Option ℕ) (text : List Message) (end : End) : Type 0 where
+pub record IsEndOfReport (image : Device) (asked_sector : Option ℕ) (text : List Message) (end : End) : Type 0 where
   pub completed : is_completed end ≡ true
-  pub value : ForContents image.contents (λ bytes. end ≡ report_end bytes sector)
-  pub certifies : ForContents image.contents (λ bytes. (s : Superblock) → outcome bytes sector ≡ Ok s
+  pub value : ForContents image.contents (λ bytes. end ≡ report_end bytes asked_sector)
+  pub certifies : ForContents image.contents (λ bytes. (s : Superblock) → outcome bytes asked_sector ≡ Ok s
       → Certifies bytes s text end)
 
 -- a read of the superblock, or of its last copy, failed: what is said before the fault's line are the image's name and
 -- the sector, if one is asked for
-pub record IsCutAtSuper (image image' : Device) (name : List ℕ) (sector : Option ℕ) (said : List Message)
+pub record IsCutAtSuper (image image' : Device) (name : List ℕ) (asked_sector : Option ℕ) (said : List Message)
     (line : Message) (end : End) : Type 0 where
   pub faulted : Faulted image image' image'.failed
-  pub place : ForContents image.contents (λ bytes. IsSuperSector bytes sector image'.failed)
-  pub said_is : said ≡ head_lines name sector
+  pub place : ForContents image.contents (λ bytes. IsSuperSector bytes asked_sector image'.failed)
+  pub said_is : said ≡ head_lines name asked_sector
   pub line_is : line ≡ cannot_read image'.failed
   pub end_is : end ≡ Refused (CannotRead image'.failed)
 
 -- a later read failed: what is said before the fault's line is the opening, through the mount line, and whole messages
 -- of the report. Messages are missing: no read fails after the report's last one
-pub record IsCutLater (image image' : Device) (name : List ℕ) (sector : Option ℕ) (text said : List Message)
+pub record IsCutLater (image image' : Device) (name : List ℕ) (asked_sector : Option ℕ) (text said : List Message)
     (line : Message) (end : End) : Type 0 where
   pub faulted : Faulted image image' image'.failed
   pub found : Superblock
-  pub accepted : ForContents image.contents (λ bytes. outcome bytes sector ≡ Ok found)
+  pub accepted : ForContents image.contents (λ bytes. outcome bytes asked_sector ≡ Ok found)
   pub prefix : List Message
   pub rest : List Message
-  pub said_is : said ≡ opened_lines name sector found ++ prefix
+  pub said_is : said ≡ opened_lines name asked_sector found ++ prefix
   pub whole : said ++ rest ≡ text
   pub more : ForContents image.contents (λ bytes. 0 < length rest)
   pub line_is : line ≡ cannot_read image'.failed
   pub end_is : end ≡ ReadFault image'.failed
 
 -- the memory of the check is refused: what is said before that is the opening, through the mount line
-pub record IsUnstarted (image image' : Device) (name : List ℕ) (sector : Option ℕ) (said : List Message)
+pub record IsUnstarted (image image' : Device) (name : List ℕ) (asked_sector : Option ℕ) (said : List Message)
     (line : Message) (end : End) : Type 0 where
   pub no_read_failed : image' ≡ image
   pub found : Superblock
-  pub accepted : ForContents image.contents (λ bytes. outcome bytes sector ≡ Ok found)
-  pub said_is : said ≡ opened_lines name sector found
+  pub accepted : ForContents image.contents (λ bytes. outcome bytes asked_sector ≡ Ok found)
+  pub said_is : said ≡ opened_lines name asked_sector found
   pub line_is : line ≡ cannot_alloc
   pub end_is : end ≡ NoMemory
 
 -- a read failed or the memory was refused: what is said before the line that says so, that line, and the end
 abbrev pub IsCutShort : Device → Device → List ℕ → Option ℕ → List Message → List Message → Message → End → Type 0
-IsCutShort image image' name sector text said line end =
-    IsCutAtSuper image image' name sector said line end
-    ⊎ (IsCutLater image image' name sector text said line end
-    ⊎ IsUnstarted image image' name sector said line end)
+IsCutShort image image' name asked_sector text said line end =
+    IsCutAtSuper image image' name asked_sector said line end
+    ⊎ (IsCutLater image image' name asked_sector text said line end
+    ⊎ IsUnstarted image image' name asked_sector said line end)
 
 -- the headline: `text` is the whole report where the image gives its bytes. It was printed whole, or cut short by a
 -- fault, whose line was printed after it, or the output failed
-pub record Headline (image image' : Device) (name : List ℕ) (sector : Option ℕ) (out out' : Sink) (end : End)
+pub record Headline (image image' : Device) (name : List ℕ) (asked_sector : Option ℕ) (out out' : Sink) (end : End)
     : Type 0 where
   pub text : List Message
-  pub is_report : ForContents image.contents (λ bytes. text ≡ report_of bytes name sector)
-  pub ends : Ends Printed BrokeOffIn image image' out out' text (IsEndOfReport image sector text)
-      (IsCutShort image image' name sector text) end
+  pub is_report : ForContents image.contents (λ bytes. text ≡ report_of bytes name asked_sector)
+  pub ends : Ends Printed BrokeOffIn image image' out out' text (IsEndOfReport image asked_sector text)
+      (IsCutShort image image' name asked_sector text) end

@@ -1,3 +1,4 @@
+pub mod CommandWords
 pub mod Ends
 pub mod Failures
 pub mod Headline
@@ -7,4 +8,3 @@ pub mod ReadsWithin
 pub mod Rest
 pub mod Run
 pub mod Taken
-pub mod Words

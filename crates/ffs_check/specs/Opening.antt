@@ -1,4 +1,4 @@
--- What the opening of a run puts out, and its answer.
+-- What the opening of a check prints, and its answer.
 use Rattle.std.specs.Prelude.{◌≡◌, ◌⊎◌, ℕ, List, Option, Result, Ok, Err}
 use Rattle.ffs_image.specs.Device.{Device, ForContents}
 use Rattle.ffs_volume.specs.declared.SuperFault.{SuperFault}
@@ -14,52 +14,54 @@ use Rattle.ffs_layout.specs.declared.superblock.Super.{Super}
 use Rattle.ffs_layout.specs.Super.{ReadsSuper, superblock_in}
 use Rattle.ffs_check.specs.Ends.{BrokeOffIn, BrokeOffInLine, Printed}
 
--- the superblock isn't accepted, and that went out
-pub record OpeningRefused {C : Type 0} (whole : C → C → List Message → Type 0) (old new : C) (name : List ℕ)
-    (sector : Option ℕ) (found : Result Superblock SuperFault) (end : End) : Type 0 where
+-- the superblock isn't accepted, and its opening went out, with the fault
+pub record OpeningRefused {Sent : Type 0} (whole : Sent → Sent → List Message → Type 0) (old new : Sent) (name : List ℕ)
+    (asked_sector : Option ℕ) (found : Result Superblock SuperFault) (end : End) : Type 0 where
   pub fault : SuperFault
   pub found_is : found ≡ Err fault
-  pub went_out : whole old new (opening_lines name sector (Err fault))
+  pub went_out : whole old new (opening_lines name asked_sector (Err fault))
   pub end_is : end ≡ Refused fault
 
 -- no read had failed, and the output failed within the opening
-pub record OpeningBrokeOff {C : Type 0} (broken : C → C → List Message → Type 0) (image image' : Device) (old new : C)
-    (name : List ℕ) (sector : Option ℕ) (found : Result Superblock SuperFault) (end : End) : Type 0 where
+pub record OpeningBrokeOff {Sent : Type 0} (broken : Sent → Sent → List Message → Type 0) (image image' : Device)
+    (old new : Sent) (name : List ℕ) (asked_sector : Option ℕ) (found : Result Superblock SuperFault) (end : End)
+    : Type 0 where
   pub no_read_failed : image' ≡ image
-  pub found_is : ForContents image.contents (λ bytes. found ≡ outcome bytes sector)
-  pub broke_off : broken old new (opening_lines name sector found)
+  pub found_is : ForContents image.contents (λ bytes. found ≡ outcome bytes asked_sector)
+  pub broke_off : broken old new (opening_lines name asked_sector found)
   pub end_is : end ≡ WriteFault
 
 -- the output failed within the line of the superblock's fault
-pub record OpeningBrokeInLine {C : Type 0} (whole broken : C → C → List Message → Type 0) (old new : C)
-    (name : List ℕ) (sector : Option ℕ) (found : Result Superblock SuperFault) (end : End) : Type 0 where
+pub record OpeningBrokeInLine {Sent : Type 0} (whole broken : Sent → Sent → List Message → Type 0) (old new : Sent)
+    (name : List ℕ) (asked_sector : Option ℕ) (found : Result Superblock SuperFault) (end : End) : Type 0 where
   pub fault : SuperFault
   pub found_is : found ≡ Err fault
-  pub in_line : BrokeOffInLine whole broken old new (head_lines name sector) (fault_line fault)
+  pub in_line : BrokeOffInLine whole broken old new (head_lines name asked_sector) (fault_line fault)
   pub end_is : end ≡ WriteFault
 
 -- how an opening ended: with an accepted superblock, or in one of these ways
-abbrev pub OpeningEnds : {C : Type 0} → (whole broken : C → C → List Message → Type 0) → Device → Device → C → C →
-    List ℕ → Option ℕ → Result Superblock SuperFault → Result Super End → Type 0
-OpeningEnds whole broken image image' old new name sector found (Ok super) =
-    whole old new (opening_lines name sector found) × (found ≡ Ok (superblock_in super))
-OpeningEnds whole broken image image' old new name sector found (Err end) =
-    OpeningRefused whole old new name sector found end
-    ⊎ (OpeningBrokeOff broken image image' old new name sector found end
-    ⊎ OpeningBrokeInLine whole broken old new name sector found end)
+abbrev pub OpeningEnds : {Sent : Type 0} → (whole broken : Sent → Sent → List Message → Type 0) → Device → Device →
+    Sent → Sent → List ℕ → Option ℕ → Result Superblock SuperFault → Result Super End → Type 0
+OpeningEnds whole broken image image' old new name asked_sector found (Ok super) =
+    whole old new (opening_lines name asked_sector found) × (found ≡ Ok (superblock_in super))
+OpeningEnds whole broken image image' old new name asked_sector found (Err end) =
+    OpeningRefused whole old new name asked_sector found end
+    ⊎ (OpeningBrokeOff broken image image' old new name asked_sector found end
+    ⊎ OpeningBrokeInLine whole broken old new name asked_sector found end)
 
--- a superblock or a fault was found as the image gives, and its opening was put out
-pub record OpeningOf {C : Type 0} (whole broken : C → C → List Message → Type 0) (image image' : Device) (old new : C)
-    (name : List ℕ) (sector : Option ℕ) (result : Result Super End) : Type 0 where
+-- a superblock or a fault was found as the image gives, and its opening went out
+pub record OpeningOf {Sent : Type 0} (whole broken : Sent → Sent → List Message → Type 0) (image image' : Device)
+    (old new : Sent) (name : List ℕ) (asked_sector : Option ℕ) (result : Result Super End) : Type 0 where
   pub found : Result Superblock SuperFault
-  pub answers : ReadsSuper image image' sector found
-  pub ends : OpeningEnds whole broken image image' old new name sector found result
+  pub answers : ReadsSuper image image' asked_sector found
+  pub ends : OpeningEnds whole broken image image' old new name asked_sector found result
 
--- of a report
+-- what the opening says to a report (`OpeningOf`)
 abbrev pub SaysOpening : Device → Device → Progress → Progress → List ℕ → Option ℕ → Result Super End → Type 0
-SaysOpening image image' old new name sector result = OpeningOf Said Stopped image image' old new name sector result
+SaysOpening image image' old new name asked_sector result =
+    OpeningOf Said Stopped image image' old new name asked_sector result
 
--- of an output
+-- what the opening prints to an output (`OpeningOf`)
 abbrev pub PrintsOpening : Device → Device → Sink → Sink → List ℕ → Option ℕ → Result Super End → Type 0
-PrintsOpening image image' out out' name sector result =
-    OpeningOf Printed BrokeOffIn image image' out out' name sector result
+PrintsOpening image image' out out' name asked_sector result =
+    OpeningOf Printed BrokeOffIn image image' out out' name asked_sector result

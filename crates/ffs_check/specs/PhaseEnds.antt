@@ -1,5 +1,5 @@
--- How the phases of a run end. `knows` is what is known of the image's bytes, `lines` the text that they determine, and
--- `continues` whether the run continues after the root.
+-- How the phases of a check end. `knows` is what is known of the image's bytes, `lines` the text that they determine,
+-- and `continues` whether the check continues after the root.
 use Rattle.std.specs.Prelude.{◌≡◌, ◌⊎◌, ◌<◌, ℕ, Bool, false, ◌||◌, List, [], ◌∷◌, ◌++◌, length, Result, Ok, Err}
 use Rattle.ffs_image.specs.Device.{Device, Faulted}
 use Rattle.ffs_volume.specs.declared.End.{End}
@@ -20,17 +20,17 @@ use Rattle.ffs_pathnames.specs.RootAnswers.{is_go}
 use Rattle.ffs_check.specs.Ends.{BrokeOffIn, Ends, Printed}
 
 -- a read failed before the text was complete: whole messages were said, and others were to come
-pub record SaidBefore (knows : List ℕ → Type 0) (all : List ℕ → List Message) (old new : Progress) : Type 0 where
+pub record SaidNotAll (knows : List ℕ → Type 0) (all : List ℕ → List Message) (old new : Progress) : Type 0 where
   pub rest : List ℕ → List Message
   pub prefix : SaidOf knows rest all old new
   pub more : ForBytes knows (λ bytes. 0 < length (rest bytes))
 
 -- all messages at Ok, whole ones but not all at a read's fault, a prefix of their bytes at a fault of the output
-abbrev pub ReportsBefore : {T : Type 0} → (List ℕ → Type 0) → (List ℕ → List Message) → Progress → Progress →
+abbrev pub ReportsOrStopsEarly : {T : Type 0} → (List ℕ → Type 0) → (List ℕ → List Message) → Progress → Progress →
     Result T RunFault → Type 0
-ReportsBefore knows all old new (Ok x) = SaidOf knows (λ bytes. []) all old new
-ReportsBefore knows all old new (Err (Read fault)) = SaidBefore knows all old new
-ReportsBefore knows all old new (Err (Out fault)) = StoppedOf knows all old new
+ReportsOrStopsEarly knows all old new (Ok x) = SaidOf knows (λ bytes. []) all old new
+ReportsOrStopsEarly knows all old new (Err (Read fault)) = SaidNotAll knows all old new
+ReportsOrStopsEarly knows all old new (Err (Out fault)) = StoppedOf knows all old new
 
 -- a fault's line was said, and the end is the fault's; or the output failed in it
 abbrev pub LineEnds : Progress → Progress → Message → End → End → Type 0
@@ -45,13 +45,13 @@ SaysReadFault old new sector end = LineEnds old new (cannot_read sector) (ReadFa
 abbrev pub SaysRefusal : Progress → Progress → End → Type 0
 SaysRefusal old new end = LineEnds old new cannot_alloc NoMemory end
 
--- the end that an answer of the phases makes, where a defect was reported before or not; a failed read is said
+-- the end that an answer of the phases makes, by the defects of this report and of earlier ones; a failed read is said
 abbrev pub EndsAs : Bool → Progress → Progress → Result Root RunFault → End → Type 0
-EndsAs before old new (Ok root) end = (new ≡ old) × (end ≡ end_by (is_go root) (before || old.defect))
-EndsAs before old new (Err (Read fault)) end = SaysReadFault old new fault.sector end
-EndsAs before old new (Err (Out fault)) end = (new ≡ old) × (end ≡ WriteFault)
+EndsAs had_defect old new (Ok root) end = (new ≡ old) × (end ≡ end_by (is_go root) (had_defect || old.defect))
+EndsAs had_defect old new (Err (Read fault)) end = SaysReadFault old new fault.sector end
+EndsAs had_defect old new (Err (Out fault)) end = (new ≡ old) × (end ≡ WriteFault)
 
--- the end is by whether the run continued after the root, and by whether a defect was reported
+-- the end is by whether the check continued after the root, and by whether a defect was reported
 pub record IsEndByRoot (knows : List ℕ → Type 0) (continues : List ℕ → Bool) (defect : Bool) (end : End) : Type 0 where
   pub continued : Bool
   pub by_root : ForBytes knows (λ bytes. continued ≡ continues bytes)
@@ -68,27 +68,27 @@ pub record IsCutByRead (knows : List ℕ → Type 0) (text : List Message) (imag
   pub line_is : line ≡ cannot_read sector
   pub end_is : end ≡ ReadFault sector
 
--- the phases have put out what they report of the image's bytes. `has_defect_by` says whether a defect was reported,
--- before them or in their text. There is no end for want of memory
-pub record PhasesEnd {C : Type 0} (whole broken : C → C → List Message → Type 0) (has_defect_by : List Message → Bool)
-    (knows : List ℕ → Type 0) (lines : List ℕ → List Message) (continues : List ℕ → Bool) (image image' : Device)
-    (old new : C) (end : End) : Type 0 where
+-- the messages of the phases on the image's bytes went out, or what a fault leaves of them. `has_defect_by` says of
+-- their text whether a defect was reported in it or earlier. No end is `NoMemory`
+pub record PhasesEnd {Sent : Type 0} (whole broken : Sent → Sent → List Message → Type 0)
+    (has_defect_by : List Message → Bool) (knows : List ℕ → Type 0) (lines : List ℕ → List Message)
+    (continues : List ℕ → Bool) (image image' : Device) (old new : Sent) (end : End) : Type 0 where
   pub text : List Message
   pub right : ForBytes knows (λ bytes. text ≡ lines bytes)
   pub ends : Ends whole broken image image' old new text (IsEndByRoot knows continues (has_defect_by text))
       (IsCutByRead knows text image image') end
 
--- of a report: it keeps whether it has said a defect, and a defect may have been reported before it
+-- what the phases say to a report, which keeps whether it has said a defect; an earlier report may have had one
 abbrev pub SaysPhases : Bool → (List ℕ → Type 0) → (List ℕ → List Message) → (List ℕ → Bool) → Device → Device →
     Progress → Progress → End → Type 0
-SaysPhases before knows lines continues image image' old new end =
-    PhasesEnd Said Stopped (λ text. before || new.defect) knows lines continues image image' old new end
+SaysPhases had_defect knows lines continues image image' old new end =
+    PhasesEnd Said Stopped (λ text. had_defect || new.defect) knows lines continues image image' old new end
 
--- of an output: these messages were reported before
+-- what the phases print to an output, after these earlier messages
 abbrev pub PrintsPhases : List Message → (List ℕ → Type 0) → (List ℕ → List Message) → (List ℕ → Bool) → Device →
     Device → Sink → Sink → End → Type 0
-PrintsPhases before knows lines continues image image' out out' end =
-    PhasesEnd Printed BrokeOffIn (λ text. has_defect (before ++ text)) knows lines continues image image' out out' end
+PrintsPhases earlier knows lines continues image image' out out' end =
+    PhasesEnd Printed BrokeOffIn (λ text. has_defect (earlier ++ text)) knows lines continues image image' out out' end
 
 -- what follows an accepted superblock: the memory of the check was refused, and that was said; or its phases have run
 abbrev pub SaysRest : Superblock → Device → Device → Progress → Progress → End → Type 0

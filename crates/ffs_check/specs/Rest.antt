@@ -51,7 +51,7 @@ from_phase4 image s = phase4_part image s ++ from_phase5 image s
 abbrev pub from_phase3 : List ℕ → Superblock → List Message
 from_phase3 image s = phase3_part image s ++ from_phase4 image s
 
--- the same, where the run continues after the root
+-- the same, where the check continues after the root
 abbrev pub after_phase2 : Bool → List ℕ → Superblock → List Message
 after_phase2 goes image s = if goes then from_phase3 image s else []
 
@@ -63,12 +63,12 @@ from_phase2 image s = phase2_part image s ++ after_phase2 (continues_after_root 
 abbrev pub from_phase1b : List ℕ → Superblock → List Message
 from_phase1b image s = phase1b_part image s ++ from_phase2 image s
 
--- where the phases begin: the image gives the bytes, and the workspace holds nothing yet
-abbrev pub IsBegun : Layout → Device → Workspace → List ℕ → Type 0
-IsBegun v d w bytes = IsContents d.contents bytes × IsFresh v w
+-- before phase 1: the image gives the bytes, and the workspace holds nothing yet
+abbrev pub IsBeforePhase1 : Layout → Device → Workspace → List ℕ → Type 0
+IsBeforePhase1 v d w bytes = IsContents d.contents bytes × IsFresh v w
 
 -- after phase 1: the image gives the bytes, and the workspace holds what the block check found, and whether it looks
 -- again
-abbrev pub IsScanned : Layout → Device → Workspace → List ℕ → Type 0
-IsScanned v d w bytes = IsContents d.contents bytes × HoldsPhase1 v bytes w
+abbrev pub IsAfterPhase1 : Layout → Device → Workspace → List ℕ → Type 0
+IsAfterPhase1 v d w bytes = IsContents d.contents bytes × HoldsPhase1 v bytes w
     × (has_dups w ≡ has_rescan v (owners_of v bytes))

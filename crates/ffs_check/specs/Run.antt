@@ -12,7 +12,7 @@ use Rattle.ffs_report.specs.Sink.{Sink, Took, BrokeOff}
 use Rattle.ffs_check.specs.Headline.{Headline}
 use Rattle.ffs_check.specs.ReadsWithin.{ReadsWithin}
 use Rattle.ffs_check.specs.Taken.{TakesOfSystem}
-use Rattle.ffs_check.specs.Words.{AskFor, LacksMemory, refusals}
+use Rattle.ffs_check.specs.CommandWords.{AskFor, LacksMemory, refusals}
 
 -- the line where the image can't be opened
 abbrev pub unopened_text : List ℕ → List ℕ
@@ -34,8 +34,8 @@ pub record IsChecked (I : Type 0) (device : I → Device) (reads : I → ℕ) (o
   pub within : ReadsWithin (device image) name sector (reads image) (reads image')
   pub status_is : status ≡ status_of end
 
--- no image could be opened under a name
-pub record IsUnopened (refuses : List ℕ → OpenFault → Type 0) (name : List ℕ) (out out' : Sink)
+-- no image could be opened under a name, and that was printed
+pub record IsOpenFailure (refuses : List ℕ → OpenFault → Type 0) (name : List ℕ) (out out' : Sink)
     (status : ℕ) : Type 0 where
   pub fault : OpenFault
   pub refused : refuses name fault
@@ -46,7 +46,7 @@ pub record IsUnopened (refuses : List ℕ → OpenFault → Type 0) (name : List
 abbrev pub CheckedBy : {I : Type 0} → (I → Device) → (reads : I → ℕ) → (List ℕ → I → Type 0)
     → (List ℕ → OpenFault → Type 0) → List ℕ → Option ℕ → Sink → Sink → ℕ → Type 0
 CheckedBy {I} device reads opens refuses name sector out out' status =
-    IsChecked I device reads opens name sector out out' status ⊎ IsUnopened refuses name out out' status
+    IsChecked I device reads opens name sector out out' status ⊎ IsOpenFailure refuses name out out' status
 
 -- the words ask for an image and a sector, and that image was checked at that sector, or couldn't be opened
 pub record RunsAsAsked (I : Type 0) (device : I → Device) (reads : I → ℕ) (opens : List ℕ → I → Type 0)
@@ -97,7 +97,7 @@ FlushedAfter was_flushed contents old new ran_status status =
     IsUnprinted old new ran_status status ⊎ IsFlushed was_flushed contents old new ran_status status
 
 -- the same over a writer, which is flushed after the run
-pub record RanOver {I S : Type 0} (device : I → Device) (reads : I → ℕ) (opens : List ℕ → I → Type 0)
+pub record RunEndsFlushed {I S : Type 0} (device : I → Device) (reads : I → ℕ) (opens : List ℕ → I → Type 0)
     (refuses : List ℕ → OpenFault → Type 0) (was_flushed : S → Result (Unit {0}) Error → S → Type 0)
     (contents : S → Option (List ℕ)) (words : List (List ℕ)) (old new : S) (status : ℕ) : Type 0 where
   pub out : Sink

@@ -17,21 +17,21 @@ AsksMemory old new bytes = Granted old new bytes ⊎ GaveUp old new bytes
 
 -- what the workspace of an accepted volume holds was granted and no byte more, which is within the limit, or a request
 -- was refused
-pub record TakesWorkspace (image : Device) (sector : Option ℕ) (old new : Account) : Type 0 where
+pub record TakesWorkspace (image : Device) (asked_sector : Option ℕ) (old new : Account) : Type 0 where
   pub found : Superblock
-  pub accepted : ForContents image.contents (λ bytes. outcome bytes sector ≡ Ok found)
+  pub accepted : ForContents image.contents (λ bytes. outcome bytes asked_sector ≡ Ok found)
   pub asked : AsksMemory old new (held_of found.layout)
   pub within : held_of found.layout ≤ held_limit found.layout
 
 -- nothing was taken, or the workspace of an accepted volume
 abbrev pub Takes : Device → Option ℕ → Account → Account → Type 0
-Takes image sector old new = (new ≡ old) ⊎ TakesWorkspace image sector old new
+Takes image asked_sector old new = (new ≡ old) ⊎ TakesWorkspace image asked_sector old new
 
 -- a check took from the memory of the system, of which nothing was granted before, what it takes of any memory; and it
--- ended for want of memory only where that memory refused a request
-pub record TakesOfSystem (image : Device) (sector : Option ℕ) (end : End) : Type 0 where
+-- ended as `NoMemory` only where that memory refused a request
+pub record TakesOfSystem (image : Device) (asked_sector : Option ℕ) (end : End) : Type 0 where
   pub memory : SystemMemory
   pub memory' : SystemMemory
   pub begun : account_of memory ≡ unused
-  pub takes : Takes image sector (account_of memory) (account_of memory')
+  pub takes : Takes image asked_sector (account_of memory) (account_of memory')
   pub refused : end ≡ NoMemory → RefusedOneMore (account_of memory) (account_of memory')

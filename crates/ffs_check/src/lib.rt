@@ -1,9 +1,9 @@
 //! The whole check of an image of a UFS1 file system, after fsck(8): its opening, its phases, its
 //! end, and its arguments.
 //!
-//! `check` prints the report of an image and returns how the run ends. `Headline` is its contract:
-//! the whole report where no read and no write fails and the memory is granted, else what the
-//! clause says a fault leaves of it. `check_rest` is the same after the mount line.
+//! `check` prints the report of an image and returns how the check ends. `Headline` is its
+//! contract: the whole report where no read and no write fails and the memory is granted, else what
+//! the clause says a fault leaves of it. `check_rest` is the same after the mount line.
 //!
 //! ```text
 //! let end = check(alloc, &mut image, &args, &mut out);
@@ -14,10 +14,10 @@
 #![tactic(auto)]
 
 pub mod args;
-mod arguments;
 pub mod check;
 pub mod opener;
 pub mod opening;
+mod parse_args;
 pub mod rest;
 pub mod run;
 pub mod version;

@@ -42,7 +42,7 @@ fn main(rt: HostRuntime) -> ExitCode {
 /// limits, or nothing where the arguments name none.
 ///
 /// # Errors
-/// An image that can't be opened, want of memory, and standard output that failed.
+/// An image that can't be opened, memory that was refused, and standard output that failed.
 fn count_all(rt: &HostRuntime) -> io::Result<Option<bool>> {
     let arguments: Vec<String> = env::args(rt)?.skip(1).collect(rt.alloc())?;
     let Some(words) = Words::of(arguments.as_slice()) else {

@@ -31,7 +31,7 @@ impl Table {
     /// Counts the reads of the image in a file.
     ///
     /// # Errors
-    /// The file can't be opened, and want of memory.
+    /// The file can't be opened, and memory that was refused.
     pub fn of(rt: &HostRuntime, name: &str, sector: Option<u32>) -> io::Result<Table> {
         let alloc = rt.alloc();
         let mut image = open(rt, name)?;

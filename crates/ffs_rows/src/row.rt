@@ -30,7 +30,7 @@ impl Row {
     /// Reads the row of a line of the list: its name, its status, and the sector that is asked for.
     ///
     /// # Errors
-    /// A file of the row that can't be read, and want of memory.
+    /// A file of the row that can't be read, and memory that was refused.
     pub fn read(rt: &HostRuntime, line: &str) -> io::Result<Row> {
         let mut words = line.split_whitespace();
         let name = String::from_str(rt.alloc(), words.next().unwrap_or(""))?;
@@ -74,7 +74,7 @@ impl Row {
     /// The status of the program's run over the row's image in a file, which prints to `out`.
     ///
     /// # Errors
-    /// The file can't be written, and want of memory.
+    /// The file can't be written, and memory that was refused.
     pub fn run_over_file<S: Write>(&self, rt: &HostRuntime, out: &mut S) -> io::Result<u8> {
         fs::write(rt, "t.img", self.image.as_slice())?;
         let mut errors = Vec::new(rt.alloc());

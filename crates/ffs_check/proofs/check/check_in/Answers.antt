@@ -16,13 +16,13 @@ returns-in-Err-clause-headline g c =
 
 pub returns-in-Ok-clause-headline : goal.returns-in-Ok-clause-headline
 returns-in-Ok-clause-headline g c =
-    headline_at _ _ _ _ _ (g.W.Output.sink c.check_found.new.report.out.now) _ _ (search rules)
+    headline_at _ _ _ _ _ (g.W.Output.sink c.check_accepted.new.report.out.now) _ _ (search rules)
     (found_ends _ _ _ _ _ _ (g.W.Output.sink c.args.out.now) (progress g.W.Output.sink c.say_opening.new.report)
-    (progress g.W.Output.sink c.check_found.new.report) c.in-Ok.superblock _
-    (rw c.new-report.ensures at c.in-Ok.ensures.opened) c.check_found.ensures.followed)
+    (progress g.W.Output.sink c.check_accepted.new.report) c.in-Ok.superblock _
+    (rw c.new-report.ensures at c.in-Ok.ensures.opened) c.check_accepted.ensures.followed)
 
 pub returns-in-Ok-clause-unreadable : goal.returns-in-Ok-clause-unreadable
-returns-in-Ok-clause-unreadable g c at e = absurd (not_refused _ _ _ _ _ _ _ c.check_found.ensures.followed e)
+returns-in-Ok-clause-unreadable g c at e = absurd (not_refused _ _ _ _ _ _ _ c.check_accepted.ensures.followed e)
 
 pub returns-in-Err-clause-failures : goal.returns-in-Err-clause-failures
 returns-in-Err-clause-failures g c = record {
@@ -38,7 +38,7 @@ returns-in-Ok-clause-failures g c = record {
 
 pub returns-in-Ok-clause-memory : goal.returns-in-Ok-clause-memory
 returns-in-Ok-clause-memory g c =
-    inr (takes _ _ _ _ _ _ c.in-Ok.superblock _ _ c.in-Ok.ensures.opened c.check_found.ensures.asked)
+    inr (takes _ _ _ _ _ _ c.in-Ok.superblock _ _ c.in-Ok.ensures.opened c.check_accepted.ensures.asked)
 
 pub returns-in-Err-clause-memory : goal.returns-in-Err-clause-memory
 returns-in-Err-clause-memory g c = inl refl
@@ -52,4 +52,4 @@ returns-in-Err-clause-reads g c = opened_within _ _ _ _ _ c.in-Err.ensures.reads
 pub returns-in-Ok-clause-reads : goal.returns-in-Ok-clause-reads
 returns-in-Ok-clause-reads g c =
     found_within _ _ _ _ _ _ c.in-Ok.superblock _ _ _ c.in-Ok.ensures.opened c.in-Ok.ensures.reads
-    c.check_found.ensures.reads
+    c.check_accepted.ensures.reads

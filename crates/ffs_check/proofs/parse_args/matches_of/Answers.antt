@@ -4,8 +4,8 @@ use Rattle.clap.specs.Words.{App, FailsBy, HasMatchesOf, Text, app_of, fault_of,
 use Rattle.clap.specs.declared.error.Error.{Error}
 use Rattle.clap.specs.declared.parser.matches.ArgMatches.{ArgMatches}
 use Rattle.ffs_check.proofs.MatchLaws.{free, memory_alone, simple}
-use Rattle.ffs_check.specs.Words.{AreRefusedBy, HasMatches, LacksMemory, program}
-use Rattle.ffs_check.proofs.arguments.matches_of.Goals as goal
+use Rattle.ffs_check.specs.CommandWords.{AreRefusedBy, HasMatches, LacksMemory, program}
+use Rattle.ffs_check.proofs.parse_args.matches_of.Goals as goal
 
 -- what `clap` answers of a program says so of these words
 answered : (a : App) (words : List Text) (r : Result ArgMatches Error) → a ≡ program →

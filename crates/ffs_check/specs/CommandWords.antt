@@ -9,7 +9,7 @@ use Rattle.clap.specs.declared.error.Error.{Error}
 use Rattle.clap.specs.declared.error.kind.ErrorKind.TheVariants.{OutOfMemory}
 use Rattle.clap.specs.declared.parser.matches.ArgMatches.{ArgMatches}
 
--- `-n` or `-N`, each as often as one likes: one of them has to be there
+-- `-n` or `-N` (the letters 110 and 78), each as often as one likes: one of them has to be there
 abbrev pub read_only_rule : Rule
 read_only_rule = record (new_rule (codes "no")) {
   short = Some 110;
@@ -18,7 +18,7 @@ read_only_rule = record (new_rule (codes "no")) {
   required = true;
 }
 
--- `-b sector`, once: a sector of 512 bytes
+-- `-b sector` (the letter 98), once: a sector of 512 bytes
 abbrev pub sector_rule : Rule
 sector_rule = record (new_rule (codes "sector")) {
   short = Some 98;
@@ -44,7 +44,8 @@ program = with_rule (with_rule (with_rule unnamed read_only_rule) sector_rule) i
 abbrev pub refusals : List Text → Kinds
 refusals words = fault_of program words
 
--- memory was refused while `clap` read the words. It is shut: what asks `clap` says so, and nothing else can
+-- memory was refused while `clap` read the words. No definition can say when, so the body is ⊤, and `unfoldable` hides
+-- it: only `matches_of`, which calls `clap`, unfolds it, so no other function can claim it
 unfoldable pub LacksMemory : List Text → Type 0
 LacksMemory words = ⊤
 

@@ -1,8 +1,8 @@
 use Rattle.std.proofs.Common.{◌≡◌, ◌∙◌, ap, ap₂}
 use Rattle.std.specs.Prelude.{true}
 use Rattle.clap.specs.Words.{App, app_of, with_rule}
-use Rattle.ffs_check.specs.Words.{unnamed}
-use Rattle.ffs_check.proofs.arguments.command.Goals as goal
+use Rattle.ffs_check.specs.CommandWords.{unnamed}
+use Rattle.ffs_check.proofs.parse_args.command.Goals as goal
 
 pub returns : goal.returns
 returns c =

@@ -4,8 +4,8 @@ use Rattle.std.specs.Str.Parse.{ParsesUnsigned, ExplainsUnsignedError, HasUnsign
 use Rattle.clap.specs.Words.{first_of, found_of, matches_of, one_of}
 use Rattle.clap.proofs.WalkLemmas.{first_value-rows, one_text-rows}
 use Rattle.ffs_check.proofs.MatchLaws.{sector_read, text_or}
-use Rattle.ffs_check.specs.Words.{program}
-use Rattle.ffs_check.proofs.arguments.parse_args.Goals as goal
+use Rattle.ffs_check.specs.CommandWords.{program}
+use Rattle.ffs_check.proofs.parse_args.parse_args.Goals as goal
 
 pub returns : goal.returns
 returns c =

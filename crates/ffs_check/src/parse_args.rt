@@ -2,15 +2,15 @@
 ghost use Rattle.std.specs.Prelude.{◌≡◌, false, map, IfOk, MatchResult};
 ghost use Rattle.clap.specs.Words.{app_of, kind_of, rule_of};
 ghost use Rattle.clap.specs.declared.error.kind.ErrorKind.TheVariants.{OutOfMemory};
-ghost use Rattle.ffs_check.specs.Words.{AreRefusedBy, AskFor, HasMatches, image_rule, read_only_rule};
-ghost use Rattle.ffs_check.specs.Words.{program, sector_rule};
+ghost use Rattle.ffs_check.specs.CommandWords.{AreRefusedBy, AskFor, HasMatches, image_rule, read_only_rule};
+ghost use Rattle.ffs_check.specs.CommandWords.{program, sector_rule};
 
 use crate::args::Args;
 use crate::version::VERSION;
 use clap::{Arg, ArgAction, ArgMatches, Command, Error};
 use std::alloc::{AllocError, Global};
 
-/// The first sector that can't be asked for.
+/// The first sector that can't be asked for, 2^22: a sector below it begins below byte 2^31.
 const SECTOR_END: i64 = 4194304;
 
 /// `-n` or `-N`: nothing is written.
@@ -66,7 +66,7 @@ fn command<'a>(alloc: Global) -> Result<Command<'a>, Error>
 }
 
 /// Asks `clap` what the words say: the one call that may say of them that memory was refused.
-#[tactic(auto, unfolding(crate::specs::Words::LacksMemory))]
+#[tactic(auto, unfolding(crate::specs::CommandWords::LacksMemory))]
 fn matches_of<'a>(alloc: Global, words: &'a [&'a str]) -> Result<ArgMatches<'a>, Error>
     ensures { MatchResult result (HasMatches (map (λ word. word.now) words.now))
         (AreRefusedBy (map (λ word. word.now) words.now)) }
@@ -77,11 +77,11 @@ fn matches_of<'a>(alloc: Global, words: &'a [&'a str]) -> Result<ArgMatches<'a>,
 /// Parses the arguments after the program's name.
 ///
 /// # Errors
-/// Arguments that aren't `-n [-b sector] image`, a call for help or for the version, and want of
-/// memory.
+/// Arguments that aren't `-n [-b sector] image`, a call for help or for the version, and memory
+/// that was refused.
 pub fn parse_args<'a>(alloc: Global, words: &'a [&'a str]) -> Result<Args<'a>, Error>
-    // What the arguments ask for. They are refused because they are wrong, or for want of memory,
-    // where `clap` answered so.
+    // What the arguments ask for. They are refused because they are wrong, or because memory
+    // was refused, where `clap` answered so.
     ensures { MatchResult result
         (λ args. AskFor (map (λ word. word.now) words.now) args.name.now args.sector)
         (AreRefusedBy (map (λ word. word.now) words.now)) }

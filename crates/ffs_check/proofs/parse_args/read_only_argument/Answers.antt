@@ -4,7 +4,7 @@ use Rattle.clap.specs.declared.builder.arg.Arg.{Arg}
 use Rattle.clap.specs.Words.{Rule, new_rule, rule_of}
 use Rattle.clap.specs.declared.builder.ArgAction.TheVariants.{Count}
 use Rattle.ffs_check.proofs.MatchLaws.{lettered}
-use Rattle.ffs_check.proofs.arguments.read_only_argument.Goals as goal
+use Rattle.ffs_check.proofs.parse_args.read_only_argument.Goals as goal
 
 pub returns-clause-rule : goal.returns-clause-rule
 returns-clause-rule c =

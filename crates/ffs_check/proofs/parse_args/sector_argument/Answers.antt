@@ -5,7 +5,7 @@ use Rattle.clap.specs.Words.{Rule, new_rule, rule_of}
 use Rattle.clap.specs.declared.builder.ArgAction.TheVariants.{Set}
 use Rattle.clap.specs.declared.builder.value_parser.ValueParser.TheVariants.{Signed}
 use Rattle.ffs_check.proofs.MatchLaws.{parsed}
-use Rattle.ffs_check.proofs.arguments.sector_argument.Goals as goal
+use Rattle.ffs_check.proofs.parse_args.sector_argument.Goals as goal
 
 pub returns-clause-rule : goal.returns-clause-rule
 returns-clause-rule c =

@@ -5,7 +5,7 @@ use Rattle.ffs_volume.specs.Report.Whole.{phase_lines}
 use Rattle.ffs_volume.specs.Directories.Volumes.{volume_of}
 use Rattle.ffs_check.proofs.Endings.{ran_known}
 use Rattle.ffs_check.proofs.Taken.{not_for_memory}
-use Rattle.ffs_check.proofs.check.check_found.Goals as goal
+use Rattle.ffs_check.proofs.check.check_accepted.Goals as goal
 
 pub run_to_end-requires : goal.run_to_end-requires
 run_to_end-requires g c = record {
