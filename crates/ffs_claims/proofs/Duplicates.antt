@@ -24,8 +24,10 @@ use Rattle.ffs_volume.specs.Blocks.Claims.{Claims, no_claims, at_next_inode, is_
 use Rattle.ffs_volume.specs.Blocks.Claims.{after_run, after_step, after_steps, after_owner, after_owners, offer_lines}
 use Rattle.ffs_volume.specs.Blocks.Claims.{lines_of_offers, run_lines, step_lines, lines_of_steps}
 use Rattle.ffs_volume.proofs.Potentials.{cond_holds, in_range_below, count_set}
-use Rattle.ffs_volume.specs.Blocks.BlockCheck.{Offer, class_lines, count_lines, owner_lines, lines_of_owners}
-use Rattle.ffs_volume.specs.Blocks.BlockCheck.{kept_in_owners, phase1_lines, phase1b_lines, is_dup_line, has_rescan}
+use Rattle.ffs_volume.specs.Blocks.KeptOffers.{Offer}
+use Rattle.ffs_volume.specs.Blocks.BlockCheck.{class_lines, count_lines, owner_lines, lines_of_owners}
+use Rattle.ffs_volume.specs.Blocks.KeptOffers.{kept_in_owners}
+use Rattle.ffs_volume.specs.Blocks.BlockCheck.{phase1_lines, phase1b_lines, is_dup_line, has_rescan}
 use Rattle.ffs_volume.specs.Blocks.BlockCheck.{blames, first_offer_lines}
 use Rattle.ffs_volume.specs.Directories.Volumes.{is_inode_number}
 use Rattle.ffs_workspace.specs.Holds.{first_marked_at, all_claims, HoldsPhase1, HoldsClaims}

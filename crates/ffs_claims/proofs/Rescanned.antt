@@ -19,8 +19,10 @@ use Rattle.ffs_volume.specs.Blocks.Steps.{steps_of}
 use Rattle.ffs_volume.specs.Blocks.Owners.{owner_of, owners_of}
 use Rattle.ffs_volume.specs.Blocks.Claims.{Claims, no_claims, at_next_inode, is_open, is_set, after_offer, after_step}
 use Rattle.ffs_volume.specs.Blocks.Claims.{after_steps, after_owner, after_owners}
-use Rattle.ffs_volume.specs.Blocks.BlockCheck.{Offer, blames, kept_in_offers, kept_in_step, kept_in_steps}
-use Rattle.ffs_volume.specs.Blocks.BlockCheck.{kept_in_owners, first_offer_lines, phase1b_lines}
+use Rattle.ffs_volume.specs.Blocks.KeptOffers.{Offer, kept_in_offers, kept_in_step, kept_in_steps}
+use Rattle.ffs_volume.specs.Blocks.BlockCheck.{blames}
+use Rattle.ffs_volume.specs.Blocks.KeptOffers.{kept_in_owners}
+use Rattle.ffs_volume.specs.Blocks.BlockCheck.{first_offer_lines, phase1b_lines}
 use Rattle.ffs_volume.specs.Blocks.KeptSteps.{claims_before}
 use Rattle.ffs_volume.proofs.Potentials.{cond_holds}
 use Rattle.ffs_volume.specs.Encodings.Replay.{fresh_replay, cut_of, cut_at}

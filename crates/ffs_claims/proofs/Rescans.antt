@@ -9,8 +9,8 @@ use Rattle.ffs_volume.specs.declared.Step.TheVariants.{Run, Tail, Gap}
 use Rattle.ffs_volume.specs.Disk.Areas.{is_fragment_in_range, is_run_in_range}
 use Rattle.ffs_volume.specs.Blocks.Claims.{Claims, at_next_inode, is_open, is_set, after_offer, after_offers}
 use Rattle.ffs_volume.specs.Blocks.Claims.{after_step, after_steps}
-use Rattle.ffs_volume.specs.Blocks.BlockCheck.{Offer, kept_in_offers, kept_in_run, kept_in_step, kept_in_steps}
-use Rattle.ffs_volume.specs.Blocks.BlockCheck.{offer_of}
+use Rattle.ffs_volume.specs.Blocks.KeptOffers.{Offer, kept_in_offers, kept_in_run, kept_in_step, kept_in_steps}
+use Rattle.ffs_volume.specs.Blocks.KeptOffers.{offer_of}
 use Rattle.ffs_volume.specs.Encodings.Replay.{Replay, fresh_replay, cut_of, is_replay_open, replay_after_step}
 use Rattle.ffs_volume.specs.Encodings.ReplayCounts.{replay_step_by_cut}
 use Rattle.ffs_volume.proofs.Potentials.{cond_holds}

@@ -8,7 +8,7 @@ use Rattle.ffs_volume.specs.Blocks.Inodes.{inode_of}
 use Rattle.ffs_volume.specs.Blocks.Steps.{steps_of}
 use Rattle.ffs_volume.specs.Blocks.Owners.{owner_of, owners_of}
 use Rattle.ffs_volume.specs.Blocks.Claims.{Claims, no_claims, at_next_inode, after_steps, after_owner}
-use Rattle.ffs_volume.specs.Blocks.BlockCheck.{Offer}
+use Rattle.ffs_volume.specs.Blocks.KeptOffers.{Offer}
 use Rattle.ffs_volume.specs.Blocks.KeptSteps.{claims_before}
 use Rattle.ffs_volume.specs.Encodings.Replay.{fresh_replay, cut_of, cut_at}
 use Rattle.ffs_volume.proofs.CutLaws.{cut_is}

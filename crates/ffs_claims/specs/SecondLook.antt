@@ -11,7 +11,8 @@ use Rattle.ffs_volume.specs.Blocks.Claims.{Claims, no_claims, at_next_inode, is_
 use Rattle.ffs_volume.specs.Blocks.Claims.{after_step, after_owner, after_owners}
 use Rattle.ffs_volume.specs.declared.Inode.{Inode}
 use Rattle.ffs_volume.specs.Blocks.Steps.{steps_of}
-use Rattle.ffs_volume.specs.Blocks.BlockCheck.{Offer, first_offer_lines, kept_in_run, offer_of}
+use Rattle.ffs_volume.specs.Blocks.KeptOffers.{Offer, kept_in_run, offer_of}
+use Rattle.ffs_volume.specs.Blocks.BlockCheck.{first_offer_lines}
 use Rattle.ffs_volume.specs.Encodings.Replay.{Replay, is_replay_open, fresh_replay}
 use Rattle.ffs_volume.specs.Encodings.ReplayCounts.{replayed_runs, replay_step_by_cut}
 use Rattle.ffs_image.specs.Device.{Device}

@@ -7,7 +7,8 @@ use Rattle.ffs_report.proofs.Reporting.{of_begins, of_says, of_part, of_fault, o
 use Rattle.ffs_report.proofs.Reporting.{said_knows}
 use Rattle.ffs_workspace.specs.Notes.{cut_in}
 use Rattle.ffs_workspace.proofs.NoteLaws.{cut_is_noted}
-use Rattle.ffs_volume.specs.Blocks.BlockCheck.{Offer, first_offer_lines, kept_in_owners, phase1b_lines}
+use Rattle.ffs_volume.specs.Blocks.KeptOffers.{Offer, kept_in_owners}
+use Rattle.ffs_volume.specs.Blocks.BlockCheck.{first_offer_lines, phase1b_lines}
 use Rattle.ffs_volume.specs.Blocks.Claims.{no_claims}
 use Rattle.ffs_volume.specs.Blocks.Inodes.{inode_of}
 use Rattle.ffs_volume.specs.Blocks.KeptSteps.{claims_before}
