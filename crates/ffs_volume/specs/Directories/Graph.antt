@@ -46,8 +46,8 @@ reached g d = is_some (level g d)
 abbrev pub level_edge : (g : Graph) (k x s : ℕ) → Bool
 level_edge g k x s = is_value (level g s) k && edge g s x
 
--- the parent of a directory other than the root. Of one with a level it is the least directory one level above that has an
--- edge to it; of one without, the least directory that has one
+-- the parent of a directory other than the root. Of one with a level it is the least directory one level above that
+-- has an edge to it; of one without, the least directory that has one
 abbrev pub parent_by : (g : Graph) (d : ℕ) → Option ℕ → Option ℕ
 parent_by g d None = first_below (λ s. edge g s d) g.count
 parent_by g d (Some zero) = None
