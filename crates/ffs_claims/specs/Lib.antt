@@ -5,4 +5,4 @@ pub mod Reporting
 pub mod SecondLook
 pub mod Area
 pub mod Claiming
-pub mod Words
+pub mod SilentWords
