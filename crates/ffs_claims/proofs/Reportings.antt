@@ -12,7 +12,7 @@ use Rattle.ffs_workspace.specs.declared.workspace.Workspace.{Workspace}
 use Rattle.ffs_workspace.specs.Holds.{bool_at}
 use Rattle.ffs_claims.specs.Lines.{of_lines}
 use Rattle.ffs_claims.specs.Reporting.{after_first, OffersReported}
-use Rattle.ffs_claims.proofs.Goes.{range_more, lines_append}
+use Rattle.ffs_claims.proofs.StepsContinue.{range_more, lines_append}
 use Rattle.ffs_claims.proofs.Duplicates.{none_clear, none_first}
 use Rattle.ffs_report.specs.Progress.{Progress, Said}
 use Rattle.ffs_report.proofs.Reports.{said_none}

@@ -39,7 +39,7 @@ use Rattle.ffs_workspace.specs.Lengths.{inodes_of}
 use Rattle.ffs_claims.specs.Lines.{of_lines, owners_from}
 use Rattle.ffs_claims.specs.Rescan.{offers_again}
 use Rattle.ffs_claims.specs.Reporting.{after_first, OffersReported, SameClaims}
-use Rattle.ffs_claims.proofs.Goes.{range_more, lines_append}
+use Rattle.ffs_claims.proofs.StepsContinue.{range_more, lines_append}
 use Rattle.ffs_claims.proofs.Marks.{marked_total}
 use Rattle.ffs_claims.proofs.Numbers.{before_end, before_first}
 use Rattle.ffs_claims.proofs.Rescans.{inode_again}

@@ -17,7 +17,7 @@ use Rattle.ffs_volume.proofs.Potentials.{cond_holds}
 use Rattle.ffs_volume.proofs.ReplayIsKeeping.{replay_of, seen_replays, step_replays, step_few}
 use Rattle.ffs_volume.proofs.PrefixLaws.{full_offers}
 use Rattle.ffs_walk.specs.Keepings.{run_taken}
-use Rattle.ffs_claims.specs.SecondLook.{step_runs, steps_runs, step_runs_again, steps_runs_again}
+use Rattle.ffs_claims.specs.RescanRuns.{step_runs, steps_runs, step_runs_again, steps_runs_again}
 use Rattle.ffs_claims.specs.Rescan.{step_offers_again, offers_again}
 
 -- ---- the offers that are kept are the first ones

@@ -19,7 +19,7 @@ use Rattle.ffs_claims.specs.Rescan.{step_offers_again, offers_again}
 use Rattle.ffs_claims.specs.Reporting.{after_first}
 use Rattle.ffs_claims.proofs.Duplicates.{none_first, none_left, some_left}
 use Rattle.ffs_claims.proofs.Frames.{claims_none, claims_still, claims_then, ready_still, ready_read, ready_walked}
-use Rattle.ffs_claims.proofs.Looks.{looked_stopped, looked_over}
+use Rattle.ffs_claims.proofs.RescanCounts.{looked_stopped, looked_over}
 use Rattle.ffs_claims.proofs.Rewalks.{open_first, gaps_offer, offers_none, offers_stopped, lines_step, runs_next}
 use Rattle.ffs_claims.proofs.Rewalks.{Rewalking, rewalk_begins, rewalk_on, rewalk_gaps, rewalk_ends, rewalk_over}
 use Rattle.ffs_claims.proofs.Rewalks.{rewalk_said, rewalked_to}
