@@ -6,8 +6,8 @@
 //! the texts of `ffs_volume::texts` that `Messages/Texts` of the definitions gives it.
 //!
 //! A `Report` prints to an `Output`; `Counted` is one over an `Outlet`, any std writer; a `Sink` is
-//! what contracts know of an output. A `SilentWriter` passes nothing on after its first failure, and
-//! a `FuseWriter` fails after some bytes.
+//! what contracts know of an output. A `SilentWriter` passes nothing on after its first failure,
+//! and a `FuseWriter` fails after some bytes.
 //!
 //! What each phase owes is said here too: `PhaseReports` says in one clause what was printed at Ok
 //! (all lines of the phase), at a failed read (a prefix of them, in whole lines) and at a failed

@@ -132,8 +132,8 @@ impl Walk {
     /// The step that an item of the single frame means.
     fn step_in_single(&self, item: Item) -> Step
         requires { IsBelow self.now.blocks item }
-        ensures steps { (bytes : List ℕ) → item_steps (steps_at (file_blocks_of self.now) bytes 0) item
-            ≡ result ∷ [] }
+        ensures steps { (bytes : List ℕ)
+            → item_steps (steps_at (file_blocks_of self.now) bytes 0) item ≡ result ∷ [] }
         ensures fits { IsStepOf self.now.geometry.layout.frag self.now.blocks result }
     {
         match item {
