@@ -29,10 +29,10 @@ const BLOCK: [Number; 13] = [
 
 fn reported(findings: Findings) -> [bool; 4] {
     [
-        findings.magic,
-        findings.counts,
-        findings.maps,
-        findings.sums,
+        findings.magic_right,
+        findings.counts_right,
+        findings.maps_right,
+        findings.sums_right,
     ]
 }
 
@@ -64,22 +64,22 @@ fn records(summary: [u8; 4], wrong: Number) -> ([u8; 16], [u8; 1024]) {
     (record, block)
 }
 
-/// The counts of the summary and of the runs.
+/// The counts of the summary, and of stretches of free fragments.
 fn counts_of_root(alloc: Global) -> Result<([u32; 4], [u64; 9]), Fail> {
     let geometry = geometry(Order::Little)?;
     let used = used_by_root(alloc)?;
     let counts = group_counts(&geometry, &used, &kinds_of_root(), 0);
     let found = counts.summary;
     let summary = [found.dirs, found.blocks, found.inodes, found.fragments];
-    let runs = counts.runs;
-    Ok((summary, runs))
+    let frsum = counts.frsum;
+    Ok((summary, frsum))
 }
 
 #[test]
 fn counts_of_a_root(rt: HostRuntime) -> Result<(), Fail> {
-    let (summary, runs) = counts_of_root(rt.alloc())?;
+    let (summary, frsum) = counts_of_root(rt.alloc())?;
     same(&rt, &summary, &[1, 22, 29, 6]);
-    same(&rt, &runs, &[0, 0, 0, 2, 0, 0, 0, 0, 0]);
+    same(&rt, &frsum, &[0, 0, 0, 2, 0, 0, 0, 0, 0]);
     Ok(())
 }
 

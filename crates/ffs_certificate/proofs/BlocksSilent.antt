@@ -13,7 +13,8 @@ use Rattle.ffs_volume.specs.declared.Step.TheVariants.{Run, Tail, Gap}
 use Rattle.ffs_volume.specs.Disk.Areas.{is_fragment_in_range, is_reserved}
 use Rattle.ffs_volume.specs.Blocks.Owners.{Owner, fragments_of, all_steps}
 use Rattle.ffs_volume.specs.Blocks.Claims.{is_set, reserved_map, no_claims}
-use Rattle.ffs_volume.specs.Blocks.BlockCheck.{Offer, first_offer_lines, kept_in_owners, phase1_lines, phase1b_lines}
+use Rattle.ffs_volume.specs.Blocks.KeptOffers.{Offer, kept_in_owners}
+use Rattle.ffs_volume.specs.Blocks.BlockCheck.{first_offer_lines, phase1_lines, phase1b_lines}
 use Rattle.ffs_volume.specs.Consistent.BlocksRight.{is_step_in_range, times, BlocksRight}
 use Rattle.ffs_certificate.proofs.BlockLaws.{is_nil, nil_append, run_ok}
 use Rattle.ffs_certificate.proofs.OwnerLaws.{owners_say, owners_claim, Quiet, owners_parts, owners_from}

@@ -2,7 +2,7 @@
 use Rattle.std.proofs.Common.{◌≡◌, ℕ, ◌+◌, refl, ap, ◌∙◌, List, [], ◌∷◌, ◌++◌}
 use Rattle.std.specs.Prelude.{◌&&◌, if◌then◌else◌, map}
 use Rattle.ffs_volume.specs.declared.Layout.{Layout}
-use Rattle.ffs_volume.specs.Blocks.BlockCheck.{Offer}
+use Rattle.ffs_volume.specs.Blocks.KeptOffers.{Offer}
 use Rattle.ffs_volume.specs.Blocks.KeptByRule.{CountedOffer, counted_offer, OfferVerdict, offer_verdict, uncounted}
 use Rattle.ffs_certificate.proofs.KeepingOwners.{Closed, not_kept, still_closed}
 

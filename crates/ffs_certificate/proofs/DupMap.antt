@@ -4,7 +4,7 @@ use Rattle.std.specs.Prelude.{◌||◌, ◌==◌}
 use Rattle.std.specs.List.{list_any}
 use Rattle.ffs_volume.specs.declared.Layout.{Layout}
 use Rattle.ffs_volume.specs.Blocks.Claims.{Claims, is_set}
-use Rattle.ffs_volume.specs.Blocks.BlockCheck.{Offer}
+use Rattle.ffs_volume.specs.Blocks.KeptOffers.{Offer}
 
 abbrev pub has_fragment : ℕ → List Offer → Bool
 has_fragment f os = list_any (λ o. o.fragment == f) os

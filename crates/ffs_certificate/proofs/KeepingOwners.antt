@@ -11,7 +11,7 @@ use Rattle.ffs_volume.specs.declared.Step.{Step}
 use Rattle.ffs_volume.specs.declared.Step.TheVariants.{Run, Tail, Gap}
 use Rattle.ffs_volume.specs.Disk.Areas.{is_fragment_in_range, is_run_in_range, is_reserved}
 use Rattle.ffs_volume.specs.Blocks.Claims.{Claims, is_set, is_open, after_offer, after_offers, after_step}
-use Rattle.ffs_volume.specs.Blocks.BlockCheck.{kept_in_offers, kept_in_step}
+use Rattle.ffs_volume.specs.Blocks.KeptOffers.{kept_in_offers, kept_in_step}
 use Rattle.ffs_volume.specs.Blocks.KeptByRule.{CountedOffer, bad_runs_after, counted_offer, step_offers, OfferVerdict}
 use Rattle.ffs_volume.specs.Blocks.KeptByRule.{is_claimed_before, dups_of, offer_verdict, verdicts, uncounted}
 use Rattle.ffs_volume.specs.Blocks.KeptByRule.{kept_by_rule}

@@ -20,7 +20,7 @@ use Rattle.ffs_volume.specs.Blocks.Claims.{
   after_owner,
 }
 use Rattle.ffs_volume.specs.Blocks.Claims.{after_owners}
-use Rattle.ffs_volume.specs.Blocks.BlockCheck.{kept_in_steps, kept_in_owners}
+use Rattle.ffs_volume.specs.Blocks.KeptOffers.{kept_in_steps, kept_in_owners}
 use Rattle.ffs_certificate.proofs.FreshLaws.{bit}
 use Rattle.ffs_certificate.proofs.BlocksSilent.{reserved_length, reserved_bit}
 use Rattle.ffs_volume.specs.Blocks.KeptByRule.{CountedOffer, bad_runs_after, counted_offer, step_offers, offers_of_steps}

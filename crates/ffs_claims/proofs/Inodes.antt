@@ -16,7 +16,7 @@ use Rattle.ffs_report.specs.Known.{ForBytes, IsContents}
 use Rattle.ffs_report.specs.Runs.{SaidOf, StoppedOf}
 use Rattle.ffs_report.proofs.Reporting.{of_begins, of_says, of_stops}
 use Rattle.ffs_claims.specs.Lines.{of_lines, owner_with, counted_owner}
-use Rattle.ffs_claims.proofs.Goes.{lines_append, no_steps}
+use Rattle.ffs_claims.proofs.StepsContinue.{lines_append, no_steps}
 
 -- the lines of an inode's steps and of its count, once its class is reported
 abbrev pub rest_lines : Layout → ℕ → Inode → Class → Claims → List ℕ → List Message

@@ -1,7 +1,7 @@
 pub mod Frames
 pub mod Potentials
 pub mod Rescans
-pub mod Goes
+pub mod StepsContinue
 pub mod OneBit
 pub mod Inodes
 pub mod Reserved
@@ -12,10 +12,10 @@ pub mod Reportings
 pub mod Rewalks
 pub mod RunReads
 pub mod Rescanned
-pub mod Whole
+pub mod UnclaimedRuns
 pub mod PastEnd
-pub mod Looks
-pub mod LookBounds
-pub mod SecondLooks
+pub mod RescanCounts
+pub mod RescanBounds
+pub mod RescanRunLaws
 pub mod DataAreas
 pub mod WordClaims

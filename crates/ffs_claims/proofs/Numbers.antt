@@ -23,7 +23,7 @@ use Rattle.ffs_volume.specs.Encodings.Links.{start_of, start_at}
 use Rattle.ffs_workspace.specs.Holds.{has_blame, first_marked_at, all_claims}
 use Rattle.ffs_workspace.specs.Lengths.{inodes_of}
 use Rattle.ffs_claims.specs.Lines.{of_lines, owners_from}
-use Rattle.ffs_claims.proofs.Goes.{range_more, lines_append}
+use Rattle.ffs_claims.proofs.StepsContinue.{range_more, lines_append}
 
 pub before_first : (v : Layout) (bytes : List ℕ) → claims_before v bytes 2 ≡ no_claims v
 unfolding claims_before

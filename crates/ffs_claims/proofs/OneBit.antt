@@ -5,7 +5,7 @@ use Rattle.std.specs.List.{slice_index_or}
 use Rattle.ffs_volume.specs.Blocks.Claims.{is_set}
 use Rattle.ffs_maps.specs.Bits.{bits_of, AreClear, ClaimsRun}
 use Rattle.ffs_maps.specs.declared.FragmentMap.{FragmentMap}
-use Rattle.ffs_claims.proofs.Goes.{set_again}
+use Rattle.ffs_claims.proofs.StepsContinue.{set_again}
 
 clear_one : (bits : List Bool) (f : ℕ) → is_set bits f ≡ false → AreClear bits f 1
 clear_one bits f e k low = ap (λ (n : ℕ). slice_index_or bits n false) (omega arith) ∙ e

@@ -5,13 +5,14 @@ use Rattle.std.specs.List.{range_with_len, list_any, slice_index_or}
 use Rattle.ffs_volume.specs.declared.BlockMessage.{BlockMessage}
 use Rattle.ffs_volume.specs.declared.BlockMessage.TheVariants.{Dup}
 use Rattle.ffs_volume.specs.Blocks.Claims.{is_set}
-use Rattle.ffs_volume.specs.Blocks.BlockCheck.{Offer, blames, first_offer_lines, offer_of}
+use Rattle.ffs_volume.specs.Blocks.KeptOffers.{Offer, offer_of}
+use Rattle.ffs_volume.specs.Blocks.BlockCheck.{blames, first_offer_lines}
 use Rattle.ffs_maps.specs.Bits.{bits_of}
 use Rattle.ffs_workspace.specs.declared.workspace.Workspace.{Workspace}
 use Rattle.ffs_workspace.specs.Holds.{bool_at}
 use Rattle.ffs_claims.specs.Lines.{of_lines}
 use Rattle.ffs_claims.specs.Reporting.{after_first, OffersReported}
-use Rattle.ffs_claims.proofs.Goes.{range_more, lines_append}
+use Rattle.ffs_claims.proofs.StepsContinue.{range_more, lines_append}
 use Rattle.ffs_claims.proofs.Duplicates.{none_clear, none_first}
 use Rattle.ffs_report.specs.Progress.{Progress, Said}
 use Rattle.ffs_report.proofs.Reports.{said_none}

@@ -19,8 +19,10 @@ use Rattle.ffs_volume.specs.Blocks.Steps.{steps_of}
 use Rattle.ffs_volume.specs.Blocks.Owners.{owner_of, owners_of}
 use Rattle.ffs_volume.specs.Blocks.Claims.{Claims, no_claims, at_next_inode, is_open, is_set, after_offer, after_step}
 use Rattle.ffs_volume.specs.Blocks.Claims.{after_steps, after_owner, after_owners}
-use Rattle.ffs_volume.specs.Blocks.BlockCheck.{Offer, blames, kept_in_offers, kept_in_step, kept_in_steps}
-use Rattle.ffs_volume.specs.Blocks.BlockCheck.{kept_in_owners, first_offer_lines, phase1b_lines}
+use Rattle.ffs_volume.specs.Blocks.KeptOffers.{Offer, kept_in_offers, kept_in_step, kept_in_steps}
+use Rattle.ffs_volume.specs.Blocks.BlockCheck.{blames}
+use Rattle.ffs_volume.specs.Blocks.KeptOffers.{kept_in_owners}
+use Rattle.ffs_volume.specs.Blocks.BlockCheck.{first_offer_lines, phase1b_lines}
 use Rattle.ffs_volume.specs.Blocks.KeptSteps.{claims_before}
 use Rattle.ffs_volume.proofs.Potentials.{cond_holds}
 use Rattle.ffs_volume.specs.Encodings.Replay.{fresh_replay, cut_of, cut_at}
@@ -37,7 +39,7 @@ use Rattle.ffs_workspace.specs.Lengths.{inodes_of}
 use Rattle.ffs_claims.specs.Lines.{of_lines, owners_from}
 use Rattle.ffs_claims.specs.Rescan.{offers_again}
 use Rattle.ffs_claims.specs.Reporting.{after_first, OffersReported, SameClaims}
-use Rattle.ffs_claims.proofs.Goes.{range_more, lines_append}
+use Rattle.ffs_claims.proofs.StepsContinue.{range_more, lines_append}
 use Rattle.ffs_claims.proofs.Marks.{marked_total}
 use Rattle.ffs_claims.proofs.Numbers.{before_end, before_first}
 use Rattle.ffs_claims.proofs.Rescans.{inode_again}

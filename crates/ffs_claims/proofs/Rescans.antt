@@ -9,15 +9,15 @@ use Rattle.ffs_volume.specs.declared.Step.TheVariants.{Run, Tail, Gap}
 use Rattle.ffs_volume.specs.Disk.Areas.{is_fragment_in_range, is_run_in_range}
 use Rattle.ffs_volume.specs.Blocks.Claims.{Claims, at_next_inode, is_open, is_set, after_offer, after_offers}
 use Rattle.ffs_volume.specs.Blocks.Claims.{after_step, after_steps}
-use Rattle.ffs_volume.specs.Blocks.BlockCheck.{Offer, kept_in_offers, kept_in_run, kept_in_step, kept_in_steps}
-use Rattle.ffs_volume.specs.Blocks.BlockCheck.{offer_of}
+use Rattle.ffs_volume.specs.Blocks.KeptOffers.{Offer, kept_in_offers, kept_in_run, kept_in_step, kept_in_steps}
+use Rattle.ffs_volume.specs.Blocks.KeptOffers.{offer_of}
 use Rattle.ffs_volume.specs.Encodings.Replay.{Replay, fresh_replay, cut_of, is_replay_open, replay_after_step}
 use Rattle.ffs_volume.specs.Encodings.ReplayCounts.{replay_step_by_cut}
 use Rattle.ffs_volume.proofs.Potentials.{cond_holds}
 use Rattle.ffs_volume.proofs.ReplayIsKeeping.{replay_of, seen_replays, step_replays, step_few}
 use Rattle.ffs_volume.proofs.PrefixLaws.{full_offers}
 use Rattle.ffs_walk.specs.Keepings.{run_taken}
-use Rattle.ffs_claims.specs.SecondLook.{step_runs, steps_runs, step_runs_again, steps_runs_again}
+use Rattle.ffs_claims.specs.RescanRuns.{step_runs, steps_runs, step_runs_again, steps_runs_again}
 use Rattle.ffs_claims.specs.Rescan.{step_offers_again, offers_again}
 
 -- ---- the offers that are kept are the first ones

@@ -6,7 +6,8 @@ use Rattle.std.proofs.lemmas.Bool.Decides.{nat_tests}
 use Rattle.ffs_volume.specs.declared.Layout.{Layout}
 use Rattle.ffs_volume.specs.declared.Step.{Step}
 use Rattle.ffs_volume.specs.declared.Step.TheVariants.{Run, Tail, Gap}
-use Rattle.ffs_volume.specs.Blocks.BlockCheck.{Offer, first_offer_lines, offer_of}
+use Rattle.ffs_volume.specs.Blocks.KeptOffers.{Offer, offer_of}
+use Rattle.ffs_volume.specs.Blocks.BlockCheck.{first_offer_lines}
 use Rattle.ffs_volume.specs.declared.BlockMessage.{BlockMessage}
 use Rattle.ffs_volume.specs.Messages.Kinds.{Message}
 use Rattle.ffs_volume.specs.Encodings.Replay.{Replay, fresh_replay, is_replay_open}
@@ -24,11 +25,11 @@ use Rattle.ffs_workspace.specs.Lengths.{set_count}
 use Rattle.ffs_claims.specs.Lines.{of_lines}
 use Rattle.ffs_claims.specs.Rescan.{step_offers_again, offers_again}
 use Rattle.ffs_claims.specs.Reporting.{after_first, OffersReported}
-use Rattle.ffs_claims.proofs.Goes.{lines_append}
+use Rattle.ffs_claims.proofs.StepsContinue.{lines_append}
 use Rattle.ffs_claims.proofs.Reportings.{Reporting, reporting_begins, reporting_more, reporting_ends, reporting_same}
 use Rattle.ffs_claims.proofs.Reportings.{reported_from, reported_to, none_reported, first_append}
-use Rattle.ffs_claims.specs.SecondLook.{RoseBy, Rewalked, looked_at, steps_runs_again}
-use Rattle.ffs_claims.proofs.Looks.{looked_none, looked_next, gaps_looked}
+use Rattle.ffs_claims.specs.RescanRuns.{RoseBy, Rewalked, runs_until_reported, steps_runs_again}
+use Rattle.ffs_claims.proofs.RescanCounts.{looked_none, looked_next, gaps_looked}
 
 pub open_first : (cut : ℕ) → is_replay_open cut fresh_replay ≡ true
 open_first cut = one (cut == 0) refl
@@ -113,8 +114,8 @@ pub record Rewalking (v : Layout) (i cut : ℕ) (all : List Step) (r : Replay) (
     Type 0 where
   pub reported : Reporting (offers_again v i cut r R) (offers_again v i cut fresh_replay all) u w
   pub runs : w.runs_again + replayed_runs v cut r R ≤ u.runs_again + replayed_runs v cut fresh_replay all
-  pub count : RoseBy u.runs_again (w.runs_again + looked_at (bits_of w.duplicates) (steps_runs_again v i cut r R))
-      (looked_at (bits_of u.duplicates) (steps_runs_again v i cut fresh_replay all))
+  pub count : RoseBy u.runs_again (w.runs_again + runs_until_reported (bits_of w.duplicates) (steps_runs_again v i cut r R))
+      (runs_until_reported (bits_of u.duplicates) (steps_runs_again v i cut fresh_replay all))
 
 pub rewalk_begins : (v : Layout) (i cut : ℕ) (all : List Step) (r : Replay) (R : List Step) (w : Workspace) →
     r ≡ fresh_replay → R ≡ all → Rewalking v i cut all r R w w
@@ -151,8 +152,8 @@ pub rewalk_gaps : (v : Layout) (i cut : ℕ) (all : List Step) (r : Replay) (n :
     R ≡ replicate n Gap ++ R' → Rewalking v i cut all r R u w → Rewalking v i cut all r R' u w
 rewalk_gaps v i cut all r n R R' u w e t =
     let seen = ap (replayed_runs v cut r) e ∙ gaps_seen v cut r n R' in
-    let looked = ap (λ (xs : List Step). looked_at (bits_of w.duplicates) (steps_runs_again v i cut r xs)) e
-    ∙ ap (looked_at (bits_of w.duplicates)) (gaps_looked v i cut r n R') in
+    let looked = ap (λ (xs : List Step). runs_until_reported (bits_of w.duplicates) (steps_runs_again v i cut r xs)) e
+    ∙ ap (runs_until_reported (bits_of w.duplicates)) (gaps_looked v i cut r n R') in
     record {
       reported = reporting_same _ _ _ _ _ t.reported (ap (offers_again v i cut r) e ∙ gaps_offer v i cut r n R');
       runs = omega (arith, t.runs, seen);
@@ -162,7 +163,7 @@ rewalk_gaps v i cut all r n R R' u w e t =
 -- it is over where no step is left to see, and where nothing is left to report
 pub rewalk_ends : (v : Layout) (i cut : ℕ) (all : List Step) (r : Replay) (R : List Step) (u w : Workspace) →
     offers_again v i cut r R ≡ [] →
-    looked_at (bits_of w.duplicates) (steps_runs_again v i cut r R) ≡ 0 → Rewalking v i cut all r R u w →
+    runs_until_reported (bits_of w.duplicates) (steps_runs_again v i cut r R) ≡ 0 → Rewalking v i cut all r R u w →
     Rewalked v i cut all u w
 rewalk_ends v i cut all r R u w none unseen t = record {
   reported = reporting_ends _ _ _ _ t.reported none;

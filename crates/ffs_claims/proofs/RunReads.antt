@@ -1,7 +1,7 @@
 -- Reads that are paid by the Runs that phase 1b looks at.
 use Rattle.std.proofs.Common.{◌≤◌, ◌<◌, ◌+◌, ◌-◌, ◌^◌, ℕ, arith, inl, inr}
 use Rattle.std.proofs.lemmas.Bool.{cases_lt}
-use Rattle.ffs_claims.specs.SecondLook.{RunsPay}
+use Rattle.ffs_claims.specs.RescanRuns.{RunsPay}
 
 -- a step was read, with so many reads still to come, and its Run was counted; then no more are to come
 pub runs_pay_on : (reads now now' before after rest old middle new : ℕ) (more : ℕ) →

@@ -15,19 +15,19 @@ use Rattle.ffs_maps.specs.Bits.{AreClear, set_run}
 use Rattle.ffs_maps.proofs.Bits.{bits_long}
 use Rattle.ffs_walk.specs.declared.walk.Walk.{Walk}
 use Rattle.ffs_image.specs.Device.{ForContents}
-use Rattle.ffs_walk.specs.Rests.{SameExtent, most_steps_left, steps_left}
+use Rattle.ffs_walk.specs.Rests.{SameFileBlocks, most_steps_left, steps_left}
 use Rattle.ffs_walk.specs.Counts.{EntersOnly}
 use Rattle.ffs_walk.proofs.Counted.{enters_none}
 use Rattle.ffs_walk.specs.Windows.{BlocksHold}
-use Rattle.ffs_walk.specs.Words.{PassesWord, next_address, word_step}
+use Rattle.ffs_walk.specs.HeldWords.{PassesWord, next_address, word_step}
 use Rattle.ffs_workspace.specs.declared.workspace.Workspace.{Workspace}
 use Rattle.ffs_workspace.specs.Holds.{claims_of}
 use Rattle.ffs_workspace.specs.Lengths.{IsFor}
 use Rattle.ffs_claims.specs.Leaves.{ClaimsOnly}
-use Rattle.ffs_claims.specs.Words.{ClaimsSilently, ClaimsWords}
+use Rattle.ffs_claims.specs.SilentWords.{ClaimsSilently, ClaimsWords}
 use Rattle.ffs_claims.proofs.Potentials.{moves_on}
 use Rattle.ffs_claims.proofs.Frames.{only_none, only_then}
-use Rattle.ffs_claims.proofs.Whole.{whole_is}
+use Rattle.ffs_claims.proofs.UnclaimedRuns.{whole_is}
 
 -- a Run in range of which all fragments are unclaimed
 pub run_claims : (v : Layout) (s : Claims) (start block : ℕ) (used : List Bool) → is_open s ≡ true → start ≢ 0 →
@@ -71,7 +71,7 @@ lines_same v number s s' step R R' e now none = rw (e, now, none) refl
 pub words_once : (v : Layout) (a b : Workspace) (x y : Walk) (address : ℕ) → 0 < v.frag → v.frag ≤ 8 → IsFor v a →
     x.geometry.layout ≡ v → address ≡ next_address a.windows.blocks x → PassesWord a.windows.blocks x y →
     ((block : ℕ) → ClaimsSilently v (word_step v.frag address block) a b) → is_open (claims_of b) ≡ true →
-    ClaimsOnly v a b → most_steps_left y < most_steps_left x → SameExtent x y → a.runs_seen ≤ b.runs_seen → EntersOnly x y 0 → ClaimsWords v a b x y
+    ClaimsOnly v a b → most_steps_left y < most_steps_left x → SameFileBlocks x y → a.runs_seen ≤ b.runs_seen → EntersOnly x y 0 → ClaimsWords v a b x y
 words_once v a b x y address some small made layout is passes claims uncut only falls same rises counted =
     let block = x.single.first + x.single.next in
     let step = word_step v.frag address block in

@@ -27,13 +27,15 @@ pub record CanClaim (v : Layout) (d : Device) (w : Workspace) (area : DataArea) 
   pub ready : IsReady v d w
   pub only_data : IsDataArea v area
 
--- an inode can claim: it has a number, and more Runs can be counted than inodes have
+-- an inode can claim: it has a number, and more Runs can be counted than inodes have. For the count of Runs any bound
+-- far above `runs_limit`, and far below 2^64, serves
 pub record CanClaimInode (v : Layout) (d : Device) (w : Workspace) (area : DataArea) (number : ℕ) : Type 0 where
   pub claim : CanClaim v d w area
   pub number_fits : number < inodes_of v
   pub runs : w.runs_seen < 2 ^ 40
 
--- the next step of an inode can be seen: the inode isn't cut, and there is room to count its fragments and Runs
+-- the next step of an inode can be seen: the inode isn't cut, and there is room to count its fragments and Runs. Any
+-- bounds far above `runs_limit`, and far below 2^64, serve
 pub record SeesNext (v : Layout) (w : Workspace) (area : DataArea) : Type 0 where
   pub made : IsFor v w
   pub only_data : IsDataArea v area

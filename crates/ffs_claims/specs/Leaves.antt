@@ -13,7 +13,8 @@ use Rattle.ffs_workspace.specs.Holds.{claims_of, has_blame}
 use Rattle.ffs_workspace.specs.Notes.{note_of}
 use Rattle.ffs_workspace.specs.Lengths.{IsFor}
 
--- the current inode has no bad Run, no dup offer and no kept one yet, and there is room to count its Runs
+-- the current inode has no bad Run, no dup offer and no kept one yet, and there is room to count its Runs: any bound
+-- far above `runs_limit`, and far below 2^64, serves
 pub record HasBegun (w : Workspace) : Type 0 where
   pub bad : w.bad ≡ 0
   pub dups : w.dups ≡ 0

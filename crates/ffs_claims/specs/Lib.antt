@@ -2,7 +2,7 @@ pub mod Rescan
 pub mod Lines
 pub mod Leaves
 pub mod Reporting
-pub mod SecondLook
+pub mod RescanRuns
 pub mod Area
 pub mod Claiming
-pub mod Words
+pub mod SilentWords

@@ -1,6 +1,7 @@
 -- The lines of the block check, as messages of a report.
-use Rattle.std.specs.Prelude.{ℕ, ◌-◌, Bool, ◌&&◌, nat_lt, if◌then◌else◌, List, [], ◌∷◌, map}
+use Rattle.std.specs.Prelude.{ℕ, ◌+◌, ◌-◌, Bool, ◌&&◌, nat_lt, if◌then◌else◌, List, [], ◌∷◌, map}
 use Rattle.std.specs.List.{range_with_len}
+use Rattle.ffs_volume.specs.declared.constants.TheConstants.{MAXDUP}
 use Rattle.ffs_volume.specs.declared.Layout.{Layout}
 use Rattle.ffs_volume.specs.declared.Inode.{Inode}
 use Rattle.ffs_volume.specs.declared.Class.{Class}
@@ -18,9 +19,9 @@ use Rattle.ffs_workspace.specs.Lengths.{inodes_of}
 abbrev pub of_lines : List BlockMessage → List Message
 of_lines lines = map of_blocks lines
 
--- an offer is dup
+-- an offer is dup and kept: it has a DUP line
 abbrev pub is_dup : Layout → Claims → ℕ → Bool
-is_dup v s f = nat_lt s.dups 11 && (is_fragment_in_range v f && is_set s.used f)
+is_dup v s f = nat_lt s.dups (MAXDUP + 1) && (is_fragment_in_range v f && is_set s.used f)
 
 -- what is reported of a dup offer and of a bad Run, the eleventh one or not
 abbrev pub dup_lines : ℕ → ℕ → Bool → List BlockMessage

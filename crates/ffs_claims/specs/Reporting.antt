@@ -3,7 +3,8 @@ use Rattle.std.specs.Prelude.{◌≡◌, ◌≢◌, ◌<◌, ℕ, Bool, Result, 
 use Rattle.std.specs.List.{list_any}
 use Rattle.ffs_volume.specs.declared.Layout.{Layout}
 use Rattle.ffs_volume.specs.Blocks.Claims.{is_set}
-use Rattle.ffs_volume.specs.Blocks.BlockCheck.{Offer, blames, first_offer_lines}
+use Rattle.ffs_volume.specs.Blocks.KeptOffers.{Offer}
+use Rattle.ffs_volume.specs.Blocks.BlockCheck.{blames, first_offer_lines}
 use Rattle.ffs_maps.specs.Bits.{bits_of}
 use Rattle.ffs_workspace.specs.declared.workspace.Workspace.{Workspace}
 use Rattle.ffs_workspace.specs.Holds.{bool_at}

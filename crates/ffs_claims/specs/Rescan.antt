@@ -4,7 +4,7 @@ use Rattle.std.specs.List.{range_with_len}
 use Rattle.ffs_volume.specs.declared.Layout.{Layout}
 use Rattle.ffs_volume.specs.declared.Step.{Step}
 use Rattle.ffs_volume.specs.declared.Step.TheVariants.{Run, Tail, Gap}
-use Rattle.ffs_volume.specs.Blocks.BlockCheck.{Offer, offer_of}
+use Rattle.ffs_volume.specs.Blocks.KeptOffers.{Offer, offer_of}
 use Rattle.ffs_volume.specs.Encodings.Replay.{Replay, is_replay_open}
 use Rattle.ffs_volume.specs.Encodings.ReplayCounts.{replay_step_by_cut}
 use Rattle.ffs_walk.specs.Keepings.{run_taken}

@@ -59,7 +59,7 @@ impl DataArea {
 
     /// Whether a Run is in range. If so, it lies in the area from then on.
     #[inline(always)]
-    #[tactic(auto, using(crate::proofs::Whole::run_below))]
+    #[tactic(auto, using(crate::proofs::UnclaimedRuns::run_below))]
     pub fn in_range(&mut self, geometry: &Geometry, start: u32, len: u32) -> bool
         requires some { 0 < len }
         requires area { IsDataArea geometry.now.layout self.old }

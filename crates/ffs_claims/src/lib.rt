@@ -15,6 +15,7 @@
 
 mod area;
 mod claim;
+mod lines;
 mod offer;
 mod pass1;
 mod pass1b;

@@ -10,10 +10,11 @@ ghost use Rattle.ffs_report.specs.Progress.{progress, Says};
 ghost use Rattle.ffs_workspace.specs.Holds.{claims_of};
 ghost use Rattle.ffs_walk.specs.Counts.{entered};
 ghost use Rattle.ffs_claims.specs.Leaves.{AreClaims, CanOffer, HasRoomForOffers, OffersOnly};
-ghost use Rattle.ffs_claims.specs.Lines.{of_lines, is_dup, dup_lines, bad_lines};
+ghost use Rattle.ffs_claims.specs.Lines.{of_lines, is_dup};
 ghost use Rattle.ffs_claims.specs.Claiming.{ClaimsStep, SeesNext};
 
 use crate::area::DataArea;
+use crate::lines::{say_bad, say_dup};
 use ffs_layout::Geometry;
 use ffs_report::{Line, OutFault, Output, Report};
 use ffs_volume::constants::{MAXBAD, MAXDUP};
@@ -25,38 +26,6 @@ pub fn is_open(workspace: &Workspace) -> bool
     ensures { result ≡ claims.is_open (claims_of workspace.now) }
 {
     workspace.bad <= MAXBAD && workspace.dups <= MAXDUP
-}
-
-fn say_dup<W: Output>(
-    report: &mut Report<'_, W>,
-    inode: u32,
-    fragment: u32,
-    many: bool,
-) -> Result<(), OutFault>
-    ensures { Says (progress W.sink report.old) (progress W.sink report.new)
-        (of_lines (dup_lines inode fragment many)) result }
-{
-    report.say(&Line::Block(BlockMessage::Dup { fragment, inode }))?;
-    if many {
-        return report.say(&Line::Block(BlockMessage::ManyDup { inode }));
-    }
-    Ok(())
-}
-
-fn say_bad<W: Output>(
-    report: &mut Report<'_, W>,
-    inode: u32,
-    fragment: u32,
-    many: bool,
-) -> Result<(), OutFault>
-    ensures { Says (progress W.sink report.old) (progress W.sink report.new)
-        (of_lines (bad_lines inode fragment many)) result }
-{
-    report.say(&Line::Block(BlockMessage::Bad { fragment, inode }))?;
-    if many {
-        return report.say(&Line::Block(BlockMessage::ManyBad { inode }));
-    }
-    Ok(())
 }
 
 /// Whether the fragment of an offer is in range. Where `in_range` says that its Run is, the

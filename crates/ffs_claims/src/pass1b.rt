@@ -21,7 +21,7 @@ ghost use Rattle.ffs_workspace.specs.Ready.{IsReady};
 ghost use Rattle.ffs_claims.specs.Lines.{of_lines};
 ghost use Rattle.ffs_claims.specs.Rescan.{step_offers_again};
 ghost use Rattle.ffs_claims.specs.Reporting.{CanReport, CanRewalk, ReportsOnly};
-ghost use Rattle.ffs_claims.specs.SecondLook.{Counted, Rewalks, RunsPay, StepReported, second_look};
+ghost use Rattle.ffs_claims.specs.RescanRuns.{Counted, Rewalks, RunsPay, StepReported, rescan_runs};
 
 use crate::report_claim::report_run;
 use ffs_image::Image;
@@ -153,7 +153,7 @@ pub fn phase1b<I: Image, W: Output>(
     ensures count { OnOk result (ForBytes
         (λ bytes. IsContents (I.device image.old).contents bytes
         × HoldsPhase1 geometry.now.layout bytes workspace.old)
-        (λ bytes. workspace.new.runs_again ≡ second_look geometry.now.layout bytes)) }
+        (λ bytes. workspace.new.runs_again ≡ rescan_runs geometry.now.layout bytes)) }
     ensures reads { workspace.new.runs_again < 2 ^ 64 - 1 → I.reads image.new ≤ I.reads image.old
         + geometry.now.layout.ncg * geometry.now.layout.ipg + workspace.new.runs_again }
     ensures seen { workspace.new.runs_seen ≡ workspace.old.runs_seen }

@@ -1,22 +1,16 @@
 //! What is kept of each inode.
 
-ghost use Rattle.std.specs.Prelude.{◌≡◌, ◌<◌, ◌^◌, ◌||◌, false, min, slice_set, vec_len};
-ghost use Rattle.ffs_volume.specs.Blocks.BlockCheck.{class_lines, count_lines};
-ghost use Rattle.ffs_volume.specs.Blocks.Inodes.{is_file_or_dir, is_unknown};
+ghost use Rattle.std.specs.Prelude.{◌≡◌, ◌<◌, ◌||◌, false, min, slice_set, vec_len};
+ghost use Rattle.ffs_volume.specs.Blocks.Inodes.{is_unknown};
 ghost use Rattle.ffs_volume.specs.Encodings.Replay.{cut_of};
-ghost use Rattle.ffs_report.specs.Progress.{progress, Says};
 ghost use Rattle.ffs_workspace.specs.Holds.{claims_of, has_blame};
 ghost use Rattle.ffs_volume.specs.Encodings.Kinds.{kind_of};
 ghost use Rattle.ffs_volume.specs.Encodings.Links.{start_of};
 ghost use Rattle.ffs_claims.specs.Leaves.{HasInode, Stored};
-ghost use Rattle.ffs_claims.specs.Lines.{of_lines, counted_owner};
 
-use crate::offer::is_open;
-use ffs_layout::Geometry;
 use ffs_memory::FilledList;
-use ffs_report::{Line, OutFault, Output, Report};
-use ffs_volume::constants::{DEV_BSIZE, DT_DIR, EMPTY_DIR, MAXDUP, UNKNOWN_TYPE};
-use ffs_volume::{BlockMessage, Class, Inode};
+use ffs_volume::constants::{DT_DIR, EMPTY_DIR, MAXDUP, UNKNOWN_TYPE};
+use ffs_volume::{Class, Inode};
 use ffs_workspace::{Workspace, links_start, note_of};
 
 /// The next inode becomes the current one.
@@ -27,62 +21,6 @@ pub fn begin(workspace: &mut Workspace)
     workspace.dups = 0;
     workspace.kept = 0;
     workspace.tail = false;
-}
-
-/// Reports an inode of class Partial or Unknown.
-///
-/// # Errors
-/// A write of the report that failed.
-pub fn say_class<W: Output>(
-    report: &mut Report<'_, W>,
-    number: u32,
-    class: Class,
-) -> Result<(), OutFault>
-    ensures { Says (progress W.sink report.old) (progress W.sink report.new)
-        (of_lines (class_lines number class)) result }
-{
-    match class {
-        Class::Partial => report.say(&Line::Block(BlockMessage::PartAlloc { inode: number })),
-        Class::Unknown => report.say(&Line::Block(BlockMessage::UnknownType { inode: number })),
-        Class::Free | Class::File | Class::Dir => Ok(()),
-    }
-}
-
-fn is_file_or_dir(class: Class) -> bool
-    ensures { result ≡ is_file_or_dir class }
-{
-    match class {
-        Class::File | Class::Dir => true,
-        Class::Free | Class::Partial | Class::Unknown => false,
-    }
-}
-
-/// Reports an inode whose count of sectors of 512 bytes is wrong.
-///
-/// # Errors
-/// A write of the report that failed.
-pub fn say_count<W: Output>(
-    workspace: &Workspace,
-    geometry: &Geometry,
-    number: u32,
-    class: Class,
-    found: u32,
-    report: &mut Report<'_, W>,
-) -> Result<(), OutFault>
-    requires { workspace.now.kept < 2 ^ 40 }
-    ensures { Says (progress W.sink report.old) (progress W.sink report.new)
-        (of_lines (count_lines geometry.now.layout (counted_owner number class found)
-        (claims_of workspace.now))) result }
-{
-    let right = workspace.kept * (u64::from(geometry.layout.fsize) / DEV_BSIZE);
-    if is_file_or_dir(class) && is_open(workspace) && u64::from(found) != right {
-        return report.say(&Line::Block(BlockMessage::BlockCount {
-            inode: number,
-            found,
-            right,
-        }));
-    }
-    Ok(())
 }
 
 #[inline(always)]

@@ -2,11 +2,11 @@
 
 ghost use Rattle.std.specs.Prelude.{◌≡◌, ◌≤◌, false, true, IsTrue, ℕ};
 ghost use Rattle.ffs_volume.specs.Blocks.Claims.{is_open};
-ghost use Rattle.ffs_walk.specs.Words.{IsInHeldBlock, word_step};
+ghost use Rattle.ffs_walk.specs.HeldWords.{IsInHeldBlock, word_step};
 ghost use Rattle.ffs_workspace.specs.Holds.{claims_of};
 ghost use Rattle.ffs_claims.specs.Claiming.{SeesNext};
 ghost use Rattle.ffs_claims.specs.Leaves.{ClaimsOnly};
-ghost use Rattle.ffs_claims.specs.Words.{ClaimsSilently, ClaimsWords, SeesWord};
+ghost use Rattle.ffs_claims.specs.SilentWords.{ClaimsSilently, ClaimsWords, SeesWord};
 
 use crate::area::DataArea;
 use ffs_layout::Geometry;

@@ -1,4 +1,4 @@
-pub mod Places
+pub mod RecordPlaces
 pub mod ReservedCount
 pub mod Sifting
 pub mod Classes

@@ -14,7 +14,7 @@ use Rattle.ffs_volume.specs.Blocks.Claims.{is_set}
 use Rattle.ffs_volume.specs.Laws.Geometry.{IsAcceptedLayout}
 use Rattle.ffs_volume.specs.Groups.Records.{group_size}
 use Rattle.ffs_maps.proofs.Counting.{count_join_at}
-use Rattle.ffs_groups.proofs.Words.{sum_const}
+use Rattle.ffs_groups.proofs.FreeWords.{sum_const}
 
 -- ---- which fragments are reserved
 any_of : (a b k : Bool) → (a ≡ true) ⊎ (b ≡ true) → ((a || b) || k) ≡ true

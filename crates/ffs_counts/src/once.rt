@@ -97,11 +97,11 @@ pub fn say_group<W: Output>(
     ensures reported { OnOk result (reported_of once.new
         ≡ reported_after (reported_of once.old) (lines_of found.now group)) }
 {
-    if !found.magic {
+    if !found.magic_right {
         report.say(&Line::Block(BlockMessage::GroupMagic { group }))?;
-        return say_unless(report, once, found.counts, BlockMessage::FreeCounts);
+        return say_unless(report, once, found.counts_right, BlockMessage::FreeCounts);
     }
-    say_unless(report, once, found.counts, BlockMessage::FreeCounts)?;
-    say_unless(report, once, found.maps, BlockMessage::MapsWrong)?;
-    say_unless(report, once, found.sums, BlockMessage::GroupSums)
+    say_unless(report, once, found.counts_right, BlockMessage::FreeCounts)?;
+    say_unless(report, once, found.maps_right, BlockMessage::MapsWrong)?;
+    say_unless(report, once, found.sums_right, BlockMessage::GroupSums)
 }

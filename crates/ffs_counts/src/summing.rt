@@ -114,6 +114,7 @@ pub fn summary<W: Output>(
     report: &mut Report<'_, W>,
 ) -> Result<(), RunFault>
     requires { IsFor superblock.now.geometry.layout workspace.now }
+    // No image is read: this holds of any image, left as it was. No read's fault is returned.
     ensures { (device : Device) → PhaseRuns
         (λ bytes. HoldsClaims superblock.now.geometry.layout bytes workspace.now)
         (λ bytes. summary_of (superblock_in superblock.now)

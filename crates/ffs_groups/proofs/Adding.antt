@@ -7,14 +7,14 @@ use Rattle.std.specs.Int.{bit_at}
 use Rattle.std.proofs.lemmas.Nat.{mul-add-lt, mul-le, div-add-mod'}
 use Rattle.std.proofs.lemmas.List.Sums.{count_by-le-length}
 use Rattle.ffs_maps.specs.Bits.{is_clear}
-use Rattle.ffs_maps.proofs.Words.{bit_shr}
+use Rattle.ffs_maps.proofs.WordShifts.{bit_shr}
 use Rattle.ffs_maps.proofs.Counting.{sum_split}
 use Rattle.ffs_volume.specs.Groups.Records.{has_bits, is_free_block, free_stretches}
 use Rattle.ffs_groups.specs.declared.free.FreeCounts.{FreeCounts}
-use Rattle.ffs_groups.specs.Free.{word_bits, whole_in, loose_in, runs_in, AreBelow, Added, free_in}
+use Rattle.ffs_groups.specs.Free.{word_bits, whole_in, loose_in, stretches_in, AreBelow, Added, free_in}
 use Rattle.ffs_groups.proofs.Sums.{sum_more, sum_same, sum_within, map_same}
 use Rattle.ffs_groups.proofs.MapWords.{map_parts}
-use Rattle.ffs_groups.proofs.Runs.{runs_few}
+use Rattle.ffs_groups.proofs.FreeStretches.{stretches_few}
 
 from_zero : (f : ℕ → ℕ) (n m : ℕ) →
     sum_by f (range_with_len 0 (n + m)) ≡ sum_by f (range_with_len 0 n) + sum_by f (range_with_len n m)
@@ -33,14 +33,14 @@ add_up new mid old a b s e f g = omega (arith, e, f, g)
 -- one block more
 pub added_more : (bits : ℕ → List Bool) (n : ℕ) (old mid new : FreeCounts) → Added bits 0 n old mid →
     new.blocks ≡ mid.blocks + whole_in (bits n) → new.fragments ≡ mid.fragments + loose_in (bits n) →
-    ((k : ℕ) → slice_index new.runs k ≡ slice_index mid.runs k + runs_in k (bits n)) → Added bits 0 (n + 1) old new
-added_more bits n old mid new a blocks fragments runs = record {
+    ((k : ℕ) → slice_index new.frsum k ≡ slice_index mid.frsum k + stretches_in k (bits n)) → Added bits 0 (n + 1) old new
+added_more bits n old mid new a blocks fragments frsum = record {
   blocks = add_up new.blocks mid.blocks old.blocks _ (whole_in (bits n)) _ a.blocks blocks
       (one_from_zero (λ b. whole_in (bits b)) n);
   fragments = add_up new.fragments mid.fragments old.fragments _ (loose_in (bits n)) _ a.fragments fragments
       (one_from_zero (λ b. loose_in (bits b)) n);
-  runs = λ k. add_up (slice_index new.runs k) (slice_index mid.runs k) (slice_index old.runs k) _ (runs_in k (bits n)) _
-      (a.runs k) (runs k) (one_from_zero (λ b. runs_in k (bits b)) n);
+  frsum = λ k. add_up (slice_index new.frsum k) (slice_index mid.frsum k) (slice_index old.frsum k) _ (stretches_in k (bits n)) _
+      (a.frsum k) (frsum k) (one_from_zero (λ b. stretches_in k (bits b)) n);
 }
 
 joined_sums : (f : List Bool → ℕ) (bits other : ℕ → List Bool) (n m : ℕ) → ((k : ℕ) → k < m → other k ≡ bits (n + k)) →
@@ -60,8 +60,8 @@ added_join bits other n m old mid new a b same = record {
   blocks = add_up new.blocks mid.blocks old.blocks _ _ _ a.blocks b.blocks (joined_sums whole_in bits other n m same);
   fragments = add_up new.fragments mid.fragments old.fragments _ _ _ a.fragments b.fragments
       (joined_sums loose_in bits other n m same);
-  runs = λ k. add_up (slice_index new.runs k) (slice_index mid.runs k) (slice_index old.runs k) _ _ _ (a.runs k)
-      (b.runs k) (joined_sums (runs_in k) bits other n m same);
+  frsum = λ k. add_up (slice_index new.frsum k) (slice_index mid.frsum k) (slice_index old.frsum k) _ _ _ (a.frsum k)
+      (b.frsum k) (joined_sums (stretches_in k) bits other n m same);
 }
 
 whole_few : (bits : List Bool) → whole_in bits ≤ 8
@@ -78,12 +78,12 @@ loose_few bits h = go (is_free_block bits)
     go true = omega arith
     go false = omega (arith, h, count_by-le-length (λ f. f) bits)
 
-run_few : (k : ℕ) (bits : List Bool) → length bits ≤ 8 → runs_in k bits ≤ 8
-run_few k bits h = go (is_free_block bits)
+stretch_few : (k : ℕ) (bits : List Bool) → length bits ≤ 8 → stretches_in k bits ≤ 8
+stretch_few k bits h = go (is_free_block bits)
   where
     go : (b : Bool) → cond b 0 (count_by (λ n. n == k) (free_stretches 0 bits)) ≤ 8
     go true = omega arith
-    go false = omega (arith, h, runs_few k bits)
+    go false = omega (arith, h, stretches_few k bits)
 
 below_more : (new old s n limit low : ℕ) → new ≡ old + s → s ≤ n * 8 → old < low → low + 8 * n ≤ limit → new < limit
 below_more new old s n limit low e h l fits = omega arith
@@ -97,8 +97,8 @@ added_below bits n low limit old new a short l fits = record {
       (sum_within (λ b. whole_in (bits b)) 8 0 n (λ k. whole_few (bits k))) l.blocks fits;
   fragments = below_more new.fragments old.fragments _ n limit low a.fragments
       (sum_within (λ b. loose_in (bits b)) 8 0 n (λ k. loose_few (bits k) (short k))) l.fragments fits;
-  runs = λ j. below_more (slice_index new.runs j) (slice_index old.runs j) _ n limit low (a.runs j)
-      (sum_within (λ b. runs_in j (bits b)) 8 0 n (λ k. run_few j (bits k) (short k))) (l.runs j) fits;
+  frsum = λ j. below_more (slice_index new.frsum j) (slice_index old.frsum j) _ n limit low (a.frsum j)
+      (sum_within (λ b. stretches_in j (bits b)) 8 0 n (λ k. stretch_few j (bits k) (short k))) (l.frsum j) fits;
 }
 
 -- a block of a word, in the numbers of the volume
@@ -116,17 +116,17 @@ word_block free word start frag block k some has low fits =
     ∙ has (j + k * frag) inside
     ∙ ap free place)
 
-pub no_runs : (k : ℕ) → slice_index (0 ∷ 0 ∷ 0 ∷ 0 ∷ 0 ∷ 0 ∷ 0 ∷ 0 ∷ 0 ∷ []) k ≡ 0
-no_runs zero = refl
-no_runs (suc zero) = refl
-no_runs (suc (suc zero)) = refl
-no_runs (suc (suc (suc zero))) = refl
-no_runs (suc (suc (suc (suc zero)))) = refl
-no_runs (suc (suc (suc (suc (suc zero))))) = refl
-no_runs (suc (suc (suc (suc (suc (suc zero)))))) = refl
-no_runs (suc (suc (suc (suc (suc (suc (suc zero))))))) = refl
-no_runs (suc (suc (suc (suc (suc (suc (suc (suc zero)))))))) = refl
-no_runs (suc (suc (suc (suc (suc (suc (suc (suc (suc k))))))))) = refl
+pub no_stretches : (k : ℕ) → slice_index (0 ∷ 0 ∷ 0 ∷ 0 ∷ 0 ∷ 0 ∷ 0 ∷ 0 ∷ 0 ∷ []) k ≡ 0
+no_stretches zero = refl
+no_stretches (suc zero) = refl
+no_stretches (suc (suc zero)) = refl
+no_stretches (suc (suc (suc zero))) = refl
+no_stretches (suc (suc (suc (suc zero)))) = refl
+no_stretches (suc (suc (suc (suc (suc zero))))) = refl
+no_stretches (suc (suc (suc (suc (suc (suc zero)))))) = refl
+no_stretches (suc (suc (suc (suc (suc (suc (suc zero))))))) = refl
+no_stretches (suc (suc (suc (suc (suc (suc (suc (suc zero)))))))) = refl
+no_stretches (suc (suc (suc (suc (suc (suc (suc (suc (suc k))))))))) = refl
 
 pub count_start : (f : ℕ → ℕ) (n m z : ℕ) → z ≡ 0 → n ≡ m →
     z + sum_by f (range_with_len 0 n) ≡ sum_by f (range_with_len 0 m)

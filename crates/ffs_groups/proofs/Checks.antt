@@ -10,7 +10,7 @@ use Rattle.ffs_volume.specs.Groups.Records.{GroupCounts, has_summary, right_grou
 use Rattle.ffs_volume.specs.Groups.Records.{has_right_sums}
 use Rattle.ffs_layout.specs.Group.{group_summary_at}
 use Rattle.ffs_groups.specs.declared.counts.Counts.{Counts}
-use Rattle.ffs_groups.specs.Check.{AreCounts, group_counts_of, has_bits_of, same_counts, same_run}
+use Rattle.ffs_groups.specs.Check.{AreCounts, group_counts_of, has_bits_of, same_counts, same_frsum_at}
 use Rattle.ffs_groups.specs.declared.counts.SummaryCounts.{SummaryCounts}
 use Rattle.ffs_groups.specs.declared.free.FreeCounts.{FreeCounts}
 use Rattle.ffs_groups.specs.declared.inodes.InodeCounts.{InodeCounts}
@@ -30,27 +30,27 @@ summary_as v place bytes right h = rw (
   bits_are v.order (place + 12) bytes right.fragments h,
 ) refl
 
-run_as : (v : Layout) (block : List ℕ) (runs : List ℕ) (k : ℕ) → ((k : ℕ) → slice_index block k < 256) → k < 8 →
-    same_run (map (λ j. i32_at v.order (52 + 4 * j) block) (range_with_len 0 8)) runs k ≡
-    (u32_at v.order (52 + 4 * k) block == slice_index runs k)
-run_as v block runs k h l =
-    ap (λ x. has_bits_of x (slice_index runs k))
+stretch_as : (v : Layout) (block : List ℕ) (frsum : List ℕ) (k : ℕ) → ((k : ℕ) → slice_index block k < 256) → k < 8 →
+    same_frsum_at (map (λ j. i32_at v.order (52 + 4 * j) block) (range_with_len 0 8)) frsum k ≡
+    (u32_at v.order (52 + 4 * k) block == slice_index frsum k)
+stretch_as v block frsum k h l =
+    ap (λ x. has_bits_of x (slice_index frsum k))
     (get_or-map-range_with_len (λ j. i32_at v.order (52 + 4 * j) block) 0 8 k k (pos 0) l (omega arith))
-    ∙ bits_are v.order (52 + 4 * k) block (slice_index runs k) h
+    ∙ bits_are v.order (52 + 4 * k) block (slice_index frsum k) h
 
 pub sums_as : (v : Layout) (free : ℕ → Bool) (class : ℕ → Class) (c : ℕ) (block : List ℕ) (counts : Counts) →
     ((k : ℕ) → slice_index block k < 256) → AreCounts v free class c counts →
     (has_bits_of (i32_at v.order 12 block) c && (has_bits_of (i32_at v.order 20 block) (group_size v c)
     && (same_counts (group_summary_at v.order 24 block) counts.summary
-    && all_below 8 (λ k. same_run (map (λ j. i32_at v.order (52 + 4 * j) block) (range_with_len 0 8)) counts.runs k))))
+    && all_below 8 (λ k. same_frsum_at (map (λ j. i32_at v.order (52 + 4 * j) block) (range_with_len 0 8)) counts.frsum k))))
     ≡ has_right_sums v free class c block
 unfolding has_right_sums
 sums_as v free class c block counts h right =
     all_four _ _ _ _ _ _ _ _ (bits_are v.order 12 block c h) (bits_are v.order 20 block (group_size v c) h)
     (summary_as v 24 block counts.summary h ∙ ap (has_summary v 24 block) right.summary)
-    (same_below 8 (λ k. same_run (map (λ j. i32_at v.order (52 + 4 * j) block) (range_with_len 0 8)) counts.runs k)
+    (same_below 8 (λ k. same_frsum_at (map (λ j. i32_at v.order (52 + 4 * j) block) (range_with_len 0 8)) counts.frsum k)
     (λ k. u32_at v.order (52 + 4 * k) block == right_frsum v free c k)
-    (λ k l. run_as v block counts.runs k h l ∙ ap (λ x. u32_at v.order (52 + 4 * k) block == x) (right.runs k)))
+    (λ k l. stretch_as v block counts.frsum k h l ∙ ap (λ x. u32_at v.order (52 + 4 * k) block == x) (right.frsum k)))
   where
     all_four : (a b c d a' b' c' d' : Bool) → a ≡ a' → b ≡ b' → c ≡ c' → d ≡ d' →
         (a && (b && (c && d))) ≡ (a' && (b' && (c' && d')))
@@ -66,10 +66,10 @@ pub are_counts : (v : Layout) (free : ℕ → Bool) (class : ℕ → Class) (c :
     AreFree v free c f → AreInodes v class c i →
     AreCounts v free class c (record {
       summary = record { dirs = i.dirs; blocks = f.blocks; inodes = i.free; fragments = f.fragments };
-      runs = f.runs;
+      frsum = f.frsum;
     })
 unfolding right_group_counts
 are_counts v free class c f i fragments inodes = record {
   summary = same_summary_of _ _ _ _ _ _ _ _ inodes.dirs fragments.blocks inodes.free fragments.fragments;
-  runs = fragments.runs;
+  frsum = fragments.frsum;
 }

@@ -1,12 +1,12 @@
 pub mod Sums
-pub mod Runs
-pub mod Whole
+pub mod FreeStretches
+pub mod WholeBlocks
 pub mod Adding
 pub mod MapWords
 pub mod Signs
 pub mod Checks
-pub mod Words
+pub mod FreeWords
 pub mod Bytes
 pub mod Skipping
-pub mod Single
+pub mod OneFragmentBlocks
 pub mod Stretches

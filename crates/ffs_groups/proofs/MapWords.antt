@@ -7,7 +7,7 @@ use Rattle.std.specs.Int.RustNames.{bit_xor}
 use Rattle.std.proofs.lemmas.Bool.{cases_lt, true≢false}
 use Rattle.std.proofs.lemmas.Nat.Bits.{bit_at_and, bit_at_or, bit_at_xor, bit_at-lt, bit_at-zero, bit_at_ones}
 use Rattle.std.proofs.lemmas.Nat.Bits.{bit_at_ones_above, bit_at_above, same_from_bits, ones_shr, bit_at_set_same}
-use Rattle.ffs_maps.proofs.Words.{bit_mod, bit_shl_low, bit_shl_high}
+use Rattle.ffs_maps.proofs.WordShifts.{bit_mod, bit_shl_low, bit_shl_high}
 use Rattle.ffs_maps.proofs.BitNumbers.{max_zero, min_zero, zero_max, zero_min}
 use Rattle.ffs_volume.specs.Disk.Numbers.{all_below}
 use Rattle.ffs_volume.specs.Groups.Records.{bit_at as map_bit, same_bit}

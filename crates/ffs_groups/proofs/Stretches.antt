@@ -13,7 +13,7 @@ use Rattle.ffs_maps.proofs.Counting.{sum_split, count_within}
 abbrev num : Bool → ℕ
 num b = cond b 1 0
 
--- a count over a run, with one of its places apart
+-- a count over a stretch, with one of its places apart
 count_apart : (p : ℕ → Bool) (a n k : ℕ) (x : Bool) → k < n → p (a + k) ≡ x →
     count_by p (range_with_len a n)
     ≡ count_by p (range_with_len a k) + (cond x 1 0 + count_by p (range_with_len (a + k + 1) (n - k - 1)))

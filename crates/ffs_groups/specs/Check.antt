@@ -28,20 +28,21 @@ same_counts found right =
     has_bits_of found.dirs right.dirs && (has_bits_of found.blocks right.blocks
     && (has_bits_of found.inodes right.inodes && has_bits_of found.fragments right.fragments))
 
--- the count of runs of one length is the same
-abbrev pub same_run : List ℤ → List ℕ → ℕ → Bool
-same_run found right length = has_bits_of (slice_index_or found length (pos 0)) (slice_index right length)
+-- the number of stretches of one length is the same
+abbrev pub same_frsum_at : List ℤ → List ℕ → ℕ → Bool
+same_frsum_at found right length = has_bits_of (slice_index_or found length (pos 0)) (slice_index right length)
 
 -- the counts of group c are right
 pub record AreCounts (v : Layout) (free : ℕ → Bool) (class : ℕ → Class) (c : ℕ) (counts : Counts) : Type 0 where
   pub summary : group_counts_of counts.summary ≡ right_group_counts v free class c
-  pub runs : (k : ℕ) → slice_index counts.runs k ≡ right_frsum v free c k
+  pub frsum : (k : ℕ) → slice_index counts.frsum k ≡ right_frsum v free c k
 
 -- what is reported of a group where such things are found
 abbrev pub lines_of : Findings → ℕ → List BlockMessage
 lines_of f c =
-    if f.magic then unless f.counts FreeCounts ++ (unless f.maps MapsWrong ++ unless f.sums GroupSums)
-    else GroupMagic c ∷ unless f.counts FreeCounts
+    if f.magic_right
+    then unless f.counts_right FreeCounts ++ (unless f.maps_right MapsWrong ++ unless f.sums_right GroupSums)
+    else GroupMagic c ∷ unless f.counts_right FreeCounts
 
 -- a record of the summary area and a group block, each of its length
 pub record HasRecords (v : Layout) (csum cg : List ℕ) : Type 0 where
@@ -51,7 +52,7 @@ pub record HasRecords (v : Layout) (csum cg : List ℕ) : Type 0 where
 -- each finding says whether the records of group c are right: in the summary area, and in its group block
 pub record AreFound (v : Layout) (free : ℕ → Bool) (class : ℕ
     → Class) (c : ℕ) (summary block : List ℕ) (f : Findings) : Type 0 where
-  pub magic : f.magic ≡ has_right_magic v block
-  pub counts : f.counts ≡ has_right_record v free class c summary
-  pub maps : f.maps ≡ (maps_fit v block && has_right_maps v free class c block)
-  pub sums : f.sums ≡ has_right_sums v free class c block
+  pub magic : f.magic_right ≡ has_right_magic v block
+  pub counts : f.counts_right ≡ has_right_record v free class c summary
+  pub maps : f.maps_right ≡ (maps_fit v block && has_right_maps v free class c block)
+  pub sums : f.sums_right ≡ has_right_sums v free class c block

@@ -20,27 +20,27 @@ word_bits word index n = map (λ k. nat_eq (bit_at word k) 1) (range_with_len in
 abbrev pub bits_from : (free : ℕ → Bool) (start frag b : ℕ) → List Bool
 bits_from free start frag b = map free (range_with_len (start + b * frag) frag)
 
--- what a block adds to the free blocks, to the free fragments of other blocks, and to their runs of length k
+-- what a block adds to the free blocks, to the free fragments of other blocks, and to their stretches of length k
 abbrev pub whole_in : List Bool → ℕ
 whole_in bits = if is_free_block bits then 1 else 0
 
 abbrev pub loose_in : List Bool → ℕ
 loose_in bits = if is_free_block bits then 0 else count_by (λ f. f) bits
 
-abbrev pub runs_in : ℕ → List Bool → ℕ
-runs_in k bits = if is_free_block bits then 0 else count_by (λ n. n == k) (free_stretches 0 bits)
+abbrev pub stretches_in : ℕ → List Bool → ℕ
+stretches_in k bits = if is_free_block bits then 0 else count_by (λ n. n == k) (free_stretches 0 bits)
 
 -- each count is below a limit
 pub record AreBelow (limit : ℕ) (counts : FreeCounts) : Type 0 where
   pub blocks : counts.blocks < limit
   pub fragments : counts.fragments < limit
-  pub runs : (k : ℕ) → slice_index counts.runs k < limit
+  pub frsum : (k : ℕ) → slice_index counts.frsum k < limit
 
--- b blocks, f other fragments and, for each k, r k runs of length k are added
+-- b blocks, f other fragments and, for each k, r k stretches of length k are added
 pub record Grown (b f : ℕ) (r : ℕ → ℕ) (old new : FreeCounts) : Type 0 where
   pub blocks : new.blocks ≡ old.blocks + b
   pub fragments : new.fragments ≡ old.fragments + f
-  pub runs : (k : ℕ) → slice_index new.runs k ≡ slice_index old.runs k + r k
+  pub frsum : (k : ℕ) → slice_index new.frsum k ≡ slice_index old.frsum k + r k
 
 -- a word has room for so many blocks, and the counts for what they add
 pub record HasRoomToCount (blocks frag limit : ℕ) (counts : FreeCounts) : Type 0 where
@@ -60,13 +60,13 @@ pub record HasBlocks (start frag limit : ℕ) (counts : FreeCounts) : Type 0 whe
 pub record Added (bits : ℕ → List Bool) (from n : ℕ) (old new : FreeCounts) : Type 0 where
   pub blocks : new.blocks ≡ old.blocks + sum_by (λ b. whole_in (bits b)) (range_with_len from n)
   pub fragments : new.fragments ≡ old.fragments + sum_by (λ b. loose_in (bits b)) (range_with_len from n)
-  pub runs : (k : ℕ) → slice_index new.runs k
-      ≡ slice_index old.runs k + sum_by (λ b. runs_in k (bits b)) (range_with_len from n)
+  pub frsum : (k : ℕ) → slice_index new.frsum k
+      ≡ slice_index old.frsum k + sum_by (λ b. stretches_in k (bits b)) (range_with_len from n)
 
 -- what is free in group c is counted
 pub record AreFree (v : Layout) (free : ℕ → Bool) (c : ℕ) (counts : FreeCounts) : Type 0 where
   pub blocks : counts.blocks ≡ sum_by (λ b. whole_in (block_bits v free c b)) (block_numbers v)
   pub fragments : counts.fragments ≡ sum_by (λ b. loose_in (block_bits v free c b)) (block_numbers v)
-  pub runs : (k : ℕ) → slice_index counts.runs k ≡ right_frsum v free c k
+  pub frsum : (k : ℕ) → slice_index counts.frsum k ≡ right_frsum v free c k
   pub blocks_fit : counts.blocks < 2 ^ 32
   pub fragments_fit : counts.fragments < 2 ^ 32

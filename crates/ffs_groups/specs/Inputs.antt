@@ -12,7 +12,7 @@ pub record HasInodes (v : Layout) (listed : List ℕ) (c : ℕ) : Type 0 where
   pub group : c < v.ncg
   pub kinds : length listed ≡ v.ncg * v.ipg
 
--- both
+-- both hold: a map of the fragments and a list of the kinds, to count group c from
 pub record HasMaps (v : Layout) (mapped : ℕ) (listed : List ℕ) (c : ℕ) : Type 0 where
   pub fragments : HasFragments v mapped c
   pub inodes : HasInodes v listed c

@@ -6,7 +6,7 @@ ghost use Rattle.ffs_volume.specs.Disk.Areas.{cgbase};
 ghost use Rattle.ffs_volume.specs.Disk.Numbers.{all_below};
 ghost use Rattle.ffs_volume.specs.Groups.Records.{has_bits, is_used_inode, group_size};
 ghost use Rattle.ffs_maps.specs.Bits.{bits_of};
-ghost use Rattle.ffs_groups.specs.Check.{AreCounts, AreFound, HasRecords, has_bits_of, same_counts, same_run};
+ghost use Rattle.ffs_groups.specs.Check.{AreCounts, AreFound, HasRecords, has_bits_of, same_counts, same_frsum_at};
 ghost use Rattle.ffs_groups.specs.Free.{free_in};
 ghost use Rattle.ffs_groups.specs.Inodes.{class_in};
 ghost use Rattle.ffs_groups.specs.Inputs.{HasMaps};
@@ -29,15 +29,15 @@ pub struct Usage<'a> {
 /// What is right in the records of a group.
 #[derive(Clone, Copy, Debug)]
 pub struct Findings {
-    /// The group block has its magic number. Where it hasn't, phase 5 reports neither `maps` nor
-    /// `sums`.
-    pub magic: bool,
+    /// The group block has its magic number. Where it hasn't, phase 5 reports neither `maps_right`
+    /// nor `sums_right`.
+    pub magic_right: bool,
     /// The record in the summary area is right.
-    pub counts: bool,
+    pub counts_right: bool,
     /// The places and the bits of the maps are right.
-    pub maps: bool,
+    pub maps_right: bool,
     /// The numbers of the group block are right.
-    pub sums: bool,
+    pub sums_right: bool,
 }
 
 /// Whether a number of an image is the right one, which is below 2^31: its bits are those of the
@@ -58,8 +58,8 @@ fn same_summary(found: &GroupSummary, right: &SummaryCounts) -> bool
         && is_right(found.fragments, right.fragments)
 }
 
-fn same_runs(found: &[i32; 8], right: &[u64; 9]) -> bool
-    ensures { result ≡ all_below 8 (λ k. same_run found.now right.now k) }
+fn same_frsum(found: &[i32; 8], right: &[u64; 9]) -> bool
+    ensures { result ≡ all_below 8 (λ k. same_frsum_at found.now right.now k) }
 {
     for length in 0..8 {
         if u64::from(found[length].cast_unsigned()) != right[length] {
@@ -113,12 +113,12 @@ fn sums_are_right(geometry: &Geometry, counts: &Counts, group: u32, found: &Grou
     ensures { result ≡ (has_bits_of found.now.cgx group
         && (has_bits_of found.now.ndblk (group_size geometry.now.layout group)
         && (same_counts found.now.cs counts.now.summary
-        && all_below 8 (λ k. same_run found.now.frsum counts.now.runs k)))) }
+        && all_below 8 (λ k. same_frsum_at found.now.frsum counts.now.frsum k)))) }
 {
     is_right(found.cgx, group)
         && is_right(found.ndblk, group_fragments(geometry, group))
         && same_summary(&found.cs, &counts.summary)
-        && same_runs(&found.frsum, &counts.runs)
+        && same_frsum(&found.frsum, &counts.frsum)
 }
 
 /// What is found in the records of a group: its 16 bytes of the summary area, and its group block
@@ -144,9 +144,9 @@ pub fn compare_group(
     let found = Group::decode(geometry.layout.order, block);
     let record = GroupSummary::decode(geometry.layout.order, 0, summary);
     Findings {
-        magic: found.magic == CG_MAGIC,
-        counts: same_summary(&record, &counts.summary),
-        maps: maps_are_right(geometry, usage, group, &found, block),
-        sums: sums_are_right(geometry, counts, group, &found),
+        magic_right: found.magic == CG_MAGIC,
+        counts_right: same_summary(&record, &counts.summary),
+        maps_right: maps_are_right(geometry, usage, group, &found, block),
+        sums_right: sums_are_right(geometry, counts, group, &found),
     }
 }

@@ -24,13 +24,14 @@ pub struct SummaryCounts {
     pub fragments: u32,
 }
 
-/// What a group's summary and its counts of runs should be.
+/// What a group's summary and its `cg_frsum` should be (fs(5)).
 #[derive(Clone, Copy, Debug)]
 pub struct Counts {
     /// The counts of its summary.
     pub summary: SummaryCounts,
-    /// At index k, how many runs of exactly k free fragments lie in blocks that are not all free.
-    pub runs: [u64; 9],
+    /// At index k, how many stretches of exactly k free fragments lie in blocks that are not all
+    /// free.
+    pub frsum: [u64; 9],
 }
 
 /// The right counts of a group: of the fragments that are not used, and of the inodes' kinds.
@@ -41,7 +42,7 @@ pub fn group_counts(geometry: &Geometry, used: &FragmentMap, kinds: &[u8], group
 {
     let free = free_counts(geometry, used, group);
     let inodes = inode_counts(geometry, kinds, group);
-    let runs = free.runs;
+    let frsum = free.frsum;
     Counts {
         summary: SummaryCounts {
             dirs: inodes.dirs,
@@ -49,6 +50,6 @@ pub fn group_counts(geometry: &Geometry, used: &FragmentMap, kinds: &[u8], group
             inodes: inodes.free,
             fragments: free.fragments as u32,
         },
-        runs,
+        frsum,
     }
 }

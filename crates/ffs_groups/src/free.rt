@@ -3,7 +3,7 @@
 ghost use Rattle.std.specs.Prelude.{◌≡◌, ◌+◌, ◌-◌, ◌*◌, ◌/◌, ◌^◌, ◌<◌, ◌≤◌, count_by, ◌==◌, IfSome, ℕ};
 ghost use Rattle.ffs_volume.specs.Groups.Records.{free_stretches, stretch_of};
 ghost use Rattle.ffs_maps.specs.Bits.{bits_of};
-ghost use Rattle.ffs_groups.specs.Free.{word_bits, whole_in, loose_in, runs_in, AreBelow, HasBlocks, HasRoomToCount, Grown, Added, AreFree, bits_from, free_in};
+ghost use Rattle.ffs_groups.specs.Free.{word_bits, whole_in, loose_in, stretches_in, AreBelow, HasBlocks, HasRoomToCount, Grown, Added, AreFree, bits_from, free_in};
 ghost use Rattle.ffs_groups.specs.Inputs.{HasFragments};
 
 use crate::maps::group_fragments;
@@ -38,19 +38,19 @@ pub struct FreeCounts {
     pub blocks: u64,
     /// Free fragments in other blocks.
     pub fragments: u64,
-    /// How many runs of exactly k free fragments the other blocks have, at index k.
-    pub runs: [u64; 9],
+    /// How many stretches of exactly k free fragments the other blocks have, at index k.
+    pub frsum: [u64; 9],
 }
 
 impl FreeCounts {
-    /// Counts a run that ends.
-    fn end_run(&mut self, run: u32)
-        requires run { run ≤ 8 }
+    /// Counts a stretch of free fragments that ends.
+    fn end_stretch(&mut self, stretch: u32)
+        requires stretch { stretch ≤ 8 }
         requires below { AreBelow (2 ^ 64 - 1) self.old }
-        ensures { Grown 0 0 (λ k. count_by (λ n. n == k) (stretch_of run)) self.old self.new }
+        ensures { Grown 0 0 (λ k. count_by (λ n. n == k) (stretch_of stretch)) self.old self.new }
     {
-        if run > 0 {
-            self.runs[run as usize] += 1;
+        if stretch > 0 {
+            self.frsum[stretch as usize] += 1;
         }
     }
 
@@ -61,24 +61,24 @@ impl FreeCounts {
             (λ k. count_by (λ n. n == k) (free_stretches 0 (word_bits bits 0 frag))) self.old
             self.new }
     {
-        let mut run = 0;
+        let mut stretch = 0;
         for index in 0..frag {
             if bits >> index & 1 == 1 {
                 self.fragments += 1;
-                run += 1;
+                stretch += 1;
             } else {
-                self.end_run(run);
-                run = 0;
+                self.end_stretch(stretch);
+                stretch = 0;
             }
         }
-        self.end_run(run);
+        self.end_stretch(stretch);
     }
 
     /// Counts a block.
     fn add_block(&mut self, bits: u64, frag: u32)
         requires { HasRoomToCount 1 frag (2 ^ 63) self.old }
         ensures { Grown (whole_in (word_bits bits 0 frag)) (loose_in (word_bits bits 0 frag))
-            (λ k. runs_in k (word_bits bits 0 frag)) self.old self.new }
+            (λ k. stretches_in k (word_bits bits 0 frag)) self.old self.new }
     {
         let full = (1u64 << frag) - 1;
         let free = bits & full;
@@ -162,7 +162,7 @@ pub fn free_counts(geometry: &Geometry, used: &FragmentMap, group: u32) -> FreeC
     let mut counts = FreeCounts {
         blocks: 0,
         fragments: 0,
-        runs: [0; 9],
+        frsum: [0; 9],
     };
     let most = FRAGMENTS_AT_ONCE / frag;
     let mut block = 0;

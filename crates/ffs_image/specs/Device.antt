@@ -12,7 +12,7 @@ pub record Device : Type 0 where
 abbrev pub ForContents : Option (List ℕ) → (List ℕ → Type 0) → Type 0
 ForContents contents P = (bytes : List ℕ) → contents ≡ Some bytes → P bytes
 
--- a count of failures rose by one, up to its last value
+-- a count rose by one, or stays at `u64::MAX`
 abbrev pub Rose : ℕ → ℕ → Type 0
 Rose old new = new ≡ min (old + 1) (2 ^ 64 - 1)
 

@@ -108,7 +108,7 @@ impl<S: Source> Image for SourceImage<S> {
         ensures source { ReadsThrough S.was_read self.old.source self.new.source at
             (length buf.old) result }
     {
-        // The size is a u64, so no place of the read is past the last one.
+        // The size is a u64, so no place of the read is past `u64::MAX`.
         let size = self.size();
         prove!(at <= size);
         match fill(&mut self.source, at, buf) {

@@ -20,7 +20,7 @@ pub trait Source {
     fn size(&self) -> u64
         ensures { result ≡ (stock self.now).size };
 
-    /// How many reads have failed, up to the last u64.
+    /// How many reads have failed. The count saturates at `u64::MAX`.
     fn failures(&self) -> u64
         ensures { result ≡ (stock self.now).failures };
 

@@ -42,7 +42,7 @@ pub trait RawFile {
     /// Reads some of the bytes at a place, and returns how many.
     ///
     /// # Errors
-    /// The read failed, or a signal interrupted it. The buffer's content is open then.
+    /// The read failed, or a signal interrupted it. The buffer's content is unspecified then.
     fn read_once(&mut self, buf: &mut [u8], at: u64) -> io::Result<usize>
         ensures bound { ReadsAtMost result buf.new }
         ensures bytes { IfOk result (λ n. AreAt (contents self.old) at (take n buf.new)) }

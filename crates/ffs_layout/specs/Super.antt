@@ -1,5 +1,6 @@
 -- The value of a superblock in memory.
 use Rattle.std.specs.Prelude.{◌≡◌, ℕ, ◌+◌, ◌*◌, ◌<◌, ◌/◌, ◌⊎◌, List, Option, IsSomeAnd, Some, None, Result, Ok, Err}
+use Rattle.ffs_volume.specs.declared.constants.TheConstants.{DEV_BSIZE, SUPERBLOCK_BYTES}
 use Rattle.ffs_volume.specs.declared.SuperFault.{SuperFault}
 use Rattle.ffs_volume.specs.Disk.Outcome.{super_sector, super_bytes, copy_place, outcome}
 use Rattle.ffs_image.specs.Device.{Device, Faulted}
@@ -24,7 +25,7 @@ found_of (Err fault) = Err fault
 
 -- The sector of the last copy, for these bytes of the superblock.
 abbrev pub IsCopySector : List ℕ → ℕ → Type 0
-IsCopySector bytes failed = IsSomeAnd (order_of bytes) (λ order. failed ≡ copy_place (layout_of order bytes) / 512)
+IsCopySector bytes failed = IsSomeAnd (order_of bytes) (λ order. failed ≡ copy_place (layout_of order bytes) / DEV_BSIZE)
 
 -- The sector that a failed read may have: the superblock's, and with no sector asked for the last copy's.
 abbrev pub IsSuperSector : List ℕ → Option ℕ → ℕ → Type 0
@@ -40,4 +41,4 @@ ReadsSuper old new sector found =
 -- Why the superblock at a sector can't be read: a read failed there, or it lies past the end.
 abbrev pub IsUnreadable : Device → Device → Option ℕ → ℕ → Type 0
 IsUnreadable old new sector at = Faulted old new at ⊎ ((new ≡ old) × (at ≡ super_sector sector)
-    × (old.size < at * 512 + 1376))
+    × (old.size < at * DEV_BSIZE + SUPERBLOCK_BYTES))

@@ -8,7 +8,7 @@ ghost use Rattle.ffs_layout.specs.Accepted.{IsAccepted};
 
 use crate::groups::cgoffset_of;
 use crate::shape::fault_of;
-use ffs_volume::constants::DINODE_SIZE;
+use ffs_volume::constants::{CSUM_SIZE, DINODE_SIZE};
 use ffs_volume::{Layout, Order, SuperFault};
 
 /// A layout that is accepted: each value of this type meets the rules of a superblock (fs(5)).
@@ -94,7 +94,7 @@ impl Geometry {
         requires { group < self.now.layout.ncg }
         ensures { result ≡ summary_place self.now.layout group }
     {
-        u64::from(self.layout.csaddr) * u64::from(self.layout.fsize) + 16 * u64::from(group)
+        u64::from(self.layout.csaddr) * u64::from(self.layout.fsize) + CSUM_SIZE * u64::from(group)
     }
 
     /// Where the inode's 128 bytes begin, in bytes (fs(5), `ino_to_fsba`).

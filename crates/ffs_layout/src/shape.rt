@@ -4,7 +4,9 @@ ghost use Rattle.std.specs.Prelude.{◌≡◌, ◌<◌};
 ghost use Rattle.ffs_volume.specs.Disk.Outcome.{has_valid_cylinders, has_valid_numbers, has_valid_parts, has_valid_sizes, is_block_size, is_fragment_count, is_fragment_size, is_valid_layout, has_valid_summary_area, layout_fault};
 
 use crate::groups::groups_fit;
-use ffs_volume::constants::{DINODE_SIZE, SUPERBLOCK_BYTES};
+use ffs_volume::constants::{
+    CG_HEADER, CSUM_SIZE, DINODE_SIZE, INODE_FORMAT, SBSIZE, SUPERBLOCK_BYTES,
+};
 use ffs_volume::{Layout, SuperFault};
 
 #[tactic(auto, unfolding(ffs_volume::specs::Disk::Outcome::is_block_size))]
@@ -37,7 +39,7 @@ fn has_sizes(v: &Layout) -> bool
         && can_be_fragment_count(v.frag)
         && u64::from(v.bsize) == u64::from(v.frag) * u64::from(v.fsize)
         && v.nindir == v.bsize / 4
-        && v.inopb == v.bsize / 128
+        && v.inopb == v.bsize / DINODE_SIZE as u32
         && v.ipg > 0
         && v.ipg % v.inopb == 0
         && v.fpg > 0
@@ -74,7 +76,7 @@ fn has_parts(v: &Layout) -> bool
         && sblkno + u64::from(v.sbsize).div_ceil(fsize) <= cblkno
         && cblkno + u64::from(v.cgsize).div_ceil(fsize) <= iblkno
         && iblkno + u64::from(v.ipg) * DINODE_SIZE as u64 / fsize <= u64::from(v.dblkno)
-        && v.cgsize >= 168
+        && v.cgsize >= CG_HEADER
         && v.cgsize <= v.bsize
 }
 
@@ -85,7 +87,7 @@ fn has_summary(v: &Layout) -> bool
 {
     let end = u64::from(v.csaddr) + u64::from(v.cssize).div_ceil(u64::from(v.fsize));
     v.csaddr == v.dblkno
-        && 16 * u64::from(v.ncg) <= u64::from(v.cssize)
+        && CSUM_SIZE * u64::from(v.ncg) <= u64::from(v.cssize)
         && end <= u64::from(v.fpg.min(v.size))
 }
 
@@ -102,7 +104,7 @@ fn has_shape(v: &Layout) -> bool
 pub fn fault_of(v: &Layout, image_size: u64) -> Option<SuperFault>
     ensures { result ≡ layout_fault v.now image_size }
 {
-    if v.inodefmt != 2 {
+    if v.inodefmt != INODE_FORMAT {
         return Some(SuperFault::InodeFormat);
     }
     if v.ncg < 1 {
@@ -114,7 +116,7 @@ pub fn fault_of(v: &Layout, image_size: u64) -> Option<SuperFault>
     if !has_cylinders(v) {
         return Some(SuperFault::Ncyl);
     }
-    if v.sbsize > 8192 {
+    if v.sbsize > SBSIZE {
         return Some(SuperFault::TooLarge);
     }
     if !has_shape(v) {

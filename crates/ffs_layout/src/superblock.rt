@@ -14,10 +14,8 @@ use crate::geometry::Geometry;
 use crate::layout::decode;
 use crate::numbers::{i32_at, u32_at};
 use ffs_image::Image;
-use ffs_volume::constants::{DEV_BSIZE, FS_MAGIC, MAXMNTLEN, SUPERBLOCK_BYTES};
+use ffs_volume::constants::{DEV_BSIZE, FS_MAGIC, MAXMNTLEN, SUPERBLOCK_BYTES, SUPERBLOCK_SECTOR};
 use ffs_volume::{LAYOUT_PLACES, Order, SuperFault};
-
-const PRIMARY_SECTOR: u32 = 16;
 
 /// The order in which the magic number reads right.
 #[tactic(auto, unfolding(ffs_volume::specs::Disk::Superblock::order_of))]
@@ -189,7 +187,7 @@ fn check_copy<I: Image>(
 fn first_sector(sector: Option<u32>) -> u32
     ensures { result ≡ super_sector sector }
 {
-    sector.unwrap_or(PRIMARY_SECTOR)
+    sector.unwrap_or(SUPERBLOCK_SECTOR as u32)
 }
 
 /// Reads the superblock at a sector of 512 bytes, or the primary one. Where no sector is asked for,
@@ -203,7 +201,7 @@ pub fn read_super<I: Image>(image: &mut I, sector: Option<u32>) -> Result<Super,
         (λ s. s.geometry.layout.size * s.geometry.layout.fsize ≤ (I.device image.old).size) }
 
     // What can't be read is a failed read, or lies past the image's end.
-    ensures unread { IfErr result (λ fault. (at : ℕ) → fault ≡ SuperFault.CannotRead at
+    ensures unreadable { IfErr result (λ fault. (at : ℕ) → fault ≡ SuperFault.CannotRead at
         → IsUnreadable (I.device image.old) (I.device image.new) sector at) }
 
     // A failed read is returned, by its sector. With none, the result is the outcome, where the

@@ -15,7 +15,7 @@ use Rattle.std.proofs.lemmas.Nat.Bits.{bit_at_and, bit_at-lt, bit_at-zero, bit_a
 use Rattle.std.proofs.lemmas.Nat.Bits.{bit_at_ones_above, same_from_bits, ones_shr}
 use Rattle.ffs_maps.specs.WordBits.{bits_of_words, set_among}
 use Rattle.ffs_maps.proofs.Bits.{get_bits}
-use Rattle.ffs_maps.proofs.Words.{bit_shr}
+use Rattle.ffs_maps.proofs.WordShifts.{bit_shr}
 use Rattle.ffs_maps.proofs.BitNumbers.{min_one, min_zero, one_bit}
 
 -- a count over a run, in two parts

@@ -1,4 +1,4 @@
 pub mod Asking
-pub mod Parts
+pub mod SortedParts
 pub mod Touched
 pub mod Words

@@ -14,7 +14,7 @@ pub record Account : Type 0 where
 abbrev pub unused : Account
 unused = record { granted = 0; refused = 0 }
 
--- one request more was refused: the count of refusals rose by one, up to its last value
+-- one request more was refused: the count of refusals rose by one, or stays at `u64::MAX`
 abbrev pub RefusedOneMore : Account → Account → Type 0
 RefusedOneMore old new = new.refused ≡ min (old.refused + 1) (2 ^ 64 - 1)
 

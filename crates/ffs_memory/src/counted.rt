@@ -28,7 +28,7 @@ impl CountedAllocator {
         }
     }
 
-    /// How many bytes it gave. The count stops at the greatest u64.
+    /// How many bytes it gave. The count saturates at `u64::MAX`.
     #[tactic(auto, unfolding(crate::specs::System::allocator_account))]
     pub(crate) fn granted(&self) -> u64
         ensures { result ≡ (allocator_account self.now).granted }
@@ -36,7 +36,7 @@ impl CountedAllocator {
         self.granted
     }
 
-    /// How many requests it refused. The count stops at the greatest u64.
+    /// How many requests it refused. The count saturates at `u64::MAX`.
     #[tactic(auto, unfolding(crate::specs::System::allocator_account))]
     pub(crate) fn refused(&self) -> u64
         ensures { result ≡ (allocator_account self.now).refused }

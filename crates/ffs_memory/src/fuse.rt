@@ -25,7 +25,7 @@ impl<M: Memory> FuseMemory<M> {
     pub fn nth(inner: M, k: u64) -> FuseMemory<M>
         ensures { IsFusedMemory M.account ⟦<FuseMemory<M> as Memory>⟧.account inner k result }
     {
-        // No more than the last u64, so `own` adds nothing to it yet.
+        // At most `u64::MAX`, so `own` adds nothing to it yet.
         let _bounded = inner.refused();
         FuseMemory {
             inner,

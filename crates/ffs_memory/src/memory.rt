@@ -13,11 +13,11 @@ pub trait Memory {
     /// How many bytes it has granted, and how many requests it has refused.
     ghost account: { Self → Account };
 
-    /// How many bytes it has granted. The count stops at the greatest u64.
+    /// How many bytes it has granted. The count saturates at `u64::MAX`.
     fn granted(&self) -> u64
         ensures { result ≡ (account self.now).granted };
 
-    /// How many requests it has refused. The count stops at the greatest u64.
+    /// How many requests it has refused. The count saturates at `u64::MAX`.
     fn refused(&self) -> u64
         ensures { result ≡ (account self.now).refused };
 

@@ -11,7 +11,7 @@ use Rattle.ffs_volume.specs.Directories.Entries.{Chunk, chunks_of}
 use Rattle.ffs_volume.specs.Encodings.Replay.{Replay, is_replay_open, replayed_steps}
 use Rattle.ffs_volume.specs.Encodings.ReplayCounts.{replayed_runs}
 use Rattle.ffs_walk.specs.declared.walk.Walk.{Walk}
-use Rattle.ffs_walk.specs.Rests.{IsOver, extent_of, steps_left, single_rest, double_rest, triple_rest, top_rest}
+use Rattle.ffs_walk.specs.Rests.{IsOver, file_blocks_of, steps_left, single_rest, double_rest, triple_rest, top_rest}
 use Rattle.ffs_walk.proofs.WalkSteps.{spent_rest}
 use Rattle.ffs_names.specs.declared.run_cursor.RunCursor.{RunCursor}
 use Rattle.ffs_names.specs.declared.chunks.Chunks.{Chunks}
@@ -27,13 +27,13 @@ following v b taken cut r steps = chunks_of (reading_by v b taken) (is_run_in_ra
 -- a walk that is over has no steps left
 pub over_rest : (b : List ℕ) (w : Walk) → IsOver w → steps_left b w ≡ []
 over_rest b w o =
-    let one : single_rest b w ≡ [] = spent_rest w.geometry.layout b (steps_at (extent_of w) b 0) 1 w.single o.single in
+    let one : single_rest b w ≡ [] = spent_rest w.geometry.layout b (steps_at (file_blocks_of w) b 0) 1 w.single o.single in
     let two : double_rest b w ≡ [] =
-    spent_rest w.geometry.layout b (steps_at (extent_of w) b 1) w.geometry.layout.nindir w.double o.double in
-    let three : triple_rest b w ≡ [] = spent_rest w.geometry.layout b (steps_at (extent_of w) b 2)
+    spent_rest w.geometry.layout b (steps_at (file_blocks_of w) b 1) w.geometry.layout.nindir w.double o.double in
+    let three : triple_rest b w ≡ [] = spent_rest w.geometry.layout b (steps_at (file_blocks_of w) b 2)
     (w.geometry.layout.nindir * w.geometry.layout.nindir) w.triple o.triple in
     let none : w.used - w.next ≡ 0 = let t = o.top in omega arith in
-    let top : top_rest b w ≡ [] = ap (λ n. steps_of_addresses (extent_of w) b w.addresses w.next n) none in
+    let top : top_rest b w ≡ [] = ap (λ n. steps_of_addresses (file_blocks_of w) b w.addresses w.next n) none in
     joined (single_rest b w) (double_rest b w) (triple_rest b w) (top_rest b w) one two three top
   where
     joined : (p q r s : List Step) → p ≡ [] → q ≡ [] → r ≡ [] → s ≡ [] → p ++ (q ++ (r ++ s)) ≡ []

@@ -3,9 +3,11 @@
 //! `Report::say` writes exactly the bytes of its line, or writes a prefix of them and returns a
 //! fault; after a fault each later line fails and writes nothing. A line goes out as one piece
 //! where it has room in a buffer of 2,048 bytes. A `Line` is a message with its values; it prints
-//! the texts of `ffs_volume::texts` that `Messages/Texts` of the definitions gives it. A
-//! `SilentWriter` passes nothing on after its first failure, and a `FuseWriter` fails after some
-//! bytes.
+//! the texts of `ffs_volume::texts` that `Messages/Texts` of the definitions gives it.
+//!
+//! A `Report` prints to an `Output`; `Counted` is one over an `Outlet`, any std writer; a `Sink` is
+//! what contracts know of an output. A `SilentWriter` passes nothing on after its first failure,
+//! and a `FuseWriter` fails after some bytes.
 //!
 //! What each phase owes is said here too: `PhaseReports` says in one clause what was printed at Ok
 //! (all lines of the phase), at a failed read (a prefix of them, in whole lines) and at a failed

@@ -1,7 +1,8 @@
 //! The lines of a report.
 use ffs_volume::{Attr, BlockMessage, Label, SuperFault};
 
-/// A line of a report, with its questions: what `say` prints (fsck(8)).
+/// A line of a report, with its questions: what `say` prints (fsck(8)). It is a message of the
+/// report (`Message` of the definitions).
 #[derive(Clone, Copy, Debug)]
 pub enum Line<'a> {
     /// The sector of the superblock that was asked for, of 512 bytes.

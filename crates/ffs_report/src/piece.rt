@@ -8,9 +8,9 @@ pub enum Piece<'a> {
     /// Bytes with a question mark for each control byte.
     Shown(&'a [u8]),
     /// A number, and the text after it.
-    Count(u64, &'a [u8]),
+    Number(u64, &'a [u8]),
     /// A signed number, and the text after it.
-    Total(i64, &'a [u8]),
+    Signed(i64, &'a [u8]),
     /// The minus of a number below zero.
     Sign(i64),
 }

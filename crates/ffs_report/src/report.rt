@@ -62,7 +62,7 @@ impl<'a, W: Output> Report<'a, W> {
         self.defect
     }
 
-    /// Keeps what became of the printing of a line, and returns it.
+    /// Records whether a line was printed, and returns that.
     #[inline(always)]
     fn after(&mut self, printed: Result<(), OutFault>, is_defect: bool) -> Result<(), OutFault>
         ensures answer { result ≡ printed }
@@ -111,7 +111,7 @@ impl<'a, W: Output> Report<'a, W> {
 
     /// Says a line and its questions.
     ///
-    /// It is inlined, so that of a line that is known the kind is known.
+    /// Inlined, so that the match is decided at compile time where the line is a literal.
     ///
     /// # Errors
     /// A write that failed. A prefix of the line's bytes may have gone out then, and each later

@@ -100,7 +100,7 @@ fn print_minfree<W: Output>(out: &mut W, value: i32) -> Result<(), OutFault>
         out,
         &[
             Piece::Text(MINFREE),
-            Piece::Total(value as i64, SET_MINFREE),
+            Piece::Signed(value as i64, SET_MINFREE),
         ],
     )
 }
@@ -156,6 +156,7 @@ fn print_block<W: Output>(out: &mut W, message: BlockMessage) -> Result<(), OutF
         BlockMessage::PartAlloc { inode } => print_number(out, PART_ALLOC, inode as u64, CLEAR),
         BlockMessage::UnknownType { inode } => print_number(out, UNKNOWN_TYPE, inode as u64, CLEAR),
         BlockMessage::Bad { fragment, inode } => print_claim(out, fragment, BAD, inode),
+        // `Report::say` prints a DUP by `DupLine`; this row makes the match whole.
         BlockMessage::Dup { fragment, inode } => print_claim(out, fragment, DUP, inode),
         BlockMessage::ManyBad { inode } => print_number(out, MANY_BAD, inode as u64, CONTINUE),
         BlockMessage::ManyDup { inode } => print_number(out, MANY_DUP, inode as u64, CONTINUE),
@@ -188,14 +189,14 @@ fn print_summary<W: Output>(
     print_pieces(
         out,
         &[
-            Piece::Count(files as u64, FILES),
-            Piece::Count(used as u64, USED),
-            Piece::Total(free, FREE),
-            Piece::Total(frags as i64, FRAGS),
-            Piece::Total(blocks as i64, BLOCKS),
+            Piece::Number(files as u64, FILES),
+            Piece::Number(used as u64, USED),
+            Piece::Signed(free, FREE),
+            Piece::Signed(frags as i64, FRAGS),
+            Piece::Signed(blocks as i64, BLOCKS),
             Piece::Sign(tenths),
-            Piece::Count(size / 10, POINT),
-            Piece::Count(size % 10, FRAGMENTATION),
+            Piece::Number(size / 10, POINT),
+            Piece::Number(size % 10, FRAGMENTATION),
         ],
     )
 }

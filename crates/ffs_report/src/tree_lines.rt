@@ -9,7 +9,7 @@ use crate::line::{DirectoryLine, DotLine, EntryLine, ReferenceLine};
 use crate::output::{OutFault, Output};
 use crate::piece::Piece;
 use crate::print::{
-    print, print_count, print_number, print_octal, print_pieces, print_shown, print_total,
+    print, print_count, print_number, print_octal, print_pieces, print_shown, print_signed,
 };
 use ffs_volume::texts::*;
 use ffs_volume::{Attr, Label};
@@ -41,7 +41,7 @@ fn print_attr<W: Output>(out: &mut W, attr: &Attr) -> Result<(), OutFault>
     print_count(out, attr.uid as u64, MODE)?;
     print_octal(out, attr.mode)?;
     print_number(out, SIZE, attr.size, MTIME)?;
-    print_total(out, attr.mtime as i64, b"")
+    print_signed(out, attr.mtime as i64, b"")
 }
 
 /// Prints what a line says before an inode's attributes, these, and what it says after them.
@@ -127,7 +127,7 @@ fn print_length<W: Output>(out: &mut W, path: &[u8], size: u64) -> Result<(), Ou
             Piece::Text(DIRECTORY),
             Piece::Shown(path),
             Piece::Text(DIR_LENGTH),
-            Piece::Count(size, NOT_MULTIPLE),
+            Piece::Number(size, NOT_MULTIPLE),
         ],
     )
 }
@@ -168,7 +168,7 @@ fn print_links<W: Output>(
         result }
 {
     print_kind(out, LINK_COUNT, label, attr, COUNT)?;
-    print_total(out, count as i64, SHOULD_BE)?;
+    print_signed(out, count as i64, SHOULD_BE)?;
     print_count(out, right, ADJUST)
 }
 

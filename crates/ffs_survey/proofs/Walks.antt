@@ -34,8 +34,8 @@ pub cycle-back : (f : ℕ → Option ℕ) (j y p : ℕ) → IsOnCycle f y → cl
 cycle-back f j y p c h =
     let w = cycle-within f j y p c h in
     let b = w.1 in
-    let q : (suc c.length - w.0) + w.0 ≡ suc c.length = omega arith in
-    (suc c.length - w.0, sym (climb-add f (suc c.length - w.0) w.0 y p w.2) ∙ (ap (λ m. climb f m y) q ∙ c.returns))
+    let q : (suc c.steps_less_one - w.0) + w.0 ≡ suc c.steps_less_one = omega arith in
+    (suc c.steps_less_one - w.0, sym (climb-add f (suc c.steps_less_one - w.0) w.0 y p w.2) ∙ (ap (λ m. climb f m y) q ∙ c.returns))
 
 pub closed-climb : (f : ℕ → Option ℕ) (walk_of : List ℕ) (k x y : ℕ) → IsClosed f walk_of → number_at walk_of x ≢ 0 →
     climb f k x ≡ Some y → number_at walk_of y ≢ 0
@@ -183,7 +183,7 @@ finds_cycle f start mark steps at next n old new m l s h o e low =
       low = low;
       fresh = i;
       cycle = record {
-        length = steps - p.0;
+        steps_less_one = steps - p.0;
         returns = sym (climb-add f (suc (steps - p.0)) p.0 start next p.2)
             ∙ (ap (λ k. climb f k start) q ∙ (climb-suc f steps start at s.at_is ∙ h));
       };
@@ -282,27 +282,27 @@ round_step f found steps at least next least' r n h a b w = record {
 }
 
 -- a way round takes no more steps than the cycle has
-pub round_short : (f : ℕ → Option ℕ) (found steps at least n : ℕ) (c : IsOnCycle f found) → c.length < n →
+pub round_short : (f : ℕ → Option ℕ) (found steps at least n : ℕ) (c : IsOnCycle f found) → c.steps_less_one < n →
     Rounding f found steps at least → (at ≡ found → ⊥) → steps < n
 round_short f found steps at least n c l r m =
-    elim (cases_lt steps (suc c.length)) [
+    elim (cases_lt steps (suc c.steps_less_one)) [
       | inl lt ↦ omega arith
-      | inr ge ↦ absurd (elim (cases_eq steps (suc c.length)) [
+      | inr ge ↦ absurd (elim (cases_eq steps (suc c.steps_less_one)) [
         | inl y ↦ (let z : Some at ≡ Some found = sym r.at_is ∙ (ap (λ k. climb f k found) y ∙ c.returns) in
             m (cc))
-        | inr o ↦ r.away (suc c.length) (omega arith) (omega arith) c.returns
+        | inr o ↦ r.away (suc c.steps_less_one) (omega arith) (omega arith) c.returns
       ])
     ]
 
 -- back at `found`, the least so far is the least of all
-pub round_end : (f : ℕ → Option ℕ) (found steps at least n : ℕ) (c : IsOnCycle f found) → c.length < n →
+pub round_end : (f : ℕ → Option ℕ) (found steps at least n : ℕ) (c : IsOnCycle f found) → c.steps_less_one < n →
     Rounding f found steps at least → at ≡ found → least < n → IsLeastOn f n found least
 unfolding cycle-along
 round_end f found steps at least n c l r e low =
     let p = r.moved in
     let q : suc (steps - 1) ≡ steps = omega arith in
     let d : IsOnCycle f found =
-    record { length = steps - 1; returns = ap (λ k. climb f k found) q ∙ (r.at_is ∙ ap Some e) } in
+    record { steps_less_one = steps - 1; returns = ap (λ k. climb f k found) q ∙ (r.at_is ∙ ap Some e) } in
     let a = r.among in
     record {
       low = low;

@@ -46,21 +46,21 @@ pub record ComesBack (parents : List ℕ) (found : ℕ) : Type 0 where
   pub few : length parents < 2 ^ 31
   pub low : found < length parents
   pub cycle : IsOnCycle (parent_in parents) found
-  pub short : cycle.length < length parents
+  pub short : cycle.steps_less_one < length parents
 
 -- `found` is on a cycle, and each number on a cycle that is newly met is on that one
 pub record FindsCycle (f : ℕ → Option ℕ) (n : ℕ) (old new : List ℕ) (found : ℕ) : Type 0 where
   pub low : found < n
   pub fresh : IsMet old new found
   pub cycle : IsOnCycle f found
-  pub short : cycle.length < n
+  pub short : cycle.steps_less_one < n
   pub only : (x : ℕ) → IsMet old new x → IsOnCycle f x → (k : ℕ) × (climb f k found ≡ Some x)
 
 -- e is the least number on the cycle of `found`
 pub record IsLeastOn (f : ℕ → Option ℕ) (n found e : ℕ) : Type 0 where
   pub low : e < n
   pub leader : IsLeader f e
-  pub short : leader.cycle.length < n
+  pub short : leader.cycle.steps_less_one < n
   pub on : (k : ℕ) × (climb f k found ≡ Some e)
 
 -- there is a walk and a mark for each parent

@@ -51,11 +51,11 @@ climb-add f (suc j) k d e h =
 
 unfoldable pub cycle-along : (f : ℕ → Option ℕ) (k d e : ℕ) → IsOnCycle f d → climb f k d ≡ Some e → IsOnCycle f e
 cycle-along f k d e c h = record {
-  length = c.length;
+  steps_less_one = c.steps_less_one;
   returns =
-      let q : suc c.length + k ≡ k + suc c.length = omega arith in
-      sym (climb-add f (suc c.length) k d e h)
-      ∙ (ap (λ m. climb f m d) q ∙ (climb-add f k (suc c.length) d d c.returns ∙ h));
+      let q : suc c.steps_less_one + k ≡ k + suc c.steps_less_one = omega arith in
+      sym (climb-add f (suc c.steps_less_one) k d e h)
+      ∙ (ap (λ m. climb f m d) q ∙ (climb-add f k (suc c.steps_less_one) d d c.returns ∙ h));
 }
 
 -- a cycle continues
@@ -64,7 +64,7 @@ cycle-next f d c = go (f d) refl
   where
     go : (o : Option ℕ) → f d ≡ o → (e : ℕ) × (f d ≡ Some e)
     go (Some e) h = (e, h)
-    go None h = absurd (ends c.length c.returns)
+    go None h = absurd (ends c.steps_less_one c.returns)
       where
         ends : (k : ℕ) → climb f (suc k) d ≡ Some d → ⊥
         ends zero r = let q = sym (climb-one f d ∙ h) ∙ r in cc
@@ -82,20 +82,20 @@ cycle-goes f (suc k) d c =
     (q.0, climb-suc f k d p.0 p.1 ∙ q.1)
 
 -- what a cycle reaches, it reaches on the first way round
-pub cycle-within : (f : ℕ → Option ℕ) (m d s : ℕ) (c : IsOnCycle f d) → climb f m d ≡ Some s → (k : ℕ) × (k ≤ c.length)
+pub cycle-within : (f : ℕ → Option ℕ) (m d s : ℕ) (c : IsOnCycle f d) → climb f m d ≡ Some s → (k : ℕ) × (k ≤ c.steps_less_one)
     × (climb f k d ≡ Some s)
 cycle-within f zero d s c h = (0, omega arith, h)
 cycle-within f (suc m) d s c h =
     let l = climb-last f m d s h in
     let p = cycle-within f m d l.0 c l.1 in
-    elim (cases_lt p.0 c.length) [
+    elim (cases_lt p.0 c.steps_less_one) [
       | inl lt ↦ (suc p.0, lt, climb-suc f p.0 d l.0 p.2 ∙ l.2)
       | inr ge ↦
-          let q : p.0 ≡ c.length = (let b = p.1 in omega arith) in (
+          let q : p.0 ≡ c.steps_less_one = (let b = p.1 in omega arith) in (
             0,
             omega arith,
             climb-zero f d
-                ∙ (sym c.returns ∙ (climb-suc f c.length d l.0 (ap (λ m. climb f m d) (sym q) ∙ p.2) ∙ l.2)),
+                ∙ (sym c.returns ∙ (climb-suc f c.steps_less_one d l.0 (ap (λ m. climb f m d) (sym q) ∙ p.2) ∙ l.2)),
           )
     ]
 
@@ -107,10 +107,10 @@ at_least-true : (o : Option ℕ) (d s : ℕ) → none_or_at_least o d ≡ true �
 at_least-true o d s h e = leb-true d s (subst (λ x. none_or_at_least x d ≡ true) e h)
 
 -- the test for what it says
-pub is_leader_within-from : (f : ℕ → Option ℕ) (n d : ℕ) (i : IsLeader f d) → i.cycle.length < n → is_leader_within f n
+pub is_leader_within-from : (f : ℕ → Option ℕ) (n d : ℕ) (i : IsLeader f d) → i.cycle.steps_less_one < n → is_leader_within f n
     d ≡ true
 is_leader_within-from f n d i b =
-    and_from _ _ (some_below-from (λ k. is_value (climb f (suc k) d) d) n i.cycle.length b
+    and_from _ _ (some_below-from (λ k. is_value (climb f (suc k) d) d) n i.cycle.steps_less_one b
     (is_value-from _ d i.cycle.returns))
     (not_from_false _ (some_below-none (λ k. not (none_or_at_least (climb f k d) d)) n
     (λ k l. not_from_true _ (at_least-from (climb f k d) d (i.least k)))))
@@ -120,7 +120,7 @@ is_leader_within-true f n d h =
     let p = and_parts (some_below (λ k. is_value (climb f (suc k) d) d) n)
     (not (some_below (λ k. not (none_or_at_least (climb f k d) d)) n)) h in
     let w = some_below-gives (λ k. is_value (climb f (suc k) d) d) n p.0 in
-    let c : IsOnCycle f d = record { length = w.0; returns = is_value-true _ d w.1.passes } in
+    let c : IsOnCycle f d = record { steps_less_one = w.0; returns = is_value-true _ d w.1.passes } in
     record {
       cycle = c;
       least = λ k s e.
@@ -142,7 +142,7 @@ climb_continues f p n d g h (suc k) =
 
 -- somewhere above d there is a cycle of at most n steps
 pub cycle_above : (f : ℕ → Option ℕ) (p : ℕ → Bool) (n d : ℕ) → StaysBelow f p n → p d ≡ true → (x : ℕ) × (p x ≡ true)
-    × ((c : IsOnCycle f x) × (c.length < n))
+    × ((c : IsOnCycle f x) × (c.steps_less_one < n))
 cycle_above f p n d g h =
     let r = pigeon n (λ k. (climb_continues f p n d g h k).0) (λ i l. let a = climb_continues f p n d g h i in g.below a.0 a.2) in
     let a = climb_continues f p n d g h r.first in
@@ -154,7 +154,7 @@ cycle_above f p n d g h =
       a.2,
       (
         record {
-          length = r.second - suc r.first;
+          steps_less_one = r.second - suc r.first;
           returns =
               sym (climb-add f (suc (r.second - suc r.first)) r.first d a.0 a.1)
               ∙ (ap (λ m. climb f m d) q ∙ (b.1 ∙ ap Some (sym r.same)));
@@ -165,7 +165,7 @@ cycle_above f p n d g h =
 
 -- the least number on a cycle
 pub leader_on : (f : ℕ → Option ℕ) (p : ℕ → Bool) (n x : ℕ) → StaysBelow f p n → p x ≡ true → (c : IsOnCycle f x) →
-    c.length < n → (e : ℕ) × (p e ≡ true) × (is_leader_within f n e ≡ true)
+    c.steps_less_one < n → (e : ℕ) × (p e ≡ true) × (is_leader_within f n e ≡ true)
 unfolding cycle-along
 leader_on f p n x g h c l =
     let t = λ (e : ℕ). some_below (λ k. is_value (climb f k x) e) n in

@@ -146,11 +146,11 @@ offers_keep v s start (suc len) h =
       most = omega (arith, one.most, more.most);
     }
 
-offers_weigh : (v : Layout) (s : Claims) (start len : ℕ) → length s.used ≡ v.size → nat_lt s.dups 11 ≡ true →
+offers_raise : (v : Layout) (s : Claims) (start len : ℕ) → length s.used ≡ v.size → nat_lt s.dups 11 ≡ true →
     is_fragment_in_range v start ≡ true → 0 < len →
     potential s + 1 ≤ potential (after_offers v s (range_with_len start len))
-offers_weigh v s start zero h more_dups ok some = absurd (omega arith)
-offers_weigh v s start (suc len) h more_dups ok some =
+offers_raise v s start zero h more_dups ok some = absurd (omega arith)
+offers_raise v s start (suc len) h more_dups ok some =
     let one = offer_few_kept v s start h in
     let more = offers_keep v (after_offer v s start) (start + 1) len (one.used_length ∙ h) in
     omega (arith, offer_few_runs v s start h more_dups ok, more.few_runs)
@@ -189,7 +189,7 @@ run_moves v s start len h some small few more_dups =
     let keep = offers_keep v seen start len h in
     let first : is_fragment_in_range v start ≡ true = ap (is_fragment_in_range v) (omega arith)
     ∙ each_ok v start len 0 fits some in
-    let more = offers_weigh v seen start len h more_dups first some in
+    let more = offers_raise v seen start len h more_dups first some in
     let level = offers_level v seen start len h (λ k lt. each_ok v start len k fits lt) in
     record {
       few_runs = omega (arith, keep.runs_is, more);

@@ -19,7 +19,7 @@ use Rattle.ffs_volume.specs.Blocks.Claims.{
   after_step,
 }
 use Rattle.ffs_volume.specs.Blocks.Claims.{after_steps}
-use Rattle.ffs_volume.specs.Blocks.BlockCheck.{Offer, offer_of}
+use Rattle.ffs_volume.specs.Blocks.KeptOffers.{Offer, offer_of}
 use Rattle.ffs_volume.proofs.PrefixLaws.{shut_steps}
 use Rattle.ffs_volume.specs.Blocks.KeptSteps.{is_kept_step, kept_steps}
 use Rattle.ffs_volume.specs.Encodings.Replay.{Replay, fresh_replay, cut_of, is_replay_open, taken_of, replay_after_run}

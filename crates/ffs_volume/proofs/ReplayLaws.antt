@@ -10,7 +10,7 @@ use Rattle.ffs_volume.specs.declared.Step.TheVariants.{Run, Tail, Gap}
 use Rattle.ffs_volume.specs.Disk.Areas.{is_fragment_in_range, is_run_in_range}
 use Rattle.ffs_volume.specs.Blocks.Claims.{Claims, at_next_inode, is_open, is_set, after_offer, after_offers, after_run}
 use Rattle.ffs_volume.specs.Blocks.Claims.{after_step, after_steps}
-use Rattle.ffs_volume.specs.Blocks.BlockCheck.{offer_of}
+use Rattle.ffs_volume.specs.Blocks.KeptOffers.{offer_of}
 use Rattle.ffs_volume.specs.Encodings.Replay.{
   Replay,
   fresh_replay,

@@ -3,6 +3,7 @@ pub mod Inodes
 pub mod Steps
 pub mod Owners
 pub mod Claims
+pub mod KeptOffers
 pub mod BlockCheck
 pub mod KeptByRule
 pub mod KeptSteps

@@ -1,11 +1,13 @@
 -- The book of definitions, in the order to read it. Each folder has its page, with its files in their order. A comment
 -- is for the definitions below it, up to the next comment. What a file imports from `declared`, such as Layout, Step,
 -- Class and LAYOUT_PLACES, is declared in src/lib.rt, numbers of the format in src/constants.rt, and texts in
--- src/texts.rt.
+-- src/texts.rt. The lines `use` at the top of a file say where its names come from: begin to read after them.
 --
--- Words. `v` is a layout, `vol` a volume as the checks of directories see it, and `g` its graph. The root is inode 2. A
--- place is an offset in bytes, an index counts from 0, and an address is the number of a fragment. A line is a message
--- of the report (folder Messages): a definition with `lines` in its name gives a list of messages.
+-- Words. `v` is a layout, `vol` a volume as the checks of directories see it, and `g` its graph. `s` is in Blocks the
+-- state of the block check (`Claims`), in Directories a directory that may have an edge to another, or an entry with
+-- its role, and in Report and Consistent a superblock. The root is inode 2. A place is an offset in bytes, an index
+-- counts from 0, and an address is the number of a fragment. A line is a message of the report (folder Messages): a
+-- definition with `lines` in its name gives a list of messages.
 --
 -- Definitions. `abbrev` and `unfoldable` both begin one. Which of them it is, and a line `unfolding`, matter to proofs
 -- alone. The first line of a definition gives its type, and its equations follow, by patterns: the first that fits is

@@ -27,8 +27,8 @@ next_word g bytes child span address first next used h =
     flat_map_step (λ j. child (address_at g bytes address j) (first + j * span)) next used h
 
 -- no Tail comes where the unused words aren't set, or it is known already
-pub no_tail : (fresh found : Bool) (xs : List Step) → (fresh ≡ true → found ≡ false) →
-    (if fresh then tail_of found else []) ++ xs ≡ xs
+pub no_tail : (unread found : Bool) (xs : List Step) → (unread ≡ true → found ≡ false) →
+    (if unread then tail_of found else []) ++ xs ≡ xs
 no_tail true found xs h = rw (h refl) refl
 no_tail false found xs h = refl
 
@@ -36,14 +36,14 @@ no_tail false found xs h = refl
 pub word_taken : (g : Layout) (contents : Option (List ℕ)) (span : ℕ) (f : Frame) (block : List ℕ) (address : ℕ) →
     f.next < f.used →
     ForContents contents (λ bytes. block ≡ block_bytes g bytes f.address) →
-    (f.fresh ≡ true → any_nonzero_from g block f.used ≡ false) →
+    (f.unread ≡ true → any_nonzero_from g block f.used ≡ false) →
     address ≡ address_in g block f.next →
     ForContents contents (λ bytes. (child : ℕ → ℕ → List Step) →
     frame_rest g bytes child span f
     ≡ child address (f.first + f.next * span) ++ steps_under g bytes child span f.address f.first (f.next + 1)
     (f.used - (f.next + 1)))
 word_taken g contents span f block address h held none is = λ bytes e child.
-    no_tail f.fresh (any_nonzero_from g (block_bytes g bytes f.address) f.used) _ (rw (held bytes e) at none)
+    no_tail f.unread (any_nonzero_from g (block_bytes g bytes f.address) f.used) _ (rw (held bytes e) at none)
     ∙ next_word g bytes child span f.address f.first f.next f.used h
     ∙ rw (is, held bytes e) refl
 

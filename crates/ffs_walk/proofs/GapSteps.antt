@@ -9,7 +9,7 @@ use Rattle.ffs_volume.specs.Blocks.Steps.{steps_under, steps_at, steps_of_addres
 use Rattle.ffs_walk.specs.declared.frame.Frame.{Frame}
 use Rattle.ffs_walk.specs.declared.walk.Walk.{Walk}
 use Rattle.ffs_walk.specs.Frames.{frame_rest}
-use Rattle.ffs_walk.specs.Rests.{IsAtTop, extent_of, steps_left, single_rest, double_rest, triple_rest}
+use Rattle.ffs_walk.specs.Rests.{IsAtTop, file_blocks_of, steps_left, single_rest, double_rest, triple_rest}
 use Rattle.ffs_walk.specs.Skips.{EndsZeroAddresses}
 use Rattle.ffs_walk.proofs.FrameSteps.{next_word}
 use Rattle.ffs_walk.proofs.WalkSteps.{next_address, rest_at_top, spent_rest}
@@ -34,25 +34,25 @@ gaps_under g bytes child span address first used (suc n) next gap h zeros =
     ∙ ap (λ j. replicate n Gap ++ steps_under g bytes child span address first j (used - j)) at)
 
 -- what is left in a frame whose block is read before
-pub not_fresh : (g : Layout) (bytes : List ℕ) (child : ℕ → ℕ → List Step) (span : ℕ) (f : Frame) → f.fresh ≡ false →
+pub was_read : (g : Layout) (bytes : List ℕ) (child : ℕ → ℕ → List Step) (span : ℕ) (f : Frame) → f.unread ≡ false →
     frame_rest g bytes child span f ≡ steps_under g bytes child span f.address f.first f.next (f.used - f.next)
-not_fresh g bytes child span f e = rw e refl
+was_read g bytes child span f e = rw e refl
 
 pub gaps_passed : (g : Layout) (bytes : List ℕ) (child : ℕ → ℕ → List Step) (span n next : ℕ) (f : Frame)
     (block : List ℕ) → ((block : ℕ) → child 0 block ≡ Gap ∷ []) →
-    f.fresh ≡ false → next ≡ f.next + n → next ≤ f.used → block ≡ block_bytes g bytes f.address →
+    f.unread ≡ false → next ≡ f.next + n → next ≤ f.used → block ≡ block_bytes g bytes f.address →
     ((k : ℕ) → f.next ≤ k → k < next → address_in g block k ≡ 0) →
     frame_rest g bytes child span f
-    ≡ replicate n Gap ++ ((if f.fresh then tail_of (any_nonzero_from g (block_bytes g bytes f.address) f.used) else [])
+    ≡ replicate n Gap ++ ((if f.unread then tail_of (any_nonzero_from g (block_bytes g bytes f.address) f.used) else [])
     ++ steps_under g bytes child span f.address f.first next (f.used - next))
-gaps_passed g bytes child span n next f block gap fresh moved h is zeros =
-    not_fresh g bytes child span f fresh
+gaps_passed g bytes child span n next f block gap read moved h is zeros =
+    was_read g bytes child span f read
     ∙ gaps_under g bytes child span f.address f.first f.used n f.next gap (omega (arith, h, moved))
     (λ k l m. ap (λ b. address_in g b k) (sym is) ∙ zeros k l (omega (arith, m, moved)))
     ∙ ap (λ j. replicate n Gap ++ steps_under g bytes child span f.address f.first j (f.used - j)) (sym moved)
     ∙ ap (λ b. replicate n Gap
     ++ ((if b then tail_of (any_nonzero_from g (block_bytes g bytes f.address) f.used) else [])
-    ++ steps_under g bytes child span f.address f.first next (f.used - next))) (sym fresh)
+    ++ steps_under g bytes child span f.address f.first next (f.used - next))) (sym read)
 
 -- ---- in a walk, the frames before are spent
 pub in_first : (s s' o r : List Step) → s ≡ r ++ s' → s ++ o ≡ r ++ (s' ++ o)
@@ -92,17 +92,17 @@ gaps_at_addresses t bytes addresses used (suc n) next h zeros =
 -- the same of the addresses of a walk that is in no indirect block
 pub gaps_at_top : (w : Walk) (bytes : List ℕ) (end : ℕ) → IsAtTop w → EndsZeroAddresses w end →
     steps_left bytes w ≡ replicate (end - w.next) Gap ++ (single_rest bytes w ++ (double_rest bytes w
-    ++ (triple_rest bytes w ++ steps_of_addresses (extent_of w) bytes w.addresses end (w.used - end))))
+    ++ (triple_rest bytes w ++ steps_of_addresses (file_blocks_of w) bytes w.addresses end (w.used - end))))
 gaps_at_top w bytes end top ends =
     let g = w.geometry.layout in
     let whole : w.next + (end - w.next) ≡ end = omega (arith, ends.within.0) in
-    let here = gaps_at_addresses (extent_of w) bytes w.addresses w.used (end - w.next) w.next
+    let here = gaps_at_addresses (file_blocks_of w) bytes w.addresses w.used (end - w.next) w.next
     (omega (arith, whole, ends.within.1)) (λ k l m. ends.zeros k l (omega (arith, m, whole))) in
     rest_at_top bytes w top.single top.double top.triple
     ∙ here
-    ∙ ap (λ j. replicate (end - w.next) Gap ++ steps_of_addresses (extent_of w) bytes w.addresses j (w.used - j)) whole
+    ∙ ap (λ j. replicate (end - w.next) Gap ++ steps_of_addresses (file_blocks_of w) bytes w.addresses j (w.used - j)) whole
     ∙ rw (
-      spent_rest g bytes (steps_at (extent_of w) bytes 0) 1 w.single top.single,
-      spent_rest g bytes (steps_at (extent_of w) bytes 1) g.nindir w.double top.double,
-      spent_rest g bytes (steps_at (extent_of w) bytes 2) (g.nindir * g.nindir) w.triple top.triple,
+      spent_rest g bytes (steps_at (file_blocks_of w) bytes 0) 1 w.single top.single,
+      spent_rest g bytes (steps_at (file_blocks_of w) bytes 1) g.nindir w.double top.double,
+      spent_rest g bytes (steps_at (file_blocks_of w) bytes 2) (g.nindir * g.nindir) w.triple top.triple,
     ) refl

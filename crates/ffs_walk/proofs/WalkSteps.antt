@@ -12,7 +12,7 @@ use Rattle.ffs_volume.specs.Blocks.Inodes.{addresses_needed}
 use Rattle.ffs_walk.specs.Fits.{IsSpent}
 use Rattle.ffs_walk.specs.declared.frame.Item.{Item}
 use Rattle.ffs_walk.specs.Frames.{frame_rest, frame_left, item_steps}
-use Rattle.ffs_walk.specs.Rests.{extent_of, steps_left, single_rest, double_rest, triple_rest, top_rest, most_at, most_steps_left}
+use Rattle.ffs_walk.specs.Rests.{file_blocks_of, steps_left, single_rest, double_rest, triple_rest, top_rest, most_at, most_steps_left}
 use Rattle.ffs_volume.specs.Blocks.Steps.{FileBlocks, data_step, indirect_steps, steps_at, steps_of_addresses}
 use Rattle.ffs_volume.specs.Blocks.Steps.{indirection_of, first_block}
 use Rattle.std.proofs.lemmas.Bool.Decides.{nat_tests}
@@ -54,33 +54,33 @@ spent_left most f h =
 pub in_double : (w : Walk) (bytes : List ℕ) (span address first : ℕ) (s : Step) (f : Frame) →
     span ≡ 1 →
     IsSpent w.single →
-    indirect_steps (extent_of w) bytes (steps_at (extent_of w) bytes 0) span address first
-    ≡ s ∷ frame_rest w.geometry.layout bytes (steps_at (extent_of w) bytes 0) span f →
-    steps_at (extent_of w) bytes 1 address first ++ steps_left bytes w
-    ≡ s ∷ (frame_rest w.geometry.layout bytes (steps_at (extent_of w) bytes 0) 1 f
+    indirect_steps (file_blocks_of w) bytes (steps_at (file_blocks_of w) bytes 0) span address first
+    ≡ s ∷ frame_rest w.geometry.layout bytes (steps_at (file_blocks_of w) bytes 0) span f →
+    steps_at (file_blocks_of w) bytes 1 address first ++ steps_left bytes w
+    ≡ s ∷ (frame_rest w.geometry.layout bytes (steps_at (file_blocks_of w) bytes 0) 1 f
     ++ (double_rest bytes w ++ (triple_rest bytes w ++ top_rest bytes w)))
 in_double w bytes span address first s f is_one spent e =
     rw (
-      steps_one (extent_of w) bytes address first,
+      steps_one (file_blocks_of w) bytes address first,
       rw is_one at e,
-      spent_rest w.geometry.layout bytes (steps_at (extent_of w) bytes 0) 1 w.single spent,
+      spent_rest w.geometry.layout bytes (steps_at (file_blocks_of w) bytes 0) 1 w.single spent,
     ) refl
 
 pub in_triple : (w : Walk) (bytes : List ℕ) (span address first : ℕ) (s : Step) (f : Frame) →
     span ≡ w.geometry.layout.nindir →
     IsSpent w.single → IsSpent w.double →
-    indirect_steps (extent_of w) bytes (steps_at (extent_of w) bytes 1) span address first
-    ≡ s ∷ frame_rest w.geometry.layout bytes (steps_at (extent_of w) bytes 1) span f →
-    steps_at (extent_of w) bytes 2 address first ++ steps_left bytes w
+    indirect_steps (file_blocks_of w) bytes (steps_at (file_blocks_of w) bytes 1) span address first
+    ≡ s ∷ frame_rest w.geometry.layout bytes (steps_at (file_blocks_of w) bytes 1) span f →
+    steps_at (file_blocks_of w) bytes 2 address first ++ steps_left bytes w
     ≡ s ∷ (single_rest bytes w
-    ++ (frame_rest w.geometry.layout bytes (steps_at (extent_of w) bytes 1) w.geometry.layout.nindir f
+    ++ (frame_rest w.geometry.layout bytes (steps_at (file_blocks_of w) bytes 1) w.geometry.layout.nindir f
     ++ (triple_rest bytes w ++ top_rest bytes w)))
 in_triple w bytes span address first s f is_words spent spent' e =
     rw (
-      steps_two (extent_of w) bytes address first,
+      steps_two (file_blocks_of w) bytes address first,
       rw is_words at e,
-      spent_rest w.geometry.layout bytes (steps_at (extent_of w) bytes 0) 1 w.single spent,
-      spent_rest w.geometry.layout bytes (steps_at (extent_of w) bytes 1) w.geometry.layout.nindir w.double spent',
+      spent_rest w.geometry.layout bytes (steps_at (file_blocks_of w) bytes 0) 1 w.single spent,
+      spent_rest w.geometry.layout bytes (steps_at (file_blocks_of w) bytes 1) w.geometry.layout.nindir w.double spent',
     ) refl
 
 -- where the frames are spent, the rest is that of the addresses
@@ -88,9 +88,9 @@ pub rest_at_top : (bytes : List ℕ) (w : Walk) → IsSpent w.single → IsSpent
     steps_left bytes w ≡ top_rest bytes w
 rest_at_top bytes w s d t =
     rw (
-      spent_rest w.geometry.layout bytes (steps_at (extent_of w) bytes 0) 1 w.single s,
-      spent_rest w.geometry.layout bytes (steps_at (extent_of w) bytes 1) w.geometry.layout.nindir w.double d,
-      spent_rest w.geometry.layout bytes (steps_at (extent_of w) bytes 2)
+      spent_rest w.geometry.layout bytes (steps_at (file_blocks_of w) bytes 0) 1 w.single s,
+      spent_rest w.geometry.layout bytes (steps_at (file_blocks_of w) bytes 1) w.geometry.layout.nindir w.double d,
+      spent_rest w.geometry.layout bytes (steps_at (file_blocks_of w) bytes 2)
           (w.geometry.layout.nindir * w.geometry.layout.nindir) w.triple t,
     ) refl
 
@@ -104,12 +104,12 @@ next_address t bytes addresses next used h =
 
 -- the steps of the addresses after the next one
 abbrev pub later_rest : List ℕ → Walk → List Step
-later_rest bytes w = steps_of_addresses (extent_of w) bytes w.addresses (w.next + 1) (w.used - (w.next + 1))
+later_rest bytes w = steps_of_addresses (file_blocks_of w) bytes w.addresses (w.next + 1) (w.used - (w.next + 1))
 
 pub at_top : (bytes : List ℕ) (w : Walk) → w.next < w.used → IsSpent w.single → IsSpent w.double → IsSpent w.triple →
-    steps_left bytes w ≡ steps_at (extent_of w) bytes (indirection_of w.next) (slice_index w.addresses w.next)
+    steps_left bytes w ≡ steps_at (file_blocks_of w) bytes (indirection_of w.next) (slice_index w.addresses w.next)
     (first_block w.geometry.layout.nindir w.next) ++ later_rest bytes w
-at_top bytes w h s d t = rest_at_top bytes w s d t ∙ next_address (extent_of w) bytes w.addresses w.next w.used h
+at_top bytes w h s d t = rest_at_top bytes w s d t ∙ next_address (file_blocks_of w) bytes w.addresses w.next w.used h
 
 pub top_ends : (bytes : List ℕ) (w : Walk) → w.used ≤ w.next → IsSpent w.single → IsSpent w.double → IsSpent w.triple →
     steps_left bytes w ≡ []
@@ -120,7 +120,7 @@ top_ends bytes w h s d t =
 pub top_data : (bytes : List ℕ) (w : Walk) (address first : ℕ) (step : Step) →
     w.next < w.used → w.next < 12 → IsSpent w.single → IsSpent w.double → IsSpent w.triple →
     address ≡ slice_index w.addresses w.next → first ≡ w.next →
-    step ≡ data_step (extent_of w) address first →
+    step ≡ data_step (file_blocks_of w) address first →
     steps_left bytes w ≡ step ∷ (single_rest bytes w ++ (double_rest bytes w ++ (triple_rest bytes w ++ later_rest bytes w)))
 top_data bytes w address first step h low s d t is_address is_first e =
     let level : indirection_of w.next ≡ 0 = omega arith in
@@ -129,22 +129,22 @@ top_data bytes w address first step h low s d t is_address is_first e =
     ∙ rw (
       level,
       place,
-      steps_zero (extent_of w) bytes (slice_index w.addresses w.next) w.next,
+      steps_zero (file_blocks_of w) bytes (slice_index w.addresses w.next) w.next,
       ← is_address,
       ← is_first,
       ← e,
-      spent_rest w.geometry.layout bytes (steps_at (extent_of w) bytes 0) 1 w.single s,
-      spent_rest w.geometry.layout bytes (steps_at (extent_of w) bytes 1) w.geometry.layout.nindir w.double d,
-      spent_rest w.geometry.layout bytes (steps_at (extent_of w) bytes 2)
+      spent_rest w.geometry.layout bytes (steps_at (file_blocks_of w) bytes 0) 1 w.single s,
+      spent_rest w.geometry.layout bytes (steps_at (file_blocks_of w) bytes 1) w.geometry.layout.nindir w.double d,
+      spent_rest w.geometry.layout bytes (steps_at (file_blocks_of w) bytes 2)
           (w.geometry.layout.nindir * w.geometry.layout.nindir) w.triple t,
     ) refl
 
 -- an indirect address goes out, and its frame has what is under it
 pub top_single : (bytes : List ℕ) (w : Walk) (step : Step) (f : Frame) →
     w.next < w.used → w.next ≡ 12 → IsSpent w.single → IsSpent w.double → IsSpent w.triple →
-    indirect_steps (extent_of w) bytes (steps_at (extent_of w) bytes 0) 1 (slice_index w.addresses w.next) 12
-    ≡ step ∷ frame_rest w.geometry.layout bytes (steps_at (extent_of w) bytes 0) 1 f →
-    steps_left bytes w ≡ step ∷ (frame_rest w.geometry.layout bytes (steps_at (extent_of w) bytes 0) 1 f
+    indirect_steps (file_blocks_of w) bytes (steps_at (file_blocks_of w) bytes 0) 1 (slice_index w.addresses w.next) 12
+    ≡ step ∷ frame_rest w.geometry.layout bytes (steps_at (file_blocks_of w) bytes 0) 1 f →
+    steps_left bytes w ≡ step ∷ (frame_rest w.geometry.layout bytes (steps_at (file_blocks_of w) bytes 0) 1 f
     ++ (double_rest bytes w ++ (triple_rest bytes w ++ later_rest bytes w)))
 top_single bytes w step f h is s d t e =
     let level : indirection_of w.next ≡ 1 = omega arith in
@@ -153,21 +153,21 @@ top_single bytes w step f h is s d t e =
     ∙ rw (
       level,
       place,
-      steps_one (extent_of w) bytes (slice_index w.addresses w.next) 12,
+      steps_one (file_blocks_of w) bytes (slice_index w.addresses w.next) 12,
       e,
-      spent_rest w.geometry.layout bytes (steps_at (extent_of w) bytes 1) w.geometry.layout.nindir w.double d,
-      spent_rest w.geometry.layout bytes (steps_at (extent_of w) bytes 2)
+      spent_rest w.geometry.layout bytes (steps_at (file_blocks_of w) bytes 1) w.geometry.layout.nindir w.double d,
+      spent_rest w.geometry.layout bytes (steps_at (file_blocks_of w) bytes 2)
           (w.geometry.layout.nindir * w.geometry.layout.nindir) w.triple t,
     ) refl
 
 pub top_double : (bytes : List ℕ) (w : Walk) (words : ℕ) (step : Step) (f : Frame) →
     w.next < w.used → w.next ≡ 13 → words ≡ w.geometry.layout.nindir → IsSpent w.single → IsSpent w.double →
     IsSpent w.triple →
-    indirect_steps (extent_of w) bytes (steps_at (extent_of w) bytes 1) words (slice_index w.addresses w.next)
+    indirect_steps (file_blocks_of w) bytes (steps_at (file_blocks_of w) bytes 1) words (slice_index w.addresses w.next)
     (12 + words)
-    ≡ step ∷ frame_rest w.geometry.layout bytes (steps_at (extent_of w) bytes 1) words f →
+    ≡ step ∷ frame_rest w.geometry.layout bytes (steps_at (file_blocks_of w) bytes 1) words f →
     steps_left bytes w ≡ step ∷ (single_rest bytes w
-    ++ (frame_rest w.geometry.layout bytes (steps_at (extent_of w) bytes 1) w.geometry.layout.nindir f
+    ++ (frame_rest w.geometry.layout bytes (steps_at (file_blocks_of w) bytes 1) w.geometry.layout.nindir f
     ++ (triple_rest bytes w ++ later_rest bytes w)))
 top_double bytes w words step f h is is_words s d t e =
     let level : indirection_of w.next ≡ 2 = omega arith in
@@ -176,21 +176,21 @@ top_double bytes w words step f h is is_words s d t e =
     ∙ rw (
       level,
       place,
-      steps_two (extent_of w) bytes (slice_index w.addresses w.next) (12 + w.geometry.layout.nindir),
+      steps_two (file_blocks_of w) bytes (slice_index w.addresses w.next) (12 + w.geometry.layout.nindir),
       rw is_words at e,
-      spent_rest w.geometry.layout bytes (steps_at (extent_of w) bytes 0) 1 w.single s,
-      spent_rest w.geometry.layout bytes (steps_at (extent_of w) bytes 2)
+      spent_rest w.geometry.layout bytes (steps_at (file_blocks_of w) bytes 0) 1 w.single s,
+      spent_rest w.geometry.layout bytes (steps_at (file_blocks_of w) bytes 2)
           (w.geometry.layout.nindir * w.geometry.layout.nindir) w.triple t,
     ) refl
 
 pub top_triple : (bytes : List ℕ) (w : Walk) (words : ℕ) (step : Step) (f : Frame) →
     w.next < w.used → w.next ≡ 14 → words ≡ w.geometry.layout.nindir → IsSpent w.single → IsSpent w.double →
     IsSpent w.triple →
-    indirect_steps (extent_of w) bytes (steps_at (extent_of w) bytes 2) (words * words) (slice_index w.addresses w.next)
+    indirect_steps (file_blocks_of w) bytes (steps_at (file_blocks_of w) bytes 2) (words * words) (slice_index w.addresses w.next)
     (12 + words + words * words)
-    ≡ step ∷ frame_rest w.geometry.layout bytes (steps_at (extent_of w) bytes 2) (words * words) f →
+    ≡ step ∷ frame_rest w.geometry.layout bytes (steps_at (file_blocks_of w) bytes 2) (words * words) f →
     steps_left bytes w ≡ step ∷ (single_rest bytes w
-    ++ (double_rest bytes w ++ (frame_rest w.geometry.layout bytes (steps_at (extent_of w) bytes 2)
+    ++ (double_rest bytes w ++ (frame_rest w.geometry.layout bytes (steps_at (file_blocks_of w) bytes 2)
     (w.geometry.layout.nindir * w.geometry.layout.nindir) f ++ later_rest bytes w)))
 top_triple bytes w words step f h is is_words s d t e =
     let level : indirection_of w.next ≡ 3 = omega arith in
@@ -200,11 +200,11 @@ top_triple bytes w words step f h is is_words s d t e =
     ∙ rw (
       level,
       place,
-      steps_three (extent_of w) bytes (slice_index w.addresses w.next)
+      steps_three (file_blocks_of w) bytes (slice_index w.addresses w.next)
           (12 + w.geometry.layout.nindir + w.geometry.layout.nindir * w.geometry.layout.nindir),
       rw is_words at e,
-      spent_rest w.geometry.layout bytes (steps_at (extent_of w) bytes 0) 1 w.single s,
-      spent_rest w.geometry.layout bytes (steps_at (extent_of w) bytes 1) w.geometry.layout.nindir w.double d,
+      spent_rest w.geometry.layout bytes (steps_at (file_blocks_of w) bytes 0) 1 w.single s,
+      spent_rest w.geometry.layout bytes (steps_at (file_blocks_of w) bytes 1) w.geometry.layout.nindir w.double d,
     ) refl
 
 -- a level of indirection more is a step more, at least
@@ -244,17 +244,17 @@ pub double_reported : (contents : Option (List ℕ)) (w : Walk) (words : ℕ) (f
     ForContents contents (λ bytes. (child : ℕ → ℕ → List Step) →
     frame_rest w.geometry.layout bytes child words w.double ≡ item_steps child item ++ frame_rest w.geometry.layout
     bytes child words f) →
-    ((bytes : List ℕ) → item_steps (steps_at (extent_of w) bytes 1) item
-    ++ (single_rest bytes w ++ (frame_rest w.geometry.layout bytes (steps_at (extent_of w) bytes 1)
+    ((bytes : List ℕ) → item_steps (steps_at (file_blocks_of w) bytes 1) item
+    ++ (single_rest bytes w ++ (frame_rest w.geometry.layout bytes (steps_at (file_blocks_of w) bytes 1)
     w.geometry.layout.nindir f ++ (triple_rest bytes w ++ top_rest bytes w)))
     ≡ step ∷ R bytes) →
     ForContents contents (λ bytes. steps_left bytes w ≡ step ∷ R bytes)
 double_reported contents w words f item step R is s taken made = λ bytes e.
     let split : double_rest bytes w
-    ≡ item_steps (steps_at (extent_of w) bytes 1) item ++ frame_rest w.geometry.layout bytes
-    (steps_at (extent_of w) bytes 1) w.geometry.layout.nindir f =
-    rw is at (taken bytes e (steps_at (extent_of w) bytes 1)) in
-    let none : single_rest bytes w ≡ [] = spent_rest w.geometry.layout bytes (steps_at (extent_of w) bytes 0) 1 w.single
+    ≡ item_steps (steps_at (file_blocks_of w) bytes 1) item ++ frame_rest w.geometry.layout bytes
+    (steps_at (file_blocks_of w) bytes 1) w.geometry.layout.nindir f =
+    rw is at (taken bytes e (steps_at (file_blocks_of w) bytes 1)) in
+    let none : single_rest bytes w ≡ [] = spent_rest w.geometry.layout bytes (steps_at (file_blocks_of w) bytes 0) 1 w.single
     s in
     joined_two _ _ _ _ _ _ none split (made bytes)
 
@@ -264,20 +264,20 @@ pub triple_reported : (contents : Option (List ℕ)) (w : Walk) (words : ℕ) (f
     ForContents contents (λ bytes. (child : ℕ → ℕ → List Step) →
     frame_rest w.geometry.layout bytes child (words * words) w.triple ≡ item_steps child item
     ++ frame_rest w.geometry.layout bytes child (words * words) f) →
-    ((bytes : List ℕ) → item_steps (steps_at (extent_of w) bytes 2) item
+    ((bytes : List ℕ) → item_steps (steps_at (file_blocks_of w) bytes 2) item
     ++ (single_rest bytes w ++ (double_rest bytes w
-    ++ (frame_rest w.geometry.layout bytes (steps_at (extent_of w) bytes 2)
+    ++ (frame_rest w.geometry.layout bytes (steps_at (file_blocks_of w) bytes 2)
     (w.geometry.layout.nindir * w.geometry.layout.nindir) f ++ top_rest bytes w)))
     ≡ step ∷ R bytes) →
     ForContents contents (λ bytes. steps_left bytes w ≡ step ∷ R bytes)
 triple_reported contents w words f item step R is s d taken made = λ bytes e.
     let split : triple_rest bytes w
-    ≡ item_steps (steps_at (extent_of w) bytes 2) item ++ frame_rest w.geometry.layout bytes
-    (steps_at (extent_of w) bytes 2) (w.geometry.layout.nindir * w.geometry.layout.nindir) f =
-    rw is at (taken bytes e (steps_at (extent_of w) bytes 2)) in
-    let none : single_rest bytes w ≡ [] = spent_rest w.geometry.layout bytes (steps_at (extent_of w) bytes 0) 1 w.single
+    ≡ item_steps (steps_at (file_blocks_of w) bytes 2) item ++ frame_rest w.geometry.layout bytes
+    (steps_at (file_blocks_of w) bytes 2) (w.geometry.layout.nindir * w.geometry.layout.nindir) f =
+    rw is at (taken bytes e (steps_at (file_blocks_of w) bytes 2)) in
+    let none : single_rest bytes w ≡ [] = spent_rest w.geometry.layout bytes (steps_at (file_blocks_of w) bytes 0) 1 w.single
     s in
-    let none' : double_rest bytes w ≡ [] = spent_rest w.geometry.layout bytes (steps_at (extent_of w) bytes 1)
+    let none' : double_rest bytes w ≡ [] = spent_rest w.geometry.layout bytes (steps_at (file_blocks_of w) bytes 1)
     w.geometry.layout.nindir w.double d in
     joined_three _ _ _ _ _ _ _ none none' split (made bytes)
 

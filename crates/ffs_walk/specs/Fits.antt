@@ -8,14 +8,14 @@ use Rattle.ffs_walk.specs.declared.frame.Item.{Item}
 use Rattle.ffs_walk.specs.declared.frame.Item.TheVariants.{UnusedWord, Word}
 
 -- the frame is in a block in range, counts only words that are used, and has no direct block under it
-pub record FrameFits (g : Layout) (blocks span : ℕ) (f : Frame) : Type 0 where
-  pub words : f.used ≤ indirect_addresses_needed g.nindir blocks f.first span
-  pub in_range_there : f.next < f.used → IsTrue (is_run_in_range g f.address g.frag)
+pub record FrameFits (v : Layout) (blocks span : ℕ) (f : Frame) : Type 0 where
+  pub words : f.used ≤ indirect_addresses_needed v.nindir blocks f.first span
+  pub in_range_there : f.next < f.used → IsTrue (is_run_in_range v f.address v.frag)
   pub indirect : f.next < f.used → 12 ≤ f.first
 
 -- nothing is left in the frame
 abbrev pub IsSpent : Frame → Type 0
-IsSpent f = (f.next ≡ f.used) × (f.fresh ≡ false)
+IsSpent f = (f.next ≡ f.used) × (f.unread ≡ false)
 
 -- a logical block of an inode with so many, which isn't direct
 abbrev pub IsIndirect : ℕ → ℕ → Type 0
@@ -27,8 +27,8 @@ IsBelow blocks UnusedWord = Unit {0}
 IsBelow blocks (Word address block) = IsIndirect blocks block
 
 -- the frame has an item left, of a block in range, and its logical block is a number
-pub record HasItem (g : Layout) (span : ℕ) (f : Frame) : Type 0 where
+pub record HasItem (v : Layout) (span : ℕ) (f : Frame) : Type 0 where
   pub left : f.next < f.used
-  pub in_range : IsTrue (is_run_in_range g f.address g.frag)
-  pub words : f.used ≤ g.nindir
+  pub in_range : IsTrue (is_run_in_range v f.address v.frag)
+  pub words : f.used ≤ v.nindir
   pub small : f.first + f.next * span < 2 ^ 64

@@ -11,9 +11,9 @@ use Rattle.ffs_walk.specs.declared.frame.Item.TheVariants.{UnusedWord, Word}
 
 -- the steps that a frame has left, where `child` has the steps at an address
 abbrev pub frame_rest : Layout → List ℕ → (ℕ → ℕ → List Step) → ℕ → Frame → List Step
-frame_rest g bytes child span f =
-    (if f.fresh then tail_of (any_nonzero_from g (block_bytes g bytes f.address) f.used) else [])
-    ++ steps_under g bytes child span f.address f.first f.next (f.used - f.next)
+frame_rest v bytes child span f =
+    (if f.unread then tail_of (any_nonzero_from v (block_bytes v bytes f.address) f.used) else [])
+    ++ steps_under v bytes child span f.address f.first f.next (f.used - f.next)
 
 -- the steps that an item of a frame means
 abbrev pub item_steps : (ℕ → ℕ → List Step) → Item → List Step
@@ -22,7 +22,7 @@ item_steps child (Word address block) = child address block
 
 -- at most how many steps a frame has left, where a word has at most `most`
 abbrev pub frame_left : ℕ → Frame → ℕ
-frame_left most f = (if f.fresh then 1 else 0) + (f.used - f.next) * most
+frame_left most f = (if f.unread then 1 else 0) + (f.used - f.next) * most
 
 -- at most how many steps an item means
 abbrev pub item_left : ℕ → Item → ℕ
@@ -31,15 +31,15 @@ item_left most (Word address block) = most
 
 -- the item is the frame's next word, or a word that isn't used is in it
 abbrev pub IsFrom : Frame → ℕ → Item → Type 0
-IsFrom f span UnusedWord = f.fresh ≡ true
+IsFrom f span UnusedWord = f.unread ≡ true
 IsFrom f span (Word address block) = (f.next < f.used) × (block ≡ f.first + f.next * span)
 
 -- the item is the frame's next one in an image of these contents, and the frame has the others left
-pub record IsNextItem (g : Layout) (contents : Option (List ℕ)) (span : ℕ) (old new : Frame) (given : Item) :
+pub record IsNextItem (v : Layout) (contents : Option (List ℕ)) (span : ℕ) (old new : Frame) (given : Item) :
     Type 0 where
   pub item : IsFrom old span given
   pub steps : ForContents contents (λ bytes. (child : ℕ → ℕ → List Step) →
-      frame_rest g bytes child span old ≡ item_steps child given ++ frame_rest g bytes child span new)
+      frame_rest v bytes child span old ≡ item_steps child given ++ frame_rest v bytes child span new)
   pub falls : (most : ℕ) → item_left most given + frame_left most new ≤ frame_left most old
 
 -- the frames are in the same block, with as many used words

@@ -5,5 +5,5 @@ pub mod Fits
 pub mod Lengths
 pub mod Rests
 pub mod Skips
-pub mod Words
+pub mod HeldWords
 pub mod Counts

@@ -16,23 +16,23 @@ use Rattle.ffs_walk.specs.Fits.{FrameFits, IsSpent}
 use Rattle.ffs_walk.specs.Lengths.{IsStepOf}
 use Rattle.ffs_walk.specs.Counts.{EntersOnly, IsEntered, entered}
 
-abbrev pub extent_of : Walk → FileBlocks
-extent_of w = record { layout = w.geometry.layout; blocks = w.blocks; last_length = w.last }
+abbrev pub file_blocks_of : Walk → FileBlocks
+file_blocks_of w = record { layout = w.geometry.layout; blocks = w.blocks; last_length = w.last }
 
 -- the steps that the frames of a walk have left
 abbrev pub single_rest : List ℕ → Walk → List Step
-single_rest bytes w = frame_rest w.geometry.layout bytes (steps_at (extent_of w) bytes 0) 1 w.single
+single_rest bytes w = frame_rest w.geometry.layout bytes (steps_at (file_blocks_of w) bytes 0) 1 w.single
 
 abbrev pub double_rest : List ℕ → Walk → List Step
-double_rest bytes w = frame_rest w.geometry.layout bytes (steps_at (extent_of w) bytes 1) w.geometry.layout.nindir
+double_rest bytes w = frame_rest w.geometry.layout bytes (steps_at (file_blocks_of w) bytes 1) w.geometry.layout.nindir
     w.double
 
 abbrev pub triple_rest : List ℕ → Walk → List Step
-triple_rest bytes w = frame_rest w.geometry.layout bytes (steps_at (extent_of w) bytes 2)
+triple_rest bytes w = frame_rest w.geometry.layout bytes (steps_at (file_blocks_of w) bytes 2)
     (w.geometry.layout.nindir * w.geometry.layout.nindir) w.triple
 
 abbrev pub top_rest : List ℕ → Walk → List Step
-top_rest bytes w = steps_of_addresses (extent_of w) bytes w.addresses w.next (w.used - w.next)
+top_rest bytes w = steps_of_addresses (file_blocks_of w) bytes w.addresses w.next (w.used - w.next)
 
 -- the steps that a walk has left, in an image of these bytes
 abbrev pub steps_left : List ℕ → Walk → List Step
@@ -81,7 +81,7 @@ pub record IsNextStep (contents : Option (List ℕ)) (old new : Walk) (answer : 
   pub over : answer ≡ None → IsOver new
 
 -- the walks are over as many logical blocks of the same volume
-pub record SameExtent (old new : Walk) : Type 0 where
+pub record SameFileBlocks (old new : Walk) : Type 0 where
   pub geometry : new.geometry ≡ old.geometry
   pub blocks : new.blocks ≡ old.blocks
 
@@ -94,13 +94,13 @@ pub record IsWalkOf (g : Geometry) (inode : Inode) (w : Walk) : Type 0 where
 
 -- the step is that at the address of a data block
 pub record IsDataStep (w : Walk) (address block : ℕ) (made : Step) : Type 0 where
-  pub step : made ≡ data_step (extent_of w) address block
+  pub step : made ≡ data_step (file_blocks_of w) address block
   pub fits : IsStepOf w.geometry.layout.frag w.blocks made
 
 -- the step and those of the frame are all at the address of an indirect block
 pub record Enters (w : Walk) (span address first : ℕ) (made : Step) (frame : Frame) : Type 0 where
   pub steps : (bytes : List ℕ) (child : ℕ → ℕ → List Step) →
-      indirect_steps (extent_of w) bytes child span address first
+      indirect_steps (file_blocks_of w) bytes child span address first
       ≡ made ∷ frame_rest w.geometry.layout bytes child span frame
   pub step : IsStepOf w.geometry.layout.frag w.blocks made
   pub left : (most : ℕ) → frame_left most frame ≤ 1 + w.geometry.layout.nindir * most
@@ -109,9 +109,9 @@ pub record Enters (w : Walk) (span address first : ℕ) (made : Step) (frame : F
 
 -- the step is the first that an item of a level means, and the walk has the others left, before those that it had
 pub record IsFirstOf (level : ℕ) (item : Item) (old new : Walk) (step : Step) : Type 0 where
-  pub steps : (bytes : List ℕ) → item_steps (steps_at (extent_of old) bytes level) item ++ steps_left bytes old
+  pub steps : (bytes : List ℕ) → item_steps (steps_at (file_blocks_of old) bytes level) item ++ steps_left bytes old
       ≡ step ∷ steps_left bytes new
   pub fits : IsStepOf old.geometry.layout.frag old.blocks step
   pub left : 1 + most_steps_left new ≤ item_left (most_at old.geometry.layout.nindir level) item + most_steps_left old
-  pub same : SameExtent old new
+  pub same : SameFileBlocks old new
   pub counted : EntersOnly old new (entered step)

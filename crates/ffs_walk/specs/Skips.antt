@@ -11,12 +11,12 @@ use Rattle.ffs_walk.specs.declared.walk.Walk.{Walk}
 use Rattle.ffs_walk.specs.Fits.{IsSpent}
 use Rattle.ffs_walk.specs.Windows.{BlocksHold, held_address, level_bytes}
 use Rattle.ffs_walk.specs.Frames.{IsSameBlock, frame_left, frame_rest}
-use Rattle.ffs_walk.specs.Rests.{IsAtTop, SameExtent, most_steps_left, steps_left}
+use Rattle.ffs_walk.specs.Rests.{IsAtTop, SameFileBlocks, most_steps_left, steps_left}
 use Rattle.ffs_walk.specs.Counts.{EntersOnly}
 
 -- the next word in the block of a frame isn't zero, where the block is held for the level and was read before
 abbrev pub HasNoGapNext : Layout → ℕ → Blocks → Frame → Type 0
-HasNoGapNext v level blocks f = f.fresh ≡ false → held_address level blocks ≡ Some f.address → f.next < f.used
+HasNoGapNext v level blocks f = f.unread ≡ false → held_address level blocks ≡ Some f.address → f.next < f.used
     → 0 < address_in v (level_bytes v level blocks) f.next
 
 -- the walk's addresses from the next one on and below an index are zero, and the one at the index isn't, where it is
@@ -26,7 +26,8 @@ pub record EndsZeroAddresses (w : Walk) (end : ℕ) : Type 0 where
   pub zeros : (k : ℕ) → w.next ≤ k → k < end → slice_index w.addresses k ≡ 0
   pub passed : end < w.used → 0 < slice_index w.addresses end
 
--- so it is in the innermost indirect block that a walk was in, and at the inode's own addresses where it was in none
+-- no gap is known to come next in the innermost indirect block that a walk was in, or at the inode's own addresses
+-- where it was in none
 pub record HasPassedGaps (old new : Walk) (blocks : Blocks) : Type 0 where
   pub single : old.single.next < old.single.used → HasNoGapNext old.geometry.layout 0 blocks new.single
   pub double : IsSpent old.single → old.double.next < old.double.used
@@ -43,7 +44,7 @@ pub record PassesZeros (v : Layout) (level : ℕ) (blocks : Blocks) (old new : F
   pub falls : (most : ℕ) → frame_left most new ≤ frame_left most old
   pub next : new.next ≡ old.next + gaps
   pub passed : HasNoGapNext v level blocks new
-  pub same : IsSameBlock old new × (new.fresh ≡ old.fresh)
+  pub same : IsSameBlock old new × (new.unread ≡ old.unread)
 
 -- a walk passes over so many gaps, over all that come next in the innermost block that it was in
 pub record PassesGaps (blocks : Blocks) (old new : Walk) (gaps : ℕ) : Type 0 where
@@ -51,5 +52,5 @@ pub record PassesGaps (blocks : Blocks) (old new : Walk) (gaps : ℕ) : Type 0 w
       ForContents contents (λ bytes. steps_left bytes old ≡ replicate gaps Gap ++ steps_left bytes new)
   pub falls : most_steps_left new ≤ most_steps_left old
   pub passed : HasPassedGaps old new blocks
-  pub same : SameExtent old new
+  pub same : SameFileBlocks old new
   pub counted : EntersOnly old new 0

@@ -18,10 +18,11 @@ pub struct Frame {
     pub next: u32,
     /// How many of its words are used.
     pub used: u32,
-    /// Whether its words that aren't used are still to be looked at: one of them may be set.
-    pub fresh: bool,
+    /// Whether the block is still to be read. Its unused words are looked at then: one of them may
+    /// be set.
+    pub unread: bool,
     ghost in_order: { next ≤ used },
-    ghost some: { IsTrue (not fresh || nat_lt next used) },
+    ghost some: { IsTrue (not unread || nat_lt next used) },
 }
 
 /// What comes next in an indirect block.
@@ -52,7 +53,7 @@ impl Frame {
             first: 0,
             next: 0,
             used: 0,
-            fresh: false,
+            unread: false,
         }
     }
 
@@ -88,15 +89,15 @@ impl Frame {
             (I.device image.new) blocks.old blocks.new result }
         ensures counted { IsHeldIn level blocks.old self.old
             → I.reads image.new ≤ I.reads image.old + unread_in self.old }
-        ensures read { OnOk result ((self.new.fresh ≡ false)
+        ensures read { OnOk result ((self.new.unread ≡ false)
             × (held_address level blocks.new ≡ Some self.new.address)) }
         ensures others { (other : ℕ) → (other ≡ level → ⊥)
             → held_address other blocks.new ≡ held_address other blocks.old }
     {
         blocks.fill(geometry, level, self.address, image)?;
         let block = blocks.bytes(geometry, level);
-        if self.fresh {
-            self.fresh = false;
+        if self.unread {
+            self.unread = false;
             if any_from(geometry, block, self.used) {
                 return Ok(Item::UnusedWord);
             }
@@ -116,7 +117,7 @@ impl Frame {
         requires room { HasRoom geometry.now.layout blocks.now }
         ensures { PassesZeros geometry.now.layout level blocks.now self.old self.new result }
     {
-        if self.fresh || blocks.held[level] != Some(self.address) {
+        if self.unread || blocks.held[level] != Some(self.address) {
             return 0;
         }
         let next = zeros_end(

@@ -19,7 +19,8 @@ use ffs_volume::{Class, Inode, Step};
 pub struct Walk {
     /// The volume.
     pub geometry: Geometry,
-    /// How many logical blocks the walk goes over.
+    /// How many logical blocks the walk goes over: at most 2^52, since a size is below 2^64, and a
+    /// block has 4,096 bytes or more.
     pub blocks: u64,
     /// How many fragments the last logical block has, where it is direct.
     pub last: u32,
@@ -56,10 +57,10 @@ impl Walk {
     ghost use Rattle.ffs_walk.specs.Lengths.{IsStepOf};
     ghost use Rattle.ffs_walk.specs.Skips.{EndsZeroAddresses, PassesGaps};
     ghost use Rattle.ffs_walk.specs.Frames.{frame_rest, frame_left, item_steps, item_left};
-    ghost use Rattle.ffs_walk.specs.Rests.{steps_left, most_steps_left, extent_of, Enters, IsAtTop, IsDataStep, IsFirstOf, IsNextStep, IsOver, IsWalkOf, SameExtent, UsesNothing};
+    ghost use Rattle.ffs_walk.specs.Rests.{steps_left, most_steps_left, file_blocks_of, Enters, IsAtTop, IsDataStep, IsFirstOf, IsNextStep, IsOver, IsWalkOf, SameFileBlocks, UsesNothing};
     ghost use Rattle.ffs_walk.specs.Windows.{BlocksAfter, CanWalk, HasRoom};
     ghost use Rattle.ffs_walk.specs.Counts.{AreHeld, EntersOnly, StepReads, entered_by};
-    ghost use Rattle.ffs_walk.specs.Words.{IsInHeldBlock, PassesWord, next_address};
+    ghost use Rattle.ffs_walk.specs.HeldWords.{IsInHeldBlock, PassesWord, next_address};
     ghost use Rattle.ffs_walk.specs.declared.blocks.Blocks.{Blocks};
 
     /// The step at the address of a data block.
@@ -123,7 +124,7 @@ impl Walk {
                 first,
                 next: 0,
                 used: used as u32,
-                fresh: true,
+                unread: true,
             },
         )
     }
@@ -131,8 +132,8 @@ impl Walk {
     /// The step that an item of the single frame means.
     fn step_in_single(&self, item: Item) -> Step
         requires { IsBelow self.now.blocks item }
-        ensures steps { (bytes : List ℕ) → item_steps (steps_at (extent_of self.now) bytes 0) item
-            ≡ result ∷ [] }
+        ensures steps { (bytes : List ℕ)
+            → item_steps (steps_at (file_blocks_of self.now) bytes 0) item ≡ result ∷ [] }
         ensures fits { IsStepOf self.now.geometry.layout.frag self.now.blocks result }
     {
         match item {
@@ -186,7 +187,7 @@ impl Walk {
             (λ _. most_steps_left self.new < most_steps_left self.old) }
         ensures none { result ≡ None → self.new ≡ self.old }
         ensures over { (self.old.next ≡ self.old.used) ↔ (result ≡ None) }
-        ensures same { SameExtent self.old self.new }
+        ensures same { SameFileBlocks self.old self.new }
         ensures counted { EntersOnly self.old self.new (entered_by result) }
     {
         if self.next >= self.used {
@@ -223,7 +224,7 @@ impl Walk {
         }
     }
 
-    /// The next step, where no read fails.
+    /// As `next`, but a failed read doesn't end the walk.
     #[inline(always)]
     fn advance<I: Image>(
         &mut self,
@@ -233,7 +234,7 @@ impl Walk {
         requires { CanWalk self.old.geometry.layout (I.device image.old) blocks.old }
         ensures step { IfOk result (IsNextStep (I.device image.old).contents self.old self.new) }
         ensures over { IsOver self.old → (result ≡ Ok None) × (self.new ≡ self.old) }
-        ensures same { SameExtent self.old self.new }
+        ensures same { SameFileBlocks self.old self.new }
         ensures leaves { BlocksAfter self.old.geometry.layout (I.device image.old)
             (I.device image.new) blocks.old blocks.new result }
         ensures counted { AreHeld blocks.old self.old → StepReads (I.reads image.old)
@@ -261,7 +262,7 @@ impl Walk {
     #[inline(always)]
     fn stop(&mut self)
         ensures over { IsOver self.new }
-        ensures same { SameExtent self.old self.new }
+        ensures same { SameFileBlocks self.old self.new }
         ensures unused { UsesNothing self.new }
     {
         self.single = Frame::spent();
@@ -286,7 +287,7 @@ impl Walk {
         ensures step { IfOk result (IsNextStep (I.device image.old).contents self.old self.new) }
         ensures over { IsOver self.old → result ≡ Ok None }
         ensures fault { OnErr result (IsOver self.new) }
-        ensures same { SameExtent self.old self.new }
+        ensures same { SameFileBlocks self.old self.new }
         ensures leaves { BlocksAfter self.old.geometry.layout (I.device image.old)
             (I.device image.new) blocks.old blocks.new result }
         ensures counted { AreHeld blocks.old self.old → StepReads (I.reads image.old)
@@ -352,7 +353,7 @@ impl Walk {
     pub fn is_in_held_block(&self, blocks: &Blocks) -> bool
         ensures { IsTrue result → IsInHeldBlock blocks.now self.now }
     {
-        !self.single.fresh && blocks.held[0] == Some(self.single.address)
+        !self.single.unread && blocks.held[0] == Some(self.single.address)
     }
 
     /// Whether a used word is left of the single indirect block that the walk is in.
@@ -378,12 +379,12 @@ impl Walk {
     /// was read before.
     #[inline(always)]
     pub fn pass_word(&mut self)
-        requires read { self.old.single.fresh ≡ false }
+        requires read { self.old.single.unread ≡ false }
         requires left { self.old.single.next < self.old.single.used }
         ensures word { (blocks : Blocks) → IsInHeldBlock blocks self.old
             → PassesWord blocks self.old self.new }
         ensures falls { most_steps_left self.new < most_steps_left self.old }
-        ensures same { SameExtent self.old self.new }
+        ensures same { SameFileBlocks self.old self.new }
         ensures counted { EntersOnly self.old self.new 0 }
     {
         self.single.next += 1;

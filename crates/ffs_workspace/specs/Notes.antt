@@ -10,7 +10,8 @@ use Rattle.ffs_volume.specs.Blocks.Inodes.{inode_of, is_directory}
 use Rattle.ffs_volume.specs.Directories.Volumes.{class_at}
 use Rattle.ffs_volume.specs.Encodings.Replay.{cut_at}
 
--- notes from this number on are addresses, from 0 on: no inode keeps so many offers
+-- notes from this number on are addresses, from 0 on. No inode keeps so many offers: it keeps at most 99 more than the
+-- volume has fragments, of which there are fewer than 2^31
 abbrev pub first_noted : ℕ
 first_noted = 2 ^ 31 + 128
 

@@ -109,9 +109,18 @@ impl Workspace {
         let claimed = FragmentMap::in_memory(memory, geometry.layout.size)?;
         let duplicates = FragmentMap::in_memory(memory, geometry.layout.size)?;
         let kinds = memory.bytes(inodes)?;
-        let (marked, named, reached, flags) = four_flags(memory, inodes)?;
+        let FlagLists {
+            marked,
+            named,
+            reached,
+            flags,
+        } = flag_lists(memory, inodes)?;
         let references = memory.long_numbers(inodes)?;
-        let (notes, parents, queue) = three_numbers(memory, inodes)?;
+        let NumberLists {
+            notes,
+            parents,
+            queue,
+        } = number_lists(memory, inodes)?;
         let windows = Windows::in_memory(memory, geometry)?;
         Ok(Workspace {
             claimed,
@@ -202,35 +211,52 @@ impl Windows {
     }
 }
 
-/// Four lists with a flag for each inode.
-type Flags = (
-    FixedList<bool>,
-    FixedList<bool>,
-    FixedList<bool>,
-    FixedList<bool>,
-);
-
-fn four_flags<M: Memory>(memory: &mut M, n: usize) -> Result<Flags, AllocError>
-    ensures lists { IfOk result (λ p. IsFilled n false p.0 × IsFilled n false p.1
-        × IsFilled n false p.2 × IsFilled n false p.3) }
-    ensures asks { Asks (M.account memory.old) (M.account memory.new) (4 * n) result }
-{
-    let first = memory.flags(n)?;
-    let second = memory.flags(n)?;
-    let third = memory.flags(n)?;
-    let fourth = memory.flags(n)?;
-    Ok((first, second, third, fourth))
+/// The lists with a flag for each inode.
+#[derive(Drop)]
+struct FlagLists {
+    marked: FixedList<bool>,
+    named: FixedList<bool>,
+    reached: FixedList<bool>,
+    flags: FixedList<bool>,
 }
 
-/// Three lists with a number for each inode.
-type Numbers = (FilledList<u32>, FilledList<u32>, FilledList<u32>);
+fn flag_lists<M: Memory>(memory: &mut M, n: usize) -> Result<FlagLists, AllocError>
+    ensures lists { IfOk result (λ lists. IsFilled n false lists.marked
+        × IsFilled n false lists.named × IsFilled n false lists.reached
+        × IsFilled n false lists.flags) }
+    ensures asks { Asks (M.account memory.old) (M.account memory.new) (4 * n) result }
+{
+    let marked = memory.flags(n)?;
+    let named = memory.flags(n)?;
+    let reached = memory.flags(n)?;
+    let flags = memory.flags(n)?;
+    Ok(FlagLists {
+        marked,
+        named,
+        reached,
+        flags,
+    })
+}
 
-fn three_numbers<M: Memory>(memory: &mut M, n: usize) -> Result<Numbers, AllocError>
-    ensures lists { IfOk result (λ p. IsFilled n 0 p.0 × IsFilled n 0 p.1 × IsFilled n 0 p.2) }
+/// The lists with a number of 32 bits for each inode.
+#[derive(Drop)]
+struct NumberLists {
+    notes: FilledList<u32>,
+    parents: FilledList<u32>,
+    queue: FilledList<u32>,
+}
+
+fn number_lists<M: Memory>(memory: &mut M, n: usize) -> Result<NumberLists, AllocError>
+    ensures lists { IfOk result (λ lists. IsFilled n 0 lists.notes × IsFilled n 0 lists.parents
+        × IsFilled n 0 lists.queue) }
     ensures asks { Asks (M.account memory.old) (M.account memory.new) (12 * n) result }
 {
-    let first = memory.numbers(n)?;
-    let second = memory.numbers(n)?;
-    let third = memory.numbers(n)?;
-    Ok((first, second, third))
+    let notes = memory.numbers(n)?;
+    let parents = memory.numbers(n)?;
+    let queue = memory.numbers(n)?;
+    Ok(NumberLists {
+        notes,
+        parents,
+        queue,
+    })
 }

@@ -1,20 +1,18 @@
 -- The lines of phases 1 and 1b.
-use Rattle.std.specs.Prelude.{ℕ, Bool, true, false, ◌+◌, ◌*◌, ◌/◌, ◌&&◌, ◌||◌, not, List}
-use Rattle.std.specs.Prelude.{[], ◌∷◌, ◌++◌, ◌==◌, nat_lt, slice_set, if◌then◌else◌}
-use Rattle.std.specs.List.{range_with_len, list_any}
-use Rattle.ffs_volume.specs.declared.constants.TheConstants.{DEV_BSIZE, MAXBAD, MAXDUP}
+use Rattle.std.specs.Prelude.{ℕ, Bool, true, false, ◌*◌, ◌/◌, ◌&&◌, ◌||◌, not, List}
+use Rattle.std.specs.Prelude.{[], ◌∷◌, ◌++◌, ◌==◌, slice_set, if◌then◌else◌}
+use Rattle.std.specs.List.{list_any}
+use Rattle.ffs_volume.specs.declared.constants.TheConstants.{DEV_BSIZE}
 use Rattle.ffs_volume.specs.declared.Layout.{Layout}
 use Rattle.ffs_volume.specs.declared.Class.{Class}
 use Rattle.ffs_volume.specs.declared.Class.TheVariants.{Partial, Unknown}
-use Rattle.ffs_volume.specs.declared.Step.{Step}
-use Rattle.ffs_volume.specs.declared.Step.TheVariants.{Run, Tail, Gap}
 use Rattle.ffs_volume.specs.declared.BlockMessage.{BlockMessage}
 use Rattle.ffs_volume.specs.declared.BlockMessage.TheVariants.{PartAlloc, UnknownType, Bad, Dup, BlockCount}
-use Rattle.ffs_volume.specs.Disk.Areas.{is_run_in_range}
 use Rattle.ffs_volume.specs.Blocks.Inodes.{is_file_or_dir, inode_of, class_of, is_unknown}
 use Rattle.ffs_volume.specs.Blocks.Owners.{Owner, owners_of}
 use Rattle.ffs_volume.specs.Blocks.Claims.{Claims, no_claims, at_next_inode, is_open, is_set}
-use Rattle.ffs_volume.specs.Blocks.Claims.{after_offer, after_step, after_owner, after_owners, lines_of_steps}
+use Rattle.ffs_volume.specs.Blocks.Claims.{after_owner, after_owners, lines_of_steps}
+use Rattle.ffs_volume.specs.Blocks.KeptOffers.{Offer, kept_in_owners}
 
 -- the line of an inode's class
 abbrev pub class_lines : ℕ → Class → List BlockMessage
@@ -44,46 +42,6 @@ owner_lines v s o =
 abbrev pub lines_of_owners : Layout → Claims → List Owner → List BlockMessage
 lines_of_owners v s [] = []
 lines_of_owners v s (o ∷ os) = owner_lines v s o ++ lines_of_owners v (after_owner v s o) os
-
--- an offer: one fragment of a Run, and the inode of the Run
-pub record Offer : Type 0 where
-  pub inode : ℕ
-  pub fragment : ℕ
-
--- the offer with these two numbers
-abbrev pub offer_of : (inode fragment : ℕ) → Offer
-offer_of i f = record { inode = i; fragment = f }
-
--- The five definitions below give the kept offers of some fragments, of a Run, of a step, of steps, and of inodes. They
--- walk from a state s, as the definitions of `Claims` do. Offers are kept, in range or not, until their inode is cut,
--- at its eleventh bad Run or dup offer. `KeptByRule` says by one rule which they are: read it for the meaning
-abbrev pub kept_in_offers : (v : Layout) (inode : ℕ) (s : Claims) (fs : List ℕ) → List Offer
-kept_in_offers v inode s [] = []
-kept_in_offers v inode s (f ∷ fs) =
-    (if nat_lt s.dups (MAXDUP + 1) then offer_of inode f ∷ [] else [])
-    ++ kept_in_offers v inode (after_offer v s f) fs
-
-abbrev pub kept_in_run : (v : Layout) (inode : ℕ) (s : Claims) (start len : ℕ) → List Offer
-kept_in_run v inode s start len =
-    if is_run_in_range v start len
-    then kept_in_offers v inode (record s { runs = s.runs + 1 }) (range_with_len start len)
-    else (if s.bad == MAXBAD then []
-    else kept_in_offers v inode (record s { runs = s.runs + 1; bad = s.bad + 1 }) (range_with_len start len))
-
-abbrev pub kept_in_step : Layout → ℕ → Claims → Step → List Offer
-kept_in_step v inode s (Run start len block) = if is_open s then kept_in_run v inode s start len else []
-kept_in_step v inode s Tail = []
-kept_in_step v inode s Gap = []
-
-abbrev pub kept_in_steps : Layout → ℕ → Claims → List Step → List Offer
-kept_in_steps v inode s [] = []
-kept_in_steps v inode s (step ∷ steps) =
-    kept_in_step v inode s step ++ kept_in_steps v inode (after_step v s step) steps
-
-abbrev pub kept_in_owners : Layout → Claims → List Owner → List Offer
-kept_in_owners v s [] = []
-kept_in_owners v s (o ∷ os) = kept_in_steps v o.number (at_next_inode s) o.steps
-    ++ kept_in_owners v (after_owner v s o) os
 
 -- a DUP for the first kept offer of each fragment that has a DUP in phase 1. Where the fragment is reserved, phase 1
 -- has reported that same offer already

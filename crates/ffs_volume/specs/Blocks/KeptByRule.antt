@@ -1,4 +1,4 @@
--- The kept offers of `BlockCheck` once more, by a rule on each offer (`offer_verdict`). The law `keeping_is_by_rule`
+-- The kept offers of `KeptOffers` once more, by a rule on each offer (`offer_verdict`). The law `keeping_is_by_rule`
 -- of the crate ffs_certificate says that both are the same. p is an offer with the number of bad Runs up to its own
 -- (`CountedOffer`), and j an offer with what the rule says of it (`OfferVerdict`).
 use Rattle.std.specs.Prelude.{ℕ, Bool, ◌+◌, ◌&&◌, ◌||◌, List, [], ◌∷◌, ◌++◌, ◌==◌, nat_le, if◌then◌else◌, map, count_by}
@@ -9,7 +9,7 @@ use Rattle.ffs_volume.specs.declared.Step.{Step}
 use Rattle.ffs_volume.specs.declared.Step.TheVariants.{Run, Tail, Gap}
 use Rattle.ffs_volume.specs.Disk.Areas.{is_fragment_in_range, is_run_in_range, is_reserved}
 use Rattle.ffs_volume.specs.Blocks.Owners.{Owner}
-use Rattle.ffs_volume.specs.Blocks.BlockCheck.{Offer}
+use Rattle.ffs_volume.specs.Blocks.KeptOffers.{Offer}
 
 -- an offer, and how many bad Runs of its inode are at or before its Run
 pub record CountedOffer : Type 0 where

@@ -26,10 +26,10 @@ is_leader_within f n d =
     some_below (λ k. is_value (climb f (suc k) d) d) n
     && not (some_below (λ k. not (none_or_at_least (climb f k d) d)) n)
 
--- following f leads from d back to d in length + 1 steps
+-- following f leads from d back to d in steps_less_one + 1 steps
 pub record IsOnCycle (f : ℕ → Option ℕ) (d : ℕ) : Type 0 where
-  pub length : ℕ
-  pub returns : climb f (suc length) d ≡ Some d
+  pub steps_less_one : ℕ
+  pub returns : climb f (suc steps_less_one) d ≡ Some d
 
 -- d is the least number on a cycle
 pub record IsLeader (f : ℕ → Option ℕ) (d : ℕ) : Type 0 where

@@ -5,7 +5,7 @@ use Rattle.std.specs.Prelude.{false, not, ◌&&◌, ◌||◌, nat_le, nat_lt, if
 use Rattle.std.specs.Prelude.{◌∷◌, map, length, slice_index, sum_by, Option, Some, None}
 use Rattle.std.specs.List.{range_with_len, flat_map, list_any}
 use Rattle.std.specs.Int.{div_ceil}
-use Rattle.ffs_volume.specs.declared.constants.TheConstants.{DIRBLKSIZ, MINDIRSIZE}
+use Rattle.ffs_volume.specs.declared.constants.TheConstants.{DIRBLKSIZ, DIRENT_HEADER, MINDIRSIZE}
 use Rattle.ffs_volume.specs.declared.Order.{Order}
 use Rattle.ffs_volume.specs.declared.Step.{Step}
 use Rattle.ffs_volume.specs.declared.Step.TheVariants.{Run, Tail, Gap}
@@ -22,9 +22,9 @@ pub record Entry : Type 0 where
 abbrev pub is_live : Entry → Bool
 is_live e = not (e.number == 0)
 
--- the name bytes of the entry at a place: as many as the byte at 7 says
+-- the name bytes of the entry at a place, after its first bytes (`DIRENT_HEADER`): as many as the byte at 7 says
 abbrev pub name_at : (chunk : List ℕ) (place : ℕ) → List ℕ
-name_at chunk place = piece (place + 8) (slice_index chunk (place + 7)) chunk
+name_at chunk place = piece (place + DIRENT_HEADER) (slice_index chunk (place + 7)) chunk
 
 -- the entry at a place has a valid name: at least one byte, none of them NUL or `/` (47), and a NUL after it. Its
 -- length is stored in one byte, so it is at most 255
@@ -32,17 +32,17 @@ abbrev pub has_valid_name : (chunk : List ℕ) (place : ℕ) → Bool
 has_valid_name chunk place =
     not (slice_index chunk (place + 7) == 0)
     && not (list_any (λ b. b == 0) (name_at chunk place) || list_any (λ b. b == 47) (name_at chunk place))
-    && (slice_index chunk (place + 8 + slice_index chunk (place + 7)) == 0)
+    && (slice_index chunk (place + DIRENT_HEADER + slice_index chunk (place + 7)) == 0)
 
 -- the length of a record is a multiple of 4 and at least 8, and the record ends within the chunk
 abbrev pub is_valid_record_length : (place length : ℕ) → Bool
-is_valid_record_length place length = (length % 4 == 0) && nat_le 8 length && nat_le (place + length) DIRBLKSIZ
+is_valid_record_length place length = (length % 4 == 0) && nat_le DIRENT_HEADER length && nat_le (place + length) DIRBLKSIZ
 
 -- what the record of a live entry must hold: room for its name and the NUL, rounded up to 4 bytes, a type of at most
 -- 15, and a valid name
 abbrev pub has_valid_type_and_name : (chunk : List ℕ) (place length : ℕ) → Bool
 has_valid_type_and_name chunk place length =
-    nat_le (8 + (slice_index chunk (place + 7) + 4) / 4 * 4) length
+    nat_le (DIRENT_HEADER + (slice_index chunk (place + 7) + 4) / 4 * 4) length
     && nat_le (slice_index chunk (place + 6)) 15
     && has_valid_name chunk place
 

@@ -46,14 +46,14 @@ reached g d = is_some (level g d)
 abbrev pub level_edge : (g : Graph) (k x s : ℕ) → Bool
 level_edge g k x s = is_value (level g s) k && edge g s x
 
--- the parent of a directory other than 2. Of one with a level it is the least directory one level above that has an
--- edge to it; of one without, the least directory that has one
+-- the parent of a directory other than the root. Of one with a level it is the least directory one level above that
+-- has an edge to it; of one without, the least directory that has one
 abbrev pub parent_by : (g : Graph) (d : ℕ) → Option ℕ → Option ℕ
 parent_by g d None = first_below (λ s. edge g s d) g.count
 parent_by g d (Some zero) = None
 parent_by g d (Some (suc k)) = first_below (λ s. level_edge g k d s) g.count
 
--- the parent of a directory, by entries and not by its `..`; that of 2 is 2
+-- the parent of a directory, by entries and not by its `..`; the root is its own parent
 unfoldable pub parent : Graph → ℕ → Option ℕ
 parent g d = if d == ROOTINO then Some ROOTINO else parent_by g d (level g d)
 
@@ -67,7 +67,7 @@ abbrev pub index_in_parent : (g : Graph) (d : ℕ) → Option ℕ → Option ℕ
 index_in_parent g d None = None
 index_in_parent g d (Some s) = first_index (is_naming_entry d) (g.entries s)
 
--- the index, in the parent of d, of the first plain entry that names d: its parent entry. 2 has none
+-- the index, in the parent of d, of the first plain entry that names d: its parent entry. The root has none
 abbrev pub parent_entry_index : Graph → ℕ → Option ℕ
 parent_entry_index g d = if d == ROOTINO then None else index_in_parent g d (parent g d)
 
@@ -75,7 +75,7 @@ parent_entry_index g d = if d == ROOTINO then None else index_in_parent g d (par
 abbrev pub is_named : Graph → ℕ → Bool
 is_named g x = some_below (λ s. is_naming_dir g s x) g.count
 
--- x is suspect, isn't 2, and no plain entry names it
+-- x is suspect, isn't the root, and no plain entry names it
 abbrev pub is_dead_in : Graph → (ℕ → Bool) → ℕ → Bool
 is_dead_in g suspect x = suspect x && (not (x == ROOTINO) && not (is_named g x))
 

@@ -34,12 +34,12 @@ names_by_parent g above d None = []
 names_by_parent g above d (Some s) =
     above s ++ name_of (option_and_then (nth_roled (g.entries s)) (parent_entry_index g d)) ∷ []
 
--- the names from 2 down to a directory that is k edges below
+-- the names from the root down to a directory that is k edges below
 unfoldable pub names_down : (g : Graph) (k d : ℕ) → List (List ℕ)
 names_down g zero d = []
 names_down g (suc k) d = names_by_parent g (names_down g k) d (parent g d)
 
--- the names from 2 down, if the directory is reached
+-- the names from the root down, if the directory is reached
 abbrev pub path_names : Graph → ℕ → Option (List (List ℕ))
 path_names g d = option_map (λ k. names_down g k d) (level g d)
 

@@ -63,7 +63,7 @@ replayed_steps v cut r (step ∷ steps) =
     (if is_replayed v cut r step then step ∷ [] else [])
     ++ replayed_steps v cut (replay_after_step v cut r step) steps
 
--- the cut of the inode x, at most 2^32 - 1; 0 where x is no inode's number
+-- the cut of the inode x, at most 2^32 - 1, as the program stores it in 32 bits; 0 where x is no inode's number
 abbrev pub cut_at : (v : Layout) (image : List ℕ) (x : ℕ) → ℕ
 cut_at v image x =
     if is_inode_number v x

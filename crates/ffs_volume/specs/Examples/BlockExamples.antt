@@ -17,7 +17,8 @@ use Rattle.ffs_volume.specs.Blocks.Inodes.{inode_of, class_of}
 use Rattle.ffs_volume.specs.Blocks.Steps.{steps_of}
 use Rattle.ffs_volume.specs.Blocks.Owners.{Owner, owners_of}
 use Rattle.ffs_volume.specs.Blocks.Claims.{no_claims, is_set, after_owners}
-use Rattle.ffs_volume.specs.Blocks.BlockCheck.{phase1_lines, phase1b_lines, kept_in_owners}
+use Rattle.ffs_volume.specs.Blocks.KeptOffers.{kept_in_owners}
+use Rattle.ffs_volume.specs.Blocks.BlockCheck.{phase1_lines, phase1b_lines}
 use Rattle.ffs_volume.specs.Blocks.KeptByRule.{all_offers, kept_by_rule}
 use Rattle.ffs_volume.specs.Groups.Records.{right_group_counts, right_frsum, right_total}
 use Rattle.ffs_volume.specs.Groups.GroupCheck.{phase5_lines, is_free_of_runs, reported_once, unreported}
@@ -156,7 +157,7 @@ pub record ClaimExamples : Type 0 where
       ∷ record { number = 4; class = Unknown; steps = []; blocks = 1 }
       ∷ record { number = 5; class = Free; steps = []; blocks = 1 } ∷ [])
       ≡ PartAlloc 3 ∷ UnknownType 4 ∷ []
-  -- the rule of `KeptByRule` keeps the same offers as `BlockCheck`
+  -- the rule of `KeptByRule` keeps the same offers as `KeptOffers`
   pub by_rule : kept_in_owners (base_layout Little) (no_claims (base_layout Little))
       (root ∷ file 3 (blocks_at 5 3) 7 ∷ [])
       ≡ kept_by_rule (base_layout Little) [] (all_offers (base_layout Little) (root ∷ file 3 (blocks_at 5 3) 7 ∷ []))

@@ -10,7 +10,7 @@ use Rattle.ffs_volume.specs.declared.Step.{Step}
 use Rattle.ffs_volume.specs.Disk.Areas.{cgbase}
 use Rattle.ffs_volume.specs.Blocks.Owners.{fragments_of}
 use Rattle.ffs_volume.specs.Blocks.Claims.{Claims, is_open, after_steps}
-use Rattle.ffs_volume.specs.Blocks.BlockCheck.{Offer, kept_in_steps, offer_of}
+use Rattle.ffs_volume.specs.Blocks.KeptOffers.{Offer, kept_in_steps, offer_of}
 use Rattle.ffs_volume.specs.Groups.Records.{right_group_counts}
 use Rattle.ffs_volume.specs.Directories.Entries.{Entry, entry_at, entries_of}
 use Rattle.ffs_volume.specs.Directories.Graph.{Graph, level}

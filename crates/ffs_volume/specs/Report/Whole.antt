@@ -38,8 +38,8 @@ claimed_count v image =
     (range_with_len 0 v.size)
 
 -- the superblock's own count of loose fragments
-abbrev pub free_frags : Superblock → ℤ
-free_frags s = slice_index_or s.cstotal 3 (pos 0)
+abbrev pub loose_fragments : Superblock → ℤ
+loose_fragments s = slice_index_or s.cstotal 3 (pos 0)
 
 -- the superblock's own count of free blocks
 abbrev pub free_blocks : Superblock → ℤ
@@ -50,8 +50,8 @@ free_blocks s = slice_index_or s.cstotal 1 (pos 0)
 -- (dsize), in tenths of a percent, rounded toward zero
 abbrev pub summary_of : (s : Superblock) (files used : ℕ) → Message
 summary_of s files used =
-    summary files used (free_frags s +ℤ pos s.layout.frag *ℤ free_blocks s) (free_frags s) (free_blocks s)
-    (int_div (free_frags s *ℤ pos 1000) (pos s.layout.dsize))
+    summary files used (loose_fragments s +ℤ pos s.layout.frag *ℤ free_blocks s) (loose_fragments s) (free_blocks s)
+    (int_div (loose_fragments s *ℤ pos 1000) (pos s.layout.dsize))
 
 -- phase 1b, where it runs
 abbrev pub rescan_lines : Layout → List ℕ → List Message

@@ -15,8 +15,8 @@ use Rattle.ffs_workspace.specs.Holds.{claims_of}
 use Rattle.ffs_workspace.specs.Ready.{IsReady}
 use Rattle.ffs_claims.specs.Lines.{of_lines}
 use Rattle.ffs_claims.proofs.Potentials.{moves_on, seen_bound, used_below}
-use Rattle.ffs_claims.proofs.Goes.{claims_on, lines_on, steps_said, cut_stays, cut_silent, gaps_stay, gaps_silent}
-use Rattle.ffs_claims.proofs.Goes.{without_steps}
+use Rattle.ffs_claims.proofs.StepsContinue.{claims_on, lines_on, steps_said, cut_stays, cut_silent, gaps_stay, gaps_silent}
+use Rattle.ffs_claims.proofs.StepsContinue.{without_steps}
 use Rattle.ffs_claims.proofs.Frames.{found_none, found_still, found_then, ready_still, ready_read, ready_walked}
 use Rattle.ffs_claims.proofs.claim.claim.Goals.{in-Gap, in_default-matches}
 use Rattle.ffs_claims.proofs.claim.claim.Goals as goal

@@ -1,6 +1,6 @@
 use Rattle.std.proofs.Common.{arith, sym, ◌∙◌}
 use Rattle.ffs_workspace.specs.Holds.{claims_of}
-use Rattle.ffs_claims.proofs.Goes.{dup_below}
+use Rattle.ffs_claims.proofs.StepsContinue.{dup_below}
 use Rattle.ffs_claims.proofs.offer.offer.Goals as goal
 
 pub overflow_cast-fragment : goal.overflow_cast-fragment

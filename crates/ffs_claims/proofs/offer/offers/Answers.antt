@@ -7,7 +7,7 @@ use Rattle.ffs_volume.proofs.Potentials.{each_ok}
 use Rattle.ffs_workspace.specs.Holds.{claims_of}
 use Rattle.ffs_report.proofs.Reporting.{to_begins, to_says, to_stops}
 use Rattle.ffs_claims.specs.Lines.{of_lines}
-use Rattle.ffs_claims.proofs.Goes.{offers_after, offers_more, offer_kept, to_same, from_start}
+use Rattle.ffs_claims.proofs.StepsContinue.{offers_after, offers_more, offer_kept, to_same, from_start}
 use Rattle.ffs_claims.proofs.Frames.{offers_none, offers_then}
 use Rattle.ffs_claims.proofs.offer.offers.Goals as goal
 

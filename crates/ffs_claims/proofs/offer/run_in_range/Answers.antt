@@ -4,7 +4,7 @@ use Rattle.std.proofs.lemmas.Result.{err_from_is_err_and}
 use Rattle.ffs_report.proofs.Reports.{said_none}
 use Rattle.ffs_workspace.specs.Holds.{claims_of}
 use Rattle.ffs_claims.proofs.Frames.{offers_claimed}
-use Rattle.ffs_claims.proofs.Whole.{whole_is, run_below}
+use Rattle.ffs_claims.proofs.UnclaimedRuns.{whole_is, run_below}
 use Rattle.ffs_claims.proofs.offer.run_in_range.Goals as goal
 
 pub claim-requires-clause-below : goal.claim-requires-clause-below

@@ -7,7 +7,8 @@ use Rattle.ffs_report.proofs.Reporting.{of_begins, of_says, of_part, of_fault, o
 use Rattle.ffs_report.proofs.Reporting.{said_knows}
 use Rattle.ffs_workspace.specs.Notes.{cut_in}
 use Rattle.ffs_workspace.proofs.NoteLaws.{cut_is_noted}
-use Rattle.ffs_volume.specs.Blocks.BlockCheck.{Offer, first_offer_lines, kept_in_owners, phase1b_lines}
+use Rattle.ffs_volume.specs.Blocks.KeptOffers.{Offer, kept_in_owners}
+use Rattle.ffs_volume.specs.Blocks.BlockCheck.{first_offer_lines, phase1b_lines}
 use Rattle.ffs_volume.specs.Blocks.Claims.{no_claims}
 use Rattle.ffs_volume.specs.Blocks.Inodes.{inode_of}
 use Rattle.ffs_volume.specs.Blocks.KeptSteps.{claims_before}
@@ -28,10 +29,10 @@ use Rattle.ffs_claims.proofs.Duplicates.{none_first, none_left, some_left}
 use Rattle.ffs_claims.proofs.Reportings.{reporting_more, reporting_ends, reporting_same}
 use Rattle.ffs_report.specs.Known.{ForBytes, IsContents}
 use Rattle.ffs_workspace.specs.Holds.{HoldsPhase1}
-use Rattle.ffs_claims.specs.SecondLook.{looked_at, owners_runs, steps_runs_again}
-use Rattle.ffs_claims.proofs.Looks.{looked_none}
-use Rattle.ffs_claims.proofs.LookBounds.{look_fits}
-use Rattle.ffs_claims.proofs.SecondLooks.{looked_on, looked_end, looked_first}
+use Rattle.ffs_claims.specs.RescanRuns.{runs_until_reported, owners_runs, steps_runs_again}
+use Rattle.ffs_claims.proofs.RescanCounts.{looked_none}
+use Rattle.ffs_claims.proofs.RescanBounds.{look_fits}
+use Rattle.ffs_claims.proofs.RescanRunLaws.{looked_on, looked_end, looked_first}
 use Rattle.ffs_claims.proofs.RunReads.{numbers_most, runs_pay_all, runs_pay_then}
 use Rattle.ffs_claims.proofs.pass1b.phase1b.Goals as goal
 
@@ -144,9 +145,9 @@ loop-number-preserved g c =
     let image = ap (λ d. d.contents) inv.device in
     let on : ForBytes (λ bytes. IsContents (g.I.Image.device c.args.image.now).contents bytes
     × HoldsPhase1 v bytes c.args.workspace.now) (λ bytes.
-    looked_at d (owners_runs v (claims_before v bytes n) (owners_from v bytes n))
-    ≡ looked_at d (steps_runs_again v n (cut_in (slice_index notes n)) fresh_replay (steps_of v (inode_of v bytes n) bytes))
-    + looked_at d' (owners_runs v (claims_before v bytes (n + 1)) (owners_from v bytes (n + 1)))) =
+    runs_until_reported d (owners_runs v (claims_before v bytes n) (owners_from v bytes n))
+    ≡ runs_until_reported d (steps_runs_again v n (cut_in (slice_index notes n)) fresh_replay (steps_of v (inode_of v bytes n) bytes))
+    + runs_until_reported d' (owners_runs v (claims_before v bytes (n + 1)) (owners_from v bytes (n + 1)))) =
     λ bytes k. looked_on v bytes notes n d d' c.args.geometry.now.sound inv.low lt inside
     (ap cut_in (cut ∙ k.1.notes n) ∙ cut_is_noted v bytes n c.args.geometry.now.sound)
     (c.in_ok-rewalk_inode.ensures.rewalks.rewalked bytes (image ∙ k.0)).reported.dup in
@@ -165,7 +166,7 @@ loop-number-preserved g c =
       );
       reads = runs_pay_then _ _ _ _ _ _ _ _ inv.reads c.rewalk_inode.ensures.counted (omega (arith, inv.low));
       count = λ bytes k.
-          let fits : c.loop-number.workspace.runs_again + looked_at d
+          let fits : c.loop-number.workspace.runs_again + runs_until_reported d
           (steps_runs_again v n (cut_in (slice_index notes n)) fresh_replay (steps_of v (inode_of v bytes n) bytes)) < 2 ^ 64 =
           omega (arith, inv.count bytes k, look_fits v bytes c.args.geometry.now.sound, on bytes k) in
           omega (

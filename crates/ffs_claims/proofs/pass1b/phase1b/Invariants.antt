@@ -2,7 +2,8 @@ use Rattle.std.proofs.Common.{◌≡◌, ◌+◌, ◌-◌, ◌<◌, ◌≤◌, �
 use Rattle.ffs_report.specs.Progress.{progress}
 use Rattle.ffs_report.specs.Known.{ForBytes, IsContents}
 use Rattle.ffs_report.specs.Runs.{SaidOf}
-use Rattle.ffs_volume.specs.Blocks.BlockCheck.{first_offer_lines, kept_in_owners, phase1b_lines}
+use Rattle.ffs_volume.specs.Blocks.KeptOffers.{kept_in_owners}
+use Rattle.ffs_volume.specs.Blocks.BlockCheck.{first_offer_lines, phase1b_lines}
 use Rattle.ffs_volume.specs.Blocks.Claims.{no_claims}
 use Rattle.ffs_volume.specs.Blocks.KeptSteps.{claims_before}
 use Rattle.ffs_volume.specs.Messages.Kinds.{phase1b}
@@ -13,7 +14,7 @@ use Rattle.ffs_workspace.specs.Lengths.{inodes_of}
 use Rattle.ffs_workspace.specs.Ready.{IsReady}
 use Rattle.ffs_claims.specs.Lines.{of_lines, owners_from}
 use Rattle.ffs_claims.specs.Reporting.{SameClaims}
-use Rattle.ffs_claims.specs.SecondLook.{RunsPay, looked_at, owners_runs, second_look}
+use Rattle.ffs_claims.specs.RescanRuns.{RunsPay, runs_until_reported, owners_runs, rescan_runs}
 use Rattle.ffs_claims.proofs.Reportings.{Reporting}
 use Rattle.ffs_claims.proofs.pass1b.phase1b.Given as goal
 
@@ -30,10 +31,10 @@ invariant-loop-number g l = record {
   reads : RunsPay (g.I.Image.reads l.fn.image + (l.number - 2)) (g.I.Image.reads l.image) 0 l.workspace.runs_again;
   count : ForBytes (λ bytes. IsContents (g.I.Image.device l.fn.image).contents bytes
       × HoldsPhase1 l.geometry.layout bytes l.fn.workspace) (λ bytes.
-      l.workspace.runs_again + looked_at (bits_of l.workspace.duplicates)
+      l.workspace.runs_again + runs_until_reported (bits_of l.workspace.duplicates)
       (owners_runs l.geometry.layout (claims_before l.geometry.layout bytes l.number)
       (owners_from l.geometry.layout bytes l.number))
-      ≡ second_look l.geometry.layout bytes);
+      ≡ rescan_runs l.geometry.layout bytes);
   reported : ForBytes (λ bytes. IsContents (g.I.Image.device l.fn.image).contents bytes
       × HoldsPhase1 l.geometry.layout bytes l.fn.workspace) (λ bytes.
       Reporting (kept_in_owners l.geometry.layout (claims_before l.geometry.layout bytes l.number)

@@ -14,7 +14,7 @@ use Rattle.ffs_workspace.specs.Ready.{IsReady}
 use Rattle.ffs_claims.specs.Lines.{of_lines}
 use Rattle.ffs_claims.specs.Rescan.{offers_again}
 use Rattle.ffs_claims.specs.Reporting.{SameClaims}
-use Rattle.ffs_claims.specs.SecondLook.{RunsPay}
+use Rattle.ffs_claims.specs.RescanRuns.{RunsPay}
 use Rattle.ffs_claims.proofs.Rewalks.{Rewalking}
 use Rattle.ffs_claims.proofs.pass1b.rewalk.Given as goal
 

@@ -16,7 +16,7 @@ use Rattle.ffs_claims.proofs.Frames.{claims_still, claims_none, claims_then}
 use Rattle.ffs_workspace.proofs.Readiness.{ready_table}
 use Rattle.ffs_workspace.specs.Notes.{cut_in}
 use Rattle.ffs_claims.proofs.Rewalks.{rewalked_from}
-use Rattle.ffs_claims.specs.SecondLook.{Rewalked}
+use Rattle.ffs_claims.specs.RescanRuns.{Rewalked}
 use Rattle.ffs_claims.proofs.pass1b.rewalk_inode.Goals as goal
 
 pub inode-requires : goal.inode-requires

@@ -1,12 +1,13 @@
 use Rattle.std.proofs.Common.{◌+◌, ◌-◌, ◌∷◌, [], arith, refl, ap, ◌∙◌, map, List, ℕ}
 use Rattle.std.specs.List.{range_with_len}
 use Rattle.std.proofs.lemmas.Result.{err_from_is_err_and}
-use Rattle.ffs_volume.specs.Blocks.BlockCheck.{Offer, first_offer_lines, offer_of}
+use Rattle.ffs_volume.specs.Blocks.KeptOffers.{Offer, offer_of}
+use Rattle.ffs_volume.specs.Blocks.BlockCheck.{first_offer_lines}
 use Rattle.ffs_maps.specs.Bits.{bits_of}
 use Rattle.ffs_report.proofs.Reporting.{to_begins, to_says, to_stops, to_ends}
 use Rattle.ffs_claims.specs.Lines.{of_lines}
 use Rattle.ffs_claims.specs.Reporting.{after_first}
-use Rattle.ffs_claims.proofs.Goes.{to_same, from_start}
+use Rattle.ffs_claims.proofs.StepsContinue.{to_same, from_start}
 use Rattle.ffs_claims.proofs.Frames.{offers_reported_none, offers_reported_then}
 use Rattle.ffs_claims.proofs.Reportings.{run_next, run_over, reporting_begins, reporting_more, reporting_ends}
 use Rattle.ffs_claims.proofs.Reportings.{reporting_same, lines_more}

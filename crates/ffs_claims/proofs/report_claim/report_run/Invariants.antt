@@ -1,6 +1,7 @@
 use Rattle.std.proofs.Common.{◌+◌, ◌-◌, map}
 use Rattle.std.specs.List.{range_with_len}
-use Rattle.ffs_volume.specs.Blocks.BlockCheck.{first_offer_lines, offer_of}
+use Rattle.ffs_volume.specs.Blocks.KeptOffers.{offer_of}
+use Rattle.ffs_volume.specs.Blocks.BlockCheck.{first_offer_lines}
 use Rattle.ffs_report.specs.Progress.{progress}
 use Rattle.ffs_report.specs.Runs.{SaidTo}
 use Rattle.ffs_maps.specs.Bits.{bits_of}

@@ -2,7 +2,7 @@ use Rattle.std.proofs.Common.{◌≡◌, true, arith}
 use Rattle.ffs_volume.specs.Disk.Areas.{is_run_in_range}
 use Rattle.ffs_maps.specs.Bits.{bits_of}
 use Rattle.ffs_workspace.specs.Holds.{claims_of}
-use Rattle.ffs_claims.proofs.Whole.{run_below}
+use Rattle.ffs_claims.proofs.UnclaimedRuns.{run_below}
 use Rattle.ffs_claims.proofs.WordClaims.{run_claims, run_silent}
 use Rattle.ffs_claims.proofs.words.claim_address.Goals as goal
 

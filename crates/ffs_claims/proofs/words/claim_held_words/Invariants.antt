@@ -1,6 +1,6 @@
 use Rattle.ffs_walk.specs.Rests.{most_steps_left}
-use Rattle.ffs_walk.specs.Words.{IsInHeldBlock}
-use Rattle.ffs_claims.specs.Words.{ClaimsWords}
+use Rattle.ffs_walk.specs.HeldWords.{IsInHeldBlock}
+use Rattle.ffs_claims.specs.SilentWords.{ClaimsWords}
 use Rattle.ffs_claims.proofs.words.claim_held_words.Given as goal
 
 abbrev pub invariant-loop-geometry : goal.invariant-loop-geometry

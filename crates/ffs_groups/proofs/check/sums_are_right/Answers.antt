@@ -2,7 +2,7 @@ use Rattle.std.proofs.Common.{◌≡◌, ◌&&◌, ◌∙◌, Bool, true, false,
 use Rattle.std.proofs.lemmas.Int.{to_z-of_z}
 use Rattle.ffs_volume.specs.Disk.Numbers.{all_below}
 use Rattle.ffs_volume.specs.Groups.Records.{group_size}
-use Rattle.ffs_groups.specs.Check.{has_bits_of, same_counts, same_run}
+use Rattle.ffs_groups.specs.Check.{has_bits_of, same_counts, same_frsum_at}
 use Rattle.ffs_groups.proofs.check.sums_are_right.Goals.{then-is_right, else-is_right, then-is_right-2, else-is_right-2}
 use Rattle.ffs_groups.proofs.check.sums_are_right.Goals as goal
 
@@ -47,7 +47,7 @@ returns-then-same_summary c =
       | then-is_right-2 w ↦ third_holds a b d _ _ first w.if-is_right-2.true (w.value-is ∙ w.same_summary.ensures)
       | else-is_right-2 w ↦ third_fails a b d _ _ first w.if-is_right-2.false w.value-is
     ] in
-    fourth_holds a b d _ _ _ second c.if-same_summary.true c.same_runs.ensures
+    fourth_holds a b d _ _ _ second c.if-same_summary.true c.same_frsum.ensures
 
 pub returns-else-same_summary : goal.returns-else-same_summary
 returns-else-same_summary c =
@@ -66,4 +66,4 @@ returns-else-same_summary c =
       | then-is_right-2 w ↦ third_holds a b d _ _ first w.if-is_right-2.true (w.value-is ∙ w.same_summary.ensures)
       | else-is_right-2 w ↦ third_fails a b d _ _ first w.if-is_right-2.false w.value-is
     ] in
-    fourth_fails a b d (all_below 8 (λ k. same_run f.frsum c.args.counts.now.runs k)) _ second c.if-same_summary.false
+    fourth_fails a b d (all_below 8 (λ k. same_frsum_at f.frsum c.args.counts.now.frsum k)) _ second c.if-same_summary.false

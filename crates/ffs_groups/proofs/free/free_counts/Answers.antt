@@ -4,9 +4,9 @@ use Rattle.std.proofs.lemmas.List.FromFn.{length-map-range_with_len}
 use Rattle.ffs_volume.specs.Disk.Areas.{cgbase}
 use Rattle.ffs_volume.specs.Groups.Records.{block_bits}
 use Rattle.ffs_maps.specs.Bits.{bits_of}
-use Rattle.ffs_groups.specs.Free.{bits_from, free_in, whole_in, loose_in, runs_in}
-use Rattle.ffs_groups.proofs.Words.{free_there, fits_blocks, fits_fragments}
-use Rattle.ffs_groups.proofs.Adding.{whole_fits, loose_fits, added_join, added_below, no_runs, count_start}
+use Rattle.ffs_groups.specs.Free.{bits_from, free_in, whole_in, loose_in, stretches_in}
+use Rattle.ffs_groups.proofs.FreeWords.{free_there, fits_blocks, fits_fragments}
+use Rattle.ffs_groups.proofs.Adding.{whole_fits, loose_fits, added_join, added_below, no_stretches, count_start}
 use Rattle.ffs_groups.proofs.Stretches.{block_from}
 use Rattle.ffs_groups.proofs.free.free_counts.Goals as goal
 
@@ -31,7 +31,7 @@ add_blocks-requires c =
             length-map-range_with_len free (cgbase c.args.geometry.now.layout c.args.group + b * frag) frag,
             c.args.geometry.now.sound.sizes.frag_high,
           ))
-          (record { blocks = omega arith; fragments = omega arith; runs = λ k. omega (arith, no_runs k) })
+          (record { blocks = omega arith; fragments = omega arith; frsum = λ k. omega (arith, no_stretches k) })
           (omega (arith, c.loop-block.auto.block-fits));
     }
 
@@ -85,7 +85,7 @@ returns c =
     free_there v (bits_of c.args.used.now) c.args.group n c.group_fragments.result c.loop-block.counts
     sizes.frag_low sizes.whole_blocks c.div_ceil-blocks.ensures c.group_fragments.ensures.within
     c.group_fragments.ensures.value
-    blocks fragments (λ k. all.runs k ∙ count_start (λ b. runs_in k (bits b)) n n _ (no_runs k) refl)
+    blocks fragments (λ k. all.frsum k ∙ count_start (λ b. stretches_in k (bits b)) n n _ (no_stretches k) refl)
     (fits_blocks c.loop-block.counts.blocks _ n c.group_fragments.result v.frag v.size _ _ blocks (whole_fits bits n)
     sizes.frag_low sizes.frag_high c.div_ceil-blocks.ensures c.group_fragments.ensures.value
     c.args.geometry.now.sound.numbers.size_below)

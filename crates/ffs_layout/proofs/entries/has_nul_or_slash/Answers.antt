@@ -1,6 +1,6 @@
 use Rattle.std.proofs.Common.{◌∙◌, ◌*◌, ◌-◌, ◌/◌, ◌≤◌, ap, sym, length, arith}
 use Rattle.ffs_layout.specs.Entry.{has_mark}
-use Rattle.ffs_layout.proofs.Parts.{mark_from, mark_none, mark_some}
+use Rattle.ffs_layout.proofs.ListParts.{mark_from, mark_none, mark_some}
 use Rattle.ffs_layout.proofs.entries.has_nul_or_slash.Goals as goal
 
 pub loop-part-preserved : goal.loop-part-preserved

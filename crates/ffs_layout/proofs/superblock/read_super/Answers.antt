@@ -37,8 +37,8 @@ returns-in_default-clause-answer g c =
           (magic _ _ c.args.sector _ long start _ copy.inside copy.bytes (sym c.in_default.ensures) b e),
     )
 
-pub returns-in_err-geometry-clause-unread : goal.returns-in_err-geometry-clause-unread
-returns-in_err-geometry-clause-unread g c =
+pub returns-in_err-geometry-clause-unreadable : goal.returns-in_err-geometry-clause-unreadable
+returns-in_err-geometry-clause-unreadable g c =
     let p = err_from_is_err_and c.from_residual-in_err-geometry.result c.from_residual-in_err-geometry.ensures.1 in
     rw (p.1, p.2) (λ at e. absurd (no_read_fault _ _ at (c.in_err-geometry.ensures ∙ ap Some e)))
 

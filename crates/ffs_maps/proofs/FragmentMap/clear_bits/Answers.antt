@@ -1,7 +1,7 @@
 use Rattle.std.proofs.Common.{arith, ap, ◌∙◌, ◌+◌, ◌-◌, ◌%◌, nat_eq, inl, inr}
 use Rattle.std.proofs.lemmas.Bool.{cases_lt}
 use Rattle.ffs_maps.specs.Bits.{bits_of, is_clear}
-use Rattle.ffs_maps.proofs.Words.{joined, joined_above}
+use Rattle.ffs_maps.proofs.WordShifts.{joined, joined_above}
 use Rattle.ffs_maps.proofs.FragmentMap.clear_bits.Goals as goal
 
 pub returns : goal.returns

@@ -1,5 +1,5 @@
 use Rattle.std.proofs.Common.{arith, rules}
-use Rattle.ffs_maps.proofs.Words.{clear_is, clear_in_last}
+use Rattle.ffs_maps.proofs.WordShifts.{clear_is, clear_in_last}
 use Rattle.ffs_maps.proofs.FragmentMap.clear_word.Goals as goal
 
 pub returns-then-index-whole : goal.returns-then-index-whole

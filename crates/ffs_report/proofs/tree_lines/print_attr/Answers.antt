@@ -65,4 +65,4 @@ returns g c =
     (prints_pair_then _ _ _ (decimal a.uid) texts.MODE.now (concat (from_mode a)) _ c.in_ok-print_count.ensures
     (prints_then _ _ _ (octal a.mode) (concat (from_size a)) _ c.in_ok-print_octal.ensures
     (prints_parts_then _ _ _ (size a) (signed_decimal a.mtime ∷ []) _ c.in_ok-print_number-2.ensures
-    (rw (narrow, wide) at c.print_total.ensures))))
+    (rw (narrow, wide) at c.print_signed.ensures))))

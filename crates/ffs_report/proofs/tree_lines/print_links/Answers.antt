@@ -15,15 +15,15 @@ returns-in_err-print_kind g c =
     (concat (signed_decimal c.args.count ∷ texts.SHOULD_BE.now ∷ right)) _ c.from_residual.ensures.0
     c.in_err-print_kind.ensures
 
-pub returns-in_err-print_total : goal.returns-in_err-print_total
-returns-in_err-print_total g c =
+pub returns-in_err-print_signed : goal.returns-in_err-print_signed
+returns-in_err-print_signed g c =
     let narrow : to_z w16 (of_z w16 c.args.count) ≡ c.args.count = grind (arith, to_z-of_z) in
     let wide : to_z w64 (of_z w64 c.args.count) ≡ c.args.count = grind (arith, to_z-of_z) in
     let right = decimal c.args.right ∷ texts.ADJUST.now ∷ [] in
     labelled_then _ _ _ texts.LINK_COUNT.now c.args.label c.args.attr.now texts.COUNT.now
     (concat (signed_decimal c.args.count ∷ texts.SHOULD_BE.now ∷ right)) _ c.in_ok-print_kind.ensures
     (prints_pair_broken _ _ (signed_decimal c.args.count) texts.SHOULD_BE.now (concat right) _
-    c.from_residual-in_err-print_total.ensures.0 (rw (narrow, wide) at c.in_err-print_total.ensures))
+    c.from_residual-in_err-print_signed.ensures.0 (rw (narrow, wide) at c.in_err-print_signed.ensures))
 
 pub returns : goal.returns
 returns g c =
@@ -33,5 +33,5 @@ returns g c =
     labelled_then _ _ _ texts.LINK_COUNT.now c.args.label c.args.attr.now texts.COUNT.now
     (concat (signed_decimal c.args.count ∷ texts.SHOULD_BE.now ∷ right)) _ c.in_ok-print_kind.ensures
     (prints_pair_then _ _ _ (signed_decimal c.args.count) texts.SHOULD_BE.now (concat right) _
-    (rw (narrow, wide) at c.in_ok-print_total.ensures)
+    (rw (narrow, wide) at c.in_ok-print_signed.ensures)
     (prints_pair_end _ _ (decimal c.args.right) texts.ADJUST.now _ c.print_count.ensures))

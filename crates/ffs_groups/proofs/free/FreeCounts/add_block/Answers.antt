@@ -1,6 +1,6 @@
 use Rattle.std.proofs.Common.{arith}
-use Rattle.ffs_groups.proofs.Whole.{whole_by_mask, not_whole_by_mask}
-use Rattle.ffs_groups.proofs.Words.{none_by_mask}
+use Rattle.ffs_groups.proofs.WholeBlocks.{whole_by_mask, not_whole_by_mask}
+use Rattle.ffs_groups.proofs.FreeWords.{none_by_mask}
 use Rattle.ffs_groups.proofs.free.FreeCounts.add_block.Goals as goal
 
 pub returns-then-free-full : goal.returns-then-free-full
@@ -9,7 +9,7 @@ returns-then-free-full c =
     record {
       blocks = rw whole (omega arith);
       fragments = rw whole (omega arith);
-      runs = λ k. rw whole (omega arith);
+      frsum = λ k. rw whole (omega arith);
     }
 
 pub returns-then-free-ne0 : goal.returns-then-free-ne0
@@ -18,7 +18,7 @@ returns-then-free-ne0 c =
     record {
       blocks = rw loose c.add_loose.ensures.blocks;
       fragments = rw loose c.add_loose.ensures.fragments;
-      runs = λ k. rw loose (c.add_loose.ensures.runs k);
+      frsum = λ k. rw loose (c.add_loose.ensures.frsum k);
     }
 
 pub returns-else-free-ne0 : goal.returns-else-free-ne0
@@ -27,5 +27,5 @@ returns-else-free-ne0 c =
     record {
       blocks = omega (arith, none.0);
       fragments = omega (arith, none.1);
-      runs = λ k. omega (arith, none.2 k);
+      frsum = λ k. omega (arith, none.2 k);
     }

@@ -1,7 +1,7 @@
 use Rattle.std.proofs.Common.{arith, ◌≡◌, ◌+◌, ◌-◌, ap, sym, ◌∙◌, slice_index, count_by}
 use Rattle.ffs_groups.specs.Free.{word_bits}
-use Rattle.ffs_groups.proofs.Runs.{free_next, used_next, run_grows, run_ends, bit_set, bit_clear, runs_within}
-use Rattle.ffs_groups.proofs.Runs.{free_within, keep_low, one_more_fits}
+use Rattle.ffs_groups.proofs.FreeStretches.{free_next, used_next, stretch_grows, stretch_ends, bit_set, bit_clear, stretches_within}
+use Rattle.ffs_groups.proofs.FreeStretches.{free_within, keep_low, one_more_fits}
 use Rattle.ffs_groups.proofs.free.FreeCounts.add_loose.Goals.{then-bits-index-eq1, else-bits-index-eq1}
 use Rattle.ffs_groups.proofs.free.FreeCounts.add_loose.Goals as goal
 
@@ -22,29 +22,29 @@ overflow_add-self c =
           c.requires.below.fragments,
     )
 
-pub end_run-requires-clause-below : goal.end_run-requires-clause-below
-end_run-requires-clause-below c = record {
+pub end_stretch-requires-clause-below : goal.end_stretch-requires-clause-below
+end_stretch-requires-clause-below c = record {
   blocks = omega (arith, c.loop-index.invariant.blocks, c.requires.below.blocks);
   fragments = keep_low _ _ _ _ c.loop-index.invariant.fragments
       (omega (arith, free_within c.args.bits c.args.frag)) c.requires.below.fragments;
-  runs = λ k. keep_low _ _ _ _ (c.loop-index.invariant.runs k) (omega (arith, runs_within c.args.bits c.args.frag k))
-      (c.requires.below.runs k);
+  frsum = λ k. keep_low _ _ _ _ (c.loop-index.invariant.frsum k) (omega (arith, stretches_within c.args.bits c.args.frag k))
+      (c.requires.below.frsum k);
 }
 
-pub end_run-requires-2-clause-below : goal.end_run-requires-2-clause-below
-end_run-requires-2-clause-below c = record {
+pub end_stretch-requires-2-clause-below : goal.end_stretch-requires-2-clause-below
+end_stretch-requires-2-clause-below c = record {
   blocks = omega (arith, c.loop-index.invariant.blocks, c.requires.below.blocks);
   fragments = keep_low _ _ _ _ c.loop-index.invariant.fragments
       (omega (arith, free_within c.args.bits c.args.frag)) c.requires.below.fragments;
-  runs = λ k. keep_low _ _ _ _ (c.loop-index.invariant.runs k) (omega (arith, runs_within c.args.bits c.args.frag k))
-      (c.requires.below.runs k);
+  frsum = λ k. keep_low _ _ _ _ (c.loop-index.invariant.frsum k) (omega (arith, stretches_within c.args.bits c.args.frag k))
+      (c.requires.below.frsum k);
 }
 
 pub loop-index-preserved : goal.loop-index-preserved
 loop-index-preserved c =
     let left : c.args.frag - c.loop-index.index ≡ c.args.frag - (c.loop-index.index + 1) + 1 = omega arith in
     elim c.if-bits-index-eq1.branch [
-      | then-bits-index-eq1 w ↦ rw (w.self-is, w.run-is) (record {
+      | then-bits-index-eq1 w ↦ rw (w.self-is, w.stretch-is) (record {
         fragments = omega (
           arith,
           c.loop-index.invariant.fragments,
@@ -52,31 +52,31 @@ loop-index-preserved c =
               (c.args.frag - (c.loop-index.index + 1)) left
               (bit_set c.args.bits c.loop-index.index w.if-bits-index-eq1.true),
         );
-        runs = λ k. ap (λ n. slice_index c.loop-index.self.runs k + n)
-            (sym (run_grows c.args.bits c.loop-index.index (c.args.frag - c.loop-index.index)
-            (c.args.frag - (c.loop-index.index + 1)) c.loop-index.run k left
-            (bit_set c.args.bits c.loop-index.index w.if-bits-index-eq1.true))) ∙ c.loop-index.invariant.runs k;
-        run = omega (arith, c.loop-index.invariant.run);
+        frsum = λ k. ap (λ n. slice_index c.loop-index.self.frsum k + n)
+            (sym (stretch_grows c.args.bits c.loop-index.index (c.args.frag - c.loop-index.index)
+            (c.args.frag - (c.loop-index.index + 1)) c.loop-index.stretch k left
+            (bit_set c.args.bits c.loop-index.index w.if-bits-index-eq1.true))) ∙ c.loop-index.invariant.frsum k;
+        stretch = omega (arith, c.loop-index.invariant.stretch);
         blocks = c.loop-index.invariant.blocks;
       })
-      | else-bits-index-eq1 w ↦ rw (w.self-is, w.run-is) (record {
+      | else-bits-index-eq1 w ↦ rw (w.self-is, w.stretch-is) (record {
         fragments = omega (
           arith,
-          w.end_run.ensures.fragments,
+          w.end_stretch.ensures.fragments,
           c.loop-index.invariant.fragments,
           used_next c.args.bits c.loop-index.index (c.args.frag - c.loop-index.index)
               (c.args.frag - (c.loop-index.index + 1)) left
               (bit_clear c.args.bits c.loop-index.index w.if-bits-index-eq1.false),
         );
-        runs = λ k. omega (
+        frsum = λ k. omega (
           arith,
-          w.end_run.ensures.runs k,
-          c.loop-index.invariant.runs k,
-          run_ends c.args.bits c.loop-index.index (c.args.frag - c.loop-index.index)
-              (c.args.frag - (c.loop-index.index + 1)) c.loop-index.run k left
+          w.end_stretch.ensures.frsum k,
+          c.loop-index.invariant.frsum k,
+          stretch_ends c.args.bits c.loop-index.index (c.args.frag - c.loop-index.index)
+              (c.args.frag - (c.loop-index.index + 1)) c.loop-index.stretch k left
               (bit_clear c.args.bits c.loop-index.index w.if-bits-index-eq1.false),
         );
-        run = omega arith;
-        blocks = omega (arith, w.end_run.ensures.blocks, c.loop-index.invariant.blocks);
+        stretch = omega arith;
+        blocks = omega (arith, w.end_stretch.ensures.blocks, c.loop-index.invariant.blocks);
       })
     ]

@@ -9,9 +9,9 @@ invariant-loop-index l = record {
   fragments : l.self.fragments + count_by (λ f. f)
       (word_bits l.bits l.index (l.frag - l.index)) ≡ l.initial.self.fragments + count_by (λ f. f)
       (word_bits l.bits 0 l.frag);
-  runs : (k : ℕ) → slice_index l.self.runs k + count_by (λ n. n == k)
-      (free_stretches l.run (word_bits l.bits l.index (l.frag - l.index)))
-      ≡ slice_index l.initial.self.runs k + count_by (λ n. n == k) (free_stretches 0 (word_bits l.bits 0 l.frag));
-  run : l.run ≤ l.index;
+  frsum : (k : ℕ) → slice_index l.self.frsum k + count_by (λ n. n == k)
+      (free_stretches l.stretch (word_bits l.bits l.index (l.frag - l.index)))
+      ≡ slice_index l.initial.self.frsum k + count_by (λ n. n == k) (free_stretches 0 (word_bits l.bits 0 l.frag));
+  stretch : l.stretch ≤ l.index;
   blocks : l.self.blocks ≡ l.initial.self.blocks;
 }

@@ -1,9 +1,9 @@
 use Rattle.std.proofs.Common.{arith, refl, ap, ◌≡◌, ◌+◌, ◌*◌, ◌/◌, ◌^◌, ◌≤◌}
 use Rattle.ffs_groups.specs.Free.{word_bits}
-use Rattle.ffs_groups.proofs.Runs.{length_bits}
+use Rattle.ffs_groups.proofs.FreeStretches.{length_bits}
 use Rattle.ffs_groups.proofs.Adding.{added_more, added_below}
-use Rattle.ffs_groups.proofs.Words.{zero_word, full_word}
-use Rattle.ffs_groups.proofs.Single.{added_single, added_of_one}
+use Rattle.ffs_groups.proofs.FreeWords.{zero_word, full_word}
+use Rattle.ffs_groups.proofs.OneFragmentBlocks.{added_single, added_of_one}
 use Rattle.ffs_groups.proofs.free.FreeCounts.add_word.Goals as goal
 
 pub add_block-requires : goal.add_block-requires
@@ -24,7 +24,7 @@ pub loop-block-preserved : goal.loop-block-preserved
 loop-block-preserved c =
     added_more (λ b. word_bits (c.args.word / 2 ^ (b * c.args.frag)) 0 c.args.frag) c.loop-block.block c.args.self.now
     c.loop-block.self c.add_block.new.self c.loop-block.invariant
-    c.add_block.ensures.blocks c.add_block.ensures.fragments c.add_block.ensures.runs
+    c.add_block.ensures.blocks c.add_block.ensures.fragments c.add_block.ensures.frsum
 
 pub returns : goal.returns
 returns c = let all : c.loop-block.block ≡ c.args.blocks = omega arith in rw all at c.loop-block.invariant

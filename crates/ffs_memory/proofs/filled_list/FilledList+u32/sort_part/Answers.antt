@@ -4,7 +4,7 @@ use Rattle.std.specs.List.Sorted.{IsNonDecreasing, IsPermutation}
 use Rattle.std.specs.Vec.{vec_ptr}
 use Rattle.std.proofs.lemmas.List.Sorted.{IsNonDecreasingBy-from_sort}
 use Rattle.std.proofs.lemmas.List.{length-drop, length-take-le}
-use Rattle.ffs_memory.proofs.Parts.{with_part, part_alone, before_part, part_new, part_old, after_part}
+use Rattle.ffs_memory.proofs.SortedParts.{with_part, part_alone, before_part, part_new, part_old, after_part}
 use Rattle.ffs_memory.proofs.Touched.{same_filled}
 use Rattle.ffs_memory.proofs.filled_list.FilledList+u32.sort_part.Goals as goal
 

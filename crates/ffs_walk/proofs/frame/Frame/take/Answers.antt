@@ -7,7 +7,7 @@ use Rattle.ffs_walk.proofs.frame.Frame.take.Goals.{then-self+else-any_from, else
 
 pub returns-clause-item : goal.returns-clause-item
 returns-clause-item g c =
-    let no : c.args.self.now.fresh ≡ true → any_nonzero_from c.args.geometry.now.layout c.bytes-block.result.now
+    let no : c.args.self.now.unread ≡ true → any_nonzero_from c.args.geometry.now.layout c.bytes-block.result.now
     c.args.self.now.used ≡ false =
     elim c.if-self.branch [
       | then-self+else-any_from w ↦ (λ h. sym w.any_from.ensures ∙ w.if-any_from.false)

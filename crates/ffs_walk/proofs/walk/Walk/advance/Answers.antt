@@ -2,7 +2,7 @@ use Rattle.std.proofs.Common.{arith, rules, ◌*◌, ◌+◌, ◌-◌, ◌∷◌
 use Rattle.ffs_volume.specs.declared.Step.{Step}
 use Rattle.ffs_volume.specs.Blocks.Steps.{steps_at}
 use Rattle.ffs_walk.specs.Frames.{frame_rest, frame_left, item_left}
-use Rattle.ffs_walk.specs.Rests.{steps_left, most_steps_left, most_at, extent_of}
+use Rattle.ffs_walk.specs.Rests.{steps_left, most_steps_left, most_at, file_blocks_of}
 use Rattle.ffs_walk.proofs.GapSteps.{in_first}
 use Rattle.ffs_walk.proofs.FrameSteps.{item_below, word_fits, kept_fits, words_fit, some_left, item_one, falls_by}
 use Rattle.ffs_walk.proofs.FrameSteps.{falls_in_double, falls_in_triple}
@@ -178,8 +178,8 @@ returns-then-is_left-clause-step g c =
     let words = w.geometry.layout.nindir in
     record {
       steps = λ bytes t. in_first _ _ _ (c.step_in_single.result ∷ [])
-          (c.in_ok-item.ensures.item.steps bytes t (steps_at (extent_of w) bytes 0)
-          ∙ ap (λ (xs : List Step). xs ++ frame_rest w.geometry.layout bytes (steps_at (extent_of w) bytes 0) 1
+          (c.in_ok-item.ensures.item.steps bytes t (steps_at (file_blocks_of w) bytes 0)
+          ∙ ap (λ (xs : List Step). xs ++ frame_rest w.geometry.layout bytes (steps_at (file_blocks_of w) bytes 0) 1
           c.take.new.self) (c.step_in_single.ensures.steps bytes));
       fits = c.step_in_single.ensures.fits;
       falls = falls_by (item_left 1 c.in_ok-item.item) (frame_left 1 c.take.new.self) (frame_left 1 w.single)

@@ -3,7 +3,7 @@ use Rattle.ffs_volume.specs.Blocks.Steps.{indirect_addresses_needed}
 use Rattle.ffs_walk.proofs.Begun.{unused_fits}
 use Rattle.ffs_walk.proofs.FrameSteps.{entered_left, is_set}
 use Rattle.ffs_walk.proofs.WalkSteps.{spent_rest, spent_left}
-use Rattle.ffs_walk.proofs.Counted.{spent_held, not_fresh}
+use Rattle.ffs_walk.proofs.Counted.{spent_held, still_unread}
 use Rattle.ffs_walk.proofs.walk.Walk.enter.Goals as goal
 
 pub returns-then-address-eq0 : goal.returns-then-address-eq0
@@ -53,5 +53,5 @@ returns c =
         in_range_there = λ h. sym c.if-not-in_range.ensures;
         indirect = λ h. c.requires.first.0;
       };
-      counted = record { unread = omega arith; held = λ level blocks read left. absurd (not_fresh read) };
+      counted = record { unread = omega arith; held = λ level blocks read left. absurd (still_unread read) };
     }

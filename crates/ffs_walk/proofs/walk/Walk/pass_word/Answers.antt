@@ -1,5 +1,5 @@
 use Rattle.std.proofs.Common.{◌+◌, ◌∷◌, [], lit<, refl}
-use Rattle.ffs_walk.specs.Words.{next_address, word_step}
+use Rattle.ffs_walk.specs.HeldWords.{next_address, word_step}
 use Rattle.ffs_walk.proofs.GapSteps.{in_first}
 use Rattle.ffs_walk.proofs.WordSteps.{word_first}
 use Rattle.ffs_walk.specs.Windows.{level_bytes}

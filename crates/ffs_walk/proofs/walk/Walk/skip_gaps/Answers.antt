@@ -1,7 +1,7 @@
 use Rattle.std.proofs.Common.{arith, refl, ◌*◌, ◌<◌, replicate}
 use Rattle.ffs_volume.specs.declared.Step.TheVariants.{Gap}
 use Rattle.ffs_volume.specs.Blocks.Steps.{steps_at}
-use Rattle.ffs_walk.specs.Rests.{extent_of, most_at}
+use Rattle.ffs_walk.specs.Rests.{file_blocks_of, most_at}
 use Rattle.ffs_walk.proofs.GapSteps.{in_first, in_second, in_third, zero_gap}
 use Rattle.ffs_walk.proofs.FrameSteps.{kept_fits, words_fit}
 use Rattle.ffs_walk.proofs.WalkSteps.{spent_rest}
@@ -13,8 +13,8 @@ returns-then-is_left c = record {
   steps = λ reported holds bytes e.
       let w = c.args.self.now in
       in_first _ _ _ (replicate c.skip_gaps.result Gap)
-      (c.skip_gaps.ensures.steps reported holds bytes e (steps_at (extent_of w) bytes 0) 1
-      (zero_gap (extent_of w) bytes 0));
+      (c.skip_gaps.ensures.steps reported holds bytes e (steps_at (file_blocks_of w) bytes 0) 1
+      (zero_gap (file_blocks_of w) bytes 0));
   falls =
       let fewer = c.skip_gaps.ensures.falls (most_at c.args.self.now.geometry.layout.nindir 0) in
       omega (arith, fewer);
@@ -37,9 +37,9 @@ returns-then-is_left-2 c = record {
       let w = c.args.self.now in
       let g = w.geometry.layout in
       in_second _ _ _ _ (replicate c.skip_gaps-then-is_left-2.result Gap)
-      (spent_rest g bytes (steps_at (extent_of w) bytes 0) 1 w.single (c.is_left.ensures.spent c.if-is_left.false))
-      (c.skip_gaps-then-is_left-2.ensures.steps reported holds bytes e (steps_at (extent_of w) bytes 1) g.nindir
-      (zero_gap (extent_of w) bytes 1));
+      (spent_rest g bytes (steps_at (file_blocks_of w) bytes 0) 1 w.single (c.is_left.ensures.spent c.if-is_left.false))
+      (c.skip_gaps-then-is_left-2.ensures.steps reported holds bytes e (steps_at (file_blocks_of w) bytes 1) g.nindir
+      (zero_gap (file_blocks_of w) bytes 1));
   falls =
       let fewer = c.skip_gaps-then-is_left-2.ensures.falls (most_at c.args.self.now.geometry.layout.nindir 1) in
       omega (arith, fewer);
@@ -62,11 +62,11 @@ returns-then-is_left-3 c = record {
       let w = c.args.self.now in
       let g = w.geometry.layout in
       in_third _ _ _ _ _ (replicate c.skip_gaps-then-is_left-3.result Gap)
-      (spent_rest g bytes (steps_at (extent_of w) bytes 0) 1 w.single (c.is_left.ensures.spent c.if-is_left.false))
-      (spent_rest g bytes (steps_at (extent_of w) bytes 1) g.nindir w.double
+      (spent_rest g bytes (steps_at (file_blocks_of w) bytes 0) 1 w.single (c.is_left.ensures.spent c.if-is_left.false))
+      (spent_rest g bytes (steps_at (file_blocks_of w) bytes 1) g.nindir w.double
       (c.is_left-2.ensures.spent c.if-is_left-2.false))
-      (c.skip_gaps-then-is_left-3.ensures.steps reported holds bytes e (steps_at (extent_of w) bytes 2)
-      (g.nindir * g.nindir) (zero_gap (extent_of w) bytes 2));
+      (c.skip_gaps-then-is_left-3.ensures.steps reported holds bytes e (steps_at (file_blocks_of w) bytes 2)
+      (g.nindir * g.nindir) (zero_gap (file_blocks_of w) bytes 2));
   falls =
       let fewer = c.skip_gaps-then-is_left-3.ensures.falls (most_at c.args.self.now.geometry.layout.nindir 2) in
       omega (arith, fewer);

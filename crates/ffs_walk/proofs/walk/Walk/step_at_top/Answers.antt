@@ -1,6 +1,6 @@
 use Rattle.std.proofs.Common.{arith, ◌≡◌, refl}
 use Rattle.ffs_walk.specs.Frames.{frame_left}
-use Rattle.ffs_walk.specs.Rests.{extent_of, most_at}
+use Rattle.ffs_walk.specs.Rests.{file_blocks_of, most_at}
 use Rattle.ffs_volume.specs.Blocks.Steps.{steps_at}
 use Rattle.ffs_walk.proofs.WalkSteps.{top_ends, top_data, top_single, top_double, top_triple, most_below, top_falls}
 use Rattle.ffs_walk.proofs.WalkSteps.{top_over, some_words, square_some, no_step, not_over, one_on}
@@ -22,14 +22,14 @@ pub returns-in-12-clause-steps : goal.returns-in-12-clause-steps
 returns-in-12-clause-steps c =
     λ bytes. top_single bytes c.args.self.now c.enter-step.result.0 c.enter-step.result.1 (omega (arith, c.args.self.now.in_order)) c.in-12.is
     c.requires.single c.requires.double c.requires.triple
-    (c.enter-step.ensures.steps bytes (steps_at (extent_of c.args.self.now) bytes 0))
+    (c.enter-step.ensures.steps bytes (steps_at (file_blocks_of c.args.self.now) bytes 0))
 
 pub returns-in-13-clause-steps : goal.returns-in-13-clause-steps
 returns-in-13-clause-steps c =
     λ bytes. top_double bytes c.args.self.now c.from-words.result c.enter-step-in-13.result.0
     c.enter-step-in-13.result.1 (omega (arith, c.args.self.now.in_order)) c.in-13.is
     c.from-words.ensures c.requires.single c.requires.double c.requires.triple
-    (c.enter-step-in-13.ensures.steps bytes (steps_at (extent_of c.args.self.now) bytes 1))
+    (c.enter-step-in-13.ensures.steps bytes (steps_at (file_blocks_of c.args.self.now) bytes 1))
 
 pub returns-in_default-clause-steps : goal.returns-in_default-clause-steps
 returns-in_default-clause-steps c =
@@ -37,7 +37,7 @@ returns-in_default-clause-steps c =
     λ bytes. top_triple bytes c.args.self.now c.from-words.result c.enter-step-in_default.result.0
     c.enter-step-in_default.result.1 (omega (arith, c.args.self.now.in_order)) last
     c.from-words.ensures c.requires.single c.requires.double c.requires.triple
-    (c.enter-step-in_default.ensures.steps bytes (steps_at (extent_of c.args.self.now) bytes 2))
+    (c.enter-step-in_default.ensures.steps bytes (steps_at (file_blocks_of c.args.self.now) bytes 2))
 
 pub returns-then-block-lt-NDADDR-clause-left : goal.returns-then-block-lt-NDADDR-clause-left
 returns-then-block-lt-NDADDR-clause-left c =

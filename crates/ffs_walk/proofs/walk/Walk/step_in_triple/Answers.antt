@@ -1,6 +1,6 @@
 use Rattle.std.proofs.Common.{arith, rules, refl}
 use Rattle.std.proofs.lemmas.Grind.{common_steps}
-use Rattle.ffs_walk.specs.Rests.{extent_of}
+use Rattle.ffs_walk.specs.Rests.{file_blocks_of}
 use Rattle.ffs_volume.specs.Blocks.Steps.{steps_at}
 use Rattle.ffs_walk.proofs.WalkSteps.{in_triple}
 use Rattle.ffs_walk.proofs.Counted.{enters_double}
@@ -13,7 +13,7 @@ returns-in-Word c = record {
       (in_triple c.args.self.now bytes c.from-words.result c.in-Word.address c.in-Word.block c.enter-step.result.0
       c.enter-step.result.1
       c.from-words.ensures c.requires.spent.0 c.requires.spent.1
-      (c.enter-step.ensures.steps bytes (steps_at (extent_of c.args.self.now) bytes 1)));
+      (c.enter-step.ensures.steps bytes (steps_at (file_blocks_of c.args.self.now) bytes 1)));
   fits = search rules;
   left = grind (arith, common_steps);
   same = search rules;

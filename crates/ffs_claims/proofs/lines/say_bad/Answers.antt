@@ -1,18 +1,18 @@
 use Rattle.std.proofs.Common.{◌∷◌, [], if◌then◌else◌}
 use Rattle.std.proofs.lemmas.Result.{err_from_is_err_and}
 use Rattle.ffs_volume.specs.Messages.Kinds.{of_blocks}
-use Rattle.ffs_volume.specs.declared.BlockMessage.TheVariants.{Dup, ManyDup}
+use Rattle.ffs_volume.specs.declared.BlockMessage.TheVariants.{Bad, ManyBad}
 use Rattle.ffs_report.proofs.Reports.{stopped_more, says_then}
 use Rattle.ffs_claims.specs.Lines.{of_lines}
-use Rattle.ffs_claims.proofs.offer.say_dup.Goals as goal
+use Rattle.ffs_claims.proofs.lines.say_bad.Goals as goal
 
 pub returns-in_err-say : goal.returns-in_err-say
 returns-in_err-say g c =
     let p = err_from_is_err_and c.from_residual.result c.from_residual.ensures.1 in
-    rw (p.1) (stopped_more _ _ (of_blocks (Dup c.args.fragment c.args.inode) ∷ [])
-    (of_lines (if c.args.many then ManyDup c.args.inode ∷ [] else [])) c.in_err-say.ensures.said)
+    rw (p.1) (stopped_more _ _ (of_blocks (Bad c.args.fragment c.args.inode) ∷ [])
+    (of_lines (if c.args.many then ManyBad c.args.inode ∷ [] else [])) c.in_err-say.ensures.said)
 
 pub returns-then-many : goal.returns-then-many
 returns-then-many g c =
-    rw c.if-many.true (says_then _ _ _ (of_blocks (Dup c.args.fragment c.args.inode) ∷ [])
-    (of_blocks (ManyDup c.args.inode) ∷ []) _ c.in_ok-say.ensures.said c.say-then-many.ensures.said)
+    rw c.if-many.true (says_then _ _ _ (of_blocks (Bad c.args.fragment c.args.inode) ∷ [])
+    (of_blocks (ManyBad c.args.inode) ∷ []) _ c.in_ok-say.ensures.said c.say-then-many.ensures.said)

@@ -11,7 +11,8 @@ use Rattle.ffs_volume.specs.Blocks.Claims.{Claims, no_claims, at_next_inode, is_
 use Rattle.ffs_volume.specs.Blocks.Claims.{after_step, after_owner, after_owners}
 use Rattle.ffs_volume.specs.declared.Inode.{Inode}
 use Rattle.ffs_volume.specs.Blocks.Steps.{steps_of}
-use Rattle.ffs_volume.specs.Blocks.BlockCheck.{Offer, first_offer_lines, kept_in_run, offer_of}
+use Rattle.ffs_volume.specs.Blocks.KeptOffers.{Offer, kept_in_run, offer_of}
+use Rattle.ffs_volume.specs.Blocks.BlockCheck.{first_offer_lines}
 use Rattle.ffs_volume.specs.Encodings.Replay.{Replay, is_replay_open, fresh_replay}
 use Rattle.ffs_volume.specs.Encodings.ReplayCounts.{replayed_runs, replay_step_by_cut}
 use Rattle.ffs_image.specs.Device.{Device}
@@ -46,14 +47,14 @@ owners_runs v s (o ∷ os) =
 
 -- how many of some Runs are looked at, by their kept offers: all up to the one that reports the
 -- last fragment with a DUP line
-unfoldable pub looked_at : List Bool → List (List Offer) → ℕ
-looked_at dup [] = 0
-looked_at dup (kept ∷ runs) = if set_count dup == 0 then 0 else 1 + looked_at (after_first dup kept) runs
+unfoldable pub runs_until_reported : List Bool → List (List Offer) → ℕ
+runs_until_reported dup [] = 0
+runs_until_reported dup (kept ∷ runs) = if set_count dup == 0 then 0 else 1 + runs_until_reported (after_first dup kept) runs
 
--- how many Runs of an image the second look sees
-unfoldable pub second_look : Layout → List ℕ → ℕ
-second_look v image =
-    looked_at (after_owners v (no_claims v) (owners_of v image)).dup
+-- how many Runs of an image the rescan looks at
+unfoldable pub rescan_runs : Layout → List ℕ → ℕ
+rescan_runs v image =
+    runs_until_reported (after_owners v (no_claims v) (owners_of v image)).dup
     (owners_runs v (no_claims v) (owners_of v image))
 
 -- the kept offers of each Run that is seen, replayed
@@ -92,7 +93,7 @@ pub record StepReported (v : Layout) (inode : ℕ) (step : Step) (k k' : Keeping
 -- counted up to the one that reports the last fragment with a DUP line
 pub record Rewalked (v : Layout) (inode cut : ℕ) (steps : List Step) (old new : Workspace) : Type 0 where
   pub reported : OffersReported (offers_again v inode cut fresh_replay steps) old new
-  pub count : RoseBy old.runs_again new.runs_again (looked_at (bits_of old.duplicates)
+  pub count : RoseBy old.runs_again new.runs_again (runs_until_reported (bits_of old.duplicates)
       (steps_runs_again v inode cut fresh_replay steps))
 
 -- an inode with this cut is walked over again: the first claims among its kept offers are

@@ -11,7 +11,7 @@ use Rattle.ffs_walk.specs.Rests.{steps_left}
 
 -- the single indirect block that a walk is in is held, and was read before
 pub record IsInHeldBlock (blocks : Blocks) (w : Walk) : Type 0 where
-  pub read : w.single.fresh ≡ false
+  pub read : w.single.unread ≡ false
   pub held : held_address 0 blocks ≡ Some w.single.address
 
 -- the address at the next word of the single indirect block that a walk is in

@@ -1,4 +1,4 @@
--- The runs of free fragments in a block.
+-- The stretches of free fragments in a block.
 use Rattle.std.proofs.Common.{◌≡◌, ℕ, zero, suc, ◌+◌, ◌-◌, ◌<◌, ◌≤◌, Bool, true, false, List, [], ◌∷◌, length, cond}
 use Rattle.std.proofs.Common.{arith, refl, ap, ◌∙◌, sym, count_by, nat_eq, min, length-append, bit_and, ◌/◌, ◌^◌}
 use Rattle.std.specs.Prelude.{◌==◌}
@@ -9,21 +9,21 @@ use Rattle.std.proofs.lemmas.Nat.Bits.{shr_and_one}
 use Rattle.ffs_volume.specs.Groups.Records.{free_stretches, stretch_of}
 use Rattle.ffs_groups.specs.Free.{word_bits}
 
-one_run : (n : ℕ) → length (stretch_of (suc n)) ≤ min (suc n) 1
-one_run n = let e : (suc n == 0) ≡ false = grind arith in rw e (omega arith)
+one_stretch : (n : ℕ) → length (stretch_of (suc n)) ≤ min (suc n) 1
+one_stretch n = let e : (suc n == 0) ≡ false = grind arith in rw e (omega arith)
 
-pub run_len : (n : ℕ) → length (stretch_of n) ≤ min n 1
-run_len zero = omega arith
-run_len (suc n) = one_run n
+pub stretch_len : (n : ℕ) → length (stretch_of n) ≤ min n 1
+stretch_len zero = omega arith
+stretch_len (suc n) = one_stretch n
 
-pub runs_len : (n : ℕ) (bits : List Bool) → length (free_stretches n bits) ≤ min n 1 + length bits
-runs_len n [] = omega (arith, run_len n)
-runs_len n (true ∷ bits) = omega (arith, runs_len (n + 1) bits)
-runs_len n (false ∷ bits) =
-    omega (arith, run_len n, runs_len 0 bits, length-append (stretch_of n) (free_stretches 0 bits))
+pub stretches_len : (n : ℕ) (bits : List Bool) → length (free_stretches n bits) ≤ min n 1 + length bits
+stretches_len n [] = omega (arith, stretch_len n)
+stretches_len n (true ∷ bits) = omega (arith, stretches_len (n + 1) bits)
+stretches_len n (false ∷ bits) =
+    omega (arith, stretch_len n, stretches_len 0 bits, length-append (stretch_of n) (free_stretches 0 bits))
 
-pub runs_few : (k : ℕ) (bits : List Bool) → count_by (λ n. n == k) (free_stretches 0 bits) ≤ length bits
-runs_few k bits = omega (arith, runs_len 0 bits, count_by-le-length (λ n. n == k) (free_stretches 0 bits))
+pub stretches_few : (k : ℕ) (bits : List Bool) → count_by (λ n. n == k) (free_stretches 0 bits) ≤ length bits
+stretches_few k bits = omega (arith, stretches_len 0 bits, count_by-le-length (λ n. n == k) (free_stretches 0 bits))
 
 pub bits_next : (word k n m : ℕ) → n ≡ m + 1 → word_bits word k n ≡ nat_eq (bit_at word k) 1 ∷ word_bits word (k + 1) m
 bits_next word k n m e = let s : n ≡ suc m = omega (arith, e) in ap (λ j. word_bits word k j) s
@@ -42,20 +42,20 @@ pub used_next : (word k n m : ℕ) → n ≡ m + 1 → nat_eq (bit_at word k) 1 
 used_next word k n m e clear_ =
     rw (bits_next word k n m e, clear_) (omega (arith, sum_by-cons (λ f. cond f 1 0) false (word_bits word (k + 1) m)))
 
-pub run_grows : (word k n m r j : ℕ) → n ≡ m + 1 → nat_eq (bit_at word k) 1 ≡ true →
+pub stretch_grows : (word k n m r j : ℕ) → n ≡ m + 1 → nat_eq (bit_at word k) 1 ≡ true →
     count_by (λ x. x == j) (free_stretches r (word_bits word k n)) ≡ count_by (λ x. x == j)
     (free_stretches (r + 1) (word_bits word (k + 1) m))
-run_grows word k n m r j e set_ = rw (bits_next word k n m e, set_) refl
+stretch_grows word k n m r j e set_ = rw (bits_next word k n m e, set_) refl
 
-pub run_ends : (word k n m r j : ℕ) → n ≡ m + 1 → nat_eq (bit_at word k) 1 ≡ false →
+pub stretch_ends : (word k n m r j : ℕ) → n ≡ m + 1 → nat_eq (bit_at word k) 1 ≡ false →
     count_by (λ x. x == j) (free_stretches r (word_bits word k n)) ≡ count_by (λ x. x == j) (stretch_of r) + count_by
     (λ x. x == j) (free_stretches 0 (word_bits word (k + 1) m))
-run_ends word k n m r j e clear_ =
+stretch_ends word k n m r j e clear_ =
     rw (bits_next word k n m e, clear_)
     (sum_by-append (λ x. cond (x == j) 1 0) (stretch_of r) (free_stretches 0 (word_bits word (k + 1) m)))
 
-pub runs_within : (word n j : ℕ) → count_by (λ x. x == j) (free_stretches 0 (word_bits word 0 n)) ≤ n
-runs_within word n j = omega (arith, runs_few j (word_bits word 0 n), length_bits word 0 n)
+pub stretches_within : (word n j : ℕ) → count_by (λ x. x == j) (free_stretches 0 (word_bits word 0 n)) ≤ n
+stretches_within word n j = omega (arith, stretches_few j (word_bits word 0 n), length_bits word 0 n)
 
 pub free_within : (word n : ℕ) → count_by (λ f. f) (word_bits word 0 n) ≤ n
 free_within word n = omega (arith, count_by-le-length (λ f. f) (word_bits word 0 n), length_bits word 0 n)

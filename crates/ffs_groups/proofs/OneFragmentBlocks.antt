@@ -10,12 +10,12 @@ use Rattle.std.proofs.lemmas.List.FromFn.{length-map-range_with_len, get_or-map-
 use lib.Lanes.{mask_l}
 use Rattle.std.proofs.lemmas.Simd.{bit_mask_l, ones-mask_l}
 use Rattle.std.proofs.lemmas.Nat.Bits.{bit_at_and, bit_at-lt, bit_at_ones, bit_at_ones_above, same_from_bits, ones_shr}
-use Rattle.ffs_maps.proofs.Words.{bit_shr}
+use Rattle.ffs_maps.proofs.WordShifts.{bit_shr}
 use Rattle.ffs_maps.proofs.BitNumbers.{min_one, min_zero, one_bit}
 use Rattle.ffs_groups.specs.declared.free.FreeCounts.{FreeCounts}
-use Rattle.ffs_groups.specs.Free.{word_bits, whole_in, loose_in, runs_in, Added}
+use Rattle.ffs_groups.specs.Free.{word_bits, whole_in, loose_in, stretches_in, Added}
 use Rattle.ffs_groups.proofs.Sums.{sum_same}
-use Rattle.ffs_groups.proofs.Words.{sum_const}
+use Rattle.ffs_groups.proofs.FreeWords.{sum_const}
 
 -- the bit of a word at a place is set
 abbrev pub set_in : ℕ → ℕ → Bool
@@ -54,9 +54,9 @@ loose_none : (b : Bool) → loose_in (b ∷ []) ≡ 0
 loose_none true = refl
 loose_none false = refl
 
-run_none : (j : ℕ) (b : Bool) → runs_in j (b ∷ []) ≡ 0
-run_none j true = refl
-run_none j false = refl
+stretch_none : (j : ℕ) (b : Bool) → stretches_in j (b ∷ []) ≡ 0
+stretch_none j true = refl
+stretch_none j false = refl
 
 first_bit : (word k : ℕ) → nat_eq (bit_at (word / 2 ^ k) 0) 1 ≡ nat_eq (bit_at word k) 1
 first_bit word k = let at : 0 + k ≡ k = omega arith in ap (λ x. nat_eq x 1) (bit_shr word k 0 ∙ ap (bit_at word) at)
@@ -64,9 +64,9 @@ first_bit word k = let at : 0 + k ≡ k = omega arith in ap (λ x. nat_eq x 1) (
 -- blocks of one fragment are counted by the bits of a word
 pub added_single : (word n : ℕ) (old new : FreeCounts) → n ≤ 64 →
     new.blocks ≡ old.blocks + count_ones (bit_and word ((2 ^ 64 - 1) / 2 ^ (64 - n))) →
-    new.fragments ≡ old.fragments → ((j : ℕ) → slice_index new.runs j ≡ slice_index old.runs j) →
+    new.fragments ≡ old.fragments → ((j : ℕ) → slice_index new.frsum j ≡ slice_index old.frsum j) →
     Added (λ b. word_bits (word / 2 ^ b) 0 1) 0 n old new
-added_single word n old new h blocks fragments runs =
+added_single word n old new h blocks fragments frsum =
     let whole : sum_by (λ b. whole_in (word_bits (word / 2 ^ b) 0 1)) (range_with_len 0 n) ≡ count_by (set_in word)
     (range_with_len 0 n) =
     sum_same (λ b. whole_in (word_bits (word / 2 ^ b) 0 1)) (λ k. cond (set_in word k) 1 0) 0 0 n
@@ -79,11 +79,11 @@ added_single word n old new h blocks fragments runs =
         sum_const (λ b. loose_in (word_bits (word / 2 ^ b) 0 1)) 0 0 n
             (λ k l. loose_none (nat_eq (bit_at (word / 2 ^ (0 + k)) 0) 1)),
       );
-      runs = λ j. omega (
+      frsum = λ j. omega (
         arith,
-        runs j,
-        sum_const (λ b. runs_in j (word_bits (word / 2 ^ b) 0 1)) 0 0 n
-            (λ k l. run_none j (nat_eq (bit_at (word / 2 ^ (0 + k)) 0) 1)),
+        frsum j,
+        sum_const (λ b. stretches_in j (word_bits (word / 2 ^ b) 0 1)) 0 0 n
+            (λ k l. stretch_none j (nat_eq (bit_at (word / 2 ^ (0 + k)) 0) 1)),
       );
     }
 
@@ -96,8 +96,8 @@ added_same bits other n old new same a = record {
   fragments = a.fragments
       ∙ ap (λ s. old.fragments + s)
       (sum_same (λ b. loose_in (other b)) (λ b. loose_in (bits b)) 0 0 n (λ k h. ap loose_in (same (0 + k))));
-  runs = λ j. a.runs j ∙ ap (λ s. slice_index old.runs j + s)
-      (sum_same (λ b. runs_in j (other b)) (λ b. runs_in j (bits b)) 0 0 n (λ k h. ap (runs_in j) (same (0 + k))));
+  frsum = λ j. a.frsum j ∙ ap (λ s. slice_index old.frsum j + s)
+      (sum_same (λ b. stretches_in j (other b)) (λ b. stretches_in j (bits b)) 0 0 n (λ k h. ap (stretches_in j) (same (0 + k))));
 }
 
 pub added_of_one : (word frag n : ℕ) (old new : FreeCounts) → frag ≡ 1 →

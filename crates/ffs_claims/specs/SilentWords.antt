@@ -6,7 +6,7 @@ use Rattle.ffs_volume.specs.declared.Step.{Step}
 use Rattle.ffs_volume.specs.Blocks.Claims.{after_step, after_steps, is_open, lines_of_steps, step_lines}
 use Rattle.ffs_volume.specs.Laws.ClaimBounds.{ClaimBound}
 use Rattle.ffs_walk.specs.declared.walk.Walk.{Walk}
-use Rattle.ffs_walk.specs.Rests.{SameExtent, most_steps_left, steps_left}
+use Rattle.ffs_walk.specs.Rests.{SameFileBlocks, most_steps_left, steps_left}
 use Rattle.ffs_walk.specs.Windows.{BlocksHold}
 use Rattle.ffs_walk.specs.Counts.{EntersOnly}
 use Rattle.ffs_workspace.specs.declared.workspace.Workspace.{Workspace}
@@ -42,6 +42,6 @@ pub record ClaimsWords (v : Layout) (old new : Workspace) (walk walk' : Walk) : 
   pub moves : ClaimBound (claims_of old) (claims_of new)
   pub only : ClaimsOnly v old new
   pub falls : most_steps_left walk' ≤ most_steps_left walk
-  pub same : SameExtent walk walk'
+  pub same : SameFileBlocks walk walk'
   pub rises : old.runs_seen ≤ new.runs_seen
   pub counted : EntersOnly walk walk' 0

@@ -8,7 +8,7 @@ use Rattle.std.proofs.lemmas.Bool.{cases_lt, true≢false}
 use Rattle.std.proofs.lemmas.List.Folds.{list_all_at}
 use Rattle.std.proofs.lemmas.List.FromFn.{length-map-range_with_len, get_or-map-range_with_len}
 use Rattle.std.proofs.lemmas.Nat.Bits.{bit_at_and, bit_at-lt, bit_at_ones, bit_at_ones_above, same_from_bits}
-use Rattle.ffs_maps.proofs.Words.{small}
+use Rattle.ffs_maps.proofs.WordShifts.{small}
 use Rattle.ffs_volume.specs.Groups.Records.{is_free_block}
 use Rattle.ffs_groups.specs.Free.{word_bits}
 

@@ -1,4 +1,4 @@
--- The second look sees no Run that the first one didn't see, and so its count is a u64's.
+-- The rescan looks at no Run that phase 1 didn't see, and so its count is a u64's.
 use Rattle.std.proofs.Common.{◌≡◌, ℕ, ◌+◌, ◌<◌, ◌≤◌, ◌^◌, Bool, true, false, ◌==◌, List, [], ◌∷◌, length}
 use Rattle.std.proofs.Common.{arith, refl, sym}
 use Rattle.std.specs.List.{range_with_len}
@@ -11,14 +11,14 @@ use Rattle.ffs_volume.specs.Laws.Geometry.{IsAcceptedLayout}
 use Rattle.ffs_volume.specs.Blocks.Owners.{Owner, owners_of}
 use Rattle.ffs_volume.specs.Blocks.Claims.{Claims, no_claims, at_next_inode, is_open, after_step}
 use Rattle.ffs_volume.specs.Blocks.Claims.{after_steps, after_owner, after_owners}
-use Rattle.ffs_volume.specs.Blocks.BlockCheck.{Offer}
+use Rattle.ffs_volume.specs.Blocks.KeptOffers.{Offer}
 use Rattle.ffs_volume.specs.Report.Whole.{run_count}
 use Rattle.ffs_volume.proofs.Potentials.{cond_holds}
 use Rattle.ffs_volume.proofs.RunBounds.{runs_bounded}
 use Rattle.ffs_volume.proofs.ReplayLaws.{offers_runs}
 use Rattle.ffs_workspace.specs.Lengths.{set_count}
 use Rattle.ffs_claims.specs.Reporting.{after_first}
-use Rattle.ffs_claims.specs.SecondLook.{step_runs, steps_runs, owners_runs, looked_at, second_look}
+use Rattle.ffs_claims.specs.RescanRuns.{step_runs, steps_runs, owners_runs, runs_until_reported, rescan_runs}
 
 -- each Run that is seen is counted once
 step_seen : (v : Layout) (i : ℕ) (s : Claims) (step : Step) → s.runs + length (step_runs v i s step)
@@ -63,16 +63,16 @@ owners_seen v s (o ∷ os) =
           (owners_runs v (after_owner v s o) os),
     )
 
-looked_most : (dup : List Bool) (runs : List (List Offer)) → looked_at dup runs ≤ length runs
-unfolding looked_at
+looked_most : (dup : List Bool) (runs : List (List Offer)) → runs_until_reported dup runs ≤ length runs
+unfolding runs_until_reported
 looked_most dup [] = omega arith
 looked_most dup (kept ∷ runs) =
     cond_holds (λ n. n ≤ length (kept ∷ runs)) (set_count dup == 0) _ _
     (λ _. omega arith)
     (λ _. omega (arith, looked_most (after_first dup kept) runs))
 
-pub look_most : (v : Layout) (bytes : List ℕ) → second_look v bytes ≤ run_count v bytes
-unfolding second_look run_count
+pub look_most : (v : Layout) (bytes : List ℕ) → rescan_runs v bytes ≤ run_count v bytes
+unfolding rescan_runs run_count
 look_most v bytes =
     omega (
       arith,
@@ -82,6 +82,6 @@ look_most v bytes =
     )
 
 -- and the Runs that are seen are bounded
-pub look_fits : (v : Layout) (bytes : List ℕ) → IsAcceptedLayout v → second_look v bytes < 2 ^ 64
+pub look_fits : (v : Layout) (bytes : List ℕ) → IsAcceptedLayout v → rescan_runs v bytes < 2 ^ 64
 look_fits v bytes g =
     omega (arith, runs_bounded v bytes g, look_most v bytes, g.numbers.inodes_below, g.numbers.size_below)

@@ -1,4 +1,4 @@
--- How many Runs the second look sees.
+-- How many Runs the rescan looks at.
 use Rattle.std.proofs.Common.{◌≡◌, ◌≢◌, ℕ, zero, suc, ◌+◌, Bool, true, false, ◌==◌, if◌then◌else◌, List, [], ◌∷◌, ◌++◌}
 use Rattle.std.proofs.Common.{map, replicate, arith, refl, ap, ◌∙◌, sym}
 use Rattle.std.proofs.lemmas.Bool.Decides.{nat_tests}
@@ -6,23 +6,23 @@ use Rattle.std.specs.List.{range_with_len}
 use Rattle.ffs_volume.specs.declared.Layout.{Layout}
 use Rattle.ffs_volume.specs.declared.Step.{Step}
 use Rattle.ffs_volume.specs.declared.Step.TheVariants.{Run, Tail, Gap}
-use Rattle.ffs_volume.specs.Blocks.BlockCheck.{Offer, offer_of}
+use Rattle.ffs_volume.specs.Blocks.KeptOffers.{Offer, offer_of}
 use Rattle.ffs_workspace.specs.Lengths.{set_count}
 use Rattle.ffs_volume.specs.Encodings.Replay.{Replay, is_replay_open}
 use Rattle.ffs_volume.specs.Encodings.ReplayCounts.{seen_run, replay_step_by_cut}
 use Rattle.ffs_walk.specs.Keepings.{run_taken}
 use Rattle.ffs_claims.specs.Rescan.{step_offers_again, offers_again}
 use Rattle.ffs_claims.specs.Reporting.{after_first}
-use Rattle.ffs_claims.specs.SecondLook.{looked_at, steps_runs_again}
+use Rattle.ffs_claims.specs.RescanRuns.{runs_until_reported, steps_runs_again}
 use Rattle.ffs_claims.proofs.Reportings.{after_append, none_after}
 
 -- nothing is left to report
-pub looked_none : (dup : List Bool) (runs : List (List Offer)) → set_count dup ≡ 0 → looked_at dup runs ≡ 0
-unfolding looked_at
+pub looked_none : (dup : List Bool) (runs : List (List Offer)) → set_count dup ≡ 0 → runs_until_reported dup runs ≡ 0
+unfolding runs_until_reported
 looked_none dup [] e = refl
 looked_none dup (kept ∷ runs) e =
     let none : (set_count dup == 0) ≡ true = grind (arith, nat_tests) in
-    ap (λ (b : Bool). if b then 0 else 1 + looked_at (after_first dup kept) runs) none
+    ap (λ (b : Bool). if b then 0 else 1 + runs_until_reported (after_first dup kept) runs) none
 
 -- what is left to report after some Runs
 abbrev pub after_runs : List Bool → List (List Offer) → List Bool
@@ -35,29 +35,29 @@ none_left dup (kept ∷ runs) e =
     let same : after_first dup kept ≡ dup = none_after dup kept e in
     none_left (after_first dup kept) runs (ap set_count same ∙ e) ∙ same
 
-pub looked_both : (dup : List Bool) (xs ys : List (List Offer)) → looked_at dup (xs ++ ys)
-    ≡ looked_at dup xs + looked_at (after_runs dup xs) ys
-unfolding looked_at
+pub looked_both : (dup : List Bool) (xs ys : List (List Offer)) → runs_until_reported dup (xs ++ ys)
+    ≡ runs_until_reported dup xs + runs_until_reported (after_runs dup xs) ys
+unfolding runs_until_reported
 looked_both dup [] ys = omega arith
 looked_both dup (kept ∷ xs) ys = one (set_count dup == 0) refl (looked_both (after_first dup kept) xs ys)
   where
     one : (b : Bool) → (set_count dup == 0) ≡ b →
-        looked_at (after_first dup kept) (xs ++ ys)
-        ≡ looked_at (after_first dup kept) xs + looked_at (after_runs (after_first dup kept) xs) ys →
-        looked_at dup ((kept ∷ xs) ++ ys) ≡ looked_at dup (kept ∷ xs) + looked_at (after_runs dup (kept ∷ xs)) ys
+        runs_until_reported (after_first dup kept) (xs ++ ys)
+        ≡ runs_until_reported (after_first dup kept) xs + runs_until_reported (after_runs (after_first dup kept) xs) ys →
+        runs_until_reported dup ((kept ∷ xs) ++ ys) ≡ runs_until_reported dup (kept ∷ xs) + runs_until_reported (after_runs dup (kept ∷ xs)) ys
     one true q more =
         let none : set_count dup ≡ 0 = grind (arith, nat_tests) in
         let past : after_runs dup (kept ∷ xs) ≡ dup = none_left dup (kept ∷ xs) none in
         let all = looked_none dup ((kept ∷ xs) ++ ys) none in
         let first = looked_none dup (kept ∷ xs) none in
-        let rest = ap (λ (d : List Bool). looked_at d ys) past ∙ looked_none dup ys none in
+        let rest = ap (λ (d : List Bool). runs_until_reported d ys) past ∙ looked_none dup ys none in
         omega (arith, all, first, rest)
     one false q more =
-        let all : looked_at dup ((kept ∷ xs) ++ ys)
-        ≡ 1 + looked_at (after_first dup kept) (xs ++ ys) =
-        ap (λ (b : Bool). if b then 0 else 1 + looked_at (after_first dup kept) (xs ++ ys)) q in
-        let first : looked_at dup (kept ∷ xs) ≡ 1 + looked_at (after_first dup kept) xs =
-        ap (λ (b : Bool). if b then 0 else 1 + looked_at (after_first dup kept) xs) q in
+        let all : runs_until_reported dup ((kept ∷ xs) ++ ys)
+        ≡ 1 + runs_until_reported (after_first dup kept) (xs ++ ys) =
+        ap (λ (b : Bool). if b then 0 else 1 + runs_until_reported (after_first dup kept) (xs ++ ys)) q in
+        let first : runs_until_reported dup (kept ∷ xs) ≡ 1 + runs_until_reported (after_first dup kept) xs =
+        ap (λ (b : Bool). if b then 0 else 1 + runs_until_reported (after_first dup kept) xs) q in
         omega (arith, all, first, more)
 
 -- the Runs leave to report what their offers leave
@@ -100,19 +100,19 @@ runs_leave v i cut r dup (Run start len block ∷ steps) =
 pub looked_next : (v : Layout) (i cut : ℕ) (r r' : Replay) (step : Step) (R R' : List Step) (dup dup' : List Bool) →
     R ≡ step ∷ R' → r' ≡ replay_step_by_cut v cut r step → is_replay_open cut r ≡ true → set_count dup ≢ 0 → dup'
     ≡ after_first dup (step_offers_again v i cut r step) →
-    looked_at dup (steps_runs_again v i cut r R) ≡ seen_run cut r step + looked_at dup' (steps_runs_again v i cut r' R')
-unfolding steps_runs_again looked_at
+    runs_until_reported dup (steps_runs_again v i cut r R) ≡ seen_run cut r step + runs_until_reported dup' (steps_runs_again v i cut r' R')
+unfolding steps_runs_again runs_until_reported
 looked_next v i cut r r' step R R' dup dup' e now going some d =
-    ap (λ (xs : List Step). looked_at dup (steps_runs_again v i cut r xs)) e ∙ here step
-    ∙ ap (λ (x : Replay). seen_run cut r step + looked_at (after_first dup (step_offers_again v i cut r step))
+    ap (λ (xs : List Step). runs_until_reported dup (steps_runs_again v i cut r xs)) e ∙ here step
+    ∙ ap (λ (x : Replay). seen_run cut r step + runs_until_reported (after_first dup (step_offers_again v i cut r step))
     (steps_runs_again v i cut x R')) (sym now)
-    ∙ ap (λ (x : List Bool). seen_run cut r step + looked_at x (steps_runs_again v i cut r' R')) (sym d)
+    ∙ ap (λ (x : List Bool). seen_run cut r step + runs_until_reported x (steps_runs_again v i cut r' R')) (sym d)
   where
     left : (set_count dup == 0) ≡ false
     left = grind (arith, nat_tests)
 
-    here : (p : Step) → looked_at dup (steps_runs_again v i cut r (p ∷ R'))
-        ≡ seen_run cut r p + looked_at (after_first dup (step_offers_again v i cut r p))
+    here : (p : Step) → runs_until_reported dup (steps_runs_again v i cut r (p ∷ R'))
+        ≡ seen_run cut r p + runs_until_reported (after_first dup (step_offers_again v i cut r p))
         (steps_runs_again v i cut (replay_step_by_cut v cut r p) R')
     here Tail = omega arith
     here Gap = omega arith
@@ -136,11 +136,11 @@ gaps_looked v i cut r (suc n) R = gaps_looked v i cut r n R
 
 -- where a second walk ends, no Run is left to see
 pub looked_stopped : (v : Layout) (i cut : ℕ) (r : Replay) (R : List Step) (dup : List Bool) →
-    is_replay_open cut r ≡ false → looked_at dup (steps_runs_again v i cut r R) ≡ 0
-unfolding looked_at
-looked_stopped v i cut r R dup q = ap (looked_at dup) (runs_stopped v i cut r R q)
+    is_replay_open cut r ≡ false → runs_until_reported dup (steps_runs_again v i cut r R) ≡ 0
+unfolding runs_until_reported
+looked_stopped v i cut r R dup q = ap (runs_until_reported dup) (runs_stopped v i cut r R q)
 
 pub looked_over : (v : Layout) (i cut : ℕ) (r : Replay) (R : List Step) (dup : List Bool) → R ≡ [] →
-    looked_at dup (steps_runs_again v i cut r R) ≡ 0
-unfolding looked_at steps_runs_again
-looked_over v i cut r R dup e = ap (λ (xs : List Step). looked_at dup (steps_runs_again v i cut r xs)) e
+    runs_until_reported dup (steps_runs_again v i cut r R) ≡ 0
+unfolding runs_until_reported steps_runs_again
+looked_over v i cut r R dup e = ap (λ (xs : List Step). runs_until_reported dup (steps_runs_again v i cut r xs)) e

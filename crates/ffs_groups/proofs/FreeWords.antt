@@ -9,15 +9,15 @@ use Rattle.std.proofs.lemmas.Grind.{div_ceil_times}
 use Rattle.std.proofs.lemmas.Nat.{mul-add-lt, mul-le, div-add-mod'}
 use Rattle.std.proofs.lemmas.Nat.Bits.{bit_at-zero, bit_at_and, bit_at_ones}
 use Rattle.std.proofs.lemmas.List.Sums.{sum_by-cons}
-use Rattle.ffs_maps.proofs.Words.{bit_shr, small}
+use Rattle.ffs_maps.proofs.WordShifts.{bit_shr, small}
 use Rattle.ffs_maps.proofs.Counting.{sum_split}
 use Rattle.ffs_volume.specs.Blocks.Claims.{is_set}
 use Rattle.ffs_volume.specs.Disk.Areas.{cgbase}
 use Rattle.ffs_volume.specs.declared.Layout.{Layout}
 use Rattle.ffs_volume.specs.Groups.Records.{is_free_block, free_stretches, block_bits, right_frsum, group_size}
 use Rattle.ffs_groups.specs.declared.free.FreeCounts.{FreeCounts}
-use Rattle.ffs_groups.specs.Free.{word_bits, whole_in, loose_in, runs_in, Added, AreFree, free_in}
-use Rattle.ffs_groups.proofs.Whole.{all_set}
+use Rattle.ffs_groups.specs.Free.{word_bits, whole_in, loose_in, stretches_in, Added, AreFree, free_in}
+use Rattle.ffs_groups.proofs.WholeBlocks.{all_set}
 
 -- ---- a sum of equal numbers
 pub sum_const : (f : ℕ → ℕ) (m a n : ℕ) → ((k : ℕ) → k < n → f (a + k) ≡ m) → sum_by f (range_with_len a n) ≡ n * m
@@ -45,28 +45,28 @@ none_counted f a (suc n) e =
     (none_counted f (a + 1) n
     (λ k h. let l : a + 1 + k ≡ a + (k + 1) = omega arith in ap f l ∙ e (k + 1) (omega arith)))
 
-pub none_run : (f : ℕ → Bool) (j a n : ℕ) → ((k : ℕ) → k < n → f (a + k) ≡ false) →
+pub none_stretch : (f : ℕ → Bool) (j a n : ℕ) → ((k : ℕ) → k < n → f (a + k) ≡ false) →
     count_by (λ x. x == j) (free_stretches 0 (map f (range_with_len a n))) ≡ 0
-none_run f j a zero e = refl
-none_run f j a (suc n) e =
+none_stretch f j a zero e = refl
+none_stretch f j a (suc n) e =
     let at : a ≡ a + 0 = omega arith in
     rw (ap f at ∙ e 0 (omega arith))
-    (none_run f j (a + 1) n
+    (none_stretch f j (a + 1) n
     (λ k h. let l : a + 1 + k ≡ a + (k + 1) = omega arith in ap f l ∙ e (k + 1) (omega arith)))
 
 -- ---- what blocks add of which none is free, or all are
 pub adds_none : (f : ℕ → Bool) (a n : ℕ) → 0 < n → ((k : ℕ) → k < n → f (a + k) ≡ false) →
     (whole_in (map f (range_with_len a n)) ≡ 0) × (loose_in (map f (range_with_len a n)) ≡ 0) ×
-    ((j : ℕ) → runs_in j (map f (range_with_len a n)) ≡ 0)
+    ((j : ℕ) → stretches_in j (map f (range_with_len a n)) ≡ 0)
 adds_none f a n some e = (
   rw (none_whole f a n some e) refl,
   rw (none_whole f a n some e) (none_counted f a n e),
-  λ j. rw (none_whole f a n some e) (none_run f j a n e),
+  λ j. rw (none_whole f a n some e) (none_stretch f j a n e),
 )
 
 pub adds_all : (f : ℕ → Bool) (a n : ℕ) → ((k : ℕ) → k < n → f (a + k) ≡ true) →
     (whole_in (map f (range_with_len a n)) ≡ 1) × (loose_in (map f (range_with_len a n)) ≡ 0) ×
-    ((j : ℕ) → runs_in j (map f (range_with_len a n)) ≡ 0)
+    ((j : ℕ) → stretches_in j (map f (range_with_len a n)) ≡ 0)
 adds_all f a n e = (
   rw (all_set f a n e) refl,
   rw (all_set f a n e) refl,
@@ -81,15 +81,15 @@ from_zero f k m e = let z : 0 + k ≡ k = omega arith in ap f z ∙ e
 
 -- nothing is added by blocks that add nothing each
 pub added_none : (bits : ℕ → List Bool) (n : ℕ) (old : FreeCounts) →
-    ((b : ℕ) → b < n → (whole_in (bits b) ≡ 0) × (loose_in (bits b) ≡ 0) × ((j : ℕ) → runs_in j (bits b) ≡ 0)) →
+    ((b : ℕ) → b < n → (whole_in (bits b) ≡ 0) × (loose_in (bits b) ≡ 0) × ((j : ℕ) → stretches_in j (bits b) ≡ 0)) →
     Added bits 0 n old old
 added_none bits n old none = record {
   blocks = same_plus _ _ _ n
       (sum_const (λ b. whole_in (bits b)) 0 0 n (λ k h. from_zero (λ b. whole_in (bits b)) k 0 (none k h).0)) refl;
   fragments = same_plus _ _ _ n
       (sum_const (λ b. loose_in (bits b)) 0 0 n (λ k h. from_zero (λ b. loose_in (bits b)) k 0 (none k h).1)) refl;
-  runs = λ j. same_plus _ _ _ n
-      (sum_const (λ b. runs_in j (bits b)) 0 0 n (λ k h. from_zero (λ b. runs_in j (bits b)) k 0 ((none k h).2 j))) refl;
+  frsum = λ j. same_plus _ _ _ n
+      (sum_const (λ b. stretches_in j (bits b)) 0 0 n (λ k h. from_zero (λ b. stretches_in j (bits b)) k 0 ((none k h).2 j))) refl;
 }
 
 plus_ones : (new old s n : ℕ) → s ≡ n * 1 → new ≡ old + n → new ≡ old + s
@@ -97,16 +97,16 @@ plus_ones new old s n e more = omega (arith, e, more)
 
 -- blocks that are free as a whole
 pub added_all : (bits : ℕ → List Bool) (n : ℕ) (old new : FreeCounts) →
-    ((b : ℕ) → b < n → (whole_in (bits b) ≡ 1) × (loose_in (bits b) ≡ 0) × ((j : ℕ) → runs_in j (bits b) ≡ 0)) →
+    ((b : ℕ) → b < n → (whole_in (bits b) ≡ 1) × (loose_in (bits b) ≡ 0) × ((j : ℕ) → stretches_in j (bits b) ≡ 0)) →
     new.blocks ≡ old.blocks + n → new.fragments ≡ old.fragments →
-    ((j : ℕ) → slice_index new.runs j ≡ slice_index old.runs j) → Added bits 0 n old new
-added_all bits n old new all blocks fragments runs = record {
+    ((j : ℕ) → slice_index new.frsum j ≡ slice_index old.frsum j) → Added bits 0 n old new
+added_all bits n old new all blocks fragments frsum = record {
   blocks = plus_ones _ _ _ n
       (sum_const (λ b. whole_in (bits b)) 1 0 n (λ k h. from_zero (λ b. whole_in (bits b)) k 1 (all k h).0)) blocks;
   fragments = same_plus _ _ _ n
       (sum_const (λ b. loose_in (bits b)) 0 0 n (λ k h. from_zero (λ b. loose_in (bits b)) k 0 (all k h).1)) fragments;
-  runs = λ j. same_plus _ _ _ n
-      (sum_const (λ b. runs_in j (bits b)) 0 0 n (λ k h. from_zero (λ b. runs_in j (bits b)) k 0 ((all k h).2 j))) (runs j);
+  frsum = λ j. same_plus _ _ _ n
+      (sum_const (λ b. stretches_in j (bits b)) 0 0 n (λ k h. from_zero (λ b. stretches_in j (bits b)) k 0 ((all k h).2 j))) (frsum j);
 }
 
 -- ---- a word of zeros, and a word of ones
@@ -131,12 +131,12 @@ one_bit word frag n b k e fits h l =
 
 pub full_word : (word frag n : ℕ) (old new : FreeCounts) → word ≡ 2 ^ 64 - 1 → n * frag ≤ 64 →
     new.blocks ≡ old.blocks + n → new.fragments ≡ old.fragments →
-    ((j : ℕ) → slice_index new.runs j ≡ slice_index old.runs j) →
+    ((j : ℕ) → slice_index new.frsum j ≡ slice_index old.frsum j) →
     Added (λ b. word_bits (word / 2 ^ (b * frag)) 0 frag) 0 n old new
-full_word word frag n old new e fits blocks fragments runs =
+full_word word frag n old new e fits blocks fragments frsum =
     added_all (λ b. word_bits (word / 2 ^ (b * frag)) 0 frag) n old new
     (λ b h. adds_all (λ k. nat_eq (bit_at (word / 2 ^ (b * frag)) k) 1) 0 frag
-    (λ k l. one_bit word frag n b k e fits h l)) blocks fragments runs
+    (λ k l. one_bit word frag n b k e fits h l)) blocks fragments frsum
 
 -- ---- a block of which no fragment is free, by the mask that the code computes
 zero_of_min : (a b : ℕ) → b ≡ 1 → min a b ≡ 0 → a ≡ 0
@@ -144,7 +144,7 @@ zero_of_min a b e h = omega arith
 
 pub none_by_mask : (bits n : ℕ) → n ≤ 8 → 0 < n → bit_and bits (1 * 2 ^ n % 2 ^ 64 - 1) ≡ 0 →
     (whole_in (word_bits bits 0 n) ≡ 0) × (loose_in (word_bits bits 0 n) ≡ 0) ×
-    ((j : ℕ) → runs_in j (word_bits bits 0 n) ≡ 0)
+    ((j : ℕ) → stretches_in j (word_bits bits 0 n) ≡ 0)
 none_by_mask bits n few some e =
     let mask : 1 * 2 ^ n % 2 ^ 64 - 1 ≡ 2 ^ n - 1 = small n (omega arith) in
     let none : bit_and bits (2 ^ n - 1) ≡ 0 = ap (λ m. bit_and bits m) (sym mask) ∙ e in
@@ -166,7 +166,7 @@ past_at base size frag n m k h l = omega (arith, h, mul-le n frag m frag l (omeg
 pub past_adds : (used : List Bool) (base size frag n b : ℕ) → 0 < frag → size - base ≤ n * frag → n ≤ b →
     (whole_in (map (free_in used size) (range_with_len (base + b * frag) frag)) ≡ 0) ×
     (loose_in (map (free_in used size) (range_with_len (base + b * frag) frag)) ≡ 0)
-    × ((j : ℕ) → runs_in j (map (free_in used size) (range_with_len (base + b * frag) frag)) ≡ 0)
+    × ((j : ℕ) → stretches_in j (map (free_in used size) (range_with_len (base + b * frag) frag)) ≡ 0)
 past_adds used base size frag n b some h l =
     adds_none (free_in used size) (base + b * frag) frag some
     (λ k below. past used size (base + b * frag + k) (past_at base size frag n b k h l))
@@ -216,11 +216,11 @@ pub free_there : (v : Layout) (used : List Bool) (c n fragments : ℕ) (new : Fr
     fragments ≡ group_size v c →
     new.blocks ≡ sum_by (λ b. whole_in (block_bits v (free_in used v.size) c b)) (range_with_len 0 n) →
     new.fragments ≡ sum_by (λ b. loose_in (block_bits v (free_in used v.size) c b)) (range_with_len 0 n) →
-    ((k : ℕ) → slice_index new.runs k ≡ sum_by (λ b. runs_in k (block_bits v (free_in used v.size) c b))
+    ((k : ℕ) → slice_index new.frsum k ≡ sum_by (λ b. stretches_in k (block_bits v (free_in used v.size) c b))
     (range_with_len 0 n)) →
     new.blocks < 2 ^ 32 → new.fragments < 2 ^ 32 → AreFree v (free_in used v.size) c new
 unfolding right_frsum cgbase
-free_there v used c n fragments new some whole is within size blocks frags runs blocks_fit fragments_fit =
+free_there v used c n fragments new some whole is within size blocks frags frsum blocks_fit fragments_fit =
     let cover = blocks_cover n fragments v.frag some is in
     let few : n ≤ v.fpg / v.frag = few_blocks n fragments v.frag v.fpg some cover.1 within whole in
     let ends : (b : ℕ) → n ≤ b → b < v.fpg / v.frag →
@@ -232,7 +232,7 @@ free_there v used c n fragments new some whole is within size blocks frags runs 
           (λ b l h. (past_adds used (v.fpg * c) v.size v.frag n b some (ends b l h) l).0);
       fragments = frags ∙ sum_ends (λ b. loose_in (block_bits v (free_in used v.size) c b)) n (v.fpg / v.frag) few
           (λ b l h. (past_adds used (v.fpg * c) v.size v.frag n b some (ends b l h) l).1);
-      runs = λ k. runs k ∙ sum_ends (λ b. runs_in k (block_bits v (free_in used v.size) c b)) n (v.fpg / v.frag) few
+      frsum = λ k. frsum k ∙ sum_ends (λ b. stretches_in k (block_bits v (free_in used v.size) c b)) n (v.fpg / v.frag) few
           (λ b l h. (past_adds used (v.fpg * c) v.size v.frag n b some (ends b l h) l).2 k);
       blocks_fit = blocks_fit;
       fragments_fit = fragments_fit;

@@ -1,0 +1,111 @@
+//! The lines of phase 1.
+
+ghost use Rattle.std.specs.Prelude.{◌≡◌, ◌<◌, ◌^◌};
+ghost use Rattle.ffs_volume.specs.Blocks.BlockCheck.{class_lines, count_lines};
+ghost use Rattle.ffs_volume.specs.Blocks.Inodes.{is_file_or_dir};
+ghost use Rattle.ffs_report.specs.Progress.{progress, Says};
+ghost use Rattle.ffs_workspace.specs.Holds.{claims_of};
+ghost use Rattle.ffs_claims.specs.Lines.{of_lines, counted_owner, dup_lines, bad_lines};
+
+use crate::offer::is_open;
+use ffs_layout::Geometry;
+use ffs_report::{Line, OutFault, Output, Report};
+use ffs_volume::constants::DEV_BSIZE;
+use ffs_volume::{BlockMessage, Class};
+use ffs_workspace::Workspace;
+
+/// Reports an inode of class Partial or Unknown.
+///
+/// # Errors
+/// A write of the report that failed.
+pub fn say_class<W: Output>(
+    report: &mut Report<'_, W>,
+    number: u32,
+    class: Class,
+) -> Result<(), OutFault>
+    ensures { Says (progress W.sink report.old) (progress W.sink report.new)
+        (of_lines (class_lines number class)) result }
+{
+    match class {
+        Class::Partial => report.say(&Line::Block(BlockMessage::PartAlloc { inode: number })),
+        Class::Unknown => report.say(&Line::Block(BlockMessage::UnknownType { inode: number })),
+        Class::Free | Class::File | Class::Dir => Ok(()),
+    }
+}
+
+/// Reports a bad Run by its first fragment. `many` says that it is the eleventh one of its inode.
+///
+/// # Errors
+/// A write of the report that failed.
+pub fn say_bad<W: Output>(
+    report: &mut Report<'_, W>,
+    inode: u32,
+    fragment: u32,
+    many: bool,
+) -> Result<(), OutFault>
+    ensures { Says (progress W.sink report.old) (progress W.sink report.new)
+        (of_lines (bad_lines inode fragment many)) result }
+{
+    report.say(&Line::Block(BlockMessage::Bad { fragment, inode }))?;
+    if many {
+        return report.say(&Line::Block(BlockMessage::ManyBad { inode }));
+    }
+    Ok(())
+}
+
+/// Reports a dup offer. `many` says that it is the eleventh one of its inode.
+///
+/// # Errors
+/// A write of the report that failed.
+pub fn say_dup<W: Output>(
+    report: &mut Report<'_, W>,
+    inode: u32,
+    fragment: u32,
+    many: bool,
+) -> Result<(), OutFault>
+    ensures { Says (progress W.sink report.old) (progress W.sink report.new)
+        (of_lines (dup_lines inode fragment many)) result }
+{
+    report.say(&Line::Block(BlockMessage::Dup { fragment, inode }))?;
+    if many {
+        return report.say(&Line::Block(BlockMessage::ManyDup { inode }));
+    }
+    Ok(())
+}
+
+fn is_file_or_dir(class: Class) -> bool
+    ensures { result ≡ is_file_or_dir class }
+{
+    match class {
+        Class::File | Class::Dir => true,
+        Class::Free | Class::Partial | Class::Unknown => false,
+    }
+}
+
+/// Reports an inode whose count of sectors of 512 bytes is wrong.
+///
+/// # Errors
+/// A write of the report that failed.
+pub fn say_count<W: Output>(
+    workspace: &Workspace,
+    geometry: &Geometry,
+    number: u32,
+    class: Class,
+    found: u32,
+    report: &mut Report<'_, W>,
+) -> Result<(), OutFault>
+    requires { workspace.now.kept < 2 ^ 40 }
+    ensures { Says (progress W.sink report.old) (progress W.sink report.new)
+        (of_lines (count_lines geometry.now.layout (counted_owner number class found)
+        (claims_of workspace.now))) result }
+{
+    let right = workspace.kept * (u64::from(geometry.layout.fsize) / DEV_BSIZE);
+    if is_file_or_dir(class) && is_open(workspace) && u64::from(found) != right {
+        return report.say(&Line::Block(BlockMessage::BlockCount {
+            inode: number,
+            found,
+            right,
+        }));
+    }
+    Ok(())
+}
