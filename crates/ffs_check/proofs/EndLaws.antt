@@ -1,5 +1,5 @@
 -- Laws of the ways in which a check ends: after an opening, at an output, and where more is known.
-use Rattle.std.proofs.Common.{◌≡◌, ◌⊎◌, inl, inr, refl, sym, ◌∙◌, subst, ap, true, false, List, [], ◌∷◌, ◌++◌, append_assoc, append-nil}
+use Rattle.std.proofs.Common.{◌≡◌, ◌⊎◌, inl, inr, refl, sym, ◌∙◌, subst, true, false, List, [], ◌∷◌, ◌++◌, append_assoc}
 use Rattle.std.specs.Borrow.{GName}
 use Rattle.ffs_image.specs.Device.{Device}
 use Rattle.ffs_volume.specs.declared.End.{End}
@@ -8,7 +8,7 @@ use Rattle.ffs_volume.specs.Messages.Kinds.{Message}
 use Rattle.ffs_report.specs.Sink.{Sink}
 use Rattle.ffs_report.specs.Progress.{Progress, Said, Stopped, starts}
 use Rattle.ffs_report.proofs.Reports.{said_then, stopped_after}
-use Rattle.ffs_check.specs.Ends.{AllWentOut, BrokeOffIn, BrokeOffInLine, BrokeOffInText, CutShort, Ends, Printed}
+use Rattle.ffs_check.specs.Ends.{BrokeOffIn, BrokeOffInLine, Ends, Printed}
 use Rattle.ffs_check.specs.PhaseEnds.{LineEnds}
 
 -- a fault's line after whole messages

@@ -1,5 +1,5 @@
 -- The headline, of a check after an accepted superblock.
-use Rattle.std.proofs.Common.{◌≡◌, inl, inr, refl, ◌∙◌, sym, ap, subst, ℕ, Bool, true, false, ◌||◌, List, [], ◌∷◌, ◌++◌}
+use Rattle.std.proofs.Common.{◌≡◌, inl, inr, refl, ◌∙◌, sym, ap, subst, ℕ, Bool, true, false, ◌||◌, List, ◌++◌}
 use Rattle.std.proofs.Common.{append_assoc, Option, Ok}
 use Rattle.ffs_image.specs.Device.{Device, ForContents}
 use Rattle.ffs_image.proofs.Devices.{faulted_there}
@@ -25,7 +25,7 @@ use Rattle.ffs_check.specs.Opening.{SaysOpening}
 use Rattle.ffs_check.specs.PhaseEnds.{IsCutByRead, IsEndByRoot, SaysRefusal}
 use Rattle.ffs_check.specs.PhaseEnds.{SaysRest}
 use Rattle.ffs_check.specs.Headline.{is_completed, opened_lines, Headline, IsCutShort, IsEndOfReport}
-use Rattle.ffs_check.proofs.EndLaws.{broke_in_line, ends_after, ends_printed, line_after}
+use Rattle.ffs_check.proofs.EndLaws.{ends_after, ends_printed, line_after}
 use Rattle.ffs_check.proofs.Openings.{found_of, unfailed_of}
 use Rattle.ffs_check.proofs.Endings.{at_contents, at_known}
 use Rattle.ffs_check.proofs.Headlines.{whole_there, defect_there, end_of_there, end_there, completed_by, certifies}

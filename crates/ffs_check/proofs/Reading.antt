@@ -1,8 +1,8 @@
 -- How often a check reads its image.
-use Rattle.std.proofs.Common.{◌≡◌, ◌≤◌, ◌<◌, ◌+◌, ◌-◌, ◌*◌, ◌^◌, ℕ, Bool, true, List, [], ◌∷◌, ◌++◌, length, map}
-use Rattle.std.proofs.Common.{ap, ◌∙◌, sym, refl, subst, arith, Option, Some, Result, Ok, Err}
+use Rattle.std.proofs.Common.{◌≡◌, ◌≤◌, ◌+◌, ◌*◌, ℕ, true, List, length}
+use Rattle.std.proofs.Common.{ap, ◌∙◌, sym, refl, subst, arith, Option, Result, Ok, Err}
 use Rattle.std.proofs.lemmas.List.{length-append, length-map}
-use Rattle.ffs_image.specs.Device.{Device, ForContents}
+use Rattle.ffs_image.specs.Device.{Device}
 use Rattle.ffs_volume.specs.declared.Layout.{Layout}
 use Rattle.ffs_volume.specs.declared.SuperFault.{SuperFault}
 use Rattle.ffs_volume.specs.Directories.Connectivity.{connectivity_lines}
@@ -11,15 +11,14 @@ use Rattle.ffs_volume.specs.Directories.ReferenceCheck.{reference_lines}
 use Rattle.ffs_volume.specs.Directories.Volumes.{volume_of}
 use Rattle.ffs_volume.specs.Disk.Outcome.{outcome}
 use Rattle.ffs_volume.specs.Disk.Superblock.{Superblock}
-use Rattle.ffs_volume.specs.Messages.Kinds.{Message, of_tree}
+use Rattle.ffs_volume.specs.Messages.Kinds.{of_tree}
 use Rattle.ffs_volume.specs.Report.Memory.{runs_limit}
-use Rattle.ffs_volume.specs.Report.Reads.{group_reads, opening_reads, pathname_reads, phase_reads, reads_limit, sweep_reads}
+use Rattle.ffs_volume.specs.Report.Reads.{group_reads, opening_reads, pathname_reads, phase_reads, sweep_reads}
 use Rattle.ffs_volume.specs.Report.Whole.{phase_lines, report_of}
 use Rattle.ffs_layout.specs.declared.superblock.Super.{Super}
 use Rattle.ffs_layout.specs.Super.{ReadsSuper, superblock_in}
 use Rattle.ffs_report.specs.Progress.{Progress}
 use Rattle.ffs_report.specs.Known.{ForBytes, IsContents}
-use Rattle.ffs_workspace.specs.Places.{AreChunksNumbered}
 use Rattle.ffs_check.specs.Headline.{opened_lines}
 use Rattle.ffs_check.specs.Opening.{SaysOpening}
 use Rattle.ffs_check.specs.ReadsWithin.{PhasesReadWithin, ReadsWithin}
