@@ -67,7 +67,7 @@ impl<'a> Inodes<'a> {
         self.kind(inode).is_allocated()
     }
 
-    /// Whether the inode has a known type, which isn't this one.
+    /// Whether the inode isn't of class Unknown, and has another type than this one.
     pub fn has_wrong_type(&self, inode: u32, kind: u8) -> bool
         requires { inode < length self.now.kinds.now }
         ensures { result ≡ (not (is_unknown_kind (slice_index self.now.kinds.now inode))

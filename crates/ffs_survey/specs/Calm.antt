@@ -17,7 +17,7 @@ pub record CurrentDir : Type 0 where
   pub dir : ℕ
   pub parent : ℕ
 
--- neither unallocated, nor a directory of size 0, a whiteout or of unknown type, nor a directory that is reached
+-- neither unallocated, nor a directory of size 0, a whiteout or of class Unknown, nor a directory that is reached
 abbrev pub is_calm_kind : ℕ → Bool → Bool
 is_calm_kind kind reached =
     not (kind == 0) && (not (kind == EMPTY_DIR) && (not (kind == DT_WHT) && (not (kind == UNKNOWN_TYPE)

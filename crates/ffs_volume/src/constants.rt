@@ -90,7 +90,7 @@ pub const DT_WHT: u8 = 14;
 /// What a workspace keeps as the type of a directory whose size is 0.
 pub const EMPTY_DIR: u8 = 5;
 
-/// What a workspace keeps as the type of an inode whose type is unknown.
+/// What a workspace keeps as the type of an inode of class Unknown.
 pub const UNKNOWN_TYPE: u8 = 15;
 
 /// Where the count of an inode's references ends if there is one for each of its links: it starts

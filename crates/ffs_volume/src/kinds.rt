@@ -38,7 +38,7 @@ impl Kind {
         self.code == EMPTY_DIR
     }
 
-    /// Whether its type isn't known.
+    /// Whether its class is Unknown.
     pub fn is_unknown(self) -> bool
         ensures { result ≡ is_unknown_kind self.code }
     {

@@ -45,7 +45,7 @@ pub record IsFresh (v : Layout) (w : Workspace) : Type 0 where
 abbrev pub has_blame : Claims → Bool
 has_blame s = not (s.bad == 0 && s.dups == 0)
 
--- the inode x is of an unknown type, or has a bad Run or a dup offer
+-- the inode x is of class Unknown, or has a bad Run or a dup offer
 unfoldable pub first_marked_at : Layout → List ℕ → ℕ → Bool
 first_marked_at v image x =
     if is_inode_number v x
