@@ -6,7 +6,7 @@ use Rattle.std.proofs.Math.Nat.{suc-mul, zero-mul}
 use Rattle.std.proofs.lemmas.List.{drop-drop, take-append-drop}
 use Rattle.std.proofs.lemmas.List.Folds.{list_any-append}
 use Rattle.std.proofs.Math.Bool.{or-true}
-use Rattle.ffs_layout.specs.Entry.{has_mark}
+use Rattle.ffs_layout.specs.Entry.{any_nul_or_slash as any}
 
 -- the part at an index
 part_at : (n count : ℕ) (xs : List ℕ) (i : ℕ) (d : List ℕ) → i < count →
@@ -23,46 +23,46 @@ four false true true d = refl
 four false true false d = refl
 four false false c d = refl
 
-mark_append : (xs ys : List ℕ) → has_mark (xs ++ ys) ≡ (has_mark xs || has_mark ys)
-mark_append xs ys = grind (arith, list_any-append, four)
+nul_or_slash_append : (xs ys : List ℕ) → any (xs ++ ys) ≡ (any xs || any ys)
+nul_or_slash_append xs ys = grind (arith, list_any-append, four)
 
 -- the bytes from a part on
-pub mark_step : (n count : ℕ) (xs : List ℕ) (i : ℕ) (d : List ℕ) → i < count →
-    has_mark (drop (i * n) xs) ≡ (has_mark (get_or (first_chunks n count xs) i d) || has_mark (drop ((i + 1) * n) xs))
-mark_step n count xs i d below =
-    ap has_mark (sym (take-append-drop n (drop (i * n) xs)))
-    ∙ mark_append (take n (drop (i * n) xs)) (drop n (drop (i * n) xs))
-    ∙ ap (λ ys. has_mark ys || has_mark (drop n (drop (i * n) xs))) (sym (part_at n count xs i d below))
-    ∙ ap (λ ys. has_mark (get_or (first_chunks n count xs) i d) || has_mark ys)
+pub nul_or_slash_step : (n count : ℕ) (xs : List ℕ) (i : ℕ) (d : List ℕ) → i < count →
+    any (drop (i * n) xs) ≡ (any (get_or (first_chunks n count xs) i d) || any (drop ((i + 1) * n) xs))
+nul_or_slash_step n count xs i d below =
+    ap any (sym (take-append-drop n (drop (i * n) xs)))
+    ∙ nul_or_slash_append (take n (drop (i * n) xs)) (drop n (drop (i * n) xs))
+    ∙ ap (λ ys. any ys || any (drop n (drop (i * n) xs))) (sym (part_at n count xs i d below))
+    ∙ ap (λ ys. any (get_or (first_chunks n count xs) i d) || any ys)
     (drop-drop n (i * n) xs ∙ ap (λ k. drop k xs) (sym (suc-mul i n) ∙ ap (λ k. k * n) (omega arith)))
 
--- a part without a mark is passed over
-pub mark_none : (n count : ℕ) (xs : List ℕ) (parts : List (List ℕ)) (i : ℕ) (d : List ℕ) →
-    parts ≡ first_chunks n count xs → i < count → has_mark (get_or parts i d) ≡ false →
-    has_mark (drop (i * n) xs) ≡ has_mark (drop ((i + 1) * n) xs)
-mark_none n count xs parts i d are below none =
-    mark_step n count xs i d below
-    ∙ ap (λ b. b || has_mark (drop ((i + 1) * n) xs)) (ap (λ ps. has_mark (get_or ps i d)) (sym are) ∙ none)
+-- a part without NUL and `/` is passed over
+pub nul_or_slash_none : (n count : ℕ) (xs : List ℕ) (parts : List (List ℕ)) (i : ℕ) (d : List ℕ) →
+    parts ≡ first_chunks n count xs → i < count → any (get_or parts i d) ≡ false →
+    any (drop (i * n) xs) ≡ any (drop ((i + 1) * n) xs)
+nul_or_slash_none n count xs parts i d are below none =
+    nul_or_slash_step n count xs i d below
+    ∙ ap (λ b. b || any (drop ((i + 1) * n) xs)) (ap (λ ps. any (get_or ps i d)) (sym are) ∙ none)
 
--- a part with a mark decides
-pub mark_some : (n count : ℕ) (xs : List ℕ) (parts : List (List ℕ)) (i : ℕ) (d : List ℕ) →
-    parts ≡ first_chunks n count xs → i < count → has_mark (get_or parts i d) ≡ true → has_mark (drop (i * n) xs) ≡ true
-mark_some n count xs parts i d are below some =
-    mark_step n count xs i d below
-    ∙ ap (λ b. b || has_mark (drop ((i + 1) * n) xs)) (ap (λ ps. has_mark (get_or ps i d)) (sym are) ∙ some)
+-- a part with NUL or `/` decides
+pub nul_or_slash_some : (n count : ℕ) (xs : List ℕ) (parts : List (List ℕ)) (i : ℕ) (d : List ℕ) →
+    parts ≡ first_chunks n count xs → i < count → any (get_or parts i d) ≡ true → any (drop (i * n) xs) ≡ true
+nul_or_slash_some n count xs parts i d are below some =
+    nul_or_slash_step n count xs i d below
+    ∙ ap (λ b. b || any (drop ((i + 1) * n) xs)) (ap (λ ps. any (get_or ps i d)) (sym are) ∙ some)
 
--- what is left of bytes has no mark that they don't have
-mark_left : (xs : List ℕ) (k : ℕ) → has_mark (drop k xs) ≡ true → has_mark xs ≡ true
-mark_left xs k some =
-    ap has_mark (sym (take-append-drop k xs)) ∙ mark_append (take k xs) (drop k xs)
-    ∙ (ap (λ b. has_mark (take k xs) || b) some ∙ or-true (has_mark (take k xs)))
+-- where what is left of bytes has NUL or `/`, they have it too
+nul_or_slash_left : (xs : List ℕ) (k : ℕ) → any (drop k xs) ≡ true → any xs ≡ true
+nul_or_slash_left xs k some =
+    ap any (sym (take-append-drop k xs)) ∙ nul_or_slash_append (take k xs) (drop k xs)
+    ∙ (ap (λ b. any (take k xs) || b) some ∙ or-true (any (take k xs)))
 
 -- where what is left decides, more of it does too
-pub mark_from : (xs : List ℕ) (j k : ℕ) → j ≤ k → has_mark xs ≡ has_mark (drop k xs) → has_mark (drop j xs)
-    ≡ has_mark xs
-mark_from xs j k before decides = same (has_mark (drop j xs)) (has_mark xs) (mark_left xs j) (λ some.
-    mark_left (drop j xs) (k - j)
-    (ap has_mark (drop-drop (k - j) j xs ∙ ap (λ n. drop n xs) (omega arith)) ∙ (sym decides ∙ some)))
+pub nul_or_slash_from : (xs : List ℕ) (j k : ℕ) → j ≤ k → any xs ≡ any (drop k xs) → any (drop j xs)
+    ≡ any xs
+nul_or_slash_from xs j k before decides = same (any (drop j xs)) (any xs) (nul_or_slash_left xs j) (λ some.
+    nul_or_slash_left (drop j xs) (k - j)
+    (ap any (drop-drop (k - j) j xs ∙ ap (λ n. drop n xs) (omega arith)) ∙ (sym decides ∙ some)))
   where
     same : (a b : Bool) → (a ≡ true → b ≡ true) → (b ≡ true → a ≡ true) → a ≡ b
     same true b there back = sym (there refl)

@@ -10,9 +10,9 @@ use Rattle.ffs_layout.specs.declared.entry.Entry.{Entry}
 abbrev pub entry_value : Entry → EntryIn
 entry_value e = record { number = e.number; length = e.length; kind = e.kind; name = e.name.now }
 
--- a byte is NUL or `/`
-abbrev pub has_mark : List ℕ → Bool
-has_mark bytes = list_any (λ b. b == 0) bytes || list_any (λ b. b == 47) bytes
+-- one of the bytes is NUL or `/`
+abbrev pub any_nul_or_slash : List ℕ → Bool
+any_nul_or_slash bytes = list_any (λ b. b == 0) bytes || list_any (λ b. b == 47) bytes
 
 -- the answer at a place of a chunk is the entry there, or that none is there; its record and its name lie in the chunk
 pub record IsEntryAt (order : Order) (chunk : List ℕ) (place : ℕ) (result : Option Entry) : Type 0 where

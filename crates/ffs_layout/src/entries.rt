@@ -3,7 +3,7 @@
 ghost use Rattle.std.specs.Prelude.{IsTrue, ◌≡◌, ◌+◌, ◌≤◌, ◌==◌, ◌||◌, length, slice_index};
 ghost use Rattle.std.specs.List.{list_any};
 ghost use Rattle.ffs_volume.specs.Directories.Entries.{has_valid_type_and_name as held, is_valid_record_length as fits, has_valid_name as named};
-ghost use Rattle.ffs_layout.specs.Entry.{IsEntryAt, has_mark};
+ghost use Rattle.ffs_layout.specs.Entry.{IsEntryAt, any_nul_or_slash};
 
 use crate::entry::Entry;
 use crate::numbers::{u16_at, u32_at};
@@ -19,23 +19,23 @@ fn is_valid_record_length(place: usize, len: u16) -> bool
 }
 
 /// Whether one of a few bytes is NUL or `/`. All are looked at, with no test that ends the loop:
-/// the machine takes them at once.
+/// the machine takes them together.
 #[inline]
-fn has_mark_at_once<const N: usize>(part: &[u8; N]) -> bool
-    ensures { result ≡ has_mark part.now }
+fn has_nul_or_slash_in_part<const N: usize>(part: &[u8; N]) -> bool
+    ensures { result ≡ any_nul_or_slash part.now }
 {
-    let mut has_mark = false;
+    let mut any = false;
     for &byte in part {
-        has_mark |= byte == 0 || byte == b'/';
+        any |= byte == 0 || byte == b'/';
     }
-    has_mark
+    any
 }
 
 /// Whether one of at most three bytes is NUL or `/`. Most bytes of names are greater than both: one
 /// test passes them.
 #[inline]
-fn has_mark_of_three(bytes: &[u8]) -> bool
-    ensures { result ≡ has_mark bytes.now }
+fn has_nul_or_slash_in_three(bytes: &[u8]) -> bool
+    ensures { result ≡ any_nul_or_slash bytes.now }
 {
     for &byte in bytes {
         if byte <= b'/' && (byte == 0 || byte == b'/') {
@@ -48,35 +48,35 @@ fn has_mark_of_three(bytes: &[u8]) -> bool
 /// Whether one of at most eight bytes is NUL or `/`: of the first four or the last four, which have
 /// some in common where they are fewer than eight.
 #[inline]
-fn has_mark_of_eight(bytes: &[u8]) -> bool
+fn has_nul_or_slash_in_eight(bytes: &[u8]) -> bool
     requires { length bytes.now ≤ 8 }
-    ensures { result ≡ has_mark bytes.now }
+    ensures { result ≡ any_nul_or_slash bytes.now }
 {
     let Some(first) = bytes.first_chunk::<4>() else {
-        return has_mark_of_three(bytes);
+        return has_nul_or_slash_in_three(bytes);
     };
     let Some(last) = bytes.last_chunk::<4>() else {
-        return has_mark_of_three(bytes);
+        return has_nul_or_slash_in_three(bytes);
     };
-    has_mark_at_once(first) || has_mark_at_once(last)
+    has_nul_or_slash_in_part(first) || has_nul_or_slash_in_part(last)
 }
 
-/// Whether a byte is NUL or `/`, as none of a name is. The last eight bytes may have some in common
-/// with those before.
+/// Whether one of the bytes is NUL or `/`, as none of a name may be. The last eight bytes may have
+/// some in common with those before.
 #[inline]
 fn has_nul_or_slash(bytes: &[u8]) -> bool
     ensures { result ≡ (list_any (λ b. b == 0) bytes.now || list_any (λ b. b == 47) bytes.now) }
 {
     let Some(last) = bytes.last_chunk::<8>() else {
-        return has_mark_of_eight(bytes);
+        return has_nul_or_slash_in_eight(bytes);
     };
     let (parts, _) = bytes.as_chunks::<8>();
     for part in parts {
-        if has_mark_at_once(part) {
+        if has_nul_or_slash_in_part(part) {
             return true;
         }
     }
-    has_mark_at_once(last)
+    has_nul_or_slash_in_part(last)
 }
 
 /// Whether the record at the place has a name.
