@@ -34,7 +34,7 @@ impl Directories for Listed {
 
     ghost sound = { λ _ _ _. true };
 
-    ghost device = { λ _. record { contents = None; size = 0; failures = 0; failed = 0 } };
+    ghost device = { λ _. record { contents = None; size = 0; failures = 0; failed_sector = 0 } };
 
     ghost ready = { λ _. Unit {0} };
 

@@ -102,8 +102,8 @@ module _ (image : Device) (name : List ℕ) (sector : Option ℕ) (output : GNam
       whole = append_assoc (opened_lines name sector s) said c.rest
           ∙ ap (λ xs. opened_lines name sector s ++ xs) c.whole;
       more = c.more;
-      line_is = c.line_is ∙ ap cannot_read (sym c.faulted.failed);
-      end_is = c.end_is ∙ ap ReadFault (sym c.faulted.failed);
+      line_is = c.line_is ∙ ap cannot_read (sym c.faulted.failed_sector);
+      end_is = c.end_is ∙ ap ReadFault (sym c.faulted.failed_sector);
     }))
 
   pub follows : SaysRest s image image' p new end → Headline image image' name sector sink new.sink end

@@ -103,8 +103,8 @@ certifies bytes name sector text end t e s o =
 
 -- a read of the superblock, or of its last copy, failed
 cut_at_super : (image image' : Device) (name : List ℕ) (sector : Option ℕ) (fault : SuperFault) →
-    fault ≡ CannotRead image'.failed → Faulted image image' image'.failed →
-    ForContents image.contents (λ bytes. IsSuperSector bytes sector image'.failed) → (text : List Message) →
+    fault ≡ CannotRead image'.failed_sector → Faulted image image' image'.failed_sector →
+    ForContents image.contents (λ bytes. IsSuperSector bytes sector image'.failed_sector) → (text : List Message) →
     IsCutShort image image' name sector text (head_lines name sector) (fault_line fault) (Refused fault)
 cut_at_super image image' name sector fault e f at text = inl (record {
   faulted = f;

@@ -45,17 +45,17 @@ pub record IsEndOfReport (image : Device) (asked_sector : Option ℕ) (text : Li
 -- the sector, if one is asked for
 pub record IsCutAtSuper (image image' : Device) (name : List ℕ) (asked_sector : Option ℕ) (said : List Message)
     (line : Message) (end : End) : Type 0 where
-  pub faulted : Faulted image image' image'.failed
-  pub place : ForContents image.contents (λ bytes. IsSuperSector bytes asked_sector image'.failed)
+  pub faulted : Faulted image image' image'.failed_sector
+  pub place : ForContents image.contents (λ bytes. IsSuperSector bytes asked_sector image'.failed_sector)
   pub said_is : said ≡ head_lines name asked_sector
-  pub line_is : line ≡ cannot_read image'.failed
-  pub end_is : end ≡ Refused (CannotRead image'.failed)
+  pub line_is : line ≡ cannot_read image'.failed_sector
+  pub end_is : end ≡ Refused (CannotRead image'.failed_sector)
 
 -- a later read failed: what is said before the fault's line is the opening, through the mount line, and whole messages
 -- of the report. Messages are missing: no read fails after the report's last one
 pub record IsCutLater (image image' : Device) (name : List ℕ) (asked_sector : Option ℕ) (text said : List Message)
     (line : Message) (end : End) : Type 0 where
-  pub faulted : Faulted image image' image'.failed
+  pub faulted : Faulted image image' image'.failed_sector
   pub found : Superblock
   pub accepted : ForContents image.contents (λ bytes. outcome bytes asked_sector ≡ Ok found)
   pub prefix : List Message
@@ -63,8 +63,8 @@ pub record IsCutLater (image image' : Device) (name : List ℕ) (asked_sector : 
   pub said_is : said ≡ opened_lines name asked_sector found ++ prefix
   pub whole : said ++ rest ≡ text
   pub more : ForContents image.contents (λ bytes. 0 < length rest)
-  pub line_is : line ≡ cannot_read image'.failed
-  pub end_is : end ≡ ReadFault image'.failed
+  pub line_is : line ≡ cannot_read image'.failed_sector
+  pub end_is : end ≡ ReadFault image'.failed_sector
 
 -- the memory of the check is refused: what is said before that is the opening, through the mount line
 pub record IsUnstarted (image image' : Device) (name : List ℕ) (asked_sector : Option ℕ) (said : List Message)

@@ -6,7 +6,7 @@ pub record Device : Type 0 where
   pub contents : Option (List ℕ)
   pub size : ℕ
   pub failures : ℕ
-  pub failed : ℕ
+  pub failed_sector : ℕ
 
 -- of the bytes that an image gives, where it gives them
 abbrev pub ForContents : Option (List ℕ) → (List ℕ → Type 0) → Type 0
@@ -20,7 +20,7 @@ Rose old new = new ≡ min (old + 1) (2 ^ 64 - 1)
 pub record Faulted (old new : Device) (sector : ℕ) : Type 0 where
   pub contents : new.contents ≡ old.contents
   pub size : new.size ≡ old.size
-  pub failed : new.failed ≡ sector
+  pub failed_sector : new.failed_sector ≡ sector
   pub rose : Rose old.failures new.failures
 
 -- the bytes that a device gives are as many as its size

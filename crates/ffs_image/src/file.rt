@@ -51,7 +51,7 @@ impl OpenFault {
 #[derive(Drop)]
 pub struct SourceImage<S> {
     source: S,
-    failed: u64,
+    failed_sector: u64,
 }
 
 /// An image in a file of a system.
@@ -68,18 +68,27 @@ impl<F: RawFile + Drop> SourceImage<OpenedFile<F>> {
     pub fn open<Y: System<File = F>>(system: &Y, name: &str) -> Result<RawImage<F>, OpenFault>
         ensures opened { IfOk result (λ image. IsOpened Y.was_looked_up Y.was_opened F.was_sought
             system.now name.now image.source.file image.source.size) }
-        ensures failures { IfOk result (λ image. (image.source.failures ≡ 0) × (image.failed ≡ 0)) }
+        ensures failures { IfOk result (λ image. (image.source.failures ≡ 0)
+            × (image.failed_sector ≡ 0)) }
         ensures refused { IfErr result (OpenFails Y.was_looked_up Y.was_opened system.now
             name.now) }
     {
         let source = OpenedFile::open(system, name)?;
-        Ok(SourceImage { source, failed: 0 })
+        Ok(SourceImage {
+            source,
+            failed_sector: 0,
+        })
     }
 }
 
 impl<S: Source> Image for SourceImage<S> {
     ghost device = { λ i. let s = S.stock i.source in
-        record { contents = s.contents; size = s.size; failures = s.failures; failed = i.failed } };
+        record {
+          contents = s.contents;
+          size = s.size;
+          failures = s.failures;
+          failed_sector = i.failed_sector;
+        } };
 
     ghost reads = { λ _. 0 };
 
@@ -94,7 +103,7 @@ impl<S: Source> Image for SourceImage<S> {
     }
 
     fn failed(&self) -> u64 {
-        self.failed
+        self.failed_sector
     }
 
     fn read_at(&mut self, at: u64, buf: &mut [u8]) -> Result<(), ImageFault>
@@ -114,7 +123,7 @@ impl<S: Source> Image for SourceImage<S> {
         match fill(&mut self.source, at, buf) {
             Ok(()) => Ok(()),
             Err(_) => {
-                self.failed = at / 512;
+                self.failed_sector = at / 512;
                 Err(ImageFault { sector: at / 512 })
             }
         }

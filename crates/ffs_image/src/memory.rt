@@ -31,7 +31,12 @@ impl MemoryImage {
 impl Image for MemoryImage {
     ghost use Rattle.std.specs.Prelude.{length, Some, refl};
 
-    ghost device = { λ m. record { contents = Some m; size = length m; failures = 0; failed = 0 } };
+    ghost device = { λ m. record {
+      contents = Some m;
+      size = length m;
+      failures = 0;
+      failed_sector = 0;
+    } };
 
     ghost reads = { λ _. 0 };
 

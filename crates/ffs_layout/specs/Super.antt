@@ -25,17 +25,18 @@ found_of (Err fault) = Err fault
 
 -- The sector of the last copy, for these bytes of the superblock.
 abbrev pub IsCopySector : List ℕ → ℕ → Type 0
-IsCopySector bytes failed = IsSomeAnd (order_of bytes) (λ order. failed ≡ copy_place (layout_of order bytes) / DEV_BSIZE)
+IsCopySector bytes failed_sector =
+    IsSomeAnd (order_of bytes) (λ order. failed_sector ≡ copy_place (layout_of order bytes) / DEV_BSIZE)
 
 -- The sector that a failed read may have: the superblock's, and with no sector asked for the last copy's.
 abbrev pub IsSuperSector : List ℕ → Option ℕ → ℕ → Type 0
-IsSuperSector image sector failed =
-    (failed ≡ super_sector sector) ⊎ ((sector ≡ None) × IsCopySector (super_bytes image sector) failed)
+IsSuperSector image sector failed_sector =
+    (failed_sector ≡ super_sector sector) ⊎ ((sector ≡ None) × IsCopySector (super_bytes image sector) failed_sector)
 
 -- What may be found: the fault of a failed read, or, where the image gives its bytes, their outcome.
 abbrev pub ReadsSuper : Device → Device → Option ℕ → Result Superblock SuperFault → Type 0
 ReadsSuper old new sector found =
-    (ReadFailed found old new × ((b : List ℕ) → old.contents ≡ Some b → IsSuperSector b sector new.failed))
+    (ReadFailed found old new × ((b : List ℕ) → old.contents ≡ Some b → IsSuperSector b sector new.failed_sector))
     ⊎ ((new ≡ old) × ((b : List ℕ) → old.contents ≡ Some b → found ≡ outcome b sector))
 
 -- Why the superblock at a sector can't be read: a read failed there, or it lies past the end.

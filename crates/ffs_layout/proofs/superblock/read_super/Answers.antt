@@ -16,8 +16,8 @@ returns-in_err-read_copy-clause-answer g c =
     let long = reported_length _ _ (g.met.I.Image.sized c.args.image.now) in
     rw (p.1, p.2) (elim unread.cause [
       | inl failed ↦ inl (
-        (unread.fault ∙ ap CannotRead (sym failed.failed), faulted_there _ _ _ failed),
-        λ b e. inl (failed.failed ∙ back ∙ start),
+        (unread.fault ∙ ap CannotRead (sym failed.failed_sector), faulted_there _ _ _ failed),
+        λ b e. inl (failed.failed_sector ∙ back ∙ start),
       )
       | inr past ↦ inr (
         past.0,
@@ -65,12 +65,12 @@ returns-in_err-check_copy-clause-answer g c =
     let fault_of_copy = rw copy.same at c.in_err-check_copy.ensures.compared in
     rw (p.1, p.2) (elim fault_of_copy [
       | inl unread ↦ inl (
-        (unread.fault ∙ ap CannotRead (sym unread.failed.failed), faulted_there _ _ _ unread.failed),
+        (unread.fault ∙ ap CannotRead (sym unread.failed.failed_sector), faulted_there _ _ _ unread.failed),
         λ b e.
             inr (
               unread.compared,
               copy_sector _ _ c.args.sector _ long start _ copy.inside copy.bytes _
-                  (sym c.in-Some.ensures) _ refl _ unread.failed.failed b e,
+                  (sym c.in-Some.ensures) _ refl _ unread.failed.failed_sector b e,
             ),
       )
       | inr differs ↦ inr (
