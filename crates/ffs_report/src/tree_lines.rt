@@ -206,7 +206,7 @@ pub fn print_directory<W: Output>(out: &mut W, line: &DirectoryLine<'_>) -> Resu
             &[
                 Piece::Text(DIRECTORY),
                 Piece::Shown(path),
-                Piece::Text(DIR_EMPTY),
+                Piece::Text(CONTAINS_EMPTY_BLOCKS),
             ],
         ),
         DirectoryLine::DirCorrupt { attr, path } => print_dir(

@@ -153,7 +153,7 @@ pub const DIR_LENGTH: &[u8] = b": LENGTH ";
 
 pub const NOT_MULTIPLE: &[u8] = b" NOT MULTIPLE OF 512\nADJUST? no\n\n";
 
-pub const DIR_EMPTY: &[u8] = b": CONTAINS EMPTY BLOCKS\nADJUST LENGTH? no\n\n";
+pub const CONTAINS_EMPTY_BLOCKS: &[u8] = b": CONTAINS EMPTY BLOCKS\nADJUST LENGTH? no\n\n";
 
 pub const DIR_CORRUPT: &[u8] = b"DIRECTORY CORRUPTED ";
 

@@ -105,7 +105,7 @@ block_message_text GroupSums = texts.GROUP_SUMS.now
 -- a directory that has a Gap
 abbrev pub empty_blocks_text : List ℕ → List ℕ
 empty_blocks_text path =
-    concat (texts.DIRECTORY.now ∷ map shown path ∷ texts.DIR_EMPTY.now ∷ [])
+    concat (texts.DIRECTORY.now ∷ map shown path ∷ texts.CONTAINS_EMPTY_BLOCKS.now ∷ [])
 
 -- a directory whose size is no multiple of 512
 abbrev pub length_text : (path : List ℕ) (size : ℕ) → List ℕ
