@@ -34,52 +34,54 @@ is_class_message (PartAlloc inode) = true
 is_class_message (UnknownType inode) = true
 is_class_message _ = false
 
--- Of the directories: the tests of the messages that speak for condition 4.
--- A plain entry isn't reported as UNALLOCATED or BAD TYPE VALUE
-pub record IsNameUnreported (v : Volume) (e : Entry) : Type 0 where
-  pub allocated : is_allocated (v.class e.number) ≡ true
-  pub kind : has_wrong_type v e ≡ false
+-- The records up to `AreDirsUnreported` have the tests of the messages that say that `AreDirsRight` fails. Of an entry
+-- that names an inode, neither UNALLOCATED nor BAD TYPE VALUE is reported
+pub record IsNameUnreported (vol : Volume) (e : Entry) : Type 0 where
+  pub allocated : is_allocated (vol.class e.number) ≡ true
+  pub kind : has_wrong_type vol e ≡ false
 
--- nor as I OUT OF RANGE or BAD WHITEOUT ENTRY
-pub record IsPlainUnreported (v : Volume) (e : Entry) : Type 0 where
-  pub below : nat_lt e.number v.count ≡ true
+-- of a plain entry, these two aren't reported, and neither I OUT OF RANGE nor BAD WHITEOUT ENTRY
+pub record IsPlainUnreported (vol : Volume) (e : Entry) : Type 0 where
+  pub below : nat_lt e.number vol.count ≡ true
   pub no_whiteout : is_bad_whiteout e ≡ false
-  pub named : (e.number == WINO) ≡ false → IsNameUnreported v e
+  pub named : (e.number == WINO) ≡ false → IsNameUnreported vol e
 
--- a directory isn't of size 0, TOO SHORT, NOT MULTIPLE, with EMPTY BLOCKS or CORRUPTED; `.` and `..` aren't MISSING,
--- with a bad number of `.` or BAD TYPE VALUE; there is no EXTRA entry
-pub record IsDirUnreported (v : Volume) (d : ℕ) : Type 0 where
-  pub some : (v.inode d).size ≢ 0
-  pub short : is_short v d ≡ false
-  pub broken : has_partial_chunk v d ≡ false
-  pub gap : v.gap d ≡ false
-  pub sound : are_sound (v.chunks d) ≡ true
-  pub dot_there : IsSomeAnd (dot v d) (λ e. (e.number ≡ d) × (e.kind ≡ DT_DIR))
-  pub dotdot_there : IsSomeAnd (dotdot v d) (λ e. e.kind ≡ DT_DIR)
-  pub no_extra : (j : ℕ) (s : RoledEntry) → nth_roled (roled_entries v d) j ≡ Some s → s.role ≢ Extra
-  pub plain : (j : ℕ) (s : RoledEntry) → nth_roled (roled_entries v d) j ≡ Some s → s.role ≡ Plain
-      → IsPlainUnreported v s.entry
+-- a directory isn't reported for size 0, as TOO SHORT, NOT MULTIPLE, with EMPTY BLOCKS or CORRUPTED; its `.` and `..`
+-- aren't reported as MISSING, for the number of `.` or for BAD TYPE VALUE; no EXTRA entry is reported, and none of the
+-- plain entries
+pub record IsDirUnreported (vol : Volume) (d : ℕ) : Type 0 where
+  pub some : (vol.inode d).size ≢ 0
+  pub short : is_short vol d ≡ false
+  pub broken : has_partial_chunk vol d ≡ false
+  pub gap : vol.gap d ≡ false
+  pub sound : are_sound (vol.chunks d) ≡ true
+  pub dot_there : IsSomeAnd (dot vol d) (λ e. (e.number ≡ d) × (e.kind ≡ DT_DIR))
+  pub dotdot_there : IsSomeAnd (dotdot vol d) (λ e. e.kind ≡ DT_DIR)
+  pub no_extra : (j : ℕ) (s : RoledEntry) → nth_roled (roled_entries vol d) j ≡ Some s → s.role ≢ Extra
+  pub plain : (j : ℕ) (s : RoledEntry) → nth_roled (roled_entries vol d) j ≡ Some s → s.role ≡ Plain
+      → IsPlainUnreported vol s.entry
 
--- the root is no ROOT INODE UNALLOCATED or NOT DIRECTORY
-pub record AreDirsUnreported (v : Volume) : Type 0 where
-  pub root : continues_after_root v ≡ true
-  pub each : (d : ℕ) → is_dir v d ≡ true → IsDirUnreported v d
+-- neither ROOT INODE UNALLOCATED nor ROOT INODE NOT DIRECTORY is reported, and no directory
+pub record AreDirsUnreported (vol : Volume) : Type 0 where
+  pub root : continues_after_root vol ≡ true
+  pub each : (d : ℕ) → is_dir vol d ≡ true → IsDirUnreported vol d
 
--- Of condition 5: no BAD INODE NUMBER FOR '..', no EXTRANEOUS HARD LINK and no UNREF DIR
-pub record AreLinksUnreported (v : Volume) : Type 0 where
-  pub dotdots : (d : ℕ) → is_dir v d ≡ true
-      → IsSomeAnd (dotdot v d) (λ e. is_wrong_parent (parent (graph_of v) d) e.number ≡ false)
-  pub links : (s j : ℕ) (e : RoledEntry) → is_dir v s ≡ true → nth_roled (roled_entries v s) j ≡ Some e → e.role ≡ Plain
-      → is_extraneous v s j e.entry.number ≡ false
-  pub lost : (d : ℕ) → is_unref_dir v d ≡ false
+-- none of the messages is reported that say that `AreLinksRight` fails: BAD INODE NUMBER FOR '..', EXTRANEOUS HARD
+-- LINK and UNREF DIR
+pub record AreLinksUnreported (vol : Volume) : Type 0 where
+  pub dotdots : (d : ℕ) → is_dir vol d ≡ true
+      → IsSomeAnd (dotdot vol d) (λ e. is_wrong_parent (parent (graph_of vol) d) e.number ≡ false)
+  pub links : (s j : ℕ) (e : RoledEntry) → is_dir vol s ≡ true → nth_roled (roled_entries vol s) j ≡ Some e
+      → e.role ≡ Plain → is_extraneous vol s j e.entry.number ≡ false
+  pub lost : (d : ℕ) → is_unref_dir vol d ≡ false
 
--- of condition 6: no UNREF and no LINK COUNT
-pub record IsCountUnreported (v : Volume) (i : ℕ) : Type 0 where
-  pub some : references v i ≢ 0
-  pub same : equals_natural (v.inode i).nlink (references v i) ≡ true
+-- neither of the messages is reported that say that `AreCountsRight` fails of an inode: UNREF and LINK COUNT
+pub record IsCountUnreported (vol : Volume) (i : ℕ) : Type 0 where
+  pub some : references vol i ≢ 0
+  pub same : equals_natural (vol.inode i).nlink (references vol i) ≡ true
 
 abbrev pub AreCountsUnreported : Volume → Type 0
-AreCountsUnreported v = (i : ℕ) → is_allocated_inode v i ≡ true → IsCountUnreported v i
+AreCountsUnreported vol = (i : ℕ) → is_allocated_inode vol i ≡ true → IsCountUnreported vol i
 
 -- Each condition and what is reported for it. Those of directories and groups are asked where the conditions on classes
 -- and Runs hold: the volume that the checks see is then that of all steps, and what is free is free of all Runs

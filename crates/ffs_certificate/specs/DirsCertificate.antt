@@ -7,18 +7,18 @@ use Rattle.ffs_volume.specs.Directories.ReferenceCheck.{reference_lines}
 use Rattle.ffs_volume.specs.Consistent.DirectoriesRight.{AreDirsRight, AreLinksRight, AreCountsRight}
 use Rattle.ffs_certificate.specs.Premises.{IsVolume, IsUnmarked}
 
--- the three checks report nothing
-pub record IsSilent (v : Volume) : Type 0 where
-  pub pathnames : pathname_lines v ≡ []
-  pub connectivity : connectivity_lines v ≡ []
-  pub references : reference_lines v ≡ []
+-- the checks of pathnames, of connectivity and of reference counts report nothing
+pub record IsSilent (vol : Volume) : Type 0 where
+  pub pathnames : pathname_lines vol ≡ []
+  pub connectivity : connectivity_lines vol ≡ []
+  pub references : reference_lines vol ≡ []
 
--- the directories are consistent
-pub record AreDirectoriesRight (v : Volume) : Type 0 where
-  pub dirs : AreDirsRight v
-  pub links : AreLinksRight v
-  pub counts : AreCountsRight v
+-- the conditions on directories, on links and on counts of references hold
+pub record AreDirectoriesRight (vol : Volume) : Type 0 where
+  pub dirs : AreDirsRight vol
+  pub links : AreLinksRight vol
+  pub counts : AreCountsRight vol
 
--- with nothing marked, the checks are silent exactly where the directories are consistent
+-- with no inode marked, the three checks are silent exactly where the three conditions hold
 abbrev pub SilentIsRight : Type 0
-SilentIsRight = (v : Volume) → IsVolume v → IsUnmarked v → IsSilent v ↔ AreDirectoriesRight v
+SilentIsRight = (vol : Volume) → IsVolume vol → IsUnmarked vol → IsSilent vol ↔ AreDirectoriesRight vol

@@ -1,15 +1,17 @@
--- Whether a directory has a right size, sound chunks and no Gap.
+-- Whether an inode is a directory of right shape.
 use Rattle.std.specs.Prelude.{ℕ, ◌%◌, ◌==◌, Bool, not, ◌&&◌, nat_lt}
 use Rattle.ffs_volume.specs.declared.constants.TheConstants.{DIRBLKSIZ, MINDIRSIZE}
 use Rattle.ffs_volume.specs.Directories.Roles.{Volume, is_dir}
 use Rattle.ffs_volume.specs.Directories.PathnameCheck.{are_sound}
 
--- no directory is shorter than `.` and `..`, and all have whole chunks
+-- the size has room for `.` and `..`, and is a multiple of the size of a chunk
 abbrev pub is_right_size : ℕ → Bool
 is_right_size size = not (nat_lt size MINDIRSIZE) && (size % DIRBLKSIZ == 0)
 
+-- the size of inode d is right, each of its chunks is sound, and none of its Gaps is kept
 abbrev pub is_right_shape : Volume → ℕ → Bool
-is_right_shape v d = is_right_size (v.inode d).size && (are_sound (v.chunks d) && not (v.gap d))
+is_right_shape vol d = is_right_size (vol.inode d).size && (are_sound (vol.chunks d) && not (vol.gap d))
 
+-- inode d is a directory of right shape
 abbrev pub is_right_directory : Volume → ℕ → Bool
-is_right_directory v d = is_dir v d && is_right_shape v d
+is_right_directory vol d = is_dir vol d && is_right_shape vol d

@@ -20,8 +20,9 @@ use Rattle.ffs_pathnames.specs.Header.{header_reported}
 
 -- of its size, its Gaps, its chunks and its first two entries
 unfoldable pub dir_starts : Volume → ℕ → List TreeMessage
-dir_starts v d = header_reported (attributes v d) (dir_path (graph_of v) d) d (parent (graph_of v) d) (v.gap d)
-    (are_sound (v.chunks d)) (start_entry v d 0) (start_entry v d 1)
+dir_starts vol d =
+    header_reported (attributes vol d) (dir_path (graph_of vol) d) d (parent (graph_of vol) d) (vol.gap d)
+    (are_sound (vol.chunks d)) (start_entry vol d 0) (start_entry vol d 1)
 
 -- 0 means no number
 abbrev pub number_if : ℕ → Option ℕ
