@@ -3,9 +3,10 @@
 -- Class and LAYOUT_PLACES, is declared in src/lib.rt, numbers of the format in src/constants.rt, and texts in
 -- src/texts.rt. The lines `use` at the top of a file say where its names come from: begin to read after them.
 --
--- Words. `v` is a layout, `vol` a volume as the checks of directories see it, and `g` its graph. `s` is in Blocks the
--- state of the block check (`Claims`), in Directories a directory that may have an edge to another, or an entry with
--- its role, and in Report and Consistent a superblock. The root is inode 2. A place is an offset in bytes, an index
+-- Words. `v` is a layout, `vol` a volume as the checks of directories see it, and `g` its graph. The letter `s` stands
+-- for another thing in each folder: in Blocks for the state of the block check (`Claims`), in Directories for the
+-- number of a directory that may have an edge to another, or for an entry with its role, in Groups for the counts of a
+-- group, and in Report and Consistent for a superblock. The root is inode 2. A place is an offset in bytes, an index
 -- counts from 0, and an address is the number of a fragment. A line is a message of the report (folder Messages): a
 -- definition with `lines` in its name gives a list of messages.
 --
@@ -13,7 +14,8 @@
 -- alone. The first line of a definition gives its type, and its equations follow, by patterns: the first that fits is
 -- used, and `_` fits anything. `f x y` is the function f of x and y, and `f : A → B → C` says that f takes an A and a
 -- B, and gives a C. `λ x. e` is a function, `◌` is the place of an argument, `data` is an enum, and `{M : Type 0}` a
--- type parameter. `record s { f = x }` is s with another f. `x.now` is the value of a constant of the program.
+-- type parameter. `record r { f = x }` is the record r with x as its field f. `x.now` is the value of a constant of the
+-- program.
 --
 -- Numbers and lists. `zero` is 0 and `suc n` is n + 1. On natural numbers `-` stops at 0, and `/` and `%` are those of
 -- integers. Of an integer `pos n` is n, and `negsuc n` is -(n + 1). `div_ceil` is the quotient rounded up. `decimal`
