@@ -48,7 +48,8 @@ pub struct Group {
     pub ndblk: i32,
     /// Its summary: directories, free blocks, free inodes and free fragments.
     pub cs: GroupSummary,
-    /// How many runs of exactly k free fragments there are, within blocks that are not all free.
+    /// At index k, how many stretches of exactly k free fragments there are, within blocks that are
+    /// not all free.
     pub frsum: [i32; 8],
     /// Where the map of inodes begins, in bytes from the start of the group block.
     pub iusedoff: u32,
@@ -60,7 +61,7 @@ impl Group {
     /// The numbers in the first 168 bytes of a group block.
     ///
     /// At byte 4 is the magic number, at 12 the group's number, at 20 the number of its fragments,
-    /// at 24 the summary, at 52 the eight counts of runs, at 92 and 96 the places of the maps. Each
+    /// at 24 the summary, at 52 the eight counts of stretches, at 92 and 96 the places of the maps. Each
     /// number has 32 bits; all but the magic number and the places are signed.
     pub fn decode(order: Order, bytes: &[u8]) -> Group
         requires { 168 ≤ length bytes.now }
@@ -71,15 +72,15 @@ impl Group {
             cgx: i32_at(order, 12, bytes),
             ndblk: i32_at(order, 20, bytes),
             cs: GroupSummary::decode(order, 24, bytes),
-            frsum: runs_of(order, bytes),
+            frsum: stretches_of(order, bytes),
             iusedoff: u32_at(order, 92, bytes),
             freeoff: u32_at(order, 96, bytes),
         }
     }
 }
 
-/// The eight counts of runs, in their order.
-fn runs_of(order: Order, bytes: &[u8]) -> [i32; 8]
+/// The eight counts of stretches of free fragments (`cg_frsum` of fs(5)), in their order.
+fn stretches_of(order: Order, bytes: &[u8]) -> [i32; 8]
     requires { 168 ≤ length bytes.now }
     ensures { result ≡ map (λ k. i32_in order (52 + 4 * k) bytes.now) (range_with_len 0 8) }
 {
