@@ -1,14 +1,15 @@
 -- What an image gives, and what a read does to it.
 use Rattle.std.specs.Prelude.{◌≡◌, ℕ, ◌+◌, ◌-◌, ◌^◌, min, List, length, drop, take, Option, Some, IfSome}
 
--- its bytes where it gives them, its size in bytes, how many reads have failed, and the sector of the last one that did
+-- what an image has: its bytes, where it gives them, its size in bytes, how many reads have failed, and the sector of
+-- the last one that did
 pub record Device : Type 0 where
   pub contents : Option (List ℕ)
   pub size : ℕ
   pub failures : ℕ
   pub failed_sector : ℕ
 
--- of the bytes that an image gives, where it gives them
+-- P holds of the bytes of an image that gives them; of another image this asks nothing
 abbrev pub ForContents : Option (List ℕ) → (List ℕ → Type 0) → Type 0
 ForContents contents P = (bytes : List ℕ) → contents ≡ Some bytes → P bytes
 
@@ -16,17 +17,17 @@ ForContents contents P = (bytes : List ℕ) → contents ≡ Some bytes → P by
 abbrev pub Rose : ℕ → ℕ → Type 0
 Rose old new = new ≡ min (old + 1) (2 ^ 64 - 1)
 
--- what a failed read at a sector leaves
+-- a read that fails at a sector leaves the image as it was, but for the two numbers about failed reads
 pub record Faulted (old new : Device) (sector : ℕ) : Type 0 where
   pub contents : new.contents ≡ old.contents
   pub size : new.size ≡ old.size
   pub failed_sector : new.failed_sector ≡ sector
   pub rose : Rose old.failures new.failures
 
--- the bytes that a device gives are as many as its size
+-- the bytes that an image gives are as many as its size
 abbrev pub IsSized : Device → Type 0
 IsSized d = IfSome d.contents (λ b. length b ≡ d.size)
 
--- these are the bytes at a place
+-- these are the image's bytes from a place on, where it gives its bytes
 abbrev pub IsAt : Device → ℕ → List ℕ → Type 0
 IsAt d at xs = ForContents d.contents (λ b. xs ≡ take (length xs) (drop at b))

@@ -45,7 +45,7 @@ OpenFails was_looked_up was_opened system name fault =
     ⊎ (IsFaultOf (λ error. was_looked_up system name (Err error)) fault
     ⊎ IsFaultOf (λ error. was_opened system name (Err error)) fault)
 
--- (for the law of a source) what holds of all bytes that are given holds of the bytes, where they are given
+-- (for the law of a source) what holds by `ForContents` of the bytes of an image holds of them by `IfSome` too
 pub if_given : (contents : Option (List ℕ)) (P : List ℕ → Type 0) → ForContents contents P → IfSome contents P
 if_given None P h = tt
 if_given (Some bytes) P h = h bytes refl

@@ -27,8 +27,8 @@ pub record OnlyReads {T : Type 0} (v : Layout) (old new : Device) (before after 
   pub ready : IsReady v new after
   pub read : ReadAfter old new result
 
--- of the directory tree, where the image gives its bytes, and the workspace holds what the block check and the survey
--- leave
+-- P holds of the graph of the volume's directories, where the image gives its bytes, and the workspace holds what the
+-- block check and the survey leave
 abbrev pub ForTree : Layout → Device → Workspace → (Graph → Type 0) → Type 0
 ForTree v d w P = (b : List ℕ) → d.contents ≡ Some b → HoldsClaims v b w → HoldsSurvey v b w
     → P (graph_of (volume_of v b))

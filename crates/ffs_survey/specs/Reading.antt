@@ -13,8 +13,8 @@ roled_of e name = record {
   entry = record { number = e.number; length = e.length; kind = e.kind; name = name };
 }
 
--- of the entries of each directory, and of which directories have a sound shape, by each list of bytes that a reader's
--- base knows to be the image's
+-- P holds of the entries of each directory and of which directories have a right shape, by each list of bytes that a
+-- reader's base knows to be the image's
 abbrev pub ForKnown : {B : Type 0} → (B → List ℕ → Type 0) → (B → List ℕ → ℕ → List RoledEntry)
     → (B → List ℕ → ℕ → Bool) → B → ((ℕ → List RoledEntry) → (ℕ → Bool) → Type 0) → Type 0
 ForKnown knows entries sound base P = (b : List ℕ) → knows base b → P (entries base b) (sound base b)
