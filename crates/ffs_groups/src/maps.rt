@@ -18,11 +18,11 @@ use byteorder::{ByteOrder, LittleEndian};
 use ffs_layout::Geometry;
 use ffs_maps::FragmentMap;
 
-/// How many words are looked at together.
+/// How many words of a map `are_free` is asked about at a time.
 const WORDS_AT_ONCE: u32 = FRAGMENTS_AT_ONCE / 64;
 
-/// The bits in some bytes of a map, the first one lowest. Most words are whole, and are read at
-/// once.
+/// The bits in at most eight bytes of a map, the first one lowest. Most words are whole: their eight
+/// bytes are read together.
 fn word_at(map: &[u8], place: usize, bytes: usize) -> u64
     requires bytes { bytes ≤ 8 }
     requires inside { place + bytes ≤ length map.now }
@@ -38,7 +38,7 @@ fn word_at(map: &[u8], place: usize, bytes: usize) -> u64
     word
 }
 
-/// A word with one bit more.
+/// The word with its clear bit at an index set, where `bit` is true.
 fn with_bit(word: u64, index: u32, bit: bool) -> u64
     requires index { index < 64 }
     requires clear { bit_at word index ≡ 0 }
@@ -48,14 +48,15 @@ fn with_bit(word: u64, index: u32, bit: bool) -> u64
     if bit { word | 1 << index } else { word }
 }
 
-/// A word of which each bit is set, or none.
+/// The word of 64 bits that are all `bit`.
 fn filled(bit: bool) -> u64
     ensures { (k : ℕ) → k < 64 → nat_eq (bit_at result k) 1 ≡ bit }
 {
     if bit { u64::MAX } else { 0 }
 }
 
-/// Which of some inodes are in use, the first one lowest. Of most words all are, or none is.
+/// A word with a bit set for each of at most 64 inodes that is in use, the first inode's lowest. Of
+/// most words all inodes are, or none is.
 fn used_word(kinds: &[u8], first: usize, count: u32) -> u64
     requires count { count ≤ 64 }
     requires inside { first + count ≤ length kinds.now }
@@ -74,7 +75,7 @@ fn used_word(kinds: &[u8], first: usize, count: u32) -> u64
     word
 }
 
-/// Whether two words have the same lowest bits.
+/// Whether two words have the same `count` lowest bits.
 fn same_bits(found: u64, right: u64, count: u32) -> bool
     requires { count ≤ 64 }
     ensures { result ≡ all_below count
@@ -129,8 +130,8 @@ pub fn group_fragments(geometry: &Geometry, group: u32) -> u32
         .min(geometry.layout.size - geometry.cgbase(group))
 }
 
-/// Whether whole words of a map have the same bit, `bit`, for all their fragments. No word ends the
-/// loop, so that some are compared at a time.
+/// Whether all bits of some words of a map are `bit`. No word ends the loop, so that the machine
+/// compares some at a time.
 fn are_filled(block: &[u8], place: usize, words: u32, bit: bool) -> bool
     requires { place + 8 * words ≤ length block.now }
     ensures { result ≡ has_bits block.now place (64 * words) (λ _. bit) }
@@ -144,7 +145,8 @@ fn are_filled(block: &[u8], place: usize, words: u32, bit: bool) -> bool
     same
 }
 
-/// Whether whole words of a map have the bits of the fragments from one on that are free.
+/// Whether the words of 64 bits of a map at a place of a group block, in bytes, say rightly which
+/// fragments from `base` on are free: a bit is set where its fragment is.
 fn same_words(used: &FragmentMap, base: u32, block: &[u8], place: usize, words: u32) -> bool
     requires { place + 8 * words ≤ length block.now }
     ensures { result ≡ has_bits block.now place (64 * words)
@@ -160,7 +162,8 @@ fn same_words(used: &FragmentMap, base: u32, block: &[u8], place: usize, words: 
     true
 }
 
-/// The same. Of most words all fragments are free, or none is.
+/// What `same_words` answers. Mostly all these fragments are free, or none is: then no word is made
+/// of `used`.
 fn same_stretch(used: &FragmentMap, base: u32, block: &[u8], place: usize, words: u32) -> bool
     requires inside { place + 8 * words ≤ length block.now }
     requires below { base + 64 * words ≤ used.now.size }
@@ -174,7 +177,7 @@ fn same_stretch(used: &FragmentMap, base: u32, block: &[u8], place: usize, words
     }
 }
 
-/// The same, some words at a time.
+/// What `same_words` answers, of any number of words: `WORDS_AT_ONCE` of them at a time.
 fn same_stretches(used: &FragmentMap, base: u32, block: &[u8], place: usize, words: u32) -> bool
     requires inside { place + 8 * words ≤ length block.now }
     requires below { base + 64 * words ≤ used.now.size }

@@ -35,8 +35,8 @@ impl Geometry {
         self.layout.dblkno
     }
 
-    /// By how many fragments the parts of a group are moved, for each cylinder position (place 24,
-    /// i32).
+    /// By how many fragments the parts of group c are moved, for each 1 of the number `c & !cgmask`
+    /// (place 24, i32).
     pub fn cgoffset(&self) -> i32
         ensures { result ≡ self.now.layout.cgoffset }
     {
@@ -169,14 +169,14 @@ impl Geometry {
         self.layout.maxsymlinklen
     }
 
-    /// The format of the inodes: 2 (place 1324, i32).
+    /// The format of inodes, which must be 2: that of 4.4BSD (place 1324, i32).
     pub fn inodefmt(&self) -> u32
         ensures { result ≡ self.now.layout.inodefmt }
     {
         self.layout.inodefmt
     }
 
-    /// The format of the rotational tables: 1 (place 1356, i32).
+    /// The format of the tables of rotational positions, which must be 1 (place 1356, i32).
     pub fn postblformat(&self) -> u32
         ensures { result ≡ self.now.layout.postblformat }
     {

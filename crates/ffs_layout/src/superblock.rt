@@ -17,7 +17,7 @@ use ffs_image::Image;
 use ffs_volume::constants::{DEV_BSIZE, FS_MAGIC, MAXMNTLEN, SUPERBLOCK_BYTES, SUPERBLOCK_SECTOR};
 use ffs_volume::{LAYOUT_PLACES, Order, SuperFault};
 
-/// The order in which the magic number reads right.
+/// The byte order in which the magic number, at byte 1,372, reads as `FS_MAGIC`, if one does.
 #[tactic(auto, unfolding(ffs_volume::specs::Disk::Superblock::order_of))]
 fn order_of_magic(bytes: &[u8; SUPERBLOCK_BYTES]) -> Option<Order>
     ensures { result ≡ order_of bytes.now }
@@ -31,7 +31,7 @@ fn order_of_magic(bytes: &[u8; SUPERBLOCK_BYTES]) -> Option<Order>
     }
 }
 
-/// Whether the two agree in the numbers at these places.
+/// Whether two superblocks have the same numbers of 32 bits at these places, in bytes.
 fn agree_at(
     order: Order,
     places: &[u16],
@@ -51,7 +51,7 @@ fn agree_at(
     true
 }
 
-/// Whether the copy agrees in each number of the layout.
+/// Whether a copy of the superblock has the same numbers as its bytes at all `LAYOUT_PLACES`.
 #[tactic(auto, unfolding(ffs_volume::specs::Disk::Outcome::agree))]
 fn layouts_agree(
     order: Order,
@@ -63,7 +63,7 @@ fn layouts_agree(
     agree_at(order, &LAYOUT_PLACES, bytes, copy)
 }
 
-/// Reads the bytes of a superblock, the primary or a copy.
+/// Reads the bytes of a superblock at a place of the image, in bytes.
 fn read_copy<I: Image>(
     image: &mut I,
     at: u64,
@@ -154,7 +154,8 @@ fn make_super(order: Order, bytes: &[u8; SUPERBLOCK_BYTES], geometry: Geometry) 
     }
 }
 
-/// Compares the last copy, where no sector was asked for.
+/// Reads the copy of the superblock in the last group and compares it with the superblock's bytes,
+/// unless a sector was asked for.
 #[tactic(auto, unfolding(ffs_volume::specs::Disk::Outcome::copy_agrees))]
 fn check_copy<I: Image>(
     image: &mut I,
@@ -184,6 +185,8 @@ fn check_copy<I: Image>(
     }
 }
 
+/// The sector of 512 bytes where the superblock is read: the one that was asked for, else 16, that
+/// of the primary one.
 fn first_sector(sector: Option<u32>) -> u32
     ensures { result ≡ super_sector sector }
 {

@@ -102,9 +102,9 @@ pub struct Layout {
     pub fpg: u32,
     /// A symbolic link with fewer bytes than this has its text in its inode.
     pub maxsymlinklen: u32,
-    /// The format of inodes, 2.
+    /// The format of inodes, which must be 2: that of 4.4BSD.
     pub inodefmt: u32,
-    /// The format of the rotational tables, 1.
+    /// The format of the tables of rotational positions, which must be 1.
     pub postblformat: u32,
 }
 
