@@ -254,7 +254,7 @@ fn classes(rt: HostRuntime) -> Result<(), Fail> {
 /// one has.
 fn extent(geometry: &Geometry, size: u64) -> (u64, u32) {
     let walk = Walk::start(geometry, &inode(0o100644, size));
-    (walk.blocks, walk.last)
+    (walk.logical_blocks, walk.last)
 }
 
 /// The volume has blocks of 4,096 bytes, in fragments of 1,024.

@@ -21,8 +21,8 @@ use ffs_maps::FragmentMap;
 /// How many words of a map `are_free` is asked about at a time.
 const WORDS_AT_ONCE: u32 = FRAGMENTS_AT_ONCE / 64;
 
-/// The bits in at most eight bytes of a map, the first one lowest. Most words are whole: their eight
-/// bytes are read together.
+/// The bits in at most eight bytes of a map, the first one lowest. Most words are whole: their
+/// eight bytes are read together.
 fn word_at(map: &[u8], place: usize, bytes: usize) -> u64
     requires bytes { bytes ≤ 8 }
     requires inside { place + bytes ≤ length map.now }

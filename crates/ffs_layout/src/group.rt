@@ -61,8 +61,8 @@ impl Group {
     /// The numbers in the first 168 bytes of a group block.
     ///
     /// At byte 4 is the magic number, at 12 the group's number, at 20 the number of its fragments,
-    /// at 24 the summary, at 52 the eight counts of stretches, at 92 and 96 the places of the maps. Each
-    /// number has 32 bits; all but the magic number and the places are signed.
+    /// at 24 the summary, at 52 the eight counts of stretches, at 92 and 96 the places of the maps.
+    /// Each number has 32 bits; all but the magic number and the places are signed.
     pub fn decode(order: Order, bytes: &[u8]) -> Group
         requires { 168 ≤ length bytes.now }
         ensures { result ≡ group_of order bytes.now }

@@ -30,14 +30,15 @@ all_steps v inode bytes blocks last next count first all counted long = rw (firs
 
 pub begun : (g : Geometry) (inode : Inode) (w : Walk) → w.geometry ≡ g →
     IsSpent w.single → IsSpent w.double → IsSpent w.triple → w.next ≡ 0 →
-    w.used ≡ addresses_needed g.layout.nindir w.blocks →
-    w.blocks ≡ (if is_walked g.layout inode then logical_blocks_of g.layout inode else 0) →
+    w.used ≡ addresses_needed g.layout.nindir w.logical_blocks →
+    w.logical_blocks ≡ (if is_walked g.layout inode then logical_blocks_of g.layout inode else 0) →
     w.last ≡ last_length_of g.layout inode → w.addresses ≡ inode.addresses → IsWalkOf g inode w
 begun g inode w same single double triple first all counted long addresses =
     let count : w.used - w.next ≡ w.used = omega (arith, first) in
     record {
       steps = λ bytes. rest_at_top bytes w single double triple ∙ rw (same, addresses)
-          (all_steps g.layout inode bytes w.blocks w.last w.next (w.used - w.next) first (count ∙ all) counted long);
+          (all_steps g.layout inode bytes w.logical_blocks w.last w.next (w.used - w.next) first (count ∙ all) counted
+          long);
       geometry = same;
       blocks = counted;
       top = record { single = single; double = double; triple = triple };

@@ -17,7 +17,7 @@ use Rattle.ffs_walk.specs.Lengths.{IsStepOf}
 use Rattle.ffs_walk.specs.Counts.{EntersOnly, IsEntered, entered}
 
 abbrev pub file_blocks_of : Walk → FileBlocks
-file_blocks_of w = record { layout = w.geometry.layout; blocks = w.blocks; last_length = w.last }
+file_blocks_of w = record { layout = w.geometry.layout; blocks = w.logical_blocks; last_length = w.last }
 
 -- the steps that the frames of a walk have left
 abbrev pub single_rest : List ℕ → Walk → List Step
@@ -76,42 +76,42 @@ pub record IsAtTop (w : Walk) : Type 0 where
 pub record IsNextStep (contents : Option (List ℕ)) (old new : Walk) (answer : Option Step) : Type 0 where
   pub steps : ForContents contents (λ bytes. MatchOption answer (steps_left bytes old ≡ [])
       (λ step. steps_left bytes old ≡ step ∷ steps_left bytes new))
-  pub fits : IfSome answer (IsStepOf old.geometry.layout.frag old.blocks)
+  pub fits : IfSome answer (IsStepOf old.geometry.layout.frag old.logical_blocks)
   pub falls : IfSome answer (λ _. most_steps_left new < most_steps_left old)
   pub over : answer ≡ None → IsOver new
 
 -- the walks are over as many logical blocks of the same volume
 pub record SameFileBlocks (old new : Walk) : Type 0 where
   pub geometry : new.geometry ≡ old.geometry
-  pub blocks : new.blocks ≡ old.blocks
+  pub blocks : new.logical_blocks ≡ old.logical_blocks
 
 -- a walk that has all steps of an inode left
 pub record IsWalkOf (g : Geometry) (inode : Inode) (w : Walk) : Type 0 where
   pub steps : (bytes : List ℕ) → steps_left bytes w ≡ steps_of g.layout inode bytes
   pub geometry : w.geometry ≡ g
-  pub blocks : w.blocks ≡ (if is_walked g.layout inode then logical_blocks_of g.layout inode else 0)
+  pub blocks : w.logical_blocks ≡ (if is_walked g.layout inode then logical_blocks_of g.layout inode else 0)
   pub top : IsAtTop w
 
 -- the step is that at the address of a data block
 pub record IsDataStep (w : Walk) (address block : ℕ) (made : Step) : Type 0 where
   pub step : made ≡ data_step (file_blocks_of w) address block
-  pub fits : IsStepOf w.geometry.layout.frag w.blocks made
+  pub fits : IsStepOf w.geometry.layout.frag w.logical_blocks made
 
 -- the step and those of the frame are all at the address of an indirect block
 pub record Enters (w : Walk) (span address first : ℕ) (made : Step) (frame : Frame) : Type 0 where
   pub steps : (bytes : List ℕ) (child : ℕ → ℕ → List Step) →
       indirect_steps (file_blocks_of w) bytes child span address first
       ≡ made ∷ frame_rest w.geometry.layout bytes child span frame
-  pub step : IsStepOf w.geometry.layout.frag w.blocks made
+  pub step : IsStepOf w.geometry.layout.frag w.logical_blocks made
   pub left : (most : ℕ) → frame_left most frame ≤ 1 + w.geometry.layout.nindir * most
-  pub fits : FrameFits w.geometry.layout w.blocks span frame
+  pub fits : FrameFits w.geometry.layout w.logical_blocks span frame
   pub counted : IsEntered made frame
 
 -- the step is the first that an item of a level means, and the walk has the others left, before those that it had
 pub record IsFirstOf (level : ℕ) (item : Item) (old new : Walk) (step : Step) : Type 0 where
   pub steps : (bytes : List ℕ) → item_steps (steps_at (file_blocks_of old) bytes level) item ++ steps_left bytes old
       ≡ step ∷ steps_left bytes new
-  pub fits : IsStepOf old.geometry.layout.frag old.blocks step
+  pub fits : IsStepOf old.geometry.layout.frag old.logical_blocks step
   pub left : 1 + most_steps_left new ≤ item_left (most_at old.geometry.layout.nindir level) item + most_steps_left old
   pub same : SameFileBlocks old new
   pub counted : EntersOnly old new (entered step)

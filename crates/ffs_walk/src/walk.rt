@@ -21,7 +21,7 @@ pub struct Walk {
     pub geometry: Geometry,
     /// How many logical blocks the walk goes over: at most 2^52, since a size is below 2^64, and a
     /// block has 4,096 bytes or more.
-    pub blocks: u64,
+    pub logical_blocks: u64,
     /// How many fragments the last logical block has, where it is direct.
     pub last: u32,
     /// The index of the next of the inode's own addresses.
@@ -39,13 +39,14 @@ pub struct Walk {
     pub triple: Frame,
     ghost in_order: { next ≤ used },
     ghost in_array: { used ≤ 15 },
-    ghost used_fits: { used ≤ addresses_needed geometry.layout.nindir blocks },
+    ghost used_fits: { used ≤ addresses_needed geometry.layout.nindir logical_blocks },
     ghost last_some: { 0 < last },
     ghost last_small: { last ≤ geometry.layout.frag },
-    ghost blocks_small: { blocks < 2 ^ 53 },
-    ghost single_fits: { FrameFits geometry.layout blocks 1 single },
-    ghost double_fits: { FrameFits geometry.layout blocks geometry.layout.nindir double },
-    ghost triple_fits: { FrameFits geometry.layout blocks (geometry.layout.nindir * geometry.layout.nindir) triple },
+    ghost blocks_small: { logical_blocks < 2 ^ 53 },
+    ghost single_fits: { FrameFits geometry.layout logical_blocks 1 single },
+    ghost double_fits: { FrameFits geometry.layout logical_blocks geometry.layout.nindir double },
+    ghost triple_fits: { FrameFits geometry.layout logical_blocks
+        (geometry.layout.nindir * geometry.layout.nindir) triple },
 }
 
 impl Walk {
@@ -65,13 +66,13 @@ impl Walk {
 
     /// The step at the address of a data block.
     fn data(&self, address: u32, block: u64) -> Step
-        requires { block < self.now.blocks }
+        requires { block < self.now.logical_blocks }
         ensures { IsDataStep self.now address block result }
     {
         if address == 0 {
             return Step::Gap;
         }
-        let len = if block < NDADDR && block + 1 == self.blocks {
+        let len = if block < NDADDR && block + 1 == self.logical_blocks {
             self.last
         } else {
             self.geometry.layout.frag
@@ -85,7 +86,7 @@ impl Walk {
 
     /// The step at the address of a data block that isn't direct.
     fn indirect_data(&self, address: u32, block: u64) -> Step
-        requires { IsIndirect self.now.blocks block }
+        requires { IsIndirect self.now.logical_blocks block }
         ensures { IsDataStep self.now address block result }
     {
         if address == 0 {
@@ -101,7 +102,7 @@ impl Walk {
     /// The first step at the address of an indirect block, and the frame for the others.
     fn enter(&self, span: u64, address: u32, first: u64) -> (Step, Frame)
         requires span { 0 < span }
-        requires first { IsIndirect self.now.blocks first }
+        requires first { IsIndirect self.now.logical_blocks first }
         ensures { Enters self.now span address first result.0 result.1 }
     {
         if address == 0 {
@@ -116,7 +117,9 @@ impl Walk {
         if !geometry.in_range(address, geometry.layout.frag) {
             return (run, Frame::spent());
         }
-        let used = u64::from(geometry.layout.nindir).min((self.blocks - first).div_ceil(span));
+        let used = u64::from(geometry.layout.nindir).min(
+            (self.logical_blocks - first).div_ceil(span),
+        );
         (
             run,
             Frame {
@@ -131,10 +134,10 @@ impl Walk {
 
     /// The step that an item of the single frame means.
     fn step_in_single(&self, item: Item) -> Step
-        requires { IsBelow self.now.blocks item }
+        requires { IsBelow self.now.logical_blocks item }
         ensures steps { (bytes : List ℕ)
             → item_steps (steps_at (file_blocks_of self.now) bytes 0) item ≡ result ∷ [] }
-        ensures fits { IsStepOf self.now.geometry.layout.frag self.now.blocks result }
+        ensures fits { IsStepOf self.now.geometry.layout.frag self.now.logical_blocks result }
     {
         match item {
             Item::UnusedWord => Step::Tail,
@@ -145,7 +148,7 @@ impl Walk {
     /// The first step that an item of the double frame means; the others go into the single frame.
     fn step_in_double(&mut self, item: Item) -> Step
         requires spent { IsSpent self.old.single }
-        requires below { IsBelow self.old.blocks item }
+        requires below { IsBelow self.old.logical_blocks item }
         ensures { IsFirstOf 1 item self.old self.new result }
     {
         match item {
@@ -161,7 +164,7 @@ impl Walk {
     /// The first step that an item of the triple frame means; the others go into the double frame.
     fn step_in_triple(&mut self, item: Item) -> Step
         requires spent { (IsSpent self.old.single) × (IsSpent self.old.double) }
-        requires below { IsBelow self.old.blocks item }
+        requires below { IsBelow self.old.logical_blocks item }
         ensures { IsFirstOf 2 item self.old self.new result }
     {
         match item {
@@ -182,7 +185,8 @@ impl Walk {
         ensures steps { (bytes : List ℕ)
             → MatchOption result (steps_left bytes self.old ≡ [])
             (λ step. steps_left bytes self.old ≡ step ∷ steps_left bytes self.new) }
-        ensures fits { IfSome result (IsStepOf self.old.geometry.layout.frag self.old.blocks) }
+        ensures fits { IfSome result
+            (IsStepOf self.old.geometry.layout.frag self.old.logical_blocks) }
         ensures left { MatchOption result (most_steps_left self.old ≡ 0)
             (λ _. most_steps_left self.new < most_steps_left self.old) }
         ensures none { result ≡ None → self.new ≡ self.old }
@@ -397,7 +401,7 @@ impl Walk {
     {
         Walk {
             geometry: *geometry,
-            blocks: 0,
+            logical_blocks: 0,
             last: geometry.layout.frag,
             next: 0,
             used: 0,
@@ -428,7 +432,7 @@ impl Walk {
         let blocks = walked_blocks(geometry, inode, class);
         Walk {
             geometry: *geometry,
-            blocks,
+            logical_blocks: blocks,
             last: last_length(geometry, inode),
             next: 0,
             used: addresses_needed(u64::from(geometry.layout.nindir), blocks),
@@ -451,8 +455,8 @@ impl Walk {
     {
         self.stop();
         self.last = last_length(&self.geometry, inode);
-        self.blocks = walked_blocks(&self.geometry, inode, class);
+        self.logical_blocks = walked_blocks(&self.geometry, inode, class);
         self.addresses = inode.addresses;
-        self.used = addresses_needed(u64::from(self.geometry.layout.nindir), self.blocks);
+        self.used = addresses_needed(u64::from(self.geometry.layout.nindir), self.logical_blocks);
     }
 }

@@ -13,13 +13,13 @@ use ffs_volume::Order;
 /// How many bytes a word has.
 const WORD_BYTES: usize = 4;
 
-/// How many words are looked at together at first for one that isn't zero.
+/// How many words `zeros_end` looks at together at first.
 const FEW_WORDS: u32 = 16;
 
-/// How many are looked at together where `FEW_WORDS` before them are zero.
+/// How many words it looks at together after `FEW_WORDS` that are zero.
 const MANY_WORDS: u32 = 128;
 
-/// The word at an index of a block.
+/// The word at an index of an indirect block: an address.
 #[tactic(auto, unfolding(ffs_volume::specs::Disk::Numbers::number, ffs_volume::specs::Disk::Numbers::u32_at))]
 pub fn word(geometry: &Geometry, block: &[u8], index: u32) -> u32
     requires { 4 * index + 4 ≤ length block.now }
@@ -32,8 +32,8 @@ pub fn word(geometry: &Geometry, block: &[u8], index: u32) -> u32
     }
 }
 
-/// Whether a byte isn't zero. All are looked at, with no test of each that ends the loop: the
-/// machine takes many at once.
+/// Whether one of the bytes isn't zero. All are looked at, with no test of each that ends the loop:
+/// the machine takes many together.
 #[inline(always)]
 fn any_set(bytes: &[u8]) -> bool
     ensures { result ≡ any_nonzero bytes.now }
@@ -45,8 +45,8 @@ fn any_set(bytes: &[u8]) -> bool
     bits != 0
 }
 
-/// Whether a word of a block from an index on isn't zero. So it is in either byte order where one
-/// of its bytes isn't.
+/// Whether one of the words of an indirect block from the index `used` on isn't zero. Bytes are
+/// looked at, since a word isn't zero where one of its bytes isn't, in either byte order.
 #[inline(never)]
 #[tactic(auto, using(crate::proofs::WordBytes::any_byte_from))]
 pub fn any_from(geometry: &Geometry, block: &[u8], used: u32) -> bool

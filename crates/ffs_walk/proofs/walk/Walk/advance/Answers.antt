@@ -14,14 +14,14 @@ use Rattle.ffs_walk.proofs.walk.Walk.advance.Goals as goal
 pub step_in_double-requires-clause-below : goal.step_in_double-requires-clause-below
 step_in_double-requires-clause-below g c =
     let w = c.args.self.now in
-    item_below w.geometry.layout w.blocks w.geometry.layout.nindir w.double c.in_ok-item-2.item
+    item_below w.geometry.layout w.logical_blocks w.geometry.layout.nindir w.double c.in_ok-item-2.item
     (some_words w.geometry.layout w.geometry.sound) w.double_fits
     (rw c.from-words.ensures at c.in_ok-item-2.ensures.item.item)
 
 pub step_in_triple-requires-clause-below : goal.step_in_triple-requires-clause-below
 step_in_triple-requires-clause-below g c =
     let w = c.args.self.now in
-    item_below w.geometry.layout w.blocks (w.geometry.layout.nindir * w.geometry.layout.nindir) w.triple
+    item_below w.geometry.layout w.logical_blocks (w.geometry.layout.nindir * w.geometry.layout.nindir) w.triple
     c.in_ok-item-3.item
     (square_some w.geometry.layout.nindir (some_words w.geometry.layout w.geometry.sound)) w.triple_fits
     (rw c.from-words.ensures at c.in_ok-item-3.ensures.item.item)
@@ -29,7 +29,7 @@ step_in_triple-requires-clause-below g c =
 pub step_in_single-requires : goal.step_in_single-requires
 step_in_single-requires g c =
     let w = c.args.self.now in
-    item_below w.geometry.layout w.blocks 1 w.single c.in_ok-item.item (omega arith) w.single_fits
+    item_below w.geometry.layout w.logical_blocks 1 w.single c.in_ok-item.item (omega arith) w.single_fits
     c.in_ok-item.ensures.item.item
 
 pub invariant_of-self : goal.invariant_of-self
@@ -42,7 +42,8 @@ invariant_of-self g c =
       last_some = w.last_some;
       last_small = w.last_small;
       blocks_small = w.blocks_small;
-      single_fits = kept_fits w.geometry.layout w.blocks 1 w.single c.take.new.self (c.if-is_left.ensures.left.0 refl)
+      single_fits = kept_fits w.geometry.layout w.logical_blocks 1 w.single c.take.new.self
+          (c.if-is_left.ensures.left.0 refl)
           c.take.ensures.same w.single_fits;
       double_fits = w.double_fits;
       triple_fits = w.triple_fits;
@@ -67,7 +68,7 @@ invariant_of-self-then-is_left-2 g c =
       last_small = w.last_small;
       blocks_small = w.blocks_small;
       single_fits = w.single_fits;
-      double_fits = kept_fits w.geometry.layout w.blocks w.geometry.layout.nindir w.double
+      double_fits = kept_fits w.geometry.layout w.logical_blocks w.geometry.layout.nindir w.double
           c.take-then-is_left-2.new.self (c.if-is_left-2.ensures.left.0 refl) c.take-then-is_left-2.ensures.same
           w.double_fits;
       triple_fits = w.triple_fits;
@@ -93,7 +94,8 @@ invariant_of-self-then-is_left-3 g c =
       blocks_small = w.blocks_small;
       single_fits = w.single_fits;
       double_fits = w.double_fits;
-      triple_fits = kept_fits w.geometry.layout w.blocks (w.geometry.layout.nindir * w.geometry.layout.nindir) w.triple
+      triple_fits = kept_fits w.geometry.layout w.logical_blocks
+          (w.geometry.layout.nindir * w.geometry.layout.nindir) w.triple
           c.take-then-is_left-3.new.self (c.if-is_left-3.ensures.left.0 refl) c.take-then-is_left-3.ensures.same
           w.triple_fits;
     }
@@ -140,10 +142,11 @@ take-requires-then-is_left-3-clause-item g c =
     record {
       left = c.if-is_left-3.ensures.left.0 refl;
       in_range = c.args.self.now.triple_fits.in_range_there (c.if-is_left-3.ensures.left.0 refl);
-      words = words_fit w.geometry.layout w.blocks (w.geometry.layout.nindir * w.geometry.layout.nindir) w.triple
+      words = words_fit w.geometry.layout w.logical_blocks
+          (w.geometry.layout.nindir * w.geometry.layout.nindir) w.triple
           w.triple_fits;
       small = rw c.from-words.ensures
-          (word_fits w.geometry.layout w.blocks (w.geometry.layout.nindir * w.geometry.layout.nindir) w.triple
+          (word_fits w.geometry.layout w.logical_blocks (w.geometry.layout.nindir * w.geometry.layout.nindir) w.triple
           (square_some w.geometry.layout.nindir (some_words w.geometry.layout w.geometry.sound))
           w.triple_fits w.blocks_small (c.if-is_left-3.ensures.left.0 refl));
     }
@@ -154,9 +157,9 @@ take-requires-then-is_left-2-clause-item g c =
     record {
       left = c.if-is_left-2.ensures.left.0 refl;
       in_range = c.args.self.now.double_fits.in_range_there (c.if-is_left-2.ensures.left.0 refl);
-      words = words_fit w.geometry.layout w.blocks w.geometry.layout.nindir w.double w.double_fits;
+      words = words_fit w.geometry.layout w.logical_blocks w.geometry.layout.nindir w.double w.double_fits;
       small = rw c.from-words.ensures
-          (word_fits w.geometry.layout w.blocks w.geometry.layout.nindir w.double
+          (word_fits w.geometry.layout w.logical_blocks w.geometry.layout.nindir w.double
           (some_words w.geometry.layout w.geometry.sound)
           w.double_fits w.blocks_small (c.if-is_left-2.ensures.left.0 refl));
     }
@@ -167,8 +170,8 @@ take-requires-clause-item g c =
     record {
       left = c.if-is_left.ensures.left.0 refl;
       in_range = c.args.self.now.single_fits.in_range_there (c.if-is_left.ensures.left.0 refl);
-      words = words_fit w.geometry.layout w.blocks 1 w.single w.single_fits;
-      small = word_fits w.geometry.layout w.blocks 1 w.single one_some w.single_fits w.blocks_small
+      words = words_fit w.geometry.layout w.logical_blocks 1 w.single w.single_fits;
+      small = word_fits w.geometry.layout w.logical_blocks 1 w.single one_some w.single_fits w.blocks_small
           (c.if-is_left.ensures.left.0 refl);
     }
 

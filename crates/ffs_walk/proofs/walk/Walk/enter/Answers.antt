@@ -40,7 +40,7 @@ pub returns : goal.returns
 returns c =
     let w = c.args.self.now in
     let used : c.min-used.result
-    ≡ indirect_addresses_needed w.geometry.layout.nindir w.blocks c.args.first c.args.span =
+    ≡ indirect_addresses_needed w.geometry.layout.nindir w.logical_blocks c.args.first c.args.span =
     c.min-used.ensures ∙ rw (c.from.ensures, c.div_ceil.ensures) refl in
     let all : c.min-used.result - 0 ≡ c.min-used.result = omega arith in
     record {
