@@ -14,11 +14,11 @@ use Rattle.ffs_groups.specs.declared.counts.Counts.{Counts}
 use Rattle.ffs_groups.specs.declared.counts.SummaryCounts.{SummaryCounts}
 use Rattle.ffs_groups.specs.declared.check.Findings.{Findings}
 
--- the four counts
+-- the counts of a summary in memory, as the definitions have them
 abbrev pub group_counts_of : SummaryCounts → GroupCounts
 group_counts_of s = record { dirs = s.dirs; blocks = s.blocks; inodes = s.inodes; fragments = s.fragments }
 
--- the bits of a signed number are those of a count
+-- the signed number of 32 bits has the bits of this count
 unfoldable pub has_bits_of : ℤ → ℕ → Bool
 has_bits_of found right = cast_unsigned w32 found == right
 
@@ -28,7 +28,7 @@ same_counts found right =
     has_bits_of found.dirs right.dirs && (has_bits_of found.blocks right.blocks
     && (has_bits_of found.inodes right.inodes && has_bits_of found.fragments right.fragments))
 
--- the number of stretches of one length is the same
+-- the count of the stretches of this length is the right one
 abbrev pub same_frsum_at : List ℤ → List ℕ → ℕ → Bool
 same_frsum_at found right length = has_bits_of (slice_index_or found length (pos 0)) (slice_index right length)
 

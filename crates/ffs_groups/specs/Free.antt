@@ -12,15 +12,16 @@ use Rattle.ffs_groups.specs.declared.free.FreeCounts.{FreeCounts}
 abbrev pub free_in : List Bool → ℕ → ℕ → Bool
 free_in used size f = nat_lt f size && not (is_set used f)
 
--- the bits of a word from an index on, so many of them
+-- n bits of a word, from an index on
 abbrev pub word_bits : ℕ → ℕ → ℕ → List Bool
 word_bits word index n = map (λ k. nat_eq (bit_at word k) 1) (range_with_len index n)
 
--- which fragments are free of block b of those that begin at a fragment
+-- which fragments of block b are free, where block 0 begins at `start`
 abbrev pub bits_from : (free : ℕ → Bool) (start frag b : ℕ) → List Bool
 bits_from free start frag b = map free (range_with_len (start + b * frag) frag)
 
--- what a block adds to the free blocks, to the free fragments of other blocks, and to their stretches of length k
+-- what a block with these free fragments adds to the free blocks, to the free fragments of other blocks, and to their
+-- stretches of length k
 abbrev pub whole_in : List Bool → ℕ
 whole_in bits = if is_free_block bits then 1 else 0
 
@@ -42,7 +43,7 @@ pub record Grown (b f : ℕ) (r : ℕ → ℕ) (old new : FreeCounts) : Type 0 w
   pub fragments : new.fragments ≡ old.fragments + f
   pub frsum : (k : ℕ) → slice_index new.frsum k ≡ slice_index old.frsum k + r k
 
--- a word has room for so many blocks, and the counts for what they add
+-- a word has room for `blocks` blocks, and the counts have room for what these add
 pub record HasRoomToCount (blocks frag limit : ℕ) (counts : FreeCounts) : Type 0 where
   pub some : 0 < frag
   pub few : frag ≤ 8
@@ -56,7 +57,7 @@ pub record HasBlocks (start frag limit : ℕ) (counts : FreeCounts) : Type 0 whe
   pub near : start < 2 ^ 62
   pub below : AreBelow limit counts
 
--- n blocks from one on are added
+-- what is free in n blocks, from block `from` on, is added
 pub record Added (bits : ℕ → List Bool) (from n : ℕ) (old new : FreeCounts) : Type 0 where
   pub blocks : new.blocks ≡ old.blocks + sum_by (λ b. whole_in (bits b)) (range_with_len from n)
   pub fragments : new.fragments ≡ old.fragments + sum_by (λ b. loose_in (bits b)) (range_with_len from n)

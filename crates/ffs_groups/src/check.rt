@@ -17,7 +17,7 @@ use ffs_layout::{Geometry, Group, GroupSummary};
 use ffs_maps::FragmentMap;
 use ffs_volume::constants::CG_MAGIC;
 
-/// What of a volume is in use.
+/// Which fragments and which inodes of a volume are in use.
 #[derive(Clone, Copy)]
 pub struct Usage<'a> {
     /// The fragments that are used.
@@ -49,6 +49,7 @@ fn is_right(found: i32, right: u32) -> bool
     found.cast_unsigned() == right
 }
 
+/// Whether the counts of a summary are the right ones.
 fn same_summary(found: &GroupSummary, right: &SummaryCounts) -> bool
     ensures { result ≡ same_counts found.now right.now }
 {
@@ -58,6 +59,7 @@ fn same_summary(found: &GroupSummary, right: &SummaryCounts) -> bool
         && is_right(found.fragments, right.fragments)
 }
 
+/// Whether the eight counts of stretches are the right ones: those at indices 0 to 7.
 fn same_frsum(found: &[i32; 8], right: &[u64; 9]) -> bool
     ensures { result ≡ all_below 8 (λ k. same_frsum_at found.now right.now k) }
 {
@@ -82,6 +84,7 @@ fn places_fit(geometry: &Geometry, found: &Group) -> bool
     u64::from(found.iusedoff) + inodes <= size && u64::from(found.freeoff) + fragments <= size
 }
 
+/// Whether both maps end within the group block and have the right bits.
 fn maps_are_right(
     geometry: &Geometry,
     usage: &Usage<'_>,
@@ -108,6 +111,8 @@ fn maps_are_right(
         && same_fragment_map(geometry, usage.fragments, group, block, found.freeoff)
 }
 
+/// Whether the group block has the right number of its group, number of fragments, summary and
+/// counts of stretches.
 fn sums_are_right(geometry: &Geometry, counts: &Counts, group: u32, found: &Group) -> bool
     requires { group < geometry.now.layout.ncg }
     ensures { result ≡ (has_bits_of found.now.cgx group
@@ -121,8 +126,8 @@ fn sums_are_right(geometry: &Geometry, counts: &Counts, group: u32, found: &Grou
         && same_frsum(&found.frsum, &counts.frsum)
 }
 
-/// What is found in the records of a group: its 16 bytes of the summary area, and its group block
-/// (fs(5)).
+/// Compares the records of a group with its right counts: its 16 bytes of the summary area, and its
+/// group block (fs(5)).
 pub fn compare_group(
     geometry: &Geometry,
     usage: &Usage<'_>,

@@ -10,10 +10,12 @@ use crate::maps::group_fragments;
 use ffs_layout::Geometry;
 use ffs_maps::FragmentMap;
 
-/// How many fragments are looked at together, since mostly all of them are free, or all are used.
+/// How many fragments `are_free` is asked about at a time: mostly all of them are free, or all are
+/// used.
 pub const FRAGMENTS_AT_ONCE: u32 = 2048;
 
-/// Whether the fragments from `start` on and below `end` are all free, or none is.
+/// Whether the fragments from `start` on and below `end` are all free (`Some(true)`), or none is
+/// (`Some(false)`); else `None`.
 pub fn are_free(used: &FragmentMap, start: u32, end: u32) -> Option<bool>
     requires order { start ≤ end }
     requires below { end ≤ used.now.size }
@@ -31,7 +33,7 @@ pub fn are_free(used: &FragmentMap, start: u32, end: u32) -> Option<bool>
     }
 }
 
-/// What is free in a group, in blocks and in the fragments of other blocks.
+/// What is free in a group: whole blocks, and fragments of other blocks.
 #[derive(Clone, Copy, Debug)]
 pub struct FreeCounts {
     /// Blocks of which each fragment is free.
@@ -43,7 +45,7 @@ pub struct FreeCounts {
 }
 
 impl FreeCounts {
-    /// Counts a stretch of free fragments that ends.
+    /// Counts a stretch of `stretch` free fragments, unless that is 0.
     fn end_stretch(&mut self, stretch: u32)
         requires stretch { stretch ≤ 8 }
         requires below { AreBelow (2 ^ 64 - 1) self.old }
@@ -54,7 +56,8 @@ impl FreeCounts {
         }
     }
 
-    /// Counts the free fragments of a block that isn't free as a whole.
+    /// Counts the free fragments of a block that isn't all free, and their stretches. The lowest
+    /// `frag` bits say which are free.
     fn add_loose(&mut self, bits: u64, frag: u32)
         requires { HasRoomToCount 1 frag (2 ^ 63) self.old }
         ensures { Grown 0 (count_by (λ f. f) (word_bits bits 0 frag))
@@ -74,7 +77,7 @@ impl FreeCounts {
         self.end_stretch(stretch);
     }
 
-    /// Counts a block.
+    /// Counts what is free in a block, by the lowest `frag` bits.
     fn add_block(&mut self, bits: u64, frag: u32)
         requires { HasRoomToCount 1 frag (2 ^ 63) self.old }
         ensures { Grown (whole_in (word_bits bits 0 frag)) (loose_in (word_bits bits 0 frag))
@@ -89,7 +92,8 @@ impl FreeCounts {
         }
     }
 
-    /// Counts the blocks of a word. Most words have no free fragment, or only free ones.
+    /// Counts what is free in the first blocks of a word. Most words have no free fragment, or only
+    /// free ones.
     fn add_word(&mut self, word: u64, blocks: u32, frag: u32)
         requires { HasRoomToCount blocks frag (2 ^ 62) self.old }
         ensures { Added (λ b. word_bits (word / 2 ^ (b * frag)) 0 frag) 0 blocks self.old self.new }
@@ -111,7 +115,7 @@ impl FreeCounts {
         }
     }
 
-    /// Counts some blocks from a fragment on, by words.
+    /// Counts what is free in some blocks from a fragment on, word by word.
     fn add_words(&mut self, used: &FragmentMap, start: u64, blocks: u32, frag: u32)
         requires { HasBlocks start frag (2 ^ 61) self.old }
         ensures { Added (bits_from (free_in (bits_of used.now) used.now.size) start frag) 0 blocks
@@ -127,7 +131,8 @@ impl FreeCounts {
         }
     }
 
-    /// Counts some blocks from a fragment on.
+    /// Counts what is free in some blocks from a fragment on, with one look where that is all of
+    /// them, or nothing.
     fn add_blocks(&mut self, used: &FragmentMap, start: u64, blocks: u32, frag: u32)
         requires { HasBlocks start frag (2 ^ 61) self.old }
         ensures { Added (bits_from (free_in (bits_of used.now) used.now.size) start frag) 0 blocks

@@ -19,19 +19,22 @@ pub struct InodeCounts {
     pub free: u32,
 }
 
+/// Whether this is the kind of a directory.
 fn is_dir_kind(kind: u8) -> bool
     ensures { result ≡ is_directory (class_of_kind kind) }
 {
     kind == DT_DIR || kind == EMPTY_DIR
 }
 
+/// Whether this is the kind of an inode that is allocated.
 fn is_used_kind(kind: u8) -> bool
     ensures { result ≡ is_allocated (class_of_kind kind) }
 {
     kind != 0
 }
 
-/// Whether an inode is in use: 0, 1, and each that is allocated, also one of class Unknown.
+/// Whether an inode is in use, as inodes 0 and 1 are and each that is allocated, also one of class
+/// Unknown.
 pub fn is_used_at(kinds: &[u8], inode: usize) -> bool
     requires { inode < length kinds.now }
     ensures { result ≡ is_used_inode (class_in kinds.now) inode }
@@ -69,7 +72,7 @@ struct FewCounts {
     free: u8,
 }
 
-/// The directories and the free ones of a few inodes from one on.
+/// How many of the inodes from `first` on and below `end` are directories, and how many are free.
 fn few_counts(kinds: &[u8], first: usize, end: usize) -> FewCounts
     requires { AreFew kinds.now first end }
     ensures { AreCounted (class_in kinds.now) first end result.dirs result.free }
@@ -82,7 +85,7 @@ fn few_counts(kinds: &[u8], first: usize, end: usize) -> FewCounts
     counts
 }
 
-/// The directories and the free inodes of a group. Inodes 0 and 1 are neither.
+/// How many inodes of a group are directories, and how many are free. Inodes 0 and 1 are neither.
 pub fn inode_counts(geometry: &Geometry, kinds: &[u8], group: u32) -> InodeCounts
     requires { HasInodes geometry.now.layout kinds.now group }
     ensures { AreInodes geometry.now.layout (class_in kinds.now) group result }

@@ -13,8 +13,8 @@ use crate::system::{RawFile, System};
 use std::io;
 use std::io::ErrorKind;
 
-/// A file that was opened for reading. What holds one can take its size and read it at a place, and
-/// nothing else.
+/// A file that was opened for reading. Its size can be taken and it can be read at a place, and
+/// nothing else can be done with it.
 #[derive(Drop)]
 pub struct OpenedFile<F: RawFile> {
     file: F,
@@ -23,8 +23,8 @@ pub struct OpenedFile<F: RawFile> {
     ghost sized: { ForContents (F.contents file) (λ bytes. length bytes ≡ size) },
 }
 
-/// The place of a file's end, so that a block device has its size too. What can't seek has no
-/// bytes.
+/// The place of a file's end, in bytes, which is the size of a block device too; 0 for a file in
+/// which no place can be sought.
 fn size_of<F: RawFile>(file: &mut F) -> u64
     ensures end { IsEndOf F.was_sought file.old file.new result }
     ensures bytes { ForContents (F.contents file.new) (λ bytes. length bytes ≡ result) }

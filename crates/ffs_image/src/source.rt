@@ -7,7 +7,7 @@ ghost use Rattle.ffs_image.specs.declared.source.SourceFault.{SourceFault};
 #[derive(Clone, Copy)]
 pub struct SourceFault;
 
-/// What can be read at a place, and nothing else.
+/// The bytes of an image, as far as they can be read at a place, and nothing else.
 pub trait Source {
     /// What is known of it: its bytes, where it gives them, its size, and how many reads failed.
     ghost stock: { Self → Stock };

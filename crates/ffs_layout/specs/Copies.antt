@@ -9,7 +9,7 @@ use Rattle.ffs_volume.specs.Disk.Outcome.{copy_agrees, copy_place}
 use Rattle.ffs_volume.specs.Disk.Superblock.{layout_of}
 use Rattle.ffs_volume.specs.declared.constants.TheConstants.{SUPERBLOCK_BYTES, DEV_BSIZE}
 
--- the bytes of the superblock at a place, which lies in the image
+-- the bytes of a superblock were read at a place, which lies in the image
 pub record IsCopy (old new : Device) (at : ℕ) (copy : List ℕ) : Type 0 where
   pub same : new ≡ old
   pub inside : at + SUPERBLOCK_BYTES ≤ old.size
@@ -39,6 +39,7 @@ pub record CopyDiffers (old new : Device) (sector : Option ℕ) (order : Order) 
   pub fault : answer ≡ Disagree
   pub differs : ForContents old.contents (λ b. copy_agrees b sector order bytes ≡ false)
 
+-- comparing the last copy gives this fault: it can't be read, or it differs
 abbrev pub IsCopyFault : Device → Device → Option ℕ → Order → List ℕ → SuperFault → Type 0
 IsCopyFault old new sector order bytes answer =
     CopyUnread old new sector order bytes answer ⊎ CopyDiffers old new sector order bytes answer

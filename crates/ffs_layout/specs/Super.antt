@@ -8,7 +8,7 @@ use Rattle.ffs_layout.specs.Reads.{ReadFailed}
 use Rattle.ffs_layout.specs.declared.superblock.Super.{Super}
 use Rattle.ffs_volume.specs.Disk.Superblock.{Superblock, order_of, layout_of}
 
--- the superblock that a value in memory is of
+-- The superblock of the definitions that a superblock in memory stands for.
 abbrev pub superblock_in : Super → Superblock
 superblock_in s = record {
   layout = s.geometry.layout;
@@ -18,28 +18,31 @@ superblock_in s = record {
   mount = s.mount;
 }
 
--- The superblock of an answer, or its fault.
+-- The answer with the superblock of the definitions in place of that in memory.
 abbrev pub found_of : Result Super SuperFault → Result Superblock SuperFault
 found_of (Ok super) = Ok (superblock_in super)
 found_of (Err fault) = Err fault
 
--- The sector of the last copy, for these bytes of the superblock.
+-- A read of the last copy fails at this sector, where the superblock has these bytes.
 abbrev pub IsCopySector : List ℕ → ℕ → Type 0
 IsCopySector bytes failed_sector =
     IsSomeAnd (order_of bytes) (λ order. failed_sector ≡ copy_place (layout_of order bytes) / DEV_BSIZE)
 
--- The sector that a failed read may have: the superblock's, and with no sector asked for the last copy's.
+-- A failed read of the superblock may have this sector: the superblock's, and the last copy's where no sector was
+-- asked for.
 abbrev pub IsSuperSector : List ℕ → Option ℕ → ℕ → Type 0
 IsSuperSector image sector failed_sector =
     (failed_sector ≡ super_sector sector) ⊎ ((sector ≡ None) × IsCopySector (super_bytes image sector) failed_sector)
 
--- What may be found: the fault of a failed read, or, where the image gives its bytes, their outcome.
+-- This is found by reading the superblock: the fault of a read that failed, or, where the image gives its bytes, the
+-- outcome of these.
 abbrev pub ReadsSuper : Device → Device → Option ℕ → Result Superblock SuperFault → Type 0
 ReadsSuper old new sector found =
     (ReadFailed found old new × ((b : List ℕ) → old.contents ≡ Some b → IsSuperSector b sector new.failed_sector))
     ⊎ ((new ≡ old) × ((b : List ℕ) → old.contents ≡ Some b → found ≡ outcome b sector))
 
--- Why the superblock at a sector can't be read: a read failed there, or it lies past the end.
+-- The superblock can't be read, and the fault names the sector `at`: a read failed there, or the superblock is there
+-- and ends past the image's end.
 abbrev pub IsUnreadable : Device → Device → Option ℕ → ℕ → Type 0
 IsUnreadable old new sector at = Faulted old new at ⊎ ((new ≡ old) × (at ≡ super_sector sector)
     × (old.size < at * DEV_BSIZE + SUPERBLOCK_BYTES))

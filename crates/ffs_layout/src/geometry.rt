@@ -23,7 +23,7 @@ pub struct Geometry {
 }
 
 impl Geometry {
-    /// The layout as a geometry, in an image of `image_size` bytes.
+    /// The layout as a geometry, where it is accepted in an image of `image_size` bytes.
     ///
     /// # Errors
     /// The first rule of a layout that refuses it.
@@ -38,7 +38,7 @@ impl Geometry {
         }
     }
 
-    /// The order of the bytes in the volume's numbers.
+    /// The byte order of the volume's numbers.
     pub fn order(&self) -> Order
         ensures { result ≡ self.now.layout.order }
     {

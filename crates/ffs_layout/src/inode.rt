@@ -25,7 +25,7 @@ pub fn decode_inode(order: Order, bytes: &[u8]) -> Inode
     }
 }
 
-/// The numbers of an inode.
+/// The inode in the first 128 bytes, for an order that is known where this is inlined.
 #[inline(always)]
 #[tactic(auto, unfolding(ffs_volume::specs::Blocks::Inodes::inode_from_bytes))]
 fn fields_of(order: Order, bytes: &[u8]) -> Inode

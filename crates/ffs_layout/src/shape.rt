@@ -9,6 +9,7 @@ use ffs_volume::constants::{
 };
 use ffs_volume::{Layout, SuperFault};
 
+/// Whether a block may have this size, in bytes.
 #[tactic(auto, unfolding(ffs_volume::specs::Disk::Outcome::is_block_size))]
 fn can_be_block_size(n: u32) -> bool
     ensures { result ≡ is_block_size n }
@@ -16,6 +17,7 @@ fn can_be_block_size(n: u32) -> bool
     matches!(n, 4096 | 8192 | 16384 | 32768 | 65536)
 }
 
+/// Whether a fragment may have this size, in bytes.
 #[tactic(auto, unfolding(ffs_volume::specs::Disk::Outcome::is_fragment_size))]
 fn can_be_fragment_size(n: u32) -> bool
     ensures { result ≡ is_fragment_size n }
@@ -23,6 +25,7 @@ fn can_be_fragment_size(n: u32) -> bool
     matches!(n, 512 | 1024 | 2048 | 4096 | 8192 | 16384 | 32768 | 65536)
 }
 
+/// Whether a block may have this many fragments.
 #[tactic(auto, unfolding(ffs_volume::specs::Disk::Outcome::is_fragment_count))]
 fn can_be_fragment_count(n: u32) -> bool
     ensures { result ≡ is_fragment_count n }
@@ -30,6 +33,8 @@ fn can_be_fragment_count(n: u32) -> bool
     matches!(n, 1 | 2 | 4 | 8)
 }
 
+/// Whether the sizes of blocks and fragments may be, and the numbers per block and per group fit
+/// them.
 #[tactic(auto, using(crate::proofs::Shapes::block_size_above, crate::proofs::Shapes::fragment_count_above), unfolding(ffs_volume::specs::Disk::Outcome::has_valid_sizes))]
 fn has_sizes(v: &Layout) -> bool
     ensures { result ≡ has_valid_sizes v.now }
@@ -46,6 +51,8 @@ fn has_sizes(v: &Layout) -> bool
         && v.fpg % v.frag == 0
 }
 
+/// Whether the volume ends in its last group and has fewer than 2^31 fragments and inodes, and
+/// `dsize`, `maxsymlinklen`, `postblformat` and `sbsize` are in their bounds.
 #[tactic(auto, unfolding(ffs_volume::specs::Disk::Outcome::has_valid_numbers))]
 fn has_numbers(v: &Layout) -> bool
     ensures { result ≡ has_valid_numbers v.now }
@@ -63,6 +70,8 @@ fn has_numbers(v: &Layout) -> bool
         && ncg * u64::from(v.ipg) < 1 << 31
 }
 
+/// Whether the parts of a group lie in their order, each ends before the next one begins, and a
+/// group block is no longer than a block.
 #[tactic(auto, unfolding(ffs_volume::specs::Disk::Outcome::has_valid_parts))]
 fn has_parts(v: &Layout) -> bool
     requires { 0 < v.now.fsize }
@@ -80,6 +89,8 @@ fn has_parts(v: &Layout) -> bool
         && v.cgsize <= v.bsize
 }
 
+/// Whether the summary area begins with the data of group 0, has a record for each group, and ends
+/// within group 0 and the volume.
 #[tactic(auto, using(crate::proofs::Starts::data_start), unfolding(ffs_volume::specs::Disk::Outcome::has_valid_summary_area, ffs_volume::specs::Disk::Areas::cgbase))]
 fn has_summary(v: &Layout) -> bool
     requires { 0 < v.now.fsize }
@@ -91,6 +102,7 @@ fn has_summary(v: &Layout) -> bool
         && end <= u64::from(v.fpg.min(v.size))
 }
 
+/// Whether the layout meets all rules of its geometry: one that does not has the fault `Shape`.
 #[tactic(auto, using(crate::proofs::Shapes::fragments_above, crate::proofs::Shapes::bases_below), unfolding(ffs_volume::specs::Disk::Outcome::is_valid_layout))]
 fn has_shape(v: &Layout) -> bool
     ensures { result ≡ is_valid_layout v.now }
@@ -128,6 +140,7 @@ pub fn fault_of(v: &Layout, image_size: u64) -> Option<SuperFault>
     None
 }
 
+/// Whether the cylinders end in the last group, as `cpg` and `ncg` say.
 #[tactic(auto, unfolding(ffs_volume::specs::Disk::Outcome::has_valid_cylinders))]
 fn has_cylinders(v: &Layout) -> bool
     ensures { result ≡ has_valid_cylinders v.now }

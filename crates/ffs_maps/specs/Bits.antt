@@ -9,21 +9,21 @@ use Rattle.ffs_maps.specs.declared.FragmentMap.{FragmentMap}
 abbrev pub bits_of : FragmentMap → List Bool
 bits_of m = bits_of_words m.words.list m.size
 
--- a map of so many fragments has these bits
+-- the map is of n fragments, and has these bits
 pub record HasBits (m : FragmentMap) (n : ℕ) (set : List Bool) : Type 0 where
   pub size : m.size ≡ n
   pub bits : bits_of m ≡ set
 
--- so many bits from an index on are set
+-- the bits with `len` of them set, from an index on
 abbrev pub set_run : List Bool → ℕ → ℕ → List Bool
 set_run bits start zero = bits
 set_run bits start (suc len) = set_run (slice_set bits start true) (start + 1) len
 
--- so many bits from an index on are clear
+-- `len` bits from an index on are clear
 abbrev pub AreClear : List Bool → ℕ → ℕ → Type 0
 AreClear bits start len = (k : ℕ) → k < len → slice_index_or bits (start + k) false ≡ false
 
--- a run of a map of so many fragments lies in one word
+-- a run isn't empty, and lies in one word and in a map of n fragments
 pub record IsInWord (start len n : ℕ) : Type 0 where
   pub some : 0 < len
   pub one_word : start % 64 + len ≤ 64

@@ -3,14 +3,14 @@ use Rattle.std.specs.Prelude.{ℕ, ◌/◌, ◌%◌, Bool, false, List, map, nat
 use Rattle.std.specs.List.{range_with_len, slice_index_or}
 use Rattle.std.specs.Int.{bit_at}
 
--- the bit of a fragment, in words of 64 bits
+-- the bit of fragment f is set, in words of 64 bits
 abbrev pub is_bit : List ℕ → ℕ → Bool
 is_bit words f = nat_eq (bit_at (slice_index words (f / 64)) (f % 64)) 1
 
--- the first bits of some words
+-- the first `size` bits of words of 64 bits, the lowest of a word first
 unfoldable pub bits_of_words : List ℕ → ℕ → List Bool
 bits_of_words words size = map (is_bit words) (range_with_len 0 size)
 
--- how many of some bits from an index on are set
+-- how many of `len` bits from an index on are set
 abbrev pub set_among : List Bool → ℕ → ℕ → ℕ
 set_among bits start len = count_by (λ f. slice_index_or bits f false) (range_with_len start len)

@@ -1,9 +1,9 @@
 //! A bit for each fragment of a volume, in words of 64.
 //!
 //! A `FragmentMap` is its list of bits: `get`, `set` and `clear` read and write one of them,
-//! `set_run` sets a run of them, and `claim` sets a run that lies in one word where none of its
-//! bits is set yet. `count` counts the set bits of a part, and `count_ones` gives those of the
-//! whole map, which are counted as they change.
+//! `set_run` sets those of a run, and `claim` those of a run in one word, where none of them is set
+//! yet. A run is any number of consecutive fragments here. `count` counts the set bits of a part,
+//! and `count_ones` gives those of the whole map, which are counted as they change.
 //!
 //! ```text
 //! let mut claimed = FragmentMap::new(alloc, geometry.layout.size)?;
@@ -38,7 +38,7 @@ fn are_alike(words: &[u64], word: u64) -> bool
 #[derive(Drop)]
 pub struct FragmentMap {
     words: ZeroedWords,
-    /// How many fragments.
+    /// How many fragments the map has.
     pub size: u32,
     /// How many bits are set.
     ones: u32,
@@ -107,7 +107,8 @@ impl FragmentMap {
         first | self.clear_word(index + 1) << (64 - low)
     }
 
-    /// Which fragments of a word are of the map and have a clear bit.
+    /// Which fragments of the word at an index are of the map and have a clear bit, the first one
+    /// lowest.
     fn clear_word(&self, index: usize) -> u64
         ensures { (k : ℕ) → k < 64 → nat_eq (bit_at result k) 1
             ≡ is_clear (bits_of self.now) self.now.size (64 * index + k) }

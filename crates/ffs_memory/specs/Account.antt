@@ -10,7 +10,7 @@ pub record Account : Type 0 where
   pub granted : ℕ
   pub refused : ℕ
 
--- of which nothing was granted or refused yet
+-- the account of a memory of which nothing was granted or refused yet
 abbrev pub unused : Account
 unused = record { granted = 0; refused = 0 }
 
@@ -40,12 +40,12 @@ pub record IsFilled {A : Type 0} (n : ℕ) (x : A) (list : FixedList A) : Type 0
   pub len : vec_len list ≡ n
   pub room : vec_capacity list ≡ n
 
--- such a list was granted as these bytes
+-- a list of n elements x was granted, which took these bytes
 pub record Given {A : Type 0} (old new : Account) (n bytes : ℕ) (x : A) (list : FixedList A) : Type 0 where
   pub filled : IsFilled n x list
   pub granted : Granted old new bytes
 
--- the outcome of one request for a list
+-- one request for a list of n elements x was answered: it was granted, or the request was refused
 abbrev pub Gives : {A E : Type 0} → Account → Account → ℕ → ℕ → A → Result (FixedList A) E → Type 0
 Gives old new n bytes x result = MatchResult result (Given old new n bytes x) (λ _. RequestRefused old new)
 
@@ -55,7 +55,7 @@ pub record GivenWords (old new : Account) (n : ℕ) (words : Words) : Type 0 whe
   pub room : words.room ≡ n
   pub granted : Granted old new (8 * n)
 
--- the outcome of one request for such words
+-- one request for such words was answered: they were granted, or the request was refused
 abbrev pub GivesWords : {E : Type 0} → Account → Account → ℕ → Result Words E → Type 0
 GivesWords old new n result = MatchResult result (GivenWords old new n) (λ _. RequestRefused old new)
 
@@ -66,10 +66,10 @@ pub record MadeRoom {A : Type 0} (old new : Account) (n size : ℕ) (list : Vec 
   pub room : vec_capacity list ≡ n
   pub granted : Granted old new (size * n)
 
--- the outcome of one request for room
+-- one request for room was answered: the list was made, or the request was refused
 abbrev pub MakesRoom : {A E : Type 0} → Account → Account → ℕ → ℕ → Result (Vec A Global) E → Type 0
 MakesRoom old new n size result = MatchResult result (MadeRoom old new n size) (λ _. RequestRefused old new)
 
--- the outcome of asking for these bytes, in one request or in several
+-- these bytes were asked for, in one request or in several: all were granted, or a request was refused
 abbrev pub Asks : {T E : Type 0} → Account → Account → ℕ → Result T E → Type 0
 Asks old new bytes result = MatchResult result (λ _. Granted old new bytes) (λ _. GaveUp old new bytes)

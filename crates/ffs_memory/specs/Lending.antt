@@ -7,10 +7,10 @@ use Rattle.std.specs.declared.alloc.Global.{Global}
 use Rattle.ffs_memory.specs.contracts.fixed_list.FixedList.{the_row}
 
 module _ (T : RattleType) (list : MutBor (Vec T.Denot Global)) where
-  -- it ends with the last elements that r shows
+  -- the list ends with the elements that were set last through the loan r
   abbrev pub LendsItems : MutBor (List T.Denot) → Fml
   LendsItems r = Lends (the_row T) (Array T 0) list r (with_items list.now)
 
-  -- it ends with its element i as the last value that r refers to
+  -- the list ends with its element i as it was set last through the loan r
   abbrev pub LendsItem : ℕ → MutBor T.Denot → Fml
   LendsItem i r = Lends (the_row T) T list r (with_item list.now i)

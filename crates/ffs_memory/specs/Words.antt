@@ -7,7 +7,7 @@ use Rattle.std.specs.Vec.{vec_ptr}
 use Rattle.std.specs.declared.vec.Vec.{Vec}
 use Rattle.std.specs.declared.alloc.Global.{Global}
 
--- the words, where their memory is, and for how many it is
+-- a list of words, the address of its memory, and for how many words that has room
 pub record Words : Type 0 where
   pub list : List ℕ
   pub place : Ptr

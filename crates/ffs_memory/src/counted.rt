@@ -6,8 +6,8 @@ ghost use Rattle.ffs_memory.specs.System.{allocator_account};
 
 use std::alloc::{AllocError, Global};
 
-/// An allocator that counts the bytes that it gave and the requests that it refused. Who has one
-/// can only ask it for room for a list: it gives out no allocator.
+/// An allocator that counts the bytes that it gave and the requests that it refused. It can only be
+/// asked for room for a list: it gives out no allocator, so that no request goes uncounted.
 #[derive(Drop)]
 pub(crate) struct CountedAllocator {
     alloc: Global,
@@ -16,7 +16,7 @@ pub(crate) struct CountedAllocator {
 }
 
 impl CountedAllocator {
-    /// This allocator, of which nothing was asked yet.
+    /// Counts the requests to this allocator from now on.
     #[tactic(auto, unfolding(crate::specs::System::allocator_account))]
     pub(crate) fn new(alloc: Global) -> CountedAllocator
         ensures { allocator_account result ≡ unused }
@@ -44,7 +44,7 @@ impl CountedAllocator {
         self.refused
     }
 
-    /// An empty list with room for just `count` elements like this one: one request.
+    /// An empty list with room for just `count` elements of the type of `element`, in one request.
     ///
     /// # Errors
     /// The memory was refused.

@@ -13,7 +13,7 @@ use std::ops::Index;
 pub struct FilledList<T> {
     /// The elements that are touched, from index 0 on. Its capacity is the length of the list.
     touched: Vec<T>,
-    /// What each later element is.
+    /// The value of each later element.
     rest: T,
 }
 
@@ -29,7 +29,7 @@ impl<T> Model for FilledList<T> {
 }
 
 impl<T: Copy> FilledList<T> {
-    /// As many elements, each the same, as an empty list has room for.
+    /// A list of as many elements as the empty `room` has room for, each of them `value`.
     pub(crate) fn over(room: Vec<T>, value: T) -> FilledList<T>
         requires { vec_len room ≡ 0 }
         ensures { IsFilled (vec_capacity room) value result }

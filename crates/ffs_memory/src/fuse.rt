@@ -13,7 +13,8 @@ use std::alloc::AllocError;
 #[derive(Drop)]
 pub struct FuseMemory<M> {
     inner: M,
-    /// How many requests are left, the one that is refused among them.
+    /// How many requests are left up to the one that is refused, with that one; 0 where none will
+    /// be refused.
     left: u64,
     /// How many requests the fuse itself has refused.
     own: u64,
@@ -34,7 +35,7 @@ impl<M: Memory> FuseMemory<M> {
         }
     }
 
-    /// Counts a request: whether it is the one to be refused, which is counted too.
+    /// Counts a request, and says whether it is the one to be refused, which `own` counts too.
     fn blows(&mut self) -> bool
         ensures value { result ≡ is_blown self.old.left }
         ensures counted { self.new ≡ record self.old {

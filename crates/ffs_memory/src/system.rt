@@ -29,7 +29,7 @@ impl SystemMemory {
         }
     }
 
-    /// So many elements, each the same, which are written.
+    /// A list of `n` elements that are all written now, each as `value`.
     fn written<T: Copy>(&mut self, n: usize, value: T) -> Result<FixedList<T>, AllocError>
         ensures { Gives (account_of self.old) (account_of self.new) n (type_size T.row * n) value
             result }
@@ -38,7 +38,7 @@ impl SystemMemory {
         Ok(FixedList::new(filled(empty, n, value)))
     }
 
-    /// So many elements, each the same, of which none is written yet.
+    /// A list of `n` elements, each of them `value`, of which none is written yet.
     fn unwritten<T: Copy>(&mut self, n: usize, value: T) -> Result<FilledList<T>, AllocError>
         ensures { Gives (account_of self.old) (account_of self.new) n (type_size T.row * n) value
             result }

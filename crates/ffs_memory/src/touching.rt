@@ -2,8 +2,8 @@
 ghost use Rattle.std.specs.Prelude.{◌≡◌, ◌≤◌, ◌<◌, [], replicate, vec_capacity, vec_len};
 ghost use Rattle.ffs_memory.specs.Words.{Touches};
 
-/// Touches the elements up to an index: each that wasn't touched is `rest`, in the memory that was
-/// taken.
+/// Touches the elements up to an index: each that wasn't touched yet is written as `rest`, in the
+/// memory that was taken.
 #[inline(always)]
 pub(crate) fn touch<T: Copy>(touched: &mut Vec<T>, index: usize, rest: T)
     requires { index < vec_capacity touched.old }
@@ -18,9 +18,9 @@ pub(crate) fn touch<T: Copy>(touched: &mut Vec<T>, index: usize, rest: T)
     }
 }
 
-/// Touches as many elements as it takes. It isn't inlined, since an element that is asked for is
-/// mostly touched already, or is the next one. The length is kept beside the list, so that no
-/// iteration waits for it to be read again.
+/// Does what `touch` does, for any number of elements. It isn't inlined, since an element that is
+/// asked for is mostly touched already, or is the next one. The length is kept beside the list, so
+/// that no iteration waits for it to be read again.
 #[inline(never)]
 fn touch_more<T: Copy>(touched: &mut Vec<T>, index: usize, rest: T)
     requires { index < vec_capacity touched.old }
@@ -33,8 +33,8 @@ fn touch_more<T: Copy>(touched: &mut Vec<T>, index: usize, rest: T)
     }
 }
 
-/// A list that is empty, with so many elements, each the same, in the memory that was taken. The
-/// list is its own here and not lent, so that all elements are written at once.
+/// An empty list with `count` elements put into it, each of them `value`, in the memory that was
+/// taken. The list is given and not lent, so that all elements are written in one go.
 #[inline(always)]
 pub(crate) fn filled<T: Copy>(room: Vec<T>, count: usize, value: T) -> Vec<T>
     requires empty { room.items ≡ [] }

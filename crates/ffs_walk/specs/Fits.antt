@@ -7,7 +7,8 @@ use Rattle.ffs_walk.specs.declared.frame.Frame.{Frame}
 use Rattle.ffs_walk.specs.declared.frame.Item.{Item}
 use Rattle.ffs_walk.specs.declared.frame.Item.TheVariants.{UnusedWord, Word}
 
--- the frame is in a block in range, counts only words that are used, and has no direct block under it
+-- where the frame has a word left, its block is in range and no direct block is under it; it counts only words that a
+-- file of so many blocks uses
 pub record FrameFits (v : Layout) (blocks span : ℕ) (f : Frame) : Type 0 where
   pub words : f.used ≤ indirect_addresses_needed v.nindir blocks f.first span
   pub in_range_there : f.next < f.used → IsTrue (is_run_in_range v f.address v.frag)
@@ -17,7 +18,7 @@ pub record FrameFits (v : Layout) (blocks span : ℕ) (f : Frame) : Type 0 where
 abbrev pub IsSpent : Frame → Type 0
 IsSpent f = (f.next ≡ f.used) × (f.unread ≡ false)
 
--- a logical block of an inode with so many, which isn't direct
+-- the logical block is one of an inode with `blocks` of them, and isn't direct
 abbrev pub IsIndirect : ℕ → ℕ → Type 0
 IsIndirect blocks block = (12 ≤ block) × (block < blocks)
 

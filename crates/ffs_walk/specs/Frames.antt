@@ -29,7 +29,7 @@ abbrev pub item_left : ℕ → Item → ℕ
 item_left most UnusedWord = 1
 item_left most (Word address block) = most
 
--- the item is the frame's next word, or a word that isn't used is in it
+-- the item is the frame's next word, or says that a word is set that isn't used
 abbrev pub IsFrom : Frame → ℕ → Item → Type 0
 IsFrom f span UnusedWord = f.unread ≡ true
 IsFrom f span (Word address block) = (f.next < f.used) × (block ≡ f.first + f.next * span)

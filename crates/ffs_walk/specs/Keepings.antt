@@ -8,7 +8,7 @@ use Rattle.ffs_volume.specs.Encodings.Replay.{Replay, is_replayed, taken_of}
 use Rattle.ffs_volume.specs.Encodings.ReplayCounts.{replay_step_by_cut}
 use Rattle.ffs_walk.specs.declared.keeping.Keeping.{Keeping}
 
--- its bad Runs and kept offers so far
+-- the bad Runs and the kept offers of an inode so far
 abbrev pub replay_in : Keeping → Replay
 replay_in k = record { bad = k.bad; kept = k.kept }
 

@@ -16,10 +16,11 @@ use Rattle.ffs_walk.specs.Fits.{FrameFits, IsSpent}
 use Rattle.ffs_walk.specs.Lengths.{IsStepOf}
 use Rattle.ffs_walk.specs.Counts.{EntersOnly, IsEntered, entered}
 
+-- the blocks of the file that a walk is over, as the definition of steps takes them
 abbrev pub file_blocks_of : Walk → FileBlocks
 file_blocks_of w = record { layout = w.geometry.layout; blocks = w.logical_blocks; last_length = w.last }
 
--- the steps that the frames of a walk have left
+-- the steps that a walk has left in its single, double and triple indirect block, and from the inode's own addresses
 abbrev pub single_rest : List ℕ → Walk → List Step
 single_rest bytes w = frame_rest w.geometry.layout bytes (steps_at (file_blocks_of w) bytes 0) 1 w.single
 

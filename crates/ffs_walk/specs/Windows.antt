@@ -48,7 +48,7 @@ pub record KeepsBlocks (v : Layout) (contents : Option (List ℕ)) (before after
   pub size : vec_len after.buffer ≡ vec_len before.buffer
   pub holds : BlocksHold v contents after
 
--- what a call leaves that may read an indirect block: the image as after a read, and blocks that hold what it gives
+-- a call that may read an indirect block leaves the image as a read does, and blocks that hold what the image gives
 pub record BlocksAfter {T : Type 0} (v : Layout) (d d' : Device) (before after : Blocks)
     (result : Result T ImageFault) : Type 0 where
   pub kept : KeepsBlocks v d'.contents before after
@@ -59,7 +59,7 @@ pub record HoldsBlockAt (v : Layout) (contents : Option (List ℕ)) (level at : 
   pub address : held_address level blocks ≡ Some at
   pub bytes : ForContents contents (λ b. level_bytes v level blocks ≡ block_bytes v b at)
 
--- a window with the room that it had holds so many bytes of a place, or after a failed read none
+-- a window with the room that it had holds `size` bytes of a place, or after a failed read none
 pub record FillsWindow {T : Type 0} (d d' : Device) (at size : ℕ) (before after : Window)
     (result : Result T ImageFault) : Type 0 where
   pub bytes : OnOk result (ForContents d.contents (λ b. held_bytes after ≡ piece at size b))
@@ -80,7 +80,8 @@ pub record AreEmptyBlocks (list : FixedList ℕ) (blocks : Blocks) : Type 0 wher
   pub buffer : blocks.buffer ≡ list
   pub holds : (v : Layout) (contents : Option (List ℕ)) → BlocksHold v contents blocks
 
--- the words of a block from an index on are zero below another, at which one that isn't zero stands or the words end
+-- from index `next` on the words of a block are zero up to `end`, where a word stands that isn't zero, or the used ones
+-- end
 pub record EndsZeros (v : Layout) (block : List ℕ) (next used end : ℕ) : Type 0 where
   pub within : (next ≤ end) × (end ≤ used)
   pub zeros : (k : ℕ) → next ≤ k → k < end → address_in v block k ≡ 0

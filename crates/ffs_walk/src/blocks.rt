@@ -10,10 +10,11 @@ use ffs_memory::FixedList;
 /// The indirect blocks that a walk is in, one of each level, in one buffer. They are of one image.
 #[derive(Drop)]
 pub struct Blocks {
-    /// Three blocks of bytes, one for each level. That of level 0 has addresses of data blocks,
-    /// that of level 1 addresses of blocks of level 0, and that of level 2 addresses of level 1.
+    /// The bytes of three blocks, one for each level: that of level 0 has addresses of data blocks,
+    /// that of level 1 addresses of blocks of level 0, and that of level 2 addresses of blocks of
+    /// level 1.
     pub buffer: FixedList<u8>,
-    /// The addresses of the blocks that are held, in fragments, by their levels.
+    /// At the index of a level, the address (the first fragment) of the block that is held for it.
     pub held: [Option<u32>; 3],
 }
 
@@ -30,8 +31,8 @@ impl Blocks {
         }
     }
 
-    /// Reads the block at an address, a fragment, for a level of indirection, unless it is held
-    /// there.
+    /// Reads the block at an address, a fragment, for a level of indirection, unless it is held for
+    /// that level already.
     ///
     /// # Errors
     /// A read of the image that failed. The level holds nothing then.
@@ -69,7 +70,7 @@ impl Blocks {
         Ok(())
     }
 
-    /// The bytes for a level of indirection.
+    /// The bytes of the buffer that are for a level of indirection.
     pub fn bytes(&self, geometry: &Geometry, level: usize) -> &[u8]
         requires level { level < 3 }
         requires room { HasRoom geometry.now.layout self.now }

@@ -9,7 +9,8 @@ use ffs_layout::Geometry;
 use ffs_volume::constants::{DT_BLK, DT_CHR, DT_DIR, DT_FIFO, DT_LNK, DT_REG, DT_SOCK, NDADDR};
 use ffs_volume::{Class, Inode};
 
-/// How many of the fifteen addresses are used by so many logical blocks.
+/// How many of the fifteen addresses a file of `blocks` logical blocks uses, where an indirect
+/// block has `words` addresses.
 pub fn addresses_needed(words: u64, blocks: u64) -> u32
     requires { words ≤ 16384 }
     ensures value { result ≡ inodes.addresses_needed words blocks }
@@ -42,12 +43,14 @@ pub fn last_length(geometry: &Geometry, inode: &Inode) -> u32
     }
 }
 
+/// Whether this is the type of a character or a block device.
 fn is_device(kind: u16) -> bool
     ensures { result ≡ inodes.is_device kind }
 {
     kind == u16::from(DT_CHR) || kind == u16::from(DT_BLK)
 }
 
+/// Whether an inode is of a symbolic link whose text is in the inode.
 fn is_short_symlink(geometry: &Geometry, inode: &Inode) -> bool
     ensures { result ≡ inodes.is_short_symlink geometry.now.layout inode.now }
 {
@@ -87,7 +90,7 @@ pub fn has_steps(geometry: &Geometry, inode: &Inode, class: Class) -> bool
     is_walked(geometry, inode, class) && inode.size != 0
 }
 
-/// The greatest size that the addresses can serve.
+/// The greatest size of a file, in bytes, whose blocks the fifteen addresses reach.
 #[tactic(auto, using(crate::proofs::Sizes::products_small))]
 fn greatest_size(geometry: &Geometry) -> u64
     ensures { result ≡ (12 + geometry.now.layout.nindir + geometry.now.layout.nindir *
@@ -100,7 +103,7 @@ fn greatest_size(geometry: &Geometry) -> u64
     (NDADDR + words + squared + cubed) * u64::from(geometry.layout.bsize)
 }
 
-/// How many logical blocks an inode of its size has.
+/// How many logical blocks hold the bytes of an inode, by its size alone.
 #[tactic(auto, using(crate::proofs::Sizes::blocks_small, crate::proofs::Powers::bsize_power))]
 fn logical_blocks_of(geometry: &Geometry, inode: &Inode) -> u64
     ensures value { result ≡ inodes.logical_blocks_of geometry.now.layout inode.now }
@@ -123,7 +126,7 @@ pub fn walked_blocks(geometry: &Geometry, inode: &Inode, class: Class) -> u64
     }
 }
 
-/// How many of its fifteen addresses an inode may use.
+/// How many of its fifteen addresses an inode may have set: after them all must be zero.
 fn addresses_allowed(geometry: &Geometry, inode: &Inode) -> usize
     ensures value { result ≡ inodes.addresses_allowed geometry.now.layout inode.now }
     ensures bound { result ≤ 15 }
@@ -140,6 +143,7 @@ fn addresses_allowed(geometry: &Geometry, inode: &Inode) -> usize
     addresses_needed(u64::from(geometry.layout.nindir), counted) as usize
 }
 
+/// Whether this is one of the seven types of fs(5).
 fn is_known_type(kind: u16) -> bool
     ensures { result ≡ inodes.is_known_type kind }
 {

@@ -7,7 +7,7 @@ use crate::words::{any_from, word, zeros_end};
 use ffs_image::{Image, ImageFault};
 use ffs_layout::Geometry;
 
-/// The position of a walk in an indirect block.
+/// An indirect block that a walk is in, and the position of the walk there.
 #[derive(Clone, Copy, Debug)]
 pub struct Frame {
     /// The block's address, a fragment.
@@ -18,8 +18,8 @@ pub struct Frame {
     pub next: u32,
     /// How many of its words are used.
     pub used: u32,
-    /// Whether the block is still to be read. Its unused words are looked at then: one of them may
-    /// be set.
+    /// Whether the block is still to be read. When it is read, its unused words are looked at, as
+    /// one of them may be set.
     pub unread: bool,
     ghost in_order: { next ≤ used },
     ghost some: { IsTrue (not unread || nat_lt next used) },
@@ -43,7 +43,7 @@ impl Frame {
     ghost use Rattle.ffs_walk.specs.Windows.{held_address};
     ghost use Rattle.ffs_walk.specs.Counts.{IsHeldIn, unread_in};
 
-    /// A frame of no words.
+    /// A frame of no words, in no block.
     pub fn spent() -> Frame
         ensures used { result.used ≡ 0 }
         ensures spent { IsSpent result }

@@ -7,7 +7,7 @@ ghost use Rattle.ffs_volume.specs.Encodings.Replay.{is_replay_open as is_seen_in
 
 use ffs_volume::constants::MAXBAD;
 
-/// What is known of an inode that is walked over again.
+/// Which offers of an inode are kept, where the inode is walked over again.
 #[derive(Clone, Copy, Debug)]
 pub struct Keeping {
     /// How many offers it keeps where its eleventh dup offer cut it, else 0.
@@ -23,7 +23,7 @@ pub struct Keeping {
 impl Keeping {
     ghost use Rattle.ffs_walk.specs.Keepings.{replay_in, Replays};
 
-    /// An inode begins.
+    /// The replay of an inode with this cut, before its first step.
     pub fn start(cut: u32) -> Keeping
         ensures cut { result.cut ≡ cut }
         ensures fresh { replay_in result ≡ fresh_replay }
@@ -35,7 +35,7 @@ impl Keeping {
         }
     }
 
-    /// Whether the next step is seen.
+    /// Whether the inode isn't cut yet, so that its next step is seen.
     pub fn is_replay_open(&self) -> bool
         ensures { result ≡ is_seen_in self.now.cut (replay_in self.now) }
     {

@@ -4,7 +4,7 @@
 ghost use Rattle.std.specs.Prelude.{◌≡◌, ◌%◌};
 ghost use Rattle.std.specs.Int.{IsPowerOfTwo, div_ceil};
 
-/// How many bytes come after the whole pieces.
+/// How many of `size` bytes come after the last whole piece of `piece` bytes.
 #[tactic(auto, using(crate::proofs::Powers::masked))]
 pub fn after_pieces(size: u64, piece: u32) -> u64
     requires { IsPowerOfTwo piece }
@@ -13,7 +13,7 @@ pub fn after_pieces(size: u64, piece: u32) -> u64
     size & u64::from(piece - 1)
 }
 
-/// How many pieces hold so many bytes, the last one perhaps in part.
+/// How many pieces of `piece` bytes hold `size` bytes, the last one perhaps in part.
 #[tactic(auto, using(crate::proofs::Powers::shifted))]
 pub fn pieces_of(size: u64, piece: u32) -> u64
     requires { IsPowerOfTwo piece }

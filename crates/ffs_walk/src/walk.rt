@@ -17,7 +17,7 @@ use ffs_volume::{Class, Inode, Step};
 /// indirect block of each level.
 #[derive(Clone, Copy, Debug)]
 pub struct Walk {
-    /// The volume.
+    /// The geometry of the volume.
     pub geometry: Geometry,
     /// How many logical blocks the walk goes over: at most 2^52, since a size is below 2^64, and a
     /// block has 4,096 bytes or more.
@@ -26,7 +26,7 @@ pub struct Walk {
     pub last: u32,
     /// The index of the next of the inode's own addresses.
     pub next: u32,
-    /// How many of its own addresses are used.
+    /// How many of the inode's own addresses are used.
     pub used: u32,
     /// The inode's addresses: twelve direct ones, and a single, a double and a triple indirect one
     /// (fs(5)).
@@ -228,7 +228,7 @@ impl Walk {
         }
     }
 
-    /// As `next`, but a failed read doesn't end the walk.
+    /// Takes the next step as `next` does, but doesn't end the walk where a read fails.
     #[inline(always)]
     fn advance<I: Image>(
         &mut self,
