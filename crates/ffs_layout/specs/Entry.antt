@@ -6,7 +6,7 @@ use Rattle.ffs_volume.specs.Directories.Entries.{Entry as EntryIn, entry_at}
 use Rattle.ffs_volume.specs.declared.Order.{Order}
 use Rattle.ffs_layout.specs.declared.entry.Entry.{Entry}
 
--- the entry of the definitions that an entry in memory stands for
+-- an entry in memory as an entry of the definitions
 abbrev pub entry_value : Entry → EntryIn
 entry_value e = record { number = e.number; length = e.length; kind = e.kind; name = e.name.now }
 

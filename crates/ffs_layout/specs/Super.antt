@@ -8,7 +8,7 @@ use Rattle.ffs_layout.specs.Reads.{ReadFailed}
 use Rattle.ffs_layout.specs.declared.superblock.Super.{Super}
 use Rattle.ffs_volume.specs.Disk.Superblock.{Superblock, order_of, layout_of}
 
--- The superblock of the definitions that a superblock in memory stands for.
+-- A superblock in memory as a superblock of the definitions.
 abbrev pub superblock_in : Super → Superblock
 superblock_in s = record {
   layout = s.geometry.layout;
@@ -18,7 +18,7 @@ superblock_in s = record {
   mount = s.mount;
 }
 
--- The answer with the superblock of the definitions in place of that in memory.
+-- An answer with a superblock in memory as one with a superblock of the definitions.
 abbrev pub found_of : Result Super SuperFault → Result Superblock SuperFault
 found_of (Ok super) = Ok (superblock_in super)
 found_of (Err fault) = Err fault

@@ -3,10 +3,10 @@
 -- Class and LAYOUT_PLACES, is declared in src/lib.rt, numbers of the format in src/constants.rt, and texts in
 -- src/texts.rt. The lines `use` at the top of a file say where its names come from: begin to read after them.
 --
--- Words. `v` is a layout, `vol` a volume as the checks of directories see it, and `g` its graph. The letter `s` stands
--- for another thing in each folder: in Blocks for the state of the block check (`Claims`), in Directories for the
--- number of a directory that may have an edge to another, or for an entry with its role, in Groups for the counts of a
--- group, and in Report and Consistent for a superblock. The root is inode 2. A place is an offset in bytes, an index
+-- Words. `v` is a layout, `vol` a volume as the checks of directories see it, and `g` its graph. The letter `s` means
+-- another thing in each folder: in Blocks the state of the block check (`Claims`), in Directories the number of a
+-- directory that may have an edge to another, or an entry with its role, in Groups the counts of a group, and in Report
+-- and Consistent a superblock. The root is inode 2. A place is an offset in bytes, an index
 -- counts from 0, and an address is the number of a fragment. A line is a message of the report (folder Messages): a
 -- definition with `lines` in its name gives a list of messages.
 --
