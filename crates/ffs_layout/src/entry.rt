@@ -10,8 +10,8 @@ pub struct Entry<'a> {
     pub number: u32,
     /// The length of its record, in bytes.
     pub length: u16,
-    /// The type that the entry gives the inode: `DT_DIR` and so on of dir(5), as the upper four bits
-    /// of a mode have it.
+    /// The type that the entry gives the inode, as the upper four bits of a mode have it: `DT_DIR`
+    /// and so on of dir(5).
     pub kind: u8,
     /// The name, without the NUL after it.
     pub name: &'a [u8],

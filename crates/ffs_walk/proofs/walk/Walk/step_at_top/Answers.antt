@@ -184,22 +184,23 @@ returns-in_default-clause-over c = not_over c.args.self.now.next c.args.self.now
 pub enter-step-requires-clause-first : goal.enter-step-requires-clause-first
 enter-step-requires-clause-first c =
     let w = c.args.self.now in
-    let below = single_below w.geometry.layout.nindir w.logical_blocks w.next w.used (omega (arith, c.args.self.now.in_order)) w.used_fits c.in-12.is in
+    let below = single_below w.geometry.layout.nindir w.logical_blocks w.next w.used
+    (omega (arith, c.args.self.now.in_order)) w.used_fits c.in-12.is in
     (omega arith, omega (arith, below))
 
 pub enter-step-requires-in-13-clause-first : goal.enter-step-requires-in-13-clause-first
 enter-step-requires-in-13-clause-first c =
     let w = c.args.self.now in
-    let below = double_below w.geometry.layout.nindir c.from-words.result w.logical_blocks w.next w.used (omega (arith, c.args.self.now.in_order))
-    w.used_fits c.in-13.is c.from-words.ensures in
+    let below = double_below w.geometry.layout.nindir c.from-words.result w.logical_blocks w.next w.used
+    (omega (arith, c.args.self.now.in_order)) w.used_fits c.in-13.is c.from-words.ensures in
     (omega arith, omega (arith, below))
 
 pub enter-step-requires-in_default-clause-first : goal.enter-step-requires-in_default-clause-first
 enter-step-requires-in_default-clause-first c =
     let w = c.args.self.now in
     let last : w.next ≡ 14 = omega (arith, w.in_array) in
-    let below = triple_below w.geometry.layout.nindir c.from-words.result w.logical_blocks w.next w.used (omega (arith, c.args.self.now.in_order))
-    w.used_fits last c.from-words.ensures in
+    let below = triple_below w.geometry.layout.nindir c.from-words.result w.logical_blocks w.next w.used
+    (omega (arith, c.args.self.now.in_order)) w.used_fits last c.from-words.ensures in
     (omega arith, omega (arith, below))
 
 pub returns-then-self-clause-fits : goal.returns-then-self-clause-fits
