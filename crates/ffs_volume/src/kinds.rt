@@ -7,7 +7,7 @@ use crate::constants::{DT_DIR, EMPTY_DIR, UNKNOWN_TYPE};
 /// for a directory of size 0, else the type of the file or directory, as in an entry (dir(5)).
 #[derive(Clone, Copy, Debug, PartialEq, Eq)]
 pub struct Kind {
-    /// One of these numbers.
+    /// The number by which a list keeps it.
     pub code: u8,
 }
 

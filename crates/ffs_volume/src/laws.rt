@@ -7,8 +7,8 @@ ghost use Rattle.ffs_volume.specs.Examples.DirectoryExamples.{EntryExamples, Pat
 ghost use Rattle.ffs_volume.specs.Laws.Meanings.{AllPathsFit, KeptAreFirst, LevelsAreLeast, SumsAreWhole};
 ghost use Rattle.ffs_volume.specs.Examples.OpeningExamples.{AreaExamples, OpeningExamples, SuperblockExamples};
 
-/// An accepted superblock's layout has every condition of a sound one, and its fragments lie in the
-/// image.
+/// The layout of an accepted superblock meets each condition of `IsAcceptedLayout`, and its
+/// fragments lie in the image.
 pub fn accepted_are_sound()
     ensures { AcceptedFit }
 {}

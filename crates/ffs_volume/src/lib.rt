@@ -37,7 +37,7 @@ pub enum SuperFault {
     Ncg,
     /// A group has no cylinder.
     Cpg,
-    /// `ncyl` cylinders aren't `ncg` groups of `cpg`, of which the last may have fewer.
+    /// `ncg` groups of `cpg` cylinders, the last perhaps of fewer, don't make `ncyl` cylinders.
     Ncyl,
     /// The superblock says that it has more than 8,192 bytes.
     TooLarge,
@@ -68,37 +68,37 @@ pub struct Layout {
     pub cgoffset: i32,
     /// The bits of a group's number that don't move its parts.
     pub cgmask: u32,
-    /// The fragments of the volume.
+    /// How many fragments the volume has.
     pub size: u32,
-    /// The fragments for data.
+    /// How many fragments can hold data.
     pub dsize: u32,
-    /// The cylinder groups.
+    /// How many cylinder groups there are.
     pub ncg: u32,
-    /// The bytes of a block.
+    /// The size of a block, in bytes.
     pub bsize: u32,
-    /// The bytes of a fragment.
+    /// The size of a fragment, in bytes.
     pub fsize: u32,
-    /// The fragments of a block.
+    /// How many fragments a block has.
     pub frag: u32,
-    /// The bytes of a superblock.
+    /// The size of a superblock, in bytes.
     pub sbsize: u32,
-    /// The addresses in an indirect block.
+    /// How many addresses an indirect block holds.
     pub nindir: u32,
-    /// The inodes in a block of the inode table.
+    /// How many inodes a block of the inode table holds.
     pub inopb: u32,
     /// The first fragment of the summary area.
     pub csaddr: u32,
-    /// The bytes of the summary area.
+    /// The size of the summary area, in bytes.
     pub cssize: u32,
-    /// The bytes of a group block.
+    /// The size of a group block, in bytes.
     pub cgsize: u32,
-    /// The cylinders of the volume.
+    /// How many cylinders the volume has.
     pub ncyl: u32,
-    /// The cylinders of a group.
+    /// How many cylinders a group has.
     pub cpg: u32,
-    /// The inodes of a group.
+    /// How many inodes a group has.
     pub ipg: u32,
-    /// The fragments of a group.
+    /// How many fragments a group has.
     pub fpg: u32,
     /// A symbolic link with fewer bytes than this has its text in its inode.
     pub maxsymlinklen: u32,
@@ -140,26 +140,27 @@ pub enum Class {
     Partial,
     /// Its type isn't valid, or it is too large, or an address is set that its size doesn't use.
     Unknown,
-    /// Any other that is no directory.
+    /// Its type is one of the six others than a directory's.
     File,
-    /// A directory.
+    /// Its type is that of a directory.
     Dir,
 }
 
 /// The numbers of an inode.
 #[derive(Clone, Copy, Debug)]
 pub struct Inode {
-    /// The type in the upper four bits, and the permissions.
+    /// The type in the upper four bits, and the permissions in the others.
     pub mode: u16,
     /// The count of links.
     pub nlink: i16,
-    /// In bytes.
+    /// The size in bytes.
     pub size: u64,
     /// When it was modified last, in seconds since 1970.
     pub mtime: i32,
-    /// Fragments: twelve direct ones, then the single, double and triple indirect one; 0 is a hole.
+    /// The numbers of fragments: twelve direct ones, then the single, double and triple indirect
+    /// one; 0 is a hole.
     pub addresses: [u32; 15],
-    /// What its blocks take, by its own count, in sectors of 512 bytes.
+    /// How many sectors of 512 bytes its blocks take, by its own count.
     pub blocks: u32,
     /// The user ID of its owner.
     pub uid: u32,
@@ -239,11 +240,11 @@ pub struct Attr {
     pub number: u32,
     /// The user ID of the owner.
     pub uid: u32,
-    /// The type in the upper four bits, and the permissions.
+    /// The type in the upper four bits, and the permissions in the others.
     pub mode: u16,
-    /// In bytes.
+    /// The size in bytes.
     pub size: u64,
-    /// In seconds since 1970.
+    /// When it was modified last, in seconds since 1970.
     pub mtime: i32,
 }
 

@@ -29,7 +29,7 @@ pub record Claims : Type 0 where
 unfoldable pub reserved_map : Layout → List Bool
 reserved_map v = map (is_reserved v) (range_with_len 0 v.size)
 
--- nothing is claimed yet
+-- the state before the first inode: only reserved fragments are used
 unfoldable pub no_claims : Layout → Claims
 no_claims v = record {
   used = reserved_map v;
@@ -41,7 +41,7 @@ no_claims v = record {
   tail = false;
 }
 
--- the next inode begins
+-- the state where the next inode begins: the counts of the current inode are 0 again
 abbrev pub at_next_inode : Claims → Claims
 at_next_inode s = record s { bad = 0; dups = 0; kept = 0; tail = false }
 

@@ -18,7 +18,7 @@ pub record Entry : Type 0 where
   pub kind : ℕ
   pub name : List ℕ
 
--- an entry whose inode number isn't 0
+-- the entry is live: its inode number isn't 0
 abbrev pub is_live : Entry → Bool
 is_live e = not (e.number == 0)
 

@@ -75,11 +75,11 @@ parent_entry_index g d = if d == ROOTINO then None else index_in_parent g d (par
 abbrev pub is_named : Graph → ℕ → Bool
 is_named g x = some_below (λ s. is_naming_dir g s x) g.count
 
--- x is suspect, isn't the root, and no plain entry names it
+-- x is dead: it is suspect, isn't the root, and no plain entry names it
 abbrev pub is_dead_in : Graph → (ℕ → Bool) → ℕ → Bool
 is_dead_in g suspect x = suspect x && (not (x == ROOTINO) && not (is_named g x))
 
--- a directory other than 2 that is neither reached nor dead
+-- d is lost: a directory other than 2 that is neither reached nor dead
 abbrev pub is_lost : Graph → (ℕ → Bool) → ℕ → Bool
 is_lost g suspect d = g.is_dir d && (not (d == ROOTINO) && (not (reached g d) && not (is_dead_in g suspect d)))
 

@@ -19,19 +19,19 @@ pub record Volume : Type 0 where
   pub chunks : ℕ → List Chunk
   pub marked : ℕ → Bool
 
--- the number of an inode: the numbers 0 and 1 have none
+-- x is the number of an inode; 0 and 1 aren't
 abbrev pub is_inode : Volume → ℕ → Bool
 is_inode vol x = nat_le 2 x && nat_lt x vol.count
 
--- the number of a directory
+-- x is the number of a directory
 abbrev pub is_dir : Volume → ℕ → Bool
 is_dir vol x = is_inode vol x && is_directory (vol.class x)
 
--- the number of an inode that is allocated
+-- x is the number of an inode that is allocated
 abbrev pub is_allocated_inode : Volume → ℕ → Bool
 is_allocated_inode vol x = is_inode vol x && is_allocated (vol.class x)
 
--- marked, or a directory of size 0
+-- x is suspect: it is marked, or a directory of size 0
 abbrev pub is_suspect : Volume → ℕ → Bool
 is_suspect vol x = vol.marked x || (is_dir vol x && ((vol.inode x).size == 0))
 
@@ -117,7 +117,7 @@ dotdot vol d = entry_if (λ e. is_live e && is_two_dots e.name) (start_entry vol
 abbrev pub refers : ℕ → RoledEntry → Bool
 refers x s = is_counted s.role && (s.entry.number == x)
 
--- how many such entries there are in the directories whose numbers are below s
+-- how many entries refer to x in the directories whose numbers are below s
 unfoldable pub references_below : (vol : Volume) (x s : ℕ) → ℕ
 references_below vol x zero = 0
 references_below vol x (suc s) =

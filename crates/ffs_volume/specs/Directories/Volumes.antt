@@ -12,7 +12,7 @@ use Rattle.ffs_volume.specs.Blocks.KeptSteps.{kept_steps_of}
 use Rattle.ffs_volume.specs.Directories.Entries.{ChunkSource, chunks_of, has_gap, bytes_read}
 use Rattle.ffs_volume.specs.Directories.Roles.{Volume}
 
--- the number of an inode: one from 2 on that some group has
+-- x is the number of an inode: it is at least 2, and some group has it
 abbrev pub is_inode_number : Layout → ℕ → Bool
 is_inode_number v x = nat_le 2 x && nat_lt x (v.ncg * v.ipg)
 
@@ -20,7 +20,7 @@ is_inode_number v x = nat_le 2 x && nat_lt x (v.ncg * v.ipg)
 abbrev pub class_at : (v : Layout) (image : List ℕ) (x : ℕ) → Class
 class_at v image x = if is_inode_number v x then class_of v (inode_of v image x) else Free
 
--- the number is that of a marked inode
+-- x is the number of a marked inode
 abbrev pub marked_at : (v : Layout) (image : List ℕ) (x : ℕ) → Bool
 marked_at v image x = if is_inode_number v x then is_marked v image x else false
 

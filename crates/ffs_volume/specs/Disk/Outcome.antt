@@ -124,14 +124,15 @@ super_verdict (Some fault) agrees super = Err fault
 super_verdict None true super = Ok super
 super_verdict None false super = Err Disagree
 
--- the superblock, or its first fault, where the order of bytes is known
+-- the superblock, or its first fault, where its numbers are in this order of bytes
 unfoldable pub outcome_in : (image : List ℕ) (sector : Option ℕ) (order : Order) (bytes : List ℕ) →
     Result Superblock SuperFault
 outcome_in image sector order bytes =
     super_verdict (layout_fault (layout_of order bytes) (length image)) (copy_agrees image sector order bytes)
     (superblock_of order bytes)
 
--- the same; where the magic number is right in neither order of bytes, the fault is Magic
+-- the superblock, or its first fault, by the order of bytes in which the magic number is right: Magic where it is in
+-- neither
 unfoldable pub outcome_of : (image : List ℕ) (sector : Option ℕ) (bytes : List ℕ) → Option Order →
     Result Superblock SuperFault
 outcome_of image sector bytes None = Err Magic

@@ -50,7 +50,7 @@ pub record LevelMeaning (g : Graph) (k d : ℕ) : Type 0 where
   pub is_least : level g d ≡ Some k → IsLevel g k d × (k < g.count)
   pub is_found : d < g.count → IsLevel g k d → level g d ≡ Some k
 
--- the same for each graph, number and directory
+-- this holds of each graph, number and directory
 abbrev pub LevelsAreLeast : Type 0
 LevelsAreLeast = (g : Graph) (k d : ℕ) → LevelMeaning g k d
 
@@ -59,7 +59,7 @@ pub record PathsFit (g : Graph) (d : ℕ) : Type 0 where
   pub of_dir : length (dir_path g d) ≤ MAXPATHLEN
   pub of_entry : (name : List ℕ) → length name ≤ 255 → length (entry_path g d name) ≤ MAXPATHLEN
 
--- the same for each graph and each directory
+-- this holds of each graph and each directory
 abbrev pub AllPathsFit : Type 0
 AllPathsFit = (g : Graph) (d : ℕ) → PathsFit g d
 

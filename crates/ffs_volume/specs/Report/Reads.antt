@@ -5,38 +5,38 @@ use Rattle.ffs_volume.specs.declared.Layout.{Layout}
 use Rattle.ffs_volume.specs.declared.constants.TheConstants.{MAXPATHLEN}
 use Rattle.ffs_volume.specs.Report.Memory.{runs_limit}
 
--- the superblock, and the last copy of it
+-- the opening reads the superblock, and the last copy of it
 abbrev pub opening_reads : ℕ
 opening_reads = 2
 
--- to go over all inodes and their blocks: each inode once, and each Run that is seen once
+-- a sweep over all inodes and their blocks reads each inode once, and each Run that is seen once
 abbrev pub sweep_reads : Layout → ℕ
 sweep_reads v = v.ncg * v.ipg + runs_limit v
 
--- a path: a chunk for each name that has room in it, for the name that has no room any more, and for the last one. Each
--- name takes two bytes at least, with its slash
+-- for a path a chunk is read for each name that has room in it, for the name that has no room any more, and for the
+-- last one. Each name takes two bytes at least, with its slash
 abbrev pub path_reads : ℕ
 path_reads = MAXPATHLEN / 2 + 2
 
--- a message of phase 2: the path of the directory that it is about, that of the directory that an entry names, and an
--- inode
+-- for a message of phase 2 are read the path of the directory that it is about, that of the directory that an entry
+-- names, and an inode
 abbrev pub line_reads : ℕ
 line_reads = 2 * path_reads + 1
 
--- phase 2: it goes over all directories for the survey, for the places of parent entries, and twice for the messages,
--- and what each message shows is read
+-- phase 2 goes over all directories for the survey, for the places of parent entries, and twice for the messages, and
+-- reads what each message shows
 abbrev pub pathname_reads : Layout → (lines : ℕ) → ℕ
 pathname_reads v lines = 4 * sweep_reads v + line_reads * lines
 
--- phase 5: the block and the summary record of each group
+-- phase 5 reads the block and the summary record of each group
 abbrev pub group_reads : Layout → ℕ
 group_reads v = 2 * v.ncg
 
--- all phases, where so many messages are printed in all: phases 1 and 1b go over all inodes, and phases 3 and 4 read
--- an inode for each message
+-- all phases read this often at most, where so many messages are printed in all: phases 1 and 1b go over all inodes, and
+-- phases 3 and 4 read an inode for each message
 abbrev pub phase_reads : Layout → (lines : ℕ) → ℕ
 phase_reads v lines = 2 * sweep_reads v + pathname_reads v lines + lines + group_reads v
 
--- the whole check
+-- the whole check reads this often at most
 abbrev pub reads_limit : Layout → (lines : ℕ) → ℕ
 reads_limit v lines = opening_reads + phase_reads v lines
