@@ -32,8 +32,8 @@ pathname_reads v lines = 4 * sweep_reads v + line_reads * lines
 abbrev pub group_reads : Layout → ℕ
 group_reads v = 2 * v.ncg
 
--- all phases read this often at most, where so many messages are printed in all: phases 1 and 1b go over all inodes, and
--- phases 3 and 4 read an inode for each message
+-- all phases read this often at most, where so many messages are printed in all: phases 1 and 1b go over all inodes,
+-- and phases 3 and 4 read an inode for each message
 abbrev pub phase_reads : Layout → (lines : ℕ) → ℕ
 phase_reads v lines = 2 * sweep_reads v + pathname_reads v lines + lines + group_reads v
 
