@@ -32,7 +32,7 @@ impl Directories for Listed {
 
     ghost entries = { λ _ _ _. [] };
 
-    ghost sound = { λ _ _ _. true };
+    ghost right_shape = { λ _ _ _. true };
 
     ghost device = { λ _. record { contents = None; size = 0; failures = 0; failed_sector = 0 } };
 
@@ -44,7 +44,7 @@ impl Directories for Listed {
 
     ghost name = { λ _. [] };
 
-    ghost sound_so_far = { λ _ _. true };
+    ghost right_shape_so_far = { λ _ _. true };
 
     ghost ended = { λ _ _. Unit {0} };
 
@@ -71,7 +71,7 @@ impl Directories for Listed {
         Ok(Some(entry))
     }
 
-    fn is_sound(&mut self) -> Result<bool, ImageFault> {
+    fn has_right_shape(&mut self) -> Result<bool, ImageFault> {
         Ok(true)
     }
 }

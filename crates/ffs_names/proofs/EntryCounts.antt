@@ -9,7 +9,7 @@ use Rattle.ffs_survey.specs.Costs.{TakesReads}
 use Rattle.ffs_names.specs.Costs.{HoldsReading, to_read}
 use Rattle.ffs_names.specs.declared.chunks.Chunks.{Chunks}
 
--- the reads, and what is held, by whether the shape is sound so far, and by the chunks
+-- the reads, and what is held, by whether the shape is right so far, and by the chunks
 abbrev pub may_by : Bool → Chunks → Bool
 may_by s c = s || nat_lt 0 c.budget
 
@@ -78,19 +78,19 @@ continues_by_chunks b s s' c c' blocks blocks' w w' reads reads' result still le
     takes_where (may_by s c) (may_by s' c') reads reads' (to_read b c) (to_read b c') (HoldsReading blocks' w' c') result
     (may_still s s' c.budget c'.budget still less) (λ e. none (may_none s c.budget e)) (λ e. took (held e))
 
-sound_may : (s : Bool) (n : ℕ) → s ≡ true → (s || nat_lt 0 n) ≡ true
-sound_may true n e = refl
-sound_may false n e = no e
+right_may : (s : Bool) (n : ℕ) → s ≡ true → (s || nat_lt 0 n) ≡ true
+right_may true n e = refl
+right_may false n e = no e
 
 not_both : {X : Type 0} (s : Bool) (n : ℕ) → s ≡ true → (s || nat_lt 0 n) ≡ false → X
 not_both true n e f = absurd (grind arith)
 not_both false n e f = no e
 
--- so does a look for holes, of a directory that is sound so far
+-- so does a look for holes, of a directory whose shape is right so far
 pub looks_on : {T : Type 0} (b : List ℕ) (s : Bool) (c c' : Chunks) (blocks blocks' : Blocks) (w w' : Window)
     (reads reads' : ℕ) (result : Result T ImageFault) → s ≡ true
     → (HoldsReading blocks w c → TakesReads reads reads' (to_read b c) (to_read b c') (HoldsReading blocks' w' c') result)
     → HoldsBy blocks w s c → TakesReads reads reads' (reads_by b s c) (reads_by b s c') (HoldsBy blocks' w' s c') result
-looks_on b s c c' blocks blocks' w w' reads reads' result sound took held =
+looks_on b s c c' blocks blocks' w w' reads reads' result right took held =
     takes_where (may_by s c) (may_by s c') reads reads' (to_read b c) (to_read b c') (HoldsReading blocks' w' c') result
-    (λ e. sound_may s c.budget sound) (λ e. not_both s c.budget sound e) (λ e. took (held e))
+    (λ e. right_may s c.budget right) (λ e. not_both s c.budget right e) (λ e. took (held e))

@@ -20,7 +20,7 @@ use Rattle.ffs_workspace.specs.Places.{ArePlaces}
 use Rattle.ffs_workspace.specs.declared.workspace.Workspace.{Workspace}
 use Rattle.ffs_survey.specs.Survey.{bool_at, dir_at, graph_with, most_start, references_to, IsSurvey}
 use Rattle.ffs_survey.specs.SurveyLaws.{survey_is, references_is}
-use Rattle.ffs_names.specs.Readers.{Base, dir_entries, dir_sound}
+use Rattle.ffs_names.specs.Readers.{Base, dir_entries, dir_right_shape}
 use Rattle.ffs_names.specs.RightShapes.{is_right_shape, is_right_directory}
 use Rattle.ffs_names.specs.Surveys.{FlagsCalm}
 use Rattle.ffs_survey.specs.Calm.{IsCalm, AreCalm}
@@ -109,7 +109,7 @@ holds_references v b old new starts counts flags marks parents e c h s = record 
 
 -- flags of a survey of a volume
 pub volume_calm : (t : Base) (b kinds : List ℕ) (marked marks : List Bool) (parents : List ℕ) (flags : List Bool) →
-    AreCalm kinds marked marks parents (dir_entries t b) (dir_sound t b) flags
+    AreCalm kinds marked marks parents (dir_entries t b) (dir_right_shape t b) flags
     → AreCalm kinds marked marks parents (roled_entries (volume_of t.layout b)) (is_right_directory (volume_of t.layout b))
     flags
 volume_calm t b kinds marked marks parents flags h d set =

@@ -34,9 +34,9 @@ pub record KnowsReader (t : Base) (b : List ℕ) : Type 0 where
 abbrev pub dir_entries : Base → List ℕ → ℕ → List RoledEntry
 dir_entries t b d = if is_dir (volume_of t.layout b) d then roled_entries (volume_of t.layout b) d else []
 
--- a number is that of a directory of a right shape
-abbrev pub dir_sound : Base → List ℕ → ℕ → Bool
-dir_sound t b = is_right_directory (volume_of t.layout b)
+-- a number is that of a directory of right shape
+abbrev pub dir_right_shape : Base → List ℕ → ℕ → Bool
+dir_right_shape t b = is_right_directory (volume_of t.layout b)
 
 -- the windows have room, and hold what the image gives; its lists have a place for each inode
 pub record IsReaderReady (v : Layout) (device : Device) (windows : Windows) (kinds notes : List ℕ) : Type 0 where

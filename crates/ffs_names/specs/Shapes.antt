@@ -23,7 +23,8 @@ fills r = r.place + sum_by (λ e. e.length) (entries_from r.order r.chunk 64 r.p
 
 -- the shape is right, by what was seen and what is still to come in an image of these bytes
 abbrev pub has_right_shape : List ℕ → Entries → Bool
-has_right_shape b r = (r.sound && fills r) && (are_sound (rest b r.chunks) && not (r.chunks.gap || gap_left b r.chunks))
+has_right_shape b r =
+    (r.right_so_far && fills r) && (are_sound (rest b r.chunks) && not (r.chunks.gap || gap_left b r.chunks))
 
 -- no chunk is left
 pub record HasEnded (b : List ℕ) (r : Entries) : Type 0 where
@@ -48,5 +49,5 @@ pub record GivesEntry (b : List ℕ) (old new : Entries) (answer : Option EntryH
 pub record IsSameChunk (old new : Entries) : Type 0 where
   pub chunks : new.chunks ≡ old.chunks
   pub chunk : new.chunk ≡ old.chunk
-  pub sound : new.sound ≡ old.sound
+  pub right_so_far : new.right_so_far ≡ old.right_so_far
   pub fills : fills new ≡ fills old

@@ -36,7 +36,7 @@ pub struct Entries {
     /// Whether the chunk is at the start of the file.
     pub first: bool,
     /// Whether the size is right, and the entries of each chunk before fill it.
-    pub sound: bool,
+    pub right_so_far: bool,
     /// Where the name of the last entry is in the chunk, in bytes from its start.
     pub name_place: usize,
     /// How many bytes that name has.
@@ -78,7 +78,7 @@ impl Entries {
             place: DIRBLKSIZ,
             index: 0,
             first: false,
-            sound: has_right_size(inode),
+            right_so_far: has_right_size(inode),
             name_place: 0,
             name_len: 0,
         }
@@ -119,7 +119,7 @@ impl Entries {
         self.index = 0;
         self.chunks.restart(inode, class, cut);
         self.first = false;
-        self.sound = has_right_size(inode);
+        self.right_so_far = has_right_size(inode);
     }
 
     /// No entry comes any more.
@@ -132,7 +132,7 @@ impl Entries {
     {
         self.place = DIRBLKSIZ;
         self.chunks.budget = 0;
-        self.sound = false;
+        self.right_so_far = false;
     }
 
     /// Takes the entry at `place`, if one is there.
@@ -196,7 +196,7 @@ impl Entries {
             match self.take() {
                 Some(head) => return Ok(Some(head)),
                 None => {
-                    self.sound &= self.place == DIRBLKSIZ;
+                    self.right_so_far &= self.place == DIRBLKSIZ;
                     self.place = DIRBLKSIZ;
                 }
             }
@@ -216,13 +216,13 @@ impl Entries {
     ///
     /// # Errors
     /// A read of the image that failed.
-    pub fn is_sound<I: Image>(
+    pub fn has_right_shape<I: Image>(
         &mut self,
         image: &mut I,
         blocks: &mut Blocks,
     ) -> Result<bool, ImageFault>
         requires { CanWalkDir self.old.chunks.walk.geometry.layout (I.device image.old) blocks.old }
-        ensures sound { IfOk result (λ right. ForContents (I.device image.old).contents
+        ensures shape { IfOk result (λ right. ForContents (I.device image.old).contents
             (λ b. HasEnded b self.old → right ≡ has_right_shape b self.old)) }
         ensures reads { (w : WindowIn) → HoldsEntries blocks.old w self.old
             → ForContents (I.device image.old).contents (λ b. TakesReads (I.reads image.old)
@@ -231,7 +231,7 @@ impl Entries {
         ensures leaves { LeavesWalk self.old.chunks self.new.chunks (I.device image.old)
             (I.device image.new) blocks.new result }
     {
-        if !self.sound {
+        if !self.right_so_far {
             return Ok(false);
         }
         let gap = gap_of(image, blocks, &mut self.chunks)?;

@@ -51,7 +51,7 @@ pub struct DirectoryReader<'a, I> {
 }
 
 impl<I: Image> Directories for DirectoryReader<'_, I> {
-    ghost use Rattle.ffs_names.specs.Readers.{Base as ReaderBase, KnowsReader, dir_entries, dir_sound, IsReaderReady};
+    ghost use Rattle.ffs_names.specs.Readers.{Base as ReaderBase, KnowsReader, dir_entries, dir_right_shape, IsReaderReady};
     ghost use Rattle.ffs_names.specs.Shapes.{has_right_shape, HasEnded};
     ghost use Rattle.ffs_names.specs.Entering.{to_come, left as entries_left, last_name};
     ghost use Rattle.ffs_names.specs.Costs.{directory_cost, entries_to_read, HoldsEntries};
@@ -71,7 +71,7 @@ impl<I: Image> Directories for DirectoryReader<'_, I> {
 
     ghost entries = { dir_entries };
 
-    ghost sound = { dir_sound };
+    ghost right_shape = { dir_right_shape };
 
     ghost device = { λ t. I.device t.image.now };
 
@@ -92,7 +92,7 @@ impl<I: Image> Directories for DirectoryReader<'_, I> {
 
     ghost name = { λ t. last_name t.entries };
 
-    ghost sound_so_far = { λ t b. has_right_shape b t.entries };
+    ghost right_shape_so_far = { λ t b. has_right_shape b t.entries };
 
     ghost ended = { λ t b. HasEnded b t.entries };
 
@@ -122,7 +122,8 @@ impl<I: Image> Directories for DirectoryReader<'_, I> {
             .next(self.image, &mut windows.blocks, &mut windows.chunk)
     }
 
-    fn is_sound(&mut self) -> Result<bool, ImageFault> {
-        self.entries.is_sound(self.image, &mut self.windows.blocks)
+    fn has_right_shape(&mut self) -> Result<bool, ImageFault> {
+        self.entries
+            .has_right_shape(self.image, &mut self.windows.blocks)
     }
 }

@@ -96,9 +96,9 @@ comes_stays a r r' p p' q q' c = record {
       (stays_reached (bool_at r x) (bool_at r' x) (a x) h (c.reaches x)) (c.parent x);
 }
 
-pub calm_stays : (kinds : List ℕ) (m r r' : List Bool) (p p' : List ℕ) (es : List RoledEntry) (sound : Bool) (d : ℕ) →
-    Stays r p r' p' → IsCalm kinds m r p es sound d → IsCalm kinds m r' p' es sound d
-calm_stays kinds m r r' p p' es sound d s c = record {
+pub calm_stays : (kinds : List ℕ) (m r r' : List Bool) (p p' : List ℕ) (es : List RoledEntry) (right_shape : Bool)
+    (d : ℕ) → Stays r p r' p' → IsCalm kinds m r p es right_shape d → IsCalm kinds m r' p' es right_shape d
+calm_stays kinds m r r' p p' es right_shape d s c = record {
   before = c.before;
   begins = c.begins;
   entries_right = subst (λ n. are_calm (record { kinds = kinds; marked = m; dir = d; parent = n }) c.before 0 es ≡ true)
@@ -125,13 +125,13 @@ found_parent true s p p' true false e f g h = absurd (cc)
 found_parent true s p p' false c e f g h = absurd (cc)
 
 -- a directory is calm once it is read, by its entries and its shape
-pub calm_found : (kinds : List ℕ) (m r r' : List Bool) (p p' q q' : List ℕ) (es : List RoledEntry) (sound : Bool)
+pub calm_found : (kinds : List ℕ) (m r r' : List Bool) (p p' q q' : List ℕ) (es : List RoledEntry) (right_shape : Bool)
     (d : ℕ)
     → Comes (from_entries kinds d es) r p q nothing r' p' q' → bool_at r d ≡ true
     → are_calm (record { kinds = kinds; marked = m; dir = d; parent = number_at p d }) (bool_at r) 0 es ≡ true →
-    sound ≡ true
-    → IsCalm kinds m r' p' es sound d
-calm_found kinds m r r' p p' q q' es sound d c h calm right =
+    right_shape ≡ true
+    → IsCalm kinds m r' p' es right_shape d
+calm_found kinds m r r' p p' q q' es right_shape d c h calm right =
     let s = comes_stays (from_entries kinds d es) r r' p p' q q' c in
     record {
       before = bool_at r;
@@ -188,31 +188,32 @@ read_whole kinds m r r' p p' q q' es rest d parent count calm_so_far up none c e
 }
 
 -- a flag that is set is an old one, or the one that was set now
-flag_cases : (x d : ℕ) (old low calm_so_far sound : Bool) → (old || ((x == d) && (low && (calm_so_far && sound)))) ≡ true
-    → (old ≡ true) ⊎ ((x ≡ d) × ((calm_so_far ≡ true) × (sound ≡ true)))
-flag_cases x d old low calm_so_far sound h = elim (or_cases old _ h) [
+flag_cases : (x d : ℕ) (old low calm_so_far right_shape : Bool)
+    → (old || ((x == d) && (low && (calm_so_far && right_shape)))) ≡ true
+    → (old ≡ true) ⊎ ((x ≡ d) × ((calm_so_far ≡ true) × (right_shape ≡ true)))
+flag_cases x d old low calm_so_far right_shape h = elim (or_cases old _ h) [
   | inl before ↦ inl before
   | inr now ↦
       let p = and_parts (x == d) _ now in
       let q = and_parts low _ p.1 in
-      inr (eqb-true x d p.0, and_parts calm_so_far sound q.1)
+      inr (eqb-true x d p.0, and_parts calm_so_far right_shape q.1)
 ]
 
 -- the flags after a directory is read
 pub calm_read : (kinds : List ℕ) (m r r' : List Bool) (p p' q q' : List ℕ) (entries : ℕ → List RoledEntry)
-    (sound : ℕ → Bool) (d : ℕ) (f f' : List Bool)
+    (right_shape : ℕ → Bool) (d : ℕ) (f f' : List Bool)
     → Comes (from_entries kinds d (entries d)) r p q nothing r' p' q' → bool_at r d ≡ true
     → IsFlagged d (are_calm (record { kinds = kinds; marked = m; dir = d; parent = number_at p d }) (bool_at r) 0
-    (entries d)) (sound d) f f'
-    → AreCalm kinds m r p entries sound f → AreCalm kinds m r' p' entries sound f'
-calm_read kinds m r r' p p' q q' entries sound d f f' c h flagged old x set =
+    (entries d)) (right_shape d) f f'
+    → AreCalm kinds m r p entries right_shape f → AreCalm kinds m r' p' entries right_shape f'
+calm_read kinds m r r' p p' q q' entries right_shape d f f' c h flagged old x set =
     elim (flag_cases x d (bool_at f x) (nat_lt d (length f))
     (are_calm (record { kinds = kinds; marked = m; dir = d; parent = number_at p d }) (bool_at r) 0 (entries d))
-    (sound d) (sym (flagged x) ∙ set)) [
-      | inl before ↦ calm_stays kinds m r r' p p' (entries x) (sound x) x
+    (right_shape d) (sym (flagged x) ∙ set)) [
+      | inl before ↦ calm_stays kinds m r r' p p' (entries x) (right_shape x) x
           (comes_stays (from_entries kinds d (entries d)) r r' p p' q q' c) (old x before)
-      | inr now ↦ subst (λ z. IsCalm kinds m r' p' (entries z) (sound z) z) (sym now.0)
-          (calm_found kinds m r r' p p' q q' (entries d) (sound d) d c h now.1.0 now.1.1)
+      | inr now ↦ subst (λ z. IsCalm kinds m r' p' (entries z) (right_shape z) z) (sym now.0)
+          (calm_found kinds m r r' p p' q q' (entries d) (right_shape d) d c h now.1.0 now.1.1)
     ]
 
 abbrev none_given : ℕ → Option ℕ
@@ -255,16 +256,17 @@ calm_step s r r' p p' q q' i e es calm_so_far calm_so_far' total c step old =
     and_again false b c = refl
 
 -- no flag is set
-pub calm_none : (kinds : List ℕ) (m r : List Bool) (p : List ℕ) (entries : ℕ → List RoledEntry) (sound : ℕ → Bool)
-    (f : List Bool) → ((x : ℕ) → bool_at f x ≡ false) → AreCalm kinds m r p entries sound f
-calm_none kinds m r p entries sound f none x set = absurd (both_ways (bool_at f x) (none x) set)
+pub calm_none : (kinds : List ℕ) (m r : List Bool) (p : List ℕ) (entries : ℕ → List RoledEntry) (right_shape : ℕ → Bool)
+    (f : List Bool) → ((x : ℕ) → bool_at f x ≡ false) → AreCalm kinds m r p entries right_shape f
+calm_none kinds m r p entries right_shape f none x set = absurd (both_ways (bool_at f x) (none x) set)
 
 -- the parents of directories that aren't reached don't matter
 pub calm_unreached : (kinds : List ℕ) (m r : List Bool) (p p' : List ℕ) (entries : ℕ → List RoledEntry)
-    (sound : ℕ → Bool) (f : List Bool) → ((x : ℕ) → bool_at r x ≡ true → number_at p' x ≡ number_at p x) →
-    AreCalm kinds m r p entries sound f → AreCalm kinds m r p' entries sound f
-calm_unreached kinds m r p p' entries sound f same old x set =
-    calm_stays kinds m r r p p' (entries x) (sound x) x (record { reached = λ y h. h; parents = same }) (old x set)
+    (right_shape : ℕ → Bool) (f : List Bool) → ((x : ℕ) → bool_at r x ≡ true → number_at p' x ≡ number_at p x) →
+    AreCalm kinds m r p entries right_shape f → AreCalm kinds m r p' entries right_shape f
+calm_unreached kinds m r p p' entries right_shape f same old x set =
+    calm_stays kinds m r r p p' (entries x) (right_shape x) x (record { reached = λ y h. h; parents = same })
+    (old x set)
 
 -- the directories of a level are reached
 pub frontier_reached : (v : Graph) (k : ℕ) (xs : List ℕ) (r : List Bool) (p q : List ℕ) → IsFrontier v k xs →

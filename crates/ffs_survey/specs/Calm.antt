@@ -52,22 +52,22 @@ are_calm s reached i (e ∷ es) = is_calm_entry s reached i e && are_calm s (rea
 -- The directory d is calm: its shape is right, and so are its entries, by what was reached before it. It is reached,
 -- and each directory that it names is reached from it.
 pub record IsCalm (kinds : List ℕ) (marked reached : List Bool) (parents : List ℕ) (entries : List RoledEntry)
-    (sound : Bool) (d : ℕ) : Type 0 where
+    (right_shape : Bool) (d : ℕ) : Type 0 where
   pub before : ℕ → Bool
   pub begins : before d ≡ true
   pub entries_right : are_calm (record { kinds = kinds; marked = marked; dir = d; parent = number_at parents d })
       before 0 entries ≡ true
-  pub shape_right : sound ≡ true
+  pub shape_right : right_shape ≡ true
   pub is_reached : bool_at reached d ≡ true
   pub below : (x : ℕ) → dir_at kinds x ≡ true → list_any (is_naming_entry x) entries ≡ true
       → (bool_at reached x ≡ true) × (number_at parents x ≡ d)
 
 -- all directories with a flag are calm
 abbrev pub AreCalm : List ℕ → List Bool → List Bool → List ℕ → (ℕ → List RoledEntry) → (ℕ → Bool) → List Bool → Type 0
-AreCalm kinds marked reached parents entries sound calm =
-    (d : ℕ) → bool_at calm d ≡ true → IsCalm kinds marked reached parents (entries d) (sound d) d
+AreCalm kinds marked reached parents entries right_shape calm =
+    (d : ℕ) → bool_at calm d ≡ true → IsCalm kinds marked reached parents (entries d) (right_shape d) d
 
 -- the flag of d is set where all its entries are calm and its shape is right, and no other flag changes
 abbrev pub IsFlagged : ℕ → Bool → Bool → List Bool → List Bool → Type 0
-IsFlagged d all_calm sound old new =
-    (x : ℕ) → bool_at new x ≡ (bool_at old x || ((x == d) && (nat_lt d (length old) && (all_calm && sound))))
+IsFlagged d all_calm right_shape old new =
+    (x : ℕ) → bool_at new x ≡ (bool_at old x || ((x == d) && (nat_lt d (length old) && (all_calm && right_shape))))

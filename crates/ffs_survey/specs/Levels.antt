@@ -8,7 +8,7 @@ use Rattle.ffs_survey.specs.Discover.{count_in, any_in, count_of, any_of, none, 
 use Rattle.ffs_survey.specs.Lists.{GrowsBy}
 
 -- the reached directory d with these entries is read
-pub record ReadsReached (kinds : List ℕ) (marked : List Bool) (d : ℕ) (entries : List RoledEntry) (sound : Bool)
+pub record ReadsReached (kinds : List ℕ) (marked : List Bool) (d : ℕ) (entries : List RoledEntry) (right_shape : Bool)
     (old new : Found) : Type 0 where
   pub comes : Comes (from_entries kinds d entries) old.reached old.parents old.queue nothing new.reached new.parents
       new.queue
@@ -19,7 +19,7 @@ pub record ReadsReached (kinds : List ℕ) (marked : List Bool) (d : ℕ) (entri
     marked = marked;
     dir = d;
     parent = number_at old.parents d;
-  }) (bool_at old.reached) 0 entries) sound old.calm new.calm
+  }) (bool_at old.reached) 0 entries) right_shape old.calm new.calm
 
 -- what the reading of reached directories makes of what was found, as `reads` says it: no count below n grows by more
 -- than `most`, and the queue, which ended at `top`, keeps what it had and ends at `end`, with all that is newly reached
@@ -39,9 +39,9 @@ pub record FollowsLevel (high end : ℕ) (reads : Found → Found → Type 0) (o
 
 -- what stays calm when more is read
 abbrev pub StayCalm : List ℕ → List Bool → (ℕ → List RoledEntry) → (ℕ → Bool) → Found → Found → Type 0
-StayCalm kinds marked entries sound old new =
-    AreCalm kinds marked old.reached old.parents entries sound old.calm
-    → AreCalm kinds marked new.reached new.parents entries sound new.calm
+StayCalm kinds marked entries right_shape old new =
+    AreCalm kinds marked old.reached old.parents entries right_shape old.calm
+    → AreCalm kinds marked new.reached new.parents entries right_shape new.calm
 
 -- the counts and flags of these directories are added
 abbrev pub CountsDirs : List ℕ → (ℕ → List RoledEntry) → List ℕ → Found → Found → Type 0
@@ -51,25 +51,26 @@ CountsDirs kinds entries dirs old new =
 
 -- these reached directories are read
 pub record ReadsDirs (kinds : List ℕ) (marked : List Bool) (dirs : List ℕ) (entries : ℕ → List RoledEntry)
-    (sound : ℕ → Bool) (old new : Found) : Type 0 where
+    (right_shape : ℕ → Bool) (old new : Found) : Type 0 where
   pub comes : Comes (from_dirs (graph_with kinds entries) dirs) old.reached old.parents old.queue nothing new.reached
       new.parents new.queue
   pub counts : CountsDirs kinds entries dirs old new
-  pub calm : StayCalm kinds marked entries sound old new
+  pub calm : StayCalm kinds marked entries right_shape old new
 
 -- the level that is in the queue from `low` to `high` is read, and the next one follows it
 pub record ReadsLevel (kinds : List ℕ) (marked : List Bool) (low high end : ℕ) (entries : ℕ → List RoledEntry)
-    (sound : ℕ → Bool) (old new : Found) : Type 0 where
+    (right_shape : ℕ → Bool) (old new : Found) : Type 0 where
   pub level : (depth : ℕ) → AtLevel (graph_with kinds entries) depth low high old.reached old.parents old.queue
       → AtLevel (graph_with kinds entries) (depth + 1) high end new.reached new.parents new.queue
   pub counts : CountsDirs kinds entries (drop low (take high old.queue)) old new
-  pub calm : StayCalm kinds marked entries sound old new
+  pub calm : StayCalm kinds marked entries right_shape old new
 
 -- all reached directories are read, and references counted on from these starts
-pub record ReadsAllReached (kinds : List ℕ) (marked : List Bool) (entries : ℕ → List RoledEntry) (sound : ℕ → Bool)
+pub record ReadsAllReached (kinds : List ℕ) (marked : List Bool) (entries : ℕ → List RoledEntry)
+    (right_shape : ℕ → Bool)
     (starts : List ℕ) (new : Found) : Type 0 where
   pub part : IsReachedPart (graph_with kinds entries) starts new.references new.named new.reached new.parents
-  pub calm : AreCalm kinds marked new.reached new.parents entries sound new.calm
+  pub calm : AreCalm kinds marked new.reached new.parents entries right_shape new.calm
 
 -- the directory d with these entries, which isn't reached, is read
 pub record ReadsUnreached (kinds : List ℕ) (d : ℕ) (entries : List RoledEntry) (old new : Found) : Type 0 where

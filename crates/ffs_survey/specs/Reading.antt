@@ -17,7 +17,7 @@ roled_of e name = record {
 -- reader's base knows to be the image's
 abbrev pub ForKnown : {B : Type 0} → (B → List ℕ → Type 0) → (B → List ℕ → ℕ → List RoledEntry)
     → (B → List ℕ → ℕ → Bool) → B → ((ℕ → List RoledEntry) → (ℕ → Bool) → Type 0) → Type 0
-ForKnown knows entries sound base P = (b : List ℕ) → knows base b → P (entries base b) (sound base b)
+ForKnown knows entries right_shape base P = (b : List ℕ) → knows base b → P (entries base b) (right_shape base b)
 
 -- the reader is ready for the next call, over the same base, and the call only read the image
 pub record LeavesReader {B T : Type 0} (ready : Type 0) (base base' : B) (device device' : Device)

@@ -151,7 +151,7 @@ fn flag_calm<D: Directories>(
     requires ready { D.ready directories.old }
     ensures flags { OnOk result ((b : List ℕ) → D.knows (D.base directories.old) b
         → D.ended directories.old b → IsFlagged from (calm_so_far && nat_le 2 count)
-        (D.sound_so_far directories.old b) calm.old calm.new) }
+        (D.right_shape_so_far directories.old b) calm.old calm.new) }
     ensures reader { LeavesReader (D.ready directories.new) (D.base directories.old)
         (D.base directories.new) (D.device directories.old) (D.device directories.new) result }
     ensures counted { (b : List ℕ) → D.knows (D.base directories.old) b
@@ -162,7 +162,7 @@ fn flag_calm<D: Directories>(
     if !calm_so_far || count < 2 || number >= calm.len() {
         return Ok(());
     }
-    if directories.is_sound()? {
+    if directories.has_right_shape()? {
         calm[number] = true;
     }
     Ok(())
@@ -180,8 +180,10 @@ fn read_reached<D: Directories>(
     requires ready { D.ready directories.old }
     requires room { CanTakeMore (2 ^ 60) top lists.old }
     ensures found { IfOk result (λ n. Discovers (length lists.old.kinds.now) (2 ^ 28) top n
-        (λ old new. ForKnown D.knows D.entries D.sound (D.base directories.old) (λ entries sound.
-        ReadsReached lists.old.kinds.now lists.old.marked.now from (entries from) (sound from) old
+        (λ old new. ForKnown D.knows D.entries D.right_shape (D.base directories.old)
+        (λ entries right_shape.
+        ReadsReached lists.old.kinds.now lists.old.marked.now from (entries from)
+        (right_shape from) old
         new)) (found_up_to lists.old top) (found_up_to lists.new n)) }
     ensures leaves { LeavesLent (D.ready directories.new) (D.base directories.old)
         (D.base directories.new) (D.device directories.old) (D.device directories.new) lists.old
@@ -225,13 +227,15 @@ pub fn read_level<D: Directories>(
     requires ready { D.ready directories.old }
     requires order { low ≤ high }
     requires room { CanTakeMore (2 ^ 59) high lists.old }
-    requires frontier { ForKnown D.knows D.entries D.sound (D.base directories.old)
-        (λ entries sound. All (IsReachedDir lists.old.kinds.now lists.old.reached.now)
+    requires frontier { ForKnown D.knows D.entries D.right_shape (D.base directories.old)
+        (λ entries right_shape. All (IsReachedDir lists.old.kinds.now lists.old.reached.now)
         (drop low (take high lists.old.queue.now.items))) }
     ensures found { IfOk result (λ n.
         Discovers (length lists.old.kinds.now) ((high - low) * 2 ^ 28) high n
-        (λ old new. ForKnown D.knows D.entries D.sound (D.base directories.old) (λ entries sound.
-        ReadsDirs lists.old.kinds.now lists.old.marked.now (drop low old.queue) entries sound old
+        (λ old new. ForKnown D.knows D.entries D.right_shape (D.base directories.old)
+        (λ entries right_shape.
+        ReadsDirs lists.old.kinds.now lists.old.marked.now (drop low old.queue) entries
+        right_shape old
         new)) (found_up_to lists.old high) (found_up_to lists.new n)) }
     ensures leaves { LeavesLent (D.ready directories.new) (D.base directories.old)
         (D.base directories.new) (D.device directories.old) (D.device directories.new) lists.old
@@ -286,8 +290,8 @@ pub fn read_unreached<D: Directories>(
     requires from { 0 < from }
     ensures grown { OnOk result (GrowsBy (length lists.old.kinds.now) (2 ^ 28)
         lists.old.references.now.items lists.new.references.now.items) }
-    ensures adds { OnOk result (ForKnown D.knows D.entries D.sound (D.base directories.old)
-        (λ entries sound. ReadsUnreached lists.old.kinds.now from (entries from)
+    ensures adds { OnOk result (ForKnown D.knows D.entries D.right_shape (D.base directories.old)
+        (λ entries right_shape. ReadsUnreached lists.old.kinds.now from (entries from)
         (all_found lists.old) (all_found lists.new))) }
     ensures kept { KeepsReached lists.old lists.new }
     ensures leaves { LeavesLent (D.ready directories.new) (D.base directories.old)

@@ -35,7 +35,7 @@ loop-at-preserved g c =
     let inv = c.loop-at.invariant in
     let base = g.D.Directories.base c.args.directories.now in
     let entries = g.D.Directories.entries base in
-    let sound = g.D.Directories.sound base in
+    let right_shape = g.D.Directories.right_shape base in
     let old = c.args.lists.now in
     let here = c.loop-at.lists in
     let kinds : here.kinds.now ≡ old.kinds.now = ap (λ (x : Lent). x.kinds) inv.same.lent in
@@ -85,7 +85,7 @@ loop-at-preserved g c =
       calm = λ b k before.
           calm_read old.kinds.now old.marked.now _ _ _ _ _ _
           (entries b)
-          (sound b) _ _ _
+          (right_shape b) _ _ _
           (read b k).comes (still b k).marked (read b k).calm
           (inv.calm b k before);
     }

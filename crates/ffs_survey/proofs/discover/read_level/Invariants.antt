@@ -35,7 +35,7 @@ invariant-loop-at g l =
           l.lists.references.now.items l.lists.named.now;
       still : (b : List ℕ) → knows b → All (IsReachedDir old.kinds.now l.lists.reached.now) (drop l.low level);
       calm : (b : List ℕ) → knows b → AreCalm old.kinds.now old.marked.now old.reached.now old.parents.now.items
-          (g.D.Directories.entries over b) (g.D.Directories.sound over b) old.calm.now →
+          (g.D.Directories.entries over b) (g.D.Directories.right_shape over b) old.calm.now →
           AreCalm old.kinds.now old.marked.now l.lists.reached.now l.lists.parents.now.items
-          (g.D.Directories.entries over b) (g.D.Directories.sound over b) l.lists.calm.now;
+          (g.D.Directories.entries over b) (g.D.Directories.right_shape over b) l.lists.calm.now;
     }

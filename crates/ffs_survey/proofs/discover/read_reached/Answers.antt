@@ -76,7 +76,7 @@ loop-entry-preserved g c =
           c.loop-entry.calm_so_far _ _
           comes (cc (and_comm c.loop-entry.calm_so_far c.is_calm-calm_so_far.result, right))
           (rw (cut b k) at (inv.calm_so_far b k));
-      sound = let s = rw inv.base at c.in_ok-entry.ensures.sound in λ b k. s b k ∙ inv.sound b k;
+      right_shape = let s = rw inv.base at c.in_ok-entry.ensures.shape in λ b k. s b k ∙ inv.right_shape b k;
     }
 
 pub returns-clause-found : goal.returns-clause-found
@@ -92,7 +92,7 @@ returns-clause-found g c =
       read = λ b k.
           let reported = rw inv.base at c.in_ok-entry.ensures.rest in
           let ended = rw inv.base at c.in_ok-entry.ensures.ended in
-          let right = rw inv.base at c.in_ok-entry.ensures.sound in
+          let right = rw inv.base at c.in_ok-entry.ensures.shape in
           let flags = rw (c.in_ok-entry.ensures.reader.same, inv.base, inv.flags) at c.in_ok-flag_calm.ensures.flags in
           let entries = g.D.Directories.entries (g.D.Directories.base c.args.directories.now) b in
           let none : g.D.Directories.rest c.loop-entry.directories b ≡ [] = rw c.in_default.is at (reported b k) in
@@ -106,10 +106,10 @@ returns-clause-found g c =
             comes = w.comes;
             counts = rw none at (inv.counts b k);
             calm = subst (λ z. IsFlagged c.args.from z
-                (g.D.Directories.sound (g.D.Directories.base c.args.directories.now) b c.args.from) old.calm.now
+                (g.D.Directories.right_shape (g.D.Directories.base c.args.directories.now) b c.args.from) old.calm.now
                 c.flag_calm.new.calm) w.calm_is
                 (subst (λ z. IsFlagged c.args.from (c.loop-entry.calm_so_far && nat_le 2 c.loop-entry.count) z old.calm.now
-                c.flag_calm.new.calm) (right b k ∙ inv.sound b k) (flags b k end));
+                c.flag_calm.new.calm) (right b k ∙ inv.right_shape b k) (flags b k end));
           };
     }
 

@@ -38,8 +38,8 @@ invariant-loop-entry g l =
           l.lists.references.now.items l.lists.named.now;
       calm_so_far : (b : List ℕ) → knows b → (l.calm_so_far && are_calm current (bool_at l.lists.reached.now) l.count (rest b))
           ≡ are_calm current (bool_at old.reached.now) 0 (entries b);
-      sound : (b : List ℕ) → knows b →
-          g.D.Directories.sound_so_far l.directories b ≡ g.D.Directories.sound over b l.from;
+      right_shape : (b : List ℕ) → knows b →
+          g.D.Directories.right_shape_so_far l.directories b ≡ g.D.Directories.right_shape over b l.from;
     }
 
 abbrev pub decreases-loop-entry : goal.decreases-loop-entry

@@ -25,7 +25,7 @@ invariant-loop-low g l =
       counts : (b : List ℕ) → knows b → IsCount (graph b) (take l.low l.lists.queue.now.items)
           old.references.now.items l.lists.references.now.items l.lists.named.now;
       calm : (b : List ℕ) → knows b → AreCalm old.kinds.now old.marked.now l.lists.reached.now
-          l.lists.parents.now.items (g.D.Directories.entries over b) (g.D.Directories.sound over b)
+          l.lists.parents.now.items (g.D.Directories.entries over b) (g.D.Directories.right_shape over b)
           l.lists.calm.now;
     }
 

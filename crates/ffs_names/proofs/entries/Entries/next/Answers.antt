@@ -12,7 +12,7 @@ use Rattle.ffs_names.proofs.entries.Entries.next.Goals as goal
 pub returns-in-Some-clause-entry : goal.returns-in-Some-clause-entry
 returns-in-Some-clause-entry g c = λ b t. let same = c.take.ensures.same in record {
   entries = sym (c.chunks.invariant.entries b t) ∙ c.in-Some.ensures.entries b;
-  shape = shape_same b _ _ _ _ _ _ same.sound same.fills same.chunks ∙ c.chunks.invariant.shape b t;
+  shape = shape_same b _ _ _ _ _ _ same.right_so_far same.fills same.chunks ∙ c.chunks.invariant.shape b t;
   ended = tt;
 }
 
@@ -27,9 +27,9 @@ returns-in-None-2-clause-entry g c = λ b t.
     record {
       entries = sym (c.chunks.invariant.entries b t) ∙ (sym (c.in-None.ensures.entries b) ∙ none_came s.first
           s.index s.order s.chunk s.place (rest b s.chunks) none o.chunks.0);
-      shape = shape_ended s.sound s.order s.chunk c.next.new.chunk s.place (rest b s.chunks)
+      shape = shape_ended s.right_so_far s.order s.chunk c.next.new.chunk s.place (rest b s.chunks)
           (rest b c.next.new.self) _ _ none o.chunks.0 o.chunks.1 o.gap
-          ∙ (shape_same b _ _ _ _ _ _ same.sound same.fills same.chunks ∙ c.chunks.invariant.shape b t);
+          ∙ (shape_same b _ _ _ _ _ _ same.right_so_far same.fills same.chunks ∙ c.chunks.invariant.shape b t);
       ended = record { chunks = o.chunks.1; current = fills_whole s.order c.next.new.chunk };
     }
 
@@ -55,10 +55,10 @@ chunks-preserved g c =
           ∙ (c.in-None.ensures.entries b ∙ i.entries b t);
       shape = λ b t.
           let o = (rw c.in-Some-2.is at c.in_ok-next.ensures.chunk) b (ap (λ d. d.contents) i.device ∙ t) in
-          shape_came s.sound s.order s.chunks.walk.geometry.layout.order s.chunk s.place (rest b s.chunks)
+          shape_came s.right_so_far s.order s.chunks.walk.geometry.layout.order s.chunk s.place (rest b s.chunks)
           c.in-Some-2.offset c.next.new.chunk (rest b c.next.new.self) _ _
           none (sym s.same_order) o.chunks o.gap
-          ∙ (shape_same b _ _ _ _ _ _ same.sound same.fills same.chunks ∙ i.shape b t);
+          ∙ (shape_same b _ _ _ _ _ _ same.right_so_far same.fills same.chunks ∙ i.shape b t);
       place = λ b t held low.
           let o = rw c.in-Some-2.is at c.in_ok-next.ensures.place in
           o b (ap (λ d. d.contents) i.device ∙ t);
@@ -69,10 +69,12 @@ chunks-preserved g c =
       reads = λ held b t.
           let now = i.reads held b t in
           let f = rw c.in-Some-2.is at c.in_ok-next.ensures.budget in
-          let took = continues_by_chunks b s.sound _ s.chunks c.next.new.self _ _ _ _ _ _ _ (and_left s.sound _) (omega (arith, f))
+          let took = continues_by_chunks b s.right_so_far _ s.chunks c.next.new.self _ _ _ _ _ _ _
+          (and_left s.right_so_far _) (omega (arith, f))
           c.in_ok-next.ensures.spent (λ h. c.in_ok-next.ensures.reads h b (ap (λ d. d.contents) i.device ∙ t))
-          (same_holds _ _ _ _ _ _ same.sound same.chunks now.1) in
-          let e = same_reads b c.chunks.self.sound s.sound c.chunks.self.chunks s.chunks same.sound same.chunks in
+          (same_holds _ _ _ _ _ _ same.right_so_far same.chunks now.1) in
+          let e = same_reads b c.chunks.self.right_so_far s.right_so_far c.chunks.self.chunks s.chunks
+          same.right_so_far same.chunks in
           (omega (arith, took.paid, e, now.0), took.held);
       left = let f = rw c.in-Some-2.is at c.in_ok-next.ensures.budget in let k = ap (λ x. x.budget) same.chunks in
           omega (arith, f, k, i.left);
@@ -202,11 +204,12 @@ returns-in-Some-clause-reads g c = λ held b t.
     let now = i.reads held b t in
     let s = c.take.new.self in
     let same = c.take.ensures.same in
-    let e = same_reads b c.chunks.self.sound s.sound c.chunks.self.chunks s.chunks same.sound same.chunks in
+    let e = same_reads b c.chunks.self.right_so_far s.right_so_far c.chunks.self.chunks s.chunks
+    same.right_so_far same.chunks in
     record {
       most = omega (arith, now.0);
       paid = omega (arith, e, now.0);
-      held = same_holds _ _ _ _ _ _ same.sound same.chunks now.1;
+      held = same_holds _ _ _ _ _ _ same.right_so_far same.chunks now.1;
     }
 
 pub returns-in-None-2-clause-reads : goal.returns-in-None-2-clause-reads
@@ -216,10 +219,12 @@ returns-in-None-2-clause-reads g c = λ held b t.
     let s = c.take.new.self in
     let same = c.take.ensures.same in
     let f = rw c.in-None-2.is at c.in_ok-next.ensures.budget in
-    let took = continues_by_chunks b s.sound _ s.chunks c.next.new.self _ _ _ _ _ _ _ (and_left s.sound _) (omega (arith, f))
+    let took = continues_by_chunks b s.right_so_far _ s.chunks c.next.new.self _ _ _ _ _ _ _
+    (and_left s.right_so_far _) (omega (arith, f))
     c.in_ok-next.ensures.spent (λ h. c.in_ok-next.ensures.reads h b (ap (λ d. d.contents) i.device ∙ t))
-    (same_holds _ _ _ _ _ _ same.sound same.chunks now.1) in
-    let e = same_reads b c.chunks.self.sound s.sound c.chunks.self.chunks s.chunks same.sound same.chunks in
+    (same_holds _ _ _ _ _ _ same.right_so_far same.chunks now.1) in
+    let e = same_reads b c.chunks.self.right_so_far s.right_so_far c.chunks.self.chunks s.chunks
+    same.right_so_far same.chunks in
     record {
       most = omega (arith, took.most, e, now.0);
       paid = omega (arith, took.paid, e, now.0);
@@ -235,8 +240,10 @@ returns-in_err-next-clause-reads g c =
     let s = c.take.new.self in
     let same = c.take.ensures.same in
     let f = c.in_err-next.ensures.budget in
-    let took = continues_by_chunks b s.sound s.sound s.chunks c.next.new.self _ _ _ _ _ _ _ (λ h. h) (omega (arith, f))
+    let took = continues_by_chunks b s.right_so_far s.right_so_far s.chunks c.next.new.self _ _ _ _ _ _ _
+    (λ h. h) (omega (arith, f))
     c.in_err-next.ensures.spent (λ h. c.in_err-next.ensures.reads h b (ap (λ d. d.contents) i.device ∙ t))
-    (same_holds _ _ _ _ _ _ same.sound same.chunks now.1) in
-    let e = same_reads b c.chunks.self.sound s.sound c.chunks.self.chunks s.chunks same.sound same.chunks in
+    (same_holds _ _ _ _ _ _ same.right_so_far same.chunks now.1) in
+    let e = same_reads b c.chunks.self.right_so_far s.right_so_far c.chunks.self.chunks s.chunks
+    same.right_so_far same.chunks in
     record { most = omega (arith, took.most, e, now.0); paid = tt; held = tt })

@@ -15,7 +15,7 @@ pub returns-clause-same : goal.returns-clause-same
 returns-clause-same c = let s = c.args.self.now in record {
   chunks = refl;
   chunk = refl;
-  sound = refl;
+  right_so_far = refl;
   fills = fills_next s.order
       s.chunk s.place (entry_value c.in-Some.entry) c.in-Some.ensures.some;
 }

@@ -4,8 +4,8 @@ use Rattle.ffs_names.proofs.reader.DirectoryReaderDirectories.next.Goals as goal
 pub returns-clause-rest : goal.returns-clause-rest
 returns-clause-rest g c = if_ok c.next.result _ _ c.next.ensures.entry (λ o h b k. (h b k.bytes).entries)
 
-pub returns-clause-sound : goal.returns-clause-sound
-returns-clause-sound g c = ok_on c.next.result _ _ c.next.ensures.entry (λ o h b k. (h b k.bytes).shape)
+pub returns-clause-shape : goal.returns-clause-shape
+returns-clause-shape g c = ok_on c.next.result _ _ c.next.ensures.entry (λ o h b k. (h b k.bytes).shape)
 
 pub returns-clause-ended : goal.returns-clause-ended
 returns-clause-ended g c = if_ok c.next.result _ _ c.next.ensures.entry

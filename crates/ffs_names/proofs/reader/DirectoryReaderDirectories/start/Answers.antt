@@ -70,15 +70,15 @@ returns-clause-rest g c = λ b k.
     ∙ (dir_seen v b c.args.dir c.in_ok-inode.inode c.index-note.result.now t.geometry.sound is.0 inode
     cut ∙ sym (ap (λ x. if x then roled_entries (volume_of v b) c.args.dir else []) dir))
 
-pub returns-then-not-is_dir-clause-sound : goal.returns-then-not-is_dir-clause-sound
-returns-then-not-is_dir-clause-sound g c = λ b k.
+pub returns-then-not-is_dir-clause-shape : goal.returns-then-not-is_dir-clause-shape
+returns-then-not-is_dir-clause-shape g c = λ b k.
     let v = c.args.self.now.geometry.layout in
     let none = sym (kind_dirs v b c.args.self.now.kinds.now c.args.dir (k.kinds c.args.dir))
     ∙ (sym c.is_dir.ensures ∙ c.if-not-is_dir.true) in
     c.stop.ensures.shape b ∙ sym (ap (λ x. x && is_right_shape (volume_of v b) c.args.dir) none)
 
-pub returns-clause-sound : goal.returns-clause-sound
-returns-clause-sound g c = λ b k.
+pub returns-clause-shape : goal.returns-clause-shape
+returns-clause-shape g c = λ b k.
     let t = c.args.self.now in
     let v = t.geometry.layout in
     let dir = sym (kind_dirs v b t.kinds.now c.args.dir (k.kinds c.args.dir))
@@ -120,8 +120,8 @@ returns-in-Some-clause-rest g c = λ b k.
     (sym (address_is_whole v b d c.in-Some.address t.geometry.sound noted))
     ∙ sym (ap (λ (x : Bool). if x then roled_entries (volume_of v b) d else []) dir)))
 
-pub returns-in-Some-clause-sound : goal.returns-in-Some-clause-sound
-returns-in-Some-clause-sound g c = λ b k.
+pub returns-in-Some-clause-shape : goal.returns-in-Some-clause-shape
+returns-in-Some-clause-shape g c = λ b k.
     let t = c.args.self.now in
     let v = t.geometry.layout in
     let d = c.args.dir in
@@ -193,8 +193,8 @@ pub returns-in_err-inode-clause-left : goal.returns-in_err-inode-clause-left
 returns-in_err-inode-clause-left g c =
     let p = err_from_is_err_and c.from_residual.result c.from_residual.ensures.1 in rw p.1 tt
 
-pub returns-in_err-inode-clause-sound : goal.returns-in_err-inode-clause-sound
-returns-in_err-inode-clause-sound g c =
+pub returns-in_err-inode-clause-shape : goal.returns-in_err-inode-clause-shape
+returns-in_err-inode-clause-shape g c =
     let p = err_from_is_err_and c.from_residual.result c.from_residual.ensures.1 in rw p.1 tt
 
 -- the reads that were made, and those that are still to come

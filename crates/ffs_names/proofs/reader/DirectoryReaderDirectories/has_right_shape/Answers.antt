@@ -1,16 +1,16 @@
 use Rattle.std.proofs.Common.{refl, ◌∙◌}
 use Rattle.ffs_names.proofs.Continuing.{contents_kept}
-use Rattle.ffs_names.proofs.reader.DirectoryReaderDirectories.is_sound.Goals as goal
+use Rattle.ffs_names.proofs.reader.DirectoryReaderDirectories.has_right_shape.Goals as goal
 
-pub is_sound-requires : goal.is_sound-requires
-is_sound-requires g c =
+pub has_right_shape-requires : goal.has_right_shape-requires
+has_right_shape-requires g c =
     let r = c.requires.ready.0 in
     rw c.requires.ready.1 (record { volume = r.volume; room = r.blocks; holds = r.blocks_hold })
 
 pub returns-clause-reader : goal.returns-clause-reader
 returns-clause-reader g c =
     let r = c.requires.ready.0 in
-    let left = c.is_sound.ensures.leaves in
+    let left = c.has_right_shape.ensures.leaves in
     let contents = contents_kept _ _ _ left.read in
     let ready = rw c.requires.ready.1 at left.ready in
     record {
@@ -35,4 +35,4 @@ returns-clause-reader g c =
     }
 
 pub returns-clause-counted : goal.returns-clause-counted
-returns-clause-counted g c = λ b k held. c.is_sound.ensures.reads _ held b k.bytes
+returns-clause-counted g c = λ b k held. c.has_right_shape.ensures.reads _ held b k.bytes
