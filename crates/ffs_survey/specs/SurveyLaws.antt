@@ -14,6 +14,7 @@ use Rattle.ffs_volume.specs.Directories.Roles.{references, references_below}
 use Rattle.ffs_volume.specs.Directories.Volumes.{class_at, marked_at, volume_of, volume_with}
 use Rattle.ffs_volume.specs.Directories.Graph.{Graph}
 use Rattle.ffs_volume.specs.Directories.Parents.{graph_of}
+use Rattle.ffs_volume.specs.Encodings.Kinds.{kind_of}
 use Rattle.ffs_survey.specs.Survey.{bool_at, number_at, is_dir_kind, dir_at, suspect_at}
 use Rattle.ffs_survey.specs.Survey.{graph_with, counted_below, references_to, IsSurvey}
 
@@ -43,15 +44,6 @@ references_is v x = go v.count
     go : (n : ℕ) → counted_below (graph_of v) x n ≡ references_below v x n
     go zero = refl
     go (suc n) = ap (λ k. k + (if is_dir v n then count_by (refers x) (roled_entries v n) else 0)) (go n)
-
--- the kind of an inode: 0 for an unallocated one, 15 for an unknown one, 4 for a directory with a size, 5 for one of
--- size 0, and else the type of its mode
-abbrev pub kind_by : Class → Inode → ℕ
-kind_by Free i = 0
-kind_by Partial i = 0
-kind_by Unknown i = 15
-kind_by Dir i = if i.size == 0 then 5 else 4
-kind_by File i = type_of i.mode
 
 class_by : ℕ → Bool → Bool → Class
 class_by kind free bad =
@@ -84,7 +76,7 @@ empty_kind : (b : Bool) → is_dir_kind (if b then 5 else 4) ≡ true
 empty_kind true = refl
 empty_kind false = refl
 
-kind_is_dir : (v : Layout) (i : Inode) (c : Class) → class_of v i ≡ c → is_dir_kind (kind_by c i) ≡ is_directory c
+kind_is_dir : (v : Layout) (i : Inode) (c : Class) → class_of v i ≡ c → is_dir_kind (kind_of c i) ≡ is_directory c
 kind_is_dir v i Free e = refl
 kind_is_dir v i Partial e = refl
 kind_is_dir v i Unknown e = refl
@@ -93,20 +85,20 @@ kind_is_dir v i File e = file_kind v i e
 
 -- kinds that the volume gives say which inodes are directories
 pub dirs_of_kinds : (v : Layout) (image : List ℕ) (kinds : List ℕ) (x : ℕ)
-    → number_at kinds x ≡ kind_by (class_at v image x) (inode_of v image x)
+    → number_at kinds x ≡ kind_of (class_at v image x) (inode_of v image x)
     → dir_at kinds x ≡ is_dir (volume_of v image) x
 unfolding volume_of volume_with
 dirs_of_kinds v image kinds x h = ap (λ k. nat_le 2 x && is_dir_kind k) h ∙ go (nat_le 2 x) (nat_lt x (v.ncg * v.ipg))
   where
     go : (a b : Bool) → (a
-        && is_dir_kind (kind_by (if a && b then class_of v (inode_of v image x) else Free) (inode_of v image x)))
+        && is_dir_kind (kind_of (if a && b then class_of v (inode_of v image x) else Free) (inode_of v image x)))
         ≡ ((a && b) && is_directory (if a && b then class_of v (inode_of v image x) else Free))
     go false b = refl
     go true false = refl
     go true true = kind_is_dir v (inode_of v image x) (class_of v (inode_of v image x)) refl
 
 kind_is_empty : (v : Layout) (i : Inode) (c : Class) → class_of v i ≡ c
-    → (kind_by c i == 5) ≡ (is_directory c && (i.size == 0))
+    → (kind_of c i == 5) ≡ (is_directory c && (i.size == 0))
 kind_is_empty v i Free e = refl
 kind_is_empty v i Partial e = refl
 kind_is_empty v i Unknown e = refl
@@ -119,7 +111,7 @@ kind_is_empty v i File e = (or_parts (type_of i.mode == 4) (type_of i.mode == 5)
 
 -- kinds and marks that the volume gives say which inodes are suspect
 pub suspects_of_kinds : (v : Layout) (image : List ℕ) (kinds : List ℕ) (marked : List Bool) (x : ℕ)
-    → number_at kinds x ≡ kind_by (class_at v image x) (inode_of v image x) → bool_at marked x ≡ marked_at v image x
+    → number_at kinds x ≡ kind_of (class_at v image x) (inode_of v image x) → bool_at marked x ≡ marked_at v image x
     → suspect_at kinds marked x ≡ is_suspect (volume_of v image) x
 unfolding volume_of volume_with
 suspects_of_kinds v image kinds marked x h m = ap (λ b. b || (nat_le 2 x
@@ -127,7 +119,7 @@ suspects_of_kinds v image kinds marked x h m = ap (λ b. b || (nat_le 2 x
     || (nat_le 2 x && (k == 5))) h ∙ ap (λ b. marked_at v image x || b) (go (nat_le 2 x) (nat_lt x (v.ncg * v.ipg))))
   where
     go : (a b : Bool) → (a
-        && (kind_by (if a && b then class_of v (inode_of v image x) else Free) (inode_of v image x) == 5))
+        && (kind_of (if a && b then class_of v (inode_of v image x) else Free) (inode_of v image x) == 5))
         ≡ (((a && b) && is_directory (if a && b then class_of v (inode_of v image x) else Free))
         && ((inode_of v image x).size == 0))
     go false b = refl
