@@ -126,7 +126,7 @@ pub fn walked_blocks(geometry: &Geometry, inode: &Inode, class: Class) -> u64
     }
 }
 
-/// How many of its fifteen addresses an inode may have set: after them all must be zero.
+/// How many of its fifteen addresses an inode may use.
 fn addresses_allowed(geometry: &Geometry, inode: &Inode) -> usize
     ensures value { result ≡ inodes.addresses_allowed geometry.now.layout inode.now }
     ensures bound { result ≤ 15 }

@@ -19,7 +19,7 @@ const FEW_WORDS: u32 = 16;
 /// How many words it looks at together after `FEW_WORDS` that are zero.
 const MANY_WORDS: u32 = 128;
 
-/// The word at an index of an indirect block: an address.
+/// The word at an index of a block.
 #[tactic(auto, unfolding(ffs_volume::specs::Disk::Numbers::number, ffs_volume::specs::Disk::Numbers::u32_at))]
 pub fn word(geometry: &Geometry, block: &[u8], index: u32) -> u32
     requires { 4 * index + 4 ≤ length block.now }
