@@ -103,7 +103,7 @@ fn greatest_size(geometry: &Geometry) -> u64
     (NDADDR + words + squared + cubed) * u64::from(geometry.layout.bsize)
 }
 
-/// How many logical blocks hold the bytes of an inode, by its size alone.
+/// How many logical blocks an inode of its size has.
 #[tactic(auto, using(crate::proofs::Sizes::blocks_small, crate::proofs::Powers::bsize_power))]
 fn logical_blocks_of(geometry: &Geometry, inode: &Inode) -> u64
     ensures value { result ≡ inodes.logical_blocks_of geometry.now.layout inode.now }
