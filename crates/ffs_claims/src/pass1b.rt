@@ -23,7 +23,7 @@ ghost use Rattle.ffs_claims.specs.Rescan.{step_offers_again};
 ghost use Rattle.ffs_claims.specs.Reporting.{CanReport, CanRewalk, ReportsOnly};
 ghost use Rattle.ffs_claims.specs.RescanRuns.{Counted, Rewalks, RunsPay, StepReported, rescan_runs};
 
-use crate::report_claim::report_run;
+use crate::report_offer::report_run;
 use ffs_image::Image;
 use ffs_layout::Geometry;
 use ffs_report::{Heading, Line, OutFault, Output, Report, RunFault};
@@ -31,8 +31,8 @@ use ffs_volume::{Inode, Step};
 use ffs_walk::{Keeping, Walk};
 use ffs_workspace::Workspace;
 
-/// Reports, of the fragments that a step of the current inode keeps, those whose first claim isn't
-/// reported yet.
+/// Reports, of the offers of a step that the current inode keeps, those that are the first kept
+/// offer of a fragment with a DUP line.
 fn report_again<W: Output>(
     workspace: &mut Workspace,
     geometry: &Geometry,
@@ -122,8 +122,8 @@ fn rewalk_inode<I: Image, W: Output>(
     rewalk(workspace, geometry, number, cut, &inode, image, report)
 }
 
-/// Walks over the blocks of the inodes again, until each fragment with a DUP line has its first
-/// claim reported: by a DUP line for the first inode that keeps an offer of it.
+/// Walks over the blocks of the inodes again, until each fragment with a DUP line has its first kept
+/// offer reported: by a DUP line for the first inode that keeps an offer of it.
 ///
 /// The contract gives the text only for a workspace as phase 1 left it.
 ///

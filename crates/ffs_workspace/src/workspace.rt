@@ -34,8 +34,8 @@ pub struct Windows {
 pub struct Workspace {
     /// The fragments that are reserved or claimed.
     pub claimed: FragmentMap,
-    /// The fragments with a DUP line. Phase 1b clears each of which it has reported the first
-    /// claim.
+    /// The fragments with a DUP line. Phase 1b clears each of which it has reported the first kept
+    /// offer.
     pub duplicates: FragmentMap,
     /// What each inode is (`Kind`).
     pub kinds: FixedList<u8>,
@@ -165,7 +165,7 @@ impl Workspace {
         maps + lists + buffers as u64
     }
 
-    /// Whether some fragment has a DUP line and its first claim isn't reported yet.
+    /// Whether some fragment has a DUP line and its first kept offer isn't reported yet.
     pub fn has_dups(&self) -> bool
         ensures { result ≡ has_dups self.now }
     {

@@ -8,7 +8,7 @@ use Rattle.ffs_maps.specs.Bits.{bits_of}
 use Rattle.ffs_claims.specs.Lines.{of_lines}
 use Rattle.ffs_claims.specs.Reporting.{OffersReportedOnly}
 use Rattle.ffs_claims.proofs.Reportings.{Reporting}
-use Rattle.ffs_claims.proofs.report_claim.report_run.Given as goal
+use Rattle.ffs_claims.proofs.report_offer.report_run.Given as goal
 
 abbrev pub invariant-loop-place : goal.invariant-loop-place
 invariant-loop-place g l = record {
