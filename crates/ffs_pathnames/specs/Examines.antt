@@ -10,8 +10,8 @@ use Rattle.ffs_volume.specs.Directories.Roles.{roled_entries}
 use Rattle.ffs_volume.specs.Directories.PathnameCheck.{are_sound}
 use Rattle.ffs_volume.specs.Directories.Volumes.{volume_of}
 use Rattle.ffs_pathnames.specs.declared.examine.DirectorySummary.{DirectorySummary}
-use Rattle.ffs_pathnames.specs.Gathers.{marks_of}
-use Rattle.ffs_pathnames.specs.NameMarks.{are_quiet, after_looks}
+use Rattle.ffs_pathnames.specs.Gathers.{passed_of}
+use Rattle.ffs_pathnames.specs.PassedNames.{are_quiet, after_looks}
 use Rattle.ffs_pathnames.specs.Reads.{start_chunk}
 use Rattle.ffs_pathnames.specs.Stamps.{KeepPlaces}
 use Rattle.ffs_workspace.specs.declared.workspace.Workspace.{Workspace}
@@ -41,6 +41,6 @@ pub record IsExamined (v : Layout) (b : List ℕ) (d : ℕ) (old : Workspace) (e
   pub sound : e.look.sound ≡ are_sound ((volume_of v b).chunks d)
   pub started : find (λ c. c.offset == 0) ((volume_of v b).chunks d) ≡ start_chunk [] e.look.started v.order
       e.look.start
-  pub quiet : e.look.quiet ≡ are_quiet (volume_of v b) d (marks_of old).stamps (roled_entries (volume_of v b) d)
-  pub stamps : (marks_of new).stamps
-      ≡ after_looks (volume_of v b) d (marks_of old).stamps (roled_entries (volume_of v b) d)
+  pub quiet : e.look.quiet ≡ are_quiet (volume_of v b) d (passed_of old).stamps (roled_entries (volume_of v b) d)
+  pub stamps : (passed_of new).stamps
+      ≡ after_looks (volume_of v b) d (passed_of old).stamps (roled_entries (volume_of v b) d)

@@ -9,7 +9,7 @@ ghost use Rattle.ffs_volume.specs.Encodings.ReplayCounts.{replayed_runs};
 ghost use Rattle.ffs_names.specs.Windows.{CanReadChunks};
 ghost use Rattle.ffs_pathnames.specs.Sees.{CanStamp};
 ghost use Rattle.ffs_pathnames.specs.Looks.{IsFirstLook};
-ghost use Rattle.ffs_pathnames.specs.NameMarks as marks;
+ghost use Rattle.ffs_pathnames.specs.PassedNames as names;
 ghost use Rattle.ffs_pathnames.specs.Reads.{start_chunk, ChunksLeave};
 ghost use Rattle.ffs_pathnames.specs.Stamps.{KeepPlaces};
 

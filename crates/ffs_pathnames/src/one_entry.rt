@@ -12,7 +12,7 @@ ghost use Rattle.ffs_report.specs.Progress.{progress};
 ghost use Rattle.ffs_volume.specs.declared.Layout.{Layout};
 ghost use Rattle.ffs_workspace.specs.Lengths.{IsFor};
 ghost use Rattle.ffs_workspace.specs.Holds.{HoldsClaims, HoldsSurvey};
-ghost use Rattle.ffs_pathnames.specs.Gathers.{IsEnough, IsVerdict, AreAsLong, marks_of};
+ghost use Rattle.ffs_pathnames.specs.Gathers.{IsEnough, IsVerdict, AreAsLong, passed_of};
 ghost use Rattle.ffs_pathnames.specs.Gathers.{asks_attr, asks_path, extra_reported, is_silent, plain_lines_by};
 ghost use Rattle.ffs_pathnames.specs.DirectoryContext.{DirectoryContext, KeepsPath, KnowsPath};
 ghost use Rattle.ffs_paths.specs.DirectoryPaths.{IsPathOf};
@@ -169,7 +169,7 @@ fn asks(verdict: &Verdict) -> (bool, bool)
     match verdict {
         Verdict::OutOfRange | Verdict::Whiteout | Verdict::Fine => (false, false),
         Verdict::Unallocated => (true, false),
-        Verdict::Named(faults) => (true, faults.extraneous),
+        Verdict::Named(defects) => (true, defects.extraneous),
     }
 }
 
@@ -308,7 +308,7 @@ fn verdict_of(workspace: &Workspace, dir: u32, entry: &Entry<'_>) -> Verdict
     ensures below { IsTrue (asks_attr result) → entry.now.number < vec_len workspace.now.kinds }
     ensures verdict { (v : Layout) (b : List ℕ) → IsFor v workspace.now
         → HoldsClaims v b workspace.now → HoldsSurvey v b workspace.now
-        → IsVerdict (volume_of v b) dir (marks_of workspace.now) (entry_value entry.now) result }
+        → IsVerdict (volume_of v b) dir (passed_of workspace.now) (entry_value entry.now) result }
 {
     let inodes = Inodes {
         kinds: workspace.kinds.as_slice(),
@@ -331,7 +331,9 @@ fn is_silent(verdict: &Verdict) -> bool
     match verdict {
         Verdict::Fine => true,
         Verdict::OutOfRange | Verdict::Whiteout | Verdict::Unallocated => false,
-        Verdict::Named(faults) => !(faults.suspect || faults.extraneous || faults.kind),
+        Verdict::Named(defects) => {
+            !(defects.first_of_suspect || defects.extraneous || defects.kind)
+        }
     }
 }
 
