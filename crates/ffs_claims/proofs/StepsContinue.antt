@@ -22,7 +22,7 @@ use Rattle.ffs_volume.proofs.Sizes.{no_blocks}
 use Rattle.ffs_report.specs.Progress.{Progress, Said, Stopped}
 use Rattle.ffs_report.proofs.Reports.{stopped_more, said_then, stopped_after}
 use Rattle.ffs_report.specs.Known.{ForBytes}
-use Rattle.ffs_report.specs.Runs.{SaidOf, SaidTo}
+use Rattle.ffs_report.specs.PhaseOutcome.{SaidOf, SaidTo}
 use Rattle.ffs_report.proofs.Reporting.{of_says, of_same}
 use Rattle.ffs_claims.specs.Lines.{of_lines, is_dup, bad_lines}
 

@@ -11,7 +11,7 @@ use Rattle.ffs_volume.specs.Blocks.BlockCheck.{owner_lines}
 use Rattle.ffs_volume.specs.Laws.ClaimBounds.{used_bits, ClaimBound}
 use Rattle.ffs_report.specs.Progress.{Progress, Says}
 use Rattle.ffs_report.specs.Known.{ForBytes, IsContents}
-use Rattle.ffs_report.specs.Runs.{ImageAfter, PhaseReports}
+use Rattle.ffs_report.specs.PhaseOutcome.{ImageAfter, PhaseReports}
 use Rattle.ffs_report.specs.declared.fault.RunFault.{RunFault}
 use Rattle.ffs_workspace.specs.declared.workspace.Workspace.{Workspace}
 use Rattle.ffs_workspace.specs.Holds.{claims_of}

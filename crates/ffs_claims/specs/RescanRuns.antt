@@ -18,7 +18,7 @@ use Rattle.ffs_volume.specs.Encodings.ReplayCounts.{replayed_runs, replay_step_b
 use Rattle.ffs_image.specs.Device.{Device}
 use Rattle.ffs_report.specs.Progress.{Progress}
 use Rattle.ffs_report.specs.Known.{ForBytes, IsContents}
-use Rattle.ffs_report.specs.Runs.{PhaseReports}
+use Rattle.ffs_report.specs.PhaseOutcome.{PhaseReports}
 use Rattle.ffs_report.specs.declared.fault.RunFault.{RunFault}
 use Rattle.ffs_maps.specs.Bits.{bits_of}
 use Rattle.ffs_walk.specs.Keepings.{replay_in, run_taken}

@@ -3,7 +3,7 @@
 ghost use Rattle.std.specs.Prelude.{◌≡◌, ◌+◌, ◌-◌, ◌*◌, ◌<◌, ◌≤◌, ◌^◌, ◌∷◌, OnOk, true, slice_index};
 ghost use Rattle.ffs_report.specs.Progress.{progress, Says};
 ghost use Rattle.ffs_report.specs.Known.{ForBytes, IsContents};
-ghost use Rattle.ffs_report.specs.Runs.{PhaseRuns};
+ghost use Rattle.ffs_report.specs.PhaseOutcome.{PhaseOutcome};
 ghost use Rattle.ffs_volume.specs.Blocks.BlockCheck.{first_offer_lines, phase1b_lines};
 ghost use Rattle.ffs_volume.specs.Messages.Kinds as messages;
 ghost use Rattle.ffs_volume.specs.Blocks.Owners.{owners_of};
@@ -122,8 +122,8 @@ fn rewalk_inode<I: Image, W: Output>(
     rewalk(workspace, geometry, number, cut, &inode, image, report)
 }
 
-/// Walks over the blocks of the inodes again, until each fragment with a DUP line has its first kept
-/// offer reported: by a DUP line for the first inode that keeps an offer of it.
+/// Walks over the blocks of the inodes again, until each fragment with a DUP line has its first
+/// kept offer reported: by a DUP line for the first inode that keeps an offer of it.
 ///
 /// The contract gives the text only for a workspace as phase 1 left it.
 ///
@@ -136,7 +136,7 @@ pub fn phase1b<I: Image, W: Output>(
     report: &mut Report<'_, W>,
 ) -> Result<(), RunFault>
     requires ready { IsReady geometry.now.layout (I.device image.old) workspace.old }
-    ensures prints { PhaseRuns (λ bytes. IsContents (I.device image.old).contents bytes
+    ensures prints { PhaseOutcome (λ bytes. IsContents (I.device image.old).contents bytes
         × HoldsPhase1 geometry.now.layout bytes workspace.old)
         (λ bytes. messages.phase1b ∷ of_lines
         (phase1b_lines geometry.now.layout (owners_of geometry.now.layout bytes)))

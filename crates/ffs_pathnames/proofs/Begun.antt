@@ -16,7 +16,7 @@ use Rattle.ffs_volume.specs.Directories.Roles.{Volume, nth_entry, is_dir, is_ino
 use Rattle.ffs_volume.specs.Directories.Volumes.{volume_of, volume_with}
 use Rattle.ffs_report.specs.Known.{ForBytes}
 use Rattle.ffs_image.specs.Device.{Device, Faulted}
-use Rattle.ffs_report.specs.Runs.{ImageAfter, SaidOf, PhaseReports}
+use Rattle.ffs_report.specs.PhaseOutcome.{ImageAfter, SaidOf, PhaseReports}
 use Rattle.ffs_report.specs.declared.fault.RunFault.{RunFault}
 use Rattle.ffs_report.specs.declared.fault.RunFault.TheVariants.{Read, Out}
 use Rattle.ffs_report.specs.Progress.{Progress}

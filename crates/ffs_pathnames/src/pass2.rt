@@ -2,7 +2,7 @@
 
 ghost use Rattle.std.specs.Prelude.{◌≡◌, ◌+◌, ◌≤◌, ◌⊎◌, [], ◌∷◌, true, OnOk, IfOk, length, map};
 ghost use Rattle.ffs_report.specs.Known.{IsContents, ForBytes};
-ghost use Rattle.ffs_report.specs.Runs.{ImageAfter, PhaseReports};
+ghost use Rattle.ffs_report.specs.PhaseOutcome.{ImageAfter, PhaseReports};
 ghost use Rattle.ffs_report.specs.Progress.{Said, progress};
 ghost use Rattle.ffs_volume.specs.Messages.Kinds as messages;
 ghost use Rattle.ffs_volume.specs.Messages.Kinds.{of_tree};

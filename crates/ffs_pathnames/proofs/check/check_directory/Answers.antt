@@ -4,7 +4,7 @@ use Rattle.ffs_volume.specs.Messages.Kinds.{of_tree}
 use Rattle.ffs_volume.specs.Directories.PathnameCheck.{sized_dir_lines, lines_of_entries}
 use Rattle.ffs_volume.specs.Directories.Roles.{roled_entries}
 use Rattle.ffs_volume.specs.Directories.Volumes.{volume_of}
-use Rattle.ffs_report.specs.Runs.{ImageAfter}
+use Rattle.ffs_report.specs.PhaseOutcome.{ImageAfter}
 use Rattle.ffs_report.proofs.Reporting.{of_begins, of_part, of_fault, of_last, said_knows, reports_knowing}
 use Rattle.ffs_workspace.proofs.Leaving.{leaves_more}
 use Rattle.ffs_pathnames.specs.declared.examine.DirectorySummary.{DirectorySummary}

@@ -5,7 +5,7 @@ use Rattle.ffs_volume.specs.Directories.Parents.{graph_of}
 use Rattle.ffs_volume.specs.Directories.Roles.{roled_from}
 use Rattle.ffs_volume.specs.Directories.Volumes.{volume_of}
 use Rattle.ffs_report.specs.Known.{ForBytes}
-use Rattle.ffs_report.specs.Runs.{SaidOf}
+use Rattle.ffs_report.specs.PhaseOutcome.{SaidOf}
 use Rattle.ffs_report.specs.Progress.{progress}
 use Rattle.ffs_workspace.specs.Leaves.{LeavesSurvey}
 use Rattle.ffs_pathnames.specs.Ready.{ReadyWith}
