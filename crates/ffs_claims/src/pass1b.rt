@@ -68,12 +68,12 @@ fn report_again<W: Output>(
 
 /// Walks over the blocks of an inode again, until nothing is left to report.
 fn rewalk<I: Image, W: Output>(
-    workspace: &mut Workspace,
     geometry: &Geometry,
+    image: &mut I,
+    workspace: &mut Workspace,
     number: u32,
     cut: u32,
     inode: &Inode,
-    image: &mut I,
     report: &mut Report<'_, W>,
 ) -> Result<(), RunFault>
     requires can { CanRewalk geometry.now.layout (I.device image.old) workspace.old number }
@@ -102,10 +102,10 @@ fn rewalk<I: Image, W: Output>(
 
 /// Reads an inode by its number, and walks over its blocks again.
 fn rewalk_inode<I: Image, W: Output>(
-    workspace: &mut Workspace,
     geometry: &Geometry,
-    number: u32,
     image: &mut I,
+    workspace: &mut Workspace,
+    number: u32,
     report: &mut Report<'_, W>,
 ) -> Result<(), RunFault>
     requires can { CanRewalk geometry.now.layout (I.device image.old) workspace.old number }
@@ -119,7 +119,7 @@ fn rewalk_inode<I: Image, W: Output>(
 {
     let inode = workspace.windows.table.inode(geometry, number, image)?;
     let cut = workspace.cut_of(number);
-    rewalk(workspace, geometry, number, cut, &inode, image, report)
+    rewalk(geometry, image, workspace, number, cut, &inode, report)
 }
 
 /// Walks over the blocks of the inodes again, until each fragment with a DUP line has its first
@@ -165,7 +165,7 @@ pub fn phase1b<I: Image, W: Output>(
         if !workspace.has_dups() {
             break;
         }
-        rewalk_inode(workspace, geometry, number, image, report)?;
+        rewalk_inode(geometry, image, workspace, number, report)?;
     }
     Ok(())
 }

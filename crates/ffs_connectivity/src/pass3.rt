@@ -77,7 +77,7 @@ pub fn phase3<I: Image, W: Output>(
     // It was lent for the walks over parents: no place of a parent entry is noted now.
     workspace.queue.fill(0);
     for number in first..geometry.layout.ncg * geometry.layout.ipg {
-        check_inode(workspace, geometry, number, image, report)?;
+        check_inode(geometry, image, workspace, number, report)?;
     }
     Ok(())
 }

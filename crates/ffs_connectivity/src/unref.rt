@@ -25,10 +25,10 @@ use ffs_workspace::Workspace;
 /// # Errors
 /// A read of the image that failed, and a write of the report that failed.
 pub fn check_inode<I: Image, W: Output>(
-    workspace: &mut Workspace,
     geometry: &Geometry,
-    number: u32,
     image: &mut I,
+    workspace: &mut Workspace,
+    number: u32,
     report: &mut Report<'_, W>,
 ) -> Result<(), RunFault>
     requires ready { IsReady geometry.now.layout (I.device image.old) workspace.old }

@@ -70,10 +70,10 @@ fn free_stretch(kinds: &[u8], first: usize) -> usize
 
 /// Reports what is wrong with an allocated inode. It is read only where it has a line.
 fn check_inode<I: Image, W: Output>(
-    workspace: &mut Workspace,
     geometry: &Geometry,
-    number: u32,
     image: &mut I,
+    workspace: &mut Workspace,
+    number: u32,
     report: &mut Report<'_, W>,
 ) -> Result<(), RunFault>
     requires ready { IsReady geometry.now.layout (I.device image.old) workspace.old }
@@ -141,7 +141,7 @@ pub fn phase4<I: Image, W: Output>(
     while number < inodes {
         let free = free_stretch(&workspace.kinds, number as usize);
         if free == 0 {
-            check_inode(workspace, geometry, number, image, report)?;
+            check_inode(geometry, image, workspace, number, report)?;
             number += 1;
         } else {
             number += free as u32;
