@@ -1,5 +1,5 @@
--- How many Runs phase 1b looks at: those that are seen, in order, until each fragment with a Dup line has its first
--- claim reported.
+-- How many Runs phase 1b looks at: those that are seen, in order, until each fragment with a DUP line has its first
+-- kept offer reported.
 use Rattle.std.specs.Prelude.{◌≡◌, ◌<◌, ◌≤◌, ℕ, ◌+◌, ◌-◌, ◌^◌, Bool, List, [], ◌∷◌, ◌++◌, ◌==◌, if◌then◌else◌, map}
 use Rattle.std.specs.Prelude.{Result, OnOk}
 use Rattle.std.specs.List.{range_with_len}

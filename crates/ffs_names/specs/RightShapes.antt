@@ -4,7 +4,7 @@ use Rattle.ffs_volume.specs.declared.constants.TheConstants.{DIRBLKSIZ, MINDIRSI
 use Rattle.ffs_volume.specs.Directories.Roles.{Volume, is_dir}
 use Rattle.ffs_volume.specs.Directories.PathnameCheck.{are_sound}
 
--- no directory is shorter than `.` and `..`, and all have whole chunks
+-- the size of a directory is right: it has room for `.` and `..`, and is in whole chunks
 abbrev pub is_right_size : ℕ → Bool
 is_right_size size = not (nat_lt size MINDIRSIZE) && (size % DIRBLKSIZ == 0)
 

@@ -50,7 +50,8 @@ impl Chunks {
     ghost use Rattle.ffs_walk.specs.Rests.{most_steps_left};
     ghost use Rattle.ffs_names.specs.Readings.{ahead, all_chunks, rest, runs_left, HasSeenAll, IsSame, CanSee, LeavesWalk, LeavesChunks, LeavesReading, Continues, ContinuesTo, GivesChunk, BeginsAt};
 
-    /// A Run is seen. Only one of data that is kept whole, and is in range, has chunks.
+    /// Looks at the Run that comes next in the walk: one of data that is kept whole, and is in
+    /// range, becomes the current Run. Any other has no chunks.
     fn see(&mut self, start: u32, len: u32, block: Option<u64>)
         requires { CanSee self.old (Run start len block) }
         ensures continues { (b : List ℕ) (steps : List Step)
@@ -114,7 +115,7 @@ impl Chunks {
         Ok(true)
     }
 
-    /// Reads the next chunk, whatever the number of chunks that may still come.
+    /// Reads the next chunk, without regard to `budget`.
     #[inline(always)]
     fn read<I: Image>(
         &mut self,
@@ -286,8 +287,9 @@ fn taken_of(size: u64) -> u64
     size.div_ceil(DIRBLKSIZ as u64) * DIRBLKSIZ as u64
 }
 
-/// A reading of a directory looks at no more Runs than the block check sees in it: `Chunks::start`
-/// and `Chunks::next` bound its count by the Runs of the replay, and these are as many.
+/// Does nothing: its contract is the fact that a reading of a directory looks at no more Runs than
+/// the block check sees in it. `Chunks::start` and `Chunks::next` bound its count by the Runs of
+/// the replay, and these are as many.
 pub fn runs_are_seen()
     ensures { RunsAreSeen }
 {}

@@ -31,7 +31,7 @@ pub struct Entries {
     pub chunk: [u8; DIRBLKSIZ],
     /// Where the next entry of the chunk would be, in bytes from its start.
     pub place: usize,
-    /// How many entries of the chunk are before it.
+    /// How many entries of the chunk are before `place`.
     pub index: usize,
     /// Whether the chunk is at the start of the file.
     pub first: bool,

@@ -28,7 +28,8 @@ pub record IsBefore (v : Layout) (contents : Option (List ℕ)) (w : Workspace) 
   pub survey : HoldsSurvey v b w
   pub passed : AreRightBefore (volume_of v b) d (passed_of w)
 
--- a directory that isn't of size 0 and isn't known to be calm; the flag of a marked one says that an entry has named it
+-- a directory that isn't of size 0 and isn't known to be calm. That a marked one is flagged doesn't mean that it is calm,
+-- but that an entry has named it
 abbrev pub is_checked : Workspace → ℕ → Bool
 is_checked w x = (slice_index w.kinds.items x == DT_DIR)
     && (bool_at w.marked.items x || not (bool_at w.flags.items x))

@@ -18,7 +18,7 @@ use Rattle.ffs_pathnames.specs.PassedNames.{are_quiet, after_looks}
 use Rattle.ffs_pathnames.specs.Reads.{start_chunk}
 use Rattle.ffs_pathnames.specs.Header.{header_reported}
 
--- of its size, its Gaps, its chunks and its first two entries
+-- the lines of a directory on its size, its Gaps, its chunks and its first two entries
 unfoldable pub dir_starts : Volume → ℕ → List TreeMessage
 dir_starts v d = header_reported (attributes v d) (dir_path (graph_of v) d) d (parent (graph_of v) d) (v.gap d)
     (are_sound (v.chunks d)) (start_entry v d 0) (start_entry v d 1)

@@ -18,13 +18,13 @@ use Rattle.ffs_workspace.specs.declared.workspace.Workspace.{Workspace}
 use Rattle.ffs_workspace.specs.Leaves.{LeavesSurvey}
 use Rattle.ffs_workspace.specs.Ready.{IsReady}
 
--- what the phases before the pathname check left, the flags, and the places that words note
+-- a call leaves what the phases before the pathname check left, the flags, and the places that words note
 pub record LeavesQueue (old new : Workspace) : Type 0 where
   pub survey : LeavesSurvey old new
   pub flags : new.flags ≡ old.flags
   pub places : KeepPlaces old.queue.items new.queue.items
 
--- what the first look at a directory leaves: the image, but for a read that failed, and all but which
+-- what the first look at a directory leaves: the image, but for a read that failed, and all of the workspace but which
 -- words are due
 pub record ExamineLeaves {T : Type 0} (v : Layout) (d d' : Device) (old new : Workspace)
     (result : Result T ImageFault) : Type 0 where

@@ -26,7 +26,7 @@ pub record PassedNames : Type 0 where
 abbrev pub is_flagged : PassedNames → ℕ → Bool
 is_flagged m x = slice_index_or m.flags x false
 
--- x is no suspect inode, and its flag says that nothing can be reported of it as a directory
+-- x isn't suspect, and its flag says that it is a calm directory
 abbrev pub is_calm : Volume → PassedNames → ℕ → Bool
 is_calm vol m x = not (is_suspect vol x) && is_flagged m x
 

@@ -1,4 +1,4 @@
--- When it is right what a check remembers of the names that it has passed.
+-- What the pathname check remembers of the names that it has passed is right.
 use Rattle.std.specs.Prelude.{◌≡◌, ◌≢◌, ℕ, ◌<◌, true, not, ◌&&◌, ◌||◌, List, length, slice_index}
 use Rattle.std.specs.List.{list_any}
 use Rattle.ffs_volume.specs.declared.constants.TheConstants.{WINO, ROOTINO}

@@ -1,4 +1,4 @@
--- When the paths of directories can be made too.
+-- When paths of directories can be made, too, and what calls leave.
 use Rattle.std.specs.Prelude.{◌≡◌, Result, Ok, Err}
 use Rattle.ffs_image.specs.Device.{Device}
 use Rattle.ffs_volume.specs.declared.Layout.{Layout}

@@ -41,7 +41,7 @@ pub struct FirstLook {
     pub quiet: bool,
     /// Whether all its chunks are sound.
     pub sound: bool,
-    /// Whether a hole of it is kept.
+    /// Whether a hole is among its kept steps.
     pub gap: bool,
     /// Whether a chunk is at the start of the file.
     pub started: bool,

@@ -35,7 +35,8 @@ fn say_suspect<W: Output>(
     say_line(report, &NameLine::Entry(EntryLine::ZeroDir { attr, path }))
 }
 
-/// Says that a directory has another parent entry, and that an inode has another type.
+/// Says of an entry that it isn't the parent entry of the directory that it names, and that its
+/// type isn't that of the inode, each where it is so.
 fn say_links<W: Output>(
     report: &mut Report<'_, W>,
     defects: &EntryDefects,

@@ -24,7 +24,8 @@ pub fn is_bad_whiteout(entry: &Entry<'_>) -> bool
     (entry.number == WINO) != (entry.kind == DT_WHT)
 }
 
-/// Whether an inode is no directory, or this link to it is its parent's, and the first one there.
+/// Whether an inode is no directory, or the entry that names it is its parent entry: it is in the
+/// parent, and the first there (then the inode isn't stamped yet).
 fn is_quiet_link(inodes: &Inodes<'_>, dir: u32, words: &FilledList<u32>, inode: u32) -> bool
     requires inode { inode < length inodes.now.kinds.now }
     requires words { CanStamp inodes.now dir words.now.items }
@@ -149,7 +150,7 @@ pub fn look_chunk(
     let mut quiet = true;
     'entries: while let Some(entry) = entry_at(order, chunk, place) {
         let role = role_of(first, index, &entry);
-        // After an entry with a line the answer for the chunk is known, so no other is asked.
+        // After an entry that isn't quiet the chunk isn't either, so no other entry is asked.
         quiet = quiet && is_quiet(inodes, dir, words, role, &entry);
         stamp(inodes, dir, words, role, &entry);
         place += usize::from(entry.length);

@@ -44,12 +44,12 @@ pub struct DirectoryEntry<'a> {
     pub entry: Entry<'a>,
 }
 
-/// The texts of the lines of entries, which those of the next entry are written over.
+/// The texts that lines of entries show: those of an entry are written over the ones before.
 #[derive(Drop)]
 pub struct EntryTexts {
     /// What is kept from the path of one directory to that of the next.
     pub siblings: Siblings,
-    /// Whether the path of the directory that the entries are in is there: the first line makes it.
+    /// Whether the path of the directory that the entries are in was made: the first line makes it.
     pub begun: bool,
     /// The path of the entry.
     pub paths: EntryPaths,
@@ -79,7 +79,8 @@ impl EntryTexts {
 }
 
 /// Makes the path of a directory for the lines on its entries. It is apart from `begin_paths`,
-/// since a function clears the room of its locals each time that it is entered.
+/// which is called for each line: a function clears the room of its locals each time that it is
+/// entered, and those here are large.
 #[inline(never)]
 fn make_paths<I: Image>(
     geometry: &Geometry,
@@ -107,7 +108,7 @@ fn make_paths<I: Image>(
     Ok(())
 }
 
-/// Makes the path of a directory for the lines on its entries, where it isn't there.
+/// Makes the path of a directory for the lines on its entries, where it wasn't made yet.
 #[inline(always)]
 fn begin_paths<I: Image>(
     geometry: &Geometry,
@@ -199,8 +200,8 @@ fn gather_path<I: Image>(
     siblings.put_path(geometry, image, workspace, dir, &mut texts.directory)
 }
 
-/// Gathers what the messages on an entry show, where the path of its directory is made: the two
-/// paths into `texts`, and the attributes of the inode that it names.
+/// Gathers what the messages on an entry show, once the path of its directory is made: the entry's
+/// path and that of the directory that it names into `texts`, and the attributes of its inode.
 #[inline(always)]
 fn gather<I: Image>(
     geometry: &Geometry,
@@ -244,7 +245,7 @@ fn gather<I: Image>(
 }
 
 /// Gathers what the messages on an entry of a directory show, and makes the path of that directory
-/// where it isn't there.
+/// where it wasn't made yet.
 #[inline(always)]
 fn gather_entry<I: Image>(
     geometry: &Geometry,

@@ -27,8 +27,8 @@ use ffs_report::{Output, Report, RunFault};
 use ffs_volume::constants::{DT_DIR, ROOTINO};
 use ffs_workspace::Workspace;
 
-/// Whether an inode is a directory that isn't of size 0 and isn't known to be calm. The flag of a
-/// marked one says that an entry has named it.
+/// Whether an inode is a directory that isn't of size 0 and isn't known to be calm. That a marked
+/// one is flagged doesn't mean that it is calm, but that an entry has named it.
 fn is_checked(workspace: &Workspace, number: u32) -> bool
     requires kinds { number < vec_len workspace.now.kinds }
     requires lists { AreAsLong workspace.now }

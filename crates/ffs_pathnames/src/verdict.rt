@@ -98,9 +98,9 @@ pub fn entry_verdict(
     Verdict::Named(defects_of(inodes, dir, flags, words, entry))
 }
 
-/// Passes a plain entry: flags the inode that it names, if that is suspect (the flag of any other
-/// says that it is calm), and takes its stamp away where it is the directory's: its parent entry is
-/// passed by its word, whose place stays.
+/// Passes a plain entry of `dir`. The inode that it names is flagged, if it is suspect (the flag of
+/// any other says that it is calm). If it is stamped by `dir`, its parent entry isn't due any more:
+/// its word says so, and keeps its place.
 pub fn pass(
     inodes: &Inodes<'_>,
     dir: u32,

@@ -53,7 +53,7 @@ pub record Comes (todo : ℕ → Option ℕ) (reached : List Bool) (parents queu
   pub queued : (x : ℕ) → occurrences x queue' + bit (is_some (todo' x) && not (bool_at reached' x))
       ≡ occurrences x queue + bit (is_some (todo x) && not (bool_at reached x))
 
--- how many of these entries that count name x, and whether a plain one does
+-- how many of these entries refer to x, and whether a plain one names it
 abbrev pub count_in : List RoledEntry → ℕ → ℕ
 count_in rest x = count_by (refers x) rest
 
