@@ -8,7 +8,6 @@ pub mod KeepingOwners
 pub mod KeepingWhole
 pub mod SilentLaws
 pub mod DupLines
-pub mod DupMap
 pub mod Lost
 pub mod Links
 pub mod ReportLaws

@@ -14,7 +14,7 @@ use Rattle.ffs_report.specs.Sink.{Sink}
 use Rattle.ffs_report.specs.Progress.{Progress, Said, Stopped, starts}
 use Rattle.ffs_report.proofs.Reports.{has_defect-append, stopped_more}
 use Rattle.ffs_report.specs.Known.{ForBytes, IsContents}
-use Rattle.ffs_report.specs.Runs.{ImageAfter}
+use Rattle.ffs_report.specs.PhaseOutcome.{ImageAfter}
 use Rattle.ffs_report.specs.declared.fault.RunFault.{RunFault}
 use Rattle.ffs_report.specs.declared.fault.RunFault.TheVariants.{Read, Out}
 use Rattle.ffs_pathnames.specs.declared.pass2.Root.{Root}

@@ -5,7 +5,7 @@ use Rattle.ffs_image.specs.Device.{Device}
 use Rattle.ffs_volume.specs.Disk.Superblock.{Superblock}
 use Rattle.ffs_volume.specs.Report.Whole.{phase_lines, later_phase_lines}
 use Rattle.ffs_report.specs.Known.{ForBytes}
-use Rattle.ffs_report.specs.Runs.{ImageAfter}
+use Rattle.ffs_report.specs.PhaseOutcome.{ImageAfter}
 use Rattle.ffs_report.specs.declared.fault.RunFault.{RunFault}
 use Rattle.ffs_report.specs.declared.fault.RunFault.TheVariants.{Read, Out}
 use Rattle.ffs_check.specs.Rest.{phase1_part, from_phase1b}

@@ -11,7 +11,7 @@ use Rattle.ffs_volume.specs.Directories.PathnameCheck.{root_lines}
 use Rattle.ffs_volume.specs.Directories.PathnameCheck.{root_lines_of}
 use Rattle.ffs_report.specs.Progress.{Progress, Said}
 use Rattle.ffs_report.specs.Known.{ForBytes}
-use Rattle.ffs_report.specs.Runs.{PhaseReports}
+use Rattle.ffs_report.specs.PhaseOutcome.{PhaseReports}
 use Rattle.ffs_report.specs.declared.fault.RunFault.{RunFault}
 use Rattle.ffs_report.specs.declared.fault.RunFault.TheVariants.{Read, Out}
 use Rattle.ffs_report.proofs.Reporting.{of_says, of_fault, reports_knowing}

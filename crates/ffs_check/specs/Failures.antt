@@ -26,7 +26,7 @@ WritesFailed (Refused fault) old new = new ≡ old
 WritesFailed (ReadFault sector) old new = new ≡ old
 WritesFailed WriteFault old new = Rose old new
 
--- of an image and of an output
+-- what an end says of the failed reads of an image and the failed writes of an output
 pub record HaveFailed (end : End) (image image' : Device) (out out' : Sink) : Type 0 where
   pub reads : ReadsFailed end image.failures image'.failures
   pub writes : WritesFailed end out.failures out'.failures

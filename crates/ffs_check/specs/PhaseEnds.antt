@@ -12,7 +12,7 @@ use Rattle.ffs_volume.specs.Report.Whole.{end_by, phase_lines}
 use Rattle.ffs_report.specs.Sink.{Sink}
 use Rattle.ffs_report.specs.Progress.{Progress, Said, Stopped}
 use Rattle.ffs_report.specs.Known.{ForBytes, IsContents}
-use Rattle.ffs_report.specs.Runs.{SaidOf, StoppedOf}
+use Rattle.ffs_report.specs.PhaseOutcome.{SaidOf, StoppedOf}
 use Rattle.ffs_report.specs.declared.fault.RunFault.{RunFault}
 use Rattle.ffs_report.specs.declared.fault.RunFault.TheVariants.{Read, Out}
 use Rattle.ffs_pathnames.specs.declared.pass2.Root.{Root}

@@ -67,8 +67,7 @@ from_phase1b image s = phase1b_part image s ++ from_phase2 image s
 abbrev pub IsBeforePhase1 : Layout → Device → Workspace → List ℕ → Type 0
 IsBeforePhase1 v d w bytes = IsContents d.contents bytes × IsFresh v w
 
--- after phase 1: the image gives the bytes, and the workspace holds what the block check found, and whether it looks
--- again
+-- after phase 1: the image gives the bytes, and the workspace holds what phase 1 found, and whether phase 1b runs
 abbrev pub IsAfterPhase1 : Layout → Device → Workspace → List ℕ → Type 0
 IsAfterPhase1 v d w bytes = IsContents d.contents bytes × HoldsPhase1 v bytes w
     × (has_dups w ≡ has_rescan v (owners_of v bytes))

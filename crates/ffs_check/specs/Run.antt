@@ -96,7 +96,7 @@ abbrev pub FlushedAfter : {S : Type 0} → (S → Result (Unit {0}) Error → S 
 FlushedAfter was_flushed contents old new ran_status status =
     IsUnprinted old new ran_status status ⊎ IsFlushed was_flushed contents old new ran_status status
 
--- the same over a writer, which is flushed after the run
+-- how a run over a writer ends, which is flushed after it
 pub record RunEndsFlushed {I S : Type 0} (device : I → Device) (reads : I → ℕ) (opens : List ℕ → I → Type 0)
     (refuses : List ℕ → OpenFault → Type 0) (was_flushed : S → Result (Unit {0}) Error → S → Type 0)
     (contents : S → Option (List ℕ)) (words : List (List ℕ)) (old new : S) (status : ℕ) : Type 0 where

@@ -13,7 +13,7 @@ use Rattle.ffs_volume.specs.Blocks.BlockCheck.{class_lines, count_lines, owner_l
 use Rattle.ffs_volume.specs.Messages.Kinds.{Message}
 use Rattle.ffs_report.specs.Progress.{Progress, Said, Stopped}
 use Rattle.ffs_report.specs.Known.{ForBytes, IsContents}
-use Rattle.ffs_report.specs.Runs.{SaidOf, StoppedOf}
+use Rattle.ffs_report.specs.PhaseOutcome.{SaidOf, StoppedOf}
 use Rattle.ffs_report.proofs.Reporting.{of_begins, of_says, of_stops}
 use Rattle.ffs_claims.specs.Lines.{of_lines, owner_with, counted_owner}
 use Rattle.ffs_claims.proofs.StepsContinue.{lines_append, no_steps}

@@ -16,7 +16,7 @@ use Rattle.ffs_volume.proofs.ReplayLaws.{counted_same, gaps_seen}
 use Rattle.ffs_report.specs.Progress.{Progress, Said}
 use Rattle.ffs_walk.specs.Keepings.{run_taken}
 use Rattle.ffs_report.specs.Known.{ForBytes}
-use Rattle.ffs_report.specs.Runs.{SaidOf}
+use Rattle.ffs_report.specs.PhaseOutcome.{SaidOf}
 use Rattle.ffs_report.proofs.Reporting.{of_says, of_same}
 use Rattle.ffs_maps.specs.Bits.{bits_of}
 use Rattle.ffs_workspace.specs.declared.workspace.Workspace.{Workspace}

@@ -22,9 +22,9 @@ use Rattle.ffs_volume.proofs.Sizes.{no_blocks}
 use Rattle.ffs_report.specs.Progress.{Progress, Said, Stopped}
 use Rattle.ffs_report.proofs.Reports.{stopped_more, said_then, stopped_after}
 use Rattle.ffs_report.specs.Known.{ForBytes}
-use Rattle.ffs_report.specs.Runs.{SaidOf, SaidTo}
+use Rattle.ffs_report.specs.PhaseOutcome.{SaidOf, SaidTo}
 use Rattle.ffs_report.proofs.Reporting.{of_says, of_same}
-use Rattle.ffs_claims.specs.Lines.{of_lines, is_dup, bad_lines}
+use Rattle.ffs_claims.specs.Lines.{of_lines, has_dup_line, bad_lines}
 
 pub lines_append : (xs ys : List BlockMessage) → of_lines (xs ++ ys) ≡ of_lines xs ++ of_lines ys
 lines_append [] ys = refl
@@ -40,7 +40,7 @@ pub range_more : (j n m : ℕ) → n ≡ m + 1 → range_with_len j n ≡ j ∷ 
 range_more j n m e = rw e (search rules)
 
 -- a dup offer is a fragment of the volume
-pub dup_below : (v : Layout) (s : Claims) (f : ℕ) → is_dup v s f ≡ true → f < v.size
+pub dup_below : (v : Layout) (s : Claims) (f : ℕ) → has_dup_line v s f ≡ true → f < v.size
 dup_below v s f e = in_range_below v f (and_parts (is_fragment_in_range v f) (is_set s.used f)
     (and_parts (nat_lt s.dups 11) _ e).1).0
 

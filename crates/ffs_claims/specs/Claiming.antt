@@ -11,7 +11,7 @@ use Rattle.ffs_volume.specs.Blocks.BlockCheck.{owner_lines}
 use Rattle.ffs_volume.specs.Laws.ClaimBounds.{used_bits, ClaimBound}
 use Rattle.ffs_report.specs.Progress.{Progress, Says}
 use Rattle.ffs_report.specs.Known.{ForBytes, IsContents}
-use Rattle.ffs_report.specs.Runs.{ImageAfter, PhaseReports}
+use Rattle.ffs_report.specs.PhaseOutcome.{ImageAfter, PhaseReports}
 use Rattle.ffs_report.specs.declared.fault.RunFault.{RunFault}
 use Rattle.ffs_workspace.specs.declared.workspace.Workspace.{Workspace}
 use Rattle.ffs_workspace.specs.Holds.{claims_of}
@@ -48,7 +48,8 @@ pub record ClaimsInArea (v : Layout) (old new : Workspace) (area : DataArea) : T
   pub only : ClaimsOnly v old new
   pub only_data : IsDataArea v area
 
--- at most so many Runs are seen in an inode: a Run more that is seen claims a fragment, but for 22
+-- an inode sees no more Runs than fragments were unused before it, and 22: each Run that it sees claims a fragment, but
+-- for its bad Runs and its dup offers
 abbrev pub FewRuns : Layout → Workspace → Workspace → Type 0
 FewRuns v old new = new.runs_seen + used_bits (claims_of old) ≤ old.runs_seen + v.size + 22
 

@@ -19,9 +19,9 @@ use Rattle.ffs_workspace.specs.Lengths.{inodes_of}
 abbrev pub of_lines : List BlockMessage → List Message
 of_lines lines = map of_blocks lines
 
--- an offer is dup and kept: it has a DUP line
-abbrev pub is_dup : Layout → Claims → ℕ → Bool
-is_dup v s f = nat_lt s.dups (MAXDUP + 1) && (is_fragment_in_range v f && is_set s.used f)
+-- an offer of f is dup and kept, and so has a DUP line
+abbrev pub has_dup_line : Layout → Claims → ℕ → Bool
+has_dup_line v s f = nat_lt s.dups (MAXDUP + 1) && (is_fragment_in_range v f && is_set s.used f)
 
 -- what is reported of a dup offer and of a bad Run, the eleventh one or not
 abbrev pub dup_lines : ℕ → ℕ → Bool → List BlockMessage

@@ -9,12 +9,12 @@ use Rattle.ffs_maps.specs.Bits.{bits_of}
 use Rattle.ffs_workspace.specs.declared.workspace.Workspace.{Workspace}
 use Rattle.ffs_workspace.specs.Holds.{bool_at}
 use Rattle.ffs_image.specs.Device.{Device}
-use Rattle.ffs_report.specs.Runs.{ImageAfter}
+use Rattle.ffs_report.specs.PhaseOutcome.{ImageAfter}
 use Rattle.ffs_report.specs.declared.fault.RunFault.{RunFault}
 use Rattle.ffs_workspace.specs.Lengths.{IsFor, inodes_of, set_count}
 use Rattle.ffs_workspace.specs.Ready.{IsReady}
 
--- the fragments whose first claim is still to be reported, after some offers
+-- the fragments whose first kept offer is still to be reported, after some offers
 abbrev pub after_first : List Bool → List Offer → List Bool
 after_first dup [] = dup
 after_first dup (o ∷ os) = after_first (if is_set dup o.fragment then slice_set dup o.fragment false else dup) os
@@ -46,7 +46,7 @@ pub record OffersReportedOnly (v : Layout) (old new : Workspace) : Type 0 where
   pub reporting : ReportsOnly v old new
   pub runs : new.runs_again ≡ old.runs_again
 
--- first claims can be reported of an inode: the workspace was made for the volume, and the inode has a number
+-- first kept offers of an inode can be reported: the workspace was made for the volume, and the inode has a number
 pub record CanReport (v : Layout) (w : Workspace) (number : ℕ) : Type 0 where
   pub made : IsFor v w
   pub number_fits : number < inodes_of v

@@ -1,4 +1,4 @@
-//! The data fragments round the last Run in range.
+//! The data area: data fragments around the last Run that was in range.
 
 ghost use Rattle.std.specs.Prelude.{◌≡◌, ◌<◌, ◌↔◌, IsTrue, true, ℕ};
 ghost use Rattle.ffs_volume.specs.declared.Layout.{Layout};
@@ -25,7 +25,8 @@ impl DataArea {
         DataArea { start: 0, end: 0 }
     }
 
-    /// The data fragments before the metadata of a Run's group, or after it, as the Run is.
+    /// The data fragments of a Run's group: those before the metadata of the group, if the Run lies
+    /// there, and else those after it.
     #[tactic(auto, using(ffs_volume::proofs::AreaLaws::group_below))]
     fn around(geometry: &Geometry, start: u32) -> DataArea
         requires inside { start < geometry.now.layout.size }

@@ -19,7 +19,7 @@ mod lines;
 mod offer;
 mod pass1;
 mod pass1b;
-mod report_claim;
+mod report_offer;
 mod reserve;
 mod store;
 mod words;

@@ -10,7 +10,7 @@ ghost use Rattle.ffs_report.specs.Progress.{progress, Says};
 ghost use Rattle.ffs_workspace.specs.Holds.{claims_of};
 ghost use Rattle.ffs_walk.specs.Counts.{entered};
 ghost use Rattle.ffs_claims.specs.Leaves.{AreClaims, CanOffer, HasRoomForOffers, OffersOnly};
-ghost use Rattle.ffs_claims.specs.Lines.{of_lines, is_dup};
+ghost use Rattle.ffs_claims.specs.Lines.{of_lines, has_dup_line};
 ghost use Rattle.ffs_claims.specs.Claiming.{ClaimsStep, SeesNext};
 
 use crate::area::DataArea;
@@ -39,7 +39,8 @@ fn fragment_in_range(geometry: &Geometry, fragment: u64, in_range: bool) -> bool
     in_range || geometry.ok(fragment)
 }
 
-/// Takes an offer, and says whether it is dup. `in_range` says that its Run is in range.
+/// Takes an offer, and says whether it is dup and kept, and so has a DUP line. `in_range` says that
+/// its Run is in range.
 #[inline(always)]
 #[tactic(auto, using(ffs_volume::proofs::Potentials::in_range_below))]
 fn take(workspace: &mut Workspace, geometry: &Geometry, fragment: u64, in_range: bool) -> bool
@@ -47,7 +48,7 @@ fn take(workspace: &mut Workspace, geometry: &Geometry, fragment: u64, in_range:
         (is_fragment_in_range geometry.now.layout fragment) }
     ensures claims { claims_of workspace.new
         ≡ after_offer geometry.now.layout (claims_of workspace.old) fragment }
-    ensures dup { result ≡ is_dup geometry.now.layout (claims_of workspace.old) fragment }
+    ensures dup { result ≡ has_dup_line geometry.now.layout (claims_of workspace.old) fragment }
     ensures only { OffersOnly geometry.now.layout workspace.old workspace.new }
 {
     if workspace.dups > MAXDUP {

@@ -3,7 +3,7 @@
 ghost use Rattle.std.specs.Prelude.{◌≡◌, ◌+◌, ◌-◌, ◌*◌, ◌<◌, ◌≤◌, ◌^◌, ◌∷◌, OnOk, true, slice_index};
 ghost use Rattle.ffs_report.specs.Progress.{progress, Says};
 ghost use Rattle.ffs_report.specs.Known.{ForBytes, IsContents};
-ghost use Rattle.ffs_report.specs.Runs.{PhaseRuns};
+ghost use Rattle.ffs_report.specs.PhaseOutcome.{PhaseOutcome};
 ghost use Rattle.ffs_volume.specs.Blocks.BlockCheck.{first_offer_lines, phase1b_lines};
 ghost use Rattle.ffs_volume.specs.Messages.Kinds as messages;
 ghost use Rattle.ffs_volume.specs.Blocks.Owners.{owners_of};
@@ -23,7 +23,7 @@ ghost use Rattle.ffs_claims.specs.Rescan.{step_offers_again};
 ghost use Rattle.ffs_claims.specs.Reporting.{CanReport, CanRewalk, ReportsOnly};
 ghost use Rattle.ffs_claims.specs.RescanRuns.{Counted, Rewalks, RunsPay, StepReported, rescan_runs};
 
-use crate::report_claim::report_run;
+use crate::report_offer::report_run;
 use ffs_image::Image;
 use ffs_layout::Geometry;
 use ffs_report::{Heading, Line, OutFault, Output, Report, RunFault};
@@ -31,8 +31,8 @@ use ffs_volume::{Inode, Step};
 use ffs_walk::{Keeping, Walk};
 use ffs_workspace::Workspace;
 
-/// Reports, of the fragments that a step of the current inode keeps, those whose first claim isn't
-/// reported yet.
+/// Reports, of the offers of a step that the current inode keeps, those that are the first kept
+/// offer of a fragment with a DUP line.
 fn report_again<W: Output>(
     workspace: &mut Workspace,
     geometry: &Geometry,
@@ -68,12 +68,12 @@ fn report_again<W: Output>(
 
 /// Walks over the blocks of an inode again, until nothing is left to report.
 fn rewalk<I: Image, W: Output>(
-    workspace: &mut Workspace,
     geometry: &Geometry,
+    image: &mut I,
+    workspace: &mut Workspace,
     number: u32,
     cut: u32,
     inode: &Inode,
-    image: &mut I,
     report: &mut Report<'_, W>,
 ) -> Result<(), RunFault>
     requires can { CanRewalk geometry.now.layout (I.device image.old) workspace.old number }
@@ -102,10 +102,10 @@ fn rewalk<I: Image, W: Output>(
 
 /// Reads an inode by its number, and walks over its blocks again.
 fn rewalk_inode<I: Image, W: Output>(
-    workspace: &mut Workspace,
     geometry: &Geometry,
-    number: u32,
     image: &mut I,
+    workspace: &mut Workspace,
+    number: u32,
     report: &mut Report<'_, W>,
 ) -> Result<(), RunFault>
     requires can { CanRewalk geometry.now.layout (I.device image.old) workspace.old number }
@@ -119,11 +119,11 @@ fn rewalk_inode<I: Image, W: Output>(
 {
     let inode = workspace.windows.table.inode(geometry, number, image)?;
     let cut = workspace.cut_of(number);
-    rewalk(workspace, geometry, number, cut, &inode, image, report)
+    rewalk(geometry, image, workspace, number, cut, &inode, report)
 }
 
 /// Walks over the blocks of the inodes again, until each fragment with a DUP line has its first
-/// claim reported: by a DUP line for the first inode that keeps an offer of it.
+/// kept offer reported: by a DUP line for the first inode that keeps an offer of it.
 ///
 /// The contract gives the text only for a workspace as phase 1 left it.
 ///
@@ -136,7 +136,7 @@ pub fn phase1b<I: Image, W: Output>(
     report: &mut Report<'_, W>,
 ) -> Result<(), RunFault>
     requires ready { IsReady geometry.now.layout (I.device image.old) workspace.old }
-    ensures prints { PhaseRuns (λ bytes. IsContents (I.device image.old).contents bytes
+    ensures prints { PhaseOutcome (λ bytes. IsContents (I.device image.old).contents bytes
         × HoldsPhase1 geometry.now.layout bytes workspace.old)
         (λ bytes. messages.phase1b ∷ of_lines
         (phase1b_lines geometry.now.layout (owners_of geometry.now.layout bytes)))
@@ -165,7 +165,7 @@ pub fn phase1b<I: Image, W: Output>(
         if !workspace.has_dups() {
             break;
         }
-        rewalk_inode(workspace, geometry, number, image, report)?;
+        rewalk_inode(geometry, image, workspace, number, report)?;
     }
     Ok(())
 }

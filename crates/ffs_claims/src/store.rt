@@ -23,6 +23,7 @@ pub fn begin(workspace: &mut Workspace)
     workspace.tail = false;
 }
 
+/// What the list `kinds` holds of an inode of the class.
 #[inline(always)]
 fn kind_of(class: Class, inode: &Inode) -> u8
     ensures { result ≡ kind_of class inode.now }
@@ -35,6 +36,7 @@ fn kind_of(class: Class, inode: &Inode) -> u8
     }
 }
 
+/// Whether the current inode, of the class, is marked.
 #[inline(always)]
 fn is_marked(workspace: &Workspace, class: Class) -> bool
     ensures { result ≡ (is_unknown class || has_blame (claims_of workspace.now)) }
@@ -46,6 +48,7 @@ fn is_marked(workspace: &Workspace, class: Class) -> bool
     }
 }
 
+/// How many offers the current inode keeps, where its eleventh dup offer cut it, else 0.
 #[inline(always)]
 fn cut_of(workspace: &Workspace) -> u32
     ensures { result ≡ min (cut_of (claims_of workspace.now)) 4294967295 }
@@ -80,8 +83,8 @@ fn store_note(list: &mut FilledList<u32>, number: usize, note: u32)
     }
 }
 
-/// The same for where the count of an inode's references starts: memory is touched only for inodes
-/// that are in use.
+/// Sets where the count of an inode's references starts, in the same way: memory is touched only
+/// for inodes that are in use.
 #[inline(always)]
 fn store_start(list: &mut FilledList<u64>, number: usize, start: u64)
     requires { number < vec_len list.old }

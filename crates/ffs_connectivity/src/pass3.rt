@@ -3,7 +3,7 @@
 ghost use Rattle.std.specs.Prelude.{◌≡◌, ◌+◌, ◌<◌, ◌≤◌, ◌^◌, ◌∷◌, length, map};
 ghost use Rattle.ffs_report.specs.Progress.{progress};
 ghost use Rattle.ffs_report.specs.Known.{ForBytes, IsContents};
-ghost use Rattle.ffs_report.specs.Runs.{PhaseRuns};
+ghost use Rattle.ffs_report.specs.PhaseOutcome.{PhaseOutcome};
 ghost use Rattle.ffs_volume.specs.Directories.Connectivity.{connectivity_lines};
 ghost use Rattle.ffs_volume.specs.Messages.Kinds as messages;
 ghost use Rattle.ffs_volume.specs.Messages.Kinds.{of_tree};
@@ -49,7 +49,7 @@ pub fn phase3<I: Image, W: Output>(
     report: &mut Report<'_, W>,
 ) -> Result<(), RunFault>
     requires ready { IsReady geometry.now.layout (I.device image.old) workspace.old }
-    ensures prints { PhaseRuns (λ bytes. IsContents (I.device image.old).contents bytes
+    ensures prints { PhaseOutcome (λ bytes. IsContents (I.device image.old).contents bytes
         × HoldsClaims geometry.now.layout bytes workspace.old
         × HoldsSurvey geometry.now.layout bytes workspace.old)
         (λ bytes. messages.phase3 ∷ map of_tree
@@ -77,7 +77,7 @@ pub fn phase3<I: Image, W: Output>(
     // It was lent for the walks over parents: no place of a parent entry is noted now.
     workspace.queue.fill(0);
     for number in first..geometry.layout.ncg * geometry.layout.ipg {
-        check_inode(workspace, geometry, number, image, report)?;
+        check_inode(geometry, image, workspace, number, report)?;
     }
     Ok(())
 }

@@ -3,7 +3,7 @@
 ghost use Rattle.std.specs.Prelude.{◌≡◌, ◌+◌, ◌<◌, ◌≤◌, length, map};
 ghost use Rattle.ffs_report.specs.Progress.{progress};
 ghost use Rattle.ffs_report.specs.Known.{ForBytes, IsContents};
-ghost use Rattle.ffs_report.specs.Runs.{PhaseRuns};
+ghost use Rattle.ffs_report.specs.PhaseOutcome.{PhaseOutcome};
 ghost use Rattle.ffs_volume.specs.Messages.Kinds.{of_tree};
 ghost use Rattle.ffs_volume.specs.Directories.Volumes.{volume_of};
 ghost use Rattle.ffs_workspace.specs.Holds.{HoldsClaims, HoldsSurvey};
@@ -25,16 +25,16 @@ use ffs_workspace::Workspace;
 /// # Errors
 /// A read of the image that failed, and a write of the report that failed.
 pub fn check_inode<I: Image, W: Output>(
-    workspace: &mut Workspace,
     geometry: &Geometry,
-    number: u32,
     image: &mut I,
+    workspace: &mut Workspace,
+    number: u32,
     report: &mut Report<'_, W>,
 ) -> Result<(), RunFault>
     requires ready { IsReady geometry.now.layout (I.device image.old) workspace.old }
     requires number { (2 ≤ number) × (number < inodes_of geometry.now.layout) }
     requires leaders { HasLeaders workspace.old }
-    ensures prints { PhaseRuns (λ bytes. IsContents (I.device image.old).contents bytes
+    ensures prints { PhaseOutcome (λ bytes. IsContents (I.device image.old).contents bytes
         × HoldsClaims geometry.now.layout bytes workspace.old
         × HoldsSurvey geometry.now.layout bytes workspace.old)
         (λ bytes. map of_tree (unref_dir_lines (volume_of geometry.now.layout bytes) number))

@@ -12,7 +12,7 @@ pub record HasElements (w : Workspace) (number : ℕ) : Type 0 where
   pub references : number < vec_len w.references
 
 -- so many inodes from one on are free, and there are none only where that one is allocated
-pub record IsFreeRun (kinds : List ℕ) (first n : ℕ) : Type 0 where
+pub record IsFreeStretch (kinds : List ℕ) (first n : ℕ) : Type 0 where
   pub within : first + n ≤ length kinds
   pub free : (k : ℕ) → k < n → is_allocated (class_in kinds (first + k)) ≡ false
   pub used : n ≡ 0 → is_allocated (class_in kinds first) ≡ true

@@ -6,13 +6,13 @@ ghost use Rattle.ffs_volume.specs.Directories.ReferenceCheck.{reference_lines_at
 ghost use Rattle.ffs_volume.specs.Directories.Volumes.{volume_of};
 ghost use Rattle.ffs_report.specs.Progress.{progress};
 ghost use Rattle.ffs_report.specs.Known.{ForBytes, IsContents};
-ghost use Rattle.ffs_report.specs.Runs.{PhaseRuns};
+ghost use Rattle.ffs_report.specs.PhaseOutcome.{PhaseOutcome};
 ghost use Rattle.ffs_workspace.specs.Holds.{HoldsFindings};
 ghost use Rattle.ffs_volume.specs.Blocks.Inodes.{is_allocated};
 ghost use Rattle.ffs_volume.specs.Encodings.Kinds.{class_of_kind};
 ghost use Rattle.ffs_workspace.specs.Lengths.{inodes_of};
 ghost use Rattle.ffs_workspace.specs.Ready.{IsReady, StaysReady};
-ghost use Rattle.ffs_counts.specs.Ready.{HasElements, IsFreeRun};
+ghost use Rattle.ffs_counts.specs.Ready.{HasElements, IsFreeStretch};
 ghost use Rattle.ffs_counts.specs.References.{is_dead_by, is_met};
 
 use crate::reference::{line_for, references_by, say_line};
@@ -48,39 +48,39 @@ fn is_right(workspace: &Workspace, number: u32) -> bool
 }
 
 /// How many free inodes are passed over at once.
-const FREE_RUN: usize = 64;
+const FREE_STRETCH: usize = 64;
 
-/// How many inodes from one on are passed over, since they are free: 64, or only the first, or
-/// none.
-fn free_run(kinds: &[u8], first: usize) -> usize
+/// How many inodes from one on are passed over, since they are free: `FREE_STRETCH`, or only the
+/// first, or none.
+fn free_stretch(kinds: &[u8], first: usize) -> usize
     requires { first < length kinds.now }
-    ensures { IsFreeRun kinds.now first result }
+    ensures { IsFreeStretch kinds.now first result }
 {
     if kinds[first] != 0 {
         return 0;
     }
-    if kinds.len() - first < FREE_RUN {
+    if kinds.len() - first < FREE_STRETCH {
         return 1;
     }
-    match are_used(&kinds[first..first + FREE_RUN]) {
-        Some(false) => FREE_RUN,
+    match are_used(&kinds[first..first + FREE_STRETCH]) {
+        Some(false) => FREE_STRETCH,
         _ => 1,
     }
 }
 
 /// Reports what is wrong with an allocated inode. It is read only where it has a line.
 fn check_inode<I: Image, W: Output>(
-    workspace: &mut Workspace,
     geometry: &Geometry,
-    number: u32,
     image: &mut I,
+    workspace: &mut Workspace,
+    number: u32,
     report: &mut Report<'_, W>,
 ) -> Result<(), RunFault>
     requires ready { IsReady geometry.now.layout (I.device image.old) workspace.old }
     requires number { number < inodes_of geometry.now.layout }
     requires used { is_allocated (class_of_kind (slice_index workspace.old.kinds.items number))
         ≡ true }
-    ensures prints { PhaseRuns (λ bytes. IsContents (I.device image.old).contents bytes
+    ensures prints { PhaseOutcome (λ bytes. IsContents (I.device image.old).contents bytes
         × HoldsFindings geometry.now.layout bytes workspace.old)
         (λ bytes. map of_tree (reference_lines_at (volume_of geometry.now.layout bytes) number))
         (I.device image.old) (I.device image.new) (progress W.sink report.old)
@@ -122,7 +122,7 @@ pub fn phase4<I: Image, W: Output>(
     report: &mut Report<'_, W>,
 ) -> Result<(), RunFault>
     requires ready { IsReady geometry.now.layout (I.device image.old) workspace.old }
-    ensures prints { PhaseRuns (λ bytes. IsContents (I.device image.old).contents bytes
+    ensures prints { PhaseOutcome (λ bytes. IsContents (I.device image.old).contents bytes
         × HoldsFindings geometry.now.layout bytes workspace.old)
         (λ bytes. phase4_heading ∷ map of_tree
         (reference_lines (volume_of geometry.now.layout bytes)))
@@ -139,9 +139,9 @@ pub fn phase4<I: Image, W: Output>(
     let inodes = geometry.layout.ncg * geometry.layout.ipg;
     let mut number = 0;
     while number < inodes {
-        let free = free_run(&workspace.kinds, number as usize);
+        let free = free_stretch(&workspace.kinds, number as usize);
         if free == 0 {
-            check_inode(workspace, geometry, number, image, report)?;
+            check_inode(geometry, image, workspace, number, report)?;
             number += 1;
         } else {
             number += free as u32;

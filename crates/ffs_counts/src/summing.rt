@@ -10,7 +10,7 @@ ghost use Rattle.ffs_layout.specs.Super.{superblock_in};
 ghost use Rattle.ffs_maps.specs.Bits.{bits_of};
 ghost use Rattle.ffs_report.specs.Lines.{message_of};
 ghost use Rattle.ffs_report.specs.Progress.{progress};
-ghost use Rattle.ffs_report.specs.Runs.{PhaseRuns};
+ghost use Rattle.ffs_report.specs.PhaseOutcome.{PhaseOutcome};
 ghost use Rattle.ffs_image.specs.Device.{Device};
 ghost use Rattle.ffs_groups.specs.Inodes.{class_in};
 ghost use Rattle.ffs_workspace.specs.Holds.{HoldsClaims};
@@ -115,7 +115,7 @@ pub fn summary<W: Output>(
 ) -> Result<(), RunFault>
     requires { IsFor superblock.now.geometry.layout workspace.now }
     // No image is read: this holds of any image, left as it was. No read's fault is returned.
-    ensures { (device : Device) → PhaseRuns
+    ensures { (device : Device) → PhaseOutcome
         (λ bytes. HoldsClaims superblock.now.geometry.layout bytes workspace.now)
         (λ bytes. summary_of (superblock_in superblock.now)
         (files_of superblock.now.geometry.layout bytes)

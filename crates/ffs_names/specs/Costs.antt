@@ -56,7 +56,7 @@ may_read r = r.right_so_far || nat_lt 0 r.chunks.budget
 abbrev pub entries_to_read : List ℕ → Entries → ℕ
 entries_to_read b r = if may_read r then to_read b r.chunks else 0
 
--- what it has read and needs again is held
+-- what a reading of entries has read and needs again is held
 abbrev pub HoldsEntries : Blocks → Window → Entries → Type 0
 HoldsEntries blocks w r = may_read r ≡ true → HoldsReading blocks w r.chunks
 
@@ -73,6 +73,6 @@ directory_runs v b x = replayed_runs v (cut_at v b x) fresh_replay (steps_of v (
 abbrev pub directory_cost : Layout → List ℕ → ℕ → ℕ
 directory_cost v b x = if is_dir (volume_of v b) x then 1 + directory_runs v b x else 0
 
--- all directories
+-- the same of all directories
 abbrev pub directories_cost : Layout → List ℕ → ℕ
 directories_cost v b = costs_all (directory_cost v b) (v.ncg * v.ipg)

@@ -38,7 +38,7 @@ dir_entries t b d = if is_dir (volume_of t.layout b) d then roled_entries (volum
 abbrev pub dir_right_shape : Base → List ℕ → ℕ → Bool
 dir_right_shape t b = is_right_directory (volume_of t.layout b)
 
--- the windows have room, and hold what the image gives; its lists have a place for each inode
+-- the windows have room, and hold what the image gives; its lists have an entry for each inode
 pub record IsReaderReady (v : Layout) (device : Device) (windows : Windows) (kinds notes : List ℕ) : Type 0 where
   pub volume : v.size * v.fsize ≤ device.size
   pub table : IsTableOf v windows.table

@@ -59,12 +59,12 @@ pub record HasSeenAll (b : List ℕ) (c : Chunks) : Type 0 where
 abbrev pub ahead : Chunks → ℕ
 ahead c = most_steps_left c.walk + (c.run_cursor.count - c.run_cursor.next)
 
--- a count and what is still to be counted: their sum stays, or falls where a u64 has no room for it
+-- the sum of a count and of what is still to be counted: it stays where a u64 has room for it, and never rises
 pub record CountsOn (before after : ℕ) : Type 0 where
   pub most : after ≤ before
   pub all : before < 2 ^ 64 → after ≡ before
 
--- what a reading never changes, the chunks that it may still give, and that its count of Runs never falls
+-- a call leaves what no reading changes, and how many chunks may still come; the count of Runs doesn't fall
 pub record IsSame (old new : Chunks) : Type 0 where
   pub geometry : new.walk.geometry ≡ old.walk.geometry
   pub cut : new.keeping.cut ≡ old.keeping.cut

@@ -11,7 +11,7 @@ abbrev pub cursor_chunks : Layout → List ℕ → RunCursor → List Chunk
 cursor_chunks v b cursor = map (λ k. chunk_of v.order (cursor.offset + 512 * k) (piece (cursor.place + 512 * k) 512 b))
     (range_with_len cursor.next (cursor.count - cursor.next))
 
--- a directory of which this many bytes are read
+-- how a directory is read in an image of these bytes, where this many bytes of it are
 abbrev pub reading_by : Layout → List ℕ → ℕ → ChunkSource
 reading_by v b taken = record { order = v.order; image = b; bsize = v.bsize; fsize = v.fsize; taken = taken }
 

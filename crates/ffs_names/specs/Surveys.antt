@@ -17,7 +17,7 @@ pub record IsUntouched (old new : Workspace) : Type 0 where
   pub runs_seen : new.runs_seen ≡ old.runs_seen
   pub runs_again : new.runs_again ≡ old.runs_again
 
--- `flags` has only directories that the survey found calm, by the kinds and marks of the workspace
+-- `flags` has only calm directories, by the kinds and marks of the workspace
 pub record FlagsCalm (v : Layout) (b : List ℕ) (w : Workspace) : Type 0 where
   pub calm : AreCalm w.kinds.items w.marked.items w.reached.items w.parents.items (roled_entries (volume_of v b))
       (is_right_directory (volume_of v b)) w.flags.items

@@ -5,13 +5,13 @@ ghost use Rattle.ffs_image.specs.Device.{ForContents};
 ghost use Rattle.ffs_volume.specs.Blocks.Inodes as inodes;
 ghost use Rattle.ffs_volume.specs.Disk.Numbers.{piece};
 ghost use Rattle.ffs_volume.specs.Directories.Entries.{bytes_read};
-ghost use Rattle.ffs_volume.specs.declared.Step.{Step as StepIn};
+ghost use Rattle.ffs_volume.specs.declared.Step.{Step};
 ghost use Rattle.ffs_volume.specs.declared.Step.TheVariants.{Run};
 ghost use Rattle.ffs_names.specs.Fits.{CursorFits};
 ghost use Rattle.ffs_names.specs.SeenRuns.{RunsAreSeen};
 ghost use Rattle.ffs_names.specs.Windows.{CanWalkDir, CanReadChunks};
 ghost use Rattle.ffs_survey.specs.Costs.{TakesReads};
-ghost use Rattle.ffs_walk.specs.declared.window.Window.{Window as WindowIn};
+ghost use Rattle.ffs_walk.specs.declared.window.Window.{Window};
 
 use crate::run_cursor::RunCursor;
 use ffs_image::{Image, ImageFault};
@@ -50,10 +50,11 @@ impl Chunks {
     ghost use Rattle.ffs_walk.specs.Rests.{most_steps_left};
     ghost use Rattle.ffs_names.specs.Readings.{ahead, all_chunks, rest, runs_left, HasSeenAll, IsSame, CanSee, LeavesWalk, LeavesChunks, LeavesReading, Continues, ContinuesTo, GivesChunk, BeginsAt};
 
-    /// A Run is seen. Only one of data that is kept whole, and is in range, has chunks.
+    /// Looks at the Run that comes next in the walk: one of data that is kept whole, and is in
+    /// range, becomes the current Run. Any other has no chunks.
     fn see(&mut self, start: u32, len: u32, block: Option<u64>)
         requires { CanSee self.old (Run start len block) }
-        ensures continues { (b : List ℕ) (steps : List StepIn)
+        ensures continues { (b : List ℕ) (steps : List Step)
             → Continues b self.old (Run start len block ∷ steps) self.new steps }
         ensures same { IsSame self.old self.new }
         ensures walk { self.new.walk ≡ self.old.walk }
@@ -90,7 +91,7 @@ impl Chunks {
             → most_steps_left self.new.walk < ahead self.old) }
         ensures runs { OnErr result (ForContents (I.device image.old).contents
             (λ b. self.new.runs + runs_left b self.new ≤ self.old.runs + runs_left b self.old)) }
-        ensures reads { (w : WindowIn) → HoldsReading blocks.old w self.old
+        ensures reads { (w : Window) → HoldsReading blocks.old w self.old
             → ForContents (I.device image.old).contents (λ b. TakesReads (I.reads image.old)
             (I.reads image.new) (to_read b self.old) (to_read b self.new)
             (HoldsReading blocks.new w self.new) result) }
@@ -114,7 +115,7 @@ impl Chunks {
         Ok(true)
     }
 
-    /// Reads the next chunk, whatever the number of chunks that may still come.
+    /// Reads the next chunk, without regard to `budget`.
     #[inline(always)]
     fn read<I: Image>(
         &mut self,
@@ -286,8 +287,9 @@ fn taken_of(size: u64) -> u64
     size.div_ceil(DIRBLKSIZ as u64) * DIRBLKSIZ as u64
 }
 
-/// A reading of a directory looks at no more Runs than the block check sees in it: `Chunks::start`
-/// and `Chunks::next` bound its count by the Runs of the replay, and these are as many.
+/// Does nothing: its contract is the fact that a reading of a directory looks at no more Runs than
+/// the block check sees in it. `Chunks::start` and `Chunks::next` bound its count by the Runs of
+/// the replay, and these are as many.
 pub fn runs_are_seen()
     ensures { RunsAreSeen }
 {}

@@ -3,12 +3,12 @@
 ghost use Rattle.std.specs.Prelude.{◌≡◌, ◌+◌, ◌-◌, ◌*◌, ◌/◌, ◌<◌, ◌≤◌, ◌^◌, ◌∷◌, ℕ, List, [], false, IfOk, IfSome, is_some, MatchOption};
 ghost use Rattle.ffs_image.specs.Device.{ForContents};
 ghost use Rattle.ffs_volume.specs.Blocks.Inodes as inodes;
-ghost use Rattle.ffs_volume.specs.Directories.Entries.{entry_at as entry_in};
+ghost use Rattle.ffs_volume.specs.Directories.Entries.{entry_at};
 ghost use Rattle.ffs_names.specs.RightShapes.{is_right_size};
 ghost use Rattle.ffs_names.specs.Windows.{CanWalkDir, CanReadChunks};
 ghost use Rattle.ffs_survey.specs.Costs.{TakesReads};
-ghost use Rattle.ffs_walk.specs.declared.blocks.Blocks.{Blocks as BlocksIn};
-ghost use Rattle.ffs_walk.specs.declared.window.Window.{Window as WindowIn};
+ghost use Rattle.ffs_walk.specs.declared.blocks.Blocks.{Blocks};
+ghost use Rattle.ffs_walk.specs.declared.window.Window.{Window};
 
 use crate::chunks::Chunks;
 use crate::gap::gap_of;
@@ -31,7 +31,7 @@ pub struct Entries {
     pub chunk: [u8; DIRBLKSIZ],
     /// Where the next entry of the chunk would be, in bytes from its start.
     pub place: usize,
-    /// How many entries of the chunk are before it.
+    /// How many entries of the chunk are before `place`.
     pub index: usize,
     /// Whether the chunk is at the start of the file.
     pub first: bool,
@@ -88,7 +88,7 @@ impl Entries {
     pub fn none(geometry: &Geometry) -> Entries
         ensures entries { (b : List ℕ) → to_come b result ≡ [] }
         ensures reads { (b : List ℕ) → entries_to_read b result ≡ 0 }
-        ensures held { (blocks : BlocksIn) (w : WindowIn) → HoldsEntries blocks w result }
+        ensures held { (blocks : Blocks) (w : Window) → HoldsEntries blocks w result }
         ensures geometry { result.chunks.walk.geometry ≡ geometry.now }
     {
         let inode = Inode {
@@ -127,7 +127,7 @@ impl Entries {
         ensures entries { (b : List ℕ) → to_come b self.new ≡ [] }
         ensures shape { (b : List ℕ) → has_right_shape b self.new ≡ false }
         ensures reads { (b : List ℕ) → entries_to_read b self.new ≡ 0 }
-        ensures held { (blocks : BlocksIn) (w : WindowIn) → HoldsEntries blocks w self.new }
+        ensures held { (blocks : Blocks) (w : Window) → HoldsEntries blocks w self.new }
         ensures geometry { self.new.chunks.walk.geometry ≡ self.old.chunks.walk.geometry }
     {
         self.place = DIRBLKSIZ;
@@ -143,7 +143,7 @@ impl Entries {
             (λ head. (b : List ℕ) → to_come b self.old ≡ roled_of head (last_name self.new)
             ∷ to_come b self.new) }
         ensures left { MatchOption result
-            (is_some (entry_in self.new.order self.new.chunk self.new.place) ≡ false)
+            (is_some (entry_at self.new.order self.new.chunk self.new.place) ≡ false)
             (λ _. left self.new < left self.old) }
         ensures place { IfSome result (λ _. self.old.place < 512) }
         ensures same { IsSameChunk self.old self.new }
@@ -224,7 +224,7 @@ impl Entries {
         requires { CanWalkDir self.old.chunks.walk.geometry.layout (I.device image.old) blocks.old }
         ensures shape { IfOk result (λ right. ForContents (I.device image.old).contents
             (λ b. HasEnded b self.old → right ≡ has_right_shape b self.old)) }
-        ensures reads { (w : WindowIn) → HoldsEntries blocks.old w self.old
+        ensures reads { (w : Window) → HoldsEntries blocks.old w self.old
             → ForContents (I.device image.old).contents (λ b. TakesReads (I.reads image.old)
             (I.reads image.new) (entries_to_read b self.old) (entries_to_read b self.new)
             (HoldsEntries blocks.new w self.new) result) }

@@ -6,7 +6,7 @@ ghost use Rattle.ffs_names.specs.Windows.{CanWalkDir};
 ghost use Rattle.ffs_names.specs.Readings.{gap_left, LeavesWalk};
 ghost use Rattle.ffs_names.specs.Costs.{to_read, HoldsReading};
 ghost use Rattle.ffs_survey.specs.Costs.{TakesReads};
-ghost use Rattle.ffs_walk.specs.declared.window.Window.{Window as WindowIn};
+ghost use Rattle.ffs_walk.specs.declared.window.Window.{Window};
 
 use crate::chunks::Chunks;
 use ffs_image::{Image, ImageFault};
@@ -33,7 +33,7 @@ fn find_gap<I: Image>(
     requires { CanWalkDir chunks.old.walk.geometry.layout (I.device image.old) blocks.old }
     ensures gap { IfOk result (λ g. ForContents (I.device image.old).contents (λ b.
         g ≡ (chunks.old.gap || gap_left b chunks.old))) }
-    ensures reads { (w : WindowIn) → HoldsReading blocks.old w chunks.old
+    ensures reads { (w : Window) → HoldsReading blocks.old w chunks.old
         → ForContents (I.device image.old).contents (λ b. TakesReads (I.reads image.old)
         (I.reads image.new) (to_read b chunks.old) (to_read b chunks.new)
         (HoldsReading blocks.new w chunks.new) result) }
@@ -61,7 +61,7 @@ pub fn gap_of<I: Image>(
     requires { CanWalkDir chunks.old.walk.geometry.layout (I.device image.old) blocks.old }
     ensures gap { IfOk result (λ g. ForContents (I.device image.old).contents (λ b.
         g ≡ (chunks.old.gap || gap_left b chunks.old))) }
-    ensures reads { (w : WindowIn) → HoldsReading blocks.old w chunks.old
+    ensures reads { (w : Window) → HoldsReading blocks.old w chunks.old
         → ForContents (I.device image.old).contents (λ b. TakesReads (I.reads image.old)
         (I.reads image.new) (to_read b chunks.old) (to_read b chunks.new)
         (HoldsReading blocks.new w chunks.new) result) }

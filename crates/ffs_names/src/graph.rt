@@ -16,9 +16,9 @@ use ffs_workspace::Workspace;
 
 /// Finds how often each inode is referred to, which inodes a plain entry names, which directories
 /// are reached from the root, and the parent of each directory. Each directory is read once.
-/// `flags` then has directories of which nothing can be reported, and `queue` notes no place. The
-/// windows change too. What phase 1 left (claims, kinds, marks, notes, counts of Runs) stays as it
-/// was.
+/// `flags` then has the calm directories, of which nothing can be reported, and `queue` notes no
+/// place. The windows change too. What phase 1 left (claims, kinds, marks, notes, counts of Runs)
+/// stays as it was.
 ///
 /// # Errors
 /// A read of the image that failed.

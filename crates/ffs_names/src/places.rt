@@ -28,7 +28,7 @@ use ffs_memory::FilledList;
 use ffs_volume::constants::{DIRBLKSIZ, ROOTINO};
 use ffs_volume::{Class, Order, Role};
 use ffs_workspace::{
-    Table, Windows, Workspace, address_in, due, is_due, passed, place_in, place_of,
+    Table, Windows, Workspace, address_in, due, is_due, noted_chunk, passed, place_of,
 };
 
 /// Whether a directory is the parent of an inode other than the root, which has no parent entry.
@@ -65,7 +65,7 @@ fn note_entry(
     }
     let index = entry.number as usize;
     let word = words[index];
-    if place_in(word).is_none() {
+    if noted_chunk(word).is_none() {
         words.set(index, word + place);
     }
 }
@@ -245,7 +245,7 @@ fn flag_parents(reached: &[bool], parents: &FilledList<u32>, words: &mut FilledL
 }
 
 /// Notes in `queue`, of each directory that is reached from the root, where its parent entry is in
-/// the image (`ffs_workspace::place_in`): then a path takes one read for each of its directories.
+/// the image (`ffs_workspace::place_of`): then a path takes one read for each of its directories.
 /// Each of their parents is read once. No word is due afterwards. The windows change too.
 ///
 /// # Errors
@@ -280,6 +280,7 @@ pub fn note_places<I: Image>(
     flag_parents(&workspace.reached, &workspace.parents, &mut workspace.queue);
     for dir in ROOTINO..geometry.layout.ncg * geometry.layout.ipg {
         let word = workspace.queue[dir as usize];
+        // The bit says here that the chunks of `dir` are to be read (`flag_parents`).
         if is_due(word) {
             workspace.queue.set(dir as usize, passed(word));
             note_directory(geometry, image, workspace, dir)?;

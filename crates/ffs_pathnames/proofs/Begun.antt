@@ -16,7 +16,7 @@ use Rattle.ffs_volume.specs.Directories.Roles.{Volume, nth_entry, is_dir, is_ino
 use Rattle.ffs_volume.specs.Directories.Volumes.{volume_of, volume_with}
 use Rattle.ffs_report.specs.Known.{ForBytes}
 use Rattle.ffs_image.specs.Device.{Device, Faulted}
-use Rattle.ffs_report.specs.Runs.{ImageAfter, SaidOf, PhaseReports}
+use Rattle.ffs_report.specs.PhaseOutcome.{ImageAfter, SaidOf, PhaseReports}
 use Rattle.ffs_report.specs.declared.fault.RunFault.{RunFault}
 use Rattle.ffs_report.specs.declared.fault.RunFault.TheVariants.{Read, Out}
 use Rattle.ffs_report.specs.Progress.{Progress}
@@ -24,12 +24,12 @@ use Rattle.ffs_workspace.specs.declared.workspace.Workspace.{Workspace}
 use Rattle.ffs_pathnames.specs.declared.examine.DirectorySummary.{DirectorySummary}
 use Rattle.ffs_pathnames.specs.Begins.{dir_starts, started_entry, IsDirectoryBegun}
 use Rattle.ffs_pathnames.specs.Examines.{IsExamined, LeavesQueue}
-use Rattle.ffs_pathnames.specs.Gathers.{marks_of}
-use Rattle.ffs_pathnames.specs.NameMarks.{NameMarks, are_quiet, entries_reported, after_entries}
-use Rattle.ffs_pathnames.specs.MarksRight.{AreRightBefore}
+use Rattle.ffs_pathnames.specs.Gathers.{passed_of}
+use Rattle.ffs_pathnames.specs.PassedNames.{PassedNames, are_quiet, entries_reported, after_entries}
+use Rattle.ffs_pathnames.specs.PassedRight.{AreRightBefore}
 use Rattle.ffs_pathnames.specs.Header.{header_reported}
 use Rattle.ffs_pathnames.proofs.FirstPlaces.{size_of}
-use Rattle.ffs_pathnames.proofs.MarkLaws.{IsDirectory, right_reported}
+use Rattle.ffs_pathnames.proofs.PassedLaws.{IsDirectory, right_reported}
 use Rattle.ffs_pathnames.proofs.LookLaws.{quiet_silent}
 use Rattle.ffs_pathnames.proofs.BetweenLaws.{unstamped, looked, looked_right, quiet_next, reported_next}
 use Rattle.ffs_pathnames.proofs.HeaderLaws.{dir_parts}
@@ -95,8 +95,8 @@ starts_are v b d old new e above first second f p q r =
     ∙ ap (λ x. header_reported A P d (parent (graph_of V) d) (V.gap d) (are_sound (V.chunks d)) (start_entry V d 0) x)
     (r ∙ sym (ap (option_and_then (λ c. nth_entry 1 c.entries)) f.started)))))
 
-abbrev marks_with : List Bool → List ℕ → NameMarks
-marks_with flags stamps = record { flags = flags; stamps = stamps }
+abbrev passed_with : List Bool → List ℕ → PassedNames
+passed_with flags stamps = record { flags = flags; stamps = stamps }
 
 pub begun_is : (v : Layout) (b : List ℕ) (d : ℕ) (old new more : Workspace) (e : DirectorySummary) →
     IsExamined v b d old e new → LeavesQueue old new → more ≡ record new { windows = more.windows } →
@@ -104,8 +104,8 @@ pub begun_is : (v : Layout) (b : List ℕ) (d : ℕ) (old new more : Workspace) 
 begun_is v b d old new more e f q m = record {
   inode = f.inode;
   quiet = f.quiet;
-  marks = ap (λ l. marks_with l.items (marks_of more).stamps) (ap (λ (w : Workspace). w.flags) m ∙ q.flags)
-      ∙ ap (λ s. marks_with old.flags.items s) (ap (λ (w : Workspace). (marks_of w).stamps) m ∙ f.stamps);
+  passed = ap (λ l. passed_with l.items (passed_of more).stamps) (ap (λ (w : Workspace). w.flags) m ∙ q.flags)
+      ∙ ap (λ s. passed_with old.flags.items s) (ap (λ (w : Workspace). (passed_of w).stamps) m ∙ f.stamps);
 }
 
 -- a directory among the inodes
@@ -126,36 +126,36 @@ lines_parts v d ms e =
     ∙ map-append of_tree (header_reported (attributes v d) (dir_path (graph_of v) d) d (parent (graph_of v) d)
     (v.gap d) (are_sound (v.chunks d)) (start_entry v d 0) (start_entry v d 1)) ms
 
-pub quiet_lines : (v : Volume) (d : ℕ) (m : NameMarks) → IsDirectory v d → AreRightBefore v d m →
+pub quiet_lines : (v : Volume) (d : ℕ) (m : PassedNames) → IsDirectory v d → AreRightBefore v d m →
     are_quiet v d m.stamps (roled_entries v d) ≡ true → lines_of_entries v d 0 (roled_entries v d) ≡ []
 unfolding size_of
 quiet_lines v d m dir r h = quiet_silent v d [] (roled_entries v d) m.stamps dir refl r.stamps_length
     (unstamped v d m r) h
 
-pub reported_lines : (v : Volume) (d : ℕ) (m : NameMarks) → IsDirectory v d → AreRightBefore v d m →
+pub reported_lines : (v : Volume) (d : ℕ) (m : PassedNames) → IsDirectory v d → AreRightBefore v d m →
     lines_of_entries v d 0 (roled_entries v d) ≡ entries_reported v d (looked v d m) (roled_entries v d)
 unfolding size_of
 reported_lines v d m dir r = right_reported v d [] (roled_entries v d) (looked v d m) dir refl (looked_right v d m r)
 
-pub quiet_parts : (v : Volume) (d : ℕ) (m : NameMarks) → IsDirectory v d → AreRightBefore v d m →
+pub quiet_parts : (v : Volume) (d : ℕ) (m : PassedNames) → IsDirectory v d → AreRightBefore v d m →
     are_quiet v d m.stamps (roled_entries v d) ≡ true →
     map of_tree (dir_starts v d) ≡ map of_tree (sized_dir_lines v d)
 quiet_parts v d m dir r h =
     sym (lines_parts v d [] (quiet_lines v d m dir r h) ∙ append-nil (map of_tree (dir_starts v d)))
 
-pub reported_parts : (v : Volume) (d : ℕ) (m m' : NameMarks) → IsDirectory v d → AreRightBefore v d m → m' ≡ looked v d
+pub reported_parts : (v : Volume) (d : ℕ) (m m' : PassedNames) → IsDirectory v d → AreRightBefore v d m → m' ≡ looked v d
     m →
     map of_tree (sized_dir_lines v d) ≡ map of_tree (dir_starts v d)
     ++ map of_tree (entries_reported v d m' (roled_entries v d))
 reported_parts v d m m' dir r e = lines_parts v d (entries_reported v d m' (roled_entries v d))
     (reported_lines v d m dir r ∙ sym (ap (λ k. entries_reported v d k (roled_entries v d)) e))
 
--- the marks after it
-pub quiet_after : (v : Volume) (d : ℕ) (m m' : NameMarks) → IsDirectory v d → AreRightBefore v d m →
+-- the names that were passed after it
+pub quiet_after : (v : Volume) (d : ℕ) (m m' : PassedNames) → IsDirectory v d → AreRightBefore v d m →
     are_quiet v d m.stamps (roled_entries v d) ≡ true → m' ≡ looked v d m → AreRightBefore v (suc d) m'
 quiet_after v d m m' dir r h e = subst (AreRightBefore v (suc d)) (sym e) (quiet_next v d m dir r h)
 
-pub reported_after : (v : Volume) (d : ℕ) (m m' m'' : NameMarks) → IsDirectory v d → AreRightBefore v d m →
+pub reported_after : (v : Volume) (d : ℕ) (m m' m'' : PassedNames) → IsDirectory v d → AreRightBefore v d m →
     m' ≡ looked v d m → after_entries v d m' (roled_entries v d) ≡ m'' → AreRightBefore v (suc d) m''
 reported_after v d m m' m'' dir r e q = subst (AreRightBefore v (suc d))
     (sym (ap (λ k. after_entries v d k (roled_entries v d)) e) ∙ q) (reported_next v d m dir r)

@@ -1,4 +1,4 @@
--- The marks from one directory to the next.
+-- What is remembered of the names that were passed, from one directory to the next.
 use Rattle.std.specs.Prelude.{◌≡◌, ◌≢◌, ℕ, zero, suc, ◌<◌, ◌≤◌, ◌==◌, Bool, true, false, not, ◌&&◌, ◌||◌, if◌then◌else◌}
 use Rattle.std.specs.Prelude.{refl, List, [], ◌∷◌, ◌++◌, length, slice_index, slice_set, Option, None, Some, nat_lt}
 use Rattle.std.specs.List.{list_any}
@@ -14,11 +14,11 @@ use Rattle.ffs_volume.proofs.ClimbLaws.{is_value-true}
 use Rattle.ffs_volume.specs.Directories.Graph.{Graph, is_naming_entry, is_naming_dir, edge, level, level_edge, parent}
 use Rattle.ffs_volume.specs.Directories.Graph.{parent_by}
 use Rattle.ffs_volume.specs.Directories.Parents.{graph_of}
-use Rattle.ffs_pathnames.specs.NameMarks.{NameMarks, is_calm, after_roled, after_name, after_entries, belongs, after_look}
-use Rattle.ffs_pathnames.specs.NameMarks.{after_looks, are_quiet}
+use Rattle.ffs_pathnames.specs.PassedNames.{PassedNames, is_calm, after_roled, after_name, after_entries, belongs, after_look}
+use Rattle.ffs_pathnames.specs.PassedNames.{after_looks, are_quiet}
 use Rattle.ffs_pathnames.specs.Calm.{IsSilentDirectory}
-use Rattle.ffs_pathnames.specs.MarksRight.{AreRight, AreRightBefore}
-use Rattle.ffs_pathnames.proofs.MarkLaws.{IsDirectory, calm_name, right_after}
+use Rattle.ffs_pathnames.specs.PassedRight.{AreRight, AreRightBefore}
+use Rattle.ffs_pathnames.proofs.PassedLaws.{IsDirectory, calm_name, right_after}
 use Rattle.ffs_pathnames.proofs.LookLaws.{AreStamped, stamped_all, looks_all_long, suspects_unnamed}
 
 -- the parent of a directory names it
@@ -46,12 +46,12 @@ belongs_named v s x h =
     other x z k = let f : false ≡ true = sym (ap not (eq-eqb x 2 z)) ∙ k in cc
 
 -- nothing is stamped before s is looked at
-pub unstamped : (v : Volume) (s : ℕ) (m : NameMarks) → AreRightBefore v s m → AreStamped v s [] m.stamps
+pub unstamped : (v : Volume) (s : ℕ) (m : PassedNames) → AreRightBefore v s m → AreStamped v s [] m.stamps
 unstamped v s m r x h =
     let low = r.stamps x h in
     ne_eqb (slice_index m.stamps x) s (λ z. absurd (omega (arith, z))) ∙ sym (and-false (belongs v s x))
 
-abbrev pub looked : Volume → ℕ → NameMarks → NameMarks
+abbrev pub looked : Volume → ℕ → PassedNames → PassedNames
 looked v s m = record { flags = m.flags; stamps = after_looks v s m.stamps (roled_entries v s) }
 
 due_is : (v : Volume) (s x : ℕ) → (belongs v s x && list_any (is_naming_entry x) (roled_entries v s))
@@ -62,10 +62,10 @@ due_is v s x = one (belongs v s x) refl
     one true h = belongs_named v s x h
     one false h = refl
 
--- once s is looked at, the marks are right before its first entry
-pub looked_right : (v : Volume) (s : ℕ) (m : NameMarks) → AreRightBefore v s m → AreRight v s [] (looked v s m)
+-- once s is looked at, what is remembered is right before its first entry
+pub looked_right : (v : Volume) (s : ℕ) (m : PassedNames) → AreRightBefore v s m → AreRight v s [] (looked v s m)
 looked_right v s m r = record {
-  passed = λ x h q n o. r.passed x h q n o ∙ sym (or-false (some_below (λ t. is_naming_dir (graph_of v) t x) s));
+  named = λ x h q n o. r.named x h q n o ∙ sym (or-false (some_below (λ t. is_naming_dir (graph_of v) t x) s));
   due = λ x h. stamped_all v s [] (roled_entries v s) m.stamps r.stamps_length (unstamped v s m r) x h ∙ due_is v s x;
   flags_length = r.flags_length;
   stamps_length = looks_all_long v s (roled_entries v s) m.stamps ∙ r.stamps_length;
@@ -93,7 +93,7 @@ looks_small v s (e ∷ es) stamps x h =
     one true = set_small s e.entry.number s x stamps (omega arith) h
     one false = h
 
-pub entries_small : (v : Volume) (s : ℕ) (es : List RoledEntry) (m : NameMarks) (x : ℕ) → slice_index m.stamps x ≤ s →
+pub entries_small : (v : Volume) (s : ℕ) (es : List RoledEntry) (m : PassedNames) (x : ℕ) → slice_index m.stamps x ≤ s →
     slice_index (after_entries v s m es).stamps x ≤ s
 entries_small v s [] m x h = h
 entries_small v s (e ∷ es) m x h =
@@ -108,7 +108,7 @@ entries_small v s (e ∷ es) m x h =
     one false = h
 
 -- CALM DIRECTORIES STAY SO
-entries_calm : (v : Volume) (s : ℕ) (es : List RoledEntry) (m : NameMarks) (x : ℕ) → is_calm v (after_entries v s m es)
+entries_calm : (v : Volume) (s : ℕ) (es : List RoledEntry) (m : PassedNames) (x : ℕ) → is_calm v (after_entries v s m es)
     x
     ≡ is_calm v m x
 entries_calm v s [] m x = refl
@@ -120,7 +120,7 @@ entries_calm v s (e ∷ es) m x =
     one false = refl
 
 -- THE NEXT DIRECTORY
-pub right_end : (v : Volume) (s : ℕ) (done es : List RoledEntry) (m : NameMarks) → 2 ≤ s → AreRight v s done m →
+pub right_end : (v : Volume) (s : ℕ) (done es : List RoledEntry) (m : PassedNames) → 2 ≤ s → AreRight v s done m →
     AreRight v s (done ++ es) (after_entries v s m es)
 right_end v s done [] m two r = subst (λ l. AreRight v s l m) (sym (append-nil done)) r
 right_end v s done (e ∷ es) m two r =
@@ -131,12 +131,12 @@ small_next : (s k : ℕ) → k ≤ s → k < suc s
 small_next s k h = omega arith
 
 -- after a directory of which all entries were passed
-pub reported_next : (v : Volume) (s : ℕ) (m : NameMarks) → IsDirectory v s → AreRightBefore v s m →
+pub reported_next : (v : Volume) (s : ℕ) (m : PassedNames) → IsDirectory v s → AreRightBefore v s m →
     AreRightBefore v (suc s) (after_entries v s (looked v s m) (roled_entries v s))
 reported_next v s m d r =
     let whole = right_end v s [] (roled_entries v s) (looked v s m) d.from_two (looked_right v s m r) in
     record {
-      passed = λ x h q n o. whole.passed x h q n o
+      named = λ x h q n o. whole.named x h q n o
           ∙ sym (some_below-suc (λ t. is_naming_dir (graph_of v) t x) s
           ∙ ap (λ b. some_below (λ t. is_naming_dir (graph_of v) t x) s ||
           (b && list_any (is_naming_entry x) (roled_entries v s)))
@@ -153,10 +153,10 @@ reported_next v s m d r =
     small x h = omega arith
 
 -- after a directory of which nothing is reported
-pub quiet_next : (v : Volume) (s : ℕ) (m : NameMarks) → IsDirectory v s → AreRightBefore v s m →
+pub quiet_next : (v : Volume) (s : ℕ) (m : PassedNames) → IsDirectory v s → AreRightBefore v s m →
     are_quiet v s m.stamps (roled_entries v s) ≡ true → AreRightBefore v (suc s) (looked v s m)
 quiet_next v s m d r h = record {
-  passed = λ x l q n o. r.passed x l q n o
+  named = λ x l q n o. r.named x l q n o
       ∙ sym (some_below-suc (λ t. is_naming_dir (graph_of v) t x) s
       ∙ (ap (λ b. some_below (λ t. is_naming_dir (graph_of v) t x) s || (is_dir v s && b))
       (suspects_unnamed v s (roled_entries v s) m.stamps x h q n)
@@ -172,11 +172,11 @@ quiet_next v s m d r h = record {
     small x h = omega arith
 
 -- after an inode that names no suspect, and isn't looked at
-pub other_next : (v : Volume) (s : ℕ) (m : NameMarks) →
+pub other_next : (v : Volume) (s : ℕ) (m : PassedNames) →
     ((x : ℕ) → is_suspect v x ≡ true → x ≢ 1 → is_naming_dir (graph_of v) s x ≡ false) → AreRightBefore v s m →
     AreRightBefore v (suc s) m
 other_next v s m none r = record {
-  passed = λ x h q n o. r.passed x h q n o
+  named = λ x h q n o. r.named x h q n o
       ∙ sym (some_below-suc (λ t. is_naming_dir (graph_of v) t x) s
       ∙ (ap (λ b. some_below (λ t. is_naming_dir (graph_of v) t x) s || b) (none x q n)
       ∙ or-false (some_below (λ t. is_naming_dir (graph_of v) t x) s)));
@@ -190,13 +190,13 @@ other_next v s m none r = record {
     small x h = omega arith
 
 -- nothing is stamped by s before it is looked at
-pub silent_quiet : (v : Volume) (s : ℕ) (m : NameMarks) → IsSilentDirectory v s → AreRightBefore v s m →
+pub silent_quiet : (v : Volume) (s : ℕ) (m : PassedNames) → IsSilentDirectory v s → AreRightBefore v s m →
     are_quiet v s m.stamps (roled_entries v s) ≡ true
 silent_quiet v s m silent r = silent.entries m.stamps
     (λ y h. let low = r.stamps y h in ne_eqb (slice_index m.stamps y) s (λ z. absurd (omega (arith, z, low))))
 
 -- after a directory that is left out
-pub silent_next : (v : Volume) (s : ℕ) (m : NameMarks) → IsSilentDirectory v s → AreRightBefore v s m → AreRightBefore v
+pub silent_next : (v : Volume) (s : ℕ) (m : PassedNames) → IsSilentDirectory v s → AreRightBefore v s m → AreRightBefore v
     (suc s) m
 silent_next v s m silent r =
     other_next v s m

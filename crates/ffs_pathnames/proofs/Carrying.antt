@@ -29,12 +29,12 @@ use Rattle.ffs_maps.specs.Bits.{bits_of}
 use Rattle.ffs_report.specs.declared.fault.RunFault.{RunFault}
 use Rattle.ffs_report.specs.declared.fault.RunFault.TheVariants.{Read, Out}
 use Rattle.ffs_pathnames.specs.RootAnswers.{AtReadFault}
-use Rattle.ffs_pathnames.specs.Before.{AreMarksCleared, IsBefore, is_checked, root_reported}
+use Rattle.ffs_pathnames.specs.Before.{IsNonePassed, IsBefore, is_checked, root_reported}
 use Rattle.ffs_workspace.specs.Leaves.{LeavesSurvey}
-use Rattle.ffs_pathnames.specs.Gathers.{marks_of}
+use Rattle.ffs_pathnames.specs.Gathers.{passed_of}
 use Rattle.ffs_pathnames.specs.DirectoryContext.{DirectoryContext}
 use Rattle.ffs_pathnames.specs.Calm.{IsSilentDirectory}
-use Rattle.ffs_pathnames.specs.MarksRight.{AreRightBefore}
+use Rattle.ffs_pathnames.specs.PassedRight.{AreRightBefore}
 use Rattle.ffs_pathnames.specs.Sees.{is_suspect_by}
 use Rattle.std.proofs.lemmas.Bool.{cases_Bool, eqb-true, and_from, and_parts}
 use Rattle.std.proofs.lemmas.List.{get_or_default, map-append}
@@ -97,13 +97,13 @@ flag_gone : (a b : Bool) → b ≡ true → (a && not b) ≡ false
 flag_gone true b e = ap not e
 flag_gone false b e = refl
 
--- without marks all is right before the first directory
-clear_right : (v : Layout) (b : List ℕ) (old w : Workspace) → HoldsClaims v b old → IsFor v w → AreMarksCleared old w →
+-- where no name is passed, all is right before the first directory
+clear_right : (v : Layout) (b : List ℕ) (old w : Workspace) → HoldsClaims v b old → IsFor v w → IsNonePassed old w →
     ((x : ℕ) → bool_at old.flags.items x ≡ true → IsSilentDirectory (volume_of v b) x) →
-    AreRightBefore (volume_of v b) 2 (marks_of w)
+    AreRightBefore (volume_of v b) 2 (passed_of w)
 unfolding volume_of volume_with
 clear_right v b old w k m c silent = record {
-  passed = λ x h q n o. c.flags x ∙ (flag_gone (bool_at old.flags.items x) _ (suspect_shown v b old x k ∙ q)
+  named = λ x h q n o. c.flags x ∙ (flag_gone (bool_at old.flags.items x) _ (suspect_shown v b old x k ∙ q)
       ∙ sym (some_below-none (λ t. is_naming_dir (graph_of (volume_of v b)) t x) 2
       (λ t l. ap (λ d. d && list_any (is_naming_entry x) (roled_entries (volume_of v b) t)) (low_dir (volume_of v b) t
       l))));
@@ -115,13 +115,13 @@ clear_right v b old w k m c silent = record {
 }
 
 pub before_first : (v : Layout) (contents : Option (List ℕ)) (b : List ℕ) (old w : Workspace) → contents ≡ Some b →
-    HoldsClaims v b old → HoldsSurvey v b old → IsFor v w → AreMarksCleared old w →
+    HoldsClaims v b old → HoldsSurvey v b old → IsFor v w → IsNonePassed old w →
     ((x : ℕ) → bool_at old.flags.items x ≡ true → IsSilentDirectory (volume_of v b) x) → IsBefore v contents w 2 b
 before_first v contents b old w t h s m c silent = record {
   gives_bytes = t;
   claims = claims_left v b old w c.survey h;
   survey = survey_left v b old w c.survey s;
-  marks = clear_right v b old w h m c silent;
+  passed = clear_right v b old w h m c silent;
 }
 
 -- what is known of a directory that is looked at
@@ -153,13 +153,13 @@ lines_other v contents w d b e k =
 
 -- the next inode
 pub before_next : (v : Layout) (contents : Option (List ℕ)) (old new : Workspace) (d : ℕ) (b : List ℕ) →
-    LeavesSurvey old new → AreRightBefore (volume_of v b) (suc d) (marks_of new) →
+    LeavesSurvey old new → AreRightBefore (volume_of v b) (suc d) (passed_of new) →
     IsBefore v contents old d b → IsBefore v contents new (suc d) b
 before_next v contents old new d b s r k = record {
   gives_bytes = k.gives_bytes;
   claims = claims_left v b old new s k.claims;
   survey = survey_left v b old new s k.survey;
-  marks = r;
+  passed = r;
 }
 
 pub before_other : (v : Layout) (contents : Option (List ℕ)) (w : Workspace) (d : ℕ) (b : List ℕ) → IsAcceptedLayout v →
@@ -169,8 +169,8 @@ before_other v contents w d b g e k = record {
   gives_bytes = k.gives_bytes;
   claims = k.claims;
   survey = k.survey;
-  marks = other_next (volume_of v b) d (marks_of w)
-      (λ x q n. names_none v b d g (kind_known v b w d false k.claims e) x) k.marks;
+  passed = other_next (volume_of v b) d (passed_of w)
+      (λ x q n. names_none v b d g (kind_known v b w d false k.claims e) x) k.passed;
 }
 
 -- a directory that isn't looked at is calm, and left out
@@ -187,7 +187,7 @@ calm_shown v contents w d b h e k =
     let suspect : is_suspect (volume_of v b) d ≡ false = sym (suspect_shown v b w d k.claims)
     ∙ (ap (λ m. m || is_empty_dir_kind (slice_index w.kinds.items d)) left.0
     ∙ ap is_empty_dir_kind (eqb-true (slice_index w.kinds.items d) 4 e)) in
-    k.marks.calm d (and_from (not (is_suspect (volume_of v b) d)) (bool_at w.flags.items d) (ap not suspect) left.1)
+    k.passed.calm d (and_from (not (is_suspect (volume_of v b) d)) (bool_at w.flags.items d) (ap not suspect) left.1)
 
 lines_left_out : (v : Layout) (contents : Option (List ℕ)) (w : Workspace) (d : ℕ) (b : List ℕ) → 2 ≤ d →
     is_checked w d ≡ false → (slice_index w.kinds.items d == 4) ≡ true → IsBefore v contents w d b →
@@ -196,8 +196,8 @@ lines_left_out v contents w d b two h e k =
     let silent = calm_shown v contents w d b h e k in
     let dir = directory_is (volume_of v b) d two (directory_context v contents w d b e k).dir in
     ap (map of_tree) (lines_looked v contents w d b e k)
-    ∙ (sym (quiet_parts (volume_of v b) d (marks_of w) dir k.marks
-    (silent_quiet (volume_of v b) d (marks_of w) silent k.marks)) ∙ ap (map of_tree) silent.starts)
+    ∙ (sym (quiet_parts (volume_of v b) d (passed_of w) dir k.passed
+    (silent_quiet (volume_of v b) d (passed_of w) silent k.passed)) ∙ ap (map of_tree) silent.starts)
 
 -- an inode that isn't looked at, or is left out
 pub lines_skipped : (v : Layout) (contents : Option (List ℕ)) (w : Workspace) (d : ℕ) (b : List ℕ) → 2 ≤ d →
@@ -214,7 +214,7 @@ before_skipped v contents w d b g h k = elim (cases_Bool (slice_index w.kinds.it
     gives_bytes = k.gives_bytes;
     claims = k.claims;
     survey = k.survey;
-    marks = silent_next (volume_of v b) d (marks_of w) (calm_shown v contents w d b h e k) k.marks;
+    passed = silent_next (volume_of v b) d (passed_of w) (calm_shown v contents w d b h e k) k.passed;
   }
   | inr e ↦ before_other v contents w d b g e k
 ]
@@ -223,7 +223,7 @@ before_skipped v contents w d b g h k = elim (cases_Bool (slice_index w.kinds.it
 pub before_reported : (v : Layout) (contents contents' : Option (List ℕ)) (w : Workspace) (d : ℕ) (b : List ℕ) →
     contents' ≡ contents → IsBefore v contents w d b → IsBefore v contents' w d b
 before_reported v contents contents' w d b e k =
-    record { gives_bytes = e ∙ k.gives_bytes; claims = k.claims; survey = k.survey; marks = k.marks }
+    record { gives_bytes = e ∙ k.gives_bytes; claims = k.claims; survey = k.survey; passed = k.passed }
 
 -- what is reported of the root
 root_by : (v : Volume) (c : Class) (k : ℕ) (m : Bool) → is_directory c ≡ is_dir_kind k →

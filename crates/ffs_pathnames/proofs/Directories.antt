@@ -5,7 +5,7 @@ use Rattle.std.specs.List.{flat_map}
 use Rattle.ffs_volume.specs.Directories.Entries.{Chunk}
 use Rattle.ffs_volume.specs.Directories.Roles.{Volume, RoledEntry, roled_chunk}
 use Rattle.ffs_volume.specs.Directories.PathnameCheck.{are_sound}
-use Rattle.ffs_pathnames.specs.NameMarks.{is_quiet, are_quiet, after_look, after_looks}
+use Rattle.ffs_pathnames.specs.PassedNames.{is_quiet, are_quiet, after_look, after_looks}
 
 looks-append : (v : Volume) (s : ℕ) (stamps : List ℕ) (xs ys : List RoledEntry) → after_looks v s stamps (xs ++ ys)
     ≡ after_looks v s (after_looks v s stamps xs) ys

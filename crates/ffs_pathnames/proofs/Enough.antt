@@ -6,16 +6,16 @@ use Rattle.ffs_volume.specs.Directories.Parents.{graph_of}
 use Rattle.ffs_volume.specs.Directories.Paths.{dir_path, entry_path}
 use Rattle.ffs_volume.specs.Messages.Kinds.{reported, extraneous, kind_entry}
 use Rattle.ffs_volume.specs.Directories.PathnameCheck.{attributes}
-use Rattle.ffs_pathnames.specs.declared.verdict.Faults.{Faults}
+use Rattle.ffs_pathnames.specs.declared.verdict.EntryDefects.{EntryDefects}
 use Rattle.ffs_pathnames.specs.declared.verdict.Verdict.{Verdict}
 use Rattle.ffs_pathnames.specs.declared.verdict.Verdict.TheVariants.{OutOfRange, Whiteout, Fine, Unallocated, Named}
 use Rattle.ffs_pathnames.specs.Gathers.{IsEnough, asks_attr, asks_path}
-use Rattle.ffs_pathnames.specs.Verdicts.{verdict_reported, faults_reported, suspect_message}
+use Rattle.ffs_pathnames.specs.Verdicts.{verdict_reported, defects_reported, suspect_message}
 
-faults_same : (n : Faults) (about : Attr) (path directory right : List ℕ) → (n.extraneous ≡ true → directory ≡ right) →
-    faults_reported n about path directory ≡ faults_reported n about path right
-faults_same n about path directory right h =
-    ap (λ l. reported n.suspect (suspect_message n about path)
+defects_same : (n : EntryDefects) (about : Attr) (path directory right : List ℕ) → (n.extraneous ≡ true → directory ≡ right) →
+    defects_reported n about path directory ≡ defects_reported n about path right
+defects_same n about path directory right h =
+    ap (λ l. reported n.first_of_suspect (suspect_message n about path)
     ++ (l ++ reported n.kind (kind_entry about n.label path))) (one n.extraneous h)
   where
     one : (b : Bool) → (b ≡ true → directory ≡ right) → reported b (extraneous path directory)
@@ -45,6 +45,6 @@ enough v Unallocated dir number name about path directory a p d =
     ap (λ q. verdict_reported Unallocated number about q directory) p
     ∙ ap (λ x. verdict_reported Unallocated number x (entry_path (graph_of v) dir name) directory) (a refl)
 enough v (Named n) dir number name about path directory a p d =
-    ap (λ q. faults_reported n about q directory) p
-    ∙ (ap (λ x. faults_reported n x (entry_path (graph_of v) dir name) directory) (a refl)
-    ∙ faults_same n (attributes v number) (entry_path (graph_of v) dir name) directory (dir_path (graph_of v) number) d)
+    ap (λ q. defects_reported n about q directory) p
+    ∙ (ap (λ x. defects_reported n x (entry_path (graph_of v) dir name) directory) (a refl)
+    ∙ defects_same n (attributes v number) (entry_path (graph_of v) dir name) directory (dir_path (graph_of v) number) d)

@@ -1,6 +1,6 @@
 pub mod FirstPlaces
 pub mod StampLaws
-pub mod MarkLaws
+pub mod PassedLaws
 pub mod LookLaws
 pub mod BetweenLaws
 pub mod Saying

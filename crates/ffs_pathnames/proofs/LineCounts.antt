@@ -20,7 +20,7 @@ use Rattle.ffs_pathnames.specs.DirectoryContext.{DirectoryContext}
 use Rattle.ffs_pathnames.specs.Gathers.{IsVerdict, is_silent}
 use Rattle.ffs_pathnames.specs.Header.{dot_in, dotdot_in, dot_reported, dotdot_reported, header_reported, is_right_dot}
 use Rattle.ffs_pathnames.specs.Header.{is_right_dotdot, is_right_header, shape_reported}
-use Rattle.ffs_pathnames.specs.NameMarks.{NameMarks, after_roled, entries_reported, roled_reported, plain_reported}
+use Rattle.ffs_pathnames.specs.PassedNames.{PassedNames, after_roled, entries_reported, roled_reported, plain_reported}
 use Rattle.ffs_pathnames.specs.Verdicts.{suspect_message, verdict_reported}
 use Rattle.ffs_pathnames.specs.declared.verdict.Verdict.{Verdict}
 use Rattle.ffs_pathnames.specs.declared.verdict.Verdict.TheVariants.{OutOfRange, Whiteout, Fine, Unallocated, Named}
@@ -85,12 +85,12 @@ read_all {all = all} {rest = rest} {reads = reads} {reads' = reads'} has =
     most all rest reads reads' h = omega arith
 
 -- ---- how many lines there are
-faults_some : (a b c : Bool) (x y z : TreeMessage) → not (a || (b || c)) ≡ false →
+defects_some : (a b c : Bool) (x y z : TreeMessage) → not (a || (b || c)) ≡ false →
     1 ≤ length (reported a x ++ (reported b y ++ reported c z))
-faults_some true b c x y z h = omega arith
-faults_some false true c x y z h = omega arith
-faults_some false false true x y z h = omega arith
-faults_some false false false x y z h = absurd (cc)
+defects_some true b c x y z h = omega arith
+defects_some false true c x y z h = omega arith
+defects_some false false true x y z h = omega arith
+defects_some false false false x y z h = absurd (cc)
 
 verdict_some : (verdict : Verdict) (number : ℕ) (about : Attr) (path directory : List ℕ) → is_silent verdict ≡ false →
     1 ≤ length (verdict_reported verdict number about path directory)
@@ -99,11 +99,11 @@ verdict_some Whiteout number about path directory h = omega arith
 verdict_some Fine number about path directory h = absurd (cc)
 verdict_some Unallocated number about path directory h = omega arith
 verdict_some (Named n) number about path directory h =
-    faults_some n.suspect n.extraneous n.kind (suspect_message n about path) (extraneous path directory)
+    defects_some n.first_of_suspect n.extraneous n.kind (suspect_message n about path) (extraneous path directory)
     (kind_entry about n.label path) h
 
 -- a plain entry whose verdict isn't silent has one
-pub plain_some : (v : Volume) (s : ℕ) (m : NameMarks) (e : Entry) (verdict : Verdict) → IsVerdict v s m e verdict →
+pub plain_some : (v : Volume) (s : ℕ) (m : PassedNames) (e : Entry) (verdict : Verdict) → IsVerdict v s m e verdict →
     is_silent verdict ≡ false → 1 ≤ length (plain_reported v s m e)
 plain_some v s m e verdict is h =
     subst (λ ms. 1 ≤ length ms) (sym is.reported) (verdict_some verdict e.number _ _ _ h)
@@ -117,7 +117,7 @@ pub extra_some : (about : Attr) (path : List ℕ) (e : Entry) → 1 ≤ length (
 extra_some about path e = either_some (is_one_dot e.name) _ _
 
 -- those of an entry, and those of the entries after it
-pub entry_counted : (v : Volume) (s : ℕ) (m m' : NameMarks) (e : RoledEntry) (es es' : List RoledEntry) → es ≡ e ∷ es' →
+pub entry_counted : (v : Volume) (s : ℕ) (m m' : PassedNames) (e : RoledEntry) (es es' : List RoledEntry) → es ≡ e ∷ es' →
     after_roled v s m e ≡ m' →
     length (entries_reported v s m es) ≡ length (roled_reported v s m e) + length (entries_reported v s m' es')
 entry_counted v s m m' e es es' is after =

@@ -24,13 +24,13 @@ use Rattle.ffs_volume.specs.Directories.PathnameCheck.{has_wrong_type, is_first_
 use Rattle.ffs_volume.specs.Directories.PathnameCheck.{named_lines}
 use Rattle.ffs_volume.specs.Directories.PathnameCheck.{plain_lines, entry_lines, lines_of_entries}
 use Rattle.ffs_volume.specs.Directories.PathnameCheck.{entry_lines_of as lines_by_role}
-use Rattle.ffs_pathnames.specs.NameMarks.{belongs, after_look, after_looks, is_plain_quiet, is_role_quiet, is_quiet}
-use Rattle.ffs_pathnames.specs.NameMarks.{are_quiet}
+use Rattle.ffs_pathnames.specs.PassedNames.{belongs, after_look, after_looks, is_plain_quiet, is_role_quiet, is_quiet}
+use Rattle.ffs_pathnames.specs.PassedNames.{are_quiet}
 use Rattle.ffs_volume.proofs.Silence.{reported-silent}
 use Rattle.ffs_volume.proofs.Booleans.{and_false-right}
 use Rattle.ffs_pathnames.proofs.FirstPlaces.{size_of, size_more}
-use Rattle.ffs_pathnames.proofs.MarkLaws.{IsEntry, IsDirectory, from_parent_is, any_more}
-use Rattle.ffs_pathnames.proofs.MarkLaws.{other_number}
+use Rattle.ffs_pathnames.proofs.PassedLaws.{IsEntry, IsDirectory, from_parent_is, any_more}
+use Rattle.ffs_pathnames.proofs.PassedLaws.{other_number}
 
 -- the inodes that belong to s and are named by the entries of `done` are stamped
 abbrev pub AreStamped : Volume → ℕ → List RoledEntry → List ℕ → Type 0

@@ -11,7 +11,7 @@ use Rattle.ffs_volume.specs.Directories.Roles.{Volume, RoledEntry, role_of, role
 use Rattle.ffs_volume.proofs.Reading.{entries_next, entries_end}
 use Rattle.ffs_layout.specs.declared.entry.Entry.{Entry as CodeEntry}
 use Rattle.ffs_layout.specs.Entry.{entry_value}
-use Rattle.ffs_pathnames.specs.NameMarks.{is_quiet, are_quiet, after_look, after_looks}
+use Rattle.ffs_pathnames.specs.PassedNames.{is_quiet, are_quiet, after_look, after_looks}
 
 -- the entries from a place on, with their roles
 abbrev pub roled_at_place : Order → List ℕ → Bool → ℕ → ℕ → List RoledEntry

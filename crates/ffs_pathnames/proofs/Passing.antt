@@ -20,18 +20,18 @@ use Rattle.ffs_volume.specs.Messages.Kinds.{TreeMessage, of_tree}
 use Rattle.ffs_volume.specs.Directories.Roles.{Volume, RoledEntry, roled_chunk, roled_entries, is_dir}
 use Rattle.ffs_workspace.specs.Leaves.{LeavesSurvey}
 use Rattle.ffs_pathnames.specs.DirectoryContext.{DirectoryContext}
-use Rattle.ffs_pathnames.specs.NameMarks.{NameMarks, after_roled, after_entries, roled_reported, entries_reported}
+use Rattle.ffs_pathnames.specs.PassedNames.{PassedNames, after_roled, after_entries, roled_reported, entries_reported}
 use Rattle.ffs_workspace.proofs.Leaving.{claims_left, survey_left}
 use Rattle.ffs_workspace.specs.declared.workspace.Workspace.{Workspace}
 
--- the marks after some entries and others
-pub after_more : (v : Volume) (s : ℕ) (m : NameMarks) (xs ys : List RoledEntry) → after_entries v s m (xs ++ ys)
+-- the names that were passed after some entries and others
+pub after_more : (v : Volume) (s : ℕ) (m : PassedNames) (xs ys : List RoledEntry) → after_entries v s m (xs ++ ys)
     ≡ after_entries v s (after_entries v s m xs) ys
 after_more v s m [] ys = refl
 after_more v s m (x ∷ xs) ys = after_more v s (after_roled v s m x) xs ys
 
 -- what is reported of some entries and others
-pub reported_more : (v : Volume) (s : ℕ) (m : NameMarks) (xs ys : List RoledEntry) →
+pub reported_more : (v : Volume) (s : ℕ) (m : PassedNames) (xs ys : List RoledEntry) →
     entries_reported v s m (xs ++ ys) ≡ entries_reported v s m xs ++ entries_reported v s (after_entries v s m xs) ys
 reported_more v s m [] ys = refl
 reported_more v s m (x ∷ xs) ys =
@@ -40,7 +40,7 @@ reported_more v s m (x ∷ xs) ys =
     (entries_reported v s (after_entries v s (after_roled v s m x) xs) ys))
 
 -- an entry is reported, and the others are to come
-pub entry_reported : (v : Volume) (s : ℕ) (m m' : NameMarks) (e : RoledEntry) (es es' : List RoledEntry) → es ≡ e ∷ es'
+pub entry_reported : (v : Volume) (s : ℕ) (m m' : PassedNames) (e : RoledEntry) (es es' : List RoledEntry) → es ≡ e ∷ es'
     →
     after_roled v s m e ≡ m' →
     map of_tree (entries_reported v s m es) ≡ map of_tree (roled_reported v s m e)
@@ -51,7 +51,7 @@ entry_reported v s m m' e es es' is after =
     ∙ ap (λ k. map of_tree (roled_reported v s m e) ++ map of_tree (entries_reported v s k es')) after)
 
 -- an entry is passed
-pub entry_passed : (v : Volume) (s : ℕ) (all m m' : NameMarks) (e : RoledEntry) (es es' : List RoledEntry) → es ≡ e ∷
+pub entry_passed : (v : Volume) (s : ℕ) (all m m' : PassedNames) (e : RoledEntry) (es es' : List RoledEntry) → es ≡ e ∷
     es' →
     after_roled v s m e ≡ m' →
     all ≡ after_entries v s m es → all ≡ after_entries v s m' es'
@@ -59,7 +59,7 @@ entry_passed v s all m m' e es es' is after q = q
     ∙ (ap (after_entries v s m) is ∙ ap (λ k. after_entries v s k es') after)
 
 -- a chunk is reported, and the others are to come
-pub chunk_reported : (v : Volume) (s : ℕ) (m m' : NameMarks) (c : Chunk) (cs cs' : List Chunk) → cs ≡ c ∷ cs' →
+pub chunk_reported : (v : Volume) (s : ℕ) (m m' : PassedNames) (c : Chunk) (cs cs' : List Chunk) → cs ≡ c ∷ cs' →
     after_entries v s m (roled_chunk c) ≡ m' →
     map of_tree (entries_reported v s m (flat_map roled_chunk cs))
     ≡ map of_tree (entries_reported v s m (roled_chunk c))
@@ -73,7 +73,7 @@ chunk_reported v s m m' c cs cs' is after =
     ++ map of_tree (entries_reported v s k (flat_map roled_chunk cs'))) after))
 
 -- a chunk is passed
-pub chunk_passed : (v : Volume) (s : ℕ) (all m m' : NameMarks) (c : Chunk) (cs cs' : List Chunk) → cs ≡ c ∷ cs' →
+pub chunk_passed : (v : Volume) (s : ℕ) (all m m' : PassedNames) (c : Chunk) (cs cs' : List Chunk) → cs ≡ c ∷ cs' →
     after_entries v s m (roled_chunk c) ≡ m' →
     all ≡ after_entries v s m (flat_map roled_chunk cs) → all ≡ after_entries v s m' (flat_map roled_chunk cs')
 chunk_passed v s all m m' c cs cs' is after q =

@@ -52,7 +52,7 @@ use Rattle.ffs_names.proofs.DirLaws as dirs
 use Rattle.ffs_pathnames.specs.Begins.{dir_starts}
 use Rattle.ffs_pathnames.specs.Calm.{IsSilentDirectory}
 use Rattle.ffs_pathnames.specs.Header.{dot_in, dotdot_in, dot_reported, dotdot_reported}
-use Rattle.ffs_pathnames.specs.NameMarks.{belongs, after_look, is_inode_quiet, is_plain_quiet, is_role_quiet, is_quiet, are_quiet}
+use Rattle.ffs_pathnames.specs.PassedNames.{belongs, after_look, is_inode_quiet, is_plain_quiet, is_role_quiet, is_quiet, are_quiet}
 use Rattle.ffs_pathnames.specs.Reads.{chunks_read}
 use Rattle.ffs_pathnames.proofs.ChunkLaws.{chunks_are}
 use Rattle.ffs_pathnames.proofs.InOrder.{in_order, dotdot_right}

@@ -68,12 +68,12 @@ noted_before v contents contents' old new n b two same lists made survey none k 
     notes = λ x. ap (λ (w : Workspace). slice_index w.notes.items x) lists ∙ k.claims.notes x;
   };
   survey = survey;
-  marks = record {
-    passed = λ x h q a c. ap (λ (w : Workspace). bool_at w.flags.items x) lists ∙ k.marks.passed x h q a c;
+  passed = record {
+    named = λ x h q a c. ap (λ (w : Workspace). bool_at w.flags.items x) lists ∙ k.passed.named x h q a c;
     stamps = λ x h. subst (λ s. s < n) (sym (none_stamped new.parents.items new.queue.items x (none x))) (omega arith);
-    flags_length = ap (λ (w : Workspace). length w.flags.items) lists ∙ k.marks.flags_length;
+    flags_length = ap (λ (w : Workspace). length w.flags.items) lists ∙ k.passed.flags_length;
     stamps_length = stamps_length new.parents.items new.queue.items ∙ (sym new.queue.ok.0 ∙ made.queue);
-    calm = λ x h. k.marks.calm x
+    calm = λ x h. k.passed.calm x
         (ap (λ (w : Workspace). not (is_suspect (volume_of v b) x) && bool_at w.flags.items x) (sym lists) ∙ h);
   };
 }

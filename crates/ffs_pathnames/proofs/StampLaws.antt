@@ -13,8 +13,8 @@ use Rattle.ffs_workspace.specs.Places.{is_due, place_in, ArePlaces, AreNoted}
 use Rattle.ffs_workspace.proofs.PlaceLaws.{zero_index}
 use Rattle.ffs_pathnames.specs.Examines.{LeavesQueue}
 use Rattle.ffs_pathnames.specs.declared.inodes.Inodes.{Inodes}
-use Rattle.ffs_pathnames.specs.NameMarks.{NameMarks, belongs, after_look, after_name, after_roled, is_stamped}
-use Rattle.ffs_pathnames.specs.Sees.{Sees, is_suspect_by, marks_in, stamps_in}
+use Rattle.ffs_pathnames.specs.PassedNames.{PassedNames, belongs, after_look, after_name, after_roled, is_stamped}
+use Rattle.ffs_pathnames.specs.Sees.{Sees, is_suspect_by, passed_in, stamps_in}
 use Rattle.ffs_pathnames.specs.Stamps.{stamp_of, stamps_of, KeepPlaces}
 
 pub stamps_length : (ps ws : List ℕ) → length (stamps_of ps ws) ≡ length ws
@@ -121,8 +121,8 @@ after_stamp v i s word ws ws' role e sees two plain mine set due =
     ∙ sym (ap (λ t. if t then slice_set (stamps_in i ws) e.number s else stamps_in i ws)
     (and_from (is_plain role) (belongs v s e.number) plain belongs_to))
 
-abbrev marks_of_parts : List Bool → List ℕ → NameMarks
-marks_of_parts flags stamps = record { flags = flags; stamps = stamps }
+abbrev passed_of_parts : List Bool → List ℕ → PassedNames
+passed_of_parts flags stamps = record { flags = flags; stamps = stamps }
 
 -- an entry that names an inode due in s is passed
 pub after_pass : (v : Volume) (i : Inodes) (s word : ℕ) (suspect : Bool) (flags flags' : List Bool) (ws ws' : List ℕ)
@@ -130,14 +130,14 @@ pub after_pass : (v : Volume) (i : Inodes) (s word : ℕ) (suspect : Bool) (flag
     → suspect ≡ is_suspect_by i.kinds.now i.marked.now e.number
     → flags' ≡ (if suspect then slice_set flags e.number true else flags)
     → slice_index (stamps_in i ws) e.number ≡ s → ws' ≡ slice_set ws e.number word → is_due word ≡ false →
-    after_roled v s (marks_in i flags ws) (record { role = role; entry = e }) ≡ marks_in i flags' ws'
+    after_roled v s (passed_in i flags ws) (record { role = role; entry = e }) ≡ passed_in i flags' ws'
 after_pass v i s word suspect flags flags' ws ws' role e sees plain below shown flagged stamp set due =
     let x = e.number in
     let inside : nat_lt x v.count ≡ true = ap (nat_lt x) sees.count ∙ lt-ltb x (length i.kinds.now) below in
-    let m = marks_in i flags ws in
+    let m = passed_in i flags ws in
     ap (λ b. if b then after_name v s m x else m) (and_from (is_plain role) (nat_lt x v.count) plain inside)
-    ∙ (ap (λ b. marks_of_parts (if b then slice_set flags x true else flags)
+    ∙ (ap (λ b. passed_of_parts (if b then slice_set flags x true else flags)
     (if is_stamped s m x then slice_set m.stamps x 0 else m.stamps)) (sees.suspect x ∙ sym shown)
-    ∙ (ap (λ l. marks_of_parts l (if is_stamped s m x then slice_set m.stamps x 0 else m.stamps)) (sym flagged)
-    ∙ (ap (λ b. marks_of_parts flags' (if b then slice_set m.stamps x 0 else m.stamps)) (eq-eqb _ s stamp)
-    ∙ ap (marks_of_parts flags') (sym (unstamped i.parents.now.items ws ws' x word set due)))))
+    ∙ (ap (λ l. passed_of_parts l (if is_stamped s m x then slice_set m.stamps x 0 else m.stamps)) (sym flagged)
+    ∙ (ap (λ b. passed_of_parts flags' (if b then slice_set m.stamps x 0 else m.stamps)) (eq-eqb _ s stamp)
+    ∙ ap (passed_of_parts flags') (sym (unstamped i.parents.now.items ws ws' x word set due)))))

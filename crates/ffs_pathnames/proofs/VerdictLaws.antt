@@ -22,5 +22,5 @@ silent_reported Whiteout number about path directory h = absurd (cc)
 silent_reported Fine number about path directory h = refl
 silent_reported Unallocated number about path directory h = absurd (cc)
 silent_reported (Named n) number about path directory h =
-    none_reported n.suspect n.extraneous n.kind (suspect_message n about path) (extraneous path directory)
+    none_reported n.first_of_suspect n.extraneous n.kind (suspect_message n about path) (extraneous path directory)
     (kind_entry about n.label path) h

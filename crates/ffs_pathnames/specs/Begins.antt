@@ -13,12 +13,12 @@ use Rattle.ffs_volume.specs.Directories.Roles.{Volume, nth_entry, roled_entries,
 use Rattle.ffs_volume.specs.Directories.Volumes.{volume_of}
 use Rattle.ffs_workspace.specs.declared.workspace.Workspace.{Workspace}
 use Rattle.ffs_pathnames.specs.declared.examine.DirectorySummary.{DirectorySummary}
-use Rattle.ffs_pathnames.specs.Gathers.{marks_of}
-use Rattle.ffs_pathnames.specs.NameMarks.{are_quiet, after_looks}
+use Rattle.ffs_pathnames.specs.Gathers.{passed_of}
+use Rattle.ffs_pathnames.specs.PassedNames.{are_quiet, after_looks}
 use Rattle.ffs_pathnames.specs.Reads.{start_chunk}
 use Rattle.ffs_pathnames.specs.Header.{header_reported}
 
--- of its size, its Gaps, its chunks and its first two entries
+-- the lines of a directory on its size, its Gaps, its chunks and its first two entries
 unfoldable pub dir_starts : Volume → ℕ → List TreeMessage
 dir_starts vol d =
     header_reported (attributes vol d) (dir_path (graph_of vol) d) d (parent (graph_of vol) d) (vol.gap d)
@@ -37,9 +37,9 @@ pub record IsDirectoryBegun (v : Layout) (b : List ℕ) (d : ℕ) (old : Workspa
     :
     Type 0 where
   pub inode : e.inode ≡ inode_of v b d
-  pub quiet : e.look.quiet ≡ are_quiet (volume_of v b) d (marks_of old).stamps (roled_entries (volume_of v b) d)
-  pub marks : marks_of new
+  pub quiet : e.look.quiet ≡ are_quiet (volume_of v b) d (passed_of old).stamps (roled_entries (volume_of v b) d)
+  pub passed : passed_of new
       ≡ record {
         flags = old.flags.items;
-        stamps = after_looks (volume_of v b) d (marks_of old).stamps (roled_entries (volume_of v b) d);
+        stamps = after_looks (volume_of v b) d (passed_of old).stamps (roled_entries (volume_of v b) d);
       }

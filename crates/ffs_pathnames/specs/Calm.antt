@@ -2,7 +2,7 @@
 use Rattle.std.specs.Prelude.{◌≡◌, ℕ, ◌<◌, ◌==◌, true, false, List, [], slice_index}
 use Rattle.ffs_volume.specs.Directories.Roles.{Volume, roled_entries}
 use Rattle.ffs_pathnames.specs.Begins.{dir_starts}
-use Rattle.ffs_pathnames.specs.NameMarks.{are_quiet}
+use Rattle.ffs_pathnames.specs.PassedNames.{are_quiet}
 
 -- nothing is reported before the entries of x, and nothing of these, where no inode is stamped by x yet
 pub record IsSilentDirectory (vol : Volume) (x : ℕ) : Type 0 where

@@ -2,7 +2,7 @@
 use Rattle.std.specs.Prelude.{ℕ, List, Result, map}
 use Rattle.ffs_image.specs.Device.{Device}
 use Rattle.ffs_report.specs.Progress.{Progress}
-use Rattle.ffs_report.specs.Runs.{PhaseReports}
+use Rattle.ffs_report.specs.PhaseOutcome.{PhaseReports}
 use Rattle.ffs_report.specs.declared.fault.RunFault.{RunFault}
 use Rattle.ffs_volume.specs.declared.Layout.{Layout}
 use Rattle.ffs_volume.specs.Directories.Roles.{Volume}

@@ -10,21 +10,21 @@ use Rattle.ffs_volume.specs.Directories.Roles.{roled_entries}
 use Rattle.ffs_volume.specs.Directories.PathnameCheck.{are_sound}
 use Rattle.ffs_volume.specs.Directories.Volumes.{volume_of}
 use Rattle.ffs_pathnames.specs.declared.examine.DirectorySummary.{DirectorySummary}
-use Rattle.ffs_pathnames.specs.Gathers.{marks_of}
-use Rattle.ffs_pathnames.specs.NameMarks.{are_quiet, after_looks}
+use Rattle.ffs_pathnames.specs.Gathers.{passed_of}
+use Rattle.ffs_pathnames.specs.PassedNames.{are_quiet, after_looks}
 use Rattle.ffs_pathnames.specs.Reads.{start_chunk}
 use Rattle.ffs_pathnames.specs.Stamps.{KeepPlaces}
 use Rattle.ffs_workspace.specs.declared.workspace.Workspace.{Workspace}
 use Rattle.ffs_workspace.specs.Leaves.{LeavesSurvey}
 use Rattle.ffs_workspace.specs.Ready.{IsReady}
 
--- what the phases before the pathname check left, the flags, and the places that words note
+-- a call leaves what the phases before the pathname check left, the flags, and the places that words note
 pub record LeavesQueue (old new : Workspace) : Type 0 where
   pub survey : LeavesSurvey old new
   pub flags : new.flags ≡ old.flags
   pub places : KeepPlaces old.queue.items new.queue.items
 
--- what the first look at a directory leaves: the image, but for a read that failed, and all but which
+-- what the first look at a directory leaves: the image, but for a read that failed, and all of the workspace but which
 -- words are due
 pub record ExamineLeaves {T : Type 0} (v : Layout) (d d' : Device) (old new : Workspace)
     (result : Result T ImageFault) : Type 0 where
@@ -41,6 +41,6 @@ pub record IsExamined (v : Layout) (b : List ℕ) (d : ℕ) (old : Workspace) (e
   pub sound : e.look.sound ≡ are_sound ((volume_of v b).chunks d)
   pub started : find (λ c. c.offset == 0) ((volume_of v b).chunks d) ≡ start_chunk [] e.look.started v.order
       e.look.start
-  pub quiet : e.look.quiet ≡ are_quiet (volume_of v b) d (marks_of old).stamps (roled_entries (volume_of v b) d)
-  pub stamps : (marks_of new).stamps
-      ≡ after_looks (volume_of v b) d (marks_of old).stamps (roled_entries (volume_of v b) d)
+  pub quiet : e.look.quiet ≡ are_quiet (volume_of v b) d (passed_of old).stamps (roled_entries (volume_of v b) d)
+  pub stamps : (passed_of new).stamps
+      ≡ after_looks (volume_of v b) d (passed_of old).stamps (roled_entries (volume_of v b) d)

@@ -15,12 +15,12 @@ use Rattle.ffs_layout.specs.Entry.{entry_value}
 use Rattle.ffs_pathnames.specs.declared.inodes.Inodes.{Inodes}
 use Rattle.ffs_pathnames.specs.declared.entries.DirectoryChunk.{DirectoryChunk}
 use Rattle.ffs_pathnames.specs.declared.one_entry.DirectoryEntry.{DirectoryEntry}
-use Rattle.ffs_pathnames.specs.declared.verdict.Faults.{Faults}
+use Rattle.ffs_pathnames.specs.declared.verdict.EntryDefects.{EntryDefects}
 use Rattle.ffs_pathnames.specs.declared.verdict.Verdict.{Verdict}
 use Rattle.ffs_pathnames.specs.declared.verdict.Verdict.TheVariants.{OutOfRange, Whiteout, Fine, Unallocated, Named}
 use Rattle.ffs_pathnames.specs.Verdicts.{verdict_reported}
 use Rattle.ffs_workspace.specs.declared.workspace.Workspace.{Workspace}
-use Rattle.ffs_pathnames.specs.NameMarks.{NameMarks, is_stamped, is_flagged, roled_reported, plain_reported}
+use Rattle.ffs_pathnames.specs.PassedNames.{PassedNames, is_stamped, is_flagged, roled_reported, plain_reported}
 use Rattle.ffs_pathnames.specs.Sees.{Sees}
 use Rattle.ffs_pathnames.specs.Stamps.{stamps_of}
 
@@ -31,21 +31,21 @@ IsEnough vol verdict dir number name about path directory =
     ≡ verdict_reported verdict number (attributes vol number) (entry_path (graph_of vol) dir name)
     (dir_path (graph_of vol) number)
 
--- the marks that a workspace holds during the pathname check
-abbrev pub marks_of : Workspace → NameMarks
-marks_of w = record { flags = w.flags.items; stamps = stamps_of w.parents.items w.queue.items }
+-- what a workspace remembers of the names that were passed, during the pathname check
+abbrev pub passed_of : Workspace → PassedNames
+passed_of w = record { flags = w.flags.items; stamps = stamps_of w.parents.items w.queue.items }
 
 -- an entry with its role
 abbrev pub roled_value : DirectoryEntry → RoledEntry
 roled_value e = record { role = e.role; entry = entry_value e.entry }
 
--- what is reported of it, by the marks of a workspace
+-- what is reported of it, by what a workspace remembers
 abbrev pub roled_lines_by : Volume → Workspace → DirectoryEntry → List TreeMessage
-roled_lines_by vol w e = roled_reported vol e.dir (marks_of w) (roled_value e)
+roled_lines_by vol w e = roled_reported vol e.dir (passed_of w) (roled_value e)
 
 -- of a plain one, and of an extra one
 abbrev pub plain_lines_by : Volume → Workspace → DirectoryEntry → List TreeMessage
-plain_lines_by vol w e = plain_reported vol e.dir (marks_of w) (entry_value e.entry)
+plain_lines_by vol w e = plain_reported vol e.dir (passed_of w) (entry_value e.entry)
 
 abbrev pub extra_reported : Volume → DirectoryEntry → List TreeMessage
 extra_reported vol e = extra_lines (attributes vol e.dir) (dir_path (graph_of vol) e.dir) (entry_value e.entry)
@@ -75,20 +75,21 @@ is_silent OutOfRange = false
 is_silent Whiteout = false
 is_silent Fine = true
 is_silent Unallocated = false
-is_silent (Named n) = not (n.suspect || (n.extraneous || n.kind))
+is_silent (Named n) = not (n.first_of_suspect || (n.extraneous || n.kind))
 
--- what is wrong with an allocated inode that the entry e of the directory s names, by the lists and by the marks
-pub record AreFaultsOf (i : Inodes) (s : ℕ) (m : NameMarks) (e : Entry) (n : Faults) : Type 0 where
-  pub suspect : (vol : Volume) → Sees vol i
-      → n.suspect ≡ (is_suspect vol e.number && (not (e.number == ROOTINO) && not (is_flagged m e.number)))
+-- what is wrong with the entry e of the directory s, which names an allocated inode, by the lists and by the names that
+-- were passed
+pub record AreDefectsOf (i : Inodes) (s : ℕ) (m : PassedNames) (e : Entry) (n : EntryDefects) : Type 0 where
+  pub first_of_suspect : (vol : Volume) → Sees vol i
+      → n.first_of_suspect ≡ (is_suspect vol e.number && (not (e.number == ROOTINO) && not (is_flagged m e.number)))
   pub marked : (vol : Volume) → Sees vol i → n.marked ≡ vol.marked e.number
   pub extraneous : (vol : Volume) → Sees vol i → n.extraneous ≡ (is_dir vol e.number && not (is_stamped s m e.number))
   pub kind : (vol : Volume) → Sees vol i → IsTrue (is_allocated (vol.class e.number)) → n.kind ≡ has_wrong_type vol e
   pub label : (vol : Volume) → Sees vol i → IsTrue (is_allocated (vol.class e.number))
       → n.label ≡ label_of (vol.class e.number)
 
--- a verdict on the plain entry e of the directory s, by the lists and by the marks
-pub record IsVerdictBy (i : Inodes) (s : ℕ) (m : NameMarks) (e : Entry) (verdict : Verdict) : Type 0 where
+-- a verdict on the plain entry e of the directory s, by the lists and by the names that were passed
+pub record IsVerdictBy (i : Inodes) (s : ℕ) (m : PassedNames) (e : Entry) (verdict : Verdict) : Type 0 where
   pub below : IsTrue (asks_attr verdict) → e.number < length i.kinds.now
   pub linked : (vol : Volume) → Sees vol i → IsTrue (asks_path verdict) → is_dir vol e.number ≡ true
   pub reported : (vol : Volume) → Sees vol i → plain_reported vol s m e
@@ -96,7 +97,7 @@ pub record IsVerdictBy (i : Inodes) (s : ℕ) (m : NameMarks) (e : Entry) (verdi
       (dir_path (graph_of vol) e.number)
 
 -- a verdict says what is reported of a plain entry e of the directory s, and asks for the path of a directory alone
-pub record IsVerdict (vol : Volume) (s : ℕ) (m : NameMarks) (e : Entry) (verdict : Verdict) : Type 0 where
+pub record IsVerdict (vol : Volume) (s : ℕ) (m : PassedNames) (e : Entry) (verdict : Verdict) : Type 0 where
   pub linked : asks_path verdict ≡ true → is_dir vol e.number ≡ true
   pub reported : plain_reported vol s m e
       ≡ verdict_reported verdict e.number (attributes vol e.number) (entry_path (graph_of vol) s e.name)

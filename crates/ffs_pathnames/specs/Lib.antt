@@ -1,4 +1,4 @@
-pub mod NameMarks
+pub mod PassedNames
 pub mod Stamps
 pub mod SaysNames
 pub mod NameLines
@@ -12,7 +12,7 @@ pub mod DirectoryContext
 pub mod RootAnswers
 pub mod Begins
 pub mod Calm
-pub mod MarksRight
+pub mod PassedRight
 pub mod Before
 pub mod Ready
 pub mod LineReads

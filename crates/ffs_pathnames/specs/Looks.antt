@@ -12,7 +12,7 @@ use Rattle.ffs_pathnames.specs.declared.directory.Directory.{Directory}
 use Rattle.ffs_pathnames.specs.declared.directory.FirstLook.{FirstLook}
 use Rattle.ffs_pathnames.specs.declared.inodes.Inodes.{Inodes}
 use Rattle.ffs_pathnames.specs.declared.look.ChunkLook.{ChunkLook}
-use Rattle.ffs_pathnames.specs.NameMarks.{are_quiet, after_looks}
+use Rattle.ffs_pathnames.specs.PassedNames.{are_quiet, after_looks}
 use Rattle.ffs_pathnames.specs.Reads.{chunks_read, start_chunk}
 use Rattle.ffs_pathnames.specs.Sees.{Sees, stamps_in}
 

@@ -7,19 +7,15 @@ use Rattle.ffs_image.specs.declared.image.ImageFault.{ImageFault}
 use Rattle.ffs_volume.specs.declared.Layout.{Layout}
 use Rattle.ffs_volume.specs.declared.Order.{Order}
 use Rattle.ffs_volume.specs.declared.Inode.{Inode}
-use Rattle.ffs_volume.specs.Disk.Areas.{is_run_in_range}
-use Rattle.ffs_volume.specs.Directories.Entries.{Chunk, chunk_of, chunks_of, bytes_read}
-use Rattle.ffs_volume.specs.Blocks.Steps.{steps_of}
-use Rattle.ffs_volume.specs.Encodings.Replay.{fresh_replay, replayed_steps}
-use Rattle.ffs_names.specs.RunCursors.{reading_by}
+use Rattle.ffs_volume.specs.Directories.Entries.{Chunk, chunk_of}
+use Rattle.ffs_names.specs.Readings.{chunks_in}
 use Rattle.ffs_names.specs.Windows.{CanReadChunks}
 use Rattle.ffs_walk.specs.declared.blocks.Blocks.{Blocks}
 use Rattle.ffs_walk.specs.declared.window.Window.{Window}
 
--- the chunks of an inode that keeps `cut` offers, or all if that is 0
+-- the chunks of an inode with this cut (`chunks_in`), as a name that proofs here don't look into
 unfoldable pub chunks_read : Layout → Inode → ℕ → List ℕ → List Chunk
-chunks_read v i cut b = chunks_of (reading_by v b (bytes_read i.size)) (is_run_in_range v)
-    (replayed_steps v cut fresh_replay (steps_of v i b))
+chunks_read v i cut b = chunks_in v b i cut
 
 -- what a reading of chunks leaves: the image, but for a read that failed, and windows that can be read into
 pub record ChunksLeave {T : Type 0} (v : Layout) (d d' : Device) (blocks : Blocks) (chunk : Window)

@@ -9,7 +9,7 @@ use Rattle.ffs_volume.specs.Encodings.Kinds.{is_dir_kind, is_empty_dir_kind, is_
 use Rattle.ffs_volume.specs.Encodings.Kinds.{is_unknown_kind, type_of_kind, class_of_kind}
 use Rattle.ffs_workspace.specs.Holds.{bool_at}
 use Rattle.ffs_pathnames.specs.declared.inodes.Inodes.{Inodes}
-use Rattle.ffs_pathnames.specs.NameMarks.{NameMarks}
+use Rattle.ffs_pathnames.specs.PassedNames.{PassedNames}
 use Rattle.ffs_pathnames.specs.Stamps.{stamps_of}
 
 -- x is marked, or a directory of size 0
@@ -29,12 +29,12 @@ pub record Sees (vol : Volume) (i : Inodes) : Type 0 where
   pub class : (x : ℕ) → is_allocated (vol.class x) ≡ true → vol.class x ≡ class_of_kind (slice_index i.kinds.now x)
   pub parent_is : (x s : ℕ) → 2 ≤ s → is_value (parent (graph_of vol) x) s ≡ (slice_index i.parents.now.items x == s)
 
--- the stamps by these words, and the marks with them
+-- the stamps by these words, and the names that were passed by these flags and words
 abbrev pub stamps_in : Inodes → (words : List ℕ) → List ℕ
 stamps_in i words = stamps_of i.parents.now.items words
 
-abbrev pub marks_in : Inodes → List Bool → (words : List ℕ) → NameMarks
-marks_in i flags words = record { flags = flags; stamps = stamps_in i words }
+abbrev pub passed_in : Inodes → List Bool → (words : List ℕ) → PassedNames
+passed_in i flags words = record { flags = flags; stamps = stamps_in i words }
 
 -- each inode has a flag and a word
 pub record HasFlagAndWord (i : Inodes) (flags : List Bool) (words : List ℕ) : Type 0 where

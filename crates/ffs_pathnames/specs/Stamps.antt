@@ -6,12 +6,12 @@ use Rattle.ffs_workspace.specs.Places.{is_due, place_in}
 abbrev pub stamp_of : (parent word : ℕ) → ℕ
 stamp_of parent word = if is_due word then parent else 0
 
--- of each inode that has a word
+-- the stamp of each inode that has a word
 abbrev pub stamps_of : (parents words : List ℕ) → List ℕ
 stamps_of parents [] = []
 stamps_of [] (w ∷ ws) = 0 ∷ stamps_of [] ws
 stamps_of (p ∷ ps) (w ∷ ws) = stamp_of p w ∷ stamps_of ps ws
 
--- each word notes the place that it noted
+-- each word notes the same place as before
 abbrev pub KeepPlaces : (old new : List ℕ) → Type 0
 KeepPlaces old new = (x : ℕ) → place_in (slice_index new x) ≡ place_in (slice_index old x)

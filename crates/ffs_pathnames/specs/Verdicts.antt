@@ -1,27 +1,27 @@
--- The verdict on a plain entry, by the marks and by the lists of a workspace.
+-- The verdict on a plain entry, by the lists of a workspace and the names that were passed.
 use Rattle.std.specs.Prelude.{ℕ, if◌then◌else◌, List, [], ◌∷◌, ◌++◌}
 use Rattle.ffs_volume.specs.declared.Attr.{Attr}
 use Rattle.ffs_volume.specs.Messages.Kinds.{TreeMessage, reported, out_of_range, whiteout}
 use Rattle.ffs_volume.specs.Messages.Kinds.{unallocated, dup_bad, zero_dir, extraneous, kind_entry}
 use Rattle.ffs_pathnames.specs.declared.verdict.Verdict.{Verdict}
 use Rattle.ffs_pathnames.specs.declared.verdict.Verdict.TheVariants.{OutOfRange, Whiteout, Fine, Unallocated, Named}
-use Rattle.ffs_pathnames.specs.declared.verdict.Faults.{Faults}
+use Rattle.ffs_pathnames.specs.declared.verdict.EntryDefects.{EntryDefects}
 
--- what is reported of an inode that an entry names: `path` is the entry's, `directory` that of the inode
-abbrev pub suspect_message : Faults → Attr → List ℕ → TreeMessage
+-- what is reported of an entry that names an allocated inode: `path` is the entry's, `directory` that of the inode
+abbrev pub suspect_message : EntryDefects → Attr → List ℕ → TreeMessage
 suspect_message n about path = if n.marked then dup_bad about n.label path else zero_dir about path
 
-abbrev pub links_reported : Faults → Attr → List ℕ → List ℕ → List TreeMessage
+abbrev pub links_reported : EntryDefects → Attr → List ℕ → List ℕ → List TreeMessage
 links_reported n about path directory = reported n.extraneous (extraneous path directory)
     ++ reported n.kind (kind_entry about n.label path)
 
-abbrev pub faults_reported : Faults → Attr → List ℕ → List ℕ → List TreeMessage
-faults_reported n about path directory =
-    reported n.suspect (suspect_message n about path) ++ links_reported n about path directory
+abbrev pub defects_reported : EntryDefects → Attr → List ℕ → List ℕ → List TreeMessage
+defects_reported n about path directory =
+    reported n.first_of_suspect (suspect_message n about path) ++ links_reported n about path directory
 
 abbrev pub verdict_reported : Verdict → ℕ → Attr → List ℕ → List ℕ → List TreeMessage
 verdict_reported OutOfRange number about path directory = out_of_range number path ∷ []
 verdict_reported Whiteout number about path directory = whiteout number path ∷ []
 verdict_reported Fine number about path directory = []
 verdict_reported Unallocated number about path directory = unallocated about path ∷ []
-verdict_reported (Named n) number about path directory = faults_reported n about path directory
+verdict_reported (Named n) number about path directory = defects_reported n about path directory

@@ -4,7 +4,7 @@ ghost use Rattle.ffs_volume.specs.Messages.Kinds.{of_tree};
 ghost use Rattle.ffs_volume.specs.Directories.PathnameCheck.{sized_dir_lines};
 ghost use Rattle.ffs_volume.specs.Directories.Volumes.{volume_of};
 ghost use Rattle.ffs_report.specs.Known.{ForBytes};
-ghost use Rattle.ffs_report.specs.Runs.{PhaseReports};
+ghost use Rattle.ffs_report.specs.PhaseOutcome.{PhaseReports};
 ghost use Rattle.ffs_report.specs.Progress.{progress};
 ghost use Rattle.ffs_volume.specs.declared.Layout.{Layout};
 ghost use Rattle.ffs_volume.specs.Directories.Graph.{parent};
@@ -15,10 +15,10 @@ ghost use Rattle.ffs_workspace.specs.Places.{AreNoted};
 ghost use Rattle.ffs_pathnames.specs.Begins.{dir_starts, started_entry, IsDirectoryBegun};
 ghost use Rattle.ffs_pathnames.specs.Costs.{begin_reads, check_reads};
 ghost use Rattle.ffs_pathnames.specs.Header.{header_lines};
-ghost use Rattle.ffs_pathnames.specs.Gathers.{marks_of};
+ghost use Rattle.ffs_pathnames.specs.Gathers.{passed_of};
 ghost use Rattle.ffs_pathnames.specs.DirectoryContext.{DirectoryContext, KnowsHeader};
 ghost use Rattle.ffs_pathnames.specs.LineReads.{ReadsByLines};
-ghost use Rattle.ffs_pathnames.specs.MarksRight.{AreRightBefore};
+ghost use Rattle.ffs_pathnames.specs.PassedRight.{AreRightBefore};
 ghost use Rattle.ffs_pathnames.specs.Ready.{ReadyToPath, PhaseLeaves, LinesLeave};
 
 use crate::directory::{Directory, FirstLook};
@@ -164,17 +164,17 @@ pub fn check_directory<I: Image, W: Output>(
     requires dir { 2 ≤ dir }
     ensures text { PhaseReports (λ b. DirectoryContext geometry.now.layout
         (I.device image.old).contents workspace.old dir b
-        × AreRightBefore (volume_of geometry.now.layout b) dir (marks_of workspace.old))
+        × AreRightBefore (volume_of geometry.now.layout b) dir (passed_of workspace.old))
         (λ b. map of_tree (sized_dir_lines (volume_of geometry.now.layout b) dir))
         (progress W.sink report.old) (progress W.sink report.new) result }
-    ensures marks { OnOk result (ForBytes
+    ensures passed { OnOk result (ForBytes
         (λ b. DirectoryContext geometry.now.layout (I.device image.old).contents workspace.old dir b
-        × AreRightBefore (volume_of geometry.now.layout b) dir (marks_of workspace.old))
+        × AreRightBefore (volume_of geometry.now.layout b) dir (passed_of workspace.old))
         (λ b. AreRightBefore (volume_of geometry.now.layout b) (suc dir)
-        (marks_of workspace.new))) }
+        (passed_of workspace.new))) }
     ensures reads { ForBytes
         (λ b. DirectoryContext geometry.now.layout (I.device image.old).contents workspace.old dir b
-        × AreRightBefore (volume_of geometry.now.layout b) dir (marks_of workspace.old))
+        × AreRightBefore (volume_of geometry.now.layout b) dir (passed_of workspace.old))
         (λ b. AreNoted geometry.now.layout b workspace.old.queue.items
         → I.reads image.new ≤ I.reads image.old + check_reads geometry.now.layout b dir
         (length (sized_dir_lines (volume_of geometry.now.layout b) dir))) }

@@ -1,10 +1,10 @@
-//! The flags and stamps of the pathname check before the first directory.
+//! What the pathname check remembers of names before the first directory: none is passed yet.
 ghost use Rattle.std.specs.Prelude.{◌≡◌, ◌&&◌, not, ℕ, length};
 ghost use Rattle.ffs_image.specs.Device.{Device};
 ghost use Rattle.ffs_volume.specs.declared.Layout.{Layout};
 ghost use Rattle.ffs_workspace.specs.Holds.{bool_at};
 ghost use Rattle.ffs_workspace.specs.Ready.{IsReady};
-ghost use Rattle.ffs_pathnames.specs.Before.{AreMarksCleared};
+ghost use Rattle.ffs_pathnames.specs.Before.{IsNonePassed};
 ghost use Rattle.ffs_pathnames.specs.Gathers.{AreAsLong};
 ghost use Rattle.ffs_pathnames.specs.Sees.{is_suspect_by};
 
@@ -24,11 +24,12 @@ fn clear_suspects(inodes: &Inodes<'_>, flags: &mut [bool])
     }
 }
 
-/// Clears all flags and stamps of inodes, but for the survey's flags of inodes that aren't suspect:
-/// these stay, and say which directories are left out, since nothing can be reported of them.
-pub fn clear_marks(workspace: &mut Workspace)
+/// Forgets all names that were passed: clears the flags of suspect inodes, and the words of all
+/// inodes, which give stamps. The survey's flags of other inodes stay, and say which directories
+/// are left out, since nothing can be reported of them.
+pub fn clear_passed(workspace: &mut Workspace)
     requires lengths { AreAsLong workspace.old }
-    ensures clear { AreMarksCleared workspace.old workspace.new }
+    ensures clear { IsNonePassed workspace.old workspace.new }
     ensures ready { (v : Layout) (d : Device) → IsReady v d workspace.old
         → IsReady v d workspace.new }
 {

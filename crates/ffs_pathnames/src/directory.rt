@@ -9,7 +9,7 @@ ghost use Rattle.ffs_volume.specs.Encodings.ReplayCounts.{replayed_runs};
 ghost use Rattle.ffs_names.specs.Windows.{CanReadChunks};
 ghost use Rattle.ffs_pathnames.specs.Sees.{CanStamp};
 ghost use Rattle.ffs_pathnames.specs.Looks.{IsFirstLook};
-ghost use Rattle.ffs_pathnames.specs.NameMarks as marks;
+ghost use Rattle.ffs_pathnames.specs.PassedNames as names;
 ghost use Rattle.ffs_pathnames.specs.Reads.{start_chunk, ChunksLeave};
 ghost use Rattle.ffs_pathnames.specs.Stamps.{KeepPlaces};
 
@@ -41,7 +41,7 @@ pub struct FirstLook {
     pub quiet: bool,
     /// Whether all its chunks are sound.
     pub sound: bool,
-    /// Whether a hole of it is kept.
+    /// Whether a hole is among its kept steps.
     pub gap: bool,
     /// Whether a chunk is at the start of the file.
     pub started: bool,

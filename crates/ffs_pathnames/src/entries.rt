@@ -3,9 +3,9 @@ ghost use Rattle.std.specs.Prelude.{◌≡◌, OnOk};
 ghost use Rattle.ffs_volume.specs.Directories.Volumes.{volume_of};
 ghost use Rattle.ffs_report.specs.Known.{ForBytes};
 ghost use Rattle.ffs_report.specs.Progress.{progress};
-ghost use Rattle.ffs_pathnames.specs.Gathers.{marks_of, roled_in, roled_lines_by, roled_value};
+ghost use Rattle.ffs_pathnames.specs.Gathers.{passed_of, roled_in, roled_lines_by, roled_value};
 ghost use Rattle.ffs_pathnames.specs.DirectoryContext.{DirectoryContext};
-ghost use Rattle.ffs_pathnames.specs.NameMarks as marks;
+ghost use Rattle.ffs_pathnames.specs.PassedNames as names;
 ghost use Rattle.ffs_pathnames.specs.EntryLines.{ReportsEntries};
 ghost use Rattle.ffs_pathnames.specs.Ready.{ReadyToPath, PhaseLeaves, LinesLeave};
 
@@ -78,10 +78,10 @@ pub fn report_entry<I: Image, W: Output>(
         (λ v. roled_lines_by v workspace.old entry.now)
         (progress W.sink report.old) (progress W.sink report.new)
         (I.reads image.old) (I.reads image.new) result }
-    ensures marks { OnOk result (ForBytes (DirectoryContext geometry.now.layout
+    ensures passed { OnOk result (ForBytes (DirectoryContext geometry.now.layout
         (I.device image.old).contents workspace.old entry.now.dir)
-        (λ b. marks.after_roled (volume_of geometry.now.layout b) entry.now.dir
-        (marks_of workspace.old) (roled_value entry.now) ≡ marks_of workspace.new)) }
+        (λ b. names.after_roled (volume_of geometry.now.layout b) entry.now.dir
+        (passed_of workspace.old) (roled_value entry.now) ≡ passed_of workspace.new)) }
     ensures leaves { PhaseLeaves geometry.now.layout (I.device image.old) (I.device image.new)
         workspace.old workspace.new texts.new.siblings result }
     ensures chunk { workspace.new.windows.chunk ≡ workspace.old.windows.chunk }
@@ -119,15 +119,15 @@ pub fn report_chunk<I: Image, W: Output>(
         texts.old.siblings chunk.now.dir }
     ensures lines { ReportsEntries geometry.now.layout (I.device image.old) workspace.old
         workspace.new chunk.now.dir texts.old texts.new
-        (λ v. marks.entries_reported v chunk.now.dir (marks_of workspace.old)
+        (λ v. names.entries_reported v chunk.now.dir (passed_of workspace.old)
         (roled_in geometry.now.layout chunk.now))
         (progress W.sink report.old) (progress W.sink report.new)
         (I.reads image.old) (I.reads image.new) result }
-    ensures marks { OnOk result (ForBytes (DirectoryContext geometry.now.layout
+    ensures passed { OnOk result (ForBytes (DirectoryContext geometry.now.layout
         (I.device image.old).contents workspace.old chunk.now.dir)
-        (λ b. marks.after_entries (volume_of geometry.now.layout b) chunk.now.dir
-        (marks_of workspace.old) (roled_in geometry.now.layout chunk.now)
-        ≡ marks_of workspace.new)) }
+        (λ b. names.after_entries (volume_of geometry.now.layout b) chunk.now.dir
+        (passed_of workspace.old) (roled_in geometry.now.layout chunk.now)
+        ≡ passed_of workspace.new)) }
     ensures leaves { PhaseLeaves geometry.now.layout (I.device image.old) (I.device image.new)
         workspace.old workspace.new texts.new.siblings result }
     ensures chunk { workspace.new.windows.chunk ≡ workspace.old.windows.chunk }

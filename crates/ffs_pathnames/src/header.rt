@@ -23,7 +23,7 @@ pub struct DirectoryHeader<'a> {
     pub parent: Option<u32>,
     /// Its size.
     pub size: u64,
-    /// Whether a hole of it is kept.
+    /// Whether a hole is among its kept steps.
     pub gap: bool,
     /// Whether all its chunks are sound.
     pub sound: bool,
@@ -33,7 +33,7 @@ pub struct DirectoryHeader<'a> {
     pub second: Option<Entry<'a>>,
 }
 
-/// Whether a size is no multiple of a chunk, and not too short.
+/// Whether a size is no multiple of a chunk, though not too short.
 fn has_partial_chunk(size: u64) -> bool
     ensures { result ≡ (not (nat_lt size 24) && not (size % 512 == 0)) }
 {

@@ -9,7 +9,8 @@
 //!
 //! Its modules, in the order of the phase:
 //!
-//! - `pass2` is the phase. `clear` takes away the survey's flags and stamps that it doesn't need.
+//! - `pass2` is the phase. `clear` makes the workspace ready for it: no name is passed yet. Of the
+//!   survey's flags it leaves those of calm directories.
 //! - `tree` goes from the root (`root`) over the directories, and `check` checks one of them.
 //! - `examine` reads a directory once: its inode, then its chunks (`directory`), then their entries
 //!   (`look`), by what is known of the inodes that they name (`inodes`).

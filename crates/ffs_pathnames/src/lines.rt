@@ -2,31 +2,31 @@
 ghost use Rattle.ffs_volume.specs.Messages.Kinds.{reported};
 ghost use Rattle.ffs_report.specs.Progress.{progress};
 ghost use Rattle.ffs_pathnames.specs.SaysNames.{SaysNames};
-ghost use Rattle.ffs_pathnames.specs.Verdicts.{suspect_message, links_reported, faults_reported, verdict_reported};
+ghost use Rattle.ffs_pathnames.specs.Verdicts.{suspect_message, links_reported, defects_reported, verdict_reported};
 
 use crate::say::{LineIf, NameLine, say_line, say_two};
-use crate::verdict::{Faults, Verdict};
+use crate::verdict::{EntryDefects, Verdict};
 use ffs_report::{EntryLine, OutFault, Output, Report};
 use ffs_volume::Attr;
 
-/// Says that an inode is suspect, if it is.
+/// Says that an inode is suspect, where this entry is the first that names it.
 fn say_suspect<W: Output>(
     report: &mut Report<'_, W>,
-    faults: &Faults,
+    defects: &EntryDefects,
     attr: Attr,
     path: &[u8],
 ) -> Result<(), OutFault>
     ensures { SaysNames (progress W.sink report.old) (progress W.sink report.new)
-        (reported faults.now.suspect (suspect_message faults.now attr path.now)) result }
+        (reported defects.now.first_of_suspect (suspect_message defects.now attr path.now)) result }
 {
-    if !faults.suspect {
+    if !defects.first_of_suspect {
         return Ok(());
     }
-    if faults.marked {
+    if defects.marked {
         return say_line(
             report,
             &NameLine::Entry(EntryLine::DupBad {
-                label: faults.label,
+                label: defects.label,
                 attr,
                 path,
             }),
@@ -35,28 +35,29 @@ fn say_suspect<W: Output>(
     say_line(report, &NameLine::Entry(EntryLine::ZeroDir { attr, path }))
 }
 
-/// Says that a directory has another parent entry, and that an inode has another type.
+/// Says of an entry that it isn't the parent entry of the directory that it names, and that its
+/// type isn't that of the inode, each where it is so.
 fn say_links<W: Output>(
     report: &mut Report<'_, W>,
-    faults: &Faults,
+    defects: &EntryDefects,
     attr: Attr,
     path: &[u8],
     directory: &[u8],
 ) -> Result<(), OutFault>
     ensures { SaysNames (progress W.sink report.old) (progress W.sink report.new)
-        (links_reported faults.now attr path.now directory.now) result }
+        (links_reported defects.now attr path.now directory.now) result }
 {
     let extraneous = LineIf {
-        holds: faults.extraneous,
+        holds: defects.extraneous,
         line: NameLine::Entry(EntryLine::Extraneous {
             path,
             dir: directory,
         }),
     };
     let kind = LineIf {
-        holds: faults.kind,
+        holds: defects.kind,
         line: NameLine::Entry(EntryLine::KindEntry {
-            label: faults.label,
+            label: defects.label,
             attr,
             path,
         }),
@@ -64,19 +65,19 @@ fn say_links<W: Output>(
     say_two(report, &extraneous, &kind)
 }
 
-/// Says what is wrong with an allocated inode that an entry names.
-fn say_faults<W: Output>(
+/// Says what is wrong with an entry that names an allocated inode.
+fn say_defects<W: Output>(
     report: &mut Report<'_, W>,
-    faults: &Faults,
+    defects: &EntryDefects,
     attr: Attr,
     path: &[u8],
     directory: &[u8],
 ) -> Result<(), OutFault>
     ensures { SaysNames (progress W.sink report.old) (progress W.sink report.new)
-        (faults_reported faults.now attr path.now directory.now) result }
+        (defects_reported defects.now attr path.now directory.now) result }
 {
-    say_suspect(report, faults, attr, path)?;
-    say_links(report, faults, attr, path, directory)
+    say_suspect(report, defects, attr, path)?;
+    say_links(report, defects, attr, path, directory)
 }
 
 /// Says the lines of a plain entry's verdict.
@@ -108,6 +109,6 @@ pub fn say_verdict<W: Output>(
             report,
             &NameLine::Entry(EntryLine::Unallocated { attr, path }),
         ),
-        Verdict::Named(faults) => say_faults(report, faults, attr, path, directory),
+        Verdict::Named(defects) => say_defects(report, defects, attr, path, directory),
     }
 }

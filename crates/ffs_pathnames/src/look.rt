@@ -5,7 +5,7 @@ ghost use Rattle.ffs_volume.specs.Directories.Roles.{Volume, is_dir};
 ghost use Rattle.ffs_volume.specs.Directories.PathnameCheck.{is_bad_whiteout};
 ghost use Rattle.ffs_layout.specs.Entry.{entry_value};
 ghost use Rattle.ffs_pathnames.specs.Looks.{IsChunkLook};
-ghost use Rattle.ffs_pathnames.specs.NameMarks as marks;
+ghost use Rattle.ffs_pathnames.specs.PassedNames as names;
 ghost use Rattle.ffs_pathnames.specs.Sees.{Sees, CanStamp, stamps_in};
 ghost use Rattle.ffs_pathnames.specs.Stamps.{KeepPlaces};
 
@@ -24,12 +24,13 @@ pub fn is_bad_whiteout(entry: &Entry<'_>) -> bool
     (entry.number == WINO) != (entry.kind == DT_WHT)
 }
 
-/// Whether an inode is no directory, or this link to it is its parent's, and the first one there.
+/// Whether an inode is no directory, or the entry that names it is its parent entry: it is in the
+/// parent, and the first there (then the inode isn't stamped yet).
 fn is_quiet_link(inodes: &Inodes<'_>, dir: u32, words: &FilledList<u32>, inode: u32) -> bool
     requires inode { inode < length inodes.now.kinds.now }
     requires words { CanStamp inodes.now dir words.now.items }
     ensures { (v : Volume) → Sees v inodes.now → result
-        ≡ (not (is_dir v inode) || (marks.belongs v dir inode
+        ≡ (not (is_dir v inode) || (names.belongs v dir inode
         && not (slice_index (stamps_in inodes.now words.now.items) inode == dir))) }
 {
     !inodes.is_dir(inode) || (inodes.belongs(inode, dir) && inodes.stamp(words, inode) != dir)
@@ -40,7 +41,7 @@ fn is_quiet_inode(inodes: &Inodes<'_>, dir: u32, words: &FilledList<u32>, entry:
     requires inode { entry.now.number < length inodes.now.kinds.now }
     requires words { CanStamp inodes.now dir words.now.items }
     ensures { (v : Volume) → Sees v inodes.now → result
-        ≡ marks.is_inode_quiet v dir (stamps_in inodes.now words.now.items)
+        ≡ names.is_inode_quiet v dir (stamps_in inodes.now words.now.items)
         (entry_value entry.now) }
 {
     if !inodes.is_allocated(entry.number) {
@@ -59,7 +60,7 @@ fn is_quiet_inode(inodes: &Inodes<'_>, dir: u32, words: &FilledList<u32>, entry:
 fn is_quiet_plain(inodes: &Inodes<'_>, dir: u32, words: &FilledList<u32>, entry: &Entry<'_>) -> bool
     requires words { CanStamp inodes.now dir words.now.items }
     ensures { (v : Volume) → Sees v inodes.now → result
-        ≡ marks.is_plain_quiet v dir (stamps_in inodes.now words.now.items)
+        ≡ names.is_plain_quiet v dir (stamps_in inodes.now words.now.items)
         (entry_value entry.now) }
 {
     if entry.number >= inodes.count() {
@@ -72,7 +73,7 @@ fn is_quiet_plain(inodes: &Inodes<'_>, dir: u32, words: &FilledList<u32>, entry:
 }
 
 /// Whether it is sure that nothing is reported of an entry. Where it isn't, a line may come or not.
-#[tactic(auto, unfolding(crate::specs::NameMarks::is_quiet))]
+#[tactic(auto, unfolding(crate::specs::PassedNames::is_quiet))]
 pub fn is_quiet(
     inodes: &Inodes<'_>,
     dir: u32,
@@ -82,7 +83,7 @@ pub fn is_quiet(
 ) -> bool
     requires words { CanStamp inodes.now dir words.now.items }
     ensures { (v : Volume) → Sees v inodes.now → result
-        ≡ marks.is_quiet v dir (stamps_in inodes.now words.now.items)
+        ≡ names.is_quiet v dir (stamps_in inodes.now words.now.items)
         (record { role = role; entry = entry_value entry.now }) }
 {
     match role {
@@ -103,7 +104,7 @@ pub fn stamp(
 )
     requires words { CanStamp inodes.now dir words.old.items }
     ensures after { (v : Volume) → Sees v inodes.now → stamps_in inodes.now words.new.items
-        ≡ marks.after_look v dir (stamps_in inodes.now words.old.items)
+        ≡ names.after_look v dir (stamps_in inodes.now words.old.items)
         (record { role = role; entry = entry_value entry.now }) }
     ensures places { KeepPlaces words.old.items words.new.items }
     ensures words_long { vec_len words.new ≡ vec_len words.old }
@@ -149,7 +150,7 @@ pub fn look_chunk(
     let mut quiet = true;
     'entries: while let Some(entry) = entry_at(order, chunk, place) {
         let role = role_of(first, index, &entry);
-        // After an entry with a line the answer for the chunk is known, so no other is asked.
+        // After an entry that isn't quiet the chunk isn't either, so no other entry is asked.
         quiet = quiet && is_quiet(inodes, dir, words, role, &entry);
         stamp(inodes, dir, words, role, &entry);
         place += usize::from(entry.length);

@@ -12,7 +12,7 @@ ghost use Rattle.ffs_report.specs.Progress.{progress};
 ghost use Rattle.ffs_volume.specs.declared.Layout.{Layout};
 ghost use Rattle.ffs_workspace.specs.Lengths.{IsFor};
 ghost use Rattle.ffs_workspace.specs.Holds.{HoldsClaims, HoldsSurvey};
-ghost use Rattle.ffs_pathnames.specs.Gathers.{IsEnough, IsVerdict, AreAsLong, marks_of};
+ghost use Rattle.ffs_pathnames.specs.Gathers.{IsEnough, IsVerdict, AreAsLong, passed_of};
 ghost use Rattle.ffs_pathnames.specs.Gathers.{asks_attr, asks_path, extra_reported, is_silent, plain_lines_by};
 ghost use Rattle.ffs_pathnames.specs.DirectoryContext.{DirectoryContext, KeepsPath, KnowsPath};
 ghost use Rattle.ffs_paths.specs.DirectoryPaths.{IsPathOf};
@@ -44,12 +44,12 @@ pub struct DirectoryEntry<'a> {
     pub entry: Entry<'a>,
 }
 
-/// The texts of the lines of entries, which those of the next entry are written over.
+/// The texts that lines of entries show: those of an entry are written over the ones before.
 #[derive(Drop)]
 pub struct EntryTexts {
     /// What is kept from the path of one directory to that of the next.
     pub siblings: Siblings,
-    /// Whether the path of the directory that the entries are in is there: the first line makes it.
+    /// Whether the path of the directory that the entries are in was made: the first line makes it.
     pub begun: bool,
     /// The path of the entry.
     pub paths: EntryPaths,
@@ -79,7 +79,8 @@ impl EntryTexts {
 }
 
 /// Makes the path of a directory for the lines on its entries. It is apart from `begin_paths`,
-/// since a function clears the room of its locals each time that it is entered.
+/// which is called for each line: a function clears the room of its locals each time that it is
+/// entered, and those here are large.
 #[inline(never)]
 fn make_paths<I: Image>(
     geometry: &Geometry,
@@ -107,7 +108,7 @@ fn make_paths<I: Image>(
     Ok(())
 }
 
-/// Makes the path of a directory for the lines on its entries, where it isn't there.
+/// Makes the path of a directory for the lines on its entries, where it wasn't made yet.
 #[inline(always)]
 fn begin_paths<I: Image>(
     geometry: &Geometry,
@@ -169,7 +170,7 @@ fn asks(verdict: &Verdict) -> (bool, bool)
     match verdict {
         Verdict::OutOfRange | Verdict::Whiteout | Verdict::Fine => (false, false),
         Verdict::Unallocated => (true, false),
-        Verdict::Named(faults) => (true, faults.extraneous),
+        Verdict::Named(defects) => (true, defects.extraneous),
     }
 }
 
@@ -199,8 +200,8 @@ fn gather_path<I: Image>(
     siblings.put_path(geometry, image, workspace, dir, &mut texts.directory)
 }
 
-/// Gathers what the messages on an entry show, where the path of its directory is made: the two
-/// paths into `texts`, and the attributes of the inode that it names.
+/// Gathers what the messages on an entry show, once the path of its directory is made: the entry's
+/// path and that of the directory that it names into `texts`, and the attributes of its inode.
 #[inline(always)]
 fn gather<I: Image>(
     geometry: &Geometry,
@@ -244,7 +245,7 @@ fn gather<I: Image>(
 }
 
 /// Gathers what the messages on an entry of a directory show, and makes the path of that directory
-/// where it isn't there.
+/// where it wasn't made yet.
 #[inline(always)]
 fn gather_entry<I: Image>(
     geometry: &Geometry,
@@ -308,7 +309,7 @@ fn verdict_of(workspace: &Workspace, dir: u32, entry: &Entry<'_>) -> Verdict
     ensures below { IsTrue (asks_attr result) → entry.now.number < vec_len workspace.now.kinds }
     ensures verdict { (v : Layout) (b : List ℕ) → IsFor v workspace.now
         → HoldsClaims v b workspace.now → HoldsSurvey v b workspace.now
-        → IsVerdict (volume_of v b) dir (marks_of workspace.now) (entry_value entry.now) result }
+        → IsVerdict (volume_of v b) dir (passed_of workspace.now) (entry_value entry.now) result }
 {
     let inodes = Inodes {
         kinds: workspace.kinds.as_slice(),
@@ -331,7 +332,9 @@ fn is_silent(verdict: &Verdict) -> bool
     match verdict {
         Verdict::Fine => true,
         Verdict::OutOfRange | Verdict::Whiteout | Verdict::Unallocated => false,
-        Verdict::Named(faults) => !(faults.suspect || faults.extraneous || faults.kind),
+        Verdict::Named(defects) => {
+            !(defects.first_of_suspect || defects.extraneous || defects.kind)
+        }
     }
 }
 

@@ -2,7 +2,7 @@
 
 ghost use Rattle.std.specs.Prelude.{◌≡◌, ◌+◌, ◌≤◌, ◌⊎◌, [], ◌∷◌, true, OnOk, IfOk, length, map};
 ghost use Rattle.ffs_report.specs.Known.{IsContents, ForBytes};
-ghost use Rattle.ffs_report.specs.Runs.{ImageAfter, PhaseReports};
+ghost use Rattle.ffs_report.specs.PhaseOutcome.{ImageAfter, PhaseReports};
 ghost use Rattle.ffs_report.specs.Progress.{Said, progress};
 ghost use Rattle.ffs_volume.specs.Messages.Kinds as messages;
 ghost use Rattle.ffs_volume.specs.Messages.Kinds.{of_tree};
@@ -14,7 +14,7 @@ ghost use Rattle.ffs_workspace.specs.Places.{AreChunksNumbered};
 ghost use Rattle.ffs_pathnames.specs.RootAnswers.{AtReadFault, is_go};
 ghost use Rattle.ffs_workspace.specs.Ready.{IsReady};
 
-use crate::clear::clear_marks;
+use crate::clear::clear_passed;
 use crate::tree::check_tree;
 use ffs_image::Image;
 use ffs_layout::Geometry;
@@ -84,6 +84,6 @@ pub fn phase2<I: Image, W: Output>(
 {
     report.say(&Line::Heading(Heading::Phase2))?;
     survey(geometry, image, workspace)?;
-    clear_marks(workspace);
+    clear_passed(workspace);
     check_tree(geometry, image, workspace, report)
 }

@@ -3,14 +3,14 @@ ghost use Rattle.std.specs.Prelude.{◌≡◌, ◌+◌, ◌≤◌, OnOk, length,
 ghost use Rattle.ffs_volume.specs.Messages.Kinds.{of_tree};
 ghost use Rattle.ffs_volume.specs.Directories.Volumes.{volume_of};
 ghost use Rattle.ffs_report.specs.Known.{ForBytes};
-ghost use Rattle.ffs_report.specs.Runs.{PhaseReports};
+ghost use Rattle.ffs_report.specs.PhaseOutcome.{PhaseReports};
 ghost use Rattle.ffs_report.specs.Progress.{progress};
 ghost use Rattle.ffs_workspace.specs.Notes.{cut_in};
 ghost use Rattle.ffs_workspace.specs.Places.{AreNoted};
 ghost use Rattle.ffs_pathnames.specs.Costs.{report_reads};
-ghost use Rattle.ffs_pathnames.specs.Gathers.{marks_of};
+ghost use Rattle.ffs_pathnames.specs.Gathers.{passed_of};
 ghost use Rattle.ffs_pathnames.specs.DirectoryContext.{KnowsDirectory};
-ghost use Rattle.ffs_pathnames.specs.NameMarks as marks;
+ghost use Rattle.ffs_pathnames.specs.PassedNames as names;
 ghost use Rattle.ffs_pathnames.specs.Ready.{ReadyToPath, PhaseLeaves};
 
 use crate::directory::Directory;
@@ -41,20 +41,20 @@ pub fn report_directory<I: Image, W: Output>(
         ≡ cut_in (slice_index workspace.old.notes.items directory.now.number) }
     ensures text { PhaseReports
         (KnowsDirectory geometry.now.layout (I.device image.old) workspace.old directory.now)
-        (λ b. map of_tree (marks.directory_reported (volume_of geometry.now.layout b)
-        directory.now.number (marks_of workspace.old)))
+        (λ b. map of_tree (names.directory_reported (volume_of geometry.now.layout b)
+        directory.now.number (passed_of workspace.old)))
         (progress W.sink report.old) (progress W.sink report.new) result }
-    ensures marks { OnOk result (ForBytes
+    ensures passed { OnOk result (ForBytes
         (KnowsDirectory geometry.now.layout (I.device image.old) workspace.old directory.now)
-        (λ b. marks.after_directory (volume_of geometry.now.layout b) directory.now.number
-        (marks_of workspace.old) ≡ marks_of workspace.new)) }
+        (λ b. names.after_directory (volume_of geometry.now.layout b) directory.now.number
+        (passed_of workspace.old) ≡ passed_of workspace.new)) }
     ensures reads { ForBytes
         (KnowsDirectory geometry.now.layout (I.device image.old) workspace.old directory.now)
         (λ b. AreNoted geometry.now.layout b workspace.old.queue.items
         → I.reads image.new ≤ I.reads image.old
         + report_reads geometry.now.layout b directory.now.number
-        (length (marks.directory_reported (volume_of geometry.now.layout b)
-        directory.now.number (marks_of workspace.old)))) }
+        (length (names.directory_reported (volume_of geometry.now.layout b)
+        directory.now.number (passed_of workspace.old)))) }
     ensures leaves { PhaseLeaves geometry.now.layout (I.device image.old) (I.device image.new)
         workspace.old workspace.new texts.new.siblings result }
 {

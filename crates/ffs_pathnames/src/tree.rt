@@ -1,7 +1,7 @@
 //! The pathname check of the root, and of one directory after another.
 ghost use Rattle.std.specs.Prelude.{suc, ◌≡◌, ◌+◌, ◌-◌, ◌<◌, ◌≤◌, ℕ, true, false, OnOk, IfOk, length, map, vec_len};
 ghost use Rattle.ffs_report.specs.Known.{ForBytes};
-ghost use Rattle.ffs_report.specs.Runs.{PhaseReports};
+ghost use Rattle.ffs_report.specs.PhaseOutcome.{PhaseReports};
 ghost use Rattle.ffs_report.specs.Progress.{progress};
 ghost use Rattle.ffs_volume.specs.Messages.Kinds.{of_tree, lines_from};
 ghost use Rattle.ffs_volume.specs.Directories.PathnameCheck.{continues_after_root, directory_lines, pathname_lines};
@@ -27,8 +27,8 @@ use ffs_report::{Output, Report, RunFault};
 use ffs_volume::constants::{DT_DIR, ROOTINO};
 use ffs_workspace::Workspace;
 
-/// Whether an inode is a directory that isn't of size 0 and isn't known to be calm. The flag of a
-/// marked one says that an entry has named it.
+/// Whether an inode is a directory that isn't of size 0 and isn't known to be calm. That a marked
+/// one is flagged doesn't mean that it is calm, but that an entry has named it.
 fn is_checked(workspace: &Workspace, number: u32) -> bool
     requires kinds { number < vec_len workspace.now.kinds }
     requires lists { AreAsLong workspace.now }

@@ -2,9 +2,9 @@
 ghost use Rattle.std.specs.Prelude.{◌≡◌, ◌<◌, length, vec_len};
 ghost use Rattle.ffs_volume.specs.Directories.Roles.{Volume};
 ghost use Rattle.ffs_layout.specs.Entry.{entry_value};
-ghost use Rattle.ffs_pathnames.specs.Gathers.{AreFaultsOf, IsVerdictBy};
-ghost use Rattle.ffs_pathnames.specs.NameMarks as marks;
-ghost use Rattle.ffs_pathnames.specs.Sees.{Sees, HasFlagAndWord, marks_in};
+ghost use Rattle.ffs_pathnames.specs.Gathers.{AreDefectsOf, IsVerdictBy};
+ghost use Rattle.ffs_pathnames.specs.PassedNames as names;
+ghost use Rattle.ffs_pathnames.specs.Sees.{Sees, HasFlagAndWord, passed_in};
 ghost use Rattle.ffs_pathnames.specs.Stamps.{KeepPlaces};
 
 use crate::inodes::Inodes;
@@ -15,18 +15,18 @@ use ffs_volume::constants::{ROOTINO, WINO};
 use ffs_volume::{Label, Role};
 use ffs_workspace::passed;
 
-/// What is wrong with an allocated inode that a plain entry names.
+/// What is wrong with a plain entry that names an allocated inode, and what messages on it show.
 #[derive(Clone, Copy, Debug, PartialEq, Eq)]
-pub struct Faults {
-    /// It is suspect, and this entry is the first plain one that names it.
-    pub suspect: bool,
-    /// It is marked.
+pub struct EntryDefects {
+    /// The inode is suspect, and this entry is the first plain one that names it.
+    pub first_of_suspect: bool,
+    /// The inode is marked: then a message on a suspect one isn't of a directory of size 0.
     pub marked: bool,
-    /// It is a directory, and this isn't its parent entry.
+    /// The inode is a directory, and this entry isn't its parent entry.
     pub extraneous: bool,
-    /// The entry's type isn't its own.
+    /// The entry's type isn't the inode's.
     pub kind: bool,
-    /// What messages call it.
+    /// What messages call the inode.
     pub label: Label,
 }
 
@@ -42,27 +42,28 @@ pub enum Verdict {
     /// It names an inode that isn't allocated.
     Unallocated,
     /// It names an allocated inode.
-    Named(Faults),
+    Named(EntryDefects),
 }
 
-/// What is wrong with an allocated inode that an entry names.
-fn faults_of(
+/// What is wrong with a plain entry that names an allocated inode.
+fn defects_of(
     inodes: &Inodes<'_>,
     dir: u32,
     flags: &[bool],
     words: &FilledList<u32>,
     entry: &Entry<'_>,
-) -> Faults
+) -> EntryDefects
     requires inode { entry.now.number < length inodes.now.kinds.now }
-    requires marks { HasFlagAndWord inodes.now flags.now words.now.items }
-    ensures { AreFaultsOf inodes.now dir (marks_in inodes.now flags.now words.now.items)
+    requires passed { HasFlagAndWord inodes.now flags.now words.now.items }
+    ensures { AreDefectsOf inodes.now dir (passed_in inodes.now flags.now words.now.items)
         (entry_value entry.now) result }
 {
     let index = entry.number as usize;
-    let suspect = inodes.is_suspect(entry.number) && entry.number != ROOTINO && !flags[index];
+    let first_of_suspect =
+        inodes.is_suspect(entry.number) && entry.number != ROOTINO && !flags[index];
     let extraneous = inodes.is_dir(entry.number) && inodes.stamp(words, entry.number) != dir;
-    Faults {
-        suspect,
+    EntryDefects {
+        first_of_suspect,
         marked: inodes.marked[index],
         extraneous,
         kind: inodes.has_wrong_type(entry.number, entry.kind),
@@ -79,7 +80,7 @@ pub fn entry_verdict(
     entry: &Entry<'_>,
 ) -> Verdict
     requires { HasFlagAndWord inodes.now flags.now words.now.items }
-    ensures { IsVerdictBy inodes.now dir (marks_in inodes.now flags.now words.now.items)
+    ensures { IsVerdictBy inodes.now dir (passed_in inodes.now flags.now words.now.items)
         (entry_value entry.now) result }
 {
     if entry.number >= inodes.count() {
@@ -94,12 +95,12 @@ pub fn entry_verdict(
     if !inodes.is_allocated(entry.number) {
         return Verdict::Unallocated;
     }
-    Verdict::Named(faults_of(inodes, dir, flags, words, entry))
+    Verdict::Named(defects_of(inodes, dir, flags, words, entry))
 }
 
-/// Passes a plain entry: flags the inode that it names, if that is suspect (the flag of any other
-/// says that it is calm), and takes its stamp away where it is the directory's: its parent entry is
-/// passed by its word, whose place stays.
+/// Passes a plain entry of `dir`. The inode that it names is flagged, if it is suspect (the flag of
+/// any other says that it is calm). If it is stamped by `dir`, its parent entry isn't due any more:
+/// its word says so, and keeps its place.
 pub fn pass(
     inodes: &Inodes<'_>,
     dir: u32,
@@ -110,9 +111,9 @@ pub fn pass(
 )
     requires { HasFlagAndWord inodes.now flags.old words.old.items }
     ensures after { (v : Volume) → Sees v inodes.now →
-        marks.after_roled v dir (marks_in inodes.now flags.old words.old.items)
+        names.after_roled v dir (passed_in inodes.now flags.old words.old.items)
         (record { role = role; entry = entry_value entry.now })
-        ≡ marks_in inodes.now flags.new words.new.items }
+        ≡ passed_in inodes.now flags.new words.new.items }
     ensures places { KeepPlaces words.old.items words.new.items }
     ensures words_long { vec_len words.new ≡ vec_len words.old }
 {

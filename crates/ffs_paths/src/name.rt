@@ -17,7 +17,7 @@ use ffs_layout::{Geometry, entry_at};
 use ffs_names::role_of;
 use ffs_volume::Order;
 use ffs_volume::constants::DIRBLKSIZ;
-use ffs_workspace::{Workspace, place_in};
+use ffs_workspace::{Workspace, noted_chunk};
 
 /// Finds the name of an inode in a chunk, by its first plain entry there. Returns whether there is
 /// one.
@@ -62,7 +62,7 @@ fn find_by_place<I: Image>(
     ensures counted { ReadsFew 1 (I.reads image.old) (I.reads image.new) workspace.old
         workspace.new }
 {
-    let Some(chunk) = place_in(workspace.queue[dir as usize]) else {
+    let Some(chunk) = noted_chunk(workspace.queue[dir as usize]) else {
         return Ok(false);
     };
     let place = DIRBLKSIZ as u64 * u64::from(chunk);

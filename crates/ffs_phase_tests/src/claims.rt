@@ -160,7 +160,7 @@ fn checked_with(
 }
 
 /// What is reported of each image, and how many Runs its two looks see: the second one ends as soon
-/// as each DUP's first claim is reported.
+/// as the first kept offer of each fragment with a DUP line is reported.
 #[test]
 fn block_checks(rt: HostRuntime) -> Result<(), Fail> {
     let geometry = geometry(Order::Little)?;

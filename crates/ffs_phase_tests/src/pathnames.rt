@@ -3,7 +3,7 @@
 use crate::compare::same;
 use ffs_layout::Entry;
 use ffs_pathnames::inodes::Inodes;
-use ffs_pathnames::verdict::{Faults, Verdict, entry_verdict, pass};
+use ffs_pathnames::verdict::{EntryDefects, Verdict, entry_verdict, pass};
 use ffs_samples::numbers;
 use ffs_volume::{Label, Role};
 use ffs_workspace::due;
@@ -27,10 +27,10 @@ fn entry(number: u32, kind: u8) -> Entry<'static> {
     }
 }
 
-/// What is wrong with an inode that is not marked.
-fn named(label: Label, suspect: bool, extraneous: bool, kind: bool) -> Verdict {
-    Verdict::Named(Faults {
-        suspect,
+/// What is wrong with an entry that names an inode which isn't marked.
+fn named(label: Label, first_of_suspect: bool, extraneous: bool, kind: bool) -> Verdict {
+    Verdict::Named(EntryDefects {
+        first_of_suspect,
         marked: false,
         extraneous,
         kind,
@@ -100,15 +100,15 @@ fn verdicts_in_turn(alloc: Global) -> Result<([Verdict; 3], u32), AllocError> {
 /// at the first alone. The place that is noted stays.
 #[test]
 fn second_names(rt: HostRuntime) -> Result<(), Fail> {
-    let first = Faults {
-        suspect: true,
+    let first = EntryDefects {
+        first_of_suspect: true,
         marked: true,
         extraneous: false,
         kind: false,
         label: Label::File,
     };
-    let again = Faults {
-        suspect: false,
+    let again = EntryDefects {
+        first_of_suspect: false,
         ..first
     };
     let (found, place) = verdicts_in_turn(rt.alloc())?;

@@ -10,7 +10,7 @@ use ffs_memory::FilledList;
 use ffs_names::note_places;
 use ffs_samples::{Number, geometry, image_of, inode};
 use ffs_volume::Class;
-use ffs_workspace::{Workspace, is_due, note_of, place_in};
+use ffs_workspace::{Workspace, is_due, note_of, noted_chunk};
 use std::alloc::{AllocError, Global};
 use std::test::Fail;
 
@@ -65,7 +65,7 @@ fn noted_in(words: &FilledList<u32>) -> ([Option<u32>; 4], bool) {
     for (place, inode) in places.iter_mut().zip([2, 3, 4, 5]) {
         if inode < words.len() {
             let word = words[inode];
-            *place = place_in(word);
+            *place = noted_chunk(word);
             due |= is_due(word);
         }
     }

@@ -16,7 +16,7 @@ use Rattle.ffs_volume.specs.Messages.Kinds.{Message}
 use Rattle.ffs_report.specs.Progress.{Progress, Said, Stopped}
 use Rattle.ffs_report.proofs.Reports.{said_none, said_then, stopped_after, stopped_more}
 use Rattle.ffs_report.specs.Known.{ForBytes}
-use Rattle.ffs_report.specs.Runs.{SaidTo, SaidOf, SaidPrefixOf, StoppedOf, PhaseReports}
+use Rattle.ffs_report.specs.PhaseOutcome.{SaidTo, SaidOf, SaidPrefixOf, StoppedOf, PhaseReports}
 use Rattle.ffs_report.specs.declared.fault.RunFault.{RunFault}
 use Rattle.ffs_report.specs.declared.fault.RunFault.TheVariants.{Read, Out}
 

@@ -61,7 +61,7 @@ pub enum Line<'a> {
 pub enum Heading {
     /// The block check.
     Phase1,
-    /// The rescan for the first claims of duplicates.
+    /// The rescan for the first kept offers of fragments with a DUP line.
     Phase1b,
     /// The pathname check.
     Phase2,

@@ -271,7 +271,7 @@ calm_unreached kinds m r p p' entries right_shape f same old x set =
 -- the directories of a level are reached
 pub frontier_reached : (v : Graph) (k : ℕ) (xs : List ℕ) (r : List Bool) (p q : List ℕ) → IsFrontier v k xs →
     LevelsKnown v k r p q → (i d : ℕ) → i < length xs → bool_at r (get_or xs i d) ≡ true
-frontier_reached v k xs r p q f l i d h = let x = get_or xs i d in l.reached x ∙ frontier_within v k xs f i d h
+frontier_reached v k xs r p q f l i d h = let x = get_or xs i d in l.reaches x ∙ frontier_within v k xs f i d h
 
 reached_below : (r : List Bool) (x : ℕ) → bool_at r x ≡ true → x < length r
 reached_below r x h = elim (cases_lt x (length r)) [
@@ -284,7 +284,7 @@ pub read_stays : (g : Graph) (kinds : List ℕ) (r : List Bool) (n : ℕ) (f f' 
     → length r ≡ g.count → IsRead g kinds r n f m p f' m' p' → (x : ℕ) → bool_at r x ≡ true →
     number_at p' x ≡ number_at p x
 read_stays g kinds r n f f' m m' p p' long read x h =
-    read.parents x (subst (λ z. x < z) long (reached_below r x h))
+    read.parent x (subst (λ z. x < z) long (reached_below r x h))
     ∙ ap (λ o. unwrap_or o (number_at p x))
     (first_below-is_none (is_unreached_edge g kinds r x) n
     (λ s l. taken (dir_at kinds x) (bool_at r x) (not (bool_at r s) && is_naming_dir g s x) h))

@@ -213,12 +213,12 @@ next_level v k xs r r' p p' q q' sane f n c = record { reached = reached_x; pare
     reached_x : (x : ℕ) → bool_at r' x ≡ within v (suc k) x
     reached_x x = sym (or-false (bool_at r' x))
         ∙ (c.reaches x ∙ (ap (λ o. bool_at r x || is_some o) (found_x x)
-        ∙ (ap (λ b. b || some_below (level_edge v k x) v.count) (n.reached x) ∙ sym (within-level v k x sane))))
+        ∙ (ap (λ b. b || some_below (level_edge v k x) v.count) (n.reaches x) ∙ sym (within-level v k x sane))))
 
     now_x : (x : ℕ) → number_at p' x ≡ cond (within v k x) (number_at p x)
         (unwrap_or (first_below (level_edge v k x) v.count) (number_at p x))
     now_x x = sym (same_cond (bool_at r' x) (number_at p' x))
-        ∙ (c.parent x ∙ (ap (λ b. cond b (number_at p x) (unwrap_or (from_dirs v xs x) (number_at p x))) (n.reached x)
+        ∙ (c.parent x ∙ (ap (λ b. cond b (number_at p x) (unwrap_or (from_dirs v xs x) (number_at p x))) (n.reaches x)
         ∙ ap (λ o. cond (within v k x) (number_at p x) (unwrap_or o (number_at p x))) (found_x x)))
 
     parent_x : (x : ℕ) → number_at p' x ≡ unwrap_or (parent_at v (suc k) x) 0
@@ -243,7 +243,7 @@ next_level v k xs r r' p p' q q' sane f n c = record { reached = reached_x; pare
     queue_x x = sym (add-zero (occurrences x q'))
         ∙ (c.queued x ∙ (ap (λ t. t + bit (is_some (from_dirs v xs x) && not (bool_at r x))) (occurrences-nil x)
         ∙ (zero-add _ ∙ ap bit
-        (ap (λ b. is_some (from_dirs v xs x) && not b) (n.reached x)
+        (ap (λ b. is_some (from_dirs v xs x) && not b) (n.reaches x)
         ∙ (ap (λ o. is_some o && not (within v k x)) (found_x x)
         ∙ (swap_in (within v k x) (some_below (level_edge v k x) v.count)
         ∙ (ap (λ b. b && not (within v k x)) (sym (within-level v k x sane)) ∙ sym (is_level-suc v k x sane))))))))

@@ -49,7 +49,7 @@ no_more v k x sane f =
 
 pub knows_reached : (v : Graph) (k : ℕ) (r : List Bool) (p q : List ℕ) → IsSane v → IsFrontier v k [] →
     LevelsKnown v k r p q → (x : ℕ) → bool_at r x ≡ reached v x
-knows_reached v k r p q sane f n x = n.reached x ∙ no_more v k x sane f
+knows_reached v k r p q sane f n x = n.reaches x ∙ no_more v k x sane f
 
 pub knows_parent : (v : Graph) (k : ℕ) (r : List Bool) (p q : List ℕ) → IsSane v → IsFrontier v k [] →
     LevelsKnown v k r p q → (x : ℕ) → number_at p x ≡ unwrap_or (cond (is_some (level v x)) (parent v x) None) 0
@@ -63,7 +63,7 @@ pub levels_start : (v : Graph) (r : List Bool) (p : List ℕ) → 2 < length r �
     ((x : ℕ) → bool_at r x ≡ false) → ((x : ℕ) → number_at p x ≡ 0) →
     LevelsKnown v 0 (set r 2 true) (set p 2 2) (2 ∷ [])
 levels_start v r p lr lp clear blank = record {
-  reached = λ x. elim (cases_eq x 2) [
+  reaches = λ x. elim (cases_eq x 2) [
     | inl y ↦ marked x y ∙ sym (within-zero v x ∙ eq-eqb x 2 y)
     | inr n ↦ unmarked x n ∙ sym (within-zero v x ∙ ne_eqb x 2 n)
   ];
@@ -74,7 +74,7 @@ levels_start v r p lr lp clear blank = record {
     | inr n ↦ (get_or-set_other p 2 x 2 0 n ∙ blank x)
         ∙ sym (ap (λ o. unwrap_or o 0) (cond-false (within v 0 x) (parent v x) None (within-zero v x ∙ ne_eqb x 2 n)))
   ];
-  queue = λ x. elim (cases_eq x 2) [
+  queued = λ x. elim (cases_eq x 2) [
     | inl y ↦ occurrences-single x 2 ∙ ap bit (eq-eqb 2 x (sym y) ∙ sym (marked x y))
     | inr n ↦ occurrences-single x 2 ∙ ap bit (ne_eqb 2 x (λ e. n (sym e)) ∙ sym (unmarked x n))
   ];
@@ -123,4 +123,4 @@ root_alone v r p q sane dry f n =
     dry)) in
     let c : Comes g r p [] nothing r p [] = comes-to g g nothing r r p p [] [] none (comes-refl g r p []) in
     let k : IsNext v 1 r p [] = next_level v 0 (2 ∷ []) r r p p q [] sane f n c in
-    (record { reached = k.reached; parent = k.parent; queue = n.queue }, record { members = k.members; rising = tt })
+    (record { reaches = k.reached; parent = k.parent; queued = n.queued }, record { members = k.members; rising = tt })

@@ -81,13 +81,13 @@ level_after v k xs r r' p p' q new ys sane f n c m s =
     let one : suc k ≡ k + 1 = omega arith in
     let next : IsNext v (k + 1) r' p' new =
     subst (λ j. IsNext v j r' p' new) one (next_level v k xs r r' p p' q new sane f n c) in
-    let grown = queue_grows (from_dirs v xs) r r' p p' q new n.queue c in
+    let grown = queue_grows (from_dirs v xs) r r' p p' q new n.queued c in
     record {
       frontier = frontier_from v (k + 1) new ys next.members m s;
       knows = record {
-        reached = next.reached;
+        reaches = next.reached;
         parent = next.parent;
-        queue = λ x.
+        queued = λ x.
             let a = sum_by-append (λ y. bit (y == x)) q ys in
             let b = sum_by-append (λ y. bit (y == x)) q new in
             let d = sum_by-IsPermutation (λ y. bit (y == x)) new ys m in
@@ -104,15 +104,15 @@ pub counted_on : (g : Graph) (low high : ℕ) (q q' starts f f' : List ℕ) (m m
 counted_on g low high q q' starts f f' m m' l kept i c =
     let parts : take high q' ≡ take low q ++ drop low (take high q) = kept ∙ queue_parts low high q l in
     record {
-      references = λ x b.
+      counts = λ x b.
           let one = ap (λ z. count_of g z x) parts
           ∙ sum_by-append (λ s. counted_in g s x) (take low q) (drop low (take high q)) in
-          let two = i.references x b in
+          let two = i.counts x b in
           let three = c.counts x b in
           omega (arith, one, two, three);
-      named = λ x b.
+      names = λ x b.
           sym (or-false (bool_at m' x))
-          ∙ (c.names x b ∙ (ap (λ y. y || any_of g (drop low (take high q)) x) (i.named x b)
+          ∙ (c.names x b ∙ (ap (λ y. y || any_of g (drop low (take high q)) x) (i.names x b)
           ∙ (sym (any_of-append g (take low q) (drop low (take high q)) x) ∙ ap (λ z. any_of g z x) (sym parts))));
     }
 
@@ -126,10 +126,10 @@ reached_part kinds entries k starts f m r p q e sane frontier n i =
     let g = graph_with kinds entries in
     let past = λ (s : ℕ) (l : length kinds ≤ s). get_or_past r s false (omega arith) in
     record {
-      references = λ x b. i.references x b
-          ∙ ap (λ c. number_at starts x + c) (count_all g (bool_at r) q (length kinds) x n.queue past);
-      named = λ x b. i.named x b ∙ any_all g (bool_at r) q (length kinds) x n.queue past;
-      reached = knows_reached g k r p q sane frontier n;
+      counts = λ x b. i.counts x b
+          ∙ ap (λ c. number_at starts x + c) (count_all g (bool_at r) q (length kinds) x n.queued past);
+      names = λ x b. i.names x b ∙ any_all g (bool_at r) q (length kinds) x n.queued past;
+      reaches = knows_reached g k r p q sane frontier n;
       parent = knows_parent g k r p q sane frontier n;
     }
 
@@ -142,13 +142,13 @@ alone_part kinds entries starts f m r p e sane dry n zf zm =
     let g = graph_with kinds entries in
     let a = root_alone g r p (2 ∷ []) sane dry (frontier_start g sane) n in
     reached_part kinds entries 1 starts f m r p (2 ∷ []) e sane a.1 a.0 (record {
-      references = λ x b. ap (λ l. number_at l x) zf ∙ sym (add-zero (number_at starts x))
+      counts = λ x b. ap (λ l. number_at l x) zf ∙ sym (add-zero (number_at starts x))
           ∙ ap (λ c. number_at starts x + c) (sym
           (sum_by-cons (λ s. counted_in g s x) 2 []
           ∙ (add-zero (counted_in g 2 x) ∙ cond-false (dir_at kinds 2) (count_by (refers x) (entries 2)) 0 dry)));
-      named = λ x b. zm x ∙ sym (or-false (is_naming_dir g 2 x) ∙ and_left (dir_at kinds 2) _ dry);
+      names = λ x b. zm x ∙ sym (or-false (is_naming_dir g 2 x) ∙ and_left (dir_at kinds 2) _ dry);
     })
 
 -- no entry is counted before the first directory
 pub none_counted : (g : Graph) (f : List ℕ) (m : List Bool) → ((x : ℕ) → bool_at m x ≡ false) → IsCount g [] f f m
-none_counted g f m zm = record { references = λ x b. sym (add-zero (number_at f x)); named = λ x b. zm x }
+none_counted g f m zm = record { counts = λ x b. sym (add-zero (number_at f x)); names = λ x b. zm x }

@@ -33,7 +33,7 @@ pub read_start : (g : Graph) (kinds : List ℕ) (r : List Bool) (f : List ℕ) (
     IsRead g kinds r 0 f m p f m p
 unfolding counted_by first_below
 read_start g kinds r f m p = record
-    { references = λ x l. sym (add-zero (number_at f x)); named = λ x l. go (bool_at m x); parents = λ x l. refl }
+    { counts = λ x l. sym (add-zero (number_at f x)); names = λ x l. go (bool_at m x); parent = λ x l. refl }
   where
     go : (b : Bool) → b ≡ (b || false)
     go true = refl
@@ -73,23 +73,23 @@ pub read_on : (kinds : List ℕ) (entries : ℕ → List RoledEntry) (r : List B
 unfolding counted_by
 read_on kinds entries r s f f' f'' m m' m'' p p' p'' unreached blank i c u =
     subst (λ n. IsRead g kinds r n f m p f'' m'' p'') one (record {
-      references = λ x l.
-          let a = i.references x l in
+      counts = λ x l.
+          let a = i.counts x l in
           let b = c.counts x l in
           let d = cond-true (not (bool_at r s)) (counted_in g s x) 0 unmarked in
           let e = cond-true (dir_at kinds s) (count_in (entries s) x) 0 dir in
           omega (arith, a, b, d, e);
-      named = λ x l.
-          sym (or-false (bool_at m'' x)) ∙ (c.names x l ∙ (ap (λ y. y || any_in (entries s) x) (i.named x l)
+      names = λ x l.
+          sym (or-false (bool_at m'' x)) ∙ (c.names x l ∙ (ap (λ y. y || any_in (entries s) x) (i.names x l)
           ∙ (ap (λ y. (bool_at m x || some_below (λ t. not (bool_at r t) && is_naming_dir g t x) s) || y) (share x)
           ∙ (assoc (bool_at m x) (some_below (λ t. not (bool_at r t) && is_naming_dir g t x) s)
           (not (bool_at r s) && is_naming_dir g s x)
           ∙ ap (λ y. bool_at m x || y) (sym (some_below-suc (λ t. not (bool_at r t) && is_naming_dir g t x) s))))));
-      parents = λ x l.
+      parent = λ x l.
           first_step (is_unreached_edge g kinds r x) s (number_at p x) (number_at p' x) (number_at p'' x)
           (is_unreached_dir kinds r x && any_in (entries s) x) (zero-edge kinds entries r x)
           (λ t. blank x (and_parts (is_unreached_dir kinds r x) (any_in (entries s) x) t).0)
-          (ap (λ y. is_unreached_dir kinds r x && y) (sym (share x))) (i.parents x l) (u x l);
+          (ap (λ y. is_unreached_dir kinds r x && y) (sym (share x))) (i.parent x l) (u x l);
     })
   where
     g : Graph
@@ -123,12 +123,12 @@ pub read_skip : (kinds : List ℕ) (entries : ℕ → List RoledEntry) (r : List
     IsRead (graph_with kinds entries) kinds r (s + 1) f m p f' m' p'
 unfolding counted_by first_below earliest
 read_skip kinds entries r s f f' m m' p p' taken i = subst (λ n. IsRead g kinds r n f m p f' m' p') one (record {
-  references = λ x l. let a = i.references x l in let b =
+  counts = λ x l. let a = i.counts x l in let b =
       zero_share (dir_at kinds s) (bool_at r s) (count_in (entries s) x) taken in omega (arith, a, b);
-  named = λ x l. i.named x l
+  names = λ x l. i.names x l
       ∙ ap (λ y. bool_at m x || y)
       (sym (some_below-suc (λ t. not (bool_at r t) && is_naming_dir g t x) s ∙ or_skip _ _ (no_share x)));
-  parents = λ x l. i.parents x l
+  parent = λ x l. i.parent x l
       ∙ ap (λ o. unwrap_or o (number_at p x))
       (same_first (first_below (is_unreached_edge g kinds r x) s) _ (and_right (is_unreached_dir kinds r x) _ (no_share x)));
 })
@@ -170,7 +170,7 @@ pub unreached_blank : (kinds : List ℕ) (entries : ℕ → List RoledEntry) (st
 unreached_blank kinds entries starts f m r p i x h =
     let g = graph_with kinds entries in
     let off : bool_at r x ≡ false = not-true _ (and_parts (dir_at kinds x) (not (bool_at r x)) h).1 in
-    i.parent x ∙ ap (λ o. unwrap_or o 0) (cond-false (is_some (level g x)) (parent g x) None (sym (i.reached x) ∙ off))
+    i.parent x ∙ ap (λ o. unwrap_or o 0) (cond-false (is_some (level g x)) (parent g x) None (sym (i.reaches x) ∙ off))
 
 -- a reached directory has no edge to an unreached one
 unreached_edges : (kinds : List ℕ) (entries : ℕ → List RoledEntry) (r : List Bool) (x s : ℕ) → s < length kinds →
@@ -204,15 +204,15 @@ pub survey_whole : (kinds : List ℕ) (entries : ℕ → List RoledEntry) (given
     → IsSurvey (graph_with kinds entries) given f' m' r p'
 survey_whole kinds entries given starts f f' m m' r p p' sane lr lp begins i k = record {
   counts = λ x l.
-      let a = k.references x l in
-      let b = i.references x l in
+      let a = k.counts x l in
+      let b = i.counts x l in
       let c = counted_both (bool_at r) g x (length kinds) in
       let d = begins x in
       omega (arith, a, b, c, d);
-  names = λ x l. k.named x l
-      ∙ (ap (λ b. b || some_below (λ s. not (bool_at r s) && is_naming_dir g s x) (length kinds)) (i.named x l)
+  names = λ x l. k.names x l
+      ∙ (ap (λ b. b || some_below (λ s. not (bool_at r s) && is_naming_dir g s x) (length kinds)) (i.names x l)
       ∙ some_both (bool_at r) (λ s. is_naming_dir g s x) (length kinds));
-  reaches = i.reached;
+  reaches = i.reaches;
   parent_is = λ x. elim (cases_lt x (length kinds)) [ inl l ↦ below x l | inr b ↦ past x b ];
 }
   where
@@ -221,8 +221,8 @@ survey_whole kinds entries given starts f f' m m' r p p' sane lr lp begins i k =
 
     unreached_first : (x : ℕ) → bool_at r x ≡ false → parent g x ≡ first_below (λ s. edge g s x) (length kinds)
     unreached_first x off = parent-unreached g x
-        (λ y. both_ways (reached g 2) (subst (λ z. reached g z ≡ false) y (sym (i.reached x) ∙ off))
-        (reached-root g sane.some)) (sym (i.reached x) ∙ off)
+        (λ y. both_ways (reached g 2) (subst (λ z. reached g z ≡ false) y (sym (i.reaches x) ∙ off))
+        (reached-root g sane.some)) (sym (i.reaches x) ∙ off)
 
     past : (x : ℕ) → length kinds ≤ x → number_at p' x ≡ unwrap_or (parent g x) 0
     past x b =
@@ -238,17 +238,17 @@ survey_whole kinds entries given starts f f' m m' r p p' sane lr lp begins i k =
     below x l = elim (cases_Bool (bool_at r x)) [
       | inl on ↦
           let nothing_free : is_unreached_dir kinds r x ≡ false = and_right (dir_at kinds x) (not (bool_at r x)) (ap not on) in
-          k.parents x l ∙ (ap (λ o. unwrap_or o (number_at p x))
+          k.parent x l ∙ (ap (λ o. unwrap_or o (number_at p x))
           (first_below-is_none (is_unreached_edge g kinds r x) (length kinds)
           (λ s b. and_left (is_unreached_dir kinds r x) _ nothing_free))
           ∙ (i.parent x ∙ ap (λ o. unwrap_or o 0)
-          (cond-true (is_some (level g x)) (parent g x) None (sym (i.reached x) ∙ on))))
+          (cond-true (is_some (level g x)) (parent g x) None (sym (i.reaches x) ∙ on))))
       | inr off ↦
           let zero_before : number_at p x ≡ 0 = i.parent x
-          ∙ ap (λ o. unwrap_or o 0) (cond-false (is_some (level g x)) (parent g x) None (sym (i.reached x) ∙ off)) in
-          k.parents x l ∙ (ap (λ o. unwrap_or o (number_at p x))
+          ∙ ap (λ o. unwrap_or o 0) (cond-false (is_some (level g x)) (parent g x) None (sym (i.reaches x) ∙ off)) in
+          k.parent x l ∙ (ap (λ o. unwrap_or o (number_at p x))
           (first_same (is_unreached_edge g kinds r x) (λ s. edge g s x) (length kinds)
-          (λ s b. unreached_edges kinds entries r x s b l i.reached off))
+          (λ s b. unreached_edges kinds entries r x s b l i.reaches off))
           ∙ (ap (unwrap_or (first_below (λ s. edge g s x) (length kinds))) zero_before
           ∙ ap (λ o. unwrap_or o 0) (sym (unreached_first x off))))
     ]

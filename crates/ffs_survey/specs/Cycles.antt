@@ -19,7 +19,7 @@ unmet xs = sum_by (λ y. bit (y == 0)) xs
 pub record IsClosed (f : ℕ → Option ℕ) (walk_of : List ℕ) : Type 0 where
   pub parent : (x y : ℕ) → number_at walk_of x ≢ 0 → f x ≡ Some y → number_at walk_of y ≢ 0
 
--- x was met between the two: no walk had passed it before, and one has now
+-- x was met from the old list to the new one: no walk had passed it before, and one has now
 pub record IsMet (old new : List ℕ) (x : ℕ) : Type 0 where
   pub was : number_at old x ≡ 0
   pub is : number_at new x ≢ 0
@@ -63,13 +63,13 @@ pub record IsLeastOn (f : ℕ → Option ℕ) (n found e : ℕ) : Type 0 where
   pub short : leader.cycle.steps_less_one < n
   pub on : (k : ℕ) × (climb f k found ≡ Some e)
 
--- there is a walk and a mark for each parent
+-- the three lists have an entry for each number
 pub record CanMarkLeaders (parents walk_of : List ℕ) (leaders : List Bool) : Type 0 where
   pub few : length parents < 2 ^ 31
   pub walks : length walk_of ≡ length parents
   pub leaders_long : length leaders ≡ length parents
 
--- the marks of leaders, where all that a walk has passed is known
+-- the flags of leaders, where all numbers that a walk has passed are decided, and no other has a flag
 pub record MarksLeaders (f : ℕ → Option ℕ) (n : ℕ) (walk_of : List ℕ) (leader : List Bool) : Type 0 where
   pub long : length leader ≡ n
   pub known : (x : ℕ) → number_at walk_of x ≢ 0 → bool_at leader x ≡ is_leader_within f n x

@@ -53,7 +53,7 @@ pub record Comes (todo : ℕ → Option ℕ) (reached : List Bool) (parents queu
   pub queued : (x : ℕ) → occurrences x queue' + bit (is_some (todo' x) && not (bool_at reached' x))
       ≡ occurrences x queue + bit (is_some (todo x) && not (bool_at reached x))
 
--- how many of these entries that count name x, and whether a plain one does
+-- how many of these entries refer to x, and whether a plain one names it
 abbrev pub count_in : List RoledEntry → ℕ → ℕ
 count_in rest x = count_by (refers x) rest
 
@@ -87,10 +87,10 @@ pub record Counts (n : ℕ) (count : ℕ → ℕ) (name : ℕ → Bool) (referen
   pub counts : (x : ℕ) → x < n → number_at references' x + count' x ≡ number_at references x + count x
   pub names : (x : ℕ) → x < n → (bool_at named' x || name' x) ≡ (bool_at named x || name x)
 
--- counts, on from these starts, and flags of exactly the entries of these directories
-pub record IsCount (g : Graph) (ss : List ℕ) (starts f : List ℕ) (m : List Bool) : Type 0 where
-  pub references : (x : ℕ) → x < g.count → number_at f x ≡ number_at starts x + count_of g ss x
-  pub named : (x : ℕ) → x < g.count → bool_at m x ≡ any_of g ss x
+-- what exactly these directories refer to, counted on from these starts, and what they name
+pub record IsCount (g : Graph) (dirs : List ℕ) (starts references : List ℕ) (named : List Bool) : Type 0 where
+  pub counts : (x : ℕ) → x < g.count → number_at references x ≡ number_at starts x + count_of g dirs x
+  pub names : (x : ℕ) → x < g.count → bool_at named x ≡ any_of g dirs x
 
 -- each number of an ascending list is before no smaller one
 abbrev pub Rising : List ℕ → Type 0
@@ -106,65 +106,68 @@ pub record IsFrontier (g : Graph) (k : ℕ) (xs : List ℕ) : Type 0 where
 abbrev pub parent_at : Graph → ℕ → ℕ → Option ℕ
 parent_at g k x = cond (within g k x) (parent g x) None
 
--- what is known when all levels up to k are known: which inodes are reached, the parents, and that
--- each reached one was queued once
-pub record LevelsKnown (g : Graph) (k : ℕ) (r : List Bool) (p q : List ℕ) : Type 0 where
-  pub reached : (x : ℕ) → bool_at r x ≡ within g k x
-  pub parent : (x : ℕ) → number_at p x ≡ unwrap_or (parent_at g k x) 0
-  pub queue : (x : ℕ) → occurrences x q ≡ bit (bool_at r x)
+-- what is known when all levels up to k are known: which inodes are reached, the parents, and that each reached one was
+-- queued once
+pub record LevelsKnown (g : Graph) (k : ℕ) (reached : List Bool) (parents queue : List ℕ) : Type 0 where
+  pub reaches : (x : ℕ) → bool_at reached x ≡ within g k x
+  pub parent : (x : ℕ) → number_at parents x ≡ unwrap_or (parent_at g k x) 0
+  pub queued : (x : ℕ) → occurrences x queue ≡ bit (bool_at reached x)
 
--- how many entries of those directories below n that pass name x
+-- how many entries refer to x, in those directories below n that `counts` picks
 unfoldable pub counted_by : (ℕ → Bool) → Graph → ℕ → ℕ → ℕ
-counted_by r g x zero = 0
-counted_by r g x (suc s) = counted_by r g x s + (if r s then counted_in g s x else 0)
+counted_by counts g x zero = 0
+counted_by counts g x (suc s) = counted_by counts g x s + (if counts s then counted_in g s x else 0)
 
--- what is known when all reached directories are read: counts on from these starts, flags, which
--- inodes are reached, and parents
-pub record IsReachedPart (g : Graph) (starts f : List ℕ) (m r : List Bool) (p : List ℕ) : Type 0 where
-  pub references : (x : ℕ) → x < g.count → number_at f x ≡ number_at starts x + counted_by (bool_at r) g x g.count
-  pub named : (x : ℕ) → x < g.count → bool_at m x ≡ is_some (first_below (λ s. bool_at r s && is_naming_dir g s x)
-      g.count)
-  pub reached : (x : ℕ) → bool_at r x ≡ is_some (level g x)
-  pub parent : (x : ℕ) → number_at p x ≡ unwrap_or (cond (is_some (level g x)) (parent g x) None) 0
+-- what is known when all reached directories are read: references, counted on from these starts, which inodes are
+-- named and which are reached, and parents
+pub record IsReachedPart (g : Graph) (starts references : List ℕ) (named reached : List Bool) (parents : List ℕ)
+    : Type 0 where
+  pub counts : (x : ℕ) → x < g.count
+      → number_at references x ≡ number_at starts x + counted_by (bool_at reached) g x g.count
+  pub names : (x : ℕ) → x < g.count
+      → bool_at named x ≡ is_some (first_below (λ s. bool_at reached s && is_naming_dir g s x) g.count)
+  pub reaches : (x : ℕ) → bool_at reached x ≡ is_some (level g x)
+  pub parent : (x : ℕ) → number_at parents x ≡ unwrap_or (cond (is_some (level g x)) (parent g x) None) 0
 
 -- x is a directory that isn't reached
 abbrev pub is_unreached_dir : List ℕ → List Bool → ℕ → Bool
-is_unreached_dir kinds r x = dir_at kinds x && not (bool_at r x)
+is_unreached_dir kinds reached x = dir_at kinds x && not (bool_at reached x)
 
 -- the directory s names the directory x, and neither is reached
 abbrev pub is_unreached_edge : Graph → List ℕ → List Bool → ℕ → ℕ → Bool
-is_unreached_edge g kinds r x s = is_unreached_dir kinds r x && (not (bool_at r s) && is_naming_dir g s x)
+is_unreached_edge g kinds reached x s =
+    is_unreached_dir kinds reached x && (not (bool_at reached s) && is_naming_dir g s x)
 
 -- no directory that isn't reached has a parent
 abbrev pub IsBlank : List ℕ → List Bool → List ℕ → Type 0
-IsBlank kinds r p = (x : ℕ) → is_unreached_dir kinds r x ≡ true → number_at p x ≡ 0
+IsBlank kinds reached parents = (x : ℕ) → is_unreached_dir kinds reached x ≡ true → number_at parents x ≡ 0
 
--- what the directories below n that aren't reached add to counts and flags, and which parents they
--- give
-pub record IsRead (g : Graph) (kinds : List ℕ) (r : List Bool) (n : ℕ) (f : List ℕ) (m : List Bool) (p f' : List ℕ)
-    (m' : List Bool) (p' : List ℕ) : Type 0 where
-  pub references : (x : ℕ) → x < g.count → number_at f' x ≡ number_at f x + counted_by (λ s. not (bool_at r s)) g x n
-  pub named : (x : ℕ) → x < g.count → bool_at m' x ≡ (bool_at m x
-      || is_some (first_below (λ s. not (bool_at r s) && is_naming_dir g s x) n))
-  pub parents : (x : ℕ) → x < g.count
-      → number_at p' x ≡ unwrap_or (first_below (is_unreached_edge g kinds r x) n) (number_at p x)
+-- what the directories below n that aren't reached add to references and to what is named, and which parents they give
+pub record IsRead (g : Graph) (kinds : List ℕ) (reached : List Bool) (n : ℕ) (references : List ℕ) (named : List Bool)
+    (parents references' : List ℕ) (named' : List Bool) (parents' : List ℕ) : Type 0 where
+  pub counts : (x : ℕ) → x < g.count
+      → number_at references' x ≡ number_at references x + counted_by (λ s. not (bool_at reached s)) g x n
+  pub names : (x : ℕ) → x < g.count → bool_at named' x ≡ (bool_at named x
+      || is_some (first_below (λ s. not (bool_at reached s) && is_naming_dir g s x) n))
+  pub parent : (x : ℕ) → x < g.count
+      → number_at parents' x ≡ unwrap_or (first_below (is_unreached_edge g kinds reached x) n) (number_at parents x)
 
 -- A level is in the queue from `low` to `high`: after it there is room for all that isn't reached yet, and no inode has
 -- more references than its start and the directories before it can give.
-pub record HasRoomForLevel (low high : ℕ) (f : List ℕ) (r : List Bool) (q : List ℕ) : Type 0 where
+pub record HasRoomForLevel (low high : ℕ) (references : List ℕ) (reached : List Bool) (queue : List ℕ) : Type 0 where
   pub ordered : low ≤ high
-  pub room : high + unset r ≤ length q
-  pub counted : (x : ℕ) → x < length f → number_at f x ≤ (low + 1) * 2 ^ 28
+  pub room : high + unset reached ≤ length queue
+  pub counted : (x : ℕ) → x < length references → number_at references x ≤ (low + 1) * 2 ^ 28
 
 -- all levels up to k are known, and the queue has level k from `low` to `high`
-pub record AtLevel (g : Graph) (k low high : ℕ) (r : List Bool) (p q : List ℕ) : Type 0 where
-  pub frontier : IsFrontier g k (drop low (take high q))
-  pub levels : LevelsKnown g k r p (take high q)
+pub record AtLevel (g : Graph) (k low high : ℕ) (reached : List Bool) (parents queue : List ℕ) : Type 0 where
+  pub frontier : IsFrontier g k (drop low (take high queue))
+  pub levels : LevelsKnown g k reached parents (take high queue)
 
 -- all levels up to one are known, and the queue has that one from `low` to `high`
-pub record AtSomeLevel (g : Graph) (low high : ℕ) (r : List Bool) (p q : List ℕ) : Type 0 where
+pub record AtSomeLevel (g : Graph) (low high : ℕ) (reached : List Bool) (parents queue : List ℕ) : Type 0 where
   pub depth : ℕ
-  pub at : AtLevel g depth low high r p q
+  pub at : AtLevel g depth low high reached parents queue
 
 -- a queue that ended at `top` ends at `end`, and what it had is there
 pub record Extends (top end : ℕ) (old new : List ℕ) : Type 0 where
@@ -172,9 +175,9 @@ pub record Extends (top end : ℕ) (old new : List ℕ) : Type 0 where
   pub kept : take top new ≡ take top old
 
 -- a directory that is reached
-pub record IsReachedDir (kinds : List ℕ) (r : List Bool) (d : ℕ) : Type 0 where
+pub record IsReachedDir (kinds : List ℕ) (reached : List Bool) (d : ℕ) : Type 0 where
   pub dir : dir_at kinds d ≡ true
-  pub marked : bool_at r d ≡ true
+  pub is_reached : bool_at reached d ≡ true
 
 -- nothing is found yet, and no count of references is past the greatest start
 pub record NothingFound (found : Found) : Type 0 where

@@ -29,7 +29,7 @@ found_up_to l end = record (all_found l) { queue = take end l.queue.now.items }
 abbrev pub current_in : Lists → ℕ → ℕ → CurrentDir
 current_in l dir parent = record { kinds = l.kinds.now; marked = l.marked.now; dir = dir; parent = parent }
 
--- as it is lent
+-- the current directory, as a call is lent it
 abbrev pub current_of : LentDir → CurrentDir
 current_of s = record { kinds = s.kinds.now; marked = s.marked.now; dir = s.dir; parent = s.parent }
 

@@ -37,13 +37,13 @@ pub record FollowsLevel (high end : ℕ) (reads : Found → Found → Type 0) (o
   pub kept : take high new.queue ≡ take high old.queue
   pub read : reads old new
 
--- what stays calm when more is read
+-- the directories that are flagged stay calm when more is read
 abbrev pub StayCalm : List ℕ → List Bool → (ℕ → List RoledEntry) → (ℕ → Bool) → Found → Found → Type 0
 StayCalm kinds marked entries right_shape old new =
     AreCalm kinds marked old.reached old.parents entries right_shape old.calm
     → AreCalm kinds marked new.reached new.parents entries right_shape new.calm
 
--- the counts and flags of these directories are added
+-- the references and names in these directories are added
 abbrev pub CountsDirs : List ℕ → (ℕ → List RoledEntry) → List ℕ → Found → Found → Type 0
 CountsDirs kinds entries dirs old new =
     Counts (length kinds) (count_of (graph_with kinds entries) dirs) (any_of (graph_with kinds entries) dirs)

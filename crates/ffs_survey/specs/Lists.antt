@@ -1,4 +1,4 @@
--- The lists of a survey: each has a place for every inode.
+-- The lists of a survey: each has an entry for every inode.
 use Rattle.std.specs.Prelude.{◌≡◌, ℕ, ◌+◌, ◌<◌, ◌≤◌, ◌^◌, Bool, List, length}
 use Rattle.ffs_volume.specs.Directories.Climb.{is_leader_within}
 use Rattle.ffs_survey.specs.Survey.{bool_at, number_at}
@@ -10,7 +10,7 @@ pub record CountLists (kinds references : List ℕ) (named : List Bool) (x : ℕ
   pub named_long : length named ≡ length kinds
   pub room : x < length kinds → number_at references x + 1 < 2 ^ 64
 
--- all lists of a survey: inode 2 is there, and numbers of inodes and places in the queue fit into 31 bits
+-- all lists of a survey. There are more than two inodes, and fewer than 2^31
 pub record AreLists (kinds : List ℕ) (marked : List Bool) (references : List ℕ) (named reached : List Bool)
     (parents : List ℕ) (calm : List Bool) (queue : List ℕ) : Type 0 where
   pub some : 2 < length kinds

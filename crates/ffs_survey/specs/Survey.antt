@@ -3,7 +3,7 @@ use Rattle.std.specs.Prelude.{◌≡◌, ℕ, zero, suc, ◌+◌, ◌<◌, ◌==
 use Rattle.std.specs.Prelude.{nat_le, min, if◌then◌else◌, List, length, count_by, unwrap_or}
 use Rattle.ffs_volume.specs.declared.constants.TheConstants.{EMPTY_DIR, NO_LINKS}
 use Rattle.ffs_volume.specs.Directories.Roles.{RoledEntry, refers}
-use Rattle.ffs_volume.specs.Directories.Graph.{Graph, is_named, reached, parent}
+use Rattle.ffs_volume.specs.Directories.Graph.{Graph, is_named, reached as is_reached, parent}
 pub use Rattle.ffs_volume.specs.Encodings.Lists.{bool_at, number_at}
 pub use Rattle.ffs_volume.specs.Encodings.Kinds.{is_dir_kind}
 
@@ -41,21 +41,23 @@ start_in starts x = min (number_at starts x) most_start
 
 -- these lists hold of each inode how many entries refer to it, counted on from where it starts, whether a plain one
 -- names it, whether it is reached from inode 2, and its parent, 0 for none
-pub record IsSurvey (g : Graph) (starts references : List ℕ) (flags marks : List Bool) (parents : List ℕ) : Type 0 where
+pub record IsSurvey (g : Graph) (starts references : List ℕ) (named reached : List Bool) (parents : List ℕ)
+    : Type 0 where
   pub counts : (x : ℕ) → x < g.count → number_at references x ≡ start_in starts x + references_to g x
-  pub names : (x : ℕ) → x < g.count → bool_at flags x ≡ is_named g x
-  pub reaches : (x : ℕ) → bool_at marks x ≡ reached g x
+  pub names : (x : ℕ) → x < g.count → bool_at named x ≡ is_named g x
+  pub reaches : (x : ℕ) → bool_at reached x ≡ is_reached g x
   pub parent_is : (x : ℕ) → number_at parents x ≡ unwrap_or (parent g x) 0
 
--- these flags hold of each inode of a graph whether a plain entry names it
-pub record AreNamed (g : Graph) (kinds : List ℕ) (flags : List Bool) : Type 0 where
+-- this list holds of each inode of a graph whether a plain entry names it
+pub record AreNamed (g : Graph) (kinds : List ℕ) (named : List Bool) : Type 0 where
   pub count : g.count ≡ length kinds
-  pub names : (x : ℕ) → x < g.count → bool_at flags x ≡ is_named g x
+  pub names : (x : ℕ) → x < g.count → bool_at named x ≡ is_named g x
 
--- a graph over these directories, with these marks of what is reached, and these parents, 0 for none
-pub record IsTree (g : Graph) (kinds : List ℕ) (marks : List Bool) (parents : List ℕ) : Type 0 where
+-- a graph over the directories of these kinds; the other lists hold of each inode whether it is reached in that graph,
+-- and its parent, 0 for none
+pub record IsTree (g : Graph) (kinds : List ℕ) (reached : List Bool) (parents : List ℕ) : Type 0 where
   pub some : 2 < g.count
   pub count : g.count ≡ length kinds
   pub dirs : (x : ℕ) → g.is_dir x ≡ dir_at kinds x
-  pub reaches : (x : ℕ) → bool_at marks x ≡ reached g x
+  pub reaches : (x : ℕ) → bool_at reached x ≡ is_reached g x
   pub parent_is : (x : ℕ) → number_at parents x ≡ unwrap_or (parent g x) 0

@@ -29,12 +29,13 @@ graph_is v kinds entries n d e = ap (λ z. with_count z (dir_at kinds) entries) 
     with_count n d e = record { count = n; is_dir = d; entries = e }
 
 -- the survey of that graph is one of the volume
-pub survey_is : (v : Volume) (kinds : List ℕ) (entries : ℕ
-    → List RoledEntry) (starts f : List ℕ) (m r : List Bool) (p : List ℕ) → length kinds ≡ v.count
+pub survey_is : (v : Volume) (kinds : List ℕ) (entries : ℕ → List RoledEntry)
+    → (starts references : List ℕ) (named reached : List Bool) (parents : List ℕ) → length kinds ≡ v.count
     → ((x : ℕ) → dir_at kinds x ≡ is_dir v x) → ((d : ℕ) → entries d ≡ roled_entries v d)
-    → IsSurvey (graph_with kinds entries) starts f m r p → IsSurvey (graph_of v) starts f m r p
-survey_is v kinds entries starts f m r p n d e s = subst (λ g. IsSurvey g starts f m r p)
-    (graph_is v kinds entries n d e) s
+    → IsSurvey (graph_with kinds entries) starts references named reached parents
+    → IsSurvey (graph_of v) starts references named reached parents
+survey_is v kinds entries starts references named reached parents n d e s =
+    subst (λ g. IsSurvey g starts references named reached parents) (graph_is v kinds entries n d e) s
 
 -- the references of the graph are the volume's
 pub references_is : (v : Volume) (x : ℕ) → references_to (graph_of v) x ≡ references v x

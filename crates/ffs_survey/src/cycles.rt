@@ -47,7 +47,7 @@ fn walk(start: u32, parents: &FilledList<u32>, walk_of: &mut FilledList<u32>) ->
     }
 }
 
-/// The least number on the cycle of `found`.
+/// The least number on the cycle of parents that `found` is on.
 fn least_on(found: u32, parents: &FilledList<u32>) -> u32
     requires { ComesBack parents.now.items found }
     ensures { IsLeastOn (parent_in parents.now.items) (length parents.now.items) found result }
@@ -89,8 +89,9 @@ fn mark_from(
     leaders[least as usize] = true;
 }
 
-/// Marks each number that is the least on a cycle of parents, in time linear in their number. A
-/// parent of 0, or past the list, is none. What `walk_of` and `leaders` held before is forgotten.
+/// Flags in `leaders` each number that is the least on a cycle of parents. A parent of 0, or past
+/// the list, is none. Each number is passed once or twice, so the time is linear in their count.
+/// What `walk_of` and `leaders` held before is forgotten.
 pub fn mark_leaders(parents: &FilledList<u32>, walk_of: &mut FilledList<u32>, leaders: &mut [bool])
     requires { CanMarkLeaders parents.now.items walk_of.old.items leaders.old }
     ensures leads { (x : ℕ) → bool_at leaders.new x

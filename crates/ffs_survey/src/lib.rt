@@ -3,7 +3,7 @@
 //! (`Directories`), and holds no entry.
 //!
 //! `survey` leaves what is reached, parents and references as the definitions have them;
-//! `mark_leaders` marks one directory of each cycle of parents.
+//! `mark_leaders` flags one directory of each cycle of parents.
 //!
 //! It rests on `ffs_volume`, `ffs_image` and `ffs_memory`.
 #![tactic(auto)]

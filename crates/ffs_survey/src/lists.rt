@@ -4,15 +4,16 @@ ghost use Rattle.ffs_survey.specs.Lists.{AreLists, AreSurveyed};
 
 use ffs_memory::FilledList;
 
-/// The lists that a survey goes by and fills, lent together. Each has a place for every inode, and
-/// inode 2 is there; numbers of inodes and places in the queue fit into 31 bits.
+/// The lists of a survey, lent together: it goes by the first two, and fills the others. Each has
+/// an entry for every inode. There are more than two inodes, and fewer than 2^31.
 #[derive(Drop)]
 pub struct Lists<'kinds, 'marked, 'named, 'reached, 'calm, 'lists> {
     /// What each inode is: `DT_DIR` for a directory with a size, `EMPTY_DIR` for one of size 0.
     pub kinds: &'kinds [u8],
     /// Whether each inode is marked.
     pub marked: &'marked [bool],
-    /// How many entries refer to each inode, counted on from where the list starts.
+    /// How many entries refer to each inode, added to the number that the list had at first: the
+    /// *start* of the inode.
     pub references: &'lists mut FilledList<u64>,
     /// Whether a plain entry names each inode.
     pub named: &'named mut [bool],
@@ -27,7 +28,7 @@ pub struct Lists<'kinds, 'marked, 'named, 'reached, 'calm, 'lists> {
     ghost long: { AreLists kinds.now marked.now references.now.items named.now reached.now parents.now.items calm.now queue.now.items },
 }
 
-/// The directory whose entries are read, and what they are compared with.
+/// The directory whose entries are read, with the lists by which it is found whether they are calm.
 #[derive(Clone, Copy)]
 pub struct CurrentDir<'kinds, 'marked> {
     /// What each inode is: `DT_DIR` for a directory with a size, `EMPTY_DIR` for one of size 0.

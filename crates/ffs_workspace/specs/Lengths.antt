@@ -15,7 +15,7 @@ inodes_of v = v.ncg * v.ipg
 abbrev pub set_count : List Bool → ℕ
 set_count bits = count_by (λ b. b) bits
 
--- some fragment has a DUP line, and its first claim isn't reported yet
+-- some fragment has a DUP line, and its first kept offer isn't reported yet
 abbrev pub has_dups : Workspace → Bool
 has_dups w = not (set_count (bits_of w.duplicates) == 0)
 

@@ -20,6 +20,6 @@ mod workspace;
 
 pub use links::links_start;
 pub use notes::{address_in, cut_in, note_of};
-pub use places::{due, is_due, passed, place_in, place_of};
+pub use places::{due, is_due, noted_chunk, passed, place_of};
 pub use table::Table;
 pub use workspace::{Windows, Workspace};

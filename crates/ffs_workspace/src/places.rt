@@ -10,7 +10,7 @@ const DUE: u32 = 1 << 31;
 /// The number of the chunk of 512 bytes of the image that has the parent entry (dir(5)), if a word
 /// notes it.
 #[inline(always)]
-pub fn place_in(word: u32) -> Option<u32>
+pub fn noted_chunk(word: u32) -> Option<u32>
     ensures { MatchOption result (place_in word ≡ 0) (λ chunk. place_in word ≡ suc chunk) }
 {
     passed(word).checked_sub(1)

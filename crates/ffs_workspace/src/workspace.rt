@@ -34,8 +34,8 @@ pub struct Windows {
 pub struct Workspace {
     /// The fragments that are reserved or claimed.
     pub claimed: FragmentMap,
-    /// The fragments with a DUP line. Phase 1b clears each of which it has reported the first
-    /// claim.
+    /// The fragments with a DUP line. Phase 1b clears each of which it has reported the first kept
+    /// offer.
     pub duplicates: FragmentMap,
     /// What each inode is (`Kind`).
     pub kinds: FixedList<u8>,
@@ -46,8 +46,9 @@ pub struct Workspace {
     /// The directories that are reached from the root.
     pub reached: FixedList<bool>,
     /// Flags that the survey and phases 2 and 3 use one after another: the calm directories; in
-    /// phase 2, of marked inodes, those that a plain entry has named; in phase 3 the least
-    /// directory of each cycle of parents.
+    /// phase 2, of suspect inodes (marked ones and directories of size 0), those that a plain entry
+    /// has named, and of others still the calm directories; in phase 3 the least directory of each
+    /// cycle of parents.
     pub flags: FixedList<bool>,
     /// How many entries refer to each inode, counted on from `links_start`.
     pub references: FilledList<u64>,
@@ -58,7 +59,7 @@ pub struct Workspace {
     pub parents: FilledList<u32>,
     /// Words that the survey and phases 2 and 3 use one after another: the directories of a level
     /// that are still to be read; in phase 2, of each directory, where its parent entry is
-    /// (`place_in`), and whether that is due; in phase 3 which walk over parents met it.
+    /// (`noted_chunk`), and whether that is due; in phase 3 which walk over parents met it.
     pub queue: FilledList<u32>,
     /// How many Runs phase 1 has looked at.
     pub runs_seen: u64,
@@ -165,7 +166,7 @@ impl Workspace {
         maps + lists + buffers as u64
     }
 
-    /// Whether some fragment has a DUP line and its first claim isn't reported yet.
+    /// Whether some fragment has a DUP line and its first kept offer isn't reported yet.
     pub fn has_dups(&self) -> bool
         ensures { result ≡ has_dups self.now }
     {

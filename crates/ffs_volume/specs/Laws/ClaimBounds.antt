@@ -3,11 +3,11 @@ use Rattle.std.specs.Prelude.{◌≡◌, ◌+◌, ◌*◌, ◌≤◌, ℕ, lengt
 use Rattle.ffs_volume.specs.declared.constants.TheConstants.{MAXBAD, MAXDUP}
 use Rattle.ffs_volume.specs.Blocks.Claims.{Claims}
 
--- how many fragments are reserved or claimed
+-- how many fragments are used: reserved or claimed
 abbrev pub used_bits : Claims → ℕ
 used_bits s = count_by (λ b. b) s.used
 
--- the potential: fragments that are reserved or claimed, bad Runs and dup offers
+-- the potential: how many fragments are used, and how many bad Runs and dup offers the current inode has
 abbrev pub potential : Claims → ℕ
 potential s = used_bits s + s.bad + s.dups
 

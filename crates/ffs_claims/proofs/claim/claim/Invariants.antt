@@ -2,7 +2,7 @@ use Rattle.std.proofs.Common.{◌≡◌, ◌+◌, ◌≤◌, true}
 use Rattle.ffs_walk.specs.Counts.{AreHeld, unread}
 use Rattle.ffs_report.specs.Progress.{progress}
 use Rattle.ffs_report.specs.Known.{ForBytes, IsContents}
-use Rattle.ffs_report.specs.Runs.{SaidOf}
+use Rattle.ffs_report.specs.PhaseOutcome.{SaidOf}
 use Rattle.ffs_volume.specs.Blocks.Steps.{steps_of}
 use Rattle.ffs_volume.specs.Blocks.Claims.{after_steps, lines_of_steps, is_open}
 use Rattle.ffs_volume.specs.Laws.ClaimBounds.{ClaimBound}

@@ -1,7 +1,7 @@
 use Rattle.std.proofs.Common.{◌≡◌, ◌+◌, ◌≤◌, ◌-◌}
 use Rattle.std.specs.List.{range_with_len}
 use Rattle.ffs_report.specs.Progress.{progress}
-use Rattle.ffs_report.specs.Runs.{SaidTo}
+use Rattle.ffs_report.specs.PhaseOutcome.{SaidTo}
 use Rattle.ffs_volume.specs.Blocks.Claims.{after_offers, lines_of_offers}
 use Rattle.ffs_workspace.specs.Holds.{claims_of}
 use Rattle.ffs_claims.specs.Leaves.{OffersOnly}

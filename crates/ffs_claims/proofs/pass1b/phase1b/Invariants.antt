@@ -1,7 +1,7 @@
 use Rattle.std.proofs.Common.{◌≡◌, ◌+◌, ◌-◌, ◌<◌, ◌≤◌, ◌∷◌}
 use Rattle.ffs_report.specs.Progress.{progress}
 use Rattle.ffs_report.specs.Known.{ForBytes, IsContents}
-use Rattle.ffs_report.specs.Runs.{SaidOf}
+use Rattle.ffs_report.specs.PhaseOutcome.{SaidOf}
 use Rattle.ffs_volume.specs.Blocks.KeptOffers.{kept_in_owners}
 use Rattle.ffs_volume.specs.Blocks.BlockCheck.{first_offer_lines, phase1b_lines}
 use Rattle.ffs_volume.specs.Blocks.Claims.{no_claims}

@@ -1,7 +1,7 @@
 use Rattle.std.proofs.Common.{◌≡◌, ◌+◌, ◌-◌, ◌≤◌, ◌∷◌, length, map}
 use Rattle.ffs_report.specs.Progress.{progress}
 use Rattle.ffs_report.specs.Known.{ForBytes, IsContents}
-use Rattle.ffs_report.specs.Runs.{SaidOf}
+use Rattle.ffs_report.specs.PhaseOutcome.{SaidOf}
 use Rattle.ffs_volume.specs.Directories.Connectivity.{connectivity_lines}
 use Rattle.ffs_volume.specs.Messages.Kinds.{of_tree, phase3, lines_from}
 use Rattle.ffs_volume.specs.Directories.Volumes.{volume_of}

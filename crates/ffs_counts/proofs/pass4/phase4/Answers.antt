@@ -101,24 +101,24 @@ loop-number-preserved g c =
     let v = c.args.geometry.now.layout in
     let inv = c.loop-number.invariant in
     let n = c.loop-number.number in
-    let free = c.free_run-free.result in
+    let free = c.free_stretch-free.result in
     record {
-      within = omega (arith, c.free_run-free.ensures.within, c.deref.ensures.len, inv.ready.made.kinds);
+      within = omega (arith, c.free_stretch-free.ensures.within, c.deref.ensures.len, inv.ready.made.kinds);
       ready = inv.ready;
       device = inv.device;
       held = inv.held;
       reads = λ bytes k.
           let on = count_free v bytes c.args.workspace.now c.deref.result.now n free (inodes_of v) k.1.claims
-          (c.deref.ensures.value ∙ ap (λ (w : Workspace). w.kinds.items) inv.held) c.free_run-free.ensures.free
-          (omega (arith, c.free_run-free.ensures.within, c.deref.ensures.len, inv.ready.made.kinds)) in
+          (c.deref.ensures.value ∙ ap (λ (w : Workspace). w.kinds.items) inv.held) c.free_stretch-free.ensures.free
+          (omega (arith, c.free_stretch-free.ensures.within, c.deref.ensures.len, inv.ready.made.kinds)) in
           omega (arith, inv.reads bytes k, on);
       said = of_same _ (λ bytes. map of_tree (lines_from (reference_lines_at (volume_of v bytes)) n (inodes_of v - n)))
           (λ bytes. map of_tree (lines_from (reference_lines_at (volume_of v bytes)) (n + free) (inodes_of v - (n +
           free))))
           _ _ _ inv.said
           (λ bytes k. free_lines v bytes c.args.workspace.now c.deref.result.now n free (inodes_of v) k.1.claims
-          (c.deref.ensures.value ∙ ap (λ (w : Workspace). w.kinds.items) inv.held) c.free_run-free.ensures.free
-          (omega (arith, c.free_run-free.ensures.within, c.deref.ensures.len, inv.ready.made.kinds)));
+          (c.deref.ensures.value ∙ ap (λ (w : Workspace). w.kinds.items) inv.held) c.free_stretch-free.ensures.free
+          (omega (arith, c.free_stretch-free.ensures.within, c.deref.ensures.len, inv.ready.made.kinds)));
     }
 
 pub returns-clause-prints : goal.returns-clause-prints

@@ -5,7 +5,7 @@ use Rattle.ffs_layout.specs.Super.{superblock_in}
 use Rattle.ffs_maps.specs.Bits.{bits_of}
 use Rattle.ffs_report.specs.Progress.{progress}
 use Rattle.ffs_report.specs.Known.{IsContents}
-use Rattle.ffs_report.specs.Runs.{SaidOf}
+use Rattle.ffs_report.specs.PhaseOutcome.{SaidOf}
 use Rattle.ffs_groups.specs.Free.{free_in}
 use Rattle.ffs_groups.specs.Inodes.{class_in}
 use Rattle.ffs_workspace.specs.Holds.{HoldsClaims}

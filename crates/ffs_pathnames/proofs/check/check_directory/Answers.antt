@@ -4,13 +4,13 @@ use Rattle.ffs_volume.specs.Messages.Kinds.{of_tree}
 use Rattle.ffs_volume.specs.Directories.PathnameCheck.{sized_dir_lines, lines_of_entries}
 use Rattle.ffs_volume.specs.Directories.Roles.{roled_entries}
 use Rattle.ffs_volume.specs.Directories.Volumes.{volume_of}
-use Rattle.ffs_report.specs.Runs.{ImageAfter}
+use Rattle.ffs_report.specs.PhaseOutcome.{ImageAfter}
 use Rattle.ffs_report.proofs.Reporting.{of_begins, of_part, of_fault, of_last, said_knows, reports_knowing}
 use Rattle.ffs_workspace.proofs.Leaving.{leaves_more}
 use Rattle.ffs_pathnames.specs.declared.examine.DirectorySummary.{DirectorySummary}
 use Rattle.ffs_pathnames.specs.Begins.{dir_starts}
-use Rattle.ffs_pathnames.specs.Gathers.{marks_of}
-use Rattle.ffs_pathnames.specs.NameMarks.{entries_reported}
+use Rattle.ffs_pathnames.specs.Gathers.{passed_of}
+use Rattle.ffs_pathnames.specs.PassedNames.{entries_reported}
 use Rattle.ffs_pathnames.proofs.Begun.{said_same, directory_is, lines_parts, quiet_parts, reported_parts, quiet_after}
 use Rattle.ffs_pathnames.proofs.Begun.{reported_after}
 use Rattle.ffs_pathnames.proofs.Passing.{knows_on}
@@ -41,30 +41,30 @@ pub returns-then-examined-clause-text : goal.returns-then-examined-clause-text
 returns-then-examined-clause-text g c =
     let v = c.args.geometry.now.layout in
     said_same _ _ _ _ _ _ (λ b k. k.0)
-    (λ b k. quiet_parts (volume_of v b) c.args.dir (marks_of c.args.workspace.now)
+    (λ b k. quiet_parts (volume_of v b) c.args.dir (passed_of c.args.workspace.now)
     (directory_is (volume_of v b) c.args.dir c.requires.dir k.0.dir) k.1
     (sym (c.in_ok-examined.ensures.begun b k.0).quiet ∙ c.if-examined.true))
     c.in_ok-examined.ensures.text
 
-pub returns-then-examined-clause-marks : goal.returns-then-examined-clause-marks
-returns-then-examined-clause-marks g c = λ b k.
+pub returns-then-examined-clause-passed : goal.returns-then-examined-clause-passed
+returns-then-examined-clause-passed g c = λ b k.
     let v = c.args.geometry.now.layout in
-    quiet_after (volume_of v b) c.args.dir (marks_of c.args.workspace.now) (marks_of c.begin_directory.new.workspace)
+    quiet_after (volume_of v b) c.args.dir (passed_of c.args.workspace.now) (passed_of c.begin_directory.new.workspace)
     (directory_is (volume_of v b) c.args.dir c.requires.dir k.0.dir) k.1
-    (sym (c.in_ok-examined.ensures.begun b k.0).quiet ∙ c.if-examined.true) (c.in_ok-examined.ensures.begun b k.0).marks
+    (sym (c.in_ok-examined.ensures.begun b k.0).quiet ∙ c.if-examined.true) (c.in_ok-examined.ensures.begun b k.0).passed
 
 pub returns-clause-text : goal.returns-clause-text
 returns-clause-text g c =
     let v = c.args.geometry.now.layout in
     let all = λ (b : List ℕ). map of_tree (sized_dir_lines (volume_of v b) c.args.dir) in
     let rest = λ (b : List ℕ). map of_tree
-    (entries_reported (volume_of v b) c.args.dir (marks_of c.begin_directory.new.workspace)
+    (entries_reported (volume_of v b) c.args.dir (passed_of c.begin_directory.new.workspace)
     (roled_entries (volume_of v b) c.args.dir)) in
     of_last _ _ rest rest all _ _ _ c.report_directory.result
     (of_part _ all (λ b. map of_tree (dir_starts (volume_of v b) c.args.dir)) rest all _ _ _ (of_begins _ all _)
-    (λ b k. reported_parts (volume_of v b) c.args.dir (marks_of c.args.workspace.now)
-    (marks_of c.begin_directory.new.workspace)
-    (directory_is (volume_of v b) c.args.dir c.requires.dir k.0.dir) k.1 (c.in_ok-examined.ensures.begun b k.0).marks)
+    (λ b k. reported_parts (volume_of v b) c.args.dir (passed_of c.args.workspace.now)
+    (passed_of c.begin_directory.new.workspace)
+    (directory_is (volume_of v b) c.args.dir c.requires.dir k.0.dir) k.1 (c.in_ok-examined.ensures.begun b k.0).passed)
     (said_knows _ _ _ _ _ _ (λ b k. k.0) c.in_ok-examined.ensures.text))
     (λ b k. refl)
     (reports_knowing _ _ _ _ _ _ c.report_directory.result
@@ -75,19 +75,19 @@ returns-clause-text g c =
     ))
     c.report_directory.ensures.text)
 
-pub returns-clause-marks : goal.returns-clause-marks
-returns-clause-marks g c =
+pub returns-clause-passed : goal.returns-clause-passed
+returns-clause-passed g c =
     let v = c.args.geometry.now.layout in
     on_ok c.report_directory.result _ _
-    (λ p b k. reported_after (volume_of v b) c.args.dir (marks_of c.args.workspace.now)
-    (marks_of c.begin_directory.new.workspace) (marks_of c.report_directory.new.workspace)
-    (directory_is (volume_of v b) c.args.dir c.requires.dir k.0.dir) k.1 (c.in_ok-examined.ensures.begun b k.0).marks
+    (λ p b k. reported_after (volume_of v b) c.args.dir (passed_of c.args.workspace.now)
+    (passed_of c.begin_directory.new.workspace) (passed_of c.report_directory.new.workspace)
+    (directory_is (volume_of v b) c.args.dir c.requires.dir k.0.dir) k.1 (c.in_ok-examined.ensures.begun b k.0).passed
     (p b (
       knows_on v _ _ c.args.workspace.now c.begin_directory.new.workspace c.args.dir b
           (ap (λ d. d.contents) c.in_ok-examined.ensures.leaves.image) c.in_ok-examined.ensures.leaves.survey k.0,
       (c.in_ok-examined.ensures.begun b k.0).inode,
     )))
-    c.report_directory.ensures.marks
+    c.report_directory.ensures.passed
 
 pub returns-clause-leaves : goal.returns-clause-leaves
 returns-clause-leaves g c =
@@ -118,7 +118,7 @@ returns-clause-reads g c = λ b k noted.
     let v = c.args.geometry.now.layout in
     let left = c.in_ok-examined.ensures.leaves in
     let begun = c.in_ok-examined.ensures.begun b k.0 in
-    let m = marks_of c.begin_directory.new.workspace in
+    let m = passed_of c.begin_directory.new.workspace in
     checked_twice line_reads _ _ _ (directory_cost v b c.args.dir) (directory_runs v b c.args.dir)
     (length (dir_starts (volume_of v b) c.args.dir))
     (length (entries_reported (volume_of v b) c.args.dir m (roled_entries (volume_of v b) c.args.dir)))
@@ -130,5 +130,5 @@ returns-clause-reads g c = λ b k noted.
       begun.inode,
     ) (noted_kept v b c.args.workspace.now.queue.items c.begin_directory.new.workspace.queue.items left.places noted))
     (cost_of_dir v b c.args.dir k.0.dir)
-    (lines_long _ _ _ (reported_parts (volume_of v b) c.args.dir (marks_of c.args.workspace.now) m
-    (directory_is (volume_of v b) c.args.dir c.requires.dir k.0.dir) k.1 begun.marks))
+    (lines_long _ _ _ (reported_parts (volume_of v b) c.args.dir (passed_of c.args.workspace.now) m
+    (directory_is (volume_of v b) c.args.dir c.requires.dir k.0.dir) k.1 begun.passed))

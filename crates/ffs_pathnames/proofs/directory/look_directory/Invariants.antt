@@ -9,7 +9,7 @@ use Rattle.ffs_volume.specs.Blocks.Steps.{steps_of}
 use Rattle.ffs_volume.specs.Encodings.Replay.{fresh_replay, replayed_steps}
 use Rattle.ffs_names.specs.Windows.{CanReadChunks}
 use Rattle.ffs_names.specs.Readings.{rest, gap_left}
-use Rattle.ffs_pathnames.specs.NameMarks.{are_quiet, after_looks}
+use Rattle.ffs_pathnames.specs.PassedNames.{are_quiet, after_looks}
 use Rattle.ffs_pathnames.specs.Sees.{Sees, stamps_in}
 use Rattle.ffs_pathnames.specs.Stamps.{KeepPlaces}
 use Rattle.ffs_pathnames.specs.Reads.{chunks_read, start_chunk}

@@ -6,9 +6,9 @@ use Rattle.ffs_volume.specs.Directories.Roles.{RoledEntry, roled_from}
 use Rattle.ffs_volume.specs.Directories.Volumes.{volume_of}
 use Rattle.ffs_layout.specs.Entry.{entry_value}
 use Rattle.ffs_report.proofs.Reporting.{of_begins, of_same, of_part, of_fault, said_knows, reports_knowing}
-use Rattle.ffs_pathnames.specs.Gathers.{marks_of}
+use Rattle.ffs_pathnames.specs.Gathers.{passed_of}
 use Rattle.ffs_pathnames.specs.DirectoryContext.{DirectoryContext}
-use Rattle.ffs_pathnames.specs.NameMarks.{after_roled, after_entries, roled_reported, entries_reported}
+use Rattle.ffs_pathnames.specs.PassedNames.{after_roled, after_entries, roled_reported, entries_reported}
 use Rattle.ffs_pathnames.proofs.Begun.{image_same}
 use Rattle.ffs_pathnames.proofs.LineCounts.{entry_counted, has_begun, read_all, read_more}
 use Rattle.ffs_pathnames.proofs.Looking.{roled_at_place, seen_next, none_left}
@@ -31,9 +31,9 @@ entries-init g c =
       places = λ x. refl;
       chunk = refl;
       path = λ b k. k.path;
-      marks = λ b k. refl;
+      passed = λ b k. refl;
       said = of_begins _ (λ (b : List ℕ). map of_tree
-          (entries_reported (volume_of v b) x.dir (marks_of c.args.workspace.now)
+          (entries_reported (volume_of v b) x.dir (passed_of c.args.workspace.now)
           (roled_from x.first 0 (entries_of v.order x.bytes.now)))) _;
       counted = λ b k noted. has_begun _ _ _;
     }
@@ -46,7 +46,7 @@ returns-in_err-report_entry-clause-lines g c = record {
       let inv = c.entries.invariant in
       let e = entry_value c.in-Some.entry in
       let seen : RoledEntry = record { role = c.role_of.result; entry = e } in
-      let m = marks_of c.entries.workspace in
+      let m = passed_of c.entries.workspace in
       let here = roled_at_place v.order x.bytes.now x.first c.entries.index c.entries.place in
       let there = roled_at_place v.order x.bytes.now x.first (c.entries.index + 1)
       (c.entries.place + c.in-Some.entry.length) in
@@ -81,7 +81,7 @@ returns-in_err-report_entry-clause-lines g c = record {
       let inv = c.entries.invariant in
       let e = entry_value c.in-Some.entry in
       let seen : RoledEntry = record { role = c.role_of.result; entry = e } in
-      let m = marks_of c.entries.workspace in
+      let m = passed_of c.entries.workspace in
       let next = seen_next v.order x.bytes.now x.first c.entries.index c.entries.place e c.role_of.result
       c.in-Some.ensures.some c.role_of.ensures in
       read_all (read_more _ _ (inv.counted b k noted)
@@ -118,8 +118,8 @@ entries-preserved g c =
     let ok = c.in_ok-report_entry.ensures in
     let e = entry_value c.in-Some.entry in
     let seen : RoledEntry = record { role = c.role_of.result; entry = e } in
-    let m = marks_of c.entries.workspace in
-    let m' = marks_of c.report_entry.new.workspace in
+    let m = passed_of c.entries.workspace in
+    let m' = passed_of c.report_entry.new.workspace in
     let here = roled_at_place v.order x.bytes.now x.first c.entries.index c.entries.place in
     let there = roled_at_place v.order x.bytes.now x.first (c.entries.index + 1)
     (c.entries.place + c.in-Some.entry.length) in
@@ -140,18 +140,18 @@ entries-preserved g c =
       places = keep_more _ _ _ inv.places ok.leaves.places;
       chunk = ok.chunk ∙ inv.chunk;
       path = λ b k. c.report_entry.ensures.lines.path b (record { knows = know b k.knows; path = inv.path b k });
-      marks = λ b k. entry_passed (volume_of v b) x.dir _ m m' seen here there next (ok.marks b (know b k))
-          (inv.marks b k);
+      passed = λ b k. entry_passed (volume_of v b) x.dir _ m m' seen here there next (ok.passed b (know b k))
+          (inv.passed b k);
       said = of_part _ (λ (b : List ℕ). map of_tree (entries_reported (volume_of v b) x.dir m here))
           (λ (b : List ℕ). map of_tree (roled_reported (volume_of v b) x.dir m seen))
           (λ (b : List ℕ). map of_tree (entries_reported (volume_of v b) x.dir m' there)) _ _ _ _ inv.said
-          (λ b k. entry_reported (volume_of v b) x.dir m m' seen here there next (ok.marks b (know b k.knows)))
+          (λ b k. entry_reported (volume_of v b) x.dir m m' seen here there next (ok.passed b (know b k.knows)))
           (said_knows _ _ _ _ _ _ (λ b k. record {
             knows = know b k.knows;
             path = inv.path b k;
           }) ok.lines.text);
       counted = λ b k noted. read_more _ _ (inv.counted b k noted)
-          (entry_counted (volume_of v b) x.dir m m' seen here there next (ok.marks b (know b k)))
+          (entry_counted (volume_of v b) x.dir m m' seen here there next (ok.passed b (know b k)))
           (ok.lines.counted b (know b k) (noted_kept v b _ _ inv.places noted));
     })
 
@@ -161,7 +161,7 @@ returns-clause-lines g c = record {
       let v = c.args.geometry.now.layout in
       let x = c.args.chunk.now in
       let inv = c.entries.invariant in
-      let m = marks_of c.entries.workspace in
+      let m = passed_of c.entries.workspace in
       let end = none_left v.order x.bytes.now x.first c.entries.index c.entries.place
       (none v.order x.bytes.now c.entries.place c.entry_at.result c.in_default.is c.entry_at.ensures.value) in
       of_same _ (λ (b : List ℕ). map of_tree
@@ -173,10 +173,10 @@ returns-clause-lines g c = record {
   counted = λ b k noted. read_all (c.entries.invariant.counted b k noted);
 }
 
-pub returns-clause-marks : goal.returns-clause-marks
-returns-clause-marks g c = λ b k.
+pub returns-clause-passed : goal.returns-clause-passed
+returns-clause-passed g c = λ b k.
     let v = c.args.geometry.now.layout in
     let x = c.args.chunk.now in
     let end = none_left v.order x.bytes.now x.first c.entries.index c.entries.place
     (none v.order x.bytes.now c.entries.place c.entry_at.result c.in_default.is c.entry_at.ensures.value) in
-    c.entries.invariant.marks b k ∙ ap (after_entries (volume_of v b) x.dir (marks_of c.entries.workspace)) end
+    c.entries.invariant.passed b k ∙ ap (after_entries (volume_of v b) x.dir (passed_of c.entries.workspace)) end

@@ -5,13 +5,13 @@ use Rattle.ffs_volume.specs.Directories.Parents.{graph_of}
 use Rattle.ffs_volume.specs.Directories.Roles.{roled_from}
 use Rattle.ffs_volume.specs.Directories.Volumes.{volume_of}
 use Rattle.ffs_report.specs.Known.{ForBytes}
-use Rattle.ffs_report.specs.Runs.{SaidOf}
+use Rattle.ffs_report.specs.PhaseOutcome.{SaidOf}
 use Rattle.ffs_report.specs.Progress.{progress}
 use Rattle.ffs_workspace.specs.Leaves.{LeavesSurvey}
 use Rattle.ffs_pathnames.specs.Ready.{ReadyWith}
-use Rattle.ffs_pathnames.specs.Gathers.{marks_of}
+use Rattle.ffs_pathnames.specs.Gathers.{passed_of}
 use Rattle.ffs_pathnames.specs.DirectoryContext.{BeginsPathOf, DirectoryContext, KnowsPath}
-use Rattle.ffs_pathnames.specs.NameMarks.{after_entries, entries_reported}
+use Rattle.ffs_pathnames.specs.PassedNames.{after_entries, entries_reported}
 use Rattle.ffs_workspace.specs.Places.{AreNoted}
 use Rattle.ffs_pathnames.specs.Stamps.{KeepPlaces}
 use Rattle.ffs_pathnames.proofs.LineCounts.{HasRead}
@@ -33,22 +33,22 @@ invariant-entries g l =
       chunk : l.workspace.windows.chunk ≡ l.fn.workspace.windows.chunk;
       path : ForBytes (KnowsPath v (reported_by l.fn.image).contents l.fn.workspace x.dir l.fn.texts)
           (λ b. BeginsPathOf (graph_of (volume_of v b)) x.dir l.texts);
-      marks : ForBytes (DirectoryContext v (reported_by l.fn.image).contents l.fn.workspace x.dir) (λ b.
-          after_entries (volume_of v b) x.dir (marks_of l.fn.workspace) (roled_from x.first 0 (entries_of v.order
+      passed : ForBytes (DirectoryContext v (reported_by l.fn.image).contents l.fn.workspace x.dir) (λ b.
+          after_entries (volume_of v b) x.dir (passed_of l.fn.workspace) (roled_from x.first 0 (entries_of v.order
           x.bytes.now))
-          ≡ after_entries (volume_of v b) x.dir (marks_of l.workspace)
+          ≡ after_entries (volume_of v b) x.dir (passed_of l.workspace)
           (roled_at_place v.order x.bytes.now x.first l.index l.place));
       said : SaidOf (KnowsPath v (reported_by l.fn.image).contents l.fn.workspace x.dir l.fn.texts)
-          (λ b. map of_tree (entries_reported (volume_of v b) x.dir (marks_of l.workspace)
+          (λ b. map of_tree (entries_reported (volume_of v b) x.dir (passed_of l.workspace)
           (roled_at_place v.order x.bytes.now x.first l.index l.place)))
-          (λ b. map of_tree (entries_reported (volume_of v b) x.dir (marks_of l.fn.workspace)
+          (λ b. map of_tree (entries_reported (volume_of v b) x.dir (passed_of l.fn.workspace)
           (roled_from x.first 0 (entries_of v.order x.bytes.now))))
           (progress g.W.Output.sink l.fn.report) (progress g.W.Output.sink l.report);
       counted : (b : List ℕ) → DirectoryContext v (reported_by l.fn.image).contents l.fn.workspace x.dir b
           → AreNoted v b l.fn.workspace.queue.items
-          → HasRead (length (entries_reported (volume_of v b) x.dir (marks_of l.fn.workspace)
+          → HasRead (length (entries_reported (volume_of v b) x.dir (passed_of l.fn.workspace)
           (roled_from x.first 0 (entries_of v.order x.bytes.now))))
-          (length (entries_reported (volume_of v b) x.dir (marks_of l.workspace)
+          (length (entries_reported (volume_of v b) x.dir (passed_of l.workspace)
           (roled_at_place v.order x.bytes.now x.first l.index l.place)))
           (g.I.Image.reads l.fn.image) (g.I.Image.reads l.image) l.fn.workspace l.workspace;
     }

@@ -5,7 +5,7 @@ use Rattle.ffs_volume.specs.Directories.Volumes.{volume_of}
 use Rattle.ffs_workspace.specs.declared.workspace.Workspace.{Workspace}
 use Rattle.ffs_workspace.specs.Leaves.{LeavesSurvey}
 use Rattle.ffs_workspace.proofs.Leaving.{claims_left, survey_left, leaves_more, windows_leave}
-use Rattle.ffs_pathnames.specs.Gathers.{marks_of, roled_value}
+use Rattle.ffs_pathnames.specs.Gathers.{passed_of, roled_value}
 use Rattle.ffs_pathnames.proofs.Passed.{passes}
 use Rattle.ffs_pathnames.proofs.SeesLaws.{sees}
 use Rattle.ffs_pathnames.proofs.StampLaws.{keep_more, places_kept, windows_keep}
@@ -29,7 +29,7 @@ returns-clause-leaves g c =
     let said = left.ready in
     let made = said.ready.made in
     let windows = said.ready.windows in
-    let marks : LeavesSurvey c.report_by_role.new.workspace _ = record {
+    let surveyed : LeavesSurvey c.report_by_role.new.workspace _ = record {
       claimed = refl;
       kinds = refl;
       marked = refl;
@@ -44,7 +44,7 @@ returns-clause-leaves g c =
     } in
     record {
       image = left.image;
-      survey = leaves_more _ _ _ (windows_leave _ _ left.lists) marks;
+      survey = leaves_more _ _ _ (windows_leave _ _ left.lists) surveyed;
       places = keep_more _ _ _ (windows_keep c.args.workspace.now c.report_by_role.new.workspace left.lists)
           c.pass.ensures.places;
       ready = record {
@@ -74,12 +74,12 @@ returns-clause-leaves g c =
             names = windows.names;
           };
         };
-        siblings = siblings_on _ _ _ _ _ _ refl marks c.pass.ensures.places said.siblings;
+        siblings = siblings_on _ _ _ _ _ _ refl surveyed c.pass.ensures.places said.siblings;
       };
     }
 
-pub returns-clause-marks : goal.returns-clause-marks
-returns-clause-marks g c = λ b k.
+pub returns-clause-passed : goal.returns-clause-passed
+returns-clause-passed g c = λ b k.
     let v = c.args.geometry.now.layout in
     let left = c.in_ok-report_by_role.ensures.leaves.lists in
     let kept = windows_leave _ _ left in
@@ -92,9 +92,9 @@ returns-clause-marks g c = λ b k.
       count = c.as_slice.ensures.len ∙ c.in_ok-report_by_role.ensures.leaves.ready.ready.made.kinds;
     }) (claims_left v b before here kept k.claims) (survey_left v b before here kept k.survey) in
     passes (volume_of v b) c.args.entry.now.dir (roled_value c.args.entry.now)
-    before.flags.items _ _ _ (marks_of before).stamps _ _ _
+    before.flags.items _ _ _ (passed_of before).stamps _ _ _
     (c.as_mut_slice.ensures.value ∙ ap (λ (w : Workspace). w.flags.items) left)
-    (ap (λ (w : Workspace). (marks_of w).stamps) left)
+    (ap (λ (w : Workspace). (passed_of w).stamps) left)
     (c.pass.ensures.after (volume_of v b) shows)
     (with_items_is here.flags c.pass.new.flags (c.pass.auto.flags ∙ c.as_mut_slice.ensures.len))
     refl

@@ -14,8 +14,8 @@ use Rattle.ffs_names.specs.Windows.{CanReadChunks}
 use Rattle.ffs_names.proofs.DirCosts.{cost_is as cost_of_dir, runs_are}
 use Rattle.ffs_workspace.proofs.Readiness.{ready_table}
 use Rattle.ffs_workspace.proofs.Leaving.{windows_leave}
-use Rattle.ffs_pathnames.specs.Gathers.{marks_of}
-use Rattle.ffs_pathnames.specs.NameMarks.{are_quiet, after_looks}
+use Rattle.ffs_pathnames.specs.Gathers.{passed_of}
+use Rattle.ffs_pathnames.specs.PassedNames.{are_quiet, after_looks}
 use Rattle.ffs_pathnames.proofs.ChunkLaws.{chunks_are, gap_is, seen_are}
 use Rattle.ffs_pathnames.proofs.ReadyLaws.{can_read_in, ready_looked}
 use Rattle.ffs_pathnames.proofs.SeesLaws.{sees}
@@ -49,10 +49,10 @@ returns-clause-found g c = λ b k.
       sound = found.sound small ∙ ap are_sound chunks;
       started = sym (ap (find (λ x. x.offset == 0)) chunks) ∙ found.started small;
       quiet = found.quiet (volume_of v b) shows small
-          ∙ ap (are_quiet (volume_of v b) c.args.dir (marks_of c.args.workspace.now).stamps)
+          ∙ ap (are_quiet (volume_of v b) c.args.dir (passed_of c.args.workspace.now).stamps)
           (seen_are v b c.args.dir _ chunks);
       stamps = found.stamps (volume_of v b) shows small
-          ∙ ap (after_looks (volume_of v b) c.args.dir (marks_of c.args.workspace.now).stamps)
+          ∙ ap (after_looks (volume_of v b) c.args.dir (passed_of c.args.workspace.now).stamps)
           (seen_are v b c.args.dir _ chunks);
     }
 

@@ -1,7 +1,7 @@
 use Rattle.std.proofs.Common.{◌≡◌, ◌+◌, ◌&&◌, ◌∙◌, arith}
 use Rattle.ffs_volume.specs.Directories.Roles.{RoledEntry, Volume}
 use Rattle.ffs_layout.specs.Entry.{entry_value}
-use Rattle.ffs_pathnames.specs.NameMarks.{is_quiet}
+use Rattle.ffs_pathnames.specs.PassedNames.{is_quiet}
 use Rattle.ffs_pathnames.specs.Sees.{Sees, stamps_in}
 use Rattle.ffs_pathnames.proofs.Looking.{roled_at_place, seen_next, quiet_on, stamps_on, length_on, quiet_ends}
 use Rattle.ffs_pathnames.proofs.Looking.{stamps_end, length_ends}

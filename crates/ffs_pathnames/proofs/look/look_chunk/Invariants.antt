@@ -2,7 +2,7 @@ use Rattle.std.proofs.Common.{◌≡◌, ◌≤◌, ◌-◌, ◌+◌, ◌&&◌, 
 use Rattle.std.specs.Prelude.{sum_by}
 use Rattle.ffs_volume.specs.Directories.Entries.{entries_from}
 use Rattle.ffs_volume.specs.Directories.Roles.{Volume}
-use Rattle.ffs_pathnames.specs.NameMarks.{are_quiet, after_looks}
+use Rattle.ffs_pathnames.specs.PassedNames.{are_quiet, after_looks}
 use Rattle.ffs_pathnames.specs.Sees.{Sees, stamps_in}
 use Rattle.ffs_pathnames.specs.Stamps.{KeepPlaces}
 use Rattle.ffs_pathnames.proofs.Looking.{roled_at_place}

@@ -8,8 +8,8 @@ use Rattle.ffs_volume.specs.Directories.Volumes.{volume_of}
 use Rattle.ffs_layout.specs.Entry.{entry_value}
 use Rattle.ffs_report.proofs.Reports.{said_none}
 use Rattle.ffs_report.proofs.Reporting.{of_begins, of_says, of_stops, of_reads}
-use Rattle.ffs_pathnames.specs.Gathers.{marks_of}
-use Rattle.ffs_pathnames.specs.NameMarks.{plain_reported}
+use Rattle.ffs_pathnames.specs.Gathers.{passed_of}
+use Rattle.ffs_pathnames.specs.PassedNames.{plain_reported}
 use Rattle.ffs_pathnames.specs.Verdicts.{verdict_reported}
 use Rattle.ffs_pathnames.proofs.LineCounts.{by_line, few_none, knows_places, plain_some}
 use Rattle.ffs_pathnames.proofs.VerdictLaws.{silent_reported}
@@ -56,7 +56,7 @@ returns-in_err-say_verdict-clause-lines g c = record {
       let v = c.args.geometry.now.layout in
       let x = c.args.entry.now in
       let all = λ (b : List ℕ). map of_tree
-      (plain_reported (volume_of v b) x.dir (marks_of c.args.workspace.now) (entry_value x.entry)) in
+      (plain_reported (volume_of v b) x.dir (passed_of c.args.workspace.now) (entry_value x.entry)) in
       let ms : List TreeMessage = verdict_reported c.verdict_of-verdict.result x.entry.number c.in_ok-attr.attr
       c.last.result.now c.as_slice.result.now in
       let p = err_from_is_err_and c.from_residual-in_err-say_verdict.result
@@ -86,7 +86,7 @@ returns-clause-lines g c = record {
       let v = c.args.geometry.now.layout in
       let x = c.args.entry.now in
       let all = λ (b : List ℕ). map of_tree
-      (plain_reported (volume_of v b) x.dir (marks_of c.args.workspace.now) (entry_value x.entry)) in
+      (plain_reported (volume_of v b) x.dir (passed_of c.args.workspace.now) (entry_value x.entry)) in
       let ms : List TreeMessage = verdict_reported c.verdict_of-verdict.result x.entry.number c.in_ok-attr.attr
       c.last.result.now c.as_slice.result.now in
       of_says _ all (λ b. []) _ (map of_tree ms) _ _ _ (of_begins _ all _)

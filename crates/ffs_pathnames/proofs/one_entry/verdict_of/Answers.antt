@@ -1,8 +1,8 @@
 use Rattle.std.proofs.Common.{refl, sym, ap, ◌∙◌}
 use Rattle.ffs_volume.specs.Directories.Volumes.{volume_of}
 use Rattle.ffs_layout.specs.Entry.{entry_value}
-use Rattle.ffs_pathnames.specs.Gathers.{marks_of}
-use Rattle.ffs_pathnames.specs.NameMarks.{plain_reported}
+use Rattle.ffs_pathnames.specs.Gathers.{passed_of}
+use Rattle.ffs_pathnames.specs.PassedNames.{plain_reported}
 use Rattle.ffs_pathnames.proofs.SeesLaws.{sees}
 use Rattle.ffs_pathnames.proofs.one_entry.verdict_of.Goals as goal
 
@@ -19,6 +19,6 @@ returns-clause-verdict c = λ v b made h r.
     record {
       linked = c.entry_verdict.ensures.linked (volume_of v b) shows;
       reported = sym (ap (λ ms. plain_reported (volume_of v b) c.args.dir
-          (record { flags = ms; stamps = (marks_of w).stamps }) e) c.as_slice-3.ensures.value)
+          (record { flags = ms; stamps = (passed_of w).stamps }) e) c.as_slice-3.ensures.value)
           ∙ c.entry_verdict.ensures.reported (volume_of v b) shows;
     }

@@ -45,7 +45,7 @@ returns-clause-text g c =
     let lines = λ (b : List ℕ). map of_tree (pathname_lines (volume_of v b)) in
     let all = λ (b : List ℕ). phase2 ∷ map of_tree (pathname_lines (volume_of v b)) in
     let found = c.in_ok-survey.ensures in
-    let clear = c.clear_marks.ensures in
+    let clear = c.clear_passed.ensures in
     let made = (clear.ready v _ found.ready).made in
     of_last Root _ lines lines all _ _ _ c.check_tree.result
     (of_says _ all lines _ (phase2 ∷ []) _ _ _ (of_begins _ all _) (λ b k. refl) c.in_ok-say.ensures.said)
@@ -61,7 +61,7 @@ pub returns-clause-goes : goal.returns-clause-goes
 returns-clause-goes g c =
     let v = c.args.geometry.now.layout in
     let found = c.in_ok-survey.ensures in
-    let clear = c.clear_marks.ensures in
+    let clear = c.clear_passed.ensures in
     let made = (clear.ready v _ found.ready).made in
     if_ok c.check_tree.result _ _
     (λ root h b k. h b (before_first v _ b _ _ (ap (λ d. d.contents) found.read ∙ k.0)
@@ -74,7 +74,7 @@ pub returns-clause-fault : goal.returns-clause-fault
 returns-clause-fault g c =
     let v = c.args.geometry.now.layout in
     let found = c.in_ok-survey.ensures in
-    let clear = c.clear_marks.ensures in
+    let clear = c.clear_passed.ensures in
     let made = (clear.ready v _ found.ready).made in
     at_fault_more c.check_tree.result _ _
     (λ h. inr (λ b k. h b (before_first v _ b _ _ (ap (λ d. d.contents) found.read ∙ k.0)
@@ -87,7 +87,7 @@ pub returns-clause-holds : goal.returns-clause-holds
 returns-clause-holds g c =
     let v = c.args.geometry.now.layout in
     let found = c.in_ok-survey.ensures in
-    let clear = c.clear_marks.ensures in
+    let clear = c.clear_passed.ensures in
     let made = (clear.ready v _ found.ready).made in
     on_ok c.check_tree.result _ _
     (λ h b k. h b (before_first v _ b _ _ (ap (λ d. d.contents) found.read ∙ k.0)
@@ -102,11 +102,11 @@ returns-clause-references g c =
     let found = c.in_ok-survey.ensures in
     on_all c.check_tree.result _
     (λ b k. references_on v b _ _
-    (c.check_tree.ensures.leaves.references ∙ c.clear_marks.ensures.clear.survey.references)
+    (c.check_tree.ensures.leaves.references ∙ c.clear_passed.ensures.clear.survey.references)
     (found.references b k.0 k.1 k.2))
 
 pub check_tree-requires : goal.check_tree-requires
-check_tree-requires g c = c.clear_marks.ensures.ready _ _ c.in_ok-survey.ensures.ready
+check_tree-requires g c = c.clear_passed.ensures.ready _ _ c.in_ok-survey.ensures.ready
 
 pub returns-in_err-survey-clause-reads : goal.returns-in_err-survey-clause-reads
 returns-in_err-survey-clause-reads g c = λ b k numbered.
@@ -120,7 +120,7 @@ pub returns-clause-reads : goal.returns-clause-reads
 returns-clause-reads g c = λ b k numbered.
     let v = c.args.geometry.now.layout in
     let found = c.in_ok-survey.ensures in
-    let clear = c.clear_marks.ensures in
+    let clear = c.clear_passed.ensures in
     let made = (clear.ready v _ found.ready).made in
     let once = c.survey.ensures.reads b k.0 k.1 in
     let most = costs_bounded v b c.args.geometry.now.sound in

@@ -10,13 +10,13 @@ use Rattle.ffs_volume.specs.Directories.Volumes.{volume_of}
 use Rattle.ffs_workspace.specs.Notes.{cut_in}
 use Rattle.ffs_workspace.proofs.NoteLaws.{cut_is_noted}
 use Rattle.ffs_names.specs.Readings.{rest}
-use Rattle.ffs_report.specs.Runs.{ImageAfter}
+use Rattle.ffs_report.specs.PhaseOutcome.{ImageAfter}
 use Rattle.ffs_report.proofs.Reporting.{of_begins, of_reads, of_same, of_part, of_fault, said_knows, reports_knowing}
 use Rattle.ffs_workspace.specs.Leaves.{LeavesSurvey}
 use Rattle.ffs_workspace.proofs.Leaving.{leaves_all, leaves_more, windows_leave}
-use Rattle.ffs_pathnames.specs.Gathers.{marks_of}
+use Rattle.ffs_pathnames.specs.Gathers.{passed_of}
 use Rattle.ffs_pathnames.specs.DirectoryContext.{KnowsDirectory}
-use Rattle.ffs_pathnames.specs.NameMarks.{after_entries, entries_reported}
+use Rattle.ffs_pathnames.specs.PassedNames.{after_entries, entries_reported}
 use Rattle.ffs_pathnames.proofs.Passing.{chunk_reported, chunk_passed, knows_on, all_read}
 use Rattle.ffs_pathnames.proofs.ReadyLaws.{with_chunk, can_read_in, ready_next, ready_read}
 use Rattle.ffs_pathnames.proofs.StampLaws.{keep_more, noted_kept}
@@ -30,7 +30,7 @@ pub chunks-init : goal.chunks-init
 chunks-init g c =
     let v = c.args.geometry.now.layout in
     let x = c.args.directory.now in
-    let m = marks_of c.args.workspace.now in
+    let m = passed_of c.args.workspace.now in
     let all = λ (b : List ℕ). map of_tree
     (entries_reported (volume_of v b) x.number m (roled_entries (volume_of v b) x.number)) in
     let cut = λ (b : List ℕ)
@@ -62,7 +62,7 @@ chunks-init g c =
           (same_lines b k) in
           rw long (omega (arith, all, left, runs));
       path = λ b k begun. absurd (both_ways _ refl begun);
-      marks = λ b k. ap (after_entries (volume_of v b) x.number m) (sym (seen b k));
+      passed = λ b k. ap (after_entries (volume_of v b) x.number m) (sym (seen b k));
       said = of_same _ all (λ (b : List ℕ). map of_tree
           (entries_reported (volume_of v b) x.number m (flat_map roled_chunk (rest b c.start-chunks.result)))) all _ _
           (of_begins _ all _) same_lines;
@@ -119,8 +119,8 @@ chunks-preserved g c =
     let inv = c.chunks.invariant in
     let read = c.in_ok-offset.ensures in
     let ok = c.in_ok-report_chunk.ensures in
-    let m = marks_of c.chunks.workspace in
-    let m' = marks_of c.report_chunk.new.workspace in
+    let m = passed_of c.chunks.workspace in
+    let m' = passed_of c.report_chunk.new.workspace in
     let same = ok.leaves.image ∙ (read.leaves.read ∙ inv.device) in
     let between = with_chunk c.chunks.workspace c.next.new.blocks c.next.new.window in
     let kept : LeavesSurvey c.args.workspace.now between =
@@ -156,10 +156,10 @@ chunks-preserved g c =
           (length (entries_reported (volume_of v b) x.number m (flat_map roled_chunk (rest b c.chunks.chunks)))) _
           took.paid few.count
           (lines_long _ _ _ (chunk_reported (volume_of v b) x.number m m' here (rest b c.chunks.chunks)
-          (rest b c.next.new.self) (next b k) (ok.marks b (know b k)))) (inv.reads b k noted);
+          (rest b c.next.new.self) (next b k) (ok.passed b (know b k)))) (inv.reads b k noted);
       path = λ b k. c.report_chunk.ensures.lines.path b (record { knows = know b k; path = inv.path b k });
-      marks = λ b k. chunk_passed (volume_of v b) x.number _ m m' here (rest b c.chunks.chunks)
-          (rest b c.next.new.self) (next b k) (ok.marks b (know b k)) (inv.marks b k);
+      passed = λ b k. chunk_passed (volume_of v b) x.number _ m m' here (rest b c.chunks.chunks)
+          (rest b c.next.new.self) (next b k) (ok.passed b (know b k)) (inv.passed b k);
       said = of_part _ (λ (b : List ℕ). map of_tree
           (entries_reported (volume_of v b) x.number m (flat_map roled_chunk (rest b c.chunks.chunks))))
           (λ (b : List ℕ). map of_tree (entries_reported (volume_of v b) x.number m (roled_chunk here)))
@@ -167,7 +167,7 @@ chunks-preserved g c =
           (entries_reported (volume_of v b) x.number m' (flat_map roled_chunk (rest b c.next.new.self)))) _ _ _ _
           inv.said
           (λ b k. chunk_reported (volume_of v b) x.number m m' here (rest b c.chunks.chunks) (rest b c.next.new.self)
-          (next b k) (ok.marks b (know b k)))
+          (next b k) (ok.passed b (know b k)))
           (said_knows _ _ _ _ _ _ (λ b k. record
           { knows = know b k; path = inv.path b k }) ok.lines.text);
     }
@@ -178,7 +178,7 @@ returns-in_err-report_chunk-clause-text g c =
     let x = c.args.directory.now in
     let inv = c.chunks.invariant in
     let read = c.in_ok-offset.ensures in
-    let m = marks_of c.chunks.workspace in
+    let m = passed_of c.chunks.workspace in
     let between = with_chunk c.chunks.workspace c.next.new.blocks c.next.new.window in
     let kept : LeavesSurvey c.args.workspace.now between =
     leaves_more _ _ _ inv.survey (windows_leave c.chunks.workspace between refl) in
@@ -229,7 +229,7 @@ returns-clause-text g c =
     let v = c.args.geometry.now.layout in
     let x = c.args.directory.now in
     let inv = c.chunks.invariant in
-    let m = marks_of c.chunks.workspace in
+    let m = passed_of c.chunks.workspace in
     let came = rw c.in_default.is at c.in_ok-offset.ensures.chunk in
     of_same _ (λ (b : List ℕ). map of_tree
     (entries_reported (volume_of v b) x.number m (flat_map roled_chunk (rest b c.chunks.chunks)))) (λ b. []) _ _ _
@@ -237,13 +237,13 @@ returns-clause-text g c =
     (λ b k. ap (λ cs. map of_tree (entries_reported (volume_of v b) x.number m (flat_map roled_chunk cs)))
     (came b (ap (λ d. d.contents) inv.device ∙ k.0.gives_bytes)).chunks.0)
 
-pub returns-clause-marks : goal.returns-clause-marks
-returns-clause-marks g c = λ b k.
+pub returns-clause-passed : goal.returns-clause-passed
+returns-clause-passed g c = λ b k.
     let v = c.args.geometry.now.layout in
     let x = c.args.directory.now in
     let inv = c.chunks.invariant in
     let came = rw c.in_default.is at c.in_ok-offset.ensures.chunk in
-    inv.marks b k ∙ ap (λ cs. after_entries (volume_of v b) x.number (marks_of c.chunks.workspace)
+    inv.passed b k ∙ ap (λ cs. after_entries (volume_of v b) x.number (passed_of c.chunks.workspace)
     (flat_map roled_chunk cs)) (came b (ap (λ d. d.contents) inv.device ∙ k.0.gives_bytes)).chunks.0
 
 -- the reads
@@ -259,7 +259,7 @@ returns-in_err-report_chunk-clause-reads g c = λ b k noted.
     let x = c.args.directory.now in
     let inv = c.chunks.invariant in
     let read = c.in_ok-offset.ensures in
-    let m = marks_of c.chunks.workspace in
+    let m = passed_of c.chunks.workspace in
     let between = with_chunk c.chunks.workspace c.next.new.blocks c.next.new.window in
     let kept : LeavesSurvey c.args.workspace.now between =
     leaves_more _ _ _ inv.survey (windows_leave c.chunks.workspace between refl) in

@@ -5,14 +5,14 @@ use Rattle.ffs_volume.specs.Directories.Parents.{graph_of}
 use Rattle.ffs_volume.specs.Directories.Roles.{roled_chunk, roled_entries}
 use Rattle.ffs_volume.specs.Directories.Volumes.{volume_of}
 use Rattle.ffs_report.specs.Known.{ForBytes}
-use Rattle.ffs_report.specs.Runs.{SaidOf}
+use Rattle.ffs_report.specs.PhaseOutcome.{SaidOf}
 use Rattle.ffs_report.specs.Progress.{progress}
 use Rattle.ffs_names.specs.Readings.{rest}
 use Rattle.ffs_workspace.specs.Leaves.{LeavesSurvey}
 use Rattle.ffs_pathnames.specs.Ready.{ReadyWith}
-use Rattle.ffs_pathnames.specs.Gathers.{marks_of}
+use Rattle.ffs_pathnames.specs.Gathers.{passed_of}
 use Rattle.ffs_pathnames.specs.DirectoryContext.{BeginsPathOf, KnowsDirectory}
-use Rattle.ffs_pathnames.specs.NameMarks.{after_entries, entries_reported}
+use Rattle.ffs_pathnames.specs.PassedNames.{after_entries, entries_reported}
 use Rattle.ffs_pathnames.specs.Stamps.{KeepPlaces}
 use Rattle.ffs_volume.specs.Report.Reads.{line_reads}
 use Rattle.ffs_names.specs.Costs.{to_read, HoldsReading}
@@ -33,22 +33,22 @@ invariant-chunks g l =
       places : KeepPlaces l.fn.workspace.queue.items l.workspace.queue.items;
       path : ForBytes (KnowsDirectory v (reported_by l.fn.image) l.fn.workspace x)
           (λ b. BeginsPathOf (graph_of (volume_of v b)) x.number l.texts);
-      marks : ForBytes (KnowsDirectory v (reported_by l.fn.image) l.fn.workspace x) (λ b.
-          after_entries (volume_of v b) x.number (marks_of l.fn.workspace) (roled_entries (volume_of v b) x.number)
-          ≡ after_entries (volume_of v b) x.number (marks_of l.workspace) (flat_map roled_chunk (rest b l.chunks)));
+      passed : ForBytes (KnowsDirectory v (reported_by l.fn.image) l.fn.workspace x) (λ b.
+          after_entries (volume_of v b) x.number (passed_of l.fn.workspace) (roled_entries (volume_of v b) x.number)
+          ≡ after_entries (volume_of v b) x.number (passed_of l.workspace) (flat_map roled_chunk (rest b l.chunks)));
       held : ForBytes (KnowsDirectory v (reported_by l.fn.image) l.fn.workspace x)
           (λ b. AreNoted v b l.fn.workspace.queue.items → HoldsReading l.workspace.windows.blocks
           l.workspace.windows.chunk l.chunks);
       reads : ForBytes (KnowsDirectory v (reported_by l.fn.image) l.fn.workspace x)
           (λ b. AreNoted v b l.fn.workspace.queue.items → g.I.Image.reads l.image + to_read b l.chunks
-          + line_reads * length (entries_reported (volume_of v b) x.number (marks_of l.workspace)
+          + line_reads * length (entries_reported (volume_of v b) x.number (passed_of l.workspace)
           (flat_map roled_chunk (rest b l.chunks)))
           ≤ g.I.Image.reads l.fn.image + report_reads v b x.number (length (entries_reported (volume_of v b) x.number
-          (marks_of l.fn.workspace) (roled_entries (volume_of v b) x.number))));
+          (passed_of l.fn.workspace) (roled_entries (volume_of v b) x.number))));
       said : SaidOf (KnowsDirectory v (reported_by l.fn.image) l.fn.workspace x)
-          (λ b. map of_tree (entries_reported (volume_of v b) x.number (marks_of l.workspace)
+          (λ b. map of_tree (entries_reported (volume_of v b) x.number (passed_of l.workspace)
           (flat_map roled_chunk (rest b l.chunks))))
-          (λ b. map of_tree (entries_reported (volume_of v b) x.number (marks_of l.fn.workspace)
+          (λ b. map of_tree (entries_reported (volume_of v b) x.number (passed_of l.fn.workspace)
           (roled_entries (volume_of v b) x.number)))
           (progress g.W.Output.sink l.fn.report) (progress g.W.Output.sink l.report);
     }

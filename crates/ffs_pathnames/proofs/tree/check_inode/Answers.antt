@@ -16,7 +16,7 @@ returns-then-is_checked-clause-text g c =
     (λ b. map of_tree (directory_lines (volume_of v b) c.args.number)) _ _ c.check_directory.result
     (λ b k. sym (ap (map of_tree) (lines_looked v _ _ c.args.number b looked k)))
     (reports_knowing (Unit {0}) _ _ _ _ _ c.check_directory.result
-    (λ b k. (directory_context v _ _ c.args.number b looked k, k.marks)) c.check_directory.ensures.text)
+    (λ b k. (directory_context v _ _ c.args.number b looked k, k.passed)) c.check_directory.ensures.text)
 
 pub returns-then-is_checked-clause-before : goal.returns-then-is_checked-clause-before
 returns-then-is_checked-clause-before g c =
@@ -24,8 +24,8 @@ returns-then-is_checked-clause-before g c =
     let looked = (and_parts _ _ (sym c.is_checked.ensures ∙ c.if-is_checked.true)).0 in
     on_ok c.check_directory.result _ _
     (λ h b k. before_next v _ _ _ c.args.number b c.check_directory.ensures.leaves.survey
-    (h b (directory_context v _ _ c.args.number b looked k, k.marks)) k)
-    c.check_directory.ensures.marks
+    (h b (directory_context v _ _ c.args.number b looked k, k.passed)) k)
+    c.check_directory.ensures.passed
 
 pub returns-clause-text : goal.returns-clause-text
 returns-clause-text g c =
@@ -45,4 +45,4 @@ returns-then-is_checked-clause-reads g c = λ b k noted.
     let v = c.args.geometry.now.layout in
     let looked = (and_parts _ _ (sym c.is_checked.ensures ∙ c.if-is_checked.true)).0 in
     rw (lines_looked v _ _ c.args.number b looked k)
-    (c.check_directory.ensures.reads b (directory_context v _ _ c.args.number b looked k, k.marks) noted)
+    (c.check_directory.ensures.reads b (directory_context v _ _ c.args.number b looked k, k.passed) noted)

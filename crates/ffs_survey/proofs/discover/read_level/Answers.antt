@@ -81,12 +81,12 @@ loop-at-preserved g c =
           (read b k).counts;
       still = λ b k i d l.
           let s = inv.still b k i d l in
-          record { dir = s.dir; marked = (comes_stays _ _ _ _ _ _ _ (read b k).comes).reached _ s.marked };
+          record { dir = s.dir; is_reached = (comes_stays _ _ _ _ _ _ _ (read b k).comes).reached _ s.is_reached };
       calm = λ b k before.
           calm_read old.kinds.now old.marked.now _ _ _ _ _ _
           (entries b)
           (right_shape b) _ _ _
-          (read b k).comes (still b k).marked (read b k).calm
+          (read b k).comes (still b k).is_reached (read b k).calm
           (inv.calm b k before);
     }
 

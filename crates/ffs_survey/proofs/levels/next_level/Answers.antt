@@ -28,7 +28,7 @@ read_level-requires-clause-frontier g c = λ b k i d l.
     let v = graph_with kinds (g.D.Directories.entries (g.D.Directories.base c.args.directories.now) b) in
     record {
       dir = frontier_dirs v known.depth _ (sane_of kinds _ c.args.lists.now.long.some) c.requires.root at.frontier i d l;
-      marked = frontier_reached _ _ _ _ _ _ at.frontier at.levels i d l;
+      is_reached = frontier_reached _ _ _ _ _ _ at.frontier at.levels i d l;
     }
 
 pub returns-clause-level : goal.returns-clause-level

@@ -141,7 +141,7 @@ returns-clause-costs g c = λ b k.
     let same : c.loop-low.low ≡ c.loop-low.high = omega (arith, low, c.loop-low-test.false) in
     let reached_long = c.loop-low.lists.long.reached_long ∙ ap (λ (x : Lent). length x.kinds) inv.same.lent in
     let whole = queue_costs cost c.loop-low.lists.reached.now (take c.loop-low.high c.loop-low.lists.queue.now.items) _ reached_long
-    (inv.levels b k).at.levels.queue in
+    (inv.levels b k).at.levels.queued in
     let old = rw same at (inv.reads b k) in
     omega (arith, old, whole)
 
@@ -161,6 +161,6 @@ returns-in_err-end-clause-costs g c =
     let both = level_costs cost c.loop-low.low c.loop-low.high c.loop-low.lists.queue.now.items c.loop-low.lists.queue.now.items
     inv.room.ordered refl in
     let whole = queue_costs cost c.loop-low.lists.reached.now (take c.loop-low.high c.loop-low.lists.queue.now.items) _ reached_long
-    (inv.levels b k).at.levels.queue in
+    (inv.levels b k).at.levels.queued in
     let part = costs_part (bool_at c.loop-low.lists.reached.now) cost (length c.args.lists.now.kinds.now) in
     omega (arith, now, old, both, whole, part))

@@ -1,4 +1,4 @@
--- What the marks report is what the pathname check reports.
+-- What is reported by the names that were passed is what the pathname check reports.
 use Rattle.std.specs.Prelude.{◌≡◌, ◌≢◌, ℕ, suc, ◌<◌, ◌≤◌, ◌==◌, Bool, true, false, not, ◌&&◌, ◌||◌, nat_lt}
 use Rattle.std.specs.Prelude.{if◌then◌else◌, refl, List, [], ◌∷◌, ◌++◌, length, slice_index, slice_set, Option, None}
 use Rattle.std.specs.Prelude.{Some, ◌⊎◌}
@@ -26,10 +26,10 @@ use Rattle.ffs_volume.specs.Directories.PathnameCheck.{has_wrong_type, entry_lin
 use Rattle.ffs_volume.specs.Directories.PathnameCheck.{is_first_entry_of_suspect}
 use Rattle.ffs_volume.specs.Directories.PathnameCheck.{is_extraneous, named_lines, plain_lines, entry_lines}
 use Rattle.ffs_volume.specs.Directories.PathnameCheck.{lines_of_entries}
-use Rattle.ffs_pathnames.specs.NameMarks.{NameMarks, is_flagged, is_calm, is_stamped, after_name, after_roled, named_reported}
-use Rattle.ffs_pathnames.specs.NameMarks.{plain_reported, role_reported, roled_reported, entries_reported, belongs}
+use Rattle.ffs_pathnames.specs.PassedNames.{PassedNames, is_flagged, is_calm, is_stamped, after_name, after_roled, named_reported}
+use Rattle.ffs_pathnames.specs.PassedNames.{plain_reported, role_reported, roled_reported, entries_reported, belongs}
 use Rattle.ffs_volume.proofs.RoleLaws.{plain-true}
-use Rattle.ffs_pathnames.specs.MarksRight.{AreRight}
+use Rattle.ffs_pathnames.specs.PassedRight.{AreRight}
 use Rattle.ffs_pathnames.proofs.FirstPlaces.{size_of, size_more, first_here}
 
 -- ONE ENTRY
@@ -121,7 +121,7 @@ from_parent_is v s done es e i p = one (e.entry.number == 2) refl (is_value (par
         ∙ place_is v s done es e i p
     one false q false r = refl
 
-suspect_same : (v : Volume) (s : ℕ) (done es : List RoledEntry) (e : RoledEntry) (m : NameMarks) → IsEntry v s done e es
+suspect_same : (v : Volume) (s : ℕ) (done es : List RoledEntry) (e : RoledEntry) (m : PassedNames) → IsEntry v s done e es
     →
     e.role ≡ Plain → e.entry.number < v.count → e.entry.number ≢ 1 → AreRight v s done m →
     is_first_entry_of_suspect v s (size_of done) e.entry.number
@@ -138,9 +138,9 @@ suspect_same v s done es e m i p h other r = one (is_suspect v e.entry.number) r
         ∙ sym (ap (λ b. not b && not (is_flagged m e.entry.number)) two)
     one true q (inr n) =
         ap (λ b. not (e.entry.number == 2) && b)
-        (first_name_is v s done es e i p ∙ sym (ap not (r.passed e.entry.number h q other n)))
+        (first_name_is v s done es e i p ∙ sym (ap not (r.named e.entry.number h q other n)))
 
-extraneous_same : (v : Volume) (s : ℕ) (done es : List RoledEntry) (e : RoledEntry) (m : NameMarks) → IsEntry v s done e
+extraneous_same : (v : Volume) (s : ℕ) (done es : List RoledEntry) (e : RoledEntry) (m : PassedNames) → IsEntry v s done e
     es
     → e.role ≡ Plain → e.entry.number < v.count → AreRight v s done m →
     is_extraneous v s (size_of done) e.entry.number ≡ (is_dir v e.entry.number && not (is_stamped s m e.entry.number))
@@ -155,7 +155,7 @@ extraneous_same v s done es e m i p h r = one (is_dir v e.entry.number) refl
         ∙ ap (λ d. (d && (not (e.entry.number == 2) && is_value (parent (graph_of v) e.entry.number) s))
         && not (list_any (is_naming_entry e.entry.number) done)) q))
 
-named_same : (v : Volume) (s : ℕ) (done es : List RoledEntry) (e : RoledEntry) (m : NameMarks) → IsEntry v s done e es →
+named_same : (v : Volume) (s : ℕ) (done es : List RoledEntry) (e : RoledEntry) (m : PassedNames) → IsEntry v s done e es →
     e.role ≡ Plain → e.entry.number < v.count → e.entry.number ≢ 1 → AreRight v s done m →
     named_lines v s (size_of done) e.entry ≡ named_reported v s m e.entry
 unfolding named_lines
@@ -176,7 +176,7 @@ named_same v s done es e m i p h other r =
     (entry_path (graph_of v) s e.entry.name))))
     (extraneous_same v s done es e m i p h r)
 
-plain_same : (v : Volume) (s : ℕ) (done es : List RoledEntry) (e : RoledEntry) (m : NameMarks) → IsEntry v s done e es →
+plain_same : (v : Volume) (s : ℕ) (done es : List RoledEntry) (e : RoledEntry) (m : PassedNames) → IsEntry v s done e es →
     e.role ≡ Plain → AreRight v s done m →
     plain_lines v s (size_of done) e.entry ≡ plain_reported v s m e.entry
 unfolding plain_lines
@@ -220,7 +220,7 @@ plain_same v s done es e m i p r = one (nat_lt e.entry.number v.count) refl
           (named_same v s done es e m i p (ltb-true e.entry.number v.count q) n r)
     ]
 
-seen_same : (v : Volume) (s : ℕ) (done es : List RoledEntry) (e : RoledEntry) (m : NameMarks) → IsEntry v s done e es →
+seen_same : (v : Volume) (s : ℕ) (done es : List RoledEntry) (e : RoledEntry) (m : PassedNames) → IsEntry v s done e es →
     AreRight v s done m →
     entry_lines v s (size_of done) e ≡ roled_reported v s m e
 unfolding entry_lines roled_reported
@@ -261,10 +261,10 @@ not_counted v e x t h = elim (cases_eq x e.entry.number) [
   | inr n ↦ other_number x e n
 ]
 
-skips : (v : Volume) (s : ℕ) (done : List RoledEntry) (e : RoledEntry) (m : NameMarks) →
+skips : (v : Volume) (s : ℕ) (done : List RoledEntry) (e : RoledEntry) (m : PassedNames) →
     (is_plain e.role && nat_lt e.entry.number v.count) ≡ false → AreRight v s done m → AreRight v s (done ++ e ∷ []) m
 skips v s done e m t r = record {
-  passed = λ x h q o n. r.passed x h q o n ∙ ap (λ b. some_below (λ t. is_naming_dir (graph_of v) t x) s || b)
+  named = λ x h q o n. r.named x h q o n ∙ ap (λ b. some_below (λ t. is_naming_dir (graph_of v) t x) s || b)
       (sym (not_named (is_naming_entry x) done e (not_counted v e x t h)));
   due = λ x h. r.due x h ∙ ap (λ b. belongs v s x && not b)
       (sym (not_named (is_naming_entry x) done e (not_counted v e x t h)));
@@ -291,7 +291,7 @@ flags_long v n flags = one (is_suspect v n)
     one false = refl
 
 -- and those of inodes that aren't suspect stay
-pub calm_name : (v : Volume) (s n x : ℕ) (m : NameMarks) → is_calm v (after_name v s m n) x ≡ is_calm v m x
+pub calm_name : (v : Volume) (s n x : ℕ) (m : PassedNames) → is_calm v (after_name v s m n) x ≡ is_calm v m x
 calm_name v s n x m = elim (cases_eq x n) [
   | inl z ↦ same (is_suspect v n) refl z
   | inr o ↦ ap (λ b. not (is_suspect v x) && b) (other_flag v n x m.flags o)
@@ -306,7 +306,7 @@ calm_name v s n x m = elim (cases_eq x n) [
         ap (λ b. not b && slice_index_or (slice_set m.flags n true) x false) suspect
         ∙ sym (ap (λ b. not b && is_flagged m x) suspect)
 
-name_passed : (v : Volume) (s : ℕ) (done : List RoledEntry) (e : RoledEntry) (m : NameMarks) → e.role ≡ Plain →
+name_passed : (v : Volume) (s : ℕ) (done : List RoledEntry) (e : RoledEntry) (m : PassedNames) → e.role ≡ Plain →
     e.entry.number < v.count → AreRight v s done m →
     (x : ℕ) → x < v.count → is_suspect v x ≡ true → x ≢ 1 → x ≢ 2 →
     is_flagged (after_name v s m e.entry.number) x
@@ -325,7 +325,7 @@ name_passed v s done e m p low r x h q u n = elim (cases_eq x e.entry.number) [
       ∙ or-true (some_below (λ t. is_naming_dir (graph_of v) t x) s))))
   | inr o ↦
       other_flag v e.entry.number x m.flags o
-      ∙ (r.passed x h q u n ∙ ap (λ b. some_below (λ t. is_naming_dir (graph_of v) t x) s || b)
+      ∙ (r.named x h q u n ∙ ap (λ b. some_below (λ t. is_naming_dir (graph_of v) t x) s || b)
       (sym (not_named (is_naming_entry x) done e (other_number x e o))))
 ]
 
@@ -346,7 +346,7 @@ stays s n x stamps o = one (slice_index stamps n == s)
     one true = get_or-set_other stamps n x 0 0 o
     one false = refl
 
-name_due : (v : Volume) (s : ℕ) (done : List RoledEntry) (e : RoledEntry) (m : NameMarks) → 2 ≤ s → e.role ≡ Plain →
+name_due : (v : Volume) (s : ℕ) (done : List RoledEntry) (e : RoledEntry) (m : PassedNames) → 2 ≤ s → e.role ≡ Plain →
     e.entry.number < v.count → AreRight v s done m →
     (x : ℕ) → x < v.count → is_stamped s (after_name v s m e.entry.number) x
     ≡ (belongs v s x && not (list_any (is_naming_entry x) (done ++ e ∷ [])))
@@ -371,7 +371,7 @@ stamps_long s n stamps = one (slice_index stamps n == s)
     one true = length-set stamps n 0
     one false = refl
 
-pub right_after : (v : Volume) (s : ℕ) (done : List RoledEntry) (e : RoledEntry) (m : NameMarks) → 2 ≤ s →
+pub right_after : (v : Volume) (s : ℕ) (done : List RoledEntry) (e : RoledEntry) (m : PassedNames) → 2 ≤ s →
     AreRight v s done m → AreRight v s (done ++ e ∷ []) (after_roled v s m e)
 right_after v s done e m two r = one (is_plain e.role && nat_lt e.entry.number v.count) refl
   where
@@ -383,7 +383,7 @@ right_after v s done e m two r = one (is_plain e.role && nat_lt e.entry.number v
         let p = plain-true e.role q.0 in
         let low = ltb-true e.entry.number v.count q.1 in
         record {
-          passed = name_passed v s done e m p low r;
+          named = name_passed v s done e m p low r;
           due = name_due v s done e m two p low r;
           flags_length = flags_long v e.entry.number m.flags ∙ r.flags_length;
           stamps_length = stamps_long s e.entry.number m.stamps ∙ r.stamps_length;
@@ -395,7 +395,7 @@ pub record IsDirectory (v : Volume) (s : ℕ) : Type 0 where
   pub below : s < v.count
   pub from_two : 2 ≤ s
 
-pub right_reported : (v : Volume) (s : ℕ) (done es : List RoledEntry) (m : NameMarks) → IsDirectory v s →
+pub right_reported : (v : Volume) (s : ℕ) (done es : List RoledEntry) (m : PassedNames) → IsDirectory v s →
     roled_entries v s ≡ done ++ es → AreRight v s done m →
     lines_of_entries v s (size_of done) es ≡ entries_reported v s m es
 unfolding lines_of_entries

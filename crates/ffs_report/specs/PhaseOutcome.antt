@@ -46,7 +46,7 @@ PhaseReports knows all old new (Err (Read fault)) = SaidPrefixOf knows all old n
 PhaseReports knows all old new (Err (Out fault)) = StoppedOf knows all old new
 
 -- what a phase leaves of its image, and what it reports
-pub record PhaseRuns {T : Type 0} (knows : List ℕ → Type 0) (all : List ℕ → List Message) (device device' : Device)
+pub record PhaseOutcome {T : Type 0} (knows : List ℕ → Type 0) (all : List ℕ → List Message) (device device' : Device)
     (old new : Progress) (result : Result T RunFault) : Type 0 where
   pub image : ImageAfter device device' result
   pub text : PhaseReports knows all old new result

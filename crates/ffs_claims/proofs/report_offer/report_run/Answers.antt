@@ -11,7 +11,7 @@ use Rattle.ffs_claims.proofs.StepsContinue.{to_same, from_start}
 use Rattle.ffs_claims.proofs.Frames.{offers_reported_none, offers_reported_then}
 use Rattle.ffs_claims.proofs.Reportings.{run_next, run_over, reporting_begins, reporting_more, reporting_ends}
 use Rattle.ffs_claims.proofs.Reportings.{reporting_same, lines_more}
-use Rattle.ffs_claims.proofs.report_claim.report_run.Goals as goal
+use Rattle.ffs_claims.proofs.report_offer.report_run.Goals as goal
 
 pub loop-place-init : goal.loop-place-init
 loop-place-init g c =
@@ -29,8 +29,8 @@ loop-place-init g c =
           (from_start c.args.start c.args.len));
     }
 
-pub returns-in_err-report_claim-clause-said : goal.returns-in_err-report_claim-clause-said
-returns-in_err-report_claim-clause-said g c =
+pub returns-in_err-report_offer-clause-said : goal.returns-in_err-report_offer-clause-said
+returns-in_err-report_offer-clause-said g c =
     let p = err_from_is_err_and c.from_residual.result c.from_residual.ensures.1 in
     let n = c.args.number in
     let f = c.from.result + c.from-in-loop-place.result in
@@ -42,12 +42,12 @@ returns-in_err-report_claim-clause-said g c =
     (ap (λ (os : List Offer). of_lines (first_offer_lines d os))
     (run_next n c.args.start c.args.len c.loop-place.place f c.loop-place-test.true (omega arith))
     ∙ lines_more d (after_first d (offer_of n f ∷ [])) (offer_of n f) rest refl)
-    c.in_err-report_claim.ensures.said)
+    c.in_err-report_offer.ensures.said)
 
-pub returns-in_err-report_claim-clause-only : goal.returns-in_err-report_claim-clause-only
-returns-in_err-report_claim-clause-only g c =
+pub returns-in_err-report_offer-clause-only : goal.returns-in_err-report_offer-clause-only
+returns-in_err-report_offer-clause-only g c =
     offers_reported_then c.args.geometry.now.layout _ _ _ c.loop-place.invariant.only
-    c.report_claim.ensures.only
+    c.report_offer.ensures.only
 
 pub loop-place-preserved : goal.loop-place-preserved
 loop-place-preserved g c =
@@ -55,18 +55,18 @@ loop-place-preserved g c =
     let n = c.args.number in
     let f = c.from.result + c.from-in-loop-place.result in
     let d = bits_of c.loop-place.workspace.duplicates in
-    let d' = bits_of c.report_claim.new.workspace.duplicates in
+    let d' = bits_of c.report_offer.new.workspace.duplicates in
     let rest = map (offer_of n)
     (range_with_len (c.args.start + (c.loop-place.place + 1)) (c.args.len - (c.loop-place.place + 1))) in
     let next = run_next n c.args.start c.args.len c.loop-place.place f c.loop-place-test.true (omega arith) in
     record {
-      only = offers_reported_then c.args.geometry.now.layout _ _ _ inv.only c.report_claim.ensures.only;
-      reported = reporting_more _ (offer_of n f ∷ []) rest _ _ _ _ inv.reported next c.report_claim.ensures.reported;
+      only = offers_reported_then c.args.geometry.now.layout _ _ _ inv.only c.report_offer.ensures.only;
+      reported = reporting_more _ (offer_of n f ∷ []) rest _ _ _ _ inv.reported next c.report_offer.ensures.reported;
       said = to_says _ (of_lines (first_offer_lines d' rest)) _ (of_lines (first_offer_lines d (offer_of n f ∷ []))) _ _
           _ inv.said
           (ap (λ (os : List Offer). of_lines (first_offer_lines d os)) next
-          ∙ lines_more d d' (offer_of n f) rest c.report_claim.ensures.reported.dup)
-          c.in_ok-report_claim.ensures.said;
+          ∙ lines_more d d' (offer_of n f) rest c.report_offer.ensures.reported.dup)
+          c.in_ok-report_offer.ensures.said;
     }
 
 pub returns-clause-said : goal.returns-clause-said

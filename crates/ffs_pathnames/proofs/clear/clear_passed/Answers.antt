@@ -4,7 +4,7 @@ use Rattle.ffs_workspace.specs.Holds.{bool_at}
 use Rattle.ffs_workspace.proofs.PlaceLaws.{filled_noted}
 use Rattle.ffs_pathnames.specs.Sees.{is_suspect_by}
 use Rattle.ffs_pathnames.proofs.StampLaws.{none_due, none_stamped}
-use Rattle.ffs_pathnames.proofs.clear.clear_marks.Goals as goal
+use Rattle.ffs_pathnames.proofs.clear.clear_passed.Goals as goal
 
 pub returns-clause-clear : goal.returns-clause-clear
 returns-clause-clear c =

@@ -2,7 +2,7 @@ use Rattle.std.proofs.Common.{arith, rules, refl, sym, ◌∙◌}
 use Rattle.ffs_maps.specs.Bits.{bits_of}
 use Rattle.ffs_maps.proofs.Bits.{bits_long}
 use Rattle.ffs_claims.proofs.Reportings.{reported_out, said_out, past_end}
-use Rattle.ffs_claims.proofs.report_claim.report_claim.Goals as goal
+use Rattle.ffs_claims.proofs.report_offer.report_offer.Goals as goal
 
 pub returns-then-fragment-from-clause-said : goal.returns-then-fragment-from-clause-said
 returns-then-fragment-from-clause-said g c =

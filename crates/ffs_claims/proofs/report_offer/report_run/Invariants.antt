@@ -3,12 +3,12 @@ use Rattle.std.specs.List.{range_with_len}
 use Rattle.ffs_volume.specs.Blocks.KeptOffers.{offer_of}
 use Rattle.ffs_volume.specs.Blocks.BlockCheck.{first_offer_lines}
 use Rattle.ffs_report.specs.Progress.{progress}
-use Rattle.ffs_report.specs.Runs.{SaidTo}
+use Rattle.ffs_report.specs.PhaseOutcome.{SaidTo}
 use Rattle.ffs_maps.specs.Bits.{bits_of}
 use Rattle.ffs_claims.specs.Lines.{of_lines}
 use Rattle.ffs_claims.specs.Reporting.{OffersReportedOnly}
 use Rattle.ffs_claims.proofs.Reportings.{Reporting}
-use Rattle.ffs_claims.proofs.report_claim.report_run.Given as goal
+use Rattle.ffs_claims.proofs.report_offer.report_run.Given as goal
 
 abbrev pub invariant-loop-place : goal.invariant-loop-place
 invariant-loop-place g l = record {

@@ -1,4 +1,4 @@
--- When the marks of the pathname check are right.
+-- What the pathname check remembers of the names that it has passed is right.
 use Rattle.std.specs.Prelude.{◌≡◌, ◌≢◌, ℕ, ◌<◌, true, not, ◌&&◌, ◌||◌, List, length, slice_index}
 use Rattle.std.specs.List.{list_any}
 use Rattle.ffs_volume.specs.declared.constants.TheConstants.{WINO, ROOTINO}
@@ -7,19 +7,19 @@ use Rattle.ffs_volume.specs.Directories.Roles.{Volume, RoledEntry, is_suspect}
 use Rattle.ffs_volume.specs.Directories.Graph.{is_naming_entry, is_naming_dir}
 use Rattle.ffs_volume.specs.Directories.Parents.{graph_of}
 use Rattle.ffs_pathnames.specs.Calm.{IsSilentDirectory}
-use Rattle.ffs_pathnames.specs.NameMarks.{NameMarks, is_flagged, is_calm, is_stamped, belongs}
+use Rattle.ffs_pathnames.specs.PassedNames.{PassedNames, is_flagged, is_calm, is_stamped, belongs}
 
 -- within the directory s, after the entries `done`
-pub record AreRight (vol : Volume) (s : ℕ) (done : List RoledEntry) (m : NameMarks) : Type 0 where
-  pub passed : (x : ℕ) → x < vol.count → is_suspect vol x ≡ true → x ≢ WINO → x ≢ ROOTINO →
+pub record AreRight (vol : Volume) (s : ℕ) (done : List RoledEntry) (m : PassedNames) : Type 0 where
+  pub named : (x : ℕ) → x < vol.count → is_suspect vol x ≡ true → x ≢ WINO → x ≢ ROOTINO →
       is_flagged m x ≡ (some_below (λ t. is_naming_dir (graph_of vol) t x) s || list_any (is_naming_entry x) done)
   pub due : (x : ℕ) → x < vol.count → is_stamped s m x ≡ (belongs vol s x && not (list_any (is_naming_entry x) done))
   pub flags_length : length m.flags ≡ vol.count
   pub stamps_length : length m.stamps ≡ vol.count
 
 -- between directories, before s
-pub record AreRightBefore (vol : Volume) (s : ℕ) (m : NameMarks) : Type 0 where
-  pub passed : (x : ℕ) → x < vol.count → is_suspect vol x ≡ true → x ≢ WINO → x ≢ ROOTINO
+pub record AreRightBefore (vol : Volume) (s : ℕ) (m : PassedNames) : Type 0 where
+  pub named : (x : ℕ) → x < vol.count → is_suspect vol x ≡ true → x ≢ WINO → x ≢ ROOTINO
       → is_flagged m x ≡ some_below (λ t. is_naming_dir (graph_of vol) t x) s
   pub stamps : (x : ℕ) → x < vol.count → slice_index m.stamps x < s
   pub flags_length : length m.flags ≡ vol.count

@@ -1,4 +1,4 @@
-//! The first claims of fragments that are claimed more than once, reported once each.
+//! The first kept offers of fragments that have a DUP line, reported once each.
 
 ghost use Rattle.std.specs.Prelude.{[], ◌∷◌, OnOk, map};
 ghost use Rattle.std.specs.List.{range_with_len};
@@ -14,9 +14,9 @@ use ffs_report::{Line, OutFault, Output, Report};
 use ffs_volume::BlockMessage;
 use ffs_workspace::Workspace;
 
-/// Reports an offer, and marks its inode, where its fragment has a DUP line whose first claim isn't
-/// reported yet.
-fn report_claim<W: Output>(
+/// Reports a kept offer, and marks its inode, where its fragment has a DUP line whose first kept
+/// offer isn't reported yet: then it is that one.
+fn report_offer<W: Output>(
     workspace: &mut Workspace,
     geometry: &Geometry,
     number: u32,
@@ -46,8 +46,8 @@ fn report_claim<W: Output>(
     }))
 }
 
-/// Reports the offers of a Run, one after another, that are the first claims of fragments with a
-/// DUP line.
+/// Reports, one after another, those of the kept offers of a Run that are the first of a fragment
+/// with a DUP line.
 ///
 /// # Errors
 /// A write of the report that failed.
@@ -69,7 +69,7 @@ pub fn report_run<W: Output>(
     ensures only { OffersReportedOnly geometry.now.layout workspace.old workspace.new }
 {
     for place in 0..len {
-        report_claim(
+        report_offer(
             workspace,
             geometry,
             number,

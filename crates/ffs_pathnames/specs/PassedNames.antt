@@ -1,4 +1,4 @@
--- The pathname check by marks: what it remembers of the entries that it has passed, and what it reports by that.
+-- What the pathname check remembers of the names that it has passed, and what it reports by that.
 use Rattle.std.specs.Prelude.{ℕ, ◌==◌, Bool, true, false, not, ◌&&◌, ◌||◌, nat_lt}
 use Rattle.std.specs.Prelude.{if◌then◌else◌, List, [], ◌∷◌, ◌++◌, slice_index, slice_set}
 use Rattle.std.specs.List.{slice_index_or}
@@ -19,34 +19,34 @@ use Rattle.ffs_volume.specs.Directories.PathnameCheck.{message_on_suspect, has_w
 
 -- `flags`: of a suspect inode, whether a plain entry has named it; of any other, whether it is calm. `stamps`: of an
 -- inode, the directory in whose remaining entries its parent entry is still to come, else 0.
-pub record NameMarks : Type 0 where
+pub record PassedNames : Type 0 where
   pub flags : List Bool
   pub stamps : List ℕ
 
-abbrev pub is_flagged : NameMarks → ℕ → Bool
+abbrev pub is_flagged : PassedNames → ℕ → Bool
 is_flagged m x = slice_index_or m.flags x false
 
--- x is no suspect inode, and its flag says that nothing can be reported of it as a directory
-abbrev pub is_calm : Volume → NameMarks → ℕ → Bool
+-- x isn't suspect, and its flag says that it is a calm directory
+abbrev pub is_calm : Volume → PassedNames → ℕ → Bool
 is_calm vol m x = not (is_suspect vol x) && is_flagged m x
 
 -- the parent entry of x is still to come in s
-abbrev pub is_stamped : ℕ → NameMarks → ℕ → Bool
+abbrev pub is_stamped : ℕ → PassedNames → ℕ → Bool
 is_stamped s m x = slice_index m.stamps x == s
 
 -- a plain entry of s that names x is passed
-abbrev pub after_name : Volume → ℕ → NameMarks → ℕ → NameMarks
+abbrev pub after_name : Volume → ℕ → PassedNames → ℕ → PassedNames
 after_name vol s m x = record {
   flags = if is_suspect vol x then slice_set m.flags x true else m.flags;
   stamps = if is_stamped s m x then slice_set m.stamps x 0 else m.stamps;
 }
 
-abbrev pub after_roled : Volume → ℕ → NameMarks → RoledEntry → NameMarks
+abbrev pub after_roled : Volume → ℕ → PassedNames → RoledEntry → PassedNames
 after_roled vol s m e =
     if is_plain e.role && nat_lt e.entry.number vol.count then after_name vol s m e.entry.number else m
 
--- what is reported of an entry, by the marks
-abbrev pub named_reported : Volume → ℕ → NameMarks → Entry → List TreeMessage
+-- what is reported of an entry, by the names that were passed
+abbrev pub named_reported : Volume → ℕ → PassedNames → Entry → List TreeMessage
 named_reported vol s m e =
     let path = entry_path (graph_of vol) s e.name in
     reported (is_suspect vol e.number && (not (e.number == ROOTINO) && not (is_flagged m e.number)))
@@ -55,7 +55,7 @@ named_reported vol s m e =
     (extraneous path (dir_path (graph_of vol) e.number))
     ++ reported (has_wrong_type vol e) (kind_entry (attributes vol e.number) (label_of (vol.class e.number)) path))
 
-abbrev pub plain_reported : Volume → ℕ → NameMarks → Entry → List TreeMessage
+abbrev pub plain_reported : Volume → ℕ → PassedNames → Entry → List TreeMessage
 plain_reported vol s m e =
     let path = entry_path (graph_of vol) s e.name in
     if not (nat_lt e.number vol.count) then out_of_range e.number path ∷ []
@@ -64,30 +64,30 @@ plain_reported vol s m e =
     else (if not (is_allocated (vol.class e.number)) then unallocated (attributes vol e.number) path ∷ []
     else named_reported vol s m e)))
 
-abbrev pub role_reported : Volume → ℕ → NameMarks → Role → Entry → List TreeMessage
+abbrev pub role_reported : Volume → ℕ → PassedNames → Role → Entry → List TreeMessage
 role_reported vol s m Empty e = []
 role_reported vol s m Dot e = []
 role_reported vol s m Dotdot e = []
 role_reported vol s m Extra e = extra_lines (attributes vol s) (dir_path (graph_of vol) s) e
 role_reported vol s m Plain e = plain_reported vol s m e
 
-unfoldable pub roled_reported : Volume → ℕ → NameMarks → RoledEntry → List TreeMessage
+unfoldable pub roled_reported : Volume → ℕ → PassedNames → RoledEntry → List TreeMessage
 roled_reported vol s m e = role_reported vol s m e.role e.entry
 
 -- some entries of s, one after another
-abbrev pub after_entries : Volume → ℕ → NameMarks → List RoledEntry → NameMarks
+abbrev pub after_entries : Volume → ℕ → PassedNames → List RoledEntry → PassedNames
 after_entries vol s m [] = m
 after_entries vol s m (e ∷ es) = after_entries vol s (after_roled vol s m e) es
 
-abbrev pub entries_reported : Volume → ℕ → NameMarks → List RoledEntry → List TreeMessage
+abbrev pub entries_reported : Volume → ℕ → PassedNames → List RoledEntry → List TreeMessage
 entries_reported vol s m [] = []
 entries_reported vol s m (e ∷ es) = roled_reported vol s m e ++ entries_reported vol s (after_roled vol s m e) es
 
 -- all entries of s
-abbrev pub after_directory : Volume → ℕ → NameMarks → NameMarks
+abbrev pub after_directory : Volume → ℕ → PassedNames → PassedNames
 after_directory vol s m = after_entries vol s m (roled_entries vol s)
 
-abbrev pub directory_reported : Volume → ℕ → NameMarks → List TreeMessage
+abbrev pub directory_reported : Volume → ℕ → PassedNames → List TreeMessage
 directory_reported vol s m = entries_reported vol s m (roled_entries vol s)
 
 -- x is a directory other than the root, with the parent s
