@@ -63,7 +63,17 @@ fn print_line<W: Output>(out: &mut W, line: &Line<'_>) -> Result<(), OutFault>
             frags,
             blocks,
             tenths,
-        } => print_summary(out, *files, *used, *free, *frags, *blocks, *tenths),
+        } => {
+            let usage = Usage {
+                files: *files,
+                used: *used,
+                free: *free,
+                frags: *frags,
+                blocks: *blocks,
+                tenths: *tenths,
+            };
+            print_summary(out, &usage)
+        }
     }
 }
 
@@ -173,28 +183,31 @@ fn print_block<W: Output>(out: &mut W, message: BlockMessage) -> Result<(), OutF
     }
 }
 
-fn print_summary<W: Output>(
-    out: &mut W,
+/// What a summary tells of the use of a volume (`Line::Summary`).
+#[derive(Clone, Copy)]
+struct Usage {
     files: u32,
     used: u32,
     free: i64,
     frags: i32,
     blocks: i32,
     tenths: i64,
-) -> Result<(), OutFault>
-    ensures { Prints (W.sink out.old) (W.sink out.new)
-        (summary_text files used free frags blocks tenths) result }
+}
+
+fn print_summary<W: Output>(out: &mut W, usage: &Usage) -> Result<(), OutFault>
+    ensures { Prints (W.sink out.old) (W.sink out.new) (summary_text usage.now.files usage.now.used
+        usage.now.free usage.now.frags usage.now.blocks usage.now.tenths) result }
 {
-    let size = tenths.unsigned_abs();
+    let size = usage.tenths.unsigned_abs();
     print_pieces(
         out,
         &[
-            Piece::Number(files as u64, FILES),
-            Piece::Number(used as u64, USED),
-            Piece::Signed(free, FREE),
-            Piece::Signed(frags as i64, FRAGS),
-            Piece::Signed(blocks as i64, BLOCKS),
-            Piece::Sign(tenths),
+            Piece::Number(usage.files as u64, FILES),
+            Piece::Number(usage.used as u64, USED),
+            Piece::Signed(usage.free, FREE),
+            Piece::Signed(usage.frags as i64, FRAGS),
+            Piece::Signed(usage.blocks as i64, BLOCKS),
+            Piece::Sign(usage.tenths),
             Piece::Number(size / 10, POINT),
             Piece::Number(size % 10, FRAGMENTATION),
         ],
