@@ -64,7 +64,7 @@ fn print_line<W: Output>(out: &mut W, line: &Line<'_>) -> Result<(), OutFault>
             blocks,
             tenths,
         } => {
-            let usage = Usage {
+            let summary = SummaryLine {
                 files: *files,
                 used: *used,
                 free: *free,
@@ -72,7 +72,7 @@ fn print_line<W: Output>(out: &mut W, line: &Line<'_>) -> Result<(), OutFault>
                 blocks: *blocks,
                 tenths: *tenths,
             };
-            print_summary(out, &usage)
+            print_summary(out, &summary)
         }
     }
 }
@@ -183,9 +183,9 @@ fn print_block<W: Output>(out: &mut W, message: BlockMessage) -> Result<(), OutF
     }
 }
 
-/// What a summary tells of the use of a volume (`Line::Summary`).
+/// What a summary tells (`Line::Summary`).
 #[derive(Clone, Copy)]
-struct Usage {
+struct SummaryLine {
     files: u32,
     used: u32,
     free: i64,
@@ -194,20 +194,20 @@ struct Usage {
     tenths: i64,
 }
 
-fn print_summary<W: Output>(out: &mut W, usage: &Usage) -> Result<(), OutFault>
-    ensures { Prints (W.sink out.old) (W.sink out.new) (summary_text usage.now.files usage.now.used
-        usage.now.free usage.now.frags usage.now.blocks usage.now.tenths) result }
+fn print_summary<W: Output>(out: &mut W, line: &SummaryLine) -> Result<(), OutFault>
+    ensures { Prints (W.sink out.old) (W.sink out.new) (summary_text line.now.files line.now.used
+        line.now.free line.now.frags line.now.blocks line.now.tenths) result }
 {
-    let size = usage.tenths.unsigned_abs();
+    let size = line.tenths.unsigned_abs();
     print_pieces(
         out,
         &[
-            Piece::Number(usage.files as u64, FILES),
-            Piece::Number(usage.used as u64, USED),
-            Piece::Signed(usage.free, FREE),
-            Piece::Signed(usage.frags as i64, FRAGS),
-            Piece::Signed(usage.blocks as i64, BLOCKS),
-            Piece::Sign(usage.tenths),
+            Piece::Number(line.files as u64, FILES),
+            Piece::Number(line.used as u64, USED),
+            Piece::Signed(line.free, FREE),
+            Piece::Signed(line.frags as i64, FRAGS),
+            Piece::Signed(line.blocks as i64, BLOCKS),
+            Piece::Sign(line.tenths),
             Piece::Number(size / 10, POINT),
             Piece::Number(size % 10, FRAGMENTATION),
         ],
