@@ -20,22 +20,20 @@ use ffs_groups::are_used;
 use ffs_image::Image;
 use ffs_layout::Geometry;
 use ffs_report::{Heading, Line, Output, Report, RunFault};
-use ffs_volume::constants::{LINKS_MET, ROOTINO};
-use ffs_volume::kinds::Kind;
+use ffs_volume::constants::LINKS_MET;
 use ffs_workspace::Workspace;
 
-/// Whether an inode is dead: marked or a directory of size 0, not the root, and named by no plain
-/// entry.
+/// Whether an inode is dead, by the lists of a workspace.
 fn is_dead(workspace: &Workspace, number: u32) -> bool
     requires { HasElements workspace.now number }
     ensures { result ≡ is_dead_by workspace.now number }
 {
-    let index = number as usize;
-    let kind = Kind {
-        code: workspace.kinds[index],
-    };
-    let suspect = workspace.marked[index] || kind.is_empty_dir();
-    suspect && number != ROOTINO && !workspace.named[index]
+    ffs_survey::is_dead(
+        &workspace.kinds,
+        &workspace.marked,
+        &workspace.named,
+        number,
+    )
 }
 
 /// Whether nothing is reported of an inode that is allocated: it isn't dead, and each of its links
