@@ -5,9 +5,9 @@ ghost use Rattle.ffs_volume.specs.Messages.Kinds.{of_tree, phase4 as phase4_head
 ghost use Rattle.ffs_volume.specs.Directories.ReferenceCheck.{reference_lines_at, reference_lines};
 ghost use Rattle.ffs_volume.specs.Directories.Volumes.{volume_of};
 ghost use Rattle.ffs_report.specs.Progress.{progress};
-ghost use Rattle.ffs_report.specs.Known.{ForBytes, IsContents};
+ghost use Rattle.ffs_report.specs.Known.{ForBytes};
 ghost use Rattle.ffs_report.specs.Runs.{PhaseRuns};
-ghost use Rattle.ffs_workspace.specs.Holds.{HoldsFindings};
+ghost use Rattle.ffs_workspace.specs.Found.{WithFindings};
 ghost use Rattle.ffs_volume.specs.Blocks.Inodes.{is_allocated};
 ghost use Rattle.ffs_volume.specs.Encodings.Kinds.{class_of_kind};
 ghost use Rattle.ffs_workspace.specs.Lengths.{inodes_of};
@@ -78,13 +78,11 @@ fn check_inode<I: Image, W: Output>(
     requires number { number < inodes_of geometry.now.layout }
     requires used { is_allocated (class_of_kind (slice_index workspace.old.kinds.items number))
         ≡ true }
-    ensures prints { PhaseRuns (λ bytes. IsContents (I.device image.old).contents bytes
-        × HoldsFindings geometry.now.layout bytes workspace.old)
+    ensures prints { PhaseRuns (WithFindings geometry.now.layout (I.device image.old) workspace.old)
         (λ bytes. map of_tree (reference_lines_at (volume_of geometry.now.layout bytes) number))
         (I.device image.old) (I.device image.new) (progress W.sink report.old)
         (progress W.sink report.new) result }
-    ensures reads { ForBytes (λ bytes. IsContents (I.device image.old).contents bytes
-        × HoldsFindings geometry.now.layout bytes workspace.old)
+    ensures reads { ForBytes (WithFindings geometry.now.layout (I.device image.old) workspace.old)
         (λ bytes. I.reads image.new ≤ I.reads image.old
         + length (reference_lines_at (volume_of geometry.now.layout bytes) number)) }
     ensures stays { StaysReady geometry.now.layout (I.device image.new) workspace.old
@@ -120,14 +118,12 @@ pub fn phase4<I: Image, W: Output>(
     report: &mut Report<'_, W>,
 ) -> Result<(), RunFault>
     requires ready { IsReady geometry.now.layout (I.device image.old) workspace.old }
-    ensures prints { PhaseRuns (λ bytes. IsContents (I.device image.old).contents bytes
-        × HoldsFindings geometry.now.layout bytes workspace.old)
+    ensures prints { PhaseRuns (WithFindings geometry.now.layout (I.device image.old) workspace.old)
         (λ bytes. phase4_heading ∷ map of_tree
         (reference_lines (volume_of geometry.now.layout bytes)))
         (I.device image.old) (I.device image.new) (progress W.sink report.old)
         (progress W.sink report.new) result }
-    ensures reads { ForBytes (λ bytes. IsContents (I.device image.old).contents bytes
-        × HoldsFindings geometry.now.layout bytes workspace.old)
+    ensures reads { ForBytes (WithFindings geometry.now.layout (I.device image.old) workspace.old)
         (λ bytes. I.reads image.new ≤ I.reads image.old
         + length (reference_lines (volume_of geometry.now.layout bytes))) }
     ensures stays { StaysReady geometry.now.layout (I.device image.new) workspace.old
