@@ -14,7 +14,7 @@ use Rattle.ffs_volume.specs.Directories.Connectivity.{connectivity_lines}
 use Rattle.ffs_volume.specs.Directories.ReferenceCheck.{reference_lines}
 use Rattle.ffs_volume.specs.Report.Whole.{rescan_lines, group_check_lines, summary_of, file_count, claimed_count}
 use Rattle.ffs_workspace.specs.declared.workspace.Workspace.{Workspace}
-use Rattle.ffs_workspace.specs.Holds.{IsFresh, HoldsPhase1}
+use Rattle.ffs_workspace.specs.Holds.{HoldsPhase1}
 use Rattle.ffs_workspace.specs.Lengths.{has_dups}
 
 -- what each phase reports, with its heading
@@ -63,11 +63,8 @@ from_phase2 image s = phase2_part image s ++ after_phase2 (continues_after_root 
 abbrev pub from_phase1b : List ℕ → Superblock → List Message
 from_phase1b image s = phase1b_part image s ++ from_phase2 image s
 
--- before phase 1: the image gives the bytes, and the workspace holds nothing yet
-abbrev pub IsBeforePhase1 : Layout → Device → Workspace → List ℕ → Type 0
-IsBeforePhase1 v d w bytes = IsContents d.contents bytes × IsFresh v w
-
--- after phase 1: the image gives the bytes, and the workspace holds what phase 1 found, and whether phase 1b runs
+-- after phase 1: the image gives the bytes, and the workspace holds what the block check found, and whether it looks
+-- again
 abbrev pub IsAfterPhase1 : Layout → Device → Workspace → List ℕ → Type 0
 IsAfterPhase1 v d w bytes = IsContents d.contents bytes × HoldsPhase1 v bytes w
     × (has_dups w ≡ has_rescan v (owners_of v bytes))

@@ -2,7 +2,7 @@
 
 ghost use Rattle.std.specs.Prelude.{◌≡◌, ◌+◌, ◌-◌, ◌*◌, ◌<◌, ◌≤◌, ◌^◌, ◌∷◌, OnOk, true, slice_index};
 ghost use Rattle.ffs_report.specs.Progress.{progress, Says};
-ghost use Rattle.ffs_report.specs.Known.{ForBytes, IsContents};
+ghost use Rattle.ffs_report.specs.Known.{ForBytes};
 ghost use Rattle.ffs_report.specs.PhaseOutcome.{PhaseOutcome};
 ghost use Rattle.ffs_volume.specs.Blocks.BlockCheck.{first_offer_lines, phase1b_lines};
 ghost use Rattle.ffs_volume.specs.Messages.Kinds as messages;
@@ -15,7 +15,8 @@ ghost use Rattle.ffs_volume.specs.Encodings.ReplayCounts.{seen_run};
 ghost use Rattle.ffs_maps.specs.Bits.{bits_of};
 ghost use Rattle.ffs_walk.specs.Counts.{entered};
 ghost use Rattle.ffs_walk.specs.Keepings.{replay_in};
-ghost use Rattle.ffs_workspace.specs.Holds.{HoldsPhase1, HoldsClaims, HoldsStarts};
+ghost use Rattle.ffs_workspace.specs.Found.{WithPhase1};
+ghost use Rattle.ffs_workspace.specs.Holds.{HoldsClaims, HoldsStarts};
 ghost use Rattle.ffs_workspace.specs.Notes.{cut_in};
 ghost use Rattle.ffs_workspace.specs.Ready.{IsReady};
 ghost use Rattle.ffs_claims.specs.Lines.{of_lines};
@@ -136,23 +137,19 @@ pub fn phase1b<I: Image, W: Output>(
     report: &mut Report<'_, W>,
 ) -> Result<(), RunFault>
     requires ready { IsReady geometry.now.layout (I.device image.old) workspace.old }
-    ensures prints { PhaseOutcome (λ bytes. IsContents (I.device image.old).contents bytes
-        × HoldsPhase1 geometry.now.layout bytes workspace.old)
+    ensures prints { PhaseOutcome (WithPhase1 geometry.now.layout (I.device image.old) workspace.old)
         (λ bytes. messages.phase1b ∷ of_lines
         (phase1b_lines geometry.now.layout (owners_of geometry.now.layout bytes)))
         (I.device image.old) (I.device image.new) (progress W.sink report.old)
         (progress W.sink report.new) result }
     ensures holds { OnOk result (ForBytes
-        (λ bytes. IsContents (I.device image.old).contents bytes
-        × HoldsPhase1 geometry.now.layout bytes workspace.old)
+        (WithPhase1 geometry.now.layout (I.device image.old) workspace.old)
         (λ bytes. HoldsClaims geometry.now.layout bytes workspace.new
         × HoldsStarts geometry.now.layout bytes workspace.new)) }
-    ensures runs { ForBytes (λ bytes. IsContents (I.device image.old).contents bytes
-        × HoldsPhase1 geometry.now.layout bytes workspace.old)
+    ensures runs { ForBytes (WithPhase1 geometry.now.layout (I.device image.old) workspace.old)
         (λ bytes. workspace.new.runs_again ≤ run_count geometry.now.layout bytes) }
     ensures count { OnOk result (ForBytes
-        (λ bytes. IsContents (I.device image.old).contents bytes
-        × HoldsPhase1 geometry.now.layout bytes workspace.old)
+        (WithPhase1 geometry.now.layout (I.device image.old) workspace.old)
         (λ bytes. workspace.new.runs_again ≡ rescan_runs geometry.now.layout bytes)) }
     ensures reads { workspace.new.runs_again < 2 ^ 64 - 1 → I.reads image.new ≤ I.reads image.old
         + geometry.now.layout.ncg * geometry.now.layout.ipg + workspace.new.runs_again }

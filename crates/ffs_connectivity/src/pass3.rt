@@ -2,14 +2,14 @@
 
 ghost use Rattle.std.specs.Prelude.{◌≡◌, ◌+◌, ◌<◌, ◌≤◌, ◌^◌, ◌∷◌, length, map};
 ghost use Rattle.ffs_report.specs.Progress.{progress};
-ghost use Rattle.ffs_report.specs.Known.{ForBytes, IsContents};
+ghost use Rattle.ffs_report.specs.Known.{ForBytes};
 ghost use Rattle.ffs_report.specs.PhaseOutcome.{PhaseOutcome};
 ghost use Rattle.ffs_volume.specs.Directories.Connectivity.{connectivity_lines};
 ghost use Rattle.ffs_volume.specs.Messages.Kinds as messages;
 ghost use Rattle.ffs_volume.specs.Messages.Kinds.{of_tree};
 ghost use Rattle.ffs_volume.specs.Directories.Volumes.{volume_of};
 ghost use Rattle.ffs_connectivity.specs.Unreached.{IsFirstUnreached};
-ghost use Rattle.ffs_workspace.specs.Holds.{HoldsClaims, HoldsSurvey};
+ghost use Rattle.ffs_workspace.specs.Found.{WithSurvey};
 ghost use Rattle.ffs_workspace.specs.Leaves.{LeavesSurvey};
 ghost use Rattle.ffs_workspace.specs.Ready.{IsReady};
 
@@ -49,16 +49,12 @@ pub fn phase3<I: Image, W: Output>(
     report: &mut Report<'_, W>,
 ) -> Result<(), RunFault>
     requires ready { IsReady geometry.now.layout (I.device image.old) workspace.old }
-    ensures prints { PhaseOutcome (λ bytes. IsContents (I.device image.old).contents bytes
-        × HoldsClaims geometry.now.layout bytes workspace.old
-        × HoldsSurvey geometry.now.layout bytes workspace.old)
+    ensures prints { PhaseOutcome (WithSurvey geometry.now.layout (I.device image.old) workspace.old)
         (λ bytes. messages.phase3 ∷ map of_tree
         (connectivity_lines (volume_of geometry.now.layout bytes)))
         (I.device image.old) (I.device image.new) (progress W.sink report.old)
         (progress W.sink report.new) result }
-    ensures reads { ForBytes (λ bytes. IsContents (I.device image.old).contents bytes
-        × HoldsClaims geometry.now.layout bytes workspace.old
-        × HoldsSurvey geometry.now.layout bytes workspace.old)
+    ensures reads { ForBytes (WithSurvey geometry.now.layout (I.device image.old) workspace.old)
         (λ bytes. I.reads image.new ≤ I.reads image.old
         + length (connectivity_lines (volume_of geometry.now.layout bytes))) }
     ensures survey { LeavesSurvey workspace.old workspace.new }

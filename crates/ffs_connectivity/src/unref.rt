@@ -2,11 +2,11 @@
 
 ghost use Rattle.std.specs.Prelude.{◌≡◌, ◌+◌, ◌<◌, ◌≤◌, length, map};
 ghost use Rattle.ffs_report.specs.Progress.{progress};
-ghost use Rattle.ffs_report.specs.Known.{ForBytes, IsContents};
+ghost use Rattle.ffs_report.specs.Known.{ForBytes};
 ghost use Rattle.ffs_report.specs.PhaseOutcome.{PhaseOutcome};
 ghost use Rattle.ffs_volume.specs.Messages.Kinds.{of_tree};
 ghost use Rattle.ffs_volume.specs.Directories.Volumes.{volume_of};
-ghost use Rattle.ffs_workspace.specs.Holds.{HoldsClaims, HoldsSurvey};
+ghost use Rattle.ffs_workspace.specs.Found.{WithSurvey};
 ghost use Rattle.ffs_workspace.specs.Lengths.{inodes_of};
 ghost use Rattle.ffs_workspace.specs.Ready.{IsReady, StaysReady};
 ghost use Rattle.ffs_connectivity.specs.Leaders.{HasLeaders};
@@ -34,15 +34,11 @@ pub fn check_inode<I: Image, W: Output>(
     requires ready { IsReady geometry.now.layout (I.device image.old) workspace.old }
     requires number { (2 ≤ number) × (number < inodes_of geometry.now.layout) }
     requires leaders { HasLeaders workspace.old }
-    ensures prints { PhaseOutcome (λ bytes. IsContents (I.device image.old).contents bytes
-        × HoldsClaims geometry.now.layout bytes workspace.old
-        × HoldsSurvey geometry.now.layout bytes workspace.old)
+    ensures prints { PhaseOutcome (WithSurvey geometry.now.layout (I.device image.old) workspace.old)
         (λ bytes. map of_tree (unref_dir_lines (volume_of geometry.now.layout bytes) number))
         (I.device image.old) (I.device image.new) (progress W.sink report.old)
         (progress W.sink report.new) result }
-    ensures reads { ForBytes (λ bytes. IsContents (I.device image.old).contents bytes
-        × HoldsClaims geometry.now.layout bytes workspace.old
-        × HoldsSurvey geometry.now.layout bytes workspace.old)
+    ensures reads { ForBytes (WithSurvey geometry.now.layout (I.device image.old) workspace.old)
         (λ bytes. I.reads image.new ≤ I.reads image.old
         + length (unref_dir_lines (volume_of geometry.now.layout bytes) number)) }
     ensures stays { StaysReady geometry.now.layout (I.device image.new) workspace.old

@@ -1,13 +1,13 @@
 -- What is reported of an inode by its references.
 use Rattle.std.specs.Prelude.{ℕ, ◌==◌, ◌&&◌, ◌||◌, Bool, not, slice_index, List, [], ◌∷◌, Option, Some, None}
 use Rattle.std.specs.Prelude.{if◌then◌else◌, ℤ}
-use Rattle.ffs_volume.specs.declared.constants.TheConstants.{LINKS_MET, ROOTINO}
+use Rattle.ffs_volume.specs.declared.constants.TheConstants.{LINKS_MET}
 use Rattle.ffs_volume.specs.declared.Attr.{Attr}
 use Rattle.ffs_volume.specs.declared.Label.{Label}
 use Rattle.ffs_volume.specs.Disk.Numbers.{equals_natural}
 use Rattle.ffs_volume.specs.Messages.Kinds.{TreeMessage, reported, dead_marked}
 use Rattle.ffs_volume.specs.Messages.Kinds.{dead_zero, unref, unref_zero, link_count}
-use Rattle.ffs_volume.specs.Encodings.Kinds.{is_empty_dir_kind}
+use Rattle.ffs_survey.specs.Survey.{dead_at}
 use Rattle.ffs_workspace.specs.declared.workspace.Workspace.{Workspace}
 use Rattle.ffs_workspace.specs.Holds.{bool_at}
 use Rattle.ffs_report.specs.Lines.{reference_message}
@@ -25,12 +25,9 @@ abbrev pub lines_as : Option ReferenceLine → List TreeMessage
 lines_as None = []
 lines_as (Some line) = reference_message line ∷ []
 
--- whether the inode i is dead, by the lists of a workspace: marked or a directory of size 0, not
--- the root, and not named
+-- whether the inode i is dead, by the lists of a workspace
 abbrev pub is_dead_by : Workspace → ℕ → Bool
-is_dead_by w i =
-    (bool_at w.marked.items i || is_empty_dir_kind (slice_index w.kinds.items i))
-    && (not (i == ROOTINO) && not (bool_at w.named.items i))
+is_dead_by w i = dead_at w.kinds.items w.marked.items w.named.items i
 
 -- whether it isn't dead, and each of its links has its reference
 abbrev pub is_met : Workspace → ℕ → Bool

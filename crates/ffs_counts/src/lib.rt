@@ -9,7 +9,7 @@
 //! summary(&superblock, &workspace, &mut report)?;
 //! ```
 //!
-//! It rests on `ffs_groups`, `ffs_workspace` and `ffs_report`.
+//! It rests on `ffs_groups`, `ffs_survey`, `ffs_workspace` and `ffs_report`.
 #![tactic(auto)]
 
 mod groups;

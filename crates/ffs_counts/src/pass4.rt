@@ -5,9 +5,9 @@ ghost use Rattle.ffs_volume.specs.Messages.Kinds.{of_tree, phase4 as phase4_head
 ghost use Rattle.ffs_volume.specs.Directories.ReferenceCheck.{reference_lines_at, reference_lines};
 ghost use Rattle.ffs_volume.specs.Directories.Volumes.{volume_of};
 ghost use Rattle.ffs_report.specs.Progress.{progress};
-ghost use Rattle.ffs_report.specs.Known.{ForBytes, IsContents};
+ghost use Rattle.ffs_report.specs.Known.{ForBytes};
 ghost use Rattle.ffs_report.specs.PhaseOutcome.{PhaseOutcome};
-ghost use Rattle.ffs_workspace.specs.Holds.{HoldsFindings};
+ghost use Rattle.ffs_workspace.specs.Found.{WithFindings};
 ghost use Rattle.ffs_volume.specs.Blocks.Inodes.{is_allocated};
 ghost use Rattle.ffs_volume.specs.Encodings.Kinds.{class_of_kind};
 ghost use Rattle.ffs_workspace.specs.Lengths.{inodes_of};
@@ -20,22 +20,20 @@ use ffs_groups::are_used;
 use ffs_image::Image;
 use ffs_layout::Geometry;
 use ffs_report::{Heading, Line, Output, Report, RunFault};
-use ffs_volume::constants::{LINKS_MET, ROOTINO};
-use ffs_volume::kinds::Kind;
+use ffs_volume::constants::LINKS_MET;
 use ffs_workspace::Workspace;
 
-/// Whether an inode is dead: marked or a directory of size 0, not the root, and named by no plain
-/// entry.
+/// Whether an inode is dead, by the lists of a workspace.
 fn is_dead(workspace: &Workspace, number: u32) -> bool
     requires { HasElements workspace.now number }
     ensures { result ≡ is_dead_by workspace.now number }
 {
-    let index = number as usize;
-    let kind = Kind {
-        code: workspace.kinds[index],
-    };
-    let suspect = workspace.marked[index] || kind.is_empty_dir();
-    suspect && number != ROOTINO && !workspace.named[index]
+    ffs_survey::is_dead(
+        &workspace.kinds,
+        &workspace.marked,
+        &workspace.named,
+        number,
+    )
 }
 
 /// Whether nothing is reported of an inode that is allocated: it isn't dead, and each of its links
@@ -80,13 +78,11 @@ fn check_inode<I: Image, W: Output>(
     requires number { number < inodes_of geometry.now.layout }
     requires used { is_allocated (class_of_kind (slice_index workspace.old.kinds.items number))
         ≡ true }
-    ensures prints { PhaseOutcome (λ bytes. IsContents (I.device image.old).contents bytes
-        × HoldsFindings geometry.now.layout bytes workspace.old)
+    ensures prints { PhaseOutcome (WithFindings geometry.now.layout (I.device image.old) workspace.old)
         (λ bytes. map of_tree (reference_lines_at (volume_of geometry.now.layout bytes) number))
         (I.device image.old) (I.device image.new) (progress W.sink report.old)
         (progress W.sink report.new) result }
-    ensures reads { ForBytes (λ bytes. IsContents (I.device image.old).contents bytes
-        × HoldsFindings geometry.now.layout bytes workspace.old)
+    ensures reads { ForBytes (WithFindings geometry.now.layout (I.device image.old) workspace.old)
         (λ bytes. I.reads image.new ≤ I.reads image.old
         + length (reference_lines_at (volume_of geometry.now.layout bytes) number)) }
     ensures stays { StaysReady geometry.now.layout (I.device image.new) workspace.old
@@ -122,14 +118,12 @@ pub fn phase4<I: Image, W: Output>(
     report: &mut Report<'_, W>,
 ) -> Result<(), RunFault>
     requires ready { IsReady geometry.now.layout (I.device image.old) workspace.old }
-    ensures prints { PhaseOutcome (λ bytes. IsContents (I.device image.old).contents bytes
-        × HoldsFindings geometry.now.layout bytes workspace.old)
+    ensures prints { PhaseOutcome (WithFindings geometry.now.layout (I.device image.old) workspace.old)
         (λ bytes. phase4_heading ∷ map of_tree
         (reference_lines (volume_of geometry.now.layout bytes)))
         (I.device image.old) (I.device image.new) (progress W.sink report.old)
         (progress W.sink report.new) result }
-    ensures reads { ForBytes (λ bytes. IsContents (I.device image.old).contents bytes
-        × HoldsFindings geometry.now.layout bytes workspace.old)
+    ensures reads { ForBytes (WithFindings geometry.now.layout (I.device image.old) workspace.old)
         (λ bytes. I.reads image.new ≤ I.reads image.old
         + length (reference_lines (volume_of geometry.now.layout bytes))) }
     ensures stays { StaysReady geometry.now.layout (I.device image.new) workspace.old

@@ -6,9 +6,8 @@ ghost use Rattle.ffs_volume.specs.Report.Reads.{group_reads};
 ghost use Rattle.ffs_volume.specs.Report.Whole.{group_check_lines};
 ghost use Rattle.ffs_layout.specs.Super.{superblock_in};
 ghost use Rattle.ffs_report.specs.Progress.{progress};
-ghost use Rattle.ffs_report.specs.Known.{IsContents};
 ghost use Rattle.ffs_report.specs.PhaseOutcome.{PhaseOutcome};
-ghost use Rattle.ffs_workspace.specs.Holds.{HoldsClaims};
+ghost use Rattle.ffs_workspace.specs.Found.{WithClaims};
 ghost use Rattle.ffs_workspace.specs.Ready.{IsReady, StaysReady};
 
 use crate::groups::read_group;
@@ -33,8 +32,8 @@ pub fn phase5<I: Image, W: Output>(
     report: &mut Report<'_, W>,
 ) -> Result<(), RunFault>
     requires ready { IsReady superblock.now.geometry.layout (I.device image.old) workspace.old }
-    ensures prints { PhaseOutcome (λ bytes. IsContents (I.device image.old).contents bytes
-        × HoldsClaims superblock.now.geometry.layout bytes workspace.old)
+    ensures prints { PhaseOutcome
+        (WithClaims superblock.now.geometry.layout (I.device image.old) workspace.old)
         (λ bytes. phase5_heading ∷ group_check_lines bytes (superblock_in superblock.now))
         (I.device image.old) (I.device image.new) (progress W.sink report.old)
         (progress W.sink report.new) result }

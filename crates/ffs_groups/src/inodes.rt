@@ -8,7 +8,7 @@ ghost use Rattle.ffs_groups.specs.Inodes.{AreCounted, AreFew, AreInodes, class_i
 ghost use Rattle.ffs_groups.specs.Inputs.{HasInodes};
 
 use ffs_layout::Geometry;
-use ffs_volume::constants::{DT_DIR, EMPTY_DIR};
+use ffs_volume::kinds::Kind;
 
 /// How many inodes of a group are directories, and how many are free.
 #[derive(Clone, Copy, Debug)]
@@ -23,14 +23,14 @@ pub struct InodeCounts {
 fn is_dir_kind(kind: u8) -> bool
     ensures { result ≡ is_directory (class_of_kind kind) }
 {
-    kind == DT_DIR || kind == EMPTY_DIR
+    Kind { code: kind }.is_dir()
 }
 
 /// Whether this is the kind of an inode that is allocated.
 fn is_used_kind(kind: u8) -> bool
     ensures { result ≡ is_allocated (class_of_kind kind) }
 {
-    kind != 0
+    Kind { code: kind }.is_allocated()
 }
 
 /// Whether an inode is in use, as inodes 0 and 1 are and each that is allocated, also one of class

@@ -30,4 +30,5 @@ pub use ffs_volume::{Inode, Layout, Order, SuperFault};
 pub use geometry::Geometry;
 pub use group::{Group, GroupSummary};
 pub use inode::decode_inode;
+pub use numbers::u32_at;
 pub use superblock::{Super, read_super};

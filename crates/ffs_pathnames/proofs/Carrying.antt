@@ -35,7 +35,7 @@ use Rattle.ffs_pathnames.specs.Gathers.{passed_of}
 use Rattle.ffs_pathnames.specs.DirectoryContext.{DirectoryContext}
 use Rattle.ffs_pathnames.specs.Calm.{IsSilentDirectory}
 use Rattle.ffs_pathnames.specs.PassedRight.{AreRightBefore}
-use Rattle.ffs_pathnames.specs.Sees.{is_suspect_by}
+use Rattle.ffs_survey.specs.Survey.{suspect_at}
 use Rattle.std.proofs.lemmas.Bool.{cases_Bool, eqb-true, and_from, and_parts}
 use Rattle.std.proofs.lemmas.List.{get_or_default, map-append}
 use Rattle.ffs_volume.proofs.Sizes.{some_inodes}
@@ -89,7 +89,7 @@ low_dir v (suc (suc d)) h = absurd (omega arith)
 
 -- which inodes are suspect, by the lists
 suspect_shown : (v : Layout) (b : List ℕ) (w : Workspace) (x : ℕ) → HoldsClaims v b w →
-    is_suspect_by w.kinds.items w.marked.items x ≡ is_suspect (volume_of v b) x
+    suspect_at w.kinds.items w.marked.items x ≡ is_suspect (volume_of v b) x
 suspect_shown v b w x h = ap (λ k. bool_at w.marked.items x || is_empty_dir_kind k) (h.kinds x)
     ∙ (ap (λ m. m || is_empty_dir_kind (kind_at v b x)) (h.marked x) ∙ sym (suspect_is v b x))
 

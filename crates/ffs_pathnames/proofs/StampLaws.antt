@@ -14,7 +14,8 @@ use Rattle.ffs_workspace.proofs.PlaceLaws.{zero_index}
 use Rattle.ffs_pathnames.specs.Examines.{LeavesQueue}
 use Rattle.ffs_pathnames.specs.declared.inodes.Inodes.{Inodes}
 use Rattle.ffs_pathnames.specs.PassedNames.{PassedNames, belongs, after_look, after_name, after_roled, is_stamped}
-use Rattle.ffs_pathnames.specs.Sees.{Sees, is_suspect_by, passed_in, stamps_in}
+use Rattle.ffs_pathnames.specs.Sees.{Sees, passed_in, stamps_in}
+use Rattle.ffs_survey.specs.Survey.{suspect_at}
 use Rattle.ffs_pathnames.specs.Stamps.{stamp_of, stamps_of, KeepPlaces}
 
 pub stamps_length : (ps ws : List ℕ) → length (stamps_of ps ws) ≡ length ws
@@ -127,7 +128,7 @@ passed_of_parts flags stamps = record { flags = flags; stamps = stamps }
 -- an entry that names an inode due in s is passed
 pub after_pass : (v : Volume) (i : Inodes) (s word : ℕ) (suspect : Bool) (flags flags' : List Bool) (ws ws' : List ℕ)
     (role : Role) (e : Entry) → Sees v i → is_plain role ≡ true → e.number < length i.kinds.now
-    → suspect ≡ is_suspect_by i.kinds.now i.marked.now e.number
+    → suspect ≡ suspect_at i.kinds.now i.marked.now e.number
     → flags' ≡ (if suspect then slice_set flags e.number true else flags)
     → slice_index (stamps_in i ws) e.number ≡ s → ws' ≡ slice_set ws e.number word → is_due word ≡ false →
     after_roled v s (passed_in i flags ws) (record { role = role; entry = e }) ≡ passed_in i flags' ws'

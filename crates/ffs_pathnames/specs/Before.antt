@@ -11,13 +11,13 @@ use Rattle.ffs_workspace.specs.Leaves.{LeavesSurvey}
 use Rattle.ffs_volume.specs.Encodings.Kinds.{is_dir_kind, is_empty_dir_kind}
 use Rattle.ffs_pathnames.specs.Gathers.{passed_of}
 use Rattle.ffs_pathnames.specs.PassedRight.{AreRightBefore}
-use Rattle.ffs_pathnames.specs.Sees.{is_suspect_by}
+use Rattle.ffs_survey.specs.Survey.{suspect_at}
 
 -- what was found stays; the flags of suspect inodes are taken away, and no others; nothing is stamped
 pub record IsNonePassed (old new : Workspace) : Type 0 where
   pub survey : LeavesSurvey old new
   pub flags : (x : ℕ) → bool_at new.flags.items x
-      ≡ (bool_at old.flags.items x && not (is_suspect_by old.kinds.items old.marked.items x))
+      ≡ (bool_at old.flags.items x && not (suspect_at old.kinds.items old.marked.items x))
   pub stamps : (x : ℕ) → slice_index (passed_of new).stamps x ≡ 0
 
 -- the image gives the bytes, the workspace holds what the block check and the survey leave, and what it remembers of the

@@ -1,20 +1,17 @@
 -- What the lists of a workspace show of a volume.
-use Rattle.std.specs.Prelude.{◌≡◌, ℕ, Bool, List, ◌≤◌, ◌/◌, ◌==◌, true, false, ◌||◌, length, slice_index}
+use Rattle.std.specs.Prelude.{◌≡◌, ℕ, Bool, List, ◌≤◌, ◌/◌, ◌==◌, true, false, length, slice_index}
 use Rattle.ffs_volume.specs.Blocks.Inodes.{is_allocated, is_unknown}
 use Rattle.ffs_volume.specs.Directories.Roles.{Volume, is_dir, is_suspect}
 use Rattle.ffs_volume.specs.Directories.Climb.{is_value}
 use Rattle.ffs_volume.specs.Directories.Graph.{parent}
 use Rattle.ffs_volume.specs.Directories.Parents.{graph_of}
-use Rattle.ffs_volume.specs.Encodings.Kinds.{is_dir_kind, is_empty_dir_kind, is_allocated_kind}
+use Rattle.ffs_volume.specs.Encodings.Kinds.{is_dir_kind, is_allocated_kind}
 use Rattle.ffs_volume.specs.Encodings.Kinds.{is_unknown_kind, type_of_kind, class_of_kind}
 use Rattle.ffs_workspace.specs.Holds.{bool_at}
+use Rattle.ffs_survey.specs.Survey.{suspect_at}
 use Rattle.ffs_pathnames.specs.declared.inodes.Inodes.{Inodes}
 use Rattle.ffs_pathnames.specs.PassedNames.{PassedNames}
 use Rattle.ffs_pathnames.specs.Stamps.{stamps_of}
-
--- x is marked, or a directory of size 0
-abbrev pub is_suspect_by : List ℕ → List Bool → ℕ → Bool
-is_suspect_by kinds marked x = bool_at marked x || is_empty_dir_kind (slice_index kinds x)
 
 -- of each inode its kind, whether it is marked, and its parent
 pub record Sees (vol : Volume) (i : Inodes) : Type 0 where
@@ -22,7 +19,7 @@ pub record Sees (vol : Volume) (i : Inodes) : Type 0 where
   pub dir : (x : ℕ) → is_dir vol x ≡ is_dir_kind (slice_index i.kinds.now x)
   pub allocated : (x : ℕ) → is_allocated (vol.class x) ≡ is_allocated_kind (slice_index i.kinds.now x)
   pub unknown : (x : ℕ) → is_unknown (vol.class x) ≡ is_unknown_kind (slice_index i.kinds.now x)
-  pub suspect : (x : ℕ) → is_suspect vol x ≡ is_suspect_by i.kinds.now i.marked.now x
+  pub suspect : (x : ℕ) → is_suspect vol x ≡ suspect_at i.kinds.now i.marked.now x
   pub marked : (x : ℕ) → vol.marked x ≡ bool_at i.marked.now x
   pub kind : (x : ℕ) → is_allocated (vol.class x) ≡ true → is_unknown (vol.class x) ≡ false
       → type_of_kind (slice_index i.kinds.now x) ≡ (vol.inode x).mode / 4096

@@ -6,7 +6,7 @@ ghost use Rattle.ffs_workspace.specs.Holds.{bool_at};
 ghost use Rattle.ffs_workspace.specs.Ready.{IsReady};
 ghost use Rattle.ffs_pathnames.specs.Before.{IsNonePassed};
 ghost use Rattle.ffs_pathnames.specs.Gathers.{AreAsLong};
-ghost use Rattle.ffs_pathnames.specs.Sees.{is_suspect_by};
+ghost use Rattle.ffs_survey.specs.Survey.{suspect_at};
 
 use crate::inodes::Inodes;
 use ffs_workspace::Workspace;
@@ -15,7 +15,7 @@ use ffs_workspace::Workspace;
 fn clear_suspects(inodes: &Inodes<'_>, flags: &mut [bool])
     requires { length flags.old ≡ length inodes.now.kinds.now }
     ensures { (x : ℕ) → bool_at flags.new x ≡ (bool_at flags.old x
-        && not (is_suspect_by inodes.now.kinds.now inodes.now.marked.now x)) }
+        && not (suspect_at inodes.now.kinds.now inodes.now.marked.now x)) }
 {
     for number in 0..inodes.count() {
         if inodes.is_suspect(number) {

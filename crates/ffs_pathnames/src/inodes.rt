@@ -2,6 +2,7 @@
 ghost use Rattle.std.specs.Prelude.{◌≡◌, ◌<◌, length, slice_index, vec_len, ◌==◌, ◌&&◌, not};
 
 use ffs_memory::FilledList;
+use ffs_survey::is_suspect;
 use ffs_volume::constants::ROOTINO;
 use ffs_volume::kinds::Kind;
 use ffs_workspace::is_due;
@@ -23,7 +24,7 @@ pub struct Inodes<'a> {
 impl<'a> Inodes<'a> {
     ghost use Rattle.ffs_volume.specs.Encodings.Kinds.{is_dir_kind, is_allocated_kind, is_unknown_kind, type_of_kind};
     ghost use Rattle.ffs_volume.specs.declared.constants.TheConstants as constants;
-    ghost use Rattle.ffs_pathnames.specs.Sees.{is_suspect_by};
+    ghost use Rattle.ffs_survey.specs.Survey.{suspect_at};
     ghost use Rattle.ffs_pathnames.specs.Stamps.{stamps_of};
 
     /// How many inodes there are.
@@ -54,9 +55,9 @@ impl<'a> Inodes<'a> {
     /// Whether the inode is marked, or a directory of size 0.
     pub fn is_suspect(&self, inode: u32) -> bool
         requires { inode < length self.now.kinds.now }
-        ensures { result ≡ is_suspect_by self.now.kinds.now self.now.marked.now inode }
+        ensures { result ≡ suspect_at self.now.kinds.now self.now.marked.now inode }
     {
-        self.marked[inode as usize] || self.kind(inode).is_empty_dir()
+        is_suspect(self.kinds, self.marked, inode as usize)
     }
 
     /// Whether the inode is allocated.

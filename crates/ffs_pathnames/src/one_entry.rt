@@ -62,12 +62,12 @@ impl EntryTexts {
     ghost use Rattle.ffs_workspace.specs.declared.workspace.Workspace as workspaces;
 
     /// Of no directory.
-    pub fn none(geometry: &Geometry) -> EntryTexts
-        ensures { (contents : Option (List ℕ)) (w : workspaces.Workspace)
-            → KeepSiblings geometry.now.layout contents w result.siblings }
+    pub fn none() -> EntryTexts
+        ensures { (v : Layout) (contents : Option (List ℕ)) (w : workspaces.Workspace)
+            → KeepSiblings v contents w result.siblings }
     {
         EntryTexts {
-            siblings: Siblings::none(geometry),
+            siblings: Siblings::none(),
             begun: false,
             paths: EntryPaths::of(DirectoryPath {
                 reached: false,

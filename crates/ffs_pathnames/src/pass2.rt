@@ -1,7 +1,7 @@
 //! Phase 2: pathnames (fsck(8)).
 
 ghost use Rattle.std.specs.Prelude.{◌≡◌, ◌+◌, ◌≤◌, ◌⊎◌, [], ◌∷◌, true, OnOk, IfOk, length, map};
-ghost use Rattle.ffs_report.specs.Known.{IsContents, ForBytes};
+ghost use Rattle.ffs_report.specs.Known.{ForBytes};
 ghost use Rattle.ffs_report.specs.PhaseOutcome.{ImageAfter, PhaseReports};
 ghost use Rattle.ffs_report.specs.Progress.{Said, progress};
 ghost use Rattle.ffs_volume.specs.Messages.Kinds as messages;
@@ -9,7 +9,8 @@ ghost use Rattle.ffs_volume.specs.Messages.Kinds.{of_tree};
 ghost use Rattle.ffs_volume.specs.Directories.PathnameCheck.{continues_after_root, pathname_lines};
 ghost use Rattle.ffs_volume.specs.Directories.Volumes.{volume_of};
 ghost use Rattle.ffs_volume.specs.Report.Reads.{pathname_reads};
-ghost use Rattle.ffs_workspace.specs.Holds.{HoldsClaims, HoldsReferences, HoldsStarts, HoldsSurvey};
+ghost use Rattle.ffs_workspace.specs.Found.{WithClaims, WithStarts};
+ghost use Rattle.ffs_workspace.specs.Holds.{HoldsClaims, HoldsReferences, HoldsSurvey};
 ghost use Rattle.ffs_workspace.specs.Places.{AreChunksNumbered};
 ghost use Rattle.ffs_pathnames.specs.RootAnswers.{AtReadFault, is_go};
 ghost use Rattle.ffs_workspace.specs.Ready.{IsReady};
@@ -50,33 +51,26 @@ pub fn phase2<I: Image, W: Output>(
 ) -> Result<Root, RunFault>
     requires ready { IsReady geometry.now.layout (I.device image.old) workspace.old }
     ensures image { ImageAfter (I.device image.old) (I.device image.new) result }
-    ensures text { PhaseReports (λ b. IsContents (I.device image.old).contents b
-        × HoldsClaims geometry.now.layout b workspace.old)
+    ensures text { PhaseReports (WithClaims geometry.now.layout (I.device image.old) workspace.old)
         (λ b. messages.phase2 ∷ map of_tree (pathname_lines (volume_of geometry.now.layout b)))
         (progress W.sink report.old) (progress W.sink report.new) result }
     ensures goes { IfOk result (λ root. ForBytes
-        (λ b. IsContents (I.device image.old).contents b
-        × HoldsClaims geometry.now.layout b workspace.old)
+        (WithClaims geometry.now.layout (I.device image.old) workspace.old)
         (λ b. is_go root ≡ continues_after_root (volume_of geometry.now.layout b))) }
 
     // Where a read failed, the heading alone was said, or the run continues after the root.
     ensures fault { AtReadFault result (Said (progress W.sink report.old)
         (progress W.sink report.new) (messages.phase2 ∷ [])
-        ⊎ ForBytes (λ b. IsContents (I.device image.old).contents b
-        × HoldsClaims geometry.now.layout b workspace.old)
+        ⊎ ForBytes (WithClaims geometry.now.layout (I.device image.old) workspace.old)
         (λ b. continues_after_root (volume_of geometry.now.layout b) ≡ true)) }
     ensures holds { OnOk result (ForBytes
-        (λ b. IsContents (I.device image.old).contents b
-        × HoldsClaims geometry.now.layout b workspace.old)
+        (WithClaims geometry.now.layout (I.device image.old) workspace.old)
         (λ b. HoldsClaims geometry.now.layout b workspace.new
         × HoldsSurvey geometry.now.layout b workspace.new)) }
     ensures references { OnOk result (ForBytes
-        (λ b. IsContents (I.device image.old).contents b
-        × HoldsClaims geometry.now.layout b workspace.old
-        × HoldsStarts geometry.now.layout b workspace.old)
+        (WithStarts geometry.now.layout (I.device image.old) workspace.old)
         (λ b. HoldsReferences geometry.now.layout b workspace.new)) }
-    ensures reads { ForBytes (λ b. IsContents (I.device image.old).contents b
-        × HoldsClaims geometry.now.layout b workspace.old)
+    ensures reads { ForBytes (WithClaims geometry.now.layout (I.device image.old) workspace.old)
         (λ b. AreChunksNumbered geometry.now.layout
         → I.reads image.new ≤ I.reads image.old + pathname_reads geometry.now.layout
         (length (pathname_lines (volume_of geometry.now.layout b)))) }

@@ -127,7 +127,7 @@ fn check_inodes<I: Image, W: Output>(
         return Ok(());
     }
     note_places(geometry, image, workspace)?;
-    let mut texts = EntryTexts::none(geometry);
+    let mut texts = EntryTexts::none();
     for number in first..count {
         check_inode(geometry, image, workspace, &mut texts, report, number)?;
     }

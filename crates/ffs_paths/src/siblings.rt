@@ -1,6 +1,7 @@
 //! The paths of directories, where one after another has the same parent.
 
 ghost use Rattle.std.specs.Prelude.{◌≡◌, ◌<◌, true, ℕ, List, Option, IfOk, OnOk, IfSome, vec_len};
+ghost use Rattle.ffs_volume.specs.declared.Layout.{Layout};
 ghost use Rattle.ffs_volume.specs.Directories.Paths.{dir_path};
 ghost use Rattle.ffs_workspace.specs.declared.workspace.Workspace.{Workspace as WorkspaceIn};
 ghost use Rattle.ffs_paths.specs.Climbing.{IsParentOf};
@@ -54,9 +55,9 @@ impl Siblings {
     ghost use Rattle.ffs_paths.specs.Siblings.{KeepSiblings, ReadyToPath, PathLeaves};
 
     /// Of no directory.
-    pub fn none(geometry: &Geometry) -> Siblings
-        ensures { (contents : Option (List ℕ)) (w : WorkspaceIn)
-            → KeepSiblings geometry.now.layout contents w result }
+    pub fn none() -> Siblings
+        ensures { (v : Layout) (contents : Option (List ℕ)) (w : WorkspaceIn)
+            → KeepSiblings v contents w result }
     {
         Siblings {
             parent: 0,

@@ -63,7 +63,17 @@ fn print_line<W: Output>(out: &mut W, line: &Line<'_>) -> Result<(), OutFault>
             frags,
             blocks,
             tenths,
-        } => print_summary(out, *files, *used, *free, *frags, *blocks, *tenths),
+        } => {
+            let summary = SummaryLine {
+                files: *files,
+                used: *used,
+                free: *free,
+                frags: *frags,
+                blocks: *blocks,
+                tenths: *tenths,
+            };
+            print_summary(out, &summary)
+        }
     }
 }
 
@@ -173,28 +183,31 @@ fn print_block<W: Output>(out: &mut W, message: BlockMessage) -> Result<(), OutF
     }
 }
 
-fn print_summary<W: Output>(
-    out: &mut W,
+/// What a summary tells (`Line::Summary`).
+#[derive(Clone, Copy)]
+struct SummaryLine {
     files: u32,
     used: u32,
     free: i64,
     frags: i32,
     blocks: i32,
     tenths: i64,
-) -> Result<(), OutFault>
-    ensures { Prints (W.sink out.old) (W.sink out.new)
-        (summary_text files used free frags blocks tenths) result }
+}
+
+fn print_summary<W: Output>(out: &mut W, line: &SummaryLine) -> Result<(), OutFault>
+    ensures { Prints (W.sink out.old) (W.sink out.new) (summary_text line.now.files line.now.used
+        line.now.free line.now.frags line.now.blocks line.now.tenths) result }
 {
-    let size = tenths.unsigned_abs();
+    let size = line.tenths.unsigned_abs();
     print_pieces(
         out,
         &[
-            Piece::Number(files as u64, FILES),
-            Piece::Number(used as u64, USED),
-            Piece::Signed(free, FREE),
-            Piece::Signed(frags as i64, FRAGS),
-            Piece::Signed(blocks as i64, BLOCKS),
-            Piece::Sign(tenths),
+            Piece::Number(line.files as u64, FILES),
+            Piece::Number(line.used as u64, USED),
+            Piece::Signed(line.free, FREE),
+            Piece::Signed(line.frags as i64, FRAGS),
+            Piece::Signed(line.blocks as i64, BLOCKS),
+            Piece::Sign(line.tenths),
             Piece::Number(size / 10, POINT),
             Piece::Number(size % 10, FRAGMENTATION),
         ],

@@ -127,7 +127,8 @@ read_skip kinds entries r s f f' m m' p p' taken i = subst (λ n. IsRead g kinds
       zero_share (dir_at kinds s) (bool_at r s) (count_in (entries s) x) taken in omega (arith, a, b);
   names = λ x l. i.names x l
       ∙ ap (λ y. bool_at m x || y)
-      (sym (some_below-suc (λ t. not (bool_at r t) && is_naming_dir g t x) s ∙ or_skip _ _ (no_share x)));
+      (sym (some_below-suc (λ t. not (bool_at r t) && is_naming_dir g t x) s
+      ∙ (ap (λ b. some_below (λ t. not (bool_at r t) && is_naming_dir g t x) s || b) (no_share x) ∙ or-false _)));
   parent = λ x l. i.parent x l
       ∙ ap (λ o. unwrap_or o (number_at p x))
       (same_first (first_below (is_unreached_edge g kinds r x) s) _ (and_right (is_unreached_dir kinds r x) _ (no_share x)));
@@ -144,10 +145,6 @@ read_skip kinds entries r s f f' m m' p p' taken i = subst (λ n. IsRead g kinds
     zero_share true false c h = absurd (cc)
     zero_share false true c h = refl
     zero_share false false c h = refl
-
-    or_skip : (a b : Bool) → b ≡ false → (a || b) ≡ a
-    or_skip true b h = refl
-    or_skip false b h = h
 
     none_named : (d b a : Bool) → (d && not b) ≡ false → (not b && (d && a)) ≡ false
     none_named true true a h = refl

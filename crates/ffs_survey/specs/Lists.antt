@@ -23,11 +23,6 @@ pub record AreLists (kinds : List ℕ) (marked : List Bool) (references : List �
   pub calm_long : length calm ≡ length kinds
   pub queue_long : length queue ≡ length kinds
 
--- which inodes are marked, and which an entry names
-pub record DeadLists (kinds : List ℕ) (marked named : List Bool) : Type 0 where
-  pub marked_long : length marked ≡ length kinds
-  pub named_long : length named ≡ length kinds
-
 -- what a survey found, and for each inode whether it is the least number on a cycle of parents
 pub record AreSurveyed (kinds : List ℕ) (marked named reached : List Bool) (parents : List ℕ) (leaders : List Bool)
     : Type 0 where

@@ -1,10 +1,11 @@
 -- What a survey of directories finds of each inode, and the graph that it goes over.
 use Rattle.std.specs.Prelude.{◌≡◌, ℕ, zero, suc, ◌+◌, ◌<◌, ◌==◌, Bool, ◌&&◌, ◌||◌}
-use Rattle.std.specs.Prelude.{nat_le, min, if◌then◌else◌, List, length, count_by, unwrap_or}
-use Rattle.ffs_volume.specs.declared.constants.TheConstants.{EMPTY_DIR, NO_LINKS}
+use Rattle.std.specs.Prelude.{not, nat_le, min, if◌then◌else◌, List, length, count_by, unwrap_or}
+use Rattle.ffs_volume.specs.declared.constants.TheConstants.{NO_LINKS, ROOTINO}
 use Rattle.ffs_volume.specs.Directories.Roles.{RoledEntry, refers}
 use Rattle.ffs_volume.specs.Directories.Graph.{Graph, is_named, reached as is_reached, parent}
 pub use Rattle.ffs_volume.specs.Encodings.Lists.{bool_at, number_at}
+use Rattle.ffs_volume.specs.Encodings.Kinds.{is_empty_dir_kind}
 pub use Rattle.ffs_volume.specs.Encodings.Kinds.{is_dir_kind}
 
 -- x is a directory, by a list with a kind for each inode
@@ -13,7 +14,11 @@ dir_at kinds x = nat_le 2 x && is_dir_kind (number_at kinds x)
 
 -- x is suspect: marked, or a directory of size 0
 abbrev pub suspect_at : List ℕ → List Bool → ℕ → Bool
-suspect_at kinds marked x = bool_at marked x || (nat_le 2 x && (number_at kinds x == EMPTY_DIR))
+suspect_at kinds marked x = bool_at marked x || is_empty_dir_kind (number_at kinds x)
+
+-- x is dead: suspect, not the root, and not named
+abbrev pub dead_at : List ℕ → List Bool → List Bool → ℕ → Bool
+dead_at kinds marked named x = suspect_at kinds marked x && (not (x == ROOTINO) && not (bool_at named x))
 
 -- the graph of the directories of a list of kinds, with these entries
 abbrev pub graph_with : List ℕ → (ℕ → List RoledEntry) → Graph

@@ -115,12 +115,11 @@ pub suspects_of_kinds : (v : Layout) (image : List ℕ) (kinds : List ℕ) (mark
     → number_at kinds x ≡ kind_of (class_at v image x) (inode_of v image x) → bool_at marked x ≡ marked_at v image x
     → suspect_at kinds marked x ≡ is_suspect (volume_of v image) x
 unfolding volume_of volume_with
-suspects_of_kinds v image kinds marked x h m = ap (λ b. b || (nat_le 2 x
-    && (number_at kinds x == 5))) m ∙ (ap (λ k. marked_at v image x
-    || (nat_le 2 x && (k == 5))) h ∙ ap (λ b. marked_at v image x || b) (go (nat_le 2 x) (nat_lt x (v.ncg * v.ipg))))
+suspects_of_kinds v image kinds marked x h m = ap (λ b. b || (number_at kinds x == 5)) m
+    ∙ (ap (λ k. marked_at v image x || (k == 5)) h
+    ∙ ap (λ b. marked_at v image x || b) (go (nat_le 2 x) (nat_lt x (v.ncg * v.ipg))))
   where
-    go : (a b : Bool) → (a
-        && (kind_of (if a && b then class_of v (inode_of v image x) else Free) (inode_of v image x) == 5))
+    go : (a b : Bool) → (kind_of (if a && b then class_of v (inode_of v image x) else Free) (inode_of v image x) == 5)
         ≡ (((a && b) && is_directory (if a && b then class_of v (inode_of v image x) else Free))
         && ((inode_of v image x).size == 0))
     go false b = refl

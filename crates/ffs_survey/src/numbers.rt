@@ -3,7 +3,8 @@ ghost use Rattle.std.specs.Prelude.{◌≡◌};
 ghost use Rattle.ffs_survey.specs.Survey.{dir_at, number_at};
 
 use ffs_memory::FilledList;
-use ffs_volume::constants::{DT_DIR, EMPTY_DIR, ROOTINO};
+use ffs_volume::constants::ROOTINO;
+use ffs_volume::kinds::Kind;
 
 /// The number that a list has at an index, 0 past its end.
 #[inline(always)]
@@ -16,12 +17,15 @@ pub fn number_of(numbers: &FilledList<u32>, index: usize) -> u32
     numbers[index]
 }
 
-/// Whether a number is that of a directory, by a list with a kind for each inode: `DT_DIR` for a
-/// directory with a size, `EMPTY_DIR` for one of size 0. Inodes 0 and 1 are none.
+/// Whether a number is that of a directory, by a list with a kind for each inode. Inodes 0 and 1
+/// are none.
 pub fn is_dir(kinds: &[u8], number: usize) -> bool
     ensures { result ≡ dir_at kinds.now number }
 {
     number >= ROOTINO as usize
         && number < kinds.len()
-        && (kinds[number] == DT_DIR || kinds[number] == EMPTY_DIR)
+        && (Kind {
+            code: kinds[number],
+        })
+        .is_dir()
 }

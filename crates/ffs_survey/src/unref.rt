@@ -1,28 +1,33 @@
 //! Which inodes are suspect or dead, and of which directories UNREF DIR is reported.
 ghost use Rattle.std.specs.Prelude.{◌≡◌, ◌≢◌, ◌<◌, length, MatchOption};
 ghost use Rattle.ffs_volume.specs.Directories.Graph.{Graph, is_dead_in, is_unref_dir_in};
-ghost use Rattle.ffs_survey.specs.Survey.{suspect_at, IsTree, AreNamed, number_at};
-ghost use Rattle.ffs_survey.specs.Lists.{DeadLists};
+ghost use Rattle.ffs_survey.specs.Survey.{suspect_at, dead_at, IsTree, AreNamed, number_at};
 
 use crate::lists::Surveyed;
 use crate::numbers::{is_dir, number_of};
 use ffs_memory::FilledList;
-use ffs_volume::constants::{EMPTY_DIR, ROOTINO};
+use ffs_volume::constants::ROOTINO;
+use ffs_volume::kinds::Kind;
 
 /// Whether an inode is suspect: marked, or a directory of size 0.
 pub fn is_suspect(kinds: &[u8], marked: &[bool], number: usize) -> bool
-    requires { length marked.now ≡ length kinds.now }
+    requires kinds { number < length kinds.now }
+    requires marked { number < length marked.now }
     ensures { result ≡ suspect_at kinds.now marked.now number }
 {
-    number < kinds.len()
-        && (marked[number] || (number >= ROOTINO as usize && kinds[number] == EMPTY_DIR))
+    let kind = Kind {
+        code: kinds[number],
+    };
+    marked[number] || kind.is_empty_dir()
 }
 
 /// Whether an inode is dead: suspect, not the root, and named by no plain entry.
 pub fn is_dead(kinds: &[u8], marked: &[bool], named: &[bool], number: u32) -> bool
-    requires number { number < length kinds.now }
-    requires lists { DeadLists kinds.now marked.now named.now }
-    ensures { (graph : Graph) → AreNamed graph kinds.now named.now → result
+    requires kinds { number < length kinds.now }
+    requires marked { number < length marked.now }
+    requires named { number < length named.now }
+    ensures lists { result ≡ dead_at kinds.now marked.now named.now number }
+    ensures graph { (graph : Graph) → AreNamed graph kinds.now named.now → result
         ≡ is_dead_in graph (suspect_at kinds.now marked.now) number }
 {
     is_suspect(kinds, marked, number as usize) && number != ROOTINO && !named[number as usize]

@@ -323,9 +323,9 @@ impl Walk {
     /// Passes over the inode's addresses of zero that come next, where the walk is in no indirect
     /// block: how many there are.
     #[inline(never)]
-    fn skip_zero_addresses(&mut self, blocks: &Blocks) -> u32
+    fn skip_zero_addresses(&mut self) -> u32
         requires { IsAtTop self.old }
-        ensures { PassesGaps blocks.now self.old self.new result }
+        ensures { (blocks : Blocks) → PassesGaps blocks self.old self.new result }
     {
         let end = self.zero_addresses_end();
         let gaps = end - self.next;
@@ -349,7 +349,7 @@ impl Walk {
         if self.triple.is_left() {
             return self.triple.skip_gaps(&self.geometry, 2, blocks);
         }
-        self.skip_zero_addresses(blocks)
+        self.skip_zero_addresses()
     }
 
     /// Whether the single indirect block that the walk is in is held and was read before.

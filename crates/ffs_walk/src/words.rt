@@ -6,9 +6,7 @@ ghost use Rattle.ffs_volume.specs.Blocks.Inodes.{any_nonzero};
 ghost use Rattle.ffs_volume.specs.Blocks.Steps.{any_nonzero_from, address_in};
 ghost use Rattle.ffs_walk.specs.Windows.{EndsZeros};
 
-use byteorder::{BigEndian, ByteOrder, LittleEndian};
-use ffs_layout::Geometry;
-use ffs_volume::Order;
+use ffs_layout::{Geometry, u32_at};
 
 /// How many bytes a word has.
 const WORD_BYTES: usize = 4;
@@ -20,16 +18,11 @@ const FEW_WORDS: u32 = 16;
 const MANY_WORDS: u32 = 128;
 
 /// The word at an index of a block.
-#[tactic(auto, unfolding(ffs_volume::specs::Disk::Numbers::number, ffs_volume::specs::Disk::Numbers::u32_at))]
 pub fn word(geometry: &Geometry, block: &[u8], index: u32) -> u32
     requires { 4 * index + 4 ≤ length block.now }
     ensures { result ≡ address_in geometry.now.layout block.now index }
 {
-    let place = 4 * index as usize;
-    match geometry.layout.order {
-        Order::Little => LittleEndian::read_u32(&block[place..]),
-        Order::Big => BigEndian::read_u32(&block[place..]),
-    }
+    u32_at(geometry.layout.order, WORD_BYTES * index as usize, block)
 }
 
 /// Whether one of the bytes isn't zero. All are looked at, with no test of each that ends the loop:

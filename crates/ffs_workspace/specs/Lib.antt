@@ -5,3 +5,4 @@ pub mod Places
 pub mod Holds
 pub mod Leaves
 pub mod Ready
+pub mod Found

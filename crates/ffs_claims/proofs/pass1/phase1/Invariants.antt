@@ -1,6 +1,6 @@
 use Rattle.std.proofs.Common.{◌≡◌, ◌+◌, ◌-◌, ◌*◌, ◌<◌, ◌≤◌, ◌∷◌, false}
 use Rattle.ffs_report.specs.Progress.{progress}
-use Rattle.ffs_report.specs.Known.{ForBytes, IsContents}
+use Rattle.ffs_report.specs.Known.{ForBytes}
 use Rattle.ffs_report.specs.PhaseOutcome.{SaidOf}
 use Rattle.ffs_volume.specs.Blocks.BlockCheck.{lines_of_owners, phase1_lines}
 use Rattle.ffs_volume.specs.Blocks.KeptSteps.{claims_before}
@@ -8,7 +8,8 @@ use Rattle.ffs_volume.specs.Messages.Kinds.{phase1}
 use Rattle.ffs_volume.specs.Blocks.Owners.{owners_of}
 use Rattle.ffs_workspace.specs.Notes.{note_at}
 use Rattle.ffs_volume.specs.Laws.ClaimBounds.{used_bits}
-use Rattle.ffs_workspace.specs.Holds.{claims_of, IsFresh, first_marked_at}
+use Rattle.ffs_workspace.specs.Found.{WithFresh}
+use Rattle.ffs_workspace.specs.Holds.{claims_of, first_marked_at}
 use Rattle.ffs_volume.specs.Encodings.Kinds.{kind_at}
 use Rattle.ffs_volume.specs.Encodings.Links.{start_at}
 use Rattle.ffs_workspace.specs.Lengths.{inodes_of}
@@ -27,23 +28,17 @@ invariant-loop-number g l = record {
   runs : l.workspace.runs_seen ≤ used_bits (claims_of l.workspace) + 22 * (l.number - 2);
   reads : g.I.Image.reads l.image ≤ g.I.Image.reads l.fn.image + (l.number - 2) + l.workspace.runs_seen;
   again : l.workspace.runs_again ≡ l.fn.workspace.runs_again;
-  claims : ForBytes (λ bytes. IsContents (g.I.Image.device l.fn.image).contents bytes
-      × IsFresh l.geometry.layout l.fn.workspace) (λ bytes.
+  claims : ForBytes (WithFresh l.geometry.layout (g.I.Image.device l.fn.image) l.fn.workspace) (λ bytes.
       claims_of l.workspace ≡ claims_before l.geometry.layout bytes l.number);
-  kinds : ForBytes (λ bytes. IsContents (g.I.Image.device l.fn.image).contents bytes
-      × IsFresh l.geometry.layout l.fn.workspace) (λ bytes.
+  kinds : ForBytes (WithFresh l.geometry.layout (g.I.Image.device l.fn.image) l.fn.workspace) (λ bytes.
       FilledTo 0 (kind_at l.geometry.layout bytes) l.workspace.kinds.items l.number);
-  marked : ForBytes (λ bytes. IsContents (g.I.Image.device l.fn.image).contents bytes
-      × IsFresh l.geometry.layout l.fn.workspace) (λ bytes.
+  marked : ForBytes (WithFresh l.geometry.layout (g.I.Image.device l.fn.image) l.fn.workspace) (λ bytes.
       FilledTo false (first_marked_at l.geometry.layout bytes) l.workspace.marked.items l.number);
-  notes : ForBytes (λ bytes. IsContents (g.I.Image.device l.fn.image).contents bytes
-      × IsFresh l.geometry.layout l.fn.workspace) (λ bytes.
+  notes : ForBytes (WithFresh l.geometry.layout (g.I.Image.device l.fn.image) l.fn.workspace) (λ bytes.
       FilledTo 0 (note_at l.geometry.layout bytes) l.workspace.notes.items l.number);
-  starts : ForBytes (λ bytes. IsContents (g.I.Image.device l.fn.image).contents bytes
-      × IsFresh l.geometry.layout l.fn.workspace) (λ bytes.
+  starts : ForBytes (WithFresh l.geometry.layout (g.I.Image.device l.fn.image) l.fn.workspace) (λ bytes.
       FilledTo 0 (start_at l.geometry.layout bytes) l.workspace.references.items l.number);
-  said : SaidOf (λ bytes. IsContents (g.I.Image.device l.fn.image).contents bytes
-      × IsFresh l.geometry.layout l.fn.workspace)
+  said : SaidOf (WithFresh l.geometry.layout (g.I.Image.device l.fn.image) l.fn.workspace)
       (λ bytes. of_lines (lines_of_owners l.geometry.layout (claims_of l.workspace)
       (owners_from l.geometry.layout bytes l.number)))
       (λ bytes. phase1 ∷ of_lines (phase1_lines l.geometry.layout (owners_of l.geometry.layout bytes)))

@@ -27,8 +27,8 @@ use Rattle.ffs_claims.proofs.Rescanned.{all_kept, lines_split, starts_hold}
 use Rattle.ffs_claims.proofs.Rewalks.{reporting_over}
 use Rattle.ffs_claims.proofs.Duplicates.{none_first, none_left, some_left}
 use Rattle.ffs_claims.proofs.Reportings.{reporting_more, reporting_ends, reporting_same}
-use Rattle.ffs_report.specs.Known.{ForBytes, IsContents}
-use Rattle.ffs_workspace.specs.Holds.{HoldsPhase1}
+use Rattle.ffs_report.specs.Known.{ForBytes}
+use Rattle.ffs_workspace.specs.Found.{WithPhase1}
 use Rattle.ffs_claims.specs.RescanRuns.{runs_until_reported, owners_runs, steps_runs_again}
 use Rattle.ffs_claims.proofs.RescanCounts.{looked_none}
 use Rattle.ffs_claims.proofs.RescanBounds.{look_fits}
@@ -143,8 +143,7 @@ loop-number-preserved g c =
     let inside = is_inside v n inv.low lt in
     let cut = ap (λ z. slice_index z.items n) inv.claims.notes in
     let image = ap (λ d. d.contents) inv.device in
-    let on : ForBytes (λ bytes. IsContents (g.I.Image.device c.args.image.now).contents bytes
-    × HoldsPhase1 v bytes c.args.workspace.now) (λ bytes.
+    let on : ForBytes (WithPhase1 v (g.I.Image.device c.args.image.now) c.args.workspace.now) (λ bytes.
     runs_until_reported d (owners_runs v (claims_before v bytes n) (owners_from v bytes n))
     ≡ runs_until_reported d (steps_runs_again v n (cut_in (slice_index notes n)) fresh_replay (steps_of v (inode_of v bytes n) bytes))
     + runs_until_reported d' (owners_runs v (claims_before v bytes (n + 1)) (owners_from v bytes (n + 1)))) =

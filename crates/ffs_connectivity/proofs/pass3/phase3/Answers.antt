@@ -7,6 +7,7 @@ use Rattle.ffs_volume.specs.Directories.Volumes.{volume_of}
 use Rattle.ffs_report.specs.Known.{ForBytes, IsContents}
 use Rattle.ffs_report.proofs.Reporting.{of_begins, of_says, of_stops, of_same, of_part, of_fault, said_knows}
 use Rattle.ffs_report.proofs.Reporting.{reports_knowing}
+use Rattle.ffs_workspace.specs.Found.{WithSurvey}
 use Rattle.ffs_workspace.specs.Holds.{bool_at, HoldsClaims, HoldsSurvey}
 use Rattle.ffs_workspace.specs.Lengths.{inodes_of}
 use Rattle.ffs_connectivity.specs.Lines.{unref_dir_lines}
@@ -114,8 +115,7 @@ loop-number-preserved g c =
     let inv = c.loop-number.invariant in
     let n = c.loop-number.number in
     let ok = c.in_ok-check_inode.ensures in
-    let known : ForBytes (λ bytes. IsContents (g.I.Image.device c.args.image.now).contents bytes
-    × HoldsClaims v bytes c.args.workspace.now × HoldsSurvey v bytes c.args.workspace.now) (λ bytes.
+    let known : ForBytes (WithSurvey v (g.I.Image.device c.args.image.now) c.args.workspace.now) (λ bytes.
     IsContents (g.I.Image.device c.loop-number.image).contents bytes
     × HoldsClaims v bytes c.loop-number.workspace × HoldsSurvey v bytes c.loop-number.workspace) =
     λ bytes k. (

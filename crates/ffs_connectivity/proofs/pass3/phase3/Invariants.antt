@@ -1,11 +1,11 @@
 use Rattle.std.proofs.Common.{◌≡◌, ◌+◌, ◌-◌, ◌≤◌, ◌∷◌, length, map}
 use Rattle.ffs_report.specs.Progress.{progress}
-use Rattle.ffs_report.specs.Known.{ForBytes, IsContents}
+use Rattle.ffs_report.specs.Known.{ForBytes}
 use Rattle.ffs_report.specs.PhaseOutcome.{SaidOf}
 use Rattle.ffs_volume.specs.Directories.Connectivity.{connectivity_lines}
 use Rattle.ffs_volume.specs.Messages.Kinds.{of_tree, phase3, lines_from}
 use Rattle.ffs_volume.specs.Directories.Volumes.{volume_of}
-use Rattle.ffs_workspace.specs.Holds.{HoldsClaims, HoldsSurvey}
+use Rattle.ffs_workspace.specs.Found.{WithSurvey}
 use Rattle.ffs_workspace.specs.Lengths.{inodes_of}
 use Rattle.ffs_workspace.specs.Leaves.{LeavesSurvey}
 use Rattle.ffs_workspace.specs.Ready.{IsReady}
@@ -20,13 +20,11 @@ invariant-loop-number g l = record {
   low : 2 ≤ l.number;
   survey : LeavesSurvey l.fn.workspace l.workspace;
   leaders : HasLeaders l.workspace;
-  reads : ForBytes (λ bytes. IsContents (g.I.Image.device l.fn.image).contents bytes
-      × HoldsClaims l.geometry.layout bytes l.fn.workspace × HoldsSurvey l.geometry.layout bytes l.fn.workspace)
+  reads : ForBytes (WithSurvey l.geometry.layout (g.I.Image.device l.fn.image) l.fn.workspace)
       (λ bytes. g.I.Image.reads l.image + length (lines_from (unref_dir_lines (volume_of l.geometry.layout bytes)) l.number
       (inodes_of l.geometry.layout - l.number))
       ≤ g.I.Image.reads l.fn.image + length (connectivity_lines (volume_of l.geometry.layout bytes)));
-  said : SaidOf (λ bytes. IsContents (g.I.Image.device l.fn.image).contents bytes
-      × HoldsClaims l.geometry.layout bytes l.fn.workspace × HoldsSurvey l.geometry.layout bytes l.fn.workspace)
+  said : SaidOf (WithSurvey l.geometry.layout (g.I.Image.device l.fn.image) l.fn.workspace)
       (λ bytes. map of_tree (lines_from (unref_dir_lines (volume_of l.geometry.layout bytes)) l.number
       (inodes_of l.geometry.layout - l.number)))
       (λ bytes. phase3 ∷ map of_tree (connectivity_lines (volume_of l.geometry.layout bytes)))

@@ -1,11 +1,11 @@
 use Rattle.std.proofs.Common.{◌≡◌, ◌+◌, ◌-◌, ◌≤◌, ◌∷◌, length, map}
 use Rattle.ffs_report.specs.Progress.{progress}
-use Rattle.ffs_report.specs.Known.{ForBytes, IsContents}
+use Rattle.ffs_report.specs.Known.{ForBytes}
 use Rattle.ffs_report.specs.PhaseOutcome.{SaidOf}
 use Rattle.ffs_volume.specs.Directories.ReferenceCheck.{reference_lines_at, reference_lines}
 use Rattle.ffs_volume.specs.Messages.Kinds.{of_tree, phase4, lines_from}
 use Rattle.ffs_volume.specs.Directories.Volumes.{volume_of}
-use Rattle.ffs_workspace.specs.Holds.{HoldsFindings}
+use Rattle.ffs_workspace.specs.Found.{WithFindings}
 use Rattle.ffs_workspace.specs.Lengths.{inodes_of}
 use Rattle.ffs_workspace.specs.Ready.{IsReady}
 use Rattle.ffs_counts.proofs.pass4.phase4.Given as goal
@@ -16,14 +16,12 @@ invariant-loop-number g l = record {
   ready : IsReady l.geometry.layout (g.I.Image.device l.image) l.workspace;
   device : g.I.Image.device l.image ≡ g.I.Image.device l.fn.image;
   held : l.workspace ≡ record l.fn.workspace { windows = l.workspace.windows };
-  reads : ForBytes (λ bytes. IsContents (g.I.Image.device l.fn.image).contents bytes
-      × HoldsFindings l.geometry.layout bytes l.fn.workspace)
+  reads : ForBytes (WithFindings l.geometry.layout (g.I.Image.device l.fn.image) l.fn.workspace)
       (λ bytes. g.I.Image.reads l.image
       + length (lines_from (reference_lines_at (volume_of l.geometry.layout bytes)) l.number
       (inodes_of l.geometry.layout - l.number))
       ≤ g.I.Image.reads l.fn.image + length (reference_lines (volume_of l.geometry.layout bytes)));
-  said : SaidOf (λ bytes. IsContents (g.I.Image.device l.fn.image).contents bytes
-      × HoldsFindings l.geometry.layout bytes l.fn.workspace)
+  said : SaidOf (WithFindings l.geometry.layout (g.I.Image.device l.fn.image) l.fn.workspace)
       (λ bytes. map of_tree (lines_from (reference_lines_at (volume_of l.geometry.layout bytes)) l.number
       (inodes_of l.geometry.layout - l.number)))
       (λ bytes. phase4 ∷ map of_tree (reference_lines (volume_of l.geometry.layout bytes)))

@@ -4,11 +4,10 @@ use Rattle.ffs_volume.specs.Report.Whole.{group_check_lines}
 use Rattle.ffs_layout.specs.Super.{superblock_in}
 use Rattle.ffs_maps.specs.Bits.{bits_of}
 use Rattle.ffs_report.specs.Progress.{progress}
-use Rattle.ffs_report.specs.Known.{IsContents}
 use Rattle.ffs_report.specs.PhaseOutcome.{SaidOf}
 use Rattle.ffs_groups.specs.Free.{free_in}
 use Rattle.ffs_groups.specs.Inodes.{class_in}
-use Rattle.ffs_workspace.specs.Holds.{HoldsClaims}
+use Rattle.ffs_workspace.specs.Found.{WithClaims}
 use Rattle.ffs_workspace.specs.Ready.{StaysReady}
 use Rattle.ffs_counts.specs.Once.{reported_of}
 use Rattle.ffs_counts.specs.Totals.{AreUpTo, AreTotals}
@@ -27,8 +26,7 @@ invariant-loop-group g l =
       reads : g.I.Image.reads l.image ≤ g.I.Image.reads l.fn.image + 2 * l.group;
       up : AreUpTo l.group l.totals;
       totals : AreTotals v free class l.group l.totals;
-      said : SaidOf (λ bytes. IsContents (g.I.Image.device l.fn.image).contents bytes
-          × HoldsClaims v bytes l.fn.workspace)
+      said : SaidOf (WithClaims v (g.I.Image.device l.fn.image) l.fn.workspace)
           (λ bytes. rest_lines v bytes sums free class (reported_of l.once) l.group (v.ncg - l.group))
           (λ bytes. phase5_heading ∷ group_check_lines bytes (superblock_in l.superblock))
           (progress g.W.Output.sink l.fn.report) (progress g.W.Output.sink l.report);

@@ -2,7 +2,7 @@ use Rattle.std.proofs.Common.{refl, ap, ◌∙◌, not, ◌&&◌}
 use Rattle.std.proofs.lemmas.List.{with_items_is}
 use Rattle.ffs_workspace.specs.Holds.{bool_at}
 use Rattle.ffs_workspace.proofs.PlaceLaws.{filled_noted}
-use Rattle.ffs_pathnames.specs.Sees.{is_suspect_by}
+use Rattle.ffs_survey.specs.Survey.{suspect_at}
 use Rattle.ffs_pathnames.proofs.StampLaws.{none_due, none_stamped}
 use Rattle.ffs_pathnames.proofs.clear.clear_passed.Goals as goal
 
@@ -27,10 +27,10 @@ returns-clause-clear c =
       flags = λ x. ap (λ l. bool_at l x)
           (with_items_is w.flags c.clear_suspects.new.flags (c.clear_suspects.auto.flags ∙ c.as_mut_slice.ensures.len))
           ∙ (c.clear_suspects.ensures x
-          ∙ (ap (λ l. bool_at l x && not (is_suspect_by c.as_slice.result.now c.as_slice-2.result.now x))
+          ∙ (ap (λ l. bool_at l x && not (suspect_at c.as_slice.result.now c.as_slice-2.result.now x))
           c.as_mut_slice.ensures.value
-          ∙ (ap (λ l. bool_at w.flags.items x && not (is_suspect_by l c.as_slice-2.result.now x))
+          ∙ (ap (λ l. bool_at w.flags.items x && not (suspect_at l c.as_slice-2.result.now x))
           c.as_slice.ensures.value
-          ∙ ap (λ l. bool_at w.flags.items x && not (is_suspect_by w.kinds.items l x)) c.as_slice-2.ensures.value)));
+          ∙ ap (λ l. bool_at w.flags.items x && not (suspect_at w.kinds.items l x)) c.as_slice-2.ensures.value)));
       stamps = λ x. none_stamped w.parents.items _ x (none_due _ _ x none);
     }

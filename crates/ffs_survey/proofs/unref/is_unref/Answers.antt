@@ -15,7 +15,7 @@ returns-in_default c = λ v n t.
       dir = t.dirs c.args.dir ∙ (sym c.is_dir.ensures ∙ c.if-not-is_dir.false);
       not_root = c.if-dir-eq-ROOTINO.false;
       unreached = sym (t.reaches c.args.dir) ∙ c.if-found-dir.false;
-      alive = sym (c.is_dead.ensures v n)
+      alive = sym (c.is_dead.ensures.graph v n)
           ∙ c.if-is_dead.false;
     } in
     sym (unref_is v suspect c.args.found.now.kinds.now c.args.found.now.reached.now c.args.found.now.parents.now.items c.args.dir c.args.found.now.whole.parents_long t
@@ -35,7 +35,7 @@ returns c = λ v n t.
       dir = t.dirs c.args.dir ∙ (sym c.is_dir.ensures ∙ c.if-not-is_dir.false);
       not_root = c.if-dir-eq-ROOTINO.false;
       unreached = sym (t.reaches c.args.dir) ∙ c.if-found-dir.false;
-      alive = sym (c.is_dead.ensures v n)
+      alive = sym (c.is_dead.ensures.graph v n)
           ∙ c.if-is_dead.false;
     } in
     c.args.found.now.whole.cycles c.args.dir
@@ -43,4 +43,4 @@ returns c = λ v n t.
     t l
     ∙ ap (λ b. b || is_leader_within (parent_in c.args.found.now.parents.now.items) (length c.args.found.now.parents.now.items) c.args.dir)
     (cond-false _ true _ (ne_eqb _ 0 (λ z. c.in-Some.ensures.1 (c.in-Some.ensures.0 ∙ z)))
-    ∙ ap (λ a. is_dead_in v suspect a) (sym c.in-Some.ensures.0) ∙ (sym (c.is_dead-2.ensures v n) ∙ c.if-is_dead-2.false)))
+    ∙ ap (λ a. is_dead_in v suspect a) (sym c.in-Some.ensures.0) ∙ (sym (c.is_dead-2.ensures.graph v n) ∙ c.if-is_dead-2.false)))

@@ -162,4 +162,4 @@ skip_zero_addresses-requires c = record {
 }
 
 pub returns : goal.returns
-returns c = c.skip_zero_addresses.ensures
+returns c = c.skip_zero_addresses.ensures c.args.blocks.now

@@ -7,7 +7,7 @@ use Rattle.ffs_walk.proofs.Counted.{enters_none}
 use Rattle.ffs_walk.proofs.walk.Walk.skip_zero_addresses.Goals as goal
 
 pub returns : goal.returns
-returns c =
+returns c = λ blocks.
     let w = c.args.self.now in
     let end = c.zero_addresses_end-end.result in
     let ends = c.zero_addresses_end-end.ensures in
