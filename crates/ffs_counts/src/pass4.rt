@@ -52,6 +52,7 @@ const FREE_RUN: usize = 64;
 
 /// How many inodes from one on are passed over, since they are free: 64, or only the first, or
 /// none.
+#[inline(always)]
 fn free_run(kinds: &[u8], first: usize) -> usize
     requires { first < length kinds.now }
     ensures { IsFreeRun kinds.now first result }
