@@ -50,6 +50,7 @@ const FREE_STRETCH: usize = 64;
 
 /// How many inodes from one on are passed over, since they are free: `FREE_STRETCH`, or only the
 /// first, or none.
+#[inline(always)]
 fn free_stretch(kinds: &[u8], first: usize) -> usize
     requires { first < length kinds.now }
     ensures { IsFreeStretch kinds.now first result }

@@ -3,6 +3,7 @@
 ghost use Rattle.std.specs.Prelude.{IsTrue, ◌≡◌, ◌+◌, ◌≤◌, ◌==◌, ◌||◌, length, slice_index};
 ghost use Rattle.std.specs.List.{list_any};
 ghost use Rattle.ffs_volume.specs.Directories.Entries.{has_valid_type_and_name as held, is_valid_record_length as fits, has_valid_name as named};
+ghost use Rattle.ffs_volume.specs.Disk.Numbers.{u16_at as u16_in, u32_at as u32_in};
 ghost use Rattle.ffs_layout.specs.Entry.{IsEntryAt, any_nul_or_slash};
 
 use crate::entry::Entry;
@@ -80,6 +81,7 @@ fn has_nul_or_slash(bytes: &[u8]) -> bool
 }
 
 /// Whether the record at the place has a name.
+#[inline(always)]
 fn has_valid_name(chunk: &[u8; DIRBLKSIZ], place: usize) -> bool
     requires { place + (8 + slice_index chunk.now (place + 7)) + 1 ≤ 512 }
     ensures { result ≡ named chunk.now place }
@@ -90,6 +92,7 @@ fn has_valid_name(chunk: &[u8; DIRBLKSIZ], place: usize) -> bool
 }
 
 /// Whether the record at the place holds its name, and has a type.
+#[inline(always)]
 fn has_valid_type_and_name(chunk: &[u8; DIRBLKSIZ], place: usize, len: u16) -> bool
     requires { IsTrue (fits place len) }
     ensures { result ≡ held chunk.now place len }
@@ -99,21 +102,44 @@ fn has_valid_type_and_name(chunk: &[u8; DIRBLKSIZ], place: usize, len: u16) -> b
         && has_valid_name(chunk, place)
 }
 
-/// The well formed entry at a place of a chunk.
+/// The inode number and the length of the record at a place of a chunk.
+#[inline(always)]
+fn number_and_length(order: Order, chunk: &[u8; DIRBLKSIZ], place: usize) -> (u32, u16)
+    requires { place + 8 ≤ 512 }
+    ensures number { result.0 ≡ u32_in order place chunk.now }
+    ensures length { result.1 ≡ u16_in order (place + 4) chunk.now }
+{
+    // The order is asked for once, and not for each number.
+    match order {
+        Order::Little => (
+            u32_at(Order::Little, place, chunk),
+            u16_at(Order::Little, place + 4, chunk),
+        ),
+        Order::Big => (
+            u32_at(Order::Big, place, chunk),
+            u16_at(Order::Big, place + 4, chunk),
+        ),
+    }
+}
+
+/// The well formed entry at a place of a chunk, and None where none is there (dir(5)).
+///
+/// At byte 0 is the number (u32), at 4 the record's length (u16), at 6 the type (u8), at 7 the
+/// name's length (u8), from 8 on the name and a NUL. The name of an entry with the number 0 is
+/// empty.
 #[inline(always)]
 #[tactic(auto, unfolding(ffs_volume::specs::Directories::Entries::entry_at, ffs_volume::specs::Directories::Entries::is_well_formed, ffs_volume::specs::Directories::Entries::entry_read))]
-fn entry_of(order: Order, chunk: &[u8; DIRBLKSIZ], place: usize) -> Option<Entry<'_>>
+pub fn entry_at(order: Order, chunk: &[u8; DIRBLKSIZ], place: usize) -> Option<Entry<'_>>
     requires { place ≤ 512 }
     ensures { IsEntryAt order chunk.now place result }
 {
     if place > DIRBLKSIZ - DIRENT_HEADER {
         return None;
     }
-    let length = u16_at(order, place + 4, chunk);
+    let (number, length) = number_and_length(order, chunk, place);
     if !is_valid_record_length(place, length) {
         return None;
     }
-    let number = u32_at(order, place, chunk);
     let kind = chunk[place + 6];
     if number == 0 {
         return Some(Entry {
@@ -133,21 +159,4 @@ fn entry_of(order: Order, chunk: &[u8; DIRBLKSIZ], place: usize) -> Option<Entry
         kind,
         name,
     })
-}
-
-/// The well formed entry at a place of a chunk, and None where none is there (dir(5)).
-///
-/// At byte 0 is the number (u32), at 4 the record's length (u16), at 6 the type (u8), at 7 the
-/// name's length (u8), from 8 on the name and a NUL. The name of an entry with the number 0 is
-/// empty.
-#[inline(always)]
-pub fn entry_at(order: Order, chunk: &[u8; DIRBLKSIZ], place: usize) -> Option<Entry<'_>>
-    requires { place ≤ 512 }
-    ensures { IsEntryAt order chunk.now place result }
-{
-    // The order is asked for once, and not for each number.
-    match order {
-        Order::Little => entry_of(Order::Little, chunk, place),
-        Order::Big => entry_of(Order::Big, chunk, place),
-    }
 }

@@ -205,7 +205,7 @@ fn read_reached<D: Directories>(
     directories.start(from)?;
     while let Some(entry) = directories.next()? {
         count_entry(entry, current.kinds, lists.references, lists.named);
-        calm_so_far &= is_calm(entry, count, &current, lists);
+        calm_so_far = calm_so_far && is_calm(entry, count, &current, lists);
         high = visit(entry, &current, lists, high);
         count += 1;
     }

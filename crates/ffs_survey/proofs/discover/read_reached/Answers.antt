@@ -1,9 +1,8 @@
-use Rattle.std.proofs.Math.Bool.{and_comm}
 use Rattle.std.proofs.Common.{arith, ap, sym, subst, [], ◌∙◌, ◌&&◌, nat_le, rules, ◌≡◌, ◌∷◌, ◌<◌, List, ℕ, take, length}
 use Rattle.ffs_volume.specs.Directories.Roles.{RoledEntry, refers}
 use Rattle.ffs_survey.specs.Reading.{roled_of}
-use Rattle.ffs_survey.specs.Survey.{number_at}
-use Rattle.ffs_survey.specs.Calm.{IsFlagged}
+use Rattle.ffs_survey.specs.Survey.{bool_at, number_at}
+use Rattle.ffs_survey.specs.Calm.{IsFlagged, is_calm_entry}
 use Rattle.ffs_survey.specs.Lent.{Lent, current_in}
 use Rattle.ffs_survey.proofs.Discovered.{entry_step}
 use Rattle.ffs_survey.proofs.CalmLaws.{calm_step, read_whole}
@@ -11,6 +10,7 @@ use Rattle.ffs_survey.proofs.Lending.{queue_long}
 use Rattle.ffs_survey.proofs.Queues.{extends_on, keeps_queue}
 use Rattle.ffs_survey.proofs.Tally.{entry_counted, bit-le}
 use Rattle.ffs_survey.proofs.discover.read_reached.Goals as goal
+use Rattle.ffs_survey.proofs.discover.read_reached.Goals.{then-calm_so_far, else-calm_so_far}
 
 pub is_calm-calm_so_far-requires : goal.is_calm-calm_so_far-requires
 is_calm-calm_so_far-requires g c = sym (ap (λ (x : Lent). x.kinds) c.loop-entry.invariant.same.lent)
@@ -35,7 +35,12 @@ loop-entry-preserved g c =
     let marked : here.marked.now ≡ old.marked.now = ap (λ (x : Lent). x.marked) inv.same.lent in
     let counted = c.count_entry.ensures.counted in
     let comes = rw kinds at c.visit-high.ensures.comes in
-    let right = c.is_calm-calm_so_far.ensures in
+    let right : c.if-calm_so_far.calm_so_far ≡ (c.loop-entry.calm_so_far && is_calm_entry
+    (current_in old c.args.from c.number_of-parent.result) (bool_at here.reached.now) c.loop-entry.count e)
+    = elim c.if-calm_so_far.branch [
+      | then-calm_so_far w ↦ rw w.if-calm_so_far.true (w.calm_so_far-is ∙ w.is_calm-calm_so_far.ensures)
+      | else-calm_so_far w ↦ rw w.if-calm_so_far.false (w.calm_so_far-is ∙ w.if-calm_so_far.false)
+    ] in
     let kept = c.visit-high.ensures.counts in
     record {
       ready = search rules;
@@ -74,7 +79,7 @@ loop-entry-preserved g c =
           calm_step (current_in old c.args.from c.number_of-parent.result) here.reached.now _ here.parents.now.items _
           (take c.loop-entry.high here.queue.now.items) _ c.loop-entry.count e (g.D.Directories.rest c.next.new.self b)
           c.loop-entry.calm_so_far _ _
-          comes (cc (and_comm c.loop-entry.calm_so_far c.is_calm-calm_so_far.result, right))
+          comes right
           (rw (cut b k) at (inv.calm_so_far b k));
       right_shape = let s = rw inv.base at c.in_ok-entry.ensures.shape in λ b k. s b k ∙ inv.right_shape b k;
     }
