@@ -1,5 +1,5 @@
 -- What is reported of an inode by its references.
-use Rattle.std.specs.Prelude.{ℕ, ◌==◌, ◌&&◌, ◌||◌, Bool, not, slice_index, List, [], ◌∷◌, Option, Some, None}
+use Rattle.std.specs.Prelude.{ℕ, ◌==◌, ◌&&◌, Bool, not, slice_index, List, [], ◌∷◌, Option, Some, None}
 use Rattle.std.specs.Prelude.{if◌then◌else◌, ℤ}
 use Rattle.ffs_volume.specs.declared.constants.TheConstants.{LINKS_MET}
 use Rattle.ffs_volume.specs.declared.Attr.{Attr}
@@ -9,7 +9,6 @@ use Rattle.ffs_volume.specs.Messages.Kinds.{TreeMessage, reported, dead_marked}
 use Rattle.ffs_volume.specs.Messages.Kinds.{dead_zero, unref, unref_zero, link_count}
 use Rattle.ffs_survey.specs.Survey.{dead_at}
 use Rattle.ffs_workspace.specs.declared.workspace.Workspace.{Workspace}
-use Rattle.ffs_workspace.specs.Holds.{bool_at}
 use Rattle.ffs_report.specs.Lines.{reference_message}
 use Rattle.ffs_report.specs.declared.line.ReferenceLine.{ReferenceLine}
 

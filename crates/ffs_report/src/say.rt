@@ -183,7 +183,7 @@ fn print_block<W: Output>(out: &mut W, message: BlockMessage) -> Result<(), OutF
     }
 }
 
-/// What a summary tells (`Line::Summary`).
+/// What a summary shows (`Line::Summary`).
 #[derive(Clone, Copy)]
 struct SummaryLine {
     files: u32,

@@ -1,5 +1,5 @@
-//! A window on an image. It is in this crate since readers of the chunks that a walk comes to lie
-//! between it and the workspace. `Table` of `ffs_workspace` is a window on inodes, made of this one;
+//! A window on an image. It is in this crate since readers of directories, which lie between it and
+//! the workspace, read into one. `Table` of `ffs_workspace` is a window on inodes, made of this one;
 //! `Blocks` holds a walk's indirect blocks by their addresses, and has a buffer of its own.
 
 ghost use Rattle.std.specs.Prelude.{◌≡◌, ◌+◌, ◌≤◌, ◌↔◌, IsTrue, vec_len};
