@@ -147,7 +147,6 @@ impl Entries {
             (λ _. left self.new < left self.old) }
         ensures place { IfSome result (λ _. self.old.place < 512) }
         ensures same { IsSameChunk self.old self.new }
-        ensures kept { is_some result ≡ false → self.new ≡ self.old }
     {
         let Some(entry) = entry_at(self.order, &self.chunk, self.place) else {
             return None;
@@ -166,10 +165,12 @@ impl Entries {
         Some(head)
     }
 
-    /// The next entry of this chunk or of those after it, if there is one. It is no part of a loop
-    /// over entries, which goes over those of a chunk without it.
-    #[inline(never)]
-    fn next_of_chunks<I: Image>(
+    /// The next entry, if there is one, without its name.
+    ///
+    /// # Errors
+    /// A read of the image that failed.
+    #[inline(always)]
+    pub fn next<I: Image>(
         &mut self,
         image: &mut I,
         blocks: &mut Blocks,
@@ -207,39 +208,6 @@ impl Entries {
                     self.place = 0;
                 }
             }
-        }
-    }
-
-    /// The next entry, if there is one, without its name.
-    ///
-    /// # Errors
-    /// A read of the image that failed.
-    #[inline(always)]
-    pub fn next<I: Image>(
-        &mut self,
-        image: &mut I,
-        blocks: &mut Blocks,
-        window: &mut Window,
-    ) -> Result<Option<EntryHead>, ImageFault>
-        requires { CanReadChunks self.old.chunks.walk.geometry.layout (I.device image.old)
-            blocks.old window.old }
-        ensures entry { IfOk result (λ head. ForContents (I.device image.old).contents
-            (λ b. GivesEntry b self.old self.new head)) }
-        ensures place { IfOk result (λ o. IfSome o (λ _. ForContents (I.device image.old).contents
-            (λ b. MayTake b self.old → IsHeld b self.new))) }
-        ensures inside { IfOk result (λ o. IfSome o (λ _.
-            (self.old.place < 512 → IsInside self.old) → IsInside self.new)) }
-        ensures left { IfOk result (λ head. IfSome head (λ _. left self.new < left self.old)) }
-        ensures reads { HoldsEntries blocks.old window.old self.old
-            → ForContents (I.device image.old).contents (λ b. TakesReads (I.reads image.old)
-            (I.reads image.new) (entries_to_read b self.old) (entries_to_read b self.new)
-            (HoldsEntries blocks.new window.new self.new) result) }
-        ensures leaves { LeavesReading self.old.chunks self.new.chunks (I.device image.old)
-            (I.device image.new) blocks.new window.new result }
-    {
-        match self.take() {
-            Some(head) => Ok(Some(head)),
-            None => self.next_of_chunks(image, blocks, window),
         }
     }
 

@@ -4,7 +4,7 @@ use Rattle.ffs_names.specs.Windows.{CanReadChunks}
 use Rattle.ffs_names.specs.Costs.{HoldsEntries, entries_to_read}
 use Rattle.ffs_names.specs.Shapes.{has_right_shape}
 use Rattle.ffs_names.specs.Entering.{to_come, left, IsInside, MayTake}
-use Rattle.ffs_names.proofs.entries.Entries.next_of_chunks.Given as goal
+use Rattle.ffs_names.proofs.entries.Entries.next.Given as goal
 
 abbrev pub invariant-chunks : goal.invariant-chunks
 invariant-chunks g l = record {
