@@ -1,28 +1,17 @@
 -- The names down to a directory are those down to its parent, and that of its parent entry.
-use Rattle.std.proofs.Common.{◌≡◌, ◌≢◌, ℕ, zero, suc, ◌<◌, true, List, [], ◌∷◌, ◌++◌, Some}
-use Rattle.std.proofs.Common.{sym, ap, subst, ◌∙◌, arith}
-use Rattle.std.specs.Prelude.{option_map}
-use Rattle.std.specs.Option.{unwrap_or}
-use Rattle.std.specs.List.{list_any}
-use Rattle.std.proofs.lemmas.Bool.{and_parts}
+use Rattle.std.proofs.Common.{◌≡◌, ◌≢◌, ℕ, zero, suc, ◌<◌, true, List, [], ◌∷◌, ◌++◌, Some, sym, ap, subst, ◌∙◌, arith}
+use Rattle.std.{specs.Prelude.option_map, specs.Option.unwrap_or, specs.List.list_any, proofs.lemmas.Bool.and_parts}
 use Rattle.ffs_volume.specs.Directories.Graph.{Graph, level, reached, is_naming_entry, is_naming_dir, parent}
-use Rattle.ffs_volume.specs.Directories.Paths.{names_down}
-use Rattle.ffs_volume.specs.declared.Layout.{Layout}
-use Rattle.ffs_volume.specs.Directories.Parents.{graph_of}
-use Rattle.ffs_volume.specs.Directories.Roles.{is_dir, roled_entries}
-use Rattle.ffs_volume.specs.Directories.Volumes.{volume_of}
+use Rattle.ffs_volume.specs.{Directories.Paths.names_down, Directories.Parents.graph_of, declared.Layout.Layout}
+use Rattle.ffs_volume.specs.Directories.{Roles.is_dir, Roles.roled_entries, Volumes.volume_of}
 use Rattle.ffs_volume.proofs.LevelLaws.{reached-level}
 use Rattle.ffs_survey.specs.ParentLaws.{parent_above, root_level}
-use Rattle.ffs_workspace.specs.Holds.{HoldsSurvey}
-use Rattle.ffs_workspace.specs.declared.workspace.Workspace.{Workspace}
+use Rattle.ffs_workspace.specs.{Holds.HoldsSurvey, declared.workspace.Workspace.Workspace}
 use Rattle.ffs_paths.specs.Climbing.{name_in, IsNameIn, IsParentOf}
 use Rattle.ffs_paths.specs.DirectoryPaths.{HoldsPath, IsPathOf}
-use Rattle.ffs_paths.specs.Siblings.{AreSiblings, LeadsTo}
-use Rattle.ffs_paths.specs.Slashes.{AreSingle}
-use Rattle.ffs_paths.specs.declared.kept.DirectoryPath.{DirectoryPath}
-use Rattle.ffs_paths.specs.declared.siblings.Siblings.{Siblings}
-use Rattle.ffs_paths.proofs.NoSlashes.{down_single}
-use Rattle.ffs_paths.proofs.WaysUp.{down_is}
+use Rattle.ffs_paths.specs.{KeptParents.IsKeptParent, KeptParents.LeadsTo, Slashes.AreSingle}
+use Rattle.ffs_paths.specs.declared.{kept.DirectoryPath.DirectoryPath, kept_parent.KeptParent.KeptParent}
+use Rattle.ffs_paths.proofs.{NoSlashes.down_single, WaysUp.down_is}
 
 -- s is the parent of the directory d, and the first entry of s that names d has its name
 pub record IsChild (v : Layout) (b : List ℕ) (d s : ℕ) : Type 0 where
@@ -57,10 +46,10 @@ child_is v b d s h n e = let l = reached-level g d h in go l.0 l.1
         })
 
 -- a path is kept, and the name of a child by its parent
-pub siblings_are : (v : Layout) (b : List ℕ) (w : Workspace) (s : Siblings) → HoldsSurvey v b w →
+pub kept_parent_is : (v : Layout) (b : List ℕ) (w : Workspace) (s : KeptParent) → HoldsSurvey v b w →
     IsParentOf w s.child s.parent → IsPathOf (graph_of (volume_of v b)) s.parent s.path →
-    IsNameIn (graph_of (volume_of v b)) s.child s.parent s.name.items → AreSiblings (graph_of (volume_of v b)) s
-siblings_are v b w s survey of path name =
+    IsNameIn (graph_of (volume_of v b)) s.child s.parent s.name.items → IsKeptParent (graph_of (volume_of v b)) s
+kept_parent_is v b w s survey of path name =
     let below = of.below in
     let child = child_is v b s.child s.parent (sym (survey.reached s.child) ∙ of.reached) (omega arith)
     (of.is ∙ survey.parents s.child) in
@@ -72,7 +61,7 @@ siblings_are v b w s survey of path name =
     }
 
 -- the path that is made of that of the parent
-pub child_made : (g : Graph) (s : Siblings) (made : DirectoryPath) → AreSiblings g s → 0 < s.child →
+pub child_made : (g : Graph) (s : KeptParent) (made : DirectoryPath) → IsKeptParent g s → 0 < s.child →
     ((names : List (List ℕ)) → HoldsPath s.path (Some names)
     → AreSingle (names ++ s.name.items ∷ []) → HoldsPath made (Some (names ++ s.name.items ∷ [])))
     → IsPathOf g s.child made

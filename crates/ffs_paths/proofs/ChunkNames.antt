@@ -1,24 +1,17 @@
 -- The name of an inode in a chunk, by its entries one after another.
 use Rattle.std.proofs.Common.{◌≡◌, ℕ, suc, ◌+◌, ◌*◌, ◌<◌, ◌≤◌, ◌==◌, ◌&&◌, ◌||◌, Bool, true, false, not, if◌then◌else◌}
-use Rattle.std.proofs.Common.{List, [], ◌∷◌, length, drop, Some, None, refl, sym, ap, subst, ◌∙◌, arith}
-use Rattle.std.proofs.Common.{length-drop}
+use Rattle.std.proofs.Common.{List, [], ◌∷◌, length, drop, Some, None, refl, sym, ap, subst, ◌∙◌, arith, length-drop}
 use Rattle.std.specs.Prelude.{◌/◌, ◌%◌, nat_le, slice_index}
-use Rattle.std.specs.List.{list_any}
-use Rattle.std.proofs.lemmas.Bool.{and_parts, leb-true, not-true}
-use Rattle.std.proofs.lemmas.Bool.Decides.{nat_tests}
-use Rattle.std.proofs.lemmas.List.{length-take-le}
-use Rattle.std.proofs.lemmas.Option.{cond_some}
-use Rattle.ffs_volume.specs.declared.Order.{Order}
-use Rattle.ffs_volume.specs.declared.Role.{Role}
+use Rattle.std.{specs.List.list_any, proofs.lemmas.List.length-take-le, proofs.lemmas.Option.cond_some}
+use Rattle.std.proofs.lemmas.Bool.{and_parts, leb-true, not-true, Decides.nat_tests}
+use Rattle.ffs_volume.specs.{declared.Order.Order, declared.Role.Role, Directories.Graph.is_naming_entry}
 use Rattle.ffs_volume.specs.declared.Role.TheVariants.{Empty, Dot, Dotdot, Extra, Plain}
 use Rattle.ffs_volume.specs.Disk.Numbers.{u16_at, u32_at, piece}
 use Rattle.ffs_volume.specs.Directories.Entries.{Entry, entry_at, entries_from, entry_read, is_live, is_well_formed}
 use Rattle.ffs_volume.specs.Directories.Entries.{has_valid_type_and_name, is_valid_record_length, name_at}
-use Rattle.ffs_volume.specs.Directories.Graph.{is_naming_entry}
 use Rattle.ffs_volume.specs.Directories.Roles.{is_one_dot, is_plain, is_two_dots, role_of, roled_from}
 use Rattle.ffs_volume.proofs.Reading.{entries_end, entries_next}
-use Rattle.ffs_paths.specs.Climbing.{name_in}
-use Rattle.ffs_paths.proofs.WaysUp.{name_in-here, name_in-past}
+use Rattle.ffs_paths.{specs.Climbing.name_in, proofs.WaysUp.name_in-here, proofs.WaysUp.name_in-past}
 
 -- the entries from one on
 chunk_next : (order : Order) (chunk : List ℕ) (index place : ℕ) (e : Entry) (role : Role) →

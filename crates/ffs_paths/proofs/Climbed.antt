@@ -1,22 +1,13 @@
 -- How far a climb to the root has come, and how often it has read.
 use Rattle.std.proofs.Common.{◌≡◌, ◌≢◌, ℕ, zero, suc, ◌+◌, ◌*◌, ◌<◌, ◌≤◌, false, List, ◌∷◌, length}
 use Rattle.std.proofs.Common.{Some, sym, ap, subst, ◌∙◌, arith}
-use Rattle.std.specs.Prelude.{nat_lt, Option}
-use Rattle.std.proofs.lemmas.Bool.Decides.{nat_tests}
-use Rattle.ffs_volume.specs.Directories.Graph.{level}
-use Rattle.ffs_volume.specs.Directories.Parents.{graph_of}
-use Rattle.ffs_volume.specs.Directories.Paths.{joined}
-use Rattle.ffs_volume.specs.Directories.Volumes.{volume_of}
-use Rattle.ffs_volume.specs.declared.Layout.{Layout}
-use Rattle.ffs_volume.proofs.LevelLaws.{reached-level}
+use Rattle.std.{specs.Prelude.nat_lt, specs.Prelude.Option, proofs.lemmas.Bool.Decides.nat_tests}
+use Rattle.ffs_volume.specs.Directories.{Graph.level, Paths.joined, Parents.graph_of, Volumes.volume_of}
+use Rattle.ffs_volume.{specs.declared.Layout.Layout, proofs.LevelLaws.reached-level}
 use Rattle.ffs_survey.specs.ParentLaws.{root_level}
-use Rattle.ffs_workspace.specs.Places.{AreNoted, IsNoted}
-use Rattle.ffs_workspace.specs.declared.workspace.Workspace.{Workspace}
-use Rattle.ffs_paths.specs.Buffers.{HoldsNames}
-use Rattle.ffs_paths.specs.Climbing.{IsParentOf}
-use Rattle.ffs_paths.specs.Reads.{KnowsPlaces, ReadsFew}
-use Rattle.ffs_paths.specs.declared.buffer.PathBuffer.{PathBuffer}
-use Rattle.ffs_paths.proofs.LongestEnds.{joined-length}
+use Rattle.ffs_workspace.specs.{Places.AreNoted, Places.IsNoted, declared.workspace.Workspace.Workspace}
+use Rattle.ffs_paths.{specs.Buffers.HoldsNames, specs.Climbing.IsParentOf, proofs.LongestEnds.joined-length}
+use Rattle.ffs_paths.specs.{Reads.KnowsPlaces, Reads.ReadsFew, declared.buffer.PathBuffer.PathBuffer}
 
 -- so many steps were climbed, with a read for each at most, and with a name for each that takes two bytes at least
 pub record HasClimbed (steps reads reads' : ℕ) (before after : Workspace) (p : PathBuffer) : Type 0 where

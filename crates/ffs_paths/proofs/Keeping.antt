@@ -1,19 +1,13 @@
 -- What is kept of a directory and its children stays right where only other parts of a workspace change.
 use Rattle.std.proofs.Common.{◌≡◌, List, ℕ, refl, sym, ap, subst, ◌∙◌, rules}
 use Rattle.std.specs.Prelude.{Option, Result, Ok, slice_index}
-use Rattle.ffs_image.specs.Device.{Device}
-use Rattle.ffs_image.specs.Reads.{ReadAfter}
-use Rattle.ffs_image.specs.declared.image.ImageFault.{ImageFault}
-use Rattle.ffs_volume.specs.declared.Layout.{Layout}
-use Rattle.ffs_volume.specs.Directories.Graph.{Graph}
+use Rattle.ffs_image.specs.{Device.Device, Reads.ReadAfter, declared.image.ImageFault.ImageFault}
+use Rattle.ffs_volume.specs.{declared.Layout.Layout, Directories.Graph.Graph}
 use Rattle.ffs_workspace.specs.declared.workspace.Workspace.{Workspace}
-use Rattle.ffs_workspace.specs.Leaves.{LeavesSurvey}
-use Rattle.ffs_workspace.specs.Ready.{IsReady}
+use Rattle.ffs_workspace.specs.{Leaves.LeavesSurvey, Ready.IsReady, Places.ArePlaces, Places.place_in}
 use Rattle.ffs_workspace.proofs.Leaving.{claims_held, claims_left, survey_held, survey_left, windows_leave}
-use Rattle.ffs_paths.specs.Reads.{ForTree, OnlyReads}
-use Rattle.ffs_workspace.specs.Places.{ArePlaces, place_in}
-use Rattle.ffs_paths.specs.Siblings.{AreSiblings, KeepSiblings, PathLeaves, SamePlaces}
-use Rattle.ffs_paths.specs.declared.siblings.Siblings.{Siblings}
+use Rattle.ffs_paths.specs.{Reads.ForTree, Reads.OnlyReads, declared.kept_parent.KeptParent.KeptParent}
+use Rattle.ffs_paths.specs.KeptParents.{IsKeptParent, KeepsParent, PathLeaves, SamePlaces}
 
 -- where the same places are noted, what was found is as it was, seen from the later workspace
 leaves_back : (old new : Workspace) → LeavesSurvey old new → SamePlaces old new → LeavesSurvey new old
@@ -23,10 +17,10 @@ leaves_back old new s same =
     search (rules, sym)
 
 -- what is kept stays right where the same places are noted
-pub siblings_on : (v : Layout) (contents contents' : Option (List ℕ)) (old new : Workspace) (s : Siblings) →
+pub kept_parent_on : (v : Layout) (contents contents' : Option (List ℕ)) (old new : Workspace) (s : KeptParent) →
     contents' ≡ contents → LeavesSurvey old new → SamePlaces old new
-    → KeepSiblings v contents old s → KeepSiblings v contents' new s
-siblings_on v contents contents' old new s e left same k =
+    → KeepsParent v contents old s → KeepsParent v contents' new s
+kept_parent_on v contents contents' old new s e left same k =
     let back = leaves_back old new left same in
     record {
       right = λ b t claims survey. k.right b (sym e ∙ t) (claims_left v b new old back claims)
@@ -37,16 +31,16 @@ same_places : (old new : Workspace) → new ≡ record old { windows = new.windo
 same_places old new e = λ x. ap (λ (w : Workspace). place_in (slice_index w.queue.items x)) e
 
 -- and so where only the windows have changed
-pub siblings_held : (v : Layout) (contents contents' : Option (List ℕ)) (old new : Workspace) (s : Siblings) →
+pub kept_parent_held : (v : Layout) (contents contents' : Option (List ℕ)) (old new : Workspace) (s : KeptParent) →
     contents' ≡ contents → new ≡ record old { windows = new.windows }
-    → KeepSiblings v contents old s → KeepSiblings v contents' new s
-siblings_held v contents contents' old new s e lists k =
-    siblings_on v contents contents' old new s e (windows_leave old new lists) (same_places old new lists) k
+    → KeepsParent v contents old s → KeepsParent v contents' new s
+kept_parent_held v contents contents' old new s e lists k =
+    kept_parent_on v contents contents' old new s e (windows_leave old new lists) (same_places old new lists) k
 
 -- and after a call that only read
-pub kept_on : {T : Type 0} {v : Layout} {d d' : Device} {w w' : Workspace} {x : T} (s : Siblings) →
-    OnlyReads v d d' w w' (Ok x) → KeepSiblings v d.contents w s → KeepSiblings v d'.contents w' s
-kept_on s r k = siblings_held _ _ _ _ _ s (ap (λ d. d.contents) r.read) r.lists k
+pub kept_on : {T : Type 0} {v : Layout} {d d' : Device} {w w' : Workspace} {x : T} (s : KeptParent) →
+    OnlyReads v d d' w w' (Ok x) → KeepsParent v d.contents w s → KeepsParent v d'.contents w' s
+kept_on s r k = kept_parent_held _ _ _ _ _ s (ap (λ d. d.contents) r.read) r.lists k
 
 -- the same of another answer, which is no fault either
 pub reads_as : {S T : Type 0} {v : Layout} {d d' : Device} {w w' : Workspace} {x : S} {y : T} →
@@ -54,13 +48,13 @@ pub reads_as : {S T : Type 0} {v : Layout} {d d' : Device} {w w' : Workspace} {x
 reads_as r = record { lists = r.lists; chunk = r.chunk; ready = r.ready; read = r.read }
 
 -- what a call leaves that made a path
-pub leaves_with : {T : Type 0} {v : Layout} {d d' : Device} {w w' : Workspace} {x : T} (s : Siblings) →
-    OnlyReads v d d' w w' (Ok x) → KeepSiblings v d.contents w s → PathLeaves v d d' w w' s (Ok x)
-leaves_with s r k = record { reads = r; siblings = kept_on s r k }
+pub leaves_with : {T : Type 0} {v : Layout} {d d' : Device} {w w' : Workspace} {x : T} (s : KeptParent) →
+    OnlyReads v d d' w w' (Ok x) → KeepsParent v d.contents w s → PathLeaves v d d' w w' s (Ok x)
+leaves_with s r k = record { reads = r; kept_parent = kept_on s r k }
 
 -- what a call leaves that kept a path
-pub leaves_kept : {S T : Type 0} {v : Layout} {d d' : Device} {w w' : Workspace} {x : S} {y : T} (s : Siblings) →
-    OnlyReads v d d' w w' (Ok x) → ForTree v d w (λ g. AreSiblings g s) → PathLeaves v d d' w w' s (Ok y)
+pub leaves_kept : {S T : Type 0} {v : Layout} {d d' : Device} {w w' : Workspace} {x : S} {y : T} (s : KeptParent) →
+    OnlyReads v d d' w w' (Ok x) → ForTree v d w (λ g. IsKeptParent g s) → PathLeaves v d d' w w' s (Ok y)
 leaves_kept s r kept = leaves_with s (reads_as r) (record { right = kept })
 
 -- nothing was read yet

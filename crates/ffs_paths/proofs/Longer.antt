@@ -3,8 +3,7 @@ use Rattle.std.proofs.Common.{◌≡◌, ℕ, suc, ◌+◌, ◌<◌, ◌≤◌, 
 use Rattle.std.proofs.Common.{subst, ◌∙◌, arith}
 use Rattle.std.specs.Prelude.{max, if◌then◌else◌}
 use Rattle.ffs_volume.specs.Directories.Paths.{joined, longest_end, path_bytes}
-use Rattle.ffs_paths.specs.declared.buffer.PathBuffer.{PathBuffer}
-use Rattle.ffs_paths.specs.Buffers.{HoldsNames}
+use Rattle.ffs_paths.specs.{declared.buffer.PathBuffer.PathBuffer, Buffers.HoldsNames}
 use Rattle.ffs_paths.specs.Slashes.{AreSingle, from_slash}
 use Rattle.ffs_paths.proofs.LongestEnds.{over_is, under_is, whole-length, end-whole, slash_end, entry-tail, last-length}
 

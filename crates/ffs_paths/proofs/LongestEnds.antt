@@ -2,9 +2,7 @@
 use Rattle.std.proofs.Common.{◌≡◌, ℕ, suc, ◌+◌, ◌<◌, ◌≤◌, ◌-◌, true, false, List, [], ◌∷◌, ◌++◌, length, drop, refl, ap}
 use Rattle.std.proofs.Common.{◌∙◌, arith, length-append, length-drop, zero, ◌==◌, Bool, sym, append_assoc, append-nil}
 use Rattle.std.specs.Prelude.{nat_lt, nat_le, Some, if◌then◌else◌, max}
-use Rattle.std.proofs.lemmas.Bool.Decides.{nat_tests}
-use Rattle.std.proofs.lemmas.Bool.{leb-true, or_parts}
-use Rattle.std.proofs.lemmas.List.{drop-drop, drop_all}
+use Rattle.std.proofs.lemmas.{Bool.Decides.nat_tests, Bool.leb-true, Bool.or_parts, List.drop-drop, List.drop_all}
 use lib.Seq.{take_all}
 use borrow.Rule.Slice.PartMut.{mid_of}
 use Rattle.ffs_volume.specs.Directories.Paths.{joined, longest_end, path_bytes, dir_path_of_names}

@@ -4,17 +4,13 @@ use Rattle.std.proofs.Common.{List, [], ◌∷◌, ◌++◌, map, Option, Some, 
 use Rattle.std.specs.Prelude.{option_and_then, slice_index, ◌/◌, ◌-◌, min, nat_le}
 use Rattle.std.proofs.lemmas.Bool.{and_parts}
 use Rattle.std.specs.List.{AllByRecursion, flat_map, list_any, range_with_len}
-use Rattle.ffs_volume.specs.declared.Layout.{Layout}
-use Rattle.ffs_volume.specs.declared.Order.{Order}
-use Rattle.ffs_volume.specs.declared.Step.{Step}
-use Rattle.ffs_volume.specs.declared.Step.TheVariants.{Run, Tail, Gap}
-use Rattle.ffs_volume.specs.Disk.Areas.{is_run_in_range}
-use Rattle.ffs_volume.specs.Disk.Numbers.{u16_at, u32_at, piece}
+use Rattle.ffs_volume.specs.declared.{Layout.Layout, Order.Order}
+use Rattle.ffs_volume.specs.declared.Step.{Step, TheVariants.Run, TheVariants.Tail, TheVariants.Gap}
+use Rattle.ffs_volume.specs.Disk.{Areas.is_run_in_range, Numbers.u16_at, Numbers.u32_at, Numbers.piece}
 use Rattle.ffs_volume.specs.Directories.Entries.{Chunk, ChunkSource, Entry, chunk_of, chunks_of, entries_from}
 use Rattle.ffs_volume.specs.Directories.Entries.{entries_with, entry_at, entry_read, has_valid_type_and_name}
 use Rattle.ffs_volume.specs.Directories.Entries.{is_valid_record_length, is_well_formed, name_at, step_chunks}
-use Rattle.ffs_volume.specs.Directories.Graph.{parent, parent_entry_index}
-use Rattle.ffs_volume.specs.Directories.Parents.{graph_of, nth_roled}
+use Rattle.ffs_volume.specs.Directories.{Graph.parent, Graph.parent_entry_index, Parents.graph_of, Parents.nth_roled}
 use Rattle.ffs_volume.specs.Directories.Paths.{names_down, names_by_parent, name_of}
 use Rattle.ffs_volume.specs.Directories.Roles.{RoledEntry, roled_chunk, roled_from, roled_entries}
 use Rattle.ffs_volume.specs.Directories.Volumes.{volume_of, volume_with, chunk_source_of, kept_steps_of_inode}

@@ -2,17 +2,12 @@
 use Rattle.std.proofs.Common.{◌≡◌, ℕ, ◌+◌, ◌<◌, ◌≤◌, List, [], ◌∷◌, ◌++◌, length, take, ap, sym, ◌∙◌, arith}
 use Rattle.std.proofs.Common.{append_assoc, ◌==◌}
 use Rattle.std.specs.Prelude.{if◌then◌else◌}
-use Rattle.std.proofs.lemmas.Slice.{take-put_mid}
-use Rattle.std.proofs.lemmas.Bool.{ne_eqb}
+use Rattle.std.proofs.lemmas.{Slice.take-put_mid, Bool.ne_eqb}
 use borrow.Rule.Slice.PartMut.{put_mid}
-use Rattle.ffs_volume.specs.Directories.Graph.{Graph}
-use Rattle.ffs_volume.specs.Directories.Paths.{entry_path}
-use Rattle.ffs_paths.specs.Climbing.{in_room}
-use Rattle.ffs_paths.specs.DirectoryPaths.{IsPathOf}
-use Rattle.ffs_paths.specs.EntryPaths.{BeginsWith}
+use Rattle.ffs_volume.specs.Directories.{Graph.Graph, Paths.entry_path}
+use Rattle.ffs_paths.specs.{Climbing.in_room, EntryPaths.BeginsWith, DirectoryPaths.IsPathOf}
 use Rattle.ffs_paths.specs.declared.kept.DirectoryPath.{DirectoryPath}
-use Rattle.ffs_paths.proofs.LongestEnds.{entry-whole}
-use Rattle.ffs_paths.proofs.WaysUp.{entry_is}
+use Rattle.ffs_paths.proofs.{LongestEnds.entry-whole, WaysUp.entry_is}
 
 -- a name is written after it
 pub named : (p : DirectoryPath) (begins k end : ℕ) (bytes name : List ℕ) → length bytes ≡ 1024

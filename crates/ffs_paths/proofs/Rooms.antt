@@ -1,11 +1,8 @@
 -- Paths that have room in 1,024 bytes.
 use Rattle.std.proofs.Common.{◌≡◌, ◌≤◌, ◌<◌, sym, ap, ℕ, List, [], ◌∷◌, length}
 use Rattle.std.specs.Prelude.{if◌then◌else◌}
-use Rattle.ffs_volume.specs.Directories.Graph.{Graph}
-use Rattle.ffs_volume.specs.Directories.Paths.{entry_path}
-use Rattle.ffs_volume.proofs.LawsHold.{paths_fit}
-use Rattle.ffs_paths.specs.Climbing.{in_room}
-use Rattle.ffs_paths.proofs.LongestEnds.{over_is, under_is}
+use Rattle.ffs_volume.{specs.Directories.Graph.Graph, specs.Directories.Paths.entry_path, proofs.LawsHold.paths_fit}
+use Rattle.ffs_paths.{specs.Climbing.in_room, proofs.LongestEnds.over_is, proofs.LongestEnds.under_is}
 
 pub fits : (path : List ℕ) → length path ≤ 1024 → path ≡ in_room path
 fits path h = sym (ap (λ b. if b then 63 ∷ [] else path) (under_is (length path) h))

@@ -4,26 +4,19 @@ use Rattle.std.proofs.Common.{Option, Some, None, refl, sym, ap, subst, ◌∙�
 use Rattle.std.specs.Prelude.{◌*◌, cond, option_and_then}
 use Rattle.std.specs.List.{list_any}
 use Rattle.std.proofs.lemmas.Bool.{both_ways, and_parts, ne_eqb, cond-false, eq-eqb}
-use Rattle.ffs_volume.specs.declared.Layout.{Layout}
-use Rattle.ffs_volume.specs.Directories.Roles.{RoledEntry}
-use Rattle.ffs_volume.specs.Directories.Volumes.{volume_of, volume_with}
+use Rattle.ffs_volume.specs.{declared.Layout.Layout, Directories.Volumes.volume_of, Directories.Volumes.volume_with}
+use Rattle.ffs_volume.specs.Directories.{Roles.RoledEntry, Parents.nth_roled, Parents.graph_of}
 use Rattle.ffs_volume.specs.Directories.Graph.{Graph, level, is_naming_entry, is_naming_dir, parent}
 use Rattle.ffs_volume.specs.Directories.Graph.{parent_entry_index, index_in_parent, first_index}
-use Rattle.ffs_volume.proofs.LevelLaws.{level-some, within-zero}
-use Rattle.ffs_volume.specs.Directories.Parents.{nth_roled, graph_of}
+use Rattle.ffs_volume.proofs.{LevelLaws.level-some, LevelLaws.within-zero, PathBound.path_text-fits}
 use Rattle.ffs_volume.specs.Directories.Paths.{joined, names_down, names_by_parent, name_of, path_names}
 use Rattle.ffs_volume.specs.Directories.Paths.{entry_path, entry_path_of_names, path_bytes}
 use Rattle.ffs_survey.specs.ParentLaws.{parent_above, root_level}
-use Rattle.ffs_paths.specs.declared.buffer.PathBuffer.{PathBuffer}
-use Rattle.ffs_paths.specs.Buffers.{HoldsNames}
-use Rattle.ffs_volume.proofs.PathBound.{path_text-fits}
+use Rattle.ffs_paths.specs.declared.{buffer.PathBuffer.PathBuffer, kept.DirectoryPath.DirectoryPath}
+use Rattle.ffs_paths.specs.{Buffers.HoldsNames, Slashes.AreSingle, Climbing.in_room, Climbing.name_in}
 use Rattle.ffs_workspace.proofs.PlaceLaws.{name_in-cons}
-use Rattle.ffs_paths.specs.Climbing.{in_room, name_in}
 use Rattle.ffs_paths.specs.DirectoryPaths.{HoldsPath, IsPathOf}
-use Rattle.ffs_paths.specs.Slashes.{AreSingle}
-use Rattle.ffs_paths.specs.declared.kept.DirectoryPath.{DirectoryPath}
-use Rattle.ffs_paths.proofs.LongestEnds.{cut-more}
-use Rattle.ffs_paths.proofs.Rooms.{fits}
+use Rattle.ffs_paths.proofs.{LongestEnds.cut-more, Rooms.fits}
 
 -- the first name, by the first entry
 pub name_in-here : (d : ℕ) (e : RoledEntry) (es : List RoledEntry) → is_naming_entry d e ≡ true →

@@ -1,15 +1,10 @@
 -- What reads into the windows leave of a workspace.
 use Rattle.std.proofs.Common.{◌≡◌, ap, refl, rules, ◌∙◌}
 use Rattle.std.specs.Prelude.{vec_len, Result, Ok, Err}
-use Rattle.ffs_image.specs.Device.{Device}
-use Rattle.ffs_image.specs.Reads.{ReadAfter}
-use Rattle.ffs_image.specs.declared.image.ImageFault.{ImageFault}
+use Rattle.ffs_image.specs.{Device.Device, Reads.ReadAfter, declared.image.ImageFault.ImageFault}
 use Rattle.ffs_volume.specs.declared.Layout.{Layout}
-use Rattle.ffs_walk.specs.declared.window.Window.{Window}
-use Rattle.ffs_walk.specs.declared.blocks.Blocks.{Blocks}
-use Rattle.ffs_walk.specs.Windows.{WindowHolds}
-use Rattle.ffs_workspace.specs.declared.workspace.Workspace.{Workspace}
-use Rattle.ffs_workspace.specs.Ready.{IsReady}
+use Rattle.ffs_walk.specs.{declared.window.Window.Window, declared.blocks.Blocks.Blocks, Windows.WindowHolds}
+use Rattle.ffs_workspace.specs.{declared.workspace.Workspace.Workspace, Ready.IsReady}
 use Rattle.ffs_names.specs.Windows.{CanReadChunks}
 use Rattle.ffs_paths.specs.Reads.{OnlyReads}
 

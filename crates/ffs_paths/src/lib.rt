@@ -2,7 +2,7 @@
 //!
 //! `path_of` writes the path of a directory, or of an entry of it, into a buffer of 1,024 bytes:
 //! the definition's path, cut to `?` and its longest end of whole names where it is longer.
-//! `Siblings` makes the paths of one directory after another, and keeps what the next can use.
+//! `KeptParent` makes the paths of one directory after another, and keeps what the next can use.
 //! `EntryPaths` writes those of a directory's entries.
 //! The name of a directory in its parent is read from the chunk that the workspace notes as its
 //! place, and where it isn't there, searched in all entries of the parent. Where the place of each
@@ -16,13 +16,13 @@ mod climb;
 mod entry_name;
 mod entry_paths;
 mod kept;
+mod kept_parent;
 mod name;
 mod path;
 mod search;
-mod siblings;
 
 pub use buffer::{PathBuffer, PathText};
 pub use entry_paths::EntryPaths;
 pub use kept::DirectoryPath;
+pub use kept_parent::KeptParent;
 pub use path::{directory_path, path_of};
-pub use siblings::Siblings;

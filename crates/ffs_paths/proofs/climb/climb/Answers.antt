@@ -1,12 +1,7 @@
 use Rattle.std.proofs.Common.{◌≡◌, ◌<◌, ◌∙◌, ◌∷◌, ap, length, sym, subst, arith, ℕ}
-use Rattle.std.proofs.lemmas.List.{get_or_default}
-use Rattle.std.specs.Prelude.{slice_index}
-use Rattle.std.specs.Option.{unwrap_or}
-use Rattle.ffs_volume.specs.Directories.Graph.{Graph}
-use Rattle.ffs_volume.specs.Directories.Parents.{graph_of}
-use Rattle.ffs_volume.specs.Directories.Volumes.{volume_of}
-use Rattle.ffs_paths.specs.Climbing.{IsNameIn}
-use Rattle.ffs_paths.specs.Buffers.{HoldsNames}
+use Rattle.std.{proofs.lemmas.List.get_or_default, specs.Prelude.slice_index, specs.Option.unwrap_or}
+use Rattle.ffs_volume.specs.Directories.{Graph.Graph, Parents.graph_of, Volumes.volume_of}
+use Rattle.ffs_paths.specs.{Climbing.IsNameIn, Buffers.HoldsNames}
 use Rattle.ffs_paths.proofs.Climbed.{climb_ends, climb_fails, climb_more, noted_here}
 use Rattle.ffs_paths.proofs.Keeping.{reads_then, tree_on}
 use Rattle.ffs_paths.proofs.WaysUp.{HasParent, way_root, way_cut, way_long, way_up, count_is}

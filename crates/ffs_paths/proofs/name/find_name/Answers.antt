@@ -1,9 +1,6 @@
-use Rattle.std.proofs.Common.{Result, Ok, Err}
+use Rattle.std.proofs.{Common.Result, Common.Ok, Common.Err, lemmas.Bool.both_ways, lemmas.Result.on_ok_weaker}
 use Rattle.std.specs.Prelude.{OnOk}
-use Rattle.std.proofs.lemmas.Bool.{both_ways}
-use Rattle.std.proofs.lemmas.Result.{on_ok_weaker}
-use Rattle.ffs_paths.specs.Climbing.{IsNameIn}
-use Rattle.ffs_paths.proofs.Keeping.{reads_then, tree_on}
+use Rattle.ffs_paths.{specs.Climbing.IsNameIn, proofs.Keeping.reads_then, proofs.Keeping.tree_on}
 use Rattle.ffs_paths.proofs.name.find_name.Goals as goal
 
 -- it isn't found in the chunk that is noted

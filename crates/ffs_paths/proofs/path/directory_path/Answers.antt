@@ -1,12 +1,8 @@
 use Rattle.std.proofs.Common.{◌∙◌, ap, sym, subst, false, arith}
-use Rattle.std.proofs.lemmas.List.{get_or_default}
-use Rattle.ffs_volume.specs.Directories.Parents.{graph_of}
-use Rattle.ffs_volume.specs.Directories.Volumes.{volume_of}
-use Rattle.std.specs.Prelude.{option_map}
-use Rattle.ffs_volume.specs.Directories.Paths.{names_down}
+use Rattle.std.{proofs.lemmas.List.get_or_default, specs.Prelude.option_map}
+use Rattle.ffs_volume.specs.Directories.{Parents.graph_of, Paths.names_down, Volumes.volume_of}
 use Rattle.ffs_volume.proofs.LevelLaws.{reached-level}
-use Rattle.ffs_paths.specs.DirectoryPaths.{HoldsPath}
-use Rattle.ffs_paths.proofs.NoSlashes.{down_single}
+use Rattle.ffs_paths.{specs.DirectoryPaths.HoldsPath, proofs.NoSlashes.down_single}
 use Rattle.ffs_paths.proofs.path.directory_path.Goals as goal
 
 pub returns-in_ok-names-clause-path : goal.returns-in_ok-names-clause-path

@@ -1,8 +1,7 @@
 use Rattle.std.proofs.Common.{◌≡◌, [], Ok}
 use Rattle.ffs_image.specs.Device.{ForContents}
 use Rattle.ffs_names.specs.Entering.{to_come, left}
-use Rattle.ffs_paths.specs.Climbing.{name_in}
-use Rattle.ffs_paths.specs.Reads.{OnlyReads}
+use Rattle.ffs_paths.specs.{Climbing.name_in, Reads.OnlyReads}
 use Rattle.ffs_paths.proofs.search.search_name.Given as goal
 
 abbrev pub invariant-entries : goal.invariant-entries

@@ -1,7 +1,6 @@
 use Rattle.std.proofs.Common.{◌≡◌, ◌∙◌, [], drop, false, ap, refl, arith}
 use Rattle.std.proofs.lemmas.List.{drop_all}
-use Rattle.ffs_paths.specs.Buffers.{HoldsNames}
-use Rattle.ffs_paths.specs.declared.buffer.PathBuffer.{PathBuffer}
+use Rattle.ffs_paths.specs.{Buffers.HoldsNames, declared.buffer.PathBuffer.PathBuffer}
 use Rattle.ffs_paths.proofs.LongestEnds.{end-none}
 use Rattle.ffs_paths.proofs.buffer.PathBuffer.new.Goals as goal
 

@@ -1,7 +1,6 @@
 use Rattle.std.proofs.Common.{◌∙◌, ◌++◌, ◌∷◌, ◌+◌, ◌<◌, [], suc, length, drop, ap, sym, arith}
 use Rattle.ffs_volume.specs.Directories.Paths.{joined}
-use Rattle.ffs_paths.specs.Buffers.{HoldsNames}
-use Rattle.ffs_paths.specs.Slashes.{from_slash}
+use Rattle.ffs_paths.specs.{Buffers.HoldsNames, Slashes.from_slash}
 use Rattle.ffs_paths.proofs.LongestEnds.{over_1024, whole-length, joined-last, le_or}
 use Rattle.ffs_paths.proofs.Longer.{room_holds, full_holds, cut_tail, first_single}
 use Rattle.ffs_paths.proofs.buffer.PathBuffer.with_last.Goals as goal

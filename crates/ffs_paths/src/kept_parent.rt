@@ -39,7 +39,7 @@ fn parent_of(workspace: &Workspace, dir: u32) -> Option<u32>
 /// Where one directory after another has the same parent, or is the parent of the next, the way up
 /// to the root isn't climbed again.
 #[derive(Drop)]
-pub struct Siblings {
+pub struct KeptParent {
     /// The directory, or 0 for none.
     pub parent: u32,
     /// Its path.
@@ -50,15 +50,15 @@ pub struct Siblings {
     pub name: NameText,
 }
 
-impl Siblings {
-    ghost use Rattle.ffs_paths.specs.Siblings.{KeepSiblings, ReadyToPath, PathLeaves};
+impl KeptParent {
+    ghost use Rattle.ffs_paths.specs.KeptParents.{KeepsParent, ReadyToPath, PathLeaves};
 
     /// Of no directory.
-    pub fn none(geometry: &Geometry) -> Siblings
+    pub fn none(geometry: &Geometry) -> KeptParent
         ensures { (contents : Option (List ℕ)) (w : WorkspaceIn)
-            → KeepSiblings geometry.now.layout contents w result }
+            → KeepsParent geometry.now.layout contents w result }
     {
-        Siblings {
+        KeptParent {
             parent: 0,
             path: DirectoryPath {
                 reached: false,
