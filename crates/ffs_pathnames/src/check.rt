@@ -181,7 +181,14 @@ pub fn check_directory<I: Image, W: Output>(
     ensures leaves { PhaseLeaves geometry.now.layout (I.device image.old) (I.device image.new)
         workspace.old workspace.new texts.new.kept_parent result }
 {
-    let examined = begin_directory(geometry, image, workspace, &mut texts.kept_parent, report, dir)?;
+    let examined = begin_directory(
+        geometry,
+        image,
+        workspace,
+        &mut texts.kept_parent,
+        report,
+        dir,
+    )?;
     if examined.look.quiet {
         return Ok(());
     }

@@ -88,8 +88,8 @@ fn make_paths<I: Image>(
     texts: &mut EntryTexts,
     dir: u32,
 ) -> Result<(), ImageFault>
-    requires { ReadyToPath geometry.now.layout (I.device image.old) workspace.old texts.old.kept_parent
-        dir }
+    requires { ReadyToPath geometry.now.layout (I.device image.old) workspace.old
+        texts.old.kept_parent dir }
     ensures made { OnOk result (ForBytes (KnowsPath geometry.now.layout
         (I.device image.old).contents workspace.old dir texts.old)
         (λ b. IsPathOf (graph_of (volume_of geometry.now.layout b)) dir
@@ -116,8 +116,8 @@ fn begin_paths<I: Image>(
     texts: &mut EntryTexts,
     dir: u32,
 ) -> Result<(), ImageFault>
-    requires { ReadyToPath geometry.now.layout (I.device image.old) workspace.old texts.old.kept_parent
-        dir }
+    requires { ReadyToPath geometry.now.layout (I.device image.old) workspace.old
+        texts.old.kept_parent dir }
     ensures made { OnOk result (ForBytes (KnowsPath geometry.now.layout
         (I.device image.old).contents workspace.old dir texts.old)
         (λ b. IsPathOf (graph_of (volume_of geometry.now.layout b)) dir
@@ -182,8 +182,8 @@ fn gather_path<I: Image>(
     wanted: bool,
     dir: u32,
 ) -> Result<(), ImageFault>
-    requires { ReadyToPath geometry.now.layout (I.device image.old) workspace.old texts.old.kept_parent
-        dir }
+    requires { ReadyToPath geometry.now.layout (I.device image.old) workspace.old
+        texts.old.kept_parent dir }
     ensures path { OnOk result (ForTree geometry.now.layout (I.device image.old) workspace.old
         (λ g. IsTrue wanted → texts.new.directory.items ≡ dir_path g dir)) }
     ensures same { (texts.new.begun ≡ texts.old.begun) × (texts.new.paths ≡ texts.old.paths) }
@@ -282,8 +282,8 @@ fn gather_extra<I: Image>(
     texts: &mut EntryTexts,
     dir: u32,
 ) -> Result<Attr, ImageFault>
-    requires { ReadyToPath geometry.now.layout (I.device image.old) workspace.old texts.old.kept_parent
-        dir }
+    requires { ReadyToPath geometry.now.layout (I.device image.old) workspace.old
+        texts.old.kept_parent dir }
     ensures attr { IfOk result (λ a. ForContents (I.device image.old).contents
         (λ b. a ≡ attributes (volume_of geometry.now.layout b) dir)) }
     ensures text { OnOk result (ForBytes (KnowsPath geometry.now.layout
@@ -413,7 +413,8 @@ pub fn gather_dir<I: Image>(
     dir: u32,
     path: &mut PathText,
 ) -> Result<Attr, ImageFault>
-    requires { ReadyToPath geometry.now.layout (I.device image.old) workspace.old kept_parent.old dir }
+    requires { ReadyToPath geometry.now.layout (I.device image.old) workspace.old kept_parent.old
+        dir }
     ensures attr { IfOk result (λ a. ForContents (I.device image.old).contents
         (λ b. a ≡ attributes (volume_of geometry.now.layout b) dir)) }
     ensures path { OnOk result ((b : List ℕ)

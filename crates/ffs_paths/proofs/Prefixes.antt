@@ -7,7 +7,7 @@ use borrow.Rule.Slice.PartMut.{put_mid}
 use Rattle.ffs_volume.specs.Directories.{Graph.Graph, Paths.entry_path}
 use Rattle.ffs_paths.specs.{Climbing.in_room, EntryPaths.BeginsWith, DirectoryPaths.IsPathOf}
 use Rattle.ffs_paths.specs.declared.kept.DirectoryPath.{DirectoryPath}
-use Rattle.ffs_paths.proofs.{LongestEnds.entry-whole, WaysUp.entry_is}
+use Rattle.ffs_paths.proofs.{Held.entry-whole, WaysUp.entry_is}
 
 -- a name is written after it
 pub named : (p : DirectoryPath) (begins k end : ℕ) (bytes name : List ℕ) → length bytes ≡ 1024
@@ -21,8 +21,7 @@ named p begins k end bytes name size b is fits g d h =
     take-put_mid begins k bytes name end is (omega arith)
     ∙ (ap (λ xs. xs ++ name) b.first
     ∙ (append_assoc _ (47 ∷ []) name
-    ∙ sym (entry-whole names name p.names.start p.names.bytes (omega arith) p.names.long (held.whole b.whole)
-    (omega arith)))))
+    ∙ sym (entry-whole p.names names name (held.whole b.whole) (omega arith)))))
 
 -- a path that is not empty is in the bytes
 pub in_bytes : (n : ℕ) (text bytes : List ℕ) → 0 < n → (if n == 0 then text else take n bytes) ≡ take n bytes

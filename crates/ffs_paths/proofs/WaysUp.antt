@@ -1,7 +1,7 @@
 -- The way from a directory up to the root.
 use Rattle.std.proofs.Common.{◌≡◌, ◌≢◌, ℕ, zero, suc, ◌+◌, ◌<◌, ◌==◌, true, false, List, [], ◌∷◌, ◌++◌}
 use Rattle.std.proofs.Common.{Option, Some, None, refl, sym, ap, subst, ◌∙◌, arith, append-nil, append_assoc}
-use Rattle.std.specs.Prelude.{◌*◌, cond, option_and_then}
+use Rattle.std.proofs.Common.{◌*◌, cond, option_and_then, length, ltb-true}
 use Rattle.std.specs.List.{list_any}
 use Rattle.std.proofs.lemmas.Bool.{both_ways, and_parts, ne_eqb, cond-false, eq-eqb}
 use Rattle.ffs_volume.specs.{declared.Layout.Layout, Directories.Volumes.volume_of, Directories.Volumes.volume_with}
@@ -16,7 +16,7 @@ use Rattle.ffs_paths.specs.declared.{buffer.PathBuffer.PathBuffer, kept.Director
 use Rattle.ffs_paths.specs.{Buffers.HoldsNames, Slashes.AreSingle, Climbing.in_room, Climbing.name_in}
 use Rattle.ffs_workspace.proofs.PlaceLaws.{name_in-cons}
 use Rattle.ffs_paths.specs.DirectoryPaths.{HoldsPath, IsPathOf}
-use Rattle.ffs_paths.proofs.{LongestEnds.cut-more, Rooms.fits}
+use Rattle.ffs_paths.proofs.{Held.first_cut, Rooms.fits}
 
 -- the first name, by the first entry
 pub name_in-here : (d : ℕ) (e : RoledEntry) (es : List RoledEntry) → is_naming_entry d e ≡ true →
@@ -37,18 +37,18 @@ pub record IsOnWay (g : Graph) (k d at step : ℕ) (p : PathBuffer) : Type 0 whe
   pub whole : names_down g left at ++ following ≡ names_down g k d
 
 -- a path that is cut holds any names above, too
-pub cut_holds : (p : PathBuffer) (above names : List (List ℕ)) → p.cut ≡ true → HoldsNames p names →
+above_cut : (p : PathBuffer) (above names : List (List ℕ)) → p.cut ≡ true → HoldsNames p names →
     HoldsNames p (above ++ names)
-cut_holds p [] names c h = h
-cut_holds p (name ∷ above) names c h =
-    let r = cut_holds p above names c h in
-    let m = cut-more name (above ++ names) (sym r.cut ∙ c) in
-    record { whole = λ e. absurd (cc); short = r.short ∙ ap joined (sym m.1); cut = c ∙ sym m.0 }
+above_cut p [] names c h = h
+above_cut p (name ∷ above) names c h =
+    let r = above_cut p above names c h in
+    let over = ltb-true 1024 (length (joined (above ++ names))) (sym r.cut ∙ c) in
+    first_cut p p name (above ++ names) r c (omega arith) refl
 
 pub way_cut : (g : Graph) (k d at step : ℕ) (p : PathBuffer) → IsOnWay g k d at step p → p.cut ≡ true →
     HoldsNames p (names_down g k d)
 way_cut g k d at step p w c =
-    subst (HoldsNames p) w.whole (cut_holds p (names_down g w.left at) w.following c w.held)
+    subst (HoldsNames p) w.whole (above_cut p (names_down g w.left at) w.following c w.held)
 
 names_root : (g : Graph) (k : ℕ) → level g 2 ≡ Some k → names_down g k 2 ≡ []
 unfolding names_down
