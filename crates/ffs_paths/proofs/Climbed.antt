@@ -5,7 +5,7 @@ use Rattle.std.{specs.Prelude.nat_lt, specs.Prelude.Option, proofs.lemmas.Bool.D
 use Rattle.ffs_volume.specs.Directories.{Graph.level, Paths.joined, Parents.graph_of, Volumes.volume_of}
 use Rattle.ffs_volume.{specs.declared.Layout.Layout, proofs.LevelLaws.reached-level}
 use Rattle.ffs_survey.specs.ParentLaws.{root_level}
-use Rattle.ffs_workspace.specs.{Places.AreNoted, Places.IsNoted, declared.workspace.Workspace.Workspace}
+use Rattle.ffs_workspace.specs.{Places.IsNoted, declared.workspace.Workspace.Workspace}
 use Rattle.ffs_paths.{specs.Buffers.HoldsNames, specs.Climbing.IsParentOf, proofs.LongestEnds.joined-length}
 use Rattle.ffs_paths.specs.{Reads.KnowsPlaces, Reads.ReadsFew, declared.buffer.PathBuffer.PathBuffer}
 
@@ -66,21 +66,18 @@ pub climb_fails : {steps reads reads' reads'' : ℕ} {w w' w'' : Workspace} {p :
 climb_fails c room one = few_more (few_then c.few one) (short_way c room)
 
 -- a place is noted of a directory other than the root that is reached
-pub noted_here : (v : Layout) (b : List ℕ) (w w' : Workspace) (k d : ℕ) → AreNoted v b w.queue.items →
-    w' ≡ record w { windows = w'.windows } → level (graph_of (volume_of v b)) d ≡ Some k → d ≢ 2 →
-    IsNoted v b w'.queue.items d
-noted_here v b w w' k d noted lists there n =
-    subst (λ words. IsNoted v b words d) (sym (ap (λ (x : Workspace). x.queue.items) lists)) (go k there)
-  where
-    go : (j : ℕ) → level (graph_of (volume_of v b)) d ≡ Some j → IsNoted v b w.queue.items d
-    go zero l = absurd (n (root_level (graph_of (volume_of v b)) d l))
-    go (suc j) l = noted d j l
+pub noted_here : {v : Layout} {contents : Option (List ℕ)} {b : List ℕ} {w w' : Workspace} (k d : ℕ) →
+    KnowsPlaces v contents w b → w' ≡ record w { windows = w'.windows } →
+    level (graph_of (volume_of v b)) d ≡ Some k → d ≢ 2 → IsNoted v b w'.queue.items d
+noted_here {v = v} {b = b} zero d knows lists there n = absurd (n (root_level (graph_of (volume_of v b)) d there))
+noted_here {v = v} {b = b} (suc j) d knows lists there n =
+    subst (λ words. IsNoted v b words d) (sym (ap (λ (x : Workspace). x.queue.items) lists)) (knows.places d j there)
 
 -- and so of one for which the survey found a parent
-pub noted_child : (v : Layout) (contents : Option (List ℕ)) (b : List ℕ) (w w' : Workspace) (d s : ℕ) →
+pub noted_child : {v : Layout} {contents : Option (List ℕ)} {b : List ℕ} {w w' : Workspace} {d s : ℕ} →
     KnowsPlaces v contents w b → IsParentOf w d s → w' ≡ record w { windows = w'.windows } →
     IsNoted v b w'.queue.items d
-noted_child v contents b w w' d s knows of lists =
+noted_child {v = v} {b = b} {d = d} knows of lists =
     let below = of.below in
     let l = reached-level (graph_of (volume_of v b)) d (sym (knows.survey.reached d) ∙ of.reached) in
-    noted_here v b w w' l.0 d knows.places lists l.1 (omega arith)
+    noted_here l.0 d knows lists l.1 (omega arith)

@@ -17,26 +17,10 @@ use Rattle.ffs_volume.specs.Directories.Volumes.{volume_of, volume_with, chunk_s
 use Rattle.ffs_paths.specs.Slashes.{AreSingle, has_slash}
 
 -- ---- the name of a well formed entry
-last_false : (a b c p q e : Bool) → (a && b && (c && not (p || q) && e)) ≡ true → q ≡ false
-last_false a b c p q e h = grind arith
-
-held_single : (chunk : List ℕ) (place length : ℕ) → has_valid_type_and_name chunk place length ≡ true →
-    has_slash (name_at chunk place) ≡ false
-held_single chunk place length h = last_false (nat_le (8 + (slice_index chunk (place + 7) + 4) / 4 * 4) length)
-    (nat_le (slice_index chunk (place + 6)) 15) (not (slice_index chunk (place + 7) == 0))
-    (list_any (λ b. b == 0) (name_at chunk place)) (has_slash (name_at chunk place))
-    (slice_index chunk (place + 8 + slice_index chunk (place + 7)) == 0) h
-
 there_single : (order : Order) (chunk : List ℕ) (place : ℕ) → is_well_formed order chunk place ≡ true →
     has_slash (entry_read order chunk place).name ≡ false
 unfolding is_well_formed entry_read
-there_single order chunk place h =
-    go (u32_at order place chunk == 0) (and_parts (is_valid_record_length place (u16_at order (place + 4) chunk)) _ h).1
-  where
-    go : (none : Bool) → (none || has_valid_type_and_name chunk place (u16_at order (place + 4) chunk)) ≡ true →
-        has_slash (if none then [] else name_at chunk place) ≡ false
-    go true e = refl
-    go false e = held_single chunk place (u16_at order (place + 4) chunk) e
+there_single order chunk place h = grind (arith, h)
 
 -- ---- those of the entries of a chunk, of chunks, and of a directory
 abbrev IsSingle : Entry → Type 0

@@ -1,7 +1,7 @@
 -- The way from a directory up to the root.
 use Rattle.std.proofs.Common.{◌≡◌, ◌≢◌, ℕ, zero, suc, ◌+◌, ◌<◌, ◌==◌, true, false, List, [], ◌∷◌, ◌++◌}
 use Rattle.std.proofs.Common.{Option, Some, None, refl, sym, ap, subst, ◌∙◌, arith, append-nil, append_assoc}
-use Rattle.std.proofs.Common.{◌*◌, cond, option_and_then, length, ltb-true}
+use Rattle.std.proofs.Common.{◌*◌, cond, option_and_then, length, ltb-true, unwrap_or}
 use Rattle.std.specs.List.{list_any}
 use Rattle.std.proofs.lemmas.Bool.{both_ways, and_parts, ne_eqb, cond-false, eq-eqb}
 use Rattle.ffs_volume.specs.{declared.Layout.Layout, Directories.Volumes.volume_of, Directories.Volumes.volume_with}
@@ -45,9 +45,9 @@ above_cut p (name ∷ above) names c h =
     let over = ltb-true 1024 (length (joined (above ++ names))) (sym r.cut ∙ c) in
     first_cut p p name (above ++ names) r c (omega arith) refl
 
-pub way_cut : (g : Graph) (k d at step : ℕ) (p : PathBuffer) → IsOnWay g k d at step p → p.cut ≡ true →
+pub way_cut : {g : Graph} {k d at step : ℕ} {p : PathBuffer} → IsOnWay g k d at step p → p.cut ≡ true →
     HoldsNames p (names_down g k d)
-way_cut g k d at step p w c =
+way_cut {g = g} {at = at} {p = p} w c =
     subst (HoldsNames p) w.whole (above_cut p (names_down g w.left at) w.following c w.held)
 
 names_root : (g : Graph) (k : ℕ) → level g 2 ≡ Some k → names_down g k 2 ≡ []
@@ -56,29 +56,29 @@ names_root g zero h = refl
 names_root g (suc k) h = absurd
     (both_ways _ ((level-some g (suc k) 2 h).0.least 0 (omega arith)) (within-zero g 2 ∙ eq-eqb 2 2 refl))
 
-pub way_root : (g : Graph) (k d at step : ℕ) (p : PathBuffer) → IsOnWay g k d at step p → at ≡ 2 →
+pub way_root : {g : Graph} {k d at step : ℕ} {p : PathBuffer} → IsOnWay g k d at step p → at ≡ 2 →
     HoldsNames p (names_down g k d)
-way_root g k d at step p w e =
+way_root {g = g} {p = p} w e =
     let n = names_root g w.left (subst (λ x. level g x ≡ Some w.left) e w.level) in
-    let m : names_down g w.left at ++ w.following ≡ w.following = ap (λ x. names_down g w.left x ++ w.following) e
-    ∙ ap (λ xs. xs ++ w.following) n in
-    subst (HoldsNames p) (sym m ∙ w.whole) w.held
+    subst (HoldsNames p) (sym (ap (λ x. names_down g w.left x ++ w.following) e ∙ ap (λ xs. xs ++ w.following) n)
+    ∙ w.whole) w.held
 
 -- a level is below the number of inodes
-pub way_long : (g : Graph) (k d at step : ℕ) (p : PathBuffer) → IsOnWay g k d at step p → level g d ≡ Some k →
+pub way_long : {g : Graph} {k d at step : ℕ} {p : PathBuffer} → IsOnWay g k d at step p → level g d ≡ Some k →
     step < g.count
-way_long g k d at step p w h = let l = (level-some g k d h).1 in let s = w.steps in omega arith
+way_long {g = g} {k = k} {d = d} w h = let l = (level-some g k d h).1 in let s = w.steps in omega arith
 
--- what is above a directory other than the root
-pub record HasParent (g : Graph) (k d at step : ℕ) (p : PathBuffer) (s : ℕ) : Type 0 where
-  pub is : parent g at ≡ Some s
+-- s is above the directory d of level k, which isn't the root
+pub record HasParent (g : Graph) (k d s : ℕ) : Type 0 where
+  pub is : parent g d ≡ Some s
   pub below : s < g.count
   pub dir : g.is_dir s ≡ true
-  pub on : (q : PathBuffer) →
-      ((following : List (List ℕ)) → HoldsNames p following → HoldsNames q (name_in at (g.entries s) ∷ following)) →
-      IsOnWay g k d s (step + 1) q
+  pub left : ℕ
+  pub step : k ≡ left + 1
+  pub level : level g s ≡ Some left
+  pub down : names_down g k d ≡ names_down g left s ++ name_in d (g.entries s) ∷ []
 
-pub down_is : (g : Graph) (j at s : ℕ) → at ≢ 2 → parent g at ≡ Some s → names_down g (suc j) at ≡ names_down g j s
+down_is : (g : Graph) (j at s : ℕ) → at ≢ 2 → parent g at ≡ Some s → names_down g (suc j) at ≡ names_down g j s
     ++ name_in at (g.entries s) ∷ []
 unfolding names_down
 down_is g j at s n e =
@@ -87,36 +87,38 @@ down_is g j at s n e =
     ap (names_by_parent g (names_down g j) at) e
     ∙ ap (λ o. names_down g j s ++ name_of (option_and_then (nth_roled (g.entries s)) o) ∷ []) place
 
-pub way_up : (g : Graph) (k d at step : ℕ) (p : PathBuffer) → IsOnWay g k d at step p → at ≢ 2 →
-    (s : ℕ) × HasParent g k d at step p s
-way_up g k d at step p w n = go w.left w.level w.steps w.whole
-  where
-    go : (left : ℕ) → level g at ≡ Some left → left + step ≡ k
-        → names_down g left at ++ w.following ≡ names_down g k d → (s : ℕ) × HasParent g k d at step p s
-    go zero l e h = absurd (n (root_level g at l))
-    go (suc j) l e h =
-        let a = parent_above g j at l in
-        let s = a.0 in
-        let linked = and_parts (g.is_dir at) (is_naming_dir g s at) a.1.linked in
-        let dir = and_parts (g.is_dir s) (list_any (is_naming_entry at) (g.entries s)) linked.1 in
-        let name = name_in at (g.entries s) in
-        let down = down_is g j at s n a.1.is in (
-          s,
-          record {
-            is = a.1.is;
-            below = a.1.below;
-            dir = dir.0;
-            on = λ q f. record {
-              left = j;
-              level = a.1.near;
-              steps = omega arith;
-              following = name ∷ w.following;
-              held = f w.following w.held;
-              whole = sym (append_assoc (names_down g j s) (name ∷ []) w.following)
-                  ∙ (sym (ap (λ xs. xs ++ w.following) down) ∙ h);
-            };
-          },
-        )
+pub parent_is : (g : Graph) (k d s : ℕ) → level g d ≡ Some k → d ≢ 2 → s ≡ unwrap_or (parent g d) 0 → HasParent g k d s
+parent_is g zero d s l n e = absurd (n (root_level g d l))
+parent_is g (suc j) d s l n e =
+    let a = parent_above g j d l in
+    let linked = and_parts (g.is_dir d) (is_naming_dir g a.0 d) a.1.linked in
+    subst (HasParent g (suc j) d) (sym (e ∙ ap (λ o. unwrap_or o 0) a.1.is)) (record {
+      is = a.1.is;
+      below = a.1.below;
+      dir = (and_parts (g.is_dir a.0) (list_any (is_naming_entry d) (g.entries a.0)) linked.1).0;
+      left = j;
+      step = omega arith;
+      level = a.1.near;
+      down = down_is g j d a.0 n a.1.is;
+    })
+
+pub way_up : {g : Graph} {k d at step : ℕ} {p : PathBuffer} (s : ℕ) (q : PathBuffer) (w : IsOnWay g k d at step p) →
+    HasParent g w.left at s
+    → ((following : List (List ℕ)) → HoldsNames p following → HoldsNames q (name_in at (g.entries s) ∷ following)) →
+    IsOnWay g k d s (step + 1) q
+way_up {g = g} {at = at} s q w above f =
+    let name = name_in at (g.entries s) in
+    let steps = w.steps in
+    let step = above.step in
+    record {
+      left = above.left;
+      level = above.level;
+      steps = omega arith;
+      following = name ∷ w.following;
+      held = f w.following w.held;
+      whole = sym (append_assoc (names_down g above.left s) (name ∷ []) w.following)
+          ∙ (sym (ap (λ xs. xs ++ w.following) above.down) ∙ w.whole);
+    }
 
 -- the numbers of the graph are those of the inodes
 pub count_is : (v : Layout) (b : List ℕ) → (graph_of (volume_of v b)).count ≡ v.ncg * v.ipg

@@ -6,7 +6,7 @@ use Rattle.ffs_volume.specs.declared.Layout.{Layout}
 use Rattle.ffs_walk.specs.{declared.window.Window.Window, declared.blocks.Blocks.Blocks, Windows.WindowHolds}
 use Rattle.ffs_workspace.specs.{declared.workspace.Workspace.Workspace, Ready.IsReady}
 use Rattle.ffs_names.specs.Windows.{CanReadChunks}
-use Rattle.ffs_paths.specs.Reads.{OnlyReads}
+use Rattle.ffs_paths.{specs.Reads.OnlyReads, proofs.Keeping.reads_then}
 
 -- the image gives what it gave, whether a read failed or not
 same_image : {T : Type 0} (d d' : Device) (result : Result T ImageFault) → ReadAfter d d' result →
@@ -15,10 +15,10 @@ same_image d d' (Ok x) r = (ap (λ q. q.contents) r, ap (λ q. q.size) r)
 same_image d d' (Err e) r = (r.contents, r.size)
 
 -- indirect blocks and a chunk were read
-pub chunk_read : {T : Type 0} (v : Layout) (d d' : Device) (w : Workspace) (blocks : Blocks) (names : Window)
-    (result : Result T ImageFault) → IsReady v d w → CanReadChunks v d' blocks names → ReadAfter d d' result →
+chunk_read : {T : Type 0} {v : Layout} {d d' : Device} {w : Workspace} {blocks : Blocks} {names : Window}
+    {result : Result T ImageFault} → IsReady v d w → CanReadChunks v d' blocks names → ReadAfter d d' result →
     OnlyReads v d d' w (record w { windows = record w.windows { blocks = blocks; names = names } }) result
-chunk_read v d d' w blocks names result ready can read =
+chunk_read {d = d} {d' = d'} {result = result} ready can read =
     let e = same_image d d' result read in
     let m = ready.made in
     record {
@@ -37,14 +37,20 @@ chunk_read v d d' w blocks names result ready can read =
       read = read;
     }
 
+pub chunk_then : {S T : Type 0} {v : Layout} {d d' d'' : Device} {w w' : Workspace} {blocks : Blocks} {names : Window}
+    {x : S} {result : Result T ImageFault} → OnlyReads v d d' w w' (Ok x) → CanReadChunks v d'' blocks names →
+    ReadAfter d' d'' result →
+    OnlyReads v d d'' w (record w' { windows = record w'.windows { blocks = blocks; names = names } }) result
+chunk_then reads can read = reads_then reads (chunk_read reads.ready can read)
+
 -- bytes were read into the window of names
-pub name_read : {T : Type 0} (v : Layout) (d d' : Device) (w : Workspace) (names : Window)
-    (result : Result T ImageFault) → IsReady v d w → vec_len names.buffer ≡ vec_len w.windows.names.buffer
+pub name_read : {T : Type 0} {v : Layout} {d d' : Device} {w : Workspace} {names : Window}
+    {result : Result T ImageFault} → IsReady v d w → vec_len names.buffer ≡ vec_len w.windows.names.buffer
     → WindowHolds d'.contents names → ReadAfter d d' result →
     OnlyReads v d d' w (record w { windows = record w.windows { names = names } }) result
-name_read v d d' w names result ready long holds read =
+name_read {d = d} {d' = d'} {result = result} ready long holds read =
     let e = same_image d d' result read in
-    chunk_read v d d' w w.windows.blocks names result ready (record {
+    chunk_read ready (record {
       walk = record { volume = rw e.1 ready.volume; room = ready.made.blocks; holds = rw e.0 ready.windows.blocks };
       room = long ∙ ready.made.names;
       holds = holds;

@@ -12,7 +12,7 @@ use crate::buffer::{PathBuffer, PathText};
 use crate::entry_name::NameText;
 use crate::kept::DirectoryPath;
 use crate::name::find_name;
-use crate::path::directory_path;
+use crate::path::{directory_path, is_reached};
 use ffs_image::{Image, ImageFault};
 use ffs_layout::Geometry;
 use ffs_volume::constants::ROOTINO;
@@ -24,7 +24,7 @@ fn parent_of(workspace: &Workspace, dir: u32) -> Option<u32>
     requires parents { dir < vec_len workspace.now.parents }
     ensures { IfSome result (λ p. IsParentOf workspace.now dir p) }
 {
-    if dir <= ROOTINO || !workspace.reached[dir as usize] {
+    if dir <= ROOTINO || !is_reached(workspace, dir) {
         return None;
     }
     let parent = workspace.parents[dir as usize];

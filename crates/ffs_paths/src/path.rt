@@ -1,6 +1,7 @@
 //! The path of a directory, or of an entry of it.
 
-ghost use Rattle.std.specs.Prelude.{◌≡◌, option_map, IfOk, OnOk};
+ghost use Rattle.std.specs.Prelude.{◌≡◌, ◌<◌, option_map, vec_len, IfOk, OnOk};
+ghost use Rattle.ffs_workspace.specs.Holds.{bool_at};
 ghost use Rattle.ffs_paths.specs.Climbing.{path_in};
 ghost use Rattle.ffs_paths.specs.DirectoryPaths.{IsPathOf};
 ghost use Rattle.ffs_paths.specs.Reads.{ForTree, IsReadyFor, OnlyReads, ReadsAtMost, climb_reads};
@@ -11,6 +12,14 @@ use crate::kept::DirectoryPath;
 use ffs_image::{Image, ImageFault};
 use ffs_layout::Geometry;
 use ffs_workspace::Workspace;
+
+/// Whether a directory is reached from the root.
+pub fn is_reached(workspace: &Workspace, dir: u32) -> bool
+    requires { dir < vec_len workspace.now.reached }
+    ensures { result ≡ bool_at workspace.now.reached.items dir }
+{
+    workspace.reached[dir as usize]
+}
 
 /// The path of a directory, for all lines on it and on its entries.
 ///
@@ -31,7 +40,7 @@ pub fn directory_path<I: Image>(
         workspace.old workspace.new (I.reads image.old) (I.reads image.new) }
 {
     let mut names = PathBuffer::new();
-    let reached = workspace.reached[dir as usize];
+    let reached = is_reached(workspace, dir);
     if reached {
         names = climb(geometry, image, workspace, dir)?;
     }

@@ -1,80 +1,69 @@
-use Rattle.std.proofs.Common.{◌≡◌, ◌<◌, ◌∙◌, ◌∷◌, ap, length, sym, subst, arith, ℕ}
+use Rattle.std.proofs.Common.{◌≡◌, ◌<◌, ◌∙◌, ◌∷◌, ap, length, sym, subst, arith, rules, ℕ}
 use Rattle.std.{proofs.lemmas.List.get_or_default, specs.Prelude.slice_index, specs.Option.unwrap_or}
 use Rattle.ffs_volume.specs.Directories.{Graph.Graph, Parents.graph_of, Volumes.volume_of}
 use Rattle.ffs_paths.specs.{Climbing.IsNameIn, Buffers.HoldsNames}
 use Rattle.ffs_paths.proofs.Climbed.{climb_ends, climb_fails, climb_more, noted_here}
 use Rattle.ffs_paths.proofs.Keeping.{reads_then, tree_on}
-use Rattle.ffs_paths.proofs.WaysUp.{HasParent, way_root, way_cut, way_long, way_up, count_is}
+use Rattle.ffs_paths.proofs.WaysUp.{parent_is, way_root, way_cut, way_long, way_up, count_is}
 use Rattle.ffs_paths.proofs.climb.climb.Goals as goal
 
 pub returns-then-at-eq-ROOTINO-clause-path : goal.returns-then-at-eq-ROOTINO-clause-path
 returns-then-at-eq-ROOTINO-clause-path g c = λ b t claims survey k l.
-    way_root _ k c.args.dir c.up.at c.up.step c.up.path (c.up.invariant.path b t claims survey k l)
-    c.if-at-eq-ROOTINO.true
+    way_root (c.up.invariant.path b t claims survey k l) c.if-at-eq-ROOTINO.true
 
 pub returns-then-path-clause-path : goal.returns-then-path-clause-path
 returns-then-path-clause-path g c = λ b t claims survey k l.
-    way_cut _ k c.args.dir c.up.at c.up.step c.up.path (c.up.invariant.path b t claims survey k l) c.if-path.true
+    way_cut (c.up.invariant.path b t claims survey k l) c.if-path.true
 
 pub returns-then-parent-count-clause-path : goal.returns-then-parent-count-clause-path
 returns-then-parent-count-clause-path g c = λ b t claims survey k l.
-    let v = c.args.geometry.now.layout in
     let i = c.up.invariant in
+    let way = i.path b t claims survey k l in
     let at = i.at in
     let long = i.reads.ready.made.parents in
-    let u = way_up (graph_of (volume_of v b)) k c.args.dir c.up.at c.up.step c.up.path (i.path b t claims survey k l)
-    c.if-at-eq-ROOTINO.false in
-    let e : c.index-parent.result.now ≡ u.0 = c.index-parent.ensures
-    ∙ (get_or_default c.up.workspace.parents.items c.up.at c.index-parent.result.now 0 (omega arith)
-    ∙ (ap (λ w. slice_index w.parents.items c.up.at) i.reads.lists
-    ∙ (survey.parents c.up.at ∙ ap (λ o. unwrap_or o 0) u.1.is))) in
-    let below = u.1.below in
-    let count = count_is v b in
+    let below = (parent_is _ way.left c.up.at c.index-parent.result.now way.level c.if-at-eq-ROOTINO.false
+    (c.index-parent.ensures ∙ (get_or_default c.up.workspace.parents.items c.up.at c.index-parent.result.now 0 (omega arith)
+    ∙ (ap (λ w. slice_index w.parents.items c.up.at) i.reads.lists ∙ survey.parents c.up.at)))).below in
+    let count = count_is c.args.geometry.now.layout b in
     let over = c.if-parent-count.true in
     let notes = c.requires.ready.made.notes in
     absurd (omega arith)
 
 pub returns-clause-path : goal.returns-clause-path
 returns-clause-path g c = λ b t claims survey k l.
-    let v = c.args.geometry.now.layout in
-    let below = way_long (graph_of (volume_of v b)) k c.args.dir c.up.at c.up.step c.up.path
-    (c.up.invariant.path b t claims survey k l) l in
-    let count = count_is v b in
+    let below = way_long (c.up.invariant.path b t claims survey k l) l in
+    let count = count_is c.args.geometry.now.layout b in
     let over = c.up-test.false in
     let notes = c.requires.ready.made.notes in
     absurd (omega arith)
 
 pub up-preserved : goal.up-preserved
 up-preserved g c =
-    let v = c.args.geometry.now.layout in
     let i = c.up.invariant in
     let found = c.in_ok-find_name.ensures in
-    let parents = i.reads.ready.made.parents in
     let notes = c.requires.ready.made.notes in
     let below = c.if-parent-count.false in
     let p : ℕ = c.index-parent.result.now in
+    let at = i.at in
+    let long = i.reads.ready.made.parents in
+    let is : p ≡ slice_index c.up.workspace.parents.items c.up.at =
+    c.index-parent.ensures ∙ get_or_default c.up.workspace.parents.items c.up.at p 0 (omega arith) in
     record {
       at = omega arith;
       reads = reads_then i.reads found.reads;
       path = λ b t claims survey k l.
-          let G : Graph = graph_of (volume_of v b) in
-          let u = way_up G k c.args.dir c.up.at c.up.step c.up.path (i.path b t claims survey k l)
-          c.if-at-eq-ROOTINO.false in
-          let e : p ≡ u.0 = c.index-parent.ensures
-          ∙ (get_or_default c.up.workspace.parents.items c.up.at p 0 (omega arith)
-          ∙ (ap (λ w. slice_index w.parents.items c.up.at) i.reads.lists
-          ∙ (survey.parents c.up.at ∙ ap (λ o. unwrap_or o 0) u.1.is))) in
-          let up = subst (λ s. HasParent G k c.args.dir c.up.at c.up.step c.up.path s) (sym e) u.1 in
+          let G : Graph = graph_of (volume_of c.args.geometry.now.layout b) in
+          let way = i.path b t claims survey k l in
+          let above = parent_is G way.left c.up.at p way.level c.if-at-eq-ROOTINO.false
+          (is ∙ (ap (λ w. slice_index w.parents.items c.up.at) i.reads.lists ∙ survey.parents c.up.at)) in
           let name = c.as_slice.ensures.value ∙ tree_on (λ g. IsNameIn g c.up.at p c.find_name.new.name.items) i.reads
-          found.name b t claims survey up.is up.dir in
-          up.on c.push_front.new.self
-          (λ following held. subst (λ n. HoldsNames c.push_front.new.self (n ∷ following)) name
-          (c.push_front.ensures following held));
+          found.name b t claims survey above.is above.dir in
+          way_up p c.push_front.new.self way above (λ following held.
+          subst (λ n. HoldsNames c.push_front.new.self (n ∷ following)) name (c.push_front.ensures following held));
       counted = λ b k knows l.
           let t = ap (λ d. d.contents) i.reads.read ∙ knows.gives_bytes in
           let way = i.path b knows.gives_bytes knows.claims knows.survey k l in
-          let noted = noted_here v b c.args.workspace.now c.up.workspace way.left c.up.at knows.places i.reads.lists
-          way.level c.if-at-eq-ROOTINO.false in
+          let noted = noted_here way.left c.up.at knows i.reads.lists way.level c.if-at-eq-ROOTINO.false in
           climb_more c.as_slice.result.now (i.counted b k knows l) c.if-path.false (found.counted b t noted)
           (subst (λ name. 0 < length name) (sym c.as_slice.ensures.value) (found.some b t noted)) c.push_front.ensures;
     }
@@ -86,8 +75,7 @@ returns-in_err-find_name-clause-counted g c = λ b k knows l.
     let way = i.path b knows.gives_bytes knows.claims knows.survey k l in
     climb_fails (i.counted b k knows l) c.if-path.false
     (c.in_err-find_name.ensures.counted b (ap (λ d. d.contents) i.reads.read ∙ knows.gives_bytes)
-    (noted_here c.args.geometry.now.layout b c.args.workspace.now c.up.workspace way.left c.up.at knows.places
-    i.reads.lists way.level c.if-at-eq-ROOTINO.false))
+    (noted_here way.left c.up.at knows i.reads.lists way.level c.if-at-eq-ROOTINO.false))
 
 pub returns-clause-counted : goal.returns-clause-counted
 returns-clause-counted g c = λ b k knows l. climb_ends (c.up.invariant.counted b k knows l)

@@ -23,4 +23,4 @@ returns-clause-name g c = λ found b t claims survey parent is dir.
 pub returns-clause-reads : goal.returns-clause-reads
 returns-clause-reads g c =
     let read = c.in_ok-fill.ensures.fills in
-    name_read _ _ _ c.args.workspace.now c.fill.new.self _ c.requires.ready read.room read.holds read.read
+    name_read c.requires.ready read.room read.holds read.read

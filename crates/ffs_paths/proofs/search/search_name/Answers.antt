@@ -1,4 +1,4 @@
-use Rattle.std.proofs.Common.{◌≡◌, ◌<◌, ◌∙◌, ℕ, true, List, ap, sym, subst, slice_index}
+use Rattle.std.proofs.Common.{◌≡◌, ◌<◌, ◌∙◌, ℕ, true, List, ap, sym, subst, slice_index, rules}
 use Rattle.std.proofs.lemmas.Result.{err_from_is_err_and}
 use Rattle.ffs_names.specs.Entering.{to_come, last_name}
 use Rattle.ffs_names.specs.{Shapes.BeginsDirectory, declared.entries.Entries.Entries}
@@ -10,7 +10,7 @@ use Rattle.ffs_volume.specs.Directories.{Roles.is_dir, Roles.roled_entries, Volu
 use Rattle.ffs_workspace.specs.{Holds.HoldsClaims, Notes.cut_in, declared.workspace.Workspace.Workspace}
 use Rattle.ffs_workspace.proofs.NoteLaws.{cut_is_noted}
 use Rattle.ffs_paths.specs.Climbing.{name_in}
-use Rattle.ffs_paths.proofs.{Keeping.reads_then, Windows.chunk_read, WaysUp.name_in-here, WaysUp.name_in-past}
+use Rattle.ffs_paths.proofs.{Windows.chunk_then, WaysUp.name_in-here, WaysUp.name_in-past}
 use Rattle.ffs_paths.proofs.search.search_name.Goals as goal
 
 -- all entries of the parent are still to come
@@ -23,62 +23,62 @@ begun v b w p i cut r sound claims dir inode noted begins =
     sym (begins.entries b (subst (λ (n : Inode). n.size < 2147483648) (sym inode) (dir_size v (inode_of v b p) is.1))
     ∙ dir_seen v b p i cut sound is.0 inode (noted ∙ (ap cut_in (claims.notes p) ∙ cut_is_noted v b p sound)))
 
+pub entries-init : goal.entries-init
+entries-init g c = record {
+  name = λ b t claims dir. ap (name_in c.args.dir) (begun _ b c.args.workspace.now c.args.parent _ _ _
+      c.args.geometry.now.sound claims dir (c.in_ok-inode.ensures.reads.inode b t) c.cut_of-cut.ensures
+      c.start-entries.ensures.begins);
+  none = search rules;
+  geometry = search rules;
+  reads = search rules;
+}
+
 pub returns-then-names-clause-name : goal.returns-then-names-clause-name
 returns-then-names-clause-name g c = λ b t claims survey is dir.
     let i = c.entries.invariant in
-    let x = c.args.dir in
     let o = rw c.in-Some.is at c.in_ok-entry.ensures.entry in
-    c.set_name.ensures ∙ (c.name.ensures ∙ sym (ap (name_in x) (begun _ b c.args.workspace.now c.args.parent _ _ _
-    c.args.geometry.now.sound claims dir (c.in_ok-inode.ensures.reads.inode b t) c.cut_of-cut.ensures
-    c.start-entries.ensures.begins)
-    ∙ (i.name b t ∙ (ap (name_in x) (o b (ap (λ d. d.contents) i.reads.read ∙ t)).entries
-    ∙ name_in-here x (roled_of c.in-Some.entry (last_name c.next.new.self)) (to_come b c.next.new.self)
-    (sym c.names.ensures ∙ c.if-names.true)))))
+    c.set_name.ensures ∙ (c.name.ensures ∙ sym (i.name b t claims dir
+    ∙ (ap (name_in c.args.dir) (o b (ap (λ d. d.contents) i.reads.read ∙ t)).entries
+    ∙ name_in-here c.args.dir (roled_of c.in-Some.entry (last_name c.next.new.self)) (to_come b c.next.new.self)
+    (sym c.names.ensures ∙ c.if-names.true))))
 
 -- no entry is left
 pub returns-clause-name : goal.returns-clause-name
 returns-clause-name g c = λ b t claims survey is dir.
     let i = c.entries.invariant in
-    let x = c.args.dir in
     let o = rw c.in_default.is at c.in_ok-entry.ensures.entry in
-    i.none ∙ sym (ap (name_in x) (begun _ b c.args.workspace.now c.args.parent _ _ _
-    c.args.geometry.now.sound claims dir (c.in_ok-inode.ensures.reads.inode b t) c.cut_of-cut.ensures
-    c.start-entries.ensures.begins)
-    ∙ (i.name b t ∙ ap (name_in x) (o b (ap (λ d. d.contents) i.reads.read ∙ t)).entries))
+    i.none ∙ sym (i.name b t claims dir
+    ∙ ap (name_in c.args.dir) (o b (ap (λ d. d.contents) i.reads.read ∙ t)).entries)
 
 pub entries-preserved : goal.entries-preserved
 entries-preserved g c =
     let i = c.entries.invariant in
     let next = c.in_ok-entry.ensures in
+    let o = rw c.in-Some.is at next.entry in
     record {
-      name = λ b t.
-          let o = rw c.in-Some.is at next.entry in
-          i.name b t ∙ (ap (name_in c.args.dir) (o b (ap (λ d. d.contents) i.reads.read ∙ t)).entries
-          ∙ name_in-past c.args.dir (roled_of c.in-Some.entry (last_name c.next.new.self))
-          (to_come b c.next.new.self) (sym c.names.ensures ∙ c.if-names.false));
+      name = λ b t claims dir. i.name b t claims dir
+          ∙ (ap (name_in c.args.dir) (o b (ap (λ d. d.contents) i.reads.read ∙ t)).entries
+          ∙ name_in-past c.args.dir (roled_of c.in-Some.entry (last_name c.next.new.self)) (to_come b c.next.new.self)
+          (sym c.names.ensures ∙ c.if-names.false));
       none = i.none;
       geometry = next.leaves.geometry ∙ i.geometry;
-      reads = reads_then i.reads (chunk_read _ _ _ c.entries.workspace _ _ _ i.reads.ready
-          (rw i.geometry at next.leaves.ready) next.leaves.read);
+      reads = chunk_then i.reads (rw i.geometry at next.leaves.ready) next.leaves.read;
     }
 
 pub returns-then-names-clause-reads : goal.returns-then-names-clause-reads
 returns-then-names-clause-reads g c =
     let i = c.entries.invariant in
-    let next = c.in_ok-entry.ensures.leaves in
-    reads_then i.reads (chunk_read _ _ _ c.entries.workspace _ _ _ i.reads.ready (rw i.geometry at next.ready) next.read)
+    chunk_then i.reads (rw i.geometry at c.in_ok-entry.ensures.leaves.ready) c.in_ok-entry.ensures.leaves.read
 
 pub returns-clause-reads : goal.returns-clause-reads
 returns-clause-reads g c =
     let i = c.entries.invariant in
-    let next = c.in_ok-entry.ensures.leaves in
-    reads_then i.reads (chunk_read _ _ _ c.entries.workspace _ _ _ i.reads.ready (rw i.geometry at next.ready) next.read)
+    chunk_then i.reads (rw i.geometry at c.in_ok-entry.ensures.leaves.ready) c.in_ok-entry.ensures.leaves.read
 
 -- a read failed
 pub returns-in_err-entry-clause-reads : goal.returns-in_err-entry-clause-reads
 returns-in_err-entry-clause-reads g c =
     let i = c.entries.invariant in
-    let next = c.in_err-entry.ensures.leaves in
     let p = err_from_is_err_and c.from_residual-in_err-entry.result c.from_residual-in_err-entry.ensures.1 in
-    rw (p.1, p.2) (reads_then i.reads (chunk_read _ _ _ c.entries.workspace _ _ _ i.reads.ready
-    (rw i.geometry at next.ready) next.read))
+    rw (p.1, p.2)
+    (chunk_then i.reads (rw i.geometry at c.in_err-entry.ensures.leaves.ready) c.in_err-entry.ensures.leaves.read)

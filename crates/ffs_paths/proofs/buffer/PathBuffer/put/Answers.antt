@@ -1,4 +1,4 @@
-use Rattle.std.proofs.Common.{◌∷◌, ◌∙◌, ap, sym, length, ltb-true, arith}
+use Rattle.std.proofs.Common.{◌∙◌, sym, length, ltb-true, arith}
 use Rattle.ffs_volume.specs.Directories.Paths.{joined}
 use Rattle.ffs_paths.proofs.LongestEnds.{text_cut, text_none, text_some, text_whole}
 use Rattle.ffs_paths.proofs.Held.{whole-length}

@@ -35,7 +35,7 @@ returns g c =
       leaves = leaves_kept s (reads_then reads c.in_ok-find_name.ensures.reads) kept_parent;
       counted = λ b knows. few_then (kept.counted b knows)
           (c.in_ok-find_name.ensures.counted b (ap (λ d. d.contents) reads.read ∙ knows.gives_bytes)
-          (noted_child v _ b w c.keep_path_of.new.workspace c.args.dir first.parent knows of reads.lists));
+          (noted_child knows of reads.lists));
     }
 
 -- a read of the child's name failed
@@ -46,5 +46,4 @@ returns-in_err-find_name-clause-counted g c = λ b knows.
     let of : IsParentOf c.args.workspace.now c.args.dir c.in-Some.parent = rw c.in-Some.is at c.parent_of.ensures in
     few_then (kept.counted b knows)
     (c.in_err-find_name.ensures.counted b (ap (λ d. d.contents) reads.read ∙ knows.gives_bytes)
-    (noted_child c.args.geometry.now.layout _ b c.args.workspace.now c.keep_path_of.new.workspace c.args.dir
-    c.in-Some.parent knows of reads.lists))
+    (noted_child knows of reads.lists))
