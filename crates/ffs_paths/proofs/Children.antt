@@ -1,16 +1,15 @@
 -- The names down to a directory are those down to its parent, and that of its parent entry.
-use Rattle.std.proofs.Common.{◌≡◌, ◌≢◌, ℕ, zero, suc, ◌<◌, true, List, [], ◌∷◌, ◌++◌, Some, sym, ap, subst, ◌∙◌, arith}
-use Rattle.std.{specs.Prelude.option_map, specs.Option.unwrap_or, specs.List.list_any, proofs.lemmas.Bool.and_parts}
-use Rattle.ffs_volume.specs.Directories.Graph.{Graph, level, reached, is_naming_entry, is_naming_dir, parent}
+use Rattle.std.proofs.Common.{ℕ, ◌<◌, List, [], ◌∷◌, ◌++◌, Some, sym, ap, subst, ◌∙◌, arith}
+use Rattle.std.{specs.Prelude.option_map}
+use Rattle.ffs_volume.specs.Directories.Graph.{Graph}
 use Rattle.ffs_volume.specs.{Directories.Paths.names_down, Directories.Parents.graph_of, declared.Layout.Layout}
-use Rattle.ffs_volume.specs.Directories.{Roles.is_dir, Roles.roled_entries, Volumes.volume_of}
+use Rattle.ffs_volume.specs.Directories.{Volumes.volume_of}
 use Rattle.ffs_volume.proofs.LevelLaws.{reached-level}
-use Rattle.ffs_survey.specs.ParentLaws.{parent_above, root_level}
 use Rattle.ffs_workspace.specs.{Holds.HoldsSurvey, declared.workspace.Workspace.Workspace}
-use Rattle.ffs_paths.specs.Climbing.{name_in, IsNameIn, IsParentOf}
+use Rattle.ffs_paths.specs.Climbing.{IsNameIn, IsParentOf}
 use Rattle.ffs_paths.specs.DirectoryPaths.{HoldsPath, IsPathOf}
 use Rattle.ffs_paths.specs.{KeptParents.IsKeptParent, KeptParents.LeadsTo, Slashes.AreSingle}
-use Rattle.ffs_paths.specs.declared.{kept.DirectoryPath.DirectoryPath, kept_parent.KeptParent.KeptParent}
+use Rattle.ffs_paths.specs.declared.{path.DirectoryPath.DirectoryPath, kept_parent.KeptParent.KeptParent}
 use Rattle.ffs_paths.proofs.{NoSlashes.down_single, WaysUp.parent_is}
 
 -- a path is kept, and the name of a child by its parent

@@ -1,11 +1,11 @@
 -- The name of an inode in a chunk, by its entries one after another.
-use Rattle.std.proofs.Common.{◌≡◌, ℕ, suc, ◌+◌, ◌*◌, ◌<◌, ◌≤◌, ◌==◌, ◌&&◌, ◌||◌, Bool, true, false, not, if◌then◌else◌}
-use Rattle.std.proofs.Common.{List, [], ◌∷◌, length, drop, Some, None, refl, sym, ap, subst, ◌∙◌, arith}
-use Rattle.std.proofs.Common.{length-drop, length-take, ◌/◌, ◌%◌, nat_le, slice_index}
+use Rattle.std.proofs.Common.{◌≡◌, ℕ, suc, ◌+◌, ◌<◌, ◌==◌, ◌&&◌, ◌||◌, Bool, true, false, not, if◌then◌else◌}
+use Rattle.std.proofs.Common.{List, [], ◌∷◌, length, drop, Some, None, sym, ap, subst, ◌∙◌, arith}
+use Rattle.std.proofs.Common.{length-drop, length-take, slice_index}
 use Rattle.std.{specs.List.list_any, proofs.lemmas.Bool.and_parts, proofs.lemmas.Bool.not-true}
 use Rattle.std.proofs.lemmas.{Bool.Decides.nat_tests, Option.cond_some}
 use Rattle.ffs_volume.specs.declared.{Order.Order, Role.Role}
-use Rattle.ffs_volume.specs.Disk.Numbers.{u16_at, u32_at}
+use Rattle.ffs_volume.specs.Disk.Numbers.{u32_at}
 use Rattle.ffs_volume.specs.Directories.Entries.{Entry, entry_at, entries_from, entry_read, is_live, is_well_formed, name_at}
 use Rattle.ffs_volume.specs.Directories.{Graph.is_naming_entry, Roles.is_plain, Roles.role_of, Roles.roled_from}
 use Rattle.ffs_volume.proofs.Reading.{entries_end, entries_next}

@@ -1,15 +1,14 @@
 -- No name of a volume's entries has a `/`.
-use Rattle.std.proofs.Common.{◌≡◌, ℕ, zero, suc, ◌+◌, ◌*◌, ◌==◌, Bool, true, false, not, ◌&&◌, ◌||◌, if◌then◌else◌}
+use Rattle.std.proofs.Common.{◌≡◌, ℕ, zero, suc, ◌+◌, ◌*◌, ◌==◌, Bool, true, false, if◌then◌else◌}
 use Rattle.std.proofs.Common.{List, [], ◌∷◌, ◌++◌, map, Option, Some, None, refl, arith}
-use Rattle.std.specs.Prelude.{option_and_then, slice_index, ◌/◌, ◌-◌, min, nat_le}
-use Rattle.std.proofs.lemmas.Bool.{and_parts}
-use Rattle.std.specs.List.{AllByRecursion, flat_map, list_any, range_with_len}
+use Rattle.std.specs.Prelude.{option_and_then, ◌/◌, ◌-◌, min}
+use Rattle.std.specs.List.{AllByRecursion, flat_map, range_with_len}
 use Rattle.ffs_volume.specs.declared.{Layout.Layout, Order.Order}
 use Rattle.ffs_volume.specs.declared.Step.{Step, TheVariants.Run, TheVariants.Tail, TheVariants.Gap}
-use Rattle.ffs_volume.specs.Disk.{Areas.is_run_in_range, Numbers.u16_at, Numbers.u32_at, Numbers.piece}
+use Rattle.ffs_volume.specs.Disk.{Areas.is_run_in_range, Numbers.piece}
 use Rattle.ffs_volume.specs.Directories.Entries.{Chunk, ChunkSource, Entry, chunk_of, chunks_of, entries_from}
-use Rattle.ffs_volume.specs.Directories.Entries.{entries_with, entry_at, entry_read, has_valid_type_and_name}
-use Rattle.ffs_volume.specs.Directories.Entries.{is_valid_record_length, is_well_formed, name_at, step_chunks}
+use Rattle.ffs_volume.specs.Directories.Entries.{entries_with, entry_at, entry_read}
+use Rattle.ffs_volume.specs.Directories.Entries.{is_well_formed, step_chunks}
 use Rattle.ffs_volume.specs.Directories.{Graph.parent, Graph.parent_entry_index, Parents.graph_of, Parents.nth_roled}
 use Rattle.ffs_volume.specs.Directories.Paths.{names_down, names_by_parent, name_of}
 use Rattle.ffs_volume.specs.Directories.Roles.{RoledEntry, roled_chunk, roled_from, roled_entries}

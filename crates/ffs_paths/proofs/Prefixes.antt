@@ -6,7 +6,7 @@ use Rattle.std.proofs.lemmas.{Slice.take-put_mid, Bool.ne_eqb}
 use borrow.Rule.Slice.PartMut.{put_mid}
 use Rattle.ffs_volume.specs.Directories.{Graph.Graph, Paths.entry_path}
 use Rattle.ffs_paths.specs.{Climbing.in_room, EntryPaths.BeginsWith, DirectoryPaths.IsPathOf}
-use Rattle.ffs_paths.specs.declared.kept.DirectoryPath.{DirectoryPath}
+use Rattle.ffs_paths.specs.declared.path.DirectoryPath.{DirectoryPath}
 use Rattle.ffs_paths.proofs.{Held.entry-whole, WaysUp.entry_is}
 
 -- a name is written after it

@@ -1,6 +1,6 @@
 -- The way from a directory up to the root.
 use Rattle.std.proofs.Common.{◌≡◌, ◌≢◌, ℕ, zero, suc, ◌+◌, ◌<◌, ◌==◌, true, false, List, [], ◌∷◌, ◌++◌}
-use Rattle.std.proofs.Common.{Option, Some, None, refl, sym, ap, subst, ◌∙◌, arith, append-nil, append_assoc}
+use Rattle.std.proofs.Common.{Option, Some, None, refl, sym, ap, subst, ◌∙◌, arith, append_assoc}
 use Rattle.std.proofs.Common.{◌*◌, cond, option_and_then, length, ltb-true, unwrap_or}
 use Rattle.std.specs.List.{list_any}
 use Rattle.std.proofs.lemmas.Bool.{both_ways, and_parts, ne_eqb, cond-false, eq-eqb}
@@ -12,7 +12,7 @@ use Rattle.ffs_volume.proofs.{LevelLaws.level-some, LevelLaws.within-zero, PathB
 use Rattle.ffs_volume.specs.Directories.Paths.{joined, names_down, names_by_parent, name_of, path_names}
 use Rattle.ffs_volume.specs.Directories.Paths.{entry_path, entry_path_of_names, path_bytes}
 use Rattle.ffs_survey.specs.ParentLaws.{parent_above, root_level}
-use Rattle.ffs_paths.specs.declared.{buffer.PathBuffer.PathBuffer, kept.DirectoryPath.DirectoryPath}
+use Rattle.ffs_paths.specs.declared.{buffer.PathBuffer.PathBuffer, path.DirectoryPath.DirectoryPath}
 use Rattle.ffs_paths.specs.{Buffers.HoldsNames, Slashes.AreSingle, Climbing.in_room, Climbing.name_in}
 use Rattle.ffs_workspace.proofs.PlaceLaws.{name_in-cons}
 use Rattle.ffs_paths.specs.DirectoryPaths.{HoldsPath, IsPathOf}

@@ -1,7 +1,8 @@
 //! A path that is put together from its end.
 
 ghost use Rattle.std.specs.Prelude.{◌≡◌, ◌+◌, ◌-◌, ◌<◌, ◌≤◌, ℕ, not, ◌&&◌, nat_lt, List, [], ◌∷◌, ◌++◌, length, drop, Some};
-ghost use Rattle.ffs_paths.specs.Slashes.{from_slash, PutsBefore};
+ghost use Rattle.ffs_volume.specs.Directories.Paths.{dir_path_of_names, path_bytes};
+ghost use Rattle.ffs_paths.specs.Slashes.{AreSingle, PutsBefore, from_slash};
 
 use arrayvec::ArrayVec;
 use ffs_volume::constants::MAXPATHLEN;
@@ -80,9 +81,7 @@ fn put_from(bytes: &[u8; MAXPATHLEN], start: usize, name: &[u8], text: &mut Path
 }
 
 impl PathBuffer {
-    ghost use Rattle.ffs_volume.specs.Directories.Paths.{dir_path_of_names, path_bytes};
     ghost use Rattle.ffs_paths.specs.Buffers.{HoldsNames, IsLonger};
-    ghost use Rattle.ffs_paths.specs.Slashes.{AreSingle};
 
     /// No names.
     pub fn new() -> PathBuffer

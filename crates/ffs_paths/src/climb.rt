@@ -1,16 +1,12 @@
 //! The way from a directory up to the root.
 
 ghost use Rattle.std.specs.Prelude.{◌≡◌, ℕ, List, Some, IfOk};
-ghost use Rattle.ffs_volume.specs.Directories.Graph.{level};
-ghost use Rattle.ffs_volume.specs.Directories.Parents.{graph_of};
-ghost use Rattle.ffs_volume.specs.Directories.Paths.{names_down};
-ghost use Rattle.ffs_volume.specs.Directories.Volumes.{volume_of};
+ghost use Rattle.ffs_volume.specs.Directories.{Graph.level, Parents.graph_of, Paths.names_down, Volumes.volume_of};
 ghost use Rattle.ffs_paths.specs.Buffers.{HoldsNames};
 ghost use Rattle.ffs_paths.specs.Reads.{ForTree, IsReadyFor, KnowsPlaces, OnlyReads, ReadsFew, climb_reads};
 
 use crate::buffer::PathBuffer;
-use crate::entry_name::NameText;
-use crate::name::find_name;
+use crate::name::{NameText, find_name};
 use ffs_image::{Image, ImageFault};
 use ffs_layout::Geometry;
 use ffs_volume::constants::ROOTINO;

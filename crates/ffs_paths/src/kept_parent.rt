@@ -1,18 +1,15 @@
 //! The paths of directories, where one after another has the same parent.
 
 ghost use Rattle.std.specs.Prelude.{◌≡◌, ◌<◌, true, ℕ, List, Option, IfOk, OnOk, IfSome, vec_len};
-ghost use Rattle.ffs_volume.specs.Directories.Paths.{dir_path};
+ghost use Rattle.ffs_volume.specs.{Directories.Paths.dir_path, Report.Reads.path_reads};
 ghost use Rattle.ffs_workspace.specs.declared.workspace.Workspace.{Workspace as WorkspaceIn};
-ghost use Rattle.ffs_paths.specs.Climbing.{IsParentOf};
-ghost use Rattle.ffs_paths.specs.DirectoryPaths.{IsPathOf};
+ghost use Rattle.ffs_paths.specs.{Climbing.IsParentOf, DirectoryPaths.IsPathOf};
+ghost use Rattle.ffs_paths.specs.KeptParents.{KeepsParent, ReadyToPath, PathLeaves};
 ghost use Rattle.ffs_paths.specs.Reads.{ForTree, ReadsAtMost, climb_reads};
-ghost use Rattle.ffs_volume.specs.Report.Reads.{path_reads};
 
 use crate::buffer::{PathBuffer, PathText};
-use crate::entry_name::NameText;
-use crate::kept::DirectoryPath;
-use crate::name::find_name;
-use crate::path::{directory_path, is_reached};
+use crate::name::{NameText, find_name};
+use crate::path::{DirectoryPath, directory_path, is_reached};
 use ffs_image::{Image, ImageFault};
 use ffs_layout::Geometry;
 use ffs_volume::constants::ROOTINO;
@@ -51,8 +48,6 @@ pub struct KeptParent {
 }
 
 impl KeptParent {
-    ghost use Rattle.ffs_paths.specs.KeptParents.{KeepsParent, ReadyToPath, PathLeaves};
-
     /// Of no directory.
     pub fn none(geometry: &Geometry) -> KeptParent
         ensures { (contents : Option (List ℕ)) (w : WorkspaceIn)

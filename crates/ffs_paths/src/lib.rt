@@ -13,16 +13,12 @@
 
 mod buffer;
 mod climb;
-mod entry_name;
 mod entry_paths;
-mod kept;
 mod kept_parent;
 mod name;
 mod path;
-mod search;
 
 pub use buffer::{PathBuffer, PathText};
 pub use entry_paths::EntryPaths;
-pub use kept::DirectoryPath;
 pub use kept_parent::KeptParent;
-pub use path::{directory_path, path_of};
+pub use path::{DirectoryPath, directory_path, path_of};

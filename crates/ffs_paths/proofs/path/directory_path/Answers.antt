@@ -1,8 +1,7 @@
-use Rattle.std.proofs.Common.{◌≡◌, ◌∙◌, true, ap, sym, subst, rules}
-use Rattle.std.{proofs.lemmas.List.get_or_default, specs.Prelude.option_map}
+use Rattle.std.proofs.Common.{◌∙◌, ap, sym, subst}
+use Rattle.std.{specs.Prelude.option_map}
 use Rattle.ffs_volume.specs.Directories.{Parents.graph_of, Paths.names_down, Volumes.volume_of}
 use Rattle.ffs_volume.proofs.LevelLaws.{reached-level}
-use Rattle.ffs_workspace.specs.Holds.{bool_at}
 use Rattle.ffs_paths.{specs.DirectoryPaths.HoldsPath, proofs.NoSlashes.down_single}
 use Rattle.ffs_paths.proofs.path.directory_path.Goals as goal
 
@@ -10,8 +9,11 @@ pub returns-in_ok-names-clause-path : goal.returns-in_ok-names-clause-path
 returns-in_ok-names-clause-path g c = λ b t claims survey.
     let G = graph_of (volume_of c.args.geometry.now.layout b) in
     let k = reached-level G c.args.dir (sym (c.is_reached-reached.ensures ∙ survey.reached c.args.dir) ∙ c.if-reached.true) in
-    subst (HoldsPath _) (sym (ap (option_map (λ n. names_down G n c.args.dir)) k.1)) (c.if-reached.true,
-    c.in_ok-names.ensures.path b t claims survey k.0 k.1, down_single c.args.geometry.now.layout b k.0 c.args.dir)
+    subst (HoldsPath _) (sym (ap (option_map (λ n. names_down G n c.args.dir)) k.1)) (
+      c.if-reached.true,
+      c.in_ok-names.ensures.path b t claims survey k.0 k.1,
+      down_single c.args.geometry.now.layout b k.0 c.args.dir,
+    )
 
 -- the way up is climbed, whether a read failed or not
 pub returns-in_err-names-clause-counted : goal.returns-in_err-names-clause-counted

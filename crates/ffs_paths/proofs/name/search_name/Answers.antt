@@ -1,4 +1,4 @@
-use Rattle.std.proofs.Common.{◌≡◌, ◌<◌, ◌∙◌, ℕ, true, List, ap, sym, subst, slice_index, rules}
+use Rattle.std.proofs.Common.{◌≡◌, ◌<◌, ◌∙◌, ℕ, true, List, ap, sym, subst, slice_index}
 use Rattle.std.proofs.lemmas.Result.{err_from_is_err_and}
 use Rattle.ffs_names.specs.Entering.{to_come, last_name}
 use Rattle.ffs_names.specs.{Shapes.BeginsDirectory, declared.entries.Entries.Entries}
@@ -11,44 +11,36 @@ use Rattle.ffs_workspace.specs.{Holds.HoldsClaims, Notes.cut_in, declared.worksp
 use Rattle.ffs_workspace.proofs.NoteLaws.{cut_is_noted}
 use Rattle.ffs_paths.specs.Climbing.{name_in}
 use Rattle.ffs_paths.proofs.{Windows.chunk_then, WaysUp.name_in-here, WaysUp.name_in-past}
-use Rattle.ffs_paths.proofs.search.search_name.Goals as goal
+use Rattle.ffs_paths.proofs.name.search_name.Goals as goal
 
 -- all entries of the parent are still to come
-begun : (v : Layout) (b : List ℕ) (w : Workspace) (p : ℕ) (i : Inode) (cut : ℕ) (r : Entries) → IsAcceptedLayout v →
+begun : {v : Layout} {b : List ℕ} {w : Workspace} {i : Inode} {cut : ℕ} {r : Entries} (p : ℕ) → IsAcceptedLayout v →
     HoldsClaims v b w → is_dir (volume_of v b) p ≡ true → i ≡ inode_of v b p →
     cut ≡ cut_in (slice_index w.notes.items p)
     → BeginsDirectory v i cut r → roled_entries (volume_of v b) p ≡ to_come b r
-begun v b w p i cut r sound claims dir inode noted begins =
+begun {v = v} {b = b} {i = i} {cut = cut} p sound claims dir inode noted begins =
     let is = dir_is v b p dir in
     sym (begins.entries b (subst (λ (n : Inode). n.size < 2147483648) (sym inode) (dir_size v (inode_of v b p) is.1))
     ∙ dir_seen v b p i cut sound is.0 inode (noted ∙ (ap cut_in (claims.notes p) ∙ cut_is_noted v b p sound)))
-
-pub entries-init : goal.entries-init
-entries-init g c = record {
-  name = λ b t claims dir. ap (name_in c.args.dir) (begun _ b c.args.workspace.now c.args.parent _ _ _
-      c.args.geometry.now.sound claims dir (c.in_ok-inode.ensures.reads.inode b t) c.cut_of-cut.ensures
-      c.start-entries.ensures.begins);
-  none = search rules;
-  geometry = search rules;
-  reads = search rules;
-}
 
 pub returns-then-names-clause-name : goal.returns-then-names-clause-name
 returns-then-names-clause-name g c = λ b t claims survey is dir.
     let i = c.entries.invariant in
     let o = rw c.in-Some.is at c.in_ok-entry.ensures.entry in
-    c.set_name.ensures ∙ (c.name.ensures ∙ sym (i.name b t claims dir
-    ∙ (ap (name_in c.args.dir) (o b (ap (λ d. d.contents) i.reads.read ∙ t)).entries
+    c.set_name.ensures ∙ (c.name.ensures ∙ sym (ap (name_in c.args.dir) (begun c.args.parent c.args.geometry.now.sound
+    claims dir (c.in_ok-inode.ensures.reads.inode b t) c.cut_of-cut.ensures c.start-entries.ensures.begins)
+    ∙ (i.name b t ∙ (ap (name_in c.args.dir) (o b (ap (λ d. d.contents) i.reads.read ∙ t)).entries
     ∙ name_in-here c.args.dir (roled_of c.in-Some.entry (last_name c.next.new.self)) (to_come b c.next.new.self)
-    (sym c.names.ensures ∙ c.if-names.true))))
+    (sym c.names.ensures ∙ c.if-names.true)))))
 
 -- no entry is left
 pub returns-clause-name : goal.returns-clause-name
 returns-clause-name g c = λ b t claims survey is dir.
     let i = c.entries.invariant in
     let o = rw c.in_default.is at c.in_ok-entry.ensures.entry in
-    i.none ∙ sym (i.name b t claims dir
-    ∙ ap (name_in c.args.dir) (o b (ap (λ d. d.contents) i.reads.read ∙ t)).entries)
+    i.none ∙ sym (ap (name_in c.args.dir) (begun c.args.parent c.args.geometry.now.sound
+    claims dir (c.in_ok-inode.ensures.reads.inode b t) c.cut_of-cut.ensures c.start-entries.ensures.begins)
+    ∙ (i.name b t ∙ ap (name_in c.args.dir) (o b (ap (λ d. d.contents) i.reads.read ∙ t)).entries))
 
 pub entries-preserved : goal.entries-preserved
 entries-preserved g c =
@@ -56,7 +48,7 @@ entries-preserved g c =
     let next = c.in_ok-entry.ensures in
     let o = rw c.in-Some.is at next.entry in
     record {
-      name = λ b t claims dir. i.name b t claims dir
+      name = λ b t. i.name b t
           ∙ (ap (name_in c.args.dir) (o b (ap (λ d. d.contents) i.reads.read ∙ t)).entries
           ∙ name_in-past c.args.dir (roled_of c.in-Some.entry (last_name c.next.new.self)) (to_come b c.next.new.self)
           (sym c.names.ensures ∙ c.if-names.false));
