@@ -1,13 +1,12 @@
 -- How far a climb to the root has come, and how often it has read.
-use Rattle.std.proofs.Common.{◌≡◌, ◌≢◌, ℕ, zero, suc, ◌+◌, ◌*◌, ◌<◌, ◌≤◌, false, List, ◌∷◌, length}
-use Rattle.std.proofs.Common.{Some, sym, ap, subst, ◌∙◌, arith}
-use Rattle.std.{specs.Prelude.nat_lt, specs.Prelude.Option, proofs.lemmas.Bool.Decides.nat_tests}
+use Rattle.std.proofs.Common.{◌≡◌, ◌≢◌, ℕ, zero, suc, ◌+◌, ◌*◌, ◌<◌, ◌≤◌, false, List, ◌∷◌, length, ltb-false, Some}
+use Rattle.std.proofs.Common.{sym, ap, subst, ◌∙◌, arith, Option}
 use Rattle.ffs_volume.specs.Directories.{Graph.level, Paths.joined, Parents.graph_of, Volumes.volume_of}
 use Rattle.ffs_volume.{specs.declared.Layout.Layout, proofs.LevelLaws.reached-level}
 use Rattle.ffs_survey.specs.ParentLaws.{root_level}
 use Rattle.ffs_workspace.specs.{Places.IsNoted, declared.workspace.Workspace.Workspace}
-use Rattle.ffs_paths.{specs.Buffers.HoldsNames, specs.Climbing.IsParentOf, proofs.LongestEnds.joined-length}
-use Rattle.ffs_paths.specs.{Reads.KnowsPlaces, Reads.ReadsFew, declared.buffer.PathBuffer.PathBuffer}
+use Rattle.ffs_paths.specs.{Reads.KnowsPlaces, Reads.ReadsFew, Buffers.HoldsNames, Climbing.IsParentOf}
+use Rattle.ffs_paths.{proofs.LongestEnds.joined-length, specs.declared.buffer.PathBuffer.PathBuffer}
 
 -- so many steps were climbed, with a read for each at most, and with a name for each that takes two bytes at least
 pub record HasClimbed (steps reads reads' : ℕ) (before after : Workspace) (p : PathBuffer) : Type 0 where
@@ -33,11 +32,8 @@ short_way : {steps reads reads' : ℕ} {w w' : Workspace} {p : PathBuffer} → H
     p.cut ≡ false → steps + 1 ≤ 513
 short_way {steps = steps} c room =
     let l = c.long in
-    let s : length (joined c.names) ≤ 1024 = under (length (joined c.names)) (sym c.held.cut ∙ room) in
+    let s = ltb-false 1024 (length (joined c.names)) (sym c.held.cut ∙ room) in
     omega arith
-  where
-    under : (n : ℕ) → nat_lt 1024 n ≡ false → n ≤ 1024
-    under n h = grind (arith, nat_tests)
 
 -- a step more: the name of a directory above was found, and put before the others
 pub climb_more : {steps reads reads' reads'' : ℕ} {w w' w'' : Workspace} {p q : PathBuffer} (name : List ℕ) →

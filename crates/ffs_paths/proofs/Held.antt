@@ -1,12 +1,12 @@
 -- The names that a buffer holds, with one more before or after them.
-use Rattle.std.proofs.Common.{◌≡◌, ℕ, suc, ◌+◌, ◌<◌, ◌≤◌, Bool, true, false, not, ◌&&◌, List, [], ◌∷◌, ◌++◌}
-use Rattle.std.proofs.Common.{nat_lt, length, drop, max, sym, ap, subst, ◌∙◌, arith, length-drop, ltb-true}
+use Rattle.std.proofs.Common.{◌≡◌, ℕ, suc, ◌+◌, ◌<◌, ◌≤◌, Bool, true, false, not, ◌&&◌, List, [], ◌∷◌, ◌++◌, nat_lt}
+use Rattle.std.proofs.Common.{length, drop, max, sym, ap, subst, ◌∙◌, arith, length-drop, le-ltb, lt-ltb, ltb-true}
 use Rattle.std.proofs.lemmas.Bool.{Decides.nat_tests, and_parts, not-true}
 use Rattle.ffs_volume.specs.Directories.Paths.{joined, longest_end, path_bytes}
 use Rattle.ffs_paths.specs.{declared.buffer.PathBuffer.PathBuffer, Buffers.HoldsNames, Buffers.IsLonger}
 use Rattle.ffs_paths.specs.Slashes.{AreSingle, from_slash}
-use Rattle.ffs_paths.proofs.LongestEnds.{over_is, under_is, le_or, text_whole, joined-length, end-more, end-whole}
-use Rattle.ffs_paths.proofs.LongestEnds.{joined-last, last-length, slash_end, end_tail}
+use Rattle.ffs_paths.proofs.LongestEnds.{le_or, text_whole, joined-length, end-more, end-whole, joined-last}
+use Rattle.ffs_paths.proofs.LongestEnds.{last-length, slash_end, end_tail}
 
 -- the length of names that have room
 pub whole-length : (p : PathBuffer) (names : List (List ℕ)) → drop p.start p.bytes ≡ joined names →
@@ -37,7 +37,7 @@ fits_holds : (p : PathBuffer) (names : List (List ℕ)) → p.cut ≡ false → 
     drop p.short p.bytes ≡ joined (longest_end 1023 names) → HoldsNames p names
 fits_holds p names room whole short =
     let n = whole-length p names whole in
-    record { whole = λ _. whole; short = short; cut = room ∙ sym (under_is (length (joined names)) (omega arith)) }
+    record { whole = λ _. whole; short = short; cut = room ∙ sym (le-ltb 1024 (length (joined names)) (omega arith)) }
 
 pub room_holds : (p : PathBuffer) (names : List (List ℕ)) → p.cut ≡ false → drop p.start p.bytes ≡ joined names →
     p.short ≡ p.start → 0 < p.start → HoldsNames p names
@@ -51,7 +51,7 @@ cut_holds : (p : PathBuffer) (names : List (List ℕ)) → p.cut ≡ true → 10
 cut_holds p names cut over short = record {
   whole = λ e. absurd (cc);
   short = short;
-  cut = cut ∙ sym (over_is (length (joined names)) over);
+  cut = cut ∙ sym (lt-ltb 1024 (length (joined names)) over);
 }
 
 -- ---- a name more before them: it fills the buffer, or has no room

@@ -1,13 +1,15 @@
 -- What is kept of a directory and its children stays right where only other parts of a workspace change.
-use Rattle.std.proofs.Common.{◌≡◌, List, ℕ, refl, sym, ap, subst, ◌∙◌, rules}
-use Rattle.std.specs.Prelude.{Option, Result, Ok, slice_index}
+use Rattle.std.proofs.Common.{◌≡◌, List, ℕ, refl, sym, ap, subst, ◌∙◌, rules, Option, Result, Ok, slice_index, vec_len}
+use Rattle.std.proofs.Common.{Err}
 use Rattle.ffs_image.specs.{Device.Device, Reads.ReadAfter, declared.image.ImageFault.ImageFault}
 use Rattle.ffs_volume.specs.{declared.Layout.Layout, Directories.Graph.Graph}
-use Rattle.ffs_workspace.specs.declared.workspace.Workspace.{Workspace}
-use Rattle.ffs_workspace.specs.{Leaves.LeavesSurvey, Ready.IsReady, Places.ArePlaces, Places.place_in}
+use Rattle.ffs_workspace.specs.{declared.workspace.Workspace.Workspace, Leaves.LeavesSurvey, Ready.IsReady}
+use Rattle.ffs_workspace.specs.Places.{ArePlaces, place_in}
 use Rattle.ffs_workspace.proofs.Leaving.{claims_held, claims_left, survey_held, survey_left, windows_leave}
 use Rattle.ffs_paths.specs.{Reads.ForTree, Reads.OnlyReads, declared.kept_parent.KeptParent.KeptParent}
 use Rattle.ffs_paths.specs.KeptParents.{IsKeptParent, KeepsParent, PathLeaves, SamePlaces}
+use Rattle.ffs_walk.specs.{declared.window.Window.Window, declared.blocks.Blocks.Blocks, Windows.WindowHolds}
+use Rattle.ffs_names.specs.Windows.{CanReadChunks}
 
 -- where the same places are noted, what was found is as it was, seen from the later workspace
 leaves_back : (old new : Workspace) → LeavesSurvey old new → SamePlaces old new → LeavesSurvey new old
@@ -79,3 +81,52 @@ pub tree_on : {T : Type 0} {v : Layout} {d d' : Device} {w w' : Workspace} {x : 
     OnlyReads v d d' w w' (Ok x) → ForTree v d' w' P → ForTree v d w P
 tree_on {v = v} {w = w} {w' = w'} P r known = λ b t claims survey.
     known b (ap (λ d. d.contents) r.read ∙ t) (claims_held v b w w' r.lists claims) (survey_held v b w w' r.lists survey)
+
+-- ---- what reads into the windows leave of a workspace
+-- the image gives what it gave, whether a read failed or not
+same_image : {T : Type 0} (d d' : Device) (result : Result T ImageFault) → ReadAfter d d' result →
+    (d'.contents ≡ d.contents) × (d'.size ≡ d.size)
+same_image d d' (Ok x) r = (ap (λ q. q.contents) r, ap (λ q. q.size) r)
+same_image d d' (Err e) r = (r.contents, r.size)
+
+-- indirect blocks and a chunk were read
+chunk_read : {T : Type 0} {v : Layout} {d d' : Device} {w : Workspace} {blocks : Blocks} {names : Window}
+    {result : Result T ImageFault} → IsReady v d w → CanReadChunks v d' blocks names → ReadAfter d d' result →
+    OnlyReads v d d' w (record w { windows = record w.windows { blocks = blocks; names = names } }) result
+chunk_read {d = d} {d' = d'} {result = result} ready can read =
+    let e = same_image d d' result read in
+    let m = ready.made in
+    record {
+      lists = refl;
+      chunk = refl;
+      ready = record {
+        made = search rules;
+        volume = can.walk.volume;
+        windows = record {
+          table = rw e.0 ready.windows.table;
+          blocks = can.walk.holds;
+          chunk = rw e.0 ready.windows.chunk;
+          names = can.holds;
+        };
+      };
+      read = read;
+    }
+
+pub chunk_then : {S T : Type 0} {v : Layout} {d d' d'' : Device} {w w' : Workspace} {blocks : Blocks} {names : Window}
+    {x : S} {result : Result T ImageFault} → OnlyReads v d d' w w' (Ok x) → CanReadChunks v d'' blocks names →
+    ReadAfter d' d'' result →
+    OnlyReads v d d'' w (record w' { windows = record w'.windows { blocks = blocks; names = names } }) result
+chunk_then reads can read = reads_then reads (chunk_read reads.ready can read)
+
+-- bytes were read into the window of names
+pub name_read : {T : Type 0} {v : Layout} {d d' : Device} {w : Workspace} {names : Window}
+    {result : Result T ImageFault} → IsReady v d w → vec_len names.buffer ≡ vec_len w.windows.names.buffer
+    → WindowHolds d'.contents names → ReadAfter d d' result →
+    OnlyReads v d d' w (record w { windows = record w.windows { names = names } }) result
+name_read {d = d} {d' = d'} {result = result} ready long holds read =
+    let e = same_image d d' result read in
+    chunk_read ready (record {
+      walk = record { volume = rw e.1 ready.volume; room = ready.made.blocks; holds = rw e.0 ready.windows.blocks };
+      room = long ∙ ready.made.names;
+      holds = holds;
+    }) read

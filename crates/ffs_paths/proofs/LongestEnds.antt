@@ -1,16 +1,10 @@
 -- The longest end of the names of a path, and the text of a path with one more name after them.
 use Rattle.std.proofs.Common.{◌≡◌, ℕ, zero, suc, ◌+◌, ◌-◌, ◌<◌, ◌≤◌, ◌==◌, Bool, true, false, List, [], ◌∷◌, ◌++◌, Some}
-use Rattle.std.proofs.Common.{length, drop, max, nat_lt, nat_le, if◌then◌else◌, refl, sym, ap, ◌∙◌, append_assoc}
+use Rattle.std.proofs.Common.{length, drop, max, nat_le, refl, sym, ap, ◌∙◌, append_assoc}
 use Rattle.std.proofs.Common.{append-nil, arith, length-append, length-drop, drop-drop, leb-true}
 use Rattle.std.proofs.lemmas.{Bool.Decides.nat_tests, Bool.or_parts, List.drop_all}
 use Rattle.ffs_volume.specs.Directories.Paths.{joined, longest_end, path_bytes, dir_path_of_names}
 use Rattle.ffs_paths.specs.Slashes.{AreSingle, from_slash, has_slash}
-
-pub over_is : (n : ℕ) → 1024 < n → nat_lt 1024 n ≡ true
-over_is n h = grind (arith, nat_tests)
-
-pub under_is : (n : ℕ) → n ≤ 1024 → nat_lt 1024 n ≡ false
-under_is n h = grind (arith, nat_tests)
 
 pub le_or : (n m : ℕ) → (P : Type 0) → (n ≤ m → P) → (m < n → P) → P
 le_or n m P f g = go (nat_le n m) refl
@@ -61,11 +55,7 @@ end-end : (less most : ℕ) (names : List (List ℕ)) → less ≤ most → long
     ≡ longest_end less names
 unfolding longest_end
 end-end less most [] h = refl
-end-end less most (name ∷ names) h = le_or (length (joined (name ∷ names))) most
-    (longest_end less (longest_end most (name ∷ names)) ≡ longest_end less (name ∷ names))
-    (λ fits. ap (longest_end less) (end-whole most (name ∷ names) fits))
-    (λ over. ap (longest_end less) (end-more most name names over)
-    ∙ (end-end less most names h ∙ sym (end-more less name names (omega arith))))
+end-end less most (name ∷ names) h = grind (arith, nat_tests, end-end less most names h)
 
 pub joined-last : (names : List (List ℕ)) (name : List ℕ) → joined (names ++ name ∷ []) ≡ joined names ++ 47 ∷ name
 joined-last [] name = ap (λ xs. 47 ∷ xs) (append-nil name)
@@ -81,32 +71,20 @@ end-last : (names : List (List ℕ)) (name : List ℕ) → length name ≤ 1022 
     ≡ longest_end (1022 - length name) names ++ name ∷ []
 unfolding longest_end
 end-last [] name h = let l = joined-length name [] in end-whole 1023 (name ∷ []) (omega arith)
-end-last (x ∷ names) name h =
-    let l = last-length (x ∷ names) name in
-    le_or (length (joined (x ∷ names))) (1022 - length name)
-    (longest_end 1023 (x ∷ names ++ name ∷ []) ≡ longest_end (1022 - length name) (x ∷ names) ++ name ∷ [])
-    (λ fits. end-whole 1023 (x ∷ names ++ name ∷ []) (omega arith)
-    ∙ ap (λ xs. xs ++ name ∷ []) (sym (end-whole (1022 - length name) (x ∷ names) fits)))
-    (λ over. end-more 1023 x (names ++ name ∷ []) (omega arith)
-    ∙ (end-last names name h ∙ ap (λ xs. xs ++ name ∷ []) (sym (end-more (1022 - length name) x names over))))
+end-last (x ∷ names) name h = grind (arith, nat_tests, last-length (x ∷ names) name, end-last names name h)
 
 -- a name that is longer than that has no room
 pub end-past : (names : List (List ℕ)) (name : List ℕ) → 1022 < length name → longest_end 1023 (names ++ name ∷ []) ≡ []
 unfolding longest_end
 end-past [] name h = let l = joined-length name [] in end-more 1023 name [] (omega arith)
-end-past (x ∷ names) name h =
-    let l = last-length (x ∷ names) name in
-    end-more 1023 x (names ++ name ∷ []) (omega arith) ∙ end-past names name h
+end-past (x ∷ names) name h = grind (arith, nat_tests, last-length (x ∷ names) name, end-past names name h)
 
 -- ---- a search for a `/`
 -- it passes a name that has none
 name_past : (name rest : List ℕ) (from : ℕ) → has_slash name ≡ false → from_slash (drop from (name ++ rest))
     ≡ from_slash (drop (from - length name) rest)
 name_past [] rest from h = ap (λ n. from_slash (drop n rest)) (omega arith)
-name_past (x ∷ name) rest zero h =
-    let p = or_parts (x == 47) (has_slash name) h in
-    ap (λ b. if b then x ∷ name ++ rest else from_slash (name ++ rest)) p.0
-    ∙ (name_past name rest zero p.1 ∙ ap (λ n. from_slash (drop n rest)) (omega arith))
+name_past (x ∷ name) rest zero h = grind (arith, nat_tests, h, name_past name rest zero)
 name_past (x ∷ name) rest (suc from) h =
     name_past name rest from (or_parts (x == 47) (has_slash name) h).1 ∙ ap (λ n. from_slash (drop n rest)) (omega arith)
 

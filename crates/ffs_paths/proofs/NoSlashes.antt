@@ -1,14 +1,12 @@
 -- No name of a volume's entries has a `/`.
-use Rattle.std.proofs.Common.{◌≡◌, ℕ, zero, suc, ◌+◌, ◌*◌, ◌==◌, Bool, true, false, if◌then◌else◌}
-use Rattle.std.proofs.Common.{List, [], ◌∷◌, ◌++◌, map, Option, Some, None, refl, arith}
-use Rattle.std.specs.Prelude.{option_and_then, ◌/◌, ◌-◌, min}
+use Rattle.std.proofs.Common.{◌≡◌, ℕ, zero, suc, ◌+◌, ◌*◌, ◌==◌, Bool, true, false, if◌then◌else◌, List, [], ◌∷◌, ◌++◌}
+use Rattle.std.proofs.Common.{map, Option, Some, None, refl, arith, option_and_then, ◌/◌, ◌-◌, min}
 use Rattle.std.specs.List.{AllByRecursion, flat_map, range_with_len}
-use Rattle.ffs_volume.specs.declared.{Layout.Layout, Order.Order}
-use Rattle.ffs_volume.specs.declared.Step.{Step, TheVariants.Run, TheVariants.Tail, TheVariants.Gap}
+use Rattle.ffs_volume.specs.declared.{Layout.Layout, Order.Order, Step.Step}
+use Rattle.ffs_volume.specs.declared.Step.TheVariants.{Run, Tail, Gap}
 use Rattle.ffs_volume.specs.Disk.{Areas.is_run_in_range, Numbers.piece}
 use Rattle.ffs_volume.specs.Directories.Entries.{Chunk, ChunkSource, Entry, chunk_of, chunks_of, entries_from}
-use Rattle.ffs_volume.specs.Directories.Entries.{entries_with, entry_at, entry_read}
-use Rattle.ffs_volume.specs.Directories.Entries.{is_well_formed, step_chunks}
+use Rattle.ffs_volume.specs.Directories.Entries.{entries_with, entry_at, entry_read, is_well_formed, step_chunks}
 use Rattle.ffs_volume.specs.Directories.{Graph.parent, Graph.parent_entry_index, Parents.graph_of, Parents.nth_roled}
 use Rattle.ffs_volume.specs.Directories.Paths.{names_down, names_by_parent, name_of}
 use Rattle.ffs_volume.specs.Directories.Roles.{RoledEntry, roled_chunk, roled_from, roled_entries}

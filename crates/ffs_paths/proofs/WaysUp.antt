@@ -1,22 +1,22 @@
 -- The way from a directory up to the root.
-use Rattle.std.proofs.Common.{◌≡◌, ◌≢◌, ℕ, zero, suc, ◌+◌, ◌<◌, ◌==◌, true, false, List, [], ◌∷◌, ◌++◌}
-use Rattle.std.proofs.Common.{Option, Some, None, refl, sym, ap, subst, ◌∙◌, arith, append_assoc}
-use Rattle.std.proofs.Common.{◌*◌, cond, option_and_then, length, ltb-true, unwrap_or}
-use Rattle.std.specs.List.{list_any}
+use Rattle.std.proofs.Common.{◌≡◌, ◌≢◌, ℕ, zero, suc, ◌+◌, ◌<◌, ◌==◌, true, false, List, [], ◌∷◌, ◌++◌, Some}
+use Rattle.std.proofs.Common.{None, refl, sym, ap, subst, ◌∙◌, arith, append_assoc, ◌*◌, cond, option_and_then, length}
+use Rattle.std.{proofs.Common.ltb-true, proofs.Common.unwrap_or, proofs.Common.option_map, specs.List.list_any}
 use Rattle.std.proofs.lemmas.Bool.{both_ways, and_parts, ne_eqb, cond-false, eq-eqb}
-use Rattle.ffs_volume.specs.{declared.Layout.Layout, Directories.Volumes.volume_of, Directories.Volumes.volume_with}
-use Rattle.ffs_volume.specs.Directories.{Roles.RoledEntry, Parents.nth_roled, Parents.graph_of}
-use Rattle.ffs_volume.specs.Directories.Graph.{Graph, level, is_naming_entry, is_naming_dir, parent}
-use Rattle.ffs_volume.specs.Directories.Graph.{parent_entry_index, index_in_parent, first_index}
-use Rattle.ffs_volume.proofs.{LevelLaws.level-some, LevelLaws.within-zero, PathBound.path_text-fits}
-use Rattle.ffs_volume.specs.Directories.Paths.{joined, names_down, names_by_parent, name_of, path_names}
-use Rattle.ffs_volume.specs.Directories.Paths.{entry_path, entry_path_of_names, path_bytes}
+use Rattle.ffs_volume.proofs.LevelLaws.{level-some, within-zero, reached-level}
+use Rattle.ffs_volume.specs.Directories.Graph.{Graph, level, is_naming_entry, is_naming_dir, parent, parent_entry_index}
+use Rattle.ffs_volume.specs.Directories.{Graph.index_in_parent, Graph.first_index, Parents.nth_roled, Parents.graph_of}
+use Rattle.ffs_volume.specs.Directories.Paths.{joined, names_down, names_by_parent, name_of}
+use Rattle.ffs_volume.specs.Directories.{Roles.RoledEntry}
+use Rattle.ffs_volume.specs.{Directories.Volumes.volume_of, Directories.Volumes.volume_with, declared.Layout.Layout}
 use Rattle.ffs_survey.specs.ParentLaws.{parent_above, root_level}
-use Rattle.ffs_paths.specs.declared.{buffer.PathBuffer.PathBuffer, path.DirectoryPath.DirectoryPath}
-use Rattle.ffs_paths.specs.{Buffers.HoldsNames, Slashes.AreSingle, Climbing.in_room, Climbing.name_in}
+use Rattle.ffs_paths.{proofs.Held.first_cut, proofs.NoSlashes.down_single, specs.Buffers.HoldsNames}
+use Rattle.ffs_paths.specs.Climbing.{name_in, IsNameIn, IsParentOf}
+use Rattle.ffs_paths.specs.{DirectoryPaths.HoldsPath, DirectoryPaths.IsPathOf, KeptParents.IsKeptParent}
+use Rattle.ffs_paths.specs.{KeptParents.LeadsTo, Slashes.AreSingle, declared.buffer.PathBuffer.PathBuffer}
+use Rattle.ffs_paths.specs.declared.{kept_parent.KeptParent.KeptParent, path.DirectoryPath.DirectoryPath}
 use Rattle.ffs_workspace.proofs.PlaceLaws.{name_in-cons}
-use Rattle.ffs_paths.specs.DirectoryPaths.{HoldsPath, IsPathOf}
-use Rattle.ffs_paths.proofs.{Held.first_cut, Rooms.fits}
+use Rattle.ffs_workspace.specs.{Holds.HoldsSurvey, declared.workspace.Workspace.Workspace}
 
 -- the first name, by the first entry
 pub name_in-here : (d : ℕ) (e : RoledEntry) (es : List RoledEntry) → is_naming_entry d e ≡ true →
@@ -125,22 +125,33 @@ pub count_is : (v : Layout) (b : List ℕ) → (graph_of (volume_of v b)).count 
 unfolding volume_of volume_with
 count_is v b = refl
 
--- what holds of the path of a directory: of one that is reached by all names that its buffer may hold, and of one that
--- isn't
-pub by_path : (g : Graph) (d : ℕ) (p : DirectoryPath) (P : Option (List (List ℕ)) → Type 0) → IsPathOf g d p
-    → (p.reached ≡ true → (names : List (List ℕ)) → HoldsNames p.names names → AreSingle names → P (Some names))
-    → (p.reached ≡ false → P None) → P (path_names g d)
-by_path g d p P h some none = go (path_names g d) h
-  where
-    go : (o : Option (List (List ℕ))) → HoldsPath p o → P o
-    go None k = none k
-    go (Some names) k = some k.0 names k.1 k.2
+-- ---- a child of a directory whose path is kept
+-- a path is kept, and the name of a child by its parent
+pub kept_parent_is : (v : Layout) (b : List ℕ) (w : Workspace) (s : KeptParent) → HoldsSurvey v b w →
+    IsParentOf w s.child s.parent → IsPathOf (graph_of (volume_of v b)) s.parent s.path →
+    IsNameIn (graph_of (volume_of v b)) s.child s.parent s.name.items → IsKeptParent (graph_of (volume_of v b)) s
+kept_parent_is v b w s survey of path name =
+    let g = graph_of (volume_of v b) in
+    let below = of.below in
+    let l = reached-level g s.child (sym (survey.reached s.child) ∙ of.reached) in
+    let above = parent_is g l.0 s.child s.parent l.1 (omega arith) (of.is ∙ survey.parents s.child) in
+    record {
+      path = λ some. path;
+      parent = λ some. of.some;
+      child = λ some. subst (LeadsTo g s.parent s.child) (sym (name above.is above.dir)) (record {
+        names = names_down g above.left s.parent;
+        to_parent = ap (option_map (λ j. names_down g j s.parent)) above.level;
+        to_child = ap (option_map (λ j. names_down g j s.child)) l.1 ∙ ap Some above.down;
+        single = subst AreSingle above.down (down_single v b l.0 s.child);
+      });
+    }
 
-pub entry_is : (g : Graph) (d : ℕ) (name : List ℕ) (p : DirectoryPath) (text : List ℕ) → IsPathOf g d p →
-    p.reached ≡ true
-    → ((names : List (List ℕ)) → HoldsNames p.names names → AreSingle names → text ≡ path_bytes (names ++ name ∷ [])) →
-    text ≡ in_room (entry_path g d name)
-unfolding entry_path
-entry_is g d name p text h r f = by_path g d p (λ o. text ≡ in_room (entry_path_of_names name o)) h
-    (λ _ names held single. f names held single ∙ fits _ (path_text-fits (names ++ name ∷ [])))
-    (λ n. absurd (both_ways _ n r))
+-- the path that is made of that of the parent
+pub child_made : (g : Graph) (s : KeptParent) (made : DirectoryPath) → IsKeptParent g s → 0 < s.child →
+    ((names : List (List ℕ)) → HoldsPath s.path (Some names)
+    → AreSingle (names ++ s.name.items ∷ []) → HoldsPath made (Some (names ++ s.name.items ∷ [])))
+    → IsPathOf g s.child made
+child_made g s made kept some makes =
+    let leads = kept.child some in
+    subst (HoldsPath made) (sym leads.to_child)
+    (makes leads.names (subst (HoldsPath s.path) leads.to_parent (kept.path (kept.parent some))) leads.single)

@@ -1,5 +1,5 @@
-use Rattle.std.proofs.Common.{◌≡◌, ◌<◌, ◌∙◌, ◌∷◌, ap, length, sym, subst, arith, ℕ}
-use Rattle.std.{proofs.lemmas.List.get_or_default, specs.Prelude.slice_index}
+use Rattle.std.proofs.Common.{◌≡◌, ◌<◌, ◌∙◌, ◌∷◌, ap, length, sym, subst, arith, ℕ, slice_index}
+use Rattle.std.proofs.lemmas.List.{get_or_default}
 use Rattle.ffs_volume.specs.Directories.{Graph.Graph, Parents.graph_of, Volumes.volume_of}
 use Rattle.ffs_paths.specs.{Climbing.IsNameIn, Buffers.HoldsNames}
 use Rattle.ffs_paths.proofs.Climbed.{climb_ends, climb_fails, climb_more, noted_here}

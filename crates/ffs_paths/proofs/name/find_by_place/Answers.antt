@@ -1,7 +1,7 @@
 use Rattle.std.proofs.Common.{◌≡◌, ◌*◌, ◌∙◌, ap, sym, suc, false, arith, slice_index}
 use Rattle.std.proofs.lemmas.List.{get_or_default}
 use Rattle.ffs_volume.specs.{Disk.Numbers.piece, Directories.Entries.entries_of, Directories.Roles.roled_from}
-use Rattle.ffs_paths.{specs.Climbing.name_in, proofs.Windows.name_read}
+use Rattle.ffs_paths.{specs.Climbing.name_in, proofs.Keeping.name_read}
 use Rattle.ffs_workspace.specs.Places.{place_in}
 use Rattle.ffs_paths.proofs.name.find_by_place.Goals as goal
 

@@ -1,5 +1,5 @@
-use Rattle.std.proofs.{Common.Result, Common.Ok, Common.Err, lemmas.Bool.both_ways, lemmas.Result.on_ok_weaker}
-use Rattle.std.specs.Prelude.{OnOk}
+use Rattle.std.proofs.Common.{Result, Ok, Err, OnOk}
+use Rattle.std.proofs.lemmas.{Bool.both_ways, Result.on_ok_weaker}
 use Rattle.ffs_paths.{specs.Climbing.IsNameIn, proofs.Keeping.reads_then, proofs.Keeping.tree_on}
 use Rattle.ffs_paths.proofs.name.find_name.Goals as goal
 

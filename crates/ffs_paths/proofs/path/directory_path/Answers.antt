@@ -1,5 +1,4 @@
-use Rattle.std.proofs.Common.{◌∙◌, ap, sym, subst}
-use Rattle.std.{specs.Prelude.option_map}
+use Rattle.std.proofs.Common.{◌∙◌, ap, sym, subst, option_map}
 use Rattle.ffs_volume.specs.Directories.{Parents.graph_of, Paths.names_down, Volumes.volume_of}
 use Rattle.ffs_volume.proofs.LevelLaws.{reached-level}
 use Rattle.ffs_paths.{specs.DirectoryPaths.HoldsPath, proofs.NoSlashes.down_single}

@@ -1,7 +1,6 @@
 use Rattle.std.proofs.Common.{◌≡◌, [], false, refl, arith}
 use Rattle.std.proofs.lemmas.List.{drop_all}
-use Rattle.ffs_paths.specs.{Buffers.HoldsNames, declared.buffer.PathBuffer.PathBuffer}
-use Rattle.ffs_paths.proofs.Held.{room_holds}
+use Rattle.ffs_paths.{specs.Buffers.HoldsNames, specs.declared.buffer.PathBuffer.PathBuffer, proofs.Held.room_holds}
 use Rattle.ffs_paths.proofs.buffer.PathBuffer.new.Goals as goal
 
 none_held : (p : PathBuffer) → p.start ≡ 1024 → p.short ≡ 1024 → p.cut ≡ false → HoldsNames p []

@@ -1,6 +1,6 @@
 use Rattle.std.proofs.Common.{◌∙◌, ◌+◌, ◌-◌, ◌<◌, length, take, ap, refl, arith}
 use borrow.Rule.Slice.PartMut.{put_mid}
-use Rattle.ffs_paths.proofs.Prefixes.{named, in_bytes}
+use Rattle.ffs_paths.proofs.Rooms.{named, in_bytes}
 use Rattle.ffs_paths.proofs.entry_paths.EntryPaths.put.Goals as goal
 
 pub returns-clause-path : goal.returns-clause-path

@@ -1,7 +1,7 @@
 use Rattle.std.proofs.Common.{◌<◌, Ok, sym, subst, arith}
 use Rattle.ffs_volume.specs.Directories.{Parents.graph_of, Volumes.volume_of}
 use Rattle.ffs_paths.specs.{DirectoryPaths.IsPathOf, Reads.ForTree, Reads.OnlyReads}
-use Rattle.ffs_paths.proofs.{Children.child_made, Keeping.no_reads, Keeping.reads_as, Keeping.leaves_kept}
+use Rattle.ffs_paths.proofs.{WaysUp.child_made, Keeping.no_reads, Keeping.reads_as, Keeping.leaves_kept}
 use Rattle.ffs_paths.proofs.kept_parent.KeptParent.keep_path_of.Goals as goal
 use Rattle.ffs_paths.proofs.kept_parent.KeptParent.keep_path_of.Goals.{then-self-dir-2, else-self-dir-2+in_ok-self}
 

@@ -1,8 +1,8 @@
 use Rattle.std.proofs.Common.{◌∙◌, ap, sym, subst, arith}
 use Rattle.ffs_volume.specs.Directories.{Parents.graph_of, Volumes.volume_of}
-use Rattle.ffs_paths.specs.{Climbing.IsNameIn, Climbing.IsParentOf, Reads.ForTree, KeptParents.IsKeptParent}
-use Rattle.ffs_paths.specs.declared.kept_parent.KeptParent.{KeptParent}
-use Rattle.ffs_paths.proofs.{Children.child_made, Children.kept_parent_is, Climbed.few_then, Climbed.noted_child}
+use Rattle.ffs_paths.specs.Climbing.{IsNameIn, IsParentOf}
+use Rattle.ffs_paths.specs.{Reads.ForTree, KeptParents.IsKeptParent, declared.kept_parent.KeptParent.KeptParent}
+use Rattle.ffs_paths.proofs.{WaysUp.child_made, WaysUp.kept_parent_is, Climbed.few_then, Climbed.noted_child}
 use Rattle.ffs_paths.proofs.Keeping.{leaves_kept, reads_then, tree_on}
 use Rattle.ffs_paths.proofs.kept_parent.KeptParent.path_to.Goals as goal
 

@@ -1,8 +1,8 @@
 use Rattle.std.proofs.Common.{◌≡◌, arith, ◌∙◌, ◌++◌, ◌∷◌, [], ap}
+use Rattle.std.proofs.lemmas.Bool.{both_ways}
 use Rattle.ffs_volume.specs.Directories.Paths.{entry_path, entry_path_of_names}
 use Rattle.ffs_paths.specs.Climbing.{in_room}
-use Rattle.ffs_paths.proofs.{Rooms.fits, Rooms.fits_not, WaysUp.by_path, WaysUp.entry_is}
-use Rattle.std.proofs.lemmas.Bool.{both_ways}
+use Rattle.ffs_paths.proofs.Rooms.{fits, fits_not, by_path, entry_is}
 use Rattle.ffs_paths.proofs.path.DirectoryPath.put_entry.Goals as goal
 
 pub returns-then-self : goal.returns-then-self
