@@ -7,7 +7,7 @@ use Rattle.ffs_volume.specs.{declared.Order.Order, declared.Role.Role, Disk.Numb
 use Rattle.ffs_volume.specs.Directories.Entries.{entry_at, entries_from, entry_read, is_live, is_well_formed, name_at}
 use Rattle.ffs_volume.specs.Directories.{Graph.is_naming_entry, Roles.is_plain, Roles.role_of, Roles.roled_from}
 use Rattle.ffs_volume.proofs.Reading.{entries_end, entries_next}
-use Rattle.ffs_paths.{specs.Climbing.name_in, proofs.WaysUp.name_in-here, proofs.WaysUp.name_in-past}
+use Rattle.ffs_paths.{specs.Climbing.name_in, proofs.WaysUp.name_in-by}
 
 -- the entries from one on
 chunk_next : (order : Order) (chunk : List ℕ) (index place : ℕ) (e : Entry) (role : Role) →
@@ -26,7 +26,7 @@ pub chunk_here : (d : ℕ) (order : Order) (chunk : List ℕ) (index place : ℕ
     entry_at order chunk place ≡ Some e → role ≡ role_of false index e → (is_plain role && (e.number == d)) ≡ true
     → name_in d (roled_from false index (entries_from order chunk 64 place)) ≡ e.name
 chunk_here d order chunk index place e role there is this =
-    rw (chunk_next order chunk index place e role there is) (name_in-here d (record { role = role; entry = e })
+    rw (chunk_next order chunk index place e role there is) (name_in-by d (record { role = role; entry = e })
     (roled_from false (index + 1) (entries_from order chunk 64 (place + e.length))) this)
 
 -- it doesn't: the name, and whether there is one, are those by the entries after it
@@ -39,7 +39,7 @@ pub chunk_past : (d : ℕ) (order : Order) (chunk : List ℕ) (index place : ℕ
 chunk_past d order chunk index place e role there is other =
     let rest = roled_from false (index + 1) (entries_from order chunk 64 (place + e.length)) in
     rw (chunk_next order chunk index place e role there is)
-    (name_in-past d (record { role = role; entry = e }) rest other, ap (λ b. b || list_any (is_naming_entry d) rest) other)
+    (name_in-by d (record { role = role; entry = e }) rest other, ap (λ b. b || list_any (is_naming_entry d) rest) other)
 
 -- no entry is left
 pub named_none : (d : ℕ) (order : Order) (chunk : List ℕ) (index place : ℕ) → entry_at order chunk place ≡ None →

@@ -28,7 +28,8 @@ pub few_more : {m n reads reads' : ℕ} {w w' : Workspace} → ReadsFew m reads 
     ReadsFew n reads reads' w w'
 few_more one l = let a = one.count in record { count = omega arith; blocks = one.blocks }
 
-short_way : {steps reads reads' : ℕ} {w w' : Workspace} {p : PathBuffer} → HasClimbed steps reads reads' w w' p →
+-- with room for a name more there are a step and a read more
+pub short_way : {steps reads reads' : ℕ} {w w' : Workspace} {p : PathBuffer} → HasClimbed steps reads reads' w w' p →
     p.cut ≡ false → steps + 1 ≤ 513
 short_way {steps = steps} c room =
     let l = c.long in
@@ -50,16 +51,6 @@ climb_more name c room one some puts =
       long = omega arith;
       most = short_way c room;
     }
-
--- the climb ends, and it ends by a read that failed
-pub climb_ends : {steps reads reads' : ℕ} {w w' : Workspace} {p : PathBuffer} → HasClimbed steps reads reads' w w' p →
-    ReadsFew 513 reads reads' w w'
-climb_ends c = few_more c.few c.most
-
-pub climb_fails : {steps reads reads' reads'' : ℕ} {w w' w'' : Workspace} {p : PathBuffer} →
-    HasClimbed steps reads reads' w w' p → p.cut ≡ false → ReadsFew 1 reads' reads'' w' w'' →
-    ReadsFew 513 reads reads'' w w''
-climb_fails c room one = few_more (few_then c.few one) (short_way c room)
 
 -- a place is noted of a directory other than the root that is reached
 pub noted_here : {v : Layout} {contents : Option (List ℕ)} {b : List ℕ} {w w' : Workspace} (k d : ℕ) →

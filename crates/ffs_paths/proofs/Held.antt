@@ -1,11 +1,11 @@
 -- The names that a buffer holds, with one more before or after them.
 use Rattle.std.proofs.Common.{◌≡◌, ℕ, suc, ◌+◌, ◌<◌, ◌≤◌, Bool, true, false, not, ◌&&◌, List, [], ◌∷◌, ◌++◌, nat_lt}
-use Rattle.std.proofs.Common.{length, drop, max, sym, ap, subst, ◌∙◌, arith, length-drop, le-ltb, lt-ltb, ltb-true}
+use Rattle.std.proofs.Common.{inl, inr, eq-zero-or-pos, length, drop, max, sym, ap, subst, ◌∙◌, arith, length-drop, le-ltb, lt-ltb, ltb-true}
 use Rattle.std.proofs.lemmas.Bool.{Decides.nat_tests, and_parts, not-true}
 use Rattle.ffs_volume.specs.Directories.Paths.{joined, longest_end, path_bytes}
 use Rattle.ffs_paths.specs.{declared.buffer.PathBuffer.PathBuffer, Buffers.HoldsNames, Buffers.IsLonger}
 use Rattle.ffs_paths.specs.Slashes.{AreSingle, from_slash}
-use Rattle.ffs_paths.proofs.LongestEnds.{le_or, text_whole, joined-length, end-more, end-whole, joined-last}
+use Rattle.ffs_paths.proofs.LongestEnds.{text_whole, joined-length, end-more, end-whole, joined-last}
 use Rattle.ffs_paths.proofs.LongestEnds.{last-length, slash_end, end_tail}
 
 -- the length of names that have room
@@ -79,12 +79,13 @@ last_fits p q names name made whole single =
     let all : drop p.start p.bytes ≡ joined last = made.bytes
     ∙ (ap (λ b. b ++ 47 ∷ name) whole ∙ sym (joined-last names name)) in
     let n = whole-length p last all in
-    fits_holds p last made.cut_is all (le_or 1 p.start (drop p.short p.bytes ≡ joined (longest_end 1023 last))
-    (λ some. ap (λ k. drop k p.bytes) (made.all (omega arith))
-    ∙ (all ∙ sym (ap joined (end-whole 1023 last (omega arith)))))
-    (λ none. let full : p.start ≡ 0 = omega arith in made.second full
-    ∙ (ap (λ bytes. from_slash (drop 1 bytes)) (subst (λ k. drop k p.bytes ≡ joined last) full all)
-    ∙ slash_end last 1 1023 single (λ some. omega arith) (omega arith))))
+    fits_holds p last made.cut_is all (elim (eq-zero-or-pos p.start) [
+      | inl full ↦ made.second full
+          ∙ (ap (λ bytes. from_slash (drop 1 bytes)) (subst (λ k. drop k p.bytes ≡ joined last) full all)
+          ∙ slash_end last 1 1023 single (λ some. omega arith) (omega arith))
+      | inr some ↦ ap (λ k. drop k p.bytes) (made.all some)
+          ∙ (all ∙ sym (ap joined (end-whole 1023 last (omega arith))))
+    ])
 
 first_single : (names : List (List ℕ)) (name : List ℕ) → AreSingle (names ++ name ∷ []) → AreSingle names
 first_single [] name h = tt

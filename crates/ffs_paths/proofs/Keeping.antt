@@ -29,15 +29,13 @@ kept_parent_on v contents contents' old new s e left same k =
           (survey_left v b new old back survey);
     }
 
-same_places : (old new : Workspace) → new ≡ record old { windows = new.windows } → SamePlaces old new
-same_places old new e = λ x. ap (λ (w : Workspace). place_in (slice_index w.queue.items x)) e
-
 -- and so where only the windows have changed
 pub kept_parent_held : (v : Layout) (contents contents' : Option (List ℕ)) (old new : Workspace) (s : KeptParent) →
     contents' ≡ contents → new ≡ record old { windows = new.windows }
     → KeepsParent v contents old s → KeepsParent v contents' new s
 kept_parent_held v contents contents' old new s e lists k =
-    kept_parent_on v contents contents' old new s e (windows_leave old new lists) (same_places old new lists) k
+    kept_parent_on v contents contents' old new s e (windows_leave old new lists)
+    (λ x. ap (λ (w : Workspace). place_in (slice_index w.queue.items x)) lists) k
 
 -- and after a call that only read
 pub kept_on : {T : Type 0} {v : Layout} {d d' : Device} {w w' : Workspace} {x : T} (s : KeptParent) →

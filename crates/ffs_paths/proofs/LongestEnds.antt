@@ -1,17 +1,10 @@
 -- The longest end of the names of a path, and the text of a path with one more name after them.
-use Rattle.std.proofs.Common.{◌≡◌, ℕ, zero, suc, ◌+◌, ◌-◌, ◌<◌, ◌≤◌, ◌==◌, Bool, true, false, List, [], ◌∷◌, ◌++◌, Some}
+use Rattle.std.proofs.Common.{if◌then◌else◌, ◌≡◌, ℕ, zero, suc, ◌+◌, ◌-◌, ◌<◌, ◌≤◌, ◌==◌, true, false, List, [], ◌∷◌, ◌++◌, Some}
 use Rattle.std.proofs.Common.{length, drop, max, nat_le, refl, sym, ap, ◌∙◌, append_assoc}
-use Rattle.std.proofs.Common.{append-nil, arith, length-append, length-drop, drop-drop, leb-true}
+use Rattle.std.proofs.Common.{append-nil, arith, length-append, length-drop, drop-drop}
 use Rattle.std.proofs.lemmas.{Bool.Decides.nat_tests, Bool.or_parts, List.drop_all}
 use Rattle.ffs_volume.specs.Directories.Paths.{joined, longest_end, path_bytes, dir_path_of_names}
 use Rattle.ffs_paths.specs.Slashes.{AreSingle, from_slash, has_slash}
-
-pub le_or : (n m : ℕ) → (P : Type 0) → (n ≤ m → P) → (m < n → P) → P
-le_or n m P f g = go (nat_le n m) refl
-  where
-    go : (b : Bool) → nat_le n m ≡ b → P
-    go true h = f (leb-true n m h)
-    go false h = g (grind (arith, nat_tests, h))
 
 -- ---- the text of names that are cut, and of names that have room
 pub text_cut : (names : List (List ℕ)) → 1024 < length (joined names) →
@@ -106,9 +99,8 @@ slash_end (name ∷ names) (suc from) most h is l =
 end_single : (most : ℕ) (names : List (List ℕ)) → AreSingle names → AreSingle (longest_end most names)
 unfolding longest_end
 end_single most [] h = tt
-end_single most (name ∷ names) h = le_or (length (joined (name ∷ names))) most
-    (AreSingle (longest_end most (name ∷ names))) (λ fits. rw (end-whole most (name ∷ names) fits) h)
-    (λ over. rw (end-more most name names over) (end_single most names h.1))
+end_single most (name ∷ names) h = elim (nat_le (length (joined (name ∷ names))) most) as (λ b.
+    AreSingle (if b then name ∷ names else longest_end most names)) [ true ↦ h | false ↦ end_single most names h.1 ]
 
 -- the end of the names with one more: what is from the first `/` on after which that name has room, and the name
 pub end_tail : (names : List (List ℕ)) (name bytes : List ℕ) (short : ℕ) → short ≤ 1024 → length bytes ≡ 1024
@@ -130,6 +122,6 @@ end_tail names name bytes short low size held single small =
     ∙ (joined-last (longest_end most names) name ∙ ap (λ xs. xs ++ 47 ∷ name) (sym found))
 
 -- nothing is left to look at
-pub slash-none : (bytes : List ℕ) (at end : ℕ) → length bytes ≤ at → length bytes ≤ end →
-    drop end bytes ≡ from_slash (drop at bytes)
-slash-none bytes at end h k = drop_all end bytes k ∙ sym (ap from_slash (drop_all at bytes h))
+pub slash_none : (bytes : List ℕ) (at : ℕ) → length bytes ≤ 1024 → length bytes ≤ at →
+    from_slash (drop at bytes) ≡ drop 1024 bytes
+slash_none bytes at h k = ap from_slash (drop_all at bytes k) ∙ sym (drop_all 1024 bytes h)

@@ -1,7 +1,7 @@
 -- The paths of a directory and of its entries, by what is kept of them.
 use Rattle.std.proofs.Common.{◌≡◌, ◌≤◌, ◌<◌, sym, ap, ℕ, List, [], ◌∷◌, length, ◌+◌, ◌++◌, take, ◌∙◌, arith}
-use Rattle.std.proofs.Common.{append_assoc, ◌==◌, le-ltb, lt-ltb, true, false, Option, Some, None, if◌then◌else◌}
-use Rattle.std.proofs.lemmas.{Slice.take-put_mid, Bool.ne_eqb, Bool.both_ways}
+use Rattle.std.proofs.Common.{append_assoc, le-ltb, lt-ltb, true, false, Option, Some, None, if◌then◌else◌}
+use Rattle.std.proofs.lemmas.{Slice.take-put_mid, Bool.both_ways}
 use Rattle.ffs_volume.{proofs.LawsHold.paths_fit, proofs.PathBound.path_text-fits, specs.Directories.Graph.Graph}
 use Rattle.ffs_volume.specs.Directories.Paths.{entry_path, path_names, entry_path_of_names, path_bytes}
 use Rattle.ffs_paths.{proofs.Held.entry-whole, specs.Buffers.HoldsNames, specs.Climbing.in_room}
@@ -25,11 +25,10 @@ entry_in_room g d name h = sym (fits (entry_path g d name) ((paths_fit g d).of_e
 pub by_path : (g : Graph) (d : ℕ) (p : DirectoryPath) (P : Option (List (List ℕ)) → Type 0) → IsPathOf g d p
     → (p.reached ≡ true → (names : List (List ℕ)) → HoldsNames p.names names → AreSingle names → P (Some names))
     → (p.reached ≡ false → P None) → P (path_names g d)
-by_path g d p P h some none = go (path_names g d) h
-  where
-    go : (o : Option (List (List ℕ))) → HoldsPath p o → P o
-    go None k = none k
-    go (Some names) k = some k.0 names k.1 k.2
+by_path g d p P h some none = elim (path_names g d) as (λ o. HoldsPath p o → P o) [
+  | None ↦ none
+  | Some names ↦ λ k. some k.0 names k.1 k.2
+] h
 
 pub entry_is : (g : Graph) (d : ℕ) (name : List ℕ) (p : DirectoryPath) (text : List ℕ) → IsPathOf g d p →
     p.reached ≡ true
@@ -53,7 +52,3 @@ named p begins k end bytes name size b is fits g d h =
     ∙ (ap (λ xs. xs ++ name) b.first
     ∙ (append_assoc _ (47 ∷ []) name
     ∙ sym (entry-whole p.names names name (held.whole b.whole) (omega arith)))))
-
--- a path that is not empty is in the bytes
-pub in_bytes : (n : ℕ) (text bytes : List ℕ) → 0 < n → (if n == 0 then text else take n bytes) ≡ take n bytes
-in_bytes n text bytes h = ap (λ b. if b then text else take n bytes) (ne_eqb n 0 (λ e. omega arith))

@@ -1,5 +1,5 @@
 -- The way from a directory up to the root.
-use Rattle.std.proofs.Common.{◌≡◌, ◌≢◌, ℕ, zero, suc, ◌+◌, ◌<◌, ◌==◌, true, false, List, [], ◌∷◌, ◌++◌, Some}
+use Rattle.std.proofs.Common.{◌≡◌, ◌≢◌, ℕ, zero, suc, ◌+◌, ◌<◌, ◌==◌, Bool, true, List, [], ◌∷◌, ◌++◌, Some}
 use Rattle.std.proofs.Common.{None, refl, sym, ap, subst, ◌∙◌, arith, append_assoc, ◌*◌, cond, option_and_then, length}
 use Rattle.std.{proofs.Common.ltb-true, proofs.Common.unwrap_or, proofs.Common.option_map, specs.List.list_any}
 use Rattle.std.proofs.lemmas.Bool.{both_ways, and_parts, ne_eqb, cond-false, eq-eqb}
@@ -18,14 +18,10 @@ use Rattle.ffs_paths.specs.declared.{kept_parent.KeptParent.KeptParent, path.Dir
 use Rattle.ffs_workspace.proofs.PlaceLaws.{name_in-cons}
 use Rattle.ffs_workspace.specs.{Holds.HoldsSurvey, declared.workspace.Workspace.Workspace}
 
--- the first name, by the first entry
-pub name_in-here : (d : ℕ) (e : RoledEntry) (es : List RoledEntry) → is_naming_entry d e ≡ true →
-    name_in d (e ∷ es) ≡ e.entry.name
-name_in-here d e es h = name_in-cons d e es ∙ ap (λ b. cond b e.entry.name (name_in d es)) h
-
-pub name_in-past : (d : ℕ) (e : RoledEntry) (es : List RoledEntry) → is_naming_entry d e ≡ false →
-    name_in d (e ∷ es) ≡ name_in d es
-name_in-past d e es h = name_in-cons d e es ∙ ap (λ b. cond b e.entry.name (name_in d es)) h
+-- the first name, by whether the first entry has it
+pub name_in-by : {b : Bool} (d : ℕ) (e : RoledEntry) (es : List RoledEntry) → is_naming_entry d e ≡ b →
+    name_in d (e ∷ es) ≡ cond b e.entry.name (name_in d es)
+name_in-by d e es h = name_in-cons d e es ∙ ap (λ b. cond b e.entry.name (name_in d es)) h
 
 -- the climb from d, of level k, has reached a directory, with the names below it
 pub record IsOnWay (g : Graph) (k d at step : ℕ) (p : PathBuffer) : Type 0 where

@@ -47,6 +47,7 @@ fn put_before(bytes: &mut [u8; MAXPATHLEN], end: usize, name: &[u8]) -> usize
 }
 
 /// Where the first `/` from a place on is, or the end.
+#[tactic(auto, using(crate::proofs::LongestEnds::slash_none))]
 fn slash_from(bytes: &[u8; MAXPATHLEN], place: usize) -> usize
     requires { place ≤ 1024 }
     ensures first { drop result bytes.now ≡ from_slash (drop place bytes.now) }

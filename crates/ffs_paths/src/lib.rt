@@ -12,7 +12,6 @@
 #![tactic(auto)]
 
 mod buffer;
-mod climb;
 mod entry_paths;
 mod kept_parent;
 mod name;

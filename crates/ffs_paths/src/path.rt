@@ -1,16 +1,18 @@
 //! The path of a directory, for all lines on it and on its entries.
 
 ghost use Rattle.std.specs.Prelude.{◌≡◌, ◌<◌, ◌≤◌, ℕ, List, [], ◌∷◌, ◌++◌, length, Some, option_map, vec_len, IfOk, OnOk};
-ghost use Rattle.ffs_volume.specs.Directories.{Graph.Graph, Paths.dir_path, Paths.entry_path};
+ghost use Rattle.ffs_volume.specs.Directories.{Graph.Graph, Graph.level, Parents.graph_of, Volumes.volume_of};
+ghost use Rattle.ffs_volume.specs.Directories.Paths.{dir_path, entry_path, names_down};
 ghost use Rattle.ffs_workspace.specs.Holds.{bool_at};
-ghost use Rattle.ffs_paths.specs.{Climbing.in_room, Climbing.path_in, Slashes.AreSingle};
+ghost use Rattle.ffs_paths.specs.{Buffers.HoldsNames, Climbing.in_room, Climbing.path_in, Slashes.AreSingle};
 ghost use Rattle.ffs_paths.specs.DirectoryPaths.{HoldsPath, IsPathOf};
-ghost use Rattle.ffs_paths.specs.Reads.{ForTree, IsReadyFor, OnlyReads, ReadsAtMost, climb_reads};
+ghost use Rattle.ffs_paths.specs.Reads.{ForTree, IsReadyFor, KnowsPlaces, OnlyReads, ReadsAtMost, ReadsFew, climb_reads};
 
 use crate::buffer::{LONGEST_NAME, PathBuffer, PathText};
-use crate::climb::climb;
+use crate::name::{NameText, find_name};
 use ffs_image::{Image, ImageFault};
 use ffs_layout::Geometry;
+use ffs_volume::constants::ROOTINO;
 use ffs_workspace::Workspace;
 
 /// The path of a directory: the names from the root down to it, if it is reached.
@@ -75,6 +77,49 @@ pub fn is_reached(workspace: &Workspace, dir: u32) -> bool
     ensures { result ≡ bool_at workspace.now.reached.items dir }
 {
     workspace.reached[dir as usize]
+}
+
+/// The names down to a directory that is reached, from the last one up, until they are cut.
+///
+/// # Errors
+/// A read of the image that failed.
+fn climb<I: Image>(
+    geometry: &Geometry,
+    image: &mut I,
+    workspace: &mut Workspace,
+    dir: u32,
+) -> Result<PathBuffer, ImageFault>
+    requires { IsReadyFor geometry.now.layout (I.device image.old) workspace.old dir }
+    ensures path { IfOk result (λ path.
+        ForTree geometry.now.layout (I.device image.old) workspace.old (λ g.
+        (k : ℕ) → level g dir ≡ Some k → HoldsNames path (names_down g k dir))) }
+    ensures reads { OnlyReads geometry.now.layout (I.device image.old) (I.device image.new)
+        workspace.old workspace.new result }
+    ensures counted { (b : List ℕ) (k : ℕ)
+        → KnowsPlaces geometry.now.layout (I.device image.old).contents workspace.old b
+        → level (graph_of (volume_of geometry.now.layout b)) dir ≡ Some k
+        → ReadsFew climb_reads (I.reads image.old) (I.reads image.new) workspace.old workspace.new }
+{
+    let count = workspace.notes.len();
+    let mut path = PathBuffer::new();
+    let mut name = NameText::new();
+    let mut at = dir;
+    'up: for step in 0..count {
+        if at == ROOTINO {
+            return Ok(path);
+        }
+        if path.cut {
+            return Ok(path);
+        }
+        let parent = workspace.parents[at as usize];
+        if parent as usize >= count {
+            return Ok(path);
+        }
+        find_name(geometry, image, workspace, parent, at, &mut name)?;
+        path.push_front(name.as_slice());
+        at = parent;
+    }
+    Ok(path)
 }
 
 /// The path of a directory, for all lines on it and on its entries.

@@ -9,7 +9,7 @@ use Rattle.ffs_volume.specs.Directories.{Roles.is_dir, Roles.roled_entries, Volu
 use Rattle.ffs_workspace.specs.{Holds.HoldsClaims, Notes.cut_in, declared.workspace.Workspace.Workspace}
 use Rattle.ffs_workspace.proofs.NoteLaws.{cut_is_noted}
 use Rattle.ffs_paths.{specs.Climbing.name_in, proofs.Keeping.chunk_then}
-use Rattle.ffs_paths.proofs.WaysUp.{name_in-here, name_in-past}
+use Rattle.ffs_paths.proofs.WaysUp.{name_in-by}
 use Rattle.ffs_paths.proofs.name.search_name.Goals as goal
 
 -- all entries of the parent are still to come
@@ -29,7 +29,7 @@ returns-then-names-clause-name g c = λ b t claims survey is dir.
     c.set_name.ensures ∙ (c.name.ensures ∙ sym (ap (name_in c.args.dir) (begun c.args.parent c.args.geometry.now.sound
     claims dir (c.in_ok-inode.ensures.reads.inode b t) c.cut_of-cut.ensures c.start-entries.ensures.begins)
     ∙ (i.name b t ∙ (ap (name_in c.args.dir) (o b (ap (λ d. d.contents) i.reads.read ∙ t)).entries
-    ∙ name_in-here c.args.dir (roled_of c.in-Some.entry (last_name c.next.new.self)) (to_come b c.next.new.self)
+    ∙ name_in-by c.args.dir (roled_of c.in-Some.entry (last_name c.next.new.self)) (to_come b c.next.new.self)
     (sym c.names.ensures ∙ c.if-names.true)))))
 
 -- no entry is left
@@ -49,7 +49,7 @@ entries-preserved g c =
     record {
       name = λ b t. i.name b t
           ∙ (ap (name_in c.args.dir) (o b (ap (λ d. d.contents) i.reads.read ∙ t)).entries
-          ∙ name_in-past c.args.dir (roled_of c.in-Some.entry (last_name c.next.new.self)) (to_come b c.next.new.self)
+          ∙ name_in-by c.args.dir (roled_of c.in-Some.entry (last_name c.next.new.self)) (to_come b c.next.new.self)
           (sym c.names.ensures ∙ c.if-names.false));
       none = i.none;
       geometry = next.leaves.geometry ∙ i.geometry;

@@ -2,10 +2,10 @@ use Rattle.std.proofs.Common.{◌≡◌, ◌<◌, ◌∙◌, ◌∷◌, ap, leng
 use Rattle.std.proofs.lemmas.List.{get_or_default}
 use Rattle.ffs_volume.specs.Directories.{Graph.Graph, Parents.graph_of, Volumes.volume_of}
 use Rattle.ffs_paths.specs.{Climbing.IsNameIn, Buffers.HoldsNames}
-use Rattle.ffs_paths.proofs.Climbed.{climb_ends, climb_fails, climb_more, noted_here}
+use Rattle.ffs_paths.proofs.Climbed.{climb_more, few_more, few_then, noted_here, short_way}
 use Rattle.ffs_paths.proofs.Keeping.{reads_then, tree_on}
 use Rattle.ffs_paths.proofs.WaysUp.{parent_is, way_root, way_cut, way_long, way_up, count_is}
-use Rattle.ffs_paths.proofs.climb.climb.Goals as goal
+use Rattle.ffs_paths.proofs.path.climb.Goals as goal
 
 pub returns-then-at-eq-ROOTINO-clause-path : goal.returns-then-at-eq-ROOTINO-clause-path
 returns-then-at-eq-ROOTINO-clause-path g c = λ b t claims survey k l.
@@ -73,9 +73,10 @@ pub returns-in_err-find_name-clause-counted : goal.returns-in_err-find_name-clau
 returns-in_err-find_name-clause-counted g c = λ b k knows l.
     let i = c.up.invariant in
     let way = i.path b knows.gives_bytes knows.claims knows.survey k l in
-    climb_fails (i.counted b k knows l) c.if-path.false
+    let h = i.counted b k knows l in
+    few_more (few_then h.few
     (c.in_err-find_name.ensures.counted b (ap (λ d. d.contents) i.reads.read ∙ knows.gives_bytes)
-    (noted_here way.left c.up.at knows i.reads.lists way.level c.if-at-eq-ROOTINO.false))
+    (noted_here way.left c.up.at knows i.reads.lists way.level c.if-at-eq-ROOTINO.false))) (short_way h c.if-path.false)
 
 pub returns-clause-counted : goal.returns-clause-counted
-returns-clause-counted g c = λ b k knows l. climb_ends (c.up.invariant.counted b k knows l)
+returns-clause-counted g c = λ b k knows l. let h = c.up.invariant.counted b k knows l in few_more h.few h.most
