@@ -20,37 +20,30 @@ pub record HasClimbed (steps reads reads' : ℕ) (before after : Workspace) (p :
 pub few_then : {m n reads reads' reads'' : ℕ} {w w' w'' : Workspace} → ReadsFew m reads reads' w w' →
     ReadsFew n reads' reads'' w' w'' → ReadsFew (m + n) reads reads'' w w''
 few_then one two =
-    let a = one.count in
-    let b = two.count in
-    record { count = omega arith; blocks = two.blocks ∙ one.blocks }
+    record { count = omega (arith, one.count, two.count); blocks = two.blocks ∙ one.blocks }
 
 pub few_more : {m n reads reads' : ℕ} {w w' : Workspace} → ReadsFew m reads reads' w w' → m ≤ n →
     ReadsFew n reads reads' w w'
-few_more one l = let a = one.count in record { count = omega arith; blocks = one.blocks }
+few_more one l = record { count = omega (arith, one.count); blocks = one.blocks }
 
 -- with room for a name more there are a step and a read more
 pub short_way : {steps reads reads' : ℕ} {w w' : Workspace} {p : PathBuffer} → HasClimbed steps reads reads' w w' p →
     p.cut ≡ false → steps + 1 ≤ 513
 short_way {steps = steps} c room =
-    let l = c.long in
-    let s = ltb-false 1024 (length (joined c.names)) (sym c.held.cut ∙ room) in
-    omega arith
+    omega (arith, c.long, ltb-false 1024 (length (joined c.names)) (sym c.held.cut ∙ room))
 
 -- a step more: the name of a directory above was found, and put before the others
 pub climb_more : {steps reads reads' reads'' : ℕ} {w w' w'' : Workspace} {p q : PathBuffer} (name : List ℕ) →
     HasClimbed steps reads reads' w w' p → p.cut ≡ false → ReadsFew 1 reads' reads'' w' w'' → 0 < length name
     → ((names : List (List ℕ)) → HoldsNames p names → HoldsNames q (name ∷ names)) →
     HasClimbed (steps + 1) reads reads'' w w'' q
-climb_more name c room one some puts =
-    let l = c.long in
-    let j = joined-length name c.names in
-    record {
-      few = few_then c.few one;
-      names = name ∷ c.names;
-      held = puts c.names c.held;
-      long = omega arith;
-      most = short_way c room;
-    }
+climb_more name c room one some puts = record {
+  few = few_then c.few one;
+  names = name ∷ c.names;
+  held = puts c.names c.held;
+  long = omega (arith, c.long, joined-length name c.names);
+  most = short_way c room;
+}
 
 -- a place is noted of a directory other than the root that is reached
 pub noted_here : {v : Layout} {contents : Option (List ℕ)} {b : List ℕ} {w w' : Workspace} (k d : ℕ) →
@@ -65,6 +58,5 @@ pub noted_child : {v : Layout} {contents : Option (List ℕ)} {b : List ℕ} {w 
     KnowsPlaces v contents w b → IsParentOf w d s → w' ≡ record w { windows = w'.windows } →
     IsNoted v b w'.queue.items d
 noted_child {v = v} {b = b} {d = d} knows of lists =
-    let below = of.below in
     let l = reached-level (graph_of (volume_of v b)) d (sym (knows.survey.reached d) ∙ of.reached) in
-    noted_here l.0 d knows lists l.1 (omega arith)
+    noted_here l.0 d knows lists l.1 (omega (arith, of.below))

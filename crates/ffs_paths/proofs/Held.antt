@@ -1,23 +1,19 @@
 -- The names that a buffer holds, with one more before or after them.
 use Rattle.std.proofs.Common.{◌≡◌, ℕ, suc, ◌+◌, ◌<◌, ◌≤◌, Bool, true, false, not, ◌&&◌, List, [], ◌∷◌, ◌++◌, nat_lt}
-use Rattle.std.proofs.Common.{inl, inr, eq-zero-or-pos, length, drop, max, sym, ap, subst, ◌∙◌, arith, length-drop, le-ltb, lt-ltb, ltb-true}
+use Rattle.std.proofs.Common.{inl, inr, eq-zero-or-pos, length, drop, max, sym, ap, subst, ◌∙◌, arith, length-drop}
+use Rattle.std.proofs.Common.{le-ltb, lt-ltb, ltb-true}
 use Rattle.std.proofs.lemmas.Bool.{Decides.nat_tests, and_parts, not-true}
 use Rattle.ffs_volume.specs.Directories.Paths.{joined, longest_end, path_bytes}
 use Rattle.ffs_paths.specs.{declared.buffer.PathBuffer.PathBuffer, Buffers.HoldsNames, Buffers.IsLonger}
 use Rattle.ffs_paths.specs.Slashes.{AreSingle, from_slash}
-use Rattle.ffs_paths.proofs.LongestEnds.{text_whole, joined-length, end-more, end-whole, joined-last}
-use Rattle.ffs_paths.proofs.LongestEnds.{last-length, slash_end, end_tail}
+use Rattle.ffs_paths.proofs.LongestEnds.{text_whole, joined-length, end-more, end-whole, joined-last, last-length}
+use Rattle.ffs_paths.proofs.LongestEnds.{slash_end, end_tail}
 
 -- the length of names that have room
 pub whole-length : (p : PathBuffer) (names : List (List ℕ)) → drop p.start p.bytes ≡ joined names →
     p.start + length (joined names) ≡ 1024
 whole-length p names whole =
-    let o = p.ordered in
-    let i = p.in_buffer in
-    let l = p.long in
-    let d = length-drop p.start p.bytes in
-    let w = ap length whole in
-    omega arith
+    omega (arith, p.ordered, p.in_buffer, p.long, length-drop p.start p.bytes, ap length whole)
 
 -- a name more has room, and has none
 pub has_parts : (cut : Bool) (n start : ℕ) → true ≡ (not cut && nat_lt n start) → (cut ≡ false) × (n < start)
@@ -67,9 +63,8 @@ pub first_cut : (p q : PathBuffer) (name : List ℕ) (names : List (List ℕ)) �
     1024 < length (joined names) + suc (length name) → drop p.short p.bytes ≡ drop q.short q.bytes →
     HoldsNames p (name ∷ names)
 first_cut p q name names held cut over short =
-    let l = joined-length name names in
-    cut_holds p (name ∷ names) cut (omega arith)
-    (short ∙ (held.short ∙ ap joined (sym (end-more 1023 name names (omega arith)))))
+    let more : 1024 < length (joined (name ∷ names)) = omega (arith, joined-length name names) in
+    cut_holds p (name ∷ names) cut more (short ∙ (held.short ∙ ap joined (sym (end-more 1023 name names (omega arith)))))
 
 -- ---- a name more after them: all have room, or not
 pub last_fits : (p q : PathBuffer) (names : List (List ℕ)) (name : List ℕ) → IsLonger q q.start name false p →
@@ -96,16 +91,13 @@ pub last_cut : (p q : PathBuffer) (names : List (List ℕ)) (name : List ℕ) (f
     1024 < length (joined names) + suc (length name)
     → drop from q.bytes ≡ from_slash (drop (max q.short (length name + 2)) q.bytes) → HoldsNames p (names ++ name ∷ [])
 last_cut p q names name from made held single small low over found =
-    let l = last-length names name in
-    let begins = made.start_is in
-    cut_holds p (names ++ name ∷ []) made.cut_is (omega arith) (ap (λ k. drop k p.bytes) (made.all (omega arith))
-    ∙ (made.bytes ∙ (ap (λ b. b ++ 47 ∷ name) found ∙ sym (end_tail names name q.bytes q.short q.in_buffer q.long held.short
+    cut_holds p (names ++ name ∷ []) made.cut_is (omega (arith, last-length names name))
+    (ap (λ k. drop k p.bytes) (made.all (omega (arith, made.start_is))) ∙ (made.bytes ∙ (ap (λ b. b ++ 47 ∷ name) found ∙ sym (end_tail names name q.bytes q.short q.in_buffer q.long held.short
     (first_single names name single) small))))
 
 -- ---- the text of an entry's path where all have room
 pub entry-whole : (p : PathBuffer) (names : List (List ℕ)) (name : List ℕ) → drop p.start p.bytes ≡ joined names →
     length name < p.start → path_bytes (names ++ name ∷ []) ≡ drop p.start p.bytes ++ 47 ∷ name
 entry-whole p names name whole room =
-    let n = whole-length p names whole in
-    let l = last-length names name in
-    text_whole (names ++ name ∷ []) (omega arith) ∙ (joined-last names name ∙ ap (λ b. b ++ 47 ∷ name) (sym whole))
+    text_whole (names ++ name ∷ []) (omega (arith, whole-length p names whole, last-length names name))
+    ∙ (joined-last names name ∙ ap (λ b. b ++ 47 ∷ name) (sym whole))

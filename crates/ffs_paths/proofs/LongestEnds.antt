@@ -1,7 +1,7 @@
 -- The longest end of the names of a path, and the text of a path with one more name after them.
-use Rattle.std.proofs.Common.{if◌then◌else◌, ◌≡◌, ℕ, zero, suc, ◌+◌, ◌-◌, ◌<◌, ◌≤◌, ◌==◌, true, false, List, [], ◌∷◌, ◌++◌, Some}
-use Rattle.std.proofs.Common.{length, drop, max, nat_le, refl, sym, ap, ◌∙◌, append_assoc}
-use Rattle.std.proofs.Common.{append-nil, arith, length-append, length-drop, drop-drop}
+use Rattle.std.proofs.Common.{if◌then◌else◌, ◌≡◌, ℕ, zero, suc, ◌+◌, ◌-◌, ◌<◌, ◌≤◌, ◌==◌, true, false, List, [], ◌∷◌}
+use Rattle.std.proofs.Common.{◌++◌, Some, length, drop, max, nat_le, refl, sym, ap, ◌∙◌, append_assoc, append-nil}
+use Rattle.std.proofs.Common.{arith, length-append, length-drop, drop-drop}
 use Rattle.std.proofs.lemmas.{Bool.Decides.nat_tests, Bool.or_parts, List.drop_all}
 use Rattle.ffs_volume.specs.Directories.Paths.{joined, longest_end, path_bytes, dir_path_of_names}
 use Rattle.ffs_paths.specs.Slashes.{AreSingle, from_slash, has_slash}

@@ -5,8 +5,8 @@ use Rattle.std.specs.List.{AllByRecursion, flat_map, range_with_len}
 use Rattle.ffs_volume.specs.declared.{Layout.Layout, Order.Order, Step.Step}
 use Rattle.ffs_volume.specs.declared.Step.TheVariants.{Run, Tail, Gap}
 use Rattle.ffs_volume.specs.Disk.{Areas.is_run_in_range, Numbers.piece}
-use Rattle.ffs_volume.specs.Directories.Entries.{Chunk, ChunkSource, chunk_of, chunks_of, entries_from}
-use Rattle.ffs_volume.specs.Directories.Entries.{entries_with, entry_at, entry_read, is_well_formed, step_chunks}
+use Rattle.ffs_volume.specs.Directories.Entries.{Chunk, ChunkSource, chunk_of, chunks_of, entries_from, entries_with}
+use Rattle.ffs_volume.specs.Directories.Entries.{entry_at, entry_read, is_well_formed, step_chunks}
 use Rattle.ffs_volume.specs.Directories.{Graph.parent, Graph.parent_entry_index, Parents.graph_of, Parents.nth_roled}
 use Rattle.ffs_volume.specs.Directories.Paths.{names_down, names_by_parent, name_of}
 use Rattle.ffs_volume.specs.Directories.Roles.{RoledEntry, roled_chunk, roled_from, roled_entries}
@@ -38,9 +38,9 @@ entries_single order chunk first index zero place = tt
 entries_single order chunk first index (suc most) place = elim (is_well_formed order chunk place) as (λ b.
     is_well_formed order chunk place ≡ b → AreSingleEntries (roled_from first index (entries_with order chunk place
     (entries_from order chunk most) (if b then Some (entry_read order chunk place) else None)))) [
-  | true ↦ λ h. (there_single order chunk place h, entries_single order chunk first (suc index) most _)
-  | false ↦ λ h. tt
-] refl
+      | true ↦ λ h. (there_single order chunk place h, entries_single order chunk first (suc index) most _)
+      | false ↦ λ h. tt
+    ] refl
 
 mapped_single : (order : Order) (offset : ℕ → ℕ) (bytes : ℕ → List ℕ) (ks : List ℕ) →
     AreSingleChunks (map (λ k. chunk_of order (offset k) (bytes k)) ks)

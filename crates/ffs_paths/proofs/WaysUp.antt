@@ -1,14 +1,14 @@
 -- The way from a directory up to the root.
-use Rattle.std.proofs.Common.{◌≡◌, ◌≢◌, ℕ, zero, suc, ◌+◌, ◌<◌, ◌==◌, Bool, true, List, [], ◌∷◌, ◌++◌, Some}
-use Rattle.std.proofs.Common.{None, refl, sym, ap, subst, ◌∙◌, arith, append_assoc, ◌*◌, cond, option_and_then, length}
-use Rattle.std.{proofs.Common.ltb-true, proofs.Common.unwrap_or, proofs.Common.option_map, specs.List.list_any}
+use Rattle.std.proofs.Common.{◌≡◌, ◌≢◌, ℕ, zero, suc, ◌+◌, ◌<◌, ◌==◌, Bool, true, List, [], ◌∷◌, ◌++◌, Some, None, refl}
+use Rattle.std.proofs.Common.{sym, ap, subst, ◌∙◌, arith, append_assoc, ◌*◌, cond, option_and_then, length, ltb-true}
+use Rattle.std.{proofs.Common.unwrap_or, proofs.Common.option_map, specs.List.list_any}
 use Rattle.std.proofs.lemmas.Bool.{both_ways, and_parts, ne_eqb, cond-false, eq-eqb}
 use Rattle.ffs_volume.proofs.LevelLaws.{level-some, within-zero, reached-level}
 use Rattle.ffs_volume.specs.Directories.Graph.{Graph, level, is_naming_entry, is_naming_dir, parent, parent_entry_index}
 use Rattle.ffs_volume.specs.Directories.{Graph.index_in_parent, Graph.first_index, Parents.nth_roled, Parents.graph_of}
 use Rattle.ffs_volume.specs.Directories.Paths.{joined, names_down, names_by_parent, name_of}
-use Rattle.ffs_volume.specs.Directories.{Roles.RoledEntry}
-use Rattle.ffs_volume.specs.{Directories.Volumes.volume_of, Directories.Volumes.volume_with, declared.Layout.Layout}
+use Rattle.ffs_volume.specs.Directories.{Roles.RoledEntry, Volumes.volume_of, Volumes.volume_with}
+use Rattle.ffs_volume.specs.declared.Layout.{Layout}
 use Rattle.ffs_survey.specs.ParentLaws.{parent_above, root_level}
 use Rattle.ffs_paths.{proofs.Held.first_cut, proofs.NoSlashes.down_single, specs.Buffers.HoldsNames}
 use Rattle.ffs_paths.specs.Climbing.{name_in, IsNameIn, IsParentOf}
@@ -104,12 +104,10 @@ pub way_up : {g : Graph} {k d at step : ℕ} {p : PathBuffer} (s : ℕ) (q : Pat
     IsOnWay g k d s (step + 1) q
 way_up {g = g} {at = at} s q w above f =
     let name = name_in at (g.entries s) in
-    let steps = w.steps in
-    let step = above.step in
     record {
       left = above.left;
       level = above.level;
-      steps = omega arith;
+      steps = omega (arith, w.steps, above.step);
       following = name ∷ w.following;
       held = f w.following w.held;
       whole = sym (append_assoc (names_down g above.left s) (name ∷ []) w.following)
@@ -128,9 +126,8 @@ pub kept_parent_is : (v : Layout) (b : List ℕ) (w : Workspace) (s : KeptParent
     IsNameIn (graph_of (volume_of v b)) s.child s.parent s.name.items → IsKeptParent (graph_of (volume_of v b)) s
 kept_parent_is v b w s survey of path name =
     let g = graph_of (volume_of v b) in
-    let below = of.below in
     let l = reached-level g s.child (sym (survey.reached s.child) ∙ of.reached) in
-    let above = parent_is g l.0 s.child s.parent l.1 (omega arith) (of.is ∙ survey.parents s.child) in
+    let above = parent_is g l.0 s.child s.parent l.1 (omega (arith, of.below)) (of.is ∙ survey.parents s.child) in
     record {
       path = λ some. path;
       parent = λ some. of.some;

@@ -1,4 +1,4 @@
-//! The paths of directories, where one after another has the same parent.
+//! The path of a directory's parent, kept for the directory that comes next.
 
 ghost use Rattle.std.specs.Prelude.{◌≡◌, ◌<◌, true, ℕ, List, Option, IfOk, OnOk, IfSome, vec_len};
 ghost use Rattle.ffs_volume.specs.{Directories.Paths.dir_path, Report.Reads.path_reads};
@@ -31,24 +31,24 @@ fn parent_of(workspace: &Workspace, dir: u32) -> Option<u32>
     Some(parent)
 }
 
-/// A directory with its path, and the child of it whose path was made last.
+/// The directory whose path was made last, and its parent with the parent's path.
 ///
-/// Where one directory after another has the same parent, or is the parent of the next, the way up
-/// to the root isn't climbed again.
+/// Where the next directory has the same parent, or is in the last one, the way up to the root isn't
+/// climbed again.
 #[derive(Drop)]
 pub struct KeptParent {
-    /// The directory, or 0 for none.
+    /// The parent, or 0 for none.
     pub parent: u32,
-    /// Its path.
+    /// The path of the parent.
     pub path: DirectoryPath,
-    /// The child whose path was made last, or 0.
+    /// The directory whose path was made last, or 0 for none.
     pub child: u32,
-    /// The name of that child.
+    /// The name of that directory in its parent.
     pub name: NameText,
 }
 
 impl KeptParent {
-    /// Of no directory.
+    /// No path is kept.
     pub fn none(geometry: &Geometry) -> KeptParent
         ensures { (contents : Option (List ℕ)) (w : WorkspaceIn)
             → KeepsParent geometry.now.layout contents w result }
@@ -64,7 +64,7 @@ impl KeptParent {
         }
     }
 
-    /// Keeps the path of a directory, if it isn't the one that is kept.
+    /// Keeps the path of this parent, if another one's is kept.
     fn keep_path_of<I: Image>(
         &mut self,
         geometry: &Geometry,

@@ -9,11 +9,9 @@ pub returns-clause-name : goal.returns-clause-name
 returns-clause-name g c = λ found b t claims survey parent is dir.
     let v = c.args.geometry.now.layout in
     let w = c.args.workspace.now in
-    let long = c.requires.ready.made.queue in
-    let number = c.requires.number in
     let word : place_in (slice_index w.queue.items c.args.dir) ≡ suc c.in-Some.chunk =
-    ap place_in (sym (c.index.ensures ∙ get_or_default w.queue.items c.args.dir c.index.result.now 0 (omega arith)))
-    ∙ c.in-Some.ensures in
+    ap place_in (sym (c.index.ensures ∙ get_or_default w.queue.items c.args.dir c.index.result.now 0
+    (omega (arith, c.requires.ready.made.queue, c.requires.number)))) ∙ c.in-Some.ensures in
     let bytes = c.copy_from_slice.ensures.after ∙ (c.bytes.ensures ∙ (c.in_ok-fill.ensures.fills.bytes b t
     ∙ ap (λ k. piece (512 * k) 512 b) c.from.ensures)) in
     c.find_in_chunk.ensures.name found

@@ -24,14 +24,12 @@ returns-clause-found c = λ h.
 
 pub entries-preserved : goal.entries-preserved
 entries-preserved c =
-    let low = c.in-Some.ensures.room.0 in
-    let high = c.in-Some.ensures.room.1 in
     let past = chunk_past c.args.number c.args.order c.args.chunk.now c.entries.index c.entries.place
     (entry_value c.in-Some.entry) c.role_of.result c.in-Some.ensures.some c.role_of.ensures
     (sym c.names.ensures ∙ c.if-names.false) in
     rw c.from-place.ensures (record {
-      place = omega arith;
-      index = omega arith;
+      place = omega (arith, c.in-Some.ensures.room.1);
+      index = omega (arith, c.in-Some.ensures.room.0);
       name = c.entries.invariant.name ∙ past.0;
       named = c.entries.invariant.named ∙ past.1;
     })

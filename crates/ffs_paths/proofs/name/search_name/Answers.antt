@@ -8,8 +8,7 @@ use Rattle.ffs_volume.specs.{Blocks.Inodes.inode_of, Laws.Geometry.IsAcceptedLay
 use Rattle.ffs_volume.specs.Directories.{Roles.is_dir, Roles.roled_entries, Volumes.volume_of}
 use Rattle.ffs_workspace.specs.{Holds.HoldsClaims, Notes.cut_in, declared.workspace.Workspace.Workspace}
 use Rattle.ffs_workspace.proofs.NoteLaws.{cut_is_noted}
-use Rattle.ffs_paths.{specs.Climbing.name_in, proofs.Keeping.chunk_then}
-use Rattle.ffs_paths.proofs.WaysUp.{name_in-by}
+use Rattle.ffs_paths.{specs.Climbing.name_in, proofs.Keeping.chunk_then, proofs.WaysUp.name_in-by}
 use Rattle.ffs_paths.proofs.name.search_name.Goals as goal
 
 -- all entries of the parent are still to come

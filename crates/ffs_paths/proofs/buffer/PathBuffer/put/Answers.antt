@@ -19,7 +19,10 @@ returns-then-self-eq-MAXPATHLEN c = λ names h.
 pub returns-else-self-eq-MAXPATHLEN : goal.returns-else-self-eq-MAXPATHLEN
 returns-else-self-eq-MAXPATHLEN c = λ names h.
     let n = whole-length c.args.self.now names (h.whole c.if-self.false) in
-    let o = c.args.self.now.ordered in
-    let i = c.args.self.now.in_buffer in
     rw (c.put_end-else-self-eq-MAXPATHLEN.ensures, c.clear.ensures, h.whole c.if-self.false)
-    (sym (text_some names (omega (arith, c.if-self-eq-MAXPATHLEN.false)) ∙ text_whole names (omega arith)))
+    (sym (text_some names (omega (
+      arith,
+      c.args.self.now.ordered,
+      c.args.self.now.in_buffer,
+      c.if-self-eq-MAXPATHLEN.false,
+    )) ∙ text_whole names (omega arith)))

@@ -14,8 +14,7 @@ pub returns-then-name-gt-LONGEST_NAME : goal.returns-then-name-gt-LONGEST_NAME
 returns-then-name-gt-LONGEST_NAME c = λ names h single.
     let name = c.args.name.now in
     let over = no_room c.args.self.now names name h c.if-has_room.ensures in
-    let l = last-length names name in
-    rw (c.push.ensures.items, c.clear.ensures) (sym (text_cut _ (omega arith)
+    rw (c.push.ensures.items, c.clear.ensures) (sym (text_cut _ (omega (arith, last-length names name))
     ∙ ap (λ ns. 63 ∷ joined ns) (end-past names name c.if-name-gt-LONGEST_NAME.true)))
 
 pub returns : goal.returns
@@ -23,7 +22,6 @@ returns c = λ names h single.
     let s = c.args.self.now in
     let name = c.args.name.now in
     let over = no_room s names name h c.if-has_room.ensures in
-    let l = last-length names name in
     rw (c.put_from-2.ensures, c.push.ensures.items, c.clear.ensures, c.slash_from-start.ensures.first, c.max.ensures)
-    (sym (text_cut _ (omega arith) ∙ ap (λ b. 63 ∷ b) (end_tail names name s.bytes s.short s.in_buffer s.long h.short
-    single (omega (arith, c.if-name-gt-LONGEST_NAME.false)))))
+    (sym (text_cut _ (omega (arith, last-length names name)) ∙ ap (λ b. 63 ∷ b) (end_tail names name s.bytes s.short
+    s.in_buffer s.long h.short single (omega (arith, c.if-name-gt-LONGEST_NAME.false)))))

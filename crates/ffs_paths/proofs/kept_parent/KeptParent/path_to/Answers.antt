@@ -29,8 +29,7 @@ returns g c =
     claims survey)) in
     record {
       path = λ b t claims survey.
-          let below = of.below in
-          child_made (graph_of (volume_of v b)) s c.child.result (kept_parent b t claims survey) (omega arith)
+          child_made (graph_of (volume_of v b)) s c.child.result (kept_parent b t claims survey) (omega (arith, of.below))
           (rw c.as_slice.ensures.value at c.child.ensures);
       leaves = leaves_kept s (reads_then reads c.in_ok-find_name.ensures.reads) kept_parent;
       counted = λ b knows. few_then (kept.counted b knows)
