@@ -36,10 +36,10 @@ pub chunk_past : (d : ℕ) (order : Order) (chunk : List ℕ) (index place : ℕ
     ≡ name_in d (roled_from false (index + 1) (entries_from order chunk 64 (place + e.length))))
     × (list_any (is_naming_entry d) (roled_from false index (entries_from order chunk 64 place))
     ≡ list_any (is_naming_entry d) (roled_from false (index + 1) (entries_from order chunk 64 (place + e.length))))
-chunk_past d order chunk index place e role there is other =
+chunk_past d order chunk index place e role there is off =
     let rest = roled_from false (index + 1) (entries_from order chunk 64 (place + e.length)) in
     rw (chunk_next order chunk index place e role there is)
-    (name_in-by d (record { role = role; entry = e }) rest other, ap (λ b. b || list_any (is_naming_entry d) rest) other)
+    (name_in-by d (record { role = role; entry = e }) rest off, ap (λ b. b || list_any (is_naming_entry d) rest) off)
 
 -- no entry is left
 pub named_none : (d : ℕ) (order : Order) (chunk : List ℕ) (index place : ℕ) → entry_at order chunk place ≡ None →

@@ -63,8 +63,8 @@ pub first_cut : (p q : PathBuffer) (name : List ℕ) (names : List (List ℕ)) �
     1024 < length (joined names) + suc (length name) → drop p.short p.bytes ≡ drop q.short q.bytes →
     HoldsNames p (name ∷ names)
 first_cut p q name names held cut over short =
-    let more : 1024 < length (joined (name ∷ names)) = omega (arith, joined-length name names) in
-    cut_holds p (name ∷ names) cut more (short ∙ (held.short ∙ ap joined (sym (end-more 1023 name names (omega arith)))))
+    let l : 1024 < length (joined (name ∷ names)) = omega (arith, joined-length name names) in
+    cut_holds p (name ∷ names) cut l (short ∙ (held.short ∙ ap joined (sym (end-more 1023 name names (omega arith)))))
 
 -- ---- a name more after them: all have room, or not
 pub last_fits : (p q : PathBuffer) (names : List (List ℕ)) (name : List ℕ) → IsLonger q q.start name false p →
@@ -92,7 +92,8 @@ pub last_cut : (p q : PathBuffer) (names : List (List ℕ)) (name : List ℕ) (f
     → drop from q.bytes ≡ from_slash (drop (max q.short (length name + 2)) q.bytes) → HoldsNames p (names ++ name ∷ [])
 last_cut p q names name from made held single small low over found =
     cut_holds p (names ++ name ∷ []) made.cut_is (omega (arith, last-length names name))
-    (ap (λ k. drop k p.bytes) (made.all (omega (arith, made.start_is))) ∙ (made.bytes ∙ (ap (λ b. b ++ 47 ∷ name) found ∙ sym (end_tail names name q.bytes q.short q.in_buffer q.long held.short
+    (ap (λ k. drop k p.bytes) (made.all (omega (arith, made.start_is))) ∙ (made.bytes
+    ∙ (ap (λ b. b ++ 47 ∷ name) found ∙ sym (end_tail names name q.bytes q.short q.in_buffer q.long held.short
     (first_single names name single) small))))
 
 -- ---- the text of an entry's path where all have room

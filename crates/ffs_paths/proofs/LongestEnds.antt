@@ -114,7 +114,8 @@ end_tail names name bytes short low size held single small =
     let n = length-drop short bytes in
     let w = ap length held in
     let there : drop from bytes ≡ drop (from - short) (joined ends) =
-    ap (λ i. drop i bytes) (omega arith) ∙ (sym (drop-drop (from - short) short bytes) ∙ ap (drop (from - short)) held) in
+    ap (λ i. drop i bytes) (omega arith)
+    ∙ (sym (drop-drop (from - short) short bytes) ∙ ap (drop (from - short)) held) in
     let found : from_slash (drop from bytes) ≡ joined (longest_end most names) =
     ap from_slash there ∙ (slash_end ends (from - short) most (end_single 1023 names single) (λ past. omega arith)
     (omega arith) ∙ ap joined (end-end most 1023 names (omega arith))) in

@@ -66,8 +66,8 @@ steps_single r passes (s ∷ ss) = append_each (λ c. AreSingleEntries (roled_ch
 
 chunks_single : (cs : List Chunk) → AreSingleChunks cs → AreSingleEntries (flat_map roled_chunk cs)
 chunks_single [] h = tt
-chunks_single (c ∷ cs) h = append_each (λ e. has_slash e.entry.name ≡ false) (roled_chunk c) (flat_map roled_chunk cs) h.0
-    (chunks_single cs h.1)
+chunks_single (c ∷ cs) h = append_each (λ e. has_slash e.entry.name ≡ false) (roled_chunk c) (flat_map roled_chunk cs)
+    h.0 (chunks_single cs h.1)
 
 in_single : (v : Layout) (b : List ℕ) (d : ℕ) → AreSingleEntries (roled_entries (volume_of v b) d)
 unfolding roled_entries volume_of volume_with

@@ -33,8 +33,8 @@ fn parent_of(workspace: &Workspace, dir: u32) -> Option<u32>
 
 /// The directory whose path was made last, and its parent with the parent's path.
 ///
-/// Where the next directory has the same parent, or is in the last one, the way up to the root isn't
-/// climbed again.
+/// Where the next directory has the same parent, or is in the last one, the way up to the root
+/// isn't climbed again.
 #[derive(Drop)]
 pub struct KeptParent {
     /// The parent, or 0 for none.

@@ -22,8 +22,8 @@ returns-then-parent-count-clause-path g c = λ b t claims survey k l.
     let at = i.at in
     let long = i.reads.ready.made.parents in
     let below = (parent_is _ way.left c.up.at c.index-parent.result.now way.level c.if-at-eq-ROOTINO.false
-    (c.index-parent.ensures ∙ (get_or_default c.up.workspace.parents.items c.up.at c.index-parent.result.now 0 (omega arith)
-    ∙ (ap (λ w. slice_index w.parents.items c.up.at) i.reads.lists ∙ survey.parents c.up.at)))).below in
+    (c.index-parent.ensures ∙ (get_or_default c.up.workspace.parents.items c.up.at c.index-parent.result.now 0
+    (omega arith) ∙ (ap (λ w. slice_index w.parents.items c.up.at) i.reads.lists ∙ survey.parents c.up.at)))).below in
     absurd (omega (arith, count_is c.args.geometry.now.layout b, c.if-parent-count.true, c.requires.ready.made.notes))
 
 pub returns-clause-path : goal.returns-clause-path

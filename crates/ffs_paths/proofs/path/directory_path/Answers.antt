@@ -7,7 +7,8 @@ use Rattle.ffs_paths.proofs.path.directory_path.Goals as goal
 pub returns-in_ok-names-clause-path : goal.returns-in_ok-names-clause-path
 returns-in_ok-names-clause-path g c = λ b t claims survey.
     let G = graph_of (volume_of c.args.geometry.now.layout b) in
-    let k = reached-level G c.args.dir (sym (c.is_reached-reached.ensures ∙ survey.reached c.args.dir) ∙ c.if-reached.true) in
+    let k = reached-level G c.args.dir
+    (sym (c.is_reached-reached.ensures ∙ survey.reached c.args.dir) ∙ c.if-reached.true) in
     subst (HoldsPath _) (sym (ap (option_map (λ n. names_down G n c.args.dir)) k.1)) (
       c.if-reached.true,
       c.in_ok-names.ensures.path b t claims survey k.0 k.1,

@@ -10,7 +10,8 @@ pub returns-then-start-gt0 : goal.returns-then-start-gt0
 returns-then-start-gt0 c = λ names h.
     let room = has_parts c.args.self.now.cut _ _ c.if-not-has_room.ensures in
     room_holds _ (c.args.name.now ∷ names) room.0
-    (c.put_before-start.ensures.put.bytes ∙ ap (λ b. 47 ∷ c.args.name.now ++ b) (h.whole room.0)) refl c.if-start-gt0.true
+    (c.put_before-start.ensures.put.bytes ∙ ap (λ b. 47 ∷ c.args.name.now ++ b) (h.whole room.0)) refl
+    c.if-start-gt0.true
 
 pub returns-else-start-gt0 : goal.returns-else-start-gt0
 returns-else-start-gt0 c = λ names h.

@@ -21,7 +21,7 @@ returns g c =
     let reads = kept.leaves.reads in
     let of : IsParentOf w c.args.dir first.parent =
     subst (IsParentOf w c.args.dir) (sym kept.kept) (rw c.in-Some.is at c.parent_of.ensures) in
-    let kept_parent : ForTree v (g.I.Image.device c.args.image.now) w (λ g. IsKeptParent g s) = λ b t claims survey.
+    let holds : ForTree v (g.I.Image.device c.args.image.now) w (λ g. IsKeptParent g s) = λ b t claims survey.
     let above = tree_on (λ g. IsKeptParent g first) reads kept.leaves.kept_parent.right b t claims survey in
     kept_parent_is v b w s survey of (above.path of.some)
     (subst (λ p. IsNameIn (graph_of (volume_of v b)) c.args.dir p s.name.items) (sym kept.kept)
@@ -29,9 +29,9 @@ returns g c =
     claims survey)) in
     record {
       path = λ b t claims survey.
-          child_made (graph_of (volume_of v b)) s c.child.result (kept_parent b t claims survey) (omega (arith, of.below))
+          child_made (graph_of (volume_of v b)) s c.child.result (holds b t claims survey) (omega (arith, of.below))
           (rw c.as_slice.ensures.value at c.child.ensures);
-      leaves = leaves_kept s (reads_then reads c.in_ok-find_name.ensures.reads) kept_parent;
+      leaves = leaves_kept s (reads_then reads c.in_ok-find_name.ensures.reads) holds;
       counted = λ b knows. few_then (kept.counted b knows)
           (c.in_ok-find_name.ensures.counted b (ap (λ d. d.contents) reads.read ∙ knows.gives_bytes)
           (noted_child knows of reads.lists));
