@@ -16,9 +16,9 @@ use Rattle.ffs_workspace.specs.Ready.{IsReady}
 use Rattle.ffs_workspace.specs.Tables.{KeepsTable}
 use Rattle.ffs_workspace.specs.declared.table.Table.{Table}
 use Rattle.ffs_workspace.proofs.Readiness.{ready_table}
-use Rattle.ffs_paths.specs.declared.siblings.Siblings.{Siblings}
+use Rattle.ffs_paths.specs.declared.kept_parent.KeptParent.{KeptParent}
 use Rattle.ffs_paths.specs.Reads.{OnlyReads}
-use Rattle.ffs_paths.proofs.Keeping.{kept_on, reads_then, siblings_held}
+use Rattle.ffs_paths.proofs.Keeping.{kept_on, reads_then, kept_parent_held}
 use Rattle.ffs_names.specs.Windows.{CanReadChunks}
 use Rattle.ffs_pathnames.specs.Ready.{PathLeaves, ReadyWith}
 
@@ -90,11 +90,11 @@ ready_looked v d d' d'' w table blocks chunk queue r same size kept looked can l
     (ready_read v d' d'' read blocks chunk (ready_table v d d' w table same size kept r) looked can)
 
 -- and so is what is kept of a directory and its children
-pub ready_next : (v : Layout) (d d' : Device) (w : Workspace) (s : Siblings) (blocks : Blocks) (chunk : Window)
+pub ready_next : (v : Layout) (d d' : Device) (w : Workspace) (s : KeptParent) (blocks : Blocks) (chunk : Window)
     → ReadyWith v d w s → d' ≡ d → CanReadChunks v d' blocks chunk → ReadyWith v d' (with_chunk w blocks chunk) s
 ready_next v d d' w s blocks chunk r e can = record {
   ready = ready_read v d d' w blocks chunk r.ready (ap (λ x. x.contents) e) can;
-  siblings = siblings_held v _ _ w (with_chunk w blocks chunk) s (ap (λ x. x.contents) e) refl r.siblings;
+  kept_parent = kept_parent_held v _ _ w (with_chunk w blocks chunk) s (ap (λ x. x.contents) e) refl r.kept_parent;
 }
 
 -- what is ready for reading chunks
@@ -107,8 +107,8 @@ can_read_in v d w r = record {
 }
 
 -- what a call leaves that made a path, and another that only read
-pub leaves_read : {S T : Type 0} {v : Layout} {d d' d'' : Device} {w w' w'' : Workspace} {s : Siblings} {x : S}
+pub leaves_read : {S T : Type 0} {v : Layout} {d d' d'' : Device} {w w' w'' : Workspace} {s : KeptParent} {x : S}
     (result : Result T ImageFault) → PathLeaves v d d' w w' s (Ok x) → OnlyReads v d' d'' w' w'' result
     → PathLeaves v d d'' w w'' s result
-leaves_read (Ok y) path read = record { reads = reads_then path.reads read; siblings = kept_on _ read path.siblings }
-leaves_read (Err e) path read = record { reads = reads_then path.reads read; siblings = tt }
+leaves_read (Ok y) path read = record { reads = reads_then path.reads read; kept_parent = kept_on _ read path.kept_parent }
+leaves_read (Err e) path read = record { reads = reads_then path.reads read; kept_parent = tt }

@@ -28,7 +28,7 @@ use crate::one_entry::{EntryTexts, gather_dir};
 use crate::reread::report_directory;
 use ffs_image::Image;
 use ffs_layout::{Entry, Geometry, entry_at};
-use ffs_paths::{PathText, Siblings};
+use ffs_paths::{KeptParent, PathText};
 use ffs_report::{Output, Report, RunFault};
 use ffs_volume::Order;
 use ffs_workspace::Workspace;
@@ -70,18 +70,18 @@ fn report_header<I: Image, W: Output>(
     geometry: &Geometry,
     image: &mut I,
     workspace: &mut Workspace,
-    siblings: &mut Siblings,
+    kept_parent: &mut KeptParent,
     report: &mut Report<'_, W>,
     header: DirectoryHeader<'_>,
 ) -> Result<(), RunFault>
-    requires { ReadyToPath geometry.now.layout (I.device image.old) workspace.old siblings.old
+    requires { ReadyToPath geometry.now.layout (I.device image.old) workspace.old kept_parent.old
         header.number }
     ensures text { PhaseReports
         (KnowsHeader geometry.now.layout (I.device image.old) workspace.old header.entry)
         (λ b. map of_tree (header_lines (volume_of geometry.now.layout b) header.entry))
         (progress W.sink report.old) (progress W.sink report.new) result }
     ensures leaves { LinesLeave geometry.now.layout (I.device image.old) (I.device image.new)
-        workspace.old workspace.new siblings.new result }
+        workspace.old workspace.new kept_parent.new result }
     ensures counted { ReadsByLines geometry.now.layout
         (KnowsHeader geometry.now.layout (I.device image.old) workspace.old header.entry)
         (λ b. header_lines (volume_of geometry.now.layout b) header.entry)
@@ -95,7 +95,7 @@ fn report_header<I: Image, W: Output>(
         geometry,
         image,
         workspace,
-        siblings,
+        kept_parent,
         header.number,
         &mut path,
     )?;
@@ -108,12 +108,12 @@ fn begin_directory<I: Image, W: Output>(
     geometry: &Geometry,
     image: &mut I,
     workspace: &mut Workspace,
-    siblings: &mut Siblings,
+    kept_parent: &mut KeptParent,
     report: &mut Report<'_, W>,
     dir: u32,
 ) -> Result<DirectorySummary, RunFault>
     requires ready { ReadyToPath geometry.now.layout (I.device image.old) workspace.old
-        siblings.old dir }
+        kept_parent.old dir }
     requires dir { 2 ≤ dir }
     ensures text { PhaseReports (DirectoryContext geometry.now.layout (I.device image.old).contents
         workspace.old dir)
@@ -128,7 +128,7 @@ fn begin_directory<I: Image, W: Output>(
         → I.reads image.new ≤ I.reads image.old + begin_reads geometry.now.layout b dir
         (length (dir_starts (volume_of geometry.now.layout b) dir))) }
     ensures leaves { PhaseLeaves geometry.now.layout (I.device image.old) (I.device image.new)
-        workspace.old workspace.new siblings.new result }
+        workspace.old workspace.new kept_parent.new result }
 {
     let examined = examine(geometry, image, workspace, dir)?;
     let parent = parent_of(workspace, dir);
@@ -142,7 +142,7 @@ fn begin_directory<I: Image, W: Output>(
         first,
         second,
     };
-    report_header(geometry, image, workspace, siblings, report, header)?;
+    report_header(geometry, image, workspace, kept_parent, report, header)?;
     Ok(examined)
 }
 
@@ -160,7 +160,7 @@ pub fn check_directory<I: Image, W: Output>(
     dir: u32,
 ) -> Result<(), RunFault>
     requires ready { ReadyToPath geometry.now.layout (I.device image.old) workspace.old
-        texts.old.siblings dir }
+        texts.old.kept_parent dir }
     requires dir { 2 ≤ dir }
     ensures text { PhaseReports (λ b. DirectoryContext geometry.now.layout
         (I.device image.old).contents workspace.old dir b
@@ -179,9 +179,16 @@ pub fn check_directory<I: Image, W: Output>(
         → I.reads image.new ≤ I.reads image.old + check_reads geometry.now.layout b dir
         (length (sized_dir_lines (volume_of geometry.now.layout b) dir))) }
     ensures leaves { PhaseLeaves geometry.now.layout (I.device image.old) (I.device image.new)
-        workspace.old workspace.new texts.new.siblings result }
+        workspace.old workspace.new texts.new.kept_parent result }
 {
-    let examined = begin_directory(geometry, image, workspace, &mut texts.siblings, report, dir)?;
+    let examined = begin_directory(
+        geometry,
+        image,
+        workspace,
+        &mut texts.kept_parent,
+        report,
+        dir,
+    )?;
     if examined.look.quiet {
         return Ok(());
     }

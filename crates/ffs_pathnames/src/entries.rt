@@ -41,14 +41,14 @@ fn report_by_role<I: Image, W: Output>(
     entry: &DirectoryEntry<'_>,
 ) -> Result<(), RunFault>
     requires ready { ReadyToPath geometry.now.layout (I.device image.old) workspace.old
-        texts.old.siblings entry.now.dir }
+        texts.old.kept_parent entry.now.dir }
     ensures lines { ReportsEntries geometry.now.layout (I.device image.old) workspace.old
         workspace.new entry.now.dir texts.old texts.new
         (λ v. roled_lines_by v workspace.old entry.now)
         (progress W.sink report.old) (progress W.sink report.new)
         (I.reads image.old) (I.reads image.new) result }
     ensures leaves { LinesLeave geometry.now.layout (I.device image.old) (I.device image.new)
-        workspace.old workspace.new texts.new.siblings result }
+        workspace.old workspace.new texts.new.kept_parent result }
 {
     match entry.role {
         Role::Empty => Ok(()),
@@ -72,7 +72,7 @@ pub fn report_entry<I: Image, W: Output>(
     entry: &DirectoryEntry<'_>,
 ) -> Result<(), RunFault>
     requires ready { ReadyToPath geometry.now.layout (I.device image.old) workspace.old
-        texts.old.siblings entry.now.dir }
+        texts.old.kept_parent entry.now.dir }
     ensures lines { ReportsEntries geometry.now.layout (I.device image.old) workspace.old
         workspace.new entry.now.dir texts.old texts.new
         (λ v. roled_lines_by v workspace.old entry.now)
@@ -83,7 +83,7 @@ pub fn report_entry<I: Image, W: Output>(
         (λ b. names.after_roled (volume_of geometry.now.layout b) entry.now.dir
         (passed_of workspace.old) (roled_value entry.now) ≡ passed_of workspace.new)) }
     ensures leaves { PhaseLeaves geometry.now.layout (I.device image.old) (I.device image.new)
-        workspace.old workspace.new texts.new.siblings result }
+        workspace.old workspace.new texts.new.kept_parent result }
     ensures chunk { workspace.new.windows.chunk ≡ workspace.old.windows.chunk }
 {
     report_by_role(geometry, image, workspace, texts, report, entry)?;
@@ -116,7 +116,7 @@ pub fn report_chunk<I: Image, W: Output>(
     chunk: &DirectoryChunk<'_>,
 ) -> Result<(), RunFault>
     requires { ReadyToPath geometry.now.layout (I.device image.old) workspace.old
-        texts.old.siblings chunk.now.dir }
+        texts.old.kept_parent chunk.now.dir }
     ensures lines { ReportsEntries geometry.now.layout (I.device image.old) workspace.old
         workspace.new chunk.now.dir texts.old texts.new
         (λ v. names.entries_reported v chunk.now.dir (passed_of workspace.old)
@@ -129,7 +129,7 @@ pub fn report_chunk<I: Image, W: Output>(
         (passed_of workspace.old) (roled_in geometry.now.layout chunk.now)
         ≡ passed_of workspace.new)) }
     ensures leaves { PhaseLeaves geometry.now.layout (I.device image.old) (I.device image.new)
-        workspace.old workspace.new texts.new.siblings result }
+        workspace.old workspace.new texts.new.kept_parent result }
     ensures chunk { workspace.new.windows.chunk ≡ workspace.old.windows.chunk }
 {
     let order = geometry.layout.order;

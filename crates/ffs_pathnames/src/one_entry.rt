@@ -28,7 +28,7 @@ use crate::verdict::{Verdict, entry_verdict};
 use ffs_image::{Image, ImageFault};
 use ffs_layout::{Entry, Geometry};
 use ffs_names::is_one_dot;
-use ffs_paths::{DirectoryPath, EntryPaths, PathBuffer, PathText, Siblings};
+use ffs_paths::{DirectoryPath, EntryPaths, KeptParent, PathBuffer, PathText};
 use ffs_report::{DotLine, Line, OutFault, Output, Report, RunFault};
 use ffs_volume::{Attr, Role};
 use ffs_workspace::Workspace;
@@ -48,7 +48,7 @@ pub struct DirectoryEntry<'a> {
 #[derive(Drop)]
 pub struct EntryTexts {
     /// What is kept from the path of one directory to that of the next.
-    pub siblings: Siblings,
+    pub kept_parent: KeptParent,
     /// Whether the path of the directory that the entries are in was made: the first line makes it.
     pub begun: bool,
     /// The path of the entry.
@@ -58,16 +58,16 @@ pub struct EntryTexts {
 }
 
 impl EntryTexts {
-    ghost use Rattle.ffs_paths.specs.Siblings.{KeepSiblings};
+    ghost use Rattle.ffs_paths.specs.KeptParents.{KeepsParent};
     ghost use Rattle.ffs_workspace.specs.declared.workspace.Workspace as workspaces;
 
     /// Of no directory.
     pub fn none() -> EntryTexts
         ensures { (v : Layout) (contents : Option (List ℕ)) (w : workspaces.Workspace)
-            → KeepSiblings v contents w result.siblings }
+            → KeepsParent v contents w result.kept_parent }
     {
         EntryTexts {
-            siblings: Siblings::none(),
+            kept_parent: KeptParent::none(),
             begun: false,
             paths: EntryPaths::of(DirectoryPath {
                 reached: false,
@@ -89,8 +89,8 @@ fn make_paths<I: Image>(
     texts: &mut EntryTexts,
     dir: u32,
 ) -> Result<(), ImageFault>
-    requires { ReadyToPath geometry.now.layout (I.device image.old) workspace.old texts.old.siblings
-        dir }
+    requires { ReadyToPath geometry.now.layout (I.device image.old) workspace.old
+        texts.old.kept_parent dir }
     ensures made { OnOk result (ForBytes (KnowsPath geometry.now.layout
         (I.device image.old).contents workspace.old dir texts.old)
         (λ b. IsPathOf (graph_of (volume_of geometry.now.layout b)) dir
@@ -98,11 +98,11 @@ fn make_paths<I: Image>(
     ensures path { KeepsPath geometry.now.layout (I.device image.old) workspace.old
         dir texts.old texts.new }
     ensures leaves { PathLeaves geometry.now.layout (I.device image.old) (I.device image.new)
-        workspace.old workspace.new texts.new.siblings result }
+        workspace.old workspace.new texts.new.kept_parent result }
     ensures counted { ReadsAtMost path_reads geometry.now.layout (I.device image.old)
         workspace.old workspace.new (I.reads image.old) (I.reads image.new) }
 {
-    let path = texts.siblings.path_to(geometry, image, workspace, dir)?;
+    let path = texts.kept_parent.path_to(geometry, image, workspace, dir)?;
     texts.paths = EntryPaths::of(path);
     texts.begun = true;
     Ok(())
@@ -117,8 +117,8 @@ fn begin_paths<I: Image>(
     texts: &mut EntryTexts,
     dir: u32,
 ) -> Result<(), ImageFault>
-    requires { ReadyToPath geometry.now.layout (I.device image.old) workspace.old texts.old.siblings
-        dir }
+    requires { ReadyToPath geometry.now.layout (I.device image.old) workspace.old
+        texts.old.kept_parent dir }
     ensures made { OnOk result (ForBytes (KnowsPath geometry.now.layout
         (I.device image.old).contents workspace.old dir texts.old)
         (λ b. IsPathOf (graph_of (volume_of geometry.now.layout b)) dir
@@ -126,7 +126,7 @@ fn begin_paths<I: Image>(
     ensures path { KeepsPath geometry.now.layout (I.device image.old) workspace.old
         dir texts.old texts.new }
     ensures leaves { PathLeaves geometry.now.layout (I.device image.old) (I.device image.new)
-        workspace.old workspace.new texts.new.siblings result }
+        workspace.old workspace.new texts.new.kept_parent result }
     ensures counted { ReadsAtMost path_reads geometry.now.layout (I.device image.old)
         workspace.old workspace.new (I.reads image.old) (I.reads image.new) }
 {
@@ -183,21 +183,21 @@ fn gather_path<I: Image>(
     wanted: bool,
     dir: u32,
 ) -> Result<(), ImageFault>
-    requires { ReadyToPath geometry.now.layout (I.device image.old) workspace.old texts.old.siblings
-        dir }
+    requires { ReadyToPath geometry.now.layout (I.device image.old) workspace.old
+        texts.old.kept_parent dir }
     ensures path { OnOk result (ForTree geometry.now.layout (I.device image.old) workspace.old
         (λ g. IsTrue wanted → texts.new.directory.items ≡ dir_path g dir)) }
     ensures same { (texts.new.begun ≡ texts.old.begun) × (texts.new.paths ≡ texts.old.paths) }
     ensures leaves { PathLeaves geometry.now.layout (I.device image.old) (I.device image.new)
-        workspace.old workspace.new texts.new.siblings result }
+        workspace.old workspace.new texts.new.kept_parent result }
     ensures counted { ReadsAtMost path_reads geometry.now.layout (I.device image.old)
         workspace.old workspace.new (I.reads image.old) (I.reads image.new) }
 {
     if !wanted {
         return Ok(());
     }
-    let siblings = &mut texts.siblings;
-    siblings.put_path(geometry, image, workspace, dir, &mut texts.directory)
+    let kept_parent = &mut texts.kept_parent;
+    kept_parent.put_path(geometry, image, workspace, dir, &mut texts.directory)
 }
 
 /// Gathers what the messages on an entry show, once the path of its directory is made: the entry's
@@ -212,7 +212,7 @@ fn gather<I: Image>(
     verdict: &Verdict,
 ) -> Result<Attr, ImageFault>
     requires ready { ReadyWith geometry.now.layout (I.device image.old) workspace.old
-        texts.old.siblings }
+        texts.old.kept_parent }
     requires number { IsTrue (asks_attr verdict.now) → entry.now.number
         < geometry.now.layout.ncg * geometry.now.layout.ipg }
     ensures enough { IfOk result (λ a. (b : List ℕ) (dir : ℕ) → (I.device image.old).contents
@@ -224,7 +224,7 @@ fn gather<I: Image>(
     ensures same { texts.new.paths.directory ≡ texts.old.paths.directory }
     ensures begun { texts.new.begun ≡ texts.old.begun }
     ensures leaves { PathLeaves geometry.now.layout (I.device image.old) (I.device image.new)
-        workspace.old workspace.new texts.new.siblings result }
+        workspace.old workspace.new texts.new.kept_parent result }
     ensures counted { ReadsAtMost (path_reads + 1) geometry.now.layout (I.device image.old)
         workspace.old workspace.new (I.reads image.old) (I.reads image.new) }
 {
@@ -256,7 +256,7 @@ fn gather_entry<I: Image>(
     verdict: &Verdict,
 ) -> Result<Attr, ImageFault>
     requires ready { ReadyToPath geometry.now.layout (I.device image.old) workspace.old
-        texts.old.siblings entry.now.dir }
+        texts.old.kept_parent entry.now.dir }
     requires number { IsTrue (asks_attr verdict.now) → entry.now.entry.number
         < geometry.now.layout.ncg * geometry.now.layout.ipg }
     ensures enough { IfOk result (λ a. ForBytes (KnowsPath geometry.now.layout
@@ -266,7 +266,7 @@ fn gather_entry<I: Image>(
     ensures path { KeepsPath geometry.now.layout (I.device image.old) workspace.old
         entry.now.dir texts.old texts.new }
     ensures leaves { PathLeaves geometry.now.layout (I.device image.old) (I.device image.new)
-        workspace.old workspace.new texts.new.siblings result }
+        workspace.old workspace.new texts.new.kept_parent result }
     ensures counted { ReadsAtMost line_reads geometry.now.layout (I.device image.old)
         workspace.old workspace.new (I.reads image.old) (I.reads image.new) }
 {
@@ -283,8 +283,8 @@ fn gather_extra<I: Image>(
     texts: &mut EntryTexts,
     dir: u32,
 ) -> Result<Attr, ImageFault>
-    requires { ReadyToPath geometry.now.layout (I.device image.old) workspace.old texts.old.siblings
-        dir }
+    requires { ReadyToPath geometry.now.layout (I.device image.old) workspace.old
+        texts.old.kept_parent dir }
     ensures attr { IfOk result (λ a. ForContents (I.device image.old).contents
         (λ b. a ≡ attributes (volume_of geometry.now.layout b) dir)) }
     ensures text { OnOk result (ForBytes (KnowsPath geometry.now.layout
@@ -293,7 +293,7 @@ fn gather_extra<I: Image>(
     ensures path { KeepsPath geometry.now.layout (I.device image.old) workspace.old
         dir texts.old texts.new }
     ensures leaves { PathLeaves geometry.now.layout (I.device image.old) (I.device image.new)
-        workspace.old workspace.new texts.new.siblings result }
+        workspace.old workspace.new texts.new.kept_parent result }
     ensures counted { ReadsAtMost line_reads geometry.now.layout (I.device image.old)
         workspace.old workspace.new (I.reads image.old) (I.reads image.new) }
 {
@@ -351,14 +351,14 @@ pub fn report_plain<I: Image, W: Output>(
     entry: &DirectoryEntry<'_>,
 ) -> Result<(), RunFault>
     requires ready { ReadyToPath geometry.now.layout (I.device image.old) workspace.old
-        texts.old.siblings entry.now.dir }
+        texts.old.kept_parent entry.now.dir }
     ensures lines { ReportsEntries geometry.now.layout (I.device image.old) workspace.old
         workspace.new entry.now.dir texts.old texts.new
         (λ v. plain_lines_by v workspace.old entry.now)
         (progress W.sink report.old) (progress W.sink report.new)
         (I.reads image.old) (I.reads image.new) result }
     ensures leaves { LinesLeave geometry.now.layout (I.device image.old) (I.device image.new)
-        workspace.old workspace.new texts.new.siblings result }
+        workspace.old workspace.new texts.new.kept_parent result }
 {
     let verdict = verdict_of(workspace, entry.dir, &entry.entry);
     if is_silent(&verdict) {
@@ -390,14 +390,14 @@ pub fn report_extra<I: Image, W: Output>(
     entry: &DirectoryEntry<'_>,
 ) -> Result<(), RunFault>
     requires { ReadyToPath geometry.now.layout (I.device image.old) workspace.old
-        texts.old.siblings entry.now.dir }
+        texts.old.kept_parent entry.now.dir }
     ensures lines { ReportsEntries geometry.now.layout (I.device image.old) workspace.old
         workspace.new entry.now.dir texts.old texts.new
         (λ v. extra_reported v entry.now)
         (progress W.sink report.old) (progress W.sink report.new)
         (I.reads image.old) (I.reads image.new) result }
     ensures leaves { LinesLeave geometry.now.layout (I.device image.old) (I.device image.new)
-        workspace.old workspace.new texts.new.siblings result }
+        workspace.old workspace.new texts.new.kept_parent result }
 {
     let attr = gather_extra(geometry, image, workspace, texts, entry.dir)?;
     say_extra(report, attr, texts.directory.as_slice(), &entry.entry)?;
@@ -412,22 +412,23 @@ pub fn gather_dir<I: Image>(
     geometry: &Geometry,
     image: &mut I,
     workspace: &mut Workspace,
-    siblings: &mut Siblings,
+    kept_parent: &mut KeptParent,
     dir: u32,
     path: &mut PathText,
 ) -> Result<Attr, ImageFault>
-    requires { ReadyToPath geometry.now.layout (I.device image.old) workspace.old siblings.old dir }
+    requires { ReadyToPath geometry.now.layout (I.device image.old) workspace.old kept_parent.old
+        dir }
     ensures attr { IfOk result (λ a. ForContents (I.device image.old).contents
         (λ b. a ≡ attributes (volume_of geometry.now.layout b) dir)) }
     ensures path { OnOk result ((b : List ℕ)
         → DirectoryContext geometry.now.layout (I.device image.old).contents workspace.old dir b
         → path.new.items ≡ dir_path (graph_of (volume_of geometry.now.layout b)) dir) }
     ensures leaves { PathLeaves geometry.now.layout (I.device image.old) (I.device image.new)
-        workspace.old workspace.new siblings.new result }
+        workspace.old workspace.new kept_parent.new result }
     ensures counted { ReadsAtMost line_reads geometry.now.layout (I.device image.old)
         workspace.old workspace.new (I.reads image.old) (I.reads image.new) }
 {
-    siblings.put_path(geometry, image, workspace, dir, path)?;
+    kept_parent.put_path(geometry, image, workspace, dir, path)?;
     read_attr(geometry, image, workspace, dir)
 }
 

@@ -36,7 +36,7 @@ pub fn report_directory<I: Image, W: Output>(
     directory: &Directory,
 ) -> Result<(), RunFault>
     requires ready { ReadyToPath geometry.now.layout (I.device image.old) workspace.old
-        texts.old.siblings directory.now.number }
+        texts.old.kept_parent directory.now.number }
     requires cut { directory.now.cut
         ≡ cut_in (slice_index workspace.old.notes.items directory.now.number) }
     ensures text { PhaseReports
@@ -56,7 +56,7 @@ pub fn report_directory<I: Image, W: Output>(
         (length (names.directory_reported (volume_of geometry.now.layout b)
         directory.now.number (passed_of workspace.old)))) }
     ensures leaves { PhaseLeaves geometry.now.layout (I.device image.old) (I.device image.new)
-        workspace.old workspace.new texts.new.siblings result }
+        workspace.old workspace.new texts.new.kept_parent result }
 {
     let mut chunks = Chunks::start(geometry, &directory.inode, directory.cut);
     let mut bytes = [0u8; DIRBLKSIZ];

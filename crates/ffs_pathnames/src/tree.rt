@@ -66,7 +66,7 @@ fn check_inode<I: Image, W: Output>(
     number: u32,
 ) -> Result<(), RunFault>
     requires ready { ReadyToPath geometry.now.layout (I.device image.old) workspace.old
-        texts.old.siblings number }
+        texts.old.kept_parent number }
     requires low { 2 ≤ number }
     ensures text { PhaseReports (λ b. IsBefore geometry.now.layout (I.device image.old).contents
         workspace.old number b)
@@ -82,7 +82,7 @@ fn check_inode<I: Image, W: Output>(
         → I.reads image.new ≤ I.reads image.old + check_reads geometry.now.layout b number
         (length (directory_lines (volume_of geometry.now.layout b) number))) }
     ensures leaves { PhaseLeaves geometry.now.layout (I.device image.old) (I.device image.new)
-        workspace.old workspace.new texts.new.siblings result }
+        workspace.old workspace.new texts.new.kept_parent result }
 {
     if is_checked(workspace, number) {
         return check_directory(geometry, image, workspace, texts, report, number);

@@ -1,22 +1,12 @@
 -- How far a climb to the root has come, and how often it has read.
-use Rattle.std.proofs.Common.{◌≡◌, ◌≢◌, ℕ, zero, suc, ◌+◌, ◌*◌, ◌<◌, ◌≤◌, false, List, ◌∷◌, length}
-use Rattle.std.proofs.Common.{Some, sym, ap, subst, ◌∙◌, arith}
-use Rattle.std.specs.Prelude.{nat_lt, Option}
-use Rattle.std.proofs.lemmas.Bool.Decides.{nat_tests}
-use Rattle.ffs_volume.specs.Directories.Graph.{level}
-use Rattle.ffs_volume.specs.Directories.Parents.{graph_of}
-use Rattle.ffs_volume.specs.Directories.Paths.{joined}
-use Rattle.ffs_volume.specs.Directories.Volumes.{volume_of}
-use Rattle.ffs_volume.specs.declared.Layout.{Layout}
-use Rattle.ffs_volume.proofs.LevelLaws.{reached-level}
+use Rattle.std.proofs.Common.{◌≡◌, ◌≢◌, ℕ, zero, suc, ◌+◌, ◌*◌, ◌<◌, ◌≤◌, false, List, ◌∷◌, length, ltb-false, Some}
+use Rattle.std.proofs.Common.{sym, ap, subst, ◌∙◌, arith, Option}
+use Rattle.ffs_volume.specs.Directories.{Graph.level, Paths.joined, Parents.graph_of, Volumes.volume_of}
+use Rattle.ffs_volume.{specs.declared.Layout.Layout, proofs.LevelLaws.reached-level}
 use Rattle.ffs_survey.specs.ParentLaws.{root_level}
-use Rattle.ffs_workspace.specs.Places.{AreNoted, IsNoted}
-use Rattle.ffs_workspace.specs.declared.workspace.Workspace.{Workspace}
-use Rattle.ffs_paths.specs.Buffers.{HoldsNames}
-use Rattle.ffs_paths.specs.Climbing.{IsParentOf}
-use Rattle.ffs_paths.specs.Reads.{KnowsPlaces, ReadsFew}
-use Rattle.ffs_paths.specs.declared.buffer.PathBuffer.{PathBuffer}
-use Rattle.ffs_paths.proofs.LongestEnds.{joined-length}
+use Rattle.ffs_workspace.specs.{Places.IsNoted, declared.workspace.Workspace.Workspace}
+use Rattle.ffs_paths.specs.{Reads.KnowsPlaces, Reads.ReadsFew, Buffers.HoldsNames, Climbing.IsParentOf}
+use Rattle.ffs_paths.{proofs.LongestEnds.joined-length, specs.declared.buffer.PathBuffer.PathBuffer}
 
 -- so many steps were climbed, with a read for each at most, and with a name for each that takes two bytes at least
 pub record HasClimbed (steps reads reads' : ℕ) (before after : Workspace) (p : PathBuffer) : Type 0 where
@@ -30,66 +20,43 @@ pub record HasClimbed (steps reads reads' : ℕ) (before after : Workspace) (p :
 pub few_then : {m n reads reads' reads'' : ℕ} {w w' w'' : Workspace} → ReadsFew m reads reads' w w' →
     ReadsFew n reads' reads'' w' w'' → ReadsFew (m + n) reads reads'' w w''
 few_then one two =
-    let a = one.count in
-    let b = two.count in
-    record { count = omega arith; blocks = two.blocks ∙ one.blocks }
+    record { count = omega (arith, one.count, two.count); blocks = two.blocks ∙ one.blocks }
 
 pub few_more : {m n reads reads' : ℕ} {w w' : Workspace} → ReadsFew m reads reads' w w' → m ≤ n →
     ReadsFew n reads reads' w w'
-few_more one l = let a = one.count in record { count = omega arith; blocks = one.blocks }
+few_more one l = record { count = omega (arith, one.count); blocks = one.blocks }
 
-short_way : {steps reads reads' : ℕ} {w w' : Workspace} {p : PathBuffer} → HasClimbed steps reads reads' w w' p →
+-- with room for a name more there are a step and a read more
+pub short_way : {steps reads reads' : ℕ} {w w' : Workspace} {p : PathBuffer} → HasClimbed steps reads reads' w w' p →
     p.cut ≡ false → steps + 1 ≤ 513
 short_way {steps = steps} c room =
-    let l = c.long in
-    let s : length (joined c.names) ≤ 1024 = under (length (joined c.names)) (sym c.held.cut ∙ room) in
-    omega arith
-  where
-    under : (n : ℕ) → nat_lt 1024 n ≡ false → n ≤ 1024
-    under n h = grind (arith, nat_tests)
+    omega (arith, c.long, ltb-false 1024 (length (joined c.names)) (sym c.held.cut ∙ room))
 
 -- a step more: the name of a directory above was found, and put before the others
 pub climb_more : {steps reads reads' reads'' : ℕ} {w w' w'' : Workspace} {p q : PathBuffer} (name : List ℕ) →
     HasClimbed steps reads reads' w w' p → p.cut ≡ false → ReadsFew 1 reads' reads'' w' w'' → 0 < length name
     → ((names : List (List ℕ)) → HoldsNames p names → HoldsNames q (name ∷ names)) →
     HasClimbed (steps + 1) reads reads'' w w'' q
-climb_more name c room one some puts =
-    let l = c.long in
-    let j = joined-length name c.names in
-    record {
-      few = few_then c.few one;
-      names = name ∷ c.names;
-      held = puts c.names c.held;
-      long = omega arith;
-      most = short_way c room;
-    }
-
--- the climb ends, and it ends by a read that failed
-pub climb_ends : {steps reads reads' : ℕ} {w w' : Workspace} {p : PathBuffer} → HasClimbed steps reads reads' w w' p →
-    ReadsFew 513 reads reads' w w'
-climb_ends c = few_more c.few c.most
-
-pub climb_fails : {steps reads reads' reads'' : ℕ} {w w' w'' : Workspace} {p : PathBuffer} →
-    HasClimbed steps reads reads' w w' p → p.cut ≡ false → ReadsFew 1 reads' reads'' w' w'' →
-    ReadsFew 513 reads reads'' w w''
-climb_fails c room one = few_more (few_then c.few one) (short_way c room)
+climb_more name c room one some puts = record {
+  few = few_then c.few one;
+  names = name ∷ c.names;
+  held = puts c.names c.held;
+  long = omega (arith, c.long, joined-length name c.names);
+  most = short_way c room;
+}
 
 -- a place is noted of a directory other than the root that is reached
-pub noted_here : (v : Layout) (b : List ℕ) (w w' : Workspace) (k d : ℕ) → AreNoted v b w.queue.items →
-    w' ≡ record w { windows = w'.windows } → level (graph_of (volume_of v b)) d ≡ Some k → d ≢ 2 →
-    IsNoted v b w'.queue.items d
-noted_here v b w w' k d noted lists there n =
-    subst (λ words. IsNoted v b words d) (sym (ap (λ (x : Workspace). x.queue.items) lists)) (go k there)
-  where
-    go : (j : ℕ) → level (graph_of (volume_of v b)) d ≡ Some j → IsNoted v b w.queue.items d
-    go zero l = absurd (n (root_level (graph_of (volume_of v b)) d l))
-    go (suc j) l = noted d j l
+pub noted_here : {v : Layout} {contents : Option (List ℕ)} {b : List ℕ} {w w' : Workspace} (k d : ℕ) →
+    KnowsPlaces v contents w b → w' ≡ record w { windows = w'.windows } →
+    level (graph_of (volume_of v b)) d ≡ Some k → d ≢ 2 → IsNoted v b w'.queue.items d
+noted_here {v = v} {b = b} zero d knows lists there n = absurd (n (root_level (graph_of (volume_of v b)) d there))
+noted_here {v = v} {b = b} (suc j) d knows lists there n =
+    subst (λ words. IsNoted v b words d) (sym (ap (λ (x : Workspace). x.queue.items) lists)) (knows.places d j there)
 
 -- and so of one for which the survey found a parent
-pub noted_child : (v : Layout) (contents : Option (List ℕ)) (b : List ℕ) (w w' : Workspace) (d s : ℕ) →
+pub noted_child : {v : Layout} {contents : Option (List ℕ)} {b : List ℕ} {w w' : Workspace} {d s : ℕ} →
     KnowsPlaces v contents w b → IsParentOf w d s → w' ≡ record w { windows = w'.windows } →
     IsNoted v b w'.queue.items d
-noted_child v contents b w w' d s knows of lists =
-    let below = of.below in
+noted_child {v = v} {b = b} {d = d} knows of lists =
     let l = reached-level (graph_of (volume_of v b)) d (sym (knows.survey.reached d) ∙ of.reached) in
-    noted_here v b w w' l.0 d knows.places lists l.1 (omega arith)
+    noted_here l.0 d knows lists l.1 (omega (arith, of.below))

@@ -1,19 +1,15 @@
 -- What is kept of a directory and its children stays right where only other parts of a workspace change.
-use Rattle.std.proofs.Common.{◌≡◌, List, ℕ, refl, sym, ap, subst, ◌∙◌, rules}
-use Rattle.std.specs.Prelude.{Option, Result, Ok, slice_index}
-use Rattle.ffs_image.specs.Device.{Device}
-use Rattle.ffs_image.specs.Reads.{ReadAfter}
-use Rattle.ffs_image.specs.declared.image.ImageFault.{ImageFault}
-use Rattle.ffs_volume.specs.declared.Layout.{Layout}
-use Rattle.ffs_volume.specs.Directories.Graph.{Graph}
-use Rattle.ffs_workspace.specs.declared.workspace.Workspace.{Workspace}
-use Rattle.ffs_workspace.specs.Leaves.{LeavesSurvey}
-use Rattle.ffs_workspace.specs.Ready.{IsReady}
-use Rattle.ffs_workspace.proofs.Leaving.{claims_held, claims_left, survey_held, survey_left, windows_leave}
-use Rattle.ffs_paths.specs.Reads.{ForTree, OnlyReads}
+use Rattle.std.proofs.Common.{◌≡◌, List, ℕ, refl, sym, ap, subst, ◌∙◌, rules, Option, Result, Ok, slice_index, vec_len}
+use Rattle.std.proofs.Common.{Err}
+use Rattle.ffs_image.specs.{Device.Device, Reads.ReadAfter, declared.image.ImageFault.ImageFault}
+use Rattle.ffs_volume.specs.{declared.Layout.Layout, Directories.Graph.Graph}
+use Rattle.ffs_workspace.specs.{declared.workspace.Workspace.Workspace, Leaves.LeavesSurvey, Ready.IsReady}
 use Rattle.ffs_workspace.specs.Places.{ArePlaces, place_in}
-use Rattle.ffs_paths.specs.Siblings.{AreSiblings, KeepSiblings, PathLeaves, SamePlaces}
-use Rattle.ffs_paths.specs.declared.siblings.Siblings.{Siblings}
+use Rattle.ffs_workspace.proofs.Leaving.{claims_held, claims_left, survey_held, survey_left, windows_leave}
+use Rattle.ffs_paths.specs.{Reads.ForTree, Reads.OnlyReads, declared.kept_parent.KeptParent.KeptParent}
+use Rattle.ffs_paths.specs.KeptParents.{IsKeptParent, KeepsParent, PathLeaves, SamePlaces}
+use Rattle.ffs_walk.specs.{declared.window.Window.Window, declared.blocks.Blocks.Blocks, Windows.WindowHolds}
+use Rattle.ffs_names.specs.Windows.{CanReadChunks}
 
 -- where the same places are noted, what was found is as it was, seen from the later workspace
 leaves_back : (old new : Workspace) → LeavesSurvey old new → SamePlaces old new → LeavesSurvey new old
@@ -23,30 +19,28 @@ leaves_back old new s same =
     search (rules, sym)
 
 -- what is kept stays right where the same places are noted
-pub siblings_on : (v : Layout) (contents contents' : Option (List ℕ)) (old new : Workspace) (s : Siblings) →
+pub kept_parent_on : (v : Layout) (contents contents' : Option (List ℕ)) (old new : Workspace) (s : KeptParent) →
     contents' ≡ contents → LeavesSurvey old new → SamePlaces old new
-    → KeepSiblings v contents old s → KeepSiblings v contents' new s
-siblings_on v contents contents' old new s e left same k =
+    → KeepsParent v contents old s → KeepsParent v contents' new s
+kept_parent_on v contents contents' old new s e left same k =
     let back = leaves_back old new left same in
     record {
       right = λ b t claims survey. k.right b (sym e ∙ t) (claims_left v b new old back claims)
           (survey_left v b new old back survey);
     }
 
-same_places : (old new : Workspace) → new ≡ record old { windows = new.windows } → SamePlaces old new
-same_places old new e = λ x. ap (λ (w : Workspace). place_in (slice_index w.queue.items x)) e
-
 -- and so where only the windows have changed
-pub siblings_held : (v : Layout) (contents contents' : Option (List ℕ)) (old new : Workspace) (s : Siblings) →
+pub kept_parent_held : (v : Layout) (contents contents' : Option (List ℕ)) (old new : Workspace) (s : KeptParent) →
     contents' ≡ contents → new ≡ record old { windows = new.windows }
-    → KeepSiblings v contents old s → KeepSiblings v contents' new s
-siblings_held v contents contents' old new s e lists k =
-    siblings_on v contents contents' old new s e (windows_leave old new lists) (same_places old new lists) k
+    → KeepsParent v contents old s → KeepsParent v contents' new s
+kept_parent_held v contents contents' old new s e lists k =
+    kept_parent_on v contents contents' old new s e (windows_leave old new lists)
+    (λ x. ap (λ (w : Workspace). place_in (slice_index w.queue.items x)) lists) k
 
 -- and after a call that only read
-pub kept_on : {T : Type 0} {v : Layout} {d d' : Device} {w w' : Workspace} {x : T} (s : Siblings) →
-    OnlyReads v d d' w w' (Ok x) → KeepSiblings v d.contents w s → KeepSiblings v d'.contents w' s
-kept_on s r k = siblings_held _ _ _ _ _ s (ap (λ d. d.contents) r.read) r.lists k
+pub kept_on : {T : Type 0} {v : Layout} {d d' : Device} {w w' : Workspace} {x : T} (s : KeptParent) →
+    OnlyReads v d d' w w' (Ok x) → KeepsParent v d.contents w s → KeepsParent v d'.contents w' s
+kept_on s r k = kept_parent_held _ _ _ _ _ s (ap (λ d. d.contents) r.read) r.lists k
 
 -- the same of another answer, which is no fault either
 pub reads_as : {S T : Type 0} {v : Layout} {d d' : Device} {w w' : Workspace} {x : S} {y : T} →
@@ -54,13 +48,13 @@ pub reads_as : {S T : Type 0} {v : Layout} {d d' : Device} {w w' : Workspace} {x
 reads_as r = record { lists = r.lists; chunk = r.chunk; ready = r.ready; read = r.read }
 
 -- what a call leaves that made a path
-pub leaves_with : {T : Type 0} {v : Layout} {d d' : Device} {w w' : Workspace} {x : T} (s : Siblings) →
-    OnlyReads v d d' w w' (Ok x) → KeepSiblings v d.contents w s → PathLeaves v d d' w w' s (Ok x)
-leaves_with s r k = record { reads = r; siblings = kept_on s r k }
+pub leaves_with : {T : Type 0} {v : Layout} {d d' : Device} {w w' : Workspace} {x : T} (s : KeptParent) →
+    OnlyReads v d d' w w' (Ok x) → KeepsParent v d.contents w s → PathLeaves v d d' w w' s (Ok x)
+leaves_with s r k = record { reads = r; kept_parent = kept_on s r k }
 
 -- what a call leaves that kept a path
-pub leaves_kept : {S T : Type 0} {v : Layout} {d d' : Device} {w w' : Workspace} {x : S} {y : T} (s : Siblings) →
-    OnlyReads v d d' w w' (Ok x) → ForTree v d w (λ g. AreSiblings g s) → PathLeaves v d d' w w' s (Ok y)
+pub leaves_kept : {S T : Type 0} {v : Layout} {d d' : Device} {w w' : Workspace} {x : S} {y : T} (s : KeptParent) →
+    OnlyReads v d d' w w' (Ok x) → ForTree v d w (λ g. IsKeptParent g s) → PathLeaves v d d' w w' s (Ok y)
 leaves_kept s r kept = leaves_with s (reads_as r) (record { right = kept })
 
 -- nothing was read yet
@@ -85,3 +79,52 @@ pub tree_on : {T : Type 0} {v : Layout} {d d' : Device} {w w' : Workspace} {x : 
     OnlyReads v d d' w w' (Ok x) → ForTree v d' w' P → ForTree v d w P
 tree_on {v = v} {w = w} {w' = w'} P r known = λ b t claims survey.
     known b (ap (λ d. d.contents) r.read ∙ t) (claims_held v b w w' r.lists claims) (survey_held v b w w' r.lists survey)
+
+-- ---- what reads into the windows leave of a workspace
+-- the image gives what it gave, whether a read failed or not
+same_image : {T : Type 0} (d d' : Device) (result : Result T ImageFault) → ReadAfter d d' result →
+    (d'.contents ≡ d.contents) × (d'.size ≡ d.size)
+same_image d d' (Ok x) r = (ap (λ q. q.contents) r, ap (λ q. q.size) r)
+same_image d d' (Err e) r = (r.contents, r.size)
+
+-- indirect blocks and a chunk were read
+chunk_read : {T : Type 0} {v : Layout} {d d' : Device} {w : Workspace} {blocks : Blocks} {names : Window}
+    {result : Result T ImageFault} → IsReady v d w → CanReadChunks v d' blocks names → ReadAfter d d' result →
+    OnlyReads v d d' w (record w { windows = record w.windows { blocks = blocks; names = names } }) result
+chunk_read {d = d} {d' = d'} {result = result} ready can read =
+    let e = same_image d d' result read in
+    let m = ready.made in
+    record {
+      lists = refl;
+      chunk = refl;
+      ready = record {
+        made = search rules;
+        volume = can.walk.volume;
+        windows = record {
+          table = rw e.0 ready.windows.table;
+          blocks = can.walk.holds;
+          chunk = rw e.0 ready.windows.chunk;
+          names = can.holds;
+        };
+      };
+      read = read;
+    }
+
+pub chunk_then : {S T : Type 0} {v : Layout} {d d' d'' : Device} {w w' : Workspace} {blocks : Blocks} {names : Window}
+    {x : S} {result : Result T ImageFault} → OnlyReads v d d' w w' (Ok x) → CanReadChunks v d'' blocks names →
+    ReadAfter d' d'' result →
+    OnlyReads v d d'' w (record w' { windows = record w'.windows { blocks = blocks; names = names } }) result
+chunk_then reads can read = reads_then reads (chunk_read reads.ready can read)
+
+-- bytes were read into the window of names
+pub name_read : {T : Type 0} {v : Layout} {d d' : Device} {w : Workspace} {names : Window}
+    {result : Result T ImageFault} → IsReady v d w → vec_len names.buffer ≡ vec_len w.windows.names.buffer
+    → WindowHolds d'.contents names → ReadAfter d d' result →
+    OnlyReads v d d' w (record w { windows = record w.windows { names = names } }) result
+name_read {d = d} {d' = d'} {result = result} ready long holds read =
+    let e = same_image d d' result read in
+    chunk_read ready (record {
+      walk = record { volume = rw e.1 ready.volume; room = ready.made.blocks; holds = rw e.0 ready.windows.blocks };
+      room = long ∙ ready.made.names;
+      holds = holds;
+    }) read

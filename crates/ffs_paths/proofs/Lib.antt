@@ -1,11 +1,8 @@
-pub mod Children
 pub mod ChunkNames
 pub mod Climbed
+pub mod Held
 pub mod Keeping
-pub mod Longer
 pub mod LongestEnds
 pub mod NoSlashes
-pub mod Prefixes
 pub mod Rooms
 pub mod WaysUp
-pub mod Windows

@@ -1,53 +1,27 @@
 -- No name of a volume's entries has a `/`.
-use Rattle.std.proofs.Common.{◌≡◌, ℕ, zero, suc, ◌+◌, ◌*◌, ◌==◌, Bool, true, false, not, ◌&&◌, ◌||◌, if◌then◌else◌}
-use Rattle.std.proofs.Common.{List, [], ◌∷◌, ◌++◌, map, Option, Some, None, refl, arith}
-use Rattle.std.specs.Prelude.{option_and_then, slice_index, ◌/◌, ◌-◌, min, nat_le}
-use Rattle.std.proofs.lemmas.Bool.{and_parts}
-use Rattle.std.specs.List.{AllByRecursion, flat_map, list_any, range_with_len}
-use Rattle.ffs_volume.specs.declared.Layout.{Layout}
-use Rattle.ffs_volume.specs.declared.Order.{Order}
-use Rattle.ffs_volume.specs.declared.Step.{Step}
+use Rattle.std.proofs.Common.{◌≡◌, ℕ, zero, suc, ◌+◌, ◌*◌, ◌==◌, Bool, true, false, if◌then◌else◌, List, [], ◌∷◌, ◌++◌}
+use Rattle.std.proofs.Common.{map, Option, Some, None, refl, arith, option_and_then, ◌/◌, ◌-◌, min}
+use Rattle.std.specs.List.{AllByRecursion, flat_map, range_with_len}
+use Rattle.ffs_volume.specs.declared.{Layout.Layout, Order.Order, Step.Step}
 use Rattle.ffs_volume.specs.declared.Step.TheVariants.{Run, Tail, Gap}
-use Rattle.ffs_volume.specs.Disk.Areas.{is_run_in_range}
-use Rattle.ffs_volume.specs.Disk.Numbers.{u16_at, u32_at, piece}
-use Rattle.ffs_volume.specs.Directories.Entries.{Chunk, ChunkSource, Entry, chunk_of, chunks_of, entries_from}
-use Rattle.ffs_volume.specs.Directories.Entries.{entries_with, entry_at, entry_read, has_valid_type_and_name}
-use Rattle.ffs_volume.specs.Directories.Entries.{is_valid_record_length, is_well_formed, name_at, step_chunks}
-use Rattle.ffs_volume.specs.Directories.Graph.{parent, parent_entry_index}
-use Rattle.ffs_volume.specs.Directories.Parents.{graph_of, nth_roled}
+use Rattle.ffs_volume.specs.Disk.{Areas.is_run_in_range, Numbers.piece}
+use Rattle.ffs_volume.specs.Directories.Entries.{Chunk, ChunkSource, chunk_of, chunks_of, entries_from, entries_with}
+use Rattle.ffs_volume.specs.Directories.Entries.{entry_at, entry_read, is_well_formed, step_chunks}
+use Rattle.ffs_volume.specs.Directories.{Graph.parent, Graph.parent_entry_index, Parents.graph_of, Parents.nth_roled}
 use Rattle.ffs_volume.specs.Directories.Paths.{names_down, names_by_parent, name_of}
 use Rattle.ffs_volume.specs.Directories.Roles.{RoledEntry, roled_chunk, roled_from, roled_entries}
 use Rattle.ffs_volume.specs.Directories.Volumes.{volume_of, volume_with, chunk_source_of, kept_steps_of_inode}
 use Rattle.ffs_paths.specs.Slashes.{AreSingle, has_slash}
 
 -- ---- the name of a well formed entry
-last_false : (a b c p q e : Bool) → (a && b && (c && not (p || q) && e)) ≡ true → q ≡ false
-last_false a b c p q e h = grind arith
-
-held_single : (chunk : List ℕ) (place length : ℕ) → has_valid_type_and_name chunk place length ≡ true →
-    has_slash (name_at chunk place) ≡ false
-held_single chunk place length h = last_false (nat_le (8 + (slice_index chunk (place + 7) + 4) / 4 * 4) length)
-    (nat_le (slice_index chunk (place + 6)) 15) (not (slice_index chunk (place + 7) == 0))
-    (list_any (λ b. b == 0) (name_at chunk place)) (has_slash (name_at chunk place))
-    (slice_index chunk (place + 8 + slice_index chunk (place + 7)) == 0) h
-
 there_single : (order : Order) (chunk : List ℕ) (place : ℕ) → is_well_formed order chunk place ≡ true →
     has_slash (entry_read order chunk place).name ≡ false
 unfolding is_well_formed entry_read
-there_single order chunk place h =
-    go (u32_at order place chunk == 0) (and_parts (is_valid_record_length place (u16_at order (place + 4) chunk)) _ h).1
-  where
-    go : (none : Bool) → (none || has_valid_type_and_name chunk place (u16_at order (place + 4) chunk)) ≡ true →
-        has_slash (if none then [] else name_at chunk place) ≡ false
-    go true e = refl
-    go false e = held_single chunk place (u16_at order (place + 4) chunk) e
+there_single order chunk place h = grind (arith, h)
 
 -- ---- those of the entries of a chunk, of chunks, and of a directory
-abbrev IsSingle : Entry → Type 0
-IsSingle e = has_slash e.name ≡ false
-
 abbrev AreSingleEntries : List RoledEntry → Type 0
-AreSingleEntries es = AllByRecursion (λ e. IsSingle e.entry) es
+AreSingleEntries es = AllByRecursion (λ e. has_slash e.entry.name ≡ false) es
 
 abbrev AreSingleChunks : List Chunk → Type 0
 AreSingleChunks cs = AllByRecursion (λ c. AreSingleEntries (roled_chunk c)) cs
@@ -57,40 +31,30 @@ append_each : {X : Type 0} (P : X → Type 0) (xs ys : List X) → AllByRecursio
 append_each P [] ys h k = k
 append_each P (x ∷ xs) ys h k = (h.0, append_each P xs ys h.1 k)
 
-entries_single : (order : Order) (chunk : List ℕ) (most place : ℕ) →
-    AllByRecursion IsSingle (entries_from order chunk most place)
-unfolding entries_from entry_at
-entries_single order chunk zero place = tt
-entries_single order chunk (suc most) place =
-    go (is_well_formed order chunk place) refl (λ p. entries_single order chunk most p)
-  where
-    go : (b : Bool) → is_well_formed order chunk place ≡ b
-        → ((p : ℕ) → AllByRecursion IsSingle (entries_from order chunk most p))
-        → AllByRecursion IsSingle (entries_with order chunk place (entries_from order chunk most)
-        (if b then Some (entry_read order chunk place) else None))
-    go true h more = (there_single order chunk place h, more _)
-    go false h more = tt
-
-roled_single : (first : Bool) (index : ℕ) (es : List Entry) → AllByRecursion IsSingle es →
-    AreSingleEntries (roled_from first index es)
-unfolding roled_from
-roled_single first index [] h = tt
-roled_single first index (e ∷ es) h = (h.0, roled_single first (suc index) es h.1)
+entries_single : (order : Order) (chunk : List ℕ) (first : Bool) (index most place : ℕ) →
+    AreSingleEntries (roled_from first index (entries_from order chunk most place))
+unfolding entries_from entry_at roled_from
+entries_single order chunk first index zero place = tt
+entries_single order chunk first index (suc most) place = elim (is_well_formed order chunk place) as (λ b.
+    is_well_formed order chunk place ≡ b → AreSingleEntries (roled_from first index (entries_with order chunk place
+    (entries_from order chunk most) (if b then Some (entry_read order chunk place) else None)))) [
+      | true ↦ λ h. (there_single order chunk place h, entries_single order chunk first (suc index) most _)
+      | false ↦ λ h. tt
+    ] refl
 
 mapped_single : (order : Order) (offset : ℕ → ℕ) (bytes : ℕ → List ℕ) (ks : List ℕ) →
     AreSingleChunks (map (λ k. chunk_of order (offset k) (bytes k)) ks)
 mapped_single order offset bytes [] = tt
 mapped_single order offset bytes (k ∷ ks) =
-    (roled_single (offset k == 0) 0 _ (entries_single order (bytes k) 64 0), mapped_single order offset bytes ks)
+    (entries_single order (bytes k) (offset k == 0) 0 64 0, mapped_single order offset bytes ks)
 
 step_single : (r : ChunkSource) (passes : ℕ → ℕ → Bool) (step : Step) → AreSingleChunks (step_chunks r passes step)
-step_single r passes (Run start len (Some block)) = go (passes start len)
-  where
-    go : (b : Bool) → AreSingleChunks (if b then map (λ k. chunk_of r.order (block * r.bsize + 512 * k)
-        (piece (start * r.fsize + 512 * k) 512 r.image))
-        (range_with_len 0 (min (len * r.fsize / 512) ((r.taken - block * r.bsize) / 512))) else [])
-    go true = mapped_single r.order _ _ _
-    go false = tt
+step_single r passes (Run start len (Some block)) = elim (passes start len) as (λ b. AreSingleChunks (if b then map
+    (λ k. chunk_of r.order (block * r.bsize + 512 * k) (piece (start * r.fsize + 512 * k) 512 r.image))
+    (range_with_len 0 (min (len * r.fsize / 512) ((r.taken - block * r.bsize) / 512))) else [])) [
+      | true ↦ mapped_single r.order _ _ _
+      | false ↦ tt
+    ]
 step_single r passes (Run start len None) = tt
 step_single r passes Tail = tt
 step_single r passes Gap = tt
@@ -102,13 +66,12 @@ steps_single r passes (s ∷ ss) = append_each (λ c. AreSingleEntries (roled_ch
 
 chunks_single : (cs : List Chunk) → AreSingleChunks cs → AreSingleEntries (flat_map roled_chunk cs)
 chunks_single [] h = tt
-chunks_single (c ∷ cs) h = append_each (λ e. IsSingle e.entry) (roled_chunk c) (flat_map roled_chunk cs) h.0
-    (chunks_single cs h.1)
+chunks_single (c ∷ cs) h = append_each (λ e. has_slash e.entry.name ≡ false) (roled_chunk c) (flat_map roled_chunk cs)
+    h.0 (chunks_single cs h.1)
 
 in_single : (v : Layout) (b : List ℕ) (d : ℕ) → AreSingleEntries (roled_entries (volume_of v b) d)
 unfolding roled_entries volume_of volume_with
-in_single v b d = chunks_single (chunks_of (chunk_source_of v b d) (is_run_in_range v) (kept_steps_of_inode v b d))
-    (steps_single (chunk_source_of v b d) (is_run_in_range v) (kept_steps_of_inode v b d))
+in_single v b d = chunks_single _ (steps_single (chunk_source_of v b d) (is_run_in_range v) (kept_steps_of_inode v b d))
 
 -- ---- those of a path
 place_single : (es : List RoledEntry) → AreSingleEntries es → (o : Option ℕ) →
@@ -118,19 +81,16 @@ place_single [] h (Some i) = refl
 place_single (e ∷ es) h (Some zero) = h.0
 place_single (e ∷ es) h (Some (suc i)) = place_single es h.1 (Some i)
 
-names_append : (xs : List (List ℕ)) (y : List ℕ) → AreSingle xs → has_slash y ≡ false → AreSingle (xs ++ y ∷ [])
-names_append [] y h k = (k, tt)
-names_append (x ∷ xs) y h k = (h.0, names_append xs y h.1 k)
-
 pub down_single : (v : Layout) (b : List ℕ) (k d : ℕ) → AreSingle (names_down (graph_of (volume_of v b)) k d)
 unfolding names_down
 down_single v b zero d = tt
-down_single v b (suc k) d = go (λ s. down_single v b k s) (parent (graph_of (volume_of v b)) d)
-  where
-    go : ((s : ℕ) → AreSingle (names_down (graph_of (volume_of v b)) k s)) → (o : Option ℕ) →
-        AreSingle (names_by_parent (graph_of (volume_of v b)) (names_down (graph_of (volume_of v b)) k) d o)
-    go above None = tt
-    go above (Some s) =
-        names_append (names_down (graph_of (volume_of v b)) k s) _ (above s)
-        (place_single (roled_entries (volume_of v b) s) (in_single v b s)
-        (parent_entry_index (graph_of (volume_of v b)) d))
+down_single v b (suc k) d = elim (parent (graph_of (volume_of v b)) d) as (λ o. AreSingle
+    (names_by_parent (graph_of (volume_of v b)) (names_down (graph_of (volume_of v b)) k) d o)) [
+      | None ↦ tt
+      | Some s ↦ append_each (λ name. has_slash name ≡ false) (names_down (graph_of (volume_of v b)) k s) _
+          (down_single v b k s) (
+            place_single (roled_entries (volume_of v b) s) (in_single v b s)
+                (parent_entry_index (graph_of (volume_of v b)) d),
+            tt,
+          )
+    ]

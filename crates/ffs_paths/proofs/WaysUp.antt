@@ -1,38 +1,27 @@
 -- The way from a directory up to the root.
-use Rattle.std.proofs.Common.{◌≡◌, ◌≢◌, ℕ, zero, suc, ◌+◌, ◌<◌, ◌==◌, true, false, List, [], ◌∷◌, ◌++◌}
-use Rattle.std.proofs.Common.{Option, Some, None, refl, sym, ap, subst, ◌∙◌, arith, append-nil, append_assoc}
-use Rattle.std.specs.Prelude.{◌*◌, cond, option_and_then}
-use Rattle.std.specs.List.{list_any}
+use Rattle.std.proofs.Common.{◌≡◌, ◌≢◌, ℕ, zero, suc, ◌+◌, ◌<◌, ◌==◌, Bool, true, List, [], ◌∷◌, ◌++◌, Some, None, refl}
+use Rattle.std.proofs.Common.{sym, ap, subst, ◌∙◌, arith, append_assoc, ◌*◌, cond, option_and_then, length, ltb-true}
+use Rattle.std.{proofs.Common.unwrap_or, proofs.Common.option_map, specs.List.list_any}
 use Rattle.std.proofs.lemmas.Bool.{both_ways, and_parts, ne_eqb, cond-false, eq-eqb}
+use Rattle.ffs_volume.proofs.LevelLaws.{level-some, within-zero, reached-level}
+use Rattle.ffs_volume.specs.Directories.Graph.{Graph, level, is_naming_entry, is_naming_dir, parent, parent_entry_index}
+use Rattle.ffs_volume.specs.Directories.{Graph.index_in_parent, Graph.first_index, Parents.nth_roled, Parents.graph_of}
+use Rattle.ffs_volume.specs.Directories.Paths.{joined, names_down, names_by_parent, name_of}
+use Rattle.ffs_volume.specs.Directories.{Roles.RoledEntry, Volumes.volume_of, Volumes.volume_with}
 use Rattle.ffs_volume.specs.declared.Layout.{Layout}
-use Rattle.ffs_volume.specs.Directories.Roles.{RoledEntry}
-use Rattle.ffs_volume.specs.Directories.Volumes.{volume_of, volume_with}
-use Rattle.ffs_volume.specs.Directories.Graph.{Graph, level, is_naming_entry, is_naming_dir, parent}
-use Rattle.ffs_volume.specs.Directories.Graph.{parent_entry_index, index_in_parent, first_index}
-use Rattle.ffs_volume.proofs.LevelLaws.{level-some, within-zero}
-use Rattle.ffs_volume.specs.Directories.Parents.{nth_roled, graph_of}
-use Rattle.ffs_volume.specs.Directories.Paths.{joined, names_down, names_by_parent, name_of, path_names}
-use Rattle.ffs_volume.specs.Directories.Paths.{entry_path, entry_path_of_names, path_bytes}
 use Rattle.ffs_survey.specs.ParentLaws.{parent_above, root_level}
-use Rattle.ffs_paths.specs.declared.buffer.PathBuffer.{PathBuffer}
-use Rattle.ffs_paths.specs.Buffers.{HoldsNames}
-use Rattle.ffs_volume.proofs.PathBound.{path_text-fits}
+use Rattle.ffs_paths.{proofs.Held.first_cut, proofs.NoSlashes.down_single, specs.Buffers.HoldsNames}
+use Rattle.ffs_paths.specs.Climbing.{name_in, IsNameIn, IsParentOf}
+use Rattle.ffs_paths.specs.{DirectoryPaths.HoldsPath, DirectoryPaths.IsPathOf, KeptParents.IsKeptParent}
+use Rattle.ffs_paths.specs.{KeptParents.LeadsTo, Slashes.AreSingle, declared.buffer.PathBuffer.PathBuffer}
+use Rattle.ffs_paths.specs.declared.{kept_parent.KeptParent.KeptParent, path.DirectoryPath.DirectoryPath}
 use Rattle.ffs_workspace.proofs.PlaceLaws.{name_in-cons}
-use Rattle.ffs_paths.specs.Climbing.{in_room, name_in}
-use Rattle.ffs_paths.specs.DirectoryPaths.{HoldsPath, IsPathOf}
-use Rattle.ffs_paths.specs.Slashes.{AreSingle}
-use Rattle.ffs_paths.specs.declared.kept.DirectoryPath.{DirectoryPath}
-use Rattle.ffs_paths.proofs.LongestEnds.{cut-more}
-use Rattle.ffs_paths.proofs.Rooms.{fits}
+use Rattle.ffs_workspace.specs.{Holds.HoldsSurvey, declared.workspace.Workspace.Workspace}
 
--- the first name, by the first entry
-pub name_in-here : (d : ℕ) (e : RoledEntry) (es : List RoledEntry) → is_naming_entry d e ≡ true →
-    name_in d (e ∷ es) ≡ e.entry.name
-name_in-here d e es h = name_in-cons d e es ∙ ap (λ b. cond b e.entry.name (name_in d es)) h
-
-pub name_in-past : (d : ℕ) (e : RoledEntry) (es : List RoledEntry) → is_naming_entry d e ≡ false →
-    name_in d (e ∷ es) ≡ name_in d es
-name_in-past d e es h = name_in-cons d e es ∙ ap (λ b. cond b e.entry.name (name_in d es)) h
+-- the first name, by whether the first entry has it
+pub name_in-by : {b : Bool} (d : ℕ) (e : RoledEntry) (es : List RoledEntry) → is_naming_entry d e ≡ b →
+    name_in d (e ∷ es) ≡ cond b e.entry.name (name_in d es)
+name_in-by d e es h = name_in-cons d e es ∙ ap (λ b. cond b e.entry.name (name_in d es)) h
 
 -- the climb from d, of level k, has reached a directory, with the names below it
 pub record IsOnWay (g : Graph) (k d at step : ℕ) (p : PathBuffer) : Type 0 where
@@ -44,18 +33,18 @@ pub record IsOnWay (g : Graph) (k d at step : ℕ) (p : PathBuffer) : Type 0 whe
   pub whole : names_down g left at ++ following ≡ names_down g k d
 
 -- a path that is cut holds any names above, too
-pub cut_holds : (p : PathBuffer) (above names : List (List ℕ)) → p.cut ≡ true → HoldsNames p names →
+above_cut : (p : PathBuffer) (above names : List (List ℕ)) → p.cut ≡ true → HoldsNames p names →
     HoldsNames p (above ++ names)
-cut_holds p [] names c h = h
-cut_holds p (name ∷ above) names c h =
-    let r = cut_holds p above names c h in
-    let m = cut-more name (above ++ names) (sym r.cut ∙ c) in
-    record { whole = λ e. absurd (cc); short = r.short ∙ ap joined (sym m.1); cut = c ∙ sym m.0 }
+above_cut p [] names c h = h
+above_cut p (name ∷ above) names c h =
+    let r = above_cut p above names c h in
+    let over = ltb-true 1024 (length (joined (above ++ names))) (sym r.cut ∙ c) in
+    first_cut p p name (above ++ names) r c (omega arith) refl
 
-pub way_cut : (g : Graph) (k d at step : ℕ) (p : PathBuffer) → IsOnWay g k d at step p → p.cut ≡ true →
+pub way_cut : {g : Graph} {k d at step : ℕ} {p : PathBuffer} → IsOnWay g k d at step p → p.cut ≡ true →
     HoldsNames p (names_down g k d)
-way_cut g k d at step p w c =
-    subst (HoldsNames p) w.whole (cut_holds p (names_down g w.left at) w.following c w.held)
+way_cut {g = g} {at = at} {p = p} w c =
+    subst (HoldsNames p) w.whole (above_cut p (names_down g w.left at) w.following c w.held)
 
 names_root : (g : Graph) (k : ℕ) → level g 2 ≡ Some k → names_down g k 2 ≡ []
 unfolding names_down
@@ -63,29 +52,29 @@ names_root g zero h = refl
 names_root g (suc k) h = absurd
     (both_ways _ ((level-some g (suc k) 2 h).0.least 0 (omega arith)) (within-zero g 2 ∙ eq-eqb 2 2 refl))
 
-pub way_root : (g : Graph) (k d at step : ℕ) (p : PathBuffer) → IsOnWay g k d at step p → at ≡ 2 →
+pub way_root : {g : Graph} {k d at step : ℕ} {p : PathBuffer} → IsOnWay g k d at step p → at ≡ 2 →
     HoldsNames p (names_down g k d)
-way_root g k d at step p w e =
+way_root {g = g} {p = p} w e =
     let n = names_root g w.left (subst (λ x. level g x ≡ Some w.left) e w.level) in
-    let m : names_down g w.left at ++ w.following ≡ w.following = ap (λ x. names_down g w.left x ++ w.following) e
-    ∙ ap (λ xs. xs ++ w.following) n in
-    subst (HoldsNames p) (sym m ∙ w.whole) w.held
+    subst (HoldsNames p) (sym (ap (λ x. names_down g w.left x ++ w.following) e ∙ ap (λ xs. xs ++ w.following) n)
+    ∙ w.whole) w.held
 
 -- a level is below the number of inodes
-pub way_long : (g : Graph) (k d at step : ℕ) (p : PathBuffer) → IsOnWay g k d at step p → level g d ≡ Some k →
+pub way_long : {g : Graph} {k d at step : ℕ} {p : PathBuffer} → IsOnWay g k d at step p → level g d ≡ Some k →
     step < g.count
-way_long g k d at step p w h = let l = (level-some g k d h).1 in let s = w.steps in omega arith
+way_long {g = g} {k = k} {d = d} w h = let l = (level-some g k d h).1 in let s = w.steps in omega arith
 
--- what is above a directory other than the root
-pub record HasParent (g : Graph) (k d at step : ℕ) (p : PathBuffer) (s : ℕ) : Type 0 where
-  pub is : parent g at ≡ Some s
+-- s is above the directory d of level k, which isn't the root
+pub record HasParent (g : Graph) (k d s : ℕ) : Type 0 where
+  pub is : parent g d ≡ Some s
   pub below : s < g.count
   pub dir : g.is_dir s ≡ true
-  pub on : (q : PathBuffer) →
-      ((following : List (List ℕ)) → HoldsNames p following → HoldsNames q (name_in at (g.entries s) ∷ following)) →
-      IsOnWay g k d s (step + 1) q
+  pub left : ℕ
+  pub step : k ≡ left + 1
+  pub level : level g s ≡ Some left
+  pub down : names_down g k d ≡ names_down g left s ++ name_in d (g.entries s) ∷ []
 
-pub down_is : (g : Graph) (j at s : ℕ) → at ≢ 2 → parent g at ≡ Some s → names_down g (suc j) at ≡ names_down g j s
+down_is : (g : Graph) (j at s : ℕ) → at ≢ 2 → parent g at ≡ Some s → names_down g (suc j) at ≡ names_down g j s
     ++ name_in at (g.entries s) ∷ []
 unfolding names_down
 down_is g j at s n e =
@@ -94,58 +83,68 @@ down_is g j at s n e =
     ap (names_by_parent g (names_down g j) at) e
     ∙ ap (λ o. names_down g j s ++ name_of (option_and_then (nth_roled (g.entries s)) o) ∷ []) place
 
-pub way_up : (g : Graph) (k d at step : ℕ) (p : PathBuffer) → IsOnWay g k d at step p → at ≢ 2 →
-    (s : ℕ) × HasParent g k d at step p s
-way_up g k d at step p w n = go w.left w.level w.steps w.whole
-  where
-    go : (left : ℕ) → level g at ≡ Some left → left + step ≡ k
-        → names_down g left at ++ w.following ≡ names_down g k d → (s : ℕ) × HasParent g k d at step p s
-    go zero l e h = absurd (n (root_level g at l))
-    go (suc j) l e h =
-        let a = parent_above g j at l in
-        let s = a.0 in
-        let linked = and_parts (g.is_dir at) (is_naming_dir g s at) a.1.linked in
-        let dir = and_parts (g.is_dir s) (list_any (is_naming_entry at) (g.entries s)) linked.1 in
-        let name = name_in at (g.entries s) in
-        let down = down_is g j at s n a.1.is in (
-          s,
-          record {
-            is = a.1.is;
-            below = a.1.below;
-            dir = dir.0;
-            on = λ q f. record {
-              left = j;
-              level = a.1.near;
-              steps = omega arith;
-              following = name ∷ w.following;
-              held = f w.following w.held;
-              whole = sym (append_assoc (names_down g j s) (name ∷ []) w.following)
-                  ∙ (sym (ap (λ xs. xs ++ w.following) down) ∙ h);
-            };
-          },
-        )
+pub parent_is : (g : Graph) (k d s : ℕ) → level g d ≡ Some k → d ≢ 2 → s ≡ unwrap_or (parent g d) 0 → HasParent g k d s
+parent_is g zero d s l n e = absurd (n (root_level g d l))
+parent_is g (suc j) d s l n e =
+    let a = parent_above g j d l in
+    let linked = and_parts (g.is_dir d) (is_naming_dir g a.0 d) a.1.linked in
+    subst (HasParent g (suc j) d) (sym (e ∙ ap (λ o. unwrap_or o 0) a.1.is)) (record {
+      is = a.1.is;
+      below = a.1.below;
+      dir = (and_parts (g.is_dir a.0) (list_any (is_naming_entry d) (g.entries a.0)) linked.1).0;
+      left = j;
+      step = omega arith;
+      level = a.1.near;
+      down = down_is g j d a.0 n a.1.is;
+    })
+
+pub way_up : {g : Graph} {k d at step : ℕ} {p : PathBuffer} (s : ℕ) (q : PathBuffer) (w : IsOnWay g k d at step p) →
+    HasParent g w.left at s
+    → ((following : List (List ℕ)) → HoldsNames p following → HoldsNames q (name_in at (g.entries s) ∷ following)) →
+    IsOnWay g k d s (step + 1) q
+way_up {g = g} {at = at} s q w above f =
+    let name = name_in at (g.entries s) in
+    record {
+      left = above.left;
+      level = above.level;
+      steps = omega (arith, w.steps, above.step);
+      following = name ∷ w.following;
+      held = f w.following w.held;
+      whole = sym (append_assoc (names_down g above.left s) (name ∷ []) w.following)
+          ∙ (sym (ap (λ xs. xs ++ w.following) above.down) ∙ w.whole);
+    }
 
 -- the numbers of the graph are those of the inodes
 pub count_is : (v : Layout) (b : List ℕ) → (graph_of (volume_of v b)).count ≡ v.ncg * v.ipg
 unfolding volume_of volume_with
 count_is v b = refl
 
--- what holds of the path of a directory: of one that is reached by all names that its buffer may hold, and of one that
--- isn't
-pub by_path : (g : Graph) (d : ℕ) (p : DirectoryPath) (P : Option (List (List ℕ)) → Type 0) → IsPathOf g d p
-    → (p.reached ≡ true → (names : List (List ℕ)) → HoldsNames p.names names → AreSingle names → P (Some names))
-    → (p.reached ≡ false → P None) → P (path_names g d)
-by_path g d p P h some none = go (path_names g d) h
-  where
-    go : (o : Option (List (List ℕ))) → HoldsPath p o → P o
-    go None k = none k
-    go (Some names) k = some k.0 names k.1 k.2
+-- ---- a child of a directory whose path is kept
+-- a path is kept, and the name of a child by its parent
+pub kept_parent_is : (v : Layout) (b : List ℕ) (w : Workspace) (s : KeptParent) → HoldsSurvey v b w →
+    IsParentOf w s.child s.parent → IsPathOf (graph_of (volume_of v b)) s.parent s.path →
+    IsNameIn (graph_of (volume_of v b)) s.child s.parent s.name.items → IsKeptParent (graph_of (volume_of v b)) s
+kept_parent_is v b w s survey of path name =
+    let g = graph_of (volume_of v b) in
+    let l = reached-level g s.child (sym (survey.reached s.child) ∙ of.reached) in
+    let above = parent_is g l.0 s.child s.parent l.1 (omega (arith, of.below)) (of.is ∙ survey.parents s.child) in
+    record {
+      path = λ some. path;
+      parent = λ some. of.some;
+      child = λ some. subst (LeadsTo g s.parent s.child) (sym (name above.is above.dir)) (record {
+        names = names_down g above.left s.parent;
+        to_parent = ap (option_map (λ j. names_down g j s.parent)) above.level;
+        to_child = ap (option_map (λ j. names_down g j s.child)) l.1 ∙ ap Some above.down;
+        single = subst AreSingle above.down (down_single v b l.0 s.child);
+      });
+    }
 
-pub entry_is : (g : Graph) (d : ℕ) (name : List ℕ) (p : DirectoryPath) (text : List ℕ) → IsPathOf g d p →
-    p.reached ≡ true
-    → ((names : List (List ℕ)) → HoldsNames p.names names → AreSingle names → text ≡ path_bytes (names ++ name ∷ [])) →
-    text ≡ in_room (entry_path g d name)
-unfolding entry_path
-entry_is g d name p text h r f = by_path g d p (λ o. text ≡ in_room (entry_path_of_names name o)) h
-    (λ _ names held single. f names held single ∙ fits _ (path_text-fits (names ++ name ∷ [])))
-    (λ n. absurd (both_ways _ n r))
+-- the path that is made of that of the parent
+pub child_made : (g : Graph) (s : KeptParent) (made : DirectoryPath) → IsKeptParent g s → 0 < s.child →
+    ((names : List (List ℕ)) → HoldsPath s.path (Some names)
+    → AreSingle (names ++ s.name.items ∷ []) → HoldsPath made (Some (names ++ s.name.items ∷ [])))
+    → IsPathOf g s.child made
+child_made g s made kept some makes =
+    let leads = kept.child some in
+    subst (HoldsPath made) (sym leads.to_child)
+    (makes leads.names (subst (HoldsPath s.path) leads.to_parent (kept.path (kept.parent some))) leads.single)

@@ -1,6 +1,6 @@
 -- What the paths of all entries of a directory begin with.
 use Rattle.std.specs.Prelude.{◌≡◌, ℕ, ◌+◌, ◌≤◌, true, false, List, [], ◌∷◌, ◌++◌, take, drop}
-use Rattle.ffs_paths.specs.declared.kept.DirectoryPath.{DirectoryPath}
+use Rattle.ffs_paths.specs.declared.path.DirectoryPath.{DirectoryPath}
 
 -- the directory is reached by names that all have room, and they and a `/` are the first bytes
 pub record BeginsWith (p : DirectoryPath) (begins : ℕ) (bytes : List ℕ) : Type 0 where

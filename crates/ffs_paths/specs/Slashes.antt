@@ -1,14 +1,13 @@
 -- Names and the `/` that each of them has before it.
 use Rattle.std.specs.Prelude.{◌≡◌, ℕ, ◌+◌, ◌==◌, Bool, false, if◌then◌else◌, List, [], ◌∷◌, ◌++◌, length, drop}
-use Rattle.std.specs.List.{list_any}
+use Rattle.std.specs.List.{AllByRecursion, list_any}
 
 abbrev pub has_slash : List ℕ → Bool
 has_slash name = list_any (λ b. b == 47) name
 
 -- no name has a `/`
 abbrev pub AreSingle : List (List ℕ) → Type 0
-AreSingle [] = Unit {0}
-AreSingle (name ∷ names) = (has_slash name ≡ false) × AreSingle names
+AreSingle names = AllByRecursion (λ name. has_slash name ≡ false) names
 
 -- what is from the first `/` on
 abbrev pub from_slash : List ℕ → List ℕ

@@ -1,7 +1,9 @@
 //! A path that is put together from its end.
 
-ghost use Rattle.std.specs.Prelude.{◌≡◌, ◌+◌, ◌-◌, ◌<◌, ◌≤◌, ℕ, List, [], ◌∷◌, ◌++◌, length, drop, Some};
-ghost use Rattle.ffs_paths.specs.Slashes.{from_slash, PutsBefore};
+ghost use Rattle.std.specs.Prelude.{◌≡◌, ◌+◌, ◌-◌, ◌<◌, ◌≤◌, ℕ, not, ◌&&◌, nat_lt, List, [], ◌∷◌, ◌++◌};
+ghost use Rattle.std.specs.Prelude.{length, drop, Some};
+ghost use Rattle.ffs_volume.specs.Directories.Paths.{dir_path_of_names, path_bytes};
+ghost use Rattle.ffs_paths.specs.Slashes.{AreSingle, PutsBefore, from_slash};
 
 use arrayvec::ArrayVec;
 use ffs_volume::constants::MAXPATHLEN;
@@ -46,6 +48,7 @@ fn put_before(bytes: &mut [u8; MAXPATHLEN], end: usize, name: &[u8]) -> usize
 }
 
 /// Where the first `/` from a place on is, or the end.
+#[tactic(auto, using(crate::proofs::LongestEnds::slash_none))]
 fn slash_from(bytes: &[u8; MAXPATHLEN], place: usize) -> usize
     requires { place ≤ 1024 }
     ensures first { drop result bytes.now ≡ from_slash (drop place bytes.now) }
@@ -59,21 +62,28 @@ fn slash_from(bytes: &[u8; MAXPATHLEN], place: usize) -> usize
     MAXPATHLEN
 }
 
+/// Writes what is from `start` on.
+fn put_end(bytes: &[u8; MAXPATHLEN], start: usize, text: &mut PathText)
+    requires start { start ≤ 1024 }
+    requires room { length text.old.items + (1024 - start) ≤ 1024 }
+    ensures { text.new.items ≡ text.old.items ++ drop start bytes.now }
+{
+    text.try_extend_from_slice(&bytes[start..]).unwrap();
+}
+
 /// Writes what is from `start` on, `/` and a name.
 fn put_from(bytes: &[u8; MAXPATHLEN], start: usize, name: &[u8], text: &mut PathText)
     requires start { start ≤ 1024 }
     requires room { length text.old.items + (1024 - start) + 1 + length name.now ≤ 1024 }
     ensures { text.new.items ≡ text.old.items ++ drop start bytes.now ++ 47 ∷ name.now }
 {
-    text.try_extend_from_slice(&bytes[start..]).unwrap();
+    put_end(bytes, start, text);
     text.push(b'/');
     text.try_extend_from_slice(name).unwrap();
 }
 
 impl PathBuffer {
-    ghost use Rattle.ffs_volume.specs.Directories.Paths.{dir_path_of_names, path_bytes};
     ghost use Rattle.ffs_paths.specs.Buffers.{HoldsNames, IsLonger};
-    ghost use Rattle.ffs_paths.specs.Slashes.{AreSingle};
 
     /// No names.
     pub fn new() -> PathBuffer
@@ -87,15 +97,20 @@ impl PathBuffer {
         }
     }
 
+    /// Whether there is room for them and one name more.
+    #[inline]
+    fn has_room(&self, name: &[u8]) -> bool
+        ensures { result ≡ (not self.now.cut && nat_lt (length name.now) self.now.start) }
+    {
+        !self.cut && name.len() < self.start
+    }
+
     /// Puts a name before them.
     pub fn push_front(&mut self, name: &[u8])
         ensures { (names : List (List ℕ)) → HoldsNames self.old names
             → HoldsNames self.new (name.now ∷ names) }
     {
-        if self.cut {
-            return;
-        }
-        if name.len() >= self.start {
+        if !self.has_room(name) {
             self.cut = true;
             return;
         }
@@ -115,13 +130,11 @@ impl PathBuffer {
         text.clear();
         if self.cut {
             text.push(b'?');
-            text.try_extend_from_slice(&self.bytes[self.short..])
-                .unwrap();
+            put_end(&self.bytes, self.short, text);
         } else if self.start == MAXPATHLEN {
             text.push(b'/');
         } else {
-            text.try_extend_from_slice(&self.bytes[self.start..])
-                .unwrap();
+            put_end(&self.bytes, self.start, text);
         }
     }
 
@@ -133,7 +146,7 @@ impl PathBuffer {
             → text.new.items ≡ path_bytes (names ++ name.now ∷ []) }
     {
         text.clear();
-        if !self.cut && name.len() < self.start {
+        if self.has_room(name) {
             put_from(&self.bytes, self.start, name, text);
             return;
         }
@@ -174,7 +187,7 @@ impl PathBuffer {
         ensures { (names : List (List ℕ)) → HoldsNames self.now names
             → AreSingle (names ++ name.now ∷ []) → HoldsNames result (names ++ name.now ∷ []) }
     {
-        if !self.cut && name.len() < self.start {
+        if self.has_room(name) {
             return self.longer(self.start, name, false);
         }
         let from = slash_from(&self.bytes, self.short.max(name.len() + 2));

@@ -1,10 +1,11 @@
 //! The paths of the entries of a directory, one after another.
 
 ghost use Rattle.std.specs.Prelude.{◌≡◌, ◌<◌, ◌≤◌, ℕ, length as length_of};
-ghost use Rattle.ffs_paths.specs.EntryPaths.{BeginsWith};
+ghost use Rattle.ffs_volume.specs.Directories.{Graph.Graph, Paths.entry_path};
+ghost use Rattle.ffs_paths.specs.{Climbing.in_room, DirectoryPaths.IsPathOf, EntryPaths.BeginsWith};
 
 use crate::buffer::PathText;
-use crate::kept::DirectoryPath;
+use crate::path::DirectoryPath;
 use ffs_volume::constants::MAXPATHLEN;
 
 /// The path of a directory, and the path of the entry of it that was asked for last.
@@ -45,11 +46,7 @@ fn put_prefix(directory: &DirectoryPath, bytes: &mut [u8; MAXPATHLEN]) -> usize
 }
 
 impl EntryPaths {
-    ghost use Rattle.ffs_paths.specs.Climbing.{in_room};
-    ghost use Rattle.ffs_paths.specs.DirectoryPaths.{IsPathOf};
     ghost use Rattle.ffs_paths.specs.LastPaths.{last_path};
-    ghost use Rattle.ffs_volume.specs.Directories.Graph.{Graph};
-    ghost use Rattle.ffs_volume.specs.Directories.Paths.{entry_path};
 
     /// The paths of the entries of a directory with this path.
     pub fn of(directory: DirectoryPath) -> EntryPaths

@@ -2,7 +2,8 @@
 //!
 //! `path_of` writes the path of a directory, or of an entry of it, into a buffer of 1,024 bytes:
 //! the definition's path, cut to `?` and its longest end of whole names where it is longer.
-//! `Siblings` makes the paths of one directory after another, and keeps what the next can use.
+//! `KeptParent` makes the paths of one directory after another, and keeps that of the last one's
+//! parent for the next.
 //! `EntryPaths` writes those of a directory's entries.
 //! The name of a directory in its parent is read from the chunk that the workspace notes as its
 //! place, and where it isn't there, searched in all entries of the parent. Where the place of each
@@ -12,17 +13,12 @@
 #![tactic(auto)]
 
 mod buffer;
-mod climb;
-mod entry_name;
 mod entry_paths;
-mod kept;
+mod kept_parent;
 mod name;
 mod path;
-mod search;
-mod siblings;
 
 pub use buffer::{PathBuffer, PathText};
 pub use entry_paths::EntryPaths;
-pub use kept::DirectoryPath;
-pub use path::{directory_path, path_of};
-pub use siblings::Siblings;
+pub use kept_parent::KeptParent;
+pub use path::{DirectoryPath, directory_path, path_of};

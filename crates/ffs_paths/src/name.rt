@@ -1,23 +1,41 @@
 //! The name of a directory in its parent.
 
-ghost use Rattle.std.specs.Prelude.{◌≡◌, ◌*◌, ◌<◌, ℕ, true, false, IfOk, OnOk, length};
+ghost use Rattle.std.specs.Prelude.{◌≡◌, ◌*◌, ◌<◌, ◌≤◌, ◌==◌, ◌&&◌, ℕ, true, false, IfOk, OnOk, length};
 ghost use Rattle.std.specs.List.{list_any};
 ghost use Rattle.ffs_image.specs.Device.{ForContents};
-ghost use Rattle.ffs_volume.specs.Directories.Entries.{entries_of};
-ghost use Rattle.ffs_volume.specs.Directories.Graph.{is_naming_entry};
-ghost use Rattle.ffs_volume.specs.Directories.Roles.{roled_from};
+ghost use Rattle.ffs_volume.specs.Directories.{Entries.entries_of, Graph.is_naming_entry};
+ghost use Rattle.ffs_volume.specs.Directories.Roles.{is_plain, roled_from};
+ghost use Rattle.ffs_workspace.specs.{Places.IsNoted, Ready.IsReady};
 ghost use Rattle.ffs_paths.specs.Climbing.{name_in, IsNameIn};
 ghost use Rattle.ffs_paths.specs.Reads.{ForTree, IsReadyFor, OnlyReads, ReadsFew};
-ghost use Rattle.ffs_workspace.specs.Places.{IsNoted};
 
-use crate::entry_name::{NameText, names, set_name};
-use crate::search::search_name;
+use arrayvec::ArrayVec;
 use ffs_image::{Image, ImageFault};
 use ffs_layout::{Geometry, entry_at};
-use ffs_names::role_of;
-use ffs_volume::Order;
+use ffs_names::{Entries, role_of};
+use ffs_survey::is_plain;
 use ffs_volume::constants::DIRBLKSIZ;
+use ffs_volume::{Order, Role};
 use ffs_workspace::{Workspace, noted_chunk};
+
+/// The text of a name. It has no more bytes than the chunk that it is in.
+pub type NameText = ArrayVec<u8, DIRBLKSIZ>;
+
+/// Puts a name in place of a text.
+pub fn set_name(text: &mut NameText, name: &[u8])
+    requires { length name.now ≤ 512 }
+    ensures { text.new.items ≡ name.now }
+{
+    text.clear();
+    text.try_extend_from_slice(name).unwrap();
+}
+
+/// Whether an entry of this role and number names an inode in the directory tree.
+pub fn names(role: Role, number: u32, inode: u32) -> bool
+    ensures { result ≡ (is_plain role && (number == inode)) }
+{
+    is_plain(role) && number == inode
+}
 
 /// Finds the name of an inode in a chunk, by its first plain entry there. Returns whether there is
 /// one.
@@ -75,6 +93,46 @@ fn find_by_place<I: Image>(
     let mut bytes = [0u8; DIRBLKSIZ];
     bytes.copy_from_slice(window.bytes());
     Ok(find_in_chunk(geometry.layout.order, &bytes, dir, name))
+}
+
+/// Finds the name of a directory in its parent, by all entries of the parent: that of the first
+/// plain entry that names it, and none where no entry does.
+///
+/// # Errors
+/// A read of the image that failed.
+pub fn search_name<I: Image>(
+    geometry: &Geometry,
+    image: &mut I,
+    workspace: &mut Workspace,
+    parent: u32,
+    dir: u32,
+    name: &mut NameText,
+) -> Result<(), ImageFault>
+    requires ready { IsReady geometry.now.layout (I.device image.old) workspace.old }
+    requires parent { parent < geometry.now.layout.ncg * geometry.now.layout.ipg }
+    ensures name { OnOk result (ForTree geometry.now.layout (I.device image.old) workspace.old
+        (λ g. IsNameIn g dir parent name.new.items)) }
+    ensures reads { OnlyReads geometry.now.layout (I.device image.old) (I.device image.new)
+        workspace.old workspace.new result }
+{
+    name.clear();
+    let cut = workspace.cut_of(parent);
+    let inode = workspace
+        .windows
+        .table
+        .inode_by_part(geometry, parent, image)?;
+    let mut entries = Entries::start(geometry, &inode, cut);
+    'entries: while let Some(entry) = entries.next(
+        image,
+        &mut workspace.windows.blocks,
+        &mut workspace.windows.names,
+    )? {
+        if names(entry.role, entry.number, dir) {
+            set_name(name, entries.name());
+            return Ok(());
+        }
+    }
+    Ok(())
 }
 
 /// Finds the name of a directory in its parent: that of the first plain entry there that names it,

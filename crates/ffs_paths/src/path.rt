@@ -1,16 +1,127 @@
-//! The path of a directory, or of an entry of it.
+//! The path of a directory, for all lines on it and on its entries.
 
-ghost use Rattle.std.specs.Prelude.{◌≡◌, option_map, IfOk, OnOk};
-ghost use Rattle.ffs_paths.specs.Climbing.{path_in};
-ghost use Rattle.ffs_paths.specs.DirectoryPaths.{IsPathOf};
-ghost use Rattle.ffs_paths.specs.Reads.{ForTree, IsReadyFor, OnlyReads, ReadsAtMost, climb_reads};
+ghost use Rattle.std.specs.Prelude.{◌≡◌, ◌<◌, ◌≤◌, ℕ, List, [], ◌∷◌, ◌++◌, length, vec_len};
+ghost use Rattle.std.specs.Prelude.{Some, option_map, IfOk, OnOk};
+ghost use Rattle.ffs_volume.specs.Directories.{Graph.Graph, Graph.level, Parents.graph_of, Volumes.volume_of};
+ghost use Rattle.ffs_volume.specs.Directories.Paths.{dir_path, entry_path, names_down};
+ghost use Rattle.ffs_workspace.specs.Holds.{bool_at};
+ghost use Rattle.ffs_paths.specs.{Buffers.HoldsNames, Climbing.in_room, Climbing.path_in, Reads.climb_reads};
+ghost use Rattle.ffs_paths.specs.{DirectoryPaths.HoldsPath, DirectoryPaths.IsPathOf, Slashes.AreSingle};
+ghost use Rattle.ffs_paths.specs.Reads.{ForTree, IsReadyFor, KnowsPlaces, OnlyReads, ReadsAtMost, ReadsFew};
 
-use crate::buffer::{PathBuffer, PathText};
-use crate::climb::climb;
-use crate::kept::DirectoryPath;
+use crate::buffer::{LONGEST_NAME, PathBuffer, PathText};
+use crate::name::{NameText, find_name};
 use ffs_image::{Image, ImageFault};
 use ffs_layout::Geometry;
+use ffs_volume::constants::ROOTINO;
 use ffs_workspace::Workspace;
+
+/// The path of a directory: the names from the root down to it, if it is reached.
+#[derive(Drop)]
+pub struct DirectoryPath {
+    /// Whether it is reached from the root.
+    pub reached: bool,
+    /// The names from the root down to it.
+    pub names: PathBuffer,
+}
+
+impl DirectoryPath {
+    /// Writes the path of the directory in place of a text: `?` where it is not reached.
+    pub fn put(&self, text: &mut PathText)
+        ensures { (g : Graph) (dir : ℕ) → IsPathOf g dir self.now → text.new.items
+            ≡ dir_path g dir }
+    {
+        if self.reached {
+            self.names.put(text);
+        } else {
+            text.clear();
+            text.push(b'?');
+        }
+    }
+
+    /// The path of a directory in it, of this name.
+    pub fn child(&self, name: &[u8]) -> DirectoryPath
+        requires { length name.now ≤ 512 }
+        ensures { (names : List (List ℕ)) → HoldsPath self.now (Some names)
+            → AreSingle (names ++ name.now ∷ [])
+            → HoldsPath result (Some (names ++ name.now ∷ [])) }
+    {
+        DirectoryPath {
+            reached: self.reached,
+            names: self.names.with_last(name),
+        }
+    }
+
+    /// Writes the path of an entry of the directory in place of a text: leading names are dropped
+    /// where 1,024 bytes don't hold all, and the entry's own where they don't hold it.
+    pub fn put_entry(&self, name: &[u8], text: &mut PathText)
+        ensures { (g : Graph) (dir : ℕ) → IsPathOf g dir self.now → text.new.items
+            ≡ in_room (entry_path g dir name.now) }
+    {
+        if self.reached {
+            self.names.put_with(name, text);
+            return;
+        }
+        text.clear();
+        text.push(b'?');
+        if name.len() > LONGEST_NAME {
+            return;
+        }
+        text.push(b'/');
+        text.try_extend_from_slice(name).unwrap();
+    }
+}
+
+/// Whether a directory is reached from the root.
+pub fn is_reached(workspace: &Workspace, dir: u32) -> bool
+    requires { dir < vec_len workspace.now.reached }
+    ensures { result ≡ bool_at workspace.now.reached.items dir }
+{
+    workspace.reached[dir as usize]
+}
+
+/// The names down to a directory that is reached, from the last one up, until they are cut.
+///
+/// # Errors
+/// A read of the image that failed.
+fn climb<I: Image>(
+    geometry: &Geometry,
+    image: &mut I,
+    workspace: &mut Workspace,
+    dir: u32,
+) -> Result<PathBuffer, ImageFault>
+    requires { IsReadyFor geometry.now.layout (I.device image.old) workspace.old dir }
+    ensures path { IfOk result (λ path.
+        ForTree geometry.now.layout (I.device image.old) workspace.old (λ g.
+        (k : ℕ) → level g dir ≡ Some k → HoldsNames path (names_down g k dir))) }
+    ensures reads { OnlyReads geometry.now.layout (I.device image.old) (I.device image.new)
+        workspace.old workspace.new result }
+    ensures counted { (b : List ℕ) (k : ℕ)
+        → KnowsPlaces geometry.now.layout (I.device image.old).contents workspace.old b
+        → level (graph_of (volume_of geometry.now.layout b)) dir ≡ Some k
+        → ReadsFew climb_reads (I.reads image.old) (I.reads image.new) workspace.old workspace.new }
+{
+    let count = workspace.notes.len();
+    let mut path = PathBuffer::new();
+    let mut name = NameText::new();
+    let mut at = dir;
+    'up: for step in 0..count {
+        if at == ROOTINO {
+            return Ok(path);
+        }
+        if path.cut {
+            return Ok(path);
+        }
+        let parent = workspace.parents[at as usize];
+        if parent as usize >= count {
+            return Ok(path);
+        }
+        find_name(geometry, image, workspace, parent, at, &mut name)?;
+        path.push_front(name.as_slice());
+        at = parent;
+    }
+    Ok(path)
+}
 
 /// The path of a directory, for all lines on it and on its entries.
 ///
@@ -31,7 +142,7 @@ pub fn directory_path<I: Image>(
         workspace.old workspace.new (I.reads image.old) (I.reads image.new) }
 {
     let mut names = PathBuffer::new();
-    let reached = workspace.reached[dir as usize];
+    let reached = is_reached(workspace, dir);
     if reached {
         names = climb(geometry, image, workspace, dir)?;
     }

@@ -6,7 +6,7 @@ use Rattle.ffs_pathnames.specs.declared.examine.DirectorySummary.{DirectorySumma
 use Rattle.ffs_pathnames.proofs.Begun.{said_same, fault_same, image_same, starts_are, begun_is}
 use Rattle.ffs_pathnames.proofs.Passing.{knows_on}
 use Rattle.ffs_workspace.proofs.Leaving.{leaves_more, survey_left, windows_leave}
-use Rattle.ffs_paths.proofs.Keeping.{siblings_on}
+use Rattle.ffs_paths.proofs.Keeping.{kept_parent_on}
 use Rattle.ffs_pathnames.proofs.StampLaws.{windows_keep, keep_more, noted_kept}
 use Rattle.ffs_pathnames.proofs.check.begin_directory.Goals as goal
 
@@ -15,8 +15,8 @@ report_header-requires g c =
     let examined = c.in_ok-examined.ensures.leaves in
     record {
       ready = examined.ready;
-      siblings = siblings_on _ _ _ _ _ _ (ap (λ d. d.contents) examined.read) examined.lists.survey
-          examined.lists.places c.requires.ready.siblings;
+      kept_parent = kept_parent_on _ _ _ _ _ _ (ap (λ d. d.contents) examined.read) examined.lists.survey
+          examined.lists.places c.requires.ready.kept_parent;
       number = c.requires.ready.number;
     }
 

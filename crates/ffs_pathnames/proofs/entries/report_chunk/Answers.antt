@@ -25,7 +25,7 @@ entries-init g c =
     record {
       place = omega arith;
       index = omega arith;
-      ready = record { ready = c.requires.ready; siblings = c.requires.siblings };
+      ready = record { ready = c.requires.ready; kept_parent = c.requires.kept_parent };
       device = refl;
       survey = leaves_all _;
       places = λ x. refl;

@@ -26,7 +26,7 @@ invariant-entries g l =
     record {
       place : l.place ≤ 512;
       index : l.index ≤ l.place;
-      ready : ReadyWith v (reported_by l.image) l.workspace l.texts.siblings;
+      ready : ReadyWith v (reported_by l.image) l.workspace l.texts.kept_parent;
       device : reported_by l.image ≡ reported_by l.fn.image;
       survey : LeavesSurvey l.fn.workspace l.workspace;
       places : KeepPlaces l.fn.workspace.queue.items l.workspace.queue.items;

@@ -9,7 +9,7 @@ use Rattle.ffs_pathnames.specs.Gathers.{passed_of, roled_value}
 use Rattle.ffs_pathnames.proofs.Passed.{passes}
 use Rattle.ffs_pathnames.proofs.SeesLaws.{sees}
 use Rattle.ffs_pathnames.proofs.StampLaws.{keep_more, places_kept, windows_keep}
-use Rattle.ffs_paths.proofs.Keeping.{siblings_on}
+use Rattle.ffs_paths.proofs.Keeping.{kept_parent_on}
 use Rattle.ffs_pathnames.proofs.entries.report_entry.Goals as goal
 
 pub returns-in_err-report_by_role-clause-leaves : goal.returns-in_err-report_by_role-clause-leaves
@@ -74,7 +74,7 @@ returns-clause-leaves g c =
             names = windows.names;
           };
         };
-        siblings = siblings_on _ _ _ _ _ _ refl surveyed c.pass.ensures.places said.siblings;
+        kept_parent = kept_parent_on _ _ _ _ _ _ refl surveyed c.pass.ensures.places said.kept_parent;
       };
     }
 

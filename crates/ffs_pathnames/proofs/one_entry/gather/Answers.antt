@@ -46,7 +46,7 @@ returns-in_err-gather_path-clause-leaves g c =
     let p = err_from_is_err_and c.from_residual.result c.from_residual.ensures.1 in
     rw (p.1, p.2) (record {
       reads = record { lists = left.lists; chunk = left.chunk; ready = left.ready; read = left.read };
-      siblings = tt;
+      kept_parent = tt;
     })
 
 pub read_attr-requires : goal.read_attr-requires
@@ -58,13 +58,13 @@ read_attr-requires g c = record {
 pub gather_path-requires : goal.gather_path-requires
 gather_path-requires g c = record {
   ready = c.requires.ready.ready;
-  siblings = c.requires.ready.siblings;
+  kept_parent = c.requires.ready.kept_parent;
   number = c.requires.number (sym c.asks-wants_attr.ensures.attr ∙ c.if-not-wants_attr.false);
 }
 
 pub returns-then-not-wants_attr-clause-leaves : goal.returns-then-not-wants_attr-clause-leaves
 returns-then-not-wants_attr-clause-leaves g c =
-    leaves_with _ (no_reads c.requires.ready.ready) c.requires.ready.siblings
+    leaves_with _ (no_reads c.requires.ready.ready) c.requires.ready.kept_parent
 
 pub returns-in_err-gather_path-clause-enough : goal.returns-in_err-gather_path-clause-enough
 returns-in_err-gather_path-clause-enough g c =

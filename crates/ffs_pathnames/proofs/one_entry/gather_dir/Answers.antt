@@ -21,7 +21,7 @@ returns-in_err-put_path-clause-leaves g c =
     let p = err_from_is_err_and c.from_residual.result c.from_residual.ensures.1 in
     rw (p.1, p.2) (record {
       reads = record { lists = left.lists; chunk = left.chunk; ready = left.ready; read = left.read };
-      siblings = tt;
+      kept_parent = tt;
     })
 
 pub read_attr-requires : goal.read_attr-requires

@@ -13,7 +13,7 @@ returns-in_err-begin_paths-clause-leaves g c =
     let p = err_from_is_err_and c.from_residual.result c.from_residual.ensures.1 in
     rw (p.1, p.2) (record {
       reads = record { lists = left.lists; chunk = left.chunk; ready = left.ready; read = left.read };
-      siblings = tt;
+      kept_parent = tt;
     })
 
 pub returns-clause-enough : goal.returns-clause-enough
@@ -29,7 +29,7 @@ returns-clause-enough g c =
 pub returns-clause-leaves : goal.returns-clause-leaves
 returns-clause-leaves g c =
     let left = c.gather.ensures.leaves in
-    record { reads = reads_then c.in_ok-begin_paths.ensures.leaves.reads left.reads; siblings = left.siblings }
+    record { reads = reads_then c.in_ok-begin_paths.ensures.leaves.reads left.reads; kept_parent = left.kept_parent }
 
 pub returns-clause-counted : goal.returns-clause-counted
 returns-clause-counted g c = λ b k.

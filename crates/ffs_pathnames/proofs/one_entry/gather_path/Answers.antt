@@ -8,7 +8,7 @@ returns-then-not-wanted-clause-path g c = λ b t h r q. absurd (both_ways _ c.if
 
 pub returns-then-not-wanted-clause-leaves : goal.returns-then-not-wanted-clause-leaves
 returns-then-not-wanted-clause-leaves g c =
-    leaves_with _ (no_reads c.requires.ready) c.requires.siblings
+    leaves_with _ (no_reads c.requires.ready) c.requires.kept_parent
 
 pub put_path-requires : goal.put_path-requires
 put_path-requires g c = c.requires

@@ -46,7 +46,7 @@ chunks-init g c =
     (k : KnowsDirectory v (g.I.Image.device c.args.image.now) c.args.workspace.now x b).
     ap (λ es. map of_tree (entries_reported (volume_of v b) x.number m es)) (sym (seen b k)) in
     record {
-      ready = record { ready = c.requires.ready.ready; siblings = c.requires.ready.siblings };
+      ready = record { ready = c.requires.ready.ready; kept_parent = c.requires.ready.kept_parent };
       device = refl;
       geometry = c.start-chunks.ensures.geometry;
       survey = leaves_all _;
@@ -97,7 +97,7 @@ report_chunk-requires g c =
     let read = c.in_ok-offset.ensures in
     let next = ready_next _ _ _ c.chunks.workspace _ _ _ inv.ready read.leaves.read
     (rw inv.geometry at read.leaves.ready) in
-    record { ready = next.ready; siblings = next.siblings; number = c.requires.ready.number }
+    record { ready = next.ready; kept_parent = next.kept_parent; number = c.requires.ready.number }
 
 pub returns-clause-leaves : goal.returns-clause-leaves
 returns-clause-leaves g c =

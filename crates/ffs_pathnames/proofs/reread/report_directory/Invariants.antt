@@ -26,7 +26,7 @@ invariant-chunks g l =
     let v = l.geometry.layout in
     let x = l.directory in
     record {
-      ready : ReadyWith v (reported_by l.image) l.workspace l.texts.siblings;
+      ready : ReadyWith v (reported_by l.image) l.workspace l.texts.kept_parent;
       device : reported_by l.image ≡ reported_by l.fn.image;
       geometry : l.chunks.walk.geometry ≡ l.geometry;
       survey : LeavesSurvey l.fn.workspace l.workspace;

@@ -49,7 +49,7 @@ loop-number-init g c =
     let noted = c.in_ok-note_places.ensures in
     let all = λ (b : List ℕ). map of_tree (lines_from (directory_lines (volume_of v b)) 2 (inodes_of v - 2)) in
     record {
-      ready = record { ready = noted.ready; siblings = c.none-texts.ensures _ _ _ };
+      ready = record { ready = noted.ready; kept_parent = c.none-texts.ensures _ _ _ };
       device = noted.read;
       low = first.ensures.range.0;
       references = ap (λ (w : Workspace). w.references) noted.lists;

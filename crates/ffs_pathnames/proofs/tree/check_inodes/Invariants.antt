@@ -16,7 +16,7 @@ use Rattle.ffs_pathnames.proofs.tree.check_inodes.Given as goal
 
 abbrev pub invariant-loop-number : goal.invariant-loop-number
 invariant-loop-number g l = record {
-  ready : ReadyWith l.geometry.layout (g.I.Image.device l.image) l.workspace l.texts.siblings;
+  ready : ReadyWith l.geometry.layout (g.I.Image.device l.image) l.workspace l.texts.kept_parent;
   device : g.I.Image.device l.image ≡ g.I.Image.device l.fn.image;
   low : 2 ≤ l.number;
   references : l.workspace.references ≡ l.fn.workspace.references;

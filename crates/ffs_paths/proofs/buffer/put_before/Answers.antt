@@ -1,6 +1,5 @@
 use Rattle.std.proofs.Common.{◌+◌, ◌-◌, ◌∙◌, ap, length, arith, set}
-use Rattle.std.proofs.lemmas.Slice.{drop-put_mid}
-use Rattle.std.proofs.lemmas.List.{drop-set-lt, length-set}
+use Rattle.std.proofs.lemmas.{Slice.drop-put_mid, List.drop-set-lt, List.length-set}
 use Rattle.ffs_paths.proofs.buffer.put_before.Goals as goal
 
 pub returns-clause-following : goal.returns-clause-following

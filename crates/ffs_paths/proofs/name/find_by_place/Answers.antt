@@ -1,22 +1,17 @@
 use Rattle.std.proofs.Common.{◌≡◌, ◌*◌, ◌∙◌, ap, sym, suc, false, arith, slice_index}
 use Rattle.std.proofs.lemmas.List.{get_or_default}
-use Rattle.ffs_volume.specs.Disk.Numbers.{piece}
-use Rattle.ffs_volume.specs.Directories.Entries.{entries_of}
-use Rattle.ffs_volume.specs.Directories.Roles.{roled_from}
-use Rattle.ffs_paths.specs.Climbing.{name_in}
+use Rattle.ffs_volume.specs.{Disk.Numbers.piece, Directories.Entries.entries_of, Directories.Roles.roled_from}
+use Rattle.ffs_paths.{specs.Climbing.name_in, proofs.Keeping.name_read}
 use Rattle.ffs_workspace.specs.Places.{place_in}
-use Rattle.ffs_paths.proofs.Windows.{name_read}
 use Rattle.ffs_paths.proofs.name.find_by_place.Goals as goal
 
 pub returns-clause-name : goal.returns-clause-name
 returns-clause-name g c = λ found b t claims survey parent is dir.
     let v = c.args.geometry.now.layout in
     let w = c.args.workspace.now in
-    let long = c.requires.ready.made.queue in
-    let number = c.requires.number in
     let word : place_in (slice_index w.queue.items c.args.dir) ≡ suc c.in-Some.chunk =
-    ap place_in (sym (c.index.ensures ∙ get_or_default w.queue.items c.args.dir c.index.result.now 0 (omega arith)))
-    ∙ c.in-Some.ensures in
+    ap place_in (sym (c.index.ensures ∙ get_or_default w.queue.items c.args.dir c.index.result.now 0
+    (omega (arith, c.requires.ready.made.queue, c.requires.number)))) ∙ c.in-Some.ensures in
     let bytes = c.copy_from_slice.ensures.after ∙ (c.bytes.ensures ∙ (c.in_ok-fill.ensures.fills.bytes b t
     ∙ ap (λ k. piece (512 * k) 512 b) c.from.ensures)) in
     c.find_in_chunk.ensures.name found
@@ -26,4 +21,4 @@ returns-clause-name g c = λ found b t claims survey parent is dir.
 pub returns-clause-reads : goal.returns-clause-reads
 returns-clause-reads g c =
     let read = c.in_ok-fill.ensures.fills in
-    name_read _ _ _ c.args.workspace.now c.fill.new.self _ c.requires.ready read.room read.holds read.read
+    name_read c.requires.ready read.room read.holds read.read

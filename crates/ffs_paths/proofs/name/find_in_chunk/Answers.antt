@@ -2,21 +2,18 @@ use Rattle.std.proofs.Common.{◌≡◌, ◌<◌, ◌∙◌, None, ap, length, o
 use Rattle.std.proofs.lemmas.Bool.{both_ways}
 use Rattle.ffs_volume.specs.Directories.Entries.{entry_at}
 use Rattle.ffs_layout.specs.Entry.{entry_value}
-use Rattle.ffs_paths.proofs.ChunkNames.{chunk_here, chunk_past, named_none, named_past, plain_named}
+use Rattle.ffs_paths.proofs.ChunkNames.{chunk_here, chunk_past, named_none, plain_named}
 use Rattle.ffs_paths.proofs.name.find_in_chunk.Goals as goal
 
 pub returns-then-names-clause-name : goal.returns-then-names-clause-name
 returns-then-names-clause-name c = λ _.
-    c.set_name.ensures ∙ sym (c.entries.invariant.name ∙ chunk_here c.args.number c.args.order c.args.chunk.now
-    c.entries.index c.entries.place (entry_value c.in-Some.entry) c.role_of.result c.in-Some.ensures.some
-    c.role_of.ensures (sym c.names.ensures ∙ c.if-names.true))
+    c.set_name.ensures ∙ sym (c.entries.invariant.name ∙ chunk_here c.args.number _ _ c.entries.index c.entries.place
+    (entry_value c.in-Some.entry) _ c.in-Some.ensures.some c.role_of.ensures (sym c.names.ensures ∙ c.if-names.true))
 
 pub returns-then-names-clause-some : goal.returns-then-names-clause-some
-returns-then-names-clause-some c = λ _.
-    let named = plain_named c.args.number c.args.order c.args.chunk.now
-    c.entries.index c.entries.place (entry_value c.in-Some.entry) c.role_of.result c.told-chunk c.in-Some.ensures.some
-    c.role_of.ensures (sym c.names.ensures ∙ c.if-names.true) in
-    subst (λ name. 0 < length name) (sym c.set_name.ensures) named
+returns-then-names-clause-some c = λ _. subst (λ name. 0 < length name) (sym c.set_name.ensures)
+    (plain_named c.args.number _ _ c.entries.index c.entries.place (entry_value c.in-Some.entry) _ c.told-chunk
+    c.in-Some.ensures.some c.role_of.ensures (sym c.names.ensures ∙ c.if-names.true))
 
 pub returns-clause-found : goal.returns-clause-found
 returns-clause-found c = λ h.
@@ -27,15 +24,12 @@ returns-clause-found c = λ h.
 
 pub entries-preserved : goal.entries-preserved
 entries-preserved c =
-    let low = c.in-Some.ensures.room.0 in
-    let high = c.in-Some.ensures.room.1 in
+    let past = chunk_past c.args.number c.args.order c.args.chunk.now c.entries.index c.entries.place
+    (entry_value c.in-Some.entry) c.role_of.result c.in-Some.ensures.some c.role_of.ensures
+    (sym c.names.ensures ∙ c.if-names.false) in
     rw c.from-place.ensures (record {
-      place = omega arith;
-      index = omega arith;
-      name = c.entries.invariant.name ∙ chunk_past c.args.number c.args.order c.args.chunk.now c.entries.index
-          c.entries.place (entry_value c.in-Some.entry) c.role_of.result c.in-Some.ensures.some c.role_of.ensures
-          (sym c.names.ensures ∙ c.if-names.false);
-      named = c.entries.invariant.named ∙ named_past c.args.number c.args.order c.args.chunk.now c.entries.index
-          c.entries.place (entry_value c.in-Some.entry) c.role_of.result c.in-Some.ensures.some c.role_of.ensures
-          (sym c.names.ensures ∙ c.if-names.false);
+      place = omega (arith, c.in-Some.ensures.room.1);
+      index = omega (arith, c.in-Some.ensures.room.0);
+      name = c.entries.invariant.name ∙ past.0;
+      named = c.entries.invariant.named ∙ past.1;
     })

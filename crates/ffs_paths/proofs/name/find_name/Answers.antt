@@ -1,9 +1,5 @@
-use Rattle.std.proofs.Common.{Result, Ok, Err}
-use Rattle.std.specs.Prelude.{OnOk}
-use Rattle.std.proofs.lemmas.Bool.{both_ways}
-use Rattle.std.proofs.lemmas.Result.{on_ok_weaker}
-use Rattle.ffs_paths.specs.Climbing.{IsNameIn}
-use Rattle.ffs_paths.proofs.Keeping.{reads_then, tree_on}
+use Rattle.std.proofs.lemmas.{Bool.both_ways, Result.on_ok_weaker}
+use Rattle.ffs_paths.{specs.Climbing.IsNameIn, proofs.Keeping.reads_then, proofs.Keeping.tree_on}
 use Rattle.ffs_paths.proofs.name.find_name.Goals as goal
 
 -- it isn't found in the chunk that is noted
@@ -15,13 +11,10 @@ returns-clause-name g c = on_ok_weaker c.search_name.result
 pub returns-clause-reads : goal.returns-clause-reads
 returns-clause-reads g c = reads_then c.in_ok-find_by_place.ensures.reads c.search_name.ensures.reads
 
-on_ok_of : {T E P : Type 0} → (r : Result T E) → P → OnOk r P
-on_ok_of (Ok x) p = p
-on_ok_of (Err e) p = tt
-
 pub returns-clause-some : goal.returns-clause-some
-returns-clause-some g c = on_ok_of c.search_name.result
-    (λ b t noted. absurd (both_ways _ c.if-branch.false (c.in_ok-find_by_place.ensures.found b t noted)))
+returns-clause-some g c = on_ok_weaker c.search_name.result
+    (λ found b t noted. absurd (both_ways _ c.if-branch.false (c.in_ok-find_by_place.ensures.found b t noted)))
+    c.search_name.ensures.name
 
 pub returns-clause-counted : goal.returns-clause-counted
 returns-clause-counted g c = λ b t noted.

@@ -1,11 +1,8 @@
 use Rattle.std.proofs.Common.{◌≡◌, ℕ, ◌<◌, ◌*◌, List, Some, Ok}
-use Rattle.ffs_volume.specs.Directories.Graph.{level}
-use Rattle.ffs_volume.specs.Directories.Parents.{graph_of}
-use Rattle.ffs_volume.specs.Directories.Volumes.{volume_of}
+use Rattle.ffs_volume.specs.Directories.{Graph.level, Parents.graph_of, Volumes.volume_of}
 use Rattle.ffs_paths.specs.Reads.{ForTree, KnowsPlaces, OnlyReads}
-use Rattle.ffs_paths.proofs.Climbed.{HasClimbed}
-use Rattle.ffs_paths.proofs.WaysUp.{IsOnWay}
-use Rattle.ffs_paths.proofs.climb.climb.Given as goal
+use Rattle.ffs_paths.proofs.{Climbed.HasClimbed, WaysUp.IsOnWay}
+use Rattle.ffs_paths.proofs.path.climb.Given as goal
 
 abbrev pub invariant-up : goal.invariant-up
 invariant-up g l = let device = g.I.Image.device in record {

@@ -1,19 +1,16 @@
-//! The paths of directories, where one after another has the same parent.
+//! The path of a directory's parent, kept for the directory that comes next.
 
 ghost use Rattle.std.specs.Prelude.{◌≡◌, ◌<◌, true, ℕ, List, Option, IfOk, OnOk, IfSome, vec_len};
 ghost use Rattle.ffs_volume.specs.declared.Layout.{Layout};
-ghost use Rattle.ffs_volume.specs.Directories.Paths.{dir_path};
+ghost use Rattle.ffs_volume.specs.{Directories.Paths.dir_path, Report.Reads.path_reads};
 ghost use Rattle.ffs_workspace.specs.declared.workspace.Workspace.{Workspace as WorkspaceIn};
-ghost use Rattle.ffs_paths.specs.Climbing.{IsParentOf};
-ghost use Rattle.ffs_paths.specs.DirectoryPaths.{IsPathOf};
+ghost use Rattle.ffs_paths.specs.{Climbing.IsParentOf, DirectoryPaths.IsPathOf};
+ghost use Rattle.ffs_paths.specs.KeptParents.{KeepsParent, ReadyToPath, PathLeaves};
 ghost use Rattle.ffs_paths.specs.Reads.{ForTree, ReadsAtMost, climb_reads};
-ghost use Rattle.ffs_volume.specs.Report.Reads.{path_reads};
 
 use crate::buffer::{PathBuffer, PathText};
-use crate::entry_name::NameText;
-use crate::kept::DirectoryPath;
-use crate::name::find_name;
-use crate::path::directory_path;
+use crate::name::{NameText, find_name};
+use crate::path::{DirectoryPath, directory_path, is_reached};
 use ffs_image::{Image, ImageFault};
 use ffs_layout::Geometry;
 use ffs_volume::constants::ROOTINO;
@@ -25,7 +22,7 @@ fn parent_of(workspace: &Workspace, dir: u32) -> Option<u32>
     requires parents { dir < vec_len workspace.now.parents }
     ensures { IfSome result (λ p. IsParentOf workspace.now dir p) }
 {
-    if dir <= ROOTINO || !workspace.reached[dir as usize] {
+    if dir <= ROOTINO || !is_reached(workspace, dir) {
         return None;
     }
     let parent = workspace.parents[dir as usize];
@@ -35,31 +32,29 @@ fn parent_of(workspace: &Workspace, dir: u32) -> Option<u32>
     Some(parent)
 }
 
-/// A directory with its path, and the child of it whose path was made last.
+/// The directory whose path was made last, and its parent with the parent's path.
 ///
-/// Where one directory after another has the same parent, or is the parent of the next, the way up
-/// to the root isn't climbed again.
+/// Where the next directory has the same parent, or is in the last one, the way up to the root
+/// isn't climbed again.
 #[derive(Drop)]
-pub struct Siblings {
-    /// The directory, or 0 for none.
+pub struct KeptParent {
+    /// The parent, or 0 for none.
     pub parent: u32,
-    /// Its path.
+    /// The path of the parent.
     pub path: DirectoryPath,
-    /// The child whose path was made last, or 0.
+    /// The directory whose path was made last, or 0 for none.
     pub child: u32,
-    /// The name of that child.
+    /// The name of that directory in its parent.
     pub name: NameText,
 }
 
-impl Siblings {
-    ghost use Rattle.ffs_paths.specs.Siblings.{KeepSiblings, ReadyToPath, PathLeaves};
-
-    /// Of no directory.
-    pub fn none() -> Siblings
+impl KeptParent {
+    /// No path is kept.
+    pub fn none() -> KeptParent
         ensures { (v : Layout) (contents : Option (List ℕ)) (w : WorkspaceIn)
-            → KeepSiblings v contents w result }
+            → KeepsParent v contents w result }
     {
-        Siblings {
+        KeptParent {
             parent: 0,
             path: DirectoryPath {
                 reached: false,
@@ -70,7 +65,7 @@ impl Siblings {
         }
     }
 
-    /// Keeps the path of a directory, if it isn't the one that is kept.
+    /// Keeps the path of this parent, if another one's is kept.
     fn keep_path_of<I: Image>(
         &mut self,
         geometry: &Geometry,

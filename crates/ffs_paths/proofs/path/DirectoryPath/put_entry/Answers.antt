@@ -1,10 +1,9 @@
 use Rattle.std.proofs.Common.{◌≡◌, arith, ◌∙◌, ◌++◌, ◌∷◌, [], ap}
+use Rattle.std.proofs.lemmas.Bool.{both_ways}
 use Rattle.ffs_volume.specs.Directories.Paths.{entry_path, entry_path_of_names}
 use Rattle.ffs_paths.specs.Climbing.{in_room}
-use Rattle.ffs_paths.proofs.Rooms.{fits, fits_not}
-use Rattle.std.proofs.lemmas.Bool.{both_ways}
-use Rattle.ffs_paths.proofs.WaysUp.{by_path, entry_is}
-use Rattle.ffs_paths.proofs.kept.DirectoryPath.put_entry.Goals as goal
+use Rattle.ffs_paths.proofs.Rooms.{fits, fits_not, by_path, entry_is}
+use Rattle.ffs_paths.proofs.path.DirectoryPath.put_entry.Goals as goal
 
 pub returns-then-self : goal.returns-then-self
 returns-then-self c = λ g d h. entry_is g d c.args.name.now c.args.self.now _ h c.if-self.true c.put_with.ensures

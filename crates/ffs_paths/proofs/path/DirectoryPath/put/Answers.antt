@@ -1,8 +1,8 @@
 use Rattle.std.proofs.Common.{◌≡◌, ◌∙◌, ◌++◌, ◌∷◌, [], ap}
-use Rattle.ffs_volume.specs.Directories.Paths.{dir_path, dir_path_of_names}
 use Rattle.std.proofs.lemmas.Bool.{both_ways}
-use Rattle.ffs_paths.proofs.WaysUp.{by_path}
-use Rattle.ffs_paths.proofs.kept.DirectoryPath.put.Goals as goal
+use Rattle.ffs_volume.specs.Directories.Paths.{dir_path, dir_path_of_names}
+use Rattle.ffs_paths.proofs.Rooms.{by_path}
+use Rattle.ffs_paths.proofs.path.DirectoryPath.put.Goals as goal
 
 pub returns-then-self : goal.returns-then-self
 unfolding dir_path

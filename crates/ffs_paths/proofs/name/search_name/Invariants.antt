@@ -1,9 +1,8 @@
 use Rattle.std.proofs.Common.{◌≡◌, [], Ok}
 use Rattle.ffs_image.specs.Device.{ForContents}
 use Rattle.ffs_names.specs.Entering.{to_come, left}
-use Rattle.ffs_paths.specs.Climbing.{name_in}
-use Rattle.ffs_paths.specs.Reads.{OnlyReads}
-use Rattle.ffs_paths.proofs.search.search_name.Given as goal
+use Rattle.ffs_paths.specs.{Climbing.name_in, Reads.OnlyReads}
+use Rattle.ffs_paths.proofs.name.search_name.Given as goal
 
 abbrev pub invariant-entries : goal.invariant-entries
 invariant-entries g l = let device = g.I.Image.device in record {

@@ -14,7 +14,7 @@ use Rattle.ffs_workspace.specs.Places.{place_in}
 use Rattle.ffs_paths.specs.DirectoryPaths.{IsPathOf}
 use Rattle.ffs_paths.specs.Reads.{OnlyReads}
 use Rattle.ffs_paths.specs.Slashes.{AreSingle}
-use Rattle.ffs_paths.specs.declared.siblings.Siblings.{Siblings}
+use Rattle.ffs_paths.specs.declared.kept_parent.KeptParent.{KeptParent}
 
 -- the names down to d are those down to s, and one more
 pub record LeadsTo (g : Graph) (s d : ℕ) (name : List ℕ) : Type 0 where
@@ -24,16 +24,16 @@ pub record LeadsTo (g : Graph) (s d : ℕ) (name : List ℕ) : Type 0 where
   pub single : AreSingle (names ++ name ∷ [])
 
 -- the path of a directory, and the name of a child in it
-pub record AreSiblings (g : Graph) (s : Siblings) : Type 0 where
+pub record IsKeptParent (g : Graph) (s : KeptParent) : Type 0 where
   pub path : 0 < s.parent → IsPathOf g s.parent s.path
   pub parent : 0 < s.child → 0 < s.parent
   pub child : 0 < s.child → LeadsTo g s.parent s.child s.name.items
 
 -- they are those of the volume, where the image gives these bytes and the workspace holds what the block check and the
 -- survey leave
-pub record KeepSiblings (v : Layout) (contents : Option (List ℕ)) (w : Workspace) (s : Siblings) : Type 0 where
+pub record KeepsParent (v : Layout) (contents : Option (List ℕ)) (w : Workspace) (s : KeptParent) : Type 0 where
   pub right : (b : List ℕ) → contents ≡ Some b → HoldsClaims v b w → HoldsSurvey v b w
-      → AreSiblings (graph_of (volume_of v b)) s
+      → IsKeptParent (graph_of (volume_of v b)) s
 
 -- the same places are noted
 abbrev pub SamePlaces : Workspace → Workspace → Type 0
@@ -41,18 +41,18 @@ SamePlaces old new =
     (x : ℕ) → place_in (slice_index new.queue.items x) ≡ place_in (slice_index old.queue.items x)
 
 -- paths can be made: the workspace is ready, and what is kept of a directory and its children is right
-pub record ReadyWith (v : Layout) (d : Device) (w : Workspace) (s : Siblings) : Type 0 where
+pub record ReadyWith (v : Layout) (d : Device) (w : Workspace) (s : KeptParent) : Type 0 where
   pub ready : IsReady v d w
-  pub siblings : KeepSiblings v d.contents w s
+  pub kept_parent : KeepsParent v d.contents w s
 
 -- a path of the inode x can be made
-pub record ReadyToPath (v : Layout) (d : Device) (w : Workspace) (s : Siblings) (x : ℕ) : Type 0 where
+pub record ReadyToPath (v : Layout) (d : Device) (w : Workspace) (s : KeptParent) (x : ℕ) : Type 0 where
   pub ready : IsReady v d w
-  pub siblings : KeepSiblings v d.contents w s
+  pub kept_parent : KeepsParent v d.contents w s
   pub number : x < v.ncg * v.ipg
 
 -- what a call leaves that makes a path; where it failed, nothing of a directory and its children may be right
-pub record PathLeaves {T : Type 0} (v : Layout) (d d' : Device) (w w' : Workspace) (s : Siblings)
+pub record PathLeaves {T : Type 0} (v : Layout) (d d' : Device) (w w' : Workspace) (s : KeptParent)
     (result : Result T ImageFault) : Type 0 where
   pub reads : OnlyReads v d d' w w' result
-  pub siblings : OnOk result (KeepSiblings v d'.contents w' s)
+  pub kept_parent : OnOk result (KeepsParent v d'.contents w' s)

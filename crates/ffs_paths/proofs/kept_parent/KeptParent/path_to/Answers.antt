@@ -1,21 +1,17 @@
 use Rattle.std.proofs.Common.{◌∙◌, ap, sym, subst, arith}
-use Rattle.ffs_volume.specs.Directories.Parents.{graph_of}
-use Rattle.ffs_volume.specs.Directories.Volumes.{volume_of}
+use Rattle.ffs_volume.specs.Directories.{Parents.graph_of, Volumes.volume_of}
 use Rattle.ffs_paths.specs.Climbing.{IsNameIn, IsParentOf}
-use Rattle.ffs_paths.specs.Reads.{ForTree}
-use Rattle.ffs_paths.specs.Siblings.{AreSiblings}
-use Rattle.ffs_paths.specs.declared.siblings.Siblings.{Siblings}
-use Rattle.ffs_paths.proofs.Children.{child_made, siblings_are}
-use Rattle.ffs_paths.proofs.Climbed.{few_then, noted_child}
+use Rattle.ffs_paths.specs.{Reads.ForTree, KeptParents.IsKeptParent, declared.kept_parent.KeptParent.KeptParent}
+use Rattle.ffs_paths.proofs.{WaysUp.child_made, WaysUp.kept_parent_is, Climbed.few_then, Climbed.noted_child}
 use Rattle.ffs_paths.proofs.Keeping.{leaves_kept, reads_then, tree_on}
-use Rattle.ffs_paths.proofs.siblings.Siblings.path_to.Goals as goal
+use Rattle.ffs_paths.proofs.kept_parent.KeptParent.path_to.Goals as goal
 
 pub returns : goal.returns
 returns g c =
     let v = c.args.geometry.now.layout in
     let w = c.args.workspace.now in
     let first = c.keep_path_of.new.self in
-    let s : Siblings = record {
+    let s : KeptParent = record {
       parent = first.parent;
       path = first.path;
       child = c.args.dir;
@@ -25,21 +21,20 @@ returns g c =
     let reads = kept.leaves.reads in
     let of : IsParentOf w c.args.dir first.parent =
     subst (IsParentOf w c.args.dir) (sym kept.kept) (rw c.in-Some.is at c.parent_of.ensures) in
-    let siblings : ForTree v (g.I.Image.device c.args.image.now) w (λ g. AreSiblings g s) = λ b t claims survey.
-    let above = tree_on (λ g. AreSiblings g first) reads kept.leaves.siblings.right b t claims survey in
-    siblings_are v b w s survey of (above.path of.some)
+    let holds : ForTree v (g.I.Image.device c.args.image.now) w (λ g. IsKeptParent g s) = λ b t claims survey.
+    let above = tree_on (λ g. IsKeptParent g first) reads kept.leaves.kept_parent.right b t claims survey in
+    kept_parent_is v b w s survey of (above.path of.some)
     (subst (λ p. IsNameIn (graph_of (volume_of v b)) c.args.dir p s.name.items) (sym kept.kept)
     (tree_on (λ g. IsNameIn g c.args.dir c.in-Some.parent s.name.items) reads c.in_ok-find_name.ensures.name b t
     claims survey)) in
     record {
       path = λ b t claims survey.
-          let below = of.below in
-          child_made (graph_of (volume_of v b)) s c.child.result (siblings b t claims survey) (omega arith)
+          child_made (graph_of (volume_of v b)) s c.child.result (holds b t claims survey) (omega (arith, of.below))
           (rw c.as_slice.ensures.value at c.child.ensures);
-      leaves = leaves_kept s (reads_then reads c.in_ok-find_name.ensures.reads) siblings;
+      leaves = leaves_kept s (reads_then reads c.in_ok-find_name.ensures.reads) holds;
       counted = λ b knows. few_then (kept.counted b knows)
           (c.in_ok-find_name.ensures.counted b (ap (λ d. d.contents) reads.read ∙ knows.gives_bytes)
-          (noted_child v _ b w c.keep_path_of.new.workspace c.args.dir first.parent knows of reads.lists));
+          (noted_child knows of reads.lists));
     }
 
 -- a read of the child's name failed
@@ -50,5 +45,4 @@ returns-in_err-find_name-clause-counted g c = λ b knows.
     let of : IsParentOf c.args.workspace.now c.args.dir c.in-Some.parent = rw c.in-Some.is at c.parent_of.ensures in
     few_then (kept.counted b knows)
     (c.in_err-find_name.ensures.counted b (ap (λ d. d.contents) reads.read ∙ knows.gives_bytes)
-    (noted_child c.args.geometry.now.layout _ b c.args.workspace.now c.keep_path_of.new.workspace c.args.dir
-    c.in-Some.parent knows of reads.lists))
+    (noted_child knows of reads.lists))

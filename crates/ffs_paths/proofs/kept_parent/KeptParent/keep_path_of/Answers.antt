@@ -1,12 +1,9 @@
 use Rattle.std.proofs.Common.{◌<◌, Ok, sym, subst, arith}
-use Rattle.ffs_volume.specs.Directories.Parents.{graph_of}
-use Rattle.ffs_volume.specs.Directories.Volumes.{volume_of}
-use Rattle.ffs_paths.specs.DirectoryPaths.{IsPathOf}
-use Rattle.ffs_paths.specs.Reads.{ForTree, OnlyReads}
-use Rattle.ffs_paths.proofs.Children.{child_made}
-use Rattle.ffs_paths.proofs.Keeping.{no_reads, reads_as, leaves_kept}
-use Rattle.ffs_paths.proofs.siblings.Siblings.keep_path_of.Goals as goal
-use Rattle.ffs_paths.proofs.siblings.Siblings.keep_path_of.Goals.{then-self-dir-2, else-self-dir-2+in_ok-self}
+use Rattle.ffs_volume.specs.Directories.{Parents.graph_of, Volumes.volume_of}
+use Rattle.ffs_paths.specs.{DirectoryPaths.IsPathOf, Reads.ForTree, Reads.OnlyReads}
+use Rattle.ffs_paths.proofs.{WaysUp.child_made, Keeping.no_reads, Keeping.reads_as, Keeping.leaves_kept}
+use Rattle.ffs_paths.proofs.kept_parent.KeptParent.keep_path_of.Goals as goal
+use Rattle.ffs_paths.proofs.kept_parent.KeptParent.keep_path_of.Goals.{then-self-dir-2, else-self-dir-2+in_ok-self}
 
 pub returns-clause-leaves : goal.returns-clause-leaves
 returns-clause-leaves g c =
@@ -24,7 +21,7 @@ returns-clause-leaves g c =
           let of = graph_of (volume_of v b) in
           let is = w.if-self-dir-2.true in
           subst (λ d. IsPathOf of d w.child-self.result) is (child_made of s w.child-self.result
-          (c.requires.ready.siblings.right b t claims survey) (subst (λ d. 0 < d) (sym is) c.requires.some)
+          (c.requires.ready.kept_parent.right b t claims survey) (subst (λ d. 0 < d) (sym is) c.requires.some)
           (rw w.as_slice.ensures.value at w.child-self.ensures)))
       | else-self-dir-2+in_ok-self w ↦ rw w.self-is w.in_ok-self.ensures.path
     ] in

@@ -1,0 +1,74 @@
+use Rattle.std.proofs.Common.{◌≡◌, ◌<◌, ◌∙◌, ℕ, true, List, ap, sym, subst, slice_index}
+use Rattle.std.proofs.lemmas.Result.{err_from_is_err_and}
+use Rattle.ffs_names.{proofs.DirLaws.dir_is, proofs.DirLaws.dir_size, proofs.DirLaws.dir_seen, specs.Entering.to_come}
+use Rattle.ffs_names.specs.{Entering.last_name, Shapes.BeginsDirectory, declared.entries.Entries.Entries}
+use Rattle.ffs_survey.specs.Reading.{roled_of}
+use Rattle.ffs_volume.specs.declared.{Inode.Inode, Layout.Layout}
+use Rattle.ffs_volume.specs.{Blocks.Inodes.inode_of, Laws.Geometry.IsAcceptedLayout}
+use Rattle.ffs_volume.specs.Directories.{Roles.is_dir, Roles.roled_entries, Volumes.volume_of}
+use Rattle.ffs_workspace.specs.{Holds.HoldsClaims, Notes.cut_in, declared.workspace.Workspace.Workspace}
+use Rattle.ffs_workspace.proofs.NoteLaws.{cut_is_noted}
+use Rattle.ffs_paths.{specs.Climbing.name_in, proofs.Keeping.chunk_then, proofs.WaysUp.name_in-by}
+use Rattle.ffs_paths.proofs.name.search_name.Goals as goal
+
+-- all entries of the parent are still to come
+begun : {v : Layout} {b : List ℕ} {w : Workspace} {i : Inode} {cut : ℕ} {r : Entries} (p : ℕ) → IsAcceptedLayout v →
+    HoldsClaims v b w → is_dir (volume_of v b) p ≡ true → i ≡ inode_of v b p →
+    cut ≡ cut_in (slice_index w.notes.items p)
+    → BeginsDirectory v i cut r → roled_entries (volume_of v b) p ≡ to_come b r
+begun {v = v} {b = b} {i = i} {cut = cut} p sound claims dir inode noted begins =
+    let is = dir_is v b p dir in
+    sym (begins.entries b (subst (λ (n : Inode). n.size < 2147483648) (sym inode) (dir_size v (inode_of v b p) is.1))
+    ∙ dir_seen v b p i cut sound is.0 inode (noted ∙ (ap cut_in (claims.notes p) ∙ cut_is_noted v b p sound)))
+
+pub returns-then-names-clause-name : goal.returns-then-names-clause-name
+returns-then-names-clause-name g c = λ b t claims survey is dir.
+    let i = c.entries.invariant in
+    let o = rw c.in-Some.is at c.in_ok-entry.ensures.entry in
+    c.set_name.ensures ∙ (c.name.ensures ∙ sym (ap (name_in c.args.dir) (begun c.args.parent c.args.geometry.now.sound
+    claims dir (c.in_ok-inode.ensures.reads.inode b t) c.cut_of-cut.ensures c.start-entries.ensures.begins)
+    ∙ (i.name b t ∙ (ap (name_in c.args.dir) (o b (ap (λ d. d.contents) i.reads.read ∙ t)).entries
+    ∙ name_in-by c.args.dir (roled_of c.in-Some.entry (last_name c.next.new.self)) (to_come b c.next.new.self)
+    (sym c.names.ensures ∙ c.if-names.true)))))
+
+-- no entry is left
+pub returns-clause-name : goal.returns-clause-name
+returns-clause-name g c = λ b t claims survey is dir.
+    let i = c.entries.invariant in
+    let o = rw c.in_default.is at c.in_ok-entry.ensures.entry in
+    i.none ∙ sym (ap (name_in c.args.dir) (begun c.args.parent c.args.geometry.now.sound
+    claims dir (c.in_ok-inode.ensures.reads.inode b t) c.cut_of-cut.ensures c.start-entries.ensures.begins)
+    ∙ (i.name b t ∙ ap (name_in c.args.dir) (o b (ap (λ d. d.contents) i.reads.read ∙ t)).entries))
+
+pub entries-preserved : goal.entries-preserved
+entries-preserved g c =
+    let i = c.entries.invariant in
+    let next = c.in_ok-entry.ensures in
+    let o = rw c.in-Some.is at next.entry in
+    record {
+      name = λ b t. i.name b t
+          ∙ (ap (name_in c.args.dir) (o b (ap (λ d. d.contents) i.reads.read ∙ t)).entries
+          ∙ name_in-by c.args.dir (roled_of c.in-Some.entry (last_name c.next.new.self)) (to_come b c.next.new.self)
+          (sym c.names.ensures ∙ c.if-names.false));
+      none = i.none;
+      geometry = next.leaves.geometry ∙ i.geometry;
+      reads = chunk_then i.reads (rw i.geometry at next.leaves.ready) next.leaves.read;
+    }
+
+pub returns-then-names-clause-reads : goal.returns-then-names-clause-reads
+returns-then-names-clause-reads g c =
+    let i = c.entries.invariant in
+    chunk_then i.reads (rw i.geometry at c.in_ok-entry.ensures.leaves.ready) c.in_ok-entry.ensures.leaves.read
+
+pub returns-clause-reads : goal.returns-clause-reads
+returns-clause-reads g c =
+    let i = c.entries.invariant in
+    chunk_then i.reads (rw i.geometry at c.in_ok-entry.ensures.leaves.ready) c.in_ok-entry.ensures.leaves.read
+
+-- a read failed
+pub returns-in_err-entry-clause-reads : goal.returns-in_err-entry-clause-reads
+returns-in_err-entry-clause-reads g c =
+    let i = c.entries.invariant in
+    let p = err_from_is_err_and c.from_residual-in_err-entry.result c.from_residual-in_err-entry.ensures.1 in
+    rw (p.1, p.2)
+    (chunk_then i.reads (rw i.geometry at c.in_err-entry.ensures.leaves.ready) c.in_err-entry.ensures.leaves.read)

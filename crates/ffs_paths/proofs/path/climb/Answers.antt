@@ -1,0 +1,74 @@
+use Rattle.std.proofs.Common.{◌≡◌, ◌<◌, ◌∙◌, ◌∷◌, ap, length, sym, subst, arith, ℕ, slice_index}
+use Rattle.std.proofs.lemmas.List.{get_or_default}
+use Rattle.ffs_volume.specs.Directories.{Graph.Graph, Parents.graph_of, Volumes.volume_of}
+use Rattle.ffs_paths.specs.{Climbing.IsNameIn, Buffers.HoldsNames}
+use Rattle.ffs_paths.proofs.Climbed.{climb_more, few_more, few_then, noted_here, short_way}
+use Rattle.ffs_paths.proofs.Keeping.{reads_then, tree_on}
+use Rattle.ffs_paths.proofs.WaysUp.{parent_is, way_root, way_cut, way_long, way_up, count_is}
+use Rattle.ffs_paths.proofs.path.climb.Goals as goal
+
+pub returns-then-at-eq-ROOTINO-clause-path : goal.returns-then-at-eq-ROOTINO-clause-path
+returns-then-at-eq-ROOTINO-clause-path g c = λ b t claims survey k l.
+    way_root (c.up.invariant.path b t claims survey k l) c.if-at-eq-ROOTINO.true
+
+pub returns-then-path-clause-path : goal.returns-then-path-clause-path
+returns-then-path-clause-path g c = λ b t claims survey k l.
+    way_cut (c.up.invariant.path b t claims survey k l) c.if-path.true
+
+pub returns-then-parent-count-clause-path : goal.returns-then-parent-count-clause-path
+returns-then-parent-count-clause-path g c = λ b t claims survey k l.
+    let i = c.up.invariant in
+    let way = i.path b t claims survey k l in
+    let at = i.at in
+    let long = i.reads.ready.made.parents in
+    let below = (parent_is _ way.left c.up.at c.index-parent.result.now way.level c.if-at-eq-ROOTINO.false
+    (c.index-parent.ensures ∙ (get_or_default c.up.workspace.parents.items c.up.at c.index-parent.result.now 0
+    (omega arith) ∙ (ap (λ w. slice_index w.parents.items c.up.at) i.reads.lists ∙ survey.parents c.up.at)))).below in
+    absurd (omega (arith, count_is c.args.geometry.now.layout b, c.if-parent-count.true, c.requires.ready.made.notes))
+
+pub returns-clause-path : goal.returns-clause-path
+returns-clause-path g c = λ b t claims survey k l.
+    let below = way_long (c.up.invariant.path b t claims survey k l) l in
+    absurd (omega (arith, count_is c.args.geometry.now.layout b, c.up-test.false, c.requires.ready.made.notes))
+
+pub up-preserved : goal.up-preserved
+up-preserved g c =
+    let i = c.up.invariant in
+    let found = c.in_ok-find_name.ensures in
+    let p : ℕ = c.index-parent.result.now in
+    let at = i.at in
+    let long = i.reads.ready.made.parents in
+    let is : p ≡ slice_index c.up.workspace.parents.items c.up.at =
+    c.index-parent.ensures ∙ get_or_default c.up.workspace.parents.items c.up.at p 0 (omega arith) in
+    record {
+      at = omega (arith, c.requires.ready.made.notes, c.if-parent-count.false);
+      reads = reads_then i.reads found.reads;
+      path = λ b t claims survey k l.
+          let G : Graph = graph_of (volume_of c.args.geometry.now.layout b) in
+          let way = i.path b t claims survey k l in
+          let above = parent_is G way.left c.up.at p way.level c.if-at-eq-ROOTINO.false
+          (is ∙ (ap (λ w. slice_index w.parents.items c.up.at) i.reads.lists ∙ survey.parents c.up.at)) in
+          let name = c.as_slice.ensures.value ∙ tree_on (λ g. IsNameIn g c.up.at p c.find_name.new.name.items) i.reads
+          found.name b t claims survey above.is above.dir in
+          way_up p c.push_front.new.self way above (λ following held.
+          subst (λ n. HoldsNames c.push_front.new.self (n ∷ following)) name (c.push_front.ensures following held));
+      counted = λ b k knows l.
+          let t = ap (λ d. d.contents) i.reads.read ∙ knows.gives_bytes in
+          let way = i.path b knows.gives_bytes knows.claims knows.survey k l in
+          let noted = noted_here way.left c.up.at knows i.reads.lists way.level c.if-at-eq-ROOTINO.false in
+          climb_more c.as_slice.result.now (i.counted b k knows l) c.if-path.false (found.counted b t noted)
+          (subst (λ name. 0 < length name) (sym c.as_slice.ensures.value) (found.some b t noted)) c.push_front.ensures;
+    }
+
+-- a read failed, with names that have room
+pub returns-in_err-find_name-clause-counted : goal.returns-in_err-find_name-clause-counted
+returns-in_err-find_name-clause-counted g c = λ b k knows l.
+    let i = c.up.invariant in
+    let way = i.path b knows.gives_bytes knows.claims knows.survey k l in
+    let h = i.counted b k knows l in
+    few_more (few_then h.few
+    (c.in_err-find_name.ensures.counted b (ap (λ d. d.contents) i.reads.read ∙ knows.gives_bytes)
+    (noted_here way.left c.up.at knows i.reads.lists way.level c.if-at-eq-ROOTINO.false))) (short_way h c.if-path.false)
+
+pub returns-clause-counted : goal.returns-clause-counted
+returns-clause-counted g c = λ b k knows l. let h = c.up.invariant.counted b k knows l in few_more h.few h.most
