@@ -146,10 +146,7 @@ fn places(rt: HostRuntime) -> Result<(), Fail> {
         ),
         &(2, 32, 128, 4),
     );
-    let wanted = (
-        [128, 132, 148, 164],
-        [159744, 32784, 28928, 163968],
-    );
+    let wanted = ([128, 132, 148, 164], [159744, 32784, 28928, 163968]);
     same(&rt, &places_in(&geometry), &Some(wanted));
     Ok(())
 }
@@ -169,11 +166,7 @@ const AREAS: [(u64, bool, bool); 10] = [
 ];
 
 fn area_of(geometry: &Geometry, fragment: u64) -> (u64, bool, bool) {
-    (
-        fragment,
-        geometry.ok(fragment),
-        geometry.reserved(fragment),
-    )
+    (fragment, geometry.ok(fragment), geometry.reserved(fragment))
 }
 
 /// Whether runs are in range: in data, over the start of a group, and over the end.
