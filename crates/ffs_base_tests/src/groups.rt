@@ -98,28 +98,31 @@ fn findings(summary: [u8; 4], wrong: Number, alloc: Global) -> Result<[bool; 4],
     Ok(reported(right))
 }
 
+/// Summary records, words of the group block, and what is found.
+const CASES: [([u8; 4], Number, [bool; 4]); 6] = [
+    ([1, 22, 29, 6], (4, 4, 0x00090255), [true, true, true, true]),
+    ([1, 22, 29, 6], (4, 4, 0), [false, true, true, true]),
+    (
+        [1, 22, 29, 5],
+        (4, 4, 0x00090255),
+        [true, false, true, true],
+    ),
+    (
+        [1, 22, 29, 6],
+        (168, 4, 0x00000003),
+        [true, true, false, true],
+    ),
+    (
+        [1, 22, 29, 6],
+        (184, 4, 0x7fffffff),
+        [true, true, false, true],
+    ),
+    ([1, 22, 29, 6], (64, 4, 1), [true, true, true, false]),
+];
+
 #[test]
 fn findings_of_a_root(rt: HostRuntime) -> Result<(), Fail> {
-    for (summary, wrong, right) in [
-        ([1, 22, 29, 6], (4, 4, 0x00090255), [true, true, true, true]),
-        ([1, 22, 29, 6], (4, 4, 0), [false, true, true, true]),
-        (
-            [1, 22, 29, 5],
-            (4, 4, 0x00090255),
-            [true, false, true, true],
-        ),
-        (
-            [1, 22, 29, 6],
-            (168, 4, 0x00000003),
-            [true, true, false, true],
-        ),
-        (
-            [1, 22, 29, 6],
-            (184, 4, 0x7fffffff),
-            [true, true, false, true],
-        ),
-        ([1, 22, 29, 6], (64, 4, 1), [true, true, true, false]),
-    ] {
+    for (summary, wrong, right) in CASES {
         same(&rt, &findings(summary, wrong, rt.alloc())?, &right);
     }
     Ok(())

@@ -2,7 +2,7 @@
 
 use crate::compare::same;
 use ffs_image::MemoryImage;
-use ffs_layout::{Entry, Group, Super, decode_inode, entry_at, read_super};
+use ffs_layout::{Entry, Geometry, Group, Super, decode_inode, entry_at, read_super};
 use ffs_samples::{Number, ORDERS, base, put, put_bytes, put_super};
 use ffs_volume::{Order, SuperFault};
 use std::alloc::{AllocError, Global};
@@ -111,6 +111,28 @@ fn settings(rt: HostRuntime) -> Result<(), Fail> {
 /// Two groups, the second of them moved by four fragments.
 const TWO_GROUPS: [(usize, u64); 6] = [(36, 250), (40, 201), (44, 2), (24, 4), (28, 0), (176, 2)];
 
+/// Where the areas of the second group begin, and the places of what is in it and of the root; none
+/// where there are not two groups of 32 inodes.
+fn places_in(geometry: &Geometry) -> Option<([u32; 4], [u64; 4])> {
+    if geometry.ncg() != 2 || geometry.ipg() != 32 {
+        return None;
+    }
+    Some((
+        [
+            geometry.cgbase(1),
+            geometry.cgstart(1),
+            geometry.cgsblock(1),
+            geometry.cgdmin(1),
+        ],
+        [
+            geometry.group_place(1),
+            geometry.summary_place(1),
+            geometry.inode_place(2),
+            geometry.inode_place(33),
+        ],
+    ))
+}
+
 #[test]
 fn places(rt: HostRuntime) -> Result<(), Fail> {
     let geometry = found_with(Some(16), &TWO_GROUPS, 256000, rt.alloc())?.geometry;
@@ -124,58 +146,45 @@ fn places(rt: HostRuntime) -> Result<(), Fail> {
         ),
         &(2, 32, 128, 4),
     );
-    if geometry.ncg() == 2 && geometry.ipg() == 32 {
-        same(
-            &rt,
-            &[
-                geometry.cgbase(1),
-                geometry.cgstart(1),
-                geometry.cgsblock(1),
-                geometry.cgdmin(1),
-            ],
-            &[128, 132, 148, 164],
-        );
-        same(
-            &rt,
-            &[
-                geometry.group_place(1),
-                geometry.summary_place(1),
-                geometry.inode_place(2),
-                geometry.inode_place(33),
-            ],
-            &[159744, 32784, 28928, 163968],
-        );
-    }
+    let wanted = ([128, 132, 148, 164], [159744, 32784, 28928, 163968]);
+    same(&rt, &places_in(&geometry), &Some(wanted));
     Ok(())
+}
+
+/// Fragments of it, whether each is in range, and whether each is reserved.
+const AREAS: [(u64, bool, bool); 10] = [
+    (0, true, true),
+    (15, true, true),
+    (16, false, true),
+    (31, false, true),
+    (32, true, true),
+    (33, true, false),
+    (148, false, true),
+    (164, true, false),
+    (249, true, false),
+    (250, false, false),
+];
+
+fn area_of(geometry: &Geometry, fragment: u64) -> (u64, bool, bool) {
+    (fragment, geometry.ok(fragment), geometry.reserved(fragment))
+}
+
+/// Whether runs are in range: in data, over the start of a group, and over the end.
+fn runs_in_range(geometry: &Geometry) -> [bool; 3] {
+    [
+        geometry.in_range(33, 1),
+        geometry.in_range(127, 2),
+        geometry.in_range(249, 2),
+    ]
 }
 
 #[test]
 fn areas(rt: HostRuntime) -> Result<(), Fail> {
     let geometry = found_with(Some(16), &TWO_GROUPS, 256000, rt.alloc())?.geometry;
-    for (fragment, is_fragment_in_range, is_reserved) in [
-        (0, true, true),
-        (15, true, true),
-        (16, false, true),
-        (31, false, true),
-        (32, true, true),
-        (33, true, false),
-        (148, false, true),
-        (164, true, false),
-        (249, true, false),
-        (250, false, false),
-    ] {
-        same(&rt, &geometry.ok(fragment), &is_fragment_in_range);
-        same(&rt, &geometry.reserved(fragment), &is_reserved);
+    for area in AREAS {
+        same(&rt, &area_of(&geometry, area.0), &area);
     }
-    same(
-        &rt,
-        &[
-            geometry.in_range(33, 1),
-            geometry.in_range(127, 2),
-            geometry.in_range(249, 2),
-        ],
-        &[true, false, false],
-    );
+    same(&rt, &runs_in_range(&geometry), &[true, false, false]);
     Ok(())
 }
 

@@ -55,34 +55,54 @@ fn run_in_two_words(rt: HostRuntime) -> Result<(), Fail> {
     Ok(())
 }
 
-/// The bits that are set, and how many of them are in eight ranges.
-fn two_runs(alloc: Global) -> Result<(Vec<u32>, [u32; 8]), AllocError> {
+/// How many bits of each range are set; of one that isn't in the map, 4,294,967,295.
+fn counts_in(
+    map: &FragmentMap,
+    ranges: &[(u32, u32)],
+    alloc: Global,
+) -> Result<Vec<u32>, AllocError> {
+    let mut counts = Vec::new(alloc);
+    for &(start, end) in ranges {
+        counts.push(if start <= end && end <= map.size {
+            map.count(start, end)
+        } else {
+            u32::MAX
+        })?;
+    }
+    Ok(counts)
+}
+
+/// The ranges in which the bits of the longer runs are counted.
+const RANGES: [(u32, u32); 8] = [
+    (0, 500),
+    (0, 60),
+    (59, 61),
+    (64, 192),
+    (130, 130),
+    (199, 301),
+    (320, 500),
+    (61, 63),
+];
+
+/// The bits that are set, and how many of them are in the ranges.
+fn two_runs(alloc: Global) -> Result<[Vec<u32>; 2], AllocError> {
     let mut map = FragmentMap::new(alloc, 500)?;
     map.set_run(60, 140);
     map.set_run(300, 20);
-    let counts = [
-        map.count(0, 500),
-        map.count(0, 60),
-        map.count(59, 61),
-        map.count(64, 192),
-        map.count(130, 130),
-        map.count(199, 301),
-        map.count(320, 500),
-        map.count(61, 63),
-    ];
-    Ok((set_bits(&map, alloc)?, counts))
+    Ok([set_bits(&map, alloc)?, counts_in(&map, &RANGES, alloc)?])
 }
 
 /// Runs of more than a word, 60 to 199 and 300 to 319, and how many of their bits are in others.
 #[test]
 fn longer_runs(rt: HostRuntime) -> Result<(), Fail> {
-    let (set, counts) = two_runs(rt.alloc())?;
+    let [set, counts] = two_runs(rt.alloc())?;
     same(
         &rt,
         &[set.first(), set.get(139), set.get(140), set.last()],
         &[Some(&60), Some(&199), Some(&300), Some(&319)],
     );
-    same(&rt, &counts, &[160, 0, 1, 128, 0, 2, 0, 2]);
+    let wanted = [160, 0, 1, 128, 0, 2, 0, 2];
+    same(&rt, &counts.as_slice(), &wanted.as_slice());
     Ok(())
 }
 
@@ -158,24 +178,22 @@ fn ones(rt: HostRuntime) -> Result<(), Fail> {
     Ok(())
 }
 
+const PARTS: [(u32, u32); 4] = [(0, 256), (64, 192), (320, 640), (0, 640)];
+
 /// How many bits of four parts are set, and of all.
-fn parts_counted(alloc: Global) -> Result<[u32; 5], AllocError> {
+fn parts_counted(alloc: Global) -> Result<(Vec<u32>, u32), AllocError> {
     let mut map = FragmentMap::new(alloc, 640)?;
     map.set_run(0, 256);
     map.set_run(300, 20);
-    Ok([
-        map.count(0, 256),
-        map.count(64, 192),
-        map.count(320, 640),
-        map.count(0, 640),
-        map.count_ones(),
-    ])
+    Ok((counts_in(&map, &PARTS, alloc)?, map.count_ones()))
 }
 
 /// Parts whose words are all set, all clear, and neither: the bits up to 255 are set, and 300 to
 /// 319.
 #[test]
 fn ones_of_alike_words(rt: HostRuntime) -> Result<(), Fail> {
-    same(&rt, &parts_counted(rt.alloc())?, &[256, 128, 0, 276, 276]);
+    let (parts, all) = parts_counted(rt.alloc())?;
+    same(&rt, &parts.as_slice(), &[256, 128, 0, 276].as_slice());
+    same(&rt, &all, &276);
     Ok(())
 }

@@ -151,6 +151,18 @@ struct Left {
     calm: [bool; 8],
 }
 
+/// The first eight of each list, as far as it has them.
+fn firsts_of(references: &FilledList<u64>, parents: &FilledList<u32>) -> ([u64; 8], [u32; 8]) {
+    let mut firsts = ([0; 8], [0; 8]);
+    for number in 0..8 {
+        if number < references.len() && number < parents.len() {
+            firsts.0[number] = references[number];
+            firsts.1[number] = parents[number];
+        }
+    }
+    firsts
+}
+
 fn left_by_survey(alloc: Global) -> Result<Left, Fail> {
     let mut references = starts(alloc)?;
     let mut named = [true; 8];
@@ -169,18 +181,14 @@ fn left_by_survey(alloc: Global) -> Result<Left, Fail> {
         &mut calm,
         &mut queue,
     )?;
-    let mut left = Left {
-        references: [0; 8],
-        parents: [0; 8],
+    let (references, parents) = firsts_of(&references, &parents);
+    Ok(Left {
+        references,
+        parents,
         named,
         reached,
         calm,
-    };
-    for number in 0..8 {
-        left.references[number] = references[number];
-        left.parents[number] = parents[number];
-    }
-    Ok(left)
+    })
 }
 
 #[test]
@@ -197,6 +205,17 @@ fn surveys_a_tree_and_a_cycle(rt: HostRuntime) -> Result<(), Fail> {
     Ok(())
 }
 
+/// Which of the directories 2, 3, 5 and 6 are unreferenced.
+fn unref_of(surveyed: &Surveyed<'_>) -> [bool; 4] {
+    let mut unref = [false; 4];
+    for (index, dir) in [2, 3, 5, 6].iter().enumerate() {
+        if (*dir as usize) < surveyed.kinds.len() {
+            unref[index] = is_unref(*dir, surveyed);
+        }
+    }
+    unref
+}
+
 /// The directories that lead a cycle, and which of four are unreferenced.
 fn leaders(alloc: Global) -> Result<([bool; 8], [bool; 4]), AllocError> {
     let parents = numbers(&PARENTS, alloc)?;
@@ -211,10 +230,7 @@ fn leaders(alloc: Global) -> Result<([bool; 8], [bool; 4]), AllocError> {
         parents: &parents,
         leaders: &leaders,
     };
-    let mut unref = [false; 4];
-    for (found, dir) in unref.iter_mut().zip([2, 3, 5, 6]) {
-        *found = is_unref(dir, &surveyed);
-    }
+    let unref = unref_of(&surveyed);
     Ok((leaders, unref))
 }
 

@@ -1,7 +1,7 @@
 //! The steps and the classes of inodes that a reader would work out by hand, in both orders.
 
-ghost use Rattle.std.specs.Prelude.{◌≡◌, ◌*◌, ◌≤◌};
-ghost use Rattle.ffs_walk.specs.Windows.{CanWalk};
+ghost use Rattle.std.specs.Prelude.{◌≡◌, ◌*◌, ◌≤◌, ℕ, List, Option, IfOk};
+ghost use Rattle.ffs_walk.specs.Windows.{BlocksHold, CanWalk, HasRoom};
 
 use crate::compare::same;
 use ffs_image::{FuseImage, Image, ImageFault};
@@ -11,6 +11,7 @@ use ffs_samples::{Number, ORDERS, Stop, Watched, geometry, image_of, inode};
 use ffs_volume::{Class, Step};
 use ffs_walk::{Blocks, Walk, class_of, has_steps};
 use std::alloc::{AllocError, Global};
+use std::process::Abort;
 use std::test::Fail;
 
 /// The run of a data block.
@@ -31,6 +32,26 @@ fn indirect(start: u32) -> Step {
     }
 }
 
+/// Blocks that hold nothing.
+fn empty_blocks(geometry: &Geometry, alloc: Global) -> Result<Blocks, AllocError>
+    ensures room { IfOk result (HasRoom geometry.now.layout) }
+    ensures holds { (contents : Option (List ℕ))
+        → IfOk result (BlocksHold geometry.now.layout contents) }
+{
+    let buffer = vec![in alloc; 0u8; 3 * geometry.layout.bsize as usize]?;
+    Ok(Blocks::over(FixedList::new(buffer)))
+}
+
+/// Puts a step to those before it that aren't Gaps, or counts the Gap.
+fn note((steps, gaps): &mut (Vec<Step>, u64), step: Step) -> Result<(), AllocError> {
+    if step == Step::Gap {
+        *gaps = gaps.saturating_add(1);
+    } else {
+        steps.push(step)?;
+    }
+    Ok(())
+}
+
 /// The steps that aren't Gaps, and the number of Gaps.
 fn steps<I: Image>(
     geometry: &Geometry,
@@ -40,22 +61,13 @@ fn steps<I: Image>(
 ) -> Result<(Vec<Step>, u64), Stop>
     requires { geometry.now.layout.size * geometry.now.layout.fsize ≤ (I.device image.old).size }
 {
-    let buffer = vec![in alloc; 0u8; 3 * geometry.layout.bsize as usize]?;
-    let mut blocks = Blocks::over(FixedList::new(buffer));
+    let mut blocks = empty_blocks(geometry, alloc)?;
     let mut walk = Walk::start(geometry, inode);
-    let mut steps = Vec::new(alloc);
-    let mut gaps = 0u64;
+    let mut found = (Vec::new(alloc), 0);
     while let Some(step) = walk.next(image, &mut blocks)? {
-        if step == Step::Gap {
-            gaps = gaps.saturating_add(1);
-        } else {
-            match steps.push(step) {
-                Ok(()) => {}
-                Err(error) => return Err(AllocError::from(error).into()),
-            }
-        }
+        note(&mut found, step)?;
     }
-    Ok((steps, gaps))
+    Ok(found)
 }
 
 /// A word of a block, by the block's address and the word's index.
@@ -81,6 +93,23 @@ fn walked(
     Ok((found, gaps, [image.reads, image.odd]))
 }
 
+/// Walks an inode of that volume in both orders, and compares the steps, the number of Gaps and the
+/// reads.
+fn walks(
+    rt: &(impl Abort + AllocGlobal),
+    words: &[Number],
+    inode: &Inode,
+    steps: &[Step],
+    counts: (u64, [u64; 2]),
+) -> Result<(), Fail> {
+    for order in ORDERS {
+        let (found, gaps, reads) = walked(order, words, inode, rt.alloc())?;
+        same(rt, &found.as_slice(), &steps);
+        same(rt, &(gaps, reads), &counts);
+    }
+    Ok(())
+}
+
 #[test]
 fn direct_blocks(rt: HostRuntime) -> Result<(), Fail> {
     let mut root = inode(0o40755, 512);
@@ -88,36 +117,18 @@ fn direct_blocks(rt: HostRuntime) -> Result<(), Fail> {
     let mut file = inode(0o100644, 4097);
     file.addresses[0] = 40;
     file.addresses[1] = 44;
-    for order in ORDERS {
-        let (found, gaps, _) = walked(order, &[], &root, rt.alloc())?;
-        same(&rt, &found.as_slice(), &[data(36, 1, 0)].as_slice());
-        same(&rt, &gaps, &0);
-        let (found, gaps, _) = walked(order, &[], &file, rt.alloc())?;
-        same(
-            &rt,
-            &found.as_slice(),
-            &[data(40, 4, 0), data(44, 1, 1)].as_slice(),
-        );
-        same(&rt, &gaps, &0);
-    }
-    Ok(())
+    let steps = [data(40, 4, 0), data(44, 1, 1)];
+    walks(&rt, &[], &root, &[data(36, 1, 0)], (0, [0, 0]))?;
+    walks(&rt, &[], &file, &steps, (0, [0, 0]))
 }
 
 #[test]
 fn partially_truncated(rt: HostRuntime) -> Result<(), Fail> {
     let mut file = inode(0o100644, 53248);
     file.addresses[12] = 40;
-    for order in ORDERS {
-        let words = [word(40, 0, 44), word(40, 5, 99)];
-        let (found, gaps, reads) = walked(order, &words, &file, rt.alloc())?;
-        same(
-            &rt,
-            &found.as_slice(),
-            &[indirect(40), Step::Tail, data(44, 4, 12)].as_slice(),
-        );
-        same(&rt, &(gaps, reads), &(12, [1, 0]));
-    }
-    Ok(())
+    let words = [word(40, 0, 44), word(40, 5, 99)];
+    let steps = [indirect(40), Step::Tail, data(44, 4, 12)];
+    walks(&rt, &words, &file, &steps, (12, [1, 0]))
 }
 
 /// Each indirect block that is entered is read once, and whole.
@@ -135,27 +146,18 @@ fn trees_with_holes(rt: HostRuntime) -> Result<(), Fail> {
     let mut file = inode(0o100644, 4299218944);
     file.addresses[13] = 40;
     file.addresses[14] = 52;
-    for order in ORDERS {
-        let (found, gaps, reads) = walked(order, &words, &file, rt.alloc())?;
-        same(
-            &rt,
-            &found.as_slice(),
-            &[
-                indirect(40),
-                indirect(44),
-                data(48, 4, 3083),
-                indirect(52),
-                Step::Tail,
-                indirect(56),
-                indirect(60),
-                Step::Tail,
-                data(64, 4, 1049613),
-            ]
-            .as_slice(),
-        );
-        same(&rt, &(gaps, reads), &(2060, [5, 0]));
-    }
-    Ok(())
+    let steps = [
+        indirect(40),
+        indirect(44),
+        data(48, 4, 3083),
+        indirect(52),
+        Step::Tail,
+        indirect(56),
+        indirect(60),
+        Step::Tail,
+        data(64, 4, 1049613),
+    ];
+    walks(&rt, &words, &file, &steps, (2060, [5, 0]))
 }
 
 /// The first step of a walk, how many Gaps are then passed over, and the next step.
@@ -178,8 +180,7 @@ fn passed_over<I: Image>(
 fn gaps_of(inode: &Inode, alloc: Global) -> Result<(Option<Step>, u32, Option<Step>), Fail> {
     let geometry = geometry(Order::Little)?;
     let mut image = image_of(Order::Little, &[], alloc)?;
-    let buffer = vec![in alloc; 0u8; 3 * geometry.layout.bsize as usize]?;
-    let mut blocks = Blocks::over(FixedList::new(buffer));
+    let mut blocks = empty_blocks(&geometry, alloc)?;
     let found = passed_over(&geometry, inode, &mut image, &mut blocks);
     drop(blocks);
     Ok(found?)

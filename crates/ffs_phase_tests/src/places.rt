@@ -8,7 +8,7 @@ use crate::compare::same;
 use ffs_layout::{Geometry, Order};
 use ffs_memory::FilledList;
 use ffs_names::note_places;
-use ffs_samples::{Number, geometry, image_of, inode};
+use ffs_samples::{Number, geometry, image_of, inode, set_first, set_first_filled};
 use ffs_volume::Class;
 use ffs_workspace::{Workspace, is_due, note_of, noted_chunk};
 use std::alloc::{AllocError, Global};
@@ -25,12 +25,11 @@ fn surveyed(alloc: Global, geometry: &Geometry) -> Result<Workspace, AllocError>
     let mut root = inode(0o40755, 512);
     root.addresses[0] = 40;
     workspace.notes.set(2, note_of(Class::Dir, &root, 0));
-    workspace.reached[2] = true;
-    workspace.reached[3] = true;
-    workspace.reached[5] = true;
-    workspace.parents.set(2, 2);
-    workspace.parents.set(3, 2);
-    workspace.parents.set(5, 3);
+    set_first(
+        &mut workspace.reached,
+        &[false, false, true, true, false, true],
+    );
+    set_first_filled(&mut workspace.parents, &[0, 0, 2, 2, 0, 3]);
     Ok(workspace)
 }
 
@@ -62,10 +61,10 @@ const NUMBERS: [Number; 19] = [
 fn noted_in(words: &FilledList<u32>) -> ([Option<u32>; 4], bool) {
     let mut places = [None; 4];
     let mut due = false;
-    for (place, inode) in places.iter_mut().zip([2, 3, 4, 5]) {
-        if inode < words.len() {
-            let word = words[inode];
-            *place = noted_chunk(word);
+    for index in 0..4 {
+        if index + 2 < words.len() {
+            let word = words[index + 2];
+            places[index] = noted_chunk(word);
             due |= is_due(word);
         }
     }

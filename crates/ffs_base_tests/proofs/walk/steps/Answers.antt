@@ -8,7 +8,7 @@ use Rattle.ffs_base_tests.proofs.walk.steps.Goals as goal
 pub next-requires : goal.next-requires
 next-requires g c =
     let v = c.args.geometry.now.layout in
-    let now = c.loop-steps in
+    let now = c.loop-found in
     let here = g.I.Image.device now.image in
     let known = now.invariant in
     subst (λ (w : Geometry). CanWalk w.layout here now.blocks) (sym known.geometry) (record {
