@@ -1,4 +1,4 @@
--- What is kept from the path of one directory to that of the next.
+-- What is kept for the path of the next directory.
 use Rattle.std.specs.Prelude.{◌≡◌, ◌*◌, ◌<◌, ℕ, List, [], ◌∷◌, ◌++◌, Option, Some, Result, OnOk, slice_index}
 use Rattle.ffs_image.specs.Device.{Device}
 use Rattle.ffs_image.specs.declared.image.ImageFault.{ImageFault}
@@ -23,13 +23,13 @@ pub record LeadsTo (g : Graph) (s d : ℕ) (name : List ℕ) : Type 0 where
   pub to_child : path_names g d ≡ Some (names ++ name ∷ [])
   pub single : AreSingle (names ++ name ∷ [])
 
--- the path of a directory, and the name of a child in it
+-- the path is that of the parent, and the name that of the child in it
 pub record IsKeptParent (g : Graph) (s : KeptParent) : Type 0 where
   pub path : 0 < s.parent → IsPathOf g s.parent s.path
   pub parent : 0 < s.child → 0 < s.parent
   pub child : 0 < s.child → LeadsTo g s.parent s.child s.name.items
 
--- they are those of the volume, where the image gives these bytes and the workspace holds what the block check and the
+-- that is right in the volume, where the image gives its bytes and the workspace holds what the block check and the
 -- survey leave
 pub record KeepsParent (v : Layout) (contents : Option (List ℕ)) (w : Workspace) (s : KeptParent) : Type 0 where
   pub right : (b : List ℕ) → contents ≡ Some b → HoldsClaims v b w → HoldsSurvey v b w
@@ -40,7 +40,7 @@ abbrev pub SamePlaces : Workspace → Workspace → Type 0
 SamePlaces old new =
     (x : ℕ) → place_in (slice_index new.queue.items x) ≡ place_in (slice_index old.queue.items x)
 
--- paths can be made: the workspace is ready, and what is kept of a directory and its children is right
+-- paths can be made: the workspace is ready, and what is kept of the parent is right
 pub record ReadyWith (v : Layout) (d : Device) (w : Workspace) (s : KeptParent) : Type 0 where
   pub ready : IsReady v d w
   pub kept_parent : KeepsParent v d.contents w s

@@ -63,6 +63,7 @@ fn slash_from(bytes: &[u8; MAXPATHLEN], place: usize) -> usize
 }
 
 /// Writes what is from `start` on.
+#[inline]
 fn put_end(bytes: &[u8; MAXPATHLEN], start: usize, text: &mut PathText)
     requires start { start ≤ 1024 }
     requires room { length text.old.items + (1024 - start) ≤ 1024 }

@@ -73,6 +73,7 @@ impl DirectoryPath {
 }
 
 /// Whether a directory is reached from the root.
+#[inline]
 pub fn is_reached(workspace: &Workspace, dir: u32) -> bool
     requires { dir < vec_len workspace.now.reached }
     ensures { result ≡ bool_at workspace.now.reached.items dir }
