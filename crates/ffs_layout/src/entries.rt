@@ -64,7 +64,7 @@ fn has_mark_of_eight(bytes: &[u8]) -> bool
 
 /// Whether a byte is NUL or `/`, as none of a name is. The last eight bytes may have some in common
 /// with those before.
-#[inline]
+#[inline(always)]
 fn has_nul_or_slash(bytes: &[u8]) -> bool
     ensures { result ≡ (list_any (λ b. b == 0) bytes.now || list_any (λ b. b == 47) bytes.now) }
 {
