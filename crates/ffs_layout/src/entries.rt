@@ -64,7 +64,7 @@ fn has_nul_or_slash_in_eight(bytes: &[u8]) -> bool
 
 /// Whether one of the bytes is NUL or `/`, as none of a name may be. The last eight bytes may have
 /// some in common with those before.
-#[inline]
+#[inline(always)]
 fn has_nul_or_slash(bytes: &[u8]) -> bool
     ensures { result ≡ (list_any (λ b. b == 0) bytes.now || list_any (λ b. b == 47) bytes.now) }
 {

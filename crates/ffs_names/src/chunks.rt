@@ -76,6 +76,7 @@ impl Chunks {
 
     /// Moves on to a Run with a chunk, if the current Run has none left. Returns whether there is
     /// one.
+    #[inline(always)]
     pub(crate) fn advance<I: Image>(
         &mut self,
         image: &mut I,
@@ -115,8 +116,9 @@ impl Chunks {
         Ok(true)
     }
 
-    /// Reads the next chunk, without regard to `budget`.
-    #[inline(always)]
+    /// Reads the next chunk, without regard to `budget`. It isn't inlined, so that a loop over the
+    /// entries of a chunk has the registers for itself.
+    #[inline(never)]
     fn read<I: Image>(
         &mut self,
         image: &mut I,

@@ -60,12 +60,12 @@ fn is_short_symlink(geometry: &Geometry, inode: &Inode) -> bool
 /// Whether an address from an index on isn't zero. All fifteen are looked at, with no branch that
 /// depends on the index: sizes of files are mixed, and no processor foresees such a branch.
 #[inline(always)]
-fn any_nonzero(addresses: &[u32; 15], from: u32) -> bool
+fn any_nonzero(addresses: &[u32; 15], from: usize) -> bool
     ensures { result ≡ inodes.any_nonzero (drop from addresses.now) }
 {
     let mut bits = 0;
-    for index in 0..15u32 {
-        bits |= addresses[index as usize] * u32::from(from <= index);
+    for index in 0..15 {
+        bits |= addresses[index] * u32::from(from <= index);
     }
     bits != 0
 }
@@ -103,16 +103,6 @@ fn greatest_size(geometry: &Geometry) -> u64
     (NDADDR + words + squared + cubed) * u64::from(geometry.layout.bsize)
 }
 
-/// Whether an inode has a greater size than its addresses can serve, or is a directory of 2^31
-/// bytes or more. Addresses can always serve so many: a smaller size is asked for nothing else.
-#[tactic(auto, using(crate::proofs::Sizes::size_large))]
-fn is_too_large(geometry: &Geometry, inode: &Inode) -> bool
-    ensures { result ≡ inodes.is_too_large geometry.now.layout inode.now }
-{
-    2147483647 < inode.size
-        && (inode.mode / 4096 == u16::from(DT_DIR) || greatest_size(geometry) < inode.size)
-}
-
 /// How many logical blocks an inode of its size has.
 #[tactic(auto, using(crate::proofs::Sizes::blocks_small, crate::proofs::Powers::bsize_power))]
 fn logical_blocks_of(geometry: &Geometry, inode: &Inode) -> u64
@@ -137,12 +127,12 @@ pub fn walked_blocks(geometry: &Geometry, inode: &Inode, class: Class) -> u64
 }
 
 /// How many of its fifteen addresses an inode may use.
-fn addresses_allowed(geometry: &Geometry, inode: &Inode) -> u32
+fn addresses_allowed(geometry: &Geometry, inode: &Inode) -> usize
     ensures value { result ≡ inodes.addresses_allowed geometry.now.layout inode.now }
     ensures bound { result ≤ 15 }
 {
     if is_short_symlink(geometry, inode) {
-        return inode.size.div_ceil(4) as u32;
+        return inode.size.div_ceil(4) as usize;
     }
     let blocks = logical_blocks_of(geometry, inode);
     let counted = if is_device(inode.mode / 4096) {
@@ -150,7 +140,7 @@ fn addresses_allowed(geometry: &Geometry, inode: &Inode) -> u32
     } else {
         blocks
     };
-    addresses_needed(u64::from(geometry.layout.nindir), counted)
+    addresses_needed(u64::from(geometry.layout.nindir), counted) as usize
 }
 
 /// Whether this is one of the seven types of fs(5).
@@ -182,7 +172,9 @@ pub fn class_of(geometry: &Geometry, inode: &Inode) -> Class
     if !is_known_type(kind) {
         return Class::Unknown;
     }
-    if is_too_large(geometry, inode) {
+    if greatest_size(geometry) < inode.size
+        || kind == u16::from(DT_DIR) && 2147483647 < inode.size
+    {
         return Class::Unknown;
     }
     let used = addresses_allowed(geometry, inode);
