@@ -3,7 +3,8 @@ use Rattle.std.specs.Prelude.{◌≡◌, ◌+◌, ◌-◌, ◌<◌, ◌≤◌, �
 use Rattle.std.specs.Prelude.{Option, Result, Ok, Err, OnOk, IfOk, MatchResult}
 use Rattle.ffs_image.specs.Device.{ForContents, Rose}
 
--- its bytes where it gives them, its size in bytes, and how many reads have failed
+-- what contracts know of a source, as `Device` of an image, but for the last sector: its bytes where it gives them, its
+-- size in bytes, and how many reads have failed
 pub record Stock : Type 0 where
   pub contents : Option (List ℕ)
   pub size : ℕ

@@ -90,7 +90,8 @@ fn has_parts(v: &Layout) -> bool
 }
 
 /// Whether the summary area begins with the data of group 0, has a record for each group, and ends
-/// within group 0 and the volume.
+/// within group 0 and the volume. The parts of group 0 aren't moved, so `cgdmin(0)`, where its data
+/// begin, is `dblkno`.
 #[tactic(auto, using(crate::proofs::Starts::data_start), unfolding(ffs_volume::specs::Disk::Outcome::has_valid_summary_area, ffs_volume::specs::Disk::Areas::cgbase))]
 fn has_summary(v: &Layout) -> bool
     requires { 0 < v.now.fsize }

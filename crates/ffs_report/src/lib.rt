@@ -5,8 +5,9 @@
 //! where it has room in a buffer of 2,048 bytes. A `Line` is a message with its values; it prints
 //! the texts of `ffs_volume::texts` that `Messages/Texts` of the definitions gives it.
 //!
-//! A `Report` prints to an `Output`; `Counted` is one over an `Outlet`, any std writer; a `Sink` is
-//! what contracts know of an output. A `SilentWriter` passes nothing on after its first failure,
+//! The chain is `Report` over `Output` over `Outlet`: a report prints to an `Output`; `Counted` is
+//! one over an `Outlet`, any std writer, and counts its failures. A `Sink` is what contracts know of
+//! an output. A `SilentWriter` passes nothing on after its first failure,
 //! and a `FuseWriter` fails after some bytes.
 //!
 //! What each phase owes is said here too: `PhaseReports` says in one clause what was printed at Ok

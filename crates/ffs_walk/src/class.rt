@@ -104,7 +104,8 @@ fn greatest_size(geometry: &Geometry) -> u64
 }
 
 /// Whether an inode has a greater size than its addresses can serve, or is a directory of 2^31
-/// bytes or more. Addresses can always serve so many: a smaller size is asked for nothing else.
+/// bytes or more. The fifteen addresses always reach 2^31 - 1 bytes, so up to there nothing else is
+/// computed.
 #[tactic(auto, using(crate::proofs::Sizes::size_large))]
 fn is_too_large(geometry: &Geometry, inode: &Inode) -> bool
     ensures { result ≡ inodes.is_too_large geometry.now.layout inode.now }
