@@ -291,10 +291,3 @@ pub enum Label {
     /// Not allocated, or of class Unknown: its path is shown after NAME=.
     Name,
 }
-
-ghost use Rattle.ffs_volume.specs.Laws.Meanings.{AreLongest};
-
-/// The entries of a chunk are the longest list of well formed entries from its start.
-pub fn entries_are_longest()
-    ensures { AreLongest }
-{}
