@@ -11,11 +11,11 @@ mod layout;
 #[cfg(test)]
 mod maps;
 #[cfg(test)]
+mod muted;
+#[cfg(test)]
 mod phase;
 #[cfg(test)]
 mod report;
-#[cfg(test)]
-mod silent;
 #[cfg(test)]
 mod survey;
 #[cfg(test)]

@@ -1,4 +1,4 @@
--- The rescan looks at no Run that phase 1 didn't see, and so its count is a u64's.
+-- The rescan looks at no Run that phase 1 didn't see, and so its count fits a u64.
 use Rattle.std.proofs.Common.{◌≡◌, ℕ, ◌+◌, ◌<◌, ◌≤◌, ◌^◌, Bool, true, false, ◌==◌, List, [], ◌∷◌, length}
 use Rattle.std.proofs.Common.{arith, refl, sym}
 use Rattle.std.specs.List.{range_with_len}

@@ -69,11 +69,11 @@ steps_runs_again v inode cut r [] = []
 steps_runs_again v inode cut r (step ∷ steps) =
     step_runs_again v inode cut r step ++ steps_runs_again v inode cut (replay_step_by_cut v cut r step) steps
 
--- a count rose by so many; it is exact as long as it is a u64's
+-- a count rose by so many; it is exact as long as it fits a u64
 abbrev pub RoseBy : ℕ → ℕ → ℕ → Type 0
 RoseBy old new more = old + more < 2 ^ 64 → new ≡ old + more
 
--- a count rose by at most so many, and by so many as long as it is a u64's
+-- a count rose by at most so many, and by so many as long as it fits a u64
 pub record Counted (old new more : ℕ) : Type 0 where
   pub most : new ≤ old + more
   pub exact : RoseBy old new more

@@ -20,7 +20,7 @@ use Rattle.ffs_volume.specs.Disk.Areas.{cgbase}
 use Rattle.ffs_volume.specs.Directories.Volumes.{class_at}
 use Rattle.ffs_volume.specs.Groups.Records.{GroupCounts, is_used_inode, is_dir_inode, is_free_block, block_bits}
 use Rattle.ffs_volume.specs.Groups.Records.{block_numbers, group_inodes, group_numbers, group_size, right_group_counts}
-use Rattle.ffs_volume.specs.Groups.Records.{right_frsum, right_total, has_summary, has_totals, has_bits}
+use Rattle.ffs_volume.specs.Groups.Records.{right_frsum, right_total, has_counts, has_totals, has_bits}
 use Rattle.ffs_volume.specs.Groups.Records.{inode_map_place, fragment_map_place, has_right_record, has_right_maps}
 use Rattle.ffs_volume.specs.Groups.Records.{has_right_sums, has_right_totals, summary_record, group_block}
 use Rattle.ffs_volume.specs.Groups.GroupCheck.{group_lines, reported_once, unreported, unless, phase5_lines}
@@ -88,7 +88,7 @@ same_record : (v : Layout) (free : ℕ → Bool) (a b : ℕ → Class) →
     ((c : ℕ) → right_group_counts v free a c ≡ right_group_counts v free b c) → (c : ℕ) (bytes : List ℕ) →
     has_right_record v free a c bytes ≡ has_right_record v free b c bytes
 unfolding has_right_record
-same_record v free a b s c bytes = ap (λ (x : GroupCounts). has_summary v 0 bytes x) (s c)
+same_record v free a b s c bytes = ap (λ (x : GroupCounts). has_counts v 0 bytes x) (s c)
 
 same_maps : (v : Layout) (free : ℕ → Bool) (a b : ℕ → Class) → is_used_inode a ≡ is_used_inode b →
     (c : ℕ) (block : List ℕ) → has_right_maps v free a c block ≡ has_right_maps v free b c block
@@ -103,7 +103,7 @@ same_sums : (v : Layout) (free : ℕ → Bool) (a b : ℕ → Class) →
 unfolding has_right_sums
 same_sums v free a b s c block =
     ap (λ (x : GroupCounts). u32_at v.order 12 block == c && (u32_at v.order 20 block == group_size v c
-    && (has_summary v 24 block x && all_below 8 (λ k. u32_at v.order (52 + 4 * k) block == right_frsum v free c k))))
+    && (has_counts v 24 block x && all_below 8 (λ k. u32_at v.order (52 + 4 * k) block == right_frsum v free c k))))
     (s c)
 
 same_group : (v : Layout) (image : List ℕ) (free : ℕ → Bool) (a b : ℕ → Class) →

@@ -24,8 +24,8 @@ const RECORDS_AT_ONCE: u32 = 256;
 const RECORD_SIZE: usize = CSUM_SIZE as usize;
 
 /// Reads the summary record of a group with those round it, unless the window holds them: 256
-/// records, or those that are left. Returns where the group's record begins in the window, in
-/// bytes.
+/// records, or those that are left. `forget` drops the inodes that the table knew; the window below
+/// it still knows its bytes. Returns where the group's record begins in the window, in bytes.
 fn read_summaries<I: Image>(
     geometry: &Geometry,
     image: &mut I,

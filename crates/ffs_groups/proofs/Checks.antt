@@ -6,7 +6,7 @@ use Rattle.std.proofs.lemmas.List.FromFn.{get_or-map-range_with_len}
 use Rattle.ffs_volume.specs.declared.Layout.{Layout}
 use Rattle.ffs_volume.specs.declared.Class.{Class}
 use Rattle.ffs_volume.specs.Disk.Numbers.{i32_at, u32_at, all_below}
-use Rattle.ffs_volume.specs.Groups.Records.{GroupCounts, has_summary, right_group_counts, right_frsum, group_size}
+use Rattle.ffs_volume.specs.Groups.Records.{GroupCounts, has_counts, right_group_counts, right_frsum, group_size}
 use Rattle.ffs_volume.specs.Groups.Records.{has_right_sums}
 use Rattle.ffs_layout.specs.Group.{group_summary_at}
 use Rattle.ffs_groups.specs.declared.counts.Counts.{Counts}
@@ -22,7 +22,7 @@ use Rattle.ffs_groups.proofs.Signs.{bits_are}
 -- the summary of an image is compared as the words in its bytes
 pub summary_as : (v : Layout) (place : ℕ) (bytes : List ℕ) (right : SummaryCounts) →
     ((k : ℕ) → slice_index bytes k < 256) →
-    same_counts (group_summary_at v.order place bytes) right ≡ has_summary v place bytes (group_counts_of right)
+    same_counts (group_summary_at v.order place bytes) right ≡ has_counts v place bytes (group_counts_of right)
 summary_as v place bytes right h = rw (
   bits_are v.order place bytes right.dirs h,
   bits_are v.order (place + 4) bytes right.blocks h,
@@ -47,7 +47,7 @@ pub sums_as : (v : Layout) (free : ℕ → Bool) (class : ℕ → Class) (c : �
 unfolding has_right_sums
 sums_as v free class c block counts h right =
     all_four _ _ _ _ _ _ _ _ (bits_are v.order 12 block c h) (bits_are v.order 20 block (group_size v c) h)
-    (summary_as v 24 block counts.summary h ∙ ap (has_summary v 24 block) right.summary)
+    (summary_as v 24 block counts.summary h ∙ ap (has_counts v 24 block) right.summary)
     (same_below 8 (λ k. same_frsum_at (map (λ j. i32_at v.order (52 + 4 * j) block) (range_with_len 0 8)) counts.frsum k)
     (λ k. u32_at v.order (52 + 4 * k) block == right_frsum v free c k)
     (λ k l. stretch_as v block counts.frsum k h l ∙ ap (λ x. u32_at v.order (52 + 4 * k) block == x) (right.frsum k)))

@@ -40,10 +40,14 @@ pub struct FreeCounts {
     pub blocks: u64,
     /// Free fragments in other blocks.
     pub fragments: u64,
-    /// How many stretches of exactly k free fragments the other blocks have, at index k.
+    /// How many stretches of exactly k free fragments the other blocks have, at index k. Nine, so
+    /// that each length up to 8 is an index; an image has only the first eight, since a stretch of
+    /// 8 is a whole block.
     pub frsum: [u64; 9],
 }
 
+// The bounds on counts that the contracts below ask for, from 2^61 to 2^64 - 1: any serve that are
+// far above what a group has, and grow from a call to those that it makes.
 impl FreeCounts {
     /// Counts a stretch of `stretch` free fragments, unless that is 0.
     fn end_stretch(&mut self, stretch: u32)

@@ -1,8 +1,8 @@
 -- What an image gives, and what a read does to it.
 use Rattle.std.specs.Prelude.{◌≡◌, ℕ, ◌+◌, ◌-◌, ◌^◌, min, List, length, drop, take, Option, Some, IfSome}
 
--- what an image has: its bytes, where it gives them, its size in bytes, how many reads have failed, and the sector of
--- the last one that did
+-- what contracts know of any image, one in memory too: its bytes, where it gives them, its size in bytes, how many
+-- reads have failed, and the sector of the last one that did
 pub record Device : Type 0 where
   pub contents : Option (List ℕ)
   pub size : ℕ

@@ -3,8 +3,9 @@ use Rattle.std.specs.Prelude.{◌≡◌, ◌+◌, ◌-◌, ◌<◌, ◌≤◌, �
 use Rattle.std.specs.Prelude.{Option, Result, Ok, Err, OnOk, IfOk, MatchResult}
 use Rattle.ffs_image.specs.Device.{ForContents, Rose}
 
--- its bytes where it gives them, its size in bytes, and how many reads have failed
-pub record Stock : Type 0 where
+-- what contracts know of a source, as `Device` of an image, but for the last sector: its bytes where it gives them, its
+-- size in bytes, and how many reads have failed
+pub record SourceState : Type 0 where
   pub contents : Option (List ℕ)
   pub size : ℕ
   pub failures : ℕ
@@ -14,26 +15,26 @@ abbrev pub AreAt : Option (List ℕ) → ℕ → List ℕ → Type 0
 AreAt contents at xs = ForContents contents (λ bytes. xs ≡ take (length xs) (drop at bytes))
 
 -- what a failed read leaves: one more failure, and all else as it was
-pub record IsFailed (old new : Stock) : Type 0 where
+pub record IsFailed (old new : SourceState) : Type 0 where
   pub contents : new.contents ≡ old.contents
   pub size : new.size ≡ old.size
   pub rose : Rose old.failures new.failures
 
 -- a failed read is counted, and no other answer touches the source
-abbrev pub StockAfter : {T E : Type 0} → Stock → Stock → Result T E → Type 0
-StockAfter old new (Ok x) = new ≡ old
-StockAfter old new (Err fault) = IsFailed old new
+abbrev pub SourceAfter : {T E : Type 0} → SourceState → SourceState → Result T E → Type 0
+SourceAfter old new (Ok x) = new ≡ old
+SourceAfter old new (Err fault) = IsFailed old new
 
 -- the answer of a read at a place: how many of these bytes are the source's there, at least one, or the read failed
-pub record GivesSome {E : Type 0} (old new : Stock) (at : ℕ) (xs : List ℕ) (result : Result ℕ E) : Type 0 where
+pub record GivesSome {E : Type 0} (old new : SourceState) (at : ℕ) (xs : List ℕ) (result : Result ℕ E) : Type 0 where
   pub some : IfOk result (λ n. (0 < n) × (n ≤ length xs))
   pub bytes : IfOk result (λ n. AreAt old.contents at (take n xs))
-  pub left : StockAfter old new result
+  pub left : SourceAfter old new result
 
 -- the answer of a read of all bytes at a place: these are the source's there, or a read failed
-pub record Fills {T E : Type 0} (old new : Stock) (at : ℕ) (xs : List ℕ) (result : Result T E) : Type 0 where
+pub record Fills {T E : Type 0} (old new : SourceState) (at : ℕ) (xs : List ℕ) (result : Result T E) : Type 0 where
   pub bytes : OnOk result (AreAt old.contents at xs)
-  pub left : StockAfter old new result
+  pub left : SourceAfter old new result
 
 -- after the first ones of len bytes at a place, some more were read, by a read of all that were left
 pub record ReadsMore {S E : Type 0} (was_read : S → ℕ → ℕ → Result ℕ E → S → Type 0) (at len before after : ℕ)

@@ -82,7 +82,7 @@ impl<F: RawFile + Drop> SourceImage<OpenedFile<F>> {
 }
 
 impl<S: Source> Image for SourceImage<S> {
-    ghost device = { λ i. let s = S.stock i.source in
+    ghost device = { λ i. let s = S.state i.source in
         record {
           contents = s.contents;
           size = s.size;
@@ -107,7 +107,7 @@ impl<S: Source> Image for SourceImage<S> {
     }
 
     fn read_at(&mut self, at: u64, buf: &mut [u8]) -> Result<(), ImageFault>
-        requires { at + length buf.old ≤ (S.stock self.old.source).size }
+        requires { at + length buf.old ≤ (S.state self.old.source).size }
         ensures bytes { ReadsBytes (⟦<SourceImage<S> as Image>⟧.device self.old)
             (⟦<SourceImage<S> as Image>⟧.device self.new) at buf.new result }
         ensures counted { ⟦<SourceImage<S> as Image>⟧.reads self.new ≤

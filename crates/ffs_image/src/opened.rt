@@ -83,7 +83,7 @@ impl<F: RawFile + Drop> OpenedFile<F> {
 impl<F: RawFile> Source for OpenedFile<F> {
     ghost use Rattle.ffs_image.specs.System.{if_given};
 
-    ghost stock = { λ f. record { contents = F.contents f.file; size = f.size; failures = f.failures } };
+    ghost state = { λ f. record { contents = F.contents f.file; size = f.size; failures = f.failures } };
 
     ghost was_read = { λ old at len result new.
         SomeOf (λ file. F.was_read file at len) old.file new.file result };
@@ -99,8 +99,8 @@ impl<F: RawFile> Source for OpenedFile<F> {
     }
 
     fn read_some(&mut self, at: u64, buf: &mut [u8]) -> Result<usize, SourceFault>
-        ensures gives { GivesSome (⟦<OpenedFile<F> as Source>⟧.stock self.old)
-            (⟦<OpenedFile<F> as Source>⟧.stock self.new) at buf.new result }
+        ensures gives { GivesSome (⟦<OpenedFile<F> as Source>⟧.state self.old)
+            (⟦<OpenedFile<F> as Source>⟧.state self.new) at buf.new result }
 
         // Which reads are tried again, and which fail.
         ensures tried { SomeOf (λ old. F.was_read old at (length buf.old)) self.old.file

@@ -6,7 +6,7 @@ ghost use Rattle.std.specs.Prelude.{◌≤◌, length as length_of};
 /// number 0 has none.
 #[derive(Clone, Copy, Debug)]
 pub struct Entry<'a> {
-    /// The inode that it names, or 0.
+    /// The inode number that it carries, or 0.
     pub number: u32,
     /// The length of its record, in bytes.
     pub length: u16,

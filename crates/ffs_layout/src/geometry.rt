@@ -7,7 +7,7 @@ ghost use Rattle.ffs_volume.specs.Laws.Geometry.{IsAcceptedLayout};
 ghost use Rattle.ffs_layout.specs.Accepted.{IsAccepted};
 
 use crate::groups::cgoffset_of;
-use crate::shape::fault_of;
+use crate::layout_rules::fault_of;
 use ffs_volume::constants::{CSUM_SIZE, DINODE_SIZE};
 use ffs_volume::{Layout, Order, SuperFault};
 

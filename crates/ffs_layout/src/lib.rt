@@ -20,8 +20,8 @@ mod group;
 mod groups;
 mod inode;
 mod layout;
+mod layout_rules;
 mod numbers;
-mod shape;
 mod superblock;
 
 pub use entries::entry_at;

@@ -18,7 +18,7 @@ unused = record { granted = 0; refused = 0 }
 abbrev pub RefusedOneMore : Account → Account → Type 0
 RefusedOneMore old new = new.refused ≡ min (old.refused + 1) (2 ^ 64 - 1)
 
--- these bytes were granted, and no request was refused; the count is exact as long as it is a u64's
+-- these bytes were granted, and no request was refused; the count is exact as long as it fits a u64
 pub record Granted (old new : Account) (bytes : ℕ) : Type 0 where
   pub most : new.granted ≤ old.granted + bytes
   pub exact : old.granted + bytes < 2 ^ 64 → new.granted ≡ old.granted + bytes

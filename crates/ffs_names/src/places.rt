@@ -179,6 +179,7 @@ fn chunks_of<I: Image>(
         return Ok(Chunks::of_class(geometry, &inode, Class::Dir, 0));
     }
     let inode = table.inode_by_part(geometry, dir, image)?;
+    // A note that is no address is the inode's cut.
     Ok(Chunks::of_class(geometry, &inode, Class::Dir, note))
 }
 

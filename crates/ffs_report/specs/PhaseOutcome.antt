@@ -1,5 +1,6 @@
 -- What a phase leaves of its image and of its report, by its answer. `knows` is what is known of the image's bytes:
--- that the image gives them, and what the workspace holds of them. Where nothing is known, some messages were said.
+-- that the image gives them, and what the workspace holds of them. Where nothing is known, messages were said, and
+-- nothing is promised of which.
 use Rattle.std.specs.Prelude.{◌≡◌, ℕ, List, [], ◌++◌, Result, Ok, Err}
 use Rattle.ffs_image.specs.Device.{Device, Faulted}
 use Rattle.ffs_volume.specs.Messages.Kinds.{Message}

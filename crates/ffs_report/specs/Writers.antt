@@ -4,7 +4,7 @@ use Rattle.std.specs.Bool.{OnTrue}
 use Rattle.std.specs.Borrow.{GName}
 use Rattle.ffs_report.specs.declared.counted.Counted.{Counted}
 use Rattle.ffs_report.specs.declared.fuse.FuseWriter.{FuseWriter}
-use Rattle.ffs_report.specs.declared.silent.SilentWriter.{SilentWriter}
+use Rattle.ffs_report.specs.declared.muted.MutedWriter.{MutedWriter}
 
 -- an output holds the reference of this name to the writer, and no put has failed yet
 pub record StartsOver {S : Type 0} (name : GName) (writer : S) (out : Counted S) : Type 0 where
@@ -12,11 +12,11 @@ pub record StartsOver {S : Type 0} (name : GName) (writer : S) (out : Counted S)
   pub inner : out.inner.now ≡ writer
   pub failures : out.failures ≡ 0
 
--- a call of a writer that is silent after a failure: it has failed from then on just where its answer is an error, and
+-- a call of a writer that is muted by a failure: it has failed from then on just where its answer is an error, and
 -- after a failure it and the writer below are untouched
-pub record IsSilenced {S T E : Type 0} (old new : SilentWriter S) (result : Result T E) : Type 0 where
+pub record IsMuted {S T E : Type 0} (old new : MutedWriter S) (result : Result T E) : Type 0 where
   pub failed : IsErr result ↔ (new.failed ≡ true)
-  pub silent : OnTrue old.failed (new ≡ old)
+  pub muted : OnTrue old.failed (new ≡ old)
 
 -- a write of len bytes lessens what a fuse still passes on by what it took, and with nothing left it is an error that
 -- no writer below is asked for

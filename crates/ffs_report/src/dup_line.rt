@@ -55,7 +55,7 @@ impl DupLine {
         DupLine { bytes, end, inode }
     }
 
-    /// The line of a fragment that an inode claims again.
+    /// The line of a fragment and an inode.
     #[inline(always)]
     #[tactic(auto, using(crate::proofs::DupLines::short_number))]
     pub fn line(&mut self, fragment: u32, inode: u32) -> &[u8]

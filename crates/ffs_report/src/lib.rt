@@ -5,9 +5,10 @@
 //! where it has room in a buffer of 2,048 bytes. A `Line` is a message with its values; it prints
 //! the texts of `ffs_volume::texts` that `Messages/Texts` of the definitions gives it.
 //!
-//! A `Report` prints to an `Output`; `Counted` is one over an `Outlet`, any std writer; a `Sink` is
-//! what contracts know of an output. A `SilentWriter` passes nothing on after its first failure,
-//! and a `FuseWriter` fails after some bytes.
+//! The chain is `Report` over `Output` over `Outlet`: a report prints to an `Output`; `Counted` is
+//! one over an `Outlet`, any std writer, and counts its failures. A `Sink` is what contracts know of
+//! an output. A `MutedWriter` passes nothing on after its first failure, and a `FuseWriter` fails
+//! after some bytes.
 //!
 //! What each phase owes is said here too: `PhaseReports` says in one clause what was printed at Ok
 //! (all lines of the phase), at a failed read (a prefix of them, in whole lines) and at a failed
@@ -28,21 +29,21 @@ mod fault;
 mod fuse;
 mod line;
 mod line_buffer;
+mod muted;
 mod outlet;
 mod output;
 mod piece;
 pub mod print;
 mod report;
 mod say;
-mod silent;
 mod tree_lines;
 
 pub use counted::Counted;
 pub use fault::RunFault;
 pub use fuse::FuseWriter;
 pub use line::{DirectoryLine, DotLine, EntryLine, Heading, Line, ReferenceLine};
+pub use muted::MutedWriter;
 pub use outlet::Outlet;
 pub use output::{OutFault, Output};
 pub use piece::Piece;
 pub use report::Report;
-pub use silent::SilentWriter;

@@ -95,7 +95,7 @@ impl<'a, W: Output> Report<'a, W> {
         self.after(printed, is_defect(line))
     }
 
-    /// Says that an inode claims a fragment again. Where a volume has many defects, most of its
+    /// Says a DUP line, of a fragment and an inode. Where a volume has many defects, most of its
     /// lines are of this kind, so what a line shares with the one before it isn't made again.
     fn say_dup(&mut self, fragment: u32, inode: u32) -> Result<(), OutFault>
         ensures { SaysOne (progress W.sink self.old) (progress W.sink self.new)

@@ -21,8 +21,8 @@ const ROWS: [&str; 4] = [
 /// The rows with trees of indirect blocks that point to themselves.
 const TREES: [&str; 2] = ["triple_tree_self 1", "indirect_claims_itself 1"];
 
-/// The read that fails in a run over one of them: the run makes fewer reads, so it never comes.
-const READS: u64 = 300;
+/// A run over one of them makes fewer reads than this.
+const READ_LIMIT: u64 = 300;
 
 /// What is printed of the clean image where the chunk of its root can't be read.
 const CUT_AT_ROOT: &[u8] =
@@ -57,7 +57,7 @@ fn fail_root(rt: &HostRuntime, tally: &mut Tally) -> io::Result<()> {
 
 /// A run makes fewer reads than would blow a fuse.
 fn bound_reads(rt: &HostRuntime, row: &Row, tally: &mut Tally) -> io::Result<()> {
-    let mut image = FuseImage::nth(row.in_memory(rt.alloc())?, READS);
+    let mut image = FuseImage::nth(row.in_memory(rt.alloc())?, READ_LIMIT);
     let (end, text) = row.checked(rt.alloc(), &mut image);
     let agrees = image.failures() == 0 && end.status() == row.status && text == row.report;
     tally.count(rt, row.name.as_str(), "few reads", agrees)

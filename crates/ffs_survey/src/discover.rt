@@ -32,8 +32,8 @@ fn add_one(references: &mut FilledList<u64>, number: usize)
     references.set(number, count + 1);
 }
 
-/// Counts an entry for the inode that it names, and flags that inode as named where the entry is
-/// plain.
+/// Counts an entry for the inode whose number it carries, and flags that inode as named where the
+/// entry is plain.
 fn count_entry(entry: EntryHead, kinds: &[u8], references: &mut FilledList<u64>, named: &mut [bool])
     requires { CountLists kinds.now references.old.items named.old entry.number }
     ensures counted { IsCounted (length kinds.now) (roled_of entry []) references.old.items
@@ -69,7 +69,8 @@ fn is_new(entry: EntryHead, kinds: &[u8], lists: &Lists) -> bool
 }
 
 /// Discovers what an entry of the current directory names: flags it as reached, gives it its
-/// parent and puts it into the queue.
+/// parent and puts it into the queue, whose last one is before `top`. Returns where the queue ends
+/// then.
 fn visit(entry: EntryHead, current: &CurrentDir, lists: &mut Lists, top: usize) -> usize
     requires kinds { current.now.kinds.now ≡ lists.old.kinds.now }
     requires room { HasRoomAfter top lists.old }
@@ -94,8 +95,9 @@ fn visit(entry: EntryHead, current: &CurrentDir, lists: &mut Lists, top: usize) 
 }
 
 /// Whether nothing can be reported of a plain entry that has the type of the unmarked inode that it
-/// names. The inode must be allocated, of a known type, no whiteout and no directory of size 0. A
-/// directory mustn't be reached yet: else this entry isn't its parent entry, but extraneous.
+/// names. The inode must be allocated, of a known type (`DT_WHT` is no type of an inode), and no
+/// directory of size 0. A directory mustn't be reached yet: else this entry isn't its parent entry,
+/// but extraneous.
 fn is_calm_kind(kind: u8, reached: bool) -> bool
     ensures { result ≡ is_calm_kind kind reached }
 {

@@ -9,7 +9,7 @@ use ffs_volume::Role;
 pub struct EntryHead {
     /// What it is in its directory.
     pub role: Role,
-    /// The inode that it names, or 0.
+    /// The inode number that it carries, or 0.
     pub number: u32,
     /// The length of its record, in bytes.
     pub length: u16,
@@ -30,7 +30,7 @@ pub fn is_plain(role: Role) -> bool
     }
 }
 
-/// Whether an entry counts as a reference to the inode that it names.
+/// Whether an entry counts as a reference to the inode whose number it carries.
 pub fn is_counted(role: Role) -> bool
     ensures { result ≡ is_counted_role role }
 {

@@ -4,6 +4,6 @@ pub mod Steps
 pub mod Owners
 pub mod Claims
 pub mod KeptOffers
-pub mod BlockCheck
 pub mod KeptByRule
+pub mod BlockCheck
 pub mod KeptSteps

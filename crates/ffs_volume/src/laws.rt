@@ -4,7 +4,7 @@
 ghost use Rattle.ffs_volume.specs.Laws.Accepted.{AcceptedFit};
 ghost use Rattle.ffs_volume.specs.Examples.BlockExamples.{ClassExamples, ClaimExamples, GroupExamples, StepExamples};
 ghost use Rattle.ffs_volume.specs.Examples.DirectoryExamples.{EntryExamples, PathnameExamples, ReferenceExamples};
-ghost use Rattle.ffs_volume.specs.Laws.Meanings.{AllPathsFit, KeptAreFirst, LevelsAreLeast, SumsAreWhole};
+ghost use Rattle.ffs_volume.specs.Laws.Meanings.{AllPathsFit, AreLongest, KeptAreFirst, LevelsAreLeast, SumsAreWhole};
 ghost use Rattle.ffs_volume.specs.Examples.OpeningExamples.{AreaExamples, OpeningExamples, SuperblockExamples};
 
 /// The layout of an accepted superblock meets each condition of `IsAcceptedLayout`, and its
@@ -17,6 +17,11 @@ pub fn accepted_are_sound()
 /// them unless it is cut.
 pub fn kept_are_first()
     ensures { KeptAreFirst }
+{}
+
+/// The entries of a chunk are the longest list of well formed entries from its start.
+pub fn entries_are_longest()
+    ensures { AreLongest }
 {}
 
 /// The level of a directory is the least number of edges from inode 2, and is below the number of

@@ -211,8 +211,8 @@ pub enum BlockMessage {
     UnknownType { inode: u32 },
     /// A Run that isn't in range, by its first fragment, and its inode.
     Bad { fragment: u32, inode: u32 },
-    /// A fragment that is claimed again, or is reserved. Phase 1 names the inode of each such
-    /// claim, phase 1b that of the first claim.
+    /// The fragment of a dup offer. Phase 1 gives the inode of each, phase 1b that of the first
+    /// kept offer of the fragment.
     Dup { fragment: u32, inode: u32 },
     /// The eleventh bad Run of an inode.
     ManyBad { inode: u32 },
@@ -291,10 +291,3 @@ pub enum Label {
     /// Not allocated, or of class Unknown: its path is shown after NAME=.
     Name,
 }
-
-ghost use Rattle.ffs_volume.specs.Laws.Meanings.{AreLongest};
-
-/// The entries of a chunk are the longest list of well formed entries from its start.
-pub fn entries_are_longest()
-    ensures { AreLongest }
-{}

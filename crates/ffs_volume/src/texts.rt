@@ -1,7 +1,8 @@
 //! The texts of the messages, each written once. `Messages/Texts` of the definitions says which
 //! message has which. A text with a question has its answer too.
 
-/// What is printed of an inode, of a number and at a line's end.
+// What is printed of an inode, of a number and at a line's end.
+
 pub const INODE: &[u8] = b"I=";
 
 pub const OWNER: &[u8] = b" OWNER=";
@@ -24,7 +25,8 @@ pub const PATH_OF_NAME: &[u8] = b"\nNAME=";
 
 pub const LINE_END: &[u8] = b"\n";
 
-/// A line's end, and the question after it with its answer.
+// A line's end, and the question after it with its answer.
+
 pub const ADJUST: &[u8] = b"\nADJUST? no\n\n";
 
 pub const CLEAR: &[u8] = b"\nCLEAR? no\n\n";
@@ -41,7 +43,8 @@ pub const REMOVE: &[u8] = b"\nREMOVE? no\n\n";
 
 pub const SALVAGE: &[u8] = b"\nSALVAGE? no\n\n";
 
-/// The opening and the end.
+// The opening and the end.
+
 pub const LOCATION: &[u8] = b"Alternate super block location: ";
 
 pub const OPENING: &[u8] = b"** ";
@@ -86,7 +89,8 @@ pub const POINT: &[u8] = b".";
 
 pub const FRAGMENTATION: &[u8] = b"% fragmentation)\n";
 
-/// A superblock that is refused.
+// A superblock that is refused.
+
 pub const MAGIC: &[u8] = b"BAD SUPER BLOCK: MAGIC NUMBER WRONG\n";
 
 pub const INODE_FORMAT: &[u8] = b"BAD SUPER BLOCK: INODE FORMAT NOT SUPPORTED\n";
@@ -105,7 +109,8 @@ pub const SHORT: &[u8] = b"BAD SUPER BLOCK: SIZE LARGER THAN IMAGE\n";
 
 pub const DISAGREE: &[u8] = b"BAD SUPER BLOCK: VALUES DISAGREE WITH LAST ALTERNATE\n";
 
-/// The block check and the check of cylinder groups.
+// The block check and the check of cylinder groups.
+
 pub const PART_ALLOC: &[u8] = b"PARTIALLY ALLOCATED INODE I=";
 
 pub const UNKNOWN_TYPE: &[u8] = b"UNKNOWN FILE TYPE I=";
@@ -138,7 +143,8 @@ pub const MAPS_WRONG: &[u8] = b"BLK(S) MISSING IN BIT MAPS\nSALVAGE? no\n\n";
 
 pub const GROUP_SUMS: &[u8] = b"SUMMARY INFORMATION BAD\nSALVAGE? no\n\n";
 
-/// A directory, with the questions of the root.
+// A directory, with the questions of the root.
+
 pub const ROOT_NONE: &[u8] = b"ROOT INODE UNALLOCATED\nALLOCATE? no\n\n";
 
 pub const ROOT_NOT_DIR: &[u8] = b"ROOT INODE NOT DIRECTORY\nREALLOCATE? no\n\nFIX? no\n\n";
@@ -157,7 +163,8 @@ pub const CONTAINS_EMPTY_BLOCKS: &[u8] = b": CONTAINS EMPTY BLOCKS\nADJUST LENGT
 
 pub const DIR_CORRUPT: &[u8] = b"DIRECTORY CORRUPTED ";
 
-/// The entries `.` and `..`.
+// The entries `.` and `..`.
+
 pub const MISSING_DOT: &[u8] = b"MISSING '.' ";
 
 pub const FIRST_ENTRY: &[u8] = b"\nCANNOT FIX, FIRST ENTRY IN DIRECTORY CONTAINS ";
@@ -178,7 +185,8 @@ pub const EXTRA_DOT: &[u8] = b"EXTRA '.' ENTRY ";
 
 pub const EXTRA_DOTDOT: &[u8] = b"EXTRA '..' ENTRY ";
 
-/// Further entries.
+// Further entries.
+
 pub const OUT_OF_RANGE: &[u8] = b"I OUT OF RANGE I=";
 
 pub const WHITEOUT: &[u8] = b"BAD WHITEOUT ENTRY I=";
@@ -193,7 +201,8 @@ pub const EXTRANEOUS: &[u8] = b" IS AN EXTRANEOUS HARD LINK TO DIRECTORY ";
 
 pub const KIND_ENTRY: &[u8] = b"BAD TYPE VALUE ";
 
-/// Inodes by the entries that name them.
+// Inodes by the entries that name them.
+
 pub const UNREF_DIR: &[u8] = b"UNREF DIR ";
 
 pub const UNREF: &[u8] = b"UNREF ";

@@ -3,7 +3,7 @@
 #![tactic(auto)]
 
 use ffs_check::run::run;
-use ffs_report::SilentWriter;
+use ffs_report::MutedWriter;
 use std::io::{BufWriter, ErrorKind, LineWriter, Write};
 use std::os::unix::fs::{FileTypeExt, MetadataExt};
 use std::process::ExitCode;
@@ -44,7 +44,7 @@ fn main(rt: HostRuntime) -> ExitCode {
 
 /// Runs the check over a buffer for standard output, which has none of its own.
 fn print_report(rt: &HostRuntime, words: &[&str]) -> ExitCode {
-    let stdout = SilentWriter::new(rt.stdout());
+    let stdout = MutedWriter::new(rt.stdout());
     let status = if is_watched(rt) {
         let Ok(mut out) = LineWriter::with_capacity(rt.alloc(), BUFFER_SIZE, stdout) else {
             return no_memory(rt);

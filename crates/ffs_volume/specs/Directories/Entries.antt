@@ -77,7 +77,8 @@ entries_from order chunk zero place = []
 entries_from order chunk (suc most) place =
     entries_with order chunk place (entries_from order chunk most) (entry_at order chunk place)
 
--- the entries of a chunk. Each has 8 bytes or more, so there are at most 64 in 512 bytes (see `AreLongest` of Laws)
+-- the entries of a chunk. Each has 8 bytes or more, so there are at most 64 in 512 bytes (`AreLongest` of
+-- `Laws/Meanings`)
 abbrev pub entries_of : Order → List ℕ → List Entry
 entries_of order chunk = entries_from order chunk 64 0
 

@@ -1,4 +1,5 @@
--- Levels, parents and lost directories of a volume, read as a graph. Only plain entries count. A plain entry
+-- Levels, parents and lost directories of a volume, read as a graph, which `Parents` makes of it (`graph_of`). Only
+-- plain entries count. A plain entry
 -- names the number that it carries (`is_naming_entry`; by its index `is_naming_entry_at`), and its directory names it
 -- too (`is_naming_dir`). A number is named where some directory names it (`is_named`).
 use Rattle.std.specs.Prelude.{◌≡◌, ℕ, zero, suc, ◌==◌, Bool, true, false, not, ◌&&◌, ◌||◌, List}

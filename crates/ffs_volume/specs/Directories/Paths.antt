@@ -26,13 +26,13 @@ path_bytes names =
 -- the name of an entry; empty where there is none
 abbrev pub name_of : Option RoledEntry → List ℕ
 name_of None = []
-name_of (Some s) = s.entry.name
+name_of (Some e) = e.entry.name
 
 -- the names down to a directory by its parent: those of the parent, which `above` gives, and that of the parent entry
 abbrev pub names_by_parent : (g : Graph) (above : ℕ → List (List ℕ)) (d : ℕ) → Option ℕ → List (List ℕ)
 names_by_parent g above d None = []
-names_by_parent g above d (Some s) =
-    above s ++ name_of (option_and_then (nth_roled (g.entries s)) (parent_entry_index g d)) ∷ []
+names_by_parent g above d (Some p) =
+    above p ++ name_of (option_and_then (nth_roled (g.entries p)) (parent_entry_index g d)) ∷ []
 
 -- the names from the root down to a directory that is k edges below
 unfoldable pub names_down : (g : Graph) (k d : ℕ) → List (List ℕ)

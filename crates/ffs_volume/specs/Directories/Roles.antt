@@ -115,7 +115,7 @@ dotdot vol d = entry_if (λ e. is_live e && is_two_dots e.name) (start_entry vol
 
 -- the entry counts as a reference, and its inode number is x
 abbrev pub refers : ℕ → RoledEntry → Bool
-refers x s = is_counted s.role && (s.entry.number == x)
+refers x e = is_counted e.role && (e.entry.number == x)
 
 -- how many entries refer to x in the directories whose numbers are below s
 unfoldable pub references_below : (vol : Volume) (x s : ℕ) → ℕ

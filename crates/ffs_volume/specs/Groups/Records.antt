@@ -100,8 +100,8 @@ summary_record v image c = piece (summary_place v c) CSUM_SIZE image
 
 -- the four counts at a place are those of s. They are signed in the image, but those of s are below 2^31, so to compare
 -- them as unsigned numbers is the same
-abbrev pub has_summary : (v : Layout) (place : ℕ) (bytes : List ℕ) (s : GroupCounts) → Bool
-has_summary v place bytes s =
+abbrev pub has_counts : (v : Layout) (place : ℕ) (bytes : List ℕ) (s : GroupCounts) → Bool
+has_counts v place bytes s =
     u32_at v.order place bytes == s.dirs && (u32_at v.order (place + 4) bytes == s.blocks
     && (u32_at v.order (place + 8) bytes == s.inodes && u32_at v.order (place + 12) bytes == s.fragments))
 
@@ -147,12 +147,12 @@ has_right_maps v free class c block =
 unfoldable pub has_right_sums : (v : Layout) (free : ℕ → Bool) (class : ℕ → Class) (c : ℕ) (block : List ℕ) → Bool
 has_right_sums v free class c block =
     u32_at v.order 12 block == c && (u32_at v.order 20 block == group_size v c
-    && (has_summary v 24 block (right_group_counts v free class c)
+    && (has_counts v 24 block (right_group_counts v free class c)
     && all_below 8 (λ k. u32_at v.order (52 + 4 * k) block == right_frsum v free c k)))
 
 -- the bytes of the group's record in the summary area are right
 unfoldable pub has_right_record : (v : Layout) (free : ℕ → Bool) (class : ℕ → Class) (c : ℕ) (bytes : List ℕ) → Bool
-has_right_record v free class c bytes = has_summary v 0 bytes (right_group_counts v free class c)
+has_right_record v free class c bytes = has_counts v 0 bytes (right_group_counts v free class c)
 
 -- the totals of a superblock are these counts
 abbrev pub has_totals : List ℤ → GroupCounts → Bool

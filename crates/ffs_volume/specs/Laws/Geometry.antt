@@ -1,4 +1,4 @@
--- The conditions of `Outcome` once more, as facts of an accepted layout: `AcceptedFit` of the folder Laws says that it
+-- The conditions of `Outcome` once more, as facts of an accepted layout: `AcceptedFit` of `Laws/Accepted` says that it
 -- has them. They are no further conditions. Four constants are written out here, as proofs by arithmetic need them: 16
 -- is CSUM_SIZE, 128 DINODE_SIZE, 168 CG_HEADER, and 8192 SBSIZE.
 use Rattle.std.proofs.Common.{◌≡◌, ℕ, ◌+◌, ◌-◌, ◌*◌, ◌/◌, ◌%◌, ◌^◌, ◌<◌, ◌≤◌, true, pos}

@@ -44,7 +44,7 @@ pub data TreeMessage : Type 0 where
 -- completed
 pub data Message : Type 0 where
   location : (sector : ℕ) → Message  -- Alternate super block location
-  opening : (name : List ℕ) → Message  -- the image's name
+  opening : (name : List ℕ) → Message  -- the image's name: one message of the opening, not all of it
   bad_super : (fault : SuperFault) → Message
   cannot_read : (sector : ℕ) → Message
   cannot_alloc : Message  -- the memory of a check was refused

@@ -13,8 +13,8 @@ opening_reads = 2
 abbrev pub sweep_reads : Layout → ℕ
 sweep_reads v = v.ncg * v.ipg + runs_limit v
 
--- for a path a chunk is read for each name that has room in it, for the name that has no room any more, and for the
--- last one. Each name takes two bytes at least, with its slash
+-- for a path a chunk is read for each name that has room in it, for the name that has no room any more, and one for the
+-- directory's own name, in its parent's chunk. Each name takes two bytes at least, with its slash
 abbrev pub path_reads : ℕ
 path_reads = MAXPATHLEN / 2 + 2
 

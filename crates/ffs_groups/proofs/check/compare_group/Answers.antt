@@ -1,6 +1,6 @@
 use Rattle.std.proofs.Common.{ap, ◌∙◌, nat_eq}
 use Rattle.std.proofs.Math.Facts.{Fits-lt-pow}
-use Rattle.ffs_volume.specs.Groups.Records.{has_right_magic, has_right_record, maps_fit, has_right_maps, has_summary}
+use Rattle.ffs_volume.specs.Groups.Records.{has_right_magic, has_right_record, maps_fit, has_right_maps, has_counts}
 use Rattle.ffs_maps.specs.Bits.{bits_of}
 use Rattle.ffs_groups.specs.Check.{same_counts}
 use Rattle.ffs_groups.specs.Free.{free_in}
@@ -15,7 +15,7 @@ returns c = record {
   counts = c.same_summary.ensures ∙ ap (λ r. same_counts r c.args.counts.now.summary) c.decode-record.ensures
       ∙ summary_as c.args.geometry.now.layout 0 c.args.summary.now c.args.counts.now.summary
       (λ k. Fits-lt-pow (c.type_inv.summary k))
-      ∙ ap (has_summary c.args.geometry.now.layout 0 c.args.summary.now) c.requires.counts.summary;
+      ∙ ap (has_counts c.args.geometry.now.layout 0 c.args.summary.now) c.requires.counts.summary;
   maps = rw c.decode-found.ensures at c.maps_are_right.ensures;
   sums = (rw c.decode-found.ensures at c.sums_are_right.ensures)
       ∙ sums_as c.args.geometry.now.layout (free_in (bits_of c.args.usage.now.fragments.now) c.args.geometry.now.layout.size)

@@ -1,7 +1,7 @@
 //! After its first failed write nothing goes out, whatever is flushed or dropped above.
 
 use crate::compare::same;
-use ffs_report::{Counted, Heading, Line, Output, Report, SilentWriter};
+use ffs_report::{Counted, Heading, Line, MutedWriter, Output, Report};
 use std::alloc::Global;
 use std::io;
 use std::io::{BufWriter, ErrorKind, Write};
@@ -67,8 +67,8 @@ struct Outcome {
 
 fn four_lines(nth: u64, kind: ErrorKind, alloc: Global) -> Result<Outcome, Fail> {
     let mut device = FailsOnce::new(alloc, nth, kind);
-    let silent = SilentWriter::new(&mut device);
-    let mut out = BufWriter::with_capacity(alloc, 40, silent)?;
+    let muted = MutedWriter::new(&mut device);
+    let mut out = BufWriter::with_capacity(alloc, 40, muted)?;
     let said = say_four(&mut Counted::new(&mut out));
     let flushed = out.flush().is_ok();
     drop(out);
@@ -104,7 +104,7 @@ fn an_interrupted_write_is_tried_again(rt: HostRuntime) -> Result<(), Fail> {
 /// Whether an empty write, one of a byte, another empty one and a flush are fine.
 fn written_to_none() -> [bool; 4] {
     let mut none: [u8; 0] = [];
-    let mut writer = SilentWriter::new(none.as_mut_slice());
+    let mut writer = MutedWriter::new(none.as_mut_slice());
     [
         writer.write(b"").is_ok(),
         writer.write(b"a").is_ok(),

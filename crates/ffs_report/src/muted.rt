@@ -1,11 +1,11 @@
-//! A writer that is silent after its first failure.
+//! A writer that is muted by its first failure.
 ghost use Rattle.std.specs.Prelude.{◌≡◌, ◌<◌, length, false, IfOk};
 ghost use Rattle.std.specs.Bool.{OnFalse};
 ghost use Rattle.std.specs.Io.{WritesAtMost};
 ghost use Rattle.std.specs.Io.KnownBytes.{WriteAppends, Keeps};
 ghost use Rattle.ffs_image.specs.Interrupted.{IsTriedAgain};
 ghost use Rattle.ffs_report.specs.Outlet.{WritesThrough};
-ghost use Rattle.ffs_report.specs.Writers.{IsSilenced};
+ghost use Rattle.ffs_report.specs.Writers.{IsMuted};
 
 use crate::outlet::Outlet;
 use ffs_image::is_interrupted;
@@ -13,21 +13,21 @@ use std::io;
 use std::io::{ErrorKind, Write};
 
 /// A writer over another one that passes nothing on after its first failure: no write and no flush
-/// reaches the writer below, whoever asks. A buffer above it so stays silent when it is flushed or
-/// dropped after a write that failed. A write that a signal interrupts is tried again; one that
+/// reaches the writer below, whoever asks. A buffer above it so writes nothing when it is flushed
+/// or dropped after a write that failed. A write that a signal interrupts is tried again; one that
 /// takes nothing has failed.
 #[derive(Drop)]
-pub struct SilentWriter<S> {
+pub struct MutedWriter<S> {
     inner: S,
     failed: bool,
 }
 
-impl<S: Outlet> SilentWriter<S> {
+impl<S: Outlet> MutedWriter<S> {
     /// A writer over `inner` that has not failed yet.
-    pub fn new(inner: S) -> SilentWriter<S>
+    pub fn new(inner: S) -> MutedWriter<S>
         ensures { result ≡ record { inner = inner; failed = false } }
     {
-        SilentWriter {
+        MutedWriter {
             inner,
             failed: false,
         }
@@ -37,13 +37,13 @@ impl<S: Outlet> SilentWriter<S> {
     pub fn into_inner(self) -> S
         ensures { result ≡ self.inner }
     {
-        let SilentWriter { inner, failed: _ } = self;
+        let MutedWriter { inner, failed: _ } = self;
         inner
     }
 }
 
 /// The error of each call after a failure.
-fn silence() -> io::Error {
+fn error_when_muted() -> io::Error {
     io::Error::from(ErrorKind::BrokenPipe)
 }
 
@@ -63,7 +63,7 @@ fn write_uninterrupted<S: Outlet>(inner: &mut S, buf: &[u8]) -> io::Result<usize
     Err(io::Error::from(ErrorKind::Interrupted))
 }
 
-impl<S: Outlet> Write for SilentWriter<S> {
+impl<S: Outlet> Write for MutedWriter<S> {
     ghost contents = { λ w. S.contents w.inner };
 
     /// # Errors
@@ -73,12 +73,12 @@ impl<S: Outlet> Write for SilentWriter<S> {
         ensures bytes { WriteAppends (S.contents self.old.inner) (S.contents self.new.inner) result
             buf.now }
         ensures some { 0 < length buf.now → IfOk result (λ n. 0 < n) }
-        ensures silenced { IsSilenced self.old self.new result }
+        ensures muted { IsMuted self.old self.new result }
         ensures passed { OnFalse self.old.failed (WritesThrough S.was_written self.old.inner
             self.new.inner buf.now result) }
     {
         if self.failed {
-            return Err(silence());
+            return Err(error_when_muted());
         }
         match write_uninterrupted(&mut self.inner, buf) {
             Ok(taken) if taken > 0 || buf.is_empty() => Ok(taken),
@@ -97,12 +97,12 @@ impl<S: Outlet> Write for SilentWriter<S> {
     /// Those of the writer below, and each flush after a failure.
     fn flush(&mut self) -> io::Result<()>
         ensures bytes { Keeps (S.contents self.old.inner) (S.contents self.new.inner) }
-        ensures silenced { IsSilenced self.old self.new result }
+        ensures muted { IsMuted self.old self.new result }
         ensures passed { OnFalse self.old.failed (S.was_flushed self.old.inner result
             self.new.inner) }
     {
         let flushed = if self.failed {
-            Err(silence())
+            Err(error_when_muted())
         } else {
             self.inner.flush_once()
         };

@@ -1,6 +1,6 @@
 use Rattle.std.specs.Io.KnownBytes.{Keeps}
 use Rattle.ffs_image.specs.Interrupted.{Interruptions}
-use Rattle.ffs_report.proofs.silent.write_uninterrupted.Given as goal
+use Rattle.ffs_report.proofs.muted.write_uninterrupted.Given as goal
 
 abbrev pub invariant-loop : goal.invariant-loop
 invariant-loop g l = record {

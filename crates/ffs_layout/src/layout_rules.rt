@@ -35,7 +35,7 @@ fn can_be_fragment_count(n: u32) -> bool
 
 /// Whether the sizes of blocks and fragments may be, and the numbers per block and per group fit
 /// them.
-#[tactic(auto, using(crate::proofs::Shapes::block_size_above, crate::proofs::Shapes::fragment_count_above), unfolding(ffs_volume::specs::Disk::Outcome::has_valid_sizes))]
+#[tactic(auto, using(crate::proofs::LayoutRules::block_size_above, crate::proofs::LayoutRules::fragment_count_above), unfolding(ffs_volume::specs::Disk::Outcome::has_valid_sizes))]
 fn has_sizes(v: &Layout) -> bool
     ensures { result ≡ has_valid_sizes v.now }
 {
@@ -90,9 +90,10 @@ fn has_parts(v: &Layout) -> bool
 }
 
 /// Whether the summary area begins with the data of group 0, has a record for each group, and ends
-/// within group 0 and the volume.
+/// within group 0 and the volume. The parts of group 0 aren't moved, so `cgdmin(0)`, where its data
+/// begin, is `dblkno`.
 #[tactic(auto, using(crate::proofs::Starts::data_start), unfolding(ffs_volume::specs::Disk::Outcome::has_valid_summary_area, ffs_volume::specs::Disk::Areas::cgbase))]
-fn has_summary(v: &Layout) -> bool
+fn has_summary_area(v: &Layout) -> bool
     requires { 0 < v.now.fsize }
     ensures { result ≡ has_valid_summary_area v.now }
 {
@@ -103,12 +104,12 @@ fn has_summary(v: &Layout) -> bool
 }
 
 /// Whether the layout meets all rules of its geometry: one that does not has the fault `Shape`.
-#[tactic(auto, using(crate::proofs::Shapes::fragments_above, crate::proofs::Shapes::bases_below), unfolding(ffs_volume::specs::Disk::Outcome::is_valid_layout))]
-fn has_shape(v: &Layout) -> bool
+#[tactic(auto, using(crate::proofs::LayoutRules::fragments_above, crate::proofs::LayoutRules::bases_below), unfolding(ffs_volume::specs::Disk::Outcome::is_valid_layout))]
+fn has_valid_layout(v: &Layout) -> bool
     ensures { result ≡ is_valid_layout v.now }
 {
     // The summary area bounds the number of groups by the size of one.
-    has_sizes(v) && has_numbers(v) && has_parts(v) && has_summary(v) && groups_fit(v)
+    has_sizes(v) && has_numbers(v) && has_parts(v) && has_summary_area(v) && groups_fit(v)
 }
 
 /// The first fault that the layout shows, in an image of this size in bytes.
@@ -131,7 +132,7 @@ pub fn fault_of(v: &Layout, image_size: u64) -> Option<SuperFault>
     if v.sbsize > SBSIZE {
         return Some(SuperFault::TooLarge);
     }
-    if !has_shape(v) {
+    if !has_valid_layout(v) {
         return Some(SuperFault::Shape);
     }
     if u64::from(v.size) * u64::from(v.fsize) > image_size {

@@ -1,6 +1,6 @@
 use Rattle.std.proofs.Common.{◌≡◌, ◌-◌, ◌^◌, arith}
 use Rattle.ffs_image.proofs.Retries.{given_up}
-use Rattle.ffs_report.proofs.silent.write_uninterrupted.Goals as goal
+use Rattle.ffs_report.proofs.muted.write_uninterrupted.Goals as goal
 
 pub returns-clause-tried : goal.returns-clause-tried
 returns-clause-tried g c =
