@@ -69,7 +69,7 @@ fn is_new(entry: EntryHead, kinds: &[u8], lists: &Lists) -> bool
 }
 
 /// Discovers what an entry of the current directory names: flags it as reached, gives it its
-/// parent and puts it into the queue.
+/// parent and puts it into the queue. `top` is where the queue ends; returns where it ends then.
 fn visit(entry: EntryHead, current: &CurrentDir, lists: &mut Lists, top: usize) -> usize
     requires kinds { current.now.kinds.now ≡ lists.old.kinds.now }
     requires room { HasRoomAfter top lists.old }
@@ -94,8 +94,9 @@ fn visit(entry: EntryHead, current: &CurrentDir, lists: &mut Lists, top: usize) 
 }
 
 /// Whether nothing can be reported of a plain entry that has the type of the unmarked inode that it
-/// names. The inode must be allocated, of a known type, no whiteout and no directory of size 0. A
-/// directory mustn't be reached yet: else this entry isn't its parent entry, but extraneous.
+/// names. The inode must be allocated, of a known type (`DT_WHT` is no type of an inode), and no
+/// directory of size 0. A directory mustn't be reached yet: else this entry isn't its parent entry,
+/// but extraneous.
 fn is_calm_kind(kind: u8, reached: bool) -> bool
     ensures { result ≡ is_calm_kind kind reached }
 {
@@ -170,7 +171,8 @@ fn flag_calm<D: Directories>(
 
 /// Reads the directory `from` of a level: counts its entries, discovers what they name, and flags
 /// it in `calm` if nothing can be reported of it. No count grows by more than 2^28, since a
-/// directory has fewer entries (`Directories::start`).
+/// directory has fewer entries (`Directories::start`). Any bound far above all entries, and far
+/// below 2^64, serves for the counts before (2^60).
 fn read_reached<D: Directories>(
     directories: &mut D,
     from: u32,

@@ -45,10 +45,12 @@ pub struct Workspace {
     pub named: FixedList<bool>,
     /// The directories that are reached from the root.
     pub reached: FixedList<bool>,
-    /// Flags that the survey and phases 2 and 3 use one after another: the calm directories; in
-    /// phase 2, of suspect inodes (marked ones and directories of size 0), those that a plain entry
-    /// has named, and of others still the calm directories; in phase 3 the least directory of each
-    /// cycle of parents.
+    /// Flags that are used one after another:
+    ///
+    /// - The survey flags the calm directories.
+    /// - Phase 2 clears the flag of each suspect inode (a marked one, or a directory of size 0),
+    ///   and then flags those of them that a plain entry has named. Other flags stay.
+    /// - Phase 3 flags the least directory of each cycle of parents.
     pub flags: FixedList<bool>,
     /// How many entries refer to each inode, counted on from `links_start`.
     pub references: FilledList<u64>,
