@@ -110,8 +110,8 @@ pub fn pass(
     entry: &Entry<'_>,
 )
     requires { HasFlagAndWord inodes.now flags.old words.old.items }
-    ensures after { (v : Volume) → Sees v inodes.now →
-        names.after_roled v dir (passed_in inodes.now flags.old words.old.items)
+    ensures after { (vol : Volume) → Sees vol inodes.now →
+        names.after_roled vol dir (passed_in inodes.now flags.old words.old.items)
         (record { role = role; entry = entry_value entry.now })
         ≡ passed_in inodes.now flags.new words.new.items }
     ensures places { KeepPlaces words.old.items words.new.items }
