@@ -11,7 +11,7 @@ ghost use Rattle.ffs_groups.specs.Inodes.{class_in};
 ghost use Rattle.ffs_workspace.specs.Ready.{IsReady, StaysReady};
 ghost use Rattle.ffs_counts.specs.Records.{CanReadRecord, ReadsRecord};
 
-use ffs_groups::{Counts, Findings, Usage, compare_group};
+use ffs_groups::{Counts, GroupFindings, Usage, compare_group};
 use ffs_image::{Image, ImageFault};
 use ffs_layout::Geometry;
 use ffs_volume::constants::CSUM_SIZE;
@@ -58,7 +58,7 @@ pub fn read_group<I: Image>(
     workspace: &mut Workspace,
     counts: &Counts,
     group: u32,
-) -> Result<Findings, ImageFault>
+) -> Result<GroupFindings, ImageFault>
     requires group { group < geometry.now.layout.ncg }
     requires counts { AreCounts geometry.now.layout
         (free_in (bits_of workspace.old.claimed) geometry.now.layout.size)

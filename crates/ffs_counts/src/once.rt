@@ -7,7 +7,7 @@ ghost use Rattle.ffs_report.specs.Progress.{progress, Says};
 ghost use Rattle.ffs_groups.specs.Check.{lines_of};
 ghost use Rattle.ffs_counts.specs.Once.{reported_of, reported_after};
 
-use ffs_groups::Findings;
+use ffs_groups::GroupFindings;
 use ffs_report::{Line, OutFault, Output, Report};
 use ffs_volume::BlockMessage;
 
@@ -89,7 +89,7 @@ pub fn say_unless<W: Output>(
 pub fn say_group<W: Output>(
     report: &mut Report<'_, W>,
     once: &mut Once,
-    found: &Findings,
+    found: &GroupFindings,
     group: u32,
 ) -> Result<(), OutFault>
     ensures said { Says (progress W.sink report.old) (progress W.sink report.new)
