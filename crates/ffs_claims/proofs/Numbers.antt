@@ -134,7 +134,8 @@ unfolding start_at
 start_in v bytes x inside =
     sym (ap (λ (b : Bool). start_of (if b then class_of v (inode_of v bytes x) else Free) (inode_of v bytes x)) inside)
 
-pub mark_out : (v : Layout) (bytes : List ℕ) (x : ℕ) → is_inode_number v x ≡ false → marked_by_phase1_at v bytes x ≡ false
+pub mark_out : (v : Layout) (bytes : List ℕ) (x : ℕ) → is_inode_number v x ≡ false
+    → marked_by_phase1_at v bytes x ≡ false
 unfolding marked_by_phase1_at
 mark_out v bytes x out = ap
     (λ (b : Bool). if b then is_unknown (class_of v (inode_of v bytes x))
