@@ -10,7 +10,7 @@ ghost use Rattle.ffs_survey.specs.Lent.{all_found, found_up_to, current_of, Same
 ghost use Rattle.ffs_survey.specs.Levels.{Discovers, ReadsReached, ReadsDirs, ReadsUnreached};
 ghost use Rattle.ffs_survey.specs.Survey.{bool_at, number_at};
 ghost use Rattle.ffs_survey.specs.Calm.{is_calm_kind, is_calm_plain, is_calm_entry, IsFlagged};
-ghost use Rattle.ffs_survey.specs.Discover.{unset, Extends, IsCounted, Comes, from_entries, nothing, none, Counts, IsReachedDir, is_unreached_dir as is_unreached_dir_at};
+ghost use Rattle.ffs_survey.specs.Discover.{unset, Extends, IsCounted, SameResult, from_entries, nothing, none, Counts, IsReachedDir, is_unreached_dir as is_unreached_dir_at};
 
 use crate::directories::Directories;
 use crate::entry_head::{EntryHead, is_counted, is_plain};
@@ -74,7 +74,7 @@ fn visit(entry: EntryHead, current: &CurrentDir, lists: &mut Lists, top: usize) 
     requires kinds { current.now.kinds.now ≡ lists.old.kinds.now }
     requires room { HasRoomAfter top lists.old }
     ensures top { result + unset lists.new.reached.now ≡ top + unset lists.old.reached.now }
-    ensures comes { Comes
+    ensures same_result { SameResult
         (from_entries lists.old.kinds.now current.now.dir (roled_of entry [] ∷ []))
         lists.old.reached.now lists.old.parents.now.items (take top lists.old.queue.now.items)
         nothing lists.new.reached.now lists.new.parents.now.items
