@@ -22,7 +22,7 @@ ghost use Rattle.ffs_pathnames.specs.PassedRight.{AreRightBefore};
 ghost use Rattle.ffs_pathnames.specs.Ready.{ReadyToPath, PhaseLeaves, LinesLeave};
 
 use crate::directory::{Directory, FirstLook};
-use crate::examine::{Examined, examine};
+use crate::examine::{Examination, examine};
 use crate::header::{HeaderFacts, is_in_order, say_header};
 use crate::one_entry::{EntryTexts, gather_dir};
 use crate::reread::report_directory;
@@ -111,7 +111,7 @@ fn begin_directory<I: Image, W: Output>(
     siblings: &mut Siblings,
     report: &mut Report<'_, W>,
     dir: u32,
-) -> Result<Examined, RunFault>
+) -> Result<Examination, RunFault>
     requires ready { ReadyToPath geometry.now.layout (I.device image.old) workspace.old
         siblings.old dir }
     requires dir { 2 ≤ dir }

@@ -59,9 +59,12 @@ pub struct Workspace {
     pub notes: FilledList<u32>,
     /// The parent of each directory, or 0.
     pub parents: FilledList<u32>,
-    /// Words that the survey and phases 2 and 3 use one after another: the directories of a level
-    /// that are still to be read; in phase 2, of each directory, where its parent entry is
-    /// (`noted_chunk`), and whether that is due; in phase 3 which walk over parents met it.
+    /// Numbers of 32 bits that are used one after another:
+    ///
+    /// - The survey's queue: the directories of a level that are still to be read.
+    /// - In phase 2 a word of each directory: where its parent entry is (`noted_chunk`), and
+    ///   whether that is due. There the list is lent as `words`.
+    /// - In phase 3 which walk over parents met each directory. There it is lent as `walk_of`.
     pub queue: FilledList<u32>,
     /// How many Runs phase 1 has looked at.
     pub runs_seen: u64,
@@ -168,7 +171,8 @@ impl Workspace {
         maps + lists + buffers as u64
     }
 
-    /// Whether some fragment has a DUP line and its first kept offer isn't reported yet.
+    /// Whether some fragment has a DUP line and its first kept offer isn't reported yet: this asks
+    /// `duplicates`, not the count `dups`.
     pub fn has_dups(&self) -> bool
         ensures { result ≡ has_dups self.now }
     {
