@@ -3,7 +3,7 @@
 ghost use Rattle.std.specs.Prelude.{◌≡◌, IfOk};
 
 use crate::compare::same;
-use ffs_groups::{Findings, Usage, compare_group, group_counts};
+use ffs_groups::{GroupFindings, Usage, compare_group, group_counts};
 use ffs_layout::Order;
 use ffs_maps::FragmentMap;
 use ffs_samples::{Number, geometry, put};
@@ -27,7 +27,7 @@ const BLOCK: [Number; 13] = [
     (184, 4, 0xffffffff),
 ];
 
-fn reported(findings: Findings) -> [bool; 4] {
+fn reported(findings: GroupFindings) -> [bool; 4] {
     [
         findings.magic_right,
         findings.counts_right,

@@ -30,7 +30,7 @@ use Rattle.ffs_volume.specs.Blocks.KeptOffers.{kept_in_owners}
 use Rattle.ffs_volume.specs.Blocks.BlockCheck.{phase1_lines, phase1b_lines, is_dup_line, has_rescan}
 use Rattle.ffs_volume.specs.Blocks.BlockCheck.{blames, first_offer_lines}
 use Rattle.ffs_volume.specs.Directories.Volumes.{is_inode_number}
-use Rattle.ffs_workspace.specs.Holds.{first_marked_at, all_claims, HoldsPhase1, HoldsClaims}
+use Rattle.ffs_workspace.specs.Holds.{marked_by_phase1_at, all_claims, HoldsPhase1, HoldsClaims}
 use Rattle.ffs_workspace.specs.declared.workspace.Workspace.{Workspace}
 use Rattle.ffs_maps.specs.Bits.{bits_of}
 use Rattle.ffs_workspace.specs.Lengths.{set_count}
@@ -226,8 +226,8 @@ no_rescan v image w none h = record {
   used = h.used;
   kinds = h.kinds;
   notes = h.notes;
-  marked = λ x. h.marked x ∙ sym (or-false (first_marked_at v image x))
-      ∙ ap (λ (b : Bool). first_marked_at v image x || b) (sym (silent x)) ∙ sym (marked_total v image x);
+  marked = λ x. h.marked x ∙ sym (or-false (marked_by_phase1_at v image x))
+      ∙ ap (λ (b : Bool). marked_by_phase1_at v image x || b) (sym (silent x)) ∙ sym (marked_total v image x);
 }
   where
     lines : phase1b_lines v (owners_of v image) ≡ []

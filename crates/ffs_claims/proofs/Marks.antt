@@ -26,7 +26,7 @@ use Rattle.ffs_volume.specs.Blocks.KeptSteps.{claims_before}
 use Rattle.ffs_volume.specs.Directories.Volumes.{is_inode_number, marked_at}
 use Rattle.ffs_volume.proofs.Potentials.{cond_holds}
 use Rattle.ffs_volume.proofs.OwnerLaws.{before_next}
-use Rattle.ffs_workspace.specs.Holds.{has_blame, first_marked_at}
+use Rattle.ffs_workspace.specs.Holds.{has_blame, marked_by_phase1_at}
 use Rattle.ffs_workspace.specs.Lengths.{inodes_of}
 use Rattle.ffs_claims.proofs.Numbers.{before_first}
 
@@ -260,9 +260,9 @@ first_blames v bytes x inside =
 
 -- an inode is marked by phase 1, or by phase 1b
 pub marked_total : (v : Layout) (bytes : List ℕ) (x : ℕ) →
-    marked_at v bytes x ≡ (first_marked_at v bytes x
+    marked_at v bytes x ≡ (marked_by_phase1_at v bytes x
     || (is_inode_number v x && list_any (blames x) (phase1b_lines v (owners_of v bytes))))
-unfolding first_marked_at is_marked
+unfolding marked_by_phase1_at is_marked
 marked_total v bytes x = one (is_inode_number v x) refl
   where
     one : (i : Bool) → is_inode_number v x ≡ i →

@@ -20,7 +20,7 @@ use Rattle.ffs_workspace.specs.Notes.{first_noted, note_of, note_at}
 use Rattle.ffs_volume.specs.Directories.Volumes.{is_inode_number}
 use Rattle.ffs_volume.specs.Encodings.Kinds.{kind_of, kind_at}
 use Rattle.ffs_volume.specs.Encodings.Links.{start_of, start_at}
-use Rattle.ffs_workspace.specs.Holds.{has_blame, first_marked_at, all_claims}
+use Rattle.ffs_workspace.specs.Holds.{has_blame, marked_by_phase1_at, all_claims}
 use Rattle.ffs_workspace.specs.Lengths.{inodes_of}
 use Rattle.ffs_claims.specs.Lines.{of_lines, owners_from}
 use Rattle.ffs_claims.proofs.StepsContinue.{range_more, lines_append}
@@ -134,16 +134,17 @@ unfolding start_at
 start_in v bytes x inside =
     sym (ap (λ (b : Bool). start_of (if b then class_of v (inode_of v bytes x) else Free) (inode_of v bytes x)) inside)
 
-pub mark_out : (v : Layout) (bytes : List ℕ) (x : ℕ) → is_inode_number v x ≡ false → first_marked_at v bytes x ≡ false
-unfolding first_marked_at
+pub mark_out : (v : Layout) (bytes : List ℕ) (x : ℕ) → is_inode_number v x ≡ false
+    → marked_by_phase1_at v bytes x ≡ false
+unfolding marked_by_phase1_at
 mark_out v bytes x out = ap
     (λ (b : Bool). if b then is_unknown (class_of v (inode_of v bytes x))
     || has_blame (after_owner v (claims_before v bytes x) (owner_of v bytes x)) else false) out
 
 pub mark_in : (v : Layout) (bytes : List ℕ) (x : ℕ) (s s' : Claims) → is_inode_number v x ≡ true →
     s ≡ claims_before v bytes x → s' ≡ after_owner v s (owner_of v bytes x) →
-    (is_unknown (class_of v (inode_of v bytes x)) || has_blame s') ≡ first_marked_at v bytes x
-unfolding first_marked_at
+    (is_unknown (class_of v (inode_of v bytes x)) || has_blame s') ≡ marked_by_phase1_at v bytes x
+unfolding marked_by_phase1_at
 mark_in v bytes x s s' inside before now =
     ap (λ (t : Claims). is_unknown (class_of v (inode_of v bytes x)) || has_blame t)
     (now ∙ ap (λ (t : Claims). after_owner v t (owner_of v bytes x)) before)

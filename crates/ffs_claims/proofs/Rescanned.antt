@@ -34,7 +34,7 @@ use Rattle.ffs_volume.specs.Directories.Volumes.{is_inode_number}
 use Rattle.ffs_volume.proofs.OwnerLaws.{before_next}
 use Rattle.ffs_maps.specs.Bits.{bits_of}
 use Rattle.ffs_workspace.specs.declared.workspace.Workspace.{Workspace}
-use Rattle.ffs_workspace.specs.Holds.{bool_at, all_claims, first_marked_at, HoldsPhase1, HoldsStarts, HoldsClaims}
+use Rattle.ffs_workspace.specs.Holds.{bool_at, all_claims, marked_by_phase1_at, HoldsPhase1, HoldsStarts, HoldsClaims}
 use Rattle.ffs_workspace.specs.Lengths.{inodes_of}
 use Rattle.ffs_claims.specs.Lines.{of_lines, owners_from}
 use Rattle.ffs_claims.specs.Rescan.{offers_again}
@@ -214,9 +214,9 @@ claims_hold v bytes old new h same t = record {
       ∙ ap (λ (b : Bool). b || list_any (blames x)
       (first_offer_lines (bits_of old.duplicates) (kept_in_owners v (no_claims v) (owners_of v bytes))))
       (h.marked x)
-      ∙ ap (λ (d : List Bool). first_marked_at v bytes x
+      ∙ ap (λ (d : List Bool). marked_by_phase1_at v bytes x
       || list_any (blames x) (first_offer_lines d (kept_in_owners v (no_claims v) (owners_of v bytes)))) h.dup
-      ∙ ap (λ (b : Bool). first_marked_at v bytes x || b) (sym (outside v bytes x))
+      ∙ ap (λ (b : Bool). marked_by_phase1_at v bytes x || b) (sym (outside v bytes x))
       ∙ sym (marked_total v bytes x);
 }
 

@@ -11,7 +11,7 @@ ghost use Rattle.ffs_groups.specs.Inodes.{class_in};
 ghost use Rattle.ffs_workspace.specs.Ready.{IsReady, StaysReady};
 ghost use Rattle.ffs_counts.specs.Records.{CanReadRecord, ReadsRecord};
 
-use ffs_groups::{Counts, Findings, Usage, compare_group};
+use ffs_groups::{Counts, GroupFindings, Usage, compare_group};
 use ffs_image::{Image, ImageFault};
 use ffs_layout::Geometry;
 use ffs_volume::constants::CSUM_SIZE;
@@ -23,9 +23,9 @@ const RECORDS_AT_ONCE: u32 = 256;
 /// The bytes of one of them.
 const RECORD_SIZE: usize = CSUM_SIZE as usize;
 
-/// Reads the summary record of a group with those round it, unless the window holds them: 256
-/// records, or those that are left. `forget` drops the inodes that the table knew; the window below
-/// it still knows its bytes. Returns where the group's record begins in the window, in bytes.
+/// Reads the summary record of a group with those round it: 256 records, or those that are left.
+/// Where the window has these bytes already, nothing is read (`Window::fill`). Returns where the
+/// group's record begins in the window, in bytes.
 fn read_summaries<I: Image>(
     geometry: &Geometry,
     image: &mut I,
@@ -40,6 +40,7 @@ fn read_summaries<I: Image>(
     let first = group - group % RECORDS_AT_ONCE;
     let count = RECORDS_AT_ONCE.min(geometry.layout.ncg - first);
     let place = geometry.summary_place(first);
+    // The table knows no inode any more; its window still knows which bytes it has.
     table.forget();
     table
         .window
@@ -57,7 +58,7 @@ pub fn read_group<I: Image>(
     workspace: &mut Workspace,
     counts: &Counts,
     group: u32,
-) -> Result<Findings, ImageFault>
+) -> Result<GroupFindings, ImageFault>
     requires group { group < geometry.now.layout.ncg }
     requires counts { AreCounts geometry.now.layout
         (free_in (bits_of workspace.old.claimed) geometry.now.layout.size)

@@ -7,13 +7,13 @@ ghost use Rattle.ffs_report.specs.Progress.{progress, Says};
 ghost use Rattle.ffs_groups.specs.Check.{lines_of};
 ghost use Rattle.ffs_counts.specs.Once.{reported_of, reported_after};
 
-use ffs_groups::Findings;
+use ffs_groups::GroupFindings;
 use ffs_report::{Line, OutFault, Output, Report};
 use ffs_volume::BlockMessage;
 
 /// Which of the messages that come once in a run were reported.
 #[derive(Clone, Copy, Debug)]
-pub struct Once {
+pub struct AlreadyReported {
     /// FREE BLK COUNT(S) WRONG.
     pub counts: bool,
     /// BLK(S) MISSING.
@@ -22,14 +22,14 @@ pub struct Once {
     pub sums: bool,
 }
 
-impl Once {
+impl AlreadyReported {
     ghost use Rattle.ffs_volume.specs.Groups.GroupCheck.{unreported};
 
     /// None was reported.
-    pub fn new() -> Once
+    pub fn new() -> AlreadyReported
         ensures { reported_of result ≡ unreported }
     {
-        Once {
+        AlreadyReported {
             counts: false,
             maps: false,
             sums: false,
@@ -65,7 +65,7 @@ impl Once {
 /// A write of the report that failed.
 pub fn say_unless<W: Output>(
     report: &mut Report<'_, W>,
-    once: &mut Once,
+    once: &mut AlreadyReported,
     right: bool,
     message: BlockMessage,
 ) -> Result<(), OutFault>
@@ -88,8 +88,8 @@ pub fn say_unless<W: Output>(
 /// A write of the report that failed.
 pub fn say_group<W: Output>(
     report: &mut Report<'_, W>,
-    once: &mut Once,
-    found: &Findings,
+    once: &mut AlreadyReported,
+    found: &GroupFindings,
     group: u32,
 ) -> Result<(), OutFault>
     ensures said { Says (progress W.sink report.old) (progress W.sink report.new)

@@ -11,7 +11,7 @@ ghost use Rattle.ffs_workspace.specs.Found.{WithClaims};
 ghost use Rattle.ffs_workspace.specs.Ready.{IsReady, StaysReady};
 
 use crate::groups::read_group;
-use crate::once::{Once, say_group, say_unless};
+use crate::once::{AlreadyReported, say_group, say_unless};
 use crate::totals::Totals;
 use ffs_groups::group_counts;
 use ffs_image::Image;
@@ -44,7 +44,7 @@ pub fn phase5<I: Image, W: Output>(
 {
     report.say(&Line::Heading(Heading::Phase5))?;
     let geometry = &superblock.geometry;
-    let mut once = Once::new();
+    let mut once = AlreadyReported::new();
     let mut totals = Totals::new();
     for group in 0..geometry.layout.ncg {
         let counts = group_counts(geometry, &workspace.claimed, &workspace.kinds, group);

@@ -12,7 +12,7 @@ use Rattle.ffs_volume.specs.Groups.GroupCheck.{unless}
 use Rattle.ffs_layout.specs.declared.group.GroupSummary.{GroupSummary}
 use Rattle.ffs_groups.specs.declared.counts.Counts.{Counts}
 use Rattle.ffs_groups.specs.declared.counts.SummaryCounts.{SummaryCounts}
-use Rattle.ffs_groups.specs.declared.check.Findings.{Findings}
+use Rattle.ffs_groups.specs.declared.check.GroupFindings.{GroupFindings}
 
 -- the counts of a summary in memory, as the definitions have them
 abbrev pub group_counts_of : SummaryCounts → GroupCounts
@@ -38,7 +38,7 @@ pub record AreCounts (v : Layout) (free : ℕ → Bool) (class : ℕ → Class) 
   pub frsum : (k : ℕ) → slice_index counts.frsum k ≡ right_frsum v free c k
 
 -- what is reported of a group where such things are found
-abbrev pub lines_of : Findings → ℕ → List BlockMessage
+abbrev pub lines_of : GroupFindings → ℕ → List BlockMessage
 lines_of f c =
     if f.magic_right
     then unless f.counts_right FreeCounts ++ (unless f.maps_right MapsWrong ++ unless f.sums_right GroupSums)
@@ -51,7 +51,7 @@ pub record HasRecords (v : Layout) (csum cg : List ℕ) : Type 0 where
 
 -- each finding says whether the records of group c are right: in the summary area, and in its group block
 pub record AreFound (v : Layout) (free : ℕ → Bool) (class : ℕ
-    → Class) (c : ℕ) (summary block : List ℕ) (f : Findings) : Type 0 where
+    → Class) (c : ℕ) (summary block : List ℕ) (f : GroupFindings) : Type 0 where
   pub magic : f.magic_right ≡ has_right_magic v block
   pub counts : f.counts_right ≡ has_right_record v free class c summary
   pub maps : f.maps_right ≡ (maps_fit v block && has_right_maps v free class c block)

@@ -28,7 +28,7 @@ pub struct Usage<'a> {
 
 /// What is right in the records of a group.
 #[derive(Clone, Copy, Debug)]
-pub struct Findings {
+pub struct GroupFindings {
     /// The group block has its magic number. Where it hasn't, phase 5 reports neither `maps_right`
     /// nor `sums_right`.
     pub magic_right: bool,
@@ -135,7 +135,7 @@ pub fn compare_group(
     group: u32,
     summary: &[u8],
     block: &[u8],
-) -> Findings
+) -> GroupFindings
     requires maps { HasMaps geometry.now.layout usage.now.fragments.now.size usage.now.kinds.now
         group }
     requires counts { AreCounts geometry.now.layout
@@ -148,7 +148,7 @@ pub fn compare_group(
 {
     let found = Group::decode(geometry.layout.order, block);
     let record = GroupSummary::decode(geometry.layout.order, 0, summary);
-    Findings {
+    GroupFindings {
         magic_right: found.magic == CG_MAGIC,
         counts_right: same_summary(&record, &counts.summary),
         maps_right: maps_are_right(geometry, usage, group, &found, block),

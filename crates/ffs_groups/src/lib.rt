@@ -19,7 +19,7 @@ mod free;
 mod inodes;
 mod maps;
 
-pub use check::{Findings, Usage, compare_group};
+pub use check::{GroupFindings, Usage, compare_group};
 pub use counts::{Counts, SummaryCounts, group_counts};
 pub use inodes::are_used;
 pub use maps::group_fragments;

@@ -2,7 +2,7 @@
 
 ghost use Rattle.std.specs.Prelude.{IsTrue, ◌≡◌, ◌+◌, ◌≤◌, ◌==◌, ◌||◌, length, slice_index};
 ghost use Rattle.std.specs.List.{list_any};
-ghost use Rattle.ffs_volume.specs.Directories.Entries.{has_valid_type_and_name as held, is_valid_record_length as fits, has_valid_name as named};
+ghost use Rattle.ffs_volume.specs.Directories.Entries.{has_valid_name, has_valid_type_and_name, is_valid_record_length};
 ghost use Rattle.ffs_volume.specs.Disk.Numbers.{u16_at as u16_in, u32_at as u32_in};
 ghost use Rattle.ffs_layout.specs.Entry.{IsEntryAt, any_nul_or_slash};
 
@@ -14,7 +14,7 @@ use ffs_volume::constants::{DIRBLKSIZ, DIRENT_HEADER};
 /// Whether a record of this length may be at the place.
 fn is_valid_record_length(place: usize, len: u16) -> bool
     requires { place ≤ 512 }
-    ensures { result ≡ fits place len }
+    ensures { result ≡ is_valid_record_length place len }
 {
     len % 4 == 0 && 8 <= len && place + usize::from(len) <= DIRBLKSIZ
 }
@@ -84,7 +84,7 @@ fn has_nul_or_slash(bytes: &[u8]) -> bool
 #[inline(always)]
 fn has_valid_name(chunk: &[u8; DIRBLKSIZ], place: usize) -> bool
     requires { place + (8 + slice_index chunk.now (place + 7)) + 1 ≤ 512 }
-    ensures { result ≡ named chunk.now place }
+    ensures { result ≡ has_valid_name chunk.now place }
 {
     let len = usize::from(chunk[place + 7]);
     let name = &chunk[place + DIRENT_HEADER..][..len];
@@ -94,8 +94,8 @@ fn has_valid_name(chunk: &[u8; DIRBLKSIZ], place: usize) -> bool
 /// Whether the record at the place holds its name, and has a type.
 #[inline(always)]
 fn has_valid_type_and_name(chunk: &[u8; DIRBLKSIZ], place: usize, len: u16) -> bool
-    requires { IsTrue (fits place len) }
-    ensures { result ≡ held chunk.now place len }
+    requires { IsTrue (is_valid_record_length place len) }
+    ensures { result ≡ has_valid_type_and_name chunk.now place len }
 {
     DIRENT_HEADER + (usize::from(chunk[place + 7]) + 4) / 4 * 4 <= usize::from(len)
         && chunk[place + 6] <= 15

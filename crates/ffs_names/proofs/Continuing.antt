@@ -50,7 +50,7 @@ pub same_more : (c c' c'' : Chunks) → IsSame c c' → IsSame c' c'' → IsSame
 same_more c c' c'' h k = record {
   geometry = k.geometry ∙ h.geometry;
   cut = k.cut ∙ h.cut;
-  taken = k.taken ∙ h.taken;
+  bytes_to_read = k.bytes_to_read ∙ h.bytes_to_read;
   budget = k.budget ∙ h.budget;
   runs = let one = h.runs in let two = k.runs in omega arith;
 }

@@ -1,6 +1,6 @@
 -- What chunks of a directory p note of the places of parent entries. Words are as in `Places` of ffs_workspace, but the
 -- bit that says in phase 2 that the parent entry of a directory is due (`is_due`) says here that the directory is a
--- parent, and that its chunks are still to be read (`is_to_read`).
+-- parent, and that its chunks are still to be read (`is_due`).
 use Rattle.std.specs.Prelude.{◌≡◌, ◌⊎◌, ℕ, suc, ◌<◌, ◌≤◌, ◌==◌, Bool, true, false, not, ◌&&◌, if◌then◌else◌, List, slice_index}
 use Rattle.std.specs.Prelude.{length}
 use Rattle.std.specs.List.{list_any}
@@ -9,7 +9,7 @@ use Rattle.ffs_volume.specs.declared.Layout.{Layout}
 use Rattle.ffs_volume.specs.Directories.Graph.{is_naming_entry}
 use Rattle.ffs_volume.specs.Directories.Roles.{RoledEntry}
 use Rattle.ffs_volume.specs.Encodings.Lists.{bool_at}
-use Rattle.ffs_workspace.specs.Places.{entries_in_chunk, is_due as is_to_read, name_in, place_in, AreChunksNumbered, IsNoted}
+use Rattle.ffs_workspace.specs.Places.{entries_in_chunk, is_due, name_in, place_in, AreChunksNumbered, IsNoted}
 
 -- p is the parent of x. The root has no parent entry
 abbrev pub is_child : (parents : List ℕ) (p x : ℕ) → Bool
@@ -22,7 +22,7 @@ is_found parents words p es x =
 
 -- what is to be read stays so
 abbrev pub KeepsToRead : (old new : List ℕ) → Type 0
-KeepsToRead old new = (x : ℕ) → is_to_read (slice_index new x) ≡ is_to_read (slice_index old x)
+KeepsToRead old new = (x : ℕ) → is_due (slice_index new x) ≡ is_due (slice_index old x)
 
 -- the place of a chunk of p with these entries is noted of each inode that is found in it, and of no other
 pub record NotesChunk (parents old new : List ℕ) (p place : ℕ) (es : List RoledEntry) : Type 0 where
@@ -55,8 +55,8 @@ pub record IsParent (parents : List ℕ) (p : ℕ) : Type 0 where
 -- than the root's is to be read, and only parents are
 pub record BeginsNotes (reached : List Bool) (parents words : List ℕ) : Type 0 where
   pub none : (x : ℕ) → place_in (slice_index words x) ≡ 0
-  pub low : (x : ℕ) → x < ROOTINO → is_to_read (slice_index words x) ≡ false
+  pub low : (x : ℕ) → x < ROOTINO → is_due (slice_index words x) ≡ false
   pub to_read : (x : ℕ) → ROOTINO < x → x < length reached → bool_at reached x ≡ true →
       ROOTINO ≤ slice_index parents x → slice_index parents x < length reached →
-      is_to_read (slice_index words (slice_index parents x)) ≡ true
-  pub only : (p : ℕ) → is_to_read (slice_index words p) ≡ true → IsParent parents p
+      is_due (slice_index words (slice_index parents x)) ≡ true
+  pub only : (p : ℕ) → is_due (slice_index words p) ≡ true → IsParent parents p

@@ -25,7 +25,7 @@ use Rattle.ffs_names.specs.declared.chunks.Chunks.{Chunks}
 -- the chunks of steps to come
 abbrev pub chunks_after : List ℕ → Chunks → List Step → List Chunk
 chunks_after b c steps =
-    chunks_of (reading_by c.walk.geometry.layout b c.taken) (is_run_in_range c.walk.geometry.layout)
+    chunks_of (reading_by c.walk.geometry.layout b c.bytes_to_read) (is_run_in_range c.walk.geometry.layout)
     (replayed_steps c.walk.geometry.layout c.keeping.cut (replay_in c.keeping) steps)
 
 -- the chunks of the current Run, and of the steps to come
@@ -68,7 +68,7 @@ pub record CountsOn (before after : ℕ) : Type 0 where
 pub record IsSame (old new : Chunks) : Type 0 where
   pub geometry : new.walk.geometry ≡ old.walk.geometry
   pub cut : new.keeping.cut ≡ old.keeping.cut
-  pub taken : new.taken ≡ old.taken
+  pub bytes_to_read : new.bytes_to_read ≡ old.bytes_to_read
   pub budget : new.budget ≡ old.budget
   pub runs : old.runs ≤ new.runs
 

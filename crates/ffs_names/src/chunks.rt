@@ -28,9 +28,8 @@ pub struct Chunks {
     pub walk: Walk,
     /// Which of its steps are kept, so far.
     pub keeping: Keeping,
-    /// How many bytes of the directory are to be read in all. It doesn't grow with the chunks that
-    /// are read.
-    pub taken: u64,
+    /// How many bytes of the directory are to be read in all, whatever was read so far.
+    pub bytes_to_read: u64,
     /// At most how many chunks are still to come.
     pub budget: u32,
     /// The chunks of the current Run.
@@ -39,7 +38,7 @@ pub struct Chunks {
     pub runs: u64,
     /// Whether a hole was seen.
     pub gap: bool,
-    ghost taken_small: { taken ≤ 2 ^ 31 },
+    ghost bytes_to_read_small: { bytes_to_read ≤ 2 ^ 31 },
     ghost few: { budget ≤ 2 ^ 22 },
     ghost cursor_fits: { CursorFits walk.geometry.layout run_cursor },
 }
@@ -70,7 +69,7 @@ impl Chunks {
             return;
         }
         if let Some(block) = block {
-            self.run_cursor = RunCursor::of_run(&geometry, self.taken, start, len, block);
+            self.run_cursor = RunCursor::of_run(&geometry, self.bytes_to_read, start, len, block);
         }
     }
 
@@ -173,12 +172,12 @@ impl Chunks {
         ensures reads { BeginsReads result }
         ensures geometry { result.walk.geometry ≡ geometry.now }
     {
-        let taken = taken_of(inode.size);
+        let bytes_to_read = bytes_read(inode.size);
         Chunks {
             walk: Walk::of_class(geometry, inode, class),
             keeping: Keeping::start(cut),
-            taken,
-            budget: (taken / DIRBLKSIZ as u64) as u32,
+            bytes_to_read,
+            budget: (bytes_to_read / DIRBLKSIZ as u64) as u32,
             run_cursor: RunCursor::empty(),
             runs: 0,
             gap: false,
@@ -194,12 +193,12 @@ impl Chunks {
         ensures reads { BeginsReads self.new }
         ensures geometry { self.new.walk.geometry ≡ self.old.walk.geometry }
     {
-        let taken = taken_of(inode.size);
+        let bytes_to_read = bytes_read(inode.size);
         self.run_cursor = RunCursor::empty();
         self.walk.restart(inode, class);
         self.keeping = Keeping::start(cut);
-        self.taken = taken;
-        self.budget = (taken / DIRBLKSIZ as u64) as u32;
+        self.bytes_to_read = bytes_to_read;
+        self.budget = (bytes_to_read / DIRBLKSIZ as u64) as u32;
         self.runs = 0;
         self.gap = false;
     }
@@ -276,8 +275,8 @@ impl Chunks {
 
 /// How many bytes of a directory of a size are read: whole chunks, and one at least. No directory
 /// has 2^31 bytes.
-fn taken_of(size: u64) -> u64
-    ensures taken { size < 2 ^ 31 → result ≡ bytes_read size }
+fn bytes_read(size: u64) -> u64
+    ensures value { size < 2 ^ 31 → result ≡ bytes_read size }
     ensures small { result ≤ 2 ^ 31 }
 {
     if size >= 1 << 31 {

@@ -16,7 +16,7 @@ use crate::role::role_of;
 use ffs_image::{Image, ImageFault};
 use ffs_layout::{Geometry, entry_at};
 use ffs_survey::EntryHead;
-use ffs_volume::constants::{DIRBLKSIZ, MINDIRSIZE};
+use ffs_volume::constants::{DIRBLKSIZ, DIRENT_HEADER, MINDIRSIZE};
 use ffs_volume::{Class, Inode, Order};
 use ffs_walk::{Blocks, Window};
 
@@ -158,7 +158,7 @@ impl Entries {
             length: entry.length,
             kind: entry.kind,
         };
-        self.name_place = self.place + 8;
+        self.name_place = self.place + DIRENT_HEADER;
         self.name_len = entry.name.len();
         self.place += entry.length as usize;
         self.index += 1;

@@ -179,7 +179,7 @@ fn chunks_of<I: Image>(
         return Ok(Chunks::of_class(geometry, &inode, Class::Dir, 0));
     }
     let inode = table.inode_by_part(geometry, dir, image)?;
-    // A note that is no address is the inode's cut.
+    // A note that is no address is a cut.
     Ok(Chunks::of_class(geometry, &inode, Class::Dir, note))
 }
 
@@ -281,7 +281,8 @@ pub fn note_places<I: Image>(
     flag_parents(&workspace.reached, &workspace.parents, &mut workspace.queue);
     for dir in ROOTINO..geometry.layout.ncg * geometry.layout.ipg {
         let word = workspace.queue[dir as usize];
-        // The bit says here that the chunks of `dir` are to be read (`flag_parents`).
+        // The bit that phase 2 calls *due* says here that the chunks of `dir` are still to be read
+        // (`flag_parents`).
         if is_due(word) {
             workspace.queue.set(dir as usize, passed(word));
             note_directory(geometry, image, workspace, dir)?;

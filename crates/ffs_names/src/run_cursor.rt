@@ -46,12 +46,18 @@ impl RunCursor {
     }
 
     /// The chunks of a Run of `len` fragments at the address `start`, which belongs to the logical
-    /// block `block` of a directory. Of the whole directory `taken` bytes are read.
-    pub fn of_run(geometry: &Geometry, taken: u64, start: u32, len: u32, block: u64) -> RunCursor
+    /// block `block` of a directory. Of the whole directory `bytes_to_read` bytes are read.
+    pub fn of_run(
+        geometry: &Geometry,
+        bytes_to_read: u64,
+        start: u32,
+        len: u32,
+        block: u64,
+    ) -> RunCursor
         requires run { IsBlockRun geometry.now.layout start len }
-        requires taken { taken ≤ 2 ^ 31 }
+        requires bytes_to_read { bytes_to_read ≤ 2 ^ 31 }
         ensures chunks { (b : List ℕ) → cursor_chunks geometry.now.layout b result
-            ≡ run_chunks (reading_by geometry.now.layout b taken) start len
+            ≡ run_chunks (reading_by geometry.now.layout b bytes_to_read) start len
             (block * geometry.now.layout.bsize) }
         ensures first { result.next ≡ 0 }
         ensures fits { CursorFits geometry.now.layout result }
@@ -60,12 +66,12 @@ impl RunCursor {
             return RunCursor::empty();
         }
         let offset = block * u64::from(geometry.layout.bsize);
-        if offset >= taken {
+        if offset >= bytes_to_read {
             return RunCursor::empty();
         }
         let place = u64::from(start) * u64::from(geometry.layout.fsize);
         let length = u64::from(len) * u64::from(geometry.layout.fsize);
-        let count = (length / DIRBLKSIZ as u64).min((taken - offset) / DIRBLKSIZ as u64);
+        let count = (length / DIRBLKSIZ as u64).min((bytes_to_read - offset) / DIRBLKSIZ as u64);
         RunCursor {
             place,
             length: DIRBLKSIZ as u64 * count,

@@ -21,7 +21,7 @@ use Rattle.ffs_report.specs.declared.fault.RunFault.{RunFault}
 use Rattle.ffs_report.specs.declared.fault.RunFault.TheVariants.{Read, Out}
 use Rattle.ffs_report.specs.Progress.{Progress}
 use Rattle.ffs_workspace.specs.declared.workspace.Workspace.{Workspace}
-use Rattle.ffs_pathnames.specs.declared.examine.DirectorySummary.{DirectorySummary}
+use Rattle.ffs_pathnames.specs.declared.examine.Examination.{Examination}
 use Rattle.ffs_pathnames.specs.Begins.{dir_starts, started_entry, IsDirectoryBegun}
 use Rattle.ffs_pathnames.specs.Examines.{IsExamined, LeavesQueue}
 use Rattle.ffs_pathnames.specs.Gathers.{passed_of}
@@ -75,7 +75,7 @@ unfolding attributes volume_of volume_with
 attr_size v b d = refl
 
 -- what was found is the volume's
-pub starts_are : (v : Layout) (b : List ℕ) (d : ℕ) (old new : Workspace) (e : DirectorySummary)
+pub starts_are : (v : Layout) (b : List ℕ) (d : ℕ) (old new : Workspace) (e : Examination)
     (above : Option ℕ) (first second : Option Entry) →
     IsExamined v b d old e new → above ≡ parent (graph_of (volume_of v b)) d →
     first ≡ started_entry 0 e.look.started v.order e.look.start →
@@ -98,7 +98,7 @@ starts_are v b d old new e above first second f p q r =
 abbrev passed_with : List Bool → List ℕ → PassedNames
 passed_with flags stamps = record { flags = flags; stamps = stamps }
 
-pub begun_is : (v : Layout) (b : List ℕ) (d : ℕ) (old new more : Workspace) (e : DirectorySummary) →
+pub begun_is : (v : Layout) (b : List ℕ) (d : ℕ) (old new more : Workspace) (e : Examination) →
     IsExamined v b d old e new → LeavesQueue old new → more ≡ record new { windows = more.windows } →
     IsDirectoryBegun v b d old e more
 begun_is v b d old new more e f q m = record {

@@ -8,7 +8,7 @@ use Rattle.ffs_volume.specs.Messages.Kinds.{reported, extraneous, kind_entry}
 use Rattle.ffs_volume.specs.Directories.PathnameCheck.{attributes}
 use Rattle.ffs_pathnames.specs.declared.verdict.EntryDefects.{EntryDefects}
 use Rattle.ffs_pathnames.specs.declared.verdict.Verdict.{Verdict}
-use Rattle.ffs_pathnames.specs.declared.verdict.Verdict.TheVariants.{OutOfRange, Whiteout, Fine, Unallocated, Named}
+use Rattle.ffs_pathnames.specs.declared.verdict.Verdict.TheVariants.{OutOfRange, BadWhiteout, Whiteout, Unallocated, Named}
 use Rattle.ffs_pathnames.specs.Gathers.{IsEnough, asks_attr, asks_path}
 use Rattle.ffs_pathnames.specs.Verdicts.{verdict_reported, defects_reported, suspect_message}
 
@@ -26,8 +26,8 @@ defects_same n about path directory right h =
 -- a verdict that asks for a path asks for attributes, too
 pub path_asks_attr : (verdict : Verdict) → asks_path verdict ≡ true → asks_attr verdict ≡ true
 path_asks_attr OutOfRange h = absurd (cc)
+path_asks_attr BadWhiteout h = absurd (cc)
 path_asks_attr Whiteout h = absurd (cc)
-path_asks_attr Fine h = absurd (cc)
 path_asks_attr Unallocated h = refl
 path_asks_attr (Named n) h = refl
 
@@ -38,9 +38,9 @@ pub enough : (v : Volume) (verdict : Verdict) (dir number : ℕ) (name : List �
     IsEnough v verdict dir number name about path directory
 enough v OutOfRange dir number name about path directory a p d =
     ap (λ q. verdict_reported OutOfRange number about q directory) p
-enough v Whiteout dir number name about path directory a p d =
-    ap (λ q. verdict_reported Whiteout number about q directory) p
-enough v Fine dir number name about path directory a p d = refl
+enough v BadWhiteout dir number name about path directory a p d =
+    ap (λ q. verdict_reported BadWhiteout number about q directory) p
+enough v Whiteout dir number name about path directory a p d = refl
 enough v Unallocated dir number name about path directory a p d =
     ap (λ q. verdict_reported Unallocated number about q directory) p
     ∙ ap (λ x. verdict_reported Unallocated number x (entry_path (graph_of v) dir name) directory) (a refl)

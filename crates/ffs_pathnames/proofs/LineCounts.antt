@@ -23,7 +23,7 @@ use Rattle.ffs_pathnames.specs.Header.{is_right_dotdot, is_right_header, shape_r
 use Rattle.ffs_pathnames.specs.PassedNames.{PassedNames, after_roled, entries_reported, roled_reported, plain_reported}
 use Rattle.ffs_pathnames.specs.Verdicts.{suspect_message, verdict_reported}
 use Rattle.ffs_pathnames.specs.declared.verdict.Verdict.{Verdict}
-use Rattle.ffs_pathnames.specs.declared.verdict.Verdict.TheVariants.{OutOfRange, Whiteout, Fine, Unallocated, Named}
+use Rattle.ffs_pathnames.specs.declared.verdict.Verdict.TheVariants.{OutOfRange, BadWhiteout, Whiteout, Unallocated, Named}
 
 -- ---- where there is a line
 pub knows_places : (v : Layout) (contents : Option (List ℕ)) (w : Workspace) (d : ℕ) (b : List ℕ) →
@@ -95,8 +95,8 @@ defects_some false false false x y z h = absurd (cc)
 verdict_some : (verdict : Verdict) (number : ℕ) (about : Attr) (path directory : List ℕ) → is_silent verdict ≡ false →
     1 ≤ length (verdict_reported verdict number about path directory)
 verdict_some OutOfRange number about path directory h = omega arith
-verdict_some Whiteout number about path directory h = omega arith
-verdict_some Fine number about path directory h = absurd (cc)
+verdict_some BadWhiteout number about path directory h = omega arith
+verdict_some Whiteout number about path directory h = absurd (cc)
 verdict_some Unallocated number about path directory h = omega arith
 verdict_some (Named n) number about path directory h =
     defects_some n.first_of_suspect n.extraneous n.kind (suspect_message n about path) (extraneous path directory)

@@ -12,7 +12,7 @@ use Rattle.ffs_volume.specs.Directories.Paths.{dir_path}
 use Rattle.ffs_volume.specs.Directories.Roles.{Volume, nth_entry, roled_entries, start_entry}
 use Rattle.ffs_volume.specs.Directories.Volumes.{volume_of}
 use Rattle.ffs_workspace.specs.declared.workspace.Workspace.{Workspace}
-use Rattle.ffs_pathnames.specs.declared.examine.DirectorySummary.{DirectorySummary}
+use Rattle.ffs_pathnames.specs.declared.examine.Examination.{Examination}
 use Rattle.ffs_pathnames.specs.Gathers.{passed_of}
 use Rattle.ffs_pathnames.specs.PassedNames.{are_quiet, after_looks}
 use Rattle.ffs_pathnames.specs.Reads.{start_chunk}
@@ -33,7 +33,7 @@ abbrev pub started_entry : ℕ → Bool → Order → List ℕ → Option Entry
 started_entry i started order start = option_and_then (λ c. nth_entry i c.entries) (start_chunk [] started order start)
 
 -- its inode is read, its entries were looked at, and each inode that belongs to it is stamped
-pub record IsDirectoryBegun (v : Layout) (b : List ℕ) (d : ℕ) (old : Workspace) (e : DirectorySummary) (new : Workspace)
+pub record IsDirectoryBegun (v : Layout) (b : List ℕ) (d : ℕ) (old : Workspace) (e : Examination) (new : Workspace)
     :
     Type 0 where
   pub inode : e.inode ≡ inode_of v b d

@@ -12,7 +12,7 @@ use Rattle.ffs_workspace.specs.declared.workspace.Workspace.{Workspace}
 use Rattle.ffs_workspace.specs.Holds.{HoldsClaims, HoldsSurvey}
 use Rattle.ffs_paths.specs.DirectoryPaths.{IsPathOf}
 use Rattle.ffs_pathnames.specs.declared.directory.Directory.{Directory}
-use Rattle.ffs_pathnames.specs.declared.header.DirectoryHeader.{DirectoryHeader}
+use Rattle.ffs_pathnames.specs.declared.header.HeaderFacts.{HeaderFacts}
 use Rattle.ffs_pathnames.specs.declared.one_entry.EntryTexts.{EntryTexts}
 
 -- the image gives them, the workspace holds what the block check and the survey leave, and d is a directory
@@ -43,5 +43,5 @@ abbrev pub KnowsDirectory : Layout → Device → Workspace → Directory → Li
 KnowsDirectory v d w x b = DirectoryContext v d.contents w x.number b × (x.inode ≡ inode_of v b x.number)
 
 -- the bytes are those of the context of a header's directory, and the header's size is that of the directory
-abbrev pub KnowsHeader : Layout → Device → Workspace → DirectoryHeader → List ℕ → Type 0
+abbrev pub KnowsHeader : Layout → Device → Workspace → HeaderFacts → List ℕ → Type 0
 KnowsHeader v d w h b = DirectoryContext v d.contents w h.number b × (h.size ≡ (inode_of v b h.number).size)

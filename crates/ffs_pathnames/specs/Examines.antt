@@ -9,7 +9,7 @@ use Rattle.ffs_volume.specs.Blocks.Inodes.{inode_of}
 use Rattle.ffs_volume.specs.Directories.Roles.{roled_entries}
 use Rattle.ffs_volume.specs.Directories.PathnameCheck.{are_sound}
 use Rattle.ffs_volume.specs.Directories.Volumes.{volume_of}
-use Rattle.ffs_pathnames.specs.declared.examine.DirectorySummary.{DirectorySummary}
+use Rattle.ffs_pathnames.specs.declared.examine.Examination.{Examination}
 use Rattle.ffs_pathnames.specs.Gathers.{passed_of}
 use Rattle.ffs_pathnames.specs.PassedNames.{are_quiet, after_looks}
 use Rattle.ffs_pathnames.specs.Reads.{start_chunk}
@@ -34,7 +34,7 @@ pub record ExamineLeaves {T : Type 0} (v : Layout) (d d' : Device) (old new : Wo
 
 -- its inode, whether a Gap of it is kept, whether its chunks are sound, the chunk at the start of the file, whether
 -- nothing may be reported of its entries; and each inode that belongs to it is stamped
-pub record IsExamined (v : Layout) (b : List ℕ) (d : ℕ) (old : Workspace) (e : DirectorySummary) (new : Workspace) :
+pub record IsExamined (v : Layout) (b : List ℕ) (d : ℕ) (old : Workspace) (e : Examination) (new : Workspace) :
     Type 0 where
   pub inode : e.inode ≡ inode_of v b d
   pub gap : e.look.gap ≡ (volume_of v b).gap d

@@ -17,7 +17,7 @@ use Rattle.ffs_pathnames.specs.declared.entries.DirectoryChunk.{DirectoryChunk}
 use Rattle.ffs_pathnames.specs.declared.one_entry.DirectoryEntry.{DirectoryEntry}
 use Rattle.ffs_pathnames.specs.declared.verdict.EntryDefects.{EntryDefects}
 use Rattle.ffs_pathnames.specs.declared.verdict.Verdict.{Verdict}
-use Rattle.ffs_pathnames.specs.declared.verdict.Verdict.TheVariants.{OutOfRange, Whiteout, Fine, Unallocated, Named}
+use Rattle.ffs_pathnames.specs.declared.verdict.Verdict.TheVariants.{OutOfRange, BadWhiteout, Whiteout, Unallocated, Named}
 use Rattle.ffs_pathnames.specs.Verdicts.{verdict_reported}
 use Rattle.ffs_workspace.specs.declared.workspace.Workspace.{Workspace}
 use Rattle.ffs_pathnames.specs.PassedNames.{PassedNames, is_stamped, is_flagged, roled_reported, plain_reported}
@@ -57,23 +57,23 @@ roled_in v c = roled_from c.first 0 (entries_of v.order c.bytes.now)
 -- whether the messages show the attributes of the inode that the entry names, and its path
 abbrev pub asks_attr : Verdict → Bool
 asks_attr OutOfRange = false
+asks_attr BadWhiteout = false
 asks_attr Whiteout = false
-asks_attr Fine = false
 asks_attr Unallocated = true
 asks_attr (Named n) = true
 
 abbrev pub asks_path : Verdict → Bool
 asks_path OutOfRange = false
+asks_path BadWhiteout = false
 asks_path Whiteout = false
-asks_path Fine = false
 asks_path Unallocated = false
 asks_path (Named n) = n.extraneous
 
 -- nothing is reported
 abbrev pub is_silent : Verdict → Bool
 is_silent OutOfRange = false
-is_silent Whiteout = false
-is_silent Fine = true
+is_silent BadWhiteout = false
+is_silent Whiteout = true
 is_silent Unallocated = false
 is_silent (Named n) = not (n.first_of_suspect || (n.extraneous || n.kind))
 

@@ -11,7 +11,7 @@ use Rattle.ffs_volume.specs.Directories.PathnameCheck.{attributes, is_wrong_pare
 use Rattle.ffs_volume.specs.Directories.Parents.{graph_of}
 use Rattle.ffs_volume.specs.Directories.Paths.{dir_path}
 use Rattle.ffs_layout.specs.Entry.{entry_value}
-use Rattle.ffs_pathnames.specs.declared.header.DirectoryHeader.{DirectoryHeader}
+use Rattle.ffs_pathnames.specs.declared.header.HeaderFacts.{HeaderFacts}
 
 -- of the size, of whether a Gap is kept, and of whether all chunks are sound
 abbrev pub size_reported : Attr → List ℕ → List TreeMessage
@@ -76,14 +76,14 @@ header_reported about path d parent gap sound first second = shape_reported abou
     ++ dots_reported about path d parent first second
 
 -- by a header's own values
-abbrev pub header_lines_of : Attr → List ℕ → DirectoryHeader → List TreeMessage
+abbrev pub header_lines_of : Attr → List ℕ → HeaderFacts → List TreeMessage
 header_lines_of about path h = header_reported about path h.number h.parent h.gap h.sound
     (option_map entry_value h.first) (option_map entry_value h.second)
 
-abbrev pub is_header_right : DirectoryHeader → Bool
+abbrev pub is_header_right : HeaderFacts → Bool
 is_header_right h = is_right_header h.size h.number h.parent h.gap h.sound (option_map entry_value h.first)
     (option_map entry_value h.second)
 
 -- of a directory of a volume
-abbrev pub header_lines : Volume → DirectoryHeader → List TreeMessage
+abbrev pub header_lines : Volume → HeaderFacts → List TreeMessage
 header_lines v h = header_lines_of (attributes v h.number) (dir_path (graph_of v) h.number) h

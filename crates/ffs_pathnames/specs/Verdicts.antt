@@ -4,7 +4,7 @@ use Rattle.ffs_volume.specs.declared.Attr.{Attr}
 use Rattle.ffs_volume.specs.Messages.Kinds.{TreeMessage, reported, out_of_range, whiteout}
 use Rattle.ffs_volume.specs.Messages.Kinds.{unallocated, dup_bad, zero_dir, extraneous, kind_entry}
 use Rattle.ffs_pathnames.specs.declared.verdict.Verdict.{Verdict}
-use Rattle.ffs_pathnames.specs.declared.verdict.Verdict.TheVariants.{OutOfRange, Whiteout, Fine, Unallocated, Named}
+use Rattle.ffs_pathnames.specs.declared.verdict.Verdict.TheVariants.{OutOfRange, BadWhiteout, Whiteout, Unallocated, Named}
 use Rattle.ffs_pathnames.specs.declared.verdict.EntryDefects.{EntryDefects}
 
 -- what is reported of an entry that names an allocated inode: `path` is the entry's, `directory` that of the inode
@@ -21,7 +21,7 @@ defects_reported n about path directory =
 
 abbrev pub verdict_reported : Verdict → ℕ → Attr → List ℕ → List ℕ → List TreeMessage
 verdict_reported OutOfRange number about path directory = out_of_range number path ∷ []
-verdict_reported Whiteout number about path directory = whiteout number path ∷ []
-verdict_reported Fine number about path directory = []
+verdict_reported BadWhiteout number about path directory = whiteout number path ∷ []
+verdict_reported Whiteout number about path directory = []
 verdict_reported Unallocated number about path directory = unallocated about path ∷ []
 verdict_reported (Named n) number about path directory = defects_reported n about path directory

@@ -22,8 +22,8 @@ ghost use Rattle.ffs_pathnames.specs.PassedRight.{AreRightBefore};
 ghost use Rattle.ffs_pathnames.specs.Ready.{ReadyToPath, PhaseLeaves, LinesLeave};
 
 use crate::directory::{Directory, FirstLook};
-use crate::examine::{DirectorySummary, examine};
-use crate::header::{DirectoryHeader, is_in_order, say_header};
+use crate::examine::{Examination, examine};
+use crate::header::{HeaderFacts, is_in_order, say_header};
 use crate::one_entry::{EntryTexts, gather_dir};
 use crate::reread::report_directory;
 use ffs_image::Image;
@@ -72,7 +72,7 @@ fn report_header<I: Image, W: Output>(
     workspace: &mut Workspace,
     kept_parent: &mut KeptParent,
     report: &mut Report<'_, W>,
-    header: DirectoryHeader<'_>,
+    header: HeaderFacts<'_>,
 ) -> Result<(), RunFault>
     requires { ReadyToPath geometry.now.layout (I.device image.old) workspace.old kept_parent.old
         header.number }
@@ -111,7 +111,7 @@ fn begin_directory<I: Image, W: Output>(
     kept_parent: &mut KeptParent,
     report: &mut Report<'_, W>,
     dir: u32,
-) -> Result<DirectorySummary, RunFault>
+) -> Result<Examination, RunFault>
     requires ready { ReadyToPath geometry.now.layout (I.device image.old) workspace.old
         kept_parent.old dir }
     requires dir { 2 ≤ dir }
@@ -133,7 +133,7 @@ fn begin_directory<I: Image, W: Output>(
     let examined = examine(geometry, image, workspace, dir)?;
     let parent = parent_of(workspace, dir);
     let (first, second) = first_two(geometry.layout.order, &examined.look);
-    let header = DirectoryHeader {
+    let header = HeaderFacts {
         number: dir,
         parent,
         size: examined.inode.size,

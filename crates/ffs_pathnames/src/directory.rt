@@ -30,7 +30,7 @@ pub struct Directory {
     pub number: u32,
     /// Its inode.
     pub inode: Inode,
-    /// How many offers it keeps, or 0 for all (`Workspace::cut_of`).
+    /// Its cut (`Workspace::cut_of`).
     pub cut: u32,
 }
 

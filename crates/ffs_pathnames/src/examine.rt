@@ -13,9 +13,9 @@ use ffs_layout::Geometry;
 use ffs_volume::Inode;
 use ffs_workspace::Workspace;
 
-/// What is known of a directory before anything is reported of it.
+/// What an examination of a directory finds, before anything is reported of it.
 #[derive(Clone, Copy, Debug)]
-pub struct DirectorySummary {
+pub struct Examination {
     /// Its inode.
     pub inode: Inode,
     /// What a first look at its chunks found.
@@ -31,7 +31,7 @@ pub fn examine<I: Image>(
     image: &mut I,
     workspace: &mut Workspace,
     dir: u32,
-) -> Result<DirectorySummary, ImageFault>
+) -> Result<Examination, ImageFault>
     requires ready { IsReadyFor geometry.now.layout (I.device image.old) workspace.old dir }
     requires dir { 2 ≤ dir }
     ensures found { IfOk result (λ e. ForBytes
@@ -63,5 +63,5 @@ pub fn examine<I: Image>(
         &mut workspace.queue,
         &directory,
     )?;
-    Ok(DirectorySummary { inode, look })
+    Ok(Examination { inode, look })
 }

@@ -14,9 +14,9 @@ use ffs_report::{DirectoryLine, DotLine, Line, OutFault, Output, Report};
 use ffs_volume::Attr;
 use ffs_volume::constants::{DIRBLKSIZ, DT_DIR, MINDIRSIZE};
 
-/// What is known of a directory before its entries are reported.
+/// What the lines of a directory before those of its entries depend on.
 #[derive(Clone, Copy, Debug)]
-pub struct DirectoryHeader<'a> {
+pub struct HeaderFacts<'a> {
     /// Its number.
     pub number: u32,
     /// Its parent, as the survey found it.
@@ -227,7 +227,7 @@ pub fn say_header<W: Output>(
     report: &mut Report<'_, W>,
     attr: Attr,
     path: &[u8],
-    header: DirectoryHeader<'_>,
+    header: HeaderFacts<'_>,
 ) -> Result<(), OutFault>
     ensures { SaysNames (progress W.sink report.old) (progress W.sink report.new)
         (header_lines_of attr path.now header.entry) result }
@@ -277,7 +277,7 @@ fn is_shape_right(size: u64, gap: bool, sound: bool) -> bool
 }
 
 /// Whether nothing is reported of a directory before its entries.
-pub fn is_in_order(header: DirectoryHeader<'_>) -> bool
+pub fn is_in_order(header: HeaderFacts<'_>) -> bool
     ensures value { result ≡ is_header_right header.entry }
     ensures quiet { IsTrue result → (about : attrs.Attr) (path : List ℕ)
         → about.size ≡ header.entry.size → header_lines_of about path header.entry ≡ [] }

@@ -100,11 +100,11 @@ pub fn say_verdict<W: Output>(
             report,
             &NameLine::Entry(EntryLine::OutOfRange { number, path }),
         ),
-        Verdict::Whiteout => say_line(
+        Verdict::BadWhiteout => say_line(
             report,
             &NameLine::Entry(EntryLine::Whiteout { number, path }),
         ),
-        Verdict::Fine => Ok(()),
+        Verdict::Whiteout => Ok(()),
         Verdict::Unallocated => say_line(
             report,
             &NameLine::Entry(EntryLine::Unallocated { attr, path }),

@@ -29,8 +29,8 @@ pub fn is_bad_whiteout(entry: &Entry<'_>) -> bool
 fn is_quiet_link(inodes: &Inodes<'_>, dir: u32, words: &FilledList<u32>, inode: u32) -> bool
     requires inode { inode < length inodes.now.kinds.now }
     requires words { CanStamp inodes.now dir words.now.items }
-    ensures { (v : Volume) → Sees v inodes.now → result
-        ≡ (not (is_dir v inode) || (names.belongs v dir inode
+    ensures { (vol : Volume) → Sees vol inodes.now → result
+        ≡ (not (is_dir vol inode) || (names.belongs vol dir inode
         && not (slice_index (stamps_in inodes.now words.now.items) inode == dir))) }
 {
     !inodes.is_dir(inode) || (inodes.belongs(inode, dir) && inodes.stamp(words, inode) != dir)
@@ -40,8 +40,8 @@ fn is_quiet_link(inodes: &Inodes<'_>, dir: u32, words: &FilledList<u32>, inode: 
 fn is_quiet_inode(inodes: &Inodes<'_>, dir: u32, words: &FilledList<u32>, entry: &Entry<'_>) -> bool
     requires inode { entry.now.number < length inodes.now.kinds.now }
     requires words { CanStamp inodes.now dir words.now.items }
-    ensures { (v : Volume) → Sees v inodes.now → result
-        ≡ names.is_inode_quiet v dir (stamps_in inodes.now words.now.items)
+    ensures { (vol : Volume) → Sees vol inodes.now → result
+        ≡ names.is_inode_quiet vol dir (stamps_in inodes.now words.now.items)
         (entry_value entry.now) }
 {
     if !inodes.is_allocated(entry.number) {
@@ -59,8 +59,8 @@ fn is_quiet_inode(inodes: &Inodes<'_>, dir: u32, words: &FilledList<u32>, entry:
 /// Whether nothing is reported of a plain entry.
 fn is_quiet_plain(inodes: &Inodes<'_>, dir: u32, words: &FilledList<u32>, entry: &Entry<'_>) -> bool
     requires words { CanStamp inodes.now dir words.now.items }
-    ensures { (v : Volume) → Sees v inodes.now → result
-        ≡ names.is_plain_quiet v dir (stamps_in inodes.now words.now.items)
+    ensures { (vol : Volume) → Sees vol inodes.now → result
+        ≡ names.is_plain_quiet vol dir (stamps_in inodes.now words.now.items)
         (entry_value entry.now) }
 {
     if entry.number >= inodes.count() {
@@ -82,8 +82,8 @@ pub fn is_quiet(
     entry: &Entry<'_>,
 ) -> bool
     requires words { CanStamp inodes.now dir words.now.items }
-    ensures { (v : Volume) → Sees v inodes.now → result
-        ≡ names.is_quiet v dir (stamps_in inodes.now words.now.items)
+    ensures { (vol : Volume) → Sees vol inodes.now → result
+        ≡ names.is_quiet vol dir (stamps_in inodes.now words.now.items)
         (record { role = role; entry = entry_value entry.now }) }
 {
     match role {
@@ -103,8 +103,8 @@ pub fn stamp(
     entry: &Entry<'_>,
 )
     requires words { CanStamp inodes.now dir words.old.items }
-    ensures after { (v : Volume) → Sees v inodes.now → stamps_in inodes.now words.new.items
-        ≡ names.after_look v dir (stamps_in inodes.now words.old.items)
+    ensures after { (vol : Volume) → Sees vol inodes.now → stamps_in inodes.now words.new.items
+        ≡ names.after_look vol dir (stamps_in inodes.now words.old.items)
         (record { role = role; entry = entry_value entry.now }) }
     ensures places { KeepPlaces words.old.items words.new.items }
     ensures words_long { vec_len words.new ≡ vec_len words.old }

@@ -168,7 +168,7 @@ fn asks(verdict: &Verdict) -> (bool, bool)
     ensures directory { result.1 ≡ asks_path verdict.now }
 {
     match verdict {
-        Verdict::OutOfRange | Verdict::Whiteout | Verdict::Fine => (false, false),
+        Verdict::OutOfRange | Verdict::BadWhiteout | Verdict::Whiteout => (false, false),
         Verdict::Unallocated => (true, false),
         Verdict::Named(defects) => (true, defects.extraneous),
     }
@@ -330,8 +330,8 @@ fn is_silent(verdict: &Verdict) -> bool
     ensures { result ≡ is_silent verdict.now }
 {
     match verdict {
-        Verdict::Fine => true,
-        Verdict::OutOfRange | Verdict::Whiteout | Verdict::Unallocated => false,
+        Verdict::Whiteout => true,
+        Verdict::OutOfRange | Verdict::BadWhiteout | Verdict::Unallocated => false,
         Verdict::Named(defects) => {
             !(defects.first_of_suspect || defects.extraneous || defects.kind)
         }

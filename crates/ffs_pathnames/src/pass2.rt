@@ -23,7 +23,8 @@ use ffs_names::survey;
 use ffs_report::{Heading, Line, Output, Report, RunFault};
 use ffs_workspace::Workspace;
 
-/// Whether the run continues after the root, or stops there since inode 2 is no directory.
+/// Whether the run continues after the root, or stops there since inode 2 is no directory. A phase
+/// that nothing stops answers `Go`.
 #[derive(Clone, Copy, Debug, PartialEq, Eq)]
 pub enum Root {
     /// The run continues.

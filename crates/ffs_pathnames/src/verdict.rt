@@ -36,9 +36,9 @@ pub enum Verdict {
     /// It names an inode that the volume doesn't have.
     OutOfRange,
     /// It has the number or the type of a whiteout, and not both.
-    Whiteout,
+    BadWhiteout,
     /// It is a whiteout.
-    Fine,
+    Whiteout,
     /// It names an inode that isn't allocated.
     Unallocated,
     /// It names an allocated inode.
@@ -87,10 +87,10 @@ pub fn entry_verdict(
         return Verdict::OutOfRange;
     }
     if is_bad_whiteout(entry) {
-        return Verdict::Whiteout;
+        return Verdict::BadWhiteout;
     }
     if entry.number == WINO {
-        return Verdict::Fine;
+        return Verdict::Whiteout;
     }
     if !inodes.is_allocated(entry.number) {
         return Verdict::Unallocated;
@@ -110,8 +110,8 @@ pub fn pass(
     entry: &Entry<'_>,
 )
     requires { HasFlagAndWord inodes.now flags.old words.old.items }
-    ensures after { (v : Volume) → Sees v inodes.now →
-        names.after_roled v dir (passed_in inodes.now flags.old words.old.items)
+    ensures after { (vol : Volume) → Sees vol inodes.now →
+        names.after_roled vol dir (passed_in inodes.now flags.old words.old.items)
         (record { role = role; entry = entry_value entry.now })
         ≡ passed_in inodes.now flags.new words.new.items }
     ensures places { KeepPlaces words.old.items words.new.items }

@@ -56,9 +56,9 @@ fn entries_of_the_root(rt: HostRuntime) -> Result<(), Fail> {
     let cases = [
         (9, 8, Verdict::OutOfRange),
         (u32::MAX, 14, Verdict::OutOfRange),
-        (1, 14, Verdict::Fine),
-        (1, 8, Verdict::Whiteout),
-        (5, 14, Verdict::Whiteout),
+        (1, 14, Verdict::Whiteout),
+        (1, 8, Verdict::BadWhiteout),
+        (5, 14, Verdict::BadWhiteout),
         (5, 8, Verdict::Unallocated),
         (3, 8, named(Label::File, false, false, false)),
         (3, 10, named(Label::File, false, false, true)),

@@ -87,7 +87,7 @@ pub enum DirectoryLine<'a> {
     DirShort { attr: Attr, path: &'a [u8] },
     /// Its size, in bytes, is no multiple of 512.
     DirLength { path: &'a [u8], size: u64 },
-    /// It has a hole.
+    /// It has a hole (CONTAINS EMPTY BLOCKS). This isn't a directory of size 0.
     DirEmpty { path: &'a [u8] },
     /// A chunk of it isn't sound.
     DirCorrupt { attr: Attr, path: &'a [u8] },

@@ -133,7 +133,7 @@ fn print_fault<W: Output>(out: &mut W, fault: SuperFault) -> Result<(), OutFault
 }
 
 #[inline(always)]
-fn print_claim<W: Output>(
+fn print_offer<W: Output>(
     out: &mut W,
     fragment: u32,
     what: &[u8],
@@ -165,9 +165,9 @@ fn print_block<W: Output>(out: &mut W, message: BlockMessage) -> Result<(), OutF
     match message {
         BlockMessage::PartAlloc { inode } => print_number(out, PART_ALLOC, inode as u64, CLEAR),
         BlockMessage::UnknownType { inode } => print_number(out, UNKNOWN_TYPE, inode as u64, CLEAR),
-        BlockMessage::Bad { fragment, inode } => print_claim(out, fragment, BAD, inode),
+        BlockMessage::Bad { fragment, inode } => print_offer(out, fragment, BAD, inode),
         // `Report::say` prints a DUP by `DupLine`; this row makes the match whole.
-        BlockMessage::Dup { fragment, inode } => print_claim(out, fragment, DUP, inode),
+        BlockMessage::Dup { fragment, inode } => print_offer(out, fragment, DUP, inode),
         BlockMessage::ManyBad { inode } => print_number(out, MANY_BAD, inode as u64, CONTINUE),
         BlockMessage::ManyDup { inode } => print_number(out, MANY_DUP, inode as u64, CONTINUE),
         BlockMessage::PartTrunc { inode } => print_number(out, PART_TRUNC, inode as u64, SALVAGE),

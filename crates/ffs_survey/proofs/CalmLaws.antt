@@ -14,9 +14,9 @@ use Rattle.std.proofs.lemmas.List.{get_or_past}
 use Rattle.ffs_survey.specs.Survey.{bool_at, number_at, dir_at, is_dir_kind}
 use Rattle.ffs_survey.specs.Calm.{CurrentDir, is_calm_kind, is_calm_role, is_calm_entry, reached_after, are_calm, IsCalm}
 use Rattle.ffs_survey.specs.Calm.{AreCalm, IsFlagged}
-use Rattle.ffs_survey.specs.Discover.{from_entries, nothing, Comes, IsFrontier, LevelsKnown, is_unreached_edge, IsRead}
+use Rattle.ffs_survey.specs.Discover.{from_entries, nothing, SameResult, IsFrontier, LevelsKnown, is_unreached_edge, IsRead}
 use Rattle.ffs_survey.proofs.Frontiers.{frontier_within}
-use Rattle.ffs_survey.proofs.Discovered.{comes-to}
+use Rattle.ffs_survey.proofs.Discovered.{same_result-to}
 
 -- a calm plain entry that names a directory is before any other that reaches it
 calm_kind_dir : (k kind : ℕ) (r : Bool) → is_dir_kind k ≡ true → (k == kind) ≡ true → is_calm_kind kind r ≡ true →
@@ -88,9 +88,10 @@ stays_parent true true a p p' e e' h = h
 stays_parent true false a p p' e e' h = absurd (cc)
 stays_parent false r' a p p' e e' h = absurd (cc)
 
-pub comes_stays : (a : ℕ → Option ℕ) (r r' : List Bool) (p p' q q' : List ℕ) → Comes a r p q nothing r' p' q' →
+pub same_result_stays : (a : ℕ → Option ℕ) (r r' : List Bool) (p p' q q' : List ℕ)
+    → SameResult a r p q nothing r' p' q' →
     Stays r p r' p'
-comes_stays a r r' p p' q q' c = record {
+same_result_stays a r r' p p' q q' c = record {
   reached = λ x h. stays_reached (bool_at r x) (bool_at r' x) (a x) h (c.reaches x);
   parents = λ x h. stays_parent (bool_at r x) (bool_at r' x) (a x) (number_at p x) (number_at p' x) h
       (stays_reached (bool_at r x) (bool_at r' x) (a x) h (c.reaches x)) (c.parent x);
@@ -127,12 +128,12 @@ found_parent true s p p' false c e f g h = absurd (cc)
 -- a directory is calm once it is read, by its entries and its shape
 pub calm_found : (kinds : List ℕ) (m r r' : List Bool) (p p' q q' : List ℕ) (es : List RoledEntry) (right_shape : Bool)
     (d : ℕ)
-    → Comes (from_entries kinds d es) r p q nothing r' p' q' → bool_at r d ≡ true
+    → SameResult (from_entries kinds d es) r p q nothing r' p' q' → bool_at r d ≡ true
     → are_calm (record { kinds = kinds; marked = m; dir = d; parent = number_at p d }) (bool_at r) 0 es ≡ true →
     right_shape ≡ true
     → IsCalm kinds m r' p' es right_shape d
 calm_found kinds m r r' p p' q q' es right_shape d c h calm right =
-    let s = comes_stays (from_entries kinds d es) r r' p p' q q' c in
+    let s = same_result_stays (from_entries kinds d es) r r' p p' q q' c in
     record {
       before = bool_at r;
       begins = h;
@@ -168,19 +169,20 @@ none_left kinds s x = go (dir_at kinds x)
 -- a directory is read
 pub record IsReadWhole (kinds : List ℕ) (m r r' : List Bool) (p p' q q' : List ℕ) (es : List RoledEntry) (d : ℕ)
     (calm_so_far : Bool) : Type 0 where
-  pub comes : Comes (from_entries kinds d es) r p q nothing r' p' q'
+  pub same_result : SameResult (from_entries kinds d es) r p q nothing r' p' q'
   pub calm_is : calm_so_far ≡ are_calm (record { kinds = kinds; marked = m; dir = d; parent = number_at p d }) (bool_at r) 0
       es
 
 pub read_whole : (kinds : List ℕ) (m r r' : List Bool) (p p' q q' : List ℕ) (es rest : List RoledEntry)
     (d parent count : ℕ) (calm_so_far : Bool) → parent ≡ number_at p d → rest ≡ []
-    → Comes (from_entries kinds d es) r p q (from_entries kinds d rest) r' p' q'
+    → SameResult (from_entries kinds d es) r p q (from_entries kinds d rest) r' p' q'
     → (calm_so_far && are_calm (record { kinds = kinds; marked = m; dir = d; parent = parent }) (bool_at r') count rest)
     ≡ are_calm (record { kinds = kinds; marked = m; dir = d; parent = parent }) (bool_at r) 0 es
     → IsReadWhole kinds m r r' p p' q q' es d (calm_so_far && nat_le 2 count)
 read_whole kinds m r r' p p' q q' es rest d parent count calm_so_far up none c e = record {
-  comes = comes-to (from_entries kinds d es) (from_entries kinds d []) nothing r r' p p' q q' (λ x. none_left kinds d x)
-      (subst (λ z. Comes (from_entries kinds d es) r p q (from_entries kinds d z) r' p' q') none c);
+  same_result = same_result-to (from_entries kinds d es) (from_entries kinds d []) nothing r r' p p' q q' (λ x.
+      none_left kinds d x)
+      (subst (λ z. SameResult (from_entries kinds d es) r p q (from_entries kinds d z) r' p' q') none c);
   calm_is = subst (λ n. (calm_so_far && nat_le 2 count) ≡ are_calm (record { kinds = kinds; marked = m; dir = d; parent = n })
       (bool_at r) 0 es) up
       (subst (λ z. (calm_so_far && are_calm (record { kinds = kinds; marked = m; dir = d; parent = parent }) (bool_at r') count
@@ -202,7 +204,7 @@ flag_cases x d old low calm_so_far right_shape h = elim (or_cases old _ h) [
 -- the flags after a directory is read
 pub calm_read : (kinds : List ℕ) (m r r' : List Bool) (p p' q q' : List ℕ) (entries : ℕ → List RoledEntry)
     (right_shape : ℕ → Bool) (d : ℕ) (f f' : List Bool)
-    → Comes (from_entries kinds d (entries d)) r p q nothing r' p' q' → bool_at r d ≡ true
+    → SameResult (from_entries kinds d (entries d)) r p q nothing r' p' q' → bool_at r d ≡ true
     → IsFlagged d (are_calm (record { kinds = kinds; marked = m; dir = d; parent = number_at p d }) (bool_at r) 0
     (entries d)) (right_shape d) f f'
     → AreCalm kinds m r p entries right_shape f → AreCalm kinds m r' p' entries right_shape f'
@@ -211,7 +213,7 @@ calm_read kinds m r r' p p' q q' entries right_shape d f f' c h flagged old x se
     (are_calm (record { kinds = kinds; marked = m; dir = d; parent = number_at p d }) (bool_at r) 0 (entries d))
     (right_shape d) (sym (flagged x) ∙ set)) [
       | inl before ↦ calm_stays kinds m r r' p p' (entries x) (right_shape x) x
-          (comes_stays (from_entries kinds d (entries d)) r r' p p' q q' c) (old x before)
+          (same_result_stays (from_entries kinds d (entries d)) r r' p p' q q' c) (old x before)
       | inr now ↦ subst (λ z. IsCalm kinds m r' p' (entries z) (right_shape z) z) (sym now.0)
           (calm_found kinds m r r' p p' q q' (entries d) (right_shape d) d c h now.1.0 now.1.1)
     ]
@@ -237,7 +239,7 @@ some_any false s t = refl
 -- the step of the loop over a directory
 pub calm_step : (s : CurrentDir) (r r' : List Bool) (p p' q q' : List ℕ) (i : ℕ) (e : RoledEntry) (es : List RoledEntry)
     (calm_so_far calm_so_far' total : Bool)
-    → Comes (from_entries s.kinds s.dir (e ∷ [])) r p q nothing r' p' q'
+    → SameResult (from_entries s.kinds s.dir (e ∷ [])) r p q nothing r' p' q'
     → calm_so_far' ≡ (calm_so_far && is_calm_entry s (bool_at r) i e)
     → (calm_so_far && are_calm s (bool_at r) i (e ∷ es)) ≡ total
     → (calm_so_far' && are_calm s (bool_at r') (i + 1) es) ≡ total

@@ -10,16 +10,17 @@ use Rattle.std.proofs.lemmas.Bool.{or_left, or_from, cond-true, cond-false}
 use Rattle.std.proofs.lemmas.List.{take_more_set, get_or_past}
 use Rattle.std.proofs.lemmas.List.Sums.{sum_by-set, sum_by_push}
 use Rattle.ffs_survey.specs.Survey.{bool_at, number_at, dir_at, is_dir_kind, graph_with}
-use Rattle.ffs_survey.specs.Discover.{bit, occurrences, unset, from_entries, from_dirs, nothing, Comes, is_unreached_dir}
+use Rattle.ffs_survey.specs.Discover.{bit, occurrences, unset, from_entries, from_dirs, nothing, SameResult, is_unreached_dir}
 use Rattle.ffs_volume.specs.Directories.Roles.{RoledEntry, is_plain}
 use Rattle.ffs_volume.specs.Directories.Graph.{Graph, is_naming_entry, edge}
 
-pub comes-refl : (g : ℕ → Option ℕ) (r : List Bool) (p q : List ℕ) → Comes g r p q g r p q
-comes-refl g r p q = record { reaches = λ x. refl; parent = λ x. refl; queued = λ x. refl }
+pub same_result-refl : (g : ℕ → Option ℕ) (r : List Bool) (p q : List ℕ) → SameResult g r p q g r p q
+same_result-refl g r p q = record { reaches = λ x. refl; parent = λ x. refl; queued = λ x. refl }
 
-pub comes-trans : (g h k : ℕ → Option ℕ) (r r' r'' : List Bool) (p p' p'' q q' q'' : List ℕ) → Comes g r p q h r' p' q'
-    → Comes h r' p' q' k r'' p'' q'' → Comes g r p q k r'' p'' q''
-comes-trans g h k r r' r'' p p' p'' q q' q'' a b = record {
+pub same_result-trans : (g h k : ℕ → Option ℕ) (r r' r'' : List Bool) (p p' p'' q q' q'' : List ℕ)
+    → SameResult g r p q h r' p' q'
+    → SameResult h r' p' q' k r'' p'' q'' → SameResult g r p q k r'' p'' q''
+same_result-trans g h k r r' r'' p p' p'' q q' q'' a b = record {
   reaches = λ x. b.reaches x ∙ a.reaches x;
   parent = λ x. b.parent x ∙ a.parent x;
   queued = λ x. b.queued x ∙ a.queued x;
@@ -61,9 +62,9 @@ then_queue false false None b t t' h e = omega arith
 then_queue false false (Some s) b t t' h e = absurd (cc)
 
 -- a is done, and then b is to go
-pub comes-then : (g a b : ℕ → Option ℕ) (r r' : List Bool) (p p' q q' : List ℕ) →
-    ((x : ℕ) → g x ≡ option_or (a x) (b x)) → Comes a r p q nothing r' p' q' → Comes g r p q b r' p' q'
-comes-then g a b r r' p p' q q' e c = record {
+pub same_result-then : (g a b : ℕ → Option ℕ) (r r' : List Bool) (p p' q q' : List ℕ) →
+    ((x : ℕ) → g x ≡ option_or (a x) (b x)) → SameResult a r p q nothing r' p' q' → SameResult g r p q b r' p' q'
+same_result-then g a b r r' p p' q q' e c = record {
   reaches = λ x. then_reached (bool_at r x) (bool_at r' x) (a x) (b x) (c.reaches x)
       ∙ ap (λ o. bool_at r x || is_some o) (sym (e x));
   parent = λ x. then_parent (bool_at r x) (bool_at r' x) (a x) (b x) (number_at p x) (number_at p' x) (c.reaches x)
@@ -91,7 +92,7 @@ from_dirs-cons v s ss x = go (edge v s x)
     go true = refl
     go false = refl
 
--- what the fields of `Comes` say of one number
+-- what the fields of `SameResult` say of one number
 abbrev pub At : (r : Bool) (p t : ℕ) (a : Option ℕ) (r' : Bool) (p' t' : ℕ) → Type 0
 At r p t a r' p' t' =
     ((r' || is_some (none_ℕ)) ≡ (r || is_some a))
@@ -146,7 +147,8 @@ occurrences-push x q c y l = ap (λ z. sum_by (λ y. bit (y == x)) z) (take_more
 pub visit_hit : (kinds : List ℕ) (r : List Bool) (p q : List ℕ) (s c : ℕ) (e : RoledEntry)
     → e.entry.number < length r → e.entry.number < length p → c < length q
     → dir_at kinds e.entry.number ≡ true → is_plain e.role ≡ true → bool_at r e.entry.number ≡ false
-    → Comes (from_entries kinds s (e ∷ [])) r p (take c q) nothing (set r e.entry.number true) (set p e.entry.number s)
+    → SameResult (from_entries kinds s (e ∷ [])) r p (take c q) nothing (set r e.entry.number true) (set p
+        e.entry.number s)
     (take (c + 1) (set q c e.entry.number))
 visit_hit kinds r p q s c e lr lp lq d pl un = record {
   reaches = λ x. (at x).0;
@@ -170,9 +172,9 @@ visit_hit kinds r p q s c e lr lp lq d pl un = record {
     ]
 
 -- the same with another name for what is to go
-pub comes-to : (g h k : ℕ → Option ℕ) (r r' : List Bool) (p p' q q' : List ℕ) → ((x : ℕ) → h x ≡ k x) →
-    Comes g r p q h r' p' q' → Comes g r p q k r' p' q'
-comes-to g h k r r' p p' q q' e c = record {
+pub same_result-to : (g h k : ℕ → Option ℕ) (r r' : List Bool) (p p' q q' : List ℕ) → ((x : ℕ) → h x ≡ k x) →
+    SameResult g r p q h r' p' q' → SameResult g r p q k r' p' q'
+same_result-to g h k r r' p p' q q' e c = record {
   reaches = λ x. ap (λ o. bool_at r' x || is_some o) (sym (e x)) ∙ c.reaches x;
   parent = λ x. ap (λ o. cond (bool_at r' x) (number_at p' x) (unwrap_or o (number_at p' x))) (sym (e x)) ∙ c.parent x;
   queued = λ x. ap (λ o. occurrences x q' + bit (is_some o && not (bool_at r' x))) (sym (e x)) ∙ c.queued x;
@@ -189,7 +191,7 @@ same_at r p t a h = elim h [ inl y ↦ marked r a y | inr n ↦ miss_at r p t a 
 -- an entry that discovers nothing
 pub visit_miss : (kinds : List ℕ) (r : List Bool) (p q : List ℕ) (s : ℕ) (e : RoledEntry)
     → (is_plain e.role && is_unreached_dir kinds r e.entry.number) ≡ false →
-    Comes (from_entries kinds s (e ∷ [])) r p q nothing r p q
+    SameResult (from_entries kinds s (e ∷ [])) r p q nothing r p q
 visit_miss kinds r p q s e h = record { reaches = λ x. (at x).0; parent = λ x. (at x).1; queued = λ x. (at x).2 }
   where
     which : (x a b c : Bool) → (a && (b && not c)) ≡ false → (c ≡ true)
@@ -237,12 +239,13 @@ new_entry kinds r e h =
 -- the step of the loop over a directory
 pub entry_step : (g : ℕ → Option ℕ) (kinds : List ℕ) (s : ℕ) (e : RoledEntry) (rest : List RoledEntry)
     (r r' r'' : List Bool) (p p' p'' q q' q'' : List ℕ)
-    → Comes g r p q (from_entries kinds s (e ∷ rest)) r' p' q'
-    → Comes (from_entries kinds s (e ∷ [])) r' p' q' nothing r'' p'' q''
-    → Comes g r p q (from_entries kinds s rest) r'' p'' q''
+    → SameResult g r p q (from_entries kinds s (e ∷ rest)) r' p' q'
+    → SameResult (from_entries kinds s (e ∷ [])) r' p' q' nothing r'' p'' q''
+    → SameResult g r p q (from_entries kinds s rest) r'' p'' q''
 entry_step g kinds s e rest r r' r'' p p' p'' q q' q'' a b =
-    comes-trans g (from_entries kinds s (e ∷ rest)) (from_entries kinds s rest) r r' r'' p p' p'' q q' q'' a
-    (comes-then (from_entries kinds s (e ∷ rest)) (from_entries kinds s (e ∷ [])) (from_entries kinds s rest) r' r'' p'
+    same_result-trans g (from_entries kinds s (e ∷ rest)) (from_entries kinds s rest) r r' r'' p p' p'' q q' q'' a
+    (same_result-then (from_entries kinds s (e ∷ rest)) (from_entries kinds s (e ∷ [])) (from_entries kinds s rest)
+        r' r'' p'
     p'' q' q'' (from_entries-cons kinds s e rest) b)
 
 -- what a directory's entries discover, by its edges
@@ -255,15 +258,17 @@ from_entries-edges kinds entries s x h =
 pub level_step : (g : ℕ → Option ℕ) (kinds : List ℕ) (entries : ℕ → List RoledEntry) (frontier : List ℕ) (i : ℕ)
     (r r' r'' : List Bool) (p p' p'' q q' q'' : List ℕ)
     → i < length frontier → dir_at kinds (get_or frontier i 0) ≡ true
-    → Comes g r p q (from_dirs (graph_with kinds entries) (drop i frontier)) r' p' q'
-    → Comes (from_entries kinds (get_or frontier i 0) (entries (get_or frontier i 0))) r' p' q' nothing r'' p'' q''
-    → Comes g r p q (from_dirs (graph_with kinds entries) (drop (i + 1) frontier)) r'' p'' q''
+    → SameResult g r p q (from_dirs (graph_with kinds entries) (drop i frontier)) r' p' q'
+    → SameResult (from_entries kinds (get_or frontier i 0) (entries (get_or frontier i 0))) r' p' q' nothing r'' p'' q''
+    → SameResult g r p q (from_dirs (graph_with kinds entries) (drop (i + 1) frontier)) r'' p'' q''
 level_step g kinds entries frontier i r r' r'' p p' p'' q q' q'' l d a b =
     let v = graph_with kinds entries in
     let s = get_or frontier i 0 in
     let cut : drop i frontier ≡ s ∷ drop (i + 1) frontier = rw (add-one, drop-cons frontier i 0) in
-    comes-trans g (from_dirs v (drop i frontier)) (from_dirs v (drop (i + 1) frontier)) r r' r'' p p' p'' q q' q'' a
-    (comes-then (from_dirs v (drop i frontier)) (from_entries kinds s (entries s)) (from_dirs v (drop (i + 1) frontier))
+    same_result-trans g (from_dirs v (drop i frontier)) (from_dirs v (drop (i + 1) frontier)) r r' r'' p p' p'' q q'
+        q'' a
+    (same_result-then (from_dirs v (drop i frontier)) (from_entries kinds s (entries s)) (from_dirs v (drop (i + 1)
+        frontier))
     r' r'' p' p'' q' q''
     (λ x. ap (λ z. from_dirs v z x) cut
     ∙ (from_dirs-cons v s (drop (i + 1) frontier) x ∙ ap (λ o. option_or o (from_dirs v (drop (i + 1) frontier) x))

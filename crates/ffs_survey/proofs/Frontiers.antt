@@ -21,7 +21,7 @@ use Rattle.ffs_volume.proofs.LevelLaws.{within-suc, within-zero, within-grows, w
 use Rattle.ffs_volume.proofs.LevelLaws.{level-from}
 use Rattle.ffs_volume.proofs.Unreached.{edge-parts}
 use Rattle.ffs_survey.specs.Survey.{bool_at, number_at, graph_with}
-use Rattle.ffs_survey.specs.Discover.{bit, occurrences, from_dirs, nothing, Comes, Rising, IsFrontier, parent_at, LevelsKnown}
+use Rattle.ffs_survey.specs.Discover.{bit, occurrences, from_dirs, nothing, SameResult, Rising, IsFrontier, parent_at, LevelsKnown}
 use Rattle.ffs_survey.proofs.Discovered.{dir_below}
 
 pub occurrences-cons : (t x : ℕ) (xs : List ℕ) → occurrences t (x ∷ xs) ≡ bit (x == t) + occurrences t xs
@@ -204,7 +204,7 @@ pub record IsNext (v : Graph) (k : ℕ) (r' : List Bool) (p' q' : List ℕ) : Ty
 -- the step from level k to the next
 pub next_level : (v : Graph) (k : ℕ) (xs : List ℕ) (r r' : List Bool) (p p' q q' : List ℕ) → IsSane v →
     IsFrontier v k xs → LevelsKnown v k r p q
-    → Comes (from_dirs v xs) r p [] nothing r' p' q' → IsNext v (suc k) r' p' q'
+    → SameResult (from_dirs v xs) r p [] nothing r' p' q' → IsNext v (suc k) r' p' q'
 next_level v k xs r r' p p' q q' sane f n c = record { reached = reached_x; parent = parent_x; members = queue_x }
   where
     found_x : (x : ℕ) → from_dirs v xs x ≡ first_below (level_edge v k x) v.count
@@ -255,7 +255,7 @@ next_level v k xs r r' p p' q q' sane f n c = record { reached = reached_x; pare
 
 -- the queue with what is discovered holds each that is marked once
 pub queue_grows : (a : ℕ → Option ℕ) (r r' : List Bool) (p p' q q' : List ℕ) → ((x : ℕ) → occurrences x q ≡ bit (bool_at r x))
-    → Comes a r p [] nothing r' p' q' → (x : ℕ) → occurrences x (q ++ q') ≡ bit (bool_at r' x)
+    → SameResult a r p [] nothing r' p' q' → (x : ℕ) → occurrences x (q ++ q') ≡ bit (bool_at r' x)
 unfolding occurrences
 queue_grows a r r' p p' q q' h c x =
     let one : occurrences x (q ++ q') ≡ occurrences x q + occurrences x q' = sum_by-append (λ y. bit (y == x)) q q' in

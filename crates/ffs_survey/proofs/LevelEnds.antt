@@ -22,8 +22,8 @@ use Rattle.ffs_volume.proofs.Graphs.{IsSane}
 use Rattle.ffs_volume.proofs.LevelLaws.{within-zero, within-grows, level-is, level-some, level-each, reached-from}
 use Rattle.ffs_volume.proofs.LevelLaws.{reached-level, parent-root}
 use Rattle.ffs_survey.specs.Survey.{bool_at, number_at}
-use Rattle.ffs_survey.specs.Discover.{bit, occurrences, unset, IsFrontier, LevelsKnown, from_dirs, nothing, Comes}
-use Rattle.ffs_survey.proofs.Discovered.{comes-to, comes-refl}
+use Rattle.ffs_survey.specs.Discover.{bit, occurrences, unset, IsFrontier, LevelsKnown, from_dirs, nothing, SameResult}
+use Rattle.ffs_survey.proofs.Discovered.{same_result-to, same_result-refl}
 use Rattle.ffs_survey.proofs.Frontiers.{occurrences-nil, within-bound, next_level, IsNext}
 
 -- where a level is empty, all is known
@@ -121,6 +121,7 @@ root_alone v r p q sane dry f n =
     let none = λ (x : ℕ). cond-false (edge v 2 x) (Some 2) None
     (and_right (v.is_dir x) (is_naming_dir v 2 x) (and_left (v.is_dir 2) (list_any (is_naming_entry x) (v.entries 2))
     dry)) in
-    let c : Comes g r p [] nothing r p [] = comes-to g g nothing r r p p [] [] none (comes-refl g r p []) in
+    let c : SameResult g r p [] nothing r p [] = same_result-to g g nothing r r p p [] [] none (same_result-refl g r
+        p []) in
     let k : IsNext v 1 r p [] = next_level v 0 (2 ∷ []) r r p p q [] sane f n c in
     (record { reaches = k.reached; parent = k.parent; queued = n.queued }, record { members = k.members; rising = tt })

@@ -13,7 +13,7 @@ use Rattle.ffs_volume.specs.Directories.Roles.{RoledEntry, refers}
 use Rattle.ffs_volume.specs.Directories.Graph.{Graph, is_naming_dir}
 use Rattle.ffs_volume.proofs.Graphs.{IsSane}
 use Rattle.ffs_survey.specs.Survey.{bool_at, number_at, graph_with, dir_at, counted_in}
-use Rattle.ffs_survey.specs.Discover.{Extends, bit, occurrences, from_dirs, nothing, Comes, IsFrontier, LevelsKnown, IsCount, Counts}
+use Rattle.ffs_survey.specs.Discover.{Extends, bit, occurrences, from_dirs, nothing, SameResult, IsFrontier, LevelsKnown, IsCount, Counts}
 use Rattle.ffs_survey.specs.Discover.{IsReachedPart, count_of, any_of, none, never}
 use Rattle.ffs_survey.proofs.Frontiers.{next_level, frontier_from, queue_grows, IsNext}
 use Rattle.ffs_survey.proofs.LevelEnds.{knows_reached, knows_parent, root_alone, frontier_start}
@@ -49,10 +49,10 @@ at_place P low at xs all from to =
     subst P there (all (at - low) 0 (omega (arith, length-drop low xs)))
 
 -- with what was in the queue before, and without it
-pub comes_after : (a c : ℕ → Option ℕ) (r r' : List Bool) (p p' q new : List ℕ) →
-    Comes a r p q c r' p' (q ++ new) → Comes a r p [] c r' p' new
+pub same_result_after : (a c : ℕ → Option ℕ) (r r' : List Bool) (p p' q new : List ℕ) →
+    SameResult a r p q c r' p' (q ++ new) → SameResult a r p [] c r' p' new
 unfolding occurrences
-comes_after a c r r' p p' q new h = record {
+same_result_after a c r r' p p' q new h = record {
   reaches = h.reaches;
   parent = h.parent;
   queued = λ x. let e = h.queued x in let s = sum_by-append (λ y. bit (y == x)) q new in omega (arith, e, s);
@@ -74,7 +74,7 @@ pub record IsNextLevel (v : Graph) (k : ℕ) (r' : List Bool) (p' q ys : List �
 
 pub level_after : (v : Graph) (k : ℕ) (xs : List ℕ) (r r' : List Bool) (p p' q new ys : List ℕ) → IsSane v →
     IsFrontier v k xs → LevelsKnown v k r p q
-    → Comes (from_dirs v xs) r p [] nothing r' p' new → IsPermutation new ys → IsNonDecreasing ys →
+    → SameResult (from_dirs v xs) r p [] nothing r' p' new → IsPermutation new ys → IsNonDecreasing ys →
     IsNextLevel v (k + 1) r' p' q ys
 unfolding occurrences
 level_after v k xs r r' p p' q new ys sane f n c m s =

@@ -45,7 +45,7 @@ nothing x = None
 
 -- Reading on changes no final result: what was found plus what the entries still to be read would add is the same
 -- before and after. Here of reached inodes, parents and the queue; `todo` is the parent that those entries give.
-pub record Comes (todo : ℕ → Option ℕ) (reached : List Bool) (parents queue : List ℕ) (todo' : ℕ → Option ℕ)
+pub record SameResult (todo : ℕ → Option ℕ) (reached : List Bool) (parents queue : List ℕ) (todo' : ℕ → Option ℕ)
     (reached' : List Bool) (parents' queue' : List ℕ) : Type 0 where
   pub reaches : (x : ℕ) → (bool_at reached' x || is_some (todo' x)) ≡ (bool_at reached x || is_some (todo x))
   pub parent : (x : ℕ) → cond (bool_at reached' x) (number_at parents' x) (unwrap_or (todo' x) (number_at parents' x))

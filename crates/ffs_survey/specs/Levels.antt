@@ -3,15 +3,15 @@ use Rattle.std.specs.Prelude.{◌≡◌, ℕ, ◌+◌, ◌<◌, ◌≤◌, ◌==
 use Rattle.ffs_volume.specs.Directories.Roles.{RoledEntry}
 use Rattle.ffs_survey.specs.Survey.{bool_at, number_at, graph_with}
 use Rattle.ffs_survey.specs.Calm.{are_calm, AreCalm, IsFlagged}
-use Rattle.ffs_survey.specs.Discover.{Found, Comes, Counts, AtLevel, IsReachedPart, from_entries, from_dirs, nothing}
+use Rattle.ffs_survey.specs.Discover.{Found, SameResult, Counts, AtLevel, IsReachedPart, from_entries, from_dirs, nothing}
 use Rattle.ffs_survey.specs.Discover.{count_in, any_in, count_of, any_of, none, never, is_unreached_dir, unset, HasRoomForLevel}
 use Rattle.ffs_survey.specs.Lists.{GrowsBy}
 
 -- the reached directory d with these entries is read
 pub record ReadsReached (kinds : List ℕ) (marked : List Bool) (d : ℕ) (entries : List RoledEntry) (right_shape : Bool)
     (old new : Found) : Type 0 where
-  pub comes : Comes (from_entries kinds d entries) old.reached old.parents old.queue nothing new.reached new.parents
-      new.queue
+  pub same_result : SameResult (from_entries kinds d entries) old.reached old.parents old.queue nothing new.reached
+      new.parents new.queue
   pub counts : Counts (length kinds) (count_in entries) (any_in entries) old.references old.named none never
       new.references new.named
   pub calm : IsFlagged d (are_calm (record {
@@ -52,8 +52,8 @@ CountsDirs kinds entries dirs old new =
 -- these reached directories are read
 pub record ReadsDirs (kinds : List ℕ) (marked : List Bool) (dirs : List ℕ) (entries : ℕ → List RoledEntry)
     (right_shape : ℕ → Bool) (old new : Found) : Type 0 where
-  pub comes : Comes (from_dirs (graph_with kinds entries) dirs) old.reached old.parents old.queue nothing new.reached
-      new.parents new.queue
+  pub same_result : SameResult (from_dirs (graph_with kinds entries) dirs) old.reached old.parents old.queue nothing
+      new.reached new.parents new.queue
   pub counts : CountsDirs kinds entries dirs old new
   pub calm : StayCalm kinds marked entries right_shape old new
 

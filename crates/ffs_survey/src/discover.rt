@@ -10,7 +10,7 @@ ghost use Rattle.ffs_survey.specs.Lent.{all_found, found_up_to, current_of, Same
 ghost use Rattle.ffs_survey.specs.Levels.{Discovers, ReadsReached, ReadsDirs, ReadsUnreached};
 ghost use Rattle.ffs_survey.specs.Survey.{bool_at, number_at};
 ghost use Rattle.ffs_survey.specs.Calm.{is_calm_kind, is_calm_plain, is_calm_entry, IsFlagged};
-ghost use Rattle.ffs_survey.specs.Discover.{unset, Extends, IsCounted, Comes, from_entries, nothing, none, Counts, IsReachedDir, is_unreached_dir as is_unreached_dir_at};
+ghost use Rattle.ffs_survey.specs.Discover.{unset, Extends, IsCounted, SameResult, from_entries, nothing, none, Counts, IsReachedDir, is_unreached_dir as is_unreached_dir_at};
 
 use crate::directories::Directories;
 use crate::entry_head::{EntryHead, is_counted, is_plain};
@@ -69,13 +69,12 @@ fn is_new(entry: EntryHead, kinds: &[u8], lists: &Lists) -> bool
 }
 
 /// Discovers what an entry of the current directory names: flags it as reached, gives it its
-/// parent and puts it into the queue, whose last one is before `top`. Returns where the queue ends
-/// then.
+/// parent and puts it into the queue. `top` is where the queue ends; returns where it ends then.
 fn visit(entry: EntryHead, current: &CurrentDir, lists: &mut Lists, top: usize) -> usize
     requires kinds { current.now.kinds.now ≡ lists.old.kinds.now }
     requires room { HasRoomAfter top lists.old }
     ensures top { result + unset lists.new.reached.now ≡ top + unset lists.old.reached.now }
-    ensures comes { Comes
+    ensures same_result { SameResult
         (from_entries lists.old.kinds.now current.now.dir (roled_of entry [] ∷ []))
         lists.old.reached.now lists.old.parents.now.items (take top lists.old.queue.now.items)
         nothing lists.new.reached.now lists.new.parents.now.items
@@ -172,7 +171,8 @@ fn flag_calm<D: Directories>(
 
 /// Reads the directory `from` of a level: counts its entries, discovers what they name, and flags
 /// it in `calm` if nothing can be reported of it. No count grows by more than 2^28, since a
-/// directory has fewer entries (`Directories::start`).
+/// directory has fewer entries (`Directories::start`). Any bound far above all entries, and far
+/// below 2^64, serves for the counts before (2^60).
 fn read_reached<D: Directories>(
     directories: &mut D,
     from: u32,

@@ -3,7 +3,7 @@
 ghost use Rattle.std.specs.Prelude.{◌≡◌, ◌≤◌, ℕ, true, Option};
 ghost use Rattle.ffs_volume.specs.declared.Layout.{Layout};
 ghost use Rattle.ffs_volume.specs.Disk.Areas.{is_run_in_range as is_in_range_of};
-ghost use Rattle.ffs_volume.specs.Encodings.Replay.{is_replay_open as is_seen_in, fresh_replay};
+ghost use Rattle.ffs_volume.specs.Encodings.Replay.{is_replay_open, fresh_replay};
 
 use ffs_volume::constants::MAXBAD;
 
@@ -37,7 +37,7 @@ impl Keeping {
 
     /// Whether the inode isn't cut yet, so that its next step is seen.
     pub fn is_replay_open(&self) -> bool
-        ensures { result ≡ is_seen_in self.now.cut (replay_in self.now) }
+        ensures { result ≡ is_replay_open self.now.cut (replay_in self.now) }
     {
         self.bad <= MAXBAD && (self.cut == 0 || self.kept < self.cut)
     }
@@ -45,7 +45,7 @@ impl Keeping {
     /// Sees a Run of `len` fragments, in range or not. Returns how many of its offers are kept: the
     /// first ones. The Run is kept as a step where all are.
     pub fn take(&mut self, len: u32, in_range: bool) -> u32
-        requires { is_seen_in self.old.cut (replay_in self.old) ≡ true }
+        requires { is_replay_open self.old.cut (replay_in self.old) ≡ true }
         ensures replays { (layout : Layout) (start : ℕ) (block : Option ℕ)
             → in_range ≡ is_in_range_of layout start len
             → Replays layout start len block self.old self.new result }

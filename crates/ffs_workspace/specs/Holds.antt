@@ -45,9 +45,9 @@ pub record IsFresh (v : Layout) (w : Workspace) : Type 0 where
 abbrev pub has_blame : Claims → Bool
 has_blame s = not (s.bad == 0 && s.dups == 0)
 
--- the inode x is of class Unknown, or has a bad Run or a dup offer
-unfoldable pub first_marked_at : Layout → List ℕ → ℕ → Bool
-first_marked_at v image x =
+-- phase 1 marks the inode x: it is of class Unknown, or has a bad Run or a dup offer
+unfoldable pub marked_by_phase1_at : Layout → List ℕ → ℕ → Bool
+marked_by_phase1_at v image x =
     if is_inode_number v x
     then is_unknown (class_of v (inode_of v image x))
     || has_blame (after_owner v (claims_before v image x) (owner_of v image x))
@@ -64,7 +64,7 @@ pub record HoldsPhase1 (v : Layout) (image : List ℕ) (w : Workspace) : Type 0 
   pub dup : bits_of w.duplicates ≡ (all_claims v image).dup
   pub runs : w.runs_seen ≡ (all_claims v image).runs
   pub kinds : (x : ℕ) → slice_index w.kinds.items x ≡ kind_at v image x
-  pub marked : (x : ℕ) → bool_at w.marked.items x ≡ first_marked_at v image x
+  pub marked : (x : ℕ) → bool_at w.marked.items x ≡ marked_by_phase1_at v image x
   pub notes : (x : ℕ) → slice_index w.notes.items x ≡ note_at v image x
   pub starts : (x : ℕ) → slice_index w.references.items x ≡ start_at v image x
 

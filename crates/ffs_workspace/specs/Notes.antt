@@ -11,7 +11,8 @@ use Rattle.ffs_volume.specs.Directories.Volumes.{class_at}
 use Rattle.ffs_volume.specs.Encodings.Replay.{cut_at}
 
 -- notes from this number on are addresses, from 0 on. No inode keeps so many offers: it keeps at most 99 more than the
--- volume has fragments, of which there are fewer than 2^31
+-- volume has fragments, of which there are fewer than 2^31. The 99 are 8 for each of eleven bad Runs, and eleven dup
+-- offers (`offers_potential`)
 abbrev pub first_noted : ℕ
 first_noted = 2 ^ 31 + 128
 

@@ -43,7 +43,8 @@ abbrev pub ArePlaces : Layout → List ℕ → (words : List ℕ) → Type 0
 ArePlaces v b words = (x p k : ℕ) → place_in (slice_index words x) ≡ suc k
     → parent (graph_of (volume_of v b)) x ≡ Some p → IsPlaceOf v b p x k
 
--- each chunk of the volume has a number for which a word has room: it has less than 2^40 bytes
+-- Each chunk of the volume has a number for which a word has room: there are fewer than 2^31 chunks, of 2^9 bytes each.
+-- So the volume has less than 2^40 bytes.
 abbrev pub AreChunksNumbered : Layout → Type 0
 AreChunksNumbered v = v.size * v.fsize ≤ DIRBLKSIZ * (2 ^ 31 - 1)
 

@@ -7,7 +7,8 @@ use ffs_volume::constants::DIRBLKSIZ;
 use ffs_volume::{Class, Inode};
 
 /// Notes from this number on are addresses, counted from here. No inode keeps so many offers: it
-/// keeps at most 99 more than the volume has fragments, of which there are fewer than 2^31.
+/// keeps at most 99 more than the volume has fragments, of which there are fewer than 2^31. The 99
+/// are 8 for each of eleven bad Runs, and eleven dup offers (`offers_potential`).
 const FIRST_NOTED: u32 = (1 << 31) + 128;
 
 /// Only addresses below this one are noted, so that each note fits 32 bits.

@@ -45,10 +45,12 @@ pub struct Workspace {
     pub named: FixedList<bool>,
     /// The directories that are reached from the root.
     pub reached: FixedList<bool>,
-    /// Flags that the survey and phases 2 and 3 use one after another: the calm directories; in
-    /// phase 2, of suspect inodes (marked ones and directories of size 0), those that a plain entry
-    /// has named, and of others still the calm directories; in phase 3 the least directory of each
-    /// cycle of parents.
+    /// Flags that are used one after another:
+    ///
+    /// - The survey flags the calm directories.
+    /// - Phase 2 clears the flag of each suspect inode (a marked one, or a directory of size 0),
+    ///   and then flags those of them that a plain entry has named. Other flags stay.
+    /// - Phase 3 flags the least directory of each cycle of parents.
     pub flags: FixedList<bool>,
     /// How many entries refer to each inode, counted on from `links_start`.
     pub references: FilledList<u64>,
@@ -57,9 +59,12 @@ pub struct Workspace {
     pub notes: FilledList<u32>,
     /// The parent of each directory, or 0.
     pub parents: FilledList<u32>,
-    /// Words that the survey and phases 2 and 3 use one after another: the directories of a level
-    /// that are still to be read; in phase 2, of each directory, where its parent entry is
-    /// (`noted_chunk`), and whether that is due; in phase 3 which walk over parents met it.
+    /// Numbers of 32 bits that are used one after another:
+    ///
+    /// - The survey's queue: the directories of a level that are still to be read.
+    /// - In phase 2 a word of each directory: where its parent entry is (`noted_chunk`), and
+    ///   whether that is due. There the list is lent as `words`.
+    /// - In phase 3 which walk over parents met each directory. There it is lent as `walk_of`.
     pub queue: FilledList<u32>,
     /// How many Runs phase 1 has looked at.
     pub runs_seen: u64,
@@ -166,7 +171,8 @@ impl Workspace {
         maps + lists + buffers as u64
     }
 
-    /// Whether some fragment has a DUP line and its first kept offer isn't reported yet.
+    /// Whether some fragment has a DUP line and its first kept offer isn't reported yet: this asks
+    /// `duplicates`, not the count `dups`.
     pub fn has_dups(&self) -> bool
         ensures { result ≡ has_dups self.now }
     {

@@ -10,7 +10,7 @@ use Rattle.ffs_volume.specs.Messages.Kinds.{Message, phase1}
 use Rattle.ffs_volume.specs.Blocks.Owners.{owner_of, owners_of}
 use Rattle.ffs_workspace.specs.Notes.{note_at}
 use Rattle.ffs_volume.specs.Report.Whole.{run_count}
-use Rattle.ffs_workspace.specs.Holds.{claims_of, all_claims, first_marked_at}
+use Rattle.ffs_workspace.specs.Holds.{claims_of, all_claims, marked_by_phase1_at}
 use Rattle.ffs_volume.specs.Encodings.Kinds.{kind_at}
 use Rattle.ffs_volume.specs.Encodings.Links.{start_at}
 use Rattle.ffs_volume.proofs.OwnerLaws.{before_next}
@@ -56,7 +56,7 @@ loop-number-init g c =
       claims = λ bytes k. c.reserve.ensures.claims k.1 ∙ sym (before_first v bytes);
       kinds = λ bytes k. filled_begin 0 (kind_at v bytes) c.reserve.new.workspace.kinds.items (inodes_of v)
           (ap (λ w. w.items) found.kinds ∙ k.1.kinds) (λ x low. kind_out v bytes x (is_outside v x (inl low)));
-      marked = λ bytes k. filled_begin false (first_marked_at v bytes) c.reserve.new.workspace.marked.items
+      marked = λ bytes k. filled_begin false (marked_by_phase1_at v bytes) c.reserve.new.workspace.marked.items
           (inodes_of v) (ap (λ w. w.items) found.marked ∙ k.1.marked)
           (λ x low. mark_out v bytes x (is_outside v x (inl low)));
       notes = λ bytes k. filled_begin 0 (note_at v bytes) c.reserve.new.workspace.notes.items (inodes_of v)
@@ -143,7 +143,7 @@ loop-number-preserved g c =
           c.claim_inode.new.workspace.kinds.items n _
           (omega (arith, inv.ready.ready.made.kinds)) (stored bytes (contents ∙ k.0)).kinds (kind_in v bytes n inside)
           (inv.kinds bytes k);
-      marked = λ bytes k. filled_next false (first_marked_at v bytes) c.loop-number.workspace.marked.items
+      marked = λ bytes k. filled_next false (marked_by_phase1_at v bytes) c.loop-number.workspace.marked.items
           c.claim_inode.new.workspace.marked.items n _
           (omega (arith, inv.ready.ready.made.marked)) (stored bytes (contents ∙ k.0)).marked
           (mark_in v bytes n s s' inside (inv.claims bytes k) (now bytes (contents ∙ k.0))) (inv.marked bytes k);
@@ -193,7 +193,7 @@ returns-clause-holds g c = λ bytes k.
       runs = ap (λ s. s.runs) all;
       kinds = filled_end 0 (kind_at v bytes) _ n (inodes_of v) past
           (λ x high. kind_out v bytes x (is_outside v x (inr high))) (inv.kinds bytes k);
-      marked = filled_end false (first_marked_at v bytes) _ n (inodes_of v) past
+      marked = filled_end false (marked_by_phase1_at v bytes) _ n (inodes_of v) past
           (λ x high. mark_out v bytes x (is_outside v x (inr high))) (inv.marked bytes k);
       notes = filled_end 0 (note_at v bytes) _ n (inodes_of v) past
           (λ x high. note_out v bytes x (is_outside v x (inr high))) (inv.notes bytes k);

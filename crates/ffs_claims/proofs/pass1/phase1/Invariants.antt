@@ -9,7 +9,7 @@ use Rattle.ffs_volume.specs.Blocks.Owners.{owners_of}
 use Rattle.ffs_workspace.specs.Notes.{note_at}
 use Rattle.ffs_volume.specs.Laws.ClaimBounds.{used_bits}
 use Rattle.ffs_workspace.specs.Found.{WithFresh}
-use Rattle.ffs_workspace.specs.Holds.{claims_of, first_marked_at}
+use Rattle.ffs_workspace.specs.Holds.{claims_of, marked_by_phase1_at}
 use Rattle.ffs_volume.specs.Encodings.Kinds.{kind_at}
 use Rattle.ffs_volume.specs.Encodings.Links.{start_at}
 use Rattle.ffs_workspace.specs.Lengths.{inodes_of}
@@ -33,7 +33,7 @@ invariant-loop-number g l = record {
   kinds : ForBytes (WithFresh l.geometry.layout (g.I.Image.device l.fn.image) l.fn.workspace) (λ bytes.
       FilledTo 0 (kind_at l.geometry.layout bytes) l.workspace.kinds.items l.number);
   marked : ForBytes (WithFresh l.geometry.layout (g.I.Image.device l.fn.image) l.fn.workspace) (λ bytes.
-      FilledTo false (first_marked_at l.geometry.layout bytes) l.workspace.marked.items l.number);
+      FilledTo false (marked_by_phase1_at l.geometry.layout bytes) l.workspace.marked.items l.number);
   notes : ForBytes (WithFresh l.geometry.layout (g.I.Image.device l.fn.image) l.fn.workspace) (λ bytes.
       FilledTo 0 (note_at l.geometry.layout bytes) l.workspace.notes.items l.number);
   starts : ForBytes (WithFresh l.geometry.layout (g.I.Image.device l.fn.image) l.fn.workspace) (λ bytes.

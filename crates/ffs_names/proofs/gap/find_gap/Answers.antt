@@ -9,7 +9,7 @@ use Rattle.ffs_names.proofs.gap.find_gap.Goals as goal
 pub runs-init : goal.runs-init
 runs-init g c = record {
   same = refl;
-  kept = record { geometry = refl; cut = refl; taken = refl; budget = refl; runs = no_more _ };
+  kept = record { geometry = refl; cut = refl; bytes_to_read = refl; budget = refl; runs = no_more _ };
   ready = c.requires;
   gap = λ b t. refl;
   reads = λ w h b t. (omega arith, h);
@@ -30,7 +30,7 @@ runs-preserved g c =
       kept = record {
         geometry = same.geometry;
         cut = same.cut;
-        taken = same.taken;
+        bytes_to_read = same.bytes_to_read;
         budget = same.budget;
         runs = same.runs;
       };

@@ -2,7 +2,7 @@ use Rattle.std.proofs.Common.{◌∙◌, ap, map, arith, length}
 use Rattle.std.proofs.lemmas.Result.{err_from_is_err_and}
 use Rattle.ffs_volume.specs.Messages.Kinds.{of_tree}
 use Rattle.ffs_report.proofs.Reporting.{of_begins, of_reads}
-use Rattle.ffs_pathnames.specs.declared.examine.DirectorySummary.{DirectorySummary}
+use Rattle.ffs_pathnames.specs.declared.examine.Examination.{Examination}
 use Rattle.ffs_pathnames.proofs.Begun.{said_same, fault_same, image_same, starts_are, begun_is}
 use Rattle.ffs_pathnames.proofs.Passing.{knows_on}
 use Rattle.ffs_workspace.proofs.Leaving.{leaves_more, survey_left, windows_leave}
@@ -30,7 +30,7 @@ returns-in_err-report_header-clause-text g c =
     let p = err_from_is_err_and c.from_residual-in_err-report_header.result
     c.from_residual-in_err-report_header.ensures.1 in
     let v = c.args.geometry.now.layout in
-    rw (p.1, p.2) (fault_same (Unit {0}) DirectorySummary _ _ _ _ _ _ c.in_err-report_header.field-0.0
+    rw (p.1, p.2) (fault_same (Unit {0}) Examination _ _ _ _ _ _ c.in_err-report_header.field-0.0
     (λ b k. (
       knows_on v _ _ c.args.workspace.now c.examine.new.workspace c.args.dir b
           (ap (λ d. d.contents) c.in_ok-examined.ensures.leaves.read) c.in_ok-examined.ensures.leaves.lists.survey k,
@@ -105,7 +105,7 @@ returns-in_err-report_header-clause-leaves g c =
     let p = err_from_is_err_and c.from_residual-in_err-report_header.result
     c.from_residual-in_err-report_header.ensures.1 in
     rw (p.1, p.2) (record {
-      image = image_same (Unit {0}) DirectorySummary _ _ _ c.in_err-report_header.field-0.0 one.read two.image;
+      image = image_same (Unit {0}) Examination _ _ _ c.in_err-report_header.field-0.0 one.read two.image;
       survey = leaves_more _ _ _ one.lists.survey (windows_leave _ _ two.lists);
       places = keep_more _ _ _ one.lists.places (windows_keep c.examine.new.workspace c.report_header.new.workspace
           two.lists);

@@ -7,7 +7,7 @@ use Rattle.ffs_volume.specs.Directories.Volumes.{volume_of}
 use Rattle.ffs_report.specs.PhaseOutcome.{ImageAfter}
 use Rattle.ffs_report.proofs.Reporting.{of_begins, of_part, of_fault, of_last, said_knows, reports_knowing}
 use Rattle.ffs_workspace.proofs.Leaving.{leaves_more}
-use Rattle.ffs_pathnames.specs.declared.examine.DirectorySummary.{DirectorySummary}
+use Rattle.ffs_pathnames.specs.declared.examine.Examination.{Examination}
 use Rattle.ffs_pathnames.specs.Begins.{dir_starts}
 use Rattle.ffs_pathnames.specs.Gathers.{passed_of}
 use Rattle.ffs_pathnames.specs.PassedNames.{entries_reported}
@@ -28,13 +28,13 @@ returns-in_err-examined-clause-text g c =
     let p = err_from_is_err_and c.from_residual.result c.from_residual.ensures.1 in
     let v = c.args.geometry.now.layout in
     let all = λ (b : List ℕ). map of_tree (sized_dir_lines (volume_of v b) c.args.dir) in
-    rw (p.1, p.2) (of_fault DirectorySummary (Unit {0}) _ all
+    rw (p.1, p.2) (of_fault Examination (Unit {0}) _ all
     (λ b. map of_tree (dir_starts (volume_of v b) c.args.dir))
     (λ b. map of_tree (lines_of_entries (volume_of v b) c.args.dir 0 (roled_entries (volume_of v b) c.args.dir))) all _
     _ _ c.in_err-examined.field-0.0 (of_begins _ all _)
     (λ b k. lines_parts (volume_of v b) c.args.dir
     (lines_of_entries (volume_of v b) c.args.dir 0 (roled_entries (volume_of v b) c.args.dir)) refl)
-    (reports_knowing DirectorySummary _ _ _ _ _ (Err c.in_err-examined.field-0.0) (λ b k. k.0)
+    (reports_knowing Examination _ _ _ _ _ (Err c.in_err-examined.field-0.0) (λ b k. k.0)
     c.in_err-examined.ensures.text))
 
 pub returns-then-examined-clause-text : goal.returns-then-examined-clause-text

@@ -1,6 +1,6 @@
 use Rattle.std.proofs.Common.{◌≡◌, ◌<◌, ℕ, List, arith, ap, rules, length, length-take, take, ◌∙◌}
 use Rattle.ffs_survey.proofs.Discovered.{level_step}
-use Rattle.ffs_survey.proofs.CalmLaws.{calm_read, comes_stays}
+use Rattle.ffs_survey.proofs.CalmLaws.{calm_read, same_result_stays}
 use Rattle.ffs_survey.specs.Survey.{number_at}
 use Rattle.ffs_survey.specs.Discover.{IsReachedDir}
 use Rattle.ffs_survey.specs.Lent.{Lent}
@@ -69,10 +69,10 @@ loop-at-preserved g c =
       grown = λ x l. let old = inv.grown x l in let new = found.grown x l in let f = inv.from in
           omega (arith, old, new, f);
       top = let t = found.ends in let i = inv.top in omega (arith, t, i);
-      comes = λ b k.
+      same_result = λ b k.
           level_step _ old.kinds.now (entries b)
           level at _ _ _ _ _ _ _ _ _
-          inside (still b k).dir (inv.comes b k) (read b k).comes;
+          inside (still b k).dir (inv.same_result b k) (read b k).same_result;
       counts = λ b k.
           dir_counted (length old.kinds.now) _ _ old.kinds.now
           (entries b) level
@@ -81,12 +81,13 @@ loop-at-preserved g c =
           (read b k).counts;
       still = λ b k i d l.
           let s = inv.still b k i d l in
-          record { dir = s.dir; is_reached = (comes_stays _ _ _ _ _ _ _ (read b k).comes).reached _ s.is_reached };
+          record { dir = s.dir; is_reached = (same_result_stays _ _ _ _ _ _ _ (read b k).same_result).reached _
+              s.is_reached };
       calm = λ b k before.
           calm_read old.kinds.now old.marked.now _ _ _ _ _ _
           (entries b)
           (right_shape b) _ _ _
-          (read b k).comes (still b k).is_reached (read b k).calm
+          (read b k).same_result (still b k).is_reached (read b k).calm
           (inv.calm b k before);
     }
 
@@ -101,7 +102,7 @@ returns-clause-found g c =
       read = λ b k.
           let none = empty_level c.loop-at.at c.args.high c.args.lists.now.queue.now.items (omega arith) in
           record {
-            comes = rw none at (inv.comes b k);
+            same_result = rw none at (inv.same_result b k);
             counts = rw none at (inv.counts b k);
             calm = inv.calm b k;
           };

@@ -1,7 +1,7 @@
 use Rattle.std.proofs.Common.{◌≡◌, ℕ, ◌+◌, ◌-◌, ◌*◌, ◌<◌, ◌≤◌, ◌^◌, List, length, take, drop, All}
 use Rattle.std.specs.List.{sum_by}
 use Rattle.ffs_survey.specs.Survey.{number_at, graph_with}
-use Rattle.ffs_survey.specs.Discover.{Extends, Comes, IsReachedDir, Counts, from_dirs, unset, count_of, any_of}
+use Rattle.ffs_survey.specs.Discover.{Extends, SameResult, IsReachedDir, Counts, from_dirs, unset, count_of, any_of}
 use Rattle.ffs_survey.specs.Calm.{AreCalm}
 use Rattle.ffs_survey.specs.Lent.{SameLists}
 use Rattle.ffs_survey.proofs.discover.read_level.Given as goal
@@ -26,7 +26,7 @@ invariant-loop-at g l =
       grown : (x : ℕ) → x < length old.kinds.now → number_at l.lists.references.now.items x
           ≤ number_at old.references.now.items x + (l.at - l.low) * 2 ^ 28;
       top : l.top + unset l.lists.reached.now ≡ l.high + unset old.reached.now;
-      comes : (b : List ℕ) → knows b → Comes (from_dirs (graph b) (drop l.low level)) old.reached.now
+      same_result : (b : List ℕ) → knows b → SameResult (from_dirs (graph b) (drop l.low level)) old.reached.now
           old.parents.now.items level (from_dirs (graph b) (drop l.at level)) l.lists.reached.now
           l.lists.parents.now.items (take l.top l.lists.queue.now.items);
       counts : (b : List ℕ) → knows b → Counts (length old.kinds.now) (count_of (graph b) (drop l.low level))

@@ -34,7 +34,7 @@ loop-entry-preserved g c =
     let kinds : here.kinds.now ≡ old.kinds.now = ap (λ (x : Lent). x.kinds) inv.same.lent in
     let marked : here.marked.now ≡ old.marked.now = ap (λ (x : Lent). x.marked) inv.same.lent in
     let counted = c.count_entry.ensures.counted in
-    let comes = rw kinds at c.visit-high.ensures.comes in
+    let same_result = rw kinds at c.visit-high.ensures.same_result in
     let right : c.if-calm_so_far.calm_so_far ≡ (c.loop-entry.calm_so_far && is_calm_entry
     (current_in old c.args.from c.number_of-parent.result) (bool_at here.reached.now) c.loop-entry.count e)
     = elim c.if-calm_so_far.branch [
@@ -65,11 +65,11 @@ loop-entry-preserved g c =
           omega (arith, old, new, now, one, fell);
       counted = let n = inv.counted in omega (arith, n, fell);
       high = let h = c.visit-high.ensures.top in let i = inv.high in omega (arith, h, i);
-      comes = λ b k.
+      same_result = λ b k.
           entry_step _ old.kinds.now c.args.from e (g.D.Directories.rest c.next.new.self b) old.reached.now
           here.reached.now _ old.parents.now.items here.parents.now.items _ (take c.args.top old.queue.now.items)
           (take c.loop-entry.high here.queue.now.items) _
-          (rw (cut b k) at (inv.comes b k)) comes;
+          (rw (cut b k) at (inv.same_result b k)) same_result;
       counts = λ b k.
           rw (kept.references, kept.named)
           (entry_counted (length old.kinds.now) _ _ e (g.D.Directories.rest c.next.new.self b)
@@ -79,7 +79,7 @@ loop-entry-preserved g c =
           calm_step (current_in old c.args.from c.number_of-parent.result) here.reached.now _ here.parents.now.items _
           (take c.loop-entry.high here.queue.now.items) _ c.loop-entry.count e (g.D.Directories.rest c.next.new.self b)
           c.loop-entry.calm_so_far _ _
-          comes right
+          same_result right
           (rw (cut b k) at (inv.calm_so_far b k));
       right_shape = let s = rw inv.base at c.in_ok-entry.ensures.shape in λ b k. s b k ∙ inv.right_shape b k;
     }
@@ -106,9 +106,9 @@ returns-clause-found g c =
           here.parents.now.items (take c.args.top old.queue.now.items) (take c.loop-entry.high here.queue.now.items)
           (entries c.args.from) (g.D.Directories.rest c.loop-entry.directories b) c.args.from c.number_of-parent.result
           c.loop-entry.count c.loop-entry.calm_so_far
-          c.number_of-parent.ensures none (inv.comes b k) (inv.calm_so_far b k) in
+          c.number_of-parent.ensures none (inv.same_result b k) (inv.calm_so_far b k) in
           record {
-            comes = w.comes;
+            same_result = w.same_result;
             counts = rw none at (inv.counts b k);
             calm = subst (λ z. IsFlagged c.args.from z
                 (g.D.Directories.right_shape (g.D.Directories.base c.args.directories.now) b c.args.from) old.calm.now

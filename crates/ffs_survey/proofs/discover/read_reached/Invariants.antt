@@ -1,6 +1,6 @@
 use Rattle.std.proofs.Common.{◌≡◌, ℕ, ◌+◌, ◌<◌, ◌≤◌, ◌^◌, List, length, take, ◌&&◌}
 use Rattle.ffs_survey.specs.Survey.{number_at, bool_at}
-use Rattle.ffs_survey.specs.Discover.{Extends, Comes, Counts, from_entries, unset, count_in, any_in}
+use Rattle.ffs_survey.specs.Discover.{Extends, SameResult, Counts, from_entries, unset, count_in, any_in}
 use Rattle.ffs_survey.specs.Calm.{are_calm}
 use Rattle.ffs_survey.specs.Lent.{current_in, SameLists, HasRoomAfter}
 use Rattle.ffs_survey.proofs.discover.read_reached.Given as goal
@@ -30,7 +30,7 @@ invariant-loop-entry g l =
           number_at l.lists.references.now.items x + coming ≤ number_at old.references.now.items x + 2 ^ 28;
       counted : l.count + coming ≤ 2 ^ 28;
       high : l.high + unset l.lists.reached.now ≡ l.top + unset old.reached.now;
-      comes : (b : List ℕ) → knows b → Comes (from_entries old.kinds.now l.from (entries b)) old.reached.now
+      same_result : (b : List ℕ) → knows b → SameResult (from_entries old.kinds.now l.from (entries b)) old.reached.now
           old.parents.now.items (take l.top old.queue.now.items) (from_entries old.kinds.now l.from (rest b))
           l.lists.reached.now l.lists.parents.now.items (take l.high l.lists.queue.now.items);
       counts : (b : List ℕ) → knows b → Counts (length old.kinds.now) (count_in (entries b)) (any_in (entries b))

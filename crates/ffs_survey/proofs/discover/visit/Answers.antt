@@ -3,8 +3,8 @@ use Rattle.ffs_survey.specs.Reading.{roled_of}
 use Rattle.ffs_survey.proofs.Discovered.{visit_hit, visit_miss, unset-set, new_entry}
 use Rattle.ffs_survey.proofs.discover.visit.Goals as goal
 
-pub returns-then-not-is_new-clause-comes : goal.returns-then-not-is_new-clause-comes
-returns-then-not-is_new-clause-comes c =
+pub returns-then-not-is_new-clause-same_result : goal.returns-then-not-is_new-clause-same_result
+returns-then-not-is_new-clause-same_result c =
     visit_miss c.args.lists.now.kinds.now c.args.lists.now.reached.now c.args.lists.now.parents.now.items (take c.args.top c.args.lists.now.queue.now.items) c.args.current.now.dir
     (roled_of c.args.entry []) (sym c.is_new.ensures ∙ c.if-not-is_new.true)
 
@@ -24,8 +24,8 @@ returns-clause-top c =
     let u = unset-set c.args.lists.now.reached.now c.args.entry.number (omega (arith, b)) n.unmarked in
     omega (arith, u)
 
-pub returns-clause-comes : goal.returns-clause-comes
-returns-clause-comes c =
+pub returns-clause-same_result : goal.returns-clause-same_result
+returns-clause-same_result c =
     let n = new_entry c.args.lists.now.kinds.now c.args.lists.now.reached.now (roled_of c.args.entry [])
     (sym c.is_new.ensures ∙ c.if-not-is_new.false) in
     let b = n.below in

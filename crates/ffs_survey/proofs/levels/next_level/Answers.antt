@@ -1,11 +1,11 @@
 use Rattle.std.proofs.Common.{◌≡◌, ◌+◌, ◌++◌, take, drop, arith, sym, ◌∙◌, ap, subst, length}
 use Rattle.ffs_survey.specs.Survey.{graph_with}
-use Rattle.ffs_survey.specs.Discover.{Comes, Extends, LevelsKnown, from_dirs, nothing}
+use Rattle.ffs_survey.specs.Discover.{SameResult, Extends, LevelsKnown, from_dirs, nothing}
 use Rattle.ffs_survey.specs.Lent.{Lent}
 use Rattle.ffs_survey.proofs.CalmLaws.{frontier_reached}
 use Rattle.ffs_survey.proofs.Frontiers.{frontier_dirs, sane_of}
 use Rattle.ffs_survey.proofs.Lending.{queue_long}
-use Rattle.ffs_survey.proofs.Queues.{comes_after, is_extended, level_after, queue_parts, IsNextLevel}
+use Rattle.ffs_survey.proofs.Queues.{same_result_after, is_extended, level_after, queue_parts, IsNextLevel}
 use Rattle.ffs_survey.proofs.levels.next_level.Goals as goal
 
 pub read_level-requires-clause-room : goal.read_level-requires-clause-room
@@ -69,14 +69,15 @@ returns-clause-level g c =
           queue_parts high end new kept.ordered ∙ ap (λ z. z ++ drop high (take end new)) before in
           record {
             level = λ depth at.
-                let comes : Comes (from_dirs v xs) lists.reached.now lists.parents.now.items (take high old) nothing
-                after.reached.now after.parents.now.items (take end mid) = (found.read b k).comes in
+                let same_result : SameResult (from_dirs v xs) lists.reached.now lists.parents.now.items (take high
+                    old) nothing
+                after.reached.now after.parents.now.items (take end mid) = (found.read b k).same_result in
                 let n : IsNextLevel v (depth + 1) after.reached.now after.parents.now.items
                 (take high old) (drop high (take end new)) =
                 level_after v depth xs lists.reached.now after.reached.now lists.parents.now.items
                 after.parents.now.items (take high old) (drop high (take end mid)) (drop high (take end new))
                 (sane_of lists.kinds.now _ lists.long.some) at.frontier at.levels
-                (comes_after _ _ _ _ _ _ (take high old) (drop high (take end mid)) (rw parts at comes))
+                (same_result_after _ _ _ _ _ _ (take high old) (drop high (take end mid)) (rw parts at same_result))
                 sorted.moved sorted.rising in
                 record {
                   frontier = n.frontier;

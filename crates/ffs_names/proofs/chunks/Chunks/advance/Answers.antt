@@ -17,7 +17,7 @@ use Rattle.ffs_names.proofs.chunks.Chunks.advance.Goals as goal
 pub steps-init : goal.steps-init
 steps-init g c = record {
   continues = λ b t. continues_here b c.args.self.now;
-  same = record { geometry = refl; cut = refl; taken = refl; budget = refl; runs = no_more _ };
+  same = record { geometry = refl; cut = refl; bytes_to_read = refl; budget = refl; runs = no_more _ };
   ready = c.requires;
   device = refl;
   fewer = no_more _;
@@ -50,7 +50,7 @@ steps-preserved-in-Some-Tail g c =
     (ap (λ d. d.contents) i.device ∙ t) in
     record {
       continues = λ b t. continues_more b _ s _ _ (steps_left b s.walk) _ (i.continues b t) (record {
-        chunks = tail_on v w.geometry.layout b s.run_cursor s.taken s.keeping.cut r (steps_left b s.walk)
+        chunks = tail_on v w.geometry.layout b s.run_cursor s.bytes_to_read s.keeping.cut r (steps_left b s.walk)
             (steps_left b w) same (steps b t);
         runs = let e = runs_tail v w.geometry.layout s.keeping.cut r (steps_left b s.walk) (steps_left b w) same
             (steps b t) in counts_same _ _ (omega arith);
@@ -60,7 +60,7 @@ steps-preserved-in-Some-Tail g c =
       same = record {
         geometry = c.next.ensures.same.geometry ∙ i.same.geometry;
         cut = i.same.cut;
-        taken = i.same.taken;
+        bytes_to_read = i.same.bytes_to_read;
         budget = i.same.budget;
         runs = i.same.runs;
       };
@@ -126,7 +126,8 @@ steps-preserved g c =
     gap b t ∙ ap (λ (xs : List Step). Gap ∷ xs) (gaps b t) in
     record {
       continues = λ b t. continues_more b _ s _ _ (steps_left b s.walk) _ (i.continues b t) (record {
-        chunks = gaps_on v v' b s.run_cursor s.taken s.keeping.cut r n (steps_left b s.walk) (steps_left b w') same
+        chunks = gaps_on v v' b s.run_cursor s.bytes_to_read s.keeping.cut r n (steps_left b s.walk)
+            (steps_left b w') same
             (steps b t);
         runs = let e = runs_gaps v v' s.keeping.cut r n (steps_left b s.walk) (steps_left b w') same (steps b t) in
             counts_same _ _ (omega arith);
@@ -136,7 +137,7 @@ steps-preserved g c =
       same = record {
         geometry = c.skip_gaps.ensures.same.geometry ∙ c.next.ensures.same.geometry ∙ i.same.geometry;
         cut = i.same.cut;
-        taken = i.same.taken;
+        bytes_to_read = i.same.bytes_to_read;
         budget = i.same.budget;
         runs = i.same.runs;
       };
@@ -173,7 +174,7 @@ steps-preserved-in-Some-Run g c =
           let after = c.see.ensures.continues b (steps_left b w) in
           record {
             chunks = walked b c.see.new.self w c.see.ensures.walk
-                ∙ (after.chunks ∙ (steps_on v w.geometry.layout b s.run_cursor s.taken s.keeping.cut r
+                ∙ (after.chunks ∙ (steps_on v w.geometry.layout b s.run_cursor s.bytes_to_read s.keeping.cut r
                 (steps_left b s.walk) run same (steps b t) ∙ old.chunks));
             runs = let e = runs_on v w.geometry.layout s.keeping.cut r (steps_left b s.walk) run same (steps b t) in
                 let k = walked_runs b c.see.new.self w c.see.ensures.walk in
@@ -186,7 +187,7 @@ steps-preserved-in-Some-Run g c =
       same = record {
         geometry = c.see.ensures.same.geometry ∙ (c.next.ensures.same.geometry ∙ i.same.geometry);
         cut = c.see.ensures.same.cut ∙ i.same.cut;
-        taken = c.see.ensures.same.taken ∙ i.same.taken;
+        bytes_to_read = c.see.ensures.same.bytes_to_read ∙ i.same.bytes_to_read;
         budget = c.see.ensures.same.budget ∙ i.same.budget;
         runs = let one = i.same.runs in let two = c.see.ensures.same.runs in omega arith;
       };
@@ -213,7 +214,7 @@ returns-then-not-is_replay_open-clause-found g c = λ b t.
     let s = c.steps.self in
     let shut = sym c.is_replay_open.ensures ∙ c.if-not-is_replay_open.true in
     record {
-      chunks = unseen_none s.walk.geometry.layout b s.run_cursor s.taken s.keeping.cut (replay_in s.keeping)
+      chunks = unseen_none s.walk.geometry.layout b s.run_cursor s.bytes_to_read s.keeping.cut (replay_in s.keeping)
           (steps_left b s.walk) (omega (arith, c.steps-test.true)) shut;
       gap = gap_unseen s.walk.geometry.layout s.keeping.cut (replay_in s.keeping) (steps_left b s.walk) shut;
     }
@@ -242,7 +243,7 @@ returns-in-None-clause-continues g c = λ b t.
     let steps = (rw c.in-None.is at c.in_ok-next.ensures.step.steps) b (ap (λ d. d.contents) i.device ∙ t) ∙ sym
     (over_rest b w none) in
     continues_more b _ s _ _ (steps_left b s.walk) _ (i.continues b t) (record {
-      chunks = steps_on v w.geometry.layout b s.run_cursor s.taken s.keeping.cut r (steps_left b s.walk)
+      chunks = steps_on v w.geometry.layout b s.run_cursor s.bytes_to_read s.keeping.cut r (steps_left b s.walk)
           (steps_left b w) same steps;
       runs = let e = runs_on v w.geometry.layout s.keeping.cut r (steps_left b s.walk) (steps_left b w) same steps
           in counts_same _ _ (omega arith);
@@ -255,7 +256,8 @@ returns-in-None-clause-found g c = λ b t.
     let none = c.in_ok-next.ensures.step.over c.in-None.is in
     let over = over_rest b c.next.new.self none in
     record {
-      chunks = end_none c.next.new.self.geometry.layout b s.run_cursor s.taken s.keeping.cut (replay_in s.keeping)
+      chunks = end_none c.next.new.self.geometry.layout b s.run_cursor s.bytes_to_read s.keeping.cut
+          (replay_in s.keeping)
           (steps_left b c.next.new.self) (omega (arith, c.steps-test.true)) over;
       gap = ap (kept_gap c.next.new.self.geometry.layout s.keeping.cut (replay_in s.keeping)) over;
     }
@@ -263,28 +265,28 @@ returns-in-None-clause-found g c = λ b t.
 -- what is kept of the Run and of the sizes, after a step of the walk
 pub invariant_of-self-in-None : goal.invariant_of-self-in-None
 invariant_of-self-in-None g c = record {
-  taken_small = c.steps.self.taken_small;
+  bytes_to_read_small = c.steps.self.bytes_to_read_small;
   few = c.steps.self.few;
   cursor_fits = rw c.next.ensures.same.geometry c.steps.self.cursor_fits;
 }
 
 pub invariant_of-self-in-Some-Tail : goal.invariant_of-self-in-Some-Tail
 invariant_of-self-in-Some-Tail g c = record {
-  taken_small = c.steps.self.taken_small;
+  bytes_to_read_small = c.steps.self.bytes_to_read_small;
   few = c.steps.self.few;
   cursor_fits = rw c.next.ensures.same.geometry c.steps.self.cursor_fits;
 }
 
 pub invariant_of-self-in-Some-Gap : goal.invariant_of-self-in-Some-Gap
 invariant_of-self-in-Some-Gap g c = record {
-  taken_small = c.steps.self.taken_small;
+  bytes_to_read_small = c.steps.self.bytes_to_read_small;
   few = c.steps.self.few;
   cursor_fits = rw (c.skip_gaps.ensures.same.geometry ∙ c.next.ensures.same.geometry) c.steps.self.cursor_fits;
 }
 
 pub invariant_of-self : goal.invariant_of-self
 invariant_of-self g c = record {
-  taken_small = c.steps.self.taken_small;
+  bytes_to_read_small = c.steps.self.bytes_to_read_small;
   few = c.steps.self.few;
   cursor_fits = rw c.next.ensures.same.geometry c.steps.self.cursor_fits;
 }
@@ -326,7 +328,7 @@ returns-in-None-clause-leaves g c =
       same = record {
         geometry = c.next.ensures.same.geometry ∙ i.same.geometry;
         cut = i.same.cut;
-        taken = i.same.taken;
+        bytes_to_read = i.same.bytes_to_read;
         budget = i.same.budget;
         runs = i.same.runs;
       };
@@ -352,7 +354,7 @@ returns-in_err-next-clause-leaves g c =
       same = record {
         geometry = c.next.ensures.same.geometry ∙ i.same.geometry;
         cut = i.same.cut;
-        taken = i.same.taken;
+        bytes_to_read = i.same.bytes_to_read;
         budget = i.same.budget;
         runs = i.same.runs;
       };

@@ -9,9 +9,9 @@ use Rattle.ffs_names.proofs.chunks.Chunks.of_class.Goals as goal
 
 pub invariant_of-result : goal.invariant_of-result
 invariant_of-result c = record {
-  taken_small = c.taken_of-taken.ensures.small;
+  bytes_to_read_small = c.bytes_read-bytes_to_read.ensures.small;
   few = let t =
-      c.taken_of-taken.ensures.small in omega arith;
+      c.bytes_read-bytes_to_read.ensures.small in omega arith;
   cursor_fits = c.empty.ensures.fits c.of_class.result.geometry.layout;
 }
 
@@ -25,9 +25,9 @@ returns-clause-begins c = λ known.
     record {
       chunks = λ b size.
           begun v v' c.args.inode.now b c.args.cut c.start.result.cut (replay_in c.start.result)
-          c.taken_of-taken.result (cursor_chunks v' b c.empty.result) (steps_left b c.of_class.result)
+          c.bytes_read-bytes_to_read.result (cursor_chunks v' b c.empty.result) (steps_left b c.of_class.result)
           c.args.geometry.now.sound same c.start.ensures.cut c.start.ensures.fresh
-          (c.taken_of-taken.ensures.taken size) (c.empty.ensures.none v' b) (walk.steps b);
+          (c.bytes_read-bytes_to_read.ensures.value size) (c.empty.ensures.none v' b) (walk.steps b);
       runs = refl;
       runs_left = λ b. runs_begun v v' c.args.cut c.start.result.cut (replay_in c.start.result)
           (steps_left b c.of_class.result) (all b) same c.start.ensures.cut c.start.ensures.fresh

@@ -153,7 +153,7 @@ returns-clause-leaves g c =
       same = record {
         geometry = went.same.geometry;
         cut = went.same.cut;
-        taken = went.same.taken;
+        bytes_to_read = went.same.bytes_to_read;
         budget = went.same.budget;
         runs = went.same.runs;
       };

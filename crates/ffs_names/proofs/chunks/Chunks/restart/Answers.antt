@@ -17,9 +17,9 @@ returns-clause-begins c = λ known.
     record {
       chunks = λ b size.
           begun v v' c.args.inode.now b c.args.cut c.start-self.result.cut (replay_in c.start-self.result)
-          c.taken_of-taken.result (cursor_chunks v' b c.empty-self.result) (steps_left b c.restart.new.self)
+          c.bytes_read-bytes_to_read.result (cursor_chunks v' b c.empty-self.result) (steps_left b c.restart.new.self)
           c.args.self.now.walk.geometry.sound same c.start-self.ensures.cut c.start-self.ensures.fresh
-          (c.taken_of-taken.ensures.taken size) (c.empty-self.ensures.none v' b) (walk.steps b);
+          (c.bytes_read-bytes_to_read.ensures.value size) (c.empty-self.ensures.none v' b) (walk.steps b);
       runs = refl;
       runs_left = λ b. runs_begun v v' c.args.cut c.start-self.result.cut (replay_in c.start-self.result)
           (steps_left b c.restart.new.self) (all b) same c.start-self.ensures.cut c.start-self.ensures.fresh
@@ -32,8 +32,8 @@ returns-clause-begins c = λ known.
 
 pub invariant_of-self : goal.invariant_of-self
 invariant_of-self c = record {
-  taken_small = c.taken_of-taken.ensures.small;
-  few = omega (arith, c.taken_of-taken.ensures.small);
+  bytes_to_read_small = c.bytes_read-bytes_to_read.ensures.small;
+  few = omega (arith, c.bytes_read-bytes_to_read.ensures.small);
   cursor_fits = c.empty-self.ensures.fits c.restart.new.self.geometry.layout;
 }
 

@@ -17,11 +17,12 @@ returns-in-Some-clause-continues c = λ b steps.
     let after = replays.after in
     let whole : (c.take.result == c.args.len) ≡ true = grind (arith, nat_tests) in
     record {
-      chunks = run_continues v b s.run_cursor c.of_run-self.result s.taken s.keeping.cut c.take.new.self.cut
+      chunks = run_continues v b s.run_cursor c.of_run-self.result s.bytes_to_read s.keeping.cut c.take.new.self.cut
           (replay_in s.keeping) (replay_in c.take.new.self) steps c.args.start c.args.len c.args.block
           (c.take.result == c.args.len)
           c.requires.empty kept after c.take.ensures.cut
-          (kept_run v b s.taken c.args.start c.args.len c.in-Some.block c.args.block (c.take.result == c.args.len)
+          (kept_run v b s.bytes_to_read c.args.start c.args.len c.in-Some.block c.args.block
+              (c.take.result == c.args.len)
           c.in_range-in_range.result _
           c.in-Some.is whole c.if-not-in_range.false c.in_range-in_range.ensures
           (c.of_run-self.ensures.chunks b));
@@ -42,11 +43,12 @@ returns-in_default-clause-continues c = λ b steps.
     let kept = replays.kept in
     let after = replays.after in
     record {
-      chunks = run_continues v b s.run_cursor s.run_cursor s.taken s.keeping.cut c.take.new.self.cut
+      chunks = run_continues v b s.run_cursor s.run_cursor s.bytes_to_read s.keeping.cut c.take.new.self.cut
           (replay_in s.keeping) (replay_in c.take.new.self) steps c.args.start c.args.len c.args.block
           (c.take.result == c.args.len)
           c.requires.empty kept after c.take.ensures.cut
-          (no_block_run v b s.taken c.args.start c.args.len c.args.block (c.take.result == c.args.len) _ c.in_default.is
+          (no_block_run v b s.bytes_to_read c.args.start c.args.len c.args.block
+              (c.take.result == c.args.len) _ c.in_default.is
           (no_run_cursor v b s.run_cursor c.requires.empty));
       runs = runs_seen v s.keeping.cut c.take.new.self.cut (replay_in s.keeping) (replay_in c.take.new.self) steps
           c.args.start c.args.len c.args.block s.runs c.saturating_add-self.result
@@ -66,11 +68,11 @@ returns-then-take-len-clause-continues c = λ b steps.
     let after = replays.after in
     let part : (c.take.result == c.args.len) ≡ false = grind (arith, nat_tests) in
     record {
-      chunks = run_continues v b s.run_cursor s.run_cursor s.taken s.keeping.cut c.take.new.self.cut
+      chunks = run_continues v b s.run_cursor s.run_cursor s.bytes_to_read s.keeping.cut c.take.new.self.cut
           (replay_in s.keeping) (replay_in c.take.new.self) steps c.args.start c.args.len c.args.block
           (c.take.result == c.args.len)
           c.requires.empty kept after c.take.ensures.cut
-          (no_kept_run v b s.taken c.args.start c.args.len c.args.block (c.take.result == c.args.len) _ part
+          (no_kept_run v b s.bytes_to_read c.args.start c.args.len c.args.block (c.take.result == c.args.len) _ part
           (no_run_cursor v b s.run_cursor c.requires.empty));
       runs = runs_seen v s.keeping.cut c.take.new.self.cut (replay_in s.keeping) (replay_in c.take.new.self) steps
           c.args.start c.args.len c.args.block s.runs c.saturating_add-self.result
@@ -89,11 +91,11 @@ returns-then-not-in_range-clause-continues c = λ b steps.
     let kept = replays.kept in
     let after = replays.after in
     record {
-      chunks = run_continues v b s.run_cursor s.run_cursor s.taken s.keeping.cut c.take.new.self.cut
+      chunks = run_continues v b s.run_cursor s.run_cursor s.bytes_to_read s.keeping.cut c.take.new.self.cut
           (replay_in s.keeping) (replay_in c.take.new.self) steps c.args.start c.args.len c.args.block
           (c.take.result == c.args.len)
           c.requires.empty kept after c.take.ensures.cut
-          (no_data_run v b s.taken c.args.start c.args.len c.args.block (c.take.result == c.args.len)
+          (no_data_run v b s.bytes_to_read c.args.start c.args.len c.args.block (c.take.result == c.args.len)
           c.in_range-in_range.result _
           c.if-not-in_range.true c.in_range-in_range.ensures (no_run_cursor v b s.run_cursor c.requires.empty));
       runs = runs_seen v s.keeping.cut c.take.new.self.cut (replay_in s.keeping) (replay_in c.take.new.self) steps

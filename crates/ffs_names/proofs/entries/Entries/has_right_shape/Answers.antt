@@ -24,7 +24,7 @@ returns-then-not-self-clause-shape g c = λ b t ended. rw c.if-not-self.true ref
 
 pub returns-then-not-self-clause-leaves : goal.returns-then-not-self-clause-leaves
 returns-then-not-self-clause-leaves g c = record {
-  same = record { geometry = refl; cut = refl; taken = refl; budget = refl; runs = no_more _ };
+  same = record { geometry = refl; cut = refl; bytes_to_read = refl; budget = refl; runs = no_more _ };
   ready = c.requires;
   read = refl;
 }

@@ -5,7 +5,7 @@ use Rattle.std.proofs.lemmas.Result.{err_from_is_err_and}
 use Rattle.ffs_volume.specs.declared.texts.TheConstants as texts
 use Rattle.ffs_report.specs.Sink.{BrokeOff, Prints}
 use Rattle.ffs_report.proofs.Sinks.{prints_then, broke_off_more}
-use Rattle.ffs_report.proofs.say.print_claim.Goals as goal
+use Rattle.ffs_report.proofs.say.print_offer.Goals as goal
 
 -- two numbers, each with the text after it
 two_counts : (a b c d : List ℕ) → (a ++ b) ++ (c ++ d) ≡ concat (a ∷ b ∷ c ∷ d ∷ [])
