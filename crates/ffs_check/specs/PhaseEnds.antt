@@ -45,8 +45,8 @@ SaysReadFault old new sector end = LineEnds old new (cannot_read sector) (ReadFa
 abbrev pub SaysRefusal : Progress → Progress → End → Type 0
 SaysRefusal old new end = LineEnds old new cannot_alloc NoMemory end
 
--- the end that an answer of the phases makes, by the defects of this report, and of an opening that another report said
--- before it (`had_defect`); a failed read is said
+-- the end that an answer of the phases makes, by the defects of this report and of the opening's, which is a report of
+-- its own; a failed read is said
 abbrev pub EndsAs : Bool → Progress → Progress → Result Root RunFault → End → Type 0
 EndsAs had_defect old new (Ok root) end = (new ≡ old) × (end ≡ end_by (is_go root) (had_defect || old.defect))
 EndsAs had_defect old new (Err (Read fault)) end = SaysReadFault old new fault.sector end

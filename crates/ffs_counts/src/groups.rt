@@ -23,9 +23,9 @@ const RECORDS_AT_ONCE: u32 = 256;
 /// The bytes of one of them.
 const RECORD_SIZE: usize = CSUM_SIZE as usize;
 
-/// Reads the summary record of a group with those round it, unless the window holds them: 256
-/// records, or those that are left. `forget` drops the inodes that the table knew; the window below
-/// it still knows its bytes. Returns where the group's record begins in the window, in bytes.
+/// Reads the summary record of a group with those round it: 256 records, or those that are left.
+/// Where the window has these bytes already, nothing is read (`Window::fill`). Returns where the
+/// group's record begins in the window, in bytes.
 fn read_summaries<I: Image>(
     geometry: &Geometry,
     image: &mut I,

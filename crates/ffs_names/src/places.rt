@@ -179,7 +179,7 @@ fn chunks_of<I: Image>(
         return Ok(Chunks::of_class(geometry, &inode, Class::Dir, 0));
     }
     let inode = table.inode_by_part(geometry, dir, image)?;
-    // A note that is no address is the inode's cut.
+    // A note that is no address is a cut.
     Ok(Chunks::of_class(geometry, &inode, Class::Dir, note))
 }
 

@@ -111,7 +111,7 @@ impl<I: Image> Directories for DirectoryReader<'_, I> {
             .windows
             .table
             .inode_by_part(&self.geometry, dir, self.image)?;
-        // A note that is no address is the inode's cut.
+        // A note that is no address is a cut.
         self.entries.restart(&inode, Class::Dir, note);
         Ok(())
     }

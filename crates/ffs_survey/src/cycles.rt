@@ -25,7 +25,7 @@ fn walk(start: u32, parents: &FilledList<u32>, walk_of: &mut FilledList<u32>) ->
         walk_of.old.items walk_of.new.items found) }
 {
     let mut at = start;
-    // `steps` is for the proof that it ends.
+    // `steps` is for the proof that the walk ends.
     let mut steps = 0u32;
     'up: loop {
         walk_of.set(at as usize, start + 1);
@@ -55,7 +55,7 @@ fn least_on(found: u32, parents: &FilledList<u32>) -> u32
 {
     let mut least = found;
     let mut at = number_of(parents, found as usize);
-    // For the proof that it ends.
+    // `steps` is for the proof that the walk comes back.
     let mut steps = 1u32;
     'round: while at != found {
         if at < least {

@@ -69,8 +69,7 @@ fn is_new(entry: EntryHead, kinds: &[u8], lists: &Lists) -> bool
 }
 
 /// Discovers what an entry of the current directory names: flags it as reached, gives it its
-/// parent and puts it into the queue, whose last one is before `top`. Returns where the queue ends
-/// then.
+/// parent and puts it into the queue. `top` is where the queue ends; returns where it ends then.
 fn visit(entry: EntryHead, current: &CurrentDir, lists: &mut Lists, top: usize) -> usize
     requires kinds { current.now.kinds.now ≡ lists.old.kinds.now }
     requires room { HasRoomAfter top lists.old }
