@@ -79,12 +79,12 @@ reported_out old new i f e d m = record {
     lines_out w i f e = rw e refl
 
 -- the next offer of a Run
-pub run_next : (i start len place f : ℕ) → place < len → f ≡ start + place →
-    map (offer_of i) (range_with_len (start + place) (len - place)) ≡ offer_of i f
-    ∷ map (offer_of i) (range_with_len (start + (place + 1)) (len - (place + 1)))
-run_next i start len place f h is_place =
-    let k : start + (place + 1) ≡ start + place + 1 = omega arith in
-    rw (range_more (start + place) (len - place) (len - (place + 1)) (omega arith), k, is_place) refl
+pub run_next : (i start len index f : ℕ) → index < len → f ≡ start + index →
+    map (offer_of i) (range_with_len (start + index) (len - index)) ≡ offer_of i f
+    ∷ map (offer_of i) (range_with_len (start + (index + 1)) (len - (index + 1)))
+run_next i start len index f h is_fragment =
+    let k : start + (index + 1) ≡ start + index + 1 = omega arith in
+    rw (range_more (start + index) (len - index) (len - (index + 1)) (omega arith), k, is_fragment) refl
 
 -- what was reported so far, with what is to come
 pub record Reporting (rest all : List Offer) (old new : Workspace) : Type 0 where
@@ -123,11 +123,11 @@ lines_more dup dup' o os e =
     ∙ lines_append (first_offer_lines dup (o ∷ [])) (first_offer_lines (after_first dup (o ∷ [])) os)
     ∙ ap (λ (d : List Bool). of_lines (first_offer_lines dup (o ∷ [])) ++ of_lines (first_offer_lines d os)) (sym e)
 
-pub run_over : (i start len place : ℕ) → len ≤ place → map (offer_of i) (range_with_len (start + place) (len - place))
+pub run_over : (i start len index : ℕ) → len ≤ index → map (offer_of i) (range_with_len (start + index) (len - index))
     ≡ []
-run_over i start len place h =
-    let none : len - place ≡ 0 = omega arith in
-    ap (λ (n : ℕ). map (offer_of i) (range_with_len (start + place) n)) none
+run_over i start len index h =
+    let none : len - index ≡ 0 = omega arith in
+    ap (λ (n : ℕ). map (offer_of i) (range_with_len (start + index) n)) none
 
 -- an offer that isn't reported
 pub said_out : (dup : List Bool) (i f : ℕ) (a : Progress) → slice_index_or dup f false ≡ false →

@@ -112,12 +112,12 @@ fn offers<W: Output>(
         ≡ after_offers geometry.now.layout (claims_of workspace.old) (range_with_len start len)) }
     ensures only { OffersOnly geometry.now.layout workspace.old workspace.new }
 {
-    for place in 0..len {
+    for index in 0..len {
         offer(
             workspace,
             geometry,
             number,
-            u64::from(start) + u64::from(place),
+            u64::from(start) + u64::from(index),
             in_range,
             report,
         )?;

@@ -68,12 +68,12 @@ pub fn report_run<W: Output>(
         workspace.old workspace.new) }
     ensures only { OffersReportedOnly geometry.now.layout workspace.old workspace.new }
 {
-    for place in 0..len {
+    for index in 0..len {
         report_offer(
             workspace,
             geometry,
             number,
-            u64::from(start) + u64::from(place),
+            u64::from(start) + u64::from(index),
             report,
         )?;
     }

@@ -12,11 +12,11 @@ use Rattle.ffs_memory.proofs.Touched.{run_on}
 use Rattle.ffs_memory.specs.Words.{Words, Touches}
 
 abbrev words : List ℕ → Ptr → ℕ → Words
-words list place room = record { list = list; place = place; room = room }
+words list address room = record { list = list; address = address; room = room }
 
 same_words : (a b : List ℕ) (p q : Ptr) (m n : ℕ) → a ≡ b → p ≡ q → m ≡ n → words a p m ≡ words b q n
-same_words a b p q m n list place room =
-    ap (λ x. words x p m) list ∙ ap (λ x. words b x m) place ∙ ap (λ x. words b q x) room
+same_words a b p q m n list address room =
+    ap (λ x. words x p m) list ∙ ap (λ x. words b x m) address ∙ ap (λ x. words b q x) room
 
 -- so many words, of which these are touched
 abbrev pub seen : Vec ℕ Global → ℕ → Words
@@ -37,7 +37,7 @@ same_seen old new index count w is within inside touches =
     (ap (λ items. items ++ replicate (count - vec_len new) 0) touches.items
     ∙ run_on old.items 0 (index + 1 - vec_len old) (count - vec_len new) (count - vec_len old)
     (omega (arith, touches.len, below, within)))
-    touches.place touches.room
+    touches.address touches.room
     ∙ is
 
 -- the word at a touched index
@@ -52,10 +52,10 @@ get_seen touched index word count w is inside read =
 -- the word at a touched index is set
 pub set_seen : (touched : Vec ℕ Global) (index word count : ℕ) (w : Words) → seen touched count ≡ w →
     index < vec_len touched → seen (with_item touched index word) count
-    ≡ words (slice_set w.list index word) w.place w.room
+    ≡ words (slice_set w.list index word) w.address w.room
 set_seen touched index word count w is inside =
     same_words _ _ _ _ _ _
     (sym (set-append_left touched.items (replicate (count - vec_len touched) 0) index word
     (omega (arith, inside, touched.ok.0)))
     ∙ ap (λ x. slice_set x.list index word) is)
-    (ap (λ x. x.place) is) (ap (λ x. x.room) is)
+    (ap (λ x. x.address) is) (ap (λ x. x.room) is)

@@ -34,7 +34,7 @@ module _ {A : Type 0} where
   pub record Sets (old new : Vec A Global) (index : ℕ) (x : A) : Type 0 where
     pub items : new.items ≡ slice_set old.items index x
     pub len : vec_len new ≡ vec_len old
-    pub place : vec_ptr new ≡ vec_ptr old
+    pub address : vec_ptr new ≡ vec_ptr old
     pub room : vec_capacity new ≡ vec_capacity old
 
   -- each element is x, and there is as much memory as before
@@ -50,5 +50,5 @@ pub record SortsPart (old new : Vec ℕ Global) (from to : ℕ) : Type 0 where
   pub rising : IsNonDecreasing (drop from (take to new.items))
   pub after : drop to new.items ≡ drop to old.items
   pub len : vec_len new ≡ vec_len old
-  pub place : vec_ptr new ≡ vec_ptr old
+  pub address : vec_ptr new ≡ vec_ptr old
   pub room : vec_capacity new ≡ vec_capacity old

@@ -10,7 +10,7 @@ use Rattle.std.specs.declared.alloc.Global.{Global}
 -- a list of words, the address of its memory, and for how many words that has room
 pub record Words : Type 0 where
   pub list : List ℕ
-  pub place : Ptr
+  pub address : Ptr
   pub room : ℕ
 
 -- the words with the bits of a mask set in the one at an index
@@ -30,5 +30,5 @@ pub record ClaimsBits (old new : Words) (index mask : ℕ) (claimed_now : Bool) 
 pub record Touches {A : Type 0} (old new : Vec A Global) (index : ℕ) (x : A) : Type 0 where
   pub len : vec_len new ≡ max (vec_len old) (index + 1)
   pub items : new.items ≡ old.items ++ replicate (index + 1 - vec_len old) x
-  pub place : vec_ptr new ≡ vec_ptr old
+  pub address : vec_ptr new ≡ vec_ptr old
   pub room : vec_capacity new ≡ vec_capacity old

@@ -26,7 +26,7 @@ impl Model for ZeroedWords {
 
     ghost view = { λ w. record {
       list = w.touched.items ++ replicate (w.count - vec_len w.touched) 0;
-      place = vec_ptr w.touched;
+      address = vec_ptr w.touched;
       room = vec_capacity w.touched;
     } };
 

@@ -14,45 +14,45 @@ use Rattle.ffs_claims.proofs.offer.offers.Goals as goal
 pub returns-in_err-offer-clause-said : goal.returns-in_err-offer-clause-said
 returns-in_err-offer-clause-said g c =
     let p = err_from_is_err_and c.from_residual.result c.from_residual.ensures.1 in
-    let f = c.from.result + c.from-in-loop-place.result in
+    let f = c.from.result + c.from-in-loop-index.result in
     rw (p.1) (to_stops _ _ _ (of_lines
-    (offer_lines c.args.geometry.now.layout c.args.number (claims_of c.loop-place.workspace) f)) _ _ _
-    c.loop-place.invariant.said
-    (offers_more c.args.geometry.now.layout c.args.number (claims_of c.loop-place.workspace)
-    (claims_of c.offer.new.workspace) c.args.start c.args.len c.loop-place.place f
-    c.loop-place-test.true (omega arith) c.offer.ensures.claims)
+    (offer_lines c.args.geometry.now.layout c.args.number (claims_of c.loop-index.workspace) f)) _ _ _
+    c.loop-index.invariant.said
+    (offers_more c.args.geometry.now.layout c.args.number (claims_of c.loop-index.workspace)
+    (claims_of c.offer.new.workspace) c.args.start c.args.len c.loop-index.index f
+    c.loop-index-test.true (omega arith) c.offer.ensures.claims)
     c.in_err-offer.ensures.said)
 
 pub returns-in_err-offer-clause-only : goal.returns-in_err-offer-clause-only
-returns-in_err-offer-clause-only g c = offers_then c.args.geometry.now.layout _ _ _ c.loop-place.invariant.only
+returns-in_err-offer-clause-only g c = offers_then c.args.geometry.now.layout _ _ _ c.loop-index.invariant.only
     c.offer.ensures.only
 
-pub loop-place-preserved : goal.loop-place-preserved
-loop-place-preserved g c =
-    let inv = c.loop-place.invariant in
-    let f = c.from.result + c.from-in-loop-place.result in
+pub loop-index-preserved : goal.loop-index-preserved
+loop-index-preserved g c =
+    let inv = c.loop-index.invariant in
+    let f = c.from.result + c.from-in-loop-index.result in
     let now = c.offer.ensures.claims in
     record {
       only = offers_then c.args.geometry.now.layout _ _ _ inv.only c.offer.ensures.only;
       kept = omega (
         arith,
         inv.kept,
-        offer_kept c.args.geometry.now.layout (claims_of c.loop-place.workspace)
+        offer_kept c.args.geometry.now.layout (claims_of c.loop-index.workspace)
             (claims_of c.offer.new.workspace) f now,
       );
-      claims = inv.claims ∙ offers_after c.args.geometry.now.layout (claims_of c.loop-place.workspace)
-          (claims_of c.offer.new.workspace) c.args.start c.args.len c.loop-place.place f
-          c.loop-place-test.true (omega arith) c.offer.ensures.claims;
+      claims = inv.claims ∙ offers_after c.args.geometry.now.layout (claims_of c.loop-index.workspace)
+          (claims_of c.offer.new.workspace) c.args.start c.args.len c.loop-index.index f
+          c.loop-index-test.true (omega arith) c.offer.ensures.claims;
       said = to_says _ _ _ (of_lines
-          (offer_lines c.args.geometry.now.layout c.args.number (claims_of c.loop-place.workspace) f)) _ _ _ inv.said
-          (offers_more c.args.geometry.now.layout c.args.number (claims_of c.loop-place.workspace)
-          (claims_of c.offer.new.workspace) c.args.start c.args.len c.loop-place.place f
-          c.loop-place-test.true (omega arith) c.offer.ensures.claims)
+          (offer_lines c.args.geometry.now.layout c.args.number (claims_of c.loop-index.workspace) f)) _ _ _ inv.said
+          (offers_more c.args.geometry.now.layout c.args.number (claims_of c.loop-index.workspace)
+          (claims_of c.offer.new.workspace) c.args.start c.args.len c.loop-index.index f
+          c.loop-index-test.true (omega arith) c.offer.ensures.claims)
           c.in_ok-offer.ensures.said;
     }
 
-pub loop-place-init : goal.loop-place-init
-loop-place-init g c =
+pub loop-index-init : goal.loop-index-init
+loop-index-init g c =
     let v = c.args.geometry.now.layout in
     let s = claims_of c.args.workspace.now in
     record {
@@ -66,13 +66,13 @@ loop-place-init g c =
 
 pub offer-requires : goal.offer-requires
 offer-requires g c =
-    let inv = c.loop-place.invariant in
+    let inv = c.loop-index.invariant in
     record {
       room = record {
         made = inv.only.claiming.made;
-        room = omega (arith, inv.kept, c.requires.room.room, c.loop-place-test.true);
+        room = omega (arith, inv.kept, c.requires.room.room, c.loop-index-test.true);
       };
       known = λ fits. ap (is_fragment_in_range c.args.geometry.now.layout) (omega arith)
-          ∙ each_ok c.args.geometry.now.layout c.args.start c.args.len c.loop-place.place (c.requires.known fits)
-          c.loop-place-test.true;
+          ∙ each_ok c.args.geometry.now.layout c.args.start c.args.len c.loop-index.index (c.requires.known fits)
+          c.loop-index-test.true;
     }

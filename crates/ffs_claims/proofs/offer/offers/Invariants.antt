@@ -8,14 +8,14 @@ use Rattle.ffs_claims.specs.Leaves.{OffersOnly}
 use Rattle.ffs_claims.specs.Lines.{of_lines}
 use Rattle.ffs_claims.proofs.offer.offers.Given as goal
 
-abbrev pub invariant-loop-place : goal.invariant-loop-place
-invariant-loop-place g l = record {
+abbrev pub invariant-loop-index : goal.invariant-loop-index
+invariant-loop-index g l = record {
   only : OffersOnly l.geometry.layout l.initial.workspace l.workspace;
-  kept : l.workspace.kept ≤ l.initial.workspace.kept + l.place;
+  kept : l.workspace.kept ≤ l.initial.workspace.kept + l.index;
   claims : after_offers l.geometry.layout (claims_of l.initial.workspace) (range_with_len l.start l.len)
-      ≡ after_offers l.geometry.layout (claims_of l.workspace) (range_with_len (l.start + l.place) (l.len - l.place));
+      ≡ after_offers l.geometry.layout (claims_of l.workspace) (range_with_len (l.start + l.index) (l.len - l.index));
   said : SaidTo (of_lines (lines_of_offers l.geometry.layout l.number (claims_of l.workspace)
-      (range_with_len (l.start + l.place) (l.len - l.place))))
+      (range_with_len (l.start + l.index) (l.len - l.index))))
       (of_lines (lines_of_offers l.geometry.layout l.number (claims_of l.initial.workspace)
       (range_with_len l.start l.len)))
       (progress g.W.Output.sink l.initial.report) (progress g.W.Output.sink l.report);

@@ -13,8 +13,8 @@ use Rattle.ffs_claims.proofs.Reportings.{run_next, run_over, reporting_begins, r
 use Rattle.ffs_claims.proofs.Reportings.{reporting_same, lines_more}
 use Rattle.ffs_claims.proofs.report_offer.report_run.Goals as goal
 
-pub loop-place-init : goal.loop-place-init
-loop-place-init g c =
+pub loop-index-init : goal.loop-index-init
+loop-index-init g c =
     let n = c.args.number in
     let w = c.args.workspace.now in
     record {
@@ -33,32 +33,32 @@ pub returns-in_err-report_offer-clause-said : goal.returns-in_err-report_offer-c
 returns-in_err-report_offer-clause-said g c =
     let p = err_from_is_err_and c.from_residual.result c.from_residual.ensures.1 in
     let n = c.args.number in
-    let f = c.from.result + c.from-in-loop-place.result in
-    let d = bits_of c.loop-place.workspace.duplicates in
+    let f = c.from.result + c.from-in-loop-index.result in
+    let d = bits_of c.loop-index.workspace.duplicates in
     let rest = map (offer_of n)
-    (range_with_len (c.args.start + (c.loop-place.place + 1)) (c.args.len - (c.loop-place.place + 1))) in
+    (range_with_len (c.args.start + (c.loop-index.index + 1)) (c.args.len - (c.loop-index.index + 1))) in
     rw (p.1) (to_stops _ (of_lines (first_offer_lines (after_first d (offer_of n f ∷ [])) rest)) _
-    (of_lines (first_offer_lines d (offer_of n f ∷ []))) _ _ _ c.loop-place.invariant.said
+    (of_lines (first_offer_lines d (offer_of n f ∷ []))) _ _ _ c.loop-index.invariant.said
     (ap (λ (os : List Offer). of_lines (first_offer_lines d os))
-    (run_next n c.args.start c.args.len c.loop-place.place f c.loop-place-test.true (omega arith))
+    (run_next n c.args.start c.args.len c.loop-index.index f c.loop-index-test.true (omega arith))
     ∙ lines_more d (after_first d (offer_of n f ∷ [])) (offer_of n f) rest refl)
     c.in_err-report_offer.ensures.said)
 
 pub returns-in_err-report_offer-clause-only : goal.returns-in_err-report_offer-clause-only
 returns-in_err-report_offer-clause-only g c =
-    offers_reported_then c.args.geometry.now.layout _ _ _ c.loop-place.invariant.only
+    offers_reported_then c.args.geometry.now.layout _ _ _ c.loop-index.invariant.only
     c.report_offer.ensures.only
 
-pub loop-place-preserved : goal.loop-place-preserved
-loop-place-preserved g c =
-    let inv = c.loop-place.invariant in
+pub loop-index-preserved : goal.loop-index-preserved
+loop-index-preserved g c =
+    let inv = c.loop-index.invariant in
     let n = c.args.number in
-    let f = c.from.result + c.from-in-loop-place.result in
-    let d = bits_of c.loop-place.workspace.duplicates in
+    let f = c.from.result + c.from-in-loop-index.result in
+    let d = bits_of c.loop-index.workspace.duplicates in
     let d' = bits_of c.report_offer.new.workspace.duplicates in
     let rest = map (offer_of n)
-    (range_with_len (c.args.start + (c.loop-place.place + 1)) (c.args.len - (c.loop-place.place + 1))) in
-    let next = run_next n c.args.start c.args.len c.loop-place.place f c.loop-place-test.true (omega arith) in
+    (range_with_len (c.args.start + (c.loop-index.index + 1)) (c.args.len - (c.loop-index.index + 1))) in
+    let next = run_next n c.args.start c.args.len c.loop-index.index f c.loop-index-test.true (omega arith) in
     record {
       only = offers_reported_then c.args.geometry.now.layout _ _ _ inv.only c.report_offer.ensures.only;
       reported = reporting_more _ (offer_of n f ∷ []) rest _ _ _ _ inv.reported next c.report_offer.ensures.reported;
@@ -71,13 +71,13 @@ loop-place-preserved g c =
 
 pub returns-clause-said : goal.returns-clause-said
 returns-clause-said g c =
-    let inv = c.loop-place.invariant in
+    let inv = c.loop-index.invariant in
     to_ends _ _ _ _ inv.said (ap
-    (λ (os : List Offer). of_lines (first_offer_lines (bits_of c.loop-place.workspace.duplicates) os))
-    (run_over c.args.number c.args.start c.args.len c.loop-place.place (omega arith)))
+    (λ (os : List Offer). of_lines (first_offer_lines (bits_of c.loop-index.workspace.duplicates) os))
+    (run_over c.args.number c.args.start c.args.len c.loop-index.index (omega arith)))
 
 pub returns-clause-reported : goal.returns-clause-reported
 returns-clause-reported g c =
-    let inv = c.loop-place.invariant in
+    let inv = c.loop-index.invariant in
     reporting_ends _ _ _ _ inv.reported
-    (run_over c.args.number c.args.start c.args.len c.loop-place.place (omega arith))
+    (run_over c.args.number c.args.start c.args.len c.loop-index.index (omega arith))

@@ -10,13 +10,13 @@ use Rattle.ffs_claims.specs.Reporting.{OffersReportedOnly}
 use Rattle.ffs_claims.proofs.Reportings.{Reporting}
 use Rattle.ffs_claims.proofs.report_offer.report_run.Given as goal
 
-abbrev pub invariant-loop-place : goal.invariant-loop-place
-invariant-loop-place g l = record {
+abbrev pub invariant-loop-index : goal.invariant-loop-index
+invariant-loop-index g l = record {
   only : OffersReportedOnly l.geometry.layout l.initial.workspace l.workspace;
-  reported : Reporting (map (offer_of l.number) (range_with_len (l.start + l.place) (l.len - l.place)))
+  reported : Reporting (map (offer_of l.number) (range_with_len (l.start + l.index) (l.len - l.index)))
       (map (offer_of l.number) (range_with_len l.start l.len)) l.initial.workspace l.workspace;
   said : SaidTo (of_lines (first_offer_lines (bits_of l.workspace.duplicates)
-      (map (offer_of l.number) (range_with_len (l.start + l.place) (l.len - l.place)))))
+      (map (offer_of l.number) (range_with_len (l.start + l.index) (l.len - l.index)))))
       (of_lines (first_offer_lines (bits_of l.initial.workspace.duplicates)
       (map (offer_of l.number) (range_with_len l.start l.len))))
       (progress g.W.Output.sink l.initial.report) (progress g.W.Output.sink l.report);

@@ -14,6 +14,6 @@ loop-len-preserved g c =
       items = c.push_reserved.ensures.items ∙ ap (λ items. items ++ c.args.rest ∷ []) inv.items
           ∙ run_on old.items c.args.rest (vec_len c.loop-len.touched - vec_len old) 1
           (vec_len c.push_reserved.new.self - vec_len old) (omega (arith, inv.within, len));
-      place = search rules;
+      address = search rules;
       room = search rules;
     }

@@ -9,7 +9,7 @@ invariant-loop-len g l = record {
   within : vec_len l.fn.touched ≤ vec_len l.touched;
   past : vec_len l.touched ≤ max (vec_len l.fn.touched) (l.index + 1);
   items : l.touched.items ≡ l.fn.touched.items ++ replicate (vec_len l.touched - vec_len l.fn.touched) l.rest;
-  place : vec_ptr l.touched ≡ vec_ptr l.fn.touched;
+  address : vec_ptr l.touched ≡ vec_ptr l.fn.touched;
   room : vec_capacity l.touched ≡ vec_capacity l.fn.touched;
 }
 

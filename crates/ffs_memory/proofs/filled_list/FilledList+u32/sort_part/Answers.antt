@@ -50,6 +50,6 @@ returns c =
           ∙ ap (λ j. drop j (t ++ R)) to
           ∙ ap (drop c.args.to) same);
       len = c.touch.ensures.room ∙ ap vec_len c.self.view_is;
-      place = c.touch.ensures.place ∙ ap vec_ptr c.self.view_is;
+      address = c.touch.ensures.address ∙ ap vec_ptr c.self.view_is;
       room = c.touch.ensures.room ∙ ap vec_capacity c.self.view_is;
     }

@@ -15,6 +15,6 @@ returns g c =
           (same_filled before.touched touched c.args.index before.rest inside c.touch.ensures
           ∙ ap (λ list. list.items) c.self.view_is);
       len = c.touch.ensures.room ∙ ap vec_len c.self.view_is;
-      place = c.touch.ensures.place ∙ ap vec_ptr c.self.view_is;
+      address = c.touch.ensures.address ∙ ap vec_ptr c.self.view_is;
       room = c.touch.ensures.room ∙ ap vec_capacity c.self.view_is;
     }
