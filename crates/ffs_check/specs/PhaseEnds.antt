@@ -45,8 +45,8 @@ SaysReadFault old new sector end = LineEnds old new (cannot_read sector) (ReadFa
 abbrev pub SaysRefusal : Progress → Progress → End → Type 0
 SaysRefusal old new end = LineEnds old new cannot_alloc NoMemory end
 
--- the end that an answer of the phases makes, by the defects of this report and of the opening's, which is a report of
--- its own; a failed read is said
+-- the end that an answer of the phases makes, by the defects of this report, and by whether an opening that another
+-- report said had one (`had_defect`); a failed read is said
 abbrev pub EndsAs : Bool → Progress → Progress → Result Root RunFault → End → Type 0
 EndsAs had_defect old new (Ok root) end = (new ≡ old) × (end ≡ end_by (is_go root) (had_defect || old.defect))
 EndsAs had_defect old new (Err (Read fault)) end = SaysReadFault old new fault.sector end
@@ -79,7 +79,8 @@ pub record PhasesEnd {Sent : Type 0} (whole broken : Sent → Sent → List Mess
   pub ends : Ends whole broken image image' old new text (IsEndByRoot knows continues (has_defect_by text))
       (IsCutByRead knows text image image') end
 
--- what the phases say to a report, which keeps whether it has said a defect; that of the opening may have had one
+-- what the phases say to a report. Whether a defect was reported isn't read off the text: the report keeps whether it
+-- has said one, and an opening that another report said may have had one (`had_defect`)
 abbrev pub SaysPhases : Bool → (List ℕ → Type 0) → (List ℕ → List Message) → (List ℕ → Bool) → Device → Device →
     Progress → Progress → End → Type 0
 SaysPhases had_defect knows lines continues image image' old new end =

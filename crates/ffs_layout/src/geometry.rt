@@ -61,6 +61,7 @@ impl Geometry {
         requires { group < self.now.layout.ncg }
         ensures { result ≡ cgstart self.now.layout group }
     {
+        // The shift of an accepted layout isn't negative, so its absolute value is the shift.
         self.cgbase(group) + cgoffset_of(&self.layout, group).unsigned_abs() as u32
     }
 

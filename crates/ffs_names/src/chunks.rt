@@ -30,7 +30,8 @@ pub struct Chunks {
     pub keeping: Keeping,
     /// How many bytes of the directory are to be read in all, whatever was read so far.
     pub bytes_to_read: u64,
-    /// At most how many chunks are still to come.
+    /// At most how many chunks are still to come. The size of the directory gives it; it ends the
+    /// reading of any image, also of one that gives other bytes each time.
     pub budget: u32,
     /// The chunks of the current Run.
     pub run_cursor: RunCursor,

@@ -227,7 +227,7 @@ fn note_directory<I: Image>(
 }
 
 /// Sets the top bit of the word of each directory that is the parent of a reached one: its chunks
-/// are still to be read. (In phase 2 the same bit says *due*.) No place is noted.
+/// are still to be read. (Later in phase 2 the same bit says *due*.) No place is noted.
 fn flag_parents(reached: &[bool], parents: &FilledList<u32>, words: &mut FilledList<u32>)
     requires lengths { (vec_len parents.now ≡ length reached.now)
         × (vec_len words.old ≡ length reached.now) × (length reached.now < 2 ^ 31) }
@@ -281,7 +281,7 @@ pub fn note_places<I: Image>(
     flag_parents(&workspace.reached, &workspace.parents, &mut workspace.queue);
     for dir in ROOTINO..geometry.layout.ncg * geometry.layout.ipg {
         let word = workspace.queue[dir as usize];
-        // The bit that phase 2 calls *due* says here that the chunks of `dir` are still to be read
+        // The bit that says *due* later in phase 2 says here that the chunks of `dir` are still to be read
         // (`flag_parents`).
         if is_due(word) {
             workspace.queue.set(dir as usize, passed(word));

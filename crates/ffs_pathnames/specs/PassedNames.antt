@@ -18,7 +18,8 @@ use Rattle.ffs_volume.specs.Directories.PathnameCheck.{attributes, label_of, is_
 use Rattle.ffs_volume.specs.Directories.PathnameCheck.{message_on_suspect, has_wrong_type, extra_lines}
 
 -- `flags`: of a suspect inode, whether a plain entry has named it; of any other, whether it is calm. `stamps`: of an
--- inode, the directory in whose remaining entries its parent entry is still to come, else 0.
+-- inode, its parent, once the first look at the parent has met its entry there, and until the second reading passes it,
+-- else 0.
 pub record PassedNames : Type 0 where
   pub flags : List Bool
   pub stamps : List ℕ
@@ -30,7 +31,7 @@ is_flagged m x = slice_index_or m.flags x false
 abbrev pub is_calm : Volume → PassedNames → ℕ → Bool
 is_calm vol m x = not (is_suspect vol x) && is_flagged m x
 
--- the parent entry of x is still to come in s
+-- the parent entry of x is due in s: for the second reading of s it is still to come
 abbrev pub is_stamped : ℕ → PassedNames → ℕ → Bool
 is_stamped s m x = slice_index m.stamps x == s
 

@@ -1,8 +1,8 @@
--- Stamps, by the parents of inodes and by the words that say which parent entries are still to come.
+-- Stamps, by the parents of inodes and by the words that say which parent entries are due.
 use Rattle.std.specs.Prelude.{◌≡◌, ℕ, if◌then◌else◌, List, [], ◌∷◌, slice_index}
 use Rattle.ffs_workspace.specs.Places.{is_due, place_in}
 
--- the parent of an inode, where its entry there is still to come, else 0
+-- the parent of an inode, where its entry there is due, else 0
 abbrev pub stamp_of : (parent word : ℕ) → ℕ
 stamp_of parent word = if is_due word then parent else 0
 

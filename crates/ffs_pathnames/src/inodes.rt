@@ -88,8 +88,7 @@ impl<'a> Inodes<'a> {
         self.is_dir(inode) && inode != ROOTINO && self.parents[inode as usize] == parent
     }
 
-    /// The inode's parent, where the entry there is still to come by the inode's word (`is_due`),
-    /// else 0.
+    /// The inode's parent, where the entry there is due by the inode's word (`is_due`), else 0.
     pub fn stamp(&self, words: &FilledList<u32>, inode: u32) -> u32
         requires inode { inode < length self.now.kinds.now }
         requires words { length words.now.items ≡ length self.now.kinds.now }

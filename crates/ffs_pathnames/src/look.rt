@@ -25,7 +25,8 @@ pub fn is_bad_whiteout(entry: &Entry<'_>) -> bool
 }
 
 /// Whether an inode is no directory, or the entry that names it is its parent entry: it is in the
-/// parent, and the first there (then the inode isn't stamped yet).
+/// parent, and the first there. The first look stamps the inode when it meets the first one: so
+/// there this is one whose inode isn't stamped.
 fn is_quiet_link(inodes: &Inodes<'_>, dir: u32, words: &FilledList<u32>, inode: u32) -> bool
     requires inode { inode < length inodes.now.kinds.now }
     requires words { CanStamp inodes.now dir words.now.items }

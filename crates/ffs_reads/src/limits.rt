@@ -10,8 +10,8 @@ use ffs_volume::constants::MAXPATHLEN;
 /// The superblock, and the last copy of it.
 pub const OPENING_READS: u64 = 2;
 
-/// A path: a chunk for each name that has room in it, for the name that has none, and one for the
-/// directory's own name, in its parent's chunk.
+/// A path: for that of its parent a chunk for each name that has room, and for one that has none;
+/// and one for the directory's own name.
 const PATH_READS: u64 = MAXPATHLEN as u64 / 2 + 2;
 
 /// A message of phase 2: two paths and an inode.

@@ -12,7 +12,7 @@ use Rattle.ffs_volume.specs.Encodings.Replay.{cut_at}
 
 -- notes from this number on are addresses, from 0 on. No inode keeps so many offers: it keeps at most 99 more than the
 -- volume has fragments, of which there are fewer than 2^31. The 99 are 8 for each of eleven bad Runs, and eleven dup
--- offers (`offers_potential`)
+-- offers, as `offers_potential` counts them (the eleventh bad Run keeps nothing); any number up to 128 would serve
 abbrev pub first_noted : ℕ
 first_noted = 2 ^ 31 + 128
 

@@ -1,6 +1,7 @@
 -- Where the parent entry of a directory is in the image, as a word of 32 bits notes it. Its low 31 bits are the noted
 -- place: 0 where none is noted, else 1 more than the number of the chunk of 512 bytes of the image that has the entry.
--- Its top bit says that the entry is due: it is still to come in a reading of the parent.
+-- Its top bit says that the entry is due: the first look at the parent has met it, and the second reading, if there is
+-- one, has not passed it yet.
 use Rattle.std.specs.Prelude.{◌≡◌, ℕ, suc, ◌+◌, ◌-◌, ◌*◌, ◌^◌, ◌≤◌, Bool, false, true, not, nat_lt, if◌then◌else◌, List, slice_index}
 use Rattle.std.specs.Prelude.{Some, option_and_then}
 use Rattle.std.specs.List.{list_any}
@@ -18,7 +19,7 @@ use Rattle.ffs_volume.specs.Directories.Volumes.{volume_of}
 abbrev pub place_in : ℕ → ℕ
 place_in word = if nat_lt word (2 ^ 31) then word else word - 2 ^ 31
 
--- the parent entry is still to come
+-- the parent entry is due: a first look has met it, and no second reading has passed it
 abbrev pub is_due : ℕ → Bool
 is_due word = not (nat_lt word (2 ^ 31))
 

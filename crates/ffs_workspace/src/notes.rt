@@ -8,7 +8,8 @@ use ffs_volume::{Class, Inode};
 
 /// Notes from this number on are addresses, counted from here. No inode keeps so many offers: it
 /// keeps at most 99 more than the volume has fragments, of which there are fewer than 2^31. The 99
-/// are 8 for each of eleven bad Runs, and eleven dup offers (`offers_potential`).
+/// are 8 for each of eleven bad Runs, and eleven dup offers, as `offers_potential` counts them (the
+/// eleventh bad Run keeps nothing). Any number up to 128 would serve.
 const FIRST_NOTED: u32 = (1 << 31) + 128;
 
 /// Only addresses below this one are noted, so that each note fits 32 bits.

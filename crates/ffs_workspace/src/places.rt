@@ -16,7 +16,8 @@ pub fn noted_chunk(word: u32) -> Option<u32>
     passed(word).checked_sub(1)
 }
 
-/// Whether the parent entry is due: it is still to come in a reading of the parent.
+/// Whether the parent entry is due: the first look at the parent has met it, and the second reading
+/// hasn't passed it.
 #[inline(always)]
 pub fn is_due(word: u32) -> bool
     ensures { result ≡ is_due word }

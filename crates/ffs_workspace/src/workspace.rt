@@ -32,7 +32,7 @@ pub struct Windows {
 /// blocks.
 #[derive(Drop)]
 pub struct Workspace {
-    /// The fragments that are reserved or claimed.
+    /// The fragments that are used: the reserved ones, and those that are claimed.
     pub claimed: FragmentMap,
     /// The fragments with a DUP line. Phase 1b clears each of which it has reported the first kept
     /// offer.

@@ -59,7 +59,8 @@ pub data Message : Type 0 where
   phase5 : Message
   of_blocks : (message : BlockMessage) → Message
   of_tree : (message : TreeMessage) → Message
-  summary : (files used : ℕ) (free frags blocks tenths : ℤ) → Message  -- `tenths` are tenths of a percent
+  -- `used` counts the claimed fragments alone, as fsck(8) does; `tenths` are tenths of a percent
+  summary : (files used : ℕ) (free frags blocks tenths : ℤ) → Message
 
 -- the message reports an inconsistency; a refused superblock or a failed read ends the run instead
 abbrev pub is_defect : Message → Bool
