@@ -13,7 +13,7 @@ use Rattle.ffs_pathnames.specs.declared.pass2.Root.{Root}
 use Rattle.ffs_pathnames.specs.RootAnswers.{is_go}
 use Rattle.ffs_report.specs.Known.{ForBytes, IsContents}
 use Rattle.ffs_report.specs.Progress.{Progress}
-use Rattle.ffs_report.specs.Runs.{ImageAfter, PhaseReports, PhaseRuns}
+use Rattle.ffs_report.specs.PhaseOutcome.{ImageAfter, PhaseReports, PhaseOutcome}
 use Rattle.ffs_report.proofs.Reporting.{said_knows}
 use Rattle.ffs_workspace.specs.declared.workspace.Workspace.{Workspace}
 use Rattle.ffs_workspace.specs.Found.{WithFresh, WithClaims, WithStarts, WithSurvey, WithFindings}
@@ -60,7 +60,7 @@ pub before_phase1 : (s : Superblock) (d : Device) (w : Workspace) (a : Progress)
 before_phase1 s d w a = begins (WithFresh s.layout d w) (λ bytes. phase_lines bytes s) a
 
 pub after_phase1 : (s : Superblock) {d d' : Device} {w w' : Workspace} {a b : Progress} {x : Unit {0}} →
-    PhaseRuns (WithFresh s.layout d w) (λ bytes. phase1_part bytes s) d d' a b (Ok x) →
+    PhaseOutcome (WithFresh s.layout d w) (λ bytes. phase1_part bytes s) d d' a b (Ok x) →
     ForBytes (WithFresh s.layout d w) (λ bytes. HoldsPhase1 s.layout bytes w') →
     ForBytes (WithFresh s.layout d w) (λ bytes. has_dups w' ≡ has_rescan s.layout (owners_of s.layout bytes)) →
     Stage (WithFresh s.layout d w) (IsAfterPhase1 s.layout d' w') (λ bytes. from_phase1b bytes s)
@@ -74,7 +74,7 @@ after_phase1 s {d} {d'} {w} {w'} {a} {b} ran holds dups =
 pub after_phase1b : (s : Superblock) {first : List ℕ → Type 0} {all : List ℕ → List Message} {d d' : Device}
     {w w' : Workspace} {a b c : Progress} {x : Unit {0}} →
     Stage first (IsAfterPhase1 s.layout d w) (λ bytes. from_phase1b bytes s) all a b →
-    PhaseRuns (IsAfterPhase1 s.layout d w) (λ bytes. phase1b_part bytes s) d d' b c (Ok x) →
+    PhaseOutcome (IsAfterPhase1 s.layout d w) (λ bytes. phase1b_part bytes s) d d' b c (Ok x) →
     ForBytes (IsAfterPhase1 s.layout d w) (λ bytes. HoldsClaims s.layout bytes w' × HoldsStarts s.layout bytes w') →
     Stage first (WithStarts s.layout d' w') (λ bytes. from_phase2 bytes s) all a c
 after_phase1b s {first} {all} {d} {d'} {w} {w'} {a} {b} {c} stage ran holds =
@@ -107,7 +107,7 @@ after_root s {first} {all} {a} {b} {c} d d' w w' root stage text image on holds 
 pub after_phase3 : (s : Superblock) {first : List ℕ → Type 0} {all : List ℕ → List Message} {d d' : Device}
     {w w' : Workspace} {a b c : Progress} {x : Unit {0}} (root : Root) → is_go root ≡ true →
     Stage first (IsAfterPhase2 s.layout d w) (λ bytes. after_phase2 (is_go root) bytes s) all a b →
-    PhaseRuns (WithSurvey s.layout d w) (λ bytes. phase3_part bytes s) d d' b c (Ok x) → LeavesSurvey w w' →
+    PhaseOutcome (WithSurvey s.layout d w) (λ bytes. phase3_part bytes s) d d' b c (Ok x) → LeavesSurvey w w' →
     Stage first (WithFindings s.layout d' w') (λ bytes. from_phase4 bytes s) all a c
 after_phase3 s {first} {all} {d} {d'} {w} {w'} {a} {b} {c} root on stage ran left =
     passes first (IsAfterPhase2 s.layout d w) (WithFindings s.layout d' w')
@@ -127,7 +127,7 @@ after_phase3 s {first} {all} {d} {d'} {w} {w'} {a} {b} {c} root on stage ran lef
 pub after_phase4 : (s : Superblock) {first : List ℕ → Type 0} {all : List ℕ → List Message} {d d' : Device}
     {w w' : Workspace} {a b c : Progress} {x : Unit {0}} →
     Stage first (WithFindings s.layout d w) (λ bytes. from_phase4 bytes s) all a b →
-    PhaseRuns (WithFindings s.layout d w) (λ bytes. phase4_part bytes s) d d' b c (Ok x) →
+    PhaseOutcome (WithFindings s.layout d w) (λ bytes. phase4_part bytes s) d d' b c (Ok x) →
     StaysReady s.layout d' w w' →
     Stage first (WithClaims s.layout d' w') (λ bytes. from_phase5 bytes s) all a c
 after_phase4 s {first} {all} {d} {d'} {w} {w'} {a} {b} {c} stage ran stays =
@@ -141,7 +141,7 @@ after_phase4 s {first} {all} {d} {d'} {w} {w'} {a} {b} {c} stage ran stays =
 pub after_phase5 : (s : Superblock) {first : List ℕ → Type 0} {all : List ℕ → List Message} {d d' : Device}
     {w w' : Workspace} {a b c : Progress} {x : Unit {0}} →
     Stage first (WithClaims s.layout d w) (λ bytes. from_phase5 bytes s) all a b →
-    PhaseRuns (WithClaims s.layout d w) (λ bytes. phase5_part bytes s) d d' b c (Ok x) →
+    PhaseOutcome (WithClaims s.layout d w) (λ bytes. phase5_part bytes s) d d' b c (Ok x) →
     StaysReady s.layout d' w w' →
     Stage first (λ bytes. HoldsClaims s.layout bytes w') (λ bytes. summary_part bytes s) all a c
 after_phase5 s {first} {all} {d} {d'} {w} {w'} {a} {b} {c} stage ran stays =
