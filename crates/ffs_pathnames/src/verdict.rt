@@ -59,8 +59,9 @@ fn defects_of(
         (entry_value entry.now) result }
 {
     let index = entry.number as usize;
-    let first_of_suspect =
-        inodes.is_suspect(entry.number) && entry.number != ROOTINO && !flags[index];
+    let first_of_suspect = inodes.is_suspect(entry.number)
+        && entry.number != ROOTINO
+        && !flags[index];
     let extraneous = inodes.is_dir(entry.number) && inodes.stamp(words, entry.number) != dir;
     EntryDefects {
         first_of_suspect,

@@ -148,7 +148,7 @@ pub visit_hit : (kinds : List ℕ) (r : List Bool) (p q : List ℕ) (s c : ℕ) 
     → e.entry.number < length r → e.entry.number < length p → c < length q
     → dir_at kinds e.entry.number ≡ true → is_plain e.role ≡ true → bool_at r e.entry.number ≡ false
     → SameResult (from_entries kinds s (e ∷ [])) r p (take c q) nothing (set r e.entry.number true) (set p
-        e.entry.number s)
+    e.entry.number s)
     (take (c + 1) (set q c e.entry.number))
 visit_hit kinds r p q s c e lr lp lq d pl un = record {
   reaches = λ x. (at x).0;
@@ -245,7 +245,7 @@ pub entry_step : (g : ℕ → Option ℕ) (kinds : List ℕ) (s : ℕ) (e : Role
 entry_step g kinds s e rest r r' r'' p p' p'' q q' q'' a b =
     same_result-trans g (from_entries kinds s (e ∷ rest)) (from_entries kinds s rest) r r' r'' p p' p'' q q' q'' a
     (same_result-then (from_entries kinds s (e ∷ rest)) (from_entries kinds s (e ∷ [])) (from_entries kinds s rest)
-        r' r'' p'
+    r' r'' p'
     p'' q' q'' (from_entries-cons kinds s e rest) b)
 
 -- what a directory's entries discover, by its edges
@@ -266,9 +266,9 @@ level_step g kinds entries frontier i r r' r'' p p' p'' q q' q'' l d a b =
     let s = get_or frontier i 0 in
     let cut : drop i frontier ≡ s ∷ drop (i + 1) frontier = rw (add-one, drop-cons frontier i 0) in
     same_result-trans g (from_dirs v (drop i frontier)) (from_dirs v (drop (i + 1) frontier)) r r' r'' p p' p'' q q'
-        q'' a
+    q'' a
     (same_result-then (from_dirs v (drop i frontier)) (from_entries kinds s (entries s)) (from_dirs v (drop (i + 1)
-        frontier))
+    frontier))
     r' r'' p' p'' q' q''
     (λ x. ap (λ z. from_dirs v z x) cut
     ∙ (from_dirs-cons v s (drop (i + 1) frontier) x ∙ ap (λ o. option_or o (from_dirs v (drop (i + 1) frontier) x))

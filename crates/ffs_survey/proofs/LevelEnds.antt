@@ -122,6 +122,6 @@ root_alone v r p q sane dry f n =
     (and_right (v.is_dir x) (is_naming_dir v 2 x) (and_left (v.is_dir 2) (list_any (is_naming_entry x) (v.entries 2))
     dry)) in
     let c : SameResult g r p [] nothing r p [] = same_result-to g g nothing r r p p [] [] none (same_result-refl g r
-        p []) in
+    p []) in
     let k : IsNext v 1 r p [] = next_level v 0 (2 ∷ []) r r p p q [] sane f n c in
     (record { reaches = k.reached; parent = k.parent; queued = n.queued }, record { members = k.members; rising = tt })

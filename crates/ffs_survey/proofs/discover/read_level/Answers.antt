@@ -81,8 +81,11 @@ loop-at-preserved g c =
           (read b k).counts;
       still = λ b k i d l.
           let s = inv.still b k i d l in
-          record { dir = s.dir; is_reached = (same_result_stays _ _ _ _ _ _ _ (read b k).same_result).reached _
-              s.is_reached };
+          record {
+            dir = s.dir;
+            is_reached = (same_result_stays _ _ _ _ _ _ _ (read b k).same_result).reached _
+                s.is_reached;
+          };
       calm = λ b k before.
           calm_read old.kinds.now old.marked.now _ _ _ _ _ _
           (entries b)

@@ -70,7 +70,7 @@ returns-clause-level g c =
           record {
             level = λ depth at.
                 let same_result : SameResult (from_dirs v xs) lists.reached.now lists.parents.now.items (take high
-                    old) nothing
+                old) nothing
                 after.reached.now after.parents.now.items (take end mid) = (found.read b k).same_result in
                 let n : IsNextLevel v (depth + 1) after.reached.now after.parents.now.items
                 (take high old) (drop high (take end new)) =

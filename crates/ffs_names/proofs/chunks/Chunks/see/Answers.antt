@@ -22,7 +22,7 @@ returns-in-Some-clause-continues c = λ b steps.
           (c.take.result == c.args.len)
           c.requires.empty kept after c.take.ensures.cut
           (kept_run v b s.bytes_to_read c.args.start c.args.len c.in-Some.block c.args.block
-              (c.take.result == c.args.len)
+          (c.take.result == c.args.len)
           c.in_range-in_range.result _
           c.in-Some.is whole c.if-not-in_range.false c.in_range-in_range.ensures
           (c.of_run-self.ensures.chunks b));
@@ -48,7 +48,7 @@ returns-in_default-clause-continues c = λ b steps.
           (c.take.result == c.args.len)
           c.requires.empty kept after c.take.ensures.cut
           (no_block_run v b s.bytes_to_read c.args.start c.args.len c.args.block
-              (c.take.result == c.args.len) _ c.in_default.is
+          (c.take.result == c.args.len) _ c.in_default.is
           (no_run_cursor v b s.run_cursor c.requires.empty));
       runs = runs_seen v s.keeping.cut c.take.new.self.cut (replay_in s.keeping) (replay_in c.take.new.self) steps
           c.args.start c.args.len c.args.block s.runs c.saturating_add-self.result
