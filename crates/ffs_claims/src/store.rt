@@ -11,7 +11,6 @@ ghost use Rattle.ffs_claims.specs.Leaves.{HasInode, Stored};
 use ffs_memory::FilledList;
 use ffs_volume::constants::{DT_DIR, EMPTY_DIR, MAXDUP, UNKNOWN_TYPE};
 use ffs_volume::{Class, Inode};
-use ffs_walk::type_of;
 use ffs_workspace::{Workspace, links_start, note_of};
 
 /// The next inode becomes the current one.
@@ -33,7 +32,7 @@ fn kind_of(class: Class, inode: &Inode) -> u8
         Class::Free | Class::Partial => 0,
         Class::Unknown => UNKNOWN_TYPE,
         Class::Dir => if inode.size == 0 { EMPTY_DIR } else { DT_DIR },
-        Class::File => type_of(inode.mode) as u8,
+        Class::File => (inode.mode / 4096) as u8,
     }
 }
 
@@ -57,7 +56,7 @@ fn cut_of(workspace: &Workspace) -> u32
     if workspace.dups <= MAXDUP {
         return 0;
     }
-    workspace.kept.min(u32::MAX.into()) as u32
+    workspace.kept.min(4294967295) as u32
 }
 
 /// Where the count of an inode's references starts.

@@ -43,14 +43,6 @@ pub fn last_length(geometry: &Geometry, inode: &Inode) -> u32
     }
 }
 
-/// The type of a file, by its mode: the upper four bits.
-#[inline(always)]
-pub fn type_of(mode: u16) -> u16
-    ensures { result ≡ inodes.type_of mode }
-{
-    mode / 4096
-}
-
 /// Whether this is the type of a character or a block device.
 fn is_device(kind: u16) -> bool
     ensures { result ≡ inodes.is_device kind }
@@ -62,8 +54,7 @@ fn is_device(kind: u16) -> bool
 fn is_short_symlink(geometry: &Geometry, inode: &Inode) -> bool
     ensures { result ≡ inodes.is_short_symlink geometry.now.layout inode.now }
 {
-    type_of(inode.mode) == u16::from(DT_LNK)
-        && inode.size < u64::from(geometry.layout.maxsymlinklen)
+    inode.mode / 4096 == u16::from(DT_LNK) && inode.size < u64::from(geometry.layout.maxsymlinklen)
 }
 
 /// Whether an address from an index on isn't zero. All fifteen are looked at, with no branch that
@@ -88,7 +79,7 @@ fn is_walked(geometry: &Geometry, inode: &Inode, class: Class) -> bool
         Class::File | Class::Dir => true,
         _ => false,
     };
-    walks && !(is_device(type_of(inode.mode)) || is_short_symlink(geometry, inode))
+    walks && !(is_device(inode.mode / 4096) || is_short_symlink(geometry, inode))
 }
 
 /// Whether an inode of the class has steps: its addresses are walked, and it isn't empty.
@@ -144,7 +135,7 @@ fn addresses_allowed(geometry: &Geometry, inode: &Inode) -> usize
         return inode.size.div_ceil(4) as usize;
     }
     let blocks = logical_blocks_of(geometry, inode);
-    let counted = if is_device(type_of(inode.mode)) {
+    let counted = if is_device(inode.mode / 4096) {
         blocks + 1
     } else {
         blocks
@@ -170,7 +161,8 @@ fn is_known_type(kind: u16) -> bool
 pub fn class_of(geometry: &Geometry, inode: &Inode) -> Class
     ensures { result ≡ inodes.class_of geometry.now.layout inode.now }
 {
-    let kind = type_of(inode.mode);
+    // The type is the upper four bits of the mode.
+    let kind = inode.mode / 4096;
     if kind == 0 {
         return if inode.mode == 0 && inode.size == 0 && !any_nonzero(&inode.addresses, 0) {
             Class::Free
