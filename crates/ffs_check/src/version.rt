@@ -2,4 +2,4 @@
 
 /// The version, and the first digits of the digest of the sources that the program was built from.
 /// `tools/renew_dist` writes this line.
-pub const VERSION: &str = "1.4.0 (sources cfe7af6ca6bc)";
+pub const VERSION: &str = "1.4.0 (sources d48a5216afa3)";
