@@ -1,4 +1,5 @@
--- What the checks of directories report of a directory below the root, and of one that nothing names, by computation.
+-- What the checks of directories report of a directory below the root, and of one that nothing
+-- names, by computation.
 use Rattle.std.proofs.Common.{refl, ◌∷◌}
 use Rattle.ffs_volume.specs.Disk.Numbers.{number, all_below, u16_at, i16_at, u32_at, u64_at, i32_at}
 use Rattle.ffs_volume.specs.Disk.Areas.{cgoffset_of, cgbase, cgstart, is_group_metadata, is_fragment_in_range}

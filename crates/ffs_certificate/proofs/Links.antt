@@ -1,5 +1,5 @@
--- With all directories reached, no line EXTRANEOUS HARD LINK means that each directory but 2 has exactly one plain
--- entry.
+-- With all directories reached, no line EXTRANEOUS HARD LINK means that each directory but 2 has
+-- exactly one plain entry.
 use Rattle.std.specs.Prelude.{◌≡◌, ◌≢◌, ℕ, zero, suc, ◌==◌, Bool, true, ◌||◌, List, [], ◌∷◌, None, Some, ◌↔◌}
 use Rattle.std.specs.Prelude.{option_map}
 use Rattle.std.specs.List.{list_any}

@@ -1,4 +1,5 @@
--- What else follows where phases 1 and 1b report nothing: all steps are kept, and no inode is marked.
+-- What else follows where phases 1 and 1b report nothing: all steps are kept, and no inode is
+-- marked.
 use Rattle.std.proofs.Common.{zero, suc, ◌≡◌, ℕ, ◌+◌, ◌-◌, ◌*◌, ◌<◌, ◌≤◌, true, false, arith, refl, sym, ap, subst, ◌∙◌}
 use Rattle.std.proofs.Common.{List, [], ◌∷◌, ◌++◌}
 use Rattle.std.specs.Prelude.{◌||◌, if◌then◌else◌, map}

@@ -34,8 +34,8 @@ is_class_message (PartAlloc inode) = true
 is_class_message (UnknownType inode) = true
 is_class_message _ = false
 
--- The records up to `AreDirsUnreported` have the tests of the messages that say that `AreDirsRight` fails. Of an entry
--- that names an inode, neither UNALLOCATED nor BAD TYPE VALUE is reported
+-- The records up to `AreDirsUnreported` have the tests of the messages that say that `AreDirsRight`
+-- fails. Of an entry that names an inode, neither UNALLOCATED nor BAD TYPE VALUE is reported
 pub record IsNameUnreported (vol : Volume) (e : Entry) : Type 0 where
   pub allocated : is_allocated (vol.class e.number) ≡ true
   pub kind : has_wrong_type vol e ≡ false
@@ -46,9 +46,9 @@ pub record IsPlainUnreported (vol : Volume) (e : Entry) : Type 0 where
   pub no_whiteout : is_bad_whiteout e ≡ false
   pub named : (e.number == WINO) ≡ false → IsNameUnreported vol e
 
--- a directory isn't reported for size 0, as TOO SHORT, NOT MULTIPLE, with EMPTY BLOCKS or CORRUPTED; its `.` and `..`
--- aren't reported as MISSING, for the number of `.` or for BAD TYPE VALUE; no EXTRA entry is reported, and none of the
--- plain entries
+-- a directory isn't reported for size 0, as TOO SHORT, NOT MULTIPLE, with EMPTY BLOCKS or
+-- CORRUPTED; its `.` and `..` aren't reported as MISSING, for the number of `.` or for BAD TYPE
+-- VALUE; no EXTRA entry is reported, and none of the plain entries
 pub record IsDirUnreported (vol : Volume) (d : ℕ) : Type 0 where
   pub some : (vol.inode d).size ≢ 0
   pub short : is_short vol d ≡ false
@@ -66,8 +66,8 @@ pub record AreDirsUnreported (vol : Volume) : Type 0 where
   pub root : continues_after_root vol ≡ true
   pub each : (d : ℕ) → is_dir vol d ≡ true → IsDirUnreported vol d
 
--- none of the messages is reported that say that `AreLinksRight` fails: BAD INODE NUMBER FOR '..', EXTRANEOUS HARD
--- LINK and UNREF DIR
+-- none of the messages is reported that say that `AreLinksRight` fails: BAD INODE NUMBER FOR '..',
+-- EXTRANEOUS HARD LINK and UNREF DIR
 pub record AreLinksUnreported (vol : Volume) : Type 0 where
   pub dotdots : (d : ℕ) → is_dir vol d ≡ true
       → IsSomeAnd (dotdot vol d) (λ e. is_wrong_parent (parent (graph_of vol) d) e.number ≡ false)
@@ -75,7 +75,8 @@ pub record AreLinksUnreported (vol : Volume) : Type 0 where
       → e.role ≡ Plain → is_extraneous vol s j e.entry.number ≡ false
   pub lost : (d : ℕ) → is_unref_dir vol d ≡ false
 
--- neither of the messages is reported that say that `AreCountsRight` fails of an inode: UNREF and LINK COUNT
+-- neither of the messages is reported that say that `AreCountsRight` fails of an inode: UNREF and
+-- LINK COUNT
 pub record IsCountUnreported (vol : Volume) (i : ℕ) : Type 0 where
   pub some : references vol i ≢ 0
   pub same : equals_natural (vol.inode i).nlink (references vol i) ≡ true
@@ -83,8 +84,9 @@ pub record IsCountUnreported (vol : Volume) (i : ℕ) : Type 0 where
 abbrev pub AreCountsUnreported : Volume → Type 0
 AreCountsUnreported vol = (i : ℕ) → is_allocated_inode vol i ≡ true → IsCountUnreported vol i
 
--- Each condition and what is reported for it. Those of directories and groups are asked where the conditions on classes
--- and Runs hold: the volume that the checks see is then that of all steps, and what is free is free of all Runs
+-- Each condition and what is reported for it. Those of directories and groups are asked where the
+-- conditions on classes and Runs hold: the volume that the checks see is then that of all steps,
+-- and what is free is free of all Runs
 pub record ConditionsReported (image : List ℕ) (s : Superblock) : Type 0 where
   pub settings : (setting_lines s ≡ []) ↔ AreSettingsRight s
   pub classes : (list_any is_class_message (phase1_lines s.layout (owners_of s.layout image)) ≡ false)

@@ -29,7 +29,8 @@ inode_bytes o mode nlink size address =
 unfoldable pub dir_chunk : Order → ℕ → List ℕ → List ℕ
 dir_chunk o d entries = entry_bytes o d 12 4 one_dot ++ (entry_bytes o 2 12 4 two_dots ++ entries)
 
--- a directory inode 3 at fragment 37, and a root whose chunk this is. No superblock, and no group block
+-- a directory inode 3 at fragment 37, and a root whose chunk this is. No superblock, and no group
+-- block
 unfoldable pub two_dirs : List ℕ → List ℕ
 two_dirs chunk =
     zero_bytes 28928 ++ (inode_bytes Little 16877 3 512 36 ++ (inode_bytes Little 16877 2 512 37
@@ -42,8 +43,8 @@ named_dir = two_dirs (dir_chunk Little 2 (entry_bytes Little 3 488 4 (100 ∷ []
 unfoldable pub unnamed_dir : List ℕ
 unnamed_dir = two_dirs (root_chunk Little)
 
--- two files `a` and `b` that share the fragment 37, in the big order, with a group block and a summary record that are
--- right for it
+-- two files `a` and `b` that share the fragment 37, in the big order, with a group block and a
+-- summary record that are right for it
 unfoldable pub shared_summary : List ℕ
 shared_summary = word Big 1 ++ (word Big 22 ++ (word Big 27 ++ word Big 5))
 

@@ -1,4 +1,5 @@
--- The stages of a check: how far the text has come after each phase that answered Ok, and what is known then.
+-- The stages of a check: how far the text has come after each phase that answered Ok, and what is
+-- known then.
 use Rattle.std.proofs.Common.{◌≡◌, ◌∙◌, sym, ap, refl, Bool, true, ℕ, List, [], ◌++◌, Ok}
 use Rattle.ffs_image.specs.Device.{Device}
 use Rattle.ffs_volume.specs.declared.Layout.{Layout}

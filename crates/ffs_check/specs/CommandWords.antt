@@ -44,8 +44,9 @@ program = with_rule (with_rule (with_rule unnamed read_only_rule) sector_rule) i
 abbrev pub refusals : List Text → Kinds
 refusals words = fault_of program words
 
--- memory was refused while `clap` read the words. No definition can say when, so the body is ⊤, and `unfoldable` hides
--- it: only `matches_of`, which calls `clap`, unfolds it, so no other function can claim it
+-- memory was refused while `clap` read the words. No definition can say when, so the body is ⊤, and
+-- `unfoldable` hides it: only `matches_of`, which calls `clap`, unfolds it, so no other function
+-- can claim it
 unfoldable pub LacksMemory : List Text → Type 0
 LacksMemory words = ⊤
 

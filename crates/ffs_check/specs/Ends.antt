@@ -1,6 +1,7 @@
--- How a check that prints a text ends: the whole text was sent, or a fault cut it short and the fault's line was sent
--- last, or the output failed. `Sent` is the state of what is printed to, a report (`Progress`) or an output (`Sink`);
--- `whole` and `broken` say of it that messages went out, whole or in part.
+-- How a check that prints a text ends: the whole text was sent, or a fault cut it short and the
+-- fault's line was sent last, or the output failed. `Sent` is the state of what is printed to, a
+-- report (`Progress`) or an output (`Sink`); `whole` and `broken` say of it that messages went out,
+-- whole or in part.
 use Rattle.std.specs.Prelude.{◌≡◌, ◌⊎◌, List, [], ◌∷◌, ◌++◌}
 use Rattle.ffs_image.specs.Device.{Device}
 use Rattle.ffs_volume.specs.declared.End.{End}
@@ -38,8 +39,8 @@ pub record BrokeOffInLine {Sent : Type 0} (whole broken : Sent → Sent → List
   pub went_out : whole old between said
   pub broke_off : broken between new (line ∷ [])
 
--- a fault cut the text short: the messages before it and the fault's line went out, and the end is the fault's; or the
--- output failed within that line
+-- a fault cut the text short: the messages before it and the fault's line went out, and the end is
+-- the fault's; or the output failed within that line
 pub record CutShort {Sent : Type 0} (whole broken : Sent → Sent → List Message → Type 0) (old new : Sent)
     (IsCut : List Message → Message → End → Type 0) (end : End) : Type 0 where
   pub said : List Message

@@ -1,4 +1,5 @@
--- What the end of a check says of how many reads failed in it, none or one, and how many writes, none or one.
+-- What the end of a check says of how many reads failed in it, none or one, and how many writes,
+-- none or one.
 use Rattle.std.specs.Prelude.{◌≡◌, ◌⊎◌, ℕ}
 use Rattle.ffs_image.specs.Device.{Device, Rose}
 use Rattle.ffs_report.specs.Sink.{Sink}

@@ -41,8 +41,8 @@ pub record IsEndOfReport (image : Device) (asked_sector : Option ℕ) (text : Li
   pub certifies : ForContents image.contents (λ bytes. (s : Superblock) → outcome bytes asked_sector ≡ Ok s
       → Certifies bytes s text end)
 
--- a read of the superblock, or of its last copy, failed: what is said before the fault's line are the image's name and
--- the sector, if one is asked for
+-- a read of the superblock, or of its last copy, failed: what is said before the fault's line are
+-- the image's name and the sector, if one is asked for
 pub record IsCutAtSuper (image image' : Device) (name : List ℕ) (asked_sector : Option ℕ) (said : List Message)
     (line : Message) (end : End) : Type 0 where
   pub faulted : Faulted image image' image'.failed_sector
@@ -51,8 +51,8 @@ pub record IsCutAtSuper (image image' : Device) (name : List ℕ) (asked_sector 
   pub line_is : line ≡ cannot_read image'.failed_sector
   pub end_is : end ≡ Refused (CannotRead image'.failed_sector)
 
--- a later read failed: what is said before the fault's line is the opening, through the mount line, and whole messages
--- of the report. Messages are missing: no read fails after the report's last one
+-- a later read failed: what is said before the fault's line is the opening, through the mount line,
+-- and whole messages of the report. Messages are missing: no read fails after the report's last one
 pub record IsCutLater (image image' : Device) (name : List ℕ) (asked_sector : Option ℕ) (text said : List Message)
     (line : Message) (end : End) : Type 0 where
   pub faulted : Faulted image image' image'.failed_sector
@@ -66,7 +66,8 @@ pub record IsCutLater (image image' : Device) (name : List ℕ) (asked_sector : 
   pub line_is : line ≡ cannot_read image'.failed_sector
   pub end_is : end ≡ ReadFault image'.failed_sector
 
--- the memory of the check is refused: what is said before that is the opening, through the mount line
+-- the memory of the check is refused: what is said before that is the opening, through the mount
+-- line
 pub record IsUnstarted (image image' : Device) (name : List ℕ) (asked_sector : Option ℕ) (said : List Message)
     (line : Message) (end : End) : Type 0 where
   pub no_read_failed : image' ≡ image
@@ -76,15 +77,16 @@ pub record IsUnstarted (image image' : Device) (name : List ℕ) (asked_sector :
   pub line_is : line ≡ cannot_alloc
   pub end_is : end ≡ NoMemory
 
--- a read failed or the memory was refused: what is said before the line that says so, that line, and the end
+-- a read failed or the memory was refused: what is said before the line that says so, that line,
+-- and the end
 abbrev pub IsCutShort : Device → Device → List ℕ → Option ℕ → List Message → List Message → Message → End → Type 0
 IsCutShort image image' name asked_sector text said line end =
     IsCutAtSuper image image' name asked_sector said line end
     ⊎ (IsCutLater image image' name asked_sector text said line end
     ⊎ IsUnstarted image image' name asked_sector said line end)
 
--- the headline: `text` is the whole report where the image gives its bytes. It was printed whole, or cut short by a
--- fault, whose line was printed after it, or the output failed
+-- the headline: `text` is the whole report where the image gives its bytes. It was printed whole,
+-- or cut short by a fault, whose line was printed after it, or the output failed
 pub record Headline (image image' : Device) (name : List ℕ) (asked_sector : Option ℕ) (out out' : Sink) (end : End)
     : Type 0 where
   pub text : List Message

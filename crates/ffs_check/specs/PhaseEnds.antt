@@ -1,5 +1,5 @@
--- How the phases of a check end. `knows` is what is known of the image's bytes, `lines` the text that they determine,
--- and `continues` whether the check continues after the root.
+-- How the phases of a check end. `knows` is what is known of the image's bytes, `lines` the text
+-- that they determine, and `continues` whether the check continues after the root.
 use Rattle.std.specs.Prelude.{◌≡◌, ◌⊎◌, ◌<◌, ℕ, Bool, false, ◌||◌, List, [], ◌∷◌, ◌++◌, length, Result, Ok, Err}
 use Rattle.ffs_image.specs.Device.{Device, Faulted}
 use Rattle.ffs_volume.specs.declared.End.{End}
@@ -25,7 +25,8 @@ pub record SaidNotAll (knows : List ℕ → Type 0) (all : List ℕ → List Mes
   pub prefix : SaidOf knows rest all old new
   pub more : ForBytes knows (λ bytes. 0 < length (rest bytes))
 
--- all messages at Ok, whole ones but not all at a read's fault, a prefix of their bytes at a fault of the output
+-- all messages at Ok, whole ones but not all at a read's fault, a prefix of their bytes at a fault
+-- of the output
 abbrev pub ReportsOrStopsEarly : {T : Type 0} → (List ℕ → Type 0) → (List ℕ → List Message) → Progress → Progress →
     Result T RunFault → Type 0
 ReportsOrStopsEarly knows all old new (Ok x) = SaidOf knows (λ bytes. []) all old new
@@ -45,8 +46,8 @@ SaysReadFault old new sector end = LineEnds old new (cannot_read sector) (ReadFa
 abbrev pub SaysRefusal : Progress → Progress → End → Type 0
 SaysRefusal old new end = LineEnds old new cannot_alloc NoMemory end
 
--- the end that an answer of the phases makes, by the defects of this report, and by whether an opening that another
--- report said had one (`had_defect`); a failed read is said
+-- the end that an answer of the phases makes, by the defects of this report, and by whether an
+-- opening that another report said had one (`had_defect`); a failed read is said
 abbrev pub EndsAs : Bool → Progress → Progress → Result Root RunFault → End → Type 0
 EndsAs had_defect old new (Ok root) end = (new ≡ old) × (end ≡ end_by (is_go root) (had_defect || old.defect))
 EndsAs had_defect old new (Err (Read fault)) end = SaysReadFault old new fault.sector end
@@ -58,7 +59,8 @@ pub record IsEndByRoot (knows : List ℕ → Type 0) (continues : List ℕ → B
   pub by_root : ForBytes knows (λ bytes. continued ≡ continues bytes)
   pub end_is : end ≡ end_by continued defect
 
--- a read failed before the text was complete: whole messages of it were said, and others were to come
+-- a read failed before the text was complete: whole messages of it were said, and others were to
+-- come
 pub record IsCutByRead (knows : List ℕ → Type 0) (text : List Message) (image image' : Device) (said : List Message)
     (line : Message) (end : End) : Type 0 where
   pub sector : ℕ
@@ -69,8 +71,9 @@ pub record IsCutByRead (knows : List ℕ → Type 0) (text : List Message) (imag
   pub line_is : line ≡ cannot_read sector
   pub end_is : end ≡ ReadFault sector
 
--- the messages of the phases on the image's bytes went out, or what a fault leaves of them. `has_defect_by` says of
--- their text whether a defect was reported in it or in the opening. No end is `NoMemory`
+-- the messages of the phases on the image's bytes went out, or what a fault leaves of them.
+-- `has_defect_by` says of their text whether a defect was reported in it or in the opening. No end
+-- is `NoMemory`
 pub record PhasesEnd {Sent : Type 0} (whole broken : Sent → Sent → List Message → Type 0)
     (has_defect_by : List Message → Bool) (knows : List ℕ → Type 0) (lines : List ℕ → List Message)
     (continues : List ℕ → Bool) (image image' : Device) (old new : Sent) (end : End) : Type 0 where
@@ -79,8 +82,9 @@ pub record PhasesEnd {Sent : Type 0} (whole broken : Sent → Sent → List Mess
   pub ends : Ends whole broken image image' old new text (IsEndByRoot knows continues (has_defect_by text))
       (IsCutByRead knows text image image') end
 
--- what the phases say to a report. Whether a defect was reported isn't read off the text: the report keeps whether it
--- has said one, and an opening that another report said may have had one (`had_defect`)
+-- what the phases say to a report. Whether a defect was reported isn't read off the text: the
+-- report keeps whether it has said one, and an opening that another report said may have had one
+-- (`had_defect`)
 abbrev pub SaysPhases : Bool → (List ℕ → Type 0) → (List ℕ → List Message) → (List ℕ → Bool) → Device → Device →
     Progress → Progress → End → Type 0
 SaysPhases had_defect knows lines continues image image' old new end =
@@ -92,7 +96,8 @@ abbrev pub PrintsPhases : List Message → (List ℕ → Type 0) → (List ℕ �
 PrintsPhases earlier knows lines continues image image' out out' end =
     PhasesEnd Printed BrokeOffIn (λ text. has_defect (earlier ++ text)) knows lines continues image image' out out' end
 
--- what follows an accepted superblock: the memory of the check was refused, and that was said; or its phases have run
+-- what follows an accepted superblock: the memory of the check was refused, and that was said; or
+-- its phases have run
 abbrev pub SaysRest : Superblock → Device → Device → Progress → Progress → End → Type 0
 SaysRest s image image' old new end =
     ((image' ≡ image) × SaysRefusal old new end)

@@ -1,5 +1,5 @@
--- The parts of the text after the opening, as the calls that report them are nested, and what is known of the image's
--- bytes there.
+-- The parts of the text after the opening, as the calls that report them are nested, and what is
+-- known of the image's bytes there.
 use Rattle.std.specs.Prelude.{◌≡◌, ℕ, Bool, if◌then◌else◌, List, [], ◌∷◌, ◌++◌, map}
 use Rattle.ffs_image.specs.Device.{Device}
 use Rattle.ffs_report.specs.Known.{IsContents}
@@ -63,8 +63,8 @@ from_phase2 image s = phase2_part image s ++ after_phase2 (continues_after_root 
 abbrev pub from_phase1b : List ℕ → Superblock → List Message
 from_phase1b image s = phase1b_part image s ++ from_phase2 image s
 
--- after phase 1: the image gives the bytes, and the workspace holds what the block check found, and whether it looks
--- again
+-- after phase 1: the image gives the bytes, and the workspace holds what the block check found, and
+-- whether it looks again
 abbrev pub IsAfterPhase1 : Layout → Device → Workspace → List ℕ → Type 0
 IsAfterPhase1 v d w bytes = IsContents d.contents bytes × HoldsPhase1 v bytes w
     × (has_dups w ≡ has_rescan v (owners_of v bytes))

@@ -48,7 +48,8 @@ abbrev pub CheckedBy : {I : Type 0} → (I → Device) → (reads : I → ℕ) �
 CheckedBy {I} device reads opens refuses name sector out out' status =
     IsChecked I device reads opens name sector out out' status ⊎ IsOpenFailure refuses name out out' status
 
--- the words ask for an image and a sector, and that image was checked at that sector, or couldn't be opened
+-- the words ask for an image and a sector, and that image was checked at that sector, or couldn't
+-- be opened
 pub record RunsAsAsked (I : Type 0) (device : I → Device) (reads : I → ℕ) (opens : List ℕ → I → Type 0)
     (refuses : List ℕ → OpenFault → Type 0) (words : List (List ℕ)) (out out' : Sink) (status : ℕ) : Type 0 where
   pub name : List ℕ
@@ -75,7 +76,8 @@ RunEnds {I} device reads opens refuses words out out' status =
     RunsAsAsked I device reads opens refuses words out out' status ⊎ (IsRefused words out out' status
     ⊎ HadNoMemory words out out' status)
 
--- a writer was flushed after a run with a status: the status stays where the flush succeeded, and is 8 where it failed
+-- a writer was flushed after a run with a status: the status stays where the flush succeeded, and
+-- is 8 where it failed
 pub record IsFlushed {S : Type 0} (was_flushed : S → Result (Unit {0}) Error → S → Type 0)
     (contents : S → Option (List ℕ)) (old new : S) (ran_status status : ℕ) : Type 0 where
   pub printed : ran_status ≡ 2 → ⊥

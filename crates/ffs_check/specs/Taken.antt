@@ -15,8 +15,8 @@ use Rattle.ffs_workspace.specs.Lengths.{held_of}
 abbrev pub AsksMemory : Account → Account → ℕ → Type 0
 AsksMemory old new bytes = Granted old new bytes ⊎ GaveUp old new bytes
 
--- what the workspace of an accepted volume holds was granted and no byte more, which is within the limit, or a request
--- was refused
+-- what the workspace of an accepted volume holds was granted and no byte more, which is within the
+-- limit, or a request was refused
 pub record TakesWorkspace (image : Device) (asked_sector : Option ℕ) (old new : Account) : Type 0 where
   pub found : Superblock
   pub accepted : ForContents image.contents (λ bytes. outcome bytes asked_sector ≡ Ok found)
@@ -27,8 +27,8 @@ pub record TakesWorkspace (image : Device) (asked_sector : Option ℕ) (old new 
 abbrev pub Takes : Device → Option ℕ → Account → Account → Type 0
 Takes image asked_sector old new = (new ≡ old) ⊎ TakesWorkspace image asked_sector old new
 
--- a check took from the memory of the system, of which nothing was granted before, what it takes of any memory; and it
--- ended as `NoMemory` only where that memory refused a request
+-- a check took from the memory of the system, of which nothing was granted before, what it takes of
+-- any memory; and it ended as `NoMemory` only where that memory refused a request
 pub record TakesOfSystem (image : Device) (asked_sector : Option ℕ) (end : End) : Type 0 where
   pub memory : SystemMemory
   pub memory' : SystemMemory

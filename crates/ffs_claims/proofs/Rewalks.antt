@@ -109,7 +109,8 @@ unfolding offers_again
 gaps_offer v i cut r zero R = refl
 gaps_offer v i cut r (suc n) R = gaps_offer v i cut r n R
 
--- where a second walk is, with the steps R that are left to it: what it reported, and how many Runs it looked at
+-- where a second walk is, with the steps R that are left to it: what it reported, and how many Runs
+-- it looked at
 pub record Rewalking (v : Layout) (i cut : ℕ) (all : List Step) (r : Replay) (R : List Step) (u w : Workspace) :
     Type 0 where
   pub reported : Reporting (offers_again v i cut r R) (offers_again v i cut fresh_replay all) u w

@@ -3,7 +3,8 @@ use Rattle.std.proofs.Common.{◌≤◌, ◌<◌, ◌+◌, ◌-◌, ◌^◌, ℕ
 use Rattle.std.proofs.lemmas.Bool.{cases_lt}
 use Rattle.ffs_claims.specs.RescanRuns.{RunsPay}
 
--- a step was read, with so many reads still to come, and its Run was counted; then no more are to come
+-- a step was read, with so many reads still to come, and its Run was counted; then no more are to
+-- come
 pub runs_pay_on : (reads now now' before after rest old middle new : ℕ) (more : ℕ) →
     RunsPay reads (now + before) old middle → (new < 2 ^ 64 - 1 → middle + more ≤ new) →
     now' + after ≤ now + before + more → rest ≤ after + 0 → RunsPay reads (now' + rest) old new

@@ -27,15 +27,15 @@ pub record CanClaim (v : Layout) (d : Device) (w : Workspace) (area : DataArea) 
   pub ready : IsReady v d w
   pub only_data : IsDataArea v area
 
--- an inode can claim: it has a number, and more Runs can be counted than inodes have. For the count of Runs any bound
--- far above `runs_limit`, and far below 2^64, serves
+-- an inode can claim: it has a number, and more Runs can be counted than inodes have. For the count
+-- of Runs any bound far above `runs_limit`, and far below 2^64, serves
 pub record CanClaimInode (v : Layout) (d : Device) (w : Workspace) (area : DataArea) (number : ℕ) : Type 0 where
   pub claim : CanClaim v d w area
   pub number_fits : number < inodes_of v
   pub runs : w.runs_seen < 2 ^ 40
 
--- the next step of an inode can be seen: the inode isn't cut, and there is room to count its fragments and Runs. Any
--- bounds far above `runs_limit`, and far below 2^64, serve
+-- the next step of an inode can be seen: the inode isn't cut, and there is room to count its
+-- fragments and Runs. Any bounds far above `runs_limit`, and far below 2^64, serve
 pub record SeesNext (v : Layout) (w : Workspace) (area : DataArea) : Type 0 where
   pub made : IsFor v w
   pub only_data : IsDataArea v area
@@ -48,13 +48,13 @@ pub record ClaimsInArea (v : Layout) (old new : Workspace) (area : DataArea) : T
   pub only : ClaimsOnly v old new
   pub only_data : IsDataArea v area
 
--- an inode sees no more Runs than fragments were unused before it, and 22: each Run that it sees claims a fragment, but
--- for its bad Runs and its dup offers
+-- an inode sees no more Runs than fragments were unused before it, and 22: each Run that it sees
+-- claims a fragment, but for its bad Runs and its dup offers
 abbrev pub FewRuns : Layout → Workspace → Workspace → Type 0
 FewRuns v old new = new.runs_seen + used_bits (claims_of old) ≤ old.runs_seen + v.size + 22
 
--- what the steps of an inode leave: the image, but for a read that failed, few Runs more, what was found as it was, and
--- all that the next inode asks for
+-- what the steps of an inode leave: the image, but for a read that failed, few Runs more, what was
+-- found as it was, and all that the next inode asks for
 pub record StepsLeave {T : Type 0} (v : Layout) (d d' : Device) (old new : Workspace) (area : DataArea)
     (result : Result T RunFault) : Type 0 where
   pub image : ImageAfter d d' result
@@ -73,15 +73,16 @@ pub record InodeLeaves {T : Type 0} (v : Layout) (d d' : Device) (old new : Work
       ≤ old.runs_seen + used_bits (claims_of new) + 22)
   pub again : new.runs_again ≡ old.runs_again
 
--- a step of an inode claims what it offers: these lines are said, the claims are these then, and the rest is as
--- claiming leaves it
+-- a step of an inode claims what it offers: these lines are said, the claims are these then, and
+-- the rest is as claiming leaves it
 pub record ClaimsStep {E : Type 0} (v : Layout) (lines : List BlockMessage) (after : Claims)
     (progress progress' : Progress) (old new : Workspace) (area : DataArea) (result : Result Bool E) : Type 0 where
   pub said : Says progress progress' (of_lines lines) result
   pub claims : IfOk result (AreClaims new after)
   pub left : ClaimsInArea v old new area
 
--- the steps of an inode claim what they offer: their lines are reported, and the claims are those after them
+-- the steps of an inode claim what they offer: their lines are reported, and the claims are those
+-- after them
 pub record ClaimsSteps {T : Type 0} (v : Layout) (number : ℕ) (inode : Inode) (d d' : Device)
     (progress progress' : Progress) (old new : Workspace) (area : DataArea) (result : Result T RunFault) : Type 0 where
   pub text : PhaseReports (IsContents d.contents)
@@ -90,7 +91,8 @@ pub record ClaimsSteps {T : Type 0} (v : Layout) (number : ℕ) (inode : Inode) 
       claims_of new ≡ after_steps v (claims_of old) (steps_of v inode bytes)))
   pub left : StepsLeave v d d' old new area result
 
--- an inode claims as an owner of fragments: its lines are reported, and the claims are those after it
+-- an inode claims as an owner of fragments: its lines are reported, and the claims are those after
+-- it
 pub record ClaimsOwner {T : Type 0} (v : Layout) (owner : List ℕ → Owner) (d d' : Device)
     (progress progress' : Progress) (old new : Workspace) (area : DataArea) (result : Result T RunFault) : Type 0 where
   pub text : PhaseReports (IsContents d.contents) (λ bytes. of_lines (owner_lines v (claims_of old) (owner bytes)))

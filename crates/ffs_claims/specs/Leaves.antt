@@ -13,8 +13,8 @@ use Rattle.ffs_workspace.specs.Holds.{claims_of, has_blame}
 use Rattle.ffs_workspace.specs.Notes.{note_of}
 use Rattle.ffs_workspace.specs.Lengths.{IsFor}
 
--- the current inode has no bad Run, no dup offer and no kept one yet, and there is room to count its Runs: any bound
--- far above `runs_limit`, and far below 2^64, serves
+-- the current inode has no bad Run, no dup offer and no kept one yet, and there is room to count
+-- its Runs: any bound far above `runs_limit`, and far below 2^64, serves
 pub record HasBegun (w : Workspace) : Type 0 where
   pub bad : w.bad ≡ 0
   pub dups : w.dups ≡ 0
@@ -44,7 +44,8 @@ pub record SameFound (old new : Workspace) : Type 0 where
   pub references : new.references ≡ old.references
   pub again : new.runs_again ≡ old.runs_again
 
--- what claiming leaves: the lists have their lengths, and the windows and what was found are as they were
+-- what claiming leaves: the lists have their lengths, and the windows and what was found are as
+-- they were
 pub record ClaimsOnly (v : Layout) (old new : Workspace) : Type 0 where
   pub made : IsFor v new
   pub windows : new.windows ≡ old.windows

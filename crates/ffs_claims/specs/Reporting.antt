@@ -25,8 +25,8 @@ pub record OffersReported (offers : List Offer) (old new : Workspace) : Type 0 w
   pub marked : (x : ℕ) → bool_at new.marked.items x ≡ (bool_at old.marked.items x
       || list_any (blames x) (first_offer_lines (bits_of old.duplicates) offers))
 
--- a call left the claims alone, what each inode is, what is noted of it, where its count of references starts, and the
--- Runs of phase 1
+-- a call left the claims alone, what each inode is, what is noted of it, where its count of
+-- references starts, and the Runs of phase 1
 pub record SameClaims (old new : Workspace) : Type 0 where
   pub claimed : new.claimed ≡ old.claimed
   pub kinds : new.kinds ≡ old.kinds
@@ -34,8 +34,8 @@ pub record SameClaims (old new : Workspace) : Type 0 where
   pub references : new.references ≡ old.references
   pub seen : new.runs_seen ≡ old.runs_seen
 
--- what reporting leaves: the lists have their lengths, and the windows, the claims and the Runs of phase 1 are as they
--- were
+-- what reporting leaves: the lists have their lengths, and the windows, the claims and the Runs of
+-- phase 1 are as they were
 pub record ReportsOnly (v : Layout) (old new : Workspace) : Type 0 where
   pub made : IsFor v new
   pub windows : new.windows ≡ old.windows
@@ -46,19 +46,21 @@ pub record OffersReportedOnly (v : Layout) (old new : Workspace) : Type 0 where
   pub reporting : ReportsOnly v old new
   pub runs : new.runs_again ≡ old.runs_again
 
--- first kept offers of an inode can be reported: the workspace was made for the volume, and the inode has a number
+-- first kept offers of an inode can be reported: the workspace was made for the volume, and the
+-- inode has a number
 pub record CanReport (v : Layout) (w : Workspace) (number : ℕ) : Type 0 where
   pub made : IsFor v w
   pub number_fits : number < inodes_of v
 
--- an inode can be walked over again: the workspace is ready, it has a number, and something is to be reported still
+-- an inode can be walked over again: the workspace is ready, it has a number, and something is to
+-- be reported still
 pub record CanRewalk (v : Layout) (d : Device) (w : Workspace) (number : ℕ) : Type 0 where
   pub ready : IsReady v d w
   pub number_fits : number < inodes_of v
   pub pending : set_count (bits_of w.duplicates) ≢ 0
 
--- what walking over an inode again leaves: the image, but for a read that failed, and a workspace that is ready, with
--- the claims as they were
+-- what walking over an inode again leaves: the image, but for a read that failed, and a workspace
+-- that is ready, with the claims as they were
 pub record RewalkLeaves {T : Type 0} (v : Layout) (d d' : Device) (old new : Workspace) (result : Result T RunFault)
     : Type 0 where
   pub image : ImageAfter d d' result

@@ -1,5 +1,5 @@
--- How many Runs phase 1b looks at: those that are seen, in order, until each fragment with a DUP line has its first
--- kept offer reported.
+-- How many Runs phase 1b looks at: those that are seen, in order, until each fragment with a DUP
+-- line has its first kept offer reported.
 use Rattle.std.specs.Prelude.{◌≡◌, ◌<◌, ◌≤◌, ℕ, ◌+◌, ◌-◌, ◌^◌, Bool, List, [], ◌∷◌, ◌++◌, ◌==◌, if◌then◌else◌, map}
 use Rattle.std.specs.Prelude.{Result, OnOk}
 use Rattle.std.specs.List.{range_with_len}
@@ -96,8 +96,8 @@ pub record Rewalked (v : Layout) (inode cut : ℕ) (steps : List Step) (old new 
   pub count : RoseBy old.runs_again new.runs_again (runs_until_reported (bits_of old.duplicates)
       (steps_runs_again v inode cut fresh_replay steps))
 
--- an inode with this cut is walked over again: of its kept offers those are reported that are the first of a fragment
--- with a DUP line, and its Runs are counted
+-- an inode with this cut is walked over again: of its kept offers those are reported that are the
+-- first of a fragment with a DUP line, and its Runs are counted
 pub record Rewalks {T : Type 0} (v : Layout) (number cut : ℕ) (inode : List ℕ → Inode) (d d' : Device)
     (progress progress' : Progress) (old new : Workspace) (result : Result T RunFault) : Type 0 where
   pub text : PhaseReports (IsContents d.contents) (λ bytes. of_lines (first_offer_lines (bits_of old.duplicates)

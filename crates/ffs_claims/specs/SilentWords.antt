@@ -16,7 +16,8 @@ use Rattle.ffs_claims.specs.declared.area.DataArea.{DataArea}
 use Rattle.ffs_claims.specs.Area.{IsDataArea}
 use Rattle.ffs_claims.specs.Leaves.{ClaimsOnly}
 
--- a word of an inode can be seen: the inode isn't cut, and there is room to count its fragments and Runs
+-- a word of an inode can be seen: the inode isn't cut, and there is room to count its fragments and
+-- Runs
 pub record SeesWord (v : Layout) (w : Workspace) (area : DataArea) : Type 0 where
   pub made : IsFor v w
   pub only_data : IsDataArea v area
@@ -29,7 +30,8 @@ pub record ClaimsSilently (v : Layout) (step : Step) (old new : Workspace) : Typ
   pub claims : claims_of new ≡ after_step v (claims_of old) step
   pub silent : (number : ℕ) → step_lines v number (claims_of old) step ≡ []
 
--- a walk passes over steps that claim what they offer: what it has left means the same claims and lines as before
+-- a walk passes over steps that claim what they offer: what it has left means the same claims and
+-- lines as before
 pub record ClaimsWords (v : Layout) (old new : Workspace) (walk walk' : Walk) : Type 0 where
   pub claims : (contents : Option (List ℕ)) → BlocksHold v contents old.windows.blocks →
       ForContents contents (λ bytes.

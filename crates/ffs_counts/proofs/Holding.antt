@@ -1,4 +1,5 @@
--- What a workspace holds where only its windows have changed, and what is reported of an inode by it.
+-- What a workspace holds where only its windows have changed, and what is reported of an inode by
+-- it.
 use Rattle.std.proofs.Common.{◌≡◌, ℕ, ℤ, zero, suc, ◌+◌, ◌-◌, ◌<◌, ◌≤◌, Bool, true, false, List, [], ◌++◌}
 use Rattle.std.proofs.Common.{length, map, refl, ap, ◌∙◌, sym, slice_index, vec_len, arith}
 use Rattle.std.specs.Prelude.{◌&&◌, ◌||◌, ◌==◌, not, if◌then◌else◌}

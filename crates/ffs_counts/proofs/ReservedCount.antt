@@ -219,7 +219,7 @@ other_group v c n g h apart is =
     some (suc c) apart = omega arith
 
 -- ---- the claimed ones
--- where each reserved fragment is set, the set fragments are those beside them and the reserved ones
+-- where each reserved fragment is set, the set ones are those beside them and the reserved ones
 pub set_apart : (v : Layout) (used : List Bool) (a n : ℕ) →
     ((k : ℕ) → k < n → is_reserved v (a + k) ≡ true → is_set used (a + k) ≡ true) →
     count_by (λ f. is_set used f) (range_with_len a n)

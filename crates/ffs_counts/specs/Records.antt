@@ -20,7 +20,8 @@ first_read c = c - c % 256
 abbrev pub records_read : Layout → ℕ → ℕ
 records_read v n = min 256 (v.ncg - n)
 
--- a window holds the records that are read with that of group c, which is at this place, and nothing else
+-- a window holds the records that are read with that of group c, which is at this place, and
+-- nothing else
 pub record HoldsRecord (v : Layout) (contents : Option (List ℕ)) (w : Window) (c at : ℕ) : Type 0 where
   pub starts : w.place ≡ summary_place v (first_read c)
   pub length : w.length ≡ CSUM_SIZE * records_read v (first_read c)
@@ -33,7 +34,8 @@ pub record CanReadRecord (v : Layout) (d : Device) (c : ℕ) (t : Table) : Type 
   pub group : c < v.ncg
   pub ready : CanReadInodes v d t
 
--- the record of group c is read with those round it, and the answer is where it is in the window of the table
+-- the record of group c is read with those round it, and the answer is where it is in the window of
+-- the table
 pub record ReadsRecord (v : Layout) (d d' : Device) (c : ℕ) (t : Table) (result : Result ℕ ImageFault) : Type 0 where
   pub there : IfOk result (HoldsRecord v d.contents t.window c)
   pub leaves : TableAfter v d d' t result

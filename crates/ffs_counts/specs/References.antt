@@ -12,7 +12,8 @@ use Rattle.ffs_workspace.specs.declared.workspace.Workspace.{Workspace}
 use Rattle.ffs_report.specs.Lines.{reference_message}
 use Rattle.ffs_report.specs.declared.line.ReferenceLine.{ReferenceLine}
 
--- by whether it is dead and marked, what messages show of it, its count of links and how often it is referred to
+-- by whether it is dead and marked, what messages show of it, its count of links and how often it
+-- is referred to
 abbrev pub reference_reported : Bool → Bool → Label → Attr → ℤ → ℕ → List TreeMessage
 reference_reported dead marked label attr nlink refs =
     if dead then (if marked then dead_marked label attr ∷ [] else dead_zero attr ∷ [])

@@ -49,7 +49,8 @@ pub record HasRecords (v : Layout) (csum cg : List ℕ) : Type 0 where
   pub summary : length csum ≡ 16
   pub block : length cg ≡ v.cgsize
 
--- each finding says whether the records of group c are right: in the summary area, and in its group block
+-- each finding says whether the records of group c are right: in the summary area, and in its group
+-- block
 pub record AreFound (v : Layout) (free : ℕ → Bool) (class : ℕ
     → Class) (c : ℕ) (summary block : List ℕ) (f : GroupFindings) : Type 0 where
   pub magic : f.magic_right ≡ has_right_magic v block

@@ -20,8 +20,8 @@ word_bits word index n = map (λ k. nat_eq (bit_at word k) 1) (range_with_len in
 abbrev pub bits_from : (free : ℕ → Bool) (start frag b : ℕ) → List Bool
 bits_from free start frag b = map free (range_with_len (start + b * frag) frag)
 
--- what a block with these free fragments adds to the free blocks, to the free fragments of other blocks, and to their
--- stretches of length k
+-- what a block with these free fragments adds to the free blocks, to the free fragments of other
+-- blocks, and to their stretches of length k
 abbrev pub whole_in : List Bool → ℕ
 whole_in bits = if is_free_block bits then 1 else 0
 

@@ -11,7 +11,8 @@ use Rattle.ffs_volume.specs.Encodings.Kinds.{class_of_kind}
 abbrev pub class_in : List ℕ → ℕ → Class
 class_in kinds x = class_of_kind (slice_index kinds x)
 
--- the inodes from `first` on and below `end` are past the first two, and so few that a byte counts them
+-- the inodes from `first` on and below `end` are past the first two, and so few that a byte counts
+-- them
 pub record AreFew (listed : List ℕ) (first end : ℕ) : Type 0 where
   pub past_two : 2 ≤ first
   pub order : first ≤ end

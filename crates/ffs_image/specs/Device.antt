@@ -1,8 +1,8 @@
 -- What an image gives, and what a read does to it.
 use Rattle.std.specs.Prelude.{◌≡◌, ℕ, ◌+◌, ◌-◌, ◌^◌, min, List, length, drop, take, Option, Some, IfSome}
 
--- what contracts know of any image, one in memory too: its bytes, where it gives them, its size in bytes, how many
--- reads have failed, and the sector of the last one that did
+-- what contracts know of any image, one in memory too: its bytes, where it gives them, its size in
+-- bytes, how many reads have failed, and the sector of the last one that did
 pub record Device : Type 0 where
   pub contents : Option (List ℕ)
   pub size : ℕ
@@ -17,7 +17,8 @@ ForContents contents P = (bytes : List ℕ) → contents ≡ Some bytes → P by
 abbrev pub Rose : ℕ → ℕ → Type 0
 Rose old new = new ≡ min (old + 1) (2 ^ 64 - 1)
 
--- a read that fails at a sector leaves the image as it was, but for the two numbers about failed reads
+-- a read that fails at a sector leaves the image as it was, but for the two numbers about failed
+-- reads
 pub record Faulted (old new : Device) (sector : ℕ) : Type 0 where
   pub contents : new.contents ≡ old.contents
   pub size : new.size ≡ old.size

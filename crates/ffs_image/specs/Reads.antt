@@ -8,8 +8,8 @@ abbrev pub ReadAfter : {T : Type 0} → Device → Device → Result T ImageFaul
 ReadAfter old new (Ok x) = new ≡ old
 ReadAfter old new (Err fault) = Faulted old new fault.sector
 
--- the answer of a read at a place: these are the image's bytes there, or the read failed, which is counted with the
--- sector of the place
+-- the answer of a read at a place: these are the image's bytes there, or the read failed, which is
+-- counted with the sector of the place
 pub record ReadsBytes {T : Type 0} (old new : Device) (at : ℕ) (xs : List ℕ) (result : Result T ImageFault) :
     Type 0 where
   pub bytes : OnOk result (IsAt old at xs)

@@ -3,8 +3,8 @@ use Rattle.std.specs.Prelude.{◌≡◌, ◌+◌, ◌-◌, ◌<◌, ◌≤◌, �
 use Rattle.std.specs.Prelude.{Option, Result, Ok, Err, OnOk, IfOk, MatchResult}
 use Rattle.ffs_image.specs.Device.{ForContents, Rose}
 
--- what contracts know of a source, as `Device` of an image, but for the last sector: its bytes where it gives them, its
--- size in bytes, and how many reads have failed
+-- what contracts know of a source, as `Device` of an image, but for the last sector: its bytes
+-- where it gives them, its size in bytes, and how many reads have failed
 pub record SourceState : Type 0 where
   pub contents : Option (List ℕ)
   pub size : ℕ
@@ -25,7 +25,8 @@ abbrev pub SourceAfter : {T E : Type 0} → SourceState → SourceState → Resu
 SourceAfter old new (Ok x) = new ≡ old
 SourceAfter old new (Err fault) = IsFailed old new
 
--- the answer of a read at a place: how many of these bytes are the source's there, at least one, or the read failed
+-- the answer of a read at a place: how many of these bytes are the source's there, at least one, or
+-- the read failed
 pub record GivesSome {E : Type 0} (old new : SourceState) (at : ℕ) (xs : List ℕ) (result : Result ℕ E) : Type 0 where
   pub some : IfOk result (λ n. (0 < n) × (n ≤ length xs))
   pub bytes : IfOk result (λ n. AreAt old.contents at (take n xs))
@@ -36,7 +37,8 @@ pub record Fills {T E : Type 0} (old new : SourceState) (at : ℕ) (xs : List �
   pub bytes : OnOk result (AreAt old.contents at xs)
   pub left : SourceAfter old new result
 
--- after the first ones of len bytes at a place, some more were read, by a read of all that were left
+-- after the first ones of len bytes at a place, some more were read, by a read of all that were
+-- left
 pub record ReadsMore {S E : Type 0} (was_read : S → ℕ → ℕ → Result ℕ E → S → Type 0) (at len before after : ℕ)
     (old new : S) : Type 0 where
   pub some : ℕ
@@ -65,7 +67,8 @@ pub record FailsAfter {S E : Type 0} (was_read : S → ℕ → ℕ → Result �
   pub fault : E
   pub failed : was_read between (at + filled) (len - filled) (Err fault) new
 
--- the reads of all of len bytes at a place: piece after piece, up to the first that failed, and no other
+-- the reads of all of len bytes at a place: piece after piece, up to the first that failed, and no
+-- other
 abbrev pub ReadsThrough : {S E T F : Type 0} → (S → ℕ → ℕ → Result ℕ E → S → Type 0) → S → S → ℕ → ℕ
     → Result T F → Type 0
 ReadsThrough was_read old new at len result =

@@ -9,7 +9,8 @@ use Rattle.ffs_image.specs.Device.{ForContents}
 use Rattle.ffs_image.specs.Faults.{open_fault_of}
 use Rattle.ffs_image.specs.Interrupted.{IsTriedAgain}
 
--- what a read gives of some of the bytes at a place: how many it gave, or a fault where it failed or gave none
+-- what a read gives of some of the bytes at a place: how many it gave, or a fault where it failed
+-- or gave none
 pub record SomeOf {F E : Type 0} (was_read : F → Result ℕ Error → F → Type 0) (old new : F) (result : Result ℕ E)
     : Type 0 where
   pub answer : Result ℕ Error
@@ -37,7 +38,8 @@ pub record IsFaultOf (was_answered : Error → Type 0) (fault : OpenFault) : Typ
   pub answered : was_answered error
   pub meaning : fault ≡ open_fault_of error
 
--- no file of a name is opened, because of a fault: it is a FIFO or can't be looked up, or its opening failed
+-- no file of a name is opened, because of a fault: it is a FIFO or can't be looked up, or its
+-- opening failed
 abbrev pub OpenFails : {Y F : Type 0} → (Y → List ℕ → Result Bool Error → Type 0) → (Y → List ℕ → Result F Error
     → Type 0) → Y → List ℕ → OpenFault → Type 0
 OpenFails was_looked_up was_opened system name fault =
@@ -45,7 +47,8 @@ OpenFails was_looked_up was_opened system name fault =
     ⊎ (IsFaultOf (λ error. was_looked_up system name (Err error)) fault
     ⊎ IsFaultOf (λ error. was_opened system name (Err error)) fault)
 
--- (for the law of a source) what holds by `ForContents` of the bytes of an image holds of them by `IfSome` too
+-- (for the law of a source) what holds by `ForContents` of the bytes of an image holds of them by
+-- `IfSome` too
 pub if_given : (contents : Option (List ℕ)) (P : List ℕ → Type 0) → ForContents contents P → IfSome contents P
 if_given None P h = tt
 if_given (Some bytes) P h = h bytes refl

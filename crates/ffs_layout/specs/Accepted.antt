@@ -3,7 +3,8 @@ use Rattle.std.specs.Prelude.{◌≡◌, ◌*◌, ◌≤◌, ℕ, None}
 use Rattle.ffs_volume.specs.declared.Layout.{Layout}
 use Rattle.ffs_volume.specs.Disk.Outcome.{layout_fault}
 
--- the layout that is taken is this one; it shows no fault in an image of this size, so its volume lies within the image
+-- the layout that is taken is this one; it shows no fault in an image of this size, so its volume
+-- lies within the image
 pub record IsAccepted (v : Layout) (image_size : ℕ) (taken : Layout) : Type 0 where
   pub fault : layout_fault v image_size ≡ None
   pub layout : taken ≡ v

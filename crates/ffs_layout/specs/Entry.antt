@@ -14,7 +14,8 @@ entry_value e = record { number = e.number; length = e.length; kind = e.kind; na
 abbrev pub any_nul_or_slash : List ℕ → Bool
 any_nul_or_slash bytes = list_any (λ b. b == 0) bytes || list_any (λ b. b == 47) bytes
 
--- the answer at a place of a chunk is the entry there, or that none is there; its record and its name lie in the chunk
+-- the answer at a place of a chunk is the entry there, or that none is there; its record and its
+-- name lie in the chunk
 pub record IsEntryAt (order : Order) (chunk : List ℕ) (place : ℕ) (result : Option Entry) : Type 0 where
   pub value : option_map entry_value result ≡ entry_at order chunk place
   pub some : IfSome result (λ e. entry_at order chunk place ≡ Some (entry_value e))

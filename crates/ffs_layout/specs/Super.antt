@@ -28,21 +28,21 @@ abbrev pub IsCopySector : List ℕ → ℕ → Type 0
 IsCopySector bytes failed_sector =
     IsSomeAnd (order_of bytes) (λ order. failed_sector ≡ copy_place (layout_of order bytes) / DEV_BSIZE)
 
--- A failed read of the superblock may have this sector: the superblock's, and the last copy's where no sector was
--- asked for.
+-- A failed read of the superblock may have this sector: the superblock's, and the last copy's where
+-- no sector was asked for.
 abbrev pub IsSuperSector : List ℕ → Option ℕ → ℕ → Type 0
 IsSuperSector image sector failed_sector =
     (failed_sector ≡ super_sector sector) ⊎ ((sector ≡ None) × IsCopySector (super_bytes image sector) failed_sector)
 
--- This is found by reading the superblock: the fault of a read that failed, or, where the image gives its bytes, the
--- outcome of these.
+-- This is found by reading the superblock: the fault of a read that failed, or, where the image
+-- gives its bytes, the outcome of these.
 abbrev pub ReadsSuper : Device → Device → Option ℕ → Result Superblock SuperFault → Type 0
 ReadsSuper old new sector found =
     (ReadFailed found old new × ((b : List ℕ) → old.contents ≡ Some b → IsSuperSector b sector new.failed_sector))
     ⊎ ((new ≡ old) × ((b : List ℕ) → old.contents ≡ Some b → found ≡ outcome b sector))
 
--- The superblock can't be read, and the fault names the sector `at`: a read failed there, or the superblock is there
--- and ends past the image's end.
+-- The superblock can't be read, and the fault names the sector `at`: a read failed there, or the
+-- superblock is there and ends past the image's end.
 abbrev pub IsUnreadable : Device → Device → Option ℕ → ℕ → Type 0
 IsUnreadable old new sector at = Faulted old new at ⊎ ((new ≡ old) × (at ≡ super_sector sector)
     × (old.size < at * DEV_BSIZE + SUPERBLOCK_BYTES))

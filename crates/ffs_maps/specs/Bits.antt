@@ -29,8 +29,8 @@ pub record IsInWord (start len n : ℕ) : Type 0 where
   pub one_word : start % 64 + len ≤ 64
   pub below : start + len ≤ n
 
--- a run is claimed where none of its bits was set, and its bits are set then: else nothing is changed. One that lies in
--- one word is always claimed where none of its bits was set
+-- a run is claimed where none of its bits was set, and its bits are set then: else nothing is
+-- changed. One that lies in one word is always claimed where none of its bits was set
 pub record ClaimsRun (old new : FragmentMap) (start len : ℕ) (claimed_now : Bool) : Type 0 where
   pub size : new.size ≡ old.size
   pub clear : IsTrue claimed_now → AreClear (bits_of old) start len

@@ -59,7 +59,8 @@ pub record GivenWords (old new : Account) (n : ℕ) (words : Words) : Type 0 whe
 abbrev pub GivesWords : {E : Type 0} → Account → Account → ℕ → Result Words E → Type 0
 GivesWords old new n result = MatchResult result (GivenWords old new n) (λ _. RequestRefused old new)
 
--- a list with room for n elements of a size and for no more was made, and has none yet; the account rose by that room
+-- a list with room for n elements of a size and for no more was made, and has none yet; the account
+-- rose by that room
 pub record MadeRoom {A : Type 0} (old new : Account) (n size : ℕ) (list : Vec A Global) : Type 0 where
   pub empty : list.items ≡ []
   pub len : vec_len list ≡ 0
@@ -70,6 +71,7 @@ pub record MadeRoom {A : Type 0} (old new : Account) (n size : ℕ) (list : Vec 
 abbrev pub MakesRoom : {A E : Type 0} → Account → Account → ℕ → ℕ → Result (Vec A Global) E → Type 0
 MakesRoom old new n size result = MatchResult result (MadeRoom old new n size) (λ _. RequestRefused old new)
 
--- these bytes were asked for, in one request or in several: all were granted, or a request was refused
+-- these bytes were asked for, in one request or in several: all were granted, or a request was
+-- refused
 abbrev pub Asks : {T E : Type 0} → Account → Account → ℕ → Result T E → Type 0
 Asks old new bytes result = MatchResult result (λ _. Granted old new bytes) (λ _. GaveUp old new bytes)

@@ -43,7 +43,8 @@ module _ {A : Type 0} where
     pub len : vec_len new ≡ vec_len old
     pub room : vec_capacity new ≡ vec_capacity old
 
--- the numbers from one index to before another are put into ascending order, in the same memory; all others stay
+-- the numbers from one index to before another are put into ascending order, in the same memory;
+-- all others stay
 pub record SortsPart (old new : Vec ℕ Global) (from to : ℕ) : Type 0 where
   pub before : take from new.items ≡ take from old.items
   pub moved : IsPermutation (drop from (take to old.items)) (drop from (take to new.items))

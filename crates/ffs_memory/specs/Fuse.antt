@@ -14,14 +14,16 @@ is_blown left = left == 1
 abbrev pub left_after : ℕ → ℕ
 left_after left = left - 1
 
--- a request for these bytes: the fuse refuses it, and the memory below isn't asked, or that memory answers it
+-- a request for these bytes: the fuse refuses it, and the memory below isn't asked, or that memory
+-- answers it
 pub record BurnsAtRequest {M T E : Type 0} (account : M → Account) (old new : FuseMemory M) (bytes : ℕ)
     (result : Result T E) : Type 0 where
   pub left : new.left ≡ left_after old.left
   pub blown : OnTrue (is_blown old.left) (IsErr result × (new.inner ≡ old.inner))
   pub passed : OnFalse (is_blown old.left) (Asks (account old.inner) (account new.inner) bytes result)
 
--- a memory with a fuse serves one request: as any memory does, and the fuse says which one is refused
+-- a memory with a fuse serves one request: as any memory does, and the fuse says which one is
+-- refused
 pub record Serves {M A E : Type 0} (account_below : M → Account) (account_of : FuseMemory M → Account)
     (old new : FuseMemory M) (n bytes : ℕ) (x : A) (result : Result (FixedList A) E) : Type 0 where
   pub given : Gives (account_of old) (account_of new) n bytes x result
@@ -33,7 +35,8 @@ pub record ServesWords {M E : Type 0} (account_below : M → Account) (account_o
   pub given : GivesWords (account_of old) (account_of new) n result
   pub fuse : BurnsAtRequest account_below old new (8 * n) result
 
--- a memory with a fuse is made of one below, whose account it shows, and the fuse has refused no request yet
+-- a memory with a fuse is made of one below, whose account it shows, and the fuse has refused no
+-- request yet
 pub record IsFusedMemory {M : Type 0} (account_below : M → Account) (account_of : FuseMemory M → Account) (below : M)
     (left : ℕ) (memory : FuseMemory M) : Type 0 where
   pub made : memory ≡ record { inner = below; left = left; own = 0 }

@@ -19,8 +19,8 @@ with_bits words index mask = record words {
   list = slice_set words.list index (bit_or (slice_index_or words.list index 0) mask);
 }
 
--- the bits of a mask are claimed in the word at an index just where none of them was set, and they are set then: else
--- nothing is changed
+-- the bits of a mask are claimed in the word at an index just where none of them was set, and they
+-- are set then: else nothing is changed
 pub record ClaimsBits (old new : Words) (index mask : ℕ) (claimed_now : Bool) : Type 0 where
   pub clear : IsTrue claimed_now ↔ (bit_and (slice_index_or old.list index 0) mask ≡ 0)
   pub claimed : IsTrue claimed_now → new ≡ with_bits old index mask

@@ -91,7 +91,8 @@ one_chunk_is v i b a said g h =
     ∙ (ap (said 512) (one_chunk_steps v i b g h.is_dir h.size)
     ∙ ap (λ (n : ℕ). said n (steps_of v i b)) (sym h.size))
 
--- the entries, and whether the shape is right, by the size and the steps of a directory that isn't cut
+-- the entries, and whether the shape is right, by the size and the steps of a directory that isn't
+-- cut
 abbrev pub entries_by : (v : Layout) (b : List ℕ) (size : ℕ) (steps : List Step) → List RoledEntry
 entries_by v b size steps = flat_map roled_chunk
     (chunks_of (reading_by v b (bytes_read size)) (is_run_in_range v) (replayed_steps v 0 fresh_replay steps))

@@ -129,13 +129,14 @@ place_is chunk some = go (nat_lt chunk (2 ^ 31 - 1)) some
     go true n = omega arith
     go false n = absurd (n refl)
 
--- of an inode with the parent p of which no place is noted, the entries to come have the first one of p
+-- of an inode with the parent p of which no place is noted, the entries to come have the first one
+-- of p
 abbrev pub AreToCome : (parents ws : List ℕ) (p : ℕ) (all rest : List RoledEntry) → Type 0
 AreToCome parents ws p all rest = (x : ℕ) → is_child parents p x ≡ true → place_in (slice_index ws x) ≡ 0 →
     name_in x all ≡ name_in x rest
 
--- each place that is noted anew is that of a chunk whose first plain entry that names the inode has the name of the
--- first one of all
+-- each place that is noted anew is that of a chunk whose first plain entry that names the inode has
+-- the name of the first one of all
 abbrev pub HavePlaces : (v : Layout) (b old new : List ℕ) (all : List RoledEntry) → Type 0
 HavePlaces v b old new all = (x k : ℕ) → place_in (slice_index new x) ≡ suc k → (place_in (slice_index old x) ≡ suc k)
     ⊎ (name_in x (entries_in_chunk v b k) ≡ name_in x all)
@@ -216,7 +217,8 @@ pub noted_still : (v : Layout) (b old new : List ℕ) (x : ℕ) →
 noted_still v b old new x same h =
     record { chunk = h.chunk; place = same ∙ h.place; inside = h.inside; named = h.named }
 
--- of an inode with the parent p that some entries of p name, a place is noted, or one of those to come names it
+-- of an inode with the parent p that some entries of p name, a place is noted, or one of those to
+-- come names it
 abbrev pub AreWaiting : (v : Layout) (b parents first ws : List ℕ) (p : ℕ) (all rest : List RoledEntry) → Type 0
 AreWaiting v b parents first ws p all rest = (x : ℕ) → is_child parents p x ≡ true →
     list_any (is_naming_entry x) all ≡ true → (place_in (slice_index first x) ≡ 0) ⊎ IsNoted v b first x →
@@ -457,7 +459,8 @@ level_under g x k h = go (first_below (level_edge g k x) g.count) refl
           },
         )
 
--- a place is noted of each directory that is reached and isn't the root, or its parent is to be read
+-- a place is noted of each directory that is reached and isn't the root, or its parent is to be
+-- read
 abbrev pub AreComing : Layout → List ℕ → (words : List ℕ) → Type 0
 AreComing v b words = (x p : ℕ) → IsUnder (graph_of (volume_of v b)) x p →
     IsNoted v b words x ⊎ ((place_in (slice_index words x) ≡ 0) × (is_due (slice_index words p) ≡ true))

@@ -1,4 +1,5 @@
--- How many reads of the image a reading of a directory still takes, and how many a directory takes in all.
+-- How many reads of the image a reading of a directory still takes, and how many a directory takes
+-- in all.
 use Rattle.std.specs.Prelude.{◌≡◌, ℕ, ◌+◌, ◌*◌, ◌<◌, ◌≤◌, ◌==◌, Bool, true, ◌&&◌, ◌||◌, nat_lt, if◌then◌else◌, List, ◌∷◌, Option}
 use Rattle.ffs_volume.specs.declared.Inode.{Inode}
 use Rattle.ffs_volume.specs.declared.Layout.{Layout}
@@ -23,8 +24,8 @@ use Rattle.ffs_names.specs.declared.run_cursor.RunCursor.{RunCursor}
 abbrev pub unread_run : RunCursor → ℕ
 unread_run cursor = if (cursor.next == 0) && nat_lt 0 cursor.count then 1 else 0
 
--- at most how many reads a reading of an image of these bytes still takes: the indirect blocks that it is in, the
--- current Run, and the Runs that it has still to look at
+-- at most how many reads a reading of an image of these bytes still takes: the indirect blocks that
+-- it is in, the current Run, and the Runs that it has still to look at
 abbrev pub to_read : List ℕ → Chunks → ℕ
 to_read b c = unread c.walk + (unread_run c.run_cursor + runs_left b c)
 
@@ -37,7 +38,8 @@ pub record HoldsReading (blocks : Blocks) (w : Window) (c : Chunks) : Type 0 whe
   pub frames : AreHeld blocks c.walk
   pub run : HoldsRun w c.run_cursor
 
--- a reading that begins still takes a read for each Run that it may look at, and needs nothing that was read
+-- a reading that begins still takes a read for each Run that it may look at, and needs nothing that
+-- was read
 pub record BeginsReads (c : Chunks) : Type 0 where
   pub to_read : (b : List ℕ) → to_read b c ≡ runs_left b c
   pub held : (blocks : Blocks) (w : Window) → HoldsReading blocks w c
@@ -69,7 +71,8 @@ pub record BeginsEntries (v : Layout) (inode : Inode) (cut : ℕ) (r : Entries) 
 abbrev pub directory_runs : Layout → List ℕ → ℕ → ℕ
 directory_runs v b x = replayed_runs v (cut_at v b x) fresh_replay (steps_of v (inode_of v b x) b)
 
--- at most how many reads a directory takes: its inode, and each of its Runs that is seen; none another inode
+-- at most how many reads a directory takes: its inode, and each of its Runs that is seen; none
+-- another inode
 abbrev pub directory_cost : Layout → List ℕ → ℕ → ℕ
 directory_cost v b x = if is_dir (volume_of v b) x then 1 + directory_runs v b x else 0
 

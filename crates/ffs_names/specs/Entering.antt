@@ -12,7 +12,8 @@ use Rattle.ffs_names.specs.declared.entries.Entries.{Entries}
 abbrev pub here : Entries → List RoledEntry
 here r = roled_from r.first r.index (entries_from r.order r.chunk 64 r.place)
 
--- all entries to come: those of the current chunk, and those of the chunks to come in an image of these bytes
+-- all entries to come: those of the current chunk, and those of the chunks to come in an image of
+-- these bytes
 abbrev pub to_come : List ℕ → Entries → List RoledEntry
 to_come b r = here r ++ flat_map roled_chunk (rest b r.chunks)
 

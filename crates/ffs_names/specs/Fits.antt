@@ -5,7 +5,8 @@ use Rattle.ffs_volume.specs.declared.Layout.{Layout}
 use Rattle.ffs_volume.specs.Disk.Areas.{is_run_in_range}
 use Rattle.ffs_names.specs.declared.run_cursor.RunCursor.{RunCursor}
 
--- the chunks of the current Run have a block's bytes at most, lie in the volume, and are chunks of the image
+-- the chunks of the current Run have a block's bytes at most, lie in the volume, and are chunks of
+-- the image
 pub record CursorFits (v : Layout) (cursor : RunCursor) : Type 0 where
   pub in_block : cursor.length ≤ v.bsize
   pub in_volume : cursor.place + cursor.length ≤ v.size * v.fsize

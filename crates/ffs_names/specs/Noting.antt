@@ -1,6 +1,7 @@
--- What chunks of a directory p note of the places of parent entries. Words are as in `Places` of ffs_workspace, but the
--- bit that says in phase 2 that the parent entry of a directory is due (`is_due`) says here that the directory is a
--- parent, and that its chunks are still to be read (`is_due`).
+-- What chunks of a directory p note of the places of parent entries. Words are as in `Places` of
+-- ffs_workspace, but the bit that says in phase 2 that the parent entry of a directory is due
+-- (`is_due`) says here that the directory is a parent, and that its chunks are still to be read
+-- (`is_due`).
 use Rattle.std.specs.Prelude.{◌≡◌, ◌⊎◌, ℕ, suc, ◌<◌, ◌≤◌, ◌==◌, Bool, true, false, not, ◌&&◌, if◌then◌else◌, List, slice_index}
 use Rattle.std.specs.Prelude.{length}
 use Rattle.std.specs.List.{list_any}
@@ -15,7 +16,8 @@ use Rattle.ffs_workspace.specs.Places.{entries_in_chunk, is_due, name_in, place_
 abbrev pub is_child : (parents : List ℕ) (p x : ℕ) → Bool
 is_child parents p x = (slice_index parents x == p) && not (x == ROOTINO)
 
--- p is the parent of x, of which no place is noted yet, and some entries have a plain one that names x
+-- p is the parent of x, of which no place is noted yet, and some entries have a plain one that
+-- names x
 abbrev pub is_found : (parents words : List ℕ) (p : ℕ) → List RoledEntry → (x : ℕ) → Bool
 is_found parents words p es x =
     is_child parents p x && ((place_in (slice_index words x) == 0) && list_any (is_naming_entry x) es)
@@ -24,15 +26,17 @@ is_found parents words p es x =
 abbrev pub KeepsToRead : (old new : List ℕ) → Type 0
 KeepsToRead old new = (x : ℕ) → is_due (slice_index new x) ≡ is_due (slice_index old x)
 
--- the place of a chunk of p with these entries is noted of each inode that is found in it, and of no other
+-- the place of a chunk of p with these entries is noted of each inode that is found in it, and of
+-- no other
 pub record NotesChunk (parents old new : List ℕ) (p place : ℕ) (es : List RoledEntry) : Type 0 where
   pub places : (x : ℕ) → place_in (slice_index new x)
       ≡ (if is_found parents old p es x then place else place_in (slice_index old x))
   pub to_read : KeepsToRead old new
 
--- each place that is noted anew is that of an inode with the parent p: the first plain entry of the chunk that names it
--- has the name of the first one of p, which has the entries es. Where words have room for all chunks, a place is noted
--- of each inode with the parent p that a plain one of these entries names, if none or a right one was noted before
+-- each place that is noted anew is that of an inode with the parent p: the first plain entry of the
+-- chunk that names it has the name of the first one of p, which has the entries es. Where words
+-- have room for all chunks, a place is noted of each inode with the parent p that a plain one of
+-- these entries names, if none or a right one was noted before
 pub record NotesEntries (v : Layout) (b parents old new : List ℕ) (p : ℕ) (es : List RoledEntry) : Type 0 where
   pub places : (x k : ℕ) → place_in (slice_index new x) ≡ suc k → (place_in (slice_index old x) ≡ suc k)
       ⊎ (name_in x (entries_in_chunk v b k) ≡ name_in x es)
@@ -51,8 +55,8 @@ pub record IsParent (parents : List ℕ) (p : ℕ) : Type 0 where
   pub parent_is : slice_index parents child ≡ p
   pub from_root : ROOTINO ≤ p
 
--- no place is noted, no number below the root's is to be read, the parent of each reached inode with a number greater
--- than the root's is to be read, and only parents are
+-- no place is noted, no number below the root's is to be read, the parent of each reached inode
+-- with a number greater than the root's is to be read, and only parents are
 pub record BeginsNotes (reached : List Bool) (parents words : List ℕ) : Type 0 where
   pub none : (x : ℕ) → place_in (slice_index words x) ≡ 0
   pub low : (x : ℕ) → x < ROOTINO → is_due (slice_index words x) ≡ false

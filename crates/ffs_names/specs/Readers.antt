@@ -14,8 +14,8 @@ use Rattle.ffs_workspace.specs.Tables.{IsTableOf}
 use Rattle.ffs_names.specs.RightShapes.{is_right_directory}
 use Rattle.ffs_workspace.specs.declared.workspace.Windows.{Windows}
 
--- what a reader of directories is over: a layout, the image's bytes where it gives them, the kinds of inodes and what
--- is noted of them, and what it was lent
+-- what a reader of directories is over: a layout, the image's bytes where it gives them, the kinds
+-- of inodes and what is noted of them, and what it was lent
 pub record Base : Type 0 where
   pub layout : Layout
   pub contents : Option (List ℕ)

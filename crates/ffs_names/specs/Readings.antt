@@ -55,16 +55,19 @@ pub record HasSeenAll (b : List ℕ) (c : Chunks) : Type 0 where
   pub chunks : all_chunks b c ≡ []
   pub gap : gap_left b c ≡ false
 
--- at most how many steps a reading has still to see and chunks of the current Run to give, whatever the image holds
+-- at most how many steps a reading has still to see and chunks of the current Run to give, whatever
+-- the image holds
 abbrev pub ahead : Chunks → ℕ
 ahead c = most_steps_left c.walk + (c.run_cursor.count - c.run_cursor.next)
 
--- the sum of a count and of what is still to be counted: it stays where a u64 has room for it, and never rises
+-- the sum of a count and of what is still to be counted: it stays where a u64 has room for it, and
+-- never rises
 pub record CountsOn (before after : ℕ) : Type 0 where
   pub most : after ≤ before
   pub all : before < 2 ^ 64 → after ≡ before
 
--- a call leaves what no reading changes, and how many chunks may still come; the count of Runs doesn't fall
+-- a call leaves what no reading changes, and how many chunks may still come; the count of Runs
+-- doesn't fall
 pub record IsSame (old new : Chunks) : Type 0 where
   pub geometry : new.walk.geometry ≡ old.walk.geometry
   pub cut : new.keeping.cut ≡ old.keeping.cut
@@ -72,7 +75,8 @@ pub record IsSame (old new : Chunks) : Type 0 where
   pub budget : new.budget ≡ old.budget
   pub runs : old.runs ≤ new.runs
 
--- a Run can be seen next: it has its length, the replay is open, and no chunk of the current Run is left
+-- a Run can be seen next: it has its length, the replay is open, and no chunk of the current Run is
+-- left
 pub record CanSee (c : Chunks) (run : Step) : Type 0 where
   pub length : HasLength c.walk.geometry.layout.frag run
   pub seen : is_replay_open c.keeping.cut (replay_in c.keeping) ≡ true
@@ -110,8 +114,8 @@ pub record Continues (b : List ℕ) (old : Chunks) (before : List Step) (new : C
 abbrev pub ContinuesTo : List ℕ → Chunks → Chunks → Type 0
 ContinuesTo b old new = Continues b old (steps_left b old.walk) new (steps_left b new.walk)
 
--- a chunk was read of those to come in an image of these bytes; the answer is its place in the file, and None where
--- there is none
+-- a chunk was read of those to come in an image of these bytes; the answer is its place in the
+-- file, and None where there is none
 pub record GivesChunk (b : List ℕ) (to_come : Chunks → List Chunk) (old new : Chunks)
     (chunk : List ℕ) (answer : Option ℕ) : Type 0 where
   pub chunks : MatchOption answer ((to_come old ≡ []) × (to_come new ≡ []))

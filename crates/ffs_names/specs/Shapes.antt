@@ -38,7 +38,8 @@ pub record BeginsDirectory (v : Layout) (inode : Inode) (cut : ℕ) (r : Entries
       ≡ (is_right_size inode.size && (are_sound (chunks_in v b inode cut)
       && not (has_gap (replayed_steps v cut fresh_replay (steps_of v inode b)))))
 
--- the first of the entries to come in an image of these bytes was read; the answer is None where there is none
+-- the first of the entries to come in an image of these bytes was read; the answer is None where
+-- there is none
 pub record GivesEntry (b : List ℕ) (old new : Entries) (answer : Option EntryHead) : Type 0 where
   pub entries : MatchOption answer (to_come b old ≡ [])
       (λ head. to_come b old ≡ roled_of head (last_name new) ∷ to_come b new)

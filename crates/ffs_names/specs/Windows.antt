@@ -6,8 +6,8 @@ use Rattle.ffs_walk.specs.declared.blocks.Blocks.{Blocks}
 use Rattle.ffs_walk.specs.declared.window.Window.{Window}
 use Rattle.ffs_walk.specs.Windows.{BlocksHold, WindowHolds}
 
--- the image has all of the volume, and the buffer of indirect blocks has a block of each level and holds what the
--- image gives
+-- the image has all of the volume, and the buffer of indirect blocks has a block of each level and
+-- holds what the image gives
 pub record CanWalkDir (v : Layout) (d : Device) (blocks : Blocks) : Type 0 where
   pub volume : v.size * v.fsize ≤ d.size
   pub room : vec_len blocks.buffer ≡ 3 * v.bsize

@@ -281,8 +281,8 @@ pub fn note_places<I: Image>(
     flag_parents(&workspace.reached, &workspace.parents, &mut workspace.queue);
     for dir in ROOTINO..geometry.layout.ncg * geometry.layout.ipg {
         let word = workspace.queue[dir as usize];
-        // The bit that says *due* later in phase 2 says here that the chunks of `dir` are still to be read
-        // (`flag_parents`).
+        // The bit that says *due* later in phase 2 says here that the chunks of `dir` are still to be
+        // read (`flag_parents`).
         if is_due(word) {
             workspace.queue.set(dir as usize, passed(word));
             note_directory(geometry, image, workspace, dir)?;

@@ -1,4 +1,5 @@
--- What isn't looked at: inodes that are no directories, and directories of size 0, which have no entries.
+-- What isn't looked at: inodes that are no directories, and directories of size 0, which have no
+-- entries.
 use Rattle.std.proofs.Common.{◌≡◌, ◌<◌, ◌==◌, refl, ap, ◌∙◌, ℕ, Bool, true, false, not, ◌&&◌, if◌then◌else◌, List, []}
 use Rattle.std.proofs.Common.{arith}
 use Rattle.std.specs.List.{flat_map, list_any}

@@ -13,23 +13,24 @@ use Rattle.ffs_pathnames.specs.Gathers.{passed_of}
 use Rattle.ffs_pathnames.specs.PassedRight.{AreRightBefore}
 use Rattle.ffs_survey.specs.Survey.{suspect_at}
 
--- what was found stays; the flags of suspect inodes are taken away, and no others; nothing is stamped
+-- what was found stays; the flags of suspect inodes are taken away, and no others; nothing is
+-- stamped
 pub record IsNonePassed (old new : Workspace) : Type 0 where
   pub survey : LeavesSurvey old new
   pub flags : (x : ℕ) → bool_at new.flags.items x
       ≡ (bool_at old.flags.items x && not (suspect_at old.kinds.items old.marked.items x))
   pub stamps : (x : ℕ) → slice_index (passed_of new).stamps x ≡ 0
 
--- the image gives the bytes, the workspace holds what the block check and the survey leave, and what it remembers of the
--- names that were passed before d is right
+-- the image gives the bytes, the workspace holds what the block check and the survey leave, and
+-- what it remembers of the names that were passed before d is right
 pub record IsBefore (v : Layout) (contents : Option (List ℕ)) (w : Workspace) (d : ℕ) (b : List ℕ) : Type 0 where
   pub gives_bytes : contents ≡ Some b
   pub claims : HoldsClaims v b w
   pub survey : HoldsSurvey v b w
   pub passed : AreRightBefore (volume_of v b) d (passed_of w)
 
--- a directory that isn't of size 0 and isn't known to be calm. That a marked one is flagged doesn't mean that it is calm,
--- but that an entry has named it
+-- a directory that isn't of size 0 and isn't known to be calm. That a marked one is flagged doesn't
+-- mean that it is calm, but that an entry has named it
 abbrev pub is_checked : Workspace → ℕ → Bool
 is_checked w x = (slice_index w.kinds.items x == DT_DIR)
     && (bool_at w.marked.items x || not (bool_at w.flags.items x))

@@ -4,7 +4,8 @@ use Rattle.ffs_volume.specs.Directories.Roles.{Volume, roled_entries}
 use Rattle.ffs_pathnames.specs.Begins.{dir_starts}
 use Rattle.ffs_pathnames.specs.PassedNames.{are_quiet}
 
--- nothing is reported before the entries of x, and nothing of these, where no inode is stamped by x yet
+-- nothing is reported before the entries of x, and nothing of these, where no inode is stamped by x
+-- yet
 pub record IsSilentDirectory (vol : Volume) (x : ℕ) : Type 0 where
   pub starts : dir_starts vol x ≡ []
   pub entries : (stamps : List ℕ) → ((y : ℕ) → y < vol.count → (slice_index stamps y == x) ≡ false)

@@ -4,7 +4,8 @@ use Rattle.ffs_volume.specs.declared.Layout.{Layout}
 use Rattle.ffs_volume.specs.Report.Reads.{line_reads}
 use Rattle.ffs_names.specs.Costs.{directories_cost, directory_cost, directory_runs}
 
--- to begin a directory with so many lines before its entries: its inode and its Runs, and what each line shows
+-- to begin a directory with so many lines before its entries: its inode and its Runs, and what each
+-- line shows
 abbrev pub begin_reads : Layout → List ℕ → (d lines : ℕ) → ℕ
 begin_reads v b d lines = directory_cost v b d + line_reads * lines
 

@@ -15,7 +15,8 @@ use Rattle.ffs_pathnames.specs.declared.directory.Directory.{Directory}
 use Rattle.ffs_pathnames.specs.declared.header.HeaderFacts.{HeaderFacts}
 use Rattle.ffs_pathnames.specs.declared.one_entry.EntryTexts.{EntryTexts}
 
--- the image gives them, the workspace holds what the block check and the survey leave, and d is a directory
+-- the image gives them, the workspace holds what the block check and the survey leave, and d is a
+-- directory
 pub record DirectoryContext (v : Layout) (contents : Option (List ℕ)) (w : Workspace) (d : ℕ) (b : List ℕ) :
     Type 0 where
   pub gives_bytes : contents ≡ Some b
@@ -38,10 +39,12 @@ abbrev pub KeepsPath : Layout → Device → Workspace → ℕ → (old new : En
 KeepsPath v d w x old new =
     ForBytes (KnowsPath v d.contents w x old) (λ b. BeginsPathOf (graph_of (volume_of v b)) x new)
 
--- the bytes are those of a directory's context, and the inode that was read is that of the directory
+-- the bytes are those of a directory's context, and the inode that was read is that of the
+-- directory
 abbrev pub KnowsDirectory : Layout → Device → Workspace → Directory → List ℕ → Type 0
 KnowsDirectory v d w x b = DirectoryContext v d.contents w x.number b × (x.inode ≡ inode_of v b x.number)
 
--- the bytes are those of the context of a header's directory, and the header's size is that of the directory
+-- the bytes are those of the context of a header's directory, and the header's size is that of the
+-- directory
 abbrev pub KnowsHeader : Layout → Device → Workspace → HeaderFacts → List ℕ → Type 0
 KnowsHeader v d w h b = DirectoryContext v d.contents w h.number b × (h.size ≡ (inode_of v b h.number).size)

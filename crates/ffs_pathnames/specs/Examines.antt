@@ -18,22 +18,24 @@ use Rattle.ffs_workspace.specs.declared.workspace.Workspace.{Workspace}
 use Rattle.ffs_workspace.specs.Leaves.{LeavesSurvey}
 use Rattle.ffs_workspace.specs.Ready.{IsReady}
 
--- a call leaves what the phases before the pathname check left, the flags, and the places that words note
+-- a call leaves what the phases before the pathname check left, the flags, and the places that
+-- words note
 pub record LeavesQueue (old new : Workspace) : Type 0 where
   pub survey : LeavesSurvey old new
   pub flags : new.flags ≡ old.flags
   pub places : KeepPlaces old.queue.items new.queue.items
 
--- what the first look at a directory leaves: the image, but for a read that failed, and all of the workspace but which
--- words are due
+-- what the first look at a directory leaves: the image, but for a read that failed, and all of the
+-- workspace but which words are due
 pub record ExamineLeaves {T : Type 0} (v : Layout) (d d' : Device) (old new : Workspace)
     (result : Result T ImageFault) : Type 0 where
   pub lists : LeavesQueue old new
   pub ready : IsReady v d' new
   pub read : ReadAfter d d' result
 
--- its inode, whether a Gap of it is kept, whether its chunks are sound, the chunk at the start of the file, whether
--- nothing may be reported of its entries; and each inode that belongs to it is stamped
+-- its inode, whether a Gap of it is kept, whether its chunks are sound, the chunk at the start of
+-- the file, whether nothing may be reported of its entries; and each inode that belongs to it is
+-- stamped
 pub record IsExamined (v : Layout) (b : List ℕ) (d : ℕ) (old : Workspace) (e : Examination) (new : Workspace) :
     Type 0 where
   pub inode : e.inode ≡ inode_of v b d

@@ -77,8 +77,8 @@ is_silent Whiteout = true
 is_silent Unallocated = false
 is_silent (Named n) = not (n.first_of_suspect || (n.extraneous || n.kind))
 
--- what is wrong with the entry e of the directory s, which names an allocated inode, by the lists and by the names that
--- were passed
+-- what is wrong with the entry e of the directory s, which names an allocated inode, by the lists
+-- and by the names that were passed
 pub record AreDefectsOf (i : Inodes) (s : ℕ) (m : PassedNames) (e : Entry) (n : EntryDefects) : Type 0 where
   pub first_of_suspect : (vol : Volume) → Sees vol i
       → n.first_of_suspect ≡ (is_suspect vol e.number && (not (e.number == ROOTINO) && not (is_flagged m e.number)))
@@ -96,7 +96,8 @@ pub record IsVerdictBy (i : Inodes) (s : ℕ) (m : PassedNames) (e : Entry) (ver
       ≡ verdict_reported verdict e.number (attributes vol e.number) (entry_path (graph_of vol) s e.name)
       (dir_path (graph_of vol) e.number)
 
--- a verdict says what is reported of a plain entry e of the directory s, and asks for the path of a directory alone
+-- a verdict says what is reported of a plain entry e of the directory s, and asks for the path of a
+-- directory alone
 pub record IsVerdict (vol : Volume) (s : ℕ) (m : PassedNames) (e : Entry) (verdict : Verdict) : Type 0 where
   pub linked : asks_path verdict ≡ true → is_dir vol e.number ≡ true
   pub reported : plain_reported vol s m e

@@ -1,4 +1,5 @@
--- What is reported of a directory's size, Gaps and chunks, and of its first two entries, by what was found of them.
+-- What is reported of a directory's size, Gaps and chunks, and of its first two entries, by what
+-- was found of them.
 use Rattle.std.specs.Prelude.{ℕ, ◌%◌, ◌==◌, Bool, false, not, ◌&&◌, nat_lt, List, ◌++◌, Option, None, Some, option_map}
 use Rattle.ffs_volume.specs.declared.constants.TheConstants.{DIRBLKSIZ, MINDIRSIZE, DT_DIR}
 use Rattle.ffs_volume.specs.declared.Attr.{Attr}

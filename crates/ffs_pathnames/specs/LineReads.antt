@@ -7,8 +7,8 @@ use Rattle.ffs_workspace.specs.Places.{AreNoted}
 use Rattle.ffs_workspace.specs.declared.workspace.Workspace.{Workspace}
 use Rattle.ffs_paths.specs.Reads.{ReadsFew}
 
--- `line_reads` reads were made at most for each of these lines, which are those of an image's bytes, and none into the
--- window of indirect blocks, where the place of each directory is noted
+-- `line_reads` reads were made at most for each of these lines, which are those of an image's
+-- bytes, and none into the window of indirect blocks, where the place of each directory is noted
 abbrev pub ReadsByLines : Layout → (knows : List ℕ → Type 0) → (lines : List ℕ → List TreeMessage) →
     (before after : Workspace) → (reads reads' : ℕ) → Type 0
 ReadsByLines v knows lines before after reads reads' = (b : List ℕ) → knows b → AreNoted v b before.queue.items

@@ -16,8 +16,8 @@ use Rattle.ffs_pathnames.specs.PassedNames.{are_quiet, after_looks}
 use Rattle.ffs_pathnames.specs.Reads.{chunks_read, start_chunk}
 use Rattle.ffs_pathnames.specs.Sees.{Sees, stamps_in}
 
--- of a chunk's entries: whether nothing may be reported of them, and whether they fill it; and each inode that belongs
--- to the directory d is stamped, by the words before and after
+-- of a chunk's entries: whether nothing may be reported of them, and whether they fill it; and each
+-- inode that belongs to the directory d is stamped, by the words before and after
 pub record IsChunkLook (inodes : Inodes) (d : ℕ) (order : Order) (first : Bool) (chunk old : List ℕ)
     (f : ChunkLook) (new : List ℕ) : Type 0 where
   pub quiet : (vol : Volume) → Sees vol inodes
@@ -26,9 +26,9 @@ pub record IsChunkLook (inodes : Inodes) (d : ℕ) (order : Order) (first : Bool
       ≡ after_looks vol d (stamps_in inodes old) (roled_from first 0 (entries_of order chunk))
   pub sound : f.sound ≡ is_sound order chunk
 
--- of the chunks of a directory: whether nothing may be reported of their entries, whether they
--- are all sound, whether a Gap is kept, the chunk at the start of the file; and each inode that belongs to
--- the directory is stamped, by the words before and after
+-- of the chunks of a directory: whether nothing may be reported of their entries, whether they are
+-- all sound, whether a Gap is kept, the chunk at the start of the file; and each inode that belongs
+-- to the directory is stamped, by the words before and after
 pub record IsFirstLook (v : Layout) (inodes : Inodes) (d : Directory) (b : List ℕ) (old : List ℕ) (f : FirstLook)
     (new : List ℕ) : Type 0 where
   pub quiet : (vol : Volume) → Sees vol inodes → d.inode.size < 2 ^ 31

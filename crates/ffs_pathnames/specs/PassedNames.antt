@@ -17,9 +17,9 @@ use Rattle.ffs_volume.specs.Messages.Kinds.{unallocated, extraneous, kind_entry}
 use Rattle.ffs_volume.specs.Directories.PathnameCheck.{attributes, label_of, is_bad_whiteout}
 use Rattle.ffs_volume.specs.Directories.PathnameCheck.{message_on_suspect, has_wrong_type, extra_lines}
 
--- `flags`: of a suspect inode, whether a plain entry has named it; of any other, whether it is calm. `stamps`: of an
--- inode, its parent, once the first look at the parent has met its entry there, and until the second reading passes it,
--- else 0.
+-- `flags`: of a suspect inode, whether a plain entry has named it; of any other, whether it is
+-- calm. `stamps`: of an inode, its parent, once the first look at the parent has met its entry
+-- there, and until the second reading passes it, else 0.
 pub record PassedNames : Type 0 where
   pub flags : List Bool
   pub stamps : List ℕ

@@ -17,7 +17,8 @@ use Rattle.ffs_walk.specs.declared.window.Window.{Window}
 unfoldable pub chunks_read : Layout → Inode → ℕ → List ℕ → List Chunk
 chunks_read v i cut b = chunks_in v b i cut
 
--- what a reading of chunks leaves: the image, but for a read that failed, and windows that can be read into
+-- what a reading of chunks leaves: the image, but for a read that failed, and windows that can be
+-- read into
 pub record ChunksLeave {T : Type 0} (v : Layout) (d d' : Device) (blocks : Blocks) (chunk : Window)
     (result : Result T ImageFault) : Type 0 where
   pub ready : CanReadChunks v d' blocks chunk

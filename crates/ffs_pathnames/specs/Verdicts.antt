@@ -7,7 +7,8 @@ use Rattle.ffs_pathnames.specs.declared.verdict.Verdict.{Verdict}
 use Rattle.ffs_pathnames.specs.declared.verdict.Verdict.TheVariants.{OutOfRange, BadWhiteout, Whiteout, Unallocated, Named}
 use Rattle.ffs_pathnames.specs.declared.verdict.EntryDefects.{EntryDefects}
 
--- what is reported of an entry that names an allocated inode: `path` is the entry's, `directory` that of the inode
+-- what is reported of an entry that names an allocated inode: `path` is the entry's, `directory`
+-- that of the inode
 abbrev pub suspect_message : EntryDefects → Attr → List ℕ → TreeMessage
 suspect_message n about path = if n.marked then dup_bad about n.label path else zero_dir about path
 

@@ -8,7 +8,8 @@ use Rattle.ffs_workspace.specs.{Places.IsNoted, declared.workspace.Workspace.Wor
 use Rattle.ffs_paths.specs.{Reads.KnowsPlaces, Reads.ReadsFew, Buffers.HoldsNames, Climbing.IsParentOf}
 use Rattle.ffs_paths.{proofs.LongestEnds.joined-length, specs.declared.buffer.PathBuffer.PathBuffer}
 
--- so many steps were climbed, with a read for each at most, and with a name for each that takes two bytes at least
+-- so many steps were climbed, with a read for each at most, and with a name for each that takes two
+-- bytes at least
 pub record HasClimbed (steps reads reads' : ℕ) (before after : Workspace) (p : PathBuffer) : Type 0 where
   pub few : ReadsFew steps reads reads' before after
   pub names : List (List ℕ)

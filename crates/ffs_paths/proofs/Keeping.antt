@@ -1,4 +1,5 @@
--- What is kept of a directory and its children stays right where only other parts of a workspace change.
+-- What is kept of a directory and its children stays right where only other parts of a workspace
+-- change.
 use Rattle.std.proofs.Common.{◌≡◌, List, ℕ, refl, sym, ap, subst, ◌∙◌, rules, Option, Result, Ok, slice_index, vec_len}
 use Rattle.std.proofs.Common.{Err}
 use Rattle.ffs_image.specs.{Device.Device, Reads.ReadAfter, declared.image.ImageFault.ImageFault}

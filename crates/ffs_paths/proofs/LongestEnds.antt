@@ -102,7 +102,8 @@ end_single most [] h = tt
 end_single most (name ∷ names) h = elim (nat_le (length (joined (name ∷ names))) most) as (λ b.
     AreSingle (if b then name ∷ names else longest_end most names)) [ true ↦ h | false ↦ end_single most names h.1 ]
 
--- the end of the names with one more: what is from the first `/` on after which that name has room, and the name
+-- the end of the names with one more: what is from the first `/` on after which that name has room,
+-- and the name
 pub end_tail : (names : List (List ℕ)) (name bytes : List ℕ) (short : ℕ) → short ≤ 1024 → length bytes ≡ 1024
     → drop short bytes ≡ joined (longest_end 1023 names) → AreSingle names → length name ≤ 1022
     → joined (longest_end 1023 (names ++ name ∷ []))

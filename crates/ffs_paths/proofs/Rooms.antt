@@ -20,8 +20,8 @@ pub entry_in_room : (g : Graph) (d : ℕ) (name : List ℕ) → length name ≤ 
     in_room (entry_path g d name) ≡ entry_path g d name
 entry_in_room g d name h = sym (fits (entry_path g d name) ((paths_fit g d).of_entry name h))
 
--- what holds of the path of a directory: of one that is reached by all names that its buffer may hold, and of one that
--- isn't
+-- what holds of the path of a directory: of one that is reached by all names that its buffer may
+-- hold, and of one that isn't
 pub by_path : (g : Graph) (d : ℕ) (p : DirectoryPath) (P : Option (List (List ℕ)) → Type 0) → IsPathOf g d p
     → (p.reached ≡ true → (names : List (List ℕ)) → HoldsNames p.names names → AreSingle names → P (Some names))
     → (p.reached ≡ false → P None) → P (path_names g d)

@@ -7,7 +7,8 @@ use Rattle.ffs_workspace.specs.declared.workspace.Workspace.{Workspace}
 use Rattle.ffs_workspace.specs.Holds.{bool_at}
 pub use Rattle.ffs_workspace.specs.Places.{name_in}
 
--- it is the name of the directory d in its parent p: that of the first plain entry there that names it, if there is one
+-- it is the name of the directory d in its parent p: that of the first plain entry there that names
+-- it, if there is one
 abbrev pub IsNameIn : Graph → (d p : ℕ) → List ℕ → Type 0
 IsNameIn g d p name = parent g d ≡ Some p → g.is_dir p ≡ true → name ≡ name_in d (g.entries p)
 
@@ -19,8 +20,9 @@ pub record IsParentOf (w : Workspace) (dir parent : ℕ) : Type 0 where
   pub some : 0 < parent
   pub inside : parent < vec_len w.parents
 
--- a path of more than 1,024 bytes becomes `?`. Only `?/NAME` can be so long: an entry of an unreached directory whose
--- name has more than 1,022 bytes (none in a real chunk; the contract takes any name).
+-- a path of more than 1,024 bytes becomes `?`. Only `?/NAME` can be so long: an entry of an
+-- unreached directory whose name has more than 1,022 bytes (none in a real chunk; the contract
+-- takes any name).
 abbrev pub in_room : List ℕ → List ℕ
 in_room path = if nat_lt 1024 (length path) then 63 ∷ [] else path
 

@@ -29,8 +29,8 @@ pub record IsKeptParent (g : Graph) (s : KeptParent) : Type 0 where
   pub parent : 0 < s.child → 0 < s.parent
   pub child : 0 < s.child → LeadsTo g s.parent s.child s.name.items
 
--- that is right in the volume, where the image gives its bytes and the workspace holds what the block check and the
--- survey leave
+-- that is right in the volume, where the image gives its bytes and the workspace holds what the
+-- block check and the survey leave
 pub record KeepsParent (v : Layout) (contents : Option (List ℕ)) (w : Workspace) (s : KeptParent) : Type 0 where
   pub right : (b : List ℕ) → contents ≡ Some b → HoldsClaims v b w → HoldsSurvey v b w
       → IsKeptParent (graph_of (volume_of v b)) s
@@ -51,7 +51,8 @@ pub record ReadyToPath (v : Layout) (d : Device) (w : Workspace) (s : KeptParent
   pub kept_parent : KeepsParent v d.contents w s
   pub number : x < v.ncg * v.ipg
 
--- what a call leaves that makes a path; where it failed, nothing of a directory and its children may be right
+-- what a call leaves that makes a path; where it failed, nothing of a directory and its children
+-- may be right
 pub record PathLeaves {T : Type 0} (v : Layout) (d d' : Device) (w w' : Workspace) (s : KeptParent)
     (result : Result T ImageFault) : Type 0 where
   pub reads : OnlyReads v d d' w w' result

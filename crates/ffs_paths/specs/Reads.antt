@@ -27,8 +27,8 @@ pub record OnlyReads {T : Type 0} (v : Layout) (old new : Device) (before after 
   pub ready : IsReady v new after
   pub read : ReadAfter old new result
 
--- P holds of the graph of the volume's directories, where the image gives its bytes, and the workspace holds what the
--- block check and the survey leave
+-- P holds of the graph of the volume's directories, where the image gives its bytes, and the
+-- workspace holds what the block check and the survey leave
 abbrev pub ForTree : Layout → Device → Workspace → (Graph → Type 0) → Type 0
 ForTree v d w P = (b : List ℕ) → d.contents ≡ Some b → HoldsClaims v b w → HoldsSurvey v b w
     → P (graph_of (volume_of v b))
@@ -38,8 +38,8 @@ pub record ReadsFew (most reads reads' : ℕ) (before after : Workspace) : Type 
   pub count : reads' ≤ reads + most
   pub blocks : after.windows.blocks ≡ before.windows.blocks
 
--- the image gives these bytes, the workspace holds what the block check and the survey leave, and it notes the place of
--- each directory that is reached
+-- the image gives these bytes, the workspace holds what the block check and the survey leave, and
+-- it notes the place of each directory that is reached
 pub record KnowsPlaces (v : Layout) (contents : Option (List ℕ)) (w : Workspace) (b : List ℕ) : Type 0 where
   pub gives_bytes : contents ≡ Some b
   pub claims : HoldsClaims v b w
@@ -51,7 +51,7 @@ abbrev pub ReadsAtMost : (most : ℕ) → Layout → Device → (before after : 
 ReadsAtMost most v d before after reads reads' = (b : List ℕ) → KnowsPlaces v d.contents before b
     → ReadsFew most reads reads' before after
 
--- the way up to the root: a chunk for each name that has room in a path, and for one that has none any more. Each name
--- takes two bytes at least, with its slash
+-- the way up to the root: a chunk for each name that has room in a path, and for one that has none
+-- any more. Each name takes two bytes at least, with its slash
 abbrev pub climb_reads : ℕ
 climb_reads = MAXPATHLEN / 2 + 1

@@ -14,7 +14,8 @@ pub record WritesOnce {S E : Type 0} (was_written : S → List ℕ → Result �
   pub written : was_written old piece answer new
   pub reported : IsReported answer result
 
--- one write of a piece, and another only where a signal interrupted the one before, with the last one's answer
+-- one write of a piece, and another only where a signal interrupted the one before, with the last
+-- one's answer
 pub record WritesThrough {S E : Type 0} (was_written : S → List ℕ → Result ℕ Error → S → Type 0) (old new : S)
     (piece : List ℕ) (result : Result ℕ E) : Type 0 where
   pub answer : Result ℕ Error

@@ -1,6 +1,6 @@
--- What a phase leaves of its image and of its report, by its answer. `knows` is what is known of the image's bytes:
--- that the image gives them, and what the workspace holds of them. Where nothing is known, messages were said, and
--- nothing is promised of which.
+-- What a phase leaves of its image and of its report, by its answer. `knows` is what is known of
+-- the image's bytes: that the image gives them, and what the workspace holds of them. Where nothing
+-- is known, messages were said, and nothing is promised of which.
 use Rattle.std.specs.Prelude.{◌≡◌, ℕ, List, [], ◌++◌, Result, Ok, Err}
 use Rattle.ffs_image.specs.Device.{Device, Faulted}
 use Rattle.ffs_volume.specs.Messages.Kinds.{Message}
@@ -39,7 +39,8 @@ pub record StoppedOf (knows : List ℕ → Type 0) (all : List ℕ → List Mess
   pub right : ForBytes knows (λ bytes. messages ++ rest bytes ≡ all bytes)
   pub stopped : Stopped old new messages
 
--- all messages at Ok, whole ones at a read's fault, a prefix of their bytes at a fault of the output
+-- all messages at Ok, whole ones at a read's fault, a prefix of their bytes at a fault of the
+-- output
 abbrev pub PhaseReports : {T : Type 0} → (List ℕ → Type 0) → (List ℕ → List Message) → Progress → Progress
     → Result T RunFault → Type 0
 PhaseReports knows all old new (Ok x) = SaidOf knows (λ bytes. []) all old new

@@ -10,7 +10,8 @@ use Rattle.ffs_volume.specs.Messages.Kinds.{Message, has_defect}
 use Rattle.ffs_volume.specs.Messages.Texts.{texts_of}
 use Rattle.ffs_report.specs.declared.report.Report.{Report}
 
--- the reference to its output, what that took, whether a line has failed, and whether a defect was said
+-- the reference to its output, what that took, whether a line has failed, and whether a defect was
+-- said
 pub record Progress : Type 0 where
   pub output : GName
   pub sink : Sink
@@ -52,8 +53,8 @@ pub record Stopped (old new : Progress) (messages : List Message) : Type 0 where
 abbrev pub Says : {T E : Type 0} → Progress → Progress → List Message → Result T E → Type 0
 Says old new messages result = MatchResult result (λ _. Said old new messages) (λ _. Stopped old new messages)
 
--- the outcome of a call that says one message: a fault adds no defect, and after one each further call is a fault that
--- leaves the report as it was
+-- the outcome of a call that says one message: a fault adds no defect, and after one each further
+-- call is a fault that leaves the report as it was
 pub record SaysOne {T E : Type 0} (old new : Progress) (message : Message) (result : Result T E) : Type 0 where
   pub said : Says old new (message ∷ []) result
   pub defect : OnErr result (new.defect ≡ old.defect)

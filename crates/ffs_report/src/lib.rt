@@ -6,9 +6,9 @@
 //! the texts of `ffs_volume::texts` that `Messages/Texts` of the definitions gives it.
 //!
 //! The chain is `Report` over `Output` over `Outlet`: a report prints to an `Output`; `Counted` is
-//! one over an `Outlet`, any std writer, and counts its failures. A `Sink` is what contracts know of
-//! an output. A `MutedWriter` passes nothing on after its first failure, and a `FuseWriter` fails
-//! after some bytes.
+//! one over an `Outlet`, any std writer, and counts its failures. A `Sink` is what contracts know
+//! of an output. A `MutedWriter` passes nothing on after its first failure, and a `FuseWriter`
+//! fails after some bytes.
 //!
 //! What each phase owes is said here too: `PhaseReports` says in one clause what was printed at Ok
 //! (all lines of the phase), at a failed read (a prefix of them, in whole lines) and at a failed

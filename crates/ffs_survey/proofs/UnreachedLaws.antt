@@ -1,4 +1,5 @@
--- The directories that aren't reached are read after the others: what that adds, and that the survey is then whole.
+-- The directories that aren't reached are read after the others: what that adds, and that the
+-- survey is then whole.
 use Rattle.std.specs.Prelude.{◌≡◌, ◌≢◌, ℕ, zero, suc, ◌+◌, ◌<◌, ◌≤◌, ◌==◌, nat_le, Bool, true, false, not, cond, ◌&&◌}
 use Rattle.std.specs.Prelude.{◌||◌, List, length, Option, None, Some, is_some, unwrap_or, refl}
 use Rattle.std.specs.List.{list_any}

@@ -20,7 +20,8 @@ use Rattle.ffs_survey.specs.Survey.{number_at, bool_at}
 use Rattle.ffs_survey.specs.Discover.{bit}
 use Rattle.ffs_survey.specs.Cycles.{parent_in, unmet, IsClosed, IsMet, Walked, FindsCycle, IsLeastOn, MarksLeaders}
 
--- the state of a walk: after `steps` steps from `start` it is at the number `at`, which no walk has passed yet
+-- the state of a walk: after `steps` steps from `start` it is at the number `at`, which no walk has
+-- passed yet
 pub record Walking (f : ℕ → Option ℕ) (start mark steps at : ℕ) (old new : List ℕ) : Type 0 where
   pub at_is : climb f steps start ≡ Some at
   pub is_unmet : number_at new at ≡ 0

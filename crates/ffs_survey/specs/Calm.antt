@@ -9,27 +9,30 @@ use Rattle.ffs_volume.specs.Directories.Roles.{RoledEntry}
 use Rattle.ffs_volume.specs.Directories.Graph.{is_naming_entry}
 use Rattle.ffs_survey.specs.Survey.{bool_at, number_at, dir_at}
 
--- the current directory and its parent, and what its entries are compared with: the kinds of inodes and which are
--- marked
+-- the current directory and its parent, and what its entries are compared with: the kinds of inodes
+-- and which are marked
 pub record CurrentDir : Type 0 where
   pub kinds : List ℕ
   pub marked : List Bool
   pub dir : ℕ
   pub parent : ℕ
 
--- neither unallocated, nor a directory of size 0, a whiteout or of class Unknown, nor a directory that is reached
+-- neither unallocated, nor a directory of size 0, a whiteout or of class Unknown, nor a directory
+-- that is reached
 abbrev pub is_calm_kind : ℕ → Bool → Bool
 is_calm_kind kind reached =
     not (kind == 0) && (not (kind == EMPTY_DIR) && (not (kind == DT_WHT) && (not (kind == UNKNOWN_TYPE)
     && not ((kind == DT_DIR) && reached))))
 
--- a plain entry is a whiteout; or the inode that it names isn't marked, and has the type of the entry
+-- a plain entry is a whiteout; or the inode that it names isn't marked, and has the type of the
+-- entry
 abbrev pub is_calm_plain : List ℕ → List Bool → (ℕ → Bool) → ℕ → ℕ → Bool
 is_calm_plain kinds marked reached x kind =
     nat_lt x (length kinds) && (((x == WINO) && (kind == DT_WHT)) || (nat_le ROOTINO x && (not (bool_at marked x)
     && ((number_at kinds x == kind) && is_calm_kind kind (reached x)))))
 
--- an entry at an index of the directory: `.` is the first, `..` the second, and all others are empty or plain
+-- an entry at an index of the directory: `.` is the first, `..` the second, and all others are
+-- empty or plain
 abbrev pub is_calm_role : CurrentDir → (ℕ → Bool) → ℕ → Role → ℕ → ℕ → Bool
 is_calm_role s reached i Dot number kind = (i == 0) && ((number == s.dir) && (kind == DT_DIR))
 is_calm_role s reached i Dotdot number kind = (i == 1) && ((number == s.parent) && (kind == DT_DIR))
@@ -49,8 +52,8 @@ abbrev pub are_calm : CurrentDir → (ℕ → Bool) → ℕ → List RoledEntry 
 are_calm s reached i [] = nat_le 2 i
 are_calm s reached i (e ∷ es) = is_calm_entry s reached i e && are_calm s (reached_after s.kinds reached e) (suc i) es
 
--- The directory d is calm: its shape is right, and so are its entries, by what was reached before it. It is reached,
--- and each directory that it names is reached from it.
+-- The directory d is calm: its shape is right, and so are its entries, by what was reached before
+-- it. It is reached, and each directory that it names is reached from it.
 pub record IsCalm (kinds : List ℕ) (marked reached : List Bool) (parents : List ℕ) (entries : List RoledEntry)
     (right_shape : Bool) (d : ℕ) : Type 0 where
   pub before : ℕ → Bool
@@ -67,7 +70,8 @@ abbrev pub AreCalm : List ℕ → List Bool → List Bool → List ℕ → (ℕ 
 AreCalm kinds marked reached parents entries right_shape calm =
     (d : ℕ) → bool_at calm d ≡ true → IsCalm kinds marked reached parents (entries d) (right_shape d) d
 
--- the flag of d is set where all its entries are calm and its shape is right, and no other flag changes
+-- the flag of d is set where all its entries are calm and its shape is right, and no other flag
+-- changes
 abbrev pub IsFlagged : ℕ → Bool → Bool → List Bool → List Bool → Type 0
 IsFlagged d all_calm right_shape old new =
     (x : ℕ) → bool_at new x ≡ (bool_at old x || ((x == d) && (nat_lt d (length old) && (all_calm && right_shape))))

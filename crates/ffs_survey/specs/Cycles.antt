@@ -1,4 +1,5 @@
--- Walks along parents, in `walk_of`: of each number 1 more than the start of the walk that passed it, 0 where none did.
+-- Walks along parents, in `walk_of`: of each number 1 more than the start of the walk that passed
+-- it, 0 where none did.
 use Rattle.std.specs.Prelude.{◌≡◌, ◌≢◌, ℕ, ◌<◌, ◌≤◌, ◌^◌, ◌==◌, ◌||◌, nat_le, Bool, false, cond}
 use Rattle.std.specs.Prelude.{List, length, All, Option, None, Some}
 use Rattle.std.specs.List.{sum_by}
@@ -31,8 +32,8 @@ pub record Walked (f : ℕ → Option ℕ) (start mark : ℕ) (old new : List �
   pub begun : number_at new start ≢ 0
   pub closed : IsClosed f new
 
--- a walk from `start` can begin: none has passed it, no other start came later, and the parents of all that is passed
--- are passed
+-- a walk from `start` can begin: none has passed it, no other start came later, and the parents of
+-- all that is passed are passed
 pub record CanFollow (parents walk_of : List ℕ) (start : ℕ) : Type 0 where
   pub few : length parents < 2 ^ 31
   pub walks : length walk_of ≡ length parents
@@ -69,7 +70,8 @@ pub record CanMarkLeaders (parents walk_of : List ℕ) (leaders : List Bool) : T
   pub walks : length walk_of ≡ length parents
   pub leaders_long : length leaders ≡ length parents
 
--- the flags of leaders, where all numbers that a walk has passed are decided, and no other has a flag
+-- the flags of leaders, where all numbers that a walk has passed are decided, and no other has a
+-- flag
 pub record MarksLeaders (f : ℕ → Option ℕ) (n : ℕ) (walk_of : List ℕ) (leader : List Bool) : Type 0 where
   pub long : length leader ≡ n
   pub known : (x : ℕ) → number_at walk_of x ≢ 0 → bool_at leader x ≡ is_leader_within f n x

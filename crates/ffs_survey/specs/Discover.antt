@@ -9,7 +9,8 @@ use Rattle.ffs_volume.specs.Directories.Climb.{is_value}
 use Rattle.ffs_volume.specs.Directories.Graph.{Graph, is_naming_entry, is_naming_dir, edge, within, level, parent}
 use Rattle.ffs_survey.specs.Survey.{bool_at, number_at, dir_at, counted_in, most_start}
 
--- what a survey has found so far: references, named and reached inodes, parents, calm directories, and the queue
+-- what a survey has found so far: references, named and reached inodes, parents, calm directories,
+-- and the queue
 pub record Found : Type 0 where
   pub references : List ℕ
   pub named : List Bool
@@ -43,8 +44,9 @@ from_dirs g ss x = find (λ s. edge g s x) ss
 abbrev pub nothing : ℕ → Option ℕ
 nothing x = None
 
--- Reading on changes no final result: what was found plus what the entries still to be read would add is the same
--- before and after. Here of reached inodes, parents and the queue; `todo` is the parent that those entries give.
+-- Reading on changes no final result: what was found plus what the entries still to be read would
+-- add is the same before and after. Here of reached inodes, parents and the queue; `todo` is the
+-- parent that those entries give.
 pub record SameResult (todo : ℕ → Option ℕ) (reached : List Bool) (parents queue : List ℕ) (todo' : ℕ → Option ℕ)
     (reached' : List Bool) (parents' queue' : List ℕ) : Type 0 where
   pub reaches : (x : ℕ) → (bool_at reached' x || is_some (todo' x)) ≡ (bool_at reached x || is_some (todo x))
@@ -80,8 +82,8 @@ none x = 0
 abbrev pub never : ℕ → Bool
 never x = false
 
--- The same of the references of the numbers below n, and of which are named: the entries still to be read add `count`
--- references to a number, and name it where `name` says so.
+-- The same of the references of the numbers below n, and of which are named: the entries still to
+-- be read add `count` references to a number, and name it where `name` says so.
 pub record Counts (n : ℕ) (count : ℕ → ℕ) (name : ℕ → Bool) (references : List ℕ) (named : List Bool)
     (count' : ℕ → ℕ) (name' : ℕ → Bool) (references' : List ℕ) (named' : List Bool) : Type 0 where
   pub counts : (x : ℕ) → x < n → number_at references' x + count' x ≡ number_at references x + count x
@@ -106,8 +108,8 @@ pub record IsFrontier (g : Graph) (k : ℕ) (xs : List ℕ) : Type 0 where
 abbrev pub parent_at : Graph → ℕ → ℕ → Option ℕ
 parent_at g k x = cond (within g k x) (parent g x) None
 
--- what is known when all levels up to k are known: which inodes are reached, the parents, and that each reached one was
--- queued once
+-- what is known when all levels up to k are known: which inodes are reached, the parents, and that
+-- each reached one was queued once
 pub record LevelsKnown (g : Graph) (k : ℕ) (reached : List Bool) (parents queue : List ℕ) : Type 0 where
   pub reaches : (x : ℕ) → bool_at reached x ≡ within g k x
   pub parent : (x : ℕ) → number_at parents x ≡ unwrap_or (parent_at g k x) 0
@@ -118,8 +120,8 @@ unfoldable pub counted_by : (ℕ → Bool) → Graph → ℕ → ℕ → ℕ
 counted_by counts g x zero = 0
 counted_by counts g x (suc s) = counted_by counts g x s + (if counts s then counted_in g s x else 0)
 
--- what is known when all reached directories are read: references, counted on from these starts, which inodes are
--- named and which are reached, and parents
+-- what is known when all reached directories are read: references, counted on from these starts,
+-- which inodes are named and which are reached, and parents
 pub record IsReachedPart (g : Graph) (starts references : List ℕ) (named reached : List Bool) (parents : List ℕ)
     : Type 0 where
   pub counts : (x : ℕ) → x < g.count
@@ -142,7 +144,8 @@ is_unreached_edge g kinds reached x s =
 abbrev pub IsBlank : List ℕ → List Bool → List ℕ → Type 0
 IsBlank kinds reached parents = (x : ℕ) → is_unreached_dir kinds reached x ≡ true → number_at parents x ≡ 0
 
--- what the directories below n that aren't reached add to references and to what is named, and which parents they give
+-- what the directories below n that aren't reached add to references and to what is named, and
+-- which parents they give
 pub record IsRead (g : Graph) (kinds : List ℕ) (reached : List Bool) (n : ℕ) (references : List ℕ) (named : List Bool)
     (parents references' : List ℕ) (named' : List Bool) (parents' : List ℕ) : Type 0 where
   pub counts : (x : ℕ) → x < g.count
@@ -152,8 +155,8 @@ pub record IsRead (g : Graph) (kinds : List ℕ) (reached : List Bool) (n : ℕ)
   pub parent : (x : ℕ) → x < g.count
       → number_at parents' x ≡ unwrap_or (first_below (is_unreached_edge g kinds reached x) n) (number_at parents x)
 
--- A level is in the queue from `low` to `high`: after it there is room for all that isn't reached yet, and no inode has
--- more references than its start and the directories before it can give.
+-- A level is in the queue from `low` to `high`: after it there is room for all that isn't reached
+-- yet, and no inode has more references than its start and the directories before it can give.
 pub record HasRoomForLevel (low high : ℕ) (references : List ℕ) (reached : List Bool) (queue : List ℕ) : Type 0 where
   pub ordered : low ≤ high
   pub room : high + unset reached ≤ length queue

@@ -60,7 +60,8 @@ lent_in l = record {
 pub record SameLists (old new : Lists) : Type 0 where
   pub lent : lent_in new ≡ lent_in old
 
--- a call leaves the reader ready over the same base, having only read the image, and the lists that it was lent
+-- a call leaves the reader ready over the same base, having only read the image, and the lists that
+-- it was lent
 pub record LeavesLent {B T : Type 0} (ready : Type 0) (base base' : B) (device device' : Device) (old new : Lists)
     (result : Result T ImageFault) : Type 0 where
   pub reader : LeavesReader ready base base' device device' result

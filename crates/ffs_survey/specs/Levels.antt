@@ -21,8 +21,9 @@ pub record ReadsReached (kinds : List ℕ) (marked : List Bool) (d : ℕ) (entri
     parent = number_at old.parents d;
   }) (bool_at old.reached) 0 entries) right_shape old.calm new.calm
 
--- what the reading of reached directories makes of what was found, as `reads` says it: no count below n grows by more
--- than `most`, and the queue, which ended at `top`, keeps what it had and ends at `end`, with all that is newly reached
+-- what the reading of reached directories makes of what was found, as `reads` says it: no count
+-- below n grows by more than `most`, and the queue, which ended at `top`, keeps what it had and
+-- ends at `end`, with all that is newly reached
 pub record Discovers (n most top end : ℕ) (reads : Found → Found → Type 0) (old new : Found) : Type 0 where
   pub grown : GrowsBy n most old.references new.references
   pub ends : end + unset new.reached ≡ top + unset old.reached
@@ -30,8 +31,8 @@ pub record Discovers (n most top end : ℕ) (reads : Found → Found → Type 0)
   pub kept : take top new.queue ≡ old.queue
   pub read : reads old new
 
--- what the reading of a level makes of what was found, as `reads` says it: the queue keeps what it had up to `high`,
--- and has the next level from there to `end`
+-- what the reading of a level makes of what was found, as `reads` says it: the queue keeps what it
+-- had up to `high`, and has the next level from there to `end`
 pub record FollowsLevel (high end : ℕ) (reads : Found → Found → Type 0) (old new : Found) : Type 0 where
   pub room : HasRoomForLevel high end new.references new.reached new.queue
   pub kept : take high new.queue ≡ take high old.queue

@@ -1,4 +1,5 @@
--- An entry as a reader hands it out, what a reader's base knows, and what a call leaves of a reader.
+-- An entry as a reader hands it out, what a reader's base knows, and what a call leaves of a
+-- reader.
 use Rattle.std.specs.Prelude.{◌≡◌, ℕ, Bool, List, Result}
 use Rattle.ffs_image.specs.Device.{Device}
 use Rattle.ffs_image.specs.Reads.{ReadAfter}
@@ -13,8 +14,8 @@ roled_of e name = record {
   entry = record { number = e.number; length = e.length; kind = e.kind; name = name };
 }
 
--- P holds of the entries of each directory and of which directories have a right shape, by each list of bytes that a
--- reader's base knows to be the image's
+-- P holds of the entries of each directory and of which directories have a right shape, by each
+-- list of bytes that a reader's base knows to be the image's
 abbrev pub ForKnown : {B : Type 0} → (B → List ℕ → Type 0) → (B → List ℕ → ℕ → List RoledEntry)
     → (B → List ℕ → ℕ → Bool) → B → ((ℕ → List RoledEntry) → (ℕ → Bool) → Type 0) → Type 0
 ForKnown knows entries right_shape base P = (b : List ℕ) → knows base b → P (entries base b) (right_shape base b)

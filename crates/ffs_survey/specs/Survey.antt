@@ -44,8 +44,8 @@ most_start = NO_LINKS
 abbrev pub start_in : (starts : List ℕ) (x : ℕ) → ℕ
 start_in starts x = min (number_at starts x) most_start
 
--- these lists hold of each inode how many entries refer to it, counted on from where it starts, whether a plain one
--- names it, whether it is reached from inode 2, and its parent, 0 for none
+-- these lists hold of each inode how many entries refer to it, counted on from where it starts,
+-- whether a plain one names it, whether it is reached from inode 2, and its parent, 0 for none
 pub record IsSurvey (g : Graph) (starts references : List ℕ) (named reached : List Bool) (parents : List ℕ)
     : Type 0 where
   pub counts : (x : ℕ) → x < g.count → number_at references x ≡ start_in starts x + references_to g x
@@ -58,8 +58,8 @@ pub record AreNamed (g : Graph) (kinds : List ℕ) (named : List Bool) : Type 0 
   pub count : g.count ≡ length kinds
   pub names : (x : ℕ) → x < g.count → bool_at named x ≡ is_named g x
 
--- a graph over the directories of these kinds; the other lists hold of each inode whether it is reached in that graph,
--- and its parent, 0 for none
+-- a graph over the directories of these kinds; the other lists hold of each inode whether it is
+-- reached in that graph, and its parent, 0 for none
 pub record IsTree (g : Graph) (kinds : List ℕ) (reached : List Bool) (parents : List ℕ) : Type 0 where
   pub some : 2 < g.count
   pub count : g.count ≡ length kinds

@@ -203,7 +203,8 @@ counted_alike v r (Run start len block) = one (nat_lt r.bad 11 && true) (is_run_
     one true false true = record { bad = refl }
     one true false false = record { bad = refl }
 
--- a replay continues in the same way from the kept offers that are counted only where there is a cut
+-- a replay continues in the same way from the kept offers that are counted only where there is a
+-- cut
 pub counted_same : (v : Layout) (i cut : ℕ) (r : Replay) (step : Step) (steps : List Step) →
     SameReplay v i cut (replay_after_step v cut r step) (replay_step_by_cut v cut r step) steps
 counted_same v i zero r step steps = alike_same v i (replay_after_step v 0 r step) (replay_step_by_cut v 0 r step) steps

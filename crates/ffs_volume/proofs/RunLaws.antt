@@ -12,7 +12,8 @@ use Rattle.ffs_volume.specs.Laws.Geometry.{IsAcceptedLayout}
 use Rattle.ffs_volume.proofs.AreaLaws.{is_in_metadata_of, is_metadata_of_group, group_below, group_is}
 use Rattle.ffs_volume.proofs.Below.{all_below-at, all_below-from}
 
--- the run of `len` fragments from `start` ends in the volume and in its group, and is before the kept part or after it
+-- the run of `len` fragments from `start` ends in the volume and in its group, and is before the
+-- kept part or after it
 abbrev pub is_apart : Layout → ℕ → ℕ → Bool
 is_apart v start len =
     nat_le (start + len) v.size && nat_le (start + len) (cgbase v (start / v.fpg + 1))

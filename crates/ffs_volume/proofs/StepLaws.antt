@@ -1,5 +1,5 @@
--- The Runs of data of an inode come in the order of its logical blocks, and each Run has a fragment at least, and a
--- block's fragments at most.
+-- The Runs of data of an inode come in the order of its logical blocks, and each Run has a fragment
+-- at least, and a block's fragments at most.
 use Rattle.std.proofs.Common.{zero, suc, inl, inr, ◌≡◌, ℕ, ◌+◌, ◌-◌, ◌*◌, ◌%◌, ◌<◌, ◌≤◌, Bool, true, false, arith, refl}
 use Rattle.std.proofs.Common.{◌∙◌, List, [], ◌∷◌, ◌++◌, Some, None}
 use Rattle.std.specs.Prelude.{nat_lt, nat_eq, ◌&&◌, if◌then◌else◌, slice_index}
@@ -23,8 +23,8 @@ use Rattle.ffs_volume.specs.Blocks.Steps.{any_nonzero_from, steps_under, data_le
 use Rattle.ffs_volume.specs.Blocks.Steps.{indirect_steps, steps_at, indirection_of, first_block, steps_of_addresses}
 use Rattle.ffs_volume.specs.Blocks.Steps.{last_length_of, is_walked, steps_of}
 
--- the blocks of the data are from `low` on, ascending, and below `high`; each Run has a fragment at least, and `frag`
--- at most
+-- the blocks of the data are from `low` on, ascending, and below `high`; each Run has a fragment at
+-- least, and `frag` at most
 abbrev pub Within : ℕ → ℕ → ℕ → List Step → Type 0
 Within frag low high [] = low ≤ high
 Within frag low high (Run start len (Some block) ∷ steps) = (low ≤ block) × HasLength frag (Run start len (Some block))

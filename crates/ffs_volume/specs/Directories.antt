@@ -1,7 +1,7 @@
--- Directories: entries and their roles, levels and parents, paths, and the lines of phases 2, 3 and 4. Four tests have
--- one meaning: `is_directory` takes a class, `is_dir` a number of a volume, `is_dir_inode`, of `Groups`, a number and
--- the classes, and `is_dir_kind`, of `Encodings`, what the program stores. The `kind` of an entry is its type, DT_DIR
--- and so on.
+-- Directories: entries and their roles, levels and parents, paths, and the lines of phases 2, 3 and
+-- 4. Four tests have one meaning: `is_directory` takes a class, `is_dir` a number of a volume,
+-- `is_dir_inode`, of `Groups`, a number and the classes, and `is_dir_kind`, of `Encodings`, what
+-- the program stores. The `kind` of an entry is its type, DT_DIR and so on.
 pub mod Entries
 pub mod Roles
 pub mod Climb

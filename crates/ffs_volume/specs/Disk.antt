@@ -1,4 +1,5 @@
--- The disk: numbers in bytes, the superblock, where the parts of a volume lie, and which superblocks are accepted.
+-- The disk: numbers in bytes, the superblock, where the parts of a volume lie, and which
+-- superblocks are accepted.
 pub mod Numbers
 pub mod Search
 pub mod Superblock

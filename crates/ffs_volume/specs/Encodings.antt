@@ -1,5 +1,5 @@
--- What a workspace, the memory of a check, stores of an inode: its class as a number, where the count of its references
--- starts, and its kept offers as one number, from which they are replayed.
+-- What a workspace, the memory of a check, stores of an inode: its class as a number, where the
+-- count of its references starts, and its kept offers as one number, from which they are replayed.
 pub mod Kinds
 pub mod Links
 pub mod Lists

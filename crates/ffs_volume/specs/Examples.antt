@@ -1,4 +1,5 @@
--- Worked examples: images, and what the definitions give for them. A record of examples has its comments inside.
+-- Worked examples: images, and what the definitions give for them. A record of examples has its
+-- comments inside.
 pub mod Images
 pub mod OpeningExamples
 pub mod BlockExamples

@@ -1,4 +1,5 @@
--- The report: its opening, its messages, its end and its status, and the bounds on memory, on Runs and on reads.
+-- The report: its opening, its messages, its end and its status, and the bounds on memory, on Runs
+-- and on reads.
 pub mod Opening
 pub mod Whole
 pub mod Memory

@@ -1,4 +1,5 @@
--- Blocks and fragments have sizes that are powers of two. A shift divides by one, and a mask gives the remainder.
+-- Blocks and fragments have sizes that are powers of two. A shift divides by one, and a mask gives
+-- the remainder.
 use Rattle.std.proofs.Common.{zero, suc, ◌≡◌, ◌==◌, ◌-◌, ◌/◌, ◌%◌, ◌^◌, ◌<◌, ◌≤◌, ℕ, List, [], ◌∷◌, true, refl, sym, ap, ap₂}
 use Rattle.std.proofs.Common.{◌∙◌, arith, bit_and, inl, inr, subst}
 use Rattle.std.specs.Int.{IsPowerOfTwo, trailing_zeros, w32}

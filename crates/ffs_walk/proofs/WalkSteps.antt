@@ -237,7 +237,8 @@ pub joined_three : (S D T I F X Z : List Step) → S ≡ [] → D ≡ [] → T �
     S ++ (D ++ (T ++ X)) ≡ Z
 joined_three S D T I F X Z none none' split made = rw (none, none', split, append_assoc) (rw (none, none') at made)
 
--- where an item of a frame means a step and what is left then, the walk's rest is that step and what is left
+-- where an item of a frame means a step and what is left then, the walk's rest is that step and
+-- what is left
 pub double_reported : (contents : Option (List ℕ)) (w : Walk) (words : ℕ) (f : Frame) (item : Item) (step : Step)
     (R : List ℕ → List Step) →
     words ≡ w.geometry.layout.nindir → IsSpent w.single →

@@ -7,8 +7,8 @@ use Rattle.ffs_walk.specs.declared.frame.Frame.{Frame}
 use Rattle.ffs_walk.specs.declared.frame.Item.{Item}
 use Rattle.ffs_walk.specs.declared.frame.Item.TheVariants.{UnusedWord, Word}
 
--- where the frame has a word left, its block is in range and no direct block is under it; it counts only words that a
--- file of so many blocks uses
+-- where the frame has a word left, its block is in range and no direct block is under it; it counts
+-- only words that a file of so many blocks uses
 pub record FrameFits (v : Layout) (blocks span : ℕ) (f : Frame) : Type 0 where
   pub words : f.used ≤ indirect_addresses_needed v.nindir blocks f.first span
   pub in_range_there : f.next < f.used → IsTrue (is_run_in_range v f.address v.frag)

@@ -22,7 +22,8 @@ next_address blocks w = address_in w.geometry.layout (level_bytes w.geometry.lay
 abbrev pub word_step : (frag address block : ℕ) → Step
 word_step frag address block = if address == 0 then Gap else Run address frag (Some block)
 
--- a walk passes over the next word of the single indirect block that it is in: the step at it is passed over
+-- a walk passes over the next word of the single indirect block that it is in: the step at it is
+-- passed over
 pub record PassesWord (blocks : Blocks) (old new : Walk) : Type 0 where
   pub steps : (contents : Option (List ℕ)) → BlocksHold old.geometry.layout contents blocks →
       ForContents contents (λ bytes. steps_left bytes old

@@ -12,14 +12,16 @@ use Rattle.ffs_walk.specs.declared.keeping.Keeping.{Keeping}
 abbrev pub replay_in : Keeping → Replay
 replay_in k = record { bad = k.bad; kept = k.kept }
 
--- how many offers of a Run that is seen are kept: the first ones; the eleventh bad Run offers nothing
+-- how many offers of a Run that is seen are kept: the first ones; the eleventh bad Run offers
+-- nothing
 abbrev pub run_taken : (v : Layout) (cut : ℕ) (r : Replay) (start len : ℕ) → ℕ
 run_taken v cut r start len =
     if is_run_in_range v start len
     then taken_of cut r.kept len
     else (if r.bad == MAXBAD then 0 else taken_of cut r.kept len)
 
--- a Run is replayed: how many of its offers are kept, whether it is kept as a step, and the replay after it
+-- a Run is replayed: how many of its offers are kept, whether it is kept as a step, and the replay
+-- after it
 pub record Replays (v : Layout) (start len : ℕ) (block : Option ℕ) (old new : Keeping) (taken : ℕ) : Type 0 where
   pub count : taken ≡ run_taken v old.cut (replay_in old) start len
   pub kept : (taken == len) ≡ is_replayed v old.cut (replay_in old) (Run start len block)

@@ -10,7 +10,8 @@ IsWithin blocks (Run start len block) = IfSome block (λ b. b < blocks)
 IsWithin blocks Tail = Unit {0}
 IsWithin blocks Gap = Unit {0}
 
--- the step is one of an inode with so many logical blocks: a Run has a fragment, and at most those of a block
+-- the step is one of an inode with so many logical blocks: a Run has a fragment, and at most those
+-- of a block
 pub record IsStepOf (frag blocks : ℕ) (step : Step) : Type 0 where
   pub length : HasLength frag step
   pub within : IsWithin blocks step

@@ -20,7 +20,8 @@ use Rattle.ffs_walk.specs.Counts.{EntersOnly, IsEntered, entered}
 abbrev pub file_blocks_of : Walk → FileBlocks
 file_blocks_of w = record { layout = w.geometry.layout; blocks = w.logical_blocks; last_length = w.last }
 
--- the steps that a walk has left in its single, double and triple indirect block, and from the inode's own addresses
+-- the steps that a walk has left in its single, double and triple indirect block, and from the
+-- inode's own addresses
 abbrev pub single_rest : List ℕ → Walk → List Step
 single_rest bytes w = frame_rest w.geometry.layout bytes (steps_at (file_blocks_of w) bytes 0) 1 w.single
 
@@ -66,14 +67,15 @@ pub record UsesNothing (w : Walk) : Type 0 where
   pub triple : w.triple.used ≡ 0
   pub top : w.used ≡ 0
 
--- none of its indirect blocks has an item left: the next step is at one of the inode's own addresses
+-- none of its indirect blocks has an item left: the next step is at one of the inode's own
+-- addresses
 pub record IsAtTop (w : Walk) : Type 0 where
   pub single : IsSpent w.single
   pub double : IsSpent w.double
   pub triple : IsSpent w.triple
 
--- the next step of a walk in an image of these contents is taken, and the walk has the others left; None comes after
--- the last
+-- the next step of a walk in an image of these contents is taken, and the walk has the others left;
+-- None comes after the last
 pub record IsNextStep (contents : Option (List ℕ)) (old new : Walk) (answer : Option Step) : Type 0 where
   pub steps : ForContents contents (λ bytes. MatchOption answer (steps_left bytes old ≡ [])
       (λ step. steps_left bytes old ≡ step ∷ steps_left bytes new))
@@ -108,7 +110,8 @@ pub record Enters (w : Walk) (span address first : ℕ) (made : Step) (frame : F
   pub fits : FrameFits w.geometry.layout w.logical_blocks span frame
   pub counted : IsEntered made frame
 
--- the step is the first that an item of a level means, and the walk has the others left, before those that it had
+-- the step is the first that an item of a level means, and the walk has the others left, before
+-- those that it had
 pub record IsFirstOf (level : ℕ) (item : Item) (old new : Walk) (step : Step) : Type 0 where
   pub steps : (bytes : List ℕ) → item_steps (steps_at (file_blocks_of old) bytes level) item ++ steps_left bytes old
       ≡ step ∷ steps_left bytes new

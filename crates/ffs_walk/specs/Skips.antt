@@ -14,20 +14,21 @@ use Rattle.ffs_walk.specs.Frames.{IsSameBlock, frame_left, frame_rest}
 use Rattle.ffs_walk.specs.Rests.{IsAtTop, SameFileBlocks, most_steps_left, steps_left}
 use Rattle.ffs_walk.specs.Counts.{EntersOnly}
 
--- the next word in the block of a frame isn't zero, where the block is held for the level and was read before
+-- the next word in the block of a frame isn't zero, where the block is held for the level and was
+-- read before
 abbrev pub HasNoGapNext : Layout → ℕ → Blocks → Frame → Type 0
 HasNoGapNext v level blocks f = f.unread ≡ false → held_address level blocks ≡ Some f.address → f.next < f.used
     → 0 < address_in v (level_bytes v level blocks) f.next
 
--- the walk's addresses from the next one on and below an index are zero, and the one at the index isn't, where it is
--- used
+-- the walk's addresses from the next one on and below an index are zero, and the one at the index
+-- isn't, where it is used
 pub record EndsZeroAddresses (w : Walk) (end : ℕ) : Type 0 where
   pub within : (w.next ≤ end) × (end ≤ w.used)
   pub zeros : (k : ℕ) → w.next ≤ k → k < end → slice_index w.addresses k ≡ 0
   pub passed : end < w.used → 0 < slice_index w.addresses end
 
--- no gap is known to come next in the innermost indirect block that a walk was in, or at the inode's own addresses
--- where it was in none
+-- no gap is known to come next in the innermost indirect block that a walk was in, or at the
+-- inode's own addresses where it was in none
 pub record HasPassedGaps (old new : Walk) (blocks : Blocks) : Type 0 where
   pub single : old.single.next < old.single.used → HasNoGapNext old.geometry.layout 0 blocks new.single
   pub double : IsSpent old.single → old.double.next < old.double.used
@@ -36,7 +37,8 @@ pub record HasPassedGaps (old new : Walk) (blocks : Blocks) : Type 0 where
       → HasNoGapNext old.geometry.layout 2 blocks new.triple
   pub top : IsAtTop old → new.next < new.used → 0 < slice_index new.addresses new.next
 
--- a frame passes over so many words of zero, which mean as many gaps at every level, and none follows that is known
+-- a frame passes over so many words of zero, which mean as many gaps at every level, and none
+-- follows that is known
 pub record PassesZeros (v : Layout) (level : ℕ) (blocks : Blocks) (old new : Frame) (gaps : ℕ) : Type 0 where
   pub steps : (contents : Option (List ℕ)) → BlocksHold v contents blocks → ForContents contents (λ bytes.
       (child : ℕ → ℕ → List Step) (span : ℕ) → ((block : ℕ) → child 0 block ≡ Gap ∷ []) →

@@ -37,7 +37,8 @@ pub record BlocksHold (v : Layout) (contents : Option (List ℕ)) (blocks : Bloc
 pub record HasRoom (v : Layout) (blocks : Blocks) : Type 0 where
   pub blocks_fit : 3 * v.bsize ≤ vec_len blocks.buffer
 
--- the image has all of the volume, and the buffer has room for indirect blocks and holds what the image gives
+-- the image has all of the volume, and the buffer has room for indirect blocks and holds what the
+-- image gives
 pub record CanWalk (v : Layout) (d : Device) (blocks : Blocks) : Type 0 where
   pub volume : v.size * v.fsize ≤ d.size
   pub room : HasRoom v blocks
@@ -48,7 +49,8 @@ pub record KeepsBlocks (v : Layout) (contents : Option (List ℕ)) (before after
   pub size : vec_len after.buffer ≡ vec_len before.buffer
   pub holds : BlocksHold v contents after
 
--- a call that may read an indirect block leaves the image as a read does, and blocks that hold what the image gives
+-- a call that may read an indirect block leaves the image as a read does, and blocks that hold what
+-- the image gives
 pub record BlocksAfter {T : Type 0} (v : Layout) (d d' : Device) (before after : Blocks)
     (result : Result T ImageFault) : Type 0 where
   pub kept : KeepsBlocks v d'.contents before after
@@ -80,8 +82,8 @@ pub record AreEmptyBlocks (list : FixedList ℕ) (blocks : Blocks) : Type 0 wher
   pub buffer : blocks.buffer ≡ list
   pub holds : (v : Layout) (contents : Option (List ℕ)) → BlocksHold v contents blocks
 
--- from index `next` on the words of a block are zero up to `end`, where a word stands that isn't zero, or the used ones
--- end
+-- from index `next` on the words of a block are zero up to `end`, where a word stands that isn't
+-- zero, or the used ones end
 pub record EndsZeros (v : Layout) (block : List ℕ) (next used end : ℕ) : Type 0 where
   pub within : (next ≤ end) × (end ≤ used)
   pub zeros : (k : ℕ) → next ≤ k → k < end → address_in v block k ≡ 0

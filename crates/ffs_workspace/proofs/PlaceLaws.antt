@@ -52,7 +52,8 @@ name_in-among x (e ∷ es) fs h =
     go true q later = refl
     go false q later = later q
 
--- whether an entry is plain depends neither on its index nor on whether its chunk is at the start of the file
+-- whether an entry is plain depends neither on its index nor on whether its chunk is at the start
+-- of the file
 pub plain_alike : (first later : Bool) (i j : ℕ) (e : Entry) → is_plain (role_of first i e) ≡ is_plain (role_of later j e)
 unfolding role_of
 plain_alike first later i j e =

@@ -122,7 +122,8 @@ block_divides v g =
     let same : 128 * v.inopb ≡ v.bsize = inodes_whole v g in
     record { some = omega (arith, same); whole = mod_self v.inopb }
 
--- the numbers of the block of x, in blocks of n: each is in the same table of ipg, and in the same block of it
+-- the numbers of the block of x, in blocks of n: each is in the same table of ipg, and in the same
+-- block of it
 in_block : (x y ipg n : ℕ) → 0 < n → 0 < ipg → ipg % n ≡ 0 → x - x % ipg % n ≤ y → y < x - x % ipg % n + n →
     (y / ipg ≡ x / ipg) × (y % ipg ≡ x % ipg / n * n + (y - (x - x % ipg % n)))
 in_block x y ipg n some filled whole low high =

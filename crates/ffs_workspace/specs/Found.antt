@@ -1,4 +1,5 @@
--- What is known of bytes between the phases: an image gives them, and a workspace holds what was found in them.
+-- What is known of bytes between the phases: an image gives them, and a workspace holds what was
+-- found in them.
 use Rattle.std.specs.Prelude.{◌≡◌, ℕ, List, Some}
 use Rattle.ffs_image.specs.Device.{Device}
 use Rattle.ffs_volume.specs.declared.Layout.{Layout}

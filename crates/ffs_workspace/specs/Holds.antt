@@ -57,8 +57,9 @@ marked_by_phase1_at v image x =
 unfoldable pub all_claims : Layout → List ℕ → Claims
 all_claims v image = after_owners v (no_claims v) (owners_of v image)
 
--- what phase 1 leaves: the fragments that are reserved or claimed and those with a Dup line, and for each inode its
--- kind, whether it is marked so far, what is noted of it, and where its count of references starts
+-- what phase 1 leaves: the fragments that are reserved or claimed and those with a Dup line, and
+-- for each inode its kind, whether it is marked so far, what is noted of it, and where its count of
+-- references starts
 pub record HoldsPhase1 (v : Layout) (image : List ℕ) (w : Workspace) : Type 0 where
   pub used : bits_of w.claimed ≡ (all_claims v image).used
   pub dup : bits_of w.duplicates ≡ (all_claims v image).dup
@@ -68,8 +69,8 @@ pub record HoldsPhase1 (v : Layout) (image : List ℕ) (w : Workspace) : Type 0 
   pub notes : (x : ℕ) → slice_index w.notes.items x ≡ note_at v image x
   pub starts : (x : ℕ) → slice_index w.references.items x ≡ start_at v image x
 
--- what phases 1 and 1b leave: the fragments that are reserved or claimed, and for each inode its kind, whether it is
--- marked, and what is noted of it
+-- what phases 1 and 1b leave: the fragments that are reserved or claimed, and for each inode its
+-- kind, whether it is marked, and what is noted of it
 pub record HoldsClaims (v : Layout) (image : List ℕ) (w : Workspace) : Type 0 where
   pub used : bits_of w.claimed ≡ (after_owners v (no_claims v) (owners_of v image)).used
   pub kinds : (x : ℕ) → slice_index w.kinds.items x ≡ kind_at v image x
@@ -85,8 +86,9 @@ pub record HoldsReferences (v : Layout) (image : List ℕ) (w : Workspace) : Typ
   pub counts : (x : ℕ) → x < inodes_of v
       → slice_index w.references.items x ≡ start_at v image x + references (volume_of v image) x
 
--- what the survey leaves of each inode: whether a plain entry names it, whether it is reached from the root, and its
--- parent, or 0 for none. Each place that is noted in `queue` is that of a parent entry
+-- what the survey leaves of each inode: whether a plain entry names it, whether it is reached from
+-- the root, and its parent, or 0 for none. Each place that is noted in `queue` is that of a parent
+-- entry
 pub record HoldsSurvey (v : Layout) (image : List ℕ) (w : Workspace) : Type 0 where
   pub named : (x : ℕ) → x < inodes_of v → bool_at w.named.items x ≡ is_named (graph_of (volume_of v image)) x
   pub reached : (x : ℕ) → bool_at w.reached.items x ≡ reached (graph_of (volume_of v image)) x

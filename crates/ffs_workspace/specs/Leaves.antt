@@ -4,8 +4,8 @@ use Rattle.ffs_volume.specs.declared.Layout.{Layout}
 use Rattle.ffs_workspace.specs.Places.{ArePlaces}
 use Rattle.ffs_workspace.specs.declared.workspace.Workspace.{Workspace}
 
--- what the block check and the survey of directories found is as it was, and each place that is noted is right where
--- each one was
+-- what the block check and the survey of directories found is as it was, and each place that is
+-- noted is right where each one was
 pub record LeavesSurvey (old new : Workspace) : Type 0 where
   pub claimed : new.claimed ≡ old.claimed
   pub kinds : new.kinds ≡ old.kinds

@@ -1,6 +1,6 @@
--- What a workspace notes of an inode, in 32 bits: how many offers it keeps, where its eleventh dup offer cut it; where
--- it isn't cut and is a directory of one chunk, the address of that chunk, so that the survey needn't read the inode
--- again; else 0.
+-- What a workspace notes of an inode, in 32 bits: how many offers it keeps, where its eleventh dup
+-- offer cut it; where it isn't cut and is a directory of one chunk, the address of that chunk, so
+-- that the survey needn't read the inode again; else 0.
 use Rattle.std.specs.Prelude.{ℕ, Bool, ◌+◌, ◌-◌, ◌^◌, ◌&&◌, ◌==◌, nat_lt, if◌then◌else◌, List, slice_index}
 use Rattle.ffs_volume.specs.declared.Layout.{Layout}
 use Rattle.ffs_volume.specs.declared.Inode.{Inode}
@@ -10,9 +10,10 @@ use Rattle.ffs_volume.specs.Blocks.Inodes.{inode_of, is_directory}
 use Rattle.ffs_volume.specs.Directories.Volumes.{class_at}
 use Rattle.ffs_volume.specs.Encodings.Replay.{cut_at}
 
--- notes from this number on are addresses, from 0 on. No inode keeps so many offers: it keeps at most 99 more than the
--- volume has fragments, of which there are fewer than 2^31. The 99 are 8 for each of eleven bad Runs, and eleven dup
--- offers, as `offers_potential` counts them (the eleventh bad Run keeps nothing); any number up to 128 would serve
+-- notes from this number on are addresses, from 0 on. No inode keeps so many offers: it keeps at
+-- most 99 more than the volume has fragments, of which there are fewer than 2^31. The 99 are 8 for
+-- each of eleven bad Runs, and eleven dup offers, as `offers_potential` counts them (the eleventh
+-- bad Run keeps nothing); any number up to 128 would serve
 abbrev pub first_noted : ℕ
 first_noted = 2 ^ 31 + 128
 

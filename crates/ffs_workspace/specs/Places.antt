@@ -1,7 +1,7 @@
--- Where the parent entry of a directory is in the image, as a word of 32 bits notes it. Its low 31 bits are the noted
--- place: 0 where none is noted, else 1 more than the number of the chunk of 512 bytes of the image that has the entry.
--- Its top bit says that the entry is due: the first look at the parent has met it, and the second reading, if there is
--- one, has not passed it yet.
+-- Where the parent entry of a directory is in the image, as a word of 32 bits notes it. Its low 31
+-- bits are the noted place: 0 where none is noted, else 1 more than the number of the chunk of 512
+-- bytes of the image that has the entry. Its top bit says that the entry is due: the first look at
+-- the parent has met it, and the second reading, if there is one, has not passed it yet.
 use Rattle.std.specs.Prelude.{◌≡◌, ℕ, suc, ◌+◌, ◌-◌, ◌*◌, ◌^◌, ◌≤◌, Bool, false, true, not, nat_lt, if◌then◌else◌, List, slice_index}
 use Rattle.std.specs.Prelude.{Some, option_and_then}
 use Rattle.std.specs.List.{list_any}
@@ -31,11 +31,13 @@ place_of chunk = if nat_lt chunk (2 ^ 31 - 1) then chunk + 1 else 0
 abbrev pub name_in : ℕ → List RoledEntry → List ℕ
 name_in d es = name_of (option_and_then (nth_roled es) (first_index (is_naming_entry d) es))
 
--- the entries of the chunk k of an image. Whether an entry is plain doesn't depend on where the chunk is in the file
+-- the entries of the chunk k of an image. Whether an entry is plain doesn't depend on where the
+-- chunk is in the file
 abbrev pub entries_in_chunk : Layout → List ℕ → ℕ → List RoledEntry
 entries_in_chunk v b k = roled_from false 0 (entries_of v.order (piece (DIRBLKSIZ * k) DIRBLKSIZ b))
 
--- the first plain entry in the chunk k that names x has the name of the first one of the directory p
+-- the first plain entry in the chunk k that names x has the name of the first one of the directory
+-- p
 abbrev pub IsPlaceOf : Layout → List ℕ → (p x k : ℕ) → Type 0
 IsPlaceOf v b p x k = name_in x (entries_in_chunk v b k) ≡ name_in x (roled_entries (volume_of v b) p)
 
@@ -44,8 +46,8 @@ abbrev pub ArePlaces : Layout → List ℕ → (words : List ℕ) → Type 0
 ArePlaces v b words = (x p k : ℕ) → place_in (slice_index words x) ≡ suc k
     → parent (graph_of (volume_of v b)) x ≡ Some p → IsPlaceOf v b p x k
 
--- Each chunk of the volume has a number for which a word has room: there are fewer than 2^31 chunks, of 2^9 bytes each.
--- So the volume has less than 2^40 bytes.
+-- Each chunk of the volume has a number for which a word has room: there are fewer than 2^31
+-- chunks, of 2^9 bytes each. So the volume has less than 2^40 bytes.
 abbrev pub AreChunksNumbered : Layout → Type 0
 AreChunksNumbered v = v.size * v.fsize ≤ DIRBLKSIZ * (2 ^ 31 - 1)
 

@@ -9,7 +9,8 @@ use Rattle.ffs_workspace.specs.Holds.{IsFresh}
 use Rattle.ffs_workspace.specs.Lengths.{IsFor, HoldWindows}
 use Rattle.ffs_workspace.specs.Tables.{IsTableOf}
 
--- its lists have the lengths of the volume, the image has all of the volume, and its windows hold what the image gives
+-- its lists have the lengths of the volume, the image has all of the volume, and its windows hold
+-- what the image gives
 pub record IsReady (v : Layout) (d : Device) (w : Workspace) : Type 0 where
   pub made : IsFor v w
   pub volume : v.size * v.fsize ≤ d.size
@@ -20,7 +21,8 @@ pub record StaysReady (v : Layout) (d : Device) (old new : Workspace) : Type 0 w
   pub held : new ≡ record old { windows = new.windows }
   pub ready : IsReady v d new
 
--- its lists have the lengths of the volume, nothing was found yet, and its windows hold what any image gives
+-- its lists have the lengths of the volume, nothing was found yet, and its windows hold what any
+-- image gives
 pub record IsNew (v : Layout) (w : Workspace) : Type 0 where
   pub made : IsFor v w
   pub fresh : IsFresh v w

@@ -42,7 +42,8 @@ pub record IsTableOf (v : Layout) (t : Table) : Type 0 where
   pub room : vec_len t.window.buffer ≡ v.bsize
   pub inodes : (x : ℕ) → HoldsInode t x → IsInPlace v t x
 
--- inodes of the volume can be read: the image has all of it, and the window holds what the image gives
+-- inodes of the volume can be read: the image has all of it, and the window holds what the image
+-- gives
 pub record CanReadInodes (v : Layout) (d : Device) (t : Table) : Type 0 where
   pub volume : v.size * v.fsize ≤ d.size
   pub made : IsTableOf v t
@@ -53,13 +54,15 @@ pub record KeepsTable (v : Layout) (contents : Option (List ℕ)) (t : Table) : 
   pub made : IsTableOf v t
   pub holds : WindowHolds contents t.window
 
--- what a call leaves that may read from the table: the image as after a read, and a table that holds what it gives
+-- what a call leaves that may read from the table: the image as after a read, and a table that
+-- holds what it gives
 pub record TableAfter {T : Type 0} (v : Layout) (d d' : Device) (t : Table) (result : Result T ImageFault) : Type 0
   where
     pub kept : KeepsTable v d'.contents t
     pub read : ReadAfter d d' result
 
--- the inode x is read: it is the image's, where the image gives its bytes, and the table holds what the image gives
+-- the inode x is read: it is the image's, where the image gives its bytes, and the table holds what
+-- the image gives
 pub record ReadsInode (v : Layout) (d d' : Device) (x : ℕ) (t : Table) (result : Result Inode ImageFault) : Type 0 where
   pub inode : IfOk result (λ i. ForContents d.contents (λ bytes. i ≡ inode_of v bytes x))
   pub kept : KeepsTable v d'.contents t

@@ -1,5 +1,5 @@
-//! Inodes, read by pieces of their table. `Table` is the `Window` of `ffs_walk` with the number of the
-//! inode that it starts at; no walk reads an inode, so it is here, beside the notes on inodes.
+//! Inodes, read by pieces of their table. `Table` is the `Window` of `ffs_walk` with the number of
+//! the inode that it starts at; no walk reads an inode, so it is here, beside the notes on inodes.
 
 ghost use Rattle.std.specs.Prelude.{◌≡◌, ◌*◌, ◌+◌, ◌<◌, ◌≤◌, ◌↔◌, IfOk, OnOk, IsTrue};
 ghost use Rattle.ffs_volume.specs.declared.constants.TheConstants.{DINODE_SIZE};

@@ -24,8 +24,9 @@ class_lines inode _ = []
 abbrev pub sectors : Layout → ℕ → ℕ
 sectors v fragments = fragments * (v.fsize / DEV_BSIZE)
 
--- the line of a file or directory whose blocks field isn't the number of sectors of its kept offers; `end` is the state
--- after the inode. An inode that was cut has no such line, since its right number isn't known
+-- the line of a file or directory whose blocks field isn't the number of sectors of its kept
+-- offers; `end` is the state after the inode. An inode that was cut has no such line, since its
+-- right number isn't known
 abbrev pub count_lines : Layout → Owner → Claims → List BlockMessage
 count_lines v o end =
     if is_file_or_dir o.class && (is_open end && not (o.blocks == sectors v end.kept))
@@ -43,8 +44,8 @@ abbrev pub lines_of_owners : Layout → Claims → List Owner → List BlockMess
 lines_of_owners v s [] = []
 lines_of_owners v s (o ∷ os) = owner_lines v s o ++ lines_of_owners v (after_owner v s o) os
 
--- a DUP for the first kept offer of each fragment that has a DUP in phase 1. Where the fragment is reserved, phase 1
--- has reported that same offer already
+-- a DUP for the first kept offer of each fragment that has a DUP in phase 1. Where the fragment is
+-- reserved, phase 1 has reported that same offer already
 abbrev pub first_offer_lines : List Bool → List Offer → List BlockMessage
 first_offer_lines dup [] = []
 first_offer_lines dup (o ∷ os) =

@@ -1,8 +1,9 @@
--- Which fragments inodes get. A Run offers its fragments to its inode, in order. An offer is dup where its fragment is
--- in range and used already, by an earlier kept offer or as a reserved one. At its eleventh bad Run or eleventh dup
--- offer an inode is cut: its further steps aren't seen. It keeps each offer that comes before its eleventh bad Run, and
--- no later than its eleventh dup offer. The eleventh dup offer itself is kept, so phase 1b looks for the first offer of
--- its fragment, too.
+-- Which fragments inodes get. A Run offers its fragments to its inode, in order. An offer is dup
+-- where its fragment is in range and used already, by an earlier kept offer or as a reserved one.
+-- At its eleventh bad Run or eleventh dup offer an inode is cut: its further steps aren't seen. It
+-- keeps each offer that comes before its eleventh bad Run, and no later than its eleventh dup
+-- offer. The eleventh dup offer itself is kept, so phase 1b looks for the first offer of its
+-- fragment, too.
 use Rattle.std.specs.Prelude.{ℕ, Bool, true, false, ◌+◌, ◌&&◌, not, List, [], ◌∷◌, ◌++◌}
 use Rattle.std.specs.Prelude.{◌==◌, nat_lt, slice_set, if◌then◌else◌, map, replicate}
 use Rattle.std.specs.List.{range_with_len, slice_index_or}
@@ -15,7 +16,8 @@ use Rattle.ffs_volume.specs.declared.BlockMessage.TheVariants.{Bad, Dup, ManyBad
 use Rattle.ffs_volume.specs.Disk.Areas.{is_fragment_in_range, is_run_in_range, is_reserved}
 use Rattle.ffs_volume.specs.Blocks.Owners.{Owner}
 
--- the state after some steps: maps of the volume's fragments, how many Runs were seen, and counts of the current inode
+-- the state after some steps: maps of the volume's fragments, how many Runs were seen, and counts
+-- of the current inode
 pub record Claims : Type 0 where
   pub used : List Bool  -- the fragments that are reserved or claimed
   pub dup : List Bool  -- the fragments of dup offers
@@ -49,12 +51,14 @@ at_next_inode s = record s { bad = 0; dups = 0; kept = 0; tail = false }
 abbrev pub is_set : (bits : List Bool) (f : ℕ) → Bool
 is_set bits f = slice_index_or bits f false
 
--- the inode isn't cut, so its next step is seen: it has at most ten bad Runs and at most ten dup offers
+-- the inode isn't cut, so its next step is seen: it has at most ten bad Runs and at most ten dup
+-- offers
 abbrev pub is_open : Claims → Bool
 is_open s = nat_lt s.bad (MAXBAD + 1) && nat_lt s.dups (MAXDUP + 1)
 
--- the state after the offer of f, which is kept unless eleven were dup before it. A fragment in range is claimed, or
--- the offer is dup. One that isn't in range, of a bad Run, is only counted: nothing is claimed
+-- the state after the offer of f, which is kept unless eleven were dup before it. A fragment in
+-- range is claimed, or the offer is dup. One that isn't in range, of a bad Run, is only counted:
+-- nothing is claimed
 abbrev pub after_offer : Layout → Claims → ℕ → Claims
 after_offer v s f =
     if nat_lt s.dups (MAXDUP + 1)
@@ -65,7 +69,8 @@ after_offer v s f =
     else record s { kept = s.kept + 1 })
     else s
 
--- the lines of one offer: a DUP where it is dup and kept, with EXCESSIVE DUP BLKS after the eleventh
+-- the lines of one offer: a DUP where it is dup and kept, with EXCESSIVE DUP BLKS after the
+-- eleventh
 abbrev pub offer_lines : (v : Layout) (inode : ℕ) (s : Claims) (f : ℕ) → List BlockMessage
 offer_lines v inode s f =
     if nat_lt s.dups (MAXDUP + 1) && (is_fragment_in_range v f && is_set s.used f)
@@ -82,8 +87,8 @@ abbrev pub lines_of_offers : (v : Layout) (inode : ℕ) (s : Claims) (fs : List 
 lines_of_offers v inode s [] = []
 lines_of_offers v inode s (f ∷ fs) = offer_lines v inode s f ++ lines_of_offers v inode (after_offer v s f) fs
 
--- the state after a Run is seen. One that isn't in range is bad, and offers its fragments as any other, unless it is
--- the eleventh
+-- the state after a Run is seen. One that isn't in range is bad, and offers its fragments as any
+-- other, unless it is the eleventh
 abbrev pub after_run : (v : Layout) (s : Claims) (start len : ℕ) → Claims
 after_run v s start len =
     if is_run_in_range v start len

@@ -29,7 +29,8 @@ inode_from_bytes order bytes = record {
 unfoldable pub inode_of : (v : Layout) (image : List ℕ) (x : ℕ) → Inode
 inode_of v image x = inode_from_bytes v.order (piece (inode_place v x) DINODE_SIZE image)
 
--- the type of a file, as a directory's entry has it: the four bits of the mode above the twelve of its permissions
+-- the type of a file, as a directory's entry has it: the four bits of the mode above the twelve of
+-- its permissions
 abbrev pub type_of : ℕ → ℕ
 type_of mode = mode / 4096
 
@@ -51,8 +52,8 @@ is_short_symlink v i = type_of i.mode == DT_LNK && nat_lt i.size v.maxsymlinklen
 abbrev pub logical_blocks_of : Layout → Inode → ℕ
 logical_blocks_of v i = div_ceil i.size v.bsize
 
--- how many of the fifteen addresses are needed to reach this many logical blocks, where an indirect block has room for
--- `words` addresses
+-- how many of the fifteen addresses are needed to reach this many logical blocks, where an indirect
+-- block has room for `words` addresses
 abbrev pub addresses_needed : (words blocks : ℕ) → ℕ
 addresses_needed words blocks =
     if nat_lt blocks (NDADDR + 1) then blocks
@@ -60,9 +61,9 @@ addresses_needed words blocks =
     then (if nat_lt (NDADDR + words + words * words) blocks then 15 else 14)
     else 13)
 
--- how many of its fifteen addresses, from the first on, an inode may set: one set after them makes it Unknown. A short
--- symlink has its text in place of addresses, 4 bytes in each. A device stores its device number in the first address,
--- so one logical block more is counted
+-- how many of its fifteen addresses, from the first on, an inode may set: one set after them makes
+-- it Unknown. A short symlink has its text in place of addresses, 4 bytes in each. A device stores
+-- its device number in the first address, so one logical block more is counted
 abbrev pub addresses_allowed : Layout → Inode → ℕ
 addresses_allowed v i =
     if is_short_symlink v i then div_ceil i.size 4
@@ -105,7 +106,8 @@ abbrev pub is_unknown : Class → Bool
 is_unknown Unknown = true
 is_unknown _ = false
 
--- the class is File, Dir or Unknown: the map of inodes in its group should have such an inode as used
+-- the class is File, Dir or Unknown: the map of inodes in its group should have such an inode as
+-- used
 abbrev pub is_allocated : Class → Bool
 is_allocated File = true
 is_allocated Dir = true

@@ -1,6 +1,7 @@
--- The kept offers of `KeptOffers` once more, by a rule on each offer (`offer_verdict`). The law `keeping_is_by_rule`
--- of the crate ffs_certificate says that both are the same. p is an offer with the number of bad Runs up to its own
--- (`CountedOffer`), and j an offer with what the rule says of it (`OfferVerdict`).
+-- The kept offers of `KeptOffers` once more, by a rule on each offer (`offer_verdict`). The law
+-- `keeping_is_by_rule` of the crate ffs_certificate says that both are the same. p is an offer with
+-- the number of bad Runs up to its own (`CountedOffer`), and j an offer with what the rule says of
+-- it (`OfferVerdict`).
 use Rattle.std.specs.Prelude.{ℕ, Bool, ◌+◌, ◌&&◌, ◌||◌, List, [], ◌∷◌, ◌++◌, ◌==◌, nat_le, if◌then◌else◌, map, count_by}
 use Rattle.std.specs.List.{list_any, flat_map, range_with_len}
 use Rattle.ffs_volume.specs.declared.constants.TheConstants.{MAXBAD, MAXDUP}
@@ -59,9 +60,9 @@ is_claimed_before earlier f = list_any (λ j. j.kept && j.fragment == f) earlier
 abbrev pub dups_of : List OfferVerdict → ℕ → ℕ
 dups_of earlier i = count_by (λ j. j.dup && j.inode == i) earlier
 
--- an offer of a fragment in range is dup where the fragment is reserved or an earlier kept offer has it. An offer is
--- kept where at most ten bad Runs of its inode are at or before its Run, and at most ten dup offers of the inode
--- before it
+-- an offer of a fragment in range is dup where the fragment is reserved or an earlier kept offer
+-- has it. An offer is kept where at most ten bad Runs of its inode are at or before its Run, and at
+-- most ten dup offers of the inode before it
 unfoldable pub offer_verdict : Layout → List OfferVerdict → CountedOffer → OfferVerdict
 offer_verdict v earlier p = record {
   inode = p.inode;

@@ -1,5 +1,5 @@
--- The offers that inodes keep, walked from a state as `Claims` walks. `KeptByRule` says by one rule which they are:
--- read it for the meaning.
+-- The offers that inodes keep, walked from a state as `Claims` walks. `KeptByRule` says by one rule
+-- which they are: read it for the meaning.
 use Rattle.std.specs.Prelude.{ℕ, ◌+◌, List, [], ◌∷◌, ◌++◌, ◌==◌, nat_lt, if◌then◌else◌}
 use Rattle.std.specs.List.{range_with_len}
 use Rattle.ffs_volume.specs.declared.constants.TheConstants.{MAXBAD, MAXDUP}
@@ -19,8 +19,8 @@ pub record Offer : Type 0 where
 abbrev pub offer_of : (inode fragment : ℕ) → Offer
 offer_of i f = record { inode = i; fragment = f }
 
--- the kept offers of some fragments, of a Run, of a step, of steps, and of inodes, from a state s. Offers are kept, in
--- range or not, until their inode is cut, at its eleventh bad Run or dup offer
+-- the kept offers of some fragments, of a Run, of a step, of steps, and of inodes, from a state s.
+-- Offers are kept, in range or not, until their inode is cut, at its eleventh bad Run or dup offer
 abbrev pub kept_in_offers : (v : Layout) (inode : ℕ) (s : Claims) (fs : List ℕ) → List Offer
 kept_in_offers v inode s [] = []
 kept_in_offers v inode s (f ∷ fs) =

@@ -1,5 +1,5 @@
--- The steps of an inode that are kept. The checks of directories see these alone: a chunk is read where its Run is
--- kept, and a hole is reported where its Gap is.
+-- The steps of an inode that are kept. The checks of directories see these alone: a chunk is read
+-- where its Run is kept, and a hole is reported where its Gap is.
 use Rattle.std.specs.Prelude.{ℕ, Bool, ◌+◌, ◌-◌, ◌&&◌, List, [], ◌∷◌, ◌++◌, ◌==◌, if◌then◌else◌, map}
 use Rattle.std.specs.List.{range_with_len}
 use Rattle.ffs_volume.specs.declared.Layout.{Layout}
@@ -10,8 +10,8 @@ use Rattle.ffs_volume.specs.Blocks.Steps.{steps_of}
 use Rattle.ffs_volume.specs.Blocks.Owners.{owner_of}
 use Rattle.ffs_volume.specs.Blocks.Claims.{Claims, no_claims, at_next_inode, is_open, after_step, after_owners}
 
--- a Gap or Tail is kept where it is seen, and a Run where all its offers are: the count of kept offers rises by its
--- length
+-- a Gap or Tail is kept where it is seen, and a Run where all its offers are: the count of kept
+-- offers rises by its length
 abbrev pub is_kept_step : Layout → Claims → Step → Bool
 is_kept_step v s (Run start len block) = is_open s && (after_step v s (Run start len block)).kept == s.kept + len
 is_kept_step v s Tail = is_open s

@@ -1,4 +1,5 @@
--- When blocks are consistent. Nothing here depends on the order in which inodes are read, nor on what they keep.
+-- When blocks are consistent. Nothing here depends on the order in which inodes are read, nor on
+-- what they keep.
 use Rattle.std.specs.Prelude.{◌≡◌, ℕ, ◌≤◌, Bool, true, false, ◌||◌, not, List, ◌==◌, length, count_by}
 use Rattle.std.specs.List.{list_all}
 use Rattle.ffs_volume.specs.declared.Layout.{Layout}

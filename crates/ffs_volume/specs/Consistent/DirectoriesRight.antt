@@ -1,5 +1,5 @@
--- When directories are consistent. Nothing here depends on the order of directories, on which entry is the first to
--- name an inode, or on parents.
+-- When directories are consistent. Nothing here depends on the order of directories, on which entry
+-- is the first to name an inode, or on parents.
 use Rattle.std.specs.Prelude.{ℕ, ◌≡◌, ◌≢◌, ◌≤◌, ◌<◌, ◌%◌, true, false, pos, ◌⊎◌, IsSomeAnd, Some}
 use Rattle.ffs_volume.specs.declared.constants.TheConstants.{WINO, ROOTINO, DIRBLKSIZ, DT_DIR, DT_WHT}
 use Rattle.ffs_volume.specs.declared.Class.TheVariants.{Dir}
@@ -17,16 +17,17 @@ pub record IsDirSize (size : ℕ) : Type 0 where
   pub some : 0 < size
   pub whole : size % DIRBLKSIZ ≡ 0
 
--- what a plain entry must be: a whiteout, which has the number 1 and the type DT_WHT, or an entry with the number of an
--- allocated inode and the type of that inode's mode
+-- what a plain entry must be: a whiteout, which has the number 1 and the type DT_WHT, or an entry
+-- with the number of an allocated inode and the type of that inode's mode
 abbrev pub IsPlainRight : Volume → Entry → Type 0
 IsPlainRight vol e =
     ((e.number ≡ WINO) × (e.kind ≡ DT_WHT))
     ⊎ ((is_allocated_inode vol e.number ≡ true) × (e.kind ≡ type_of (vol.inode e.number).mode))
 
--- what is asked of one directory, whatever entries others have: a valid size, no hole, well formed entries that fill
--- each chunk, `.` first with the directory's own number, `..` second, both of type DT_DIR, no other of the two, and
--- plain entries that are right. The number of `..` is asked in `IsLinked`, and for the root in `AreLinksRight`
+-- what is asked of one directory, whatever entries others have: a valid size, no hole, well formed
+-- entries that fill each chunk, `.` first with the directory's own number, `..` second, both of
+-- type DT_DIR, no other of the two, and plain entries that are right. The number of `..` is asked
+-- in `IsLinked`, and for the root in `AreLinksRight`
 pub record IsDirRight (vol : Volume) (d : ℕ) : Type 0 where
   pub size : IsDirSize (vol.inode d).size
   pub gap : vol.gap d ≡ false
@@ -42,8 +43,8 @@ pub record AreDirsRight (vol : Volume) : Type 0 where
   pub root : vol.class ROOTINO ≡ Dir
   pub each : (d : ℕ) → is_dir vol d ≡ true → IsDirRight vol d
 
--- a directory is named by exactly one plain entry and reached from 2, and its `..` has the number of the directory with
--- that entry
+-- a directory is named by exactly one plain entry and reached from 2, and its `..` has the number
+-- of the directory with that entry
 pub record IsLinked (vol : Volume) (d : ℕ) : Type 0 where
   pub once : IsNamedOnce (graph_of vol) d
   pub reached_from_root : reached (graph_of vol) d ≡ true

@@ -1,5 +1,5 @@
--- Following a function from numbers to numbers that may end, such as that from a directory to its parent, and its
--- cycles.
+-- Following a function from numbers to numbers that may end, such as that from a directory to its
+-- parent, and its cycles.
 use Rattle.std.specs.Prelude.{◌≡◌, ℕ, zero, suc, ◌≤◌, ◌==◌, nat_le, Bool, true}
 use Rattle.std.specs.Prelude.{false, not, ◌&&◌, Option, None, Some, option_and_then}
 use Rattle.ffs_volume.specs.Disk.Search.{some_below}
@@ -19,8 +19,9 @@ abbrev pub none_or_at_least : Option ℕ → (d : ℕ) → Bool
 none_or_at_least None d = true
 none_or_at_least (Some s) d = nat_le d s
 
--- d is the least number on a cycle of at most n numbers: following f leads back to d within n steps, and none of the
--- first n numbers from d on is less. `IsLeader` below says the same of cycles of any length
+-- d is the least number on a cycle of at most n numbers: following f leads back to d within n
+-- steps, and none of the first n numbers from d on is less. `IsLeader` below says the same of
+-- cycles of any length
 abbrev pub is_leader_within : (f : ℕ → Option ℕ) (n d : ℕ) → Bool
 is_leader_within f n d =
     some_below (λ k. is_value (climb f (suc k) d) d) n

@@ -1,5 +1,6 @@
--- The chunks of a directory and the entries in them, after dir(5). In an entry the inode number is at byte 0, the
--- length of the record at 4, the type at 6, the length of the name at 7, and the name from 8 on.
+-- The chunks of a directory and the entries in them, after dir(5). In an entry the inode number is
+-- at byte 0, the length of the record at 4, the type at 6, the length of the name at 7, and the
+-- name from 8 on.
 use Rattle.std.specs.Prelude.{ℕ, zero, suc, ◌+◌, ◌-◌, ◌*◌, ◌/◌, ◌%◌, ◌==◌, min, Bool, true}
 use Rattle.std.specs.Prelude.{false, not, ◌&&◌, ◌||◌, nat_le, nat_lt, if◌then◌else◌, List, []}
 use Rattle.std.specs.Prelude.{◌∷◌, map, length, slice_index, sum_by, Option, Some, None}
@@ -22,12 +23,13 @@ pub record Entry : Type 0 where
 abbrev pub is_live : Entry → Bool
 is_live e = not (e.number == 0)
 
--- the name bytes of the entry at a place, after its first bytes (`DIRENT_HEADER`): as many as the byte at 7 says
+-- the name bytes of the entry at a place, after its first bytes (`DIRENT_HEADER`): as many as the
+-- byte at 7 says
 abbrev pub name_at : (chunk : List ℕ) (place : ℕ) → List ℕ
 name_at chunk place = piece (place + DIRENT_HEADER) (slice_index chunk (place + 7)) chunk
 
--- the entry at a place has a valid name: at least one byte, none of them NUL or `/` (47), and a NUL after it. Its
--- length is stored in one byte, so it is at most 255
+-- the entry at a place has a valid name: at least one byte, none of them NUL or `/` (47), and a NUL
+-- after it. Its length is stored in one byte, so it is at most 255
 abbrev pub has_valid_name : (chunk : List ℕ) (place : ℕ) → Bool
 has_valid_name chunk place =
     not (slice_index chunk (place + 7) == 0)
@@ -38,8 +40,8 @@ has_valid_name chunk place =
 abbrev pub is_valid_record_length : (place length : ℕ) → Bool
 is_valid_record_length place length = (length % 4 == 0) && nat_le DIRENT_HEADER length && nat_le (place + length) DIRBLKSIZ
 
--- what the record of a live entry must hold: room for its name and the NUL, rounded up to 4 bytes, a type of at most
--- 15, and a valid name
+-- what the record of a live entry must hold: room for its name and the NUL, rounded up to 4 bytes,
+-- a type of at most 15, and a valid name
 abbrev pub has_valid_type_and_name : (chunk : List ℕ) (place length : ℕ) → Bool
 has_valid_type_and_name chunk place length =
     nat_le (DIRENT_HEADER + (slice_index chunk (place + 7) + 4) / 4 * 4) length
@@ -77,8 +79,8 @@ entries_from order chunk zero place = []
 entries_from order chunk (suc most) place =
     entries_with order chunk place (entries_from order chunk most) (entry_at order chunk place)
 
--- the entries of a chunk. Each has 8 bytes or more, so there are at most 64 in 512 bytes (`AreLongest` of
--- `Laws/Meanings`)
+-- the entries of a chunk. Each has 8 bytes or more, so there are at most 64 in 512 bytes
+-- (`AreLongest` of `Laws/Meanings`)
 abbrev pub entries_of : Order → List ℕ → List Entry
 entries_of order chunk = entries_from order chunk 64 0
 
@@ -96,8 +98,8 @@ pub record Chunk : Type 0 where
 abbrev pub chunk_of : (order : Order) (offset : ℕ) (bytes : List ℕ) → Chunk
 chunk_of order offset bytes = record { offset = offset; entries = entries_of order bytes; sound = is_sound order bytes }
 
--- how many bytes of a directory are read, by its size: one chunk where it is too small for `.` and `..`, else the size,
--- rounded up to whole chunks
+-- how many bytes of a directory are read, by its size: one chunk where it is too small for `.` and
+-- `..`, else the size, rounded up to whole chunks
 abbrev pub bytes_read : ℕ → ℕ
 bytes_read size = if nat_lt size MINDIRSIZE then DIRBLKSIZ else div_ceil size DIRBLKSIZ * DIRBLKSIZ
 
@@ -109,14 +111,15 @@ pub record ChunkSource : Type 0 where
   pub fsize : ℕ
   pub taken : ℕ  -- how many bytes of the directory are read
 
--- the chunks of `len` fragments from `start` on, that are at `offset` of the file, as far as the directory is read
+-- the chunks of `len` fragments from `start` on, that are at `offset` of the file, as far as the
+-- directory is read
 abbrev pub run_chunks : (r : ChunkSource) (start len offset : ℕ) → List Chunk
 run_chunks r start len offset =
     map (λ k. chunk_of r.order (offset + DIRBLKSIZ * k) (piece (start * r.fsize + DIRBLKSIZ * k) DIRBLKSIZ r.image))
     (range_with_len 0 (min (len * r.fsize / DIRBLKSIZ) ((r.taken - offset) / DIRBLKSIZ)))
 
--- the chunks of a step: those of a Run of data that passes a test. In a check the test is `is_run_in_range`. It is a
--- parameter, so that these definitions need no layout
+-- the chunks of a step: those of a Run of data that passes a test. In a check the test is
+-- `is_run_in_range`. It is a parameter, so that these definitions need no layout
 abbrev pub step_chunks : ChunkSource → (ℕ → ℕ → Bool) → Step → List Chunk
 step_chunks r passes (Run start len (Some block)) =
     if passes start len then run_chunks r start len (block * r.bsize) else []

@@ -1,7 +1,7 @@
--- Levels, parents and lost directories of a volume, read as a graph, which `Parents` makes of it (`graph_of`). Only
--- plain entries count. A plain entry
--- names the number that it carries (`is_naming_entry`; by its index `is_naming_entry_at`), and its directory names it
--- too (`is_naming_dir`). A number is named where some directory names it (`is_named`).
+-- Levels, parents and lost directories of a volume, read as a graph, which `Parents` makes of it
+-- (`graph_of`). Only plain entries count. A plain entry names the number that it carries
+-- (`is_naming_entry`; by its index `is_naming_entry_at`), and its directory names it too
+-- (`is_naming_dir`). A number is named where some directory names it (`is_named`).
 use Rattle.std.specs.Prelude.{◌≡◌, ℕ, zero, suc, ◌==◌, Bool, true, false, not, ◌&&◌, ◌||◌, List}
 use Rattle.std.specs.Prelude.{Option, None, Some, is_some, cond, [], ◌∷◌, option_map, if◌then◌else◌}
 use Rattle.std.specs.List.{list_any}
@@ -10,8 +10,8 @@ use Rattle.ffs_volume.specs.Directories.Roles.{RoledEntry, is_plain}
 use Rattle.ffs_volume.specs.Disk.Search.{first_below, some_below}
 use Rattle.ffs_volume.specs.Directories.Climb.{is_value, is_leader_within}
 
--- what levels and parents depend on: the number of inodes, which of them are directories, and the entries of each
--- directory in order
+-- what levels and parents depend on: the number of inodes, which of them are directories, and the
+-- entries of each directory in order
 pub record Graph : Type 0 where
   pub count : ℕ
   pub is_dir : ℕ → Bool
@@ -34,8 +34,8 @@ unfoldable pub within : (g : Graph) (k d : ℕ) → Bool
 within g zero d = d == ROOTINO
 within g (suc k) d = within g k d || some_below (λ s. within g k s && edge g s d) g.count
 
--- the least number of edges from inode 2, if d is reached. A shortest path visits no inode twice, so it has fewer edges
--- than there are inodes
+-- the least number of edges from inode 2, if d is reached. A shortest path visits no inode twice,
+-- so it has fewer edges than there are inodes
 unfoldable pub level : Graph → ℕ → Option ℕ
 level g d = first_below (λ k. within g k d) g.count
 
@@ -47,8 +47,8 @@ reached g d = is_some (level g d)
 abbrev pub level_edge : (g : Graph) (k x s : ℕ) → Bool
 level_edge g k x s = is_value (level g s) k && edge g s x
 
--- the parent of a directory other than the root. Of one with a level it is the least directory one level above that
--- has an edge to it; of one without, the least directory that has one
+-- the parent of a directory other than the root. Of one with a level it is the least directory one
+-- level above that has an edge to it; of one without, the least directory that has one
 abbrev pub parent_by : (g : Graph) (d : ℕ) → Option ℕ → Option ℕ
 parent_by g d None = first_below (λ s. edge g s d) g.count
 parent_by g d (Some zero) = None
@@ -68,7 +68,8 @@ abbrev pub index_in_parent : (g : Graph) (d : ℕ) → Option ℕ → Option ℕ
 index_in_parent g d None = None
 index_in_parent g d (Some s) = first_index (is_naming_entry d) (g.entries s)
 
--- the index, in the parent of d, of the first plain entry that names d: its parent entry. The root has none
+-- the index, in the parent of d, of the first plain entry that names d: its parent entry. The root
+-- has none
 abbrev pub parent_entry_index : Graph → ℕ → Option ℕ
 parent_entry_index g d = if d == ROOTINO then None else index_in_parent g d (parent g d)
 
@@ -89,8 +90,8 @@ abbrev pub none_or_dead : Graph → (ℕ → Bool) → Option ℕ → Bool
 none_or_dead g suspect None = true
 none_or_dead g suspect (Some s) = is_dead_in g suspect s
 
--- d is reported as UNREF DIR, as one of each lost tree or cycle: it is lost, and has no parent, or a dead one, or is
--- the least on its cycle of parents
+-- d is reported as UNREF DIR, as one of each lost tree or cycle: it is lost, and has no parent, or
+-- a dead one, or is the least on its cycle of parents
 abbrev pub is_unref_dir_in : Graph → (ℕ → Bool) → ℕ → Bool
 is_unref_dir_in g suspect d =
     is_lost g suspect d && (none_or_dead g suspect (parent g d) || is_leader_within (parent g) g.count d)

@@ -1,5 +1,6 @@
--- The graph of a volume (`graph_of`), and which entry is the first of all plain ones to name an inode, or is its parent
--- entry. The record `Graph` and what it gives, such as `level` and `parent`, are in `Graph`.
+-- The graph of a volume (`graph_of`), and which entry is the first of all plain ones to name an
+-- inode, or is its parent entry. The record `Graph` and what it gives, such as `level` and
+-- `parent`, are in `Graph`.
 use Rattle.std.specs.Prelude.{ℕ, zero, suc, Bool, ◌&&◌, List, [], ◌∷◌, Option, Some, None}
 use Rattle.ffs_volume.specs.Directories.Roles.{Volume, RoledEntry, is_dir, roled_entries}
 use Rattle.ffs_volume.specs.Disk.Search.{first_below}

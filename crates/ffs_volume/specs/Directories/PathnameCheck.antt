@@ -81,7 +81,8 @@ shape_lines vol d =
     ++ (reported (vol.gap d) (dir_empty (dir_path (graph_of vol) d))
     ++ reported (not (are_sound (vol.chunks d))) (dir_corrupt (attributes vol d) (dir_path (graph_of vol) d))))
 
--- the message where there is no `.`, by the entry that is first; it shows the name of a live entry other than `..`
+-- the message where there is no `.`, by the entry that is first; it shows the name of a live entry
+-- other than `..`
 abbrev pub missing_dot_lines : Attr → List ℕ → Option Entry → List TreeMessage
 missing_dot_lines about path None = missing_dot about path ∷ []
 missing_dot_lines about path (Some e) =
@@ -99,7 +100,8 @@ dot_lines_of vol d (Some e) =
 unfoldable pub dot_lines : Volume → ℕ → List TreeMessage
 dot_lines vol d = dot_lines_of vol d (dot vol d)
 
--- the message where there is no `..`, by the entry that is second; it shows the name of a live entry other than `.`
+-- the message where there is no `..`, by the entry that is second; it shows the name of a live
+-- entry other than `.`
 abbrev pub missing_dotdot_lines : Attr → List ℕ → Option Entry → List TreeMessage
 missing_dotdot_lines about path None = missing_dotdot about path ∷ []
 missing_dotdot_lines about path (Some e) =
@@ -129,19 +131,20 @@ abbrev pub extra_lines : Attr → List ℕ → Entry → List TreeMessage
 extra_lines about path e =
     if is_one_dot e.name then extra_dot about path ∷ [] else extra_dotdot about path ∷ []
 
--- the entry has the number of a whiteout, WINO, without its type, DT_WHT, or the type without the number. A whiteout
--- hides a name of the file system below in a union mount, and names no inode
+-- the entry has the number of a whiteout, WINO, without its type, DT_WHT, or the type without the
+-- number. A whiteout hides a name of the file system below in a union mount, and names no inode
 abbrev pub is_bad_whiteout : Entry → Bool
 is_bad_whiteout e =
     ((e.number == WINO) && not (e.kind == DT_WHT)) || ((e.kind == DT_WHT) && not (e.number == WINO))
 
--- entry j of the directory s is the first plain entry that names x, a suspect (an inode that is marked, or a directory
--- of size 0) other than the root
+-- entry j of the directory s is the first plain entry that names x, a suspect (an inode that is
+-- marked, or a directory of size 0) other than the root
 abbrev pub is_first_entry_of_suspect : (vol : Volume) (s j x : ℕ) → Bool
 is_first_entry_of_suspect vol s j x =
     is_suspect vol x && (not (x == ROOTINO) && is_first_naming_entry (graph_of vol) s j x)
 
--- the message on a suspect that an entry names: DUP/BAD where x is marked, else ZERO LENGTH DIRECTORY
+-- the message on a suspect that an entry names: DUP/BAD where x is marked, else ZERO LENGTH
+-- DIRECTORY
 abbrev pub message_on_suspect : (vol : Volume) (x : ℕ) (path : List ℕ) → TreeMessage
 message_on_suspect vol x path =
     if vol.marked x then dup_bad (attributes vol x) (label_of (vol.class x)) path else zero_dir (attributes vol x) path

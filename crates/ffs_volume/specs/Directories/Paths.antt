@@ -28,7 +28,8 @@ abbrev pub name_of : Option RoledEntry → List ℕ
 name_of None = []
 name_of (Some e) = e.entry.name
 
--- the names down to a directory by its parent: those of the parent, which `above` gives, and that of the parent entry
+-- the names down to a directory by its parent: those of the parent, which `above` gives, and that
+-- of the parent entry
 abbrev pub names_by_parent : (g : Graph) (above : ℕ → List (List ℕ)) (d : ℕ) → Option ℕ → List (List ℕ)
 names_by_parent g above d None = []
 names_by_parent g above d (Some p) =

@@ -1,4 +1,5 @@
--- The volume that the checks of directories see (`vol`), the roles of directory entries, and references.
+-- The volume that the checks of directories see (`vol`), the roles of directory entries, and
+-- references.
 use Rattle.std.specs.Prelude.{ℕ, zero, suc, ◌+◌, ◌==◌, Bool, true, false, not, ◌&&◌, ◌||◌, nat_le, nat_lt}
 use Rattle.std.specs.Prelude.{if◌then◌else◌, List, [], ◌∷◌, Option, Some, None, option_and_then, count_by, cond}
 use Rattle.std.specs.List.{flat_map, find}
@@ -9,8 +10,9 @@ use Rattle.ffs_volume.specs.declared.Role.TheVariants.{Empty, Dot, Dotdot, Extra
 use Rattle.ffs_volume.specs.Directories.Entries.{Entry, Chunk, is_live}
 use Rattle.ffs_volume.specs.Blocks.Inodes.{is_directory, is_allocated}
 
--- a volume as the checks of directories see it: the number of its inodes, and of each its class, its fields, whether a
--- Gap of it is kept, its chunks if it is a directory, and whether it is marked
+-- a volume as the checks of directories see it: the number of its inodes, and of each its class,
+-- its fields, whether a Gap of it is kept, its chunks if it is a directory, and whether it is
+-- marked
 pub record Volume : Type 0 where
   pub count : ℕ
   pub class : ℕ → Class
@@ -48,7 +50,8 @@ is_two_dots (a ∷ []) = false
 is_two_dots (a ∷ b ∷ []) = (a == 46) && (b == 46)
 is_two_dots (a ∷ b ∷ c ∷ rest) = false
 
--- the role of an entry at an index of its chunk; `first` says that the chunk is at the start of the file
+-- the role of an entry at an index of its chunk; `first` says that the chunk is at the start of the
+-- file
 unfoldable pub role_of : (first : Bool) (index : ℕ) (e : Entry) → Role
 role_of first index e =
     if not (is_live e) then Empty

@@ -1,5 +1,5 @@
--- The volume of an image, as the checks of directories see it. The record `Volume` is in `Roles`; here its fields get
--- their values from the image.
+-- The volume of an image, as the checks of directories see it. The record `Volume` is in `Roles`;
+-- here its fields get their values from the image.
 use Rattle.std.specs.Prelude.{ℕ, ◌*◌, Bool, false, ◌&&◌, nat_le, nat_lt, if◌then◌else◌, List, []}
 use Rattle.ffs_volume.specs.declared.Layout.{Layout}
 use Rattle.ffs_volume.specs.declared.Class.{Class}

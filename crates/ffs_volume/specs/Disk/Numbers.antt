@@ -10,7 +10,8 @@ unfoldable pub number : Order → (n : ℕ) (bytes : List ℕ) → ℕ
 number Little n bytes = little_number n bytes
 number Big n bytes = big_number n bytes
 
--- the number of two, four or eight bytes at a place, an offset in bytes: unsigned (u), or in two's complement (i)
+-- the number of two, four or eight bytes at a place, an offset in bytes: unsigned (u), or in two's
+-- complement (i)
 unfoldable pub u16_at : (order : Order) (place : ℕ) (bytes : List ℕ) → ℕ
 u16_at order place bytes = number order 2 (drop place bytes)
 

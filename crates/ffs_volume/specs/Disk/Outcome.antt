@@ -1,5 +1,6 @@
--- Which superblocks are accepted, and the first fault of one that isn't: no bytes, no magic, a fault of the layout in
--- the order of `layout_fault`, or a copy that disagrees. `outcome`, at the end, is made of the conditions before it.
+-- Which superblocks are accepted, and the first fault of one that isn't: no bytes, no magic, a
+-- fault of the layout in the order of `layout_fault`, or a copy that disagrees. `outcome`, at the
+-- end, is made of the conditions before it.
 use Rattle.std.specs.Prelude.{ℕ, ◌+◌, ◌-◌, ◌*◌, ◌/◌, ◌%◌, ◌^◌, min, Bool, true, false, ◌&&◌, not, nat_lt, nat_le}
 use Rattle.std.specs.Prelude.{◌==◌, if◌then◌else◌, List, [], ◌∷◌, length, Option, Some, None, Result, Ok, Err}
 use Rattle.std.specs.List.{list_all, list_any}
@@ -42,9 +43,10 @@ has_valid_sizes v =
     && (nat_lt 0 v.ipg && (v.ipg % v.inopb == 0))
     && (nat_lt 0 v.fpg && (v.fpg % v.frag == 0))
 
--- In the order of the lines: there is a data fragment; the text of a short symlink fits the 60 bytes of the fifteen
--- addresses; the tables of rotational positions are in the dynamic format (1); a superblock has at least the bytes that
--- are read; the volume ends in its last group; fragments and inodes are fewer than 2^31
+-- In the order of the lines: there is a data fragment; the text of a short symlink fits the 60
+-- bytes of the fifteen addresses; the tables of rotational positions are in the dynamic format (1);
+-- a superblock has at least the bytes that are read; the volume ends in its last group; fragments
+-- and inodes are fewer than 2^31
 unfoldable pub has_valid_numbers : Layout → Bool
 has_valid_numbers v =
     nat_le 1 v.dsize
@@ -54,7 +56,8 @@ has_valid_numbers v =
     && (nat_lt ((v.ncg - 1) * v.fpg) v.size && nat_le v.size (v.ncg * v.fpg))
     && (nat_lt v.size (2 ^ 31) && nat_lt (v.ncg * v.ipg) (2 ^ 31))
 
--- the parts of a group are one after the other; a group block has room for the bytes before its maps, and fits a block
+-- the parts of a group are one after the other; a group block has room for the bytes before its
+-- maps, and fits a block
 unfoldable pub has_valid_parts : Layout → Bool
 has_valid_parts v =
     nat_lt 0 v.sblkno
@@ -63,11 +66,13 @@ has_valid_parts v =
     && nat_le (v.iblkno + v.ipg * DINODE_SIZE / v.fsize) v.dblkno
     && (nat_le CG_HEADER v.cgsize && nat_le v.cgsize v.bsize)
 
--- the parts of group c begin at its base or above it, and its metadata ends within the group and the volume
+-- the parts of group c begin at its base or above it, and its metadata ends within the group and
+-- the volume
 unfoldable pub has_valid_group : Layout → ℕ → Bool
 has_valid_group v c = is_nonnegative (cgoffset_of v c) && nat_le (cgdmin v c) (min (cgbase v (c + 1)) v.size)
 
--- the summary area begins at group 0's data, has a record for each group, and ends within group 0 and the volume
+-- the summary area begins at group 0's data, has a record for each group, and ends within group 0
+-- and the volume
 unfoldable pub has_valid_summary_area : Layout → Bool
 has_valid_summary_area v =
     (v.csaddr == cgdmin v 0)
@@ -95,7 +100,8 @@ layout_fault v image_size =
     else (if nat_lt image_size (v.size * v.fsize) then Some Short
     else None))))))
 
--- two superblocks agree in the numbers at LAYOUT_PLACES: the magic number, and all of a layout but maxsymlinklen
+-- two superblocks agree in the numbers at LAYOUT_PLACES: the magic number, and all of a layout but
+-- maxsymlinklen
 unfoldable pub agree : (order : Order) (bytes copy : List ℕ) → Bool
 agree order bytes copy = list_all (λ place. u32_at order place bytes == u32_at order place copy) LAYOUT_PLACES
 
@@ -118,7 +124,8 @@ copy_agrees image None order bytes =
     agree order bytes (piece (copy_place (layout_of order bytes)) SUPERBLOCK_BYTES image)
 copy_agrees image (Some sector) order bytes = true
 
--- the verdict on a superblock: by the first fault of its layout, if any, and by whether the last copy agrees
+-- the verdict on a superblock: by the first fault of its layout, if any, and by whether the last
+-- copy agrees
 unfoldable pub super_verdict : Option SuperFault → Bool → Superblock → Result Superblock SuperFault
 super_verdict (Some fault) agrees super = Err fault
 super_verdict None true super = Ok super
@@ -131,8 +138,8 @@ outcome_in image sector order bytes =
     super_verdict (layout_fault (layout_of order bytes) (length image)) (copy_agrees image sector order bytes)
     (superblock_of order bytes)
 
--- the superblock, or its first fault, by the order of bytes in which the magic number is right: Magic where it is in
--- neither
+-- the superblock, or its first fault, by the order of bytes in which the magic number is right:
+-- Magic where it is in neither
 unfoldable pub outcome_of : (image : List ℕ) (sector : Option ℕ) (bytes : List ℕ) → Option Order →
     Result Superblock SuperFault
 outcome_of image sector bytes None = Err Magic

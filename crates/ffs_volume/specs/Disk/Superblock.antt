@@ -1,5 +1,5 @@
--- The superblock, after fs(5): its first 1,376 bytes, which end with the magic number. The numbers below are the
--- offsets of its fields, in bytes.
+-- The superblock, after fs(5): its first 1,376 bytes, which end with the magic number. The numbers
+-- below are the offsets of its fields, in bytes.
 use Rattle.std.specs.Prelude.{ℕ, ◌==◌, if◌then◌else◌, List, [], ◌∷◌, ℤ, Option, Some, None}
 use Rattle.ffs_volume.specs.declared.constants.TheConstants.{FS_MAGIC, MAXMNTLEN}
 use Rattle.ffs_volume.specs.declared.Order.{Order}
@@ -7,9 +7,10 @@ use Rattle.ffs_volume.specs.declared.Order.TheVariants.{Little, Big}
 use Rattle.ffs_volume.specs.declared.Layout.{Layout}
 use Rattle.ffs_volume.specs.Disk.Numbers.{u32_at, i32_at, count_at, piece}
 
--- a superblock. optim says whether files are laid out for time (0) or for space (1), minfree is the percentage that is
--- kept free, and mount is the last mount point. cstotal has the four totals of the volume, in the order of a `struct
--- csum`: directories, free blocks, free inodes, and free fragments of blocks that aren't all free
+-- a superblock. optim says whether files are laid out for time (0) or for space (1), minfree is the
+-- percentage that is kept free, and mount is the last mount point. cstotal has the four totals of
+-- the volume, in the order of a `struct csum`: directories, free blocks, free inodes, and free
+-- fragments of blocks that aren't all free
 pub record Superblock : Type 0 where
   pub layout : Layout
   pub optim : ℤ
@@ -17,11 +18,12 @@ pub record Superblock : Type 0 where
   pub cstotal : List ℤ
   pub mount : List ℕ
 
--- The layout: the numbers that say where the parts of a volume lie, and those that must be right for it. A negative
--- number is read as 0, which is refused for each field that is read so. cgoffset may be negative, and cgmask is a mask
--- of bits. maxsymlinklen is read unsigned: 0 is valid for it, and says that no symbolic link is short; a negative
--- number is refused as too large. Which format directories have is decided by inodefmt alone, not by maxsymlinklen.
--- `superblock_of` reads a whole `Superblock`.
+-- The layout: the numbers that say where the parts of a volume lie, and those that must be right
+-- for it. A negative number is read as 0, which is refused for each field that is read so. cgoffset
+-- may be negative, and cgmask is a mask of bits. maxsymlinklen is read unsigned: 0 is valid for it,
+-- and says that no symbolic link is short; a negative number is refused as too large. Which format
+-- directories have is decided by inodefmt alone, not by maxsymlinklen. `superblock_of` reads a
+-- whole `Superblock`.
 unfoldable pub layout_of : Order → List ℕ → Layout
 layout_of order bytes = record {
   order = order;

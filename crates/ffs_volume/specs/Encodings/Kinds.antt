@@ -1,5 +1,5 @@
--- A number for the class of an inode and the type of a file, the *kind* of the inode: it fits four bits. The `kind` of
--- an entry is its type alone.
+-- A number for the class of an inode and the type of a file, the *kind* of the inode: it fits four
+-- bits. The `kind` of an entry is its type alone.
 use Rattle.std.specs.Prelude.{ℕ, Bool, not, ◌||◌, ◌==◌, if◌then◌else◌, List}
 use Rattle.ffs_volume.specs.declared.constants.TheConstants.{DT_DIR, EMPTY_DIR, UNKNOWN_TYPE}
 use Rattle.ffs_volume.specs.declared.Layout.{Layout}
@@ -9,8 +9,8 @@ use Rattle.ffs_volume.specs.declared.Class.TheVariants.{Free, Partial, Unknown, 
 use Rattle.ffs_volume.specs.Blocks.Inodes.{inode_of, type_of}
 use Rattle.ffs_volume.specs.Directories.Volumes.{class_at}
 
--- 0 where nothing is allocated, and a number of its own for the class Unknown and for a directory of size 0; else the
--- type of the file or directory
+-- 0 where nothing is allocated, and a number of its own for the class Unknown and for a directory
+-- of size 0; else the type of the file or directory
 abbrev pub kind_of : Class → Inode → ℕ
 kind_of Free i = 0
 kind_of Partial i = 0

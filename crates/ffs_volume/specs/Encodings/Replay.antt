@@ -1,5 +1,5 @@
--- Walking over an inode again, without a map of claims, and finding its kept steps. It is enough to know how many
--- offers it kept, where dup offers cut it (`cut_of`); bad Runs are counted anew.
+-- Walking over an inode again, without a map of claims, and finding its kept steps. It is enough to
+-- know how many offers it kept, where dup offers cut it (`cut_of`); bad Runs are counted anew.
 use Rattle.std.proofs.Common.{ℕ, ◌+◌, ◌-◌, Bool, List, [], ◌∷◌, ◌++◌}
 use Rattle.std.specs.Prelude.{nat_lt, ◌&&◌, ◌||◌, ◌==◌, min, if◌then◌else◌}
 use Rattle.ffs_volume.specs.declared.constants.TheConstants.{MAXBAD, MAXDUP}
@@ -21,8 +21,8 @@ pub record Replay : Type 0 where
 abbrev pub fresh_replay : Replay
 fresh_replay = record { bad = 0; kept = 0 }
 
--- the cut of an inode that ends in this state: the number of its kept offers where its eleventh dup offer cut it, else
--- 0. No cut is 0, since it is 11 at least
+-- the cut of an inode that ends in this state: the number of its kept offers where its eleventh dup
+-- offer cut it, else 0. No cut is 0, since it is 11 at least
 abbrev pub cut_of : Claims → ℕ
 cut_of end = if nat_lt end.dups (MAXDUP + 1) then 0 else end.kept
 
@@ -63,7 +63,8 @@ replayed_steps v cut r (step ∷ steps) =
     (if is_replayed v cut r step then step ∷ [] else [])
     ++ replayed_steps v cut (replay_after_step v cut r step) steps
 
--- the cut of the inode x, at most 2^32 - 1, as the program stores it in 32 bits; 0 where x is no inode's number
+-- the cut of the inode x, at most 2^32 - 1, as the program stores it in 32 bits; 0 where x is no
+-- inode's number
 abbrev pub cut_at : (v : Layout) (image : List ℕ) (x : ℕ) → ℕ
 cut_at v image x =
     if is_inode_number v x

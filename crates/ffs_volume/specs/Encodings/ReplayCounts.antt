@@ -19,9 +19,9 @@ abbrev pub replayed_runs : Layout → ℕ → Replay → List Step → ℕ
 replayed_runs v cut r [] = 0
 replayed_runs v cut r (step ∷ steps) = seen_run cut r step + replayed_runs v cut (replay_after_step v cut r step) steps
 
--- the kept offers after a Run, as the program counts them: up to the cut. With the cut 0 the count stays as it is,
--- since no answer depends on it: `is_replay_open` doesn't read it then, and `is_replayed` asks only by how much a Run
--- would raise it
+-- the kept offers after a Run, as the program counts them: up to the cut. With the cut 0 the count
+-- stays as it is, since no answer depends on it: `is_replay_open` doesn't read it then, and
+-- `is_replayed` asks only by how much a Run would raise it
 abbrev pub kept_by_cut : (cut kept len : ℕ) → ℕ
 kept_by_cut cut kept len = if cut == 0 then kept else kept + min len (cut - kept)
 

@@ -172,8 +172,8 @@ two_free f = is_free_of_runs (two_groups Little) (root ∷ []) f
 unfoldable pub base_class : ℕ → Class
 base_class x = if x == 2 then Dir else Free
 
--- what phase 5 reports of the base image, where these fragments are free and the superblock's total of loose fragments
--- is this
+-- what phase 5 reports of the base image, where these fragments are free and the superblock's total
+-- of loose fragments is this
 unfoldable pub groups_reported : Order → (ℕ → Bool) → ℕ → List BlockMessage
 groups_reported order free loose = phase5_lines (base_layout order) (base_image order)
     (pos 1 ∷ pos 22 ∷ pos 29 ∷ pos loose ∷ []) free base_class

@@ -67,7 +67,8 @@ pub record EntryExamples : Type 0 where
   -- no entry is inside of another one, or after the chunk
   pub inside : entry_at Little (root_chunk Little) 4 ≡ None
   pub past_chunk : entry_at Little (root_chunk Little) 512 ≡ None
-  -- an entry that passes the chunk's end, has a `/`, has no NUL after its name, no name, or a type above 15
+  -- an entry that passes the chunk's end, has a `/`, has no NUL after its name, no name, or a type
+  -- above 15
   pub too_long : entry_at Little (with_second_entry Little (word Little 2 ++ bytes_in Little 2 504)) 12 ≡ None
   pub slash : entry_at Little (with_second_entry Little (entry_bytes Little 2 12 4 (97 ∷ 47 ∷ 98 ∷ []))) 12 ≡ None
   pub no_nul : entry_at Big (with_second_entry Big (word Big 2
@@ -76,7 +77,8 @@ pub record EntryExamples : Type 0 where
   pub type_16 : entry_at Little (with_second_entry Little (entry_bytes Little 2 12 16 (97 ∷ []))) 12 ≡ None
   pub type_15 : entry_at Little (with_second_entry Little (entry_bytes Little 2 12 15 (97 ∷ []))) 12
       ≡ Some (entry 2 15 (97 ∷ []))
-  -- a name of three bytes fits in 12, one of four doesn't; with the number 0 only the length is looked at
+  -- a name of three bytes fits in 12, one of four doesn't; with the number 0 only the length is
+  -- looked at
   pub three_bytes : entry_at Little (with_second_entry Little (entry_bytes Little 5 12 8 (97 ∷ 98 ∷ 99 ∷ []))) 12
       ≡ Some (entry 5 8 (97 ∷ 98 ∷ 99 ∷ []))
   pub four_bytes : entry_at Little (with_second_entry Little (word Little 5
@@ -115,8 +117,8 @@ whole_chunk es = record { offset = 0; entries = es; sound = true } ∷ []
 unfoldable pub class_with_dirs_below : ℕ → ℕ → Class
 class_with_dirs_below n i = if nat_lt i 2 then Free else (if nat_lt i n then Dir else Free)
 
--- a volume of directories with one chunk each: those from 2 to n - 1, of 512 bytes, with these counts of links and
--- these entries
+-- a volume of directories with one chunk each: those from 2 to n - 1, of 512 bytes, with these
+-- counts of links and these entries
 unfoldable pub small : ℕ → (ℕ → ℕ) → (ℕ → List Entry) → Volume
 small n links es = record {
   count = n;
@@ -143,7 +145,8 @@ about d = record { number = d; uid = 0; mode = 16877; size = 512; mtime = pos 0 
 unfoldable pub alone : List Entry → Volume
 alone es = small 3 (λ i. 2) (λ i. es)
 
--- the entries of two lost directories that name each other, those with one more below them, and the volume of the first
+-- the entries of two lost directories that name each other, those with one more below them, and the
+-- volume of the first
 unfoldable pub lost_entries : ℕ → List Entry
 lost_entries i = if i == 3 then dots 3 4 (entry 4 4 (120 ∷ []) ∷ [])
     else (if i == 4 then dots 4 3 (entry 3 4 (121 ∷ []) ∷ []) else dots 2 2 [])
@@ -233,7 +236,8 @@ pub record PathnameExamples : Type 0 where
   pub second_link : pathname_lines twice ≡ extraneous (47 ∷ 98 ∷ []) (47 ∷ 97 ∷ []) ∷ []
   pub no_inode : pathname_lines (sub (dots 3 2 (entry 99 8 (113 ∷ []) ∷ [])))
       ≡ out_of_range 99 (47 ∷ 97 ∷ 47 ∷ 113 ∷ []) ∷ []
-  -- `.` and `..` that are missing, that have other entries in their places, that are swapped, and that are wrong
+  -- `.` and `..` that are missing, that have other entries in their places, that are swapped, and
+  -- that are wrong
   pub no_dots : pathname_lines (alone []) ≡ missing_dot (about 2) (47 ∷ []) ∷ missing_dotdot (about 2) (47 ∷ []) ∷ []
   pub others_first : pathname_lines (alone (entry 1 14 (97 ∷ []) ∷ entry 1 14 (98 ∷ []) ∷ []))
       ≡ missing_dot_first (about 2) (47 ∷ []) (97 ∷ []) ∷ missing_dotdot_second (about 2) (47 ∷ []) (98 ∷ []) ∷ []
@@ -259,7 +263,8 @@ pub record PathnameExamples : Type 0 where
   pub too_short : pathname_lines (sized 23) ≡ dir_short (record (about 3) { size = 23 }) (47 ∷ 97 ∷ []) ∷ []
   pub no_multiple : pathname_lines (sized 600) ≡ dir_length (47 ∷ 97 ∷ []) 600 ∷ []
   pub hole : pathname_lines (record (sub (dots 3 2 [])) { gap = λ i. i == 3 }) ≡ dir_empty (47 ∷ 97 ∷ []) ∷ []
-  -- a marked root that is entered is extraneous there, and no more; the type of an unknown inode isn't compared
+  -- a marked root that is entered is extraneous there, and no more; the type of an unknown inode
+  -- isn't compared
   pub marked_root_entered : pathname_lines (record (alone (dots 2 2 (entry 2 4 (97 ∷ []) ∷ []))) { marked = λ i. true })
       ≡ root_suspect ∷ extraneous (47 ∷ 97 ∷ []) (47 ∷ []) ∷ []
   pub unknown_type : pathname_lines (record (small 4 (λ i. 2) (λ i. dots 2 2 (entry 3 8 (97 ∷ []) ∷ [])))
@@ -280,7 +285,8 @@ pub record ReferenceExamples : Type 0 where
       × (level (graph_of lost_cycle) 3 ≡ None)
   pub parents : (parent (graph_of twice) 2 ≡ Some 2) × (parent (graph_of twice) 3 ≡ Some 2)
       × (parent (graph_of lost_cycle) 3 ≡ Some 4)
-  -- one of a cycle is reported, and what hangs below it isn't; below a dead directory, the lost one is
+  -- one of a cycle is reported, and what hangs below it isn't; below a dead directory, the lost one
+  -- is
   pub cycle : connectivity_lines lost_cycle ≡ unref_dir (about 3) ∷ []
   pub cycle_below : connectivity_lines (small 6 (λ i. 3) below_entries) ≡ unref_dir (about 3) ∷ []
   pub below_dead : connectivity_lines dead_parent ≡ unref_dir (about 4) ∷ []

@@ -93,8 +93,8 @@ fault_of image sector = result_err (outcome image sector)
 abbrev pub fault_with : List ℕ → List ℕ → Option SuperFault
 fault_with primary copy = fault_of (image_of primary copy) None
 
--- the layout of `base_layout` with a second group, which is cut short by the volume's size and whose parts begin four
--- fragments above its base
+-- the layout of `base_layout` with a second group, which is cut short by the volume's size and
+-- whose parts begin four fragments above its base
 unfoldable pub two_groups : Order → Layout
 two_groups order = record {
   order = order;

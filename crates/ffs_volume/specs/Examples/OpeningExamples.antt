@@ -1,4 +1,5 @@
--- Which superblocks are accepted, the first fault of those that aren't, and what is reported of them.
+-- Which superblocks are accepted, the first fault of those that aren't, and what is reported of
+-- them.
 use Rattle.std.specs.Prelude.{ℕ, List, Option, ◌≡◌, [], ◌∷◌, pos, negsuc, Some}
 use Rattle.std.specs.Prelude.{None, Ok, Err, take, map, replicate, true, false}
 use Rattle.std.specs.List.{range_with_len}
@@ -21,7 +22,8 @@ use Rattle.ffs_volume.specs.Examples.Images.{changed, image_of, fault_of, fault_
 abbrev pub fault_at : ℕ → ℕ → Option SuperFault
 fault_at place number = fault_with (changed Little place number (base_super Little)) (base_super Little)
 
--- the base superblock with a second group of 122 fragments, whose parts begin this much above its base
+-- the base superblock with a second group of 122 fragments, whose parts begin this much above its
+-- base
 abbrev pub with_second_group : ℕ → List ℕ
 with_second_group above =
     changed Little 24 above (changed Little 28 0 (changed Little 36 250
@@ -63,7 +65,8 @@ pub record SuperblockExamples : Type 0 where
   pub compared : map (λ place. fault_with (base_super Little) (changed Little place 77 (base_super Little)))
       (8 ∷ 12 ∷ 16 ∷ 20 ∷ 24 ∷ 28 ∷ 36 ∷ 40 ∷ 44 ∷ 48 ∷ 52 ∷ 56 ∷ 104 ∷ 116 ∷ 120 ∷ 152 ∷ 156 ∷ 160 ∷ 176 ∷ 180
       ∷ 184 ∷ 188 ∷ 1324 ∷ 1356 ∷ 1372 ∷ []) ≡ replicate 25 (Some Disagree)
-  -- each condition of a layout that one number can fail alone: sizes, numbers, the parts of a group, the summary area
+  -- each condition of a layout that one number can fail alone: sizes, numbers, the parts of a
+  -- group, the summary area
   pub sizes : fault_at 56 2 ∷ fault_at 116 1023 ∷ fault_at 120 16 ∷ fault_at 184 0 ∷ fault_at 184 16 ∷ fault_at 188 130
       ∷ [] ≡ replicate 6 (Some Shape)
   pub numbers : fault_at 40 0 ∷ fault_at 1320 61 ∷ fault_at 1356 0 ∷ fault_at 104 1375 ∷ fault_at 36 132 ∷ []
@@ -71,8 +74,8 @@ pub record SuperblockExamples : Type 0 where
   pub parts : fault_at 8 0 ∷ fault_at 8 23 ∷ fault_at 12 28 ∷ fault_at 16 29 ∷ fault_at 160 167 ∷ []
       ≡ replicate 5 (Some Shape)
   pub summaries : fault_at 152 33 ∷ fault_at 156 15 ∷ [] ≡ replicate 2 (Some Shape)
-  -- a second group is valid, but the image is too short for it; it isn't valid where its parts begin before its base or
-  -- end past the volume
+  -- a second group is valid, but the image is too short for it; it isn't valid where its parts
+  -- begin before its base or end past the volume
   pub second : fault_twice (with_second_group 4) ≡ Some Short
   pub second_early : fault_twice (with_second_group 4294967295) ≡ Some Shape
   pub second_late : fault_twice (with_second_group 91) ≡ Some Shape
@@ -109,7 +112,8 @@ pub record AreaExamples : Type 0 where
 
 -- what is reported of superblocks, and how numbers and bytes are shown
 pub record OpeningExamples : Type 0 where
-  -- what is reported of the base image, of one at a sector, and of one that is refused. The image is called `t`
+  -- what is reported of the base image, of one at a sector, and of one that is refused. The image
+  -- is called `t`
   pub reported : opening_lines (116 ∷ []) None (outcome (base_image Little) None)
       ≡ opening (116 ∷ []) ∷ mounted (47 ∷ 109 ∷ 110 ∷ 116 ∷ []) ∷ []
   pub unreadable : opening_lines (116 ∷ []) (Some 1) (outcome [] (Some 1))
@@ -125,7 +129,8 @@ pub record OpeningExamples : Type 0 where
   pub last_settings : setting_lines
       (record { layout = base_layout Little; optim = pos 1; minfree = pos 99; cstotal = []; mount = [] })
       ≡ []
-  -- the summary: 6 free fragments of 95 are 6.3 percent; -1 of 95 is -1.0 and -1 of 201 is -0.4, rounded toward zero
+  -- the summary: 6 free fragments of 95 are 6.3 percent; -1 of 95 is -1.0 and -1 of 201 is -0.4,
+  -- rounded toward zero
   pub summary_base : summary_of (base_superblock Little) 1 1 ≡ summary 1 1 (pos 94) (pos 6) (pos 22) (pos 63)
   pub summary_minus : summary_of (record {
     layout = base_layout Little;

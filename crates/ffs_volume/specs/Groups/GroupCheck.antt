@@ -21,7 +21,8 @@ records_lines v image free class c =
     ++ (unless (maps_fit v (group_block v image c) && has_right_maps v free class c (group_block v image c)) MapsWrong
     ++ unless (has_right_sums v free class c (group_block v image c)) GroupSums)
 
--- the lines of a group, repeated ones too; where its magic number is wrong, its summary record alone is compared
+-- the lines of a group, repeated ones too; where its magic number is wrong, its summary record
+-- alone is compared
 abbrev pub group_lines : (v : Layout) (image : List ℕ) (free : ℕ → Bool) (class : ℕ → Class) (c : ℕ) →
     List BlockMessage
 group_lines v image free class c =
@@ -54,7 +55,8 @@ note_reported t MapsWrong = record t { maps = true }
 note_reported t GroupSums = record t { sums = true }
 note_reported t _ = t
 
--- the messages, where each of the three that a report has once is left out if it was reported before
+-- the messages, where each of the three that a report has once is left out if it was reported
+-- before
 abbrev pub reported_once : AlreadyReported → List BlockMessage → List BlockMessage
 reported_once t [] = []
 reported_once t (m ∷ ms) = if is_reported t m then reported_once t ms else m ∷ reported_once (note_reported t m) ms

@@ -1,6 +1,6 @@
--- What the records of cylinder groups should be. All is counted by two functions: `free` says which fragments are below
--- the size and not used, and `class` gives the class of an inode from 2 on. The numbers 4, 12, 20, 24, 52, 92 and 96
--- are offsets in a group block, in bytes: fs(5).
+-- What the records of cylinder groups should be. All is counted by two functions: `free` says which
+-- fragments are below the size and not used, and `class` gives the class of an inode from 2 on. The
+-- numbers 4, 12, 20, 24, 52, 92 and 96 are offsets in a group block, in bytes: fs(5).
 use Rattle.std.specs.Prelude.{ℕ, Bool, true, false, ◌+◌, ◌-◌, ◌*◌, ◌/◌, ◌%◌, ◌^◌, min, ◌&&◌, ◌||◌, not, List, [], ◌∷◌}
 use Rattle.std.specs.Prelude.{◌++◌, ◌==◌, nat_lt, nat_le, if◌then◌else◌, map, count_by, slice_index, ◌≡◌, ◌<◌, ℤ, pos}
 use Rattle.std.specs.List.{list_all, range_with_len, sum_by, slice_index_or}
@@ -40,15 +40,15 @@ is_free_block bits = list_all (λ b. b) bits
 abbrev pub stretch_of : ℕ → List ℕ
 stretch_of n = if n == 0 then [] else n ∷ []
 
--- the lengths of the stretches of free fragments in order, each as long as it can be; just before the first fragment
--- there are n free ones
+-- the lengths of the stretches of free fragments in order, each as long as it can be; just before
+-- the first fragment there are n free ones
 abbrev pub free_stretches : (n : ℕ) (bits : List Bool) → List ℕ
 free_stretches n [] = stretch_of n
 free_stretches n (true ∷ bits) = free_stretches (n + 1) bits
 free_stretches n (false ∷ bits) = stretch_of n ++ free_stretches 0 bits
 
--- the counts of a group (struct csum): directories, free blocks, free inodes, and loose fragments, which are the free
--- ones of blocks that aren't all free
+-- the counts of a group (struct csum): directories, free blocks, free inodes, and loose fragments,
+-- which are the free ones of blocks that aren't all free
 pub record GroupCounts : Type 0 where
   pub dirs : ℕ
   pub blocks : ℕ
@@ -70,7 +70,8 @@ right_group_counts v free class c = record {
       (block_numbers v);
 }
 
--- the right frsum[k]: how many stretches of exactly k free fragments there are in the blocks that aren't all free
+-- the right frsum[k]: how many stretches of exactly k free fragments there are in the blocks that
+-- aren't all free
 unfoldable pub right_frsum : (v : Layout) (free : ℕ → Bool) (c k : ℕ) → ℕ
 right_frsum v free c k =
     sum_by (λ b. if is_free_block (block_bits v free c b) then 0
@@ -98,8 +99,8 @@ group_block v image c = piece (group_place v c) v.cgsize image
 abbrev pub summary_record : (v : Layout) (image : List ℕ) (c : ℕ) → List ℕ
 summary_record v image c = piece (summary_place v c) CSUM_SIZE image
 
--- the four counts at a place are those of s. They are signed in the image, but those of s are below 2^31, so to compare
--- them as unsigned numbers is the same
+-- the four counts at a place are those of s. They are signed in the image, but those of s are below
+-- 2^31, so to compare them as unsigned numbers is the same
 abbrev pub has_counts : (v : Layout) (place : ℕ) (bytes : List ℕ) (s : GroupCounts) → Bool
 has_counts v place bytes s =
     u32_at v.order place bytes == s.dirs && (u32_at v.order (place + 4) bytes == s.blocks
@@ -142,8 +143,8 @@ has_right_maps v free class c block =
     has_bits block (inode_map_place v block) v.ipg (λ k. is_used_inode class (c * v.ipg + k))
     && has_bits block (fragment_map_place v block) (group_size v c) (λ k. free (cgbase v c + k))
 
--- the group's number, its number of fragments, its four counts and its frsum are right (cgx, ndblk, cs, frsum). No
--- other field of the header is compared
+-- the group's number, its number of fragments, its four counts and its frsum are right (cgx, ndblk,
+-- cs, frsum). No other field of the header is compared
 unfoldable pub has_right_sums : (v : Layout) (free : ℕ → Bool) (class : ℕ → Class) (c : ℕ) (block : List ℕ) → Bool
 has_right_sums v free class c block =
     u32_at v.order 12 block == c && (u32_at v.order 20 block == group_size v c

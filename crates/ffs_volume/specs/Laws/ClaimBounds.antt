@@ -7,16 +7,18 @@ use Rattle.ffs_volume.specs.Blocks.Claims.{Claims}
 abbrev pub used_bits : Claims → ℕ
 used_bits s = count_by (λ b. b) s.used
 
--- the potential: how many fragments are used, and how many bad Runs and dup offers the current inode has
+-- the potential: how many fragments are used, and how many bad Runs and dup offers the current
+-- inode has
 abbrev pub potential : Claims → ℕ
 potential s = used_bits s + s.bad + s.dups
 
--- the potential that bounds kept offers: a Run has at most eight of them, so a bad Run counts eightfold
+-- the potential that bounds kept offers: a Run has at most eight of them, so a bad Run counts
+-- eightfold
 abbrev pub offers_potential : Claims → ℕ
 offers_potential s = used_bits s + 8 * s.bad + s.dups
 
--- from s to s', Runs and kept offers rise by no more than the potentials, maps keep their lengths, and bad Runs and
--- dup offers stay at most eleven
+-- from s to s', Runs and kept offers rise by no more than the potentials, maps keep their lengths,
+-- and bad Runs and dup offers stay at most eleven
 pub record ClaimBound (s s' : Claims) : Type 0 where
   pub few_runs : s'.runs + potential s ≤ s.runs + potential s'
   pub few_kept : s'.kept + offers_potential s ≤ s.kept + offers_potential s'

@@ -1,6 +1,7 @@
--- The conditions of `Outcome` once more, as facts of an accepted layout: `AcceptedFit` of `Laws/Accepted` says that it
--- has them. They are no further conditions. Four constants are written out here, as proofs by arithmetic need them: 16
--- is CSUM_SIZE, 128 DINODE_SIZE, 168 CG_HEADER, and 8192 SBSIZE.
+-- The conditions of `Outcome` once more, as facts of an accepted layout: `AcceptedFit` of
+-- `Laws/Accepted` says that it has them. They are no further conditions. Four constants are written
+-- out here, as proofs by arithmetic need them: 16 is CSUM_SIZE, 128 DINODE_SIZE, 168 CG_HEADER, and
+-- 8192 SBSIZE.
 use Rattle.std.proofs.Common.{◌≡◌, ℕ, ◌+◌, ◌-◌, ◌*◌, ◌/◌, ◌%◌, ◌^◌, ◌<◌, ◌≤◌, true, pos}
 use Rattle.std.specs.Int.{div_ceil}
 use Rattle.ffs_volume.specs.declared.constants.TheConstants.{SUPERBLOCK_BYTES}
@@ -44,8 +45,8 @@ pub record HasParts (v : Layout) : Type 0 where
   pub cgsize_low : 168 ≤ v.cgsize
   pub cgsize_high : v.cgsize ≤ v.bsize
 
--- the parts of a group begin at its base or above it, since the shift isn't negative (`moved_up`), and its metadata
--- ends within the group and the volume
+-- the parts of a group begin at its base or above it, since the shift isn't negative (`moved_up`),
+-- and its metadata ends within the group and the volume
 pub record HasGroup (v : Layout) (c : ℕ) : Type 0 where
   pub moved_up : cgoffset_of v c ≡ pos (zero_if_negative (cgoffset_of v c))
   pub within_group : cgdmin v c ≤ cgbase v (c + 1)

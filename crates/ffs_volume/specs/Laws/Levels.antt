@@ -1,5 +1,5 @@
--- What the level of a directory is, once more: the least number of edges from inode 2 (`LevelsAreLeast` of
--- `Laws/Meanings`).
+-- What the level of a directory is, once more: the least number of edges from inode 2
+-- (`LevelsAreLeast` of `Laws/Meanings`).
 use Rattle.std.specs.Prelude.{◌≡◌, ℕ, ◌<◌, true, false}
 use Rattle.ffs_volume.specs.Directories.Graph.{Graph, within}
 

@@ -17,8 +17,8 @@ use Rattle.ffs_volume.specs.Directories.Graph.{Graph, level}
 use Rattle.ffs_volume.specs.Laws.Levels.{IsLevel}
 use Rattle.ffs_volume.specs.Directories.Paths.{dir_path, entry_path}
 
--- `kept` is the first part of the offers of the fragments fs to inode i, in order, and `rest` is the other part. `rest`
--- is empty unless the inode is cut (`over`)
+-- `kept` is the first part of the offers of the fragments fs to inode i, in order, and `rest` is
+-- the other part. `rest` is empty unless the inode is cut (`over`)
 pub record KeptPrefix (i : ℕ) (kept : List Offer) (fs : List ℕ) (over : Bool) : Type 0 where
   pub rest : List Offer
   pub parts : kept ++ rest ≡ map (offer_of i) fs
@@ -29,8 +29,8 @@ abbrev pub KeptAreFirst : Type 0
 KeptAreFirst = (v : Layout) (inode : ℕ) (s : Claims) (steps : List Step) →
     KeptPrefix inode (kept_in_steps v inode s steps) (fragments_of steps) (not (is_open (after_steps v s steps)))
 
--- the list is of well formed entries of the chunk: the first is at the place, and each other where the one before ends;
--- it need not reach as far as it could
+-- the list is of well formed entries of the chunk: the first is at the place, and each other where
+-- the one before ends; it need not reach as far as it could
 abbrev pub AreEntries : (order : Order) (chunk : List ℕ) (place : ℕ) (es : List Entry) → Type 0
 AreEntries order chunk place [] = Unit {0}
 AreEntries order chunk place (e ∷ es) =
@@ -54,7 +54,8 @@ pub record LevelMeaning (g : Graph) (k d : ℕ) : Type 0 where
 abbrev pub LevelsAreLeast : Type 0
 LevelsAreLeast = (g : Graph) (k d : ℕ) → LevelMeaning g k d
 
--- the path of a directory has at most 1,024 bytes, and so has that of an entry whose name has at most 255
+-- the path of a directory has at most 1,024 bytes, and so has that of an entry whose name has at
+-- most 255
 pub record PathsFit (g : Graph) (d : ℕ) : Type 0 where
   pub of_dir : length (dir_path g d) ≤ MAXPATHLEN
   pub of_entry : (name : List ℕ) → length name ≤ 255 → length (entry_path g d name) ≤ MAXPATHLEN
@@ -63,7 +64,8 @@ pub record PathsFit (g : Graph) (d : ℕ) : Type 0 where
 abbrev pub AllPathsFit : Type 0
 AllPathsFit = (g : Graph) (d : ℕ) → PathsFit g d
 
--- the fragments of the free blocks of a group and the free fragments of its other blocks are all its free fragments
+-- the fragments of the free blocks of a group and the free fragments of its other blocks are all
+-- its free fragments
 abbrev pub SumsAreWhole : Type 0
 SumsAreWhole = (v : Layout) (free : ℕ → Bool) (class : ℕ → Class) (c : ℕ) → 0 < v.frag → v.fpg % v.frag ≡ 0 →
     v.frag * (right_group_counts v free class c).blocks + (right_group_counts v free class c).fragments

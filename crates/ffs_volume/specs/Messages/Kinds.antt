@@ -6,8 +6,9 @@ use Rattle.ffs_volume.specs.declared.BlockMessage.{BlockMessage}
 use Rattle.ffs_volume.specs.declared.Label.{Label}
 use Rattle.ffs_volume.specs.declared.SuperFault.{SuperFault}
 
--- a message on directories, their entries or references. The rules that report them are in the folder Directories, and
--- the text of each is in `Texts`. Paths and names have the bytes of the image; a text has `?` in place of control bytes
+-- a message on directories, their entries or references. The rules that report them are in the
+-- folder Directories, and the text of each is in `Texts`. Paths and names have the bytes of the
+-- image; a text has `?` in place of control bytes
 pub data TreeMessage : Type 0 where
   root_none : TreeMessage  -- ROOT INODE UNALLOCATED
   root_not_dir : TreeMessage
@@ -17,34 +18,34 @@ pub data TreeMessage : Type 0 where
   dir_empty : (path : List ℕ) → TreeMessage  -- CONTAINS EMPTY BLOCKS: it has a Gap
   dir_corrupt : (about : Attr) (path : List ℕ) → TreeMessage  -- DIRECTORY CORRUPTED
   missing_dot : (about : Attr) (path : List ℕ) → TreeMessage
-  missing_dot_first : (about : Attr) (path name : List ℕ) → TreeMessage  -- MISSING '.', another entry is first
+  missing_dot_first : (about : Attr) (path name : List ℕ) → TreeMessage  -- MISSING '.', another is first
   number_dot : (about : Attr) (path : List ℕ) → TreeMessage  -- BAD INODE NUMBER FOR '.'
   kind_dot : (about : Attr) (path : List ℕ) → TreeMessage  -- BAD TYPE VALUE FOR '.'
   missing_dotdot : (about : Attr) (path : List ℕ) → TreeMessage
-  missing_dotdot_second : (about : Attr) (path name : List ℕ) → TreeMessage  -- MISSING '..', another is second
+  missing_dotdot_second : (about : Attr) (path name : List ℕ) → TreeMessage  -- another is second
   number_dotdot : (about : Attr) (path : List ℕ) → TreeMessage
   kind_dotdot : (about : Attr) (path : List ℕ) → TreeMessage  -- BAD TYPE VALUE FOR '..'
   extra_dot : (about : Attr) (path : List ℕ) → TreeMessage
   extra_dotdot : (about : Attr) (path : List ℕ) → TreeMessage
   out_of_range : (number : ℕ) (path : List ℕ) → TreeMessage  -- I OUT OF RANGE
   whiteout : (number : ℕ) (path : List ℕ) → TreeMessage  -- BAD WHITEOUT ENTRY
-  unallocated : (about : Attr) (path : List ℕ) → TreeMessage  -- UNALLOCATED: an entry names a free inode
+  unallocated : (about : Attr) (path : List ℕ) → TreeMessage  -- an entry names a free inode
   dup_bad : (about : Attr) (label : Label) (path : List ℕ) → TreeMessage  -- DUP/BAD, in phase 2
   zero_dir : (about : Attr) (path : List ℕ) → TreeMessage  -- ZERO LENGTH DIRECTORY, in phase 2
   extraneous : (path directory : List ℕ) → TreeMessage  -- IS AN EXTRANEOUS HARD LINK
   kind_entry : (about : Attr) (label : Label) (path : List ℕ) → TreeMessage  -- BAD TYPE VALUE
   unref_dir : (about : Attr) → TreeMessage
-  dead_marked : (label : Label) (about : Attr) → TreeMessage  -- BAD/DUP, in phase 4, of an inode without entry
+  dead_marked : (label : Label) (about : Attr) → TreeMessage  -- BAD/DUP, in phase 4, without entry
   dead_zero : (about : Attr) → TreeMessage  -- ZERO LENGTH DIR, in phase 4, of one without entry
   unref : (label : Label) (about : Attr) → TreeMessage  -- UNREF, with links: reconnect it?
   unref_zero : (label : Label) (about : Attr) → TreeMessage  -- UNREF, without links: clear it?
   link_count : (label : Label) (about : Attr) (nlink : ℤ) (references : ℕ) → TreeMessage
 
--- a message of a report: of the opening, a heading, a message of a phase, the summary, or the end of a run that isn't
--- completed
+-- a message of a report: of the opening, a heading, a message of a phase, the summary, or the end
+-- of a run that isn't completed
 pub data Message : Type 0 where
   location : (sector : ℕ) → Message  -- Alternate super block location
-  opening : (name : List ℕ) → Message  -- the image's name: one message of the opening, not all of it
+  opening : (name : List ℕ) → Message  -- the image's name, one message of the opening
   bad_super : (fault : SuperFault) → Message
   cannot_read : (sector : ℕ) → Message
   cannot_alloc : Message  -- the memory of a check was refused

@@ -1,4 +1,5 @@
--- The texts of messages, in bytes: the line of a message, then each of its questions with its answer and an empty line.
+-- The texts of messages, in bytes: the line of a message, then each of its questions with its
+-- answer and an empty line.
 use Rattle.std.specs.Prelude.{ℕ, ℤ, ◌/◌, ◌%◌, List, [], ◌∷◌, ◌++◌, map, decimal, unsigned_abs}
 use Rattle.std.specs.List.{flat_map, concat}
 use Rattle.std.specs.Fmt.{signed_decimal}
@@ -54,7 +55,8 @@ labelled_text head label about tail = head ++ inode_text (file_label label) abou
 abbrev pub path_text : (head : List ℕ) (about : Attr) (label : Label) (path tail : List ℕ) → List ℕ
 path_text head about label path tail = inode_text head about (concat (path_label label ∷ map shown path ∷ tail ∷ []))
 
--- `head`, the attributes of a directory, its path, and the name of the entry in the place of `.` or `..`, after `why`
+-- `head`, the attributes of a directory, its path, and the name of the entry in the place of `.` or
+-- `..`, after `why`
 abbrev pub name_in_the_way_text : (head : List ℕ) (about : Attr) (path why name : List ℕ) → List ℕ
 name_in_the_way_text head about path why name =
     inode_text head about (concat (
@@ -64,7 +66,8 @@ name_in_the_way_text head about path why name =
 abbrev pub number_text : (head : List ℕ) (number : ℕ) (tail : List ℕ) → List ℕ
 number_text head number tail = concat (head ∷ decimal number ∷ tail ∷ [])
 
--- the line of a refused superblock. A report has that of CannotRead as a message of its own, `cannot_read`
+-- the line of a refused superblock. A report has that of CannotRead as a message of its own,
+-- `cannot_read`
 abbrev pub fault_text : SuperFault → List ℕ
 fault_text (CannotRead sector) = number_text texts.CANNOT_READ.now sector texts.LINE_END.now
 fault_text Magic = texts.MAGIC.now

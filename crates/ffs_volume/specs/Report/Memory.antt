@@ -3,12 +3,14 @@ use Rattle.std.specs.Prelude.{ℕ, ◌+◌, ◌*◌}
 use Rattle.std.specs.Int.{div_ceil}
 use Rattle.ffs_volume.specs.declared.Layout.{Layout}
 
--- a bound on the bytes that the lists and buffers of a check take. They take two maps of the fragments, 25 bytes an
--- inode and six blocks (`held_of` of ffs_workspace). The bound was stated before the lists were made, for three maps,
--- eight blocks and a page: it stays, since users may rely on it, and leaves room for other lists
+-- a bound on the bytes that the lists and buffers of a check take. They take two maps of the
+-- fragments, 25 bytes an inode and six blocks (`held_of` of ffs_workspace). The bound was stated
+-- before the lists were made, for three maps, eight blocks and a page: it stays, since users may
+-- rely on it, and leaves room for other lists
 abbrev pub held_limit : Layout → ℕ
 held_limit v = 3 * (8 * div_ceil v.size 64) + 25 * (v.ncg * v.ipg) + 8 * v.bsize + 4096
 
--- the most Runs that are seen: one for each fragment, and for each inode eleven that are bad and eleven with dup offers
+-- the most Runs that are seen: one for each fragment, and for each inode eleven that are bad and
+-- eleven with dup offers
 abbrev pub runs_limit : Layout → ℕ
 runs_limit v = v.size + 22 * (v.ncg * v.ipg)

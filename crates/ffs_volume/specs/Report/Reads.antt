@@ -1,5 +1,5 @@
--- The most reads that a check makes of an image. A read is of one block, of one chunk or Run of a directory, or of
--- records that are together in the image.
+-- The most reads that a check makes of an image. A read is of one block, of one chunk or Run of a
+-- directory, or of records that are together in the image.
 use Rattle.std.specs.Prelude.{ℕ, ◌+◌, ◌*◌, ◌/◌}
 use Rattle.ffs_volume.specs.declared.Layout.{Layout}
 use Rattle.ffs_volume.specs.declared.constants.TheConstants.{MAXPATHLEN}
@@ -13,19 +13,19 @@ opening_reads = 2
 abbrev pub sweep_reads : Layout → ℕ
 sweep_reads v = v.ncg * v.ipg + runs_limit v
 
--- for a path the path of its parent is made first: a chunk is read for each name that 1,024 bytes have room for, and
--- for one that has no room any more. Then one is read for the directory's own name, also where that path was cut. Each
--- name takes two bytes at least, with its slash
+-- for a path the path of its parent is made first: a chunk is read for each name that 1,024 bytes
+-- have room for, and for one that has no room any more. Then one is read for the directory's own
+-- name, also where that path was cut. Each name takes two bytes at least, with its slash
 abbrev pub path_reads : ℕ
 path_reads = MAXPATHLEN / 2 + 2
 
--- for a message of phase 2 are read the path of the directory that it is about, that of the directory that an entry
--- names, and an inode
+-- for a message of phase 2 are read the path of the directory that it is about, that of the
+-- directory that an entry names, and an inode
 abbrev pub line_reads : ℕ
 line_reads = 2 * path_reads + 1
 
--- phase 2 goes over all directories for the survey, for the places of parent entries, and twice for the messages, and
--- reads what each message shows
+-- phase 2 goes over all directories for the survey, for the places of parent entries, and twice for
+-- the messages, and reads what each message shows
 abbrev pub pathname_reads : Layout → (lines : ℕ) → ℕ
 pathname_reads v lines = 4 * sweep_reads v + line_reads * lines
 
@@ -33,8 +33,8 @@ pathname_reads v lines = 4 * sweep_reads v + line_reads * lines
 abbrev pub group_reads : Layout → ℕ
 group_reads v = 2 * v.ncg
 
--- all phases read this often at most, where so many messages are printed in all: phases 1 and 1b go over all inodes,
--- and phases 3 and 4 read an inode for each message
+-- all phases read this often at most, where so many messages are printed in all: phases 1 and 1b go
+-- over all inodes, and phases 3 and 4 read an inode for each message
 abbrev pub phase_reads : Layout → (lines : ℕ) → ℕ
 phase_reads v lines = 2 * sweep_reads v + pathname_reads v lines + lines + group_reads v
 

@@ -45,9 +45,9 @@ loose_fragments s = slice_index_or s.cstotal 3 (pos 0)
 abbrev pub free_blocks : Superblock → ℤ
 free_blocks s = slice_index_or s.cstotal 1 (pos 0)
 
--- the summary, the last message of a report, with the superblock's own counts: all free fragments, loose fragments and
--- free blocks. Its last number is the fragmentation: the loose fragments as a share of the volume's data fragments
--- (dsize), in tenths of a percent, rounded toward zero
+-- the summary, the last message of a report, with the superblock's own counts: all free fragments,
+-- loose fragments and free blocks. Its last number is the fragmentation: the loose fragments as a
+-- share of the volume's data fragments (dsize), in tenths of a percent, rounded toward zero
 abbrev pub summary_of : (s : Superblock) (files used : ℕ) → Message
 summary_of s files used =
     summary files used (loose_fragments s +ℤ pos s.layout.frag *ℤ free_blocks s) (loose_fragments s) (free_blocks s)
@@ -58,7 +58,8 @@ abbrev pub rescan_lines : Layout → List ℕ → List Message
 rescan_lines v image =
     if has_rescan v (owners_of v image) then phase1b ∷ map of_blocks (phase1b_lines v (owners_of v image)) else []
 
--- the messages of the group check: a fragment is free where it is neither reserved nor claimed by a kept offer
+-- the messages of the group check: a fragment is free where it is neither reserved nor claimed by a
+-- kept offer
 abbrev pub group_check_lines : List ℕ → Superblock → List Message
 group_check_lines image s =
     map of_blocks (phase5_lines s.layout image s.cstotal (is_free_of_kept s.layout (owners_of s.layout image))
