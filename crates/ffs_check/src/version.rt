@@ -2,4 +2,4 @@
 
 /// The version, and the first digits of the digest of the sources that the program was built from.
 /// `tools/renew_dist` writes this line.
-pub const VERSION: &str = "1.4.0 (sources d48a5216afa3)";
+pub const VERSION: &str = "1.4.0 (sources 451a8e94dcc4)";
