@@ -60,7 +60,7 @@ fn note_entry(
     ensures long { vec_len words.new ≡ vec_len words.old }
 {
     // Whether it is plain depends neither on its index nor on its chunk's place in the file.
-    if !is_child(parents, dir, entry.number) || role_of(false, 0, entry) != Role::Plain {
+    if role_of(false, 0, entry) != Role::Plain || !is_child(parents, dir, entry.number) {
         return;
     }
     let index = entry.number as usize;

@@ -64,7 +64,7 @@ impl EntryPaths {
     }
 
     /// Writes the path of an entry of this name in place of the last one.
-    #[inline]
+    #[inline(always)]
     pub fn put(&mut self, name: &[u8])
         ensures path { (g : Graph) (dir : ℕ) → IsPathOf g dir self.old.directory
             → last_path self.new ≡ in_room (entry_path g dir name.now) }
