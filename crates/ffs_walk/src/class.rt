@@ -101,7 +101,7 @@ pub fn has_steps(geometry: &Geometry, inode: &Inode, class: Class) -> bool
     ensures { class ≡ inodes.class_of geometry.now.layout inode.now
         → result ≡ (steps.is_walked geometry.now.layout inode.now && not (inode.now.size == 0)) }
 {
-    is_walked(geometry, inode, class) && inode.size != 0
+    inode.size != 0 && is_walked(geometry, inode, class)
 }
 
 /// The greatest size of a file, in bytes, whose blocks the fifteen addresses reach.
