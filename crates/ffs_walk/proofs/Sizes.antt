@@ -19,6 +19,14 @@ size_small a b h k =
     products_small (12 + a + a * a + a * a * a) b 4398315044876 65536 (omega (arith, squared, cubed)) k in
     omega (arith, whole)
 
+-- fifteen addresses always reach 2^31 bytes
+pub size_large : (a b : ℕ) → 1024 ≤ a → 4096 ≤ b → 2147483647 < (12 + a + a * a + a * a * a) * b
+size_large a b h k =
+    let squared : 1024 * 1024 ≤ a * a = products_small 1024 1024 a a h h in
+    let whole : 1048576 * 4096 ≤ (12 + a + a * a + a * a * a) * b =
+    products_small 1048576 4096 (12 + a + a * a + a * a * a) b (omega (arith, squared)) k in
+    omega (arith, whole)
+
 -- a size has few blocks
 pub blocks_small : (size bsize : ℕ) → size < 18446744073709551616 → 4096 ≤ bsize → bsize ≤ 65536 →
     div_ceil size bsize < 9007199254740992

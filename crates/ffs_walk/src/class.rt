@@ -57,17 +57,31 @@ fn is_short_symlink(geometry: &Geometry, inode: &Inode) -> bool
     inode.mode / 4096 == u16::from(DT_LNK) && inode.size < u64::from(geometry.layout.maxsymlinklen)
 }
 
-/// Whether an address from an index on isn't zero. All fifteen are looked at, with no branch that
-/// depends on the index: sizes of files are mixed, and no processor foresees such a branch.
+/// Whether an address isn't zero.
 #[inline(always)]
-fn any_nonzero(addresses: &[u32; 15], from: usize) -> bool
-    ensures { result ≡ inodes.any_nonzero (drop from addresses.now) }
+fn any_nonzero(addresses: &[u32; 15]) -> bool
+    ensures { result ≡ inodes.any_nonzero addresses.now }
 {
     let mut bits = 0;
     for index in 0..15 {
-        bits |= addresses[index] * u32::from(from <= index);
+        bits |= addresses[index];
     }
     bits != 0
+}
+
+/// Whether an address from an index on isn't zero, by a bit for each address. All fifteen are
+/// looked at, with no branch that depends on the index: sizes of files are mixed, and no processor
+/// foresees such a branch.
+#[inline(always)]
+fn any_nonzero_from(addresses: &[u32; 15], from: usize) -> bool
+    requires { from ≤ 15 }
+    ensures { result ≡ inodes.any_nonzero (drop from addresses.now) }
+{
+    let mut bits = 0u32;
+    for index in 0..15 {
+        bits |= u32::from(addresses[index] != 0) << index;
+    }
+    bits >> from != 0
 }
 
 /// Whether the addresses of an inode of the class are walked.
@@ -87,7 +101,7 @@ pub fn has_steps(geometry: &Geometry, inode: &Inode, class: Class) -> bool
     ensures { class ≡ inodes.class_of geometry.now.layout inode.now
         → result ≡ (steps.is_walked geometry.now.layout inode.now && not (inode.now.size == 0)) }
 {
-    is_walked(geometry, inode, class) && inode.size != 0
+    inode.size != 0 && is_walked(geometry, inode, class)
 }
 
 /// The greatest size of a file, in bytes, whose blocks the fifteen addresses reach.
@@ -101,6 +115,29 @@ fn greatest_size(geometry: &Geometry) -> u64
     let squared = words * words;
     let cubed = squared * words;
     (NDADDR + words + squared + cubed) * u64::from(geometry.layout.bsize)
+}
+
+/// Whether an inode of this size, of 2^31 bytes or more, is too large: a directory always is.
+#[cold]
+#[inline(never)]
+fn is_refused_size(geometry: &Geometry, kind: u16, size: u64) -> bool
+    requires { 2147483647 < size }
+    ensures { (inode : Inode) → inodes.type_of inode.mode ≡ kind → inode.size ≡ size
+        → result ≡ inodes.is_too_large geometry.now.layout inode }
+{
+    kind == u16::from(DT_DIR) || greatest_size(geometry) < size
+}
+
+/// Whether an inode of the type and the size is larger than its addresses reach, or is a directory
+/// of 2^31 bytes or more. Addresses always reach so many bytes, so a smaller size is looked at no
+/// further.
+#[inline(always)]
+#[tactic(auto, using(crate::proofs::Sizes::size_large))]
+fn is_too_large(geometry: &Geometry, kind: u16, size: u64) -> bool
+    ensures { (inode : Inode) → inodes.type_of inode.mode ≡ kind → inode.size ≡ size
+        → result ≡ inodes.is_too_large geometry.now.layout inode }
+{
+    2147483647 < size && is_refused_size(geometry, kind, size)
 }
 
 /// How many logical blocks an inode of its size has.
@@ -164,7 +201,7 @@ pub fn class_of(geometry: &Geometry, inode: &Inode) -> Class
     // The type is the upper four bits of the mode.
     let kind = inode.mode / 4096;
     if kind == 0 {
-        return if inode.mode == 0 && inode.size == 0 && !any_nonzero(&inode.addresses, 0) {
+        return if inode.mode == 0 && inode.size == 0 && !any_nonzero(&inode.addresses) {
             Class::Free
         } else {
             Class::Partial
@@ -173,13 +210,11 @@ pub fn class_of(geometry: &Geometry, inode: &Inode) -> Class
     if !is_known_type(kind) {
         return Class::Unknown;
     }
-    if greatest_size(geometry) < inode.size
-        || kind == u16::from(DT_DIR) && 2147483647 < inode.size
-    {
+    if is_too_large(geometry, kind, inode.size) {
         return Class::Unknown;
     }
     let used = addresses_allowed(geometry, inode);
-    if any_nonzero(&inode.addresses, used) {
+    if any_nonzero_from(&inode.addresses, used) {
         return Class::Unknown;
     }
     if kind == u16::from(DT_DIR) {

@@ -1,7 +1,7 @@
-use Rattle.std.proofs.Common.{◌≡◌, ◌==◌, ◌-◌, take, drop, not}
+use Rattle.std.proofs.Common.{◌≡◌, ◌==◌, take, not}
 use Rattle.ffs_volume.specs.Blocks.Inodes.{any_nonzero}
 use Rattle.ffs_walk.proofs.class.any_nonzero.Given as goal
 
 -- some bit is set where an address so far isn't zero
 abbrev pub invariant-loop-index : goal.invariant-loop-index
-invariant-loop-index l = any_nonzero (take (l.index - l.from) (drop l.from l.addresses)) ≡ not (l.bits == 0)
+invariant-loop-index l = any_nonzero (take l.index l.addresses) ≡ not (l.bits == 0)
