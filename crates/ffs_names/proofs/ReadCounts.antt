@@ -1,8 +1,7 @@
 -- Laws of the reads that are still to come of a reading.
-use Rattle.std.proofs.Common.{◌≡◌, ◌<◌, ◌≤◌, ◌+◌, ◌∷◌, ◌∙◌, ℕ, Bool, true, false, List, Option, Some, None, arith, refl, ap, sym}
-use Rattle.std.specs.Prelude.{◌==◌, ◌&&◌, nat_lt, if◌then◌else◌, Result, Ok, Err}
+use Rattle.std.proofs.Common.{◌≡◌, ◌<◌, ◌≤◌, ◌+◌, ◌∷◌, ℕ, Bool, true, false, List, Option, Some, None, arith, refl, ap}
+use Rattle.std.specs.Prelude.{◌==◌, ◌&&◌, nat_lt, if◌then◌else◌}
 use Rattle.std.proofs.lemmas.Bool.Decides.{nat_tests}
-use Rattle.ffs_image.specs.declared.image.ImageFault.{ImageFault}
 use Rattle.ffs_volume.specs.declared.Layout.{Layout}
 use Rattle.ffs_volume.specs.declared.Step.{Step}
 use Rattle.ffs_volume.specs.declared.Step.TheVariants.{Run}
@@ -12,7 +11,6 @@ use Rattle.ffs_walk.specs.Counts.{entered, unread}
 use Rattle.ffs_walk.specs.Rests.{IsAtTop}
 use Rattle.ffs_walk.specs.declared.window.Window.{Window}
 use Rattle.ffs_walk.proofs.Counted.{pays, top_held, top_unread}
-use Rattle.ffs_survey.specs.Costs.{TakesReads}
 use Rattle.ffs_names.specs.Costs.{BeginsReads, HoldsRun, unread_run}
 use Rattle.ffs_names.specs.Readings.{runs_left}
 use Rattle.ffs_names.specs.declared.chunks.Chunks.{Chunks}
