@@ -148,9 +148,7 @@ impl Chunks {
             return Ok(None);
         }
         let run_cursor = self.run_cursor;
-        window.fill(image, run_cursor.place, run_cursor.length as usize)?;
-        let at = DIRBLKSIZ * run_cursor.next as usize;
-        chunk.copy_from_slice(&window.bytes()[at..at + DIRBLKSIZ]);
+        run_cursor.read_chunk(image, window, chunk)?;
         self.run_cursor.next += 1;
         Ok(Some(run_cursor.offset + DIRBLKSIZ as u64 * u64::from(run_cursor.next)))
     }

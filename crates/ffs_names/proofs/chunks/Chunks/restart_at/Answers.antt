@@ -24,7 +24,8 @@ returns-clause-begins c = λ begun.
     let cut = s.keeping.cut in
     let replay = replay_in s.keeping in
     record {
-      chunks = λ b. rest_of_one v walk.geometry.layout c.args.address b (cursor_chunks walk.geometry.layout b c.of_run-self.result)
+      chunks = λ b. rest_of_one v walk.geometry.layout c.args.address b
+          (cursor_chunks walk.geometry.layout b c.of_run-self.result)
           cut replay (steps_left b walk) g same some inside (c.of_run-self.ensures.chunks b) (over_rest b walk over);
       gap = refl;
       gap_left = λ b. gap_of_one v walk.geometry.layout c.args.address b cut replay (steps_left b walk) g some inside
