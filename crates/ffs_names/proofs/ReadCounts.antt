@@ -1,8 +1,7 @@
 -- Laws of the reads that are still to come of a reading.
-use Rattle.std.proofs.Common.{◌≡◌, ◌<◌, ◌≤◌, ◌+◌, ◌∷◌, ◌∙◌, ℕ, Bool, true, false, List, Option, Some, None, arith, refl, ap, sym}
-use Rattle.std.specs.Prelude.{◌==◌, ◌&&◌, nat_lt, if◌then◌else◌, Result, Ok, Err}
+use Rattle.std.proofs.Common.{◌≡◌, ◌<◌, ◌≤◌, ◌+◌, ◌∷◌, ℕ, Bool, true, false, List, Option, Some, None, arith, refl, ap}
+use Rattle.std.specs.Prelude.{◌==◌, ◌&&◌, nat_lt, if◌then◌else◌}
 use Rattle.std.proofs.lemmas.Bool.Decides.{nat_tests}
-use Rattle.ffs_image.specs.declared.image.ImageFault.{ImageFault}
 use Rattle.ffs_volume.specs.declared.Layout.{Layout}
 use Rattle.ffs_volume.specs.declared.Step.{Step}
 use Rattle.ffs_volume.specs.declared.Step.TheVariants.{Run}
@@ -11,8 +10,7 @@ use Rattle.ffs_volume.specs.Encodings.ReplayCounts.{replay_step_by_cut, replayed
 use Rattle.ffs_walk.specs.Counts.{entered, unread}
 use Rattle.ffs_walk.specs.Rests.{IsAtTop}
 use Rattle.ffs_walk.specs.declared.window.Window.{Window}
-use Rattle.ffs_walk.proofs.Counted.{pays, top_held, top_unread}
-use Rattle.ffs_survey.specs.Costs.{TakesReads}
+use Rattle.ffs_walk.proofs.Counted.{top_held, top_unread}
 use Rattle.ffs_names.specs.Costs.{BeginsReads, HoldsRun, unread_run}
 use Rattle.ffs_names.specs.Readings.{runs_left}
 use Rattle.ffs_names.specs.declared.chunks.Chunks.{Chunks}
@@ -43,15 +41,6 @@ was_begun n m l = grind (arith, nat_tests)
 
 pub given_one : (n m : ℕ) → if◌then◌else◌ {A = ℕ} ((n + 1 == 0) && nat_lt 0 m) 1 0 ≡ 0
 given_one n m = ap (λ (x : Bool). if◌then◌else◌ {A = ℕ} x 1 0) (was_begun (n + 1) m (omega arith))
-
-some_begun : (n m : ℕ) → n < m → ((n == 0) && nat_lt 0 m) ≡ false → 0 < n
-some_begun n m l h = grind (arith, nat_tests)
-
--- the chunks of the current Run are read once
-pub run_paid : (cursor : RunCursor) (w : Window) (reads reads' : ℕ) → cursor.next < cursor.count → HoldsRun w cursor
-    → reads' ≤ reads + 1 → (w.place ≡ cursor.place → w.length ≡ cursor.length → reads' ≤ reads) → reads' ≤ reads + unread_run cursor
-run_paid cursor w reads reads' left held one again = pays ((cursor.next == 0) && nat_lt 0 cursor.count) reads reads' one
-    (λ begun. let at = held (some_begun cursor.next cursor.count left begun) left in again at.0 at.1)
 
 -- a window needs no Run of which no chunk was given, or none is left
 pub first_held : (cursor : RunCursor) → cursor.next ≡ 0 → (w : Window) → HoldsRun w cursor

@@ -1,21 +1,23 @@
 -- How many reads of the image a reading of a directory still takes, and how many a directory takes
 -- in all.
-use Rattle.std.specs.Prelude.{◌≡◌, ℕ, ◌+◌, ◌*◌, ◌<◌, ◌≤◌, ◌==◌, Bool, true, ◌&&◌, ◌||◌, nat_lt, if◌then◌else◌, List, ◌∷◌, Option}
+use Rattle.std.specs.Prelude.{◌≡◌, ℕ, ◌+◌, ◌*◌, ◌<◌, ◌≤◌, ◌==◌, Bool, true, false, ◌&&◌, ◌||◌, nat_lt, if◌then◌else◌, List, ◌∷◌, Option}
 use Rattle.ffs_volume.specs.declared.Inode.{Inode}
 use Rattle.ffs_volume.specs.declared.Layout.{Layout}
 use Rattle.ffs_volume.specs.declared.Step.{Step}
 use Rattle.ffs_volume.specs.declared.Step.TheVariants.{Run}
 use Rattle.ffs_volume.specs.Blocks.Inodes.{inode_of}
 use Rattle.ffs_volume.specs.Blocks.Steps.{steps_of}
+use Rattle.ffs_volume.specs.Directories.Entries.{has_gap}
 use Rattle.ffs_volume.specs.Directories.Roles.{is_dir}
 use Rattle.ffs_volume.specs.Directories.Volumes.{volume_of}
-use Rattle.ffs_volume.specs.Encodings.Replay.{cut_at, fresh_replay}
+use Rattle.ffs_volume.specs.Encodings.Replay.{cut_at, fresh_replay, replayed_steps}
 use Rattle.ffs_volume.specs.Encodings.ReplayCounts.{replayed_runs}
 use Rattle.ffs_walk.specs.Counts.{AreHeld, entered, unread}
 use Rattle.ffs_walk.specs.declared.blocks.Blocks.{Blocks}
 use Rattle.ffs_walk.specs.declared.window.Window.{Window}
 use Rattle.ffs_survey.specs.Costs.{costs_all}
-use Rattle.ffs_names.specs.Readings.{runs_after, runs_left}
+use Rattle.ffs_names.specs.OneChunk.{one_chunk_at}
+use Rattle.ffs_names.specs.Readings.{chunks_in, gap_left, rest, runs_after, runs_left}
 use Rattle.ffs_names.specs.declared.chunks.Chunks.{Chunks}
 use Rattle.ffs_names.specs.declared.entries.Entries.{Entries}
 use Rattle.ffs_names.specs.declared.run_cursor.RunCursor.{RunCursor}
@@ -42,6 +44,15 @@ pub record HoldsReading (blocks : Blocks) (w : Window) (c : Chunks) : Type 0 whe
 -- was read
 pub record BeginsReads (c : Chunks) : Type 0 where
   pub to_read : (b : List ℕ) → to_read b c ≡ runs_left b c
+  pub held : (blocks : Blocks) (w : Window) → HoldsReading blocks w c
+
+-- a reading begins of a directory of one chunk, at an address; its Run is seen already
+pub record BeginsAtChunk (v : Layout) (address : ℕ) (c : Chunks) : Type 0 where
+  pub chunks : (b : List ℕ) → rest b c ≡ chunks_in v b (one_chunk_at address) 0
+  pub gap : c.gap ≡ false
+  pub gap_left : (b : List ℕ) → gap_left b c
+      ≡ has_gap (replayed_steps v 0 fresh_replay (steps_of v (one_chunk_at address) b))
+  pub to_read : (b : List ℕ) → to_read b c ≤ replayed_runs v 0 fresh_replay (steps_of v (one_chunk_at address) b)
   pub held : (blocks : Blocks) (w : Window) → HoldsReading blocks w c
 
 -- a Run that is seen takes one read at most: it is an indirect block, or it has chunks

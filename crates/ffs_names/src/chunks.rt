@@ -1,6 +1,6 @@
 //! The chunks of a directory.
 
-ghost use Rattle.std.specs.Prelude.{◌≡◌, ◌+◌, ◌*◌, ◌%◌, ◌≤◌, ◌<◌, ◌^◌, ◌∷◌, ℕ, List, [], true, Ok, None, OnOk, IfOk, IfSome, OnErr, MatchBool, MatchOption, MatchResult};
+ghost use Rattle.std.specs.Prelude.{◌≡◌, ◌+◌, ◌*◌, ◌%◌, ◌≤◌, ◌<◌, ◌^◌, ◌∷◌, ℕ, List, [], true, Ok, None, OnOk, IfOk, IfSome, IsTrue, OnErr, MatchBool, MatchOption, MatchResult};
 ghost use Rattle.ffs_image.specs.Device.{ForContents};
 ghost use Rattle.ffs_volume.specs.Blocks.Inodes as inodes;
 ghost use Rattle.ffs_volume.specs.Disk.Numbers.{piece};
@@ -13,6 +13,7 @@ ghost use Rattle.ffs_names.specs.Windows.{CanWalkDir, CanReadChunks};
 ghost use Rattle.ffs_survey.specs.Costs.{TakesReads};
 ghost use Rattle.ffs_walk.specs.declared.window.Window.{Window};
 
+use crate::gap::end_walk;
 use crate::run_cursor::RunCursor;
 use ffs_image::{Image, ImageFault};
 use ffs_layout::Geometry;
@@ -45,7 +46,7 @@ pub struct Chunks {
 }
 
 impl Chunks {
-    ghost use Rattle.ffs_names.specs.Costs.{to_read, BeginsReads, HoldsReading, SeesRun};
+    ghost use Rattle.ffs_names.specs.Costs.{to_read, BeginsAtChunk, BeginsReads, HoldsReading, SeesRun};
     ghost use Rattle.ffs_names.specs.RunCursors.{last_place};
     ghost use Rattle.ffs_walk.specs.Rests.{most_steps_left};
     ghost use Rattle.ffs_names.specs.Readings.{ahead, all_chunks, rest, runs_left, HasSeenAll, IsSame, CanSee, LeavesWalk, LeavesChunks, LeavesReading, Continues, ContinuesTo, GivesChunk, BeginsAt};
@@ -147,9 +148,7 @@ impl Chunks {
             return Ok(None);
         }
         let run_cursor = self.run_cursor;
-        window.fill(image, run_cursor.place, run_cursor.length as usize)?;
-        let at = DIRBLKSIZ * run_cursor.next as usize;
-        chunk.copy_from_slice(&window.bytes()[at..at + DIRBLKSIZ]);
+        run_cursor.read_chunk(image, window, chunk)?;
         self.run_cursor.next += 1;
         Ok(Some(run_cursor.offset + DIRBLKSIZ as u64 * u64::from(run_cursor.next)))
     }
@@ -202,6 +201,26 @@ impl Chunks {
         self.budget = (bytes_to_read / DIRBLKSIZ as u64) as u32;
         self.runs = 0;
         self.gap = false;
+    }
+
+    /// Begins a reading of a directory of the same volume that has one chunk, at this address, in
+    /// place. It needs no walk: the Run of the chunk is the current Run at once. Returns false, and
+    /// begins nothing, where the fragment is a hole or out of range.
+    #[inline(always)]
+    pub fn restart_at(&mut self, address: u32) -> bool
+        ensures begins { IsTrue result
+            → BeginsAtChunk self.old.walk.geometry.layout address self.new }
+        ensures geometry { self.new.walk.geometry ≡ self.old.walk.geometry }
+    {
+        if address == 0 || !self.walk.geometry.in_range(address, 1) {
+            return false;
+        }
+        end_walk(&mut self.walk);
+        let bytes = DIRBLKSIZ as u64;
+        self.run_cursor = RunCursor::of_run(&self.walk.geometry, bytes, address, 1, 0);
+        self.bytes_to_read = bytes;
+        (self.budget, self.runs, self.gap) = (1, 1, false);
+        true
     }
 
     /// Reads the next chunk into `chunk`, and returns its place in the file, in bytes, and None

@@ -4,6 +4,7 @@ ghost use Rattle.std.specs.Prelude.{◌≡◌, ◌+◌, ◌-◌, ◌*◌, ◌/�
 ghost use Rattle.ffs_image.specs.Device.{ForContents};
 ghost use Rattle.ffs_volume.specs.Blocks.Inodes as inodes;
 ghost use Rattle.ffs_volume.specs.Directories.Entries.{entry_at};
+ghost use Rattle.ffs_names.specs.OneChunk.{one_chunk_at as one_chunk};
 ghost use Rattle.ffs_names.specs.RightShapes.{is_right_size};
 ghost use Rattle.ffs_names.specs.Windows.{CanWalkDir, CanReadChunks};
 ghost use Rattle.ffs_survey.specs.Costs.{TakesReads};
@@ -12,6 +13,7 @@ ghost use Rattle.ffs_walk.specs.declared.window.Window.{Window};
 
 use crate::chunks::Chunks;
 use crate::gap::gap_of;
+use crate::reader::one_chunk_at;
 use crate::role::role_of;
 use ffs_image::{Image, ImageFault};
 use ffs_layout::{Geometry, entry_at};
@@ -120,6 +122,24 @@ impl Entries {
         self.chunks.restart(inode, class, cut);
         self.first = false;
         self.right_so_far = has_right_size(inode);
+    }
+
+    /// Begins a reading of another directory of the same volume, as `restart` does: of one that has
+    /// one chunk, at this address, and isn't cut.
+    #[inline(always)]
+    pub fn restart_at(&mut self, address: u32)
+        ensures begins { BeginsDirectory self.old.chunks.walk.geometry.layout
+            (one_chunk address) 0 self.new }
+        ensures reads { BeginsEntries self.old.chunks.walk.geometry.layout
+            (one_chunk address) 0 self.new }
+        ensures geometry { self.new.chunks.walk.geometry ≡ self.old.chunks.walk.geometry }
+    {
+        self.place = DIRBLKSIZ;
+        if !self.chunks.restart_at(address) {
+            self.restart(&one_chunk_at(address), Class::Dir, 0);
+            return;
+        }
+        self.right_so_far = true;
     }
 
     /// No entry comes any more.

@@ -23,6 +23,17 @@ fn is_over(walk: &Walk) -> bool
         && !walk.triple.is_left()
 }
 
+/// Ends a walk, unless it is over: no step is left.
+#[inline(always)]
+pub(crate) fn end_walk(walk: &mut Walk)
+    ensures over { IsOver walk.new }
+    ensures geometry { walk.new.geometry ≡ walk.old.geometry }
+{
+    if !is_over(walk) {
+        *walk = Walk::ended(&walk.geometry);
+    }
+}
+
 /// Walks over the steps that a reading of chunks has left, and returns whether a hole is among all
 /// its steps.
 fn find_gap<I: Image>(

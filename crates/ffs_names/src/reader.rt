@@ -104,7 +104,7 @@ impl<I: Image> Directories for DirectoryReader<'_, I> {
         }
         let note = self.notes[dir as usize];
         if let Some(address) = address_in(note) {
-            self.entries.restart(&one_chunk_at(address), Class::Dir, 0);
+            self.entries.restart_at(address);
             return Ok(());
         }
         let inode = self

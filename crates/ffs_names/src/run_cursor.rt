@@ -1,10 +1,16 @@
 //! The chunks of one Run of a directory.
 
-ghost use Rattle.std.specs.Prelude.{◌≡◌, ◌+◌, ◌*◌, ◌<◌, ◌≤◌, ◌^◌, ℕ, List, []};
+ghost use Rattle.std.specs.Prelude.{◌≡◌, ◌+◌, ◌*◌, ◌<◌, ◌≤◌, ◌^◌, ℕ, List, [], OnOk, vec_len};
+ghost use Rattle.ffs_image.specs.Device.{ForContents};
+ghost use Rattle.ffs_image.specs.Reads.{ReadAfter};
+ghost use Rattle.ffs_volume.specs.Disk.Numbers.{piece};
 ghost use Rattle.ffs_volume.specs.Directories.Entries.{run_chunks};
+ghost use Rattle.ffs_walk.specs.Windows.{WindowHolds};
 
+use ffs_image::{Image, ImageFault};
 use ffs_layout::Geometry;
 use ffs_volume::constants::DIRBLKSIZ;
+use ffs_walk::Window;
 
 /// The chunks of the current Run that are read, and which of them is the next.
 #[derive(Clone, Copy, Debug)]
@@ -27,6 +33,7 @@ pub struct RunCursor {
 impl RunCursor {
     ghost use Rattle.ffs_volume.specs.declared.Layout.{Layout};
     ghost use Rattle.ffs_names.specs.RunCursors.{cursor_chunks, reading_by};
+    ghost use Rattle.ffs_names.specs.Costs.{unread_run, HoldsRun};
     ghost use Rattle.ffs_names.specs.Fits.{CursorFits, IsBlockRun};
 
     /// No chunks.
@@ -79,5 +86,40 @@ impl RunCursor {
             next: 0,
             count: count as u32,
         }
+    }
+
+    /// Reads the next chunk of the Run. The window is for the chunks of a Run, which are read at
+    /// once, unless it holds them; the only chunk of a Run is read past it.
+    ///
+    /// # Errors
+    /// A read of the image that failed.
+    #[inline(always)]
+    pub fn read_chunk<I: Image>(
+        &self,
+        image: &mut I,
+        window: &mut Window,
+        chunk: &mut [u8; DIRBLKSIZ],
+    ) -> Result<(), ImageFault>
+        requires left { self.now.next < self.now.count }
+        requires room { self.now.length ≤ vec_len window.old.buffer }
+        requires inside { self.now.place + self.now.length ≤ (I.device image.old).size }
+        requires holds { WindowHolds (I.device image.old).contents window.old }
+        ensures chunk { OnOk result (ForContents (I.device image.old).contents
+            (λ b. chunk.new ≡ piece (self.now.place + 512 * self.now.next) 512 b)) }
+        ensures room { vec_len window.new.buffer ≡ vec_len window.old.buffer }
+        ensures holds { WindowHolds (I.device image.new).contents window.new }
+        ensures read { ReadAfter (I.device image.old) (I.device image.new) result }
+        ensures counted { HoldsRun window.old self.now
+            → I.reads image.new ≤ I.reads image.old + unread_run self.now }
+        ensures held { OnOk result (self.now.next + 1 < self.now.count
+            → (window.new.place ≡ self.now.place) × (window.new.length ≡ self.now.length)) }
+    {
+        if self.count == 1 {
+            return image.read_at(self.place, chunk);
+        }
+        window.fill(image, self.place, self.length as usize)?;
+        let at = DIRBLKSIZ * self.next as usize;
+        chunk.copy_from_slice(&window.bytes()[at..at + DIRBLKSIZ]);
+        Ok(())
     }
 }

@@ -1,4 +1,4 @@
-use Rattle.std.proofs.Common.{◌∙◌, List, ap, sym}
+use Rattle.std.proofs.Common.{List, ap, sym}
 use Rattle.ffs_volume.specs.declared.Step.{Step}
 use Rattle.ffs_names.specs.Readings.{gap_after, gap_left}
 use Rattle.ffs_names.proofs.Advances.{over_rest}

@@ -1,11 +1,10 @@
 use Rattle.std.proofs.Common.{◌∙◌, ◌+◌, ◌*◌, ap, sym, arith}
 use Rattle.std.proofs.lemmas.Result.{err_from_is_err_and}
 use Rattle.ffs_volume.specs.Disk.Numbers.{piece}
-use Rattle.ffs_walk.specs.Windows.{held_bytes}
 use Rattle.ffs_walk.specs.Rests.{steps_left}
 use Rattle.ffs_names.specs.Readings.{all_chunks, chunks_after}
-use Rattle.ffs_names.proofs.Pieces.{chunk_held, cursor_step}
-use Rattle.ffs_names.proofs.ReadCounts.{given_one, run_paid}
+use Rattle.ffs_names.proofs.Pieces.{cursor_step}
+use Rattle.ffs_names.proofs.ReadCounts.{given_one}
 use Rattle.ffs_names.proofs.chunks.Chunks.read.Goals as goal
 
 pub returns-clause-chunk : goal.returns-clause-chunk
@@ -15,13 +14,10 @@ returns-clause-chunk g c = λ b t.
     let went = c.in_ok-advance.ensures.continues b t in
     let order = ap (λ x. x.layout.order) c.advance.ensures.leaves.same.geometry in
     let more = rw c.if-not-branch.false at c.in_ok-advance.ensures.found in
-    let fits = h.whole in
-    let chunk = chunk_held h.place h.length h.next b (held_bytes c.fill.new.self) c.copy_from_slice.new.self
-    c.bytes.result.now (omega arith) c.copy_from_slice.ensures.after c.bytes.ensures
-    (c.in_ok-fill.ensures.fills.bytes b (ap (λ d. d.contents) c.in_ok-advance.ensures.leaves.read ∙ t)) in
+    let chunk = c.in_ok-read_chunk.ensures.chunk b (ap (λ d. d.contents) c.in_ok-advance.ensures.leaves.read ∙ t) in
     record {
       chunks = cursor_step s.walk.geometry.layout.order c.args.self.now.walk.geometry.layout.order b h.place h.offset
-          h.next h.count c.copy_from_slice.new.self (chunks_after b s (steps_left b s.walk))
+          h.next h.count c.read_chunk.new.chunk (chunks_after b s (steps_left b s.walk))
           (all_chunks b c.args.self.now) c.from.result
           order more chunk c.from.ensures went.chunks;
       runs = went.runs;
@@ -38,10 +34,7 @@ pub returns-clause-place : goal.returns-clause-place
 returns-clause-place g c = λ b t.
     let h = c.advance.new.self.run_cursor in
     let more = rw c.if-not-branch.false at c.in_ok-advance.ensures.found in
-    let fits = h.whole in
-    chunk_held h.place h.length h.next b (held_bytes c.fill.new.self) c.copy_from_slice.new.self c.bytes.result.now
-    (omega arith) c.copy_from_slice.ensures.after c.bytes.ensures
-    (c.in_ok-fill.ensures.fills.bytes b (ap (λ d. d.contents) c.in_ok-advance.ensures.leaves.read ∙ t))
+    c.in_ok-read_chunk.ensures.chunk b (ap (λ d. d.contents) c.in_ok-advance.ensures.leaves.read ∙ t)
     ∙ ap (λ n. piece (h.place + 512 * n) 512 b) (omega arith)
 
 pub advance-requires : goal.advance-requires
@@ -92,45 +85,45 @@ returns-then-not-branch-clause-leaves g c =
     }
 
 -- the Run is a block's at most, and lies in the volume
-pub fill-requires-clause-room : goal.fill-requires-clause-room
-fill-requires-clause-room g c =
+pub read_chunk-requires-clause-room : goal.read_chunk-requires-clause-room
+read_chunk-requires-clause-room g c =
     let s = c.advance.new.self in
     let same = ap (λ x. x.layout.bsize) c.advance.ensures.leaves.same.geometry in
     omega (arith, s.cursor_fits.in_block, c.requires.room, same)
 
-pub fill-requires-clause-inside : goal.fill-requires-clause-inside
-fill-requires-clause-inside g c =
+pub read_chunk-requires-clause-inside : goal.read_chunk-requires-clause-inside
+read_chunk-requires-clause-inside g c =
     let fits = rw c.advance.ensures.leaves.same.geometry at c.advance.new.self.cursor_fits.in_volume in
     omega (arith, fits, c.in_ok-advance.ensures.leaves.ready.volume)
 
-pub fill-requires-clause-holds : goal.fill-requires-clause-holds
-fill-requires-clause-holds g c = rw (ap (λ d. d.contents) c.in_ok-advance.ensures.leaves.read) c.requires.holds
+pub read_chunk-requires-clause-holds : goal.read_chunk-requires-clause-holds
+read_chunk-requires-clause-holds g c = rw (ap (λ d. d.contents) c.in_ok-advance.ensures.leaves.read) c.requires.holds
 
-pub bytes-requires : goal.bytes-requires
-bytes-requires g c = c.fill.ensures.fills.holds.fits
+pub returns-in_err-read_chunk-clause-chunk : goal.returns-in_err-read_chunk-clause-chunk
+returns-in_err-read_chunk-clause-chunk g c =
+    let p = err_from_is_err_and c.from_residual-in_err-read_chunk.result c.from_residual-in_err-read_chunk.ensures.1 in
+    rw p.1 tt
 
-pub returns-in_err-fill-clause-chunk : goal.returns-in_err-fill-clause-chunk
-returns-in_err-fill-clause-chunk g c =
-    let p = err_from_is_err_and c.from_residual-in_err-fill.result c.from_residual-in_err-fill.ensures.1 in rw p.1 tt
+pub returns-in_err-read_chunk-clause-place : goal.returns-in_err-read_chunk-clause-place
+returns-in_err-read_chunk-clause-place g c =
+    let p = err_from_is_err_and c.from_residual-in_err-read_chunk.result c.from_residual-in_err-read_chunk.ensures.1 in
+    rw p.1 tt
 
-pub returns-in_err-fill-clause-place : goal.returns-in_err-fill-clause-place
-returns-in_err-fill-clause-place g c =
-    let p = err_from_is_err_and c.from_residual-in_err-fill.result c.from_residual-in_err-fill.ensures.1 in rw p.1 tt
+pub returns-in_err-read_chunk-clause-inside : goal.returns-in_err-read_chunk-clause-inside
+returns-in_err-read_chunk-clause-inside g c =
+    let p = err_from_is_err_and c.from_residual-in_err-read_chunk.result c.from_residual-in_err-read_chunk.ensures.1 in
+    rw p.1 tt
 
-pub returns-in_err-fill-clause-inside : goal.returns-in_err-fill-clause-inside
-returns-in_err-fill-clause-inside g c =
-    let p = err_from_is_err_and c.from_residual-in_err-fill.result c.from_residual-in_err-fill.ensures.1 in rw p.1 tt
-
-pub returns-in_err-fill-clause-runs : goal.returns-in_err-fill-clause-runs
-returns-in_err-fill-clause-runs g c =
-    let p = err_from_is_err_and c.from_residual-in_err-fill.result c.from_residual-in_err-fill.ensures.1 in
+pub returns-in_err-read_chunk-clause-runs : goal.returns-in_err-read_chunk-clause-runs
+returns-in_err-read_chunk-clause-runs g c =
+    let p = err_from_is_err_and c.from_residual-in_err-read_chunk.result c.from_residual-in_err-read_chunk.ensures.1 in
     rw p.1 (λ b t. (c.in_ok-advance.ensures.continues b t).runs.most)
 
-pub returns-in_err-fill-clause-leaves : goal.returns-in_err-fill-clause-leaves
-returns-in_err-fill-clause-leaves g c =
+pub returns-in_err-read_chunk-clause-leaves : goal.returns-in_err-read_chunk-clause-leaves
+returns-in_err-read_chunk-clause-leaves g c =
     let went = c.in_ok-advance.ensures.leaves in
-    let err = c.in_err-fill.ensures.fills.read in
-    let p = err_from_is_err_and c.from_residual-in_err-fill.result c.from_residual-in_err-fill.ensures.1 in
+    let err = c.in_err-read_chunk.ensures.read in
+    let p = err_from_is_err_and c.from_residual-in_err-read_chunk.result c.from_residual-in_err-read_chunk.ensures.1 in
     rw (p.1, p.2) (record {
       same = went.same;
       ready = record {
@@ -139,8 +132,8 @@ returns-in_err-fill-clause-leaves g c =
           room = went.ready.room;
           holds = rw err.contents went.ready.holds;
         };
-        room = c.fill.ensures.fills.room ∙ c.requires.room;
-        holds = c.fill.ensures.fills.holds;
+        room = c.read_chunk.ensures.room ∙ c.requires.room;
+        holds = c.read_chunk.ensures.holds;
       };
       read = rw went.read at err;
     })
@@ -148,7 +141,7 @@ returns-in_err-fill-clause-leaves g c =
 pub returns-clause-leaves : goal.returns-clause-leaves
 returns-clause-leaves g c =
     let went = c.in_ok-advance.ensures.leaves in
-    let read = c.in_ok-fill.ensures.fills.read in
+    let read = c.in_ok-read_chunk.ensures.read in
     record {
       same = record {
         geometry = went.same.geometry;
@@ -159,8 +152,8 @@ returns-clause-leaves g c =
       };
       ready = record {
         walk = rw read went.ready;
-        room = c.fill.ensures.fills.room ∙ c.requires.room;
-        holds = c.fill.ensures.fills.holds;
+        room = c.read_chunk.ensures.room ∙ c.requires.room;
+        holds = c.read_chunk.ensures.holds;
       };
       read = read ∙ went.read;
     }
@@ -178,25 +171,22 @@ returns-then-not-branch-clause-reads g c = λ held b t.
     record { most = took.most; paid = took.paid; held = took.held }
 
 -- the chunks of the Run are read, unless the window has them
-pub returns-in_err-fill-clause-reads : goal.returns-in_err-fill-clause-reads
-returns-in_err-fill-clause-reads g c =
-    let p = err_from_is_err_and c.from_residual-in_err-fill.result c.from_residual-in_err-fill.ensures.1 in
+pub returns-in_err-read_chunk-clause-reads : goal.returns-in_err-read_chunk-clause-reads
+returns-in_err-read_chunk-clause-reads g c =
+    let p = err_from_is_err_and c.from_residual-in_err-read_chunk.result c.from_residual-in_err-read_chunk.ensures.1 in
     rw p.1 (λ held b t.
     let took = c.in_ok-advance.ensures.reads c.args.window.now held b t in
-    let h = c.advance.new.self.run_cursor in
-    let more = rw c.if-not-branch.false at c.in_ok-advance.ensures.found in
-    let run = run_paid h c.args.window.now _ _ more took.held.run c.fill.ensures.counted c.fill.ensures.again in
+    let run = c.read_chunk.ensures.counted took.held.run in
     record { most = omega (arith, took.paid, run); paid = tt; held = tt })
 
 pub returns-clause-reads : goal.returns-clause-reads
 returns-clause-reads g c = λ held b t.
     let took = c.in_ok-advance.ensures.reads c.args.window.now held b t in
     let h = c.advance.new.self.run_cursor in
-    let more = rw c.if-not-branch.false at c.in_ok-advance.ensures.found in
-    let run = run_paid h c.args.window.now _ _ more took.held.run c.fill.ensures.counted c.fill.ensures.again in
+    let run = c.read_chunk.ensures.counted took.held.run in
     let given = given_one h.next h.count in
     record {
       most = omega (arith, took.paid, run);
       paid = omega (arith, took.paid, run, given);
-      held = record { frames = took.held.frames; run = λ some left. c.in_ok-fill.ensures.fills.place };
+      held = record { frames = took.held.frames; run = λ some left. c.in_ok-read_chunk.ensures.held left };
     }

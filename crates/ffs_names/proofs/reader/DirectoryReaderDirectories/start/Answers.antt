@@ -10,7 +10,7 @@ use Rattle.ffs_names.specs.RightShapes.{is_right_shape}
 use Rattle.ffs_workspace.specs.Notes.{first_noted, note_at, cut_in}
 use Rattle.ffs_workspace.proofs.NoteLaws.{below_is_cut, cut_is_noted, address_is_noted, address_is_whole, IsOneChunkAt}
 use Rattle.ffs_volume.specs.Encodings.Replay.{cut_at}
-use Rattle.ffs_names.proofs.OneChunks.{one_chunk_class, one_chunk_is, entries_by, shape_by}
+use Rattle.ffs_names.proofs.OneChunks.{one_chunk_is, entries_by, shape_by}
 use Rattle.ffs_names.proofs.DirLaws.{dir_is, dir_size, dir_seen, shape_seen, kind_dirs}
 use Rattle.ffs_volume.specs.Encodings.Replay.{fresh_replay}
 use Rattle.ffs_volume.specs.Encodings.ReplayCounts.{replayed_runs}
@@ -43,7 +43,7 @@ returns-clause-reader g c =
           kinds_long = r.kinds_long;
           notes_long = r.notes_long;
         },
-        c.restart-2.ensures.geometry ∙ c.requires.ready.1,
+        c.restart.ensures.geometry ∙ c.requires.ready.1,
       );
       same = rw (ap (λ d. d.contents) device) refl;
       read = device;
@@ -63,7 +63,7 @@ returns-clause-rest g c = λ b k.
     ∙ k.notes c.args.dir in
     let cut : c.index-note.result.now ≡ cut_at v b c.args.dir =
     sym (below_is_cut c.index-note.result.now (rw c.in_default.is at c.address_in.ensures)) ∙ (ap cut_in note ∙ cut_is_noted v b c.args.dir t.geometry.sound) in
-    let begins = rw c.requires.ready.1 at c.restart-2.ensures.begins in
+    let begins = rw c.requires.ready.1 at c.restart.ensures.begins in
     let known = sym (ap (class_of v) inode ∙ is.1) in
     (begins known).entries b
     (subst (λ (x : Inode). x.size < 2147483648) (sym inode) (dir_size v (inode_of v b c.args.dir) is.1))
@@ -91,7 +91,7 @@ returns-clause-shape g c = λ b k.
     ∙ k.notes c.args.dir in
     let cut : c.index-note.result.now ≡ cut_at v b c.args.dir =
     sym (below_is_cut c.index-note.result.now (rw c.in_default.is at c.address_in.ensures)) ∙ (ap cut_in note ∙ cut_is_noted v b c.args.dir t.geometry.sound) in
-    let begins = rw c.requires.ready.1 at c.restart-2.ensures.begins in
+    let begins = rw c.requires.ready.1 at c.restart.ensures.begins in
     let known = sym (ap (class_of v) inode ∙ is.1) in
     (begins known).shape b
     (subst (λ (x : Inode). x.size < 2147483648) (sym inode) (dir_size v (inode_of v b c.args.dir) is.1))
@@ -113,8 +113,8 @@ returns-in-Some-clause-rest g c = λ b k.
     let at = address_is_noted v b d c.in-Some.address t.geometry.sound noted in
     let one : IsOneChunkAt (class_of v (inode_of v b d)) (inode_of v b d) c.in-Some.address =
     record { is_dir = is.1; size = at.size; address_is = at.address_is } in
-    let begins = rw (c.requires.ready.1, c.one_chunk_at.ensures) at c.restart.ensures.begins in
-    (begins (sym (one_chunk_class v c.in-Some.address t.geometry.sound))).entries b (omega arith)
+    let begins = rw c.requires.ready.1 at c.restart_at.ensures.begins in
+    begins.entries b (omega arith)
     ∙ (one_chunk_is v (inode_of v b d) b c.in-Some.address (entries_by v b) t.geometry.sound one
     ∙ (dir_seen v b d (inode_of v b d) 0 t.geometry.sound is.0 refl
     (sym (address_is_whole v b d c.in-Some.address t.geometry.sound noted))
@@ -134,8 +134,8 @@ returns-in-Some-clause-shape g c = λ b k.
     let at = address_is_noted v b d c.in-Some.address t.geometry.sound noted in
     let one : IsOneChunkAt (class_of v (inode_of v b d)) (inode_of v b d) c.in-Some.address =
     record { is_dir = is.1; size = at.size; address_is = at.address_is } in
-    let begins = rw (c.requires.ready.1, c.one_chunk_at.ensures) at c.restart.ensures.begins in
-    (begins (sym (one_chunk_class v c.in-Some.address t.geometry.sound))).shape b (omega arith)
+    let begins = rw c.requires.ready.1 at c.restart_at.ensures.begins in
+    begins.shape b (omega arith)
     ∙ (one_chunk_is v (inode_of v b d) b c.in-Some.address (shape_by v b) t.geometry.sound one
     ∙ (shape_seen v b d (inode_of v b d) 0 t.geometry.sound is.0 refl
     (sym (address_is_whole v b d c.in-Some.address t.geometry.sound noted))
@@ -156,7 +156,7 @@ pub returns-then-not-is_dir-clause-left : goal.returns-then-not-is_dir-clause-le
 returns-then-not-is_dir-clause-left g c = c.stop.new.self.few
 
 pub returns-clause-left : goal.returns-clause-left
-returns-clause-left g c = c.restart-2.new.self.few
+returns-clause-left g c = c.restart.new.self.few
 
 -- the read of the inode failed
 pub returns-in_err-inode-clause-reader : goal.returns-in_err-inode-clause-reader
@@ -218,7 +218,7 @@ returns-clause-counted g c = λ b k.
     let cut : c.index-note.result.now ≡ cut_at v b c.args.dir =
     sym (below_is_cut c.index-note.result.now (rw c.in_default.is at c.address_in.ensures)) ∙ (ap cut_in note ∙ cut_is_noted v b c.args.dir t.geometry.sound) in
     let known = sym (ap (class_of v) inode ∙ is.1) in
-    let begins = (rw c.requires.ready.1 at c.restart-2.ensures.reads) known in
+    let begins = (rw c.requires.ready.1 at c.restart.ensures.reads) known in
     let runs = runs_are v b c.args.dir c.in_ok-inode.inode c.index-note.result.now inode cut in
     let cost = cost_is v b c.args.dir dir in
     let one = c.in_ok-inode.ensures.counted in
@@ -242,8 +242,7 @@ returns-in-Some-clause-counted g c = λ b k.
     let at = address_is_noted v b d c.in-Some.address t.geometry.sound noted in
     let one : IsOneChunkAt (class_of v (inode_of v b d)) (inode_of v b d) c.in-Some.address =
     record { is_dir = is.1; size = at.size; address_is = at.address_is } in
-    let begins = (rw (c.requires.ready.1, c.one_chunk_at.ensures) at c.restart.ensures.reads)
-    (sym (one_chunk_class v c.in-Some.address t.geometry.sound)) in
+    let begins = rw c.requires.ready.1 at c.restart_at.ensures.reads in
     let runs = one_chunk_is v (inode_of v b d) b c.in-Some.address (λ size steps. replayed_runs v 0 fresh_replay steps)
     t.geometry.sound one
     ∙ runs_are v b d (inode_of v b d) 0 refl (sym (address_is_whole v b d c.in-Some.address t.geometry.sound noted)) in
