@@ -88,8 +88,9 @@ impl RunCursor {
         }
     }
 
-    /// Reads the next chunk of the Run. The chunks of a Run are read into the window at once, unless
-    /// it holds them. The only chunk of a Run may be read past it, if nothing reads it again.
+    /// Reads the next chunk of the Run. The chunks of a Run are read into the window at once,
+    /// unless it holds them. The only chunk of a Run may be read past it, if nothing reads it
+    /// again.
     ///
     /// # Errors
     /// A read of the image that failed.
