@@ -40,6 +40,8 @@ pub struct Chunks {
     pub runs: u64,
     /// Whether a hole was seen.
     pub gap: bool,
+    /// Whether a chunk that is alone in its Run is read past the window: nothing reads it again.
+    pub past_window: bool,
     ghost bytes_to_read_small: { bytes_to_read ≤ 2 ^ 31 },
     ghost few: { budget ≤ 2 ^ 22 },
     ghost cursor_fits: { CursorFits walk.geometry.layout run_cursor },
@@ -148,7 +150,7 @@ impl Chunks {
             return Ok(None);
         }
         let run_cursor = self.run_cursor;
-        run_cursor.read_chunk(image, window, chunk)?;
+        run_cursor.read_chunk(image, window, self.past_window, chunk)?;
         self.run_cursor.next += 1;
         Ok(Some(run_cursor.offset + DIRBLKSIZ as u64 * u64::from(run_cursor.next)))
     }
@@ -181,6 +183,7 @@ impl Chunks {
             run_cursor: RunCursor::empty(),
             runs: 0,
             gap: false,
+            past_window: false,
         }
     }
 
@@ -201,11 +204,13 @@ impl Chunks {
         self.budget = (bytes_to_read / DIRBLKSIZ as u64) as u32;
         self.runs = 0;
         self.gap = false;
+        self.past_window = false;
     }
 
     /// Begins a reading of a directory of the same volume that has one chunk, at this address, in
-    /// place. It needs no walk: the Run of the chunk is the current Run at once. Returns false, and
-    /// begins nothing, where the fragment is a hole or out of range.
+    /// place. It needs no walk: the Run of the chunk is the current Run at once. The chunk is read
+    /// past the window. Returns false, and begins nothing, where the fragment is a hole or out of
+    /// range.
     #[inline(always)]
     pub fn restart_at(&mut self, address: u32) -> bool
         ensures begins { IsTrue result
@@ -219,7 +224,8 @@ impl Chunks {
         let bytes = DIRBLKSIZ as u64;
         self.run_cursor = RunCursor::of_run(&self.walk.geometry, bytes, address, 1, 0);
         self.bytes_to_read = bytes;
-        (self.budget, self.runs, self.gap) = (1, 1, false);
+        (self.budget, self.runs) = (1, 1);
+        (self.gap, self.past_window) = (false, true);
         true
     }
 
