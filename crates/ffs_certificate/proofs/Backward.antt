@@ -1,33 +1,24 @@
 -- Where the directories are consistent, the checks are silent.
-use Rattle.std.specs.Prelude.{◌≡◌, ◌≢◌, ℕ, ◌==◌, ◌/◌, ◌%◌, true, false, not, ◌&&◌, nat_lt, nat_le, refl, Option, Some}
-use Rattle.std.specs.Prelude.{None, IsSomeAnd}
-use Rattle.std.proofs.Common.{arith, sym, ◌∙◌, ap, subst, inl, inr}
+use Rattle.std.proofs.Common.{◌≡◌, ◌≢◌, ℕ, ◌==◌, ◌/◌, ◌%◌, true, false, not, ◌&&◌, nat_lt, nat_le, Option, Some, None}
+use Rattle.std.proofs.Common.{IsSomeAnd, arith, sym, ◌∙◌, ap, subst, inl, inr}
 use Rattle.std.proofs.lemmas.Bool.{both_ways, cases_eq, eqb-true, eq-eqb, leb-true, lt-ltb, le-ltb, and_parts, and_from}
-use Rattle.std.proofs.lemmas.Bool.{or_from, not_from_true}
+use Rattle.std.{specs.Prelude.refl, proofs.lemmas.Bool.or_from, proofs.lemmas.Bool.not_from_true}
 use Rattle.ffs_volume.specs.declared.Role.TheVariants.{Plain}
-use Rattle.ffs_volume.specs.Directories.Entries.{Entry}
-use Rattle.ffs_volume.specs.Blocks.Inodes.{is_allocated, is_unknown}
 use Rattle.ffs_volume.specs.Directories.Roles.{Volume, RoledEntry, is_dir, is_inode, is_allocated_inode, is_suspect}
 use Rattle.ffs_volume.specs.Directories.Roles.{roled_entries, dotdot, references}
-use Rattle.ffs_volume.specs.Directories.Climb.{is_value}
-use Rattle.ffs_volume.proofs.ClimbLaws.{is_value-from}
-use Rattle.ffs_volume.specs.Directories.Graph.{parent, parent_entry_index, reached}
-use Rattle.ffs_volume.proofs.Graphs.{AllReached, NoExtraneous}
-use Rattle.ffs_volume.proofs.LevelLaws.{reached-root, parent-root}
-use Rattle.ffs_certificate.proofs.Lost.{silent-reached}
-use Rattle.ffs_certificate.proofs.Links.{links-right}
-use Rattle.ffs_volume.specs.Directories.Parents.{graph_of, nth_roled}
 use Rattle.ffs_volume.specs.Directories.PathnameCheck.{is_short, is_bad_whiteout, is_extraneous, is_wrong_parent}
-use Rattle.ffs_volume.specs.Directories.Connectivity.{is_unref_dir}
-use Rattle.ffs_volume.specs.Consistent.DirectoriesRight.{IsPlainRight, IsDirRight, AreDirsRight}
+use Rattle.ffs_volume.specs.Directories.{Entries.Entry, Climb.is_value, Graph.parent, Graph.parent_entry_index}
+use Rattle.ffs_volume.specs.Directories.{Graph.reached, Parents.graph_of, Parents.nth_roled, Connectivity.is_unref_dir}
+use Rattle.ffs_volume.specs.Blocks.Inodes.{is_allocated, is_unknown}
+use Rattle.ffs_volume.specs.Consistent.DirectoriesRight.{IsPlainRight, IsDirRight, AreDirsRight, AreLinksRight}
+use Rattle.ffs_volume.specs.Consistent.DirectoriesRight.{AreCountsRight}
+use Rattle.ffs_volume.proofs.{ClimbLaws.is_value-from, Graphs.AllReached, Graphs.NoExtraneous, LevelLaws.reached-root}
+use Rattle.ffs_volume.proofs.{LevelLaws.parent-root, Booleans.and_false-from}
 use Rattle.ffs_certificate.specs.Premises.{IsVolume, IsUnmarked}
-use Rattle.ffs_volume.specs.Consistent.DirectoriesRight.{AreLinksRight, AreCountsRight}
-use Rattle.ffs_volume.proofs.Booleans.{and_false-from}
-use Rattle.ffs_certificate.proofs.Entries.{names_at-from, IsPlainQuiet}
-use Rattle.ffs_certificate.proofs.Dirs.{IsShapeQuiet, IsPathnameQuiet, IsDotdotQuiet}
-use Rattle.ffs_certificate.proofs.Counts.{IsCountQuiet, count-from}
-use Rattle.ffs_certificate.proofs.Suspects.{is_sane, none_suspect, none_dead}
-use Rattle.ffs_certificate.proofs.Forward.{root_is_dir, parent_once}
+use Rattle.ffs_certificate.proofs.{Lost.silent-reached, Links.links-right, Entries.names_at-from, Entries.IsPlainQuiet}
+use Rattle.ffs_certificate.proofs.{Dirs.IsShapeQuiet, Dirs.IsPathnameQuiet, Dirs.IsDotdotQuiet, Counts.IsCountQuiet}
+use Rattle.ffs_certificate.proofs.{Counts.count-from, Suspects.is_sane, Suspects.none_suspect, Suspects.none_dead}
+use Rattle.ffs_certificate.proofs.{Forward.root_is_dir, Forward.parent_once}
 
 some-both : (P Q R : Entry → Type 0) (o : Option Entry) → ((e : Entry) → P e → Q e → R e) → IsSomeAnd o P →
     IsSomeAnd o Q → IsSomeAnd o R

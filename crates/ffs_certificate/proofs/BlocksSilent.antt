@@ -1,24 +1,21 @@
 -- Phases 1 and 1b report nothing exactly where every fragment has one owner at most.
 use Rattle.std.proofs.Common.{inl, inr, ◌≡◌, ℕ, ◌+◌, ◌≤◌, Bool, true, false, arith, refl, sym, ap, ◌∙◌, List, [], ◌∷◌}
-use Rattle.std.proofs.Common.{◌++◌, length, ◌↔◌}
-use Rattle.std.specs.Prelude.{nat_lt, ◌&&◌, map, replicate}
-use Rattle.std.specs.List.{list_all, range_with_len}
+use Rattle.std.proofs.Common.{◌++◌, length, ◌↔◌, nat_lt, ◌&&◌, map, replicate}
 use Rattle.std.proofs.lemmas.Bool.{and_parts, and_from, cases_lt, lt-ltb, le-ltb}
-use Rattle.std.proofs.lemmas.List.{length-replicate, get_or-replicate, get_or_past}
-use Rattle.std.proofs.lemmas.List.FromFn.{get_or-map-range_with_len, length-map-range_with_len}
-use Rattle.std.proofs.lemmas.List.Folds.{list_all-append}
-use Rattle.ffs_volume.specs.declared.Layout.{Layout}
-use Rattle.ffs_volume.specs.declared.Step.{Step}
-use Rattle.ffs_volume.specs.declared.Step.TheVariants.{Run, Tail, Gap}
+use Rattle.std.{specs.List.list_all, specs.List.range_with_len, proofs.lemmas.List.length-replicate}
+use Rattle.std.{proofs.lemmas.List.get_or-replicate, proofs.lemmas.List.get_or_past}
+use Rattle.std.{proofs.lemmas.List.FromFn.get_or-map-range_with_len}
+use Rattle.std.{proofs.lemmas.List.FromFn.length-map-range_with_len, proofs.lemmas.List.Folds.list_all-append}
+use Rattle.ffs_volume.specs.declared.{Layout.Layout, Step.Step, Step.TheVariants.Run, Step.TheVariants.Tail}
+use Rattle.ffs_volume.specs.declared.{Step.TheVariants.Gap}
 use Rattle.ffs_volume.specs.Disk.Areas.{is_fragment_in_range, is_reserved}
-use Rattle.ffs_volume.specs.Blocks.Owners.{Owner, fragments_of, all_steps}
-use Rattle.ffs_volume.specs.Blocks.Claims.{is_set, reserved_map, no_claims}
-use Rattle.ffs_volume.specs.Blocks.KeptOffers.{Offer, kept_in_owners}
-use Rattle.ffs_volume.specs.Blocks.BlockCheck.{first_offer_lines, phase1_lines, phase1b_lines}
+use Rattle.ffs_volume.specs.Blocks.{Owners.Owner, Owners.fragments_of, Owners.all_steps, Claims.is_set}
+use Rattle.ffs_volume.specs.Blocks.{Claims.reserved_map, Claims.no_claims, KeptOffers.Offer, KeptOffers.kept_in_owners}
+use Rattle.ffs_volume.specs.Blocks.{BlockCheck.first_offer_lines, BlockCheck.phase1_lines, BlockCheck.phase1b_lines}
 use Rattle.ffs_volume.specs.Consistent.BlocksRight.{is_step_in_range, times, BlocksRight}
-use Rattle.ffs_certificate.proofs.BlockLaws.{is_nil, nil_append, run_ok}
 use Rattle.ffs_certificate.proofs.OwnerLaws.{owners_say, owners_claim, Quiet, owners_parts, owners_from}
 use Rattle.ffs_certificate.proofs.FreshLaws.{bit, are_below, fresh_new, new_fresh, times_past}
+use Rattle.ffs_certificate.proofs.BlockLaws.{is_nil, nil_append, run_ok}
 
 pub nil_is : {X : Type 0} (xs : List X) → is_nil xs ≡ true → xs ≡ []
 nil_is [] e = refl

@@ -1,26 +1,17 @@
 -- The class messages of the block check, among all its messages.
-use Rattle.std.specs.Prelude.{◌≡◌, ℕ, ◌+◌, Bool, true, false, not, ◌&&◌, ◌||◌, nat_lt, ◌==◌, refl, if◌then◌else◌, List}
-use Rattle.std.specs.Prelude.{[], ◌∷◌, ◌++◌}
-use Rattle.std.specs.List.{list_all, list_any, range_with_len}
-use Rattle.std.proofs.Common.{◌∙◌}
-use Rattle.std.proofs.lemmas.Bool.{or_from}
-use Rattle.std.proofs.lemmas.List.Folds.{list_any-append}
-use Rattle.std.proofs.Math.Bool.{or-false}
-use Rattle.ffs_volume.specs.declared.Layout.{Layout}
-use Rattle.ffs_volume.specs.declared.Class.{Class}
+use Rattle.std.proofs.Common.{◌≡◌, ℕ, ◌+◌, Bool, true, false, not, ◌&&◌, ◌||◌, nat_lt, ◌==◌, if◌then◌else◌, List, []}
+use Rattle.std.{proofs.Common.◌∷◌, proofs.Common.◌++◌, proofs.Common.◌∙◌, specs.Prelude.refl, specs.List.list_all}
+use Rattle.std.{specs.List.list_any, specs.List.range_with_len, proofs.lemmas.Bool.or_from}
+use Rattle.std.{proofs.lemmas.List.Folds.list_any-append, proofs.Math.Bool.or-false}
 use Rattle.ffs_volume.specs.declared.Class.TheVariants.{Free, Partial, Unknown, File, Dir}
-use Rattle.ffs_volume.specs.declared.Step.{Step}
-use Rattle.ffs_volume.specs.declared.Step.TheVariants.{Run, Tail, Gap}
-use Rattle.ffs_volume.specs.declared.BlockMessage.{BlockMessage}
 use Rattle.ffs_volume.specs.declared.BlockMessage.TheVariants.{Bad, Dup, ManyBad, ManyDup, PartTrunc, BlockCount}
+use Rattle.ffs_volume.specs.declared.{Layout.Layout, Class.Class, Step.Step, Step.TheVariants.Run}
+use Rattle.ffs_volume.specs.declared.{Step.TheVariants.Tail, Step.TheVariants.Gap, BlockMessage.BlockMessage}
 use Rattle.ffs_volume.specs.Disk.Areas.{is_fragment_in_range, is_run_in_range}
-use Rattle.ffs_volume.specs.Blocks.Inodes.{is_file_or_dir}
-use Rattle.ffs_volume.specs.Blocks.Owners.{Owner}
 use Rattle.ffs_volume.specs.Blocks.Claims.{Claims, no_claims, at_next_inode, is_open, is_set, after_offer, offer_lines}
 use Rattle.ffs_volume.specs.Blocks.Claims.{lines_of_offers, run_lines, after_step, step_lines, lines_of_steps}
-use Rattle.ffs_volume.specs.Blocks.Claims.{after_owner}
 use Rattle.ffs_volume.specs.Blocks.BlockCheck.{class_lines, count_lines, sectors, owner_lines, lines_of_owners}
-use Rattle.ffs_volume.specs.Blocks.BlockCheck.{phase1_lines}
+use Rattle.ffs_volume.specs.Blocks.{Inodes.is_file_or_dir, Owners.Owner, Claims.after_owner, BlockCheck.phase1_lines}
 use Rattle.ffs_volume.specs.Consistent.BlocksRight.{is_right_class}
 use Rattle.ffs_certificate.specs.Conditions.{is_class_message}
 

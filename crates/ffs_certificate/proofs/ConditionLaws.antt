@@ -1,49 +1,34 @@
 -- Each condition of a consistent volume holds exactly where nothing is reported for it.
-use Rattle.std.specs.Prelude.{◌≡◌, ◌≢◌, ◌↔◌, ℕ, ◌==◌, ◌/◌, true, false, not, nat_lt, nat_le, refl, List, [], Some}
-use Rattle.std.specs.Prelude.{IsSomeAnd}
-use Rattle.std.proofs.Common.{arith, sym, ◌∙◌, ap, subst, inl, inr}
+use Rattle.std.proofs.Common.{◌≡◌, ◌≢◌, ◌↔◌, ℕ, ◌==◌, ◌/◌, true, false, not, nat_lt, nat_le, List, [], Some, IsSomeAnd}
 use Rattle.std.proofs.lemmas.Bool.{both_ways, cases_eq, eqb-true, eq-eqb, ne_eqb, lt-ltb, le-leb, leb-true, and_parts}
 use Rattle.std.proofs.lemmas.Bool.{and_from, not-false, not_from_true, not_from_false}
-use Rattle.ffs_volume.specs.declared.Class.{Class}
+use Rattle.std.{proofs.Common.arith, proofs.Common.sym, proofs.Common.◌∙◌, proofs.Common.ap, proofs.Common.subst}
+use Rattle.std.{proofs.Common.inl, proofs.Common.inr, specs.Prelude.refl}
 use Rattle.ffs_volume.specs.declared.Class.TheVariants.{Free, Partial, Unknown, File, Dir}
+use Rattle.ffs_volume.specs.declared.Class.{Class}
 use Rattle.ffs_volume.specs.Disk.Superblock.{Superblock}
 use Rattle.ffs_volume.specs.Laws.Geometry.{IsAcceptedLayout}
-use Rattle.ffs_volume.proofs.AcceptedLaws.{accepted_sound}
-use Rattle.ffs_volume.specs.Blocks.Owners.{owners_of}
-use Rattle.ffs_volume.specs.Groups.Records.{AreGroupsRight}
-use Rattle.ffs_volume.specs.Groups.GroupCheck.{phase5_lines, is_free_of_kept}
-use Rattle.ffs_volume.specs.Directories.Entries.{Entry}
-use Rattle.ffs_volume.specs.Blocks.Inodes.{is_directory, is_allocated, is_unknown}
+use Rattle.ffs_volume.specs.Blocks.{Owners.owners_of, Inodes.is_directory, Inodes.is_allocated, Inodes.is_unknown}
+use Rattle.ffs_volume.specs.Groups.{Records.AreGroupsRight, GroupCheck.phase5_lines, GroupCheck.is_free_of_kept}
 use Rattle.ffs_volume.specs.Directories.Roles.{Volume, is_dir, is_inode, is_suspect, dotdot, references}
-use Rattle.ffs_volume.specs.Directories.Climb.{is_value}
-use Rattle.ffs_volume.proofs.ClimbLaws.{is_value-true}
-use Rattle.ffs_volume.specs.Directories.Graph.{parent, parent_entry_index}
-use Rattle.ffs_volume.proofs.Graphs.{NoExtraneous}
-use Rattle.ffs_volume.specs.Directories.Parents.{graph_of, is_parent_entry}
-use Rattle.ffs_volume.specs.Directories.PathnameCheck.{is_wrong_parent, is_extraneous}
+use Rattle.ffs_volume.specs.Directories.{Entries.Entry, Climb.is_value, Graph.parent, Graph.parent_entry_index}
+use Rattle.ffs_volume.specs.Directories.{Parents.graph_of, Parents.is_parent_entry, PathnameCheck.is_wrong_parent}
+use Rattle.ffs_volume.specs.Directories.{PathnameCheck.is_extraneous, Volumes.class_at, Volumes.whole_volume}
 use Rattle.ffs_volume.specs.Consistent.DirectoriesRight.{IsPlainRight, AreDirsRight, AreLinksRight, AreCountsRight}
-use Rattle.ffs_certificate.specs.Premises.{IsVolume, IsUnmarked}
-use Rattle.ffs_volume.specs.Directories.Volumes.{class_at, whole_volume}
-use Rattle.ffs_certificate.specs.DirsCertificate.{IsSilent}
+use Rattle.ffs_volume.proofs.{AcceptedLaws.accepted_sound, ClimbLaws.is_value-true, Graphs.NoExtraneous}
+use Rattle.ffs_volume.proofs.{Booleans.and_false-right, Booleans.and_false-from, LevelLaws.parent-root}
 use Rattle.ffs_certificate.specs.Conditions.{IsPlainUnreported, AreDirsUnreported, AreLinksUnreported}
 use Rattle.ffs_certificate.specs.Conditions.{AreCountsUnreported, ConditionsReported, ConditionsAreReported}
-use Rattle.ffs_volume.proofs.Booleans.{and_false-right, and_false-from}
-use Rattle.ffs_volume.proofs.LevelLaws.{parent-root}
-use Rattle.ffs_certificate.proofs.Live.{plain-live}
-use Rattle.ffs_certificate.proofs.Lost.{silent-reached}
-use Rattle.ffs_certificate.proofs.Links.{links-right}
-use Rattle.ffs_certificate.proofs.Entries.{names_at-gives}
-use Rattle.ffs_certificate.proofs.Counts.{count-true, count-from}
-use Rattle.ffs_certificate.proofs.Suspects.{is_sane, none_suspect, none_dead}
+use Rattle.ffs_certificate.specs.{Premises.IsVolume, Premises.IsUnmarked, DirsCertificate.IsSilent}
 use Rattle.ffs_certificate.proofs.Forward.{some-map, root_is_dir, whole, whiteout_kind, known-false, parent_once}
 use Rattle.ffs_certificate.proofs.Backward.{IsFileOrDir, shape_quiet, whiteout_good, other_good, link_quiet}
 use Rattle.ffs_certificate.proofs.Backward.{dotdot_quiet, quiet_connectivity}
-use Rattle.ffs_certificate.proofs.DirsCertificate.{silent_right}
-use Rattle.ffs_certificate.proofs.BlocksSilent.{phase1_silent}
-use Rattle.ffs_certificate.proofs.GroupLaws.{phase5_silent, same_free}
-use Rattle.ffs_certificate.proofs.VolumeLaws.{whole_is_volume, whole_unmarked, same_whole}
-use Rattle.ffs_certificate.proofs.ClassLines.{classes_reported}
-use Rattle.ffs_certificate.proofs.ReportLaws.{settings_reported}
+use Rattle.ffs_certificate.proofs.{Live.plain-live, Lost.silent-reached, Links.links-right, Entries.names_at-gives}
+use Rattle.ffs_certificate.proofs.{Counts.count-true, Counts.count-from, Suspects.is_sane, Suspects.none_suspect}
+use Rattle.ffs_certificate.proofs.{Suspects.none_dead, DirsCertificate.silent_right, BlocksSilent.phase1_silent}
+use Rattle.ffs_certificate.proofs.{GroupLaws.phase5_silent, GroupLaws.same_free, VolumeLaws.whole_is_volume}
+use Rattle.ffs_certificate.proofs.{VolumeLaws.whole_unmarked, VolumeLaws.same_whole, ClassLines.classes_reported}
+use Rattle.ffs_certificate.proofs.{ReportLaws.settings_reported}
 
 -- DIRECTORIES
 plain_right : (v : Volume) (e : Entry) → IsUnmarked v → e.number ≢ 0 → IsPlainUnreported v e → IsPlainRight v e

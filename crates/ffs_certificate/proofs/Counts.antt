@@ -1,19 +1,19 @@
 -- When the messages on connectivity and on references are silent.
-use Rattle.std.specs.Prelude.{◌≡◌, ◌≢◌, ℕ, ◌<◌, ◌==◌, Bool, true, false, nat_lt, nat_le, refl, ℤ, pos, negsuc, List, []}
-use Rattle.std.specs.Prelude.{◌∷◌, if◌then◌else◌}
-use Rattle.std.proofs.Common.{sym, ap, subst}
+use Rattle.std.proofs.Common.{◌≡◌, ◌≢◌, ℕ, ◌<◌, ◌==◌, Bool, true, false, nat_lt, nat_le, ℤ, pos, negsuc, List, [], ◌∷◌}
 use Rattle.std.proofs.lemmas.Bool.{eqb-true, eqb-false, eq-eqb, ne_eqb, ltb-true, and_parts, not-false, not_from_true}
+use Rattle.std.{proofs.Common.if◌then◌else◌, proofs.Common.sym, proofs.Common.ap, proofs.Common.subst}
+use Rattle.std.{specs.Prelude.refl}
 use Rattle.ffs_volume.specs.Blocks.Inodes.{is_allocated}
 use Rattle.ffs_volume.specs.Directories.Roles.{Volume, is_inode, is_allocated_inode, references}
-use Rattle.ffs_volume.specs.Messages.Kinds.{TreeMessage, reported, unref_dir, dead_marked, dead_zero, unref}
-use Rattle.ffs_volume.specs.Messages.Kinds.{unref_zero, link_count}
-use Rattle.ffs_volume.specs.Directories.PathnameCheck.{attributes, label_of}
-use Rattle.ffs_volume.specs.Directories.Connectivity.{is_dead, is_unref_dir, connectivity_lines}
-use Rattle.ffs_volume.specs.Disk.Numbers.{equals_natural}
 use Rattle.ffs_volume.specs.Directories.ReferenceCheck.{dead_lines, unref_lines, inode_lines, reference_lines_at}
-use Rattle.ffs_volume.specs.Directories.ReferenceCheck.{reference_lines}
-use Rattle.ffs_volume.proofs.Silence.{reported-quiet, reported-silent, if-silent, then-quiet, then-silent}
-use Rattle.ffs_volume.proofs.Silence.{lines-quiet, lines-silent}
+use Rattle.ffs_volume.specs.Directories.{PathnameCheck.attributes, PathnameCheck.label_of, Connectivity.is_dead}
+use Rattle.ffs_volume.specs.Directories.{Connectivity.is_unref_dir, Connectivity.connectivity_lines}
+use Rattle.ffs_volume.specs.Directories.{ReferenceCheck.reference_lines}
+use Rattle.ffs_volume.specs.Messages.Kinds.{TreeMessage, reported, unref_dir, dead_marked, dead_zero, unref, unref_zero}
+use Rattle.ffs_volume.specs.Messages.Kinds.{link_count}
+use Rattle.ffs_volume.specs.Disk.Numbers.{equals_natural}
+use Rattle.ffs_volume.proofs.Silence.{reported-quiet, reported-silent, if-silent, then-quiet, then-silent, lines-quiet}
+use Rattle.ffs_volume.proofs.Silence.{lines-silent}
 
 pub connectivity-quiet : (v : Volume) → connectivity_lines v ≡ [] → (d : ℕ) → d < v.count → is_unref_dir v d ≡ false
 unfolding connectivity_lines

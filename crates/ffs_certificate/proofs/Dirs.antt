@@ -1,27 +1,24 @@
 -- When the messages on directories are silent.
-use Rattle.std.specs.Prelude.{◌≡◌, ◌≢◌, ℕ, ◌+◌, ◌<◌, ◌==◌, Bool, true, false, not, ◌&&◌, nat_lt, nat_le, refl, List, []}
-use Rattle.std.specs.Prelude.{◌∷◌, Option, Some, None, if◌then◌else◌, IsSomeAnd}
-use Rattle.std.proofs.Common.{arith, ◌∙◌, ap, subst}
+use Rattle.std.proofs.Common.{◌≡◌, ◌≢◌, ℕ, ◌+◌, ◌<◌, ◌==◌, Bool, true, false, not, ◌&&◌, nat_lt, nat_le, List, [], ◌∷◌}
+use Rattle.std.proofs.Common.{Option, Some, None, if◌then◌else◌, IsSomeAnd, arith, ◌∙◌, ap, subst}
 use Rattle.std.proofs.lemmas.Bool.{eqb-true, eqb-false, eq-eqb, ne_eqb, ltb-true, and_parts, and_from, not-true}
 use Rattle.std.proofs.lemmas.Bool.{not-false, not_from_true, not_from_false}
-use Rattle.ffs_volume.specs.declared.Attr.{Attr}
-use Rattle.ffs_volume.specs.declared.Class.{Class}
+use Rattle.std.specs.Prelude.{refl}
 use Rattle.ffs_volume.specs.declared.Class.TheVariants.{Free, Partial, Unknown, File, Dir}
-use Rattle.ffs_volume.specs.Directories.Entries.{Entry, is_live}
-use Rattle.ffs_volume.specs.Blocks.Inodes.{is_directory}
+use Rattle.ffs_volume.specs.declared.{Attr.Attr, Class.Class}
 use Rattle.ffs_volume.specs.Directories.Roles.{Volume, RoledEntry, is_dir, is_inode, is_suspect, is_one_dot}
 use Rattle.ffs_volume.specs.Directories.Roles.{is_two_dots, roled_entries, dot, dotdot, start_entry}
-use Rattle.ffs_volume.specs.Directories.Graph.{parent}
-use Rattle.ffs_volume.specs.Directories.Parents.{graph_of, nth_roled}
-use Rattle.ffs_volume.specs.Directories.Paths.{dir_path}
-use Rattle.ffs_volume.specs.Messages.Kinds.{reported, lines_below, root_suspect, dir_short, dir_length, dir_empty}
-use Rattle.ffs_volume.specs.Messages.Kinds.{dir_corrupt, missing_dot, missing_dot_first, number_dot, kind_dot}
-use Rattle.ffs_volume.specs.Messages.Kinds.{missing_dotdot, missing_dotdot_second, number_dotdot, kind_dotdot}
 use Rattle.ffs_volume.specs.Directories.PathnameCheck.{attributes, root_lines, root_lines_of, continues_after_root}
 use Rattle.ffs_volume.specs.Directories.PathnameCheck.{is_short, has_partial_chunk, are_sound, shape_lines, dot_lines}
 use Rattle.ffs_volume.specs.Directories.PathnameCheck.{dot_lines_of, missing_dot_lines, is_wrong_parent, dotdot_lines}
 use Rattle.ffs_volume.specs.Directories.PathnameCheck.{dotdot_lines_of, missing_dotdot_lines, lines_of_entries}
 use Rattle.ffs_volume.specs.Directories.PathnameCheck.{sized_dir_lines, is_looked_at, directory_lines, pathname_lines}
+use Rattle.ffs_volume.specs.Directories.{Entries.Entry, Entries.is_live, Graph.parent, Parents.graph_of}
+use Rattle.ffs_volume.specs.Directories.{Parents.nth_roled, Paths.dir_path}
+use Rattle.ffs_volume.specs.Blocks.Inodes.{is_directory}
+use Rattle.ffs_volume.specs.Messages.Kinds.{reported, lines_below, root_suspect, dir_short, dir_length, dir_empty}
+use Rattle.ffs_volume.specs.Messages.Kinds.{dir_corrupt, missing_dot, missing_dot_first, number_dot, kind_dot}
+use Rattle.ffs_volume.specs.Messages.Kinds.{missing_dotdot, missing_dotdot_second, number_dotdot, kind_dotdot}
 use Rattle.ffs_volume.proofs.Silence.{nil-left, nil-right, nil-both, reported-quiet, reported-silent, then-quiet}
 use Rattle.ffs_volume.proofs.Silence.{then-silent, lines-quiet, lines-silent}
 use Rattle.ffs_certificate.proofs.Entries.{IsEntryQuiet, entries-quiet, entries-silent}

@@ -1,12 +1,12 @@
 -- The certificate of the checks of directories.
-use Rattle.std.specs.Prelude.{◌↔◌}
+use Rattle.std.proofs.Common.{◌↔◌}
 use Rattle.ffs_volume.specs.Directories.Roles.{Volume}
-use Rattle.ffs_certificate.specs.Premises.{IsVolume, IsUnmarked}
-use Rattle.ffs_certificate.specs.DirsCertificate.{IsSilent, AreDirectoriesRight}
-use Rattle.ffs_certificate.proofs.Dirs.{pathname-quiet, pathname-silent}
+use Rattle.ffs_certificate.specs.{Premises.IsVolume, Premises.IsUnmarked, DirsCertificate.IsSilent}
+use Rattle.ffs_certificate.specs.{DirsCertificate.AreDirectoriesRight}
 use Rattle.ffs_certificate.proofs.Counts.{connectivity-quiet, connectivity-silent, reference-quiet, reference-silent}
 use Rattle.ffs_certificate.proofs.Forward.{IsQuiet, dirs_right, links_right, counts_right}
 use Rattle.ffs_certificate.proofs.Backward.{IsFileOrDir, quiet_pathnames, quiet_connectivity, quiet_references}
+use Rattle.ffs_certificate.proofs.Dirs.{pathname-quiet, pathname-silent}
 
 quiet : (v : Volume) → IsSilent v → IsQuiet v
 quiet v s = record {

@@ -1,26 +1,22 @@
 -- When the messages on the entries of directories are silent.
-use Rattle.std.specs.Prelude.{◌≡◌, ◌≢◌, ℕ, zero, suc, ◌+◌, ◌==◌, Bool, true, false, not, nat_lt, refl, List, [], ◌∷◌}
-use Rattle.std.specs.Prelude.{Some, if◌then◌else◌}
-use Rattle.std.proofs.Common.{arith, sym, ◌∙◌, ap, subst}
+use Rattle.std.proofs.Common.{◌≡◌, ◌≢◌, ℕ, zero, suc, ◌+◌, ◌==◌, Bool, true, false, not, nat_lt, List, [], ◌∷◌, Some}
 use Rattle.std.proofs.lemmas.Bool.{eqb-true, eq-eqb, and_parts, and_from, not-false, not_from_true}
-use Rattle.ffs_volume.specs.declared.Attr.{Attr}
-use Rattle.ffs_volume.specs.declared.Role.{Role}
+use Rattle.std.{proofs.Common.if◌then◌else◌, proofs.Common.arith, proofs.Common.sym, proofs.Common.◌∙◌}
+use Rattle.std.{proofs.Common.ap, proofs.Common.subst, specs.Prelude.refl}
 use Rattle.ffs_volume.specs.declared.Role.TheVariants.{Empty, Dot, Dotdot, Extra, Plain}
-use Rattle.ffs_volume.specs.Directories.Entries.{Entry}
-use Rattle.ffs_volume.specs.Blocks.Inodes.{is_allocated}
+use Rattle.ffs_volume.specs.declared.{Attr.Attr, Role.Role}
 use Rattle.ffs_volume.specs.Directories.Roles.{Volume, RoledEntry, is_dir, is_plain, is_one_dot, roled_entries}
-use Rattle.ffs_volume.specs.Directories.Graph.{is_naming_entry, is_naming_entry_at, test_at}
-use Rattle.ffs_volume.specs.Directories.Parents.{graph_of, nth_roled}
-use Rattle.ffs_volume.specs.Directories.Paths.{dir_path, entry_path}
-use Rattle.ffs_volume.specs.Messages.Kinds.{reported, out_of_range, whiteout, unallocated, extraneous, kind_entry}
-use Rattle.ffs_volume.specs.Messages.Kinds.{extra_dot, extra_dotdot}
 use Rattle.ffs_volume.specs.Directories.PathnameCheck.{attributes, label_of, entry_lines, entry_lines_of}
 use Rattle.ffs_volume.specs.Directories.PathnameCheck.{lines_of_entries, plain_lines, named_lines, is_bad_whiteout}
 use Rattle.ffs_volume.specs.Directories.PathnameCheck.{is_first_entry_of_suspect, message_on_suspect, is_extraneous}
 use Rattle.ffs_volume.specs.Directories.PathnameCheck.{has_wrong_type, extra_lines}
+use Rattle.ffs_volume.specs.Directories.{Entries.Entry, Graph.is_naming_entry, Graph.is_naming_entry_at, Graph.test_at}
+use Rattle.ffs_volume.specs.Directories.{Parents.graph_of, Parents.nth_roled, Paths.dir_path, Paths.entry_path}
+use Rattle.ffs_volume.specs.Blocks.Inodes.{is_allocated}
+use Rattle.ffs_volume.specs.Messages.Kinds.{reported, out_of_range, whiteout, unallocated, extraneous, kind_entry}
+use Rattle.ffs_volume.specs.Messages.Kinds.{extra_dot, extra_dotdot}
 use Rattle.ffs_volume.proofs.Silence.{nil-left, nil-right, nil-both, reported-quiet, reported-silent, if-quiet}
-use Rattle.ffs_volume.proofs.Silence.{if-silent, else-quiet, else-silent}
-use Rattle.ffs_volume.proofs.RoleLaws.{plain-true}
+use Rattle.ffs_volume.proofs.{Silence.if-silent, Silence.else-quiet, Silence.else-silent, RoleLaws.plain-true}
 
 -- a plain entry that names an inode from 2 on
 pub record IsNamedQuiet (v : Volume) (s j : ℕ) (e : Entry) : Type 0 where

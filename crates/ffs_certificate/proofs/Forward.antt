@@ -1,36 +1,27 @@
 -- Where the checks are silent, the directories are consistent: one law for each condition.
-use Rattle.std.specs.Prelude.{◌≡◌, ◌≢◌, ℕ, ◌<◌, ◌==◌, ◌/◌, ◌%◌, true, false, not, ◌&&◌, nat_lt, nat_le, refl, Option}
-use Rattle.std.specs.Prelude.{Some, None, IsSomeAnd}
-use Rattle.std.proofs.Common.{arith, sym, ◌∙◌, ap, subst, inl, inr}
+use Rattle.std.proofs.Common.{◌≡◌, ◌≢◌, ℕ, ◌<◌, ◌==◌, ◌/◌, ◌%◌, true, false, not, ◌&&◌, nat_lt, nat_le, Option, Some}
+use Rattle.std.proofs.Common.{None, IsSomeAnd, arith, sym, ◌∙◌, ap, subst, inl, inr}
 use Rattle.std.proofs.lemmas.Bool.{both_ways, cases_eq, eqb-true, eq-eqb, ne_eqb, lt-ltb, le-leb, and_parts, and_from}
 use Rattle.std.proofs.lemmas.Bool.{or_parts, not-false, not_from_false, false_from_ne_true}
-use Rattle.ffs_volume.specs.declared.Class.{Class}
+use Rattle.std.specs.Prelude.{refl}
 use Rattle.ffs_volume.specs.declared.Class.TheVariants.{Free, Partial, Unknown, File, Dir}
-use Rattle.ffs_volume.specs.Directories.Entries.{Entry}
-use Rattle.ffs_volume.specs.Blocks.Inodes.{is_directory, is_allocated, is_unknown}
+use Rattle.ffs_volume.specs.declared.Class.{Class}
 use Rattle.ffs_volume.specs.Directories.Roles.{Volume, is_dir, is_inode, is_allocated_inode, is_suspect, dotdot}
-use Rattle.ffs_volume.specs.Directories.Roles.{references}
-use Rattle.ffs_volume.specs.Directories.Climb.{is_value}
-use Rattle.ffs_volume.proofs.ClimbLaws.{is_value-true}
 use Rattle.ffs_volume.specs.Directories.Graph.{parent, parent_entry_index, is_lost, reached, IsNamedOnce}
-use Rattle.ffs_volume.proofs.Graphs.{AllReached, NoExtraneous}
-use Rattle.ffs_volume.proofs.Unreached.{lost-true}
-use Rattle.ffs_certificate.proofs.Lost.{silent-reached}
-use Rattle.ffs_certificate.proofs.Links.{links-right, has_parent_entry}
-use Rattle.ffs_volume.specs.Directories.Parents.{graph_of, is_parent_entry}
 use Rattle.ffs_volume.specs.Directories.PathnameCheck.{is_short, is_bad_whiteout, is_wrong_parent, is_extraneous}
-use Rattle.ffs_volume.specs.Directories.PathnameCheck.{has_wrong_type}
-use Rattle.ffs_volume.specs.Directories.Connectivity.{is_unref_dir}
-use Rattle.ffs_volume.specs.Consistent.DirectoriesRight.{IsDirSize, IsPlainRight, AreDirsRight}
+use Rattle.ffs_volume.specs.Directories.{Entries.Entry, Roles.references, Climb.is_value, Parents.graph_of}
+use Rattle.ffs_volume.specs.Directories.{Parents.is_parent_entry, PathnameCheck.has_wrong_type}
+use Rattle.ffs_volume.specs.Directories.{Connectivity.is_unref_dir}
+use Rattle.ffs_volume.specs.Blocks.Inodes.{is_directory, is_allocated, is_unknown}
+use Rattle.ffs_volume.specs.Consistent.DirectoriesRight.{IsDirSize, IsPlainRight, AreDirsRight, AreLinksRight}
+use Rattle.ffs_volume.specs.Consistent.DirectoriesRight.{AreCountsRight}
+use Rattle.ffs_volume.proofs.{ClimbLaws.is_value-true, Graphs.AllReached, Graphs.NoExtraneous, Unreached.lost-true}
+use Rattle.ffs_volume.proofs.{Booleans.and_false-right, LevelLaws.parent-root}
 use Rattle.ffs_certificate.specs.Premises.{IsVolume, IsUnmarked}
-use Rattle.ffs_volume.specs.Consistent.DirectoriesRight.{AreLinksRight, AreCountsRight}
-use Rattle.ffs_volume.proofs.Booleans.{and_false-right}
-use Rattle.ffs_volume.proofs.LevelLaws.{parent-root}
-use Rattle.ffs_certificate.proofs.Live.{plain-live}
-use Rattle.ffs_certificate.proofs.Entries.{names_at-gives, IsPlainQuiet}
 use Rattle.ffs_certificate.proofs.Dirs.{IsShapeQuiet, IsPathnameQuiet, dir-below, IsDotdotQuiet}
-use Rattle.ffs_certificate.proofs.Counts.{IsCountQuiet, count-true}
 use Rattle.ffs_certificate.proofs.Suspects.{is_sane, dir-from_two, none_empty, none_suspect, none_dead}
+use Rattle.ffs_certificate.proofs.{Lost.silent-reached, Links.links-right, Links.has_parent_entry, Live.plain-live}
+use Rattle.ffs_certificate.proofs.{Entries.names_at-gives, Entries.IsPlainQuiet, Counts.IsCountQuiet, Counts.count-true}
 
 -- what silence gives
 pub record IsQuiet (v : Volume) : Type 0 where

@@ -1,12 +1,9 @@
 -- When each number of a list is new.
 use Rattle.std.proofs.Common.{inl, inr, ◌≡◌, ℕ, ◌+◌, ◌<◌, ◌≤◌, Bool, true, false, cond, arith, refl, sym, ap, ◌∙◌, List}
-use Rattle.std.proofs.Common.{[], ◌∷◌, length}
-use Rattle.std.specs.Prelude.{nat_lt, ◌==◌, not, slice_set}
-use Rattle.std.specs.List.{list_all}
+use Rattle.std.proofs.Common.{[], ◌∷◌, length, nat_lt, ◌==◌, not, slice_set}
 use Rattle.std.proofs.lemmas.Bool.{and_parts, cases_eq, eq-eqb, ne_eqb, ltb-true}
-use Rattle.std.proofs.lemmas.Bool.Decides.{nat_tests}
-use Rattle.std.proofs.lemmas.List.{get_or-set_same, get_or-set_other, length-set}
-use Rattle.std.proofs.lemmas.List.Sums.{sum_by-cons}
+use Rattle.std.{specs.List.list_all, proofs.lemmas.Bool.Decides.nat_tests, proofs.lemmas.List.get_or-set_same}
+use Rattle.std.{proofs.lemmas.List.get_or-set_other, proofs.lemmas.List.length-set, proofs.lemmas.List.Sums.sum_by-cons}
 use Rattle.ffs_volume.specs.Blocks.Claims.{is_set}
 use Rattle.ffs_volume.specs.Consistent.BlocksRight.{times}
 use Rattle.ffs_certificate.proofs.BlockLaws.{mark, fresh}

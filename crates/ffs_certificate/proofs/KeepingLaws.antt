@@ -1,17 +1,15 @@
 -- The fold over steps keeps what the rule keeps.
 use Rattle.std.proofs.Common.{inl, inr, ◌≡◌, ℕ, ◌+◌, ◌<◌, ◌≤◌, Bool, true, false, cond, arith, refl, sym, ap, subst}
-use Rattle.std.proofs.Common.{◌∙◌, List, ◌∷◌, length}
-use Rattle.std.specs.Prelude.{count_by, nat_lt, nat_le, min, ◌&&◌, ◌||◌, ◌==◌, slice_set}
+use Rattle.std.proofs.Common.{◌∙◌, List, ◌∷◌, length, count_by, nat_lt, nat_le, min, ◌&&◌, ◌||◌, ◌==◌, slice_set}
 use Rattle.std.proofs.lemmas.Bool.{cases_eq, both_ways, eq-eqb, ne_eqb, ltb-true, ltb-false, le-leb, lt-leb}
-use Rattle.std.proofs.lemmas.List.{get_or-set_same, get_or-set_other, length-set}
-use Rattle.std.proofs.lemmas.List.Sums.{sum_by-cons}
-use Rattle.std.proofs.Math.Bool.{or-true}
+use Rattle.std.{proofs.lemmas.List.get_or-set_same, proofs.lemmas.List.get_or-set_other, proofs.lemmas.List.length-set}
+use Rattle.std.{proofs.lemmas.List.Sums.sum_by-cons, proofs.Math.Bool.or-true}
 use Rattle.ffs_volume.specs.declared.Layout.{Layout}
 use Rattle.ffs_volume.specs.Disk.Areas.{is_fragment_in_range, is_reserved}
-use Rattle.ffs_volume.specs.Blocks.Claims.{Claims, is_set, after_offer}
-use Rattle.ffs_certificate.proofs.FreshLaws.{bit}
 use Rattle.ffs_volume.specs.Blocks.KeptByRule.{counted_offer, OfferVerdict, is_claimed_before, dups_of, offer_verdict}
+use Rattle.ffs_volume.specs.Blocks.Claims.{Claims, is_set, after_offer}
 use Rattle.ffs_volume.proofs.Potentials.{in_range_below}
+use Rattle.ffs_certificate.proofs.FreshLaws.{bit}
 
 -- how many kept offers of an inode there are
 abbrev pub kept_of : List OfferVerdict → ℕ → ℕ

@@ -1,20 +1,17 @@
 -- The fold over steps keeps what the rule keeps: Runs, inodes, and all inodes.
 use Rattle.std.proofs.Common.{inl, inr, ◌≡◌, ◌⊎◌, ℕ, ◌+◌, ◌<◌, ◌≤◌, Bool, true, false, arith, refl, sym, ap, subst, ◌∙◌}
-use Rattle.std.proofs.Common.{List, [], ◌∷◌, ◌++◌, length, append_assoc}
-use Rattle.std.specs.Prelude.{nat_lt, nat_le, min, ◌&&◌, ◌||◌, ◌==◌, if◌then◌else◌, map}
-use Rattle.std.specs.List.{range_with_len}
+use Rattle.std.proofs.Common.{List, [], ◌∷◌, ◌++◌, length, append_assoc, nat_lt, nat_le, min, ◌&&◌, ◌||◌, ◌==◌}
 use Rattle.std.proofs.lemmas.Bool.{and_parts, and_cases, cases_eq, cases_lt, both_ways, eqb-true, eqb-false, ltb-true}
-use Rattle.std.proofs.lemmas.Bool.{ltb-false, lt-ltb, le-ltb, lt-leb}
-use Rattle.std.proofs.Math.Bool.{and-false}
-use Rattle.ffs_volume.specs.declared.Layout.{Layout}
-use Rattle.ffs_volume.specs.declared.Step.{Step}
-use Rattle.ffs_volume.specs.declared.Step.TheVariants.{Run, Tail, Gap}
+use Rattle.std.{proofs.Common.if◌then◌else◌, proofs.Common.map, specs.List.range_with_len, proofs.lemmas.Bool.ltb-false}
+use Rattle.std.{proofs.lemmas.Bool.lt-ltb, proofs.lemmas.Bool.le-ltb, proofs.lemmas.Bool.lt-leb}
+use Rattle.std.{proofs.Math.Bool.and-false}
+use Rattle.ffs_volume.specs.declared.{Layout.Layout, Step.Step, Step.TheVariants.Run, Step.TheVariants.Tail}
+use Rattle.ffs_volume.specs.declared.{Step.TheVariants.Gap}
 use Rattle.ffs_volume.specs.Disk.Areas.{is_fragment_in_range, is_run_in_range, is_reserved}
 use Rattle.ffs_volume.specs.Blocks.Claims.{Claims, is_set, is_open, after_offer, after_offers, after_step}
-use Rattle.ffs_volume.specs.Blocks.KeptOffers.{kept_in_offers, kept_in_step}
 use Rattle.ffs_volume.specs.Blocks.KeptByRule.{CountedOffer, bad_runs_after, counted_offer, step_offers, OfferVerdict}
 use Rattle.ffs_volume.specs.Blocks.KeptByRule.{is_claimed_before, dups_of, offer_verdict, verdicts, uncounted}
-use Rattle.ffs_volume.specs.Blocks.KeptByRule.{kept_by_rule}
+use Rattle.ffs_volume.specs.Blocks.{KeptOffers.kept_in_offers, KeptOffers.kept_in_step, KeptByRule.kept_by_rule}
 use Rattle.ffs_certificate.proofs.KeepingLaws.{kept_of, dups_cons, kept_cons, OfferTie, not_taken, offer_tied}
 
 pub verdicts-append : (v : Layout) (e : List OfferVerdict) (ps qs : List CountedOffer) →

@@ -1,35 +1,22 @@
 -- The fold over steps keeps what the rule keeps: an inode, and all inodes.
 use Rattle.std.proofs.Common.{zero, suc, ◌≡◌, ℕ, ◌+◌, ◌-◌, ◌*◌, ◌≤◌, Bool, true, false, arith, refl, sym, ap, subst}
-use Rattle.std.proofs.Common.{◌∙◌, List, [], ◌∷◌, ◌++◌, length}
-use Rattle.std.specs.Prelude.{nat_lt, ◌&&◌, ◌||◌, ◌==◌, map}
-use Rattle.std.specs.List.{list_all, range_with_len}
+use Rattle.std.proofs.Common.{◌∙◌, List, [], ◌∷◌, ◌++◌, length, nat_lt, ◌&&◌, ◌||◌, ◌==◌, map}
 use Rattle.std.proofs.lemmas.Bool.{and_parts, and_from, ne_eqb, ltb-true, lt-ltb}
-use Rattle.std.proofs.Math.Bool.{or-false}
-use Rattle.ffs_volume.specs.declared.Layout.{Layout}
-use Rattle.ffs_volume.specs.declared.Step.{Step}
-use Rattle.ffs_volume.specs.declared.Step.TheVariants.{Run, Tail, Gap}
+use Rattle.std.{specs.List.list_all, specs.List.range_with_len, proofs.Math.Bool.or-false}
+use Rattle.ffs_volume.specs.declared.{Layout.Layout, Step.Step, Step.TheVariants.Run, Step.TheVariants.Tail}
+use Rattle.ffs_volume.specs.declared.{Step.TheVariants.Gap}
 use Rattle.ffs_volume.specs.Disk.Areas.{is_fragment_in_range, is_reserved}
-use Rattle.ffs_volume.specs.Blocks.Owners.{Owner, owner_of, owners_of}
-use Rattle.ffs_volume.specs.Blocks.Claims.{
-  Claims,
-  is_set,
-  at_next_inode,
-  no_claims,
-  after_step,
-  after_steps,
-  after_owner,
-}
-use Rattle.ffs_volume.specs.Blocks.Claims.{after_owners}
-use Rattle.ffs_volume.specs.Blocks.KeptOffers.{kept_in_steps, kept_in_owners}
-use Rattle.ffs_certificate.proofs.FreshLaws.{bit}
-use Rattle.ffs_certificate.proofs.BlocksSilent.{reserved_length, reserved_bit}
-use Rattle.ffs_volume.specs.Blocks.KeptByRule.{CountedOffer, bad_runs_after, counted_offer, step_offers, offers_of_steps}
-use Rattle.ffs_volume.specs.Blocks.KeptByRule.{all_offers, OfferVerdict, is_claimed_before, dups_of, offer_verdict}
-use Rattle.ffs_volume.specs.Blocks.KeptByRule.{verdicts, kept_by_rule}
+use Rattle.ffs_volume.specs.Blocks.Claims.{Claims, is_set, at_next_inode, no_claims, after_step, after_steps}
+use Rattle.ffs_volume.specs.Blocks.KeptByRule.{CountedOffer, bad_runs_after, counted_offer, step_offers}
+use Rattle.ffs_volume.specs.Blocks.KeptByRule.{offers_of_steps, all_offers, OfferVerdict, is_claimed_before, dups_of}
+use Rattle.ffs_volume.specs.Blocks.KeptByRule.{offer_verdict, verdicts, kept_by_rule}
+use Rattle.ffs_volume.specs.Blocks.{Owners.Owner, Owners.owner_of, Owners.owners_of, Claims.after_owner}
+use Rattle.ffs_volume.specs.Blocks.{Claims.after_owners, KeptOffers.kept_in_steps, KeptOffers.kept_in_owners}
 use Rattle.ffs_volume.proofs.Potentials.{in_range_below}
 use Rattle.ffs_certificate.specs.Certificate.{KeepsByRule}
-use Rattle.ffs_certificate.proofs.KeepingLaws.{kept_of, dups_cons, kept_cons}
 use Rattle.ffs_certificate.proofs.KeepingOwners.{Tie, step_tied, verdicts-append, kept_append}
+use Rattle.ffs_certificate.proofs.{FreshLaws.bit, BlocksSilent.reserved_length, BlocksSilent.reserved_bit}
+use Rattle.ffs_certificate.proofs.{KeepingLaws.kept_of, KeepingLaws.dups_cons, KeepingLaws.kept_cons}
 
 -- how many bad Runs some steps have, where `bad_runs` are before
 abbrev pub bads_of : Layout → ℕ → List Step → ℕ

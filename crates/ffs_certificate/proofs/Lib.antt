@@ -7,7 +7,6 @@ pub mod KeepingLaws
 pub mod KeepingOwners
 pub mod KeepingWhole
 pub mod SilentLaws
-pub mod DupLines
 pub mod Lost
 pub mod Links
 pub mod ReportLaws
@@ -23,10 +22,5 @@ pub mod Backward
 pub mod Potentials
 pub mod ClassLines
 pub mod ConditionLaws
-pub mod BaseReport
-pub mod DirReport
-pub mod ReportExamples
-pub mod SharedReport
+pub mod Examples
 pub mod Rising
-pub mod MessageExamples
-pub mod KeptExamples

@@ -1,20 +1,17 @@
 -- With all directories reached, no line EXTRANEOUS HARD LINK means that each directory but 2 has
 -- exactly one plain entry.
-use Rattle.std.specs.Prelude.{◌≡◌, ◌≢◌, ℕ, zero, suc, ◌==◌, Bool, true, ◌||◌, List, [], ◌∷◌, None, Some, ◌↔◌}
-use Rattle.std.specs.Prelude.{option_map}
-use Rattle.std.specs.List.{list_any}
-use Rattle.std.proofs.Common.{sym, ◌∙◌, ap, subst, inl, inr}
+use Rattle.std.proofs.Common.{◌≡◌, ◌≢◌, ℕ, zero, suc, ◌==◌, Bool, true, ◌||◌, List, [], ◌∷◌, None, Some, ◌↔◌}
 use Rattle.std.proofs.lemmas.Bool.{cases_eq, cases_Bool, and_parts, and_from, both_ways, cond-true, cond-false, ne_eqb}
-use Rattle.std.proofs.lemmas.Bool.{eqb-true, false_from_ne_true}
-use Rattle.ffs_volume.proofs.SearchLaws.{some_below-from, some_below-gives, first_below-is}
-use Rattle.ffs_volume.specs.Directories.Climb.{is_value}
-use Rattle.ffs_volume.proofs.ClimbLaws.{is_value-from}
+use Rattle.std.{proofs.Common.option_map, proofs.Common.sym, proofs.Common.◌∙◌, proofs.Common.ap, proofs.Common.subst}
+use Rattle.std.{proofs.Common.inl, proofs.Common.inr, specs.List.list_any, proofs.lemmas.Bool.eqb-true}
+use Rattle.std.{proofs.lemmas.Bool.false_from_ne_true}
 use Rattle.ffs_volume.specs.Directories.Graph.{Graph, edge, is_naming_entry, is_naming_dir, parent, parent_by, level}
-use Rattle.ffs_volume.specs.Directories.Graph.{level_edge}
-use Rattle.ffs_volume.specs.Directories.Graph.{reached, index_in_parent, first_index, test_at, is_naming_entry_at}
+use Rattle.ffs_volume.specs.Directories.Graph.{level_edge, reached, index_in_parent, first_index, test_at}
+use Rattle.ffs_volume.specs.Directories.{Climb.is_value, Graph.is_naming_entry_at, Roles.RoledEntry}
 use Rattle.ffs_volume.proofs.Graphs.{AllReached, IsParentEntry, NoExtraneous, LinksRight}
 use Rattle.ffs_volume.proofs.LevelLaws.{within-zero, level-some, level-before, level-is, reached-level}
-use Rattle.ffs_volume.specs.Directories.Roles.{RoledEntry}
+use Rattle.ffs_volume.proofs.{SearchLaws.some_below-from, SearchLaws.some_below-gives, SearchLaws.first_below-is}
+use Rattle.ffs_volume.proofs.{ClimbLaws.is_value-from}
 
 -- a reached directory has a parent, with an edge
 pub parent_edge : (v : Graph) (d : ℕ) → d ≢ 2 → reached v d ≡ true → (s : ℕ) × (parent v d ≡ Some s)

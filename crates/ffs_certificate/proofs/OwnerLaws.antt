@@ -1,19 +1,14 @@
 -- No line of phases 1 and 1b exactly where every fragment has one owner at most: all inodes.
 use Rattle.std.proofs.Common.{◌≡◌, ℕ, Bool, true, false, arith, refl, sym, ap, ◌∙◌, List, [], ◌∷◌, ◌++◌, length}
-use Rattle.std.proofs.Common.{append_assoc}
-use Rattle.std.specs.Prelude.{◌&&◌, ◌||◌, ◌==◌, not, if◌then◌else◌}
-use Rattle.std.specs.List.{list_all}
-use Rattle.std.proofs.lemmas.Bool.{and_parts, and_from}
-use Rattle.std.proofs.lemmas.List.Folds.{list_all-append}
-use Rattle.ffs_volume.specs.declared.Layout.{Layout}
-use Rattle.ffs_volume.specs.declared.Class.{Class}
+use Rattle.std.proofs.Common.{append_assoc, ◌&&◌, ◌||◌, ◌==◌, not, if◌then◌else◌}
+use Rattle.std.{specs.List.list_all, proofs.lemmas.Bool.and_parts, proofs.lemmas.Bool.and_from}
+use Rattle.std.{proofs.lemmas.List.Folds.list_all-append}
 use Rattle.ffs_volume.specs.declared.Class.TheVariants.{Free, Partial, Unknown, File, Dir}
-use Rattle.ffs_volume.specs.declared.Step.{Step}
-use Rattle.ffs_volume.specs.declared.BlockMessage.{BlockMessage}
-use Rattle.ffs_volume.specs.Blocks.Inodes.{is_file_or_dir}
+use Rattle.ffs_volume.specs.declared.{Layout.Layout, Class.Class, Step.Step, BlockMessage.BlockMessage}
 use Rattle.ffs_volume.specs.Blocks.Owners.{Owner, step_fragments, fragments_of, all_steps}
 use Rattle.ffs_volume.specs.Blocks.Claims.{Claims, at_next_inode, after_owner, after_owners, lines_of_steps}
 use Rattle.ffs_volume.specs.Blocks.BlockCheck.{class_lines, count_lines, owner_lines, lines_of_owners, sectors}
+use Rattle.ffs_volume.specs.Blocks.Inodes.{is_file_or_dir}
 use Rattle.ffs_volume.specs.Consistent.BlocksRight.{is_right_class, is_step_in_range, is_no_tail, is_field_right}
 use Rattle.ffs_certificate.proofs.BlockLaws.{is_nil, nil_append, mark, fresh, fresh_append, mark_append, Calm, Claimed}
 use Rattle.ffs_certificate.proofs.BlockLaws.{calm_open, fits, step_quiet, steps_quiet, steps_say, steps_claim}

@@ -1,45 +1,28 @@
 -- A report has no defect exactly where the volume is consistent.
-use Rattle.std.specs.Prelude.{◌≡◌, ◌↔◌, ℕ, Bool, true, false, refl, if◌then◌else◌, List, [], ◌∷◌, ◌++◌, map}
-use Rattle.std.proofs.Common.{sym, ◌∙◌, ap, subst}
-use Rattle.std.proofs.lemmas.Bool.{or_parts, or_from, true_from_ne_false}
-use Rattle.std.proofs.lemmas.List.Folds.{list_any-append}
-use Rattle.ffs_volume.specs.declared.Layout.{Layout}
-use Rattle.ffs_volume.specs.declared.Class.{Class}
+use Rattle.std.proofs.Common.{◌≡◌, ◌↔◌, ℕ, Bool, true, false, if◌then◌else◌, List, [], ◌∷◌, ◌++◌, map, sym, ◌∙◌, ap}
+use Rattle.std.{proofs.Common.subst, specs.Prelude.refl, proofs.lemmas.Bool.or_parts, proofs.lemmas.Bool.or_from}
+use Rattle.std.{proofs.lemmas.Bool.true_from_ne_false, proofs.lemmas.List.Folds.list_any-append}
 use Rattle.ffs_volume.specs.declared.Class.TheVariants.{Free, Partial, Unknown, File, Dir}
-use Rattle.ffs_volume.specs.declared.BlockMessage.{BlockMessage}
-use Rattle.ffs_volume.specs.declared.End.TheVariants.{Consistent}
+use Rattle.ffs_volume.specs.declared.{Layout.Layout, Class.Class, BlockMessage.BlockMessage, End.TheVariants.Consistent}
 use Rattle.ffs_volume.specs.Disk.Superblock.{Superblock}
 use Rattle.ffs_volume.specs.Laws.Geometry.{IsAcceptedLayout}
-use Rattle.ffs_volume.proofs.AcceptedLaws.{accepted_sound}
-use Rattle.ffs_volume.specs.Blocks.Owners.{owners_of}
-use Rattle.ffs_volume.specs.Blocks.BlockCheck.{phase1_lines, phase1b_lines, has_rescan}
-use Rattle.ffs_volume.specs.Consistent.BlocksRight.{BlocksRight}
-use Rattle.ffs_certificate.proofs.BlocksSilent.{phase1_silent, phase1b_silent}
-use Rattle.ffs_volume.specs.Groups.Records.{AreGroupsRight}
-use Rattle.ffs_volume.specs.Groups.GroupCheck.{phase5_lines, is_free_of_kept}
-use Rattle.ffs_certificate.proofs.GroupLaws.{phase5_silent, same_free}
+use Rattle.ffs_volume.specs.Blocks.{Owners.owners_of, BlockCheck.phase1_lines, BlockCheck.phase1b_lines}
+use Rattle.ffs_volume.specs.Blocks.{BlockCheck.has_rescan, Inodes.is_directory}
+use Rattle.ffs_volume.specs.Consistent.{BlocksRight.BlocksRight, Volume.AreSettingsRight, Volume.IsConsistent}
+use Rattle.ffs_volume.specs.Groups.{Records.AreGroupsRight, GroupCheck.phase5_lines, GroupCheck.is_free_of_kept}
 use Rattle.ffs_volume.specs.Messages.Kinds.{Message, TreeMessage, optimization, minfree, mounted, phase1b, of_blocks}
 use Rattle.ffs_volume.specs.Messages.Kinds.{of_tree, is_defect, has_defect, unless}
-use Rattle.ffs_volume.specs.Report.Opening.{
-  before_nul,
-  has_valid_optim,
-  has_valid_minfree,
-  setting_lines,
-}
-use Rattle.ffs_volume.specs.Report.Opening.{super_lines}
-use Rattle.ffs_volume.specs.Blocks.Inodes.{is_directory}
-use Rattle.ffs_volume.specs.Directories.Roles.{Volume}
-use Rattle.ffs_volume.specs.Directories.PathnameCheck.{root_lines_of, root_lines, pathname_lines, continues_after_root}
-use Rattle.ffs_volume.specs.Directories.Connectivity.{connectivity_lines}
-use Rattle.ffs_volume.specs.Directories.ReferenceCheck.{reference_lines}
-use Rattle.ffs_certificate.specs.DirsCertificate.{IsSilent, AreDirectoriesRight}
-use Rattle.ffs_volume.specs.Directories.Volumes.{class_at, volume_of, whole_volume}
-use Rattle.ffs_volume.specs.Consistent.Volume.{AreSettingsRight, IsConsistent}
+use Rattle.ffs_volume.specs.Report.Opening.{before_nul, has_valid_optim, has_valid_minfree, setting_lines, super_lines}
 use Rattle.ffs_volume.specs.Report.Whole.{rescan_lines, later_phase_lines, phase_lines, report_lines, end_by, end_of}
-use Rattle.ffs_certificate.specs.ReportRight.{IsCertified, ReportIsRight, StopIsReported}
-use Rattle.ffs_volume.proofs.Silence.{nil-left}
-use Rattle.ffs_certificate.proofs.DirsCertificate.{silent_right}
-use Rattle.ffs_certificate.proofs.VolumeLaws.{whole_is_volume, whole_unmarked, same_whole}
+use Rattle.ffs_volume.specs.Directories.PathnameCheck.{root_lines_of, root_lines, pathname_lines, continues_after_root}
+use Rattle.ffs_volume.specs.Directories.{Roles.Volume, Connectivity.connectivity_lines, ReferenceCheck.reference_lines}
+use Rattle.ffs_volume.specs.Directories.{Volumes.class_at, Volumes.volume_of, Volumes.whole_volume}
+use Rattle.ffs_volume.proofs.{AcceptedLaws.accepted_sound, Silence.nil-left}
+use Rattle.ffs_certificate.specs.{DirsCertificate.IsSilent, DirsCertificate.AreDirectoriesRight}
+use Rattle.ffs_certificate.specs.{ReportRight.IsCertified, ReportRight.ReportIsRight, ReportRight.StopIsReported}
+use Rattle.ffs_certificate.proofs.{BlocksSilent.phase1_silent, BlocksSilent.phase1b_silent, GroupLaws.phase5_silent}
+use Rattle.ffs_certificate.proofs.{GroupLaws.same_free, DirsCertificate.silent_right, VolumeLaws.whole_is_volume}
+use Rattle.ffs_certificate.proofs.{VolumeLaws.whole_unmarked, VolumeLaws.same_whole}
 
 -- LISTS OF LINES
 quiet_parts : (xs ys : List Message) → has_defect (xs ++ ys) ≡ false → (has_defect xs ≡ false) × (has_defect ys ≡ false)

@@ -1,29 +1,23 @@
 -- What else follows where phases 1 and 1b report nothing: all steps are kept, and no inode is
 -- marked.
 use Rattle.std.proofs.Common.{zero, suc, ◌≡◌, ℕ, ◌+◌, ◌-◌, ◌*◌, ◌<◌, ◌≤◌, true, false, arith, refl, sym, ap, subst, ◌∙◌}
-use Rattle.std.proofs.Common.{List, [], ◌∷◌, ◌++◌}
-use Rattle.std.specs.Prelude.{◌||◌, if◌then◌else◌, map}
-use Rattle.std.specs.List.{range_with_len, list_any}
-use Rattle.std.proofs.lemmas.Bool.{and_parts, and_from, eq-eqb}
-use Rattle.std.proofs.lemmas.List.Folds.{list_all-map}
-use Rattle.std.proofs.lemmas.List.FromFn.{length-range_with_len}
-use Rattle.ffs_volume.specs.declared.Layout.{Layout}
-use Rattle.ffs_volume.specs.declared.Class.{Class}
+use Rattle.std.proofs.Common.{List, [], ◌∷◌, ◌++◌, ◌||◌, if◌then◌else◌, map}
+use Rattle.std.{specs.List.range_with_len, specs.List.list_any, proofs.lemmas.Bool.and_parts}
+use Rattle.std.{proofs.lemmas.Bool.and_from, proofs.lemmas.Bool.eq-eqb, proofs.lemmas.List.Folds.list_all-map}
+use Rattle.std.{proofs.lemmas.List.FromFn.length-range_with_len}
 use Rattle.ffs_volume.specs.declared.Class.TheVariants.{Free, Partial, Unknown, File, Dir}
-use Rattle.ffs_volume.specs.declared.Step.{Step}
-use Rattle.ffs_volume.specs.declared.Step.TheVariants.{Run, Tail, Gap}
-use Rattle.ffs_volume.specs.Blocks.Inodes.{inode_of, class_of, is_unknown}
-use Rattle.ffs_volume.specs.Blocks.Steps.{steps_of}
-use Rattle.ffs_volume.specs.Blocks.Owners.{owner_of, owners_of, step_fragments}
+use Rattle.ffs_volume.specs.declared.{Layout.Layout, Class.Class, Step.Step, Step.TheVariants.Run}
+use Rattle.ffs_volume.specs.declared.{Step.TheVariants.Tail, Step.TheVariants.Gap}
 use Rattle.ffs_volume.specs.Blocks.Claims.{Claims, no_claims, reserved_map, at_next_inode, is_open, after_step}
-use Rattle.ffs_volume.specs.Blocks.Claims.{after_owner, after_owners}
 use Rattle.ffs_volume.specs.Blocks.BlockCheck.{blames, is_marked, phase1_lines, phase1b_lines}
+use Rattle.ffs_volume.specs.Blocks.KeptSteps.{is_kept_step, kept_steps, claims_before, kept_steps_of}
+use Rattle.ffs_volume.specs.Blocks.{Inodes.inode_of, Inodes.class_of, Inodes.is_unknown, Steps.steps_of}
+use Rattle.ffs_volume.specs.Blocks.{Owners.owner_of, Owners.owners_of, Owners.step_fragments, Claims.after_owner}
+use Rattle.ffs_volume.specs.Blocks.{Claims.after_owners}
 use Rattle.ffs_volume.specs.Consistent.BlocksRight.{is_right_class, BlocksRight}
 use Rattle.ffs_certificate.proofs.BlockLaws.{mark, Calm, calm_open, step_quiet, steps_quiet, step_claims}
 use Rattle.ffs_certificate.proofs.OwnerLaws.{owner_quiet, owners_quiet, owner_claims, owners_from, start_calm}
-use Rattle.ffs_certificate.proofs.BlocksSilent.{right_quiet, blocks_silent}
-use Rattle.ffs_certificate.proofs.GroupLaws.{all_at}
-use Rattle.ffs_volume.specs.Blocks.KeptSteps.{is_kept_step, kept_steps, claims_before, kept_steps_of}
+use Rattle.ffs_certificate.proofs.{BlocksSilent.right_quiet, BlocksSilent.blocks_silent, GroupLaws.all_at}
 
 step_kept_quiet : (v : Layout) (s : Claims) (step : Step) → Calm s → step_quiet v s.used step ≡ true →
     is_kept_step v s step ≡ true

@@ -1,27 +1,21 @@
 -- Where the checks are silent, no directory has size 0.
-use Rattle.std.specs.Prelude.{◌≡◌, ◌≢◌, ℕ, ◌≤◌, ◌==◌, true, false, not, ◌&&◌, nat_lt, nat_le, refl, Some, None}
-use Rattle.std.specs.List.{list_any}
-use Rattle.std.proofs.Common.{arith, sym, ◌∙◌, ap, subst, inl, inr}
+use Rattle.std.proofs.Common.{◌≡◌, ◌≢◌, ℕ, ◌≤◌, ◌==◌, true, false, not, ◌&&◌, nat_lt, nat_le, Some, None, arith, sym}
 use Rattle.std.proofs.lemmas.Bool.{both_ways, cases_Bool, cases_eq, eq-eqb, ne_eqb, leb-true, and_parts, and_from}
-use Rattle.std.proofs.lemmas.Bool.{or_from, or_right, not_from_false}
-use Rattle.ffs_volume.specs.declared.Class.{Class}
+use Rattle.std.{proofs.Common.◌∙◌, proofs.Common.ap, proofs.Common.subst, proofs.Common.inl, proofs.Common.inr}
+use Rattle.std.{specs.Prelude.refl, specs.List.list_any, proofs.lemmas.Bool.or_from, proofs.lemmas.Bool.or_right}
+use Rattle.std.{proofs.lemmas.Bool.not_from_false}
 use Rattle.ffs_volume.specs.declared.Class.TheVariants.{Free, Partial, Unknown, File, Dir}
+use Rattle.ffs_volume.specs.declared.Class.{Class}
 use Rattle.ffs_volume.specs.Blocks.Inodes.{is_directory, is_allocated}
 use Rattle.ffs_volume.specs.Directories.Roles.{Volume, is_dir, is_inode, is_allocated_inode, is_suspect, roled_entries}
-use Rattle.ffs_volume.proofs.SearchLaws.{some_below-gives, first_below-is}
-use Rattle.ffs_volume.specs.Directories.Climb.{is_value}
-use Rattle.ffs_volume.proofs.ClimbLaws.{is_value-from}
 use Rattle.ffs_volume.specs.Directories.Graph.{is_naming_entry, is_naming_dir, is_named, first_index, test_at}
-use Rattle.ffs_volume.proofs.Graphs.{IsSane, NoneDead}
-use Rattle.ffs_certificate.proofs.Links.{place_of}
 use Rattle.ffs_volume.specs.Directories.Parents.{graph_of, nth_roled, first_naming_dir, is_first_naming_entry}
-use Rattle.ffs_volume.specs.Directories.PathnameCheck.{is_first_entry_of_suspect}
-use Rattle.ffs_volume.specs.Directories.Connectivity.{is_dead}
+use Rattle.ffs_volume.specs.Directories.{Climb.is_value, PathnameCheck.is_first_entry_of_suspect, Connectivity.is_dead}
+use Rattle.ffs_volume.proofs.{SearchLaws.some_below-gives, SearchLaws.first_below-is, ClimbLaws.is_value-from}
+use Rattle.ffs_volume.proofs.{Graphs.IsSane, Graphs.NoneDead, Booleans.and_false-from}
 use Rattle.ffs_certificate.specs.Premises.{IsVolume, IsUnmarked}
-use Rattle.ffs_volume.proofs.Booleans.{and_false-from}
-use Rattle.ffs_certificate.proofs.Entries.{IsNamer, names_at-gives}
-use Rattle.ffs_certificate.proofs.Dirs.{IsPathnameQuiet, dir-below}
-use Rattle.ffs_certificate.proofs.Counts.{IsCountQuiet}
+use Rattle.ffs_certificate.proofs.{Links.place_of, Entries.IsNamer, Entries.names_at-gives, Dirs.IsPathnameQuiet}
+use Rattle.ffs_certificate.proofs.{Dirs.dir-below, Counts.IsCountQuiet}
 
 pub is_sane : (v : Volume) → IsVolume v → IsSane (graph_of v)
 is_sane v vol = record { some = vol.some; dirs = dir-below v }

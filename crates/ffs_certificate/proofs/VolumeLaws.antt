@@ -1,33 +1,25 @@
 -- What is known of an image's volume, and that keeping is nothing where the block check is silent.
-use Rattle.std.specs.Prelude.{◌≡◌, ◌≢◌, ℕ, ◌-◌, ◌*◌, ◌<◌, ◌≤◌, ◌==◌, Bool, true, false, not, ◌||◌, nat_lt, nat_le, refl}
-use Rattle.std.specs.Prelude.{if◌then◌else◌, List, [], drop}
-use Rattle.std.specs.List.{flat_map, range_with_len}
-use Rattle.std.proofs.Common.{arith, sym, ◌∙◌, ap}
-use Rattle.std.proofs.Math.Path.{fun_ext}
-use Rattle.std.proofs.lemmas.Bool.{leb-true, ltb-true, and_parts}
-use Rattle.std.proofs.lemmas.List.Folds.{list_all-map}
-use Rattle.ffs_volume.specs.declared.Layout.{Layout}
-use Rattle.ffs_volume.specs.declared.Class.TheVariants.{Free, Unknown}
-use Rattle.ffs_volume.specs.declared.Step.{Step}
-use Rattle.ffs_volume.specs.declared.Inode.{Inode}
+use Rattle.std.proofs.Common.{◌≡◌, ◌≢◌, ℕ, ◌-◌, ◌*◌, ◌<◌, ◌≤◌, ◌==◌, Bool, true, false, not, ◌||◌, nat_lt, nat_le}
+use Rattle.std.proofs.Common.{if◌then◌else◌, List, [], drop, arith, sym, ◌∙◌, ap}
+use Rattle.std.{specs.Prelude.refl, specs.List.flat_map, specs.List.range_with_len, proofs.Math.Path.fun_ext}
+use Rattle.std.{proofs.lemmas.Bool.leb-true, proofs.lemmas.Bool.ltb-true, proofs.lemmas.Bool.and_parts}
+use Rattle.std.{proofs.lemmas.List.Folds.list_all-map}
+use Rattle.ffs_volume.specs.declared.{Layout.Layout, Class.TheVariants.Free, Class.TheVariants.Unknown, Step.Step}
+use Rattle.ffs_volume.specs.declared.{Inode.Inode}
 use Rattle.ffs_volume.specs.Disk.Areas.{is_run_in_range}
 use Rattle.ffs_volume.specs.Laws.Geometry.{IsAcceptedLayout}
 use Rattle.ffs_volume.specs.Blocks.Inodes.{inode_of, class_of, type_of, is_known_type, is_too_large, any_nonzero}
 use Rattle.ffs_volume.specs.Blocks.Inodes.{addresses_allowed, is_directory, is_allocated}
-use Rattle.ffs_volume.specs.Blocks.Steps.{steps_of}
-use Rattle.ffs_volume.specs.Blocks.Owners.{owner_of, owners_of}
-use Rattle.ffs_volume.specs.Blocks.BlockCheck.{is_marked}
+use Rattle.ffs_volume.specs.Blocks.{Steps.steps_of, Owners.owner_of, Owners.owners_of, BlockCheck.is_marked}
+use Rattle.ffs_volume.specs.Blocks.{KeptSteps.kept_steps_of}
 use Rattle.ffs_volume.specs.Consistent.BlocksRight.{is_right_class, BlocksRight}
-use Rattle.ffs_volume.proofs.Sizes.{some_inodes, no_steps}
-use Rattle.ffs_certificate.proofs.GroupLaws.{all_at}
-use Rattle.ffs_volume.specs.Blocks.KeptSteps.{kept_steps_of}
-use Rattle.ffs_certificate.proofs.SilentLaws.{all_kept, none_marked}
-use Rattle.ffs_volume.specs.Directories.Entries.{chunks_of}
-use Rattle.ffs_volume.specs.Directories.Roles.{roled_chunk, roled_entries}
-use Rattle.ffs_certificate.specs.Premises.{IsVolume, IsUnmarked}
 use Rattle.ffs_volume.specs.Directories.Volumes.{is_inode_number, class_at, marked_at, steps_of_inode}
 use Rattle.ffs_volume.specs.Directories.Volumes.{kept_steps_of_inode, chunk_source_of, volume_with, volume_of}
-use Rattle.ffs_volume.specs.Directories.Volumes.{whole_volume}
+use Rattle.ffs_volume.specs.Directories.{Entries.chunks_of, Roles.roled_chunk, Roles.roled_entries}
+use Rattle.ffs_volume.specs.Directories.{Volumes.whole_volume}
+use Rattle.ffs_volume.proofs.Sizes.{some_inodes, no_steps}
+use Rattle.ffs_certificate.specs.Premises.{IsVolume, IsUnmarked}
+use Rattle.ffs_certificate.proofs.{GroupLaws.all_at, SilentLaws.all_kept, SilentLaws.none_marked}
 
 -- no type that has a class is 14
 kind_known : (v : Layout) (i : Inode) → class_of v i ≢ Unknown → type_of i.mode ≢ 14
