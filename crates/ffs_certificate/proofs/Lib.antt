@@ -1,12 +1,7 @@
 pub mod BlockLaws
-pub mod OwnerLaws
-pub mod FreshLaws
 pub mod BlocksSilent
 pub mod GroupLaws
-pub mod KeepingLaws
-pub mod KeepingOwners
-pub mod KeepingWhole
-pub mod SilentLaws
+pub mod Keeping
 pub mod Reached
 pub mod ReportLaws
 pub mod VolumeLaws
