@@ -1,23 +1,43 @@
--- The numbers of a group block.
-use Rattle.std.proofs.Common.{◌≡◌, ℕ, ◌+◌, ◌*◌, ◌<◌, Bool, List, map, refl, ap, ◌∙◌, slice_index, arith}
-use Rattle.std.specs.Prelude.{◌==◌, ◌&&◌, pos}
-use Rattle.std.specs.List.{range_with_len}
+-- The numbers of a group block, by the bits of signed numbers.
+use Rattle.std.proofs.Common.{◌≡◌, ◌==◌, ℕ, ◌<◌, ◌^◌, List, drop, slice_index, subst, sym, ap, ◌+◌, arith, ◌*◌, Bool}
+use Rattle.std.proofs.Common.{map, refl, ◌∙◌, ◌&&◌, pos}
 use Rattle.std.proofs.lemmas.List.FromFn.{get_or-map-range_with_len}
-use Rattle.ffs_volume.specs.declared.Layout.{Layout}
-use Rattle.ffs_volume.specs.declared.Class.{Class}
-use Rattle.ffs_volume.specs.Disk.Numbers.{i32_at, u32_at, all_below}
+use Rattle.std.{specs.Int.w32, proofs.lemmas.Int.of_z-to_z, proofs.lemmas.List.get_or-drop, specs.List.range_with_len}
+use Rattle.ffs_volume.specs.declared.Order.TheVariants.{Little, Big}
 use Rattle.ffs_volume.specs.Groups.Records.{GroupCounts, has_counts, right_group_counts, right_frsum, group_size}
-use Rattle.ffs_volume.specs.Groups.Records.{has_right_sums}
+use Rattle.ffs_volume.specs.{declared.Order.Order, declared.Layout.Layout, declared.Class.Class}
+use Rattle.ffs_volume.specs.{Groups.Records.has_right_sums, Disk.Numbers.i32_at, Disk.Numbers.u32_at}
+use Rattle.ffs_volume.specs.{Disk.Numbers.number, Disk.Numbers.all_below}
 use Rattle.ffs_layout.specs.Group.{group_summary_at}
-use Rattle.ffs_groups.specs.declared.counts.Counts.{Counts}
-use Rattle.ffs_groups.specs.Check.{AreCounts, group_counts_of, has_bits_of, same_counts, same_frsum_at}
 use Rattle.ffs_groups.specs.declared.counts.SummaryCounts.{SummaryCounts}
-use Rattle.ffs_groups.specs.declared.free.FreeCounts.{FreeCounts}
-use Rattle.ffs_groups.specs.declared.inodes.InodeCounts.{InodeCounts}
-use Rattle.ffs_groups.specs.Free.{AreFree}
-use Rattle.ffs_groups.specs.Inodes.{AreInodes}
+use Rattle.ffs_groups.specs.declared.{counts.Counts.Counts, free.FreeCounts.FreeCounts, inodes.InodeCounts.InodeCounts}
+use Rattle.ffs_groups.specs.Check.{has_bits_of, AreCounts, group_counts_of, same_counts, same_frsum_at}
+use Rattle.ffs_groups.specs.{Free.AreFree, Inodes.AreInodes}
 use Rattle.ffs_groups.proofs.MapWords.{same_below}
-use Rattle.ffs_groups.proofs.Signs.{bits_are}
+
+-- a byte from a place on
+byte_from : (place : ℕ) (bytes : List ℕ) → ((k : ℕ) → slice_index bytes k < 256) → (i : ℕ) →
+    slice_index (drop place bytes) i < 256
+byte_from place bytes h i = subst (λ x. x < 256) (sym (get_or-drop place bytes i 0)) (h (place + i))
+
+-- four bytes
+in_word : (order : Order) (place : ℕ) (bytes : List ℕ) → ((k : ℕ) → slice_index bytes k < 256) →
+    u32_at order place bytes < 2 ^ 32
+unfolding u32_at number
+in_word Little place bytes h =
+    let at = byte_from place bytes h in
+    let a = at 0 in let b = at 1 in let c = at 2 in let d = at 3 in
+    omega arith
+in_word Big place bytes h =
+    let at = byte_from place bytes h in
+    let a = at 0 in let b = at 1 in let c = at 2 in let d = at 3 in
+    omega arith
+
+pub bits_are : (order : Order) (place : ℕ) (bytes : List ℕ) (n : ℕ) → ((k : ℕ) → slice_index bytes k < 256) →
+    has_bits_of (i32_at order place bytes) n ≡ (u32_at order place bytes == n)
+unfolding i32_at has_bits_of
+bits_are order place bytes n h =
+    ap (λ x. x == n) (of_z-to_z w32 (u32_at order place bytes) (in_word order place bytes h))
 
 -- the summary of an image is compared as the words in its bytes
 pub summary_as : (v : Layout) (place : ℕ) (bytes : List ℕ) (right : SummaryCounts) →

@@ -1,9 +1,14 @@
--- Sums over numbers in a row.
-use Rattle.std.proofs.Common.{◌≡◌, ℕ, zero, suc, ◌+◌, ◌*◌, ◌<◌, ◌≤◌, Bool, [], ◌∷◌, map, cond, arith, refl}
-use Rattle.std.proofs.Common.{ap, ◌∙◌, count_by, ◌^◌}
-use Rattle.std.specs.List.{range_with_len, sum_by}
-use Rattle.std.proofs.lemmas.List.Sums.{sum_by-cons}
-use Rattle.ffs_maps.proofs.Counting.{sum_split, count_within}
+-- Sums and counts over numbers in a row, and where all or none of them count.
+use Rattle.std.proofs.Common.{◌≡◌, ℕ, zero, suc, ◌+◌, ◌*◌, ◌<◌, ◌≤◌, Bool, [], ◌∷◌, map, cond, arith, refl, ap, ◌∙◌}
+use Rattle.std.proofs.Common.{count_by, ◌^◌, ◌-◌, true, false, List, ◌&&◌, not, inl, inr, sym, nat_eq, max, slice_index}
+use Rattle.std.proofs.Common.{◌||◌, nat_le, nat_lt}
+use Rattle.std.proofs.lemmas.Bool.{lt-ltb, cases_lt}
+use Rattle.std.{specs.List.range_with_len, specs.List.sum_by, proofs.lemmas.List.Sums.sum_by-cons}
+use Rattle.std.{proofs.lemmas.Nat.mul-add-lt, specs.Int.bit_at, proofs.lemmas.Nat.Bits.bit_at_ones}
+use Rattle.ffs_volume.specs.Blocks.{Claims.is_set, Inodes.is_allocated, Inodes.is_directory}
+use Rattle.ffs_volume.specs.{Encodings.Kinds.class_of_kind, Groups.Records.is_used_inode, Groups.Records.is_dir_inode}
+use Rattle.ffs_maps.proofs.Counting.{sum_split, count_within, none_counted}
+use Rattle.ffs_groups.specs.{Free.free_in, Free.bits_from, Inodes.class_in}
 
 pub sum_more : (f : ℕ → ℕ) (a n : ℕ) → sum_by f (range_with_len a (n + 1)) ≡ sum_by f (range_with_len a n) + f (a + n)
 sum_more f a n = omega (arith, sum_split f a n 1 (n + 1) refl, sum_by-cons f (a + n) [])
@@ -52,3 +57,127 @@ count_below p a n limit count r b e f g h =
 pub count_fits : (p : ℕ → Bool) (a n m count r : ℕ) (b : Bool) → count ≡ count_by p (range_with_len a n) →
     r ≡ cond b 1 0 → b ≡ p (a + n) → n < m → m < 2 ^ 32 → count + r < 2 ^ 32
 count_fits p a n m count r b e f g h fits = omega (arith, count_more p a n count r b e f g, count_within p a (n + 1))
+
+abbrev num : Bool → ℕ
+num b = cond b 1 0
+
+-- a count over a stretch, with one of its places apart
+count_apart : (p : ℕ → Bool) (a n k : ℕ) (x : Bool) → k < n → p (a + k) ≡ x →
+    count_by p (range_with_len a n)
+    ≡ count_by p (range_with_len a k) + (cond x 1 0 + count_by p (range_with_len (a + k + 1) (n - k - 1)))
+count_apart p a n k x h e =
+    let one : num (p (a + k)) ≡ num x = ap num e in
+    omega (
+      arith,
+      one,
+      sum_split (λ j. cond (p j) 1 0) a k (suc (n - k - 1)) n (omega arith),
+      sum_by-cons (λ j. cond (p j) 1 0) (a + k) (range_with_len (a + k + 1) (n - k - 1)),
+    )
+
+none_at : (p : ℕ → Bool) (a n k : ℕ) → count_by p (range_with_len a n) ≡ 0 → k < n → p (a + k) ≡ false
+none_at p a n k e h = go (p (a + k)) refl
+  where
+    go : (x : Bool) → p (a + k) ≡ x → p (a + k) ≡ false
+    go false is = is
+    go true is = absurd (omega (arith, e, count_apart p a n k true h is))
+
+all_at : (p : ℕ → Bool) (a n k : ℕ) → count_by p (range_with_len a n) ≡ n → k < n → p (a + k) ≡ true
+all_at p a n k e h = go (p (a + k)) refl
+  where
+    go : (x : Bool) → p (a + k) ≡ x → p (a + k) ≡ true
+    go true is = is
+    go false is = absurd (omega (
+      arith,
+      e,
+      count_apart p a n k false h is,
+      count_within p a k,
+      count_within p (a + k + 1) (n - k - 1),
+    ))
+
+free_by : (used : List Bool) (size f : ℕ) (x : Bool) → f < size → is_set used f ≡ x → free_in used size f ≡ not x
+free_by used size f x h e = ap (λ b. b && not (is_set used f)) (lt-ltb f size h) ∙ ap not e
+
+-- no bit is set: all fragments are free
+pub all_free : (used : List Bool) (size start n count k : ℕ) → start + n ≤ size →
+    count ≡ count_by (λ f. is_set used f) (range_with_len start n) → count ≡ 0 → k < n →
+    free_in used size (start + k) ≡ true
+all_free used size start n count k fits is e h =
+    free_by used size (start + k) false (omega arith) (none_at (λ f. is_set used f) start n k (omega (arith, is, e)) h)
+
+-- all bits are set: no fragment is free
+pub none_free : (used : List Bool) (size start n count k : ℕ) → start + n ≤ size →
+    count ≡ count_by (λ f. is_set used f) (range_with_len start n) → count ≡ n → k < n →
+    free_in used size (start + k) ≡ false
+none_free used size start n count k fits is e h =
+    free_by used size (start + k) true (omega arith) (all_at (λ f. is_set used f) start n k (omega (arith, is, e)) h)
+
+-- a fragment of a block is one of those that are looked at
+pub in_block : (free : ℕ → Bool) (start frag blocks b k n m : ℕ) (x : Bool) → n ≡ blocks → m ≡ frag →
+    ((j : ℕ) → j < start + n * m - start → free (start + j) ≡ x) → b < blocks → k < frag →
+    free (start + b * frag + k) ≡ x
+in_block free start frag blocks b k n m x many each all h l =
+    let inside : b * frag + k < start + n * m - start =
+    rw (many, each) (omega (arith, mul-add-lt b frag k blocks h l)) in
+    let at : start + b * frag + k ≡ start + (b * frag + k) = omega arith in
+    ap free at ∙ all (b * frag + k) inside
+
+-- a block of those from a fragment on, in the numbers of its group
+pub block_from : (used : List Bool) (size size' a b f base block frag k : ℕ) → size ≡ size' → a ≡ base → b ≡ block →
+    f ≡ frag →
+    bits_from (free_in used size) (a + b * f) frag k
+    ≡ map (free_in used size') (range_with_len (base + (block + k) * frag) frag)
+block_from used size size' a b f base block frag k same is_a is_b is_f =
+    let at : base + block * frag + k * frag ≡ base + (block + k) * frag = omega arith in
+    rw (same, is_a, is_b, is_f) (ap (λ j. map (free_in used size') (range_with_len j frag)) at)
+
+-- a count of numbers from 2 on is a count of all, where neither 0 nor 1 counts
+pub count_from_two : (p : ℕ → Bool) (first len start n count : ℕ) → ((x : ℕ) → x < 2 → p x ≡ false) →
+    start ≡ max first 2 → n ≡ max (first + len) start - start →
+    count ≡ count_by p (range_with_len start n) → count ≡ count_by p (range_with_len first len)
+count_from_two p first len start n count low is many e = elim (cases_lt len (start - first)) [
+  | inl few ↦
+      let none : n ≡ 0 = omega (arith, is, many) in
+      e ∙ ap (λ j. count_by p (range_with_len start j)) none
+      ∙ sym (none_counted p first len (λ k h. low (first + k) (omega (arith, is, h, few))))
+  | inr more ↦
+      let rest : len ≡ start - first + n = omega (arith, is, many) in
+      let at : first + (start - first) ≡ start = omega (arith, is) in
+      let none : count_by p (range_with_len first (start - first)) ≡ 0 =
+      none_counted p first (start - first) (λ k h. low (first + k) (omega (arith, is, h))) in
+      let split : count_by p (range_with_len first len) ≡ count_by p (range_with_len first (start - first)) + count_by p
+      (range_with_len (first + (start - first)) n) =
+      sum_split (λ x. cond (p x) 1 0) first (start - first) n len rest in
+      let same : count_by p (range_with_len (first + (start - first)) n) ≡ count_by p (range_with_len start n) =
+      ap (λ j. count_by p (range_with_len j n)) at in
+      omega (arith, e, none, split, same)
+]
+
+-- ---- inodes from 2 on
+past_two : (x : ℕ) → 2 ≤ x → nat_lt x 2 ≡ false
+past_two x h = grind arith
+
+from_two : (x : ℕ) → 2 ≤ x → nat_le 2 x ≡ true
+from_two x h = grind arith
+
+below_two : (x : ℕ) → x < 2 → nat_le 2 x ≡ false
+below_two x h = grind arith
+
+under_two : (x : ℕ) → x < 2 → nat_lt x 2 ≡ true
+under_two x h = grind arith
+
+pub used_by_kind : (kinds : List ℕ) (x : ℕ) → 2 ≤ x →
+    is_used_inode (class_in kinds) x ≡ is_allocated (class_of_kind (slice_index kinds x))
+used_by_kind kinds x h = ap (λ b. b || is_allocated (class_of_kind (slice_index kinds x))) (past_two x h)
+
+pub dir_by_kind : (kinds : List ℕ) (x : ℕ) → 2 ≤ x →
+    is_dir_inode (class_in kinds) x ≡ is_directory (class_of_kind (slice_index kinds x))
+dir_by_kind kinds x h = ap (λ b. b && is_directory (class_of_kind (slice_index kinds x))) (from_two x h)
+
+pub no_dir_below : (kinds : List ℕ) (x : ℕ) → x < 2 → is_dir_inode (class_in kinds) x ≡ false
+no_dir_below kinds x h = ap (λ b. b && is_directory (class_of_kind (slice_index kinds x))) (below_two x h)
+
+pub none_free_below : (kinds : List ℕ) (x : ℕ) → x < 2 → not (is_used_inode (class_in kinds) x) ≡ false
+none_free_below kinds x h = ap (λ b. not (b || is_allocated (class_of_kind (slice_index kinds x)))) (under_two x h)
+
+pub all_bits : (word k : ℕ) → word ≡ 2 ^ 64 - 1 → k < 64 → nat_eq (bit_at word k) 1 ≡ true
+all_bits word k e h = ap (λ w. nat_eq (bit_at w k) 1) e ∙ ap (λ x. nat_eq x 1) (bit_at_ones 64 k h)

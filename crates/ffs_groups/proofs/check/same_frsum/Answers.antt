@@ -1,5 +1,5 @@
 use Rattle.std.proofs.Common.{rules, arith, refl, sym, ◌≡◌, true, false}
-use Rattle.ffs_volume.specs.Disk.Numbers.{all_below}
+use Rattle.ffs_volume.specs.{Disk.Numbers.all_below}
 use Rattle.ffs_volume.proofs.Below.{all_below-fails, all_below-more}
 use Rattle.ffs_groups.specs.Check.{has_bits_of, same_frsum_at}
 use Rattle.ffs_groups.proofs.check.same_frsum.Goals as goal

@@ -1,7 +1,6 @@
 use Rattle.std.proofs.Common.{◌≡◌, ◌&&◌, ◌∙◌, Bool, true, false, arith}
 use Rattle.std.proofs.lemmas.Int.{to_z-of_z}
-use Rattle.ffs_volume.specs.Disk.Numbers.{all_below}
-use Rattle.ffs_volume.specs.Groups.Records.{group_size}
+use Rattle.ffs_volume.specs.{Disk.Numbers.all_below, Groups.Records.group_size}
 use Rattle.ffs_groups.specs.Check.{has_bits_of, same_counts, same_frsum_at}
 use Rattle.ffs_groups.proofs.check.sums_are_right.Goals.{then-is_right, else-is_right, then-is_right-2, else-is_right-2}
 use Rattle.ffs_groups.proofs.check.sums_are_right.Goals as goal

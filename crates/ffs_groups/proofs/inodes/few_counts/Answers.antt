@@ -1,12 +1,10 @@
-use Rattle.std.proofs.Common.{arith, ap, sym, ◌∙◌, ◌≡◌, ◌+◌, ◌-◌, count_by}
-use Rattle.std.specs.Prelude.{not}
+use Rattle.std.proofs.Common.{arith, ap, sym, ◌∙◌, ◌≡◌, ◌+◌, ◌-◌, count_by, not}
 use Rattle.std.specs.List.{range_with_len}
-use Rattle.ffs_volume.specs.Groups.Records.{is_dir_inode, is_used_inode}
-use Rattle.ffs_groups.specs.Inodes.{class_in}
-use Rattle.ffs_groups.proofs.Sums.{count_more, count_below}
-use Rattle.ffs_groups.proofs.Skipping.{dir_by_kind, used_by_kind}
-use Rattle.ffs_groups.proofs.inodes.few_counts.Goals as goal
+use Rattle.ffs_volume.specs.{Groups.Records.is_dir_inode, Groups.Records.is_used_inode}
 use Rattle.ffs_maps.proofs.Ones.{one_if}
+use Rattle.ffs_groups.specs.Inodes.{class_in}
+use Rattle.ffs_groups.proofs.Sums.{count_more, count_below, dir_by_kind, used_by_kind}
+use Rattle.ffs_groups.proofs.inodes.few_counts.Goals as goal
 
 pub overflow_add-counts : goal.overflow_add-counts
 overflow_add-counts c =

@@ -1,6 +1,5 @@
 use Rattle.std.proofs.Common.{◌∙◌, sym}
-use Rattle.std.specs.Int.{w64}
-use Rattle.std.proofs.lemmas.Nat.Bits.{bit_at_set_other}
+use Rattle.std.{specs.Int.w64, proofs.lemmas.Nat.Bits.bit_at_set_other}
 use Rattle.ffs_groups.proofs.MapWords.{set_same}
 use Rattle.ffs_groups.proofs.maps.with_bit.Goals as goal
 

@@ -2,7 +2,7 @@ use Rattle.std.proofs.Common.{arith, refl, ◌∙◌, ◌+◌, ◌*◌, ap}
 use Rattle.ffs_maps.specs.Bits.{bits_of}
 use Rattle.ffs_groups.specs.Free.{bits_from, free_in}
 use Rattle.ffs_groups.proofs.FreeWords.{adds_all, adds_none, added_all, added_none}
-use Rattle.ffs_groups.proofs.Stretches.{in_block}
+use Rattle.ffs_groups.proofs.Sums.{in_block}
 use Rattle.ffs_groups.proofs.free.FreeCounts.add_blocks.Goals as goal
 
 pub overflow_cast-start : goal.overflow_cast-start

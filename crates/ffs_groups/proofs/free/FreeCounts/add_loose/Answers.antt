@@ -1,7 +1,7 @@
 use Rattle.std.proofs.Common.{arith, ◌≡◌, ◌+◌, ◌-◌, ap, sym, ◌∙◌, slice_index, count_by}
 use Rattle.ffs_groups.specs.Free.{word_bits}
-use Rattle.ffs_groups.proofs.FreeStretches.{free_next, used_next, stretch_grows, stretch_ends, bit_set, bit_clear, stretches_within}
-use Rattle.ffs_groups.proofs.FreeStretches.{free_within, keep_low, one_more_fits}
+use Rattle.ffs_groups.proofs.Adding.{free_next, used_next, stretch_grows, stretch_ends, bit_set, bit_clear}
+use Rattle.ffs_groups.proofs.Adding.{stretches_within, free_within, keep_low, one_more_fits}
 use Rattle.ffs_groups.proofs.free.FreeCounts.add_loose.Goals.{then-bits-index-eq1, else-bits-index-eq1}
 use Rattle.ffs_groups.proofs.free.FreeCounts.add_loose.Goals as goal
 

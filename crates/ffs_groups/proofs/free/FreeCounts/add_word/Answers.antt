@@ -1,9 +1,7 @@
 use Rattle.std.proofs.Common.{arith, refl, ap, ◌≡◌, ◌+◌, ◌*◌, ◌/◌, ◌^◌, ◌≤◌}
 use Rattle.ffs_groups.specs.Free.{word_bits}
-use Rattle.ffs_groups.proofs.FreeStretches.{length_bits}
-use Rattle.ffs_groups.proofs.Adding.{added_more, added_below}
-use Rattle.ffs_groups.proofs.FreeWords.{zero_word, full_word}
-use Rattle.ffs_groups.proofs.OneFragmentBlocks.{added_single, added_of_one}
+use Rattle.ffs_groups.proofs.Adding.{length_bits, added_more, added_below}
+use Rattle.ffs_groups.proofs.FreeWords.{zero_word, full_word, added_single, added_of_one}
 use Rattle.ffs_groups.proofs.free.FreeCounts.add_word.Goals as goal
 
 pub add_block-requires : goal.add_block-requires
