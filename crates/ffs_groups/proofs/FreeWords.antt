@@ -13,7 +13,7 @@ use Rattle.std.{proofs.lemmas.Grind.div_ceil_times, proofs.lemmas.List.Sums.sum_
 use lib.Lanes.{mask_l}
 use Rattle.ffs_volume.specs.Groups.Records.{is_free_block, free_stretches, block_bits, right_frsum, group_size}
 use Rattle.ffs_volume.specs.{declared.Layout.Layout, Blocks.Claims.is_set, Disk.Areas.cgbase}
-use Rattle.ffs_maps.proofs.BitNumbers.{min_one, min_zero, one_bit}
+use Rattle.ffs_maps.proofs.WordShifts.{min_one, min_zero, one_bit}
 use Rattle.ffs_maps.proofs.{WordShifts.small, WordShifts.bit_shr, Counting.sum_split}
 use Rattle.ffs_groups.specs.{declared.free.FreeCounts.FreeCounts}
 use Rattle.ffs_groups.specs.Free.{word_bits, whole_in, loose_in, stretches_in, Added, AreFree, free_in}

@@ -9,7 +9,7 @@ use Rattle.std.{specs.Int.bit_at, specs.Int.w64, proofs.lemmas.List.get_or-drop,
 use Rattle.byteorder.specs.Endian.{little_from}
 use Rattle.ffs_volume.specs.{Groups.Records.bit_at as map_bit, Groups.Records.same_bit, Disk.Numbers.all_below}
 use Rattle.ffs_maps.proofs.WordShifts.{bit_mod, bit_shl_low, bit_shl_high}
-use Rattle.ffs_maps.proofs.BitNumbers.{max_zero, min_zero, zero_max, zero_min}
+use Rattle.ffs_maps.proofs.WordShifts.{max_zero, min_zero, zero_max, zero_min}
 use Rattle.ffs_volume.proofs.Below.{all_below-at, all_below-from}
 
 next : (b rest : ℕ) → b + 256 * rest ≡ rest * 2 ^ 8 + b

@@ -1,19 +1,15 @@
 -- The bits of a map, by its words: how long the list is, what is at an index, and what is set.
-use Rattle.std.proofs.Common.{◌≡◌, ◌≢◌, inl, inr, ℕ, zero, suc, ◌+◌, ◌*◌, ◌/◌, ◌%◌, ◌^◌, ◌<◌, Bool, true, false}
-use Rattle.std.proofs.Common.{List, length, get_or, nat_eq, slice_set, replicate, bit_or, bit_and, arith, refl}
-use Rattle.std.proofs.Common.{ap, ◌∙◌, sym, length-set}
-use Rattle.std.proofs.Math.Nat.{ℕ_set}
-use Rattle.std.proofs.Math.Path.{subst⁻¹}
-use Rattle.std.specs.Int.{bit_at, w64, bit_not, div_ceil}
+use Rattle.std.proofs.Common.{◌≡◌, ◌≢◌, inl, inr, ℕ, zero, suc, ◌+◌, ◌*◌, ◌/◌, ◌%◌, ◌^◌, ◌<◌, Bool, true, false, List}
+use Rattle.std.proofs.Common.{length, get_or, nat_eq, slice_set, replicate, bit_or, bit_and, arith, refl, ap, ◌∙◌, sym}
+use Rattle.std.proofs.Common.{length-set}
 use Rattle.std.proofs.lemmas.List.{same_lists, get_or-set_other, get_or-set_same, get_or-replicate, length-replicate}
 use Rattle.std.proofs.lemmas.List.FromFn.{length-map-range_with_len, get_or-map-range_with_len}
-use Rattle.std.proofs.lemmas.Bool.{cases_eq}
 use Rattle.std.proofs.lemmas.Nat.Bits.{bit_at_set_same, bit_at_set_other, bit_at_clear_same, bit_at_clear_other}
-use Rattle.std.proofs.lemmas.Nat.Bits.{bit_at-zero}
+use Rattle.std.{proofs.Math.Nat.ℕ_set, proofs.Math.Path.subst⁻¹, specs.Int.bit_at, specs.Int.w64, specs.Int.bit_not}
+use Rattle.std.{specs.Int.div_ceil, proofs.lemmas.Bool.cases_eq, proofs.lemmas.Nat.Bits.bit_at-zero}
 use Rattle.ffs_memory.specs.Words.{Words}
-use Rattle.ffs_maps.specs.Bits.{bits_of, set_run}
-use Rattle.ffs_maps.specs.WordBits.{is_bit, bits_of_words, set_among}
-use Rattle.ffs_maps.specs.declared.FragmentMap.{FragmentMap}
+use Rattle.ffs_maps.specs.{declared.FragmentMap.FragmentMap}
+use Rattle.ffs_maps.specs.{Bits.bits_of, Bits.set_run, WordBits.is_bit, WordBits.bits_of_words, WordBits.set_among}
 
 pub length_bits : (words : List ℕ) (size : ℕ) → length (bits_of_words words size) ≡ size
 unfolding bits_of_words

@@ -1,22 +1,19 @@
 -- How many bits of a run are set.
 use Rattle.std.proofs.Common.{◌≡◌, ◌⊎◌, inl, inr, ℕ, zero, suc, ◌+◌, ◌-◌, ◌*◌, ◌/◌, ◌%◌, ◌^◌, ◌<◌, ◌≤◌, Bool, false}
-use Rattle.std.proofs.Common.{List, length, cond, map, get_or, nat_eq, bit_and, count_ones, count_by, arith, refl, ap, ◌∙◌}
-use Rattle.std.proofs.Common.{sym, take, drop}
+use Rattle.std.proofs.Common.{List, length, cond, map, get_or, nat_eq, bit_and, count_ones, count_by, arith, refl, ap}
+use Rattle.std.proofs.Common.{◌∙◌, sym, take, drop}
 use Rattle.std.specs.List.{range_with_len, sum_by, slice_index_or, All}
-use Rattle.std.specs.Int.{bit_at}
-use Rattle.std.proofs.lemmas.Bool.{cases_lt}
 use Rattle.std.proofs.lemmas.List.{get_or_past, get_or-drop, get_or-take, length-drop, length-take-le}
-use Rattle.std.proofs.lemmas.List.Elements.{All-get_or}
 use Rattle.std.proofs.lemmas.List.Sums.{sum_by-cons, count_by-le-length}
 use Rattle.std.proofs.lemmas.List.FromFn.{length-range_with_len, length-map-range_with_len, get_or-map-range_with_len}
-use lib.Lanes.{mask_l}
 use Rattle.std.proofs.lemmas.Simd.{bit_mask_l, ones-mask_l}
-use Rattle.std.proofs.lemmas.Nat.Bits.{bit_at_and, bit_at-lt, bit_at-zero, bit_at_above, bit_at_ones}
-use Rattle.std.proofs.lemmas.Nat.Bits.{bit_at_ones_above, same_from_bits, ones_shr}
+use Rattle.std.proofs.lemmas.Nat.Bits.{bit_at_and, bit_at-lt, bit_at-zero, bit_at_above, bit_at_ones, bit_at_ones_above}
+use Rattle.std.proofs.lemmas.Nat.Bits.{same_from_bits, ones_shr}
+use Rattle.std.{specs.Int.bit_at, proofs.lemmas.Bool.cases_lt, proofs.lemmas.List.Elements.All-get_or}
+use lib.Lanes.{mask_l}
 use Rattle.ffs_maps.specs.WordBits.{bits_of_words, set_among}
 use Rattle.ffs_maps.proofs.Bits.{get_bits}
-use Rattle.ffs_maps.proofs.WordShifts.{bit_shr}
-use Rattle.ffs_maps.proofs.BitNumbers.{min_one, min_zero, one_bit}
+use Rattle.ffs_maps.proofs.WordShifts.{bit_shr, min_one, min_zero, one_bit}
 
 -- a count over a run, in two parts
 pub sum_split : (f : ℕ → ℕ) (a n m t : ℕ) → t ≡ n + m → sum_by f (range_with_len a t) ≡ sum_by f (range_with_len a n)

@@ -2,17 +2,15 @@
 use Rattle.std.proofs.Common.{◌≡◌, ◌⊎◌, inl, inr, ℕ, zero, suc, ◌+◌, ◌-◌, ◌*◌, ◌/◌, ◌%◌, ◌^◌, ◌<◌, ◌≤◌, Bool, true}
 use Rattle.std.proofs.Common.{false, List, length, get_or, nat_eq, slice_set, bit_or, bit_and, arith, refl, ap, ◌∙◌}
 use Rattle.std.proofs.Common.{sym, length-set, min, max}
-use Rattle.std.specs.Int.{bit_at}
 use Rattle.std.proofs.lemmas.List.{same_lists, get_or-set_other, get_or-set_same}
 use Rattle.std.proofs.lemmas.Bool.{cases_eq, cases_lt, cases_order}
 use Rattle.std.proofs.lemmas.Nat.{pow-add, shl_below}
-use Rattle.std.proofs.Math.Nat.{one-le-pow, pow-le-pow_right}
 use Rattle.std.proofs.lemmas.Nat.Bits.{bit_at_or, bit_at_and, bit_at-zero, bit_at-lt, bit_at_mask_inside}
 use Rattle.std.proofs.lemmas.Nat.Bits.{bit_at_mask_below, bit_at_mask_above, ones_shr, same_from_bits}
-use Rattle.ffs_maps.specs.Bits.{set_run, AreClear}
-use Rattle.ffs_maps.specs.WordBits.{is_bit, bits_of_words}
+use Rattle.std.{specs.Int.bit_at, proofs.Math.Nat.one-le-pow, proofs.Math.Nat.pow-le-pow_right}
+use Rattle.ffs_maps.specs.{Bits.set_run, Bits.AreClear, WordBits.is_bit, WordBits.bits_of_words}
 use Rattle.ffs_maps.proofs.Bits.{length_bits, get_bits}
-use Rattle.ffs_maps.proofs.BitNumbers.{max_zero, min_zero, zero_min}
+use Rattle.ffs_maps.proofs.WordShifts.{max_zero, min_zero, zero_min}
 
 sub_twice : (n k : ℕ) → k ≤ n → n - (n - k) ≡ k
 sub_twice n k h = omega arith

@@ -1,12 +1,11 @@
 -- How many bits are set, where some of them change.
 use Rattle.std.proofs.Common.{◌≡◌, ◌⊎◌, inl, inr, ℕ, zero, suc, ◌+◌, ◌-◌, ◌<◌, ◌≤◌, Bool, true, false, cond, List}
 use Rattle.std.proofs.Common.{length, get_or, slice_set, not, arith, refl, ap, ◌∙◌, sym}
-use mir.Val.{bool_byte}
 use Rattle.std.specs.List.{range_with_len, sum_by, slice_index_or}
 use Rattle.std.proofs.lemmas.List.{get_or-set_other, get_or-set_same}
 use Rattle.std.proofs.lemmas.List.Sums.{sum_by-cons}
-use Rattle.ffs_maps.specs.Bits.{set_run, AreClear}
-use Rattle.ffs_maps.specs.WordBits.{set_among}
+use mir.Val.{bool_byte}
+use Rattle.ffs_maps.specs.{Bits.set_run, Bits.AreClear, WordBits.set_among}
 use Rattle.ffs_maps.proofs.Counting.{sum_split, none_counted, count_within}
 use Rattle.ffs_maps.proofs.Masks.{run_outside, run_inside}
 

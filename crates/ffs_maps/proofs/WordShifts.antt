@@ -1,18 +1,33 @@
--- The bits of a word that is shifted, cut off or turned.
-use Rattle.std.proofs.Common.{◌≡◌, inl, inr, ℕ, zero, suc, ◌+◌, ◌-◌, ◌*◌, ◌/◌, ◌%◌, ◌^◌, ◌<◌, ◌≤◌, false, List}
-use Rattle.std.proofs.Common.{get_or, nat_eq, bit_or, bit_and, arith, refl, ap, ◌∙◌, sym}
-use Rattle.std.specs.Prelude.{not, ◌&&◌}
-use Rattle.std.specs.List.{slice_index_or}
-use Rattle.std.specs.Int.{bit_at, w64}
+-- Bits that are 0 or 1, and shifts of words by bits.
+use Rattle.std.proofs.Common.{◌≡◌, ℕ, zero, suc, ◌<◌, cond, nat_eq, min, max, arith, refl, inl, inr, ◌+◌, ◌-◌, ◌*◌, ◌/◌}
+use Rattle.std.proofs.Common.{◌%◌, ◌^◌, ◌≤◌, false, List, get_or, bit_or, bit_and, ap, ◌∙◌, sym, not, ◌&&◌}
 use Rattle.std.proofs.lemmas.Bool.{cases_lt, lt-ltb, le-ltb}
 use Rattle.std.proofs.lemmas.Nat.{div-add-mod', one_shl}
-use Rattle.std.proofs.Math.Nat.{one-le-pow}
 use Rattle.std.proofs.lemmas.Nat.Bits.{bit_at_or, bit_at_and, bit_at_not, bit_at-zero, bit_at-lt, bit_at_ones}
 use Rattle.std.proofs.lemmas.Nat.Bits.{bit_at_ones_above, bit_at_above, bit_at_cat_low, bit_at_cat_high}
-use Rattle.ffs_maps.specs.Bits.{is_clear}
-use Rattle.ffs_maps.specs.WordBits.{bits_of_words}
+use Rattle.std.{specs.List.slice_index_or, specs.Int.bit_at, specs.Int.w64, proofs.Math.Nat.one-le-pow}
+use Rattle.ffs_maps.specs.{Bits.is_clear, WordBits.bits_of_words}
 use Rattle.ffs_maps.proofs.Bits.{get_bits}
-use Rattle.ffs_maps.proofs.BitNumbers.{max_zero, min_one, min_zero, zero_max}
+
+pub one_bit : (b : ℕ) → b < 2 → b ≡ cond (nat_eq b 1) 1 0
+one_bit zero h = refl
+one_bit (suc zero) h = refl
+one_bit (suc (suc b)) h = absurd (omega arith)
+
+pub min_one : (a b : ℕ) → a < 2 → b ≡ 1 → min a b ≡ a
+min_one a b h e = omega arith
+
+pub min_zero : (a b : ℕ) → b ≡ 0 → min a b ≡ 0
+min_zero a b e = omega arith
+
+pub zero_min : (a b : ℕ) → a ≡ 0 → min a b ≡ 0
+zero_min a b e = omega arith
+
+pub max_zero : (a b : ℕ) → b ≡ 0 → max a b ≡ a
+max_zero a b e = omega arith
+
+pub zero_max : (a b : ℕ) → a ≡ 0 → max a b ≡ b
+zero_max a b e = omega arith
 
 some_pow : (s : ℕ) → 0 < 2 ^ s
 some_pow s = omega (arith, one-le-pow s 2 (omega arith))

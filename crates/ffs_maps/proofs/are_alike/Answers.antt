@@ -1,10 +1,8 @@
 use Rattle.std.proofs.Common.{◌≡◌, ◌∙◌, ◌+◌, ◌<◌, ◌%◌, inl, inr, ℕ, arith, ap, refl, sym, get_or, bit_or, max, nat_eq}
-use Rattle.std.specs.Int.RustNames.{bit_xor}
-use Rattle.std.specs.Int.Bits.{xor_self}
-use Rattle.std.specs.Int.{bit_at}
 use Rattle.std.proofs.lemmas.Bool.{cases_eq, eqb-true}
 use Rattle.std.proofs.lemmas.List.Elements.{All-from_get_or, All-get_or}
 use Rattle.std.proofs.lemmas.Nat.Bits.{bit_at_or, bit_at_xor, bit_at-lt, bit_at-zero, same_from_bits}
+use Rattle.std.{specs.Int.RustNames.bit_xor, specs.Int.Bits.xor_self, specs.Int.bit_at}
 use Rattle.ffs_maps.proofs.are_alike.Goals as goal
 
 first_none : (a b : ℕ) → max a b ≡ 0 → a ≡ 0

@@ -1,12 +1,10 @@
 use Rattle.std.proofs.Common.{◌≡◌, ◌<◌, ◌≤◌, ◌+◌, ◌-◌, ◌*◌, ◌/◌, ◌%◌, ◌^◌, ◌∙◌, ℕ, arith, refl, ap, sym, length}
 use Rattle.std.proofs.Common.{length-set, get_or, bit_and, bit_or, slice_set, true≢false}
 use Rattle.ffs_memory.specs.Words.{Words, with_bits}
-use Rattle.ffs_maps.specs.Bits.{AreClear, bits_of, set_run}
-use Rattle.ffs_maps.specs.WordBits.{bits_of_words, set_among}
-use Rattle.ffs_maps.specs.declared.FragmentMap.{FragmentMap}
-use Rattle.ffs_maps.proofs.Bits.{bits_long, same_map}
+use Rattle.ffs_maps.specs.{declared.FragmentMap.FragmentMap}
+use Rattle.ffs_maps.specs.{Bits.AreClear, Bits.bits_of, Bits.set_run, WordBits.bits_of_words, WordBits.set_among}
 use Rattle.ffs_maps.proofs.Masks.{mask_is, clear_run, run_clear, mark_run}
-use Rattle.ffs_maps.proofs.Ones.{few_among, none_among, run_raised}
+use Rattle.ffs_maps.proofs.{Bits.bits_long, Bits.same_map, Ones.few_among, Ones.none_among, Ones.run_raised}
 use Rattle.ffs_maps.proofs.FragmentMap.claim.Goals as goal
 
 -- the mask that the code computes

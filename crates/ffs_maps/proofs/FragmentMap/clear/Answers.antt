@@ -2,11 +2,9 @@ use Rattle.std.proofs.Common.{◌≡◌, ◌<◌, ◌/◌, ◌%◌, ◌*◌, ◌
 use Rattle.std.proofs.Common.{length-set, slice_set}
 use Rattle.std.specs.Int.{bit_not, w64}
 use Rattle.ffs_memory.specs.Words.{Words}
-use Rattle.ffs_maps.specs.Bits.{bits_of}
-use Rattle.ffs_maps.specs.WordBits.{bits_of_words, set_among}
-use Rattle.ffs_maps.specs.declared.FragmentMap.{FragmentMap}
-use Rattle.ffs_maps.proofs.Bits.{bits_long, clear_bits}
-use Rattle.ffs_maps.proofs.Ones.{lowered}
+use Rattle.ffs_maps.specs.{declared.FragmentMap.FragmentMap}
+use Rattle.ffs_maps.specs.{Bits.bits_of, WordBits.bits_of_words, WordBits.set_among}
+use Rattle.ffs_maps.proofs.{Bits.bits_long, Bits.clear_bits, Ones.lowered}
 use Rattle.ffs_maps.proofs.FragmentMap.clear.Goals as goal
 
 bits_now : (m : FragmentMap) (new : Words) (k w : ℕ) → k < m.size → w ≡ get_or m.words.list (k / 64) 0 →

@@ -1,6 +1,5 @@
 use Rattle.std.proofs.Common.{arith, rules, ◌≤◌, ◌<◌, ◌+◌, ◌*◌, ◌-◌, ◌^◌, inl, inr, sym, get_or, false}
-use Rattle.std.proofs.lemmas.Bool.{cases_lt}
-use Rattle.std.specs.List.{slice_index_or}
+use Rattle.std.{proofs.lemmas.Bool.cases_lt, specs.List.slice_index_or}
 use Rattle.ffs_maps.specs.Bits.{bits_of}
 use Rattle.ffs_maps.proofs.Counting.{count_join_at, alike_touched, count_within, count_ends, ones_of_word}
 use Rattle.ffs_maps.proofs.FragmentMap.count_in_words.Goals as goal

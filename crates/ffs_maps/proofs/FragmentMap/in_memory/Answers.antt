@@ -1,8 +1,7 @@
 use Rattle.std.proofs.Common.{◌≡◌, ◌+◌, ℕ, arith, ap, refl, sym, ◌∙◌, false, length, replicate}
 use Rattle.std.proofs.lemmas.List.{get_or-replicate, length-replicate}
 use Rattle.ffs_maps.specs.WordBits.{bits_of_words, set_among}
-use Rattle.ffs_maps.proofs.Bits.{zero_bits}
-use Rattle.ffs_maps.proofs.Ones.{none_among}
+use Rattle.ffs_maps.proofs.{Bits.zero_bits, Ones.none_among}
 use Rattle.ffs_maps.proofs.FragmentMap.in_memory.Goals as goal
 
 none_set : (size : ℕ) → set_among (replicate size false) 0 size ≡ 0

@@ -1,11 +1,9 @@
 use Rattle.std.proofs.Common.{◌≡◌, ◌<◌, ◌/◌, ◌%◌, ◌*◌, ◌^◌, ℕ, arith, refl, ap, sym, ◌∙◌, bit_or, get_or, true, length}
 use Rattle.std.proofs.Common.{length-set, slice_set}
 use Rattle.ffs_memory.specs.Words.{Words}
-use Rattle.ffs_maps.specs.Bits.{bits_of}
-use Rattle.ffs_maps.specs.WordBits.{bits_of_words, set_among}
-use Rattle.ffs_maps.specs.declared.FragmentMap.{FragmentMap}
-use Rattle.ffs_maps.proofs.Bits.{bits_long, set_bits}
-use Rattle.ffs_maps.proofs.Ones.{few_among, raised}
+use Rattle.ffs_maps.specs.{declared.FragmentMap.FragmentMap}
+use Rattle.ffs_maps.specs.{Bits.bits_of, WordBits.bits_of_words, WordBits.set_among}
+use Rattle.ffs_maps.proofs.{Bits.bits_long, Bits.set_bits, Ones.few_among, Ones.raised}
 use Rattle.ffs_maps.proofs.FragmentMap.set.Goals as goal
 
 bits_now : (m : FragmentMap) (new : Words) (k w : ℕ) → k < m.size → w ≡ get_or m.words.list (k / 64) 0 →

@@ -1,12 +1,9 @@
-use Rattle.std.proofs.Common.{◌≡◌, ◌/◌, ◌%◌, ◌*◌, ◌-◌, ◌^◌, ℕ, arith, refl, ap, sym, ◌∙◌, bit_or, get_or, length, length-set}
-use Rattle.std.proofs.Common.{slice_set}
+use Rattle.std.proofs.Common.{◌≡◌, ◌/◌, ◌%◌, ◌*◌, ◌-◌, ◌^◌, ℕ, arith, refl, ap, sym, ◌∙◌, bit_or, get_or, length}
+use Rattle.std.proofs.Common.{length-set, slice_set}
 use Rattle.ffs_memory.specs.Words.{Words}
-use Rattle.ffs_maps.specs.Bits.{IsInWord, bits_of, set_run}
-use Rattle.ffs_maps.specs.WordBits.{bits_of_words, set_among}
-use Rattle.ffs_maps.specs.declared.FragmentMap.{FragmentMap}
-use Rattle.ffs_maps.proofs.Bits.{bits_long}
-use Rattle.ffs_maps.proofs.Masks.{mask_is, mark_run}
-use Rattle.ffs_maps.proofs.Ones.{few_among, run_raised}
+use Rattle.ffs_maps.specs.{declared.FragmentMap.FragmentMap}
+use Rattle.ffs_maps.specs.{Bits.IsInWord, Bits.bits_of, Bits.set_run, WordBits.bits_of_words, WordBits.set_among}
+use Rattle.ffs_maps.proofs.{Bits.bits_long, Masks.mask_is, Masks.mark_run, Ones.few_among, Ones.run_raised}
 use Rattle.ffs_maps.proofs.FragmentMap.set_in_word.Goals as goal
 
 bits_now : (m : FragmentMap) (new : Words) (start len w : ℕ) → IsInWord start len m.size →
