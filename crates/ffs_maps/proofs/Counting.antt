@@ -46,7 +46,7 @@ pub count_within : (p : ℕ → Bool) (a n : ℕ) → count_by p (range_with_len
 count_within p a n = omega (arith, count_by-le-length p (range_with_len a n), length-range_with_len a n)
 
 -- a number whose bits are tests of the places from a on, and which has no other bits
-ones_by : (p : ℕ → Bool) (x a n : ℕ) → ((i : ℕ) → i < n → bit_at x i ≡ cond (p (a + i)) 1 0) →
+pub ones_by : (p : ℕ → Bool) (x a n : ℕ) → ((i : ℕ) → i < n → bit_at x i ≡ cond (p (a + i)) 1 0) →
     ((i : ℕ) → n ≤ i → bit_at x i ≡ 0) → count_ones x ≡ count_by p (range_with_len a n)
 ones_by p x a n low high =
     ap count_ones (same_from_bits x (mask_l (map p (range_with_len a n)))
