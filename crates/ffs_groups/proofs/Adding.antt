@@ -3,22 +3,20 @@ use Rattle.std.proofs.Common.{◌≡◌, ℕ, zero, suc, ◌+◌, ◌-◌, ◌<�
 use Rattle.std.proofs.Common.{arith, refl, ap, ◌∙◌, sym, count_by, nat_eq, min, length-append, bit_and, ◌/◌, ◌^◌, ◌==◌}
 use Rattle.std.proofs.Common.{◌*◌, ◌%◌, map, slice_index, ◌&&◌}
 use Rattle.std.proofs.lemmas.List.Sums.{sum_by-cons, sum_by-append, count_by-le-length}
-use Rattle.std.proofs.lemmas.List.FromFn.{length-map-range_with_len}
 use Rattle.std.proofs.lemmas.Nat.{mul-add-lt, mul-le, div-add-mod'}
-use Rattle.std.{specs.Int.bit_at, proofs.lemmas.Nat.Bits.shr_and_one, specs.List.range_with_len, specs.List.sum_by}
+use Rattle.std.proofs.lemmas.Nat.Bits.{shr_and_one}
+use Rattle.std.specs.List.{range_with_len, sum_by}
+use Rattle.std.{proofs.lemmas.List.FromFn.length-map-range_with_len, specs.Int.bit_at, proofs.lemmas.Bool.ne_eqb}
 use Rattle.ffs_volume.specs.Groups.Records.{free_stretches, stretch_of, has_bits, is_free_block}
 use Rattle.ffs_maps.specs.Bits.{is_clear}
-use Rattle.ffs_maps.proofs.{WordShifts.bit_shr, Counting.sum_split}
+use Rattle.ffs_maps.proofs.{WordShifts.bit_shr, Counting.sum_split, Bits.zeros_at}
 use Rattle.ffs_groups.specs.{declared.free.FreeCounts.FreeCounts}
 use Rattle.ffs_groups.specs.Free.{word_bits, whole_in, loose_in, stretches_in, AreBelow, Added, free_in}
 use Rattle.ffs_groups.proofs.{Sums.sum_more, Sums.sum_same, Sums.sum_within, Sums.map_same, MapWords.map_parts}
 
-one_stretch : (n : ℕ) → length (stretch_of (suc n)) ≤ min (suc n) 1
-one_stretch n = let e : (suc n == 0) ≡ false = grind arith in rw e (omega arith)
-
-pub stretch_len : (n : ℕ) → length (stretch_of n) ≤ min n 1
+stretch_len : (n : ℕ) → length (stretch_of n) ≤ min n 1
 stretch_len zero = omega arith
-stretch_len (suc n) = one_stretch n
+stretch_len (suc n) = let some : (suc n == 0) ≡ false = grind arith in rw some (omega arith)
 
 pub stretches_len : (n : ℕ) (bits : List Bool) → length (free_stretches n bits) ≤ min n 1 + length bits
 stretches_len n [] = omega (arith, stretch_len n)
@@ -68,11 +66,8 @@ free_within word n = omega (arith, count_by-le-length (λ f. f) (word_bits word 
 pub bit_set : (word k : ℕ) → bit_and (word / 2 ^ k) 1 ≡ 1 → nat_eq (bit_at word k) 1 ≡ true
 bit_set word k e = let b : bit_at word k ≡ 1 = sym (shr_and_one word k) ∙ e in rw b refl
 
-not_same : (a b : ℕ) → (a ≡ b → ⊥) → nat_eq a b ≡ false
-not_same a b apart = grind (arith, apart)
-
 pub bit_clear : (word k : ℕ) → (bit_and (word / 2 ^ k) 1 ≡ 1 → ⊥) → nat_eq (bit_at word k) 1 ≡ false
-bit_clear word k apart = not_same (bit_at word k) 1 (λ e. apart (shr_and_one word k ∙ e))
+bit_clear word k apart = ne_eqb (bit_at word k) 1 (λ e. apart (shr_and_one word k ∙ e))
 
 pub keep_low : (now rest old all : ℕ) → now + rest ≡ old + all → all ≤ 8 → old < 2 ^ 63 → now < 2 ^ 64 - 1
 keep_low now rest old all e few low = omega arith
@@ -80,31 +75,21 @@ keep_low now rest old all e few low = omega arith
 pub one_more_fits : (now rest old all : ℕ) → now + (1 + rest) ≡ old + all → all ≤ 8 → old < 2 ^ 63 → now + 1 < 2 ^ 64
 one_more_fits now rest old all e few low = omega arith
 
-from_zero : (f : ℕ → ℕ) (n m : ℕ) →
-    sum_by f (range_with_len 0 (n + m)) ≡ sum_by f (range_with_len 0 n) + sum_by f (range_with_len n m)
-from_zero f n m =
-    let at : 0 + n ≡ n = omega arith in
-    sum_split f 0 n m (n + m) refl ∙ ap (λ j. sum_by f (range_with_len 0 n) + sum_by f (range_with_len j m)) at
+from_zero : (f : ℕ → ℕ) (n m : ℕ) → sum_by f (range_with_len 0 (n + m))
+    ≡ sum_by f (range_with_len 0 n) + sum_by f (range_with_len n m)
+from_zero f n m = let at : 0 + n ≡ n = omega arith in rw at at (sum_split f 0 n m (n + m) refl)
 
 one_from_zero : (f : ℕ → ℕ) (n : ℕ) → sum_by f (range_with_len 0 (n + 1)) ≡ sum_by f (range_with_len 0 n) + f n
-one_from_zero f n =
-    let at : 0 + n ≡ n = omega arith in
-    sum_more f 0 n ∙ ap (λ j. sum_by f (range_with_len 0 n) + f j) at
-
-add_up : (new mid old a b s : ℕ) → mid ≡ old + a → new ≡ mid + b → s ≡ a + b → new ≡ old + s
-add_up new mid old a b s e f g = omega (arith, e, f, g)
+one_from_zero f n = let at : 0 + n ≡ n = omega arith in rw at at (sum_more f 0 n)
 
 -- one block more
 pub added_more : (bits : ℕ → List Bool) (n : ℕ) (old mid new : FreeCounts) → Added bits 0 n old mid →
     new.blocks ≡ mid.blocks + whole_in (bits n) → new.fragments ≡ mid.fragments + loose_in (bits n) →
     ((k : ℕ) → slice_index new.frsum k ≡ slice_index mid.frsum k + stretches_in k (bits n)) → Added bits 0 (n + 1) old new
 added_more bits n old mid new a blocks fragments frsum = record {
-  blocks = add_up new.blocks mid.blocks old.blocks _ (whole_in (bits n)) _ a.blocks blocks
-      (one_from_zero (λ b. whole_in (bits b)) n);
-  fragments = add_up new.fragments mid.fragments old.fragments _ (loose_in (bits n)) _ a.fragments fragments
-      (one_from_zero (λ b. loose_in (bits b)) n);
-  frsum = λ k. add_up (slice_index new.frsum k) (slice_index mid.frsum k) (slice_index old.frsum k) _ (stretches_in k (bits n)) _
-      (a.frsum k) (frsum k) (one_from_zero (λ b. stretches_in k (bits b)) n);
+  blocks = omega (arith, a.blocks, blocks, one_from_zero (λ b. whole_in (bits b)) n);
+  fragments = omega (arith, a.fragments, fragments, one_from_zero (λ b. loose_in (bits b)) n);
+  frsum = λ k. omega (arith, a.frsum k, frsum k, one_from_zero (λ b. stretches_in k (bits b)) n);
 }
 
 joined_sums : (f : List Bool → ℕ) (bits other : ℕ → List Bool) (n m : ℕ) → ((k : ℕ) → k < m → other k ≡ bits (n + k)) →
@@ -121,48 +106,43 @@ pub added_join : (bits other : ℕ → List Bool) (n m : ℕ) (old mid new : Fre
     Added other 0 m mid new →
     ((k : ℕ) → k < m → other k ≡ bits (n + k)) → Added bits 0 (n + m) old new
 added_join bits other n m old mid new a b same = record {
-  blocks = add_up new.blocks mid.blocks old.blocks _ _ _ a.blocks b.blocks (joined_sums whole_in bits other n m same);
-  fragments = add_up new.fragments mid.fragments old.fragments _ _ _ a.fragments b.fragments
-      (joined_sums loose_in bits other n m same);
-  frsum = λ k. add_up (slice_index new.frsum k) (slice_index mid.frsum k) (slice_index old.frsum k) _ _ _ (a.frsum k)
-      (b.frsum k) (joined_sums (stretches_in k) bits other n m same);
+  blocks = omega (arith, a.blocks, b.blocks, joined_sums whole_in bits other n m same);
+  fragments = omega (arith, a.fragments, b.fragments, joined_sums loose_in bits other n m same);
+  frsum = λ k. omega (arith, a.frsum k, b.frsum k, joined_sums (stretches_in k) bits other n m same);
 }
 
-whole_few : (bits : List Bool) → whole_in bits ≤ 8
-whole_few bits = go (is_free_block bits)
-  where
-    go : (b : Bool) → cond b 1 0 ≤ 8
-    go true = omega arith
-    go false = omega arith
+-- one of two numbers within a limit
+either_within : (b : Bool) (m n k : ℕ) → m ≤ k → n ≤ k → cond b m n ≤ k
+either_within true m n k h l = h
+either_within false m n k h l = l
 
-loose_few : (bits : List Bool) → length bits ≤ 8 → loose_in bits ≤ 8
-loose_few bits h = go (is_free_block bits)
-  where
-    go : (b : Bool) → cond b 0 (count_by (λ f. f) bits) ≤ 8
-    go true = omega arith
-    go false = omega (arith, h, count_by-le-length (λ f. f) bits)
+whole_one : (bits : List Bool) → whole_in bits ≤ 1
+whole_one bits = either_within (is_free_block bits) 1 0 1 (omega arith) (omega arith)
 
-stretch_few : (k : ℕ) (bits : List Bool) → length bits ≤ 8 → stretches_in k bits ≤ 8
-stretch_few k bits h = go (is_free_block bits)
-  where
-    go : (b : Bool) → cond b 0 (count_by (λ n. n == k) (free_stretches 0 bits)) ≤ 8
-    go true = omega arith
-    go false = omega (arith, h, stretches_few k bits)
+loose_length : (bits : List Bool) → loose_in bits ≤ length bits
+loose_length bits = either_within (is_free_block bits) 0 _ (length bits) (omega arith) (count_by-le-length (λ f. f) bits)
 
-below_more : (new old s n limit low : ℕ) → new ≡ old + s → s ≤ n * 8 → old < low → low + 8 * n ≤ limit → new < limit
-below_more new old s n limit low e h l fits = omega arith
+stretch_length : (k : ℕ) (bits : List Bool) → stretches_in k bits ≤ length bits
+stretch_length k bits = either_within (is_free_block bits) 0 _ (length bits) (omega arith) (stretches_few k bits)
 
 -- n blocks add at most 8 times n to any count
 pub added_below : (bits : ℕ → List Bool) (n low limit : ℕ) (old new : FreeCounts) → Added bits 0 n old new →
     ((b : ℕ) → length (bits b) ≤ 8) →
     AreBelow low old → low + 8 * n ≤ limit → AreBelow limit new
 added_below bits n low limit old new a short l fits = record {
-  blocks = below_more new.blocks old.blocks _ n limit low a.blocks
-      (sum_within (λ b. whole_in (bits b)) 8 0 n (λ k. whole_few (bits k))) l.blocks fits;
-  fragments = below_more new.fragments old.fragments _ n limit low a.fragments
-      (sum_within (λ b. loose_in (bits b)) 8 0 n (λ k. loose_few (bits k) (short k))) l.fragments fits;
-  frsum = λ j. below_more (slice_index new.frsum j) (slice_index old.frsum j) _ n limit low (a.frsum j)
-      (sum_within (λ b. stretches_in j (bits b)) 8 0 n (λ k. stretch_few j (bits k) (short k))) (l.frsum j) fits;
+  blocks = omega (arith, a.blocks, l.blocks, sum_within (λ b. whole_in (bits b)) 1 0 n (λ k. whole_one (bits k)));
+  fragments = omega (
+    arith,
+    a.fragments,
+    l.fragments,
+    sum_within (λ b. loose_in (bits b)) 8 0 n (λ k. omega (arith, loose_length (bits k), short k)),
+  );
+  frsum = λ j. omega (
+    arith,
+    a.frsum j,
+    l.frsum j,
+    sum_within (λ b. stretches_in j (bits b)) 8 0 n (λ k. omega (arith, stretch_length j (bits k), short k)),
+  );
 }
 
 -- a block of a word, in the numbers of the volume
@@ -181,23 +161,11 @@ word_block free word start frag block k some has low fits =
     ∙ ap free place)
 
 pub no_stretches : (k : ℕ) → slice_index (0 ∷ 0 ∷ 0 ∷ 0 ∷ 0 ∷ 0 ∷ 0 ∷ 0 ∷ 0 ∷ []) k ≡ 0
-no_stretches zero = refl
-no_stretches (suc zero) = refl
-no_stretches (suc (suc zero)) = refl
-no_stretches (suc (suc (suc zero))) = refl
-no_stretches (suc (suc (suc (suc zero)))) = refl
-no_stretches (suc (suc (suc (suc (suc zero))))) = refl
-no_stretches (suc (suc (suc (suc (suc (suc zero)))))) = refl
-no_stretches (suc (suc (suc (suc (suc (suc (suc zero))))))) = refl
-no_stretches (suc (suc (suc (suc (suc (suc (suc (suc zero)))))))) = refl
-no_stretches (suc (suc (suc (suc (suc (suc (suc (suc (suc k))))))))) = refl
+no_stretches k = zeros_at 9 k
 
 pub count_start : (f : ℕ → ℕ) (n m z : ℕ) → z ≡ 0 → n ≡ m →
     z + sum_by f (range_with_len 0 n) ≡ sum_by f (range_with_len 0 m)
-count_start f n m z e same =
-    let last : sum_by f (range_with_len 0 n) ≡ sum_by f (range_with_len 0 m) =
-    ap (λ j. sum_by f (range_with_len 0 j)) same in
-    omega (arith, e, last)
+count_start f n m z e same = rw same (omega (arith, e))
 
 pub clear_as_free : (used : List Bool) (size size' f g : ℕ) → size ≡ size' → f ≡ g →
     is_clear used size f ≡ free_in used size' g
@@ -208,20 +176,6 @@ place_is a b f a' b' f' j e g h = rw (e, g, h) refl
 
 pub word_fits : (some frag : ℕ) → some ≤ 64 / frag → some * frag ≤ 64
 word_fits some frag h = omega (arith, mul-le some frag (64 / frag) frag h (omega arith), div-add-mod' 64 frag)
-
-loose_length : (bits : List Bool) → loose_in bits ≤ length bits
-loose_length bits = go (is_free_block bits)
-  where
-    go : (b : Bool) → cond b 0 (count_by (λ f. f) bits) ≤ length bits
-    go true = omega arith
-    go false = count_by-le-length (λ f. f) bits
-
-whole_one : (bits : List Bool) → whole_in bits ≤ 1
-whole_one bits = go (is_free_block bits)
-  where
-    go : (b : Bool) → cond b 1 0 ≤ 1
-    go true = omega arith
-    go false = omega arith
 
 pub loose_fits : (bits : ℕ → List Bool) (frag n : ℕ) → ((b : ℕ) → length (bits b) ≡ frag) →
     sum_by (λ b. loose_in (bits b)) (range_with_len 0 n) ≤ n * frag

@@ -83,7 +83,7 @@ clear_bits words size k w h inside e =
     (λ i low apart. bit_at_clear_other w64 w (k % 64) (omega arith) i low apart ∙ ap (λ x. bit_at x i) e)
 
 -- words of zeros have no bit set
-zeros_at : (n i : ℕ) → get_or (replicate n zero) i zero ≡ zero
+pub zeros_at : (n i : ℕ) → get_or (replicate n zero) i zero ≡ zero
 zeros_at zero i = refl
 zeros_at (suc n) zero = refl
 zeros_at (suc n) (suc i) = zeros_at n i
