@@ -14,12 +14,9 @@ use Rattle.ffs_maps.proofs.WordShifts.{min_one, one_bit, small, bit_shr}
 use Rattle.ffs_maps.proofs.Counting.{sum_split, ones_by}
 use Rattle.ffs_groups.specs.{declared.free.FreeCounts.FreeCounts}
 use Rattle.ffs_groups.specs.Free.{word_bits, whole_in, loose_in, stretches_in, Added, AreFree, free_in}
-use Rattle.ffs_groups.proofs.Sums.{sum_same}
+use Rattle.ffs_groups.proofs.Sums.{sum_same, one_on}
 
 -- ---- fragments in a row that are all free, or of which none is
-one_on : (a k : ℕ) → a + 1 + k ≡ a + (k + 1)
-one_on a k = omega arith
-
 map_const : (f : ℕ → Bool) (x : Bool) (a n : ℕ) → ((k : ℕ) → k < n → f (a + k) ≡ x) →
     map f (range_with_len a n) ≡ replicate n x
 map_const f x a zero e = refl

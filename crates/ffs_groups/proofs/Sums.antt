@@ -1,8 +1,8 @@
 -- Sums and counts over numbers in a row, and where all or none of them count.
-use Rattle.std.proofs.Common.{◌≡◌, ℕ, zero, suc, ◌+◌, ◌*◌, ◌<◌, ◌≤◌, Bool, [], ◌∷◌, map, cond, arith, refl, ap, ◌∙◌}
-use Rattle.std.proofs.Common.{count_by, ◌^◌, ◌-◌, true, false, List, ◌&&◌, not, inl, inr, sym, nat_eq, max, slice_index}
-use Rattle.std.proofs.Common.{◌||◌, nat_le, nat_lt}
-use Rattle.std.proofs.lemmas.Bool.{lt-ltb, cases_lt}
+use Rattle.std.proofs.Common.{◌≡◌, ℕ, zero, suc, ◌+◌, ◌*◌, ◌<◌, ◌≤◌, Bool, [], map, cond, arith, refl, ap, ◌∙◌}
+use Rattle.std.proofs.Common.{count_by, ◌^◌, ◌-◌, true, false, List, not, inl, inr, sym, nat_eq, max, slice_index}
+use Rattle.std.proofs.Common.{add-zero}
+use Rattle.std.proofs.lemmas.Bool.{cases_lt, lt-ltb, le-ltb, le-leb, lt-leb, false_from_ne_true, true_from_ne_false}
 use Rattle.std.{specs.List.range_with_len, specs.List.sum_by, proofs.lemmas.List.Sums.sum_by-cons}
 use Rattle.std.{proofs.lemmas.Nat.mul-add-lt, specs.Int.bit_at, proofs.lemmas.Nat.Bits.bit_at_ones}
 use Rattle.ffs_volume.specs.Blocks.{Claims.is_set, Inodes.is_allocated, Inodes.is_directory}
@@ -13,16 +13,16 @@ use Rattle.ffs_groups.specs.{Free.free_in, Free.bits_from, Inodes.class_in}
 pub sum_more : (f : ℕ → ℕ) (a n : ℕ) → sum_by f (range_with_len a (n + 1)) ≡ sum_by f (range_with_len a n) + f (a + n)
 sum_more f a n = omega (arith, sum_split f a n 1 (n + 1) refl, sum_by-cons f (a + n) [])
 
+-- the place of the next number
+pub one_on : (a k : ℕ) → a + 1 + k ≡ a + (k + 1)
+one_on a k = omega arith
+
 pub sum_same : (f g : ℕ → ℕ) (a c n : ℕ) → ((k : ℕ) → k < n → f (a + k) ≡ g (c + k)) →
     sum_by f (range_with_len a n) ≡ sum_by g (range_with_len c n)
 sum_same f g a c zero e = refl
 sum_same f g a c (suc n) e =
-    let rest : sum_by f (range_with_len (a + 1) n) ≡ sum_by g (range_with_len (c + 1) n) =
-    sum_same f g (a + 1) (c + 1) n
-    (λ k h. let l : a + 1 + k ≡ a + (k + 1) = omega arith in let r : c + (k + 1) ≡ c + 1 + k = omega arith in ap f l
-    ∙ e (k + 1) (omega arith) ∙ ap g r) in
-    let first : f a ≡ g c = let l : a ≡ a + 0 = omega arith in let r : c + 0 ≡ c = omega arith in ap f l
-    ∙ e 0 (omega arith) ∙ ap g r in
+    let first : f a ≡ g c = rw (add-zero a, add-zero c) at (e 0 (omega arith)) in
+    let rest = sum_same f g (a + 1) (c + 1) n (λ k h. rw (one_on a k, one_on c k) (e (k + 1) (omega arith))) in
     omega (arith, rest, first, sum_by-cons f a (range_with_len (a + 1) n), sum_by-cons g c (range_with_len (c + 1) n))
 
 pub sum_within : (f : ℕ → ℕ) (m a n : ℕ) → ((k : ℕ) → f k ≤ m) → sum_by f (range_with_len a n) ≤ n * m
@@ -33,13 +33,9 @@ pub map_same : (f g : ℕ → Bool) (a c n : ℕ) → ((k : ℕ) → k < n → f
     map f (range_with_len a n) ≡ map g (range_with_len c n)
 map_same f g a c zero e = refl
 map_same f g a c (suc n) e =
-    let rest : map f (range_with_len (a + 1) n) ≡ map g (range_with_len (c + 1) n) =
-    map_same f g (a + 1) (c + 1) n
-    (λ k h. let l : a + 1 + k ≡ a + (k + 1) = omega arith in let r : c + (k + 1) ≡ c + 1 + k = omega arith in ap f l
-    ∙ e (k + 1) (omega arith) ∙ ap g r) in
-    let first : f a ≡ g c = let l : a ≡ a + 0 = omega arith in let r : c + 0 ≡ c = omega arith in ap f l
-    ∙ e 0 (omega arith) ∙ ap g r in
-    ap (λ x. x ∷ map f (range_with_len (a + 1) n)) first ∙ ap (λ xs. g c ∷ xs) rest
+    let first : f a ≡ g c = rw (add-zero a, add-zero c) at (e 0 (omega arith)) in
+    let rest = map_same f g (a + 1) (c + 1) n (λ k h. rw (one_on a k, one_on c k) (e (k + 1) (omega arith))) in
+    cc
 
 -- one number more is counted
 pub count_more : (p : ℕ → Bool) (a n count r : ℕ) (b : Bool) → count ≡ count_by p (range_with_len a n) →
@@ -75,27 +71,19 @@ count_apart p a n k x h e =
     )
 
 none_at : (p : ℕ → Bool) (a n k : ℕ) → count_by p (range_with_len a n) ≡ 0 → k < n → p (a + k) ≡ false
-none_at p a n k e h = go (p (a + k)) refl
-  where
-    go : (x : Bool) → p (a + k) ≡ x → p (a + k) ≡ false
-    go false is = is
-    go true is = absurd (omega (arith, e, count_apart p a n k true h is))
+none_at p a n k e h = false_from_ne_true _ (λ is. absurd (omega (arith, e, count_apart p a n k true h is)))
 
 all_at : (p : ℕ → Bool) (a n k : ℕ) → count_by p (range_with_len a n) ≡ n → k < n → p (a + k) ≡ true
-all_at p a n k e h = go (p (a + k)) refl
-  where
-    go : (x : Bool) → p (a + k) ≡ x → p (a + k) ≡ true
-    go true is = is
-    go false is = absurd (omega (
-      arith,
-      e,
-      count_apart p a n k false h is,
-      count_within p a k,
-      count_within p (a + k + 1) (n - k - 1),
-    ))
+all_at p a n k e h = true_from_ne_false _ (λ is. absurd (omega (
+  arith,
+  e,
+  count_apart p a n k false h is,
+  count_within p a k,
+  count_within p (a + k + 1) (n - k - 1),
+)))
 
 free_by : (used : List Bool) (size f : ℕ) (x : Bool) → f < size → is_set used f ≡ x → free_in used size f ≡ not x
-free_by used size f x h e = ap (λ b. b && not (is_set used f)) (lt-ltb f size h) ∙ ap not e
+free_by used size f x h e = rw (lt-ltb f size h, e) refl
 
 -- no bit is set: all fragments are free
 pub all_free : (used : List Bool) (size start n count k : ℕ) → start + n ≤ size →
@@ -116,10 +104,8 @@ pub in_block : (free : ℕ → Bool) (start frag blocks b k n m : ℕ) (x : Bool
     ((j : ℕ) → j < start + n * m - start → free (start + j) ≡ x) → b < blocks → k < frag →
     free (start + b * frag + k) ≡ x
 in_block free start frag blocks b k n m x many each all h l =
-    let inside : b * frag + k < start + n * m - start =
-    rw (many, each) (omega (arith, mul-add-lt b frag k blocks h l)) in
     let at : start + b * frag + k ≡ start + (b * frag + k) = omega arith in
-    ap free at ∙ all (b * frag + k) inside
+    rw at (all (b * frag + k) (rw (many, each) (omega (arith, mul-add-lt b frag k blocks h l))))
 
 -- a block of those from a fragment on, in the numbers of its group
 pub block_from : (used : List Bool) (size size' a b f base block frag k : ℕ) → size ≡ size' → a ≡ base → b ≡ block →
@@ -137,47 +123,32 @@ pub count_from_two : (p : ℕ → Bool) (first len start n count : ℕ) → ((x 
 count_from_two p first len start n count low is many e = elim (cases_lt len (start - first)) [
   | inl few ↦
       let none : n ≡ 0 = omega (arith, is, many) in
-      e ∙ ap (λ j. count_by p (range_with_len start j)) none
-      ∙ sym (none_counted p first len (λ k h. low (first + k) (omega (arith, is, h, few))))
+      rw none at e ∙ sym (none_counted p first len (λ k h. low (first + k) (omega (arith, is, h, few))))
   | inr more ↦
-      let rest : len ≡ start - first + n = omega (arith, is, many) in
       let at : first + (start - first) ≡ start = omega (arith, is) in
-      let none : count_by p (range_with_len first (start - first)) ≡ 0 =
-      none_counted p first (start - first) (λ k h. low (first + k) (omega (arith, is, h))) in
-      let split : count_by p (range_with_len first len) ≡ count_by p (range_with_len first (start - first)) + count_by p
-      (range_with_len (first + (start - first)) n) =
-      sum_split (λ x. cond (p x) 1 0) first (start - first) n len rest in
-      let same : count_by p (range_with_len (first + (start - first)) n) ≡ count_by p (range_with_len start n) =
-      ap (λ j. count_by p (range_with_len j n)) at in
-      omega (arith, e, none, split, same)
+      let split = sum_split (λ x. cond (p x) 1 0) first (start - first) n len (omega (arith, is, many)) in
+      omega (
+        arith,
+        e,
+        none_counted p first (start - first) (λ k h. low (first + k) (omega (arith, is, h))),
+        rw at at split,
+      )
 ]
 
 -- ---- inodes from 2 on
-past_two : (x : ℕ) → 2 ≤ x → nat_lt x 2 ≡ false
-past_two x h = grind arith
-
-from_two : (x : ℕ) → 2 ≤ x → nat_le 2 x ≡ true
-from_two x h = grind arith
-
-below_two : (x : ℕ) → x < 2 → nat_le 2 x ≡ false
-below_two x h = grind arith
-
-under_two : (x : ℕ) → x < 2 → nat_lt x 2 ≡ true
-under_two x h = grind arith
-
 pub used_by_kind : (kinds : List ℕ) (x : ℕ) → 2 ≤ x →
     is_used_inode (class_in kinds) x ≡ is_allocated (class_of_kind (slice_index kinds x))
-used_by_kind kinds x h = ap (λ b. b || is_allocated (class_of_kind (slice_index kinds x))) (past_two x h)
+used_by_kind kinds x h = rw (le-ltb x 2 h) refl
 
 pub dir_by_kind : (kinds : List ℕ) (x : ℕ) → 2 ≤ x →
     is_dir_inode (class_in kinds) x ≡ is_directory (class_of_kind (slice_index kinds x))
-dir_by_kind kinds x h = ap (λ b. b && is_directory (class_of_kind (slice_index kinds x))) (from_two x h)
+dir_by_kind kinds x h = rw (le-leb 2 x h) refl
 
 pub no_dir_below : (kinds : List ℕ) (x : ℕ) → x < 2 → is_dir_inode (class_in kinds) x ≡ false
-no_dir_below kinds x h = ap (λ b. b && is_directory (class_of_kind (slice_index kinds x))) (below_two x h)
+no_dir_below kinds x h = rw (lt-leb 2 x h) refl
 
 pub none_free_below : (kinds : List ℕ) (x : ℕ) → x < 2 → not (is_used_inode (class_in kinds) x) ≡ false
-none_free_below kinds x h = ap (λ b. not (b || is_allocated (class_of_kind (slice_index kinds x)))) (under_two x h)
+none_free_below kinds x h = rw (lt-ltb x 2 h) refl
 
 pub all_bits : (word k : ℕ) → word ≡ 2 ^ 64 - 1 → k < 64 → nat_eq (bit_at word k) 1 ≡ true
-all_bits word k e h = ap (λ w. nat_eq (bit_at w k) 1) e ∙ ap (λ x. nat_eq x 1) (bit_at_ones 64 k h)
+all_bits word k e h = rw (e, bit_at_ones 64 k h) refl

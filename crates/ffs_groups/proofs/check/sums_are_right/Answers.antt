@@ -5,29 +5,21 @@ use Rattle.ffs_groups.specs.Check.{has_bits_of, same_counts, same_frsum_at}
 use Rattle.ffs_groups.proofs.check.sums_are_right.Goals.{then-is_right, else-is_right, then-is_right-2, else-is_right-2}
 use Rattle.ffs_groups.proofs.check.sums_are_right.Goals as goal
 
--- a third test after two that hold, and after one that fails
-third_holds : (a b d v w : Bool) → v ≡ (a && b) → v ≡ true → w ≡ d → w ≡ (a && (b && d))
-third_holds true true d v w e h same = same
-third_holds true false d v w e h same = cc
-third_holds false b d v w e h same = cc
+-- a third and a fourth test, after those before it
+third : (a b d v w : Bool) → v ≡ (a && b) → (v ≡ true → w ≡ d) → (v ≡ false → w ≡ v) → w ≡ (a && (b && d))
+third a b d v w e held failed = grind arith
 
-third_fails : (a b d v w : Bool) → v ≡ (a && b) → v ≡ false → w ≡ v → w ≡ (a && (b && d))
-third_fails true true d v w e h same = cc
-third_fails true false d v w e h same = cc
-third_fails false b d v w e h same = cc
-
--- a fourth test after three that hold, and after one that fails
 fourth_holds : (a b d f v w : Bool) → v ≡ (a && (b && d)) → v ≡ true → w ≡ f → w ≡ (a && (b && (d && f)))
-fourth_holds true true true f v w e h same = same
-fourth_holds true true false f v w e h same = cc
-fourth_holds true false d f v w e h same = cc
-fourth_holds false b d f v w e h same = cc
+fourth_holds a b d f v w e h same = grind arith
 
 fourth_fails : (a b d f v : Bool) → v ≡ (a && (b && d)) → v ≡ false → v ≡ (a && (b && (d && f)))
-fourth_fails true true true f v e h = cc
-fourth_fails true true false f v e h = e
-fourth_fails true false d f v e h = e
-fourth_fails false b d f v e h = e
+fourth_fails a b d f v e h = grind arith
+
+third_holds : (a b d v w : Bool) → v ≡ (a && b) → v ≡ true → w ≡ d → w ≡ (a && (b && d))
+third_holds a b d v w e h same = grind arith
+
+third_fails : (a b d v w : Bool) → v ≡ (a && b) → v ≡ false → w ≡ v → w ≡ (a && (b && d))
+third_fails a b d v w e h same = grind arith
 
 pub returns-then-same_summary : goal.returns-then-same_summary
 returns-then-same_summary c =
