@@ -23,18 +23,14 @@ little_bit (suc n) i xs fits k h =
     ap (λ x. bit_at x k) (next (slice_index xs i) (little_from (suc i) n xs))
     ∙ elim (cases_lt k 8) [
       | inl low ↦
-          let byte : i ≡ i + k / 8 = omega arith in
-          let bit : k ≡ k % 8 = omega arith in
-          bit_at_cat_low (little_from (suc i) n xs) 8 (slice_index xs i) k low
-          ∙ ap (λ j. bit_at (slice_index xs j) k) byte
-          ∙ ap (λ j. bit_at (slice_index xs (i + k / 8)) j) bit
+          let byte : i + k / 8 ≡ i = omega arith in
+          let bit : k % 8 ≡ k = omega arith in
+          rw (byte, bit) (bit_at_cat_low (little_from (suc i) n xs) 8 (slice_index xs i) k low)
       | inr above ↦
-          let byte : suc i + (k - 8) / 8 ≡ i + k / 8 = omega arith in
-          let bit : (k - 8) % 8 ≡ k % 8 = omega arith in
+          let byte : i + k / 8 ≡ suc i + (k - 8) / 8 = omega arith in
+          let bit : k % 8 ≡ (k - 8) % 8 = omega arith in
           bit_at_cat_high (little_from (suc i) n xs) 8 (slice_index xs i) k (omega (arith, fits i)) above
-          ∙ little_bit n (suc i) xs fits (k - 8) (omega arith)
-          ∙ ap (λ j. bit_at (slice_index xs j) ((k - 8) % 8)) byte
-          ∙ ap (λ j. bit_at (slice_index xs (i + k / 8)) j) bit
+          ∙ rw (byte, bit) (little_bit n (suc i) xs fits (k - 8) (omega arith))
     ]
 
 -- the bits of eight bytes of a map
@@ -42,17 +38,9 @@ pub whole_word : (map : List ℕ) (place word : ℕ) → ((j : ℕ) → slice_in
     word ≡ little_from 0 8 (drop place map) →
     (k : ℕ) → k < 64 → nat_eq (bit_at word k) 1 ≡ map_bit map place k
 whole_word map place word fits is k h =
-    ap (λ x. nat_eq (bit_at x k) 1) is
-    ∙ ap (λ x. nat_eq x 1) (little_bit 8 0 (drop place map) (λ j. moved j) k (omega arith))
-    ∙ ap (λ x. nat_eq (bit_at x (k % 8)) 1) (at (k / 8))
-  where
-    at : (j : ℕ) → slice_index (drop place map) (0 + j) ≡ slice_index map (place + j)
-    at j = let same : 0 + j ≡ j = omega arith in ap (λ i. slice_index (drop place map) i) same
-        ∙ get_or-drop place map j 0
-
-    moved : (j : ℕ) → slice_index (drop place map) j < 256
-    moved j = let e : slice_index (drop place map) j ≡ slice_index map (place + j) =
-        get_or-drop place map j 0 in omega (arith, e, fits (place + j))
+    let at : 0 + k / 8 ≡ k / 8 = omega arith in
+    rw (is, little_bit 8 0 (drop place map) (λ j. rw (get_or-drop place map j 0) (fits (place + j))) k (omega arith))
+    (rw at (ap (λ x. nat_eq (bit_at x (k % 8)) 1) (get_or-drop place map (k / 8) 0)))
 
 mod_small : (x : ℕ) → x % 2 ^ 64 < 2 ^ 64
 mod_small x = omega arith
@@ -178,30 +166,20 @@ moved_bit block place word k =
     rw (byte, bit) refl
 
 -- the words before this one are right: then the map up to this word's end is as the word is
-pub word_is : (block : List ℕ) (place n word count found right : ℕ) (bits : ℕ → Bool) → 64 * word < n →
+word_is : (block : List ℕ) (place n word count found right : ℕ) (bits : ℕ → Bool) → 64 * word < n →
     all_below (min (64 * word) n) (λ k. same_bit (map_bit block place k) (bits k)) ≡ true →
     ((k : ℕ) → k < count → nat_eq (bit_at found k) 1 ≡ map_bit block (place + 8 * word) k) →
     ((k : ℕ) → k < count → nat_eq (bit_at right k) 1 ≡ bits (64 * word + k)) →
     all_below (64 * word + count) (λ k. same_bit (map_bit block place k) (bits k))
     ≡ all_below count (λ k. same_bit (nat_eq (bit_at found k) 1) (nat_eq (bit_at right k) 1))
 word_is block place n word count found right bits h before is_found is_right =
-    let low : 64 * word ≡ min (64 * word) n = omega (arith, h) in
+    let low : min (64 * word) n ≡ 64 * word = omega (arith, h) in
+    let right_before = rw low at before in
     all_join (64 * word) count (64 * word + count) (λ k. same_bit (map_bit block place k) (bits k)) refl
-    ∙ ap (λ b. b && all_below count (λ k. same_bit (map_bit block place (64 * word + k)) (bits (64 * word + k))))
-    (ap (λ j. all_below j (λ k. same_bit (map_bit block place k) (bits k))) low ∙ before)
+    ∙ rw right_before refl
     ∙ same_below count (λ k. same_bit (map_bit block place (64 * word + k)) (bits (64 * word + k)))
     (λ k. same_bit (nat_eq (bit_at found k) 1) (nat_eq (bit_at right k) 1))
-    (λ k l. sym (ap (λ b. same_bit b (nat_eq (bit_at right k) 1)) (is_found k l ∙ moved_bit block place word k)
-    ∙ ap (λ b. same_bit (map_bit block place (64 * word + k)) b) (is_right k l)))
-
-pub map_continues : (n word count : ℕ) (test : ℕ → Bool) → count ≡ min (n - 64 * word) 64 → 64 * word < n →
-    all_below (64 * word + count) test ≡ true → all_below (min (64 * (word + 1)) n) test ≡ true
-map_continues n word count test e h now =
-    let at : min (64 * (word + 1)) n ≡ 64 * word + count = omega (arith, e, h) in rw at now
-
-pub map_fails : (n word count : ℕ) (test : ℕ → Bool) → count ≡ min (n - 64 * word) 64 → 64 * word < n →
-    all_below (64 * word + count) test ≡ false → all_below n test ≡ false
-map_fails n word count test e h now = all_fails n (64 * word + count) test (omega (arith, e, h)) now
+    (λ k l. rw (is_found k l, is_right k l, moved_bit block place word k) refl)
 
 pub map_begins : (n : ℕ) (test : ℕ → Bool) → all_below (min 0 n) test ≡ true
 unfolding all_below
@@ -212,7 +190,24 @@ unfolding all_below
 none_below test = refl
 
 pub moved_in : (bits : ℕ → Bool) (first word k : ℕ) → bits (first + 64 * word + k) ≡ bits (first + (64 * word + k))
-moved_in bits first word k = let e : first + 64 * word + k ≡ first + (64 * word + k) = omega arith in ap bits e
+moved_in bits first word k = let at : first + 64 * word + k ≡ first + (64 * word + k) = omega arith in rw at refl
+
+-- where this word is right, the map is right up to its end, and else it isn't
+pub map_word : (block : List ℕ) (place n word count found right : ℕ) (bits : ℕ → Bool) (same : Bool) →
+    64 * word < n → count ≡ min (n - 64 * word) 64 →
+    all_below (min (64 * word) n) (λ k. same_bit (map_bit block place k) (bits k)) ≡ true →
+    ((k : ℕ) → k < count → nat_eq (bit_at found k) 1 ≡ map_bit block (place + 8 * word) k) →
+    ((k : ℕ) → k < count → nat_eq (bit_at right k) 1 ≡ bits (64 * word + k)) →
+    same ≡ all_below count (λ k. same_bit (nat_eq (bit_at found k) 1) (nat_eq (bit_at right k) 1)) →
+    (same ≡ true → all_below (min (64 * (word + 1)) n) (λ k. same_bit (map_bit block place k) (bits k)) ≡ true)
+    × (same ≡ false → all_below n (λ k. same_bit (map_bit block place k) (bits k)) ≡ false)
+map_word block place n word count found right bits same low many before is_found is_right is =
+    let up = word_is block place n word count found right bits low before is_found is_right ∙ sym is in
+    let end : min (64 * (word + 1)) n ≡ 64 * word + count = omega (arith, many, low) in (
+      (λ e. rw end (up ∙ e)),
+      (λ e. all_fails n (64 * word + count) (λ k. same_bit (map_bit block place k) (bits k)) (omega (arith, many, low))
+          (up ∙ e)),
+    )
 
 -- a map, by its whole words and the bits after them
 pub map_parts : (block : List ℕ) (place words count n at first : ℕ) (bits : ℕ → Bool) → n ≡ 64 * words + count →
@@ -225,6 +220,4 @@ map_parts block place words count n at first bits e is =
     ∙ ap (λ b. all_below (64 * words) (λ k. same_bit (map_bit block place k) (bits (first + k))) && b)
     (same_below count (λ k. same_bit (map_bit block place (64 * words + k)) (bits (first + (64 * words + k))))
     (λ k. same_bit (map_bit block at k) (bits (first + 64 * words + k)))
-    (λ k l. ap (λ b. same_bit b (bits (first + (64 * words + k))))
-    (sym (moved_bit block place words k) ∙ ap (λ j. map_bit block j k) (sym is))
-    ∙ ap (λ b. same_bit (map_bit block at k) b) (sym (moved_in bits first words k))))
+    (λ k l. rw (is, moved_bit block place words k, moved_in bits first words k) refl))
