@@ -13,15 +13,19 @@ use Rattle.ffs_maps.proofs.Bits.{length_bits, get_bits, bit_in, bits_are}
 use Rattle.ffs_maps.proofs.WordShifts.{max_zero, min_zero, zero_min}
 
 -- the mask that the code computes
-pub mask_is : (len low : ℕ) → low + len ≤ 64 → (2 ^ 64 - 1) / 2 ^ (64 - len) * 2 ^ low % 2 ^ 64
-    ≡ 2 ^ (low + len) - 2 ^ low
-mask_is len low h =
+abbrev pub mask_of : ℕ → ℕ → ℕ
+mask_of start len = (2 ^ 64 - 1) / 2 ^ (64 - len) * 2 ^ (start % 64) % 2 ^ 64
+
+mask_is : (start len : ℕ) → start % 64 + len ≤ 64 → mask_of start len ≡ 2 ^ (start % 64 + len) - 2 ^ (start % 64)
+mask_is start len h =
     let twice : 64 - (64 - len) ≡ len = omega arith in
     let some : 1 ≤ 2 ^ len = one-le-pow len 2 (omega arith) in
-    let below : (2 ^ len - 1) * 2 ^ low < 2 ^ (len + low) = shl_below (2 ^ len - 1) len low (omega arith) in
-    let fits : 2 ^ (len + low) ≤ 2 ^ 64 = pow-le-pow_right (omega arith) {i = len + low} {j = 64} (omega arith) in
-    rw (ones_shr 64 (64 - len) (omega arith), twice) (shifted (2 ^ len - 1) (2 ^ low) (2 ^ len) _ (omega arith)
-    (pow-add 2 low len) (omega (arith, below, fits)))
+    let below : (2 ^ len - 1) * 2 ^ (start % 64) < 2 ^ (len + start % 64) =
+    shl_below (2 ^ len - 1) len (start % 64) (omega arith) in
+    let fits : 2 ^ (len + start % 64) ≤ 2 ^ 64 =
+    pow-le-pow_right (omega arith) {i = len + start % 64} {j = 64} (omega arith) in
+    rw (ones_shr 64 (64 - len) (omega arith), twice) (shifted (2 ^ len - 1) (2 ^ (start % 64)) (2 ^ len) _ (omega arith)
+    (pow-add 2 (start % 64) len) (omega (arith, below, fits)))
   where
     shifted : (x b a ab : ℕ) → x + 1 ≡ a → ab ≡ b * a → x * b < 2 ^ 64 → x * b % 2 ^ 64 ≡ ab - b
     shifted x b a ab more e fits = let all : ab ≡ b * (x + 1) = rw more e in omega (arith, all, fits)
@@ -49,10 +53,9 @@ run_inside bits start (suc len) f d a b h = elim (cases_eq f start) [
 ]
 
 pub clear_run : (words : List ℕ) (size start len : ℕ) → start % 64 + len ≤ 64 → start + len ≤ size →
-    bit_and (get_or words (start / 64) 0) (2 ^ (start % 64 + len) - 2 ^ (start % 64)) ≡ 0 →
-    AreClear (bits_of_words words size) start len
+    bit_and (get_or words (start / 64) 0) (mask_of start len) ≡ 0 → AreClear (bits_of_words words size) start len
 clear_run words size start len h below e = λ k low.
-    let none = ap (λ x. bit_at x (start % 64 + k)) e in
+    let none = ap (λ x. bit_at x (start % 64 + k)) (rw (mask_is start len h) at e) in
     let clear : bit_at (get_or words (start / 64) 0) (start % 64 + k) ≡ 0 = omega (
       arith,
       bit_at_and (get_or words (start / 64) 0) (2 ^ (start % 64 + len) - 2 ^ (start % 64)) (start % 64 + k),
@@ -65,26 +68,23 @@ clear_run words size start len h below e = λ k low.
 
 -- a run of clear bits has none in common with its mask
 pub run_clear : (words : List ℕ) (size start len : ℕ) → start % 64 + len ≤ 64 → start + len ≤ size →
-    AreClear (bits_of_words words size) start len →
-    bit_and (get_or words (start / 64) 0) (2 ^ (start % 64 + len) - 2 ^ (start % 64)) ≡ 0
-run_clear words size start len h below clear =
-    same_from_bits _ 0 (λ i. bit_at_and _ (2 ^ (start % 64 + len) - 2 ^ (start % 64)) i ∙ at i ∙ sym (bit_at-zero i))
+    AreClear (bits_of_words words size) start len → bit_and (get_or words (start / 64) 0) (mask_of start len) ≡ 0
+run_clear words size start len h below clear = rw (mask_is start len h)
+    (same_from_bits _ 0 (λ i. bit_at_and _ (2 ^ (start % 64 + len) - 2 ^ (start % 64)) i ∙ at i ∙ sym (bit_at-zero i)))
   where
-    inside : (k : ℕ) → k < len → bit_at (get_or words (start / 64) 0) (start % 64 + k) ≡ 0
-    inside k low =
-        let none : nat_eq (bit_at (get_or words (start / 64) 0) (start % 64 + k)) 1 ≡ false =
-        sym (bit_in words size (start + k) (start / 64) (start % 64 + k) _ (omega arith) (omega arith) (omega arith) refl)
-        ∙ clear k low in
-        omega (arith, bit_at-lt (get_or words (start / 64) 0) (start % 64 + k), eqb-false _ 1 none)
+    inside : (i : ℕ) → start % 64 ≤ i → i < start % 64 + len → bit_at (get_or words (start / 64) 0) i ≡ 0
+    inside i a b =
+        let none : nat_eq (bit_at (get_or words (start / 64) 0) i) 1 ≡ false =
+        sym (bit_in words size (start + (i - start % 64)) (start / 64) i _ (omega arith) (omega arith) (omega arith) refl)
+        ∙ clear (i - start % 64) (omega arith) in
+        omega (arith, bit_at-lt (get_or words (start / 64) 0) i, eqb-false _ 1 none)
 
     at : (i : ℕ) → min (bit_at (get_or words (start / 64) 0) i) (bit_at (2 ^ (start % 64 + len) - 2 ^ (start % 64)) i)
         ≡ 0
     at i = elim (cases_lt i (start % 64)) [
       | inl low ↦ min_zero _ _ (bit_at_mask_below (start % 64) (start % 64 + len) i low)
       | inr past ↦ elim (cases_lt i (start % 64 + len)) [
-        | inl within ↦
-            let k : start % 64 + (i - start % 64) ≡ i = omega arith in
-            zero_min _ _ (rw k at (inside (i - start % 64) (omega arith)))
+        | inl within ↦ zero_min _ _ (inside i past within)
         | inr above ↦ min_zero _ _ (bit_at_mask_above (start % 64) (start % 64 + len) i above)
       ]
     ]
@@ -122,10 +122,11 @@ put_run words size start len v h below inside here other =
 
 pub mark_run : (words : List ℕ) (size start len w : ℕ) → start % 64 + len ≤ 64 → start + len ≤ size → 0 < len →
     start / 64 < length words → w ≡ get_or words (start / 64) 0 →
-    bits_of_words (slice_set words (start / 64) (bit_or w (2 ^ (start % 64 + len) - 2 ^ (start % 64)))) size
+    bits_of_words (slice_set words (start / 64) (bit_or w (mask_of start len))) size
     ≡ set_run (bits_of_words words size) start len
 mark_run words size start len w h below some inside is_w =
-    put_run words size start len (bit_or w (2 ^ (start % 64 + len) - 2 ^ (start % 64))) h below inside
+    rw (mask_is start len h)
+    (put_run words size start len (bit_or w (2 ^ (start % 64 + len) - 2 ^ (start % 64))) h below inside
     (λ i a b.
     let one : bit_at (bit_or w (2 ^ (start % 64 + len) - 2 ^ (start % 64))) i ≡ 1 = omega (
       arith,
@@ -137,4 +138,4 @@ mark_run words size start len w h below some inside is_w =
     (λ i apart. bit_at_or w (2 ^ (start % 64 + len) - 2 ^ (start % 64)) i ∙ max_zero _ _ (elim apart [
       | inl a ↦ bit_at_mask_below (start % 64) (start % 64 + len) i a
       | inr b ↦ bit_at_mask_above (start % 64) (start % 64 + len) i b
-    ]) ∙ ap (λ x. bit_at x i) is_w)
+    ]) ∙ ap (λ x. bit_at x i) is_w))
