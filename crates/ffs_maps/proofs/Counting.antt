@@ -1,7 +1,7 @@
 -- How many bits of a run are set.
-use Rattle.std.proofs.Common.{◌≡◌, ◌⊎◌, inl, inr, ℕ, zero, suc, ◌+◌, ◌-◌, ◌*◌, ◌/◌, ◌%◌, ◌^◌, ◌<◌, ◌≤◌, Bool, false}
-use Rattle.std.proofs.Common.{List, length, cond, map, get_or, bit_and, count_ones, count_by, arith, refl, ap, ◌∙◌, sym}
-use Rattle.std.proofs.Common.{take, drop, add-zero}
+use Rattle.std.proofs.Common.{◌≡◌, inl, inr, ℕ, zero, suc, ◌+◌, ◌-◌, ◌*◌, ◌/◌, ◌%◌, ◌^◌, ◌<◌, ◌≤◌, Bool, false, List}
+use Rattle.std.proofs.Common.{length, cond, map, get_or, bit_and, count_ones, count_by, arith, refl, ap, ◌∙◌, sym, take}
+use Rattle.std.proofs.Common.{drop, add-zero, min}
 use Rattle.std.specs.List.{range_with_len, sum_by, slice_index_or, All}
 use Rattle.std.proofs.lemmas.List.{get_or_past, get_or-drop, get_or-take, length-drop, length-take-le}
 use Rattle.std.proofs.lemmas.List.Sums.{sum_by-cons, count_by-le-length}
@@ -139,35 +139,25 @@ pub alike_touched : (words touched : List ℕ) (size first end : ℕ) → 64 * e
     (end - first) * count_ones (get_or touched first 0)
     ≡ set_among (bits_of_words words size) (64 * first) (64 * end - 64 * first)
 alike_touched words touched size first end below order inside fits same alike =
-    let long : 64 * (end - first) ≡ 64 * end - 64 * first = omega arith in
-    let len : length (take (end - first) (drop first touched)) ≡ end - first = omega (
-      arith,
-      length-take-le (end - first) (drop first touched)
-          (omega (arith, length-drop first touched, inside, order)),
-    ) in
-    alike_words words size first (end - first) (get_or touched first 0) fits (omega (arith, below, order))
+    let long : 64 * end - 64 * first ≡ 64 * (end - first) = omega arith in
+    let len = length-take-le (end - first) (drop first touched)
+    (omega (arith, length-drop first touched, inside, order)) in
+    rw long (alike_words words size first (end - first) (get_or touched first 0) fits (omega (arith, below, order))
     (λ k h. same (first + k) ∙ sym (get_or-drop first touched k 0)
     ∙ sym (get_or-take (end - first) (drop first touched) k 0 h)
     ∙ All-get_or (λ w. w ≡ get_or touched first 0) (take (end - first) (drop first touched)) k 0
-    (omega (arith, h, len)) alike)
-    ∙ ap (λ n. set_among (bits_of_words words size) (64 * first) n) long
+    (omega (arith, h, len)) alike))
 
 -- the words from one on that are counted, where all after them are 0
 pub count_ends : (words touched : List ℕ) (size first index last count : ℕ) → first ≤ index → 64 * last ≤ size →
-    ((k : ℕ) → get_or words k 0 ≡ get_or touched k 0) →
-    ((last ≤ index) × (index ≤ last)) ⊎ ((length touched ≤ index) × (index ≤ last)) →
+    ((k : ℕ) → get_or words k 0 ≡ get_or touched k 0) → index ≤ last → min (length touched) last ≤ index →
     count ≡ set_among (bits_of_words words size) (64 * first) (64 * index - 64 * first) →
     count ≡ set_among (bits_of_words words size) (64 * first) (64 * last - 64 * first)
-count_ends words touched size first index last count from_ below same ends is = elim ends [
-  | inl e ↦
-      let at : index ≡ last = omega (arith, e.0, e.1) in
-      is ∙ ap (λ j. set_among (bits_of_words words size) (64 * first) (64 * j - 64 * first)) at
-  | inr e ↦
-      let more : count + 0 ≡ set_among (bits_of_words words size) (64 * first) (64 * last - 64 * first) =
-      count_join_at (λ f. slice_index_or (bits_of_words words size) f false) (64 * first) (64 * index) (64 * last)
-      (64 * last - 64 * index) count 0 (omega (arith, from_)) (omega (arith, e.1)) is
-      (sym (none_in_zeros words size (64 * index) (64 * last - 64 * index) (omega (arith, below, e.1))
-      (λ k h. same ((64 * index + k) / 64)
-      ∙ get_or_past touched ((64 * index + k) / 64) 0 (omega (arith, e.0))))) in
-      omega (arith, more)
-]
+count_ends words touched size first index last count from_ below same within ends is =
+    let rest = none_in_zeros words size (64 * index) (64 * last - 64 * index) (omega (arith, below, within))
+    (λ k h. same ((64 * index + k) / 64) ∙ get_or_past touched ((64 * index + k) / 64) 0 (omega (arith, ends, h))) in
+    omega (
+      arith,
+      count_join_at (λ f. slice_index_or (bits_of_words words size) f false) (64 * first) (64 * index)
+          (64 * last) (64 * last - 64 * index) count 0 (omega (arith, from_)) (omega (arith, within)) is (sym rest),
+    )

@@ -24,8 +24,7 @@ pub none_among : (bits : List Bool) (start len : ℕ) → AreClear bits start le
 none_among bits start len clear = none_counted (λ f. slice_index_or bits f false) start len clear
 
 one_among : (bits : List Bool) (k : ℕ) → set_among bits k 1 ≡ cond (get_or bits k false) 1 0
-one_among bits k =
-    omega (arith, sum_by-cons (is_one bits) k (range_with_len (k + 1) 0))
+one_among bits k = omega (arith, sum_by-cons (is_one bits) k (range_with_len (k + 1) 0))
 
 -- the parts before a run, of the run, and after it
 in_parts : (bits : List Bool) (size start len : ℕ) → start + len ≤ size →
@@ -63,15 +62,14 @@ pub one_set : (bits : List Bool) (size k : ℕ) (b : Bool) → length bits ≡ s
     set_among (slice_set bits k b) 0 size + cond (get_or bits k false) 1 0 ≡ set_among bits 0 size + cond b 1 0
 one_set bits size k b is h =
     let here : is_one (slice_set bits k b) k ≡ cond b 1 0 =
-    ap (λ x. cond x 1 0) (get_or-set_same bits k b false (omega (arith, is, h))) in
+    rw (get_or-set_same bits k b false (omega (arith, is, h))) refl in
     omega (
       arith,
       here,
       one_among bits k,
       one_among (slice_set bits k b) k,
       changed bits (slice_set bits k b) size k 1 (omega (arith, h))
-          (λ f apart. get_or-set_other bits k f b false
-          (elim apart [ inl a ↦ (λ e. omega arith) | inr c ↦ (λ e. omega arith) ])),
+          (λ f apart. get_or-set_other bits k f b false (λ e. elim apart [ inl a ↦ omega arith | inr c ↦ omega arith ])),
     )
 
 -- what a test is as a number
@@ -97,8 +95,7 @@ pub lowered : (bits : List Bool) (size k ones n : ℕ) (was : Bool) → length b
     ones ≡ set_among bits 0 size → was ≡ get_or bits k false → n ≡ bool_byte was →
     set_among (slice_set bits k false) 0 size + n ≡ ones
 lowered bits size k ones n was is h counted read less =
-    let one : n ≡ cond (get_or bits k false) 1 0 = one_if was n less ∙ ap (λ b. cond b 1 0) read in
-    omega (arith, one_set bits size k false is h, counted, one)
+    let one = rw read at (one_if was n less) in omega (arith, one_set bits size k false is h, counted, one)
 
 -- where the bits of a run are set, of which some were
 pub run_raised : (bits : List Bool) (size start len ones n : ℕ) → length bits ≡ size → start + len ≤ size →
