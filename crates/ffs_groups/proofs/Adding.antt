@@ -4,15 +4,14 @@ use Rattle.std.proofs.Common.{arith, refl, ap, ◌∙◌, sym, count_by, nat_eq,
 use Rattle.std.proofs.Common.{◌*◌, ◌%◌, map, slice_index, ◌&&◌}
 use Rattle.std.proofs.lemmas.List.Sums.{sum_by-cons, sum_by-append, count_by-le-length}
 use Rattle.std.proofs.lemmas.Nat.{mul-add-lt, mul-le, div-add-mod'}
-use Rattle.std.proofs.lemmas.Nat.Bits.{shr_and_one}
-use Rattle.std.specs.List.{range_with_len, sum_by}
+use Rattle.std.{proofs.lemmas.Nat.Bits.shr_and_one, specs.List.range_with_len, specs.List.sum_by}
 use Rattle.std.{proofs.lemmas.List.FromFn.length-map-range_with_len, specs.Int.bit_at, proofs.lemmas.Bool.ne_eqb}
 use Rattle.ffs_volume.specs.Groups.Records.{free_stretches, stretch_of, has_bits, is_free_block}
 use Rattle.ffs_maps.specs.Bits.{is_clear}
-use Rattle.ffs_maps.proofs.{WordShifts.bit_shr, Counting.sum_split, Bits.zeros_at}
+use Rattle.ffs_maps.proofs.{WordShifts.bit_shr, Counting.sum_split, Counting.sum_same, Bits.zeros_at}
 use Rattle.ffs_groups.specs.{declared.free.FreeCounts.FreeCounts}
 use Rattle.ffs_groups.specs.Free.{word_bits, whole_in, loose_in, stretches_in, AreBelow, Added, free_in}
-use Rattle.ffs_groups.proofs.{Sums.sum_more, Sums.sum_same, Sums.sum_within, Sums.map_same, MapWords.map_parts}
+use Rattle.ffs_groups.proofs.{Sums.sum_more, Sums.sum_within, Sums.map_same, MapWords.map_parts}
 
 stretch_len : (n : ℕ) → length (stretch_of n) ≤ min n 1
 stretch_len zero = omega arith

@@ -6,15 +6,15 @@ use Rattle.std.proofs.lemmas.Nat.Bits.{bit_at_and, bit_at-lt, bit_at_ones, bit_a
 use Rattle.std.proofs.lemmas.Nat.Bits.{bit_at-zero, ones_shr}
 use Rattle.std.proofs.lemmas.Nat.{mul-add-lt, mul-le, div-add-mod'}
 use Rattle.std.proofs.lemmas.Bool.{cases_lt, false_from_ne_true, eqb-true, and_parts, le-ltb}
-use Rattle.std.{specs.List.range_with_len, specs.List.list_all, specs.List.sum_by, specs.Int.bit_at, specs.Int.div_ceil}
-use Rattle.std.{proofs.lemmas.Grind.div_ceil_times, proofs.lemmas.List.Sums.sum_by-cons}
+use Rattle.std.specs.List.{range_with_len, list_all, sum_by}
+use Rattle.std.{specs.Int.bit_at, specs.Int.div_ceil, proofs.lemmas.Grind.div_ceil_times}
 use Rattle.ffs_volume.specs.Groups.Records.{is_free_block, free_stretches, block_bits, right_frsum, group_size}
 use Rattle.ffs_volume.specs.{declared.Layout.Layout, Disk.Areas.cgbase}
 use Rattle.ffs_maps.proofs.WordShifts.{min_one, one_bit, small, bit_shr}
-use Rattle.ffs_maps.proofs.Counting.{sum_split, ones_by}
+use Rattle.ffs_maps.proofs.Counting.{sum_split, ones_by, one_on, sum_same}
 use Rattle.ffs_groups.specs.{declared.free.FreeCounts.FreeCounts}
 use Rattle.ffs_groups.specs.Free.{word_bits, whole_in, loose_in, stretches_in, Added, AreFree, free_in}
-use Rattle.ffs_groups.proofs.Sums.{sum_same, one_on}
+pub use Rattle.ffs_maps.proofs.Counting.{sum_const}
 
 -- ---- fragments in a row that are all free, or of which none is
 map_const : (f : ℕ → Bool) (x : Bool) (a n : ℕ) → ((k : ℕ) → k < n → f (a + k) ≡ x) →
@@ -106,14 +106,6 @@ none_by_mask bits n few some e =
       bit_at-zero k,
     ) in
     rw (at, clear) refl)
-
--- ---- a sum of equal numbers
-pub sum_const : (f : ℕ → ℕ) (m a n : ℕ) → ((k : ℕ) → k < n → f (a + k) ≡ m) → sum_by f (range_with_len a n) ≡ n * m
-sum_const f m a zero e = omega arith
-sum_const f m a (suc n) e =
-    let first : f a ≡ m = rw (add-zero a) at (e 0 (omega arith)) in
-    let rest = sum_const f m (a + 1) n (λ k h. rw (one_on a k) (e (k + 1) (omega arith))) in
-    omega (arith, rest, first, sum_by-cons f a (range_with_len (a + 1) n))
 
 sum_all : (f : ℕ → ℕ) (m n : ℕ) → ((k : ℕ) → k < n → f k ≡ m) → sum_by f (range_with_len 0 n) ≡ n * m
 sum_all f m n e = sum_const f m 0 n (λ k h. let at : 0 + k ≡ k = omega arith in rw at (e k h))

@@ -7,23 +7,11 @@ use Rattle.std.{specs.List.range_with_len, specs.List.sum_by, proofs.lemmas.List
 use Rattle.std.{proofs.lemmas.Nat.mul-add-lt, specs.Int.bit_at, proofs.lemmas.Nat.Bits.bit_at_ones}
 use Rattle.ffs_volume.specs.Blocks.{Claims.is_set, Inodes.is_allocated, Inodes.is_directory}
 use Rattle.ffs_volume.specs.{Encodings.Kinds.class_of_kind, Groups.Records.is_used_inode, Groups.Records.is_dir_inode}
-use Rattle.ffs_maps.proofs.Counting.{sum_split, count_within, none_counted}
+use Rattle.ffs_maps.proofs.Counting.{sum_split, count_within, none_counted, one_on}
 use Rattle.ffs_groups.specs.{Free.free_in, Free.bits_from, Inodes.class_in}
 
 pub sum_more : (f : ℕ → ℕ) (a n : ℕ) → sum_by f (range_with_len a (n + 1)) ≡ sum_by f (range_with_len a n) + f (a + n)
 sum_more f a n = omega (arith, sum_split f a n 1 (n + 1) refl, sum_by-cons f (a + n) [])
-
--- the place of the next number
-pub one_on : (a k : ℕ) → a + 1 + k ≡ a + (k + 1)
-one_on a k = omega arith
-
-pub sum_same : (f g : ℕ → ℕ) (a c n : ℕ) → ((k : ℕ) → k < n → f (a + k) ≡ g (c + k)) →
-    sum_by f (range_with_len a n) ≡ sum_by g (range_with_len c n)
-sum_same f g a c zero e = refl
-sum_same f g a c (suc n) e =
-    let first : f a ≡ g c = rw (add-zero a, add-zero c) at (e 0 (omega arith)) in
-    let rest = sum_same f g (a + 1) (c + 1) n (λ k h. rw (one_on a k, one_on c k) (e (k + 1) (omega arith))) in
-    omega (arith, rest, first, sum_by-cons f a (range_with_len (a + 1) n), sum_by-cons g c (range_with_len (c + 1) n))
 
 pub sum_within : (f : ℕ → ℕ) (m a n : ℕ) → ((k : ℕ) → f k ≤ m) → sum_by f (range_with_len a n) ≤ n * m
 sum_within f m a zero e = omega arith
