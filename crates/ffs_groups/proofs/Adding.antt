@@ -68,12 +68,6 @@ bit_set word k e = let b : bit_at word k ≡ 1 = sym (shr_and_one word k) ∙ e 
 pub bit_clear : (word k : ℕ) → (bit_and (word / 2 ^ k) 1 ≡ 1 → ⊥) → nat_eq (bit_at word k) 1 ≡ false
 bit_clear word k apart = ne_eqb (bit_at word k) 1 (λ e. apart (shr_and_one word k ∙ e))
 
-pub keep_low : (now rest old all : ℕ) → now + rest ≡ old + all → all ≤ 8 → old < 2 ^ 63 → now < 2 ^ 64 - 1
-keep_low now rest old all e few low = omega arith
-
-pub one_more_fits : (now rest old all : ℕ) → now + (1 + rest) ≡ old + all → all ≤ 8 → old < 2 ^ 63 → now + 1 < 2 ^ 64
-one_more_fits now rest old all e few low = omega arith
-
 from_zero : (f : ℕ → ℕ) (n m : ℕ) → sum_by f (range_with_len 0 (n + m))
     ≡ sum_by f (range_with_len 0 n) + sum_by f (range_with_len n m)
 from_zero f n m = let at : 0 + n ≡ n = omega arith in rw at at (sum_split f 0 n m (n + m) refl)
@@ -95,10 +89,9 @@ joined_sums : (f : List Bool → ℕ) (bits other : ℕ → List Bool) (n m : �
     sum_by (λ b. f (bits b)) (range_with_len 0 (n + m)) ≡ sum_by (λ b. f (bits b)) (range_with_len 0 n) + sum_by
     (λ b. f (other b)) (range_with_len 0 m)
 joined_sums f bits other n m same =
-    from_zero (λ b. f (bits b)) n m
-    ∙ ap (λ x. sum_by (λ b. f (bits b)) (range_with_len 0 n) + x)
-    (sum_same (λ b. f (bits b)) (λ b. f (other b)) n 0 m
-    (λ k h. let at : 0 + k ≡ k = omega arith in sym (ap (λ j. f (other j)) at ∙ ap f (same k h))))
+    let last = sum_same (λ b. f (bits b)) (λ b. f (other b)) n 0 m
+    (λ k h. let at : 0 + k ≡ k = omega arith in rw (at, same k h) refl) in
+    omega (arith, last, from_zero (λ b. f (bits b)) n m)
 
 -- the blocks of a word more
 pub added_join : (bits other : ℕ → List Bool) (n m : ℕ) (old mid new : FreeCounts) → Added bits 0 n old mid →
@@ -152,12 +145,8 @@ pub word_block : (free : ℕ → Bool) (word start frag block k some : ℕ) →
 word_block free word start frag block k some has low fits =
     map_same (λ j. nat_eq (bit_at (word / 2 ^ (k * frag)) j) 1) free 0 (start + (block + k) * frag) frag (λ j h.
     let at : 0 + j ≡ j = omega arith in
-    let inside : j + k * frag < 64 = omega (arith, mul-add-lt k frag j some low h) in
-    let place : start + block * frag + (j + k * frag) ≡ start + (block + k) * frag + j = omega arith in
-    ap (λ i. nat_eq (bit_at (word / 2 ^ (k * frag)) i) 1) at
-    ∙ ap (λ x. nat_eq x 1) (bit_shr word (k * frag) j)
-    ∙ has (j + k * frag) inside
-    ∙ ap free place)
+    let place : start + (block + k) * frag + j ≡ start + block * frag + (j + k * frag) = omega arith in
+    rw (at, place, bit_shr word (k * frag) j) (has (j + k * frag) (omega (arith, mul-add-lt k frag j some low h))))
 
 pub no_stretches : (k : ℕ) → slice_index (0 ∷ 0 ∷ 0 ∷ 0 ∷ 0 ∷ 0 ∷ 0 ∷ 0 ∷ 0 ∷ []) k ≡ 0
 no_stretches k = zeros_at 9 k
@@ -193,10 +182,5 @@ pub fragment_map : (used : List Bool) (size size' : ℕ) (block : List ℕ) (pla
     (first && end) ≡ has_bits block place n' (λ k. free_in used size' (base' + k))
 fragment_map used size size' block place n n' base base' last at first end sizes fragments bases is_last is_at is_first
     is_end =
-    ap (λ b. b && end) is_first
-    ∙ ap (λ b. has_bits block place (64 * (n / 64)) (λ k. free_in used size (base + k)) && b)
-    (is_end ∙ ap (λ j. has_bits block at (n % 64) (λ k. free_in used size (j + k))) is_last)
-    ∙ sym (map_parts block place (n / 64) (n % 64) n at base (free_in used size) (omega arith) is_at)
-    ∙ ap (λ j. has_bits block place j (λ k. free_in used size (base + k))) fragments
-    ∙ ap (λ s. has_bits block place n' (λ k. free_in used s (base + k))) sizes
-    ∙ ap (λ j. has_bits block place n' (λ k. free_in used size' (j + k))) bases
+    rw (is_first, is_end, is_last, ← sizes, ← fragments, ← bases)
+    (sym (map_parts block place (n / 64) (n % 64) n at base (free_in used size) (omega arith) is_at))

@@ -4,10 +4,9 @@ use Rattle.std.proofs.Common.{map, refl, ◌∙◌, ◌&&◌, pos}
 use Rattle.std.proofs.lemmas.List.FromFn.{get_or-map-range_with_len}
 use Rattle.std.{specs.Int.w32, proofs.lemmas.Int.of_z-to_z, proofs.lemmas.List.get_or-drop, specs.List.range_with_len}
 use Rattle.ffs_volume.specs.declared.Order.TheVariants.{Little, Big}
-use Rattle.ffs_volume.specs.Groups.Records.{GroupCounts, has_counts, right_group_counts, right_frsum, group_size}
-use Rattle.ffs_volume.specs.{declared.Order.Order, declared.Layout.Layout, declared.Class.Class}
-use Rattle.ffs_volume.specs.{Groups.Records.has_right_sums, Disk.Numbers.i32_at, Disk.Numbers.u32_at}
-use Rattle.ffs_volume.specs.{Disk.Numbers.number, Disk.Numbers.all_below}
+use Rattle.ffs_volume.specs.Groups.Records.{has_counts, right_group_counts, right_frsum, group_size, has_right_sums}
+use Rattle.ffs_volume.specs.{declared.Order.Order, declared.Layout.Layout, declared.Class.Class, Disk.Numbers.i32_at}
+use Rattle.ffs_volume.specs.{Disk.Numbers.u32_at, Disk.Numbers.number, Disk.Numbers.all_below}
 use Rattle.ffs_layout.specs.Group.{group_summary_at}
 use Rattle.ffs_groups.specs.declared.counts.SummaryCounts.{SummaryCounts}
 use Rattle.ffs_groups.specs.declared.{counts.Counts.Counts, free.FreeCounts.FreeCounts, inodes.InodeCounts.InodeCounts}
@@ -65,21 +64,14 @@ pub sums_as : (v : Layout) (free : ℕ → Bool) (class : ℕ → Class) (c : �
     && all_below 8 (λ k. same_frsum_at (map (λ j. i32_at v.order (52 + 4 * j) block) (range_with_len 0 8)) counts.frsum k))))
     ≡ has_right_sums v free class c block
 unfolding has_right_sums
-sums_as v free class c block counts h right =
-    all_four _ _ _ _ _ _ _ _ (bits_are v.order 12 block c h) (bits_are v.order 20 block (group_size v c) h)
-    (summary_as v 24 block counts.summary h ∙ ap (has_counts v 24 block) right.summary)
-    (same_below 8 (λ k. same_frsum_at (map (λ j. i32_at v.order (52 + 4 * j) block) (range_with_len 0 8)) counts.frsum k)
-    (λ k. u32_at v.order (52 + 4 * k) block == right_frsum v free c k)
-    (λ k l. stretch_as v block counts.frsum k h l ∙ ap (λ x. u32_at v.order (52 + 4 * k) block == x) (right.frsum k)))
-  where
-    all_four : (a b c d a' b' c' d' : Bool) → a ≡ a' → b ≡ b' → c ≡ c' → d ≡ d' →
-        (a && (b && (c && d))) ≡ (a' && (b' && (c' && d')))
-    all_four a b c d a' b' c' d' p q r s = rw (p, q, r, s) refl
-
-same_summary_of : (a b i f a' b' i' f' : ℕ) → a ≡ a' → b ≡ b' → i ≡ i' → f ≡ f' →
-    Path GroupCounts (record { dirs = a; blocks = b; inodes = i; fragments = f })
-    (record { dirs = a'; blocks = b'; inodes = i'; fragments = f' })
-same_summary_of a b i f a' b' i' f' p q r s = rw (p, q, r, s) refl
+sums_as v free class c block counts h right = rw (
+  bits_are v.order 12 block c h,
+  bits_are v.order 20 block (group_size v c) h,
+  summary_as v 24 block counts.summary h ∙ ap (has_counts v 24 block) right.summary,
+  same_below 8 (λ k. same_frsum_at (map (λ j. i32_at v.order (52 + 4 * j) block) (range_with_len 0 8)) counts.frsum k)
+      (λ k. u32_at v.order (52 + 4 * k) block == right_frsum v free c k)
+      (λ k l. stretch_as v block counts.frsum k h l ∙ ap (λ x. u32_at v.order (52 + 4 * k) block == x) (right.frsum k)),
+) refl
 
 -- counts of fragments and of inodes are the counts of a group
 pub are_counts : (v : Layout) (free : ℕ → Bool) (class : ℕ → Class) (c : ℕ) (f : FreeCounts) (i : InodeCounts) →
@@ -89,7 +81,4 @@ pub are_counts : (v : Layout) (free : ℕ → Bool) (class : ℕ → Class) (c :
       frsum = f.frsum;
     })
 unfolding right_group_counts
-are_counts v free class c f i fragments inodes = record {
-  summary = same_summary_of _ _ _ _ _ _ _ _ inodes.dirs fragments.blocks inodes.free fragments.fragments;
-  frsum = fragments.frsum;
-}
+are_counts v free class c f i fragments inodes = record { summary = cc; frsum = fragments.frsum }

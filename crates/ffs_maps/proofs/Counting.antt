@@ -14,7 +14,6 @@ use lib.Lanes.{mask_l}
 use Rattle.ffs_maps.specs.WordBits.{bits_of_words, set_among}
 use Rattle.ffs_maps.proofs.{Bits.get_bits, Bits.bit_in, WordShifts.bit_shr, WordShifts.min_one, WordShifts.one_bit}
 
--- a count over a run, in two parts
 -- the place of the next number
 pub one_on : (a k : ℕ) → a + 1 + k ≡ a + (k + 1)
 one_on a k = omega arith
