@@ -10,13 +10,14 @@ use Rattle.ffs_volume.specs.Consistent.{BlocksRight.BlocksRight, Volume.AreSetti
 use Rattle.ffs_volume.specs.Groups.Records.{AreGroupsRight}
 use Rattle.ffs_volume.specs.Groups.GroupCheck.{phase5_lines, is_free_of_kept, is_free_of_runs}
 use Rattle.ffs_volume.specs.Messages.Kinds.{Message, TreeMessage, optimization, minfree, phase1b, of_blocks, of_tree}
-use Rattle.ffs_volume.specs.{Disk.Superblock.Superblock, Laws.Geometry.IsAcceptedLayout, Blocks.Owners.owners_of}
-use Rattle.ffs_volume.specs.{Blocks.Inodes.is_directory, Messages.Kinds.is_defect, Messages.Kinds.has_defect}
-use Rattle.ffs_volume.specs.{Messages.Kinds.unless}
+use Rattle.ffs_volume.specs.{Blocks.Owners.owners_of, Blocks.Inodes.is_directory, Messages.Kinds.is_defect}
+use Rattle.ffs_volume.specs.{Messages.Kinds.has_defect, Messages.Kinds.unless, Disk.Superblock.Superblock}
+use Rattle.ffs_volume.specs.{Laws.Geometry.IsAcceptedLayout}
 use Rattle.ffs_volume.specs.Report.Opening.{has_valid_optim, has_valid_minfree, setting_lines, super_lines}
 use Rattle.ffs_volume.specs.Report.Whole.{rescan_lines, later_phase_lines, phase_lines, report_lines, end_by, end_of}
 use Rattle.ffs_volume.specs.Directories.PathnameCheck.{root_lines_of, root_lines, pathname_lines, continues_after_root}
-use Rattle.ffs_volume.specs.Directories.{Connectivity.connectivity_lines, ReferenceCheck.reference_lines, Roles.Volume, Volumes.class_at, Volumes.volume_of, Volumes.whole_volume}
+use Rattle.ffs_volume.specs.Directories.Volumes.{class_at, volume_of, whole_volume}
+use Rattle.ffs_volume.specs.Directories.{Connectivity.connectivity_lines, ReferenceCheck.reference_lines, Roles.Volume}
 use Rattle.ffs_volume.proofs.{AcceptedLaws.accepted_sound, Silence.nil-left}
 use Rattle.ffs_certificate.specs.DirsCertificate.{IsSilent, AreDirectoriesRight}
 use Rattle.ffs_certificate.specs.ReportRight.{ReportIsRight, StopIsReported}

@@ -4,9 +4,8 @@ use Rattle.std.proofs.Common.{arith, ap, ◌∙◌, nat_eq, ◌≤◌, Bool, tru
 use Rattle.std.proofs.lemmas.Bool.{cases_lt, eqb-true, eq-eqb}
 use Rattle.std.proofs.lemmas.Nat.Bits.{bit_at_cat_low, bit_at_cat_high, bit_at_and, bit_at_or, bit_at_xor, bit_at-lt}
 use Rattle.std.proofs.lemmas.Nat.Bits.{bit_at-zero, bit_at_ones, bit_at_ones_above, bit_at_above, same_from_bits}
-use Rattle.std.proofs.lemmas.Nat.Bits.{ones_shr, bit_at_set_same}
-use Rattle.std.specs.Int.{bit_at, w64}
-use Rattle.std.{proofs.lemmas.List.get_or-drop, specs.Int.RustNames.bit_xor, proofs.lemmas.Bool.Decides.nat_tests}
+use Rattle.std.{proofs.lemmas.Nat.Bits.ones_shr, specs.Int.bit_at, proofs.lemmas.List.get_or-drop}
+use Rattle.std.{specs.Int.RustNames.bit_xor, proofs.lemmas.Bool.Decides.nat_tests}
 use Rattle.byteorder.specs.Endian.{little_from}
 use Rattle.ffs_volume.specs.{Groups.Records.bit_at as map_bit, Groups.Records.same_bit, Disk.Numbers.all_below}
 use Rattle.ffs_maps.proofs.WordShifts.{bit_mod, bit_shl_low, bit_shl_high, max_zero, min_zero, zero_max, zero_min}
@@ -42,9 +41,6 @@ whole_word map place word fits is k h =
     rw (is, little_bit 8 0 (drop place map) (λ j. rw (get_or-drop place map j 0) (fits (place + j))) k (omega arith))
     (rw at (ap (λ x. nat_eq (bit_at x (k % 8)) 1) (get_or-drop place map (k / 8) 0)))
 
-mod_small : (x : ℕ) → x % 2 ^ 64 < 2 ^ 64
-mod_small x = omega arith
-
 -- a byte is put into a word
 pub byte_low : (bytes : List ℕ) (place byte word b : ℕ) → byte < 8 → b ≡ slice_index bytes (place + byte) →
     ((k : ℕ) → k < 8 * byte → nat_eq (bit_at word k) 1 ≡ map_bit bytes place k) →
@@ -69,7 +65,7 @@ byte_high byte word b h fits high k above =
     ∙ elim (cases_lt k 64) [
       | inl inside ↦ bit_mod (b * 2 ^ (8 * byte)) 64 k inside ∙ bit_shl_high b (8 * byte) k (omega arith)
           ∙ bit_at_above b 8 (k - 8 * byte) fits (omega arith)
-      | inr past ↦ bit_at_above (b * 2 ^ (8 * byte) % 2 ^ 64) 64 k (mod_small (b * 2 ^ (8 * byte))) past
+      | inr past ↦ bit_at_above (b * 2 ^ (8 * byte) % 2 ^ 64) 64 k (omega arith) past
     ]
 
 -- ---- two words with the same bits
@@ -145,9 +141,6 @@ is_same_word a b n = same_test _ _
     (same_from_zero a b n (eqb-true _ 0 e)))
     (λ e. eq-eqb _ 0 (zero_from_same a b n
     (λ k h. all_below-at n k (λ k. same_bit (nat_eq (bit_at a k) 1) (nat_eq (bit_at b k) 1)) e h)))
-
-pub set_same : (word k : ℕ) → k < 64 → nat_eq (bit_at (bit_or word (1 * 2 ^ k % 2 ^ 64)) k) 1 ≡ true
-set_same word k h = ap (λ x. nat_eq x 1) (bit_at_set_same w64 word k h)
 
 -- by the mask that the code computes
 pub same_by_mask : (a b n : ℕ) → n ≤ 64 →
