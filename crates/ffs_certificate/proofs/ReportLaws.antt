@@ -43,11 +43,11 @@ silent_names : (ms : List TreeMessage) → has_defect (map of_tree ms) ≡ false
 silent_names [] h = refl
 silent_names (m ∷ ms) h = absurd (cc)
 
-quiet_blocks : (ms : List BlockMessage) → ms ≡ [] → has_defect (map of_blocks ms) ≡ false
-quiet_blocks ms e = ap (λ ms. has_defect (map of_blocks ms)) e
-
 quiet_names : (ms : List TreeMessage) → ms ≡ [] → has_defect (map of_tree ms) ≡ false
 quiet_names ms e = ap (λ ms. has_defect (map of_tree ms)) e
+
+quiet_blocks : (ms : List BlockMessage) → ms ≡ [] → has_defect (map of_blocks ms) ≡ false
+quiet_blocks ms e = ap (λ ms. has_defect (map of_blocks ms)) e
 
 ruleset parts = (quiet_left, quiet_right, silent_blocks, silent_names)
 
@@ -63,8 +63,9 @@ settings_by false b x y d e h = absurd (let none = (or_parts (is_defect x) _ h).
 settings_say : (super : Superblock) → has_defect (setting_lines super) ≡ false → AreSettingsRight super
 unfolding setting_lines
 settings_say super h =
-    let p = settings_by (has_valid_optim super) (has_valid_minfree super) optimization (minfree super.minfree) refl refl h
-    in record { optimization = p.0; minfree = p.1 }
+    let p = settings_by (has_valid_optim super) (has_valid_minfree super) optimization (minfree super.minfree)
+    refl refl h in
+    record { optimization = p.0; minfree = p.1 }
 
 settings_silent : (super : Superblock) → AreSettingsRight super → setting_lines super ≡ []
 unfolding setting_lines
@@ -110,8 +111,8 @@ text_say : (image : List ℕ) (super : Superblock) → has_defect (phase_lines i
 unfolding phase_lines
 text_say image super h =
     let pathnames : pathname_lines (volume_of super.layout image) ≡ [] = search parts depth 9 in
-    let tail : has_defect (if continues_after_root (volume_of super.layout image) then later_phase_lines image super else [])
-    ≡ false = search parts depth 9 in
+    let tail : has_defect (if continues_after_root (volume_of super.layout image)
+    then later_phase_lines image super else []) ≡ false = search parts depth 9 in
     let later = later_say image super (rw (text_root image super h) at tail) in
     record {
       blocks = search parts;

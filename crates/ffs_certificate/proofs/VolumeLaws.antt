@@ -1,4 +1,4 @@
--- What is known of the volume of an image, and that all of it is kept where the block check is silent.
+-- What is known of an image's volume, and that all is kept where the block check is silent.
 use Rattle.std.proofs.Common.{zero, suc, ◌≡◌, ℕ, ◌+◌, ◌-◌, ◌*◌, ◌<◌, ◌≤◌, true, false, arith, refl, sym, ap, subst, ◌∙◌}
 use Rattle.std.proofs.Common.{List, [], ◌∷◌, ◌++◌, ◌||◌, if◌then◌else◌, map, ◌≢◌, ◌==◌, Bool, not, nat_lt, nat_le, drop}
 use Rattle.std.proofs.lemmas.Bool.{and_parts, and_from, eq-eqb, leb-true, ltb-true}

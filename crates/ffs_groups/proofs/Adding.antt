@@ -7,7 +7,6 @@ use Rattle.std.proofs.lemmas.Nat.{mul-add-lt, mul-le, div-add-mod'}
 use Rattle.std.{proofs.lemmas.Nat.Bits.shr_and_one, specs.List.range_with_len, specs.List.sum_by}
 use Rattle.std.{proofs.lemmas.List.FromFn.length-map-range_with_len, specs.Int.bit_at, proofs.lemmas.Bool.ne_eqb}
 use Rattle.ffs_volume.specs.Groups.Records.{free_stretches, stretch_of, has_bits, is_free_block}
-use Rattle.ffs_maps.specs.Bits.{is_clear}
 use Rattle.ffs_maps.proofs.{WordShifts.bit_shr, Counting.sum_split, Counting.sum_same, Bits.zeros_at}
 use Rattle.ffs_groups.specs.{declared.free.FreeCounts.FreeCounts}
 use Rattle.ffs_groups.specs.Free.{word_bits, whole_in, loose_in, stretches_in, AreBelow, Added, free_in}
@@ -78,7 +77,8 @@ one_from_zero f n = let at : 0 + n ≡ n = omega arith in rw at at (sum_more f 0
 -- one block more
 pub added_more : (bits : ℕ → List Bool) (n : ℕ) (old mid new : FreeCounts) → Added bits 0 n old mid →
     new.blocks ≡ mid.blocks + whole_in (bits n) → new.fragments ≡ mid.fragments + loose_in (bits n) →
-    ((k : ℕ) → slice_index new.frsum k ≡ slice_index mid.frsum k + stretches_in k (bits n)) → Added bits 0 (n + 1) old new
+    ((k : ℕ) → slice_index new.frsum k ≡ slice_index mid.frsum k + stretches_in k (bits n)) →
+    Added bits 0 (n + 1) old new
 added_more bits n old mid new a blocks fragments frsum = record {
   blocks = omega (arith, a.blocks, blocks, one_from_zero (λ b. whole_in (bits b)) n);
   fragments = omega (arith, a.fragments, fragments, one_from_zero (λ b. loose_in (bits b)) n);
@@ -112,7 +112,8 @@ whole_one : (bits : List Bool) → whole_in bits ≤ 1
 whole_one bits = either_within (is_free_block bits) 1 0 1 (omega arith) (omega arith)
 
 loose_length : (bits : List Bool) → loose_in bits ≤ length bits
-loose_length bits = either_within (is_free_block bits) 0 _ (length bits) (omega arith) (count_by-le-length (λ f. f) bits)
+loose_length bits =
+    either_within (is_free_block bits) 0 _ (length bits) (omega arith) (count_by-le-length (λ f. f) bits)
 
 stretch_length : (k : ℕ) (bits : List Bool) → stretches_in k bits ≤ length bits
 stretch_length k bits = either_within (is_free_block bits) 0 _ (length bits) (omega arith) (stretches_few k bits)
@@ -154,13 +155,6 @@ no_stretches k = zeros_at 9 k
 pub count_start : (f : ℕ → ℕ) (n m z : ℕ) → z ≡ 0 → n ≡ m →
     z + sum_by f (range_with_len 0 n) ≡ sum_by f (range_with_len 0 m)
 count_start f n m z e same = rw same (omega (arith, e))
-
-pub clear_as_free : (used : List Bool) (size size' f g : ℕ) → size ≡ size' → f ≡ g →
-    is_clear used size f ≡ free_in used size' g
-clear_as_free used size size' f g e at = rw (e, at) refl
-
-pub place_is : (a b f a' b' f' j : ℕ) → a ≡ a' → b ≡ b' → f ≡ f' → a + b * f + j ≡ a' + b' * f' + j
-place_is a b f a' b' f' j e g h = rw (e, g, h) refl
 
 pub word_fits : (some frag : ℕ) → some ≤ 64 / frag → some * frag ≤ 64
 word_fits some frag h = omega (arith, mul-le some frag (64 / frag) frag h (omega arith), div-add-mod' 64 frag)

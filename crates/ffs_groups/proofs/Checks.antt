@@ -61,7 +61,8 @@ pub sums_as : (v : Layout) (free : ℕ → Bool) (class : ℕ → Class) (c : �
     ((k : ℕ) → slice_index block k < 256) → AreCounts v free class c counts →
     (has_bits_of (i32_at v.order 12 block) c && (has_bits_of (i32_at v.order 20 block) (group_size v c)
     && (same_counts (group_summary_at v.order 24 block) counts.summary
-    && all_below 8 (λ k. same_frsum_at (map (λ j. i32_at v.order (52 + 4 * j) block) (range_with_len 0 8)) counts.frsum k))))
+    && all_below 8 (λ k. same_frsum_at (map (λ j. i32_at v.order (52 + 4 * j) block) (range_with_len 0 8))
+    counts.frsum k))))
     ≡ has_right_sums v free class c block
 unfolding has_right_sums
 sums_as v free class c block counts h right = rw (

@@ -1,4 +1,4 @@
--- What words and blocks of free fragments add to the counts, where all are free, none is, or a block is one fragment.
+-- What words of free fragments add to the counts.
 use Rattle.std.proofs.Common.{◌≡◌, inl, inr, ℕ, zero, suc, ◌+◌, ◌-◌, ◌*◌, ◌%◌, ◌^◌, ◌<◌, ◌≤◌, Bool, true, false, map}
 use Rattle.std.proofs.Common.{arith, refl, ap, ◌∙◌, nat_eq, min, bit_and, ◌/◌, List, count_by, slice_index, ◌==◌, []}
 use Rattle.std.proofs.Common.{◌∷◌, cond, count_ones, replicate, add-zero}
@@ -198,7 +198,8 @@ free_there v used c n fragments new some whole is within size blocks frags frsum
     let few : n ≤ v.fpg / v.frag = few_blocks n fragments v.frag v.fpg some cover.1 within whole in
     let none : (b : ℕ) → n ≤ b → b < v.fpg / v.frag → Adds 0 (block_bits v (free_in used v.size) c b) =
     λ b l h. past_adds used (v.fpg * c) v.size v.frag n b some
-    (ends_before n b fragments v.frag v.fpg (v.fpg * c) (v.fpg * (c + 1)) v.size some cover.0 l h (omega arith) size) l in
+    (ends_before n b fragments v.frag v.fpg (v.fpg * c) (v.fpg * (c + 1)) v.size some cover.0 l h (omega arith) size)
+    l in
     record {
       blocks = blocks ∙ sum_ends (λ b. whole_in (block_bits v (free_in used v.size) c b)) n (v.fpg / v.frag) few
           (λ b l h. (none b l h).0);

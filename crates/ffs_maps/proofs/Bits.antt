@@ -42,8 +42,8 @@ pub same_map : (m : FragmentMap) (words : Words) (enough : length words.list ≡
     (counted : m.ones ≡ set_among (bits_of_words words.list m.size) 0 m.size) → words ≡ m.words →
     record m { words = words; enough = enough; counted = counted } ≡ m
 same_map m words enough counted same =
-    subst⁻¹ (λ w. (e : length w.list ≡ div_ceil m.size 64) (k : m.ones ≡ set_among (bits_of_words w.list m.size) 0 m.size) →
-    record m { words = w; enough = e; counted = k } ≡ m) same
+    subst⁻¹ (λ w. (e : length w.list ≡ div_ceil m.size 64)
+    (k : m.ones ≡ set_among (bits_of_words w.list m.size) 0 m.size) → record m { words = w; enough = e; counted = k } ≡ m) same
     (λ e k. ap (λ x. record m { enough = x; counted = k }) (ℕ_set _ _ e m.enough)
     ∙ ap (λ x. record m { counted = x }) (ℕ_set _ _ k m.counted)) enough counted
 
@@ -63,7 +63,8 @@ put_bits words size k v b h inside here other =
           (sym (get_or-set_same (bits_of_words words size) k b d (omega (arith, h, length_bits words size))))
       | inr apart ↦ elim (cases_eq (f / 64) (k / 64)) [
         | inl e ↦
-            rw (e, get_or-set_same words (k / 64) v 0 inside, other (f % 64) (omega arith) (λ q. apart (omega arith)), ← e)
+            let same = other (f % 64) (omega arith) (λ q. apart (omega arith)) in
+            rw (e, get_or-set_same words (k / 64) v 0 inside, same, ← e)
             (sym (get_or-set_other (bits_of_words words size) k f b d apart ∙ get_bits words size f d low))
         | inr far ↦ rw (get_or-set_other words (k / 64) (f / 64) v 0 far)
             (sym (get_or-set_other (bits_of_words words size) k f b d apart ∙ get_bits words size f d low))

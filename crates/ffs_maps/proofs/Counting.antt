@@ -119,7 +119,8 @@ alike_words words size first (suc n) w fits below alike =
     (ones_of_word words size (first + n) w fits (sym (alike n (omega arith))) (omega (arith, below)))) in
     omega (arith, all)
 
-pub none_counted : (p : ℕ → Bool) (a n : ℕ) → ((k : ℕ) → k < n → p (a + k) ≡ false) → count_by p (range_with_len a n) ≡ 0
+pub none_counted : (p : ℕ → Bool) (a n : ℕ) → ((k : ℕ) → k < n → p (a + k) ≡ false) →
+    count_by p (range_with_len a n) ≡ 0
 none_counted p a n none = omega (arith, sum_const (λ j. cond (p j) 1 0) 0 a n (λ k h. rw (none k h) refl))
 
 -- words that are 0 have no set bit

@@ -75,8 +75,8 @@ run_clear words size start len h below clear = rw (mask_is start len h)
     inside : (i : ℕ) → start % 64 ≤ i → i < start % 64 + len → bit_at (get_or words (start / 64) 0) i ≡ 0
     inside i a b =
         let none : nat_eq (bit_at (get_or words (start / 64) 0) i) 1 ≡ false =
-        sym (bit_in words size (start + (i - start % 64)) (start / 64) i _ (omega arith) (omega arith) (omega arith) refl)
-        ∙ clear (i - start % 64) (omega arith) in
+        sym (bit_in words size (start + (i - start % 64)) (start / 64) i _
+        (omega arith) (omega arith) (omega arith) refl) ∙ clear (i - start % 64) (omega arith) in
         omega (arith, bit_at-lt (get_or words (start / 64) 0) i, eqb-false _ 1 none)
 
     at : (i : ℕ) → min (bit_at (get_or words (start / 64) 0) i) (bit_at (2 ^ (start % 64 + len) - 2 ^ (start % 64)) i)

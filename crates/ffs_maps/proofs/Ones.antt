@@ -69,7 +69,8 @@ one_set bits size k b is h =
       one_among bits k,
       one_among (slice_set bits k b) k,
       changed bits (slice_set bits k b) size k 1 (omega (arith, h))
-          (λ f apart. get_or-set_other bits k f b false (λ e. elim apart [ inl a ↦ omega arith | inr c ↦ omega arith ])),
+          (λ f apart. get_or-set_other bits k f b false
+          (λ e. elim apart [ inl a ↦ omega arith | inr c ↦ omega arith ])),
     )
 
 -- what a test is as a number

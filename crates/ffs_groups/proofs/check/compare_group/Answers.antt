@@ -16,7 +16,7 @@ returns c = record {
       ∙ ap (has_counts c.args.geometry.now.layout 0 c.args.summary.now) c.requires.counts.summary;
   maps = rw c.decode-found.ensures at c.maps_are_right.ensures;
   sums = (rw c.decode-found.ensures at c.sums_are_right.ensures)
-      ∙ sums_as c.args.geometry.now.layout (free_in (bits_of c.args.usage.now.fragments.now) c.args.geometry.now.layout.size)
-      (class_in c.args.usage.now.kinds.now) c.args.group c.args.block.now c.args.counts.now
+      ∙ sums_as c.args.geometry.now.layout
+      (free_in (bits_of c.args.usage.now.fragments.now) c.args.geometry.now.layout.size) (class_in c.args.usage.now.kinds.now) c.args.group c.args.block.now c.args.counts.now
       (λ k. Fits-lt-pow (c.type_inv.block k)) c.requires.counts;
 }

@@ -19,4 +19,5 @@ pub loop-length-preserved : goal.loop-length-preserved
 unfolding has_bits_of
 loop-length-preserved c =
     let agree : same_frsum_at c.args.found.now c.args.right.now c.loop-length.length ≡ true = search (rules, arith) in
-    all_below-more c.loop-length.length (λ k. same_frsum_at c.args.found.now c.args.right.now k) c.loop-length.invariant agree
+    all_below-more c.loop-length.length (λ k. same_frsum_at c.args.found.now c.args.right.now k)
+    c.loop-length.invariant agree

@@ -8,7 +8,8 @@ use Rattle.ffs_maps.proofs.{Bits.bits_long, Bits.same_map, Ones.few_among, Ones.
 use Rattle.ffs_maps.proofs.FragmentMap.claim.Goals as goal
 
 bits_now : (m : FragmentMap) (new : Words) (start len : ℕ) → start % 64 + len ≤ 64 → start + len ≤ m.size → 0 < len →
-    new ≡ with_bits m.words (start / 64) (mask_of start len) → bits_of_words new.list m.size ≡ set_run (bits_of m) start len
+    new ≡ with_bits m.words (start / 64) (mask_of start len) →
+    bits_of_words new.list m.size ≡ set_run (bits_of m) start len
 bits_now m new start len fits below some is =
     ap (λ ws. bits_of_words ws.list m.size) is
     ∙ mark_run m.words.list m.size start len _ fits below some (omega (arith, m.enough, below, some)) refl
@@ -36,10 +37,11 @@ pub overflow_add-self : goal.overflow_add-self
 overflow_add-self c =
     let m = c.args.self.now in
     let fits : c.args.start % 64 + c.args.len ≤ 64 = omega (arith, c.if-len-low.false) in
+    let clear = clear_run m.words.list m.size c.args.start c.args.len fits c.requires.below
+    (c.claim.ensures.clear.0 c.if-not-claim.false) in
     omega (
       arith,
-      raised m c.args.start c.args.len c.requires.below
-          (clear_run m.words.list m.size c.args.start c.args.len fits c.requires.below (c.claim.ensures.clear.0 c.if-not-claim.false)),
+      raised m c.args.start c.args.len c.requires.below clear,
       few_among (set_run (bits_of m) c.args.start c.args.len) 0 m.size,
     )
 
@@ -47,11 +49,12 @@ pub invariant_of-self-2 : goal.invariant_of-self-2
 invariant_of-self-2 c =
     let m = c.args.self.now in
     let fits : c.args.start % 64 + c.args.len ≤ 64 = omega (arith, c.if-len-low.false) in
+    let clear = clear_run m.words.list m.size c.args.start c.args.len fits c.requires.below
+    (c.claim.ensures.clear.0 c.if-not-claim.false) in
     let now = c.claim.ensures.claimed c.if-not-claim.false in
     record {
       enough = omega (arith, m.enough, ap (λ ws. length ws.list) now, length-set {A = ℕ});
-      counted = raised m c.args.start c.args.len c.requires.below
-          (clear_run m.words.list m.size c.args.start c.args.len fits c.requires.below (c.claim.ensures.clear.0 c.if-not-claim.false))
+      counted = raised m c.args.start c.args.len c.requires.below clear
           ∙ ap (λ bits. set_among bits 0 m.size)
           (sym (bits_now m c.claim.new.self c.args.start c.args.len fits c.requires.below c.requires.some now));
     }

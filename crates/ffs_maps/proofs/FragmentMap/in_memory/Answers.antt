@@ -5,7 +5,8 @@ use Rattle.ffs_maps.proofs.{Bits.zero_bits, Ones.none_among}
 use Rattle.ffs_maps.proofs.FragmentMap.in_memory.Goals as goal
 
 none_set : (size : ℕ) → set_among (replicate size false) 0 size ≡ 0
-none_set size = none_among (replicate size false) 0 size (λ k h. get_or-replicate size (0 + k) false false (omega (arith, h)))
+none_set size = none_among (replicate size false) 0 size
+    (λ k h. get_or-replicate size (0 + k) false false (omega (arith, h)))
 
 pub invariant_of-result : goal.invariant_of-result
 invariant_of-result g c = record {

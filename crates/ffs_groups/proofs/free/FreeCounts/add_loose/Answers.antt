@@ -18,18 +18,24 @@ overflow_add-self c =
     )
 
 pub end_stretch-requires-clause-below : goal.end_stretch-requires-clause-below
-end_stretch-requires-clause-below c = record {
-  blocks = omega (arith, c.loop-index.invariant.blocks, c.requires.below.blocks);
-  fragments = omega (arith, c.loop-index.invariant.fragments, free_within c.args.bits c.args.frag, c.requires.below.fragments);
-  frsum = λ k. omega (arith, c.loop-index.invariant.frsum k, stretches_within c.args.bits c.args.frag k, c.requires.below.frsum k);
-}
+end_stretch-requires-clause-below c =
+    let now = c.loop-index.invariant in
+    let below = c.requires.below in
+    record {
+      blocks = omega (arith, now.blocks, below.blocks);
+      fragments = omega (arith, now.fragments, free_within c.args.bits c.args.frag, below.fragments);
+      frsum = λ k. omega (arith, now.frsum k, stretches_within c.args.bits c.args.frag k, below.frsum k);
+    }
 
 pub end_stretch-requires-2-clause-below : goal.end_stretch-requires-2-clause-below
-end_stretch-requires-2-clause-below c = record {
-  blocks = omega (arith, c.loop-index.invariant.blocks, c.requires.below.blocks);
-  fragments = omega (arith, c.loop-index.invariant.fragments, free_within c.args.bits c.args.frag, c.requires.below.fragments);
-  frsum = λ k. omega (arith, c.loop-index.invariant.frsum k, stretches_within c.args.bits c.args.frag k, c.requires.below.frsum k);
-}
+end_stretch-requires-2-clause-below c =
+    let now = c.loop-index.invariant in
+    let below = c.requires.below in
+    record {
+      blocks = omega (arith, now.blocks, below.blocks);
+      fragments = omega (arith, now.fragments, free_within c.args.bits c.args.frag, below.fragments);
+      frsum = λ k. omega (arith, now.frsum k, stretches_within c.args.bits c.args.frag k, below.frsum k);
+    }
 
 pub loop-index-preserved : goal.loop-index-preserved
 loop-index-preserved c =
