@@ -33,11 +33,6 @@ count_more p a n count r b e f g =
     let one : r ≡ cond (p (a + n)) 1 0 = f ∙ ap (λ x. cond x 1 0) g in
     omega (arith, e, one, sum_more (λ x. cond (p x) 1 0) a n)
 
-pub count_below : (p : ℕ → Bool) (a n limit count r : ℕ) (b : Bool) → count ≡ count_by p (range_with_len a n) →
-    r ≡ cond b 1 0 → b ≡ p (a + n) → n + 1 < limit → count + r < limit
-count_below p a n limit count r b e f g h =
-    omega (arith, count_more p a n count r b e f g, count_within p a (n + 1), h)
-
 pub count_fits : (p : ℕ → Bool) (a n m count r : ℕ) (b : Bool) → count ≡ count_by p (range_with_len a n) →
     r ≡ cond b 1 0 → b ≡ p (a + n) → n < m → m < 2 ^ 32 → count + r < 2 ^ 32
 count_fits p a n m count r b e f g h fits = omega (arith, count_more p a n count r b e f g, count_within p a (n + 1))

@@ -1,6 +1,6 @@
 -- How many bits are set, where some of them change.
 use Rattle.std.proofs.Common.{◌≡◌, ◌⊎◌, inl, inr, ℕ, ◌+◌, ◌-◌, ◌<◌, ◌≤◌, Bool, true, false, cond, List, length, get_or}
-use Rattle.std.proofs.Common.{slice_set, not, arith, refl, ap, ◌∙◌, sym}
+use Rattle.std.proofs.Common.{slice_set, not, arith, refl}
 use Rattle.std.proofs.lemmas.List.{get_or-set_other, get_or-set_same}
 use Rattle.std.{specs.List.range_with_len, specs.List.slice_index_or, proofs.lemmas.List.Sums.sum_by-cons}
 use mir.Val.{bool_byte}
@@ -26,6 +26,10 @@ none_among bits start len clear = none_counted (λ f. slice_index_or bits f fals
 one_among : (bits : List Bool) (k : ℕ) → set_among bits k 1 ≡ cond (get_or bits k false) 1 0
 one_among bits k = omega (arith, sum_by-cons (is_one bits) k (range_with_len (k + 1) 0))
 
+-- some of the bits are set at most
+pub few_among : (bits : List Bool) (a n : ℕ) → set_among bits a n ≤ n
+few_among bits a n = count_within (λ f. slice_index_or bits f false) a n
+
 -- the parts before a run, of the run, and after it
 in_parts : (bits : List Bool) (size start len : ℕ) → start + len ≤ size →
     set_among bits 0 size ≡ set_among bits 0 start + set_among bits start len
@@ -45,16 +49,6 @@ changed old new size start len h same = omega (
   in_parts new size start len h,
   same_among old new 0 start (λ k l. same (0 + k) (inl (omega (arith, l)))),
   same_among old new (start + len) (size - (start + len)) (λ k l. same (start + len + k) (inr (omega arith))),
-)
-
--- the bits of a run are set
-pub run_set : (bits : List Bool) (size start len : ℕ) → length bits ≡ size → start + len ≤ size →
-    set_among (set_run bits start len) 0 size + set_among bits start len ≡ set_among bits 0 size + len
-run_set bits size start len is h = omega (
-  arith,
-  all_among (set_run bits start len) start len
-      (λ k l. run_inside bits start len (start + k) false (omega arith) (omega (arith, l)) (omega (arith, is, h, l))),
-  changed bits (set_run bits start len) size start len h (λ f apart. run_outside bits start len f false apart),
 )
 
 -- one bit becomes b
@@ -83,9 +77,7 @@ pub raised : (bits : List Bool) (size k ones n : ℕ) (was : Bool) → length bi
     ones ≡ set_among bits 0 size → was ≡ get_or bits k false → n ≡ bool_byte (not was) →
     ones + n ≡ set_among (slice_set bits k true) 0 size
 raised bits size k ones n was is h counted read more =
-    let other : n + cond (get_or bits k false) 1 0 ≡ 1 =
-    ap (λ b. n + cond b 1 0) (sym read) ∙ both was n more in
-    omega (arith, one_set bits size k true is h, counted, other)
+    let other = rw read at (both was n more) in omega (arith, one_set bits size k true is h, counted, other)
   where
     both : (b : Bool) (n : ℕ) → n ≡ bool_byte (not b) → n + cond b 1 0 ≡ 1
     both true n e = omega (arith, e)
@@ -104,12 +96,10 @@ pub run_raised : (bits : List Bool) (size start len ones n : ℕ) → length bit
     ones + (len - n) ≡ set_among (set_run bits start len) 0 size
 run_raised bits size start len ones n is h counted was = omega (
   arith,
-  run_set bits size start len is h,
+  all_among (set_run bits start len) start len
+      (λ k l. run_inside bits start len (start + k) false (omega arith) (omega (arith, l)) (omega (arith, is, h, l))),
+  changed bits (set_run bits start len) size start len h (λ f apart. run_outside bits start len f false apart),
   counted,
   was,
-  count_within (λ f. slice_index_or bits f false) start len,
+  few_among bits start len,
 )
-
--- some of the bits are set at most
-pub few_among : (bits : List Bool) (a n : ℕ) → set_among bits a n ≤ n
-few_among bits a n = count_within (λ f. slice_index_or bits f false) a n

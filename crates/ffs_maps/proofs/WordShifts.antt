@@ -1,6 +1,6 @@
 -- Bits that are 0 or 1, and shifts of words by bits.
 use Rattle.std.proofs.Common.{◌≡◌, ℕ, zero, suc, ◌<◌, cond, nat_eq, min, max, arith, refl, inl, inr, ◌+◌, ◌-◌, ◌*◌, ◌/◌}
-use Rattle.std.proofs.Common.{◌%◌, ◌^◌, ◌≤◌, false, List, get_or, bit_or, bit_and, ap, ◌∙◌, sym, not, add-zero}
+use Rattle.std.proofs.Common.{◌%◌, ◌^◌, ◌≤◌, List, get_or, bit_or, bit_and, ap, ◌∙◌, sym, not, add-zero}
 use Rattle.std.proofs.lemmas.Bool.{cases_lt, lt-ltb, le-ltb}
 use Rattle.std.proofs.lemmas.Nat.{div-add-mod', one_shl}
 use Rattle.std.proofs.lemmas.Nat.Bits.{bit_at_or, bit_at_and, bit_at_not, bit_at-zero, bit_at-lt, bit_at_ones}
@@ -64,9 +64,6 @@ clear_is words size index k w h fits e low =
     flip (suc zero) h = refl
     flip (suc (suc b)) h = absurd (omega arith)
 
-pub not_clear : (words : List ℕ) (size f : ℕ) → size ≤ f → is_clear (bits_of_words words size) size f ≡ false
-not_clear words size f h = rw (le-ltb f size h) refl
-
 pub small : (n : ℕ) → n < 64 → 1 * 2 ^ n % 2 ^ 64 - 1 ≡ 2 ^ n - 1
 small n h = ap (λ x. x - 1) (one_shl n 64 h)
 
@@ -78,12 +75,13 @@ pub clear_in_last : (words : List ℕ) (size index k w : ℕ) → k < 64 → w <
 clear_in_last words size index k w h fits e within last =
     rw (small (size - 64 * index) last, bit_at_and (2 ^ 64 - 1 - w) (2 ^ (size - 64 * index) - 1) k)
     (elim (cases_lt k (size - 64 * index)) [
-      | inl low ↦ ap (λ x. nat_eq x 1)
-          (min_one _ _ (bit_at-lt (2 ^ 64 - 1 - w) k) (bit_at_ones (size - 64 * index) k low))
-          ∙ clear_is words size index k w h fits e (omega arith)
-      | inr past ↦ ap (λ x. nat_eq x 1)
-          (min_zero (bit_at (2 ^ 64 - 1 - w) k) _ (bit_at_ones_above (size - 64 * index) k past))
-          ∙ sym (not_clear words size (64 * index + k) (omega arith))
+      | inl low ↦
+          rw (min_one _ _ (bit_at-lt (2 ^ 64 - 1 - w) k) (bit_at_ones (size - 64 * index) k low))
+          (clear_is words size index k w h fits e (omega arith))
+      | inr past ↦ rw (
+        min_zero (bit_at (2 ^ 64 - 1 - w) k) _ (bit_at_ones_above (size - 64 * index) k past),
+        le-ltb (64 * index + k) size (omega arith),
+      ) refl
     ])
 
 -- two words, put together at a place
