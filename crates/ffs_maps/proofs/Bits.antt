@@ -43,7 +43,8 @@ pub same_map : (m : FragmentMap) (words : Words) (enough : length words.list ≡
     record m { words = words; enough = enough; counted = counted } ≡ m
 same_map m words enough counted same =
     subst⁻¹ (λ w. (e : length w.list ≡ div_ceil m.size 64)
-    (k : m.ones ≡ set_among (bits_of_words w.list m.size) 0 m.size) → record m { words = w; enough = e; counted = k } ≡ m) same
+    (k : m.ones ≡ set_among (bits_of_words w.list m.size) 0 m.size) →
+    record m { words = w; enough = e; counted = k } ≡ m) same
     (λ e k. ap (λ x. record m { enough = x; counted = k }) (ℕ_set _ _ e m.enough)
     ∙ ap (λ x. record m { counted = x }) (ℕ_set _ _ k m.counted)) enough counted
 

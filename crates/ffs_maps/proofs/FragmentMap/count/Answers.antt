@@ -5,8 +5,8 @@ use Rattle.ffs_maps.proofs.Counting.{count_join_at, count_within}
 use Rattle.ffs_maps.proofs.FragmentMap.count.Goals as goal
 
 pub overflow_add-result : goal.overflow_add-result
-overflow_add-result c =
-    omega (arith, count_within, c.count_in_word-before.ensures, c.count_in_words-words.ensures, c.div_ceil-first.ensures)
+overflow_add-result c = let first = c.div_ceil-first.ensures in
+    omega (arith, count_within, c.count_in_word-before.ensures, c.count_in_words-words.ensures)
 
 pub overflow_add-result-2 : goal.overflow_add-result-2
 overflow_add-result-2 c = omega (
