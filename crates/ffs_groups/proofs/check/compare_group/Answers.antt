@@ -17,6 +17,7 @@ returns c = record {
   maps = rw c.decode-found.ensures at c.maps_are_right.ensures;
   sums = (rw c.decode-found.ensures at c.sums_are_right.ensures)
       ∙ sums_as c.args.geometry.now.layout
-      (free_in (bits_of c.args.usage.now.fragments.now) c.args.geometry.now.layout.size) (class_in c.args.usage.now.kinds.now) c.args.group c.args.block.now c.args.counts.now
+      (free_in (bits_of c.args.usage.now.fragments.now) c.args.geometry.now.layout.size)
+      (class_in c.args.usage.now.kinds.now) c.args.group c.args.block.now c.args.counts.now
       (λ k. Fits-lt-pow (c.type_inv.block k)) c.requires.counts;
 }
