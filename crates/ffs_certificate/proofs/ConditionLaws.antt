@@ -1,200 +1,125 @@
 -- Each condition of a consistent volume holds exactly where nothing is reported for it.
-use Rattle.std.specs.Prelude.{◌≡◌, ◌≢◌, ◌↔◌, ℕ, ◌==◌, ◌/◌, true, false, not, nat_lt, nat_le, refl, List, [], Some}
-use Rattle.std.specs.Prelude.{IsSomeAnd}
-use Rattle.std.proofs.Common.{arith, sym, ◌∙◌, ap, subst, inl, inr}
-use Rattle.std.proofs.lemmas.Bool.{both_ways, cases_eq, eqb-true, eq-eqb, ne_eqb, lt-ltb, le-leb, leb-true, and_parts}
-use Rattle.std.proofs.lemmas.Bool.{and_from, not-false, not_from_true, not_from_false}
-use Rattle.ffs_volume.specs.declared.Class.{Class}
+use Rattle.std.proofs.Common.{◌≡◌, ℕ, ◌+◌, Bool, true, false, not, ◌&&◌, ◌||◌, nat_lt, ◌==◌, if◌then◌else◌, List, []}
+use Rattle.std.proofs.Common.{◌∷◌, ◌++◌, ◌∙◌, refl, ◌↔◌, sym, subst}
+use Rattle.std.specs.List.{list_all, list_any, range_with_len}
+use Rattle.std.proofs.lemmas.Bool.{or_from, not-false, not_from_true}
+use Rattle.std.{proofs.lemmas.List.Folds.list_any-append, proofs.Math.Bool.or-false}
 use Rattle.ffs_volume.specs.declared.Class.TheVariants.{Free, Partial, Unknown, File, Dir}
-use Rattle.ffs_volume.specs.Disk.Superblock.{Superblock}
-use Rattle.ffs_volume.specs.Laws.Geometry.{IsAcceptedLayout}
+use Rattle.ffs_volume.specs.declared.BlockMessage.TheVariants.{Bad, Dup, ManyBad, ManyDup, PartTrunc, BlockCount}
+use Rattle.ffs_volume.specs.declared.Step.TheVariants.{Run, Tail, Gap}
+use Rattle.ffs_volume.specs.declared.{Layout.Layout, Class.Class, Step.Step, BlockMessage.BlockMessage}
+use Rattle.ffs_volume.specs.Disk.{Areas.is_fragment_in_range, Areas.is_run_in_range, Superblock.Superblock}
+use Rattle.ffs_volume.specs.Blocks.Claims.{Claims, no_claims, at_next_inode, is_open, is_set, after_offer, offer_lines}
+use Rattle.ffs_volume.specs.Blocks.Claims.{lines_of_offers, run_lines, after_step, step_lines, lines_of_steps}
+use Rattle.ffs_volume.specs.Blocks.BlockCheck.{class_lines, count_lines, sectors, owner_lines, lines_of_owners}
+use Rattle.ffs_volume.specs.Blocks.Owners.{Owner, owners_of}
+use Rattle.ffs_volume.specs.Blocks.{Claims.after_owner, BlockCheck.phase1_lines, Inodes.is_file_or_dir}
+use Rattle.ffs_volume.specs.Groups.{Records.AreGroupsRight, GroupCheck.phase5_lines, GroupCheck.is_free_of_kept}
+use Rattle.ffs_volume.specs.{Consistent.BlocksRight.is_right_class, Laws.Geometry.IsAcceptedLayout}
+use Rattle.ffs_volume.specs.{Directories.Volumes.class_at, Directories.Volumes.whole_volume}
 use Rattle.ffs_volume.proofs.AcceptedLaws.{accepted_sound}
-use Rattle.ffs_volume.specs.Blocks.Owners.{owners_of}
-use Rattle.ffs_volume.specs.Groups.Records.{AreGroupsRight}
-use Rattle.ffs_volume.specs.Groups.GroupCheck.{phase5_lines, is_free_of_kept}
-use Rattle.ffs_volume.specs.Directories.Entries.{Entry}
-use Rattle.ffs_volume.specs.Blocks.Inodes.{is_directory, is_allocated, is_unknown}
-use Rattle.ffs_volume.specs.Directories.Roles.{Volume, is_dir, is_inode, is_suspect, dotdot, references}
-use Rattle.ffs_volume.specs.Directories.Climb.{is_value}
-use Rattle.ffs_volume.proofs.ClimbLaws.{is_value-true}
-use Rattle.ffs_volume.specs.Directories.Graph.{parent, parent_entry_index}
-use Rattle.ffs_volume.proofs.Graphs.{NoExtraneous}
-use Rattle.ffs_volume.specs.Directories.Parents.{graph_of, is_parent_entry}
-use Rattle.ffs_volume.specs.Directories.PathnameCheck.{is_wrong_parent, is_extraneous}
-use Rattle.ffs_volume.specs.Consistent.DirectoriesRight.{IsPlainRight, AreDirsRight, AreLinksRight, AreCountsRight}
-use Rattle.ffs_certificate.specs.Premises.{IsVolume, IsUnmarked}
-use Rattle.ffs_volume.specs.Directories.Volumes.{class_at, whole_volume}
-use Rattle.ffs_certificate.specs.DirsCertificate.{IsSilent}
-use Rattle.ffs_certificate.specs.Conditions.{IsPlainUnreported, AreDirsUnreported, AreLinksUnreported}
-use Rattle.ffs_certificate.specs.Conditions.{AreCountsUnreported, ConditionsReported, ConditionsAreReported}
-use Rattle.ffs_volume.proofs.Booleans.{and_false-right, and_false-from}
-use Rattle.ffs_volume.proofs.LevelLaws.{parent-root}
-use Rattle.ffs_certificate.proofs.Live.{plain-live}
-use Rattle.ffs_certificate.proofs.Lost.{silent-reached}
-use Rattle.ffs_certificate.proofs.Links.{links-right}
-use Rattle.ffs_certificate.proofs.Entries.{names_at-gives}
-use Rattle.ffs_certificate.proofs.Counts.{count-true, count-from}
-use Rattle.ffs_certificate.proofs.Suspects.{is_sane, none_suspect, none_dead}
-use Rattle.ffs_certificate.proofs.Forward.{some-map, root_is_dir, whole, whiteout_kind, known-false, parent_once}
-use Rattle.ffs_certificate.proofs.Backward.{IsFileOrDir, shape_quiet, whiteout_good, other_good, link_quiet}
-use Rattle.ffs_certificate.proofs.Backward.{dotdot_quiet, quiet_connectivity}
-use Rattle.ffs_certificate.proofs.DirsCertificate.{silent_right}
-use Rattle.ffs_certificate.proofs.BlocksSilent.{phase1_silent}
+use Rattle.ffs_certificate.specs.Conditions.{is_class_message, ConditionsReported, ConditionsAreReported}
+use Rattle.ffs_certificate.proofs.DirsCertificate.{checks_reported, counts_reported, dirs_reported, links_reported}
 use Rattle.ffs_certificate.proofs.GroupLaws.{phase5_silent, same_free}
 use Rattle.ffs_certificate.proofs.VolumeLaws.{whole_is_volume, whole_unmarked, same_whole}
-use Rattle.ffs_certificate.proofs.ClassLines.{classes_reported}
-use Rattle.ffs_certificate.proofs.ReportLaws.{settings_reported}
+use Rattle.ffs_certificate.proofs.{BlocksSilent.phase1_silent, ReportLaws.settings_reported}
 
--- DIRECTORIES
-plain_right : (v : Volume) (e : Entry) → IsUnmarked v → e.number ≢ 0 → IsPlainUnreported v e → IsPlainRight v e
-plain_right v e un live q =
-    elim (cases_eq e.number 1) [
-      | inl y ↦ inl (y, whiteout_kind e q.no_whiteout y)
-      | inr n ↦
-          let m = q.named (ne_eqb e.number 1 n) in
-          let u = known-false (v.class e.number) (un.known e.number) in
-          inr (
-            and_from (is_inode v e.number) (is_allocated (v.class e.number))
-                (and_from (nat_le 2 e.number) (nat_lt e.number v.count)
-                (le-leb 2 e.number (let a : e.number ≢ 1 = n in omega arith)) q.below) m.allocated,
-            eqb-true e.kind ((v.inode e.number).mode / 4096)
-                (not-false _ (and_false-right (not (is_unknown (v.class e.number)))
-                (not (e.kind == (v.inode e.number).mode / 4096)) m.kind (not_from_false _ u))),
-          )
-    ]
+none_append : (xs ys : List BlockMessage) → list_any is_class_message xs ≡ false → list_any is_class_message ys ≡ false
+    → list_any is_class_message (xs ++ ys) ≡ false
+none_append xs ys g h = list_any-append is_class_message xs ys
+    ∙ or_from (list_any is_class_message xs) (list_any is_class_message ys) g h
 
-plain_unreported : (v : Volume) (e : Entry) → IsVolume v → IsUnmarked v → IsPlainRight v e → IsPlainUnreported v e
-plain_unreported v e vol un r =
-    elim r [
-      | inl w ↦ (let some = vol.some in let n = w.0 in record {
-        below = lt-ltb e.number v.count (omega arith);
-        no_whiteout = whiteout_good e w.0 w.1;
-        named = λ m. absurd (both_ways (e.number == 1) m (eq-eqb e.number 1 w.0));
-      })
-      | inr w ↦
-          (let p = and_parts (is_inode v e.number) (is_allocated (v.class e.number)) w.0 in
-          let q = and_parts (nat_le 2 e.number) (nat_lt e.number v.count) p.0 in
-          let two = leb-true 2 e.number q.0 in
-          record {
-            below = q.1;
-            no_whiteout = other_good e (omega arith) (λ k. vol.kinds e.number (un.known e.number) w.0 (sym w.1 ∙ k));
-            named = λ m. record {
-              allocated = p.1;
-              kind = and_false-from (not (is_unknown (v.class e.number))) _
-                  (λ h. not_from_true _ (eq-eqb e.kind ((v.inode e.number).mode / 4096) w.1));
-            };
-          })
-    ]
-
-root_class : (c : Class) → is_directory c ≡ true → c ≡ Dir
-root_class Dir h = refl
-root_class File h = absurd (cc)
-root_class Unknown h = absurd (cc)
-root_class Partial h = absurd (cc)
-root_class Free h = absurd (cc)
-
-dirs_reported : (v : Volume) → IsVolume v → IsUnmarked v → AreDirsUnreported v ↔ AreDirsRight v
-dirs_reported v vol un = (
-  (λ q. record {
-    root = root_class (v.class 2) q.root;
-    each = λ d h.
-        let p = q.each d h in
-        record {
-          size = whole v d p.some (record { short = p.short; broken = p.broken; gap = p.gap; sound = p.sound });
-          gap = p.gap;
-          sound = p.sound;
-          dot_there = p.dot_there;
-          dotdot_there = p.dotdot_there;
-          no_extra = p.no_extra;
-          plain = λ j s t r. plain_right v s.entry un (plain-live v d j s t r) (p.plain j s t r);
-        };
-  }),
-  (λ r. record {
-    root = ap is_directory r.root;
-    each = λ d h.
-        let p = r.each d h in
-        let some = p.size.some in
-        let q = shape_quiet v d p in
-        record {
-          some = omega arith;
-          short = q.short;
-          broken = q.broken;
-          gap = q.gap;
-          sound = q.sound;
-          dot_there = p.dot_there;
-          dotdot_there = p.dotdot_there;
-          no_extra = p.no_extra;
-          plain = λ j s t role. plain_unreported v s.entry vol un (p.plain j s t role);
-        };
-  }),
-)
-
--- LINKS
-no_suspect : (v : Volume) → IsUnmarked v → AreDirsRight v → (x : ℕ) → is_suspect v x ≡ false
-no_suspect v un r = none_suspect v un (λ d h z. let some = (r.each d h).size.some in omega arith)
-
-links_right : (v : Volume) → IsVolume v → IsUnmarked v → AreDirsRight v → AreLinksUnreported v → AreLinksRight v
-links_right v vol un r q =
-    let all = (silent-reached (graph_of v) (is_suspect v) (is_sane v vol) (none_dead v (no_suspect v un r))).0 q.lost in
-    let root = root_is_dir v vol r.root in
-    let links = (links-right (graph_of v) root all).0 (one_entry v q) in
-    record {
-      each = λ d h n.
-          let o = links.once d h n in
-          record {
-            once = o;
-            reached_from_root = all d h;
-            dotdot_right = dotdot_same v d o.in_dir (parent_once v d n (all d h) o) (q.dotdots d h);
-          };
-      root = links.root;
-      root_dotdot = dotdot_same v 2 2 (parent-root (graph_of v)) (q.dotdots 2 root);
-    }
+offer_none : (v : Layout) (i : ℕ) (s : Claims) (f : ℕ) → list_any is_class_message (offer_lines v i s f) ≡ false
+offer_none v i s f = one (nat_lt s.dups 11 && (is_fragment_in_range v f && is_set s.used f)) (s.dups == 10)
   where
-    one_entry : (v : Volume) → AreLinksUnreported v → NoExtraneous (graph_of v)
-    one_entry v q s j d t h =
-        let m = names_at-gives v s j d t in
-        let link : is_extraneous v s j d ≡ false =
-        subst (λ x. is_extraneous v s j x ≡ false) m.number (q.links s j m.entry m.dir m.there m.role) in
-        let from = not-false _ (and_false-right (is_dir v d) (not (is_parent_entry (graph_of v) s j d)) link h) in
-        let both = and_parts (is_value (parent (graph_of v) d) s) (is_value (parent_entry_index (graph_of v) d) j)
-        from in
-        (is_value-true (parent (graph_of v) d) s both.0, is_value-true (parent_entry_index (graph_of v) d) j both.1)
+    one : (a b : Bool) → list_any is_class_message (if a then Dup f i ∷ (if b then ManyDup i ∷ [] else []) else [])
+        ≡ false
+    one true true = refl
+    one true false = refl
+    one false b = refl
 
-    dotdot_same : (v : Volume) (d s : ℕ) → parent (graph_of v) d ≡ Some s →
-        IsSomeAnd (dotdot v d) (λ e. is_wrong_parent (parent (graph_of v) d) e.number ≡ false) →
-        IsSomeAnd (dotdot v d) (λ e. e.number ≡ s)
-    dotdot_same v d s p q = some-map _ _ (dotdot v d)
-        (λ e b. sym (eqb-true s e.number (not-false _ (sym (ap (λ o. is_wrong_parent o e.number) p) ∙ b)))) q
+offers_none : (v : Layout) (i : ℕ) (s : Claims) (fs : List ℕ) → list_any is_class_message (lines_of_offers v i s fs)
+    ≡ false
+offers_none v i s [] = refl
+offers_none v i s (f ∷ fs) = none_append (offer_lines v i s f) (lines_of_offers v i (after_offer v s f) fs)
+    (offer_none v i s f) (offers_none v i (after_offer v s f) fs)
 
-links_unreported : (v : Volume) → IsVolume v → IsUnmarked v → AreDirsRight v → AreLinksRight v → AreLinksUnreported v
-links_unreported v vol un r l =
-    let t : IsFileOrDir v = record { volume = vol; unmarked = un; dirs = r; links = l } in
-    record {
-      dotdots = λ d h. some-map _ _ (dotdot v d) (λ e b. b.0) (dotdot_quiet v t d h);
-      links = λ s j e d there role. link_quiet v t s j e d there role ((r.each s d).plain j e there role);
-      lost = quiet_connectivity v t;
-    }
+run_none : (v : Layout) (i : ℕ) (s : Claims) (start len : ℕ) → list_any is_class_message (run_lines v i s start len)
+    ≡ false
+run_none v i s start len = one (is_run_in_range v start len) (s.bad == 10)
+  where
+    one : (a b : Bool) → list_any is_class_message
+        (if a then lines_of_offers v i (record s { runs = s.runs + 1 }) (range_with_len start len)
+        else Bad start i ∷ (if b then ManyBad i ∷ []
+        else lines_of_offers v i (record s { runs = s.runs + 1; bad = s.bad + 1 }) (range_with_len start len)))
+        ≡ false
+    one true b = offers_none v i (record s { runs = s.runs + 1 }) (range_with_len start len)
+    one false true = refl
+    one false false = offers_none v i (record s { runs = s.runs + 1; bad = s.bad + 1 }) (range_with_len start len)
 
--- COUNTS
-counts_reported : (v : Volume) → AreCountsUnreported v ↔ AreCountsRight v
-counts_reported v = (
-  (λ q i h. let c = q i h in
-      let n = c.some in record { same = count-true (v.inode i).nlink (references v i) c.same; some = omega arith }),
-  (λ r i h. let c = r i h in
-      let n = c.some in record { some = omega arith; same = count-from (v.inode i).nlink (references v i) c.same }),
-)
+step_none : (v : Layout) (i : ℕ) (s : Claims) (step : Step) → list_any is_class_message (step_lines v i s step) ≡ false
+step_none v i s Gap = refl
+step_none v i s Tail = one (is_open s && not s.tail)
+  where
+    one : (a : Bool) → list_any is_class_message (if a then PartTrunc i ∷ [] else []) ≡ false
+    one true = refl
+    one false = refl
+step_none v i s (Run start len block) = one (is_open s)
+  where
+    one : (a : Bool) → list_any is_class_message (if a then run_lines v i s start len else []) ≡ false
+    one true = run_none v i s start len
+    one false = refl
 
-checks_reported : (v : Volume) → IsVolume v → IsUnmarked v →
-    IsSilent v ↔ (AreDirsUnreported v × AreLinksUnreported v × AreCountsUnreported v)
-checks_reported v vol un = (
-  (λ s.
-      let r = (silent_right v vol un).0 s in
-      ((dirs_reported v vol un).1 r.dirs, links_unreported v vol un r.dirs r.links, (counts_reported v).1 r.counts)),
-  (λ q.
-      let dirs = (dirs_reported v vol un).0 q.0 in
-      (silent_right v vol un).1
-      (record { dirs = dirs; links = links_right v vol un dirs q.1; counts = (counts_reported v).0 q.2 })),
-)
+steps_none : (v : Layout) (i : ℕ) (s : Claims) (steps : List Step) →
+    list_any is_class_message (lines_of_steps v i s steps) ≡ false
+steps_none v i s [] = refl
+steps_none v i s (step ∷ steps) = none_append (step_lines v i s step) (lines_of_steps v i (after_step v s step) steps)
+    (step_none v i s step) (steps_none v i (after_step v s step) steps)
+
+count_none : (v : Layout) (o : Owner) (end : Claims) → list_any is_class_message (count_lines v o end) ≡ false
+count_none v o end = one (is_file_or_dir o.class && (is_open end && not (o.blocks == sectors v end.kept)))
+  where
+    one : (a : Bool) → list_any is_class_message
+        (if a then BlockCount o.number o.blocks (sectors v end.kept) ∷ [] else []) ≡ false
+    one true = refl
+    one false = refl
+
+class_some : (i : ℕ) (c : Class) → list_any is_class_message (class_lines i c) ≡ not (is_right_class c)
+class_some i Free = refl
+class_some i Partial = refl
+class_some i Unknown = refl
+class_some i File = refl
+class_some i Dir = refl
+
+owner_some : (v : Layout) (s : Claims) (o : Owner) → list_any is_class_message (owner_lines v s o)
+    ≡ not (is_right_class o.class)
+owner_some v s o =
+    list_any-append is_class_message (class_lines o.number o.class)
+    (lines_of_steps v o.number (at_next_inode s) o.steps ++ count_lines v o (after_owner v s o))
+    ∙ rw (
+      class_some o.number o.class,
+      none_append (lines_of_steps v o.number (at_next_inode s) o.steps) (count_lines v o (after_owner v s o))
+          (steps_none v o.number (at_next_inode s) o.steps) (count_none v o (after_owner v s o)),
+    )
+    (or-false (not (is_right_class o.class)))
+
+owners_some : (v : Layout) (s : Claims) (os : List Owner) → list_any is_class_message (lines_of_owners v s os)
+    ≡ not (list_all (λ o. is_right_class o.class) os)
+owners_some v s [] = refl
+owners_some v s (o ∷ os) =
+    list_any-append is_class_message (owner_lines v s o) (lines_of_owners v (after_owner v s o) os)
+    ∙ rw (owner_some v s o, owners_some v (after_owner v s o) os)
+    (both (is_right_class o.class) (list_all (λ o. is_right_class o.class) os))
+  where
+    both : (a b : Bool) → (not a || not b) ≡ not (a && b)
+    both true b = refl
+    both false b = refl
+
+-- a class message is reported exactly where a class isn't right
+pub classes_reported : (v : Layout) (os : List Owner) → list_any is_class_message (phase1_lines v os)
+    ≡ not (list_all (λ o. is_right_class o.class) os)
+unfolding phase1_lines
+classes_reported v os = owners_some v (no_claims v) os
 
 -- THE WHOLE
 conditions : (image : List ℕ) (s : Superblock) → IsAcceptedLayout s.layout → ConditionsReported image s
@@ -215,10 +140,7 @@ conditions image s g =
       whole = same_whole v image;
       checks = λ b. checks_reported w (whole_is_volume v image g) (whole_unmarked v image b);
       dirs = λ b. dirs_reported w (whole_is_volume v image g) (whole_unmarked v image b);
-      links = λ b r. (
-        links_right w (whole_is_volume v image g) (whole_unmarked v image b) r,
-        links_unreported w (whole_is_volume v image g) (whole_unmarked v image b) r,
-      );
+      links = λ b. links_reported w (whole_is_volume v image g) (whole_unmarked v image b);
       counts = counts_reported w;
       groups = λ b. subst (λ free. (phase5_lines v image s.cstotal (is_free_of_kept v os) (class_at v image) ≡ []) ↔
           AreGroupsRight v image s.cstotal free (class_at v image))

@@ -1,27 +1,74 @@
--- Where the checks are silent, no directory has size 0.
-use Rattle.std.specs.Prelude.{◌≡◌, ◌≢◌, ℕ, ◌≤◌, ◌==◌, true, false, not, ◌&&◌, nat_lt, nat_le, refl, Some, None}
-use Rattle.std.specs.List.{list_any}
-use Rattle.std.proofs.Common.{arith, sym, ◌∙◌, ap, subst, inl, inr}
-use Rattle.std.proofs.lemmas.Bool.{both_ways, cases_Bool, cases_eq, eq-eqb, ne_eqb, leb-true, and_parts, and_from}
-use Rattle.std.proofs.lemmas.Bool.{or_from, or_right, not_from_false}
-use Rattle.ffs_volume.specs.declared.Class.{Class}
+-- Where the checks are silent, no directory has size 0; plain entries are live.
+use Rattle.std.proofs.Common.{◌≡◌, ◌≢◌, ℕ, zero, suc, ◌==◌, Bool, true, false, not, ◌&&◌, List, [], ◌∷◌, ◌++◌, Some}
+use Rattle.std.proofs.Common.{if◌then◌else◌, sym, ◌∙◌, ap, subst, inl, inr, ◌⊎◌, refl, ◌≤◌, nat_lt, nat_le, None, arith}
+use Rattle.std.proofs.lemmas.Bool.{eqb-false, both_ways, cases_Bool, cases_eq, eq-eqb, ne_eqb, leb-true, and_parts}
+use Rattle.std.proofs.lemmas.Bool.{and_from, or_from, or_right, not_from_false}
+use Rattle.std.specs.List.{flat_map, list_any}
+use Rattle.ffs_volume.specs.declared.Role.TheVariants.{Empty, Dot, Dotdot, Extra, Plain}
 use Rattle.ffs_volume.specs.declared.Class.TheVariants.{Free, Partial, Unknown, File, Dir}
-use Rattle.ffs_volume.specs.Blocks.Inodes.{is_directory, is_allocated}
-use Rattle.ffs_volume.specs.Directories.Roles.{Volume, is_dir, is_inode, is_allocated_inode, is_suspect, roled_entries}
-use Rattle.ffs_volume.proofs.SearchLaws.{some_below-gives, first_below-is}
-use Rattle.ffs_volume.specs.Directories.Climb.{is_value}
-use Rattle.ffs_volume.proofs.ClimbLaws.{is_value-from}
+use Rattle.ffs_volume.specs.Directories.Roles.{Volume, RoledEntry, role_of, roled_from, roled_chunk, roled_entries}
+use Rattle.ffs_volume.specs.Directories.Roles.{is_one_dot, is_two_dots, is_dir, is_inode, is_allocated_inode}
+use Rattle.ffs_volume.specs.Directories.Parents.{nth_roled, graph_of, first_naming_dir, is_first_naming_entry}
 use Rattle.ffs_volume.specs.Directories.Graph.{is_naming_entry, is_naming_dir, is_named, first_index, test_at}
-use Rattle.ffs_volume.proofs.Graphs.{IsSane, NoneDead}
-use Rattle.ffs_certificate.proofs.Links.{place_of}
-use Rattle.ffs_volume.specs.Directories.Parents.{graph_of, nth_roled, first_naming_dir, is_first_naming_entry}
-use Rattle.ffs_volume.specs.Directories.PathnameCheck.{is_first_entry_of_suspect}
-use Rattle.ffs_volume.specs.Directories.Connectivity.{is_dead}
+use Rattle.ffs_volume.specs.Directories.{Roles.is_suspect, Entries.Entry, Entries.Chunk, Climb.is_value}
+use Rattle.ffs_volume.specs.Directories.{PathnameCheck.is_first_entry_of_suspect, Connectivity.is_dead}
+use Rattle.ffs_volume.specs.{declared.Role.Role, declared.Class.Class, Blocks.Inodes.is_directory}
+use Rattle.ffs_volume.specs.{Blocks.Inodes.is_allocated}
+use Rattle.ffs_volume.proofs.{SearchLaws.some_below-gives, SearchLaws.first_below-is, ClimbLaws.is_value-from}
+use Rattle.ffs_volume.proofs.{Graphs.IsSane, Graphs.NoneDead, Booleans.and_false-from}
 use Rattle.ffs_certificate.specs.Premises.{IsVolume, IsUnmarked}
-use Rattle.ffs_volume.proofs.Booleans.{and_false-from}
-use Rattle.ffs_certificate.proofs.Entries.{IsNamer, names_at-gives}
-use Rattle.ffs_certificate.proofs.Dirs.{IsPathnameQuiet, dir-below}
-use Rattle.ffs_certificate.proofs.Counts.{IsCountQuiet}
+use Rattle.ffs_certificate.proofs.Silent.{IsNamer, names_at-gives, IsPathnameQuiet, dir-below, IsCountQuiet}
+use Rattle.ffs_certificate.proofs.Reached.{place_of}
+
+role-live : (first : Bool) (index : ℕ) (e : Entry) → role_of first index e ≡ Plain → e.number ≢ 0
+unfolding role_of
+role-live first index e h = eqb-false e.number 0 (go (e.number == 0) refl)
+  where
+    dead : (b : Bool) → b ≡ true → (xs : Role) → (if not (not b) then Empty else xs) ≡ Plain → ⊥
+    dead true q xs h = absurd (cc)
+    dead false q xs h = absurd (cc)
+
+    go : (b : Bool) → (e.number == 0) ≡ b → (e.number == 0) ≡ false
+    go false q = q
+    go true q = absurd (let z = sym (ap (λ x. if not (not x) then Empty
+        else (if is_one_dot e.name then (if first && (index == 0) then Dot else Extra)
+        else (if is_two_dots e.name then (if first && (index == 1) then Dotdot else Extra) else Plain))) q) ∙ h in cc)
+
+roled_from-live : (first : Bool) (index : ℕ) (es : List Entry) (j : ℕ) (s : RoledEntry) →
+    nth_roled (roled_from first index es) j ≡ Some s → s.role ≡ Plain → s.entry.number ≢ 0
+unfolding roled_from
+roled_from-live first index [] j s t r = absurd (cc)
+roled_from-live first index (e ∷ es) zero s t r =
+    let q : s ≡ record { role = role_of first index e; entry = e } = cc in
+    let n : s.entry ≡ e = ap (λ x. x.entry) q in
+    let m : role_of first index e ≡ Plain = sym (ap (λ x. x.role) q) ∙ r in
+    subst (λ x. x.number ≢ 0) (sym n) (role-live first index e m)
+roled_from-live first index (e ∷ es) (suc j) s t r = roled_from-live first (suc index) es j s t r
+
+-- an entry of two lists is one of either
+roled_at-join : (xs ys : List RoledEntry) (j : ℕ) (s : RoledEntry) → nth_roled (xs ++ ys) j ≡ Some s →
+    ((k : ℕ) × (nth_roled xs k ≡ Some s)) ⊎ ((k : ℕ) × (nth_roled ys k ≡ Some s))
+roled_at-join [] ys j s t = inr (j, t)
+roled_at-join (x ∷ xs) ys zero s t = inl (0, t)
+roled_at-join (x ∷ xs) ys (suc j) s t =
+    elim (roled_at-join xs ys j s t) [
+      | inl p ↦ inl (suc p.0, p.1)
+      | inr p ↦ inr p
+    ]
+
+chunks-live : (chunks : List Chunk) (j : ℕ) (s : RoledEntry) → nth_roled (flat_map roled_chunk chunks) j ≡ Some s →
+    s.role ≡ Plain → s.entry.number ≢ 0
+chunks-live [] j s t r = absurd (cc)
+chunks-live (c ∷ chunks) j s t r =
+    elim (roled_at-join (roled_chunk c) (flat_map roled_chunk chunks) j s t) [
+      | inl p ↦ roled_from-live (c.offset == 0) 0 c.entries p.0 s p.1 r
+      | inr p ↦ chunks-live chunks p.0 s p.1 r
+    ]
+
+pub plain-live : (v : Volume) (d j : ℕ) (s : RoledEntry) → nth_roled (roled_entries v d) j ≡ Some s → s.role ≡ Plain →
+    s.entry.number ≢ 0
+unfolding roled_entries
+plain-live v d j s t r = chunks-live (v.chunks d) j s t r
 
 pub is_sane : (v : Volume) → IsVolume v → IsSane (graph_of v)
 is_sane v vol = record { some = vol.some; dirs = dir-below v }

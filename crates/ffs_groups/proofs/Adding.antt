@@ -1,104 +1,141 @@
--- Blocks are added one after the other, and word after word.
-use Rattle.std.proofs.Common.{◌≡◌, ℕ, zero, suc, ◌+◌, ◌*◌, ◌/◌, ◌%◌, ◌^◌, ◌<◌, ◌≤◌, Bool, true, false, List, [], ◌∷◌}
-use Rattle.std.proofs.Common.{map, length, cond, arith, refl, ap, ◌∙◌, sym, count_by, nat_eq, slice_index}
-use Rattle.std.specs.Prelude.{◌==◌, ◌&&◌}
-use Rattle.std.specs.List.{range_with_len, sum_by}
-use Rattle.std.specs.Int.{bit_at}
+-- What the blocks of a group add to the counts, by stretches and by blocks.
+use Rattle.std.proofs.Common.{◌≡◌, ℕ, zero, suc, ◌+◌, ◌-◌, ◌<◌, ◌≤◌, Bool, true, false, List, [], ◌∷◌, length, cond}
+use Rattle.std.proofs.Common.{arith, refl, ap, ◌∙◌, sym, count_by, nat_eq, min, length-append, bit_and, ◌/◌, ◌^◌, ◌==◌}
+use Rattle.std.proofs.Common.{◌*◌, ◌%◌, map, slice_index, ◌&&◌}
+use Rattle.std.proofs.lemmas.List.Sums.{sum_by-cons, sum_by-append, count_by-le-length}
 use Rattle.std.proofs.lemmas.Nat.{mul-add-lt, mul-le, div-add-mod'}
-use Rattle.std.proofs.lemmas.List.Sums.{count_by-le-length}
-use Rattle.ffs_maps.specs.Bits.{is_clear}
-use Rattle.ffs_maps.proofs.WordShifts.{bit_shr}
-use Rattle.ffs_maps.proofs.Counting.{sum_split}
-use Rattle.ffs_volume.specs.Groups.Records.{has_bits, is_free_block, free_stretches}
-use Rattle.ffs_groups.specs.declared.free.FreeCounts.{FreeCounts}
+use Rattle.std.{proofs.lemmas.Nat.Bits.shr_and_one, specs.List.range_with_len, specs.List.sum_by}
+use Rattle.std.{proofs.lemmas.List.FromFn.length-map-range_with_len, specs.Int.bit_at, proofs.lemmas.Bool.ne_eqb}
+use Rattle.ffs_volume.specs.Groups.Records.{free_stretches, stretch_of, has_bits, is_free_block}
+use Rattle.ffs_maps.proofs.{WordShifts.bit_shr, Counting.sum_split, Counting.sum_same, Bits.zeros_at}
+use Rattle.ffs_groups.specs.{declared.free.FreeCounts.FreeCounts}
 use Rattle.ffs_groups.specs.Free.{word_bits, whole_in, loose_in, stretches_in, AreBelow, Added, free_in}
-use Rattle.ffs_groups.proofs.Sums.{sum_more, sum_same, sum_within, map_same}
-use Rattle.ffs_groups.proofs.MapWords.{map_parts}
-use Rattle.ffs_groups.proofs.FreeStretches.{stretches_few}
+use Rattle.ffs_groups.proofs.{Sums.sum_more, Sums.sum_within, Sums.map_same, MapWords.map_parts}
 
-from_zero : (f : ℕ → ℕ) (n m : ℕ) →
-    sum_by f (range_with_len 0 (n + m)) ≡ sum_by f (range_with_len 0 n) + sum_by f (range_with_len n m)
-from_zero f n m =
-    let at : 0 + n ≡ n = omega arith in
-    sum_split f 0 n m (n + m) refl ∙ ap (λ j. sum_by f (range_with_len 0 n) + sum_by f (range_with_len j m)) at
+stretch_len : (n : ℕ) → length (stretch_of n) ≤ min n 1
+stretch_len zero = omega arith
+stretch_len (suc n) = let some : (suc n == 0) ≡ false = grind arith in rw some (omega arith)
+
+pub stretches_len : (n : ℕ) (bits : List Bool) → length (free_stretches n bits) ≤ min n 1 + length bits
+stretches_len n [] = omega (arith, stretch_len n)
+stretches_len n (true ∷ bits) = omega (arith, stretches_len (n + 1) bits)
+stretches_len n (false ∷ bits) =
+    omega (arith, stretch_len n, stretches_len 0 bits, length-append (stretch_of n) (free_stretches 0 bits))
+
+pub stretches_few : (k : ℕ) (bits : List Bool) → count_by (λ n. n == k) (free_stretches 0 bits) ≤ length bits
+stretches_few k bits = omega (arith, stretches_len 0 bits, count_by-le-length (λ n. n == k) (free_stretches 0 bits))
+
+pub bits_next : (word k n m : ℕ) → n ≡ m + 1 → word_bits word k n ≡ nat_eq (bit_at word k) 1 ∷ word_bits word (k + 1) m
+bits_next word k n m e = let s : n ≡ suc m = omega (arith, e) in ap (λ j. word_bits word k j) s
+
+pub length_bits : (word k n : ℕ) → length (word_bits word k n) ≡ n
+length_bits word k n = length-map-range_with_len (λ j. nat_eq (bit_at word j) 1) k n
+
+-- what is still to be counted, where the next fragment is free, and where it isn't
+pub free_next : (word k n m : ℕ) → n ≡ m + 1 → nat_eq (bit_at word k) 1 ≡ true →
+    count_by (λ f. f) (word_bits word k n) ≡ 1 + count_by (λ f. f) (word_bits word (k + 1) m)
+free_next word k n m e set_ =
+    rw (bits_next word k n m e, set_) (sum_by-cons (λ f. cond f 1 0) true (word_bits word (k + 1) m))
+
+pub used_next : (word k n m : ℕ) → n ≡ m + 1 → nat_eq (bit_at word k) 1 ≡ false →
+    count_by (λ f. f) (word_bits word k n) ≡ count_by (λ f. f) (word_bits word (k + 1) m)
+used_next word k n m e clear_ =
+    rw (bits_next word k n m e, clear_) (omega (arith, sum_by-cons (λ f. cond f 1 0) false (word_bits word (k + 1) m)))
+
+pub stretch_grows : (word k n m r j : ℕ) → n ≡ m + 1 → nat_eq (bit_at word k) 1 ≡ true →
+    count_by (λ x. x == j) (free_stretches r (word_bits word k n)) ≡ count_by (λ x. x == j)
+    (free_stretches (r + 1) (word_bits word (k + 1) m))
+stretch_grows word k n m r j e set_ = rw (bits_next word k n m e, set_) refl
+
+pub stretch_ends : (word k n m r j : ℕ) → n ≡ m + 1 → nat_eq (bit_at word k) 1 ≡ false →
+    count_by (λ x. x == j) (free_stretches r (word_bits word k n)) ≡ count_by (λ x. x == j) (stretch_of r) + count_by
+    (λ x. x == j) (free_stretches 0 (word_bits word (k + 1) m))
+stretch_ends word k n m r j e clear_ =
+    rw (bits_next word k n m e, clear_)
+    (sum_by-append (λ x. cond (x == j) 1 0) (stretch_of r) (free_stretches 0 (word_bits word (k + 1) m)))
+
+pub stretches_within : (word n j : ℕ) → count_by (λ x. x == j) (free_stretches 0 (word_bits word 0 n)) ≤ n
+stretches_within word n j = omega (arith, stretches_few j (word_bits word 0 n), length_bits word 0 n)
+
+pub free_within : (word n : ℕ) → count_by (λ f. f) (word_bits word 0 n) ≤ n
+free_within word n = omega (arith, count_by-le-length (λ f. f) (word_bits word 0 n), length_bits word 0 n)
+
+-- the test that the code makes
+pub bit_set : (word k : ℕ) → bit_and (word / 2 ^ k) 1 ≡ 1 → nat_eq (bit_at word k) 1 ≡ true
+bit_set word k e = let b : bit_at word k ≡ 1 = sym (shr_and_one word k) ∙ e in rw b refl
+
+pub bit_clear : (word k : ℕ) → (bit_and (word / 2 ^ k) 1 ≡ 1 → ⊥) → nat_eq (bit_at word k) 1 ≡ false
+bit_clear word k apart = ne_eqb (bit_at word k) 1 (λ e. apart (shr_and_one word k ∙ e))
+
+from_zero : (f : ℕ → ℕ) (n m : ℕ) → sum_by f (range_with_len 0 (n + m))
+    ≡ sum_by f (range_with_len 0 n) + sum_by f (range_with_len n m)
+from_zero f n m = let at : 0 + n ≡ n = omega arith in rw at at (sum_split f 0 n m (n + m) refl)
 
 one_from_zero : (f : ℕ → ℕ) (n : ℕ) → sum_by f (range_with_len 0 (n + 1)) ≡ sum_by f (range_with_len 0 n) + f n
-one_from_zero f n =
-    let at : 0 + n ≡ n = omega arith in
-    sum_more f 0 n ∙ ap (λ j. sum_by f (range_with_len 0 n) + f j) at
-
-add_up : (new mid old a b s : ℕ) → mid ≡ old + a → new ≡ mid + b → s ≡ a + b → new ≡ old + s
-add_up new mid old a b s e f g = omega (arith, e, f, g)
+one_from_zero f n = let at : 0 + n ≡ n = omega arith in rw at at (sum_more f 0 n)
 
 -- one block more
 pub added_more : (bits : ℕ → List Bool) (n : ℕ) (old mid new : FreeCounts) → Added bits 0 n old mid →
     new.blocks ≡ mid.blocks + whole_in (bits n) → new.fragments ≡ mid.fragments + loose_in (bits n) →
-    ((k : ℕ) → slice_index new.frsum k ≡ slice_index mid.frsum k + stretches_in k (bits n)) → Added bits 0 (n + 1) old new
+    ((k : ℕ) → slice_index new.frsum k ≡ slice_index mid.frsum k + stretches_in k (bits n)) →
+    Added bits 0 (n + 1) old new
 added_more bits n old mid new a blocks fragments frsum = record {
-  blocks = add_up new.blocks mid.blocks old.blocks _ (whole_in (bits n)) _ a.blocks blocks
-      (one_from_zero (λ b. whole_in (bits b)) n);
-  fragments = add_up new.fragments mid.fragments old.fragments _ (loose_in (bits n)) _ a.fragments fragments
-      (one_from_zero (λ b. loose_in (bits b)) n);
-  frsum = λ k. add_up (slice_index new.frsum k) (slice_index mid.frsum k) (slice_index old.frsum k) _ (stretches_in k (bits n)) _
-      (a.frsum k) (frsum k) (one_from_zero (λ b. stretches_in k (bits b)) n);
+  blocks = omega (arith, a.blocks, blocks, one_from_zero (λ b. whole_in (bits b)) n);
+  fragments = omega (arith, a.fragments, fragments, one_from_zero (λ b. loose_in (bits b)) n);
+  frsum = λ k. omega (arith, a.frsum k, frsum k, one_from_zero (λ b. stretches_in k (bits b)) n);
 }
 
 joined_sums : (f : List Bool → ℕ) (bits other : ℕ → List Bool) (n m : ℕ) → ((k : ℕ) → k < m → other k ≡ bits (n + k)) →
     sum_by (λ b. f (bits b)) (range_with_len 0 (n + m)) ≡ sum_by (λ b. f (bits b)) (range_with_len 0 n) + sum_by
     (λ b. f (other b)) (range_with_len 0 m)
 joined_sums f bits other n m same =
-    from_zero (λ b. f (bits b)) n m
-    ∙ ap (λ x. sum_by (λ b. f (bits b)) (range_with_len 0 n) + x)
-    (sum_same (λ b. f (bits b)) (λ b. f (other b)) n 0 m
-    (λ k h. let at : 0 + k ≡ k = omega arith in sym (ap (λ j. f (other j)) at ∙ ap f (same k h))))
+    let last = sum_same (λ b. f (bits b)) (λ b. f (other b)) n 0 m
+    (λ k h. let at : 0 + k ≡ k = omega arith in rw (at, same k h) refl) in
+    omega (arith, last, from_zero (λ b. f (bits b)) n m)
 
 -- the blocks of a word more
 pub added_join : (bits other : ℕ → List Bool) (n m : ℕ) (old mid new : FreeCounts) → Added bits 0 n old mid →
     Added other 0 m mid new →
     ((k : ℕ) → k < m → other k ≡ bits (n + k)) → Added bits 0 (n + m) old new
 added_join bits other n m old mid new a b same = record {
-  blocks = add_up new.blocks mid.blocks old.blocks _ _ _ a.blocks b.blocks (joined_sums whole_in bits other n m same);
-  fragments = add_up new.fragments mid.fragments old.fragments _ _ _ a.fragments b.fragments
-      (joined_sums loose_in bits other n m same);
-  frsum = λ k. add_up (slice_index new.frsum k) (slice_index mid.frsum k) (slice_index old.frsum k) _ _ _ (a.frsum k)
-      (b.frsum k) (joined_sums (stretches_in k) bits other n m same);
+  blocks = omega (arith, a.blocks, b.blocks, joined_sums whole_in bits other n m same);
+  fragments = omega (arith, a.fragments, b.fragments, joined_sums loose_in bits other n m same);
+  frsum = λ k. omega (arith, a.frsum k, b.frsum k, joined_sums (stretches_in k) bits other n m same);
 }
 
-whole_few : (bits : List Bool) → whole_in bits ≤ 8
-whole_few bits = go (is_free_block bits)
-  where
-    go : (b : Bool) → cond b 1 0 ≤ 8
-    go true = omega arith
-    go false = omega arith
+-- one of two numbers within a limit
+either_within : (b : Bool) (m n k : ℕ) → m ≤ k → n ≤ k → cond b m n ≤ k
+either_within true m n k h l = h
+either_within false m n k h l = l
 
-loose_few : (bits : List Bool) → length bits ≤ 8 → loose_in bits ≤ 8
-loose_few bits h = go (is_free_block bits)
-  where
-    go : (b : Bool) → cond b 0 (count_by (λ f. f) bits) ≤ 8
-    go true = omega arith
-    go false = omega (arith, h, count_by-le-length (λ f. f) bits)
+whole_one : (bits : List Bool) → whole_in bits ≤ 1
+whole_one bits = either_within (is_free_block bits) 1 0 1 (omega arith) (omega arith)
 
-stretch_few : (k : ℕ) (bits : List Bool) → length bits ≤ 8 → stretches_in k bits ≤ 8
-stretch_few k bits h = go (is_free_block bits)
-  where
-    go : (b : Bool) → cond b 0 (count_by (λ n. n == k) (free_stretches 0 bits)) ≤ 8
-    go true = omega arith
-    go false = omega (arith, h, stretches_few k bits)
+loose_length : (bits : List Bool) → loose_in bits ≤ length bits
+loose_length bits =
+    either_within (is_free_block bits) 0 _ (length bits) (omega arith) (count_by-le-length (λ f. f) bits)
 
-below_more : (new old s n limit low : ℕ) → new ≡ old + s → s ≤ n * 8 → old < low → low + 8 * n ≤ limit → new < limit
-below_more new old s n limit low e h l fits = omega arith
+stretch_length : (k : ℕ) (bits : List Bool) → stretches_in k bits ≤ length bits
+stretch_length k bits = either_within (is_free_block bits) 0 _ (length bits) (omega arith) (stretches_few k bits)
 
 -- n blocks add at most 8 times n to any count
 pub added_below : (bits : ℕ → List Bool) (n low limit : ℕ) (old new : FreeCounts) → Added bits 0 n old new →
     ((b : ℕ) → length (bits b) ≤ 8) →
     AreBelow low old → low + 8 * n ≤ limit → AreBelow limit new
 added_below bits n low limit old new a short l fits = record {
-  blocks = below_more new.blocks old.blocks _ n limit low a.blocks
-      (sum_within (λ b. whole_in (bits b)) 8 0 n (λ k. whole_few (bits k))) l.blocks fits;
-  fragments = below_more new.fragments old.fragments _ n limit low a.fragments
-      (sum_within (λ b. loose_in (bits b)) 8 0 n (λ k. loose_few (bits k) (short k))) l.fragments fits;
-  frsum = λ j. below_more (slice_index new.frsum j) (slice_index old.frsum j) _ n limit low (a.frsum j)
-      (sum_within (λ b. stretches_in j (bits b)) 8 0 n (λ k. stretch_few j (bits k) (short k))) (l.frsum j) fits;
+  blocks = omega (arith, a.blocks, l.blocks, sum_within (λ b. whole_in (bits b)) 1 0 n (λ k. whole_one (bits k)));
+  fragments = omega (
+    arith,
+    a.fragments,
+    l.fragments,
+    sum_within (λ b. loose_in (bits b)) 8 0 n (λ k. omega (arith, loose_length (bits k), short k)),
+  );
+  frsum = λ j. omega (
+    arith,
+    a.frsum j,
+    l.frsum j,
+    sum_within (λ b. stretches_in j (bits b)) 8 0 n (λ k. omega (arith, stretch_length j (bits k), short k)),
+  );
 }
 
 -- a block of a word, in the numbers of the volume
@@ -109,55 +146,18 @@ pub word_block : (free : ℕ → Bool) (word start frag block k some : ℕ) →
 word_block free word start frag block k some has low fits =
     map_same (λ j. nat_eq (bit_at (word / 2 ^ (k * frag)) j) 1) free 0 (start + (block + k) * frag) frag (λ j h.
     let at : 0 + j ≡ j = omega arith in
-    let inside : j + k * frag < 64 = omega (arith, mul-add-lt k frag j some low h) in
-    let place : start + block * frag + (j + k * frag) ≡ start + (block + k) * frag + j = omega arith in
-    ap (λ i. nat_eq (bit_at (word / 2 ^ (k * frag)) i) 1) at
-    ∙ ap (λ x. nat_eq x 1) (bit_shr word (k * frag) j)
-    ∙ has (j + k * frag) inside
-    ∙ ap free place)
+    let place : start + (block + k) * frag + j ≡ start + block * frag + (j + k * frag) = omega arith in
+    rw (at, place, bit_shr word (k * frag) j) (has (j + k * frag) (omega (arith, mul-add-lt k frag j some low h))))
 
 pub no_stretches : (k : ℕ) → slice_index (0 ∷ 0 ∷ 0 ∷ 0 ∷ 0 ∷ 0 ∷ 0 ∷ 0 ∷ 0 ∷ []) k ≡ 0
-no_stretches zero = refl
-no_stretches (suc zero) = refl
-no_stretches (suc (suc zero)) = refl
-no_stretches (suc (suc (suc zero))) = refl
-no_stretches (suc (suc (suc (suc zero)))) = refl
-no_stretches (suc (suc (suc (suc (suc zero))))) = refl
-no_stretches (suc (suc (suc (suc (suc (suc zero)))))) = refl
-no_stretches (suc (suc (suc (suc (suc (suc (suc zero))))))) = refl
-no_stretches (suc (suc (suc (suc (suc (suc (suc (suc zero)))))))) = refl
-no_stretches (suc (suc (suc (suc (suc (suc (suc (suc (suc k))))))))) = refl
+no_stretches k = zeros_at 9 k
 
 pub count_start : (f : ℕ → ℕ) (n m z : ℕ) → z ≡ 0 → n ≡ m →
     z + sum_by f (range_with_len 0 n) ≡ sum_by f (range_with_len 0 m)
-count_start f n m z e same =
-    let last : sum_by f (range_with_len 0 n) ≡ sum_by f (range_with_len 0 m) =
-    ap (λ j. sum_by f (range_with_len 0 j)) same in
-    omega (arith, e, last)
-
-pub clear_as_free : (used : List Bool) (size size' f g : ℕ) → size ≡ size' → f ≡ g →
-    is_clear used size f ≡ free_in used size' g
-clear_as_free used size size' f g e at = rw (e, at) refl
-
-pub place_is : (a b f a' b' f' j : ℕ) → a ≡ a' → b ≡ b' → f ≡ f' → a + b * f + j ≡ a' + b' * f' + j
-place_is a b f a' b' f' j e g h = rw (e, g, h) refl
+count_start f n m z e same = rw same (omega (arith, e))
 
 pub word_fits : (some frag : ℕ) → some ≤ 64 / frag → some * frag ≤ 64
 word_fits some frag h = omega (arith, mul-le some frag (64 / frag) frag h (omega arith), div-add-mod' 64 frag)
-
-loose_length : (bits : List Bool) → loose_in bits ≤ length bits
-loose_length bits = go (is_free_block bits)
-  where
-    go : (b : Bool) → cond b 0 (count_by (λ f. f) bits) ≤ length bits
-    go true = omega arith
-    go false = count_by-le-length (λ f. f) bits
-
-whole_one : (bits : List Bool) → whole_in bits ≤ 1
-whole_one bits = go (is_free_block bits)
-  where
-    go : (b : Bool) → cond b 1 0 ≤ 1
-    go true = omega arith
-    go false = omega arith
 
 pub loose_fits : (bits : ℕ → List Bool) (frag n : ℕ) → ((b : ℕ) → length (bits b) ≡ frag) →
     sum_by (λ b. loose_in (bits b)) (range_with_len 0 n) ≤ n * frag
@@ -176,10 +176,5 @@ pub fragment_map : (used : List Bool) (size size' : ℕ) (block : List ℕ) (pla
     (first && end) ≡ has_bits block place n' (λ k. free_in used size' (base' + k))
 fragment_map used size size' block place n n' base base' last at first end sizes fragments bases is_last is_at is_first
     is_end =
-    ap (λ b. b && end) is_first
-    ∙ ap (λ b. has_bits block place (64 * (n / 64)) (λ k. free_in used size (base + k)) && b)
-    (is_end ∙ ap (λ j. has_bits block at (n % 64) (λ k. free_in used size (j + k))) is_last)
-    ∙ sym (map_parts block place (n / 64) (n % 64) n at base (free_in used size) (omega arith) is_at)
-    ∙ ap (λ j. has_bits block place j (λ k. free_in used size (base + k))) fragments
-    ∙ ap (λ s. has_bits block place n' (λ k. free_in used s (base + k))) sizes
-    ∙ ap (λ j. has_bits block place n' (λ k. free_in used size' (j + k))) bases
+    rw (is_first, is_end, is_last, ← sizes, ← fragments, ← bases)
+    (sym (map_parts block place (n / 64) (n % 64) n at base (free_in used size) (omega arith) is_at))

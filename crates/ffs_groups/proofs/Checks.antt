@@ -1,23 +1,42 @@
--- The numbers of a group block.
-use Rattle.std.proofs.Common.{◌≡◌, ℕ, ◌+◌, ◌*◌, ◌<◌, Bool, List, map, refl, ap, ◌∙◌, slice_index, arith}
-use Rattle.std.specs.Prelude.{◌==◌, ◌&&◌, pos}
-use Rattle.std.specs.List.{range_with_len}
+-- The numbers of a group block, by the bits of signed numbers.
+use Rattle.std.proofs.Common.{◌≡◌, ◌==◌, ℕ, ◌<◌, ◌^◌, List, drop, slice_index, subst, sym, ap, ◌+◌, arith, ◌*◌, Bool}
+use Rattle.std.proofs.Common.{map, refl, ◌∙◌, ◌&&◌, pos}
 use Rattle.std.proofs.lemmas.List.FromFn.{get_or-map-range_with_len}
-use Rattle.ffs_volume.specs.declared.Layout.{Layout}
-use Rattle.ffs_volume.specs.declared.Class.{Class}
-use Rattle.ffs_volume.specs.Disk.Numbers.{i32_at, u32_at, all_below}
-use Rattle.ffs_volume.specs.Groups.Records.{GroupCounts, has_counts, right_group_counts, right_frsum, group_size}
-use Rattle.ffs_volume.specs.Groups.Records.{has_right_sums}
+use Rattle.std.{specs.Int.w32, proofs.lemmas.Int.of_z-to_z, proofs.lemmas.List.get_or-drop, specs.List.range_with_len}
+use Rattle.ffs_volume.specs.declared.Order.TheVariants.{Little, Big}
+use Rattle.ffs_volume.specs.Groups.Records.{has_counts, right_group_counts, right_frsum, group_size, has_right_sums}
+use Rattle.ffs_volume.specs.{declared.Order.Order, declared.Layout.Layout, declared.Class.Class, Disk.Numbers.i32_at}
+use Rattle.ffs_volume.specs.{Disk.Numbers.u32_at, Disk.Numbers.number, Disk.Numbers.all_below}
 use Rattle.ffs_layout.specs.Group.{group_summary_at}
-use Rattle.ffs_groups.specs.declared.counts.Counts.{Counts}
-use Rattle.ffs_groups.specs.Check.{AreCounts, group_counts_of, has_bits_of, same_counts, same_frsum_at}
 use Rattle.ffs_groups.specs.declared.counts.SummaryCounts.{SummaryCounts}
-use Rattle.ffs_groups.specs.declared.free.FreeCounts.{FreeCounts}
-use Rattle.ffs_groups.specs.declared.inodes.InodeCounts.{InodeCounts}
-use Rattle.ffs_groups.specs.Free.{AreFree}
-use Rattle.ffs_groups.specs.Inodes.{AreInodes}
+use Rattle.ffs_groups.specs.declared.{counts.Counts.Counts, free.FreeCounts.FreeCounts, inodes.InodeCounts.InodeCounts}
+use Rattle.ffs_groups.specs.Check.{has_bits_of, AreCounts, group_counts_of, same_counts, same_frsum_at}
+use Rattle.ffs_groups.specs.{Free.AreFree, Inodes.AreInodes}
 use Rattle.ffs_groups.proofs.MapWords.{same_below}
-use Rattle.ffs_groups.proofs.Signs.{bits_are}
+
+-- a byte from a place on
+byte_from : (place : ℕ) (bytes : List ℕ) → ((k : ℕ) → slice_index bytes k < 256) → (i : ℕ) →
+    slice_index (drop place bytes) i < 256
+byte_from place bytes h i = subst (λ x. x < 256) (sym (get_or-drop place bytes i 0)) (h (place + i))
+
+-- four bytes
+in_word : (order : Order) (place : ℕ) (bytes : List ℕ) → ((k : ℕ) → slice_index bytes k < 256) →
+    u32_at order place bytes < 2 ^ 32
+unfolding u32_at number
+in_word Little place bytes h =
+    let at = byte_from place bytes h in
+    let a = at 0 in let b = at 1 in let c = at 2 in let d = at 3 in
+    omega arith
+in_word Big place bytes h =
+    let at = byte_from place bytes h in
+    let a = at 0 in let b = at 1 in let c = at 2 in let d = at 3 in
+    omega arith
+
+pub bits_are : (order : Order) (place : ℕ) (bytes : List ℕ) (n : ℕ) → ((k : ℕ) → slice_index bytes k < 256) →
+    has_bits_of (i32_at order place bytes) n ≡ (u32_at order place bytes == n)
+unfolding i32_at has_bits_of
+bits_are order place bytes n h =
+    ap (λ x. x == n) (of_z-to_z w32 (u32_at order place bytes) (in_word order place bytes h))
 
 -- the summary of an image is compared as the words in its bytes
 pub summary_as : (v : Layout) (place : ℕ) (bytes : List ℕ) (right : SummaryCounts) →
@@ -42,24 +61,18 @@ pub sums_as : (v : Layout) (free : ℕ → Bool) (class : ℕ → Class) (c : �
     ((k : ℕ) → slice_index block k < 256) → AreCounts v free class c counts →
     (has_bits_of (i32_at v.order 12 block) c && (has_bits_of (i32_at v.order 20 block) (group_size v c)
     && (same_counts (group_summary_at v.order 24 block) counts.summary
-    && all_below 8 (λ k. same_frsum_at (map (λ j. i32_at v.order (52 + 4 * j) block) (range_with_len 0 8)) counts.frsum k))))
+    && all_below 8 (λ k. same_frsum_at (map (λ j. i32_at v.order (52 + 4 * j) block) (range_with_len 0 8))
+    counts.frsum k))))
     ≡ has_right_sums v free class c block
 unfolding has_right_sums
-sums_as v free class c block counts h right =
-    all_four _ _ _ _ _ _ _ _ (bits_are v.order 12 block c h) (bits_are v.order 20 block (group_size v c) h)
-    (summary_as v 24 block counts.summary h ∙ ap (has_counts v 24 block) right.summary)
-    (same_below 8 (λ k. same_frsum_at (map (λ j. i32_at v.order (52 + 4 * j) block) (range_with_len 0 8)) counts.frsum k)
-    (λ k. u32_at v.order (52 + 4 * k) block == right_frsum v free c k)
-    (λ k l. stretch_as v block counts.frsum k h l ∙ ap (λ x. u32_at v.order (52 + 4 * k) block == x) (right.frsum k)))
-  where
-    all_four : (a b c d a' b' c' d' : Bool) → a ≡ a' → b ≡ b' → c ≡ c' → d ≡ d' →
-        (a && (b && (c && d))) ≡ (a' && (b' && (c' && d')))
-    all_four a b c d a' b' c' d' p q r s = rw (p, q, r, s) refl
-
-same_summary_of : (a b i f a' b' i' f' : ℕ) → a ≡ a' → b ≡ b' → i ≡ i' → f ≡ f' →
-    Path GroupCounts (record { dirs = a; blocks = b; inodes = i; fragments = f })
-    (record { dirs = a'; blocks = b'; inodes = i'; fragments = f' })
-same_summary_of a b i f a' b' i' f' p q r s = rw (p, q, r, s) refl
+sums_as v free class c block counts h right = rw (
+  bits_are v.order 12 block c h,
+  bits_are v.order 20 block (group_size v c) h,
+  summary_as v 24 block counts.summary h ∙ ap (has_counts v 24 block) right.summary,
+  same_below 8 (λ k. same_frsum_at (map (λ j. i32_at v.order (52 + 4 * j) block) (range_with_len 0 8)) counts.frsum k)
+      (λ k. u32_at v.order (52 + 4 * k) block == right_frsum v free c k)
+      (λ k l. stretch_as v block counts.frsum k h l ∙ ap (λ x. u32_at v.order (52 + 4 * k) block == x) (right.frsum k)),
+) refl
 
 -- counts of fragments and of inodes are the counts of a group
 pub are_counts : (v : Layout) (free : ℕ → Bool) (class : ℕ → Class) (c : ℕ) (f : FreeCounts) (i : InodeCounts) →
@@ -69,7 +82,4 @@ pub are_counts : (v : Layout) (free : ℕ → Bool) (class : ℕ → Class) (c :
       frsum = f.frsum;
     })
 unfolding right_group_counts
-are_counts v free class c f i fragments inodes = record {
-  summary = same_summary_of _ _ _ _ _ _ _ _ inodes.dirs fragments.blocks inodes.free fragments.fragments;
-  frsum = fragments.frsum;
-}
+are_counts v free class c f i fragments inodes = record { summary = cc; frsum = fragments.frsum }

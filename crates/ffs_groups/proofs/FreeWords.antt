@@ -1,175 +1,151 @@
--- Words with no free fragment or only free ones, and blocks past the end of the volume.
-use Rattle.std.proofs.Common.{◌≡◌, inl, inr, ℕ, zero, suc, ◌+◌, ◌-◌, ◌*◌, ◌/◌, ◌%◌, ◌^◌, ◌<◌, ◌≤◌, Bool, true, false}
-use Rattle.std.proofs.Common.{List, map, arith, refl, ap, ◌∙◌, sym, count_by, nat_eq, nat_lt, min, bit_and, slice_index}
-use Rattle.std.specs.Prelude.{◌==◌, ◌&&◌, not}
-use Rattle.std.specs.List.{range_with_len, sum_by}
-use Rattle.std.specs.Int.{bit_at, div_ceil}
-use Rattle.std.proofs.lemmas.Bool.{cases_lt}
-use Rattle.std.proofs.lemmas.Grind.{div_ceil_times}
+-- What words of free fragments add to the counts.
+use Rattle.std.proofs.Common.{◌≡◌, inl, inr, ℕ, zero, suc, ◌+◌, ◌-◌, ◌*◌, ◌%◌, ◌^◌, ◌<◌, ◌≤◌, Bool, true, false, map}
+use Rattle.std.proofs.Common.{arith, refl, ap, ◌∙◌, nat_eq, min, bit_and, ◌/◌, List, count_by, slice_index, ◌==◌, []}
+use Rattle.std.proofs.Common.{◌∷◌, cond, count_ones, replicate, add-zero}
+use Rattle.std.proofs.lemmas.Nat.Bits.{bit_at_and, bit_at-lt, bit_at_ones, bit_at_ones_above, same_from_bits}
+use Rattle.std.proofs.lemmas.Nat.Bits.{bit_at-zero, ones_shr}
 use Rattle.std.proofs.lemmas.Nat.{mul-add-lt, mul-le, div-add-mod'}
-use Rattle.std.proofs.lemmas.Nat.Bits.{bit_at-zero, bit_at_and, bit_at_ones}
-use Rattle.std.proofs.lemmas.List.Sums.{sum_by-cons}
-use Rattle.ffs_maps.proofs.WordShifts.{bit_shr, small}
-use Rattle.ffs_maps.proofs.Counting.{sum_split}
-use Rattle.ffs_volume.specs.Blocks.Claims.{is_set}
-use Rattle.ffs_volume.specs.Disk.Areas.{cgbase}
-use Rattle.ffs_volume.specs.declared.Layout.{Layout}
+use Rattle.std.proofs.lemmas.Bool.{cases_lt, false_from_ne_true, eqb-true, and_parts, le-ltb}
+use Rattle.std.specs.List.{range_with_len, list_all, sum_by}
+use Rattle.std.{specs.Int.bit_at, specs.Int.div_ceil, proofs.lemmas.Grind.div_ceil_times}
 use Rattle.ffs_volume.specs.Groups.Records.{is_free_block, free_stretches, block_bits, right_frsum, group_size}
-use Rattle.ffs_groups.specs.declared.free.FreeCounts.{FreeCounts}
+use Rattle.ffs_volume.specs.{declared.Layout.Layout, Disk.Areas.cgbase}
+use Rattle.ffs_maps.proofs.WordShifts.{min_one, one_bit, small, bit_shr}
+use Rattle.ffs_maps.proofs.Counting.{sum_split, ones_by, one_on, sum_same}
+use Rattle.ffs_groups.specs.{declared.free.FreeCounts.FreeCounts}
 use Rattle.ffs_groups.specs.Free.{word_bits, whole_in, loose_in, stretches_in, Added, AreFree, free_in}
-use Rattle.ffs_groups.proofs.WholeBlocks.{all_set}
+pub use Rattle.ffs_maps.proofs.Counting.{sum_const}
 
--- ---- a sum of equal numbers
-pub sum_const : (f : ℕ → ℕ) (m a n : ℕ) → ((k : ℕ) → k < n → f (a + k) ≡ m) → sum_by f (range_with_len a n) ≡ n * m
-sum_const f m a zero e = omega arith
-sum_const f m a (suc n) e =
-    let at : a + 0 ≡ a = omega arith in
-    let first : f a ≡ m = ap f (sym at) ∙ e 0 (omega arith) in
-    let rest : sum_by f (range_with_len (a + 1) n) ≡ n * m =
-    sum_const f m (a + 1) n
-    (λ k h. let l : a + 1 + k ≡ a + (k + 1) = omega arith in ap f l ∙ e (k + 1) (omega arith)) in
-    omega (arith, rest, first, sum_by-cons f a (range_with_len (a + 1) n))
+-- ---- fragments in a row that are all free, or of which none is
+map_const : (f : ℕ → Bool) (x : Bool) (a n : ℕ) → ((k : ℕ) → k < n → f (a + k) ≡ x) →
+    map f (range_with_len a n) ≡ replicate n x
+map_const f x a zero e = refl
+map_const f x a (suc n) e =
+    let first : f a ≡ x = rw (add-zero a) at (e 0 (omega arith)) in
+    let rest = map_const f x (a + 1) n (λ k h. rw (one_on a k) (e (k + 1) (omega arith))) in
+    cc
 
--- ---- fragments none of which is free
-pub none_whole : (f : ℕ → Bool) (a n : ℕ) → 0 < n → ((k : ℕ) → k < n → f (a + k) ≡ false) →
-    is_free_block (map f (range_with_len a n)) ≡ false
-none_whole f a zero some e = absurd (omega arith)
-none_whole f a (suc n) some e = let at : a ≡ a + 0 = omega arith in rw (ap f at ∙ e 0 (omega arith)) refl
+all_free : (n : ℕ) → is_free_block (replicate n true) ≡ true
+all_free zero = refl
+all_free (suc n) = all_free n
 
-pub none_counted : (f : ℕ → Bool) (a n : ℕ) → ((k : ℕ) → k < n → f (a + k) ≡ false) →
-    count_by (λ b. b) (map f (range_with_len a n)) ≡ 0
-none_counted f a zero e = refl
-none_counted f a (suc n) e =
-    let at : a ≡ a + 0 = omega arith in
-    rw (ap f at ∙ e 0 (omega arith))
-    (none_counted f (a + 1) n
-    (λ k h. let l : a + 1 + k ≡ a + (k + 1) = omega arith in ap f l ∙ e (k + 1) (omega arith)))
+each_set : (f : ℕ → Bool) (a n k : ℕ) → list_all (λ b. b) (map f (range_with_len a n)) ≡ true → k < n → f (a + k) ≡ true
+each_set f a zero k all h = absurd (omega arith)
+each_set f a (suc n) zero all h = rw (add-zero a) (and_parts (f a) _ all).0
+each_set f a (suc n) (suc k) all h =
+    let at : a + suc k ≡ a + 1 + k = omega arith in
+    rw at (each_set f (a + 1) n k (and_parts (f a) _ all).1 (omega arith))
 
-pub none_stretch : (f : ℕ → Bool) (j a n : ℕ) → ((k : ℕ) → k < n → f (a + k) ≡ false) →
-    count_by (λ x. x == j) (free_stretches 0 (map f (range_with_len a n))) ≡ 0
-none_stretch f j a zero e = refl
-none_stretch f j a (suc n) e =
-    let at : a ≡ a + 0 = omega arith in
-    rw (ap f at ∙ e 0 (omega arith))
-    (none_stretch f j (a + 1) n
-    (λ k h. let l : a + 1 + k ≡ a + (k + 1) = omega arith in ap f l ∙ e (k + 1) (omega arith)))
+-- a block adds w whole blocks, no other fragments, and no stretches
+abbrev pub Adds : ℕ → List Bool → Type 0
+Adds w bits = (whole_in bits ≡ w) × (loose_in bits ≡ 0) × ((j : ℕ) → stretches_in j bits ≡ 0)
 
--- ---- what blocks add of which none is free, or all are
 pub adds_none : (f : ℕ → Bool) (a n : ℕ) → 0 < n → ((k : ℕ) → k < n → f (a + k) ≡ false) →
-    (whole_in (map f (range_with_len a n)) ≡ 0) × (loose_in (map f (range_with_len a n)) ≡ 0) ×
-    ((j : ℕ) → stretches_in j (map f (range_with_len a n)) ≡ 0)
-adds_none f a n some e = (
-  rw (none_whole f a n some e) refl,
-  rw (none_whole f a n some e) (none_counted f a n e),
-  λ j. rw (none_whole f a n some e) (none_stretch f j a n e),
-)
+    Adds 0 (map f (range_with_len a n))
+adds_none f a n some e = rw (map_const f false a n e) (none n some)
+  where
+    count : (n : ℕ) → count_by (λ b. b) (replicate n false) ≡ 0
+    count zero = refl
+    count (suc n) = count n
 
-pub adds_all : (f : ℕ → Bool) (a n : ℕ) → ((k : ℕ) → k < n → f (a + k) ≡ true) →
-    (whole_in (map f (range_with_len a n)) ≡ 1) × (loose_in (map f (range_with_len a n)) ≡ 0) ×
-    ((j : ℕ) → stretches_in j (map f (range_with_len a n)) ≡ 0)
-adds_all f a n e = (
-  rw (all_set f a n e) refl,
-  rw (all_set f a n e) refl,
-  λ j. rw (all_set f a n e) refl,
-)
+    stretches : (j n : ℕ) → count_by (λ x. x == j) (free_stretches 0 (replicate n false)) ≡ 0
+    stretches j zero = refl
+    stretches j (suc n) = stretches j n
 
-same_plus : (new old s n : ℕ) → s ≡ n * 0 → new ≡ old → new ≡ old + s
-same_plus new old s n e same = omega (arith, e, same)
+    none : (n : ℕ) → 0 < n → Adds 0 (replicate n false)
+    none zero some = absurd (omega arith)
+    none (suc n) some = (refl, count n, λ j. stretches j n)
 
-from_zero : (f : ℕ → ℕ) (k m : ℕ) → f k ≡ m → f (0 + k) ≡ m
-from_zero f k m e = let z : 0 + k ≡ k = omega arith in ap f z ∙ e
+pub adds_all : (f : ℕ → Bool) (a n : ℕ) → ((k : ℕ) → k < n → f (a + k) ≡ true) → Adds 1 (map f (range_with_len a n))
+adds_all f a n e = let free = all_free n in rw (map_const f true a n e) (rw free refl, rw free refl, λ j. rw free refl)
 
--- nothing is added by blocks that add nothing each
-pub added_none : (bits : ℕ → List Bool) (n : ℕ) (old : FreeCounts) →
-    ((b : ℕ) → b < n → (whole_in (bits b) ≡ 0) × (loose_in (bits b) ≡ 0) × ((j : ℕ) → stretches_in j (bits b) ≡ 0)) →
-    Added bits 0 n old old
-added_none bits n old none = record {
-  blocks = same_plus _ _ _ n
-      (sum_const (λ b. whole_in (bits b)) 0 0 n (λ k h. from_zero (λ b. whole_in (bits b)) k 0 (none k h).0)) refl;
-  fragments = same_plus _ _ _ n
-      (sum_const (λ b. loose_in (bits b)) 0 0 n (λ k h. from_zero (λ b. loose_in (bits b)) k 0 (none k h).1)) refl;
-  frsum = λ j. same_plus _ _ _ n
-      (sum_const (λ b. stretches_in j (bits b)) 0 0 n (λ k h. from_zero (λ b. stretches_in j (bits b)) k 0 ((none k h).2 j))) refl;
-}
+-- ---- a word with the lowest n bits set
+whole_word : (word n : ℕ) → bit_and word (2 ^ n - 1) ≡ 2 ^ n - 1 → is_free_block (word_bits word 0 n) ≡ true
+whole_word word n e = rw (map_const (λ k. nat_eq (bit_at word k) 1) true 0 n (λ k h.
+    let at : 0 + k ≡ k = omega arith in
+    let one : bit_at word k ≡ 1 = omega (
+      arith,
+      bit_at-lt word k,
+      bit_at_and word (2 ^ n - 1) k,
+      ap (λ x. bit_at x k) e,
+      bit_at_ones n k h,
+    ) in
+    rw (at, one) refl)) (all_free n)
 
-plus_ones : (new old s n : ℕ) → s ≡ n * 1 → new ≡ old + n → new ≡ old + s
-plus_ones new old s n e more = omega (arith, e, more)
+mask_of : (word n : ℕ) → is_free_block (word_bits word 0 n) ≡ true → bit_and word (2 ^ n - 1) ≡ 2 ^ n - 1
+mask_of word n whole =
+    same_from_bits (bit_and word (2 ^ n - 1)) (2 ^ n - 1) (λ k. bit_at_and word (2 ^ n - 1) k ∙ elim (cases_lt k n) [
+      | inl low ↦
+          let at : 0 + k ≡ k = omega arith in
+          let set = rw at at (each_set (λ j. nat_eq (bit_at word j) 1) 0 n k whole low) in
+          omega (arith, eqb-true (bit_at word k) 1 set, bit_at_ones n k low)
+      | inr past ↦ omega (arith, bit_at_ones_above n k past)
+    ])
 
--- blocks that are free as a whole
-pub added_all : (bits : ℕ → List Bool) (n : ℕ) (old new : FreeCounts) →
-    ((b : ℕ) → b < n → (whole_in (bits b) ≡ 1) × (loose_in (bits b) ≡ 0) × ((j : ℕ) → stretches_in j (bits b) ≡ 0)) →
-    new.blocks ≡ old.blocks + n → new.fragments ≡ old.fragments →
+-- the same, by the mask that the code computes
+pub whole_by_mask : (word n : ℕ) → n ≤ 8 → bit_and word (1 * 2 ^ n % 2 ^ 64 - 1) ≡ 1 * 2 ^ n % 2 ^ 64 - 1 →
+    is_free_block (word_bits word 0 n) ≡ true
+whole_by_mask word n few e = whole_word word n (rw (small n (omega arith)) at e)
+
+pub not_whole_by_mask : (word n : ℕ) → n ≤ 8 → (bit_and word (1 * 2 ^ n % 2 ^ 64 - 1) ≡ 1 * 2 ^ n % 2 ^ 64 - 1 → ⊥) →
+    is_free_block (word_bits word 0 n) ≡ false
+not_whole_by_mask word n few apart =
+    false_from_ne_true _ (λ e. apart (rw (small n (omega arith)) (mask_of word n e)))
+
+pub none_by_mask : (bits n : ℕ) → n ≤ 8 → 0 < n → bit_and bits (1 * 2 ^ n % 2 ^ 64 - 1) ≡ 0 →
+    Adds 0 (word_bits bits 0 n)
+none_by_mask bits n few some e =
+    let none : bit_and bits (2 ^ n - 1) ≡ 0 = rw (small n (omega arith)) at e in
+    adds_none (λ k. nat_eq (bit_at bits k) 1) 0 n some (λ k h.
+    let at : 0 + k ≡ k = omega arith in
+    let clear : bit_at bits k ≡ 0 = omega (
+      arith,
+      bit_at_ones n k h,
+      bit_at_and bits (2 ^ n - 1) k,
+      ap (λ x. bit_at x k) none,
+      bit_at-zero k,
+    ) in
+    rw (at, clear) refl)
+
+sum_all : (f : ℕ → ℕ) (m n : ℕ) → ((k : ℕ) → k < n → f k ≡ m) → sum_by f (range_with_len 0 n) ≡ n * m
+sum_all f m n e = sum_const f m 0 n (λ k h. let at : 0 + k ≡ k = omega arith in rw at (e k h))
+
+-- blocks that add the same each
+pub added_by : (bits : ℕ → List Bool) (w n : ℕ) (old new : FreeCounts) → ((b : ℕ) → b < n → Adds w (bits b)) →
+    new.blocks ≡ old.blocks + n * w → new.fragments ≡ old.fragments →
     ((j : ℕ) → slice_index new.frsum j ≡ slice_index old.frsum j) → Added bits 0 n old new
-added_all bits n old new all blocks fragments frsum = record {
-  blocks = plus_ones _ _ _ n
-      (sum_const (λ b. whole_in (bits b)) 1 0 n (λ k h. from_zero (λ b. whole_in (bits b)) k 1 (all k h).0)) blocks;
-  fragments = same_plus _ _ _ n
-      (sum_const (λ b. loose_in (bits b)) 0 0 n (λ k h. from_zero (λ b. loose_in (bits b)) k 0 (all k h).1)) fragments;
-  frsum = λ j. same_plus _ _ _ n
-      (sum_const (λ b. stretches_in j (bits b)) 0 0 n (λ k h. from_zero (λ b. stretches_in j (bits b)) k 0 ((all k h).2 j))) (frsum j);
+added_by bits w n old new each blocks fragments frsum = record {
+  blocks = omega (arith, blocks, sum_all (λ b. whole_in (bits b)) w n (λ k h. (each k h).0));
+  fragments = omega (arith, fragments, sum_all (λ b. loose_in (bits b)) 0 n (λ k h. (each k h).1));
+  frsum = λ j. omega (arith, frsum j, sum_all (λ b. stretches_in j (bits b)) 0 n (λ k h. (each k h).2 j));
 }
 
 -- ---- a word of zeros, and a word of ones
-no_bit : (word s k : ℕ) → word ≡ 0 → nat_eq (bit_at (word / 2 ^ s) (0 + k)) 1 ≡ false
-no_bit word s k e = let z : bit_at (word / 2 ^ s) (0 + k) ≡ 0 = bit_shr word s (0 + k)
-    ∙ ap (λ w. bit_at w (0 + k + s)) e ∙ bit_at-zero (0 + k + s) in ap (λ x. nat_eq x 1) z
-
 pub zero_word : (word frag n : ℕ) (old : FreeCounts) → word ≡ 0 → 0 < frag →
     Added (λ b. word_bits (word / 2 ^ (b * frag)) 0 frag) 0 n old old
 zero_word word frag n old e some =
-    added_none (λ b. word_bits (word / 2 ^ (b * frag)) 0 frag) n old
-    (λ b h. adds_none (λ k. nat_eq (bit_at (word / 2 ^ (b * frag)) k) 1) 0 frag some
-    (λ k l. no_bit word (b * frag) k e))
-
-one_bit : (word frag n b k : ℕ) → word ≡ 2 ^ 64 - 1 → n * frag ≤ 64 → b < n → k < frag →
-    nat_eq (bit_at (word / 2 ^ (b * frag)) (0 + k)) 1 ≡ true
-one_bit word frag n b k e fits h l =
-    let inside : 0 + k + b * frag < 64 = omega (arith, mul-add-lt b frag k n h l) in
-    let one : bit_at (word / 2 ^ (b * frag)) (0 + k) ≡ 1 = bit_shr word (b * frag) (0 + k)
-    ∙ ap (λ w. bit_at w (0 + k + b * frag)) e ∙ bit_at_ones 64 (0 + k + b * frag) inside in
-    ap (λ x. nat_eq x 1) one
+    added_by (λ b. word_bits (word / 2 ^ (b * frag)) 0 frag) 0 n old old
+    (λ b h. adds_none (λ k. nat_eq (bit_at (word / 2 ^ (b * frag)) k) 1) 0 frag some (λ k l.
+    rw (bit_shr word (b * frag) (0 + k), e, bit_at-zero (0 + k + b * frag)) refl))
+    (omega arith) refl (λ j. refl)
 
 pub full_word : (word frag n : ℕ) (old new : FreeCounts) → word ≡ 2 ^ 64 - 1 → n * frag ≤ 64 →
     new.blocks ≡ old.blocks + n → new.fragments ≡ old.fragments →
     ((j : ℕ) → slice_index new.frsum j ≡ slice_index old.frsum j) →
     Added (λ b. word_bits (word / 2 ^ (b * frag)) 0 frag) 0 n old new
 full_word word frag n old new e fits blocks fragments frsum =
-    added_all (λ b. word_bits (word / 2 ^ (b * frag)) 0 frag) n old new
-    (λ b h. adds_all (λ k. nat_eq (bit_at (word / 2 ^ (b * frag)) k) 1) 0 frag
-    (λ k l. one_bit word frag n b k e fits h l)) blocks fragments frsum
+    added_by (λ b. word_bits (word / 2 ^ (b * frag)) 0 frag) 1 n old new
+    (λ b h. adds_all (λ k. nat_eq (bit_at (word / 2 ^ (b * frag)) k) 1) 0 frag (λ k l.
+    let one : bit_at (2 ^ 64 - 1) (0 + k + b * frag) ≡ 1 =
+    bit_at_ones 64 (0 + k + b * frag) (omega (arith, mul-add-lt b frag k n h l)) in
+    rw (bit_shr word (b * frag) (0 + k), e, one) refl)) (omega arith) fragments frsum
 
--- ---- a block of which no fragment is free, by the mask that the code computes
-zero_of_min : (a b : ℕ) → b ≡ 1 → min a b ≡ 0 → a ≡ 0
-zero_of_min a b e h = omega arith
-
-pub none_by_mask : (bits n : ℕ) → n ≤ 8 → 0 < n → bit_and bits (1 * 2 ^ n % 2 ^ 64 - 1) ≡ 0 →
-    (whole_in (word_bits bits 0 n) ≡ 0) × (loose_in (word_bits bits 0 n) ≡ 0) ×
-    ((j : ℕ) → stretches_in j (word_bits bits 0 n) ≡ 0)
-none_by_mask bits n few some e =
-    let mask : 1 * 2 ^ n % 2 ^ 64 - 1 ≡ 2 ^ n - 1 = small n (omega arith) in
-    let none : bit_and bits (2 ^ n - 1) ≡ 0 = ap (λ m. bit_and bits m) (sym mask) ∙ e in
-    adds_none (λ k. nat_eq (bit_at bits k) 1) 0 n some (λ k h.
-    let at : 0 + k ≡ k = omega arith in
-    let clear : bit_at bits k ≡ 0 =
-    zero_of_min _ _ (bit_at_ones n k h)
-    (sym (bit_at_and bits (2 ^ n - 1) k) ∙ ap (λ x. bit_at x k) none ∙ bit_at-zero k) in
-    ap (λ j. nat_eq (bit_at bits j) 1) at ∙ ap (λ x. nat_eq x 1) clear)
-
--- ---- blocks past the end of the volume
-past : (used : List Bool) (size f : ℕ) → size ≤ f → free_in used size f ≡ false
-past used size f h = let e : nat_lt f size ≡ false = grind arith in ap (λ b. b && not (is_set used f)) e
-
-past_at : (base size frag n m k : ℕ) → size - base ≤ n * frag → n ≤ m → size ≤ base + m * frag + k
-past_at base size frag n m k h l = omega (arith, h, mul-le n frag m frag l (omega arith))
-
--- blocks from n on add nothing, where the volume ends before the n-th
-pub past_adds : (used : List Bool) (base size frag n b : ℕ) → 0 < frag → size - base ≤ n * frag → n ≤ b →
-    (whole_in (map (free_in used size) (range_with_len (base + b * frag) frag)) ≡ 0) ×
-    (loose_in (map (free_in used size) (range_with_len (base + b * frag) frag)) ≡ 0)
-    × ((j : ℕ) → stretches_in j (map (free_in used size) (range_with_len (base + b * frag) frag)) ≡ 0)
+-- ---- blocks past the end of the volume add nothing
+past_adds : (used : List Bool) (base size frag n b : ℕ) → 0 < frag → size - base ≤ n * frag → n ≤ b →
+    Adds 0 (map (free_in used size) (range_with_len (base + b * frag) frag))
 past_adds used base size frag n b some h l =
-    adds_none (free_in used size) (base + b * frag) frag some
-    (λ k below. past used size (base + b * frag + k) (past_at base size frag n b k h l))
+    adds_none (free_in used size) (base + b * frag) frag some (λ k below.
+    rw (le-ltb (base + b * frag + k) size (omega (arith, h, mul-le n frag b frag l (omega arith)))) refl)
 
 -- a sum that ends early is the whole sum
 pub sum_ends : (f : ℕ → ℕ) (n m : ℕ) → n ≤ m → ((b : ℕ) → n ≤ b → b < m → f b ≡ 0) →
@@ -207,9 +183,6 @@ ends_before n b fragments frag fpg base next size some cover from_ below e g =
       div-add-mod' fpg frag,
     )
 
-pub next_base : (fpg c : ℕ) → fpg * (c + 1) ≡ fpg * c + fpg
-next_base fpg c = omega arith
-
 -- what is free in the blocks that the volume has, is free in the group
 pub free_there : (v : Layout) (used : List Bool) (c n fragments : ℕ) (new : FreeCounts) → 0 < v.frag →
     v.fpg % v.frag ≡ 0 → n ≡ div_ceil fragments v.frag → fragments ≤ v.fpg →
@@ -223,17 +196,17 @@ unfolding right_frsum cgbase
 free_there v used c n fragments new some whole is within size blocks frags frsum blocks_fit fragments_fit =
     let cover = blocks_cover n fragments v.frag some is in
     let few : n ≤ v.fpg / v.frag = few_blocks n fragments v.frag v.fpg some cover.1 within whole in
-    let ends : (b : ℕ) → n ≤ b → b < v.fpg / v.frag →
-    v.size - v.fpg * c ≤ n * v.frag =
-    λ b l h. ends_before n b fragments v.frag v.fpg (v.fpg * c) (v.fpg * (c + 1)) v.size some cover.0 l h
-    (next_base v.fpg c) size in
+    let none : (b : ℕ) → n ≤ b → b < v.fpg / v.frag → Adds 0 (block_bits v (free_in used v.size) c b) =
+    λ b l h. past_adds used (v.fpg * c) v.size v.frag n b some
+    (ends_before n b fragments v.frag v.fpg (v.fpg * c) (v.fpg * (c + 1)) v.size some cover.0 l h (omega arith) size)
+    l in
     record {
       blocks = blocks ∙ sum_ends (λ b. whole_in (block_bits v (free_in used v.size) c b)) n (v.fpg / v.frag) few
-          (λ b l h. (past_adds used (v.fpg * c) v.size v.frag n b some (ends b l h) l).0);
+          (λ b l h. (none b l h).0);
       fragments = frags ∙ sum_ends (λ b. loose_in (block_bits v (free_in used v.size) c b)) n (v.fpg / v.frag) few
-          (λ b l h. (past_adds used (v.fpg * c) v.size v.frag n b some (ends b l h) l).1);
-      frsum = λ k. frsum k ∙ sum_ends (λ b. stretches_in k (block_bits v (free_in used v.size) c b)) n (v.fpg / v.frag) few
-          (λ b l h. (past_adds used (v.fpg * c) v.size v.frag n b some (ends b l h) l).2 k);
+          (λ b l h. (none b l h).1);
+      frsum = λ k. frsum k ∙ sum_ends (λ b. stretches_in k (block_bits v (free_in used v.size) c b)) n (v.fpg / v.frag)
+          few (λ b l h. (none b l h).2 k);
       blocks_fit = blocks_fit;
       fragments_fit = fragments_fit;
     }
@@ -247,3 +220,53 @@ pub fits_fragments : (x s n fragments frag size next base : ℕ) → x ≡ s →
     n ≡ div_ceil fragments frag → fragments ≡ min next size - base → size < 2 ^ 31 → x < 2 ^ 32
 fits_fragments x s n fragments frag size next base e h some few is g below =
     omega (arith, e, h, (blocks_cover n fragments frag some is).1, g)
+
+-- ---- blocks of one fragment: the set bits of a word
+ones_below : (word n : ℕ) → n ≤ 64 → count_ones (bit_and word ((2 ^ 64 - 1) / 2 ^ (64 - n)))
+    ≡ count_by (λ k. nat_eq (bit_at word k) 1) (range_with_len 0 n)
+ones_below word n h =
+    let twice : 64 - (64 - n) ≡ n = omega arith in
+    rw (ones_shr 64 (64 - n) (omega arith), twice)
+    (ones_by (λ k. nat_eq (bit_at word k) 1) (bit_and word (2 ^ n - 1)) 0 n low
+    (λ i past. omega (arith, bit_at_and word (2 ^ n - 1) i, bit_at_ones_above n i past)))
+  where
+    low : (i : ℕ) → i < n → bit_at (bit_and word (2 ^ n - 1)) i ≡ cond (nat_eq (bit_at word (0 + i)) 1) 1 0
+    low i l =
+        let at : 0 + i ≡ i = omega arith in
+        rw at (bit_at_and word (2 ^ n - 1) i ∙ min_one _ _ (bit_at-lt word i) (bit_at_ones n i l)
+        ∙ one_bit (bit_at word i) (bit_at-lt word i))
+
+-- what one fragment adds as a block
+single_adds : (b : Bool) → Adds (cond b 1 0) (b ∷ [])
+single_adds true = (refl, refl, λ j. refl)
+single_adds false = (refl, refl, λ j. refl)
+
+pub added_single : (word frag n : ℕ) (old new : FreeCounts) → frag ≡ 1 → n ≤ 64 →
+    new.blocks ≡ old.blocks + count_ones (bit_and word ((2 ^ 64 - 1) / 2 ^ (64 - n))) →
+    new.fragments ≡ old.fragments → ((j : ℕ) → slice_index new.frsum j ≡ slice_index old.frsum j) →
+    Added (λ b. word_bits (word / 2 ^ (b * frag)) 0 frag) 0 n old new
+added_single word frag n old new one h blocks fragments frsum =
+    rw one (record {
+      blocks = omega (
+        arith,
+        blocks,
+        ones_below word n h,
+        sum_same (λ b. whole_in (word_bits (word / 2 ^ (b * 1)) 0 1)) (λ k. cond (nat_eq (bit_at word k) 1) 1 0) 0 0 n
+            (λ k l.
+            let at : 0 + (0 + k) * 1 ≡ 0 + k = omega arith in
+            (single_adds (nat_eq (bit_at (word / 2 ^ ((0 + k) * 1)) 0) 1)).0
+            ∙ rw (bit_shr word ((0 + k) * 1) 0, at) refl),
+      );
+      fragments = omega (
+        arith,
+        fragments,
+        sum_const (λ b. loose_in (word_bits (word / 2 ^ (b * 1)) 0 1)) 0 0 n
+            (λ k l. (single_adds (nat_eq (bit_at (word / 2 ^ ((0 + k) * 1)) 0) 1)).1),
+      );
+      frsum = λ j. omega (
+        arith,
+        frsum j,
+        sum_const (λ b. stretches_in j (word_bits (word / 2 ^ (b * 1)) 0 1)) 0 0 n
+            (λ k l. (single_adds (nat_eq (bit_at (word / 2 ^ ((0 + k) * 1)) 0) 1)).2 j),
+      );
+    })

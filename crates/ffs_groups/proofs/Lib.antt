@@ -1,12 +1,5 @@
 pub mod Sums
-pub mod FreeStretches
-pub mod WholeBlocks
+pub mod FreeWords
 pub mod Adding
 pub mod MapWords
-pub mod Signs
 pub mod Checks
-pub mod FreeWords
-pub mod Bytes
-pub mod Skipping
-pub mod OneFragmentBlocks
-pub mod Stretches

@@ -1,20 +1,45 @@
--- The words of a map.
-use Rattle.std.proofs.Common.{◌≡◌, inl, inr, ℕ, zero, suc, ◌+◌, ◌-◌, ◌*◌, ◌/◌, ◌%◌, ◌^◌, ◌<◌, ◌≤◌, Bool, true, false}
-use Rattle.std.proofs.Common.{List, arith, refl, ap, ◌∙◌, sym, nat_eq, min, bit_and, bit_or, slice_index}
-use Rattle.std.specs.Prelude.{◌&&◌}
-use Rattle.std.specs.Int.{bit_at, w64}
-use Rattle.std.specs.Int.RustNames.{bit_xor}
-use Rattle.std.proofs.lemmas.Bool.{cases_lt, true≢false}
-use Rattle.std.proofs.lemmas.Nat.Bits.{bit_at_and, bit_at_or, bit_at_xor, bit_at-lt, bit_at-zero, bit_at_ones}
-use Rattle.std.proofs.lemmas.Nat.Bits.{bit_at_ones_above, bit_at_above, same_from_bits, ones_shr, bit_at_set_same}
-use Rattle.ffs_maps.proofs.WordShifts.{bit_mod, bit_shl_low, bit_shl_high}
-use Rattle.ffs_maps.proofs.BitNumbers.{max_zero, min_zero, zero_max, zero_min}
-use Rattle.ffs_volume.specs.Disk.Numbers.{all_below}
-use Rattle.ffs_volume.specs.Groups.Records.{bit_at as map_bit, same_bit}
+-- The words of a map, read at once or by bytes.
+use Rattle.std.proofs.Common.{◌≡◌, inl, inr, ℕ, zero, suc, ◌+◌, ◌-◌, ◌*◌, ◌/◌, ◌%◌, ◌^◌, ◌<◌, List, drop, slice_index}
+use Rattle.std.proofs.Common.{arith, ap, ◌∙◌, nat_eq, ◌≤◌, Bool, true, false, refl, sym, min, bit_and, bit_or, ◌&&◌}
+use Rattle.std.proofs.lemmas.Bool.{cases_lt, eqb-true, eq-eqb}
+use Rattle.std.proofs.lemmas.Nat.Bits.{bit_at_cat_low, bit_at_cat_high, bit_at_and, bit_at_or, bit_at_xor, bit_at-lt}
+use Rattle.std.proofs.lemmas.Nat.Bits.{bit_at-zero, bit_at_ones, bit_at_ones_above, bit_at_above, same_from_bits}
+use Rattle.std.{proofs.lemmas.Nat.Bits.ones_shr, specs.Int.bit_at, proofs.lemmas.List.get_or-drop}
+use Rattle.std.{specs.Int.RustNames.bit_xor, proofs.lemmas.Bool.Decides.nat_tests}
+use Rattle.byteorder.specs.Endian.{little_from}
+use Rattle.ffs_volume.specs.{Groups.Records.bit_at as map_bit, Groups.Records.same_bit, Disk.Numbers.all_below}
+use Rattle.ffs_maps.proofs.WordShifts.{bit_mod, bit_shl_low, bit_shl_high, max_zero, min_zero, zero_max, zero_min}
 use Rattle.ffs_volume.proofs.Below.{all_below-at, all_below-from}
 
-mod_small : (x : ℕ) → x % 2 ^ 64 < 2 ^ 64
-mod_small x = omega arith
+next : (b rest : ℕ) → b + 256 * rest ≡ rest * 2 ^ 8 + b
+next b rest = omega arith
+
+-- a bit of the number in some bytes, the lowest one first, is a bit of one of them
+little_bit : (n i : ℕ) (xs : List ℕ) → ((j : ℕ) → slice_index xs j < 256) → (k : ℕ) → k < 8 * n →
+    bit_at (little_from i n xs) k ≡ bit_at (slice_index xs (i + k / 8)) (k % 8)
+little_bit zero i xs fits k h = absurd (omega arith)
+little_bit (suc n) i xs fits k h =
+    ap (λ x. bit_at x k) (next (slice_index xs i) (little_from (suc i) n xs))
+    ∙ elim (cases_lt k 8) [
+      | inl low ↦
+          let byte : i + k / 8 ≡ i = omega arith in
+          let bit : k % 8 ≡ k = omega arith in
+          rw (byte, bit) (bit_at_cat_low (little_from (suc i) n xs) 8 (slice_index xs i) k low)
+      | inr above ↦
+          let byte : i + k / 8 ≡ suc i + (k - 8) / 8 = omega arith in
+          let bit : k % 8 ≡ (k - 8) % 8 = omega arith in
+          bit_at_cat_high (little_from (suc i) n xs) 8 (slice_index xs i) k (omega (arith, fits i)) above
+          ∙ rw (byte, bit) (little_bit n (suc i) xs fits (k - 8) (omega arith))
+    ]
+
+-- the bits of eight bytes of a map
+pub whole_word : (map : List ℕ) (place word : ℕ) → ((j : ℕ) → slice_index map j < 256) →
+    word ≡ little_from 0 8 (drop place map) →
+    (k : ℕ) → k < 64 → nat_eq (bit_at word k) 1 ≡ map_bit map place k
+whole_word map place word fits is k h =
+    let at : 0 + k / 8 ≡ k / 8 = omega arith in
+    rw (is, little_bit 8 0 (drop place map) (λ j. rw (get_or-drop place map j 0) (fits (place + j))) k (omega arith))
+    (rw at (ap (λ x. nat_eq (bit_at x (k % 8)) 1) (get_or-drop place map (k / 8) 0)))
 
 -- a byte is put into a word
 pub byte_low : (bytes : List ℕ) (place byte word b : ℕ) → byte < 8 → b ≡ slice_index bytes (place + byte) →
@@ -23,20 +48,14 @@ pub byte_low : (bytes : List ℕ) (place byte word b : ℕ) → byte < 8 → b �
     (k : ℕ) → k < 8 * (byte + 1) →
     nat_eq (bit_at (bit_or word (b * 2 ^ (8 * byte) % 2 ^ 64)) k) 1 ≡ map_bit bytes place k
 byte_low bytes place byte word b h is low high k below =
-    ap (λ x. nat_eq x 1) (bit_at_or word (b * 2 ^ (8 * byte) % 2 ^ 64) k)
-    ∙ elim (cases_lt k (8 * byte)) [
-      | inl inside ↦ ap (λ x. nat_eq x 1)
-          (max_zero _ _ (bit_mod (b * 2 ^ (8 * byte)) 64 k (omega arith) ∙ bit_shl_low b (8 * byte) k inside))
-          ∙ low k inside
+    rw (bit_at_or word (b * 2 ^ (8 * byte) % 2 ^ 64) k, bit_mod (b * 2 ^ (8 * byte)) 64 k (omega arith))
+    (elim (cases_lt k (8 * byte)) [
+      | inl inside ↦ rw (max_zero (bit_at word k) _ (bit_shl_low b (8 * byte) k inside)) (low k inside)
       | inr above ↦
           let at : k / 8 ≡ byte = omega arith in
-          let bit : k - 8 * byte ≡ k % 8 = omega arith in
-          ap (λ x. nat_eq x 1) (zero_max _ _ (high k above) ∙ bit_mod (b * 2 ^ (8 * byte)) 64 k (omega arith)
-          ∙ bit_shl_high b (8 * byte) k above)
-          ∙ ap (λ x. nat_eq (bit_at x (k - 8 * byte)) 1) is
-          ∙ ap (λ j. nat_eq (bit_at (slice_index bytes (place + byte)) j) 1) bit
-          ∙ ap (λ j. nat_eq (bit_at (slice_index bytes (place + j)) (k % 8)) 1) (sym at)
-    ]
+          let bit : k % 8 ≡ k - 8 * byte = omega arith in
+          rw (zero_max (bit_at word k) _ (high k above), bit_shl_high b (8 * byte) k above, at, bit, is) refl
+    ])
 
 pub byte_high : (byte word b : ℕ) → byte < 8 → b < 256 → ((k : ℕ) → 8 * byte ≤ k → bit_at word k ≡ 0) →
     (k : ℕ) → 8 * (byte + 1) ≤ k → bit_at (bit_or word (b * 2 ^ (8 * byte) % 2 ^ 64)) k ≡ 0
@@ -46,7 +65,7 @@ byte_high byte word b h fits high k above =
     ∙ elim (cases_lt k 64) [
       | inl inside ↦ bit_mod (b * 2 ^ (8 * byte)) 64 k inside ∙ bit_shl_high b (8 * byte) k (omega arith)
           ∙ bit_at_above b 8 (k - 8 * byte) fits (omega arith)
-      | inr past ↦ bit_at_above (b * 2 ^ (8 * byte) % 2 ^ 64) 64 k (mod_small (b * 2 ^ (8 * byte))) past
+      | inr past ↦ bit_at_above (b * 2 ^ (8 * byte) % 2 ^ 64) 64 k (omega arith) past
     ]
 
 -- ---- two words with the same bits
@@ -56,55 +75,48 @@ same_below zero f g e = refl
 same_below (suc n) f g e = ap (λ b. b && all_below n f) (e n (omega arith))
     ∙ ap (λ b. g n && b) (same_below n f g (λ k h. e k (omega arith)))
 
-and_end : (a : Bool) → a ≡ (a && true)
-and_end true = refl
-and_end false = refl
-
-and_swap : (t a b : Bool) → (t && (a && b)) ≡ (a && (t && b))
-and_swap true true b = refl
-and_swap true false b = refl
-and_swap false true b = refl
-and_swap false false b = refl
-
 -- the first n, and those after them
 pub all_join : (n m t : ℕ) (test : ℕ → Bool) → t ≡ n + m →
     all_below t test ≡ (all_below n test && all_below m (λ k. test (n + k)))
 unfolding all_below
-all_join n zero t test e = let same : t ≡ n = omega (arith, e) in ap (λ j. all_below j test) same
-    ∙ and_end (all_below n test)
+all_join n zero t test e = let same : t ≡ n = omega (arith, e) in rw same (both_and (all_below n test))
+  where
+    both_and : (a : Bool) → a ≡ (a && true)
+    both_and true = refl
+    both_and false = refl
 all_join n (suc m) zero test e = absurd (omega arith)
 all_join n (suc m) (suc t) test e =
     let same : t ≡ n + m = omega (arith, e) in
-    ap (λ b. test t && b) (all_join n m t test same)
-    ∙ ap (λ j. test j && (all_below n test && all_below m (λ k. test (n + k)))) same
-    ∙ and_swap (test (n + m)) (all_below n test) (all_below m (λ k. test (n + k)))
+    rw (all_join n m t test same, same)
+    (swap (test (n + m)) (all_below n test) (all_below m (λ k. test (n + k))))
+  where
+    swap : (t a b : Bool) → (t && (a && b)) ≡ (a && (t && b))
+    swap true a b = refl
+    swap false true b = refl
+    swap false false b = refl
+
+-- a test that fails below a number fails below each greater one
+pub all_fails : (n m : ℕ) (test : ℕ → Bool) → m ≤ n → all_below m test ≡ false → all_below n test ≡ false
+all_fails n m test h now = all_join m (n - m) n test (omega arith) ∙ rw now refl
 
 small_bits : (a b : ℕ) → a < 2 → b < 2 → (a + b) % 2 ≡ 0 → same_bit (nat_eq a 1) (nat_eq b 1) ≡ true
-small_bits zero zero h g e = refl
-small_bits zero (suc zero) h g e = absurd (omega arith)
-small_bits (suc zero) zero h g e = absurd (omega arith)
-small_bits (suc zero) (suc zero) h g e = refl
-small_bits (suc (suc a)) b h g e = absurd (omega arith)
-small_bits a (suc (suc b)) h g e = absurd (omega arith)
+small_bits a b h g e = grind (arith, nat_tests)
 
 no_difference : (a b : ℕ) → a < 2 → b < 2 → same_bit (nat_eq a 1) (nat_eq b 1) ≡ true → (a + b) % 2 ≡ 0
-no_difference zero zero h g e = refl
-no_difference zero (suc zero) h g e = absurd (true≢false (sym e))
-no_difference (suc zero) zero h g e = absurd (true≢false (sym e))
-no_difference (suc zero) (suc zero) h g e = refl
-no_difference (suc (suc a)) b h g e = absurd (omega arith)
-no_difference a (suc (suc b)) h g e = absurd (omega arith)
-
-zero_of_min : (a b : ℕ) → a < 2 → b ≡ 1 → min a b ≡ 0 → a ≡ 0
-zero_of_min a b h e f = omega arith
+no_difference a b h g e = grind (arith, nat_tests)
 
 same_from_zero : (a b n : ℕ) → bit_and (bit_xor a b) (2 ^ n - 1) ≡ 0 → (k : ℕ) → k < n →
     same_bit (nat_eq (bit_at a k) 1) (nat_eq (bit_at b k) 1) ≡ true
 same_from_zero a b n e k h =
-    let none : bit_at (bit_xor a b) k ≡ 0 =
-    zero_of_min _ _ (bit_at-lt (bit_xor a b) k) (bit_at_ones n k h)
-    (sym (bit_at_and (bit_xor a b) (2 ^ n - 1) k) ∙ ap (λ x. bit_at x k) e ∙ bit_at-zero k) in
-    small_bits (bit_at a k) (bit_at b k) (bit_at-lt a k) (bit_at-lt b k) (sym (bit_at_xor a b k) ∙ none)
+    let none = ap (λ x. bit_at x k) e in
+    small_bits (bit_at a k) (bit_at b k) (bit_at-lt a k) (bit_at-lt b k) (omega (
+      arith,
+      none,
+      bit_at-zero k,
+      bit_at_and (bit_xor a b) (2 ^ n - 1) k,
+      bit_at_xor a b k,
+      bit_at_ones n k h,
+    ))
 
 zero_from_same : (a b n : ℕ) → ((k : ℕ) → k < n → same_bit (nat_eq (bit_at a k) 1) (nat_eq (bit_at b k) 1) ≡ true) →
     bit_and (bit_xor a b) (2 ^ n - 1) ≡ 0
@@ -117,36 +129,18 @@ zero_from_same a b n same =
       | inr past ↦ min_zero _ _ (bit_at_ones_above n k past) ∙ sym (bit_at-zero k)
     ])
 
-zero_test : (x : ℕ) → x ≡ 0 → nat_eq x 0 ≡ true
-zero_test x e = rw e refl
+same_test : (a b : Bool) → (a ≡ true → b ≡ true) → (b ≡ true → a ≡ true) → a ≡ b
+same_test true b f g = sym (f refl)
+same_test false true f g = g refl
+same_test false false f g = refl
 
-suc_not_zero : (x : ℕ) → suc x ≡ 0 → ⊥
-suc_not_zero x e = omega arith
-
-one_test : (x : ℕ) → nat_eq (suc x) 0 ≡ false
-one_test x = grind arith
-
-pub is_same_word : (a b n : ℕ) →
-    nat_eq (bit_and (bit_xor a b) (2 ^ n - 1)) 0 ≡ all_below n
-    (λ k. same_bit (nat_eq (bit_at a k) 1) (nat_eq (bit_at b k) 1))
-is_same_word a b n = go (bit_and (bit_xor a b) (2 ^ n - 1)) refl
-  where
-    other : (x : Bool) → (all_below n (λ k. same_bit (nat_eq (bit_at a k) 1) (nat_eq (bit_at b k) 1))) ≡ x →
-        (bit_and (bit_xor a b) (2 ^ n - 1) ≡ 0 → ⊥) → false ≡ x
-    other true e apart = absurd
-        (apart (zero_from_same a b n
-        (λ k h. all_below-at n k (λ k. same_bit (nat_eq (bit_at a k) 1) (nat_eq (bit_at b k) 1)) e h)))
-    other false e apart = refl
-
-    go : (x : ℕ) → bit_and (bit_xor a b) (2 ^ n - 1) ≡ x →
-        nat_eq (bit_and (bit_xor a b) (2 ^ n - 1)) 0 ≡ all_below n
-        (λ k. same_bit (nat_eq (bit_at a k) 1) (nat_eq (bit_at b k) 1))
-    go zero e = zero_test _ e
-        ∙ sym (all_below-from n (λ k. same_bit (nat_eq (bit_at a k) 1) (nat_eq (bit_at b k) 1)) (same_from_zero a b n e))
-    go (suc x) e = ap (λ y. nat_eq y 0) e ∙ one_test x ∙ other _ refl (λ z. suc_not_zero x (sym e ∙ z))
-
-pub set_same : (word k : ℕ) → k < 64 → nat_eq (bit_at (bit_or word (1 * 2 ^ k % 2 ^ 64)) k) 1 ≡ true
-set_same word k h = ap (λ x. nat_eq x 1) (bit_at_set_same w64 word k h)
+is_same_word : (a b n : ℕ) → nat_eq (bit_and (bit_xor a b) (2 ^ n - 1)) 0
+    ≡ all_below n (λ k. same_bit (nat_eq (bit_at a k) 1) (nat_eq (bit_at b k) 1))
+is_same_word a b n = same_test _ _
+    (λ e. all_below-from n (λ k. same_bit (nat_eq (bit_at a k) 1) (nat_eq (bit_at b k) 1))
+    (same_from_zero a b n (eqb-true _ 0 e)))
+    (λ e. eq-eqb _ 0 (zero_from_same a b n
+    (λ k h. all_below-at n k (λ k. same_bit (nat_eq (bit_at a k) 1) (nat_eq (bit_at b k) 1)) e h)))
 
 -- by the mask that the code computes
 pub same_by_mask : (a b n : ℕ) → n ≤ 64 →
@@ -154,9 +148,7 @@ pub same_by_mask : (a b n : ℕ) → n ≤ 64 →
     (λ k. same_bit (nat_eq (bit_at a k) 1) (nat_eq (bit_at b k) 1))
 same_by_mask a b n h =
     let twice : 64 - (64 - n) ≡ n = omega arith in
-    let mask : (2 ^ 64 - 1) / 2 ^ (64 - n) ≡ 2 ^ n - 1 = ones_shr 64 (64 - n) (omega arith)
-    ∙ ap (λ k. 2 ^ k - 1) twice in
-    ap (λ m. nat_eq (bit_and (bit_xor a b) m) 0) mask ∙ is_same_word a b n
+    rw (ones_shr 64 (64 - n) (omega arith), twice) (is_same_word a b n)
 
 -- ---- a map, word after word
 moved_bit : (block : List ℕ) (place word k : ℕ) →
@@ -164,55 +156,51 @@ moved_bit : (block : List ℕ) (place word k : ℕ) →
 moved_bit block place word k =
     let byte : place + 8 * word + k / 8 ≡ place + (64 * word + k) / 8 = omega arith in
     let bit : k % 8 ≡ (64 * word + k) % 8 = omega arith in
-    ap (λ j. nat_eq (bit_at (slice_index block j) (k % 8)) 1) byte
-    ∙ ap (λ j. nat_eq (bit_at (slice_index block (place + (64 * word + k) / 8)) j) 1) bit
+    rw (byte, bit) refl
 
 -- the words before this one are right: then the map up to this word's end is as the word is
-pub word_is : (block : List ℕ) (place n word count found right : ℕ) (bits : ℕ → Bool) → 64 * word < n →
+word_is : (block : List ℕ) (place n word count found right : ℕ) (bits : ℕ → Bool) → 64 * word < n →
     all_below (min (64 * word) n) (λ k. same_bit (map_bit block place k) (bits k)) ≡ true →
     ((k : ℕ) → k < count → nat_eq (bit_at found k) 1 ≡ map_bit block (place + 8 * word) k) →
     ((k : ℕ) → k < count → nat_eq (bit_at right k) 1 ≡ bits (64 * word + k)) →
     all_below (64 * word + count) (λ k. same_bit (map_bit block place k) (bits k))
     ≡ all_below count (λ k. same_bit (nat_eq (bit_at found k) 1) (nat_eq (bit_at right k) 1))
 word_is block place n word count found right bits h before is_found is_right =
-    let low : 64 * word ≡ min (64 * word) n = omega (arith, h) in
+    let low : min (64 * word) n ≡ 64 * word = omega (arith, h) in
+    let right_before = rw low at before in
     all_join (64 * word) count (64 * word + count) (λ k. same_bit (map_bit block place k) (bits k)) refl
-    ∙ ap (λ b. b && all_below count (λ k. same_bit (map_bit block place (64 * word + k)) (bits (64 * word + k))))
-    (ap (λ j. all_below j (λ k. same_bit (map_bit block place k) (bits k))) low ∙ before)
+    ∙ rw right_before refl
     ∙ same_below count (λ k. same_bit (map_bit block place (64 * word + k)) (bits (64 * word + k)))
     (λ k. same_bit (nat_eq (bit_at found k) 1) (nat_eq (bit_at right k) 1))
-    (λ k l. sym (ap (λ b. same_bit b (nat_eq (bit_at right k) 1)) (is_found k l ∙ moved_bit block place word k)
-    ∙ ap (λ b. same_bit (map_bit block place (64 * word + k)) b) (is_right k l)))
-
-pub map_continues : (n word count : ℕ) (test : ℕ → Bool) → count ≡ min (n - 64 * word) 64 → 64 * word < n →
-    all_below (64 * word + count) test ≡ true → all_below (min (64 * (word + 1)) n) test ≡ true
-map_continues n word count test e h now =
-    let at : min (64 * (word + 1)) n ≡ 64 * word + count = omega (arith, e, h) in
-    ap (λ j. all_below j test) at ∙ now
-
-pub map_fails : (n word count : ℕ) (test : ℕ → Bool) → count ≡ min (n - 64 * word) 64 → 64 * word < n →
-    all_below (64 * word + count) test ≡ false → all_below n test ≡ false
-map_fails n word count test e h now =
-    let at : n ≡ 64 * word + count + (n - (64 * word + count)) = omega (arith, e, h) in
-    all_join (64 * word + count) (n - (64 * word + count)) n test at
-    ∙ ap (λ b. b && all_below (n - (64 * word + count)) (λ k. test (64 * word + count + k))) now
+    (λ k l. rw (is_found k l, is_right k l, moved_bit block place word k) refl)
 
 pub map_begins : (n : ℕ) (test : ℕ → Bool) → all_below (min 0 n) test ≡ true
 unfolding all_below
-map_begins n test = let e : min 0 n ≡ 0 = omega arith in ap (λ j. all_below j test) e
+map_begins n test = let none : min 0 n ≡ 0 = omega arith in rw none refl
 
 pub none_below : (test : ℕ → Bool) → all_below 0 test ≡ true
 unfolding all_below
 none_below test = refl
 
--- a test that fails below a number fails below each greater one
-pub all_fails : (n m : ℕ) (test : ℕ → Bool) → m ≤ n → all_below m test ≡ false → all_below n test ≡ false
-all_fails n m test h now =
-    let parts : n ≡ m + (n - m) = omega arith in
-    all_join m (n - m) n test parts ∙ ap (λ b. b && all_below (n - m) (λ k. test (m + k))) now
-
 pub moved_in : (bits : ℕ → Bool) (first word k : ℕ) → bits (first + 64 * word + k) ≡ bits (first + (64 * word + k))
-moved_in bits first word k = let e : first + 64 * word + k ≡ first + (64 * word + k) = omega arith in ap bits e
+moved_in bits first word k = let at : first + 64 * word + k ≡ first + (64 * word + k) = omega arith in rw at refl
+
+-- where this word is right, the map is right up to its end, and else it isn't
+pub map_word : (block : List ℕ) (place n word count found right : ℕ) (bits : ℕ → Bool) (same : Bool) →
+    64 * word < n → count ≡ min (n - 64 * word) 64 →
+    all_below (min (64 * word) n) (λ k. same_bit (map_bit block place k) (bits k)) ≡ true →
+    ((k : ℕ) → k < count → nat_eq (bit_at found k) 1 ≡ map_bit block (place + 8 * word) k) →
+    ((k : ℕ) → k < count → nat_eq (bit_at right k) 1 ≡ bits (64 * word + k)) →
+    same ≡ all_below count (λ k. same_bit (nat_eq (bit_at found k) 1) (nat_eq (bit_at right k) 1)) →
+    (same ≡ true → all_below (min (64 * (word + 1)) n) (λ k. same_bit (map_bit block place k) (bits k)) ≡ true)
+    × (same ≡ false → all_below n (λ k. same_bit (map_bit block place k) (bits k)) ≡ false)
+map_word block place n word count found right bits same low many before is_found is_right is =
+    let up = word_is block place n word count found right bits low before is_found is_right ∙ sym is in
+    let end : min (64 * (word + 1)) n ≡ 64 * word + count = omega (arith, many, low) in (
+      (λ e. rw end (up ∙ e)),
+      (λ e. all_fails n (64 * word + count) (λ k. same_bit (map_bit block place k) (bits k)) (omega (arith, many, low))
+          (up ∙ e)),
+    )
 
 -- a map, by its whole words and the bits after them
 pub map_parts : (block : List ℕ) (place words count n at first : ℕ) (bits : ℕ → Bool) → n ≡ 64 * words + count →
@@ -225,6 +213,4 @@ map_parts block place words count n at first bits e is =
     ∙ ap (λ b. all_below (64 * words) (λ k. same_bit (map_bit block place k) (bits (first + k))) && b)
     (same_below count (λ k. same_bit (map_bit block place (64 * words + k)) (bits (first + (64 * words + k))))
     (λ k. same_bit (map_bit block at k) (bits (first + 64 * words + k)))
-    (λ k l. ap (λ b. same_bit b (bits (first + (64 * words + k))))
-    (sym (moved_bit block place words k) ∙ ap (λ j. map_bit block j k) (sym is))
-    ∙ ap (λ b. same_bit (map_bit block at k) b) (sym (moved_in bits first words k))))
+    (λ k l. rw (is, moved_bit block place words k, moved_in bits first words k) refl))

@@ -1,24 +1,17 @@
--- Sums over numbers in a row.
-use Rattle.std.proofs.Common.{◌≡◌, ℕ, zero, suc, ◌+◌, ◌*◌, ◌<◌, ◌≤◌, Bool, [], ◌∷◌, map, cond, arith, refl}
-use Rattle.std.proofs.Common.{ap, ◌∙◌, count_by, ◌^◌}
-use Rattle.std.specs.List.{range_with_len, sum_by}
-use Rattle.std.proofs.lemmas.List.Sums.{sum_by-cons}
-use Rattle.ffs_maps.proofs.Counting.{sum_split, count_within}
+-- Sums and counts over numbers in a row, and where all or none of them count.
+use Rattle.std.proofs.Common.{◌≡◌, ℕ, zero, suc, ◌+◌, ◌*◌, ◌<◌, ◌≤◌, Bool, [], map, cond, arith, refl, ap, ◌∙◌}
+use Rattle.std.proofs.Common.{count_by, ◌^◌, ◌-◌, true, false, List, not, inl, inr, sym, nat_eq, max, slice_index}
+use Rattle.std.proofs.Common.{add-zero}
+use Rattle.std.proofs.lemmas.Bool.{cases_lt, lt-ltb, le-ltb, le-leb, lt-leb, false_from_ne_true, true_from_ne_false}
+use Rattle.std.{specs.List.range_with_len, specs.List.sum_by, proofs.lemmas.List.Sums.sum_by-cons}
+use Rattle.std.{proofs.lemmas.Nat.mul-add-lt, specs.Int.bit_at, proofs.lemmas.Nat.Bits.bit_at_ones}
+use Rattle.ffs_volume.specs.Blocks.{Claims.is_set, Inodes.is_allocated, Inodes.is_directory}
+use Rattle.ffs_volume.specs.{Encodings.Kinds.class_of_kind, Groups.Records.is_used_inode, Groups.Records.is_dir_inode}
+use Rattle.ffs_maps.proofs.Counting.{sum_split, count_within, none_counted, one_on}
+use Rattle.ffs_groups.specs.{Free.free_in, Free.bits_from, Inodes.class_in}
 
 pub sum_more : (f : ℕ → ℕ) (a n : ℕ) → sum_by f (range_with_len a (n + 1)) ≡ sum_by f (range_with_len a n) + f (a + n)
 sum_more f a n = omega (arith, sum_split f a n 1 (n + 1) refl, sum_by-cons f (a + n) [])
-
-pub sum_same : (f g : ℕ → ℕ) (a c n : ℕ) → ((k : ℕ) → k < n → f (a + k) ≡ g (c + k)) →
-    sum_by f (range_with_len a n) ≡ sum_by g (range_with_len c n)
-sum_same f g a c zero e = refl
-sum_same f g a c (suc n) e =
-    let rest : sum_by f (range_with_len (a + 1) n) ≡ sum_by g (range_with_len (c + 1) n) =
-    sum_same f g (a + 1) (c + 1) n
-    (λ k h. let l : a + 1 + k ≡ a + (k + 1) = omega arith in let r : c + (k + 1) ≡ c + 1 + k = omega arith in ap f l
-    ∙ e (k + 1) (omega arith) ∙ ap g r) in
-    let first : f a ≡ g c = let l : a ≡ a + 0 = omega arith in let r : c + 0 ≡ c = omega arith in ap f l
-    ∙ e 0 (omega arith) ∙ ap g r in
-    omega (arith, rest, first, sum_by-cons f a (range_with_len (a + 1) n), sum_by-cons g c (range_with_len (c + 1) n))
 
 pub sum_within : (f : ℕ → ℕ) (m a n : ℕ) → ((k : ℕ) → f k ≤ m) → sum_by f (range_with_len a n) ≤ n * m
 sum_within f m a zero e = omega arith
@@ -28,13 +21,9 @@ pub map_same : (f g : ℕ → Bool) (a c n : ℕ) → ((k : ℕ) → k < n → f
     map f (range_with_len a n) ≡ map g (range_with_len c n)
 map_same f g a c zero e = refl
 map_same f g a c (suc n) e =
-    let rest : map f (range_with_len (a + 1) n) ≡ map g (range_with_len (c + 1) n) =
-    map_same f g (a + 1) (c + 1) n
-    (λ k h. let l : a + 1 + k ≡ a + (k + 1) = omega arith in let r : c + (k + 1) ≡ c + 1 + k = omega arith in ap f l
-    ∙ e (k + 1) (omega arith) ∙ ap g r) in
-    let first : f a ≡ g c = let l : a ≡ a + 0 = omega arith in let r : c + 0 ≡ c = omega arith in ap f l
-    ∙ e 0 (omega arith) ∙ ap g r in
-    ap (λ x. x ∷ map f (range_with_len (a + 1) n)) first ∙ ap (λ xs. g c ∷ xs) rest
+    let first : f a ≡ g c = rw (add-zero a, add-zero c) at (e 0 (omega arith)) in
+    let rest = map_same f g (a + 1) (c + 1) n (λ k h. rw (one_on a k, one_on c k) (e (k + 1) (omega arith))) in
+    cc
 
 -- one number more is counted
 pub count_more : (p : ℕ → Bool) (a n count r : ℕ) (b : Bool) → count ≡ count_by p (range_with_len a n) →
@@ -44,11 +33,105 @@ count_more p a n count r b e f g =
     let one : r ≡ cond (p (a + n)) 1 0 = f ∙ ap (λ x. cond x 1 0) g in
     omega (arith, e, one, sum_more (λ x. cond (p x) 1 0) a n)
 
-pub count_below : (p : ℕ → Bool) (a n limit count r : ℕ) (b : Bool) → count ≡ count_by p (range_with_len a n) →
-    r ≡ cond b 1 0 → b ≡ p (a + n) → n + 1 < limit → count + r < limit
-count_below p a n limit count r b e f g h =
-    omega (arith, count_more p a n count r b e f g, count_within p a (n + 1), h)
-
 pub count_fits : (p : ℕ → Bool) (a n m count r : ℕ) (b : Bool) → count ≡ count_by p (range_with_len a n) →
     r ≡ cond b 1 0 → b ≡ p (a + n) → n < m → m < 2 ^ 32 → count + r < 2 ^ 32
 count_fits p a n m count r b e f g h fits = omega (arith, count_more p a n count r b e f g, count_within p a (n + 1))
+
+abbrev num : Bool → ℕ
+num b = cond b 1 0
+
+-- a count over a stretch, with one of its places apart
+count_apart : (p : ℕ → Bool) (a n k : ℕ) (x : Bool) → k < n → p (a + k) ≡ x →
+    count_by p (range_with_len a n)
+    ≡ count_by p (range_with_len a k) + (cond x 1 0 + count_by p (range_with_len (a + k + 1) (n - k - 1)))
+count_apart p a n k x h e =
+    let one : num (p (a + k)) ≡ num x = ap num e in
+    omega (
+      arith,
+      one,
+      sum_split (λ j. cond (p j) 1 0) a k (suc (n - k - 1)) n (omega arith),
+      sum_by-cons (λ j. cond (p j) 1 0) (a + k) (range_with_len (a + k + 1) (n - k - 1)),
+    )
+
+none_at : (p : ℕ → Bool) (a n k : ℕ) → count_by p (range_with_len a n) ≡ 0 → k < n → p (a + k) ≡ false
+none_at p a n k e h = false_from_ne_true _ (λ is. absurd (omega (arith, e, count_apart p a n k true h is)))
+
+all_at : (p : ℕ → Bool) (a n k : ℕ) → count_by p (range_with_len a n) ≡ n → k < n → p (a + k) ≡ true
+all_at p a n k e h = true_from_ne_false _ (λ is. absurd (omega (
+  arith,
+  e,
+  count_apart p a n k false h is,
+  count_within p a k,
+  count_within p (a + k + 1) (n - k - 1),
+)))
+
+free_by : (used : List Bool) (size f : ℕ) (x : Bool) → f < size → is_set used f ≡ x → free_in used size f ≡ not x
+free_by used size f x h e = rw (lt-ltb f size h, e) refl
+
+-- no bit is set: all fragments are free
+pub all_free : (used : List Bool) (size start n count k : ℕ) → start + n ≤ size →
+    count ≡ count_by (λ f. is_set used f) (range_with_len start n) → count ≡ 0 → k < n →
+    free_in used size (start + k) ≡ true
+all_free used size start n count k fits is e h =
+    free_by used size (start + k) false (omega arith) (none_at (λ f. is_set used f) start n k (omega (arith, is, e)) h)
+
+-- all bits are set: no fragment is free
+pub none_free : (used : List Bool) (size start n count k : ℕ) → start + n ≤ size →
+    count ≡ count_by (λ f. is_set used f) (range_with_len start n) → count ≡ n → k < n →
+    free_in used size (start + k) ≡ false
+none_free used size start n count k fits is e h =
+    free_by used size (start + k) true (omega arith) (all_at (λ f. is_set used f) start n k (omega (arith, is, e)) h)
+
+-- a fragment of a block is one of those that are looked at
+pub in_block : (free : ℕ → Bool) (start frag blocks b k n m : ℕ) (x : Bool) → n ≡ blocks → m ≡ frag →
+    ((j : ℕ) → j < start + n * m - start → free (start + j) ≡ x) → b < blocks → k < frag →
+    free (start + b * frag + k) ≡ x
+in_block free start frag blocks b k n m x many each all h l =
+    let at : start + b * frag + k ≡ start + (b * frag + k) = omega arith in
+    rw at (all (b * frag + k) (rw (many, each) (omega (arith, mul-add-lt b frag k blocks h l))))
+
+-- a block of those from a fragment on, in the numbers of its group
+pub block_from : (used : List Bool) (size size' a b f base block frag k : ℕ) → size ≡ size' → a ≡ base → b ≡ block →
+    f ≡ frag →
+    bits_from (free_in used size) (a + b * f) frag k
+    ≡ map (free_in used size') (range_with_len (base + (block + k) * frag) frag)
+block_from used size size' a b f base block frag k same is_a is_b is_f =
+    let at : base + block * frag + k * frag ≡ base + (block + k) * frag = omega arith in
+    rw (same, is_a, is_b, is_f) (ap (λ j. map (free_in used size') (range_with_len j frag)) at)
+
+-- a count of numbers from 2 on is a count of all, where neither 0 nor 1 counts
+pub count_from_two : (p : ℕ → Bool) (first len start n count : ℕ) → ((x : ℕ) → x < 2 → p x ≡ false) →
+    start ≡ max first 2 → n ≡ max (first + len) start - start →
+    count ≡ count_by p (range_with_len start n) → count ≡ count_by p (range_with_len first len)
+count_from_two p first len start n count low is many e = elim (cases_lt len (start - first)) [
+  | inl few ↦
+      let none : n ≡ 0 = omega (arith, is, many) in
+      rw none at e ∙ sym (none_counted p first len (λ k h. low (first + k) (omega (arith, is, h, few))))
+  | inr more ↦
+      let at : first + (start - first) ≡ start = omega (arith, is) in
+      let split = sum_split (λ x. cond (p x) 1 0) first (start - first) n len (omega (arith, is, many)) in
+      omega (
+        arith,
+        e,
+        none_counted p first (start - first) (λ k h. low (first + k) (omega (arith, is, h))),
+        rw at at split,
+      )
+]
+
+-- ---- inodes from 2 on
+pub used_by_kind : (kinds : List ℕ) (x : ℕ) → 2 ≤ x →
+    is_used_inode (class_in kinds) x ≡ is_allocated (class_of_kind (slice_index kinds x))
+used_by_kind kinds x h = rw (le-ltb x 2 h) refl
+
+pub dir_by_kind : (kinds : List ℕ) (x : ℕ) → 2 ≤ x →
+    is_dir_inode (class_in kinds) x ≡ is_directory (class_of_kind (slice_index kinds x))
+dir_by_kind kinds x h = rw (le-leb 2 x h) refl
+
+pub no_dir_below : (kinds : List ℕ) (x : ℕ) → x < 2 → is_dir_inode (class_in kinds) x ≡ false
+no_dir_below kinds x h = rw (lt-leb 2 x h) refl
+
+pub none_free_below : (kinds : List ℕ) (x : ℕ) → x < 2 → not (is_used_inode (class_in kinds) x) ≡ false
+none_free_below kinds x h = rw (lt-ltb x 2 h) refl
+
+pub all_bits : (word k : ℕ) → word ≡ 2 ^ 64 - 1 → k < 64 → nat_eq (bit_at word k) 1 ≡ true
+all_bits word k e h = rw (e, bit_at_ones 64 k h) refl

@@ -1,19 +1,15 @@
 -- The bits of a map, by its words: how long the list is, what is at an index, and what is set.
-use Rattle.std.proofs.Common.{◌≡◌, ◌≢◌, inl, inr, ℕ, zero, suc, ◌+◌, ◌*◌, ◌/◌, ◌%◌, ◌^◌, ◌<◌, Bool, true, false}
-use Rattle.std.proofs.Common.{List, length, get_or, nat_eq, slice_set, replicate, bit_or, bit_and, arith, refl}
-use Rattle.std.proofs.Common.{ap, ◌∙◌, sym, length-set}
-use Rattle.std.proofs.Math.Nat.{ℕ_set}
-use Rattle.std.proofs.Math.Path.{subst⁻¹}
-use Rattle.std.specs.Int.{bit_at, w64, bit_not, div_ceil}
+use Rattle.std.proofs.Common.{◌≡◌, ◌≢◌, inl, inr, ℕ, zero, suc, ◌+◌, ◌*◌, ◌/◌, ◌%◌, ◌^◌, ◌<◌, Bool, true, false, List}
+use Rattle.std.proofs.Common.{length, get_or, nat_eq, slice_set, replicate, bit_or, bit_and, arith, refl, ap, ◌∙◌, sym}
+use Rattle.std.proofs.Common.{length-set, add-zero}
 use Rattle.std.proofs.lemmas.List.{same_lists, get_or-set_other, get_or-set_same, get_or-replicate, length-replicate}
 use Rattle.std.proofs.lemmas.List.FromFn.{length-map-range_with_len, get_or-map-range_with_len}
-use Rattle.std.proofs.lemmas.Bool.{cases_eq}
 use Rattle.std.proofs.lemmas.Nat.Bits.{bit_at_set_same, bit_at_set_other, bit_at_clear_same, bit_at_clear_other}
-use Rattle.std.proofs.lemmas.Nat.Bits.{bit_at-zero}
+use Rattle.std.{proofs.lemmas.Nat.Bits.bit_at-zero, proofs.Math.Nat.ℕ_set, proofs.Math.Path.subst⁻¹, specs.Int.bit_at}
+use Rattle.std.{specs.Int.w64, specs.Int.bit_not, specs.Int.div_ceil, proofs.lemmas.Bool.cases_eq}
 use Rattle.ffs_memory.specs.Words.{Words}
-use Rattle.ffs_maps.specs.Bits.{bits_of, set_run}
-use Rattle.ffs_maps.specs.WordBits.{is_bit, bits_of_words, set_among}
-use Rattle.ffs_maps.specs.declared.FragmentMap.{FragmentMap}
+use Rattle.ffs_maps.specs.{declared.FragmentMap.FragmentMap}
+use Rattle.ffs_maps.specs.{Bits.bits_of, Bits.set_run, WordBits.is_bit, WordBits.bits_of_words, WordBits.set_among}
 
 pub length_bits : (words : List ℕ) (size : ℕ) → length (bits_of_words words size) ≡ size
 unfolding bits_of_words
@@ -28,12 +24,26 @@ pub get_bits : (words : List ℕ) (size f : ℕ) (d : Bool) → f < size → get
 unfolding bits_of_words
 get_bits words size f d h = get_or-map-range_with_len (is_bit words) 0 size f f d h (omega arith)
 
+-- the bit of a fragment, by the number of its word and its number there
+pub bit_in : (words : List ℕ) (size f index k w : ℕ) → f < size → f / 64 ≡ index → f % 64 ≡ k →
+    w ≡ get_or words index 0 → get_or (bits_of_words words size) f false ≡ nat_eq (bit_at w k) 1
+bit_in words size f index k w h at bit is = get_bits words size f false h ∙ rw (at, bit, is) refl
+
+-- words have these bits, where each word's bit is one of them
+pub bits_are : (words : List ℕ) (size : ℕ) (bits : List Bool) → length bits ≡ size →
+    ((f : ℕ) (d : Bool) → f < size → is_bit words f ≡ get_or bits f d) → bits_of_words words size ≡ bits
+bits_are words size bits long at =
+    same_lists _ _ (length_bits words size ∙ sym long)
+    (λ f d below. let low : f < size = omega (arith, below, length_bits words size) in
+    get_bits words size f d low ∙ at f d low)
+
 -- a map with the same words is the same
 pub same_map : (m : FragmentMap) (words : Words) (enough : length words.list ≡ div_ceil m.size 64)
     (counted : m.ones ≡ set_among (bits_of_words words.list m.size) 0 m.size) → words ≡ m.words →
     record m { words = words; enough = enough; counted = counted } ≡ m
 same_map m words enough counted same =
-    subst⁻¹ (λ w. (e : length w.list ≡ div_ceil m.size 64) (k : m.ones ≡ set_among (bits_of_words w.list m.size) 0 m.size) →
+    subst⁻¹ (λ w. (e : length w.list ≡ div_ceil m.size 64)
+    (k : m.ones ≡ set_among (bits_of_words w.list m.size) 0 m.size) →
     record m { words = w; enough = e; counted = k } ≡ m) same
     (λ e k. ap (λ x. record m { enough = x; counted = k }) (ℕ_set _ _ e m.enough)
     ∙ ap (λ x. record m { counted = x }) (ℕ_set _ _ k m.counted)) enough counted
@@ -44,30 +54,22 @@ pub put_bits : (words : List ℕ) (size k v : ℕ) (b : Bool) → k < size → k
     ((i : ℕ) → i < 64 → i ≢ k % 64 → bit_at v i ≡ bit_at (get_or words (k / 64) 0) i) →
     bits_of_words (slice_set words (k / 64) v) size ≡ slice_set (bits_of_words words size) k b
 put_bits words size k v b h inside here other =
-    same_lists _ _ (length_bits (slice_set words (k / 64) v) size
-    ∙ sym (length-set (bits_of_words words size) k b ∙ length_bits words size))
-    (λ f d below. let low : f < size = omega (arith, below, length_bits (slice_set words (k / 64) v) size) in
-    get_bits (slice_set words (k / 64) v) size f d low ∙ at f d low)
+    bits_are (slice_set words (k / 64) v) size (slice_set (bits_of_words words size) k b)
+    (length-set (bits_of_words words size) k b ∙ length_bits words size) at
   where
-    other_place : (f : ℕ) (d : Bool) → f < size → (f ≡ k → ⊥) → is_bit (slice_set words (k / 64) v) f
-        ≡ get_or (slice_set (bits_of_words words size) k b) f d
-    other_place f d low apart =
-        (elim (cases_eq (f / 64) (k / 64)) [
-          | inl e ↦ ap (λ j. nat_eq (bit_at (get_or (slice_set words (k / 64) v) j 0) (f % 64)) 1) e
-              ∙ ap (λ w. nat_eq (bit_at w (f % 64)) 1) (get_or-set_same words (k / 64) v 0 inside)
-              ∙ ap (λ x. nat_eq x 1) (other (f % 64) (omega arith) (λ same. apart (omega arith)))
-              ∙ ap (λ j. nat_eq (bit_at (get_or words j 0) (f % 64)) 1) (sym e)
-          | inr far ↦ ap (λ w. nat_eq (bit_at w (f % 64)) 1) (get_or-set_other words (k / 64) (f / 64) v 0 far)
-        ])
-        ∙ sym (get_bits words size f d low)
-        ∙ sym (get_or-set_other (bits_of_words words size) k f b d apart)
-
     at : (f : ℕ) (d : Bool) → f < size → is_bit (slice_set words (k / 64) v) f
         ≡ get_or (slice_set (bits_of_words words size) k b) f d
     at f d low = elim (cases_eq f k) [
-      | inl e ↦ rw e (ap (λ w. nat_eq (bit_at w (k % 64)) 1) (get_or-set_same words (k / 64) v 0 inside) ∙ here
-          ∙ sym (get_or-set_same (bits_of_words words size) k b d (omega (arith, h, length_bits words size))))
-      | inr apart ↦ other_place f d low apart
+      | inl e ↦ rw (e, get_or-set_same words (k / 64) v 0 inside, here)
+          (sym (get_or-set_same (bits_of_words words size) k b d (omega (arith, h, length_bits words size))))
+      | inr apart ↦ elim (cases_eq (f / 64) (k / 64)) [
+        | inl e ↦
+            let same = other (f % 64) (omega arith) (λ q. apart (omega arith)) in
+            rw (e, get_or-set_same words (k / 64) v 0 inside, same, ← e)
+            (sym (get_or-set_other (bits_of_words words size) k f b d apart ∙ get_bits words size f d low))
+        | inr far ↦ rw (get_or-set_other words (k / 64) (f / 64) v 0 far)
+            (sym (get_or-set_other (bits_of_words words size) k f b d apart ∙ get_bits words size f d low))
+      ]
     ]
 
 pub set_bits : (words : List ℕ) (size k w : ℕ) → k < size → k / 64 < length words → w ≡ get_or words (k / 64) 0 →
@@ -87,28 +89,20 @@ clear_bits words size k w h inside e =
     (λ i low apart. bit_at_clear_other w64 w (k % 64) (omega arith) i low apart ∙ ap (λ x. bit_at x i) e)
 
 -- words of zeros have no bit set
-zeros_at : (n i : ℕ) → get_or (replicate n zero) i zero ≡ zero
+pub zeros_at : (n i : ℕ) → get_or (replicate n zero) i zero ≡ zero
 zeros_at zero i = refl
 zeros_at (suc n) zero = refl
 zeros_at (suc n) (suc i) = zeros_at n i
 
 pub zero_bits : (n size : ℕ) → bits_of_words (replicate n 0) size ≡ replicate size false
-zero_bits n size =
-    same_lists _ _ (length_bits (replicate n 0) size ∙ sym (length-replicate size false))
-    (λ f d below. let low : f < size = omega (arith, below, length_bits (replicate n 0) size) in
-    get_bits (replicate n 0) size f d low
-    ∙ ap (λ w. nat_eq (bit_at w (f % 64)) 1) (zeros_at n (f / 64)) ∙ ap (λ x. nat_eq x 1) (bit_at-zero (f % 64))
-    ∙ sym (get_or-replicate size f false d low))
+zero_bits n size = bits_are (replicate n 0) size (replicate size false) (length-replicate size false)
+    (λ f d low. rw (zeros_at n (f / 64), bit_at-zero (f % 64)) (sym (get_or-replicate size f false d low)))
 
 -- a run is set in two parts
 pub run_join : (bits : List Bool) (start n m t : ℕ) → t ≡ n + m →
     set_run bits start t ≡ set_run (set_run bits start n) (start + n) m
-run_join bits start zero m t e =
-    let at : start + 0 ≡ start = omega arith in
-    let same : t ≡ m = omega (arith, e) in
-    rw (at, same) refl
+run_join bits start zero m t e = let same : t ≡ m = omega (arith, e) in rw (add-zero start, same) refl
 run_join bits start (suc n) m zero e = absurd (omega arith)
 run_join bits start (suc n) m (suc t) e =
-    let k : start + 1 + n ≡ start + suc n = omega arith in
-    run_join (slice_set bits start true) (start + 1) n m t (omega (arith, e))
-    ∙ ap (λ j. set_run (set_run (slice_set bits start true) (start + 1) n) j m) k
+    let at : start + suc n ≡ start + 1 + n = omega arith in
+    rw at (run_join (slice_set bits start true) (start + 1) n m t (omega (arith, e)))

@@ -1,38 +1,48 @@
 -- How many bits of a run are set.
-use Rattle.std.proofs.Common.{◌≡◌, ◌⊎◌, inl, inr, ℕ, zero, suc, ◌+◌, ◌-◌, ◌*◌, ◌/◌, ◌%◌, ◌^◌, ◌<◌, ◌≤◌, Bool, false}
-use Rattle.std.proofs.Common.{List, length, cond, map, get_or, nat_eq, bit_and, count_ones, count_by, arith, refl, ap, ◌∙◌}
-use Rattle.std.proofs.Common.{sym, take, drop}
+use Rattle.std.proofs.Common.{◌≡◌, inl, inr, ℕ, zero, suc, ◌+◌, ◌-◌, ◌*◌, ◌/◌, ◌%◌, ◌^◌, ◌<◌, ◌≤◌, Bool, false, List}
+use Rattle.std.proofs.Common.{length, cond, map, get_or, bit_and, count_ones, count_by, arith, refl, ap, ◌∙◌, sym, take}
+use Rattle.std.proofs.Common.{drop, add-zero, min}
 use Rattle.std.specs.List.{range_with_len, sum_by, slice_index_or, All}
-use Rattle.std.specs.Int.{bit_at}
-use Rattle.std.proofs.lemmas.Bool.{cases_lt}
 use Rattle.std.proofs.lemmas.List.{get_or_past, get_or-drop, get_or-take, length-drop, length-take-le}
-use Rattle.std.proofs.lemmas.List.Elements.{All-get_or}
 use Rattle.std.proofs.lemmas.List.Sums.{sum_by-cons, count_by-le-length}
 use Rattle.std.proofs.lemmas.List.FromFn.{length-range_with_len, length-map-range_with_len, get_or-map-range_with_len}
-use lib.Lanes.{mask_l}
 use Rattle.std.proofs.lemmas.Simd.{bit_mask_l, ones-mask_l}
-use Rattle.std.proofs.lemmas.Nat.Bits.{bit_at_and, bit_at-lt, bit_at-zero, bit_at_above, bit_at_ones}
-use Rattle.std.proofs.lemmas.Nat.Bits.{bit_at_ones_above, same_from_bits, ones_shr}
+use Rattle.std.proofs.lemmas.Nat.Bits.{bit_at_and, bit_at-lt, bit_at-zero, bit_at_above, bit_at_ones, bit_at_ones_above}
+use Rattle.std.proofs.lemmas.Nat.Bits.{same_from_bits, ones_shr}
+use Rattle.std.{specs.Int.bit_at, proofs.lemmas.Bool.cases_lt, proofs.lemmas.List.Elements.All-get_or}
+use lib.Lanes.{mask_l}
 use Rattle.ffs_maps.specs.WordBits.{bits_of_words, set_among}
-use Rattle.ffs_maps.proofs.Bits.{get_bits}
-use Rattle.ffs_maps.proofs.WordShifts.{bit_shr}
-use Rattle.ffs_maps.proofs.BitNumbers.{min_one, min_zero, one_bit}
+use Rattle.ffs_maps.proofs.{Bits.get_bits, Bits.bit_in, WordShifts.bit_shr, WordShifts.min_one, WordShifts.one_bit}
+
+-- the place of the next number
+pub one_on : (a k : ℕ) → a + 1 + k ≡ a + (k + 1)
+one_on a k = omega arith
 
 -- a count over a run, in two parts
 pub sum_split : (f : ℕ → ℕ) (a n m t : ℕ) → t ≡ n + m → sum_by f (range_with_len a t) ≡ sum_by f (range_with_len a n)
     + sum_by f (range_with_len (a + n) m)
-sum_split f a zero m t e =
-    let at : a + 0 ≡ a = omega arith in
-    let same : t ≡ m = omega (arith, e) in
-    rw (at, same) (omega arith)
+sum_split f a zero m t e = let same : t ≡ m = omega (arith, e) in rw (add-zero a, same) (omega arith)
 sum_split f a (suc n) m zero e = absurd (omega arith)
 sum_split f a (suc n) m (suc t) e =
-    let k : a + 1 + n ≡ a + suc n = omega arith in
-    let rest : sum_by f (range_with_len (a + 1) t) ≡ sum_by f (range_with_len (a + 1) n) + sum_by f
-    (range_with_len (a + suc n) m) =
-    sum_split f (a + 1) n m t (omega (arith, e))
-    ∙ ap (λ j. sum_by f (range_with_len (a + 1) n) + sum_by f (range_with_len j m)) k in
-    omega (arith, rest, sum_by-cons f a (range_with_len (a + 1) t), sum_by-cons f a (range_with_len (a + 1) n))
+    let at : a + suc n ≡ a + 1 + n = omega arith in
+    let rest = sum_split f (a + 1) n m t (omega (arith, e)) in
+    rw at (omega (arith, rest, sum_by-cons f a (range_with_len (a + 1) t), sum_by-cons f a (range_with_len (a + 1) n)))
+
+pub sum_same : (f g : ℕ → ℕ) (a c n : ℕ) → ((k : ℕ) → k < n → f (a + k) ≡ g (c + k)) →
+    sum_by f (range_with_len a n) ≡ sum_by g (range_with_len c n)
+sum_same f g a c zero e = refl
+sum_same f g a c (suc n) e =
+    let first : f a ≡ g c = rw (add-zero a, add-zero c) at (e 0 (omega arith)) in
+    let rest = sum_same f g (a + 1) (c + 1) n (λ k h. rw (one_on a k, one_on c k) (e (k + 1) (omega arith))) in
+    omega (arith, rest, first, sum_by-cons f a (range_with_len (a + 1) n), sum_by-cons g c (range_with_len (c + 1) n))
+
+-- a sum of equal numbers
+pub sum_const : (f : ℕ → ℕ) (m a n : ℕ) → ((k : ℕ) → k < n → f (a + k) ≡ m) → sum_by f (range_with_len a n) ≡ n * m
+sum_const f m a zero e = omega arith
+sum_const f m a (suc n) e =
+    let first : f a ≡ m = rw (add-zero a) at (e 0 (omega arith)) in
+    let rest = sum_const f m (a + 1) n (λ k h. rw (one_on a k) (e (k + 1) (omega arith))) in
+    omega (arith, rest, first, sum_by-cons f a (range_with_len (a + 1) n))
 
 pub count_join : (p : ℕ → Bool) (a n m t x y : ℕ) → t ≡ n + m → x ≡ count_by p (range_with_len a n) →
     y ≡ count_by p (range_with_len (a + n) m) → x + y ≡ count_by p (range_with_len a t)
@@ -49,7 +59,7 @@ pub count_within : (p : ℕ → Bool) (a n : ℕ) → count_by p (range_with_len
 count_within p a n = omega (arith, count_by-le-length p (range_with_len a n), length-range_with_len a n)
 
 -- a number whose bits are tests of the places from a on, and which has no other bits
-ones_by : (p : ℕ → Bool) (x a n : ℕ) → ((i : ℕ) → i < n → bit_at x i ≡ cond (p (a + i)) 1 0) →
+pub ones_by : (p : ℕ → Bool) (x a n : ℕ) → ((i : ℕ) → i < n → bit_at x i ≡ cond (p (a + i)) 1 0) →
     ((i : ℕ) → n ≤ i → bit_at x i ≡ 0) → count_ones x ≡ count_by p (range_with_len a n)
 ones_by p x a n low high =
     ap count_ones (same_from_bits x (mask_l (map p (range_with_len a n)))
@@ -63,59 +73,38 @@ ones_by p x a n low high =
           (sym (get_or_past (map p (range_with_len a n)) i false (omega (arith, h, length-map-range_with_len p a n))))
     ]
 
-sub_twice : (k : ℕ) → k ≤ 64 → 64 - (64 - k) ≡ k
-sub_twice k h = omega arith
-
 -- the bits of one word that are counted
 pub ones_in_word : (words : List ℕ) (size start len w : ℕ) → start % 64 + len ≤ 64 → start + len ≤ size →
     w ≡ get_or words (start / 64) 0 →
     count_ones (bit_and (w / 2 ^ (start % 64)) ((2 ^ 64 - 1) / 2 ^ (64 - len)))
     ≡ set_among (bits_of_words words size) start len
 ones_in_word words size start len w h below is =
-    let mask : (2 ^ 64 - 1) / 2 ^ (64 - len) ≡ 2 ^ len - 1 = ones_shr 64 (64 - len) (omega arith)
-    ∙ ap (λ k. 2 ^ k - 1) (sub_twice len (omega arith)) in
-    ap (λ m. count_ones (bit_and (w / 2 ^ (start % 64)) m)) mask
-    ∙ ones_by (λ f. slice_index_or (bits_of_words words size) f false) (bit_and (w / 2 ^ (start % 64)) (2 ^ len - 1))
-    start len low high
+    let twice : 64 - (64 - len) ≡ len = omega arith in
+    rw (ones_shr 64 (64 - len) (omega arith), twice)
+    (ones_by (λ f. slice_index_or (bits_of_words words size) f false) (bit_and (w / 2 ^ (start % 64)) (2 ^ len - 1))
+    start len low high)
   where
     low : (i : ℕ) → i < len → bit_at (bit_and (w / 2 ^ (start % 64)) (2 ^ len - 1)) i
         ≡ cond (slice_index_or (bits_of_words words size) (start + i) false) 1 0
     low i l =
-        let place : (start + i) / 64 ≡ start / 64 = omega arith in
-        let bit : (start + i) % 64 ≡ i + start % 64 = omega arith in
-        let here : slice_index_or (bits_of_words words size) (start + i) false ≡ nat_eq (bit_at w (i + start % 64)) 1 =
-        get_bits words size (start + i) false (omega arith)
-        ∙ ap (λ j. nat_eq (bit_at (get_or words j 0) ((start + i) % 64)) 1) place
-        ∙ ap (λ j. nat_eq (bit_at (get_or words (start / 64) 0) j) 1) bit
-        ∙ ap (λ x. nat_eq (bit_at x (i + start % 64)) 1) (sym is) in
-        bit_at_and (w / 2 ^ (start % 64)) (2 ^ len - 1) i
+        rw (bit_in words size (start + i) (start / 64) (i + start % 64) w (omega arith) (omega arith) (omega arith) is)
+        (bit_at_and (w / 2 ^ (start % 64)) (2 ^ len - 1) i
         ∙ min_one _ _ (bit_at-lt (w / 2 ^ (start % 64)) i) (bit_at_ones len i l)
         ∙ bit_shr w (start % 64) i
-        ∙ one_bit (bit_at w (i + start % 64)) (bit_at-lt w (i + start % 64))
-        ∙ ap (λ b. cond b 1 0) (sym here)
+        ∙ one_bit (bit_at w (i + start % 64)) (bit_at-lt w (i + start % 64)))
 
     high : (i : ℕ) → len ≤ i → bit_at (bit_and (w / 2 ^ (start % 64)) (2 ^ len - 1)) i ≡ 0
-    high i l = bit_at_and (w / 2 ^ (start % 64)) (2 ^ len - 1) i
-        ∙ min_zero (bit_at (w / 2 ^ (start % 64)) i) _ (bit_at_ones_above len i l)
+    high i l = omega (arith, bit_at_and (w / 2 ^ (start % 64)) (2 ^ len - 1) i, bit_at_ones_above len i l)
 
 -- the bits of a whole word
 pub ones_of_word : (words : List ℕ) (size index w : ℕ) → w < 2 ^ 64 → w ≡ get_or words index 0 →
     64 * index + 64 ≤ size → count_ones w
     ≡ set_among (bits_of_words words size) (64 * index) 64
 ones_of_word words size index w fits is below =
-    ones_by (λ f. slice_index_or (bits_of_words words size) f false) w (64 * index) 64 low
+    ones_by (λ f. slice_index_or (bits_of_words words size) f false) w (64 * index) 64
+    (λ i l. rw (bit_in words size (64 * index + i) index i w (omega arith) (omega arith) (omega arith) is)
+    (one_bit (bit_at w i) (bit_at-lt w i)))
     (λ i l. bit_at_above w 64 i fits l)
-  where
-    low : (i : ℕ) → i < 64 → bit_at w i ≡ cond (slice_index_or (bits_of_words words size) (64 * index + i) false) 1 0
-    low i l =
-        let place : (64 * index + i) / 64 ≡ index = omega arith in
-        let bit : (64 * index + i) % 64 ≡ i = omega arith in
-        let here : slice_index_or (bits_of_words words size) (64 * index + i) false ≡ nat_eq (bit_at w i) 1 =
-        get_bits words size (64 * index + i) false (omega arith)
-        ∙ ap (λ j. nat_eq (bit_at (get_or words j 0) ((64 * index + i) % 64)) 1) place
-        ∙ ap (λ j. nat_eq (bit_at (get_or words index 0) j) 1) bit
-        ∙ ap (λ x. nat_eq (bit_at x i) 1) (sym is) in
-        one_bit (bit_at w i) (bit_at-lt w i) ∙ ap (λ b. cond b 1 0) (sym here)
 
 -- the bits of some words that are all the same
 pub alike_words : (words : List ℕ) (size first n w : ℕ) → w < 2 ^ 64 → 64 * (first + n) ≤ size →
@@ -123,32 +112,16 @@ pub alike_words : (words : List ℕ) (size first n w : ℕ) → w < 2 ^ 64 → 6
     ≡ set_among (bits_of_words words size) (64 * first) (64 * n)
 alike_words words size first zero w fits below alike = omega arith
 alike_words words size first (suc n) w fits below alike =
-    let before : n * count_ones w
-    ≡ set_among (bits_of_words words size) (64 * first) (64 * n) =
-    alike_words words size first n w fits (omega (arith, below)) (λ k h. alike k (omega (arith, h))) in
     let place : 64 * (first + n) ≡ 64 * first + 64 * n = omega arith in
-    let last : count_ones w
-    ≡ set_among (bits_of_words words size) (64 * first + 64 * n) 64 =
-    ones_of_word words size (first + n) w fits (sym (alike n (omega arith))) (omega (arith, below))
-    ∙ ap (λ j. set_among (bits_of_words words size) j 64) place in
-    let all : n * count_ones w + count_ones w
-    ≡ set_among (bits_of_words words size) (64 * first) (64 * suc n) =
-    count_join (λ f. slice_index_or (bits_of_words words size) f false) (64 * first) (64 * n) 64 (64 * suc n) _ _
-    (omega arith) before last in
+    let all = count_join (λ f. slice_index_or (bits_of_words words size) f false) (64 * first) (64 * n) 64 (64 * suc n)
+    _ _ (omega arith) (alike_words words size first n w fits (omega (arith, below)) (λ k h. alike k (omega (arith, h))))
+    (rw place at
+    (ones_of_word words size (first + n) w fits (sym (alike n (omega arith))) (omega (arith, below)))) in
     omega (arith, all)
 
-zero_if : (b : Bool) (n : ℕ) → b ≡ false → n ≡ 0 → n ≡ cond b 1 0
-zero_if b n e is = is ∙ ap (λ x. cond x 1 0) (sym e)
-
-pub none_counted : (p : ℕ → Bool) (a n : ℕ) → ((k : ℕ) → k < n → p (a + k) ≡ false) → count_by p (range_with_len a n) ≡ 0
-none_counted p a zero none = refl
-none_counted p a (suc n) none =
-    let at : a ≡ a + 0 = omega arith in
-    let first : p a ≡ false = ap p at ∙ none 0 (omega arith) in
-    let rest : count_by p (range_with_len (a + 1) n) ≡ 0 =
-    none_counted p (a + 1) n
-    (λ k h. let l : a + 1 + k ≡ a + (k + 1) = omega arith in ap p l ∙ none (k + 1) (omega arith)) in
-    omega (arith, rest, zero_if (p a) 0 first refl, sum_by-cons (λ j. cond (p j) 1 0) a (range_with_len (a + 1) n))
+pub none_counted : (p : ℕ → Bool) (a n : ℕ) → ((k : ℕ) → k < n → p (a + k) ≡ false) →
+    count_by p (range_with_len a n) ≡ 0
+none_counted p a n none = omega (arith, sum_const (λ j. cond (p j) 1 0) 0 a n (λ k h. rw (none k h) refl))
 
 -- words that are 0 have no set bit
 pub none_in_zeros : (words : List ℕ) (size a n : ℕ) → a + n ≤ size →
@@ -156,9 +129,7 @@ pub none_in_zeros : (words : List ℕ) (size a n : ℕ) → a + n ≤ size →
     set_among (bits_of_words words size) a n ≡ 0
 none_in_zeros words size a n below zeros =
     none_counted (λ f. slice_index_or (bits_of_words words size) f false) a n
-    (λ k h. get_bits words size (a + k) false (omega arith)
-    ∙ ap (λ w. nat_eq (bit_at w ((a + k) % 64)) 1) (zeros k h)
-    ∙ ap (λ x. nat_eq x 1) (bit_at-zero ((a + k) % 64)))
+    (λ k h. get_bits words size (a + k) false (omega arith) ∙ rw (zeros k h, bit_at-zero ((a + k) % 64)) refl)
 
 -- some words from one on, each like the first of them, are those of a longer list
 pub alike_touched : (words touched : List ℕ) (size first end : ℕ) → 64 * end ≤ size → first < end →
@@ -168,35 +139,25 @@ pub alike_touched : (words touched : List ℕ) (size first end : ℕ) → 64 * e
     (end - first) * count_ones (get_or touched first 0)
     ≡ set_among (bits_of_words words size) (64 * first) (64 * end - 64 * first)
 alike_touched words touched size first end below order inside fits same alike =
-    let long : 64 * (end - first) ≡ 64 * end - 64 * first = omega arith in
-    let len : length (take (end - first) (drop first touched)) ≡ end - first = omega (
-      arith,
-      length-take-le (end - first) (drop first touched)
-          (omega (arith, length-drop first touched, inside, order)),
-    ) in
-    alike_words words size first (end - first) (get_or touched first 0) fits (omega (arith, below, order))
+    let long : 64 * end - 64 * first ≡ 64 * (end - first) = omega arith in
+    let len = length-take-le (end - first) (drop first touched)
+    (omega (arith, length-drop first touched, inside, order)) in
+    rw long (alike_words words size first (end - first) (get_or touched first 0) fits (omega (arith, below, order))
     (λ k h. same (first + k) ∙ sym (get_or-drop first touched k 0)
     ∙ sym (get_or-take (end - first) (drop first touched) k 0 h)
     ∙ All-get_or (λ w. w ≡ get_or touched first 0) (take (end - first) (drop first touched)) k 0
-    (omega (arith, h, len)) alike)
-    ∙ ap (λ n. set_among (bits_of_words words size) (64 * first) n) long
+    (omega (arith, h, len)) alike))
 
 -- the words from one on that are counted, where all after them are 0
 pub count_ends : (words touched : List ℕ) (size first index last count : ℕ) → first ≤ index → 64 * last ≤ size →
-    ((k : ℕ) → get_or words k 0 ≡ get_or touched k 0) →
-    ((last ≤ index) × (index ≤ last)) ⊎ ((length touched ≤ index) × (index ≤ last)) →
+    ((k : ℕ) → get_or words k 0 ≡ get_or touched k 0) → index ≤ last → min (length touched) last ≤ index →
     count ≡ set_among (bits_of_words words size) (64 * first) (64 * index - 64 * first) →
     count ≡ set_among (bits_of_words words size) (64 * first) (64 * last - 64 * first)
-count_ends words touched size first index last count from_ below same ends is = elim ends [
-  | inl e ↦
-      let at : index ≡ last = omega (arith, e.0, e.1) in
-      is ∙ ap (λ j. set_among (bits_of_words words size) (64 * first) (64 * j - 64 * first)) at
-  | inr e ↦
-      let more : count + 0 ≡ set_among (bits_of_words words size) (64 * first) (64 * last - 64 * first) =
-      count_join_at (λ f. slice_index_or (bits_of_words words size) f false) (64 * first) (64 * index) (64 * last)
-      (64 * last - 64 * index) count 0 (omega (arith, from_)) (omega (arith, e.1)) is
-      (sym (none_in_zeros words size (64 * index) (64 * last - 64 * index) (omega (arith, below, e.1))
-      (λ k h. same ((64 * index + k) / 64)
-      ∙ get_or_past touched ((64 * index + k) / 64) 0 (omega (arith, e.0))))) in
-      omega (arith, more)
-]
+count_ends words touched size first index last count from_ below same within ends is =
+    let rest = none_in_zeros words size (64 * index) (64 * last - 64 * index) (omega (arith, below, within))
+    (λ k h. same ((64 * index + k) / 64) ∙ get_or_past touched ((64 * index + k) / 64) 0 (omega (arith, ends, h))) in
+    omega (
+      arith,
+      count_join_at (λ f. slice_index_or (bits_of_words words size) f false) (64 * first) (64 * index)
+          (64 * last) (64 * last - 64 * index) count 0 (omega (arith, from_)) (omega (arith, within)) is (sym rest),
+    )

@@ -1,70 +1,43 @@
 -- How many bits are set, where some of them change.
-use Rattle.std.proofs.Common.{◌≡◌, ◌⊎◌, inl, inr, ℕ, zero, suc, ◌+◌, ◌-◌, ◌<◌, ◌≤◌, Bool, true, false, cond, List}
-use Rattle.std.proofs.Common.{length, get_or, slice_set, not, arith, refl, ap, ◌∙◌, sym}
-use mir.Val.{bool_byte}
-use Rattle.std.specs.List.{range_with_len, sum_by, slice_index_or}
+use Rattle.std.proofs.Common.{◌≡◌, ◌⊎◌, inl, inr, ℕ, ◌+◌, ◌-◌, ◌<◌, ◌≤◌, Bool, true, false, cond, List, length, get_or}
+use Rattle.std.proofs.Common.{slice_set, not, arith, refl}
 use Rattle.std.proofs.lemmas.List.{get_or-set_other, get_or-set_same}
-use Rattle.std.proofs.lemmas.List.Sums.{sum_by-cons}
-use Rattle.ffs_maps.specs.Bits.{set_run, AreClear}
-use Rattle.ffs_maps.specs.WordBits.{set_among}
-use Rattle.ffs_maps.proofs.Counting.{sum_split, none_counted, count_within}
+use Rattle.std.{specs.List.range_with_len, specs.List.slice_index_or, proofs.lemmas.List.Sums.sum_by-cons}
+use mir.Val.{bool_byte}
+use Rattle.ffs_maps.specs.{Bits.set_run, Bits.AreClear, WordBits.set_among}
+use Rattle.ffs_maps.proofs.Counting.{sum_split, none_counted, count_within, sum_same, sum_const}
 use Rattle.ffs_maps.proofs.Masks.{run_outside, run_inside}
 
 -- the bit at an index, as a number
 abbrev is_one : List Bool → ℕ → ℕ
 is_one bits f = cond (slice_index_or bits f false) 1 0
 
-same_sum : (f g : ℕ → ℕ) (a n : ℕ) → ((k : ℕ) → k < n → f (a + k) ≡ g (a + k)) →
-    sum_by f (range_with_len a n) ≡ sum_by g (range_with_len a n)
-same_sum f g a zero e = refl
-same_sum f g a (suc n) e =
-    let at : a ≡ a + 0 = omega arith in
-    let first : f a ≡ g a = ap f at ∙ e 0 (omega arith) ∙ ap g (sym at) in
-    let rest : sum_by f (range_with_len (a + 1) n) ≡ sum_by g (range_with_len (a + 1) n) =
-    same_sum f g (a + 1) n
-    (λ k h. let l : a + 1 + k ≡ a + (k + 1) = omega arith in ap f l ∙ e (k + 1) (omega arith) ∙ ap g (sym l)) in
-    omega (arith, rest, first, sum_by-cons f a (range_with_len (a + 1) n), sum_by-cons g a (range_with_len (a + 1) n))
-
 same_among : (old new : List Bool) (a n : ℕ) →
     ((k : ℕ) → k < n → get_or new (a + k) false ≡ get_or old (a + k) false) → set_among new a n ≡ set_among old a n
-same_among old new a n e =
-    same_sum (is_one new) (is_one old) a n (λ k h. ap (λ b. cond b 1 0) (e k h))
-
-ones_sum : (f : ℕ → ℕ) (a n : ℕ) → ((k : ℕ) → k < n → f (a + k) ≡ 1) → sum_by f (range_with_len a n) ≡ n
-ones_sum f a zero e = refl
-ones_sum f a (suc n) e =
-    let at : a ≡ a + 0 = omega arith in
-    let first : f a ≡ 1 = ap f at ∙ e 0 (omega arith) in
-    let rest : sum_by f (range_with_len (a + 1) n) ≡ n =
-    ones_sum f (a + 1) n
-    (λ k h. let l : a + 1 + k ≡ a + (k + 1) = omega arith in ap f l ∙ e (k + 1) (omega arith)) in
-    omega (arith, rest, first, sum_by-cons f a (range_with_len (a + 1) n))
+same_among old new a n e = sum_same (is_one new) (is_one old) a a n (λ k h. rw (e k h) refl)
 
 all_among : (bits : List Bool) (a n : ℕ) → ((k : ℕ) → k < n → get_or bits (a + k) false ≡ true) → set_among bits a n ≡ n
-all_among bits a n e =
-    ones_sum (is_one bits) a n (λ k h. ap (λ b. cond b 1 0) (e k h))
+all_among bits a n e = omega (arith, sum_const (is_one bits) 1 a n (λ k h. rw (e k h) refl))
 
 -- a clear run has no set bit
 pub none_among : (bits : List Bool) (start len : ℕ) → AreClear bits start len → set_among bits start len ≡ 0
 none_among bits start len clear = none_counted (λ f. slice_index_or bits f false) start len clear
 
 one_among : (bits : List Bool) (k : ℕ) → set_among bits k 1 ≡ cond (get_or bits k false) 1 0
-one_among bits k =
-    omega (arith, sum_by-cons (is_one bits) k (range_with_len (k + 1) 0))
+one_among bits k = omega (arith, sum_by-cons (is_one bits) k (range_with_len (k + 1) 0))
+
+-- some of the bits are set at most
+pub few_among : (bits : List Bool) (a n : ℕ) → set_among bits a n ≤ n
+few_among bits a n = count_within (λ f. slice_index_or bits f false) a n
 
 -- the parts before a run, of the run, and after it
 in_parts : (bits : List Bool) (size start len : ℕ) → start + len ≤ size →
     set_among bits 0 size ≡ set_among bits 0 start + set_among bits start len
     + set_among bits (start + len) (size - (start + len))
 in_parts bits size start len h =
-    let from_zero : 0 + start ≡ start = omega arith in
-    let first : set_among bits 0 size ≡ set_among bits 0 start + set_among bits start (size - start) =
-    sum_split (is_one bits) 0 start (size - start) size (omega (arith, h))
-    ∙ ap (λ j. set_among bits 0 start + set_among bits j (size - start)) from_zero in
-    let rest : set_among bits start (size - start) ≡ set_among bits start len
-    + set_among bits (start + len) (size - (start + len)) =
-    sum_split (is_one bits) start len (size - (start + len)) (size - start) (omega (arith, h)) in
-    omega (arith, first, rest)
+    let at : 0 + start ≡ start = omega arith in
+    let first = rw at at (sum_split (is_one bits) 0 start (size - start) size (omega (arith, h))) in
+    omega (arith, first, sum_split (is_one bits) start len (size - (start + len)) (size - start) (omega (arith, h)))
 
 -- only the bits of a run change
 changed : (old new : List Bool) (size start len : ℕ) → start + len ≤ size →
@@ -78,25 +51,12 @@ changed old new size start len h same = omega (
   same_among old new (start + len) (size - (start + len)) (λ k l. same (start + len + k) (inr (omega arith))),
 )
 
--- the bits of a run are set
-pub run_set : (bits : List Bool) (size start len : ℕ) → length bits ≡ size → start + len ≤ size →
-    set_among (set_run bits start len) 0 size + set_among bits start len ≡ set_among bits 0 size + len
-run_set bits size start len is h =
-    let all : set_among (set_run bits start len) start len ≡ len =
-    all_among (set_run bits start len) start len
-    (λ k l. run_inside bits start len (start + k) false (omega arith) (omega (arith, l)) (omega (arith, is, h, l))) in
-    omega (
-      arith,
-      all,
-      changed bits (set_run bits start len) size start len h (λ f apart. run_outside bits start len f false apart),
-    )
-
 -- one bit becomes b
 pub one_set : (bits : List Bool) (size k : ℕ) (b : Bool) → length bits ≡ size → k < size →
     set_among (slice_set bits k b) 0 size + cond (get_or bits k false) 1 0 ≡ set_among bits 0 size + cond b 1 0
 one_set bits size k b is h =
     let here : is_one (slice_set bits k b) k ≡ cond b 1 0 =
-    ap (λ x. cond x 1 0) (get_or-set_same bits k b false (omega (arith, is, h))) in
+    rw (get_or-set_same bits k b false (omega (arith, is, h))) refl in
     omega (
       arith,
       here,
@@ -104,7 +64,7 @@ one_set bits size k b is h =
       one_among (slice_set bits k b) k,
       changed bits (slice_set bits k b) size k 1 (omega (arith, h))
           (λ f apart. get_or-set_other bits k f b false
-          (elim apart [ inl a ↦ (λ e. omega arith) | inr c ↦ (λ e. omega arith) ])),
+          (λ e. elim apart [ inl a ↦ omega arith | inr c ↦ omega arith ])),
     )
 
 -- what a test is as a number
@@ -117,9 +77,7 @@ pub raised : (bits : List Bool) (size k ones n : ℕ) (was : Bool) → length bi
     ones ≡ set_among bits 0 size → was ≡ get_or bits k false → n ≡ bool_byte (not was) →
     ones + n ≡ set_among (slice_set bits k true) 0 size
 raised bits size k ones n was is h counted read more =
-    let other : n + cond (get_or bits k false) 1 0 ≡ 1 =
-    ap (λ b. n + cond b 1 0) (sym read) ∙ both was n more in
-    omega (arith, one_set bits size k true is h, counted, other)
+    let other = rw read at (both was n more) in omega (arith, one_set bits size k true is h, counted, other)
   where
     both : (b : Bool) (n : ℕ) → n ≡ bool_byte (not b) → n + cond b 1 0 ≡ 1
     both true n e = omega (arith, e)
@@ -130,8 +88,7 @@ pub lowered : (bits : List Bool) (size k ones n : ℕ) (was : Bool) → length b
     ones ≡ set_among bits 0 size → was ≡ get_or bits k false → n ≡ bool_byte was →
     set_among (slice_set bits k false) 0 size + n ≡ ones
 lowered bits size k ones n was is h counted read less =
-    let one : n ≡ cond (get_or bits k false) 1 0 = one_if was n less ∙ ap (λ b. cond b 1 0) read in
-    omega (arith, one_set bits size k false is h, counted, one)
+    let one = rw read at (one_if was n less) in omega (arith, one_set bits size k false is h, counted, one)
 
 -- where the bits of a run are set, of which some were
 pub run_raised : (bits : List Bool) (size start len ones n : ℕ) → length bits ≡ size → start + len ≤ size →
@@ -139,12 +96,10 @@ pub run_raised : (bits : List Bool) (size start len ones n : ℕ) → length bit
     ones + (len - n) ≡ set_among (set_run bits start len) 0 size
 run_raised bits size start len ones n is h counted was = omega (
   arith,
-  run_set bits size start len is h,
+  all_among (set_run bits start len) start len
+      (λ k l. run_inside bits start len (start + k) false (omega arith) (omega (arith, l)) (omega (arith, is, h, l))),
+  changed bits (set_run bits start len) size start len h (λ f apart. run_outside bits start len f false apart),
   counted,
   was,
-  count_within (λ f. slice_index_or bits f false) start len,
+  few_among bits start len,
 )
-
--- some of the bits are set at most
-pub few_among : (bits : List Bool) (a n : ℕ) → set_among bits a n ≤ n
-few_among bits a n = count_within (λ f. slice_index_or bits f false) a n

@@ -1,24 +1,36 @@
--- The bits of a word that is shifted, cut off or turned.
-use Rattle.std.proofs.Common.{◌≡◌, inl, inr, ℕ, zero, suc, ◌+◌, ◌-◌, ◌*◌, ◌/◌, ◌%◌, ◌^◌, ◌<◌, ◌≤◌, false, List}
-use Rattle.std.proofs.Common.{get_or, nat_eq, bit_or, bit_and, arith, refl, ap, ◌∙◌, sym}
-use Rattle.std.specs.Prelude.{not, ◌&&◌}
-use Rattle.std.specs.List.{slice_index_or}
-use Rattle.std.specs.Int.{bit_at, w64}
+-- Bits that are 0 or 1, and shifts of words by bits.
+use Rattle.std.proofs.Common.{◌≡◌, ℕ, zero, suc, ◌<◌, cond, nat_eq, min, max, arith, refl, inl, inr, ◌+◌, ◌-◌, ◌*◌, ◌/◌}
+use Rattle.std.proofs.Common.{◌%◌, ◌^◌, ◌≤◌, List, get_or, bit_or, bit_and, ap, ◌∙◌, sym, not, add-zero}
 use Rattle.std.proofs.lemmas.Bool.{cases_lt, lt-ltb, le-ltb}
 use Rattle.std.proofs.lemmas.Nat.{div-add-mod', one_shl}
-use Rattle.std.proofs.Math.Nat.{one-le-pow}
 use Rattle.std.proofs.lemmas.Nat.Bits.{bit_at_or, bit_at_and, bit_at_not, bit_at-zero, bit_at-lt, bit_at_ones}
 use Rattle.std.proofs.lemmas.Nat.Bits.{bit_at_ones_above, bit_at_above, bit_at_cat_low, bit_at_cat_high}
-use Rattle.ffs_maps.specs.Bits.{is_clear}
-use Rattle.ffs_maps.specs.WordBits.{bits_of_words}
-use Rattle.ffs_maps.proofs.Bits.{get_bits}
-use Rattle.ffs_maps.proofs.BitNumbers.{max_zero, min_one, min_zero, zero_max}
+use Rattle.std.{specs.Int.bit_at, specs.Int.w64, proofs.Math.Nat.one-le-pow}
+use Rattle.ffs_maps.specs.{Bits.is_clear, WordBits.bits_of_words}
+use Rattle.ffs_maps.proofs.Bits.{bit_in}
+
+pub one_bit : (b : ℕ) → b < 2 → b ≡ cond (nat_eq b 1) 1 0
+one_bit zero h = refl
+one_bit (suc zero) h = refl
+one_bit (suc (suc b)) h = absurd (omega arith)
+
+pub min_one : (a b : ℕ) → a < 2 → b ≡ 1 → min a b ≡ a
+min_one a b h e = omega arith
+
+pub min_zero : (a b : ℕ) → b ≡ 0 → min a b ≡ 0
+min_zero a b e = omega arith
+
+pub zero_min : (a b : ℕ) → a ≡ 0 → min a b ≡ 0
+zero_min a b e = omega arith
+
+pub max_zero : (a b : ℕ) → b ≡ 0 → max a b ≡ a
+max_zero a b e = omega arith
+
+pub zero_max : (a b : ℕ) → a ≡ 0 → max a b ≡ b
+zero_max a b e = omega arith
 
 some_pow : (s : ℕ) → 0 < 2 ^ s
 some_pow s = omega (arith, one-le-pow s 2 (omega arith))
-
-back : (k s : ℕ) → k + s - s ≡ k
-back k s = omega arith
 
 pub bit_mod : (n w k : ℕ) → k < w → bit_at (n % 2 ^ w) k ≡ bit_at n k
 bit_mod n w k h = sym (bit_at_cat_low (n / 2 ^ w) w (n % 2 ^ w) k h) ∙ ap (λ x. bit_at x k) (div-add-mod' n (2 ^ w))
@@ -26,43 +38,31 @@ bit_mod n w k h = sym (bit_at_cat_low (n / 2 ^ w) w (n % 2 ^ w) k h) ∙ ap (λ 
 pub bit_shr : (n s k : ℕ) → bit_at (n / 2 ^ s) k ≡ bit_at n (k + s)
 bit_shr n s k =
     let below : n % 2 ^ s < 2 ^ s = omega (arith, some_pow s) in
+    let back : k + s - s ≡ k = omega arith in
     sym (ap (λ x. bit_at x (k + s)) (sym (div-add-mod' n (2 ^ s)))
-    ∙ bit_at_cat_high (n / 2 ^ s) s (n % 2 ^ s) (k + s) below (omega arith)
-    ∙ ap (λ j. bit_at (n / 2 ^ s) j) (back k s))
+    ∙ bit_at_cat_high (n / 2 ^ s) s (n % 2 ^ s) (k + s) below (omega arith) ∙ rw back refl)
 
 pub bit_shl_low : (x s k : ℕ) → k < s → bit_at (x * 2 ^ s) k ≡ 0
-bit_shl_low x s k h =
-    let e : x * 2 ^ s ≡ x * 2 ^ s + 0 = omega arith in
-    ap (λ y. bit_at y k) e ∙ bit_at_cat_low x s 0 k h ∙ bit_at-zero k
+bit_shl_low x s k h = rw (← (add-zero (x * 2 ^ s))) (bit_at_cat_low x s 0 k h ∙ bit_at-zero k)
 
 pub bit_shl_high : (x s k : ℕ) → s ≤ k → bit_at (x * 2 ^ s) k ≡ bit_at x (k - s)
-bit_shl_high x s k h =
-    let e : x * 2 ^ s ≡ x * 2 ^ s + 0 = omega arith in
-    ap (λ y. bit_at y k) e ∙ bit_at_cat_high x s 0 k (some_pow s) h
-
-flip : (b : ℕ) → b < 2 → nat_eq (1 - b) 1 ≡ not (nat_eq b 1)
-flip zero h = refl
-flip (suc zero) h = refl
-flip (suc (suc b)) h = absurd (omega arith)
+bit_shl_high x s k h = rw (← (add-zero (x * 2 ^ s))) (bit_at_cat_high x s 0 k (some_pow s) h)
 
 -- a fragment of the map, by its bit in the turned word
 pub clear_is : (words : List ℕ) (size index k w : ℕ) → k < 64 → w < 2 ^ 64 → w ≡ get_or words index 0 →
     64 * index + k < size →
     nat_eq (bit_at (2 ^ 64 - 1 - w) k) 1 ≡ is_clear (bits_of_words words size) size (64 * index + k)
 clear_is words size index k w h fits e low =
-    let place : (64 * index + k) / 64 ≡ index = omega arith in
-    let bit : (64 * index + k) % 64 ≡ k = omega arith in
-    ap (λ x. nat_eq x 1) (bit_at_not w64 w k fits h)
-    ∙ flip (bit_at w k) (bit_at-lt w k)
-    ∙ ap not (ap (λ x. nat_eq (bit_at x k) 1) e
-    ∙ ap (λ j. nat_eq (bit_at (get_or words j 0) k) 1) (sym place)
-    ∙ ap (λ j. nat_eq (bit_at (get_or words ((64 * index + k) / 64) 0) j) 1) (sym bit)
-    ∙ sym (get_bits words size (64 * index + k) false low))
-    ∙ ap (λ b. b && not (slice_index_or (bits_of_words words size) (64 * index + k) false))
-    (sym (lt-ltb (64 * index + k) size low))
-
-pub not_clear : (words : List ℕ) (size f : ℕ) → size ≤ f → is_clear (bits_of_words words size) size f ≡ false
-not_clear words size f h = ap (λ b. b && not (slice_index_or (bits_of_words words size) f false)) (le-ltb f size h)
+    rw (
+      bit_at_not w64 w k fits h,
+      bit_in words size (64 * index + k) index k w low (omega arith) (omega arith) e,
+      lt-ltb (64 * index + k) size low,
+    ) (flip (bit_at w k) (bit_at-lt w k))
+  where
+    flip : (b : ℕ) → b < 2 → nat_eq (1 - b) 1 ≡ not (nat_eq b 1)
+    flip zero h = refl
+    flip (suc zero) h = refl
+    flip (suc (suc b)) h = absurd (omega arith)
 
 pub small : (n : ℕ) → n < 64 → 1 * 2 ^ n % 2 ^ 64 - 1 ≡ 2 ^ n - 1
 small n h = ap (λ x. x - 1) (one_shl n 64 h)
@@ -73,16 +73,16 @@ pub clear_in_last : (words : List ℕ) (size index k w : ℕ) → k < 64 → w <
     nat_eq (bit_at (bit_and (2 ^ 64 - 1 - w) (1 * 2 ^ (size - 64 * index) % 2 ^ 64 - 1)) k) 1
     ≡ is_clear (bits_of_words words size) size (64 * index + k)
 clear_in_last words size index k w h fits e within last =
-    ap (λ m. nat_eq (bit_at (bit_and (2 ^ 64 - 1 - w) m) k) 1) (small (size - 64 * index) last)
-    ∙ ap (λ x. nat_eq x 1) (bit_at_and (2 ^ 64 - 1 - w) (2 ^ (size - 64 * index) - 1) k)
-    ∙ elim (cases_lt k (size - 64 * index)) [
-      | inl low ↦ ap (λ x. nat_eq x 1)
-          (min_one _ _ (bit_at-lt (2 ^ 64 - 1 - w) k) (bit_at_ones (size - 64 * index) k low))
-          ∙ clear_is words size index k w h fits e (omega arith)
-      | inr past ↦ ap (λ x. nat_eq x 1)
-          (min_zero (bit_at (2 ^ 64 - 1 - w) k) _ (bit_at_ones_above (size - 64 * index) k past))
-          ∙ sym (not_clear words size (64 * index + k) (omega arith))
-    ]
+    rw (small (size - 64 * index) last, bit_at_and (2 ^ 64 - 1 - w) (2 ^ (size - 64 * index) - 1) k)
+    (elim (cases_lt k (size - 64 * index)) [
+      | inl low ↦
+          rw (min_one _ _ (bit_at-lt (2 ^ 64 - 1 - w) k) (bit_at_ones (size - 64 * index) k low))
+          (clear_is words size index k w h fits e (omega arith))
+      | inr past ↦ rw (
+        min_zero (bit_at (2 ^ 64 - 1 - w) k) _ (bit_at_ones_above (size - 64 * index) k past),
+        le-ltb (64 * index + k) size (omega arith),
+      ) refl
+    ])
 
 -- two words, put together at a place
 pub joined : (a b low k : ℕ) → a < 2 ^ 64 → low < 64 → k < 64 → k + low < 64 →

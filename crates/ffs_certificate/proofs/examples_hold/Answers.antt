@@ -1,6 +1,4 @@
-use Rattle.ffs_certificate.proofs.KeptExamples.{kept_examples}
-use Rattle.ffs_certificate.proofs.MessageExamples.{message_examples}
-use Rattle.ffs_certificate.proofs.ReportExamples.{report_examples}
+use Rattle.ffs_certificate.proofs.Examples.{kept_examples, message_examples, report_examples}
 use Rattle.ffs_certificate.proofs.examples_hold.Goals as goal
 
 pub returns-clause-reports : goal.returns-clause-reports

@@ -2,9 +2,7 @@ use Rattle.std.proofs.Common.{ap, ◌∙◌, nat_eq}
 use Rattle.std.proofs.Math.Facts.{Fits-lt-pow}
 use Rattle.ffs_volume.specs.Groups.Records.{has_right_magic, has_right_record, maps_fit, has_right_maps, has_counts}
 use Rattle.ffs_maps.specs.Bits.{bits_of}
-use Rattle.ffs_groups.specs.Check.{same_counts}
-use Rattle.ffs_groups.specs.Free.{free_in}
-use Rattle.ffs_groups.specs.Inodes.{class_in}
+use Rattle.ffs_groups.specs.{Check.same_counts, Free.free_in, Inodes.class_in}
 use Rattle.ffs_groups.proofs.Checks.{sums_as, summary_as}
 use Rattle.ffs_groups.proofs.check.compare_group.Goals as goal
 
@@ -18,7 +16,8 @@ returns c = record {
       ∙ ap (has_counts c.args.geometry.now.layout 0 c.args.summary.now) c.requires.counts.summary;
   maps = rw c.decode-found.ensures at c.maps_are_right.ensures;
   sums = (rw c.decode-found.ensures at c.sums_are_right.ensures)
-      ∙ sums_as c.args.geometry.now.layout (free_in (bits_of c.args.usage.now.fragments.now) c.args.geometry.now.layout.size)
+      ∙ sums_as c.args.geometry.now.layout
+      (free_in (bits_of c.args.usage.now.fragments.now) c.args.geometry.now.layout.size)
       (class_in c.args.usage.now.kinds.now) c.args.group c.args.block.now c.args.counts.now
       (λ k. Fits-lt-pow (c.type_inv.block k)) c.requires.counts;
 }

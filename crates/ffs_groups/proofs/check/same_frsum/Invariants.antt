@@ -1,5 +1,5 @@
 use Rattle.std.proofs.Common.{◌≡◌, true}
-use Rattle.ffs_volume.specs.Disk.Numbers.{all_below}
+use Rattle.ffs_volume.specs.{Disk.Numbers.all_below}
 use Rattle.ffs_groups.specs.Check.{same_frsum_at}
 use Rattle.ffs_groups.proofs.check.same_frsum.Given as goal
 

@@ -1,6 +1,6 @@
 use Rattle.std.proofs.Common.{arith, ◌-◌}
 use Rattle.ffs_maps.specs.Bits.{bits_of}
-use Rattle.ffs_groups.proofs.Stretches.{all_free, none_free}
+use Rattle.ffs_groups.proofs.Sums.{all_free, none_free}
 use Rattle.ffs_groups.proofs.free.are_free.Goals as goal
 
 pub returns-then-count-eq0 : goal.returns-then-count-eq0

@@ -1,13 +1,10 @@
 use Rattle.std.proofs.Common.{arith, refl, ◌∙◌, ◌≡◌, ◌+◌, ◌*◌, ◌^◌}
-use Rattle.std.proofs.lemmas.Nat.{mul-le}
-use Rattle.std.proofs.lemmas.List.FromFn.{length-map-range_with_len}
-use Rattle.ffs_volume.specs.Disk.Areas.{cgbase}
-use Rattle.ffs_volume.specs.Groups.Records.{block_bits}
+use Rattle.std.{proofs.lemmas.Nat.mul-le, proofs.lemmas.List.FromFn.length-map-range_with_len}
+use Rattle.ffs_volume.specs.{Disk.Areas.cgbase, Groups.Records.block_bits}
 use Rattle.ffs_maps.specs.Bits.{bits_of}
 use Rattle.ffs_groups.specs.Free.{bits_from, free_in, whole_in, loose_in, stretches_in}
-use Rattle.ffs_groups.proofs.FreeWords.{free_there, fits_blocks, fits_fragments}
 use Rattle.ffs_groups.proofs.Adding.{whole_fits, loose_fits, added_join, added_below, no_stretches, count_start}
-use Rattle.ffs_groups.proofs.Stretches.{block_from}
+use Rattle.ffs_groups.proofs.{FreeWords.free_there, FreeWords.fits_blocks, FreeWords.fits_fragments, Sums.block_from}
 use Rattle.ffs_groups.proofs.free.free_counts.Goals as goal
 
 pub add_blocks-requires : goal.add_blocks-requires

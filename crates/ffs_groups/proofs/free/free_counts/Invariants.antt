@@ -1,5 +1,5 @@
 use Rattle.std.proofs.Common.{◌-◌, ◌≤◌}
-use Rattle.ffs_volume.specs.Groups.Records.{block_bits}
+use Rattle.ffs_volume.specs.{Groups.Records.block_bits}
 use Rattle.ffs_maps.specs.Bits.{bits_of}
 use Rattle.ffs_groups.specs.Free.{free_in, Added}
 use Rattle.ffs_groups.proofs.free.free_counts.Given as goal

@@ -1,11 +1,9 @@
-use Rattle.std.proofs.Common.{arith, refl, ◌∙◌, ℕ, ◌≡◌, ◌<◌, ◌≤◌, ◌+◌, ◌-◌, ◌*◌, ◌^◌, max, length}
-use Rattle.std.specs.Prelude.{not}
+use Rattle.std.proofs.Common.{arith, refl, ◌∙◌, ℕ, ◌≡◌, ◌<◌, ◌≤◌, ◌+◌, ◌-◌, ◌*◌, ◌^◌, max, length, not}
 use Rattle.std.proofs.lemmas.Nat.{mul-le}
+use Rattle.ffs_volume.specs.{declared.Class.Class, Groups.Records.is_dir_inode, Groups.Records.is_used_inode}
 use Rattle.ffs_maps.proofs.Counting.{count_join_at, count_within}
-use Rattle.ffs_volume.specs.Groups.Records.{is_dir_inode, is_used_inode}
-use Rattle.ffs_volume.specs.declared.Class.{Class}
 use Rattle.ffs_groups.specs.Inodes.{AreCounted, class_in}
-use Rattle.ffs_groups.proofs.Skipping.{count_from_two, no_dir_below, none_free_below}
+use Rattle.ffs_groups.proofs.Sums.{count_from_two, no_dir_below, none_free_below}
 use Rattle.ffs_groups.proofs.inodes.inode_counts.Goals as goal
 
 -- some inodes, and those after them

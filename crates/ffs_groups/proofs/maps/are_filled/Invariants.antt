@@ -1,5 +1,5 @@
 use Rattle.std.proofs.Common.{◌≡◌, ◌*◌}
-use Rattle.ffs_volume.specs.Groups.Records.{has_bits}
+use Rattle.ffs_volume.specs.{Groups.Records.has_bits}
 use Rattle.ffs_groups.proofs.maps.are_filled.Given as goal
 
 abbrev pub invariant-loop-index : goal.invariant-loop-index

@@ -1,5 +1,5 @@
 use Rattle.std.proofs.Common.{refl, ◌∙◌, sym}
-use Rattle.ffs_groups.proofs.Skipping.{all_bits}
+use Rattle.ffs_groups.proofs.Sums.{all_bits}
 use Rattle.ffs_groups.proofs.maps.filled.Goals as goal
 
 pub returns-then-bit : goal.returns-then-bit

@@ -1,5 +1,5 @@
 use Rattle.std.proofs.Common.{refl}
-use Rattle.ffs_volume.specs.Disk.Numbers.{all_below}
+use Rattle.ffs_volume.specs.{Disk.Numbers.all_below}
 use Rattle.ffs_groups.proofs.MapWords.{same_by_mask}
 use Rattle.ffs_groups.proofs.maps.same_bits.Goals as goal
 

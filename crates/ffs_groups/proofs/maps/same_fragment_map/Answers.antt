@@ -1,11 +1,9 @@
-use Rattle.std.proofs.Common.{arith, rules, refl, ap, sym, ◌∙◌, ◌≡◌, ◌+◌, ◌*◌, ◌/◌, ◌%◌, nat_eq, true, false}
+use Rattle.std.proofs.Common.{arith, rules, refl, ap, sym, ◌∙◌, ◌≡◌, ◌+◌, ◌*◌, ◌/◌, ◌%◌, nat_eq, true, false, ◌&&◌}
 use Rattle.std.specs.Int.{bit_at}
-use Rattle.std.specs.Prelude.{◌&&◌}
-use Rattle.ffs_volume.specs.Groups.Records.{bit_at as map_bit, has_bits, same_bit}
+use Rattle.ffs_volume.specs.{Groups.Records.bit_at as map_bit, Groups.Records.has_bits, Groups.Records.same_bit}
 use Rattle.ffs_maps.specs.Bits.{bits_of}
 use Rattle.ffs_groups.specs.Free.{free_in}
-use Rattle.ffs_groups.proofs.Adding.{clear_as_free, fragment_map}
-use Rattle.ffs_groups.proofs.MapWords.{same_below}
+use Rattle.ffs_groups.proofs.{Adding.fragment_map, MapWords.same_below}
 use Rattle.ffs_groups.proofs.maps.same_fragment_map.Goals as goal
 
 pub returns-then-not-same_stretches : goal.returns-then-not-same_stretches
@@ -38,8 +36,7 @@ returns c =
     (λ k h. ap (λ b. same_bit b (nat_eq (bit_at c.clear_bits-right.result k) 1))
     (c.word_at-found.ensures k (omega (arith, h, c.div_ceil.ensures)))
     ∙ ap (λ b. same_bit (map_bit block at k) b)
-    (c.clear_bits-right.ensures k (omega (arith, h))
-    ∙ clear_as_free (bits_of used) used.size used.size _ _ refl refl)) in
+    (c.clear_bits-right.ensures k (omega (arith, h)))) in
     sym (ap (λ b. b && c.same_bits.result) agree)
     ∙ fragment_map (bits_of used) used.size c.args.geometry.now.layout.size block c.args.place n _
     c.cgbase-base.result _ last at c.same_stretches.result c.same_bits.result

@@ -1,5 +1,5 @@
 use Rattle.std.proofs.Common.{◌≡◌, ◌+◌, ◌*◌, true, min}
-use Rattle.ffs_volume.specs.Groups.Records.{has_bits, is_used_inode}
+use Rattle.ffs_volume.specs.{Groups.Records.has_bits, Groups.Records.is_used_inode}
 use Rattle.ffs_groups.specs.Inodes.{class_in}
 use Rattle.ffs_groups.proofs.maps.same_inode_map.Given as goal
 

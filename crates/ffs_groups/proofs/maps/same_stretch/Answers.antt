@@ -1,5 +1,5 @@
 use Rattle.std.proofs.Common.{arith, ◌+◌, ◌*◌, ◌∙◌, ap, sym}
-use Rattle.ffs_volume.specs.Groups.Records.{bit_at as map_bit, same_bit}
+use Rattle.ffs_volume.specs.{Groups.Records.bit_at as map_bit, Groups.Records.same_bit}
 use Rattle.ffs_maps.specs.Bits.{bits_of}
 use Rattle.ffs_groups.specs.Free.{free_in}
 use Rattle.ffs_groups.proofs.MapWords.{same_below}

@@ -1,5 +1,5 @@
 use Rattle.std.proofs.Common.{◌≡◌, ◌≤◌, ◌+◌, ◌-◌, ◌*◌, true}
-use Rattle.ffs_volume.specs.Groups.Records.{has_bits}
+use Rattle.ffs_volume.specs.{Groups.Records.has_bits}
 use Rattle.ffs_maps.specs.Bits.{bits_of}
 use Rattle.ffs_groups.specs.Free.{free_in}
 use Rattle.ffs_groups.proofs.maps.same_stretches.Given as goal

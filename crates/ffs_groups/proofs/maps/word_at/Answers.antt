@@ -1,8 +1,7 @@
 use Rattle.std.proofs.Common.{arith, rules, ap, ◌∙◌}
 use Rattle.std.proofs.lemmas.List.{take_rest}
 use Rattle.byteorder.specs.Endian.{little_from}
-use Rattle.ffs_groups.proofs.MapWords.{byte_low, byte_high}
-use Rattle.ffs_groups.proofs.Bytes.{whole_word}
+use Rattle.ffs_groups.proofs.MapWords.{byte_low, byte_high, whole_word}
 use Rattle.ffs_groups.proofs.maps.word_at.Goals as goal
 
 pub returns-then-bytes-eq8 : goal.returns-then-bytes-eq8

@@ -1,32 +1,18 @@
-use Rattle.std.proofs.Common.{◌≡◌, ◌<◌, ◌≤◌, ◌+◌, ◌-◌, ◌*◌, ◌/◌, ◌%◌, ◌^◌, ◌∙◌, ℕ, arith, refl, ap, sym, length}
-use Rattle.std.proofs.Common.{length-set, get_or, bit_and, bit_or, slice_set, true≢false}
+use Rattle.std.proofs.Common.{◌≡◌, ◌<◌, ◌≤◌, ◌+◌, ◌-◌, ◌/◌, ◌%◌, ◌∙◌, ℕ, arith, refl, ap, sym, length, length-set}
+use Rattle.std.proofs.Common.{true≢false}
 use Rattle.ffs_memory.specs.Words.{Words, with_bits}
-use Rattle.ffs_maps.specs.Bits.{AreClear, bits_of, set_run}
-use Rattle.ffs_maps.specs.WordBits.{bits_of_words, set_among}
-use Rattle.ffs_maps.specs.declared.FragmentMap.{FragmentMap}
-use Rattle.ffs_maps.proofs.Bits.{bits_long, same_map}
-use Rattle.ffs_maps.proofs.Masks.{mask_is, clear_run, run_clear, mark_run}
-use Rattle.ffs_maps.proofs.Ones.{few_among, none_among, run_raised}
+use Rattle.ffs_maps.specs.{declared.FragmentMap.FragmentMap}
+use Rattle.ffs_maps.specs.{Bits.AreClear, Bits.bits_of, Bits.set_run, WordBits.bits_of_words, WordBits.set_among}
+use Rattle.ffs_maps.proofs.Masks.{clear_run, mark_run, mask_of, run_clear}
+use Rattle.ffs_maps.proofs.{Bits.bits_long, Bits.same_map, Ones.few_among, Ones.none_among, Ones.run_raised}
 use Rattle.ffs_maps.proofs.FragmentMap.claim.Goals as goal
 
--- the mask that the code computes
-abbrev mask_of : ℕ → ℕ → ℕ
-mask_of start len = (2 ^ 64 - 1) / 2 ^ (64 - len) * 2 ^ (start % 64) % 2 ^ 64
-
-was_clear : (m : FragmentMap) (start len : ℕ) → start % 64 + len ≤ 64 → start + len ≤ m.size →
-    bit_and (get_or m.words.list (start / 64) 0) (mask_of start len) ≡ 0 → AreClear (bits_of m) start len
-was_clear m start len fits below none =
-    clear_run m.words.list m.size start len fits below
-    (ap (λ mask. bit_and (get_or m.words.list (start / 64) 0) mask) (sym (mask_is len (start % 64) fits)) ∙ none)
-
 bits_now : (m : FragmentMap) (new : Words) (start len : ℕ) → start % 64 + len ≤ 64 → start + len ≤ m.size → 0 < len →
-    new ≡ with_bits m.words (start / 64) (mask_of start len) → bits_of_words new.list m.size ≡ set_run (bits_of m) start len
+    new ≡ with_bits m.words (start / 64) (mask_of start len) →
+    bits_of_words new.list m.size ≡ set_run (bits_of m) start len
 bits_now m new start len fits below some is =
-    let word = get_or m.words.list (start / 64) 0 in
     ap (λ ws. bits_of_words ws.list m.size) is
-    ∙ ap (λ mask. bits_of_words (slice_set m.words.list (start / 64) (bit_or word mask)) m.size)
-    (mask_is len (start % 64) fits)
-    ∙ mark_run m.words.list m.size start len word fits below some (omega (arith, m.enough, below, some)) refl
+    ∙ mark_run m.words.list m.size start len _ fits below some (omega (arith, m.enough, below, some)) refl
 
 -- the number of set bits, where a clear run is set
 raised : (m : FragmentMap) (start len : ℕ) → start + len ≤ m.size → AreClear (bits_of m) start len →
@@ -44,19 +30,18 @@ returns-then-not-claim c =
       claimed = λ yes_. absurd (true≢false (sym yes_));
       kept = λ no. same_map m c.claim.new.self _ _ (c.claim.ensures.kept c.if-not-claim.true);
       one_word = λ fits clear. absurd (true≢false (sym (c.claim.ensures.clear.1
-          (ap (λ mask. bit_and (get_or m.words.list (c.args.start / 64) 0) mask)
-          (mask_is c.args.len (c.args.start % 64) fits)
-          ∙ run_clear m.words.list m.size c.args.start c.args.len fits c.requires.below clear)) ∙ c.if-not-claim.true));
+          (run_clear m.words.list m.size c.args.start c.args.len fits c.requires.below clear)) ∙ c.if-not-claim.true));
     }
 
 pub overflow_add-self : goal.overflow_add-self
 overflow_add-self c =
     let m = c.args.self.now in
     let fits : c.args.start % 64 + c.args.len ≤ 64 = omega (arith, c.if-len-low.false) in
+    let clear = clear_run m.words.list m.size c.args.start c.args.len fits c.requires.below
+    (c.claim.ensures.clear.0 c.if-not-claim.false) in
     omega (
       arith,
-      raised m c.args.start c.args.len c.requires.below
-          (was_clear m c.args.start c.args.len fits c.requires.below (c.claim.ensures.clear.0 c.if-not-claim.false)),
+      raised m c.args.start c.args.len c.requires.below clear,
       few_among (set_run (bits_of m) c.args.start c.args.len) 0 m.size,
     )
 
@@ -64,11 +49,12 @@ pub invariant_of-self-2 : goal.invariant_of-self-2
 invariant_of-self-2 c =
     let m = c.args.self.now in
     let fits : c.args.start % 64 + c.args.len ≤ 64 = omega (arith, c.if-len-low.false) in
+    let clear = clear_run m.words.list m.size c.args.start c.args.len fits c.requires.below
+    (c.claim.ensures.clear.0 c.if-not-claim.false) in
     let now = c.claim.ensures.claimed c.if-not-claim.false in
     record {
       enough = omega (arith, m.enough, ap (λ ws. length ws.list) now, length-set {A = ℕ});
-      counted = raised m c.args.start c.args.len c.requires.below
-          (was_clear m c.args.start c.args.len fits c.requires.below (c.claim.ensures.clear.0 c.if-not-claim.false))
+      counted = raised m c.args.start c.args.len c.requires.below clear
           ∙ ap (λ bits. set_among bits 0 m.size)
           (sym (bits_now m c.claim.new.self c.args.start c.args.len fits c.requires.below c.requires.some now));
     }
@@ -77,7 +63,7 @@ pub returns : goal.returns
 returns c =
     let m = c.args.self.now in
     let fits : c.args.start % 64 + c.args.len ≤ 64 = omega (arith, c.if-len-low.false) in
-    let clear = was_clear m c.args.start c.args.len fits c.requires.below
+    let clear = clear_run m.words.list m.size c.args.start c.args.len fits c.requires.below
     (c.claim.ensures.clear.0 c.if-not-claim.false) in
     record {
       size = refl;

@@ -1,21 +1,7 @@
-use Rattle.std.proofs.Common.{◌≡◌, ◌<◌, ◌/◌, ◌%◌, ◌*◌, ◌^◌, ℕ, arith, refl, ap, ◌∙◌, bit_and, get_or, false, length}
-use Rattle.std.proofs.Common.{length-set, slice_set}
-use Rattle.std.specs.Int.{bit_not, w64}
-use Rattle.ffs_memory.specs.Words.{Words}
-use Rattle.ffs_maps.specs.Bits.{bits_of}
-use Rattle.ffs_maps.specs.WordBits.{bits_of_words, set_among}
-use Rattle.ffs_maps.specs.declared.FragmentMap.{FragmentMap}
-use Rattle.ffs_maps.proofs.Bits.{bits_long, clear_bits}
-use Rattle.ffs_maps.proofs.Ones.{lowered}
+use Rattle.std.proofs.Common.{ℕ, arith, refl, ap, ◌∙◌, length, length-set}
+use Rattle.ffs_maps.specs.{Bits.bits_of, WordBits.bits_of_words, WordBits.set_among}
+use Rattle.ffs_maps.proofs.{Bits.bits_long, Bits.clear_bits, Ones.lowered}
 use Rattle.ffs_maps.proofs.FragmentMap.clear.Goals as goal
-
-bits_now : (m : FragmentMap) (new : Words) (k w : ℕ) → k < m.size → w ≡ get_or m.words.list (k / 64) 0 →
-    new ≡ record m.words {
-      list = slice_set m.words.list (k / 64) (bit_and w (bit_not w64 (1 * 2 ^ (k % 64) % 2 ^ 64)));
-    } → bits_of_words new.list m.size ≡ slice_set (bits_of m) k false
-bits_now m new k w below read is =
-    ap (λ ws. bits_of_words ws m.size) (ap (λ ws. ws.list) is)
-    ∙ clear_bits m.words.list m.size k w below (omega (arith, m.enough)) read
 
 pub overflow_sub-self : goal.overflow_sub-self
 overflow_sub-self c =
@@ -36,13 +22,18 @@ invariant_of-self c =
         lowered (bits_of m) m.size c.args.fragment m.ones c.from.result c.get.result (bits_long m) c.requires m.counted
             c.get.ensures c.from.ensures,
         ap (λ bits. set_among bits 0 m.size)
-            (bits_now m c.set.new.self c.args.fragment c.get-word.result c.requires c.get-word.ensures c.set.ensures),
+            (ap (λ ws. bits_of_words ws.list m.size) c.set.ensures
+            ∙ clear_bits m.words.list m.size c.args.fragment c.get-word.result c.requires (omega (arith, m.enough))
+            c.get-word.ensures),
       );
     }
 
 pub returns : goal.returns
-returns c = record {
-  size = refl;
-  bits = bits_now c.args.self.now c.set.new.self c.args.fragment c.get-word.result c.requires c.get-word.ensures
-      c.set.ensures;
-}
+returns c =
+    let m = c.args.self.now in
+    record {
+      size = refl;
+      bits = ap (λ ws. bits_of_words ws.list m.size) c.set.ensures
+          ∙ clear_bits m.words.list m.size c.args.fragment c.get-word.result c.requires (omega (arith, m.enough))
+          c.get-word.ensures;
+    }

@@ -5,33 +5,18 @@ use Rattle.ffs_maps.proofs.Counting.{count_join_at, count_within}
 use Rattle.ffs_maps.proofs.FragmentMap.count.Goals as goal
 
 pub overflow_add-result : goal.overflow_add-result
-overflow_add-result c =
-    let is_set = λ (f : ℕ). slice_index_or (bits_of c.args.self.now) f false in
-    let first = c.div_ceil-first.result in
-    omega (
-      arith,
-      c.count_in_word-before.ensures,
-      c.count_in_words-words.ensures,
-      c.div_ceil-first.ensures,
-      count_within is_set c.args.start (64 * first - c.args.start),
-      count_within is_set (64 * first) (64 * (c.args.end / 64) - 64 * first),
-    )
+overflow_add-result c = let first = c.div_ceil-first.ensures in
+    omega (arith, count_within, c.count_in_word-before.ensures, c.count_in_words-words.ensures)
 
 pub overflow_add-result-2 : goal.overflow_add-result-2
-overflow_add-result-2 c =
-    let is_set = λ (f : ℕ). slice_index_or (bits_of c.args.self.now) f false in
-    let first = c.div_ceil-first.result in
-    let last = c.args.end / 64 in
-    omega (
-      arith,
-      c.count_in_word-before.ensures,
-      c.count_in_words-words.ensures,
-      c.count_in_word-2.ensures,
-      c.div_ceil-first.ensures,
-      count_within is_set c.args.start (64 * first - c.args.start),
-      count_within is_set (64 * first) (64 * last - 64 * first),
-      count_within is_set (64 * last) (c.args.end - 64 * last),
-    )
+overflow_add-result-2 c = omega (
+  arith,
+  c.count_in_word-before.ensures,
+  c.count_in_words-words.ensures,
+  c.count_in_word-2.ensures,
+  c.div_ceil-first.ensures,
+  count_within,
+)
 
 pub returns : goal.returns
 returns c =

@@ -1,5 +1,4 @@
-use Rattle.std.proofs.Common.{arith, rules, ◌≤◌, ◌<◌, ◌+◌, ◌*◌, ◌-◌, ◌^◌, inl, inr, sym, get_or, false}
-use Rattle.std.proofs.lemmas.Bool.{cases_lt}
+use Rattle.std.proofs.Common.{arith, rules, ◌<◌, ◌+◌, ◌*◌, ◌-◌, ◌^◌, sym, get_or, false}
 use Rattle.std.specs.List.{slice_index_or}
 use Rattle.ffs_maps.specs.Bits.{bits_of}
 use Rattle.ffs_maps.proofs.Counting.{count_join_at, alike_touched, count_within, count_ends, ones_of_word}
@@ -27,13 +26,9 @@ returns-then-are_alike c =
     let words = c.touched-words.result.now in
     let end = c.min-end.result in
     let fits : get_or words c.args.first 0 < 2 ^ 64 = search rules in
-    let within : end ≤ c.args.last = omega (arith, c.min-end.ensures) in
     count_ends m.words.list words m.size c.args.first end c.args.last _
     (omega (arith, c.if-start-end.true)) c.requires.below c.touched-words.ensures.words
-    (elim (cases_lt end c.args.last) [
-      | inl low ↦ inr (omega (arith, c.min-end.ensures), within)
-      | inr past ↦ inl (past, within)
-    ])
+    (omega (arith, c.min-end.ensures)) (omega (arith, c.min-end.ensures))
     (alike_touched m.words.list words m.size c.args.first end (omega (arith, c.requires.below))
     c.if-start-end.true (omega (arith, c.min-end.ensures)) fits c.touched-words.ensures.words
     (c.are_alike.ensures.0 c.if-are_alike.true))
@@ -73,11 +68,7 @@ pub returns : goal.returns
 returns c =
     let words = c.touched-words.result.now in
     let index = c.loop-index.index in
-    let within : index ≤ c.args.last = c.loop-index.invariant.within in
     count_ends c.args.self.now.words.list words c.args.self.now.size c.args.first index c.args.last c.loop-index.count
     c.loop-index.invariant.above c.requires.below c.touched-words.ensures.words
-    (elim (cases_lt index c.args.last) [
-      | inl low ↦ inr (omega (arith, c.min-end.ensures, c.loop-index-test.false), within)
-      | inr past ↦ inl (past, within)
-    ])
+    c.loop-index.invariant.within (omega (arith, c.min-end.ensures, c.loop-index-test.false))
     c.loop-index.invariant.count

@@ -1,6 +1,5 @@
 use Rattle.std.proofs.Common.{◌≡◌, ◌*◌, ◌-◌, ◌≤◌}
-use Rattle.ffs_maps.specs.Bits.{bits_of}
-use Rattle.ffs_maps.specs.WordBits.{set_among}
+use Rattle.ffs_maps.specs.{Bits.bits_of, WordBits.set_among}
 use Rattle.ffs_maps.proofs.FragmentMap.count_in_words.Given as goal
 
 abbrev pub invariant-loop-index : goal.invariant-loop-index

@@ -1,6 +1,5 @@
 use Rattle.std.proofs.Common.{ap, ◌∙◌, sym, nat_eq, ◌%◌}
-use Rattle.std.specs.Int.{bit_at}
-use Rattle.std.proofs.lemmas.Nat.Bits.{shr_and_one}
+use Rattle.std.{specs.Int.bit_at, proofs.lemmas.Nat.Bits.shr_and_one}
 use Rattle.ffs_maps.proofs.Bits.{get_bits}
 use Rattle.ffs_maps.proofs.FragmentMap.get.Goals as goal
 

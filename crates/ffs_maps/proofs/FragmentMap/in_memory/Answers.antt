@@ -1,18 +1,16 @@
-use Rattle.std.proofs.Common.{◌≡◌, ◌+◌, ℕ, arith, ap, refl, sym, ◌∙◌, false, length, replicate}
+use Rattle.std.proofs.Common.{◌+◌, ℕ, arith, ap, refl, sym, ◌∙◌, false, length, replicate}
 use Rattle.std.proofs.lemmas.List.{get_or-replicate, length-replicate}
 use Rattle.ffs_maps.specs.WordBits.{bits_of_words, set_among}
-use Rattle.ffs_maps.proofs.Bits.{zero_bits}
-use Rattle.ffs_maps.proofs.Ones.{none_among}
+use Rattle.ffs_maps.proofs.{Bits.zero_bits, Ones.none_among}
 use Rattle.ffs_maps.proofs.FragmentMap.in_memory.Goals as goal
-
-none_set : (size : ℕ) → set_among (replicate size false) 0 size ≡ 0
-none_set size = none_among (replicate size false) 0 size (λ k h. get_or-replicate size (0 + k) false false (omega (arith, h)))
 
 pub invariant_of-result : goal.invariant_of-result
 invariant_of-result g c = record {
   enough = omega (arith, ap length c.in_ok-words.ensures.zeros, c.div_ceil.ensures, length-replicate {A = ℕ});
   counted = sym (ap (λ xs. set_among (bits_of_words xs c.args.size) 0 c.args.size) c.in_ok-words.ensures.zeros
-      ∙ ap (λ bits. set_among bits 0 c.args.size) (zero_bits _ c.args.size) ∙ none_set c.args.size);
+      ∙ ap (λ bits. set_among bits 0 c.args.size) (zero_bits _ c.args.size)
+      ∙ none_among (replicate c.args.size false) 0 c.args.size
+      (λ k h. get_or-replicate c.args.size (0 + k) false false (omega (arith, h))));
 }
 
 pub returns-clause-made : goal.returns-clause-made

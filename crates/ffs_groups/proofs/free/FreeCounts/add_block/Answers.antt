@@ -1,6 +1,5 @@
 use Rattle.std.proofs.Common.{arith}
-use Rattle.ffs_groups.proofs.WholeBlocks.{whole_by_mask, not_whole_by_mask}
-use Rattle.ffs_groups.proofs.FreeWords.{none_by_mask}
+use Rattle.ffs_groups.proofs.FreeWords.{whole_by_mask, not_whole_by_mask, none_by_mask}
 use Rattle.ffs_groups.proofs.free.FreeCounts.add_block.Goals as goal
 
 pub returns-then-free-full : goal.returns-then-free-full

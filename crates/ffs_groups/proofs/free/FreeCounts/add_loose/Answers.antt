@@ -1,7 +1,6 @@
-use Rattle.std.proofs.Common.{arith, ◌≡◌, ◌+◌, ◌-◌, ap, sym, ◌∙◌, slice_index, count_by}
-use Rattle.ffs_groups.specs.Free.{word_bits}
-use Rattle.ffs_groups.proofs.FreeStretches.{free_next, used_next, stretch_grows, stretch_ends, bit_set, bit_clear, stretches_within}
-use Rattle.ffs_groups.proofs.FreeStretches.{free_within, keep_low, one_more_fits}
+use Rattle.std.proofs.Common.{arith, ◌≡◌, ◌+◌, ◌-◌, ap, sym, ◌∙◌, slice_index}
+use Rattle.ffs_groups.proofs.Adding.{free_next, used_next, stretch_grows, stretch_ends, bit_set, bit_clear}
+use Rattle.ffs_groups.proofs.Adding.{stretches_within, free_within}
 use Rattle.ffs_groups.proofs.free.FreeCounts.add_loose.Goals.{then-bits-index-eq1, else-bits-index-eq1}
 use Rattle.ffs_groups.proofs.free.FreeCounts.add_loose.Goals as goal
 
@@ -10,35 +9,33 @@ overflow_add-self c =
     let left : c.args.frag - c.loop-index.index ≡ c.args.frag - (c.loop-index.index + 1) + 1 = omega arith in
     omega (
       arith,
-      one_more_fits c.loop-index.self.fragments
-          (count_by (λ f. f) (word_bits c.args.bits (c.loop-index.index + 1) (c.args.frag - (c.loop-index.index + 1))))
-          c.args.self.now.fragments (count_by (λ f. f) (word_bits c.args.bits 0 c.args.frag))
-          (ap (λ n. c.loop-index.self.fragments + n)
-          (sym (free_next c.args.bits c.loop-index.index (c.args.frag - c.loop-index.index)
+      c.loop-index.invariant.fragments,
+      free_next c.args.bits c.loop-index.index (c.args.frag - c.loop-index.index)
           (c.args.frag - (c.loop-index.index + 1)) left
-          (bit_set c.args.bits c.loop-index.index c.if-bits-index-eq1.true)))
-          ∙ c.loop-index.invariant.fragments)
-          (omega (arith, free_within c.args.bits c.args.frag))
-          c.requires.below.fragments,
+          (bit_set c.args.bits c.loop-index.index c.if-bits-index-eq1.true),
+      free_within c.args.bits c.args.frag,
+      c.requires.below.fragments,
     )
 
 pub end_stretch-requires-clause-below : goal.end_stretch-requires-clause-below
-end_stretch-requires-clause-below c = record {
-  blocks = omega (arith, c.loop-index.invariant.blocks, c.requires.below.blocks);
-  fragments = keep_low _ _ _ _ c.loop-index.invariant.fragments
-      (omega (arith, free_within c.args.bits c.args.frag)) c.requires.below.fragments;
-  frsum = λ k. keep_low _ _ _ _ (c.loop-index.invariant.frsum k) (omega (arith, stretches_within c.args.bits c.args.frag k))
-      (c.requires.below.frsum k);
-}
+end_stretch-requires-clause-below c =
+    let now = c.loop-index.invariant in
+    let below = c.requires.below in
+    record {
+      blocks = omega (arith, now.blocks, below.blocks);
+      fragments = omega (arith, now.fragments, free_within c.args.bits c.args.frag, below.fragments);
+      frsum = λ k. omega (arith, now.frsum k, stretches_within c.args.bits c.args.frag k, below.frsum k);
+    }
 
 pub end_stretch-requires-2-clause-below : goal.end_stretch-requires-2-clause-below
-end_stretch-requires-2-clause-below c = record {
-  blocks = omega (arith, c.loop-index.invariant.blocks, c.requires.below.blocks);
-  fragments = keep_low _ _ _ _ c.loop-index.invariant.fragments
-      (omega (arith, free_within c.args.bits c.args.frag)) c.requires.below.fragments;
-  frsum = λ k. keep_low _ _ _ _ (c.loop-index.invariant.frsum k) (omega (arith, stretches_within c.args.bits c.args.frag k))
-      (c.requires.below.frsum k);
-}
+end_stretch-requires-2-clause-below c =
+    let now = c.loop-index.invariant in
+    let below = c.requires.below in
+    record {
+      blocks = omega (arith, now.blocks, below.blocks);
+      fragments = omega (arith, now.fragments, free_within c.args.bits c.args.frag, below.fragments);
+      frsum = λ k. omega (arith, now.frsum k, stretches_within c.args.bits c.args.frag k, below.frsum k);
+    }
 
 pub loop-index-preserved : goal.loop-index-preserved
 loop-index-preserved c =

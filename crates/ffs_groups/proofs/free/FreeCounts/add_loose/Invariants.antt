@@ -1,6 +1,5 @@
-use Rattle.std.proofs.Common.{ℕ, ◌≡◌, ◌+◌, ◌-◌, ◌≤◌, slice_index, count_by}
-use Rattle.std.specs.Prelude.{◌==◌}
-use Rattle.ffs_volume.specs.Groups.Records.{free_stretches}
+use Rattle.std.proofs.Common.{ℕ, ◌≡◌, ◌+◌, ◌-◌, ◌≤◌, slice_index, count_by, ◌==◌}
+use Rattle.ffs_volume.specs.{Groups.Records.free_stretches}
 use Rattle.ffs_groups.specs.Free.{word_bits}
 use Rattle.ffs_groups.proofs.free.FreeCounts.add_loose.Given as goal
 

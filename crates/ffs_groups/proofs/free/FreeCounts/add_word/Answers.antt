@@ -1,9 +1,7 @@
 use Rattle.std.proofs.Common.{arith, refl, ap, ◌≡◌, ◌+◌, ◌*◌, ◌/◌, ◌^◌, ◌≤◌}
 use Rattle.ffs_groups.specs.Free.{word_bits}
-use Rattle.ffs_groups.proofs.FreeStretches.{length_bits}
-use Rattle.ffs_groups.proofs.Adding.{added_more, added_below}
-use Rattle.ffs_groups.proofs.FreeWords.{zero_word, full_word}
-use Rattle.ffs_groups.proofs.OneFragmentBlocks.{added_single, added_of_one}
+use Rattle.ffs_groups.proofs.Adding.{length_bits, added_more, added_below}
+use Rattle.ffs_groups.proofs.FreeWords.{zero_word, full_word, added_single}
 use Rattle.ffs_groups.proofs.free.FreeCounts.add_word.Goals as goal
 
 pub add_block-requires : goal.add_block-requires
@@ -32,9 +30,8 @@ returns c = let all : c.loop-block.block ≡ c.args.blocks = omega arith in rw a
 pub returns-then-blocks-gt0 : goal.returns-then-blocks-gt0
 returns-then-blocks-gt0 c =
     let few : c.args.blocks ≤ 64 = grind arith in
-    added_of_one c.args.word c.args.frag c.args.blocks c.args.self.now _ c.if-frag-eq1.true
-    (added_single c.args.word c.args.blocks c.args.self.now _ few
-    (ap (λ n. c.args.self.now.blocks + n) c.from-then-blocks-gt0.ensures) refl (λ j. refl))
+    added_single c.args.word c.args.frag c.args.blocks c.args.self.now _ c.if-frag-eq1.true few
+    (ap (λ n. c.args.self.now.blocks + n) c.from-then-blocks-gt0.ensures) refl (λ j. refl)
 
 pub returns-then-word-eq0 : goal.returns-then-word-eq0
 returns-then-word-eq0 c =

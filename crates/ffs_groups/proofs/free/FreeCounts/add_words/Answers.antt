@@ -1,8 +1,8 @@
-use Rattle.std.proofs.Common.{arith, refl, ◌∙◌, ◌≡◌, ◌≤◌, ◌+◌, ◌*◌, ◌/◌, ◌^◌}
+use Rattle.std.proofs.Common.{ap, arith, refl, ◌∙◌, ◌≡◌, ◌≤◌, ◌+◌, ◌*◌, ◌/◌, ◌^◌}
 use Rattle.std.proofs.lemmas.List.FromFn.{length-map-range_with_len}
 use Rattle.ffs_maps.specs.Bits.{bits_of}
 use Rattle.ffs_groups.specs.Free.{word_bits, bits_from, free_in}
-use Rattle.ffs_groups.proofs.Adding.{added_join, added_below, word_block, clear_as_free, place_is, word_fits}
+use Rattle.ffs_groups.proofs.Adding.{added_join, added_below, word_block, word_fits}
 use Rattle.ffs_groups.proofs.free.FreeCounts.add_words.Goals as goal
 
 pub add_word-requires : goal.add_word-requires
@@ -34,9 +34,7 @@ loop-block-preserved c =
           (λ k h. word_block free c.clear_bits-word.result c.args.start c.args.frag c.loop-block.block k
           c.min-some.result
           (λ j low. c.clear_bits-word.ensures j low
-          ∙ clear_as_free (bits_of c.args.used.now) c.args.used.now.size c.args.used.now.size _ _ refl
-          (place_is c.args.start c.from.result c.from-in-loop-block.result c.args.start c.loop-block.block
-          c.args.frag j refl c.from.ensures c.from-in-loop-block.ensures))
+          ∙ ap free (rw (c.from.ensures, c.from-in-loop-block.ensures) refl))
           h (word_fits c.min-some.result c.args.frag some));
       within = omega (arith, c.min-some.ensures);
     }

@@ -1,0 +1,427 @@
+-- The fold over steps keeps what the rule keeps.
+use Rattle.std.proofs.Common.{zero, suc, inl, inr, ◌≡◌, ◌⊎◌, ℕ, ◌+◌, ◌-◌, ◌*◌, ◌<◌, ◌≤◌, Bool, true, false, cond, arith}
+use Rattle.std.proofs.Common.{refl, sym, ap, subst, ◌∙◌, List, [], ◌∷◌, ◌++◌, length, append_assoc, count_by, nat_lt}
+use Rattle.std.proofs.Common.{nat_le, min, ◌&&◌, ◌||◌, ◌==◌, slice_set, if◌then◌else◌, map}
+use Rattle.std.proofs.lemmas.Bool.{and_parts, and_from, and_cases, cases_eq, both_ways, eq-eqb, ne_eqb, eqb-true}
+use Rattle.std.proofs.lemmas.Bool.{eqb-false, ltb-true, ltb-false, le-leb, lt-leb, lt-ltb, le-ltb}
+use Rattle.std.proofs.lemmas.List.{get_or-set_same, get_or-set_other, length-set}
+use Rattle.std.{specs.List.list_all, specs.List.range_with_len, proofs.Math.Bool.or-true, proofs.Math.Bool.or-false}
+use Rattle.std.{proofs.Math.Bool.and-false, proofs.lemmas.Bool.Decides.nat_tests, proofs.lemmas.List.Sums.sum_by-cons}
+use Rattle.ffs_volume.specs.declared.Step.TheVariants.{Run, Tail, Gap}
+use Rattle.ffs_volume.specs.Disk.Areas.{is_fragment_in_range, is_run_in_range, is_reserved}
+use Rattle.ffs_volume.specs.Blocks.Owners.{Owner, owner_of, owners_of}
+use Rattle.ffs_volume.specs.Blocks.Claims.{Claims, is_set, is_open, at_next_inode, no_claims, after_offer, after_offers}
+use Rattle.ffs_volume.specs.Blocks.Claims.{after_step, after_steps, after_owner, after_owners}
+use Rattle.ffs_volume.specs.Blocks.KeptOffers.{kept_in_offers, kept_in_step, kept_in_steps, kept_in_owners}
+use Rattle.ffs_volume.specs.Blocks.KeptByRule.{uncounted, CountedOffer, OfferVerdict, counted_offer, bad_runs_after}
+use Rattle.ffs_volume.specs.Blocks.KeptByRule.{step_offers, offers_of_steps, all_offers, is_claimed_before, dups_of}
+use Rattle.ffs_volume.specs.{declared.Layout.Layout, declared.Step.Step, Blocks.KeptByRule.offer_verdict}
+use Rattle.ffs_volume.specs.{Blocks.KeptByRule.verdicts, Blocks.KeptByRule.kept_by_rule}
+use Rattle.ffs_volume.proofs.Potentials.{in_range_below}
+use Rattle.ffs_certificate.specs.Certificate.{KeepsByRule}
+use Rattle.ffs_certificate.proofs.BlocksSilent.{bit, reserved_length, reserved_bit}
+
+-- how many kept offers of an inode there are
+abbrev pub kept_of : List OfferVerdict → ℕ → ℕ
+kept_of earlier i = count_by (λ j. j.kept && j.inode == i) earlier
+
+dups_cons : (j : OfferVerdict) (e : List OfferVerdict) (i : ℕ) →
+    dups_of (j ∷ e) i ≡ bit (j.dup && j.inode == i) + dups_of e i
+dups_cons j e i = sum_by-cons (λ k. cond (k.dup && k.inode == i) 1 0) j e
+
+kept_cons : (j : OfferVerdict) (e : List OfferVerdict) (i : ℕ) →
+    kept_of (j ∷ e) i ≡ bit (j.kept && j.inode == i) + kept_of e i
+kept_cons j e i = sum_by-cons (λ k. cond (k.kept && k.inode == i) 1 0) j e
+
+-- what holds of the map and of the count of kept offers after some verdicts, also after the cut
+record Held (v : Layout) (i : ℕ) (used : List Bool) (kept : ℕ) (e : List OfferVerdict) : Type 0 where
+  used_is : (f : ℕ) → is_fragment_in_range v f ≡ true → is_set used f ≡ (is_reserved v f || is_claimed_before e f)
+  long : length used ≡ v.size
+  kept_is : kept ≡ kept_of e i
+
+-- the fold's state in the midst of a Run, and what was judged
+record OfferTie (v : Layout) (i : ℕ) (s : Claims) (e : List OfferVerdict) : Type 0 where
+  held : Held v i s.used s.kept e
+  capped : s.dups ≡ min 11 (dups_of e i)
+
+-- an offer that isn't kept
+held_skip : (v : Layout) (i : ℕ) (used : List Bool) (kept : ℕ) (e : List OfferVerdict) (j : OfferVerdict) →
+    j.kept ≡ false → Held v i used kept e → Held v i used kept (j ∷ e)
+held_skip v i used kept e j k t = record {
+  used_is = λ f ok. rw k (t.used_is f ok);
+  long = t.long;
+  kept_is = t.kept_is ∙ sym (kept_cons j e i ∙ rw k (omega arith));
+}
+
+-- a kept one: its fragment isn't in range, or it is used now, and no other is more
+held_keep : (v : Layout) (i : ℕ) (used used' : List Bool) (kept : ℕ) (e : List OfferVerdict) (j : OfferVerdict) →
+    j.kept ≡ true → j.inode ≡ i → length used' ≡ length used →
+    (is_fragment_in_range v j.fragment ≡ true → is_set used' j.fragment ≡ true) →
+    ((f : ℕ) → (j.fragment ≡ f → ⊥) → is_set used' f ≡ is_set used f) →
+    Held v i used kept e → Held v i used' (kept + 1) (j ∷ e)
+held_keep v i used used' kept e j k mine len here there t = record {
+  used_is = λ f ok. elim (cases_eq j.fragment f) [
+    | inl same ↦
+        let set : is_set used' f ≡ true = rw (← same) (here (rw same ok)) in
+        let test = eq-eqb j.fragment f same in
+        rw (set, k, test) (sym (or-true (is_reserved v f)))
+    | inr other ↦
+        let test = ne_eqb j.fragment f other in
+        there f other ∙ (t.used_is f ok ∙ rw (k, test) refl)
+  ];
+  long = len ∙ t.long;
+  kept_is =
+      let one : bit (j.kept && j.inode == i) ≡ 1 = (let test = eq-eqb j.inode i mine in rw (k, test) refl) in
+      omega (arith, t.kept_is, kept_cons j e i);
+}
+
+-- one offer of a Run after at most ten bad Runs
+offer_tied : (v : Layout) (i b f : ℕ) (s : Claims) (e : List OfferVerdict) → b ≤ 10 → OfferTie v i s e →
+    OfferTie v i (after_offer v s f) (offer_verdict v e (counted_offer i b f) ∷ e)
+    × ((offer_verdict v e (counted_offer i b f)).kept ≡ nat_lt s.dups 11)
+unfolding offer_verdict
+offer_tied v i b f s e few t = go (nat_lt s.dups 11) refl (is_fragment_in_range v f) refl (is_set s.used f) refl
+  where
+    j : OfferVerdict
+    j = offer_verdict v e (counted_offer i b f)
+
+    kept_is : (a : Bool) → nat_lt s.dups 11 ≡ a → (nat_le b 10 && nat_le (dups_of e i) 10) ≡ a
+    kept_is a q = let low = le-leb b 10 few in let capped = t.capped in grind (arith, nat_tests)
+
+    keep : (used' : List Bool) → nat_lt s.dups 11 ≡ true → length used' ≡ length s.used →
+        (is_fragment_in_range v f ≡ true → is_set used' f ≡ true) →
+        ((g : ℕ) → (f ≡ g → ⊥) → is_set used' g ≡ is_set s.used g) →
+        Held v i used' (s.kept + 1) (offer_verdict v e (counted_offer i b f) ∷ e)
+    keep used' qa len here there = held_keep v i s.used used' s.kept e (offer_verdict v e (counted_offer i b f))
+        (kept_is true qa) refl len here there t.held
+
+    go : (a : Bool) → nat_lt s.dups 11 ≡ a → (o : Bool) → is_fragment_in_range v f ≡ o → (u : Bool) → is_set s.used f
+        ≡ u →
+        OfferTie v i (after_offer v s f) (offer_verdict v e (counted_offer i b f) ∷ e)
+        × ((nat_le b 10 && nat_le (dups_of e i) 10) ≡ nat_lt s.dups 11)
+    go false qa o qo u qu =
+        let ge = ltb-false s.dups 11 qa in
+        let stay : after_offer v s f ≡ s = rw qa refl in (
+          subst (λ x. OfferTie v i x (offer_verdict v e (counted_offer i b f) ∷ e)) (sym stay) (record {
+            held = held_skip v i s.used s.kept e (offer_verdict v e (counted_offer i b f)) (kept_is false qa) t.held;
+            capped = omega (arith, t.capped, dups_cons (offer_verdict v e (counted_offer i b f)) e i);
+          }),
+          kept_is false qa ∙ sym qa,
+        )
+    go true qa false qo u qu =
+        let none : bit ((offer_verdict v e (counted_offer i b f)).dup && i == i) ≡ 0 = rw qo refl in
+        let stay : after_offer v s f ≡ record s { kept = s.kept + 1 } = rw (qa, qo) refl in (
+          subst (λ x. OfferTie v i x (offer_verdict v e (counted_offer i b f) ∷ e)) (sym stay) (record {
+            held = keep s.used qa refl (λ ok. absurd (both_ways (is_fragment_in_range v f) qo ok)) (λ g n. refl);
+            capped = omega (arith, t.capped, dups_cons (offer_verdict v e (counted_offer i b f)) e i, none);
+          }),
+          kept_is true qa ∙ sym qa,
+        )
+    go true qa true qo true qu =
+        let mine = eq-eqb i i refl in
+        let taken = sym (t.held.used_is f qo) ∙ qu in
+        let one : bit ((offer_verdict v e (counted_offer i b f)).dup && i == i) ≡ 1 = rw (qo, taken, mine) refl in
+        let low = ltb-true s.dups 11 qa in
+        let stay : after_offer v s f ≡ record s { kept = s.kept + 1; dups = s.dups + 1; dup = slice_set s.dup f true } =
+        rw (qa, qo, qu) refl in (
+          subst (λ x. OfferTie v i x (offer_verdict v e (counted_offer i b f) ∷ e)) (sym stay) (record {
+            held = keep s.used qa refl (λ ok. qu) (λ g n. refl);
+            capped = omega (arith, t.capped, dups_cons (offer_verdict v e (counted_offer i b f)) e i, one);
+          }),
+          kept_is true qa ∙ sym qa,
+        )
+    go true qa true qo false qu =
+        let taken = sym (t.held.used_is f qo) ∙ qu in
+        let none : bit ((offer_verdict v e (counted_offer i b f)).dup && i == i) ≡ 0 = rw (qo, taken) refl in
+        let long = t.held.long in
+        let low = in_range_below v f qo in
+        let stay : after_offer v s f ≡ record s { kept = s.kept + 1; used = slice_set s.used f true } =
+        rw (qa, qo, qu) refl in (
+          subst (λ x. OfferTie v i x (offer_verdict v e (counted_offer i b f) ∷ e)) (sym stay) (record {
+            held = keep (slice_set s.used f true) qa (length-set s.used f true)
+                (λ ok. get_or-set_same s.used f true false (omega arith))
+                (λ g n. get_or-set_other s.used f g true false (λ q. n (sym q)));
+            capped = omega (arith, t.capped, dups_cons (offer_verdict v e (counted_offer i b f)) e i, none);
+          }),
+          kept_is true qa ∙ sym qa,
+        )
+
+verdicts-append : (v : Layout) (e : List OfferVerdict) (ps qs : List CountedOffer) →
+    verdicts v e (ps ++ qs) ≡ verdicts v (verdicts v e ps) qs
+verdicts-append v e [] qs = refl
+verdicts-append v e (p ∷ ps) qs = verdicts-append v (offer_verdict v e p ∷ e) ps qs
+
+kept_append : (v : Layout) (e : List OfferVerdict) (ps qs : List CountedOffer) →
+    kept_by_rule v e (ps ++ qs) ≡ kept_by_rule v e ps ++ kept_by_rule v (verdicts v e ps) qs
+kept_append v e [] qs = refl
+kept_append v e (p ∷ ps) qs = rw (kept_append v (offer_verdict v e p ∷ e) ps qs) (simp append_assoc)
+
+-- the offers of a Run after at most ten bad ones
+offers_tied : (v : Layout) (i b : ℕ) (s : Claims) (e : List OfferVerdict) (fs : List ℕ) → b ≤ 10 → OfferTie v i s e →
+    OfferTie v i (after_offers v s fs) (verdicts v e (map (counted_offer i b) fs))
+    × (kept_in_offers v i s fs ≡ kept_by_rule v e (map (counted_offer i b) fs))
+offers_tied v i b s e [] few t = (t, refl)
+offers_tied v i b s e (f ∷ fs) few t =
+    let one = offer_tied v i b f s e few t in
+    let rest = offers_tied v i b (after_offer v s f) (offer_verdict v e (counted_offer i b f) ∷ e) fs few one.0 in
+    let same = one.1 in
+    let more = rest.1 in
+    (rest.0, cc)
+
+offer_bad : (v : Layout) (s : Claims) (f : ℕ) → (after_offer v s f).bad ≡ s.bad
+offer_bad v s f = one (nat_lt s.dups 11) (is_fragment_in_range v f) (is_set s.used f)
+  where
+    one : (a o u : Bool) → (if a then (if o
+        then (if u then record s { kept = s.kept + 1; dups = s.dups + 1; dup = slice_set s.dup f true }
+        else record s { kept = s.kept + 1; used = slice_set s.used f true })
+        else record s { kept = s.kept + 1 }) else s).bad ≡ s.bad
+    one false o u = refl
+    one true false u = refl
+    one true true true = refl
+    one true true false = refl
+
+offers_bad : (v : Layout) (s : Claims) (fs : List ℕ) → (after_offers v s fs).bad ≡ s.bad
+offers_bad v s [] = refl
+offers_bad v s (f ∷ fs) = offers_bad v (after_offer v s f) fs ∙ offer_bad v s f
+
+-- eleven bad Runs or eleven dup offers
+abbrev Closed : ℕ → ℕ → List OfferVerdict → Type 0
+Closed i b e = (11 ≤ b) ⊎ (11 ≤ dups_of e i)
+
+not_kept : (v : Layout) (i b f : ℕ) (e : List OfferVerdict) → Closed i b e →
+    (offer_verdict v e (counted_offer i b f)).kept ≡ false
+unfolding offer_verdict
+not_kept v i b f e (inl many) = rw (lt-leb b 10 (omega arith)) refl
+not_kept v i b f e (inr many) = rw (lt-leb (dups_of e i) 10 (omega arith)) (and-false (nat_le b 10))
+
+still_closed : (i b : ℕ) (j : OfferVerdict) (e : List OfferVerdict) → Closed i b e → Closed i b (j ∷ e)
+still_closed i b j e (inl many) = inl many
+still_closed i b j e (inr many) = inr (omega (arith, many, dups_cons j e i))
+
+skip_offers : (v : Layout) (i b : ℕ) (s : Claims) (e : List OfferVerdict) (fs : List ℕ) → Closed i b e →
+    Held v i s.used s.kept e →
+    Held v i s.used s.kept (verdicts v e (map (counted_offer i b) fs))
+    × Closed i b (verdicts v e (map (counted_offer i b) fs))
+    × (kept_by_rule v e (map (counted_offer i b) fs) ≡ [])
+skip_offers v i b s e [] c h = (h, c, refl)
+skip_offers v i b s e (f ∷ fs) c h =
+    let no_keep = not_kept v i b f e c in
+    let rest = skip_offers v i b s (offer_verdict v e (counted_offer i b f) ∷ e) fs
+    (still_closed i b (offer_verdict v e (counted_offer i b f)) e c)
+    (held_skip v i s.used s.kept e (offer_verdict v e (counted_offer i b f)) no_keep h) in (
+      rest.0,
+      rest.1,
+      ap (λ k. (if k then uncounted (counted_offer i b f) ∷ [] else [])
+          ++ kept_by_rule v (offer_verdict v e (counted_offer i b f) ∷ e) (map (counted_offer i b) fs)) no_keep
+          ∙ rest.2,
+    )
+
+-- the fold's state between steps, and what was judged
+record Tie (v : Layout) (i b : ℕ) (s : Claims) (e : List OfferVerdict) : Type 0 where
+  held : Held v i s.used s.kept e
+  ready : is_open s ≡ (nat_lt b 11 && nat_lt (dups_of e i) 11)
+  same : is_open s ≡ true → (s.bad ≡ b) × (s.dups ≡ dups_of e i)
+
+closed_test : (i b : ℕ) (e : List OfferVerdict) → Closed i b e → (nat_lt b 11 && nat_lt (dups_of e i) 11) ≡ false
+closed_test i b e (inl many) = rw (le-ltb b 11 many) refl
+closed_test i b e (inr many) = rw (le-ltb (dups_of e i) 11 many) (and-false (nat_lt b 11))
+
+shut_closed : (i b b' : ℕ) (e : List OfferVerdict) → (nat_lt b 11 && nat_lt (dups_of e i) 11) ≡ false → b ≤ b' →
+    Closed i b' e
+shut_closed i b b' e q le = elim (and_cases (nat_lt b 11) (nat_lt (dups_of e i) 11) q)
+    [ inl l ↦ (let many = ltb-false b 11 l in inl (omega arith)) | inr r ↦ inr (ltb-false (dups_of e i) 11 r) ]
+
+-- the offers of a Run that is past the cut, and of one that isn't
+closed_tied : (v : Layout) (i b : ℕ) (s : Claims) (e : List OfferVerdict) (fs : List ℕ) → is_open s ≡ false →
+    Closed i b e → Held v i s.used s.kept e →
+    Tie v i b s (verdicts v e (map (counted_offer i b) fs)) × ([] ≡ kept_by_rule v e (map (counted_offer i b) fs))
+closed_tied v i b s e fs shut c h =
+    let done = skip_offers v i b s e fs c h in (
+      record {
+        held = done.0;
+        ready = shut ∙ sym (closed_test i b (verdicts v e (map (counted_offer i b) fs)) done.1);
+        same = λ q. absurd (both_ways (is_open s) shut q);
+      },
+      sym done.2,
+    )
+
+open_tied : (v : Layout) (i b : ℕ) (s : Claims) (e : List OfferVerdict) (fs : List ℕ) → b ≤ 10 → s.bad ≡ b →
+    OfferTie v i s e →
+    Tie v i b (after_offers v s fs) (verdicts v e (map (counted_offer i b) fs))
+    × (kept_in_offers v i s fs ≡ kept_by_rule v e (map (counted_offer i b) fs))
+open_tied v i b s e fs few same t =
+    let done = offers_tied v i b s e fs few t in
+    (ready (after_offers v s fs) (verdicts v e (map (counted_offer i b) fs)) (offers_bad v s fs ∙ same) done.0, done.1)
+  where
+    ready : (s : Claims) (e : List OfferVerdict) → s.bad ≡ b → OfferTie v i s e → Tie v i b s e
+    ready s e q t = record {
+      held = t.held;
+      ready = let capped = t.capped in rw (q, capped) (ap (λ x. nat_lt b 11 && x) (one (dups_of e i)));
+      same = λ r. let low = ltb-true s.dups 11 (and_parts (nat_lt s.bad 11) (nat_lt s.dups 11) r).1 in
+          (q, omega (arith, t.capped, low));
+    }
+      where
+        one : (n : ℕ) → nat_lt (min 11 n) 11 ≡ nat_lt n 11
+        one n = grind (arith, nat_tests)
+
+abbrev StepTied : Layout → ℕ → ℕ → Claims → List OfferVerdict → Step → Type 0
+StepTied v i b s e step = Tie v i (bad_runs_after v b step) (after_step v s step)
+    (verdicts v e (step_offers v i b step)) × (kept_in_step v i s step ≡ kept_by_rule v e (step_offers v i b step))
+
+step_tied : (v : Layout) (i b : ℕ) (s : Claims) (e : List OfferVerdict) (step : Step) → Tie v i b s e →
+    StepTied v i b s e step
+step_tied v i b s e Gap t = (t, refl)
+step_tied v i b s e Tail t = one (is_open s) refl
+  where
+    one : (o : Bool) → is_open s ≡ o → StepTied v i b s e Tail
+    one true q = rw q (record { held = t.held; ready = t.ready; same = t.same }, refl)
+    one false q = rw q (t, refl)
+step_tied v i b s e (Run start len block) t = one (is_open s) refl (is_run_in_range v start len) refl
+  where
+    fs : List ℕ
+    fs = range_with_len start len
+
+    one : (o : Bool) → is_open s ≡ o → (r : Bool) → is_run_in_range v start len ≡ r →
+        StepTied v i b s e (Run start len block)
+    one false q true qr =
+        rw (q, qr) (closed_tied v i b s e (range_with_len start len) q
+        (shut_closed i b b e (sym t.ready ∙ q) (omega arith)) t.held)
+    one false q false qr =
+        rw (q, qr) (closed_tied v i (b + 1) s e (range_with_len start len) q
+        (shut_closed i b (b + 1) e (sym t.ready ∙ q) (omega arith)) t.held)
+    one true q true qr =
+        let same = t.same q in
+        let lows = and_parts (nat_lt s.bad 11) (nat_lt s.dups 11) q in
+        let low = ltb-true s.bad 11 lows.0 in
+        let high = ltb-true s.dups 11 lows.1 in
+        rw (q, qr) (open_tied v i b (record s { runs = s.runs + 1 }) e (range_with_len start len)
+        (omega (arith, same.0)) same.0 (record { held = t.held; capped = omega (arith, same.1) }))
+    one true q false qr = two (s.bad == 10) refl
+      where
+        two : (z : Bool) → (s.bad == 10) ≡ z → StepTied v i b s e (Run start len block)
+        two true qz =
+            let ten = eqb-true s.bad 10 qz in
+            rw (q, qr, qz) (closed_tied v i (b + 1) (record s { runs = s.runs + 1; bad = s.bad + 1 }) e
+            (range_with_len start len) (rw ten refl) (inl (omega (arith, (t.same q).0))) t.held)
+        two false qz =
+            let same = t.same q in
+            let lows = and_parts (nat_lt s.bad 11) (nat_lt s.dups 11) q in
+            let low = ltb-true s.bad 11 lows.0 in
+            let high = ltb-true s.dups 11 lows.1 in
+            let other = eqb-false s.bad 10 qz in
+            rw (q, qr, qz) (open_tied v i (b + 1) (record s { runs = s.runs + 1; bad = s.bad + 1 }) e
+            (range_with_len start len) (omega (arith, same.0)) (omega (arith, same.0))
+            (record { held = t.held; capped = omega (arith, same.1) }))
+
+-- how many bad Runs some steps have, where `bad_runs` are before
+abbrev bads_of : Layout → ℕ → List Step → ℕ
+bads_of v bad_runs [] = bad_runs
+bads_of v bad_runs (step ∷ steps) = bads_of v (bad_runs_after v bad_runs step) steps
+
+steps_tied : (v : Layout) (i b : ℕ) (s : Claims) (e : List OfferVerdict) (steps : List Step) → Tie v i b s e →
+    Tie v i (bads_of v b steps) (after_steps v s steps) (verdicts v e (offers_of_steps v i b steps))
+    × (kept_in_steps v i s steps ≡ kept_by_rule v e (offers_of_steps v i b steps))
+steps_tied v i b s e [] t = (t, refl)
+steps_tied v i b s e (step ∷ steps) t =
+    let one = step_tied v i b s e step t in
+    let rest = steps_tied v i (bad_runs_after v b step) (after_step v s step) (verdicts v e (step_offers v i b step))
+    steps one.0 in
+    let more = offers_of_steps v i (bad_runs_after v b step) steps in (
+      rw (verdicts-append v e (step_offers v i b step) (offers_of_steps v i (bad_runs_after v b step) steps)) rest.0,
+      rw (kept_append v e (step_offers v i b step) (offers_of_steps v i (bad_runs_after v b step) steps), one.1, rest.1)
+          refl,
+    )
+
+-- the fold between inodes, and what was judged
+record Agrees (v : Layout) (s : Claims) (e : List OfferVerdict) : Type 0 where
+  used : (f : ℕ) → is_fragment_in_range v f ≡ true → is_set s.used f ≡ (is_reserved v f || is_claimed_before e f)
+  long : length s.used ≡ v.size
+
+abbrev are_before : ℕ → List OfferVerdict → Bool
+are_before n e = list_all (λ j. nat_lt j.inode n) e
+
+none_before : (n : ℕ) (e : List OfferVerdict) → are_before n e ≡ true → (dups_of e n ≡ 0) × (kept_of e n ≡ 0)
+none_before n [] h = (refl, refl)
+none_before n (j ∷ e) h =
+    let parts = and_parts (nat_lt j.inode n) (are_before n e) h in
+    let lt = ltb-true j.inode n parts.0 in
+    let other : (j.inode == n) ≡ false = ne_eqb j.inode n (λ q. omega arith) in
+    let rest = none_before n e parts.1 in (
+      dups_cons j e n ∙ rw (other, rest.0, and-false j.dup) refl,
+      kept_cons j e n ∙ rw (other, rest.1, and-false j.kept) refl,
+    )
+
+before_more : (n m : ℕ) (e : List OfferVerdict) → n ≤ m → are_before n e ≡ true → are_before m e ≡ true
+before_more n m [] le h = refl
+before_more n m (j ∷ e) le h =
+    let parts = and_parts (nat_lt j.inode n) (are_before n e) h in
+    let lt = ltb-true j.inode n parts.0 in
+    and_from (nat_lt j.inode m) _ (lt-ltb j.inode m (omega arith)) (before_more n m e le parts.1)
+
+-- the verdicts of offers of inodes below n
+verdicts_before : (v : Layout) (n i b : ℕ) (e : List OfferVerdict) (fs : List ℕ) → i < n → are_before n e ≡ true →
+    are_before n (verdicts v e (map (counted_offer i b) fs)) ≡ true
+unfolding offer_verdict
+verdicts_before v n i b e [] lt h = h
+verdicts_before v n i b e (f ∷ fs) lt h =
+    verdicts_before v n i b (offer_verdict v e (counted_offer i b f) ∷ e) fs lt
+    (and_from (nat_lt i n) _ (lt-ltb i n lt) h)
+
+step_before : (v : Layout) (n i b : ℕ) (e : List OfferVerdict) (step : Step) → i < n → are_before n e ≡ true →
+    are_before n (verdicts v e (step_offers v i b step)) ≡ true
+step_before v n i b e (Run start len block) lt h =
+    verdicts_before v n i (bad_runs_after v b (Run start len block)) e (range_with_len start len) lt h
+step_before v n i b e Tail lt h = h
+step_before v n i b e Gap lt h = h
+
+steps_before : (v : Layout) (n i b : ℕ) (e : List OfferVerdict) (steps : List Step) → i < n → are_before n e ≡ true →
+    are_before n (verdicts v e (offers_of_steps v i b steps)) ≡ true
+steps_before v n i b e [] lt h = h
+steps_before v n i b e (step ∷ steps) lt h =
+    rw (verdicts-append v e (step_offers v i b step) (offers_of_steps v i (bad_runs_after v b step) steps))
+    (steps_before v n i (bad_runs_after v b step) (verdicts v e (step_offers v i b step)) steps lt
+    (step_before v n i b e step lt h))
+
+-- the numbers of inodes rise
+abbrev Rising : ℕ → List Owner → Type 0
+Rising n [] = Unit {0}
+Rising n (o ∷ os) = (n ≤ o.number) × Rising (o.number + 1) os
+
+owners_tied : (v : Layout) (n : ℕ) (s : Claims) (e : List OfferVerdict) (os : List Owner) → Agrees v s e →
+    are_before n e ≡ true → Rising n os →
+    Agrees v (after_owners v s os) (verdicts v e (all_offers v os))
+    × (kept_in_owners v s os ≡ kept_by_rule v e (all_offers v os))
+owners_tied v n s e [] a h r = (a, refl)
+owners_tied v n s e (o ∷ os) a h r =
+    let none = none_before o.number e (before_more n o.number e r.0 h) in
+    let one = steps_tied v o.number 0 (at_next_inode s) e o.steps (record {
+      held = record { used_is = a.used; long = a.long; kept_is = sym none.1 };
+      ready = rw none.0 refl;
+      same = λ q. (refl, sym none.0);
+    }) in
+    let after = steps_before v (o.number + 1) o.number 0 e o.steps (omega arith)
+    (before_more n (o.number + 1) e (omega (arith, r.0)) h) in
+    let rest = owners_tied v (o.number + 1) (after_owner v s o) (verdicts v e (offers_of_steps v o.number 0 o.steps)) os
+    (record { used = one.0.held.used_is; long = one.0.held.long }) after r.1 in (
+      rw (verdicts-append v e (offers_of_steps v o.number 0 o.steps) (all_offers v os)) rest.0,
+      rw (kept_append v e (offers_of_steps v o.number 0 o.steps) (all_offers v os), one.1, rest.1) refl,
+    )
+
+start_agrees : (v : Layout) → Agrees v (no_claims v) []
+unfolding no_claims is_fragment_in_range
+start_agrees v = record {
+  used = λ f ok. reserved_bit v f ∙ (rw (lt-ltb f v.size (in_range_below v f ok)) (sym (or-false (is_reserved v f))));
+  long = reserved_length v;
+}
+
+rising_range : (v : Layout) (image : List ℕ) (n k : ℕ) → Rising n (map (owner_of v image) (range_with_len n k))
+unfolding owner_of
+rising_range v image n zero = tt
+rising_range v image n (suc k) = (omega arith, rising_range v image (n + 1) k)
+
+pub keeps_by_rule : (v : Layout) (image : List ℕ) → KeepsByRule v (owners_of v image)
+unfolding owners_of
+keeps_by_rule v image =
+    let all = owners_tied v 2 (no_claims v) [] (owners_of v image) (start_agrees v) refl
+    (rising_range v image 2 (v.ncg * v.ipg - 2)) in
+    record { offers = all.1; used = all.0.used }

@@ -1,0 +1,331 @@
+-- When the checks of directories are silent: pathnames, connectivity and references.
+use Rattle.std.proofs.Common.{◌≡◌, ◌≢◌, ℕ, zero, suc, ◌+◌, ◌<◌, ◌==◌, Bool, true, false, not, ◌&&◌, nat_lt, refl, List}
+use Rattle.std.proofs.Common.{[], ◌∷◌, Option, Some, None, if◌then◌else◌, IsSomeAnd, arith, ◌∙◌, ap, subst, ℤ, pos}
+use Rattle.std.proofs.Common.{negsuc}
+use Rattle.std.proofs.lemmas.Bool.{eqb-true, eqb-false, eq-eqb, ne_eqb, and_parts, and_from, not-true, not-false}
+use Rattle.std.proofs.lemmas.Bool.{not_from_true, not_from_false}
+use Rattle.std.proofs.lemmas.Bool.Decides.{nat_tests}
+use Rattle.ffs_volume.specs.declared.Class.TheVariants.{Free, Partial, Unknown, File, Dir}
+use Rattle.ffs_volume.specs.declared.Role.TheVariants.{Empty, Dot, Dotdot, Extra, Plain}
+use Rattle.ffs_volume.specs.Directories.Entries.{Entry, is_live}
+use Rattle.ffs_volume.specs.Directories.Roles.{Volume, RoledEntry, is_dir, is_suspect, is_plain, is_one_dot}
+use Rattle.ffs_volume.specs.Directories.Roles.{is_two_dots, roled_entries, dot, dotdot, start_entry, is_allocated_inode}
+use Rattle.ffs_volume.specs.Directories.Graph.{is_naming_entry, is_naming_entry_at, test_at, parent}
+use Rattle.ffs_volume.specs.Directories.PathnameCheck.{attributes, entry_lines, entry_lines_of, lines_of_entries}
+use Rattle.ffs_volume.specs.Directories.PathnameCheck.{plain_lines, named_lines, is_bad_whiteout}
+use Rattle.ffs_volume.specs.Directories.PathnameCheck.{is_first_entry_of_suspect, is_extraneous, has_wrong_type}
+use Rattle.ffs_volume.specs.Directories.PathnameCheck.{root_lines, root_lines_of, continues_after_root, is_short}
+use Rattle.ffs_volume.specs.Directories.PathnameCheck.{has_partial_chunk, are_sound, shape_lines, dot_lines}
+use Rattle.ffs_volume.specs.Directories.PathnameCheck.{dot_lines_of, missing_dot_lines, is_wrong_parent, dotdot_lines}
+use Rattle.ffs_volume.specs.Directories.PathnameCheck.{dotdot_lines_of, missing_dotdot_lines, sized_dir_lines}
+use Rattle.ffs_volume.specs.Directories.PathnameCheck.{is_looked_at, directory_lines, pathname_lines}
+use Rattle.ffs_volume.specs.Directories.Connectivity.{is_dead, is_unref_dir, connectivity_lines}
+use Rattle.ffs_volume.specs.Directories.ReferenceCheck.{dead_lines, unref_lines, inode_lines, reference_lines_at}
+use Rattle.ffs_volume.specs.Directories.{Roles.references, ReferenceCheck.reference_lines, Parents.graph_of}
+use Rattle.ffs_volume.specs.Directories.{Parents.nth_roled, Paths.dir_path, Paths.entry_path}
+use Rattle.ffs_volume.specs.Messages.Kinds.{TreeMessage, lines_below, unref_dir, extra_dot, extra_dotdot, root_suspect}
+use Rattle.ffs_volume.specs.{declared.Class.Class, declared.Role.Role, Messages.Kinds.whiteout}
+use Rattle.ffs_volume.specs.{Messages.Kinds.out_of_range, Messages.Kinds.unallocated, Blocks.Inodes.is_allocated}
+use Rattle.ffs_volume.specs.{Blocks.Inodes.is_directory, Disk.Numbers.equals_natural}
+use Rattle.ffs_volume.proofs.Silence.{nil-left, nil-right, nil-both, reported-quiet, reported-silent, if-quiet}
+use Rattle.ffs_volume.proofs.Silence.{if-silent, else-quiet, else-silent, then-quiet, then-silent, lines-quiet}
+use Rattle.ffs_volume.proofs.{Silence.lines-silent, RoleLaws.plain-true}
+
+ruleset quiet = (nil-left, nil-right, reported-quiet, not-false, eqb-true)
+
+ruleset silent = (nil-both, reported-silent, not_from_true, eq-eqb)
+
+-- ENTRIES: a plain entry that names an inode from 2 on
+pub record IsNamedQuiet (v : Volume) (s j : ℕ) (e : Entry) : Type 0 where
+  pub allocated : is_allocated (v.class e.number) ≡ true
+  pub suspect : is_first_entry_of_suspect v s j e.number ≡ false
+  pub link : is_extraneous v s j e.number ≡ false
+  pub kind : has_wrong_type v e ≡ false
+
+-- a plain entry
+pub record IsPlainQuiet (v : Volume) (s j : ℕ) (e : Entry) : Type 0 where
+  pub below : nat_lt e.number v.count ≡ true
+  pub no_whiteout : is_bad_whiteout e ≡ false
+  pub named : (e.number == 1) ≡ false → IsNamedQuiet v s j e
+
+named-quiet : (v : Volume) (s j : ℕ) (e : Entry) → is_allocated (v.class e.number) ≡ true → named_lines v s j e ≡ [] →
+    IsNamedQuiet v s j e
+unfolding named_lines
+named-quiet v s j e a h = search quiet depth 9
+
+named-silent : (v : Volume) (s j : ℕ) (e : Entry) → IsNamedQuiet v s j e → named_lines v s j e ≡ []
+unfolding named_lines
+named-silent v s j e q = search silent depth 9
+
+plain-quiet : (v : Volume) (s j : ℕ) (e : Entry) → plain_lines v s j e ≡ [] → IsPlainQuiet v s j e
+unfolding plain_lines
+plain-quiet v s j e h =
+    let a = if-quiet (not (nat_lt e.number v.count)) (out_of_range e.number (entry_path (graph_of v) s e.name)) [] _
+    h in
+    let b = if-quiet (is_bad_whiteout e) (whiteout e.number (entry_path (graph_of v) s e.name)) [] _ a.1 in
+    record {
+      below = not-false _ a.0;
+      no_whiteout = b.0;
+      named = λ n.
+          let c = else-quiet (e.number == 1) _ b.1 n in
+          let d = if-quiet (not (is_allocated (v.class e.number)))
+          (unallocated (attributes v e.number) (entry_path (graph_of v) s e.name)) [] _ c in
+          named-quiet v s j e (not-false _ d.0) d.1;
+    }
+
+plain-silent : (v : Volume) (s j : ℕ) (e : Entry) → IsPlainQuiet v s j e → plain_lines v s j e ≡ []
+unfolding plain_lines
+plain-silent v s j e q =
+    if-silent (not (nat_lt e.number v.count)) _ _ (not_from_true _ q.below)
+    (if-silent (is_bad_whiteout e) _ _ q.no_whiteout
+    (else-silent (e.number == 1) _ (λ n. let m = q.named n in search (if-silent, not_from_true, named-silent))))
+
+-- an entry: not extra, and quiet if it is plain
+pub record IsEntryQuiet (v : Volume) (s j : ℕ) (e : RoledEntry) : Type 0 where
+  pub no_extra : e.role ≢ Extra
+  pub plain : e.role ≡ Plain → IsPlainQuiet v s j e.entry
+
+-- one of two messages
+either-some : (b : Bool) (m n : TreeMessage) → (if b then m ∷ [] else n ∷ []) ≡ [] → ⊥
+either-some true m n h = absurd (cc)
+either-some false m n h = absurd (cc)
+
+entry-quiet : (v : Volume) (s j : ℕ) (e : RoledEntry) → entry_lines v s j e ≡ [] → IsEntryQuiet v s j e
+unfolding entry_lines
+entry-quiet v s j e h = record {
+  no_extra = λ x. either-some (is_one_dot e.entry.name) (extra_dot (attributes v s) (dir_path (graph_of v) s))
+      (extra_dotdot (attributes v s) (dir_path (graph_of v) s)) (rw x at h);
+  plain = λ x. plain-quiet v s j e.entry (rw x at h);
+}
+
+entry-silent : (v : Volume) (s j : ℕ) (e : RoledEntry) → IsEntryQuiet v s j e → entry_lines v s j e ≡ []
+unfolding entry_lines
+entry-silent v s j e q = go e.role refl
+  where
+    go : (r : Role) → e.role ≡ r → entry_lines_of v s j r e.entry ≡ []
+    go Empty x = refl
+    go Dot x = refl
+    go Dotdot x = refl
+    go Extra x = absurd (q.no_extra x)
+    go Plain x = plain-silent v s j e.entry (q.plain x)
+
+-- the entries of a list that is from the place j on
+entries-quiet : (v : Volume) (s j : ℕ) (es : List RoledEntry) → lines_of_entries v s j es ≡ [] →
+    (k i : ℕ) (e : RoledEntry) → nth_roled es k ≡ Some e → j + k ≡ i → IsEntryQuiet v s i e
+unfolding lines_of_entries
+entries-quiet v s j [] h k i e x z = absurd (cc)
+entries-quiet v s j (f ∷ es) h zero i e x z =
+    let same : j ≡ i = omega arith in
+    let q : f ≡ e = cc in
+    rw (← same, ← q) (entry-quiet v s j f (nil-left (entry_lines v s j f) _ h))
+entries-quiet v s j (f ∷ es) h (suc k) i e x z =
+    entries-quiet v s (suc j) es (nil-right (entry_lines v s j f) _ h) k i e x (omega arith)
+
+entries-silent : (v : Volume) (s j : ℕ) (es : List RoledEntry) →
+    ((k i : ℕ) (e : RoledEntry) → nth_roled es k ≡ Some e → j + k ≡ i → IsEntryQuiet v s i e) →
+    lines_of_entries v s j es ≡ []
+unfolding lines_of_entries
+entries-silent v s j [] h = refl
+entries-silent v s j (f ∷ es) h =
+    nil-both (entry_lines v s j f) _ (entry-silent v s j f (h 0 j f refl (omega arith)))
+    (entries-silent v s (suc j) es (λ k i e x z. h (suc k) i e x (omega arith)))
+
+-- an entry as the graph sees it
+test-gives : (p : RoledEntry → Bool) (j : ℕ) (es : List RoledEntry) → test_at p j es ≡ true → (e : RoledEntry)
+    × (nth_roled es j ≡ Some e) × (p e ≡ true)
+test-gives p j [] h = absurd (cc)
+test-gives p zero (e ∷ es) h = (e, refl, h)
+test-gives p (suc j) (e ∷ es) h = test-gives p j es h
+
+test-from : (p : RoledEntry → Bool) (j : ℕ) (es : List RoledEntry) (e : RoledEntry) → nth_roled es j ≡ Some e →
+    p e ≡ true → test_at p j es ≡ true
+test-from p j [] e x h = absurd (cc)
+test-from p zero (f ∷ es) e x h = let q : e ≡ f = cc in subst (λ y. p y ≡ true) q h
+test-from p (suc j) (f ∷ es) e x h = test-from p j es e x h
+
+-- the entry at j of the directory s is a plain one that names x
+pub record IsNamer (v : Volume) (s j x : ℕ) : Type 0 where
+  pub dir : is_dir v s ≡ true
+  pub entry : RoledEntry
+  pub there : nth_roled (roled_entries v s) j ≡ Some entry
+  pub role : entry.role ≡ Plain
+  pub number : entry.entry.number ≡ x
+
+pub names_at-gives : (v : Volume) (s j x : ℕ) → is_naming_entry_at (graph_of v) s j x ≡ true → IsNamer v s j x
+names_at-gives v s j x h =
+    let p = and_parts (is_dir v s) (test_at (is_naming_entry x) j (roled_entries v s)) h in
+    let t = test-gives (is_naming_entry x) j (roled_entries v s) p.1 in
+    let q = and_parts (is_plain t.0.role) (t.0.entry.number == x) t.2 in
+    record { dir = p.0; entry = t.0; there = t.1; role = plain-true t.0.role q.0; number = eqb-true _ x q.1 }
+
+pub names_at-from : (v : Volume) (s j x : ℕ) → IsNamer v s j x → is_naming_entry_at (graph_of v) s j x ≡ true
+names_at-from v s j x n =
+    and_from (is_dir v s) _ n.dir (test-from (is_naming_entry x) j (roled_entries v s) n.entry n.there
+    (and_from (is_plain n.entry.role) _ (ap is_plain n.role) (eq-eqb _ x n.number)))
+
+-- DIRECTORIES: the size, Gaps and chunks of one
+pub record IsShapeQuiet (v : Volume) (d : ℕ) : Type 0 where
+  pub short : is_short v d ≡ false
+  pub broken : has_partial_chunk v d ≡ false
+  pub gap : v.gap d ≡ false
+  pub sound : are_sound (v.chunks d) ≡ true
+
+shape-quiet : (v : Volume) (d : ℕ) → shape_lines v d ≡ [] → IsShapeQuiet v d
+unfolding shape_lines
+shape-quiet v d h = search quiet depth 9
+
+shape-silent : (v : Volume) (d : ℕ) → IsShapeQuiet v d → shape_lines v d ≡ []
+unfolding shape_lines
+shape-silent v d q = search silent depth 9
+
+-- `.` is there, with its own number and type
+abbrev pub IsDotQuiet : ℕ → Option Entry → Type 0
+IsDotQuiet d o = IsSomeAnd o (λ e. (e.number ≡ d) × (e.kind ≡ 4))
+
+dot-quiet : (v : Volume) (d : ℕ) (o : Option Entry) → dot_lines_of v d o ≡ [] → IsDotQuiet d o
+dot-quiet v d None h = absurd (missing (start_entry v d 0) h)
+  where
+    missing : (o : Option Entry) → missing_dot_lines (attributes v d) (dir_path (graph_of v) d) o ≡ [] → ⊥
+    missing None h = absurd (cc)
+    missing (Some e) h = either-some (is_live e && not (is_two_dots e.name)) _ _ h
+dot-quiet v d (Some e) h = search quiet depth 9
+
+dot-silent : (v : Volume) (d : ℕ) (o : Option Entry) → IsDotQuiet d o → dot_lines_of v d o ≡ []
+dot-silent v d None q = absurd q
+dot-silent v d (Some e) q = search silent depth 9
+
+-- `..` is there, with its type, and it is the parent if there is one
+pub record IsDotdotQuiet (v : Volume) (d : ℕ) (o : Option Entry) : Type 0 where
+  pub same : IsSomeAnd o (λ e. is_wrong_parent (parent (graph_of v) d) e.number ≡ false)
+  pub kind : IsSomeAnd o (λ e. e.kind ≡ 4)
+
+dotdot-quiet : (v : Volume) (d : ℕ) (o : Option Entry) → dotdot_lines_of v d o ≡ [] → IsDotdotQuiet v d o
+dotdot-quiet v d None h = absurd (missing (start_entry v d 1) h)
+  where
+    missing : (o : Option Entry) → missing_dotdot_lines (attributes v d) (dir_path (graph_of v) d) o ≡ [] → ⊥
+    missing None h = absurd (cc)
+    missing (Some e) h = either-some (is_live e && not (is_one_dot e.name)) _ _ h
+dotdot-quiet v d (Some e) h = search quiet depth 9
+
+dotdot-silent : (v : Volume) (d : ℕ) (o : Option Entry) → IsDotdotQuiet v d o → dotdot_lines_of v d o ≡ []
+dotdot-silent v d None q = absurd q.kind
+dotdot-silent v d (Some e) q = search silent depth 9
+
+-- a directory
+pub record IsDirQuiet (v : Volume) (d : ℕ) : Type 0 where
+  pub shape : IsShapeQuiet v d
+  pub dot_there : IsDotQuiet d (dot v d)
+  pub dotdot_there : IsDotdotQuiet v d (dotdot v d)
+  pub entries : (j : ℕ) (e : RoledEntry) → nth_roled (roled_entries v d) j ≡ Some e → IsEntryQuiet v d j e
+
+dir-quiet : (v : Volume) (d : ℕ) → sized_dir_lines v d ≡ [] → IsDirQuiet v d
+unfolding sized_dir_lines dot_lines dotdot_lines
+dir-quiet v d h = record {
+  shape = search (nil-left, shape-quiet);
+  dot_there = search (nil-left, nil-right, dot-quiet);
+  dotdot_there = search (nil-left, nil-right, dotdot-quiet) depth 7;
+  entries = λ j e x. entries-quiet v d 0 (roled_entries v d) (search (nil-right)) j j e x (omega arith);
+}
+
+dir-silent : (v : Volume) (d : ℕ) → IsDirQuiet v d → sized_dir_lines v d ≡ []
+unfolding sized_dir_lines dot_lines dotdot_lines
+dir-silent v d q =
+    let entries = entries-silent v d 0 (roled_entries v d)
+    (λ j i e x z. let same : j ≡ i = omega arith in rw (← same) (q.entries j e x)) in
+    search (nil-both, shape-silent, dot-silent, dotdot-silent)
+
+-- PATHNAMES: the root, and each directory that isn't empty
+pub record IsPathnameQuiet (v : Volume) : Type 0 where
+  pub root : v.class 2 ≡ Dir
+  pub suspect : is_suspect v 2 ≡ false
+  pub each : (d : ℕ) → is_dir v d ≡ true → (v.inode d).size ≢ 0 → IsDirQuiet v d
+
+root-quiet : (v : Volume) (c : Class) → root_lines_of v c ≡ [] → (c ≡ Dir) × (is_suspect v 2 ≡ false)
+root-quiet v Dir h = (refl, reported-quiet _ root_suspect h)
+root-quiet v File h = absurd (cc)
+root-quiet v Unknown h = absurd (cc)
+root-quiet v Partial h = absurd (cc)
+root-quiet v Free h = absurd (cc)
+
+pub dir-below : (v : Volume) (d : ℕ) → is_dir v d ≡ true → d < v.count
+dir-below v d h = grind (arith, nat_tests)
+
+pub pathname-quiet : (v : Volume) → pathname_lines v ≡ [] → IsPathnameQuiet v
+unfolding pathname_lines root_lines
+pathname-quiet v h =
+    let r = root-quiet v (v.class 2) (nil-left (root_lines v) _ h) in
+    let a = then-quiet (continues_after_root v) (lines_below (directory_lines v) v.count) (nil-right (root_lines v) _ h)
+    (ap is_directory r.0) in
+    record {
+      root = r.0;
+      suspect = r.1;
+      each = λ d k n.
+          dir-quiet v d (then-quiet (is_looked_at v d) (sized_dir_lines v d)
+          (lines-quiet (directory_lines v) v.count a d (dir-below v d k))
+          (and_from (is_dir v d) _ k (not_from_false _ (ne_eqb (v.inode d).size 0 n))));
+    }
+
+pub pathname-silent : (v : Volume) → IsPathnameQuiet v → pathname_lines v ≡ []
+unfolding pathname_lines root_lines
+pathname-silent v q =
+    nil-both (root_lines v) _ (ap (root_lines_of v) q.root ∙ reported-silent _ root_suspect q.suspect)
+    (then-silent (continues_after_root v) (lines_below (directory_lines v) v.count) (λ g.
+    lines-silent (directory_lines v) v.count (λ d l. then-silent (is_looked_at v d) (sized_dir_lines v d) (λ k.
+    let p = and_parts (is_dir v d) (not ((v.inode d).size == 0)) k in
+    dir-silent v d (q.each d p.0 (eqb-false (v.inode d).size 0 (not-true _ p.1)))))))
+
+-- CONNECTIVITY
+pub connectivity-quiet : (v : Volume) → connectivity_lines v ≡ [] → (d : ℕ) → d < v.count → is_unref_dir v d ≡ false
+unfolding connectivity_lines
+connectivity-quiet v h d l = reported-quiet _ (unref_dir (attributes v d)) (lines-quiet _ v.count h d l)
+
+pub connectivity-silent : (v : Volume) → ((d : ℕ) → is_unref_dir v d ≡ false) → connectivity_lines v ≡ []
+unfolding connectivity_lines
+connectivity-silent v h = lines-silent _ v.count (λ d l. reported-silent _ (unref_dir (attributes v d)) (h d))
+
+-- REFERENCES: an inode that is allocated
+pub record IsCountQuiet (v : Volume) (i : ℕ) : Type 0 where
+  pub alive : is_dead v i ≡ false
+  pub some : references v i ≢ 0
+  pub same : equals_natural (v.inode i).nlink (references v i) ≡ true
+
+-- the first of two is never silent
+first-quiet : (b : Bool) (xs ys : List TreeMessage) → (xs ≡ [] → ⊥) → (if b then xs else ys) ≡ [] → (b ≡ false)
+    × (ys ≡ [])
+first-quiet true xs ys n h = absurd (n h)
+first-quiet false xs ys n h = (refl, h)
+
+count-quiet : (v : Volume) (i : ℕ) → inode_lines v i ≡ [] → IsCountQuiet v i
+unfolding inode_lines
+count-quiet v i h =
+    let a = first-quiet (is_dead v i) (dead_lines v i) _ (either-some (v.marked i) _ _) h in
+    let b = first-quiet (references v i == 0) (unref_lines v i) _
+    (either-some (equals_natural (v.inode i).nlink 0) _ _) a.1 in
+    record { alive = a.0; some = eqb-false (references v i) 0 b.0; same = not-false _ (reported-quiet _ _ b.1) }
+
+count-silent : (v : Volume) (i : ℕ) → IsCountQuiet v i → inode_lines v i ≡ []
+unfolding inode_lines
+count-silent v i q =
+    if-silent (is_dead v i) (dead_lines v i) _ q.alive
+    (if-silent (references v i == 0) (unref_lines v i) _ (ne_eqb (references v i) 0 q.some)
+    (reported-silent _ _ (not_from_true _ q.same)))
+
+pub reference-quiet : (v : Volume) → reference_lines v ≡ [] → (i : ℕ) → is_allocated_inode v i ≡ true → IsCountQuiet v i
+unfolding reference_lines
+reference-quiet v h i k =
+    count-quiet v i (then-quiet (is_allocated_inode v i) (inode_lines v i)
+    (lines-quiet (reference_lines_at v) v.count h i (grind (arith, nat_tests))) k)
+
+pub reference-silent : (v : Volume) → ((i : ℕ) → is_allocated_inode v i ≡ true → IsCountQuiet v i) →
+    reference_lines v ≡ []
+unfolding reference_lines
+reference-silent v h = lines-silent (reference_lines_at v) v.count
+    (λ i l. then-silent (is_allocated_inode v i) (inode_lines v i) (λ k. count-silent v i (h i k)))
+
+-- a count and a number
+pub count-true : (z : ℤ) (n : ℕ) → equals_natural z n ≡ true → z ≡ pos n
+count-true (pos k) n h = ap pos (eqb-true k n h)
+count-true (negsuc k) n h = absurd (cc)
+
+pub count-from : (z : ℤ) (n : ℕ) → z ≡ pos n → equals_natural z n ≡ true
+count-from z n h = rw h (eq-eqb n n refl)
