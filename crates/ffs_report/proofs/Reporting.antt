@@ -12,7 +12,7 @@
 -- c.part.ensures.text) MORE gives what the part wants to know from what the whole knows, as λ bytes
 -- k. ap (λ d. d.contents) IMAGE-STAYED ∙ k.0.
 use Rattle.std.proofs.Common.{◌≡◌, refl, ◌∙◌, sym, ap, subst, ℕ, List, [], ◌++◌, append_assoc, append-nil, Result, Ok}
-use Rattle.std.proofs.Common.{Err, arith}
+use Rattle.std.proofs.Common.{Err, arith, ◌∷◌}
 use Rattle.ffs_volume.specs.Messages.Kinds.{Message}
 use Rattle.ffs_report.specs.Progress.{Progress, Said, Stopped}
 use Rattle.ffs_report.proofs.Reports.{said_none, said_then, stopped_after, stopped_more}
@@ -72,6 +72,44 @@ of_stops knows rest rest' all ms a b c p e q = record {
 pub of_reads : (knows : List ℕ → Type 0) (rest all : List ℕ → List Message) (a b : Progress) → SaidOf knows rest all a b
     → SaidPrefixOf knows all a b
 of_reads knows rest all a b p = record { rest = rest; prefix = p }
+
+-- all was said at once, or nothing is to come, and the output failed among all
+pub says_all : {knows : List ℕ → Type 0} {all : List ℕ → List Message} {ms : List Message} {a b : Progress} →
+    ForBytes knows (λ bytes. all bytes ≡ ms) → Said a b ms → SaidOf knows (λ bytes. []) all a b
+says_all {knows} {all} {ms} e p =
+    record { messages = ms; right = λ bytes k. append-nil ms ∙ sym (e bytes k); said = p }
+
+pub says_none : {knows : List ℕ → Type 0} {all : List ℕ → List Message} {a : Progress} →
+    ForBytes knows (λ bytes. all bytes ≡ []) → SaidOf knows (λ bytes. []) all a a
+says_none {knows} {all} {a} e = says_all e (said_none a)
+
+pub stops_all : {knows : List ℕ → Type 0} {all : List ℕ → List Message} {ms : List Message} {a b : Progress} →
+    ForBytes knows (λ bytes. all bytes ≡ ms) → Stopped a b ms → StoppedOf knows all a b
+stops_all {knows} {all} {ms} e p = record {
+  messages = ms;
+  rest = λ bytes. [];
+  right = λ bytes k. append-nil ms ∙ sym (e bytes k);
+  stopped = p;
+}
+
+-- a read failed before anything was said
+pub reads_first : {knows : List ℕ → Type 0} {all : List ℕ → List Message} {a : Progress} → SaidPrefixOf knows all a a
+reads_first {knows} {all} {a} = of_reads knows all all a a (of_begins knows all a)
+
+-- a heading was said, and other messages are to come
+pub says_heading : {knows : List ℕ → Type 0} {lines rest : List ℕ → List Message} {m : Message} {a b : Progress} →
+    ForBytes knows (λ bytes. lines bytes ≡ rest bytes) → Said a b (m ∷ []) →
+    SaidOf knows rest (λ bytes. m ∷ lines bytes) a b
+says_heading {m = m} e p = record {
+  messages = m ∷ [];
+  right = λ bytes k. ap (λ (xs : List Message). m ∷ xs) (sym (e bytes k));
+  said = p;
+}
+
+pub stops_heading : {knows : List ℕ → Type 0} {lines : List ℕ → List Message} {m : Message} {a b : Progress} →
+    Stopped a b (m ∷ []) → StoppedOf knows (λ bytes. m ∷ lines bytes) a b
+stops_heading {lines = lines} {m = m} p =
+    record { messages = m ∷ []; rest = lines; right = λ bytes k. refl; stopped = p }
 
 -- what is to come has changed its form
 pub of_same : (knows : List ℕ → Type 0) (rest rest' all : List ℕ → List Message) (a b : Progress) →
