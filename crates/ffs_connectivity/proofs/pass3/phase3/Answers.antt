@@ -28,7 +28,7 @@ known g c bytes k =
 pub returns-in_err-say-clause-prints : goal.returns-in_err-say-clause-prints
 returns-in_err-say-clause-prints g c =
     let p = err_from_is_err_and c.from_residual.result c.from_residual.ensures.1 in
-    rw (p.1, p.2) (record { image = refl; text = stops_heading c.in_err-say.ensures.said })
+    rw (p.1, p.2) (record { image = search rules; text = stops_heading c.in_err-say.ensures.said })
 
 pub returns-then-first-len-clause-prints : goal.returns-then-first-len-clause-prints
 returns-then-first-len-clause-prints g c =
