@@ -1,20 +1,17 @@
 -- A fragment that is used stays used, so each reserved one is used after all inodes.
-use Rattle.std.proofs.Common.{◌≡◌, ◌+◌, inl, inr, ℕ, Bool, true, false, List, [], ◌∷◌, arith, sym, ap, ◌∙◌}
-use Rattle.std.proofs.Common.{length, get_or, slice_set}
-use Rattle.std.specs.Prelude.{nat_lt, ◌==◌}
+use Rattle.std.proofs.Common.{◌≡◌, ◌+◌, inl, inr, ℕ, Bool, true, false, List, [], ◌∷◌, arith, sym, subst, ap, ◌∙◌}
+use Rattle.std.proofs.Common.{length, get_or, slice_set, nat_lt, ◌==◌}
 use Rattle.std.specs.List.{range_with_len}
-use Rattle.std.proofs.lemmas.Bool.{cases_eq, cases_lt, true≢false}
-use Rattle.std.proofs.lemmas.List.{get_or-set_other, get_or-set_same, get_or_past}
-use Rattle.std.proofs.lemmas.List.FromFn.{get_or-map-range_with_len}
-use Rattle.ffs_volume.specs.declared.Layout.{Layout}
-use Rattle.ffs_volume.specs.declared.Step.{Step}
+use Rattle.std.proofs.lemmas.{Bool.cases_eq, Bool.cases_lt, Bool.true≢false, List.get_or-set_other}
+use Rattle.std.proofs.lemmas.{List.get_or-set_same, List.get_or_past, List.FromFn.get_or-map-range_with_len}
+use Rattle.ffs_volume.specs.declared.{Layout.Layout, Step.Step}
 use Rattle.ffs_volume.specs.declared.Step.TheVariants.{Run, Tail, Gap}
+use Rattle.ffs_volume.specs.{Blocks.Owners.Owner, Blocks.Owners.owners_of, Report.Whole.claimed_count}
 use Rattle.ffs_volume.specs.Disk.Areas.{is_fragment_in_range, is_reserved, is_run_in_range}
-use Rattle.ffs_volume.specs.Blocks.Owners.{Owner}
 use Rattle.ffs_volume.specs.Blocks.Claims.{Claims, is_set, is_open, no_claims, reserved_map, after_offer, after_offers}
 use Rattle.ffs_volume.specs.Blocks.Claims.{after_run, after_step, after_steps, after_owner, after_owners}
 use Rattle.ffs_volume.proofs.Potentials.{cond_holds}
-use Rattle.ffs_counts.specs.Reserved.{HasReserved}
+use Rattle.ffs_counts.specs.Reserved.{HasReserved, used_in}
 
 -- each fragment that is used is used afterwards
 abbrev Keeps : Claims → Claims → Type 0
@@ -65,8 +62,16 @@ owners_keep v s [] = λ f h. h
 owners_keep v s (o ∷ os) = λ f h. owners_keep v (after_owner v s o) os f (steps_keep v _ o.steps f h)
 
 -- so where nothing else than the claims of some inodes was added, each reserved fragment is used
-pub has_reserved : (v : Layout) (os : List Owner) → HasReserved v (after_owners v (no_claims v) os).used
+has_reserved : (v : Layout) (os : List Owner) → HasReserved v (after_owners v (no_claims v) os).used
 unfolding no_claims reserved_map
 has_reserved v os f low reserved =
     owners_keep v (no_claims v) os f
     (get_or-map-range_with_len (is_reserved v) 0 v.size f f false low (omega arith) ∙ reserved)
+
+-- how many fragments are claimed, by the map that a workspace holds
+pub used_are : (v : Layout) (image : List ℕ) (used : List Bool) (n : ℕ) →
+    (HasReserved v used → n ≡ used_in v used) →
+    used ≡ (after_owners v (no_claims v) (owners_of v image)).used → n ≡ claimed_count v image
+unfolding claimed_count
+used_are v image used n e same = e (subst (HasReserved v) (sym same) (has_reserved v (owners_of v image)))
+    ∙ ap (used_in v) same

@@ -1,18 +1,14 @@
 -- How many fragments of a group are reserved.
 use Rattle.std.proofs.Common.{◌≡◌, ◌⊎◌, inl, inr, ℕ, zero, suc, ◌+◌, ◌-◌, ◌*◌, ◌<◌, ◌≤◌, Bool, true, false, cond, not}
 use Rattle.std.proofs.Common.{◌&&◌, ◌||◌, nat_lt, nat_le, List, count_by, min, arith, refl, ap, ◌∙◌, sym}
-use Rattle.std.specs.List.{range_with_len, sum_by}
-use Rattle.std.specs.Int.{div_ceil}
+use Rattle.std.specs.{List.range_with_len, List.sum_by, Int.div_ceil}
 use Rattle.std.proofs.Math.Nat.{mul_comm}
+use Rattle.std.proofs.lemmas.{List.Sums.sum_by-cons, Nat.mul-le}
 use Rattle.std.proofs.lemmas.Bool.{cases_lt, true≢false, lt-ltb, le-ltb, le-leb, lt-leb, and_from, and_left, and_right}
-use Rattle.std.proofs.lemmas.List.Sums.{sum_by-cons}
-use Rattle.std.proofs.lemmas.Nat.{mul-le}
 use Rattle.ffs_volume.specs.declared.Layout.{Layout}
+use Rattle.ffs_volume.specs.{Blocks.Claims.is_set, Laws.Geometry.IsAcceptedLayout, Groups.Records.group_size}
 use Rattle.ffs_volume.specs.Disk.Areas.{cgbase, cgstart, cgsblock, cgdmin, is_group_metadata, is_reserved}
 use Rattle.ffs_volume.proofs.AreaLaws.{is_in_metadata_of, is_metadata_of_group, group_is}
-use Rattle.ffs_volume.specs.Blocks.Claims.{is_set}
-use Rattle.ffs_volume.specs.Laws.Geometry.{IsAcceptedLayout}
-use Rattle.ffs_volume.specs.Groups.Records.{group_size}
 use Rattle.ffs_maps.proofs.Counting.{count_join_at}
 use Rattle.ffs_groups.proofs.FreeWords.{sum_const}
 
@@ -42,7 +38,8 @@ first_reserved v f g h = elim (cases_lt f v.csaddr) [
 
 metadata_in : (v : Layout) (c f : ℕ) → IsAcceptedLayout v → cgbase v c ≤ f → f < cgbase v (c + 1) →
     is_group_metadata v f ≡ (nat_lt c v.ncg && is_in_metadata_of v c f)
-metadata_in v c f g low high = is_metadata_of_group v f g ∙ ap (λ j. nat_lt j v.ncg && is_in_metadata_of v j f) (group_is v c f low high)
+metadata_in v c f g low high =
+    is_metadata_of_group v f g ∙ ap (λ j. nat_lt j v.ncg && is_in_metadata_of v j f) (group_is v c f low high)
 
 pub base_zero : (v : Layout) → cgbase v 0 ≡ 0
 unfolding cgbase
