@@ -3,4 +3,3 @@ pub mod ReservedCount
 pub mod Classes
 pub mod GroupText
 pub mod Holding
-pub mod Kept

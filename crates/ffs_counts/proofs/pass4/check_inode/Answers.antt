@@ -50,7 +50,8 @@ lines_are g c bytes k =
     ∙ sym c.line_for-line.ensures)
 
 stays : (g : given.Over) (c : In_ok-inode g) →
-    StaysReady c.args.geometry.now.layout (g.I.Image.device c.inode.new.image) c.args.workspace.now (record c.args.workspace.now {
+    StaysReady c.args.geometry.now.layout (g.I.Image.device c.inode.new.image) c.args.workspace.now
+    (record c.args.workspace.now {
       windows = record c.args.workspace.now.windows { table = c.inode.new.self };
     })
 stays g c =

@@ -7,7 +7,7 @@ use Rattle.ffs_maps.specs.Bits.{bits_of}
 use Rattle.ffs_report.specs.{Known.ForBytes, Lines.message_of}
 use Rattle.ffs_report.proofs.Reporting.{says_all, stops_all}
 use Rattle.ffs_workspace.specs.Holds.{HoldsClaims}
-use Rattle.ffs_counts.proofs.{Classes.files_are, Kept.used_are}
+use Rattle.ffs_counts.proofs.{Classes.files_are, ReservedCount.used_are}
 use Rattle.ffs_counts.proofs.summing.summary.Given as given
 use Rattle.ffs_counts.proofs.summing.summary.Goals as goal
 use Rattle.ffs_counts.proofs.summing.summary.Goals.{After-summary_line}
