@@ -14,10 +14,9 @@
 use Rattle.std.proofs.Common.{◌≡◌, refl, ◌∙◌, sym, ap, subst, ℕ, List, [], ◌++◌, append_assoc, append-nil, Result, Ok}
 use Rattle.std.proofs.Common.{Err, arith, ◌∷◌}
 use Rattle.ffs_volume.specs.Messages.Kinds.{Message}
-use Rattle.ffs_report.specs.Progress.{Progress, Said, Stopped}
-use Rattle.ffs_report.proofs.Reports.{said_none, said_then, stopped_after, stopped_more}
-use Rattle.ffs_report.specs.Known.{ForBytes}
+use Rattle.ffs_report.specs.{Progress.Progress, Progress.Said, Progress.Stopped, Known.ForBytes}
 use Rattle.ffs_report.specs.PhaseOutcome.{SaidTo, SaidOf, SaidPrefixOf, StoppedOf, PhaseReports}
+use Rattle.ffs_report.proofs.Reports.{said_none, said_then, stopped_after, stopped_more}
 use Rattle.ffs_report.specs.declared.fault.RunFault.{RunFault}
 use Rattle.ffs_report.specs.declared.fault.RunFault.TheVariants.{Read, Out}
 

@@ -14,4 +14,5 @@ returns-in_err-print_shown-2 g c =
 
 pub returns : goal.returns
 returns g c =
-    search (printing, c.in_ok-print_shown.ensures, c.in_ok-print.ensures, c.in_ok-print_shown-2.ensures, c.print-2.ensures)
+    let path = c.in_ok-print_shown.ensures in
+    search (printing, path, c.in_ok-print.ensures, c.in_ok-print_shown-2.ensures, c.print-2.ensures)
