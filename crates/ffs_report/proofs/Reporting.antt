@@ -1,16 +1,4 @@
--- How a phase continues and ends. (For each phase.) In an answer only the lists of messages are
--- written, the rest is `_`:   of_says _ REST REST' _ MESSAGES _ _ _ SAID-SO-FAR (λ bytes k. RIGHT)
--- c.in_ok-say.ensures.said of_part _ REST PART REST' _ _ _ _ SAID-SO-FAR (λ bytes k. RIGHT)
--- (said_knows _ _ _ _ _ _ MORE c.in_ok-part.ensures.text) at the exit of a `?`, with
--- `let p = err_from_is_err_and c.from_residual.result c.from_residual.ensures.1 in rw (p.1, p.2)`
--- before it:   of_reads _ _ _ _ _ SAID-SO-FAR (a read of the image)   of_stops _ REST REST' _
--- MESSAGES _ _ _ SAID-SO-FAR (λ bytes k. RIGHT) c.in_err-say.ensures.said   of_fault (Unit {0})
--- (Unit {0}) _ REST PART REST' _ _ _ _ c.in_err-part.field-0.0 SAID-SO-FAR (λ bytes k. RIGHT)
--- (reports_knowing (Unit {0}) _ _ _ _ _ (Err c.in_err-part.field-0.0) MORE
--- c.in_err-part.ensures.text) and for a last call in tail position: of_last _ _ REST PART _ _ _ _
--- c.part.result SAID-SO-FAR (λ bytes k. RIGHT) (reports_knowing _ _ _ _ _ _ c.part.result MORE
--- c.part.ensures.text) MORE gives what the part wants to know from what the whole knows, as λ bytes
--- k. ap (λ d. d.contents) IMAGE-STAYED ∙ k.0.
+-- How a phase continues and ends: for its answers, in which most arguments can be written as `_`.
 use Rattle.std.proofs.Common.{◌≡◌, refl, ◌∙◌, sym, ap, subst, ℕ, List, [], ◌++◌, append_assoc, append-nil, Result, Ok}
 use Rattle.std.proofs.Common.{Err, arith, ◌∷◌}
 use Rattle.ffs_volume.specs.Messages.Kinds.{Message}
