@@ -1,57 +1,38 @@
 -- How many reads and writes failed, by the headline.
-use Rattle.std.proofs.Common.{◌≡◌, inl, inr, sym, ap, subst, ℕ, true, List, Option}
+use Rattle.std.proofs.Common.{◌≡◌, inl, inr, ap, ℕ, true, List, Option}
 use Rattle.ffs_image.specs.Device.{Device}
 use Rattle.ffs_volume.specs.declared.End.{End}
-use Rattle.ffs_volume.specs.declared.End.TheVariants.{Consistent, Defects, Refused, RootStop, ReadFault, WriteFault}
-use Rattle.ffs_volume.specs.declared.End.TheVariants.{NoMemory}
+use Rattle.ffs_volume.specs.declared.End.TheVariants.{Refused, ReadFault, WriteFault}
 use Rattle.ffs_volume.specs.Messages.Kinds.{Message}
 use Rattle.ffs_report.specs.Sink.{Sink}
 use Rattle.ffs_check.specs.Failures.{ReadsFailed, WritesFailed}
 use Rattle.ffs_check.specs.Headline.{is_completed, IsCutShort, Headline}
 
 reads_none : (end : End) (old new : ℕ) → is_completed end ≡ true → new ≡ old → ReadsFailed end old new
-reads_none Consistent old new c e = e
-reads_none Defects old new c e = e
-reads_none RootStop old new c e = e
-reads_none NoMemory old new c e = e
 reads_none (Refused fault) old new c e = inl e
 reads_none (ReadFault sector) old new c e = absurd (cc)
 reads_none WriteFault old new c e = inl e
+reads_none end old new c e = e
 
 writes_none : (end : End) (old new : ℕ) → is_completed end ≡ true → new ≡ old → WritesFailed end old new
-writes_none Consistent old new c e = e
-writes_none Defects old new c e = e
-writes_none RootStop old new c e = e
-writes_none NoMemory old new c e = e
-writes_none (Refused fault) old new c e = e
-writes_none (ReadFault sector) old new c e = e
 writes_none WriteFault old new c e = absurd (cc)
+writes_none end old new c e = e
 
 -- where a check is cut short, one read had failed, or the memory was refused
-cut_reads : (image image' : Device) (name : List ℕ) (sector : Option ℕ) (text said : List Message) (line : Message)
-    (end : End) → IsCutShort image image' name sector text said line end →
+cut_reads : {image image' : Device} {name : List ℕ} {sector : Option ℕ} {text said : List Message} {line : Message}
+    {end : End} → IsCutShort image image' name sector text said line end →
     ReadsFailed end image.failures image'.failures × ReadsFailed WriteFault image.failures image'.failures
-cut_reads image image' name sector text said line end (inl super) = (
-  subst (λ e. ReadsFailed e image.failures image'.failures) (sym super.end_is) (inr super.faulted.rose),
-  inr super.faulted.rose,
-)
-cut_reads image image' name sector text said line end (inr (inl later)) = (
-  subst (λ e. ReadsFailed e image.failures image'.failures) (sym later.end_is) later.faulted.rose,
-  inr later.faulted.rose,
-)
-cut_reads image image' name sector text said line end (inr (inr unstarted)) =
-    let same = ap (λ (d : Device). d.failures) unstarted.no_read_failed in
-    (subst (λ e. ReadsFailed e image.failures image'.failures) (sym unstarted.end_is) same, inl same)
+cut_reads (inl super) = (rw super.end_is (inr super.faulted.rose), inr super.faulted.rose)
+cut_reads (inr (inl later)) = (rw later.end_is later.faulted.rose, inr later.faulted.rose)
+cut_reads (inr (inr unstarted)) =
+    let same = ap (λ (d : Device). d.failures) unstarted.no_read_failed in (rw unstarted.end_is same, inl same)
 
-cut_writes : (image image' : Device) (name : List ℕ) (sector : Option ℕ) (text said : List Message) (line : Message)
-    (end : End) (old new : ℕ) → IsCutShort image image' name sector text said line end → new ≡ old →
+cut_writes : {image image' : Device} {name : List ℕ} {sector : Option ℕ} {text said : List Message} {line : Message}
+    {end : End} (old new : ℕ) → IsCutShort image image' name sector text said line end → new ≡ old →
     WritesFailed end old new
-cut_writes image image' name sector text said line end old new (inl super) e =
-    subst (λ x. WritesFailed x old new) (sym super.end_is) e
-cut_writes image image' name sector text said line end old new (inr (inl later)) e =
-    subst (λ x. WritesFailed x old new) (sym later.end_is) e
-cut_writes image image' name sector text said line end old new (inr (inr unstarted)) e =
-    subst (λ x. WritesFailed x old new) (sym unstarted.end_is) e
+cut_writes old new (inl super) e = rw super.end_is e
+cut_writes old new (inr (inl later)) e = rw later.end_is e
+cut_writes old new (inr (inr unstarted)) e = rw unstarted.end_is e
 
 module _ (image image' : Device) (name : List ℕ) (sector : Option ℕ) (out out' : Sink) (end : End)
     (h : Headline image image' name sector out out' end) where
@@ -61,13 +42,9 @@ module _ (image image' : Device) (name : List ℕ) (sector : Option ℕ) (out ou
         (ap (λ d. d.failures) all.no_read_failed)
     | inr r ↦ elim r [
       | inl short ↦
-          let failed = cut_reads image image' name sector h.text short.said short.line short.fault_end short.cut in
-          elim short.ends [
-            | inl went ↦ subst (λ e. ReadsFailed e image.failures image'.failures) (sym went.1) failed.0
-            | inr broke ↦ subst (λ e. ReadsFailed e image.failures image'.failures) (sym broke.1) failed.1
-          ]
-      | inr part ↦ subst (λ e. ReadsFailed e image.failures image'.failures) (sym part.end_is)
-          (inl (ap (λ d. d.failures) part.no_read_failed))
+          let failed = cut_reads short.cut in
+          elim short.ends [ inl went ↦ rw went.1 failed.0 | inr broke ↦ rw broke.1 failed.1 ]
+      | inr part ↦ rw part.end_is (inl (ap (λ d. d.failures) part.no_read_failed))
     ]
   ]
 
@@ -76,12 +53,9 @@ module _ (image image' : Device) (name : List ℕ) (sector : Option ℕ) (out ou
     | inl all ↦ writes_none end out.failures out'.failures all.end_is.completed all.went_out.failures
     | inr r ↦ elim r [
       | inl short ↦ elim short.ends [
-        | inl went ↦ subst (λ e. WritesFailed e out.failures out'.failures) (sym went.1)
-            (cut_writes image image' name sector h.text short.said short.line short.fault_end out.failures
-            out'.failures short.cut went.0.failures)
-        | inr broke ↦ subst (λ e. WritesFailed e out.failures out'.failures) (sym broke.1)
-            (rw broke.0.went_out.failures at broke.0.broke_off.rose)
+        | inl went ↦ rw went.1 (cut_writes out.failures out'.failures short.cut went.0.failures)
+        | inr broke ↦ rw broke.1 (rw broke.0.went_out.failures at broke.0.broke_off.rose)
       ]
-      | inr part ↦ subst (λ e. WritesFailed e out.failures out'.failures) (sym part.end_is) part.broke_off.rose
+      | inr part ↦ rw part.end_is part.broke_off.rose
     ]
   ]

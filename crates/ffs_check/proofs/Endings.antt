@@ -1,26 +1,23 @@
 -- How what the phases answered is reported, and how a check so ends.
-use Rattle.std.specs.Prelude.{IfOk}
-use Rattle.std.proofs.Common.{◌≡◌, inl, inr, refl, ◌∙◌, sym, ap, subst, ℕ, Bool, true, false, not, ◌&&◌, ◌||◌, List, []}
-use Rattle.std.proofs.Common.{◌∷◌, ◌++◌, ◌<◌, length, append-nil, Option, Some, None, Result, Ok, Err}
+use Rattle.std.proofs.Common.{IfOk, ◌≡◌, inl, inr, refl, ◌∙◌, sym, ap, subst, ℕ, Bool, true, false, not, ◌&&◌, ◌||◌}
+use Rattle.std.proofs.Common.{List, [], ◌∷◌, ◌++◌, ◌<◌, length, append-nil, Option, Some, None, Result, Ok, Err}
 use Rattle.ffs_image.specs.Device.{Device, Faulted}
-use Rattle.ffs_volume.specs.declared.End.{End}
-use Rattle.ffs_volume.specs.declared.End.TheVariants.{ReadFault, WriteFault}
-use Rattle.ffs_volume.specs.Disk.Superblock.{Superblock}
-use Rattle.ffs_volume.specs.Messages.Kinds.{Message, cannot_read, minfree, mounted, optimization, has_defect, is_defect, unless}
+use Rattle.ffs_volume.specs.declared.{End.End, End.TheVariants.ReadFault, End.TheVariants.WriteFault}
+use Rattle.ffs_volume.specs.{Disk.Superblock.Superblock, Report.Whole.end_by}
+use Rattle.ffs_volume.specs.Messages.Kinds.{Message, cannot_read, minfree, mounted, optimization, has_defect, is_defect}
+use Rattle.ffs_volume.specs.Messages.Kinds.{unless}
 use Rattle.ffs_volume.specs.Report.Opening.{before_nul, has_valid_minfree, has_valid_optim, setting_lines, super_lines}
-use Rattle.ffs_volume.specs.Report.Whole.{end_by}
 use Rattle.std.specs.Borrow.{GName}
-use Rattle.ffs_report.specs.Sink.{Sink}
+use Rattle.ffs_report.specs.{Sink.Sink, Known.ForBytes, Known.IsContents, PhaseOutcome.ImageAfter}
 use Rattle.ffs_report.specs.Progress.{Progress, Said, Stopped, starts}
 use Rattle.ffs_report.proofs.Reports.{has_defect-append, stopped_more}
-use Rattle.ffs_report.specs.Known.{ForBytes, IsContents}
-use Rattle.ffs_report.specs.PhaseOutcome.{ImageAfter}
 use Rattle.ffs_report.specs.declared.fault.RunFault.{RunFault}
 use Rattle.ffs_report.specs.declared.fault.RunFault.TheVariants.{Read, Out}
 use Rattle.ffs_pathnames.specs.declared.pass2.Root.{Root}
 use Rattle.ffs_pathnames.specs.RootAnswers.{is_go}
-use Rattle.ffs_check.specs.PhaseEnds.{EndsAs, IsCutByRead, IsEndByRoot, PrintsPhases, ReportsOrStopsEarly, SaysPhases, SaysReadFault}
-use Rattle.ffs_check.proofs.EndLaws.{ends_known, ends_printed, line_after}
+use Rattle.ffs_check.specs.PhaseEnds.{EndsAs, IsEndByRoot, PrintsPhases, ReportsOrStopsEarly, SaysPhases}
+use Rattle.ffs_check.specs.PhaseEnds.{SaysReadFault}
+use Rattle.ffs_check.proofs.EndLaws.{ends_map, ends_printed, line_after}
 
 -- what an image's bytes determine, and nothing for an image that doesn't give them
 abbrev pub at_contents : Option (List ℕ) → (List ℕ → List Message) → List Message
@@ -106,7 +103,7 @@ module _ (had_defect : Bool) (knows : List ℕ → Type 0) (lines : List ℕ →
       cut fault.sector p.prefix.messages p.rest p.prefix.right p.more p.prefix.said f e
   ran (Err (Out fault)) p none_failed by_root e = part p.messages p.rest p.right p.stopped none_failed e.0 e.1
 
--- an end that is known by the root is known where more is known, and a cut is
+-- an end that is known by the root is known where more is known
 end_known : (knows known : List ℕ → Type 0) (continues : List ℕ → Bool) (defect defect' : Bool) (end : End) →
     ForBytes knows known → defect ≡ defect' → IsEndByRoot known continues defect end →
     IsEndByRoot knows continues defect' end
@@ -116,19 +113,6 @@ end_known knows known continues defect defect' end more same e = record {
   end_is = e.end_is ∙ ap (end_by e.continued) same;
 }
 
-cut_known : (knows known : List ℕ → Type 0) (text : List Message) (image image' : Device) (said : List Message)
-    (line : Message) (end : End) → ForBytes knows known → IsCutByRead known text image image' said line end →
-    IsCutByRead knows text image image' said line end
-cut_known knows known text image image' said line end more c = record {
-  sector = c.sector;
-  faulted = c.faulted;
-  rest = c.rest;
-  whole = c.whole;
-  more = λ bytes k. c.more bytes (more bytes k);
-  line_is = c.line_is;
-  end_is = c.end_is;
-}
-
 pub ran_known : (had_defect : Bool) (knows known : List ℕ → Type 0) (lines : List ℕ → List Message)
     (continues : List ℕ → Bool) (image image' : Device) (a b : Progress) (end : End) → ForBytes knows known →
     SaysPhases had_defect known lines continues image image' a b end →
@@ -136,9 +120,16 @@ pub ran_known : (had_defect : Bool) (knows known : List ℕ → Type 0) (lines :
 ran_known had_defect knows known lines continues image image' a b end more ran = record {
   text = ran.text;
   right = λ bytes k. ran.right bytes (more bytes k);
-  ends = ends_known Said Stopped image image' a b ran.text _ _ _ _ end
-      (end_known knows known continues _ _ end more refl)
-      (λ said line e. cut_known knows known ran.text image image' said line e more) ran.ends;
+  ends = ends_map (λ said. said) (λ q. q) (λ q. q) (λ q. end_known knows known continues _ _ end more refl)
+      (λ said line e cut. record {
+        sector = cut.sector;
+        faulted = cut.faulted;
+        rest = cut.rest;
+        whole = cut.whole;
+        more = λ bytes k. cut.more bytes (more bytes k);
+        line_is = cut.line_is;
+        end_is = cut.end_is;
+      }) (λ said line q. q) (λ said line q. q) ran.ends;
 }
 
 -- what a report said that had just begun went to its output
@@ -150,8 +141,7 @@ pub prints_phases : (had_defect : Bool) (earlier : List Message) → had_defect 
 prints_phases had_defect earlier e knows lines continues image image' output sink new end ran = record {
   text = ran.text;
   right = ran.right;
-  ends = ends_printed image image' ran.text (IsEndByRoot knows continues (had_defect || new.defect)) _
-      (IsCutByRead knows ran.text image image') end output sink new
+  ends = ends_printed output sink new
       (λ said is_end. end_known knows knows continues _ _ end (λ bytes k. k)
       (ap (λ defect. had_defect || defect) said.defect ∙ ap (λ b. b || has_defect ran.text) e
       ∙ sym (has_defect-append earlier ran.text)) is_end) ran.ends;

@@ -3,31 +3,23 @@ use Rattle.std.proofs.Common.{◌≡◌, inl, inr, refl, ◌∙◌, sym, ap, sub
 use Rattle.std.proofs.Common.{append_assoc, Option, Ok}
 use Rattle.ffs_image.specs.Device.{Device, ForContents}
 use Rattle.ffs_image.proofs.Devices.{faulted_there}
-use Rattle.ffs_volume.specs.declared.SuperFault.{SuperFault}
-use Rattle.ffs_volume.specs.declared.End.{End}
+use Rattle.ffs_volume.specs.declared.{SuperFault.SuperFault, End.End}
 use Rattle.ffs_volume.specs.declared.End.TheVariants.{Consistent, Defects, Refused, RootStop, ReadFault, WriteFault}
 use Rattle.ffs_volume.specs.declared.End.TheVariants.{NoMemory}
-use Rattle.ffs_volume.specs.Disk.Superblock.{Superblock}
-use Rattle.ffs_volume.specs.Disk.Outcome.{outcome}
+use Rattle.ffs_volume.specs.{Disk.Superblock.Superblock, Disk.Outcome.outcome, Report.Opening.opening_lines}
+use Rattle.ffs_volume.specs.{Directories.PathnameCheck.continues_after_root, Directories.Volumes.volume_of}
 use Rattle.ffs_volume.specs.Messages.Kinds.{Message, cannot_read, cannot_alloc}
-use Rattle.ffs_volume.specs.Report.Opening.{opening_lines}
-use Rattle.ffs_volume.specs.Directories.PathnameCheck.{continues_after_root}
 use Rattle.ffs_volume.specs.Report.Whole.{phase_lines, end_by, report_of, report_end}
-use Rattle.ffs_volume.specs.Directories.Volumes.{volume_of}
 use Rattle.std.specs.Borrow.{GName}
-use Rattle.ffs_report.specs.Sink.{Sink}
+use Rattle.ffs_report.specs.{Sink.Sink, Known.IsContents}
 use Rattle.ffs_report.specs.Progress.{Progress, Said, Stopped, starts}
 use Rattle.ffs_layout.specs.declared.superblock.Super.{Super}
 use Rattle.ffs_layout.specs.Super.{ReadsSuper, superblock_in}
-use Rattle.ffs_report.specs.Known.{IsContents}
-use Rattle.ffs_check.specs.Ends.{Ends}
-use Rattle.ffs_check.specs.Opening.{SaysOpening}
-use Rattle.ffs_check.specs.PhaseEnds.{IsCutByRead, IsEndByRoot, SaysRefusal}
-use Rattle.ffs_check.specs.PhaseEnds.{SaysRest}
+use Rattle.ffs_check.specs.{Ends.Ends, Opening.SaysOpening}
+use Rattle.ffs_check.specs.PhaseEnds.{IsCutByRead, IsEndByRoot, SaysRefusal, SaysRest}
 use Rattle.ffs_check.specs.Headline.{is_completed, opened_lines, Headline, IsCutShort, IsEndOfReport}
+use Rattle.ffs_check.proofs.{Openings.found_of, Openings.unfailed_of, Endings.at_contents, Endings.at_known}
 use Rattle.ffs_check.proofs.EndLaws.{ends_after, ends_printed, line_after}
-use Rattle.ffs_check.proofs.Openings.{found_of, unfailed_of}
-use Rattle.ffs_check.proofs.Endings.{at_contents, at_known}
 use Rattle.ffs_check.proofs.Headlines.{whole_there, defect_there, end_of_there, end_there, completed_by, certifies}
 
 module _ (image : Device) (name : List ℕ) (sector : Option ℕ) (output : GName) (sink : Sink) (s : Superblock)
@@ -41,30 +33,23 @@ module _ (image : Device) (name : List ℕ) (sector : Option ℕ) (output : GNam
       let report : ForContents image.contents (λ bytes. text ≡ report_of bytes name sector) = λ bytes t.
       whole_there bytes name sector s _ (accepted bytes t)
       (at_known image.contents (λ bytes. phase_lines bytes s) bytes t) in
-      let cut : IsCutShort image image' name sector text (opened_lines name sector s) cannot_alloc NoMemory =
-      inr (inr (record {
-        no_read_failed = none_failed;
-        found = s;
-        accepted = λ bytes t. sym (accepted bytes t);
-        said_is = refl;
-        line_is = refl;
-        end_is = refl;
-      })) in
       let ends : Ends Said Stopped image image' (starts output sink) new text (IsEndOfReport image sector text)
       (IsCutShort image image' name sector text) end = inr (inl (record {
         said = opened_lines name sector s;
         line = cannot_alloc;
         fault_end = NoMemory;
-        cut = cut;
+        cut = inr (inr (record {
+          no_read_failed = none_failed;
+          found = s;
+          accepted = λ bytes t. sym (accepted bytes t);
+          said_is = refl;
+          line_is = refl;
+          end_is = refl;
+        }));
         ends = line_after (starts output sink) p new (opened_lines name sector s) cannot_alloc NoMemory end opened
             refusal;
       })) in
-      record {
-        text = text;
-        is_report = report;
-        ends = ends_printed image image' text (IsEndOfReport image sector text) (IsEndOfReport image sector text)
-            (IsCutShort image image' name sector text) end output sink new (λ said e. e) ends;
-      }
+      record { text = text; is_report = report; ends = ends_printed output sink new (λ said e. e) ends }
 
   module _ (text : List Message)
       (right : ForContents image.contents (λ bytes. text ≡ phase_lines bytes s)) where
@@ -111,27 +96,20 @@ module _ (image : Device) (name : List ℕ) (sector : Option ℕ) (output : GNam
   follows (inr ran) = record {
     text = opened_lines name sector s ++ ran.text;
     is_report = report ran.text ran.right;
-    ends = ends_printed image image' (opened_lines name sector s ++ ran.text)
-        (IsEndOfReport image sector (opened_lines name sector s ++ ran.text))
-        (IsEndOfReport image sector (opened_lines name sector s ++ ran.text))
-        (IsCutShort image image' name sector (opened_lines name sector s ++ ran.text)) end output sink new (λ said e. e)
-        (ends_after image image' (opened_lines name sector s) ran.text
-        (IsEndByRoot (IsContents image.contents) (λ bytes. continues_after_root (volume_of s.layout bytes))
-        (false || new.defect)) (IsEndOfReport image sector (opened_lines name sector s ++ ran.text))
-        (IsCutByRead (IsContents image.contents) ran.text image image')
-        (IsCutShort image image' name sector (opened_lines name sector s ++ ran.text)) end (starts output sink) p new
-        opened (whole ran.text ran.right) (later ran.text ran.right) ran.ends);
+    ends = ends_printed {IsEnd = IsEndOfReport image sector (opened_lines name sector s ++ ran.text)} output sink new
+        (λ said e. e) (ends_after opened (whole ran.text ran.right) (later ran.text ran.right) ran.ends);
   }
 
 pub found_ends : (image on image' : Device) (name : List ℕ) (sector : Option ℕ) (output : GName) (sink : Sink)
     (p new : Progress) (found : Super) (end : End) →
-    SaysOpening image on (starts output sink) p name sector (Ok found) → SaysRest (superblock_in found) on image' p new end →
-    Headline image image' name sector sink new.sink end
+    SaysOpening image on (starts output sink) p name sector (Ok found) →
+    SaysRest (superblock_in found) on image' p new end → Headline image image' name sector sink new.sink end
 found_ends image on image' name sector output sink p new found end o f =
+    let s = superblock_in found in
     let answers = subst (λ r. ReadsSuper image on sector r) o.ends.1 o.answers in
-    follows image name sector output sink (superblock_in found) (found_of image on sector (superblock_in found) answers) p
+    follows image name sector output sink s (found_of image on sector s answers) p
     (subst (λ r. Said (starts output sink) p (opening_lines name sector r)) o.ends.1 o.ends.0) image' new end
-    (subst (λ d. SaysRest (superblock_in found) d image' p new end) (unfailed_of image on sector (superblock_in found) answers) f)
+    (subst (λ d. SaysRest s d image' p new end) (unfailed_of image on sector s answers) f)
 
 -- a check after an accepted superblock doesn't refuse it
 not_by : (on defect : Bool) (fault : SuperFault) → end_by on defect ≡ Refused fault → ⊥

@@ -1,30 +1,23 @@
 -- The headline, of an opening and of what follows it.
-use Rattle.std.proofs.Common.{◌≡◌, inl, inr, refl, ◌∙◌, sym, ap, subst, ℕ, Bool, true, false, List, [], ◌∷◌, ◌++◌}
+use Rattle.std.proofs.Common.{◌≡◌, ◌⊎◌, inl, inr, refl, ◌∙◌, sym, ap, subst, ℕ, Bool, true, false, List, [], ◌∷◌, ◌++◌}
 use Rattle.std.proofs.Common.{append_assoc, append-nil, Option, Some, None, Result, Ok, Err}
 use Rattle.ffs_image.specs.Device.{Device, Faulted, ForContents}
-use Rattle.ffs_volume.specs.declared.SuperFault.{SuperFault}
-use Rattle.ffs_volume.specs.declared.SuperFault.TheVariants.{CannotRead}
-use Rattle.ffs_volume.specs.declared.End.{End}
+use Rattle.ffs_volume.specs.declared.{SuperFault.SuperFault, SuperFault.TheVariants.CannotRead, End.End}
 use Rattle.ffs_volume.specs.declared.End.TheVariants.{Refused, WriteFault}
-use Rattle.ffs_volume.specs.Disk.Superblock.{Superblock}
-use Rattle.ffs_volume.specs.Disk.Outcome.{outcome}
+use Rattle.ffs_volume.specs.{Disk.Superblock.Superblock, Disk.Outcome.outcome}
+use Rattle.ffs_volume.specs.{Directories.PathnameCheck.continues_after_root, Directories.Volumes.volume_of}
 use Rattle.ffs_volume.specs.Messages.Kinds.{Message, has_defect}
 use Rattle.ffs_volume.specs.Report.Opening.{head_lines, super_lines, fault_line, opening_lines}
-use Rattle.ffs_volume.specs.Directories.PathnameCheck.{continues_after_root}
 use Rattle.ffs_volume.specs.Report.Whole.{phase_lines, report_lines, end_by, end_of, lines_by_outcome, end_by_outcome}
 use Rattle.ffs_volume.specs.Report.Whole.{report_of, report_end}
-use Rattle.ffs_volume.specs.Directories.Volumes.{volume_of}
 use Rattle.std.specs.Borrow.{GName}
-use Rattle.ffs_report.specs.Sink.{Sink}
-use Rattle.ffs_report.specs.Progress.{Progress, Said, Stopped, starts}
+use Rattle.ffs_report.specs.{Sink.Sink, Progress.Progress, Progress.Said, Progress.Stopped, Progress.starts}
 use Rattle.ffs_report.proofs.Reports.{stopped_after, stopped_more}
 use Rattle.ffs_layout.specs.Super.{IsSuperSector, ReadsSuper}
 use Rattle.ffs_certificate.proofs.ReportLaws.{certified}
-use Rattle.ffs_check.specs.Ends.{BrokeOffInLine}
-use Rattle.ffs_check.specs.Opening.{SaysOpening}
-use Rattle.ffs_check.specs.Headline.{is_completed, Certifies, opened_lines, Headline, IsCutShort}
-use Rattle.ffs_check.proofs.EndLaws.{broke_off, broke_in_line}
-use Rattle.ffs_check.proofs.Endings.{at_contents, at_known}
+use Rattle.ffs_check.specs.{Ends.BrokeOffIn, Ends.BrokeOffInLine, Ends.Printed, Opening.SaysOpening}
+use Rattle.ffs_check.specs.Headline.{is_completed, Certifies, opened_lines, Headline}
+use Rattle.ffs_check.proofs.{EndLaws.broke_off, EndLaws.broke_in_line, Endings.at_contents, Endings.at_known}
 
 -- ---- the report, in its parts
 no_defect_head : (name : List ℕ) (sector : Option ℕ) (xs : List Message) → has_defect (head_lines name sector ++ xs)
@@ -101,19 +94,6 @@ certifies bytes name sector text end t e s o =
       text_says = ((λ p. law.silent.0 (sym defect ∙ p)), (λ p. defect ∙ law.silent.1 p));
     }
 
--- a read of the superblock, or of its last copy, failed
-cut_at_super : (image image' : Device) (name : List ℕ) (sector : Option ℕ) (fault : SuperFault) →
-    fault ≡ CannotRead image'.failed_sector → Faulted image image' image'.failed_sector →
-    ForContents image.contents (λ bytes. IsSuperSector bytes sector image'.failed_sector) → (text : List Message) →
-    IsCutShort image image' name sector text (head_lines name sector) (fault_line fault) (Refused fault)
-cut_at_super image image' name sector fault e f at text = inl (record {
-  faulted = f;
-  place = at;
-  said_is = refl;
-  line_is = ap fault_line e;
-  end_is = ap Refused e;
-})
-
 -- the report, where the superblock's read failed: what comes after the opening line is the image's
 abbrev whole_report : Device → List ℕ → Option ℕ → List Message
 whole_report image name sector = head_lines name sector
@@ -126,22 +106,31 @@ whole_right image name sector bytes t = ap (λ more. head_lines name sector ++ m
     ∙ report_there bytes name sector (outcome bytes sector) refl
 
 module _ (image image' : Device) (name : List ℕ) (sector : Option ℕ) (output : GName) (sink : Sink) (p : Progress) where
-  -- ---- the opening ended the check
-  refused : (fault : SuperFault) → ReadsSuper image image' sector (Err fault) →
-      Said (starts output sink) p (opening_lines name sector (Err fault)) →
-      Headline image image' name sector sink p.sink (Refused fault)
-  refused fault (inl failed) said = record {
+  -- ---- a read of the superblock, or of its last copy, failed
+  failed : (fault : SuperFault) (end : End) → fault ≡ CannotRead image'.failed_sector →
+      Faulted image image' image'.failed_sector →
+      ForContents image.contents (λ bytes. IsSuperSector bytes sector image'.failed_sector) →
+      (Printed sink p.sink (head_lines name sector ++ (fault_line fault ∷ [])) × (end ≡ Refused fault))
+      ⊎ (BrokeOffInLine Printed BrokeOffIn sink p.sink (head_lines name sector) (fault_line fault)
+      × (end ≡ WriteFault)) →
+      Headline image image' name sector sink p.sink end
+  failed fault end e f at ends = record {
     text = whole_report image name sector;
     is_report = whole_right image name sector;
     ends = inr (inl (record {
       said = head_lines name sector;
       line = fault_line fault;
       fault_end = Refused fault;
-      cut = cut_at_super image image' name sector fault failed.0.0 failed.0.1 failed.1
-          (whole_report image name sector);
-      ends = inl (said.took, refl);
+      cut = inl (record { faulted = f; place = at; said_is = refl; line_is = ap fault_line e; end_is = ap Refused e });
+      ends = ends;
     }));
   }
+
+  -- ---- the opening ended the check
+  refused : (fault : SuperFault) → ReadsSuper image image' sector (Err fault) →
+      Said (starts output sink) p (opening_lines name sector (Err fault)) →
+      Headline image image' name sector sink p.sink (Refused fault)
+  refused fault (inl read) said = failed fault (Refused fault) read.0.0 read.0.1 read.1 (inl (said.took, refl))
   refused fault (inr read) said =
       let report : ForContents image.contents
       (λ bytes. opening_lines name sector (Err fault) ≡ report_of bytes name sector) =
@@ -188,18 +177,8 @@ module _ (image image' : Device) (name : List ℕ) (sector : Option ℕ) (output
   stopped_in_line : (fault : SuperFault) → ReadsSuper image image' sector (Err fault) →
       BrokeOffInLine Said Stopped (starts output sink) p (head_lines name sector) (fault_line fault) →
       Headline image image' name sector sink p.sink WriteFault
-  stopped_in_line fault (inl failed) stop = record {
-    text = whole_report image name sector;
-    is_report = whole_right image name sector;
-    ends = inr (inl (record {
-      said = head_lines name sector;
-      line = fault_line fault;
-      fault_end = Refused fault;
-      cut = cut_at_super image image' name sector fault failed.0.0 failed.0.1 failed.1
-          (whole_report image name sector);
-      ends = inr (broke_in_line (starts output sink) p (head_lines name sector) (fault_line fault) refl stop, refl);
-    }));
-  }
+  stopped_in_line fault (inl read) stop = failed fault WriteFault read.0.0 read.0.1 read.1
+      (inr (broke_in_line (starts output sink) p (head_lines name sector) (fault_line fault) refl stop, refl))
   stopped_in_line fault (inr read) stop = stopped (Err fault) read.0 read.1
       (stopped_after (starts output sink) stop.between p (head_lines name sector) (fault_line fault ∷ []) stop.went_out
       stop.broke_off)

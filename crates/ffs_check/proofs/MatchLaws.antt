@@ -1,16 +1,12 @@
 -- What the matches of the words say of the image and of the sector.
 use Rattle.std.proofs.Common.{◌≡◌, ◌∙◌, ◌++◌, ◌∷◌, [], ℕ, List, Option, Some, None, Ok, Err, Result, refl, ap, subst}
-use Rattle.std.proofs.Common.{inl, inr, true, map}
+use Rattle.std.proofs.Common.{inl, inr, true, map, option_map}
 use Rattle.std.proofs.lemmas.List.{map-append}
-use Rattle.std.specs.Prelude.{option_map, unwrap_or}
-use Rattle.std.specs.Borrow.{Bor}
-use Rattle.std.specs.Str.Parse.{ParsesUnsigned}
+use Rattle.std.specs.{Prelude.unwrap_or, Borrow.Bor, Str.Parse.ParsesUnsigned}
 use Rattle.clap.specs.Words.{AddsShortAliases, HasKind, IsAmong, Kinds, ReadsOne, is_simple, is_simple_and_free}
 use Rattle.clap.specs.Words.{kind_of, rule_of}
-use Rattle.clap.specs.declared.builder.arg.Arg.{Arg}
-use Rattle.clap.specs.declared.builder.value_parser.ValueParser.{ValueParser}
-use Rattle.clap.specs.declared.error.Error.{Error}
-use Rattle.clap.specs.declared.error.kind.ErrorKind.TheVariants.{OutOfMemory}
+use Rattle.clap.specs.declared.{builder.arg.Arg.Arg, builder.value_parser.ValueParser.ValueParser, error.Error.Error}
+use Rattle.clap.specs.declared.{error.kind.ErrorKind.TheVariants.OutOfMemory}
 use Rattle.clap.proofs.OnLiterals.{clap_on_literals}
 use Rattle.ffs_check.specs.CommandWords.{IsSector, program}
 

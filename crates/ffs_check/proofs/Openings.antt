@@ -1,17 +1,12 @@
 -- How an opening ends.
-use Rattle.std.proofs.Common.{◌≡◌, inl, inr, refl, ◌∷◌, [], ℕ, List, Option}
-use Rattle.std.proofs.Common.{Some, None, Result, Ok, Err}
+use Rattle.std.proofs.Common.{◌≡◌, inl, inr, refl, ◌∷◌, [], ℕ, List, Option, Some, None, Result, Ok, Err}
 use Rattle.ffs_image.specs.Device.{Device, ForContents}
-use Rattle.ffs_volume.specs.declared.SuperFault.{SuperFault}
-use Rattle.ffs_volume.specs.declared.SuperFault.TheVariants.{Magic}
-use Rattle.ffs_volume.specs.declared.End.{End}
+use Rattle.ffs_volume.specs.declared.{SuperFault.SuperFault, SuperFault.TheVariants.Magic, End.End}
 use Rattle.ffs_volume.specs.declared.End.TheVariants.{Refused, WriteFault}
-use Rattle.ffs_volume.specs.Disk.Superblock.{Superblock}
-use Rattle.ffs_volume.specs.Disk.Outcome.{outcome}
+use Rattle.ffs_volume.specs.{Disk.Superblock.Superblock, Disk.Outcome.outcome}
 use Rattle.ffs_volume.specs.Report.Opening.{head_lines, found_lines, super_lines, fault_line}
 use Rattle.std.specs.Borrow.{GName}
-use Rattle.ffs_report.specs.Sink.{Sink}
-use Rattle.ffs_report.specs.Progress.{Progress, Said, Stopped, starts}
+use Rattle.ffs_report.specs.{Sink.Sink, Progress.Progress, Progress.Said, Progress.Stopped, Progress.starts}
 use Rattle.ffs_report.proofs.Reports.{said_then, stopped_after, stopped_more}
 use Rattle.ffs_layout.specs.declared.superblock.Super.{Super}
 use Rattle.ffs_layout.specs.Super.{ReadsSuper, superblock_in}
@@ -41,7 +36,8 @@ found_of image image' sector s (inr read) = read.1
 
 module _ (image : Device) (name : List ℕ) (sector : Option ℕ) (old head : Progress) where
   -- the output failed before anything was read
-  pub at_head : Stopped old head (head_lines name sector) → SaysOpening image image old head name sector (Err WriteFault)
+  pub at_head : Stopped old head (head_lines name sector) →
+      SaysOpening image image old head name sector (Err WriteFault)
   at_head stopped = record {
     found = found_in image.contents sector;
     answers = inr (refl, found_there image.contents sector);
@@ -55,7 +51,8 @@ module _ (image : Device) (name : List ℕ) (sector : Option ℕ) (old head : Pr
 
   module _ (image' : Device) (new : Progress) (said : Said old head (head_lines name sector)) where
     module _ (super : Super) (answers : ReadsSuper image image' sector (Ok (superblock_in super))) where
-      pub accepted : Said head new (super_lines (superblock_in super)) → SaysOpening image image' old new name sector (Ok super)
+      pub accepted : Said head new (super_lines (superblock_in super)) →
+          SaysOpening image image' old new name sector (Ok super)
       accepted more = record {
         found = Ok (superblock_in super);
         answers = answers;
@@ -70,7 +67,8 @@ module _ (image : Device) (name : List ℕ) (sector : Option ℕ) (old head : Pr
         ends = inr (inl (record {
           no_read_failed = unfailed_of image image' sector (superblock_in super) answers;
           found_is = found_of image image' sector (superblock_in super) answers;
-          broke_off = stopped_after old head new (head_lines name sector) (super_lines (superblock_in super)) said stopped;
+          broke_off = stopped_after old head new (head_lines name sector) (super_lines (superblock_in super)) said
+              stopped;
           end_is = refl;
         }));
       }
@@ -89,7 +87,8 @@ module _ (image : Device) (name : List ℕ) (sector : Option ℕ) (old head : Pr
         });
       }
 
-      pub at_fault : Stopped head new (fault_line fault ∷ []) → SaysOpening image image' old new name sector (Err WriteFault)
+      pub at_fault : Stopped head new (fault_line fault ∷ []) →
+          SaysOpening image image' old new name sector (Err WriteFault)
       at_fault stopped = record {
         found = Err fault;
         answers = answers;

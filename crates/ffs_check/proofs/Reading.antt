@@ -1,32 +1,23 @@
 -- How often a check reads its image.
-use Rattle.std.proofs.Common.{◌≡◌, ◌≤◌, ◌+◌, ◌*◌, ℕ, true, List, length}
-use Rattle.std.proofs.Common.{ap, ◌∙◌, sym, refl, subst, arith, Option, Result, Ok, Err}
+use Rattle.std.proofs.Common.{◌≡◌, ◌≤◌, ◌+◌, ◌*◌, ℕ, true, List, length, ap, ◌∙◌, sym, refl, subst, arith, Option}
+use Rattle.std.proofs.Common.{Result, Ok, Err}
 use Rattle.std.proofs.lemmas.List.{length-append, length-map}
 use Rattle.ffs_image.specs.Device.{Device}
-use Rattle.ffs_volume.specs.declared.Layout.{Layout}
-use Rattle.ffs_volume.specs.declared.SuperFault.{SuperFault}
-use Rattle.ffs_volume.specs.Directories.Connectivity.{connectivity_lines}
+use Rattle.ffs_volume.specs.declared.{Layout.Layout, SuperFault.SuperFault}
+use Rattle.ffs_volume.specs.{Directories.Connectivity.connectivity_lines, Directories.ReferenceCheck.reference_lines}
+use Rattle.ffs_volume.specs.{Directories.Volumes.volume_of, Disk.Outcome.outcome, Disk.Superblock.Superblock}
+use Rattle.ffs_volume.specs.{Messages.Kinds.of_tree, Report.Memory.runs_limit}
 use Rattle.ffs_volume.specs.Directories.PathnameCheck.{continues_after_root, pathname_lines}
-use Rattle.ffs_volume.specs.Directories.ReferenceCheck.{reference_lines}
-use Rattle.ffs_volume.specs.Directories.Volumes.{volume_of}
-use Rattle.ffs_volume.specs.Disk.Outcome.{outcome}
-use Rattle.ffs_volume.specs.Disk.Superblock.{Superblock}
-use Rattle.ffs_volume.specs.Messages.Kinds.{of_tree}
-use Rattle.ffs_volume.specs.Report.Memory.{runs_limit}
 use Rattle.ffs_volume.specs.Report.Reads.{group_reads, opening_reads, pathname_reads, phase_reads, sweep_reads}
 use Rattle.ffs_volume.specs.Report.Whole.{phase_lines, report_of}
 use Rattle.ffs_layout.specs.declared.superblock.Super.{Super}
 use Rattle.ffs_layout.specs.Super.{ReadsSuper, superblock_in}
-use Rattle.ffs_report.specs.Progress.{Progress}
-use Rattle.ffs_report.specs.Known.{ForBytes, IsContents}
-use Rattle.ffs_check.specs.Headline.{opened_lines}
-use Rattle.ffs_check.specs.Opening.{SaysOpening}
+use Rattle.ffs_report.specs.{Progress.Progress, Known.ForBytes, Known.IsContents}
+use Rattle.ffs_check.specs.{Headline.opened_lines, Opening.SaysOpening}
 use Rattle.ffs_check.specs.ReadsWithin.{PhasesReadWithin, ReadsWithin}
 use Rattle.ffs_check.specs.Rest.{phase1_part, phase1b_part, phase2_part, phase3_part, phase4_part, from_phase5}
 use Rattle.ffs_check.specs.Rest.{from_phase1b, from_phase2, after_phase2, from_phase3, from_phase4}
-use Rattle.ffs_check.proofs.Headlines.{whole_there}
-use Rattle.ffs_check.proofs.Joins.{text_parts}
-use Rattle.ffs_check.proofs.Openings.{found_of, unfailed_of}
+use Rattle.ffs_check.proofs.{Headlines.whole_there, Stages.text_parts, Openings.found_of, Openings.unfailed_of}
 
 -- the messages of phase 2, and of what follows it, are among those of the phases
 pub names_among : (bytes : List ℕ) (s : Superblock) →

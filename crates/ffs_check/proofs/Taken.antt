@@ -1,21 +1,18 @@
 -- What a check takes of its memory, after an accepted superblock.
 use Rattle.std.proofs.Common.{◌≡◌, arith, inl, inr, ◌∙◌, sym, subst, ℕ, Bool, true, false, List, Option, Ok, Err}
 use Rattle.ffs_image.specs.Device.{Device, ForContents}
-use Rattle.ffs_memory.specs.Account.{Account, RefusedOneMore, unused}
-use Rattle.ffs_memory.specs.System.{account_of}
+use Rattle.ffs_memory.specs.{Account.Account, Account.RefusedOneMore, Account.unused, System.account_of}
 use Rattle.ffs_memory.specs.declared.system.SystemMemory.{SystemMemory}
 use Rattle.ffs_volume.specs.declared.End.{End}
-use Rattle.ffs_volume.specs.declared.End.TheVariants.{Consistent, Defects, Refused, RootStop, ReadFault, WriteFault, NoMemory}
-use Rattle.ffs_volume.specs.Messages.Kinds.{Message}
-use Rattle.ffs_volume.specs.Disk.Outcome.{outcome}
-use Rattle.ffs_volume.specs.Report.Whole.{end_by}
-use Rattle.ffs_volume.specs.Disk.Superblock.{Superblock}
+use Rattle.ffs_volume.specs.declared.End.TheVariants.{Consistent, Defects, Refused, RootStop, ReadFault, WriteFault}
+use Rattle.ffs_volume.specs.declared.End.TheVariants.{NoMemory}
+use Rattle.ffs_volume.specs.{Messages.Kinds.Message, Disk.Outcome.outcome, Report.Whole.end_by}
+use Rattle.ffs_volume.specs.{Disk.Superblock.Superblock}
 use Rattle.ffs_report.specs.Progress.{Progress}
 use Rattle.ffs_layout.specs.declared.superblock.Super.{Super}
 use Rattle.ffs_layout.specs.Super.{ReadsSuper, superblock_in}
 use Rattle.ffs_workspace.specs.Lengths.{held_of}
-use Rattle.ffs_check.specs.PhaseEnds.{SaysPhases}
-use Rattle.ffs_check.specs.Opening.{SaysOpening}
+use Rattle.ffs_check.specs.{PhaseEnds.SaysPhases, Opening.SaysOpening}
 use Rattle.ffs_check.specs.Taken.{AsksMemory, Takes, TakesOfSystem, TakesWorkspace}
 
 accepted_by : (image image' : Device) (sector : Option ℕ) (s : Superblock) → ReadsSuper image image' sector (Ok s) →
@@ -29,7 +26,8 @@ pub takes : (image on : Device) (name : List ℕ) (sector : Option ℕ) (start p
     TakesWorkspace image sector old new
 takes image on name sector start p found old new o a = record {
   found = superblock_in found;
-  accepted = accepted_by image on sector (superblock_in found) (subst (λ r. ReadsSuper image on sector r) o.ends.1 o.answers);
+  accepted = accepted_by image on sector (superblock_in found)
+      (subst (λ r. ReadsSuper image on sector r) o.ends.1 o.answers);
   asked = a;
   within = omega arith;
 }

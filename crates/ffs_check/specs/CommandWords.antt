@@ -1,13 +1,11 @@
 -- What the words after the program's name ask for, as `clap` reads them: `-n [-b sector] image`.
 use Rattle.std.specs.Prelude.{◌≡◌, ◌<◌, ◌^◌, ℕ, pos, true, List, [], ◌∷◌, Option, Some, None, codes, unwrap_or, ⊤}
 use Rattle.std.specs.Str.Parse.{IsNumeral, digits_value, without_leading_plus}
-use Rattle.clap.specs.Words.{App, Kinds, Rule, Text, fault_of, first_of, found_of, kind_of}
-use Rattle.clap.specs.Words.{matches_of, new_app, new_rule, one_of, rows_of, with_rule}
+use Rattle.clap.specs.Words.{App, Kinds, Rule, Text, fault_of, first_of, found_of, kind_of, matches_of, new_app}
+use Rattle.clap.specs.Words.{new_rule, one_of, rows_of, with_rule}
+use Rattle.clap.specs.declared.{builder.value_parser.ValueParser.TheVariants.Signed, error.Error.Error}
+use Rattle.clap.specs.declared.{error.kind.ErrorKind.TheVariants.OutOfMemory, parser.matches.ArgMatches.ArgMatches}
 use Rattle.clap.specs.declared.builder.ArgAction.TheVariants.{Set, Count}
-use Rattle.clap.specs.declared.builder.value_parser.ValueParser.TheVariants.{Signed}
-use Rattle.clap.specs.declared.error.Error.{Error}
-use Rattle.clap.specs.declared.error.kind.ErrorKind.TheVariants.{OutOfMemory}
-use Rattle.clap.specs.declared.parser.matches.ArgMatches.{ArgMatches}
 
 -- `-n` or `-N` (the letters 110 and 78), each as often as one likes: one of them has to be there
 abbrev pub read_only_rule : Rule

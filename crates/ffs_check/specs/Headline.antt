@@ -1,13 +1,10 @@
 -- The headline: what a check of an image prints, and how it ends.
 use Rattle.std.specs.Prelude.{◌≡◌, ◌⊎◌, ◌↔◌, ◌<◌, ℕ, Bool, true, false, List, ◌++◌, length, Option, Ok}
 use Rattle.ffs_image.specs.Device.{Device, Faulted, ForContents}
-use Rattle.ffs_volume.specs.declared.SuperFault.TheVariants.{CannotRead}
-use Rattle.ffs_volume.specs.declared.End.{End}
-use Rattle.ffs_volume.specs.declared.End.TheVariants.{Consistent, Defects, Refused, RootStop}
-use Rattle.ffs_volume.specs.declared.End.TheVariants.{ReadFault, WriteFault, NoMemory}
-use Rattle.ffs_volume.specs.Disk.Superblock.{Superblock}
-use Rattle.ffs_volume.specs.Disk.Outcome.{outcome}
-use Rattle.ffs_volume.specs.Consistent.Volume.{IsConsistent}
+use Rattle.ffs_volume.specs.declared.{SuperFault.TheVariants.CannotRead, End.End}
+use Rattle.ffs_volume.specs.declared.End.TheVariants.{Consistent, Defects, Refused, RootStop, ReadFault, WriteFault}
+use Rattle.ffs_volume.specs.declared.End.TheVariants.{NoMemory}
+use Rattle.ffs_volume.specs.{Disk.Superblock.Superblock, Disk.Outcome.outcome, Consistent.Volume.IsConsistent}
 use Rattle.ffs_volume.specs.Messages.Kinds.{Message, cannot_read, cannot_alloc, has_defect}
 use Rattle.ffs_volume.specs.Report.Opening.{head_lines, super_lines}
 use Rattle.ffs_volume.specs.Report.Whole.{report_of, report_end}

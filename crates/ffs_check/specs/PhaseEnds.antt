@@ -4,15 +4,11 @@ use Rattle.std.specs.Prelude.{◌≡◌, ◌⊎◌, ◌<◌, ℕ, Bool, false, �
 use Rattle.ffs_image.specs.Device.{Device, Faulted}
 use Rattle.ffs_volume.specs.declared.End.{End}
 use Rattle.ffs_volume.specs.declared.End.TheVariants.{ReadFault, WriteFault, NoMemory}
+use Rattle.ffs_volume.specs.{Disk.Superblock.Superblock, Directories.PathnameCheck.continues_after_root}
+use Rattle.ffs_volume.specs.{Directories.Volumes.volume_of, Report.Whole.end_by, Report.Whole.phase_lines}
 use Rattle.ffs_volume.specs.Messages.Kinds.{Message, cannot_alloc, cannot_read, has_defect}
-use Rattle.ffs_volume.specs.Disk.Superblock.{Superblock}
-use Rattle.ffs_volume.specs.Directories.PathnameCheck.{continues_after_root}
-use Rattle.ffs_volume.specs.Directories.Volumes.{volume_of}
-use Rattle.ffs_volume.specs.Report.Whole.{end_by, phase_lines}
-use Rattle.ffs_report.specs.Sink.{Sink}
+use Rattle.ffs_report.specs.{Sink.Sink, Known.ForBytes, Known.IsContents, PhaseOutcome.SaidOf, PhaseOutcome.StoppedOf}
 use Rattle.ffs_report.specs.Progress.{Progress, Said, Stopped}
-use Rattle.ffs_report.specs.Known.{ForBytes, IsContents}
-use Rattle.ffs_report.specs.PhaseOutcome.{SaidOf, StoppedOf}
 use Rattle.ffs_report.specs.declared.fault.RunFault.{RunFault}
 use Rattle.ffs_report.specs.declared.fault.RunFault.TheVariants.{Read, Out}
 use Rattle.ffs_pathnames.specs.declared.pass2.Root.{Root}

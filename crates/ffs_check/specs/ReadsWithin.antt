@@ -2,8 +2,7 @@
 use Rattle.std.specs.Prelude.{◌≡◌, ◌≤◌, ◌+◌, ℕ, List, length, Option, Ok, Err}
 use Rattle.ffs_image.specs.Device.{Device, ForContents}
 use Rattle.ffs_volume.specs.declared.SuperFault.{SuperFault}
-use Rattle.ffs_volume.specs.Disk.Outcome.{outcome}
-use Rattle.ffs_volume.specs.Disk.Superblock.{Superblock}
+use Rattle.ffs_volume.specs.{Disk.Outcome.outcome, Disk.Superblock.Superblock}
 use Rattle.ffs_volume.specs.Report.Reads.{opening_reads, phase_reads, reads_limit}
 use Rattle.ffs_volume.specs.Report.Whole.{phase_lines, report_of}
 use Rattle.ffs_workspace.specs.Places.{AreChunksNumbered}

@@ -1,3 +1,1 @@
 pub mod UnrefLines
-pub mod Leaving
-pub mod Unreached

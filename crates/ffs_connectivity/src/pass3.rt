@@ -49,7 +49,8 @@ pub fn phase3<I: Image, W: Output>(
     report: &mut Report<'_, W>,
 ) -> Result<(), RunFault>
     requires ready { IsReady geometry.now.layout (I.device image.old) workspace.old }
-    ensures prints { PhaseOutcome (WithSurvey geometry.now.layout (I.device image.old) workspace.old)
+    ensures prints { PhaseOutcome
+        (WithSurvey geometry.now.layout (I.device image.old) workspace.old)
         (λ bytes. messages.phase3 ∷ map of_tree
         (connectivity_lines (volume_of geometry.now.layout bytes)))
         (I.device image.old) (I.device image.new) (progress W.sink report.old)

@@ -34,7 +34,8 @@ pub fn check_inode<I: Image, W: Output>(
     requires ready { IsReady geometry.now.layout (I.device image.old) workspace.old }
     requires number { (2 ≤ number) × (number < inodes_of geometry.now.layout) }
     requires leaders { HasLeaders workspace.old }
-    ensures prints { PhaseOutcome (WithSurvey geometry.now.layout (I.device image.old) workspace.old)
+    ensures prints { PhaseOutcome
+        (WithSurvey geometry.now.layout (I.device image.old) workspace.old)
         (λ bytes. map of_tree (unref_dir_lines (volume_of geometry.now.layout bytes) number))
         (I.device image.old) (I.device image.new) (progress W.sink report.old)
         (progress W.sink report.new) result }

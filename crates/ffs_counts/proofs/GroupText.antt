@@ -1,67 +1,116 @@
--- The lines of phase 5, group after group.
-use Rattle.std.proofs.Common.{◌≡◌, ℕ, suc, ◌+◌, ◌<◌, ◌^◌, Bool, List, [], ◌++◌, map, refl, ap, ◌∙◌, sym, append_assoc}
-use Rattle.std.proofs.Common.{append-nil, arith, slice_index, ℤ}
+-- The lines of phase 5, group after group: of the messages that come once, only the first ones.
+use Rattle.std.proofs.Common.{◌≡◌, ℕ, suc, ◌+◌, ◌-◌, ◌<◌, ◌≤◌, ◌^◌, Bool, true, false, List, [], ◌∷◌, ◌++◌, map, refl}
+use Rattle.std.proofs.Common.{ap, ◌∙◌, sym, subst, append_assoc, append-nil, arith, ℤ, Result}
 use Rattle.std.specs.List.{range_with_len, flat_map, sum_by}
-use Rattle.ffs_volume.specs.declared.Layout.{Layout}
-use Rattle.ffs_volume.specs.declared.Class.{Class}
-use Rattle.ffs_volume.specs.declared.BlockMessage.{BlockMessage}
-use Rattle.ffs_volume.specs.declared.BlockMessage.TheVariants.{FreeCounts}
-use Rattle.ffs_volume.specs.Messages.Kinds.{Message, of_blocks}
-use Rattle.ffs_volume.specs.Directories.Volumes.{class_at}
-use Rattle.ffs_volume.specs.Blocks.Owners.{owners_of}
-use Rattle.ffs_volume.specs.Blocks.Claims.{no_claims, after_owners}
+use Rattle.std.proofs.lemmas.List.{map-append}
+use Rattle.ffs_volume.specs.declared.{Layout.Layout, Class.Class, BlockMessage.BlockMessage}
+use Rattle.ffs_volume.specs.declared.{BlockMessage.TheVariants.FreeCounts}
+use Rattle.ffs_volume.specs.{Blocks.Owners.owners_of, Directories.Volumes.class_at}
+use Rattle.ffs_volume.specs.Groups.GroupCheck.{AlreadyReported, group_lines, is_free_of_kept, is_reported}
+use Rattle.ffs_volume.specs.Groups.GroupCheck.{note_reported, phase5_lines, reported_once, unreported, unless}
 use Rattle.ffs_volume.specs.Groups.Records.{GroupCounts, right_group_counts, right_total, has_right_totals, has_totals}
-use Rattle.ffs_volume.specs.Groups.GroupCheck.{AlreadyReported, group_lines, reported_once, unreported, unless}
-use Rattle.ffs_volume.specs.Groups.GroupCheck.{phase5_lines, is_free_of_kept}
-use Rattle.ffs_groups.specs.declared.counts.SummaryCounts.{SummaryCounts}
-use Rattle.ffs_groups.specs.Check.{group_counts_of}
-use Rattle.ffs_groups.specs.Free.{free_in}
-use Rattle.ffs_groups.specs.Inodes.{class_in}
-use Rattle.ffs_groups.proofs.Sums.{sum_more}
-use Rattle.ffs_volume.specs.Encodings.Kinds.{kind_at}
-use Rattle.ffs_counts.specs.declared.totals.Totals.{Totals}
-use Rattle.ffs_counts.specs.Once.{reported_after}
-use Rattle.ffs_counts.specs.Totals.{AreTotals, AreUpTo, total_of, with_counts}
+use Rattle.ffs_volume.specs.Messages.Kinds.{Message, of_blocks}
 use Rattle.ffs_maps.specs.Bits.{bits_of}
+use Rattle.ffs_groups.specs.declared.counts.SummaryCounts.{SummaryCounts}
+use Rattle.ffs_groups.specs.{Check.group_counts_of, Free.free_in, Inodes.class_in}
+use Rattle.ffs_groups.proofs.Sums.{sum_more}
+use Rattle.ffs_report.specs.Progress.{Progress, Said, Stopped, Says}
+use Rattle.ffs_report.proofs.Reports.{says_then, stopped_after, stopped_more}
 use Rattle.ffs_workspace.specs.declared.workspace.Workspace.{Workspace}
-use Rattle.ffs_counts.proofs.Sifting.{sifted_append}
+use Rattle.ffs_workspace.specs.Holds.{HoldsClaims}
+use Rattle.ffs_counts.specs.declared.totals.Totals.{Totals}
+use Rattle.ffs_counts.specs.{Once.reported_after, Totals.AreTotals, Totals.AreUpTo, Totals.total_of, Totals.with_counts}
 use Rattle.ffs_counts.proofs.Classes.{by_kinds}
 
--- the lines of n groups from c on, and of the totals, where some were reported before
-abbrev pub rest_lines : Layout → List ℕ → List ℤ → (ℕ → Bool) → (ℕ → Class) → AlreadyReported → ℕ → ℕ → List Message
-rest_lines v image totals free class t c n =
-    map of_blocks (reported_once t
-    (flat_map (group_lines v image free class) (range_with_len c n) ++ unless (has_right_totals v free class totals)
-    FreeCounts))
+once_append : (t : AlreadyReported) (xs ys : List BlockMessage) → reported_once t (xs ++ ys) ≡ reported_once t xs
+    ++ reported_once (reported_after t xs) ys
+once_append t [] ys = refl
+once_append t (m ∷ xs) ys = go (is_reported t m) refl (once_append t xs ys) (once_append (note_reported t m) xs ys)
+  where
+    go : (b : Bool) → is_reported t m ≡ b → reported_once t (xs ++ ys) ≡ reported_once t xs
+        ++ reported_once (reported_after t xs) ys →
+        reported_once (note_reported t m) (xs ++ ys) ≡ reported_once (note_reported t m) xs
+        ++ reported_once (reported_after (note_reported t m) xs) ys →
+        reported_once t ((m ∷ xs) ++ ys) ≡ reported_once t (m ∷ xs) ++ reported_once (reported_after t (m ∷ xs)) ys
+    go true e same other = rw e same
+    go false e same other = rw e (ap (λ (zs : List BlockMessage). m ∷ zs) other)
 
-pub groups_begin : (v : Layout) (image : List ℕ) (totals : List ℤ) (free : ℕ → Bool) (class : ℕ → Class)
-    (t : AlreadyReported) (n : ℕ) → t ≡ unreported → n ≡ v.ncg →
-    map of_blocks (phase5_lines v image totals free class) ≡ rest_lines v image totals free class t 0 n
+-- ---- what is said of messages that are reported once
+abbrev sifted : AlreadyReported → List BlockMessage → List Message
+sifted t ms = map of_blocks (reported_once t ms)
+
+sifted_append : (t t' : AlreadyReported) (xs ys : List BlockMessage) → t' ≡ reported_after t xs →
+    sifted t (xs ++ ys) ≡ sifted t xs ++ sifted t' ys
+sifted_append t t' xs ys e =
+    ap (λ (ms : List BlockMessage). map of_blocks ms) (once_append t xs ys)
+    ∙ map-append of_blocks (reported_once t xs) (reported_once (reported_after t xs) ys)
+    ∙ ap (λ (u : AlreadyReported). sifted t xs ++ sifted u ys) (sym e)
+
+pub stops_within : (t : AlreadyReported) (xs ys : List BlockMessage) (a b : Progress) → Stopped a b (sifted t xs) →
+    Stopped a b (sifted t (xs ++ ys))
+stops_within t xs ys a b p = subst (Stopped a b) (sym (sifted_append t (reported_after t xs) xs ys refl))
+    (stopped_more a b (sifted t xs) (sifted (reported_after t xs) ys) p)
+
+pub stops_next : (t t' : AlreadyReported) (xs ys : List BlockMessage) (a b c : Progress) → Said a b (sifted t xs) →
+    t' ≡ reported_after t xs → Stopped b c (sifted t' ys) → Stopped a c (sifted t (xs ++ ys))
+stops_next t t' xs ys a b c p e q =
+    subst (Stopped a c) (sym (sifted_append t t' xs ys e)) (stopped_after a b c (sifted t xs) (sifted t' ys) p q)
+
+pub says_next : (T E : Type 0) (t t' : AlreadyReported) (xs ys : List BlockMessage) (a b c : Progress) (r : Result T E)
+    →
+    Said a b (sifted t xs) → t' ≡ reported_after t xs →
+    Says b c (sifted t' ys) r → Says a c (sifted t (xs ++ ys)) r
+says_next T E t t' xs ys a b c r p e q = subst (λ (ms : List Message). Says a c ms r) (sym (sifted_append t t' xs ys e))
+    (says_then a b c (sifted t xs) (sifted t' ys) r p q)
+
+-- ---- the lines of the groups
+-- which fragments are free by a workspace
+abbrev pub free_of : Layout → Workspace → ℕ → Bool
+free_of v w = free_in (bits_of w.claimed) v.size
+
+-- the lines of the groups from c on, and of the totals, where some were reported before
+abbrev pub lines_after : Layout → List ℤ → Workspace → AlreadyReported → ℕ → List ℕ → List Message
+lines_after v totals w t c image = map of_blocks (reported_once t
+    (flat_map (group_lines v image (free_of v w) (class_in w.kinds.items)) (range_with_len c (v.ncg - c))
+    ++ unless (has_right_totals v (free_of v w) (class_in w.kinds.items) totals) FreeCounts))
+
+pub groups_begin : (v : Layout) (totals : List ℤ) (w : Workspace) (image : List ℕ) (t : AlreadyReported) →
+    t ≡ unreported → HoldsClaims v image w →
+    map of_blocks (phase5_lines v image totals (is_free_of_kept v (owners_of v image)) (class_at v image))
+    ≡ lines_after v totals w t 0 image
 unfolding phase5_lines
-groups_begin v image totals free class t n e f = rw (e, f) refl
+groups_begin v totals w image t e h =
+    let n : v.ncg - 0 ≡ v.ncg = omega arith in
+    ap (λ (ms : List BlockMessage). map of_blocks ms)
+    (sym (ap (λ (u : List Bool). phase5_lines v image totals (free_in u v.size) (class_in w.kinds.items)) h.used
+    ∙ by_kinds v image totals (is_free_of_kept v (owners_of v image)) w.kinds.items h.kinds))
+    ∙ rw (e, n) refl
 
-pub groups_go_on : (v : Layout) (image : List ℕ) (totals : List ℤ) (free : ℕ → Bool) (class : ℕ → Class)
-    (t t' : AlreadyReported) (lines : List BlockMessage) (c n m : ℕ) →
-    n ≡ m + 1 → lines ≡ group_lines v image free class c → t' ≡ reported_after t lines →
-    rest_lines v image totals free class t c n ≡ map of_blocks (reported_once t lines) ++ rest_lines v image totals free
-    class t' (c + 1) m
-groups_go_on v image totals free class t t' lines c n m e is f =
-    let s : n ≡ suc m = omega (arith, e) in
-    let rest = flat_map (group_lines v image free class) (range_with_len (c + 1) m) in
-    let end = unless (has_right_totals v free class totals) FreeCounts in
-    ap (λ j. rest_lines v image totals free class t c j) s
-    ∙ ap (λ (ms : List BlockMessage). map of_blocks (reported_once t ms))
-    (append_assoc (group_lines v image free class c) rest end
-    ∙ ap (λ (ms : List BlockMessage). ms ++ (rest ++ end)) (sym is))
+-- the lines of one group, by a workspace of which only the windows have changed
+pub groups_go_on : (v : Layout) (totals : List ℤ) (w now : Workspace) (image : List ℕ) (t t' : AlreadyReported)
+    (lines : List BlockMessage) (c : ℕ) → c < v.ncg → now ≡ record w { windows = now.windows } →
+    lines ≡ group_lines v image (free_of v now) (class_in now.kinds.items) c → t' ≡ reported_after t lines →
+    lines_after v totals w t c image ≡ map of_blocks (reported_once t lines) ++ lines_after v totals w t' (c + 1) image
+groups_go_on v totals w now image t t' lines c low held is f =
+    let n : v.ncg - c ≡ suc (v.ncg - (c + 1)) = omega arith in
+    let group : ℕ → List BlockMessage = group_lines v image (free_of v w) (class_in w.kinds.items) in
+    let rest = flat_map group (range_with_len (c + 1) (v.ncg - (c + 1))) in
+    let end = unless (has_right_totals v (free_of v w) (class_in w.kinds.items) totals) FreeCounts in
+    let same : group c ≡ lines =
+    sym (is ∙ ap (λ (x : Workspace). group_lines v image (free_of v x) (class_in x.kinds.items) c) held) in
+    ap (λ j. sifted t (flat_map group (range_with_len c j) ++ end)) n
+    ∙ ap (sifted t) (append_assoc (group c) rest end ∙ ap (λ (ms : List BlockMessage). ms ++ (rest ++ end)) same)
     ∙ sifted_append t t' lines (rest ++ end) f
 
-pub groups_end : (v : Layout) (image : List ℕ) (totals : List ℤ) (free : ℕ → Bool) (class : ℕ → Class)
-    (t : AlreadyReported) (c n : ℕ) (right : Bool) → n ≡ 0 → right ≡ has_right_totals v free class totals →
-    rest_lines v image totals free class t c n ≡ map of_blocks (reported_once t (unless right FreeCounts)) ++ []
-groups_end v image totals free class t c n right e f =
-    rw (e, f) (sym (append-nil (map of_blocks
-    (reported_once t (unless (has_right_totals v free class totals) FreeCounts)))))
+pub groups_end : (v : Layout) (totals : List ℤ) (w : Workspace) (image : List ℕ) (t : AlreadyReported) (c : ℕ)
+    (right : Bool) → v.ncg ≤ c → right ≡ has_right_totals v (free_of v w) (class_in w.kinds.items) totals →
+    lines_after v totals w t c image ≡ map of_blocks (reported_once t (unless right FreeCounts)) ++ []
+groups_end v totals w image t c right low f =
+    let n : v.ncg - c ≡ 0 = omega arith in
+    rw (n, f) (sym (append-nil (map of_blocks
+    (reported_once t (unless (has_right_totals v (free_of v w) (class_in w.kinds.items) totals) FreeCounts)))))
 
+-- ---- the totals
 next_sum : (f : ℕ → ℕ) (n old new : ℕ) → old ≡ sum_by f (range_with_len 0 n) → new ≡ old + f n →
     new ≡ sum_by f (range_with_len 0 (n + 1))
 next_sum f n old new e g =
@@ -88,26 +137,7 @@ pub totals_right : (v : Layout) (free : ℕ → Bool) (class : ℕ → Class) (t
 unfolding has_right_totals right_total
 totals_right v free class totals n t a e = rw (a.dirs, a.blocks, a.inodes, a.fragments, e) refl
 
--- the check of groups, by what a workspace holds
-pub check_is : (v : Layout) (image : List ℕ) (totals : List ℤ) (used : List Bool) (kinds : List ℕ) →
-    used ≡ (after_owners v (no_claims v) (owners_of v image)).used →
-    ((x : ℕ) → slice_index kinds x ≡ kind_at v image x) →
-    map of_blocks (phase5_lines v image totals (is_free_of_kept v (owners_of v image)) (class_at v image))
-    ≡ map of_blocks (phase5_lines v image totals (free_in used v.size) (class_in kinds))
-check_is v image totals used kinds e ks =
-    ap (λ (ms : List BlockMessage). map of_blocks ms)
-    (sym (ap (λ (u : List Bool). phase5_lines v image totals (free_in u v.size) (class_in kinds)) e
-    ∙ by_kinds v image totals (is_free_of_kept v (owners_of v image)) kinds ks))
-
--- the lines of a group are those of a workspace of which only the windows have changed
-pub lines_held : (v : Layout) (image : List ℕ) (old new : Workspace) (c : ℕ) (lines : List BlockMessage) →
-    new ≡ record old { windows = new.windows } →
-    lines ≡ group_lines v image (free_in (bits_of new.claimed) v.size) (class_in new.kinds.items) c →
-    lines ≡ group_lines v image (free_in (bits_of old.claimed) v.size) (class_in old.kinds.items) c
-lines_held v image old new c lines e is =
-    is ∙ ap (λ (w : Workspace). group_lines v image (free_in (bits_of w.claimed) v.size) (class_in w.kinds.items) c) e
-
--- and so are its right counts
+-- the right counts of a group are those of a workspace of which only the windows have changed
 pub counts_held : (v : Layout) (old new : Workspace) (kinds : List ℕ) (c : ℕ) (counts : GroupCounts) →
     new ≡ record old { windows = new.windows } → kinds ≡ new.kinds.items →
     counts ≡ right_group_counts v (free_in (bits_of new.claimed) v.size) (class_in kinds) c →

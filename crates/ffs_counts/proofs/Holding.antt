@@ -1,35 +1,29 @@
--- What a workspace holds where only its windows have changed, and what is reported of an inode by
--- it.
-use Rattle.std.proofs.Common.{◌≡◌, ℕ, ℤ, zero, suc, ◌+◌, ◌-◌, ◌<◌, ◌≤◌, Bool, true, false, List, [], ◌++◌}
-use Rattle.std.proofs.Common.{length, map, refl, ap, ◌∙◌, sym, slice_index, vec_len, arith}
-use Rattle.std.specs.Prelude.{◌&&◌, ◌||◌, ◌==◌, not, if◌then◌else◌}
-use Rattle.std.specs.List.{slice_index_or}
-use Rattle.std.specs.declared.alloc.Global.{Global}
-use Rattle.std.specs.declared.vec.Vec.{Vec}
-use Rattle.std.proofs.lemmas.Bool.{and_parts, eqb-true, not-true}
-use Rattle.std.proofs.lemmas.List.{get_or_read, length-map}
-use Rattle.ffs_volume.specs.declared.Layout.{Layout}
-use Rattle.ffs_volume.specs.declared.Attr.{Attr}
+-- What a workspace holds where only its windows have changed, and the lines of an inode by it.
+use Rattle.std.proofs.Common.{◌≡◌, ℕ, ℤ, pos, negsuc, zero, suc, ◌+◌, ◌-◌, ◌<◌, ◌≤◌, ◌^◌, Bool, true, false, List, []}
+use Rattle.std.proofs.Common.{◌∷◌, ◌++◌, ◌&&◌, ◌||◌, ◌==◌, not, nat_le, nat_lt, if◌then◌else◌, inl, inr, length, map}
+use Rattle.std.proofs.Common.{refl, ap, ◌∙◌, sym, slice_index, vec_len, arith}
+use Rattle.std.specs.{List.slice_index_or, Int.w16, Int.cast_signed}
+use Rattle.std.specs.declared.{alloc.Global.Global, vec.Vec.Vec}
+use Rattle.std.proofs.lemmas.{Bool.Decides.nat_tests, Int.to_z_pos, List.get_or_read, List.length-map}
+use Rattle.std.proofs.lemmas.Bool.{and_parts, cases_lt, eq-eqb, eqb-true, not-true}
+use Rattle.ffs_volume.specs.declared.{Attr.Attr, Inode.Inode, Label.Label, Layout.Layout}
+use Rattle.ffs_volume.specs.declared.{constants.TheConstants.LINKS_MET}
 use Rattle.ffs_volume.specs.declared.Class.TheVariants.{Free, Unknown, File, Dir}
-use Rattle.ffs_volume.specs.declared.Inode.{Inode}
-use Rattle.ffs_volume.specs.Messages.Kinds.{TreeMessage, of_tree, lines_from}
-use Rattle.ffs_volume.specs.Blocks.Inodes.{inode_of, is_allocated}
+use Rattle.ffs_volume.specs.{Directories.Connectivity.is_dead, Encodings.Links.links_start, Encodings.Links.start_at}
+use Rattle.ffs_volume.specs.Blocks.Inodes.{inode_of, inode_from_bytes, is_allocated}
+use Rattle.ffs_volume.specs.Directories.PathnameCheck.{attributes, attributes_of, label_of}
+use Rattle.ffs_volume.specs.Directories.ReferenceCheck.{inode_lines, reference_lines, reference_lines_at}
 use Rattle.ffs_volume.specs.Directories.Roles.{is_allocated_inode, is_inode, is_suspect, references}
-use Rattle.ffs_volume.specs.Directories.PathnameCheck.{label_of, attributes, attributes_of}
 use Rattle.ffs_volume.specs.Directories.Volumes.{class_at, marked_at, volume_of, volume_with}
-use Rattle.ffs_volume.specs.Directories.ReferenceCheck.{inode_lines, reference_lines_at, reference_lines}
-use Rattle.ffs_volume.specs.Directories.Connectivity.{is_dead}
-use Rattle.ffs_workspace.specs.declared.workspace.Workspace.{Workspace}
-use Rattle.ffs_workspace.specs.Holds.{HoldsClaims, HoldsFindings, bool_at}
+use Rattle.ffs_volume.specs.Disk.Numbers.{equals_natural, i16_at, is_nonnegative, zero_if_negative}
 use Rattle.ffs_volume.specs.Encodings.Kinds.{kind_at, class_of_kind, is_allocated_kind, is_dir_kind, is_empty_dir_kind}
-use Rattle.ffs_workspace.specs.Lengths.{inodes_of}
+use Rattle.ffs_volume.specs.Messages.Kinds.{Message, TreeMessage, of_tree, lines_from, reported, unref, unref_zero}
+use Rattle.ffs_volume.specs.Messages.Kinds.{link_count}
+use Rattle.ffs_volume.proofs.{LinkLaws.AreMet, LinkLaws.links_met, Numbered.all_from}
+use Rattle.ffs_workspace.specs.declared.workspace.Workspace.{Workspace}
+use Rattle.ffs_workspace.specs.{Lengths.inodes_of, Holds.HoldsClaims, Holds.HoldsFindings, Holds.bool_at}
 use Rattle.ffs_workspace.proofs.KindLaws.{suspect_is, some_is}
 use Rattle.ffs_counts.specs.References.{reference_reported, is_dead_by, is_met}
-use Rattle.ffs_volume.specs.declared.constants.TheConstants.{LINKS_MET}
-use Rattle.ffs_volume.specs.declared.Label.{Label}
-use Rattle.ffs_volume.specs.Encodings.Links.{links_start, start_at}
-use Rattle.ffs_volume.proofs.LinkLaws.{AreMet, links_met}
-use Rattle.ffs_volume.proofs.Numbered.{all_from}
 use Rattle.ffs_counts.proofs.Classes.{same_test}
 
 pub held_on : (old mid new : Workspace) → mid ≡ record old { windows = mid.windows } →
@@ -74,7 +68,7 @@ start_used v b w i h used =
     ap (λ (t : Bool). if t then links_start (inode_of v b i).nlink else 0) both.1
 
 -- how often an allocated inode is referred to
-pub references_are : (v : Layout) (b : List ℕ) (w : Workspace) (i : ℕ) → i < inodes_of v → HoldsFindings v b w →
+references_are : (v : Layout) (b : List ℕ) (w : Workspace) (i : ℕ) → i < inodes_of v → HoldsFindings v b w →
     is_allocated (class_of_kind (slice_index w.kinds.items i)) ≡ true →
     slice_index w.references.items i ≡ links_start (inode_of v b i).nlink + references (volume_of v b) i
 references_are v b w i low h used = h.references.counts i low
@@ -124,6 +118,10 @@ skip_none lines (suc k) d n none =
     ap (lines_from lines d) more ∙ ap (λ (xs : List TreeMessage). xs ++ lines_from lines (suc d) (k + n)) first ∙ rest
     ∙ ap (λ (e : ℕ). lines_from lines e n) at
 
+-- the lines of inodes from one on
+abbrev pub lines_after : Layout → ℕ → List ℕ → List Message
+lines_after v n bytes = map of_tree (lines_from (reference_lines_at (volume_of v bytes)) n (inodes_of v - n))
+
 pub free_lines : (v : Layout) (b : List ℕ) (w : Workspace) (kinds : List ℕ) (d k n : ℕ) → HoldsClaims v b w →
     kinds ≡ w.kinds.items →
     ((j : ℕ) → j < k → is_allocated (class_of_kind (slice_index kinds (d + j))) ≡ false) → d + k ≤ n →
@@ -142,27 +140,13 @@ pub same_reported : (dead m m' : Bool) (k k' : ℕ) (attr : Attr) (nlink : ℤ) 
     ≡ reference_reported dead m (label_of (class_of_kind k)) attr nlink r
 same_reported dead m m' k k' attr nlink r r' e f g = rw (e, f, g) refl
 
-pub lines_begin : (v : Layout) (b : List ℕ) → map of_tree (reference_lines (volume_of v b))
-    ≡ map of_tree (lines_from (reference_lines_at (volume_of v b)) 0 (inodes_of v - 0))
+pub lines_begin : (v : Layout) (b : List ℕ) → map of_tree (reference_lines (volume_of v b)) ≡ lines_after v 0 b
 unfolding reference_lines volume_of volume_with
 lines_begin v b = ap (λ (ls : List TreeMessage). map of_tree ls)
     (all_from (reference_lines_at (volume_of v b)) (inodes_of v))
 
--- and how many they are
-pub count_begin : (v : Layout) (b : List ℕ) → length (reference_lines (volume_of v b))
-    ≡ length (lines_from (reference_lines_at (volume_of v b)) 0 (inodes_of v - 0))
-count_begin v b = sym (length-map (reference_lines (volume_of v b)) of_tree) ∙ ap length (lines_begin v b)
-    ∙ length-map (lines_from (reference_lines_at (volume_of v b)) 0 (inodes_of v - 0)) of_tree
-
-pub count_free : (v : Layout) (b : List ℕ) (w : Workspace) (kinds : List ℕ) (d k n : ℕ) → HoldsClaims v b w →
-    kinds ≡ w.kinds.items →
-    ((j : ℕ) → j < k → is_allocated (class_of_kind (slice_index kinds (d + j))) ≡ false) → d + k ≤ n →
-    length (lines_from (reference_lines_at (volume_of v b)) d (n - d))
-    ≡ length (lines_from (reference_lines_at (volume_of v b)) (d + k) (n - (d + k)))
-count_free v b w kinds d k n h e none low =
-    let lines = reference_lines_at (volume_of v b) in
-    sym (length-map (lines_from lines d (n - d)) of_tree) ∙ ap length (free_lines v b w kinds d k n h e none low)
-    ∙ length-map (lines_from lines (d + k) (n - (d + k))) of_tree
+pub same_length : (xs ys : List TreeMessage) → map of_tree xs ≡ map of_tree ys → length xs ≡ length ys
+same_length xs ys e = sym (length-map xs of_tree) ∙ ap length e ∙ length-map ys of_tree
 
 -- where each link has its reference, nothing is reported
 pub met_lines : (v : Layout) (b : List ℕ) (w : Workspace) (i : ℕ) → i < inodes_of v → HoldsFindings v b w →
@@ -186,3 +170,75 @@ met_lines v b w i low f used met =
     none_reported : (dead m : Bool) (label : Label) (attr : Attr) (nlink : ℤ) (r : ℕ) → dead ≡ false →
         AreMet nlink r → reference_reported dead m label attr nlink r ≡ []
     none_reported dead m label attr nlink r alive links = rw (alive, links.some, links.same) refl
+
+-- ---- an inode that is dead, or has other references than links
+-- a signed number of two bytes is below 2^15
+signed_small : (k n : ℕ) → cast_signed w16 k ≡ pos n → n < 2 ^ 15
+signed_small k n e = elim (cases_lt k (2 ^ 15)) [
+  | inl low ↦
+      let is : cast_signed w16 k ≡ pos k = to_z_pos w16 k low in
+      let same : n ≡ k = ap zero_if_negative (sym e ∙ is) in
+      omega (arith, same, low)
+  | inr high ↦ let no : nat_lt k (2 ^ 15) ≡ false = grind (high, arith, nat_tests) in
+      let sign : false ≡ true = ap is_nonnegative (rw no at e) in absurd (cc)
+]
+
+-- so is a count of links
+links_small : (v : Layout) (b : List ℕ) (i n : ℕ) → (inode_of v b i).nlink ≡ pos n → n < 2 ^ 15
+unfolding inode_of inode_from_bytes i16_at
+links_small v b i n e = signed_small _ n e
+
+-- there are other references than links, where their count isn't that of all links
+unequal : (links : ℤ) (r : ℕ) → ((n : ℕ) → links ≡ pos n → n < 2 ^ 15) →
+    ((links_start links + r) == LINKS_MET) ≡ false → (r == 0) ≡ false → equals_natural links r ≡ false
+unequal (negsuc n) r small unmet some = refl
+unequal (pos n) r small unmet some = go (n == r) refl
+  where
+    go : (b : Bool) → (n == r) ≡ b → (n == r) ≡ false
+    go false e = e
+    go true e =
+        let same = eqb-true n r e in
+        let high = small n refl in
+        let low : 0 < n = grind (some, same, arith, nat_tests) in
+        let a : nat_lt 0 n ≡ true = grind (low, arith, nat_tests) in
+        let c : nat_le n LINKS_MET ≡ true = grind (high, arith, nat_tests) in
+        let met : links_start (pos n) + r ≡ LINKS_MET = rw (a, c) (omega (arith, same, high)) in
+        let is : (links_start (pos n) + r == LINKS_MET) ≡ true = eq-eqb (links_start (pos n) + r) LINKS_MET met in
+        let no : true ≡ false = sym is ∙ unmet in absurd (cc)
+
+-- the one line
+one_reported : (dead m : Bool) (label : Label) (attr : Attr) (nlink : ℤ) (r : ℕ) →
+    (dead ≡ false → (r == 0) ≡ false → equals_natural nlink r ≡ false) →
+    length (reference_reported dead m label attr nlink r) ≡ 1
+one_reported true true label attr nlink r apart = refl
+one_reported true false label attr nlink r apart = refl
+one_reported false m label attr nlink r apart =
+    go (r == 0) (equals_natural nlink 0) (equals_natural nlink r) (apart refl)
+  where
+    go : (none unlinked same : Bool) → (none ≡ false → same ≡ false) →
+        length (if none then (if unlinked then unref_zero label attr ∷ [] else unref label attr ∷ [])
+        else reported (not same) (link_count label attr nlink r)) ≡ 1
+    go true true same h = refl
+    go true false same h = refl
+    go false unlinked same h = rw (h refl) refl
+
+-- an allocated inode that isn't right by the lists of a workspace has one line
+pub unmet_line : (v : Layout) (b : List ℕ) (w : Workspace) (i : ℕ) → i < inodes_of v → HoldsFindings v b w →
+    is_allocated (class_of_kind (slice_index w.kinds.items i)) ≡ true → is_met w i ≡ false →
+    length (reference_lines_at (volume_of v b) i) ≡ 1
+unmet_line v b w i low f used unmet =
+    let nlink = (inode_of v b i).nlink in
+    let r = references (volume_of v b) i in
+    let counted = references_are v b w i low f used in
+    ap length (sym (some_lines v b w i f.claims used)
+    ∙ inode_lines_are v b w i (inode_of v b i) (is_dead_by w i) r low f used refl refl (omega (arith, counted)))
+    ∙ one_reported (is_dead_by w i) (bool_at w.marked.items i) (label_of (class_of_kind (slice_index w.kinds.items i)))
+    (attributes_of i (inode_of v b i)) nlink r
+    (λ alive some. unequal nlink r (links_small v b i)
+    (ap (λ n. n == LINKS_MET) (sym counted)
+    ∙ open_test (slice_index w.references.items i == LINKS_MET) (is_dead_by w i) unmet alive) some)
+  where
+    open_test : (a d : Bool) → (a && not d) ≡ false → d ≡ false → a ≡ false
+    open_test false d e alive = refl
+    open_test true false e alive = e
+    open_test true true e alive = absurd (cc)

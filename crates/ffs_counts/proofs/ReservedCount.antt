@@ -1,20 +1,26 @@
--- How many fragments of a group are reserved.
+-- How many fragments are reserved and how many claimed, by a map that has the reserved ones.
 use Rattle.std.proofs.Common.{◌≡◌, ◌⊎◌, inl, inr, ℕ, zero, suc, ◌+◌, ◌-◌, ◌*◌, ◌<◌, ◌≤◌, Bool, true, false, cond, not}
-use Rattle.std.proofs.Common.{◌&&◌, ◌||◌, nat_lt, nat_le, List, count_by, min, arith, refl, ap, ◌∙◌, sym}
-use Rattle.std.specs.List.{range_with_len, sum_by}
-use Rattle.std.specs.Int.{div_ceil}
+use Rattle.std.proofs.Common.{◌&&◌, ◌||◌, nat_lt, nat_le, List, count_by, min, arith, refl, ap, ◌∙◌, sym, [], ◌∷◌}
+use Rattle.std.proofs.Common.{subst, length, get_or, slice_set, ◌==◌}
+use Rattle.std.specs.{List.range_with_len, List.sum_by, Int.div_ceil}
 use Rattle.std.proofs.Math.Nat.{mul_comm}
+use Rattle.std.proofs.lemmas.{List.Sums.sum_by-cons, Nat.mul-le, List.FromFn.get_or-map-range_with_len}
 use Rattle.std.proofs.lemmas.Bool.{cases_lt, true≢false, lt-ltb, le-ltb, le-leb, lt-leb, and_from, and_left, and_right}
-use Rattle.std.proofs.lemmas.List.Sums.{sum_by-cons}
-use Rattle.std.proofs.lemmas.Nat.{mul-le}
-use Rattle.ffs_volume.specs.declared.Layout.{Layout}
+use Rattle.std.proofs.lemmas.Bool.{cases_eq}
+use Rattle.std.proofs.lemmas.List.{get_or-set_other, get_or-set_same, get_or_past}
+use Rattle.ffs_volume.specs.declared.{Layout.Layout, Step.Step}
+use Rattle.ffs_volume.specs.declared.Step.TheVariants.{Run, Tail, Gap}
+use Rattle.ffs_volume.specs.{Laws.Geometry.IsAcceptedLayout, Groups.Records.group_size, Report.Whole.claimed_count}
+use Rattle.ffs_volume.specs.Blocks.Claims.{is_set, Claims, is_open, no_claims, reserved_map, after_offer, after_offers}
+use Rattle.ffs_volume.specs.Blocks.Claims.{after_run, after_step, after_steps, after_owner, after_owners}
 use Rattle.ffs_volume.specs.Disk.Areas.{cgbase, cgstart, cgsblock, cgdmin, is_group_metadata, is_reserved}
+use Rattle.ffs_volume.specs.Disk.Areas.{is_fragment_in_range, is_run_in_range}
+use Rattle.ffs_volume.specs.Blocks.Owners.{Owner, owners_of}
+use Rattle.ffs_volume.proofs.Potentials.{cond_holds}
 use Rattle.ffs_volume.proofs.AreaLaws.{is_in_metadata_of, is_metadata_of_group, group_is}
-use Rattle.ffs_volume.specs.Blocks.Claims.{is_set}
-use Rattle.ffs_volume.specs.Laws.Geometry.{IsAcceptedLayout}
-use Rattle.ffs_volume.specs.Groups.Records.{group_size}
 use Rattle.ffs_maps.proofs.Counting.{count_join_at}
 use Rattle.ffs_groups.proofs.FreeWords.{sum_const}
+use Rattle.ffs_counts.specs.Reserved.{HasReserved, used_in}
 
 -- ---- which fragments are reserved
 any_of : (a b k : Bool) → (a ≡ true) ⊎ (b ≡ true) → ((a || b) || k) ≡ true
@@ -42,7 +48,8 @@ first_reserved v f g h = elim (cases_lt f v.csaddr) [
 
 metadata_in : (v : Layout) (c f : ℕ) → IsAcceptedLayout v → cgbase v c ≤ f → f < cgbase v (c + 1) →
     is_group_metadata v f ≡ (nat_lt c v.ncg && is_in_metadata_of v c f)
-metadata_in v c f g low high = is_metadata_of_group v f g ∙ ap (λ j. nat_lt j v.ncg && is_in_metadata_of v j f) (group_is v c f low high)
+metadata_in v c f g low high =
+    is_metadata_of_group v f g ∙ ap (λ j. nat_lt j v.ncg && is_in_metadata_of v j f) (group_is v c f low high)
 
 pub base_zero : (v : Layout) → cgbase v 0 ≡ 0
 unfolding cgbase
@@ -75,12 +82,8 @@ group_reserved v c f g h low high =
     let group = g.groups c h in
     let kept : is_group_metadata v f ≡ true =
     metadata_in v c f g (omega (arith, parts_up v c, low)) (omega (arith, high, group.within_group))
-    ∙ and_from (nat_lt c v.ncg) (is_in_metadata_of v c f) (lt-ltb c v.ncg h)
-    (and_from (nat_le (cgsblock v c) f) (nat_lt f (cgdmin v c)) (le-leb (cgsblock v c) f low)
-    (lt-ltb f (cgdmin v c) high)) in
-    ap (λ k. (nat_lt f (cgdmin v 0) || (nat_le v.csaddr f && nat_lt f (v.csaddr + div_ceil v.cssize v.fsize))) || k)
-    kept
-    ∙ last_length_of (nat_lt f (cgdmin v 0)) (nat_le v.csaddr f && nat_lt f (v.csaddr + div_ceil v.cssize v.fsize))
+    ∙ and_from _ _ (lt-ltb c v.ncg h) (and_from _ _ (le-leb _ f low) (lt-ltb f _ high)) in
+    rw kept (last_length_of (nat_lt f (cgdmin v 0)) _)
 
 group_free : (v : Layout) (c f : ℕ) → IsAcceptedLayout v → 1 ≤ c → cgbase v c ≤ f → f < cgbase v (c + 1) →
     (f < cgsblock v c) ⊎ (cgdmin v c ≤ f) → is_reserved v f ≡ false
@@ -88,14 +91,11 @@ unfolding is_reserved
 group_free v c f g some low high apart =
     let past_summary : v.csaddr + div_ceil v.cssize v.fsize ≤ f =
     omega (arith, g.summary.summary_in_group, base_up v c some, low) in
-    none_of (nat_lt f (cgdmin v 0)) (nat_le v.csaddr f && nat_lt f (v.csaddr + div_ceil v.cssize v.fsize))
-    (is_group_metadata v f)
-    (le-ltb f (cgdmin v 0) (omega (arith, past_summary, g.summary.csaddr)))
-    (and_right (nat_le v.csaddr f) (nat_lt f (v.csaddr + div_ceil v.cssize v.fsize))
-    (le-ltb f (v.csaddr + div_ceil v.cssize v.fsize) past_summary))
-    (metadata_in v c f g low high ∙ and_right (nat_lt c v.ncg) (is_in_metadata_of v c f) (elim apart [
-      | inl under ↦ and_left (nat_le (cgsblock v c) f) (nat_lt f (cgdmin v c)) (lt-leb (cgsblock v c) f under)
-      | inr past ↦ and_right (nat_le (cgsblock v c) f) (nat_lt f (cgdmin v c)) (le-ltb f (cgdmin v c) past)
+    none_of _ _ (is_group_metadata v f) (le-ltb f (cgdmin v 0) (omega (arith, past_summary, g.summary.csaddr)))
+    (and_right _ _ (le-ltb f _ past_summary))
+    (metadata_in v c f g low high ∙ and_right _ _ (elim apart [
+      | inl under ↦ and_left _ (nat_lt f (cgdmin v c)) (lt-leb (cgsblock v c) f under)
+      | inr past ↦ and_right (nat_le (cgsblock v c) f) _ (le-ltb f (cgdmin v c) past)
     ]))
 
 -- ---- counts of runs
@@ -117,14 +117,11 @@ all_reserved v a n all =
 reserved_first : (v : Layout) (start end : ℕ) → IsAcceptedLayout v → start ≡ v.csaddr + div_ceil v.cssize v.fsize →
     end ≤ cgbase v (0 + 1) → start ≤ end → start ≡ count_by (is_reserved v) (range_with_len 0 (end - 0))
 reserved_first v start end g is within order =
-    let before_ : start - 0 ≡ count_by (is_reserved v) (range_with_len 0 (start - 0)) =
-    all_reserved v 0 (start - 0) (λ k h. first_reserved v (0 + k) g (omega (arith, is, h))) in
-    let rest : 0 ≡ count_by (is_reserved v) (range_with_len start (end - start)) =
-    none_reserved v start (end - start)
+    let before_ = all_reserved v 0 (start - 0) (λ k h. first_reserved v (0 + k) g (omega (arith, is, h))) in
+    let rest = none_reserved v start (end - start)
     (λ k h. first_free v (start + k) g (omega (arith, is)) (omega (arith, h, within))) in
-    let whole : start - 0 + 0 ≡ count_by (is_reserved v) (range_with_len 0 (end - 0)) =
-    count_join_at (is_reserved v) 0 start end (end - start) (start - 0) 0 (omega arith) (omega (arith, order)) before_
-    rest in
+    let whole = count_join_at (is_reserved v) 0 start end (end - start) (start - 0) 0 (omega arith)
+    (omega (arith, order)) before_ rest in
     omega (arith, whole)
 
 reserved_other : (v : Layout) (c end : ℕ) → IsAcceptedLayout v → c < v.ncg → 1 ≤ c → end ≤ cgbase v (c + 1) →
@@ -135,22 +132,17 @@ reserved_other v c end g h some within order =
     let up = parts_up v c in
     let low : cgsblock v c ≤ cgdmin v c = omega (arith, g.parts.super_fits, g.parts.block_fits, g.parts.inodes_fit) in
     let kept = cgdmin v c - cgsblock v c in
-    let under : 0 ≡ count_by (is_reserved v) (range_with_len (cgbase v c) (cgsblock v c - cgbase v c)) =
-    none_reserved v (cgbase v c) (cgsblock v c - cgbase v c)
+    let under = none_reserved v (cgbase v c) (cgsblock v c - cgbase v c)
     (λ k l. group_free v c (cgbase v c + k) g some (omega arith) (omega (arith, l, low, group.within_group))
     (inl (omega (arith, l)))) in
-    let own : kept ≡ count_by (is_reserved v) (range_with_len (cgsblock v c) kept) =
-    all_reserved v (cgsblock v c) kept
+    let own = all_reserved v (cgsblock v c) kept
     (λ k l. group_reserved v c (cgsblock v c + k) g h (omega arith) (omega (arith, l))) in
-    let past : 0 ≡ count_by (is_reserved v) (range_with_len (cgdmin v c) (end - cgdmin v c)) =
-    none_reserved v (cgdmin v c) (end - cgdmin v c)
+    let past = none_reserved v (cgdmin v c) (end - cgdmin v c)
     (λ k l. group_free v c (cgdmin v c + k) g some (omega (arith, low, up)) (omega (arith, l, within))
     (inr (omega arith))) in
-    let first : 0 + kept ≡ count_by (is_reserved v) (range_with_len (cgbase v c) (cgdmin v c - cgbase v c)) =
-    count_join_at (is_reserved v) (cgbase v c) (cgsblock v c) (cgdmin v c) kept 0 kept up (omega (arith, low)) under
-    own in
-    let whole : 0 + kept + 0 ≡ count_by (is_reserved v) (range_with_len (cgbase v c) (end - cgbase v c)) =
-    count_join_at (is_reserved v) (cgbase v c) (cgdmin v c) end (end - cgdmin v c) (0 + kept) 0
+    let first = count_join_at (is_reserved v) (cgbase v c) (cgsblock v c) (cgdmin v c) kept 0 kept up
+    (omega (arith, low)) under own in
+    let whole = count_join_at (is_reserved v) (cgbase v c) (cgdmin v c) end (end - cgdmin v c) (0 + kept) 0
     (omega (arith, up, low)) (omega (arith, order)) first past in
     omega (arith, whole)
 
@@ -245,3 +237,67 @@ set_apart v used a (suc n) all =
     one true false h = refl
     one false true h = absurd (true≢false (sym (h refl)))
     one false false h = refl
+
+-- ---- a fragment that is used stays used, so each reserved one is used after all inodes
+-- each fragment that is used is used afterwards
+abbrev Keeps : Claims → Claims → Type 0
+Keeps s t = (f : ℕ) → is_set s.used f ≡ true → is_set t.used f ≡ true
+
+set_kept : (bits : List Bool) (g f : ℕ) → is_set bits f ≡ true → is_set (slice_set bits g true) f ≡ true
+set_kept bits g f h = elim (cases_eq f g) [
+  | inl e ↦ elim (cases_lt f (length bits)) [
+    | inl low ↦ ap (λ j. get_or (slice_set bits g true) j false) e
+        ∙ get_or-set_same bits g true false (omega (arith, e, low))
+    | inr past ↦ absurd (true≢false (sym h ∙ get_or_past bits f false past))
+  ]
+  | inr apart ↦ get_or-set_other bits g f true false apart ∙ h
+]
+
+offer_keeps : (v : Layout) (s : Claims) (g : ℕ) → Keeps s (after_offer v s g)
+offer_keeps v s g =
+    cond_holds (Keeps s) (nat_lt s.dups 11) _ _
+    (λ _. cond_holds (Keeps s) (is_fragment_in_range v g) _ _
+    (λ _. cond_holds (Keeps s) (is_set s.used g) _ _ (λ _ f h. h) (λ _ f h. set_kept s.used g f h))
+    (λ _ f h. h))
+    (λ _ f h. h)
+
+offers_keep : (v : Layout) (s : Claims) (gs : List ℕ) → Keeps s (after_offers v s gs)
+offers_keep v s [] = λ f h. h
+offers_keep v s (g ∷ gs) = λ f h. offers_keep v (after_offer v s g) gs f (offer_keeps v s g f h)
+
+run_keeps : (v : Layout) (s : Claims) (start len : ℕ) → Keeps s (after_run v s start len)
+run_keeps v s start len =
+    cond_holds (Keeps s) (is_run_in_range v start len) _ _
+    (λ _ f h. offers_keep v (record s { runs = s.runs + 1 }) (range_with_len start len) f h)
+    (λ _. cond_holds (Keeps s) (s.bad == 10) _ _
+    (λ _ f h. h)
+    (λ _ f h. offers_keep v (record s { runs = s.runs + 1; bad = s.bad + 1 }) (range_with_len start len) f h))
+
+step_keeps : (v : Layout) (s : Claims) (step : Step) → Keeps s (after_step v s step)
+step_keeps v s (Run start len block) =
+    cond_holds (Keeps s) (is_open s) _ _ (λ _. run_keeps v s start len) (λ _ f h. h)
+step_keeps v s Tail = cond_holds (Keeps s) (is_open s) _ _ (λ _ f h. h) (λ _ f h. h)
+step_keeps v s Gap = λ f h. h
+
+steps_keep : (v : Layout) (s : Claims) (steps : List Step) → Keeps s (after_steps v s steps)
+steps_keep v s [] = λ f h. h
+steps_keep v s (step ∷ steps) = λ f h. steps_keep v (after_step v s step) steps f (step_keeps v s step f h)
+
+owners_keep : (v : Layout) (s : Claims) (os : List Owner) → Keeps s (after_owners v s os)
+owners_keep v s [] = λ f h. h
+owners_keep v s (o ∷ os) = λ f h. owners_keep v (after_owner v s o) os f (steps_keep v _ o.steps f h)
+
+-- so where nothing else than the claims of some inodes was added, each reserved fragment is used
+has_reserved : (v : Layout) (os : List Owner) → HasReserved v (after_owners v (no_claims v) os).used
+unfolding no_claims reserved_map
+has_reserved v os f low reserved =
+    owners_keep v (no_claims v) os f
+    (get_or-map-range_with_len (is_reserved v) 0 v.size f f false low (omega arith) ∙ reserved)
+
+-- how many fragments are claimed, by the map that a workspace holds
+pub used_are : (v : Layout) (image : List ℕ) (used : List Bool) (n : ℕ) →
+    (HasReserved v used → n ≡ used_in v used) →
+    used ≡ (after_owners v (no_claims v) (owners_of v image)).used → n ≡ claimed_count v image
+unfolding claimed_count
+used_are v image used n e same = e (subst (HasReserved v) (sym same) (has_reserved v (owners_of v image)))
+    ∙ ap (used_in v) same

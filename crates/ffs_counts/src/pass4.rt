@@ -79,7 +79,8 @@ fn check_inode<I: Image, W: Output>(
     requires number { number < inodes_of geometry.now.layout }
     requires used { is_allocated (class_of_kind (slice_index workspace.old.kinds.items number))
         ≡ true }
-    ensures prints { PhaseOutcome (WithFindings geometry.now.layout (I.device image.old) workspace.old)
+    ensures prints { PhaseOutcome
+        (WithFindings geometry.now.layout (I.device image.old) workspace.old)
         (λ bytes. map of_tree (reference_lines_at (volume_of geometry.now.layout bytes) number))
         (I.device image.old) (I.device image.new) (progress W.sink report.old)
         (progress W.sink report.new) result }
@@ -119,7 +120,8 @@ pub fn phase4<I: Image, W: Output>(
     report: &mut Report<'_, W>,
 ) -> Result<(), RunFault>
     requires ready { IsReady geometry.now.layout (I.device image.old) workspace.old }
-    ensures prints { PhaseOutcome (WithFindings geometry.now.layout (I.device image.old) workspace.old)
+    ensures prints { PhaseOutcome
+        (WithFindings geometry.now.layout (I.device image.old) workspace.old)
         (λ bytes. phase4_heading ∷ map of_tree
         (reference_lines (volume_of geometry.now.layout bytes)))
         (I.device image.old) (I.device image.new) (progress W.sink report.old)

@@ -1,23 +1,10 @@
--- How a phase continues and ends. (For each phase.) In an answer only the lists of messages are
--- written, the rest is `_`:   of_says _ REST REST' _ MESSAGES _ _ _ SAID-SO-FAR (λ bytes k. RIGHT)
--- c.in_ok-say.ensures.said of_part _ REST PART REST' _ _ _ _ SAID-SO-FAR (λ bytes k. RIGHT)
--- (said_knows _ _ _ _ _ _ MORE c.in_ok-part.ensures.text) at the exit of a `?`, with
--- `let p = err_from_is_err_and c.from_residual.result c.from_residual.ensures.1 in rw (p.1, p.2)`
--- before it:   of_reads _ _ _ _ _ SAID-SO-FAR (a read of the image)   of_stops _ REST REST' _
--- MESSAGES _ _ _ SAID-SO-FAR (λ bytes k. RIGHT) c.in_err-say.ensures.said   of_fault (Unit {0})
--- (Unit {0}) _ REST PART REST' _ _ _ _ c.in_err-part.field-0.0 SAID-SO-FAR (λ bytes k. RIGHT)
--- (reports_knowing (Unit {0}) _ _ _ _ _ (Err c.in_err-part.field-0.0) MORE
--- c.in_err-part.ensures.text) and for a last call in tail position: of_last _ _ REST PART _ _ _ _
--- c.part.result SAID-SO-FAR (λ bytes k. RIGHT) (reports_knowing _ _ _ _ _ _ c.part.result MORE
--- c.part.ensures.text) MORE gives what the part wants to know from what the whole knows, as λ bytes
--- k. ap (λ d. d.contents) IMAGE-STAYED ∙ k.0.
+-- How a phase continues and ends: for its answers, in which most arguments can be written as `_`.
 use Rattle.std.proofs.Common.{◌≡◌, refl, ◌∙◌, sym, ap, subst, ℕ, List, [], ◌++◌, append_assoc, append-nil, Result, Ok}
-use Rattle.std.proofs.Common.{Err}
+use Rattle.std.proofs.Common.{Err, arith, ◌∷◌}
 use Rattle.ffs_volume.specs.Messages.Kinds.{Message}
-use Rattle.ffs_report.specs.Progress.{Progress, Said, Stopped}
-use Rattle.ffs_report.proofs.Reports.{said_none, said_then, stopped_after, stopped_more}
-use Rattle.ffs_report.specs.Known.{ForBytes}
+use Rattle.ffs_report.specs.{Progress.Progress, Progress.Said, Progress.Stopped, Known.ForBytes}
 use Rattle.ffs_report.specs.PhaseOutcome.{SaidTo, SaidOf, SaidPrefixOf, StoppedOf, PhaseReports}
+use Rattle.ffs_report.proofs.Reports.{said_none, said_then, stopped_after, stopped_more}
 use Rattle.ffs_report.specs.declared.fault.RunFault.{RunFault}
 use Rattle.ffs_report.specs.declared.fault.RunFault.TheVariants.{Read, Out}
 
@@ -29,15 +16,14 @@ pub to_says : (rest rest' all ms : List Message) (a b c : Progress) → SaidTo r
     Said b c ms → SaidTo rest' all a c
 to_says rest rest' all ms a b c p e q = record {
   messages = p.messages ++ ms;
-  right = append_assoc p.messages ms rest' ∙ ap (λ (xs : List Message). p.messages ++ xs) (sym e) ∙ p.right;
+  right = grind (arith, append_assoc, e, p.right);
   said = said_then a b c p.messages ms p.said q;
 }
 
 pub to_stops : (rest rest' all ms : List Message) (a b c : Progress) → SaidTo rest all a b → rest ≡ ms ++ rest' →
     Stopped b c ms → Stopped a c all
 to_stops rest rest' all ms a b c p e q =
-    subst (Stopped a c) (append_assoc p.messages ms rest' ∙ ap (λ (xs : List Message). p.messages ++ xs) (sym e)
-    ∙ p.right)
+    subst (Stopped a c) (grind (arith, append_assoc, e, p.right))
     (stopped_more a c (p.messages ++ ms) rest' (stopped_after a b c p.messages ms p.said q))
 
 pub to_ends : (rest all : List Message) (a b : Progress) → SaidTo rest all a b → rest ≡ [] → Said a b all
@@ -55,8 +41,7 @@ pub of_says : (knows : List ℕ → Type 0) (rest rest' all : List ℕ → List 
     SaidOf knows rest' all a c
 of_says knows rest rest' all ms a b c p e q = record {
   messages = p.messages ++ ms;
-  right = λ bytes k. append_assoc p.messages ms (rest' bytes)
-      ∙ ap (λ (xs : List Message). p.messages ++ xs) (sym (e bytes k)) ∙ p.right bytes k;
+  right = λ bytes k. grind (arith, append_assoc, e bytes k, p.right bytes k);
   said = said_then a b c p.messages ms p.said q;
 }
 
@@ -67,8 +52,7 @@ pub of_stops : (knows : List ℕ → Type 0) (rest rest' all : List ℕ → List
 of_stops knows rest rest' all ms a b c p e q = record {
   messages = p.messages ++ ms;
   rest = rest';
-  right = λ bytes k. append_assoc p.messages ms (rest' bytes)
-      ∙ ap (λ (xs : List Message). p.messages ++ xs) (sym (e bytes k)) ∙ p.right bytes k;
+  right = λ bytes k. grind (arith, append_assoc, e bytes k, p.right bytes k);
   stopped = stopped_after a b c p.messages ms p.said q;
 }
 
@@ -76,14 +60,49 @@ pub of_reads : (knows : List ℕ → Type 0) (rest all : List ℕ → List Messa
     → SaidPrefixOf knows all a b
 of_reads knows rest all a b p = record { rest = rest; prefix = p }
 
+-- all was said at once, or nothing is to come, and the output failed among all
+pub says_all : {knows : List ℕ → Type 0} {all : List ℕ → List Message} {ms : List Message} {a b : Progress} →
+    ForBytes knows (λ bytes. all bytes ≡ ms) → Said a b ms → SaidOf knows (λ bytes. []) all a b
+says_all {knows} {all} {ms} e p =
+    record { messages = ms; right = λ bytes k. append-nil ms ∙ sym (e bytes k); said = p }
+
+pub says_none : {knows : List ℕ → Type 0} {all : List ℕ → List Message} {a : Progress} →
+    ForBytes knows (λ bytes. all bytes ≡ []) → SaidOf knows (λ bytes. []) all a a
+says_none {knows} {all} {a} e = says_all e (said_none a)
+
+pub stops_all : {knows : List ℕ → Type 0} {all : List ℕ → List Message} {ms : List Message} {a b : Progress} →
+    ForBytes knows (λ bytes. all bytes ≡ ms) → Stopped a b ms → StoppedOf knows all a b
+stops_all {knows} {all} {ms} e p = record {
+  messages = ms;
+  rest = λ bytes. [];
+  right = λ bytes k. append-nil ms ∙ sym (e bytes k);
+  stopped = p;
+}
+
+-- a read failed before anything was said
+pub reads_first : {knows : List ℕ → Type 0} {all : List ℕ → List Message} {a : Progress} → SaidPrefixOf knows all a a
+reads_first {knows} {all} {a} = of_reads knows all all a a (of_begins knows all a)
+
+-- a heading was said, and other messages are to come
+pub says_heading : {knows : List ℕ → Type 0} {lines rest : List ℕ → List Message} {m : Message} {a b : Progress} →
+    ForBytes knows (λ bytes. lines bytes ≡ rest bytes) → Said a b (m ∷ []) →
+    SaidOf knows rest (λ bytes. m ∷ lines bytes) a b
+says_heading {m = m} e p = record {
+  messages = m ∷ [];
+  right = λ bytes k. ap (λ (xs : List Message). m ∷ xs) (sym (e bytes k));
+  said = p;
+}
+
+pub stops_heading : {knows : List ℕ → Type 0} {lines : List ℕ → List Message} {m : Message} {a b : Progress} →
+    Stopped a b (m ∷ []) → StoppedOf knows (λ bytes. m ∷ lines bytes) a b
+stops_heading {lines = lines} {m = m} p =
+    record { messages = m ∷ []; rest = lines; right = λ bytes k. refl; stopped = p }
+
 -- what is to come has changed its form
 pub of_same : (knows : List ℕ → Type 0) (rest rest' all : List ℕ → List Message) (a b : Progress) →
     SaidOf knows rest all a b → ForBytes knows (λ bytes. rest bytes ≡ rest' bytes) → SaidOf knows rest' all a b
-of_same knows rest rest' all a b p e = record {
-  messages = p.messages;
-  right = λ bytes k. ap (λ (xs : List Message). p.messages ++ xs) (sym (e bytes k)) ∙ p.right bytes k;
-  said = p.said;
-}
+of_same knows rest rest' all a b p e =
+    record { messages = p.messages; right = λ bytes k. rw (e bytes k) at (p.right bytes k); said = p.said }
 
 -- a part of a phase answered Ok, or a fault
 pub of_part : (knows : List ℕ → Type 0) (rest part rest' all : List ℕ → List Message) (a b c : Progress) →
@@ -91,9 +110,7 @@ pub of_part : (knows : List ℕ → Type 0) (rest part rest' all : List ℕ → 
     SaidOf knows (λ bytes. []) part b c → SaidOf knows rest' all a c
 of_part knows rest part rest' all a b c p e q = record {
   messages = p.messages ++ q.messages;
-  right = λ bytes k. append_assoc p.messages q.messages (rest' bytes)
-      ∙ ap (λ (xs : List Message). p.messages ++ (xs ++ rest' bytes)) (sym (append-nil q.messages) ∙ q.right bytes k)
-      ∙ ap (λ (xs : List Message). p.messages ++ xs) (sym (e bytes k)) ∙ p.right bytes k;
+  right = λ bytes k. grind (arith, append_assoc, append-nil, p.right bytes k, q.right bytes k, e bytes k);
   said = said_then a b c p.messages q.messages p.said q.said;
 }
 
@@ -103,11 +120,7 @@ part_right : (knows : List ℕ → Type 0) (rest part rest' all more : List ℕ 
     ForBytes knows (λ bytes. ys ++ more bytes ≡ part bytes) →
     ForBytes knows (λ bytes. (xs ++ ys) ++ (more bytes ++ rest' bytes) ≡ all bytes)
 part_right knows rest part rest' all more xs ys p e q = λ bytes k.
-    append_assoc xs ys (more bytes ++ rest' bytes)
-    ∙ ap (λ (zs : List Message). xs ++ zs)
-    (sym (append_assoc ys (more bytes) (rest' bytes)) ∙ ap (λ (zs : List Message). zs ++ rest' bytes) (q bytes k)
-    ∙ sym (e bytes k))
-    ∙ p bytes k
+    grind (arith, append_assoc, p bytes k, q bytes k, e bytes k)
 
 pub of_fault : (T E : Type 0) (knows : List ℕ → Type 0) (rest part rest' all : List ℕ → List Message) (a b c : Progress)
     (fault : RunFault) →
@@ -139,54 +152,36 @@ of_last T knows rest part all a b c (Err fault) p e q =
     of_fault T T knows rest part (λ bytes. []) all a b c fault p (λ bytes k. e bytes k ∙ sym (append-nil (part bytes)))
     q
 
--- ---- where more is known than was wanted
-pub said_knows : (knows knows' : List ℕ → Type 0) (rest all : List ℕ → List Message) (a b : Progress) →
-    ForBytes knows' knows → SaidOf knows rest all a b → SaidOf knows' rest all a b
-said_knows knows knows' rest all a b more p = record {
-  messages = p.messages;
-  right = λ bytes k. p.right bytes (more bytes k);
-  said = p.said;
-}
+-- ---- where more is known than was wanted, and all has changed its form
+said_by : (knows knows' : List ℕ → Type 0) (rest all all' : List ℕ → List Message) (a b : Progress) →
+    ForBytes knows' knows → ForBytes knows' (λ bytes. all bytes ≡ all' bytes) → SaidOf knows rest all a b →
+    SaidOf knows' rest all' a b
+said_by knows knows' rest all all' a b more e p =
+    record { messages = p.messages; right = λ bytes k. p.right bytes (more bytes k) ∙ e bytes k; said = p.said }
 
-pub stopped_knows : (knows knows' : List ℕ → Type 0) (all : List ℕ → List Message) (a b : Progress) →
-    ForBytes knows' knows → StoppedOf knows all a b → StoppedOf knows' all a b
-stopped_knows knows knows' all a b more p = record {
+reports_by : (T : Type 0) (knows knows' : List ℕ → Type 0) (all all' : List ℕ → List Message) (a b : Progress)
+    (r : Result T RunFault) → ForBytes knows' knows → ForBytes knows' (λ bytes. all bytes ≡ all' bytes) →
+    PhaseReports knows all a b r → PhaseReports knows' all' a b r
+reports_by T knows knows' all all' a b (Ok x) more e p = said_by knows knows' (λ bytes. []) all all' a b more e p
+reports_by T knows knows' all all' a b (Err (Read fault)) more e p =
+    record { rest = p.rest; prefix = said_by knows knows' p.rest all all' a b more e p.prefix }
+reports_by T knows knows' all all' a b (Err (Out fault)) more e p = record {
   messages = p.messages;
   rest = p.rest;
-  right = λ bytes k. p.right bytes (more bytes k);
+  right = λ bytes k. p.right bytes (more bytes k) ∙ e bytes k;
   stopped = p.stopped;
 }
+
+pub said_knows : (knows knows' : List ℕ → Type 0) (rest all : List ℕ → List Message) (a b : Progress) →
+    ForBytes knows' knows → SaidOf knows rest all a b → SaidOf knows' rest all a b
+said_knows knows knows' rest all a b more p = said_by knows knows' rest all all a b more (λ bytes k. refl) p
 
 pub reports_knowing : (T : Type 0) (knows knows' : List ℕ → Type 0) (all : List ℕ → List Message) (a b : Progress)
     (r : Result T RunFault) →
     ForBytes knows' knows → PhaseReports knows all a b r → PhaseReports knows' all a b r
-reports_knowing T knows knows' all a b (Ok x) more p = said_knows knows knows' (λ bytes. []) all a b more p
-reports_knowing T knows knows' all a b (Err (Read fault)) more p = record {
-  rest = p.rest;
-  prefix = said_knows knows knows' p.rest all a b more p.prefix;
-}
-reports_knowing T knows knows' all a b (Err (Out fault)) more p = stopped_knows knows knows' all a b more p
+reports_knowing T knows knows' all a b r more p = reports_by T knows knows' all all a b r more (λ bytes k. refl) p
 
--- ---- where all has changed its form
 pub reports_same : (T : Type 0) (knows : List ℕ → Type 0) (all all' : List ℕ → List Message) (a b : Progress)
     (r : Result T RunFault) →
     ForBytes knows (λ bytes. all bytes ≡ all' bytes) → PhaseReports knows all a b r → PhaseReports knows all' a b r
-reports_same T knows all all' a b (Ok x) e p = record {
-  messages = p.messages;
-  right = λ bytes k. p.right bytes k ∙ e bytes k;
-  said = p.said;
-}
-reports_same T knows all all' a b (Err (Read fault)) e p = record {
-  rest = p.rest;
-  prefix = record {
-    messages = p.prefix.messages;
-    right = λ bytes k. p.prefix.right bytes k ∙ e bytes k;
-    said = p.prefix.said;
-  };
-}
-reports_same T knows all all' a b (Err (Out fault)) e p = record {
-  messages = p.messages;
-  rest = p.rest;
-  right = λ bytes k. p.right bytes k ∙ e bytes k;
-  stopped = p.stopped;
-}
+reports_same T knows all all' a b r e p = reports_by T knows knows all all' a b r (λ bytes k. k) e p

@@ -1,32 +1,29 @@
 -- The message of a line.
 use Rattle.ffs_volume.specs.Messages.Kinds.{Message, location, opening, bad_super, cannot_read, cannot_alloc}
-use Rattle.ffs_volume.specs.Messages.Kinds.{optimization, minfree, mounted, phase1, phase1b, phase2, phase3}
-use Rattle.ffs_volume.specs.Messages.Kinds.{phase4, phase5, of_blocks, of_tree, summary, TreeMessage}
-use Rattle.ffs_volume.specs.Messages.Kinds.{root_none, root_not_dir, root_suspect, dir_short, dir_length}
-use Rattle.ffs_volume.specs.Messages.Kinds.{dir_empty, dir_corrupt, missing_dot, missing_dot_first}
-use Rattle.ffs_volume.specs.Messages.Kinds.{number_dot, kind_dot, missing_dotdot, missing_dotdot_second}
-use Rattle.ffs_volume.specs.Messages.Kinds.{number_dotdot, kind_dotdot, extra_dot, extra_dotdot, out_of_range}
-use Rattle.ffs_volume.specs.Messages.Kinds.{whiteout, unallocated, dup_bad, zero_dir, extraneous, kind_entry}
-use Rattle.ffs_volume.specs.Messages.Kinds.{unref_dir, dead_marked, dead_zero, unref, unref_zero, link_count}
-use Rattle.ffs_report.specs.declared.line.Line.{Line}
+use Rattle.ffs_volume.specs.Messages.Kinds.{optimization, minfree, mounted, phase1, phase1b, phase2, phase3, phase4}
+use Rattle.ffs_volume.specs.Messages.Kinds.{phase5, of_blocks, of_tree, summary, TreeMessage, root_none, root_not_dir}
+use Rattle.ffs_volume.specs.Messages.Kinds.{root_suspect, dir_short, dir_length, dir_empty, dir_corrupt, missing_dot}
+use Rattle.ffs_volume.specs.Messages.Kinds.{missing_dot_first, number_dot, kind_dot, missing_dotdot}
+use Rattle.ffs_volume.specs.Messages.Kinds.{missing_dotdot_second, number_dotdot, kind_dotdot, extra_dot, extra_dotdot}
+use Rattle.ffs_volume.specs.Messages.Kinds.{out_of_range, whiteout, unallocated, dup_bad, zero_dir, extraneous}
+use Rattle.ffs_volume.specs.Messages.Kinds.{kind_entry, unref_dir, dead_marked, dead_zero, unref, unref_zero}
+use Rattle.ffs_volume.specs.Messages.Kinds.{link_count}
+use Rattle.ffs_report.specs.declared.{line.Line.Line, line.Heading.Heading as HeadingLine}
+use Rattle.ffs_report.specs.declared.{line.DirectoryLine.DirectoryLine, line.DotLine.DotLine, line.EntryLine.EntryLine}
+use Rattle.ffs_report.specs.declared.{line.ReferenceLine.ReferenceLine}
 use Rattle.ffs_report.specs.declared.line.Line.TheVariants.{Location, Opening, BadSuper, CannotRead, CannotAlloc}
-use Rattle.ffs_report.specs.declared.line.Line.TheVariants.{Optimization, Minfree, Mounted, Heading, Block}
-use Rattle.ffs_report.specs.declared.line.Line.TheVariants.{Directory, Dot, Entry, Reference, Summary}
-use Rattle.ffs_report.specs.declared.line.Heading.{Heading as HeadingLine}
+use Rattle.ffs_report.specs.declared.line.Line.TheVariants.{Optimization, Minfree, Mounted, Heading, Block, Directory}
+use Rattle.ffs_report.specs.declared.line.Line.TheVariants.{Dot, Entry, Reference, Summary}
 use Rattle.ffs_report.specs.declared.line.Heading.TheVariants.{Phase1, Phase1b, Phase2, Phase3, Phase4, Phase5}
-use Rattle.ffs_report.specs.declared.line.DirectoryLine.{DirectoryLine}
-use Rattle.ffs_report.specs.declared.line.DirectoryLine.TheVariants.{RootNone, RootNotDir, RootSuspect}
-use Rattle.ffs_report.specs.declared.line.DirectoryLine.TheVariants.{DirShort, DirLength, DirEmpty, DirCorrupt}
-use Rattle.ffs_report.specs.declared.line.DotLine.{DotLine}
+use Rattle.ffs_report.specs.declared.line.DirectoryLine.TheVariants.{RootNone, RootNotDir, RootSuspect, DirShort}
+use Rattle.ffs_report.specs.declared.line.DirectoryLine.TheVariants.{DirLength, DirEmpty, DirCorrupt}
 use Rattle.ffs_report.specs.declared.line.DotLine.TheVariants.{MissingDot, MissingDotFirst, NumberDot, KindDot}
-use Rattle.ffs_report.specs.declared.line.DotLine.TheVariants.{MissingDotdot, MissingDotdotSecond}
-use Rattle.ffs_report.specs.declared.line.DotLine.TheVariants.{NumberDotdot, KindDotdot, ExtraDot, ExtraDotdot}
-use Rattle.ffs_report.specs.declared.line.EntryLine.{EntryLine}
-use Rattle.ffs_report.specs.declared.line.EntryLine.TheVariants.{OutOfRange, Whiteout, Unallocated}
-use Rattle.ffs_report.specs.declared.line.EntryLine.TheVariants.{DupBad, ZeroDir, Extraneous, KindEntry}
-use Rattle.ffs_report.specs.declared.line.ReferenceLine.{ReferenceLine}
-use Rattle.ffs_report.specs.declared.line.ReferenceLine.TheVariants.{UnrefDir, DeadMarked, DeadZero}
-use Rattle.ffs_report.specs.declared.line.ReferenceLine.TheVariants.{Unref, UnrefZero, LinkCount}
+use Rattle.ffs_report.specs.declared.line.DotLine.TheVariants.{MissingDotdot, MissingDotdotSecond, NumberDotdot}
+use Rattle.ffs_report.specs.declared.line.DotLine.TheVariants.{KindDotdot, ExtraDot, ExtraDotdot}
+use Rattle.ffs_report.specs.declared.line.EntryLine.TheVariants.{OutOfRange, Whiteout, Unallocated, DupBad, ZeroDir}
+use Rattle.ffs_report.specs.declared.line.EntryLine.TheVariants.{Extraneous, KindEntry}
+use Rattle.ffs_report.specs.declared.line.ReferenceLine.TheVariants.{UnrefDir, DeadMarked, DeadZero, Unref, UnrefZero}
+use Rattle.ffs_report.specs.declared.line.ReferenceLine.TheVariants.{LinkCount}
 
 abbrev pub heading_message : HeadingLine → Message
 heading_message Phase1 = phase1

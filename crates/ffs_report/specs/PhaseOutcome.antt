@@ -4,10 +4,9 @@
 use Rattle.std.specs.Prelude.{◌≡◌, ℕ, List, [], ◌++◌, Result, Ok, Err}
 use Rattle.ffs_image.specs.Device.{Device, Faulted}
 use Rattle.ffs_volume.specs.Messages.Kinds.{Message}
-use Rattle.ffs_report.specs.Progress.{Progress, Said, Stopped}
+use Rattle.ffs_report.specs.{Progress.Progress, Progress.Said, Progress.Stopped, Known.ForBytes}
 use Rattle.ffs_report.specs.declared.fault.RunFault.{RunFault}
 use Rattle.ffs_report.specs.declared.fault.RunFault.TheVariants.{Read, Out}
-use Rattle.ffs_report.specs.Known.{ForBytes}
 
 -- a read's fault is given by the image, and no other answer touches the image
 abbrev pub ImageAfter : {T : Type 0} → Device → Device → Result T RunFault → Type 0

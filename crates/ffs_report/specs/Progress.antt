@@ -1,13 +1,10 @@
 -- How far a report has come.
-use Rattle.std.specs.Prelude.{◌≡◌, ◌⊎◌, ℕ, List, [], ◌∷◌, ◌++◌, Bool, true, false, ◌||◌, Result, MatchResult}
-use Rattle.std.specs.Prelude.{IsErr, OnErr}
-use Rattle.std.specs.Bool.{OnTrue}
-use Rattle.std.specs.Borrow.{GName}
-use Rattle.std.specs.Io.KnownBytes.{Appends}
+use Rattle.std.specs.{Bool.OnTrue, Borrow.GName, Io.KnownBytes.Appends}
+use Rattle.std.specs.Prelude.{◌≡◌, ◌⊎◌, ℕ, List, [], ◌∷◌, ◌++◌, Bool, true, false, ◌||◌, Result, MatchResult, IsErr}
+use Rattle.std.specs.Prelude.{OnErr}
 use Rattle.ffs_image.specs.Device.{Rose}
 use Rattle.ffs_report.specs.Sink.{Sink, Took}
-use Rattle.ffs_volume.specs.Messages.Kinds.{Message, has_defect}
-use Rattle.ffs_volume.specs.Messages.Texts.{texts_of}
+use Rattle.ffs_volume.specs.{Messages.Kinds.Message, Messages.Kinds.has_defect, Messages.Texts.texts_of}
 use Rattle.ffs_report.specs.declared.report.Report.{Report}
 
 -- the reference to its output, what that took, whether a line has failed, and whether a defect was

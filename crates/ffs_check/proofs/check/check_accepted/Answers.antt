@@ -1,10 +1,8 @@
 use Rattle.std.proofs.Common.{arith, inl, inr, false}
 use Rattle.ffs_layout.specs.Super.{superblock_in}
-use Rattle.ffs_volume.specs.Directories.PathnameCheck.{continues_after_root}
-use Rattle.ffs_volume.specs.Report.Whole.{phase_lines}
-use Rattle.ffs_volume.specs.Directories.Volumes.{volume_of}
-use Rattle.ffs_check.proofs.Endings.{ran_known}
-use Rattle.ffs_check.proofs.Taken.{not_for_memory}
+use Rattle.ffs_volume.specs.{Directories.PathnameCheck.continues_after_root, Report.Whole.phase_lines}
+use Rattle.ffs_volume.specs.{Directories.Volumes.volume_of}
+use Rattle.ffs_check.proofs.{Endings.ran_known, Taken.not_for_memory}
 use Rattle.ffs_check.proofs.check.check_accepted.Goals as goal
 
 pub run_to_end-requires : goal.run_to_end-requires

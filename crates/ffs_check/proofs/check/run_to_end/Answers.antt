@@ -1,7 +1,6 @@
 use Rattle.ffs_layout.specs.Super.{superblock_in}
-use Rattle.ffs_volume.specs.Directories.PathnameCheck.{continues_after_root}
-use Rattle.ffs_volume.specs.Report.Whole.{phase_lines}
-use Rattle.ffs_volume.specs.Directories.Volumes.{volume_of}
+use Rattle.ffs_volume.specs.{Directories.PathnameCheck.continues_after_root, Report.Whole.phase_lines}
+use Rattle.ffs_volume.specs.{Directories.Volumes.volume_of}
 use Rattle.ffs_check.proofs.Endings.{ran}
 use Rattle.ffs_check.proofs.check.run_to_end.Goals as goal
 

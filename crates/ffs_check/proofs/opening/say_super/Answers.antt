@@ -1,7 +1,6 @@
 use Rattle.std.proofs.Common.{◌∷◌, []}
 use Rattle.std.proofs.lemmas.Result.{err_from_is_err_and}
-use Rattle.ffs_volume.specs.Messages.Kinds.{mounted}
-use Rattle.ffs_volume.specs.Report.Opening.{before_nul, setting_lines}
+use Rattle.ffs_volume.specs.{Messages.Kinds.mounted, Report.Opening.before_nul, Report.Opening.setting_lines}
 use Rattle.ffs_layout.specs.Super.{superblock_in}
 use Rattle.ffs_report.proofs.Reports.{says_then, stopped_more}
 use Rattle.ffs_check.proofs.opening.say_super.Goals as goal
@@ -14,5 +13,6 @@ returns-in_err-say_settings g c =
 
 pub returns : goal.returns
 returns g c =
-    says_then _ _ _ (setting_lines (superblock_in c.args.superblock.now)) (mounted (before_nul c.args.superblock.now.mount) ∷ []) _
-    c.in_ok-say_settings.ensures (rw c.before_nul.ensures at c.say.ensures.said)
+    says_then _ _ _ (setting_lines (superblock_in c.args.superblock.now))
+    (mounted (before_nul c.args.superblock.now.mount) ∷ []) _ c.in_ok-say_settings.ensures
+    (rw c.before_nul.ensures at c.say.ensures.said)

@@ -1,5 +1,4 @@
-use Rattle.std.proofs.Common.{◌≡◌, ◌∙◌, ap, ap₂}
-use Rattle.std.specs.Prelude.{true}
+use Rattle.std.proofs.Common.{◌≡◌, ◌∙◌, ap, ap₂, true}
 use Rattle.clap.specs.Words.{App, app_of, with_rule}
 use Rattle.ffs_check.specs.CommandWords.{unnamed}
 use Rattle.ffs_check.proofs.parse_args.command.Goals as goal

@@ -1,5 +1,4 @@
-use Rattle.std.proofs.Common.{ap}
-use Rattle.std.specs.Prelude.{Some, true}
+use Rattle.std.proofs.Common.{ap, Some, true}
 use Rattle.clap.specs.Words.{Rule}
 use Rattle.clap.specs.declared.builder.ArgAction.TheVariants.{Set}
 use Rattle.ffs_check.proofs.parse_args.image_argument.Goals as goal

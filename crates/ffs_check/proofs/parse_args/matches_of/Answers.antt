@@ -1,8 +1,7 @@
-use Rattle.std.proofs.Common.{◌≡◌, ◌∙◌, ap, sym, map, true, Ok, Err, List, Result}
-use Rattle.std.specs.Prelude.{IfOk, MatchResult}
-use Rattle.clap.specs.Words.{App, FailsBy, HasMatchesOf, Text, app_of, fault_of, is_simple, is_simple_and_free, matches_of}
-use Rattle.clap.specs.declared.error.Error.{Error}
-use Rattle.clap.specs.declared.parser.matches.ArgMatches.{ArgMatches}
+use Rattle.std.proofs.Common.{◌≡◌, ◌∙◌, ap, sym, map, true, Ok, Err, List, Result, IfOk, MatchResult}
+use Rattle.clap.specs.Words.{App, FailsBy, HasMatchesOf, Text, app_of, fault_of, is_simple, is_simple_and_free}
+use Rattle.clap.specs.Words.{matches_of}
+use Rattle.clap.specs.declared.{error.Error.Error, parser.matches.ArgMatches.ArgMatches}
 use Rattle.ffs_check.proofs.MatchLaws.{free, memory_alone, simple}
 use Rattle.ffs_check.specs.CommandWords.{AreRefusedBy, HasMatches, LacksMemory, program}
 use Rattle.ffs_check.proofs.parse_args.matches_of.Goals as goal

@@ -1,8 +1,6 @@
-use Rattle.std.proofs.Common.{◌≡◌, ◌∙◌, ◌∷◌, [], ◌++◌, ap, codes}
-use Rattle.std.specs.Prelude.{Some, true}
-use Rattle.clap.specs.declared.builder.arg.Arg.{Arg}
+use Rattle.std.proofs.Common.{◌≡◌, ◌∙◌, ◌∷◌, [], ◌++◌, ap, codes, Some, true}
+use Rattle.clap.specs.declared.{builder.arg.Arg.Arg, builder.ArgAction.TheVariants.Count}
 use Rattle.clap.specs.Words.{Rule, new_rule, rule_of}
-use Rattle.clap.specs.declared.builder.ArgAction.TheVariants.{Count}
 use Rattle.ffs_check.proofs.MatchLaws.{lettered}
 use Rattle.ffs_check.proofs.parse_args.read_only_argument.Goals as goal
 

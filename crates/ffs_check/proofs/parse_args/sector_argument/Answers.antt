@@ -1,9 +1,7 @@
-use Rattle.std.proofs.Common.{◌≡◌, ◌∙◌, ap, codes, pos}
-use Rattle.std.specs.Prelude.{Some}
-use Rattle.clap.specs.declared.builder.arg.Arg.{Arg}
+use Rattle.std.proofs.Common.{◌≡◌, ◌∙◌, ap, codes, pos, Some}
+use Rattle.clap.specs.declared.{builder.arg.Arg.Arg, builder.ArgAction.TheVariants.Set}
+use Rattle.clap.specs.declared.{builder.value_parser.ValueParser.TheVariants.Signed}
 use Rattle.clap.specs.Words.{Rule, new_rule, rule_of}
-use Rattle.clap.specs.declared.builder.ArgAction.TheVariants.{Set}
-use Rattle.clap.specs.declared.builder.value_parser.ValueParser.TheVariants.{Signed}
 use Rattle.ffs_check.proofs.MatchLaws.{parsed}
 use Rattle.ffs_check.proofs.parse_args.sector_argument.Goals as goal
 

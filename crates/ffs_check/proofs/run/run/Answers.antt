@@ -7,12 +7,11 @@ use Rattle.ffs_check.specs.Run.{FlushedAfter, RunEnds, RunEndsFlushed}
 use Rattle.ffs_check.proofs.run.run.Goals as goal
 
 run_ends_flushed : {I S : Type 0} (device : I → Device) (reads : I → ℕ) (opens : List ℕ → I → Type 0)
-    (refuses : List ℕ → OpenFault → Type 0)
-    (was_flushed : S → Result (Unit {0}) Error → S → Type 0) (contents : S → Option (List ℕ)) (words : List (List ℕ))
-    (out out' : Sink) (old between new : S) (ran_status status : ℕ) →
-    RunEnds device reads opens refuses words out out' ran_status → FlushedAfter was_flushed contents between new ran_status
-    status → out.taken ≡ contents old → out.failures ≡ 0 → out'.taken ≡ contents between →
-    RunEndsFlushed device reads opens refuses was_flushed contents words old new status
+    (refuses : List ℕ → OpenFault → Type 0) (was_flushed : S → Result (Unit {0}) Error → S → Type 0)
+    (contents : S → Option (List ℕ)) (words : List (List ℕ)) (out out' : Sink) (old between new : S)
+    (ran_status status : ℕ) → RunEnds device reads opens refuses words out out' ran_status →
+    FlushedAfter was_flushed contents between new ran_status status → out.taken ≡ contents old → out.failures ≡ 0 →
+    out'.taken ≡ contents between → RunEndsFlushed device reads opens refuses was_flushed contents words old new status
 run_ends_flushed device reads opens refuses was_flushed contents words out out' old between new ran_status status ran
     flushed before unfailed after = record {
       out = out;

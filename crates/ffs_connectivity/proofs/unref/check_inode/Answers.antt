@@ -1,99 +1,78 @@
-use Rattle.std.proofs.Common.{◌∷◌, [], ap, map, refl, rules, sym, ◌∙◌, arith}
+use Rattle.std.proofs.Common.{◌≡◌, ◌∷◌, [], ap, map, refl, rules, sym, ◌∙◌, arith, true}
 use Rattle.std.proofs.lemmas.Result.{err_from_is_err_and}
 use Rattle.ffs_volume.specs.declared.Attr.{Attr}
+use Rattle.ffs_volume.specs.{Directories.Connectivity.is_unref_dir, Directories.Volumes.volume_of}
 use Rattle.ffs_volume.specs.Messages.Kinds.{of_tree, unref_dir}
-use Rattle.ffs_volume.specs.Directories.Volumes.{volume_of}
-use Rattle.ffs_report.proofs.Reporting.{of_begins, of_same, of_says, of_stops, of_reads}
+use Rattle.ffs_report.specs.Known.{ForBytes}
+use Rattle.ffs_report.proofs.Reporting.{reads_first, says_all, says_none, stops_all}
+use Rattle.ffs_workspace.specs.Found.{WithSurvey}
 use Rattle.ffs_connectivity.specs.Lines.{unref_dir_lines}
 use Rattle.ffs_connectivity.proofs.UnrefLines.{attributes_are, unref_dir_is, one_line, silent, heard}
+use Rattle.ffs_connectivity.proofs.unref.check_inode.Given as given
 use Rattle.ffs_connectivity.proofs.unref.check_inode.Goals as goal
+use Rattle.ffs_connectivity.proofs.unref.check_inode.Goals.{After-is_unref-unref, After-of}
+
+-- what the test says of the inode
+tested : (g : given.Over) (c : After-is_unref-unref g) →
+    ForBytes (WithSurvey c.args.geometry.now.layout (g.I.Image.device c.args.image.now) c.args.workspace.now)
+    (λ bytes. is_unref_dir (volume_of c.args.geometry.now.layout bytes) c.args.number ≡ c.is_unref-unref.result)
+tested g c bytes k = sym (unref_dir_is c.args.geometry.now.layout bytes c.args.workspace.now _ _ _ _ _ c.args.number _
+    c.requires.number.0 c.requires.number.1 (omega arith) c.deref.ensures.value c.deref-2.ensures.value
+    c.deref-3.ensures.value c.deref-4.ensures.value refl c.is_unref-unref.ensures k.1 k.2)
+
+-- the line of one that is read
+heard_of : (g : given.Over) (c : After-of g) →
+    ForBytes (WithSurvey c.args.geometry.now.layout (g.I.Image.device c.args.image.now) c.args.workspace.now)
+    (λ bytes. is_unref_dir (volume_of c.args.geometry.now.layout bytes) c.args.number ≡ true →
+    map of_tree (unref_dir_lines (volume_of c.args.geometry.now.layout bytes) c.args.number)
+    ≡ of_tree (unref_dir c.of.result) ∷ [])
+heard_of g c bytes k e = heard _ _ e ∙ ap (λ (a : Attr). of_tree (unref_dir a) ∷ [])
+    (attributes_are c.args.geometry.now.layout bytes c.args.number c.in_ok-inode.inode c.of.result
+    (c.in_ok-inode.ensures.reads.inode bytes k.0) c.of.ensures)
 
 pub returns-then-not-unref-clause-prints : goal.returns-then-not-unref-clause-prints
 returns-then-not-unref-clause-prints g c =
-    let v = c.args.geometry.now.layout in
-    record {
-      image = refl;
-      text = of_same _ (λ bytes. map of_tree (unref_dir_lines (volume_of v bytes) c.args.number)) (λ bytes. []) _ _ _
-          (of_begins _ (λ bytes. map of_tree (unref_dir_lines (volume_of v bytes) c.args.number)) _)
-          (λ bytes k. silent _ _ (sym
-          (unref_dir_is v bytes c.args.workspace.now _ _ _ _ _ c.args.number _ c.requires.number.0 c.requires.number.1
-          (omega arith) c.deref.ensures.value c.deref-2.ensures.value c.deref-3.ensures.value c.deref-4.ensures.value
-          refl c.is_unref-unref.ensures k.1 k.2) ∙ c.if-not-unref.true));
-    }
+    let test = tested g (goal.at.returns-then-not-unref-clause-prints g c).After-is_unref-unref in
+    record { image = refl; text = says_none (λ bytes k. silent _ _ (test bytes k ∙ c.if-not-unref.true)) }
 
 pub returns-in_err-inode-clause-prints : goal.returns-in_err-inode-clause-prints
 returns-in_err-inode-clause-prints g c =
     let p = err_from_is_err_and c.from_residual.result c.from_residual.ensures.1 in
-    rw (p.1, p.2) (record {
-      image = search rules;
-      text = of_reads _ _ _ _ _
-          (of_begins _ (λ bytes. map of_tree (unref_dir_lines (volume_of c.args.geometry.now.layout bytes)
-          c.args.number)) _);
-    })
+    rw (p.1, p.2) (record { image = search rules; text = reads_first })
 
 pub returns-in_err-say-clause-prints : goal.returns-in_err-say-clause-prints
 returns-in_err-say-clause-prints g c =
     let p = err_from_is_err_and c.from_residual-in_err-say.result c.from_residual-in_err-say.ensures.1 in
-    let v = c.args.geometry.now.layout in
+    let at = goal.at.returns-in_err-say-clause-prints g c in
     rw (p.1, p.2) (record {
       image = search rules;
-      text = of_stops _ (λ bytes. map of_tree (unref_dir_lines (volume_of v bytes) c.args.number)) (λ bytes. []) _
-          (of_tree (unref_dir c.of.result) ∷ []) _ _ _
-          (of_begins _ (λ bytes. map of_tree (unref_dir_lines (volume_of v bytes) c.args.number)) _)
-          (λ bytes k. heard _ _ (sym
-          (unref_dir_is v bytes c.args.workspace.now _ _ _ _ _ c.args.number _ c.requires.number.0 c.requires.number.1
-          (omega arith) c.deref.ensures.value c.deref-2.ensures.value c.deref-3.ensures.value c.deref-4.ensures.value
-          refl c.is_unref-unref.ensures k.1 k.2) ∙ c.if-not-unref.false)
-          ∙ ap (λ (a : Attr). of_tree (unref_dir a) ∷ [])
-          (attributes_are v bytes c.args.number c.in_ok-inode.inode c.of.result
-          (c.in_ok-inode.ensures.reads.inode bytes k.0) c.of.ensures))
-          c.in_err-say.ensures.said;
+      text = stops_all (λ bytes k. heard_of g at.After-of bytes k (tested g at.After-is_unref-unref bytes k
+          ∙ c.if-not-unref.false)) c.in_err-say.ensures.said;
     })
 
 pub returns-clause-prints : goal.returns-clause-prints
 returns-clause-prints g c =
-    let v = c.args.geometry.now.layout in
+    let at = goal.at.returns-clause-prints g c in
     record {
       image = search rules;
-      text = of_says _ (λ bytes. map of_tree (unref_dir_lines (volume_of v bytes) c.args.number)) (λ bytes. []) _
-          (of_tree (unref_dir c.of.result) ∷ []) _ _ _
-          (of_begins _ (λ bytes. map of_tree (unref_dir_lines (volume_of v bytes) c.args.number)) _)
-          (λ bytes k. heard _ _ (sym
-          (unref_dir_is v bytes c.args.workspace.now _ _ _ _ _ c.args.number _ c.requires.number.0 c.requires.number.1
-          (omega arith) c.deref.ensures.value c.deref-2.ensures.value c.deref-3.ensures.value c.deref-4.ensures.value
-          refl c.is_unref-unref.ensures k.1 k.2) ∙ c.if-not-unref.false)
-          ∙ ap (λ (a : Attr). of_tree (unref_dir a) ∷ [])
-          (attributes_are v bytes c.args.number c.in_ok-inode.inode c.of.result
-          (c.in_ok-inode.ensures.reads.inode bytes k.0) c.of.ensures))
-          c.in_ok-say.ensures.said;
+      text = says_all (λ bytes k. heard_of g at.After-of bytes k (tested g at.After-is_unref-unref bytes k
+          ∙ c.if-not-unref.false)) c.in_ok-say.ensures.said;
     }
 
 pub returns-in_err-inode-clause-reads : goal.returns-in_err-inode-clause-reads
-returns-in_err-inode-clause-reads g c =
-    λ bytes k.
-    let v = c.args.geometry.now.layout in
-    let one = one_line (volume_of v bytes) c.args.number (sym
-    (unref_dir_is v bytes c.args.workspace.now _ _ _ _ _ c.args.number _ c.requires.number.0 c.requires.number.1
-    (omega arith) c.deref.ensures.value c.deref-2.ensures.value c.deref-3.ensures.value c.deref-4.ensures.value
-    refl c.is_unref-unref.ensures k.1 k.2) ∙ c.if-not-unref.false) in
+returns-in_err-inode-clause-reads g c = λ bytes k.
+    let test = tested g (goal.at.returns-in_err-inode-clause-reads g c).After-is_unref-unref bytes k in
+    let one = one_line (volume_of c.args.geometry.now.layout bytes) c.args.number (test ∙ c.if-not-unref.false) in
     omega (arith, one, c.in_err-inode.ensures.counted)
 
 pub returns-in_err-say-clause-reads : goal.returns-in_err-say-clause-reads
-returns-in_err-say-clause-reads g c =
-    λ bytes k.
-    let v = c.args.geometry.now.layout in
-    let one = one_line (volume_of v bytes) c.args.number (sym
-    (unref_dir_is v bytes c.args.workspace.now _ _ _ _ _ c.args.number _ c.requires.number.0 c.requires.number.1
-    (omega arith) c.deref.ensures.value c.deref-2.ensures.value c.deref-3.ensures.value c.deref-4.ensures.value
-    refl c.is_unref-unref.ensures k.1 k.2) ∙ c.if-not-unref.false) in
+returns-in_err-say-clause-reads g c = λ bytes k.
+    let test = tested g (goal.at.returns-in_err-say-clause-reads g c).After-is_unref-unref bytes k in
+    let one = one_line (volume_of c.args.geometry.now.layout bytes) c.args.number (test ∙ c.if-not-unref.false) in
     omega (arith, one, c.in_ok-inode.ensures.counted)
 
 pub returns-clause-reads : goal.returns-clause-reads
-returns-clause-reads g c =
-    λ bytes k.
-    let v = c.args.geometry.now.layout in
-    let one = one_line (volume_of v bytes) c.args.number (sym
-    (unref_dir_is v bytes c.args.workspace.now _ _ _ _ _ c.args.number _ c.requires.number.0 c.requires.number.1
-    (omega arith) c.deref.ensures.value c.deref-2.ensures.value c.deref-3.ensures.value c.deref-4.ensures.value
-    refl c.is_unref-unref.ensures k.1 k.2) ∙ c.if-not-unref.false) in
+returns-clause-reads g c = λ bytes k.
+    let test = tested g (goal.at.returns-clause-reads g c).After-is_unref-unref bytes k in
+    let one = one_line (volume_of c.args.geometry.now.layout bytes) c.args.number (test ∙ c.if-not-unref.false) in
     omega (arith, one, c.in_ok-inode.ensures.counted)

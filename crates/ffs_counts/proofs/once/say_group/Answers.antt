@@ -1,11 +1,10 @@
 use Rattle.std.proofs.Common.{◌∷◌, ◌++◌, [], map}
 use Rattle.std.proofs.lemmas.Result.{err_from_is_err_and}
 use Rattle.ffs_volume.specs.declared.BlockMessage.TheVariants.{FreeCounts, GroupMagic, GroupSums, MapsWrong}
-use Rattle.ffs_volume.specs.Messages.Kinds.{of_blocks}
-use Rattle.ffs_volume.specs.Groups.GroupCheck.{unless, reported_once}
+use Rattle.ffs_volume.specs.{Messages.Kinds.of_blocks, Groups.GroupCheck.unless, Groups.GroupCheck.reported_once}
 use Rattle.ffs_report.proofs.Reports.{says_then, stopped_more}
 use Rattle.ffs_counts.specs.Once.{reported_of}
-use Rattle.ffs_counts.proofs.Sifting.{stops_within, stops_next, says_next}
+use Rattle.ffs_counts.proofs.GroupText.{stops_within, stops_next, says_next}
 use Rattle.ffs_counts.proofs.once.say_group.Goals as goal
 
 pub returns-in_err-say-clause-said : goal.returns-in_err-say-clause-said
@@ -39,16 +38,17 @@ returns-in_err-say_unless-2-clause-said g c =
     (stops_next (reported_of c.args.once.now) (reported_of c.say_unless-2.new.once) (unless f.counts_right FreeCounts)
     (unless f.maps_right MapsWrong ++ unless f.sums_right GroupSums) _ _ _
     c.in_ok-say_unless.ensures.said c.say_unless-2.ensures.reported
-    (stops_within (reported_of c.say_unless-2.new.once) (unless f.maps_right MapsWrong) (unless f.sums_right GroupSums) _ _
-    c.in_err-say_unless-2.ensures.said))
+    (stops_within (reported_of c.say_unless-2.new.once) (unless f.maps_right MapsWrong)
+    (unless f.sums_right GroupSums) _ _ c.in_err-say_unless-2.ensures.said))
 
 pub returns-clause-said : goal.returns-clause-said
 returns-clause-said g c =
     let f = c.args.found.now in
+    let second = reported_of c.say_unless-2.new.once in
     rw c.if-not-found.false
-    (says_next _ _ (reported_of c.args.once.now) (reported_of c.say_unless-2.new.once) (unless f.counts_right FreeCounts)
+    (says_next _ _ (reported_of c.args.once.now) second (unless f.counts_right FreeCounts)
     (unless f.maps_right MapsWrong ++ unless f.sums_right GroupSums) _ _ _ c.say_unless-4.result
     c.in_ok-say_unless.ensures.said c.say_unless-2.ensures.reported
-    (says_next _ _ (reported_of c.say_unless-2.new.once) (reported_of c.say_unless-3.new.once) (unless f.maps_right MapsWrong)
+    (says_next _ _ second (reported_of c.say_unless-3.new.once) (unless f.maps_right MapsWrong)
     (unless f.sums_right GroupSums) _ _ _ c.say_unless-4.result
     c.in_ok-say_unless-2.ensures.said c.say_unless-3.ensures.reported c.say_unless-4.ensures.said))

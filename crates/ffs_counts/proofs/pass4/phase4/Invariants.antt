@@ -1,13 +1,10 @@
 use Rattle.std.proofs.Common.{◌≡◌, ◌+◌, ◌-◌, ◌≤◌, ◌∷◌, length, map}
-use Rattle.ffs_report.specs.Progress.{progress}
-use Rattle.ffs_report.specs.Known.{ForBytes}
-use Rattle.ffs_report.specs.PhaseOutcome.{SaidOf}
-use Rattle.ffs_volume.specs.Directories.ReferenceCheck.{reference_lines_at, reference_lines}
-use Rattle.ffs_volume.specs.Messages.Kinds.{of_tree, phase4, lines_from}
-use Rattle.ffs_volume.specs.Directories.Volumes.{volume_of}
-use Rattle.ffs_workspace.specs.Found.{WithFindings}
-use Rattle.ffs_workspace.specs.Lengths.{inodes_of}
-use Rattle.ffs_workspace.specs.Ready.{IsReady}
+use Rattle.ffs_report.specs.{Known.ForBytes, PhaseOutcome.SaidOf, Progress.progress}
+use Rattle.ffs_volume.specs.Directories.{ReferenceCheck.reference_lines_at, ReferenceCheck.reference_lines}
+use Rattle.ffs_volume.specs.{Directories.Volumes.volume_of, Messages.Kinds.of_tree, Messages.Kinds.phase4}
+use Rattle.ffs_volume.specs.Messages.Kinds.{lines_from}
+use Rattle.ffs_workspace.specs.{Found.WithFindings, Lengths.inodes_of, Ready.IsReady}
+use Rattle.ffs_counts.proofs.Holding.{lines_after}
 use Rattle.ffs_counts.proofs.pass4.phase4.Given as goal
 
 abbrev pub invariant-loop-number : goal.invariant-loop-number
@@ -22,8 +19,7 @@ invariant-loop-number g l = record {
       (inodes_of l.geometry.layout - l.number))
       ≤ g.I.Image.reads l.fn.image + length (reference_lines (volume_of l.geometry.layout bytes)));
   said : SaidOf (WithFindings l.geometry.layout (g.I.Image.device l.fn.image) l.fn.workspace)
-      (λ bytes. map of_tree (lines_from (reference_lines_at (volume_of l.geometry.layout bytes)) l.number
-      (inodes_of l.geometry.layout - l.number)))
+      (lines_after l.geometry.layout l.number)
       (λ bytes. phase4 ∷ map of_tree (reference_lines (volume_of l.geometry.layout bytes)))
       (progress g.W.Output.sink l.fn.report) (progress g.W.Output.sink l.report);
 }

@@ -1,6 +1,5 @@
 use Rattle.std.proofs.Common.{arith, ap, ◌∙◌, ◌≡◌, ◌+◌}
-use Rattle.ffs_maps.specs.Bits.{bits_of}
-use Rattle.ffs_maps.specs.WordBits.{set_among}
+use Rattle.ffs_maps.specs.{Bits.bits_of, WordBits.set_among}
 use Rattle.ffs_counts.proofs.ReservedCount.{set_apart}
 use Rattle.ffs_counts.proofs.summing.claimed_count.Goals as goal
 

@@ -1,57 +1,44 @@
-use Rattle.std.proofs.Common.{rules, arith, refl, ap, sym, ◌∙◌, ◌∷◌, [], length, slice_index}
+use Rattle.std.proofs.Common.{◌≡◌, ◌∙◌, ◌∷◌, [], arith, ap, length, refl, rules, slice_index, sym}
 use Rattle.std.proofs.lemmas.Result.{err_from_is_err_and}
-use Rattle.ffs_volume.specs.Messages.Kinds.{Message}
-use Rattle.ffs_volume.specs.Report.Whole.{summary_of, file_count, claimed_count}
+use Rattle.ffs_volume.specs.{Messages.Kinds.Message, Report.Whole.summary_of, Report.Whole.file_count}
+use Rattle.ffs_volume.specs.Report.Whole.{claimed_count}
 use Rattle.ffs_layout.specs.Super.{superblock_in}
 use Rattle.ffs_maps.specs.Bits.{bits_of}
-use Rattle.ffs_report.specs.Lines.{message_of}
-use Rattle.ffs_report.proofs.Reporting.{of_begins, of_says, of_stops}
-use Rattle.ffs_counts.proofs.Classes.{files_are, used_are}
+use Rattle.ffs_report.specs.{Known.ForBytes, Lines.message_of}
+use Rattle.ffs_report.proofs.Reporting.{says_all, stops_all}
+use Rattle.ffs_workspace.specs.Holds.{HoldsClaims}
+use Rattle.ffs_counts.proofs.{Classes.files_are, ReservedCount.used_are}
+use Rattle.ffs_counts.proofs.summing.summary.Given as given
 use Rattle.ffs_counts.proofs.summing.summary.Goals as goal
+use Rattle.ffs_counts.proofs.summing.summary.Goals.{After-summary_line}
+
+-- the line is that of the image's counts
+line_is : (g : given.Over) (c : After-summary_line g) →
+    ForBytes (λ bytes. HoldsClaims c.args.superblock.now.geometry.layout bytes c.args.workspace.now)
+    (λ bytes. summary_of (superblock_in c.args.superblock.now)
+    (file_count c.args.superblock.now.geometry.layout bytes)
+    (claimed_count c.args.superblock.now.geometry.layout bytes) ∷ []
+    ≡ message_of c.summary_line.result ∷ [])
+line_is g c bytes k =
+    let s = superblock_in c.args.superblock.now in
+    let v = c.args.superblock.now.geometry.layout in
+    let kinds = c.deref.result.now in
+    ap (λ (m : Message). m ∷ []) (sym (c.summary_line.ensures
+    ∙ ap (λ n. summary_of s n c.claimed_count-used.result)
+    (files_are v bytes kinds c.file_count-files.result (length kinds) c.file_count-files.ensures (search (rules, arith))
+    (λ x. ap (λ ks. slice_index ks x) c.deref.ensures.value ∙ k.kinds x))
+    ∙ ap (λ n. summary_of s (file_count v bytes) n)
+    (used_are v bytes (bits_of c.args.workspace.now.claimed) c.claimed_count-used.result c.claimed_count-used.ensures
+    k.used)))
 
 pub returns-in_err-say : goal.returns-in_err-say
 returns-in_err-say g c =
     let p = err_from_is_err_and c.from_residual.result c.from_residual.ensures.1 in
-    λ device. rw (p.1, p.2) (record {
-      image = refl;
-      text = of_stops _
-          (λ bytes. summary_of (superblock_in c.args.superblock.now) (file_count c.args.superblock.now.geometry.layout bytes)
-          (claimed_count c.args.superblock.now.geometry.layout bytes) ∷ []) (λ bytes. []) _
-          (message_of c.summary_line.result ∷ []) _ _ _
-          (of_begins _ (λ bytes. summary_of (superblock_in c.args.superblock.now)
-          (file_count c.args.superblock.now.geometry.layout bytes)
-          (claimed_count c.args.superblock.now.geometry.layout bytes)
-          ∷ []) _)
-          (λ bytes k. ap (λ (m : Message). m ∷ []) (sym (c.summary_line.ensures
-          ∙ ap (λ n. summary_of (superblock_in c.args.superblock.now) n c.claimed_count-used.result)
-          (files_are c.args.superblock.now.geometry.layout bytes c.deref.result.now c.file_count-files.result
-          (length c.deref.result.now) c.file_count-files.ensures (search (rules, arith))
-          (λ x. ap (λ ks. slice_index ks x) c.deref.ensures.value ∙ k.kinds x))
-          ∙ ap (λ n. summary_of (superblock_in c.args.superblock.now) (file_count c.args.superblock.now.geometry.layout bytes) n)
-          (used_are c.args.superblock.now.geometry.layout bytes (bits_of c.args.workspace.now.claimed)
-          c.claimed_count-used.result c.claimed_count-used.ensures k.used))))
-          c.in_err-say.ensures.said;
-    })
+    let line = line_is g (goal.at.returns-in_err-say g c).After-summary_line in
+    λ device. rw (p.1, p.2) (record { image = refl; text = stops_all line c.in_err-say.ensures.said })
 
 pub returns : goal.returns
-returns g c =
-    λ device. record {
-      image = refl;
-      text = of_says _ (λ bytes. summary_of (superblock_in c.args.superblock.now)
-          (file_count c.args.superblock.now.geometry.layout bytes)
-          (claimed_count c.args.superblock.now.geometry.layout bytes) ∷ []) (λ bytes. []) _
-          (message_of c.summary_line.result ∷ []) _ _ _
-          (of_begins _ (λ bytes. summary_of (superblock_in c.args.superblock.now)
-          (file_count c.args.superblock.now.geometry.layout bytes)
-          (claimed_count c.args.superblock.now.geometry.layout bytes)
-          ∷ []) _)
-          (λ bytes k. ap (λ (m : Message). m ∷ []) (sym (c.summary_line.ensures
-          ∙ ap (λ n. summary_of (superblock_in c.args.superblock.now) n c.claimed_count-used.result)
-          (files_are c.args.superblock.now.geometry.layout bytes c.deref.result.now c.file_count-files.result
-          (length c.deref.result.now) c.file_count-files.ensures (search (rules, arith))
-          (λ x. ap (λ ks. slice_index ks x) c.deref.ensures.value ∙ k.kinds x))
-          ∙ ap (λ n. summary_of (superblock_in c.args.superblock.now) (file_count c.args.superblock.now.geometry.layout bytes) n)
-          (used_are c.args.superblock.now.geometry.layout bytes (bits_of c.args.workspace.now.claimed)
-          c.claimed_count-used.result c.claimed_count-used.ensures k.used))))
-          c.in_ok-say.ensures.said;
-    }
+returns g c = λ device. record {
+  image = refl;
+  text = says_all (line_is g (goal.at.returns g c).After-summary_line) c.in_ok-say.ensures.said;
+}

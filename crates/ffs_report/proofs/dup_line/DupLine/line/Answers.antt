@@ -1,9 +1,7 @@
-use Rattle.std.proofs.Common.{◌≡◌, ◌-◌, ◌∙◌, ◌++◌, List, ℕ, ap, subst, take, drop, length}
-use Rattle.std.specs.Prelude.{decimal}
-use Rattle.ffs_volume.specs.declared.texts.TheConstants as texts
+use Rattle.std.proofs.Common.{◌≡◌, ◌-◌, ◌∙◌, ◌++◌, List, ℕ, ap, subst, take, drop, length, decimal}
 use Rattle.ffs_volume.specs.Messages.Texts.{number_text}
-use Rattle.ffs_report.proofs.DupLines.{put_leaves}
-use Rattle.ffs_report.proofs.Sinks.{rest_at}
+use Rattle.ffs_report.proofs.{DupLines.put_leaves, Sinks.rest_at}
+use Rattle.ffs_volume.specs.declared.texts.TheConstants as texts
 use Rattle.ffs_report.proofs.dup_line.DupLine.line.Goals as goal
 use Rattle.ffs_report.proofs.dup_line.DupLine.line.Goals.{then-inode-self, else-inode-self}
 

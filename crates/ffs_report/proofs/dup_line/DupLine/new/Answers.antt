@@ -1,5 +1,4 @@
-use Rattle.std.proofs.Common.{◌∙◌, ◌++◌, List, ℕ, ap}
-use Rattle.std.specs.Prelude.{decimal}
+use Rattle.std.proofs.Common.{◌∙◌, ◌++◌, List, ℕ, ap, decimal}
 use Rattle.ffs_volume.specs.declared.texts.TheConstants as texts
 use Rattle.ffs_report.proofs.dup_line.DupLine.new.Goals as goal
 
