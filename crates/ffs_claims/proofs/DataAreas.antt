@@ -1,12 +1,9 @@
 -- Where the Runs round another Run are in range.
 use Rattle.std.proofs.Common.{◌≡◌, ℕ, ◌+◌, ◌/◌, ◌<◌, ◌≤◌, true, arith, sym, ◌∙◌}
-use Rattle.std.proofs.Math.Nat.{mul-div-le}
-use Rattle.std.proofs.lemmas.Bool.Decides.{nat_tests}
-use Rattle.ffs_volume.specs.declared.Layout.{Layout}
+use Rattle.std.proofs.{Math.Nat.mul-div-le, lemmas.Bool.Decides.nat_tests}
+use Rattle.ffs_volume.proofs.{AreaLaws.group_is, RunLaws.in_range_is, RunLaws.is_apart}
 use Rattle.ffs_volume.specs.Disk.Areas.{cgbase, cgstart, cgsblock, cgdmin, is_run_in_range}
-use Rattle.ffs_volume.specs.Laws.Geometry.{IsAcceptedLayout}
-use Rattle.ffs_volume.proofs.AreaLaws.{group_is}
-use Rattle.ffs_volume.proofs.RunLaws.{in_range_is, is_apart}
+use Rattle.ffs_volume.specs.{Laws.Geometry.IsAcceptedLayout, declared.Layout.Layout}
 
 -- a Run before the metadata of a group
 pub before_metadata : (v : Layout) (c start len : ℕ) → IsAcceptedLayout v → c < v.ncg → cgbase v c ≤ start →

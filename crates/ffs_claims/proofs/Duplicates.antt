@@ -1,41 +1,25 @@
 -- Whether there is a Dup line, and what is left to report.
-use Rattle.std.proofs.Math.ListN.{get_or-eq_default}
-use Rattle.std.proofs.lemmas.Bool.{cases_lt, eqb-true, not-false}
-use Rattle.std.proofs.lemmas.List.Sums.{sum_by-set}
 use Rattle.std.proofs.Common.{◌≡◌, ◌⊎◌, inl, inr, ℕ, zero, suc, ◌+◌, ◌<◌, ◌≤◌, Bool, true, false, not, ◌&&◌, ◌||◌, ◌==◌}
-use Rattle.std.proofs.Common.{if◌then◌else◌, nat_lt, List, [], ◌∷◌, ◌++◌, length, replicate, slice_set, length-set}
-use Rattle.std.proofs.Common.{◌≢◌, arith, refl, ap, ◌∙◌, sym}
-use Rattle.std.specs.List.{range_with_len, list_any, slice_index_or}
-use Rattle.std.proofs.lemmas.Bool.Decides.{nat_tests}
-use Rattle.std.proofs.lemmas.List.{length-replicate}
-use Rattle.std.proofs.Math.Bool.{or-false, and-false}
-use Rattle.std.proofs.lemmas.List.Folds.{list_any-append}
-use Rattle.ffs_volume.specs.declared.Layout.{Layout}
-use Rattle.ffs_volume.specs.declared.Class.{Class}
-use Rattle.ffs_volume.specs.declared.Class.TheVariants.{Free, Partial, Unknown, File, Dir}
-use Rattle.ffs_volume.specs.declared.Step.{Step}
-use Rattle.ffs_volume.specs.declared.Step.TheVariants.{Run, Tail, Gap}
-use Rattle.ffs_volume.specs.declared.BlockMessage.{BlockMessage}
-use Rattle.ffs_volume.specs.declared.BlockMessage.TheVariants.{Bad, Dup, ManyBad, ManyDup, PartTrunc}
-use Rattle.ffs_volume.specs.Disk.Areas.{is_fragment_in_range, is_run_in_range}
-use Rattle.ffs_volume.specs.Blocks.Inodes.{is_file_or_dir}
-use Rattle.ffs_volume.specs.Blocks.Owners.{Owner, owners_of}
-use Rattle.ffs_volume.specs.Blocks.Claims.{Claims, no_claims, at_next_inode, is_open, is_set, after_offer, after_offers}
-use Rattle.ffs_volume.specs.Blocks.Claims.{after_run, after_step, after_steps, after_owner, after_owners, offer_lines}
-use Rattle.ffs_volume.specs.Blocks.Claims.{lines_of_offers, run_lines, step_lines, lines_of_steps}
+use Rattle.std.proofs.Common.{if◌then◌else◌, List, [], ◌∷◌, ◌++◌, length, replicate, slice_set, length-set, ◌≢◌, arith}
+use Rattle.std.proofs.{Common.refl, Common.ap, Common.◌∙◌, Common.sym, Math.Bool.or-false, Math.Bool.and-false}
+use Rattle.std.proofs.{Math.ListN.get_or-eq_default, lemmas.Bool.cases_lt, lemmas.Bool.eqb-true}
+use Rattle.std.proofs.lemmas.{Bool.not-false, Bool.Decides.nat_tests, List.length-replicate, List.Folds.list_any-append}
+use Rattle.std.{proofs.lemmas.List.Sums.sum_by-set, specs.List.list_any, specs.List.slice_index_or}
 use Rattle.ffs_volume.proofs.Potentials.{cond_holds, in_range_below, count_set}
-use Rattle.ffs_volume.specs.Blocks.KeptOffers.{Offer}
-use Rattle.ffs_volume.specs.Blocks.BlockCheck.{class_lines, count_lines, owner_lines, lines_of_owners}
-use Rattle.ffs_volume.specs.Blocks.KeptOffers.{kept_in_owners}
-use Rattle.ffs_volume.specs.Blocks.BlockCheck.{phase1_lines, phase1b_lines, is_dup_line, has_rescan}
-use Rattle.ffs_volume.specs.Blocks.BlockCheck.{blames, first_offer_lines}
-use Rattle.ffs_volume.specs.Directories.Volumes.{is_inode_number}
-use Rattle.ffs_workspace.specs.Holds.{marked_by_phase1_at, all_claims, HoldsPhase1, HoldsClaims}
-use Rattle.ffs_workspace.specs.declared.workspace.Workspace.{Workspace}
+use Rattle.ffs_volume.specs.Blocks.BlockCheck.{class_lines, count_lines, owner_lines, lines_of_owners, phase1_lines}
+use Rattle.ffs_volume.specs.Blocks.BlockCheck.{phase1b_lines, is_dup_line, has_rescan, blames, first_offer_lines}
+use Rattle.ffs_volume.specs.Blocks.Claims.{Claims, no_claims, at_next_inode, is_open, is_set, after_owner, after_owners}
+use Rattle.ffs_volume.specs.Blocks.{Claims.lines_of_steps, Inodes.is_file_or_dir, KeptOffers.Offer}
+use Rattle.ffs_volume.specs.Blocks.{KeptOffers.kept_in_owners, Owners.Owner, Owners.owners_of}
+use Rattle.ffs_volume.specs.{Directories.Volumes.is_inode_number, declared.BlockMessage.BlockMessage}
+use Rattle.ffs_volume.specs.declared.BlockMessage.TheVariants.{Bad, ManyBad, PartTrunc}
+use Rattle.ffs_volume.specs.declared.Class.{Class, TheVariants.Free, TheVariants.Partial, TheVariants.Unknown}
+use Rattle.ffs_volume.specs.declared.{Class.TheVariants.File, Class.TheVariants.Dir, Layout.Layout}
 use Rattle.ffs_maps.specs.Bits.{bits_of}
-use Rattle.ffs_workspace.specs.Lengths.{set_count}
-use Rattle.ffs_claims.proofs.StepsContinue.{set_again}
-use Rattle.ffs_claims.proofs.Marks.{or_then, marked_total}
+use Rattle.ffs_workspace.specs.Holds.{marked_by_phase1_at, all_claims, HoldsPhase1, HoldsClaims}
+use Rattle.ffs_workspace.specs.{Lengths.set_count, declared.workspace.Workspace.Workspace}
+use Rattle.ffs_claims.proofs.LinesTold.{IsTold, steps_told}
+use Rattle.ffs_claims.proofs.{Marks.or_then, Marks.marked_total, StepsContinue.set_again}
 
 -- some bit is set
 abbrev pub any_set : List Bool → Bool
@@ -70,90 +54,26 @@ dups_then s t u xs ys p q = (
   q.1 ∙ p.1,
 )
 
-offer_dups : (v : Layout) (i : ℕ) (s : Claims) (f : ℕ) → length s.dup ≡ v.size →
-    DupsAreReported s (offer_lines v i s f) (after_offer v s f)
-offer_dups v i s f h = one (nat_lt s.dups 11) refl (is_fragment_in_range v f) refl (is_set s.used f) refl
+dups_told : (v : Layout) (i : ℕ) → IsTold v i (λ s lines t. length s.dup ≡ v.size → DupsAreReported s lines t)
+dups_told v i = record {
+  none = λ s h. (refl, refl);
+  after = λ s t u xs ys p q h. dups_then s t u xs ys (p h) (q ((p h).1 ∙ h));
+  kept = λ s h. (refl, refl);
+  claimed = λ s f h. (refl, refl);
+  dup = λ s f many ok h.
+      let low = in_range_below v f ok in (sym (set_any s.dup f (omega arith)), length-set s.dup f true);
+  seen = λ s h. (refl, refl);
+  bad = λ s start many h. (ap (λ b. b || any_set s.dup) (bad_none i start many), refl);
+  tail = λ s first h. (ap (λ b. b || any_set s.dup) (tail_none i first), refl);
+}
   where
-    from : (lines : List BlockMessage) (t : Claims) → offer_lines v i s f ≡ lines → after_offer v s f ≡ t →
-        DupsAreReported s lines t → DupsAreReported s (offer_lines v i s f) (after_offer v s f)
-    from lines t e now d = rw (e, now) d
+    bad_none : (i start : ℕ) (b : Bool) → list_any is_dup_line (Bad start i ∷ (if b then ManyBad i ∷ [] else [])) ≡ false
+    bad_none i start true = refl
+    bad_none i start false = refl
 
-    one : (a : Bool) → nat_lt s.dups 11 ≡ a → (k : Bool) → is_fragment_in_range v f ≡ k → (u : Bool) →
-        is_set s.used f ≡ u → DupsAreReported s (offer_lines v i s f) (after_offer v s f)
-    one false q k kq u uq = from [] s (rw q refl) (rw q refl) (refl, refl)
-    one true q false kq u uq = from [] (record s { kept = s.kept + 1 }) (rw (q, kq) refl) (rw (q, kq) refl) (refl, refl)
-    one true q true kq false uq = from [] (record s { kept = s.kept + 1; used = slice_set s.used f true })
-        (rw (q, kq, uq) refl) (rw (q, kq, uq) refl) (refl, refl)
-    one true q true kq true uq =
-        let low = in_range_below v f kq in
-        from (Dup f i ∷ (if s.dups == 10 then ManyDup i ∷ [] else []))
-        (record s { kept = s.kept + 1; dups = s.dups + 1; dup = slice_set s.dup f true }) (rw (q, kq, uq) refl)
-        (rw (q, kq, uq) refl)
-        (sym (set_any s.dup f (omega arith)), length-set s.dup f true)
-
-offers_dups : (v : Layout) (i : ℕ) (s : Claims) (fs : List ℕ) → length s.dup ≡ v.size →
-    DupsAreReported s (lines_of_offers v i s fs) (after_offers v s fs)
-offers_dups v i s [] h = (refl, refl)
-offers_dups v i s (f ∷ fs) h =
-    let one = offer_dups v i s f h in
-    dups_then s (after_offer v s f) (after_offers v (after_offer v s f) fs) (offer_lines v i s f)
-    (lines_of_offers v i (after_offer v s f) fs) one (offers_dups v i (after_offer v s f) fs (one.1 ∙ h))
-
-run_dups : (v : Layout) (i : ℕ) (s : Claims) (start len : ℕ) → length s.dup ≡ v.size →
-    DupsAreReported s (run_lines v i s start len) (after_run v s start len)
-run_dups v i s start len h = one (is_run_in_range v start len) refl (s.bad == 10) refl
-  where
-    from : (lines : List BlockMessage) (t : Claims) → run_lines v i s start len ≡ lines → after_run v s start len ≡ t →
-        DupsAreReported s lines t → DupsAreReported s (run_lines v i s start len) (after_run v s start len)
-    from lines t e now d = rw (e, now) d
-
-    one : (r : Bool) → is_run_in_range v start len ≡ r → (z : Bool) → (s.bad == 10) ≡ z →
-        DupsAreReported s (run_lines v i s start len) (after_run v s start len)
-    one true q z zq = from (lines_of_offers v i (record s { runs = s.runs + 1 }) (range_with_len start len))
-        (after_offers v (record s { runs = s.runs + 1 }) (range_with_len start len)) (rw q refl) (rw q refl)
-        (offers_dups v i (record s { runs = s.runs + 1 }) (range_with_len start len) h)
-    one false q true zq = from (Bad start i ∷ (ManyBad i ∷ [])) (record s { runs = s.runs + 1; bad = s.bad + 1 })
-        (rw (q, zq) refl) (rw (q, zq) refl) (refl, refl)
-    one false q false zq = from
-        (Bad start i ∷ lines_of_offers v i (record s { runs = s.runs + 1; bad = s.bad + 1 }) (range_with_len start len))
-        (after_offers v (record s { runs = s.runs + 1; bad = s.bad + 1 }) (range_with_len start len)) (rw (q, zq) refl)
-        (rw (q, zq) refl)
-        (offers_dups v i (record s { runs = s.runs + 1; bad = s.bad + 1 }) (range_with_len start len) h)
-
-step_dups : (v : Layout) (i : ℕ) (s : Claims) (step : Step) → length s.dup ≡ v.size →
-    DupsAreReported s (step_lines v i s step) (after_step v s step)
-step_dups v i s Gap h = (refl, refl)
-step_dups v i s Tail h = one (is_open s) refl
-  where
-    none : (b : Bool) → list_any is_dup_line (if b then PartTrunc i ∷ [] else []) ≡ false
-    none true = refl
-    none false = refl
-
-    one : (o : Bool) → is_open s ≡ o → DupsAreReported s (step_lines v i s Tail) (after_step v s Tail)
-    one true q = let now : after_step v s Tail ≡ record s { tail = true } = rw q refl in (
-      ap (λ (b : Bool). b || any_set s.dup) (none (is_open s && not s.tail))
-          ∙ ap (λ (t : Claims). any_set t.dup) (sym now),
-      ap (λ (t : Claims). length t.dup) now,
-    )
-    one false q = let now : after_step v s Tail ≡ s = rw q refl in (
-      ap (λ (b : Bool). b || any_set s.dup) (none (is_open s && not s.tail))
-          ∙ ap (λ (t : Claims). any_set t.dup) (sym now),
-      ap (λ (t : Claims). length t.dup) now,
-    )
-step_dups v i s (Run start len block) h = one (is_open s) refl
-  where
-    one : (o : Bool) → is_open s ≡ o →
-        DupsAreReported s (step_lines v i s (Run start len block)) (after_step v s (Run start len block))
-    one true q = rw q (run_dups v i s start len h)
-    one false q = rw q (refl, refl)
-
-steps_dups : (v : Layout) (i : ℕ) (s : Claims) (steps : List Step) → length s.dup ≡ v.size →
-    DupsAreReported s (lines_of_steps v i s steps) (after_steps v s steps)
-steps_dups v i s [] h = (refl, refl)
-steps_dups v i s (step ∷ steps) h =
-    let one = step_dups v i s step h in
-    dups_then s (after_step v s step) (after_steps v (after_step v s step) steps) (step_lines v i s step)
-    (lines_of_steps v i (after_step v s step) steps) one (steps_dups v i (after_step v s step) steps (one.1 ∙ h))
+    tail_none : (i : ℕ) (b : Bool) → list_any is_dup_line (if b then PartTrunc i ∷ [] else []) ≡ false
+    tail_none i true = refl
+    tail_none i false = refl
 
 class_none : (i : ℕ) (class : Class) → list_any is_dup_line (class_lines i class) ≡ false
 class_none i Free = refl
@@ -174,7 +94,7 @@ owner_dups v s o h =
     (ap (λ (b : Bool). b || any_set s.dup) (class_none o.number o.class), refl)
     (dups_then s (after_owner v s o) (after_owner v s o) (lines_of_steps v o.number (at_next_inode s) o.steps)
     (count_lines v o (after_owner v s o))
-    (steps_dups v o.number (at_next_inode s) o.steps h)
+    (steps_told (dups_told v o.number) (at_next_inode s) o.steps h)
     (ap (λ (b : Bool). b || any_set (after_owner v s o).dup) (count_none v o (after_owner v s o)), refl))
 
 owners_dups : (v : Layout) (s : Claims) (os : List Owner) → length s.dup ≡ v.size →

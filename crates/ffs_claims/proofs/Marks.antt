@@ -1,34 +1,22 @@
 -- Which inodes the lines of phase 1 blame, and whether a fragment has a Dup line.
 use Rattle.std.proofs.Common.{◌≡◌, ◌⊎◌, inl, inr, ℕ, zero, suc, ◌+◌, ◌-◌, ◌≤◌, Bool, true, false, not, ◌&&◌, ◌||◌, ◌==◌}
 use Rattle.std.proofs.Common.{if◌then◌else◌, nat_lt, nat_le, List, [], ◌∷◌, ◌++◌, map, slice_set, arith, refl, ap, ◌∙◌}
-use Rattle.std.proofs.Common.{sym}
+use Rattle.std.proofs.{Common.sym, Math.Bool.or-false, Math.Bool.and-false, Math.Bool.or_assoc}
+use Rattle.std.proofs.lemmas.{Bool.cases_eq, Bool.Decides.nat_tests, List.Folds.list_any-append}
 use Rattle.std.specs.List.{range_with_len, list_any}
-use Rattle.std.proofs.lemmas.Bool.{cases_eq}
-use Rattle.std.proofs.lemmas.Bool.Decides.{nat_tests}
-use Rattle.std.proofs.Math.Bool.{or-false, and-false, or_assoc}
-use Rattle.std.proofs.lemmas.List.Folds.{list_any-append}
-use Rattle.ffs_volume.specs.declared.Layout.{Layout}
-use Rattle.ffs_volume.specs.declared.Class.{Class}
-use Rattle.ffs_volume.specs.declared.Class.TheVariants.{Free, Partial, Unknown, File, Dir}
-use Rattle.ffs_volume.specs.declared.Step.{Step}
-use Rattle.ffs_volume.specs.declared.Step.TheVariants.{Run, Tail, Gap}
-use Rattle.ffs_volume.specs.declared.BlockMessage.{BlockMessage}
-use Rattle.ffs_volume.specs.declared.BlockMessage.TheVariants.{Bad, Dup, ManyBad, ManyDup, PartTrunc}
-use Rattle.ffs_volume.specs.Disk.Areas.{is_fragment_in_range, is_run_in_range}
-use Rattle.ffs_volume.specs.Blocks.Inodes.{is_file_or_dir, inode_of, class_of, is_unknown}
-use Rattle.ffs_volume.specs.Blocks.Owners.{Owner, owner_of, owners_of}
-use Rattle.ffs_volume.specs.Blocks.Claims.{Claims, at_next_inode, is_open, is_set, after_offer, after_offers, after_run}
-use Rattle.ffs_volume.specs.Blocks.Claims.{after_step, after_steps, after_owner, offer_lines, lines_of_offers}
-use Rattle.ffs_volume.specs.Blocks.Claims.{run_lines, step_lines, lines_of_steps}
+use Rattle.ffs_volume.proofs.{OwnerLaws.before_next, Potentials.cond_holds}
 use Rattle.ffs_volume.specs.Blocks.BlockCheck.{blames, class_lines, count_lines, owner_lines, lines_of_owners}
 use Rattle.ffs_volume.specs.Blocks.BlockCheck.{phase1_lines, phase1b_lines, is_marked}
-use Rattle.ffs_volume.specs.Blocks.KeptSteps.{claims_before}
+use Rattle.ffs_volume.specs.Blocks.Claims.{Claims, at_next_inode, is_open, after_owner, lines_of_steps}
+use Rattle.ffs_volume.specs.Blocks.Inodes.{is_file_or_dir, inode_of, class_of, is_unknown}
+use Rattle.ffs_volume.specs.Blocks.{KeptSteps.claims_before, Owners.Owner, Owners.owner_of, Owners.owners_of}
 use Rattle.ffs_volume.specs.Directories.Volumes.{is_inode_number, marked_at}
-use Rattle.ffs_volume.proofs.Potentials.{cond_holds}
-use Rattle.ffs_volume.proofs.OwnerLaws.{before_next}
-use Rattle.ffs_workspace.specs.Holds.{has_blame, marked_by_phase1_at}
-use Rattle.ffs_workspace.specs.Lengths.{inodes_of}
-use Rattle.ffs_claims.proofs.Numbers.{before_first}
+use Rattle.ffs_volume.specs.declared.BlockMessage.{BlockMessage}
+use Rattle.ffs_volume.specs.declared.BlockMessage.TheVariants.{Bad, Dup, ManyBad, ManyDup, PartTrunc}
+use Rattle.ffs_volume.specs.declared.Class.{Class, TheVariants.Free, TheVariants.Partial, TheVariants.Unknown}
+use Rattle.ffs_volume.specs.declared.{Class.TheVariants.File, Class.TheVariants.Dir, Layout.Layout}
+use Rattle.ffs_workspace.specs.{Holds.has_blame, Holds.marked_by_phase1_at, Lengths.inodes_of}
+use Rattle.ffs_claims.proofs.{LinesTold.IsTold, LinesTold.steps_told, Numbers.before_first}
 
 -- lines that add to what is known: what they report, with what was known, is what then is known
 pub or_then : (a b s t u : Bool) → (a || s) ≡ t → (b || t) ≡ u → ((a || b) || s) ≡ u
@@ -67,6 +55,14 @@ many_dup : (x i : ℕ) (b : Bool) → list_any (blames x) (if b then ManyDup i �
 many_dup x i true = refl
 many_dup x i false = refl
 
+many_bad : (x i : ℕ) (b : Bool) → list_any (blames x) (if b then ManyBad i ∷ [] else []) ≡ false
+many_bad x i true = refl
+many_bad x i false = refl
+
+cut_tail : (x i : ℕ) (b : Bool) → list_any (blames x) (if b then PartTrunc i ∷ [] else []) ≡ false
+cut_tail x i true = refl
+cut_tail x i false = refl
+
 more_dups : (s : Claims) → has_blame (record s { kept = s.kept + 1; dups = s.dups + 1 }) ≡ true
 more_dups s = let apart : (s.dups + 1 == 0) ≡ false = grind (arith, nat_tests) in
     of (s.bad == 0) (s.dups + 1 == 0) apart
@@ -78,97 +74,19 @@ more_dups s = let apart : (s.dups + 1 == 0) ≡ false = grind (arith, nat_tests)
 more_bad : (n d : ℕ) → not (n + 1 == 0 && d == 0) ≡ true
 more_bad n d = let apart : (n + 1 == 0) ≡ false = grind (arith, nat_tests) in ap (λ (b : Bool). not (b && d == 0)) apart
 
-offer_blames : (v : Layout) (x i : ℕ) (s : Claims) (f : ℕ) → Blames x i s (offer_lines v i s f) (after_offer v s f)
-offer_blames v x i s f = one (nat_lt s.dups 11) refl (is_fragment_in_range v f) refl (is_set s.used f) refl
-  where
-    silent : (t : Claims) → offer_lines v i s f ≡ [] → after_offer v s f ≡ t → has_blame t ≡ has_blame s →
-        Blames x i s (offer_lines v i s f) (after_offer v s f)
-    silent t e now same = ap (λ (ls : List BlockMessage). list_any (blames x) ls || blamed x i s) e
-        ∙ ap (λ (b : Bool). (i == x) && b) (sym same) ∙ ap (blamed x i) (sym now)
-
-    one : (a : Bool) → nat_lt s.dups 11 ≡ a → (k : Bool) → is_fragment_in_range v f ≡ k → (u : Bool) →
-        is_set s.used f ≡ u → Blames x i s (offer_lines v i s f) (after_offer v s f)
-    one false q k kq u uq = silent s (rw q refl) (rw q refl) refl
-    one true q false kq u uq = silent (record s { kept = s.kept + 1 }) (rw (q, kq) refl) (rw (q, kq) refl) refl
-    one true q true kq false uq = silent (record s { kept = s.kept + 1; used = slice_set s.used f true })
-        (rw (q, kq, uq) refl) (rw (q, kq, uq) refl) refl
-    one true q true kq true uq =
-        let lines : offer_lines v i s f ≡ Dup f i ∷ (if s.dups == 10 then ManyDup i ∷ [] else []) =
-        rw (q, kq, uq) refl in
-        let now : after_offer v s f ≡ record s { kept = s.kept + 1; dups = s.dups + 1; dup = slice_set s.dup f true } =
-        rw (q, kq, uq) refl in
-        ap (λ (ls : List BlockMessage). list_any (blames x) ls || blamed x i s) lines
-        ∙ reported_blame x i s (record s { kept = s.kept + 1; dups = s.dups + 1; dup = slice_set s.dup f true })
-        (if s.dups == 10 then ManyDup i ∷ [] else []) (Dup f i) refl (many_dup x i (s.dups == 10)) (more_dups s)
-        ∙ ap (blamed x i) (sym now)
-
-offers_blame : (v : Layout) (x i : ℕ) (s : Claims) (fs : List ℕ) →
-    Blames x i s (lines_of_offers v i s fs) (after_offers v s fs)
-offers_blame v x i s [] = refl
-offers_blame v x i s (f ∷ fs) =
-    blames_then x i s (after_offer v s f) (after_offers v (after_offer v s f) fs) (offer_lines v i s f)
-    (lines_of_offers v i (after_offer v s f) fs)
-    (offer_blames v x i s f) (offers_blame v x i (after_offer v s f) fs)
-
-run_blames : (v : Layout) (x i : ℕ) (s : Claims) (start len : ℕ) →
-    Blames x i s (run_lines v i s start len) (after_run v s start len)
-run_blames v x i s start len = one (is_run_in_range v start len) refl (s.bad == 10) refl
-  where
-    from : (lines : List BlockMessage) (t : Claims) → run_lines v i s start len ≡ lines → after_run v s start len ≡ t →
-        Blames x i s lines t → Blames x i s (run_lines v i s start len) (after_run v s start len)
-    from lines t e now b = ap (λ (ls : List BlockMessage). list_any (blames x) ls || blamed x i s) e ∙ b
-        ∙ ap (blamed x i) (sym now)
-
-    one : (r : Bool) → is_run_in_range v start len ≡ r → (z : Bool) → (s.bad == 10) ≡ z →
-        Blames x i s (run_lines v i s start len) (after_run v s start len)
-    one true q z zq = from (lines_of_offers v i (record s { runs = s.runs + 1 }) (range_with_len start len))
-        (after_offers v (record s { runs = s.runs + 1 }) (range_with_len start len)) (rw q refl) (rw q refl)
-        (offers_blame v x i (record s { runs = s.runs + 1 }) (range_with_len start len))
-    one false q true zq = from (Bad start i ∷ (ManyBad i ∷ [])) (record s { runs = s.runs + 1; bad = s.bad + 1 })
-        (rw (q, zq) refl) (rw (q, zq) refl)
-        (reported_blame x i s (record s { runs = s.runs + 1; bad = s.bad + 1 }) (ManyBad i ∷ []) (Bad start i) refl refl
-        (more_bad s.bad s.dups))
-    one false q false zq = from
-        ((Bad start i ∷ []) ++ lines_of_offers v i (record s { runs = s.runs + 1; bad = s.bad + 1 })
-        (range_with_len start len))
-        (after_offers v (record s { runs = s.runs + 1; bad = s.bad + 1 }) (range_with_len start len)) (rw (q, zq) refl)
-        (rw (q, zq) refl)
-        (blames_then x i s (record s { runs = s.runs + 1; bad = s.bad + 1 })
-        (after_offers v (record s { runs = s.runs + 1; bad = s.bad + 1 }) (range_with_len start len))
-        (Bad start i ∷ []) (lines_of_offers v i (record s { runs = s.runs + 1; bad = s.bad + 1 })
-        (range_with_len start len))
-        (reported_blame x i s (record s { runs = s.runs + 1; bad = s.bad + 1 }) [] (Bad start i) refl refl
-        (more_bad s.bad s.dups))
-        (offers_blame v x i (record s { runs = s.runs + 1; bad = s.bad + 1 }) (range_with_len start len)))
-
-step_blames : (v : Layout) (x i : ℕ) (s : Claims) (step : Step) →
-    Blames x i s (step_lines v i s step) (after_step v s step)
-step_blames v x i s Gap = refl
-step_blames v x i s Tail = one (is_open s) refl (not s.tail)
-  where
-    none : (b : Bool) → list_any (blames x) (if b then PartTrunc i ∷ [] else []) ≡ false
-    none true = refl
-    none false = refl
-
-    one : (o : Bool) → is_open s ≡ o → (t : Bool) → Blames x i s (step_lines v i s Tail) (after_step v s Tail)
-    one true q t = let now : after_step v s Tail ≡ record s { tail = true } = rw q refl in
-        ap (λ (b : Bool). b || blamed x i s) (none (is_open s && not s.tail)) ∙ ap (blamed x i) (sym now)
-    one false q t = let now : after_step v s Tail ≡ s = rw q refl in
-        ap (λ (b : Bool). b || blamed x i s) (none (is_open s && not s.tail)) ∙ ap (blamed x i) (sym now)
-step_blames v x i s (Run start len block) = one (is_open s) refl
-  where
-    one : (o : Bool) → is_open s ≡ o →
-        Blames x i s (step_lines v i s (Run start len block)) (after_step v s (Run start len block))
-    one true q = rw q (run_blames v x i s start len)
-    one false q = rw q refl
-
-steps_blame : (v : Layout) (x i : ℕ) (s : Claims) (steps : List Step) →
-    Blames x i s (lines_of_steps v i s steps) (after_steps v s steps)
-steps_blame v x i s [] = refl
-steps_blame v x i s (step ∷ steps) =
-    blames_then x i s (after_step v s step) (after_steps v (after_step v s step) steps) (step_lines v i s step)
-    (lines_of_steps v i (after_step v s step) steps)
-    (step_blames v x i s step) (steps_blame v x i (after_step v s step) steps)
+blames_told : (v : Layout) (x i : ℕ) → IsTold v i (Blames x i)
+blames_told v x i = record {
+  none = λ s. refl;
+  after = λ s t u xs ys p q. blames_then x i s t u xs ys p q;
+  kept = λ s. refl;
+  claimed = λ s f. refl;
+  dup = λ s f many ok. reported_blame x i s (record s { kept = s.kept + 1; dups = s.dups + 1; dup = slice_set s.dup f true })
+      (if many then ManyDup i ∷ [] else []) (Dup f i) refl (many_dup x i many) (more_dups s);
+  seen = λ s. refl;
+  bad = λ s start many. reported_blame x i s (record s { runs = s.runs + 1; bad = s.bad + 1 })
+      (if many then ManyBad i ∷ [] else []) (Bad start i) refl (many_bad x i many) (more_bad s.bad s.dups);
+  tail = λ s first. ap (λ b. b || blamed x i s) (cut_tail x i first);
+}
 
 class_silent : (x i : ℕ) (class : Class) → list_any (blames x) (class_lines i class) ≡ false
 class_silent x i Free = refl
@@ -192,7 +110,7 @@ owner_blames v x s o =
     ∙ list_any-append (blames x) (lines_of_steps v o.number (at_next_inode s) o.steps) (count_lines v o (after_owner v s o))
     ∙ ap (λ (b : Bool). list_any (blames x) (lines_of_steps v o.number (at_next_inode s) o.steps) || b)
     (count_silent v x o (after_owner v s o) ∙ sym (and-false (o.number == x)))
-    ∙ steps_blame v x o.number (at_next_inode s) o.steps
+    ∙ steps_told (blames_told v x o.number) (at_next_inode s) o.steps
 
 -- of the inodes one after another
 owners_blame : (v : Layout) (bytes : List ℕ) (x n k : ℕ) → 2 ≤ n →

@@ -1,21 +1,12 @@
 -- The rescan looks at no Run that phase 1 didn't see, and so its count fits a u64.
-use Rattle.std.proofs.Common.{◌≡◌, ℕ, ◌+◌, ◌<◌, ◌≤◌, ◌^◌, Bool, true, false, ◌==◌, List, [], ◌∷◌, length}
-use Rattle.std.proofs.Common.{arith, refl, sym}
-use Rattle.std.specs.List.{range_with_len}
-use Rattle.std.proofs.lemmas.List.{length-append}
-use Rattle.ffs_volume.specs.declared.Layout.{Layout}
-use Rattle.ffs_volume.specs.declared.Step.{Step}
+use Rattle.std.proofs.Common.{◌≡◌, ℕ, ◌+◌, ◌<◌, ◌≤◌, ◌^◌, Bool, true, false, ◌==◌, List, [], ◌∷◌, length, arith, refl}
+use Rattle.std.{proofs.Common.sym, proofs.lemmas.List.length-append, specs.List.range_with_len}
+use Rattle.ffs_volume.proofs.{Potentials.cond_holds, ReplayLaws.offers_runs, RunBounds.runs_bounded}
+use Rattle.ffs_volume.specs.Blocks.Claims.{Claims, no_claims, at_next_inode, is_open, after_step, after_steps}
+use Rattle.ffs_volume.specs.Blocks.{Claims.after_owner, Claims.after_owners, KeptOffers.Offer, Owners.Owner}
+use Rattle.ffs_volume.specs.{Blocks.Owners.owners_of, Disk.Areas.is_run_in_range, Laws.Geometry.IsAcceptedLayout}
+use Rattle.ffs_volume.specs.{Report.Whole.run_count, declared.Layout.Layout, declared.Step.Step}
 use Rattle.ffs_volume.specs.declared.Step.TheVariants.{Run, Tail, Gap}
-use Rattle.ffs_volume.specs.Disk.Areas.{is_run_in_range}
-use Rattle.ffs_volume.specs.Laws.Geometry.{IsAcceptedLayout}
-use Rattle.ffs_volume.specs.Blocks.Owners.{Owner, owners_of}
-use Rattle.ffs_volume.specs.Blocks.Claims.{Claims, no_claims, at_next_inode, is_open, after_step}
-use Rattle.ffs_volume.specs.Blocks.Claims.{after_steps, after_owner, after_owners}
-use Rattle.ffs_volume.specs.Blocks.KeptOffers.{Offer}
-use Rattle.ffs_volume.specs.Report.Whole.{run_count}
-use Rattle.ffs_volume.proofs.Potentials.{cond_holds}
-use Rattle.ffs_volume.proofs.RunBounds.{runs_bounded}
-use Rattle.ffs_volume.proofs.ReplayLaws.{offers_runs}
 use Rattle.ffs_workspace.specs.Lengths.{set_count}
 use Rattle.ffs_claims.specs.Reporting.{after_first}
 use Rattle.ffs_claims.specs.RescanRuns.{step_runs, steps_runs, owners_runs, runs_until_reported, rescan_runs}

@@ -1,20 +1,16 @@
 -- How many Runs the rescan looks at.
 use Rattle.std.proofs.Common.{◌≡◌, ◌≢◌, ℕ, zero, suc, ◌+◌, Bool, true, false, ◌==◌, if◌then◌else◌, List, [], ◌∷◌, ◌++◌}
 use Rattle.std.proofs.Common.{map, replicate, arith, refl, ap, ◌∙◌, sym}
-use Rattle.std.proofs.lemmas.Bool.Decides.{nat_tests}
-use Rattle.std.specs.List.{range_with_len}
-use Rattle.ffs_volume.specs.declared.Layout.{Layout}
-use Rattle.ffs_volume.specs.declared.Step.{Step}
-use Rattle.ffs_volume.specs.declared.Step.TheVariants.{Run, Tail, Gap}
+use Rattle.std.{proofs.lemmas.Bool.Decides.nat_tests, specs.List.range_with_len}
 use Rattle.ffs_volume.specs.Blocks.KeptOffers.{Offer, offer_of}
-use Rattle.ffs_workspace.specs.Lengths.{set_count}
-use Rattle.ffs_volume.specs.Encodings.Replay.{Replay, is_replay_open}
-use Rattle.ffs_volume.specs.Encodings.ReplayCounts.{seen_run, replay_step_by_cut}
+use Rattle.ffs_volume.specs.Encodings.{Replay.Replay, Replay.is_replay_open, ReplayCounts.seen_run}
+use Rattle.ffs_volume.specs.{Encodings.ReplayCounts.replay_step_by_cut, declared.Layout.Layout, declared.Step.Step}
+use Rattle.ffs_volume.specs.declared.Step.TheVariants.{Run, Tail, Gap}
 use Rattle.ffs_walk.specs.Keepings.{run_taken}
-use Rattle.ffs_claims.specs.Rescan.{step_offers_again, offers_again}
-use Rattle.ffs_claims.specs.Reporting.{after_first}
-use Rattle.ffs_claims.specs.RescanRuns.{runs_until_reported, steps_runs_again}
+use Rattle.ffs_workspace.specs.Lengths.{set_count}
 use Rattle.ffs_claims.proofs.Reportings.{after_append, none_after}
+use Rattle.ffs_claims.specs.{Reporting.after_first, Rescan.step_offers_again, Rescan.offers_again}
+use Rattle.ffs_claims.specs.RescanRuns.{runs_until_reported, steps_runs_again}
 
 -- nothing is left to report
 pub looked_none : (dup : List Bool) (runs : List (List Offer)) → set_count dup ≡ 0 → runs_until_reported dup runs ≡ 0

@@ -1,24 +1,19 @@
 -- The replay of an inode by its cut keeps what the inode keeps.
 use Rattle.std.proofs.Common.{◌≡◌, ℕ, zero, suc, ◌+◌, ◌≤◌, Bool, true, false, ◌&&◌, if◌then◌else◌, nat_lt, ◌==◌, List}
 use Rattle.std.proofs.Common.{[], ◌∷◌, ◌++◌, map, Option, arith, refl, ap, ◌∙◌, sym}
-use Rattle.std.specs.List.{range_with_len}
-use Rattle.std.proofs.lemmas.Bool.Decides.{nat_tests}
-use Rattle.ffs_volume.specs.declared.Layout.{Layout}
-use Rattle.ffs_volume.specs.declared.Step.{Step}
-use Rattle.ffs_volume.specs.declared.Step.TheVariants.{Run, Tail, Gap}
-use Rattle.ffs_volume.specs.Disk.Areas.{is_fragment_in_range, is_run_in_range}
-use Rattle.ffs_volume.specs.Blocks.Claims.{Claims, at_next_inode, is_open, is_set, after_offer, after_offers}
-use Rattle.ffs_volume.specs.Blocks.Claims.{after_step, after_steps}
-use Rattle.ffs_volume.specs.Blocks.KeptOffers.{Offer, kept_in_offers, kept_in_run, kept_in_step, kept_in_steps}
-use Rattle.ffs_volume.specs.Blocks.KeptOffers.{offer_of}
-use Rattle.ffs_volume.specs.Encodings.Replay.{Replay, fresh_replay, cut_of, is_replay_open, replay_after_step}
-use Rattle.ffs_volume.specs.Encodings.ReplayCounts.{replay_step_by_cut}
-use Rattle.ffs_volume.proofs.Potentials.{cond_holds}
+use Rattle.std.{proofs.lemmas.Bool.Decides.nat_tests, specs.List.range_with_len}
+use Rattle.ffs_volume.proofs.{Potentials.cond_holds, PrefixLaws.full_offers}
 use Rattle.ffs_volume.proofs.ReplayIsKeeping.{replay_of, seen_replays, step_replays, step_few}
-use Rattle.ffs_volume.proofs.PrefixLaws.{full_offers}
+use Rattle.ffs_volume.specs.Blocks.Claims.{Claims, at_next_inode, is_open, is_set, after_offer, after_offers}
+use Rattle.ffs_volume.specs.Blocks.{Claims.after_step, Claims.after_steps, KeptOffers.Offer}
+use Rattle.ffs_volume.specs.Blocks.KeptOffers.{kept_in_offers, kept_in_run, kept_in_step, kept_in_steps, offer_of}
+use Rattle.ffs_volume.specs.Disk.Areas.{is_fragment_in_range, is_run_in_range}
+use Rattle.ffs_volume.specs.Encodings.Replay.{Replay, fresh_replay, cut_of, is_replay_open, replay_after_step}
+use Rattle.ffs_volume.specs.{Encodings.ReplayCounts.replay_step_by_cut, declared.Layout.Layout, declared.Step.Step}
+use Rattle.ffs_volume.specs.declared.Step.TheVariants.{Run, Tail, Gap}
 use Rattle.ffs_walk.specs.Keepings.{run_taken}
-use Rattle.ffs_claims.specs.RescanRuns.{step_runs, steps_runs, step_runs_again, steps_runs_again}
 use Rattle.ffs_claims.specs.Rescan.{step_offers_again, offers_again}
+use Rattle.ffs_claims.specs.RescanRuns.{step_runs, steps_runs, step_runs_again, steps_runs_again}
 
 -- ---- the offers that are kept are the first ones
 offer_kept : (v : Layout) (s : Claims) (f : ℕ) → nat_lt s.dups 11 ≡ true → (after_offer v s f).kept ≡ s.kept + 1

@@ -1,18 +1,12 @@
 use Rattle.std.proofs.Common.{rules, ◌≡◌, arith, ap, ◌∙◌, refl, subst}
 use Rattle.std.proofs.lemmas.Result.{err_from_is_err_and}
-use Rattle.ffs_volume.specs.declared.Inode.{Inode}
-use Rattle.ffs_volume.specs.Blocks.Inodes.{class_of}
-use Rattle.ffs_volume.specs.Blocks.Owners.{Owner, owner_of}
-use Rattle.ffs_volume.specs.Blocks.BlockCheck.{owner_lines}
-use Rattle.ffs_volume.specs.Blocks.Claims.{after_owner}
-use Rattle.ffs_volume.proofs.Results.{on_ok as ok_then}
+use Rattle.ffs_volume.specs.Blocks.{BlockCheck.owner_lines, Claims.after_owner, Inodes.class_of, Owners.Owner}
+use Rattle.ffs_volume.specs.{Blocks.Owners.owner_of, declared.Inode.Inode}
 use Rattle.ffs_report.proofs.Reporting.{of_begins, of_reads, reports_same, reports_knowing}
-use Rattle.ffs_workspace.specs.Holds.{claims_of}
-use Rattle.ffs_claims.specs.Leaves.{Stored}
-use Rattle.ffs_claims.specs.Lines.{of_lines, owner_with}
-use Rattle.ffs_claims.proofs.Inodes.{owner_is, ok_where}
-use Rattle.ffs_claims.proofs.Potentials.{used_below}
-use Rattle.ffs_workspace.proofs.Readiness.{ready_table}
+use Rattle.ffs_workspace.{proofs.Readiness.ready_table, specs.Holds.claims_of}
+use Rattle.ffs_claims.proofs.{Inodes.owner_is, Inodes.ok_where, Potentials.used_below}
+use Rattle.ffs_claims.specs.{Leaves.Stored, Lines.of_lines, Lines.owner_with}
+use Rattle.ffs_volume.proofs.Results.{on_ok as ok_then}
 use Rattle.ffs_claims.proofs.claim.claim_inode.Goals as goal
 
 pub inode-requires : goal.inode-requires
@@ -53,11 +47,7 @@ returns-in_err-inode-clause-claiming g c = record {
       rw (p.1, p.2) (record {
         image = err;
         moves = tt;
-        bound = omega (
-          arith,
-          used_below c.args.geometry.now.layout c.args.workspace.now
-              c.requires.ready.claim.ready.made,
-        );
+        bound = omega (arith, used_below c.requires.ready.claim.ready.made);
         again = refl;
         claim = record {
           ready = ready_table c.args.geometry.now.layout (g.I.Image.device c.args.image.now) _ c.args.workspace.now

@@ -1,11 +1,8 @@
-use Rattle.std.proofs.Common.{◌≡◌, ◌+◌, ◌≤◌, ◌-◌}
-use Rattle.std.specs.List.{range_with_len}
-use Rattle.ffs_report.specs.Progress.{progress}
-use Rattle.ffs_report.specs.PhaseOutcome.{SaidTo}
+use Rattle.std.{proofs.Common.◌≡◌, proofs.Common.◌+◌, proofs.Common.◌≤◌, proofs.Common.◌-◌, specs.List.range_with_len}
 use Rattle.ffs_volume.specs.Blocks.Claims.{after_offers, lines_of_offers}
+use Rattle.ffs_report.specs.{PhaseOutcome.SaidTo, Progress.progress}
 use Rattle.ffs_workspace.specs.Holds.{claims_of}
-use Rattle.ffs_claims.specs.Leaves.{OffersOnly}
-use Rattle.ffs_claims.specs.Lines.{of_lines}
+use Rattle.ffs_claims.specs.{Leaves.OffersOnly, Lines.of_lines}
 use Rattle.ffs_claims.proofs.offer.offers.Given as goal
 
 abbrev pub invariant-loop-index : goal.invariant-loop-index

@@ -1,22 +1,13 @@
-use Rattle.std.proofs.Common.{rules, ◌≡◌, arith, ap, ◌∙◌, ℕ}
-use Rattle.std.specs.Prelude.{slice_index}
+use Rattle.std.proofs.Common.{rules, ◌≡◌, arith, ap, ◌∙◌, ℕ, slice_index}
 use Rattle.std.proofs.lemmas.Result.{err_from_is_err_and}
-use Rattle.ffs_volume.specs.declared.Inode.{Inode}
-use Rattle.ffs_volume.specs.Blocks.BlockCheck.{first_offer_lines}
-use Rattle.ffs_volume.specs.Blocks.Inodes.{inode_of}
-use Rattle.ffs_volume.specs.Blocks.Steps.{steps_of}
-use Rattle.ffs_volume.specs.Encodings.Replay.{fresh_replay}
-use Rattle.ffs_volume.specs.Encodings.ReplayCounts.{replayed_runs}
-use Rattle.ffs_maps.specs.Bits.{bits_of}
+use Rattle.ffs_volume.specs.Blocks.{BlockCheck.first_offer_lines, Inodes.inode_of, Steps.steps_of}
+use Rattle.ffs_volume.specs.{Encodings.Replay.fresh_replay, Encodings.ReplayCounts.replayed_runs, declared.Inode.Inode}
 use Rattle.ffs_report.proofs.Reporting.{of_begins, of_reads, reports_same, reports_knowing}
-use Rattle.ffs_claims.specs.Lines.{of_lines}
-use Rattle.ffs_claims.specs.Rescan.{offers_again}
-use Rattle.ffs_claims.proofs.Inodes.{ok_where}
+use Rattle.ffs_maps.specs.Bits.{bits_of}
+use Rattle.ffs_workspace.{proofs.Readiness.ready_table, specs.Notes.cut_in}
 use Rattle.ffs_claims.proofs.Frames.{claims_still, claims_none, claims_then}
-use Rattle.ffs_workspace.proofs.Readiness.{ready_table}
-use Rattle.ffs_workspace.specs.Notes.{cut_in}
-use Rattle.ffs_claims.proofs.Rewalks.{rewalked_from}
-use Rattle.ffs_claims.specs.RescanRuns.{Rewalked}
+use Rattle.ffs_claims.proofs.{Inodes.ok_where, Rewalks.rewalked_from}
+use Rattle.ffs_claims.specs.{Lines.of_lines, Rescan.offers_again, RescanRuns.Rewalked}
 use Rattle.ffs_claims.proofs.pass1b.rewalk_inode.Goals as goal
 
 pub inode-requires : goal.inode-requires
@@ -57,7 +48,7 @@ returns-in_err-inode-clause-rewalks g c = record {
         image = err;
         ready = ready_table c.args.geometry.now.layout (g.I.Image.device c.args.image.now) _ c.args.workspace.now
             c.inode.new.self err.contents err.size c.inode.ensures.reads.kept c.requires.can.ready;
-        claims = claims_still _ _ _ (claims_none c.args.workspace.now);
+        claims = claims_still (claims_none c.args.workspace.now);
       });
 }
 
@@ -95,7 +86,7 @@ returns-clause-rewalks g c = record {
       (λ bytes. Rewalked v n (cut_in (slice_index c.args.workspace.now.notes.items n)) (steps_of v (inode_of v bytes n) bytes)
       c.args.workspace.now c.rewalk.new.workspace)
       (ap (λ d. d.contents) c.in_ok-inode.ensures.reads.read)
-      (λ bytes t h. rewalked_from _ _ _ _ c.args.workspace.now _ _ (rw (cut, c.in_ok-inode.ensures.reads.inode bytes t) at h))
+      (λ bytes t h. rewalked_from (rw (cut, c.in_ok-inode.ensures.reads.inode bytes t) at h))
       c.rewalk.ensures.rewalks.rewalked;
   runs = λ bytes t.
       let v = c.args.geometry.now.layout in
@@ -113,7 +104,7 @@ returns-clause-rewalks g c = record {
   left = record {
     image = rw (c.in_ok-inode.ensures.reads.read) at c.rewalk.ensures.rewalks.left.image;
     ready = c.rewalk.ensures.rewalks.left.ready;
-    claims = claims_then _ _ _ (claims_still _ _ _ (claims_none c.args.workspace.now)) c.rewalk.ensures.rewalks.left.claims;
+    claims = claims_then (claims_still (claims_none c.args.workspace.now)) c.rewalk.ensures.rewalks.left.claims;
   };
 }
 

@@ -1,7 +1,6 @@
 use Rattle.std.proofs.Common.{◌≡◌, ◌-◌, arith, ap, ◌∙◌}
 use Rattle.ffs_volume.specs.Disk.Areas.{cgsblock, cgdmin}
-use Rattle.ffs_maps.specs.Bits.{bits_of, set_run}
-use Rattle.ffs_maps.proofs.Bits.{length_bits}
+use Rattle.ffs_maps.{proofs.Bits.length_bits, specs.Bits.bits_of, specs.Bits.set_run}
 use Rattle.ffs_claims.proofs.Reserved.{two_runs, group_run, map_is}
 use Rattle.ffs_claims.proofs.reserve.set_reserved.Goals as goal
 

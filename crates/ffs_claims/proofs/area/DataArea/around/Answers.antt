@@ -1,6 +1,5 @@
 use Rattle.std.proofs.Common.{arith, ◌≡◌, ◌+◌, ◌/◌, ◌<◌}
-use Rattle.ffs_volume.specs.Disk.Areas.{cgbase}
-use Rattle.ffs_volume.proofs.AreaLaws.{group_below}
+use Rattle.ffs_volume.{proofs.AreaLaws.group_below, specs.Disk.Areas.cgbase}
 use Rattle.ffs_claims.proofs.DataAreas.{before_metadata, after_metadata, base_above, lies}
 use Rattle.ffs_claims.proofs.area.DataArea.around.Goals as goal
 
