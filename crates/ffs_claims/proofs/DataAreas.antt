@@ -7,8 +7,7 @@ use Rattle.ffs_volume.specs.{Laws.Geometry.IsAcceptedLayout, declared.Layout.Lay
 
 -- a Run before the metadata of a group
 pub before_metadata : (v : Layout) (c start len : ℕ) → IsAcceptedLayout v → c < v.ncg → cgbase v c ≤ start →
-    start + len ≤ cgsblock v c → 0 < len →
-    is_run_in_range v start len ≡ true
+    start + len ≤ cgsblock v c → 0 < len → is_run_in_range v start len ≡ true
 before_metadata v c start len g h low high some =
     let group = g.groups c h in
     let end : cgsblock v c ≤ cgdmin v c = omega (arith, g.parts.super_fits, g.parts.block_fits, g.parts.inodes_fit) in
@@ -20,8 +19,7 @@ before_metadata v c start len g h low high some =
 
 -- a Run after the metadata of a group
 pub after_metadata : (v : Layout) (c start len : ℕ) → IsAcceptedLayout v → c < v.ncg → cgdmin v c ≤ start →
-    start + len ≤ cgbase v (c + 1) → start + len ≤ v.size → 0 < len →
-    is_run_in_range v start len ≡ true
+    start + len ≤ cgbase v (c + 1) → start + len ≤ v.size → 0 < len → is_run_in_range v start len ≡ true
 unfolding cgstart
 after_metadata v c start len g h low high inside some =
     let base : cgbase v c ≤ start = omega arith in

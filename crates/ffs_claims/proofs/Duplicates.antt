@@ -1,26 +1,201 @@
--- Whether there is a Dup line, and what is left to report.
+-- What the lines of phase 1 tell: which inodes they blame, and whether there is a Dup line.
 use Rattle.std.proofs.Common.{◌≡◌, ◌⊎◌, inl, inr, ℕ, zero, suc, ◌+◌, ◌<◌, ◌≤◌, Bool, true, false, not, ◌&&◌, ◌||◌, ◌==◌}
 use Rattle.std.proofs.Common.{if◌then◌else◌, List, [], ◌∷◌, ◌++◌, length, replicate, slice_set, length-set, ◌≢◌, arith}
-use Rattle.std.proofs.{Common.refl, Common.ap, Common.◌∙◌, Common.sym, Math.Bool.or-false, Math.Bool.and-false}
-use Rattle.std.proofs.{Math.ListN.get_or-eq_default, lemmas.Bool.cases_lt, lemmas.Bool.eqb-true}
-use Rattle.std.proofs.lemmas.{Bool.not-false, Bool.Decides.nat_tests, List.length-replicate, List.Folds.list_any-append}
-use Rattle.std.{proofs.lemmas.List.Sums.sum_by-set, specs.List.list_any, specs.List.slice_index_or}
+use Rattle.std.proofs.Common.{refl, ap, ◌∙◌, sym, ◌-◌, nat_lt, nat_le, map}
+use Rattle.std.proofs.Math.{Bool.or-false, Bool.and-false, Bool.or_assoc, ListN.get_or-eq_default}
+use Rattle.std.proofs.lemmas.Bool.{cases_lt, eqb-true, not-false, cases_eq, Decides.nat_tests}
+use Rattle.std.proofs.lemmas.List.{length-replicate, Folds.list_any-append, Sums.sum_by-set}
+use Rattle.std.specs.List.{list_any, slice_index_or, range_with_len}
+use Rattle.ffs_volume.proofs.OwnerLaws.{before_next}
 use Rattle.ffs_volume.proofs.Potentials.{cond_holds, in_range_below, count_set}
 use Rattle.ffs_volume.specs.Blocks.BlockCheck.{class_lines, count_lines, owner_lines, lines_of_owners, phase1_lines}
 use Rattle.ffs_volume.specs.Blocks.BlockCheck.{phase1b_lines, is_dup_line, has_rescan, blames, first_offer_lines}
-use Rattle.ffs_volume.specs.Blocks.Claims.{Claims, no_claims, at_next_inode, is_open, is_set, after_owner, after_owners}
-use Rattle.ffs_volume.specs.Blocks.{Claims.lines_of_steps, Inodes.is_file_or_dir, KeptOffers.Offer}
-use Rattle.ffs_volume.specs.Blocks.{KeptOffers.kept_in_owners, Owners.Owner, Owners.owners_of}
-use Rattle.ffs_volume.specs.{Directories.Volumes.is_inode_number, declared.BlockMessage.BlockMessage}
-use Rattle.ffs_volume.specs.declared.BlockMessage.TheVariants.{Bad, ManyBad, PartTrunc}
+use Rattle.ffs_volume.specs.Blocks.{BlockCheck.is_marked, Claims.Claims, Claims.no_claims}
+use Rattle.ffs_volume.specs.Blocks.Claims.{at_next_inode, is_open, is_set, after_owner, after_owners, lines_of_steps}
+use Rattle.ffs_volume.specs.Blocks.Inodes.{is_file_or_dir, inode_of, class_of, is_unknown}
+use Rattle.ffs_volume.specs.Blocks.{KeptOffers.Offer, KeptOffers.kept_in_owners, KeptSteps.claims_before, Owners.Owner}
+use Rattle.ffs_volume.specs.{Blocks.Owners.owners_of, Blocks.Owners.owner_of, Directories.Volumes.is_inode_number}
+use Rattle.ffs_volume.specs.{Directories.Volumes.marked_at, declared.BlockMessage.BlockMessage}
+use Rattle.ffs_volume.specs.declared.BlockMessage.TheVariants.{Bad, ManyBad, PartTrunc, Dup, ManyDup}
 use Rattle.ffs_volume.specs.declared.Class.{Class, TheVariants.Free, TheVariants.Partial, TheVariants.Unknown}
 use Rattle.ffs_volume.specs.declared.{Class.TheVariants.File, Class.TheVariants.Dir, Layout.Layout}
 use Rattle.ffs_maps.specs.Bits.{bits_of}
-use Rattle.ffs_workspace.specs.Holds.{marked_by_phase1_at, all_claims, HoldsPhase1, HoldsClaims}
-use Rattle.ffs_workspace.specs.{Lengths.set_count, declared.workspace.Workspace.Workspace}
-use Rattle.ffs_claims.proofs.LinesTold.{IsTold, steps_told}
-use Rattle.ffs_claims.proofs.{Marks.or_then, Marks.marked_total, StepsContinue.set_again}
+use Rattle.ffs_workspace.specs.Holds.{marked_by_phase1_at, all_claims, HoldsPhase1, HoldsClaims, has_blame}
+use Rattle.ffs_workspace.specs.{Lengths.set_count, Lengths.inodes_of, declared.workspace.Workspace.Workspace}
+use Rattle.ffs_claims.proofs.{LinesTold.IsTold, LinesTold.steps_told, Numbers.before_first, StepsContinue.set_again}
 
+-- lines that add to what is known: what they report, with what was known, is what then is known
+pub or_then : (a b s t u : Bool) → (a || s) ≡ t → (b || t) ≡ u → ((a || b) || s) ≡ u
+or_then a b s t u e f = grind arith
+
+-- ---- blame
+abbrev blamed : ℕ → ℕ → Claims → Bool
+blamed x i s = (i == x) && has_blame s
+
+abbrev Blames : ℕ → ℕ → Claims → List BlockMessage → Claims → Type 0
+Blames x i s lines t = (list_any (blames x) lines || blamed x i s) ≡ blamed x i t
+
+blames_then : (x i : ℕ) (s t u : Claims) (xs ys : List BlockMessage) → Blames x i s xs t → Blames x i t ys u →
+    Blames x i s (xs ++ ys) u
+blames_then x i s t u xs ys p q =
+    ap (λ (b : Bool). b || blamed x i s) (list_any-append (blames x) xs ys)
+    ∙ or_then (list_any (blames x) xs) (list_any (blames x) ys) (blamed x i s) (blamed x i t) (blamed x i u) p q
+
+-- a line that blames the inode
+reported_blame : (x i : ℕ) (s t : Claims) (tail : List BlockMessage) (line : BlockMessage) → blames x line ≡ (i == x) →
+    list_any (blames x) tail ≡ false → has_blame t ≡ true → Blames x i s (line ∷ tail) t
+reported_blame x i s t tail line e none bad =
+    ap (λ (b : Bool). (b || list_any (blames x) tail) || blamed x i s) e
+    ∙ ap (λ (b : Bool). ((i == x) || b) || blamed x i s) none
+    ∙ both (i == x) (has_blame s) ∙ ap (λ (b : Bool). (i == x) && b) (sym bad)
+  where
+    both : (a b : Bool) → ((a || false) || (a && b)) ≡ (a && true)
+    both true b = refl
+    both false b = refl
+
+many_dup : (x i : ℕ) (b : Bool) → list_any (blames x) (if b then ManyDup i ∷ [] else []) ≡ false
+many_dup x i true = refl
+many_dup x i false = refl
+
+many_bad : (x i : ℕ) (b : Bool) → list_any (blames x) (if b then ManyBad i ∷ [] else []) ≡ false
+many_bad x i true = refl
+many_bad x i false = refl
+
+cut_tail : (x i : ℕ) (b : Bool) → list_any (blames x) (if b then PartTrunc i ∷ [] else []) ≡ false
+cut_tail x i true = refl
+cut_tail x i false = refl
+
+more_dups : (s : Claims) → has_blame (record s { kept = s.kept + 1; dups = s.dups + 1 }) ≡ true
+more_dups s = let apart : (s.dups + 1 == 0) ≡ false = grind (arith, nat_tests) in
+    of (s.bad == 0) (s.dups + 1 == 0) apart
+  where
+    of : (a b : Bool) → b ≡ false → not (a && b) ≡ true
+    of true b e = ap not e
+    of false b e = refl
+
+more_bad : (n d : ℕ) → not (n + 1 == 0 && d == 0) ≡ true
+more_bad n d = let apart : (n + 1 == 0) ≡ false = grind (arith, nat_tests) in ap (λ (b : Bool). not (b && d == 0)) apart
+
+blames_told : (v : Layout) (x i : ℕ) → IsTold v i (Blames x i)
+blames_told v x i = record {
+  none = λ s. refl;
+  after = λ s t u xs ys p q. blames_then x i s t u xs ys p q;
+  kept = λ s. refl;
+  claimed = λ s f. refl;
+  dup = λ s f many ok. reported_blame x i s (record s {
+    kept = s.kept + 1;
+    dups = s.dups + 1;
+    dup =
+        slice_set s.dup f true;
+  })
+      (if many then ManyDup i ∷ [] else []) (Dup f i) refl (many_dup x i many) (more_dups s);
+  seen = λ s. refl;
+  bad = λ s start many. reported_blame x i s (record s { runs = s.runs + 1; bad = s.bad + 1 })
+      (if many then ManyBad i ∷ [] else []) (Bad start i) refl (many_bad x i many) (more_bad s.bad s.dups);
+  tail = λ s first. ap (λ b. b || blamed x i s) (cut_tail x i first);
+}
+
+class_silent : (x i : ℕ) (class : Class) → list_any (blames x) (class_lines i class) ≡ false
+class_silent x i Free = refl
+class_silent x i Partial = refl
+class_silent x i Unknown = refl
+class_silent x i File = refl
+class_silent x i Dir = refl
+
+count_silent : (v : Layout) (x : ℕ) (o : Owner) (end : Claims) → list_any (blames x) (count_lines v o end) ≡ false
+count_silent v x o end = cond_holds (λ (ls : List BlockMessage). list_any (blames x) ls ≡ false)
+    (is_file_or_dir o.class && (is_open end && not (o.blocks == _))) _ _ (λ _. refl) (λ _. refl)
+
+owner_blames : (v : Layout) (x : ℕ) (s : Claims) (o : Owner) → list_any (blames x) (owner_lines v s o)
+    ≡ ((o.number == x) && has_blame (after_owner v s o))
+owner_blames v x s o =
+    let steps = lines_of_steps v o.number (at_next_inode s) o.steps in
+    let count = count_lines v o (after_owner v s o) in
+    list_any-append (blames x) (class_lines o.number o.class) (steps ++ count)
+    ∙ ap (λ b. b || list_any (blames x) (steps ++ count)) (class_silent x o.number o.class)
+    ∙ list_any-append (blames x) steps count
+    ∙ ap (λ b. list_any (blames x) steps || b) (count_silent v x o (after_owner v s o)
+    ∙ sym (and-false (o.number == x)))
+    ∙ steps_told (blames_told v x o.number) (at_next_inode s) o.steps
+
+-- whether the lines of phase 1 on the inode x blame it
+abbrev blame_at : Layout → List ℕ → ℕ → Bool
+blame_at v bytes x = has_blame (after_owner v (claims_before v bytes x) (owner_of v bytes x))
+
+-- x is n, or one of the k numbers after it
+next_one : (n x k : ℕ) (blame : ℕ → Bool) →
+    (((n == x) && blame n) || ((nat_le (n + 1) x && nat_lt x (n + 1 + k)) && blame x))
+    ≡ ((nat_le n x && nat_lt x (n + suc k)) && blame x)
+next_one n x k blame = elim (cases_eq n x) [
+  | inl e ↦ rw e (here x k (blame x))
+  | inr apart ↦ after apart (blame n)
+      (blame x)
+]
+  where
+    here : (x k : ℕ) (b : Bool) → (((x == x) && b) || ((nat_le (x + 1) x && nat_lt x (x + 1 + k)) && b))
+        ≡ ((nat_le x x && nat_lt x (x + suc k)) && b)
+    here x k b =
+        let is : (x == x) ≡ true = grind (arith, nat_tests) in
+        let past : nat_le (x + 1) x ≡ false = grind (arith, nat_tests) in
+        let low : nat_le x x ≡ true = grind (arith, nat_tests) in
+        let high : nat_lt x (x + suc k) ≡ true = grind (arith, nat_tests) in
+        rw (is, past, low, high) (or-false b)
+
+    after : (n ≡ x → ⊥) → (b c : Bool) → (((n == x) && b) || ((nat_le (n + 1) x && nat_lt x (n + 1 + k)) && c))
+        ≡ ((nat_le n x && nat_lt x (n + suc k)) && c)
+    after apart b c =
+        let is : (n == x) ≡ false = grind (arith, nat_tests) in
+        let low : nat_le (n + 1) x ≡ nat_le n x = grind (arith, nat_tests) in
+        let high : n + 1 + k ≡ n + suc k = omega arith in
+        rw (is, low, high) refl
+
+-- of the inodes one after another
+owners_blame : (v : Layout) (bytes : List ℕ) (x n k : ℕ) → 2 ≤ n →
+    list_any (blames x) (lines_of_owners v (claims_before v bytes n) (map (owner_of v bytes) (range_with_len n k)))
+    ≡ ((nat_le n x && nat_lt x (n + k)) && blame_at v bytes x)
+unfolding owner_of
+owners_blame v bytes x n zero low =
+    none (nat_le n x && nat_lt x (n + 0)) (blame_at v bytes x) (grind (arith, nat_tests))
+  where
+    none : (b c : Bool) → b ≡ false → false ≡ (b && c)
+    none b c e = rw e refl
+owners_blame v bytes x n (suc k) low =
+    let s = claims_before v bytes n in
+    let os = map (owner_of v bytes) (range_with_len (n + 1) k) in
+    let one = (n == x) && blame_at v bytes n in
+    list_any-append (blames x) (owner_lines v s (owner_of v bytes n))
+    (lines_of_owners v (after_owner v s (owner_of v bytes n)) os)
+    ∙ ap (λ b. b || list_any (blames x) (lines_of_owners v (after_owner v s (owner_of v bytes n)) os))
+    (owner_blames v x s (owner_of v bytes n))
+    ∙ ap (λ t. one || list_any (blames x) (lines_of_owners v t os)) (sym (before_next v bytes n low))
+    ∙ ap (λ b. one || b) (owners_blame v bytes x (n + 1) k (omega arith)) ∙ next_one n x k (blame_at v bytes)
+
+first_blames : (v : Layout) (bytes : List ℕ) (x : ℕ) → is_inode_number v x ≡ true →
+    list_any (blames x) (phase1_lines v (owners_of v bytes)) ≡ blame_at v bytes x
+unfolding phase1_lines owners_of
+first_blames v bytes x inside =
+    let all : (nat_le 2 x && nat_lt x (2 + (inodes_of v - 2))) ≡ true = grind (arith, nat_tests) in
+    let os = map (owner_of v bytes) (range_with_len 2 (inodes_of v - 2)) in
+    ap (λ t. list_any (blames x) (lines_of_owners v t os)) (sym (before_first v bytes))
+    ∙ owners_blame v bytes x 2 (inodes_of v - 2) (omega arith) ∙ ap (λ b. b && blame_at v bytes x) all
+
+-- an inode is marked by phase 1, or by phase 1b
+pub marked_total : (v : Layout) (bytes : List ℕ) (x : ℕ) → marked_at v bytes x ≡ (marked_by_phase1_at v bytes x
+    || (is_inode_number v x && list_any (blames x) (phase1b_lines v (owners_of v bytes))))
+unfolding marked_by_phase1_at is_marked
+marked_total v bytes x =
+    let first = phase1_lines v (owners_of v bytes) in
+    let again = phase1b_lines v (owners_of v bytes) in
+    both (is_inode_number v x) (is_unknown (class_of v (inode_of v bytes x))) (list_any (blames x) (first ++ again))
+    (blame_at v bytes x) (list_any (blames x) again) (λ q. list_any-append (blames x) first again
+    ∙ ap (λ b. b || list_any (blames x) again) (first_blames v bytes x q))
+  where
+    both : (i u l b c : Bool) → (i ≡ true → l ≡ (b || c)) →
+        (if i then u || l else false) ≡ ((if i then u || b else false) || (i && c))
+    both true u l b c e = ap (λ z. u || z) (e refl) ∙ sym (or_assoc u b c)
+    both false u l b c e = refl
+
+-- ---- whether there is a Dup line
 -- some bit is set
 abbrev pub any_set : List Bool → Bool
 any_set bits = not (set_count bits == 0)
@@ -44,9 +219,11 @@ set_any : (bits : List Bool) (f : ℕ) → f < length bits → any_set (slice_se
 set_any bits f h = let some = set_some bits f h in grind (arith, nat_tests)
 
 abbrev DupsAreReported : Claims → List BlockMessage → Claims → Type 0
-DupsAreReported s lines t = ((list_any is_dup_line lines || any_set s.dup) ≡ any_set t.dup) × (length t.dup ≡ length s.dup)
+DupsAreReported s lines t = ((list_any is_dup_line lines || any_set s.dup) ≡ any_set t.dup) ×
+    (length t.dup ≡ length s.dup)
 
-dups_then : (s t u : Claims) (xs ys : List BlockMessage) → DupsAreReported s xs t → DupsAreReported t ys u → DupsAreReported s (xs ++ ys) u
+dups_then : (s t u : Claims) (xs ys : List BlockMessage) → DupsAreReported s xs t → DupsAreReported t ys u →
+    DupsAreReported s (xs ++ ys) u
 dups_then s t u xs ys p q = (
   ap (λ (b : Bool). b || any_set s.dup) (list_any-append is_dup_line xs ys)
       ∙ or_then (list_any is_dup_line xs) (list_any is_dup_line ys) (any_set s.dup) (any_set t.dup) (any_set u.dup) p.0
@@ -67,7 +244,8 @@ dups_told v i = record {
   tail = λ s first h. (ap (λ b. b || any_set s.dup) (tail_none i first), refl);
 }
   where
-    bad_none : (i start : ℕ) (b : Bool) → list_any is_dup_line (Bad start i ∷ (if b then ManyBad i ∷ [] else [])) ≡ false
+    bad_none : (i start : ℕ) (b : Bool) → list_any is_dup_line (Bad start i ∷ (if b then ManyBad i ∷ [] else []))
+        ≡ false
     bad_none i start true = refl
     bad_none i start false = refl
 
@@ -93,8 +271,7 @@ owner_dups v s o h =
     (lines_of_steps v o.number (at_next_inode s) o.steps ++ count_lines v o (after_owner v s o))
     (ap (λ (b : Bool). b || any_set s.dup) (class_none o.number o.class), refl)
     (dups_then s (after_owner v s o) (after_owner v s o) (lines_of_steps v o.number (at_next_inode s) o.steps)
-    (count_lines v o (after_owner v s o))
-    (steps_told (dups_told v o.number) (at_next_inode s) o.steps h)
+    (count_lines v o (after_owner v s o)) (steps_told (dups_told v o.number) (at_next_inode s) o.steps h)
     (ap (λ (b : Bool). b || any_set (after_owner v s o).dup) (count_none v o (after_owner v s o)), refl))
 
 owners_dups : (v : Layout) (s : Claims) (os : List Owner) → length s.dup ≡ v.size →
@@ -151,7 +328,8 @@ no_rescan v image w none h = record {
 }
   where
     lines : phase1b_lines v (owners_of v image) ≡ []
-    lines = first_none v image (eqb-true (set_count (all_claims v image).dup) 0 (not-false _ (rescan_is v image ∙ none)))
+    lines = first_none v image (eqb-true (set_count (all_claims v image).dup) 0
+        (not-false _ (rescan_is v image ∙ none)))
 
     silent : (x : ℕ) → (is_inode_number v x && list_any (blames x) (phase1b_lines v (owners_of v image))) ≡ false
     silent x = ap (λ (ls : List BlockMessage). is_inode_number v x && list_any (blames x) ls) lines

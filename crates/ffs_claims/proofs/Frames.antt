@@ -40,7 +40,8 @@ claims_then p q = record {
 pub found_still : {u w : Workspace} {windows : Windows} → SameFound u w → SameFound u (record w { windows = windows })
 found_still p = search rules
 
-pub claims_still : {u w : Workspace} {windows : Windows} → SameClaims u w → SameClaims u (record w { windows = windows })
+pub claims_still : {u w : Workspace} {windows : Windows} → SameClaims u w →
+    SameClaims u (record w { windows = windows })
 claims_still p = search rules
 
 pub only_none : {l : Layout} {w : Workspace} → IsFor l w → ClaimsOnly l w w

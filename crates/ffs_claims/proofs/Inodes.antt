@@ -1,19 +1,66 @@
--- How an inode's part of the block check continues.
+-- How an inode's part of the block check continues, and how many Runs it is seen to have.
 use Rattle.std.proofs.Common.{◌+◌, ◌<◌, ◌^◌, false, arith, OnOk, ◌≡◌, ℕ, List, [], ◌++◌, append-nil, Option, Result, Ok}
-use Rattle.std.proofs.Common.{Err, ap, ◌∙◌, sym, refl}
+use Rattle.std.proofs.Common.{Err, ap, ◌∙◌, sym, refl, ◌≤◌, nat_lt, true}
+use Rattle.std.proofs.lemmas.{Bool.ltb-true, Bool.and_parts, List.Sums.count_by-le-length}
+use Rattle.ffs_volume.proofs.Potentials.{step_moves, moves_then}
 use Rattle.ffs_volume.specs.Blocks.BlockCheck.{class_lines, count_lines, owner_lines}
-use Rattle.ffs_volume.specs.Blocks.Claims.{Claims, at_next_inode, after_steps, after_owner, lines_of_steps}
-use Rattle.ffs_volume.specs.Blocks.{Inodes.class_of, Inodes.inode_of, Owners.owner_of, Steps.steps_of}
-use Rattle.ffs_volume.specs.{Laws.ClaimBounds.used_bits, Messages.Kinds.Message}
-use Rattle.ffs_volume.specs.declared.{Class.Class, Class.TheVariants.Free, Inode.Inode, Layout.Layout}
+use Rattle.ffs_volume.specs.Blocks.Claims.{Claims, at_next_inode, after_steps, after_owner, lines_of_steps, is_open}
+use Rattle.ffs_volume.specs.Blocks.{Claims.after_step, Inodes.class_of, Inodes.inode_of, Owners.owner_of}
+use Rattle.ffs_volume.specs.{Blocks.Steps.steps_of, Laws.ClaimBounds.used_bits, Laws.ClaimBounds.ClaimBound}
+use Rattle.ffs_volume.specs.{Laws.Geometry.IsAcceptedLayout, Laws.RunLengths.HasLength, Messages.Kinds.Message}
+use Rattle.ffs_volume.specs.declared.{Class.Class, Class.TheVariants.Free, Inode.Inode, Layout.Layout, Step.Step}
 use Rattle.ffs_report.proofs.Reporting.{of_part, of_begins, of_says, of_stops}
 use Rattle.ffs_report.specs.{Known.ForBytes, Known.IsContents, PhaseOutcome.SaidOf, PhaseOutcome.StoppedOf}
 use Rattle.ffs_report.specs.Progress.{Progress, Said, Stopped}
+use Rattle.ffs_maps.proofs.Bits.{bits_long}
 use Rattle.ffs_workspace.specs.{Holds.claims_of, Lengths.IsFor, Lengths.inodes_of}
 use Rattle.ffs_workspace.specs.declared.workspace.Workspace.{Workspace}
-use Rattle.ffs_claims.{proofs.StepsContinue.lines_append, specs.Leaves.HasBegun, specs.Leaves.HasInode}
-use Rattle.ffs_claims.specs.Lines.{of_lines, owner_with, counted_owner}
+use Rattle.ffs_claims.proofs.StepsContinue.{lines_append}
+use Rattle.ffs_claims.specs.{Area.IsDataArea, Claiming.SeesNext, Leaves.HasBegun, Leaves.HasInode, Lines.of_lines}
+use Rattle.ffs_claims.specs.{Lines.owner_with, Lines.counted_owner, declared.area.DataArea.DataArea}
 
+-- ---- how many Runs an inode is seen to have, and how many offers it keeps
+-- a step more keeps the bound
+pub moves_on : {v : Layout} {s0 s' : Claims} {w : Workspace} (step : Step) → IsFor v w → v.frag ≤ 8 →
+    HasLength v.frag step → s' ≡ after_step v (claims_of w) step → ClaimBound s0 (claims_of w) → ClaimBound s0 s'
+moves_on {v = v} {s0 = s0} {w = w} step made small some now before = rw now (moves_then s0 (claims_of w) _ before
+    (step_moves v (claims_of w) step (bits_long w.claimed ∙ made.claimed) small some))
+
+-- at most the volume's fragments are used
+pub used_below : {v : Layout} {w : Workspace} → IsFor v w → used_bits (claims_of w) ≤ v.size
+used_below {w = w} made =
+    let size = bits_long w.claimed ∙ made.claimed in
+    omega (arith, count_by-le-length (λ b. b) (claims_of w).used, size)
+
+-- how many Runs are seen, and how many offers are kept, while an inode isn't cut
+pub seen_bound : {v : Layout} (u : Workspace) {w : Workspace} → IsFor v w → is_open (claims_of w) ≡ true →
+    ClaimBound (claims_of u) (claims_of w) → w.runs_seen + used_bits (claims_of u) + 2 ≤ u.runs_seen + v.size + 22
+seen_bound u {w = w} made free m =
+    let both = and_parts (nat_lt w.bad 11) (nat_lt w.dups 11) free in
+    let few : w.bad < 11 = ltb-true w.bad 11 both.0 in
+    let few' : w.dups < 11 = ltb-true w.dups 11 both.1 in
+    omega (arith, used_below made, m.few_runs, few, few')
+
+pub kept_room : {v : Layout} (u : Workspace) {w : Workspace} → IsFor v w → is_open (claims_of w) ≡ true →
+    ClaimBound (claims_of u) (claims_of w) → w.kept ≤ u.kept + v.size + 99
+kept_room u {w = w} made free m =
+    let both = and_parts (nat_lt w.bad 11) (nat_lt w.dups 11) free in
+    let few : w.bad < 11 = ltb-true w.bad 11 both.0 in
+    let few' : w.dups < 11 = ltb-true w.dups 11 both.1 in
+    omega (arith, used_below made, m.few_kept, few, few')
+
+-- so there is room to count them
+pub sees_next : {v : Layout} {u w : Workspace} {area : DataArea} → IsAcceptedLayout v → HasBegun u → IsFor v w →
+    IsDataArea v area → is_open (claims_of w) ≡ true → ClaimBound (claims_of u) (claims_of w) → SeesNext v w area
+sees_next {u = u} g begun made only_data uncut m = record {
+  made = made;
+  only_data = only_data;
+  uncut = uncut;
+  room = omega (arith, g.numbers.size_below, kept_room u made uncut m, begun.kept);
+  runs = omega (arith, g.numbers.size_below, seen_bound u made uncut m, begun.runs);
+}
+
+-- ---- its lines
 -- the lines of an inode's steps and of its count, once its class is reported
 abbrev pub rest_lines : Layout → ℕ → Inode → Class → Claims → List ℕ → List Message
 rest_lines v number i class s1 bytes =
@@ -32,7 +79,8 @@ parts v number i s bytes =
 pub class_said : {knows : List ℕ → Type 0} {a b : Progress} {s1 : Claims} {class : Class} (v : Layout) (number : ℕ)
     (i : Inode) (s : Claims) → s1 ≡ at_next_inode s → class ≡ class_of v i →
     Said a b (of_lines (class_lines number class)) →
-    SaidOf knows (rest_lines v number i class s1) (λ bytes. of_lines (owner_lines v s (owner_with v bytes number i))) a b
+    SaidOf knows (rest_lines v number i class s1) (λ bytes. of_lines (owner_lines v s (owner_with v bytes number i))) a
+    b
 class_said v number i s e k q =
     rw (e, k) (of_says _ _ (rest_lines v number i (class_of v i) (at_next_inode s)) _
     (of_lines (class_lines number (class_of v i))) _ _ _
@@ -51,7 +99,8 @@ class_stopped v number i s k q =
 -- its steps are reported then, and the count's line is that of the claims that are there
 pub steps_reported : {knows : List ℕ → Type 0} {a b c : Progress} {s2 : Claims} (v : Layout) (number : ℕ) (i : Inode)
     (s s1 : Claims) (class : Class) →
-    SaidOf knows (rest_lines v number i class s1) (λ bytes. of_lines (owner_lines v s (owner_with v bytes number i))) a b
+    SaidOf knows (rest_lines v number i class s1) (λ bytes. of_lines (owner_lines v s (owner_with v bytes number i))) a
+    b
     → SaidOf knows (λ bytes. []) (λ bytes. of_lines (lines_of_steps v number s1 (steps_of v i bytes))) b c →
     ForBytes knows (λ bytes. s2 ≡ after_steps v s1 (steps_of v i bytes)) →
     SaidOf knows (λ bytes. of_lines (count_lines v (counted_owner number class i.blocks) s2) ++ [])
@@ -68,29 +117,18 @@ pub record SameRuns (u w : Workspace) : Type 0 where
   pub again : w.runs_again ≡ u.runs_again
   pub used : used_bits (claims_of w) ≡ used_bits (claims_of u)
 
-pub begun_runs : (u : Workspace) {w : Workspace} → w ≡ record u { bad = 0; dups = 0; kept = 0; tail = false } → SameRuns u w
-begun_runs u e = record {
-  seen = ap (λ x. x.runs_seen) e;
-  again = ap (λ x. x.runs_again) e;
-  used = ap (λ x. used_bits (claims_of x)) e;
-}
+pub begun_runs : (u : Workspace) {w : Workspace} → w ≡ record u { bad = 0; dups = 0; kept = 0; tail = false } →
+    SameRuns u w
+begun_runs u e = rw e (record { seen = refl; again = refl; used = refl })
 
 pub stored_runs : (u : Workspace) {w : Workspace} →
     w ≡ record u { kinds = w.kinds; marked = w.marked; notes = w.notes; references = w.references } → SameRuns u w
-stored_runs u e = record {
-  seen = ap (λ x. x.runs_seen) e;
-  again = ap (λ x. x.runs_again) e;
-  used = ap (λ x. used_bits (claims_of x)) e;
-}
+stored_runs u e = rw e (record { seen = refl; again = refl; used = refl })
 
-pub begun : (u : Workspace) {w : Workspace} → w ≡ record u { bad = 0; dups = 0; kept = 0; tail = false } → u.runs_seen < 2 ^ 40 →
+pub begun : (u : Workspace) {w : Workspace} → w ≡ record u { bad = 0; dups = 0; kept = 0; tail = false } →
+    u.runs_seen < 2 ^ 40 →
     HasBegun w
-begun u e few = let same = begun_runs u e in record {
-  bad = ap (λ x. x.bad) e;
-  dups = ap (λ x. x.dups) e;
-  kept = ap (λ x. x.kept) e;
-  runs = omega arith;
-}
+begun u e few = rw e (record { bad = refl; dups = refl; kept = refl; runs = omega arith })
 
 pub has_inode : {v : Layout} {w : Workspace} {number : ℕ} → IsFor v w → number < inodes_of v → HasInode number w
 has_inode made low = record { kinds = omega arith; marked = omega arith; notes = omega arith; references = omega arith }

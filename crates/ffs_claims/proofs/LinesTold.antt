@@ -24,60 +24,63 @@ pub record IsTold (v : Layout) (i : ℕ) (R : Claims → List BlockMessage → C
       R s (Bad start i ∷ (if many then ManyBad i ∷ [] else [])) (record s { runs = s.runs + 1; bad = s.bad + 1 })
   pub tail : (s : Claims) (first : Bool) → R s (if first then PartTrunc i ∷ [] else []) (record s { tail = true })
 
-offer_told : {v : Layout} {i : ℕ} {R : Claims → List BlockMessage → Claims → Type 0} → IsTold v i R → (s : Claims) (f : ℕ)
-    → R s (offer_lines v i s f) (after_offer v s f)
-offer_told {v = v} {i = i} {R = R} p s f = go (nat_lt s.dups 11) (is_fragment_in_range v f) refl (is_set s.used f)
-  where
-    go : (a k : Bool) → is_fragment_in_range v f ≡ k → (u : Bool) →
-        R s (if a && (k && u) then Dup f i ∷ (if s.dups == 10 then ManyDup i ∷ [] else []) else [])
-        (if a then (if k then (if u then record s { kept = s.kept + 1; dups = s.dups + 1; dup = slice_set s.dup f true }
-        else record s { kept = s.kept + 1; used = slice_set s.used f true }) else record s { kept = s.kept + 1 }) else s)
-    go false k e u = p.none s
-    go true false e u = p.kept s
-    go true true e false = p.claimed s f
-    go true true e true = p.dup s f (s.dups == 10) e
+module _ {v : Layout} {i : ℕ} {R : Claims → List BlockMessage → Claims → Type 0} (p : IsTold v i R) where
+  offer_told : (s : Claims) (f : ℕ) → R s (offer_lines v i s f) (after_offer v s f)
+  offer_told s f = go (nat_lt s.dups 11) (is_fragment_in_range v f) refl (is_set s.used f)
+    where
+      go : (a k : Bool) → is_fragment_in_range v f ≡ k → (u : Bool) →
+          R s (if a && (k && u) then Dup f i ∷ (if s.dups == 10 then ManyDup i ∷ [] else []) else [])
+          (if a then (if k then (if u then record s {
+            kept = s.kept + 1;
+            dups = s.dups + 1;
+            dup =
+                slice_set s.dup f true;
+          }
+          else record s { kept = s.kept + 1; used = slice_set s.used f true }) else record s { kept = s.kept + 1 }) else
+          s)
+      go false k e u = p.none s
+      go true false e u = p.kept s
+      go true true e false = p.claimed s f
+      go true true e true = p.dup s f (s.dups == 10) e
 
-offers_told : {v : Layout} {i : ℕ} {R : Claims → List BlockMessage → Claims → Type 0} → IsTold v i R → (s : Claims)
-    (fs : List ℕ) → R s (lines_of_offers v i s fs) (after_offers v s fs)
-offers_told p s [] = p.none s
-offers_told {v = v} {i = i} p s (f ∷ fs) = p.after s (after_offer v s f) (after_offers v (after_offer v s f) fs)
-    (offer_lines v i s f) (lines_of_offers v i (after_offer v s f) fs) (offer_told p s f)
-    (offers_told p (after_offer v s f) fs)
+  offers_told : (s : Claims) (fs : List ℕ) → R s (lines_of_offers v i s fs) (after_offers v s fs)
+  offers_told s [] = p.none s
+  offers_told s (f ∷ fs) = p.after s (after_offer v s f) (after_offers v (after_offer v s f) fs)
+      (offer_lines v i s f) (lines_of_offers v i (after_offer v s f) fs) (offer_told s f)
+      (offers_told (after_offer v s f) fs)
 
-run_told : {v : Layout} {i : ℕ} {R : Claims → List BlockMessage → Claims → Type 0} → IsTold v i R → (s : Claims)
-    (start len : ℕ) → R s (run_lines v i s start len) (after_run v s start len)
-run_told {v = v} {i = i} {R = R} p s start len = go (record s { runs = s.runs + 1 })
-    (record s { runs = s.runs + 1; bad = s.bad + 1 }) (range_with_len start len) (p.seen s) (p.bad s start)
-    (is_run_in_range v start len) (s.bad == 10)
-  where
-    go : (t u : Claims) (fs : List ℕ) → R s [] t → ((many : Bool) →
-        R s (Bad start i ∷ (if many then ManyBad i ∷ [] else [])) u) → (a z : Bool) →
-        R s (if a then lines_of_offers v i t fs
-        else Bad start i ∷ (if z then ManyBad i ∷ [] else lines_of_offers v i u fs))
-        (if a then after_offers v t fs else (if z then u else after_offers v u fs))
-    go t u fs seen bad true z =
-        p.after s t (after_offers v t fs) [] (lines_of_offers v i t fs) seen (offers_told p t fs)
-    go t u fs seen bad false true = bad true
-    go t u fs seen bad false false =
-        p.after s u (after_offers v u fs) (Bad start i ∷ []) (lines_of_offers v i u fs) (bad false) (offers_told p u fs)
+  run_told : (s : Claims) (start len : ℕ) → R s (run_lines v i s start len) (after_run v s start len)
+  run_told s start len = go (record s { runs = s.runs + 1 })
+      (record s { runs = s.runs + 1; bad = s.bad + 1 }) (range_with_len start len) (p.seen s) (p.bad s start)
+      (is_run_in_range v start len) (s.bad == 10)
+    where
+      go : (t u : Claims) (fs : List ℕ) → R s [] t → ((many : Bool) →
+          R s (Bad start i ∷ (if many then ManyBad i ∷ [] else [])) u) → (a z : Bool) →
+          R s (if a then lines_of_offers v i t fs
+          else Bad start i ∷ (if z then ManyBad i ∷ [] else lines_of_offers v i u fs))
+          (if a then after_offers v t fs else (if z then u else after_offers v u fs))
+      go t u fs seen bad true z =
+          p.after s t (after_offers v t fs) [] (lines_of_offers v i t fs) seen (offers_told t fs)
+      go t u fs seen bad false true = bad true
+      go t u fs seen bad false false =
+          p.after s u (after_offers v u fs) (Bad start i ∷ []) (lines_of_offers v i u fs) (bad false) (offers_told u fs)
 
-step_told : {v : Layout} {i : ℕ} {R : Claims → List BlockMessage → Claims → Type 0} → IsTold v i R → (s : Claims)
-    (step : Step) → R s (step_lines v i s step) (after_step v s step)
-step_told p s Gap = p.none s
-step_told {i = i} {R = R} p s Tail = go (is_open s)
-  where
-    go : (o : Bool) → R s (if o && not s.tail then PartTrunc i ∷ [] else []) (if o then record s { tail = true } else s)
-    go true = p.tail s (not s.tail)
-    go false = p.none s
-step_told {v = v} {i = i} {R = R} p s (Run start len block) = go (is_open s)
-  where
-    go : (o : Bool) → R s (if o then run_lines v i s start len else []) (if o then after_run v s start len else s)
-    go true = run_told p s start len
-    go false = p.none s
+  step_told : (s : Claims) (step : Step) → R s (step_lines v i s step) (after_step v s step)
+  step_told s Gap = p.none s
+  step_told s Tail = go (is_open s)
+    where
+      go : (o : Bool) → R s (if o && not s.tail then PartTrunc i ∷ [] else [])
+          (if o then record s { tail = true } else s)
+      go true = p.tail s (not s.tail)
+      go false = p.none s
+  step_told s (Run start len block) = go (is_open s)
+    where
+      go : (o : Bool) → R s (if o then run_lines v i s start len else []) (if o then after_run v s start len else s)
+      go true = run_told s start len
+      go false = p.none s
 
-pub steps_told : {v : Layout} {i : ℕ} {R : Claims → List BlockMessage → Claims → Type 0} → IsTold v i R → (s : Claims)
-    (steps : List Step) → R s (lines_of_steps v i s steps) (after_steps v s steps)
-steps_told p s [] = p.none s
-steps_told {v = v} {i = i} p s (step ∷ steps) = p.after s (after_step v s step) (after_steps v (after_step v s step) steps)
-    (step_lines v i s step) (lines_of_steps v i (after_step v s step) steps) (step_told p s step)
-    (steps_told p (after_step v s step) steps)
+  pub steps_told : (s : Claims) (steps : List Step) → R s (lines_of_steps v i s steps) (after_steps v s steps)
+  steps_told s [] = p.none s
+  steps_told s (step ∷ steps) = p.after s (after_step v s step) (after_steps v (after_step v s step) steps)
+      (step_lines v i s step) (lines_of_steps v i (after_step v s step) steps) (step_told s step)
+      (steps_told (after_step v s step) steps)

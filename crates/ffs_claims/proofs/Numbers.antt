@@ -9,7 +9,7 @@ use Rattle.ffs_volume.specs.Blocks.BlockCheck.{owner_lines, lines_of_owners, pha
 use Rattle.ffs_volume.specs.Blocks.Claims.{Claims, no_claims, after_owner, after_owners}
 use Rattle.ffs_volume.specs.Blocks.{Inodes.inode_of, Inodes.class_of, Inodes.is_unknown, KeptSteps.claims_before}
 use Rattle.ffs_volume.specs.{Blocks.Owners.owner_of, Blocks.Owners.owners_of, Directories.Volumes.is_inode_number}
-use Rattle.ffs_volume.specs.Encodings.{Kinds.kind_of, Kinds.kind_at, Links.start_of, Links.start_at, Replay.cut_of}
+use Rattle.ffs_volume.specs.Encodings.{Kinds.kind_at, Links.start_at, Replay.cut_of}
 use Rattle.ffs_volume.specs.declared.{Class.TheVariants.Free, Inode.Inode, Layout.Layout}
 use Rattle.ffs_workspace.specs.Holds.{claims_of, IsFresh, HoldsPhase1, has_blame, marked_by_phase1_at, all_claims}
 use Rattle.ffs_workspace.specs.Lengths.{IsFor, inodes_of}
@@ -63,7 +63,8 @@ filled_next d f xs xs' n value low now is before = λ x. elim (cases_eq x n) [
   | inl e ↦
       let here : nat_lt n (n + 1) ≡ true = grind (arith, nat_tests) in
       rw (now, e, get_or-set_same xs n value d low, here) is
-  | inr apart ↦ rw now (get_or-set_other xs n x value d apart ∙ before x ∙ ap (λ b. if b then f x else d) (other x apart))
+  | inr apart ↦ rw now (get_or-set_other xs n x value d apart ∙ before x
+      ∙ ap (λ b. if b then f x else d) (other x apart))
 ]
   where
     other : (x : ℕ) → (x ≡ n → ⊥) → nat_lt x n ≡ nat_lt x (n + 1)
@@ -97,34 +98,6 @@ is_outside : (v : Layout) (x : ℕ) → (x < 2) ⊎ (inodes_of v ≤ x) → is_i
 is_outside v x (inl low) = grind (arith, nat_tests)
 is_outside v x (inr high) = grind (arith, nat_tests)
 
-kind_out : (v : Layout) (bytes : List ℕ) (x : ℕ) → is_inode_number v x ≡ false → kind_at v bytes x ≡ 0
-unfolding kind_at
-kind_out v bytes x out = rw out refl
-
-kind_in : (v : Layout) (bytes : List ℕ) (x : ℕ) → is_inode_number v x ≡ true →
-    kind_of (class_of v (inode_of v bytes x)) (inode_of v bytes x) ≡ kind_at v bytes x
-unfolding kind_at
-kind_in v bytes x inside = rw inside refl
-
-start_out : (v : Layout) (bytes : List ℕ) (x : ℕ) → is_inode_number v x ≡ false → start_at v bytes x ≡ 0
-unfolding start_at
-start_out v bytes x out = rw out refl
-
-start_in : (v : Layout) (bytes : List ℕ) (x : ℕ) → is_inode_number v x ≡ true →
-    start_of (class_of v (inode_of v bytes x)) (inode_of v bytes x) ≡ start_at v bytes x
-unfolding start_at
-start_in v bytes x inside = rw inside refl
-
-mark_out : (v : Layout) (bytes : List ℕ) (x : ℕ) → is_inode_number v x ≡ false → marked_by_phase1_at v bytes x ≡ false
-unfolding marked_by_phase1_at
-mark_out v bytes x out = rw out refl
-
-mark_in : (v : Layout) (bytes : List ℕ) (x : ℕ) → is_inode_number v x ≡ true →
-    (is_unknown (class_of v (inode_of v bytes x))
-    || has_blame (after_owner v (claims_before v bytes x) (owner_of v bytes x))) ≡ marked_by_phase1_at v bytes x
-unfolding marked_by_phase1_at
-mark_in v bytes x inside = rw inside refl
-
 note_free : (i : Inode) (cut : ℕ) → note_of Free i cut ≡ cut
 note_free i cut = go (cut == 0)
   where
@@ -136,12 +109,6 @@ note_out : (v : Layout) (bytes : List ℕ) (x : ℕ) → is_inode_number v x ≡
 unfolding note_at
 note_out v bytes x out = rw out (note_free (inode_of v bytes x) 0)
 
-note_in : (v : Layout) (bytes : List ℕ) (x : ℕ) → is_inode_number v x ≡ true →
-    note_of (class_of v (inode_of v bytes x)) (inode_of v bytes x)
-    (min (cut_of (after_owner v (claims_before v bytes x) (owner_of v bytes x))) 4294967295) ≡ note_at v bytes x
-unfolding note_at
-note_in v bytes x inside = rw inside refl
-
 -- ---- what is found of the inodes below a number
 pub record FoundTo (v : Layout) (bytes : List ℕ) (w : Workspace) (n : ℕ) : Type 0 where
   kinds : FilledTo 0 (kind_at v bytes) w.kinds.items n
@@ -150,50 +117,56 @@ pub record FoundTo (v : Layout) (bytes : List ℕ) (w : Workspace) (n : ℕ) : T
   starts : FilledTo 0 (start_at v bytes) w.references.items n
 
 pub found_begins : {v : Layout} {u w : Workspace} (bytes : List ℕ) → IsFresh v u → SameFound u w → FoundTo v bytes w 2
+unfolding kind_at marked_by_phase1_at start_at
 found_begins {v = v} {w = w} bytes fresh same = record {
   kinds = filled_begin 0 (kind_at v bytes) w.kinds.items _ (ap (λ x. x.items) same.kinds ∙ fresh.kinds)
-      (λ x low. kind_out v bytes x (is_outside v x (inl low)));
-  marked = filled_begin false (marked_by_phase1_at v bytes) w.marked.items _ (ap (λ x. x.items) same.marked ∙ fresh.marked)
-      (λ x low. mark_out v bytes x (is_outside v x (inl low)));
+      (λ x low. rw (is_outside v x (inl low)) refl);
+  marked = filled_begin false (marked_by_phase1_at v bytes) w.marked.items _
+      (ap (λ x. x.items) same.marked ∙ fresh.marked)
+      (λ x low. rw (is_outside v x (inl low)) refl);
   notes = filled_begin 0 (note_at v bytes) w.notes.items _ (ap (λ x. x.items) same.notes ∙ fresh.notes)
       (λ x low. note_out v bytes x (is_outside v x (inl low)));
   starts = filled_begin 0 (start_at v bytes) w.references.items _ (ap (λ x. x.items) same.references ∙ fresh.references)
-      (λ x low. start_out v bytes x (is_outside v x (inl low)));
+      (λ x low. rw (is_outside v x (inl low)) refl);
 }
 
 pub found_next : {v : Layout} {bytes : List ℕ} {u w : Workspace} {n : ℕ} → 2 ≤ n → n < inodes_of v → IsFor v u →
     claims_of w ≡ after_owner v (claims_before v bytes n) (owner_of v bytes n) →
     Stored n (class_of v (inode_of v bytes n)) (inode_of v bytes n) u w → FoundTo v bytes u n →
     FoundTo v bytes w (n + 1)
+unfolding kind_at marked_by_phase1_at note_at start_at
 found_next {v = v} {bytes = bytes} {u = u} {w = w} {n = n} low high m now stored before =
     let inside = is_inside v n low high in
     record {
       kinds = filled_next 0 (kind_at v bytes) u.kinds.items w.kinds.items n _ (omega (arith, m.kinds)) stored.kinds
-          (kind_in v bytes n inside) before.kinds;
-      marked = filled_next false (marked_by_phase1_at v bytes) u.marked.items w.marked.items n _ (omega (arith, m.marked))
+          (rw inside refl) before.kinds;
+      marked = filled_next false (marked_by_phase1_at v bytes) u.marked.items w.marked.items n _
+          (omega (arith, m.marked))
           stored.marked (ap (λ t. is_unknown (class_of v (inode_of v bytes n)) || has_blame t) now
-          ∙ mark_in v bytes n inside) before.marked;
+          ∙ rw inside refl) before.marked;
       notes = filled_next 0 (note_at v bytes) u.notes.items w.notes.items n _ (omega (arith, m.notes)) stored.notes
           (ap (λ t. note_of (class_of v (inode_of v bytes n)) (inode_of v bytes n) (min (cut_of t) 4294967295)) now
-          ∙ note_in v bytes n inside) before.notes;
+          ∙ rw inside refl) before.notes;
       starts = filled_next 0 (start_at v bytes) u.references.items w.references.items n _ (omega (arith, m.references))
-          stored.starts (start_in v bytes n inside) before.starts;
+          stored.starts (rw inside refl) before.starts;
     }
 
 pub found_all : {v : Layout} {bytes : List ℕ} {w : Workspace} {n : ℕ} → inodes_of v ≤ n →
     claims_of w ≡ all_claims v bytes → FoundTo v bytes w n → HoldsPhase1 v bytes w
+unfolding kind_at marked_by_phase1_at start_at
 found_all {v = v} {bytes = bytes} {n = n} past all found = record {
   used = ap (λ s. s.used) all;
   dup = ap (λ s. s.dup) all;
   runs = ap (λ s. s.runs) all;
-  kinds = filled_end 0 (kind_at v bytes) _ n (inodes_of v) past (λ x high. kind_out v bytes x (is_outside v x (inr high)))
+  kinds = filled_end 0 (kind_at v bytes) _ n (inodes_of v) past (λ x high. rw (is_outside v x (inr high)) refl)
       found.kinds;
   marked = filled_end false (marked_by_phase1_at v bytes) _ n (inodes_of v) past
-      (λ x high. mark_out v bytes x (is_outside v x (inr high))) found.marked;
-  notes = filled_end 0 (note_at v bytes) _ n (inodes_of v) past (λ x high. note_out v bytes x (is_outside v x (inr high)))
+      (λ x high. rw (is_outside v x (inr high)) refl) found.marked;
+  notes = filled_end 0 (note_at v bytes) _ n (inodes_of v) past
+      (λ x high. note_out v bytes x (is_outside v x (inr high)))
       found.notes;
   starts = filled_end 0 (start_at v bytes) _ n (inodes_of v) past
-      (λ x high. start_out v bytes x (is_outside v x (inr high))) found.starts;
+      (λ x high. rw (is_outside v x (inr high)) refl) found.starts;
 }
 
 -- the lines of all inodes

@@ -20,8 +20,7 @@ first_append dup [] ys = refl
 first_append dup (o ∷ xs) ys = one (is_set dup o.fragment) refl (first_append (slice_set dup o.fragment false) xs ys)
     (first_append dup xs ys)
   where
-    one : (b : Bool) → is_set dup o.fragment ≡ b →
-        first_offer_lines (slice_set dup o.fragment false) (xs ++ ys)
+    one : (b : Bool) → is_set dup o.fragment ≡ b → first_offer_lines (slice_set dup o.fragment false) (xs ++ ys)
         ≡ first_offer_lines (slice_set dup o.fragment false) xs
         ++ first_offer_lines (after_first (slice_set dup o.fragment false) xs) ys →
         first_offer_lines dup (xs ++ ys) ≡ first_offer_lines dup xs ++ first_offer_lines (after_first dup xs) ys →
@@ -86,8 +85,7 @@ reported_then {u = u} {v = v} xs ys a b = record {
         a.marked x,
         first_append (bits_of u.duplicates) xs ys,
         list_any-append (blames x) (first_offer_lines (bits_of u.duplicates) xs) _,
-      )
-      (or_assoc (bool_at u.marked.items x) (list_any (blames x) (first_offer_lines (bits_of u.duplicates) xs)) _);
+      ) (or_assoc (bool_at u.marked.items x) (list_any (blames x) (first_offer_lines (bits_of u.duplicates) xs)) _);
 }
 
 -- what was reported so far, with what is to come

@@ -20,7 +20,7 @@ use Rattle.ffs_maps.specs.Bits.{bits_of}
 use Rattle.ffs_workspace.proofs.NoteLaws.{cut_is_noted}
 use Rattle.ffs_workspace.specs.Holds.{bool_at, all_claims, marked_by_phase1_at, HoldsPhase1, HoldsStarts, HoldsClaims}
 use Rattle.ffs_workspace.specs.{Lengths.inodes_of, Notes.cut_in, declared.workspace.Workspace.Workspace}
-use Rattle.ffs_claims.proofs.{Marks.marked_total, Numbers.before_end, Numbers.before_first, Numbers.is_inside}
+use Rattle.ffs_claims.proofs.{Duplicates.marked_total, Numbers.before_end, Numbers.before_first, Numbers.is_inside}
 use Rattle.ffs_claims.proofs.{Reportings.Reporting, RescanCounts.looked_both, RescanCounts.runs_leave}
 use Rattle.ffs_claims.proofs.{Rescans.inode_again, StepsContinue.range_more}
 use Rattle.ffs_claims.specs.Lines.{of_lines, owners_from}
@@ -29,7 +29,8 @@ use Rattle.ffs_claims.specs.RescanRuns.{owners_runs, runs_until_reported, rescan
 
 -- the offers that the inode n keeps, replayed by its noted cut, and those of each of its Runs
 abbrev pub offers_at : Layout → List ℕ → List ℕ → ℕ → List Offer
-offers_at v bytes notes n = offers_again v n (cut_in (slice_index notes n)) fresh_replay (steps_of v (inode_of v bytes n) bytes)
+offers_at v bytes notes n = offers_again v n (cut_in (slice_index notes n)) fresh_replay
+    (steps_of v (inode_of v bytes n) bytes)
 
 abbrev pub runs_at : Layout → List ℕ → List ℕ → ℕ → List (List Offer)
 runs_at v bytes notes n =
@@ -91,11 +92,11 @@ runs_next_inode v bytes notes n p =
     (range_more n (inodes_of v - n) (inodes_of v - (n + 1)) (omega arith))
     ∙ ap (λ os. os ++ owners_runs v (after_owner v s (owner_of v bytes n)) (owners_from v bytes (n + 1)))
     (again ∙ ap (λ k. steps_runs_again v n k fresh_replay (steps_of v (inode_of v bytes n) bytes)) (cut_noted p))
-    ∙ ap (λ t. runs_at v bytes notes n ++ owners_runs v t (owners_from v bytes (n + 1))) (sym (before_next v bytes n p.low))
+    ∙ ap (λ t. runs_at v bytes notes n ++ owners_runs v t (owners_from v bytes (n + 1)))
+    (sym (before_next v bytes n p.low))
 
 pub looked_on : (v : Layout) (bytes notes : List ℕ) (n : ℕ) (dup dup' : List Bool) → IsNoted v bytes notes n →
-    dup' ≡ after_first dup (offers_at v bytes notes n) →
-    runs_until_reported dup (runs_from v bytes n)
+    dup' ≡ after_first dup (offers_at v bytes notes n) → runs_until_reported dup (runs_from v bytes n)
     ≡ runs_until_reported dup (runs_at v bytes notes n) + runs_until_reported dup' (runs_from v bytes (n + 1))
 looked_on v bytes notes n dup dup' p d =
     ap (runs_until_reported dup) (runs_next_inode v bytes notes n p)
@@ -126,7 +127,8 @@ pub all_lines : (v : Layout) (bytes : List ℕ) (dup : List Bool) → dup ≡ (a
 unfolding phase1b_lines owners_of all_claims
 all_lines v bytes dup e =
     ap (λ d. of_lines (first_offer_lines d (kept_in_owners v (no_claims v) (owners_from v bytes 2)))) (sym e)
-    ∙ ap (λ s. of_lines (first_offer_lines dup (kept_in_owners v s (owners_from v bytes 2)))) (sym (before_first v bytes))
+    ∙ ap (λ s. of_lines (first_offer_lines dup (kept_in_owners v s (owners_from v bytes 2))))
+    (sym (before_first v bytes))
 
 pub all_kept : (v : Layout) (bytes : List ℕ) → kept_from v bytes 2 ≡ kept_in_owners v (no_claims v) (owners_of v bytes)
 unfolding owners_of
@@ -184,8 +186,7 @@ offers_none_of : (v : Layout) (x i : ℕ) (s : Claims) (fs : List ℕ) → (i ==
 offers_none_of v x i s [] e = refl
 offers_none_of v x i s (f ∷ fs) e =
     both_none x (if nat_lt s.dups 11 then record { inode = i; fragment = f } ∷ [] else [])
-    (kept_in_offers v i (after_offer v s f) fs)
-    (one (nat_lt s.dups 11)) (offers_none_of v x i (after_offer v s f) fs e)
+    (kept_in_offers v i (after_offer v s f) fs) (one (nat_lt s.dups 11)) (offers_none_of v x i (after_offer v s f) fs e)
   where
     one : (b : Bool) → no_offer x (if b then record { inode = i; fragment = f } ∷ [] else []) ≡ true
     one true = ap (λ (b : Bool). not b && true) e
@@ -199,8 +200,7 @@ step_none_of v x i s (Run start len block) e =
     cond_holds (λ (os : List Offer). no_offer x os ≡ true) (is_open s) _ _
     (λ _. cond_holds (λ (os : List Offer). no_offer x os ≡ true) (is_run_in_range v start len) _ _
     (λ _. offers_none_of v x i (record s { runs = s.runs + 1 }) (range_with_len start len) e)
-    (λ _. cond_holds (λ (os : List Offer). no_offer x os ≡ true) (s.bad == 10) _ _
-    (λ _. refl)
+    (λ _. cond_holds (λ (os : List Offer). no_offer x os ≡ true) (s.bad == 10) _ _ (λ _. refl)
     (λ _. offers_none_of v x i (record s { runs = s.runs + 1; bad = s.bad + 1 }) (range_with_len start len) e)))
     (λ _. refl)
 
@@ -241,25 +241,17 @@ outside : (v : Layout) (bytes : List ℕ) (x : ℕ) →
     (is_inode_number v x && list_any (blames x) (phase1b_lines v (owners_of v bytes)))
     ≡ list_any (blames x) (phase1b_lines v (owners_of v bytes))
 unfolding phase1b_lines owners_of
-outside v bytes x = one (is_inode_number v x) refl
+outside v bytes x = known (is_inode_number v x) _ (λ q. blames_none_of x
+    (after_owners v (no_claims v) (owners_from v bytes 2)).dup (kept_in_owners v (no_claims v) (owners_from v bytes 2))
+    (owners_none_of v bytes x (no_claims v) 2 (inodes_of v - 2)
+    (elim (cases_lt x 2) [ inl low ↦ inl low | inr high ↦ inr (past v x q high) ])))
   where
-    one : (b : Bool) → is_inode_number v x ≡ b →
-        (b && list_any (blames x)
-        (first_offer_lines (after_owners v (no_claims v)
-        (map (owner_of v bytes) (range_with_len 2 (inodes_of v - 2)))).dup
-        (kept_in_owners v (no_claims v) (map (owner_of v bytes) (range_with_len 2 (inodes_of v - 2))))))
-        ≡ list_any (blames x) (first_offer_lines
-        (after_owners v (no_claims v) (map (owner_of v bytes) (range_with_len 2 (inodes_of v - 2)))).dup
-        (kept_in_owners v (no_claims v) (map (owner_of v bytes) (range_with_len 2 (inodes_of v - 2)))))
-    one true q = refl
-    one false q = sym (blames_none_of x
-        (after_owners v (no_claims v) (map (owner_of v bytes) (range_with_len 2 (inodes_of v - 2)))).dup
-        (kept_in_owners v (no_claims v) (map (owner_of v bytes) (range_with_len 2 (inodes_of v - 2))))
-        (owners_none_of v bytes x (no_claims v) 2 (inodes_of v - 2) (away (cases_lt x 2))))
-      where
-        away : (x < 2) ⊎ (2 ≤ x) → (x < 2) ⊎ (2 + (inodes_of v - 2) ≤ x)
-        away (inl a) = inl a
-        away (inr b) = inr (grind (arith, nat_tests))
+    known : (a b : Bool) → (a ≡ false → b ≡ false) → (a && b) ≡ b
+    known true b h = refl
+    known false b h = sym (h refl)
+
+    past : (v : Layout) (x : ℕ) → is_inode_number v x ≡ false → 2 ≤ x → 2 + (inodes_of v - 2) ≤ x
+    past v x q high = grind (arith, nat_tests)
 
 -- all offers are gone over: the workspace holds the claims
 pub claims_hold : (v : Layout) (bytes : List ℕ) (old new : Workspace) → HoldsPhase1 v bytes old → SameClaims old new →
@@ -269,14 +261,8 @@ claims_hold v bytes old new h same t = record {
   used = ap bits_of same.claimed ∙ h.used;
   kinds = λ x. ap (λ k. slice_index k.items x) same.kinds ∙ h.kinds x;
   notes = λ x. ap (λ k. slice_index k.items x) same.notes ∙ h.notes x;
-  marked = λ x. t.marked x
-      ∙ ap (λ (b : Bool). b || list_any (blames x)
-      (first_offer_lines (bits_of old.duplicates) (kept_in_owners v (no_claims v) (owners_of v bytes))))
-      (h.marked x)
-      ∙ ap (λ (d : List Bool). marked_by_phase1_at v bytes x
-      || list_any (blames x) (first_offer_lines d (kept_in_owners v (no_claims v) (owners_of v bytes)))) h.dup
-      ∙ ap (λ (b : Bool). marked_by_phase1_at v bytes x || b) (sym (outside v bytes x))
-      ∙ sym (marked_total v bytes x);
+  marked = λ x. t.marked x ∙ rw (h.marked x, h.dup)
+      (ap (λ b. marked_by_phase1_at v bytes x || b) (sym (outside v bytes x)) ∙ sym (marked_total v bytes x));
 }
 
 -- and where counts of references start

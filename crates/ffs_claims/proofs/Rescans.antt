@@ -19,8 +19,7 @@ use Rattle.ffs_claims.specs.RescanRuns.{step_runs, steps_runs, step_runs_again, 
 offer_kept : (v : Layout) (s : Claims) (f : ℕ) → nat_lt s.dups 11 ≡ true → (after_offer v s f).kept ≡ s.kept + 1
 offer_kept v s f few =
     rw few (cond_holds (λ (t : Claims). t.kept ≡ s.kept + 1) (is_fragment_in_range v f) _ _
-    (λ _. cond_holds (λ (t : Claims). t.kept ≡ s.kept + 1) (is_set s.used f) _ _ (λ _. refl) (λ _. refl))
-    (λ _. refl))
+    (λ _. cond_holds (λ (t : Claims). t.kept ≡ s.kept + 1) (is_set s.used f) _ _ (λ _. refl) (λ _. refl)) (λ _. refl))
 
 offers_low : (v : Layout) (s : Claims) (fs : List ℕ) → s.kept ≤ (after_offers v s fs).kept
 offers_low v s [] = omega arith
@@ -46,12 +45,9 @@ offers_firsts v i s start (suc len) k e = one (nat_lt s.dups 11) refl k e
         kept_in_offers v i (after_offer v s start) (range_with_len (start + 1) len)
         ≡ map (offer_of i) (range_with_len (start + 1) m)) →
         kept_in_offers v i s (range_with_len start (suc len)) ≡ map (offer_of i) (range_with_len start n)
-    one true few zero h more = absurd (omega (
-      arith,
-      h,
-      offer_kept v s start few,
-      offers_low v (after_offer v s start) (range_with_len (start + 1) len),
-    ))
+    one true few zero h more =
+        let low = offers_low v (after_offer v s start) (range_with_len (start + 1) len) in
+        absurd (omega (arith, h, offer_kept v s start few))
     one true few (suc n) h more =
         ap (λ x. (if x then offer_of i start ∷ [] else []) ++ kept_in_offers v i (after_offer v s start)
         (range_with_len (start + 1) len)) few
@@ -66,11 +62,8 @@ abbrev by_cut : ℕ → Replay → Replay
 by_cut cut q = record { bad = q.bad; kept = if cut == 0 then 0 else q.kept }
 
 begins_by_cut : (cut : ℕ) → by_cut cut fresh_replay ≡ fresh_replay
-begins_by_cut cut = one (cut == 0)
-  where
-    one : (b : Bool) → record { bad = 0; kept = if b then 0 else 0 } ≡ fresh_replay
-    one true = refl
-    one false = refl
+begins_by_cut cut =
+    cond_holds (λ n. record { bad = 0; kept = n } ≡ fresh_replay) (cut == 0) 0 0 (λ _. refl) (λ _. refl)
 
 open_by_cut : (cut : ℕ) (q : Replay) → is_replay_open cut (by_cut cut q) ≡ is_replay_open cut q
 open_by_cut cut q = one (cut == 0) refl
@@ -94,8 +87,7 @@ step_by_cut v cut q Gap = refl
 step_by_cut v zero q (Run start len block) =
     one (nat_lt q.bad 11 && true) (is_run_in_range v start len) (q.bad == 10)
   where
-    one : (o i t : Bool) →
-        (if o then (if i then record { bad = q.bad; kept = 0 }
+    one : (o i t : Bool) → (if o then (if i then record { bad = q.bad; kept = 0 }
         else (if t then record { bad = q.bad + 1; kept = 0 } else record { bad = q.bad + 1; kept = 0 }))
         else by_cut 0 q)
         ≡ by_cut 0 (if o then (if i then record { bad = q.bad; kept = q.kept + len }
@@ -111,28 +103,24 @@ step_by_cut v (suc cut) q (Run start len block) = rw some refl
     some = grind (arith, nat_tests)
 
 -- ---- an inode, replayed
-run_offers : (v : Layout) (i : ℕ) (s : Claims) (cut start len : ℕ) (block : Option ℕ) →
-    is_replay_open cut (replay_of s) ≡ is_open s →
+run_offers : (v : Layout) (i : ℕ) (s : Claims) (cut start len : ℕ) (block : Option ℕ) → is_open s ≡ true →
+    is_replay_open cut (replay_of s) ≡ true →
     replay_after_step v cut (replay_of s) (Run start len block) ≡ replay_of (after_step v s (Run start len block)) →
-    kept_in_step v i s (Run start len block) ≡ step_offers_again v i cut (replay_of s) (Run start len block)
-run_offers v i s cut start len block going next =
-    one (is_open s) refl (is_run_in_range v start len) refl (s.bad == 10) refl
+    kept_in_run v i s start len ≡ map (offer_of i) (range_with_len start (run_taken v cut (replay_of s) start len))
+run_offers v i s cut start len block going seen next = one (is_run_in_range v start len) refl (s.bad == 10) refl
   where
     kept : (replay_after_step v cut (replay_of s) (Run start len block)).kept
         ≡ (after_step v s (Run start len block)).kept
-    kept = ap (λ (r : Replay). r.kept) next
+    kept = ap (λ r. r.kept) next
 
-    one : (o : Bool) → is_open s ≡ o → (f : Bool) → is_run_in_range v start len ≡ f → (z : Bool) → (s.bad == 10) ≡ z →
-        kept_in_step v i s (Run start len block) ≡ step_offers_again v i cut (replay_of s) (Run start len block)
-    one false o f qf z qz = let shut = going ∙ o in rw (o, shut) refl
-    one true o true f z qz =
-        let seen = going ∙ o in
-        rw (o, seen, f) (offers_firsts v i (record s { runs = s.runs + 1 }) start len _ (rw (o, seen, f) at kept))
-    one true o false f true z = let seen = going ∙ o in rw (o, seen, f, z) refl
-    one true o false f false z =
-        let seen = going ∙ o in
-        rw (o, seen, f, z) (offers_firsts v i (record s { runs = s.runs + 1; bad = s.bad + 1 }) start len _
-        (rw (o, seen, f, z) at kept))
+    one : (f : Bool) → is_run_in_range v start len ≡ f → (z : Bool) → (s.bad == 10) ≡ z →
+        kept_in_run v i s start len ≡ map (offer_of i) (range_with_len start (run_taken v cut (replay_of s) start len))
+    one true f z qz =
+        rw f (offers_firsts v i (record s { runs = s.runs + 1 }) start len _ (rw (going, seen, f) at kept))
+    one false f true z = rw (f, z) refl
+    one false f false z = rw (f, z)
+        (offers_firsts v i (record s { runs = s.runs + 1; bad = s.bad + 1 }) start len _
+        (rw (going, seen, f, z) at kept))
 
 -- a step, replayed: its kept offers, and those of its Run
 record StepAgain (v : Layout) (i cut : ℕ) (s : Claims) (r : Replay) (step : Step) : Type 0 where
@@ -144,33 +132,17 @@ step_again : (v : Layout) (i cut : ℕ) (s : Claims) (step : Step) → is_replay
     StepAgain v i cut s (by_cut cut (replay_of s)) step
 step_again v i cut s Tail going next = record { offers = refl; looks = refl }
 step_again v i cut s Gap going next = record { offers = refl; looks = refl }
-step_again v i cut s (Run start len block) going next =
-    let here = by_cut cut (replay_of s) in
-    let seen = sym (open_by_cut cut (replay_of s)) in
-    let taken = sym (taken_by_cut v cut (replay_of s) start len) in
-    record {
-      offers = same
-          ∙ ap (λ (b : Bool). if b then first (run_taken v cut (replay_of s) start len) else []) seen
-          ∙ ap (λ (n : ℕ). if is_replay_open cut here then first n else []) taken;
-      looks = one (is_open s) refl
-          ∙ ap (λ (b : Bool). if b then first (run_taken v cut (replay_of s) start len) ∷ [] else []) seen
-          ∙ ap (λ (n : ℕ). if is_replay_open cut here then first n ∷ [] else []) taken;
-    }
+step_again v i cut s (Run start len block) going next = one (is_open s) refl
   where
-    first : ℕ → List Offer
-    first n = map (offer_of i) (range_with_len start n)
-
-    same : kept_in_step v i s (Run start len block) ≡ step_offers_again v i cut (replay_of s) (Run start len block)
-    same = run_offers v i s cut start len block going next
-
-    one : (b : Bool) → is_open s ≡ b → step_runs v i s (Run start len block)
-        ≡ step_runs_again v i cut (replay_of s) (Run start len block)
+    one : (b : Bool) → is_open s ≡ b → StepAgain v i cut s (by_cut cut (replay_of s)) (Run start len block)
     one true q =
-        let seen = going ∙ q in
-        let kept : kept_in_run v i s start len
-        ≡ map (offer_of i) (range_with_len start (run_taken v cut (replay_of s) start len)) = rw (q, seen) at same in
-        rw (q, seen, kept) refl
-    one false q = let shut = going ∙ q in rw (q, shut) refl
+        let seen = open_by_cut cut (replay_of s) ∙ going ∙ q in
+        let kept = run_offers v i s cut start len block q (going ∙ q) next
+        ∙ ap (λ n. map (offer_of i) (range_with_len start n)) (sym (taken_by_cut v cut (replay_of s) start len)) in
+        record { offers = rw (q, seen, kept) refl; looks = rw (q, seen, kept) refl }
+    one false q =
+        let shut = open_by_cut cut (replay_of s) ∙ going ∙ q in
+        record { offers = rw (q, shut) refl; looks = rw (q, shut) refl }
 
 -- what some steps are, replayed
 pub record StepsAgain (v : Layout) (i cut : ℕ) (s : Claims) (r : Replay) (steps : List Step) : Type 0 where

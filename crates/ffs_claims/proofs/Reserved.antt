@@ -20,8 +20,7 @@ HaveBits size bits test = (f : ℕ) → f < size → get_or bits f false ≡ tes
 
 -- a run more is set
 pub run_test : (bits : List Bool) (size start len end : ℕ) (test : ℕ → Bool) → length bits ≡ size → start + len ≡ end →
-    HaveBits size bits test →
-    HaveBits size (set_run bits start len) (λ f. is_in_run start end f || test f)
+    HaveBits size bits test → HaveBits size (set_run bits start len) (λ f. is_in_run start end f || test f)
 run_test bits size start len end test all same before = λ f low. elim (cases_lt f start) [
   | inl under ↦ run_outside bits start len f false (inl under) ∙ before f low ∙ out f (inl under) (test f)
   | inr over ↦ elim (cases_lt f end) [
@@ -63,10 +62,7 @@ one_below v groups f =
     )
   where
     swap : (a b d : Bool) → (a || (b || d)) ≡ ((b || a) || d)
-    swap true true d = refl
-    swap true false d = refl
-    swap false true d = refl
-    swap false false d = refl
+    swap a b d = grind arith
 
 reserved_is : (v : Layout) (f : ℕ) → is_reserved_below v v.ncg f ≡ is_reserved v f
 unfolding is_reserved is_group_metadata
@@ -80,14 +76,7 @@ reserved_is v f =
     from_zero end f = grind (arith, nat_tests)
 
     turn : (a b d : Bool) → (d || (b || (a || false))) ≡ ((a || b) || d)
-    turn true true true = refl
-    turn true true false = refl
-    turn true false true = refl
-    turn true false false = refl
-    turn false true true = refl
-    turn false true false = refl
-    turn false false true = refl
-    turn false false false = refl
+    turn a b d = grind arith
 
 -- all groups are taken
 pub map_is : (v : Layout) (bits : List Bool) → length bits ≡ v.size → HaveBits v.size bits (is_reserved_below v v.ncg) →

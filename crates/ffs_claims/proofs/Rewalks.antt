@@ -1,26 +1,31 @@
 -- How a second walk over an inode continues.
 use Rattle.std.proofs.Common.{◌≡◌, ◌≢◌, ◌≤◌, ℕ, zero, suc, replicate, ◌+◌, Bool, true, false, List, [], ◌∷◌, ◌++◌, map}
-use Rattle.std.proofs.Common.{Option, arith, refl, ap, ◌∙◌, ◌<◌, ◌-◌, ◌^◌}
+use Rattle.std.proofs.Common.{Option, arith, refl, ap, ◌∙◌, ◌<◌, ◌-◌, ◌^◌, Result}
 use Rattle.std.{proofs.lemmas.Bool.Decides.nat_tests, specs.List.range_with_len}
 use Rattle.ffs_volume.proofs.ReplayLaws.{counted_same, gaps_seen}
-use Rattle.ffs_volume.specs.Blocks.{BlockCheck.first_offer_lines, KeptOffers.offer_of}
+use Rattle.ffs_volume.specs.Blocks.{BlockCheck.first_offer_lines, KeptOffers.offer_of, Steps.steps_of}
 use Rattle.ffs_volume.specs.Encodings.Replay.{Replay, fresh_replay, is_replay_open}
 use Rattle.ffs_volume.specs.Encodings.ReplayCounts.{seen_run, replayed_runs, replay_step_by_cut}
-use Rattle.ffs_volume.specs.{Messages.Kinds.Message, declared.BlockMessage.BlockMessage, declared.Layout.Layout}
-use Rattle.ffs_volume.specs.declared.Step.{Step, TheVariants.Run, TheVariants.Tail, TheVariants.Gap}
-use Rattle.ffs_report.proofs.Reporting.{of_says}
-use Rattle.ffs_report.specs.{Known.ForBytes, PhaseOutcome.SaidOf, Progress.Progress, Progress.Said}
+use Rattle.ffs_volume.specs.Messages.Kinds.{Message}
+use Rattle.ffs_volume.specs.declared.{BlockMessage.BlockMessage, Inode.Inode, Layout.Layout, Step.Step}
+use Rattle.ffs_volume.specs.declared.Step.TheVariants.{Run, Tail, Gap}
+use Rattle.ffs_image.specs.Device.{Device}
+use Rattle.ffs_report.proofs.Reporting.{reports_same, reports_knowing, of_says}
+use Rattle.ffs_report.specs.Known.{IsContents, ForBytes}
+use Rattle.ffs_report.specs.{PhaseOutcome.SaidOf, Progress.Progress, Progress.Said, declared.fault.RunFault.RunFault}
 use Rattle.ffs_maps.specs.Bits.{bits_of}
 use Rattle.ffs_walk.specs.{Keepings.run_taken, Keepings.replay_in, Rests.steps_left}
 use Rattle.ffs_walk.specs.declared.{keeping.Keeping.Keeping, walk.Walk.Walk}
 use Rattle.ffs_workspace.specs.Lengths.{set_count}
 use Rattle.ffs_workspace.specs.declared.workspace.{Windows.Windows, Workspace.Workspace}
+use Rattle.ffs_claims.proofs.Frames.{image_from, claims_then, claims_still, claims_none}
+use Rattle.ffs_claims.proofs.Inodes.{ok_where}
 use Rattle.ffs_claims.proofs.Reportings.{reporting_over, Reporting, reporting_begins, reporting_more, reporting_ends}
 use Rattle.ffs_claims.proofs.Reportings.{reporting_same, reported_from, reported_to, lines_split}
 use Rattle.ffs_claims.proofs.RescanCounts.{looked_none, looked_next, gaps_looked}
 use Rattle.ffs_claims.specs.{Lines.of_lines, Reporting.after_first, Rescan.step_offers_again, Rescan.offers_again}
-use Rattle.ffs_claims.specs.RescanRuns.{RoseBy, Rewalked, runs_until_reported, steps_runs_again, RunsPay, StepReported}
-use Rattle.ffs_claims.specs.RescanRuns.{Counted}
+use Rattle.ffs_claims.specs.RescanRuns.{Rewalks, RoseBy, Rewalked, runs_until_reported, steps_runs_again, RunsPay}
+use Rattle.ffs_claims.specs.RescanRuns.{StepReported, Counted}
 
 pub open_first : (cut : ℕ) → is_replay_open cut fresh_replay ≡ true
 open_first cut = grind (arith, nat_tests)
@@ -38,8 +43,7 @@ unfolding offers_again
 offers_next v i cut r r' step R R' e now = rw (e, now) refl
 
 pub runs_next : (v : Layout) (cut : ℕ) (r r' : Replay) (step : Step) (R R' : List Step) → R ≡ step ∷ R' →
-    r' ≡ replay_step_by_cut v cut r step →
-    replayed_runs v cut r R ≡ seen_run cut r step + replayed_runs v cut r' R'
+    r' ≡ replay_step_by_cut v cut r step → replayed_runs v cut r R ≡ seen_run cut r step + replayed_runs v cut r' R'
 runs_next v cut r r' step R R' e now =
     rw (e, now) (ap (λ n. seen_run cut r step + n) (counted_same v 0 cut r step R').runs_are)
 
@@ -77,7 +81,8 @@ pub record Rewalking (v : Layout) (i cut : ℕ) (all : List Step) (r : Replay) (
     Type 0 where
   pub reported : Reporting (offers_again v i cut r R) (offers_again v i cut fresh_replay all) u w
   pub runs : w.runs_again + replayed_runs v cut r R ≤ u.runs_again + replayed_runs v cut fresh_replay all
-  pub count : RoseBy u.runs_again (w.runs_again + runs_until_reported (bits_of w.duplicates) (steps_runs_again v i cut r R))
+  pub count : RoseBy u.runs_again (w.runs_again + runs_until_reported (bits_of w.duplicates)
+      (steps_runs_again v i cut r R))
       (runs_until_reported (bits_of u.duplicates) (steps_runs_again v i cut fresh_replay all))
 
 pub rewalk_begins : {v : Layout} {i cut : ℕ} {all : List Step} {r : Replay} {R : List Step} {w : Workspace} →
@@ -98,14 +103,10 @@ rewalk_on {v = v} {i = i} {cut = cut} {step = step} {k = k} {k' = k'} {R = R} {R
     record {
       reported = reporting_more t.reported (offers_next v i cut _ _ step R R' e now) did;
       runs = omega (arith, t.runs, rw same at q.most, runs_next v cut (replay_in k) (replay_in k') step R R' e now);
-      count = λ h. omega (
-        arith,
-        h,
-        t.count h,
-        rw same at q.exact,
-        looked_next v i cut (replay_in k) (replay_in k') step R R' (bits_of w.duplicates) (bits_of w'.duplicates) e now
-            going some did.dup,
-      );
+      count = λ h.
+          let looked = looked_next v i cut (replay_in k) (replay_in k') step R R' (bits_of w.duplicates)
+          (bits_of w'.duplicates) e now going some did.dup in
+          omega (arith, t.count h, rw same at q.exact);
     }
 
 pub rewalk_gaps : {v : Layout} {i cut : ℕ} {all : List Step} {r : Replay} (n : ℕ) {R R' : List Step}
@@ -144,18 +145,41 @@ pub rewalked_from : {v : Layout} {i cut : ℕ} {all : List Step} {u w : Workspac
     Rewalked v i cut all (record u { windows = windows }) w → Rewalked v i cut all u w
 rewalked_from {u = u} p = record { reported = reported_from u _ _ p.reported refl refl; count = p.count }
 
+-- an inode was read before, as the image gives it
+pub rewalks_from : {T : Type 0} {v : Layout} {n cut : ℕ} {d' d'' : Device} {a b : Progress} {u w : Workspace}
+    {windows : Windows} {r : Result T RunFault} (i : Inode) (d : Device) (cut' : ℕ) (inode : List ℕ → Inode) → d' ≡ d →
+    cut ≡ cut' → ForBytes (IsContents d.contents) (λ bytes. i ≡ inode bytes) →
+    Rewalks v n cut (λ _. i) d' d'' a b (record u { windows = windows }) w r → Rewalks v n cut' inode d d'' a b u w r
+rewalks_from {T = T} {v = v} {n = n} {cut = cut} {d' = d'} {d'' = d''} {u = u} {r = r} i d cut' inode e k h p =
+    let gives : ForBytes (IsContents d.contents) (IsContents d'.contents) = λ bytes t. ap (λ x. x.contents) e ∙ t in
+    let lines = λ (cut : ℕ) (i : Inode) (bytes : List ℕ). of_lines (first_offer_lines (bits_of u.duplicates)
+    (offers_again v n cut fresh_replay (steps_of v i bytes))) in
+    record {
+      text = reports_same T _ (lines cut i) (λ bytes. lines cut' (inode bytes) bytes) _ _ r
+          (λ bytes t. ap (λ x. lines x i bytes) k ∙ ap (λ x. lines cut' x bytes) (h bytes t))
+          (reports_knowing T _ _ _ _ _ r gives p.text);
+      rewalked = ok_where r _ _ _ _ (ap (λ x. x.contents) e) (λ bytes t q. rewalked_from (rw (k, h bytes t) at q))
+          p.rewalked;
+      runs = λ bytes t. rw (k, h bytes t) at (p.runs bytes (gives bytes t));
+      left = record {
+        image = image_from d'' r e p.left.image;
+        ready = p.left.ready;
+        claims = claims_then (claims_still (claims_none u)) p.left.claims;
+      };
+    }
+
 -- a step more is reported
 pub rewalk_said : {knows : List ℕ → Type 0} {all : List ℕ → List Message} {a b c : Progress} {v : Layout} {i cut : ℕ}
     {k k' : Keeping} {step : Step} {old new : Workspace} (x y : Walk) (rest : List ℕ → List BlockMessage) →
-    k.cut ≡ cut →
-    SaidOf knows (λ bytes. of_lines (first_offer_lines (bits_of old.duplicates)
+    k.cut ≡ cut → SaidOf knows (λ bytes. of_lines (first_offer_lines (bits_of old.duplicates)
     (offers_again v i cut (replay_in k) (steps_left bytes x)))) all a b →
     ForBytes knows (λ bytes. steps_left bytes x ≡ step ∷ steps_left bytes y) → StepReported v i step k k' old new →
     ForBytes knows (λ bytes. first_offer_lines (bits_of new.duplicates)
     (offers_again v i cut (replay_in k') (steps_left bytes y)) ≡ rest bytes) →
     Said b c (of_lines (first_offer_lines (bits_of old.duplicates) (step_offers_again v i k.cut (replay_in k) step))) →
     SaidOf knows (λ bytes. of_lines (rest bytes)) all a c
-rewalk_said {v = v} {i = i} {cut = cut} {k = k} {k' = k'} {step = step} {old = old} {new = new} x y rest cuts said next p
+rewalk_said {v = v} {i = i} {cut = cut} {k = k} {k' = k'} {step = step} {old = old} {new = new} x y rest cuts said next
+    p
     same out =
     of_says _ _ _ _ _ _ _ _ said (λ bytes t. lines_step v i cut (replay_in k) (replay_in k') step (steps_left bytes x)
     (steps_left bytes y) (bits_of old.duplicates) (bits_of new.duplicates) (next bytes t) (rw cuts at p.next)

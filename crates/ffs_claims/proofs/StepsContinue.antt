@@ -51,15 +51,13 @@ range_next start len place f h is_place =
 
 -- the next offer of a Run is taken
 pub offers_after : (v : Layout) (s s' : Claims) (start len place f : ℕ) → place < len → f ≡ start + place →
-    s' ≡ after_offer v s f →
-    after_offers v s (range_with_len (start + place) (len - place))
+    s' ≡ after_offer v s f → after_offers v s (range_with_len (start + place) (len - place))
     ≡ after_offers v s' (range_with_len (start + (place + 1)) (len - (place + 1)))
 offers_after v s s' start len place f h is_place now = rw (range_next start len place f h is_place, now) refl
 
 -- and reported
 pub offers_more : (v : Layout) (inode : ℕ) (s s' : Claims) (start len place f : ℕ) → place < len → f ≡ start + place →
-    s' ≡ after_offer v s f →
-    of_lines (lines_of_offers v inode s (range_with_len (start + place) (len - place)))
+    s' ≡ after_offer v s f → of_lines (lines_of_offers v inode s (range_with_len (start + place) (len - place)))
     ≡ of_lines (offer_lines v inode s f)
     ++ of_lines (lines_of_offers v inode s' (range_with_len (start + (place + 1)) (len - (place + 1))))
 offers_more v inode s s' start len place f h is_place now =
@@ -85,8 +83,7 @@ bad_rest v inode s start len = lines_of_offers v inode (record s { runs = s.runs
     (range_with_len start len)
 
 further : (v : Layout) (inode : ℕ) (s : Claims) (start len : ℕ) → is_run_in_range v start len ≡ false →
-    (s.bad == 10) ≡ false →
-    run_lines v inode s start len ≡ bad_lines inode start false ++ bad_rest v inode s start len
+    (s.bad == 10) ≡ false → run_lines v inode s start len ≡ bad_lines inode start false ++ bad_rest v inode s start len
 further v inode s start len h e = rw (h, e) refl
 
 pub run_stops : (v : Layout) (inode : ℕ) (s : Claims) (start len : ℕ) {a b : Progress} →
@@ -97,7 +94,8 @@ run_stops v inode s start len {a = a} {b = b} h p = one (s.bad == 10) refl p
     one : (z : Bool) → (s.bad == 10) ≡ z → Stopped a b (of_lines (bad_lines inode start z)) →
         Stopped a b (of_lines (run_lines v inode s start len))
     one true e q = rw (h, e) q
-    one false e q = rw (further v inode s start len h e) (stopped_more a b _ (of_lines (bad_rest v inode s start len)) q)
+    one false e q = rw (further v inode s start len h e)
+        (stopped_more a b _ (of_lines (bad_rest v inode s start len)) q)
 
 -- a Run that is bad, and isn't the eleventh one: its first lines were said, and its offers then
 pub run_said : (v : Layout) (inode : ℕ) (s : Claims) (start len : ℕ) {a b c : Progress} →
@@ -120,7 +118,8 @@ pub claims_on : {knows : List ℕ → Type 0} {s' : Claims} {end : List ℕ → 
     ForBytes knows (λ bytes. after_steps v s (steps_left bytes x) ≡ end bytes) →
     ForBytes knows (λ bytes. after_steps v s' (steps_left bytes y) ≡ rest bytes) →
     ForBytes knows (λ bytes. rest bytes ≡ end bytes)
-claims_on v s x y rest step next now before same = λ bytes t. sym (same bytes t) ∙ rw now (rw (next bytes t) at (before bytes t))
+claims_on v s x y rest step next now before same = λ bytes t. sym (same bytes t)
+    ∙ rw now (rw (next bytes t) at (before bytes t))
 
 -- and reported
 pub lines_on : {knows : List ℕ → Type 0} (v : Layout) (inode : ℕ) (s s' : Claims) (x y : Walk) (step : Step) →
@@ -136,7 +135,8 @@ pub steps_said : {knows : List ℕ → Type 0} {all : List ℕ → List Message}
     ForBytes knows (λ bytes. lines_of_steps v inode s' (steps_left bytes y) ≡ rest bytes) →
     Said b c (of_lines (step_lines v inode s step)) → SaidOf knows (λ bytes. of_lines (rest bytes)) all a c
 steps_said v inode s s' x y rest step said next now same out =
-    of_same _ (λ bytes. of_lines (lines_of_steps v inode s' (steps_left bytes y))) (λ bytes. of_lines (rest bytes)) _ _ _
+    of_same _ (λ bytes. of_lines (lines_of_steps v inode s' (steps_left bytes y))) (λ bytes. of_lines (rest bytes)) _ _
+    _
     (of_says _ _ (λ bytes. of_lines (lines_of_steps v inode s' (steps_left bytes y))) _
     (of_lines (step_lines v inode s step)) _ _ _ said (lines_on v inode s s' x y step next now) out)
     (λ bytes t. ap of_lines (same bytes t))
@@ -168,9 +168,11 @@ none_to_walk true size bsize some h = no_blocks size bsize some (grind (arith, n
 none_to_walk false size bsize some h = refl
 
 -- nor has an empty one
-pub without_steps : (v : Layout) (i : Inode) (bytes : List ℕ) → 0 < v.bsize → (is_walked v i && not (i.size == 0)) ≡ false
+pub without_steps : (v : Layout) (i : Inode) (bytes : List ℕ) → 0 < v.bsize →
+    (is_walked v i && not (i.size == 0)) ≡ false
     → steps_of v i bytes ≡ []
 unfolding steps_of
 without_steps v i bytes some h = ap (λ (n : ℕ). steps_of_addresses
-    (record { layout = v; blocks = n; last_length = last_length_of v i }) bytes i.addresses 0 (addresses_needed v.nindir n))
+    (record { layout = v; blocks = n; last_length = last_length_of v i }) bytes i.addresses 0
+    (addresses_needed v.nindir n))
     (none_to_walk (is_walked v i) i.size v.bsize some h)

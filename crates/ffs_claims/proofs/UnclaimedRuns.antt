@@ -46,17 +46,21 @@ whole_from v s start zero few ok clear =
     let sum : s.kept + 0 ≡ s.kept = omega arith in rw sum (record { claims = refl; silent = λ inode. refl })
 whole_from v s start (suc len) few ok clear =
     let first : is_fragment_in_range v start ≡ true = ap (is_fragment_in_range v) (omega arith) ∙ ok 0 (omega arith) in
-    let unset : is_set s.used start ≡ false = ap (λ n. slice_index_or s.used n false) (omega arith) ∙ clear 0 (omega arith) in
+    let unset : is_set s.used start ≡ false = ap (λ n. slice_index_or s.used n false) (omega arith)
+    ∙ clear 0 (omega arith) in
     let sum : s.kept + suc len ≡ s.kept + 1 + len = omega arith in
-    rw sum (quiet_more (record s { kept = s.kept + 1; used = slice_set s.used start true }) (rw (few, first, unset) refl)
+    rw sum (quiet_more (record s { kept = s.kept + 1; used = slice_set s.used start true })
+    (rw (few, first, unset) refl)
     (λ inode. rw (few, first, unset) refl)
     (whole_from v (record s { kept = s.kept + 1; used = slice_set s.used start true }) (start + 1) len few
     (λ k low. ap (is_fragment_in_range v) (omega arith) ∙ ok (k + 1) (omega arith))
     (λ k low. get_or-set_other s.used start (start + 1 + k) true false (λ e. omega arith)
     ∙ ap (λ n. get_or s.used n false) (omega arith) ∙ clear (k + 1) (omega arith))))
 
-pub whole_is : (v : Layout) (s : Claims) (start len : ℕ) → nat_lt s.dups 11 ≡ true → is_run_in_range v start len ≡ true →
-    AreClear s.used start len → IsQuiet v s start len (record s { used = set_run s.used start len; kept = s.kept + len })
+pub whole_is : (v : Layout) (s : Claims) (start len : ℕ) → nat_lt s.dups 11 ≡ true →
+    is_run_in_range v start len ≡ true →
+    AreClear s.used start len → IsQuiet v s start len (record s
+    { used = set_run s.used start len; kept = s.kept + len })
 whole_is v s start len few fits clear = whole_from v s start len few (λ k low. each_ok v start len k fits low) clear
 
 -- a Run in range ends in the volume

@@ -11,7 +11,7 @@ use Rattle.ffs_walk.{proofs.Counted.enters_none, specs.Counts.EntersOnly}
 use Rattle.ffs_walk.specs.{HeldWords.PassesWord, HeldWords.next_address, HeldWords.word_step, Rests.SameFileBlocks}
 use Rattle.ffs_walk.specs.{Rests.most_steps_left, Rests.steps_left, Windows.BlocksHold, declared.walk.Walk.Walk}
 use Rattle.ffs_workspace.specs.{Holds.claims_of, Lengths.IsFor, declared.workspace.Workspace.Workspace}
-use Rattle.ffs_claims.proofs.{Frames.only_none, Frames.only_then, Potentials.moves_on, UnclaimedRuns.whole_is}
+use Rattle.ffs_claims.proofs.{Frames.only_none, Frames.only_then, Inodes.moves_on, UnclaimedRuns.whole_is}
 use Rattle.ffs_claims.specs.{Leaves.ClaimsOnly, SilentWords.ClaimsSilently, SilentWords.ClaimsWords}
 
 -- a Run in range of which all fragments are unclaimed
@@ -53,7 +53,8 @@ pub words_once : {v : Layout} {a b : Workspace} {x y : Walk} {address : ℕ} →
     ((block : ℕ) → ClaimsSilently v (word_step v.frag address block) a b) → is_open (claims_of b) ≡ true →
     ClaimsOnly v a b → most_steps_left y < most_steps_left x → SameFileBlocks x y → a.runs_seen ≤ b.runs_seen →
     EntersOnly x y 0 → ClaimsWords v a b x y
-words_once {v = v} {a = a} {b = b} {x = x} {y = y} {address = address} some small made layout is passes claims uncut only
+words_once {v = v} {a = a} {b = b} {x = x} {y = y} {address = address} some small made layout is passes claims uncut
+    only
     falls same rises counted =
     let block = x.single.first + x.single.next in
     let step = word_step v.frag address block in

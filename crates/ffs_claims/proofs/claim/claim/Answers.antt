@@ -8,11 +8,11 @@ use Rattle.ffs_report.specs.Known.{ForBytes, IsContents}
 use Rattle.ffs_walk.{proofs.Counted.top_held, proofs.Counted.top_unread, specs.Rests.steps_left}
 use Rattle.ffs_workspace.specs.{Holds.claims_of, Ready.IsReady}
 use Rattle.ffs_claims.proofs.Frames.{can_walk, found_none, found_still, found_then, ready_still, ready_read}
-use Rattle.ffs_claims.proofs.Frames.{ready_walked}
-use Rattle.ffs_claims.proofs.Potentials.{sees_next, moves_on, seen_bound, used_below}
-use Rattle.ffs_claims.proofs.StepsContinue.{claims_on, lines_on, steps_said, cut_stays, cut_silent, gaps_stay}
-use Rattle.ffs_claims.proofs.{StepsContinue.gaps_silent, StepsContinue.without_steps, claim.claim.Goals.in-Gap}
-use Rattle.ffs_claims.{proofs.claim.claim.Goals.in_default-matches, specs.Lines.of_lines}
+use Rattle.ffs_claims.proofs.{Frames.ready_walked, Inodes.sees_next, Inodes.moves_on, Inodes.seen_bound}
+use Rattle.ffs_claims.proofs.{Inodes.used_below, StepsContinue.claims_on, StepsContinue.lines_on}
+use Rattle.ffs_claims.proofs.StepsContinue.{steps_said, cut_stays, cut_silent, gaps_stay, gaps_silent, without_steps}
+use Rattle.ffs_claims.proofs.claim.claim.Goals.{in-Gap, in_default-matches}
+use Rattle.ffs_claims.specs.Lines.{of_lines}
 use Rattle.ffs_claims.proofs.claim.claim.Goals as goal
 
 pub returns-then-not-has_steps-clause-claiming : goal.returns-then-not-has_steps-clause-claiming
@@ -99,6 +99,7 @@ returns-in_err-seen-clause-claiming g c =
     let ok = c.in_ok-next.ensures.leaves.read in
     let next = rw (inv.device, c.in-Some.is) at c.in_ok-next.ensures.step.steps in
     let left = c.step.ensures.claiming.left in
+    let few = seen_bound c.args.workspace.now inv.ready.made inv.open_still inv.moves in
     rw (p.1, p.2) (record {
       text = of_stops _ _ _ _ (of_lines (step_lines v c.args.number s c.in-Some.next)) _ _ _ inv.said
           (lines_on v c.args.number s (after_step v s c.in-Some.next) c.loop-next.walk c.next.new.self c.in-Some.next
@@ -107,11 +108,7 @@ returns-in_err-seen-clause-claiming g c =
       left = record {
         image = ok ∙ inv.device;
         moves = tt;
-        bound = omega (
-          arith,
-          c.step.ensures.runs,
-          seen_bound c.args.workspace.now inv.ready.made inv.open_still inv.moves,
-        );
+        bound = omega (arith, c.step.ensures.runs);
         claim = record {
           ready = ready_still left.only.made left.only.windows
               (ready_walked ok inv.geometry c.next.ensures.leaves.kept inv.ready);
@@ -227,23 +224,21 @@ returns-then-not-seen-clause-claiming g c =
     let ok = c.in_ok-next.ensures.leaves.read in
     let left = c.step.ensures.claiming.left in
     let now = c.in_ok-seen.ensures.claiming.claims in
+    let few = seen_bound c.args.workspace.now inv.ready.made inv.open_still inv.moves in
     let cut : is_open s' ≡ false = sym now.uncut ∙ c.if-not-seen.true in
     let next = rw (inv.device, c.in-Some.is) at c.in_ok-next.ensures.step.steps in
     record {
       text = steps_said v c.args.number s s' c.loop-next.walk c.next.new.self (λ bytes. []) c.in-Some.next inv.said next
           now.claims_are (λ bytes t. cut_silent v c.args.number s' (steps_left bytes c.next.new.self) cut)
           c.in_ok-seen.ensures.claiming.said;
-      claims = claims_on v s c.loop-next.walk c.next.new.self (λ bytes. s') c.in-Some.next next now.claims_are inv.claims
+      claims = claims_on v s c.loop-next.walk c.next.new.self (λ bytes. s') c.in-Some.next next now.claims_are
+          inv.claims
           (λ bytes t. cut_stays v s' (steps_left bytes c.next.new.self) cut);
       left = record {
         image = ok ∙ inv.device;
         moves = moves_on c.in-Some.next inv.ready.made c.args.geometry.now.sound.sizes.frag_high
             (rw (inv.geometry, c.in-Some.is) at c.in_ok-next.ensures.step.fits).length now.claims_are inv.moves;
-        bound = omega (
-          arith,
-          c.step.ensures.runs,
-          seen_bound c.args.workspace.now inv.ready.made inv.open_still inv.moves,
-        );
+        bound = omega (arith, c.step.ensures.runs);
         claim = record {
           ready = ready_still left.only.made left.only.windows
               (ready_walked ok inv.geometry c.next.ensures.leaves.kept inv.ready);

@@ -8,7 +8,7 @@ use Rattle.ffs_maps.proofs.Bits.{bits_long}
 use Rattle.ffs_workspace.specs.Holds.{claims_of}
 use Rattle.ffs_claims.proofs.Frames.{ready_begun, ready_stored}
 use Rattle.ffs_claims.proofs.Inodes.{begun, begun_runs, stored_runs, has_inode, steps_reported, class_said}
-use Rattle.ffs_claims.proofs.{Inodes.class_stopped, Inodes.free_claims, Inodes.free_silent, Potentials.used_below}
+use Rattle.ffs_claims.proofs.Inodes.{class_stopped, free_claims, free_silent, used_below}
 use Rattle.ffs_claims.proofs.claim.claim_read_inode.Goals.{in-Free, in_default}
 use Rattle.ffs_claims.specs.Lines.{of_lines, counted_owner, owner_with}
 use Rattle.ffs_claims.proofs.claim.claim_read_inode.Goals as goal

@@ -12,14 +12,12 @@ use Rattle.ffs_claims.proofs.offer.offers.Goals as goal
 pub returns-in_err-offer-clause-said : goal.returns-in_err-offer-clause-said
 returns-in_err-offer-clause-said g c =
     let p = err_from_is_err_and c.from_residual.result c.from_residual.ensures.1 in
+    let v = c.args.geometry.now.layout in
+    let s = claims_of c.loop-index.workspace in
     let f = c.from.result + c.from-in-loop-index.result in
-    rw (p.1) (to_stops _ _ _ (of_lines
-    (offer_lines c.args.geometry.now.layout c.args.number (claims_of c.loop-index.workspace) f)) _ _ _
-    c.loop-index.invariant.said
-    (offers_more c.args.geometry.now.layout c.args.number (claims_of c.loop-index.workspace)
-    (claims_of c.offer.new.workspace) c.args.start c.args.len c.loop-index.index f
-    c.loop-index-test.true (omega arith) c.offer.ensures.claims)
-    c.in_err-offer.ensures.said)
+    rw (p.1) (to_stops _ _ _ (of_lines (offer_lines v c.args.number s f)) _ _ _ c.loop-index.invariant.said
+    (offers_more v c.args.number s (claims_of c.offer.new.workspace) c.args.start c.args.len c.loop-index.index f
+    c.loop-index-test.true (omega arith) c.offer.ensures.claims) c.in_err-offer.ensures.said)
 
 pub returns-in_err-offer-clause-only : goal.returns-in_err-offer-clause-only
 returns-in_err-offer-clause-only g c = offers_then c.loop-index.invariant.only c.offer.ensures.only
@@ -27,25 +25,18 @@ returns-in_err-offer-clause-only g c = offers_then c.loop-index.invariant.only c
 pub loop-index-preserved : goal.loop-index-preserved
 loop-index-preserved g c =
     let inv = c.loop-index.invariant in
+    let v = c.args.geometry.now.layout in
+    let s = claims_of c.loop-index.workspace in
+    let s' = claims_of c.offer.new.workspace in
     let f = c.from.result + c.from-in-loop-index.result in
-    let now = c.offer.ensures.claims in
     record {
       only = offers_then inv.only c.offer.ensures.only;
-      kept = omega (
-        arith,
-        inv.kept,
-        offer_kept c.args.geometry.now.layout (claims_of c.loop-index.workspace)
-            (claims_of c.offer.new.workspace) f now,
-      );
-      claims = inv.claims ∙ offers_after c.args.geometry.now.layout (claims_of c.loop-index.workspace)
-          (claims_of c.offer.new.workspace) c.args.start c.args.len c.loop-index.index f
-          c.loop-index-test.true (omega arith) c.offer.ensures.claims;
-      said = to_says _ _ _ (of_lines
-          (offer_lines c.args.geometry.now.layout c.args.number (claims_of c.loop-index.workspace) f)) _ _ _ inv.said
-          (offers_more c.args.geometry.now.layout c.args.number (claims_of c.loop-index.workspace)
-          (claims_of c.offer.new.workspace) c.args.start c.args.len c.loop-index.index f
-          c.loop-index-test.true (omega arith) c.offer.ensures.claims)
-          c.in_ok-offer.ensures.said;
+      kept = omega (arith, inv.kept, offer_kept v s s' f c.offer.ensures.claims);
+      claims = inv.claims ∙ offers_after v s s' c.args.start c.args.len c.loop-index.index f c.loop-index-test.true
+          (omega arith) c.offer.ensures.claims;
+      said = to_says _ _ _ (of_lines (offer_lines v c.args.number s f)) _ _ _ inv.said
+          (offers_more v c.args.number s s' c.args.start c.args.len c.loop-index.index f c.loop-index-test.true
+          (omega arith) c.offer.ensures.claims) c.in_ok-offer.ensures.said;
     }
 
 pub loop-index-init : goal.loop-index-init

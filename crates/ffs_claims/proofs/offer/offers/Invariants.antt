@@ -14,6 +14,5 @@ invariant-loop-index g l = record {
   said : SaidTo (of_lines (lines_of_offers l.geometry.layout l.number (claims_of l.workspace)
       (range_with_len (l.start + l.index) (l.len - l.index))))
       (of_lines (lines_of_offers l.geometry.layout l.number (claims_of l.initial.workspace)
-      (range_with_len l.start l.len)))
-      (progress g.W.Output.sink l.initial.report) (progress g.W.Output.sink l.report);
+      (range_with_len l.start l.len))) (progress g.W.Output.sink l.initial.report) (progress g.W.Output.sink l.report);
 }

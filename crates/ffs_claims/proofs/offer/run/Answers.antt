@@ -15,7 +15,8 @@ returns-in_err-say_bad-clause-claiming g c = record {
 
 pub returns-in_err-offers_of_bad_run-clause-claiming : goal.returns-in_err-offers_of_bad_run-clause-claiming
 returns-in_err-offers_of_bad_run-clause-claiming g c = record {
-  said = let p = err_from_is_err_and c.from_residual-in_err-offers_of_bad_run.result c.from_residual-in_err-offers_of_bad_run.ensures.1 in
+  said = let p = err_from_is_err_and c.from_residual-in_err-offers_of_bad_run.result
+      c.from_residual-in_err-offers_of_bad_run.ensures.1 in
       rw (p.1) (run_stops_later c.args.geometry.now.layout c.args.number (claims_of c.args.workspace.now) c.args.start
       c.args.len (sym c.in_range.ensures.value ∙ c.if-in_range.false) (grind (arith, nat_tests)) c.in_ok-say_bad.ensures
       c.in_err-offers_of_bad_run.ensures.said);

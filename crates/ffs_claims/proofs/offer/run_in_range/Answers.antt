@@ -6,11 +6,9 @@ use Rattle.ffs_claims.proofs.{Frames.offers_claimed, UnclaimedRuns.whole_is, Unc
 use Rattle.ffs_claims.proofs.offer.run_in_range.Goals as goal
 
 pub claim-requires-clause-below : goal.claim-requires-clause-below
-claim-requires-clause-below g c = omega (
-  arith,
-  run_below c.args.geometry.now.layout c.args.start c.args.len c.requires.some (c.requires.can.known refl),
-  c.requires.can.room.made.claimed,
-)
+claim-requires-clause-below g c =
+    let fits = c.requires.can.known refl in
+    omega (arith, run_below _ c.args.start c.args.len c.requires.some fits, c.requires.can.room.made.claimed)
 
 pub returns-then-claim : goal.returns-then-claim
 returns-then-claim g c =

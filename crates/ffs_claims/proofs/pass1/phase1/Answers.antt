@@ -7,9 +7,9 @@ use Rattle.ffs_volume.specs.{Messages.Kinds.Message, Messages.Kinds.phase1, Repo
 use Rattle.ffs_report.proofs.Reporting.{of_begins, of_says, of_part, of_fault, of_stops, of_same, reports_knowing}
 use Rattle.ffs_report.{proofs.Reporting.said_knows, specs.Known.ForBytes}
 use Rattle.ffs_workspace.specs.{Found.WithFresh, Holds.claims_of, Holds.all_claims, Lengths.inodes_of}
-use Rattle.ffs_claims.proofs.{Duplicates.dups_are, Frames.image_from, Frames.ready_still, Numbers.found_begins}
-use Rattle.ffs_claims.proofs.Numbers.{found_next, found_all, numbers_most, before_first, before_end, lines_next}
-use Rattle.ffs_claims.proofs.{Numbers.lines_end, Numbers.first_lines, Potentials.used_below}
+use Rattle.ffs_claims.proofs.{Duplicates.dups_are, Frames.image_from, Frames.ready_still, Inodes.used_below}
+use Rattle.ffs_claims.proofs.Numbers.{found_begins, found_next, found_all, numbers_most, before_first, before_end}
+use Rattle.ffs_claims.proofs.Numbers.{lines_next, lines_end, first_lines}
 use Rattle.ffs_claims.specs.Lines.{of_lines, owners_from}
 use Rattle.ffs_claims.proofs.pass1.phase1.Goals as goal
 
@@ -54,18 +54,13 @@ loop-number-init g c =
 pub claim_inode-requires : goal.claim_inode-requires
 claim_inode-requires g c =
     let inv = c.loop-number.invariant in
+    let numbers = c.args.geometry.now.sound.numbers in
+    let used = used_below inv.ready.ready.made in
     record {
       ready = record {
         claim = inv.ready;
         number_fits = omega (arith, c.loop-number-test.true);
-        runs = omega (
-          arith,
-          inv.runs,
-          c.args.geometry.now.sound.numbers.inodes_below,
-          c.args.geometry.now.sound.numbers.size_below,
-          c.loop-number-test.true,
-          used_below inv.ready.ready.made,
-        );
+        runs = omega (arith, inv.runs, c.loop-number-test.true);
       };
       walk = inv.walk;
     }
@@ -126,8 +121,7 @@ loop-number-preserved g c =
           (of_part _ (λ bytes. of_lines (lines_of_owners v s (owners_from v bytes n)))
           (λ bytes. of_lines (owner_lines v s (owner_of v bytes n)))
           (λ bytes. of_lines (lines_of_owners v (after_owner v s (owner_of v bytes n)) (owners_from v bytes (n + 1)))) _
-          _ _ _ inv.said
-          (λ bytes k. lines_next v bytes s (after_owner v s (owner_of v bytes n)) n lt refl)
+          _ _ _ inv.said (λ bytes k. lines_next v bytes s (after_owner v s (owner_of v bytes n)) n lt refl)
           (said_knows _ _ _ _ _ _ (λ bytes k. contents ∙ k.0) c.in_ok-claim_inode.ensures.claiming.text))
           (λ bytes k. ap (λ (t : Claims). of_lines (lines_of_owners v t (owners_from v bytes (n + 1))))
           (sym (now bytes (contents ∙ k.0))));
@@ -162,8 +156,7 @@ unfolding run_count all_claims
 returns-clause-count g c = λ bytes k. (returns-clause-holds g c bytes k).runs
 
 pub returns-clause-dups : goal.returns-clause-dups
-returns-clause-dups g c = λ bytes k.
-    dups_are c.args.geometry.now.layout bytes c.loop-number.workspace
+returns-clause-dups g c = λ bytes k. dups_are c.args.geometry.now.layout bytes c.loop-number.workspace
     (returns-clause-holds g c bytes k)
 
 pub returns-in_err-say-clause-ready : goal.returns-in_err-say-clause-ready

@@ -19,8 +19,7 @@ invariant-loop-number g l = let v = l.geometry.layout in
       again : l.workspace.runs_again ≡ l.fn.workspace.runs_again;
       claims : ForBytes knows (λ bytes. claims_of l.workspace ≡ claims_before v bytes l.number);
       found : ForBytes knows (λ bytes. FoundTo v bytes l.workspace l.number);
-      said : SaidOf knows
-          (λ bytes. of_lines (lines_of_owners v (claims_of l.workspace) (owners_from v bytes l.number)))
+      said : SaidOf knows (λ bytes. of_lines (lines_of_owners v (claims_of l.workspace) (owners_from v bytes l.number)))
           (λ bytes. phase1 ∷ of_lines (phase1_lines v (owners_of v bytes)))
           (progress g.W.Output.sink l.fn.report) (progress g.W.Output.sink l.report);
     }

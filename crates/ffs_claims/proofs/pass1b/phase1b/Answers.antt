@@ -10,7 +10,7 @@ use Rattle.ffs_workspace.specs.{Found.WithPhase1, Lengths.inodes_of, Lengths.set
 use Rattle.ffs_claims.proofs.Duplicates.{none_first, none_left, some_left}
 use Rattle.ffs_claims.proofs.{Frames.claims_then, Frames.image_from, Frames.ready_unseen, Numbers.numbers_most}
 use Rattle.ffs_claims.proofs.Reportings.{reporting_more, reporting_ends, reporting_same, lines_split, reporting_over}
-use Rattle.ffs_claims.proofs.{RescanBounds.look_fits, RescanCounts.looked_none, Rescanned.IsNoted, Rescanned.is_noted}
+use Rattle.ffs_claims.proofs.{RescanCounts.look_fits, RescanCounts.looked_none, Rescanned.IsNoted, Rescanned.is_noted}
 use Rattle.ffs_claims.proofs.Rescanned.{offers_at, runs_at, kept_from, runs_from, looked_on, looked_end, looked_first}
 use Rattle.ffs_claims.proofs.Rescanned.{kept_next, kept_end, runs_on, runs_most, claims_hold, reported_same, all_lines}
 use Rattle.ffs_claims.proofs.{Rescanned.all_kept, Rescanned.starts_hold, Rewalks.runs_pay_all, Rewalks.runs_pay_then}
@@ -62,7 +62,8 @@ rewalk_inode-requires g c = record {
 
 pub returns-in_err-rewalk_inode-clause-prints : goal.returns-in_err-rewalk_inode-clause-prints
 returns-in_err-rewalk_inode-clause-prints g c =
-    let p = err_from_is_err_and c.from_residual-in_err-rewalk_inode.result c.from_residual-in_err-rewalk_inode.ensures.1 in
+    let p = err_from_is_err_and c.from_residual-in_err-rewalk_inode.result
+    c.from_residual-in_err-rewalk_inode.ensures.1 in
     let v = c.args.geometry.now.layout in
     let inv = c.loop-number.invariant in
     let n = c.loop-number.number in
@@ -74,9 +75,9 @@ returns-in_err-rewalk_inode-clause-prints g c =
           c.in_err-rewalk_inode.ensures.rewalks.left.image;
       text = of_fault (Unit {0}) (Unit {0}) _ (λ bytes. of_lines (first_offer_lines d (kept_from v bytes n)))
           (λ bytes. of_lines (first_offer_lines d (offers_at v bytes notes n)))
-          (λ bytes. of_lines (first_offer_lines (after_first d (offers_at v bytes notes n)) (kept_from v bytes (n + 1))))
-          _ _ _ _ c.in_err-rewalk_inode.field-0.0 inv.said
-          (λ bytes k. lines_split d _ _ _ _ (kept_next v bytes notes n
+          (λ bytes. of_lines (first_offer_lines (after_first d (offers_at v bytes notes n))
+          (kept_from v bytes (n + 1))))
+          _ _ _ _ c.in_err-rewalk_inode.field-0.0 inv.said (λ bytes k. lines_split d _ _ _ _ (kept_next v bytes notes n
           (is_noted c.args.geometry.now.sound inv.low (omega arith) inv.claims k.1)) refl)
           (reports_knowing (Unit {0}) _ _ _ _ _ fault (λ bytes k. ap (λ d. d.contents) inv.device ∙ k.0)
           c.in_err-rewalk_inode.ensures.rewalks.text);
@@ -87,13 +88,9 @@ returns-in_err-rewalk_inode-clause-runs g c = λ bytes k.
     let v = c.args.geometry.now.layout in
     let inv = c.loop-number.invariant in
     let n = c.loop-number.number in
-    omega (
-      arith,
-      inv.runs bytes k,
-      c.rewalk_inode.ensures.rewalks.runs bytes (ap (λ d. d.contents) inv.device ∙ k.0),
-      runs_on v bytes _ n (is_noted c.args.geometry.now.sound inv.low (omega arith) inv.claims k.1),
-      runs_most v bytes (n + 1) (omega arith) (λ h. omega arith),
-    )
+    let on = runs_on v bytes _ n (is_noted c.args.geometry.now.sound inv.low (omega arith) inv.claims k.1) in
+    let most = runs_most v bytes (n + 1) (omega arith) (λ h. omega arith) in
+    omega (arith, inv.runs bytes k, c.rewalk_inode.ensures.rewalks.runs bytes (ap (λ d. d.contents) inv.device ∙ k.0))
 
 pub loop-number-preserved : goal.loop-number-preserved
 loop-number-preserved g c =
@@ -118,12 +115,9 @@ loop-number-preserved g c =
       claims = claims_then inv.claims rewalks.left.claims;
       low = omega arith;
       high = λ h. omega arith;
-      runs = λ bytes k. omega (
-        arith,
-        inv.runs bytes k,
-        rewalks.runs bytes (image ∙ k.0),
-        runs_on v bytes notes n (noted bytes k),
-      );
+      runs = λ bytes k.
+          let more = runs_on v bytes notes n (noted bytes k) in
+          omega (arith, inv.runs bytes k, rewalks.runs bytes (image ∙ k.0));
       reads = runs_pay_then _ _ _ _ inv.reads c.rewalk_inode.ensures.counted (omega (arith, inv.low));
       count = λ bytes k.
           let fits : c.loop-number.workspace.runs_again + runs_until_reported d (runs_at v bytes notes n) < 2 ^ 64 =
@@ -174,7 +168,8 @@ returns-after-loop-number g c =
       prints = record {
         image = inv.device;
         text = of_same _ _ (λ bytes. []) _ _ _ inv.said
-            (λ bytes k. ap (λ os. of_lines (first_offer_lines d os)) (kept_end v bytes (claims_before v bytes n) n past));
+            (λ bytes k. ap (λ os. of_lines (first_offer_lines d os))
+            (kept_end v bytes (claims_before v bytes n) n past));
       };
       holds = λ bytes k. (
         claims_hold v bytes c.args.workspace.now _ k.1 inv.claims

@@ -40,10 +40,10 @@ loop-next-init g c =
         paid = λ _. omega (arith, top_unread c.start-walk.result c.start-walk.ensures.top);
       };
       walk = λ bytes t. rewalk_begins begun (steps bytes);
-      said = of_same _ _ _ _ _ _
-          (of_begins _ (λ bytes. of_lines
+      said = of_same _ _ _ _ _ _ (of_begins _ (λ bytes. of_lines
           (first_offer_lines d (offers_again v n cut fresh_replay (steps_of v c.args.inode.now bytes)))) _)
-          (λ bytes t. ap (λ r. of_lines (first_offer_lines d (offers_again v n cut r (steps_of v c.args.inode.now bytes))))
+          (λ bytes t. ap (λ r. of_lines (first_offer_lines d
+          (offers_again v n cut r (steps_of v c.args.inode.now bytes))))
           (sym begun)
           ∙ ap (λ xs. of_lines (first_offer_lines d (offers_again v n cut (replay_in c.start-keeping.result) xs)))
           (sym (steps bytes)));
@@ -100,17 +100,13 @@ returns-in_err-report_again-clause-rewalks g c =
           (steps_left bytes c.next.new.self) d (after_first d offers) (next bytes t) refl refl)
           (rw inv.cut at c.in_err-report_again.ensures.said);
       rewalked = tt;
-      runs = λ bytes t. omega (
-        arith,
-        (inv.walk bytes t).runs,
-        rw inv.cut at c.report_again.ensures.runs.most,
-        runs_next v cut r r' c.in-Some.next (steps_left bytes c.loop-next.walk) (steps_left bytes c.next.new.self)
-            (next bytes t) refl,
-      );
+      runs = λ bytes t.
+          let rest = runs_next v cut r r' c.in-Some.next (steps_left bytes c.loop-next.walk)
+          (steps_left bytes c.next.new.self) (next bytes t) refl in
+          omega (arith, (inv.walk bytes t).runs, rw inv.cut at c.report_again.ensures.runs.most);
       left = record {
         image = ok ∙ inv.device;
-        ready = ready_still only.made only.windows
-            (ready_walked ok inv.geometry c.next.ensures.leaves.kept inv.ready);
+        ready = ready_still only.made only.windows (ready_walked ok inv.geometry c.next.ensures.leaves.kept inv.ready);
         claims = claims_then (claims_still inv.claims) only.claims;
       };
     })
@@ -134,10 +130,13 @@ loop-next-preserved-then-matches g c =
     let only = c.report_again.ensures.only in
     let same = c.in_ok-next.ensures.same.geometry ∙ inv.geometry in
     let next = rw (inv.device, c.in-Some.is) at c.in_ok-next.ensures.step.steps in
-    let ready = ready_still only.made only.windows (ready_walked ok inv.geometry c.next.ensures.leaves.kept inv.ready) in
+    let ready = ready_still only.made only.windows (ready_walked ok inv.geometry c.next.ensures.leaves.kept
+    inv.ready) in
     let gaps : ForBytes (IsContents (g.I.Image.device c.args.image.now).contents)
-    (λ bytes. steps_left bytes c.next.new.self ≡ replicate c.skip_gaps.result Gap ++ steps_left bytes c.skip_gaps.new.self) =
-    λ bytes t. c.skip_gaps.ensures.steps (g.I.Image.device c.next.new.image).contents (rw same ready.windows.blocks) bytes
+    (λ bytes. steps_left bytes c.next.new.self ≡ replicate c.skip_gaps.result Gap ++ steps_left bytes
+    c.skip_gaps.new.self) =
+    λ bytes t. c.skip_gaps.ensures.steps (g.I.Image.device c.next.new.image).contents (rw same ready.windows.blocks)
+    bytes
     (ap (λ d. d.contents) (ok ∙ inv.device) ∙ t) in
     record {
       ready = ready;
@@ -156,7 +155,8 @@ loop-next-preserved-then-matches g c =
           (λ bytes. first_offer_lines d' (offers_again v n cut r' (steps_left bytes c.skip_gaps.new.self)))
           inv.cut inv.said next did
           (λ bytes t. ap (λ xs. first_offer_lines d' (offers_again v n cut r' xs)) (gaps bytes t)
-          ∙ ap (first_offer_lines d') (gaps_offer v n cut r' c.skip_gaps.result (steps_left bytes c.skip_gaps.new.self)))
+          ∙ ap (first_offer_lines d') (gaps_offer v n cut r' c.skip_gaps.result
+          (steps_left bytes c.skip_gaps.new.self)))
           c.in_ok-report_again.ensures.said;
     }
 
@@ -209,8 +209,7 @@ returns-then-not-is_replay_open-clause-rewalks g c =
       runs = λ bytes t. omega (arith, (walk bytes t).runs);
       left = record {
         image = ok ∙ inv.device;
-        ready = ready_still only.made only.windows
-            (ready_walked ok inv.geometry c.next.ensures.leaves.kept inv.ready);
+        ready = ready_still only.made only.windows (ready_walked ok inv.geometry c.next.ensures.leaves.kept inv.ready);
         claims = claims_then (claims_still inv.claims) only.claims;
       };
     }
@@ -233,8 +232,7 @@ returns-then-not-has_dups-clause-rewalks g c =
       runs = λ bytes t. omega (arith, (walk bytes t).runs);
       left = record {
         image = ok ∙ inv.device;
-        ready = ready_still only.made only.windows
-            (ready_walked ok inv.geometry c.next.ensures.leaves.kept inv.ready);
+        ready = ready_still only.made only.windows (ready_walked ok inv.geometry c.next.ensures.leaves.kept inv.ready);
         claims = claims_then (claims_still inv.claims) only.claims;
       };
     }

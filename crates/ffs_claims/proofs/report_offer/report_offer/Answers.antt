@@ -6,7 +6,8 @@ use Rattle.ffs_claims.proofs.report_offer.report_offer.Goals as goal
 pub returns-then-fragment-from : goal.returns-then-fragment-from
 returns-then-fragment-from g c =
     let size = bits_long c.args.workspace.now.duplicates ∙ c.requires.can.made.duplicates in
-    let out = get_or-eq_default (bits_of c.args.workspace.now.duplicates) false {n = c.args.fragment} (omega (arith, size)) in
+    let out = get_or-eq_default (bits_of c.args.workspace.now.duplicates) false {n = c.args.fragment}
+    (omega (arith, size)) in
     record {
       said = said_out _ c.args.number c.args.fragment _ out;
       reported = reported_out _ c.args.number c.args.fragment out;

@@ -15,11 +15,9 @@ loop-index-init g c =
     let w = c.args.workspace.now in
     record {
       only = offers_reported_none c.requires.can.made;
-      reported = reporting_same
-          (reporting_begins (map (offer_of n) (range_with_len c.args.start c.args.len)) w)
+      reported = reporting_same (reporting_begins (map (offer_of n) (range_with_len c.args.start c.args.len)) w)
           (ap (map (offer_of n)) (from_start c.args.start c.args.len));
-      said = to_same (to_begins
-          (of_lines (first_offer_lines (bits_of w.duplicates)
+      said = to_same (to_begins (of_lines (first_offer_lines (bits_of w.duplicates)
           (map (offer_of n) (range_with_len c.args.start c.args.len)))) _)
           (ap (λ (fs : List ℕ). of_lines (first_offer_lines (bits_of w.duplicates) (map (offer_of n) fs)))
           (from_start c.args.start c.args.len));
@@ -58,8 +56,7 @@ loop-index-preserved g c =
       only = offers_reported_then inv.only c.report_offer.ensures.only;
       reported = reporting_more inv.reported next c.report_offer.ensures.reported;
       said = to_says _ (of_lines (first_offer_lines d' rest)) _ (of_lines (first_offer_lines d (offer_of n f ∷ []))) _ _
-          _ inv.said
-          (ap (λ (os : List Offer). of_lines (first_offer_lines d os)) next
+          _ inv.said (ap (λ (os : List Offer). of_lines (first_offer_lines d os)) next
           ∙ lines_split d d' _ (offer_of n f ∷ []) rest refl c.report_offer.ensures.reported.dup)
           c.in_ok-report_offer.ensures.said;
     }
@@ -74,5 +71,4 @@ returns-clause-said g c =
 pub returns-clause-reported : goal.returns-clause-reported
 returns-clause-reported g c =
     let inv = c.loop-index.invariant in
-    reporting_ends inv.reported
-    (run_over c.args.number c.args.start c.args.len c.loop-index.index (omega arith))
+    reporting_ends inv.reported (run_over c.args.number c.args.start c.args.len c.loop-index.index (omega arith))

@@ -9,8 +9,7 @@ loop-group-init c =
     let v = c.args.geometry.now.layout in
     record {
       size = c.set_run-2.ensures.size ∙ c.set_run.ensures.size ∙ c.requires.size;
-      bits = λ fresh.
-          two_runs v (bits_of c.args.map.now) (bits_of c.set_run.new.self) (bits_of c.set_run-2.new.self)
+      bits = λ fresh. two_runs v (bits_of c.args.map.now) (bits_of c.set_run.new.self) (bits_of c.set_run-2.new.self)
           (length_bits _ _ ∙ c.requires.size) (length_bits _ _ ∙ c.set_run.ensures.size ∙ c.requires.size) fresh
           (c.set_run.ensures.bits ∙ ap (set_run (bits_of c.args.map.now) 0) c.cgdmin.ensures.value)
           (rw c.div_ceil-summary.ensures at c.set_run-2.ensures.bits);
@@ -25,8 +24,7 @@ loop-group-preserved c =
       size = c.set_run-in-loop-group.ensures.size ∙ inv.size;
       bits = λ fresh.
           group_run v (bits_of c.loop-group.map) (bits_of c.set_run-in-loop-group.new.self) c.loop-group.group
-          (cgdmin v c.loop-group.group - cgsblock v c.loop-group.group)
-          (length_bits _ _ ∙ inv.size)
+          (cgdmin v c.loop-group.group - cgsblock v c.loop-group.group) (length_bits _ _ ∙ inv.size)
           (omega (
             arith,
             c.args.geometry.now.sound.parts.super_fits,

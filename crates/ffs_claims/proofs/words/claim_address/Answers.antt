@@ -7,16 +7,14 @@ claim-requires-clause-below c =
     let v = c.args.geometry.now.layout in
     let run = c.contains.ensures.0 c.if-not-contains.false in
     let some = c.args.geometry.now.sound.sizes.frag_low in
-    omega (
-      arith,
-      run_below v c.args.address v.frag some (c.requires.only_data.runs c.args.address v.frag run.first run.last some),
-      c.requires.made.claimed,
-    )
+    let fits = c.requires.only_data.runs c.args.address v.frag run.first run.last some in
+    omega (arith, run_below v c.args.address v.frag some fits, c.requires.made.claimed)
 
 pub returns-clause-claims : goal.returns-clause-claims
 returns-clause-claims c = λ t block.
     let run = c.contains.ensures.0 c.if-not-contains.false in
     let fits = c.requires.only_data.runs c.args.address c.args.geometry.now.layout.frag run.first run.last
     c.args.geometry.now.sound.sizes.frag_low in
-    run_claims c.args.address block c.requires.uncut c.if-address-eq0.false fits (c.claim.ensures.clear c.if-not-claim.false)
+    run_claims c.args.address block c.requires.uncut c.if-address-eq0.false fits
+    (c.claim.ensures.clear c.if-not-claim.false)
     (rw (c.claim.ensures.claimed c.if-not-claim.false, c.from.ensures) refl)

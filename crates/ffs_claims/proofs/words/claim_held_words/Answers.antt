@@ -1,5 +1,5 @@
 use Rattle.std.proofs.Common.{◌∙◌, ap, arith}
-use Rattle.ffs_claims.proofs.Potentials.{kept_room, seen_bound}
+use Rattle.ffs_claims.proofs.Inodes.{kept_room, seen_bound}
 use Rattle.ffs_claims.proofs.WordClaims.{words_none, words_once, words_then}
 use Rattle.ffs_claims.proofs.words.claim_held_words.Goals as goal
 
@@ -29,24 +29,17 @@ pass_word-requires-clause-left c = c.has_word.ensures.0 c.loop-geometry-test.tru
 
 pub claim_address-requires : goal.claim_address-requires
 claim_address-requires c =
-    let inv = c.loop-geometry.invariant in
-    let u = c.args.workspace.now in
+    let next = c.requires.next in
+    let words = c.loop-geometry.invariant.words in
+    let size = c.args.geometry.now.sound.numbers.size_below in
+    let kept = kept_room c.args.workspace.now words.only.made words.uncut words.moves in
+    let seen = seen_bound c.args.workspace.now words.only.made words.uncut words.moves in
     record {
-      made = inv.words.only.made;
-      only_data = c.requires.next.only_data;
-      uncut = inv.words.uncut;
-      room = omega (
-        arith,
-        c.args.geometry.now.sound.numbers.size_below,
-        kept_room u inv.words.only.made inv.words.uncut inv.words.moves,
-        c.requires.next.room,
-      );
-      runs = omega (
-        arith,
-        c.args.geometry.now.sound.numbers.size_below,
-        seen_bound u inv.words.only.made inv.words.uncut inv.words.moves,
-        c.requires.next.runs,
-      );
+      made = words.only.made;
+      only_data = next.only_data;
+      uncut = words.uncut;
+      room = omega arith;
+      runs = omega arith;
     }
 
 pub loop-geometry-preserved : goal.loop-geometry-preserved

@@ -9,8 +9,7 @@ returns-then-start-data c =
     let group : c.args.start / v.fpg < v.ncg = group_below v c.args.start c.args.geometry.now.sound c.requires.inside in
     record {
       area = record {
-        runs = λ s n low high some.
-            before_metadata v (c.args.start / v.fpg) s n c.args.geometry.now.sound group
+        runs = λ s n low high some. before_metadata v (c.args.start / v.fpg) s n c.args.geometry.now.sound group
             (rw c.cgbase-base.ensures.value at low) (rw c.cgsblock.ensures at high) some;
       };
       run = λ n some fits.
@@ -29,8 +28,7 @@ returns c =
     base_above v (c.args.start / v.fpg) in
     record {
       area = record {
-        runs = λ s n low high some.
-            after_metadata v (c.args.start / v.fpg) s n c.args.geometry.now.sound group
+        runs = λ s n low high some. after_metadata v (c.args.start / v.fpg) s n c.args.geometry.now.sound group
             (rw c.cgdmin-data.ensures.value at low) (omega (arith, next, high)) (omega (arith, high)) some;
       };
       run = λ n some fits.
