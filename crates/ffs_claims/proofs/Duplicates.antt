@@ -53,28 +53,11 @@ reported_blame x i s t tail line e none bad =
     both true b = refl
     both false b = refl
 
-many_dup : (x i : ℕ) (b : Bool) → list_any (blames x) (if b then ManyDup i ∷ [] else []) ≡ false
-many_dup x i true = refl
-many_dup x i false = refl
-
-many_bad : (x i : ℕ) (b : Bool) → list_any (blames x) (if b then ManyBad i ∷ [] else []) ≡ false
-many_bad x i true = refl
-many_bad x i false = refl
-
-cut_tail : (x i : ℕ) (b : Bool) → list_any (blames x) (if b then PartTrunc i ∷ [] else []) ≡ false
-cut_tail x i true = refl
-cut_tail x i false = refl
-
-more_dups : (s : Claims) → has_blame (record s { kept = s.kept + 1; dups = s.dups + 1 }) ≡ true
-more_dups s = let apart : (s.dups + 1 == 0) ≡ false = grind (arith, nat_tests) in
-    of (s.bad == 0) (s.dups + 1 == 0) apart
-  where
-    of : (a b : Bool) → b ≡ false → not (a && b) ≡ true
-    of true b e = ap not e
-    of false b e = refl
+more_dups : (n d : ℕ) → not (n == 0 && d + 1 == 0) ≡ true
+more_dups n d = grind (arith, nat_tests)
 
 more_bad : (n d : ℕ) → not (n + 1 == 0 && d == 0) ≡ true
-more_bad n d = let apart : (n + 1 == 0) ≡ false = grind (arith, nat_tests) in ap (λ (b : Bool). not (b && d == 0)) apart
+more_bad n d = grind (arith, nat_tests)
 
 blames_told : (v : Layout) (x i : ℕ) → IsTold v i (Blames x i)
 blames_told v x i = record {
@@ -88,12 +71,17 @@ blames_told v x i = record {
     dup =
         slice_set s.dup f true;
   })
-      (if many then ManyDup i ∷ [] else []) (Dup f i) refl (many_dup x i many) (more_dups s);
+      (if many then ManyDup i ∷ [] else []) (Dup f i) refl (none x many (ManyDup i ∷ []) refl) (more_dups s.bad s.dups);
   seen = λ s. refl;
   bad = λ s start many. reported_blame x i s (record s { runs = s.runs + 1; bad = s.bad + 1 })
-      (if many then ManyBad i ∷ [] else []) (Bad start i) refl (many_bad x i many) (more_bad s.bad s.dups);
-  tail = λ s first. ap (λ b. b || blamed x i s) (cut_tail x i first);
+      (if many then ManyBad i ∷ [] else []) (Bad start i) refl (none x many (ManyBad i ∷ []) refl) (more_bad s.bad s.dups);
+  tail = λ s first. ap (λ b. b || blamed x i s) (none x first (PartTrunc i ∷ []) refl);
 }
+  where
+    none : (x : ℕ) (b : Bool) (ls : List BlockMessage) → list_any (blames x) ls ≡ false →
+        list_any (blames x) (if b then ls else []) ≡ false
+    none x true ls e = e
+    none x false ls e = refl
 
 class_silent : (x i : ℕ) (class : Class) → list_any (blames x) (class_lines i class) ≡ false
 class_silent x i Free = refl
@@ -240,18 +228,14 @@ dups_told v i = record {
   dup = λ s f many ok h.
       let low = in_range_below v f ok in (sym (set_any s.dup f (omega arith)), length-set s.dup f true);
   seen = λ s h. (refl, refl);
-  bad = λ s start many h. (ap (λ b. b || any_set s.dup) (bad_none i start many), refl);
-  tail = λ s first h. (ap (λ b. b || any_set s.dup) (tail_none i first), refl);
+  bad = λ s start many h. (ap (λ b. b || any_set s.dup) (none many (ManyBad i ∷ []) refl), refl);
+  tail = λ s first h. (ap (λ b. b || any_set s.dup) (none first (PartTrunc i ∷ []) refl), refl);
 }
   where
-    bad_none : (i start : ℕ) (b : Bool) → list_any is_dup_line (Bad start i ∷ (if b then ManyBad i ∷ [] else []))
-        ≡ false
-    bad_none i start true = refl
-    bad_none i start false = refl
-
-    tail_none : (i : ℕ) (b : Bool) → list_any is_dup_line (if b then PartTrunc i ∷ [] else []) ≡ false
-    tail_none i true = refl
-    tail_none i false = refl
+    none : (b : Bool) (ls : List BlockMessage) → list_any is_dup_line ls ≡ false →
+        list_any is_dup_line (if b then ls else []) ≡ false
+    none true ls e = e
+    none false ls e = refl
 
 class_none : (i : ℕ) (class : Class) → list_any is_dup_line (class_lines i class) ≡ false
 class_none i Free = refl

@@ -32,22 +32,22 @@ used_below {w = w} made =
     let size = bits_long w.claimed ∙ made.claimed in
     omega (arith, count_by-le-length (λ b. b) (claims_of w).used, size)
 
+open_few : (s : Claims) → is_open s ≡ true → (s.bad < 11) × (s.dups < 11)
+open_few s free =
+    let both = and_parts (nat_lt s.bad 11) (nat_lt s.dups 11) free in (ltb-true s.bad 11 both.0, ltb-true s.dups 11 both.1)
+
 -- how many Runs are seen, and how many offers are kept, while an inode isn't cut
 pub seen_bound : {v : Layout} (u : Workspace) {w : Workspace} → IsFor v w → is_open (claims_of w) ≡ true →
     ClaimBound (claims_of u) (claims_of w) → w.runs_seen + used_bits (claims_of u) + 2 ≤ u.runs_seen + v.size + 22
 seen_bound u {w = w} made free m =
-    let both = and_parts (nat_lt w.bad 11) (nat_lt w.dups 11) free in
-    let few : w.bad < 11 = ltb-true w.bad 11 both.0 in
-    let few' : w.dups < 11 = ltb-true w.dups 11 both.1 in
-    omega (arith, used_below made, m.few_runs, few, few')
+    let few = open_few (claims_of w) free in
+    omega (arith, used_below made, m.few_runs, few.0, few.1)
 
 pub kept_room : {v : Layout} (u : Workspace) {w : Workspace} → IsFor v w → is_open (claims_of w) ≡ true →
     ClaimBound (claims_of u) (claims_of w) → w.kept ≤ u.kept + v.size + 99
 kept_room u {w = w} made free m =
-    let both = and_parts (nat_lt w.bad 11) (nat_lt w.dups 11) free in
-    let few : w.bad < 11 = ltb-true w.bad 11 both.0 in
-    let few' : w.dups < 11 = ltb-true w.dups 11 both.1 in
-    omega (arith, used_below made, m.few_kept, few, few')
+    let few = open_few (claims_of w) free in
+    omega (arith, used_below made, m.few_kept, few.0, few.1)
 
 -- so there is room to count them
 pub sees_next : {v : Layout} {u w : Workspace} {area : DataArea} → IsAcceptedLayout v → HasBegun u → IsFor v w →

@@ -17,17 +17,15 @@ use Rattle.ffs_claims.specs.{Lines.of_lines, Reporting.after_first, Reporting.Of
 pub first_append : (dup : List Bool) (xs ys : List Offer) → first_offer_lines dup (xs ++ ys) ≡ first_offer_lines dup xs
     ++ first_offer_lines (after_first dup xs) ys
 first_append dup [] ys = refl
-first_append dup (o ∷ xs) ys = one (is_set dup o.fragment) refl (first_append (slice_set dup o.fragment false) xs ys)
-    (first_append dup xs ys)
+first_append dup (o ∷ xs) ys = head (is_set dup o.fragment) (slice_set dup o.fragment false) dup _ _ _ _
+    (first_append (slice_set dup o.fragment false) xs ys) (first_append dup xs ys)
   where
-    one : (b : Bool) → is_set dup o.fragment ≡ b → first_offer_lines (slice_set dup o.fragment false) (xs ++ ys)
-        ≡ first_offer_lines (slice_set dup o.fragment false) xs
-        ++ first_offer_lines (after_first (slice_set dup o.fragment false) xs) ys →
-        first_offer_lines dup (xs ++ ys) ≡ first_offer_lines dup xs ++ first_offer_lines (after_first dup xs) ys →
-        first_offer_lines dup ((o ∷ xs) ++ ys) ≡ first_offer_lines dup (o ∷ xs)
-        ++ first_offer_lines (after_first dup (o ∷ xs)) ys
-    one true q cleared same = rw q (ap (λ (ls : List BlockMessage). Dup o.fragment o.inode ∷ ls) cleared)
-    one false q cleared same = rw q same
+    head : (b : Bool) (d e : List Bool) (A B C D : List BlockMessage) →
+        A ≡ C ++ first_offer_lines (after_first d xs) ys → B ≡ D ++ first_offer_lines (after_first e xs) ys →
+        (if b then Dup o.fragment o.inode ∷ A else B) ≡ (if b then Dup o.fragment o.inode ∷ C else D)
+        ++ first_offer_lines (after_first (if b then d else e) xs) ys
+    head true d e A B C D p q = ap (λ ls. Dup o.fragment o.inode ∷ ls) p
+    head false d e A B C D p q = q
 
 pub after_append : (dup : List Bool) (xs ys : List Offer) →
     after_first dup (xs ++ ys) ≡ after_first (after_first dup xs) ys

@@ -64,18 +64,12 @@ offers_more v inode s s' start len place f h is_place now =
     rw (range_next start len place f h is_place, now) (lines_append (offer_lines v inode s f) _)
 
 -- once an inode is cut its steps change nothing, and nothing is reported of them
-pub cut_stays : (v : Layout) (s : Claims) (steps : List Step) → is_open s ≡ false → after_steps v s steps ≡ s
-cut_stays v s [] h = refl
-cut_stays v s (Run start len block ∷ steps) h = rw h (cut_stays v s steps h)
-cut_stays v s (Tail ∷ steps) h = rw h (cut_stays v s steps h)
-cut_stays v s (Gap ∷ steps) h = cut_stays v s steps h
-
-pub cut_silent : (v : Layout) (inode : ℕ) (s : Claims) (steps : List Step) → is_open s ≡ false →
-    lines_of_steps v inode s steps ≡ []
-cut_silent v inode s [] h = refl
-cut_silent v inode s (Run start len block ∷ steps) h = rw h (cut_silent v inode s steps h)
-cut_silent v inode s (Tail ∷ steps) h = rw h (cut_silent v inode s steps h)
-cut_silent v inode s (Gap ∷ steps) h = cut_silent v inode s steps h
+pub cut_over : (v : Layout) (inode : ℕ) (s : Claims) (steps : List Step) → is_open s ≡ false →
+    (after_steps v s steps ≡ s) × (lines_of_steps v inode s steps ≡ [])
+cut_over v inode s [] h = (refl, refl)
+cut_over v inode s (Run start len block ∷ steps) h = rw h (cut_over v inode s steps h)
+cut_over v inode s (Tail ∷ steps) h = rw h (cut_over v inode s steps h)
+cut_over v inode s (Gap ∷ steps) h = cut_over v inode s steps h
 
 -- the lines of a Run that is bad: the first ones, and those of its offers
 abbrev bad_rest : Layout → ℕ → Claims → ℕ → ℕ → List BlockMessage
@@ -98,18 +92,15 @@ run_stops v inode s start len {a = a} {b = b} h p = one (s.bad == 10) refl p
         (stopped_more a b _ (of_lines (bad_rest v inode s start len)) q)
 
 -- a Run that is bad, and isn't the eleventh one: its first lines were said, and its offers then
-pub run_said : (v : Layout) (inode : ℕ) (s : Claims) (start len : ℕ) {a b c : Progress} →
-    is_run_in_range v start len ≡ false → (s.bad == 10) ≡ false →
-    Said a b (of_lines (bad_lines inode start (s.bad == 10))) → Said b c (of_lines (bad_rest v inode s start len)) →
-    Said a c (of_lines (run_lines v inode s start len))
-run_said v inode s start len h few p q = rw (further v inode s start len h few) (said_then _ _ _ _ _ (rw few at p) q)
+module _ (v : Layout) (inode : ℕ) (s : Claims) (start len : ℕ) {a b c : Progress}
+    (h : is_run_in_range v start len ≡ false) (few : (s.bad == 10) ≡ false)
+    (p : Said a b (of_lines (bad_lines inode start (s.bad == 10)))) where
+  pub run_said : Said b c (of_lines (bad_rest v inode s start len)) → Said a c (of_lines (run_lines v inode s start len))
+  run_said q = rw (further v inode s start len h few) (said_then _ _ _ _ _ (rw few at p) q)
 
-pub run_stops_later : (v : Layout) (inode : ℕ) (s : Claims) (start len : ℕ) {a b c : Progress} →
-    is_run_in_range v start len ≡ false → (s.bad == 10) ≡ false →
-    Said a b (of_lines (bad_lines inode start (s.bad == 10))) → Stopped b c (of_lines (bad_rest v inode s start len)) →
-    Stopped a c (of_lines (run_lines v inode s start len))
-run_stops_later v inode s start len h few p q =
-    rw (further v inode s start len h few) (stopped_after _ _ _ _ _ (rw few at p) q)
+  pub run_stops_later : Stopped b c (of_lines (bad_rest v inode s start len)) →
+      Stopped a c (of_lines (run_lines v inode s start len))
+  run_stops_later q = rw (further v inode s start len h few) (stopped_after _ _ _ _ _ (rw few at p) q)
 
 -- the next step of a walk is taken, and what is to come has another form
 pub claims_on : {knows : List ℕ → Type 0} {s' : Claims} {end : List ℕ → Claims} (v : Layout) (s : Claims) (x y : Walk)
@@ -135,8 +126,7 @@ pub steps_said : {knows : List ℕ → Type 0} {all : List ℕ → List Message}
     ForBytes knows (λ bytes. lines_of_steps v inode s' (steps_left bytes y) ≡ rest bytes) →
     Said b c (of_lines (step_lines v inode s step)) → SaidOf knows (λ bytes. of_lines (rest bytes)) all a c
 steps_said v inode s s' x y rest step said next now same out =
-    of_same _ (λ bytes. of_lines (lines_of_steps v inode s' (steps_left bytes y))) (λ bytes. of_lines (rest bytes)) _ _
-    _
+    of_same _ (λ bytes. of_lines (lines_of_steps v inode s' (steps_left bytes y))) (λ bytes. of_lines (rest bytes)) _ _ _
     (of_says _ _ (λ bytes. of_lines (lines_of_steps v inode s' (steps_left bytes y))) _
     (of_lines (step_lines v inode s step)) _ _ _ said (lines_on v inode s s' x y step next now) out)
     (λ bytes t. ap of_lines (same bytes t))
@@ -147,27 +137,18 @@ pub to_same : {rest rest' all : List Message} {a b : Progress} → SaidTo rest a
 to_same {rest' = rest'} {all = all} {a = a} {b = b} p e = subst (λ xs. SaidTo xs all a b) e p
 
 -- gaps in a row change nothing, and nothing is reported of them
-pub gaps_stay : (v : Layout) (s : Claims) (n : ℕ) (steps : List Step) → after_steps v s (replicate n Gap ++ steps)
-    ≡ after_steps v s steps
-gaps_stay v s zero steps = refl
-gaps_stay v s (suc n) steps = gaps_stay v s n steps
+pub gaps_over : (v : Layout) (inode : ℕ) (s : Claims) (n : ℕ) (steps : List Step) →
+    (after_steps v s (replicate n Gap ++ steps) ≡ after_steps v s steps)
+    × (lines_of_steps v inode s (replicate n Gap ++ steps) ≡ lines_of_steps v inode s steps)
+gaps_over v inode s zero steps = (refl, refl)
+gaps_over v inode s (suc n) steps = gaps_over v inode s n steps
 
-pub gaps_silent : (v : Layout) (inode : ℕ) (s : Claims) (n : ℕ) (steps : List Step) →
-    lines_of_steps v inode s (replicate n Gap ++ steps) ≡ lines_of_steps v inode s steps
-gaps_silent v inode s zero steps = refl
-gaps_silent v inode s (suc n) steps = gaps_silent v inode s n steps
-
--- an inode that no walk goes over has no steps
-pub no_steps : (v : Layout) (i : Inode) (bytes : List ℕ) → is_walked v i ≡ false → steps_of v i bytes ≡ []
-unfolding steps_of
-no_steps v i bytes h = rw h refl
-
+-- an inode that no walk goes over has no steps, nor has an empty one
 none_to_walk : (walked : Bool) (size bsize : ℕ) → 0 < bsize → (walked && not (size == 0)) ≡ false
     → (if walked then div_ceil size bsize else 0) ≡ 0
 none_to_walk true size bsize some h = no_blocks size bsize some (grind (arith, nat_tests))
 none_to_walk false size bsize some h = refl
 
--- nor has an empty one
 pub without_steps : (v : Layout) (i : Inode) (bytes : List ℕ) → 0 < v.bsize →
     (is_walked v i && not (i.size == 0)) ≡ false
     → steps_of v i bytes ≡ []

@@ -1,7 +1,7 @@
 -- What the words of an indirect block claim with nothing to report, one after the other.
-use Rattle.std.proofs.Common.{◌≡◌, ◌≢◌, ℕ, ◌+◌, ◌<◌, ◌≤◌, true, false, nat_eq, nat_lt, Bool, List, [], ◌∷◌, arith, refl}
-use Rattle.std.proofs.{Common.sym, Common.◌∙◌, Common.Option, lemmas.Bool.and_parts, lemmas.Bool.Decides.nat_tests}
-use Rattle.ffs_volume.proofs.Potentials.{moves_then, stays}
+use Rattle.std.proofs.Common.{◌≡◌, ◌≢◌, ℕ, ◌+◌, ◌<◌, ◌≤◌, true, false, nat_eq, nat_lt, List, [], ◌∷◌, arith, refl, sym}
+use Rattle.std.proofs.{Common.◌∙◌, Common.Option, lemmas.Bool.and_parts, lemmas.Bool.Decides.nat_tests}
+use Rattle.ffs_volume.proofs.Potentials.{cond_holds, moves_then, stays}
 use Rattle.ffs_volume.specs.Blocks.Claims.{Claims, after_step, after_steps, is_open, lines_of_steps, step_lines}
 use Rattle.ffs_volume.specs.{Disk.Areas.is_run_in_range, Laws.RunLengths.HasLength}
 use Rattle.ffs_volume.specs.declared.{Layout.Layout, Step.Step}
@@ -31,11 +31,8 @@ run_claims {v = v} {old = old} start block uncut some fits clear now =
 
 -- a word's step has a length
 word_length : (v : Layout) (address block : ℕ) → 0 < v.frag → HasLength v.frag (word_step v.frag address block)
-word_length v address block some = one (nat_eq address 0) refl
-  where
-    one : (b : Bool) → nat_eq address 0 ≡ b → HasLength v.frag (word_step v.frag address block)
-    one true e = rw e tt
-    one false e = rw e (some, omega arith)
+word_length v address block some =
+    cond_holds (HasLength v.frag) (nat_eq address 0) _ _ (λ _. tt) (λ _. (some, omega arith))
 
 -- what is left after a step means the same claims and lines
 claims_same : (v : Layout) (s s' : Claims) (step : Step) (R R' : List Step) → R ≡ step ∷ R' →

@@ -8,9 +8,9 @@ use Rattle.ffs_report.specs.Known.{ForBytes, IsContents}
 use Rattle.ffs_walk.{proofs.Counted.top_held, proofs.Counted.top_unread, specs.Rests.steps_left}
 use Rattle.ffs_workspace.specs.{Holds.claims_of, Ready.IsReady}
 use Rattle.ffs_claims.proofs.Frames.{can_walk, found_none, found_still, found_then, ready_still, ready_read}
-use Rattle.ffs_claims.proofs.{Frames.ready_walked, Inodes.sees_next, Inodes.moves_on, Inodes.seen_bound}
-use Rattle.ffs_claims.proofs.{Inodes.used_below, StepsContinue.claims_on, StepsContinue.lines_on}
-use Rattle.ffs_claims.proofs.StepsContinue.{steps_said, cut_stays, cut_silent, gaps_stay, gaps_silent, without_steps}
+use Rattle.ffs_claims.proofs.Frames.{ready_walked}
+use Rattle.ffs_claims.proofs.Inodes.{sees_next, moves_on, seen_bound, used_below}
+use Rattle.ffs_claims.proofs.StepsContinue.{cut_over, gaps_over, claims_on, lines_on, steps_said, without_steps}
 use Rattle.ffs_claims.proofs.claim.claim.Goals.{in-Gap, in_default-matches}
 use Rattle.ffs_claims.specs.Lines.{of_lines}
 use Rattle.ffs_claims.proofs.claim.claim.Goals as goal
@@ -156,15 +156,12 @@ loop-next-preserved-then-matches g c =
           let paid = rw (c.in-Some.is, is_gap) at reads.paid in
           omega (arith, paid, inv.counted, c.skip_gaps.ensures.counted.unread);
       moves = inv.moves;
-      claims = λ bytes t. sym (ap (after_steps v s) (gaps bytes t) ∙ gaps_stay v s c.skip_gaps.result (rest bytes))
+      claims = λ bytes t. sym (ap (after_steps v s) (gaps bytes t) ∙ (gaps_over v c.args.number s c.skip_gaps.result (rest bytes)).0)
           ∙ inv.claims bytes t;
       said = of_same _ _ _ _ _ _ inv.said (λ bytes t.
           ap (λ xs. of_lines (lines_of_steps v c.args.number s xs)) (gaps bytes t)
-          ∙ ap of_lines (gaps_silent v c.args.number s c.skip_gaps.result (rest bytes)));
+          ∙ ap of_lines (gaps_over v c.args.number s c.skip_gaps.result (rest bytes)).1);
     }
-
-pub claim_words-requires-clause-geometry : goal.claim_words-requires-clause-geometry
-claim_words-requires-clause-geometry g c = c.in_ok-next.ensures.same.geometry ∙ c.loop-next.invariant.geometry
 
 pub claim_words-requires-clause-next : goal.claim_words-requires-clause-next
 claim_words-requires-clause-next g c =
@@ -229,11 +226,11 @@ returns-then-not-seen-clause-claiming g c =
     let next = rw (inv.device, c.in-Some.is) at c.in_ok-next.ensures.step.steps in
     record {
       text = steps_said v c.args.number s s' c.loop-next.walk c.next.new.self (λ bytes. []) c.in-Some.next inv.said next
-          now.claims_are (λ bytes t. cut_silent v c.args.number s' (steps_left bytes c.next.new.self) cut)
+          now.claims_are (λ bytes t. (cut_over v c.args.number s' (steps_left bytes c.next.new.self) cut).1)
           c.in_ok-seen.ensures.claiming.said;
       claims = claims_on v s c.loop-next.walk c.next.new.self (λ bytes. s') c.in-Some.next next now.claims_are
           inv.claims
-          (λ bytes t. cut_stays v s' (steps_left bytes c.next.new.self) cut);
+          (λ bytes t. (cut_over v c.args.number s' (steps_left bytes c.next.new.self) cut).0);
       left = record {
         image = ok ∙ inv.device;
         moves = moves_on c.in-Some.next inv.ready.made c.args.geometry.now.sound.sizes.frag_high

@@ -33,9 +33,6 @@ returns-clause-claiming g c = record {
   left = search rules;
 }
 
-pub run_in_range-requires-clause-open : goal.run_in_range-requires-clause-open
-run_in_range-requires-clause-open g c = c.requires.next.uncut
-
 pub returns-then-in_range-clause-claiming : goal.returns-then-in_range-clause-claiming
 returns-then-in_range-clause-claiming g c =
     let fits = sym c.in_range.ensures.value ∙ c.if-in_range.true in

@@ -1,9 +1,6 @@
 use Rattle.std.proofs.Common.{arith}
 use Rattle.ffs_claims.proofs.offer.step.Goals as goal
 
-pub run-requires-clause-next : goal.run-requires-clause-next
-run-requires-clause-next g c = c.requires.next
-
 pub run-requires-clause-some : goal.run-requires-clause-some
 run-requires-clause-some g c = let length = rw c.in-Run.is at c.requires.length in length.0
 

@@ -1,7 +1,7 @@
 use Rattle.std.proofs.Common.{◌≡◌, rules, arith, refl, sym, ◌∷◌, ◌+◌, ◌≤◌, ◌<◌, [], List, ap, ◌∙◌, Err}
 use Rattle.std.proofs.lemmas.Result.{err_from_is_err_and}
-use Rattle.ffs_volume.{proofs.OwnerLaws.before_next, specs.Blocks.BlockCheck.owner_lines}
-use Rattle.ffs_volume.specs.Blocks.{BlockCheck.lines_of_owners, BlockCheck.phase1_lines, Claims.Claims}
+use Rattle.ffs_volume.proofs.OwnerLaws.{before_next}
+use Rattle.ffs_volume.specs.Blocks.BlockCheck.{owner_lines, lines_of_owners, phase1_lines}
 use Rattle.ffs_volume.specs.Blocks.{Claims.after_owner, KeptSteps.claims_before, Owners.owner_of, Owners.owners_of}
 use Rattle.ffs_volume.specs.{Messages.Kinds.Message, Messages.Kinds.phase1, Report.Whole.run_count}
 use Rattle.ffs_report.proofs.Reporting.{of_begins, of_says, of_part, of_fault, of_stops, of_same, reports_knowing}
@@ -115,16 +115,11 @@ loop-number-preserved g c =
       claims = λ bytes k. after bytes k ∙ sym (before_next v bytes n inv.low);
       found = λ bytes k. found_next inv.low lt inv.ready.ready.made (after bytes k)
           (c.in_ok-claim_inode.ensures.stored bytes (contents ∙ k.0)) (inv.found bytes k);
-      said = of_same _ (λ bytes. of_lines
-          (lines_of_owners v (after_owner v s (owner_of v bytes n)) (owners_from v bytes (n + 1))))
-          (λ bytes. of_lines (lines_of_owners v s' (owners_from v bytes (n + 1)))) _ _ _
-          (of_part _ (λ bytes. of_lines (lines_of_owners v s (owners_from v bytes n)))
+      said = of_part _ (λ bytes. of_lines (lines_of_owners v s (owners_from v bytes n)))
           (λ bytes. of_lines (owner_lines v s (owner_of v bytes n)))
-          (λ bytes. of_lines (lines_of_owners v (after_owner v s (owner_of v bytes n)) (owners_from v bytes (n + 1)))) _
-          _ _ _ inv.said (λ bytes k. lines_next v bytes s (after_owner v s (owner_of v bytes n)) n lt refl)
-          (said_knows _ _ _ _ _ _ (λ bytes k. contents ∙ k.0) c.in_ok-claim_inode.ensures.claiming.text))
-          (λ bytes k. ap (λ (t : Claims). of_lines (lines_of_owners v t (owners_from v bytes (n + 1))))
-          (sym (now bytes (contents ∙ k.0))));
+          (λ bytes. of_lines (lines_of_owners v s' (owners_from v bytes (n + 1)))) _ _ _ _ inv.said
+          (λ bytes k. lines_next v bytes s s' n lt (now bytes (contents ∙ k.0)))
+          (said_knows _ _ _ _ _ _ (λ bytes k. contents ∙ k.0) c.in_ok-claim_inode.ensures.claiming.text);
     }
 
 pub returns-clause-prints : goal.returns-clause-prints
