@@ -38,16 +38,16 @@ Blames x i s lines t = (list_any (blames x) lines || blamed x i s) ≡ blamed x 
 blames_then : (x i : ℕ) (s t u : Claims) (xs ys : List BlockMessage) → Blames x i s xs t → Blames x i t ys u →
     Blames x i s (xs ++ ys) u
 blames_then x i s t u xs ys p q =
-    ap (λ (b : Bool). b || blamed x i s) (list_any-append (blames x) xs ys)
+    ap (λ b. b || blamed x i s) (list_any-append (blames x) xs ys)
     ∙ or_then (list_any (blames x) xs) (list_any (blames x) ys) (blamed x i s) (blamed x i t) (blamed x i u) p q
 
 -- a line that blames the inode
 reported_blame : (x i : ℕ) (s t : Claims) (tail : List BlockMessage) (line : BlockMessage) → blames x line ≡ (i == x) →
     list_any (blames x) tail ≡ false → has_blame t ≡ true → Blames x i s (line ∷ tail) t
 reported_blame x i s t tail line e none bad =
-    ap (λ (b : Bool). (b || list_any (blames x) tail) || blamed x i s) e
-    ∙ ap (λ (b : Bool). ((i == x) || b) || blamed x i s) none
-    ∙ both (i == x) (has_blame s) ∙ ap (λ (b : Bool). (i == x) && b) (sym bad)
+    ap (λ b. (b || list_any (blames x) tail) || blamed x i s) e
+    ∙ ap (λ b. ((i == x) || b) || blamed x i s) none
+    ∙ both (i == x) (has_blame s) ∙ ap (λ b. (i == x) && b) (sym bad)
   where
     both : (a b : Bool) → ((a || false) || (a && b)) ≡ (a && true)
     both true b = refl
@@ -70,8 +70,7 @@ blames_told v x i = record {
     dups = s.dups + 1;
     dup =
         slice_set s.dup f true;
-  })
-      (if many then ManyDup i ∷ [] else []) (Dup f i) refl (none x many (ManyDup i ∷ []) refl) (more_dups s.bad s.dups);
+  }) (if many then ManyDup i ∷ [] else []) (Dup f i) refl (none x many (ManyDup i ∷ []) refl) (more_dups s.bad s.dups);
   seen = λ s. refl;
   bad = λ s start many. reported_blame x i s (record s { runs = s.runs + 1; bad = s.bad + 1 })
       (if many then ManyBad i ∷ [] else []) (Bad start i) refl (none x many (ManyBad i ∷ []) refl) (more_bad s.bad s.dups);
@@ -116,8 +115,7 @@ next_one : (n x k : ℕ) (blame : ℕ → Bool) →
     ≡ ((nat_le n x && nat_lt x (n + suc k)) && blame x)
 next_one n x k blame = elim (cases_eq n x) [
   | inl e ↦ rw e (here x k (blame x))
-  | inr apart ↦ after apart (blame n)
-      (blame x)
+  | inr apart ↦ after apart (blame n) (blame x)
 ]
   where
     here : (x k : ℕ) (b : Bool) → (((x == x) && b) || ((nat_le (x + 1) x && nat_lt x (x + 1 + k)) && b))
@@ -213,7 +211,7 @@ DupsAreReported s lines t = ((list_any is_dup_line lines || any_set s.dup) ≡ a
 dups_then : (s t u : Claims) (xs ys : List BlockMessage) → DupsAreReported s xs t → DupsAreReported t ys u →
     DupsAreReported s (xs ++ ys) u
 dups_then s t u xs ys p q = (
-  ap (λ (b : Bool). b || any_set s.dup) (list_any-append is_dup_line xs ys)
+  ap (λ b. b || any_set s.dup) (list_any-append is_dup_line xs ys)
       ∙ or_then (list_any is_dup_line xs) (list_any is_dup_line ys) (any_set s.dup) (any_set t.dup) (any_set u.dup) p.0
       q.0,
   q.1 ∙ p.1,
@@ -253,10 +251,10 @@ owner_dups : (v : Layout) (s : Claims) (o : Owner) → length s.dup ≡ v.size �
 owner_dups v s o h =
     dups_then s s (after_owner v s o) (class_lines o.number o.class)
     (lines_of_steps v o.number (at_next_inode s) o.steps ++ count_lines v o (after_owner v s o))
-    (ap (λ (b : Bool). b || any_set s.dup) (class_none o.number o.class), refl)
+    (ap (λ b. b || any_set s.dup) (class_none o.number o.class), refl)
     (dups_then s (after_owner v s o) (after_owner v s o) (lines_of_steps v o.number (at_next_inode s) o.steps)
     (count_lines v o (after_owner v s o)) (steps_told (dups_told v o.number) (at_next_inode s) o.steps h)
-    (ap (λ (b : Bool). b || any_set (after_owner v s o).dup) (count_none v o (after_owner v s o)), refl))
+    (ap (λ b. b || any_set (after_owner v s o).dup) (count_none v o (after_owner v s o)), refl))
 
 owners_dups : (v : Layout) (s : Claims) (os : List Owner) → length s.dup ≡ v.size →
     DupsAreReported s (lines_of_owners v s os) (after_owners v s os)
@@ -275,8 +273,8 @@ pub rescan_is : (v : Layout) (image : List ℕ) → any_set (all_claims v image)
 unfolding all_claims phase1_lines no_claims
 rescan_is v image =
     let all = owners_dups v (no_claims v) (owners_of v image) (length-replicate v.size false) in
-    let clear : any_set (replicate v.size false) ≡ false = ap (λ (n : ℕ). not (n == 0)) (none_set v.size) in
-    sym all.0 ∙ ap (λ (b : Bool). list_any is_dup_line (lines_of_owners v (no_claims v) (owners_of v image)) || b) clear
+    let clear : any_set (replicate v.size false) ≡ false = ap (λ n. not (n == 0)) (none_set v.size) in
+    sym all.0 ∙ ap (λ b. list_any is_dup_line (lines_of_owners v (no_claims v) (owners_of v image)) || b) clear
     ∙ or-false _
 
 -- ---- what is left to report
@@ -308,7 +306,7 @@ no_rescan v image w none h = record {
   kinds = h.kinds;
   notes = h.notes;
   marked = λ x. h.marked x ∙ sym (or-false (marked_by_phase1_at v image x))
-      ∙ ap (λ (b : Bool). marked_by_phase1_at v image x || b) (sym (silent x)) ∙ sym (marked_total v image x);
+      ∙ ap (λ b. marked_by_phase1_at v image x || b) (sym (silent x)) ∙ sym (marked_total v image x);
 }
   where
     lines : phase1b_lines v (owners_of v image) ≡ []
@@ -316,7 +314,7 @@ no_rescan v image w none h = record {
         (not-false _ (rescan_is v image ∙ none)))
 
     silent : (x : ℕ) → (is_inode_number v x && list_any (blames x) (phase1b_lines v (owners_of v image))) ≡ false
-    silent x = ap (λ (ls : List BlockMessage). is_inode_number v x && list_any (blames x) ls) lines
+    silent x = ap (λ ls. is_inode_number v x && list_any (blames x) ls) lines
         ∙ and-false (is_inode_number v x)
 
 -- what phase 1 leaves to report

@@ -71,15 +71,9 @@ offers_reported_none made = record { reporting = reports_none made; runs = refl 
 
 pub offers_reported_then : {l : Layout} {u v w : Workspace} → OffersReportedOnly l u v → OffersReportedOnly l v w →
     OffersReportedOnly l u w
-offers_reported_then p q =
-    let a = p.reporting in
-    let b = q.reporting in
+offers_reported_then p q = let a = p.reporting in let b = q.reporting in
     record {
-      reporting = record {
-        made = b.made;
-        windows = b.windows ∙ a.windows;
-        claims = claims_then a.claims b.claims;
-      };
+      reporting = record { made = b.made; windows = b.windows ∙ a.windows; claims = claims_then a.claims b.claims };
       runs = q.runs ∙ p.runs;
     }
 

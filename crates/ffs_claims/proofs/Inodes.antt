@@ -72,7 +72,7 @@ parts : (v : Layout) (number : ℕ) (i : Inode) (s : Claims) (bytes : List ℕ) 
     ++ rest_lines v number i (class_of v i) (at_next_inode s) bytes
 parts v number i s bytes =
     lines_append (class_lines number (class_of v i)) _
-    ∙ ap (λ (xs : List Message). of_lines (class_lines number (class_of v i)) ++ xs)
+    ∙ ap (λ xs. of_lines (class_lines number (class_of v i)) ++ xs)
     (lines_append (lines_of_steps v number (at_next_inode s) (steps_of v i bytes))
     (count_lines v (owner_with v bytes number i) (after_owner v s (owner_with v bytes number i))))
 
@@ -100,8 +100,7 @@ class_stopped v number i s k q =
 pub steps_reported : {knows : List ℕ → Type 0} {a b c : Progress} {s2 : Claims} (v : Layout) (number : ℕ) (i : Inode)
     (s s1 : Claims) (class : Class) →
     SaidOf knows (rest_lines v number i class s1) (λ bytes. of_lines (owner_lines v s (owner_with v bytes number i))) a
-    b
-    → SaidOf knows (λ bytes. []) (λ bytes. of_lines (lines_of_steps v number s1 (steps_of v i bytes))) b c →
+    b → SaidOf knows (λ bytes. []) (λ bytes. of_lines (lines_of_steps v number s1 (steps_of v i bytes))) b c →
     ForBytes knows (λ bytes. s2 ≡ after_steps v s1 (steps_of v i bytes)) →
     SaidOf knows (λ bytes. of_lines (count_lines v (counted_owner number class i.blocks) s2) ++ [])
     (λ bytes. of_lines (owner_lines v s (owner_with v bytes number i))) a c
@@ -126,8 +125,7 @@ pub stored_runs : (u : Workspace) {w : Workspace} →
 stored_runs u e = rw e (record { seen = refl; again = refl; used = refl })
 
 pub begun : (u : Workspace) {w : Workspace} → w ≡ record u { bad = 0; dups = 0; kept = 0; tail = false } →
-    u.runs_seen < 2 ^ 40 →
-    HasBegun w
+    u.runs_seen < 2 ^ 40 → HasBegun w
 begun u e few = rw e (record { bad = refl; dups = refl; kept = refl; runs = omega arith })
 
 pub has_inode : {v : Layout} {w : Workspace} {number : ℕ} → IsFor v w → number < inodes_of v → HasInode number w
@@ -137,7 +135,7 @@ has_inode made low = record { kinds = omega arith; marked = omega arith; notes =
 pub owner_is : (v : Layout) (bytes : List ℕ) (number : ℕ) (i : Inode) → i ≡ inode_of v bytes number →
     owner_with v bytes number i ≡ owner_of v bytes number
 unfolding owner_of
-owner_is v bytes number i e = ap (λ (x : Inode). owner_with v bytes number x) e
+owner_is v bytes number i e = ap (λ x. owner_with v bytes number x) e
 
 -- a fact of an Ok answer, of an image that gives the same
 pub ok_where : {T E : Type 0} (r : Result T E) (contents contents' : Option (List ℕ)) (P Q : List ℕ → Type 0) →

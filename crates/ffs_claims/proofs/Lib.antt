@@ -11,5 +11,4 @@ pub mod Rewalks
 pub mod Rescanned
 pub mod UnclaimedRuns
 pub mod RescanCounts
-pub mod DataAreas
 pub mod WordClaims

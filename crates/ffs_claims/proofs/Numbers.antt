@@ -28,7 +28,7 @@ unfolding claims_before all_claims owners_of
 before_end v bytes x past exact low =
     let same : x - 2 ≡ inodes_of v - 2 =
     elim (cases_lt 2 x) [ inl h ↦ let e : x ≤ inodes_of v = exact h in omega arith | inr h ↦ omega arith ] in
-    ap (λ (n : ℕ). after_owners v (no_claims v) (map (owner_of v bytes) (range_with_len 2 n))) same
+    ap (λ n. after_owners v (no_claims v) (map (owner_of v bytes) (range_with_len 2 n))) same
 
 -- the numbers from 2 on that are gone over
 pub numbers_most : (n most : ℕ) → (2 < n → n ≤ most) → n - 2 ≤ most
@@ -40,18 +40,18 @@ pub lines_next : (v : Layout) (bytes : List ℕ) (s s' : Claims) (x : ℕ) → x
     of_lines (lines_of_owners v s (owners_from v bytes x)) ≡ of_lines (owner_lines v s (owner_of v bytes x))
     ++ of_lines (lines_of_owners v s' (owners_from v bytes (x + 1)))
 lines_next v bytes s s' x low now =
-    ap (λ (xs : List ℕ). of_lines (lines_of_owners v s (map (owner_of v bytes) xs)))
+    ap (λ xs. of_lines (lines_of_owners v s (map (owner_of v bytes) xs)))
     (range_more x (inodes_of v - x) (inodes_of v - (x + 1)) (omega arith))
     ∙ lines_append (owner_lines v s (owner_of v bytes x))
     (lines_of_owners v (after_owner v s (owner_of v bytes x)) (owners_from v bytes (x + 1)))
-    ∙ ap (λ (t : Claims). of_lines (owner_lines v s (owner_of v bytes x))
+    ∙ ap (λ t. of_lines (owner_lines v s (owner_of v bytes x))
     ++ of_lines (lines_of_owners v t (owners_from v bytes (x + 1)))) (sym now)
 
 pub lines_end : (v : Layout) (bytes : List ℕ) (s : Claims) (x : ℕ) → inodes_of v ≤ x →
     of_lines (lines_of_owners v s (owners_from v bytes x)) ≡ []
 lines_end v bytes s x past =
     let none : inodes_of v - x ≡ 0 = omega arith in
-    ap (λ (n : ℕ). of_lines (lines_of_owners v s (map (owner_of v bytes) (range_with_len x n)))) none
+    ap (λ n. of_lines (lines_of_owners v s (map (owner_of v bytes) (range_with_len x n)))) none
 
 -- ---- lists that are filled up to a number
 abbrev FilledTo : {A : Type 0} → A → (ℕ → A) → List A → ℕ → Type 0
@@ -122,8 +122,7 @@ found_begins {v = v} {w = w} bytes fresh same = record {
   kinds = filled_begin 0 (kind_at v bytes) w.kinds.items _ (ap (λ x. x.items) same.kinds ∙ fresh.kinds)
       (λ x low. rw (is_outside v x (inl low)) refl);
   marked = filled_begin false (marked_by_phase1_at v bytes) w.marked.items _
-      (ap (λ x. x.items) same.marked ∙ fresh.marked)
-      (λ x low. rw (is_outside v x (inl low)) refl);
+      (ap (λ x. x.items) same.marked ∙ fresh.marked) (λ x low. rw (is_outside v x (inl low)) refl);
   notes = filled_begin 0 (note_at v bytes) w.notes.items _ (ap (λ x. x.items) same.notes ∙ fresh.notes)
       (λ x low. note_out v bytes x (is_outside v x (inl low)));
   starts = filled_begin 0 (start_at v bytes) w.references.items _ (ap (λ x. x.items) same.references ∙ fresh.references)
@@ -173,4 +172,4 @@ found_all {v = v} {bytes = bytes} {n = n} past all found = record {
 pub first_lines : (v : Layout) (bytes : List ℕ) (s : Claims) → s ≡ no_claims v →
     of_lines (phase1_lines v (owners_of v bytes)) ≡ of_lines (lines_of_owners v s (owners_from v bytes 2))
 unfolding phase1_lines owners_of
-first_lines v bytes s e = ap (λ (t : Claims). of_lines (lines_of_owners v t (owners_from v bytes 2))) (sym e)
+first_lines v bytes s e = ap (λ t. of_lines (lines_of_owners v t (owners_from v bytes 2))) (sym e)

@@ -81,27 +81,27 @@ looked_next v i cut r r' step R R' dup dup' e now going some d = rw (e, now, d) 
     here Gap = omega arith
     here (Run start len block) = rw (going, left) refl
 
--- after the cut no Run is seen
-pub runs_stopped : (v : Layout) (i cut : ℕ) (r : Replay) (R : List Step) → is_replay_open cut r ≡ false →
-    steps_runs_again v i cut r R ≡ []
-unfolding steps_runs_again
-runs_stopped v i cut r [] q = refl
-runs_stopped v i cut r (Run start len block ∷ R) q = rw q (runs_stopped v i cut r R q)
-runs_stopped v i cut r (Tail ∷ R) q = runs_stopped v i cut r R q
-runs_stopped v i cut r (Gap ∷ R) q = runs_stopped v i cut r R q
+-- after the cut nothing is kept and no Run is seen, and gaps in a row keep nothing and are no Runs
+module _ (v : Layout) (i cut : ℕ) (r : Replay) where
+  pub again_stopped : (R : List Step) → is_replay_open cut r ≡ false →
+      (offers_again v i cut r R ≡ []) × (steps_runs_again v i cut r R ≡ [])
+  unfolding steps_runs_again offers_again
+  again_stopped [] q = (refl, refl)
+  again_stopped (Run start len block ∷ R) q = rw q (again_stopped R q)
+  again_stopped (Tail ∷ R) q = again_stopped R q
+  again_stopped (Gap ∷ R) q = again_stopped R q
 
--- gaps in a row are no Runs
-pub gaps_looked : (v : Layout) (i cut : ℕ) (r : Replay) (n : ℕ) (R : List Step) →
-    steps_runs_again v i cut r (replicate n Gap ++ R) ≡ steps_runs_again v i cut r R
-unfolding steps_runs_again
-gaps_looked v i cut r zero R = refl
-gaps_looked v i cut r (suc n) R = gaps_looked v i cut r n R
+  pub again_gaps : (n : ℕ) (R : List Step) → (offers_again v i cut r (replicate n Gap ++ R) ≡ offers_again v i cut r R)
+      × (steps_runs_again v i cut r (replicate n Gap ++ R) ≡ steps_runs_again v i cut r R)
+  unfolding steps_runs_again offers_again
+  again_gaps zero R = (refl, refl)
+  again_gaps (suc n) R = again_gaps n R
 
 -- where a second walk ends, no Run is left to see
 pub looked_stopped : (v : Layout) (i cut : ℕ) (r : Replay) (R : List Step) (dup : List Bool) →
     is_replay_open cut r ≡ false → runs_until_reported dup (steps_runs_again v i cut r R) ≡ 0
 unfolding runs_until_reported
-looked_stopped v i cut r R dup q = ap (runs_until_reported dup) (runs_stopped v i cut r R q)
+looked_stopped v i cut r R dup q = ap (runs_until_reported dup) (again_stopped v i cut r R q).1
 
 pub looked_over : (v : Layout) (i cut : ℕ) (r : Replay) (R : List Step) (dup : List Bool) → R ≡ [] →
     runs_until_reported dup (steps_runs_again v i cut r R) ≡ 0

@@ -157,7 +157,7 @@ runs_rise v bytes n (suc k) low =
     let is : (claims_before v bytes (n + k + 1)).runs ≡ (claims_before v bytes (n + k)).runs + replayed_runs v
     (cut_of (after_steps v (at_next_inode (claims_before v bytes (n + k)))
     (steps_of v (inode_of v bytes (n + k)) bytes))) fresh_replay (steps_of v (inode_of v bytes (n + k)) bytes) =
-    ap (λ (t : Claims). t.runs) (before_next v bytes (n + k) (omega arith)) ∙ again in
+    ap (λ t. t.runs) (before_next v bytes (n + k) (omega arith)) ∙ again in
     rw next (omega (arith, more, is))
 
 pub runs_most : (v : Layout) (bytes : List ℕ) (n : ℕ) → 2 ≤ n → (2 < n → n ≤ inodes_of v) →
@@ -168,10 +168,10 @@ runs_most v bytes n low high = elim (cases_lt n (inodes_of v)) [
       let rise = runs_rise v bytes n (inodes_of v - n) low in
       let sum : n + (inodes_of v - n) ≡ inodes_of v = omega arith in
       let end = before_end v bytes (inodes_of v) (omega arith) (λ _. omega arith) (omega arith) in
-      omega (arith, ap (λ (k : ℕ). (claims_before v bytes k).runs) sum, ap (λ (t : Claims). t.runs) end)
+      omega (arith, ap (λ k. (claims_before v bytes k).runs) sum, ap (λ t. t.runs) end)
   | inr more ↦
       let end = before_end v bytes n more high low in
-      omega (arith, ap (λ (t : Claims). t.runs) end)
+      omega (arith, ap (λ t. t.runs) end)
 ]
 
 -- the offers are of the inodes that they are reported for
@@ -189,7 +189,7 @@ offers_none_of v x i s (f ∷ fs) e =
     (kept_in_offers v i (after_offer v s f) fs) (one (nat_lt s.dups 11)) (offers_none_of v x i (after_offer v s f) fs e)
   where
     one : (b : Bool) → no_offer x (if b then record { inode = i; fragment = f } ∷ [] else []) ≡ true
-    one true = ap (λ (b : Bool). not b && true) e
+    one true = ap (λ b. not b && true) e
     one false = refl
 
 step_none_of : (v : Layout) (x i : ℕ) (s : Claims) (step : Step) → (i == x) ≡ false →
@@ -232,7 +232,7 @@ blames_none_of x dup [] e = refl
 blames_none_of x dup (o ∷ os) e =
     let both = and_parts (not (o.inode == x)) (no_offer x os) e in
     cond_holds (λ (ls : List BlockMessage). list_any (blames x) ls ≡ false) (is_set dup o.fragment) _ _
-    (λ _. ap (λ (b : Bool). b || list_any (blames x) (first_offer_lines (slice_set dup o.fragment false) os))
+    (λ _. ap (λ b. b || list_any (blames x) (first_offer_lines (slice_set dup o.fragment false) os))
     (not-true (o.inode == x) both.0) ∙ blames_none_of x (slice_set dup o.fragment false) os both.1)
     (λ _. blames_none_of x dup os both.1)
 

@@ -5,7 +5,7 @@ use Rattle.std.{proofs.lemmas.Bool.Decides.nat_tests, specs.List.range_with_len}
 use Rattle.ffs_volume.proofs.{Potentials.cond_holds, PrefixLaws.full_offers}
 use Rattle.ffs_volume.proofs.ReplayIsKeeping.{replay_of, seen_replays, step_replays, step_few}
 use Rattle.ffs_volume.specs.Blocks.Claims.{Claims, at_next_inode, is_open, is_set, after_offer, after_offers}
-use Rattle.ffs_volume.specs.Blocks.{Claims.after_step, Claims.after_steps, KeptOffers.Offer}
+use Rattle.ffs_volume.specs.Blocks.Claims.{after_step, after_steps}
 use Rattle.ffs_volume.specs.Blocks.KeptOffers.{kept_in_offers, kept_in_run, kept_in_step, kept_in_steps, offer_of}
 use Rattle.ffs_volume.specs.Disk.Areas.{is_fragment_in_range, is_run_in_range}
 use Rattle.ffs_volume.specs.Encodings.Replay.{Replay, fresh_replay, cut_of, is_replay_open, replay_after_step}
@@ -28,7 +28,7 @@ offers_low v s (f ∷ fs) = one (nat_lt s.dups 11) refl (offers_low v (after_off
     one : (b : Bool) → nat_lt s.dups 11 ≡ b → (after_offer v s f).kept ≤ (after_offers v (after_offer v s f) fs).kept →
         s.kept ≤ (after_offers v s (f ∷ fs)).kept
     one true few more = omega (arith, offer_kept v s f few, more)
-    one false full more = omega (arith, ap (λ (t : Claims). t.kept) (full_offers v 0 s (f ∷ fs) full).1)
+    one false full more = omega (arith, ap (λ t. t.kept) (full_offers v 0 s (f ∷ fs) full).1)
 
 offers_firsts : (v : Layout) (i : ℕ) (s : Claims) (start len k : ℕ) →
     s.kept + k ≡ (after_offers v s (range_with_len start len)).kept →
@@ -54,7 +54,7 @@ offers_firsts v i s start (suc len) k e = one (nat_lt s.dups 11) refl k e
         ∙ ap (λ z. offer_of i start ∷ z) (more n (omega (arith, h, offer_kept v s start few)))
     one false full n h more =
         let shut = full_offers v i s (range_with_len start (suc len)) full in
-        let none : n ≡ 0 = omega (arith, h, ap (λ (t : Claims). t.kept) shut.1) in
+        let none : n ≡ 0 = omega (arith, h, ap (λ t. t.kept) shut.1) in
         shut.0 ∙ sym (ap (λ z. map (offer_of i) (range_with_len start z)) none)
 
 -- ---- a replay that counts kept offers only where there is a cut
@@ -118,8 +118,7 @@ run_offers v i s cut start len block going seen next = one (is_run_in_range v st
     one true f z qz =
         rw f (offers_firsts v i (record s { runs = s.runs + 1 }) start len _ (rw (going, seen, f) at kept))
     one false f true z = rw (f, z) refl
-    one false f false z = rw (f, z)
-        (offers_firsts v i (record s { runs = s.runs + 1; bad = s.bad + 1 }) start len _
+    one false f false z = rw (f, z) (offers_firsts v i (record s { runs = s.runs + 1; bad = s.bad + 1 }) start len _
         (rw (going, seen, f, z) at kept))
 
 -- a step, replayed: its kept offers, and those of its Run
@@ -161,12 +160,12 @@ steps_again v i s (step ∷ steps) few =
     let more = steps_again v i (after_step v s step) steps (step_few v s step few) in
     let next = step_by_cut v cut (replay_of s) step ∙ ap (by_cut cut) after in
     record {
-      offers = ap (λ (x : List Offer). x ++ kept_in_steps v i (after_step v s step) steps) one.offers
-          ∙ ap (λ (x : List Offer). step_offers_again v i cut here step ++ x)
-          (more.offers ∙ ap (λ (r : Replay). offers_again v i cut r steps) (sym next));
-      looks = ap (λ (x : List (List Offer)). x ++ steps_runs v i (after_step v s step) steps) one.looks
-          ∙ ap (λ (x : List (List Offer)). step_runs_again v i cut here step ++ x)
-          (more.looks ∙ ap (λ (r : Replay). steps_runs_again v i cut r steps) (sym next));
+      offers = ap (λ x. x ++ kept_in_steps v i (after_step v s step) steps) one.offers
+          ∙ ap (λ x. step_offers_again v i cut here step ++ x)
+          (more.offers ∙ ap (λ r. offers_again v i cut r steps) (sym next));
+      looks = ap (λ x. x ++ steps_runs v i (after_step v s step) steps) one.looks
+          ∙ ap (λ x. step_runs_again v i cut here step ++ x)
+          (more.looks ∙ ap (λ r. steps_runs_again v i cut r steps) (sym next));
     }
 
 -- an inode, from its begin on
@@ -176,6 +175,6 @@ inode_again v i s steps =
     let cut = cut_of (after_steps v (at_next_inode s) steps) in
     let all = steps_again v i (at_next_inode s) steps (omega arith) in
     record {
-      offers = all.offers ∙ ap (λ (r : Replay). offers_again v i cut r steps) (begins_by_cut cut);
-      looks = all.looks ∙ ap (λ (r : Replay). steps_runs_again v i cut r steps) (begins_by_cut cut);
+      offers = all.offers ∙ ap (λ r. offers_again v i cut r steps) (begins_by_cut cut);
+      looks = all.looks ∙ ap (λ r. steps_runs_again v i cut r steps) (begins_by_cut cut);
     }

@@ -58,7 +58,7 @@ one_below v groups f =
     let kept = λ (c : ℕ). is_in_run (cgsblock v c) (cgdmin v c) f in
     rw more (
     swap (kept groups) (some_below kept groups) (is_first v f)
-    ∙ ap (λ (b : Bool). b || is_first v f) (sym (some_below-suc kept groups))
+    ∙ ap (λ b. b || is_first v f) (sym (some_below-suc kept groups))
     )
   where
     swap : (a b d : Bool) → (a || (b || d)) ≡ ((b || a) || d)
@@ -67,7 +67,7 @@ one_below v groups f =
 reserved_is : (v : Layout) (f : ℕ) → is_reserved_below v v.ncg f ≡ is_reserved v f
 unfolding is_reserved is_group_metadata
 reserved_is v f =
-    ap (λ (z : Bool). some_below (λ c. is_in_run (cgsblock v c) (cgdmin v c) f) v.ncg
+    ap (λ z. some_below (λ c. is_in_run (cgsblock v c) (cgdmin v c) f) v.ncg
     || (is_in_run v.csaddr (v.csaddr + div_ceil v.cssize v.fsize) f || (z || false))) (from_zero (cgdmin v 0) f)
     ∙ turn (nat_lt f (cgdmin v 0)) (is_in_run v.csaddr (v.csaddr + div_ceil v.cssize v.fsize) f)
     (some_below (λ c. is_in_run (cgsblock v c) (cgdmin v c) f) v.ncg)
@@ -103,7 +103,7 @@ two_runs v b0 b1 b2 all0 all1 fresh one two =
     let second : HaveBits v.size (set_run b1 v.csaddr (div_ceil v.cssize v.fsize)) (is_first v) =
     run_test b1 v.size v.csaddr (div_ceil v.cssize v.fsize) (v.csaddr + div_ceil v.cssize v.fsize)
     (λ f. is_in_run 0 (cgdmin v 0) f || false) all1 refl first' in
-    λ f low. ap (λ (xs : List Bool). get_or xs f false) two ∙ second f low ∙ none_below v f
+    λ f low. ap (λ xs. get_or xs f false) two ∙ second f low ∙ none_below v f
 
 pub group_run : (v : Layout) (b b' : List Bool) (group len : ℕ) → length b ≡ v.size →
     cgsblock v group + len ≡ cgdmin v group →
@@ -113,7 +113,7 @@ group_run v b b' group len all ends now before =
     let more : HaveBits v.size (set_run b (cgsblock v group) len)
     (λ f. is_in_run (cgsblock v group) (cgdmin v group) f || is_reserved_below v group f) =
     run_test b v.size (cgsblock v group) len (cgdmin v group) (is_reserved_below v group) all ends before in
-    λ f low. ap (λ (xs : List Bool). get_or xs f false) now ∙ more f low ∙ one_below v group f
+    λ f low. ap (λ xs. get_or xs f false) now ∙ more f low ∙ one_below v group f
 
 -- the claims before the first inode
 pub reserved_claims : (v : Layout) (s s1 : Claims) (used : List Bool) → s1 ≡ at_next_inode s →

@@ -1,14 +1,13 @@
 -- How a second walk over an inode continues.
-use Rattle.std.proofs.Common.{◌≡◌, ◌≢◌, ◌≤◌, ℕ, zero, suc, replicate, ◌+◌, Bool, true, false, List, [], ◌∷◌, ◌++◌, map}
-use Rattle.std.proofs.Common.{Option, arith, refl, ap, ◌∙◌, ◌<◌, ◌-◌, ◌^◌, Result}
+use Rattle.std.proofs.Common.{◌≡◌, ◌≢◌, ◌≤◌, ℕ, replicate, ◌+◌, Bool, true, List, [], ◌∷◌, ◌++◌, map, Option, arith}
+use Rattle.std.proofs.Common.{refl, ap, ◌∙◌, ◌<◌, ◌-◌, ◌^◌, Result}
 use Rattle.std.{proofs.lemmas.Bool.Decides.nat_tests, specs.List.range_with_len}
 use Rattle.ffs_volume.proofs.ReplayLaws.{counted_same, gaps_seen}
 use Rattle.ffs_volume.specs.Blocks.{BlockCheck.first_offer_lines, KeptOffers.offer_of, Steps.steps_of}
 use Rattle.ffs_volume.specs.Encodings.Replay.{Replay, fresh_replay, is_replay_open}
 use Rattle.ffs_volume.specs.Encodings.ReplayCounts.{seen_run, replayed_runs, replay_step_by_cut}
-use Rattle.ffs_volume.specs.Messages.Kinds.{Message}
-use Rattle.ffs_volume.specs.declared.{BlockMessage.BlockMessage, Inode.Inode, Layout.Layout, Step.Step}
-use Rattle.ffs_volume.specs.declared.Step.TheVariants.{Run, Tail, Gap}
+use Rattle.ffs_volume.specs.{Messages.Kinds.Message, declared.BlockMessage.BlockMessage}
+use Rattle.ffs_volume.specs.declared.{Inode.Inode, Layout.Layout, Step.Step, Step.TheVariants.Run, Step.TheVariants.Gap}
 use Rattle.ffs_image.specs.Device.{Device}
 use Rattle.ffs_report.proofs.Reporting.{reports_same, reports_knowing, of_says}
 use Rattle.ffs_report.specs.Known.{IsContents, ForBytes}
@@ -22,7 +21,7 @@ use Rattle.ffs_claims.proofs.Frames.{image_from, claims_then, claims_still, clai
 use Rattle.ffs_claims.proofs.Inodes.{ok_where}
 use Rattle.ffs_claims.proofs.Reportings.{reporting_over, Reporting, reporting_begins, reporting_more, reporting_ends}
 use Rattle.ffs_claims.proofs.Reportings.{reporting_same, reported_from, reported_to, lines_split}
-use Rattle.ffs_claims.proofs.RescanCounts.{looked_none, looked_next, gaps_looked}
+use Rattle.ffs_claims.proofs.RescanCounts.{looked_none, looked_next, again_gaps}
 use Rattle.ffs_claims.specs.{Lines.of_lines, Reporting.after_first, Rescan.step_offers_again, Rescan.offers_again}
 use Rattle.ffs_claims.specs.RescanRuns.{Rewalks, RoseBy, Rewalked, runs_until_reported, steps_runs_again, RunsPay}
 use Rattle.ffs_claims.specs.RescanRuns.{StepReported, Counted}
@@ -47,18 +46,10 @@ pub runs_next : (v : Layout) (cut : ℕ) (r r' : Replay) (step : Step) (R R' : L
 runs_next v cut r r' step R R' e now =
     rw (e, now) (ap (λ n. seen_run cut r step + n) (counted_same v 0 cut r step R').runs_are)
 
--- after the last step nothing is kept, nor after the cut
+-- after the last step nothing is kept
 pub offers_none : (v : Layout) (i cut : ℕ) (r : Replay) (R : List Step) → R ≡ [] → offers_again v i cut r R ≡ []
 unfolding offers_again
 offers_none v i cut r R e = rw e refl
-
-pub offers_stopped : (v : Layout) (i cut : ℕ) (r : Replay) (R : List Step) → is_replay_open cut r ≡ false →
-    offers_again v i cut r R ≡ []
-unfolding offers_again
-offers_stopped v i cut r [] q = refl
-offers_stopped v i cut r (Run start len block ∷ R) q = rw q (offers_stopped v i cut r R q)
-offers_stopped v i cut r (Tail ∷ R) q = offers_stopped v i cut r R q
-offers_stopped v i cut r (Gap ∷ R) q = offers_stopped v i cut r R q
 
 pub lines_step : (v : Layout) (i cut : ℕ) (r r' : Replay) (step : Step) (R R' : List Step) (dup dup' : List Bool) →
     R ≡ step ∷ R' → r' ≡ replay_step_by_cut v cut r step → dup' ≡ after_first dup (step_offers_again v i cut r step) →
@@ -67,13 +58,6 @@ pub lines_step : (v : Layout) (i cut : ℕ) (r r' : Replay) (step : Step) (R R' 
     ++ of_lines (first_offer_lines dup' (offers_again v i cut r' R'))
 lines_step v i cut r r' step R R' dup dup' e now d =
     lines_split dup dup' _ _ (offers_again v i cut r' R') (offers_next v i cut r r' step R R' e now) d
-
--- gaps in a row keep nothing
-pub gaps_offer : (v : Layout) (i cut : ℕ) (r : Replay) (n : ℕ) (R : List Step) →
-    offers_again v i cut r (replicate n Gap ++ R) ≡ offers_again v i cut r R
-unfolding offers_again
-gaps_offer v i cut r zero R = refl
-gaps_offer v i cut r (suc n) R = gaps_offer v i cut r n R
 
 -- where a second walk is, with the steps R that are left to it: what it reported, and how many Runs
 -- it looked at
@@ -113,10 +97,10 @@ pub rewalk_gaps : {v : Layout} {i cut : ℕ} {all : List Step} {r : Replay} (n :
     {u w : Workspace} → R ≡ replicate n Gap ++ R' → Rewalking v i cut all r R u w → Rewalking v i cut all r R' u w
 rewalk_gaps {v = v} {i = i} {cut = cut} {r = r} n {R' = R'} {w = w} e t =
     let seen = ap (replayed_runs v cut r) e ∙ gaps_seen v cut r n R' in
-    let looked = ap (λ (xs : List Step). runs_until_reported (bits_of w.duplicates) (steps_runs_again v i cut r xs)) e
-    ∙ ap (runs_until_reported (bits_of w.duplicates)) (gaps_looked v i cut r n R') in
+    let looked = ap (λ xs. runs_until_reported (bits_of w.duplicates) (steps_runs_again v i cut r xs)) e
+    ∙ ap (runs_until_reported (bits_of w.duplicates)) (again_gaps v i cut r n R').1 in
     record {
-      reported = reporting_same t.reported (ap (offers_again v i cut r) e ∙ gaps_offer v i cut r n R');
+      reported = reporting_same t.reported (ap (offers_again v i cut r) e ∙ (again_gaps v i cut r n R').0);
       runs = omega (arith, t.runs, seen);
       count = λ h. omega (arith, t.count h, looked);
     }
@@ -198,12 +182,12 @@ runs_pay_on now now' before after rest more pays counts falls less = record {
   paid = λ room. let count = counts room in omega (arith, count, falls, less, pays.paid (omega (arith, count, room)));
 }
 
--- the reads that are still to come needn't be made
-pub runs_pay_less : {reads now old new : ℕ} (rest : ℕ) → RunsPay reads (now + rest) old new → RunsPay reads now old new
-runs_pay_less rest pays = record {
-  rises = pays.rises;
-  paid = λ room. omega (arith, pays.paid room);
-}
+-- and the reads that are still to come aren't made
+pub runs_pay_ends : {reads old middle new : ℕ} (now now' before after more : ℕ) → RunsPay reads (now + before) old middle →
+    (new < 2 ^ 64 - 1 → middle + more ≤ new) → now' + after ≤ now + before + more → RunsPay reads now' old new
+runs_pay_ends now now' before after more pays counts falls =
+    let on = runs_pay_on now now' before after after more pays counts falls (omega arith) in
+    record { rises = on.rises; paid = λ room. omega (arith, on.paid room) }
 
 -- a further part of the work
 pub runs_pay_then : {now' old middle new : ℕ} (now reads n n' : ℕ) → RunsPay (reads + n) now old middle →

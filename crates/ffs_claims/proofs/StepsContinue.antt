@@ -150,10 +150,8 @@ none_to_walk true size bsize some h = no_blocks size bsize some (grind (arith, n
 none_to_walk false size bsize some h = refl
 
 pub without_steps : (v : Layout) (i : Inode) (bytes : List ℕ) → 0 < v.bsize →
-    (is_walked v i && not (i.size == 0)) ≡ false
-    → steps_of v i bytes ≡ []
+    (is_walked v i && not (i.size == 0)) ≡ false → steps_of v i bytes ≡ []
 unfolding steps_of
-without_steps v i bytes some h = ap (λ (n : ℕ). steps_of_addresses
+without_steps v i bytes some h = ap (λ n. steps_of_addresses
     (record { layout = v; blocks = n; last_length = last_length_of v i }) bytes i.addresses 0
-    (addresses_needed v.nindir n))
-    (none_to_walk (is_walked v i) i.size v.bsize some h)
+    (addresses_needed v.nindir n)) (none_to_walk (is_walked v i) i.size v.bsize some h)

@@ -1,11 +1,13 @@
--- Runs whose offers are taken at once with nothing to report, and the claim of one fragment.
+-- Which Runs are in range, whose offers are taken at once with nothing to report, and the claim of one fragment.
 use Rattle.std.proofs.Common.{◌++◌, ◌≡◌, ℕ, zero, suc, ◌+◌, ◌-◌, ◌<◌, ◌≤◌, true, false, nat_lt, [], slice_set, get_or}
-use Rattle.std.proofs.Common.{arith, refl, ap, ◌∙◌, Bool, sym, not}
-use Rattle.std.proofs.lemmas.{Bool.Decides.nat_tests, List.get_or-set_other, List.set-get_or}
-use Rattle.std.specs.List.{range_with_len, slice_index_or}
-use Rattle.ffs_volume.proofs.Potentials.{each_ok, in_range_below}
+use Rattle.std.proofs.Common.{arith, refl, ap, ◌∙◌, Bool, sym, not, ◌/◌}
+use Rattle.std.proofs.{Math.Nat.mul-div-le, lemmas.Bool.Decides.nat_tests, lemmas.List.get_or-set_other}
+use Rattle.std.{proofs.lemmas.List.set-get_or, specs.List.range_with_len, specs.List.slice_index_or}
+use Rattle.ffs_volume.proofs.{AreaLaws.group_is, Potentials.each_ok, Potentials.in_range_below}
+use Rattle.ffs_volume.proofs.RunLaws.{in_range_is, is_apart}
 use Rattle.ffs_volume.specs.Blocks.Claims.{Claims, is_set, after_offer, after_offers, offer_lines, lines_of_offers}
-use Rattle.ffs_volume.specs.{Disk.Areas.is_fragment_in_range, Disk.Areas.is_run_in_range, declared.Layout.Layout}
+use Rattle.ffs_volume.specs.Disk.Areas.{is_fragment_in_range, is_run_in_range, cgbase, cgstart, cgsblock, cgdmin}
+use Rattle.ffs_volume.specs.{Laws.Geometry.IsAcceptedLayout, declared.Layout.Layout}
 use Rattle.ffs_maps.specs.{Bits.set_run, Bits.AreClear, Bits.bits_of, Bits.ClaimsRun, declared.FragmentMap.FragmentMap}
 
 -- the offers of a Run leave these claims, and nothing is reported of them
@@ -50,16 +52,14 @@ whole_from v s start (suc len) few ok clear =
     ∙ clear 0 (omega arith) in
     let sum : s.kept + suc len ≡ s.kept + 1 + len = omega arith in
     rw sum (quiet_more (record s { kept = s.kept + 1; used = slice_set s.used start true })
-    (rw (few, first, unset) refl)
-    (λ inode. rw (few, first, unset) refl)
+    (rw (few, first, unset) refl) (λ inode. rw (few, first, unset) refl)
     (whole_from v (record s { kept = s.kept + 1; used = slice_set s.used start true }) (start + 1) len few
     (λ k low. ap (is_fragment_in_range v) (omega arith) ∙ ok (k + 1) (omega arith))
     (λ k low. get_or-set_other s.used start (start + 1 + k) true false (λ e. omega arith)
     ∙ ap (λ n. get_or s.used n false) (omega arith) ∙ clear (k + 1) (omega arith))))
 
 pub whole_is : (v : Layout) (s : Claims) (start len : ℕ) → nat_lt s.dups 11 ≡ true →
-    is_run_in_range v start len ≡ true →
-    AreClear s.used start len → IsQuiet v s start len (record s
+    is_run_in_range v start len ≡ true → AreClear s.used start len → IsQuiet v s start len (record s
     { used = set_run s.used start len; kept = s.kept + len })
 whole_is v s start len few fits clear = whole_from v s start len few (λ k low. each_ok v start len k fits low) clear
 
@@ -84,3 +84,55 @@ pub is_set_now : {old new : FragmentMap} {f : ℕ} {b : Bool} → ClaimsRun old 
 is_set_now {b = true} c = c.claimed refl
 is_set_now {old = old} {f = f} {b = false} c =
     ap bits_of (c.kept refl) ∙ sym (ap (slice_set (bits_of old) f) (sym (was_set c)) ∙ set-get_or (bits_of old) f false)
+
+-- ---- where the Runs round another Run are in range
+-- a Run before the metadata of a group
+pub before_metadata : (v : Layout) (c start len : ℕ) → IsAcceptedLayout v → c < v.ncg → cgbase v c ≤ start →
+    start + len ≤ cgsblock v c → 0 < len → is_run_in_range v start len ≡ true
+before_metadata v c start len g h low high some =
+    let group = g.groups c h in
+    let end : cgsblock v c ≤ cgdmin v c = omega (arith, g.parts.super_fits, g.parts.block_fits, g.parts.inodes_fit) in
+    let within : cgdmin v c ≤ cgbase v (c + 1) = group.within_group in
+    let inside : cgdmin v c ≤ v.size = group.within_size in
+    let same : start / v.fpg ≡ c = group_is v c start low (omega arith) in
+    let apart : is_apart v start len ≡ true = rw same (grind (arith, nat_tests)) in
+    in_range_is v g start len some ∙ apart
+
+-- a Run after the metadata of a group
+pub after_metadata : (v : Layout) (c start len : ℕ) → IsAcceptedLayout v → c < v.ncg → cgdmin v c ≤ start →
+    start + len ≤ cgbase v (c + 1) → start + len ≤ v.size → 0 < len → is_run_in_range v start len ≡ true
+unfolding cgstart
+after_metadata v c start len g h low high inside some =
+    let base : cgbase v c ≤ start = omega arith in
+    let same : start / v.fpg ≡ c = group_is v c start base (omega arith) in
+    let apart : is_apart v start len ≡ true = rw same (grind (arith, nat_tests)) in
+    in_range_is v g start len some ∙ apart
+
+-- the next group begins as many fragments on as a group has
+pub base_above : (v : Layout) (c : ℕ) → cgbase v (c + 1) ≡ cgbase v c + v.fpg
+unfolding cgbase
+base_above v c = grind arith
+
+-- where a Run in range lies: in its group and in the volume, and before the group's metadata where
+-- it begins there
+pub record Lies (v : Layout) (start len : ℕ) : Type 0 where
+  pub base : cgbase v (start / v.fpg) ≤ start
+  pub volume : start + len ≤ v.size
+  pub group : start + len ≤ cgbase v (start / v.fpg) + v.fpg
+  pub before : start < cgdmin v (start / v.fpg) → start + len ≤ cgsblock v (start / v.fpg)
+
+base_below : (v : Layout) (start : ℕ) → cgbase v (start / v.fpg) ≤ start
+unfolding cgbase
+base_below v start = mul-div-le start v.fpg
+
+pub lies : (v : Layout) (start len : ℕ) → IsAcceptedLayout v → 0 < len → is_run_in_range v start len ≡ true
+    → Lies v start len
+lies v start len g some fits =
+    let apart : is_apart v start len ≡ true = sym (in_range_is v g start len some) ∙ fits in
+    let within : start + len ≤ cgbase v (start / v.fpg + 1) = grind (arith, nat_tests) in
+    record {
+      base = base_below v start;
+      volume = grind (arith, nat_tests);
+      group = omega (arith, within, base_above v (start / v.fpg));
+      before = λ low. grind (arith, nat_tests);
+    }

@@ -229,8 +229,7 @@ returns-then-not-seen-clause-claiming g c =
           now.claims_are (λ bytes t. (cut_over v c.args.number s' (steps_left bytes c.next.new.self) cut).1)
           c.in_ok-seen.ensures.claiming.said;
       claims = claims_on v s c.loop-next.walk c.next.new.self (λ bytes. s') c.in-Some.next next now.claims_are
-          inv.claims
-          (λ bytes t. (cut_over v c.args.number s' (steps_left bytes c.next.new.self) cut).0);
+          inv.claims (λ bytes t. (cut_over v c.args.number s' (steps_left bytes c.next.new.self) cut).0);
       left = record {
         image = ok ∙ inv.device;
         moves = moves_on c.in-Some.next inv.ready.made c.args.geometry.now.sound.sizes.frag_high
@@ -267,12 +266,6 @@ returns-in_default-clause-claiming g c =
         found = found_still inv.found;
       };
     }
-
-pub returns-in_err-next-clause-counted : goal.returns-in_err-next-clause-counted
-returns-in_err-next-clause-counted g c =
-    let inv = c.loop-next.invariant in
-    let reads = c.in_err-next.ensures.counted inv.held in
-    omega (arith, reads.most, inv.counted)
 
 pub returns-in_err-seen-clause-counted : goal.returns-in_err-seen-clause-counted
 returns-in_err-seen-clause-counted g c =

@@ -10,14 +10,6 @@ use Rattle.ffs_claims.specs.{Leaves.Stored, Lines.of_lines, Lines.owner_with}
 use Rattle.ffs_volume.proofs.Results.{on_ok as ok_then}
 use Rattle.ffs_claims.proofs.claim.claim_inode.Goals as goal
 
-pub inode-requires : goal.inode-requires
-inode-requires g c =
-    let ready = c.requires.ready.claim.ready in
-    record {
-      number = c.requires.ready.number_fits;
-      ready = record { volume = ready.volume; made = ready.made.table; holds = ready.windows.table };
-    }
-
 pub claim_read_inode-requires : goal.claim_read_inode-requires
 claim_read_inode-requires g c =
     let ok = c.in_ok-inode.ensures.reads.read in
@@ -96,9 +88,6 @@ returns-clause-stored g c =
     subst (λ (i : Inode). Stored c.args.number (class_of v i) i old new) (c.in_ok-inode.ensures.reads.inode bytes t)
     (record { kinds = h.kinds; marked = h.marked; notes = h.notes; starts = h.starts }))
     c.claim_read_inode.ensures.stored
-
-pub returns-in_err-inode-clause-counted : goal.returns-in_err-inode-clause-counted
-returns-in_err-inode-clause-counted g c = omega (arith, c.in_err-inode.ensures.counted)
 
 pub returns-clause-counted : goal.returns-clause-counted
 returns-clause-counted g c = omega (arith, c.in_ok-inode.ensures.counted, c.claim_read_inode.ensures.counted)

@@ -1,4 +1,4 @@
-use Rattle.std.proofs.Common.{arith, ap, ◌+◌, ◌∙◌, List, ℕ}
+use Rattle.std.proofs.Common.{arith, ap, ◌+◌, ◌∙◌}
 use Rattle.std.{proofs.lemmas.Result.err_from_is_err_and, specs.List.range_with_len}
 use Rattle.ffs_volume.{proofs.Potentials.each_ok, specs.Blocks.Claims.offer_lines}
 use Rattle.ffs_volume.specs.{Blocks.Claims.lines_of_offers, Blocks.Claims.after_offers, Disk.Areas.is_fragment_in_range}
@@ -49,7 +49,7 @@ loop-index-init g c =
       claims = ap (after_offers v s) (from_start c.args.start c.args.len);
       said = to_same (to_begins
           (of_lines (lines_of_offers v c.args.number s (range_with_len c.args.start c.args.len))) _)
-          (ap (λ (fs : List ℕ). of_lines (lines_of_offers v c.args.number s fs)) (from_start c.args.start c.args.len));
+          (ap (λ fs. of_lines (lines_of_offers v c.args.number s fs)) (from_start c.args.start c.args.len));
     }
 
 pub offer-requires : goal.offer-requires

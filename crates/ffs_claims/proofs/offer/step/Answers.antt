@@ -1,4 +1,3 @@
-use Rattle.std.proofs.Common.{arith}
 use Rattle.ffs_claims.proofs.offer.step.Goals as goal
 
 pub run-requires-clause-some : goal.run-requires-clause-some
@@ -6,6 +5,3 @@ run-requires-clause-some g c = let length = rw c.in-Run.is at c.requires.length 
 
 pub returns-in-Run-clause-claiming : goal.returns-in-Run-clause-claiming
 returns-in-Run-clause-claiming g c = rw (c.in-Run.is, c.requires.next.uncut) c.run.ensures.claiming
-
-pub returns-in-Run-clause-runs : goal.returns-in-Run-clause-runs
-returns-in-Run-clause-runs g c = omega (arith, c.run.ensures.runs)

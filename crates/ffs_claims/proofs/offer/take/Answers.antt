@@ -41,11 +41,7 @@ pub returns-then-not-fragment_in_range : goal.returns-then-not-fragment_in_range
 returns-then-not-fragment_in_range c =
     let few : nat_lt c.args.workspace.now.dups 11 ≡ true = grind (arith, nat_tests) in
     let out = sym c.fragment_in_range.ensures ∙ c.if-not-fragment_in_range.true in
-    record {
-      dup = rw (few, out) refl;
-      claims = rw (few, out) refl;
-      only = offers_claimed c.requires.room.made refl;
-    }
+    record { dup = rw (few, out) refl; claims = rw (few, out) refl; only = offers_claimed c.requires.room.made refl }
 
 pub claim-requires-clause-below : goal.claim-requires-clause-below
 claim-requires-clause-below c =

@@ -1,9 +1,9 @@
-use Rattle.std.proofs.Common.{◌≡◌, rules, arith, refl, sym, ◌∷◌, ◌+◌, ◌≤◌, ◌<◌, [], List, ap, ◌∙◌, Err}
+use Rattle.std.proofs.Common.{◌≡◌, rules, arith, refl, sym, ◌∷◌, ◌+◌, ◌≤◌, ◌<◌, [], ap, ◌∙◌, Err}
 use Rattle.std.proofs.lemmas.Result.{err_from_is_err_and}
 use Rattle.ffs_volume.proofs.OwnerLaws.{before_next}
 use Rattle.ffs_volume.specs.Blocks.BlockCheck.{owner_lines, lines_of_owners, phase1_lines}
 use Rattle.ffs_volume.specs.Blocks.{Claims.after_owner, KeptSteps.claims_before, Owners.owner_of, Owners.owners_of}
-use Rattle.ffs_volume.specs.{Messages.Kinds.Message, Messages.Kinds.phase1, Report.Whole.run_count}
+use Rattle.ffs_volume.specs.{Messages.Kinds.phase1, Report.Whole.run_count}
 use Rattle.ffs_report.proofs.Reporting.{of_begins, of_says, of_part, of_fault, of_stops, of_same, reports_knowing}
 use Rattle.ffs_report.{proofs.Reporting.said_knows, specs.Known.ForBytes}
 use Rattle.ffs_workspace.specs.{Found.WithFresh, Holds.claims_of, Holds.all_claims, Lengths.inodes_of}
@@ -47,7 +47,7 @@ loop-number-init g c =
       said = of_says _ (λ bytes. phase1 ∷ of_lines (phase1_lines v (owners_of v bytes)))
           (λ bytes. of_lines (lines_of_owners v s (owners_from v bytes 2))) _ (phase1 ∷ []) _ _ _
           (of_begins _ (λ bytes. phase1 ∷ of_lines (phase1_lines v (owners_of v bytes))) _)
-          (λ bytes k. ap (λ (xs : List Message). phase1 ∷ xs) (first_lines v bytes s (c.reserve.ensures.claims k.1)))
+          (λ bytes k. ap (λ xs. phase1 ∷ xs) (first_lines v bytes s (c.reserve.ensures.claims k.1)))
           c.in_ok-say.ensures.said;
     }
 

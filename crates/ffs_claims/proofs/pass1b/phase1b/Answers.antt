@@ -167,8 +167,7 @@ returns-after-loop-number g c =
     record {
       prints = record {
         image = inv.device;
-        text = of_same _ _ (λ bytes. []) _ _ _ inv.said
-            (λ bytes k. ap (λ os. of_lines (first_offer_lines d os))
+        text = of_same _ _ (λ bytes. []) _ _ _ inv.said (λ bytes k. ap (λ os. of_lines (first_offer_lines d os))
             (kept_end v bytes (claims_before v bytes n) n past));
       };
       holds = λ bytes k. (

@@ -9,12 +9,12 @@ use Rattle.ffs_maps.specs.Bits.{bits_of}
 use Rattle.ffs_walk.proofs.Counted.{top_held, top_unread}
 use Rattle.ffs_walk.specs.{Counts.unread, Keepings.replay_in, Rests.steps_left}
 use Rattle.ffs_workspace.specs.Lengths.{set_count}
-use Rattle.ffs_claims.proofs.Duplicates.{none_first, none_left, some_left}
-use Rattle.ffs_claims.proofs.Frames.{can_walk, claims_none, claims_still, claims_then, ready_still, ready_read}
-use Rattle.ffs_claims.proofs.{Frames.ready_walked, RescanCounts.looked_stopped, RescanCounts.looked_over}
-use Rattle.ffs_claims.proofs.Rewalks.{open_first, gaps_offer, offers_none, offers_stopped, lines_step, runs_next}
-use Rattle.ffs_claims.proofs.Rewalks.{rewalk_begins, rewalk_on, rewalk_gaps, rewalk_ends, rewalk_over, rewalk_said}
-use Rattle.ffs_claims.proofs.Rewalks.{rewalked_to, runs_pay_on, runs_pay_less}
+use Rattle.ffs_claims.proofs.{Duplicates.none_first, Duplicates.none_left, Duplicates.some_left, Frames.can_walk}
+use Rattle.ffs_claims.proofs.Frames.{claims_none, claims_still, claims_then, ready_still, ready_read, ready_walked}
+use Rattle.ffs_claims.proofs.RescanCounts.{looked_stopped, again_gaps, again_stopped, looked_over}
+use Rattle.ffs_claims.proofs.Rewalks.{open_first, offers_none, lines_step, runs_next, rewalk_begins, rewalk_on}
+use Rattle.ffs_claims.proofs.Rewalks.{rewalk_gaps, rewalk_ends, rewalk_over, rewalk_said, rewalked_to, runs_pay_on}
+use Rattle.ffs_claims.proofs.Rewalks.{runs_pay_ends}
 use Rattle.ffs_claims.specs.{Lines.of_lines, Reporting.after_first, Rescan.step_offers_again, Rescan.offers_again}
 use Rattle.ffs_claims.proofs.pass1b.rewalk.Goals as goal
 
@@ -43,8 +43,7 @@ loop-next-init g c =
       said = of_same _ _ _ _ _ _ (of_begins _ (λ bytes. of_lines
           (first_offer_lines d (offers_again v n cut fresh_replay (steps_of v c.args.inode.now bytes)))) _)
           (λ bytes t. ap (λ r. of_lines (first_offer_lines d
-          (offers_again v n cut r (steps_of v c.args.inode.now bytes))))
-          (sym begun)
+          (offers_again v n cut r (steps_of v c.args.inode.now bytes)))) (sym begun)
           ∙ ap (λ xs. of_lines (first_offer_lines d (offers_again v n cut (replay_in c.start-keeping.result) xs)))
           (sym (steps bytes)));
     }
@@ -73,9 +72,6 @@ report_again-requires-clause-can g c =
     let inv = c.loop-next.invariant in
     let read = ready_walked c.in_ok-next.ensures.leaves.read inv.geometry c.next.ensures.leaves.kept inv.ready in
     record { made = read.made; number_fits = c.requires.can.number_fits }
-
-pub report_again-requires-clause-going : goal.report_again-requires-clause-going
-report_again-requires-clause-going g c = let inv = c.loop-next.invariant in rw inv.cut inv.going
 
 pub returns-in_err-report_again-clause-rewalks : goal.returns-in_err-report_again-clause-rewalks
 returns-in_err-report_again-clause-rewalks g c =
@@ -136,8 +132,7 @@ loop-next-preserved-then-matches g c =
     (λ bytes. steps_left bytes c.next.new.self ≡ replicate c.skip_gaps.result Gap ++ steps_left bytes
     c.skip_gaps.new.self) =
     λ bytes t. c.skip_gaps.ensures.steps (g.I.Image.device c.next.new.image).contents (rw same ready.windows.blocks)
-    bytes
-    (ap (λ d. d.contents) (ok ∙ inv.device) ∙ t) in
+    bytes (ap (λ d. d.contents) (ok ∙ inv.device) ∙ t) in
     record {
       ready = ready;
       cut = did.cut ∙ inv.cut;
@@ -155,8 +150,8 @@ loop-next-preserved-then-matches g c =
           (λ bytes. first_offer_lines d' (offers_again v n cut r' (steps_left bytes c.skip_gaps.new.self)))
           inv.cut inv.said next did
           (λ bytes t. ap (λ xs. first_offer_lines d' (offers_again v n cut r' xs)) (gaps bytes t)
-          ∙ ap (first_offer_lines d') (gaps_offer v n cut r' c.skip_gaps.result
-          (steps_left bytes c.skip_gaps.new.self)))
+          ∙ ap (first_offer_lines d') (again_gaps v n cut r' c.skip_gaps.result
+          (steps_left bytes c.skip_gaps.new.self)).0)
           c.in_ok-report_again.ensures.said;
     }
 
@@ -200,12 +195,12 @@ returns-then-not-is_replay_open-clause-rewalks g c =
     let next = rw (inv.device, c.in-Some.is) at c.in_ok-next.ensures.step.steps in
     let walk = λ (bytes : List ℕ) (t : IsContents (g.I.Image.device c.args.image.now).contents bytes).
     rewalk_on inv.cut (next bytes t) inv.going inv.pending did c.report_again.ensures.runs (inv.walk bytes t) in
-    let none = λ (bytes : List ℕ). offers_stopped c.args.geometry.now.layout c.args.number c.args.cut
+    let none = λ (bytes : List ℕ). again_stopped c.args.geometry.now.layout c.args.number c.args.cut
     (replay_in c.report_again.new.keeping) (steps_left bytes c.next.new.self) shut in
     record {
       text = rewalk_said c.loop-next.walk c.next.new.self (λ bytes. []) inv.cut inv.said next did
-          (λ bytes t. ap (first_offer_lines d') (none bytes)) c.in_ok-report_again.ensures.said;
-      rewalked = λ bytes t. rewalk_ends (none bytes) (looked_stopped _ _ _ _ _ d' shut) (walk bytes t);
+          (λ bytes t. ap (first_offer_lines d') (none bytes).0) c.in_ok-report_again.ensures.said;
+      rewalked = λ bytes t. rewalk_ends (none bytes).0 (looked_stopped _ _ _ _ _ d' shut) (walk bytes t);
       runs = λ bytes t. omega (arith, (walk bytes t).runs);
       left = record {
         image = ok ∙ inv.device;
@@ -270,23 +265,20 @@ returns-in_err-next-clause-counted g c =
 pub returns-in_err-report_again-clause-counted : goal.returns-in_err-report_again-clause-counted
 returns-in_err-report_again-clause-counted g c =
     let inv = c.loop-next.invariant in
-    let paid = rw c.in-Some.is at (c.in_ok-next.ensures.counted inv.held).paid in
-    runs_pay_less (unread c.next.new.self) (runs_pay_on _ _ _ _ (unread c.next.new.self) _ inv.counted
-    c.report_again.ensures.counted paid (omega arith))
+    runs_pay_ends _ _ _ _ _ inv.counted c.report_again.ensures.counted
+    (rw c.in-Some.is at (c.in_ok-next.ensures.counted inv.held).paid)
 
 pub returns-then-not-is_replay_open-clause-counted : goal.returns-then-not-is_replay_open-clause-counted
 returns-then-not-is_replay_open-clause-counted g c =
     let inv = c.loop-next.invariant in
-    let paid = rw c.in-Some.is at (c.in_ok-next.ensures.counted inv.held).paid in
-    runs_pay_less (unread c.next.new.self) (runs_pay_on _ _ _ _ (unread c.next.new.self) _ inv.counted
-    c.report_again.ensures.counted paid (omega arith))
+    runs_pay_ends _ _ _ _ _ inv.counted c.report_again.ensures.counted
+    (rw c.in-Some.is at (c.in_ok-next.ensures.counted inv.held).paid)
 
 pub returns-then-not-has_dups-clause-counted : goal.returns-then-not-has_dups-clause-counted
 returns-then-not-has_dups-clause-counted g c =
     let inv = c.loop-next.invariant in
-    let paid = rw c.in-Some.is at (c.in_ok-next.ensures.counted inv.held).paid in
-    runs_pay_less (unread c.next.new.self) (runs_pay_on _ _ _ _ (unread c.next.new.self) _ inv.counted
-    c.report_again.ensures.counted paid (omega arith))
+    runs_pay_ends _ _ _ _ _ inv.counted c.report_again.ensures.counted
+    (rw c.in-Some.is at (c.in_ok-next.ensures.counted inv.held).paid)
 
 pub returns-in_default-clause-counted : goal.returns-in_default-clause-counted
 returns-in_default-clause-counted g c =

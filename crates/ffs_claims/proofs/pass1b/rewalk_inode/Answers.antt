@@ -8,14 +8,6 @@ use Rattle.ffs_claims.proofs.{Frames.claims_still, Frames.claims_none, Rewalks.r
 use Rattle.ffs_claims.specs.{Lines.of_lines, Rescan.offers_again}
 use Rattle.ffs_claims.proofs.pass1b.rewalk_inode.Goals as goal
 
-pub inode-requires : goal.inode-requires
-inode-requires g c =
-    let ready = c.requires.can.ready in
-    record {
-      number = c.requires.can.number_fits;
-      ready = record { volume = ready.volume; made = ready.made.table; holds = ready.windows.table };
-    }
-
 pub rewalk-requires : goal.rewalk-requires
 rewalk-requires g c =
     let ok = c.in_ok-inode.ensures.reads.read in

@@ -1,4 +1,4 @@
-use Rattle.std.proofs.{Common.false, Common.arith, Common.rules, Common.sym, Common.◌∙◌, Math.ListN.get_or-eq_default}
+use Rattle.std.proofs.{Common.false, Common.arith, Common.sym, Common.◌∙◌, Math.ListN.get_or-eq_default}
 use Rattle.ffs_maps.{proofs.Bits.bits_long, specs.Bits.bits_of}
 use Rattle.ffs_claims.proofs.{Frames.offers_reported_none, Reportings.reported_out, Reportings.said_out}
 use Rattle.ffs_claims.proofs.report_offer.report_offer.Goals as goal
@@ -22,6 +22,3 @@ returns-then-not-get g c =
       reported = reported_out _ c.args.number c.args.fragment out;
       only = offers_reported_none c.requires.can.made;
     }
-
-pub returns-clause-only : goal.returns-clause-only
-returns-clause-only g c = let kept = c.clear.ensures.size ∙ c.requires.can.made.duplicates in search rules

@@ -1,4 +1,4 @@
-use Rattle.std.proofs.Common.{◌+◌, ◌-◌, ◌∷◌, [], arith, refl, ap, ◌∙◌, map, List, ℕ}
+use Rattle.std.proofs.Common.{◌+◌, ◌-◌, ◌∷◌, [], arith, refl, ap, ◌∙◌, map, List}
 use Rattle.std.{proofs.lemmas.Result.err_from_is_err_and, specs.List.range_with_len}
 use Rattle.ffs_volume.specs.Blocks.{BlockCheck.first_offer_lines, KeptOffers.Offer, KeptOffers.offer_of}
 use Rattle.ffs_report.proofs.Reporting.{to_begins, to_says, to_stops, to_ends}
@@ -19,7 +19,7 @@ loop-index-init g c =
           (ap (map (offer_of n)) (from_start c.args.start c.args.len));
       said = to_same (to_begins (of_lines (first_offer_lines (bits_of w.duplicates)
           (map (offer_of n) (range_with_len c.args.start c.args.len)))) _)
-          (ap (λ (fs : List ℕ). of_lines (first_offer_lines (bits_of w.duplicates) (map (offer_of n) fs)))
+          (ap (λ fs. of_lines (first_offer_lines (bits_of w.duplicates) (map (offer_of n) fs)))
           (from_start c.args.start c.args.len));
     }
 
@@ -33,7 +33,7 @@ returns-in_err-report_offer-clause-said g c =
     (range_with_len (c.args.start + (c.loop-index.index + 1)) (c.args.len - (c.loop-index.index + 1))) in
     rw (p.1) (to_stops _ (of_lines (first_offer_lines (after_first d (offer_of n f ∷ [])) rest)) _
     (of_lines (first_offer_lines d (offer_of n f ∷ []))) _ _ _ c.loop-index.invariant.said
-    (ap (λ (os : List Offer). of_lines (first_offer_lines d os))
+    (ap (λ os. of_lines (first_offer_lines d os))
     (run_next n c.args.start c.args.len c.loop-index.index f c.loop-index-test.true (omega arith))
     ∙ lines_split d (after_first d (offer_of n f ∷ [])) _ (offer_of n f ∷ []) rest refl refl)
     c.in_err-report_offer.ensures.said)
@@ -56,7 +56,7 @@ loop-index-preserved g c =
       only = offers_reported_then inv.only c.report_offer.ensures.only;
       reported = reporting_more inv.reported next c.report_offer.ensures.reported;
       said = to_says _ (of_lines (first_offer_lines d' rest)) _ (of_lines (first_offer_lines d (offer_of n f ∷ []))) _ _
-          _ inv.said (ap (λ (os : List Offer). of_lines (first_offer_lines d os)) next
+          _ inv.said (ap (λ os. of_lines (first_offer_lines d os)) next
           ∙ lines_split d d' _ (offer_of n f ∷ []) rest refl c.report_offer.ensures.reported.dup)
           c.in_ok-report_offer.ensures.said;
     }

@@ -24,9 +24,6 @@ pub returns-then-not-claim_address : goal.returns-then-not-claim_address
 returns-then-not-claim_address c =
     rw (c.claim_address.ensures.kept c.if-not-claim_address.true) c.loop-geometry.invariant.words
 
-pub pass_word-requires-clause-left : goal.pass_word-requires-clause-left
-pass_word-requires-clause-left c = c.has_word.ensures.0 c.loop-geometry-test.true
-
 pub claim_address-requires : goal.claim_address-requires
 claim_address-requires c =
     let next = c.requires.next in

@@ -1,6 +1,6 @@
 use Rattle.std.proofs.Common.{arith, ◌≡◌, ◌+◌, ◌/◌, ◌<◌}
 use Rattle.ffs_volume.{proofs.AreaLaws.group_below, specs.Disk.Areas.cgbase}
-use Rattle.ffs_claims.proofs.DataAreas.{before_metadata, after_metadata, base_above, lies}
+use Rattle.ffs_claims.proofs.UnclaimedRuns.{before_metadata, after_metadata, base_above, lies}
 use Rattle.ffs_claims.proofs.area.DataArea.around.Goals as goal
 
 pub returns-then-start-data : goal.returns-then-start-data
@@ -33,8 +33,5 @@ returns c =
       };
       run = λ n some fits.
           let at = lies v c.args.start n c.args.geometry.now.sound some fits in
-          record {
-            first = omega arith;
-            last = omega (arith, at.volume, at.group, c.cgbase-base.ensures.value);
-          };
+          record { first = omega arith; last = omega (arith, at.volume, at.group, c.cgbase-base.ensures.value) };
     }
