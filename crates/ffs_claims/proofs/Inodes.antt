@@ -34,7 +34,8 @@ used_below {w = w} made =
 
 open_few : (s : Claims) → is_open s ≡ true → (s.bad < 11) × (s.dups < 11)
 open_few s free =
-    let both = and_parts (nat_lt s.bad 11) (nat_lt s.dups 11) free in (ltb-true s.bad 11 both.0, ltb-true s.dups 11 both.1)
+    let both = and_parts (nat_lt s.bad 11) (nat_lt s.dups 11) free in
+    (ltb-true s.bad 11 both.0, ltb-true s.dups 11 both.1)
 
 -- how many Runs are seen, and how many offers are kept, while an inode isn't cut
 pub seen_bound : {v : Layout} (u : Workspace) {w : Workspace} → IsFor v w → is_open (claims_of w) ≡ true →

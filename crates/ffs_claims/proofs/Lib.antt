@@ -1,10 +1,8 @@
 pub mod Frames
-pub mod Rescans
 pub mod StepsContinue
 pub mod Inodes
 pub mod Reserved
 pub mod Numbers
-pub mod LinesTold
 pub mod Duplicates
 pub mod Reportings
 pub mod Rewalks

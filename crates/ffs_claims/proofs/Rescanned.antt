@@ -21,9 +21,9 @@ use Rattle.ffs_workspace.proofs.NoteLaws.{cut_is_noted}
 use Rattle.ffs_workspace.specs.Holds.{bool_at, all_claims, marked_by_phase1_at, HoldsPhase1, HoldsStarts, HoldsClaims}
 use Rattle.ffs_workspace.specs.{Lengths.inodes_of, Notes.cut_in, declared.workspace.Workspace.Workspace}
 use Rattle.ffs_claims.proofs.{Duplicates.marked_total, Numbers.before_end, Numbers.before_first, Numbers.is_inside}
-use Rattle.ffs_claims.proofs.{Reportings.Reporting, RescanCounts.looked_both, RescanCounts.runs_leave}
-use Rattle.ffs_claims.proofs.{Rescans.inode_again, StepsContinue.range_more}
-use Rattle.ffs_claims.specs.Lines.{of_lines, owners_from}
+use Rattle.ffs_claims.proofs.Reportings.{Reporting}
+use Rattle.ffs_claims.proofs.RescanCounts.{looked_both, runs_leave, inode_again}
+use Rattle.ffs_claims.{proofs.StepsContinue.range_more, specs.Lines.of_lines, specs.Lines.owners_from}
 use Rattle.ffs_claims.specs.{Reporting.after_first, Reporting.OffersReported, Reporting.SameClaims, Rescan.offers_again}
 use Rattle.ffs_claims.specs.RescanRuns.{owners_runs, runs_until_reported, rescan_runs, steps_runs_again}
 

@@ -183,7 +183,8 @@ runs_pay_on now now' before after rest more pays counts falls less = record {
 }
 
 -- and the reads that are still to come aren't made
-pub runs_pay_ends : {reads old middle new : ℕ} (now now' before after more : ℕ) → RunsPay reads (now + before) old middle →
+pub runs_pay_ends : {reads old middle new : ℕ} (now now' before after more : ℕ) →
+    RunsPay reads (now + before) old middle →
     (new < 2 ^ 64 - 1 → middle + more ≤ new) → now' + after ≤ now + before + more → RunsPay reads now' old new
 runs_pay_ends now now' before after more pays counts falls =
     let on = runs_pay_on now now' before after after more pays counts falls (omega arith) in

@@ -95,7 +95,8 @@ run_stops v inode s start len {a = a} {b = b} h p = one (s.bad == 10) refl p
 module _ (v : Layout) (inode : ℕ) (s : Claims) (start len : ℕ) {a b c : Progress}
     (h : is_run_in_range v start len ≡ false) (few : (s.bad == 10) ≡ false)
     (p : Said a b (of_lines (bad_lines inode start (s.bad == 10)))) where
-  pub run_said : Said b c (of_lines (bad_rest v inode s start len)) → Said a c (of_lines (run_lines v inode s start len))
+  pub run_said : Said b c (of_lines (bad_rest v inode s start len)) →
+      Said a c (of_lines (run_lines v inode s start len))
   run_said q = rw (further v inode s start len h few) (said_then _ _ _ _ _ (rw few at p) q)
 
   pub run_stops_later : Stopped b c (of_lines (bad_rest v inode s start len)) →
@@ -126,7 +127,8 @@ pub steps_said : {knows : List ℕ → Type 0} {all : List ℕ → List Message}
     ForBytes knows (λ bytes. lines_of_steps v inode s' (steps_left bytes y) ≡ rest bytes) →
     Said b c (of_lines (step_lines v inode s step)) → SaidOf knows (λ bytes. of_lines (rest bytes)) all a c
 steps_said v inode s s' x y rest step said next now same out =
-    of_same _ (λ bytes. of_lines (lines_of_steps v inode s' (steps_left bytes y))) (λ bytes. of_lines (rest bytes)) _ _ _
+    of_same _ (λ bytes. of_lines (lines_of_steps v inode s' (steps_left bytes y))) (λ bytes. of_lines (rest bytes)) _ _
+    _
     (of_says _ _ (λ bytes. of_lines (lines_of_steps v inode s' (steps_left bytes y))) _
     (of_lines (step_lines v inode s step)) _ _ _ said (lines_on v inode s s' x y step next now) out)
     (λ bytes t. ap of_lines (same bytes t))

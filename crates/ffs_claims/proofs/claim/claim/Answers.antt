@@ -156,7 +156,8 @@ loop-next-preserved-then-matches g c =
           let paid = rw (c.in-Some.is, is_gap) at reads.paid in
           omega (arith, paid, inv.counted, c.skip_gaps.ensures.counted.unread);
       moves = inv.moves;
-      claims = λ bytes t. sym (ap (after_steps v s) (gaps bytes t) ∙ (gaps_over v c.args.number s c.skip_gaps.result (rest bytes)).0)
+      claims = λ bytes t. sym (ap (after_steps v s) (gaps bytes t)
+          ∙ (gaps_over v c.args.number s c.skip_gaps.result (rest bytes)).0)
           ∙ inv.claims bytes t;
       said = of_same _ _ _ _ _ _ inv.said (λ bytes t.
           ap (λ xs. of_lines (lines_of_steps v c.args.number s xs)) (gaps bytes t)

@@ -15,13 +15,12 @@ use Rattle.ffs_claims.proofs.claim.claim_read_inode.Goals as goal
 
 pub say_count-requires : goal.say_count-requires
 say_count-requires g c =
-    let v = c.args.geometry.now.layout in
     let b = begun c.args.workspace.now c.begin.ensures c.requires.ready.runs in
     let made = c.claim.ensures.claiming.left.claim.ready.made in
     omega (
       arith,
       c.args.geometry.now.sound.numbers.size_below,
-      kept_bound (claims_of c.begin.new.workspace) (claims_of c.claim.new.workspace) v.size
+      kept_bound (claims_of c.begin.new.workspace) (claims_of c.claim.new.workspace) c.args.geometry.now.layout.size
           (bits_long c.claim.new.workspace.claimed ∙ made.claimed) (omega arith) (omega arith) b.kept
           c.in_ok-claim.ensures.claiming.left.moves,
     )

@@ -63,8 +63,7 @@ loop-index-preserved g c =
 
 pub returns-clause-said : goal.returns-clause-said
 returns-clause-said g c =
-    let inv = c.loop-index.invariant in
-    to_ends _ _ _ _ inv.said (ap
+    to_ends _ _ _ _ c.loop-index.invariant.said (ap
     (λ (os : List Offer). of_lines (first_offer_lines (bits_of c.loop-index.workspace.duplicates) os))
     (run_over c.args.number c.args.start c.args.len c.loop-index.index (omega arith)))
 
