@@ -88,6 +88,3 @@ returns-clause-stored g c =
     subst (λ (i : Inode). Stored c.args.number (class_of v i) i old new) (c.in_ok-inode.ensures.reads.inode bytes t)
     (record { kinds = h.kinds; marked = h.marked; notes = h.notes; starts = h.starts }))
     c.claim_read_inode.ensures.stored
-
-pub returns-clause-counted : goal.returns-clause-counted
-returns-clause-counted g c = omega (arith, c.in_ok-inode.ensures.counted, c.claim_read_inode.ensures.counted)

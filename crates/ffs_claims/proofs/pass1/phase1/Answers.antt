@@ -85,11 +85,6 @@ returns-in_err-claim_inode-clause-prints g c =
           (λ bytes k. ap (λ d. d.contents) inv.device ∙ k.0) c.in_err-claim_inode.ensures.claiming.text);
     })
 
-pub returns-in_err-claim_inode-clause-runs : goal.returns-in_err-claim_inode-clause-runs
-returns-in_err-claim_inode-clause-runs g c =
-    let inv = c.loop-number.invariant in
-    omega (arith, inv.runs, inv.low, c.claim_inode.ensures.claiming.left.bound, c.loop-number-test.true)
-
 pub loop-number-preserved : goal.loop-number-preserved
 loop-number-preserved g c =
     let v = c.args.geometry.now.layout in
@@ -153,15 +148,6 @@ returns-clause-count g c = λ bytes k. (returns-clause-holds g c bytes k).runs
 pub returns-clause-dups : goal.returns-clause-dups
 returns-clause-dups g c = λ bytes k. dups_are c.args.geometry.now.layout bytes c.loop-number.workspace
     (returns-clause-holds g c bytes k)
-
-pub returns-in_err-say-clause-ready : goal.returns-in_err-say-clause-ready
-returns-in_err-say-clause-ready g c = ready_still c.reserve.ensures.only.made
-    c.reserve.ensures.only.windows c.requires.ready
-
-pub returns-in_err-claim_inode-clause-reads : goal.returns-in_err-claim_inode-clause-reads
-returns-in_err-claim_inode-clause-reads g c =
-    let inv = c.loop-number.invariant in
-    omega (arith, inv.reads, inv.low, c.claim_inode.ensures.counted, c.loop-number-test.true)
 
 pub returns-clause-reads : goal.returns-clause-reads
 returns-clause-reads g c =

@@ -7,7 +7,7 @@ use Rattle.ffs_report.proofs.Reporting.{of_begins, of_says, of_part, of_fault, o
 use Rattle.ffs_report.{proofs.Reporting.said_knows, specs.Known.ForBytes, specs.declared.fault.RunFault.RunFault}
 use Rattle.ffs_maps.specs.Bits.{bits_of}
 use Rattle.ffs_workspace.specs.{Found.WithPhase1, Lengths.inodes_of, Lengths.set_count}
-use Rattle.ffs_claims.proofs.Duplicates.{none_first, none_left, some_left}
+use Rattle.ffs_claims.proofs.Duplicates.{none_first, none_left}
 use Rattle.ffs_claims.proofs.{Frames.claims_then, Frames.image_from, Frames.ready_unseen, Numbers.numbers_most}
 use Rattle.ffs_claims.proofs.Reportings.{reporting_more, reporting_ends, reporting_same, lines_split, reporting_over}
 use Rattle.ffs_claims.proofs.{RescanCounts.look_fits, RescanCounts.looked_none, Rescanned.IsNoted, Rescanned.is_noted}
@@ -50,15 +50,6 @@ loop-number-init g c =
           (of_begins _ (λ bytes. phase1b ∷ of_lines (phase1b_lines v (owners_of v bytes))) _)
           (λ bytes k. ap (λ xs. phase1b ∷ xs) (all_lines v bytes d k.1.dup)) c.in_ok-say.ensures.said;
     }
-
-pub rewalk_inode-requires : goal.rewalk_inode-requires
-rewalk_inode-requires g c = record {
-  can = record {
-    ready = c.loop-number.invariant.ready;
-    number_fits = omega arith;
-    pending = some_left _ _ c.has_dups.ensures c.if-not-has_dups.false;
-  };
-}
 
 pub returns-in_err-rewalk_inode-clause-prints : goal.returns-in_err-rewalk_inode-clause-prints
 returns-in_err-rewalk_inode-clause-prints g c =
@@ -181,9 +172,6 @@ returns-after-loop-number g c =
       seen = inv.claims.seen;
       ready = inv.ready;
     }
-
-pub returns-in_err-say-clause-ready : goal.returns-in_err-say-clause-ready
-returns-in_err-say-clause-ready g c = ready_unseen c.requires.ready
 
 pub returns-in_err-rewalk_inode-clause-reads : goal.returns-in_err-rewalk_inode-clause-reads
 returns-in_err-rewalk_inode-clause-reads g c =

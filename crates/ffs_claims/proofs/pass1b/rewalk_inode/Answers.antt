@@ -44,15 +44,3 @@ returns-in_err-inode-clause-rewalks g c = record {
 pub returns-clause-rewalks : goal.returns-clause-rewalks
 returns-clause-rewalks g c = rewalks_from c.in_ok-inode.inode (g.I.Image.device c.args.image.now) _ _
     c.in_ok-inode.ensures.reads.read c.cut_of-cut.ensures c.in_ok-inode.ensures.reads.inode c.rewalk.ensures.rewalks
-
-pub returns-in_err-inode-clause-counted : goal.returns-in_err-inode-clause-counted
-returns-in_err-inode-clause-counted g c = record {
-  rises = λ _. omega arith;
-  paid = λ _. omega (arith, c.in_err-inode.ensures.counted);
-}
-
-pub returns-clause-counted : goal.returns-clause-counted
-returns-clause-counted g c = record {
-  rises = c.rewalk.ensures.counted.rises;
-  paid = λ room. omega (arith, c.in_ok-inode.ensures.counted, c.rewalk.ensures.counted.paid room);
-}
