@@ -59,8 +59,7 @@ pub lines_step : (v : Layout) (i cut : ℕ) (r r' : Replay) (step : Step) (R R' 
 lines_step v i cut r r' step R R' dup dup' e now d =
     lines_split dup dup' _ _ (offers_again v i cut r' R') (offers_next v i cut r r' step R R' e now) d
 
--- where a second walk is, with the steps R that are left to it: what it reported, and how many Runs
--- it looked at
+-- where a second walk is, with the steps R left to it: what it reported, and the Runs it looked at
 pub record Rewalking (v : Layout) (i cut : ℕ) (all : List Step) (r : Replay) (R : List Step) (u w : Workspace) :
     Type 0 where
   pub reported : Reporting (offers_again v i cut r R) (offers_again v i cut fresh_replay all) u w
@@ -172,8 +171,7 @@ rewalk_said {v = v} {i = i} {cut = cut} {k = k} {k' = k'} {step = step} {old = o
     ++ of_lines xs) (same bytes t)) (rw cuts at out)
 
 -- ---- reads that are paid by the Runs that phase 1b looks at
--- a step was read, with so many reads still to come, and its Run was counted; then no more are to
--- come
+-- a step was read, with some reads still to come, and its Run was counted
 pub runs_pay_on : {reads old middle new : ℕ} (now now' before after rest more : ℕ) →
     RunsPay reads (now + before) old middle → (new < 2 ^ 64 - 1 → middle + more ≤ new) →
     now' + after ≤ now + before + more → rest ≤ after + 0 → RunsPay reads (now' + rest) old new

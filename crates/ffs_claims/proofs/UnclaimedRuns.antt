@@ -113,8 +113,7 @@ pub base_above : (v : Layout) (c : ℕ) → cgbase v (c + 1) ≡ cgbase v c + v.
 unfolding cgbase
 base_above v c = grind arith
 
--- where a Run in range lies: in its group and in the volume, and before the group's metadata where
--- it begins there
+-- where a Run in range lies: in its group and the volume, and before the metadata if it begins there
 pub record Lies (v : Layout) (start len : ℕ) : Type 0 where
   pub base : cgbase v (start / v.fpg) ≤ start
   pub volume : start + len ≤ v.size

@@ -267,21 +267,3 @@ returns-in_default-clause-claiming g c =
         found = found_still inv.found;
       };
     }
-
-pub returns-in_err-seen-clause-counted : goal.returns-in_err-seen-clause-counted
-returns-in_err-seen-clause-counted g c =
-    let inv = c.loop-next.invariant in
-    let paid = rw c.in-Some.is at (c.in_ok-next.ensures.counted inv.held).paid in
-    omega (arith, paid, inv.counted, c.step.ensures.counted)
-
-pub returns-then-not-seen-clause-counted : goal.returns-then-not-seen-clause-counted
-returns-then-not-seen-clause-counted g c =
-    let inv = c.loop-next.invariant in
-    let paid = rw c.in-Some.is at (c.in_ok-next.ensures.counted inv.held).paid in
-    omega (arith, paid, inv.counted, c.step.ensures.counted)
-
-pub returns-in_default-clause-counted : goal.returns-in_default-clause-counted
-returns-in_default-clause-counted g c =
-    let inv = c.loop-next.invariant in
-    let paid = rw c.in_default.is at (c.in_ok-next.ensures.counted inv.held).paid in
-    omega (arith, paid, inv.counted)

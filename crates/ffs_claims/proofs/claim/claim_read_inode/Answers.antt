@@ -166,26 +166,3 @@ returns-then-matches-clause-claiming g c =
         };
       };
     }
-
-pub returns-in_err-say_class-clause-counted : goal.returns-in_err-say_class-clause-counted
-returns-in_err-say_class-clause-counted g c = let b = begun_runs c.args.workspace.now c.begin.ensures in omega arith
-
-pub returns-in_err-claim-clause-counted : goal.returns-in_err-claim-clause-counted
-returns-in_err-claim-clause-counted g c =
-    let b = begun_runs c.args.workspace.now c.begin.ensures in omega (arith, c.claim.ensures.counted)
-
-pub returns-in_err-say_count-clause-counted : goal.returns-in_err-say_count-clause-counted
-returns-in_err-say_count-clause-counted g c =
-    let b = begun_runs c.args.workspace.now c.begin.ensures in omega (arith, c.claim.ensures.counted)
-
-pub returns-clause-counted : goal.returns-clause-counted
-returns-clause-counted g c =
-    let b = begun_runs c.args.workspace.now c.begin.ensures in
-    let s = stored_runs c.claim.new.workspace c.store-2.ensures.rest in
-    omega (arith, c.claim.ensures.counted)
-
-pub returns-then-matches-clause-counted : goal.returns-then-matches-clause-counted
-returns-then-matches-clause-counted g c =
-    let b = begun_runs c.args.workspace.now c.begin.ensures in
-    let s = stored_runs c.begin.new.workspace c.store.ensures.rest in
-    omega arith
