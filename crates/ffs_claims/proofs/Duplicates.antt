@@ -28,8 +28,8 @@ use Rattle.ffs_workspace.specs.{Lengths.set_count, Lengths.inodes_of, declared.w
 use Rattle.ffs_claims.proofs.{Numbers.before_first, StepsContinue.set_again}
 
 -- ---- what holds of the offers, Runs and steps of an inode, and of their lines
--- R is of claims, lines and the claims after them. It holds where nothing happens, of each offer, of
--- a Run that is counted, of a bad one and of a Tail, and of two parts one after the other
+-- R is of claims, lines and the claims after them. It holds where nothing happens, of each offer,
+-- of a Run that is counted, of a bad one and of a Tail, and of two parts one after the other
 pub record IsTold (v : Layout) (i : ℕ) (R : Claims → List BlockMessage → Claims → Type 0) : Type 0 where
   pub none : (s : Claims) → R s [] s
   pub after : (s t u : Claims) (xs ys : List BlockMessage) → R s xs t → R t ys u → R s (xs ++ ys) u
@@ -45,22 +45,19 @@ pub record IsTold (v : Layout) (i : ℕ) (R : Claims → List BlockMessage → C
 
 module _ {v : Layout} {i : ℕ} {R : Claims → List BlockMessage → Claims → Type 0} (p : IsTold v i R) where
   offer_told : (s : Claims) (f : ℕ) → R s (offer_lines v i s f) (after_offer v s f)
-  offer_told s f = go (nat_lt s.dups 11) (is_fragment_in_range v f) refl (is_set s.used f)
+  offer_told s f = go (record s { kept = s.kept + 1 }) (record s { kept = s.kept + 1; used = slice_set s.used f true })
+      (record s { kept = s.kept + 1; dups = s.dups + 1; dup = slice_set s.dup f true }) (p.kept s) (p.claimed s f)
+      (p.dup s f (s.dups == 10)) (nat_lt s.dups 11) (is_fragment_in_range v f) refl (is_set s.used f)
     where
-      go : (a k : Bool) → is_fragment_in_range v f ≡ k → (u : Bool) →
-          R s (if a && (k && u) then Dup f i ∷ (if s.dups == 10 then ManyDup i ∷ [] else []) else [])
-          (if a then (if k then (if u then record s {
-            kept = s.kept + 1;
-            dups = s.dups + 1;
-            dup =
-                slice_set s.dup f true;
-          }
-          else record s { kept = s.kept + 1; used = slice_set s.used f true }) else record s { kept = s.kept + 1 }) else
-          s)
-      go false k e u = p.none s
-      go true false e u = p.kept s
-      go true true e false = p.claimed s f
-      go true true e true = p.dup s f (s.dups == 10) e
+      go : (t u w : Claims) → R s [] t → R s [] u → (is_fragment_in_range v f ≡ true →
+          R s (Dup f i ∷ (if s.dups == 10 then ManyDup i ∷ [] else [])) w) → (a k : Bool) →
+          is_fragment_in_range v f ≡ k → (b : Bool) →
+          R s (if a && (k && b) then Dup f i ∷ (if s.dups == 10 then ManyDup i ∷ [] else []) else [])
+          (if a then (if k then (if b then w else u) else t) else s)
+      go t u w kept claimed dup false k e b = p.none s
+      go t u w kept claimed dup true false e b = kept
+      go t u w kept claimed dup true true e false = claimed
+      go t u w kept claimed dup true true e true = dup e
 
   offers_told : (s : Claims) (fs : List ℕ) → R s (lines_of_offers v i s fs) (after_offers v s fs)
   offers_told s [] = p.none s

@@ -1,4 +1,4 @@
--- The replay of an inode by its cut keeps what the inode keeps, and how many Runs the rescan looks at.
+-- An inode replayed by its cut keeps what it kept, and how many Runs the rescan looks at.
 use Rattle.std.proofs.Common.{◌≡◌, ◌≢◌, ℕ, zero, suc, ◌+◌, Bool, true, false, ◌==◌, if◌then◌else◌, List, [], ◌∷◌, ◌++◌}
 use Rattle.std.proofs.Common.{map, replicate, arith, refl, ap, ◌∙◌, sym, inl, inr, eq-eqb, ne_eqb, ◌<◌, ◌≤◌, ◌^◌}
 use Rattle.std.proofs.{Common.length, Common.◌&&◌, Common.nat_lt, Common.Option, lemmas.Bool.cases_eq}

@@ -1,4 +1,4 @@
--- Which Runs are in range, whose offers are taken at once with nothing to report, and the claim of one fragment.
+-- Runs whose offers are taken at once with nothing to report, and which Runs are in range.
 use Rattle.std.proofs.Common.{◌++◌, ◌≡◌, ℕ, zero, suc, ◌+◌, ◌-◌, ◌<◌, ◌≤◌, true, false, nat_lt, [], slice_set, get_or}
 use Rattle.std.proofs.Common.{arith, refl, ap, ◌∙◌, Bool, sym, not, ◌/◌}
 use Rattle.std.proofs.{Math.Nat.mul-div-le, lemmas.Bool.Decides.nat_tests, lemmas.List.get_or-set_other}
@@ -113,7 +113,7 @@ pub base_above : (v : Layout) (c : ℕ) → cgbase v (c + 1) ≡ cgbase v c + v.
 unfolding cgbase
 base_above v c = grind arith
 
--- where a Run in range lies: in its group and the volume, and before the metadata if it begins there
+-- where a Run in range lies: in its group and the volume; before the metadata if it begins there
 pub record Lies (v : Layout) (start len : ℕ) : Type 0 where
   pub base : cgbase v (start / v.fpg) ≤ start
   pub volume : start + len ≤ v.size
