@@ -1,42 +1,265 @@
--- Whether there is a Dup line, and what is left to report.
-use Rattle.std.proofs.Math.ListN.{get_or-eq_default}
-use Rattle.std.proofs.lemmas.Bool.{cases_lt, eqb-true, not-false}
-use Rattle.std.proofs.lemmas.List.Sums.{sum_by-set}
+-- What the lines of phase 1 tell: which inodes they blame, and whether there is a Dup line.
 use Rattle.std.proofs.Common.{◌≡◌, ◌⊎◌, inl, inr, ℕ, zero, suc, ◌+◌, ◌<◌, ◌≤◌, Bool, true, false, not, ◌&&◌, ◌||◌, ◌==◌}
-use Rattle.std.proofs.Common.{if◌then◌else◌, nat_lt, List, [], ◌∷◌, ◌++◌, length, replicate, slice_set, length-set}
-use Rattle.std.proofs.Common.{◌≢◌, arith, refl, ap, ◌∙◌, sym}
-use Rattle.std.specs.List.{range_with_len, list_any, slice_index_or}
-use Rattle.std.proofs.lemmas.Bool.Decides.{nat_tests}
-use Rattle.std.proofs.lemmas.List.{length-replicate}
-use Rattle.std.proofs.Math.Bool.{or-false, and-false}
-use Rattle.std.proofs.lemmas.List.Folds.{list_any-append}
-use Rattle.ffs_volume.specs.declared.Layout.{Layout}
-use Rattle.ffs_volume.specs.declared.Class.{Class}
-use Rattle.ffs_volume.specs.declared.Class.TheVariants.{Free, Partial, Unknown, File, Dir}
-use Rattle.ffs_volume.specs.declared.Step.{Step}
-use Rattle.ffs_volume.specs.declared.Step.TheVariants.{Run, Tail, Gap}
+use Rattle.std.proofs.Common.{if◌then◌else◌, List, [], ◌∷◌, ◌++◌, length, replicate, slice_set, length-set, ◌≢◌, arith}
+use Rattle.std.proofs.Common.{refl, ap, ◌∙◌, sym, ◌-◌, nat_lt, nat_le, map}
+use Rattle.std.proofs.Math.{Bool.or-false, Bool.and-false, Bool.or_assoc, ListN.get_or-eq_default}
+use Rattle.std.proofs.lemmas.Bool.{cases_lt, eqb-true, not-false, cases_eq, Decides.nat_tests}
+use Rattle.std.proofs.lemmas.List.{length-replicate, Folds.list_any-append, Sums.sum_by-set}
+use Rattle.std.specs.List.{list_any, slice_index_or, range_with_len}
+use Rattle.ffs_volume.proofs.{OwnerLaws.before_next, Potentials.cond_holds, Potentials.in_range_below}
+use Rattle.ffs_volume.{proofs.Potentials.count_set, specs.Blocks.BlockCheck.class_lines}
+use Rattle.ffs_volume.specs.Blocks.BlockCheck.{count_lines, owner_lines, lines_of_owners, phase1_lines, phase1b_lines}
+use Rattle.ffs_volume.specs.Blocks.BlockCheck.{is_dup_line, has_rescan, blames, first_offer_lines, is_marked}
+use Rattle.ffs_volume.specs.Blocks.Claims.{Claims, no_claims, at_next_inode, is_open, is_set, after_owner, after_owners}
+use Rattle.ffs_volume.specs.Blocks.Claims.{lines_of_steps, after_offer, after_offers, after_run, after_step}
+use Rattle.ffs_volume.specs.Blocks.Claims.{after_steps, offer_lines, lines_of_offers, run_lines, step_lines}
+use Rattle.ffs_volume.specs.Blocks.Inodes.{is_file_or_dir, inode_of, class_of, is_unknown}
+use Rattle.ffs_volume.specs.Blocks.{KeptOffers.Offer, KeptOffers.kept_in_owners, KeptSteps.claims_before, Owners.Owner}
+use Rattle.ffs_volume.specs.{Blocks.Owners.owners_of, Blocks.Owners.owner_of, Directories.Volumes.is_inode_number}
+use Rattle.ffs_volume.specs.{Directories.Volumes.marked_at, Disk.Areas.is_fragment_in_range, Disk.Areas.is_run_in_range}
 use Rattle.ffs_volume.specs.declared.BlockMessage.{BlockMessage}
-use Rattle.ffs_volume.specs.declared.BlockMessage.TheVariants.{Bad, Dup, ManyBad, ManyDup, PartTrunc}
-use Rattle.ffs_volume.specs.Disk.Areas.{is_fragment_in_range, is_run_in_range}
-use Rattle.ffs_volume.specs.Blocks.Inodes.{is_file_or_dir}
-use Rattle.ffs_volume.specs.Blocks.Owners.{Owner, owners_of}
-use Rattle.ffs_volume.specs.Blocks.Claims.{Claims, no_claims, at_next_inode, is_open, is_set, after_offer, after_offers}
-use Rattle.ffs_volume.specs.Blocks.Claims.{after_run, after_step, after_steps, after_owner, after_owners, offer_lines}
-use Rattle.ffs_volume.specs.Blocks.Claims.{lines_of_offers, run_lines, step_lines, lines_of_steps}
-use Rattle.ffs_volume.proofs.Potentials.{cond_holds, in_range_below, count_set}
-use Rattle.ffs_volume.specs.Blocks.KeptOffers.{Offer}
-use Rattle.ffs_volume.specs.Blocks.BlockCheck.{class_lines, count_lines, owner_lines, lines_of_owners}
-use Rattle.ffs_volume.specs.Blocks.KeptOffers.{kept_in_owners}
-use Rattle.ffs_volume.specs.Blocks.BlockCheck.{phase1_lines, phase1b_lines, is_dup_line, has_rescan}
-use Rattle.ffs_volume.specs.Blocks.BlockCheck.{blames, first_offer_lines}
-use Rattle.ffs_volume.specs.Directories.Volumes.{is_inode_number}
-use Rattle.ffs_workspace.specs.Holds.{marked_by_phase1_at, all_claims, HoldsPhase1, HoldsClaims}
-use Rattle.ffs_workspace.specs.declared.workspace.Workspace.{Workspace}
+use Rattle.ffs_volume.specs.declared.BlockMessage.TheVariants.{Bad, ManyBad, PartTrunc, Dup, ManyDup}
+use Rattle.ffs_volume.specs.declared.Class.{Class, TheVariants.Free, TheVariants.Partial, TheVariants.Unknown}
+use Rattle.ffs_volume.specs.declared.{Class.TheVariants.File, Class.TheVariants.Dir, Layout.Layout, Step.Step}
+use Rattle.ffs_volume.specs.declared.Step.TheVariants.{Run, Tail, Gap}
 use Rattle.ffs_maps.specs.Bits.{bits_of}
-use Rattle.ffs_workspace.specs.Lengths.{set_count}
-use Rattle.ffs_claims.proofs.StepsContinue.{set_again}
-use Rattle.ffs_claims.proofs.Marks.{or_then, marked_total}
+use Rattle.ffs_workspace.specs.Holds.{marked_by_phase1_at, all_claims, HoldsPhase1, HoldsClaims, has_blame}
+use Rattle.ffs_workspace.specs.{Lengths.set_count, Lengths.inodes_of, declared.workspace.Workspace.Workspace}
+use Rattle.ffs_claims.proofs.{Numbers.before_first, StepsContinue.set_again}
 
+-- ---- what holds of the offers, Runs and steps of an inode, and of their lines
+-- R is of claims, lines and the claims after them. It holds where nothing happens, of each offer,
+-- of a Run that is counted, of a bad one and of a Tail, and of two parts one after the other
+pub record IsTold (v : Layout) (i : ℕ) (R : Claims → List BlockMessage → Claims → Type 0) : Type 0 where
+  pub none : (s : Claims) → R s [] s
+  pub after : (s t u : Claims) (xs ys : List BlockMessage) → R s xs t → R t ys u → R s (xs ++ ys) u
+  pub kept : (s : Claims) → R s [] (record s { kept = s.kept + 1 })
+  pub claimed : (s : Claims) (f : ℕ) → R s [] (record s { kept = s.kept + 1; used = slice_set s.used f true })
+  pub dup : (s : Claims) (f : ℕ) (many : Bool) → is_fragment_in_range v f ≡ true →
+      R s (Dup f i ∷ (if many then ManyDup i ∷ [] else []))
+      (record s { kept = s.kept + 1; dups = s.dups + 1; dup = slice_set s.dup f true })
+  pub seen : (s : Claims) → R s [] (record s { runs = s.runs + 1 })
+  pub bad : (s : Claims) (start : ℕ) (many : Bool) →
+      R s (Bad start i ∷ (if many then ManyBad i ∷ [] else [])) (record s { runs = s.runs + 1; bad = s.bad + 1 })
+  pub tail : (s : Claims) (first : Bool) → R s (if first then PartTrunc i ∷ [] else []) (record s { tail = true })
+
+module _ {v : Layout} {i : ℕ} {R : Claims → List BlockMessage → Claims → Type 0} (p : IsTold v i R) where
+  offer_told : (s : Claims) (f : ℕ) → R s (offer_lines v i s f) (after_offer v s f)
+  offer_told s f = go (record s { kept = s.kept + 1 }) (record s { kept = s.kept + 1; used = slice_set s.used f true })
+      (record s { kept = s.kept + 1; dups = s.dups + 1; dup = slice_set s.dup f true }) (p.kept s) (p.claimed s f)
+      (p.dup s f (s.dups == 10)) (nat_lt s.dups 11) (is_fragment_in_range v f) refl (is_set s.used f)
+    where
+      go : (t u w : Claims) → R s [] t → R s [] u → (is_fragment_in_range v f ≡ true →
+          R s (Dup f i ∷ (if s.dups == 10 then ManyDup i ∷ [] else [])) w) → (a k : Bool) →
+          is_fragment_in_range v f ≡ k → (b : Bool) →
+          R s (if a && (k && b) then Dup f i ∷ (if s.dups == 10 then ManyDup i ∷ [] else []) else [])
+          (if a then (if k then (if b then w else u) else t) else s)
+      go t u w kept claimed dup false k e b = p.none s
+      go t u w kept claimed dup true false e b = kept
+      go t u w kept claimed dup true true e false = claimed
+      go t u w kept claimed dup true true e true = dup e
+
+  offers_told : (s : Claims) (fs : List ℕ) → R s (lines_of_offers v i s fs) (after_offers v s fs)
+  offers_told s [] = p.none s
+  offers_told s (f ∷ fs) = p.after s (after_offer v s f) (after_offers v (after_offer v s f) fs)
+      (offer_lines v i s f) (lines_of_offers v i (after_offer v s f) fs) (offer_told s f)
+      (offers_told (after_offer v s f) fs)
+
+  run_told : (s : Claims) (start len : ℕ) → R s (run_lines v i s start len) (after_run v s start len)
+  run_told s start len = go (record s { runs = s.runs + 1 })
+      (record s { runs = s.runs + 1; bad = s.bad + 1 }) (range_with_len start len) (p.seen s) (p.bad s start)
+      (is_run_in_range v start len) (s.bad == 10)
+    where
+      go : (t u : Claims) (fs : List ℕ) → R s [] t → ((many : Bool) →
+          R s (Bad start i ∷ (if many then ManyBad i ∷ [] else [])) u) → (a z : Bool) →
+          R s (if a then lines_of_offers v i t fs
+          else Bad start i ∷ (if z then ManyBad i ∷ [] else lines_of_offers v i u fs))
+          (if a then after_offers v t fs else (if z then u else after_offers v u fs))
+      go t u fs seen bad true z =
+          p.after s t (after_offers v t fs) [] (lines_of_offers v i t fs) seen (offers_told t fs)
+      go t u fs seen bad false true = bad true
+      go t u fs seen bad false false =
+          p.after s u (after_offers v u fs) (Bad start i ∷ []) (lines_of_offers v i u fs) (bad false) (offers_told u fs)
+
+  step_told : (s : Claims) (step : Step) → R s (step_lines v i s step) (after_step v s step)
+  step_told s Gap = p.none s
+  step_told s Tail = go (is_open s)
+    where
+      go : (o : Bool) → R s (if o && not s.tail then PartTrunc i ∷ [] else [])
+          (if o then record s { tail = true } else s)
+      go true = p.tail s (not s.tail)
+      go false = p.none s
+  step_told s (Run start len block) = go (is_open s)
+    where
+      go : (o : Bool) → R s (if o then run_lines v i s start len else []) (if o then after_run v s start len else s)
+      go true = run_told s start len
+      go false = p.none s
+
+  pub steps_told : (s : Claims) (steps : List Step) → R s (lines_of_steps v i s steps) (after_steps v s steps)
+  steps_told s [] = p.none s
+  steps_told s (step ∷ steps) = p.after s (after_step v s step) (after_steps v (after_step v s step) steps)
+      (step_lines v i s step) (lines_of_steps v i (after_step v s step) steps) (step_told s step)
+      (steps_told (after_step v s step) steps)
+
+-- lines that add to what is known: what they report, with what was known, is what then is known
+pub or_then : (a b s t u : Bool) → (a || s) ≡ t → (b || t) ≡ u → ((a || b) || s) ≡ u
+or_then a b s t u e f = grind arith
+
+-- ---- blame
+abbrev blamed : ℕ → ℕ → Claims → Bool
+blamed x i s = (i == x) && has_blame s
+
+abbrev Blames : ℕ → ℕ → Claims → List BlockMessage → Claims → Type 0
+Blames x i s lines t = (list_any (blames x) lines || blamed x i s) ≡ blamed x i t
+
+blames_then : (x i : ℕ) (s t u : Claims) (xs ys : List BlockMessage) → Blames x i s xs t → Blames x i t ys u →
+    Blames x i s (xs ++ ys) u
+blames_then x i s t u xs ys p q =
+    ap (λ b. b || blamed x i s) (list_any-append (blames x) xs ys)
+    ∙ or_then (list_any (blames x) xs) (list_any (blames x) ys) (blamed x i s) (blamed x i t) (blamed x i u) p q
+
+-- a line that blames the inode
+reported_blame : (x i : ℕ) (s t : Claims) (tail : List BlockMessage) (line : BlockMessage) → blames x line ≡ (i == x) →
+    list_any (blames x) tail ≡ false → has_blame t ≡ true → Blames x i s (line ∷ tail) t
+reported_blame x i s t tail line e none bad =
+    ap (λ b. (b || list_any (blames x) tail) || blamed x i s) e
+    ∙ ap (λ b. ((i == x) || b) || blamed x i s) none
+    ∙ both (i == x) (has_blame s) ∙ ap (λ b. (i == x) && b) (sym bad)
+  where
+    both : (a b : Bool) → ((a || false) || (a && b)) ≡ (a && true)
+    both true b = refl
+    both false b = refl
+
+more_dups : (n d : ℕ) → not (n == 0 && d + 1 == 0) ≡ true
+more_dups n d = grind (arith, nat_tests)
+
+more_bad : (n d : ℕ) → not (n + 1 == 0 && d == 0) ≡ true
+more_bad n d = grind (arith, nat_tests)
+
+blames_told : (v : Layout) (x i : ℕ) → IsTold v i (Blames x i)
+blames_told v x i = record {
+  none = λ s. refl;
+  after = λ s t u xs ys p q. blames_then x i s t u xs ys p q;
+  kept = λ s. refl;
+  claimed = λ s f. refl;
+  dup = λ s f many ok. reported_blame x i s (record s {
+    kept = s.kept + 1;
+    dups = s.dups + 1;
+    dup =
+        slice_set s.dup f true;
+  }) (if many then ManyDup i ∷ [] else []) (Dup f i) refl (none x many (ManyDup i ∷ []) refl) (more_dups s.bad s.dups);
+  seen = λ s. refl;
+  bad = λ s start many. reported_blame x i s (record s { runs = s.runs + 1; bad = s.bad + 1 })
+      (if many then ManyBad i ∷ [] else []) (Bad start i) refl (none x many (ManyBad i ∷ []) refl)
+      (more_bad s.bad s.dups);
+  tail = λ s first. ap (λ b. b || blamed x i s) (none x first (PartTrunc i ∷ []) refl);
+}
+  where
+    none : (x : ℕ) (b : Bool) (ls : List BlockMessage) → list_any (blames x) ls ≡ false →
+        list_any (blames x) (if b then ls else []) ≡ false
+    none x true ls e = e
+    none x false ls e = refl
+
+class_silent : (x i : ℕ) (class : Class) → list_any (blames x) (class_lines i class) ≡ false
+class_silent x i Free = refl
+class_silent x i Partial = refl
+class_silent x i Unknown = refl
+class_silent x i File = refl
+class_silent x i Dir = refl
+
+count_silent : (v : Layout) (x : ℕ) (o : Owner) (end : Claims) → list_any (blames x) (count_lines v o end) ≡ false
+count_silent v x o end = cond_holds (λ (ls : List BlockMessage). list_any (blames x) ls ≡ false)
+    (is_file_or_dir o.class && (is_open end && not (o.blocks == _))) _ _ (λ _. refl) (λ _. refl)
+
+owner_blames : (v : Layout) (x : ℕ) (s : Claims) (o : Owner) → list_any (blames x) (owner_lines v s o)
+    ≡ ((o.number == x) && has_blame (after_owner v s o))
+owner_blames v x s o =
+    let steps = lines_of_steps v o.number (at_next_inode s) o.steps in
+    let count = count_lines v o (after_owner v s o) in
+    list_any-append (blames x) (class_lines o.number o.class) (steps ++ count)
+    ∙ ap (λ b. b || list_any (blames x) (steps ++ count)) (class_silent x o.number o.class)
+    ∙ list_any-append (blames x) steps count
+    ∙ ap (λ b. list_any (blames x) steps || b) (count_silent v x o (after_owner v s o)
+    ∙ sym (and-false (o.number == x)))
+    ∙ steps_told (blames_told v x o.number) (at_next_inode s) o.steps
+
+-- whether the lines of phase 1 on the inode x blame it
+abbrev blame_at : Layout → List ℕ → ℕ → Bool
+blame_at v bytes x = has_blame (after_owner v (claims_before v bytes x) (owner_of v bytes x))
+
+-- x is n, or one of the k numbers after it
+next_one : (n x k : ℕ) (blame : ℕ → Bool) →
+    (((n == x) && blame n) || ((nat_le (n + 1) x && nat_lt x (n + 1 + k)) && blame x))
+    ≡ ((nat_le n x && nat_lt x (n + suc k)) && blame x)
+next_one n x k blame = elim (cases_eq n x) [
+  | inl e ↦ rw e (here x k (blame x))
+  | inr apart ↦ after apart (blame n) (blame x)
+]
+  where
+    here : (x k : ℕ) (b : Bool) → (((x == x) && b) || ((nat_le (x + 1) x && nat_lt x (x + 1 + k)) && b))
+        ≡ ((nat_le x x && nat_lt x (x + suc k)) && b)
+    here x k b =
+        let is : (x == x) ≡ true = grind (arith, nat_tests) in
+        let past : nat_le (x + 1) x ≡ false = grind (arith, nat_tests) in
+        let low : nat_le x x ≡ true = grind (arith, nat_tests) in
+        let high : nat_lt x (x + suc k) ≡ true = grind (arith, nat_tests) in
+        rw (is, past, low, high) (or-false b)
+
+    after : (n ≡ x → ⊥) → (b c : Bool) → (((n == x) && b) || ((nat_le (n + 1) x && nat_lt x (n + 1 + k)) && c))
+        ≡ ((nat_le n x && nat_lt x (n + suc k)) && c)
+    after apart b c =
+        let is : (n == x) ≡ false = grind (arith, nat_tests) in
+        let low : nat_le (n + 1) x ≡ nat_le n x = grind (arith, nat_tests) in
+        let high : n + 1 + k ≡ n + suc k = omega arith in
+        rw (is, low, high) refl
+
+-- of the inodes one after another
+owners_blame : (v : Layout) (bytes : List ℕ) (x n k : ℕ) → 2 ≤ n →
+    list_any (blames x) (lines_of_owners v (claims_before v bytes n) (map (owner_of v bytes) (range_with_len n k)))
+    ≡ ((nat_le n x && nat_lt x (n + k)) && blame_at v bytes x)
+unfolding owner_of
+owners_blame v bytes x n zero low =
+    none (nat_le n x && nat_lt x (n + 0)) (blame_at v bytes x) (grind (arith, nat_tests))
+  where
+    none : (b c : Bool) → b ≡ false → false ≡ (b && c)
+    none b c e = rw e refl
+owners_blame v bytes x n (suc k) low =
+    let s = claims_before v bytes n in
+    let os = map (owner_of v bytes) (range_with_len (n + 1) k) in
+    let one = (n == x) && blame_at v bytes n in
+    list_any-append (blames x) (owner_lines v s (owner_of v bytes n))
+    (lines_of_owners v (after_owner v s (owner_of v bytes n)) os)
+    ∙ ap (λ b. b || list_any (blames x) (lines_of_owners v (after_owner v s (owner_of v bytes n)) os))
+    (owner_blames v x s (owner_of v bytes n))
+    ∙ ap (λ t. one || list_any (blames x) (lines_of_owners v t os)) (sym (before_next v bytes n low))
+    ∙ ap (λ b. one || b) (owners_blame v bytes x (n + 1) k (omega arith)) ∙ next_one n x k (blame_at v bytes)
+
+first_blames : (v : Layout) (bytes : List ℕ) (x : ℕ) → is_inode_number v x ≡ true →
+    list_any (blames x) (phase1_lines v (owners_of v bytes)) ≡ blame_at v bytes x
+unfolding phase1_lines owners_of
+first_blames v bytes x inside =
+    let all : (nat_le 2 x && nat_lt x (2 + (inodes_of v - 2))) ≡ true = grind (arith, nat_tests) in
+    let os = map (owner_of v bytes) (range_with_len 2 (inodes_of v - 2)) in
+    ap (λ t. list_any (blames x) (lines_of_owners v t os)) (sym (before_first v bytes))
+    ∙ owners_blame v bytes x 2 (inodes_of v - 2) (omega arith) ∙ ap (λ b. b && blame_at v bytes x) all
+
+-- an inode is marked by phase 1, or by phase 1b
+pub marked_total : (v : Layout) (bytes : List ℕ) (x : ℕ) → marked_at v bytes x ≡ (marked_by_phase1_at v bytes x
+    || (is_inode_number v x && list_any (blames x) (phase1b_lines v (owners_of v bytes))))
+unfolding marked_by_phase1_at is_marked
+marked_total v bytes x =
+    let first = phase1_lines v (owners_of v bytes) in
+    let again = phase1b_lines v (owners_of v bytes) in
+    both (is_inode_number v x) (is_unknown (class_of v (inode_of v bytes x))) (list_any (blames x) (first ++ again))
+    (blame_at v bytes x) (list_any (blames x) again) (λ q. list_any-append (blames x) first again
+    ∙ ap (λ b. b || list_any (blames x) again) (first_blames v bytes x q))
+  where
+    both : (i u l b c : Bool) → (i ≡ true → l ≡ (b || c)) →
+        (if i then u || l else false) ≡ ((if i then u || b else false) || (i && c))
+    both true u l b c e = ap (λ z. u || z) (e refl) ∙ sym (or_assoc u b c)
+    both false u l b c e = refl
+
+-- ---- whether there is a Dup line
 -- some bit is set
 abbrev pub any_set : List Bool → Bool
 any_set bits = not (set_count bits == 0)
@@ -60,100 +283,35 @@ set_any : (bits : List Bool) (f : ℕ) → f < length bits → any_set (slice_se
 set_any bits f h = let some = set_some bits f h in grind (arith, nat_tests)
 
 abbrev DupsAreReported : Claims → List BlockMessage → Claims → Type 0
-DupsAreReported s lines t = ((list_any is_dup_line lines || any_set s.dup) ≡ any_set t.dup) × (length t.dup ≡ length s.dup)
+DupsAreReported s lines t = ((list_any is_dup_line lines || any_set s.dup) ≡ any_set t.dup) ×
+    (length t.dup ≡ length s.dup)
 
-dups_then : (s t u : Claims) (xs ys : List BlockMessage) → DupsAreReported s xs t → DupsAreReported t ys u → DupsAreReported s (xs ++ ys) u
+dups_then : (s t u : Claims) (xs ys : List BlockMessage) → DupsAreReported s xs t → DupsAreReported t ys u →
+    DupsAreReported s (xs ++ ys) u
 dups_then s t u xs ys p q = (
-  ap (λ (b : Bool). b || any_set s.dup) (list_any-append is_dup_line xs ys)
+  ap (λ b. b || any_set s.dup) (list_any-append is_dup_line xs ys)
       ∙ or_then (list_any is_dup_line xs) (list_any is_dup_line ys) (any_set s.dup) (any_set t.dup) (any_set u.dup) p.0
       q.0,
   q.1 ∙ p.1,
 )
 
-offer_dups : (v : Layout) (i : ℕ) (s : Claims) (f : ℕ) → length s.dup ≡ v.size →
-    DupsAreReported s (offer_lines v i s f) (after_offer v s f)
-offer_dups v i s f h = one (nat_lt s.dups 11) refl (is_fragment_in_range v f) refl (is_set s.used f) refl
+dups_told : (v : Layout) (i : ℕ) → IsTold v i (λ s lines t. length s.dup ≡ v.size → DupsAreReported s lines t)
+dups_told v i = record {
+  none = λ s h. (refl, refl);
+  after = λ s t u xs ys p q h. dups_then s t u xs ys (p h) (q ((p h).1 ∙ h));
+  kept = λ s h. (refl, refl);
+  claimed = λ s f h. (refl, refl);
+  dup = λ s f many ok h.
+      let low = in_range_below v f ok in (sym (set_any s.dup f (omega arith)), length-set s.dup f true);
+  seen = λ s h. (refl, refl);
+  bad = λ s start many h. (ap (λ b. b || any_set s.dup) (none many (ManyBad i ∷ []) refl), refl);
+  tail = λ s first h. (ap (λ b. b || any_set s.dup) (none first (PartTrunc i ∷ []) refl), refl);
+}
   where
-    from : (lines : List BlockMessage) (t : Claims) → offer_lines v i s f ≡ lines → after_offer v s f ≡ t →
-        DupsAreReported s lines t → DupsAreReported s (offer_lines v i s f) (after_offer v s f)
-    from lines t e now d = rw (e, now) d
-
-    one : (a : Bool) → nat_lt s.dups 11 ≡ a → (k : Bool) → is_fragment_in_range v f ≡ k → (u : Bool) →
-        is_set s.used f ≡ u → DupsAreReported s (offer_lines v i s f) (after_offer v s f)
-    one false q k kq u uq = from [] s (rw q refl) (rw q refl) (refl, refl)
-    one true q false kq u uq = from [] (record s { kept = s.kept + 1 }) (rw (q, kq) refl) (rw (q, kq) refl) (refl, refl)
-    one true q true kq false uq = from [] (record s { kept = s.kept + 1; used = slice_set s.used f true })
-        (rw (q, kq, uq) refl) (rw (q, kq, uq) refl) (refl, refl)
-    one true q true kq true uq =
-        let low = in_range_below v f kq in
-        from (Dup f i ∷ (if s.dups == 10 then ManyDup i ∷ [] else []))
-        (record s { kept = s.kept + 1; dups = s.dups + 1; dup = slice_set s.dup f true }) (rw (q, kq, uq) refl)
-        (rw (q, kq, uq) refl)
-        (sym (set_any s.dup f (omega arith)), length-set s.dup f true)
-
-offers_dups : (v : Layout) (i : ℕ) (s : Claims) (fs : List ℕ) → length s.dup ≡ v.size →
-    DupsAreReported s (lines_of_offers v i s fs) (after_offers v s fs)
-offers_dups v i s [] h = (refl, refl)
-offers_dups v i s (f ∷ fs) h =
-    let one = offer_dups v i s f h in
-    dups_then s (after_offer v s f) (after_offers v (after_offer v s f) fs) (offer_lines v i s f)
-    (lines_of_offers v i (after_offer v s f) fs) one (offers_dups v i (after_offer v s f) fs (one.1 ∙ h))
-
-run_dups : (v : Layout) (i : ℕ) (s : Claims) (start len : ℕ) → length s.dup ≡ v.size →
-    DupsAreReported s (run_lines v i s start len) (after_run v s start len)
-run_dups v i s start len h = one (is_run_in_range v start len) refl (s.bad == 10) refl
-  where
-    from : (lines : List BlockMessage) (t : Claims) → run_lines v i s start len ≡ lines → after_run v s start len ≡ t →
-        DupsAreReported s lines t → DupsAreReported s (run_lines v i s start len) (after_run v s start len)
-    from lines t e now d = rw (e, now) d
-
-    one : (r : Bool) → is_run_in_range v start len ≡ r → (z : Bool) → (s.bad == 10) ≡ z →
-        DupsAreReported s (run_lines v i s start len) (after_run v s start len)
-    one true q z zq = from (lines_of_offers v i (record s { runs = s.runs + 1 }) (range_with_len start len))
-        (after_offers v (record s { runs = s.runs + 1 }) (range_with_len start len)) (rw q refl) (rw q refl)
-        (offers_dups v i (record s { runs = s.runs + 1 }) (range_with_len start len) h)
-    one false q true zq = from (Bad start i ∷ (ManyBad i ∷ [])) (record s { runs = s.runs + 1; bad = s.bad + 1 })
-        (rw (q, zq) refl) (rw (q, zq) refl) (refl, refl)
-    one false q false zq = from
-        (Bad start i ∷ lines_of_offers v i (record s { runs = s.runs + 1; bad = s.bad + 1 }) (range_with_len start len))
-        (after_offers v (record s { runs = s.runs + 1; bad = s.bad + 1 }) (range_with_len start len)) (rw (q, zq) refl)
-        (rw (q, zq) refl)
-        (offers_dups v i (record s { runs = s.runs + 1; bad = s.bad + 1 }) (range_with_len start len) h)
-
-step_dups : (v : Layout) (i : ℕ) (s : Claims) (step : Step) → length s.dup ≡ v.size →
-    DupsAreReported s (step_lines v i s step) (after_step v s step)
-step_dups v i s Gap h = (refl, refl)
-step_dups v i s Tail h = one (is_open s) refl
-  where
-    none : (b : Bool) → list_any is_dup_line (if b then PartTrunc i ∷ [] else []) ≡ false
-    none true = refl
-    none false = refl
-
-    one : (o : Bool) → is_open s ≡ o → DupsAreReported s (step_lines v i s Tail) (after_step v s Tail)
-    one true q = let now : after_step v s Tail ≡ record s { tail = true } = rw q refl in (
-      ap (λ (b : Bool). b || any_set s.dup) (none (is_open s && not s.tail))
-          ∙ ap (λ (t : Claims). any_set t.dup) (sym now),
-      ap (λ (t : Claims). length t.dup) now,
-    )
-    one false q = let now : after_step v s Tail ≡ s = rw q refl in (
-      ap (λ (b : Bool). b || any_set s.dup) (none (is_open s && not s.tail))
-          ∙ ap (λ (t : Claims). any_set t.dup) (sym now),
-      ap (λ (t : Claims). length t.dup) now,
-    )
-step_dups v i s (Run start len block) h = one (is_open s) refl
-  where
-    one : (o : Bool) → is_open s ≡ o →
-        DupsAreReported s (step_lines v i s (Run start len block)) (after_step v s (Run start len block))
-    one true q = rw q (run_dups v i s start len h)
-    one false q = rw q (refl, refl)
-
-steps_dups : (v : Layout) (i : ℕ) (s : Claims) (steps : List Step) → length s.dup ≡ v.size →
-    DupsAreReported s (lines_of_steps v i s steps) (after_steps v s steps)
-steps_dups v i s [] h = (refl, refl)
-steps_dups v i s (step ∷ steps) h =
-    let one = step_dups v i s step h in
-    dups_then s (after_step v s step) (after_steps v (after_step v s step) steps) (step_lines v i s step)
-    (lines_of_steps v i (after_step v s step) steps) one (steps_dups v i (after_step v s step) steps (one.1 ∙ h))
+    none : (b : Bool) (ls : List BlockMessage) → list_any is_dup_line ls ≡ false →
+        list_any is_dup_line (if b then ls else []) ≡ false
+    none true ls e = e
+    none false ls e = refl
 
 class_none : (i : ℕ) (class : Class) → list_any is_dup_line (class_lines i class) ≡ false
 class_none i Free = refl
@@ -171,11 +329,10 @@ owner_dups : (v : Layout) (s : Claims) (o : Owner) → length s.dup ≡ v.size �
 owner_dups v s o h =
     dups_then s s (after_owner v s o) (class_lines o.number o.class)
     (lines_of_steps v o.number (at_next_inode s) o.steps ++ count_lines v o (after_owner v s o))
-    (ap (λ (b : Bool). b || any_set s.dup) (class_none o.number o.class), refl)
+    (ap (λ b. b || any_set s.dup) (class_none o.number o.class), refl)
     (dups_then s (after_owner v s o) (after_owner v s o) (lines_of_steps v o.number (at_next_inode s) o.steps)
-    (count_lines v o (after_owner v s o))
-    (steps_dups v o.number (at_next_inode s) o.steps h)
-    (ap (λ (b : Bool). b || any_set (after_owner v s o).dup) (count_none v o (after_owner v s o)), refl))
+    (count_lines v o (after_owner v s o)) (steps_told (dups_told v o.number) (at_next_inode s) o.steps h)
+    (ap (λ b. b || any_set (after_owner v s o).dup) (count_none v o (after_owner v s o)), refl))
 
 owners_dups : (v : Layout) (s : Claims) (os : List Owner) → length s.dup ≡ v.size →
     DupsAreReported s (lines_of_owners v s os) (after_owners v s os)
@@ -194,8 +351,8 @@ pub rescan_is : (v : Layout) (image : List ℕ) → any_set (all_claims v image)
 unfolding all_claims phase1_lines no_claims
 rescan_is v image =
     let all = owners_dups v (no_claims v) (owners_of v image) (length-replicate v.size false) in
-    let clear : any_set (replicate v.size false) ≡ false = ap (λ (n : ℕ). not (n == 0)) (none_set v.size) in
-    sym all.0 ∙ ap (λ (b : Bool). list_any is_dup_line (lines_of_owners v (no_claims v) (owners_of v image)) || b) clear
+    let clear : any_set (replicate v.size false) ≡ false = ap (λ n. not (n == 0)) (none_set v.size) in
+    sym all.0 ∙ ap (λ b. list_any is_dup_line (lines_of_owners v (no_claims v) (owners_of v image)) || b) clear
     ∙ or-false _
 
 -- ---- what is left to report
@@ -227,14 +384,15 @@ no_rescan v image w none h = record {
   kinds = h.kinds;
   notes = h.notes;
   marked = λ x. h.marked x ∙ sym (or-false (marked_by_phase1_at v image x))
-      ∙ ap (λ (b : Bool). marked_by_phase1_at v image x || b) (sym (silent x)) ∙ sym (marked_total v image x);
+      ∙ ap (λ b. marked_by_phase1_at v image x || b) (sym (silent x)) ∙ sym (marked_total v image x);
 }
   where
     lines : phase1b_lines v (owners_of v image) ≡ []
-    lines = first_none v image (eqb-true (set_count (all_claims v image).dup) 0 (not-false _ (rescan_is v image ∙ none)))
+    lines = first_none v image (eqb-true (set_count (all_claims v image).dup) 0
+        (not-false _ (rescan_is v image ∙ none)))
 
     silent : (x : ℕ) → (is_inode_number v x && list_any (blames x) (phase1b_lines v (owners_of v image))) ≡ false
-    silent x = ap (λ (ls : List BlockMessage). is_inode_number v x && list_any (blames x) ls) lines
+    silent x = ap (λ ls. is_inode_number v x && list_any (blames x) ls) lines
         ∙ and-false (is_inode_number v x)
 
 -- what phase 1 leaves to report

@@ -1,23 +1,67 @@
--- How an inode's part of the block check continues.
-use Rattle.std.specs.Prelude.{OnOk}
-use Rattle.std.proofs.Common.{◌≡◌, ℕ, List, [], ◌++◌, append-nil, Option, Result, Ok, Err, ap, ◌∙◌, sym, refl}
-use Rattle.ffs_volume.specs.declared.Layout.{Layout}
-use Rattle.ffs_volume.specs.declared.Class.{Class}
-use Rattle.ffs_volume.specs.declared.Class.TheVariants.{Free}
-use Rattle.ffs_volume.specs.declared.Inode.{Inode}
-use Rattle.ffs_volume.specs.Blocks.Inodes.{class_of, inode_of}
-use Rattle.ffs_volume.specs.Blocks.Steps.{steps_of}
-use Rattle.ffs_volume.specs.Blocks.Owners.{owner_of}
-use Rattle.ffs_volume.specs.Blocks.Claims.{Claims, at_next_inode, after_steps, after_owner, lines_of_steps}
+-- How an inode's part of the block check continues, and how many Runs it is seen to have.
+use Rattle.std.proofs.Common.{◌+◌, ◌<◌, ◌^◌, false, arith, OnOk, ◌≡◌, ℕ, List, [], ◌++◌, append-nil, Option, Result, Ok}
+use Rattle.std.proofs.Common.{Err, ap, ◌∙◌, sym, refl, ◌≤◌, nat_lt, true}
+use Rattle.std.proofs.lemmas.{Bool.ltb-true, Bool.and_parts, List.Sums.count_by-le-length}
+use Rattle.ffs_volume.proofs.Potentials.{step_moves, moves_then}
 use Rattle.ffs_volume.specs.Blocks.BlockCheck.{class_lines, count_lines, owner_lines}
-use Rattle.ffs_volume.specs.Messages.Kinds.{Message}
+use Rattle.ffs_volume.specs.Blocks.Claims.{Claims, at_next_inode, after_steps, after_owner, lines_of_steps, is_open}
+use Rattle.ffs_volume.specs.Blocks.{Claims.after_step, Inodes.class_of, Inodes.inode_of, Owners.owner_of}
+use Rattle.ffs_volume.specs.{Blocks.Steps.steps_of, Laws.ClaimBounds.used_bits, Laws.ClaimBounds.ClaimBound}
+use Rattle.ffs_volume.specs.{Laws.Geometry.IsAcceptedLayout, Laws.RunLengths.HasLength, Messages.Kinds.Message}
+use Rattle.ffs_volume.specs.declared.{Class.Class, Class.TheVariants.Free, Inode.Inode, Layout.Layout, Step.Step}
+use Rattle.ffs_report.proofs.Reporting.{of_part, of_begins, of_says, of_stops}
+use Rattle.ffs_report.specs.{Known.ForBytes, Known.IsContents, PhaseOutcome.SaidOf, PhaseOutcome.StoppedOf}
 use Rattle.ffs_report.specs.Progress.{Progress, Said, Stopped}
-use Rattle.ffs_report.specs.Known.{ForBytes, IsContents}
-use Rattle.ffs_report.specs.PhaseOutcome.{SaidOf, StoppedOf}
-use Rattle.ffs_report.proofs.Reporting.{of_begins, of_says, of_stops}
-use Rattle.ffs_claims.specs.Lines.{of_lines, owner_with, counted_owner}
-use Rattle.ffs_claims.proofs.StepsContinue.{lines_append, no_steps}
+use Rattle.ffs_maps.proofs.Bits.{bits_long}
+use Rattle.ffs_workspace.specs.{Holds.claims_of, Lengths.IsFor, Lengths.inodes_of}
+use Rattle.ffs_workspace.specs.declared.workspace.Workspace.{Workspace}
+use Rattle.ffs_claims.proofs.StepsContinue.{lines_append}
+use Rattle.ffs_claims.specs.{Area.IsDataArea, Claiming.SeesNext, Leaves.HasBegun, Leaves.HasInode, Lines.of_lines}
+use Rattle.ffs_claims.specs.{Lines.owner_with, Lines.counted_owner, declared.area.DataArea.DataArea}
 
+-- ---- how many Runs an inode is seen to have, and how many offers it keeps
+-- a step more keeps the bound
+pub moves_on : {v : Layout} {s0 s' : Claims} {w : Workspace} (step : Step) → IsFor v w → v.frag ≤ 8 →
+    HasLength v.frag step → s' ≡ after_step v (claims_of w) step → ClaimBound s0 (claims_of w) → ClaimBound s0 s'
+moves_on {v = v} {s0 = s0} {w = w} step made small some now before = rw now (moves_then s0 (claims_of w) _ before
+    (step_moves v (claims_of w) step (bits_long w.claimed ∙ made.claimed) small some))
+
+-- at most the volume's fragments are used
+pub used_below : {v : Layout} {w : Workspace} → IsFor v w → used_bits (claims_of w) ≤ v.size
+used_below {w = w} made =
+    let size = bits_long w.claimed ∙ made.claimed in
+    omega (arith, count_by-le-length (λ b. b) (claims_of w).used, size)
+
+open_few : (s : Claims) → is_open s ≡ true → (s.bad < 11) × (s.dups < 11)
+open_few s free =
+    let both = and_parts (nat_lt s.bad 11) (nat_lt s.dups 11) free in
+    (ltb-true s.bad 11 both.0, ltb-true s.dups 11 both.1)
+
+-- how many Runs are seen, and how many offers are kept, while an inode isn't cut
+pub seen_bound : {v : Layout} (u : Workspace) {w : Workspace} → IsFor v w → is_open (claims_of w) ≡ true →
+    ClaimBound (claims_of u) (claims_of w) → w.runs_seen + used_bits (claims_of u) + 2 ≤ u.runs_seen + v.size + 22
+seen_bound u {w = w} made free m =
+    let few = open_few (claims_of w) free in
+    omega (arith, used_below made, m.few_runs, few.0, few.1)
+
+pub kept_room : {v : Layout} (u : Workspace) {w : Workspace} → IsFor v w → is_open (claims_of w) ≡ true →
+    ClaimBound (claims_of u) (claims_of w) → w.kept ≤ u.kept + v.size + 99
+kept_room u {w = w} made free m =
+    let few = open_few (claims_of w) free in
+    omega (arith, used_below made, m.few_kept, few.0, few.1)
+
+-- so there is room to count them
+pub sees_next : {v : Layout} {u w : Workspace} {area : DataArea} → IsAcceptedLayout v → HasBegun u → IsFor v w →
+    IsDataArea v area → is_open (claims_of w) ≡ true → ClaimBound (claims_of u) (claims_of w) → SeesNext v w area
+sees_next {u = u} g begun made only_data uncut m = record {
+  made = made;
+  only_data = only_data;
+  uncut = uncut;
+  room = omega (arith, g.numbers.size_below, kept_room u made uncut m, begun.kept);
+  runs = omega (arith, g.numbers.size_below, seen_bound u made uncut m, begun.runs);
+}
+
+-- ---- its lines
 -- the lines of an inode's steps and of its count, once its class is reported
 abbrev pub rest_lines : Layout → ℕ → Inode → Class → Claims → List ℕ → List Message
 rest_lines v number i class s1 bytes =
@@ -29,50 +73,70 @@ parts : (v : Layout) (number : ℕ) (i : Inode) (s : Claims) (bytes : List ℕ) 
     ++ rest_lines v number i (class_of v i) (at_next_inode s) bytes
 parts v number i s bytes =
     lines_append (class_lines number (class_of v i)) _
-    ∙ ap (λ (xs : List Message). of_lines (class_lines number (class_of v i)) ++ xs)
+    ∙ ap (λ xs. of_lines (class_lines number (class_of v i)) ++ xs)
     (lines_append (lines_of_steps v number (at_next_inode s) (steps_of v i bytes))
     (count_lines v (owner_with v bytes number i) (after_owner v s (owner_with v bytes number i))))
 
-pub class_said : (knows : List ℕ → Type 0) (v : Layout) (number : ℕ) (i : Inode) (s s1 : Claims) (class : Class)
-    (a b : Progress) →
-    s1 ≡ at_next_inode s → class ≡ class_of v i → Said a b (of_lines (class_lines number class)) →
+pub class_said : {knows : List ℕ → Type 0} {a b : Progress} {s1 : Claims} {class : Class} (v : Layout) (number : ℕ)
+    (i : Inode) (s : Claims) → s1 ≡ at_next_inode s → class ≡ class_of v i →
+    Said a b (of_lines (class_lines number class)) →
     SaidOf knows (rest_lines v number i class s1) (λ bytes. of_lines (owner_lines v s (owner_with v bytes number i))) a
     b
-class_said knows v number i s s1 class a b e k q =
-    rw (e, k) (of_says knows (λ bytes. of_lines (owner_lines v s (owner_with v bytes number i)))
-    (rest_lines v number i (class_of v i) (at_next_inode s))
-    (λ bytes. of_lines (owner_lines v s (owner_with v bytes number i)))
-    (of_lines (class_lines number (class_of v i))) a a b
-    (of_begins knows (λ bytes. of_lines (owner_lines v s (owner_with v bytes number i))) a)
+class_said v number i s e k q =
+    rw (e, k) (of_says _ _ (rest_lines v number i (class_of v i) (at_next_inode s)) _
+    (of_lines (class_lines number (class_of v i))) _ _ _
+    (of_begins _ (λ bytes. of_lines (owner_lines v s (owner_with v bytes number i))) _)
     (λ bytes t. parts v number i s bytes) (rw k at q))
 
-pub class_stopped : (knows : List ℕ → Type 0) (v : Layout) (number : ℕ) (i : Inode) (s : Claims) (class : Class)
-    (a b : Progress) →
-    class ≡ class_of v i → Stopped a b (of_lines (class_lines number class)) →
+pub class_stopped : {knows : List ℕ → Type 0} {a b : Progress} {class : Class} (v : Layout) (number : ℕ) (i : Inode)
+    (s : Claims) → class ≡ class_of v i → Stopped a b (of_lines (class_lines number class)) →
     StoppedOf knows (λ bytes. of_lines (owner_lines v s (owner_with v bytes number i))) a b
-class_stopped knows v number i s class a b k q =
-    of_stops knows (λ bytes. of_lines (owner_lines v s (owner_with v bytes number i)))
-    (rest_lines v number i (class_of v i) (at_next_inode s))
-    (λ bytes. of_lines (owner_lines v s (owner_with v bytes number i)))
-    (of_lines (class_lines number (class_of v i))) a a b
-    (of_begins knows (λ bytes. of_lines (owner_lines v s (owner_with v bytes number i))) a)
+class_stopped v number i s k q =
+    of_stops _ _ (rest_lines v number i (class_of v i) (at_next_inode s)) _
+    (of_lines (class_lines number (class_of v i))) _ _ _
+    (of_begins _ (λ bytes. of_lines (owner_lines v s (owner_with v bytes number i))) _)
     (λ bytes t. parts v number i s bytes) (rw k at q)
 
--- the count's line is that of the claims that are there
-pub count_right : (knows : List ℕ → Type 0) (v : Layout) (number : ℕ) (i : Inode) (s1 s2 : Claims) (class : Class) →
+-- its steps are reported then, and the count's line is that of the claims that are there
+pub steps_reported : {knows : List ℕ → Type 0} {a b c : Progress} {s2 : Claims} (v : Layout) (number : ℕ) (i : Inode)
+    (s s1 : Claims) (class : Class) →
+    SaidOf knows (rest_lines v number i class s1) (λ bytes. of_lines (owner_lines v s (owner_with v bytes number i))) a
+    b → SaidOf knows (λ bytes. []) (λ bytes. of_lines (lines_of_steps v number s1 (steps_of v i bytes))) b c →
     ForBytes knows (λ bytes. s2 ≡ after_steps v s1 (steps_of v i bytes)) →
-    ForBytes knows (λ bytes. of_lines
-    (count_lines v (counted_owner number class i.blocks) (after_steps v s1 (steps_of v i bytes)))
-    ≡ of_lines (count_lines v (counted_owner number class i.blocks) s2) ++ [])
-count_right knows v number i s1 s2 class h = λ bytes t.
-    ap (λ (x : Claims). of_lines (count_lines v (counted_owner number class i.blocks) x)) (sym (h bytes t))
-    ∙ sym (append-nil (of_lines (count_lines v (counted_owner number class i.blocks) s2)))
+    SaidOf knows (λ bytes. of_lines (count_lines v (counted_owner number class i.blocks) s2) ++ [])
+    (λ bytes. of_lines (owner_lines v s (owner_with v bytes number i))) a c
+steps_reported {s2 = s2} v number i s s1 class said steps h =
+    of_part _ _ _ (λ bytes. of_lines (count_lines v (counted_owner number class i.blocks) s2) ++ []) _ _ _ _ said
+    (λ bytes t. ap (λ x. of_lines (lines_of_steps v number s1 (steps_of v i bytes))
+    ++ of_lines (count_lines v (counted_owner number class i.blocks) x)) (sym (h bytes t))
+    ∙ ap (λ xs. of_lines (lines_of_steps v number s1 (steps_of v i bytes)) ++ xs) (sym (append-nil _))) steps
+
+-- the Runs that were seen are as they were, and so is how many fragments are used
+pub record SameRuns (u w : Workspace) : Type 0 where
+  pub seen : w.runs_seen ≡ u.runs_seen
+  pub again : w.runs_again ≡ u.runs_again
+  pub used : used_bits (claims_of w) ≡ used_bits (claims_of u)
+
+pub begun_runs : (u : Workspace) {w : Workspace} → w ≡ record u { bad = 0; dups = 0; kept = 0; tail = false } →
+    SameRuns u w
+begun_runs u e = rw e (record { seen = refl; again = refl; used = refl })
+
+pub stored_runs : (u : Workspace) {w : Workspace} →
+    w ≡ record u { kinds = w.kinds; marked = w.marked; notes = w.notes; references = w.references } → SameRuns u w
+stored_runs u e = rw e (record { seen = refl; again = refl; used = refl })
+
+pub begun : (u : Workspace) {w : Workspace} → w ≡ record u { bad = 0; dups = 0; kept = 0; tail = false } →
+    u.runs_seen < 2 ^ 40 → HasBegun w
+begun u e few = rw e (record { bad = refl; dups = refl; kept = refl; runs = omega arith })
+
+pub has_inode : {v : Layout} {w : Workspace} {number : ℕ} → IsFor v w → number < inodes_of v → HasInode number w
+has_inode made low = record { kinds = omega arith; marked = omega arith; notes = omega arith; references = omega arith }
 
 -- an inode by its number
 pub owner_is : (v : Layout) (bytes : List ℕ) (number : ℕ) (i : Inode) → i ≡ inode_of v bytes number →
     owner_with v bytes number i ≡ owner_of v bytes number
 unfolding owner_of
-owner_is v bytes number i e = ap (λ (x : Inode). owner_with v bytes number x) e
+owner_is v bytes number i e = ap (λ x. owner_with v bytes number x) e
 
 -- a fact of an Ok answer, of an image that gives the same
 pub ok_where : {T E : Type 0} (r : Result T E) (contents contents' : Option (List ℕ)) (P Q : List ℕ → Type 0) →
@@ -82,11 +146,11 @@ pub ok_where : {T E : Type 0} (r : Result T E) (contents contents' : Option (Lis
 ok_where (Ok x) contents contents' P Q e more h = λ bytes t. more bytes t (h bytes (e ∙ t))
 ok_where (Err x) contents contents' P Q e more h = h
 
--- a free inode has no steps
+-- a free inode has no steps: it claims nothing, and nothing is reported of it
 free_steps : (v : Layout) (i : Inode) (bytes : List ℕ) → class_of v i ≡ Free → steps_of v i bytes ≡ []
-free_steps v i bytes h = no_steps v i bytes (rw h refl)
+unfolding steps_of
+free_steps v i bytes h = rw h refl
 
--- it claims nothing, and nothing is reported of it
 pub free_claims : (v : Layout) (number : ℕ) (i : Inode) (s : Claims) (bytes : List ℕ) → class_of v i ≡ Free →
     after_owner v s (owner_with v bytes number i) ≡ at_next_inode s
 free_claims v number i s bytes h = ap (after_steps v (at_next_inode s)) (free_steps v i bytes h)

@@ -1,28 +1,197 @@
--- How many Runs the rescan looks at.
+-- An inode replayed by its cut keeps what it kept, and how many Runs the rescan looks at.
 use Rattle.std.proofs.Common.{◌≡◌, ◌≢◌, ℕ, zero, suc, ◌+◌, Bool, true, false, ◌==◌, if◌then◌else◌, List, [], ◌∷◌, ◌++◌}
-use Rattle.std.proofs.Common.{map, replicate, arith, refl, ap, ◌∙◌, sym}
-use Rattle.std.proofs.lemmas.Bool.Decides.{nat_tests}
-use Rattle.std.specs.List.{range_with_len}
-use Rattle.ffs_volume.specs.declared.Layout.{Layout}
-use Rattle.ffs_volume.specs.declared.Step.{Step}
-use Rattle.ffs_volume.specs.declared.Step.TheVariants.{Run, Tail, Gap}
-use Rattle.ffs_volume.specs.Blocks.KeptOffers.{Offer, offer_of}
-use Rattle.ffs_workspace.specs.Lengths.{set_count}
-use Rattle.ffs_volume.specs.Encodings.Replay.{Replay, is_replay_open}
+use Rattle.std.proofs.Common.{map, replicate, arith, refl, ap, ◌∙◌, sym, inl, inr, eq-eqb, ne_eqb, ◌<◌, ◌≤◌, ◌^◌}
+use Rattle.std.proofs.{Common.length, Common.◌&&◌, Common.nat_lt, Common.Option, lemmas.Bool.cases_eq}
+use Rattle.std.{proofs.lemmas.Bool.Decides.nat_tests, proofs.lemmas.List.length-append, specs.List.range_with_len}
+use Rattle.ffs_volume.proofs.{Potentials.cond_holds, PrefixLaws.full_offers}
+use Rattle.ffs_volume.proofs.ReplayIsKeeping.{replay_of, seen_replays, step_replays, step_few}
+use Rattle.ffs_volume.proofs.{ReplayLaws.offers_runs, RunBounds.runs_bounded}
+use Rattle.ffs_volume.specs.Blocks.Claims.{after_offers, Claims, no_claims, at_next_inode, is_open, after_step}
+use Rattle.ffs_volume.specs.Blocks.Claims.{after_steps, after_owner, after_owners, is_set, after_offer}
+use Rattle.ffs_volume.specs.Blocks.KeptOffers.{Offer, offer_of, kept_in_run, kept_in_offers, kept_in_step}
+use Rattle.ffs_volume.specs.Blocks.{KeptOffers.kept_in_steps, Owners.Owner, Owners.owners_of}
+use Rattle.ffs_volume.specs.Disk.Areas.{is_run_in_range, is_fragment_in_range}
+use Rattle.ffs_volume.specs.Encodings.Replay.{Replay, is_replay_open, fresh_replay, cut_of, replay_after_step}
 use Rattle.ffs_volume.specs.Encodings.ReplayCounts.{seen_run, replay_step_by_cut}
+use Rattle.ffs_volume.specs.{Laws.Geometry.IsAcceptedLayout, Report.Whole.run_count, declared.Layout.Layout}
+use Rattle.ffs_volume.specs.declared.Step.{Step, TheVariants.Run, TheVariants.Tail, TheVariants.Gap}
 use Rattle.ffs_walk.specs.Keepings.{run_taken}
-use Rattle.ffs_claims.specs.Rescan.{step_offers_again, offers_again}
-use Rattle.ffs_claims.specs.Reporting.{after_first}
-use Rattle.ffs_claims.specs.RescanRuns.{runs_until_reported, steps_runs_again}
+use Rattle.ffs_workspace.specs.Lengths.{set_count}
 use Rattle.ffs_claims.proofs.Reportings.{after_append, none_after}
+use Rattle.ffs_claims.specs.{Reporting.after_first, Rescan.step_offers_again, Rescan.offers_again}
+use Rattle.ffs_claims.specs.RescanRuns.{runs_until_reported, steps_runs_again, step_runs, steps_runs, owners_runs}
+use Rattle.ffs_claims.specs.RescanRuns.{rescan_runs, step_runs_again}
 
+-- ---- the offers that are kept are the first ones
+offer_kept : (v : Layout) (s : Claims) (f : ℕ) → nat_lt s.dups 11 ≡ true → (after_offer v s f).kept ≡ s.kept + 1
+offer_kept v s f few =
+    rw few (cond_holds (λ (t : Claims). t.kept ≡ s.kept + 1) (is_fragment_in_range v f) _ _
+    (λ _. cond_holds (λ (t : Claims). t.kept ≡ s.kept + 1) (is_set s.used f) _ _ (λ _. refl) (λ _. refl)) (λ _. refl))
+
+offers_low : (v : Layout) (s : Claims) (fs : List ℕ) → s.kept ≤ (after_offers v s fs).kept
+offers_low v s [] = omega arith
+offers_low v s (f ∷ fs) = one (nat_lt s.dups 11) refl (offers_low v (after_offer v s f) fs)
+  where
+    one : (b : Bool) → nat_lt s.dups 11 ≡ b → (after_offer v s f).kept ≤ (after_offers v (after_offer v s f) fs).kept →
+        s.kept ≤ (after_offers v s (f ∷ fs)).kept
+    one true few more = omega (arith, offer_kept v s f few, more)
+    one false full more = omega (arith, ap (λ t. t.kept) (full_offers v 0 s (f ∷ fs) full).1)
+
+offers_firsts : (v : Layout) (i : ℕ) (s : Claims) (start len k : ℕ) →
+    s.kept + k ≡ (after_offers v s (range_with_len start len)).kept →
+    kept_in_offers v i s (range_with_len start len) ≡ map (offer_of i) (range_with_len start k)
+offers_firsts v i s start zero zero e = refl
+offers_firsts v i s start zero (suc k) e = absurd (omega arith)
+offers_firsts v i s start (suc len) k e = one (nat_lt s.dups 11) refl k e
+    (λ n. offers_firsts v i (after_offer v s start) (start + 1) len n)
+  where
+    one : (b : Bool) → nat_lt s.dups 11 ≡ b → (n : ℕ) →
+        s.kept + n ≡ (after_offers v s (range_with_len start (suc len))).kept →
+        ((m : ℕ) → (after_offer v s start).kept + m
+        ≡ (after_offers v (after_offer v s start) (range_with_len (start + 1) len)).kept →
+        kept_in_offers v i (after_offer v s start) (range_with_len (start + 1) len)
+        ≡ map (offer_of i) (range_with_len (start + 1) m)) →
+        kept_in_offers v i s (range_with_len start (suc len)) ≡ map (offer_of i) (range_with_len start n)
+    one true few zero h more =
+        let low = offers_low v (after_offer v s start) (range_with_len (start + 1) len) in
+        absurd (omega (arith, h, offer_kept v s start few))
+    one true few (suc n) h more =
+        ap (λ x. (if x then offer_of i start ∷ [] else []) ++ kept_in_offers v i (after_offer v s start)
+        (range_with_len (start + 1) len)) few
+        ∙ ap (λ z. offer_of i start ∷ z) (more n (omega (arith, h, offer_kept v s start few)))
+    one false full n h more =
+        let shut = full_offers v i s (range_with_len start (suc len)) full in
+        let none : n ≡ 0 = omega (arith, h, ap (λ t. t.kept) shut.1) in
+        shut.0 ∙ sym (ap (λ z. map (offer_of i) (range_with_len start z)) none)
+
+-- ---- a replay that counts kept offers only where there is a cut
+abbrev by_cut : ℕ → Replay → Replay
+by_cut cut q = record { bad = q.bad; kept = if cut == 0 then 0 else q.kept }
+
+begins_by_cut : (cut : ℕ) → by_cut cut fresh_replay ≡ fresh_replay
+begins_by_cut cut =
+    cond_holds (λ n. record { bad = 0; kept = n } ≡ fresh_replay) (cut == 0) 0 0 (λ _. refl) (λ _. refl)
+
+open_by_cut : (cut : ℕ) (q : Replay) → is_replay_open cut (by_cut cut q) ≡ is_replay_open cut q
+open_by_cut cut q = one (cut == 0) refl
+  where
+    one : (b : Bool) → (cut == 0) ≡ b → is_replay_open cut (by_cut cut q) ≡ is_replay_open cut q
+    one true e = rw e refl
+    one false e = rw e refl
+
+taken_by_cut : (v : Layout) (cut : ℕ) (q : Replay) (start len : ℕ) →
+    run_taken v cut (by_cut cut q) start len ≡ run_taken v cut q start len
+taken_by_cut v cut q start len = one (cut == 0) refl
+  where
+    one : (b : Bool) → (cut == 0) ≡ b → run_taken v cut (by_cut cut q) start len ≡ run_taken v cut q start len
+    one true e = rw e refl
+    one false e = rw e refl
+
+step_by_cut : (v : Layout) (cut : ℕ) (q : Replay) (step : Step) →
+    replay_step_by_cut v cut (by_cut cut q) step ≡ by_cut cut (replay_after_step v cut q step)
+step_by_cut v cut q Tail = refl
+step_by_cut v cut q Gap = refl
+step_by_cut v zero q (Run start len block) =
+    one (nat_lt q.bad 11 && true) (is_run_in_range v start len) (q.bad == 10)
+  where
+    one : (o i t : Bool) → (if o then (if i then record { bad = q.bad; kept = 0 }
+        else (if t then record { bad = q.bad + 1; kept = 0 } else record { bad = q.bad + 1; kept = 0 }))
+        else by_cut 0 q)
+        ≡ by_cut 0 (if o then (if i then record { bad = q.bad; kept = q.kept + len }
+        else (if t then record { bad = q.bad + 1; kept = q.kept }
+        else record { bad = q.bad + 1; kept = q.kept + len })) else q)
+    one false i t = refl
+    one true true t = refl
+    one true false true = refl
+    one true false false = refl
+step_by_cut v (suc cut) q (Run start len block) = rw some refl
+  where
+    some : (suc cut == 0) ≡ false
+    some = grind (arith, nat_tests)
+
+-- ---- an inode, replayed
+run_offers : (v : Layout) (i : ℕ) (s : Claims) (cut start len : ℕ) (block : Option ℕ) → is_open s ≡ true →
+    is_replay_open cut (replay_of s) ≡ true →
+    replay_after_step v cut (replay_of s) (Run start len block) ≡ replay_of (after_step v s (Run start len block)) →
+    kept_in_run v i s start len ≡ map (offer_of i) (range_with_len start (run_taken v cut (replay_of s) start len))
+run_offers v i s cut start len block going seen next = one (is_run_in_range v start len) refl (s.bad == 10) refl
+  where
+    kept : (replay_after_step v cut (replay_of s) (Run start len block)).kept
+        ≡ (after_step v s (Run start len block)).kept
+    kept = ap (λ r. r.kept) next
+
+    one : (f : Bool) → is_run_in_range v start len ≡ f → (z : Bool) → (s.bad == 10) ≡ z →
+        kept_in_run v i s start len ≡ map (offer_of i) (range_with_len start (run_taken v cut (replay_of s) start len))
+    one true f z qz =
+        rw f (offers_firsts v i (record s { runs = s.runs + 1 }) start len _ (rw (going, seen, f) at kept))
+    one false f true z = rw (f, z) refl
+    one false f false z = rw (f, z) (offers_firsts v i (record s { runs = s.runs + 1; bad = s.bad + 1 }) start len _
+        (rw (going, seen, f, z) at kept))
+
+-- a step, replayed: its kept offers, and those of its Run
+record StepAgain (v : Layout) (i cut : ℕ) (s : Claims) (r : Replay) (step : Step) : Type 0 where
+  offers : kept_in_step v i s step ≡ step_offers_again v i cut r step
+  looks : step_runs v i s step ≡ step_runs_again v i cut r step
+
+step_again : (v : Layout) (i cut : ℕ) (s : Claims) (step : Step) → is_replay_open cut (replay_of s) ≡ is_open s →
+    replay_after_step v cut (replay_of s) step ≡ replay_of (after_step v s step) →
+    StepAgain v i cut s (by_cut cut (replay_of s)) step
+step_again v i cut s Tail going next = record { offers = refl; looks = refl }
+step_again v i cut s Gap going next = record { offers = refl; looks = refl }
+step_again v i cut s (Run start len block) going next = one (is_open s) refl
+  where
+    one : (b : Bool) → is_open s ≡ b → StepAgain v i cut s (by_cut cut (replay_of s)) (Run start len block)
+    one true q =
+        let seen = open_by_cut cut (replay_of s) ∙ going ∙ q in
+        let kept = run_offers v i s cut start len block q (going ∙ q) next
+        ∙ ap (λ n. map (offer_of i) (range_with_len start n)) (sym (taken_by_cut v cut (replay_of s) start len)) in
+        record { offers = rw (q, seen, kept) refl; looks = rw (q, seen, kept) refl }
+    one false q =
+        let shut = open_by_cut cut (replay_of s) ∙ going ∙ q in
+        record { offers = rw (q, shut) refl; looks = rw (q, shut) refl }
+
+-- what some steps are, replayed
+pub record StepsAgain (v : Layout) (i cut : ℕ) (s : Claims) (r : Replay) (steps : List Step) : Type 0 where
+  pub offers : kept_in_steps v i s steps ≡ offers_again v i cut r steps
+  pub looks : steps_runs v i s steps ≡ steps_runs_again v i cut r steps
+
+steps_again : (v : Layout) (i : ℕ) (s : Claims) (steps : List Step) → s.dups ≤ s.kept →
+    StepsAgain v i (cut_of (after_steps v s steps)) s (by_cut (cut_of (after_steps v s steps)) (replay_of s)) steps
+unfolding offers_again steps_runs_again
+steps_again v i s [] few = record { offers = refl; looks = refl }
+steps_again v i s (step ∷ steps) few =
+    let cut = cut_of (after_steps v s (step ∷ steps)) in
+    let here = by_cut cut (replay_of s) in
+    let after = step_replays v s step steps few in
+    let one = step_again v i cut s step (seen_replays v s (step ∷ steps) few) after in
+    let more = steps_again v i (after_step v s step) steps (step_few v s step few) in
+    let next = step_by_cut v cut (replay_of s) step ∙ ap (by_cut cut) after in
+    record {
+      offers = ap (λ x. x ++ kept_in_steps v i (after_step v s step) steps) one.offers
+          ∙ ap (λ x. step_offers_again v i cut here step ++ x)
+          (more.offers ∙ ap (λ r. offers_again v i cut r steps) (sym next));
+      looks = ap (λ x. x ++ steps_runs v i (after_step v s step) steps) one.looks
+          ∙ ap (λ x. step_runs_again v i cut here step ++ x)
+          (more.looks ∙ ap (λ r. steps_runs_again v i cut r steps) (sym next));
+    }
+
+-- an inode, from its begin on
+pub inode_again : (v : Layout) (i : ℕ) (s : Claims) (steps : List Step) →
+    StepsAgain v i (cut_of (after_steps v (at_next_inode s) steps)) (at_next_inode s) fresh_replay steps
+inode_again v i s steps =
+    let cut = cut_of (after_steps v (at_next_inode s) steps) in
+    let all = steps_again v i (at_next_inode s) steps (omega arith) in
+    record {
+      offers = all.offers ∙ ap (λ r. offers_again v i cut r steps) (begins_by_cut cut);
+      looks = all.looks ∙ ap (λ r. steps_runs_again v i cut r steps) (begins_by_cut cut);
+    }
+
+-- ---- how many Runs the rescan looks at
 -- nothing is left to report
 pub looked_none : (dup : List Bool) (runs : List (List Offer)) → set_count dup ≡ 0 → runs_until_reported dup runs ≡ 0
 unfolding runs_until_reported
 looked_none dup [] e = refl
-looked_none dup (kept ∷ runs) e =
-    let none : (set_count dup == 0) ≡ true = grind (arith, nat_tests) in
-    ap (λ (b : Bool). if b then 0 else 1 + runs_until_reported (after_first dup kept) runs) none
+looked_none dup (kept ∷ runs) e = rw (eq-eqb _ _ e) refl
 
 -- what is left to report after some Runs
 abbrev pub after_runs : List Bool → List (List Offer) → List Bool
@@ -39,77 +208,41 @@ pub looked_both : (dup : List Bool) (xs ys : List (List Offer)) → runs_until_r
     ≡ runs_until_reported dup xs + runs_until_reported (after_runs dup xs) ys
 unfolding runs_until_reported
 looked_both dup [] ys = omega arith
-looked_both dup (kept ∷ xs) ys = one (set_count dup == 0) refl (looked_both (after_first dup kept) xs ys)
-  where
-    one : (b : Bool) → (set_count dup == 0) ≡ b →
-        runs_until_reported (after_first dup kept) (xs ++ ys)
-        ≡ runs_until_reported (after_first dup kept) xs + runs_until_reported (after_runs (after_first dup kept) xs) ys →
-        runs_until_reported dup ((kept ∷ xs) ++ ys) ≡ runs_until_reported dup (kept ∷ xs) + runs_until_reported (after_runs dup (kept ∷ xs)) ys
-    one true q more =
-        let none : set_count dup ≡ 0 = grind (arith, nat_tests) in
-        let past : after_runs dup (kept ∷ xs) ≡ dup = none_left dup (kept ∷ xs) none in
-        let all = looked_none dup ((kept ∷ xs) ++ ys) none in
-        let first = looked_none dup (kept ∷ xs) none in
-        let rest = ap (λ (d : List Bool). runs_until_reported d ys) past ∙ looked_none dup ys none in
-        omega (arith, all, first, rest)
-    one false q more =
-        let all : runs_until_reported dup ((kept ∷ xs) ++ ys)
-        ≡ 1 + runs_until_reported (after_first dup kept) (xs ++ ys) =
-        ap (λ (b : Bool). if b then 0 else 1 + runs_until_reported (after_first dup kept) (xs ++ ys)) q in
-        let first : runs_until_reported dup (kept ∷ xs) ≡ 1 + runs_until_reported (after_first dup kept) xs =
-        ap (λ (b : Bool). if b then 0 else 1 + runs_until_reported (after_first dup kept) xs) q in
-        omega (arith, all, first, more)
+looked_both dup (kept ∷ xs) ys = elim (cases_eq (set_count dup) 0) [
+  | inl none ↦
+      let rest = ap (λ d. runs_until_reported d ys) (none_left dup (kept ∷ xs) none) ∙ looked_none dup ys none in
+      omega (arith, looked_none dup ((kept ∷ xs) ++ ys) none, looked_none dup (kept ∷ xs) none)
+  | inr some ↦ rw (ne_eqb _ _ some) (omega (arith, looked_both (after_first dup kept) xs ys))
+]
 
 -- the Runs leave to report what their offers leave
+one_leaves : (b : Bool) (os more : List Offer) (runs : List (List Offer)) (dup : List Bool) →
+    ((d : List Bool) → after_runs d runs ≡ after_first d more) →
+    after_runs dup ((if b then os ∷ [] else []) ++ runs) ≡ after_first dup ((if b then os else []) ++ more)
+one_leaves true os more runs dup h = h (after_first dup os) ∙ sym (after_append dup os more)
+one_leaves false os more runs dup h = h dup
+
 pub runs_leave : (v : Layout) (i cut : ℕ) (r : Replay) (dup : List Bool) (steps : List Step) →
     after_runs dup (steps_runs_again v i cut r steps) ≡ after_first dup (offers_again v i cut r steps)
 unfolding steps_runs_again offers_again
 runs_leave v i cut r dup [] = refl
 runs_leave v i cut r dup (Tail ∷ steps) = runs_leave v i cut r dup steps
 runs_leave v i cut r dup (Gap ∷ steps) = runs_leave v i cut r dup steps
-runs_leave v i cut r dup (Run start len block ∷ steps) =
-    one (is_replay_open cut r) refl
-    (λ (d : List Bool). runs_leave v i cut (replay_step_by_cut v cut r (Run start len block)) d steps)
-  where
-    one : (b : Bool) → is_replay_open cut r ≡ b →
-        ((d : List Bool) →
-        after_runs d (steps_runs_again v i cut (replay_step_by_cut v cut r (Run start len block)) steps)
-        ≡ after_first d (offers_again v i cut (replay_step_by_cut v cut r (Run start len block)) steps)) →
-        after_runs dup (steps_runs_again v i cut r (Run start len block ∷ steps))
-        ≡ after_first dup (offers_again v i cut r (Run start len block ∷ steps))
-    one true q more =
-        ap (λ (b : Bool). after_runs dup ((if b then map (offer_of i)
-        (range_with_len start (run_taken v cut r start len)) ∷ [] else [])
-        ++ steps_runs_again v i cut (replay_step_by_cut v cut r (Run start len block)) steps)) q
-        ∙ more (after_first dup (map (offer_of i) (range_with_len start (run_taken v cut r start len))))
-        ∙ sym (after_append dup (map (offer_of i) (range_with_len start (run_taken v cut r start len)))
-        (offers_again v i cut (replay_step_by_cut v cut r (Run start len block)) steps))
-        ∙ sym (ap (λ (b : Bool). after_first dup
-        ((if b then map (offer_of i) (range_with_len start (run_taken v cut r start len)) else [])
-        ++ offers_again v i cut (replay_step_by_cut v cut r (Run start len block)) steps)) q)
-    one false q more =
-        ap (λ (b : Bool). after_runs dup ((if b then map (offer_of i)
-        (range_with_len start (run_taken v cut r start len)) ∷ [] else [])
-        ++ steps_runs_again v i cut (replay_step_by_cut v cut r (Run start len block)) steps)) q
-        ∙ more dup
-        ∙ sym (ap (λ (b : Bool). after_first dup
-        ((if b then map (offer_of i) (range_with_len start (run_taken v cut r start len)) else [])
-        ++ offers_again v i cut (replay_step_by_cut v cut r (Run start len block)) steps)) q)
+runs_leave v i cut r dup (Run start len block ∷ steps) = one_leaves (is_replay_open cut r)
+    (map (offer_of i) (range_with_len start (run_taken v cut r start len))) _ _ dup
+    (λ d. runs_leave v i cut (replay_step_by_cut v cut r (Run start len block)) d steps)
 
 -- a step more, while something is left to report
 pub looked_next : (v : Layout) (i cut : ℕ) (r r' : Replay) (step : Step) (R R' : List Step) (dup dup' : List Bool) →
     R ≡ step ∷ R' → r' ≡ replay_step_by_cut v cut r step → is_replay_open cut r ≡ true → set_count dup ≢ 0 → dup'
     ≡ after_first dup (step_offers_again v i cut r step) →
-    runs_until_reported dup (steps_runs_again v i cut r R) ≡ seen_run cut r step + runs_until_reported dup' (steps_runs_again v i cut r' R')
+    runs_until_reported dup (steps_runs_again v i cut r R) ≡ seen_run cut r step + runs_until_reported dup'
+    (steps_runs_again v i cut r' R')
 unfolding steps_runs_again runs_until_reported
-looked_next v i cut r r' step R R' dup dup' e now going some d =
-    ap (λ (xs : List Step). runs_until_reported dup (steps_runs_again v i cut r xs)) e ∙ here step
-    ∙ ap (λ (x : Replay). seen_run cut r step + runs_until_reported (after_first dup (step_offers_again v i cut r step))
-    (steps_runs_again v i cut x R')) (sym now)
-    ∙ ap (λ (x : List Bool). seen_run cut r step + runs_until_reported x (steps_runs_again v i cut r' R')) (sym d)
+looked_next v i cut r r' step R R' dup dup' e now going some d = rw (e, now, d) (here step)
   where
     left : (set_count dup == 0) ≡ false
-    left = grind (arith, nat_tests)
+    left = ne_eqb _ _ some
 
     here : (p : Step) → runs_until_reported dup (steps_runs_again v i cut r (p ∷ R'))
         ≡ seen_run cut r p + runs_until_reported (after_first dup (step_offers_again v i cut r p))
@@ -118,29 +251,87 @@ looked_next v i cut r r' step R R' dup dup' e now going some d =
     here Gap = omega arith
     here (Run start len block) = rw (going, left) refl
 
--- after the cut no Run is seen
-pub runs_stopped : (v : Layout) (i cut : ℕ) (r : Replay) (R : List Step) → is_replay_open cut r ≡ false →
-    steps_runs_again v i cut r R ≡ []
-unfolding steps_runs_again
-runs_stopped v i cut r [] q = refl
-runs_stopped v i cut r (Run start len block ∷ R) q = rw q (runs_stopped v i cut r R q)
-runs_stopped v i cut r (Tail ∷ R) q = runs_stopped v i cut r R q
-runs_stopped v i cut r (Gap ∷ R) q = runs_stopped v i cut r R q
+-- after the cut nothing is kept and no Run is seen, and gaps in a row keep nothing and are no Runs
+module _ (v : Layout) (i cut : ℕ) (r : Replay) where
+  pub again_stopped : (R : List Step) → is_replay_open cut r ≡ false →
+      (offers_again v i cut r R ≡ []) × (steps_runs_again v i cut r R ≡ [])
+  unfolding steps_runs_again offers_again
+  again_stopped [] q = (refl, refl)
+  again_stopped (Run start len block ∷ R) q = rw q (again_stopped R q)
+  again_stopped (Tail ∷ R) q = again_stopped R q
+  again_stopped (Gap ∷ R) q = again_stopped R q
 
--- gaps in a row are no Runs
-pub gaps_looked : (v : Layout) (i cut : ℕ) (r : Replay) (n : ℕ) (R : List Step) →
-    steps_runs_again v i cut r (replicate n Gap ++ R) ≡ steps_runs_again v i cut r R
-unfolding steps_runs_again
-gaps_looked v i cut r zero R = refl
-gaps_looked v i cut r (suc n) R = gaps_looked v i cut r n R
+  pub again_gaps : (n : ℕ) (R : List Step) → (offers_again v i cut r (replicate n Gap ++ R) ≡ offers_again v i cut r R)
+      × (steps_runs_again v i cut r (replicate n Gap ++ R) ≡ steps_runs_again v i cut r R)
+  unfolding steps_runs_again offers_again
+  again_gaps zero R = (refl, refl)
+  again_gaps (suc n) R = again_gaps n R
 
 -- where a second walk ends, no Run is left to see
 pub looked_stopped : (v : Layout) (i cut : ℕ) (r : Replay) (R : List Step) (dup : List Bool) →
     is_replay_open cut r ≡ false → runs_until_reported dup (steps_runs_again v i cut r R) ≡ 0
 unfolding runs_until_reported
-looked_stopped v i cut r R dup q = ap (runs_until_reported dup) (runs_stopped v i cut r R q)
+looked_stopped v i cut r R dup q = ap (runs_until_reported dup) (again_stopped v i cut r R q).1
 
 pub looked_over : (v : Layout) (i cut : ℕ) (r : Replay) (R : List Step) (dup : List Bool) → R ≡ [] →
     runs_until_reported dup (steps_runs_again v i cut r R) ≡ 0
 unfolding runs_until_reported steps_runs_again
-looked_over v i cut r R dup e = ap (λ (xs : List Step). runs_until_reported dup (steps_runs_again v i cut r xs)) e
+looked_over v i cut r R dup e = rw e refl
+
+-- ---- the rescan looks at no Run that phase 1 didn't see
+-- each Run that is seen is counted once
+step_seen : (v : Layout) (i : ℕ) (s : Claims) (step : Step) → s.runs + length (step_runs v i s step)
+    ≡ (after_step v s step).runs
+step_seen v i s Gap = omega arith
+step_seen v i s Tail = cond_holds (λ (t : Claims). s.runs + 0 ≡ t.runs) (is_open s) _ _ (λ _. omega arith)
+    (λ _. omega arith)
+step_seen v i s (Run start len block) =
+    let t = after_offers v (record s { runs = s.runs + 1 }) (range_with_len start len) in
+    let u = after_offers v (record s { runs = s.runs + 1; bad = s.bad + 1 }) (range_with_len start len) in
+    go (is_open s) (is_run_in_range v start len) (s.bad == 10) t u (kept_in_run v i s start len)
+    (offers_runs v _ (range_with_len start len)) (offers_runs v _ (range_with_len start len))
+  where
+    go : (o f z : Bool) (t u : Claims) (os : List Offer) → t.runs ≡ s.runs + 1 → u.runs ≡ s.runs + 1 →
+        s.runs + length (if o then os ∷ [] else [])
+        ≡ (if o then (if f then t else (if z then record s { runs = s.runs + 1; bad = s.bad + 1 } else u)) else s).runs
+    go false f z t u os a b = omega arith
+    go true true z t u os a b = sym a
+    go true false true t u os a b = refl
+    go true false false t u os a b = sym b
+
+steps_seen : (v : Layout) (i : ℕ) (s : Claims) (steps : List Step) → s.runs + length (steps_runs v i s steps)
+    ≡ (after_steps v s steps).runs
+steps_seen v i s [] = omega arith
+steps_seen v i s (step ∷ steps) =
+    let one = step_seen v i s step in
+    let more = steps_seen v i (after_step v s step) steps in
+    omega (arith, one, more, length-append (step_runs v i s step) (steps_runs v i (after_step v s step) steps))
+
+owners_seen : (v : Layout) (s : Claims) (os : List Owner) → s.runs + length (owners_runs v s os)
+    ≡ (after_owners v s os).runs
+unfolding owners_runs
+owners_seen v s [] = omega arith
+owners_seen v s (o ∷ os) =
+    let one = steps_seen v o.number (at_next_inode s) o.steps in
+    let more = owners_seen v (after_owner v s o) os in
+    let both = length-append (steps_runs v o.number (at_next_inode s) o.steps) (owners_runs v (after_owner v s o) os) in
+    omega arith
+
+looked_most : (dup : List Bool) (runs : List (List Offer)) → runs_until_reported dup runs ≤ length runs
+unfolding runs_until_reported
+looked_most dup [] = omega arith
+looked_most dup (kept ∷ runs) =
+    cond_holds (λ n. n ≤ length (kept ∷ runs)) (set_count dup == 0) _ _ (λ _. omega arith)
+    (λ _. omega (arith, looked_most (after_first dup kept) runs))
+
+pub look_most : (v : Layout) (bytes : List ℕ) → rescan_runs v bytes ≤ run_count v bytes
+unfolding rescan_runs run_count
+look_most v bytes =
+    let runs = owners_runs v (no_claims v) (owners_of v bytes) in
+    let most = looked_most (after_owners v (no_claims v) (owners_of v bytes)).dup runs in
+    omega (arith, owners_seen v (no_claims v) (owners_of v bytes))
+
+-- and the Runs that are seen are bounded
+pub look_fits : (v : Layout) (bytes : List ℕ) → IsAcceptedLayout v → rescan_runs v bytes < 2 ^ 64
+look_fits v bytes g =
+    omega (arith, runs_bounded v bytes g, look_most v bytes, g.numbers.inodes_below, g.numbers.size_below)

@@ -1,88 +1,149 @@
 -- How phase 1b goes from inode to inode.
 use Rattle.std.proofs.Common.{◌≡◌, ◌⊎◌, inl, inr, ℕ, zero, suc, ◌+◌, ◌-◌, ◌<◌, ◌≤◌, Bool, true, false, not, ◌&&◌, ◌||◌}
 use Rattle.std.proofs.Common.{◌==◌, if◌then◌else◌, nat_lt, List, [], ◌∷◌, ◌++◌, map, slice_index, slice_set, arith}
-use Rattle.std.proofs.Common.{refl, ap, ◌∙◌, sym}
-use Rattle.std.specs.List.{range_with_len, list_any, list_all}
-use Rattle.std.proofs.lemmas.Bool.{and_from, cases_lt, and_parts, not-true}
+use Rattle.std.proofs.{Common.refl, Common.ap, Common.◌∙◌, Common.sym, Math.Bool.or-false}
+use Rattle.std.proofs.lemmas.Bool.{and_from, cases_lt, and_parts, not-true, Decides.nat_tests}
 use Rattle.std.proofs.lemmas.List.Folds.{list_all-append}
-use Rattle.std.proofs.lemmas.Bool.Decides.{nat_tests}
-use Rattle.std.proofs.Math.Bool.{or-false}
-use Rattle.ffs_workspace.specs.Notes.{cut_in}
-use Rattle.ffs_volume.specs.declared.Layout.{Layout}
-use Rattle.ffs_volume.specs.declared.Step.{Step}
-use Rattle.ffs_volume.specs.declared.Step.TheVariants.{Run, Tail, Gap}
-use Rattle.ffs_volume.specs.declared.BlockMessage.{BlockMessage}
-use Rattle.ffs_volume.specs.Disk.Areas.{is_run_in_range}
-use Rattle.ffs_volume.specs.Laws.Geometry.{IsAcceptedLayout}
-use Rattle.ffs_volume.specs.Blocks.Inodes.{inode_of}
-use Rattle.ffs_volume.specs.Blocks.Steps.{steps_of}
-use Rattle.ffs_volume.specs.Blocks.Owners.{owner_of, owners_of}
+use Rattle.std.specs.List.{range_with_len, list_any, list_all}
+use Rattle.ffs_volume.proofs.{CutLaws.cut_is, OwnerLaws.before_next, Potentials.cond_holds, ReplayLaws.replay_is_runs}
+use Rattle.ffs_volume.specs.Blocks.BlockCheck.{blames, first_offer_lines, phase1b_lines}
 use Rattle.ffs_volume.specs.Blocks.Claims.{Claims, no_claims, at_next_inode, is_open, is_set, after_offer, after_step}
-use Rattle.ffs_volume.specs.Blocks.Claims.{after_steps, after_owner, after_owners}
-use Rattle.ffs_volume.specs.Blocks.KeptOffers.{Offer, kept_in_offers, kept_in_step, kept_in_steps}
-use Rattle.ffs_volume.specs.Blocks.BlockCheck.{blames}
-use Rattle.ffs_volume.specs.Blocks.KeptOffers.{kept_in_owners}
-use Rattle.ffs_volume.specs.Blocks.BlockCheck.{first_offer_lines, phase1b_lines}
-use Rattle.ffs_volume.specs.Blocks.KeptSteps.{claims_before}
-use Rattle.ffs_volume.proofs.Potentials.{cond_holds}
-use Rattle.ffs_volume.specs.Encodings.Replay.{fresh_replay, cut_of, cut_at}
-use Rattle.ffs_volume.specs.Encodings.ReplayCounts.{replayed_runs}
-use Rattle.ffs_volume.proofs.ReplayLaws.{replay_is_runs}
-use Rattle.ffs_volume.proofs.CutLaws.{cut_is}
-use Rattle.ffs_volume.specs.Report.Whole.{run_count}
-use Rattle.ffs_volume.specs.Directories.Volumes.{is_inode_number}
-use Rattle.ffs_volume.proofs.OwnerLaws.{before_next}
+use Rattle.ffs_volume.specs.Blocks.{Claims.after_steps, Claims.after_owner, Claims.after_owners, Inodes.inode_of}
+use Rattle.ffs_volume.specs.Blocks.KeptOffers.{Offer, kept_in_offers, kept_in_step, kept_in_steps, kept_in_owners}
+use Rattle.ffs_volume.specs.Blocks.{KeptSteps.claims_before, Owners.owner_of, Owners.owners_of, Steps.steps_of}
+use Rattle.ffs_volume.specs.{Directories.Volumes.is_inode_number, Disk.Areas.is_run_in_range}
+use Rattle.ffs_volume.specs.Encodings.{Replay.fresh_replay, Replay.cut_of, Replay.cut_at, ReplayCounts.replayed_runs}
+use Rattle.ffs_volume.specs.{Laws.Geometry.IsAcceptedLayout, Report.Whole.run_count}
+use Rattle.ffs_volume.specs.declared.{BlockMessage.BlockMessage, Layout.Layout, Step.Step}
+use Rattle.ffs_volume.specs.declared.Step.TheVariants.{Run, Tail, Gap}
 use Rattle.ffs_maps.specs.Bits.{bits_of}
-use Rattle.ffs_workspace.specs.declared.workspace.Workspace.{Workspace}
+use Rattle.ffs_workspace.proofs.NoteLaws.{cut_is_noted}
 use Rattle.ffs_workspace.specs.Holds.{bool_at, all_claims, marked_by_phase1_at, HoldsPhase1, HoldsStarts, HoldsClaims}
-use Rattle.ffs_workspace.specs.Lengths.{inodes_of}
-use Rattle.ffs_claims.specs.Lines.{of_lines, owners_from}
-use Rattle.ffs_claims.specs.Rescan.{offers_again}
-use Rattle.ffs_claims.specs.Reporting.{after_first, OffersReported, SameClaims}
-use Rattle.ffs_claims.proofs.StepsContinue.{range_more, lines_append}
-use Rattle.ffs_claims.proofs.Marks.{marked_total}
-use Rattle.ffs_claims.proofs.Numbers.{before_end, before_first}
-use Rattle.ffs_claims.proofs.Rescans.{inode_again}
-use Rattle.ffs_claims.proofs.Reportings.{Reporting, first_append}
+use Rattle.ffs_workspace.specs.{Lengths.inodes_of, Notes.cut_in, declared.workspace.Workspace.Workspace}
+use Rattle.ffs_claims.proofs.{Duplicates.marked_total, Numbers.before_end, Numbers.before_first, Numbers.is_inside}
+use Rattle.ffs_claims.proofs.Reportings.{Reporting}
+use Rattle.ffs_claims.proofs.RescanCounts.{looked_both, runs_leave, inode_again}
+use Rattle.ffs_claims.{proofs.StepsContinue.range_more, specs.Lines.of_lines, specs.Lines.owners_from}
+use Rattle.ffs_claims.specs.{Reporting.after_first, Reporting.OffersReported, Reporting.SameClaims, Rescan.offers_again}
+use Rattle.ffs_claims.specs.RescanRuns.{owners_runs, runs_until_reported, rescan_runs, steps_runs_again}
+
+-- the offers that the inode n keeps, replayed by its noted cut, and those of each of its Runs
+abbrev pub offers_at : Layout → List ℕ → List ℕ → ℕ → List Offer
+offers_at v bytes notes n = offers_again v n (cut_in (slice_index notes n)) fresh_replay
+    (steps_of v (inode_of v bytes n) bytes)
+
+abbrev pub runs_at : Layout → List ℕ → List ℕ → ℕ → List (List Offer)
+runs_at v bytes notes n =
+    steps_runs_again v n (cut_in (slice_index notes n)) fresh_replay (steps_of v (inode_of v bytes n) bytes)
+
+-- those of all inodes from n on
+abbrev pub kept_from : Layout → List ℕ → ℕ → List Offer
+kept_from v bytes n = kept_in_owners v (claims_before v bytes n) (owners_from v bytes n)
+
+abbrev pub runs_from : Layout → List ℕ → ℕ → List (List Offer)
+runs_from v bytes n = owners_runs v (claims_before v bytes n) (owners_from v bytes n)
+
+-- n is an inode's number, and its cut is noted
+pub record IsNoted (v : Layout) (bytes notes : List ℕ) (n : ℕ) : Type 0 where
+  accepted : IsAcceptedLayout v
+  low : 2 ≤ n
+  high : n < inodes_of v
+  cut : cut_in (slice_index notes n) ≡ cut_at v bytes n
+
+pub is_noted : {v : Layout} {bytes : List ℕ} {u w : Workspace} {n : ℕ} → IsAcceptedLayout v → 2 ≤ n → n < inodes_of v →
+    SameClaims u w → HoldsPhase1 v bytes u → IsNoted v bytes w.notes.items n
+is_noted {v = v} {bytes = bytes} {n = n} g low high same h = record {
+  accepted = g;
+  low = low;
+  high = high;
+  cut = ap (λ z. cut_in (slice_index z.items n)) same.notes ∙ (ap cut_in (h.notes n) ∙ cut_is_noted v bytes n g);
+}
+
+cut_noted : {v : Layout} {bytes notes : List ℕ} {n : ℕ} → IsNoted v bytes notes n →
+    cut_of (after_steps v (at_next_inode (claims_before v bytes n)) (steps_of v (inode_of v bytes n) bytes))
+    ≡ cut_in (slice_index notes n)
+unfolding owner_of
+cut_noted {v = v} {bytes = bytes} {n = n} p = sym (p.cut ∙ cut_is v bytes n p.accepted (is_inside v n p.low p.high))
 
 -- the offers of the next inode, replayed by its cut, and those of the inodes after it
-pub kept_next : (v : Layout) (bytes : List ℕ) (notes : List ℕ) (n : ℕ) → IsAcceptedLayout v → 2 ≤ n → n < inodes_of v →
-    is_inode_number v n ≡ true → cut_in (slice_index notes n) ≡ cut_at v bytes n →
-    kept_in_owners v (claims_before v bytes n) (owners_from v bytes n)
-    ≡ offers_again v n (cut_in (slice_index notes n)) fresh_replay (steps_of v (inode_of v bytes n) bytes)
-    ++ kept_in_owners v (claims_before v bytes (n + 1)) (owners_from v bytes (n + 1))
+pub kept_next : (v : Layout) (bytes notes : List ℕ) (n : ℕ) → IsNoted v bytes notes n →
+    kept_from v bytes n ≡ offers_at v bytes notes n ++ kept_from v bytes (n + 1)
 unfolding owner_of
-kept_next v bytes notes n g low high inside e =
+kept_next v bytes notes n p =
+    let high = p.high in
     let s = claims_before v bytes n in
-    let cut : cut_of (after_steps v (at_next_inode (claims_before v bytes n)) (steps_of v (inode_of v bytes n) bytes))
-    ≡ cut_in (slice_index notes n) = sym (e ∙ cut_is v bytes n g inside) in
-    let again = (inode_again v n (claims_before v bytes n) (steps_of v (inode_of v bytes n) bytes)).offers in
-    ap (λ (xs : List ℕ). kept_in_owners v (claims_before v bytes n) (map (owner_of v bytes) xs))
+    let again = (inode_again v n s (steps_of v (inode_of v bytes n) bytes)).offers in
+    ap (λ xs. kept_in_owners v s (map (owner_of v bytes) xs))
     (range_more n (inodes_of v - n) (inodes_of v - (n + 1)) (omega arith))
-    ∙ ap (λ (os : List Offer). os ++ kept_in_owners v (after_owner v (claims_before v bytes n) (owner_of v bytes n))
-    (owners_from v bytes (n + 1)))
-    (again ∙ ap (λ (k : ℕ). offers_again v n k fresh_replay (steps_of v (inode_of v bytes n) bytes)) cut)
-    ∙ ap (λ (t : Claims). offers_again v n (cut_in (slice_index notes n)) fresh_replay (steps_of v (inode_of v bytes n) bytes)
-    ++ kept_in_owners v t (owners_from v bytes (n + 1))) (sym (before_next v bytes n low))
+    ∙ ap (λ os. os ++ kept_in_owners v (after_owner v s (owner_of v bytes n)) (owners_from v bytes (n + 1)))
+    (again ∙ ap (λ k. offers_again v n k fresh_replay (steps_of v (inode_of v bytes n) bytes)) (cut_noted p))
+    ∙ ap (λ t. offers_at v bytes notes n ++ kept_in_owners v t (owners_from v bytes (n + 1)))
+    (sym (before_next v bytes n p.low))
 
+-- its Runs, and those of the inodes after it
+runs_next_inode : (v : Layout) (bytes notes : List ℕ) (n : ℕ) → IsNoted v bytes notes n →
+    runs_from v bytes n ≡ runs_at v bytes notes n ++ runs_from v bytes (n + 1)
+unfolding owner_of owners_runs
+runs_next_inode v bytes notes n p =
+    let high = p.high in
+    let s = claims_before v bytes n in
+    let again = (inode_again v n s (steps_of v (inode_of v bytes n) bytes)).looks in
+    ap (λ xs. owners_runs v s (map (owner_of v bytes) xs))
+    (range_more n (inodes_of v - n) (inodes_of v - (n + 1)) (omega arith))
+    ∙ ap (λ os. os ++ owners_runs v (after_owner v s (owner_of v bytes n)) (owners_from v bytes (n + 1)))
+    (again ∙ ap (λ k. steps_runs_again v n k fresh_replay (steps_of v (inode_of v bytes n) bytes)) (cut_noted p))
+    ∙ ap (λ t. runs_at v bytes notes n ++ owners_runs v t (owners_from v bytes (n + 1)))
+    (sym (before_next v bytes n p.low))
+
+pub looked_on : (v : Layout) (bytes notes : List ℕ) (n : ℕ) (dup dup' : List Bool) → IsNoted v bytes notes n →
+    dup' ≡ after_first dup (offers_at v bytes notes n) → runs_until_reported dup (runs_from v bytes n)
+    ≡ runs_until_reported dup (runs_at v bytes notes n) + runs_until_reported dup' (runs_from v bytes (n + 1))
+looked_on v bytes notes n dup dup' p d =
+    ap (runs_until_reported dup) (runs_next_inode v bytes notes n p)
+    ∙ looked_both dup (runs_at v bytes notes n) (runs_from v bytes (n + 1))
+    ∙ ap (λ x. runs_until_reported dup (runs_at v bytes notes n) + runs_until_reported x (runs_from v bytes (n + 1)))
+    (runs_leave v n (cut_in (slice_index notes n)) fresh_replay dup (steps_of v (inode_of v bytes n) bytes) ∙ sym d)
+
+-- no inode is left
 pub kept_end : (v : Layout) (bytes : List ℕ) (s : Claims) (n : ℕ) → inodes_of v ≤ n →
     kept_in_owners v s (owners_from v bytes n) ≡ []
-kept_end v bytes s n past =
-    let none : inodes_of v - n ≡ 0 = omega arith in
-    ap (λ (k : ℕ). kept_in_owners v s (map (owner_of v bytes) (range_with_len n k))) none
+kept_end v bytes s n past = let none : inodes_of v - n ≡ 0 = omega arith in rw none refl
 
-pub runs_on : (v : Layout) (bytes : List ℕ) (notes : List ℕ) (n : ℕ) → IsAcceptedLayout v → 2 ≤ n →
-    is_inode_number v n ≡ true → cut_in (slice_index notes n) ≡ cut_at v bytes n →
+pub looked_end : (v : Layout) (bytes : List ℕ) (dup : List Bool) (s : Claims) (n : ℕ) → inodes_of v ≤ n →
+    runs_until_reported dup (owners_runs v s (owners_from v bytes n)) ≡ 0
+unfolding owners_runs runs_until_reported
+looked_end v bytes dup s n past = let none : inodes_of v - n ≡ 0 = omega arith in rw none refl
+
+-- all are left
+pub looked_first : (v : Layout) (bytes : List ℕ) (dup : List Bool) → dup ≡ (all_claims v bytes).dup →
+    runs_until_reported dup (runs_from v bytes 2) ≡ rescan_runs v bytes
+unfolding owners_of all_claims rescan_runs
+looked_first v bytes dup e =
+    ap (λ s. runs_until_reported dup (owners_runs v s (owners_from v bytes 2))) (before_first v bytes)
+    ∙ ap (λ d. runs_until_reported d (owners_runs v (no_claims v) (owners_from v bytes 2))) e
+
+pub all_lines : (v : Layout) (bytes : List ℕ) (dup : List Bool) → dup ≡ (all_claims v bytes).dup →
+    of_lines (phase1b_lines v (owners_of v bytes)) ≡ of_lines (first_offer_lines dup (kept_from v bytes 2))
+unfolding phase1b_lines owners_of all_claims
+all_lines v bytes dup e =
+    ap (λ d. of_lines (first_offer_lines d (kept_in_owners v (no_claims v) (owners_from v bytes 2)))) (sym e)
+    ∙ ap (λ s. of_lines (first_offer_lines dup (kept_in_owners v s (owners_from v bytes 2))))
+    (sym (before_first v bytes))
+
+pub all_kept : (v : Layout) (bytes : List ℕ) → kept_from v bytes 2 ≡ kept_in_owners v (no_claims v) (owners_of v bytes)
+unfolding owners_of
+all_kept v bytes = ap (λ s. kept_in_owners v s (owners_from v bytes 2)) (before_first v bytes)
+
+-- the count of Runs of an inode more
+pub runs_on : (v : Layout) (bytes notes : List ℕ) (n : ℕ) → IsNoted v bytes notes n →
     (claims_before v bytes (n + 1)).runs ≡ (claims_before v bytes n).runs
     + replayed_runs v (cut_in (slice_index notes n)) fresh_replay (steps_of v (inode_of v bytes n) bytes)
 unfolding owner_of
-runs_on v bytes notes n g low inside e =
-    let cut : cut_of (after_steps v (at_next_inode (claims_before v bytes n)) (steps_of v (inode_of v bytes n) bytes))
-    ≡ cut_in (slice_index notes n) = sym (e ∙ cut_is v bytes n g inside) in
-    ap (λ (t : Claims). t.runs) (before_next v bytes n low)
+runs_on v bytes notes n p =
+    ap (λ t. t.runs) (before_next v bytes n p.low)
     ∙ replay_is_runs v (claims_before v bytes n) (steps_of v (inode_of v bytes n) bytes)
-    ∙ ap (λ (k : ℕ). (claims_before v bytes n).runs
-    + replayed_runs v k fresh_replay (steps_of v (inode_of v bytes n) bytes)) cut
+    ∙ ap (λ k. (claims_before v bytes n).runs
+    + replayed_runs v k fresh_replay (steps_of v (inode_of v bytes n) bytes)) (cut_noted p)
 
 -- the count of Runs rises
 runs_rise : (v : Layout) (bytes : List ℕ) (n k : ℕ) → 2 ≤ n →
@@ -96,7 +157,7 @@ runs_rise v bytes n (suc k) low =
     let is : (claims_before v bytes (n + k + 1)).runs ≡ (claims_before v bytes (n + k)).runs + replayed_runs v
     (cut_of (after_steps v (at_next_inode (claims_before v bytes (n + k)))
     (steps_of v (inode_of v bytes (n + k)) bytes))) fresh_replay (steps_of v (inode_of v bytes (n + k)) bytes) =
-    ap (λ (t : Claims). t.runs) (before_next v bytes (n + k) (omega arith)) ∙ again in
+    ap (λ t. t.runs) (before_next v bytes (n + k) (omega arith)) ∙ again in
     rw next (omega (arith, more, is))
 
 pub runs_most : (v : Layout) (bytes : List ℕ) (n : ℕ) → 2 ≤ n → (2 < n → n ≤ inodes_of v) →
@@ -107,10 +168,10 @@ runs_most v bytes n low high = elim (cases_lt n (inodes_of v)) [
       let rise = runs_rise v bytes n (inodes_of v - n) low in
       let sum : n + (inodes_of v - n) ≡ inodes_of v = omega arith in
       let end = before_end v bytes (inodes_of v) (omega arith) (λ _. omega arith) (omega arith) in
-      omega (arith, ap (λ (k : ℕ). (claims_before v bytes k).runs) sum, ap (λ (t : Claims). t.runs) end)
+      omega (arith, ap (λ k. (claims_before v bytes k).runs) sum, ap (λ t. t.runs) end)
   | inr more ↦
       let end = before_end v bytes n more high low in
-      omega (arith, ap (λ (t : Claims). t.runs) end)
+      omega (arith, ap (λ t. t.runs) end)
 ]
 
 -- the offers are of the inodes that they are reported for
@@ -125,11 +186,10 @@ offers_none_of : (v : Layout) (x i : ℕ) (s : Claims) (fs : List ℕ) → (i ==
 offers_none_of v x i s [] e = refl
 offers_none_of v x i s (f ∷ fs) e =
     both_none x (if nat_lt s.dups 11 then record { inode = i; fragment = f } ∷ [] else [])
-    (kept_in_offers v i (after_offer v s f) fs)
-    (one (nat_lt s.dups 11)) (offers_none_of v x i (after_offer v s f) fs e)
+    (kept_in_offers v i (after_offer v s f) fs) (one (nat_lt s.dups 11)) (offers_none_of v x i (after_offer v s f) fs e)
   where
     one : (b : Bool) → no_offer x (if b then record { inode = i; fragment = f } ∷ [] else []) ≡ true
-    one true = ap (λ (b : Bool). not b && true) e
+    one true = ap (λ b. not b && true) e
     one false = refl
 
 step_none_of : (v : Layout) (x i : ℕ) (s : Claims) (step : Step) → (i == x) ≡ false →
@@ -140,8 +200,7 @@ step_none_of v x i s (Run start len block) e =
     cond_holds (λ (os : List Offer). no_offer x os ≡ true) (is_open s) _ _
     (λ _. cond_holds (λ (os : List Offer). no_offer x os ≡ true) (is_run_in_range v start len) _ _
     (λ _. offers_none_of v x i (record s { runs = s.runs + 1 }) (range_with_len start len) e)
-    (λ _. cond_holds (λ (os : List Offer). no_offer x os ≡ true) (s.bad == 10) _ _
-    (λ _. refl)
+    (λ _. cond_holds (λ (os : List Offer). no_offer x os ≡ true) (s.bad == 10) _ _ (λ _. refl)
     (λ _. offers_none_of v x i (record s { runs = s.runs + 1; bad = s.bad + 1 }) (range_with_len start len) e)))
     (λ _. refl)
 
@@ -173,7 +232,7 @@ blames_none_of x dup [] e = refl
 blames_none_of x dup (o ∷ os) e =
     let both = and_parts (not (o.inode == x)) (no_offer x os) e in
     cond_holds (λ (ls : List BlockMessage). list_any (blames x) ls ≡ false) (is_set dup o.fragment) _ _
-    (λ _. ap (λ (b : Bool). b || list_any (blames x) (first_offer_lines (slice_set dup o.fragment false) os))
+    (λ _. ap (λ b. b || list_any (blames x) (first_offer_lines (slice_set dup o.fragment false) os))
     (not-true (o.inode == x) both.0) ∙ blames_none_of x (slice_set dup o.fragment false) os both.1)
     (λ _. blames_none_of x dup os both.1)
 
@@ -182,25 +241,17 @@ outside : (v : Layout) (bytes : List ℕ) (x : ℕ) →
     (is_inode_number v x && list_any (blames x) (phase1b_lines v (owners_of v bytes)))
     ≡ list_any (blames x) (phase1b_lines v (owners_of v bytes))
 unfolding phase1b_lines owners_of
-outside v bytes x = one (is_inode_number v x) refl
+outside v bytes x = known (is_inode_number v x) _ (λ q. blames_none_of x
+    (after_owners v (no_claims v) (owners_from v bytes 2)).dup (kept_in_owners v (no_claims v) (owners_from v bytes 2))
+    (owners_none_of v bytes x (no_claims v) 2 (inodes_of v - 2)
+    (elim (cases_lt x 2) [ inl low ↦ inl low | inr high ↦ inr (past v x q high) ])))
   where
-    one : (b : Bool) → is_inode_number v x ≡ b →
-        (b && list_any (blames x)
-        (first_offer_lines (after_owners v (no_claims v)
-        (map (owner_of v bytes) (range_with_len 2 (inodes_of v - 2)))).dup
-        (kept_in_owners v (no_claims v) (map (owner_of v bytes) (range_with_len 2 (inodes_of v - 2))))))
-        ≡ list_any (blames x) (first_offer_lines
-        (after_owners v (no_claims v) (map (owner_of v bytes) (range_with_len 2 (inodes_of v - 2)))).dup
-        (kept_in_owners v (no_claims v) (map (owner_of v bytes) (range_with_len 2 (inodes_of v - 2)))))
-    one true q = refl
-    one false q = sym (blames_none_of x
-        (after_owners v (no_claims v) (map (owner_of v bytes) (range_with_len 2 (inodes_of v - 2)))).dup
-        (kept_in_owners v (no_claims v) (map (owner_of v bytes) (range_with_len 2 (inodes_of v - 2))))
-        (owners_none_of v bytes x (no_claims v) 2 (inodes_of v - 2) (away (cases_lt x 2))))
-      where
-        away : (x < 2) ⊎ (2 ≤ x) → (x < 2) ⊎ (2 + (inodes_of v - 2) ≤ x)
-        away (inl a) = inl a
-        away (inr b) = inr (grind (arith, nat_tests))
+    known : (a b : Bool) → (a ≡ false → b ≡ false) → (a && b) ≡ b
+    known true b h = refl
+    known false b h = sym (h refl)
+
+    past : (v : Layout) (x : ℕ) → is_inode_number v x ≡ false → 2 ≤ x → 2 + (inodes_of v - 2) ≤ x
+    past v x q high = grind (arith, nat_tests)
 
 -- all offers are gone over: the workspace holds the claims
 pub claims_hold : (v : Layout) (bytes : List ℕ) (old new : Workspace) → HoldsPhase1 v bytes old → SameClaims old new →
@@ -210,14 +261,8 @@ claims_hold v bytes old new h same t = record {
   used = ap bits_of same.claimed ∙ h.used;
   kinds = λ x. ap (λ k. slice_index k.items x) same.kinds ∙ h.kinds x;
   notes = λ x. ap (λ k. slice_index k.items x) same.notes ∙ h.notes x;
-  marked = λ x. t.marked x
-      ∙ ap (λ (b : Bool). b || list_any (blames x)
-      (first_offer_lines (bits_of old.duplicates) (kept_in_owners v (no_claims v) (owners_of v bytes))))
-      (h.marked x)
-      ∙ ap (λ (d : List Bool). marked_by_phase1_at v bytes x
-      || list_any (blames x) (first_offer_lines d (kept_in_owners v (no_claims v) (owners_of v bytes)))) h.dup
-      ∙ ap (λ (b : Bool). marked_by_phase1_at v bytes x || b) (sym (outside v bytes x))
-      ∙ sym (marked_total v bytes x);
+  marked = λ x. t.marked x ∙ rw (h.marked x, h.dup)
+      (ap (λ b. marked_by_phase1_at v bytes x || b) (sym (outside v bytes x)) ∙ sym (marked_total v bytes x));
 }
 
 -- and where counts of references start
@@ -239,27 +284,3 @@ reported_same u w all d m = record {
         ∙ sym (or-false (bool_at u.marked.items x));
   };
 }
-
--- the lines and offers of all inodes
-pub all_lines : (v : Layout) (bytes : List ℕ) (dup : List Bool) → dup ≡ (all_claims v bytes).dup →
-    of_lines (phase1b_lines v (owners_of v bytes))
-    ≡ of_lines (first_offer_lines dup (kept_in_owners v (claims_before v bytes 2) (owners_from v bytes 2)))
-unfolding phase1b_lines owners_of all_claims
-all_lines v bytes dup e =
-    ap (λ (d : List Bool). of_lines (first_offer_lines d (kept_in_owners v (no_claims v) (owners_from v bytes 2))))
-    (sym e)
-    ∙ ap (λ (s : Claims). of_lines (first_offer_lines dup (kept_in_owners v s (owners_from v bytes 2))))
-    (sym (before_first v bytes))
-
-pub all_kept : (v : Layout) (bytes : List ℕ) → kept_in_owners v (claims_before v bytes 2) (owners_from v bytes 2)
-    ≡ kept_in_owners v (no_claims v) (owners_of v bytes)
-unfolding owners_of
-all_kept v bytes = ap (λ (s : Claims). kept_in_owners v s (owners_from v bytes 2)) (before_first v bytes)
-
--- the lines of two parts
-pub lines_split : (dup dup' : List Bool) (os xs ys : List Offer) → os ≡ xs ++ ys → dup' ≡ after_first dup xs →
-    of_lines (first_offer_lines dup os) ≡ of_lines (first_offer_lines dup xs) ++ of_lines (first_offer_lines dup' ys)
-lines_split dup dup' os xs ys e d =
-    ap (λ (zs : List Offer). of_lines (first_offer_lines dup zs)) e ∙ ap of_lines (first_append dup xs ys)
-    ∙ lines_append (first_offer_lines dup xs) (first_offer_lines (after_first dup xs) ys)
-    ∙ ap (λ (x : List Bool). of_lines (first_offer_lines dup xs) ++ of_lines (first_offer_lines x ys)) (sym d)

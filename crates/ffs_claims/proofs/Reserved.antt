@@ -1,18 +1,14 @@
 -- The bits of the reserved fragments.
 use Rattle.std.proofs.Common.{◌≡◌, ◌⊎◌, inl, inr, ℕ, suc, ◌+◌, ◌<◌, ◌≤◌, Bool, true, false, ◌&&◌, ◌||◌, nat_lt, nat_le}
 use Rattle.std.proofs.Common.{List, length, get_or, replicate, arith, refl, ap, ◌∙◌, sym}
+use Rattle.std.proofs.lemmas.{Bool.cases_lt, Bool.Decides.nat_tests, List.same_lists, List.get_or-replicate}
+use Rattle.std.proofs.lemmas.List.{get_or_default, FromFn.length-map-range_with_len, FromFn.get_or-map-range_with_len}
 use Rattle.std.specs.Int.{div_ceil}
-use Rattle.std.proofs.lemmas.List.{same_lists, get_or-replicate, get_or_default}
-use Rattle.std.proofs.lemmas.List.FromFn.{length-map-range_with_len, get_or-map-range_with_len}
-use Rattle.std.proofs.lemmas.Bool.{cases_lt}
-use Rattle.std.proofs.lemmas.Bool.Decides.{nat_tests}
-use Rattle.ffs_volume.specs.declared.Layout.{Layout}
-use Rattle.ffs_volume.specs.Disk.Search.{first_below, some_below}
 use Rattle.ffs_volume.proofs.SearchLaws.{some_below-suc}
-use Rattle.ffs_volume.specs.Disk.Areas.{cgsblock, cgdmin, is_group_metadata, is_reserved}
 use Rattle.ffs_volume.specs.Blocks.Claims.{Claims, reserved_map, no_claims, at_next_inode}
-use Rattle.ffs_maps.specs.Bits.{set_run}
-use Rattle.ffs_maps.proofs.Masks.{run_inside, run_outside}
+use Rattle.ffs_volume.specs.Disk.Areas.{cgsblock, cgdmin, is_group_metadata, is_reserved}
+use Rattle.ffs_volume.specs.{Disk.Search.first_below, Disk.Search.some_below, declared.Layout.Layout}
+use Rattle.ffs_maps.{proofs.Masks.run_inside, proofs.Masks.run_outside, specs.Bits.set_run}
 
 -- a fragment lies in a run
 abbrev pub is_in_run : ℕ → ℕ → ℕ → Bool
@@ -24,8 +20,7 @@ HaveBits size bits test = (f : ℕ) → f < size → get_or bits f false ≡ tes
 
 -- a run more is set
 pub run_test : (bits : List Bool) (size start len end : ℕ) (test : ℕ → Bool) → length bits ≡ size → start + len ≡ end →
-    HaveBits size bits test →
-    HaveBits size (set_run bits start len) (λ f. is_in_run start end f || test f)
+    HaveBits size bits test → HaveBits size (set_run bits start len) (λ f. is_in_run start end f || test f)
 run_test bits size start len end test all same before = λ f low. elim (cases_lt f start) [
   | inl under ↦ run_outside bits start len f false (inl under) ∙ before f low ∙ out f (inl under) (test f)
   | inr over ↦ elim (cases_lt f end) [
@@ -63,19 +58,16 @@ one_below v groups f =
     let kept = λ (c : ℕ). is_in_run (cgsblock v c) (cgdmin v c) f in
     rw more (
     swap (kept groups) (some_below kept groups) (is_first v f)
-    ∙ ap (λ (b : Bool). b || is_first v f) (sym (some_below-suc kept groups))
+    ∙ ap (λ b. b || is_first v f) (sym (some_below-suc kept groups))
     )
   where
     swap : (a b d : Bool) → (a || (b || d)) ≡ ((b || a) || d)
-    swap true true d = refl
-    swap true false d = refl
-    swap false true d = refl
-    swap false false d = refl
+    swap a b d = grind arith
 
 reserved_is : (v : Layout) (f : ℕ) → is_reserved_below v v.ncg f ≡ is_reserved v f
 unfolding is_reserved is_group_metadata
 reserved_is v f =
-    ap (λ (z : Bool). some_below (λ c. is_in_run (cgsblock v c) (cgdmin v c) f) v.ncg
+    ap (λ z. some_below (λ c. is_in_run (cgsblock v c) (cgdmin v c) f) v.ncg
     || (is_in_run v.csaddr (v.csaddr + div_ceil v.cssize v.fsize) f || (z || false))) (from_zero (cgdmin v 0) f)
     ∙ turn (nat_lt f (cgdmin v 0)) (is_in_run v.csaddr (v.csaddr + div_ceil v.cssize v.fsize) f)
     (some_below (λ c. is_in_run (cgsblock v c) (cgdmin v c) f) v.ncg)
@@ -84,14 +76,7 @@ reserved_is v f =
     from_zero end f = grind (arith, nat_tests)
 
     turn : (a b d : Bool) → (d || (b || (a || false))) ≡ ((a || b) || d)
-    turn true true true = refl
-    turn true true false = refl
-    turn true false true = refl
-    turn true false false = refl
-    turn false true true = refl
-    turn false true false = refl
-    turn false false true = refl
-    turn false false false = refl
+    turn a b d = grind arith
 
 -- all groups are taken
 pub map_is : (v : Layout) (bits : List Bool) → length bits ≡ v.size → HaveBits v.size bits (is_reserved_below v v.ncg) →
@@ -118,7 +103,7 @@ two_runs v b0 b1 b2 all0 all1 fresh one two =
     let second : HaveBits v.size (set_run b1 v.csaddr (div_ceil v.cssize v.fsize)) (is_first v) =
     run_test b1 v.size v.csaddr (div_ceil v.cssize v.fsize) (v.csaddr + div_ceil v.cssize v.fsize)
     (λ f. is_in_run 0 (cgdmin v 0) f || false) all1 refl first' in
-    λ f low. ap (λ (xs : List Bool). get_or xs f false) two ∙ second f low ∙ none_below v f
+    λ f low. ap (λ xs. get_or xs f false) two ∙ second f low ∙ none_below v f
 
 pub group_run : (v : Layout) (b b' : List Bool) (group len : ℕ) → length b ≡ v.size →
     cgsblock v group + len ≡ cgdmin v group →
@@ -128,7 +113,7 @@ group_run v b b' group len all ends now before =
     let more : HaveBits v.size (set_run b (cgsblock v group) len)
     (λ f. is_in_run (cgsblock v group) (cgdmin v group) f || is_reserved_below v group f) =
     run_test b v.size (cgsblock v group) len (cgdmin v group) (is_reserved_below v group) all ends before in
-    λ f low. ap (λ (xs : List Bool). get_or xs f false) now ∙ more f low ∙ one_below v group f
+    λ f low. ap (λ xs. get_or xs f false) now ∙ more f low ∙ one_below v group f
 
 -- the claims before the first inode
 pub reserved_claims : (v : Layout) (s s1 : Claims) (used : List Bool) → s1 ≡ at_next_inode s →

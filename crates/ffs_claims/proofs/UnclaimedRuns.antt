@@ -1,51 +1,137 @@
--- A Run of which all fragments are unclaimed is claimed at once.
-use Rattle.std.proofs.Common.{◌≡◌, ℕ, zero, suc, ◌+◌, ◌-◌, ◌<◌, ◌≤◌, true, false, nat_lt, List, [], ◌++◌, slice_set}
-use Rattle.std.proofs.Common.{get_or, arith, refl, ap, ◌∙◌}
-use Rattle.std.specs.List.{range_with_len, slice_index_or}
-use Rattle.std.proofs.lemmas.List.{get_or-set_other}
-use Rattle.ffs_volume.specs.declared.Layout.{Layout}
-use Rattle.ffs_volume.specs.declared.BlockMessage.{BlockMessage}
-use Rattle.ffs_volume.specs.Disk.Areas.{is_fragment_in_range, is_run_in_range}
+-- Runs whose offers are taken at once with nothing to report, and which Runs are in range.
+use Rattle.std.proofs.Common.{◌++◌, ◌≡◌, ℕ, zero, suc, ◌+◌, ◌-◌, ◌<◌, ◌≤◌, true, false, nat_lt, [], slice_set, get_or}
+use Rattle.std.proofs.Common.{arith, refl, ap, ◌∙◌, Bool, sym, not, ◌/◌}
+use Rattle.std.proofs.{Math.Nat.mul-div-le, lemmas.Bool.Decides.nat_tests, lemmas.List.get_or-set_other}
+use Rattle.std.{proofs.lemmas.List.set-get_or, specs.List.range_with_len, specs.List.slice_index_or}
+use Rattle.ffs_volume.proofs.{AreaLaws.group_is, Potentials.each_ok, Potentials.in_range_below}
+use Rattle.ffs_volume.proofs.RunLaws.{in_range_is, is_apart}
 use Rattle.ffs_volume.specs.Blocks.Claims.{Claims, is_set, after_offer, after_offers, offer_lines, lines_of_offers}
-use Rattle.ffs_volume.proofs.Potentials.{each_ok, in_range_below}
-use Rattle.ffs_maps.specs.Bits.{set_run, AreClear}
+use Rattle.ffs_volume.specs.Disk.Areas.{is_fragment_in_range, is_run_in_range, cgbase, cgstart, cgsblock, cgdmin}
+use Rattle.ffs_volume.specs.{Laws.Geometry.IsAcceptedLayout, declared.Layout.Layout}
+use Rattle.ffs_maps.specs.{Bits.set_run, Bits.AreClear, Bits.bits_of, Bits.ClaimsRun, declared.FragmentMap.FragmentMap}
 
--- all its fragments are unclaimed: its offers are claimed at once, and nothing is reported of them
-pub record IsWhole (v : Layout) (s : Claims) (start len : ℕ) : Type 0 where
-  pub claims : after_offers v s (range_with_len start len)
-      ≡ record s { used = set_run s.used start len; kept = s.kept + len }
+-- the offers of a Run leave these claims, and nothing is reported of them
+pub record IsQuiet (v : Layout) (s : Claims) (start len : ℕ) (t : Claims) : Type 0 where
+  pub claims : after_offers v s (range_with_len start len) ≡ t
   pub silent : (inode : ℕ) → lines_of_offers v inode s (range_with_len start len) ≡ []
 
-whole_from : (v : Layout) (s : Claims) (start len : ℕ) → nat_lt s.dups 11 ≡ true →
-    ((k : ℕ) → k < len → is_fragment_in_range v (start + k) ≡ true) → AreClear s.used start len → IsWhole v s start len
-whole_from v s start zero few ok clear =
-    let same : s.kept ≡ s.kept + 0 = omega arith in
-    record { claims = ap (λ (n : ℕ). record s { kept = n }) same; silent = λ inode. refl }
-whole_from v s start (suc len) few ok clear =
-    let first : is_fragment_in_range v start ≡ true = ap (is_fragment_in_range v) (omega arith) ∙ ok 0 (omega arith) in
-    let unset : is_set s.used start ≡ false = ap (λ (n : ℕ). slice_index_or s.used n false) (omega arith)
-    ∙ clear 0 (omega arith) in
-    let now : after_offer v s start ≡ record s { kept = s.kept + 1; used = slice_set s.used start true } =
-    rw (few, first, unset) refl in
-    let more = whole_from v (record s { kept = s.kept + 1; used = slice_set s.used start true }) (start + 1) len few
-    (λ k low. ap (is_fragment_in_range v) (omega arith) ∙ ok (k + 1) (omega arith))
-    (λ k low. get_or-set_other s.used start (start + 1 + k) true false (λ e. omega arith)
-    ∙ ap (λ (n : ℕ). get_or s.used n false) (omega arith) ∙ clear (k + 1) (omega arith)) in
-    let sum : s.kept + 1 + len ≡ s.kept + suc len = omega arith in
-    let quiet : (inode : ℕ) → offer_lines v inode s start ≡ [] = λ inode. rw (few, first, unset) refl in
+quiet_more : {v : Layout} {s : Claims} (t : Claims) {u : Claims} {start len : ℕ} → after_offer v s start ≡ t →
+    ((inode : ℕ) → offer_lines v inode s start ≡ []) → IsQuiet v t (start + 1) len u → IsQuiet v s start (suc len) u
+quiet_more {v = v} {s = s} t {start = start} {len = len} now silent more =
+    let rest = range_with_len (start + 1) len in
     record {
-      claims = ap (λ (t : Claims). after_offers v t (range_with_len (start + 1) len)) now ∙ more.claims
-          ∙ ap (λ (n : ℕ). record s { used = set_run (slice_set s.used start true) (start + 1) len; kept = n }) sum;
-      silent = λ inode. ap (λ (ls : List BlockMessage). ls ++ lines_of_offers v inode (after_offer v s start)
-          (range_with_len (start + 1) len)) (quiet inode)
-          ∙ ap (λ (t : Claims). lines_of_offers v inode t (range_with_len (start + 1) len)) now ∙ more.silent inode;
+      claims = ap (λ t. after_offers v t rest) now ∙ more.claims;
+      silent = λ inode. ap (λ ls. ls ++ lines_of_offers v inode (after_offer v s start) rest) (silent inode)
+          ∙ ap (λ t. lines_of_offers v inode t rest) now ∙ more.silent inode;
     }
 
-pub whole_is : (v : Layout) (s : Claims) (start len : ℕ) → nat_lt s.dups 11 ≡ true → is_run_in_range v start len ≡ true
-    → AreClear s.used start len → IsWhole v s start len
+-- a Run past the end of the volume: no fragment of it is in range, so they are only counted
+past_end : (v : Layout) (f : ℕ) → v.size ≤ f → is_fragment_in_range v f ≡ false
+unfolding is_fragment_in_range
+past_end v f past = grind (arith, nat_tests)
+
+pub only_kept : (v : Layout) (s : Claims) (start len : ℕ) → nat_lt s.dups 11 ≡ true → v.size ≤ start →
+    IsQuiet v s start len (record s { kept = s.kept + len })
+only_kept v s start zero few past =
+    let sum : s.kept + 0 ≡ s.kept = omega arith in rw sum (record { claims = refl; silent = λ inode. refl })
+only_kept v s start (suc len) few past =
+    let out = past_end v start past in
+    let sum : s.kept + suc len ≡ s.kept + 1 + len = omega arith in
+    rw sum (quiet_more (record s { kept = s.kept + 1 }) (rw (few, out) refl) (λ inode. rw (few, out) refl)
+    (only_kept v (record s { kept = s.kept + 1 }) (start + 1) len few (omega arith)))
+
+-- a Run in range of which all fragments are unclaimed
+whole_from : (v : Layout) (s : Claims) (start len : ℕ) → nat_lt s.dups 11 ≡ true →
+    ((k : ℕ) → k < len → is_fragment_in_range v (start + k) ≡ true) → AreClear s.used start len →
+    IsQuiet v s start len (record s { used = set_run s.used start len; kept = s.kept + len })
+whole_from v s start zero few ok clear =
+    let sum : s.kept + 0 ≡ s.kept = omega arith in rw sum (record { claims = refl; silent = λ inode. refl })
+whole_from v s start (suc len) few ok clear =
+    let first : is_fragment_in_range v start ≡ true = ap (is_fragment_in_range v) (omega arith) ∙ ok 0 (omega arith) in
+    let unset : is_set s.used start ≡ false = ap (λ n. slice_index_or s.used n false) (omega arith)
+    ∙ clear 0 (omega arith) in
+    let sum : s.kept + suc len ≡ s.kept + 1 + len = omega arith in
+    rw sum (quiet_more (record s { kept = s.kept + 1; used = slice_set s.used start true })
+    (rw (few, first, unset) refl) (λ inode. rw (few, first, unset) refl)
+    (whole_from v (record s { kept = s.kept + 1; used = slice_set s.used start true }) (start + 1) len few
+    (λ k low. ap (is_fragment_in_range v) (omega arith) ∙ ok (k + 1) (omega arith))
+    (λ k low. get_or-set_other s.used start (start + 1 + k) true false (λ e. omega arith)
+    ∙ ap (λ n. get_or s.used n false) (omega arith) ∙ clear (k + 1) (omega arith))))
+
+pub whole_is : (v : Layout) (s : Claims) (start len : ℕ) → nat_lt s.dups 11 ≡ true →
+    is_run_in_range v start len ≡ true → AreClear s.used start len → IsQuiet v s start len (record s
+    { used = set_run s.used start len; kept = s.kept + len })
 whole_is v s start len few fits clear = whole_from v s start len few (λ k low. each_ok v start len k fits low) clear
 
 -- a Run in range ends in the volume
 pub run_below : (v : Layout) (start len : ℕ) → 0 < len → is_run_in_range v start len ≡ true → start + len ≤ v.size
 run_below v start len some fits = let last =
     in_range_below v (start + (len - 1)) (each_ok v start len (len - 1) fits (omega arith)) in omega arith
+
+-- one fragment is claimed where its bit wasn't set
+pub was_set : {old new : FragmentMap} {f : ℕ} {b : Bool} → ClaimsRun old new f 1 b → is_set (bits_of old) f ≡ not b
+was_set {old = old} {f = f} {b = true} c = ap (λ n. slice_index_or (bits_of old) n false) (omega arith)
+    ∙ c.clear refl 0 (omega arith)
+was_set {old = old} {f = f} {b = false} c = taken (is_set (bits_of old) f) refl
+  where
+    taken : (u : Bool) → is_set (bits_of old) f ≡ u → u ≡ true
+    taken true e = refl
+    taken false e = c.one_word (omega arith) (λ k low. ap (λ n. slice_index_or (bits_of old) n false) (omega arith) ∙ e)
+
+-- its bit is set then, claimed now or before
+pub is_set_now : {old new : FragmentMap} {f : ℕ} {b : Bool} → ClaimsRun old new f 1 b →
+    bits_of new ≡ slice_set (bits_of old) f true
+is_set_now {b = true} c = c.claimed refl
+is_set_now {old = old} {f = f} {b = false} c =
+    ap bits_of (c.kept refl) ∙ sym (ap (slice_set (bits_of old) f) (sym (was_set c)) ∙ set-get_or (bits_of old) f false)
+
+-- ---- where the Runs round another Run are in range
+-- a Run before the metadata of a group
+pub before_metadata : (v : Layout) (c start len : ℕ) → IsAcceptedLayout v → c < v.ncg → cgbase v c ≤ start →
+    start + len ≤ cgsblock v c → 0 < len → is_run_in_range v start len ≡ true
+before_metadata v c start len g h low high some =
+    let group = g.groups c h in
+    let end : cgsblock v c ≤ cgdmin v c = omega (arith, g.parts.super_fits, g.parts.block_fits, g.parts.inodes_fit) in
+    let within : cgdmin v c ≤ cgbase v (c + 1) = group.within_group in
+    let inside : cgdmin v c ≤ v.size = group.within_size in
+    let same : start / v.fpg ≡ c = group_is v c start low (omega arith) in
+    let apart : is_apart v start len ≡ true = rw same (grind (arith, nat_tests)) in
+    in_range_is v g start len some ∙ apart
+
+-- a Run after the metadata of a group
+pub after_metadata : (v : Layout) (c start len : ℕ) → IsAcceptedLayout v → c < v.ncg → cgdmin v c ≤ start →
+    start + len ≤ cgbase v (c + 1) → start + len ≤ v.size → 0 < len → is_run_in_range v start len ≡ true
+unfolding cgstart
+after_metadata v c start len g h low high inside some =
+    let base : cgbase v c ≤ start = omega arith in
+    let same : start / v.fpg ≡ c = group_is v c start base (omega arith) in
+    let apart : is_apart v start len ≡ true = rw same (grind (arith, nat_tests)) in
+    in_range_is v g start len some ∙ apart
+
+-- the next group begins as many fragments on as a group has
+pub base_above : (v : Layout) (c : ℕ) → cgbase v (c + 1) ≡ cgbase v c + v.fpg
+unfolding cgbase
+base_above v c = grind arith
+
+-- where a Run in range lies: in its group and the volume; before the metadata if it begins there
+pub record Lies (v : Layout) (start len : ℕ) : Type 0 where
+  pub base : cgbase v (start / v.fpg) ≤ start
+  pub volume : start + len ≤ v.size
+  pub group : start + len ≤ cgbase v (start / v.fpg) + v.fpg
+  pub before : start < cgdmin v (start / v.fpg) → start + len ≤ cgsblock v (start / v.fpg)
+
+base_below : (v : Layout) (start : ℕ) → cgbase v (start / v.fpg) ≤ start
+unfolding cgbase
+base_below v start = mul-div-le start v.fpg
+
+pub lies : (v : Layout) (start len : ℕ) → IsAcceptedLayout v → 0 < len → is_run_in_range v start len ≡ true
+    → Lies v start len
+lies v start len g some fits =
+    let apart : is_apart v start len ≡ true = sym (in_range_is v g start len some) ∙ fits in
+    let within : start + len ≤ cgbase v (start / v.fpg + 1) = grind (arith, nat_tests) in
+    record {
+      base = base_below v start;
+      volume = grind (arith, nat_tests);
+      group = omega (arith, within, base_above v (start / v.fpg));
+      before = λ low. grind (arith, nat_tests);
+    }

@@ -1,7 +1,6 @@
 -- Fragments where each Run is in range.
 use Rattle.std.specs.Prelude.{◌≡◌, ℕ, ◌+◌, ◌<◌, ◌≤◌, true}
-use Rattle.ffs_volume.specs.declared.Layout.{Layout}
-use Rattle.ffs_volume.specs.Disk.Areas.{is_run_in_range}
+use Rattle.ffs_volume.specs.{Disk.Areas.is_run_in_range, declared.Layout.Layout}
 use Rattle.ffs_claims.specs.declared.area.DataArea.{DataArea}
 
 -- each Run that lies in the area is in range

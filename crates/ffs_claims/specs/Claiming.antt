@@ -1,26 +1,16 @@
 -- What inodes ask for before they claim, and what they leave.
 use Rattle.std.specs.Prelude.{◌≡◌, ℕ, ◌+◌, ◌<◌, ◌≤◌, ◌^◌, Bool, true, List, Result, OnOk, IfOk}
-use Rattle.ffs_image.specs.Device.{Device}
-use Rattle.ffs_volume.specs.declared.Layout.{Layout}
-use Rattle.ffs_volume.specs.declared.Inode.{Inode}
-use Rattle.ffs_volume.specs.declared.BlockMessage.{BlockMessage}
-use Rattle.ffs_volume.specs.Blocks.Steps.{steps_of}
-use Rattle.ffs_volume.specs.Blocks.Owners.{Owner}
-use Rattle.ffs_volume.specs.Blocks.Claims.{Claims, after_owner, after_steps, is_open, lines_of_steps}
-use Rattle.ffs_volume.specs.Blocks.BlockCheck.{owner_lines}
+use Rattle.ffs_volume.specs.Blocks.{BlockCheck.owner_lines, Claims.Claims, Claims.after_owner, Claims.after_steps}
+use Rattle.ffs_volume.specs.Blocks.{Claims.is_open, Claims.lines_of_steps, Owners.Owner, Steps.steps_of}
 use Rattle.ffs_volume.specs.Laws.ClaimBounds.{used_bits, ClaimBound}
-use Rattle.ffs_report.specs.Progress.{Progress, Says}
-use Rattle.ffs_report.specs.Known.{ForBytes, IsContents}
-use Rattle.ffs_report.specs.PhaseOutcome.{ImageAfter, PhaseReports}
-use Rattle.ffs_report.specs.declared.fault.RunFault.{RunFault}
+use Rattle.ffs_volume.specs.declared.{BlockMessage.BlockMessage, Inode.Inode, Layout.Layout}
+use Rattle.ffs_image.specs.Device.{Device}
+use Rattle.ffs_report.specs.{Known.ForBytes, Known.IsContents, PhaseOutcome.ImageAfter, PhaseOutcome.PhaseReports}
+use Rattle.ffs_report.specs.{Progress.Progress, Progress.Says, declared.fault.RunFault.RunFault}
+use Rattle.ffs_workspace.specs.{Holds.claims_of, Lengths.IsFor, Lengths.inodes_of, Ready.IsReady}
 use Rattle.ffs_workspace.specs.declared.workspace.Workspace.{Workspace}
-use Rattle.ffs_workspace.specs.Holds.{claims_of}
-use Rattle.ffs_workspace.specs.Lengths.{IsFor, inodes_of}
-use Rattle.ffs_workspace.specs.Ready.{IsReady}
+use Rattle.ffs_claims.specs.{Area.IsDataArea, Leaves.AreClaims, Leaves.ClaimsOnly, Leaves.SameFound, Lines.of_lines}
 use Rattle.ffs_claims.specs.declared.area.DataArea.{DataArea}
-use Rattle.ffs_claims.specs.Area.{IsDataArea}
-use Rattle.ffs_claims.specs.Leaves.{AreClaims, ClaimsOnly, SameFound}
-use Rattle.ffs_claims.specs.Lines.{of_lines}
 
 -- inodes can claim: the workspace is ready, and each Run that lies in the area is in range
 pub record CanClaim (v : Layout) (d : Device) (w : Workspace) (area : DataArea) : Type 0 where

@@ -1,18 +1,13 @@
 -- What phase 1b has reported, and what it leaves to report.
-use Rattle.std.specs.Prelude.{◌≡◌, ◌≢◌, ◌<◌, ℕ, Bool, Result, false, ◌||◌, if◌then◌else◌, List, [], ◌∷◌, slice_set}
 use Rattle.std.specs.List.{list_any}
+use Rattle.std.specs.Prelude.{◌≡◌, ◌≢◌, ◌<◌, ℕ, Bool, Result, false, ◌||◌, if◌then◌else◌, List, [], ◌∷◌, slice_set}
+use Rattle.ffs_volume.specs.Blocks.{BlockCheck.blames, BlockCheck.first_offer_lines, Claims.is_set, KeptOffers.Offer}
 use Rattle.ffs_volume.specs.declared.Layout.{Layout}
-use Rattle.ffs_volume.specs.Blocks.Claims.{is_set}
-use Rattle.ffs_volume.specs.Blocks.KeptOffers.{Offer}
-use Rattle.ffs_volume.specs.Blocks.BlockCheck.{blames, first_offer_lines}
-use Rattle.ffs_maps.specs.Bits.{bits_of}
-use Rattle.ffs_workspace.specs.declared.workspace.Workspace.{Workspace}
-use Rattle.ffs_workspace.specs.Holds.{bool_at}
 use Rattle.ffs_image.specs.Device.{Device}
-use Rattle.ffs_report.specs.PhaseOutcome.{ImageAfter}
-use Rattle.ffs_report.specs.declared.fault.RunFault.{RunFault}
-use Rattle.ffs_workspace.specs.Lengths.{IsFor, inodes_of, set_count}
-use Rattle.ffs_workspace.specs.Ready.{IsReady}
+use Rattle.ffs_report.specs.{PhaseOutcome.ImageAfter, declared.fault.RunFault.RunFault}
+use Rattle.ffs_maps.specs.Bits.{bits_of}
+use Rattle.ffs_workspace.specs.{Holds.bool_at, Lengths.IsFor, Lengths.inodes_of, Lengths.set_count, Ready.IsReady}
+use Rattle.ffs_workspace.specs.declared.workspace.Workspace.{Workspace}
 
 -- the fragments whose first kept offer is still to be reported, after some offers
 abbrev pub after_first : List Bool → List Offer → List Bool

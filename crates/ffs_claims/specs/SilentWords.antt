@@ -1,20 +1,12 @@
 -- What the words of an indirect block claim with nothing to report.
 use Rattle.std.specs.Prelude.{◌≡◌, ℕ, ◌<◌, ◌≤◌, ◌^◌, true, List, [], Option}
-use Rattle.ffs_image.specs.Device.{ForContents}
-use Rattle.ffs_volume.specs.declared.Layout.{Layout}
-use Rattle.ffs_volume.specs.declared.Step.{Step}
 use Rattle.ffs_volume.specs.Blocks.Claims.{after_step, after_steps, is_open, lines_of_steps, step_lines}
-use Rattle.ffs_volume.specs.Laws.ClaimBounds.{ClaimBound}
-use Rattle.ffs_walk.specs.declared.walk.Walk.{Walk}
-use Rattle.ffs_walk.specs.Rests.{SameFileBlocks, most_steps_left, steps_left}
-use Rattle.ffs_walk.specs.Windows.{BlocksHold}
-use Rattle.ffs_walk.specs.Counts.{EntersOnly}
-use Rattle.ffs_workspace.specs.declared.workspace.Workspace.{Workspace}
-use Rattle.ffs_workspace.specs.Holds.{claims_of}
-use Rattle.ffs_workspace.specs.Lengths.{IsFor}
-use Rattle.ffs_claims.specs.declared.area.DataArea.{DataArea}
-use Rattle.ffs_claims.specs.Area.{IsDataArea}
-use Rattle.ffs_claims.specs.Leaves.{ClaimsOnly}
+use Rattle.ffs_volume.specs.{Laws.ClaimBounds.ClaimBound, declared.Layout.Layout, declared.Step.Step}
+use Rattle.ffs_image.specs.Device.{ForContents}
+use Rattle.ffs_walk.specs.{Counts.EntersOnly, Rests.SameFileBlocks, Rests.most_steps_left, Rests.steps_left}
+use Rattle.ffs_walk.specs.{Windows.BlocksHold, declared.walk.Walk.Walk}
+use Rattle.ffs_workspace.specs.{Holds.claims_of, Lengths.IsFor, declared.workspace.Workspace.Workspace}
+use Rattle.ffs_claims.specs.{Area.IsDataArea, Leaves.ClaimsOnly, declared.area.DataArea.DataArea}
 
 -- a word of an inode can be seen: the inode isn't cut, and there is room to count its fragments and
 -- Runs

@@ -1,8 +1,7 @@
 //! The data area: data fragments around the last Run that was in range.
 
 ghost use Rattle.std.specs.Prelude.{◌≡◌, ◌<◌, ◌↔◌, IsTrue, true, ℕ};
-ghost use Rattle.ffs_volume.specs.declared.Layout.{Layout};
-ghost use Rattle.ffs_volume.specs.Disk.Areas.{is_run_in_range};
+ghost use Rattle.ffs_volume.specs.{Disk.Areas.is_run_in_range, declared.Layout.Layout};
 
 use ffs_layout::Geometry;
 

@@ -1,28 +1,22 @@
 //! Phase 1b: rescan for more dups (fsck(8)).
 
-ghost use Rattle.std.specs.Prelude.{◌≡◌, ◌+◌, ◌-◌, ◌*◌, ◌<◌, ◌≤◌, ◌^◌, ◌∷◌, OnOk, true, slice_index};
-ghost use Rattle.ffs_report.specs.Progress.{progress, Says};
-ghost use Rattle.ffs_report.specs.Known.{ForBytes};
-ghost use Rattle.ffs_report.specs.PhaseOutcome.{PhaseOutcome};
+ghost use Rattle.std.specs.Prelude.{◌≡◌, ◌+◌, ◌-◌, ◌*◌, ◌<◌, ◌≤◌, ◌^◌, ◌∷◌, OnOk, true};
+ghost use Rattle.std.specs.Prelude.{slice_index};
 ghost use Rattle.ffs_volume.specs.Blocks.BlockCheck.{first_offer_lines, phase1b_lines};
-ghost use Rattle.ffs_volume.specs.Messages.Kinds as messages;
-ghost use Rattle.ffs_volume.specs.Blocks.Owners.{owners_of};
+ghost use Rattle.ffs_volume.specs.Blocks.{Inodes.inode_of, Owners.owners_of};
+ghost use Rattle.ffs_volume.specs.{Encodings.ReplayCounts.seen_run, Laws.RunLengths.HasLength};
 ghost use Rattle.ffs_volume.specs.Report.Whole.{run_count};
-ghost use Rattle.ffs_volume.specs.Blocks.Inodes.{inode_of};
-ghost use Rattle.ffs_volume.specs.Laws.RunLengths.{HasLength};
-ghost use Rattle.ffs_volume.specs.Encodings.Replay as replays;
-ghost use Rattle.ffs_volume.specs.Encodings.ReplayCounts.{seen_run};
+ghost use Rattle.ffs_report.specs.{Known.ForBytes, PhaseOutcome.PhaseOutcome};
+ghost use Rattle.ffs_report.specs.Progress.{progress, Says};
 ghost use Rattle.ffs_maps.specs.Bits.{bits_of};
-ghost use Rattle.ffs_walk.specs.Counts.{entered};
-ghost use Rattle.ffs_walk.specs.Keepings.{replay_in};
-ghost use Rattle.ffs_workspace.specs.Found.{WithPhase1};
-ghost use Rattle.ffs_workspace.specs.Holds.{HoldsClaims, HoldsStarts};
-ghost use Rattle.ffs_workspace.specs.Notes.{cut_in};
-ghost use Rattle.ffs_workspace.specs.Ready.{IsReady};
-ghost use Rattle.ffs_claims.specs.Lines.{of_lines};
-ghost use Rattle.ffs_claims.specs.Rescan.{step_offers_again};
-ghost use Rattle.ffs_claims.specs.Reporting.{CanReport, CanRewalk, ReportsOnly};
+ghost use Rattle.ffs_walk.specs.{Counts.entered, Keepings.replay_in};
+ghost use Rattle.ffs_workspace.specs.{Found.WithPhase1, Holds.HoldsClaims, Holds.HoldsStarts};
+ghost use Rattle.ffs_workspace.specs.{Notes.cut_in, Ready.IsReady};
+ghost use Rattle.ffs_claims.specs.{Lines.of_lines, Reporting.CanReport, Reporting.CanRewalk};
+ghost use Rattle.ffs_claims.specs.{Reporting.ReportsOnly, Rescan.step_offers_again};
 ghost use Rattle.ffs_claims.specs.RescanRuns.{Counted, Rewalks, RunsPay, StepReported, rescan_runs};
+ghost use Rattle.ffs_volume.specs.Messages.Kinds as messages;
+ghost use Rattle.ffs_volume.specs.Encodings.Replay as replays;
 
 use crate::report_offer::report_run;
 use ffs_image::Image;
@@ -137,7 +131,8 @@ pub fn phase1b<I: Image, W: Output>(
     report: &mut Report<'_, W>,
 ) -> Result<(), RunFault>
     requires ready { IsReady geometry.now.layout (I.device image.old) workspace.old }
-    ensures prints { PhaseOutcome (WithPhase1 geometry.now.layout (I.device image.old) workspace.old)
+    ensures prints { PhaseOutcome
+        (WithPhase1 geometry.now.layout (I.device image.old) workspace.old)
         (λ bytes. messages.phase1b ∷ of_lines
         (phase1b_lines geometry.now.layout (owners_of geometry.now.layout bytes)))
         (I.device image.old) (I.device image.new) (progress W.sink report.old)

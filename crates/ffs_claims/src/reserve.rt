@@ -1,10 +1,9 @@
 //! The fragments that no inode may claim.
 
-ghost use Rattle.std.specs.Prelude.{◌≡◌, ◌≤◌, ◌<◌, false, replicate};
+ghost use Rattle.std.specs.Prelude.{◌≡◌, false, replicate};
 ghost use Rattle.ffs_volume.specs.Blocks.Claims.{no_claims, reserved_map};
 ghost use Rattle.ffs_maps.specs.Bits.{bits_of};
-ghost use Rattle.ffs_workspace.specs.Holds.{claims_of, IsFresh};
-ghost use Rattle.ffs_workspace.specs.Lengths.{IsFor};
+ghost use Rattle.ffs_workspace.specs.{Holds.claims_of, Holds.IsFresh, Lengths.IsFor};
 ghost use Rattle.ffs_claims.specs.Leaves.{ClaimsOnly};
 
 use crate::store::begin;

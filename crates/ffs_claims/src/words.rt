@@ -4,8 +4,7 @@ ghost use Rattle.std.specs.Prelude.{◌≡◌, ◌≤◌, false, true, IsTrue, �
 ghost use Rattle.ffs_volume.specs.Blocks.Claims.{is_open};
 ghost use Rattle.ffs_walk.specs.HeldWords.{IsInHeldBlock, word_step};
 ghost use Rattle.ffs_workspace.specs.Holds.{claims_of};
-ghost use Rattle.ffs_claims.specs.Claiming.{SeesNext};
-ghost use Rattle.ffs_claims.specs.Leaves.{ClaimsOnly};
+ghost use Rattle.ffs_claims.specs.{Claiming.SeesNext, Leaves.ClaimsOnly};
 ghost use Rattle.ffs_claims.specs.SilentWords.{ClaimsSilently, ClaimsWords, SeesWord};
 
 use crate::area::DataArea;

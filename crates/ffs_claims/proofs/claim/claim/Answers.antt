@@ -1,24 +1,18 @@
-use Rattle.std.proofs.Common.{arith, refl, ◌≡◌, ◌==◌, ◌<◌, ◌∙◌, ap, sym, List, ◌++◌, ◌∷◌, true, false, not, replicate}
-use Rattle.std.specs.Prelude.{◌&&◌}
+use Rattle.std.proofs.Common.{ℕ, arith, refl, ◌≡◌, ◌<◌, ◌∙◌, ap, sym, List, ◌++◌, ◌∷◌, true, false, replicate, []}
 use Rattle.std.proofs.lemmas.Result.{err_from_is_err_and}
-use Rattle.ffs_walk.specs.Rests.{steps_left}
-use Rattle.ffs_walk.proofs.Counted.{top_held, top_unread}
-use Rattle.ffs_maps.proofs.Bits.{length_bits, bits_long}
-use Rattle.ffs_volume.specs.declared.Step.{Step}
-use Rattle.ffs_volume.specs.declared.Step.TheVariants.{Gap}
-use Rattle.ffs_volume.specs.Blocks.Steps.{steps_of, is_walked}
+use Rattle.ffs_volume.proofs.Potentials.{stays, moves_then}
 use Rattle.ffs_volume.specs.Blocks.Claims.{after_steps, after_step, lines_of_steps, step_lines, is_open}
-use Rattle.ffs_volume.proofs.Potentials.{stays, kept_bound, moves_then}
-use Rattle.ffs_report.specs.Known.{ForBytes, IsContents}
+use Rattle.ffs_volume.specs.{Blocks.Steps.steps_of, declared.Step.TheVariants.Gap}
 use Rattle.ffs_report.proofs.Reporting.{of_begins, of_stops, of_reads, of_same}
-use Rattle.ffs_workspace.specs.Holds.{claims_of}
-use Rattle.ffs_workspace.specs.Ready.{IsReady}
-use Rattle.ffs_claims.specs.Lines.{of_lines}
-use Rattle.ffs_claims.proofs.Potentials.{moves_on, seen_bound, used_below}
-use Rattle.ffs_claims.proofs.StepsContinue.{claims_on, lines_on, steps_said, cut_stays, cut_silent, gaps_stay, gaps_silent}
-use Rattle.ffs_claims.proofs.StepsContinue.{without_steps}
-use Rattle.ffs_claims.proofs.Frames.{found_none, found_still, found_then, ready_still, ready_read, ready_walked}
+use Rattle.ffs_report.specs.Known.{ForBytes, IsContents}
+use Rattle.ffs_walk.{proofs.Counted.top_held, proofs.Counted.top_unread, specs.Rests.steps_left}
+use Rattle.ffs_workspace.specs.{Holds.claims_of, Ready.IsReady}
+use Rattle.ffs_claims.proofs.Frames.{can_walk, found_none, found_still, found_then, ready_still, ready_read}
+use Rattle.ffs_claims.proofs.Frames.{ready_walked}
+use Rattle.ffs_claims.proofs.Inodes.{sees_next, moves_on, seen_bound, used_below}
+use Rattle.ffs_claims.proofs.StepsContinue.{cut_over, gaps_over, claims_on, lines_on, steps_said, without_steps}
 use Rattle.ffs_claims.proofs.claim.claim.Goals.{in-Gap, in_default-matches}
+use Rattle.ffs_claims.specs.Lines.{of_lines}
 use Rattle.ffs_claims.proofs.claim.claim.Goals as goal
 
 pub returns-then-not-has_steps-clause-claiming : goal.returns-then-not-has_steps-clause-claiming
@@ -26,18 +20,18 @@ returns-then-not-has_steps-clause-claiming g c =
     let v = c.args.geometry.now.layout in
     let s = claims_of c.args.workspace.now in
     let some : 0 < v.bsize = omega (arith, c.args.geometry.now.sound.sizes.bsize_low) in
-    let none : (is_walked v c.args.inode.now && not (c.args.inode.now.size == 0)) ≡ false =
-    sym (c.has_steps.ensures c.requires.class) ∙ c.if-not-has_steps.true in
+    let none : ForBytes (IsContents (g.I.Image.device c.args.image.now).contents)
+    (λ bytes. steps_of v c.args.inode.now bytes ≡ []) = λ bytes t. without_steps v c.args.inode.now bytes some
+    (sym (c.has_steps.ensures c.requires.class) ∙ c.if-not-has_steps.true) in
     record {
       text = of_same _ _ _ _ _ _
           (of_begins _ (λ bytes. of_lines (lines_of_steps v c.args.number s (steps_of v c.args.inode.now bytes))) _)
-          (λ bytes t. ap (λ (xs : List Step). of_lines (lines_of_steps v c.args.number s xs))
-          (without_steps v c.args.inode.now bytes some none));
-      claims = λ bytes t. sym (ap (after_steps v s) (without_steps v c.args.inode.now bytes some none));
+          (λ bytes t. ap (λ xs. of_lines (lines_of_steps v c.args.number s xs)) (none bytes t));
+      claims = λ bytes t. sym (ap (after_steps v s) (none bytes t));
       left = record {
         image = refl;
         moves = stays s;
-        bound = omega (arith, used_below v c.args.workspace.now c.requires.ready.ready.made);
+        bound = omega (arith, used_below c.requires.ready.ready.made);
         claim = c.requires.ready;
         found = found_none c.args.workspace.now;
       };
@@ -47,89 +41,53 @@ pub loop-next-init : goal.loop-next-init
 loop-next-init g c =
     let v = c.args.geometry.now.layout in
     let s = claims_of c.args.workspace.now in
-    let begun : is_open (claims_of c.args.workspace.now) ≡ true = rw (c.requires.begun.bad, c.requires.begun.dups)
-    refl in
+    let walk = rw c.requires.walk at c.restart.ensures.walk c.requires.class in
     record {
       ready = c.requires.ready.ready;
       area = c.requires.ready.only_data;
-      open_still = begun;
+      open_still = rw (c.requires.begun.bad, c.requires.begun.dups) refl;
       geometry = c.restart.ensures.geometry ∙ c.requires.walk;
       device = refl;
       found = found_none c.args.workspace.now;
       held = top_held c.restart.new.self c.restart.ensures.top _;
       counted = omega (arith, top_unread c.restart.new.self c.restart.ensures.top);
       moves = stays s;
-      claims = λ bytes t. ap (after_steps v s) ((rw c.requires.walk at c.restart.ensures.walk c.requires.class).steps bytes);
+      claims = λ bytes t. ap (after_steps v s) (walk.steps bytes);
       said = of_same _ _ _ _ _ _
           (of_begins _ (λ bytes. of_lines (lines_of_steps v c.args.number s (steps_of v c.args.inode.now bytes))) _)
-          (λ bytes t. ap (λ (xs : List Step). of_lines (lines_of_steps v c.args.number s xs))
-          (sym ((rw c.requires.walk at c.restart.ensures.walk c.requires.class).steps bytes)));
+          (λ bytes t. ap (λ xs. of_lines (lines_of_steps v c.args.number s xs)) (sym (walk.steps bytes)));
     }
 
 pub next-requires : goal.next-requires
-next-requires g c =
-    let inv = c.loop-next.invariant in
-    record {
-      volume = rw inv.geometry inv.ready.volume;
-      room = record { blocks_fit = rw (inv.geometry, inv.ready.made.blocks) (omega arith) };
-      holds = rw inv.geometry inv.ready.windows.blocks;
-    }
+next-requires g c = can_walk c.loop-next.invariant.geometry c.loop-next.invariant.ready
 
 pub returns-in_err-next-clause-claiming : goal.returns-in_err-next-clause-claiming
 returns-in_err-next-clause-claiming g c =
-    let v = c.args.geometry.now.layout in
     let p = err_from_is_err_and c.from_residual.result c.from_residual.ensures.1 in
     let inv = c.loop-next.invariant in
     let err = c.in_err-next.ensures.leaves.read in
-    let read = ready_read v (g.I.Image.device c.loop-next.image) (g.I.Image.device c.next.new.image)
-    c.loop-next.workspace c.next.new.blocks
-    err.contents err.size c.next.ensures.leaves.kept.size (rw inv.geometry at c.next.ensures.leaves.kept.holds)
-    inv.ready in
     rw (p.1, p.2) (record {
       text = of_reads _ _ _ _ _ inv.said;
       claims = tt;
       left = record {
         image = rw inv.device at err;
         moves = tt;
-        bound = omega (
-          arith,
-          seen_bound v c.args.workspace.now c.loop-next.workspace inv.ready.made inv.open_still
-              inv.moves,
-        );
-        claim = record { ready = read; only_data = inv.area };
-        found = found_still _ _ _ inv.found;
+        bound = omega (arith, seen_bound c.args.workspace.now inv.ready.made inv.open_still inv.moves);
+        claim = record {
+          ready = ready_read err.contents err.size inv.geometry c.next.ensures.leaves.kept inv.ready;
+          only_data = inv.area;
+        };
+        found = found_still inv.found;
       };
     })
 
 pub step-requires : goal.step-requires
 step-requires g c =
-    let v = c.args.geometry.now.layout in
     let inv = c.loop-next.invariant in
-    let ok = c.in_ok-next.ensures.leaves.read in
-    let sized = bits_long c.loop-next.workspace.claimed
-    ∙ inv.ready.made.claimed in
-    let read = ready_walked c.args.geometry.now _ _ _ c.loop-next.workspace c.next.new.blocks inv.geometry ok
-    c.next.ensures.leaves.kept.size c.next.ensures.leaves.kept.holds inv.ready in
+    let read = ready_walked c.in_ok-next.ensures.leaves.read inv.geometry c.next.ensures.leaves.kept inv.ready in
     record {
       length = (rw (inv.geometry, c.in-Some.is) at c.in_ok-next.ensures.step.fits).length;
-      next = record {
-        made = read.made;
-        only_data = inv.area;
-        uncut = inv.open_still;
-        room = omega (
-          arith,
-          c.args.geometry.now.sound.numbers.size_below,
-          kept_bound (claims_of c.args.workspace.now) (claims_of c.loop-next.workspace) v.size
-              sized (omega (arith, c.requires.begun.bad)) (omega (arith, c.requires.begun.dups)) c.requires.begun.kept
-              inv.moves,
-        );
-        runs = omega (
-          arith,
-          c.args.geometry.now.sound.numbers.size_below,
-          seen_bound v c.args.workspace.now
-              c.loop-next.workspace inv.ready.made inv.open_still inv.moves,
-        );
-      };
+      next = sees_next c.args.geometry.now.sound c.requires.begun read.made inv.area inv.open_still inv.moves;
     }
 
 pub returns-in_err-seen-clause-claiming : goal.returns-in_err-seen-clause-claiming
@@ -137,33 +95,26 @@ returns-in_err-seen-clause-claiming g c =
     let p = err_from_is_err_and c.from_residual-in_err-seen.result c.from_residual-in_err-seen.ensures.1 in
     let inv = c.loop-next.invariant in
     let v = c.args.geometry.now.layout in
+    let s = claims_of c.loop-next.workspace in
     let ok = c.in_ok-next.ensures.leaves.read in
     let next = rw (inv.device, c.in-Some.is) at c.in_ok-next.ensures.step.steps in
-    let read = ready_walked c.args.geometry.now _ _ _ c.loop-next.workspace c.next.new.blocks inv.geometry ok
-    c.next.ensures.leaves.kept.size c.next.ensures.leaves.kept.holds inv.ready in
+    let left = c.step.ensures.claiming.left in
+    let few = seen_bound c.args.workspace.now inv.ready.made inv.open_still inv.moves in
     rw (p.1, p.2) (record {
-      text = of_stops _ _ _ _ (of_lines (step_lines v c.args.number (claims_of c.loop-next.workspace) c.in-Some.next))
-          _ _ _ inv.said
-          (lines_on _ v c.args.number (claims_of c.loop-next.workspace)
-          (after_step v (claims_of c.loop-next.workspace) c.in-Some.next)
-          (λ bytes. steps_left bytes c.loop-next.walk) (λ bytes. steps_left bytes c.next.new.self) c.in-Some.next next refl)
-          c.in_err-seen.ensures.claiming.said;
+      text = of_stops _ _ _ _ (of_lines (step_lines v c.args.number s c.in-Some.next)) _ _ _ inv.said
+          (lines_on v c.args.number s (after_step v s c.in-Some.next) c.loop-next.walk c.next.new.self c.in-Some.next
+          next refl) c.in_err-seen.ensures.claiming.said;
       claims = tt;
       left = record {
         image = ok ∙ inv.device;
         moves = tt;
-        bound = omega (
-          arith,
-          c.step.ensures.runs,
-          seen_bound v c.args.workspace.now c.loop-next.workspace inv.ready.made
-              inv.open_still inv.moves,
-        );
+        bound = omega (arith, c.step.ensures.runs);
         claim = record {
-          ready = ready_still v _ _ _ c.step.ensures.claiming.left.only.made c.step.ensures.claiming.left.only.windows
-              read;
-          only_data = c.step.ensures.claiming.left.only_data;
+          ready = ready_still left.only.made left.only.windows
+              (ready_walked ok inv.geometry c.next.ensures.leaves.kept inv.ready);
+          only_data = left.only_data;
         };
-        found = found_then _ _ _ (found_still _ _ _ inv.found) c.step.ensures.claiming.left.only.found;
+        found = found_then (found_still inv.found) left.only.found;
       };
     })
 
@@ -171,13 +122,8 @@ returns-in_err-seen-clause-claiming g c =
 pub skip_gaps-requires : goal.skip_gaps-requires
 skip_gaps-requires g c =
     let inv = c.loop-next.invariant in
-    let same = c.in_ok-next.ensures.same.geometry ∙ inv.geometry in
-    record {
-      room = record {
-        blocks_fit = rw (same, c.next.ensures.leaves.kept.size, inv.ready.made.blocks)
-            (omega arith);
-      };
-    }
+    let read = ready_walked c.in_ok-next.ensures.leaves.read inv.geometry c.next.ensures.leaves.kept inv.ready in
+    record { room = (can_walk (c.in_ok-next.ensures.same.geometry ∙ inv.geometry) read).room }
 
 pub loop-next-preserved-then-matches : goal.loop-next-preserved-then-matches
 loop-next-preserved-then-matches g c =
@@ -185,156 +131,117 @@ loop-next-preserved-then-matches g c =
     let v = c.args.geometry.now.layout in
     let s = claims_of c.loop-next.workspace in
     let ok = c.in_ok-next.ensures.leaves.read in
+    let same = c.in_ok-next.ensures.same.geometry ∙ inv.geometry in
     let reads = c.in_ok-next.ensures.counted inv.held in
     let is_gap : c.in-Some.next ≡ Gap = elim c.match-matches.branch [
       | in-Gap w ↦ w.in-Gap.is
       | in_default-matches w ↦ cc
     ] in
-    let next = rw (inv.device, c.in-Some.is, is_gap) at c.in_ok-next.ensures.step.steps in
-    let ready = ready_walked c.args.geometry.now _ _ _ c.loop-next.workspace c.next.new.blocks inv.geometry ok
-    c.next.ensures.leaves.kept.size c.next.ensures.leaves.kept.holds inv.ready in
+    let ready = ready_walked ok inv.geometry c.next.ensures.leaves.kept inv.ready in
+    let rest = λ (bytes : List ℕ). steps_left bytes c.skip_gaps.new.self in
     let gaps : ForBytes (IsContents (g.I.Image.device c.args.image.now).contents)
-    (λ bytes. steps_left bytes c.next.new.self ≡ replicate c.skip_gaps.result Gap ++ steps_left bytes c.skip_gaps.new.self) =
-    λ bytes t. c.skip_gaps.ensures.steps (g.I.Image.device c.next.new.image).contents
-    (rw (c.in_ok-next.ensures.same.geometry ∙ inv.geometry) ready.windows.blocks) bytes
-    (ap (λ d. d.contents) (ok ∙ inv.device) ∙ t) in
+    (λ bytes. steps_left bytes c.loop-next.walk ≡ Gap ∷ replicate c.skip_gaps.result Gap ++ rest bytes) =
+    λ bytes t. (rw (inv.device, c.in-Some.is, is_gap) at c.in_ok-next.ensures.step.steps) bytes t
+    ∙ ap (λ xs. Gap ∷ xs) (c.skip_gaps.ensures.steps (g.I.Image.device c.next.new.image).contents
+    (rw same ready.windows.blocks) bytes (ap (λ d. d.contents) (ok ∙ inv.device) ∙ t)) in
     record {
       ready = ready;
       area = inv.area;
       open_still = inv.open_still;
-      geometry = c.skip_gaps.ensures.same.geometry ∙ c.in_ok-next.ensures.same.geometry ∙ inv.geometry;
+      geometry = c.skip_gaps.ensures.same.geometry ∙ same;
       device = ok ∙ inv.device;
-      found = found_still _ _ _ inv.found;
+      found = found_still inv.found;
       held = c.skip_gaps.ensures.counted.held _ reads.held;
       counted =
           let paid = rw (c.in-Some.is, is_gap) at reads.paid in
           omega (arith, paid, inv.counted, c.skip_gaps.ensures.counted.unread);
       moves = inv.moves;
-      claims = λ bytes t. sym (ap (after_steps v s) (next bytes t ∙ ap (λ (xs : List Step). Gap ∷ xs) (gaps bytes t))
-          ∙ gaps_stay v s c.skip_gaps.result (steps_left bytes c.skip_gaps.new.self)) ∙ inv.claims bytes t;
-      said = of_same _ _ _ _ _ _ inv.said (λ bytes t. ap (λ (xs : List Step).
-          of_lines (lines_of_steps v c.args.number s xs))
-          (next bytes t ∙ ap (λ (xs : List Step). Gap ∷ xs) (gaps bytes t))
-          ∙ ap of_lines (gaps_silent v c.args.number s c.skip_gaps.result (steps_left bytes c.skip_gaps.new.self)));
+      claims = λ bytes t. sym (ap (after_steps v s) (gaps bytes t)
+          ∙ (gaps_over v c.args.number s c.skip_gaps.result (rest bytes)).0)
+          ∙ inv.claims bytes t;
+      said = of_same _ _ _ _ _ _ inv.said (λ bytes t.
+          ap (λ xs. of_lines (lines_of_steps v c.args.number s xs)) (gaps bytes t)
+          ∙ ap of_lines (gaps_over v c.args.number s c.skip_gaps.result (rest bytes)).1);
     }
-
-pub claim_words-requires-clause-geometry : goal.claim_words-requires-clause-geometry
-claim_words-requires-clause-geometry g c = c.in_ok-next.ensures.same.geometry ∙ c.loop-next.invariant.geometry
 
 pub claim_words-requires-clause-next : goal.claim_words-requires-clause-next
 claim_words-requires-clause-next g c =
     let inv = c.loop-next.invariant in
-    let v = c.args.geometry.now.layout in
+    let sound = c.args.geometry.now.sound in
     let left = c.step.ensures.claiming.left in
-    let uncut : is_open (claims_of c.step.new.workspace) ≡ true = sym c.in_ok-seen.ensures.claiming.claims.uncut
-    ∙ c.if-not-seen.false in
-    let moves = moves_on v (claims_of c.args.workspace.now) (claims_of c.loop-next.workspace)
-    (claims_of c.step.new.workspace) c.in-Some.next
-    (length_bits _ _ ∙ inv.ready.made.claimed) c.args.geometry.now.sound.sizes.frag_high
-    (rw (inv.geometry, c.in-Some.is) at c.in_ok-next.ensures.step.fits).length
-    c.in_ok-seen.ensures.claiming.claims.claims_are inv.moves in
-    record {
-      made = left.only.made;
-      only_data = left.only_data;
-      uncut = uncut;
-      room = omega (
-        arith,
-        c.args.geometry.now.sound.numbers.size_below,
-        kept_bound (claims_of c.args.workspace.now) (claims_of c.step.new.workspace) v.size
-            (bits_long c.step.new.workspace.claimed ∙ left.only.made.claimed) (omega (arith, c.requires.begun.bad))
-            (omega (arith, c.requires.begun.dups)) c.requires.begun.kept moves,
-      );
-      runs = omega (
-        arith,
-        c.args.geometry.now.sound.numbers.size_below,
-        seen_bound v c.args.workspace.now c.step.new.workspace left.only.made uncut moves,
-      );
-    }
+    let now = c.in_ok-seen.ensures.claiming.claims in
+    sees_next sound c.requires.begun left.only.made left.only_data (sym now.uncut ∙ c.if-not-seen.false)
+    (moves_on c.in-Some.next inv.ready.made sound.sizes.frag_high
+    (rw (inv.geometry, c.in-Some.is) at c.in_ok-next.ensures.step.fits).length now.claims_are inv.moves)
 
 pub loop-next-preserved : goal.loop-next-preserved
 loop-next-preserved g c =
     let inv = c.loop-next.invariant in
     let v = c.args.geometry.now.layout in
-    let s = claims_of c.step.new.workspace in
+    let s = claims_of c.loop-next.workspace in
     let ok = c.in_ok-next.ensures.leaves.read in
     let next = rw (inv.device, c.in-Some.is) at c.in_ok-next.ensures.step.steps in
     let words = c.claim_words.ensures in
     let reads = c.in_ok-next.ensures.counted inv.held in
     let paid = rw c.in-Some.is at reads.paid in
-    let read = ready_walked c.args.geometry.now _ _ _ c.loop-next.workspace c.next.new.blocks inv.geometry ok
-    c.next.ensures.leaves.kept.size c.next.ensures.leaves.kept.holds inv.ready in
-    let claimed : IsReady v (g.I.Image.device c.next.new.image) c.step.new.workspace =
-    ready_still v _ _ _ c.step.ensures.claiming.left.only.made c.step.ensures.claiming.left.only.windows read in
+    let left = c.step.ensures.claiming.left in
+    let now = c.in_ok-seen.ensures.claiming.claims.claims_are in
+    let claimed : IsReady v (g.I.Image.device c.next.new.image) c.step.new.workspace = ready_still left.only.made
+    left.only.windows (ready_walked ok inv.geometry c.next.ensures.leaves.kept inv.ready) in
     let image = (g.I.Image.device c.next.new.image).contents in
-    let before = claims_on _ v (claims_of c.loop-next.workspace) s (λ bytes. steps_left bytes c.loop-next.walk)
-    (λ bytes. steps_left bytes c.next.new.self) _ (λ bytes. after_steps v (claims_of c.args.workspace.now)
-    (steps_of v c.args.inode.now bytes)) c.in-Some.next
-    next c.in_ok-seen.ensures.claiming.claims.claims_are inv.claims (λ bytes t. refl) in
+    let gives = ap (λ d. d.contents) (ok ∙ inv.device) in
+    let before = claims_on v s c.loop-next.walk c.next.new.self
+    (λ bytes. after_steps v (claims_of c.step.new.workspace) (steps_left bytes c.next.new.self)) c.in-Some.next next now
+    inv.claims (λ bytes t. refl) in
     record {
-      ready = ready_still v _ _ _ words.only.made words.only.windows claimed;
-      area = c.step.ensures.claiming.left.only_data;
+      ready = ready_still words.only.made words.only.windows claimed;
+      area = left.only_data;
       open_still = words.uncut;
       geometry = words.same.geometry ∙ c.in_ok-next.ensures.same.geometry ∙ inv.geometry;
       device = ok ∙ inv.device;
-      found = found_then _ _ _ (found_then _ _ _ (found_still _ _ _ inv.found)
-          c.step.ensures.claiming.left.only.found) words.only.found;
-      held = words.counted.held _ (rw (words.only.windows, c.step.ensures.claiming.left.only.windows) reads.held);
+      found = found_then (found_then (found_still inv.found) left.only.found) words.only.found;
+      held = words.counted.held _ (rw (words.only.windows, left.only.windows) reads.held);
       counted = omega (arith, paid, inv.counted, c.step.ensures.counted, words.rises, words.counted.unread);
-      moves = moves_then (claims_of c.args.workspace.now) s (claims_of c.claim_words.new.workspace)
-          (moves_on v (claims_of c.args.workspace.now) (claims_of c.loop-next.workspace) s c.in-Some.next
-          (length_bits _ _ ∙ inv.ready.made.claimed) c.args.geometry.now.sound.sizes.frag_high
-          (rw (inv.geometry, c.in-Some.is) at c.in_ok-next.ensures.step.fits).length
-          c.in_ok-seen.ensures.claiming.claims.claims_are inv.moves) words.moves;
-      claims = λ bytes t. words.claims image claimed.windows.blocks bytes (ap (λ d. d.contents) (ok ∙ inv.device) ∙ t)
-          ∙ before bytes t;
+      moves = moves_then (claims_of c.args.workspace.now) (claims_of c.step.new.workspace) _
+          (moves_on c.in-Some.next inv.ready.made c.args.geometry.now.sound.sizes.frag_high
+          (rw (inv.geometry, c.in-Some.is) at c.in_ok-next.ensures.step.fits).length now inv.moves) words.moves;
+      claims = λ bytes t. words.claims image claimed.windows.blocks bytes (gives ∙ t) ∙ before bytes t;
       said = of_same _ _ _ _ _ _
-          (steps_said _ v c.args.number (claims_of c.loop-next.workspace) s (λ bytes. steps_left bytes c.loop-next.walk)
-          (λ bytes. steps_left bytes c.next.new.self) _ _ c.in-Some.next _ _ _
-          inv.said next c.in_ok-seen.ensures.claiming.claims.claims_are (λ bytes t. refl)
-          c.in_ok-seen.ensures.claiming.said)
-          (λ bytes t. ap of_lines (sym (words.lines image claimed.windows.blocks bytes
-          (ap (λ d. d.contents) (ok ∙ inv.device) ∙ t) c.args.number)));
+          (steps_said v c.args.number s (claims_of c.step.new.workspace) c.loop-next.walk c.next.new.self
+          (λ bytes. lines_of_steps v c.args.number (claims_of c.step.new.workspace) (steps_left bytes c.next.new.self))
+          c.in-Some.next inv.said next now (λ bytes t. refl) c.in_ok-seen.ensures.claiming.said)
+          (λ bytes t. ap of_lines (sym (words.lines image claimed.windows.blocks bytes (gives ∙ t) c.args.number)));
     }
 
 pub returns-then-not-seen-clause-claiming : goal.returns-then-not-seen-clause-claiming
 returns-then-not-seen-clause-claiming g c =
     let inv = c.loop-next.invariant in
     let v = c.args.geometry.now.layout in
-    let s = claims_of c.step.new.workspace in
+    let s = claims_of c.loop-next.workspace in
+    let s' = claims_of c.step.new.workspace in
     let ok = c.in_ok-next.ensures.leaves.read in
-    let cut : is_open (claims_of c.step.new.workspace) ≡ false = sym c.in_ok-seen.ensures.claiming.claims.uncut
-    ∙ c.if-not-seen.true in
+    let left = c.step.ensures.claiming.left in
+    let now = c.in_ok-seen.ensures.claiming.claims in
+    let few = seen_bound c.args.workspace.now inv.ready.made inv.open_still inv.moves in
+    let cut : is_open s' ≡ false = sym now.uncut ∙ c.if-not-seen.true in
     let next = rw (inv.device, c.in-Some.is) at c.in_ok-next.ensures.step.steps in
-    let read = ready_walked c.args.geometry.now _ _ _ c.loop-next.workspace c.next.new.blocks inv.geometry ok
-    c.next.ensures.leaves.kept.size c.next.ensures.leaves.kept.holds inv.ready in
     record {
-      text = steps_said _ v c.args.number (claims_of c.loop-next.workspace) s (λ bytes. steps_left bytes c.loop-next.walk)
-          (λ bytes. steps_left bytes c.next.new.self) _ _ c.in-Some.next _ _ _
-          inv.said next c.in_ok-seen.ensures.claiming.claims.claims_are (λ bytes t. cut_silent v c.args.number
-          (claims_of c.step.new.workspace) (steps_left bytes c.next.new.self) cut) c.in_ok-seen.ensures.claiming.said;
-      claims = claims_on _ v (claims_of c.loop-next.workspace) s (λ bytes. steps_left bytes c.loop-next.walk)
-          (λ bytes. steps_left bytes c.next.new.self) _ _ c.in-Some.next
-          next c.in_ok-seen.ensures.claiming.claims.claims_are inv.claims
-          (λ bytes t. cut_stays v s (steps_left bytes c.next.new.self) cut);
+      text = steps_said v c.args.number s s' c.loop-next.walk c.next.new.self (λ bytes. []) c.in-Some.next inv.said next
+          now.claims_are (λ bytes t. (cut_over v c.args.number s' (steps_left bytes c.next.new.self) cut).1)
+          c.in_ok-seen.ensures.claiming.said;
+      claims = claims_on v s c.loop-next.walk c.next.new.self (λ bytes. s') c.in-Some.next next now.claims_are
+          inv.claims (λ bytes t. (cut_over v c.args.number s' (steps_left bytes c.next.new.self) cut).0);
       left = record {
         image = ok ∙ inv.device;
-        moves = moves_on v (claims_of c.args.workspace.now) (claims_of c.loop-next.workspace)
-            (claims_of c.step.new.workspace) c.in-Some.next
-            (length_bits _ _ ∙ inv.ready.made.claimed) c.args.geometry.now.sound.sizes.frag_high
-            (rw (inv.geometry, c.in-Some.is) at c.in_ok-next.ensures.step.fits).length
-            c.in_ok-seen.ensures.claiming.claims.claims_are inv.moves;
-        bound = omega (
-          arith,
-          c.step.ensures.runs,
-          seen_bound v c.args.workspace.now c.loop-next.workspace inv.ready.made
-              inv.open_still inv.moves,
-        );
+        moves = moves_on c.in-Some.next inv.ready.made c.args.geometry.now.sound.sizes.frag_high
+            (rw (inv.geometry, c.in-Some.is) at c.in_ok-next.ensures.step.fits).length now.claims_are inv.moves;
+        bound = omega (arith, c.step.ensures.runs);
         claim = record {
-          ready = ready_still v _ _ _ c.step.ensures.claiming.left.only.made c.step.ensures.claiming.left.only.windows
-              read;
-          only_data = c.step.ensures.claiming.left.only_data;
+          ready = ready_still left.only.made left.only.windows
+              (ready_walked ok inv.geometry c.next.ensures.leaves.kept inv.ready);
+          only_data = left.only_data;
         };
-        found = found_then _ _ _ (found_still _ _ _ inv.found) c.step.ensures.claiming.left.only.found;
+        found = found_then (found_still inv.found) left.only.found;
       };
     }
 
@@ -347,45 +254,16 @@ returns-in_default-clause-claiming g c =
     let over = rw (inv.device, c.in_default.is) at c.in_ok-next.ensures.step.steps in
     record {
       text = of_same _ _ _ _ _ _ inv.said
-          (λ bytes t. ap (λ (xs : List Step). of_lines (lines_of_steps v c.args.number s xs)) (over bytes t));
+          (λ bytes t. ap (λ xs. of_lines (lines_of_steps v c.args.number s xs)) (over bytes t));
       claims = λ bytes t. sym (ap (after_steps v s) (over bytes t)) ∙ inv.claims bytes t;
       left = record {
         image = ok ∙ inv.device;
         moves = inv.moves;
-        bound = omega (
-          arith,
-          seen_bound v c.args.workspace.now c.loop-next.workspace inv.ready.made inv.open_still
-              inv.moves,
-        );
+        bound = omega (arith, seen_bound c.args.workspace.now inv.ready.made inv.open_still inv.moves);
         claim = record {
-          ready = ready_walked c.args.geometry.now _ _ _ c.loop-next.workspace c.next.new.blocks inv.geometry ok
-              c.next.ensures.leaves.kept.size c.next.ensures.leaves.kept.holds inv.ready;
+          ready = ready_walked ok inv.geometry c.next.ensures.leaves.kept inv.ready;
           only_data = inv.area;
         };
-        found = found_still _ _ _ inv.found;
+        found = found_still inv.found;
       };
     }
-
-pub returns-in_err-next-clause-counted : goal.returns-in_err-next-clause-counted
-returns-in_err-next-clause-counted g c =
-    let inv = c.loop-next.invariant in
-    let reads = c.in_err-next.ensures.counted inv.held in
-    omega (arith, reads.most, inv.counted)
-
-pub returns-in_err-seen-clause-counted : goal.returns-in_err-seen-clause-counted
-returns-in_err-seen-clause-counted g c =
-    let inv = c.loop-next.invariant in
-    let paid = rw c.in-Some.is at (c.in_ok-next.ensures.counted inv.held).paid in
-    omega (arith, paid, inv.counted, c.step.ensures.counted)
-
-pub returns-then-not-seen-clause-counted : goal.returns-then-not-seen-clause-counted
-returns-then-not-seen-clause-counted g c =
-    let inv = c.loop-next.invariant in
-    let paid = rw c.in-Some.is at (c.in_ok-next.ensures.counted inv.held).paid in
-    omega (arith, paid, inv.counted, c.step.ensures.counted)
-
-pub returns-in_default-clause-counted : goal.returns-in_default-clause-counted
-returns-in_default-clause-counted g c =
-    let inv = c.loop-next.invariant in
-    let paid = rw c.in_default.is at (c.in_ok-next.ensures.counted inv.held).paid in
-    omega (arith, paid, inv.counted)

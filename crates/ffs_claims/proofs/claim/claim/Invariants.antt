@@ -1,40 +1,32 @@
 use Rattle.std.proofs.Common.{◌≡◌, ◌+◌, ◌≤◌, true}
-use Rattle.ffs_walk.specs.Counts.{AreHeld, unread}
-use Rattle.ffs_report.specs.Progress.{progress}
-use Rattle.ffs_report.specs.Known.{ForBytes, IsContents}
-use Rattle.ffs_report.specs.PhaseOutcome.{SaidOf}
-use Rattle.ffs_volume.specs.Blocks.Steps.{steps_of}
 use Rattle.ffs_volume.specs.Blocks.Claims.{after_steps, lines_of_steps, is_open}
-use Rattle.ffs_volume.specs.Laws.ClaimBounds.{ClaimBound}
-use Rattle.ffs_walk.specs.Rests.{steps_left, most_steps_left}
-use Rattle.ffs_workspace.specs.Holds.{claims_of}
-use Rattle.ffs_workspace.specs.Ready.{IsReady}
-use Rattle.ffs_claims.specs.Leaves.{SameFound}
-use Rattle.ffs_claims.specs.Lines.{of_lines}
-use Rattle.ffs_claims.specs.Area.{IsDataArea}
+use Rattle.ffs_volume.specs.{Blocks.Steps.steps_of, Laws.ClaimBounds.ClaimBound}
+use Rattle.ffs_report.specs.{Known.ForBytes, Known.IsContents, PhaseOutcome.SaidOf, Progress.progress}
+use Rattle.ffs_walk.specs.{Counts.AreHeld, Counts.unread, Rests.steps_left, Rests.most_steps_left}
+use Rattle.ffs_workspace.specs.{Holds.claims_of, Ready.IsReady}
+use Rattle.ffs_claims.specs.{Area.IsDataArea, Leaves.SameFound, Lines.of_lines}
 use Rattle.ffs_claims.proofs.claim.claim.Given as goal
 
 abbrev pub invariant-loop-next : goal.invariant-loop-next
-invariant-loop-next g l = record {
-  ready : IsReady l.geometry.layout (g.I.Image.device l.image) l.workspace;
-  area : IsDataArea l.geometry.layout l.area;
-  open_still : is_open (claims_of l.workspace) ≡ true;
-  geometry : l.walk.geometry ≡ l.geometry;
-  device : g.I.Image.device l.image ≡ g.I.Image.device l.initial.image;
-  found : SameFound l.initial.workspace l.workspace;
-  held : AreHeld l.workspace.windows.blocks l.walk;
-  counted : g.I.Image.reads l.image + unread l.walk + l.initial.workspace.runs_seen
-      ≤ g.I.Image.reads l.initial.image + l.workspace.runs_seen;
-  moves : ClaimBound (claims_of l.initial.workspace) (claims_of l.workspace);
-  claims : ForBytes (IsContents (g.I.Image.device l.initial.image).contents) (λ bytes.
-      after_steps l.geometry.layout (claims_of l.workspace) (steps_left bytes l.walk)
-      ≡ after_steps l.geometry.layout (claims_of l.initial.workspace) (steps_of l.geometry.layout l.inode bytes));
-  said : SaidOf (IsContents (g.I.Image.device l.initial.image).contents)
-      (λ bytes. of_lines (lines_of_steps l.geometry.layout l.number (claims_of l.workspace) (steps_left bytes l.walk)))
-      (λ bytes. of_lines (lines_of_steps l.geometry.layout l.number (claims_of l.initial.workspace)
-      (steps_of l.geometry.layout l.inode bytes)))
-      (progress g.W.Output.sink l.initial.report) (progress g.W.Output.sink l.report);
-}
+invariant-loop-next g l = let v = l.geometry.layout in
+    let knows = IsContents (g.I.Image.device l.initial.image).contents in record {
+      ready : IsReady v (g.I.Image.device l.image) l.workspace;
+      area : IsDataArea v l.area;
+      open_still : is_open (claims_of l.workspace) ≡ true;
+      geometry : l.walk.geometry ≡ l.geometry;
+      device : g.I.Image.device l.image ≡ g.I.Image.device l.initial.image;
+      found : SameFound l.initial.workspace l.workspace;
+      held : AreHeld l.workspace.windows.blocks l.walk;
+      counted : g.I.Image.reads l.image + unread l.walk + l.initial.workspace.runs_seen
+          ≤ g.I.Image.reads l.initial.image + l.workspace.runs_seen;
+      moves : ClaimBound (claims_of l.initial.workspace) (claims_of l.workspace);
+      claims : ForBytes knows (λ bytes. after_steps v (claims_of l.workspace) (steps_left bytes l.walk)
+          ≡ after_steps v (claims_of l.initial.workspace) (steps_of v l.inode bytes));
+      said : SaidOf knows
+          (λ bytes. of_lines (lines_of_steps v l.number (claims_of l.workspace) (steps_left bytes l.walk)))
+          (λ bytes. of_lines (lines_of_steps v l.number (claims_of l.initial.workspace) (steps_of v l.inode bytes)))
+          (progress g.W.Output.sink l.initial.report) (progress g.W.Output.sink l.report);
+    }
 
 abbrev pub decreases-loop-next : goal.decreases-loop-next
 decreases-loop-next g l = most_steps_left l.walk

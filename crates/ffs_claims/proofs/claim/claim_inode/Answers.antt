@@ -1,27 +1,14 @@
-use Rattle.std.proofs.Common.{rules, ◌≡◌, arith, ap, ◌∙◌, refl, subst}
+use Rattle.std.proofs.Common.{◌≡◌, arith, ap, ◌∙◌, refl, subst}
 use Rattle.std.proofs.lemmas.Result.{err_from_is_err_and}
+use Rattle.ffs_volume.specs.Blocks.{BlockCheck.owner_lines, Claims.after_owner, Inodes.class_of, Owners.owner_of}
 use Rattle.ffs_volume.specs.declared.Inode.{Inode}
-use Rattle.ffs_volume.specs.Blocks.Inodes.{class_of}
-use Rattle.ffs_volume.specs.Blocks.Owners.{Owner, owner_of}
-use Rattle.ffs_volume.specs.Blocks.BlockCheck.{owner_lines}
-use Rattle.ffs_volume.specs.Blocks.Claims.{after_owner}
-use Rattle.ffs_volume.proofs.Results.{on_ok as ok_then}
 use Rattle.ffs_report.proofs.Reporting.{of_begins, of_reads, reports_same, reports_knowing}
-use Rattle.ffs_workspace.specs.Holds.{claims_of}
-use Rattle.ffs_claims.specs.Leaves.{Stored}
-use Rattle.ffs_claims.specs.Lines.{of_lines, owner_with}
-use Rattle.ffs_claims.proofs.Inodes.{owner_is, ok_where}
-use Rattle.ffs_claims.proofs.Potentials.{used_below}
-use Rattle.ffs_workspace.proofs.Readiness.{ready_table}
+use Rattle.ffs_report.specs.Known.{ForBytes, IsContents}
+use Rattle.ffs_workspace.{proofs.Readiness.ready_table, specs.Holds.claims_of}
+use Rattle.ffs_claims.proofs.Inodes.{owner_is, ok_where, used_below}
+use Rattle.ffs_claims.specs.{Leaves.Stored, Lines.of_lines, Lines.owner_with}
+use Rattle.ffs_volume.proofs.Results.{on_ok as ok_then}
 use Rattle.ffs_claims.proofs.claim.claim_inode.Goals as goal
-
-pub inode-requires : goal.inode-requires
-inode-requires g c =
-    let ready = c.requires.ready.claim.ready in
-    record {
-      number = c.requires.ready.number_fits;
-      ready = record { volume = ready.volume; made = ready.made.table; holds = ready.windows.table };
-    }
 
 pub claim_read_inode-requires : goal.claim_read_inode-requires
 claim_read_inode-requires g c =
@@ -41,75 +28,63 @@ claim_read_inode-requires g c =
     }
 
 pub returns-in_err-inode-clause-claiming : goal.returns-in_err-inode-clause-claiming
-returns-in_err-inode-clause-claiming g c = record {
-  text = let p = err_from_is_err_and c.from_residual.result c.from_residual.ensures.1 in
-      rw (p.1, p.2) (of_reads _ _ _ _ _
-      (of_begins _ (λ bytes. of_lines
-      (owner_lines c.args.geometry.now.layout (claims_of c.args.workspace.now)
-      (owner_of c.args.geometry.now.layout bytes c.args.number))) _));
-  claims = search rules;
-  left = let err = c.in_err-inode.ensures.reads.read in
-      let p = err_from_is_err_and c.from_residual.result c.from_residual.ensures.1 in
-      rw (p.1, p.2) (record {
+returns-in_err-inode-clause-claiming g c =
+    let p = err_from_is_err_and c.from_residual.result c.from_residual.ensures.1 in
+    let v = c.args.geometry.now.layout in
+    let err = c.in_err-inode.ensures.reads.read in
+    let can = c.requires.ready.claim in
+    rw (p.1, p.2) (record {
+      text = of_reads _ _ _ _ _ (of_begins _ (λ bytes. of_lines
+          (owner_lines v (claims_of c.args.workspace.now) (owner_of v bytes c.args.number))) _);
+      claims = tt;
+      left = record {
         image = err;
         moves = tt;
-        bound = omega (
-          arith,
-          used_below c.args.geometry.now.layout c.args.workspace.now
-              c.requires.ready.claim.ready.made,
-        );
+        bound = omega (arith, used_below can.ready.made);
         again = refl;
         claim = record {
-          ready = ready_table c.args.geometry.now.layout (g.I.Image.device c.args.image.now) _ c.args.workspace.now
-              c.inode.new.self err.contents err.size c.inode.ensures.reads.kept c.requires.ready.claim.ready;
-          only_data = c.requires.ready.claim.only_data;
+          ready = ready_table v (g.I.Image.device c.args.image.now) _ c.args.workspace.now c.inode.new.self err.contents
+              err.size c.inode.ensures.reads.kept can.ready;
+          only_data = can.only_data;
         };
-      });
-}
+      };
+    })
 
 pub returns-clause-claiming : goal.returns-clause-claiming
-returns-clause-claiming g c = record {
-  text = let v = c.args.geometry.now.layout in
-      let s = claims_of c.args.workspace.now in
-      reports_same (Unit {0}) _
-      (λ bytes. of_lines (owner_lines v s (owner_with v bytes c.args.number c.in_ok-inode.inode)))
-      (λ bytes. of_lines (owner_lines v s (owner_of v bytes c.args.number))) _ _ c.claim_read_inode.result
-      (λ bytes t. ap (λ (o : Owner). of_lines (owner_lines v s o))
-      (owner_is v bytes c.args.number c.in_ok-inode.inode (c.in_ok-inode.ensures.reads.inode bytes t)))
-      (reports_knowing (Unit {0}) _ _ _ _ _ c.claim_read_inode.result
-      (λ bytes t. ap (λ d. d.contents) c.in_ok-inode.ensures.reads.read ∙ t) c.claim_read_inode.ensures.claiming.text);
-  claims = let v = c.args.geometry.now.layout in
-      let s = claims_of c.args.workspace.now in
-      ok_where c.claim_read_inode.result _ _
-      (λ bytes. claims_of c.claim_read_inode.new.workspace
-      ≡ after_owner v s (owner_with v bytes c.args.number c.in_ok-inode.inode)) _
-      (ap (λ d. d.contents) c.in_ok-inode.ensures.reads.read)
-      (λ bytes t h. h ∙ ap (λ (o : Owner). after_owner v s o)
-      (owner_is v bytes c.args.number c.in_ok-inode.inode (c.in_ok-inode.ensures.reads.inode bytes t)))
-      c.claim_read_inode.ensures.claiming.claims;
-  left = let left = c.claim_read_inode.ensures.claiming.left in
-      record {
+returns-clause-claiming g c =
+    let v = c.args.geometry.now.layout in
+    let s = claims_of c.args.workspace.now in
+    let n = c.args.number in
+    let i = c.in_ok-inode.inode in
+    let gives = ap (λ d. d.contents) c.in_ok-inode.ensures.reads.read in
+    let owner : ForBytes (IsContents (g.I.Image.device c.args.image.now).contents)
+    (λ bytes. owner_with v bytes n i ≡ owner_of v bytes n) =
+    λ bytes t. owner_is v bytes n i (c.in_ok-inode.ensures.reads.inode bytes t) in
+    let did = c.claim_read_inode.ensures.claiming in
+    let left = did.left in
+    record {
+      text = reports_same (Unit {0}) _ (λ bytes. of_lines (owner_lines v s (owner_with v bytes n i)))
+          (λ bytes. of_lines (owner_lines v s (owner_of v bytes n))) _ _ c.claim_read_inode.result
+          (λ bytes t. ap (λ o. of_lines (owner_lines v s o)) (owner bytes t))
+          (reports_knowing (Unit {0}) _ _ _ _ _ c.claim_read_inode.result (λ bytes t. gives ∙ t) did.text);
+      claims = ok_where c.claim_read_inode.result _ _
+          (λ bytes. claims_of c.claim_read_inode.new.workspace ≡ after_owner v s (owner_with v bytes n i)) _ gives
+          (λ bytes t h. h ∙ ap (after_owner v s) (owner bytes t)) did.claims;
+      left = record {
         image = rw (c.in_ok-inode.ensures.reads.read) at left.image;
         claim = left.claim;
         bound = left.bound;
         moves = left.moves;
         again = left.again;
       };
-}
+    }
 
 pub returns-clause-stored : goal.returns-clause-stored
 returns-clause-stored g c =
     let v = c.args.geometry.now.layout in
     let old = c.args.workspace.now in
     let new = c.claim_read_inode.new.workspace in
-    ok_then c.claim_read_inode.result _ _
-    (λ h bytes t.
+    ok_then c.claim_read_inode.result _ _ (λ h bytes t.
     subst (λ (i : Inode). Stored c.args.number (class_of v i) i old new) (c.in_ok-inode.ensures.reads.inode bytes t)
     (record { kinds = h.kinds; marked = h.marked; notes = h.notes; starts = h.starts }))
     c.claim_read_inode.ensures.stored
-
-pub returns-in_err-inode-clause-counted : goal.returns-in_err-inode-clause-counted
-returns-in_err-inode-clause-counted g c = omega (arith, c.in_err-inode.ensures.counted)
-
-pub returns-clause-counted : goal.returns-clause-counted
-returns-clause-counted g c = omega (arith, c.in_ok-inode.ensures.counted, c.claim_read_inode.ensures.counted)

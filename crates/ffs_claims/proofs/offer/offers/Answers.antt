@@ -1,54 +1,42 @@
-use Rattle.std.proofs.Common.{arith, ap, ◌+◌, ◌∙◌, List, ℕ}
-use Rattle.std.specs.List.{range_with_len}
-use Rattle.std.proofs.lemmas.Result.{err_from_is_err_and}
-use Rattle.ffs_volume.specs.Disk.Areas.{is_fragment_in_range}
-use Rattle.ffs_volume.specs.Blocks.Claims.{offer_lines, lines_of_offers, after_offers}
-use Rattle.ffs_volume.proofs.Potentials.{each_ok}
-use Rattle.ffs_workspace.specs.Holds.{claims_of}
+use Rattle.std.proofs.Common.{arith, ap, ◌+◌, ◌∙◌}
+use Rattle.std.{proofs.lemmas.Result.err_from_is_err_and, specs.List.range_with_len}
+use Rattle.ffs_volume.{proofs.Potentials.each_ok, specs.Blocks.Claims.offer_lines}
+use Rattle.ffs_volume.specs.{Blocks.Claims.lines_of_offers, Blocks.Claims.after_offers, Disk.Areas.is_fragment_in_range}
 use Rattle.ffs_report.proofs.Reporting.{to_begins, to_says, to_stops}
-use Rattle.ffs_claims.specs.Lines.{of_lines}
-use Rattle.ffs_claims.proofs.StepsContinue.{offers_after, offers_more, offer_kept, to_same, from_start}
+use Rattle.ffs_workspace.specs.Holds.{claims_of}
 use Rattle.ffs_claims.proofs.Frames.{offers_none, offers_then}
+use Rattle.ffs_claims.proofs.StepsContinue.{offers_after, offers_more, offer_kept, to_same, from_start}
+use Rattle.ffs_claims.specs.Lines.{of_lines}
 use Rattle.ffs_claims.proofs.offer.offers.Goals as goal
 
 pub returns-in_err-offer-clause-said : goal.returns-in_err-offer-clause-said
 returns-in_err-offer-clause-said g c =
     let p = err_from_is_err_and c.from_residual.result c.from_residual.ensures.1 in
+    let v = c.args.geometry.now.layout in
+    let s = claims_of c.loop-index.workspace in
     let f = c.from.result + c.from-in-loop-index.result in
-    rw (p.1) (to_stops _ _ _ (of_lines
-    (offer_lines c.args.geometry.now.layout c.args.number (claims_of c.loop-index.workspace) f)) _ _ _
-    c.loop-index.invariant.said
-    (offers_more c.args.geometry.now.layout c.args.number (claims_of c.loop-index.workspace)
-    (claims_of c.offer.new.workspace) c.args.start c.args.len c.loop-index.index f
-    c.loop-index-test.true (omega arith) c.offer.ensures.claims)
-    c.in_err-offer.ensures.said)
+    rw (p.1) (to_stops _ _ _ (of_lines (offer_lines v c.args.number s f)) _ _ _ c.loop-index.invariant.said
+    (offers_more v c.args.number s (claims_of c.offer.new.workspace) c.args.start c.args.len c.loop-index.index f
+    c.loop-index-test.true (omega arith) c.offer.ensures.claims) c.in_err-offer.ensures.said)
 
 pub returns-in_err-offer-clause-only : goal.returns-in_err-offer-clause-only
-returns-in_err-offer-clause-only g c = offers_then c.args.geometry.now.layout _ _ _ c.loop-index.invariant.only
-    c.offer.ensures.only
+returns-in_err-offer-clause-only g c = offers_then c.loop-index.invariant.only c.offer.ensures.only
 
 pub loop-index-preserved : goal.loop-index-preserved
 loop-index-preserved g c =
     let inv = c.loop-index.invariant in
+    let v = c.args.geometry.now.layout in
+    let s = claims_of c.loop-index.workspace in
+    let s' = claims_of c.offer.new.workspace in
     let f = c.from.result + c.from-in-loop-index.result in
-    let now = c.offer.ensures.claims in
     record {
-      only = offers_then c.args.geometry.now.layout _ _ _ inv.only c.offer.ensures.only;
-      kept = omega (
-        arith,
-        inv.kept,
-        offer_kept c.args.geometry.now.layout (claims_of c.loop-index.workspace)
-            (claims_of c.offer.new.workspace) f now,
-      );
-      claims = inv.claims ∙ offers_after c.args.geometry.now.layout (claims_of c.loop-index.workspace)
-          (claims_of c.offer.new.workspace) c.args.start c.args.len c.loop-index.index f
-          c.loop-index-test.true (omega arith) c.offer.ensures.claims;
-      said = to_says _ _ _ (of_lines
-          (offer_lines c.args.geometry.now.layout c.args.number (claims_of c.loop-index.workspace) f)) _ _ _ inv.said
-          (offers_more c.args.geometry.now.layout c.args.number (claims_of c.loop-index.workspace)
-          (claims_of c.offer.new.workspace) c.args.start c.args.len c.loop-index.index f
-          c.loop-index-test.true (omega arith) c.offer.ensures.claims)
-          c.in_ok-offer.ensures.said;
+      only = offers_then inv.only c.offer.ensures.only;
+      kept = omega (arith, inv.kept, offer_kept v s s' f c.offer.ensures.claims);
+      claims = inv.claims ∙ offers_after v s s' c.args.start c.args.len c.loop-index.index f c.loop-index-test.true
+          (omega arith) c.offer.ensures.claims;
+      said = to_says _ _ _ (of_lines (offer_lines v c.args.number s f)) _ _ _ inv.said
+          (offers_more v c.args.number s s' c.args.start c.args.len c.loop-index.index f c.loop-index-test.true
+          (omega arith) c.offer.ensures.claims) c.in_ok-offer.ensures.said;
     }
 
 pub loop-index-init : goal.loop-index-init
@@ -56,12 +44,12 @@ loop-index-init g c =
     let v = c.args.geometry.now.layout in
     let s = claims_of c.args.workspace.now in
     record {
-      only = offers_none c.args.geometry.now.layout c.args.workspace.now c.requires.room.made;
+      only = offers_none c.requires.room.made;
       kept = omega arith;
       claims = ap (after_offers v s) (from_start c.args.start c.args.len);
-      said = to_same _ _ _ _ _ (to_begins
+      said = to_same (to_begins
           (of_lines (lines_of_offers v c.args.number s (range_with_len c.args.start c.args.len))) _)
-          (ap (λ (fs : List ℕ). of_lines (lines_of_offers v c.args.number s fs)) (from_start c.args.start c.args.len));
+          (ap (λ fs. of_lines (lines_of_offers v c.args.number s fs)) (from_start c.args.start c.args.len));
     }
 
 pub offer-requires : goal.offer-requires

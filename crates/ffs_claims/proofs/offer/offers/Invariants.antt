@@ -1,11 +1,8 @@
-use Rattle.std.proofs.Common.{◌≡◌, ◌+◌, ◌≤◌, ◌-◌}
-use Rattle.std.specs.List.{range_with_len}
-use Rattle.ffs_report.specs.Progress.{progress}
-use Rattle.ffs_report.specs.PhaseOutcome.{SaidTo}
+use Rattle.std.{proofs.Common.◌≡◌, proofs.Common.◌+◌, proofs.Common.◌≤◌, proofs.Common.◌-◌, specs.List.range_with_len}
 use Rattle.ffs_volume.specs.Blocks.Claims.{after_offers, lines_of_offers}
+use Rattle.ffs_report.specs.{PhaseOutcome.SaidTo, Progress.progress}
 use Rattle.ffs_workspace.specs.Holds.{claims_of}
-use Rattle.ffs_claims.specs.Leaves.{OffersOnly}
-use Rattle.ffs_claims.specs.Lines.{of_lines}
+use Rattle.ffs_claims.specs.{Leaves.OffersOnly, Lines.of_lines}
 use Rattle.ffs_claims.proofs.offer.offers.Given as goal
 
 abbrev pub invariant-loop-index : goal.invariant-loop-index
@@ -17,6 +14,5 @@ invariant-loop-index g l = record {
   said : SaidTo (of_lines (lines_of_offers l.geometry.layout l.number (claims_of l.workspace)
       (range_with_len (l.start + l.index) (l.len - l.index))))
       (of_lines (lines_of_offers l.geometry.layout l.number (claims_of l.initial.workspace)
-      (range_with_len l.start l.len)))
-      (progress g.W.Output.sink l.initial.report) (progress g.W.Output.sink l.report);
+      (range_with_len l.start l.len))) (progress g.W.Output.sink l.initial.report) (progress g.W.Output.sink l.report);
 }

@@ -1,6 +1,5 @@
-use Rattle.std.proofs.lemmas.Result.{err_from_is_err_and}
 use Rattle.std.proofs.Common.{rules, sym, ◌∙◌, arith}
-use Rattle.std.proofs.lemmas.Bool.Decides.{nat_tests}
+use Rattle.std.proofs.lemmas.{Bool.Decides.nat_tests, Result.err_from_is_err_and}
 use Rattle.ffs_workspace.specs.Holds.{claims_of}
 use Rattle.ffs_claims.proofs.StepsContinue.{run_stops, run_stops_later, run_said}
 use Rattle.ffs_claims.proofs.offer.run.Goals as goal
@@ -9,18 +8,17 @@ pub returns-in_err-say_bad-clause-claiming : goal.returns-in_err-say_bad-clause-
 returns-in_err-say_bad-clause-claiming g c = record {
   said = let p = err_from_is_err_and c.from_residual.result c.from_residual.ensures.1 in
       rw (p.1) (run_stops c.args.geometry.now.layout c.args.number (claims_of c.args.workspace.now) c.args.start
-      c.args.len _ _
-      (sym c.in_range.ensures.value ∙ c.if-in_range.false) c.in_err-say_bad.ensures);
+      c.args.len (sym c.in_range.ensures.value ∙ c.if-in_range.false) c.in_err-say_bad.ensures);
   claims = search rules;
   left = search rules;
 }
 
 pub returns-in_err-offers_of_bad_run-clause-claiming : goal.returns-in_err-offers_of_bad_run-clause-claiming
 returns-in_err-offers_of_bad_run-clause-claiming g c = record {
-  said = let p = err_from_is_err_and c.from_residual-in_err-offers_of_bad_run.result c.from_residual-in_err-offers_of_bad_run.ensures.1 in
+  said = let p = err_from_is_err_and c.from_residual-in_err-offers_of_bad_run.result
+      c.from_residual-in_err-offers_of_bad_run.ensures.1 in
       rw (p.1) (run_stops_later c.args.geometry.now.layout c.args.number (claims_of c.args.workspace.now) c.args.start
-      c.args.len _ _ _
-      (sym c.in_range.ensures.value ∙ c.if-in_range.false) (grind (arith, nat_tests)) c.in_ok-say_bad.ensures
+      c.args.len (sym c.in_range.ensures.value ∙ c.if-in_range.false) (grind (arith, nat_tests)) c.in_ok-say_bad.ensures
       c.in_err-offers_of_bad_run.ensures.said);
   claims = search rules;
   left = search rules;
@@ -28,36 +26,23 @@ returns-in_err-offers_of_bad_run-clause-claiming g c = record {
 
 pub returns-clause-claiming : goal.returns-clause-claiming
 returns-clause-claiming g c = record {
-  said = run_said c.args.geometry.now.layout c.args.number (claims_of c.args.workspace.now) c.args.start c.args.len _
-      _ _
+  said = run_said c.args.geometry.now.layout c.args.number (claims_of c.args.workspace.now) c.args.start c.args.len
       (sym c.in_range.ensures.value ∙ c.if-in_range.false) (grind (arith, nat_tests)) c.in_ok-say_bad.ensures
       c.in_ok-offers_of_bad_run.ensures.said;
   claims = search rules;
   left = search rules;
 }
 
-pub run_in_range-requires-clause-open : goal.run_in_range-requires-clause-open
-run_in_range-requires-clause-open g c = c.requires.next.uncut
-
 pub returns-then-in_range-clause-claiming : goal.returns-then-in_range-clause-claiming
 returns-then-in_range-clause-claiming g c =
     let fits = sym c.in_range.ensures.value ∙ c.if-in_range.true in
     let only = c.run_in_range.ensures.only.claiming in
+    let found = only.found in
     rw fits (record {
       said = c.run_in_range.ensures.said;
       claims = c.run_in_range.ensures.claims;
       left = record {
-        only = record {
-          made = only.made;
-          windows = only.windows;
-          found = record {
-            kinds = only.found.kinds;
-            marked = only.found.marked;
-            notes = only.found.notes;
-            references = only.found.references;
-            again = only.found.again;
-          };
-        };
+        only = record { made = only.made; windows = only.windows; found = search rules };
         only_data = c.in_range.ensures.area;
       };
     })

@@ -1,63 +1,45 @@
-use Rattle.std.proofs.Common.{◌≡◌, ◌+◌, true, nat_lt, arith, refl, sym}
-use Rattle.std.proofs.lemmas.Bool.Decides.{nat_tests}
-use Rattle.std.proofs.lemmas.Result.{err_from_is_err_and}
+use Rattle.std.proofs.Common.{◌≡◌, true, nat_lt, arith, refl, sym}
+use Rattle.std.proofs.lemmas.{Bool.Decides.nat_tests, Result.err_from_is_err_and}
 use Rattle.ffs_report.proofs.Reports.{said_none}
 use Rattle.ffs_workspace.specs.Holds.{claims_of}
-use Rattle.ffs_claims.proofs.Frames.{offers_claimed}
-use Rattle.ffs_claims.proofs.UnclaimedRuns.{whole_is, run_below}
+use Rattle.ffs_claims.proofs.{Frames.offers_claimed, UnclaimedRuns.whole_is, UnclaimedRuns.run_below}
 use Rattle.ffs_claims.proofs.offer.run_in_range.Goals as goal
 
 pub claim-requires-clause-below : goal.claim-requires-clause-below
-claim-requires-clause-below g c = omega (
-  arith,
-  run_below c.args.geometry.now.layout c.args.start c.args.len c.requires.some (c.requires.can.known refl),
-  c.requires.can.room.made.claimed,
-)
+claim-requires-clause-below g c =
+    let fits = c.requires.can.known refl in
+    omega (arith, run_below _ c.args.start c.args.len c.requires.some fits, c.requires.can.room.made.claimed)
 
-pub returns-then-claim-clause-said : goal.returns-then-claim-clause-said
-returns-then-claim-clause-said g c =
-    let few : nat_lt c.args.workspace.now.dups 11 ≡ true = grind (arith, nat_tests) in
-    let whole = whole_is c.args.geometry.now.layout (claims_of c.args.workspace.now) c.args.start c.args.len few
-    (c.requires.can.known refl) (c.claim.ensures.clear c.if-claim.true) in
-    rw (whole.silent c.args.number) (said_none _)
-
-pub returns-then-claim-clause-claims : goal.returns-then-claim-clause-claims
-returns-then-claim-clause-claims g c =
+pub returns-then-claim : goal.returns-then-claim
+returns-then-claim g c =
     let few : nat_lt c.args.workspace.now.dups 11 ≡ true = grind (arith, nat_tests) in
     let whole = whole_is c.args.geometry.now.layout (claims_of c.args.workspace.now) c.args.start c.args.len few
     (c.requires.can.known refl) (c.claim.ensures.clear c.if-claim.true) in
     let more : c.from.result ≡ c.args.len = omega arith in
     record {
-      claims_are = rw (c.claim.ensures.claimed c.if-claim.true, more) (sym whole.claims);
-      uncut = sym c.requires.open;
+      said = rw (whole.silent c.args.number) (said_none _);
+      claims = record {
+        claims_are = rw (c.claim.ensures.claimed c.if-claim.true, more) (sym whole.claims);
+        uncut = sym c.requires.open;
+      };
+      only = offers_claimed c.requires.can.room.made c.claim.ensures.size;
     }
 
-pub returns-in_err-offers-clause-said : goal.returns-in_err-offers-clause-said
-returns-in_err-offers-clause-said g c =
+pub returns-in_err-offers : goal.returns-in_err-offers
+returns-in_err-offers g c =
     let p = err_from_is_err_and c.from_residual.result c.from_residual.ensures.1 in
-    rw (p.1) (rw (c.claim.ensures.kept c.if-claim.false) at c.in_err-offers.ensures.said)
+    let same = c.claim.ensures.kept c.if-claim.false in
+    record {
+      said = rw (p.1) (rw same at c.in_err-offers.ensures.said);
+      claims = rw p.1 tt;
+      only = rw same at c.offers.ensures.only;
+    }
 
-pub returns-clause-said : goal.returns-clause-said
-returns-clause-said g c = rw (c.claim.ensures.kept c.if-claim.false) at c.in_ok-offers.ensures.said
-
-pub returns-clause-claims : goal.returns-clause-claims
-returns-clause-claims g c = record {
-  claims_are = rw (c.claim.ensures.kept c.if-claim.false) at c.in_ok-offers.ensures.claims;
-  uncut = c.is_open.ensures;
-}
-
-pub returns-then-claim-clause-only : goal.returns-then-claim-clause-only
-returns-then-claim-clause-only g c =
-    let w = c.args.workspace.now in
-    offers_claimed c.args.geometry.now.layout w c.claim.new.self (w.kept + c.from.result) c.requires.can.room.made
-    c.claim.ensures.size
-
-pub returns-in_err-offers-clause-claims : goal.returns-in_err-offers-clause-claims
-returns-in_err-offers-clause-claims g c =
-    let p = err_from_is_err_and c.from_residual.result c.from_residual.ensures.1 in rw p.1 tt
-
-pub returns-in_err-offers-clause-only : goal.returns-in_err-offers-clause-only
-returns-in_err-offers-clause-only g c = rw (c.claim.ensures.kept c.if-claim.false) at c.offers.ensures.only
-
-pub returns-clause-only : goal.returns-clause-only
-returns-clause-only g c = rw (c.claim.ensures.kept c.if-claim.false) at c.offers.ensures.only
+pub returns : goal.returns
+returns g c =
+    let same = c.claim.ensures.kept c.if-claim.false in
+    record {
+      said = rw same at c.in_ok-offers.ensures.said;
+      claims = record { claims_are = rw same at c.in_ok-offers.ensures.claims; uncut = c.is_open.ensures };
+      only = rw same at c.offers.ensures.only;
+    }

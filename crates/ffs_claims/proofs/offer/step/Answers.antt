@@ -1,14 +1,7 @@
-use Rattle.std.proofs.Common.{arith}
 use Rattle.ffs_claims.proofs.offer.step.Goals as goal
-
-pub run-requires-clause-next : goal.run-requires-clause-next
-run-requires-clause-next g c = c.requires.next
 
 pub run-requires-clause-some : goal.run-requires-clause-some
 run-requires-clause-some g c = let length = rw c.in-Run.is at c.requires.length in length.0
 
 pub returns-in-Run-clause-claiming : goal.returns-in-Run-clause-claiming
 returns-in-Run-clause-claiming g c = rw (c.in-Run.is, c.requires.next.uncut) c.run.ensures.claiming
-
-pub returns-in-Run-clause-runs : goal.returns-in-Run-clause-runs
-returns-in-Run-clause-runs g c = omega (arith, c.run.ensures.runs)

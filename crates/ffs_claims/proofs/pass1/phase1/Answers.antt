@@ -1,27 +1,16 @@
-use Rattle.std.proofs.Common.{rules}
-use Rattle.std.proofs.Common.{inl, inr, arith, refl, sym, ◌∷◌, ◌+◌, ◌≤◌, ◌<◌, [], List, ap, ◌∙◌, Err, false}
-use Rattle.std.proofs.lemmas.Bool.{cases_lt}
+use Rattle.std.proofs.Common.{◌≡◌, rules, arith, refl, sym, ◌∷◌, ◌+◌, ◌≤◌, ◌<◌, [], ap, ◌∙◌, Err}
 use Rattle.std.proofs.lemmas.Result.{err_from_is_err_and}
-use Rattle.ffs_report.proofs.Reporting.{of_begins, of_says, of_part, of_fault, of_stops, of_same, reports_knowing}
-use Rattle.ffs_report.proofs.Reporting.{said_knows}
-use Rattle.ffs_volume.specs.Blocks.BlockCheck.{owner_lines, lines_of_owners, phase1_lines}
-use Rattle.ffs_volume.specs.Blocks.Claims.{Claims, after_owner}
-use Rattle.ffs_volume.specs.Messages.Kinds.{Message, phase1}
-use Rattle.ffs_volume.specs.Blocks.Owners.{owner_of, owners_of}
-use Rattle.ffs_workspace.specs.Notes.{note_at}
-use Rattle.ffs_volume.specs.Report.Whole.{run_count}
-use Rattle.ffs_workspace.specs.Holds.{claims_of, all_claims, marked_by_phase1_at}
-use Rattle.ffs_volume.specs.Encodings.Kinds.{kind_at}
-use Rattle.ffs_volume.specs.Encodings.Links.{start_at}
 use Rattle.ffs_volume.proofs.OwnerLaws.{before_next}
-use Rattle.ffs_workspace.specs.Lengths.{inodes_of}
+use Rattle.ffs_volume.specs.Blocks.BlockCheck.{owner_lines, lines_of_owners, phase1_lines}
+use Rattle.ffs_volume.specs.Blocks.{Claims.after_owner, KeptSteps.claims_before, Owners.owner_of, Owners.owners_of}
+use Rattle.ffs_volume.specs.{Messages.Kinds.phase1, Report.Whole.run_count}
+use Rattle.ffs_report.proofs.Reporting.{of_begins, of_says, of_part, of_fault, of_stops, of_same, reports_knowing}
+use Rattle.ffs_report.{proofs.Reporting.said_knows, specs.Known.ForBytes}
+use Rattle.ffs_workspace.specs.{Found.WithFresh, Holds.claims_of, Holds.all_claims, Lengths.inodes_of}
+use Rattle.ffs_claims.proofs.{Duplicates.dups_are, Frames.image_from, Frames.ready_still, Inodes.used_below}
+use Rattle.ffs_claims.proofs.Numbers.{found_begins, found_next, found_all, numbers_most, before_first, before_end}
+use Rattle.ffs_claims.proofs.Numbers.{lines_next, lines_end, first_lines}
 use Rattle.ffs_claims.specs.Lines.{of_lines, owners_from}
-use Rattle.ffs_claims.proofs.Duplicates.{dups_are}
-use Rattle.ffs_claims.proofs.Potentials.{used_below}
-use Rattle.ffs_claims.proofs.Frames.{image_from, ready_still}
-use Rattle.ffs_claims.proofs.Numbers.{before_first, before_end, lines_next, lines_end, filled_next}
-use Rattle.ffs_claims.proofs.Numbers.{filled_end, filled_begin, is_inside, is_outside, kind_out, kind_in, mark_out}
-use Rattle.ffs_claims.proofs.Numbers.{mark_in, note_out, note_in, start_out, start_in, first_lines}
 use Rattle.ffs_claims.proofs.pass1.phase1.Goals as goal
 
 pub returns-in_err-say-clause-prints : goal.returns-in_err-say-clause-prints
@@ -43,7 +32,7 @@ loop-number-init g c =
     let found = c.reserve.ensures.only.found in
     record {
       ready = record {
-        ready = ready_still v _ _ _ c.reserve.ensures.only.made c.reserve.ensures.only.windows c.requires.ready;
+        ready = ready_still c.reserve.ensures.only.made c.reserve.ensures.only.windows c.requires.ready;
         only_data = c.empty-area.ensures v;
       };
       walk = c.ended-walk.ensures.geometry;
@@ -54,38 +43,24 @@ loop-number-init g c =
       reads = omega arith;
       again = found.again;
       claims = λ bytes k. c.reserve.ensures.claims k.1 ∙ sym (before_first v bytes);
-      kinds = λ bytes k. filled_begin 0 (kind_at v bytes) c.reserve.new.workspace.kinds.items (inodes_of v)
-          (ap (λ w. w.items) found.kinds ∙ k.1.kinds) (λ x low. kind_out v bytes x (is_outside v x (inl low)));
-      marked = λ bytes k. filled_begin false (marked_by_phase1_at v bytes) c.reserve.new.workspace.marked.items
-          (inodes_of v) (ap (λ w. w.items) found.marked ∙ k.1.marked)
-          (λ x low. mark_out v bytes x (is_outside v x (inl low)));
-      notes = λ bytes k. filled_begin 0 (note_at v bytes) c.reserve.new.workspace.notes.items (inodes_of v)
-          (ap (λ w. w.items) found.notes ∙ k.1.notes) (λ x low. note_out v bytes x (is_outside v x (inl low)));
-      starts = λ bytes k. filled_begin 0 (start_at v bytes) c.reserve.new.workspace.references.items (inodes_of v)
-          (ap (λ w. w.items) found.references ∙ k.1.references)
-          (λ x low. start_out v bytes x (is_outside v x (inl low)));
+      found = λ bytes k. found_begins bytes k.1 found;
       said = of_says _ (λ bytes. phase1 ∷ of_lines (phase1_lines v (owners_of v bytes)))
           (λ bytes. of_lines (lines_of_owners v s (owners_from v bytes 2))) _ (phase1 ∷ []) _ _ _
           (of_begins _ (λ bytes. phase1 ∷ of_lines (phase1_lines v (owners_of v bytes))) _)
-          (λ bytes k. ap (λ (xs : List Message). phase1 ∷ xs) (first_lines v bytes s (c.reserve.ensures.claims k.1)))
+          (λ bytes k. ap (λ xs. phase1 ∷ xs) (first_lines v bytes s (c.reserve.ensures.claims k.1)))
           c.in_ok-say.ensures.said;
     }
 
 pub claim_inode-requires : goal.claim_inode-requires
 claim_inode-requires g c =
     let inv = c.loop-number.invariant in
+    let numbers = c.args.geometry.now.sound.numbers in
+    let used = used_below inv.ready.ready.made in
     record {
       ready = record {
         claim = inv.ready;
         number_fits = omega (arith, c.loop-number-test.true);
-        runs = omega (
-          arith,
-          inv.runs,
-          c.args.geometry.now.sound.numbers.inodes_below,
-          c.args.geometry.now.sound.numbers.size_below,
-          c.loop-number-test.true,
-          used_below c.args.geometry.now.layout c.loop-number.workspace inv.ready.ready.made,
-        );
+        runs = omega (arith, inv.runs, c.loop-number-test.true);
       };
       walk = inv.walk;
     }
@@ -99,7 +74,7 @@ returns-in_err-claim_inode-clause-prints g c =
     let s = claims_of c.loop-number.workspace in
     let n = c.loop-number.number in
     rw (p.1, p.2) (record {
-      image = image_from {T = Unit {0}} _ _ (g.I.Image.device c.claim_inode.new.image)
+      image = image_from {T = Unit {0}} (g.I.Image.device c.claim_inode.new.image)
           (Err c.in_err-claim_inode.field-0.0) inv.device c.in_err-claim_inode.ensures.claiming.left.image;
       text = of_fault (Unit {0}) (Unit {0}) _ (λ bytes. of_lines (lines_of_owners v s (owners_from v bytes n)))
           (λ bytes. of_lines (owner_lines v s (owner_of v bytes n)))
@@ -110,11 +85,6 @@ returns-in_err-claim_inode-clause-prints g c =
           (λ bytes k. ap (λ d. d.contents) inv.device ∙ k.0) c.in_err-claim_inode.ensures.claiming.text);
     })
 
-pub returns-in_err-claim_inode-clause-runs : goal.returns-in_err-claim_inode-clause-runs
-returns-in_err-claim_inode-clause-runs g c =
-    let inv = c.loop-number.invariant in
-    omega (arith, inv.runs, inv.low, c.claim_inode.ensures.claiming.left.bound, c.loop-number-test.true)
-
 pub loop-number-preserved : goal.loop-number-preserved
 loop-number-preserved g c =
     let v = c.args.geometry.now.layout in
@@ -124,9 +94,10 @@ loop-number-preserved g c =
     let n = c.loop-number.number in
     let contents = ap (λ d. d.contents) inv.device in
     let lt : n < inodes_of v = omega arith in
-    let inside = is_inside v n inv.low lt in
     let now = c.in_ok-claim_inode.ensures.claiming.claims in
-    let stored = c.in_ok-claim_inode.ensures.stored in
+    let after : ForBytes (WithFresh v (g.I.Image.device c.args.image.now) c.args.workspace.now)
+    (λ bytes. s' ≡ after_owner v (claims_before v bytes n) (owner_of v bytes n)) = λ bytes k. now bytes (contents ∙ k.0)
+    ∙ ap (λ t. after_owner v t (owner_of v bytes n)) (inv.claims bytes k) in
     record {
       ready = c.claim_inode.ensures.claiming.left.claim;
       walk = c.claim_inode.ensures.walk;
@@ -136,36 +107,14 @@ loop-number-preserved g c =
       runs = omega (arith, inv.runs, inv.low, c.in_ok-claim_inode.ensures.claiming.left.moves);
       reads = omega (arith, inv.reads, inv.low, c.claim_inode.ensures.counted);
       again = c.claim_inode.ensures.claiming.left.again ∙ inv.again;
-      claims = λ bytes k. now bytes (contents ∙ k.0)
-          ∙ ap (λ (t : Claims). after_owner v t (owner_of v bytes n)) (inv.claims bytes k)
-          ∙ sym (before_next v bytes n inv.low);
-      kinds = λ bytes k. filled_next 0 (kind_at v bytes) c.loop-number.workspace.kinds.items
-          c.claim_inode.new.workspace.kinds.items n _
-          (omega (arith, inv.ready.ready.made.kinds)) (stored bytes (contents ∙ k.0)).kinds (kind_in v bytes n inside)
-          (inv.kinds bytes k);
-      marked = λ bytes k. filled_next false (marked_by_phase1_at v bytes) c.loop-number.workspace.marked.items
-          c.claim_inode.new.workspace.marked.items n _
-          (omega (arith, inv.ready.ready.made.marked)) (stored bytes (contents ∙ k.0)).marked
-          (mark_in v bytes n s s' inside (inv.claims bytes k) (now bytes (contents ∙ k.0))) (inv.marked bytes k);
-      notes = λ bytes k. filled_next 0 (note_at v bytes) c.loop-number.workspace.notes.items
-          c.claim_inode.new.workspace.notes.items n _
-          (omega (arith, inv.ready.ready.made.notes)) (stored bytes (contents ∙ k.0)).notes
-          (note_in v bytes n s s' inside (inv.claims bytes k) (now bytes (contents ∙ k.0))) (inv.notes bytes k);
-      starts = λ bytes k. filled_next 0 (start_at v bytes) c.loop-number.workspace.references.items
-          c.claim_inode.new.workspace.references.items n _
-          (omega (arith, inv.ready.ready.made.references)) (stored bytes (contents ∙ k.0)).starts
-          (start_in v bytes n inside) (inv.starts bytes k);
-      said = of_same _ (λ bytes. of_lines
-          (lines_of_owners v (after_owner v s (owner_of v bytes n)) (owners_from v bytes (n + 1))))
-          (λ bytes. of_lines (lines_of_owners v s' (owners_from v bytes (n + 1)))) _ _ _
-          (of_part _ (λ bytes. of_lines (lines_of_owners v s (owners_from v bytes n)))
+      claims = λ bytes k. after bytes k ∙ sym (before_next v bytes n inv.low);
+      found = λ bytes k. found_next inv.low lt inv.ready.ready.made (after bytes k)
+          (c.in_ok-claim_inode.ensures.stored bytes (contents ∙ k.0)) (inv.found bytes k);
+      said = of_part _ (λ bytes. of_lines (lines_of_owners v s (owners_from v bytes n)))
           (λ bytes. of_lines (owner_lines v s (owner_of v bytes n)))
-          (λ bytes. of_lines (lines_of_owners v (after_owner v s (owner_of v bytes n)) (owners_from v bytes (n + 1)))) _
-          _ _ _ inv.said
-          (λ bytes k. lines_next v bytes s (after_owner v s (owner_of v bytes n)) n lt refl)
-          (said_knows _ _ _ _ _ _ (λ bytes k. contents ∙ k.0) c.in_ok-claim_inode.ensures.claiming.text))
-          (λ bytes k. ap (λ (t : Claims). of_lines (lines_of_owners v t (owners_from v bytes (n + 1))))
-          (sym (now bytes (contents ∙ k.0))));
+          (λ bytes. of_lines (lines_of_owners v s' (owners_from v bytes (n + 1)))) _ _ _ _ inv.said
+          (λ bytes k. lines_next v bytes s s' n lt (now bytes (contents ∙ k.0)))
+          (said_knows _ _ _ _ _ _ (λ bytes k. contents ∙ k.0) c.in_ok-claim_inode.ensures.claiming.text);
     }
 
 pub returns-clause-prints : goal.returns-clause-prints
@@ -182,58 +131,26 @@ returns-clause-prints g c =
 
 pub returns-clause-holds : goal.returns-clause-holds
 returns-clause-holds g c = λ bytes k.
-    let v = c.args.geometry.now.layout in
     let inv = c.loop-number.invariant in
-    let n = c.loop-number.number in
-    let past : inodes_of v ≤ n = omega arith in
-    let all = inv.claims bytes k ∙ before_end v bytes n past inv.high inv.low in
-    record {
-      used = ap (λ s. s.used) all;
-      dup = ap (λ s. s.dup) all;
-      runs = ap (λ s. s.runs) all;
-      kinds = filled_end 0 (kind_at v bytes) _ n (inodes_of v) past
-          (λ x high. kind_out v bytes x (is_outside v x (inr high))) (inv.kinds bytes k);
-      marked = filled_end false (marked_by_phase1_at v bytes) _ n (inodes_of v) past
-          (λ x high. mark_out v bytes x (is_outside v x (inr high))) (inv.marked bytes k);
-      notes = filled_end 0 (note_at v bytes) _ n (inodes_of v) past
-          (λ x high. note_out v bytes x (is_outside v x (inr high))) (inv.notes bytes k);
-      starts = filled_end 0 (start_at v bytes) _ n (inodes_of v) past
-          (λ x high. start_out v bytes x (is_outside v x (inr high))) (inv.starts bytes k);
-    }
+    let past : inodes_of c.args.geometry.now.layout ≤ c.loop-number.number = omega arith in
+    found_all past (inv.claims bytes k ∙ before_end _ bytes _ past inv.high inv.low) (inv.found bytes k)
 
 pub returns-clause-runs : goal.returns-clause-runs
 returns-clause-runs g c =
     let inv = c.loop-number.invariant in
-    let used = used_below c.args.geometry.now.layout c.loop-number.workspace inv.ready.ready.made in
-    elim (cases_lt 2 c.loop-number.number) [
-      | inl h ↦ let most : c.loop-number.number ≤ inodes_of c.args.geometry.now.layout = inv.high h in omega
-          (arith, inv.runs, most, used)
-      | inr h ↦ omega (arith, inv.runs, used)
-    ]
+    let most = numbers_most c.loop-number.number (inodes_of c.args.geometry.now.layout) inv.high in
+    omega (arith, inv.runs, used_below inv.ready.ready.made)
 
 pub returns-clause-count : goal.returns-clause-count
 unfolding run_count all_claims
 returns-clause-count g c = λ bytes k. (returns-clause-holds g c bytes k).runs
 
 pub returns-clause-dups : goal.returns-clause-dups
-returns-clause-dups g c = λ bytes k.
-    dups_are c.args.geometry.now.layout bytes c.loop-number.workspace
+returns-clause-dups g c = λ bytes k. dups_are c.args.geometry.now.layout bytes c.loop-number.workspace
     (returns-clause-holds g c bytes k)
-
-pub returns-in_err-say-clause-ready : goal.returns-in_err-say-clause-ready
-returns-in_err-say-clause-ready g c = ready_still c.args.geometry.now.layout _ _ _ c.reserve.ensures.only.made
-    c.reserve.ensures.only.windows c.requires.ready
-
-pub returns-in_err-claim_inode-clause-reads : goal.returns-in_err-claim_inode-clause-reads
-returns-in_err-claim_inode-clause-reads g c =
-    let inv = c.loop-number.invariant in
-    omega (arith, inv.reads, inv.low, c.claim_inode.ensures.counted, c.loop-number-test.true)
 
 pub returns-clause-reads : goal.returns-clause-reads
 returns-clause-reads g c =
     let inv = c.loop-number.invariant in
-    elim (cases_lt 2 c.loop-number.number) [
-      | inl h ↦ let most : c.loop-number.number ≤ inodes_of c.args.geometry.now.layout = inv.high h in omega
-          (arith, inv.reads, most)
-      | inr h ↦ omega (arith, inv.reads)
-    ]
+    let most = numbers_most c.loop-number.number (inodes_of c.args.geometry.now.layout) inv.high in
+    omega (arith, inv.reads)

@@ -1,33 +1,30 @@
-use Rattle.std.proofs.Common.{inl, inr, arith, refl}
-use Rattle.std.proofs.lemmas.Result.{on_ok_weaker}
-use Rattle.ffs_report.specs.Progress.{progress}
-use Rattle.ffs_report.proofs.Reports.{said_none}
+use Rattle.std.proofs.{Common.inl, Common.inr, Common.arith, Common.refl, lemmas.Result.on_ok_weaker}
+use Rattle.ffs_report.{proofs.Reports.said_none, specs.Progress.progress}
 use Rattle.ffs_walk.specs.Keepings.{replay_in}
-use Rattle.ffs_claims.proofs.Frames.{reports_none}
-use Rattle.ffs_claims.proofs.Reportings.{reported_from, reported_none}
+use Rattle.ffs_claims.proofs.{Frames.reports_none, Reportings.reported_from, Reportings.reported_none}
 use Rattle.ffs_claims.proofs.Rewalks.{offers_of_run}
 use Rattle.ffs_claims.proofs.pass1b.report_again.Goals as goal
 
 pub returns-in-Run-clause-said : goal.returns-in-Run-clause-said
 returns-in-Run-clause-said g c =
-    let k = c.args.keeping.now in
     let r = c.in-Run in
+    let k = c.args.keeping.now in
     let count = (c.take-taken.ensures.replays c.args.geometry.now.layout r.start r.block c.in_range.ensures).count in
     rw (
       r.is,
-      offers_of_run c.args.geometry.now.layout c.args.number k.cut (replay_in k) r.start r.len r.block
-          c.take-taken.result c.requires.going count,
+      offers_of_run c.args.geometry.now.layout c.args.number k.cut (replay_in k) r.start r.len
+          r.block c.requires.going count,
     ) c.report_run.ensures.said
 
 pub returns-in-Run-clause-reported : goal.returns-in-Run-clause-reported
 returns-in-Run-clause-reported g c =
-    let k = c.args.keeping.now in
     let r = c.in-Run in
+    let k = c.args.keeping.now in
     let replays = c.take-taken.ensures.replays c.args.geometry.now.layout r.start r.block c.in_range.ensures in
     let same = offers_of_run c.args.geometry.now.layout c.args.number k.cut (replay_in k) r.start r.len r.block
-    c.take-taken.result c.requires.going replays.count in
+    c.requires.going replays.count in
     rw r.is (on_ok_weaker c.report_run.result (λ p. record {
-      reported = rw same (reported_from _ c.args.workspace.now _ c.report_run.new.workspace p refl refl);
+      reported = rw same (reported_from c.args.workspace.now _ c.report_run.new.workspace p refl refl);
       next = replays.after;
       cut = c.take-taken.ensures.cut;
     }) c.report_run.ensures.reported)
@@ -40,7 +37,7 @@ returns-in-Tail g c = elim c.in-Tail.is [
         reported = record { reported = reported_none c.args.workspace.now; next = refl; cut = refl };
         runs = record { most = omega arith; exact = λ _. omega arith };
         counted = λ _. omega arith;
-        only = reports_none c.args.geometry.now.layout c.args.workspace.now c.requires.can.made;
+        only = reports_none c.requires.can.made;
       })
   | inr e ↦
       rw e (record {
@@ -48,6 +45,6 @@ returns-in-Tail g c = elim c.in-Tail.is [
         reported = record { reported = reported_none c.args.workspace.now; next = refl; cut = refl };
         runs = record { most = omega arith; exact = λ _. omega arith };
         counted = λ _. omega arith;
-        only = reports_none c.args.geometry.now.layout c.args.workspace.now c.requires.can.made;
+        only = reports_none c.requires.can.made;
       })
 ]

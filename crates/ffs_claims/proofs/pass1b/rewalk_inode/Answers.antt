@@ -1,31 +1,12 @@
-use Rattle.std.proofs.Common.{rules, ◌≡◌, arith, ap, ◌∙◌, ℕ}
-use Rattle.std.specs.Prelude.{slice_index}
-use Rattle.std.proofs.lemmas.Result.{err_from_is_err_and}
-use Rattle.ffs_volume.specs.declared.Inode.{Inode}
-use Rattle.ffs_volume.specs.Blocks.BlockCheck.{first_offer_lines}
-use Rattle.ffs_volume.specs.Blocks.Inodes.{inode_of}
-use Rattle.ffs_volume.specs.Blocks.Steps.{steps_of}
+use Rattle.std.proofs.{Common.rules, Common.arith, Common.ap, Common.slice_index, lemmas.Result.err_from_is_err_and}
+use Rattle.ffs_volume.specs.Blocks.{BlockCheck.first_offer_lines, Inodes.inode_of, Steps.steps_of}
 use Rattle.ffs_volume.specs.Encodings.Replay.{fresh_replay}
-use Rattle.ffs_volume.specs.Encodings.ReplayCounts.{replayed_runs}
+use Rattle.ffs_report.proofs.Reporting.{of_begins, of_reads}
 use Rattle.ffs_maps.specs.Bits.{bits_of}
-use Rattle.ffs_report.proofs.Reporting.{of_begins, of_reads, reports_same, reports_knowing}
-use Rattle.ffs_claims.specs.Lines.{of_lines}
-use Rattle.ffs_claims.specs.Rescan.{offers_again}
-use Rattle.ffs_claims.proofs.Inodes.{ok_where}
-use Rattle.ffs_claims.proofs.Frames.{claims_still, claims_none, claims_then}
-use Rattle.ffs_workspace.proofs.Readiness.{ready_table}
-use Rattle.ffs_workspace.specs.Notes.{cut_in}
-use Rattle.ffs_claims.proofs.Rewalks.{rewalked_from}
-use Rattle.ffs_claims.specs.RescanRuns.{Rewalked}
+use Rattle.ffs_workspace.{proofs.Readiness.ready_table, specs.Notes.cut_in}
+use Rattle.ffs_claims.proofs.{Frames.claims_still, Frames.claims_none, Rewalks.rewalks_from}
+use Rattle.ffs_claims.specs.{Lines.of_lines, Rescan.offers_again}
 use Rattle.ffs_claims.proofs.pass1b.rewalk_inode.Goals as goal
-
-pub inode-requires : goal.inode-requires
-inode-requires g c =
-    let ready = c.requires.can.ready in
-    record {
-      number = c.requires.can.number_fits;
-      ready = record { volume = ready.volume; made = ready.made.table; holds = ready.windows.table };
-    }
 
 pub rewalk-requires : goal.rewalk-requires
 rewalk-requires g c =
@@ -43,8 +24,7 @@ rewalk-requires g c =
 pub returns-in_err-inode-clause-rewalks : goal.returns-in_err-inode-clause-rewalks
 returns-in_err-inode-clause-rewalks g c = record {
   text = let p = err_from_is_err_and c.from_residual.result c.from_residual.ensures.1 in
-      rw (p.1, p.2) (of_reads _ _ _ _ _
-      (of_begins _ (λ bytes. of_lines
+      rw (p.1, p.2) (of_reads _ _ _ _ _ (of_begins _ (λ bytes. of_lines
       (first_offer_lines (bits_of c.args.workspace.now.duplicates)
       (offers_again c.args.geometry.now.layout c.args.number
       (cut_in (slice_index c.args.workspace.now.notes.items c.args.number)) fresh_replay
@@ -57,74 +37,10 @@ returns-in_err-inode-clause-rewalks g c = record {
         image = err;
         ready = ready_table c.args.geometry.now.layout (g.I.Image.device c.args.image.now) _ c.args.workspace.now
             c.inode.new.self err.contents err.size c.inode.ensures.reads.kept c.requires.can.ready;
-        claims = claims_still _ _ _ (claims_none c.args.workspace.now);
+        claims = claims_still (claims_none c.args.workspace.now);
       });
 }
 
 pub returns-clause-rewalks : goal.returns-clause-rewalks
-returns-clause-rewalks g c = record {
-  text = let v = c.args.geometry.now.layout in
-      let n = c.args.number in
-      let d = bits_of c.args.workspace.now.duplicates in
-      reports_same (Unit {0}) _
-      (λ bytes. of_lines (first_offer_lines d
-      (offers_again v n c.cut_of-cut.result fresh_replay
-      (steps_of v c.in_ok-inode.inode bytes))))
-      (λ bytes. of_lines (first_offer_lines d
-      (offers_again v n (cut_in (slice_index c.args.workspace.now.notes.items n)) fresh_replay
-      (steps_of v (inode_of v bytes n) bytes)))) _ _ c.rewalk.result
-      (λ bytes t. ap (λ (k : ℕ). of_lines
-      (first_offer_lines d (offers_again v n k fresh_replay (steps_of v c.in_ok-inode.inode bytes))))
-      (c.cut_of-cut.ensures)
-      ∙ ap (λ (i : Inode). of_lines
-      (first_offer_lines d (offers_again v n (cut_in (slice_index c.args.workspace.now.notes.items n)) fresh_replay
-      (steps_of v i bytes)))) (c.in_ok-inode.ensures.reads.inode bytes t))
-      (reports_knowing (Unit {0}) _ _ _ _ _ c.rewalk.result
-      (λ bytes t. ap (λ d. d.contents) c.in_ok-inode.ensures.reads.read ∙ t)
-      c.rewalk.ensures.rewalks.text);
-  rewalked = let v = c.args.geometry.now.layout in
-      let n = c.args.number in
-      let w = c.args.workspace.now in
-      let i = c.in_ok-inode.inode in
-      let cut : c.cut_of-cut.result ≡ cut_in (slice_index c.args.workspace.now.notes.items c.args.number) =
-      c.cut_of-cut.ensures in
-      ok_where c.rewalk.result _ _
-      (λ bytes. Rewalked v n c.cut_of-cut.result (steps_of v c.in_ok-inode.inode bytes)
-      (record c.args.workspace.now { windows = record c.args.workspace.now.windows { table = c.inode.new.self } })
-      c.rewalk.new.workspace)
-      (λ bytes. Rewalked v n (cut_in (slice_index c.args.workspace.now.notes.items n)) (steps_of v (inode_of v bytes n) bytes)
-      c.args.workspace.now c.rewalk.new.workspace)
-      (ap (λ d. d.contents) c.in_ok-inode.ensures.reads.read)
-      (λ bytes t h. rewalked_from _ _ _ _ c.args.workspace.now _ _ (rw (cut, c.in_ok-inode.ensures.reads.inode bytes t) at h))
-      c.rewalk.ensures.rewalks.rewalked;
-  runs = λ bytes t.
-      let v = c.args.geometry.now.layout in
-      let n = c.args.number in
-      let same : replayed_runs v c.cut_of-cut.result fresh_replay
-      (steps_of v c.in_ok-inode.inode bytes)
-      ≡ replayed_runs v (cut_in (slice_index c.args.workspace.now.notes.items n)) fresh_replay
-      (steps_of v (inode_of v bytes n) bytes) =
-      ap (λ (k : ℕ). replayed_runs v k fresh_replay (steps_of v c.in_ok-inode.inode bytes))
-      (c.cut_of-cut.ensures)
-      ∙ ap (λ (i : Inode).
-      replayed_runs v (cut_in (slice_index c.args.workspace.now.notes.items n)) fresh_replay (steps_of v i bytes))
-      (c.in_ok-inode.ensures.reads.inode bytes t) in
-      omega (arith, c.rewalk.ensures.rewalks.runs bytes (ap (λ d. d.contents) c.in_ok-inode.ensures.reads.read ∙ t), same);
-  left = record {
-    image = rw (c.in_ok-inode.ensures.reads.read) at c.rewalk.ensures.rewalks.left.image;
-    ready = c.rewalk.ensures.rewalks.left.ready;
-    claims = claims_then _ _ _ (claims_still _ _ _ (claims_none c.args.workspace.now)) c.rewalk.ensures.rewalks.left.claims;
-  };
-}
-
-pub returns-in_err-inode-clause-counted : goal.returns-in_err-inode-clause-counted
-returns-in_err-inode-clause-counted g c = record {
-  rises = λ _. omega arith;
-  paid = λ _. omega (arith, c.in_err-inode.ensures.counted);
-}
-
-pub returns-clause-counted : goal.returns-clause-counted
-returns-clause-counted g c = record {
-  rises = c.rewalk.ensures.counted.rises;
-  paid = λ room. omega (arith, c.in_ok-inode.ensures.counted, c.rewalk.ensures.counted.paid room);
-}
+returns-clause-rewalks g c = rewalks_from c.in_ok-inode.inode (g.I.Image.device c.args.image.now) _ _
+    c.in_ok-inode.ensures.reads.read c.cut_of-cut.ensures c.in_ok-inode.ensures.reads.inode c.rewalk.ensures.rewalks

@@ -1,13 +1,8 @@
-use Rattle.std.proofs.Common.{◌+◌, ◌-◌, map}
-use Rattle.std.specs.List.{range_with_len}
-use Rattle.ffs_volume.specs.Blocks.KeptOffers.{offer_of}
-use Rattle.ffs_volume.specs.Blocks.BlockCheck.{first_offer_lines}
-use Rattle.ffs_report.specs.Progress.{progress}
-use Rattle.ffs_report.specs.PhaseOutcome.{SaidTo}
+use Rattle.std.{proofs.Common.◌+◌, proofs.Common.◌-◌, proofs.Common.map, specs.List.range_with_len}
+use Rattle.ffs_volume.specs.Blocks.{BlockCheck.first_offer_lines, KeptOffers.offer_of}
+use Rattle.ffs_report.specs.{PhaseOutcome.SaidTo, Progress.progress}
 use Rattle.ffs_maps.specs.Bits.{bits_of}
-use Rattle.ffs_claims.specs.Lines.{of_lines}
-use Rattle.ffs_claims.specs.Reporting.{OffersReportedOnly}
-use Rattle.ffs_claims.proofs.Reportings.{Reporting}
+use Rattle.ffs_claims.{proofs.Reportings.Reporting, specs.Lines.of_lines, specs.Reporting.OffersReportedOnly}
 use Rattle.ffs_claims.proofs.report_offer.report_run.Given as goal
 
 abbrev pub invariant-loop-index : goal.invariant-loop-index

@@ -7,6 +7,5 @@ use Rattle.ffs_claims.proofs.reserve.reserve.Goals as goal
 pub returns-clause-claims : goal.returns-clause-claims
 returns-clause-claims c = λ fresh.
     reserved_claims c.args.geometry.now.layout (claims_of c.args.workspace.now) (claims_of c.begin.new.workspace)
-    (bits_of c.set_reserved.new.map)
-    (ap claims_of c.begin.ensures) fresh.duplicates
+    (bits_of c.set_reserved.new.map) (ap claims_of c.begin.ensures) fresh.duplicates
     (c.set_reserved.ensures.bits (ap (λ w. bits_of w.claimed) c.begin.ensures ∙ fresh.claimed))

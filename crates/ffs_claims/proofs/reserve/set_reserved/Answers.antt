@@ -1,7 +1,6 @@
 use Rattle.std.proofs.Common.{◌≡◌, ◌-◌, arith, ap, ◌∙◌}
 use Rattle.ffs_volume.specs.Disk.Areas.{cgsblock, cgdmin}
-use Rattle.ffs_maps.specs.Bits.{bits_of, set_run}
-use Rattle.ffs_maps.proofs.Bits.{length_bits}
+use Rattle.ffs_maps.{proofs.Bits.length_bits, specs.Bits.bits_of, specs.Bits.set_run}
 use Rattle.ffs_claims.proofs.Reserved.{two_runs, group_run, map_is}
 use Rattle.ffs_claims.proofs.reserve.set_reserved.Goals as goal
 
@@ -10,8 +9,7 @@ loop-group-init c =
     let v = c.args.geometry.now.layout in
     record {
       size = c.set_run-2.ensures.size ∙ c.set_run.ensures.size ∙ c.requires.size;
-      bits = λ fresh.
-          two_runs v (bits_of c.args.map.now) (bits_of c.set_run.new.self) (bits_of c.set_run-2.new.self)
+      bits = λ fresh. two_runs v (bits_of c.args.map.now) (bits_of c.set_run.new.self) (bits_of c.set_run-2.new.self)
           (length_bits _ _ ∙ c.requires.size) (length_bits _ _ ∙ c.set_run.ensures.size ∙ c.requires.size) fresh
           (c.set_run.ensures.bits ∙ ap (set_run (bits_of c.args.map.now) 0) c.cgdmin.ensures.value)
           (rw c.div_ceil-summary.ensures at c.set_run-2.ensures.bits);
@@ -26,8 +24,7 @@ loop-group-preserved c =
       size = c.set_run-in-loop-group.ensures.size ∙ inv.size;
       bits = λ fresh.
           group_run v (bits_of c.loop-group.map) (bits_of c.set_run-in-loop-group.new.self) c.loop-group.group
-          (cgdmin v c.loop-group.group - cgsblock v c.loop-group.group)
-          (length_bits _ _ ∙ inv.size)
+          (cgdmin v c.loop-group.group - cgsblock v c.loop-group.group) (length_bits _ _ ∙ inv.size)
           (omega (
             arith,
             c.args.geometry.now.sound.parts.super_fits,

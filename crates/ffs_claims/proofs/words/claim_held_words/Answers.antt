@@ -1,12 +1,11 @@
 use Rattle.std.proofs.Common.{◌∙◌, ap, arith}
-use Rattle.ffs_claims.proofs.Potentials.{seen_bound}
-use Rattle.ffs_claims.proofs.WordClaims.{kept_room, words_none, words_once, words_then}
+use Rattle.ffs_claims.proofs.Inodes.{kept_room, seen_bound}
+use Rattle.ffs_claims.proofs.WordClaims.{words_none, words_once, words_then}
 use Rattle.ffs_claims.proofs.words.claim_held_words.Goals as goal
 
 pub loop-geometry-init : goal.loop-geometry-init
 loop-geometry-init c = record {
-  words = words_none c.args.geometry.now.layout c.args.workspace.now c.args.walk.now c.requires.next.made
-      c.requires.next.uncut;
+  words = words_none c.requires.next.made c.requires.next.uncut;
   held = c.requires.held;
 }
 
@@ -25,46 +24,28 @@ pub returns-then-not-claim_address : goal.returns-then-not-claim_address
 returns-then-not-claim_address c =
     rw (c.claim_address.ensures.kept c.if-not-claim_address.true) c.loop-geometry.invariant.words
 
-pub pass_word-requires-clause-left : goal.pass_word-requires-clause-left
-pass_word-requires-clause-left c = c.has_word.ensures.0 c.loop-geometry-test.true
-
 pub claim_address-requires : goal.claim_address-requires
 claim_address-requires c =
-    let inv = c.loop-geometry.invariant in
-    let v = c.args.geometry.now.layout in
-    let u = c.args.workspace.now in
-    let w = c.loop-geometry.workspace in
+    let next = c.requires.next in
+    let words = c.loop-geometry.invariant.words in
+    let size = c.args.geometry.now.sound.numbers.size_below in
+    let kept = kept_room c.args.workspace.now words.only.made words.uncut words.moves in
+    let seen = seen_bound c.args.workspace.now words.only.made words.uncut words.moves in
     record {
-      made = inv.words.only.made;
-      only_data = c.requires.next.only_data;
-      uncut = inv.words.uncut;
-      room = omega (
-        arith,
-        c.args.geometry.now.sound.numbers.size_below,
-        kept_room v u w inv.words.only.made inv.words.uncut inv.words.moves,
-        c.requires.next.room,
-      );
-      runs = omega (
-        arith,
-        c.args.geometry.now.sound.numbers.size_below,
-        seen_bound v u w inv.words.only.made inv.words.uncut inv.words.moves,
-        c.requires.next.runs,
-      );
+      made = words.only.made;
+      only_data = next.only_data;
+      uncut = words.uncut;
+      room = omega arith;
+      runs = omega arith;
     }
 
 pub loop-geometry-preserved : goal.loop-geometry-preserved
 loop-geometry-preserved c =
     let inv = c.loop-geometry.invariant in
-    let v = c.args.geometry.now.layout in
-    let a = c.loop-geometry.workspace in
-    let b = c.claim_address.new.workspace in
-    let x = c.loop-geometry.walk in
-    let y = c.pass_word.new.self in
+    let passes = c.pass_word.ensures.word c.loop-geometry.workspace.windows.blocks inv.held in
     let sizes = c.args.geometry.now.sound.sizes in
-    let passes = c.pass_word.ensures.word a.windows.blocks inv.held in
     record {
-      words = words_then v c.args.workspace.now a b c.args.walk.now x y inv.words
-          (words_once v a b x y c.next_address-address.result sizes.frag_low sizes.frag_high inv.words.only.made
+      words = words_then inv.words (words_once sizes.frag_low sizes.frag_high inv.words.only.made
           (ap (λ k. k.layout) (inv.words.same.geometry ∙ c.requires.geometry)) c.next_address-address.ensures passes
           (c.claim_address.ensures.claims c.if-not-claim_address.false) c.claim_address.ensures.uncut
           c.claim_address.ensures.only c.pass_word.ensures.falls c.pass_word.ensures.same

@@ -1,5 +1,4 @@
-use Rattle.ffs_walk.specs.Rests.{most_steps_left}
-use Rattle.ffs_walk.specs.HeldWords.{IsInHeldBlock}
+use Rattle.ffs_walk.specs.{HeldWords.IsInHeldBlock, Rests.most_steps_left}
 use Rattle.ffs_claims.specs.SilentWords.{ClaimsWords}
 use Rattle.ffs_claims.proofs.words.claim_held_words.Given as goal
 

@@ -1,7 +1,6 @@
 use Rattle.std.proofs.Common.{arith, ◌≡◌, ◌+◌, ◌/◌, ◌<◌}
-use Rattle.ffs_volume.specs.Disk.Areas.{cgbase}
-use Rattle.ffs_volume.proofs.AreaLaws.{group_below}
-use Rattle.ffs_claims.proofs.DataAreas.{before_metadata, after_metadata, base_above, lies}
+use Rattle.ffs_volume.{proofs.AreaLaws.group_below, specs.Disk.Areas.cgbase}
+use Rattle.ffs_claims.proofs.UnclaimedRuns.{before_metadata, after_metadata, base_above, lies}
 use Rattle.ffs_claims.proofs.area.DataArea.around.Goals as goal
 
 pub returns-then-start-data : goal.returns-then-start-data
@@ -10,8 +9,7 @@ returns-then-start-data c =
     let group : c.args.start / v.fpg < v.ncg = group_below v c.args.start c.args.geometry.now.sound c.requires.inside in
     record {
       area = record {
-        runs = λ s n low high some.
-            before_metadata v (c.args.start / v.fpg) s n c.args.geometry.now.sound group
+        runs = λ s n low high some. before_metadata v (c.args.start / v.fpg) s n c.args.geometry.now.sound group
             (rw c.cgbase-base.ensures.value at low) (rw c.cgsblock.ensures at high) some;
       };
       run = λ n some fits.
@@ -30,14 +28,10 @@ returns c =
     base_above v (c.args.start / v.fpg) in
     record {
       area = record {
-        runs = λ s n low high some.
-            after_metadata v (c.args.start / v.fpg) s n c.args.geometry.now.sound group
+        runs = λ s n low high some. after_metadata v (c.args.start / v.fpg) s n c.args.geometry.now.sound group
             (rw c.cgdmin-data.ensures.value at low) (omega (arith, next, high)) (omega (arith, high)) some;
       };
       run = λ n some fits.
           let at = lies v c.args.start n c.args.geometry.now.sound some fits in
-          record {
-            first = omega arith;
-            last = omega (arith, at.volume, at.group, c.cgbase-base.ensures.value);
-          };
+          record { first = omega arith; last = omega (arith, at.volume, at.group, c.cgbase-base.ensures.value) };
     }
