@@ -1,7 +1,8 @@
 -- Whether an address isn't zero: of all, and of those from an index on, by a bit for each.
 use mir.Val.{bool_byte}
-use Rattle.std.proofs.Common.{zero, suc, Bool, true, false, inl, inr, ◌≡◌, ◌==◌, ◌||◌, ◌+◌, ◌-◌, ◌*◌, ◌/◌, ◌%◌, ◌^◌, ◌<◌, ◌≤◌, ◌∙◌, ap}
-use Rattle.std.proofs.Common.{refl, ℕ, List, length, get_or, take, drop, not, bit_or, arith, length-drop}
+use Rattle.std.proofs.Common.{zero, suc, Bool, true, false, inl, inr, ◌≡◌, ◌==◌, ◌||◌, ◌+◌, ◌-◌, ◌*◌, ◌/◌, ◌%◌}
+use Rattle.std.proofs.Common.{◌^◌, ◌<◌, ◌≤◌, ◌∙◌, ap, refl, ℕ, List, length, get_or, take}
+use Rattle.std.proofs.Common.{drop, not, bit_or, arith, length-drop}
 use Rattle.std.proofs.lemmas.Bool.{cases_lt}
 use Rattle.std.proofs.lemmas.Bool.Decides.{nat_tests}
 use Rattle.std.proofs.lemmas.List.Folds.{list_any_more}
@@ -53,7 +54,8 @@ none_above bits i from h high =
 
 -- the bits of the first i addresses, and that of one more: one from `from` on is set where such an
 -- address isn't zero
-pub bits_more : (xs : List ℕ) (from i bits b : ℕ) → i < length xs → i < 32 → b ≡ bool_byte (not (get_or xs i 0 == 0)) →
+pub bits_more : (xs : List ℕ) (from i bits b : ℕ) → i < length xs → i < 32 →
+    b ≡ bool_byte (not (get_or xs i 0 == 0)) →
     (bits < 2 ^ i) × (any_nonzero (take (i - from) (drop from xs)) ≡ not (bits / 2 ^ from == 0)) →
     (bit_or bits (b * 2 ^ i % 2 ^ 32) < 2 ^ (i + 1))
     × (any_nonzero (take (i + 1 - from) (drop from xs)) ≡ not (bit_or bits (b * 2 ^ i % 2 ^ 32) / 2 ^ from == 0))

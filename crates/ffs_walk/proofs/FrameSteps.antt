@@ -1,6 +1,6 @@
 -- What a frame has still to give, where its next word is taken.
 use Rattle.std.proofs.Common.{◌≡◌, ℕ, ◌+◌, ◌-◌, ◌*◌, ◌<◌, ◌≤◌, ◌^◌, Bool, true, false, if◌then◌else◌, List, [], ◌++◌}
-use Rattle.std.proofs.Common.{Option, arith, refl, ◌∙◌, ◌==◌, nat_lt}
+use Rattle.std.proofs.Common.{Option, arith, refl, ◌∙◌, ◌==◌}
 use Rattle.std.proofs.lemmas.Bool.Decides.{nat_tests}
 use Rattle.ffs_volume.specs.declared.Layout.{Layout}
 use Rattle.ffs_volume.specs.declared.Step.{Step}
@@ -11,7 +11,7 @@ use Rattle.ffs_image.specs.Device.{ForContents}
 use Rattle.ffs_walk.specs.Frames.{frame_rest, frame_left, item_left, IsFrom, IsSameBlock}
 use Rattle.ffs_walk.specs.declared.frame.Item.{Item}
 use Rattle.ffs_walk.specs.declared.frame.Item.TheVariants.{UnusedWord, Word}
-use Rattle.ffs_walk.specs.Fits.{FrameFits, IsBelow, IsSpent}
+use Rattle.ffs_walk.specs.Fits.{FrameFits, IsBelow}
 use Rattle.std.specs.Int.{div_ceil}
 use Rattle.std.proofs.lemmas.Grind.{div_ceil_times}
 use Rattle.std.proofs.Math.Nat.{mul-le-mul_right}
@@ -114,10 +114,6 @@ pub falls_in_triple : (i t' s d t u left : ℕ) → 1 + left ≤ i + (s + (d + (
     left < s + (d + (t + u))
 falls_in_triple i t' s d t u left l f = omega arith
 
--- a frame with a word left is not spent
-pub some_left : (f : Frame) → f.next < f.used → IsSpent f → ⊥
-some_left f some spent = omega (arith, spent.0)
-
 -- a frame uses no more words than a block has
 pub words_fit : (g : Layout) (blocks span : ℕ) (f : Frame) → FrameFits g blocks span f → f.used ≤ g.nindir
 words_fit g blocks span f fits = omega (arith, fits.words)
@@ -125,7 +121,3 @@ words_fit g blocks span f fits = omega (arith, fits.words)
 -- an address that isn't zero
 pub is_set : (address : ℕ) → (address ≡ 0 → ⊥) → (address == 0) ≡ false
 is_set address some = grind (arith, nat_tests, some)
-
--- a logical block that isn't direct
-pub not_direct : (block : ℕ) → 12 ≤ block → nat_lt block 12 ≡ false
-not_direct block below = grind (arith, nat_tests, below)

@@ -14,8 +14,7 @@ use Rattle.ffs_volume.specs.Disk.Numbers.{piece}
 use Rattle.ffs_volume.specs.Blocks.Steps.{block_bytes}
 use Rattle.ffs_volume.specs.declared.Layout.{Layout}
 use Rattle.ffs_walk.specs.declared.blocks.Blocks.{Blocks}
-use Rattle.ffs_walk.specs.declared.window.Window.{Window}
-use Rattle.ffs_walk.specs.Windows.{held_bytes, BlocksHold, level_bytes, held_address}
+use Rattle.ffs_walk.specs.Windows.{BlocksHold, level_bytes, held_address}
 
 -- a write to a part leaves what is before it and after it
 pub piece_kept : (a k p n : ℕ) (xs ys : List ℕ) → a + k ≤ length xs → length ys ≡ k → (p + n ≤ a) ⊎ (a + k ≤ p) →
@@ -83,16 +82,6 @@ written_is buffer a k items ys is len room =
     let same : length (put_mid a k buffer.items ys) ≡ vec_len buffer = same_len_mid a k buffer.items ys (len ∙ sym mid)
     ∙ sym count in
     rw is (with_items_is buffer (put_mid a k buffer.items ys) same)
-
--- a window after a read
-pub window_with : (b : List ℕ) (old : Window) (at n k : ℕ) (items ys : List ℕ) →
-    items ≡ old.buffer.items → k ≡ n → length ys ≡ k → n ≤ vec_len old.buffer → ys ≡ piece at n b →
-    held_bytes (record { buffer = with_items old.buffer (put_mid 0 k items ys); place = at; length = n }) ≡ piece at n b
-window_with b old at n k items ys is size len room read =
-    let count : vec_len old.buffer ≡ length old.buffer.items = old.buffer.ok.0 in
-    ap (take n) (written_is old.buffer 0 k items ys is len (omega arith))
-    ∙ (ap (λ m. take m (put_mid 0 k old.buffer.items ys)) (sym size)
-    ∙ (piece_written 0 k old.buffer.items ys (omega arith) len ∙ read))
 
 -- after a failed read a level holds nothing
 pub held_without : (v : Layout) (contents contents' : Option (List ℕ)) (old : Blocks) (level k : ℕ) (items ys : List ℕ)

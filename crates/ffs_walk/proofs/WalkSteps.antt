@@ -282,9 +282,6 @@ triple_reported contents w words f item step R is s d taken made = λ bytes e.
     w.geometry.layout.nindir w.double d in
     joined_three _ _ _ _ _ _ _ none none' split (made bytes)
 
-pub one_some : 0 < 1
-one_some = omega arith
-
 pub square_some : (n : ℕ) → 0 < n → 0 < n * n
 square_some n h =
     let scaled : 1 * n ≤ n * n = mul-le-mul_right n h in

@@ -1,7 +1,14 @@
-use Rattle.std.proofs.Common.{arith, inl, inr, ◌≡◌, ◌∙◌, sym}
-use Rattle.std.proofs.lemmas.Bool.{cases_lt}
+use Rattle.std.proofs.Common.{arith, ◌∙◌, sym}
 use Rattle.ffs_walk.proofs.WordBytes.{more_zeros}
 use Rattle.ffs_walk.proofs.words.zeros_end.Goals as goal
+
+pub are_zeros-requires-in-loop-index-then-are_zeros-clause-block :
+    goal.are_zeros-requires-in-loop-index-then-are_zeros-clause-block
+are_zeros-requires-in-loop-index-then-are_zeros-clause-block c = omega (arith, c.args.geometry.now.sound.sizes.nindir)
+
+pub are_zeros-requires-in-loop-index-then-are_zeros-clause-index :
+    goal.are_zeros-requires-in-loop-index-then-are_zeros-clause-index
+are_zeros-requires-in-loop-index-then-are_zeros-clause-index c = c.loop-index-then-are_zeros.invariant.high
 
 pub loop-index-init : goal.loop-index-init
 loop-index-init c =
@@ -21,36 +28,3 @@ loop-index-then-are_zeros-preserved c =
     (omega (arith, c.args.geometry.now.sound.sizes.nindir))
     (sym c.are_zeros-in-loop-index-then-are_zeros.ensures ∙ c.loop-index-then-are_zeros-test.true)
     c.loop-index-then-are_zeros.invariant
-
-pub are_zeros-requires-clause-block : goal.are_zeros-requires-clause-block
-are_zeros-requires-clause-block c = omega (arith, c.args.geometry.now.sound.sizes.nindir)
-
-pub are_zeros-requires-clause-index : goal.are_zeros-requires-clause-index
-are_zeros-requires-clause-index c = c.requires.words.0
-
-pub are_zeros-requires-in-loop-index-clause-block : goal.are_zeros-requires-in-loop-index-clause-block
-are_zeros-requires-in-loop-index-clause-block c = omega (arith, c.args.geometry.now.sound.sizes.nindir)
-
-pub are_zeros-requires-in-loop-index-clause-index : goal.are_zeros-requires-in-loop-index-clause-index
-are_zeros-requires-in-loop-index-clause-index c = c.loop-index.invariant.high
-
-pub are_zeros-requires-in-loop-index-then-are_zeros-clause-block :
-    goal.are_zeros-requires-in-loop-index-then-are_zeros-clause-block
-are_zeros-requires-in-loop-index-then-are_zeros-clause-block c = omega (arith, c.args.geometry.now.sound.sizes.nindir)
-
-pub are_zeros-requires-in-loop-index-then-are_zeros-clause-index :
-    goal.are_zeros-requires-in-loop-index-then-are_zeros-clause-index
-are_zeros-requires-in-loop-index-then-are_zeros-clause-index c = c.loop-index-then-are_zeros.invariant.high
-
-pub loop-j-preserved : goal.loop-j-preserved
-loop-j-preserved c = λ k low high. elim (cases_lt k c.loop-j.j) [
-  | inl less ↦ c.loop-j.invariant k low less
-  | inr more ↦ let same : k ≡ c.loop-j.j = omega arith in rw same (sym c.word.ensures ∙ c.if-word-ne0.false)
-]
-
-pub returns : goal.returns
-returns c = record {
-  within = (c.requires.words.0, omega arith);
-  zeros = λ k low high. c.loop-j.invariant k low (omega arith);
-  stops = λ h. absurd (omega arith);
-}

@@ -1,9 +1,7 @@
 use Rattle.std.proofs.Common.{rules, arith, ◌≡◌, ◌∙◌, ◌<◌, ap, refl, length, Some, None, slice_set}
 use Rattle.std.specs.Prelude.{get_or}
 use Rattle.std.proofs.lemmas.List.{get_or-set_same, length-set}
-use Rattle.std.proofs.lemmas.Result.{err_from_is_err_and}
-use Rattle.ffs_walk.specs.Windows.{held_address}
-use Rattle.ffs_walk.proofs.Splices.{held_without, held_with, three_parts}
+use Rattle.ffs_walk.proofs.Splices.{held_without, held_with}
 use Rattle.ffs_walk.proofs.blocks.Blocks.fill.Goals as goal
 
 pub returns-in_err-read_at-clause-leaves : goal.returns-in_err-read_at-clause-leaves
@@ -31,25 +29,6 @@ returns-clause-leaves g c = record {
   read = search rules;
 }
 
--- the block is held already
-pub returns-then-eq-clause-held : goal.returns-then-eq-clause-held
-returns-then-eq-clause-held g c =
-    let here : held_address c.args.level c.args.self.now ≡ Some c.args.address = search rules in
-    record {
-      address = here;
-      bytes = λ b tells. c.requires.ready.holds.block c.args.level c.requires.level c.args.address here b tells;
-    }
-
-pub returns-then-eq-clause-leaves : goal.returns-then-eq-clause-leaves
-returns-then-eq-clause-leaves g c = record {
-  kept = record { size = refl; holds = c.requires.ready.holds };
-  read = refl;
-}
-
-pub returns-in_err-read_at-clause-held : goal.returns-in_err-read_at-clause-held
-returns-in_err-read_at-clause-held g c =
-    let p = err_from_is_err_and c.from_residual.result c.from_residual.ensures.1 in rw p.1 tt
-
 pub returns-clause-held : goal.returns-clause-held
 returns-clause-held g c =
     let v = c.args.geometry.now.layout in
@@ -71,17 +50,3 @@ returns-clause-held g c =
       bytes = λ b tells. holds.block level c.requires.level c.args.address here b
           (ap (λ d. d.contents) c.in_ok-read_at.ensures.bytes.ok ∙ tells);
     }
-
-pub overflow_mul-start : goal.overflow_mul-start
-overflow_mul-start g c = omega (arith, three_parts c.args.geometry.now.layout.bsize c.args.level c.requires.level)
-
-pub overflow_add-start : goal.overflow_add-start
-overflow_add-start g c = omega (arith, three_parts c.args.geometry.now.layout.bsize c.args.level c.requires.level)
-
-pub slice_bounds-read_at-count : goal.slice_bounds-read_at-count
-slice_bounds-read_at-count g c = omega arith
-
-pub slice_bounds-read_at-end : goal.slice_bounds-read_at-end
-slice_bounds-read_at-end g c =
-    let parts = three_parts c.args.geometry.now.layout.bsize c.args.level c.requires.level in
-    omega (arith, parts, c.deref_mut.ensures.len, c.requires.ready.room.blocks_fit)

@@ -1,14 +1,13 @@
-use Rattle.std.proofs.Common.{arith, rules, ◌*◌, ◌+◌, ◌-◌, ◌∷◌, ◌++◌, [], ◌∙◌, List, Ok, ap, refl}
+use Rattle.std.proofs.Common.{arith, rules, ◌*◌, ◌+◌, ◌-◌, ◌∷◌, ◌++◌, [], ◌∙◌, List, ap, refl}
 use Rattle.ffs_volume.specs.declared.Step.{Step}
 use Rattle.ffs_volume.specs.Blocks.Steps.{steps_at}
 use Rattle.ffs_walk.specs.Frames.{frame_rest, frame_left, item_left}
 use Rattle.ffs_walk.specs.Rests.{steps_left, most_steps_left, most_at, file_blocks_of}
 use Rattle.ffs_walk.proofs.GapSteps.{in_first}
-use Rattle.ffs_walk.proofs.FrameSteps.{item_below, word_fits, kept_fits, words_fit, some_left, item_one, falls_by}
+use Rattle.ffs_walk.proofs.FrameSteps.{item_below, word_fits, kept_fits, words_fit, item_one, falls_by}
 use Rattle.ffs_walk.proofs.FrameSteps.{falls_in_double, falls_in_triple}
-use Rattle.ffs_walk.proofs.WalkSteps.{double_reported, triple_reported, one_some, square_some, some_words, no_step}
+use Rattle.ffs_walk.proofs.WalkSteps.{double_reported, triple_reported, square_some, some_words, no_step}
 use Rattle.ffs_walk.proofs.Counted.{single_reads, double_reads, triple_reads}
-use Rattle.std.proofs.lemmas.Result.{err_from_is_err_and}
 use Rattle.ffs_walk.proofs.walk.Walk.advance.Goals as goal
 
 pub step_in_double-requires-clause-below : goal.step_in_double-requires-clause-below
@@ -26,37 +25,6 @@ step_in_triple-requires-clause-below g c =
     (square_some w.geometry.layout.nindir (some_words w.geometry.layout w.geometry.sound)) w.triple_fits
     (rw c.from-words.ensures at c.in_ok-item-3.ensures.item.item)
 
-pub step_in_single-requires : goal.step_in_single-requires
-step_in_single-requires g c =
-    let w = c.args.self.now in
-    item_below w.geometry.layout w.logical_blocks 1 w.single c.in_ok-item.item (omega arith) w.single_fits
-    c.in_ok-item.ensures.item.item
-
-pub invariant_of-self : goal.invariant_of-self
-invariant_of-self g c =
-    let w = c.args.self.now in
-    record {
-      in_order = w.in_order;
-      in_array = w.in_array;
-      used_fits = w.used_fits;
-      last_some = w.last_some;
-      last_small = w.last_small;
-      blocks_small = w.blocks_small;
-      single_fits = kept_fits w.geometry.layout w.logical_blocks 1 w.single c.take.new.self
-          (c.if-is_left.ensures.left.0 refl)
-          c.take.ensures.same w.single_fits;
-      double_fits = w.double_fits;
-      triple_fits = w.triple_fits;
-    }
-
-pub returns-in_err-item-clause-over : goal.returns-in_err-item-clause-over
-returns-in_err-item-clause-over g c =
-    λ o. absurd (some_left c.args.self.now.single (c.if-is_left.ensures.left.0 refl) o.single)
-
-pub returns-then-is_left-clause-over : goal.returns-then-is_left-clause-over
-returns-then-is_left-clause-over g c =
-    λ o. absurd (some_left c.args.self.now.single (c.if-is_left.ensures.left.0 refl) o.single)
-
 pub invariant_of-self-then-is_left-2 : goal.invariant_of-self-then-is_left-2
 invariant_of-self-then-is_left-2 g c =
     let w = c.args.self.now in
@@ -73,14 +41,6 @@ invariant_of-self-then-is_left-2 g c =
           w.double_fits;
       triple_fits = w.triple_fits;
     }
-
-pub returns-in_err-item-2-clause-over : goal.returns-in_err-item-2-clause-over
-returns-in_err-item-2-clause-over g c =
-    λ o. absurd (some_left c.args.self.now.double (c.if-is_left-2.ensures.left.0 refl) o.double)
-
-pub returns-then-is_left-2-clause-over : goal.returns-then-is_left-2-clause-over
-returns-then-is_left-2-clause-over g c =
-    λ o. absurd (some_left c.args.self.now.double (c.if-is_left-2.ensures.left.0 refl) o.double)
 
 pub invariant_of-self-then-is_left-3 : goal.invariant_of-self-then-is_left-3
 invariant_of-self-then-is_left-3 g c =
@@ -100,57 +60,6 @@ invariant_of-self-then-is_left-3 g c =
           w.triple_fits;
     }
 
-pub returns-in_err-item-3-clause-over : goal.returns-in_err-item-3-clause-over
-returns-in_err-item-3-clause-over g c =
-    λ o. absurd (some_left c.args.self.now.triple (c.if-is_left-3.ensures.left.0 refl) o.triple)
-
-pub returns-then-is_left-3-clause-over : goal.returns-then-is_left-3-clause-over
-returns-then-is_left-3-clause-over g c =
-    λ o. absurd (some_left c.args.self.now.triple (c.if-is_left-3.ensures.left.0 refl) o.triple)
-
-pub returns-clause-over : goal.returns-clause-over
-returns-clause-over g c = λ o.
-    let none = c.step_at_top.ensures.over.0 o.top in
-    (ap (λ x. Ok x) none, c.step_at_top.ensures.none none)
-
-pub take-requires-clause-ready : goal.take-requires-clause-ready
-take-requires-clause-ready g c = c.requires
-
-pub take-requires-then-is_left-2-clause-ready : goal.take-requires-then-is_left-2-clause-ready
-take-requires-then-is_left-2-clause-ready g c = c.requires
-
-pub take-requires-then-is_left-3-clause-ready : goal.take-requires-then-is_left-3-clause-ready
-take-requires-then-is_left-3-clause-ready g c = c.requires
-
-pub step_in_double-requires-clause-spent : goal.step_in_double-requires-clause-spent
-step_in_double-requires-clause-spent g c = c.is_left.ensures.spent c.if-is_left.false
-
-pub step_in_triple-requires-clause-spent : goal.step_in_triple-requires-clause-spent
-step_in_triple-requires-clause-spent g c =
-    (c.is_left.ensures.spent c.if-is_left.false, c.is_left-2.ensures.spent c.if-is_left-2.false)
-
-pub step_at_top-requires : goal.step_at_top-requires
-step_at_top-requires g c = record {
-  single = c.is_left.ensures.spent c.if-is_left.false;
-  double = c.is_left-2.ensures.spent c.if-is_left-2.false;
-  triple = c.is_left-3.ensures.spent c.if-is_left-3.false;
-}
-
-pub take-requires-then-is_left-3-clause-item : goal.take-requires-then-is_left-3-clause-item
-take-requires-then-is_left-3-clause-item g c =
-    let w = c.args.self.now in
-    record {
-      left = c.if-is_left-3.ensures.left.0 refl;
-      in_range = c.args.self.now.triple_fits.in_range_there (c.if-is_left-3.ensures.left.0 refl);
-      words = words_fit w.geometry.layout w.logical_blocks
-          (w.geometry.layout.nindir * w.geometry.layout.nindir) w.triple
-          w.triple_fits;
-      small = rw c.from-words.ensures
-          (word_fits w.geometry.layout w.logical_blocks (w.geometry.layout.nindir * w.geometry.layout.nindir) w.triple
-          (square_some w.geometry.layout.nindir (some_words w.geometry.layout w.geometry.sound))
-          w.triple_fits w.blocks_small (c.if-is_left-3.ensures.left.0 refl));
-    }
-
 pub take-requires-then-is_left-2-clause-item : goal.take-requires-then-is_left-2-clause-item
 take-requires-then-is_left-2-clause-item g c =
     let w = c.args.self.now in
@@ -162,17 +71,6 @@ take-requires-then-is_left-2-clause-item g c =
           (word_fits w.geometry.layout w.logical_blocks w.geometry.layout.nindir w.double
           (some_words w.geometry.layout w.geometry.sound)
           w.double_fits w.blocks_small (c.if-is_left-2.ensures.left.0 refl));
-    }
-
-pub take-requires-clause-item : goal.take-requires-clause-item
-take-requires-clause-item g c =
-    let w = c.args.self.now in
-    record {
-      left = c.if-is_left.ensures.left.0 refl;
-      in_range = c.args.self.now.single_fits.in_range_there (c.if-is_left.ensures.left.0 refl);
-      words = words_fit w.geometry.layout w.logical_blocks 1 w.single w.single_fits;
-      small = word_fits w.geometry.layout w.logical_blocks 1 w.single one_some w.single_fits w.blocks_small
-          (c.if-is_left.ensures.left.0 refl);
     }
 
 pub returns-then-is_left-clause-step : goal.returns-then-is_left-clause-step
@@ -244,86 +142,6 @@ returns-clause-step g c = record {
   });
 }
 
-pub returns-in_err-item-clause-step : goal.returns-in_err-item-clause-step
-returns-in_err-item-clause-step g c =
-    let p = err_from_is_err_and c.from_residual.result c.from_residual.ensures.1 in rw p.1 tt
-
-pub returns-in_err-item-clause-same : goal.returns-in_err-item-clause-same
-returns-in_err-item-clause-same g c = record { geometry = refl; blocks = refl }
-
-pub returns-in_err-item-clause-leaves : goal.returns-in_err-item-clause-leaves
-returns-in_err-item-clause-leaves g c =
-    let went = c.in_err-item.ensures.leaves in
-    let p = err_from_is_err_and c.from_residual.result c.from_residual.ensures.1 in
-    rw (p.1, p.2) (record { kept = went.kept; read = went.read })
-
-pub returns-in_err-item-2-clause-step : goal.returns-in_err-item-2-clause-step
-returns-in_err-item-2-clause-step g c =
-    let p = err_from_is_err_and c.from_residual-in_err-item-2.result c.from_residual-in_err-item-2.ensures.1 in
-    rw p.1 tt
-
-pub returns-in_err-item-2-clause-same : goal.returns-in_err-item-2-clause-same
-returns-in_err-item-2-clause-same g c = record { geometry = refl; blocks = refl }
-
-pub returns-in_err-item-2-clause-leaves : goal.returns-in_err-item-2-clause-leaves
-returns-in_err-item-2-clause-leaves g c =
-    let went = c.in_err-item-2.ensures.leaves in
-    let p = err_from_is_err_and c.from_residual-in_err-item-2.result c.from_residual-in_err-item-2.ensures.1 in
-    rw (p.1, p.2) (record { kept = went.kept; read = went.read })
-
-pub returns-in_err-item-3-clause-step : goal.returns-in_err-item-3-clause-step
-returns-in_err-item-3-clause-step g c =
-    let p = err_from_is_err_and c.from_residual-in_err-item-3.result c.from_residual-in_err-item-3.ensures.1 in
-    rw p.1 tt
-
-pub returns-in_err-item-3-clause-same : goal.returns-in_err-item-3-clause-same
-returns-in_err-item-3-clause-same g c = record { geometry = refl; blocks = refl }
-
-pub returns-in_err-item-3-clause-leaves : goal.returns-in_err-item-3-clause-leaves
-returns-in_err-item-3-clause-leaves g c =
-    let went = c.in_err-item-3.ensures.leaves in
-    let p = err_from_is_err_and c.from_residual-in_err-item-3.result c.from_residual-in_err-item-3.ensures.1 in
-    rw (p.1, p.2) (record { kept = went.kept; read = went.read })
-
-pub returns-then-is_left-clause-same : goal.returns-then-is_left-clause-same
-returns-then-is_left-clause-same g c = record { geometry = refl; blocks = refl }
-
-pub returns-then-is_left-clause-leaves : goal.returns-then-is_left-clause-leaves
-returns-then-is_left-clause-leaves g c = record {
-  kept = c.in_ok-item.ensures.leaves.kept;
-  read = c.in_ok-item.ensures.leaves.read;
-}
-
-pub returns-then-is_left-2-clause-same : goal.returns-then-is_left-2-clause-same
-returns-then-is_left-2-clause-same g c = record {
-  geometry = c.step_in_double.ensures.same.geometry;
-  blocks = c.step_in_double.ensures.same.blocks;
-}
-
-pub returns-then-is_left-2-clause-leaves : goal.returns-then-is_left-2-clause-leaves
-returns-then-is_left-2-clause-leaves g c = record {
-  kept = c.in_ok-item-2.ensures.leaves.kept;
-  read = c.in_ok-item-2.ensures.leaves.read;
-}
-
-pub returns-then-is_left-3-clause-same : goal.returns-then-is_left-3-clause-same
-returns-then-is_left-3-clause-same g c = record {
-  geometry = c.step_in_triple.ensures.same.geometry;
-  blocks = c.step_in_triple.ensures.same.blocks;
-}
-
-pub returns-then-is_left-3-clause-leaves : goal.returns-then-is_left-3-clause-leaves
-returns-then-is_left-3-clause-leaves g c = record {
-  kept = c.in_ok-item-3.ensures.leaves.kept;
-  read = c.in_ok-item-3.ensures.leaves.read;
-}
-
-pub returns-clause-same : goal.returns-clause-same
-returns-clause-same g c = c.step_at_top.ensures.same
-
-pub returns-clause-leaves : goal.returns-clause-leaves
-returns-clause-leaves g c = record { kept = record { size = refl; holds = c.requires.holds }; read = refl }
-
 pub returns-then-is_left-clause-counted : goal.returns-then-is_left-clause-counted
 returns-then-is_left-clause-counted g c = λ h.
     let took = c.in_ok-item.ensures in
@@ -347,21 +165,3 @@ returns-clause-counted g c = λ h. record {
   paid = omega (arith, c.step_at_top.ensures.counted.unread);
   held = c.step_at_top.ensures.counted.held _ h;
 }
-
-pub returns-in_err-item-clause-counted : goal.returns-in_err-item-clause-counted
-returns-in_err-item-clause-counted g c = λ h.
-    let p = err_from_is_err_and c.from_residual.result c.from_residual.ensures.1 in
-    let most = c.in_err-item.ensures.counted h.single in
-    rw p.1 (record { most = omega (arith, most); paid = tt; held = tt })
-
-pub returns-in_err-item-2-clause-counted : goal.returns-in_err-item-2-clause-counted
-returns-in_err-item-2-clause-counted g c = λ h.
-    let p = err_from_is_err_and c.from_residual-in_err-item-2.result c.from_residual-in_err-item-2.ensures.1 in
-    let most = c.in_err-item-2.ensures.counted h.double in
-    rw p.1 (record { most = omega (arith, most); paid = tt; held = tt })
-
-pub returns-in_err-item-3-clause-counted : goal.returns-in_err-item-3-clause-counted
-returns-in_err-item-3-clause-counted g c = λ h.
-    let p = err_from_is_err_and c.from_residual-in_err-item-3.result c.from_residual-in_err-item-3.ensures.1 in
-    let most = c.in_err-item-3.ensures.counted h.triple in
-    rw p.1 (record { most = omega (arith, most); paid = tt; held = tt })

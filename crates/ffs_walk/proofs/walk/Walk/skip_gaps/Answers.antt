@@ -3,7 +3,6 @@ use Rattle.ffs_volume.specs.declared.Step.TheVariants.{Gap}
 use Rattle.ffs_volume.specs.Blocks.Steps.{steps_at}
 use Rattle.ffs_walk.specs.Rests.{file_blocks_of, most_at}
 use Rattle.ffs_walk.proofs.GapSteps.{in_first, in_second, in_third, zero_gap}
-use Rattle.ffs_walk.proofs.FrameSteps.{kept_fits, words_fit}
 use Rattle.ffs_walk.proofs.WalkSteps.{spent_rest}
 use Rattle.ffs_walk.proofs.Counted.{skips_single, skips_double, skips_triple}
 use Rattle.ffs_walk.proofs.walk.Walk.skip_gaps.Goals as goal
@@ -81,84 +80,6 @@ returns-then-is_left-3 c = record {
       };
   same = record { geometry = refl; blocks = refl };
   counted = skips_triple c.args.self.now _ c.skip_gaps-then-is_left-3.result c.skip_gaps-then-is_left-3.ensures.next c.skip_gaps-then-is_left-3.ensures.same.0 c.skip_gaps-then-is_left-3.ensures.same.1 refl refl;
-}
-
-pub skip_gaps-requires-clause-words : goal.skip_gaps-requires-clause-words
-skip_gaps-requires-clause-words c =
-    let w = c.args.self.now in words_fit w.geometry.layout _ 1 w.single w.single_fits
-
-pub skip_gaps-requires-clause-room : goal.skip_gaps-requires-clause-room
-skip_gaps-requires-clause-room c = c.requires.room
-
-pub invariant_of-self : goal.invariant_of-self
-invariant_of-self c =
-    let w = c.args.self.now in
-    record {
-      in_order = w.in_order;
-      in_array = w.in_array;
-      used_fits = w.used_fits;
-      last_some = w.last_some;
-      last_small = w.last_small;
-      blocks_small = w.blocks_small;
-      single_fits = kept_fits w.geometry.layout _ 1 w.single c.skip_gaps.new.self
-          (c.is_left.ensures.left.0 c.if-is_left.true) c.skip_gaps.ensures.same.0 w.single_fits;
-      double_fits = w.double_fits;
-      triple_fits = w.triple_fits;
-    }
-
-pub skip_gaps-requires-then-is_left-2-clause-words : goal.skip_gaps-requires-then-is_left-2-clause-words
-skip_gaps-requires-then-is_left-2-clause-words c =
-    let w = c.args.self.now in words_fit w.geometry.layout _ w.geometry.layout.nindir w.double w.double_fits
-
-pub skip_gaps-requires-then-is_left-2-clause-room : goal.skip_gaps-requires-then-is_left-2-clause-room
-skip_gaps-requires-then-is_left-2-clause-room c = c.requires.room
-
-pub invariant_of-self-then-is_left-2 : goal.invariant_of-self-then-is_left-2
-invariant_of-self-then-is_left-2 c =
-    let w = c.args.self.now in
-    record {
-      in_order = w.in_order;
-      in_array = w.in_array;
-      used_fits = w.used_fits;
-      last_some = w.last_some;
-      last_small = w.last_small;
-      blocks_small = w.blocks_small;
-      single_fits = w.single_fits;
-      double_fits = kept_fits w.geometry.layout _ w.geometry.layout.nindir w.double c.skip_gaps-then-is_left-2.new.self
-          (c.is_left-2.ensures.left.0 c.if-is_left-2.true) c.skip_gaps-then-is_left-2.ensures.same.0 w.double_fits;
-      triple_fits = w.triple_fits;
-    }
-
-pub skip_gaps-requires-then-is_left-3-clause-words : goal.skip_gaps-requires-then-is_left-3-clause-words
-skip_gaps-requires-then-is_left-3-clause-words c =
-    let w = c.args.self.now in
-    words_fit w.geometry.layout _ (w.geometry.layout.nindir * w.geometry.layout.nindir) w.triple w.triple_fits
-
-pub skip_gaps-requires-then-is_left-3-clause-room : goal.skip_gaps-requires-then-is_left-3-clause-room
-skip_gaps-requires-then-is_left-3-clause-room c = c.requires.room
-
-pub invariant_of-self-then-is_left-3 : goal.invariant_of-self-then-is_left-3
-invariant_of-self-then-is_left-3 c =
-    let w = c.args.self.now in
-    record {
-      in_order = w.in_order;
-      in_array = w.in_array;
-      used_fits = w.used_fits;
-      last_some = w.last_some;
-      last_small = w.last_small;
-      blocks_small = w.blocks_small;
-      single_fits = w.single_fits;
-      double_fits = w.double_fits;
-      triple_fits = kept_fits w.geometry.layout _ (w.geometry.layout.nindir * w.geometry.layout.nindir) w.triple
-          c.skip_gaps-then-is_left-3.new.self (c.is_left-3.ensures.left.0 c.if-is_left-3.true)
-          c.skip_gaps-then-is_left-3.ensures.same.0 w.triple_fits;
-    }
-
-pub skip_zero_addresses-requires : goal.skip_zero_addresses-requires
-skip_zero_addresses-requires c = record {
-  single = c.is_left.ensures.spent c.if-is_left.false;
-  double = c.is_left-2.ensures.spent c.if-is_left-2.false;
-  triple = c.is_left-3.ensures.spent c.if-is_left-3.false;
 }
 
 pub returns : goal.returns
