@@ -11,7 +11,7 @@ use std::alloc::{AllocError, Global};
 use std::test::Fail;
 
 /// The words of its group block that aren't 0, by their place.
-const BLOCK: [Number; 13] = [
+static BLOCK: [Number; 13] = [
     (4, 4, 0x00090255),
     (20, 4, 128),
     (24, 4, 1),
@@ -99,7 +99,7 @@ fn findings(summary: [u8; 4], wrong: Number, alloc: Global) -> Result<[bool; 4],
 }
 
 /// Summary records, words of the group block, and what is found.
-const CASES: [([u8; 4], Number, [bool; 4]); 6] = [
+static CASES: [([u8; 4], Number, [bool; 4]); 6] = [
     ([1, 22, 29, 6], (4, 4, 0x00090255), [true, true, true, true]),
     ([1, 22, 29, 6], (4, 4, 0), [false, true, true, true]),
     (
@@ -122,8 +122,8 @@ const CASES: [([u8; 4], Number, [bool; 4]); 6] = [
 
 #[test]
 fn findings_of_a_root(rt: HostRuntime) -> Result<(), Fail> {
-    for (summary, wrong, right) in CASES {
-        same(&rt, &findings(summary, wrong, rt.alloc())?, &right);
+    for (summary, wrong, right) in &CASES {
+        same(&rt, &findings(*summary, *wrong, rt.alloc())?, right);
     }
     Ok(())
 }

@@ -2,51 +2,66 @@
 
 use crate::compare::same;
 use ffs_image::MemoryImage;
-use ffs_layout::{Entry, Geometry, Group, Super, decode_inode, entry_at, read_super};
+use ffs_layout::{Entry, Geometry, Group, Super, decode_inode, entry_at, read_super, u32_at};
 use ffs_samples::{Number, ORDERS, base, put, put_bytes, put_super};
 use ffs_volume::{Order, SuperFault};
 use std::alloc::{AllocError, Global};
 use std::test::Fail;
+
+/// The bytes 01 02 03 04 after another one.
+#[test]
+fn words(rt: HostRuntime) {
+    let bytes = b"\xff\x01\x02\x03\x04";
+    same(&rt, &u32_at(Order::Little, 1, bytes), &0x0403_0201);
+    same(&rt, &u32_at(Order::Big, 1, bytes), &0x0102_0304);
+}
 
 fn fault(bytes: Vec<u8>, sector: Option<u32>) -> Option<SuperFault> {
     let mut image = MemoryImage::new(bytes);
     read_super(&mut image, sector).err()
 }
 
-/// The outcomes of an image with a wrong magic in its first superblock, of one that is cut, and of
-/// one whose copy differs.
-fn faults(order: Order, alloc: Global) -> Result<[Option<SuperFault>; 6], AllocError> {
-    let mut wrong = base(order, alloc)?;
-    put(order, wrong.as_mut_slice(), &[(8192 + 1372, 4, 0)]);
-    let mut cut = base(order, alloc)?;
-    cut.truncate(131071);
-    let mut differs = base(order, alloc)?;
-    put(order, differs.as_mut_slice(), &[(16384 + 40, 4, 94)]);
-    Ok([
-        fault(base(order, alloc)?, None),
-        fault(wrong.clone()?, None),
-        fault(wrong, Some(32)),
-        fault(cut, None),
-        fault(differs.clone()?, None),
-        fault(differs, Some(32)),
-    ])
+/// An image: a number that is put into the base image, how many of its bytes are left, and the
+/// sector that is asked for. Then why it is refused, if it is.
+type Superblock = (Number, usize, Option<u32>, Option<SuperFault>);
+
+/// The base image; one with a wrong magic in its first superblock; one that is cut; one whose copy
+/// differs.
+static SUPERBLOCKS: [Superblock; 6] = [
+    ((0, 1, 0), 131072, None, None),
+    ((8192 + 1372, 4, 0), 131072, None, Some(SuperFault::Magic)),
+    ((8192 + 1372, 4, 0), 131072, Some(32), None),
+    ((0, 1, 0), 131071, None, Some(SuperFault::Short)),
+    (
+        (16384 + 40, 4, 94),
+        131072,
+        None,
+        Some(SuperFault::Disagree),
+    ),
+    ((16384 + 40, 4, 94), 131072, Some(32), None),
+];
+
+/// Why the base image is refused with a number in it and so many of its bytes left.
+fn fault_with(
+    order: Order,
+    number: Number,
+    size: usize,
+    sector: Option<u32>,
+    alloc: Global,
+) -> Result<Option<SuperFault>, AllocError> {
+    let mut bytes = base(order, alloc)?;
+    put(order, bytes.as_mut_slice(), &[number]);
+    bytes.truncate(size);
+    Ok(fault(bytes, sector))
 }
 
 #[test]
 fn superblocks(rt: HostRuntime) -> Result<(), Fail> {
     for order in ORDERS {
-        same(
-            &rt,
-            &faults(order, rt.alloc())?,
-            &[
-                None,
-                Some(SuperFault::Magic),
-                None,
-                Some(SuperFault::Short),
-                Some(SuperFault::Disagree),
-                None,
-            ],
-        );
+        for &(number, size, sector, wanted) in &SUPERBLOCKS {
+            let found = fault_with(order, number, size, sector, rt.alloc())?;
+            same(&rt, &found, &wanted);
+        }
     }
     Ok(())
 }
@@ -90,15 +105,18 @@ fn found_with(
     Ok(read_super(&mut image, sector)?)
 }
 
+/// What is written for the optimization and for minfree, and whether one of them is a defect.
+static SETTINGS: [(u64, u64, bool); 5] = [
+    (0, 10, false),
+    (1, 99, false),
+    (2, 10, true),
+    (0xffff_ffff, 0, true),
+    (0, 100, true),
+];
+
 #[test]
 fn settings(rt: HostRuntime) -> Result<(), Fail> {
-    for (optim, minfree, defects) in [
-        (0, 10, false),
-        (1, 99, false),
-        (2, 10, true),
-        (0xffff_ffff, 0, true),
-        (0, 100, true),
-    ] {
+    for &(optim, minfree, defects) in &SETTINGS {
         let found = found_with(None, &[(128, optim), (60, minfree)], 131072, rt.alloc())?;
         same(&rt, &found.opening_defects(), &defects);
     }
@@ -109,7 +127,7 @@ fn settings(rt: HostRuntime) -> Result<(), Fail> {
 }
 
 /// Two groups, the second of them moved by four fragments.
-const TWO_GROUPS: [(usize, u64); 6] = [(36, 250), (40, 201), (44, 2), (24, 4), (28, 0), (176, 2)];
+static TWO_GROUPS: [(usize, u64); 6] = [(36, 250), (40, 201), (44, 2), (24, 4), (28, 0), (176, 2)];
 
 /// Where the areas of the second group begin, and the places of what is in it and of the root; none
 /// where there are not two groups of 32 inodes.
@@ -152,7 +170,7 @@ fn places(rt: HostRuntime) -> Result<(), Fail> {
 }
 
 /// Fragments of it, whether each is in range, and whether each is reserved.
-const AREAS: [(u64, bool, bool); 10] = [
+static AREAS: [(u64, bool, bool); 10] = [
     (0, true, true),
     (15, true, true),
     (16, false, true),
@@ -181,8 +199,8 @@ fn runs_in_range(geometry: &Geometry) -> [bool; 3] {
 #[test]
 fn areas(rt: HostRuntime) -> Result<(), Fail> {
     let geometry = found_with(Some(16), &TWO_GROUPS, 256000, rt.alloc())?.geometry;
-    for area in AREAS {
-        same(&rt, &area_of(&geometry, area.0), &area);
+    for area in &AREAS {
+        same(&rt, &area_of(&geometry, area.0), area);
     }
     same(&rt, &runs_in_range(&geometry), &[true, false, false]);
     Ok(())
@@ -190,7 +208,7 @@ fn areas(rt: HostRuntime) -> Result<(), Fail> {
 
 /// The inode of a directory of 4,402,345,721,856 bytes, with numbers below 0 and an address in the
 /// last place.
-const INODE: [Number; 8] = [
+static INODE: [Number; 8] = [
     (0, 2, 0o40755),
     (2, 2, 0xfffe),
     (8, 8, 4402345721856),
@@ -227,7 +245,7 @@ fn inodes(rt: HostRuntime) -> Result<(), Fail> {
 }
 
 /// A group block: the words that aren't 0.
-const GROUP: [Number; 10] = [
+static GROUP: [Number; 10] = [
     (4, 4, 0x090255),
     (12, 4, 7),
     (20, 4, 0xffff_ff80),
@@ -263,14 +281,14 @@ fn groups(rt: HostRuntime) -> Result<(), Fail> {
     Ok(())
 }
 
+/// The numbers and the lengths of the two entries of a root.
+static DOTS: [Number; 4] = [(0, 4, 2), (4, 2, 12), (12, 4, 2), (16, 2, 500)];
+
 /// The chunk of a root: `.` of 12 bytes, then `..` that fills the chunk.
 fn root(order: Order) -> [u8; 512] {
     let mut chunk = [0u8; 512];
-    put(order, &mut chunk, &[(0, 4, 2)]);
-    put(order, &mut chunk, &[(4, 2, 12)]);
+    put(order, &mut chunk, &DOTS);
     put_bytes(&mut chunk, 6, b"\x04\x01.");
-    put(order, &mut chunk, &[(12, 4, 2)]);
-    put(order, &mut chunk, &[(16, 2, 500)]);
     put_bytes(&mut chunk, 18, b"\x04\x02..");
     chunk
 }
@@ -308,11 +326,17 @@ fn stands_elsewhere(chunk: &[u8; 512], order: Order) -> [bool; 3] {
 /// Whether there is an entry at byte 500 whose name, with its length before it, is this.
 fn stands_last(chunk: &[u8; 512], order: Order, name: &[u8]) -> bool {
     let mut last = *chunk;
-    put(order, &mut last, &[(500, 4, 5)]);
-    put(order, &mut last, &[(504, 2, 12)]);
+    put(order, &mut last, &[(500, 4, 5), (504, 2, 12)]);
     put_bytes(&mut last, 507, name);
     entry_at(order, &last, 500).is_some()
 }
+
+/// Names with their lengths before them, and whether an entry stands there.
+static NAMES: [(&[u8; 5], bool); 3] = [
+    (b"\x03abc\0", true),
+    (b"\x03a/b\0", false),
+    (b"\x03abc\x01", false),
+];
 
 #[test]
 fn entries(rt: HostRuntime) -> Result<(), Fail> {
@@ -320,11 +344,7 @@ fn entries(rt: HostRuntime) -> Result<(), Fail> {
         let chunk = root(order);
         same(&rt, &are_dots(&chunk, order), &[true; 2]);
         same(&rt, &stands_elsewhere(&chunk, order), &[false; 3]);
-        for (name, stands) in [
-            (b"\x03abc\0", true),
-            (b"\x03a/b\0", false),
-            (b"\x03abc\x01", false),
-        ] {
+        for &(name, stands) in &NAMES {
             same(&rt, &stands_last(&chunk, order, name), &stands);
         }
     }

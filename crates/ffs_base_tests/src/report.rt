@@ -71,7 +71,7 @@ fn say_all(rt: &(impl Abort + AllocGlobal), cases: &[Said]) {
 }
 
 /// Lines about a superblock before the phases, whether each is a defect, and its bytes.
-const OPENING: [Said; 9] = [
+static OPENING: [Said; 9] = [
     (
         Line::Location { sector: 4194303 },
         false,
@@ -125,49 +125,66 @@ fn says_the_opening(rt: HostRuntime) {
 }
 
 /// Why a superblock is refused, and the bytes of that line.
-const REFUSALS: [(SuperFault, &[u8]); 10] = [
+static REFUSALS: [Said; 10] = [
     (
-        SuperFault::CannotRead { sector: 16 },
+        Line::BadSuper(SuperFault::CannotRead { sector: 16 }),
+        false,
         b"CAN NOT READ: BLK 16\n",
     ),
-    (SuperFault::Magic, b"BAD SUPER BLOCK: MAGIC NUMBER WRONG\n"),
     (
-        SuperFault::InodeFormat,
+        Line::BadSuper(SuperFault::Magic),
+        false,
+        b"BAD SUPER BLOCK: MAGIC NUMBER WRONG\n",
+    ),
+    (
+        Line::BadSuper(SuperFault::InodeFormat),
+        false,
         b"BAD SUPER BLOCK: INODE FORMAT NOT SUPPORTED\n",
     ),
-    (SuperFault::Ncg, b"BAD SUPER BLOCK: NCG OUT OF RANGE\n"),
-    (SuperFault::Cpg, b"BAD SUPER BLOCK: CPG OUT OF RANGE\n"),
     (
-        SuperFault::Ncyl,
+        Line::BadSuper(SuperFault::Ncg),
+        false,
+        b"BAD SUPER BLOCK: NCG OUT OF RANGE\n",
+    ),
+    (
+        Line::BadSuper(SuperFault::Cpg),
+        false,
+        b"BAD SUPER BLOCK: CPG OUT OF RANGE\n",
+    ),
+    (
+        Line::BadSuper(SuperFault::Ncyl),
+        false,
         b"BAD SUPER BLOCK: NCYL DOES NOT JIVE WITH NCG*CPG\n",
     ),
     (
-        SuperFault::TooLarge,
+        Line::BadSuper(SuperFault::TooLarge),
+        false,
         b"BAD SUPER BLOCK: SIZE PREPOSTEROUSLY LARGE\n",
     ),
     (
-        SuperFault::Shape,
+        Line::BadSuper(SuperFault::Shape),
+        false,
         b"BAD SUPER BLOCK: GEOMETRY OUT OF RANGE\n",
     ),
     (
-        SuperFault::Short,
+        Line::BadSuper(SuperFault::Short),
+        false,
         b"BAD SUPER BLOCK: SIZE LARGER THAN IMAGE\n",
     ),
     (
-        SuperFault::Disagree,
+        Line::BadSuper(SuperFault::Disagree),
+        false,
         b"BAD SUPER BLOCK: VALUES DISAGREE WITH LAST ALTERNATE\n",
     ),
 ];
 
 #[test]
 fn says_why_a_superblock_is_refused(rt: HostRuntime) {
-    for (fault, text) in REFUSALS {
-        says(&rt, &Line::BadSuper(fault), false, text);
-    }
+    say_all(&rt, &REFUSALS);
 }
 
 /// Headings and summaries, which are no defects.
-const HEADINGS: [Said; 9] = [
+static HEADINGS: [Said; 9] = [
     (
         Line::Heading(Heading::Phase1),
         false,
@@ -242,91 +259,103 @@ fn says_headings_and_the_summary(rt: HostRuntime) {
 }
 
 /// What is reported of blocks and of groups, and its bytes.
-const BLOCKS: [(BlockMessage, &[u8]); 14] = [
+static BLOCKS: [Said; 14] = [
     (
-        BlockMessage::PartAlloc { inode: 3 },
+        Line::Block(BlockMessage::PartAlloc { inode: 3 }),
+        true,
         b"PARTIALLY ALLOCATED INODE I=3\nCLEAR? no\n\n",
     ),
     (
-        BlockMessage::UnknownType { inode: 4 },
+        Line::Block(BlockMessage::UnknownType { inode: 4 }),
+        true,
         b"UNKNOWN FILE TYPE I=4\nCLEAR? no\n\n",
     ),
     (
-        BlockMessage::Bad {
+        Line::Block(BlockMessage::Bad {
             fragment: 4294967295,
             inode: 4,
-        },
+        }),
+        true,
         b"4294967295 BAD I=4\n",
     ),
     (
-        BlockMessage::Dup {
+        Line::Block(BlockMessage::Dup {
             fragment: 40,
             inode: 3,
-        },
+        }),
+        true,
         b"40 DUP I=3\n",
     ),
     (
-        BlockMessage::Dup {
+        Line::Block(BlockMessage::Dup {
             fragment: 1,
             inode: 4294967295,
-        },
+        }),
+        true,
         b"1 DUP I=4294967295\n",
     ),
     (
-        BlockMessage::Dup {
+        Line::Block(BlockMessage::Dup {
             fragment: 123,
             inode: 12345678,
-        },
+        }),
+        true,
         b"123 DUP I=12345678\n",
     ),
     (
-        BlockMessage::ManyBad { inode: 3 },
+        Line::Block(BlockMessage::ManyBad { inode: 3 }),
+        true,
         b"EXCESSIVE BAD BLKS I=3\nCONTINUE? yes\n\n",
     ),
     (
-        BlockMessage::ManyDup { inode: 3 },
+        Line::Block(BlockMessage::ManyDup { inode: 3 }),
+        true,
         b"EXCESSIVE DUP BLKS I=3\nCONTINUE? yes\n\n",
     ),
     (
-        BlockMessage::PartTrunc { inode: 3 },
+        Line::Block(BlockMessage::PartTrunc { inode: 3 }),
+        true,
         b"PARTIALLY TRUNCATED INODE I=3\nSALVAGE? no\n\n",
     ),
     (
-        BlockMessage::BlockCount {
+        Line::Block(BlockMessage::BlockCount {
             inode: 3,
             found: 2,
             right: 8,
-        },
+        }),
+        true,
         b"INCORRECT BLOCK COUNT I=3 (2 should be 8)\nCORRECT? no\n\n",
     ),
     (
-        BlockMessage::GroupMagic { group: 1 },
+        Line::Block(BlockMessage::GroupMagic { group: 1 }),
+        true,
         b"CG 1: BAD MAGIC NUMBER\n",
     ),
     (
-        BlockMessage::FreeCounts,
+        Line::Block(BlockMessage::FreeCounts),
+        true,
         b"FREE BLK COUNT(S) WRONG IN SUPERBLK\nSALVAGE? no\n\n",
     ),
     (
-        BlockMessage::MapsWrong,
+        Line::Block(BlockMessage::MapsWrong),
+        true,
         b"BLK(S) MISSING IN BIT MAPS\nSALVAGE? no\n\n",
     ),
     (
-        BlockMessage::GroupSums,
+        Line::Block(BlockMessage::GroupSums),
+        true,
         b"SUMMARY INFORMATION BAD\nSALVAGE? no\n\n",
     ),
 ];
 
 #[test]
 fn reports_blocks(rt: HostRuntime) {
-    for (message, text) in BLOCKS {
-        says(&rt, &Line::Block(message), true, text);
-    }
+    say_all(&rt, &BLOCKS);
 }
 
 /// The duplicates whose lines are those of `DUPLICATES`, before its line of another kind and after
 /// it: a fragment, an inode.
-const BEFORE: [(u32, u32); 7] = [
+static BEFORE: [(u32, u32); 7] = [
     (0, 0),
     (1, 0),
     (12, 4294967295),
@@ -336,7 +365,7 @@ const BEFORE: [(u32, u32); 7] = [
     (1234, 2),
 ];
 
-const AFTER: [(u32, u32); 10] = [
+static AFTER: [(u32, u32); 10] = [
     (1234, 3),
     (12345, 34),
     (123456, 345),
@@ -382,264 +411,288 @@ fn reports_duplicates_of_inodes_in_turn(rt: HostRuntime) {
 }
 
 /// What is reported of a directory as a whole, and its bytes.
-const DIRECTORIES: [(DirectoryLine<'static>, &[u8]); 7] = [
+static DIRECTORIES: [Said; 7] = [
     (
-        DirectoryLine::RootNone,
+        Line::Directory(DirectoryLine::RootNone),
+        true,
         b"ROOT INODE UNALLOCATED\nALLOCATE? no\n\n",
     ),
     (
-        DirectoryLine::RootNotDir,
+        Line::Directory(DirectoryLine::RootNotDir),
+        true,
         b"ROOT INODE NOT DIRECTORY\nREALLOCATE? no\n\nFIX? no\n\n",
     ),
     (
-        DirectoryLine::RootSuspect,
+        Line::Directory(DirectoryLine::RootSuspect),
+        true,
         b"DUPS/BAD IN ROOT INODE\nREALLOCATE? no\n\nCONTINUE? yes\n\n",
     ),
     (
-        DirectoryLine::DirShort {
+        Line::Directory(DirectoryLine::DirShort {
             attr: ATTR,
             path: b"/d\n",
-        },
+        }),
+        true,
         b"DIRECTORY TOO SHORT I=7 OWNER=1001 MODE=40755\nSIZE=512 MTIME=86400\nDIR=/d?\nFIX? no\n\n",
     ),
     (
-        DirectoryLine::DirLength {
+        Line::Directory(DirectoryLine::DirLength {
             path: b"/d\n",
             size: 513,
-        },
+        }),
+        true,
         b"DIRECTORY /d?: LENGTH 513 NOT MULTIPLE OF 512\nADJUST? no\n\n",
     ),
     (
-        DirectoryLine::DirEmpty { path: b"/d\n" },
+        Line::Directory(DirectoryLine::DirEmpty { path: b"/d\n" }),
+        true,
         b"DIRECTORY /d?: CONTAINS EMPTY BLOCKS\nADJUST LENGTH? no\n\n",
     ),
     (
-        DirectoryLine::DirCorrupt {
+        Line::Directory(DirectoryLine::DirCorrupt {
             attr: ATTR,
             path: b"/d\n",
-        },
+        }),
+        true,
         b"DIRECTORY CORRUPTED I=7 OWNER=1001 MODE=40755\nSIZE=512 MTIME=86400\nDIR=/d?\nSALVAGE? no\n\n",
     ),
 ];
 
 #[test]
 fn reports_directories(rt: HostRuntime) {
-    for (line, text) in DIRECTORIES {
-        says(&rt, &Line::Directory(line), true, text);
-    }
+    say_all(&rt, &DIRECTORIES);
 }
 
 /// What is reported of the first two entries of a directory, and its bytes.
-const DOTS: [(DotLine<'static>, &[u8]); 10] = [
+static DOTS: [Said; 10] = [
     (
-        DotLine::MissingDot {
+        Line::Dot(DotLine::MissingDot {
             attr: ATTR,
             path: b"/d",
-        },
+        }),
+        true,
         b"MISSING '.' I=7 OWNER=1001 MODE=40755\nSIZE=512 MTIME=86400\nDIR=/d\nFIX? no\n\n",
     ),
     (
-        DotLine::MissingDotFirst {
+        Line::Dot(DotLine::MissingDotFirst {
             attr: ATTR,
             path: b"/d",
             name: b"x\x00",
-        },
+        }),
+        true,
         b"MISSING '.' I=7 OWNER=1001 MODE=40755\nSIZE=512 MTIME=86400\nDIR=/d\nCANNOT FIX, FIRST ENTRY IN DIRECTORY CONTAINS x?\n",
     ),
     (
-        DotLine::NumberDot {
+        Line::Dot(DotLine::NumberDot {
             attr: ATTR,
             path: b"/d",
-        },
+        }),
+        true,
         b"BAD INODE NUMBER FOR '.' I=7 OWNER=1001 MODE=40755\nSIZE=512 MTIME=86400\nDIR=/d\nFIX? no\n\n",
     ),
     (
-        DotLine::KindDot {
+        Line::Dot(DotLine::KindDot {
             attr: ATTR,
             path: b"/d",
-        },
+        }),
+        true,
         b"BAD TYPE VALUE FOR '.' I=7 OWNER=1001 MODE=40755\nSIZE=512 MTIME=86400\nDIR=/d\nFIX? no\n\n",
     ),
     (
-        DotLine::MissingDotdot {
+        Line::Dot(DotLine::MissingDotdot {
             attr: ATTR,
             path: b"/d",
-        },
+        }),
+        true,
         b"MISSING '..' I=7 OWNER=1001 MODE=40755\nSIZE=512 MTIME=86400\nDIR=/d\nFIX? no\n\n",
     ),
     (
-        DotLine::MissingDotdotSecond {
+        Line::Dot(DotLine::MissingDotdotSecond {
             attr: ATTR,
             path: b"/d",
             name: b"x\x00",
-        },
+        }),
+        true,
         b"MISSING '..' I=7 OWNER=1001 MODE=40755\nSIZE=512 MTIME=86400\nDIR=/d\nCANNOT FIX, SECOND ENTRY IN DIRECTORY CONTAINS x?\n",
     ),
     (
-        DotLine::NumberDotdot {
+        Line::Dot(DotLine::NumberDotdot {
             attr: ATTR,
             path: b"/d",
-        },
+        }),
+        true,
         b"BAD INODE NUMBER FOR '..' I=7 OWNER=1001 MODE=40755\nSIZE=512 MTIME=86400\nDIR=/d\nFIX? no\n\n",
     ),
     (
-        DotLine::KindDotdot {
+        Line::Dot(DotLine::KindDotdot {
             attr: ATTR,
             path: b"/d",
-        },
+        }),
+        true,
         b"BAD TYPE VALUE FOR '..' I=7 OWNER=1001 MODE=40755\nSIZE=512 MTIME=86400\nDIR=/d\nFIX? no\n\n",
     ),
     (
-        DotLine::ExtraDot {
+        Line::Dot(DotLine::ExtraDot {
             attr: ATTR,
             path: b"/d",
-        },
+        }),
+        true,
         b"EXTRA '.' ENTRY I=7 OWNER=1001 MODE=40755\nSIZE=512 MTIME=86400\nDIR=/d\nFIX? no\n\n",
     ),
     (
-        DotLine::ExtraDotdot {
+        Line::Dot(DotLine::ExtraDotdot {
             attr: ATTR,
             path: b"/d",
-        },
+        }),
+        true,
         b"EXTRA '..' ENTRY I=7 OWNER=1001 MODE=40755\nSIZE=512 MTIME=86400\nDIR=/d\nFIX? no\n\n",
     ),
 ];
 
 #[test]
 fn reports_dots(rt: HostRuntime) {
-    for (line, text) in DOTS {
-        says(&rt, &Line::Dot(line), true, text);
-    }
+    say_all(&rt, &DOTS);
 }
 
 /// What is reported of another entry, and its bytes.
-const ENTRIES: [(EntryLine<'static>, &[u8]); 9] = [
+static ENTRIES: [Said; 9] = [
     (
-        EntryLine::OutOfRange {
+        Line::Entry(EntryLine::OutOfRange {
             number: 32,
             path: b"/d/\x0b",
-        },
+        }),
+        true,
         b"I OUT OF RANGE I=32\nNAME=/d/?\nREMOVE? no\n\n",
     ),
     (
-        EntryLine::Whiteout {
+        Line::Entry(EntryLine::Whiteout {
             number: 1,
             path: b"/d/\x0b",
-        },
+        }),
+        true,
         b"BAD WHITEOUT ENTRY I=1\nNAME=/d/?\nFIX? no\n\n",
     ),
     (
-        EntryLine::Unallocated {
+        Line::Entry(EntryLine::Unallocated {
             attr: FREE,
             path: b"/d/\x0b",
-        },
+        }),
+        true,
         b"UNALLOCATED I=4294967295 OWNER=0 MODE=0\nSIZE=0 MTIME=0\nNAME=/d/?\nREMOVE? no\n\n",
     ),
     (
-        EntryLine::DupBad {
+        Line::Entry(EntryLine::DupBad {
             label: Label::Dir,
             attr: ATTR,
             path: b"/d/\x0b",
-        },
+        }),
+        true,
         b"DUP/BAD I=7 OWNER=1001 MODE=40755\nSIZE=512 MTIME=86400\nDIR=/d/?\nREMOVE? no\n\n",
     ),
     (
-        EntryLine::DupBad {
+        Line::Entry(EntryLine::DupBad {
             label: Label::File,
             attr: ATTR,
             path: b"/d/\x0b",
-        },
+        }),
+        true,
         b"DUP/BAD I=7 OWNER=1001 MODE=40755\nSIZE=512 MTIME=86400\nFILE=/d/?\nREMOVE? no\n\n",
     ),
     (
-        EntryLine::DupBad {
+        Line::Entry(EntryLine::DupBad {
             label: Label::Name,
             attr: ATTR,
             path: b"/d/\x0b",
-        },
+        }),
+        true,
         b"DUP/BAD I=7 OWNER=1001 MODE=40755\nSIZE=512 MTIME=86400\nNAME=/d/?\nREMOVE? no\n\n",
     ),
     (
-        EntryLine::ZeroDir {
+        Line::Entry(EntryLine::ZeroDir {
             attr: ATTR,
             path: b"/d/\x0b",
-        },
+        }),
+        true,
         b"ZERO LENGTH DIRECTORY I=7 OWNER=1001 MODE=40755\nSIZE=512 MTIME=86400\nDIR=/d/?\nREMOVE? no\n\n",
     ),
     (
-        EntryLine::Extraneous {
+        Line::Entry(EntryLine::Extraneous {
             path: b"/d/\x0b",
             dir: b"?\x0c",
-        },
+        }),
+        true,
         b"/d/? IS AN EXTRANEOUS HARD LINK TO DIRECTORY ??\nREMOVE? no\n\n",
     ),
     (
-        EntryLine::KindEntry {
+        Line::Entry(EntryLine::KindEntry {
             label: Label::Name,
             attr: ATTR,
             path: b"/d/\x0b",
-        },
+        }),
+        true,
         b"BAD TYPE VALUE I=7 OWNER=1001 MODE=40755\nSIZE=512 MTIME=86400\nNAME=/d/?\nFIX? no\n\n",
     ),
 ];
 
 #[test]
 fn reports_entries(rt: HostRuntime) {
-    for (line, text) in ENTRIES {
-        says(&rt, &Line::Entry(line), true, text);
-    }
+    say_all(&rt, &ENTRIES);
 }
 
 /// What is reported of the references of an inode, and its bytes.
-const REFERENCES: [(ReferenceLine, &[u8]); 7] = [
+static REFERENCES: [Said; 7] = [
     (
-        ReferenceLine::UnrefDir { attr: ATTR },
+        Line::Reference(ReferenceLine::UnrefDir { attr: ATTR }),
+        true,
         b"UNREF DIR I=7 OWNER=1001 MODE=40755\nSIZE=512 MTIME=86400\nRECONNECT? no\n\n",
     ),
     (
-        ReferenceLine::DeadMarked {
+        Line::Reference(ReferenceLine::DeadMarked {
             label: Label::Dir,
             attr: ATTR,
-        },
+        }),
+        true,
         b"BAD/DUP DIR I=7 OWNER=1001 MODE=40755\nSIZE=512 MTIME=86400\nCLEAR? no\n\n",
     ),
     (
-        ReferenceLine::DeadZero { attr: ATTR },
+        Line::Reference(ReferenceLine::DeadZero { attr: ATTR }),
+        true,
         b"ZERO LENGTH DIR I=7 OWNER=1001 MODE=40755\nSIZE=512 MTIME=86400\nCLEAR? no\n\n",
     ),
-    (UNREF, UNREF_TEXT),
+    (Line::Reference(UNREF), true, UNREF_TEXT),
     (
-        ReferenceLine::UnrefZero {
+        Line::Reference(ReferenceLine::UnrefZero {
             label: Label::Name,
             attr: FREE,
-        },
+        }),
+        true,
         b"UNREF FILE I=4294967295 OWNER=0 MODE=0\nSIZE=0 MTIME=0\nCLEAR? no\n\n",
     ),
     (
-        ReferenceLine::LinkCount {
+        Line::Reference(ReferenceLine::LinkCount {
             label: Label::Name,
             attr: ATTR,
             count: -32768,
             right: 18446744073709551615,
-        },
+        }),
+        true,
         b"LINK COUNT FILE I=7 OWNER=1001 MODE=40755\nSIZE=512 MTIME=86400\nCOUNT=-32768 SHOULD BE 18446744073709551615\nADJUST? no\n\n",
     ),
     (
-        ReferenceLine::LinkCount {
+        Line::Reference(ReferenceLine::LinkCount {
             label: Label::Dir,
             attr: ATTR,
             count: 3,
             right: 2,
-        },
+        }),
+        true,
         b"LINK COUNT DIR I=7 OWNER=1001 MODE=40755\nSIZE=512 MTIME=86400\nCOUNT=3 SHOULD BE 2\nADJUST? no\n\n",
     ),
 ];
 
 #[test]
 fn reports_references(rt: HostRuntime) {
-    for (line, text) in REFERENCES {
-        says(&rt, &Line::Reference(line), true, text);
-    }
+    say_all(&rt, &REFERENCES);
 }
 
 /// Whether each of two calls is refused and no defect was said, how many writes failed, and what

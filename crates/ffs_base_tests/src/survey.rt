@@ -16,7 +16,7 @@ use std::test::Fail;
 /// Four entries for each of eight inodes. It reports nothing of an image.
 #[derive(Drop)]
 struct Listed {
-    entries: [[EntryHead; 4]; 8],
+    entries: &'static [[EntryHead; 4]; 8],
     dir: usize,
     place: usize,
 }
@@ -76,55 +76,57 @@ impl Directories for Listed {
     }
 }
 
-fn entry(role: Role, number: u32) -> EntryHead {
-    EntryHead {
-        role,
-        number,
-        length: 12,
-        kind: 4,
-    }
+macro_rules! entry {
+    ($role:expr, $number:expr) => {
+        EntryHead {
+            role: $role,
+            number: $number,
+            length: 12,
+            kind: 4,
+        }
+    };
 }
 
-fn small_volume() -> Listed {
-    let none = [entry(Role::Empty, 0); 4];
-    let root = [
-        entry(Role::Dot, 2),
-        entry(Role::Dotdot, 2),
-        entry(Role::Plain, 3),
-        entry(Role::Empty, 0),
-    ];
-    let below = [
-        entry(Role::Dot, 3),
-        entry(Role::Dotdot, 2),
-        entry(Role::Plain, 4),
-        entry(Role::Extra, 2),
-    ];
-    let one = [
-        entry(Role::Dot, 5),
-        entry(Role::Dotdot, 6),
-        entry(Role::Plain, 6),
-        entry(Role::Empty, 0),
-    ];
-    let other = [
-        entry(Role::Dot, 6),
-        entry(Role::Dotdot, 5),
-        entry(Role::Plain, 5),
-        entry(Role::Empty, 0),
-    ];
-    Listed {
-        entries: [none, none, root, below, none, one, other, none],
-        dir: 0,
-        place: 0,
-    }
-}
+const NONE: [EntryHead; 4] = [entry!(Role::Empty, 0); 4];
 
-const KINDS: [u8; 8] = [0, 0, 4, 4, 8, 4, 4, 8];
+static ENTRIES: [[EntryHead; 4]; 8] = [
+    NONE,
+    NONE,
+    [
+        entry!(Role::Dot, 2),
+        entry!(Role::Dotdot, 2),
+        entry!(Role::Plain, 3),
+        entry!(Role::Empty, 0),
+    ],
+    [
+        entry!(Role::Dot, 3),
+        entry!(Role::Dotdot, 2),
+        entry!(Role::Plain, 4),
+        entry!(Role::Extra, 2),
+    ],
+    NONE,
+    [
+        entry!(Role::Dot, 5),
+        entry!(Role::Dotdot, 6),
+        entry!(Role::Plain, 6),
+        entry!(Role::Empty, 0),
+    ],
+    [
+        entry!(Role::Dot, 6),
+        entry!(Role::Dotdot, 5),
+        entry!(Role::Plain, 5),
+        entry!(Role::Empty, 0),
+    ],
+    NONE,
+];
 
-const PARENTS: [u32; 8] = [0, 0, 2, 2, 0, 6, 5, 0];
+static KINDS: [u8; 8] = [0, 0, 4, 4, 8, 4, 4, 8];
 
-const NAMED: [bool; 8] = [false, false, false, true, true, true, true, false];
+static PARENTS: [u32; 8] = [0, 0, 2, 2, 0, 6, 5, 0];
 
-const REACHED: [bool; 8] = [false, false, true, true, false, false, false, false];
+static NAMED: [bool; 8] = [false, false, false, true, true, true, true, false];
+
+static REACHED: [bool; 8] = [false, false, true, true, false, false, false, false];
 
 /// Where counts start that continue from what the list holds, at most 32769.
 fn starts(alloc: Global) -> Result<FilledList<u64>, AllocError>
@@ -170,8 +172,13 @@ fn left_by_survey(alloc: Global) -> Result<Left, Fail> {
     let mut parents = numbers(&[7; 8], alloc)?;
     let mut calm = [true; 8];
     let mut queue = numbers(&[7; 8], alloc)?;
+    let mut listed = Listed {
+        entries: &ENTRIES,
+        dir: 0,
+        place: 0,
+    };
     survey(
-        &mut small_volume(),
+        &mut listed,
         &KINDS,
         &[false; 8],
         &mut references,

@@ -15,21 +15,41 @@ use std::process::Abort;
 use std::test::Fail;
 
 /// The run of a data block.
-fn data(start: u32, len: u32, block: u64) -> Step {
-    Step::Run {
-        start,
-        len,
-        block: Some(block),
-    }
+macro_rules! data {
+    ($start:expr, $len:expr, $block:expr) => {
+        Step::Run {
+            start: $start,
+            len: $len,
+            block: Some($block),
+        }
+    };
 }
 
 /// The run of an indirect block.
-fn indirect(start: u32) -> Step {
-    Step::Run {
-        start,
-        len: 4,
-        block: None,
+macro_rules! indirect {
+    ($start:expr) => {
+        Step::Run {
+            start: $start,
+            len: 4,
+            block: None,
+        }
+    };
+}
+
+/// A word of a block, by the block's address and the word's index.
+macro_rules! word {
+    ($address:expr, $index:expr, $number:expr) => {
+        (1024 * $address + 4 * $index, 4, $number)
+    };
+}
+
+/// An inode with these addresses first.
+fn inode_with(mode: u16, size: u64, addresses: &[u32]) -> Inode {
+    let mut found = inode(mode, size);
+    for (place, address) in found.addresses.iter_mut().zip(addresses) {
+        *place = *address;
     }
+    found
 }
 
 /// Blocks that hold nothing.
@@ -70,15 +90,6 @@ fn steps<I: Image>(
     Ok(found)
 }
 
-/// A word of a block, by the block's address and the word's index.
-fn word(address: u16, index: u16, number: u64) -> Number {
-    (
-        1024 * usize::from(address) + 4 * usize::from(index),
-        4,
-        number,
-    )
-}
-
 /// The same of the small volume with these words, and how many reads the walk makes, and how many
 /// of them aren't of a whole block that may hold data.
 fn walked(
@@ -110,54 +121,60 @@ fn walks(
     Ok(())
 }
 
+static ROOT_STEPS: [Step; 1] = [data!(36, 1, 0)];
+
+static FILE_STEPS: [Step; 2] = [data!(40, 4, 0), data!(44, 1, 1)];
+
 #[test]
 fn direct_blocks(rt: HostRuntime) -> Result<(), Fail> {
-    let mut root = inode(0o40755, 512);
-    root.addresses[0] = 36;
-    let mut file = inode(0o100644, 4097);
-    file.addresses[0] = 40;
-    file.addresses[1] = 44;
-    let steps = [data(40, 4, 0), data(44, 1, 1)];
-    walks(&rt, &[], &root, &[data(36, 1, 0)], (0, [0, 0]))?;
-    walks(&rt, &[], &file, &steps, (0, [0, 0]))
+    let root = inode_with(0o40755, 512, &[36]);
+    walks(&rt, &[], &root, &ROOT_STEPS, (0, [0, 0]))?;
+    let file = inode_with(0o100644, 4097, &[40, 44]);
+    walks(&rt, &[], &file, &FILE_STEPS, (0, [0, 0]))
 }
+
+/// The addresses of an inode whose indirect block is at fragment 40.
+static INDIRECT: [u32; 13] = [0, 0, 0, 0, 0, 0, 0, 0, 0, 0, 0, 0, 40];
+
+static TRUNCATED: [Number; 2] = [word!(40, 0, 44), word!(40, 5, 99)];
+
+static TRUNCATED_STEPS: [Step; 3] = [indirect!(40), Step::Tail, data!(44, 4, 12)];
 
 #[test]
 fn partially_truncated(rt: HostRuntime) -> Result<(), Fail> {
-    let mut file = inode(0o100644, 53248);
-    file.addresses[12] = 40;
-    let words = [word(40, 0, 44), word(40, 5, 99)];
-    let steps = [indirect(40), Step::Tail, data(44, 4, 12)];
-    walks(&rt, &words, &file, &steps, (12, [1, 0]))
+    let file = inode_with(0o100644, 53248, &INDIRECT);
+    walks(&rt, &TRUNCATED, &file, &TRUNCATED_STEPS, (12, [1, 0]))
 }
+
+static TREES: [u32; 15] = [0, 0, 0, 0, 0, 0, 0, 0, 0, 0, 0, 0, 0, 40, 52];
+
+static TREE_WORDS: [Number; 7] = [
+    word!(40, 1, 44),
+    word!(44, 1023, 48),
+    word!(52, 0, 56),
+    word!(52, 5, 1),
+    word!(56, 0, 60),
+    word!(60, 1, 64),
+    word!(60, 2, 7),
+];
+
+static TREE_STEPS: [Step; 9] = [
+    indirect!(40),
+    indirect!(44),
+    data!(48, 4, 3083),
+    indirect!(52),
+    Step::Tail,
+    indirect!(56),
+    indirect!(60),
+    Step::Tail,
+    data!(64, 4, 1049613),
+];
 
 /// Each indirect block that is entered is read once, and whole.
 #[test]
 fn trees_with_holes(rt: HostRuntime) -> Result<(), Fail> {
-    let words = [
-        word(40, 1, 44),
-        word(44, 1023, 48),
-        word(52, 0, 56),
-        word(52, 5, 1),
-        word(56, 0, 60),
-        word(60, 1, 64),
-        word(60, 2, 7),
-    ];
-    let mut file = inode(0o100644, 4299218944);
-    file.addresses[13] = 40;
-    file.addresses[14] = 52;
-    let steps = [
-        indirect(40),
-        indirect(44),
-        data(48, 4, 3083),
-        indirect(52),
-        Step::Tail,
-        indirect(56),
-        indirect(60),
-        Step::Tail,
-        data(64, 4, 1049613),
-    ];
-    walks(&rt, &words, &file, &steps, (2060, [5, 0]))
+    let file = inode_with(0o100644, 4299218944, &TREES);
+    walks(&rt, &TREE_WORDS, &file, &TREE_STEPS, (2060, [5, 0]))
 }
 
 /// The first step of a walk, how many Gaps are then passed over, and the next step.
@@ -189,11 +206,10 @@ fn gaps_of(inode: &Inode, alloc: Global) -> Result<(Option<Step>, u32, Option<St
 /// The holes after the first one are passed over together, at the inode's own addresses.
 #[test]
 fn gaps_passed_over(rt: HostRuntime) -> Result<(), Fail> {
-    let mut file = inode(0o100644, 4096 * 6);
-    file.addresses[4] = 48;
+    let file = inode_with(0o100644, 4096 * 6, &[0, 0, 0, 0, 48]);
     let (first, gaps, next) = gaps_of(&file, rt.alloc())?;
     same(&rt, &(first, gaps), &(Some(Step::Gap), 3));
-    same(&rt, &next, &Some(data(48, 4, 4)));
+    same(&rt, &next, &Some(data!(48, 4, 4)));
     Ok(())
 }
 
@@ -209,44 +225,48 @@ fn cut_short(inode: &Inode, alloc: Global) -> Result<(bool, u64, u64), Fail> {
 
 #[test]
 fn failed_read_ends(rt: HostRuntime) -> Result<(), Fail> {
-    let mut file = inode(0o100644, 53248);
-    file.addresses[12] = 40;
+    let file = inode_with(0o100644, 53248, &INDIRECT);
     same(&rt, &cut_short(&file, rt.alloc())?, &(true, 1, 80));
     Ok(())
 }
 
-/// Inodes of each kind, with their classes, and whether they have steps.
-fn kinds_of_inodes() -> [(Inode, Class, bool); 8] {
-    let mut early = inode(0o100644, 0);
-    early.addresses[0] = 40;
-    let mut device = inode(0o20644, 0);
-    device.addresses[0] = 7;
-    let mut broken = device;
-    broken.addresses[1] = 7;
-    let mut link = inode(0o120777, 59);
-    link.addresses = [7; 15];
-    [
-        (inode(0, 0), Class::Free, false),
-        (inode(0o644, 0), Class::Partial, false),
-        (inode(0o100644, 0), Class::File, false),
-        (inode(0o40755, 512), Class::Dir, true),
-        (early, Class::Unknown, false),
-        (device, Class::File, false),
-        (broken, Class::Unknown, false),
-        (link, Class::File, false),
-    ]
+/// An inode: its mode, its size, its first addresses. Then its class, and whether it has steps.
+type Classed = (u16, u64, &'static [u32], Class, bool);
+
+/// Inodes of each kind.
+static CLASSED: [Classed; 8] = [
+    (0, 0, &[], Class::Free, false),
+    (0o644, 0, &[], Class::Partial, false),
+    (0o100644, 0, &[], Class::File, false),
+    (0o40755, 512, &[], Class::Dir, true),
+    (0o100644, 0, &[40], Class::Unknown, false),
+    (0o20644, 0, &[7], Class::File, false),
+    (0o20644, 0, &[7, 7], Class::Unknown, false),
+    (0o120777, 59, &[7; 15], Class::File, false),
+];
+
+/// Compares the class of an inode, whether it has steps, and that it has none where it hasn't.
+fn is_classed(
+    rt: &(impl Abort + AllocGlobal),
+    inode: &Inode,
+    class: Class,
+    is_walked: bool,
+) -> Result<(), Fail> {
+    let geometry = geometry(Order::Little)?;
+    same(rt, &class_of(&geometry, inode), &class);
+    same(rt, &has_steps(&geometry, inode, class), &is_walked);
+    if !is_walked {
+        let (found, gaps, _) = walked(Order::Little, &[], inode, rt.alloc())?;
+        same(rt, &(found.len(), gaps), &(0, 0));
+    }
+    Ok(())
 }
 
 #[test]
 fn classes(rt: HostRuntime) -> Result<(), Fail> {
-    let geometry = geometry(Order::Little)?;
-    for (inode, class, is_walked) in kinds_of_inodes() {
-        same(&rt, &class_of(&geometry, &inode), &class);
-        same(&rt, &has_steps(&geometry, &inode, class), &is_walked);
-        if !is_walked {
-            let (found, gaps, _) = walked(Order::Little, &[], &inode, rt.alloc())?;
-            same(&rt, &(found.len(), gaps), &(0, 0));
-        }
+    for &(mode, size, addresses, class, is_walked) in &CLASSED {
+        let inode = inode_with(mode, size, addresses);
+        is_classed(&rt, &inode, class, is_walked)?;
     }
     Ok(())
 }
@@ -258,27 +278,37 @@ fn extent(geometry: &Geometry, size: u64) -> (u64, u32) {
     (walk.logical_blocks, walk.last)
 }
 
+/// Sizes, and their extents.
+static BLOCK_EDGES: [(u64, (u64, u32)); 4] = [
+    (1, (1, 1)),
+    (4095, (1, 4)),
+    (4096, (1, 4)),
+    (4097, (2, 1)),
+];
+
 /// The volume has blocks of 4,096 bytes, in fragments of 1,024.
 #[test]
 fn sizes_at_edges_of_blocks(rt: HostRuntime) -> Result<(), Fail> {
     let geometry = geometry(Order::Little)?;
     same(&rt, &extent(&geometry, 0).0, &0);
-    for (size, wanted) in [(1, (1, 1)), (4095, (1, 4)), (4096, (1, 4)), (4097, (2, 1))] {
+    for &(size, wanted) in &BLOCK_EDGES {
         same(&rt, &extent(&geometry, size), &wanted);
     }
     Ok(())
 }
 
+static FRAGMENT_EDGES: [(u64, (u64, u32)); 5] = [
+    (1023, (1, 1)),
+    (1024, (1, 1)),
+    (1025, (1, 2)),
+    (7168, (2, 3)),
+    (7169, (2, 4)),
+];
+
 #[test]
 fn sizes_at_edges_of_fragments(rt: HostRuntime) -> Result<(), Fail> {
     let geometry = geometry(Order::Big)?;
-    for (size, wanted) in [
-        (1023, (1, 1)),
-        (1024, (1, 1)),
-        (1025, (1, 2)),
-        (7168, (2, 3)),
-        (7169, (2, 4)),
-    ] {
+    for &(size, wanted) in &FRAGMENT_EDGES {
         same(&rt, &extent(&geometry, size), &wanted);
     }
     Ok(())

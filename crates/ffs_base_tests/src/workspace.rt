@@ -32,7 +32,7 @@ fn fresh_workspace(rt: HostRuntime) -> Result<(), Fail> {
 }
 
 /// The inode 2, in the table that begins at byte 28,672.
-const ROOT: [Number; 4] = [
+static ROOT: [Number; 4] = [
     (28928, 2, 0o40755),
     (28930, 2, 2),
     (28936, 8, 512),

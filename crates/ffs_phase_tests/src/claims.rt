@@ -18,7 +18,7 @@ use std::test::Fail;
 type Words = (usize, usize, u64);
 
 /// The inode 2: a directory of 512 bytes in the fragment 36.
-const ROOT: [Number; 4] = [
+static ROOT: [Number; 4] = [
     (28928, 4, 0x000241ed),
     (28936, 4, 512),
     (28968, 4, 36),
@@ -159,39 +159,41 @@ fn checked_with(
     Ok((text, runs, image.reads))
 }
 
+/// Words, what is reported of the image that has them, and how many Runs the two looks see.
+static CASES: [(&[Words], &[u8], [u64; 2]); 5] = [
+    (
+        &SHARED,
+        b"** Phase 1 - Check Blocks and Sizes\n37 DUP I=4\n** Phase 1b - Rescan For More DUPS\n37 DUP I=3\n",
+        [3, 2],
+    ),
+    (
+        &SHARED_TWICE,
+        b"** Phase 1 - Check Blocks and Sizes\n37 DUP I=5\n38 DUP I=6\n** Phase 1b - Rescan For More DUPS\n37 DUP I=3\n38 DUP I=4\n",
+        [5, 3],
+    ),
+    (
+        &TWELVE_BAD,
+        b"** Phase 1 - Check Blocks and Sizes\n200 BAD I=3\n200 BAD I=3\n200 BAD I=3\n200 BAD I=3\n200 BAD I=3\n200 BAD I=3\n200 BAD I=3\n200 BAD I=3\n200 BAD I=3\n200 BAD I=3\n200 BAD I=3\nEXCESSIVE BAD BLKS I=3\nCONTINUE? yes\n\n",
+        [12, 0],
+    ),
+    (
+        &TEN_BAD,
+        b"** Phase 1 - Check Blocks and Sizes\n200 BAD I=3\n200 BAD I=3\n200 BAD I=3\n200 BAD I=3\n200 BAD I=3\n200 BAD I=3\n200 BAD I=3\n200 BAD I=3\n200 BAD I=3\n200 BAD I=3\nINCORRECT BLOCK COUNT I=3 (16 should be 96)\nCORRECT? no\n\n",
+        [13, 0],
+    ),
+    (
+        &TREE,
+        b"** Phase 1 - Check Blocks and Sizes\n40 DUP I=3\n41 DUP I=3\n42 DUP I=3\n43 DUP I=3\n40 DUP I=3\n41 DUP I=3\n42 DUP I=3\n43 DUP I=3\n40 DUP I=3\n41 DUP I=3\n42 DUP I=3\nEXCESSIVE DUP BLKS I=3\nCONTINUE? yes\n\n** Phase 1b - Rescan For More DUPS\n40 DUP I=3\n41 DUP I=3\n42 DUP I=3\n43 DUP I=3\n",
+        [5, 2],
+    ),
+];
+
 /// What is reported of each image, and how many Runs its two looks see: the second one ends as soon
 /// as the first kept offer of each fragment with a DUP line is reported.
 #[test]
 fn block_checks(rt: HostRuntime) -> Result<(), Fail> {
     let geometry = geometry(Order::Little)?;
-    let cases: [(&[Words], &[u8], [u64; 2]); 5] = [
-        (
-            &SHARED,
-            b"** Phase 1 - Check Blocks and Sizes\n37 DUP I=4\n** Phase 1b - Rescan For More DUPS\n37 DUP I=3\n",
-            [3, 2],
-        ),
-        (
-            &SHARED_TWICE,
-            b"** Phase 1 - Check Blocks and Sizes\n37 DUP I=5\n38 DUP I=6\n** Phase 1b - Rescan For More DUPS\n37 DUP I=3\n38 DUP I=4\n",
-            [5, 3],
-        ),
-        (
-            &TWELVE_BAD,
-            b"** Phase 1 - Check Blocks and Sizes\n200 BAD I=3\n200 BAD I=3\n200 BAD I=3\n200 BAD I=3\n200 BAD I=3\n200 BAD I=3\n200 BAD I=3\n200 BAD I=3\n200 BAD I=3\n200 BAD I=3\n200 BAD I=3\nEXCESSIVE BAD BLKS I=3\nCONTINUE? yes\n\n",
-            [12, 0],
-        ),
-        (
-            &TEN_BAD,
-            b"** Phase 1 - Check Blocks and Sizes\n200 BAD I=3\n200 BAD I=3\n200 BAD I=3\n200 BAD I=3\n200 BAD I=3\n200 BAD I=3\n200 BAD I=3\n200 BAD I=3\n200 BAD I=3\n200 BAD I=3\nINCORRECT BLOCK COUNT I=3 (16 should be 96)\nCORRECT? no\n\n",
-            [13, 0],
-        ),
-        (
-            &TREE,
-            b"** Phase 1 - Check Blocks and Sizes\n40 DUP I=3\n41 DUP I=3\n42 DUP I=3\n43 DUP I=3\n40 DUP I=3\n41 DUP I=3\n42 DUP I=3\n43 DUP I=3\n40 DUP I=3\n41 DUP I=3\n42 DUP I=3\nEXCESSIVE DUP BLKS I=3\nCONTINUE? yes\n\n** Phase 1b - Rescan For More DUPS\n40 DUP I=3\n41 DUP I=3\n42 DUP I=3\n43 DUP I=3\n",
-            [5, 2],
-        ),
-    ];
-    for (words, reported, runs) in cases {
+    for &(words, reported, runs) in &CASES {
         let (text, seen, reads) = checked_with(&geometry, words, rt.alloc())?;
         same(&rt, &text.as_slice(), &reported);
         same(&rt, &seen, &runs);

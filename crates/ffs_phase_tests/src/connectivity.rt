@@ -30,7 +30,7 @@ fn surveyed(alloc: Global, geometry: &Geometry) -> Result<Workspace, AllocError>
 }
 
 /// Inode 3: a directory of 512 bytes, changed a day after the epoch, of the owner 7.
-const LOST: [Number; 4] = [
+static LOST: [Number; 4] = [
     (29056, 2, 0o40755),
     (29064, 8, 512),
     (29080, 4, 86400),

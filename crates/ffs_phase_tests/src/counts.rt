@@ -17,7 +17,7 @@ use std::alloc::{AllocError, Global};
 use std::test::Fail;
 
 /// The counts of references of inodes 0 to 7.
-const REFERENCES: [u64; 8] = [0, 0, 32766 + 2, 32767, 32769, 32767 + 2, 32769, 32767];
+static REFERENCES: [u64; 8] = [0, 0, 32766 + 2, 32767, 32769, 32767 + 2, 32769, 32767];
 
 /// What phases before have found. Directory 2 has two references; the files 3 to 5 have none, none
 /// and two, and 3 is marked and named by an entry; 6 is an empty directory and 7 a marked file,
@@ -40,7 +40,7 @@ fn referred(alloc: Global, geometry: &Geometry) -> Result<Workspace, AllocError>
 }
 
 /// The modes and links of inodes 2 to 7: 2 links, 1, 0, 1, 0 and 1.
-const INODES: [Number; 10] = [
+static INODES: [Number; 10] = [
     (28928, 2, 0o40755),
     (28930, 2, 2),
     (29056, 2, 0o100644),
@@ -91,7 +91,7 @@ fn reference_check(rt: HostRuntime) -> Result<(), Fail> {
 }
 
 /// A root in the fragment 36, and the records of its group: the group block is at byte 24,576.
-const ROOT: [Number; 21] = [
+static ROOT: [Number; 21] = [
     (28928, 2, 0o40755),
     (28936, 8, 512),
     (28968, 4, 36),
@@ -183,40 +183,43 @@ fn expected(defects: &[u8], last: &[u8], alloc: Global) -> Result<Vec<u8>, Fail>
     Ok(text)
 }
 
+const RIGHT: &[u8] = b"1 files, 1 used, 94 free (6 frags, 22 blocks, 6.3% fragmentation)\n";
+
+/// The free fragments of the superblock, a number, the lines of defects, and the last line.
+static GROUPS: [(i32, Number, &[u8], &[u8]); 6] = [
+    (6, (0, 1, 0), b"", RIGHT),
+    (
+        7,
+        (0, 1, 0),
+        b"FREE BLK COUNT(S) WRONG IN SUPERBLK\nSALVAGE? no\n\n",
+        b"1 files, 1 used, 95 free (7 frags, 22 blocks, 7.3% fragmentation)\n",
+    ),
+    (
+        6,
+        (32780, 4, 7),
+        b"FREE BLK COUNT(S) WRONG IN SUPERBLK\nSALVAGE? no\n\n",
+        RIGHT,
+    ),
+    (
+        6,
+        (24752, 1, 0xce),
+        b"BLK(S) MISSING IN BIT MAPS\nSALVAGE? no\n\n",
+        RIGHT,
+    ),
+    (
+        6,
+        (24612, 4, 7),
+        b"SUMMARY INFORMATION BAD\nSALVAGE? no\n\n",
+        RIGHT,
+    ),
+    (6, (24580, 4, 0), b"CG 0: BAD MAGIC NUMBER\n", RIGHT),
+];
+
 /// Nothing is wrong; the superblock, the summary record, the fragment map, the group's count of
 /// fragments, its magic.
 #[test]
 fn group_checks(rt: HostRuntime) -> Result<(), Fail> {
-    let right: &[u8] = b"1 files, 1 used, 94 free (6 frags, 22 blocks, 6.3% fragmentation)\n";
-    let cases: [(i32, Number, &[u8], &[u8]); 6] = [
-        (6, (0, 1, 0), b"", right),
-        (
-            7,
-            (0, 1, 0),
-            b"FREE BLK COUNT(S) WRONG IN SUPERBLK\nSALVAGE? no\n\n",
-            b"1 files, 1 used, 95 free (7 frags, 22 blocks, 7.3% fragmentation)\n",
-        ),
-        (
-            6,
-            (32780, 4, 7),
-            b"FREE BLK COUNT(S) WRONG IN SUPERBLK\nSALVAGE? no\n\n",
-            right,
-        ),
-        (
-            6,
-            (24752, 1, 0xce),
-            b"BLK(S) MISSING IN BIT MAPS\nSALVAGE? no\n\n",
-            right,
-        ),
-        (
-            6,
-            (24612, 4, 7),
-            b"SUMMARY INFORMATION BAD\nSALVAGE? no\n\n",
-            right,
-        ),
-        (6, (24580, 4, 0), b"CG 0: BAD MAGIC NUMBER\n", right),
-    ];
-    for (fragments, number, defects, last) in cases {
+    for &(fragments, number, defects, last) in &GROUPS {
         let text = counted(fragments, number, rt.alloc())?;
         same(&rt, &text, &expected(defects, last, rt.alloc())?);
     }

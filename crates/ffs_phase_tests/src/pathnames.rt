@@ -12,11 +12,11 @@ use std::test::Fail;
 
 /// Inode 2 is the root, 3 a file, 4 a directory, 6 a directory of size 0, 7 of no known type, 8 a
 /// marked file.
-const KINDS: [u8; 9] = [0, 0, 4, 8, 4, 0, 5, 15, 8];
+static KINDS: [u8; 9] = [0, 0, 4, 8, 4, 0, 5, 15, 8];
 
-const MARKED: [bool; 9] = [false, false, false, false, false, false, false, false, true];
+static MARKED: [bool; 9] = [false, false, false, false, false, false, false, false, true];
 
-const PARENTS: [u32; 9] = [0, 0, 0, 0, 2, 0, 2, 0, 0];
+static PARENTS: [u32; 9] = [0, 0, 0, 0, 2, 0, 2, 0, 0];
 
 fn entry(number: u32, kind: u8) -> Entry<'static> {
     Entry {
@@ -28,14 +28,16 @@ fn entry(number: u32, kind: u8) -> Entry<'static> {
 }
 
 /// What is wrong with an entry that names an inode which isn't marked.
-fn named(label: Label, first_of_suspect: bool, extraneous: bool, kind: bool) -> Verdict {
-    Verdict::Named(EntryDefects {
-        first_of_suspect,
-        marked: false,
-        extraneous,
-        kind,
-        label,
-    })
+macro_rules! named {
+    ($label:expr, $first_of_suspect:expr, $extraneous:expr, $kind:expr) => {
+        Verdict::Named(EntryDefects {
+            first_of_suspect: $first_of_suspect,
+            marked: false,
+            extraneous: $extraneous,
+            kind: $kind,
+            label: $label,
+        })
+    };
 }
 
 /// The verdict on an entry of the root of this number and type, before any is passed.
@@ -51,24 +53,26 @@ fn verdict_on(number: u32, kind: u8, alloc: Global) -> Result<Verdict, AllocErro
     Ok(entry_verdict(&inodes, 2, &[false; 9], &words, &entry))
 }
 
+/// The number and the type of an entry, and the verdict on it.
+static VERDICTS: [(u32, u8, Verdict); 13] = [
+    (9, 8, Verdict::OutOfRange),
+    (u32::MAX, 14, Verdict::OutOfRange),
+    (1, 14, Verdict::Whiteout),
+    (1, 8, Verdict::BadWhiteout),
+    (5, 14, Verdict::BadWhiteout),
+    (5, 8, Verdict::Unallocated),
+    (3, 8, named!(Label::File, false, false, false)),
+    (3, 10, named!(Label::File, false, false, true)),
+    (4, 4, named!(Label::Dir, false, false, false)),
+    (4, 8, named!(Label::Dir, false, false, true)),
+    (2, 4, named!(Label::Dir, false, true, false)),
+    (6, 4, named!(Label::Dir, true, false, false)),
+    (7, 8, named!(Label::Name, false, false, false)),
+];
+
 #[test]
 fn entries_of_the_root(rt: HostRuntime) -> Result<(), Fail> {
-    let cases = [
-        (9, 8, Verdict::OutOfRange),
-        (u32::MAX, 14, Verdict::OutOfRange),
-        (1, 14, Verdict::Whiteout),
-        (1, 8, Verdict::BadWhiteout),
-        (5, 14, Verdict::BadWhiteout),
-        (5, 8, Verdict::Unallocated),
-        (3, 8, named(Label::File, false, false, false)),
-        (3, 10, named(Label::File, false, false, true)),
-        (4, 4, named(Label::Dir, false, false, false)),
-        (4, 8, named(Label::Dir, false, false, true)),
-        (2, 4, named(Label::Dir, false, true, false)),
-        (6, 4, named(Label::Dir, true, false, false)),
-        (7, 8, named(Label::Name, false, false, false)),
-    ];
-    for (number, kind, wanted) in cases {
+    for &(number, kind, wanted) in &VERDICTS {
         let verdict = verdict_on(number, kind, rt.alloc())?;
         same(&rt, &(number, kind, verdict), &(number, kind, wanted));
     }
@@ -117,7 +121,7 @@ fn second_names(rt: HostRuntime) -> Result<(), Fail> {
         &found,
         &[
             Verdict::Named(first),
-            named(Label::Dir, false, true, false),
+            named!(Label::Dir, false, true, false),
             Verdict::Named(again),
         ],
     );

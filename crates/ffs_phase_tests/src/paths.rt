@@ -53,16 +53,19 @@ fn entry_begins(reached: bool, names: &[&[u8]], length: usize, start: &[u8]) -> 
     (text.len(), text.as_slice().starts_with(start))
 }
 
+/// Whether the directory is reached, its path, how long the name is, how the path of the entry
+/// begins, and how many bytes it has.
+static ROOMS: [(bool, &[&[u8]], usize, &[u8], usize); 5] = [
+    (false, &[], 1022, b"?/a", 1024),
+    (false, &[], 1023, b"?", 1),
+    (true, &[], 1023, b"/a", 1024),
+    (true, &[], 1024, b"?", 1),
+    (true, &[b"b"], 1022, b"?/a", 1024),
+];
+
 #[test]
 fn drops_a_name_that_has_no_room(rt: HostRuntime) {
-    let cases: [(bool, &[&[u8]], usize, &[u8], usize); 5] = [
-        (false, &[], 1022, b"?/a", 1024),
-        (false, &[], 1023, b"?", 1),
-        (true, &[], 1023, b"/a", 1024),
-        (true, &[], 1024, b"?", 1),
-        (true, &[b"b"], 1022, b"?/a", 1024),
-    ];
-    for (reached, names, length, start, written) in cases {
+    for &(reached, names, length, start, written) in &ROOMS {
         let found = entry_begins(reached, names, length, start);
         same(&rt, &found, &(written, true));
     }

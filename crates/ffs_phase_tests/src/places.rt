@@ -35,7 +35,7 @@ fn surveyed(alloc: Global, geometry: &Geometry) -> Result<Workspace, AllocError>
 
 /// The root has `.`, `a` (3) and `b` (4). Inode 3 has 1,024 bytes at fragment 41: an empty entry,
 /// and then `c` (5).
-const NUMBERS: [Number; 19] = [
+static NUMBERS: [Number; 19] = [
     (29056, 2, 0o40755),
     (29064, 8, 1024),
     (29096, 4, 41),
