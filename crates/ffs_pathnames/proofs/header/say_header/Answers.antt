@@ -1,8 +1,7 @@
 use Rattle.std.proofs.Common.{option_map}
 use Rattle.ffs_layout.specs.Entry.{entry_value}
 use Rattle.ffs_pathnames.specs.Header.{dot_in, dotdot_in, dot_reported, dotdot_reported, shape_reported, dots_reported}
-use Rattle.ffs_pathnames.specs.Header.{header_reported}
-use Rattle.ffs_pathnames.proofs.Saying.{names_then, first_stops}
+use Rattle.ffs_pathnames.{specs.Header.header_reported, proofs.Saying.names_then, proofs.Saying.first_stops}
 use Rattle.ffs_pathnames.proofs.header.say_header.Goals as goal
 
 pub returns-in_err-say_shape : goal.returns-in_err-say_shape

@@ -5,7 +5,8 @@ use Rattle.ffs_pathnames.proofs.lines.say_defects.Goals as goal
 
 pub returns-in_err-say_suspect : goal.returns-in_err-say_suspect
 returns-in_err-say_suspect g c =
-    first_stops _ _ (reported c.args.defects.now.first_of_suspect (suspect_message c.args.defects.now c.args.attr c.args.path.now))
+    first_stops _ _ (reported c.args.defects.now.first_of_suspect
+    (suspect_message c.args.defects.now c.args.attr c.args.path.now))
     (links_reported c.args.defects.now c.args.attr c.args.path.now c.args.directory.now)
     c.from_residual.result c.from_residual.ensures.0 c.in_err-say_suspect.ensures
 

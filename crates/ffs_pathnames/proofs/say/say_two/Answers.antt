@@ -1,6 +1,5 @@
 use Rattle.ffs_volume.specs.Messages.Kinds.{reported}
-use Rattle.ffs_pathnames.specs.NameLines.{name_message}
-use Rattle.ffs_pathnames.proofs.Saying.{names_then, first_stops}
+use Rattle.ffs_pathnames.{specs.NameLines.name_message, proofs.Saying.names_then, proofs.Saying.first_stops}
 use Rattle.ffs_pathnames.proofs.say.say_two.Goals as goal
 
 pub returns-in_err-say_if : goal.returns-in_err-say_if
