@@ -1,18 +1,18 @@
 -- A directory that is begun, and how its lines continue.
-use Rattle.std.proofs.Common.{length, arith, ◌+◌, ◌≡◌, ◌≤◌, suc, refl, sym, ap, subst, ◌∙◌, ℕ, Bool, true, List, []}
-use Rattle.std.proofs.Common.{◌++◌, map, Option, Err, nat_le, nat_lt, append-nil, option_and_then, ltb-true}
+use Rattle.std.proofs.Common.{length, arith, ◌≡◌, ◌≤◌, suc, refl, sym, subst, ◌∙◌, ℕ, true, List, [], ◌++◌, map, Option}
+use Rattle.std.proofs.Common.{Err, nat_le, nat_lt, append-nil, ltb-true}
 use Rattle.std.proofs.lemmas.{List.map-append, Bool.and_parts}
 use Rattle.ffs_pathnames.proofs.{LineCounts.lines_long, LookLaws.quiet_silent, HeaderLaws.dir_parts}
 use Rattle.ffs_pathnames.proofs.PassedLaws.{size_of, IsDirectory, right_reported}
 use Rattle.ffs_pathnames.proofs.BetweenLaws.{unstamped, looked, looked_right, quiet_next, reported_next}
 use Rattle.ffs_pathnames.specs.{declared.examine.Examination.Examination, Examines.IsExamined, Examines.LeavesQueue}
 use Rattle.ffs_pathnames.specs.Begins.{dir_starts, started_entry, IsDirectoryBegun}
-use Rattle.ffs_pathnames.specs.{Gathers.passed_of, PassedRight.AreRightBefore, Header.header_reported}
+use Rattle.ffs_pathnames.specs.{PassedRight.AreRightBefore, Header.header_reported}
 use Rattle.ffs_pathnames.specs.PassedNames.{PassedNames, are_quiet, entries_reported, after_entries}
 use Rattle.ffs_volume.specs.{declared.Layout.Layout, Blocks.Inodes.inode_of, Blocks.Inodes.is_directory}
 use Rattle.ffs_volume.specs.Directories.{Entries.Entry, Graph.parent, Parents.graph_of, Paths.dir_path}
-use Rattle.ffs_volume.specs.Directories.PathnameCheck.{attributes, are_sound, sized_dir_lines, lines_of_entries}
-use Rattle.ffs_volume.specs.Directories.Roles.{Volume, nth_entry, is_dir, is_inode, roled_entries, start_entry}
+use Rattle.ffs_volume.specs.Directories.PathnameCheck.{attributes, sized_dir_lines, lines_of_entries}
+use Rattle.ffs_volume.specs.Directories.Roles.{Volume, is_dir, is_inode, roled_entries, start_entry}
 use Rattle.ffs_volume.specs.Directories.Volumes.{volume_of, volume_with}
 use Rattle.ffs_volume.specs.Messages.Kinds.{Message, TreeMessage, of_tree}
 use Rattle.ffs_report.specs.{Known.ForBytes, Progress.Progress}

@@ -1,10 +1,9 @@
 -- What is remembered of the names that were passed, from one directory to the next.
-use Rattle.std.proofs.Common.{◌≡◌, ◌≢◌, ℕ, zero, suc, ◌<◌, ◌≤◌, ◌==◌, Bool, true, false, not, ◌&&◌, ◌||◌, if◌then◌else◌}
-use Rattle.std.proofs.Common.{refl, List, [], ◌∷◌, ◌++◌, length, slice_index, slice_set, Option, None, Some, nat_lt}
-use Rattle.std.proofs.Common.{arith, sym, ◌∙◌, ap, subst, inl, inr, append_assoc, append-nil, ne_eqb, eq-eqb}
+use Rattle.std.proofs.Common.{◌≡◌, ◌≢◌, ℕ, suc, ◌≤◌, ◌==◌, Bool, true, false, not, ◌&&◌, if◌then◌else◌, refl, List, []}
+use Rattle.std.proofs.Common.{◌∷◌, ◌++◌, length, slice_index, slice_set, nat_lt, arith, sym, ◌∙◌, append_assoc}
+use Rattle.std.{proofs.Common.append-nil, specs.List.list_any}
 use Rattle.std.proofs.lemmas.List.{get_or-set_other, get_or-set_same, set_past}
-use Rattle.std.proofs.lemmas.Bool.{Decides.nat_tests, cases_eq, cases_lt, and_parts, cond-false}
-use Rattle.std.{proofs.Math.Bool.and-false, proofs.Math.Bool.or-false, specs.List.list_any}
+use Rattle.std.proofs.{lemmas.Bool.Decides.nat_tests, lemmas.Bool.and_parts, Math.Bool.and-false, Math.Bool.or-false}
 use Rattle.ffs_pathnames.{proofs.FirstTwo.parent_edge, specs.Calm.IsSilentDirectory}
 use Rattle.ffs_pathnames.proofs.PassedLaws.{IsDirectory, calm_name, right_after}
 use Rattle.ffs_pathnames.proofs.LookLaws.{AreStamped, stamped_all, looks_all_long, suspects_unnamed}
@@ -12,10 +11,8 @@ use Rattle.ffs_pathnames.specs.PassedNames.{PassedNames, is_calm, after_roled, a
 use Rattle.ffs_pathnames.specs.PassedNames.{after_look, after_looks, are_quiet}
 use Rattle.ffs_pathnames.specs.PassedRight.{AreRight, AreRightBefore}
 use Rattle.ffs_volume.specs.Directories.Roles.{Volume, RoledEntry, is_dir, is_suspect, is_plain, roled_entries}
-use Rattle.ffs_volume.specs.Directories.{Climb.is_value, Graph.edge, Graph.level, Parents.graph_of}
-use Rattle.ffs_volume.specs.Directories.Graph.{level_edge, parent, parent_by, Graph, is_naming_entry, is_naming_dir}
-use Rattle.ffs_volume.{specs.Disk.Search.some_below, proofs.ClimbLaws.is_value-true}
-use Rattle.ffs_volume.proofs.SearchLaws.{some_below-suc, first_below-some}
+use Rattle.ffs_volume.specs.Directories.{Parents.graph_of, Graph.is_naming_entry, Graph.is_naming_dir}
+use Rattle.ffs_volume.{specs.Disk.Search.some_below, proofs.ClimbLaws.is_value-true, proofs.SearchLaws.some_below-suc}
 
 -- the parent of a directory names it
 belongs_named : (v : Volume) (s x : ℕ) → belongs v s x ≡ true → list_any (is_naming_entry x) (roled_entries v s) ≡ true

@@ -1,18 +1,16 @@
 -- What is known between two directories, carried from one to the next.
-use Rattle.std.proofs.Common.{◌≡◌, ◌<◌, ◌-◌, ◌==◌, refl, sym, ap, subst, ◌∙◌, ℕ, zero, suc, Bool, true, false, not}
-use Rattle.std.proofs.Common.{◌&&◌, ◌||◌, if◌then◌else◌, List, [], ◌∷◌, ◌++◌, map, get_or, Option, Some, arith}
-use Rattle.std.proofs.Common.{slice_index, Result, Ok, Err, OnOk, IfOk, eqb-true, inl, inr, ◌≤◌}
-use Rattle.std.proofs.lemmas.Bool.{Decides.nat_tests, cases_Bool, and_from, and_parts}
-use Rattle.std.{proofs.lemmas.List.get_or_default, proofs.lemmas.List.map-append, specs.List.list_any}
+use Rattle.std.proofs.Common.{◌≡◌, ◌<◌, ◌-◌, ◌==◌, refl, sym, ap, ◌∙◌, ℕ, zero, suc, Bool, true, false, not, ◌&&◌, ◌||◌}
+use Rattle.std.proofs.Common.{if◌then◌else◌, List, [], ◌++◌, map, get_or, Option, Some, arith, slice_index, Result, Ok}
+use Rattle.std.proofs.Common.{Err, OnOk, IfOk, eqb-true, inl, inr, ◌≤◌}
+use Rattle.std.proofs.lemmas.Bool.{Decides.nat_tests, cases_Bool, and_parts}
+use Rattle.std.proofs.lemmas.List.{get_or_default, map-append}
 use Rattle.ffs_volume.specs.{declared.Layout.Layout, declared.Class.Class, Laws.Geometry.IsAcceptedLayout}
 use Rattle.ffs_volume.specs.declared.Class.TheVariants.{Free, Partial, Unknown, File, Dir}
-use Rattle.ffs_volume.specs.Directories.{Graph.is_naming_entry, Graph.is_naming_dir, Parents.graph_of}
+use Rattle.ffs_volume.specs.Directories.{Graph.is_naming_dir, Parents.graph_of, Roles.Volume, Roles.is_suspect}
 use Rattle.ffs_volume.specs.Directories.PathnameCheck.{sized_dir_lines, continues_after_root, directory_lines}
 use Rattle.ffs_volume.specs.Directories.PathnameCheck.{pathname_lines, root_lines, root_lines_of, is_looked_at}
-use Rattle.ffs_volume.specs.Directories.Roles.{Volume, is_dir, is_suspect, roled_entries}
 use Rattle.ffs_volume.specs.Directories.Volumes.{class_at, marked_at, volume_of, volume_with}
-use Rattle.ffs_volume.specs.Messages.Kinds.{TreeMessage, of_tree, lines_below, reported}
-use Rattle.ffs_volume.specs.Messages.Kinds.{root_none, root_not_dir, root_suspect, lines_from}
+use Rattle.ffs_volume.specs.Messages.Kinds.{TreeMessage, of_tree, lines_below, lines_from}
 use Rattle.ffs_volume.specs.Blocks.Inodes.{is_directory, is_allocated}
 use Rattle.ffs_volume.specs.Encodings.Kinds.{kind_at, is_dir_kind, is_empty_dir_kind, is_allocated_kind}
 use Rattle.ffs_volume.proofs.{SearchLaws.some_below-none, Numbered.all_from_root, Sizes.some_inodes}
@@ -161,8 +159,12 @@ lines_left_out : {v : Layout} {contents : Option (List ℕ)} {w : Workspace} {d 
 lines_left_out {v = v} {w = w} {d = d} {b = b} two h e k =
     let silent = calm_shown h e k in
     let dir = directory_is (volume_of v b) d two (directory_context e k).dir in
-    rw (lines_looked e k, ← quiet_parts (volume_of v b) d (passed_of w) dir k.passed
-    (silent_quiet (volume_of v b) d (passed_of w) silent k.passed), silent.starts) refl
+    rw (
+      lines_looked e k,
+      ← quiet_parts (volume_of v b) d (passed_of w) dir k.passed
+          (silent_quiet (volume_of v b) d (passed_of w) silent k.passed),
+      silent.starts,
+    ) refl
 
 -- an inode that isn't looked at, or is left out
 pub lines_skipped : {v : Layout} {contents : Option (List ℕ)} {w : Workspace} {d : ℕ} {b : List ℕ} → 2 ≤ d →

@@ -1,16 +1,13 @@
 -- What isn't looked at: inodes that are no directories, and directories of size 0, which have no
 -- entries.
 use Rattle.std.proofs.lemmas.Bool.{and_parts, and_cases, not-false, Decides.nat_tests}
-use Rattle.std.proofs.Common.{inl, inr, ◌≡◌, ◌<◌, ◌==◌, refl, ap, ◌∙◌, ℕ, Bool, true, false, not, ◌&&◌, if◌then◌else◌}
-use Rattle.std.proofs.Common.{List, [], arith, eqb-true}
-use Rattle.std.{proofs.Math.Bool.and-false, specs.List.flat_map, specs.List.list_any}
+use Rattle.std.proofs.Common.{inl, inr, ◌≡◌, ◌<◌, ◌==◌, refl, ap, ◌∙◌, ℕ, Bool, true, false, not, ◌&&◌, List, [], arith}
+use Rattle.std.{proofs.Common.eqb-true, proofs.Math.Bool.and-false, specs.List.flat_map}
 use Rattle.ffs_volume.specs.{declared.Layout.Layout, Disk.Areas.is_run_in_range, Laws.Geometry.IsAcceptedLayout}
-use Rattle.ffs_volume.{specs.Blocks.Inodes.inode_of, specs.Blocks.Claims.at_next_inode, proofs.Sizes.no_steps}
-use Rattle.ffs_volume.specs.Blocks.KeptSteps.{kept_steps, kept_steps_of, claims_before}
-use Rattle.ffs_volume.specs.Directories.{Entries.chunks_of, Graph.is_naming_entry, Graph.is_naming_dir}
-use Rattle.ffs_volume.specs.Directories.Roles.{is_dir, roled_chunk, roled_entries}
-use Rattle.ffs_volume.specs.Directories.{Parents.graph_of, Volumes.chunk_source_of, PathnameCheck.is_looked_at}
-use Rattle.ffs_volume.specs.Directories.Volumes.{volume_with, volume_of, is_inode_number, kept_steps_of_inode}
+use Rattle.ffs_volume.{specs.Blocks.Inodes.inode_of, specs.Blocks.KeptSteps.kept_steps_of, proofs.Sizes.no_steps}
+use Rattle.ffs_volume.specs.Directories.{Entries.chunks_of, Graph.is_naming_dir, Roles.is_dir, Roles.roled_chunk}
+use Rattle.ffs_volume.specs.Directories.{Roles.roled_entries, Parents.graph_of, PathnameCheck.is_looked_at}
+use Rattle.ffs_volume.specs.Directories.Volumes.{chunk_source_of, volume_with, volume_of, kept_steps_of_inode}
 use Rattle.ffs_volume.specs.Encodings.Kinds.{kind_at, is_dir_kind, is_empty_dir_kind}
 use Rattle.ffs_workspace.proofs.KindLaws.{dir_is, empty_is}
 

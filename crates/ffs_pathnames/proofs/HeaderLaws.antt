@@ -1,17 +1,14 @@
 -- What is reported of a directory before its entries.
-use Rattle.std.proofs.Common.{◌≡◌, ◌≤◌, refl, sym, ap, ◌∙◌, arith, ℕ, ◌==◌, ◌%◌, Bool, true, false, not, ◌&&◌, List, []}
-use Rattle.std.proofs.Common.{◌++◌, Option, None, Some, nat_lt, length, append_assoc, length-append, inl, inr, cond}
-use Rattle.std.proofs.lemmas.Bool.{Decides.nat_tests, and_parts, not-true, and_cases, cases_Bool}
+use Rattle.std.proofs.Common.{◌≡◌, ◌≤◌, refl, arith, ℕ, ◌==◌, ◌%◌, Bool, true, false, not, ◌&&◌, List, [], ◌++◌, Option}
+use Rattle.std.proofs.Common.{None, Some, nat_lt, length, append_assoc, length-append, inl, inr}
+use Rattle.std.proofs.lemmas.Bool.{Decides.nat_tests, and_cases}
 use Rattle.ffs_volume.specs.declared.Attr.{Attr}
 use Rattle.ffs_volume.specs.Directories.{Entries.Entry, Entries.is_live, Graph.parent, Parents.graph_of, Paths.dir_path}
-use Rattle.ffs_volume.specs.Directories.Roles.{Volume, start_entry, dot, dotdot, roled_entries, is_one_dot, is_two_dots}
-use Rattle.ffs_volume.specs.Directories.PathnameCheck.{attributes, is_short, has_partial_chunk, are_sound, shape_lines}
-use Rattle.ffs_volume.specs.Directories.PathnameCheck.{is_wrong_parent, dot_lines, dotdot_lines, dot_lines_of}
-use Rattle.ffs_volume.specs.Directories.PathnameCheck.{dotdot_lines_of, lines_of_entries, sized_dir_lines, extra_lines}
-use Rattle.ffs_volume.specs.Messages.Kinds.{reported, dir_short, dir_length}
-use Rattle.ffs_pathnames.specs.Header.{chunks_reported, shape_reported, dot_in, dotdot_in, dot_reported}
-use Rattle.ffs_pathnames.specs.Header.{dotdot_reported, dots_reported, header_reported, is_right_header, is_right_dot}
-use Rattle.ffs_pathnames.specs.Header.{is_right_dotdot}
+use Rattle.ffs_volume.specs.Directories.Roles.{Volume, start_entry, dot, dotdot, roled_entries, is_two_dots}
+use Rattle.ffs_volume.specs.Directories.PathnameCheck.{attributes, are_sound, shape_lines, is_wrong_parent, dot_lines}
+use Rattle.ffs_volume.specs.Directories.PathnameCheck.{dotdot_lines, lines_of_entries, sized_dir_lines}
+use Rattle.ffs_pathnames.specs.Header.{shape_reported, dot_in, dotdot_in, dot_reported, dotdot_reported, dots_reported}
+use Rattle.ffs_pathnames.specs.Header.{header_reported, is_right_header, is_right_dot, is_right_dotdot}
 
 -- ---- in the parts in which it is said
 shape_is : (v : Volume) (d : ℕ) → shape_lines v d ≡ shape_reported (attributes v d) (dir_path (graph_of v) d) (v.gap d)

@@ -1,24 +1,16 @@
 -- How many lines there are, and how many reads they make.
-use Rattle.std.proofs.Common.{◌≡◌, ◌≤◌, ◌+◌, ◌*◌, ◌==◌, ◌%◌, ℕ, refl, sym, ap, subst, ◌∙◌, arith, Bool, true, false}
-use Rattle.std.proofs.Common.{not, ◌&&◌, ◌||◌, if◌then◌else◌, nat_lt, Option, None, Some, List, [], ◌∷◌, ◌++◌, length}
+use Rattle.std.proofs.Common.{◌≡◌, ◌≤◌, ◌+◌, ◌*◌, ℕ, refl, sym, ap, subst, ◌∙◌, arith, Option, List, ◌∷◌, ◌++◌, length}
 use Rattle.std.proofs.Common.{length-append, Ok, map}
 use Rattle.std.proofs.lemmas.{Bool.Decides.nat_tests, List.length-map}
 use Rattle.ffs_image.specs.Device.{Device}
 use Rattle.ffs_volume.specs.{declared.Attr.Attr, declared.Layout.Layout, Report.Reads.line_reads}
-use Rattle.ffs_volume.specs.Directories.Entries.{Entry, is_live}
-use Rattle.ffs_volume.specs.Directories.PathnameCheck.{extra_lines, is_wrong_parent, sized_dir_lines, lines_of_entries}
-use Rattle.ffs_volume.specs.Directories.Roles.{RoledEntry, Volume, is_one_dot, is_two_dots, roled_entries}
-use Rattle.ffs_volume.specs.Messages.Kinds.{TreeMessage, reported, extraneous, kind_entry, of_tree}
+use Rattle.ffs_volume.specs.Directories.{Entries.Entry, PathnameCheck.extra_lines, Roles.RoledEntry, Roles.Volume}
+use Rattle.ffs_volume.specs.Messages.Kinds.{TreeMessage, of_tree}
 use Rattle.ffs_workspace.specs.{Places.AreNoted, declared.workspace.Workspace.Workspace}
 use Rattle.ffs_workspace.proofs.Leaving.{claims_held, survey_held}
 use Rattle.ffs_paths.{specs.Reads.KnowsPlaces, specs.Reads.OnlyReads, specs.Reads.ReadsFew, proofs.Climbed.few_more}
-use Rattle.ffs_pathnames.specs.{DirectoryContext.DirectoryContext, Begins.dir_starts, Gathers.IsVerdict}
-use Rattle.ffs_pathnames.specs.{Gathers.is_silent, Verdicts.suspect_message, Verdicts.verdict_reported}
-use Rattle.ffs_pathnames.specs.Header.{dot_in, dotdot_in, dot_reported, dotdot_reported, header_reported, is_right_dot}
-use Rattle.ffs_pathnames.specs.Header.{is_right_dotdot, is_right_header, shape_reported}
-use Rattle.ffs_pathnames.specs.PassedNames.{PassedNames, after_roled, entries_reported, roled_reported, plain_reported}
-use Rattle.ffs_pathnames.specs.declared.verdict.Verdict.{Verdict, TheVariants.Whiteout}
-use Rattle.ffs_pathnames.specs.declared.verdict.Verdict.TheVariants.{Unallocated, Named, OutOfRange, BadWhiteout}
+use Rattle.ffs_pathnames.specs.DirectoryContext.{DirectoryContext}
+use Rattle.ffs_pathnames.specs.PassedNames.{PassedNames, after_roled, entries_reported, roled_reported}
 
 -- ---- where there is a line
 pub knows_places : (v : Layout) (contents : Option (List ℕ)) (w : Workspace) (d : ℕ) (b : List ℕ) →

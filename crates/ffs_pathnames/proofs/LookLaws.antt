@@ -1,21 +1,14 @@
 -- What a first look at the entries of a directory finds.
-use Rattle.std.proofs.Common.{◌≡◌, ◌≢◌, ℕ, suc, ◌<◌, ◌==◌, Bool, true, false, not, ◌&&◌, ◌||◌, nat_lt, if◌then◌else◌}
-use Rattle.std.proofs.Common.{refl, List, [], ◌∷◌, ◌++◌, length, slice_index, slice_set, ◌⊎◌, sym, ◌∙◌, ap, subst, inl}
-use Rattle.std.proofs.Common.{inr, append_assoc, append-nil, arith, ne_eqb, eqb-true, eq-eqb, ltb-true, lt-ltb}
-use Rattle.std.{proofs.lemmas.List.get_or-set_other, proofs.lemmas.List.get_or-set_same, specs.List.list_any}
-use Rattle.std.proofs.lemmas.Bool.{Decides.nat_tests, cases_eq, both_ways, and_parts, and_from, not-true}
-use Rattle.std.proofs.Math.{ListN.length-set, Bool.or-false, Bool.or-true}
-use Rattle.ffs_volume.specs.{declared.Role.Role, Blocks.Inodes.is_allocated}
+use Rattle.std.proofs.Common.{◌≡◌, ◌≢◌, ℕ, ◌<◌, ◌==◌, true, false, ◌&&◌, refl, List, [], ◌∷◌, ◌++◌, length, slice_index}
+use Rattle.std.proofs.Common.{sym, ◌∙◌, subst, append_assoc, append-nil, arith}
+use Rattle.std.proofs.lemmas.{List.get_or-set_other, List.get_or-set_same, Bool.Decides.nat_tests, Bool.and_parts}
+use Rattle.std.{proofs.Math.ListN.length-set, specs.List.list_any}
+use Rattle.ffs_volume.specs.{declared.Role.Role, Messages.Kinds.whiteout}
 use Rattle.ffs_volume.specs.declared.Role.TheVariants.{Empty, Dot, Dotdot, Extra, Plain}
-use Rattle.ffs_volume.specs.Directories.PathnameCheck.{entry_lines_of as lines_by_role, attributes, label_of}
-use Rattle.ffs_volume.specs.Directories.PathnameCheck.{is_bad_whiteout, message_on_suspect, has_wrong_type}
-use Rattle.ffs_volume.specs.Directories.PathnameCheck.{is_first_entry_of_suspect, is_extraneous, named_lines}
+use Rattle.ffs_volume.specs.Directories.PathnameCheck.{entry_lines_of as lines_by_role, is_bad_whiteout, named_lines}
 use Rattle.ffs_volume.specs.Directories.PathnameCheck.{plain_lines, entry_lines, lines_of_entries}
-use Rattle.ffs_volume.specs.Directories.{Entries.Entry, Climb.is_value, Graph.is_naming_entry, Graph.parent}
-use Rattle.ffs_volume.specs.Directories.Roles.{Volume, RoledEntry, is_dir, is_suspect, is_plain, roled_entries}
-use Rattle.ffs_volume.specs.Directories.Parents.{graph_of, is_parent_entry, is_first_naming_entry}
-use Rattle.ffs_volume.specs.Directories.Paths.{dir_path, entry_path}
-use Rattle.ffs_volume.specs.Messages.Kinds.{reported, out_of_range, whiteout, unallocated, extraneous, kind_entry}
+use Rattle.ffs_volume.specs.Directories.{Entries.Entry, Graph.is_naming_entry}
+use Rattle.ffs_volume.specs.Directories.Roles.{Volume, RoledEntry, is_suspect, is_plain, roled_entries}
 use Rattle.ffs_pathnames.specs.PassedNames.{belongs, after_look, after_looks, is_plain_quiet, is_role_quiet, is_quiet}
 use Rattle.ffs_pathnames.specs.PassedNames.{are_quiet, is_inode_quiet}
 use Rattle.ffs_pathnames.proofs.PassedLaws.{size_of, size_more, IsEntry, IsDirectory, from_parent_is, any_more}

@@ -1,6 +1,6 @@
 -- A look at the entries of a chunk, and at the chunks of a directory, one after another.
-use Rattle.std.proofs.Common.{Some, None, add-one, refl, ◌++◌, ◌≡◌, sym, ap, ◌∙◌, ℕ, suc, ◌+◌, arith, Bool, ◌&&◌, ◌==◌}
-use Rattle.std.proofs.Common.{List, [], ◌∷◌, sum_by}
+use Rattle.std.proofs.Common.{Some, None, add-one, refl, ◌++◌, ◌≡◌, sym, ◌∙◌, ℕ, ◌+◌, arith, Bool, ◌&&◌, ◌==◌, List, []}
+use Rattle.std.proofs.Common.{◌∷◌, sum_by}
 use Rattle.std.proofs.Math.Bool.{and-true, and_assoc}
 use Rattle.std.{proofs.lemmas.List.Sums.sum_by-cons, proofs.lemmas.Bool.Decides.nat_tests, specs.List.flat_map}
 use Rattle.ffs_pathnames.specs.PassedNames.{is_quiet, are_quiet, after_look, after_looks}

@@ -1,29 +1,21 @@
 -- What is reported by the names that were passed is what the pathname check reports.
 use Rattle.std.proofs.Common.{◌≡◌, ◌≢◌, ℕ, suc, ◌<◌, ◌≤◌, ◌==◌, Bool, true, false, not, ◌&&◌, ◌||◌, nat_lt}
-use Rattle.std.proofs.Common.{if◌then◌else◌, refl, List, [], ◌∷◌, ◌++◌, length, slice_index, slice_set, Option, None}
-use Rattle.std.proofs.Common.{Some, ◌⊎◌, arith, sym, ◌∙◌, ap, subst, inl, inr, append_assoc, ne_eqb, eq-eqb, ltb-true}
-use Rattle.std.proofs.Common.{lt-ltb, zero, cond, option_map}
-use Rattle.std.proofs.lemmas.List.{get_or-set_other, get_or-set_same, Folds.list_any-append}
-use Rattle.std.proofs.{lemmas.Grind.common_steps, Math.ListN.length-set, Math.Bool.and-false}
-use Rattle.std.proofs.lemmas.Bool.{Decides.nat_tests, cases_eq, and_parts, and_from}
-use Rattle.std.{proofs.Math.Bool.or-false, proofs.Math.Bool.or-true, specs.List.list_any, specs.List.slice_index_or}
-use Rattle.ffs_volume.specs.{declared.Role.Role, Blocks.Inodes.is_allocated}
+use Rattle.std.proofs.Common.{if◌then◌else◌, refl, List, [], ◌∷◌, ◌++◌, Option, None, Some, arith, sym, ◌∙◌, ap}
+use Rattle.std.proofs.Common.{append_assoc, eq-eqb, ltb-true, zero, option_map}
+use Rattle.std.proofs.lemmas.{List.get_or-set_other, List.get_or-set_same, Grind.common_steps, Bool.Decides.nat_tests}
+use Rattle.std.{proofs.lemmas.Bool.and_parts, proofs.Math.ListN.length-set, specs.List.list_any}
+use Rattle.ffs_volume.specs.{declared.Role.Role, Directories.Climb.is_value, Directories.PathnameCheck.lines_of_entries}
 use Rattle.ffs_volume.specs.declared.Role.TheVariants.{Empty, Dot, Dotdot, Extra, Plain}
 use Rattle.ffs_volume.specs.Directories.Roles.{Volume, RoledEntry, is_dir, is_suspect, is_plain, roled_entries}
-use Rattle.ffs_volume.specs.Directories.{Climb.is_value, Paths.dir_path, Paths.entry_path}
 use Rattle.ffs_volume.specs.Directories.Graph.{is_naming_entry, is_naming_dir, parent, index_in_parent, first_index}
-use Rattle.ffs_volume.specs.Directories.Parents.{graph_of, first_naming_dir, is_first_naming_entry, is_parent_entry}
-use Rattle.ffs_volume.specs.Directories.PathnameCheck.{attributes, label_of, is_bad_whiteout, message_on_suspect}
-use Rattle.ffs_volume.specs.Directories.PathnameCheck.{has_wrong_type, entry_lines_of as lines_by_role}
-use Rattle.ffs_volume.specs.Directories.PathnameCheck.{is_first_entry_of_suspect, is_extraneous, named_lines}
-use Rattle.ffs_volume.specs.Directories.PathnameCheck.{plain_lines, entry_lines, lines_of_entries}
-use Rattle.ffs_volume.specs.Disk.Search.{some_below, first_below}
-use Rattle.ffs_volume.specs.Messages.Kinds.{reported, out_of_range, whiteout, unallocated, extraneous, kind_entry}
+use Rattle.ffs_volume.specs.Directories.Parents.{graph_of, is_first_naming_entry, is_parent_entry}
+use Rattle.ffs_volume.specs.Directories.PathnameCheck.{entry_lines_of as lines_by_role, is_first_entry_of_suspect}
+use Rattle.ffs_volume.specs.Directories.PathnameCheck.{is_extraneous, named_lines, plain_lines, entry_lines}
+use Rattle.ffs_volume.{specs.Disk.Search.some_below, specs.Disk.Search.first_below, proofs.RoleLaws.plain-true}
 use Rattle.ffs_volume.proofs.SearchLaws.{first_below-is, first_below-none, first_below-some}
-use Rattle.ffs_volume.proofs.{ClimbLaws.is_value-true, ClimbLaws.is_value-from, RoleLaws.plain-true}
 use Rattle.ffs_pathnames.specs.PassedNames.{PassedNames, is_flagged, is_calm, is_stamped, after_name, after_roled}
 use Rattle.ffs_pathnames.specs.PassedNames.{named_reported, plain_reported, role_reported, roled_reported}
-use Rattle.ffs_pathnames.specs.{PassedNames.entries_reported, PassedNames.belongs, PassedRight.AreRight}
+use Rattle.ffs_pathnames.specs.{PassedNames.entries_reported, PassedRight.AreRight}
 
 -- ---- the place of an entry
 -- how many entries there are
@@ -93,8 +85,11 @@ first_name_is : {v : Volume} {s : ℕ} {done es : List RoledEntry} {e : RoledEnt
     ≡ not (some_below (λ t. is_naming_dir (graph_of v) t e.entry.number) s || list_any (is_naming_entry e.entry.number)
     done)
 first_name_is {v = v} {s = s} {e = e} i p =
-    rw (first_in (λ t. is_naming_dir (graph_of v) t e.entry.number) v.count s i.dir.below
-    (names_in_it i p), place_is i p)
+    rw (
+      first_in (λ t. is_naming_dir (graph_of v) t e.entry.number) v.count s i.dir.below
+          (names_in_it i p),
+      place_is i p,
+    )
     (grind (arith, common_steps))
 
 pub from_parent_is : {v : Volume} {s : ℕ} {done es : List RoledEntry} {e : RoledEntry} → IsEntry v s done e es →

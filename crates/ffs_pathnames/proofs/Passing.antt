@@ -1,11 +1,11 @@
 -- Entries are reported and passed, one after another and chunk by chunk.
 use Rattle.std.proofs.Common.{◌≡◌, refl, sym, ap, ◌∙◌, ℕ, ◌<◌, ◌^◌, true, List, [], ◌∷◌, ◌++◌, append_assoc, map}
-use Rattle.std.proofs.Common.{Option, subst, ◌+◌, length, length-append, Bool}
+use Rattle.std.proofs.Common.{Option, subst, Bool}
 use Rattle.std.{proofs.lemmas.List.map-append, specs.List.flat_map}
-use Rattle.ffs_volume.specs.{declared.Layout.Layout, declared.Inode.Inode, Disk.Areas.is_run_in_range}
-use Rattle.ffs_volume.specs.{Laws.Geometry.IsAcceptedLayout, Blocks.Inodes.inode_of, Blocks.Steps.steps_of}
+use Rattle.ffs_volume.specs.declared.{Layout.Layout, Inode.Inode}
+use Rattle.ffs_volume.specs.{Disk.Areas.is_run_in_range, Laws.Geometry.IsAcceptedLayout, Blocks.Inodes.inode_of}
+use Rattle.ffs_volume.specs.{Blocks.Steps.steps_of, Directories.Volumes.volume_of, Messages.Kinds.of_tree}
 use Rattle.ffs_volume.specs.Directories.Entries.{Chunk, chunks_of, bytes_read}
-use Rattle.ffs_volume.specs.{Directories.Volumes.volume_of, Messages.Kinds.TreeMessage, Messages.Kinds.of_tree}
 use Rattle.ffs_volume.specs.Directories.Roles.{Volume, RoledEntry, roled_chunk, roled_entries, is_dir}
 use Rattle.ffs_volume.specs.Encodings.Replay.{cut_at, fresh_replay, replayed_steps}
 use Rattle.ffs_names.specs.RunCursors.{reading_by}

@@ -1,23 +1,19 @@
 -- What a workspace shows, and what is read of directories, is the volume's.
-use Rattle.std.proofs.Common.{◌≡◌, ◌≤◌, refl, sym, ap, ◌∙◌, ℕ, true, false, ◌||◌, ◌==◌, List, length, Option, Some}
-use Rattle.std.proofs.Common.{None, arith, slice_index, ne_eqb}
+use Rattle.std.proofs.Common.{◌≡◌, ◌≤◌, refl, sym, ap, ◌∙◌, ℕ, true, false, ◌==◌, List, length, Option, Some, None}
+use Rattle.std.proofs.Common.{arith, slice_index, ne_eqb}
 use Rattle.std.specs.{Option.unwrap_or, List.flat_map}
 use Rattle.ffs_volume.specs.declared.{Layout.Layout, Class.Class, Inode.Inode}
-use Rattle.ffs_volume.specs.declared.Class.TheVariants.{Free, Partial, Unknown, File, Dir}
+use Rattle.ffs_volume.specs.declared.Class.TheVariants.{Partial, File, Dir}
 use Rattle.ffs_volume.specs.Blocks.Inodes.{is_file_or_dir, is_allocated, is_unknown, inode_of}
-use Rattle.ffs_volume.specs.{Blocks.Steps.steps_of, Laws.Geometry.IsAcceptedLayout, Disk.Areas.is_run_in_range}
-use Rattle.ffs_volume.specs.Directories.{Climb.is_value, Graph.parent, Parents.graph_of, Roles.roled_chunk}
-use Rattle.ffs_volume.{specs.Directories.Roles.roled_entries, proofs.CutLaws.replay_at}
+use Rattle.ffs_volume.{specs.Blocks.Steps.steps_of, specs.Laws.Geometry.IsAcceptedLayout, proofs.CutLaws.replay_at}
+use Rattle.ffs_volume.specs.Directories.{Climb.is_value, Graph.parent, Parents.graph_of, Entries.Chunk, Entries.has_gap}
+use Rattle.ffs_volume.specs.Directories.Roles.{roled_chunk, roled_entries}
 use Rattle.ffs_volume.specs.Directories.Volumes.{class_at, volume_of, volume_with, is_inode_number, chunk_source_of}
-use Rattle.ffs_volume.specs.Directories.Entries.{Chunk, chunks_of, has_gap, bytes_read}
-use Rattle.ffs_volume.specs.Encodings.Kinds.{kind_at, is_dir_kind, is_empty_dir_kind, is_allocated_kind}
-use Rattle.ffs_volume.specs.Encodings.Kinds.{is_unknown_kind, type_of_kind, class_of_kind}
 use Rattle.ffs_volume.specs.Encodings.Replay.{cut_at, fresh_replay, replayed_steps}
 use Rattle.ffs_workspace.specs.{declared.workspace.Workspace.Workspace, Lengths.inodes_of}
 use Rattle.ffs_workspace.specs.Holds.{bool_at, HoldsClaims, HoldsSurvey}
 use Rattle.ffs_workspace.proofs.KindLaws.{reports_at, dir_is, suspect_is, type_is, class_is}
 use Rattle.ffs_pathnames.specs.{declared.inodes.Inodes.Inodes, Sees.Sees, Reads.chunks_read}
-use Rattle.ffs_names.specs.RunCursors.{reading_by}
 
 -- ---- what a workspace shows
 pub settled : (c : Class) → is_allocated c ≡ true → is_unknown c ≡ false → is_file_or_dir c ≡ true

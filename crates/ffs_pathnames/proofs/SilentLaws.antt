@@ -1,40 +1,36 @@
 -- Nothing is reported of a directory that the survey found calm.
 use Rattle.std.proofs.Common.{◌≡◌, ◌≢◌, ℕ, suc, ◌<◌, ◌≤◌, ◌*◌, ◌/◌, ◌==◌, Bool, true, false, not, ◌&&◌, ◌||◌, nat_le}
-use Rattle.std.proofs.Common.{nat_lt, if◌then◌else◌, cond, refl, List, [], ◌∷◌, ◌++◌, map, length, slice_index}
-use Rattle.std.proofs.Common.{slice_set, Option, None, Some, option_and_then, sum_by, unwrap_or, arith, sym, ◌∙◌, ap}
-use Rattle.std.proofs.Common.{subst, inl, inr, eqb-true, eq-eqb, ne_eqb, ltb-true, leb-true}
-use Rattle.std.proofs.{lemmas.List.get_or-set_other, Math.Bool.and-false}
-use Rattle.std.proofs.lemmas.Bool.{or_cases, or_left, or_right, not-true, false_from_ne_true, both_ways, cases_Bool}
-use Rattle.std.proofs.lemmas.Bool.{cases_eq, and_parts, and_from, Decides.nat_tests}
+use Rattle.std.proofs.Common.{nat_lt, if◌then◌else◌, refl, List, [], ◌∷◌, ◌++◌, map, length, slice_index, slice_set}
+use Rattle.std.proofs.Common.{Option, None, Some, option_and_then, sum_by, unwrap_or, arith, sym, ◌∙◌, ap, subst, inl}
+use Rattle.std.proofs.Common.{inr, eqb-true, eq-eqb, ne_eqb, leb-true}
+use Rattle.std.proofs.lemmas.{List.get_or-set_other, Bool.Decides.nat_tests}
+use Rattle.std.proofs.lemmas.Bool.{or_cases, or_left, or_right, false_from_ne_true, both_ways, and_parts, and_from}
 use Rattle.std.specs.List.{list_any, flat_map, find}
 use Rattle.ffs_volume.specs.declared.{Layout.Layout, Attr.Attr, Order.Order, Step.Step, Role.Role}
 use Rattle.ffs_volume.specs.declared.Step.TheVariants.{Run, Tail, Gap}
-use Rattle.ffs_volume.specs.declared.Role.TheVariants.{Empty, Dot, Dotdot, Extra, Plain}
+use Rattle.ffs_volume.specs.declared.Role.TheVariants.{Dot, Dotdot, Extra, Plain}
 use Rattle.ffs_volume.specs.{Laws.Geometry.IsAcceptedLayout, Disk.Areas.is_run_in_range, Blocks.Steps.steps_of}
 use Rattle.ffs_volume.specs.Blocks.Inodes.{is_allocated, is_unknown, inode_of}
 use Rattle.ffs_volume.specs.Directories.{Climb.is_value, Graph.is_naming_entry, Graph.parent, Parents.graph_of}
 use Rattle.ffs_volume.specs.Directories.Entries.{Entry, Chunk, ChunkSource, chunk_of, chunks_of, run_chunks}
 use Rattle.ffs_volume.specs.Directories.Entries.{step_chunks, entries_of, is_sound, is_live, bytes_read}
-use Rattle.ffs_volume.specs.Directories.{Paths.dir_path, PathnameCheck.is_bad_whiteout}
-use Rattle.ffs_volume.specs.Directories.PathnameCheck.{has_wrong_type, is_wrong_parent, attributes, are_sound}
+use Rattle.ffs_volume.specs.Directories.{Paths.dir_path, Volumes.class_at, Volumes.volume_of, Volumes.volume_with}
+use Rattle.ffs_volume.specs.Directories.PathnameCheck.{is_bad_whiteout, is_wrong_parent, attributes, are_sound}
 use Rattle.ffs_volume.specs.Directories.Roles.{nth_entry, start_entry, Volume, RoledEntry, is_dir, is_suspect, is_plain}
 use Rattle.ffs_volume.specs.Directories.Roles.{is_one_dot, is_two_dots, role_of, roled_from, roled_chunk, roled_entries}
-use Rattle.ffs_volume.specs.Directories.Volumes.{class_at, volume_of, volume_with}
-use Rattle.ffs_volume.specs.Encodings.Kinds.{kind_at, is_empty_dir_kind, is_allocated_kind, is_unknown_kind}
-use Rattle.ffs_volume.{specs.Encodings.Kinds.type_of_kind, proofs.Silence.nil-both, proofs.Silence.reported-silent}
+use Rattle.ffs_volume.specs.Encodings.Kinds.{is_empty_dir_kind, is_allocated_kind, is_unknown_kind, type_of_kind}
 use Rattle.ffs_volume.specs.Encodings.Replay.{cut_at, fresh_replay, replayed_steps}
 use Rattle.ffs_names.{specs.RunCursors.reading_by, specs.Surveys.FlagsCalm, proofs.DirLaws.kind_dirs}
 use Rattle.ffs_names.specs.RightShapes.{is_right_size, is_right_shape}
 use Rattle.ffs_workspace.specs.{declared.workspace.Workspace.Workspace, Lengths.IsFor}
 use Rattle.ffs_workspace.specs.Holds.{bool_at, HoldsClaims, HoldsSurvey}
 use Rattle.ffs_workspace.proofs.KindLaws.{reports_at, suspect_is, type_is}
-use Rattle.ffs_survey.specs.{Survey.number_at, Survey.dir_at, Calm.is_calm_plain, Calm.is_calm_role}
-use Rattle.ffs_survey.specs.Calm.{is_calm_entry, reached_after, are_calm, IsCalm, CurrentDir, is_calm_kind}
+use Rattle.ffs_survey.specs.{Survey.number_at, Survey.dir_at, Calm.CurrentDir, Calm.is_calm_kind}
+use Rattle.ffs_survey.specs.Calm.{is_calm_plain, is_calm_role, is_calm_entry, reached_after, are_calm, IsCalm}
 use Rattle.ffs_survey.proofs.CalmLaws.{calm_names_new, calm_new}
 use Rattle.ffs_pathnames.specs.{Begins.dir_starts, Calm.IsSilentDirectory, Reads.chunks_read}
-use Rattle.ffs_pathnames.specs.Header.{dot_in, dotdot_in, dot_reported, dotdot_reported}
-use Rattle.ffs_pathnames.specs.PassedNames.{belongs, after_look, is_inode_quiet, is_plain_quiet, is_role_quiet}
-use Rattle.ffs_pathnames.specs.PassedNames.{is_quiet, are_quiet}
+use Rattle.ffs_pathnames.specs.Header.{dot_in, dot_reported}
+use Rattle.ffs_pathnames.specs.PassedNames.{belongs, after_look, is_plain_quiet, is_role_quiet, is_quiet, are_quiet}
 use Rattle.ffs_pathnames.proofs.{SeesLaws.chunks_are, SeesLaws.settled, HeaderLaws.in_order, HeaderLaws.dotdot_right}
 use Rattle.ffs_names.proofs.DirLaws as dirs
 

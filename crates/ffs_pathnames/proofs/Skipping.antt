@@ -1,6 +1,6 @@
 -- Inodes that aren't looked at, before the first directory that is.
-use Rattle.std.proofs.Common.{◌≡◌, ◌<◌, ◌≤◌, ◌-◌, ◌+◌, refl, sym, ap, subst, ◌∙◌, ℕ, zero, suc, false, List, ◌++◌, map}
-use Rattle.std.proofs.Common.{Option, arith, slice_index, not, ◌&&◌, length}
+use Rattle.std.proofs.Common.{◌≡◌, ◌<◌, ◌≤◌, ◌-◌, ◌+◌, refl, sym, ap, ◌∙◌, ℕ, zero, suc, false, List, map, Option}
+use Rattle.std.proofs.Common.{arith, slice_index, not, ◌&&◌, length}
 use Rattle.ffs_volume.specs.{declared.Layout.Layout, Laws.Geometry.IsAcceptedLayout, Directories.Roles.is_suspect}
 use Rattle.ffs_volume.specs.Directories.{Volumes.volume_with, Volumes.volume_of, PathnameCheck.directory_lines}
 use Rattle.ffs_volume.{specs.Messages.Kinds.of_tree, specs.Messages.Kinds.lines_from, proofs.Numbered.from_next}
@@ -39,9 +39,12 @@ lines_unseen v contents w b (suc (suc (suc n))) end g two le h k =
     let lines = directory_lines (volume_of v b) in
     let next : suc (suc n) + 1 ≡ suc (suc (suc n)) = omega arith in
     lines_unseen v contents w b (suc (suc n)) end g (omega arith) (omega arith) (fewer w (suc (suc n)) h) k
-    ∙ rw (from_next lines (suc (suc n)) end (omega arith),
-    lines_skipped (omega arith) (h (suc (suc n)) (omega arith) (omega arith))
-    (before_unseen v contents w b (suc (suc n)) g (omega arith) (fewer w (suc (suc n)) h) k), next) refl
+    ∙ rw (
+      from_next lines (suc (suc n)) end (omega arith),
+      lines_skipped (omega arith) (h (suc (suc n)) (omega arith) (omega arith))
+          (before_unseen v contents w b (suc (suc n)) g (omega arith) (fewer w (suc (suc n)) h) k),
+      next,
+    ) refl
 
 -- once places are noted, and no entry is due, all is right before the inode that was next
 pub noted_before : (v : Layout) (contents contents' : Option (List ℕ)) (old new : Workspace) (n : ℕ) (b : List ℕ) →

@@ -1,25 +1,14 @@
 -- What verdicts report, and what is gathered for it.
-use Rattle.std.proofs.Common.{◌≡◌, refl, ap, ◌∙◌, ℕ, Bool, true, false, ◌++◌, List, [], not, ◌||◌, ◌≤◌, ◌+◌, ◌*◌, ◌==◌}
-use Rattle.std.proofs.Common.{◌%◌, sym, subst, arith, ◌&&◌, if◌then◌else◌, nat_lt, Option, None, Some, ◌∷◌, length}
-use Rattle.std.proofs.{Common.length-append, Common.Ok, lemmas.Bool.Decides.nat_tests}
-use Rattle.ffs_volume.specs.declared.{Attr.Attr, Layout.Layout}
-use Rattle.ffs_volume.specs.Directories.Roles.{Volume, RoledEntry, is_one_dot, is_two_dots}
-use Rattle.ffs_volume.specs.{Directories.Parents.graph_of, Report.Reads.line_reads}
-use Rattle.ffs_volume.specs.Directories.{Paths.dir_path, Paths.entry_path, Entries.Entry, Entries.is_live}
-use Rattle.ffs_volume.specs.Directories.PathnameCheck.{attributes, extra_lines, is_wrong_parent}
-use Rattle.ffs_volume.specs.Messages.Kinds.{reported, extraneous, kind_entry, TreeMessage}
-use Rattle.ffs_pathnames.specs.{declared.verdict.EntryDefects.EntryDefects, DirectoryContext.DirectoryContext}
-use Rattle.ffs_pathnames.specs.declared.verdict.Verdict.{Verdict, TheVariants.Whiteout}
-use Rattle.ffs_pathnames.specs.declared.verdict.Verdict.TheVariants.{Unallocated, Named, OutOfRange, BadWhiteout}
+use Rattle.std.proofs.Common.{◌≡◌, refl, ℕ, true, false, List, [], ◌≤◌, arith, length}
+use Rattle.std.proofs.lemmas.Bool.Decides.{nat_tests}
+use Rattle.ffs_volume.specs.{declared.Attr.Attr, Messages.Kinds.reported, Messages.Kinds.extraneous}
+use Rattle.ffs_volume.specs.Directories.{Roles.Volume, Parents.graph_of, Entries.Entry, PathnameCheck.attributes}
+use Rattle.ffs_volume.specs.Directories.Paths.{dir_path, entry_path}
+use Rattle.ffs_pathnames.specs.declared.verdict.{EntryDefects.EntryDefects, Verdict.Verdict}
+use Rattle.ffs_pathnames.specs.declared.verdict.Verdict.TheVariants.{Whiteout, Unallocated, Named}
 use Rattle.ffs_pathnames.specs.Gathers.{IsEnough, asks_attr, asks_path, is_silent, IsVerdict}
-use Rattle.ffs_pathnames.specs.Verdicts.{verdict_reported, defects_reported, suspect_message}
-use Rattle.ffs_pathnames.specs.Header.{dot_in, dotdot_in, dot_reported, dotdot_reported, header_reported, is_right_dot}
-use Rattle.ffs_pathnames.specs.Header.{is_right_dotdot, is_right_header, shape_reported}
-use Rattle.ffs_pathnames.specs.PassedNames.{PassedNames, after_roled, entries_reported, roled_reported, plain_reported}
-use Rattle.ffs_image.specs.Device.{Device}
-use Rattle.ffs_workspace.specs.{Places.AreNoted, declared.workspace.Workspace.Workspace}
-use Rattle.ffs_workspace.proofs.Leaving.{claims_held, survey_held}
-use Rattle.ffs_paths.{specs.Reads.KnowsPlaces, specs.Reads.OnlyReads, specs.Reads.ReadsFew, proofs.Climbed.few_more}
+use Rattle.ffs_pathnames.specs.Verdicts.{verdict_reported, defects_reported}
+use Rattle.ffs_pathnames.specs.PassedNames.{PassedNames, plain_reported}
 
 -- a silent one reports nothing, and any other one line at least
 pub silent_reported : (verdict : Verdict) (number : ℕ) (about : Attr) (path directory : List ℕ) →

@@ -1,12 +1,11 @@
 use Rattle.std.proofs.Common.{◌≡◌, sym, ap, ◌∙◌, ℕ, List, [], map, append-nil, option_map, ◌≤◌, ◌++◌, length}
 use Rattle.std.proofs.lemmas.Result.{err_from_is_err_and}
-use Rattle.ffs_volume.specs.{declared.Attr.Attr, Messages.Kinds.TreeMessage, Messages.Kinds.of_tree}
+use Rattle.ffs_volume.specs.Messages.Kinds.{of_tree}
 use Rattle.ffs_volume.specs.Directories.{PathnameCheck.attributes, Parents.graph_of, Paths.dir_path, Volumes.volume_of}
 use Rattle.ffs_layout.specs.Entry.{entry_value}
 use Rattle.ffs_report.proofs.Reports.{said_none}
 use Rattle.ffs_report.proofs.Reporting.{of_begins, of_says, of_stops, of_reads}
-use Rattle.ffs_pathnames.specs.Header.{header_reported, is_right_header, header_lines, header_lines_of}
-use Rattle.ffs_pathnames.specs.DirectoryContext.{KnowsHeader}
+use Rattle.ffs_pathnames.specs.{Header.header_lines, Header.header_lines_of, DirectoryContext.KnowsHeader}
 use Rattle.ffs_pathnames.proofs.{Begun.attr_size, LineCounts.by_line, LineCounts.knows_places, HeaderLaws.header_some}
 use Rattle.ffs_pathnames.proofs.check.report_header.{Goals.After-gather_dir, Goals.After-say_header, Given.Over}
 use Rattle.ffs_pathnames.proofs.check.report_header.Goals as goal

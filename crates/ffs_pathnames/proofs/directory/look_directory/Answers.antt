@@ -1,6 +1,5 @@
 use Rattle.std.proofs.Common.{◌≡◌, refl, sym, ap, subst, ◌∙◌, ℕ, List, ◌∷◌, Some, arith, ◌==◌, ◌||◌}
-use Rattle.std.proofs.{lemmas.Result.err_from_is_err_and, Math.Bool.and-true}
-use Rattle.std.specs.List.{flat_map, find}
+use Rattle.std.{proofs.lemmas.Result.err_from_is_err_and, specs.List.flat_map, specs.List.find}
 use Rattle.ffs_image.specs.Device.{Faulted}
 use Rattle.ffs_volume.specs.Directories.{Entries.Chunk, Entries.chunk_of, Roles.roled_chunk, PathnameCheck.are_sound}
 use Rattle.ffs_names.specs.Readings.{rest, gap_left}

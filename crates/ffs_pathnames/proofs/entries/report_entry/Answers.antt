@@ -1,7 +1,7 @@
 use Rattle.std.proofs.Common.{ap, refl, ◌∙◌, rules}
 use Rattle.std.proofs.lemmas.{List.with_items_is, Result.err_from_is_err_and}
 use Rattle.ffs_volume.specs.Directories.Volumes.{volume_of}
-use Rattle.ffs_workspace.specs.{declared.workspace.Workspace.Workspace, Leaves.LeavesSurvey}
+use Rattle.ffs_workspace.specs.declared.workspace.Workspace.{Workspace}
 use Rattle.ffs_workspace.proofs.Leaving.{claims_left, survey_left, leaves_more, windows_leave}
 use Rattle.ffs_pathnames.specs.Gathers.{passed_of, roled_value}
 use Rattle.ffs_pathnames.proofs.{Passing.passes, SeesLaws.sees}

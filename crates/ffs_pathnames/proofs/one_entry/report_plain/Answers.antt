@@ -1,12 +1,11 @@
 use Rattle.std.proofs.Common.{sym, ap, ◌∙◌, ℕ, List, [], map, append-nil, ◌≡◌, ◌++◌, ◌≤◌, length}
 use Rattle.std.proofs.lemmas.Result.{err_from_is_err_and}
-use Rattle.ffs_volume.specs.{Messages.Kinds.TreeMessage, Messages.Kinds.of_tree, Directories.Parents.graph_of}
-use Rattle.ffs_volume.specs.Directories.{Paths.entry_path, Paths.dir_path, Volumes.volume_of, PathnameCheck.attributes}
+use Rattle.ffs_volume.specs.{Messages.Kinds.of_tree, Directories.PathnameCheck.attributes}
+use Rattle.ffs_volume.specs.Directories.{Parents.graph_of, Paths.entry_path, Paths.dir_path, Volumes.volume_of}
 use Rattle.ffs_layout.specs.Entry.{entry_value}
 use Rattle.ffs_report.proofs.Reports.{said_none}
 use Rattle.ffs_report.proofs.Reporting.{of_begins, of_says, of_stops, of_reads}
-use Rattle.ffs_pathnames.specs.Gathers.{passed_of, plain_lines_by}
-use Rattle.ffs_pathnames.specs.{PassedNames.plain_reported, Verdicts.verdict_reported}
+use Rattle.ffs_pathnames.specs.{Gathers.plain_lines_by, Verdicts.verdict_reported}
 use Rattle.ffs_pathnames.specs.DirectoryContext.{DirectoryContext, KnowsPath}
 use Rattle.ffs_pathnames.proofs.LineCounts.{by_line, few_none, knows_places}
 use Rattle.ffs_pathnames.proofs.VerdictLaws.{plain_some, silent_reported}

@@ -3,11 +3,10 @@ use Rattle.std.proofs.lemmas.Result.{err_from_is_err_and}
 use Rattle.ffs_report.proofs.Reporting.{of_begins, of_says, of_stops, of_reads, of_last, reports_knowing}
 use Rattle.ffs_volume.specs.{Messages.Kinds.of_tree, Messages.Kinds.phase2, Directories.PathnameCheck.pathname_lines}
 use Rattle.ffs_volume.{specs.Directories.Volumes.volume_of, proofs.RunBounds.runs_bounded, proofs.Results.on_ok}
-use Rattle.ffs_pathnames.{specs.declared.pass2.Root.Root, specs.Before.IsBefore, proofs.Carrying.claims_untouched}
-use Rattle.ffs_pathnames.proofs.Carrying.{before_first, references_on, on_all, if_ok, at_fault, at_fault_more}
+use Rattle.ffs_pathnames.{specs.declared.pass2.Root.Root, specs.Before.IsBefore, proofs.Carrying.at_fault_more}
+use Rattle.ffs_pathnames.proofs.Carrying.{claims_untouched, before_first, references_on, on_all, if_ok, at_fault}
 use Rattle.ffs_pathnames.proofs.{SilentLaws.calm_silent, pass2.phase2.Goals.After-check_tree, pass2.phase2.Given.Over}
 use Rattle.ffs_names.proofs.RunSums.{costs_bounded}
-use Rattle.ffs_maps.specs.Bits.{bits_of}
 use Rattle.ffs_workspace.specs.Holds.{HoldsClaims}
 use Rattle.ffs_pathnames.proofs.pass2.phase2.Goals as goal
 

@@ -1,4 +1,4 @@
-use Rattle.std.proofs.Common.{◌≡◌, ◌≤◌, ◌++◌, ◌+◌, Bool, slice_index, ◌*◌, [], List, ℕ, map, refl, sym, ◌∙◌, append-nil}
+use Rattle.std.proofs.Common.{◌≡◌, ◌≤◌, ◌++◌, ◌+◌, Bool, slice_index, [], List, ℕ, map, refl, sym, ◌∙◌, append-nil}
 use Rattle.std.proofs.Common.{true, false, arith, length, ◌-◌}
 use Rattle.std.proofs.{lemmas.Result.err_from_is_err_and, Math.Nat.mul-le-mul_left}
 use Rattle.ffs_workspace.specs.{Holds.HoldsClaims, Places.AreChunksNumbered, Lengths.inodes_of}
