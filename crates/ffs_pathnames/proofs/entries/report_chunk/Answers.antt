@@ -49,12 +49,7 @@ returns-in_err-report_entry-clause-lines g c = record {
       let next = seen_next v.order x.bytes.now x.first c.entries.index c.entries.place e c.role_of.result
       c.in-Some.ensures.some c.role_of.ensures in
       let p = err_from_is_err_and c.from_residual.result c.from_residual.ensures.1 in
-      rw (p.1, p.2) (of_fault (Unit {0}) (Unit {0}) _
-      (λ (b : List ℕ). map of_tree (entries_reported (volume_of v b) x.dir m here))
-      (λ (b : List ℕ). map of_tree (roled_reported (volume_of v b) x.dir m seen))
-      (λ (b : List ℕ). map of_tree
-      (entries_reported (volume_of v b) x.dir (after_roled (volume_of v b) x.dir m seen) there)) _ _ _ _
-      c.in_err-report_entry.field-0.0
+      rw (p.1, p.2) (of_fault (Unit {0}) (Unit {0}) _ _ _ _ _ _ _ _ c.in_err-report_entry.field-0.0
       inv.said (λ b k. entry_reported (volume_of v b) x.dir m seen here there next refl)
       (reports_knowing (Unit {0}) _ _ _ _ _ (Err c.in_err-report_entry.field-0.0)
       (λ b k. record {
@@ -137,9 +132,7 @@ entries-preserved g c =
       path = λ b k. c.report_entry.ensures.lines.path b (record { knows = know b k.knows; path = inv.path b k });
       passed = λ b k. entry_passed (volume_of v b) x.dir m next (ok.passed b (know b k))
           (inv.passed b k);
-      said = of_part _ (λ (b : List ℕ). map of_tree (entries_reported (volume_of v b) x.dir m here))
-          (λ (b : List ℕ). map of_tree (roled_reported (volume_of v b) x.dir m seen))
-          (λ (b : List ℕ). map of_tree (entries_reported (volume_of v b) x.dir m' there)) _ _ _ _ inv.said
+      said = of_part _ _ _ _ _ _ _ _ inv.said
           (λ b k. entry_reported (volume_of v b) x.dir m seen here there next (ok.passed b (know b k.knows)))
           (said_knows _ _ _ _ _ _ (λ b k. record {
             knows = know b k.knows;
@@ -159,9 +152,7 @@ returns-clause-lines g c = record {
       let m = passed_of c.entries.workspace in
       let end = none_left v.order x.bytes.now x.first c.entries.index c.entries.place
       (none v.order x.bytes.now c.entries.place c.entry_at.result c.in_default.is c.entry_at.ensures.value) in
-      of_same _ (λ (b : List ℕ). map of_tree
-      (entries_reported (volume_of v b) x.dir m
-      (roled_at_place v.order x.bytes.now x.first c.entries.index c.entries.place))) (λ b. []) _ _ _
+      of_same _ _ (λ b. []) _ _ _
       inv.said
       (λ b k. ap (λ es. map of_tree (entries_reported (volume_of v b) x.dir m es)) end);
   path = c.entries.invariant.path;

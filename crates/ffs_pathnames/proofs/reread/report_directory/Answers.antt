@@ -52,9 +52,7 @@ chunks-init g c =
           rw long (omega (arith, all, left, runs));
       path = λ b k begun. absurd (both_ways _ refl begun);
       passed = λ b k. ap (after_entries (volume_of v b) x.number m) (sym (seen b k));
-      said = of_same _ all (λ (b : List ℕ). map of_tree
-          (entries_reported (volume_of v b) x.number m (flat_map roled_chunk (rest b c.start-chunks.result)))) all _ _
-          (of_begins _ all _) same_lines;
+      said = of_same _ all _ all _ _ (of_begins _ all _) same_lines;
     }
 
 pub returns-in_err-offset-clause-text : goal.returns-in_err-offset-clause-text
@@ -148,12 +146,7 @@ chunks-preserved g c =
           (rest b c.next.new.self) (next b k) (ok.passed b (know b k)))) (inv.reads b k noted);
       path = λ b k. c.report_chunk.ensures.lines.path b (record { knows = know b k; path = inv.path b k });
       passed = λ b k. chunk_passed (volume_of v b) x.number m (next b k) (ok.passed b (know b k)) (inv.passed b k);
-      said = of_part _ (λ (b : List ℕ). map of_tree
-          (entries_reported (volume_of v b) x.number m (flat_map roled_chunk (rest b c.chunks.chunks))))
-          (λ (b : List ℕ). map of_tree (entries_reported (volume_of v b) x.number m (roled_chunk here)))
-          (λ (b : List ℕ). map of_tree
-          (entries_reported (volume_of v b) x.number m' (flat_map roled_chunk (rest b c.next.new.self)))) _ _ _ _
-          inv.said
+      said = of_part _ _ _ _ _ _ _ _ inv.said
           (λ b k. chunk_reported (volume_of v b) x.number m here (rest b c.chunks.chunks) (rest b c.next.new.self)
           (next b k) (ok.passed b (know b k)))
           (said_knows _ _ _ _ _ _ (λ b k. record
@@ -182,14 +175,7 @@ returns-in_err-report_chunk-clause-text g c =
     (λ q. chunk_of q.layout.order c.in-Some.offset c.next.new.chunk ∷ rest b c.next.new.self) inv.geometry in
     let p = err_from_is_err_and c.from_residual-in_err-report_chunk.result
     c.from_residual-in_err-report_chunk.ensures.1 in
-    rw (p.1, p.2) (of_fault (Unit {0}) (Unit {0}) _
-    (λ (b : List ℕ). map of_tree
-    (entries_reported (volume_of v b) x.number m (flat_map roled_chunk (rest b c.chunks.chunks))))
-    (λ (b : List ℕ). map of_tree (entries_reported (volume_of v b) x.number m (roled_chunk here)))
-    (λ (b : List ℕ). map of_tree
-    (entries_reported (volume_of v b) x.number (after_entries (volume_of v b) x.number m (roled_chunk here))
-    (flat_map roled_chunk (rest b c.next.new.self)))) _ _ _ _
-    c.in_err-report_chunk.field-0.0 inv.said
+    rw (p.1, p.2) (of_fault (Unit {0}) (Unit {0}) _ _ _ _ _ _ _ _ c.in_err-report_chunk.field-0.0 inv.said
     (λ b k. chunk_reported (volume_of v b) x.number m here (rest b c.chunks.chunks) (rest b c.next.new.self)
     (next b k) refl)
     (reports_knowing (Unit {0}) _ _ _ _ _ (Err c.in_err-report_chunk.field-0.0)
@@ -219,9 +205,7 @@ returns-clause-text g c =
     let inv = c.chunks.invariant in
     let m = passed_of c.chunks.workspace in
     let came = rw c.in_default.is at c.in_ok-offset.ensures.chunk in
-    of_same _ (λ (b : List ℕ). map of_tree
-    (entries_reported (volume_of v b) x.number m (flat_map roled_chunk (rest b c.chunks.chunks)))) (λ b. []) _ _ _
-    inv.said
+    of_same _ _ (λ b. []) _ _ _ inv.said
     (λ b k. ap (λ cs. map of_tree (entries_reported (volume_of v b) x.number m (flat_map roled_chunk cs)))
     (came b (ap (λ d. d.contents) inv.device ∙ k.0.gives_bytes)).chunks.0)
 

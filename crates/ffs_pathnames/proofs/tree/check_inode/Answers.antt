@@ -10,8 +10,7 @@ pub returns-then-is_checked-clause-text : goal.returns-then-is_checked-clause-te
 returns-then-is_checked-clause-text g c =
     let v = c.args.geometry.now.layout in
     let looked = (and_parts _ _ (sym c.is_checked.ensures ∙ c.if-is_checked.true)).0 in
-    reports_same (Unit {0}) _ (λ b. map of_tree (sized_dir_lines (volume_of v b) c.args.number))
-    (λ b. map of_tree (directory_lines (volume_of v b) c.args.number)) _ _ c.check_directory.result
+    reports_same (Unit {0}) _ _ _ _ _ c.check_directory.result
     (λ b k. sym (ap (map of_tree) (lines_looked looked k)))
     (reports_knowing (Unit {0}) _ _ _ _ _ c.check_directory.result
     (λ b k. (directory_context looked k, k.passed)) c.check_directory.ensures.text)
@@ -28,9 +27,7 @@ pub returns-clause-text : goal.returns-clause-text
 returns-clause-text g c =
     let v = c.args.geometry.now.layout in
     let other = sym c.is_checked.ensures ∙ c.if-is_checked.false in
-    of_same _ (λ b. map of_tree (directory_lines (volume_of v b) c.args.number)) (λ b. []) _ _ _
-    (of_begins _ (λ b. map of_tree (directory_lines (volume_of v b) c.args.number)) _)
-    (λ b k. lines_skipped c.requires.low other k)
+    of_same _ _ (λ b. []) _ _ _ (of_begins _ _ _) (λ b k. lines_skipped c.requires.low other k)
 
 pub returns-clause-before : goal.returns-clause-before
 returns-clause-before g c = λ b k.

@@ -58,9 +58,7 @@ loop-number-init g c =
       before = λ b k. noted_before v _ _ _ _ first.result b first.ensures.range.0 refl noted.lists noted.ready.made
           (noted.places b k.gives_bytes k.claims k.survey) noted.none_due
           (before_unseen v _ _ b first.result c.args.geometry.now.sound first.ensures.range.0 first.ensures.before k);
-      said = of_same _ all (λ b. map of_tree
-          (lines_from (directory_lines (volume_of v b)) first.result (inodes_of v - first.result))) all _ _
-          (of_begins _ all _)
+      said = of_same _ all _ all _ _ (of_begins _ all _)
           (λ b k. lines_unseen v _ _ b first.result (inodes_of v) c.args.geometry.now.sound first.ensures.range.0
           first.ensures.range.1 first.ensures.before k);
     }
@@ -72,12 +70,8 @@ returns-in_err-check_inode-clause-text g c =
     let v = c.args.geometry.now.layout in
     let inv = c.loop-number.invariant in
     let n = c.loop-number.number in
-    rw (p.1, p.2) (of_fault (Unit {0}) (Unit {0}) _
-    (λ b. map of_tree (lines_from (directory_lines (volume_of v b)) n (inodes_of v - n)))
-    (λ b. map of_tree (directory_lines (volume_of v b) n))
-    (λ b. map of_tree (lines_from (directory_lines (volume_of v b)) (n + 1) (inodes_of v - (n + 1)))) _ _ _ _
-    c.in_err-check_inode.field-0.0
-    inv.said (λ b k. from_next (directory_lines (volume_of v b)) n (inodes_of v) (omega arith))
+    rw (p.1, p.2) (of_fault (Unit {0}) (Unit {0}) _ _ _ _ _ _ _ _ c.in_err-check_inode.field-0.0 inv.said
+    (λ b k. from_next (directory_lines (volume_of v b)) n (inodes_of v) (omega arith))
     (reports_knowing (Unit {0}) _ _ _ _ _ (Err c.in_err-check_inode.field-0.0)
     (λ b k. before_reported (ap (λ d. d.contents) inv.device) (inv.before b k))
     c.in_err-check_inode.ensures.text))
@@ -109,11 +103,7 @@ loop-number-preserved g c =
           b) q
           (before_reported (sym (ap (λ d. d.contents) inv.device))
           (ok.before b (before_reported (ap (λ d. d.contents) inv.device) (inv.before b k))));
-      said = of_part _ (λ b. map of_tree (lines_from (directory_lines (volume_of v b)) n (inodes_of v - n)))
-          (λ b. map of_tree (directory_lines (volume_of v b) n))
-          (λ b. map of_tree (lines_from (directory_lines (volume_of v b)) (n + 1) (inodes_of v - (n + 1)))) _ _ _ _
-          inv.said
-          (λ b k. from_next (directory_lines (volume_of v b)) n (inodes_of v) (omega arith))
+      said = of_part _ _ _ _ _ _ _ _ inv.said (λ b k. from_next (directory_lines (volume_of v b)) n (inodes_of v) (omega arith))
           (said_knows _ _ _ _ _ _
           (λ b k. before_reported (ap (λ d. d.contents) inv.device) (inv.before b k)) ok.text);
     }
@@ -123,9 +113,7 @@ returns-clause-text g c =
     let v = c.args.geometry.now.layout in
     let inv = c.loop-number.invariant in
     let n = c.loop-number.number in
-    of_same _ (λ b. map of_tree (lines_from (directory_lines (volume_of v b)) n (inodes_of v - n))) (λ b. []) _ _ _
-    inv.said
-    (λ b k. from_end (directory_lines (volume_of v b)) n (inodes_of v) (omega arith))
+    of_same _ _ (λ b. []) _ _ _ inv.said (λ b k. from_end (directory_lines (volume_of v b)) n (inodes_of v) (omega arith))
 
 pub returns-clause-holds : goal.returns-clause-holds
 returns-clause-holds g c = λ b k. let now = c.loop-number.invariant.before b k in (now.claims, now.survey)
