@@ -1,7 +1,7 @@
-use Rattle.std.proofs.Common.{refl, sym, ap, subst, ◌∙◌, ℕ, List, map, Err, length, arith}
+use Rattle.std.proofs.Common.{refl, sym, ap, subst, ◌∙◌, Err, length, arith}
 use Rattle.std.proofs.{lemmas.Result.err_from_is_err_and, Math.Nat.mul-le-mul_left}
-use Rattle.ffs_volume.{specs.Messages.Kinds.of_tree, specs.Report.Reads.line_reads, proofs.Results.on_ok}
-use Rattle.ffs_volume.specs.Directories.PathnameCheck.{sized_dir_lines, lines_of_entries}
+use Rattle.ffs_volume.{specs.Report.Reads.line_reads, proofs.Results.on_ok}
+use Rattle.ffs_volume.specs.Directories.PathnameCheck.{sized_dir_lines}
 use Rattle.ffs_volume.specs.Directories.{Roles.roled_entries, Volumes.volume_of}
 use Rattle.ffs_report.specs.PhaseOutcome.{ImageAfter}
 use Rattle.ffs_report.proofs.Reporting.{of_begins, of_part, of_fault, of_last, said_knows, reports_knowing}
@@ -17,14 +17,8 @@ use Rattle.ffs_pathnames.proofs.check.check_directory.Goals as goal
 pub returns-in_err-examined-clause-text : goal.returns-in_err-examined-clause-text
 returns-in_err-examined-clause-text g c =
     let p = err_from_is_err_and c.from_residual.result c.from_residual.ensures.1 in
-    let v = c.args.geometry.now.layout in
-    let all = λ (b : List ℕ). map of_tree (sized_dir_lines (volume_of v b) c.args.dir) in
-    rw (p.1, p.2) (of_fault Examination (Unit {0}) _ all
-    (λ b. map of_tree (dir_starts (volume_of v b) c.args.dir))
-    (λ b. map of_tree (lines_of_entries (volume_of v b) c.args.dir 0 (roled_entries (volume_of v b) c.args.dir))) all _
-    _ _ c.in_err-examined.field-0.0 (of_begins _ all _)
-    (λ b k. lines_parts (volume_of v b) c.args.dir
-    (lines_of_entries (volume_of v b) c.args.dir 0 (roled_entries (volume_of v b) c.args.dir)) refl)
+    rw (p.1, p.2) (of_fault Examination (Unit {0}) _ _ _ _ _ _ _ _ c.in_err-examined.field-0.0 (of_begins _ _ _)
+    (λ b k. lines_parts (volume_of c.args.geometry.now.layout b) c.args.dir _ refl)
     (reports_knowing Examination _ _ _ _ _ (Err c.in_err-examined.field-0.0) (λ b k. k.0)
     c.in_err-examined.ensures.text))
 
@@ -47,12 +41,8 @@ returns-then-examined-clause-passed g c = λ b k.
 pub returns-clause-text : goal.returns-clause-text
 returns-clause-text g c =
     let v = c.args.geometry.now.layout in
-    let all = λ (b : List ℕ). map of_tree (sized_dir_lines (volume_of v b) c.args.dir) in
-    let rest = λ (b : List ℕ). map of_tree
-    (entries_reported (volume_of v b) c.args.dir (passed_of c.begin_directory.new.workspace)
-    (roled_entries (volume_of v b) c.args.dir)) in
-    of_last _ _ rest rest all _ _ _ c.report_directory.result
-    (of_part _ all (λ b. map of_tree (dir_starts (volume_of v b) c.args.dir)) rest all _ _ _ (of_begins _ all _)
+    of_last _ _ _ _ _ _ _ _ c.report_directory.result
+    (of_part _ _ _ _ _ _ _ _ (of_begins _ _ _)
     (λ b k. reported_parts (volume_of v b) c.args.dir (passed_of c.args.workspace.now)
     (passed_of c.begin_directory.new.workspace)
     (directory_is (volume_of v b) c.args.dir c.requires.dir k.0.dir) k.1 (c.in_ok-examined.ensures.begun b k.0).passed)

@@ -50,17 +50,13 @@ returns-in_err-attr-clause-text g c =
 
 pub returns-in_err-say_header-clause-text : goal.returns-in_err-say_header-clause-text
 returns-in_err-say_header-clause-text g c =
-    let all = λ (b : List ℕ). map of_tree (header_lines (volume_of c.args.geometry.now.layout b) c.args.header) in
     let p = err_from_is_err_and c.from_residual-in_err-say_header.result c.from_residual-in_err-say_header.ensures.1 in
-    rw (p.1, p.2) (of_stops _ all (λ b. []) _
-    (map of_tree (header_lines_of c.in_ok-attr.attr c.as_slice.result.now c.args.header)) _ _ _ (of_begins _ all _)
+    rw (p.1, p.2) (of_stops _ _ (λ b. []) _ _ _ _ _ (of_begins _ _ _)
     (lines_are g (goal.at.returns-in_err-say_header-clause-text g c).After-say_header) c.in_err-say_header.ensures)
 
 pub returns-clause-text : goal.returns-clause-text
 returns-clause-text g c =
-    let all = λ (b : List ℕ). map of_tree (header_lines (volume_of c.args.geometry.now.layout b) c.args.header) in
-    of_says _ all (λ b. []) _
-    (map of_tree (header_lines_of c.in_ok-attr.attr c.as_slice.result.now c.args.header)) _ _ _ (of_begins _ all _)
+    of_says _ _ (λ b. []) _ _ _ _ _ (of_begins _ _ _)
     (lines_are g (goal.at.returns-clause-text g c).After-say_header) c.in_ok-say_header.ensures
 
 -- the reads

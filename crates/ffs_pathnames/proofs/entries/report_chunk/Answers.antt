@@ -5,7 +5,7 @@ use Rattle.ffs_volume.specs.Messages.Kinds.{of_tree}
 use Rattle.ffs_layout.specs.Entry.{entry_value}
 use Rattle.ffs_report.proofs.Reporting.{of_begins, of_same, of_part, of_fault, said_knows, reports_knowing}
 use Rattle.ffs_pathnames.specs.{Gathers.passed_of, DirectoryContext.DirectoryContext}
-use Rattle.ffs_pathnames.specs.PassedNames.{after_roled, after_entries, roled_reported, entries_reported}
+use Rattle.ffs_pathnames.specs.PassedNames.{after_entries, entries_reported}
 use Rattle.ffs_pathnames.proofs.Passing.{knows_on, entry_reported, entry_passed}
 use Rattle.ffs_pathnames.proofs.{Begun.image_same, StampLaws.keep_more, StampLaws.noted_kept}
 use Rattle.ffs_pathnames.proofs.Looking.{roled_at_place, seen_next, none_left}

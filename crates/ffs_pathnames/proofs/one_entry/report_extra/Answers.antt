@@ -33,11 +33,8 @@ returns-in_err-attr-clause-lines g c = record {
 pub returns-in_err-say_extra-clause-lines : goal.returns-in_err-say_extra-clause-lines
 returns-in_err-say_extra-clause-lines g c = record {
   text =
-      let all = λ (b : List ℕ). map of_tree
-      (extra_reported (volume_of c.args.geometry.now.layout b) c.args.entry.now) in
-      let ms = extra_lines c.in_ok-attr.attr c.as_slice.result.now (entry_value c.args.entry.now.entry) in
       let p = err_from_is_err_and c.from_residual-in_err-say_extra.result c.from_residual-in_err-say_extra.ensures.1 in
-      rw (p.1, p.2) (of_stops _ all (λ b. []) _ (map of_tree ms) _ _ _ (of_begins _ all _)
+      rw (p.1, p.2) (of_stops _ _ (λ b. []) _ _ _ _ _ (of_begins _ _ _)
       (line_is g (goal.at.returns-in_err-say_extra-clause-lines g c).After-say_extra) c.in_err-say_extra.ensures);
   path = c.gather_extra.ensures.path;
   counted = λ b k noted. by_line _ (c.in_ok-attr.ensures.counted b (knows_places _ _ _ _ b k noted))
@@ -47,10 +44,7 @@ returns-in_err-say_extra-clause-lines g c = record {
 pub returns-clause-lines : goal.returns-clause-lines
 returns-clause-lines g c = record {
   text =
-      let all = λ (b : List ℕ). map of_tree
-      (extra_reported (volume_of c.args.geometry.now.layout b) c.args.entry.now) in
-      let ms = extra_lines c.in_ok-attr.attr c.as_slice.result.now (entry_value c.args.entry.now.entry) in
-      of_says _ all (λ b. []) _ (map of_tree ms) _ _ _ (of_begins _ all _)
+      of_says _ _ (λ b. []) _ _ _ _ _ (of_begins _ _ _)
       (line_is g (goal.at.returns-clause-lines g c).After-say_extra) c.in_ok-say_extra.ensures;
   path = c.gather_extra.ensures.path;
   counted = λ b k noted. by_line _ (c.in_ok-attr.ensures.counted b (knows_places _ _ _ _ b k noted))

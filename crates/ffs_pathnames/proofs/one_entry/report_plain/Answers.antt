@@ -68,13 +68,9 @@ returns-in_err-say_verdict-clause-lines g c =
     let at = goal.at.returns-in_err-say_verdict-clause-lines g c in
     record {
       text =
-          let all = λ (b : List ℕ). map of_tree
-          (plain_lines_by (volume_of c.args.geometry.now.layout b) c.args.workspace.now c.args.entry.now) in
-          let ms = verdict_reported c.verdict_of-verdict.result c.args.entry.now.entry.number c.in_ok-attr.attr
-          c.last.result.now c.as_slice.result.now in
           let p = err_from_is_err_and c.from_residual-in_err-say_verdict.result
           c.from_residual-in_err-say_verdict.ensures.1 in
-          rw (p.1, p.2) (of_stops _ all (λ b. []) _ (map of_tree ms) _ _ _ (of_begins _ all _)
+          rw (p.1, p.2) (of_stops _ _ (λ b. []) _ _ _ _ _ (of_begins _ _ _)
           (lines_are g at.After-say_verdict) c.in_err-say_verdict.ensures);
       path = c.gather_entry.ensures.path;
       counted = λ b k noted. by_line _ (c.in_ok-attr.ensures.counted b (knows_places _ _ _ _ b k noted))
@@ -86,11 +82,7 @@ returns-clause-lines g c =
     let at = goal.at.returns-clause-lines g c in
     record {
       text =
-          let all = λ (b : List ℕ). map of_tree
-          (plain_lines_by (volume_of c.args.geometry.now.layout b) c.args.workspace.now c.args.entry.now) in
-          let ms = verdict_reported c.verdict_of-verdict.result c.args.entry.now.entry.number c.in_ok-attr.attr
-          c.last.result.now c.as_slice.result.now in
-          of_says _ all (λ b. []) _ (map of_tree ms) _ _ _ (of_begins _ all _)
+          of_says _ _ (λ b. []) _ _ _ _ _ (of_begins _ _ _)
           (lines_are g at.After-say_verdict) c.in_ok-say_verdict.ensures;
       path = c.gather_entry.ensures.path;
       counted = λ b k noted. by_line _ (c.in_ok-attr.ensures.counted b (knows_places _ _ _ _ b k noted))

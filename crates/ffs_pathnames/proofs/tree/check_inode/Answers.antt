@@ -1,8 +1,7 @@
 use Rattle.std.proofs.Common.{refl, sym, ap, ◌∙◌, map, []}
 use Rattle.std.proofs.lemmas.Bool.{and_parts}
 use Rattle.ffs_report.proofs.Reporting.{of_begins, of_same, reports_same, reports_knowing}
-use Rattle.ffs_volume.{specs.Messages.Kinds.of_tree, specs.Directories.Volumes.volume_of, proofs.Results.on_ok}
-use Rattle.ffs_volume.specs.Directories.PathnameCheck.{sized_dir_lines, directory_lines}
+use Rattle.ffs_volume.{specs.Messages.Kinds.of_tree, proofs.Results.on_ok}
 use Rattle.ffs_pathnames.proofs.Carrying.{directory_context, lines_looked, lines_skipped, before_next, before_skipped}
 use Rattle.ffs_pathnames.proofs.tree.check_inode.Goals as goal
 

@@ -1,14 +1,14 @@
 use Rattle.std.proofs.Common.{◌≡◌, ◌≤◌, ◌++◌, ◌+◌, Bool, slice_index, [], List, ℕ, map, refl, sym, ◌∙◌, append-nil}
-use Rattle.std.proofs.Common.{true, false, arith, length, ◌-◌}
+use Rattle.std.proofs.Common.{true, false, arith, length}
 use Rattle.std.proofs.{lemmas.Result.err_from_is_err_and, Math.Nat.mul-le-mul_left}
-use Rattle.ffs_workspace.specs.{Holds.HoldsClaims, Places.AreChunksNumbered, Lengths.inodes_of}
+use Rattle.ffs_workspace.specs.{Holds.HoldsClaims, Places.AreChunksNumbered}
 use Rattle.ffs_pathnames.specs.Before.{IsBefore, root_reported}
 use Rattle.ffs_pathnames.{specs.Costs.tree_reads, proofs.LineCounts.lines_long}
 use Rattle.ffs_pathnames.proofs.Carrying.{at_fault, goes_is, root_kind_is, root_marked_is, tree_is, tree_lines}
 use Rattle.ffs_pathnames.proofs.tree.check_tree.{Goals.After-report_root, Goals.After-check_inodes, Given.Over}
 use Rattle.ffs_volume.{proofs.Sizes.some_inodes, specs.Encodings.Kinds.is_dir_kind, specs.Report.Reads.line_reads}
-use Rattle.ffs_volume.specs.Messages.Kinds.{of_tree, lines_from}
-use Rattle.ffs_volume.specs.Directories.{PathnameCheck.directory_lines, PathnameCheck.pathname_lines, Volumes.volume_of}
+use Rattle.ffs_volume.specs.Messages.Kinds.{of_tree}
+use Rattle.ffs_volume.specs.Directories.{PathnameCheck.pathname_lines, Volumes.volume_of}
 use Rattle.ffs_report.proofs.Reporting.{of_begins, of_says, of_stops, of_part, of_fault}
 use Rattle.ffs_pathnames.proofs.tree.check_tree.Goals as goal
 
@@ -39,10 +39,7 @@ index-marked-requires g c = let k = some_inodes c.args.geometry.now.layout c.arg
 pub returns-in_err-report_root-clause-text : goal.returns-in_err-report_root-clause-text
 returns-in_err-report_root-clause-text g c =
     let p = err_from_is_err_and c.from_residual.result c.from_residual.ensures.1 in
-    let v = c.args.geometry.now.layout in
-    let all = λ (b : List ℕ). map of_tree (pathname_lines (volume_of v b)) in
-    rw (p.1, p.2) (of_stops _ all (λ b. map of_tree (tree_lines v b (is_dir_kind c.index-kind.result.now))) _
-    (map of_tree (root_reported c.index-kind.result.now c.index-marked.result.now)) _ _ _ (of_begins _ all _)
+    rw (p.1, p.2) (of_stops _ _ _ _ _ _ _ _ (of_begins _ _ _)
     (λ b k. lines_are g (goal.at.returns-in_err-report_root-clause-text g c).After-report_root b _ k.claims refl)
     c.in_err-report_root.ensures)
 
@@ -53,9 +50,7 @@ returns-in_err-report_root-clause-fault g c =
 
 pub returns-in-Stop-clause-text : goal.returns-in-Stop-clause-text
 returns-in-Stop-clause-text g c =
-    let all = λ (b : List ℕ). map of_tree (pathname_lines (volume_of c.args.geometry.now.layout b)) in
-    of_says _ all (λ b. []) _ (map of_tree (root_reported c.index-kind.result.now c.index-marked.result.now)) _ _ _
-    (of_begins _ all _)
+    of_says _ _ (λ b. []) _ _ _ _ _ (of_begins _ _ _)
     (λ b k. lines_are g (goal.at.returns-in-Stop-clause-text g c).After-report_root b false k.claims c.in-Stop.ensures)
     c.in_ok-report_root.ensures
 
@@ -67,15 +62,11 @@ pub returns-in_err-check_inodes-in-Go-clause-text : goal.returns-in_err-check_in
 returns-in_err-check_inodes-in-Go-clause-text g c =
     let p = err_from_is_err_and c.from_residual-in_err-check_inodes-in-Go.result
     c.from_residual-in_err-check_inodes-in-Go.ensures.1 in
-    let v = c.args.geometry.now.layout in
-    let all = λ (b : List ℕ). map of_tree (pathname_lines (volume_of v b)) in
-    let part = λ (b : List ℕ). map of_tree (lines_from (directory_lines (volume_of v b)) 2 (inodes_of v - 2)) in
-    rw (p.1, p.2) (of_fault (Unit {0}) (Unit {0}) _ part part (λ b. []) _ _ _ _ c.in_err-check_inodes-in-Go.field-0.0
-    (of_says _ all part _ (map of_tree (root_reported c.index-kind.result.now c.index-marked.result.now)) _ _ _
-    (of_begins _ all _) (λ b k. lines_are g
+    rw (p.1, p.2) (of_fault (Unit {0}) (Unit {0}) _ _ _ (λ b. []) _ _ _ _ c.in_err-check_inodes-in-Go.field-0.0
+    (of_says _ _ _ _ _ _ _ _ (of_begins _ _ _) (λ b k. lines_are g
     (goal.at.returns-in_err-check_inodes-in-Go-clause-text g c).After-report_root b true k.claims c.in-Go.ensures)
     c.in_ok-report_root.ensures)
-    (λ b k. sym (append-nil (part b)))
+    (λ b k. sym (append-nil _))
     c.in_err-check_inodes-in-Go.ensures.text)
 
 pub returns-in_err-check_inodes-in-Go-clause-fault : goal.returns-in_err-check_inodes-in-Go-clause-fault
@@ -87,15 +78,11 @@ returns-in_err-check_inodes-in-Go-clause-fault g c =
 
 pub returns-in_ok-check_inodes-in-Go-clause-text : goal.returns-in_ok-check_inodes-in-Go-clause-text
 returns-in_ok-check_inodes-in-Go-clause-text g c =
-    let v = c.args.geometry.now.layout in
-    let all = λ (b : List ℕ). map of_tree (pathname_lines (volume_of v b)) in
-    let part = λ (b : List ℕ). map of_tree (lines_from (directory_lines (volume_of v b)) 2 (inodes_of v - 2)) in
-    of_part _ part part (λ b. []) _ _ _ _
-    (of_says _ all part _ (map of_tree (root_reported c.index-kind.result.now c.index-marked.result.now)) _ _ _
-    (of_begins _ all _) (λ b k. lines_are g
+    of_part _ _ _ (λ b. []) _ _ _ _
+    (of_says _ _ _ _ _ _ _ _ (of_begins _ _ _) (λ b k. lines_are g
     (goal.at.returns-in_ok-check_inodes-in-Go-clause-text g c).After-report_root b true k.claims c.in-Go.ensures)
     c.in_ok-report_root.ensures)
-    (λ b k. sym (append-nil (part b)))
+    (λ b k. sym (append-nil _))
     c.in_ok-check_inodes-in-Go.ensures.text
 
 pub returns-in_ok-check_inodes-in-Go-clause-goes : goal.returns-in_ok-check_inodes-in-Go-clause-goes
