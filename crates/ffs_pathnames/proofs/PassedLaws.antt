@@ -4,14 +4,15 @@ use Rattle.std.proofs.Common.{if◌then◌else◌, refl, List, [], ◌∷◌, �
 use Rattle.std.proofs.Common.{append_assoc, eq-eqb, ltb-true, zero, option_map}
 use Rattle.std.proofs.lemmas.{List.get_or-set_other, List.get_or-set_same, Grind.common_steps, Bool.Decides.nat_tests}
 use Rattle.std.{proofs.lemmas.Bool.and_parts, proofs.Math.ListN.length-set, specs.List.list_any}
-use Rattle.ffs_volume.specs.{declared.Role.Role, Directories.Climb.is_value, Directories.PathnameCheck.lines_of_entries}
+use Rattle.ffs_volume.{specs.declared.Role.Role, proofs.RoleLaws.plain-true}
 use Rattle.ffs_volume.specs.declared.Role.TheVariants.{Empty, Dot, Dotdot, Extra, Plain}
+use Rattle.ffs_volume.specs.Directories.{Climb.is_value, PathnameCheck.plain_lines, PathnameCheck.entry_lines}
+use Rattle.ffs_volume.specs.Directories.PathnameCheck.{lines_of_entries, entry_lines_of as lines_by_role}
+use Rattle.ffs_volume.specs.Directories.PathnameCheck.{is_first_entry_of_suspect, is_extraneous, named_lines}
 use Rattle.ffs_volume.specs.Directories.Roles.{Volume, RoledEntry, is_dir, is_suspect, is_plain, roled_entries}
 use Rattle.ffs_volume.specs.Directories.Graph.{is_naming_entry, is_naming_dir, parent, index_in_parent, first_index}
 use Rattle.ffs_volume.specs.Directories.Parents.{graph_of, is_first_naming_entry, is_parent_entry}
-use Rattle.ffs_volume.specs.Directories.PathnameCheck.{entry_lines_of as lines_by_role, is_first_entry_of_suspect}
-use Rattle.ffs_volume.specs.Directories.PathnameCheck.{is_extraneous, named_lines, plain_lines, entry_lines}
-use Rattle.ffs_volume.{specs.Disk.Search.some_below, specs.Disk.Search.first_below, proofs.RoleLaws.plain-true}
+use Rattle.ffs_volume.specs.Disk.Search.{some_below, first_below}
 use Rattle.ffs_volume.proofs.SearchLaws.{first_below-is, first_below-none, first_below-some}
 use Rattle.ffs_pathnames.specs.PassedNames.{PassedNames, is_flagged, is_calm, is_stamped, after_name, after_roled}
 use Rattle.ffs_pathnames.specs.PassedNames.{named_reported, plain_reported, role_reported, roled_reported}

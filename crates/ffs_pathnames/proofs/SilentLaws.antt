@@ -25,8 +25,8 @@ use Rattle.ffs_names.specs.RightShapes.{is_right_size, is_right_shape}
 use Rattle.ffs_workspace.specs.{declared.workspace.Workspace.Workspace, Lengths.IsFor}
 use Rattle.ffs_workspace.specs.Holds.{bool_at, HoldsClaims, HoldsSurvey}
 use Rattle.ffs_workspace.proofs.KindLaws.{reports_at, suspect_is, type_is}
-use Rattle.ffs_survey.specs.{Survey.number_at, Survey.dir_at, Calm.CurrentDir, Calm.is_calm_kind}
-use Rattle.ffs_survey.specs.Calm.{is_calm_plain, is_calm_role, is_calm_entry, reached_after, are_calm, IsCalm}
+use Rattle.ffs_survey.specs.{Survey.number_at, Survey.dir_at, Calm.are_calm, Calm.IsCalm}
+use Rattle.ffs_survey.specs.Calm.{CurrentDir, is_calm_kind, is_calm_plain, is_calm_role, is_calm_entry, reached_after}
 use Rattle.ffs_survey.proofs.CalmLaws.{calm_names_new, calm_new}
 use Rattle.ffs_pathnames.specs.{Begins.dir_starts, Calm.IsSilentDirectory, Reads.chunks_read}
 use Rattle.ffs_pathnames.specs.Header.{dot_in, dot_reported}

@@ -1,8 +1,7 @@
 use Rattle.std.proofs.Common.{refl, sym, ap, subst, ◌∙◌, Err, length, arith}
 use Rattle.std.proofs.{lemmas.Result.err_from_is_err_and, Math.Nat.mul-le-mul_left}
 use Rattle.ffs_volume.{specs.Report.Reads.line_reads, proofs.Results.on_ok}
-use Rattle.ffs_volume.specs.Directories.PathnameCheck.{sized_dir_lines}
-use Rattle.ffs_volume.specs.Directories.{Roles.roled_entries, Volumes.volume_of}
+use Rattle.ffs_volume.specs.Directories.{PathnameCheck.sized_dir_lines, Roles.roled_entries, Volumes.volume_of}
 use Rattle.ffs_report.specs.PhaseOutcome.{ImageAfter}
 use Rattle.ffs_report.proofs.Reporting.{of_begins, of_part, of_fault, of_last, said_knows, reports_knowing}
 use Rattle.ffs_workspace.proofs.Leaving.{leaves_more}

@@ -1,14 +1,13 @@
-use Rattle.std.proofs.Common.{◌+◌, refl, ap, ◌∙◌, arith, ℕ, List, [], map, Err}
+use Rattle.std.proofs.Common.{refl, ap, ◌∙◌, arith, ℕ, List, [], map, Err}
 use Rattle.std.proofs.lemmas.Result.{err_from_is_err_and}
 use Rattle.ffs_volume.specs.Directories.{Entries.entries_of, Roles.RoledEntry, Roles.roled_from, Volumes.volume_of}
 use Rattle.ffs_volume.specs.Messages.Kinds.{of_tree}
 use Rattle.ffs_layout.specs.Entry.{entry_value}
 use Rattle.ffs_report.proofs.Reporting.{of_begins, of_same, of_part, of_fault, said_knows, reports_knowing}
-use Rattle.ffs_pathnames.specs.{Gathers.passed_of, DirectoryContext.DirectoryContext}
-use Rattle.ffs_pathnames.specs.PassedNames.{after_entries, entries_reported}
+use Rattle.ffs_pathnames.specs.{Gathers.passed_of, DirectoryContext.DirectoryContext, PassedNames.after_entries}
+use Rattle.ffs_pathnames.{specs.PassedNames.entries_reported, proofs.Begun.image_same, proofs.StampLaws.keep_more}
 use Rattle.ffs_pathnames.proofs.Passing.{knows_on, entry_reported, entry_passed}
-use Rattle.ffs_pathnames.proofs.{Begun.image_same, StampLaws.keep_more, StampLaws.noted_kept}
-use Rattle.ffs_pathnames.proofs.Looking.{roled_at_place, seen_next, none_left}
+use Rattle.ffs_pathnames.proofs.{StampLaws.noted_kept, Looking.seen_next, Looking.none_left}
 use Rattle.ffs_pathnames.proofs.LineCounts.{entry_counted, has_begun, read_all, read_more}
 use Rattle.ffs_workspace.proofs.Leaving.{leaves_all, leaves_more}
 use Rattle.ffs_names.proofs.PlacesNoted.{none_there as none}
@@ -43,14 +42,11 @@ returns-in_err-report_entry-clause-lines g c = record {
       let e = entry_value c.in-Some.entry in
       let seen : RoledEntry = record { role = c.role_of.result; entry = e } in
       let m = passed_of c.entries.workspace in
-      let here = roled_at_place v.order x.bytes.now x.first c.entries.index c.entries.place in
-      let there = roled_at_place v.order x.bytes.now x.first (c.entries.index + 1)
-      (c.entries.place + c.in-Some.entry.length) in
       let next = seen_next v.order x.bytes.now x.first c.entries.index c.entries.place e c.role_of.result
       c.in-Some.ensures.some c.role_of.ensures in
       let p = err_from_is_err_and c.from_residual.result c.from_residual.ensures.1 in
       rw (p.1, p.2) (of_fault (Unit {0}) (Unit {0}) _ _ _ _ _ _ _ _ c.in_err-report_entry.field-0.0
-      inv.said (λ b k. entry_reported (volume_of v b) x.dir m seen here there next refl)
+      inv.said (λ b k. entry_reported (volume_of v b) x.dir m seen _ _ next refl)
       (reports_knowing (Unit {0}) _ _ _ _ _ (Err c.in_err-report_entry.field-0.0)
       (λ b k. record {
         knows = knows_on v _ _ c.args.workspace.now c.entries.workspace x.dir b
@@ -75,10 +71,7 @@ returns-in_err-report_entry-clause-lines g c = record {
       let next = seen_next v.order x.bytes.now x.first c.entries.index c.entries.place e c.role_of.result
       c.in-Some.ensures.some c.role_of.ensures in
       read_all (read_more _ _ (inv.counted b k noted)
-      (entry_counted (volume_of v b) x.dir m seen
-      (roled_at_place v.order x.bytes.now x.first c.entries.index c.entries.place)
-      (roled_at_place v.order x.bytes.now x.first (c.entries.index + 1)
-      (c.entries.place + c.in-Some.entry.length)) next refl)
+      (entry_counted (volume_of v b) x.dir m seen _ _ next refl)
       (c.in_err-report_entry.ensures.lines.counted b
       (knows_on v _ _ c.args.workspace.now c.entries.workspace x.dir b (ap (λ d. d.contents) inv.device) inv.survey
       k)
@@ -109,10 +102,6 @@ entries-preserved g c =
     let e = entry_value c.in-Some.entry in
     let seen : RoledEntry = record { role = c.role_of.result; entry = e } in
     let m = passed_of c.entries.workspace in
-    let m' = passed_of c.report_entry.new.workspace in
-    let here = roled_at_place v.order x.bytes.now x.first c.entries.index c.entries.place in
-    let there = roled_at_place v.order x.bytes.now x.first (c.entries.index + 1)
-    (c.entries.place + c.in-Some.entry.length) in
     let next = seen_next v.order x.bytes.now x.first c.entries.index c.entries.place e c.role_of.result
     c.in-Some.ensures.some c.role_of.ensures in
     let low = c.in-Some.ensures.room.0 in
@@ -133,13 +122,13 @@ entries-preserved g c =
       passed = λ b k. entry_passed (volume_of v b) x.dir m next (ok.passed b (know b k))
           (inv.passed b k);
       said = of_part _ _ _ _ _ _ _ _ inv.said
-          (λ b k. entry_reported (volume_of v b) x.dir m seen here there next (ok.passed b (know b k.knows)))
+          (λ b k. entry_reported (volume_of v b) x.dir m seen _ _ next (ok.passed b (know b k.knows)))
           (said_knows _ _ _ _ _ _ (λ b k. record {
             knows = know b k.knows;
             path = inv.path b k;
           }) ok.lines.text);
       counted = λ b k noted. read_more _ _ (inv.counted b k noted)
-          (entry_counted (volume_of v b) x.dir m seen here there next (ok.passed b (know b k)))
+          (entry_counted (volume_of v b) x.dir m seen _ _ next (ok.passed b (know b k)))
           (ok.lines.counted b (know b k) (noted_kept v b _ _ inv.places noted));
     })
 

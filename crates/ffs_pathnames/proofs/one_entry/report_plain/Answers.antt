@@ -1,7 +1,7 @@
 use Rattle.std.proofs.Common.{sym, ap, ◌∙◌, ℕ, List, [], map, append-nil, ◌≡◌, ◌++◌, ◌≤◌, length}
 use Rattle.std.proofs.lemmas.Result.{err_from_is_err_and}
-use Rattle.ffs_volume.specs.{Messages.Kinds.of_tree, Directories.PathnameCheck.attributes}
-use Rattle.ffs_volume.specs.Directories.{Parents.graph_of, Paths.entry_path, Paths.dir_path, Volumes.volume_of}
+use Rattle.ffs_volume.specs.{Messages.Kinds.of_tree, Directories.Volumes.volume_of}
+use Rattle.ffs_volume.specs.Directories.{PathnameCheck.attributes, Parents.graph_of, Paths.entry_path, Paths.dir_path}
 use Rattle.ffs_layout.specs.Entry.{entry_value}
 use Rattle.ffs_report.proofs.Reports.{said_none}
 use Rattle.ffs_report.proofs.Reporting.{of_begins, of_says, of_stops, of_reads}

@@ -3,8 +3,8 @@ use Rattle.std.proofs.lemmas.Result.{err_from_is_err_and}
 use Rattle.ffs_report.proofs.Reporting.{of_begins, of_says, of_stops, of_reads, of_last, reports_knowing}
 use Rattle.ffs_volume.specs.{Messages.Kinds.of_tree, Messages.Kinds.phase2, Directories.PathnameCheck.pathname_lines}
 use Rattle.ffs_volume.{specs.Directories.Volumes.volume_of, proofs.RunBounds.runs_bounded, proofs.Results.on_ok}
-use Rattle.ffs_pathnames.{specs.declared.pass2.Root.Root, specs.Before.IsBefore, proofs.Carrying.at_fault_more}
-use Rattle.ffs_pathnames.proofs.Carrying.{claims_untouched, before_first, references_on, on_all, if_ok, at_fault}
+use Rattle.ffs_pathnames.{specs.declared.pass2.Root.Root, specs.Before.IsBefore, proofs.Carrying.at_fault}
+use Rattle.ffs_pathnames.proofs.Carrying.{at_fault_more, claims_untouched, before_first, references_on, on_all, if_ok}
 use Rattle.ffs_pathnames.proofs.{SilentLaws.calm_silent, pass2.phase2.Goals.After-check_tree, pass2.phase2.Given.Over}
 use Rattle.ffs_names.proofs.RunSums.{costs_bounded}
 use Rattle.ffs_workspace.specs.Holds.{HoldsClaims}
@@ -26,10 +26,8 @@ before_tree g c b t h =
 pub returns-in_err-say-clause-text : goal.returns-in_err-say-clause-text
 returns-in_err-say-clause-text g c =
     let p = err_from_is_err_and c.from_residual.result c.from_residual.ensures.1 in
-    let v = c.args.geometry.now.layout in
-    let lines = λ (b : List ℕ). map of_tree (pathname_lines (volume_of v b)) in
-    let all = λ (b : List ℕ). phase2 ∷ map of_tree (pathname_lines (volume_of v b)) in
-    rw (p.1, p.2) (of_stops _ all lines _ (phase2 ∷ []) _ _ _ (of_begins _ all _) (λ b k. refl)
+    let lines = λ (b : List ℕ). map of_tree (pathname_lines (volume_of c.args.geometry.now.layout b)) in
+    rw (p.1, p.2) (of_stops _ _ lines _ (phase2 ∷ []) _ _ _ (of_begins _ _ _) (λ b k. refl)
     c.in_err-say.ensures.said)
 
 pub returns-in_err-say-clause-fault : goal.returns-in_err-say-clause-fault
@@ -43,19 +41,15 @@ returns-in_err-survey-clause-fault g c = at_fault c.from_residual-in_err-survey.
 pub returns-in_err-survey-clause-text : goal.returns-in_err-survey-clause-text
 returns-in_err-survey-clause-text g c =
     let p = err_from_is_err_and c.from_residual-in_err-survey.result c.from_residual-in_err-survey.ensures.1 in
-    let v = c.args.geometry.now.layout in
-    let lines = λ (b : List ℕ). map of_tree (pathname_lines (volume_of v b)) in
-    let all = λ (b : List ℕ). phase2 ∷ map of_tree (pathname_lines (volume_of v b)) in
+    let lines = λ (b : List ℕ). map of_tree (pathname_lines (volume_of c.args.geometry.now.layout b)) in
     rw (p.1, p.2) (of_reads _ lines _ _ _
-    (of_says _ all lines _ (phase2 ∷ []) _ _ _ (of_begins _ all _) (λ b k. refl) c.in_ok-say.ensures.said))
+    (of_says _ _ lines _ (phase2 ∷ []) _ _ _ (of_begins _ _ _) (λ b k. refl) c.in_ok-say.ensures.said))
 
 pub returns-clause-text : goal.returns-clause-text
 returns-clause-text g c =
-    let v = c.args.geometry.now.layout in
-    let lines = λ (b : List ℕ). map of_tree (pathname_lines (volume_of v b)) in
-    let all = λ (b : List ℕ). phase2 ∷ map of_tree (pathname_lines (volume_of v b)) in
-    of_last Root _ lines lines all _ _ _ c.check_tree.result
-    (of_says _ all lines _ (phase2 ∷ []) _ _ _ (of_begins _ all _) (λ b k. refl) c.in_ok-say.ensures.said)
+    let lines = λ (b : List ℕ). map of_tree (pathname_lines (volume_of c.args.geometry.now.layout b)) in
+    of_last Root _ lines lines _ _ _ _ c.check_tree.result
+    (of_says _ _ lines _ (phase2 ∷ []) _ _ _ (of_begins _ _ _) (λ b k. refl) c.in_ok-say.ensures.said)
     (λ b k. refl)
     (reports_knowing Root _ _ lines _ _ c.check_tree.result
     (λ b k. before_tree g (goal.at.returns-clause-text g c).After-check_tree b k.0 k.1) c.check_tree.ensures.text)

@@ -142,12 +142,12 @@ chunks-preserved g c =
           (length (entries_reported (volume_of v b) x.number m' (flat_map roled_chunk (rest b c.next.new.self))))
           (length (entries_reported (volume_of v b) x.number m (flat_map roled_chunk (rest b c.chunks.chunks)))) _
           took.paid few.count
-          (lines_long _ _ _ (chunk_reported (volume_of v b) x.number m here (rest b c.chunks.chunks)
-          (rest b c.next.new.self) (next b k) (ok.passed b (know b k)))) (inv.reads b k noted);
+          (lines_long _ _ _ (chunk_reported (volume_of v b) x.number m here _ _ (next b k) (ok.passed b (know b k))))
+          (inv.reads b k noted);
       path = λ b k. c.report_chunk.ensures.lines.path b (record { knows = know b k; path = inv.path b k });
       passed = λ b k. chunk_passed (volume_of v b) x.number m (next b k) (ok.passed b (know b k)) (inv.passed b k);
       said = of_part _ _ _ _ _ _ _ _ inv.said
-          (λ b k. chunk_reported (volume_of v b) x.number m here (rest b c.chunks.chunks) (rest b c.next.new.self)
+          (λ b k. chunk_reported (volume_of v b) x.number m here _ _
           (next b k) (ok.passed b (know b k)))
           (said_knows _ _ _ _ _ _ (λ b k. record
           { knows = know b k; path = inv.path b k }) ok.lines.text);
@@ -176,7 +176,7 @@ returns-in_err-report_chunk-clause-text g c =
     let p = err_from_is_err_and c.from_residual-in_err-report_chunk.result
     c.from_residual-in_err-report_chunk.ensures.1 in
     rw (p.1, p.2) (of_fault (Unit {0}) (Unit {0}) _ _ _ _ _ _ _ _ c.in_err-report_chunk.field-0.0 inv.said
-    (λ b k. chunk_reported (volume_of v b) x.number m here (rest b c.chunks.chunks) (rest b c.next.new.self)
+    (λ b k. chunk_reported (volume_of v b) x.number m here _ _
     (next b k) refl)
     (reports_knowing (Unit {0}) _ _ _ _ _ (Err c.in_err-report_chunk.field-0.0)
     (λ b k. record { knows = know b k; path = inv.path b k })
@@ -250,8 +250,7 @@ returns-in_err-report_chunk-clause-reads g c = λ b k noted.
     (length (entries_reported (volume_of v b) x.number after (flat_map roled_chunk (rest b c.next.new.self))))
     (length (entries_reported (volume_of v b) x.number m (flat_map roled_chunk (rest b c.chunks.chunks)))) _
     took.paid few.count
-    (lines_long _ _ _ (chunk_reported (volume_of v b) x.number m here (rest b c.chunks.chunks)
-    (rest b c.next.new.self) next refl)) (inv.reads b k noted) in
+    (lines_long _ _ _ (chunk_reported (volume_of v b) x.number m here _ _ next refl)) (inv.reads b k noted) in
     omega (arith, most)
 
 pub returns-clause-reads : goal.returns-clause-reads

@@ -1,4 +1,4 @@
-use Rattle.ffs_pathnames.{proofs.Saying.names_then, proofs.Saying.first_stops}
+use Rattle.ffs_pathnames.proofs.Saying.{names_then, first_stops}
 use Rattle.ffs_pathnames.proofs.say.say_two.Goals as goal
 
 pub returns-in_err-say_if : goal.returns-in_err-say_if

@@ -103,7 +103,8 @@ loop-number-preserved g c =
           b) q
           (before_reported (sym (ap (λ d. d.contents) inv.device))
           (ok.before b (before_reported (ap (λ d. d.contents) inv.device) (inv.before b k))));
-      said = of_part _ _ _ _ _ _ _ _ inv.said (λ b k. from_next (directory_lines (volume_of v b)) n (inodes_of v) (omega arith))
+      said = of_part _ _ _ _ _ _ _ _ inv.said
+          (λ b k. from_next (directory_lines (volume_of v b)) n (inodes_of v) (omega arith))
           (said_knows _ _ _ _ _ _
           (λ b k. before_reported (ap (λ d. d.contents) inv.device) (inv.before b k)) ok.text);
     }
@@ -113,7 +114,8 @@ returns-clause-text g c =
     let v = c.args.geometry.now.layout in
     let inv = c.loop-number.invariant in
     let n = c.loop-number.number in
-    of_same _ _ (λ b. []) _ _ _ inv.said (λ b k. from_end (directory_lines (volume_of v b)) n (inodes_of v) (omega arith))
+    of_same _ _ (λ b. []) _ _ _ inv.said (λ b k. from_end (directory_lines (volume_of v b)) n (inodes_of v)
+    (omega arith))
 
 pub returns-clause-holds : goal.returns-clause-holds
 returns-clause-holds g c = λ b k. let now = c.loop-number.invariant.before b k in (now.claims, now.survey)
