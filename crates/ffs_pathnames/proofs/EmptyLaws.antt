@@ -1,5 +1,4 @@
--- What isn't looked at: inodes that are no directories, and directories of size 0, which have no
--- entries.
+-- Inodes that aren't looked at: those that are no directories, and directories of size 0.
 use Rattle.std.proofs.lemmas.Bool.{and_parts, and_cases, not-false, Decides.nat_tests}
 use Rattle.std.proofs.Common.{inl, inr, ◌≡◌, ◌<◌, ◌==◌, refl, ap, ◌∙◌, ℕ, Bool, true, false, not, ◌&&◌, List, [], arith}
 use Rattle.std.{proofs.Common.eqb-true, proofs.Math.Bool.and-false, specs.List.flat_map}

@@ -152,7 +152,7 @@ seen_same {v = v} {s = s} {done = done} {e = e} {m = m} i r = one e.role refl
     one Extra q = refl
     one Plain q = plain_same i q r
 
--- ---- behind one entry more
+-- ---- after one entry more
 pub any_more : (p : RoledEntry → Bool) (done : List RoledEntry) (e : RoledEntry) →
     list_any p (done ++ e ∷ []) ≡ (list_any p done || p e)
 any_more p done e = grind (arith, common_steps)

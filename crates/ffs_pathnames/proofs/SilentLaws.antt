@@ -278,7 +278,7 @@ first_two s reached (c ∷ cs) solid sound h = go c.entries refl h
           dotdot = (q.0, (q.1.0, next.1));
         }
 
--- ---- what stands before the entries
+-- ---- what is before the entries
 dot_right : (about : Attr) (path : List ℕ) (d : ℕ) (e : Entry) → is_live e ≡ true → is_one_dot e.name ≡ true →
     (e.number == d) ≡ true → (e.kind == 4) ≡ true → dot_reported about path d (Some e) (dot_in (Some e)) ≡ []
 dot_right about path d e live name number kind = rw (live, name, number, kind) refl

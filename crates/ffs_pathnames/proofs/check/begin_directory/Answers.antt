@@ -7,7 +7,8 @@ use Rattle.ffs_pathnames.specs.{declared.examine.Examination.Examination, Begins
 use Rattle.ffs_pathnames.{specs.Costs.begin_reads, specs.DirectoryContext.DirectoryContext, proofs.Passing.knows_on}
 use Rattle.ffs_pathnames.proofs.Begun.{said_same, fault_same, image_same, starts_are, begun_is}
 use Rattle.ffs_pathnames.proofs.StampLaws.{windows_keep, keep_more, noted_kept}
-use Rattle.ffs_pathnames.proofs.check.begin_directory.{Goals.After-report_header, Given.Over}
+use Rattle.ffs_pathnames.proofs.check.begin_directory.Given.{Over}
+use Rattle.ffs_pathnames.proofs.check.begin_directory.Goals.{After-report_header}
 use Rattle.ffs_workspace.proofs.Leaving.{leaves_more, survey_left, windows_leave}
 use Rattle.ffs_workspace.specs.Places.{AreNoted}
 use Rattle.ffs_paths.proofs.Keeping.{kept_parent_on}

@@ -7,7 +7,8 @@ use Rattle.ffs_report.proofs.Reports.{said_none}
 use Rattle.ffs_report.proofs.Reporting.{of_begins, of_says, of_stops, of_reads}
 use Rattle.ffs_pathnames.specs.{Header.header_lines, Header.header_lines_of, DirectoryContext.KnowsHeader}
 use Rattle.ffs_pathnames.proofs.{Begun.attr_size, LineCounts.by_line, LineCounts.knows_places, HeaderLaws.header_some}
-use Rattle.ffs_pathnames.proofs.check.report_header.{Goals.After-gather_dir, Goals.After-say_header, Given.Over}
+use Rattle.ffs_pathnames.proofs.check.report_header.Given.{Over}
+use Rattle.ffs_pathnames.proofs.check.report_header.Goals.{After-gather_dir, After-say_header}
 use Rattle.ffs_pathnames.proofs.check.report_header.Goals as goal
 
 -- a header that isn't right has a line

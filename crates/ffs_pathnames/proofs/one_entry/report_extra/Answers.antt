@@ -5,7 +5,8 @@ use Rattle.ffs_volume.specs.Directories.{PathnameCheck.extra_lines, Volumes.volu
 use Rattle.ffs_layout.specs.Entry.{entry_value}
 use Rattle.ffs_report.proofs.Reporting.{of_begins, of_says, of_stops, of_reads}
 use Rattle.ffs_pathnames.proofs.LineCounts.{by_line, extra_some, knows_places}
-use Rattle.ffs_pathnames.proofs.one_entry.report_extra.{Goals.After-say_extra, Given.Over}
+use Rattle.ffs_pathnames.proofs.one_entry.report_extra.Given.{Over}
+use Rattle.ffs_pathnames.proofs.one_entry.report_extra.Goals.{After-say_extra}
 use Rattle.ffs_pathnames.specs.{DirectoryContext.KnowsPath, Gathers.extra_reported}
 use Rattle.ffs_pathnames.proofs.one_entry.report_extra.Goals as goal
 

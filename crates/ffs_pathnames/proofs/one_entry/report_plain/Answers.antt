@@ -9,7 +9,8 @@ use Rattle.ffs_pathnames.specs.{Gathers.plain_lines_by, Verdicts.verdict_reporte
 use Rattle.ffs_pathnames.specs.DirectoryContext.{DirectoryContext, KnowsPath}
 use Rattle.ffs_pathnames.proofs.LineCounts.{by_line, few_none, knows_places}
 use Rattle.ffs_pathnames.proofs.VerdictLaws.{plain_some, silent_reported}
-use Rattle.ffs_pathnames.proofs.one_entry.report_plain.{Goals.After-gather_entry, Goals.After-say_verdict, Given.Over}
+use Rattle.ffs_pathnames.proofs.one_entry.report_plain.Given.{Over}
+use Rattle.ffs_pathnames.proofs.one_entry.report_plain.Goals.{After-gather_entry, After-say_verdict}
 use Rattle.ffs_pathnames.proofs.one_entry.report_plain.Goals as goal
 
 -- a verdict that isn't silent has a line

@@ -5,7 +5,9 @@ use Rattle.ffs_volume.specs.{Messages.Kinds.of_tree, Messages.Kinds.phase2, Dire
 use Rattle.ffs_volume.{specs.Directories.Volumes.volume_of, proofs.RunBounds.runs_bounded, proofs.Results.on_ok}
 use Rattle.ffs_pathnames.{specs.declared.pass2.Root.Root, specs.Before.IsBefore, proofs.Carrying.at_fault}
 use Rattle.ffs_pathnames.proofs.Carrying.{at_fault_more, claims_untouched, before_first, references_on, on_all, if_ok}
-use Rattle.ffs_pathnames.proofs.{SilentLaws.calm_silent, pass2.phase2.Goals.After-check_tree, pass2.phase2.Given.Over}
+use Rattle.ffs_pathnames.proofs.SilentLaws.{calm_silent}
+use Rattle.ffs_pathnames.proofs.pass2.phase2.Given.{Over}
+use Rattle.ffs_pathnames.proofs.pass2.phase2.Goals.{After-check_tree}
 use Rattle.ffs_names.proofs.RunSums.{costs_bounded}
 use Rattle.ffs_workspace.specs.Holds.{HoldsClaims}
 use Rattle.ffs_pathnames.proofs.pass2.phase2.Goals as goal

@@ -5,7 +5,8 @@ use Rattle.ffs_workspace.specs.{Holds.HoldsClaims, Places.AreChunksNumbered}
 use Rattle.ffs_pathnames.specs.Before.{IsBefore, root_reported}
 use Rattle.ffs_pathnames.{specs.Costs.tree_reads, proofs.LineCounts.lines_long}
 use Rattle.ffs_pathnames.proofs.Carrying.{at_fault, goes_is, root_kind_is, root_marked_is, tree_is, tree_lines}
-use Rattle.ffs_pathnames.proofs.tree.check_tree.{Goals.After-report_root, Goals.After-check_inodes, Given.Over}
+use Rattle.ffs_pathnames.proofs.tree.check_tree.Given.{Over}
+use Rattle.ffs_pathnames.proofs.tree.check_tree.Goals.{After-report_root, After-check_inodes}
 use Rattle.ffs_volume.{proofs.Sizes.some_inodes, specs.Encodings.Kinds.is_dir_kind, specs.Directories.Volumes.volume_of}
 use Rattle.ffs_volume.specs.{Report.Reads.line_reads, Messages.Kinds.of_tree, Directories.PathnameCheck.pathname_lines}
 use Rattle.ffs_report.proofs.Reporting.{of_begins, of_says, of_stops, of_part, of_fault}
