@@ -1,38 +1,25 @@
 -- A directory that is begun, and how its lines continue.
-use Rattle.std.proofs.Common.{◌≡◌, ◌≤◌, suc, refl, sym, ap, subst, ◌∙◌, ℕ, Bool, true, List, [], ◌++◌, map}
-use Rattle.std.proofs.Common.{Option, Err, nat_le, nat_lt, append-nil}
-use Rattle.std.specs.Prelude.{option_and_then}
-use Rattle.std.proofs.lemmas.List.{map-append}
-use Rattle.std.proofs.lemmas.Bool.{and_parts, ltb-true}
-use Rattle.ffs_volume.specs.declared.Layout.{Layout}
-use Rattle.ffs_volume.specs.Directories.Entries.{Entry}
-use Rattle.ffs_volume.specs.Directories.Graph.{parent}
-use Rattle.ffs_volume.specs.Blocks.Inodes.{inode_of, is_directory}
-use Rattle.ffs_volume.specs.Messages.Kinds.{Message, TreeMessage, of_tree}
-use Rattle.ffs_volume.specs.Directories.Parents.{graph_of}
-use Rattle.ffs_volume.specs.Directories.PathnameCheck.{attributes, are_sound, sized_dir_lines, lines_of_entries}
-use Rattle.ffs_volume.specs.Directories.Paths.{dir_path}
-use Rattle.ffs_volume.specs.Directories.Roles.{Volume, nth_entry, is_dir, is_inode, roled_entries, start_entry}
-use Rattle.ffs_volume.specs.Directories.Volumes.{volume_of, volume_with}
-use Rattle.ffs_report.specs.Known.{ForBytes}
-use Rattle.ffs_image.specs.Device.{Device, Faulted}
-use Rattle.ffs_report.specs.PhaseOutcome.{ImageAfter, SaidOf, PhaseReports}
-use Rattle.ffs_report.specs.declared.fault.RunFault.{RunFault}
-use Rattle.ffs_report.specs.declared.fault.RunFault.TheVariants.{Read, Out}
-use Rattle.ffs_report.specs.Progress.{Progress}
-use Rattle.ffs_workspace.specs.declared.workspace.Workspace.{Workspace}
-use Rattle.ffs_pathnames.specs.declared.examine.Examination.{Examination}
-use Rattle.ffs_pathnames.specs.Begins.{dir_starts, started_entry, IsDirectoryBegun}
-use Rattle.ffs_pathnames.specs.Examines.{IsExamined, LeavesQueue}
-use Rattle.ffs_pathnames.specs.Gathers.{passed_of}
-use Rattle.ffs_pathnames.specs.PassedNames.{PassedNames, are_quiet, entries_reported, after_entries}
-use Rattle.ffs_pathnames.specs.PassedRight.{AreRightBefore}
-use Rattle.ffs_pathnames.specs.Header.{header_reported}
-use Rattle.ffs_pathnames.proofs.FirstPlaces.{size_of}
-use Rattle.ffs_pathnames.proofs.PassedLaws.{IsDirectory, right_reported}
-use Rattle.ffs_pathnames.proofs.LookLaws.{quiet_silent}
+use Rattle.std.proofs.Common.{length, arith, ◌≡◌, ◌≤◌, suc, refl, sym, subst, ◌∙◌, ℕ, true, List, [], ◌++◌, map, Option}
+use Rattle.std.proofs.Common.{Err, nat_le, nat_lt, append-nil, ltb-true}
+use Rattle.std.proofs.lemmas.{List.map-append, Bool.and_parts}
+use Rattle.ffs_pathnames.proofs.{LineCounts.lines_long, LookLaws.quiet_silent, HeaderLaws.dir_parts}
+use Rattle.ffs_pathnames.proofs.PassedLaws.{size_of, IsDirectory, right_reported}
 use Rattle.ffs_pathnames.proofs.BetweenLaws.{unstamped, looked, looked_right, quiet_next, reported_next}
-use Rattle.ffs_pathnames.proofs.HeaderLaws.{dir_parts}
+use Rattle.ffs_pathnames.specs.{declared.examine.Examination.Examination, Examines.IsExamined, Examines.LeavesQueue}
+use Rattle.ffs_pathnames.specs.Begins.{dir_starts, started_entry, IsDirectoryBegun}
+use Rattle.ffs_pathnames.specs.{PassedRight.AreRightBefore, Header.header_reported}
+use Rattle.ffs_pathnames.specs.PassedNames.{PassedNames, are_quiet, entries_reported, after_entries}
+use Rattle.ffs_volume.specs.{declared.Layout.Layout, Blocks.Inodes.inode_of, Blocks.Inodes.is_directory}
+use Rattle.ffs_volume.specs.Directories.{Entries.Entry, Graph.parent, Parents.graph_of, Paths.dir_path}
+use Rattle.ffs_volume.specs.Directories.PathnameCheck.{attributes, sized_dir_lines, lines_of_entries}
+use Rattle.ffs_volume.specs.Directories.Roles.{Volume, is_dir, is_inode, roled_entries, start_entry}
+use Rattle.ffs_volume.specs.Directories.Volumes.{volume_of, volume_with}
+use Rattle.ffs_volume.specs.Messages.Kinds.{Message, TreeMessage, of_tree}
+use Rattle.ffs_report.specs.{Known.ForBytes, Progress.Progress}
+use Rattle.ffs_report.specs.PhaseOutcome.{ImageAfter, SaidOf, PhaseReports}
+use Rattle.ffs_report.specs.declared.fault.RunFault.{RunFault, TheVariants.Read, TheVariants.Out}
+use Rattle.ffs_image.specs.Device.{Device, Faulted}
+use Rattle.ffs_workspace.specs.declared.workspace.Workspace.{Workspace}
 
 -- what is said of what is known, where more is known and it has another form
 pub said_same : (knows knows' : List ℕ → Type 0) (all all' : List ℕ → List Message) (a b : Progress) →
@@ -84,19 +71,7 @@ pub starts_are : (v : Layout) (b : List ℕ) (d : ℕ) (old new : Workspace) (e 
     e.look.sound first second ≡ dir_starts (volume_of v b) d
 unfolding dir_starts start_entry
 starts_are v b d old new e above first second f p q r =
-    let V = volume_of v b in
-    let A = attributes (volume_of v b) d in
-    let P = dir_path (graph_of (volume_of v b)) d in
-    ap (λ x. header_reported A P d x e.look.gap e.look.sound first second) p
-    ∙ (ap (λ x. header_reported A P d (parent (graph_of V) d) x e.look.sound first second) f.gap
-    ∙ (ap (λ x. header_reported A P d (parent (graph_of V) d) (V.gap d) x first second) f.sound
-    ∙ (ap (λ x. header_reported A P d (parent (graph_of V) d) (V.gap d) (are_sound (V.chunks d)) x second)
-    (q ∙ sym (ap (option_and_then (λ c. nth_entry 0 c.entries)) f.started))
-    ∙ ap (λ x. header_reported A P d (parent (graph_of V) d) (V.gap d) (are_sound (V.chunks d)) (start_entry V d 0) x)
-    (r ∙ sym (ap (option_and_then (λ c. nth_entry 1 c.entries)) f.started)))))
-
-abbrev passed_with : List Bool → List ℕ → PassedNames
-passed_with flags stamps = record { flags = flags; stamps = stamps }
+    rw (p, f.gap, f.sound, q, r, f.started) refl
 
 pub begun_is : (v : Layout) (b : List ℕ) (d : ℕ) (old new more : Workspace) (e : Examination) →
     IsExamined v b d old e new → LeavesQueue old new → more ≡ record new { windows = more.windows } →
@@ -104,8 +79,7 @@ pub begun_is : (v : Layout) (b : List ℕ) (d : ℕ) (old new more : Workspace) 
 begun_is v b d old new more e f q m = record {
   inode = f.inode;
   quiet = f.quiet;
-  passed = ap (λ l. passed_with l.items (passed_of more).stamps) (ap (λ (w : Workspace). w.flags) m ∙ q.flags)
-      ∙ ap (λ s. passed_with old.flags.items s) (ap (λ (w : Workspace). (passed_of w).stamps) m ∙ f.stamps);
+  passed = rw (m, q.flags, f.stamps) refl;
 }
 
 -- a directory among the inodes
@@ -119,23 +93,22 @@ directory_is v d two h =
 pub lines_parts : (v : Volume) (d : ℕ) (ms : List TreeMessage) → lines_of_entries v d 0 (roled_entries v d) ≡ ms →
     map of_tree (sized_dir_lines v d) ≡ map of_tree (dir_starts v d) ++ map of_tree ms
 unfolding dir_starts
-lines_parts v d ms e =
-    ap (map of_tree) (dir_parts v d
-    ∙ ap (λ l. header_reported (attributes v d) (dir_path (graph_of v) d) d (parent (graph_of v) d) (v.gap d)
-    (are_sound (v.chunks d)) (start_entry v d 0) (start_entry v d 1) ++ l) e)
-    ∙ map-append of_tree (header_reported (attributes v d) (dir_path (graph_of v) d) d (parent (graph_of v) d)
-    (v.gap d) (are_sound (v.chunks d)) (start_entry v d 0) (start_entry v d 1)) ms
+lines_parts v d ms e = rw (dir_parts v d, e) (map-append of_tree (dir_starts v d) ms)
+
+pub starts_within : (v : Volume) (d : ℕ) → length (dir_starts v d) ≤ length (sized_dir_lines v d)
+starts_within v d =
+    let long = lines_long (sized_dir_lines v d) (dir_starts v d) _ (lines_parts v d _ refl) in omega (arith, long)
 
 pub quiet_lines : (v : Volume) (d : ℕ) (m : PassedNames) → IsDirectory v d → AreRightBefore v d m →
     are_quiet v d m.stamps (roled_entries v d) ≡ true → lines_of_entries v d 0 (roled_entries v d) ≡ []
 unfolding size_of
-quiet_lines v d m dir r h = quiet_silent v d [] (roled_entries v d) m.stamps dir refl r.stamps_length
+quiet_lines v d m dir r h = quiet_silent [] (roled_entries v d) m.stamps dir refl r.stamps_length
     (unstamped v d m r) h
 
 pub reported_lines : (v : Volume) (d : ℕ) (m : PassedNames) → IsDirectory v d → AreRightBefore v d m →
     lines_of_entries v d 0 (roled_entries v d) ≡ entries_reported v d (looked v d m) (roled_entries v d)
 unfolding size_of
-reported_lines v d m dir r = right_reported v d [] (roled_entries v d) (looked v d m) dir refl (looked_right v d m r)
+reported_lines v d m dir r = right_reported [] (roled_entries v d) (looked v d m) dir refl (looked_right v d m r)
 
 pub quiet_parts : (v : Volume) (d : ℕ) (m : PassedNames) → IsDirectory v d → AreRightBefore v d m →
     are_quiet v d m.stamps (roled_entries v d) ≡ true →
@@ -143,19 +116,18 @@ pub quiet_parts : (v : Volume) (d : ℕ) (m : PassedNames) → IsDirectory v d �
 quiet_parts v d m dir r h =
     sym (lines_parts v d [] (quiet_lines v d m dir r h) ∙ append-nil (map of_tree (dir_starts v d)))
 
-pub reported_parts : (v : Volume) (d : ℕ) (m m' : PassedNames) → IsDirectory v d → AreRightBefore v d m → m' ≡ looked v d
+pub reported_parts : (v : Volume) (d : ℕ) (m m' : PassedNames) → IsDirectory v d → AreRightBefore v d m →
+    m' ≡ looked v d
     m →
     map of_tree (sized_dir_lines v d) ≡ map of_tree (dir_starts v d)
     ++ map of_tree (entries_reported v d m' (roled_entries v d))
-reported_parts v d m m' dir r e = lines_parts v d (entries_reported v d m' (roled_entries v d))
-    (reported_lines v d m dir r ∙ sym (ap (λ k. entries_reported v d k (roled_entries v d)) e))
+reported_parts v d m m' dir r e = rw e (lines_parts v d _ (reported_lines v d m dir r))
 
 -- the names that were passed after it
-pub quiet_after : (v : Volume) (d : ℕ) (m m' : PassedNames) → IsDirectory v d → AreRightBefore v d m →
+pub quiet_after : (v : Volume) (d : ℕ) (m m' : PassedNames) → AreRightBefore v d m →
     are_quiet v d m.stamps (roled_entries v d) ≡ true → m' ≡ looked v d m → AreRightBefore v (suc d) m'
-quiet_after v d m m' dir r h e = subst (AreRightBefore v (suc d)) (sym e) (quiet_next v d m dir r h)
+quiet_after v d m m' r h e = rw e (quiet_next v d m r h)
 
 pub reported_after : (v : Volume) (d : ℕ) (m m' m'' : PassedNames) → IsDirectory v d → AreRightBefore v d m →
     m' ≡ looked v d m → after_entries v d m' (roled_entries v d) ≡ m'' → AreRightBefore v (suc d) m''
-reported_after v d m m' m'' dir r e q = subst (AreRightBefore v (suc d))
-    (sym (ap (λ k. after_entries v d k (roled_entries v d)) e) ∙ q) (reported_next v d m dir r)
+reported_after v d m m' m'' dir r e q = rw (← q, e) (reported_next v d m dir r)

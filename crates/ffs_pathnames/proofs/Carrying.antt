@@ -1,50 +1,33 @@
 -- What is known between two directories, carried from one to the next.
-use Rattle.std.proofs.Common.{◌≡◌, ◌<◌, ◌-◌, ◌==◌, refl, sym, ap, subst, ◌∙◌, ℕ, zero, suc, Bool, true, false, not, ◌&&◌, ◌||◌}
-use Rattle.std.proofs.Common.{if◌then◌else◌, List, [], ◌∷◌, ◌++◌, map, get_or, Option, Some, arith}
-use Rattle.std.specs.Prelude.{slice_index, Result, Ok, Err, OnOk, IfOk}
-use Rattle.std.specs.List.{list_any}
-use Rattle.ffs_volume.specs.declared.Layout.{Layout}
-use Rattle.ffs_volume.specs.declared.Class.{Class}
-use Rattle.ffs_volume.specs.declared.Class.TheVariants.{Free, Partial, Unknown, File, Dir}
-use Rattle.ffs_volume.specs.Laws.Geometry.{IsAcceptedLayout}
-use Rattle.ffs_volume.specs.Directories.Graph.{is_naming_entry, is_naming_dir}
-use Rattle.ffs_volume.specs.Messages.Kinds.{TreeMessage, of_tree, lines_below, reported, root_none, root_not_dir}
-use Rattle.ffs_volume.specs.Messages.Kinds.{root_suspect, lines_from}
-use Rattle.ffs_volume.specs.Directories.Parents.{graph_of}
-use Rattle.ffs_volume.specs.Directories.PathnameCheck.{sized_dir_lines, continues_after_root, directory_lines}
-use Rattle.ffs_volume.specs.Directories.PathnameCheck.{pathname_lines}
-use Rattle.ffs_volume.specs.Directories.PathnameCheck.{root_lines, root_lines_of}
-use Rattle.ffs_volume.specs.Blocks.Inodes.{is_directory, is_allocated}
-use Rattle.ffs_volume.specs.Directories.Roles.{Volume, is_dir, is_suspect, roled_entries}
-use Rattle.ffs_volume.proofs.SearchLaws.{some_below-none}
-use Rattle.ffs_volume.specs.Directories.Volumes.{class_at, marked_at, volume_of, volume_with}
-use Rattle.ffs_volume.proofs.Numbered.{all_from_root}
-use Rattle.ffs_names.specs.Surveys.{IsUntouched}
-use Rattle.ffs_workspace.specs.declared.workspace.Workspace.{Workspace}
-use Rattle.ffs_workspace.specs.Holds.{bool_at, HoldsClaims, HoldsReferences, HoldsSurvey}
-use Rattle.ffs_volume.specs.Encodings.Kinds.{kind_at, is_dir_kind, is_empty_dir_kind, is_allocated_kind}
-use Rattle.ffs_workspace.specs.Lengths.{IsFor, inodes_of}
-use Rattle.ffs_workspace.proofs.KindLaws.{reports_at, suspect_is}
-use Rattle.ffs_maps.specs.Bits.{bits_of}
-use Rattle.ffs_report.specs.declared.fault.RunFault.{RunFault}
-use Rattle.ffs_report.specs.declared.fault.RunFault.TheVariants.{Read, Out}
-use Rattle.ffs_pathnames.specs.RootAnswers.{AtReadFault}
-use Rattle.ffs_pathnames.specs.Before.{IsNonePassed, IsBefore, is_checked, root_reported}
-use Rattle.ffs_workspace.specs.Leaves.{LeavesSurvey}
-use Rattle.ffs_pathnames.specs.Gathers.{passed_of}
-use Rattle.ffs_pathnames.specs.DirectoryContext.{DirectoryContext}
-use Rattle.ffs_pathnames.specs.Calm.{IsSilentDirectory}
-use Rattle.ffs_pathnames.specs.PassedRight.{AreRightBefore}
-use Rattle.ffs_survey.specs.Survey.{suspect_at}
-use Rattle.std.proofs.lemmas.Bool.{cases_Bool, eqb-true, and_from, and_parts}
+use Rattle.std.proofs.Common.{◌≡◌, ◌<◌, ◌-◌, ◌==◌, refl, sym, ap, ◌∙◌, ℕ, zero, suc, Bool, true, false, not, ◌&&◌, ◌||◌}
+use Rattle.std.proofs.Common.{if◌then◌else◌, List, [], ◌++◌, map, get_or, Option, Some, arith, slice_index, Result, Ok}
+use Rattle.std.proofs.Common.{Err, OnOk, IfOk, eqb-true, inl, inr, ◌≤◌}
+use Rattle.std.proofs.lemmas.Bool.{Decides.nat_tests, cases_Bool, and_parts}
 use Rattle.std.proofs.lemmas.List.{get_or_default, map-append}
-use Rattle.ffs_volume.proofs.Sizes.{some_inodes}
-use Rattle.std.proofs.Common.{inl, inr, ◌≤◌}
-use Rattle.ffs_pathnames.proofs.Begun.{directory_is, quiet_parts}
+use Rattle.ffs_volume.specs.{declared.Layout.Layout, declared.Class.Class, Laws.Geometry.IsAcceptedLayout}
+use Rattle.ffs_volume.specs.declared.Class.TheVariants.{Free, Partial, Unknown, File, Dir}
+use Rattle.ffs_volume.specs.Directories.{Graph.is_naming_dir, Parents.graph_of, Roles.Volume, Roles.is_suspect}
+use Rattle.ffs_volume.specs.Directories.PathnameCheck.{sized_dir_lines, continues_after_root, directory_lines}
+use Rattle.ffs_volume.specs.Directories.PathnameCheck.{pathname_lines, root_lines, root_lines_of, is_looked_at}
+use Rattle.ffs_volume.specs.Directories.Volumes.{class_at, marked_at, volume_of, volume_with}
+use Rattle.ffs_volume.specs.Messages.Kinds.{TreeMessage, of_tree, lines_below, lines_from}
+use Rattle.ffs_volume.specs.Blocks.Inodes.{is_directory, is_allocated}
+use Rattle.ffs_volume.specs.Encodings.Kinds.{kind_at, is_dir_kind, is_empty_dir_kind, is_allocated_kind}
+use Rattle.ffs_volume.proofs.{SearchLaws.some_below-none, Numbered.all_from_root, Sizes.some_inodes}
+use Rattle.ffs_names.specs.Surveys.{IsUntouched}
+use Rattle.ffs_workspace.specs.{declared.workspace.Workspace.Workspace, Lengths.IsFor, Lengths.inodes_of}
+use Rattle.ffs_workspace.specs.Holds.{bool_at, HoldsClaims, HoldsReferences, HoldsSurvey}
+use Rattle.ffs_workspace.{specs.Leaves.LeavesSurvey, proofs.KindLaws.reports_at, proofs.KindLaws.suspect_is}
+use Rattle.ffs_workspace.proofs.Leaving.{claims_left, survey_left, leaves_all}
+use Rattle.ffs_maps.specs.Bits.{bits_of}
+use Rattle.ffs_report.specs.declared.fault.RunFault.{RunFault, TheVariants.Read, TheVariants.Out}
+use Rattle.ffs_pathnames.specs.{RootAnswers.AtReadFault, Gathers.passed_of, DirectoryContext.DirectoryContext}
+use Rattle.ffs_pathnames.specs.Before.{IsNonePassed, IsBefore, is_checked, root_reported}
+use Rattle.ffs_pathnames.specs.{Calm.IsSilentDirectory, PassedRight.AreRightBefore}
+use Rattle.ffs_pathnames.proofs.{Begun.directory_is, Begun.quiet_parts, StampLaws.stamps_length}
 use Rattle.ffs_pathnames.proofs.BetweenLaws.{other_next, silent_next, silent_quiet}
 use Rattle.ffs_pathnames.proofs.EmptyLaws.{looked_is, looked_dir, names_none}
-use Rattle.ffs_pathnames.proofs.StampLaws.{stamps_length}
-use Rattle.ffs_workspace.proofs.Leaving.{claims_left, survey_left}
+use Rattle.ffs_survey.specs.Survey.{suspect_at}
 
 -- a fact of every answer, and of each value that is answered
 pub on_all : {T E : Type 0} (r : Result T E) (P : Type 0) → P → OnOk r P
@@ -79,23 +62,21 @@ claims_untouched v b old new s h = record {
 -- references are counted where their list stays
 pub references_on : (v : Layout) (b : List ℕ) (old new : Workspace) → new.references ≡ old.references →
     HoldsReferences v b old → HoldsReferences v b new
-references_on v b old new e h = record { counts = λ x l. ap (λ k. slice_index k.items x) e ∙ h.counts x l }
-
--- numbers below 2 are no directories
-low_dir : (v : Volume) (d : ℕ) → d < 2 → is_dir v d ≡ false
-low_dir v zero h = refl
-low_dir v (suc zero) h = refl
-low_dir v (suc (suc d)) h = absurd (omega arith)
+references_on v b old new e h = record { counts = λ x l. rw e (h.counts x l) }
 
 -- which inodes are suspect, by the lists
 suspect_shown : (v : Layout) (b : List ℕ) (w : Workspace) (x : ℕ) → HoldsClaims v b w →
     suspect_at w.kinds.items w.marked.items x ≡ is_suspect (volume_of v b) x
-suspect_shown v b w x h = ap (λ k. bool_at w.marked.items x || is_empty_dir_kind k) (h.kinds x)
-    ∙ (ap (λ m. m || is_empty_dir_kind (kind_at v b x)) (h.marked x) ∙ sym (suspect_is v b x))
+suspect_shown v b w x h = rw (h.kinds x, h.marked x) (sym (suspect_is v b x))
 
 flag_gone : (a b : Bool) → b ≡ true → (a && not b) ≡ false
-flag_gone true b e = ap not e
-flag_gone false b e = refl
+flag_gone a b e = grind (arith, nat_tests)
+
+-- numbers below 2 are no directories
+none_named : (v : Volume) (x d : ℕ) → d < 2 → is_naming_dir (graph_of v) d x ≡ false
+none_named v x zero h = refl
+none_named v x (suc zero) h = refl
+none_named v x (suc (suc d)) h = absurd (omega arith)
 
 -- where no name is passed, all is right before the first directory
 clear_right : (v : Layout) (b : List ℕ) (old w : Workspace) → HoldsClaims v b old → IsFor v w → IsNonePassed old w →
@@ -104,10 +85,8 @@ clear_right : (v : Layout) (b : List ℕ) (old w : Workspace) → HoldsClaims v 
 unfolding volume_of volume_with
 clear_right v b old w k m c silent = record {
   named = λ x h q n o. c.flags x ∙ (flag_gone (bool_at old.flags.items x) _ (suspect_shown v b old x k ∙ q)
-      ∙ sym (some_below-none (λ t. is_naming_dir (graph_of (volume_of v b)) t x) 2
-      (λ t l. ap (λ d. d && list_any (is_naming_entry x) (roled_entries (volume_of v b) t)) (low_dir (volume_of v b) t
-      l))));
-  stamps = λ x h. subst (λ n. n < 2) (sym (c.stamps x)) (omega arith);
+      ∙ sym (some_below-none (λ t. is_naming_dir (graph_of (volume_of v b)) t x) 2 (none_named (volume_of v b) x)));
+  stamps = λ x h. let zero_is = c.stamps x in omega arith;
   flags_length = sym w.flags.ok.0 ∙ m.flags;
   stamps_length = stamps_length w.parents.items w.queue.items ∙ (sym w.queue.ok.0 ∙ m.queue);
   calm = λ x h. silent x (and_parts (bool_at old.flags.items x) _
@@ -125,132 +104,95 @@ before_first v contents b old w t h s m c silent = record {
 }
 
 -- what is known of a directory that is looked at
-kind_known : (v : Layout) (b : List ℕ) (w : Workspace) (d : ℕ) (looked : Bool) → HoldsClaims v b w →
-    (slice_index w.kinds.items d == 4) ≡ looked → (kind_at v b d == 4) ≡ looked
-kind_known v b w d looked h e = ap (λ k. k == 4) (sym (h.kinds d)) ∙ e
+looked_as : (v : Layout) (b : List ℕ) (w : Workspace) (d : ℕ) (looked : Bool) → HoldsClaims v b w →
+    (slice_index w.kinds.items d == 4) ≡ looked → is_looked_at (volume_of v b) d ≡ looked
+looked_as v b w d looked h e = looked_is v b d ∙ rw (← h.kinds d) e
 
-pub directory_context : (v : Layout) (contents : Option (List ℕ)) (w : Workspace) (d : ℕ) (b : List ℕ) →
+pub directory_context : {v : Layout} {contents : Option (List ℕ)} {w : Workspace} {d : ℕ} {b : List ℕ} →
     (slice_index w.kinds.items d == 4) ≡ true → IsBefore v contents w d b → DirectoryContext v contents w d b
-directory_context v contents w d b e k = record {
+directory_context {v = v} {w = w} {d = d} {b = b} e k = record {
   gives_bytes = k.gives_bytes;
   claims = k.claims;
   survey = k.survey;
-  dir = looked_dir v b d (kind_known v b w d true k.claims e);
+  dir = looked_dir v b d (rw (← k.claims.kinds d) e);
 }
 
-pub lines_looked : (v : Layout) (contents : Option (List ℕ)) (w : Workspace) (d : ℕ) (b : List ℕ) →
+pub lines_looked : {v : Layout} {contents : Option (List ℕ)} {w : Workspace} {d : ℕ} {b : List ℕ} →
     (slice_index w.kinds.items d == 4) ≡ true → IsBefore v contents w d b →
     directory_lines (volume_of v b) d ≡ sized_dir_lines (volume_of v b) d
-lines_looked v contents w d b e k =
-    ap (λ l. if l then sized_dir_lines (volume_of v b) d else []) (looked_is v b d ∙ kind_known v b w d true k.claims e)
+lines_looked {v = v} {w = w} {d = d} {b = b} e k = rw (looked_as v b w d true k.claims e) refl
 
-pub lines_other : (v : Layout) (contents : Option (List ℕ)) (w : Workspace) (d : ℕ) (b : List ℕ) →
-    (slice_index w.kinds.items d == 4) ≡ false → IsBefore v contents w d b →
-    directory_lines (volume_of v b) d ≡ []
-lines_other v contents w d b e k =
-    ap (λ l. if l then sized_dir_lines (volume_of v b) d else [])
-    (looked_is v b d ∙ kind_known v b w d false k.claims e)
+lines_other : {v : Layout} {contents : Option (List ℕ)} {w : Workspace} {d : ℕ} {b : List ℕ} →
+    (slice_index w.kinds.items d == 4) ≡ false → IsBefore v contents w d b → directory_lines (volume_of v b) d ≡ []
+lines_other {v = v} {w = w} {d = d} {b = b} e k = rw (looked_as v b w d false k.claims e) refl
 
--- the next inode
-pub before_next : (v : Layout) (contents : Option (List ℕ)) (old new : Workspace) (d : ℕ) (b : List ℕ) →
-    LeavesSurvey old new → AreRightBefore (volume_of v b) (suc d) (passed_of new) →
-    IsBefore v contents old d b → IsBefore v contents new (suc d) b
-before_next v contents old new d b s r k = record {
-  gives_bytes = k.gives_bytes;
+-- the next inode, or an image that gives the same
+pub before_next : {v : Layout} {contents contents' : Option (List ℕ)} {old new : Workspace} {d d' : ℕ} {b : List ℕ} →
+    contents' ≡ contents → LeavesSurvey old new → AreRightBefore (volume_of v b) d' (passed_of new) →
+    IsBefore v contents old d b → IsBefore v contents' new d' b
+before_next {v = v} {old = old} {new = new} {b = b} e s r k = record {
+  gives_bytes = e ∙ k.gives_bytes;
   claims = claims_left v b old new s k.claims;
   survey = survey_left v b old new s k.survey;
   passed = r;
 }
 
-pub before_other : (v : Layout) (contents : Option (List ℕ)) (w : Workspace) (d : ℕ) (b : List ℕ) → IsAcceptedLayout v →
-    (slice_index w.kinds.items d == 4) ≡ false → IsBefore v contents w d b →
-    IsBefore v contents w (suc d) b
-before_other v contents w d b g e k = record {
-  gives_bytes = k.gives_bytes;
-  claims = k.claims;
-  survey = k.survey;
-  passed = other_next (volume_of v b) d (passed_of w)
-      (λ x q n. names_none v b d g (kind_known v b w d false k.claims e) x) k.passed;
-}
+pub before_reported : {v : Layout} {contents contents' : Option (List ℕ)} {w : Workspace} {d : ℕ} {b : List ℕ} →
+    contents' ≡ contents → IsBefore v contents w d b → IsBefore v contents' w d b
+before_reported {w = w} e k = before_next e (leaves_all w) k.passed k
 
 -- a directory that isn't looked at is calm, and left out
 left_out : (a b c : Bool) → (a && (b || not c)) ≡ false → a ≡ true → (b ≡ false) × (c ≡ true)
-left_out true false true h e = (refl, refl)
-left_out true false false h e = absurd (cc)
-left_out true true c h e = absurd (cc)
-left_out false b c h e = absurd (cc)
+left_out a b c h e = (grind (arith, nat_tests), grind (arith, nat_tests))
 
-calm_shown : (v : Layout) (contents : Option (List ℕ)) (w : Workspace) (d : ℕ) (b : List ℕ) → is_checked w d ≡ false →
+calm_shown : {v : Layout} {contents : Option (List ℕ)} {w : Workspace} {d : ℕ} {b : List ℕ} → is_checked w d ≡ false →
     (slice_index w.kinds.items d == 4) ≡ true → IsBefore v contents w d b → IsSilentDirectory (volume_of v b) d
-calm_shown v contents w d b h e k =
+calm_shown {v = v} {w = w} {d = d} {b = b} h e k =
     let left = left_out _ (bool_at w.marked.items d) (bool_at w.flags.items d) h e in
-    let suspect : is_suspect (volume_of v b) d ≡ false = sym (suspect_shown v b w d k.claims)
-    ∙ (ap (λ m. m || is_empty_dir_kind (slice_index w.kinds.items d)) left.0
-    ∙ ap is_empty_dir_kind (eqb-true (slice_index w.kinds.items d) 4 e)) in
-    k.passed.calm d (and_from (not (is_suspect (volume_of v b) d)) (bool_at w.flags.items d) (ap not suspect) left.1)
+    let suspect = sym (suspect_shown v b w d k.claims) in
+    let kind = eqb-true (slice_index w.kinds.items d) 4 e in
+    k.passed.calm d (rw (suspect, left.0, left.1, kind) refl)
 
-lines_left_out : (v : Layout) (contents : Option (List ℕ)) (w : Workspace) (d : ℕ) (b : List ℕ) → 2 ≤ d →
+lines_left_out : {v : Layout} {contents : Option (List ℕ)} {w : Workspace} {d : ℕ} {b : List ℕ} → 2 ≤ d →
     is_checked w d ≡ false → (slice_index w.kinds.items d == 4) ≡ true → IsBefore v contents w d b →
     map of_tree (directory_lines (volume_of v b) d) ≡ []
-lines_left_out v contents w d b two h e k =
-    let silent = calm_shown v contents w d b h e k in
-    let dir = directory_is (volume_of v b) d two (directory_context v contents w d b e k).dir in
-    ap (map of_tree) (lines_looked v contents w d b e k)
-    ∙ (sym (quiet_parts (volume_of v b) d (passed_of w) dir k.passed
-    (silent_quiet (volume_of v b) d (passed_of w) silent k.passed)) ∙ ap (map of_tree) silent.starts)
+lines_left_out {v = v} {w = w} {d = d} {b = b} two h e k =
+    let silent = calm_shown h e k in
+    let dir = directory_is (volume_of v b) d two (directory_context e k).dir in
+    rw (
+      lines_looked e k,
+      ← quiet_parts (volume_of v b) d (passed_of w) dir k.passed
+          (silent_quiet (volume_of v b) d (passed_of w) silent k.passed),
+      silent.starts,
+    ) refl
 
 -- an inode that isn't looked at, or is left out
-pub lines_skipped : (v : Layout) (contents : Option (List ℕ)) (w : Workspace) (d : ℕ) (b : List ℕ) → 2 ≤ d →
+pub lines_skipped : {v : Layout} {contents : Option (List ℕ)} {w : Workspace} {d : ℕ} {b : List ℕ} → 2 ≤ d →
     is_checked w d ≡ false → IsBefore v contents w d b → map of_tree (directory_lines (volume_of v b) d) ≡ []
-lines_skipped v contents w d b two h k = elim (cases_Bool (slice_index w.kinds.items d == 4)) [
-  | inl e ↦ lines_left_out v contents w d b two h e k
-  | inr e ↦ ap (map of_tree) (lines_other v contents w d b e k)
+lines_skipped {w = w} {d = d} two h k = elim (cases_Bool (slice_index w.kinds.items d == 4)) [
+  | inl e ↦ lines_left_out two h e k
+  | inr e ↦ ap (map of_tree) (lines_other e k)
 ]
 
-pub before_skipped : (v : Layout) (contents : Option (List ℕ)) (w : Workspace) (d : ℕ) (b : List ℕ) → IsAcceptedLayout v
-    → is_checked w d ≡ false → IsBefore v contents w d b → IsBefore v contents w (suc d) b
-before_skipped v contents w d b g h k = elim (cases_Bool (slice_index w.kinds.items d == 4)) [
-  | inl e ↦ record {
-    gives_bytes = k.gives_bytes;
-    claims = k.claims;
-    survey = k.survey;
-    passed = silent_next (volume_of v b) d (passed_of w) (calm_shown v contents w d b h e k) k.passed;
-  }
-  | inr e ↦ before_other v contents w d b g e k
-]
-
--- an image that gives the same
-pub before_reported : (v : Layout) (contents contents' : Option (List ℕ)) (w : Workspace) (d : ℕ) (b : List ℕ) →
-    contents' ≡ contents → IsBefore v contents w d b → IsBefore v contents' w d b
-before_reported v contents contents' w d b e k =
-    record { gives_bytes = e ∙ k.gives_bytes; claims = k.claims; survey = k.survey; passed = k.passed }
+pub before_skipped : {v : Layout} {contents : Option (List ℕ)} {w : Workspace} {d : ℕ} {b : List ℕ} →
+    IsAcceptedLayout v → is_checked w d ≡ false → IsBefore v contents w d b → IsBefore v contents w (suc d) b
+before_skipped {v = v} {w = w} {d = d} {b = b} g h k = before_next refl (leaves_all w)
+    (elim (cases_Bool (slice_index w.kinds.items d == 4)) [
+      | inl e ↦ silent_next (volume_of v b) d (passed_of w) (calm_shown h e k) k.passed
+      | inr e ↦ other_next (volume_of v b) d (passed_of w)
+          (λ x q n. names_none v b d g (rw (← k.claims.kinds d) e) x) k.passed
+    ]) k
 
 -- what is reported of the root
 root_by : (v : Volume) (c : Class) (k : ℕ) (m : Bool) → is_directory c ≡ is_dir_kind k →
     is_allocated c ≡ is_allocated_kind k → is_suspect v 2 ≡ (m || is_empty_dir_kind k) →
     root_reported k m ≡ root_lines_of v c
 unfolding root_reported
-root_by v c k m d a s = go c (k == 0) (is_dir_kind k) refl d a
-  where
-    tell : Bool → Bool → List TreeMessage
-    tell none dir = if none then root_none ∷ []
-        else (if not dir then root_not_dir ∷ [] else reported (m || is_empty_dir_kind k) root_suspect)
-
-    go : (c : Class) (none dir : Bool) → (k == 0) ≡ none → is_directory c ≡ dir → is_allocated c ≡ not none →
-        tell none dir ≡ root_lines_of v c
-    go Free true dir e d a = refl
-    go Free false dir e d a = absurd (cc)
-    go Partial true dir e d a = refl
-    go Partial false dir e d a = absurd (cc)
-    go File true dir e d a = absurd (cc)
-    go File false false e d a = refl
-    go File false true e d a = absurd (cc)
-    go Unknown true dir e d a = absurd (cc)
-    go Unknown false false e d a = refl
-    go Unknown false true e d a = absurd (cc)
-    go Dir true dir e d a = absurd (cc)
-    go Dir false true e d a = ap (λ b. reported b root_suspect) (sym s)
-    go Dir false false e d a = absurd (cc)
+root_by v Free k m d a s = grind (arith, nat_tests)
+root_by v Partial k m d a s = grind (arith, nat_tests)
+root_by v File k m d a s = grind (arith, nat_tests)
+root_by v Unknown k m d a s = grind (arith, nat_tests)
+root_by v Dir k m d a s = grind (arith, nat_tests)
 
 pub root_is : (v : Layout) (b : List ℕ) (w : Workspace) (k : ℕ) (m : Bool) → k ≡ slice_index w.kinds.items 2 →
     m ≡ bool_at w.marked.items 2 → HoldsClaims v b w →
@@ -258,9 +200,8 @@ pub root_is : (v : Layout) (b : List ℕ) (w : Workspace) (k : ℕ) (m : Bool) �
 unfolding root_lines volume_of volume_with
 root_is v b w k m e f h =
     let t = reports_at v b 2 in
-    ap (λ k. root_reported k m) (e ∙ h.kinds 2)
-    ∙ (ap (root_reported (kind_at v b 2)) (f ∙ h.marked 2)
-    ∙ root_by (volume_of v b) (class_at v b 2) (kind_at v b 2) (marked_at v b 2) t.dir t.allocated (suspect_is v b 2))
+    rw (e ∙ h.kinds 2, f ∙ h.marked 2)
+    (root_by (volume_of v b) (class_at v b 2) (kind_at v b 2) (marked_at v b 2) t.dir t.allocated (suspect_is v b 2))
 
 -- the kind and the mark of the root, as they are read
 pub root_kind_is : (v : Layout) (w : Workspace) (k : ℕ) → IsAcceptedLayout v → IsFor v w → k ≡ get_or w.kinds.items 2 k
@@ -294,10 +235,5 @@ pub tree_is : (v : Layout) (b : List ℕ) (w : Workspace) (k : ℕ) (m goes : Bo
     map of_tree (pathname_lines (volume_of v b)) ≡ map of_tree (root_reported k m) ++ map of_tree (tree_lines v b goes)
 unfolding pathname_lines
 tree_is v b w k m goes e f h q =
-    let lines = directory_lines (volume_of v b) in
-    ap (λ r. map of_tree (r ++ (if continues_after_root (volume_of v b) then lines_below lines (volume_of v b).count
-    else []))) (sym (root_is v b w k m e f h))
-    ∙ (ap (λ g. map of_tree (root_reported k m ++ (if g then lines_below lines (volume_of v b).count else [])))
-    (sym (q ∙ goes_is v b w k e h))
-    ∙ (ap (λ l. map of_tree (root_reported k m ++ (if goes then l else []))) (lines_begin v b)
-    ∙ map-append of_tree (root_reported k m) (tree_lines v b goes)))
+    rw (← root_is v b w k m e f h, ← (q ∙ goes_is v b w k e h), lines_begin v b)
+    (map-append of_tree (root_reported k m) (tree_lines v b goes))

@@ -1,34 +1,18 @@
--- What isn't looked at: inodes that are no directories, and directories of size 0, which have no
--- entries.
-use Rattle.std.proofs.Common.{◌≡◌, ◌<◌, ◌==◌, refl, ap, ◌∙◌, ℕ, Bool, true, false, not, ◌&&◌, if◌then◌else◌, List, []}
-use Rattle.std.proofs.Common.{arith}
-use Rattle.std.specs.List.{flat_map, list_any}
-use Rattle.std.proofs.lemmas.Bool.{eqb-true}
-use Rattle.std.proofs.lemmas.Bool.Decides.{nat_tests}
-use Rattle.ffs_volume.specs.declared.Layout.{Layout}
-use Rattle.ffs_volume.specs.Disk.Areas.{is_run_in_range}
-use Rattle.ffs_volume.specs.Laws.Geometry.{IsAcceptedLayout}
-use Rattle.ffs_volume.specs.Blocks.Inodes.{inode_of}
-use Rattle.ffs_volume.specs.Blocks.Claims.{at_next_inode}
-use Rattle.ffs_volume.specs.Blocks.KeptSteps.{kept_steps, kept_steps_of, claims_before}
-use Rattle.ffs_volume.specs.Directories.Entries.{chunks_of}
-use Rattle.ffs_volume.specs.Directories.Roles.{is_dir, roled_chunk, roled_entries}
-use Rattle.ffs_volume.specs.Directories.Graph.{is_naming_entry, is_naming_dir}
-use Rattle.ffs_volume.specs.Directories.Parents.{graph_of}
-use Rattle.ffs_volume.specs.Directories.PathnameCheck.{is_looked_at}
-use Rattle.ffs_volume.specs.Directories.Volumes.{is_inode_number, kept_steps_of_inode, chunk_source_of, volume_with}
-use Rattle.ffs_volume.specs.Directories.Volumes.{volume_of}
+-- Inodes that aren't looked at: those that are no directories, and directories of size 0.
+use Rattle.std.proofs.lemmas.Bool.{and_parts, and_cases, not-false, Decides.nat_tests}
+use Rattle.std.proofs.Common.{inl, inr, ◌≡◌, ◌<◌, ◌==◌, refl, ap, ◌∙◌, ℕ, Bool, true, false, not, ◌&&◌, List, [], arith}
+use Rattle.std.{proofs.Common.eqb-true, proofs.Math.Bool.and-false, specs.List.flat_map}
+use Rattle.ffs_volume.specs.{declared.Layout.Layout, Disk.Areas.is_run_in_range, Laws.Geometry.IsAcceptedLayout}
+use Rattle.ffs_volume.{specs.Blocks.Inodes.inode_of, specs.Blocks.KeptSteps.kept_steps_of, proofs.Sizes.no_steps}
+use Rattle.ffs_volume.specs.Directories.{Entries.chunks_of, Graph.is_naming_dir, Roles.is_dir, Roles.roled_chunk}
+use Rattle.ffs_volume.specs.Directories.{Roles.roled_entries, Parents.graph_of, PathnameCheck.is_looked_at}
+use Rattle.ffs_volume.specs.Directories.Volumes.{chunk_source_of, volume_with, volume_of, kept_steps_of_inode}
 use Rattle.ffs_volume.specs.Encodings.Kinds.{kind_at, is_dir_kind, is_empty_dir_kind}
-use Rattle.ffs_volume.proofs.Sizes.{no_steps}
 use Rattle.ffs_workspace.proofs.KindLaws.{dir_is, empty_is}
 
 none_kept : (v : Layout) (b : List ℕ) (d : ℕ) → 0 < v.bsize → (inode_of v b d).size ≡ 0 → kept_steps_of_inode v b d ≡ []
 unfolding kept_steps_of
-none_kept v b d h z = one (is_inode_number v d)
-  where
-    one : (n : Bool) → (if n then kept_steps_of v b d else []) ≡ []
-    one true = ap (kept_steps v (at_next_inode (claims_before v b d))) (no_steps v b (inode_of v b d) h z)
-    one false = refl
+none_kept v b d h z = rw (no_steps v b (inode_of v b d) h z) (grind arith)
 
 -- no entries where the size is 0
 none_seen : (v : Layout) (b : List ℕ) (d : ℕ) → IsAcceptedLayout v → ((volume_of v b).inode d).size ≡ 0 →
@@ -52,21 +36,15 @@ looked_is v b d =
     kind_looked (is_dir (volume_of v b) d) (((volume_of v b).inode d).size == 0) (kind_at v b d) (dir_is v b d)
     (empty_is v b d)
 
-looked_parts : (dir empty : Bool) → (dir && not empty) ≡ true → dir ≡ true
-looked_parts true empty h = refl
-looked_parts false empty h = h
-
 pub looked_dir : (v : Layout) (b : List ℕ) (d : ℕ) → (kind_at v b d == 4) ≡ true → is_dir (volume_of v b) d ≡ true
-looked_dir v b d h = looked_parts (is_dir (volume_of v b) d) (((volume_of v b).inode d).size == 0) (looked_is v b d ∙ h)
+looked_dir v b d h = (and_parts (is_dir (volume_of v b) d) _ (looked_is v b d ∙ h)).0
 
 -- an inode that isn't looked at names nothing
 pub names_none : (v : Layout) (b : List ℕ) (d : ℕ) → IsAcceptedLayout v → (kind_at v b d == 4) ≡ false → (x : ℕ) →
     is_naming_dir (graph_of (volume_of v b)) d x ≡ false
 names_none v b d g h x =
-    go (is_dir (volume_of v b) d) (((volume_of v b).inode d).size == 0) refl (looked_is v b d ∙ h)
-  where
-    go : (dir empty : Bool) → (((volume_of v b).inode d).size == 0) ≡ empty → (dir && not empty) ≡ false →
-        (dir && list_any (is_naming_entry x) (roled_entries (volume_of v b) d)) ≡ false
-    go false empty e f = refl
-    go true true e f = ap (list_any (is_naming_entry x)) (none_seen v b d g (eqb-true _ 0 e))
-    go true false e f = let no_way : true ≡ false = f in absurd (cc)
+    let dir = is_dir (volume_of v b) d in
+    elim (and_cases dir _ (looked_is v b d ∙ h)) [
+      | inl none ↦ rw none refl
+      | inr empty ↦ rw (none_seen v b d g (eqb-true _ 0 (not-false _ empty))) (and-false dir)
+    ]

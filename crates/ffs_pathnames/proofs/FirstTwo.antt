@@ -1,55 +1,44 @@
 -- The first two entries of a directory, and its parent, as they are found.
-use Rattle.std.proofs.Common.{◌≡◌, ◌≢◌, refl, sym, ap, ◌∙◌, ℕ, zero, suc, ◌+◌, ◌==◌, Bool, true, false, List, ◌∷◌}
-use Rattle.std.proofs.Common.{Option, None, Some}
-use Rattle.std.specs.Prelude.{if◌then◌else◌}
-use Rattle.std.specs.Option.{unwrap_or}
-use Rattle.std.proofs.Common.{inl, inr, arith}
-use Rattle.std.proofs.lemmas.Bool.{cases_eq, ne_eqb, eq-eqb, and_parts, both_ways, cond-false, cond-true}
-use Rattle.std.proofs.Math.Nat.{zero-add}
-use Rattle.ffs_volume.specs.declared.Order.{Order}
-use Rattle.ffs_volume.specs.Directories.Climb.{is_value}
+use Rattle.std.proofs.lemmas.Bool.{Decides.nat_tests, cases_eq, and_parts, cond-false, cond-true}
+use Rattle.std.proofs.Common.{◌≡◌, ◌≢◌, refl, sym, ap, ◌∙◌, ℕ, zero, suc, ◌==◌, Bool, true, false, List, ◌∷◌, Option}
+use Rattle.std.proofs.Common.{None, Some, inl, inr, arith, ne_eqb, eq-eqb}
+use Rattle.std.{proofs.Math.Nat.zero-add, specs.Option.unwrap_or}
+use Rattle.ffs_volume.specs.Directories.Roles.{is_dir, Volume, nth_entry}
+use Rattle.ffs_volume.specs.{Directories.Climb.is_value, Directories.Parents.graph_of, declared.Order.Order}
 use Rattle.ffs_volume.specs.Directories.Entries.{Entry, entry_at, entries_of, entries_from}
-use Rattle.ffs_volume.specs.Directories.Graph.{Graph, is_naming_dir, edge, level, level_edge, parent, parent_by}
-use Rattle.ffs_volume.specs.Directories.Parents.{graph_of}
-use Rattle.ffs_volume.specs.Directories.Roles.{Volume, nth_entry}
-use Rattle.ffs_volume.proofs.SearchLaws.{first_below-some}
-use Rattle.ffs_volume.proofs.Reading.{entries_next, entries_end}
+use Rattle.ffs_volume.specs.Directories.Graph.{Graph, edge, level, level_edge, parent, parent_by}
+use Rattle.ffs_volume.proofs.{SearchLaws.first_below-some, Reading.entries_next, Reading.entries_end}
 use Rattle.ffs_pathnames.specs.Begins.{number_if, started_entry}
 
 -- where no entry is at the start, there is none
 pub none_first : (order : Order) (chunk : List ℕ) (i : ℕ) → entry_at order chunk 0 ≡ None →
     nth_entry i (entries_of order chunk) ≡ None
-none_first order chunk i h = ap (nth_entry i) (entries_end order chunk 0 h)
+none_first order chunk i h = rw (entries_end order chunk 0 h) refl
 
 pub first_is : (order : Order) (chunk : List ℕ) (e : Entry) → entry_at order chunk 0 ≡ Some e →
     nth_entry 0 (entries_of order chunk) ≡ Some e
-first_is order chunk e h = ap (nth_entry 0) (entries_next order chunk 0 e h)
+first_is order chunk e h = rw (entries_next order chunk 0 e h) refl
 
 -- the second is after the first
 pub second_is : (order : Order) (chunk : List ℕ) (e : Entry) → entry_at order chunk 0 ≡ Some e →
     nth_entry 1 (entries_of order chunk) ≡ entry_at order chunk e.length
-second_is order chunk e h = ap (nth_entry 1) (entries_next order chunk 0 e h)
-    ∙ (one (0 + e.length) (entry_at order chunk (0 + e.length)) refl ∙ ap (entry_at order chunk) (zero-add e.length))
+second_is order chunk e h = rw (entries_next order chunk 0 e h, zero-add e.length) (one e.length _ refl)
   where
     one : (place : ℕ) (o : Option Entry) → entry_at order chunk place ≡ o →
         nth_entry 1 (e ∷ entries_from order chunk 64 place) ≡ entry_at order chunk place
-    one place None q = ap (λ es. nth_entry 1 (e ∷ es)) (entries_end order chunk place q) ∙ sym q
-    one place (Some f) q = ap (λ es. nth_entry 1 (e ∷ es)) (entries_next order chunk place f q) ∙ sym q
+    one place None q = rw (entries_end order chunk place q, q) refl
+    one place (Some f) q = rw (entries_next order chunk place f q, q) refl
 
--- a parent is a directory
-parent_dir : (g : Graph) (x s : ℕ) → x ≢ 2 → parent g x ≡ Some s → g.is_dir s ≡ true
+-- a parent names the directory
+pub parent_edge : (g : Graph) (x s : ℕ) → x ≢ 2 → parent g x ≡ Some s → edge g s x ≡ true
 unfolding parent
-parent_dir g x s n e = go (level g x) (sym (cond-false (x == 2) (Some 2) (parent_by g x (level g x)) (ne_eqb x 2 n))
-    ∙ e)
+parent_edge g x s n e = go (level g x) (sym (cond-false (x == 2) _ _ (ne_eqb x 2 n)) ∙ e)
   where
-    inside : edge g s x ≡ true → g.is_dir s ≡ true
-    inside h = (and_parts (g.is_dir s) _ (and_parts (g.is_dir x) (is_naming_dir g s x) h).1).0
-
-    go : (o : Option ℕ) → parent_by g x o ≡ Some s → g.is_dir s ≡ true
-    go None h = inside (first_below-some (λ s. edge g s x) g.count s h).passes
+    go : (o : Option ℕ) → parent_by g x o ≡ Some s → edge g s x ≡ true
+    go None h = (first_below-some (λ s. edge g s x) g.count s h).passes
     go (Some zero) h = absurd (cc)
-    go (Some (suc k)) h = inside
-        (and_parts (is_value (level g s) k) (edge g s x) (first_below-some (level_edge g k x) g.count s h).passes).1
+    go (Some (suc k)) h =
+        (and_parts (is_value (level g s) k) _ (first_below-some (level_edge g k x) g.count s h).passes).1
 
 root_parent : (g : Graph) (x : ℕ) → x ≡ 2 → parent g x ≡ Some 2
 unfolding parent
@@ -64,17 +53,15 @@ parent_back v x = one (parent (graph_of v) x) refl
   where
     no_zero : parent (graph_of v) x ≡ Some 0 → ⊥
     no_zero e = elim (cases_eq x 2) [
-      | inl z ↦ let wrong : 2 ≡ 0 = ap (λ o. unwrap_or o 0) (sym (root_parent (graph_of v) x z) ∙ e) in
+      | inl z ↦
+          let wrong : 2 ≡ 0 = ap (λ o. unwrap_or o 0) (sym (root_parent (graph_of v) x z) ∙ e) in
           absurd (omega (arith, wrong))
-      | inr n ↦ both_ways ((graph_of v).is_dir 0) refl (parent_dir (graph_of v) x 0 n e)
+      | inr n ↦ let named = (and_parts (is_dir v x) _ (parent_edge (graph_of v) x 0 n e)).1 in absurd (cc)
     ]
 
     one : (o : Option ℕ) → parent (graph_of v) x ≡ o → number_if (unwrap_or o 0) ≡ o
     one None e = refl
-    one (Some s) e = elim (cases_eq s 0) [
-      | inl z ↦ absurd (no_zero (e ∙ ap Some z))
-      | inr n ↦ ap (λ t. if t then None else Some s) (ne_eqb s 0 n)
-    ]
+    one (Some s) e = let some = λ (z : s ≡ 0). no_zero (e ∙ ap Some z) in grind (arith, nat_tests)
 
 -- in terms of the chunk that was found
 pub none_found : (order : Order) (start : List ℕ) (i : ℕ) (started : Bool) → entry_at order start 0 ≡ None →

@@ -1,44 +1,30 @@
--- What is reported of a directory, in the parts in which it is said.
-use Rattle.std.proofs.Common.{◌≡◌, refl, sym, ap, ◌∙◌, ℕ, ◌++◌, append_assoc, Option, None, Some}
-use Rattle.ffs_volume.specs.Directories.Entries.{Entry}
-use Rattle.ffs_volume.specs.Directories.Roles.{Volume, start_entry, dot, dotdot, roled_entries}
-use Rattle.ffs_volume.specs.Directories.Graph.{parent}
-use Rattle.ffs_volume.specs.Directories.Parents.{graph_of}
-use Rattle.ffs_volume.specs.Directories.Paths.{dir_path}
-use Rattle.ffs_volume.specs.Messages.Kinds.{reported, dir_short, dir_length}
-use Rattle.ffs_volume.specs.Directories.PathnameCheck.{attributes, is_short, has_partial_chunk, are_sound, shape_lines}
-use Rattle.ffs_volume.specs.Directories.PathnameCheck.{dot_lines, dotdot_lines, dot_lines_of, dotdot_lines_of}
-use Rattle.ffs_volume.specs.Directories.PathnameCheck.{lines_of_entries, sized_dir_lines}
-use Rattle.ffs_pathnames.specs.Header.{chunks_reported, shape_reported, dot_in, dotdot_in, dot_reported, dotdot_reported}
-use Rattle.ffs_pathnames.specs.Header.{dots_reported, header_reported}
+-- What is reported of a directory before its entries.
+use Rattle.std.proofs.Common.{◌≡◌, ◌≤◌, refl, arith, ℕ, ◌==◌, ◌%◌, Bool, true, false, not, ◌&&◌, List, [], ◌++◌, Option}
+use Rattle.std.proofs.Common.{None, Some, nat_lt, length, append_assoc, length-append, inl, inr}
+use Rattle.std.proofs.lemmas.Bool.{Decides.nat_tests, and_cases}
+use Rattle.ffs_volume.specs.declared.Attr.{Attr}
+use Rattle.ffs_volume.specs.Directories.{Entries.Entry, Entries.is_live, Graph.parent, Parents.graph_of, Paths.dir_path}
+use Rattle.ffs_volume.specs.Directories.Roles.{Volume, start_entry, dot, dotdot, roled_entries, is_two_dots}
+use Rattle.ffs_volume.specs.Directories.PathnameCheck.{attributes, are_sound, shape_lines, is_wrong_parent, dot_lines}
+use Rattle.ffs_volume.specs.Directories.PathnameCheck.{dotdot_lines, lines_of_entries, sized_dir_lines}
+use Rattle.ffs_pathnames.specs.Header.{shape_reported, dot_in, dotdot_in, dot_reported, dotdot_reported, dots_reported}
+use Rattle.ffs_pathnames.specs.Header.{header_reported, is_right_header, is_right_dot, is_right_dotdot}
 
+-- ---- in the parts in which it is said
 shape_is : (v : Volume) (d : ℕ) → shape_lines v d ≡ shape_reported (attributes v d) (dir_path (graph_of v) d) (v.gap d)
     (are_sound (v.chunks d))
 unfolding shape_lines attributes
-shape_is v d = sym (append_assoc
-    (reported (is_short v d) (dir_short (attributes v d) (dir_path (graph_of v) d)))
-    (reported (has_partial_chunk v d) (dir_length (dir_path (graph_of v) d) (v.inode d).size))
-    (chunks_reported (attributes v d) (dir_path (graph_of v) d) (v.gap d) (are_sound (v.chunks d))))
+shape_is v d = simp append_assoc
 
 dot_is : (v : Volume) (d : ℕ) → dot_lines v d ≡ dot_reported (attributes v d) (dir_path (graph_of v) d) d
     (start_entry v d 0) (dot_in (start_entry v d 0))
 unfolding dot_lines dot
-dot_is v d = one (dot_in (start_entry v d 0))
-  where
-    one : (o : Option Entry) → dot_lines_of v d o ≡ dot_reported (attributes v d) (dir_path (graph_of v) d) d
-        (start_entry v d 0) o
-    one None = refl
-    one (Some e) = refl
+dot_is v d = grind arith
 
 dotdot_is : (v : Volume) (d : ℕ) → dotdot_lines v d ≡ dotdot_reported (attributes v d) (dir_path (graph_of v) d)
     (parent (graph_of v) d) (start_entry v d 1) (dotdot_in (start_entry v d 1))
 unfolding dotdot_lines dotdot
-dotdot_is v d = one (dotdot_in (start_entry v d 1))
-  where
-    one : (o : Option Entry) → dotdot_lines_of v d o ≡ dotdot_reported (attributes v d) (dir_path (graph_of v) d)
-        (parent (graph_of v) d) (start_entry v d 1) o
-    one None = refl
-    one (Some e) = refl
+dotdot_is v d = grind arith
 
 -- first what is reported before the entries, then what is reported of them
 pub dir_parts : (v : Volume) (d : ℕ) →
@@ -46,18 +32,53 @@ pub dir_parts : (v : Volume) (d : ℕ) →
     (are_sound (v.chunks d)) (start_entry v d 0) (start_entry v d 1)
     ++ lines_of_entries v d 0 (roled_entries v d)
 unfolding sized_dir_lines header_reported
-dir_parts v d =
-    ap (λ l. l ++ (dot_lines v d ++ (dotdot_lines v d ++ lines_of_entries v d 0 (roled_entries v d)))) (shape_is v d)
-    ∙ (ap (λ l. shape_reported (attributes v d) (dir_path (graph_of v) d) (v.gap d) (are_sound (v.chunks d))
-    ++ (l ++ (dotdot_lines v d ++ lines_of_entries v d 0 (roled_entries v d)))) (dot_is v d)
-    ∙ (ap (λ l. shape_reported (attributes v d) (dir_path (graph_of v) d) (v.gap d) (are_sound (v.chunks d))
-    ++ (dot_reported (attributes v d) (dir_path (graph_of v) d) d (start_entry v d 0) (dot_in (start_entry v d 0))
-    ++ (l ++ lines_of_entries v d 0 (roled_entries v d)))) (dotdot_is v d)
-    ∙ (ap (λ l. shape_reported (attributes v d) (dir_path (graph_of v) d) (v.gap d) (are_sound (v.chunks d)) ++ l)
-    (sym (append_assoc (dot_reported (attributes v d) (dir_path (graph_of v) d) d (start_entry v d 0)
-    (dot_in (start_entry v d 0)))
-    (dotdot_reported (attributes v d) (dir_path (graph_of v) d) (parent (graph_of v) d) (start_entry v d 1)
-    (dotdot_in (start_entry v d 1))) (lines_of_entries v d 0 (roled_entries v d))))
-    ∙ sym (append_assoc (shape_reported (attributes v d) (dir_path (graph_of v) d) (v.gap d) (are_sound (v.chunks d)))
-    (dots_reported (attributes v d) (dir_path (graph_of v) d) d (parent (graph_of v) d) (start_entry v d 0)
-    (start_entry v d 1)) (lines_of_entries v d 0 (roled_entries v d))))))
+dir_parts v d = rw (shape_is v d, dot_is v d, dotdot_is v d) (simp append_assoc)
+
+-- ---- none where a directory is in order
+-- `..`
+pub dotdot_right : (about : Attr) (path : List ℕ) (parent : Option ℕ) (e : Entry) → is_live e ≡ true →
+    is_two_dots e.name ≡ true → is_wrong_parent parent e.number ≡ false → (e.kind == 4) ≡ true →
+    dotdot_reported about path parent (Some e) (dotdot_in (Some e)) ≡ []
+dotdot_right about path parent e live name number kind = rw (live, name, number, kind) refl
+
+-- all of it
+pub in_order : (about : Attr) (path : List ℕ) (d size : ℕ) (parent : Option ℕ) (gap sound : Bool)
+    (first second : Option Entry) → about.size ≡ size →
+    (not (nat_lt size 24) && ((size % 512 == 0) && (not gap && sound))) ≡ true →
+    dot_reported about path d first (dot_in first) ≡ [] →
+    dotdot_reported about path parent second (dotdot_in second) ≡ [] →
+    header_reported about path d parent gap sound first second ≡ []
+unfolding header_reported
+in_order about path d size parent gap sound first second e h dot dotdot = rw (dot, dotdot) (grind (arith, nat_tests))
+
+-- ---- one at least where it isn't
+dot_some : (about : Attr) (path : List ℕ) (d : ℕ) (first : Option Entry) → is_right_dot d first ≡ false →
+    1 ≤ length (dot_reported about path d first (dot_in first))
+dot_some about path d None h = omega arith
+dot_some about path d (Some e) h = grind (arith, nat_tests)
+
+dotdot_some : (about : Attr) (path : List ℕ) (parent : Option ℕ) (second : Option Entry) →
+    is_right_dotdot parent second ≡ false → 1 ≤ length (dotdot_reported about path parent second (dotdot_in second))
+dotdot_some about path parent None h = omega arith
+dotdot_some about path parent (Some e) h = grind (arith, nat_tests)
+
+shape_some : (about : Attr) (path : List ℕ) (gap sound : Bool) →
+    (not (nat_lt about.size 24) && ((about.size % 512 == 0) && (not gap && sound))) ≡ false →
+    1 ≤ length (shape_reported about path gap sound)
+shape_some about path gap sound h = grind (arith, nat_tests)
+
+pub header_some : (about : Attr) (path : List ℕ) (d : ℕ) (parent : Option ℕ) (gap sound : Bool)
+    (first second : Option Entry) → is_right_header about.size d parent gap sound first second ≡ false →
+    1 ≤ length (header_reported about path d parent gap sound first second)
+unfolding header_reported
+header_some about path d parent gap sound first second h =
+    let a = length-append (shape_reported about path gap sound) (dots_reported about path d parent first second) in
+    let b = length-append (dot_reported about path d first (dot_in first))
+    (dotdot_reported about path parent second (dotdot_in second)) in
+    elim (and_cases _ _ h) [
+      | inl shape ↦ let c = shape_some about path gap sound shape in omega arith
+      | inr dots ↦ elim (and_cases _ _ dots) [
+        | inl dot ↦ let c = dot_some about path d first dot in omega arith
+        | inr dotdot ↦ let c = dotdot_some about path parent second dotdot in omega arith
+      ]
+    ]

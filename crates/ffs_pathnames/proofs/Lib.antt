@@ -1,4 +1,3 @@
-pub mod FirstPlaces
 pub mod StampLaws
 pub mod PassedLaws
 pub mod LookLaws
@@ -6,20 +5,14 @@ pub mod BetweenLaws
 pub mod Saying
 pub mod HeaderLaws
 pub mod Looking
-pub mod Directories
 pub mod SeesLaws
-pub mod ChunkLaws
-pub mod Enough
 pub mod VerdictLaws
 pub mod ReadyLaws
-pub mod Passed
 pub mod Passing
 pub mod FirstTwo
-pub mod InOrder
 pub mod LineCounts
 pub mod Begun
 pub mod EmptyLaws
 pub mod Carrying
 pub mod Skipping
 mod SilentLaws
-pub mod CostLaws

@@ -1,18 +1,15 @@
--- A look at the entries of a chunk, one after another.
-use Rattle.std.proofs.Common.{◌≡◌, sym, ap, ◌∙◌, ℕ, suc, ◌+◌, arith, Bool, ◌&&◌, ◌==◌, List, [], ◌∷◌}
-use Rattle.std.proofs.Common.{Some, None}
-use Rattle.std.specs.Prelude.{sum_by}
-use Rattle.std.proofs.lemmas.List.Sums.{sum_by-cons}
+-- A look at the entries of a chunk, and at the chunks of a directory, one after another.
+use Rattle.std.proofs.Common.{Some, None, add-one, refl, ◌++◌, ◌≡◌, sym, ◌∙◌, ℕ, ◌+◌, arith, Bool, ◌&&◌, ◌==◌, List, []}
+use Rattle.std.proofs.Common.{◌∷◌, sum_by}
 use Rattle.std.proofs.Math.Bool.{and-true, and_assoc}
-use Rattle.ffs_volume.specs.declared.Order.{Order}
-use Rattle.ffs_volume.specs.declared.Role.{Role}
-use Rattle.ffs_volume.specs.Directories.Entries.{Entry, entry_at, entries_from}
-use Rattle.ffs_volume.specs.Directories.Roles.{Volume, RoledEntry, role_of, roled_from}
-use Rattle.ffs_volume.proofs.Reading.{entries_next, entries_end}
-use Rattle.ffs_layout.specs.declared.entry.Entry.{Entry as CodeEntry}
-use Rattle.ffs_layout.specs.Entry.{entry_value}
+use Rattle.std.{proofs.lemmas.List.Sums.sum_by-cons, proofs.lemmas.Bool.Decides.nat_tests, specs.List.flat_map}
 use Rattle.ffs_pathnames.specs.PassedNames.{is_quiet, are_quiet, after_look, after_looks}
+use Rattle.ffs_volume.proofs.Reading.{entries_next, entries_end}
+use Rattle.ffs_volume.specs.Directories.Entries.{Chunk, Entry, entry_at, entries_from}
+use Rattle.ffs_volume.specs.{Directories.PathnameCheck.are_sound, declared.Order.Order, declared.Role.Role}
+use Rattle.ffs_volume.specs.Directories.Roles.{roled_chunk, Volume, RoledEntry, role_of, roled_from}
 
+-- ---- the entries of a chunk
 -- the entries from a place on, with their roles
 abbrev pub roled_at_place : Order → List ℕ → Bool → ℕ → ℕ → List RoledEntry
 roled_at_place order chunk first index place = roled_from first index (entries_from order chunk 64 place)
@@ -22,62 +19,78 @@ pub seen_next : (order : Order) (chunk : List ℕ) (first : Bool) (index place :
     roled_at_place order chunk first index place ≡ record { role = role; entry = e } ∷ roled_at_place order chunk first
     (index + 1) (place + e.length)
 unfolding roled_from
-seen_next order chunk first index place e role there is =
-    let next : suc index ≡ index + 1 = omega arith in
-    ap (roled_from first index) (entries_next order chunk place e there)
-    ∙ (ap (λ r. record { role = r; entry = e } ∷ roled_from first (suc index)
-    (entries_from order chunk 64 (place + e.length))) (sym is)
-    ∙ ap (λ k. record { role = role; entry = e } ∷ roled_from first k (entries_from order chunk 64 (place + e.length)))
-    next)
+seen_next order chunk first index place e role there is = rw (entries_next order chunk place e there, is, add-one) refl
 
-pub quiet_on : (v : Volume) (s : ℕ) (stamps stamps' : List ℕ) (seen : RoledEntry) (es es' : List RoledEntry)
-    (all quiet still : Bool) → es ≡ seen ∷ es' →
+pub quiet_on : (v : Volume) (s : ℕ) (stamps : List ℕ) {stamps' : List ℕ} {seen : RoledEntry} {es es' : List RoledEntry}
+    {all still : Bool} (quiet : Bool) → es ≡ seen ∷ es' →
     still ≡ (quiet && is_quiet v s stamps seen) → stamps' ≡ after_look v s stamps seen →
     all ≡ (quiet && are_quiet v s stamps es) → all ≡ (still && are_quiet v s stamps' es')
-quiet_on v s stamps stamps' seen es es' all quiet still e h t q =
-    q ∙ (ap (λ l. quiet && are_quiet v s stamps l) e
-    ∙ (sym (and_assoc quiet (is_quiet v s stamps seen) (are_quiet v s (after_look v s stamps seen) es'))
-    ∙ (ap (λ b. b && are_quiet v s (after_look v s stamps seen) es') (sym h)
-    ∙ ap (λ l. still && are_quiet v s l es') (sym t))))
+quiet_on v s stamps {seen = seen} {es' = es'} quiet e h t q =
+    rw (h, t, and_assoc quiet (is_quiet v s stamps seen)) (rw e at q)
 
-pub stamps_on : (v : Volume) (s : ℕ) (stamps stamps' all : List ℕ) (seen : RoledEntry) (es es' : List RoledEntry) →
+pub stamps_on : (v : Volume) (s : ℕ) (stamps : List ℕ) {stamps' all : List ℕ} {seen : RoledEntry}
+    {es es' : List RoledEntry} →
     es ≡ seen ∷ es' →
     stamps' ≡ after_look v s stamps seen → all ≡ after_looks v s stamps es → all ≡ after_looks v s stamps' es'
-stamps_on v s stamps stamps' all seen es es' e t q = q
-    ∙ (ap (after_looks v s stamps) e ∙ ap (λ l. after_looks v s l es') (sym t))
+stamps_on v s stamps e t q = rw t (rw e at q)
 
-pub length_on : (order : Order) (chunk : List ℕ) (place all : ℕ) (e : Entry) → entry_at order chunk place ≡ Some e →
+pub length_on : (order : Order) (chunk : List ℕ) (place : ℕ) {all : ℕ} (e : Entry) →
+    entry_at order chunk place ≡ Some e →
     all ≡ place + sum_by (λ x. x.length) (entries_from order chunk 64 place) →
     all ≡ (place + e.length) + sum_by (λ x. x.length) (entries_from order chunk 64 (place + e.length))
-length_on order chunk place all e there q =
-    q ∙ (ap (λ es. place + sum_by (λ x. x.length) es) (entries_next order chunk place e there)
-    ∙ (ap (λ n. place + n) (sum_by-cons (λ x. x.length) e (entries_from order chunk 64 (place + e.length)))
-    ∙ more place e.length (sum_by (λ x. x.length) (entries_from order chunk 64 (place + e.length)))))
-  where
-    more : (a b c : ℕ) → a + (b + c) ≡ (a + b) + c
-    more a b c = omega arith
+length_on order chunk place e there q =
+    let r = rw (entries_next order chunk place e there, sum_by-cons (λ (x : Entry). x.length) e) at q in omega arith
 
 -- no entry is left
 pub none_left : (order : Order) (chunk : List ℕ) (first : Bool) (index place : ℕ) → entry_at order chunk place ≡ None →
     roled_at_place order chunk first index place ≡ []
 unfolding roled_from
-none_left order chunk first index place h = ap (roled_from first index) (entries_end order chunk place h)
+none_left order chunk first index place h = rw (entries_end order chunk place h) refl
 
-pub quiet_ends : (v : Volume) (s : ℕ) (stamps : List ℕ) (first : Bool) (index : ℕ) (order : Order) (chunk : List ℕ)
-    (place : ℕ) (all quiet : Bool) → entry_at order chunk place ≡ None →
-    all ≡ (quiet && are_quiet v s stamps (roled_at_place order chunk first index place)) → quiet ≡ all
-quiet_ends v s stamps first index order chunk place all quiet h q =
-    sym (q ∙ (ap (λ l. quiet && are_quiet v s stamps l) (none_left order chunk first index place h) ∙ and-true quiet))
-
-pub stamps_end : (v : Volume) (s : ℕ) (stamps all : List ℕ) (first : Bool) (index : ℕ) (order : Order) (chunk : List ℕ)
-    (place : ℕ) → entry_at order chunk place ≡ None →
-    all ≡ after_looks v s stamps (roled_at_place order chunk first index place) → stamps ≡ all
-stamps_end v s stamps all first index order chunk place h q =
-    sym (q ∙ ap (after_looks v s stamps) (none_left order chunk first index place h))
-
-pub length_ends : (order : Order) (chunk : List ℕ) (place all : ℕ) → entry_at order chunk place ≡ None →
+pub length_ends : (order : Order) (chunk : List ℕ) (place : ℕ) {all : ℕ} → entry_at order chunk place ≡ None →
     all ≡ place + sum_by (λ x. x.length) (entries_from order chunk 64 place) → (place == 512) ≡ (all == 512)
-length_ends order chunk place all h q =
-    let end : all ≡ place + 0 = q ∙ ap (λ es. place + sum_by (λ x. x.length) es) (entries_end order chunk place h) in
-    let same : place ≡ all = omega arith in
-    ap (λ n. n == 512) same
+length_ends order chunk place h q = let r = rw (entries_end order chunk place h) at q in grind (arith, nat_tests)
+
+-- ---- the chunks of a directory
+looks-append : (v : Volume) (s : ℕ) (stamps : List ℕ) (xs ys : List RoledEntry) → after_looks v s stamps (xs ++ ys)
+    ≡ after_looks v s (after_looks v s stamps xs) ys
+looks-append v s stamps [] ys = refl
+looks-append v s stamps (x ∷ xs) ys = looks-append v s (after_look v s stamps x) xs ys
+
+quiet-append : (v : Volume) (s : ℕ) (stamps : List ℕ) (xs ys : List RoledEntry) →
+    are_quiet v s stamps (xs ++ ys) ≡ (are_quiet v s stamps xs && are_quiet v s (after_looks v s stamps xs) ys)
+quiet-append v s stamps [] ys = refl
+quiet-append v s stamps (x ∷ xs) ys =
+    rw (quiet-append v s (after_look v s stamps x) xs ys, and_assoc (is_quiet v s stamps x)) refl
+
+pub chunk_quiet : (v : Volume) (s : ℕ) (stamps : List ℕ) {stamps' : List ℕ} {cs cs' : List Chunk} {c : Chunk}
+    {all here : Bool} (quiet : Bool) → cs ≡ c ∷ cs' →
+    here ≡ are_quiet v s stamps (roled_chunk c) → stamps' ≡ after_looks v s stamps (roled_chunk c) →
+    all ≡ (quiet && are_quiet v s stamps (flat_map roled_chunk cs)) →
+    all ≡ ((quiet && here) && are_quiet v s stamps' (flat_map roled_chunk cs'))
+chunk_quiet v s stamps {cs' = cs'} {c = c} quiet e h t q =
+    let r = rw (e, quiet-append v s stamps (roled_chunk c) (flat_map roled_chunk cs')) at q in
+    rw (h, t, and_assoc quiet) r
+
+pub chunk_stamps : (v : Volume) (s : ℕ) (stamps : List ℕ) {stamps' all : List ℕ} {cs cs' : List Chunk} {c : Chunk} →
+    cs ≡ c ∷ cs' →
+    stamps' ≡ after_looks v s stamps (roled_chunk c) → all ≡ after_looks v s stamps (flat_map roled_chunk cs) →
+    all ≡ after_looks v s stamps' (flat_map roled_chunk cs')
+chunk_stamps v s stamps {cs' = cs'} {c = c} e t q =
+    rw t (rw (e, looks-append v s stamps (roled_chunk c) (flat_map roled_chunk cs')) at q)
+
+pub chunk_sound : {cs cs' : List Chunk} {c : Chunk} {all here : Bool} (sound : Bool) → cs ≡ c ∷ cs' → here ≡ c.sound →
+    all ≡ (sound && are_sound cs) → all ≡ ((sound && here) && are_sound cs')
+chunk_sound sound e h q = rw (h, and_assoc sound) (rw e at q)
+
+-- no chunk is left
+pub all_quiet : (v : Volume) (s : ℕ) (stamps : List ℕ) {cs : List Chunk} {all : Bool} (quiet : Bool) → cs ≡ [] →
+    all ≡ (quiet && are_quiet v s stamps (flat_map roled_chunk cs)) → quiet ≡ all
+all_quiet v s stamps quiet e q = sym ((rw e at q) ∙ and-true quiet)
+
+pub all_stamps : (v : Volume) (s : ℕ) (stamps : List ℕ) {all : List ℕ} {cs : List Chunk} → cs ≡ [] →
+    all ≡ after_looks v s stamps (flat_map roled_chunk cs) → stamps ≡ all
+all_stamps v s stamps e q = sym (rw e at q)
+
+pub all_sound : {cs : List Chunk} {all : Bool} (sound : Bool) → cs ≡ [] → all ≡ (sound && are_sound cs) → sound ≡ all
+all_sound sound e q = sym ((rw e at q) ∙ and-true sound)

@@ -1,85 +1,70 @@
 -- Entries are reported and passed, one after another and chunk by chunk.
-use Rattle.std.proofs.Common.{◌≡◌, refl, sym, ap, ◌∙◌, ℕ, ◌<◌, ◌^◌, true}
-use Rattle.std.proofs.Common.{List, [], ◌∷◌, ◌++◌, append_assoc, map}
-use Rattle.std.proofs.Common.{Option, subst}
-use Rattle.std.specs.List.{flat_map}
-use Rattle.std.proofs.lemmas.List.{map-append}
-use Rattle.ffs_volume.specs.declared.Layout.{Layout}
-use Rattle.ffs_volume.specs.declared.Inode.{Inode}
-use Rattle.ffs_volume.specs.Disk.Areas.{is_run_in_range}
-use Rattle.ffs_volume.specs.Laws.Geometry.{IsAcceptedLayout}
-use Rattle.ffs_volume.specs.Blocks.Inodes.{inode_of}
-use Rattle.ffs_volume.specs.Blocks.Steps.{steps_of}
-use Rattle.ffs_volume.specs.Directories.Entries.{Chunk, chunks_of}
-use Rattle.ffs_volume.specs.Directories.Entries.{bytes_read}
+use Rattle.std.proofs.Common.{◌≡◌, refl, sym, ap, ◌∙◌, ℕ, ◌<◌, ◌^◌, true, List, [], ◌∷◌, ◌++◌, append_assoc, map}
+use Rattle.std.proofs.Common.{Option, subst, Bool}
+use Rattle.std.{proofs.lemmas.List.map-append, specs.List.flat_map}
+use Rattle.ffs_volume.specs.declared.{Layout.Layout, Inode.Inode}
+use Rattle.ffs_volume.specs.{Disk.Areas.is_run_in_range, Laws.Geometry.IsAcceptedLayout, Blocks.Inodes.inode_of}
+use Rattle.ffs_volume.specs.{Blocks.Steps.steps_of, Directories.Volumes.volume_of, Messages.Kinds.of_tree}
+use Rattle.ffs_volume.specs.Directories.Entries.{Chunk, chunks_of, bytes_read}
+use Rattle.ffs_volume.specs.Directories.Roles.{Volume, RoledEntry, roled_chunk, roled_entries, is_dir}
 use Rattle.ffs_volume.specs.Encodings.Replay.{cut_at, fresh_replay, replayed_steps}
-use Rattle.ffs_volume.specs.Directories.Volumes.{volume_of}
 use Rattle.ffs_names.specs.RunCursors.{reading_by}
 use Rattle.ffs_names.proofs.DirLaws.{dir_is, dir_size, dir_seen}
-use Rattle.ffs_volume.specs.Messages.Kinds.{TreeMessage, of_tree}
-use Rattle.ffs_volume.specs.Directories.Roles.{Volume, RoledEntry, roled_chunk, roled_entries, is_dir}
-use Rattle.ffs_workspace.specs.Leaves.{LeavesSurvey}
+use Rattle.ffs_workspace.specs.{Leaves.LeavesSurvey, declared.workspace.Workspace.Workspace}
+use Rattle.ffs_workspace.proofs.Leaving.{claims_left, survey_left}
 use Rattle.ffs_pathnames.specs.DirectoryContext.{DirectoryContext}
 use Rattle.ffs_pathnames.specs.PassedNames.{PassedNames, after_roled, after_entries, roled_reported, entries_reported}
-use Rattle.ffs_workspace.proofs.Leaving.{claims_left, survey_left}
-use Rattle.ffs_workspace.specs.declared.workspace.Workspace.{Workspace}
 
 -- the names that were passed after some entries and others
-pub after_more : (v : Volume) (s : ℕ) (m : PassedNames) (xs ys : List RoledEntry) → after_entries v s m (xs ++ ys)
+after_more : (v : Volume) (s : ℕ) (m : PassedNames) (xs ys : List RoledEntry) → after_entries v s m (xs ++ ys)
     ≡ after_entries v s (after_entries v s m xs) ys
 after_more v s m [] ys = refl
 after_more v s m (x ∷ xs) ys = after_more v s (after_roled v s m x) xs ys
 
 -- what is reported of some entries and others
-pub reported_more : (v : Volume) (s : ℕ) (m : PassedNames) (xs ys : List RoledEntry) →
+reported_more : (v : Volume) (s : ℕ) (m : PassedNames) (xs ys : List RoledEntry) →
     entries_reported v s m (xs ++ ys) ≡ entries_reported v s m xs ++ entries_reported v s (after_entries v s m xs) ys
 reported_more v s m [] ys = refl
-reported_more v s m (x ∷ xs) ys =
-    ap (λ (ms : List TreeMessage). roled_reported v s m x ++ ms) (reported_more v s (after_roled v s m x) xs ys)
-    ∙ sym (append_assoc (roled_reported v s m x) (entries_reported v s (after_roled v s m x) xs)
-    (entries_reported v s (after_entries v s (after_roled v s m x) xs) ys))
+reported_more v s m (x ∷ xs) ys = rw (reported_more v s (after_roled v s m x) xs ys) (simp append_assoc)
 
 -- an entry is reported, and the others are to come
-pub entry_reported : (v : Volume) (s : ℕ) (m m' : PassedNames) (e : RoledEntry) (es es' : List RoledEntry) → es ≡ e ∷ es'
-    →
-    after_roled v s m e ≡ m' →
+pub entry_reported : (v : Volume) (s : ℕ) (m : PassedNames) {m' : PassedNames} (e : RoledEntry)
+    (es es' : List RoledEntry) →
+    es ≡ e ∷ es' → after_roled v s m e ≡ m' →
     map of_tree (entries_reported v s m es) ≡ map of_tree (roled_reported v s m e)
     ++ map of_tree (entries_reported v s m' es')
-entry_reported v s m m' e es es' is after =
-    ap (λ l. map of_tree (entries_reported v s m l)) is
-    ∙ (map-append of_tree (roled_reported v s m e) (entries_reported v s (after_roled v s m e) es')
-    ∙ ap (λ k. map of_tree (roled_reported v s m e) ++ map of_tree (entries_reported v s k es')) after)
+entry_reported v s m e es es' is after = rw (is, ← after) (map-append of_tree (roled_reported v s m e) _)
 
 -- an entry is passed
-pub entry_passed : (v : Volume) (s : ℕ) (all m m' : PassedNames) (e : RoledEntry) (es es' : List RoledEntry) → es ≡ e ∷
-    es' →
-    after_roled v s m e ≡ m' →
-    all ≡ after_entries v s m es → all ≡ after_entries v s m' es'
-entry_passed v s all m m' e es es' is after q = q
-    ∙ (ap (after_entries v s m) is ∙ ap (λ k. after_entries v s k es') after)
+pub entry_passed : (v : Volume) (s : ℕ) {all : PassedNames} (m : PassedNames) {m' : PassedNames} {e : RoledEntry}
+    {es es' : List RoledEntry} →
+    es ≡ e ∷ es' → after_roled v s m e ≡ m' → all ≡ after_entries v s m es → all ≡ after_entries v s m' es'
+entry_passed v s m is after q = rw (← after) (rw is at q)
 
 -- a chunk is reported, and the others are to come
-pub chunk_reported : (v : Volume) (s : ℕ) (m m' : PassedNames) (c : Chunk) (cs cs' : List Chunk) → cs ≡ c ∷ cs' →
-    after_entries v s m (roled_chunk c) ≡ m' →
+pub chunk_reported : (v : Volume) (s : ℕ) (m : PassedNames) {m' : PassedNames} (c : Chunk) (cs cs' : List Chunk) →
+    cs ≡ c ∷ cs' → after_entries v s m (roled_chunk c) ≡ m' →
     map of_tree (entries_reported v s m (flat_map roled_chunk cs))
     ≡ map of_tree (entries_reported v s m (roled_chunk c))
     ++ map of_tree (entries_reported v s m' (flat_map roled_chunk cs'))
-chunk_reported v s m m' c cs cs' is after =
-    ap (λ l. map of_tree (entries_reported v s m (flat_map roled_chunk l))) is
-    ∙ (ap (map of_tree) (reported_more v s m (roled_chunk c) (flat_map roled_chunk cs'))
-    ∙ (map-append of_tree (entries_reported v s m (roled_chunk c))
-    (entries_reported v s (after_entries v s m (roled_chunk c)) (flat_map roled_chunk cs'))
-    ∙ ap (λ k. map of_tree (entries_reported v s m (roled_chunk c))
-    ++ map of_tree (entries_reported v s k (flat_map roled_chunk cs'))) after))
+chunk_reported v s m c cs cs' is after =
+    rw (is, ← after, reported_more v s m (roled_chunk c) (flat_map roled_chunk cs'))
+    (map-append of_tree (entries_reported v s m (roled_chunk c)) _)
 
 -- a chunk is passed
-pub chunk_passed : (v : Volume) (s : ℕ) (all m m' : PassedNames) (c : Chunk) (cs cs' : List Chunk) → cs ≡ c ∷ cs' →
-    after_entries v s m (roled_chunk c) ≡ m' →
+pub chunk_passed : (v : Volume) (s : ℕ) {all : PassedNames} (m : PassedNames) {m' : PassedNames} {c : Chunk}
+    {cs cs' : List Chunk} →
+    cs ≡ c ∷ cs' → after_entries v s m (roled_chunk c) ≡ m' →
     all ≡ after_entries v s m (flat_map roled_chunk cs) → all ≡ after_entries v s m' (flat_map roled_chunk cs')
-chunk_passed v s all m m' c cs cs' is after q =
-    q ∙ (ap (λ l. after_entries v s m (flat_map roled_chunk l)) is
-    ∙ (after_more v s m (roled_chunk c) (flat_map roled_chunk cs')
-    ∙ ap (λ k. after_entries v s k (flat_map roled_chunk cs')) after))
+chunk_passed v s m {c = c} {cs' = cs'} is after q =
+    rw (← after) (rw (is, after_more v s m (roled_chunk c) (flat_map roled_chunk cs')) at q)
+
+-- an entry is passed, where what is remembered is in the lists of a workspace
+pub passes : (v : Volume) (d : ℕ) (e : RoledEntry) {p0 p1 p2 p3 : List Bool} {s0 s1 s2 s3 : List ℕ} → p1 ≡ p0 →
+    s1 ≡ s0 →
+    after_roled v d (record { flags = p1; stamps = s1 }) e ≡ record { flags = p2; stamps = s2 } → p3 ≡ p2 → s3 ≡ s2 →
+    after_roled v d (record { flags = p0; stamps = s0 }) e ≡ record { flags = p3; stamps = s3 }
+passes v d e p s law q t = rw (← p, ← s, q, t) law
 
 -- what is known of a workspace's lists stays where they stay
 pub knows_on : (v : Layout) (contents contents' : Option (List ℕ)) (old new : Workspace) (d : ℕ) (b : List ℕ) →

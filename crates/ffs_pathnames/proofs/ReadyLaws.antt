@@ -1,23 +1,13 @@
 -- What is ready stays so where a chunk is read.
-use Rattle.std.proofs.Common.{◌≡◌, ℕ, refl, sym, ap, subst, ◌∙◌, rules}
-use Rattle.std.specs.Prelude.{Result, Ok, Err, vec_len}
-use Rattle.ffs_image.specs.Device.{Device}
-use Rattle.ffs_image.specs.declared.image.ImageFault.{ImageFault}
-use Rattle.std.specs.declared.alloc.Global.{Global}
-use Rattle.std.specs.declared.vec.Vec.{Vec}
+use Rattle.std.proofs.Common.{◌≡◌, ℕ, refl, ap, ◌∙◌, rules, Result, Ok, Err, vec_len}
+use Rattle.std.specs.declared.{alloc.Global.Global, vec.Vec.Vec}
+use Rattle.ffs_image.specs.{Device.Device, declared.image.ImageFault.ImageFault}
 use Rattle.ffs_volume.specs.declared.Layout.{Layout}
-use Rattle.ffs_walk.specs.declared.blocks.Blocks.{Blocks}
-use Rattle.ffs_walk.specs.declared.window.Window.{Window}
-use Rattle.ffs_walk.specs.Windows.{WindowHolds}
-use Rattle.ffs_workspace.specs.declared.workspace.Windows.{Windows}
-use Rattle.ffs_workspace.specs.declared.workspace.Workspace.{Workspace}
-use Rattle.ffs_workspace.specs.Lengths.{inodes_of}
-use Rattle.ffs_workspace.specs.Ready.{IsReady}
-use Rattle.ffs_workspace.specs.Tables.{KeepsTable}
-use Rattle.ffs_workspace.specs.declared.table.Table.{Table}
+use Rattle.ffs_walk.specs.declared.{blocks.Blocks.Blocks, window.Window.Window}
+use Rattle.ffs_workspace.specs.declared.workspace.{Windows.Windows, Workspace.Workspace}
+use Rattle.ffs_workspace.specs.{declared.table.Table.Table, Lengths.inodes_of, Ready.IsReady, Tables.KeepsTable}
 use Rattle.ffs_workspace.proofs.Readiness.{ready_table}
-use Rattle.ffs_paths.specs.declared.kept_parent.KeptParent.{KeptParent}
-use Rattle.ffs_paths.specs.Reads.{OnlyReads}
+use Rattle.ffs_paths.specs.{declared.kept_parent.KeptParent.KeptParent, Reads.OnlyReads}
 use Rattle.ffs_paths.proofs.Keeping.{kept_on, reads_then, kept_parent_held}
 use Rattle.ffs_names.specs.Windows.{CanReadChunks}
 use Rattle.ffs_pathnames.specs.Ready.{PathLeaves, ReadyWith}
@@ -34,48 +24,32 @@ others_stay w w' blocks chunk same = ap (λ (x : Windows). record x { blocks = b
 
 pub ready_read : (v : Layout) (d d' : Device) (w : Workspace) (blocks : Blocks) (chunk : Window) → IsReady v d w
     → d'.contents ≡ d.contents → CanReadChunks v d' blocks chunk → IsReady v d' (with_chunk w blocks chunk)
-ready_read v d d' w blocks chunk r same can = record {
-  made = record {
-    claimed = r.made.claimed;
-    duplicates = r.made.duplicates;
-    kinds = r.made.kinds;
-    marked = r.made.marked;
-    named = r.made.named;
-    reached = r.made.reached;
-    flags = r.made.flags;
-    references = r.made.references;
-    notes = r.made.notes;
-    parents = r.made.parents;
-    queue = r.made.queue;
-    table = r.made.table;
-    blocks = can.walk.room;
-    chunk = can.room;
-    names = r.made.names;
-  };
-  volume = can.walk.volume;
-  windows = record {
-    table = subst (λ t. WindowHolds t w.windows.table.window) (sym same) r.windows.table;
-    blocks = can.walk.holds;
-    chunk = can.holds;
-    names = subst (λ t. WindowHolds t w.windows.names) (sym same) r.windows.names;
-  };
-}
+ready_read v d d' w blocks chunk r same can =
+    let m = r.made in
+    let blocks_room = can.walk.room in
+    let room = can.room in
+    record {
+      made = search rules;
+      volume = can.walk.volume;
+      windows = record {
+        table = rw same r.windows.table;
+        blocks = can.walk.holds;
+        chunk = can.holds;
+        names = rw same r.windows.names;
+      };
+    }
 
 -- and where other stamps are in the queue
 ready_queue : (v : Layout) (d : Device) (w : Workspace) (queue : Vec ℕ Global) → vec_len queue ≡ vec_len w.queue
     → IsReady v d w → IsReady v d (record w { queue = queue })
 ready_queue v d w queue long r =
     let m = r.made in
+    let windows = r.windows in
     let each : vec_len queue ≡ inodes_of v = long ∙ m.queue in
     record {
       made = search rules;
       volume = r.volume;
-      windows = record {
-        table = r.windows.table;
-        blocks = r.windows.blocks;
-        chunk = r.windows.chunk;
-        names = r.windows.names;
-      };
+      windows = search rules;
     }
 
 -- and so is one whose window on the inode table, windows of chunks and queue were used

@@ -1,32 +1,25 @@
--- What a workspace shows after the block check and the survey is the volume's.
-use Rattle.std.proofs.Common.{◌≡◌, ◌≤◌, refl, sym, ap, ◌∙◌, ℕ, true, false, ◌||◌, ◌==◌, List, length, Option, Some}
-use Rattle.std.proofs.Common.{None, arith}
-use Rattle.std.specs.Prelude.{slice_index}
-use Rattle.std.specs.Option.{unwrap_or}
-use Rattle.std.proofs.lemmas.Bool.{ne_eqb}
-use Rattle.ffs_volume.specs.declared.Layout.{Layout}
-use Rattle.ffs_volume.specs.declared.Class.{Class}
-use Rattle.ffs_volume.specs.declared.Class.TheVariants.{Free, Partial, Unknown, File, Dir}
-use Rattle.ffs_volume.specs.Blocks.Inodes.{is_file_or_dir, is_allocated, is_unknown}
-use Rattle.ffs_volume.specs.Directories.Climb.{is_value}
-use Rattle.ffs_volume.specs.Directories.Graph.{parent}
-use Rattle.ffs_volume.specs.Directories.Parents.{graph_of}
-use Rattle.ffs_volume.specs.Directories.Volumes.{class_at, volume_of, volume_with}
-use Rattle.ffs_workspace.specs.declared.workspace.Workspace.{Workspace}
-use Rattle.ffs_volume.specs.Encodings.Kinds.{kind_at, is_dir_kind, is_empty_dir_kind, is_allocated_kind}
-use Rattle.ffs_volume.specs.Encodings.Kinds.{is_unknown_kind, type_of_kind, class_of_kind}
-use Rattle.ffs_workspace.specs.Lengths.{inodes_of}
+-- What a workspace shows, and what is read of directories, is the volume's.
+use Rattle.std.proofs.Common.{◌≡◌, ◌≤◌, refl, sym, ap, ◌∙◌, ℕ, true, false, ◌==◌, List, length, Option, Some, None}
+use Rattle.std.proofs.Common.{arith, slice_index, ne_eqb}
+use Rattle.std.specs.{Option.unwrap_or, List.flat_map}
+use Rattle.ffs_volume.specs.declared.{Layout.Layout, Class.Class, Inode.Inode}
+use Rattle.ffs_volume.specs.declared.Class.TheVariants.{Partial, File, Dir}
+use Rattle.ffs_volume.specs.Blocks.Inodes.{is_file_or_dir, is_allocated, is_unknown, inode_of}
+use Rattle.ffs_volume.{specs.Blocks.Steps.steps_of, specs.Laws.Geometry.IsAcceptedLayout, proofs.CutLaws.replay_at}
+use Rattle.ffs_volume.specs.Directories.{Climb.is_value, Graph.parent, Parents.graph_of, Entries.Chunk, Entries.has_gap}
+use Rattle.ffs_volume.specs.Directories.Roles.{roled_chunk, roled_entries}
+use Rattle.ffs_volume.specs.Directories.Volumes.{class_at, volume_of, volume_with, is_inode_number, chunk_source_of}
+use Rattle.ffs_volume.specs.Encodings.Replay.{cut_at, fresh_replay, replayed_steps}
+use Rattle.ffs_workspace.specs.{declared.workspace.Workspace.Workspace, Lengths.inodes_of}
 use Rattle.ffs_workspace.specs.Holds.{bool_at, HoldsClaims, HoldsSurvey}
 use Rattle.ffs_workspace.proofs.KindLaws.{reports_at, dir_is, suspect_is, type_is, class_is}
-use Rattle.ffs_pathnames.specs.declared.inodes.Inodes.{Inodes}
-use Rattle.ffs_pathnames.specs.Sees.{Sees}
+use Rattle.ffs_pathnames.specs.{declared.inodes.Inodes.Inodes, Sees.Sees, Reads.chunks_read}
 
+-- ---- what a workspace shows
 pub settled : (c : Class) → is_allocated c ≡ true → is_unknown c ≡ false → is_file_or_dir c ≡ true
 settled Dir a u = refl
 settled File a u = refl
-settled Unknown a u = absurd (cc)
-settled Partial a u = absurd (cc)
-settled Free a u = absurd (cc)
+settled c a u = absurd (cc)
 
 whole : (c : Class) → is_allocated c ≡ true → c ≡ Partial → ⊥
 whole c a e = let no_way : false ≡ true = sym (ap is_allocated e) ∙ a in cc
@@ -51,15 +44,30 @@ sees v b w i s h r =
     let mark = λ (x : ℕ). ap (λ ms. bool_at ms x) s.marked ∙ h.marked x in
     record {
       count = sym s.count;
-      dir = λ x. dir_is v b x ∙ ap is_dir_kind (sym (kind x));
-      allocated = λ x. (reports_at v b x).allocated ∙ ap is_allocated_kind (sym (kind x));
-      unknown = λ x. (reports_at v b x).unknown ∙ ap is_unknown_kind (sym (kind x));
-      suspect = λ x. suspect_is v b x
-          ∙ (ap (λ m. m || is_empty_dir_kind (kind_at v b x)) (sym (mark x))
-          ∙ ap (λ k. bool_at i.marked.now x || is_empty_dir_kind k) (sym (kind x)));
+      dir = λ x. rw (kind x) (dir_is v b x);
+      allocated = λ x. rw (kind x) (reports_at v b x).allocated;
+      unknown = λ x. rw (kind x) (reports_at v b x).unknown;
+      suspect = λ x. rw (kind x, mark x) (suspect_is v b x);
       marked = λ x. sym (mark x);
-      kind = λ x a u. ap type_of_kind (kind x) ∙ type_is v b x (settled (class_at v b x) a u);
-      class = λ x a. sym (ap class_of_kind (kind x) ∙ class_is v b x (whole (class_at v b x) a));
-      parent_is = λ x p two. parent_number (parent (graph_of (volume_of v b)) x) p two
-          ∙ ap (λ n. n == p) (sym (ap (λ ps. slice_index ps.items x) s.parents ∙ r.parents x));
+      kind = λ x a u. rw (kind x) (type_is v b x (settled (class_at v b x) a u));
+      class = λ x a. rw (kind x) (sym (class_is v b x (whole (class_at v b x) a)));
+      parent_is = λ x p two. rw (s.parents, r.parents x) (parent_number (parent (graph_of (volume_of v b)) x) p two);
     }
+
+-- ---- the chunks that are read
+pub chunks_are : (v : Layout) (b : List ℕ) (d : ℕ) {i : Inode} {cut : ℕ} → IsAcceptedLayout v →
+    is_inode_number v d ≡ true → i ≡ inode_of v b d → cut ≡ cut_at v b d →
+    chunks_read v i cut b ≡ (volume_of v b).chunks d
+unfolding chunks_read volume_of volume_with chunk_source_of
+chunks_are v b d g n e c = rw (e, c, replay_at v b d g n) refl
+
+pub gap_is : (v : Layout) (b : List ℕ) (d : ℕ) {i : Inode} {cut : ℕ} → IsAcceptedLayout v →
+    is_inode_number v d ≡ true → i ≡ inode_of v b d → cut ≡ cut_at v b d →
+    has_gap (replayed_steps v cut fresh_replay (steps_of v i b)) ≡ (volume_of v b).gap d
+unfolding volume_of volume_with
+gap_is v b d g n e c = rw (e, c, replay_at v b d g n) refl
+
+pub seen_are : (v : Layout) (b : List ℕ) (d : ℕ) (cs : List Chunk) → cs ≡ (volume_of v b).chunks d →
+    flat_map roled_chunk cs ≡ roled_entries (volume_of v b) d
+unfolding roled_entries
+seen_are v b d cs e = ap (flat_map roled_chunk) e

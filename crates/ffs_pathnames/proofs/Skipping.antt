@@ -1,22 +1,14 @@
 -- Inodes that aren't looked at, before the first directory that is.
-use Rattle.std.proofs.Common.{◌≡◌, ◌<◌, ◌≤◌, ◌-◌, ◌+◌, refl, sym, ap, subst, ◌∙◌, ℕ, zero, suc, false, List, ◌++◌, map}
-use Rattle.std.proofs.Common.{Option, arith}
-use Rattle.std.specs.Prelude.{slice_index, not, ◌&&◌, length}
-use Rattle.ffs_volume.specs.declared.Layout.{Layout}
-use Rattle.ffs_volume.specs.Laws.Geometry.{IsAcceptedLayout}
-use Rattle.ffs_volume.specs.Directories.PathnameCheck.{directory_lines}
-use Rattle.ffs_volume.specs.Directories.Roles.{is_suspect}
-use Rattle.ffs_volume.specs.Directories.Volumes.{volume_of, volume_with}
-use Rattle.ffs_volume.specs.Messages.Kinds.{of_tree, lines_from}
-use Rattle.ffs_volume.proofs.Numbered.{from_next}
+use Rattle.std.proofs.Common.{◌≡◌, ◌<◌, ◌≤◌, ◌-◌, ◌+◌, refl, sym, ap, ◌∙◌, ℕ, zero, suc, false, List, map, Option}
+use Rattle.std.proofs.Common.{arith, slice_index, not, ◌&&◌, length}
+use Rattle.ffs_volume.specs.{declared.Layout.Layout, Laws.Geometry.IsAcceptedLayout, Directories.Roles.is_suspect}
+use Rattle.ffs_volume.specs.Directories.{Volumes.volume_with, Volumes.volume_of, PathnameCheck.directory_lines}
+use Rattle.ffs_volume.{specs.Messages.Kinds.of_tree, specs.Messages.Kinds.lines_from, proofs.Numbered.from_next}
 use Rattle.ffs_maps.specs.Bits.{bits_of}
-use Rattle.ffs_workspace.specs.declared.workspace.Workspace.{Workspace}
+use Rattle.ffs_workspace.specs.{declared.workspace.Workspace.Workspace, Lengths.IsFor, Places.is_due}
 use Rattle.ffs_workspace.specs.Holds.{bool_at, HoldsSurvey}
-use Rattle.ffs_workspace.specs.Lengths.{IsFor}
-use Rattle.ffs_workspace.specs.Places.{is_due}
-use Rattle.ffs_pathnames.specs.Before.{IsBefore, is_checked}
-use Rattle.ffs_pathnames.proofs.Carrying.{before_skipped, lines_skipped}
-use Rattle.ffs_pathnames.proofs.StampLaws.{none_stamped, stamps_length}
+use Rattle.ffs_pathnames.{specs.Before.IsBefore, specs.Before.is_checked, proofs.Carrying.before_skipped}
+use Rattle.ffs_pathnames.proofs.{Carrying.lines_skipped, StampLaws.none_stamped, StampLaws.stamps_length}
 
 -- none of the inodes from 2 to before n is looked at
 abbrev pub IsUnseen : Workspace → ℕ → Type 0
@@ -32,7 +24,7 @@ before_unseen v contents w b zero g two h k = absurd (omega arith)
 before_unseen v contents w b (suc zero) g two h k = absurd (omega arith)
 before_unseen v contents w b (suc (suc zero)) g two h k = k
 before_unseen v contents w b (suc (suc (suc n))) g two h k =
-    before_skipped v contents w (suc (suc n)) b g (h (suc (suc n)) (omega arith) (omega arith))
+    before_skipped g (h (suc (suc n)) (omega arith) (omega arith))
     (before_unseen v contents w b (suc (suc n)) g (omega arith) (fewer w (suc (suc n)) h) k)
 
 -- and nothing is reported before n
@@ -47,11 +39,12 @@ lines_unseen v contents w b (suc (suc (suc n))) end g two le h k =
     let lines = directory_lines (volume_of v b) in
     let next : suc (suc n) + 1 ≡ suc (suc (suc n)) = omega arith in
     lines_unseen v contents w b (suc (suc n)) end g (omega arith) (omega arith) (fewer w (suc (suc n)) h) k
-    ∙ (from_next lines (suc (suc n)) end (omega arith)
-    ∙ (ap (λ ms. ms ++ map of_tree (lines_from lines (suc (suc n) + 1) (end - (suc (suc n) + 1))))
-    (lines_skipped v contents w (suc (suc n)) b (omega arith) (h (suc (suc n)) (omega arith) (omega arith))
-    (before_unseen v contents w b (suc (suc n)) g (omega arith) (fewer w (suc (suc n)) h) k))
-    ∙ ap (λ e. map of_tree (lines_from lines e (end - e))) next))
+    ∙ rw (
+      from_next lines (suc (suc n)) end (omega arith),
+      lines_skipped (omega arith) (h (suc (suc n)) (omega arith) (omega arith))
+          (before_unseen v contents w b (suc (suc n)) g (omega arith) (fewer w (suc (suc n)) h) k),
+      next,
+    ) refl
 
 -- once places are noted, and no entry is due, all is right before the inode that was next
 pub noted_before : (v : Layout) (contents contents' : Option (List ℕ)) (old new : Workspace) (n : ℕ) (b : List ℕ) →
@@ -70,7 +63,7 @@ noted_before v contents contents' old new n b two same lists made survey none k 
   survey = survey;
   passed = record {
     named = λ x h q a c. ap (λ (w : Workspace). bool_at w.flags.items x) lists ∙ k.passed.named x h q a c;
-    stamps = λ x h. subst (λ s. s < n) (sym (none_stamped new.parents.items new.queue.items x (none x))) (omega arith);
+    stamps = λ x h. let zero_is = none_stamped new.parents.items new.queue.items x (none x) in omega arith;
     flags_length = ap (λ (w : Workspace). length w.flags.items) lists ∙ k.passed.flags_length;
     stamps_length = stamps_length new.parents.items new.queue.items ∙ (sym new.queue.ok.0 ∙ made.queue);
     calm = λ x h. k.passed.calm x

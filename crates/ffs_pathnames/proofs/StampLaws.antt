@@ -1,36 +1,25 @@
 -- Stamps, where one word changes.
-use Rattle.std.specs.Prelude.{◌≡◌, ℕ, zero, suc, Bool, true, false, if◌then◌else◌, refl, List, [], ◌∷◌, length}
-use Rattle.std.specs.Prelude.{slice_index, slice_set, replicate, not, ◌&&◌, ◌==◌, ◌<◌, ◌≤◌, nat_lt}
-use Rattle.std.proofs.Common.{sym, ◌∙◌, ap}
-use Rattle.ffs_volume.specs.declared.Layout.{Layout}
-use Rattle.ffs_volume.specs.declared.Role.{Role}
-use Rattle.ffs_volume.specs.Directories.Entries.{Entry}
-use Rattle.ffs_volume.specs.Directories.Roles.{Volume, is_dir, is_plain}
-use Rattle.ffs_volume.specs.Encodings.Kinds.{is_dir_kind}
-use Rattle.std.proofs.lemmas.Bool.{and_from, and_parts, eqb-true, eq-eqb, lt-ltb}
-use Rattle.ffs_workspace.specs.declared.workspace.Workspace.{Workspace}
-use Rattle.ffs_workspace.specs.Places.{is_due, place_in, ArePlaces, AreNoted}
-use Rattle.ffs_workspace.proofs.PlaceLaws.{zero_index}
-use Rattle.ffs_pathnames.specs.Examines.{LeavesQueue}
-use Rattle.ffs_pathnames.specs.declared.inodes.Inodes.{Inodes}
-use Rattle.ffs_pathnames.specs.PassedNames.{PassedNames, belongs, after_look, after_name, after_roled, is_stamped}
-use Rattle.ffs_pathnames.specs.Sees.{Sees, passed_in, stamps_in}
+use Rattle.std.proofs.Common.{arith, ◌≡◌, ℕ, zero, suc, Bool, true, false, if◌then◌else◌, refl, List, [], ◌∷◌, length}
+use Rattle.std.proofs.Common.{slice_index, slice_set, replicate, not, ◌&&◌, ◌==◌, ◌<◌, ◌≤◌, nat_lt, sym, ◌∙◌, ap}
+use Rattle.std.proofs.{Common.eqb-true, Common.eq-eqb, Common.lt-ltb, lemmas.Bool.and_from, lemmas.Bool.and_parts}
+use Rattle.ffs_workspace.specs.{Leaves.LeavesSurvey, declared.workspace.Workspace.Workspace, Places.is_due}
+use Rattle.ffs_workspace.{specs.Places.place_in, specs.Places.AreNoted, proofs.PlaceLaws.zero_index}
+use Rattle.ffs_volume.specs.{declared.Layout.Layout, declared.Role.Role, Encodings.Kinds.is_dir_kind}
+use Rattle.ffs_volume.specs.Directories.{Entries.Entry, Roles.Volume, Roles.is_dir, Roles.is_plain}
+use Rattle.ffs_pathnames.specs.{Examines.LeavesQueue, declared.inodes.Inodes.Inodes, Sees.Sees, Sees.passed_in}
+use Rattle.ffs_pathnames.specs.{Sees.stamps_in, Stamps.stamp_of, Stamps.stamps_of, Stamps.KeepPlaces}
+use Rattle.ffs_pathnames.specs.PassedNames.{belongs, after_look, after_roled}
 use Rattle.ffs_survey.specs.Survey.{suspect_at}
-use Rattle.ffs_pathnames.specs.Stamps.{stamp_of, stamps_of, KeepPlaces}
 
 pub stamps_length : (ps ws : List ℕ) → length (stamps_of ps ws) ≡ length ws
 stamps_length ps [] = refl
 stamps_length [] (w ∷ ws) = ap suc (stamps_length [] ws)
 stamps_length (p ∷ ps) (w ∷ ws) = ap suc (stamps_length ps ws)
 
-no_parent : (b : Bool) → ◌≡◌ {A = ℕ} 0 (if b then 0 else 0)
-no_parent true = refl
-no_parent false = refl
-
 pub stamp_at : (ps ws : List ℕ) (x : ℕ) →
     slice_index (stamps_of ps ws) x ≡ stamp_of (slice_index ps x) (slice_index ws x)
 stamp_at ps [] x = refl
-stamp_at [] (w ∷ ws) zero = no_parent (is_due w)
+stamp_at [] (w ∷ ws) zero = grind arith
 stamp_at [] (w ∷ ws) (suc x) = stamp_at [] ws x
 stamp_at (p ∷ ps) (w ∷ ws) zero = refl
 stamp_at (p ∷ ps) (w ∷ ws) (suc x) = stamp_at ps ws x
@@ -38,7 +27,7 @@ stamp_at (p ∷ ps) (w ∷ ws) (suc x) = stamp_at ps ws x
 stamps_set : (ps ws : List ℕ) (x word : ℕ) →
     stamps_of ps (slice_set ws x word) ≡ slice_set (stamps_of ps ws) x (stamp_of (slice_index ps x) word)
 stamps_set ps [] x word = refl
-stamps_set [] (w ∷ ws) zero word = ap (λ s. s ∷ stamps_of [] ws) (no_parent (is_due word))
+stamps_set [] (w ∷ ws) zero word = grind arith
 stamps_set [] (w ∷ ws) (suc x) word = ap (λ l. 0 ∷ l) (stamps_set [] ws x word)
 stamps_set (p ∷ ps) (w ∷ ws) zero word = refl
 stamps_set (p ∷ ps) (w ∷ ws) (suc x) word = ap (λ l. stamp_of p w ∷ l) (stamps_set ps ws x word)
@@ -46,25 +35,15 @@ stamps_set (p ∷ ps) (w ∷ ws) (suc x) word = ap (λ l. stamp_of p w ∷ l) (s
 -- the word of an inode is due, or passed
 pub stamped : (ps ws ws' : List ℕ) (x word s : ℕ) → ws' ≡ slice_set ws x word → is_due word ≡ true →
     slice_index ps x ≡ s → stamps_of ps ws' ≡ slice_set (stamps_of ps ws) x s
-stamped ps ws ws' x word s set due parent =
-    ap (stamps_of ps) set ∙ (stamps_set ps ws x word
-    ∙ (ap (λ b. slice_set (stamps_of ps ws) x (if b then slice_index ps x else 0)) due
-    ∙ ap (slice_set (stamps_of ps ws) x) parent))
+stamped ps ws ws' x word s set due parent = rw (set, stamps_set ps ws x word, due, parent) refl
 
 pub unstamped : (ps ws ws' : List ℕ) (x word : ℕ) → ws' ≡ slice_set ws x word → is_due word ≡ false →
     stamps_of ps ws' ≡ slice_set (stamps_of ps ws) x 0
-unstamped ps ws ws' x word set due =
-    ap (stamps_of ps) set ∙ (stamps_set ps ws x word
-    ∙ ap (λ b. slice_set (stamps_of ps ws) x (if b then slice_index ps x else 0)) due)
+unstamped ps ws ws' x word set due = rw (set, stamps_set ps ws x word, due) refl
 
 -- where no word is due, nothing is stamped
 pub none_stamped : (ps ws : List ℕ) (x : ℕ) → is_due (slice_index ws x) ≡ false → slice_index (stamps_of ps ws) x ≡ 0
-none_stamped ps ws x h = stamp_at ps ws x ∙ ap (λ b. if b then slice_index ps x else 0) h
-
--- the same directories have the same places
-pub places_kept : (v : Layout) (b : List ℕ) (old new : List ℕ) → KeepPlaces old new → ArePlaces v b old →
-    ArePlaces v b new
-places_kept v b old new keep places x p k noted above = places x p k (sym (keep x) ∙ noted) above
+none_stamped ps ws x h = rw (stamp_at ps ws x, h) refl
 
 pub keep_more : (a b c : List ℕ) → KeepPlaces a b → KeepPlaces b c → KeepPlaces a c
 keep_more a b c p q x = q x ∙ p x
@@ -80,31 +59,37 @@ noted_kept v b old new keep noted x k reached =
     let n = noted x k reached in
     record { chunk = n.chunk; place = keep x ∙ n.place; inside = n.inside; named = n.named }
 
--- where the words and windows alone have changed
+-- where the flags, the words and the windows alone have changed
+pub names_leave : (old new : Workspace) →
+    new ≡ record old { flags = new.flags; queue = new.queue; windows = new.windows } →
+    KeepPlaces old.queue.items new.queue.items → LeavesSurvey old new
+names_leave old new e keep = record {
+  claimed = ap (λ (w : Workspace). w.claimed) e;
+  kinds = ap (λ (w : Workspace). w.kinds) e;
+  marked = ap (λ (w : Workspace). w.marked) e;
+  notes = ap (λ (w : Workspace). w.notes) e;
+  references = ap (λ (w : Workspace). w.references) e;
+  named = ap (λ (w : Workspace). w.named) e;
+  reached = ap (λ (w : Workspace). w.reached) e;
+  parents = ap (λ (w : Workspace). w.parents) e;
+  runs_seen = ap (λ (w : Workspace). w.runs_seen) e;
+  runs_again = ap (λ (w : Workspace). w.runs_again) e;
+  places = λ v b places x p k noted above. places x p k (sym (keep x) ∙ noted) above;
+}
+
+-- the words and windows alone
 pub queue_leaves : (old new : Workspace) → new ≡ record old { queue = new.queue; windows = new.windows } →
     KeepPlaces old.queue.items new.queue.items → LeavesQueue old new
 queue_leaves old new e keep = record {
-  survey = record {
-    claimed = ap (λ (w : Workspace). w.claimed) e;
-    kinds = ap (λ (w : Workspace). w.kinds) e;
-    marked = ap (λ (w : Workspace). w.marked) e;
-    notes = ap (λ (w : Workspace). w.notes) e;
-    references = ap (λ (w : Workspace). w.references) e;
-    named = ap (λ (w : Workspace). w.named) e;
-    reached = ap (λ (w : Workspace). w.reached) e;
-    parents = ap (λ (w : Workspace). w.parents) e;
-    runs_seen = ap (λ (w : Workspace). w.runs_seen) e;
-    runs_again = ap (λ (w : Workspace). w.runs_again) e;
-    places = λ v b. places_kept v b _ _ keep;
-  };
+  survey = names_leave old new (e ∙ ap (λ f. record old { flags = f; queue = new.queue; windows = new.windows })
+      (sym (ap (λ (w : Workspace). w.flags) e))) keep;
   flags = ap (λ (w : Workspace). w.flags) e;
   places = keep;
 }
 
 -- where each word is 0, none is due
-
 pub none_due : (ws : List ℕ) (n x : ℕ) → ws ≡ replicate n 0 → is_due (slice_index ws x) ≡ false
-none_due ws n x e = ap (λ l. is_due (slice_index l x)) e ∙ ap is_due (zero_index n x)
+none_due ws n x e = rw (e, zero_index n x) refl
 
 -- the inode that an entry names is stamped where it belongs to the directory
 pub after_stamp : (v : Volume) (i : Inodes) (s word : ℕ) (ws ws' : List ℕ) (role : Role) (e : Entry) → Sees v i → 2 ≤ s
@@ -118,12 +103,7 @@ after_stamp v i s word ws ws' role e sees two plain mine set due =
     let b = and_parts (not (e.number == 2)) (slice_index i.parents.now.items e.number == s) a.1 in
     let belongs_to : belongs v s e.number ≡ true = and_from (is_dir v e.number) _ (sees.dir e.number ∙ a.0)
     (and_from (not (e.number == 2)) _ b.0 (sees.parent_is e.number s two ∙ b.1)) in
-    stamped i.parents.now.items ws ws' e.number word s set due (eqb-true _ s b.1)
-    ∙ sym (ap (λ t. if t then slice_set (stamps_in i ws) e.number s else stamps_in i ws)
-    (and_from (is_plain role) (belongs v s e.number) plain belongs_to))
-
-abbrev passed_of_parts : List Bool → List ℕ → PassedNames
-passed_of_parts flags stamps = record { flags = flags; stamps = stamps }
+    rw (plain, belongs_to) (stamped i.parents.now.items ws ws' e.number word s set due (eqb-true _ s b.1))
 
 -- an entry that names an inode due in s is passed
 pub after_pass : (v : Volume) (i : Inodes) (s word : ℕ) (suspect : Bool) (flags flags' : List Bool) (ws ws' : List ℕ)
@@ -135,10 +115,5 @@ pub after_pass : (v : Volume) (i : Inodes) (s word : ℕ) (suspect : Bool) (flag
 after_pass v i s word suspect flags flags' ws ws' role e sees plain below shown flagged stamp set due =
     let x = e.number in
     let inside : nat_lt x v.count ≡ true = ap (nat_lt x) sees.count ∙ lt-ltb x (length i.kinds.now) below in
-    let m = passed_in i flags ws in
-    ap (λ b. if b then after_name v s m x else m) (and_from (is_plain role) (nat_lt x v.count) plain inside)
-    ∙ (ap (λ b. passed_of_parts (if b then slice_set flags x true else flags)
-    (if is_stamped s m x then slice_set m.stamps x 0 else m.stamps)) (sees.suspect x ∙ sym shown)
-    ∙ (ap (λ l. passed_of_parts l (if is_stamped s m x then slice_set m.stamps x 0 else m.stamps)) (sym flagged)
-    ∙ (ap (λ b. passed_of_parts flags' (if b then slice_set m.stamps x 0 else m.stamps)) (eq-eqb _ s stamp)
-    ∙ ap (passed_of_parts flags') (sym (unstamped i.parents.now.items ws ws' x word set due)))))
+    let due_is = unstamped i.parents.now.items ws ws' x word set due in
+    rw (sees.suspect x ∙ sym shown, plain, inside, flagged, eq-eqb _ s stamp, due_is) refl

@@ -1,26 +1,52 @@
--- What verdicts report.
-use Rattle.std.proofs.Common.{◌≡◌, refl, ℕ, Bool, true, false, List, []}
-use Rattle.ffs_volume.specs.declared.Attr.{Attr}
-use Rattle.ffs_pathnames.specs.declared.verdict.Verdict.{Verdict}
-use Rattle.ffs_pathnames.specs.declared.verdict.Verdict.TheVariants.{OutOfRange, BadWhiteout, Whiteout, Unallocated, Named}
-use Rattle.ffs_volume.specs.Messages.Kinds.{TreeMessage, reported, extraneous, kind_entry}
-use Rattle.std.specs.Prelude.{◌++◌, not, ◌||◌}
-use Rattle.ffs_pathnames.specs.Gathers.{is_silent}
-use Rattle.ffs_pathnames.specs.Verdicts.{verdict_reported, suspect_message}
+-- What verdicts report, and what is gathered for it.
+use Rattle.std.proofs.Common.{◌≡◌, refl, ℕ, true, false, List, [], ◌≤◌, arith, length}
+use Rattle.std.proofs.lemmas.Bool.Decides.{nat_tests}
+use Rattle.ffs_volume.specs.{declared.Attr.Attr, Messages.Kinds.reported, Messages.Kinds.extraneous}
+use Rattle.ffs_volume.specs.Directories.{Roles.Volume, Parents.graph_of, Entries.Entry, PathnameCheck.attributes}
+use Rattle.ffs_volume.specs.Directories.Paths.{dir_path, entry_path}
+use Rattle.ffs_pathnames.specs.declared.verdict.{EntryDefects.EntryDefects, Verdict.Verdict}
+use Rattle.ffs_pathnames.specs.declared.verdict.Verdict.TheVariants.{Whiteout, Unallocated, Named}
+use Rattle.ffs_pathnames.specs.Gathers.{IsEnough, asks_attr, asks_path, is_silent, IsVerdict}
+use Rattle.ffs_pathnames.specs.Verdicts.{verdict_reported, defects_reported}
+use Rattle.ffs_pathnames.specs.PassedNames.{PassedNames, plain_reported}
 
-none_reported : (a b c : Bool) (x y z : TreeMessage) → not (a || (b || c)) ≡ true →
-    reported a x ++ (reported b y ++ reported c z) ≡ []
-none_reported true b c x y z h = absurd (cc)
-none_reported false true c x y z h = absurd (cc)
-none_reported false false true x y z h = absurd (cc)
-none_reported false false false x y z h = refl
-
+-- a silent one reports nothing, and any other one line at least
 pub silent_reported : (verdict : Verdict) (number : ℕ) (about : Attr) (path directory : List ℕ) →
     is_silent verdict ≡ true → verdict_reported verdict number about path directory ≡ []
-silent_reported OutOfRange number about path directory h = absurd (cc)
-silent_reported BadWhiteout number about path directory h = absurd (cc)
 silent_reported Whiteout number about path directory h = refl
-silent_reported Unallocated number about path directory h = absurd (cc)
-silent_reported (Named n) number about path directory h =
-    none_reported n.first_of_suspect n.extraneous n.kind (suspect_message n about path) (extraneous path directory)
-    (kind_entry about n.label path) h
+silent_reported (Named n) number about path directory h = grind (arith, nat_tests)
+silent_reported verdict number about path directory h = absurd (cc)
+
+verdict_some : (verdict : Verdict) (number : ℕ) (about : Attr) (path directory : List ℕ) → is_silent verdict ≡ false →
+    1 ≤ length (verdict_reported verdict number about path directory)
+verdict_some Whiteout number about path directory h = absurd (cc)
+verdict_some (Named n) number about path directory h = grind (arith, nat_tests)
+verdict_some verdict number about path directory h = omega arith
+
+-- a plain entry whose verdict isn't silent has one
+pub plain_some : (v : Volume) (s : ℕ) (m : PassedNames) (e : Entry) (verdict : Verdict) → IsVerdict v s m e verdict →
+    is_silent verdict ≡ false → 1 ≤ length (plain_reported v s m e)
+plain_some v s m e verdict is h = rw is.reported (verdict_some verdict e.number _ _ _ h)
+
+-- a verdict that asks for a path asks for attributes, too
+pub path_asks_attr : (verdict : Verdict) → asks_path verdict ≡ true → asks_attr verdict ≡ true
+path_asks_attr Unallocated h = refl
+path_asks_attr (Named n) h = refl
+path_asks_attr verdict h = absurd (cc)
+
+-- what is gathered is enough
+defects_same : (n : EntryDefects) (about : Attr) (path directory right : List ℕ) →
+    (n.extraneous ≡ true → directory ≡ right) →
+    defects_reported n about path directory ≡ defects_reported n about path right
+defects_same n about path directory right h = grind (arith, nat_tests)
+
+pub enough : (v : Volume) (verdict : Verdict) (dir number : ℕ) (name : List ℕ) (about : Attr)
+    (path directory : List ℕ) →
+    (asks_attr verdict ≡ true → about ≡ attributes v number) → path ≡ entry_path (graph_of v) dir name →
+    (asks_path verdict ≡ true → directory ≡ dir_path (graph_of v) number) →
+    IsEnough v verdict dir number name about path directory
+enough v Whiteout dir number name about path directory a p d = refl
+enough v Unallocated dir number name about path directory a p d = rw (p, a refl) refl
+enough v (Named n) dir number name about path directory a p d =
+    rw (p, a refl) (defects_same n (attributes v number) _ directory (dir_path (graph_of v) number) d)
+enough v verdict dir number name about path directory a p d = rw p refl

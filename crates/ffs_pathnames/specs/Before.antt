@@ -1,16 +1,13 @@
 -- What is known between two directories of the pathname check.
-use Rattle.std.specs.Prelude.{◌≡◌, ℕ, Bool, not, ◌&&◌, ◌||◌, ◌==◌, if◌then◌else◌}
-use Rattle.std.specs.Prelude.{List, [], ◌∷◌, Option, Some, slice_index}
-use Rattle.ffs_volume.specs.declared.constants.TheConstants.{DT_DIR}
-use Rattle.ffs_volume.specs.declared.Layout.{Layout}
+use Rattle.std.specs.Prelude.{◌≡◌, ℕ, Bool, not, ◌&&◌, ◌||◌, ◌==◌, if◌then◌else◌, List, [], ◌∷◌, Option, Some}
+use Rattle.std.specs.Prelude.{slice_index}
+use Rattle.ffs_volume.specs.declared.{constants.TheConstants.DT_DIR, Layout.Layout}
 use Rattle.ffs_volume.specs.Messages.Kinds.{TreeMessage, reported, root_none, root_not_dir, root_suspect}
 use Rattle.ffs_volume.specs.Directories.Volumes.{volume_of}
-use Rattle.ffs_workspace.specs.declared.workspace.Workspace.{Workspace}
-use Rattle.ffs_workspace.specs.Holds.{bool_at, HoldsClaims, HoldsSurvey}
-use Rattle.ffs_workspace.specs.Leaves.{LeavesSurvey}
 use Rattle.ffs_volume.specs.Encodings.Kinds.{is_dir_kind, is_empty_dir_kind}
-use Rattle.ffs_pathnames.specs.Gathers.{passed_of}
-use Rattle.ffs_pathnames.specs.PassedRight.{AreRightBefore}
+use Rattle.ffs_workspace.specs.{declared.workspace.Workspace.Workspace, Leaves.LeavesSurvey}
+use Rattle.ffs_workspace.specs.Holds.{bool_at, HoldsClaims, HoldsSurvey}
+use Rattle.ffs_pathnames.specs.{Gathers.passed_of, PassedRight.AreRightBefore}
 use Rattle.ffs_survey.specs.Survey.{suspect_at}
 
 -- what was found stays; the flags of suspect inodes are taken away, and no others; nothing is

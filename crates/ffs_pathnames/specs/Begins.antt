@@ -1,22 +1,12 @@
 -- What is reported of a directory before its entries, and what is known then.
 use Rattle.std.specs.Prelude.{◌≡◌, ℕ, ◌==◌, Bool, List, [], Option, None, Some, option_and_then, if◌then◌else◌}
-use Rattle.ffs_volume.specs.declared.Layout.{Layout}
-use Rattle.ffs_volume.specs.declared.Order.{Order}
-use Rattle.ffs_volume.specs.Directories.Entries.{Entry}
-use Rattle.ffs_volume.specs.Directories.Graph.{parent}
-use Rattle.ffs_volume.specs.Blocks.Inodes.{inode_of}
-use Rattle.ffs_volume.specs.Messages.Kinds.{TreeMessage}
-use Rattle.ffs_volume.specs.Directories.Parents.{graph_of}
-use Rattle.ffs_volume.specs.Directories.PathnameCheck.{attributes, are_sound}
-use Rattle.ffs_volume.specs.Directories.Paths.{dir_path}
-use Rattle.ffs_volume.specs.Directories.Roles.{Volume, nth_entry, roled_entries, start_entry}
-use Rattle.ffs_volume.specs.Directories.Volumes.{volume_of}
+use Rattle.ffs_volume.specs.{declared.Layout.Layout, declared.Order.Order, Directories.PathnameCheck.attributes}
+use Rattle.ffs_volume.specs.Directories.{Entries.Entry, Graph.parent, Parents.graph_of, Paths.dir_path, Roles.Volume}
+use Rattle.ffs_volume.specs.{Directories.PathnameCheck.are_sound, Blocks.Inodes.inode_of, Messages.Kinds.TreeMessage}
+use Rattle.ffs_volume.specs.Directories.{Roles.nth_entry, Roles.roled_entries, Roles.start_entry, Volumes.volume_of}
 use Rattle.ffs_workspace.specs.declared.workspace.Workspace.{Workspace}
-use Rattle.ffs_pathnames.specs.declared.examine.Examination.{Examination}
-use Rattle.ffs_pathnames.specs.Gathers.{passed_of}
-use Rattle.ffs_pathnames.specs.PassedNames.{are_quiet, after_looks}
-use Rattle.ffs_pathnames.specs.Reads.{start_chunk}
-use Rattle.ffs_pathnames.specs.Header.{header_reported}
+use Rattle.ffs_pathnames.specs.{declared.examine.Examination.Examination, Gathers.passed_of, PassedNames.are_quiet}
+use Rattle.ffs_pathnames.specs.{PassedNames.after_looks, Reads.start_chunk, Header.header_reported}
 
 -- the lines of a directory on its size, its Gaps, its chunks and its first two entries
 unfoldable pub dir_starts : Volume → ℕ → List TreeMessage

@@ -1,8 +1,7 @@
 -- Directories of which nothing is reported, whatever is reported of others.
 use Rattle.std.specs.Prelude.{◌≡◌, ℕ, ◌<◌, ◌==◌, true, false, List, [], slice_index}
 use Rattle.ffs_volume.specs.Directories.Roles.{Volume, roled_entries}
-use Rattle.ffs_pathnames.specs.Begins.{dir_starts}
-use Rattle.ffs_pathnames.specs.PassedNames.{are_quiet}
+use Rattle.ffs_pathnames.specs.{Begins.dir_starts, PassedNames.are_quiet}
 
 -- nothing is reported before the entries of x, and nothing of these, where no inode is stamped by x
 -- yet

@@ -1,7 +1,6 @@
 -- At most how many reads the pathname check of directories makes.
 use Rattle.std.specs.Prelude.{ℕ, ◌+◌, ◌*◌, List}
-use Rattle.ffs_volume.specs.declared.Layout.{Layout}
-use Rattle.ffs_volume.specs.Report.Reads.{line_reads}
+use Rattle.ffs_volume.specs.{declared.Layout.Layout, Report.Reads.line_reads}
 use Rattle.ffs_names.specs.Costs.{directories_cost, directory_cost, directory_runs}
 
 -- to begin a directory with so many lines before its entries: its inode and its Runs, and what each

@@ -1,17 +1,12 @@
 -- What is reported of entries of a directory.
 use Rattle.std.specs.Prelude.{ℕ, List, Result, map}
 use Rattle.ffs_image.specs.Device.{Device}
-use Rattle.ffs_report.specs.Progress.{Progress}
-use Rattle.ffs_report.specs.PhaseOutcome.{PhaseReports}
-use Rattle.ffs_report.specs.declared.fault.RunFault.{RunFault}
-use Rattle.ffs_volume.specs.declared.Layout.{Layout}
-use Rattle.ffs_volume.specs.Directories.Roles.{Volume}
-use Rattle.ffs_volume.specs.Directories.Volumes.{volume_of}
+use Rattle.ffs_report.specs.{Progress.Progress, PhaseOutcome.PhaseReports, declared.fault.RunFault.RunFault}
+use Rattle.ffs_volume.specs.{declared.Layout.Layout, Directories.Roles.Volume, Directories.Volumes.volume_of}
 use Rattle.ffs_volume.specs.Messages.Kinds.{TreeMessage, of_tree}
 use Rattle.ffs_workspace.specs.declared.workspace.Workspace.{Workspace}
 use Rattle.ffs_pathnames.specs.DirectoryContext.{DirectoryContext, KeepsPath, KnowsPath}
-use Rattle.ffs_pathnames.specs.LineReads.{ReadsByLines}
-use Rattle.ffs_pathnames.specs.declared.one_entry.EntryTexts.{EntryTexts}
+use Rattle.ffs_pathnames.specs.{LineReads.ReadsByLines, declared.one_entry.EntryTexts.EntryTexts}
 
 -- lines of entries of the directory x are said, those of the volume; the path that is begun, if
 -- any, is still that of x; and the image is read for no more than these lines

@@ -1,22 +1,12 @@
 -- What of a workspace stays, and what is found of a directory.
 use Rattle.std.specs.Prelude.{◌≡◌, ℕ, ◌==◌, List, [], Result}
 use Rattle.std.specs.List.{find}
-use Rattle.ffs_image.specs.Device.{Device}
-use Rattle.ffs_image.specs.Reads.{ReadAfter}
-use Rattle.ffs_image.specs.declared.image.ImageFault.{ImageFault}
-use Rattle.ffs_volume.specs.declared.Layout.{Layout}
-use Rattle.ffs_volume.specs.Blocks.Inodes.{inode_of}
-use Rattle.ffs_volume.specs.Directories.Roles.{roled_entries}
-use Rattle.ffs_volume.specs.Directories.PathnameCheck.{are_sound}
-use Rattle.ffs_volume.specs.Directories.Volumes.{volume_of}
-use Rattle.ffs_pathnames.specs.declared.examine.Examination.{Examination}
-use Rattle.ffs_pathnames.specs.Gathers.{passed_of}
-use Rattle.ffs_pathnames.specs.PassedNames.{are_quiet, after_looks}
-use Rattle.ffs_pathnames.specs.Reads.{start_chunk}
-use Rattle.ffs_pathnames.specs.Stamps.{KeepPlaces}
-use Rattle.ffs_workspace.specs.declared.workspace.Workspace.{Workspace}
-use Rattle.ffs_workspace.specs.Leaves.{LeavesSurvey}
-use Rattle.ffs_workspace.specs.Ready.{IsReady}
+use Rattle.ffs_image.specs.{Device.Device, Reads.ReadAfter, declared.image.ImageFault.ImageFault}
+use Rattle.ffs_volume.specs.{declared.Layout.Layout, Blocks.Inodes.inode_of}
+use Rattle.ffs_volume.specs.Directories.{Roles.roled_entries, PathnameCheck.are_sound, Volumes.volume_of}
+use Rattle.ffs_pathnames.specs.{declared.examine.Examination.Examination, Gathers.passed_of, PassedNames.are_quiet}
+use Rattle.ffs_pathnames.specs.{PassedNames.after_looks, Reads.start_chunk, Stamps.KeepPlaces}
+use Rattle.ffs_workspace.specs.{declared.workspace.Workspace.Workspace, Leaves.LeavesSurvey, Ready.IsReady}
 
 -- a call leaves what the phases before the pathname check left, the flags, and the places that
 -- words note

@@ -1,28 +1,17 @@
 -- What is gathered for the messages on an entry.
-use Rattle.std.specs.Prelude.{◌≡◌, ℕ, ◌<◌, ◌^◌, ◌==◌, Bool, true, false, not, ◌||◌, ◌&&◌, IsTrue}
-use Rattle.std.specs.Prelude.{List, length, vec_len}
-use Rattle.ffs_volume.specs.Blocks.Inodes.{is_allocated}
-use Rattle.ffs_volume.specs.declared.constants.TheConstants.{ROOTINO}
-use Rattle.ffs_volume.specs.declared.Attr.{Attr}
-use Rattle.ffs_volume.specs.declared.Layout.{Layout}
-use Rattle.ffs_volume.specs.Messages.Kinds.{TreeMessage}
-use Rattle.ffs_volume.specs.Directories.Entries.{Entry, entries_of}
+use Rattle.std.specs.Prelude.{◌≡◌, ℕ, ◌<◌, ◌^◌, ◌==◌, Bool, true, false, not, ◌||◌, ◌&&◌, IsTrue, List, length, vec_len}
+use Rattle.ffs_volume.specs.{Blocks.Inodes.is_allocated, Messages.Kinds.TreeMessage, Directories.Paths.entry_path}
+use Rattle.ffs_volume.specs.declared.{constants.TheConstants.ROOTINO, Attr.Attr, Layout.Layout}
+use Rattle.ffs_volume.specs.Directories.{Entries.Entry, Entries.entries_of, Parents.graph_of, Paths.dir_path}
 use Rattle.ffs_volume.specs.Directories.Roles.{Volume, RoledEntry, is_dir, is_suspect, roled_from}
-use Rattle.ffs_volume.specs.Directories.Parents.{graph_of}
-use Rattle.ffs_volume.specs.Directories.Paths.{dir_path, entry_path}
 use Rattle.ffs_volume.specs.Directories.PathnameCheck.{attributes, extra_lines, has_wrong_type, label_of}
 use Rattle.ffs_layout.specs.Entry.{entry_value}
-use Rattle.ffs_pathnames.specs.declared.inodes.Inodes.{Inodes}
-use Rattle.ffs_pathnames.specs.declared.entries.DirectoryChunk.{DirectoryChunk}
-use Rattle.ffs_pathnames.specs.declared.one_entry.DirectoryEntry.{DirectoryEntry}
-use Rattle.ffs_pathnames.specs.declared.verdict.EntryDefects.{EntryDefects}
-use Rattle.ffs_pathnames.specs.declared.verdict.Verdict.{Verdict}
-use Rattle.ffs_pathnames.specs.declared.verdict.Verdict.TheVariants.{OutOfRange, BadWhiteout, Whiteout, Unallocated, Named}
-use Rattle.ffs_pathnames.specs.Verdicts.{verdict_reported}
-use Rattle.ffs_workspace.specs.declared.workspace.Workspace.{Workspace}
+use Rattle.ffs_pathnames.specs.{declared.inodes.Inodes.Inodes, Verdicts.verdict_reported, Sees.Sees, Stamps.stamps_of}
+use Rattle.ffs_pathnames.specs.declared.{entries.DirectoryChunk.DirectoryChunk, one_entry.DirectoryEntry.DirectoryEntry}
+use Rattle.ffs_pathnames.specs.declared.verdict.{EntryDefects.EntryDefects, Verdict.Verdict, Verdict.TheVariants.Named}
+use Rattle.ffs_pathnames.specs.declared.verdict.Verdict.TheVariants.{OutOfRange, BadWhiteout, Whiteout, Unallocated}
 use Rattle.ffs_pathnames.specs.PassedNames.{PassedNames, is_stamped, is_flagged, roled_reported, plain_reported}
-use Rattle.ffs_pathnames.specs.Sees.{Sees}
-use Rattle.ffs_pathnames.specs.Stamps.{stamps_of}
+use Rattle.ffs_workspace.specs.declared.workspace.Workspace.{Workspace}
 
 -- the messages are the same as with the volume's own attributes and paths
 abbrev pub IsEnough : Volume → Verdict → ℕ → ℕ → List ℕ → Attr → List ℕ → List ℕ → Type 0

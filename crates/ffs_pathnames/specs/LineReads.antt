@@ -1,10 +1,7 @@
 -- How often lines read the image.
 use Rattle.std.specs.Prelude.{ℕ, ◌*◌, List, length}
-use Rattle.ffs_volume.specs.Messages.Kinds.{TreeMessage}
-use Rattle.ffs_volume.specs.Report.Reads.{line_reads}
-use Rattle.ffs_volume.specs.declared.Layout.{Layout}
-use Rattle.ffs_workspace.specs.Places.{AreNoted}
-use Rattle.ffs_workspace.specs.declared.workspace.Workspace.{Workspace}
+use Rattle.ffs_volume.specs.{Messages.Kinds.TreeMessage, Report.Reads.line_reads, declared.Layout.Layout}
+use Rattle.ffs_workspace.specs.{Places.AreNoted, declared.workspace.Workspace.Workspace}
 use Rattle.ffs_paths.specs.Reads.{ReadsFew}
 
 -- `line_reads` reads were made at most for each of these lines, which are those of an image's

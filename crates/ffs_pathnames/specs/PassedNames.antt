@@ -1,21 +1,14 @@
 -- What the pathname check remembers of the names that it has passed, and what it reports by that.
-use Rattle.std.specs.Prelude.{ℕ, ◌==◌, Bool, true, false, not, ◌&&◌, ◌||◌, nat_lt}
-use Rattle.std.specs.Prelude.{if◌then◌else◌, List, [], ◌∷◌, ◌++◌, slice_index, slice_set}
-use Rattle.std.specs.List.{slice_index_or}
+use Rattle.std.specs.Prelude.{ℕ, ◌==◌, Bool, true, false, not, ◌&&◌, ◌||◌, nat_lt, if◌then◌else◌, List, [], ◌∷◌, ◌++◌}
+use Rattle.std.specs.{Prelude.slice_index, Prelude.slice_set, List.slice_index_or}
 use Rattle.ffs_volume.specs.declared.constants.TheConstants.{WINO, ROOTINO}
-use Rattle.ffs_volume.specs.declared.Role.{Role}
+use Rattle.ffs_volume.specs.{declared.Role.Role, Blocks.Inodes.is_allocated, Messages.Kinds.kind_entry}
 use Rattle.ffs_volume.specs.declared.Role.TheVariants.{Empty, Dot, Dotdot, Extra, Plain}
-use Rattle.ffs_volume.specs.Directories.Entries.{Entry}
-use Rattle.ffs_volume.specs.Blocks.Inodes.{is_allocated}
+use Rattle.ffs_volume.specs.Directories.{Entries.Entry, Climb.is_value, Graph.parent, Parents.graph_of, Paths.dir_path}
 use Rattle.ffs_volume.specs.Directories.Roles.{Volume, RoledEntry, is_dir, is_suspect, is_plain, roled_entries}
-use Rattle.ffs_volume.specs.Directories.Climb.{is_value}
-use Rattle.ffs_volume.specs.Directories.Graph.{parent}
-use Rattle.ffs_volume.specs.Directories.Parents.{graph_of}
-use Rattle.ffs_volume.specs.Directories.Paths.{dir_path, entry_path}
-use Rattle.ffs_volume.specs.Messages.Kinds.{TreeMessage, reported, out_of_range, whiteout}
-use Rattle.ffs_volume.specs.Messages.Kinds.{unallocated, extraneous, kind_entry}
-use Rattle.ffs_volume.specs.Directories.PathnameCheck.{attributes, label_of, is_bad_whiteout}
-use Rattle.ffs_volume.specs.Directories.PathnameCheck.{message_on_suspect, has_wrong_type, extra_lines}
+use Rattle.ffs_volume.specs.Directories.{Paths.entry_path, PathnameCheck.has_wrong_type, PathnameCheck.extra_lines}
+use Rattle.ffs_volume.specs.Directories.PathnameCheck.{attributes, label_of, is_bad_whiteout, message_on_suspect}
+use Rattle.ffs_volume.specs.Messages.Kinds.{TreeMessage, reported, out_of_range, whiteout, unallocated, extraneous}
 
 -- `flags`: of a suspect inode, whether a plain entry has named it; of any other, whether it is
 -- calm. `stamps`: of an inode, its parent, once the first look at the parent has met its entry

@@ -1,17 +1,11 @@
 -- The chunks of a directory, as they are read again.
 use Rattle.std.specs.Prelude.{ℕ, ◌==◌, Bool, if◌then◌else◌, List, Option, Some, Result}
 use Rattle.std.specs.List.{find}
-use Rattle.ffs_image.specs.Device.{Device}
-use Rattle.ffs_image.specs.Reads.{ReadAfter}
-use Rattle.ffs_image.specs.declared.image.ImageFault.{ImageFault}
-use Rattle.ffs_volume.specs.declared.Layout.{Layout}
-use Rattle.ffs_volume.specs.declared.Order.{Order}
-use Rattle.ffs_volume.specs.declared.Inode.{Inode}
+use Rattle.ffs_image.specs.{Device.Device, Reads.ReadAfter, declared.image.ImageFault.ImageFault}
+use Rattle.ffs_volume.specs.declared.{Layout.Layout, Order.Order, Inode.Inode}
 use Rattle.ffs_volume.specs.Directories.Entries.{Chunk, chunk_of}
-use Rattle.ffs_names.specs.Readings.{chunks_in}
-use Rattle.ffs_names.specs.Windows.{CanReadChunks}
-use Rattle.ffs_walk.specs.declared.blocks.Blocks.{Blocks}
-use Rattle.ffs_walk.specs.declared.window.Window.{Window}
+use Rattle.ffs_names.specs.{Readings.chunks_in, Windows.CanReadChunks}
+use Rattle.ffs_walk.specs.declared.{blocks.Blocks.Blocks, window.Window.Window}
 
 -- the chunks of an inode with this cut (`chunks_in`), as a name that proofs here don't look into
 unfoldable pub chunks_read : Layout → Inode → ℕ → List ℕ → List Chunk

@@ -2,11 +2,8 @@
 use Rattle.std.specs.Prelude.{◌≡◌, Result, Ok, Err}
 use Rattle.ffs_image.specs.Device.{Device}
 use Rattle.ffs_volume.specs.declared.Layout.{Layout}
-use Rattle.ffs_workspace.specs.declared.workspace.Workspace.{Workspace}
-use Rattle.ffs_workspace.specs.Ready.{IsReady}
-use Rattle.ffs_workspace.specs.Leaves.{LeavesSurvey}
-use Rattle.ffs_report.specs.PhaseOutcome.{ImageAfter}
-use Rattle.ffs_report.specs.declared.fault.RunFault.{RunFault}
+use Rattle.ffs_workspace.specs.{declared.workspace.Workspace.Workspace, Ready.IsReady, Leaves.LeavesSurvey}
+use Rattle.ffs_report.specs.{PhaseOutcome.ImageAfter, declared.fault.RunFault.RunFault}
 use Rattle.ffs_paths.specs.declared.kept_parent.KeptParent.{KeptParent}
 use Rattle.ffs_pathnames.specs.Stamps.{KeepPlaces}
 pub use Rattle.ffs_paths.specs.KeptParents.{ReadyWith, ReadyToPath, PathLeaves}

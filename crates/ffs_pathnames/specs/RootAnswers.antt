@@ -1,9 +1,7 @@
 -- Whether the run continues after the root, and what that says of a read that failed.
 use Rattle.std.specs.Prelude.{Bool, true, false, Result, Ok, Err, ⊤}
-use Rattle.ffs_report.specs.declared.fault.RunFault.{RunFault}
-use Rattle.ffs_report.specs.declared.fault.RunFault.TheVariants.{Read, Out}
-use Rattle.ffs_pathnames.specs.declared.pass2.Root.{Root}
-use Rattle.ffs_pathnames.specs.declared.pass2.Root.TheVariants.{Go, Stop}
+use Rattle.ffs_report.specs.declared.fault.RunFault.{RunFault, TheVariants.Read, TheVariants.Out}
+use Rattle.ffs_pathnames.specs.declared.pass2.Root.{Root, TheVariants.Go, TheVariants.Stop}
 
 abbrev pub is_go : Root → Bool
 is_go Go = true

@@ -1,24 +1,14 @@
 //! The pathname check of one directory.
 ghost use Rattle.std.specs.Prelude.{suc, ◌≡◌, ◌+◌, ◌<◌, ◌≤◌, ℕ, List, OnOk, IfOk, length, map, option_map, vec_len};
-ghost use Rattle.ffs_volume.specs.Messages.Kinds.{of_tree};
-ghost use Rattle.ffs_volume.specs.Directories.PathnameCheck.{sized_dir_lines};
-ghost use Rattle.ffs_volume.specs.Directories.Volumes.{volume_of};
-ghost use Rattle.ffs_report.specs.Known.{ForBytes};
-ghost use Rattle.ffs_report.specs.PhaseOutcome.{PhaseReports};
-ghost use Rattle.ffs_report.specs.Progress.{progress};
-ghost use Rattle.ffs_volume.specs.declared.Layout.{Layout};
-ghost use Rattle.ffs_volume.specs.Directories.Graph.{parent};
-ghost use Rattle.ffs_volume.specs.Directories.Parents.{graph_of};
+ghost use Rattle.ffs_volume.specs.{Messages.Kinds.of_tree, Directories.Parents.graph_of, declared.Layout.Layout};
+ghost use Rattle.ffs_volume.specs.Directories.{PathnameCheck.sized_dir_lines, Volumes.volume_of, Graph.parent};
+ghost use Rattle.ffs_report.specs.{Known.ForBytes, PhaseOutcome.PhaseReports, Progress.progress};
 ghost use Rattle.ffs_layout.specs.Entry.{entry_value};
-ghost use Rattle.ffs_workspace.specs.Holds.{HoldsSurvey};
-ghost use Rattle.ffs_workspace.specs.Places.{AreNoted};
+ghost use Rattle.ffs_workspace.specs.{Holds.HoldsSurvey, Places.AreNoted};
 ghost use Rattle.ffs_pathnames.specs.Begins.{dir_starts, started_entry, IsDirectoryBegun};
-ghost use Rattle.ffs_pathnames.specs.Costs.{begin_reads, check_reads};
-ghost use Rattle.ffs_pathnames.specs.Header.{header_lines};
-ghost use Rattle.ffs_pathnames.specs.Gathers.{passed_of};
+ghost use Rattle.ffs_pathnames.specs.{Costs.begin_reads, Costs.check_reads, Header.header_lines, Gathers.passed_of};
 ghost use Rattle.ffs_pathnames.specs.DirectoryContext.{DirectoryContext, KnowsHeader};
-ghost use Rattle.ffs_pathnames.specs.LineReads.{ReadsByLines};
-ghost use Rattle.ffs_pathnames.specs.PassedRight.{AreRightBefore};
+ghost use Rattle.ffs_pathnames.specs.{LineReads.ReadsByLines, PassedRight.AreRightBefore};
 ghost use Rattle.ffs_pathnames.specs.Ready.{ReadyToPath, PhaseLeaves, LinesLeave};
 
 use crate::directory::{Directory, FirstLook};

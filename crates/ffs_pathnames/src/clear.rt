@@ -2,10 +2,8 @@
 ghost use Rattle.std.specs.Prelude.{◌≡◌, ◌&&◌, not, ℕ, length};
 ghost use Rattle.ffs_image.specs.Device.{Device};
 ghost use Rattle.ffs_volume.specs.declared.Layout.{Layout};
-ghost use Rattle.ffs_workspace.specs.Holds.{bool_at};
-ghost use Rattle.ffs_workspace.specs.Ready.{IsReady};
-ghost use Rattle.ffs_pathnames.specs.Before.{IsNonePassed};
-ghost use Rattle.ffs_pathnames.specs.Gathers.{AreAsLong};
+ghost use Rattle.ffs_workspace.specs.{Holds.bool_at, Ready.IsReady};
+ghost use Rattle.ffs_pathnames.specs.{Before.IsNonePassed, Gathers.AreAsLong};
 ghost use Rattle.ffs_survey.specs.Survey.{suspect_at};
 
 use crate::inodes::Inodes;

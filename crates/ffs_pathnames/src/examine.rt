@@ -3,8 +3,7 @@ ghost use Rattle.std.specs.Prelude.{◌+◌, ◌≤◌, IfOk};
 ghost use Rattle.ffs_report.specs.Known.{ForBytes};
 ghost use Rattle.ffs_names.specs.Costs.{directory_cost};
 ghost use Rattle.ffs_paths.specs.Reads.{IsReadyFor};
-ghost use Rattle.ffs_pathnames.specs.DirectoryContext.{DirectoryContext};
-ghost use Rattle.ffs_pathnames.specs.Examines.{ExamineLeaves, IsExamined};
+ghost use Rattle.ffs_pathnames.specs.{DirectoryContext.DirectoryContext, Examines.ExamineLeaves, Examines.IsExamined};
 
 use crate::directory::{Directory, FirstLook, look_directory};
 use crate::inodes::Inodes;

@@ -1,11 +1,13 @@
 //! What is reported of a directory before its entries.
 ghost use Rattle.std.specs.Prelude.{◌≡◌, ℕ, List, [], ◌%◌, ◌==◌, ◌&&◌, not, nat_lt, option_map, IsTrue};
-ghost use Rattle.ffs_volume.specs.declared.Attr as attrs;
 ghost use Rattle.ffs_volume.specs.Directories.PathnameCheck.{is_wrong_parent};
 ghost use Rattle.ffs_layout.specs.Entry.{entry_value};
 ghost use Rattle.ffs_report.specs.Progress.{progress};
 ghost use Rattle.ffs_pathnames.specs.SaysNames.{SaysNames};
-ghost use Rattle.ffs_pathnames.specs.Header.{size_reported, chunks_reported, shape_reported, dot_entry_reported, dotdot_entry_reported, dot_in, dotdot_in, dot_reported, dotdot_reported, is_right_dot, is_right_dotdot, is_header_right, header_lines_of};
+ghost use Rattle.ffs_pathnames.specs.Header.{size_reported, chunks_reported, shape_reported, dot_entry_reported};
+ghost use Rattle.ffs_pathnames.specs.Header.{dotdot_entry_reported, dot_in, dotdot_in, dot_reported, dotdot_reported};
+ghost use Rattle.ffs_pathnames.specs.Header.{is_right_dot, is_right_dotdot, is_header_right, header_lines_of};
+ghost use Rattle.ffs_volume.specs.declared.Attr as attrs;
 
 use crate::say::{LineIf, NameLine, say_two};
 use ffs_layout::Entry;

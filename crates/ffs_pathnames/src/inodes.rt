@@ -23,9 +23,9 @@ pub struct Inodes<'a> {
 
 impl<'a> Inodes<'a> {
     ghost use Rattle.ffs_volume.specs.Encodings.Kinds.{is_dir_kind, is_allocated_kind, is_unknown_kind, type_of_kind};
-    ghost use Rattle.ffs_volume.specs.declared.constants.TheConstants as constants;
     ghost use Rattle.ffs_survey.specs.Survey.{suspect_at};
     ghost use Rattle.ffs_pathnames.specs.Stamps.{stamps_of};
+    ghost use Rattle.ffs_volume.specs.declared.constants.TheConstants as constants;
 
     /// How many inodes there are.
     pub fn count(&self) -> u32

@@ -1,13 +1,10 @@
 //! A first look at the entries of a directory: whether anything may be reported of them.
 ghost use Rattle.std.specs.Prelude.{◌≡◌, ◌+◌, ◌<◌, ◌==◌, ◌&&◌, ◌||◌, not, length, slice_index, true, vec_len};
 ghost use Rattle.ffs_volume.specs.declared.Role.{Role};
-ghost use Rattle.ffs_volume.specs.Directories.Roles.{Volume, is_dir};
-ghost use Rattle.ffs_volume.specs.Directories.PathnameCheck.{is_bad_whiteout};
+ghost use Rattle.ffs_volume.specs.Directories.{Roles.Volume, Roles.is_dir, PathnameCheck.is_bad_whiteout};
 ghost use Rattle.ffs_layout.specs.Entry.{entry_value};
-ghost use Rattle.ffs_pathnames.specs.Looks.{IsChunkLook};
+ghost use Rattle.ffs_pathnames.specs.{Looks.IsChunkLook, Sees.Sees, Sees.CanStamp, Sees.stamps_in, Stamps.KeepPlaces};
 ghost use Rattle.ffs_pathnames.specs.PassedNames as names;
-ghost use Rattle.ffs_pathnames.specs.Sees.{Sees, CanStamp, stamps_in};
-ghost use Rattle.ffs_pathnames.specs.Stamps.{KeepPlaces};
 
 use crate::inodes::Inodes;
 use ffs_layout::{Entry, entry_at};

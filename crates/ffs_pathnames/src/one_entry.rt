@@ -1,26 +1,20 @@
 //! The lines of a plain entry.
-ghost use Rattle.std.specs.Prelude.{◌≡◌, ◌+◌, ◌*◌, ◌<◌, ◌≤◌, ℕ, false, List, length, Option, Some, OnOk, IfOk, IsTrue, vec_len};
+ghost use Rattle.std.specs.Prelude.{◌≡◌, ◌+◌, ◌*◌, ◌<◌, ◌≤◌, ℕ, false, List, length, Option, Some, OnOk, IfOk, IsTrue};
+ghost use Rattle.std.specs.Prelude.{vec_len};
 ghost use Rattle.ffs_image.specs.Device.{ForContents};
 ghost use Rattle.ffs_volume.specs.Directories.PathnameCheck.{attributes, extra_lines};
-ghost use Rattle.ffs_pathnames.specs.SaysNames.{SaysNames};
-ghost use Rattle.ffs_volume.specs.Directories.Parents.{graph_of};
-ghost use Rattle.ffs_volume.specs.Directories.Paths.{dir_path};
-ghost use Rattle.ffs_volume.specs.Directories.Volumes.{volume_of};
-ghost use Rattle.ffs_layout.specs.Entry.{entry_value};
-ghost use Rattle.ffs_report.specs.Known.{ForBytes};
-ghost use Rattle.ffs_report.specs.Progress.{progress};
-ghost use Rattle.ffs_volume.specs.declared.Layout.{Layout};
-ghost use Rattle.ffs_workspace.specs.Lengths.{IsFor};
-ghost use Rattle.ffs_workspace.specs.Holds.{HoldsClaims, HoldsSurvey};
-ghost use Rattle.ffs_pathnames.specs.Gathers.{IsEnough, IsVerdict, AreAsLong, passed_of};
-ghost use Rattle.ffs_pathnames.specs.Gathers.{asks_attr, asks_path, extra_reported, is_silent, plain_lines_by};
+ghost use Rattle.ffs_volume.specs.Directories.{Parents.graph_of, Paths.dir_path, Volumes.volume_of};
+ghost use Rattle.ffs_volume.specs.{declared.Layout.Layout, Report.Reads.line_reads, Report.Reads.path_reads};
+ghost use Rattle.ffs_pathnames.specs.{SaysNames.SaysNames, EntryLines.ReportsEntries};
+ghost use Rattle.ffs_pathnames.specs.Gathers.{IsEnough, IsVerdict, AreAsLong, passed_of, asks_attr, asks_path};
+ghost use Rattle.ffs_pathnames.specs.Gathers.{extra_reported, is_silent, plain_lines_by};
 ghost use Rattle.ffs_pathnames.specs.DirectoryContext.{DirectoryContext, KeepsPath, KnowsPath};
-ghost use Rattle.ffs_paths.specs.DirectoryPaths.{IsPathOf};
-ghost use Rattle.ffs_paths.specs.LastPaths.{last_path};
-ghost use Rattle.ffs_paths.specs.Reads.{ForTree, IsReadyFor, OnlyReads, ReadsAtMost, ReadsFew};
-ghost use Rattle.ffs_volume.specs.Report.Reads.{line_reads, path_reads};
-ghost use Rattle.ffs_pathnames.specs.EntryLines.{ReportsEntries};
 ghost use Rattle.ffs_pathnames.specs.Ready.{ReadyWith, ReadyToPath, PathLeaves, LinesLeave};
+ghost use Rattle.ffs_layout.specs.Entry.{entry_value};
+ghost use Rattle.ffs_report.specs.{Known.ForBytes, Progress.progress};
+ghost use Rattle.ffs_workspace.specs.{Lengths.IsFor, Holds.HoldsClaims, Holds.HoldsSurvey};
+ghost use Rattle.ffs_paths.specs.{DirectoryPaths.IsPathOf, LastPaths.last_path};
+ghost use Rattle.ffs_paths.specs.Reads.{ForTree, IsReadyFor, OnlyReads, ReadsAtMost, ReadsFew};
 
 use crate::inodes::Inodes;
 use crate::lines::say_verdict;

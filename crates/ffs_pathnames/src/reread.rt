@@ -1,17 +1,11 @@
 //! A second reading of a directory, where something is reported of its entries.
 ghost use Rattle.std.specs.Prelude.{◌≡◌, ◌+◌, ◌≤◌, OnOk, length, map, slice_index};
-ghost use Rattle.ffs_volume.specs.Messages.Kinds.{of_tree};
-ghost use Rattle.ffs_volume.specs.Directories.Volumes.{volume_of};
-ghost use Rattle.ffs_report.specs.Known.{ForBytes};
-ghost use Rattle.ffs_report.specs.PhaseOutcome.{PhaseReports};
-ghost use Rattle.ffs_report.specs.Progress.{progress};
-ghost use Rattle.ffs_workspace.specs.Notes.{cut_in};
-ghost use Rattle.ffs_workspace.specs.Places.{AreNoted};
-ghost use Rattle.ffs_pathnames.specs.Costs.{report_reads};
-ghost use Rattle.ffs_pathnames.specs.Gathers.{passed_of};
-ghost use Rattle.ffs_pathnames.specs.DirectoryContext.{KnowsDirectory};
-ghost use Rattle.ffs_pathnames.specs.PassedNames as names;
+ghost use Rattle.ffs_volume.specs.{Messages.Kinds.of_tree, Directories.Volumes.volume_of};
+ghost use Rattle.ffs_report.specs.{Known.ForBytes, PhaseOutcome.PhaseReports, Progress.progress};
+ghost use Rattle.ffs_workspace.specs.{Notes.cut_in, Places.AreNoted};
+ghost use Rattle.ffs_pathnames.specs.{Costs.report_reads, Gathers.passed_of, DirectoryContext.KnowsDirectory};
 ghost use Rattle.ffs_pathnames.specs.Ready.{ReadyToPath, PhaseLeaves};
+ghost use Rattle.ffs_pathnames.specs.PassedNames as names;
 
 use crate::directory::Directory;
 use crate::entries::{DirectoryChunk, report_chunk};

@@ -2,9 +2,7 @@
 ghost use Rattle.std.specs.Prelude.{◌≡◌};
 ghost use Rattle.ffs_report.specs.Progress.{progress};
 ghost use Rattle.ffs_volume.specs.Encodings.Kinds.{is_dir_kind};
-ghost use Rattle.ffs_pathnames.specs.Before.{root_reported};
-ghost use Rattle.ffs_pathnames.specs.RootAnswers.{is_go};
-ghost use Rattle.ffs_pathnames.specs.SaysNames.{SaysNames};
+ghost use Rattle.ffs_pathnames.specs.{Before.root_reported, RootAnswers.is_go, SaysNames.SaysNames};
 
 use crate::pass2::Root;
 use crate::say::{LineIf, NameLine, say_if, say_line};

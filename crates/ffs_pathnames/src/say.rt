@@ -2,8 +2,7 @@
 ghost use Rattle.std.specs.Prelude.{true};
 ghost use Rattle.ffs_volume.specs.Messages.Kinds.{reported};
 ghost use Rattle.ffs_report.specs.Progress.{progress};
-ghost use Rattle.ffs_pathnames.specs.NameLines.{name_message, two_reported};
-ghost use Rattle.ffs_pathnames.specs.SaysNames.{SaysNames};
+ghost use Rattle.ffs_pathnames.specs.{NameLines.name_message, NameLines.two_reported, SaysNames.SaysNames};
 
 use ffs_report::{DirectoryLine, DotLine, EntryLine, Line, OutFault, Output, Report};
 

@@ -1,19 +1,12 @@
 //! The pathname check of the root, and of one directory after another.
 ghost use Rattle.std.specs.Prelude.{suc, ◌≡◌, ◌+◌, ◌-◌, ◌<◌, ◌≤◌, ℕ, true, false, OnOk, IfOk, length, map, vec_len};
-ghost use Rattle.ffs_report.specs.Known.{ForBytes};
-ghost use Rattle.ffs_report.specs.PhaseOutcome.{PhaseReports};
-ghost use Rattle.ffs_report.specs.Progress.{progress};
-ghost use Rattle.ffs_volume.specs.Messages.Kinds.{of_tree, lines_from};
+ghost use Rattle.ffs_report.specs.{Known.ForBytes, PhaseOutcome.PhaseReports, Progress.progress};
+ghost use Rattle.ffs_volume.specs.{Messages.Kinds.of_tree, Messages.Kinds.lines_from, Directories.Volumes.volume_of};
 ghost use Rattle.ffs_volume.specs.Directories.PathnameCheck.{continues_after_root, directory_lines, pathname_lines};
-ghost use Rattle.ffs_volume.specs.Directories.Volumes.{volume_of};
-ghost use Rattle.ffs_workspace.specs.Holds.{HoldsClaims, HoldsSurvey};
-ghost use Rattle.ffs_workspace.specs.Lengths.{inodes_of};
+ghost use Rattle.ffs_workspace.specs.{Holds.HoldsClaims, Holds.HoldsSurvey, Lengths.inodes_of, Ready.IsReady};
 ghost use Rattle.ffs_workspace.specs.Places.{AreChunksNumbered, AreNoted};
-ghost use Rattle.ffs_pathnames.specs.Before.{IsBefore, is_checked};
-ghost use Rattle.ffs_pathnames.specs.Costs.{check_reads, tree_reads};
-ghost use Rattle.ffs_pathnames.specs.Gathers.{AreAsLong};
-ghost use Rattle.ffs_pathnames.specs.RootAnswers.{AtReadFault, is_go};
-ghost use Rattle.ffs_workspace.specs.Ready.{IsReady};
+ghost use Rattle.ffs_pathnames.specs.{Before.IsBefore, Before.is_checked, Costs.check_reads, Costs.tree_reads};
+ghost use Rattle.ffs_pathnames.specs.{Gathers.AreAsLong, RootAnswers.AtReadFault, RootAnswers.is_go};
 ghost use Rattle.ffs_pathnames.specs.Ready.{ReadyToPath, PhaseLeaves, TreeLeaves};
 
 use crate::check::check_directory;

@@ -2,10 +2,9 @@
 ghost use Rattle.std.specs.Prelude.{◌≡◌, ◌<◌, length, vec_len};
 ghost use Rattle.ffs_volume.specs.Directories.Roles.{Volume};
 ghost use Rattle.ffs_layout.specs.Entry.{entry_value};
-ghost use Rattle.ffs_pathnames.specs.Gathers.{AreDefectsOf, IsVerdictBy};
-ghost use Rattle.ffs_pathnames.specs.PassedNames as names;
+ghost use Rattle.ffs_pathnames.specs.{Gathers.AreDefectsOf, Gathers.IsVerdictBy, Stamps.KeepPlaces};
 ghost use Rattle.ffs_pathnames.specs.Sees.{Sees, HasFlagAndWord, passed_in};
-ghost use Rattle.ffs_pathnames.specs.Stamps.{KeepPlaces};
+ghost use Rattle.ffs_pathnames.specs.PassedNames as names;
 
 use crate::inodes::Inodes;
 use crate::look::is_bad_whiteout;

@@ -1,8 +1,7 @@
 -- What a buffer of a path holds.
 use Rattle.std.specs.Prelude.{ℕ, ◌≡◌, ◌+◌, ◌<◌, Bool, false, nat_lt, List, ◌∷◌, ◌++◌, length, drop}
 use Rattle.ffs_volume.specs.Directories.Paths.{joined, longest_end}
-use Rattle.ffs_paths.specs.Slashes.{from_slash}
-use Rattle.ffs_paths.specs.declared.buffer.PathBuffer.{PathBuffer}
+use Rattle.ffs_paths.specs.{Slashes.from_slash, declared.buffer.PathBuffer.PathBuffer}
 
 -- what is from `from` on, a `/` and a name are at the end of a buffer, cut or not; its short end is
 -- all of that where there is room for a `?`, else what follows its first name

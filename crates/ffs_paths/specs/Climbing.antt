@@ -1,10 +1,8 @@
 -- What a climb to the root reads, and the path that it gives.
-use Rattle.std.specs.Prelude.{◌≡◌, ◌<◌, ℕ, nat_lt, true, if◌then◌else◌, List, [], ◌∷◌}
-use Rattle.std.specs.Prelude.{length, Option, Some, None, vec_len, slice_index}
-use Rattle.ffs_volume.specs.Directories.Graph.{Graph, parent}
-use Rattle.ffs_volume.specs.Directories.Paths.{dir_path, entry_path}
-use Rattle.ffs_workspace.specs.declared.workspace.Workspace.{Workspace}
-use Rattle.ffs_workspace.specs.Holds.{bool_at}
+use Rattle.std.specs.Prelude.{◌≡◌, ◌<◌, ℕ, nat_lt, true, if◌then◌else◌, List, [], ◌∷◌, length, Option, Some, None}
+use Rattle.std.specs.Prelude.{vec_len, slice_index}
+use Rattle.ffs_volume.specs.Directories.{Graph.Graph, Graph.parent, Paths.dir_path, Paths.entry_path}
+use Rattle.ffs_workspace.specs.{declared.workspace.Workspace.Workspace, Holds.bool_at}
 pub use Rattle.ffs_workspace.specs.Places.{name_in}
 
 -- it is the name of the directory d in its parent p: that of the first plain entry there that names

@@ -1,10 +1,7 @@
 -- What the path of a directory holds that is kept.
 use Rattle.std.specs.Prelude.{◌≡◌, ℕ, true, false, List, Option, Some, None}
-use Rattle.ffs_volume.specs.Directories.Graph.{Graph}
-use Rattle.ffs_volume.specs.Directories.Paths.{path_names}
-use Rattle.ffs_paths.specs.Buffers.{HoldsNames}
-use Rattle.ffs_paths.specs.Slashes.{AreSingle}
-use Rattle.ffs_paths.specs.declared.path.DirectoryPath.{DirectoryPath}
+use Rattle.ffs_volume.specs.Directories.{Graph.Graph, Paths.path_names}
+use Rattle.ffs_paths.specs.{Buffers.HoldsNames, Slashes.AreSingle, declared.path.DirectoryPath.DirectoryPath}
 
 -- the path of a directory that these names lead to, or of one that is not reached
 abbrev pub HoldsPath : DirectoryPath → Option (List (List ℕ)) → Type 0

@@ -1,19 +1,11 @@
 -- What is kept for the path of the next directory.
 use Rattle.std.specs.Prelude.{◌≡◌, ◌*◌, ◌<◌, ℕ, List, [], ◌∷◌, ◌++◌, Option, Some, Result, OnOk, slice_index}
-use Rattle.ffs_image.specs.Device.{Device}
-use Rattle.ffs_image.specs.declared.image.ImageFault.{ImageFault}
+use Rattle.ffs_image.specs.{Device.Device, declared.image.ImageFault.ImageFault}
 use Rattle.ffs_volume.specs.declared.Layout.{Layout}
-use Rattle.ffs_volume.specs.Directories.Graph.{Graph}
-use Rattle.ffs_volume.specs.Directories.Parents.{graph_of}
-use Rattle.ffs_volume.specs.Directories.Paths.{path_names}
-use Rattle.ffs_volume.specs.Directories.Volumes.{volume_of}
-use Rattle.ffs_workspace.specs.declared.workspace.Workspace.{Workspace}
+use Rattle.ffs_volume.specs.Directories.{Graph.Graph, Parents.graph_of, Paths.path_names, Volumes.volume_of}
+use Rattle.ffs_workspace.specs.{declared.workspace.Workspace.Workspace, Ready.IsReady, Places.place_in}
 use Rattle.ffs_workspace.specs.Holds.{HoldsClaims, HoldsSurvey}
-use Rattle.ffs_workspace.specs.Ready.{IsReady}
-use Rattle.ffs_workspace.specs.Places.{place_in}
-use Rattle.ffs_paths.specs.DirectoryPaths.{IsPathOf}
-use Rattle.ffs_paths.specs.Reads.{OnlyReads}
-use Rattle.ffs_paths.specs.Slashes.{AreSingle}
+use Rattle.ffs_paths.specs.{DirectoryPaths.IsPathOf, Reads.OnlyReads, Slashes.AreSingle}
 use Rattle.ffs_paths.specs.declared.kept_parent.KeptParent.{KeptParent}
 
 -- the names down to d are those down to s, and one more

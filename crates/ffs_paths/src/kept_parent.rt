@@ -1,8 +1,7 @@
 //! The path of a directory's parent, kept for the directory that comes next.
 
 ghost use Rattle.std.specs.Prelude.{◌≡◌, ◌<◌, true, ℕ, List, Option, IfOk, OnOk, IfSome, vec_len};
-ghost use Rattle.ffs_volume.specs.declared.Layout.{Layout};
-ghost use Rattle.ffs_volume.specs.{Directories.Paths.dir_path, Report.Reads.path_reads};
+ghost use Rattle.ffs_volume.specs.{declared.Layout.Layout, Directories.Paths.dir_path, Report.Reads.path_reads};
 ghost use Rattle.ffs_workspace.specs.declared.workspace.Workspace.{Workspace as WorkspaceIn};
 ghost use Rattle.ffs_paths.specs.{Climbing.IsParentOf, DirectoryPaths.IsPathOf};
 ghost use Rattle.ffs_paths.specs.KeptParents.{KeepsParent, ReadyToPath, PathLeaves};

@@ -1,13 +1,13 @@
 //! The path of a directory, for all lines on it and on its entries.
 
-ghost use Rattle.std.specs.Prelude.{◌≡◌, ◌<◌, ◌≤◌, ℕ, List, [], ◌∷◌, ◌++◌, length, vec_len};
-ghost use Rattle.std.specs.Prelude.{Some, option_map, IfOk, OnOk};
+ghost use Rattle.std.specs.Prelude.{◌≡◌, ◌<◌, ◌≤◌, ℕ, List, [], ◌∷◌, ◌++◌, length, vec_len, Some, option_map, IfOk};
+ghost use Rattle.std.specs.Prelude.{OnOk};
 ghost use Rattle.ffs_volume.specs.Directories.{Graph.Graph, Graph.level, Parents.graph_of, Volumes.volume_of};
 ghost use Rattle.ffs_volume.specs.Directories.Paths.{dir_path, entry_path, names_down};
 ghost use Rattle.ffs_workspace.specs.Holds.{bool_at};
-ghost use Rattle.ffs_paths.specs.{Buffers.HoldsNames, Climbing.in_room, Climbing.path_in, Reads.climb_reads};
+ghost use Rattle.ffs_paths.specs.{Buffers.HoldsNames, Climbing.in_room, Climbing.path_in, Reads.ReadsFew};
+ghost use Rattle.ffs_paths.specs.Reads.{climb_reads, ForTree, IsReadyFor, KnowsPlaces, OnlyReads, ReadsAtMost};
 ghost use Rattle.ffs_paths.specs.{DirectoryPaths.HoldsPath, DirectoryPaths.IsPathOf, Slashes.AreSingle};
-ghost use Rattle.ffs_paths.specs.Reads.{ForTree, IsReadyFor, KnowsPlaces, OnlyReads, ReadsAtMost, ReadsFew};
 
 use crate::buffer::{LONGEST_NAME, PathBuffer, PathText};
 use crate::name::{NameText, find_name};

@@ -1,14 +1,60 @@
-use Rattle.std.proofs.Common.{◌∙◌, ap, map, arith, length}
+use Rattle.std.proofs.Common.{◌∙◌, ap, map, arith, length, ◌≡◌, ◌≤◌, ◌+◌, ℕ, List, option_map}
 use Rattle.std.proofs.lemmas.Result.{err_from_is_err_and}
-use Rattle.ffs_volume.specs.Messages.Kinds.{of_tree}
+use Rattle.ffs_volume.specs.{Messages.Kinds.of_tree, Blocks.Inodes.inode_of}
+use Rattle.ffs_volume.specs.Directories.{Volumes.volume_of, Parents.graph_of, PathnameCheck.attributes, Paths.dir_path}
 use Rattle.ffs_report.proofs.Reporting.{of_begins, of_reads}
-use Rattle.ffs_pathnames.specs.declared.examine.Examination.{Examination}
+use Rattle.ffs_pathnames.specs.{declared.examine.Examination.Examination, Begins.dir_starts, Header.header_reported}
+use Rattle.ffs_pathnames.{specs.Costs.begin_reads, specs.DirectoryContext.DirectoryContext, proofs.Passing.knows_on}
 use Rattle.ffs_pathnames.proofs.Begun.{said_same, fault_same, image_same, starts_are, begun_is}
-use Rattle.ffs_pathnames.proofs.Passing.{knows_on}
-use Rattle.ffs_workspace.proofs.Leaving.{leaves_more, survey_left, windows_leave}
-use Rattle.ffs_paths.proofs.Keeping.{kept_parent_on}
 use Rattle.ffs_pathnames.proofs.StampLaws.{windows_keep, keep_more, noted_kept}
+use Rattle.ffs_pathnames.proofs.check.begin_directory.Given.{Over}
+use Rattle.ffs_pathnames.proofs.check.begin_directory.Goals.{After-report_header}
+use Rattle.ffs_workspace.proofs.Leaving.{leaves_more, survey_left, windows_leave}
+use Rattle.ffs_workspace.specs.Places.{AreNoted}
+use Rattle.ffs_paths.proofs.Keeping.{kept_parent_on}
+use Rattle.ffs_layout.specs.Entry.{entry_value}
 use Rattle.ffs_pathnames.proofs.check.begin_directory.Goals as goal
+
+-- what is known before the lines are printed
+known : (g : Over) (c : After-report_header g) (b : List ℕ) → DirectoryContext c.args.geometry.now.layout
+    (g.I.Image.device c.args.image.now).contents c.args.workspace.now c.args.dir b →
+    DirectoryContext c.args.geometry.now.layout (g.I.Image.device c.examine.new.image).contents c.examine.new.workspace
+    c.args.dir b × (c.in_ok-examined.examined.inode.size ≡ (inode_of c.args.geometry.now.layout b c.args.dir).size)
+known g c b k = (
+  knows_on c.args.geometry.now.layout _ _ c.args.workspace.now c.examine.new.workspace c.args.dir b
+      (ap (λ d. d.contents) c.in_ok-examined.ensures.leaves.read) c.in_ok-examined.ensures.leaves.lists.survey k,
+  ap (λ i. i.size) (c.in_ok-examined.ensures.found b k).inode,
+)
+
+-- the lines are the directory's
+lines_are : (g : Over) (c : After-report_header g) (b : List ℕ) → DirectoryContext c.args.geometry.now.layout
+    (g.I.Image.device c.args.image.now).contents c.args.workspace.now c.args.dir b →
+    header_reported (attributes (volume_of c.args.geometry.now.layout b) c.args.dir)
+    (dir_path (graph_of (volume_of c.args.geometry.now.layout b)) c.args.dir) c.args.dir c.parent_of-parent.result
+    c.in_ok-examined.examined.look.gap c.in_ok-examined.examined.look.sound
+    (option_map entry_value c.first_two.result.0) (option_map entry_value c.first_two.result.1)
+    ≡ dir_starts (volume_of c.args.geometry.now.layout b) c.args.dir
+lines_are g c b k =
+    let v = c.args.geometry.now.layout in
+    starts_are v b c.args.dir c.args.workspace.now c.examine.new.workspace c.in_ok-examined.examined _ _ _
+    (c.in_ok-examined.ensures.found b k) (c.parent_of-parent.ensures v b
+    (survey_left v b _ _ c.in_ok-examined.ensures.leaves.lists.survey k.survey))
+    c.first_two.ensures.first c.first_two.ensures.second
+
+-- the reads
+reads_few : (g : Over) (c : After-report_header g) (b : List ℕ) → DirectoryContext c.args.geometry.now.layout
+    (g.I.Image.device c.args.image.now).contents c.args.workspace.now c.args.dir b →
+    AreNoted c.args.geometry.now.layout b c.args.workspace.now.queue.items →
+    g.I.Image.reads c.report_header.new.image ≤ g.I.Image.reads c.args.image.now
+    + begin_reads c.args.geometry.now.layout b c.args.dir
+    (length (dir_starts (volume_of c.args.geometry.now.layout b) c.args.dir))
+reads_few g c b k noted =
+    let lists = c.in_ok-examined.ensures.leaves.lists in
+    let examined = c.examine.ensures.reads b k in
+    let said = (c.report_header.ensures.counted b (known g c b k)
+    (noted_kept c.args.geometry.now.layout b _ c.examine.new.workspace.queue.items lists.places noted)).count in
+    let now = rw (lines_are g c b k) at said in
+    omega (arith, examined, now)
 
 pub report_header-requires : goal.report_header-requires
 report_header-requires g c =
@@ -29,40 +75,14 @@ pub returns-in_err-report_header-clause-text : goal.returns-in_err-report_header
 returns-in_err-report_header-clause-text g c =
     let p = err_from_is_err_and c.from_residual-in_err-report_header.result
     c.from_residual-in_err-report_header.ensures.1 in
-    let v = c.args.geometry.now.layout in
+    let report = (goal.at.returns-in_err-report_header-clause-text g c).After-report_header in
     rw (p.1, p.2) (fault_same (Unit {0}) Examination _ _ _ _ _ _ c.in_err-report_header.field-0.0
-    (λ b k. (
-      knows_on v _ _ c.args.workspace.now c.examine.new.workspace c.args.dir b
-          (ap (λ d. d.contents) c.in_ok-examined.ensures.leaves.read) c.in_ok-examined.ensures.leaves.lists.survey k,
-      ap (λ i. i.size) (c.in_ok-examined.ensures.found b k).inode,
-    ))
-    (λ b k. ap (map of_tree)
-    (starts_are v b c.args.dir c.args.workspace.now c.examine.new.workspace c.in_ok-examined.examined
-    _ _ _
-    (c.in_ok-examined.ensures.found b k)
-    (c.parent_of-parent.ensures v b
-    (survey_left v b c.args.workspace.now c.examine.new.workspace c.in_ok-examined.ensures.leaves.lists.survey
-    k.survey))
-    c.first_two.ensures.first c.first_two.ensures.second))
-    c.in_err-report_header.ensures.text)
+    (known g report) (λ b k. ap (map of_tree) (lines_are g report b k)) c.in_err-report_header.ensures.text)
 
 pub returns-clause-text : goal.returns-clause-text
 returns-clause-text g c =
-    let v = c.args.geometry.now.layout in
-    said_same _ _ _ _ _ _
-    (λ b k. (
-      knows_on v _ _ c.args.workspace.now c.examine.new.workspace c.args.dir b
-          (ap (λ d. d.contents) c.in_ok-examined.ensures.leaves.read) c.in_ok-examined.ensures.leaves.lists.survey k,
-      ap (λ i. i.size) (c.in_ok-examined.ensures.found b k).inode,
-    ))
-    (λ b k. ap (map of_tree)
-    (starts_are v b c.args.dir c.args.workspace.now c.examine.new.workspace c.in_ok-examined.examined
-    _ _ _
-    (c.in_ok-examined.ensures.found b k)
-    (c.parent_of-parent.ensures v b
-    (survey_left v b c.args.workspace.now c.examine.new.workspace c.in_ok-examined.ensures.leaves.lists.survey
-    k.survey))
-    c.first_two.ensures.first c.first_two.ensures.second))
+    let report = (goal.at.returns-clause-text g c).After-report_header in
+    said_same _ _ _ _ _ _ (known g report) (λ b k. ap (map of_tree) (lines_are g report b k))
     c.in_ok-report_header.ensures.text
 
 pub returns-clause-begun : goal.returns-clause-begun
@@ -94,8 +114,7 @@ returns-in_err-examined-clause-leaves g c =
       image = left.read;
       survey = left.lists.survey;
       places = left.lists.places;
-      ready =
-          left.ready;
+      ready = left.ready;
     })
 
 pub returns-in_err-report_header-clause-leaves : goal.returns-in_err-report_header-clause-leaves
@@ -131,39 +150,8 @@ returns-in_err-examined-clause-reads g c = λ b k noted.
     omega (arith, examined)
 
 pub returns-in_err-report_header-clause-reads : goal.returns-in_err-report_header-clause-reads
-returns-in_err-report_header-clause-reads g c = λ b k noted.
-    let v = c.args.geometry.now.layout in
-    let found = c.in_ok-examined.ensures.found b k in
-    let lists = c.in_ok-examined.ensures.leaves.lists in
-    let examined = c.examine.ensures.reads b k in
-    let said = (c.report_header.ensures.counted b (
-      knows_on v _ _ c.args.workspace.now c.examine.new.workspace c.args.dir b
-          (ap (λ d. d.contents) c.in_ok-examined.ensures.leaves.read) lists.survey k,
-      ap (λ i. i.size) found.inode,
-    ) (noted_kept v b c.args.workspace.now.queue.items c.examine.new.workspace.queue.items lists.places noted)).count in
-    let long = ap length (starts_are v b c.args.dir c.args.workspace.now c.examine.new.workspace
-    c.in_ok-examined.examined _ _ _ found
-    (c.parent_of-parent.ensures v b
-    (survey_left v b c.args.workspace.now c.examine.new.workspace lists.survey k.survey))
-    c.first_two.ensures.first c.first_two.ensures.second) in
-    let now = rw long at said in
-    omega (arith, examined, now)
+returns-in_err-report_header-clause-reads g c =
+    reads_few g (goal.at.returns-in_err-report_header-clause-reads g c).After-report_header
 
 pub returns-clause-reads : goal.returns-clause-reads
-returns-clause-reads g c = λ b k noted.
-    let v = c.args.geometry.now.layout in
-    let found = c.in_ok-examined.ensures.found b k in
-    let lists = c.in_ok-examined.ensures.leaves.lists in
-    let examined = c.examine.ensures.reads b k in
-    let said = (c.report_header.ensures.counted b (
-      knows_on v _ _ c.args.workspace.now c.examine.new.workspace c.args.dir b
-          (ap (λ d. d.contents) c.in_ok-examined.ensures.leaves.read) lists.survey k,
-      ap (λ i. i.size) found.inode,
-    ) (noted_kept v b c.args.workspace.now.queue.items c.examine.new.workspace.queue.items lists.places noted)).count in
-    let long = ap length (starts_are v b c.args.dir c.args.workspace.now c.examine.new.workspace
-    c.in_ok-examined.examined _ _ _ found
-    (c.parent_of-parent.ensures v b
-    (survey_left v b c.args.workspace.now c.examine.new.workspace lists.survey k.survey))
-    c.first_two.ensures.first c.first_two.ensures.second) in
-    let now = rw long at said in
-    omega (arith, examined, now)
+returns-clause-reads g c = reads_few g (goal.at.returns-clause-reads g c).After-report_header

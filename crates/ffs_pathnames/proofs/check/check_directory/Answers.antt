@@ -1,39 +1,23 @@
-use Rattle.std.proofs.Common.{refl, sym, ap, subst, ◌∙◌, ℕ, List, map, Err, length, arith}
-use Rattle.std.proofs.lemmas.Result.{err_from_is_err_and}
-use Rattle.ffs_volume.specs.Messages.Kinds.{of_tree}
-use Rattle.ffs_volume.specs.Directories.PathnameCheck.{sized_dir_lines, lines_of_entries}
-use Rattle.ffs_volume.specs.Directories.Roles.{roled_entries}
-use Rattle.ffs_volume.specs.Directories.Volumes.{volume_of}
+use Rattle.std.proofs.Common.{refl, sym, ap, subst, ◌∙◌, Err, length, arith}
+use Rattle.std.proofs.{lemmas.Result.err_from_is_err_and, Math.Nat.mul-le-mul_left}
+use Rattle.ffs_volume.{specs.Report.Reads.line_reads, proofs.Results.on_ok}
+use Rattle.ffs_volume.specs.Directories.{PathnameCheck.sized_dir_lines, Roles.roled_entries, Volumes.volume_of}
 use Rattle.ffs_report.specs.PhaseOutcome.{ImageAfter}
 use Rattle.ffs_report.proofs.Reporting.{of_begins, of_part, of_fault, of_last, said_knows, reports_knowing}
 use Rattle.ffs_workspace.proofs.Leaving.{leaves_more}
-use Rattle.ffs_pathnames.specs.declared.examine.Examination.{Examination}
-use Rattle.ffs_pathnames.specs.Begins.{dir_starts}
-use Rattle.ffs_pathnames.specs.Gathers.{passed_of}
+use Rattle.ffs_pathnames.specs.{declared.examine.Examination.Examination, Begins.dir_starts, Gathers.passed_of}
 use Rattle.ffs_pathnames.specs.PassedNames.{entries_reported}
 use Rattle.ffs_pathnames.proofs.Begun.{said_same, directory_is, lines_parts, quiet_parts, reported_parts, quiet_after}
-use Rattle.ffs_pathnames.proofs.Begun.{reported_after}
-use Rattle.ffs_pathnames.proofs.Passing.{knows_on}
-use Rattle.ffs_pathnames.proofs.StampLaws.{keep_more, noted_kept}
-use Rattle.ffs_volume.specs.Report.Reads.{line_reads}
-use Rattle.ffs_volume.proofs.Results.{on_ok}
-use Rattle.ffs_names.specs.Costs.{directory_cost, directory_runs}
-use Rattle.ffs_names.proofs.DirCosts.{cost_is as cost_of_dir}
-use Rattle.ffs_pathnames.proofs.CostLaws.{checked_twice, lines_long, starts_within}
-use Rattle.std.proofs.Math.Nat.{mul-le-mul_left}
+use Rattle.ffs_pathnames.proofs.{Begun.reported_after, Begun.starts_within, Passing.knows_on, StampLaws.keep_more}
+use Rattle.ffs_pathnames.proofs.{StampLaws.noted_kept, LineCounts.checked_twice, LineCounts.lines_long}
+use Rattle.ffs_names.{specs.Costs.directory_cost, specs.Costs.directory_runs, proofs.DirCosts.cost_is as cost_of_dir}
 use Rattle.ffs_pathnames.proofs.check.check_directory.Goals as goal
 
 pub returns-in_err-examined-clause-text : goal.returns-in_err-examined-clause-text
 returns-in_err-examined-clause-text g c =
     let p = err_from_is_err_and c.from_residual.result c.from_residual.ensures.1 in
-    let v = c.args.geometry.now.layout in
-    let all = λ (b : List ℕ). map of_tree (sized_dir_lines (volume_of v b) c.args.dir) in
-    rw (p.1, p.2) (of_fault Examination (Unit {0}) _ all
-    (λ b. map of_tree (dir_starts (volume_of v b) c.args.dir))
-    (λ b. map of_tree (lines_of_entries (volume_of v b) c.args.dir 0 (roled_entries (volume_of v b) c.args.dir))) all _
-    _ _ c.in_err-examined.field-0.0 (of_begins _ all _)
-    (λ b k. lines_parts (volume_of v b) c.args.dir
-    (lines_of_entries (volume_of v b) c.args.dir 0 (roled_entries (volume_of v b) c.args.dir)) refl)
+    rw (p.1, p.2) (of_fault Examination (Unit {0}) _ _ _ _ _ _ _ _ c.in_err-examined.field-0.0 (of_begins _ _ _)
+    (λ b k. lines_parts (volume_of c.args.geometry.now.layout b) c.args.dir _ refl)
     (reports_knowing Examination _ _ _ _ _ (Err c.in_err-examined.field-0.0) (λ b k. k.0)
     c.in_err-examined.ensures.text))
 
@@ -50,18 +34,14 @@ pub returns-then-examined-clause-passed : goal.returns-then-examined-clause-pass
 returns-then-examined-clause-passed g c = λ b k.
     let v = c.args.geometry.now.layout in
     quiet_after (volume_of v b) c.args.dir (passed_of c.args.workspace.now) (passed_of c.begin_directory.new.workspace)
-    (directory_is (volume_of v b) c.args.dir c.requires.dir k.0.dir) k.1
-    (sym (c.in_ok-examined.ensures.begun b k.0).quiet ∙ c.if-examined.true) (c.in_ok-examined.ensures.begun b k.0).passed
+    k.1 (sym (c.in_ok-examined.ensures.begun b k.0).quiet ∙ c.if-examined.true)
+    (c.in_ok-examined.ensures.begun b k.0).passed
 
 pub returns-clause-text : goal.returns-clause-text
 returns-clause-text g c =
     let v = c.args.geometry.now.layout in
-    let all = λ (b : List ℕ). map of_tree (sized_dir_lines (volume_of v b) c.args.dir) in
-    let rest = λ (b : List ℕ). map of_tree
-    (entries_reported (volume_of v b) c.args.dir (passed_of c.begin_directory.new.workspace)
-    (roled_entries (volume_of v b) c.args.dir)) in
-    of_last _ _ rest rest all _ _ _ c.report_directory.result
-    (of_part _ all (λ b. map of_tree (dir_starts (volume_of v b) c.args.dir)) rest all _ _ _ (of_begins _ all _)
+    of_last _ _ _ _ _ _ _ _ c.report_directory.result
+    (of_part _ _ _ _ _ _ _ _ (of_begins _ _ _)
     (λ b k. reported_parts (volume_of v b) c.args.dir (passed_of c.args.workspace.now)
     (passed_of c.begin_directory.new.workspace)
     (directory_is (volume_of v b) c.args.dir c.requires.dir k.0.dir) k.1 (c.in_ok-examined.ensures.begun b k.0).passed)

@@ -2,8 +2,8 @@ use Rattle.std.proofs.Common.{sym, ap, ◌∙◌, option_map}
 use Rattle.ffs_volume.specs.Directories.Entries.{entry_at}
 use Rattle.ffs_layout.specs.Entry.{entry_value}
 use Rattle.ffs_pathnames.proofs.FirstTwo.{none_found, first_found, second_found}
-use Rattle.ffs_pathnames.proofs.check.first_two.Goals as goal
 use Rattle.ffs_names.proofs.PlacesNoted.{none_there as none}
+use Rattle.ffs_pathnames.proofs.check.first_two.Goals as goal
 
 pub returns-in-None-clause-first : goal.returns-in-None-clause-first
 returns-in-None-clause-first c =

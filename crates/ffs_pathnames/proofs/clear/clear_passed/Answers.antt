@@ -1,7 +1,6 @@
 use Rattle.std.proofs.Common.{refl, ap, ◌∙◌, not, ◌&&◌}
 use Rattle.std.proofs.lemmas.List.{with_items_is}
-use Rattle.ffs_workspace.specs.Holds.{bool_at}
-use Rattle.ffs_workspace.proofs.PlaceLaws.{filled_noted}
+use Rattle.ffs_workspace.{specs.Holds.bool_at, proofs.PlaceLaws.filled_noted}
 use Rattle.ffs_survey.specs.Survey.{suspect_at}
 use Rattle.ffs_pathnames.proofs.StampLaws.{none_due, none_stamped}
 use Rattle.ffs_pathnames.proofs.clear.clear_passed.Goals as goal

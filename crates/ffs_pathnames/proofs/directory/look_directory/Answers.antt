@@ -1,18 +1,12 @@
-use Rattle.std.proofs.Common.{◌≡◌, refl, sym, ap, subst, ◌∙◌, ℕ, List, ◌∷◌, Some, arith}
-use Rattle.std.proofs.lemmas.Result.{err_from_is_err_and}
-use Rattle.std.specs.Prelude.{◌==◌, ◌||◌}
+use Rattle.std.proofs.Common.{◌≡◌, refl, sym, ap, subst, ◌∙◌, ℕ, List, ◌∷◌, Some, arith, ◌==◌, ◌||◌}
+use Rattle.std.{proofs.lemmas.Result.err_from_is_err_and, specs.List.flat_map, specs.List.find}
 use Rattle.ffs_image.specs.Device.{Faulted}
-use Rattle.std.specs.List.{flat_map, find}
-use Rattle.ffs_volume.specs.Directories.Entries.{Chunk, chunk_of}
-use Rattle.ffs_volume.specs.Directories.Roles.{roled_chunk}
-use Rattle.ffs_volume.specs.Directories.PathnameCheck.{are_sound}
+use Rattle.ffs_volume.specs.Directories.{Entries.Chunk, Entries.chunk_of, Roles.roled_chunk, PathnameCheck.are_sound}
 use Rattle.ffs_names.specs.Readings.{rest, gap_left}
 use Rattle.ffs_walk.specs.Windows.{WindowHolds}
-use Rattle.ffs_pathnames.specs.PassedNames.{are_quiet, after_looks}
-use Rattle.ffs_pathnames.specs.Sees.{stamps_in}
-use Rattle.ffs_pathnames.specs.Reads.{chunks_read, start_chunk}
-use Rattle.ffs_pathnames.proofs.Directories.{chunk_quiet, chunk_stamps, chunk_sound, all_quiet, all_stamps, all_sound}
-use Rattle.ffs_pathnames.proofs.ReadyLaws.{others_stay}
+use Rattle.ffs_pathnames.specs.{PassedNames.are_quiet, PassedNames.after_looks, Sees.stamps_in, Reads.chunks_read}
+use Rattle.ffs_pathnames.{specs.Reads.start_chunk, proofs.ReadyLaws.others_stay}
+use Rattle.ffs_pathnames.proofs.Looking.{chunk_quiet, chunk_stamps, chunk_sound, all_quiet, all_stamps, all_sound}
 use Rattle.ffs_pathnames.proofs.directory.look_directory.Goals as goal
 
 pub chunks-init : goal.chunks-init
@@ -43,7 +37,7 @@ pub chunks-preserved : goal.chunks-preserved
 chunks-preserved g c =
     let inv = c.chunks.invariant in
     let old = stamps_in c.args.inodes.now c.chunks.words.items in
-    let new = stamps_in c.args.inodes.now c.look_chunk-looked.new.words.items in
+    let look = c.look_chunk-looked.ensures.look in
     let now = λ (b : List ℕ) (t : (g.I.Image.device c.args.image.now).contents ≡ Some b). ap (λ d. d.contents) inv.same
     ∙ t in
     let read = rw c.in-Some.is at c.in_ok-offset.ensures.chunk in
@@ -59,16 +53,11 @@ chunks-preserved g c =
       places = λ x. c.look_chunk-looked.ensures.places x ∙ inv.places x;
       others = others_stay c.args.windows.now c.chunks.windows c.next.new.blocks c.next.new.window inv.others;
       ready = rw inv.geometry at c.in_ok-offset.ensures.leaves.ready;
-      quiet = λ b t v s h. chunk_quiet v c.args.directory.now.number old new
-          (rest b c.chunks.chunks) (rest b c.next.new.self) here
-          _ c.chunks.quiet c.look_chunk-looked.result.quiet (next b t) (c.look_chunk-looked.ensures.look.quiet v s)
-          (c.look_chunk-looked.ensures.look.stamps v s) (inv.quiet b t v s h);
-      stamps = λ b t v s h. chunk_stamps v c.args.directory.now.number old new _
-          (rest b c.chunks.chunks) (rest b c.next.new.self) here
-          (next b t) (c.look_chunk-looked.ensures.look.stamps v s) (inv.stamps b t v s h);
-      sound = λ b t h. chunk_sound (rest b c.chunks.chunks) (rest b c.next.new.self) here _ c.chunks.sound
-          c.look_chunk-looked.result.sound
-          (next b t) c.look_chunk-looked.ensures.look.sound (inv.sound b t h);
+      quiet = λ b t v s h. chunk_quiet v c.args.directory.now.number old c.chunks.quiet (next b t) (look.quiet v s)
+          (look.stamps v s) (inv.quiet b t v s h);
+      stamps = λ b t v s h. chunk_stamps v c.args.directory.now.number old (next b t) (look.stamps v s)
+          (inv.stamps b t v s h);
+      sound = λ b t h. chunk_sound c.chunks.sound (next b t) look.sound (inv.sound b t h);
       gap = λ b t. inv.gap b t ∙ sym (read b (now b t)).gap;
       started = λ b t h. inv.started b t h ∙ (ap (λ l. start_chunk l c.chunks.started order c.chunks.start) (next b t)
           ∙ c.keep_start-started.ensures order (rest b c.next.new.self));
@@ -81,17 +70,14 @@ chunks-preserved g c =
 pub returns-clause-found : goal.returns-clause-found
 returns-clause-found g c = λ b t.
     let inv = c.chunks.invariant in
-    let old = stamps_in c.args.inodes.now c.chunks.words.items in
     let now = ap (λ d. d.contents) inv.same ∙ t in
     let later = ap (λ d. d.contents) (c.in_ok-offset.ensures.leaves.read ∙ inv.same) ∙ t in
     let read = (rw c.in_default.is at c.in_ok-offset.ensures.chunk) b now in
     let none = read.chunks.0 in
     record {
-      quiet = λ v s h. all_quiet v c.args.directory.now.number old (rest b c.chunks.chunks) _ c.chunks.quiet none
-          (inv.quiet b t v s h);
-      stamps = λ v s h. all_stamps v c.args.directory.now.number old _ (rest b c.chunks.chunks) none (inv.stamps b t v s
-          h);
-      sound = λ h. all_sound (rest b c.chunks.chunks) _ c.chunks.sound none (inv.sound b t h);
+      quiet = λ v s h. all_quiet v c.args.directory.now.number _ c.chunks.quiet none (inv.quiet b t v s h);
+      stamps = λ v s h. all_stamps v c.args.directory.now.number _ none (inv.stamps b t v s h);
+      sound = λ h. all_sound c.chunks.sound none (inv.sound b t h);
       gap = c.in_ok-gap.ensures.gap b later ∙ (read.gap ∙ sym (inv.gap b t));
       started = λ h. inv.started b t h
           ∙ ap (λ l. start_chunk l c.chunks.started c.args.geometry.now.layout.order c.chunks.start) none;

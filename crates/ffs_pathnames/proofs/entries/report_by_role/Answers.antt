@@ -1,7 +1,6 @@
 use Rattle.std.proofs.Common.{refl, []}
 use Rattle.ffs_report.proofs.Reports.{said_none}
-use Rattle.ffs_pathnames.proofs.LineCounts.{few_none}
-use Rattle.ffs_pathnames.specs.PassedNames.{roled_reported}
+use Rattle.ffs_pathnames.{proofs.LineCounts.few_none, specs.PassedNames.roled_reported}
 use Rattle.ffs_pathnames.proofs.entries.report_by_role.Goals as goal
 
 pub returns-in-Empty-clause-lines : goal.returns-in-Empty-clause-lines

@@ -1,22 +1,17 @@
-use Rattle.std.proofs.Common.{◌+◌, refl, ap, ◌∙◌, arith, ℕ, List, [], map, Err}
+use Rattle.std.proofs.Common.{refl, ap, ◌∙◌, arith, ℕ, List, [], map, Err}
 use Rattle.std.proofs.lemmas.Result.{err_from_is_err_and}
-use Rattle.ffs_volume.specs.Directories.Entries.{entries_of}
+use Rattle.ffs_volume.specs.Directories.{Entries.entries_of, Roles.RoledEntry, Roles.roled_from, Volumes.volume_of}
 use Rattle.ffs_volume.specs.Messages.Kinds.{of_tree}
-use Rattle.ffs_volume.specs.Directories.Roles.{RoledEntry, roled_from}
-use Rattle.ffs_volume.specs.Directories.Volumes.{volume_of}
 use Rattle.ffs_layout.specs.Entry.{entry_value}
 use Rattle.ffs_report.proofs.Reporting.{of_begins, of_same, of_part, of_fault, said_knows, reports_knowing}
-use Rattle.ffs_pathnames.specs.Gathers.{passed_of}
-use Rattle.ffs_pathnames.specs.DirectoryContext.{DirectoryContext}
-use Rattle.ffs_pathnames.specs.PassedNames.{after_roled, after_entries, roled_reported, entries_reported}
-use Rattle.ffs_pathnames.proofs.Begun.{image_same}
+use Rattle.ffs_pathnames.specs.{Gathers.passed_of, DirectoryContext.DirectoryContext, PassedNames.after_entries}
+use Rattle.ffs_pathnames.{specs.PassedNames.entries_reported, proofs.Begun.image_same, proofs.StampLaws.keep_more}
+use Rattle.ffs_pathnames.proofs.Passing.{knows_on, entry_reported, entry_passed}
+use Rattle.ffs_pathnames.proofs.{StampLaws.noted_kept, Looking.seen_next, Looking.none_left}
 use Rattle.ffs_pathnames.proofs.LineCounts.{entry_counted, has_begun, read_all, read_more}
-use Rattle.ffs_pathnames.proofs.Looking.{roled_at_place, seen_next, none_left}
 use Rattle.ffs_workspace.proofs.Leaving.{leaves_all, leaves_more}
-use Rattle.ffs_pathnames.proofs.Passing.{entry_reported, entry_passed, knows_on}
-use Rattle.ffs_pathnames.proofs.StampLaws.{keep_more, noted_kept}
-use Rattle.ffs_pathnames.proofs.entries.report_chunk.Goals as goal
 use Rattle.ffs_names.proofs.PlacesNoted.{none_there as none}
+use Rattle.ffs_pathnames.proofs.entries.report_chunk.Goals as goal
 
 pub entries-init : goal.entries-init
 entries-init g c =
@@ -47,20 +42,11 @@ returns-in_err-report_entry-clause-lines g c = record {
       let e = entry_value c.in-Some.entry in
       let seen : RoledEntry = record { role = c.role_of.result; entry = e } in
       let m = passed_of c.entries.workspace in
-      let here = roled_at_place v.order x.bytes.now x.first c.entries.index c.entries.place in
-      let there = roled_at_place v.order x.bytes.now x.first (c.entries.index + 1)
-      (c.entries.place + c.in-Some.entry.length) in
       let next = seen_next v.order x.bytes.now x.first c.entries.index c.entries.place e c.role_of.result
       c.in-Some.ensures.some c.role_of.ensures in
       let p = err_from_is_err_and c.from_residual.result c.from_residual.ensures.1 in
-      rw (p.1, p.2) (of_fault (Unit {0}) (Unit {0}) _
-      (λ (b : List ℕ). map of_tree (entries_reported (volume_of v b) x.dir m here))
-      (λ (b : List ℕ). map of_tree (roled_reported (volume_of v b) x.dir m seen))
-      (λ (b : List ℕ). map of_tree
-      (entries_reported (volume_of v b) x.dir (after_roled (volume_of v b) x.dir m seen) there)) _ _ _ _
-      c.in_err-report_entry.field-0.0
-      inv.said (λ b k. entry_reported (volume_of v b) x.dir m (after_roled (volume_of v b) x.dir m seen) seen
-      here there next refl)
+      rw (p.1, p.2) (of_fault (Unit {0}) (Unit {0}) _ _ _ _ _ _ _ _ c.in_err-report_entry.field-0.0
+      inv.said (λ b k. entry_reported (volume_of v b) x.dir m seen _ _ next refl)
       (reports_knowing (Unit {0}) _ _ _ _ _ (Err c.in_err-report_entry.field-0.0)
       (λ b k. record {
         knows = knows_on v _ _ c.args.workspace.now c.entries.workspace x.dir b
@@ -85,10 +71,7 @@ returns-in_err-report_entry-clause-lines g c = record {
       let next = seen_next v.order x.bytes.now x.first c.entries.index c.entries.place e c.role_of.result
       c.in-Some.ensures.some c.role_of.ensures in
       read_all (read_more _ _ (inv.counted b k noted)
-      (entry_counted (volume_of v b) x.dir m (after_roled (volume_of v b) x.dir m seen) seen
-      (roled_at_place v.order x.bytes.now x.first c.entries.index c.entries.place)
-      (roled_at_place v.order x.bytes.now x.first (c.entries.index + 1)
-      (c.entries.place + c.in-Some.entry.length)) next refl)
+      (entry_counted (volume_of v b) x.dir m seen _ _ next refl)
       (c.in_err-report_entry.ensures.lines.counted b
       (knows_on v _ _ c.args.workspace.now c.entries.workspace x.dir b (ap (λ d. d.contents) inv.device) inv.survey
       k)
@@ -119,10 +102,6 @@ entries-preserved g c =
     let e = entry_value c.in-Some.entry in
     let seen : RoledEntry = record { role = c.role_of.result; entry = e } in
     let m = passed_of c.entries.workspace in
-    let m' = passed_of c.report_entry.new.workspace in
-    let here = roled_at_place v.order x.bytes.now x.first c.entries.index c.entries.place in
-    let there = roled_at_place v.order x.bytes.now x.first (c.entries.index + 1)
-    (c.entries.place + c.in-Some.entry.length) in
     let next = seen_next v.order x.bytes.now x.first c.entries.index c.entries.place e c.role_of.result
     c.in-Some.ensures.some c.role_of.ensures in
     let low = c.in-Some.ensures.room.0 in
@@ -140,18 +119,16 @@ entries-preserved g c =
       places = keep_more _ _ _ inv.places ok.leaves.places;
       chunk = ok.chunk ∙ inv.chunk;
       path = λ b k. c.report_entry.ensures.lines.path b (record { knows = know b k.knows; path = inv.path b k });
-      passed = λ b k. entry_passed (volume_of v b) x.dir _ m m' seen here there next (ok.passed b (know b k))
+      passed = λ b k. entry_passed (volume_of v b) x.dir m next (ok.passed b (know b k))
           (inv.passed b k);
-      said = of_part _ (λ (b : List ℕ). map of_tree (entries_reported (volume_of v b) x.dir m here))
-          (λ (b : List ℕ). map of_tree (roled_reported (volume_of v b) x.dir m seen))
-          (λ (b : List ℕ). map of_tree (entries_reported (volume_of v b) x.dir m' there)) _ _ _ _ inv.said
-          (λ b k. entry_reported (volume_of v b) x.dir m m' seen here there next (ok.passed b (know b k.knows)))
+      said = of_part _ _ _ _ _ _ _ _ inv.said
+          (λ b k. entry_reported (volume_of v b) x.dir m seen _ _ next (ok.passed b (know b k.knows)))
           (said_knows _ _ _ _ _ _ (λ b k. record {
             knows = know b k.knows;
             path = inv.path b k;
           }) ok.lines.text);
       counted = λ b k noted. read_more _ _ (inv.counted b k noted)
-          (entry_counted (volume_of v b) x.dir m m' seen here there next (ok.passed b (know b k)))
+          (entry_counted (volume_of v b) x.dir m seen _ _ next (ok.passed b (know b k)))
           (ok.lines.counted b (know b k) (noted_kept v b _ _ inv.places noted));
     })
 
@@ -164,9 +141,7 @@ returns-clause-lines g c = record {
       let m = passed_of c.entries.workspace in
       let end = none_left v.order x.bytes.now x.first c.entries.index c.entries.place
       (none v.order x.bytes.now c.entries.place c.entry_at.result c.in_default.is c.entry_at.ensures.value) in
-      of_same _ (λ (b : List ℕ). map of_tree
-      (entries_reported (volume_of v b) x.dir m
-      (roled_at_place v.order x.bytes.now x.first c.entries.index c.entries.place))) (λ b. []) _ _ _
+      of_same _ _ (λ b. []) _ _ _
       inv.said
       (λ b k. ap (λ es. map of_tree (entries_reported (volume_of v b) x.dir m es)) end);
   path = c.entries.invariant.path;

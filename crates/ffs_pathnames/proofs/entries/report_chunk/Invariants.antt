@@ -1,21 +1,11 @@
 use Rattle.std.proofs.Common.{◌≡◌, ◌≤◌, ◌-◌, ℕ, List, length, map}
-use Rattle.ffs_volume.specs.Directories.Entries.{entries_of}
+use Rattle.ffs_volume.specs.Directories.{Entries.entries_of, Parents.graph_of, Roles.roled_from, Volumes.volume_of}
 use Rattle.ffs_volume.specs.Messages.Kinds.{of_tree}
-use Rattle.ffs_volume.specs.Directories.Parents.{graph_of}
-use Rattle.ffs_volume.specs.Directories.Roles.{roled_from}
-use Rattle.ffs_volume.specs.Directories.Volumes.{volume_of}
-use Rattle.ffs_report.specs.Known.{ForBytes}
-use Rattle.ffs_report.specs.PhaseOutcome.{SaidOf}
-use Rattle.ffs_report.specs.Progress.{progress}
-use Rattle.ffs_workspace.specs.Leaves.{LeavesSurvey}
-use Rattle.ffs_pathnames.specs.Ready.{ReadyWith}
-use Rattle.ffs_pathnames.specs.Gathers.{passed_of}
+use Rattle.ffs_report.specs.{Known.ForBytes, PhaseOutcome.SaidOf, Progress.progress}
+use Rattle.ffs_workspace.specs.{Leaves.LeavesSurvey, Places.AreNoted}
+use Rattle.ffs_pathnames.specs.{Ready.ReadyWith, Gathers.passed_of, Stamps.KeepPlaces, PassedNames.after_entries}
+use Rattle.ffs_pathnames.{specs.PassedNames.entries_reported, proofs.LineCounts.HasRead, proofs.Looking.roled_at_place}
 use Rattle.ffs_pathnames.specs.DirectoryContext.{BeginsPathOf, DirectoryContext, KnowsPath}
-use Rattle.ffs_pathnames.specs.PassedNames.{after_entries, entries_reported}
-use Rattle.ffs_workspace.specs.Places.{AreNoted}
-use Rattle.ffs_pathnames.specs.Stamps.{KeepPlaces}
-use Rattle.ffs_pathnames.proofs.LineCounts.{HasRead}
-use Rattle.ffs_pathnames.proofs.Looking.{roled_at_place}
 use Rattle.ffs_pathnames.proofs.entries.report_chunk.Given as goal
 
 abbrev pub invariant-entries : goal.invariant-entries

@@ -1,14 +1,11 @@
 use Rattle.std.proofs.Common.{ap, refl, ◌∙◌, rules}
-use Rattle.std.proofs.lemmas.List.{with_items_is}
-use Rattle.std.proofs.lemmas.Result.{err_from_is_err_and}
+use Rattle.std.proofs.lemmas.{List.with_items_is, Result.err_from_is_err_and}
 use Rattle.ffs_volume.specs.Directories.Volumes.{volume_of}
 use Rattle.ffs_workspace.specs.declared.workspace.Workspace.{Workspace}
-use Rattle.ffs_workspace.specs.Leaves.{LeavesSurvey}
 use Rattle.ffs_workspace.proofs.Leaving.{claims_left, survey_left, leaves_more, windows_leave}
 use Rattle.ffs_pathnames.specs.Gathers.{passed_of, roled_value}
-use Rattle.ffs_pathnames.proofs.Passed.{passes}
-use Rattle.ffs_pathnames.proofs.SeesLaws.{sees}
-use Rattle.ffs_pathnames.proofs.StampLaws.{keep_more, places_kept, windows_keep}
+use Rattle.ffs_pathnames.proofs.{Passing.passes, SeesLaws.sees}
+use Rattle.ffs_pathnames.proofs.StampLaws.{keep_more, names_leave, windows_keep}
 use Rattle.ffs_paths.proofs.Keeping.{kept_parent_on}
 use Rattle.ffs_pathnames.proofs.entries.report_entry.Goals as goal
 
@@ -29,19 +26,7 @@ returns-clause-leaves g c =
     let said = left.ready in
     let made = said.ready.made in
     let windows = said.ready.windows in
-    let surveyed : LeavesSurvey c.report_by_role.new.workspace _ = record {
-      claimed = refl;
-      kinds = refl;
-      marked = refl;
-      notes = refl;
-      references = refl;
-      named = refl;
-      reached = refl;
-      parents = refl;
-      runs_seen = refl;
-      runs_again = refl;
-      places = λ v b. places_kept v b _ _ c.pass.ensures.places;
-    } in
+    let surveyed = names_leave c.report_by_role.new.workspace _ refl c.pass.ensures.places in
     record {
       image = left.image;
       survey = leaves_more _ _ _ (windows_leave _ _ left.lists) surveyed;
@@ -49,30 +34,9 @@ returns-clause-leaves g c =
           c.pass.ensures.places;
       ready = record {
         ready = record {
-          made = record {
-            claimed = made.claimed;
-            duplicates = made.duplicates;
-            kinds = made.kinds;
-            marked = made.marked;
-            named = made.named;
-            reached = made.reached;
-            flags = search rules;
-            references = made.references;
-            notes = made.notes;
-            parents = made.parents;
-            queue = search rules;
-            table = made.table;
-            blocks = made.blocks;
-            chunk = made.chunk;
-            names = made.names;
-          };
+          made = search rules;
           volume = said.ready.volume;
-          windows = record {
-            table = windows.table;
-            blocks = windows.blocks;
-            chunk = windows.chunk;
-            names = windows.names;
-          };
+          windows = search rules;
         };
         kept_parent = kept_parent_on _ _ _ _ _ _ refl surveyed c.pass.ensures.places said.kept_parent;
       };
@@ -92,7 +56,6 @@ returns-clause-passed g c = λ b k.
       count = c.as_slice.ensures.len ∙ c.in_ok-report_by_role.ensures.leaves.ready.ready.made.kinds;
     }) (claims_left v b before here kept k.claims) (survey_left v b before here kept k.survey) in
     passes (volume_of v b) c.args.entry.now.dir (roled_value c.args.entry.now)
-    before.flags.items _ _ _ (passed_of before).stamps _ _ _
     (c.as_mut_slice.ensures.value ∙ ap (λ (w : Workspace). w.flags.items) left)
     (ap (λ (w : Workspace). (passed_of w).stamps) left)
     (c.pass.ensures.after (volume_of v b) shows)

@@ -1,25 +1,14 @@
 use Rattle.std.proofs.Common.{◌<◌, ◌^◌, refl, sym, ap, subst, ◌∙◌, ◌==◌, arith}
-use Rattle.std.proofs.lemmas.Result.{err_from_is_err_and}
-use Rattle.std.specs.List.{find}
+use Rattle.std.{proofs.lemmas.Result.err_from_is_err_and, specs.List.find}
 use Rattle.ffs_image.specs.Device.{Faulted}
-use Rattle.ffs_volume.specs.Directories.PathnameCheck.{are_sound}
-use Rattle.ffs_volume.specs.Blocks.Inodes.{inode_of}
-use Rattle.ffs_volume.specs.Directories.Volumes.{volume_of}
-use Rattle.ffs_workspace.specs.Notes.{cut_in}
-use Rattle.ffs_workspace.specs.Ready.{IsReady}
-use Rattle.ffs_workspace.specs.declared.workspace.Windows.{Windows}
-use Rattle.ffs_workspace.proofs.NoteLaws.{cut_is_noted}
-use Rattle.ffs_names.proofs.DirLaws.{dir_is, dir_size}
+use Rattle.ffs_volume.specs.{Directories.PathnameCheck.are_sound, Directories.Volumes.volume_of, Blocks.Inodes.inode_of}
+use Rattle.ffs_workspace.specs.{Notes.cut_in, Ready.IsReady, declared.workspace.Windows.Windows}
+use Rattle.ffs_workspace.proofs.{NoteLaws.cut_is_noted, Readiness.ready_table, Leaving.windows_leave}
+use Rattle.ffs_names.proofs.{DirLaws.dir_is, DirLaws.dir_size, DirCosts.cost_is as cost_of_dir, DirCosts.runs_are}
 use Rattle.ffs_names.specs.Windows.{CanReadChunks}
-use Rattle.ffs_names.proofs.DirCosts.{cost_is as cost_of_dir, runs_are}
-use Rattle.ffs_workspace.proofs.Readiness.{ready_table}
-use Rattle.ffs_workspace.proofs.Leaving.{windows_leave}
-use Rattle.ffs_pathnames.specs.Gathers.{passed_of}
-use Rattle.ffs_pathnames.specs.PassedNames.{are_quiet, after_looks}
-use Rattle.ffs_pathnames.proofs.ChunkLaws.{chunks_are, gap_is, seen_are}
-use Rattle.ffs_pathnames.proofs.ReadyLaws.{can_read_in, ready_looked}
-use Rattle.ffs_pathnames.proofs.SeesLaws.{sees}
-use Rattle.ffs_pathnames.proofs.StampLaws.{queue_leaves}
+use Rattle.ffs_pathnames.specs.{Gathers.passed_of, PassedNames.are_quiet, PassedNames.after_looks}
+use Rattle.ffs_pathnames.proofs.SeesLaws.{chunks_are, gap_is, seen_are, sees}
+use Rattle.ffs_pathnames.proofs.{ReadyLaws.can_read_in, ReadyLaws.ready_looked, StampLaws.queue_leaves}
 use Rattle.ffs_pathnames.proofs.examine.examine.Goals as goal
 
 pub returns-clause-found : goal.returns-clause-found
@@ -35,7 +24,7 @@ returns-clause-found g c = λ b k.
     let inode = c.in_ok-inode.ensures.reads.inode b k.gives_bytes in
     let small = subst (λ i. i.size < 2 ^ 31) (sym inode) (dir_size v (inode_of v b c.args.dir) class) in
     let cut = c.cut_of-cut.ensures ∙ (ap cut_in (h.notes c.args.dir) ∙ cut_is_noted v b c.args.dir sound) in
-    let chunks = chunks_are v b c.args.dir c.in_ok-inode.inode c.cut_of-cut.result sound number inode cut in
+    let chunks = chunks_are v b c.args.dir sound number inode cut in
     let shows = sees v b c.args.workspace.now _ (record {
       kinds = c.as_slice.ensures.value;
       marked = c.as_slice-2.ensures.value;
@@ -45,7 +34,7 @@ returns-clause-found g c = λ b k.
     let found = c.in_ok-look.ensures.found b t1 in
     record {
       inode = inode;
-      gap = found.gap ∙ gap_is v b c.args.dir c.in_ok-inode.inode c.cut_of-cut.result sound number inode cut;
+      gap = found.gap ∙ gap_is v b c.args.dir sound number inode cut;
       sound = found.sound small ∙ ap are_sound chunks;
       started = sym (ap (find (λ x. x.offset == 0)) chunks) ∙ found.started small;
       quiet = found.quiet (volume_of v b) shows small

@@ -1,6 +1,6 @@
 use Rattle.std.proofs.Common.{sym, ◌∙◌, option_map}
 use Rattle.ffs_layout.specs.Entry.{entry_value}
-use Rattle.ffs_pathnames.proofs.InOrder.{in_order}
+use Rattle.ffs_pathnames.proofs.HeaderLaws.{in_order}
 use Rattle.ffs_pathnames.proofs.header.is_in_order.Goals as goal
 
 pub returns-clause-quiet : goal.returns-clause-quiet

@@ -1,18 +1,16 @@
-use Rattle.std.proofs.Common.{◌≡◌, ◌+◌, ◌&&◌, ◌∙◌, arith}
+use Rattle.std.proofs.Common.{sym, ◌≡◌, ◌&&◌, ◌∙◌, arith}
+use Rattle.std.proofs.Math.Bool.{and-true}
 use Rattle.ffs_volume.specs.Directories.Roles.{RoledEntry, Volume}
 use Rattle.ffs_layout.specs.Entry.{entry_value}
-use Rattle.ffs_pathnames.specs.PassedNames.{is_quiet}
-use Rattle.ffs_pathnames.specs.Sees.{Sees, stamps_in}
-use Rattle.ffs_pathnames.proofs.Looking.{roled_at_place, seen_next, quiet_on, stamps_on, length_on, quiet_ends}
-use Rattle.ffs_pathnames.proofs.Looking.{stamps_end, length_ends}
-use Rattle.ffs_pathnames.proofs.look.look_chunk.Goals as goal
+use Rattle.ffs_pathnames.specs.{PassedNames.is_quiet, Sees.Sees, Sees.stamps_in}
+use Rattle.ffs_pathnames.proofs.Looking.{seen_next, none_left, quiet_on, stamps_on, length_on, length_ends}
 use Rattle.ffs_pathnames.proofs.look.look_chunk.Goals.{then-quiet, else-quiet}
 use Rattle.ffs_names.proofs.PlacesNoted.{none_there as none}
+use Rattle.ffs_pathnames.proofs.look.look_chunk.Goals as goal
 
 pub entries-preserved : goal.entries-preserved
 entries-preserved c =
     let old = stamps_in c.args.inodes.now c.entries.words.items in
-    let new = stamps_in c.args.inodes.now c.stamp.new.words.items in
     let e = entry_value c.in-Some.entry in
     let there = c.in-Some.ensures.some in
     let room = c.in-Some.ensures.room in
@@ -31,29 +29,19 @@ entries-preserved c =
       index = omega arith;
       words_long = c.stamp.ensures.words_long ∙ c.entries.invariant.words_long;
       places = λ x. c.stamp.ensures.places x ∙ c.entries.invariant.places x;
-      quiet = λ v s. quiet_on v c.args.dir old new seen
-          (roled_at_place c.args.order c.args.chunk.now c.args.first c.entries.index c.entries.place)
-          (roled_at_place c.args.order c.args.chunk.now c.args.first (c.entries.index + 1)
-          (c.entries.place + c.in-Some.entry.length))
-          _ c.entries.quiet c.if-quiet.quiet next (still v s)
-          (c.stamp.ensures.after v s) (c.entries.invariant.quiet v s);
-      stamps = λ v s. stamps_on v c.args.dir old new _ seen
-          (roled_at_place c.args.order c.args.chunk.now c.args.first c.entries.index c.entries.place)
-          (roled_at_place c.args.order c.args.chunk.now c.args.first (c.entries.index + 1)
-          (c.entries.place + c.in-Some.entry.length))
-          next (c.stamp.ensures.after v s) (c.entries.invariant.stamps v s);
-      sound = length_on c.args.order c.args.chunk.now c.entries.place _ e there c.entries.invariant.sound;
+      quiet = λ v s. quiet_on v c.args.dir old c.entries.quiet next (still v s) (c.stamp.ensures.after v s)
+          (c.entries.invariant.quiet v s);
+      stamps = λ v s. stamps_on v c.args.dir old next (c.stamp.ensures.after v s) (c.entries.invariant.stamps v s);
+      sound = length_on c.args.order c.args.chunk.now c.entries.place e there c.entries.invariant.sound;
     })
 
 pub returns-clause-look : goal.returns-clause-look
 returns-clause-look c =
-    let old = stamps_in c.args.inodes.now c.entries.words.items in
     let end = none c.args.order c.args.chunk.now c.entries.place c.entry_at.result c.in_default.is
     c.entry_at.ensures.value in
+    let left = none_left c.args.order c.args.chunk.now c.args.first c.entries.index c.entries.place end in
     record {
-      quiet = λ v s. quiet_ends v c.args.dir old c.args.first c.entries.index c.args.order
-          c.args.chunk.now c.entries.place _ c.entries.quiet end (c.entries.invariant.quiet v s);
-      stamps = λ v s. stamps_end v c.args.dir old _ c.args.first c.entries.index c.args.order
-          c.args.chunk.now c.entries.place end (c.entries.invariant.stamps v s);
-      sound = length_ends c.args.order c.args.chunk.now c.entries.place _ end c.entries.invariant.sound;
+      quiet = λ v s. sym ((rw left at c.entries.invariant.quiet v s) ∙ and-true c.entries.quiet);
+      stamps = λ v s. sym (rw left at c.entries.invariant.stamps v s);
+      sound = length_ends c.args.order c.args.chunk.now c.entries.place end c.entries.invariant.sound;
     }

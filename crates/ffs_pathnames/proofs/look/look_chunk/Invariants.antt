@@ -1,11 +1,7 @@
-use Rattle.std.proofs.Common.{◌≡◌, ◌≤◌, ◌-◌, ◌+◌, ◌&&◌, vec_len}
-use Rattle.std.specs.Prelude.{sum_by}
-use Rattle.ffs_volume.specs.Directories.Entries.{entries_from}
-use Rattle.ffs_volume.specs.Directories.Roles.{Volume}
-use Rattle.ffs_pathnames.specs.PassedNames.{are_quiet, after_looks}
-use Rattle.ffs_pathnames.specs.Sees.{Sees, stamps_in}
-use Rattle.ffs_pathnames.specs.Stamps.{KeepPlaces}
-use Rattle.ffs_pathnames.proofs.Looking.{roled_at_place}
+use Rattle.std.proofs.Common.{◌≡◌, ◌≤◌, ◌-◌, ◌+◌, ◌&&◌, vec_len, sum_by}
+use Rattle.ffs_volume.specs.Directories.{Entries.entries_from, Roles.Volume}
+use Rattle.ffs_pathnames.specs.{PassedNames.are_quiet, PassedNames.after_looks, Sees.Sees, Sees.stamps_in}
+use Rattle.ffs_pathnames.{specs.Stamps.KeepPlaces, proofs.Looking.roled_at_place}
 use Rattle.ffs_pathnames.proofs.look.look_chunk.Given as goal
 
 abbrev pub invariant-entries : goal.invariant-entries

@@ -1,14 +1,9 @@
 use Rattle.std.proofs.Common.{ap, sym, ◌∙◌}
-use Rattle.std.proofs.lemmas.Bool.{both_ways}
-use Rattle.std.proofs.lemmas.Result.{err_from_is_err_and}
-use Rattle.ffs_volume.specs.Directories.Parents.{graph_of}
-use Rattle.ffs_volume.specs.Directories.Volumes.{volume_of}
-use Rattle.ffs_paths.specs.LastPaths.{last_path}
+use Rattle.std.proofs.lemmas.{Bool.both_ways, Result.err_from_is_err_and}
+use Rattle.ffs_volume.specs.Directories.{Parents.graph_of, Volumes.volume_of}
+use Rattle.ffs_paths.{specs.LastPaths.last_path, proofs.Rooms.entry_in_room}
 use Rattle.ffs_paths.proofs.Keeping.{leaves_with, no_reads}
-use Rattle.ffs_paths.proofs.Rooms.{entry_in_room}
-use Rattle.ffs_pathnames.proofs.Carrying.{if_ok}
-use Rattle.ffs_pathnames.proofs.Enough.{enough, path_asks_attr}
-use Rattle.ffs_pathnames.proofs.ReadyLaws.{leaves_read}
+use Rattle.ffs_pathnames.proofs.{Carrying.if_ok, VerdictLaws.enough, VerdictLaws.path_asks_attr, ReadyLaws.leaves_read}
 use Rattle.ffs_pathnames.proofs.one_entry.gather.Goals as goal
 
 pub returns-clause-enough : goal.returns-clause-enough

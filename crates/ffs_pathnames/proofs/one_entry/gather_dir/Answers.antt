@@ -1,7 +1,6 @@
 use Rattle.std.proofs.Common.{ap, ◌∙◌}
 use Rattle.std.proofs.lemmas.Result.{err_from_is_err_and}
-use Rattle.ffs_pathnames.proofs.Carrying.{if_ok, on_all}
-use Rattle.ffs_pathnames.proofs.ReadyLaws.{leaves_read}
+use Rattle.ffs_pathnames.proofs.{Carrying.if_ok, Carrying.on_all, ReadyLaws.leaves_read}
 use Rattle.ffs_pathnames.proofs.one_entry.gather_dir.Goals as goal
 
 pub put_path-requires : goal.put_path-requires

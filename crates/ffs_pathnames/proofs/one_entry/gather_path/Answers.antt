@@ -1,7 +1,7 @@
 use Rattle.std.proofs.lemmas.Bool.{both_ways}
 use Rattle.ffs_paths.proofs.Keeping.{leaves_with, no_reads}
-use Rattle.ffs_pathnames.proofs.one_entry.gather_path.Goals as goal
 use Rattle.ffs_volume.proofs.Results.{on_ok}
+use Rattle.ffs_pathnames.proofs.one_entry.gather_path.Goals as goal
 
 pub returns-then-not-wanted-clause-path : goal.returns-then-not-wanted-clause-path
 returns-then-not-wanted-clause-path g c = λ b t h r q. absurd (both_ways _ c.if-not-wanted.true q)

@@ -39,7 +39,8 @@ returns g c =
         lists = refl;
         chunk = refl;
         ready = ready_table c.args.geometry.now.layout (g.I.Image.device c.args.image.now) _ c.args.workspace.now
-            c.inode_by_part.new.self (ap (λ d. d.contents) ok) (ap (λ d. d.size) ok) c.inode_by_part.ensures.reads.kept c.requires.ready;
+            c.inode_by_part.new.self (ap (λ d. d.contents) ok)
+            (ap (λ d. d.size) ok) c.inode_by_part.ensures.reads.kept c.requires.ready;
         read = ok;
       };
       counted = record { count = c.in_ok-inode.ensures.counted; blocks = refl };

@@ -1,14 +1,23 @@
-use Rattle.std.proofs.Common.{sym, ap, ◌∙◌, ℕ, List, [], map, append-nil}
+use Rattle.std.proofs.Common.{sym, ℕ, List, [], map, append-nil, ◌≡◌, ◌++◌}
 use Rattle.std.proofs.lemmas.Result.{err_from_is_err_and}
-use Rattle.ffs_volume.specs.Messages.Kinds.{TreeMessage, of_tree}
-use Rattle.ffs_volume.specs.Directories.PathnameCheck.{attributes, extra_lines}
-use Rattle.ffs_volume.specs.Directories.Parents.{graph_of}
-use Rattle.ffs_volume.specs.Directories.Paths.{dir_path}
-use Rattle.ffs_volume.specs.Directories.Volumes.{volume_of}
+use Rattle.ffs_volume.specs.Messages.Kinds.{of_tree}
+use Rattle.ffs_volume.specs.Directories.{PathnameCheck.extra_lines, Volumes.volume_of}
 use Rattle.ffs_layout.specs.Entry.{entry_value}
 use Rattle.ffs_report.proofs.Reporting.{of_begins, of_says, of_stops, of_reads}
 use Rattle.ffs_pathnames.proofs.LineCounts.{by_line, extra_some, knows_places}
+use Rattle.ffs_pathnames.proofs.one_entry.report_extra.Given.{Over}
+use Rattle.ffs_pathnames.proofs.one_entry.report_extra.Goals.{After-say_extra}
+use Rattle.ffs_pathnames.specs.{DirectoryContext.KnowsPath, Gathers.extra_reported}
 use Rattle.ffs_pathnames.proofs.one_entry.report_extra.Goals as goal
+
+-- the line is that of what was gathered
+line_is : (g : Over) (c : After-say_extra g) (b : List ℕ) → KnowsPath c.args.geometry.now.layout
+    (g.I.Image.device c.args.image.now).contents c.args.workspace.now c.args.entry.now.dir c.args.texts.now b →
+    map of_tree (extra_reported (volume_of c.args.geometry.now.layout b) c.args.entry.now)
+    ≡ map of_tree (extra_lines c.in_ok-attr.attr c.as_slice.result.now (entry_value c.args.entry.now.entry)) ++ []
+line_is g c b k =
+    rw (c.as_slice.ensures.value, c.in_ok-attr.ensures.text b k, c.in_ok-attr.ensures.attr b k.knows.gives_bytes)
+    (sym (append-nil _))
 
 pub returns-in_err-attr-clause-lines : goal.returns-in_err-attr-clause-lines
 returns-in_err-attr-clause-lines g c = record {
@@ -25,50 +34,22 @@ returns-in_err-attr-clause-lines g c = record {
 pub returns-in_err-say_extra-clause-lines : goal.returns-in_err-say_extra-clause-lines
 returns-in_err-say_extra-clause-lines g c = record {
   text =
-      let v = c.args.geometry.now.layout in
-      let x = c.args.entry.now in
-      let e = entry_value x.entry in
-      let all = λ (b : List ℕ). map of_tree
-      (extra_lines (attributes (volume_of v b) x.dir) (dir_path (graph_of (volume_of v b)) x.dir) e) in
-      let ms : List TreeMessage = extra_lines c.in_ok-attr.attr c.as_slice.result.now e in
       let p = err_from_is_err_and c.from_residual-in_err-say_extra.result c.from_residual-in_err-say_extra.ensures.1 in
-      rw (p.1, p.2) (of_stops _ all (λ b. []) _ (map of_tree ms) _ _ _ (of_begins _ all _)
-      (λ b k. ap (map of_tree)
-      (ap (λ q. extra_lines q (dir_path (graph_of (volume_of v b)) x.dir) e)
-      (sym (c.in_ok-attr.ensures.attr b k.knows.gives_bytes))
-      ∙ ap (λ q. extra_lines c.in_ok-attr.attr q e)
-      (sym (c.as_slice.ensures.value ∙ c.in_ok-attr.ensures.text b k)))
-      ∙ sym (append-nil (map of_tree ms)))
-      c.in_err-say_extra.ensures);
+      rw (p.1, p.2) (of_stops _ _ (λ b. []) _ _ _ _ _ (of_begins _ _ _)
+      (line_is g (goal.at.returns-in_err-say_extra-clause-lines g c).After-say_extra) c.in_err-say_extra.ensures);
   path = c.gather_extra.ensures.path;
-  counted = λ b k noted.
-      let x = c.args.entry.now in
-      by_line _ (c.in_ok-attr.ensures.counted b (knows_places _ _ _ _ b k noted))
-      (extra_some _ _ (entry_value x.entry));
+  counted = λ b k noted. by_line _ (c.in_ok-attr.ensures.counted b (knows_places _ _ _ _ b k noted))
+      (extra_some _ _ (entry_value c.args.entry.now.entry));
 }
 
 pub returns-clause-lines : goal.returns-clause-lines
 returns-clause-lines g c = record {
   text =
-      let v = c.args.geometry.now.layout in
-      let x = c.args.entry.now in
-      let e = entry_value x.entry in
-      let all = λ (b : List ℕ). map of_tree
-      (extra_lines (attributes (volume_of v b) x.dir) (dir_path (graph_of (volume_of v b)) x.dir) e) in
-      let ms : List TreeMessage = extra_lines c.in_ok-attr.attr c.as_slice.result.now e in
-      of_says _ all (λ b. []) _ (map of_tree ms) _ _ _ (of_begins _ all _)
-      (λ b k. ap (map of_tree)
-      (ap (λ q. extra_lines q (dir_path (graph_of (volume_of v b)) x.dir) e)
-      (sym (c.in_ok-attr.ensures.attr b k.knows.gives_bytes))
-      ∙ ap (λ q. extra_lines c.in_ok-attr.attr q e)
-      (sym (c.as_slice.ensures.value ∙ c.in_ok-attr.ensures.text b k)))
-      ∙ sym (append-nil (map of_tree ms)))
-      c.in_ok-say_extra.ensures;
+      of_says _ _ (λ b. []) _ _ _ _ _ (of_begins _ _ _)
+      (line_is g (goal.at.returns-clause-lines g c).After-say_extra) c.in_ok-say_extra.ensures;
   path = c.gather_extra.ensures.path;
-  counted = λ b k noted.
-      let x = c.args.entry.now in
-      by_line _ (c.in_ok-attr.ensures.counted b (knows_places _ _ _ _ b k noted))
-      (extra_some _ _ (entry_value x.entry));
+  counted = λ b k noted. by_line _ (c.in_ok-attr.ensures.counted b (knows_places _ _ _ _ b k noted))
+      (extra_some _ _ (entry_value c.args.entry.now.entry));
 }
 
 -- a path and an inode are read for one line

@@ -1,9 +1,7 @@
 use Rattle.std.proofs.Common.{refl, sym, ap, ◌∙◌}
 use Rattle.ffs_volume.specs.Directories.Volumes.{volume_of}
 use Rattle.ffs_layout.specs.Entry.{entry_value}
-use Rattle.ffs_pathnames.specs.Gathers.{passed_of}
-use Rattle.ffs_pathnames.specs.PassedNames.{plain_reported}
-use Rattle.ffs_pathnames.proofs.SeesLaws.{sees}
+use Rattle.ffs_pathnames.{specs.Gathers.passed_of, specs.PassedNames.plain_reported, proofs.SeesLaws.sees}
 use Rattle.ffs_pathnames.proofs.one_entry.verdict_of.Goals as goal
 
 pub returns-clause-verdict : goal.returns-clause-verdict

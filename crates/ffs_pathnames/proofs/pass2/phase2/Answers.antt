@@ -1,25 +1,35 @@
-use Rattle.std.proofs.Common.{[], ◌∷◌, List, ℕ, map, refl, ap, ◌∙◌, inl, inr, arith}
+use Rattle.std.proofs.Common.{[], ◌∷◌, List, ℕ, map, refl, ap, ◌∙◌, inl, inr, arith, ◌≡◌, Some}
 use Rattle.std.proofs.lemmas.Result.{err_from_is_err_and}
 use Rattle.ffs_report.proofs.Reporting.{of_begins, of_says, of_stops, of_reads, of_last, reports_knowing}
-use Rattle.ffs_volume.specs.Messages.Kinds.{of_tree, phase2}
-use Rattle.ffs_volume.specs.Directories.PathnameCheck.{pathname_lines}
-use Rattle.ffs_volume.specs.Directories.Volumes.{volume_of}
-use Rattle.ffs_pathnames.specs.declared.pass2.Root.{Root}
-use Rattle.ffs_pathnames.proofs.Carrying.{on_all, if_ok, at_fault, at_fault_more, claims_untouched, before_first}
-use Rattle.ffs_pathnames.proofs.Carrying.{references_on}
+use Rattle.ffs_volume.specs.{Messages.Kinds.of_tree, Messages.Kinds.phase2, Directories.PathnameCheck.pathname_lines}
+use Rattle.ffs_volume.{specs.Directories.Volumes.volume_of, proofs.RunBounds.runs_bounded, proofs.Results.on_ok}
+use Rattle.ffs_pathnames.{specs.declared.pass2.Root.Root, specs.Before.IsBefore, proofs.Carrying.at_fault}
+use Rattle.ffs_pathnames.proofs.Carrying.{at_fault_more, claims_untouched, before_first, references_on, on_all, if_ok}
 use Rattle.ffs_pathnames.proofs.SilentLaws.{calm_silent}
-use Rattle.ffs_volume.proofs.RunBounds.{runs_bounded}
-use Rattle.ffs_volume.proofs.Results.{on_ok}
+use Rattle.ffs_pathnames.proofs.pass2.phase2.Given.{Over}
+use Rattle.ffs_pathnames.proofs.pass2.phase2.Goals.{After-check_tree}
 use Rattle.ffs_names.proofs.RunSums.{costs_bounded}
+use Rattle.ffs_workspace.specs.Holds.{HoldsClaims}
 use Rattle.ffs_pathnames.proofs.pass2.phase2.Goals as goal
+
+-- what is known before the first directory
+before_tree : (g : Over) (c : After-check_tree g) (b : List ℕ) → (g.I.Image.device c.args.image.now).contents ≡ Some b →
+    HoldsClaims c.args.geometry.now.layout b c.args.workspace.now →
+    IsBefore c.args.geometry.now.layout (g.I.Image.device c.survey.new.image).contents c.clear_passed.new.workspace 2 b
+before_tree g c b t h =
+    let v = c.args.geometry.now.layout in
+    let found = c.in_ok-survey.ensures in
+    let clear = c.clear_passed.ensures in
+    let claims = claims_untouched v b _ _ found.same h in
+    before_first v _ b _ _ (ap (λ d. d.contents) found.read ∙ t) claims (found.survey b t h)
+    (clear.ready v _ found.ready).made clear.clear
+    (calm_silent v b _ c.args.geometry.now.sound found.ready.made claims (found.survey b t h) (found.calm b t h))
 
 pub returns-in_err-say-clause-text : goal.returns-in_err-say-clause-text
 returns-in_err-say-clause-text g c =
     let p = err_from_is_err_and c.from_residual.result c.from_residual.ensures.1 in
-    let v = c.args.geometry.now.layout in
-    let lines = λ (b : List ℕ). map of_tree (pathname_lines (volume_of v b)) in
-    let all = λ (b : List ℕ). phase2 ∷ map of_tree (pathname_lines (volume_of v b)) in
-    rw (p.1, p.2) (of_stops _ all lines _ (phase2 ∷ []) _ _ _ (of_begins _ all _) (λ b k. refl)
+    let lines = λ (b : List ℕ). map of_tree (pathname_lines (volume_of c.args.geometry.now.layout b)) in
+    rw (p.1, p.2) (of_stops _ _ lines _ (phase2 ∷ []) _ _ _ (of_begins _ _ _) (λ b k. refl)
     c.in_err-say.ensures.said)
 
 pub returns-in_err-say-clause-fault : goal.returns-in_err-say-clause-fault
@@ -33,67 +43,32 @@ returns-in_err-survey-clause-fault g c = at_fault c.from_residual-in_err-survey.
 pub returns-in_err-survey-clause-text : goal.returns-in_err-survey-clause-text
 returns-in_err-survey-clause-text g c =
     let p = err_from_is_err_and c.from_residual-in_err-survey.result c.from_residual-in_err-survey.ensures.1 in
-    let v = c.args.geometry.now.layout in
-    let lines = λ (b : List ℕ). map of_tree (pathname_lines (volume_of v b)) in
-    let all = λ (b : List ℕ). phase2 ∷ map of_tree (pathname_lines (volume_of v b)) in
+    let lines = λ (b : List ℕ). map of_tree (pathname_lines (volume_of c.args.geometry.now.layout b)) in
     rw (p.1, p.2) (of_reads _ lines _ _ _
-    (of_says _ all lines _ (phase2 ∷ []) _ _ _ (of_begins _ all _) (λ b k. refl) c.in_ok-say.ensures.said))
+    (of_says _ _ lines _ (phase2 ∷ []) _ _ _ (of_begins _ _ _) (λ b k. refl) c.in_ok-say.ensures.said))
 
 pub returns-clause-text : goal.returns-clause-text
 returns-clause-text g c =
-    let v = c.args.geometry.now.layout in
-    let lines = λ (b : List ℕ). map of_tree (pathname_lines (volume_of v b)) in
-    let all = λ (b : List ℕ). phase2 ∷ map of_tree (pathname_lines (volume_of v b)) in
-    let found = c.in_ok-survey.ensures in
-    let clear = c.clear_passed.ensures in
-    let made = (clear.ready v _ found.ready).made in
-    of_last Root _ lines lines all _ _ _ c.check_tree.result
-    (of_says _ all lines _ (phase2 ∷ []) _ _ _ (of_begins _ all _) (λ b k. refl) c.in_ok-say.ensures.said)
+    let lines = λ (b : List ℕ). map of_tree (pathname_lines (volume_of c.args.geometry.now.layout b)) in
+    of_last Root _ lines lines _ _ _ _ c.check_tree.result
+    (of_says _ _ lines _ (phase2 ∷ []) _ _ _ (of_begins _ _ _) (λ b k. refl) c.in_ok-say.ensures.said)
     (λ b k. refl)
     (reports_knowing Root _ _ lines _ _ c.check_tree.result
-    (λ b k. before_first v _ b _ _ (ap (λ d. d.contents) found.read ∙ k.0)
-    (claims_untouched v b _ _ found.same k.1) (found.survey b k.0 k.1) made clear.clear
-    (λ x set. calm_silent v b _ c.args.geometry.now.sound found.ready.made
-    (claims_untouched v b _ _ found.same k.1) (found.survey b k.0 k.1) (found.calm b k.0 k.1) x set))
-    c.check_tree.ensures.text)
+    (λ b k. before_tree g (goal.at.returns-clause-text g c).After-check_tree b k.0 k.1) c.check_tree.ensures.text)
 
 pub returns-clause-goes : goal.returns-clause-goes
-returns-clause-goes g c =
-    let v = c.args.geometry.now.layout in
-    let found = c.in_ok-survey.ensures in
-    let clear = c.clear_passed.ensures in
-    let made = (clear.ready v _ found.ready).made in
-    if_ok c.check_tree.result _ _
-    (λ root h b k. h b (before_first v _ b _ _ (ap (λ d. d.contents) found.read ∙ k.0)
-    (claims_untouched v b _ _ found.same k.1) (found.survey b k.0 k.1) made clear.clear
-    (λ x set. calm_silent v b _ c.args.geometry.now.sound found.ready.made
-    (claims_untouched v b _ _ found.same k.1) (found.survey b k.0 k.1) (found.calm b k.0 k.1) x set)))
+returns-clause-goes g c = if_ok c.check_tree.result _ _
+    (λ root h b k. h b (before_tree g (goal.at.returns-clause-goes g c).After-check_tree b k.0 k.1))
     c.check_tree.ensures.goes
 
 pub returns-clause-fault : goal.returns-clause-fault
-returns-clause-fault g c =
-    let v = c.args.geometry.now.layout in
-    let found = c.in_ok-survey.ensures in
-    let clear = c.clear_passed.ensures in
-    let made = (clear.ready v _ found.ready).made in
-    at_fault_more c.check_tree.result _ _
-    (λ h. inr (λ b k. h b (before_first v _ b _ _ (ap (λ d. d.contents) found.read ∙ k.0)
-    (claims_untouched v b _ _ found.same k.1) (found.survey b k.0 k.1) made clear.clear
-    (λ x set. calm_silent v b _ c.args.geometry.now.sound found.ready.made
-    (claims_untouched v b _ _ found.same k.1) (found.survey b k.0 k.1) (found.calm b k.0 k.1) x set))))
+returns-clause-fault g c = at_fault_more c.check_tree.result _ _
+    (λ h. inr (λ b k. h b (before_tree g (goal.at.returns-clause-fault g c).After-check_tree b k.0 k.1)))
     c.check_tree.ensures.fault
 
 pub returns-clause-holds : goal.returns-clause-holds
-returns-clause-holds g c =
-    let v = c.args.geometry.now.layout in
-    let found = c.in_ok-survey.ensures in
-    let clear = c.clear_passed.ensures in
-    let made = (clear.ready v _ found.ready).made in
-    on_ok c.check_tree.result _ _
-    (λ h b k. h b (before_first v _ b _ _ (ap (λ d. d.contents) found.read ∙ k.0)
-    (claims_untouched v b _ _ found.same k.1) (found.survey b k.0 k.1) made clear.clear
-    (λ x set. calm_silent v b _ c.args.geometry.now.sound found.ready.made
-    (claims_untouched v b _ _ found.same k.1) (found.survey b k.0 k.1) (found.calm b k.0 k.1) x set)))
+returns-clause-holds g c = on_ok c.check_tree.result _ _
+    (λ h b k. h b (before_tree g (goal.at.returns-clause-holds g c).After-check_tree b k.0 k.1))
     c.check_tree.ensures.holds
 
 pub returns-clause-references : goal.returns-clause-references
@@ -119,14 +94,9 @@ returns-in_err-survey-clause-reads g c = λ b k numbered.
 pub returns-clause-reads : goal.returns-clause-reads
 returns-clause-reads g c = λ b k numbered.
     let v = c.args.geometry.now.layout in
-    let found = c.in_ok-survey.ensures in
-    let clear = c.clear_passed.ensures in
-    let made = (clear.ready v _ found.ready).made in
     let once = c.survey.ensures.reads b k.0 k.1 in
     let most = costs_bounded v b c.args.geometry.now.sound in
     let runs = runs_bounded v b c.args.geometry.now.sound in
-    let rest = c.check_tree.ensures.reads b (before_first v _ b _ _ (ap (λ d. d.contents) found.read ∙ k.0)
-    (claims_untouched v b _ _ found.same k.1) (found.survey b k.0 k.1) made clear.clear
-    (λ x set. calm_silent v b _ c.args.geometry.now.sound found.ready.made
-    (claims_untouched v b _ _ found.same k.1) (found.survey b k.0 k.1) (found.calm b k.0 k.1) x set)) numbered in
+    let before = before_tree g (goal.at.returns-clause-reads g c).After-check_tree b k.0 k.1 in
+    let rest = c.check_tree.ensures.reads b before numbered in
     omega (arith, once, most, runs, rest)

@@ -1,29 +1,18 @@
 use Rattle.std.proofs.Common.{refl, sym, ap, subst, ◌∙◌, ℕ, List, [], ◌∷◌, map, Err, arith, length}
-use Rattle.std.specs.List.{flat_map}
-use Rattle.std.proofs.lemmas.Bool.{both_ways}
-use Rattle.std.proofs.lemmas.Result.{err_from_is_err_and}
+use Rattle.std.{proofs.lemmas.Bool.both_ways, proofs.lemmas.Result.err_from_is_err_and, specs.List.flat_map}
 use Rattle.ffs_image.specs.Device.{Faulted}
-use Rattle.ffs_volume.specs.Directories.Entries.{Chunk, chunk_of}
-use Rattle.ffs_volume.specs.Messages.Kinds.{of_tree}
-use Rattle.ffs_volume.specs.Directories.Roles.{roled_chunk, roled_entries}
-use Rattle.ffs_volume.specs.Directories.Volumes.{volume_of}
-use Rattle.ffs_workspace.specs.Notes.{cut_in}
-use Rattle.ffs_workspace.proofs.NoteLaws.{cut_is_noted}
-use Rattle.ffs_names.specs.Readings.{rest}
+use Rattle.ffs_volume.specs.Directories.{Entries.Chunk, Entries.chunk_of, Roles.roled_chunk, Roles.roled_entries}
+use Rattle.ffs_volume.specs.{Directories.Volumes.volume_of, Messages.Kinds.of_tree, Report.Reads.line_reads}
+use Rattle.ffs_workspace.{specs.Notes.cut_in, specs.Leaves.LeavesSurvey, proofs.NoteLaws.cut_is_noted}
+use Rattle.ffs_workspace.proofs.Leaving.{leaves_all, leaves_more, windows_leave}
+use Rattle.ffs_names.{specs.Readings.rest, specs.Costs.to_read, proofs.DirCosts.runs_are}
 use Rattle.ffs_report.specs.PhaseOutcome.{ImageAfter}
 use Rattle.ffs_report.proofs.Reporting.{of_begins, of_reads, of_same, of_part, of_fault, said_knows, reports_knowing}
-use Rattle.ffs_workspace.specs.Leaves.{LeavesSurvey}
-use Rattle.ffs_workspace.proofs.Leaving.{leaves_all, leaves_more, windows_leave}
-use Rattle.ffs_pathnames.specs.Gathers.{passed_of}
-use Rattle.ffs_pathnames.specs.DirectoryContext.{KnowsDirectory}
-use Rattle.ffs_pathnames.specs.PassedNames.{after_entries, entries_reported}
+use Rattle.ffs_pathnames.specs.{Gathers.passed_of, DirectoryContext.KnowsDirectory, PassedNames.after_entries}
+use Rattle.ffs_pathnames.{specs.PassedNames.entries_reported, proofs.StampLaws.keep_more, proofs.StampLaws.noted_kept}
 use Rattle.ffs_pathnames.proofs.Passing.{chunk_reported, chunk_passed, knows_on, all_read}
 use Rattle.ffs_pathnames.proofs.ReadyLaws.{with_chunk, can_read_in, ready_next, ready_read}
-use Rattle.ffs_pathnames.proofs.StampLaws.{keep_more, noted_kept}
-use Rattle.ffs_volume.specs.Report.Reads.{line_reads}
-use Rattle.ffs_names.specs.Costs.{to_read}
-use Rattle.ffs_names.proofs.DirCosts.{runs_are}
-use Rattle.ffs_pathnames.proofs.CostLaws.{lines_long, reported_on, same_long}
+use Rattle.ffs_pathnames.proofs.LineCounts.{lines_long, reported_on, same_long}
 use Rattle.ffs_pathnames.proofs.reread.report_directory.Goals as goal
 
 pub chunks-init : goal.chunks-init
@@ -63,9 +52,7 @@ chunks-init g c =
           rw long (omega (arith, all, left, runs));
       path = λ b k begun. absurd (both_ways _ refl begun);
       passed = λ b k. ap (after_entries (volume_of v b) x.number m) (sym (seen b k));
-      said = of_same _ all (λ (b : List ℕ). map of_tree
-          (entries_reported (volume_of v b) x.number m (flat_map roled_chunk (rest b c.start-chunks.result)))) all _ _
-          (of_begins _ all _) same_lines;
+      said = of_same _ all _ all _ _ (of_begins _ all _) same_lines;
     }
 
 pub returns-in_err-offset-clause-text : goal.returns-in_err-offset-clause-text
@@ -155,18 +142,12 @@ chunks-preserved g c =
           (length (entries_reported (volume_of v b) x.number m' (flat_map roled_chunk (rest b c.next.new.self))))
           (length (entries_reported (volume_of v b) x.number m (flat_map roled_chunk (rest b c.chunks.chunks)))) _
           took.paid few.count
-          (lines_long _ _ _ (chunk_reported (volume_of v b) x.number m m' here (rest b c.chunks.chunks)
-          (rest b c.next.new.self) (next b k) (ok.passed b (know b k)))) (inv.reads b k noted);
+          (lines_long _ _ _ (chunk_reported (volume_of v b) x.number m here _ _ (next b k) (ok.passed b (know b k))))
+          (inv.reads b k noted);
       path = λ b k. c.report_chunk.ensures.lines.path b (record { knows = know b k; path = inv.path b k });
-      passed = λ b k. chunk_passed (volume_of v b) x.number _ m m' here (rest b c.chunks.chunks)
-          (rest b c.next.new.self) (next b k) (ok.passed b (know b k)) (inv.passed b k);
-      said = of_part _ (λ (b : List ℕ). map of_tree
-          (entries_reported (volume_of v b) x.number m (flat_map roled_chunk (rest b c.chunks.chunks))))
-          (λ (b : List ℕ). map of_tree (entries_reported (volume_of v b) x.number m (roled_chunk here)))
-          (λ (b : List ℕ). map of_tree
-          (entries_reported (volume_of v b) x.number m' (flat_map roled_chunk (rest b c.next.new.self)))) _ _ _ _
-          inv.said
-          (λ b k. chunk_reported (volume_of v b) x.number m m' here (rest b c.chunks.chunks) (rest b c.next.new.self)
+      passed = λ b k. chunk_passed (volume_of v b) x.number m (next b k) (ok.passed b (know b k)) (inv.passed b k);
+      said = of_part _ _ _ _ _ _ _ _ inv.said
+          (λ b k. chunk_reported (volume_of v b) x.number m here _ _
           (next b k) (ok.passed b (know b k)))
           (said_knows _ _ _ _ _ _ (λ b k. record
           { knows = know b k; path = inv.path b k }) ok.lines.text);
@@ -194,16 +175,9 @@ returns-in_err-report_chunk-clause-text g c =
     (λ q. chunk_of q.layout.order c.in-Some.offset c.next.new.chunk ∷ rest b c.next.new.self) inv.geometry in
     let p = err_from_is_err_and c.from_residual-in_err-report_chunk.result
     c.from_residual-in_err-report_chunk.ensures.1 in
-    rw (p.1, p.2) (of_fault (Unit {0}) (Unit {0}) _
-    (λ (b : List ℕ). map of_tree
-    (entries_reported (volume_of v b) x.number m (flat_map roled_chunk (rest b c.chunks.chunks))))
-    (λ (b : List ℕ). map of_tree (entries_reported (volume_of v b) x.number m (roled_chunk here)))
-    (λ (b : List ℕ). map of_tree
-    (entries_reported (volume_of v b) x.number (after_entries (volume_of v b) x.number m (roled_chunk here))
-    (flat_map roled_chunk (rest b c.next.new.self)))) _ _ _ _
-    c.in_err-report_chunk.field-0.0 inv.said
-    (λ b k. chunk_reported (volume_of v b) x.number m (after_entries (volume_of v b) x.number m (roled_chunk here))
-    here (rest b c.chunks.chunks) (rest b c.next.new.self) (next b k) refl)
+    rw (p.1, p.2) (of_fault (Unit {0}) (Unit {0}) _ _ _ _ _ _ _ _ c.in_err-report_chunk.field-0.0 inv.said
+    (λ b k. chunk_reported (volume_of v b) x.number m here _ _
+    (next b k) refl)
     (reports_knowing (Unit {0}) _ _ _ _ _ (Err c.in_err-report_chunk.field-0.0)
     (λ b k. record { knows = know b k; path = inv.path b k })
     c.in_err-report_chunk.ensures.lines.text))
@@ -231,9 +205,7 @@ returns-clause-text g c =
     let inv = c.chunks.invariant in
     let m = passed_of c.chunks.workspace in
     let came = rw c.in_default.is at c.in_ok-offset.ensures.chunk in
-    of_same _ (λ (b : List ℕ). map of_tree
-    (entries_reported (volume_of v b) x.number m (flat_map roled_chunk (rest b c.chunks.chunks)))) (λ b. []) _ _ _
-    inv.said
+    of_same _ _ (λ b. []) _ _ _ inv.said
     (λ b k. ap (λ cs. map of_tree (entries_reported (volume_of v b) x.number m (flat_map roled_chunk cs)))
     (came b (ap (λ d. d.contents) inv.device ∙ k.0.gives_bytes)).chunks.0)
 
@@ -278,8 +250,7 @@ returns-in_err-report_chunk-clause-reads g c = λ b k noted.
     (length (entries_reported (volume_of v b) x.number after (flat_map roled_chunk (rest b c.next.new.self))))
     (length (entries_reported (volume_of v b) x.number m (flat_map roled_chunk (rest b c.chunks.chunks)))) _
     took.paid few.count
-    (lines_long _ _ _ (chunk_reported (volume_of v b) x.number m after here (rest b c.chunks.chunks)
-    (rest b c.next.new.self) next refl)) (inv.reads b k noted) in
+    (lines_long _ _ _ (chunk_reported (volume_of v b) x.number m here _ _ next refl)) (inv.reads b k noted) in
     omega (arith, most)
 
 pub returns-clause-reads : goal.returns-clause-reads

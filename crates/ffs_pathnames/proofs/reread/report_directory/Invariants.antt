@@ -1,23 +1,13 @@
 use Rattle.std.proofs.Common.{◌≡◌, map, ◌+◌, ◌*◌, ◌≤◌, length}
 use Rattle.std.specs.List.{flat_map}
-use Rattle.ffs_volume.specs.Messages.Kinds.{of_tree}
-use Rattle.ffs_volume.specs.Directories.Parents.{graph_of}
-use Rattle.ffs_volume.specs.Directories.Roles.{roled_chunk, roled_entries}
-use Rattle.ffs_volume.specs.Directories.Volumes.{volume_of}
-use Rattle.ffs_report.specs.Known.{ForBytes}
-use Rattle.ffs_report.specs.PhaseOutcome.{SaidOf}
-use Rattle.ffs_report.specs.Progress.{progress}
-use Rattle.ffs_names.specs.Readings.{rest}
-use Rattle.ffs_workspace.specs.Leaves.{LeavesSurvey}
-use Rattle.ffs_pathnames.specs.Ready.{ReadyWith}
-use Rattle.ffs_pathnames.specs.Gathers.{passed_of}
+use Rattle.ffs_volume.specs.{Messages.Kinds.of_tree, Report.Reads.line_reads}
+use Rattle.ffs_volume.specs.Directories.{Parents.graph_of, Roles.roled_chunk, Roles.roled_entries, Volumes.volume_of}
+use Rattle.ffs_report.specs.{Known.ForBytes, PhaseOutcome.SaidOf, Progress.progress}
+use Rattle.ffs_names.specs.{Readings.rest, Costs.to_read, Costs.HoldsReading}
+use Rattle.ffs_workspace.specs.{Leaves.LeavesSurvey, Places.AreNoted}
+use Rattle.ffs_pathnames.specs.{Ready.ReadyWith, Gathers.passed_of, Stamps.KeepPlaces, Costs.report_reads}
 use Rattle.ffs_pathnames.specs.DirectoryContext.{BeginsPathOf, KnowsDirectory}
 use Rattle.ffs_pathnames.specs.PassedNames.{after_entries, entries_reported}
-use Rattle.ffs_pathnames.specs.Stamps.{KeepPlaces}
-use Rattle.ffs_volume.specs.Report.Reads.{line_reads}
-use Rattle.ffs_names.specs.Costs.{to_read, HoldsReading}
-use Rattle.ffs_workspace.specs.Places.{AreNoted}
-use Rattle.ffs_pathnames.specs.Costs.{report_reads}
 use Rattle.ffs_pathnames.proofs.reread.report_directory.Given as goal
 
 abbrev pub invariant-chunks : goal.invariant-chunks

@@ -1,23 +1,17 @@
-use Rattle.std.proofs.Common.{◌+◌, ◌-◌, ◌<◌, [], map, refl, sym, ap, subst, ◌≡◌, ◌∙◌, suc, arith, rules, Err, List, ℕ, ◌≤◌, length, true}
-use Rattle.std.proofs.lemmas.Bool.{both_ways}
-use Rattle.std.proofs.lemmas.Result.{err_from_is_err_and}
+use Rattle.std.proofs.Common.{◌+◌, ◌-◌, ◌<◌, [], map, refl, sym, ap, subst, ◌≡◌, ◌∙◌, suc, arith, rules, Err, List, ℕ}
+use Rattle.std.proofs.Common.{◌≤◌, length, true}
+use Rattle.std.proofs.lemmas.{Bool.both_ways, Result.err_from_is_err_and}
 use Rattle.ffs_volume.proofs.Numbered.{from_next, from_end, count_next as next_long}
-use Rattle.ffs_volume.proofs.Sizes.{some_inodes}
-use Rattle.ffs_report.proofs.Reporting.{of_begins, of_same, of_part, of_fault, of_reads, said_knows, reports_knowing}
+use Rattle.ffs_volume.{proofs.Sizes.some_inodes, specs.Report.Reads.line_reads}
 use Rattle.ffs_volume.specs.Messages.Kinds.{of_tree, lines_from}
-use Rattle.ffs_volume.specs.Directories.PathnameCheck.{directory_lines}
-use Rattle.ffs_volume.specs.Directories.Volumes.{volume_of}
-use Rattle.ffs_workspace.specs.declared.workspace.Workspace.{Workspace}
-use Rattle.ffs_workspace.specs.Lengths.{inodes_of}
-use Rattle.ffs_pathnames.specs.Before.{IsBefore}
-use Rattle.ffs_pathnames.proofs.Carrying.{before_reported}
+use Rattle.ffs_volume.specs.Directories.{PathnameCheck.directory_lines, Volumes.volume_of}
+use Rattle.ffs_report.proofs.Reporting.{of_begins, of_same, of_part, of_fault, of_reads, said_knows, reports_knowing}
+use Rattle.ffs_workspace.specs.{declared.workspace.Workspace.Workspace, Lengths.inodes_of}
+use Rattle.ffs_pathnames.{specs.Before.IsBefore, proofs.Carrying.before_reported, proofs.StampLaws.noted_kept}
 use Rattle.ffs_pathnames.proofs.Skipping.{before_unseen, lines_unseen, noted_before}
-use Rattle.ffs_volume.specs.Report.Reads.{line_reads}
-use Rattle.ffs_survey.specs.Costs.{costs_all}
-use Rattle.ffs_survey.proofs.Costs.{cost_take, costs_rise}
+use Rattle.ffs_pathnames.proofs.LineCounts.{checked_on, same_long}
+use Rattle.ffs_survey.{specs.Costs.costs_all, proofs.Costs.cost_take, proofs.Costs.costs_rise}
 use Rattle.ffs_names.specs.Costs.{directories_cost, directory_cost}
-use Rattle.ffs_pathnames.proofs.StampLaws.{noted_kept}
-use Rattle.ffs_pathnames.proofs.CostLaws.{checked_on, same_long}
 use Rattle.ffs_pathnames.proofs.tree.check_inodes.Goals as goal
 
 pub first_checked-first-requires-clause-some : goal.first_checked-first-requires-clause-some
@@ -64,9 +58,7 @@ loop-number-init g c =
       before = λ b k. noted_before v _ _ _ _ first.result b first.ensures.range.0 refl noted.lists noted.ready.made
           (noted.places b k.gives_bytes k.claims k.survey) noted.none_due
           (before_unseen v _ _ b first.result c.args.geometry.now.sound first.ensures.range.0 first.ensures.before k);
-      said = of_same _ all (λ b. map of_tree
-          (lines_from (directory_lines (volume_of v b)) first.result (inodes_of v - first.result))) all _ _
-          (of_begins _ all _)
+      said = of_same _ all _ all _ _ (of_begins _ all _)
           (λ b k. lines_unseen v _ _ b first.result (inodes_of v) c.args.geometry.now.sound first.ensures.range.0
           first.ensures.range.1 first.ensures.before k);
     }
@@ -78,14 +70,10 @@ returns-in_err-check_inode-clause-text g c =
     let v = c.args.geometry.now.layout in
     let inv = c.loop-number.invariant in
     let n = c.loop-number.number in
-    rw (p.1, p.2) (of_fault (Unit {0}) (Unit {0}) _
-    (λ b. map of_tree (lines_from (directory_lines (volume_of v b)) n (inodes_of v - n)))
-    (λ b. map of_tree (directory_lines (volume_of v b) n))
-    (λ b. map of_tree (lines_from (directory_lines (volume_of v b)) (n + 1) (inodes_of v - (n + 1)))) _ _ _ _
-    c.in_err-check_inode.field-0.0
-    inv.said (λ b k. from_next (directory_lines (volume_of v b)) n (inodes_of v) (omega arith))
+    rw (p.1, p.2) (of_fault (Unit {0}) (Unit {0}) _ _ _ _ _ _ _ _ c.in_err-check_inode.field-0.0 inv.said
+    (λ b k. from_next (directory_lines (volume_of v b)) n (inodes_of v) (omega arith))
     (reports_knowing (Unit {0}) _ _ _ _ _ (Err c.in_err-check_inode.field-0.0)
-    (λ b k. before_reported v _ _ _ n b (ap (λ d. d.contents) inv.device) (inv.before b k))
+    (λ b k. before_reported (ap (λ d. d.contents) inv.device) (inv.before b k))
     c.in_err-check_inode.ensures.text))
 
 pub loop-number-preserved : goal.loop-number-preserved
@@ -109,19 +97,16 @@ loop-number-preserved g c =
           n))
           (length (lines_from lines (n + 1) (inodes_of v - (n + 1)))) (length (lines_from lines 2 (inodes_of v - 2)))
           (c.check_inode.ensures.reads b
-          (before_reported v _ _ _ n b (ap (λ d. d.contents) inv.device) (inv.before b k)) (inv.noted b k numbered))
+          (before_reported (ap (λ d. d.contents) inv.device) (inv.before b k)) (inv.noted b k numbered))
           (rw (next_long lines n (inodes_of v) (omega arith)) at (inv.reads b k numbered)));
       before = λ b k. subst (λ d. IsBefore v (g.I.Image.device c.args.image.now).contents c.check_inode.new.workspace d
           b) q
-          (before_reported v _ _ _ (suc n) b (sym (ap (λ d. d.contents) inv.device))
-          (ok.before b (before_reported v _ _ _ n b (ap (λ d. d.contents) inv.device) (inv.before b k))));
-      said = of_part _ (λ b. map of_tree (lines_from (directory_lines (volume_of v b)) n (inodes_of v - n)))
-          (λ b. map of_tree (directory_lines (volume_of v b) n))
-          (λ b. map of_tree (lines_from (directory_lines (volume_of v b)) (n + 1) (inodes_of v - (n + 1)))) _ _ _ _
-          inv.said
+          (before_reported (sym (ap (λ d. d.contents) inv.device))
+          (ok.before b (before_reported (ap (λ d. d.contents) inv.device) (inv.before b k))));
+      said = of_part _ _ _ _ _ _ _ _ inv.said
           (λ b k. from_next (directory_lines (volume_of v b)) n (inodes_of v) (omega arith))
           (said_knows _ _ _ _ _ _
-          (λ b k. before_reported v _ _ _ n b (ap (λ d. d.contents) inv.device) (inv.before b k)) ok.text);
+          (λ b k. before_reported (ap (λ d. d.contents) inv.device) (inv.before b k)) ok.text);
     }
 
 pub returns-clause-text : goal.returns-clause-text
@@ -129,9 +114,8 @@ returns-clause-text g c =
     let v = c.args.geometry.now.layout in
     let inv = c.loop-number.invariant in
     let n = c.loop-number.number in
-    of_same _ (λ b. map of_tree (lines_from (directory_lines (volume_of v b)) n (inodes_of v - n))) (λ b. []) _ _ _
-    inv.said
-    (λ b k. from_end (directory_lines (volume_of v b)) n (inodes_of v) (omega arith))
+    of_same _ _ (λ b. []) _ _ _ inv.said (λ b k. from_end (directory_lines (volume_of v b)) n (inodes_of v)
+    (omega arith))
 
 pub returns-clause-holds : goal.returns-clause-holds
 returns-clause-holds g c = λ b k. let now = c.loop-number.invariant.before b k in (now.claims, now.survey)
@@ -160,7 +144,7 @@ returns-in_err-check_inode-clause-reads g c = λ b k numbered.
     (costs_all (directory_cost v b) n) (directory_cost v b n) (g.I.Image.reads c.args.image.now) (length (lines n))
     (length (lines_from lines (n + 1) (inodes_of v - (n + 1)))) (length (lines_from lines 2 (inodes_of v - 2)))
     (c.check_inode.ensures.reads b
-    (before_reported v _ _ _ n b (ap (λ d. d.contents) inv.device) (inv.before b k)) (inv.noted b k numbered))
+    (before_reported (ap (λ d. d.contents) inv.device) (inv.before b k)) (inv.noted b k numbered))
     (rw (next_long lines n (inodes_of v) (omega arith)) at (inv.reads b k numbered)) in
     let taken = cost_take (λ s. true) (directory_cost v b) n refl in
     let rise = costs_rise (λ s. true) (directory_cost v b) (n + 1) (inodes_of v) (omega arith) in

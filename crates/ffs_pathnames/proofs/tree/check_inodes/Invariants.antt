@@ -1,17 +1,11 @@
 use Rattle.std.proofs.Common.{◌≡◌, ◌+◌, ◌*◌, ◌-◌, ◌≤◌, length, map}
-use Rattle.ffs_report.specs.Known.{ForBytes}
-use Rattle.ffs_report.specs.PhaseOutcome.{SaidOf}
-use Rattle.ffs_report.specs.Progress.{progress}
-use Rattle.ffs_volume.specs.Messages.Kinds.{of_tree, lines_from}
-use Rattle.ffs_volume.specs.Directories.PathnameCheck.{directory_lines}
-use Rattle.ffs_volume.specs.Directories.Volumes.{volume_of}
-use Rattle.ffs_workspace.specs.Lengths.{inodes_of}
-use Rattle.ffs_pathnames.specs.Ready.{ReadyWith}
-use Rattle.ffs_pathnames.specs.Before.{IsBefore}
-use Rattle.ffs_volume.specs.Report.Reads.{line_reads}
+use Rattle.ffs_report.specs.{Known.ForBytes, PhaseOutcome.SaidOf, Progress.progress}
+use Rattle.ffs_volume.specs.{Messages.Kinds.of_tree, Messages.Kinds.lines_from, Report.Reads.line_reads}
+use Rattle.ffs_volume.specs.Directories.{PathnameCheck.directory_lines, Volumes.volume_of}
+use Rattle.ffs_workspace.specs.{Lengths.inodes_of, Places.AreChunksNumbered, Places.AreNoted}
+use Rattle.ffs_pathnames.specs.{Ready.ReadyWith, Before.IsBefore}
 use Rattle.ffs_survey.specs.Costs.{costs_all}
 use Rattle.ffs_names.specs.Costs.{directories_cost, directory_cost}
-use Rattle.ffs_workspace.specs.Places.{AreChunksNumbered, AreNoted}
 use Rattle.ffs_pathnames.proofs.tree.check_inodes.Given as goal
 
 abbrev pub invariant-loop-number : goal.invariant-loop-number

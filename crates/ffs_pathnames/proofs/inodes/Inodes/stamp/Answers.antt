@@ -1,6 +1,5 @@
-use Rattle.std.proofs.Common.{ap, sym, ◌∙◌, if◌then◌else◌}
+use Rattle.std.proofs.Common.{ap, sym, ◌∙◌, if◌then◌else◌, slice_index}
 use Rattle.std.proofs.lemmas.List.{get_or_read_under}
-use Rattle.std.specs.Prelude.{slice_index}
 use Rattle.ffs_workspace.specs.Places.{is_due}
 use Rattle.ffs_pathnames.proofs.StampLaws.{stamp_at, none_stamped}
 use Rattle.ffs_pathnames.proofs.inodes.Inodes.stamp.Goals as goal
