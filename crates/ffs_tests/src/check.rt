@@ -15,7 +15,7 @@ use std::test::Fail;
 
 /// What a volume holds whose root is all that there is: the group block at byte 24,576, its inode,
 /// its summary record, and the root's own two entries.
-const ROOT: [Number; 25] = [
+static ROOT: [Number; 25] = [
     (24580, 4, 0x090255),
     (24596, 4, 128),
     (24600, 4, 1),
@@ -45,7 +45,7 @@ const ROOT: [Number; 25] = [
 
 /// The maps of the group, and the names of the two entries with the second one's length: the same
 /// bytes in both orders.
-const BYTES: [(usize, &[u8]); 4] = [
+static BYTES: [(usize, &[u8]); 4] = [
     (
         24744,
         b"\x07\0\0\0\0\0\0\0\xee\xff\xff\xff\xff\xff\xff\xff\xff\xff\xff\xff",
@@ -67,7 +67,7 @@ const WORDS: Args<'static> = Args {
 pub fn volume(order: Order, more: &[Number], alloc: Global) -> Result<MemoryImage, AllocError> {
     let mut bytes = base(order, alloc)?;
     put(order, bytes.as_mut_slice(), &ROOT);
-    for (place, text) in BYTES {
+    for &(place, text) in &BYTES {
         put_bytes(bytes.as_mut_slice(), place, text);
     }
     put(order, bytes.as_mut_slice(), more);
@@ -138,18 +138,20 @@ fn failed_reads_and_writes(rt: HostRuntime) -> Result<(), Fail> {
     Ok(())
 }
 
+/// How a check ends, and the status of that.
+static STATUSES: [(End, u8); 7] = [
+    (End::Consistent, 0),
+    (End::Defects, 1),
+    (End::Refused(SuperFault::Magic), 8),
+    (End::RootStop, 8),
+    (End::ReadFault(72), 8),
+    (End::WriteFault, 8),
+    (End::NoMemory, 8),
+];
+
 #[test]
 fn statuses(rt: HostRuntime) -> Result<(), Fail> {
-    let cases = [
-        (End::Consistent, 0),
-        (End::Defects, 1),
-        (End::Refused(SuperFault::Magic), 8),
-        (End::RootStop, 8),
-        (End::ReadFault(72), 8),
-        (End::WriteFault, 8),
-        (End::NoMemory, 8),
-    ];
-    for (end, status) in cases {
+    for &(end, status) in &STATUSES {
         same(&rt, &end.status(), &status);
     }
     Ok(())
@@ -171,34 +173,36 @@ fn refused_words(rt: &HostRuntime, words: &[&str], wanted: usize) -> (u8, usize,
     (status, out.len(), errors)
 }
 
+/// Words that are refused, and the start of what is printed to the errors.
+static WRONG: [(&[&str], &[u8]); 8] = [
+    (&["t.img"], b"error: -n and an image are needed\n\nUsage"),
+    (
+        &["-n", "-b", "0", "t.img"],
+        b"error: a sector is 1 to 4194303\n\nUsage",
+    ),
+    (
+        &["-n", "-b", "4194304", "t.img"],
+        b"error: a sector is 1 to 4194303\n\nUsage",
+    ),
+    (&["-y", "t.img"], b"error: this program never repairs, so"),
+    (
+        &["-n", "-fp", "t.img"],
+        b"error: this program never repairs, so",
+    ),
+    (
+        &["-n", "a", "b"],
+        b"error: unexpected argument 'b' found\n\nUsage",
+    ),
+    (
+        &["--help"],
+        b"Checks an image of a Berkeley fast file system",
+    ),
+    (&["--version"], b"fsck_ffs "),
+];
+
 #[test]
 fn wrong_words(rt: HostRuntime) -> Result<(), Fail> {
-    let cases: [(&[&str], &[u8]); 8] = [
-        (&["t.img"], b"error: -n and an image are needed\n\nUsage"),
-        (
-            &["-n", "-b", "0", "t.img"],
-            b"error: a sector is 1 to 4194303\n\nUsage",
-        ),
-        (
-            &["-n", "-b", "4194304", "t.img"],
-            b"error: a sector is 1 to 4194303\n\nUsage",
-        ),
-        (&["-y", "t.img"], b"error: this program never repairs, so"),
-        (
-            &["-n", "-fp", "t.img"],
-            b"error: this program never repairs, so",
-        ),
-        (
-            &["-n", "a", "b"],
-            b"error: unexpected argument 'b' found\n\nUsage",
-        ),
-        (
-            &["--help"],
-            b"Checks an image of a Berkeley fast file system",
-        ),
-        (&["--version"], b"fsck_ffs "),
-    ];
-    for (words, start) in cases {
+    for &(words, start) in &WRONG {
         let (status, printed, errors) = refused_words(&rt, words, start.len());
         same(&rt, &(status, printed), &(2, 0));
         same(&rt, &errors.as_slice(), &start);

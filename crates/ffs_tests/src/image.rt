@@ -2,12 +2,10 @@
 
 ghost use Rattle.std.specs.Prelude.{◌≡◌, ◌≤◌, IfOk, length};
 
+use crate::check::checked;
 use crate::compare::same;
-use ffs_check::args::Args;
-use ffs_check::check::check;
 use ffs_image::{FileImage, FuseImage, Image, ImageFault, MemoryImage};
 use ffs_layout::Order;
-use ffs_report::Counted;
 use ffs_samples::image_of;
 use ffs_volume::{End, SuperFault};
 use std::alloc::{AllocError, Allocator, Global};
@@ -258,16 +256,13 @@ fn opens_for_reading_alone(rt: HostRuntime) -> Result<(), Fail> {
 }
 
 /// How a check of what has this name ends, and what it prints.
-fn checked<R: Files<File = File>>(
+fn file_checked<R: Files<File = File>>(
     files: &R,
     name: &str,
     alloc: Global,
 ) -> Result<(End, Vec<u8>), Fail> {
     let mut image = FileImage::open(files, name)?;
-    let args = Args { name, sector: None };
-    let mut text = Vec::new(alloc);
-    let end = check(alloc, &mut image, &args, &mut Counted::new(&mut text));
-    Ok((end, text))
+    Ok(checked(&mut image, alloc))
 }
 
 /// A directory can't be read, and a device without bytes has none.
@@ -275,7 +270,7 @@ fn checked<R: Files<File = File>>(
 fn no_superblock_in_a_directory(rt: HostRuntime) -> Result<(), Fail> {
     let refused = End::Refused(SuperFault::CannotRead { sector: 16 });
     for name in [".", "/dev/null"] {
-        let (end, text) = checked(&rt, name, rt.alloc())?;
+        let (end, text) = file_checked(&rt, name, rt.alloc())?;
         same(&rt, &end, &refused);
         same(&rt, &text.ends_with(b"CAN NOT READ: BLK 16\n"), &true);
     }

@@ -1,18 +1,17 @@
 //! Each request of a run for memory refused in turn, and lists that are touched as far as they are
 //! set.
 
-ghost use Rattle.std.specs.Prelude.{◌≡◌, IfOk, length, vec_len};
-
 use crate::compare::same;
 use ffs_check::args::Args;
 use ffs_check::check::check_in;
 use ffs_image::MemoryImage;
 use ffs_layout::Order;
-use ffs_memory::{FilledList, FuseMemory, Memory, SystemMemory};
+use ffs_memory::{FilledList, FuseMemory, Memory, SystemMemory, ZeroedWords};
 use ffs_report::Counted;
-use ffs_samples::{base, put, put_super, set_first_filled};
+use ffs_samples::{base, put, put_super};
 use ffs_volume::End;
 use std::alloc::{AllocError, Global};
+use std::process::Abort;
 use std::test::Fail;
 
 /// Two maps, nine lists with an item for each inode, and four buffers.
@@ -23,23 +22,23 @@ const HELD: u64 = 2 * 16 + 25 * 32 + 6 * 4096;
 
 const UNSTARTED: &[u8] = b"** t.img (NO WRITE)\n** Last Mounted on /mnt\ncannot alloc maps\n";
 
-/// How a check ends whose k-th request is refused, with what it printed, and the memory after it.
-fn refused(k: u64, alloc: Global) -> Result<(End, Vec<u8>, FuseMemory<SystemMemory>), Fail> {
-    let mut image = MemoryImage::new(base(Order::Little, alloc)?);
+/// How a check of an image in a memory ends, and what it prints.
+fn checked_in<M: Memory>(memory: &mut M, image: &mut MemoryImage, alloc: Global) -> (End, Vec<u8>) {
     let args = Args {
         name: "t.img",
         sector: None,
     };
-    let mut memory = FuseMemory::nth(SystemMemory::new(alloc), k);
     let mut text = Vec::new(alloc);
-    let end = check_in(&mut memory, &mut image, &args, &mut Counted::new(&mut text));
-    Ok((end, text, memory))
+    let end = check_in(memory, image, &args, &mut Counted::new(&mut text));
+    (end, text)
 }
 
 /// How a check ends whose k-th request is refused, what it prints, and how many requests were
 /// refused and bytes granted.
 fn counted(k: u64, alloc: Global) -> Result<(End, Vec<u8>, [u64; 2]), Fail> {
-    let (end, text, memory) = refused(k, alloc)?;
+    let mut image = MemoryImage::new(base(Order::Little, alloc)?);
+    let mut memory = FuseMemory::nth(SystemMemory::new(alloc), k);
+    let (end, text) = checked_in(&mut memory, &mut image, alloc);
     Ok((end, text, [memory.refused(), memory.granted()]))
 }
 
@@ -61,14 +60,42 @@ fn thousand_words(alloc: Global) -> Result<(u64, usize), AllocError> {
     Ok((memory.granted(), words.len()))
 }
 
-/// The last of a thousand words; those about 700 once it is set; 3 and 700 once 3 is set too.
-fn words_seen(alloc: Global) -> Result<[u64; 6], AllocError> {
-    let mut words = SystemMemory::new(alloc).zeroed_words(1000)?;
-    let last = words.get(999);
-    words.set(700, 7);
-    let [before, at, after] = [words.get(699), words.get(700), words.get(701)];
-    words.set(3, 9);
-    Ok([last, before, at, after, words.get(3), words.get(700)])
+/// A call on a list of words.
+#[derive(Clone, Copy)]
+enum WordCall {
+    /// A word.
+    Get(usize),
+    /// Sets a word.
+    Set(usize, u64),
+    /// Claims the bits of a mask: 1 where they are claimed, and else 0.
+    Claim(usize, u64),
+}
+
+/// The answer of a call: 0 where it has none, and nothing where there is no such word.
+fn word_answer(words: &mut ZeroedWords, call: WordCall) -> Option<u64> {
+    let len = words.len();
+    match call {
+        WordCall::Get(index) if index < len => Some(words.get(index)),
+        WordCall::Set(index, word) if index < len => {
+            words.set(index, word);
+            Some(0)
+        }
+        WordCall::Claim(index, mask) if index < len => Some(u64::from(words.claim(index, mask))),
+        _ => None,
+    }
+}
+
+/// Makes calls on a thousand words, and compares their answers.
+fn word_answers(
+    rt: &(impl Abort + AllocGlobal),
+    calls: &[(WordCall, u64)],
+) -> Result<(), AllocError> {
+    let mut words = SystemMemory::new(rt.alloc()).zeroed_words(1000)?;
+    for (index, (call, wanted)) in calls.iter().enumerate() {
+        let found = word_answer(&mut words, *call);
+        same(rt, &(index, found), &(index, Some(*wanted)));
+    }
+    Ok(())
 }
 
 /// A volume of one group with more inodes than 16 bits can count: its fragments, its inodes, and
@@ -85,7 +112,7 @@ const MANY_HELD: u64 = 2 * 8 * 130 + 25 * INODES + 6 * 4096;
 const NO_ROOT: &[u8] = b"** Phase 2 - Check Pathnames\nROOT INODE UNALLOCATED\nALLOCATE? no\n\n";
 
 /// What its superblock has in other places than that of the base volume, and what is there.
-const CHANGED: [(usize, u64); 5] = [
+static CHANGED: [(usize, u64); 5] = [
     (20, DATA),
     (36, FRAGMENTS),
     (152, DATA),
@@ -114,14 +141,9 @@ fn many_inodes(alloc: Global) -> Result<MemoryImage, AllocError> {
 
 /// How a check of it ends, what it prints, and how many bytes were granted and requests refused.
 fn many_checked(alloc: Global) -> Result<(End, Vec<u8>, [u64; 2]), AllocError> {
-    let args = Args {
-        name: "t.img",
-        sector: None,
-    };
     let mut memory = SystemMemory::new(alloc);
     let mut image = many_inodes(alloc)?;
-    let mut text = Vec::new(alloc);
-    let end = check_in(&mut memory, &mut image, &args, &mut Counted::new(&mut text));
+    let (end, text) = checked_in(&mut memory, &mut image, alloc);
     Ok((end, text, [memory.granted(), memory.refused()]))
 }
 
@@ -143,37 +165,43 @@ fn more_inodes_than_16_bits(rt: HostRuntime) -> Result<(), Fail> {
     Ok(())
 }
 
+/// The last of a thousand words; those about 700 once it is set; 3 and 700 once 3 is set too.
+static WORDS: [(WordCall, u64); 8] = [
+    (WordCall::Get(999), 0),
+    (WordCall::Set(700, 7), 0),
+    (WordCall::Get(699), 0),
+    (WordCall::Get(700), 7),
+    (WordCall::Get(701), 0),
+    (WordCall::Set(3, 9), 0),
+    (WordCall::Get(3), 9),
+    (WordCall::Get(700), 7),
+];
+
 /// Words are 0 until they are set, and the others stay.
 #[test]
 fn words_set_and_unset(rt: HostRuntime) -> Result<(), Fail> {
     same(&rt, &thousand_words(rt.alloc())?, &(8000, 1000));
-    same(&rt, &words_seen(rt.alloc())?, &[0, 0, 7, 0, 9, 7]);
+    word_answers(&rt, &WORDS)?;
     Ok(())
 }
 
-/// Which of three claims are made, and what each leaves of its word, and the third of the word
-/// before.
-fn claimed(alloc: Global) -> Result<([bool; 3], [u64; 4]), AllocError> {
-    let mut words = SystemMemory::new(alloc).zeroed_words(1000)?;
-    words.set(3, 9);
-    let beside = words.claim(3, 6);
-    let first = words.get(3);
-    let over = words.claim(3, 24);
-    let second = words.get(3);
-    let other = words.claim(700, 24);
-    Ok((
-        [beside, over, other],
-        [first, second, words.get(699), words.get(700)],
-    ))
-}
+/// Claims beside bits that are set, over one of them, and of a word that isn't set.
+static CLAIMED: [(WordCall, u64); 8] = [
+    (WordCall::Set(3, 9), 0),
+    (WordCall::Claim(3, 6), 1),
+    (WordCall::Get(3), 15),
+    (WordCall::Claim(3, 24), 0),
+    (WordCall::Get(3), 15),
+    (WordCall::Claim(700, 24), 1),
+    (WordCall::Get(699), 0),
+    (WordCall::Get(700), 24),
+];
 
 /// The bits of a mask are claimed where none of them is set: beside bits that are, but not over
 /// one.
 #[test]
 fn bits_claimed_once(rt: HostRuntime) -> Result<(), Fail> {
-    let (made, words) = claimed(rt.alloc())?;
-    same(&rt, &made, &[true, false, true]);
-    same(&rt, &words, &[15, 15, 0, 24]);
+    word_answers(&rt, &CLAIMED)?;
     Ok(())
 }
 
@@ -184,79 +212,133 @@ fn thousand_numbers(alloc: Global) -> Result<(u64, usize), AllocError> {
     Ok((memory.granted(), list.len()))
 }
 
-/// The last number of a thousand; those about 700 once it is set; 3 and 700 once 3 is set too.
-fn numbers_seen(alloc: Global) -> Result<[u32; 6], AllocError> {
-    let mut list = SystemMemory::new(alloc).numbers(1000)?;
-    let last = list[999];
-    list.set(700, 7);
-    let [before, at, after] = [list[699], list[700], list[701]];
-    list.set(3, 9);
-    Ok([last, before, at, after, list[3], list[700]])
+/// A call on a list of numbers.
+#[derive(Clone, Copy)]
+enum NumberCall {
+    /// How many numbers the list has.
+    Len,
+    /// A number.
+    Get(usize),
+    /// Sets a number.
+    Set(usize, u32),
+    /// Fills the list.
+    Fill(u32),
+    /// Puts the part from an index up to another one in order.
+    Sort(usize, usize),
 }
+
+/// The answer of a call: 0 where it has none, and nothing where there is no such number or part.
+fn number_answer(list: &mut FilledList<u32>, call: NumberCall) -> Option<u64> {
+    let len = list.len();
+    match call {
+        NumberCall::Len => Some(len as u64),
+        NumberCall::Get(index) if index < len => Some(u64::from(list[index])),
+        NumberCall::Set(index, number) if index < len => {
+            list.set(index, number);
+            Some(0)
+        }
+        NumberCall::Fill(number) => {
+            list.fill(number);
+            Some(0)
+        }
+        NumberCall::Sort(from, to) if from <= to && to <= len => {
+            list.sort_part(from, to);
+            Some(0)
+        }
+        _ => None,
+    }
+}
+
+/// Makes calls on so many numbers, and compares their answers.
+fn number_answers(
+    rt: &(impl Abort + AllocGlobal),
+    count: usize,
+    calls: &[(NumberCall, u64)],
+) -> Result<(), AllocError> {
+    let mut list = SystemMemory::new(rt.alloc()).numbers(count)?;
+    for (index, (call, wanted)) in calls.iter().enumerate() {
+        let found = number_answer(&mut list, *call);
+        same(rt, &(index, found), &(index, Some(*wanted)));
+    }
+    Ok(())
+}
+
+/// The last number of a thousand; those about 700 once it is set; 3 and 700 once 3 is set too.
+static NUMBERS: [(NumberCall, u64); 8] = [
+    (NumberCall::Get(999), 0),
+    (NumberCall::Set(700, 7), 0),
+    (NumberCall::Get(699), 0),
+    (NumberCall::Get(700), 7),
+    (NumberCall::Get(701), 0),
+    (NumberCall::Set(3, 9), 0),
+    (NumberCall::Get(3), 9),
+    (NumberCall::Get(700), 7),
+];
 
 /// How many numbers a list has that is filled after 3 and 700 were set, and three of them; those
 /// about 1 once it is set.
-fn filled_numbers_seen(alloc: Global) -> Result<(usize, [u32; 6]), AllocError> {
-    let mut list = SystemMemory::new(alloc).numbers(1000)?;
-    list.set(700, 7);
-    list.set(3, 9);
-    list.fill(5);
-    let [low, high, last] = [list[3], list[700], list[999]];
-    let count = list.len();
-    list.set(1, 2);
-    Ok((count, [low, high, last, list[0], list[1], list[2]]))
-}
+static FILLED: [(NumberCall, u64); 11] = [
+    (NumberCall::Set(700, 7), 0),
+    (NumberCall::Set(3, 9), 0),
+    (NumberCall::Fill(5), 0),
+    (NumberCall::Get(3), 5),
+    (NumberCall::Get(700), 5),
+    (NumberCall::Get(999), 5),
+    (NumberCall::Len, 1000),
+    (NumberCall::Set(1, 2), 0),
+    (NumberCall::Get(0), 5),
+    (NumberCall::Get(1), 2),
+    (NumberCall::Get(2), 5),
+];
 
 /// Numbers are 0 until one is set, and again once the list is filled.
 #[test]
 fn numbers_set_and_filled(rt: HostRuntime) -> Result<(), Fail> {
     same(&rt, &thousand_numbers(rt.alloc())?, &(4000, 1000));
-    same(&rt, &numbers_seen(rt.alloc())?, &[0, 0, 7, 0, 9, 7]);
-    same(
-        &rt,
-        &filled_numbers_seen(rt.alloc())?,
-        &(1000, [5, 5, 5, 5, 2, 5]),
-    );
+    number_answers(&rt, 1000, &NUMBERS)?;
+    number_answers(&rt, 1000, &FILLED)?;
     Ok(())
 }
 
-/// A list of eight numbers, of which the first four are set.
-fn eight(alloc: Global) -> Result<FilledList<u32>, AllocError>
-    ensures { IfOk result (λ list. vec_len list ≡ 8) }
-{
-    let mut list = SystemMemory::new(alloc).numbers(8)?;
-    set_first_filled(&mut list, &[9, 8, 2, 6]);
-    Ok(list)
-}
-
-/// The eight numbers after these parts were put in order, one after the other.
-fn sorted(parts: &[(usize, usize)], alloc: Global) -> Result<[u32; 8], AllocError> {
-    let mut list = eight(alloc)?;
-    for &(from, to) in parts {
-        if from <= to && to <= list.len() {
-            list.sort_part(from, to);
-        }
-    }
-    let mut found = [0; 8];
-    for (index, number) in found.iter_mut().enumerate() {
-        if index < list.len() {
-            *number = list[index];
-        }
-    }
-    Ok(found)
-}
+/// Eight numbers, of which the first four are set, after each of three parts was put in order.
+static SORTED: [(NumberCall, u64); 31] = [
+    (NumberCall::Set(0, 9), 0),
+    (NumberCall::Set(1, 8), 0),
+    (NumberCall::Set(2, 2), 0),
+    (NumberCall::Set(3, 6), 0),
+    (NumberCall::Sort(1, 1), 0),
+    (NumberCall::Get(0), 9),
+    (NumberCall::Get(1), 8),
+    (NumberCall::Get(2), 2),
+    (NumberCall::Get(3), 6),
+    (NumberCall::Get(4), 0),
+    (NumberCall::Get(5), 0),
+    (NumberCall::Get(6), 0),
+    (NumberCall::Get(7), 0),
+    (NumberCall::Sort(1, 3), 0),
+    (NumberCall::Get(0), 9),
+    (NumberCall::Get(1), 2),
+    (NumberCall::Get(2), 8),
+    (NumberCall::Get(3), 6),
+    (NumberCall::Get(4), 0),
+    (NumberCall::Get(5), 0),
+    (NumberCall::Get(6), 0),
+    (NumberCall::Get(7), 0),
+    (NumberCall::Sort(2, 6), 0),
+    (NumberCall::Get(0), 9),
+    (NumberCall::Get(1), 2),
+    (NumberCall::Get(2), 0),
+    (NumberCall::Get(3), 0),
+    (NumberCall::Get(4), 6),
+    (NumberCall::Get(5), 8),
+    (NumberCall::Get(6), 0),
+    (NumberCall::Get(7), 0),
+];
 
 /// Part of a list is put in order, what wasn't set among it, and the numbers beside it stay.
 #[test]
 fn part_sorted(rt: HostRuntime) -> Result<(), Fail> {
-    let [none, some, all] = [
-        [(1, 1)].as_slice(),
-        &[(1, 1), (1, 3)],
-        &[(1, 1), (1, 3), (2, 6)],
-    ];
-    same(&rt, &sorted(none, rt.alloc())?, &[9, 8, 2, 6, 0, 0, 0, 0]);
-    same(&rt, &sorted(some, rt.alloc())?, &[9, 2, 8, 6, 0, 0, 0, 0]);
-    same(&rt, &sorted(all, rt.alloc())?, &[9, 2, 0, 0, 6, 8, 0, 0]);
+    number_answers(&rt, 8, &SORTED)?;
     Ok(())
 }
 

@@ -53,23 +53,25 @@ fn counted(order: Order, more: &[Number], alloc: Global) -> Result<(End, u64), A
     Ok((end, image.reads()))
 }
 
+/// What the volume holds beside the root, how a check of it ends, and how often it reads.
+static CASES: [(&[Number], End, u64); 7] = [
+    (&[], End::Consistent, 6),
+    (&[(28930, 2, 3)], End::Defects, 6),
+    (&NAMED, End::Defects, 6),
+    (&LOST, End::Defects, 7),
+    (&SHARED, End::Defects, 9),
+    (&[(28928, 2, 0)], End::RootStop, 3),
+    (&[(9564, 4, 0)], End::Refused(SuperFault::Magic), 1),
+];
+
 /// The counts are those of the system calls of the program on the same bytes in a file. A clean
 /// volume of this size has six: the superblock and its copy, the inodes, the root's chunk, and the
 /// summary record and the block of the group. With a second directory there is its chunk; with two
 /// indirect blocks these, and the first one again in phase 1b. Other defects ask for no more.
 #[test]
 fn reads_of_a_check(rt: HostRuntime) -> Result<(), Fail> {
-    let cases: [(&[Number], End, u64); 7] = [
-        (&[], End::Consistent, 6),
-        (&[(28930, 2, 3)], End::Defects, 6),
-        (&NAMED, End::Defects, 6),
-        (&LOST, End::Defects, 7),
-        (&SHARED, End::Defects, 9),
-        (&[(28928, 2, 0)], End::RootStop, 3),
-        (&[(9564, 4, 0)], End::Refused(SuperFault::Magic), 1),
-    ];
     for order in ORDERS {
-        for (more, end, reads) in cases {
+        for &(more, end, reads) in &CASES {
             same(&rt, &counted(order, more, rt.alloc())?, &(end, reads));
         }
     }
