@@ -331,7 +331,7 @@ fn stands_last(chunk: &[u8; 512], order: Order, name: &[u8]) -> bool {
     entry_at(order, &last, 500).is_some()
 }
 
-/// Names with their lengths before them, and whether an entry stands there.
+/// A name with its length before it, and whether there is an entry with it.
 static NAMES: [(&[u8; 5], bool); 3] = [
     (b"\x03abc\0", true),
     (b"\x03a/b\0", false),

@@ -1,4 +1,4 @@
--- What the lines of phase 1 tell: which inodes they blame, and whether there is a Dup line.
+-- What the lines of phase 1 say: which inodes they blame, and whether there is a Dup line.
 use Rattle.std.proofs.Common.{◌≡◌, ◌⊎◌, inl, inr, ℕ, zero, suc, ◌+◌, ◌<◌, ◌≤◌, Bool, true, false, not, ◌&&◌, ◌||◌, ◌==◌}
 use Rattle.std.proofs.Common.{if◌then◌else◌, List, [], ◌∷◌, ◌++◌, length, replicate, slice_set, length-set, ◌≢◌, arith}
 use Rattle.std.proofs.Common.{refl, ap, ◌∙◌, sym, ◌-◌, nat_lt, nat_le, map}
@@ -30,7 +30,7 @@ use Rattle.ffs_claims.proofs.{Numbers.before_first, StepsContinue.set_again}
 -- ---- what holds of the offers, Runs and steps of an inode, and of their lines
 -- R is of claims, lines and the claims after them. It holds where nothing happens, of each offer,
 -- of a Run that is counted, of a bad one and of a Tail, and of two parts one after the other
-pub record IsTold (v : Layout) (i : ℕ) (R : Claims → List BlockMessage → Claims → Type 0) : Type 0 where
+pub record HoldsOfEach (v : Layout) (i : ℕ) (R : Claims → List BlockMessage → Claims → Type 0) : Type 0 where
   pub none : (s : Claims) → R s [] s
   pub after : (s t u : Claims) (xs ys : List BlockMessage) → R s xs t → R t ys u → R s (xs ++ ys) u
   pub kept : (s : Claims) → R s [] (record s { kept = s.kept + 1 })
@@ -43,9 +43,9 @@ pub record IsTold (v : Layout) (i : ℕ) (R : Claims → List BlockMessage → C
       R s (Bad start i ∷ (if many then ManyBad i ∷ [] else [])) (record s { runs = s.runs + 1; bad = s.bad + 1 })
   pub tail : (s : Claims) (first : Bool) → R s (if first then PartTrunc i ∷ [] else []) (record s { tail = true })
 
-module _ {v : Layout} {i : ℕ} {R : Claims → List BlockMessage → Claims → Type 0} (p : IsTold v i R) where
-  offer_told : (s : Claims) (f : ℕ) → R s (offer_lines v i s f) (after_offer v s f)
-  offer_told s f = go (record s { kept = s.kept + 1 }) (record s { kept = s.kept + 1; used = slice_set s.used f true })
+module _ {v : Layout} {i : ℕ} {R : Claims → List BlockMessage → Claims → Type 0} (p : HoldsOfEach v i R) where
+  offer_holds : (s : Claims) (f : ℕ) → R s (offer_lines v i s f) (after_offer v s f)
+  offer_holds s f = go (record s { kept = s.kept + 1 }) (record s { kept = s.kept + 1; used = slice_set s.used f true })
       (record s { kept = s.kept + 1; dups = s.dups + 1; dup = slice_set s.dup f true }) (p.kept s) (p.claimed s f)
       (p.dup s f (s.dups == 10)) (nat_lt s.dups 11) (is_fragment_in_range v f) refl (is_set s.used f)
     where
@@ -59,14 +59,14 @@ module _ {v : Layout} {i : ℕ} {R : Claims → List BlockMessage → Claims →
       go t u w kept claimed dup true true e false = claimed
       go t u w kept claimed dup true true e true = dup e
 
-  offers_told : (s : Claims) (fs : List ℕ) → R s (lines_of_offers v i s fs) (after_offers v s fs)
-  offers_told s [] = p.none s
-  offers_told s (f ∷ fs) = p.after s (after_offer v s f) (after_offers v (after_offer v s f) fs)
-      (offer_lines v i s f) (lines_of_offers v i (after_offer v s f) fs) (offer_told s f)
-      (offers_told (after_offer v s f) fs)
+  offers_hold : (s : Claims) (fs : List ℕ) → R s (lines_of_offers v i s fs) (after_offers v s fs)
+  offers_hold s [] = p.none s
+  offers_hold s (f ∷ fs) = p.after s (after_offer v s f) (after_offers v (after_offer v s f) fs)
+      (offer_lines v i s f) (lines_of_offers v i (after_offer v s f) fs) (offer_holds s f)
+      (offers_hold (after_offer v s f) fs)
 
-  run_told : (s : Claims) (start len : ℕ) → R s (run_lines v i s start len) (after_run v s start len)
-  run_told s start len = go (record s { runs = s.runs + 1 })
+  run_holds : (s : Claims) (start len : ℕ) → R s (run_lines v i s start len) (after_run v s start len)
+  run_holds s start len = go (record s { runs = s.runs + 1 })
       (record s { runs = s.runs + 1; bad = s.bad + 1 }) (range_with_len start len) (p.seen s) (p.bad s start)
       (is_run_in_range v start len) (s.bad == 10)
     where
@@ -76,30 +76,30 @@ module _ {v : Layout} {i : ℕ} {R : Claims → List BlockMessage → Claims →
           else Bad start i ∷ (if z then ManyBad i ∷ [] else lines_of_offers v i u fs))
           (if a then after_offers v t fs else (if z then u else after_offers v u fs))
       go t u fs seen bad true z =
-          p.after s t (after_offers v t fs) [] (lines_of_offers v i t fs) seen (offers_told t fs)
+          p.after s t (after_offers v t fs) [] (lines_of_offers v i t fs) seen (offers_hold t fs)
       go t u fs seen bad false true = bad true
       go t u fs seen bad false false =
-          p.after s u (after_offers v u fs) (Bad start i ∷ []) (lines_of_offers v i u fs) (bad false) (offers_told u fs)
+          p.after s u (after_offers v u fs) (Bad start i ∷ []) (lines_of_offers v i u fs) (bad false) (offers_hold u fs)
 
-  step_told : (s : Claims) (step : Step) → R s (step_lines v i s step) (after_step v s step)
-  step_told s Gap = p.none s
-  step_told s Tail = go (is_open s)
+  step_holds : (s : Claims) (step : Step) → R s (step_lines v i s step) (after_step v s step)
+  step_holds s Gap = p.none s
+  step_holds s Tail = go (is_open s)
     where
       go : (o : Bool) → R s (if o && not s.tail then PartTrunc i ∷ [] else [])
           (if o then record s { tail = true } else s)
       go true = p.tail s (not s.tail)
       go false = p.none s
-  step_told s (Run start len block) = go (is_open s)
+  step_holds s (Run start len block) = go (is_open s)
     where
       go : (o : Bool) → R s (if o then run_lines v i s start len else []) (if o then after_run v s start len else s)
-      go true = run_told s start len
+      go true = run_holds s start len
       go false = p.none s
 
-  pub steps_told : (s : Claims) (steps : List Step) → R s (lines_of_steps v i s steps) (after_steps v s steps)
-  steps_told s [] = p.none s
-  steps_told s (step ∷ steps) = p.after s (after_step v s step) (after_steps v (after_step v s step) steps)
-      (step_lines v i s step) (lines_of_steps v i (after_step v s step) steps) (step_told s step)
-      (steps_told (after_step v s step) steps)
+  pub steps_hold : (s : Claims) (steps : List Step) → R s (lines_of_steps v i s steps) (after_steps v s steps)
+  steps_hold s [] = p.none s
+  steps_hold s (step ∷ steps) = p.after s (after_step v s step) (after_steps v (after_step v s step) steps)
+      (step_lines v i s step) (lines_of_steps v i (after_step v s step) steps) (step_holds s step)
+      (steps_hold (after_step v s step) steps)
 
 -- lines that add to what is known: what they report, with what was known, is what then is known
 pub or_then : (a b s t u : Bool) → (a || s) ≡ t → (b || t) ≡ u → ((a || b) || s) ≡ u
@@ -136,8 +136,8 @@ more_dups n d = grind (arith, nat_tests)
 more_bad : (n d : ℕ) → not (n + 1 == 0 && d == 0) ≡ true
 more_bad n d = grind (arith, nat_tests)
 
-blames_told : (v : Layout) (x i : ℕ) → IsTold v i (Blames x i)
-blames_told v x i = record {
+blames_hold : (v : Layout) (x i : ℕ) → HoldsOfEach v i (Blames x i)
+blames_hold v x i = record {
   none = λ s. refl;
   after = λ s t u xs ys p q. blames_then x i s t u xs ys p q;
   kept = λ s. refl;
@@ -181,7 +181,7 @@ owner_blames v x s o =
     ∙ list_any-append (blames x) steps count
     ∙ ap (λ b. list_any (blames x) steps || b) (count_silent v x o (after_owner v s o)
     ∙ sym (and-false (o.number == x)))
-    ∙ steps_told (blames_told v x o.number) (at_next_inode s) o.steps
+    ∙ steps_hold (blames_hold v x o.number) (at_next_inode s) o.steps
 
 -- whether the lines of phase 1 on the inode x blame it
 abbrev blame_at : Layout → List ℕ → ℕ → Bool
@@ -295,8 +295,8 @@ dups_then s t u xs ys p q = (
   q.1 ∙ p.1,
 )
 
-dups_told : (v : Layout) (i : ℕ) → IsTold v i (λ s lines t. length s.dup ≡ v.size → DupsAreReported s lines t)
-dups_told v i = record {
+dups_hold : (v : Layout) (i : ℕ) → HoldsOfEach v i (λ s lines t. length s.dup ≡ v.size → DupsAreReported s lines t)
+dups_hold v i = record {
   none = λ s h. (refl, refl);
   after = λ s t u xs ys p q h. dups_then s t u xs ys (p h) (q ((p h).1 ∙ h));
   kept = λ s h. (refl, refl);
@@ -331,7 +331,7 @@ owner_dups v s o h =
     (lines_of_steps v o.number (at_next_inode s) o.steps ++ count_lines v o (after_owner v s o))
     (ap (λ b. b || any_set s.dup) (class_none o.number o.class), refl)
     (dups_then s (after_owner v s o) (after_owner v s o) (lines_of_steps v o.number (at_next_inode s) o.steps)
-    (count_lines v o (after_owner v s o)) (steps_told (dups_told v o.number) (at_next_inode s) o.steps h)
+    (count_lines v o (after_owner v s o)) (steps_hold (dups_hold v o.number) (at_next_inode s) o.steps h)
     (ap (λ b. b || any_set (after_owner v s o).dup) (count_none v o (after_owner v s o)), refl))
 
 owners_dups : (v : Layout) (s : Claims) (os : List Owner) → length s.dup ≡ v.size →
