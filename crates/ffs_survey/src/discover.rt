@@ -131,14 +131,12 @@ fn is_calm(entry: EntryHead, index: u32, current: &CurrentDir, lists: &Lists) ->
     ensures { result ≡ is_calm_entry (current_of current.now) (bool_at lists.now.reached.now) index
         (roled_of entry []) }
 {
-    if index >= 2 {
-        return entry.role == Role::Empty
-            || entry.role == Role::Plain && is_calm_plain(entry, current, lists);
-    }
     match entry.role {
         Role::Dot => index == 0 && entry.number == current.dir && entry.kind == DT_DIR,
         Role::Dotdot => index == 1 && entry.number == current.parent && entry.kind == DT_DIR,
-        Role::Extra | Role::Empty | Role::Plain => false,
+        Role::Extra => false,
+        Role::Empty => index >= 2,
+        Role::Plain => index >= 2 && is_calm_plain(entry, current, lists),
     }
 }
 
