@@ -18,7 +18,7 @@ use Rattle.ffs_volume.specs.Directories.PathnameCheck.{root_lines, root_lines_of
 use Rattle.ffs_volume.specs.Directories.PathnameCheck.{has_partial_chunk, are_sound, shape_lines, dot_lines}
 use Rattle.ffs_volume.specs.Directories.PathnameCheck.{dot_lines_of, missing_dot_lines, is_wrong_parent, dotdot_lines}
 use Rattle.ffs_volume.specs.Directories.PathnameCheck.{dotdot_lines_of, missing_dotdot_lines, sized_dir_lines}
-use Rattle.ffs_volume.specs.Directories.PathnameCheck.{is_looked_at, directory_lines, pathname_lines}
+use Rattle.ffs_volume.specs.Directories.PathnameCheck.{is_sized_dir, directory_lines, pathname_lines}
 use Rattle.ffs_volume.specs.Directories.Connectivity.{is_dead, is_unref_dir, connectivity_lines}
 use Rattle.ffs_volume.specs.Directories.ReferenceCheck.{dead_lines, unref_lines, inode_lines, reference_lines_at}
 use Rattle.ffs_volume.specs.Directories.{Roles.references, ReferenceCheck.reference_lines, Parents.graph_of}
@@ -260,7 +260,7 @@ pathname-quiet v h =
       root = r.0;
       suspect = r.1;
       each = λ d k n.
-          dir-quiet v d (then-quiet (is_looked_at v d) (sized_dir_lines v d)
+          dir-quiet v d (then-quiet (is_sized_dir v d) (sized_dir_lines v d)
           (lines-quiet (directory_lines v) v.count a d (dir-below v d k))
           (and_from (is_dir v d) _ k (not_from_false _ (ne_eqb (v.inode d).size 0 n))));
     }
@@ -270,7 +270,7 @@ unfolding pathname_lines root_lines
 pathname-silent v q =
     nil-both (root_lines v) _ (ap (root_lines_of v) q.root ∙ reported-silent _ root_suspect q.suspect)
     (then-silent (continues_after_root v) (lines_below (directory_lines v) v.count) (λ g.
-    lines-silent (directory_lines v) v.count (λ d l. then-silent (is_looked_at v d) (sized_dir_lines v d) (λ k.
+    lines-silent (directory_lines v) v.count (λ d l. then-silent (is_sized_dir v d) (sized_dir_lines v d) (λ k.
     let p = and_parts (is_dir v d) (not ((v.inode d).size == 0)) k in
     dir-silent v d (q.each d p.0 (eqb-false (v.inode d).size 0 (not-true _ p.1)))))))
 

@@ -10,6 +10,14 @@
 //! std::process::exit(end.status());
 //! ```
 //!
+//! Its modules:
+//!
+//! - `check` is the whole check, and how it ends. `opening` says what comes before the phases, and
+//!   `rest` runs these one after another.
+//! - `run` goes from the words of a command line to a check of the image that they name: `args` is
+//!   what they may ask for, `parse_args` finds that by `clap`, and `opener` opens the image.
+//! - `wrong_words` says what is written where no check is run, `version` what the program is.
+//!
 //! It rests on all crates of phases, and on `clap` for the arguments.
 #![tactic(auto)]
 

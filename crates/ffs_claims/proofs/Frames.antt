@@ -25,11 +25,11 @@ found_then p q = record {
 }
 
 pub claims_none : (w : Workspace) → SameClaims w w
-claims_none w = record { claimed = refl; kinds = refl; notes = refl; references = refl; seen = refl }
+claims_none w = record { used = refl; kinds = refl; notes = refl; references = refl; seen = refl }
 
 pub claims_then : {u v w : Workspace} → SameClaims u v → SameClaims v w → SameClaims u w
 claims_then p q = record {
-  claimed = q.claimed ∙ p.claimed;
+  used = q.used ∙ p.used;
   kinds = q.kinds ∙ p.kinds;
   notes = q.notes ∙ p.notes;
   references = q.references ∙ p.references;
@@ -51,10 +51,10 @@ pub only_then : {l : Layout} {u v w : Workspace} → ClaimsOnly l u v → Claims
 only_then p q = record { made = q.made; windows = q.windows ∙ p.windows; found = found_then p.found q.found }
 
 -- an offer that changes the map of claims, or none, and the count of kept offers
-pub offers_claimed : {l : Layout} {w : Workspace} {map : FragmentMap} {kept : ℕ} → IsFor l w → map.size ≡ w.claimed.size
-    → OffersOnly l w (record w { claimed = map; kept = kept })
+pub offers_claimed : {l : Layout} {w : Workspace} {map : FragmentMap} {kept : ℕ} → IsFor l w → map.size ≡ w.used.size
+    → OffersOnly l w (record w { used = map; kept = kept })
 offers_claimed m size =
-    let claimed = size ∙ m.claimed in
+    let used = size ∙ m.used in
     record { claiming = record { made = search rules; windows = refl; found = search rules }; runs = refl }
 
 pub offers_none : {l : Layout} {w : Workspace} → IsFor l w → OffersOnly l w w

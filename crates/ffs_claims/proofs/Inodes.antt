@@ -24,12 +24,12 @@ use Rattle.ffs_claims.specs.{Lines.owner_with, Lines.counted_owner, declared.are
 pub moves_on : {v : Layout} {s0 s' : Claims} {w : Workspace} (step : Step) → IsFor v w → v.frag ≤ 8 →
     HasLength v.frag step → s' ≡ after_step v (claims_of w) step → ClaimBound s0 (claims_of w) → ClaimBound s0 s'
 moves_on {v = v} {s0 = s0} {w = w} step made small some now before = rw now (moves_then s0 (claims_of w) _ before
-    (step_moves v (claims_of w) step (bits_long w.claimed ∙ made.claimed) small some))
+    (step_moves v (claims_of w) step (bits_long w.used ∙ made.used) small some))
 
 -- at most the volume's fragments are used
 pub used_below : {v : Layout} {w : Workspace} → IsFor v w → used_bits (claims_of w) ≤ v.size
 used_below {w = w} made =
-    let size = bits_long w.claimed ∙ made.claimed in
+    let size = bits_long w.used ∙ made.used in
     omega (arith, count_by-le-length (λ b. b) (claims_of w).used, size)
 
 open_few : (s : Claims) → is_open s ≡ true → (s.bad < 11) × (s.dups < 11)

@@ -258,7 +258,7 @@ pub claims_hold : (v : Layout) (bytes : List ℕ) (old new : Workspace) → Hold
     OffersReported (kept_in_owners v (no_claims v) (owners_of v bytes)) old new → HoldsClaims v bytes new
 unfolding all_claims phase1b_lines
 claims_hold v bytes old new h same t = record {
-  used = ap bits_of same.claimed ∙ h.used;
+  used = ap bits_of same.used ∙ h.used;
   kinds = λ x. ap (λ k. slice_index k.items x) same.kinds ∙ h.kinds x;
   notes = λ x. ap (λ k. slice_index k.items x) same.notes ∙ h.notes x;
   marked = λ x. t.marked x ∙ rw (h.marked x, h.dup)

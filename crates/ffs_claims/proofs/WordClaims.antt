@@ -16,9 +16,9 @@ use Rattle.ffs_claims.specs.{Leaves.ClaimsOnly, SilentWords.ClaimsSilently, Sile
 
 -- a Run in range of which all fragments are unclaimed
 pub run_claims : {v : Layout} {old new : Workspace} (start block : ℕ) → is_open (claims_of old) ≡ true → start ≢ 0 →
-    is_run_in_range v start v.frag ≡ true → AreClear (bits_of old.claimed) start v.frag →
+    is_run_in_range v start v.frag ≡ true → AreClear (bits_of old.used) start v.frag →
     claims_of new ≡ record (claims_of old)
-    { used = set_run (bits_of old.claimed) start v.frag; runs = old.runs_seen + 1; kept = old.kept + v.frag } →
+    { used = set_run (bits_of old.used) start v.frag; runs = old.runs_seen + 1; kept = old.kept + v.frag } →
     ClaimsSilently v (word_step v.frag start block) old new
 run_claims {v = v} {old = old} start block uncut some fits clear now =
     let both = and_parts (nat_lt old.bad 11) (nat_lt old.dups 11) uncut in

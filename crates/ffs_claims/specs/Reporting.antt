@@ -23,7 +23,7 @@ pub record OffersReported (offers : List Offer) (old new : Workspace) : Type 0 w
 -- a call left the claims alone, what each inode is, what is noted of it, where its count of
 -- references starts, and the Runs of phase 1
 pub record SameClaims (old new : Workspace) : Type 0 where
-  pub claimed : new.claimed ≡ old.claimed
+  pub used : new.used ≡ old.used
   pub kinds : new.kinds ≡ old.kinds
   pub notes : new.notes ≡ old.notes
   pub references : new.references ≡ old.references

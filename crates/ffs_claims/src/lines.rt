@@ -33,7 +33,8 @@ pub fn say_class<W: Output>(
     }
 }
 
-/// Reports a bad Run by its first fragment. `many` says that it is the eleventh one of its inode.
+/// Reports a bad Run by its first fragment. `is_eleventh` says that it is the eleventh one of its
+/// inode.
 ///
 /// # Errors
 /// A write of the report that failed.
@@ -41,19 +42,19 @@ pub fn say_bad<W: Output>(
     report: &mut Report<'_, W>,
     inode: u32,
     fragment: u32,
-    many: bool,
+    is_eleventh: bool,
 ) -> Result<(), OutFault>
     ensures { Says (progress W.sink report.old) (progress W.sink report.new)
-        (of_lines (bad_lines inode fragment many)) result }
+        (of_lines (bad_lines inode fragment is_eleventh)) result }
 {
     report.say(&Line::Block(BlockMessage::Bad { fragment, inode }))?;
-    if many {
+    if is_eleventh {
         return report.say(&Line::Block(BlockMessage::ManyBad { inode }));
     }
     Ok(())
 }
 
-/// Reports a dup offer. `many` says that it is the eleventh one of its inode.
+/// Reports a dup offer. `is_eleventh` says that it is the eleventh one of its inode.
 ///
 /// # Errors
 /// A write of the report that failed.
@@ -61,13 +62,13 @@ pub fn say_dup<W: Output>(
     report: &mut Report<'_, W>,
     inode: u32,
     fragment: u32,
-    many: bool,
+    is_eleventh: bool,
 ) -> Result<(), OutFault>
     ensures { Says (progress W.sink report.old) (progress W.sink report.new)
-        (of_lines (dup_lines inode fragment many)) result }
+        (of_lines (dup_lines inode fragment is_eleventh)) result }
 {
     report.say(&Line::Block(BlockMessage::Dup { fragment, inode }))?;
-    if many {
+    if is_eleventh {
         return report.say(&Line::Block(BlockMessage::ManyDup { inode }));
     }
     Ok(())

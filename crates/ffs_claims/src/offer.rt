@@ -60,7 +60,7 @@ fn take(workspace: &mut Workspace, geometry: &Geometry, fragment: u64, in_range:
         return false;
     }
     let index = fragment as u32;
-    if workspace.claimed.claim(index, 1) {
+    if workspace.used.claim(index, 1) {
         return false;
     }
     workspace.dups += 1;
@@ -86,11 +86,11 @@ fn offer<W: Output>(
         ≡ after_offer geometry.now.layout (claims_of workspace.old) fragment }
     ensures only { OffersOnly geometry.now.layout workspace.old workspace.new }
 {
-    let many = workspace.dups == MAXDUP;
+    let is_eleventh = workspace.dups == MAXDUP;
     if !take(workspace, geometry, fragment, in_range) {
         return Ok(());
     }
-    say_dup(report, number, fragment as u32, many)
+    say_dup(report, number, fragment as u32, is_eleventh)
 }
 
 /// Takes the offers of a Run, one after another, and reports what is wrong with them. `in_range`
@@ -147,7 +147,7 @@ fn run_in_range<W: Output>(
         (after_offers geometry.now.layout (claims_of workspace.old) (range_with_len start len))) }
     ensures only { OffersOnly geometry.now.layout workspace.old workspace.new }
 {
-    if workspace.claimed.claim(start, len) {
+    if workspace.used.claim(start, len) {
         workspace.kept += u64::from(len);
         return Ok(true);
     }
@@ -204,10 +204,10 @@ fn run<W: Output>(
     if area.in_range(geometry, start, len) {
         return run_in_range(workspace, geometry, number, start, len, report);
     }
-    let many = workspace.bad == MAXBAD;
+    let is_eleventh = workspace.bad == MAXBAD;
     workspace.bad += 1;
-    say_bad(report, number, start, many)?;
-    if many {
+    say_bad(report, number, start, is_eleventh)?;
+    if is_eleventh {
         return Ok(false);
     }
     offers_of_bad_run(workspace, geometry, number, start, len, report)?;

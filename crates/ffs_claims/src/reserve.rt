@@ -28,7 +28,7 @@ fn set_reserved(map: &mut FragmentMap, geometry: &Geometry)
     }
 }
 
-/// Sets the reserved fragments in the map `claimed`, and the count of Runs and all counts of the
+/// Sets the reserved fragments in the map `used`, and the count of Runs and all counts of the
 /// current inode to 0.
 pub fn reserve(workspace: &mut Workspace, geometry: &Geometry)
     requires made { IsFor geometry.now.layout workspace.old }
@@ -39,5 +39,5 @@ pub fn reserve(workspace: &mut Workspace, geometry: &Geometry)
 {
     begin(workspace);
     workspace.runs_seen = 0;
-    set_reserved(&mut workspace.claimed, geometry);
+    set_reserved(&mut workspace.used, geometry);
 }

@@ -37,7 +37,7 @@ fn claim_address(
     if !area.contains(address, len) {
         return false;
     }
-    if !workspace.claimed.claim(address, len) {
+    if !workspace.used.claim(address, len) {
         return false;
     }
     workspace.runs_seen += 1;

@@ -66,7 +66,7 @@ says_next T E t t' xs ys a b c r p e q = subst (λ (ms : List Message). Says a c
 -- ---- the lines of the groups
 -- which fragments are free by a workspace
 abbrev pub free_of : Layout → Workspace → ℕ → Bool
-free_of v w = free_in (bits_of w.claimed) v.size
+free_of v w = free_in (bits_of w.used) v.size
 
 -- the lines of the groups from c on, and of the totals, where some were reported before
 abbrev pub lines_after : Layout → List ℤ → Workspace → AlreadyReported → ℕ → List ℕ → List Message
@@ -140,11 +140,11 @@ totals_right v free class totals n t a e = rw (a.dirs, a.blocks, a.inodes, a.fra
 -- the right counts of a group are those of a workspace of which only the windows have changed
 pub counts_held : (v : Layout) (old new : Workspace) (kinds : List ℕ) (c : ℕ) (counts : GroupCounts) →
     new ≡ record old { windows = new.windows } → kinds ≡ new.kinds.items →
-    counts ≡ right_group_counts v (free_in (bits_of new.claimed) v.size) (class_in kinds) c →
-    counts ≡ right_group_counts v (free_in (bits_of old.claimed) v.size) (class_in old.kinds.items) c
+    counts ≡ right_group_counts v (free_in (bits_of new.used) v.size) (class_in kinds) c →
+    counts ≡ right_group_counts v (free_in (bits_of old.used) v.size) (class_in old.kinds.items) c
 counts_held v old new kinds c counts e same is =
-    is ∙ ap (λ (ks : List ℕ). right_group_counts v (free_in (bits_of new.claimed) v.size) (class_in ks) c) same
-    ∙ ap (λ (w : Workspace). right_group_counts v (free_in (bits_of w.claimed) v.size) (class_in w.kinds.items) c) e
+    is ∙ ap (λ (ks : List ℕ). right_group_counts v (free_in (bits_of new.used) v.size) (class_in ks) c) same
+    ∙ ap (λ (w : Workspace). right_group_counts v (free_in (bits_of w.used) v.size) (class_in w.kinds.items) c) e
 
 -- one more count of below 2^32 was added to each
 pub up_next : (n : ℕ) (old new : Totals) (s : SummaryCounts) → AreUpTo n old → new ≡ with_counts old s →

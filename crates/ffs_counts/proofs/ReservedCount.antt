@@ -20,7 +20,7 @@ use Rattle.ffs_volume.proofs.Potentials.{cond_holds}
 use Rattle.ffs_volume.proofs.AreaLaws.{is_in_metadata_of, is_metadata_of_group, group_is}
 use Rattle.ffs_maps.proofs.Counting.{count_join_at}
 use Rattle.ffs_groups.proofs.FreeWords.{sum_const}
-use Rattle.ffs_counts.specs.Reserved.{HasReserved, used_in}
+use Rattle.ffs_counts.specs.Reserved.{HasReserved, claimed_in}
 
 -- ---- which fragments are reserved
 any_of : (a b k : Bool) → (a ≡ true) ⊎ (b ≡ true) → ((a || b) || k) ≡ true
@@ -296,8 +296,8 @@ has_reserved v os f low reserved =
 
 -- how many fragments are claimed, by the map that a workspace holds
 pub used_are : (v : Layout) (image : List ℕ) (used : List Bool) (n : ℕ) →
-    (HasReserved v used → n ≡ used_in v used) →
+    (HasReserved v used → n ≡ claimed_in v used) →
     used ≡ (after_owners v (no_claims v) (owners_of v image)).used → n ≡ claimed_count v image
 unfolding claimed_count
 used_are v image used n e same = e (subst (HasReserved v) (sym same) (has_reserved v (owners_of v image)))
-    ∙ ap (used_in v) same
+    ∙ ap (claimed_in v) same

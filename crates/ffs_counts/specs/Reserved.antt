@@ -9,5 +9,5 @@ abbrev pub HasReserved : Layout → List Bool → Type 0
 HasReserved v used = (f : ℕ) → f < v.size → is_reserved v f ≡ true → is_set used f ≡ true
 
 -- how many fragments are claimed; reserved ones don't count
-abbrev pub used_in : Layout → List Bool → ℕ
-used_in v used = count_by (λ f. is_set used f && not (is_reserved v f)) (range_with_len 0 v.size)
+abbrev pub claimed_in : Layout → List Bool → ℕ
+claimed_in v used = count_by (λ f. is_set used f && not (is_reserved v f)) (range_with_len 0 v.size)

@@ -61,12 +61,12 @@ pub fn read_group<I: Image>(
 ) -> Result<GroupFindings, ImageFault>
     requires group { group < geometry.now.layout.ncg }
     requires counts { AreCounts geometry.now.layout
-        (free_in (bits_of workspace.old.claimed) geometry.now.layout.size)
+        (free_in (bits_of workspace.old.used) geometry.now.layout.size)
         (class_in workspace.old.kinds.items) group counts.now }
     requires ready { IsReady geometry.now.layout (I.device image.old) workspace.old }
     ensures found { IfOk result (λ f. ForContents (I.device image.old).contents (λ bytes.
         lines_of f group ≡ group_lines geometry.now.layout bytes
-        (free_in (bits_of workspace.old.claimed) geometry.now.layout.size)
+        (free_in (bits_of workspace.old.used) geometry.now.layout.size)
         (class_in workspace.old.kinds.items) group)) }
     ensures read { ReadAfter (I.device image.old) (I.device image.new) result }
     ensures counted { I.reads image.new ≤ I.reads image.old + 2 }
@@ -81,7 +81,7 @@ pub fn read_group<I: Image>(
         .fill(image, place, geometry.layout.cgsize as usize)?;
     let records = windows.table.window.bytes();
     let usage = Usage {
-        fragments: &workspace.claimed,
+        fragments: &workspace.used,
         kinds: &workspace.kinds,
     };
     Ok(compare_group(

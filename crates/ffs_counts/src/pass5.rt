@@ -47,7 +47,7 @@ pub fn phase5<I: Image, W: Output>(
     let mut once = AlreadyReported::new();
     let mut totals = Totals::new();
     for group in 0..geometry.layout.ncg {
-        let counts = group_counts(geometry, &workspace.claimed, &workspace.kinds, group);
+        let counts = group_counts(geometry, &workspace.used, &workspace.kinds, group);
         totals.add(&counts.summary);
         let found = read_group(geometry, image, workspace, &counts, group)?;
         say_group(report, &mut once, &found, group)?;

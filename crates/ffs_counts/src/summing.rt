@@ -15,7 +15,7 @@ ghost use Rattle.ffs_image.specs.Device.{Device};
 ghost use Rattle.ffs_groups.specs.Inodes.{class_in};
 ghost use Rattle.ffs_workspace.specs.Holds.{HoldsClaims};
 ghost use Rattle.ffs_workspace.specs.Lengths.{IsFor};
-ghost use Rattle.ffs_counts.specs.Reserved.{HasReserved, used_in};
+ghost use Rattle.ffs_counts.specs.Reserved.{HasReserved, claimed_in};
 
 use ffs_layout::{Geometry, Super};
 use ffs_maps::FragmentMap;
@@ -67,7 +67,7 @@ fn reserved_count(geometry: &Geometry) -> u32
 fn claimed_count(geometry: &Geometry, used: &FragmentMap) -> u32
     requires { used.now.size ≡ geometry.now.layout.size }
     ensures { HasReserved geometry.now.layout (bits_of used.now)
-        → result ≡ used_in geometry.now.layout (bits_of used.now) }
+        → result ≡ claimed_in geometry.now.layout (bits_of used.now) }
 {
     used.count_ones().saturating_sub(reserved_count(geometry))
 }
@@ -123,7 +123,7 @@ pub fn summary<W: Output>(
         device device (progress W.sink report.old) (progress W.sink report.new) result }
 {
     let files = file_count(&workspace.kinds);
-    let used = claimed_count(&superblock.geometry, &workspace.claimed);
+    let used = claimed_count(&superblock.geometry, &workspace.used);
     report.say(&summary_line(superblock, files, used))?;
     Ok(())
 }

@@ -1,7 +1,6 @@
 -- What chunks of a directory p note of the places of parent entries. Words are as in `Places` of
 -- ffs_workspace, but the bit that says in phase 2 that the parent entry of a directory is due
--- (`is_due`) says here that the directory is a parent, and that its chunks are still to be read
--- (`is_due`).
+-- (`is_due`) says here that the directory is a parent whose chunks are still to be read.
 use Rattle.std.specs.Prelude.{◌≡◌, ◌⊎◌, ℕ, suc, ◌<◌, ◌≤◌, ◌==◌, Bool, true, false, not, ◌&&◌, if◌then◌else◌, List, slice_index}
 use Rattle.std.specs.Prelude.{length}
 use Rattle.std.specs.List.{list_any}

@@ -9,7 +9,7 @@ use Rattle.ffs_workspace.specs.declared.workspace.Workspace.{Workspace}
 
 -- the claims, kinds, marks and notes of a workspace, and its counts of Runs
 pub record IsUntouched (old new : Workspace) : Type 0 where
-  pub claimed : new.claimed ≡ old.claimed
+  pub used : new.used ≡ old.used
   pub duplicates : new.duplicates ≡ old.duplicates
   pub kinds : new.kinds ≡ old.kinds
   pub marked : new.marked ≡ old.marked

@@ -1,9 +1,9 @@
 //! The chunks of a directory.
 
-ghost use Rattle.std.specs.Prelude.{◌≡◌, ◌+◌, ◌*◌, ◌%◌, ◌≤◌, ◌<◌, ◌^◌, ◌∷◌, ℕ, List, [], true, Ok, None, OnOk, IfOk, IfSome, IsTrue, OnErr, MatchBool, MatchOption, MatchResult};
+ghost use Rattle.std.specs.Prelude.{◌≡◌, ◌==◌, ◌&&◌, ◌+◌, ◌*◌, ◌%◌, ◌≤◌, ◌<◌, ◌^◌, ◌∷◌, ℕ, List, [], true, false, not, Ok, None, OnOk, IfOk, IfSome, IsTrue, OnErr, MatchBool, MatchOption, MatchResult};
 ghost use Rattle.ffs_image.specs.Device.{ForContents};
 ghost use Rattle.ffs_volume.specs.Blocks.Inodes as inodes;
-ghost use Rattle.ffs_volume.specs.Disk.Numbers.{piece};
+ghost use Rattle.ffs_volume.specs.Disk.{Areas.is_run_in_range, Numbers.piece};
 ghost use Rattle.ffs_volume.specs.Directories.Entries.{bytes_read};
 ghost use Rattle.ffs_volume.specs.declared.Step.{Step};
 ghost use Rattle.ffs_volume.specs.declared.Step.TheVariants.{Run};
@@ -40,8 +40,8 @@ pub struct Chunks {
     pub runs: u64,
     /// Whether a hole was seen.
     pub gap: bool,
-    /// Whether a chunk that is alone in its Run is read past the window: nothing reads it again.
-    pub past_window: bool,
+    /// Whether a chunk that is alone in its Run is read without the window: nothing reads it again.
+    pub without_window: bool,
     ghost bytes_to_read_small: { bytes_to_read ≤ 2 ^ 31 },
     ghost few: { budget ≤ 2 ^ 22 },
     ghost cursor_fits: { CursorFits walk.geometry.layout run_cursor },
@@ -150,7 +150,7 @@ impl Chunks {
             return Ok(None);
         }
         let run_cursor = self.run_cursor;
-        run_cursor.read_chunk(image, window, self.past_window, chunk)?;
+        run_cursor.read_chunk(image, window, self.without_window, chunk)?;
         self.run_cursor.next += 1;
         Ok(Some(run_cursor.offset + DIRBLKSIZ as u64 * u64::from(run_cursor.next)))
     }
@@ -183,7 +183,7 @@ impl Chunks {
             run_cursor: RunCursor::empty(),
             runs: 0,
             gap: false,
-            past_window: false,
+            without_window: false,
         }
     }
 
@@ -204,17 +204,20 @@ impl Chunks {
         self.budget = (bytes_to_read / DIRBLKSIZ as u64) as u32;
         self.runs = 0;
         self.gap = false;
-        self.past_window = false;
+        self.without_window = false;
     }
 
-    /// Begins a reading of a directory of the same volume that has one chunk, at this address, in
-    /// place. It needs no walk: the Run of the chunk is the current Run at once. The chunk is read
-    /// past the window. Returns false, and begins nothing, where the fragment is a hole or out of
-    /// range.
+    /// Begins a reading of a directory of the same volume that has one chunk, at this address in
+    /// fragments, in place. It needs no walk: the Run of the chunk is the current Run at once. The
+    /// chunk is read without the window. Returns false, and changes nothing, where the address is
+    /// that of a hole or out of range.
     #[inline(always)]
     pub fn restart_at(&mut self, address: u32) -> bool
         ensures begins { IsTrue result
             → BeginsAtChunk self.old.walk.geometry.layout address self.new }
+        ensures refused { result ≡ false → self.new ≡ self.old }
+        ensures value { result ≡ (not (address == 0)
+            && is_run_in_range self.old.walk.geometry.layout address 1) }
         ensures geometry { self.new.walk.geometry ≡ self.old.walk.geometry }
     {
         if address == 0 || !self.walk.geometry.in_range(address, 1) {
@@ -225,7 +228,7 @@ impl Chunks {
         self.run_cursor = RunCursor::of_run(&self.walk.geometry, bytes, address, 1, 0);
         self.bytes_to_read = bytes;
         (self.budget, self.runs) = (1, 1);
-        (self.gap, self.past_window) = (false, true);
+        (self.gap, self.without_window) = (false, true);
         true
     }
 

@@ -139,6 +139,7 @@ impl Entries {
             self.restart(&one_chunk_at(address), Class::Dir, 0);
             return;
         }
+        // `index` and `first` are set where the chunk comes.
         self.right_so_far = true;
     }
 

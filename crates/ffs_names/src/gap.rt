@@ -23,7 +23,7 @@ fn is_over(walk: &Walk) -> bool
         && !walk.triple.is_left()
 }
 
-/// Ends a walk, unless it is over: no step is left.
+/// Leaves no step of a walk. One that is over already isn't written.
 #[inline(always)]
 pub(crate) fn end_walk(walk: &mut Walk)
     ensures over { IsOver walk.new }

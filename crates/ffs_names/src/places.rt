@@ -59,7 +59,8 @@ fn note_entry(
         ∷ []) }
     ensures long { vec_len words.new ≡ vec_len words.old }
 {
-    // Whether it is plain depends neither on its index nor on its chunk's place in the file.
+    // Whether an entry is plain depends neither on its index nor on its chunk's place in the file:
+    // any will do here.
     if role_of(false, 0, entry) != Role::Plain || !is_child(parents, dir, entry.number) {
         return;
     }
@@ -281,8 +282,8 @@ pub fn note_places<I: Image>(
     flag_parents(&workspace.reached, &workspace.parents, &mut workspace.queue);
     for dir in ROOTINO..geometry.layout.ncg * geometry.layout.ipg {
         let word = workspace.queue[dir as usize];
-        // The bit that says *due* later in phase 2 says here that the chunks of `dir` are still to be
-        // read (`flag_parents`).
+        // Here a word is due where its directory is a parent whose chunks are still to be read
+        // (`flag_parents`); later in phase 2, where a directory's parent entry is still to come.
         if is_due(word) {
             workspace.queue.set(dir as usize, passed(word));
             note_directory(geometry, image, workspace, dir)?;

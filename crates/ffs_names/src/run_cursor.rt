@@ -89,8 +89,8 @@ impl RunCursor {
     }
 
     /// Reads the next chunk of the Run. The chunks of a Run are read into the window at once,
-    /// unless it holds them. The only chunk of a Run may be read past it, if nothing reads it
-    /// again.
+    /// unless it holds them. The only chunk of a Run may be read without it (`without_window`), if
+    /// nothing reads the chunk again.
     ///
     /// # Errors
     /// A read of the image that failed.
@@ -99,7 +99,7 @@ impl RunCursor {
         &self,
         image: &mut I,
         window: &mut Window,
-        past_window: bool,
+        without_window: bool,
         chunk: &mut [u8; DIRBLKSIZ],
     ) -> Result<(), ImageFault>
         requires left { self.now.next < self.now.count }
@@ -116,7 +116,7 @@ impl RunCursor {
         ensures held { OnOk result (self.now.next + 1 < self.now.count
             → (window.new.place ≡ self.now.place) × (window.new.length ≡ self.now.length)) }
     {
-        if past_window && self.count == 1 {
+        if without_window && self.count == 1 {
             return image.read_at(self.place, chunk);
         }
         window.fill(image, self.place, self.length as usize)?;

@@ -5,8 +5,8 @@ use Rattle.std.proofs.lemmas.{List.map-append, Bool.and_parts}
 use Rattle.ffs_pathnames.proofs.{LineCounts.lines_long, LookLaws.quiet_silent, HeaderLaws.dir_parts}
 use Rattle.ffs_pathnames.proofs.PassedLaws.{size_of, IsDirectory, right_reported}
 use Rattle.ffs_pathnames.proofs.BetweenLaws.{unstamped, looked, looked_right, quiet_next, reported_next}
-use Rattle.ffs_pathnames.specs.{declared.examine.Examination.Examination, Examines.IsExamined, Examines.LeavesQueue}
-use Rattle.ffs_pathnames.specs.Begins.{dir_starts, started_entry, IsDirectoryBegun}
+use Rattle.ffs_pathnames.specs.{declared.examine.Examination.Examination, Examines.IsExamined, Examines.LeavesAllButDue}
+use Rattle.ffs_pathnames.specs.Begins.{dir_header_lines, started_entry, IsDirectoryBegun}
 use Rattle.ffs_pathnames.specs.{PassedRight.AreRightBefore, Header.header_reported}
 use Rattle.ffs_pathnames.specs.PassedNames.{PassedNames, are_quiet, entries_reported, after_entries}
 use Rattle.ffs_volume.specs.{declared.Layout.Layout, Blocks.Inodes.inode_of, Blocks.Inodes.is_directory}
@@ -68,13 +68,13 @@ pub starts_are : (v : Layout) (b : List ℕ) (d : ℕ) (old new : Workspace) (e 
     first ≡ started_entry 0 e.look.started v.order e.look.start →
     second ≡ started_entry 1 e.look.started v.order e.look.start →
     header_reported (attributes (volume_of v b) d) (dir_path (graph_of (volume_of v b)) d) d above e.look.gap
-    e.look.sound first second ≡ dir_starts (volume_of v b) d
-unfolding dir_starts start_entry
+    e.look.sound first second ≡ dir_header_lines (volume_of v b) d
+unfolding dir_header_lines start_entry
 starts_are v b d old new e above first second f p q r =
     rw (p, f.gap, f.sound, q, r, f.started) refl
 
 pub begun_is : (v : Layout) (b : List ℕ) (d : ℕ) (old new more : Workspace) (e : Examination) →
-    IsExamined v b d old e new → LeavesQueue old new → more ≡ record new { windows = more.windows } →
+    IsExamined v b d old e new → LeavesAllButDue old new → more ≡ record new { windows = more.windows } →
     IsDirectoryBegun v b d old e more
 begun_is v b d old new more e f q m = record {
   inode = f.inode;
@@ -91,13 +91,13 @@ directory_is v d two h =
 
 -- its lines: first those before its entries, then those of its entries
 pub lines_parts : (v : Volume) (d : ℕ) (ms : List TreeMessage) → lines_of_entries v d 0 (roled_entries v d) ≡ ms →
-    map of_tree (sized_dir_lines v d) ≡ map of_tree (dir_starts v d) ++ map of_tree ms
-unfolding dir_starts
-lines_parts v d ms e = rw (dir_parts v d, e) (map-append of_tree (dir_starts v d) ms)
+    map of_tree (sized_dir_lines v d) ≡ map of_tree (dir_header_lines v d) ++ map of_tree ms
+unfolding dir_header_lines
+lines_parts v d ms e = rw (dir_parts v d, e) (map-append of_tree (dir_header_lines v d) ms)
 
-pub starts_within : (v : Volume) (d : ℕ) → length (dir_starts v d) ≤ length (sized_dir_lines v d)
+pub starts_within : (v : Volume) (d : ℕ) → length (dir_header_lines v d) ≤ length (sized_dir_lines v d)
 starts_within v d =
-    let long = lines_long (sized_dir_lines v d) (dir_starts v d) _ (lines_parts v d _ refl) in omega (arith, long)
+    let long = lines_long (sized_dir_lines v d) (dir_header_lines v d) _ (lines_parts v d _ refl) in omega (arith, long)
 
 pub quiet_lines : (v : Volume) (d : ℕ) (m : PassedNames) → IsDirectory v d → AreRightBefore v d m →
     are_quiet v d m.stamps (roled_entries v d) ≡ true → lines_of_entries v d 0 (roled_entries v d) ≡ []
@@ -112,14 +112,14 @@ reported_lines v d m dir r = right_reported [] (roled_entries v d) (looked v d m
 
 pub quiet_parts : (v : Volume) (d : ℕ) (m : PassedNames) → IsDirectory v d → AreRightBefore v d m →
     are_quiet v d m.stamps (roled_entries v d) ≡ true →
-    map of_tree (dir_starts v d) ≡ map of_tree (sized_dir_lines v d)
+    map of_tree (dir_header_lines v d) ≡ map of_tree (sized_dir_lines v d)
 quiet_parts v d m dir r h =
-    sym (lines_parts v d [] (quiet_lines v d m dir r h) ∙ append-nil (map of_tree (dir_starts v d)))
+    sym (lines_parts v d [] (quiet_lines v d m dir r h) ∙ append-nil (map of_tree (dir_header_lines v d)))
 
 pub reported_parts : (v : Volume) (d : ℕ) (m m' : PassedNames) → IsDirectory v d → AreRightBefore v d m →
     m' ≡ looked v d
     m →
-    map of_tree (sized_dir_lines v d) ≡ map of_tree (dir_starts v d)
+    map of_tree (sized_dir_lines v d) ≡ map of_tree (dir_header_lines v d)
     ++ map of_tree (entries_reported v d m' (roled_entries v d))
 reported_parts v d m m' dir r e = rw e (lines_parts v d _ (reported_lines v d m dir r))
 

@@ -8,7 +8,7 @@ use Rattle.ffs_volume.specs.{declared.Layout.Layout, declared.Class.Class, Laws.
 use Rattle.ffs_volume.specs.declared.Class.TheVariants.{Free, Partial, Unknown, File, Dir}
 use Rattle.ffs_volume.specs.Directories.{Graph.is_naming_dir, Parents.graph_of, Roles.Volume, Roles.is_suspect}
 use Rattle.ffs_volume.specs.Directories.PathnameCheck.{sized_dir_lines, continues_after_root, directory_lines}
-use Rattle.ffs_volume.specs.Directories.PathnameCheck.{pathname_lines, root_lines, root_lines_of, is_looked_at}
+use Rattle.ffs_volume.specs.Directories.PathnameCheck.{pathname_lines, root_lines, root_lines_of, is_sized_dir}
 use Rattle.ffs_volume.specs.Directories.Volumes.{class_at, marked_at, volume_of, volume_with}
 use Rattle.ffs_volume.specs.Messages.Kinds.{TreeMessage, of_tree, lines_below, lines_from}
 use Rattle.ffs_volume.specs.Blocks.Inodes.{is_directory, is_allocated}
@@ -53,7 +53,7 @@ at_fault_more (Err (Out fault)) P Q f h = tt
 pub claims_untouched : (v : Layout) (b : List ℕ) (old new : Workspace) → IsUntouched old new → HoldsClaims v b old →
     HoldsClaims v b new
 claims_untouched v b old new s h = record {
-  used = ap bits_of s.claimed ∙ h.used;
+  used = ap bits_of s.used ∙ h.used;
   kinds = λ x. ap (λ k. slice_index k.items x) s.kinds ∙ h.kinds x;
   marked = λ x. ap (λ k. bool_at k.items x) s.marked ∙ h.marked x;
   notes = λ x. ap (λ k. slice_index k.items x) s.notes ∙ h.notes x;
@@ -105,7 +105,7 @@ before_first v contents b old w t h s m c silent = record {
 
 -- what is known of a directory that is looked at
 looked_as : (v : Layout) (b : List ℕ) (w : Workspace) (d : ℕ) (looked : Bool) → HoldsClaims v b w →
-    (slice_index w.kinds.items d == 4) ≡ looked → is_looked_at (volume_of v b) d ≡ looked
+    (slice_index w.kinds.items d == 4) ≡ looked → is_sized_dir (volume_of v b) d ≡ looked
 looked_as v b w d looked h e = looked_is v b d ∙ rw (← h.kinds d) e
 
 pub directory_context : {v : Layout} {contents : Option (List ℕ)} {w : Workspace} {d : ℕ} {b : List ℕ} →

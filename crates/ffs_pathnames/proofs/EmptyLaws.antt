@@ -5,7 +5,7 @@ use Rattle.std.{proofs.Common.eqb-true, proofs.Math.Bool.and-false, specs.List.f
 use Rattle.ffs_volume.specs.{declared.Layout.Layout, Disk.Areas.is_run_in_range, Laws.Geometry.IsAcceptedLayout}
 use Rattle.ffs_volume.{specs.Blocks.Inodes.inode_of, specs.Blocks.KeptSteps.kept_steps_of, proofs.Sizes.no_steps}
 use Rattle.ffs_volume.specs.Directories.{Entries.chunks_of, Graph.is_naming_dir, Roles.is_dir, Roles.roled_chunk}
-use Rattle.ffs_volume.specs.Directories.{Roles.roled_entries, Parents.graph_of, PathnameCheck.is_looked_at}
+use Rattle.ffs_volume.specs.Directories.{Roles.roled_entries, Parents.graph_of, PathnameCheck.is_sized_dir}
 use Rattle.ffs_volume.specs.Directories.Volumes.{chunk_source_of, volume_with, volume_of, kept_steps_of_inode}
 use Rattle.ffs_volume.specs.Encodings.Kinds.{kind_at, is_dir_kind, is_empty_dir_kind}
 use Rattle.ffs_workspace.proofs.KindLaws.{dir_is, empty_is}
@@ -31,7 +31,7 @@ kind_looked true false k e f = grind (arith, nat_tests)
 kind_looked false empty k e f = grind (arith, nat_tests)
 
 -- the inodes of the kind 4 are looked at
-pub looked_is : (v : Layout) (b : List ℕ) (d : ℕ) → is_looked_at (volume_of v b) d ≡ (kind_at v b d == 4)
+pub looked_is : (v : Layout) (b : List ℕ) (d : ℕ) → is_sized_dir (volume_of v b) d ≡ (kind_at v b d == 4)
 looked_is v b d =
     kind_looked (is_dir (volume_of v b) d) (((volume_of v b).inode d).size == 0) (kind_at v b d) (dir_is v b d)
     (empty_is v b d)

@@ -28,7 +28,7 @@ use Rattle.ffs_workspace.proofs.KindLaws.{reports_at, suspect_is, type_is}
 use Rattle.ffs_survey.specs.{Survey.number_at, Survey.dir_at, Calm.are_calm, Calm.IsCalm}
 use Rattle.ffs_survey.specs.Calm.{CurrentDir, is_calm_kind, is_calm_plain, is_calm_role, is_calm_entry, reached_after}
 use Rattle.ffs_survey.proofs.CalmLaws.{calm_names_new, calm_new}
-use Rattle.ffs_pathnames.specs.{Begins.dir_starts, Calm.IsSilentDirectory, Reads.chunks_read}
+use Rattle.ffs_pathnames.specs.{Begins.dir_header_lines, Calm.IsSilentDirectory, Reads.chunks_read}
 use Rattle.ffs_pathnames.specs.Header.{dot_in, dot_reported}
 use Rattle.ffs_pathnames.specs.PassedNames.{belongs, after_look, is_plain_quiet, is_role_quiet, is_quiet, are_quiet}
 use Rattle.ffs_pathnames.proofs.{SeesLaws.chunks_are, SeesLaws.settled, HeaderLaws.in_order, HeaderLaws.dotdot_right}
@@ -288,8 +288,8 @@ other_not None n above h e = refl
 other_not (Some s) n above h e = grind (arith, nat_tests)
 
 starts_silent : (v : Volume) (d above : ℕ) → AreFirst d above (v.chunks d) →
-    above ≡ unwrap_or (parent (graph_of v) d) 0 → is_right_shape v d ≡ true → dir_starts v d ≡ []
-unfolding dir_starts start_entry attributes
+    above ≡ unwrap_or (parent (graph_of v) d) 0 → is_right_shape v d ≡ true → dir_header_lines v d ≡ []
+unfolding dir_header_lines start_entry attributes
 starts_silent v d above f up right =
     let about = attributes v d in
     let path = dir_path (graph_of v) d in

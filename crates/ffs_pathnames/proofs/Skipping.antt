@@ -55,7 +55,7 @@ unfolding volume_of volume_with
 noted_before v contents contents' old new n b two same lists made survey none k = record {
   gives_bytes = same ∙ k.gives_bytes;
   claims = record {
-    used = ap (λ (w : Workspace). bits_of w.claimed) lists ∙ k.claims.used;
+    used = ap (λ (w : Workspace). bits_of w.used) lists ∙ k.claims.used;
     kinds = λ x. ap (λ (w : Workspace). slice_index w.kinds.items x) lists ∙ k.claims.kinds x;
     marked = λ x. ap (λ (w : Workspace). bool_at w.marked.items x) lists ∙ k.claims.marked x;
     notes = λ x. ap (λ (w : Workspace). slice_index w.notes.items x) lists ∙ k.claims.notes x;

@@ -6,7 +6,7 @@ use Rattle.ffs_workspace.specs.{Leaves.LeavesSurvey, declared.workspace.Workspac
 use Rattle.ffs_workspace.{specs.Places.place_in, specs.Places.AreNoted, proofs.PlaceLaws.zero_index}
 use Rattle.ffs_volume.specs.{declared.Layout.Layout, declared.Role.Role, Encodings.Kinds.is_dir_kind}
 use Rattle.ffs_volume.specs.Directories.{Entries.Entry, Roles.Volume, Roles.is_dir, Roles.is_plain}
-use Rattle.ffs_pathnames.specs.{Examines.LeavesQueue, declared.inodes.Inodes.Inodes, Sees.Sees, Sees.passed_in}
+use Rattle.ffs_pathnames.specs.{Examines.LeavesAllButDue, declared.inodes.Inodes.Inodes, Sees.Sees, Sees.passed_in}
 use Rattle.ffs_pathnames.specs.{Sees.stamps_in, Stamps.stamp_of, Stamps.stamps_of, Stamps.KeepPlaces}
 use Rattle.ffs_pathnames.specs.PassedNames.{belongs, after_look, after_roled}
 use Rattle.ffs_survey.specs.Survey.{suspect_at}
@@ -64,7 +64,7 @@ pub names_leave : (old new : Workspace) →
     new ≡ record old { flags = new.flags; queue = new.queue; windows = new.windows } →
     KeepPlaces old.queue.items new.queue.items → LeavesSurvey old new
 names_leave old new e keep = record {
-  claimed = ap (λ (w : Workspace). w.claimed) e;
+  used = ap (λ (w : Workspace). w.used) e;
   kinds = ap (λ (w : Workspace). w.kinds) e;
   marked = ap (λ (w : Workspace). w.marked) e;
   notes = ap (λ (w : Workspace). w.notes) e;
@@ -79,7 +79,7 @@ names_leave old new e keep = record {
 
 -- the words and windows alone
 pub queue_leaves : (old new : Workspace) → new ≡ record old { queue = new.queue; windows = new.windows } →
-    KeepPlaces old.queue.items new.queue.items → LeavesQueue old new
+    KeepPlaces old.queue.items new.queue.items → LeavesAllButDue old new
 queue_leaves old new e keep = record {
   survey = names_leave old new (e ∙ ap (λ f. record old { flags = f; queue = new.queue; windows = new.windows })
       (sym (ap (λ (w : Workspace). w.flags) e))) keep;

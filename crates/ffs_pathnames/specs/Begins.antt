@@ -9,8 +9,8 @@ use Rattle.ffs_pathnames.specs.{declared.examine.Examination.Examination, Gather
 use Rattle.ffs_pathnames.specs.{PassedNames.after_looks, Reads.start_chunk, Header.header_reported}
 
 -- the lines of a directory on its size, its Gaps, its chunks and its first two entries
-unfoldable pub dir_starts : Volume → ℕ → List TreeMessage
-dir_starts vol d =
+unfoldable pub dir_header_lines : Volume → ℕ → List TreeMessage
+dir_header_lines vol d =
     header_reported (attributes vol d) (dir_path (graph_of vol) d) d (parent (graph_of vol) d) (vol.gap d)
     (are_sound (vol.chunks d)) (start_entry vol d 0) (start_entry vol d 1)
 

@@ -10,7 +10,7 @@ use Rattle.ffs_workspace.specs.{declared.workspace.Workspace.Workspace, Leaves.L
 
 -- a call leaves what the phases before the pathname check left, the flags, and the places that
 -- words note
-pub record LeavesQueue (old new : Workspace) : Type 0 where
+pub record LeavesAllButDue (old new : Workspace) : Type 0 where
   pub survey : LeavesSurvey old new
   pub flags : new.flags ≡ old.flags
   pub places : KeepPlaces old.queue.items new.queue.items
@@ -19,7 +19,7 @@ pub record LeavesQueue (old new : Workspace) : Type 0 where
 -- workspace but which words are due
 pub record ExamineLeaves {T : Type 0} (v : Layout) (d d' : Device) (old new : Workspace)
     (result : Result T ImageFault) : Type 0 where
-  pub lists : LeavesQueue old new
+  pub lists : LeavesAllButDue old new
   pub ready : IsReady v d' new
   pub read : ReadAfter d d' result
 

@@ -5,7 +5,7 @@ ghost use Rattle.ffs_volume.specs.Directories.{PathnameCheck.sized_dir_lines, Vo
 ghost use Rattle.ffs_report.specs.{Known.ForBytes, PhaseOutcome.PhaseReports, Progress.progress};
 ghost use Rattle.ffs_layout.specs.Entry.{entry_value};
 ghost use Rattle.ffs_workspace.specs.{Holds.HoldsSurvey, Places.AreNoted};
-ghost use Rattle.ffs_pathnames.specs.Begins.{dir_starts, started_entry, IsDirectoryBegun};
+ghost use Rattle.ffs_pathnames.specs.Begins.{dir_header_lines, started_entry, IsDirectoryBegun};
 ghost use Rattle.ffs_pathnames.specs.{Costs.begin_reads, Costs.check_reads, Header.header_lines, Gathers.passed_of};
 ghost use Rattle.ffs_pathnames.specs.DirectoryContext.{DirectoryContext, KnowsHeader};
 ghost use Rattle.ffs_pathnames.specs.{LineReads.ReadsByLines, PassedRight.AreRightBefore};
@@ -107,7 +107,7 @@ fn begin_directory<I: Image, W: Output>(
     requires dir { 2 ≤ dir }
     ensures text { PhaseReports (DirectoryContext geometry.now.layout (I.device image.old).contents
         workspace.old dir)
-        (λ b. map of_tree (dir_starts (volume_of geometry.now.layout b) dir))
+        (λ b. map of_tree (dir_header_lines (volume_of geometry.now.layout b) dir))
         (progress W.sink report.old) (progress W.sink report.new) result }
     ensures begun { IfOk result (λ e. ForBytes
         (DirectoryContext geometry.now.layout (I.device image.old).contents workspace.old dir)
@@ -116,7 +116,7 @@ fn begin_directory<I: Image, W: Output>(
         (DirectoryContext geometry.now.layout (I.device image.old).contents workspace.old dir)
         (λ b. AreNoted geometry.now.layout b workspace.old.queue.items
         → I.reads image.new ≤ I.reads image.old + begin_reads geometry.now.layout b dir
-        (length (dir_starts (volume_of geometry.now.layout b) dir))) }
+        (length (dir_header_lines (volume_of geometry.now.layout b) dir))) }
     ensures leaves { PhaseLeaves geometry.now.layout (I.device image.old) (I.device image.new)
         workspace.old workspace.new kept_parent.new result }
 {

@@ -11,7 +11,8 @@
 //!
 //! - `pass2` is the phase. `clear` makes the workspace ready for it: no name is passed yet. Of the
 //!   survey's flags it leaves those of calm directories.
-//! - `tree` goes from the root (`root`) over the directories, and `check` checks one of them.
+//! - `tree` goes from the root (`root`) over the directories, once the places of parent entries are
+//!   noted (`ffs_names::note_places`), and `check` checks one of them.
 //! - `examine` reads a directory once: its inode, then its chunks (`directory`), then their entries
 //!   (`look`), by what is known of the inodes that they name (`inodes`).
 //! - `header` says what is wrong with its size, its chunks and its first two entries.

@@ -1,13 +1,13 @@
-//! Roles of entries, as dir(5) has them, and the chunks of a directory whose blocks share a
-//! fragment.
+//! Roles of entries, as dir(5) has them, the chunks of a directory whose blocks share a fragment,
+//! and directories of which the address of their only chunk is known.
 
-ghost use Rattle.std.specs.Prelude.{◌*◌, ◌≤◌};
+ghost use Rattle.std.specs.Prelude.{◌≡◌, ◌*◌, ◌≤◌};
 
 use crate::compare::same;
 use ffs_image::Image;
-use ffs_layout::{Entry, Geometry, Inode, Order};
+use ffs_layout::{Entry, Geometry, Order};
 use ffs_memory::FixedList;
-use ffs_names::{Chunks, role_of};
+use ffs_names::{Chunks, Entries, role_of};
 use ffs_samples::{Number, Stop, geometry, image_of, inode};
 use ffs_volume::Role;
 use ffs_walk::{Blocks, Window};
@@ -42,15 +42,16 @@ fn roles(rt: HostRuntime) -> Result<(), Fail> {
     Ok(())
 }
 
-/// The place of each chunk, its first byte and its last.
+/// The place of each chunk that a reading gives, its first byte and its last.
 fn chunks_of<I: Image>(
     geometry: &Geometry,
-    inode: &Inode,
-    cut: u32,
+    chunks: &mut Chunks,
     image: &mut I,
     alloc: Global,
 ) -> Result<Vec<(u64, u8, u8)>, Stop>
-    requires { geometry.now.layout.size * geometry.now.layout.fsize ≤ (I.device image.old).size }
+    requires volume { geometry.now.layout.size * geometry.now.layout.fsize
+        ≤ (I.device image.old).size }
+    requires geometry { chunks.old.walk.geometry ≡ geometry.now }
 {
     let size = geometry.layout.bsize as usize;
     let buffer = vec![in alloc; 0u8; 3 * size]?;
@@ -58,7 +59,6 @@ fn chunks_of<I: Image>(
     let buffer = vec![in alloc; 0u8; size]?;
     let mut window = Window::over(FixedList::new(buffer));
     let mut chunk = [0u8; 512];
-    let mut chunks = Chunks::start(geometry, inode, cut);
     let mut found = Vec::new(alloc);
     'chunks: while let Some(offset) = chunks.next(image, &mut blocks, &mut window, &mut chunk)? {
         match found.push((offset, chunk[0], chunk[511])) {
@@ -89,7 +89,8 @@ fn chunks_kept(cut: u32, alloc: Global) -> Result<Vec<(u64, u8, u8)>, Fail> {
     let mut directory = inode(0o40755, 5120);
     directory.addresses[0] = 40;
     directory.addresses[1] = 40;
-    Ok(chunks_of(&geometry, &directory, cut, &mut image, alloc)?)
+    let mut chunks = Chunks::start(&geometry, &directory, cut);
+    Ok(chunks_of(&geometry, &mut chunks, &mut image, alloc)?)
 }
 
 /// The place of each chunk, its first byte and its last.
@@ -113,5 +114,107 @@ fn same_fragment_twice(rt: HostRuntime) -> Result<(), Fail> {
     same(&rt, &all.as_slice(), &CHUNKS.as_slice());
     let first = chunks_kept(4, rt.alloc())?;
     same(&rt, &first.as_slice(), &&CHUNKS[..8]);
+    Ok(())
+}
+
+/// Whether a reading begins of a directory whose only chunk is at an address, and what it gives
+/// then. Else the reading goes on that was begun before: of a directory with the fragment 43.
+fn chunks_at(address: u32, alloc: Global) -> Result<(bool, Vec<(u64, u8, u8)>), Fail> {
+    let geometry = geometry(Order::Little)?;
+    let mut image = image_of(Order::Little, &NUMBERS, alloc)?;
+    let mut directory = inode(0o40755, 1024);
+    directory.addresses[0] = 43;
+    let mut chunks = Chunks::start(&geometry, &directory, 0);
+    let begun = chunks.restart_at(address);
+    Ok((
+        begun,
+        chunks_of(&geometry, &mut chunks, &mut image, alloc)?,
+    ))
+}
+
+/// An address, whether a reading begins there, and the place of each chunk, its first byte and its
+/// last: of a hole, of three fragments, and of one after the end of the volume.
+static ONLY_CHUNKS: [(u32, bool, &[(u64, u8, u8)]); 5] = [
+    (0, false, &[(0, 0, 0), (512, 7, 8)]),
+    (40, true, &[(0, 1, 2)]),
+    (41, true, &[(0, 5, 0)]),
+    (127, true, &[(0, 0, 0)]),
+    (128, false, &[(0, 0, 0), (512, 7, 8)]),
+];
+
+#[test]
+fn only_chunk(rt: HostRuntime) -> Result<(), Fail> {
+    for &(address, begins, chunks) in &ONLY_CHUNKS {
+        let (begun, found) = chunks_at(address, rt.alloc())?;
+        same(&rt, &begun, &begins);
+        same(&rt, &found.as_slice(), &chunks);
+    }
+    Ok(())
+}
+
+/// The number and the type of each entry that a reading gives.
+fn entries_of<I: Image>(
+    geometry: &Geometry,
+    entries: &mut Entries,
+    image: &mut I,
+    alloc: Global,
+) -> Result<Vec<(u32, u8)>, Stop>
+    requires volume { geometry.now.layout.size * geometry.now.layout.fsize
+        ≤ (I.device image.old).size }
+    requires geometry { entries.old.chunks.walk.geometry ≡ geometry.now }
+{
+    let size = geometry.layout.bsize as usize;
+    let buffer = vec![in alloc; 0u8; 3 * size]?;
+    let mut blocks = Blocks::over(FixedList::new(buffer));
+    let buffer = vec![in alloc; 0u8; size]?;
+    let mut window = Window::over(FixedList::new(buffer));
+    let mut found = Vec::new(alloc);
+    'entries: while let Some(head) = entries.next(image, &mut blocks, &mut window)? {
+        match found.push((head.number, head.kind)) {
+            Ok(()) => {}
+            Err(error) => return Err(AllocError::from(error).into()),
+        }
+    }
+    Ok(found)
+}
+
+/// A chunk with three entries at the fragment 40, and one with an empty entry at the fragment 41.
+static ENTRY_NUMBERS: [Number; 12] = [
+    (40960, 4, 2),
+    (40964, 2, 12),
+    (40966, 2, 0x0104),
+    (40968, 1, 46),
+    (40972, 4, 3),
+    (40976, 2, 12),
+    (40978, 2, 0x0104),
+    (40980, 1, 97),
+    (40984, 4, 4),
+    (40988, 2, 488),
+    (40990, 2, 0x0108),
+    (41988, 2, 512),
+];
+
+/// The entries of a directory whose only chunk is at an address.
+fn entries_at(address: u32, alloc: Global) -> Result<Vec<(u32, u8)>, Fail> {
+    let geometry = geometry(Order::Little)?;
+    let mut image = image_of(Order::Little, &ENTRY_NUMBERS, alloc)?;
+    let mut entries = Entries::none(&geometry);
+    entries.restart_at(address);
+    Ok(entries_of(&geometry, &mut entries, &mut image, alloc)?)
+}
+
+/// An address, and the number and the type of each entry of the chunk there.
+static ONLY_ENTRIES: [(u32, &[(u32, u8)]); 4] = [
+    (0, &[]),
+    (40, &[(2, 4), (3, 4), (4, 8)]),
+    (41, &[(0, 0)]),
+    (128, &[]),
+];
+
+#[test]
+fn entries_of_only_chunk(rt: HostRuntime) -> Result<(), Fail> {
+    for &(address, entries) in &ONLY_ENTRIES {
+        same(&rt, &entries_at(address, rt.alloc())?.as_slice(), &entries);
+    }
     Ok(())
 }

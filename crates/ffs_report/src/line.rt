@@ -201,7 +201,7 @@ pub enum ReferenceLine {
     UnrefDir {
         attr: Attr,
     },
-    /// It is marked, and no plain entry names it.
+    /// A marked inode that no plain entry names (phase 4, as all that follow).
     DeadMarked {
         label: Label,
         attr: Attr,
@@ -210,17 +210,17 @@ pub enum ReferenceLine {
     DeadZero {
         attr: Attr,
     },
-    /// It has no reference, and its count of links isn't 0.
+    /// A file or a directory without a reference, whose count of links isn't 0.
     Unref {
         label: Label,
         attr: Attr,
     },
-    /// It has no reference, and its count of links is 0.
+    /// A file or a directory without a reference, whose count of links is 0.
     UnrefZero {
         label: Label,
         attr: Attr,
     },
-    /// Its own count of links isn't the right one, the number of its references.
+    /// A count of links that isn't the right one, the number of references.
     LinkCount {
         label: Label,
         attr: Attr,

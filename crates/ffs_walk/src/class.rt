@@ -73,7 +73,7 @@ fn any_nonzero(addresses: &[u32; 15]) -> bool
 /// looked at, with no branch that depends on the index: sizes of files are mixed, and no processor
 /// foresees such a branch.
 #[inline(always)]
-fn any_nonzero_from(addresses: &[u32; 15], from: usize) -> bool
+fn any_address_from(addresses: &[u32; 15], from: usize) -> bool
     requires { from ≤ 15 }
     ensures { result ≡ inodes.any_nonzero (drop from addresses.now) }
 {
@@ -214,7 +214,7 @@ pub fn class_of(geometry: &Geometry, inode: &Inode) -> Class
         return Class::Unknown;
     }
     let used = addresses_allowed(geometry, inode);
-    if any_nonzero_from(&inode.addresses, used) {
+    if any_address_from(&inode.addresses, used) {
         return Class::Unknown;
     }
     if kind == u16::from(DT_DIR) {

@@ -9,7 +9,7 @@ use Rattle.ffs_workspace.specs.Places.{ArePlaces}
 
 pub leaves_all : (w : Workspace) → LeavesSurvey w w
 leaves_all w = record {
-  claimed = refl;
+  used = refl;
   kinds = refl;
   marked = refl;
   notes = refl;
@@ -25,7 +25,7 @@ leaves_all w = record {
 -- what two calls leave
 pub leaves_more : (a b c : Workspace) → LeavesSurvey a b → LeavesSurvey b c → LeavesSurvey a c
 leaves_more a b c s t = record {
-  claimed = t.claimed ∙ s.claimed;
+  used = t.used ∙ s.used;
   kinds = t.kinds ∙ s.kinds;
   marked = t.marked ∙ s.marked;
   notes = t.notes ∙ s.notes;
@@ -41,7 +41,7 @@ leaves_more a b c s t = record {
 -- where only the windows have changed
 pub windows_leave : (old new : Workspace) → new ≡ record old { windows = new.windows } → LeavesSurvey old new
 windows_leave old new e = record {
-  claimed = ap (λ (w : Workspace). w.claimed) e;
+  used = ap (λ (w : Workspace). w.used) e;
   kinds = ap (λ (w : Workspace). w.kinds) e;
   marked = ap (λ (w : Workspace). w.marked) e;
   notes = ap (λ (w : Workspace). w.notes) e;
@@ -57,7 +57,7 @@ windows_leave old new e = record {
 pub claims_left : (v : Layout) (b : List ℕ) (old new : Workspace) → LeavesSurvey old new → HoldsClaims v b old →
     HoldsClaims v b new
 claims_left v b old new s h = record {
-  used = ap bits_of s.claimed ∙ h.used;
+  used = ap bits_of s.used ∙ h.used;
   kinds = λ x. ap (λ k. slice_index k.items x) s.kinds ∙ h.kinds x;
   marked = λ x. ap (λ k. bool_at k.items x) s.marked ∙ h.marked x;
   notes = λ x. ap (λ k. slice_index k.items x) s.notes ∙ h.notes x;

@@ -23,7 +23,7 @@ pub use Rattle.ffs_volume.specs.Encodings.Lists.{bool_at}
 -- the claims that a workspace holds
 abbrev pub claims_of : Workspace → Claims
 claims_of w = record {
-  used = bits_of w.claimed;
+  used = bits_of w.used;
   dup = bits_of w.duplicates;
   runs = w.runs_seen;
   bad = w.bad;
@@ -34,7 +34,7 @@ claims_of w = record {
 
 -- nothing is claimed, dup, counted, noted or marked yet
 pub record IsFresh (v : Layout) (w : Workspace) : Type 0 where
-  pub claimed : bits_of w.claimed ≡ replicate v.size false
+  pub used : bits_of w.used ≡ replicate v.size false
   pub duplicates : bits_of w.duplicates ≡ replicate v.size false
   pub kinds : w.kinds.items ≡ replicate (inodes_of v) 0
   pub marked : w.marked.items ≡ replicate (inodes_of v) false
@@ -61,7 +61,7 @@ all_claims v image = after_owners v (no_claims v) (owners_of v image)
 -- for each inode its kind, whether it is marked so far, what is noted of it, and where its count of
 -- references starts
 pub record HoldsPhase1 (v : Layout) (image : List ℕ) (w : Workspace) : Type 0 where
-  pub used : bits_of w.claimed ≡ (all_claims v image).used
+  pub used : bits_of w.used ≡ (all_claims v image).used
   pub dup : bits_of w.duplicates ≡ (all_claims v image).dup
   pub runs : w.runs_seen ≡ (all_claims v image).runs
   pub kinds : (x : ℕ) → slice_index w.kinds.items x ≡ kind_at v image x
@@ -72,7 +72,7 @@ pub record HoldsPhase1 (v : Layout) (image : List ℕ) (w : Workspace) : Type 0 
 -- what phases 1 and 1b leave: the fragments that are reserved or claimed, and for each inode its
 -- kind, whether it is marked, and what is noted of it
 pub record HoldsClaims (v : Layout) (image : List ℕ) (w : Workspace) : Type 0 where
-  pub used : bits_of w.claimed ≡ (after_owners v (no_claims v) (owners_of v image)).used
+  pub used : bits_of w.used ≡ (after_owners v (no_claims v) (owners_of v image)).used
   pub kinds : (x : ℕ) → slice_index w.kinds.items x ≡ kind_at v image x
   pub marked : (x : ℕ) → bool_at w.marked.items x ≡ marked_at v image x
   pub notes : (x : ℕ) → slice_index w.notes.items x ≡ note_at v image x

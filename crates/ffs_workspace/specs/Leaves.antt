@@ -7,7 +7,7 @@ use Rattle.ffs_workspace.specs.declared.workspace.Workspace.{Workspace}
 -- what the block check and the survey of directories found is as it was, and each place that is
 -- noted is right where each one was
 pub record LeavesSurvey (old new : Workspace) : Type 0 where
-  pub claimed : new.claimed ≡ old.claimed
+  pub used : new.used ≡ old.used
   pub kinds : new.kinds ≡ old.kinds
   pub marked : new.marked ≡ old.marked
   pub notes : new.notes ≡ old.notes

@@ -21,7 +21,7 @@ has_dups w = not (set_count (bits_of w.duplicates) == 0)
 
 -- the workspace was made for the volume: all its lists have the lengths that it asks for
 pub record IsFor (v : Layout) (w : Workspace) : Type 0 where
-  pub claimed : w.claimed.size ≡ v.size
+  pub used : w.used.size ≡ v.size
   pub duplicates : w.duplicates.size ≡ v.size
   pub kinds : vec_len w.kinds ≡ inodes_of v
   pub marked : vec_len w.marked ≡ inodes_of v

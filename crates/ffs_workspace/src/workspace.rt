@@ -32,8 +32,8 @@ pub struct Windows {
 /// blocks.
 #[derive(Drop)]
 pub struct Workspace {
-    /// The fragments that are used: the reserved ones, and those that are claimed.
-    pub claimed: FragmentMap,
+    /// The fragments that are used: the reserved ones, and those that kept offers claim.
+    pub used: FragmentMap,
     /// The fragments with a DUP line. Phase 1b clears each of which it has reported the first kept
     /// offer.
     pub duplicates: FragmentMap,
@@ -61,7 +61,7 @@ pub struct Workspace {
     pub parents: FilledList<u32>,
     /// Numbers of 32 bits that are used one after another:
     ///
-    /// - The survey's queue: the directories of a level that are still to be read.
+    /// - The survey's queue: the reached directories, level after level.
     /// - In phase 2 a word of each directory: where its parent entry is (`noted_chunk`), and
     ///   whether that is due. There the list is lent as `words`.
     /// - In phase 3 which walk over parents met each directory. There it is lent as `walk_of`.
@@ -112,7 +112,7 @@ impl Workspace {
             (held_of geometry.now.layout) result }
     {
         let inodes = geometry.layout.ncg as usize * geometry.layout.ipg as usize;
-        let claimed = FragmentMap::in_memory(memory, geometry.layout.size)?;
+        let used = FragmentMap::in_memory(memory, geometry.layout.size)?;
         let duplicates = FragmentMap::in_memory(memory, geometry.layout.size)?;
         let kinds = memory.bytes(inodes)?;
         let FlagLists {
@@ -129,7 +129,7 @@ impl Workspace {
         } = number_lists(memory, inodes)?;
         let windows = Windows::in_memory(memory, geometry)?;
         Ok(Workspace {
-            claimed,
+            used,
             duplicates,
             kinds,
             marked,
@@ -156,7 +156,7 @@ impl Workspace {
         ensures value { (v : Layout) → IsFor v self.now → result ≡ held_of v }
         ensures bound { (v : Layout) → IsFor v self.now → result ≤ held_limit v }
     {
-        let maps = self.claimed.held() + self.duplicates.held();
+        let maps = self.used.held() + self.duplicates.held();
         let bytes = self.kinds.len()
             + self.marked.len()
             + self.named.len()

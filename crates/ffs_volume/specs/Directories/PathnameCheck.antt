@@ -200,12 +200,12 @@ sized_dir_lines vol d =
     shape_lines vol d ++ (dot_lines vol d ++ (dotdot_lines vol d ++ lines_of_entries vol d 0 (roled_entries vol d)))
 
 -- d is a directory whose size isn't 0
-abbrev pub is_looked_at : Volume → ℕ → Bool
-is_looked_at vol d = is_dir vol d && not ((vol.inode d).size == 0)
+abbrev pub is_sized_dir : Volume → ℕ → Bool
+is_sized_dir vol d = is_dir vol d && not ((vol.inode d).size == 0)
 
 -- the messages on d: none where d is no directory, or has the size 0
 abbrev pub directory_lines : Volume → ℕ → List TreeMessage
-directory_lines vol d = if is_looked_at vol d then sized_dir_lines vol d else []
+directory_lines vol d = if is_sized_dir vol d then sized_dir_lines vol d else []
 
 -- the whole pathname check: the root, and then each directory
 unfoldable pub pathname_lines : Volume → List TreeMessage

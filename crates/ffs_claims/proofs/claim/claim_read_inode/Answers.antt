@@ -21,7 +21,7 @@ say_count-requires g c =
       arith,
       c.args.geometry.now.sound.numbers.size_below,
       kept_bound (claims_of c.begin.new.workspace) (claims_of c.claim.new.workspace) c.args.geometry.now.layout.size
-          (bits_long c.claim.new.workspace.claimed ∙ made.claimed) (omega arith) (omega arith) b.kept
+          (bits_long c.claim.new.workspace.used ∙ made.used) (omega arith) (omega arith) b.kept
           c.in_ok-claim.ensures.claiming.left.moves,
     )
 

@@ -9,9 +9,9 @@ pub returns-in_err-say : goal.returns-in_err-say
 returns-in_err-say g c =
     let p = err_from_is_err_and c.from_residual.result c.from_residual.ensures.1 in
     rw (p.1) (stopped_more _ _ (of_blocks (Dup c.args.fragment c.args.inode) ∷ [])
-    (of_lines (if c.args.many then ManyDup c.args.inode ∷ [] else [])) c.in_err-say.ensures.said)
+    (of_lines (if c.args.is_eleventh then ManyDup c.args.inode ∷ [] else [])) c.in_err-say.ensures.said)
 
-pub returns-then-many : goal.returns-then-many
-returns-then-many g c =
-    rw c.if-many.true (says_then _ _ _ (of_blocks (Dup c.args.fragment c.args.inode) ∷ [])
-    (of_blocks (ManyDup c.args.inode) ∷ []) _ c.in_ok-say.ensures.said c.say-then-many.ensures.said)
+pub returns-then-is_eleventh : goal.returns-then-is_eleventh
+returns-then-is_eleventh g c =
+    rw c.if-is_eleventh.true (says_then _ _ _ (of_blocks (Dup c.args.fragment c.args.inode) ∷ [])
+    (of_blocks (ManyDup c.args.inode) ∷ []) _ c.in_ok-say.ensures.said c.say-then-is_eleventh.ensures.said)

@@ -8,7 +8,7 @@ use Rattle.ffs_claims.proofs.offer.run_in_range.Goals as goal
 pub claim-requires-clause-below : goal.claim-requires-clause-below
 claim-requires-clause-below g c =
     let fits = c.requires.can.known refl in
-    omega (arith, run_below _ c.args.start c.args.len c.requires.some fits, c.requires.can.room.made.claimed)
+    omega (arith, run_below _ c.args.start c.args.len c.requires.some fits, c.requires.can.room.made.used)
 
 pub returns-then-claim : goal.returns-then-claim
 returns-then-claim g c =

@@ -46,7 +46,7 @@ returns-then-not-fragment_in_range c =
 pub claim-requires-clause-below : goal.claim-requires-clause-below
 claim-requires-clause-below c =
     let ok = sym c.fragment_in_range.ensures ∙ c.if-not-fragment_in_range.false in
-    omega (arith, in_range_below c.args.geometry.now.layout c.args.fragment ok, c.requires.room.made.claimed)
+    omega (arith, in_range_below c.args.geometry.now.layout c.args.fragment ok, c.requires.room.made.used)
 
 pub set-requires : goal.set-requires
 set-requires c =

@@ -36,7 +36,7 @@ loop-number-init g c =
     record {
       ready = ready_unseen c.requires.ready;
       device = refl;
-      claims = record { claimed = refl; kinds = refl; notes = refl; references = refl; seen = refl };
+      claims = record { used = refl; kinds = refl; notes = refl; references = refl; seen = refl };
       low = omega arith;
       high = λ h. omega arith;
       runs = λ bytes k. omega arith;

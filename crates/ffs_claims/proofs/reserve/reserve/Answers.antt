@@ -8,4 +8,4 @@ pub returns-clause-claims : goal.returns-clause-claims
 returns-clause-claims c = λ fresh.
     reserved_claims c.args.geometry.now.layout (claims_of c.args.workspace.now) (claims_of c.begin.new.workspace)
     (bits_of c.set_reserved.new.map) (ap claims_of c.begin.ensures) fresh.duplicates
-    (c.set_reserved.ensures.bits (ap (λ w. bits_of w.claimed) c.begin.ensures ∙ fresh.claimed))
+    (c.set_reserved.ensures.bits (ap (λ w. bits_of w.used) c.begin.ensures ∙ fresh.used))

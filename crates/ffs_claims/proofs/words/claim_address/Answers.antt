@@ -8,7 +8,7 @@ claim-requires-clause-below c =
     let run = c.contains.ensures.0 c.if-not-contains.false in
     let some = c.args.geometry.now.sound.sizes.frag_low in
     let fits = c.requires.only_data.runs c.args.address v.frag run.first run.last some in
-    omega (arith, run_below v c.args.address v.frag some fits, c.requires.made.claimed)
+    omega (arith, run_below v c.args.address v.frag some fits, c.requires.made.used)
 
 pub returns-clause-claims : goal.returns-clause-claims
 returns-clause-claims c = λ t block.

@@ -3,7 +3,7 @@ use Rattle.std.proofs.lemmas.Result.{err_from_is_err_and}
 use Rattle.ffs_volume.specs.{Messages.Kinds.of_tree, Blocks.Inodes.inode_of}
 use Rattle.ffs_volume.specs.Directories.{Volumes.volume_of, Parents.graph_of, PathnameCheck.attributes, Paths.dir_path}
 use Rattle.ffs_report.proofs.Reporting.{of_begins, of_reads}
-use Rattle.ffs_pathnames.specs.{declared.examine.Examination.Examination, Begins.dir_starts, Header.header_reported}
+use Rattle.ffs_pathnames.specs.{declared.examine.Examination.Examination, Begins.dir_header_lines, Header.header_reported}
 use Rattle.ffs_pathnames.{specs.Costs.begin_reads, specs.DirectoryContext.DirectoryContext, proofs.Passing.knows_on}
 use Rattle.ffs_pathnames.proofs.Begun.{said_same, fault_same, image_same, starts_are, begun_is}
 use Rattle.ffs_pathnames.proofs.StampLaws.{windows_keep, keep_more, noted_kept}
@@ -33,7 +33,7 @@ lines_are : (g : Over) (c : After-report_header g) (b : List ℕ) → DirectoryC
     (dir_path (graph_of (volume_of c.args.geometry.now.layout b)) c.args.dir) c.args.dir c.parent_of-parent.result
     c.in_ok-examined.examined.look.gap c.in_ok-examined.examined.look.sound
     (option_map entry_value c.first_two.result.0) (option_map entry_value c.first_two.result.1)
-    ≡ dir_starts (volume_of c.args.geometry.now.layout b) c.args.dir
+    ≡ dir_header_lines (volume_of c.args.geometry.now.layout b) c.args.dir
 lines_are g c b k =
     let v = c.args.geometry.now.layout in
     starts_are v b c.args.dir c.args.workspace.now c.examine.new.workspace c.in_ok-examined.examined _ _ _
@@ -47,7 +47,7 @@ reads_few : (g : Over) (c : After-report_header g) (b : List ℕ) → DirectoryC
     AreNoted c.args.geometry.now.layout b c.args.workspace.now.queue.items →
     g.I.Image.reads c.report_header.new.image ≤ g.I.Image.reads c.args.image.now
     + begin_reads c.args.geometry.now.layout b c.args.dir
-    (length (dir_starts (volume_of c.args.geometry.now.layout b) c.args.dir))
+    (length (dir_header_lines (volume_of c.args.geometry.now.layout b) c.args.dir))
 reads_few g c b k noted =
     let lists = c.in_ok-examined.ensures.leaves.lists in
     let examined = c.examine.ensures.reads b k in

@@ -5,7 +5,7 @@ use Rattle.ffs_volume.specs.Directories.{PathnameCheck.sized_dir_lines, Roles.ro
 use Rattle.ffs_report.specs.PhaseOutcome.{ImageAfter}
 use Rattle.ffs_report.proofs.Reporting.{of_begins, of_part, of_fault, of_last, said_knows, reports_knowing}
 use Rattle.ffs_workspace.proofs.Leaving.{leaves_more}
-use Rattle.ffs_pathnames.specs.{declared.examine.Examination.Examination, Begins.dir_starts, Gathers.passed_of}
+use Rattle.ffs_pathnames.specs.{declared.examine.Examination.Examination, Begins.dir_header_lines, Gathers.passed_of}
 use Rattle.ffs_pathnames.specs.PassedNames.{entries_reported}
 use Rattle.ffs_pathnames.proofs.Begun.{said_same, directory_is, lines_parts, quiet_parts, reported_parts, quiet_after}
 use Rattle.ffs_pathnames.proofs.{Begun.reported_after, Begun.starts_within, Passing.knows_on, StampLaws.keep_more}
@@ -100,7 +100,7 @@ returns-clause-reads g c = λ b k noted.
     let begun = c.in_ok-examined.ensures.begun b k.0 in
     let m = passed_of c.begin_directory.new.workspace in
     checked_twice line_reads _ _ _ (directory_cost v b c.args.dir) (directory_runs v b c.args.dir)
-    (length (dir_starts (volume_of v b) c.args.dir))
+    (length (dir_header_lines (volume_of v b) c.args.dir))
     (length (entries_reported (volume_of v b) c.args.dir m (roled_entries (volume_of v b) c.args.dir)))
     (length (sized_dir_lines (volume_of v b) c.args.dir))
     (c.begin_directory.ensures.reads b k.0 noted)

@@ -11,7 +11,7 @@ returns-clause-clear c =
     let none = c.fill.ensures.items in
     record {
       survey = record {
-        claimed = refl;
+        used = refl;
         kinds = refl;
         marked = refl;
         notes = refl;

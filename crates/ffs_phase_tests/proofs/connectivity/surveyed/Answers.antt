@@ -5,7 +5,7 @@ pub returns-clause-made : goal.returns-clause-made
 returns-clause-made c =
     let h = c.in_ok-workspace.ensures.made in
     record {
-      claimed = h.claimed;
+      used = h.used;
       duplicates = h.duplicates;
       kinds = c.set_first.ensures ∙ h.kinds;
       marked = h.marked;

@@ -4,7 +4,7 @@ use Rattle.ffs_phase_tests.proofs.names.chunks_of.Goals as goal
 
 pub chunks-init : goal.chunks-init
 chunks-init g c = record {
-  geometry = c.start-chunks.ensures.geometry;
+  geometry = c.requires.geometry;
   device = refl;
   ready = record {
     walk = record {

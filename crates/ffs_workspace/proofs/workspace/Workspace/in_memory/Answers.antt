@@ -13,7 +13,7 @@ returns-clause-new g c =
     let new = c.in_ok-windows.ensures.new in
     record {
       made = record {
-        claimed = search rules;
+        used = search rules;
         duplicates = search rules;
         kinds = search rules;
         marked = search rules;
@@ -40,24 +40,24 @@ returns-clause-new g c =
       };
     }
 
-pub returns-in_err-claimed-clause-asks : goal.returns-in_err-claimed-clause-asks
-returns-in_err-claimed-clause-asks g c =
+pub returns-in_err-used-clause-asks : goal.returns-in_err-used-clause-asks
+returns-in_err-used-clause-asks g c =
     let p = err_from_is_err_and c.from_residual.result c.from_residual.ensures.1 in
-    rw p.1 (gave_up_within _ _ _ _ c.in_err-claimed.ensures.asks
+    rw p.1 (gave_up_within _ _ _ _ c.in_err-used.ensures.asks
     (at_first_map (8 * div_ceil c.args.geometry.now.layout.size 64) (inodes_of c.args.geometry.now.layout)
     c.args.geometry.now.layout.bsize))
 
 pub returns-in_err-duplicates-clause-asks : goal.returns-in_err-duplicates-clause-asks
 returns-in_err-duplicates-clause-asks g c =
     let p = err_from_is_err_and c.from_residual-in_err-duplicates.result c.from_residual-in_err-duplicates.ensures.1 in
-    rw p.1 (gave_up_after _ _ _ _ _ _ c.in_ok-claimed.ensures.asks c.in_err-duplicates.ensures.asks
+    rw p.1 (gave_up_after _ _ _ _ _ _ c.in_ok-used.ensures.asks c.in_err-duplicates.ensures.asks
     (at_second_map (8 * div_ceil c.args.geometry.now.layout.size 64) (inodes_of c.args.geometry.now.layout)
     c.args.geometry.now.layout.bsize))
 
 pub returns-in_err-kinds-clause-asks : goal.returns-in_err-kinds-clause-asks
 returns-in_err-kinds-clause-asks g c =
     let p = err_from_is_err_and c.from_residual-in_err-kinds.result c.from_residual-in_err-kinds.ensures.1 in
-    rw p.1 (gave_up_after _ _ _ _ _ _ (both c.in_ok-claimed.ensures.asks c.in_ok-duplicates.ensures.asks)
+    rw p.1 (gave_up_after _ _ _ _ _ _ (both c.in_ok-used.ensures.asks c.in_ok-duplicates.ensures.asks)
     (gave_up_at _ _ _ c.in_err-kinds.ensures)
     (at_kinds (8 * div_ceil c.args.geometry.now.layout.size 64) (inodes_of c.args.geometry.now.layout)
     c.args.geometry.now.layout.bsize))
@@ -66,7 +66,7 @@ pub returns-in_err-marked-clause-asks : goal.returns-in_err-marked-clause-asks
 returns-in_err-marked-clause-asks g c =
     let p = err_from_is_err_and c.from_residual-in_err-marked.result c.from_residual-in_err-marked.ensures.1 in
     rw p.1 (gave_up_after _ _ _ _ _ _
-    (both (both c.in_ok-claimed.ensures.asks c.in_ok-duplicates.ensures.asks) c.in_ok-kinds.ensures.granted)
+    (both (both c.in_ok-used.ensures.asks c.in_ok-duplicates.ensures.asks) c.in_ok-kinds.ensures.granted)
     c.in_err-marked.ensures.asks
     (at_flags (8 * div_ceil c.args.geometry.now.layout.size 64) (inodes_of c.args.geometry.now.layout)
     c.args.geometry.now.layout.bsize))
@@ -75,7 +75,7 @@ pub returns-in_err-references-clause-asks : goal.returns-in_err-references-claus
 returns-in_err-references-clause-asks g c =
     let p = err_from_is_err_and c.from_residual-in_err-references.result c.from_residual-in_err-references.ensures.1 in
     rw p.1 (gave_up_after _ _ _ _ _ _
-    (both (both (both c.in_ok-claimed.ensures.asks c.in_ok-duplicates.ensures.asks) c.in_ok-kinds.ensures.granted)
+    (both (both (both c.in_ok-used.ensures.asks c.in_ok-duplicates.ensures.asks) c.in_ok-kinds.ensures.granted)
     c.in_ok-marked.ensures.asks) (gave_up_at _ _ _ c.in_err-references.ensures)
     (at_references (8 * div_ceil c.args.geometry.now.layout.size 64) (inodes_of c.args.geometry.now.layout)
     c.args.geometry.now.layout.bsize))
@@ -84,7 +84,7 @@ pub returns-in_err-notes-clause-asks : goal.returns-in_err-notes-clause-asks
 returns-in_err-notes-clause-asks g c =
     let p = err_from_is_err_and c.from_residual-in_err-notes.result c.from_residual-in_err-notes.ensures.1 in
     rw p.1 (gave_up_after _ _ _ _ _ _
-    (both (both (both (both c.in_ok-claimed.ensures.asks c.in_ok-duplicates.ensures.asks) c.in_ok-kinds.ensures.granted)
+    (both (both (both (both c.in_ok-used.ensures.asks c.in_ok-duplicates.ensures.asks) c.in_ok-kinds.ensures.granted)
     c.in_ok-marked.ensures.asks) c.in_ok-references.ensures.granted) c.in_err-notes.ensures.asks
     (at_words (8 * div_ceil c.args.geometry.now.layout.size 64) (inodes_of c.args.geometry.now.layout)
     c.args.geometry.now.layout.bsize))
@@ -93,7 +93,7 @@ pub returns-in_err-windows-clause-asks : goal.returns-in_err-windows-clause-asks
 returns-in_err-windows-clause-asks g c =
     let p = err_from_is_err_and c.from_residual-in_err-windows.result c.from_residual-in_err-windows.ensures.1 in
     rw p.1 (gave_up_after _ _ _ _ _ _
-    (both (both (both (both (both c.in_ok-claimed.ensures.asks c.in_ok-duplicates.ensures.asks)
+    (both (both (both (both (both c.in_ok-used.ensures.asks c.in_ok-duplicates.ensures.asks)
     c.in_ok-kinds.ensures.granted) c.in_ok-marked.ensures.asks) c.in_ok-references.ensures.granted)
     c.in_ok-notes.ensures.asks) c.in_err-windows.ensures.asks
     (at_windows (8 * div_ceil c.args.geometry.now.layout.size 64) (inodes_of c.args.geometry.now.layout)
@@ -102,7 +102,7 @@ returns-in_err-windows-clause-asks g c =
 pub returns-clause-asks : goal.returns-clause-asks
 returns-clause-asks g c =
     granted_both _ _ _ _ _ _ (both
-    (both (both (both (both c.in_ok-claimed.ensures.asks c.in_ok-duplicates.ensures.asks) c.in_ok-kinds.ensures.granted)
+    (both (both (both (both c.in_ok-used.ensures.asks c.in_ok-duplicates.ensures.asks) c.in_ok-kinds.ensures.granted)
     c.in_ok-marked.ensures.asks) c.in_ok-references.ensures.granted) c.in_ok-notes.ensures.asks)
     c.in_ok-windows.ensures.asks
     (all_is (8 * div_ceil c.args.geometry.now.layout.size 64) (inodes_of c.args.geometry.now.layout)

@@ -1,6 +1,6 @@
 use Rattle.std.proofs.Common.{arith}
 use Rattle.ffs_walk.proofs.AnySet.{bits_more}
-use Rattle.ffs_walk.proofs.class.any_nonzero_from.Goals as goal
+use Rattle.ffs_walk.proofs.class.any_address_from.Goals as goal
 
 pub loop-index-preserved : goal.loop-index-preserved
 loop-index-preserved c =

@@ -1,6 +1,6 @@
 use Rattle.std.proofs.Common.{◌≡◌, ◌==◌, ◌-◌, ◌<◌, ◌^◌, ◌/◌, take, drop, not}
 use Rattle.ffs_volume.specs.Blocks.Inodes.{any_nonzero}
-use Rattle.ffs_walk.proofs.class.any_nonzero_from.Given as goal
+use Rattle.ffs_walk.proofs.class.any_address_from.Given as goal
 
 -- the bits so far, and whether one from `from` on is set
 abbrev pub invariant-loop-index : goal.invariant-loop-index
