@@ -4,7 +4,7 @@ use Rattle.std.proofs.Common.{◌∷◌, ◌++◌, ◌&&◌, ◌||◌, ◌==◌,
 use Rattle.std.proofs.Common.{refl, ap, ◌∙◌, sym, slice_index, vec_len, arith}
 use Rattle.std.specs.{List.slice_index_or, Int.w16, Int.cast_signed}
 use Rattle.std.specs.declared.{alloc.Global.Global, vec.Vec.Vec}
-use Rattle.std.proofs.lemmas.{Bool.Decides.nat_tests, Int.to_z_pos, List.get_or_read, List.length-map}
+use Rattle.std.proofs.lemmas.{Bool.Decides.nat_tests, Int.to_z_pos, List.get_or_read}
 use Rattle.std.proofs.lemmas.Bool.{and_parts, cases_lt, eq-eqb, eqb-true, not-true}
 use Rattle.ffs_volume.specs.declared.{Attr.Attr, Inode.Inode, Label.Label, Layout.Layout}
 use Rattle.ffs_volume.specs.declared.{constants.TheConstants.LINKS_MET}
@@ -144,9 +144,6 @@ pub lines_begin : (v : Layout) (b : List ℕ) → map of_tree (reference_lines (
 unfolding reference_lines volume_of volume_with
 lines_begin v b = ap (λ (ls : List TreeMessage). map of_tree ls)
     (all_from (reference_lines_at (volume_of v b)) (inodes_of v))
-
-pub same_length : (xs ys : List TreeMessage) → map of_tree xs ≡ map of_tree ys → length xs ≡ length ys
-same_length xs ys e = sym (length-map xs of_tree) ∙ ap length e ∙ length-map ys of_tree
 
 -- where each link has its reference, nothing is reported
 pub met_lines : (v : Layout) (b : List ℕ) (w : Workspace) (i : ℕ) → i < inodes_of v → HoldsFindings v b w →

@@ -74,9 +74,6 @@ pub lines_long : (all one more : List TreeMessage) → map of_tree all ≡ map o
     length all ≡ length one + length more
 lines_long all one more e = simp (length-append, length-map) at (ap length e)
 
-pub same_long : (all all' : List TreeMessage) → map of_tree all ≡ map of_tree all' → length all ≡ length all'
-same_long all all' e = simp length-map at (ap length e)
-
 -- ---- the most reads
 -- reads so far, where a directory is checked, of k for each line
 pub checked_on : (k reads reads' more costs cost before here there all : ℕ) → reads' ≤ reads + (2 * cost + k * here)

@@ -1,7 +1,7 @@
 -- How the lines of numbers in ascending order continue.
 use Rattle.std.proofs.Common.{◌≡◌, ℕ, zero, suc, ◌+◌, ◌-◌, ◌<◌, ◌≤◌, List, [], ◌++◌, map, append_assoc, append-nil, length}
 use Rattle.std.proofs.Common.{refl, ap, ◌∙◌, sym, arith}
-use Rattle.std.proofs.lemmas.List.{length-append, map-append}
+use Rattle.std.proofs.lemmas.List.{length-append, length-map, map-append}
 use Rattle.ffs_volume.specs.Messages.Kinds.{TreeMessage, of_tree, lines_below, lines_from}
 
 -- those below d + k are those below d and the k from d on
@@ -65,3 +65,7 @@ unfolding lines_from
 from_end lines d n h =
     let q : n - d ≡ 0 = omega arith in
     ap (λ (k : ℕ). map of_tree (lines_from lines d k)) q
+
+-- as many lines have the same messages
+pub as_many : (xs ys : List TreeMessage) → map of_tree xs ≡ map of_tree ys → length xs ≡ length ys
+as_many xs ys e = sym (length-map xs of_tree) ∙ ap length e ∙ length-map ys of_tree

@@ -1,13 +1,13 @@
 use Rattle.std.proofs.Common.{◌≡◌, ◌∙◌, ◌+◌, arith, ap, Err, refl, rules}
 use Rattle.std.proofs.lemmas.Result.{err_from_is_err_and}
 use Rattle.ffs_volume.specs.Directories.{ReferenceCheck.reference_lines_at, Volumes.volume_of}
-use Rattle.ffs_volume.proofs.Numbered.{count_next, from_next, from_end}
+use Rattle.ffs_volume.proofs.Numbered.{as_many, count_next, from_next, from_end}
 use Rattle.ffs_report.specs.Known.{ForBytes}
 use Rattle.ffs_report.proofs.Reporting.{of_fault, of_part, of_same, reports_knowing, said_knows, says_heading}
 use Rattle.ffs_report.proofs.Reporting.{stops_heading}
 use Rattle.ffs_workspace.specs.{declared.workspace.Workspace.Workspace, Found.WithFindings, Lengths.inodes_of}
 use Rattle.ffs_workspace.proofs.Leaving.{findings_held}
-use Rattle.ffs_counts.proofs.Holding.{free_lines, held_on, lines_after, lines_begin, same_length}
+use Rattle.ffs_counts.proofs.Holding.{free_lines, held_on, lines_after, lines_begin}
 use Rattle.ffs_counts.proofs.pass4.phase4.Given as given
 use Rattle.ffs_counts.proofs.pass4.phase4.Goals as goal
 use Rattle.ffs_counts.proofs.pass4.phase4.Goals.{After-free_stretch-free, At-loop-number}
@@ -45,7 +45,7 @@ loop-number-init g c =
       ready = c.requires.ready;
       device = refl;
       held = refl;
-      reads = λ bytes k. let all = same_length _ _ (lines_begin v bytes) in omega (arith, all);
+      reads = λ bytes k. let all = as_many _ _ (lines_begin v bytes) in omega (arith, all);
       said = says_heading (λ bytes k. lines_begin v bytes) c.in_ok-say.ensures.said;
     }
 
@@ -97,7 +97,7 @@ loop-number-preserved g c =
       ready = inv.ready;
       device = inv.device;
       held = inv.held;
-      reads = λ bytes k. let on = same_length _ _ (none bytes k) in omega (arith, inv.reads bytes k, on);
+      reads = λ bytes k. let on = as_many _ _ (none bytes k) in omega (arith, inv.reads bytes k, on);
       said = of_same _ _ _ _ _ _ inv.said none;
     }
 

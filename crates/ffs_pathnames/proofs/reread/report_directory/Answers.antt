@@ -12,7 +12,7 @@ use Rattle.ffs_pathnames.specs.{Gathers.passed_of, DirectoryContext.KnowsDirecto
 use Rattle.ffs_pathnames.{specs.PassedNames.entries_reported, proofs.StampLaws.keep_more, proofs.StampLaws.noted_kept}
 use Rattle.ffs_pathnames.proofs.Passing.{chunk_reported, chunk_passed, knows_on, all_read}
 use Rattle.ffs_pathnames.proofs.ReadyLaws.{with_chunk, can_read_in, ready_next, ready_read}
-use Rattle.ffs_pathnames.proofs.LineCounts.{lines_long, reported_on, same_long}
+use Rattle.ffs_pathnames.proofs.LineCounts.{lines_long, reported_on}
 use Rattle.ffs_pathnames.proofs.reread.report_directory.Goals as goal
 
 pub chunks-init : goal.chunks-init
@@ -46,7 +46,7 @@ chunks-init g c =
           let all = c.start-chunks.ensures.reads.to_read b in
           let left = c.start-chunks.ensures.begins.runs_left b in
           let runs = runs_are v b x.number x.inode x.cut k.1 (cut b k) in
-          let long = same_long (entries_reported (volume_of v b) x.number m (roled_entries (volume_of v b) x.number))
+          let long = as_many (entries_reported (volume_of v b) x.number m (roled_entries (volume_of v b) x.number))
           (entries_reported (volume_of v b) x.number m (flat_map roled_chunk (rest b c.start-chunks.result)))
           (same_lines b k) in
           rw long (omega (arith, all, left, runs));

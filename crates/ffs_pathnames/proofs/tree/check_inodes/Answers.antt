@@ -1,7 +1,7 @@
 use Rattle.std.proofs.Common.{◌+◌, ◌-◌, ◌<◌, [], map, refl, sym, ap, subst, ◌≡◌, ◌∙◌, suc, arith, rules, Err, List, ℕ}
 use Rattle.std.proofs.Common.{◌≤◌, length, true}
 use Rattle.std.proofs.lemmas.{Bool.both_ways, Result.err_from_is_err_and}
-use Rattle.ffs_volume.proofs.Numbered.{from_next, from_end, count_next as next_long}
+use Rattle.ffs_volume.proofs.Numbered.{as_many, from_next, from_end, count_next as next_long}
 use Rattle.ffs_volume.{proofs.Sizes.some_inodes, specs.Report.Reads.line_reads}
 use Rattle.ffs_volume.specs.Messages.Kinds.{of_tree, lines_from}
 use Rattle.ffs_volume.specs.Directories.{PathnameCheck.directory_lines, Volumes.volume_of}
@@ -9,7 +9,7 @@ use Rattle.ffs_report.proofs.Reporting.{of_begins, of_same, of_part, of_fault, o
 use Rattle.ffs_workspace.specs.{declared.workspace.Workspace.Workspace, Lengths.inodes_of}
 use Rattle.ffs_pathnames.{specs.Before.IsBefore, proofs.Carrying.before_reported, proofs.StampLaws.noted_kept}
 use Rattle.ffs_pathnames.proofs.Skipping.{before_unseen, lines_unseen, noted_before}
-use Rattle.ffs_pathnames.proofs.LineCounts.{checked_on, same_long}
+use Rattle.ffs_pathnames.proofs.LineCounts.{checked_on}
 use Rattle.ffs_survey.{specs.Costs.costs_all, proofs.Costs.cost_take, proofs.Costs.costs_rise}
 use Rattle.ffs_names.specs.Costs.{directories_cost, directory_cost}
 use Rattle.ffs_pathnames.proofs.tree.check_inodes.Goals as goal
@@ -51,7 +51,7 @@ loop-number-init g c =
       reads = λ b k numbered.
           let made : g.I.Image.reads c.note_places.new.image ≤ g.I.Image.reads c.args.image.now + directories_cost v b =
           c.note_places.ensures.reads b k.gives_bytes k.claims k.survey in
-          rw (same_long (lines_from (directory_lines (volume_of v b)) 2 (inodes_of v - 2))
+          rw (as_many (lines_from (directory_lines (volume_of v b)) 2 (inodes_of v - 2))
           (lines_from (directory_lines (volume_of v b)) first.result (inodes_of v - first.result))
           (lines_unseen v _ _ b first.result (inodes_of v) c.args.geometry.now.sound first.ensures.range.0
           first.ensures.range.1 first.ensures.before k)) (omega (arith, made));
