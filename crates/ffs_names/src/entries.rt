@@ -1,6 +1,6 @@
 //! The entries of a directory.
 
-ghost use Rattle.std.specs.Prelude.{◌≡◌, ◌+◌, ◌-◌, ◌*◌, ◌/◌, ◌<◌, ◌≤◌, ◌^◌, ◌∷◌, ℕ, List, [], false, IfOk, IfSome, is_some, MatchOption};
+ghost use Rattle.std.specs.Prelude.{◌≡◌, ◌+◌, ◌-◌, ◌*◌, ◌/◌, ◌<◌, ◌≤◌, ◌^◌, ◌∷◌, ℕ, List, [], false, None, IfOk, IfSome, is_some, MatchOption};
 ghost use Rattle.ffs_image.specs.Device.{ForContents};
 ghost use Rattle.ffs_volume.specs.Blocks.Inodes as inodes;
 ghost use Rattle.ffs_volume.specs.Directories.Entries.{entry_at};
@@ -158,7 +158,8 @@ impl Entries {
 
     /// Takes the entry at `place`, if one is there.
     #[inline(always)]
-    fn take(&mut self) -> Option<EntryHead>
+    pub(crate) fn take(&mut self) -> Option<EntryHead>
+        ensures none { result ≡ None → self.new ≡ self.old }
         ensures entries { MatchOption result
             ((b : List ℕ) → to_come b self.new ≡ to_come b self.old)
             (λ head. (b : List ℕ) → to_come b self.old ≡ roled_of head (last_name self.new)

@@ -118,6 +118,11 @@ impl<I: Image> Directories for DirectoryReader<'_, I> {
 
     #[inline(always)]
     fn next(&mut self) -> Result<Option<EntryHead>, ImageFault> {
+        // Most entries are in the current chunk: they ask for no window.
+        match self.entries.take() {
+            Some(head) => return Ok(Some(head)),
+            None => {}
+        }
         let windows = &mut *self.windows;
         self.entries
             .next(self.image, &mut windows.blocks, &mut windows.chunk)

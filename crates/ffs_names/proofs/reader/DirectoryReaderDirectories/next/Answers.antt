@@ -1,15 +1,67 @@
-use Rattle.ffs_names.proofs.SurveyHolds.{if_ok, ok_on, none_ended}
+use Rattle.std.proofs.Common.{ap, ◌∙◌, refl}
+use Rattle.ffs_names.proofs.Continuing.{can_read, contents_kept}
+use Rattle.ffs_names.proofs.{Shaped.shape_same, SurveyHolds.if_ok, SurveyHolds.ok_on, SurveyHolds.none_ended}
 use Rattle.ffs_names.proofs.reader.DirectoryReaderDirectories.next.Goals as goal
 
+pub returns-in-Some-clause-shape : goal.returns-in-Some-clause-shape
+returns-in-Some-clause-shape g c = λ b k.
+    let same = c.take.ensures.same in shape_same b _ _ _ _ _ _ same.right_so_far same.fills same.chunks
+
+-- where the current chunk has no entry left, the reading is as it was
+pub next-requires : goal.next-requires
+next-requires g c =
+    let r = c.requires.ready.0 in
+    let geometry = ap (λ x. x.chunks.walk.geometry) (c.take.ensures.none c.in-None.is) ∙ c.requires.ready.1 in
+    can_read _ _ _ _ _ (record {
+      walk = record { volume = r.volume; room = r.blocks; holds = r.blocks_hold };
+      room = r.chunk;
+      holds = r.chunk_holds;
+    }) geometry
+
+pub returns-clause-reader : goal.returns-clause-reader
+returns-clause-reader g c =
+    let r = c.requires.ready.0 in
+    let leaves = c.next.ensures.leaves in
+    let geometry = ap (λ x. x.chunks.walk.geometry) (c.take.ensures.none c.in-None.is) ∙ c.requires.ready.1 in
+    let ready = rw geometry at leaves.ready in
+    let same = contents_kept _ _ c.next.result leaves.read in
+    record {
+      is_ready = (
+        record {
+          volume = ready.walk.volume;
+          table = r.table;
+          blocks = ready.walk.room;
+          chunk = ready.room;
+          names = r.names;
+          table_holds = rw same r.table_holds;
+          blocks_hold = ready.walk.holds;
+          chunk_holds = ready.holds;
+          names_hold = rw same r.names_hold;
+          kinds_long = r.kinds_long;
+          notes_long = r.notes_long;
+        },
+        leaves.geometry ∙ geometry,
+      );
+      same = rw same refl;
+      read = leaves.read;
+    }
+
+pub returns-clause-left : goal.returns-clause-left
+returns-clause-left g c = rw (c.take.ensures.none c.in-None.is) at c.next.ensures.left
+
 pub returns-clause-rest : goal.returns-clause-rest
-returns-clause-rest g c = if_ok c.next.result _ _ c.next.ensures.entry (λ o h b k. (h b k.bytes).entries)
+returns-clause-rest g c = if_ok c.next.result _ _ c.next.ensures.entry
+    (λ o h b k. rw (c.take.ensures.none c.in-None.is) at (h b k.bytes).entries)
 
 pub returns-clause-shape : goal.returns-clause-shape
-returns-clause-shape g c = ok_on c.next.result _ _ c.next.ensures.entry (λ o h b k. (h b k.bytes).shape)
+returns-clause-shape g c = ok_on c.next.result _ _ c.next.ensures.entry
+    (λ o h b k. rw (c.take.ensures.none c.in-None.is) at (h b k.bytes).shape)
 
 pub returns-clause-ended : goal.returns-clause-ended
 returns-clause-ended g c = if_ok c.next.result _ _ c.next.ensures.entry
     (λ o h. none_ended o _ (λ b k. (h b k.bytes).ended))
 
 pub returns-clause-counted : goal.returns-clause-counted
-returns-clause-counted g c = λ b k held. c.next.ensures.reads held b k.bytes
+returns-clause-counted g c = λ b k held.
+    let same = c.take.ensures.none c.in-None.is in
+    rw same at (c.next.ensures.reads (rw same held) b k.bytes)
