@@ -97,7 +97,9 @@ fn has_valid_type_and_name(chunk: &[u8; DIRBLKSIZ], place: usize, len: u16) -> b
     requires { IsTrue (is_valid_record_length place len) }
     ensures { result ≡ has_valid_type_and_name chunk.now place len }
 {
-    DIRENT_HEADER + (usize::from(chunk[place + 7]) + 4) / 4 * 4 <= usize::from(len)
+    // The length of a record is a multiple of 4: where the name and its NUL have room, so has what
+    // fills them up to one.
+    DIRENT_HEADER + usize::from(chunk[place + 7]) + 1 <= usize::from(len)
         && chunk[place + 6] <= 15
         && has_valid_name(chunk, place)
 }
