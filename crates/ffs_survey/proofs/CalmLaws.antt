@@ -2,16 +2,17 @@
 use Rattle.std.specs.Prelude.{◌≡◌, ℕ, suc, ◌+◌, ◌<◌, ◌==◌, Bool, true, false, not, cond, ◌&&◌, ◌||◌, nat_le, nat_lt}
 use Rattle.std.specs.Prelude.{List, [], ◌∷◌, length, Option, None, Some, is_some, unwrap_or, refl}
 use Rattle.std.proofs.Common.{arith, sym, ◌∙◌, ap, subst, inl, inr, get_or}
-use Rattle.std.{specs.List.list_any, proofs.lemmas.Bool.Decides.nat_tests, proofs.lemmas.List.get_or_past}
-use Rattle.std.proofs.lemmas.Bool.{both_ways, eqb-true, and_parts, and_left, and_right, or_cases, or_parts, not_from_true}
+use Rattle.std.{specs.List.list_any, proofs.lemmas.Bool.Decides.nat_tests, proofs.lemmas.Bool.not_from_true}
+use Rattle.std.proofs.lemmas.Bool.{both_ways, eqb-true, and_parts, and_left, and_right, or_cases, or_parts}
+use Rattle.std.proofs.lemmas.List.{get_or_past}
 use mathlib.Core.Path.{fun_ext}
-use Rattle.ffs_volume.specs.declared.Role.{Role, TheVariants.Empty, TheVariants.Dot, TheVariants.Dotdot, TheVariants.Extra}
-use Rattle.ffs_volume.specs.declared.Role.{TheVariants.Plain}
+use Rattle.ffs_volume.specs.declared.Role.{Role}
+use Rattle.ffs_volume.specs.declared.Role.TheVariants.{Empty, Dot, Dotdot, Extra, Plain}
 use Rattle.ffs_volume.specs.Directories.{Roles.RoledEntry, Roles.is_plain, Graph.Graph, Graph.is_naming_entry}
 use Rattle.ffs_volume.proofs.SearchLaws.{first_below-is_none}
 use Rattle.ffs_survey.specs.Survey.{bool_at, number_at, dir_at}
-use Rattle.ffs_survey.specs.Calm.{CurrentDir, is_calm_plain, is_calm_role, is_calm_entry, reached_after, are_calm, IsCalm}
-use Rattle.ffs_survey.specs.Calm.{AreCalm, IsFlagged}
+use Rattle.ffs_survey.specs.Calm.{CurrentDir, is_calm_plain, is_calm_role, is_calm_entry, reached_after, are_calm}
+use Rattle.ffs_survey.specs.Calm.{IsCalm, AreCalm, IsFlagged}
 use Rattle.ffs_survey.specs.Discover.{from_entries, nothing, SameResult, IsFrontier, LevelsKnown, is_unreached_dir}
 use Rattle.ffs_survey.specs.Discover.{is_unreached_edge, IsRead}
 use Rattle.ffs_survey.proofs.Discovered.{Same, of_each, same_result-to}
@@ -152,7 +153,8 @@ calm_step {r = r} {r' = r'} {calm_so_far' = calm_so_far'} s i e es calm_so_far c
     let next : i + 1 ≡ suc i = omega arith in
     ap (λ n. calm_so_far' && are_calm s (bool_at r') n es) next
     ∙ (ap (λ z. calm_so_far' && are_calm s z (suc i) es) same
-    ∙ (ap (λ z. z && are_calm s (reached_after s.kinds (bool_at r) e) (suc i) es) step ∙ (and_again calm_so_far _ _ ∙ old)))
+    ∙ (ap (λ z. z && are_calm s (reached_after s.kinds (bool_at r) e) (suc i) es) step
+    ∙ (and_again calm_so_far _ _ ∙ old)))
   where
     and_again : (a b c : Bool) → ((a && b) && c) ≡ (a && (b && c))
     and_again a b c = grind arith
@@ -177,8 +179,8 @@ reached_below : (r : List Bool) (x : ℕ) → bool_at r x ≡ true → x < lengt
 reached_below r x h = grind (arith, get_or_past)
 
 -- reading the directories that aren't reached leaves the parents of those that are
-pub read_stays : {g : Graph} {kinds : List ℕ} {r : List Bool} {n : ℕ} {f f' : List ℕ} {m m' : List Bool} {p p' : List ℕ} →
-    IsRead g kinds r n f m p f' m' p' → length r ≡ g.count → (x : ℕ) → bool_at r x ≡ true →
+pub read_stays : {g : Graph} {kinds : List ℕ} {r : List Bool} {n : ℕ} {f f' : List ℕ} {m m' : List Bool}
+    {p p' : List ℕ} → IsRead g kinds r n f m p f' m' p' → length r ≡ g.count → (x : ℕ) → bool_at r x ≡ true →
     number_at p' x ≡ number_at p x
 read_stays {g = g} {kinds = kinds} {r = r} {n = n} {p = p} read long x h =
     read.parent x (subst (λ z. x < z) long (reached_below r x h))

@@ -5,9 +5,10 @@ use Rattle.std.proofs.Common.{arith, sym, ◌∙◌, ap, set, take, drop, get_or
 use Rattle.std.{specs.List.list_any, specs.List.sum_by, specs.Option.option_or, proofs.lemmas.Bool.Decides.nat_tests}
 use Rattle.std.proofs.lemmas.{Bool.and_parts, Bool.not-true, List.take_more_set, List.get_or_past, List.at_drop_more}
 use Rattle.std.proofs.lemmas.List.Sums.{sum_by-set, sum_by-le, sum_by_push}
-use Rattle.ffs_volume.specs.Directories.{Roles.RoledEntry, Roles.is_plain, Graph.Graph, Graph.is_naming_entry, Graph.edge}
+use Rattle.ffs_volume.specs.Directories.{Roles.RoledEntry, Roles.is_plain, Graph.is_naming_entry, Graph.edge}
 use Rattle.ffs_survey.specs.Survey.{bool_at, number_at, dir_at, graph_with}
-use Rattle.ffs_survey.specs.Discover.{bit, occurrences, unset, from_entries, from_dirs, nothing, SameResult, is_unreached_dir}
+use Rattle.ffs_survey.specs.Discover.{bit, occurrences, unset, from_entries, from_dirs, nothing, SameResult}
+use Rattle.ffs_survey.specs.Discover.{is_unreached_dir}
 
 -- what `SameResult` says of one number: whether it is reached, its parent, how often it is queued
 abbrev pub Same : (r : Bool) (p t : ℕ) (a : Option ℕ) (r' : Bool) (p' t' : ℕ) (a' : Option ℕ) → Type 0
@@ -139,6 +140,6 @@ level_step kinds entries frontier i l d a b =
     let v = graph_with kinds entries in
     let s = get_or frontier i 0 in
     let rest = from_dirs v (drop (i + 1) frontier) in
-    same_result-trans a (same_result-then (λ x.
-    at_drop_more (λ z. from_dirs v z x) frontier i 0 l
-    ∙ (picks (edge v s x) s (rest x) ∙ ap (λ o. option_or o (rest x)) (sym (from_entries-edges kinds entries s x d)))) b)
+    same_result-trans a (same_result-then (λ x. at_drop_more (λ z. from_dirs v z x) frontier i 0 l
+    ∙ (picks (edge v s x) s (rest x)
+    ∙ ap (λ o. option_or o (rest x)) (sym (from_entries-edges kinds entries s x d)))) b)

@@ -8,12 +8,14 @@ use Rattle.std.proofs.lemmas.Bool.{or_cases, or_left, or_right, not-true, not_fr
 use Rattle.std.proofs.lemmas.{Bool.Decides.nat_tests, List.Sorted.sum_by-IsPermutation, List.Sums.sum_by-cons}
 use Rattle.std.proofs.lemmas.List.Sums.{sum_by-append}
 use Rattle.ffs_volume.specs.Directories.Graph.{Graph, level_edge, edge, within, level, parent, parent_by}
-use Rattle.ffs_volume.specs.{Directories.Climb.is_value, Directories.Roles.RoledEntry, Disk.Search.first_below, Disk.Search.some_below}
-use Rattle.ffs_volume.proofs.LevelLaws.{within-suc, within-zero, within-grows, within-step, within-more, level-some, level-from}
+use Rattle.ffs_volume.specs.{Directories.Climb.is_value, Directories.Roles.RoledEntry, Disk.Search.first_below}
+use Rattle.ffs_volume.specs.Disk.Search.{some_below}
+use Rattle.ffs_volume.proofs.LevelLaws.{within-suc, within-zero, within-grows, within-step, within-more, level-some}
+use Rattle.ffs_volume.proofs.LevelLaws.{level-from}
 use Rattle.ffs_volume.proofs.SearchLaws.{first_below-is, first_below-is_none, some_below-gives, some_below-from}
 use Rattle.ffs_volume.proofs.{ClimbLaws.is_value-true, ClimbLaws.is_value-from, Graphs.IsSane, Unreached.edge-parts}
-use Rattle.ffs_survey.specs.Survey.{bool_at, number_at, graph_with}
-use Rattle.ffs_survey.specs.Discover.{bit, occurrences, from_dirs, nothing, SameResult, Rising, IsFrontier, parent_at, LevelsKnown}
+use Rattle.ffs_survey.specs.Discover.{bit, occurrences, from_dirs, nothing, SameResult, Rising, IsFrontier, parent_at}
+use Rattle.ffs_survey.specs.{Discover.LevelsKnown, Survey.bool_at, Survey.number_at, Survey.graph_with}
 use Rattle.ffs_survey.proofs.Discovered.{Same, of_each, dir_below}
 
 -- ---- occurrences in a list

@@ -1,16 +1,17 @@
 -- The queue: what is after it, the current level, and the next level.
-use Rattle.std.specs.Prelude.{◌≡◌, ℕ, suc, ◌+◌, ◌-◌, ◌<◌, ◌≤◌, All, Option, Bool, List, [], ◌∷◌, ◌++◌, length, take, drop}
-use Rattle.std.specs.Prelude.{◌==◌, ◌||◌, false, count_by}
+use Rattle.std.specs.Prelude.{◌≡◌, ℕ, suc, ◌+◌, ◌-◌, ◌<◌, ◌≤◌, All, Option, Bool, List, [], ◌∷◌, ◌++◌, length, take}
+use Rattle.std.specs.Prelude.{drop, ◌==◌, ◌||◌, false, count_by}
 use Rattle.std.proofs.Common.{arith, sym, ◌∙◌, ap, subst, add-zero, get_or}
 use Rattle.std.specs.List.Sorted.{IsNonDecreasing, IsPermutation}
 use Rattle.std.proofs.lemmas.List.{get_or-drop, get_or-take, get_or_past, length-drop, take-append-drop, take-take}
-use Rattle.std.proofs.lemmas.{List.Folds.list_any-append, List.Sums.sum_by-append, List.Sums.sum_by-cons, Bool.cond-false}
-use Rattle.std.proofs.{lemmas.Bool.and_left, lemmas.Grind.common_steps, Math.Bool.or-false}
+use Rattle.std.proofs.lemmas.{List.Folds.list_any-append, List.Sums.sum_by-append, List.Sums.sum_by-cons}
+use Rattle.std.proofs.lemmas.{Bool.and_left, Bool.cond-false, Grind.common_steps}
+use Rattle.std.proofs.Math.Bool.{or-false}
 use Rattle.ffs_volume.specs.Directories.{Graph.Graph, Graph.is_naming_dir, Roles.RoledEntry, Roles.refers}
 use Rattle.ffs_volume.proofs.Graphs.{IsSane}
 use Rattle.ffs_survey.specs.Survey.{bool_at, number_at, graph_with, dir_at, counted_in}
-use Rattle.ffs_survey.specs.Discover.{Extends, bit, occurrences, from_dirs, nothing, SameResult, IsFrontier, LevelsKnown}
-use Rattle.ffs_survey.specs.Discover.{IsCount, Counts, IsReachedPart, count_of, any_of, none, never}
+use Rattle.ffs_survey.specs.Discover.{Extends, bit, occurrences, from_dirs, nothing, SameResult, IsFrontier}
+use Rattle.ffs_survey.specs.Discover.{LevelsKnown, IsCount, Counts, IsReachedPart, count_of, any_of, none, never}
 use Rattle.ffs_survey.proofs.Frontiers.{next_level, frontier_from, queue_grows, IsNext, occurrences-append}
 use Rattle.ffs_survey.proofs.Frontiers.{occurrences-permutation}
 use Rattle.ffs_survey.proofs.LevelEnds.{knows_reached, knows_parent, root_alone}
@@ -89,19 +90,17 @@ pub counted_on : {g : Graph} {starts f f' : List ℕ} {m m' : List Bool} (low hi
     take high q' ≡ take high q → IsCount g (take low q) starts f m →
     Counts g.count (count_of g (drop low (take high q))) (any_of g (drop low (take high q))) f m none never f' m' →
     IsCount g (take high q') starts f' m'
-counted_on {g = g} low high q q' l kept i c =
+counted_on {g = g} {m' = m'} low high q q' l kept i c =
     let parts : take high q' ≡ take low q ++ drop low (take high q) = kept ∙ queue_parts low high q l in
     record {
       counts = λ x b.
           let one = ap (λ z. count_of g z x) parts
           ∙ sum_by-append (λ s. counted_in g s x) (take low q) (drop low (take high q)) in
           omega (arith, one, i.counts x b, c.counts x b);
-      names = λ x b.
-          let one = ap (λ z. any_of g z x) parts
-          ∙ list_any-append (λ s. is_naming_dir g s x) (take low q) (drop low (take high q)) in
-          let two = i.names x b in
-          let three = c.names x b in
-          grind arith;
+      names = λ x b. sym (or-false (bool_at m' x))
+          ∙ (c.names x b ∙ (ap (λ y. y || any_of g (drop low (take high q)) x) (i.names x b)
+          ∙ sym (ap (λ z. any_of g z x) parts
+          ∙ list_any-append (λ s. is_naming_dir g s x) (take low q) (drop low (take high q)))));
     }
 
 -- where no level is left, all that is reached was read

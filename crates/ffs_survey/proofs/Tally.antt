@@ -32,8 +32,8 @@ pub dir_counted : {n : ℕ} {c : ℕ → ℕ} {a : ℕ → Bool} {f f' f'' : Lis
     dir_at kinds (get_or frontier i 0) ≡ true →
     Counts n c a f m (count_of (graph_with kinds entries) (drop i frontier))
     (any_of (graph_with kinds entries) (drop i frontier)) f' m' →
-    Counts n (count_in (entries (get_or frontier i 0))) (any_in (entries (get_or frontier i 0))) f' m' none never f'' m''
-    → Counts n c a f m (count_of (graph_with kinds entries) (drop (i + 1) frontier))
+    Counts n (count_in (entries (get_or frontier i 0))) (any_in (entries (get_or frontier i 0))) f' m' none never f''
+    m'' → Counts n c a f m (count_of (graph_with kinds entries) (drop (i + 1) frontier))
     (any_of (graph_with kinds entries) (drop (i + 1) frontier)) f'' m''
 dir_counted {m' = m'} {m'' = m''} kinds entries frontier i l d h k =
     let g = graph_with kinds entries in

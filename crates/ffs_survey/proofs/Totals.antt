@@ -3,8 +3,8 @@ use Rattle.std.specs.Prelude.{◌≡◌, ℕ, zero, suc, ◌+◌, ◌*◌, ◌<�
 use Rattle.std.specs.Prelude.{◌||◌, List, [], ◌∷◌, refl}
 use Rattle.std.proofs.Common.{arith, sym, ◌∙◌, ap, inl, inr}
 use Rattle.std.{specs.List.list_any, specs.List.sum_by, proofs.lemmas.Bool.Decides.nat_tests}
-use Rattle.std.proofs.lemmas.Bool.{both_ways, cases_lt, cond-true, cond-false, and_parts, and_from, or_left, or_right, or_cases}
-use Rattle.std.proofs.lemmas.{Bool.lt-ltb, Bool.le-ltb, List.Sums.sum_by-cons}
+use Rattle.std.proofs.lemmas.Bool.{both_ways, cases_lt, cond-true, cond-false, and_parts, and_from, or_left, or_right}
+use Rattle.std.proofs.lemmas.{Bool.or_cases, Bool.lt-ltb, Bool.le-ltb, List.Sums.sum_by-cons}
 use Rattle.ffs_volume.specs.{Directories.Graph.Graph, Directories.Graph.is_naming_dir, Disk.Search.some_below}
 use Rattle.ffs_volume.specs.Disk.Search.{first_below}
 use Rattle.ffs_volume.proofs.SearchLaws.{some_below-suc, some_below-from, some_below-gives}

@@ -3,16 +3,18 @@
 use Rattle.std.specs.Prelude.{◌≡◌, ℕ, zero, suc, ◌+◌, ◌<◌, ◌≤◌, ◌==◌, Bool, true, false, not, cond, ◌&&◌, ◌||◌, List}
 use Rattle.std.specs.Prelude.{length, Option, None, Some, is_some, unwrap_or, refl}
 use Rattle.std.proofs.Common.{arith, sym, ◌∙◌, ap, subst, inl, inr, add-zero}
-use Rattle.std.proofs.lemmas.Bool.{both_ways, cases_Bool, cases_lt, and_left, and_right, and_parts, cond-true, cond-false}
-use Rattle.std.proofs.lemmas.{Bool.not-true, Bool.false_from_ne_true, Bool.Decides.nat_tests, List.get_or_past}
+use Rattle.std.proofs.lemmas.Bool.{both_ways, cases_Bool, cases_lt, and_left, and_right, and_parts, cond-true}
+use Rattle.std.proofs.lemmas.Bool.{cond-false, not-true, false_from_ne_true, Decides.nat_tests}
+use Rattle.std.proofs.lemmas.List.{get_or_past}
 use Rattle.std.proofs.Math.Bool.{or-false}
 use Rattle.ffs_volume.specs.Directories.Graph.{Graph, is_naming_dir, edge, level, reached, parent}
-use Rattle.ffs_volume.specs.{Directories.Roles.RoledEntry, Disk.Search.first_below, Disk.Search.earliest, Disk.Search.some_below}
+use Rattle.ffs_volume.specs.Directories.Roles.{RoledEntry}
+use Rattle.ffs_volume.specs.Disk.Search.{first_below, earliest, some_below}
 use Rattle.ffs_volume.proofs.SearchLaws.{some_below-suc, first_below-some, first_below-is_none}
 use Rattle.ffs_volume.proofs.{Graphs.IsSane, LevelLaws.reached-edge, LevelLaws.reached-root, Unreached.parent-unreached}
 use Rattle.ffs_survey.specs.Survey.{bool_at, number_at, dir_at, graph_with, counted_in, start_in, IsSurvey}
-use Rattle.ffs_survey.specs.Discover.{Counts, count_in, any_in, none, never, counted_by, IsReachedPart, is_unreached_dir}
-use Rattle.ffs_survey.specs.Discover.{is_unreached_edge, IsRead}
+use Rattle.ffs_survey.specs.Discover.{Counts, count_in, any_in, none, never, counted_by, IsReachedPart, IsRead}
+use Rattle.ffs_survey.specs.Discover.{is_unreached_dir, is_unreached_edge}
 use Rattle.ffs_survey.proofs.{Discovered.dir_below, Totals.counted_both, Totals.some_both}
 
 -- two tests that agree have the same first number
@@ -44,6 +46,9 @@ unfolding first_below
 first_step p s o q q' a z k e h w = parent_next (first_below p s) a (p s) s o q q'
     (λ y. both_ways (p 0) z (first_below-some p s 0 y).passes) k e h w
 
+names_more : (m m' m'' p a q : Bool) → m' ≡ (m || p) → (m'' || false) ≡ (m' || a) → a ≡ q → m'' ≡ (m || (p || q))
+names_more m m' m'' p a q h k e = grind arith
+
 -- a directory without a mark is read
 pub read_on : {f f' f'' : List ℕ} {m m' m'' : List Bool} {p p' p'' : List ℕ} (kinds : List ℕ)
     (entries : ℕ → List RoledEntry) (r : List Bool) (s : ℕ) → is_unreached_dir kinds r s ≡ true →
@@ -60,12 +65,8 @@ read_on {f = f} {f'' = f''} {m = m} {m'' = m''} {p = p} {p' = p'} {p'' = p''} ki
           let d = cond-true (not (bool_at r s)) (counted_in g s x) 0 unmarked in
           let e = cond-true (dir_at kinds s) (count_in (entries s) x) 0 dir in
           omega (arith, i.counts x l, c.counts x l, d, e);
-      names = λ x l.
-          let a = i.names x l in
-          let b = c.names x l in
-          let d = share x in
-          let t = some_below-suc (λ t. not (bool_at r t) && is_naming_dir g t x) s in
-          grind arith;
+      names = λ x l. names_more (bool_at m x) _ (bool_at m'' x) _ (any_in (entries s) x) _ (i.names x l) (c.names x l)
+          (share x) ∙ ap (λ b. bool_at m x || b) (sym (some_below-suc (λ t. not (bool_at r t) && is_naming_dir g t x) s));
       parent = λ x l.
           first_step (is_unreached_edge g kinds r x) s (number_at p x) (number_at p' x) (number_at p'' x)
           (is_unreached_dir kinds r x && any_in (entries s) x)
@@ -107,11 +108,12 @@ pub read_skip : {f f' : List ℕ} {m m' : List Bool} {p p' : List ℕ} (kinds : 
 unfolding counted_by first_below
 read_skip {f = f} {f' = f'} {m = m} {m' = m'} {p = p} {p' = p'} kinds entries r s taken i =
     subst (λ n. IsRead g kinds r n f m p f' m' p') one (record {
-      counts = λ x l. omega (arith, i.counts x l, no_share (dir_at kinds s) (bool_at r s) (count_in (entries s) x) taken);
+      counts = λ x l.
+          omega (arith, i.counts x l, no_share (dir_at kinds s) (bool_at r s) (count_in (entries s) x) taken);
       names = λ x l. i.names x l ∙ ap (λ o. bool_at m x || is_some o) (sym (still_first
-          (first_below (λ t. not (bool_at r t) && is_naming_dir g t x) s) _ s (none x)));
+          (first_below (λ t. not (bool_at r t) && is_naming_dir g t x) s) _ s (unnamed x)));
       parent = λ x l. i.parent x l ∙ ap (λ o. unwrap_or o (number_at p x)) (sym (still_first
-          (first_below (is_unreached_edge g kinds r x) s) _ s (and_right (is_unreached_dir kinds r x) _ (none x))));
+          (first_below (is_unreached_edge g kinds r x) s) _ s (and_right (is_unreached_dir kinds r x) _ (unnamed x))));
     })
   where
     g : Graph
@@ -120,8 +122,8 @@ read_skip {f = f} {f' = f'} {m = m} {m' = m'} {p = p} {p' = p'} kinds entries r 
     one : suc s ≡ s + 1
     one = omega arith
 
-    none : (x : ℕ) → (not (bool_at r s) && is_naming_dir g s x) ≡ false
-    none x = none_named (dir_at kinds s) (bool_at r s) (any_in (entries s) x) taken
+    unnamed : (x : ℕ) → (not (bool_at r s) && is_naming_dir g s x) ≡ false
+    unnamed x = none_named (dir_at kinds s) (bool_at r s) (any_in (entries s) x) taken
 
 -- what has no mark and no parent yet
 pub unreached_blank : {starts f : List ℕ} {m r : List Bool} {p : List ℕ} (kinds : List ℕ)
@@ -145,7 +147,8 @@ unreached_edges kinds entries r x s ls lx h off =
       | inl y ↦
           let none : edge g s x ≡ false = false_from_ne_true (edge g s x)
           (λ t. both_ways (reached g x) (sym (h x) ∙ off) (reached-edge g s x ls lx (sym (h s) ∙ y) t)) in
-          and_right (is_unreached_dir kinds r x) _ (and_left (not (bool_at r s)) (is_naming_dir g s x) (ap not y)) ∙ sym none
+          and_right (is_unreached_dir kinds r x) _ (and_left (not (bool_at r s)) (is_naming_dir g s x) (ap not y))
+          ∙ sym none
       | inr z ↦ unmarked_edge (dir_at kinds x) (bool_at r x) (bool_at r s) (is_naming_dir g s x) off z
     ]
 

@@ -4,8 +4,8 @@ use Rattle.std.specs.Prelude.{Option, None, Some, unwrap_or, refl}
 use Rattle.std.proofs.Common.{arith, sym, ◌∙◌, ap, subst, inl, inr, ◌⊎◌}
 use Rattle.std.proofs.lemmas.Bool.{cases_eq, and_parts, both_ways, cond-true, cond-false, eq-eqb, ne_eqb}
 use mathlib.Core.Path.{fun_ext}
-use Rattle.ffs_volume.specs.Directories.Graph.{Graph, edge, parent, parent_by, level, is_dead_in, none_or_dead, is_unref_dir_in}
-use Rattle.ffs_volume.specs.Directories.Climb.{is_leader_within, is_value}
+use Rattle.ffs_volume.specs.Directories.Graph.{Graph, edge, parent, parent_by, level, is_dead_in, none_or_dead}
+use Rattle.ffs_volume.specs.Directories.{Climb.is_leader_within, Climb.is_value, Graph.is_unref_dir_in}
 use Rattle.ffs_volume.proofs.{Graphs.IsSane, SearchLaws.first_below-some, Unreached.edge-parts, Unreached.IsLost}
 use Rattle.ffs_volume.proofs.Unreached.{lost-from}
 use Rattle.ffs_survey.specs.{Cycles.parent_in, Survey.number_at, Survey.IsTree}
@@ -43,7 +43,8 @@ parent-some v x s sane z h =
 
 -- a list holds the parent of d, 0 for none
 abbrev Holds : Graph → List ℕ → ℕ → Type 0
-Holds v p d = ((parent v d ≡ None) × (number_at p d ≡ 0)) ⊎ ((parent v d ≡ Some (number_at p d)) × IsParent v (number_at p d))
+Holds v p d = ((parent v d ≡ None) × (number_at p d ≡ 0))
+    ⊎ ((parent v d ≡ Some (number_at p d)) × IsParent v (number_at p d))
 
 holds : (v : Graph) (p : List ℕ) (d : ℕ) → IsSane v → v.is_dir 0 ≡ false → number_at p d ≡ unwrap_or (parent v d) 0 →
     Holds v p d
@@ -66,7 +67,8 @@ none_or_dead_is : (v : Graph) (suspect : ℕ → Bool) (p : List ℕ) (d : ℕ) 
     none_or_dead v suspect (parent v d) ≡ cond (number_at p d == 0) true (is_dead_in v suspect (number_at p d))
 none_or_dead_is v suspect p d h = elim h [
   | inl none ↦ ap (none_or_dead v suspect) none.0 ∙ sym (cond-true (number_at p d == 0) true _ (eq-eqb _ 0 none.1))
-  | inr some ↦ ap (none_or_dead v suspect) some.0 ∙ sym (cond-false (number_at p d == 0) true _ (ne_eqb _ 0 some.1.some))
+  | inr some ↦ ap (none_or_dead v suspect) some.0
+      ∙ sym (cond-false (number_at p d == 0) true _ (ne_eqb _ 0 some.1.some))
 ]
 
 -- what is kept, with a parent list of full length
@@ -89,12 +91,14 @@ parent-below d t = elim (tree-holds d t) [
 
 pub unref_is : {v : Graph} {suspect : ℕ → Bool} {kinds : List ℕ} {r : List Bool} {p : List ℕ} {d : ℕ} →
     length p ≡ length kinds → IsTree v kinds r p → IsLost v suspect d → is_unref_dir_in v suspect d
-    ≡ (cond (number_at p d == 0) true (is_dead_in v suspect (number_at p d)) || is_leader_within (parent_in p) (length p) d)
+    ≡ (cond (number_at p d == 0) true (is_dead_in v suspect (number_at p d))
+    || is_leader_within (parent_in p) (length p) d)
 unref_is {v = v} {suspect = suspect} {p = p} {d = d} lp t l =
     let full : length p ≡ v.count = lp ∙ sym t.count in
     let up : parent_in p ≡ parent v = fun_ext (λ x. up_is_parent v p x full (tree-holds x t)) in
-    ap (λ b. b && (none_or_dead v suspect (parent v d) || is_leader_within (parent v) v.count d)) (lost-from v suspect d l)
+    let dead = cond (number_at p d == 0) true (is_dead_in v suspect (number_at p d)) in
+    ap (λ b. b && (none_or_dead v suspect (parent v d) || is_leader_within (parent v) v.count d))
+    (lost-from v suspect d l)
     ∙ (ap (λ b. b || is_leader_within (parent v) v.count d) (none_or_dead_is v suspect p d (tree-holds d t))
-    ∙ (ap (λ f. cond (number_at p d == 0) true (is_dead_in v suspect (number_at p d)) || is_leader_within f v.count d) (sym up)
-    ∙ ap (λ n. cond (number_at p d == 0) true (is_dead_in v suspect (number_at p d)) || is_leader_within (parent_in p) n d)
-    (sym full)))
+    ∙ (ap (λ f. dead || is_leader_within f v.count d) (sym up)
+    ∙ ap (λ n. dead || is_leader_within (parent_in p) n d) (sym full)))

@@ -6,8 +6,9 @@ use Rattle.std.proofs.Common.{length-set}
 use Rattle.std.proofs.lemmas.Bool.{cases_eq, cases_lt, eq-eqb, ne_eqb, false_from_ne_true, Decides.nat_tests}
 use Rattle.std.proofs.lemmas.List.{get_or_past, Sums.sum_by-set, Sums.sum_by-le}
 use Rattle.ffs_volume.specs.Directories.Climb.{climb, IsOnCycle, is_leader_within}
-use Rattle.ffs_volume.proofs.ClimbLaws.{climb-zero, climb-one, climb-suc, climb-add, climb-last, cycle-along, cycle-next}
-use Rattle.ffs_volume.proofs.ClimbLaws.{cycle-goes, cycle-within, is_leader_within-from, is_leader_within-true}
+use Rattle.ffs_volume.proofs.ClimbLaws.{climb-zero, climb-one, climb-suc, climb-add, climb-last, cycle-along}
+use Rattle.ffs_volume.proofs.ClimbLaws.{cycle-next, cycle-goes, cycle-within, is_leader_within-from}
+use Rattle.ffs_volume.proofs.ClimbLaws.{is_leader_within-true}
 use Rattle.ffs_survey.specs.Survey.{number_at, bool_at}
 use Rattle.ffs_survey.specs.Cycles.{parent_in, unmet, IsClosed, IsMet, Walked, FindsCycle, IsLeastOn, MarksLeaders}
 use Rattle.ffs_survey.specs.Discover.{bit}

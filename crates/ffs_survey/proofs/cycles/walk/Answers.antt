@@ -1,8 +1,8 @@
-use Rattle.std.proofs.Common.{◌≡◌, ◌≢◌, ℕ, suc, ◌+◌, ◌<◌, ◌≤◌, List, length, arith, sym, ◌∙◌, subst, set, None, Some, ◌⊎◌}
-use Rattle.std.proofs.Common.{ap, refl, inl, inr}
+use Rattle.std.proofs.Common.{◌≡◌, ◌≢◌, ℕ, suc, ◌+◌, ◌<◌, ◌≤◌, List, length, arith, sym, ◌∙◌, subst, set, None, Some}
+use Rattle.std.proofs.Common.{◌⊎◌, ap, refl, inl, inr}
 use Rattle.ffs_volume.specs.Directories.Climb.{IsOnCycle}
-use Rattle.ffs_survey.specs.{Survey.number_at, Cycles.parent_in, Cycles.unmet, Cycles.CanFollow, Cycles.IsMet, Cycles.IsClosed}
-use Rattle.ffs_survey.specs.Cycles.{Walked}
+use Rattle.ffs_survey.specs.{Survey.number_at, Cycles.parent_in, Cycles.unmet, Cycles.CanFollow, Cycles.IsMet}
+use Rattle.ffs_survey.specs.Cycles.{IsClosed, Walked}
 use Rattle.ffs_survey.proofs.Walks.{parent_in-none, parent_in-some, Walking, HasPassed, has_passed, walked, walks_on}
 use Rattle.ffs_survey.proofs.Walks.{walk_start, no_cycle_end, no_cycle_old, finds_cycle, unmet-le, unmet-set}
 use Rattle.ffs_survey.proofs.cycles.walk.Goals as goal
@@ -28,7 +28,8 @@ mark_some : (start : ℕ) → start + 1 ≢ 0
 mark_some start = λ z. absurd (omega arith)
 
 pub walked_none : {parent : List ℕ} {start steps at : ℕ} {old now : List ℕ} → Here parent start steps at old now →
-    (number_at parent at ≡ 0) ⊎ (length parent ≤ number_at parent at) → Walked (parent_in parent) start (start + 1) old now
+    (number_at parent at ≡ 0) ⊎ (length parent ≤ number_at parent at) →
+    Walked (parent_in parent) start (start + 1) old now
     × ((x : ℕ) → IsMet old now x → IsOnCycle (parent_in parent) x → ⊥)
 walked_none {parent = parent} {start = start} {at = at} h z =
     let e = parent_in-none parent at z in (

@@ -81,10 +81,11 @@ returns-clause-found g c =
 pub returns-in_err-top-clause-counted : goal.returns-in_err-top-clause-counted
 returns-in_err-top-clause-counted g c =
     let inv = c.loop-at.invariant in
-    let level = take c.args.high c.args.lists.now.queue.now.items in
+    let queue = c.args.lists.now.queue.now.items in
+    let level = take c.args.high queue in
     let place = c.loop-at.at in
     let inside : place < length level =
-    omega (arith, length-take c.args.high c.args.lists.now.queue.now.items, c.loop-at-test.true, c.requires.room.queue) in
+    omega (arith, length-take c.args.high queue, c.loop-at-test.true, c.requires.room.queue) in
     let is : c.number_of-from.result ≡ number_at level place =
     c.number_of-from.ensures ∙ number_kept place c.loop-at-test.true inv.extends in
     let read = rw (inv.base, is) at c.in_err-top.ensures.counted in

@@ -85,10 +85,7 @@ returns-clause-found g c =
           record {
             same_result = w.same_result;
             counts = rw none at (inv.counts b k);
-            calm = subst (λ z. IsFlagged c.args.from z (g.D.Directories.right_shape base b c.args.from) old.calm.now
-                c.flag_calm.new.calm) w.calm_is
-                (subst (λ z. IsFlagged c.args.from (c.loop-entry.calm_so_far && nat_le 2 c.loop-entry.count) z old.calm.now
-                c.flag_calm.new.calm) (right b k ∙ inv.right_shape b k) (flags b k end));
+            calm = rw (w.calm_is, right b k ∙ inv.right_shape b k) at (flags b k end);
           };
     }
 

@@ -58,8 +58,8 @@ returns-clause-level g c =
           record {
             level = λ depth at.
                 let n = level_after (sane_of lists.kinds.now _ lists.long.some) at.frontier at.levels
-                (same_result_after (take high old) (drop high (take end mid)) (rw parts at (found.read b k).same_result))
-                sorted.moved sorted.rising in
+                (same_result_after (take high old) (drop high (take end mid))
+                (rw parts at (found.read b k).same_result)) sorted.moved sorted.rising in
                 record { frontier = n.frontier; levels = rw whole n.knows };
             counts = (found.read b k).counts;
             calm = (found.read b k).calm;

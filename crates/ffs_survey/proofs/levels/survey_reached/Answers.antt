@@ -27,7 +27,8 @@ loop-low-init g c =
       levels = λ b k.
           let v = graph_with old.kinds.now (g.D.Directories.entries (g.D.Directories.base c.args.directories.now) b) in
           let queue = ap (take 1) c.set-2.ensures.items ∙ queue_start old.queue.now.items (omega arith) in
-          let start : AtLevel v 0 0 1 (set old.reached.now 2 true) c.set.new.self.items c.set-2.new.self.items = record {
+          let start : AtLevel v 0 0 1 (set old.reached.now 2 true) c.set.new.self.items c.set-2.new.self.items =
+          record {
             frontier = rw queue (frontier_start (sane_of old.kinds.now _ old.long.some));
             levels = rw (queue, c.set.ensures.items) (levels_start v old.reached.now old.parents.now.items (omega arith)
                 (omega arith) begins.reached begins.parents);
@@ -71,7 +72,8 @@ loop-low-preserved g c =
       room = done.level.room;
       levels = λ b k. let before = inv.levels b k in
           record { depth = before.depth + 1; at = (read b k).level before.depth before.at };
-      counts = λ b k. counted_on c.loop-low.low c.loop-low.high queue _ inv.room.ordered done.level.kept (inv.counts b k)
+      counts = λ b k.
+          counted_on c.loop-low.low c.loop-low.high queue _ inv.room.ordered done.level.kept (inv.counts b k)
           (read b k).counts;
       calm = λ b k. (read b k).calm (inv.calm b k);
     }

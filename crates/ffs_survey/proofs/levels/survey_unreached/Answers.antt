@@ -78,9 +78,9 @@ loop-s-preserved g c =
 pub returns-clause-counted : goal.returns-clause-counted
 returns-clause-counted g c = λ b k.
     let old = c.args.lists.now in
-    let rise = costs_rise (is_unreached_dir old.kinds.now old.reached.now)
-    (g.D.Directories.cost (g.D.Directories.base c.args.directories.now) b) c.loop-s.s (length old.kinds.now) (omega arith)
-    in
+    let cost = g.D.Directories.cost (g.D.Directories.base c.args.directories.now) b in
+    let rise = costs_rise (is_unreached_dir old.kinds.now old.reached.now) cost c.loop-s.s (length old.kinds.now)
+    (omega arith) in
     omega (arith, c.loop-s.invariant.reads b k, rise)
 
 pub returns-in_err-read_unreached-clause-counted : goal.returns-in_err-read_unreached-clause-counted
