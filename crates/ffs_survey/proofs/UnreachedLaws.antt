@@ -66,7 +66,8 @@ read_on {f = f} {f'' = f''} {m = m} {m'' = m''} {p = p} {p' = p'} {p'' = p''} ki
           let e = cond-true (dir_at kinds s) (count_in (entries s) x) 0 dir in
           omega (arith, i.counts x l, c.counts x l, d, e);
       names = λ x l. names_more (bool_at m x) _ (bool_at m'' x) _ (any_in (entries s) x) _ (i.names x l) (c.names x l)
-          (share x) ∙ ap (λ b. bool_at m x || b) (sym (some_below-suc (λ t. not (bool_at r t) && is_naming_dir g t x) s));
+          (share x)
+          ∙ ap (λ b. bool_at m x || b) (sym (some_below-suc (λ t. not (bool_at r t) && is_naming_dir g t x) s));
       parent = λ x l.
           first_step (is_unreached_edge g kinds r x) s (number_at p x) (number_at p' x) (number_at p'' x)
           (is_unreached_dir kinds r x && any_in (entries s) x)

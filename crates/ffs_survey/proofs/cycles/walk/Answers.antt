@@ -13,19 +13,19 @@ pub record Here (parent : List ℕ) (start steps at : ℕ) (old now : List ℕ) 
   pub closed : IsClosed (parent_in parent) old
   pub short : steps < length parent
 
+mark_some : (start : ℕ) → start + 1 ≢ 0
+mark_some start = λ z. absurd (omega arith)
+
 pub here : {parent old new now : List ℕ} {start steps at : ℕ} → CanFollow parent old start →
     Walking (parent_in parent) start (start + 1) steps at old new → at < length new → now ≡ set new at (start + 1) →
     Here parent start steps at old now
 here {parent = parent} {old = old} {start = start} {steps = steps} {at = at} c w b is =
-    let s = has_passed (λ z. absurd (omega arith)) b w in
+    let s = has_passed (mark_some start) b w in
     record {
       state = subst (λ xs. HasPassed (parent_in parent) start (start + 1) steps at old xs) (sym is) s;
       closed = c.closed;
       short = omega (arith, s.trace.count, unmet-le old, c.walks);
     }
-
-mark_some : (start : ℕ) → start + 1 ≢ 0
-mark_some start = λ z. absurd (omega arith)
 
 pub walked_none : {parent : List ℕ} {start steps at : ℕ} {old now : List ℕ} → Here parent start steps at old now →
     (number_at parent at ≡ 0) ⊎ (length parent ≤ number_at parent at) →
