@@ -160,9 +160,9 @@ calm_step {r = r} {r' = r'} {calm_so_far' = calm_so_far'} s i e es calm_so_far c
     and_again a b c = grind arith
 
 -- no flag is set
-pub calm_none : {kinds : List ℕ} {m r : List Bool} {p : List ℕ} {entries : ℕ → List RoledEntry} {right_shape : ℕ → Bool}
+pub calm_none : {kinds : List ℕ} {m r : List Bool} {p : List ℕ} (entries : ℕ → List RoledEntry) (right_shape : ℕ → Bool)
     (f : List Bool) → ((x : ℕ) → bool_at f x ≡ false) → AreCalm kinds m r p entries right_shape f
-calm_none f none x set = absurd (both_ways (bool_at f x) (none x) set)
+calm_none entries right_shape f none x set = absurd (both_ways (bool_at f x) (none x) set)
 
 -- the parents of directories that aren't reached don't matter
 pub calm_unreached : {kinds : List ℕ} {m r : List Bool} {p p' : List ℕ} {entries : ℕ → List RoledEntry}

@@ -214,10 +214,10 @@ queue_more : (r r' : Bool) (p p' t t' z : ℕ) (a : Option ℕ) → Same r p z a
 queue_more r r' p p' t t' z a c n h = grind arith
 
 -- the queue with what is discovered holds each that is marked once
-pub queue_grows : {a : ℕ → Option ℕ} {r r' : List Bool} {p p' q q' : List ℕ} →
+pub queue_grows : {a : ℕ → Option ℕ} {r r' : List Bool} {p p' q' : List ℕ} (q : List ℕ) →
     ((x : ℕ) → occurrences x q ≡ bit (bool_at r x)) → SameResult a r p [] nothing r' p' q' →
     (x : ℕ) → occurrences x (q ++ q') ≡ bit (bool_at r' x)
-queue_grows {a = a} {r = r} {r' = r'} {q = q} {q' = q'} h c x = occurrences-append x q q'
+queue_grows {a = a} {r = r} {r' = r'} {q' = q'} q h c x = occurrences-append x q q'
     ∙ queue_more (bool_at r x) (bool_at r' x) _ _ _ _ _ (a x) (of_each c x) (occurrences-nil x) (h x)
 
 -- ---- the directories of a level

@@ -81,7 +81,7 @@ level_after {v = v} {k = k} {r' = r'} {p' = p'} {q = q} {new = new} {ys = ys} sa
         reaches = next.reached;
         parent = next.parent;
         queued = λ x. occurrences-append x q ys ∙ ap (λ t. occurrences x q + t) (occurrences-permutation x m)
-            ∙ sym (occurrences-append x q new) ∙ queue_grows n.queued c x;
+            ∙ sym (occurrences-append x q new) ∙ queue_grows q n.queued c x;
       };
     }
 

@@ -1,5 +1,5 @@
 -- Steps of the count over entries and directories.
-use Rattle.std.specs.Prelude.{◌≡◌, ℕ, ◌+◌, ◌<◌, ◌==◌, Bool, cond, ◌&&◌, ◌||◌, List, ◌∷◌, length, count_by}
+use Rattle.std.specs.Prelude.{◌≡◌, ℕ, ◌+◌, ◌<◌, ◌==◌, Bool, true, cond, ◌&&◌, ◌||◌, List, ◌∷◌, length, count_by}
 use Rattle.std.proofs.Common.{arith, sym, ◌∙◌, ap, get_or, drop}
 use Rattle.std.proofs.lemmas.{Bool.cond-true, Bool.Decides.nat_tests, List.at_drop_more, List.Sums.sum_by-cons}
 use Rattle.std.proofs.Math.Bool.{or-false}

@@ -164,13 +164,13 @@ cycle-back {f = f} {y = y} {p = p} j c h =
     let q : m + w.0 ≡ suc c.steps_less_one = omega arith in
     (m, sym (climb-add f m w.0 y p w.2) ∙ (ap (λ k. climb f k y) q ∙ c.returns))
 
-closed-climb : {f : ℕ → Option ℕ} {walk_of : List ℕ} {y : ℕ} (k x : ℕ) → IsClosed f walk_of →
+closed-climb : {f : ℕ → Option ℕ} {walk_of : List ℕ} (k x : ℕ) {y : ℕ} → IsClosed f walk_of →
     number_at walk_of x ≢ 0 → climb f k x ≡ Some y → number_at walk_of y ≢ 0
-closed-climb {f = f} {walk_of = walk_of} {y = y} zero x c s h =
+closed-climb {f = f} {walk_of = walk_of} zero x {y = y} c s h =
     let e : Some x ≡ Some y = sym (climb-zero f x) ∙ h in
     let q : x ≡ y = cc in
     subst (λ z. number_at walk_of z ≢ 0) q s
-closed-climb {f = f} {y = y} (suc k) x c s h =
+closed-climb {f = f} (suc k) x {y = y} c s h =
     let l = climb-last f k x y h in c.parent l.0 y (closed-climb k x c s l.1) l.2
 
 -- from a number that this walk met it goes on to the parent of the last number

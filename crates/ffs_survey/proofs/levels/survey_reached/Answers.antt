@@ -1,4 +1,4 @@
-use Rattle.std.proofs.Common.{ap, rules, ◌≡◌, ◌+◌, List, take, set, arith, refl, sym, ◌∙◌, length-set, length}
+use Rattle.std.proofs.Common.{ap, rules, ◌≡◌, ◌+◌, List, take, set, arith, refl, sym, ◌∙◌, true, length-set, length}
 use Rattle.std.proofs.lemmas.Result.{err_from_is_err_and}
 use Rattle.ffs_survey.specs.{Discover.AtLevel, Survey.bool_at, Survey.dir_at, Survey.graph_with}
 use Rattle.ffs_survey.proofs.{CalmLaws.calm_none, Discovered.unset-le, Discovered.unset-set, Frontiers.sane_of}
@@ -35,7 +35,7 @@ loop-low-init g c =
           } in
           record { depth = 0; at = start };
       counts = λ b k. none_counted begins.named;
-      calm = λ b k. calm_none old.calm.now begins.calm;
+      calm = λ b k. calm_none _ _ old.calm.now begins.calm;
     }
 
 pub next_level-requires-clause-root : goal.next_level-requires-clause-root
@@ -104,7 +104,7 @@ returns-then-not-is_dir-clause-found g c = λ b k.
           (sane_of old.kinds.now es old.long.some) (sym c.is_dir.ensures ∙ c.if-not-is_dir.true)
           (rw c.set.ensures.items (levels_start (graph_with old.kinds.now es) old.reached.now old.parents.now.items
           (omega arith) (omega arith) begins.reached begins.parents)) begins.named;
-      calm = calm_none old.calm.now begins.calm;
+      calm = calm_none _ _ old.calm.now begins.calm;
     }
 
 pub returns-clause-costs : goal.returns-clause-costs
