@@ -1,6 +1,6 @@
 -- Directories that are called calm are calm, and stay so.
-use Rattle.std.specs.Prelude.{◌≡◌, ℕ, suc, ◌+◌, ◌<◌, ◌==◌, Bool, true, false, not, cond, ◌&&◌, ◌||◌, nat_le, nat_lt}
-use Rattle.std.specs.Prelude.{List, [], ◌∷◌, length, Option, None, Some, is_some, unwrap_or, refl}
+use Rattle.std.specs.Prelude.{◌≡◌, ℕ, suc, ◌+◌, ◌<◌, ◌==◌, Bool, true, false, cond, ◌&&◌, ◌||◌, nat_le, nat_lt}
+use Rattle.std.specs.Prelude.{List, [], ◌∷◌, length, Option, None, Some, is_some, unwrap_or}
 use Rattle.std.proofs.Common.{arith, sym, ◌∙◌, ap, subst, inl, inr, get_or}
 use Rattle.std.{specs.List.list_any, proofs.lemmas.Bool.Decides.nat_tests, proofs.lemmas.Bool.not_from_true}
 use Rattle.std.proofs.lemmas.Bool.{both_ways, eqb-true, and_parts, and_left, and_right, or_cases, or_parts}

@@ -3,7 +3,7 @@ use Rattle.std.specs.Prelude.{◌≡◌, ℕ, zero, suc, ◌+◌, ◌<◌, ◌�
 use Rattle.std.specs.Prelude.{[], ◌∷◌, ◌++◌, length, Option, None, Some, is_some, unwrap_or, find, refl}
 use Rattle.std.proofs.Common.{arith, sym, ◌∙◌, ap, subst, inl, inr, get_or, ◌⊎◌}
 use Rattle.std.specs.List.Sorted.{IsNonDecreasing, IsPermutation}
-use Rattle.std.proofs.lemmas.Bool.{both_ways, cases_eq, cases_lt, eqb-true, eq-eqb, ne_eqb, and_parts, and_from}
+use Rattle.std.proofs.lemmas.Bool.{both_ways, cases_lt, eqb-true, eq-eqb, ne_eqb, and_parts, and_from}
 use Rattle.std.proofs.lemmas.Bool.{or_cases, or_left, or_right, not-true, not_from_false, cond-false}
 use Rattle.std.proofs.lemmas.{Bool.Decides.nat_tests, List.Sorted.sum_by-IsPermutation, List.Sums.sum_by-cons}
 use Rattle.std.proofs.lemmas.List.Sums.{sum_by-append}
@@ -157,16 +157,16 @@ is_level-suc : (v : Graph) (k x : ℕ) → IsSane v →
 is_level-suc v k x sane =
     both_imply (is_value (level v x) (suc k)) (within v (suc k) x && not (within v k x))
     (λ y. let l = level-some v (suc k) x (is_value-true _ (suc k) y) in
-        and_from (within v (suc k) x) _ l.0.within_k (not_from_false _ (l.0.least k (omega arith))))
+    and_from (within v (suc k) x) _ l.0.within_k (not_from_false _ (l.0.least k (omega arith))))
     (λ t. let p = and_parts (within v (suc k) x) _ t in
-        let w = level-from v (suc k) x (within-bound v (suc k) x sane p.0) p.0 in
-        let l = level-some v w.0 x w.2 in
-        let b = w.1 in
-        elim (cases_lt w.0 (suc k)) [
-          | inl lt ↦ absurd (both_ways (within v k x) (not-true _ p.1)
-              (within-grows v w.0 k x (omega arith) l.0.within_k))
-          | inr ge ↦ let same : w.0 ≡ suc k = omega arith in is_value-from (level v x) (suc k) (w.2 ∙ ap Some same)
-        ])
+    let w = level-from v (suc k) x (within-bound v (suc k) x sane p.0) p.0 in
+    let l = level-some v w.0 x w.2 in
+    let b = w.1 in
+    elim (cases_lt w.0 (suc k)) [
+      | inl lt ↦ absurd (both_ways (within v k x) (not-true _ p.1)
+          (within-grows v w.0 k x (omega arith) l.0.within_k))
+      | inr ge ↦ let same : w.0 ≡ suc k = omega arith in is_value-from (level v x) (suc k) (w.2 ∙ ap Some same)
+    ])
 
 -- a new one of the next level gets the least directory of this level as its parent
 parent-new : (v : Graph) (k x : ℕ) → IsSane v → within v k x ≡ false → some_below (level_edge v k x) v.count ≡ true →

@@ -1,9 +1,9 @@
 -- How the levels begin and end.
-use Rattle.std.specs.Prelude.{◌≡◌, ℕ, ◌<◌, ◌≤◌, ◌==◌, Bool, true, false, cond, ◌&&◌, List, [], ◌∷◌, length, None, Some}
+use Rattle.std.specs.Prelude.{◌≡◌, ℕ, ◌<◌, ◌==◌, Bool, true, false, cond, List, [], ◌∷◌, length, None}
 use Rattle.std.specs.Prelude.{is_some, unwrap_or, refl}
 use Rattle.std.proofs.Common.{arith, sym, ◌∙◌, ap, set, take, get_or-set_same, get_or-set_other, add-zero, inl, inr}
 use Rattle.std.proofs.lemmas.{Bool.cases_lt, Bool.eqb-true, Bool.eq-eqb, Bool.Decides.nat_tests, List.Sums.sum_by-cons}
-use Rattle.ffs_volume.specs.Directories.Graph.{Graph, edge, within, level, parent, reached}
+use Rattle.ffs_volume.specs.Directories.Graph.{Graph, within, level, parent, reached}
 use Rattle.ffs_volume.specs.Directories.Climb.{is_value}
 use Rattle.ffs_volume.proofs.{ClimbLaws.is_value-true, ClimbLaws.is_value-from, Graphs.IsSane}
 use Rattle.ffs_volume.proofs.LevelLaws.{within-zero, within-grows, level-is, level-some, level-each, reached-from}

@@ -14,8 +14,15 @@ read_reached-requires-clause-room g c =
     record {
       counts = λ x l.
           let inside : x < length c.args.lists.now.kinds.now = omega (arith, l, kinds_long inv.same) in
-          omega (arith, inv.grown x inside, room.counts x inside, long.few, long.queue_long, room.queue,
-          c.loop-at-test.true);
+          omega (
+            arith,
+            inv.grown x inside,
+            room.counts x inside,
+            long.few,
+            long.queue_long,
+            room.queue,
+            c.loop-at-test.true,
+          );
       queue = omega (arith, inv.top, queue_long inv.same, room.queue);
     }
 

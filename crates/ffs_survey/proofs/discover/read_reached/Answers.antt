@@ -1,6 +1,6 @@
-use Rattle.std.proofs.Common.{arith, ap, sym, subst, [], ◌∙◌, ◌&&◌, nat_le, rules, ◌≡◌, ◌∷◌, ◌<◌, List, ℕ}
+use Rattle.std.proofs.Common.{arith, ap, sym, [], ◌∙◌, ◌&&◌, rules, ◌≡◌, ◌∷◌, ◌<◌, List, ℕ}
 use Rattle.ffs_volume.specs.Directories.Roles.{RoledEntry, refers}
-use Rattle.ffs_survey.specs.{Calm.IsFlagged, Calm.is_calm_entry, Lent.current_in, Reading.roled_of, Survey.bool_at}
+use Rattle.ffs_survey.specs.{Calm.is_calm_entry, Lent.current_in, Reading.roled_of, Survey.bool_at}
 use Rattle.ffs_survey.specs.Survey.{number_at}
 use Rattle.ffs_survey.proofs.{CalmLaws.calm_step, CalmLaws.read_whole, Discovered.bit-le, Discovered.entry_step}
 use Rattle.ffs_survey.proofs.Lending.{queue_long, same_kinds}

@@ -1,5 +1,5 @@
-use Rattle.std.proofs.Common.{◌≡◌, ◌+◌, ◌++◌, take, drop, arith, ◌∙◌, ap}
-use Rattle.ffs_survey.specs.{Discover.Extends, Survey.graph_with}
+use Rattle.std.proofs.Common.{◌≡◌, ◌++◌, take, drop, arith, ◌∙◌, ap}
+use Rattle.ffs_survey.specs.{Discover.Extends}
 use Rattle.ffs_survey.proofs.{CalmLaws.frontier_reached, Frontiers.frontier_dirs, Frontiers.sane_of}
 use Rattle.ffs_survey.proofs.Lending.{kinds_long, queue_long}
 use Rattle.ffs_survey.proofs.Queues.{same_result_after, is_extended, level_after, queue_parts}
@@ -10,8 +10,14 @@ read_level-requires-clause-room g c =
     let lists = c.args.lists.now.long in
     let room = c.requires.room in
     record {
-      counts = λ x l. omega (arith, room.counted x (omega (arith, l, lists.references_long)), room.ordered, room.room,
-          lists.few, lists.queue_long);
+      counts = λ x l. omega (
+        arith,
+        room.counted x (omega (arith, l, lists.references_long)),
+        room.ordered,
+        room.room,
+        lists.few,
+        lists.queue_long,
+      );
       queue = room.room;
     }
 

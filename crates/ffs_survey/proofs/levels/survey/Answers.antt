@@ -1,4 +1,4 @@
-use Rattle.std.proofs.Common.{ap, length, sym, ◌∙◌}
+use Rattle.std.proofs.Common.{ap, sym, ◌∙◌}
 use Rattle.ffs_survey.specs.Lent.{Lent}
 use Rattle.ffs_survey.proofs.Lending.{kinds_long}
 use Rattle.ffs_survey.proofs.levels.survey.Goals as goal

@@ -1,4 +1,4 @@
-use Rattle.std.proofs.Common.{◌≡◌, arith, ap, length, ◌∙◌}
+use Rattle.std.proofs.Common.{arith, ap, length, ◌∙◌}
 use Rattle.ffs_survey.specs.Survey.{bool_at, dir_at}
 use Rattle.ffs_survey.proofs.CalmLaws.{calm_unreached, read_stays}
 use Rattle.ffs_survey.proofs.{Costs.costs_two, Frontiers.sane_of, Lending.kinds_long, Lending.same_kinds}

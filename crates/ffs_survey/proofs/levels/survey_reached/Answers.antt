@@ -1,4 +1,4 @@
-use Rattle.std.proofs.Common.{ap, rules, ◌≡◌, ◌+◌, List, take, set, arith, refl, sym, ◌∙◌, true, length-set, length}
+use Rattle.std.proofs.Common.{ap, rules, ◌≡◌, ◌+◌, take, set, arith, refl, sym, ◌∙◌, true, length-set, length}
 use Rattle.std.proofs.lemmas.Result.{err_from_is_err_and}
 use Rattle.ffs_survey.specs.{Discover.AtLevel, Survey.bool_at, Survey.dir_at, Survey.graph_with}
 use Rattle.ffs_survey.proofs.{CalmLaws.calm_none, Discovered.unset-le, Discovered.unset-set, Frontiers.sane_of}
@@ -20,8 +20,12 @@ loop-low-init g c =
       same = record { lent = refl };
       room = record {
         ordered = omega arith;
-        room = omega (arith, unset-set old.reached.now 2 (omega arith) (begins.reached 2), unset-le old.reached.now,
-            c.set-2.ensures.len);
+        room = omega (
+          arith,
+          unset-set old.reached.now 2 (omega arith) (begins.reached 2),
+          unset-le old.reached.now,
+          c.set-2.ensures.len,
+        );
         counted = λ x l. omega (arith, begins.starts x);
       };
       levels = λ b k.
@@ -50,8 +54,14 @@ pub returns-clause-starts : goal.returns-clause-starts
 returns-clause-starts g c = λ x l.
     let room = c.loop-low.invariant.room in
     let lists = c.loop-low.lists.long in
-    omega (arith, room.counted x (omega (arith, l, lists.references_long)), room.ordered, room.room, lists.few,
-    lists.queue_long)
+    omega (
+      arith,
+      room.counted x (omega (arith, l, lists.references_long)),
+      room.ordered,
+      room.room,
+      lists.few,
+      lists.queue_long,
+    )
 
 pub loop-low-preserved : goal.loop-low-preserved
 loop-low-preserved g c =
