@@ -14,15 +14,7 @@ read_reached-requires-clause-room g c =
     record {
       counts = λ x l.
           let inside : x < length c.args.lists.now.kinds.now = omega (arith, l, kinds_long inv.same) in
-          omega (
-            arith,
-            inv.grown x inside,
-            room.counts x inside,
-            long.few,
-            long.queue_long,
-            room.queue,
-            c.loop-at-test.true,
-          );
+          omega (arith, inv.grown x inside, room.counts x inside, long, room.queue, c.loop-at-test.true);
       queue = omega (arith, inv.top, queue_long inv.same, room.queue);
     }
 
@@ -99,6 +91,3 @@ returns-in_err-top-clause-counted g c =
     λ b k.
     let next = next_cost (g.D.Directories.cost (g.D.Directories.base c.args.directories.now) b) level place inside in
     omega (arith, inv.reads b k, read b k, next)
-
-pub returns-clause-counted : goal.returns-clause-counted
-returns-clause-counted g c = λ b k. omega (arith, c.loop-at.invariant.reads b k)
