@@ -8,12 +8,6 @@ use Rattle.ffs_survey.proofs.{Queues.extends_on, Queues.keeps_queue, Tally.entry
 use Rattle.ffs_survey.proofs.discover.read_reached.Goals as goal
 use Rattle.ffs_survey.proofs.discover.read_reached.Goals.{then-calm_so_far, else-calm_so_far}
 
-pub is_calm-calm_so_far-requires : goal.is_calm-calm_so_far-requires
-is_calm-calm_so_far-requires g c = sym (same_kinds c.loop-entry.invariant.same)
-
-pub visit-high-requires-clause-kinds : goal.visit-high-requires-clause-kinds
-visit-high-requires-clause-kinds g c = sym (same_kinds c.loop-entry.invariant.same)
-
 pub loop-entry-preserved : goal.loop-entry-preserved
 loop-entry-preserved g c =
     let inv = c.loop-entry.invariant in
@@ -95,15 +89,6 @@ returns-clause-counted g c =
     let read = rw inv.base at c.in_ok-entry.ensures.counted in
     let flag = rw (c.in_ok-entry.ensures.reader.same, inv.base) at c.in_ok-flag_calm.ensures.counted in
     λ b k. let now = read b k (inv.held b k) in omega (arith, inv.reads b k, now.paid, flag b k now.held)
-
-pub returns-in_err-start-clause-counted : goal.returns-in_err-start-clause-counted
-returns-in_err-start-clause-counted g c = λ b k. omega (arith, (c.in_err-start.ensures.counted b k).most)
-
-pub returns-in_err-entry-clause-counted : goal.returns-in_err-entry-clause-counted
-returns-in_err-entry-clause-counted g c =
-    let inv = c.loop-entry.invariant in
-    let read = rw inv.base at c.in_err-entry.ensures.counted in
-    λ b k. omega (arith, inv.reads b k, (read b k (inv.held b k)).most)
 
 pub returns-in_err-flag_calm-clause-counted : goal.returns-in_err-flag_calm-clause-counted
 returns-in_err-flag_calm-clause-counted g c =
