@@ -45,12 +45,3 @@ returns-clause-counted g c =
     let inv = c.loop-entry.invariant in
     let read = rw inv.base at c.in_ok-entry.ensures.counted in
     λ b k. omega (arith, inv.reads b k, (read b k (inv.held b k)).most)
-
-pub returns-in_err-start-clause-counted : goal.returns-in_err-start-clause-counted
-returns-in_err-start-clause-counted g c = λ b k. omega (arith, (c.in_err-start.ensures.counted b k).most)
-
-pub returns-in_err-entry-clause-counted : goal.returns-in_err-entry-clause-counted
-returns-in_err-entry-clause-counted g c =
-    let inv = c.loop-entry.invariant in
-    let read = rw inv.base at c.in_err-entry.ensures.counted in
-    λ b k. omega (arith, inv.reads b k, (read b k (inv.held b k)).most)
