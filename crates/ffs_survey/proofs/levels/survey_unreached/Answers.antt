@@ -23,9 +23,6 @@ read_unreached-requires-clause-counts g c = λ x l.
     let inside : x < length c.args.lists.now.kinds.now = omega (arith, l, kinds_long inv.same) in
     omega (arith, inv.grown x inside, c.requires.counts x inside, c.args.lists.now.long.few)
 
-pub is_unreached_dir-requires : goal.is_unreached_dir-requires
-is_unreached_dir-requires g c = sym (same_kinds c.loop-s.invariant.same)
-
 pub loop-s-preserved-then-not-is_unreached_dir : goal.loop-s-preserved-then-not-is_unreached_dir
 loop-s-preserved-then-not-is_unreached_dir g c =
     let inv = c.loop-s.invariant in
