@@ -48,9 +48,6 @@ returns-clause-counted g c =
     let both = costs_two (bool_at found.reached.now) (dir_at old.kinds.now) cost (length old.kinds.now) in
     omega (arith, c.in_ok-survey_reached.ensures.costs b k, second b k, both)
 
-pub returns-in_err-survey_reached-clause-counted : goal.returns-in_err-survey_reached-clause-counted
-returns-in_err-survey_reached-clause-counted g c = λ b k. omega (arith, c.in_err-survey_reached.ensures.costs b k)
-
 pub returns-in_err-survey_unreached-clause-counted : goal.returns-in_err-survey_unreached-clause-counted
 returns-in_err-survey_unreached-clause-counted g c =
     let old = c.args.lists.now in
