@@ -128,11 +128,7 @@ alone_part kinds entries e sane dry n blank =
     let g = graph_with kinds entries in
     let a = root_alone sane dry n in
     reached_part kinds entries e sane a.1 a.0 (record {
-      counts = λ x b. omega (
-        arith,
-        sum_by-cons (λ s. counted_in g s x) 2 [],
-        cond-false (dir_at kinds 2) (count_by (refers x) (entries 2)) 0 dry,
-      );
+      counts = λ x b. omega (arith, cond-false (dir_at kinds 2) (count_by (refers x) (entries 2)) 0 dry);
       names = λ x b. blank x ∙ sym (or-false (is_naming_dir g 2 x) ∙ and_left (dir_at kinds 2) _ dry);
     })
 

@@ -44,12 +44,9 @@ unmet-le xs = omega (arith, sum_by-le (λ y. bit (y == 0)) 1 xs (λ k d l. bit-l
 pub unmet-set : (walk_of : List ℕ) (x m : ℕ) → x < length walk_of → number_at walk_of x ≡ 0 → (m ≡ 0 → ⊥) →
     unmet (set walk_of x m) + 1 ≡ unmet walk_of
 unfolding unmet
-unmet-set walk_of x m l e n = omega (
-  arith,
-  sum_by-set (λ y. bit (y == 0)) walk_of x m 0 l,
-  ap bit (eq-eqb (number_at walk_of x) 0 e),
-  ap bit (ne_eqb m 0 n),
-)
+unmet-set walk_of x m l e n =
+    let one = ap bit (eq-eqb (number_at walk_of x) 0 e) in
+    omega (arith, sum_by-set (λ y. bit (y == 0)) walk_of x m 0 l, one, ap bit (ne_eqb m 0 n))
 
 -- what the first n numbers from `start` on leave, in a list where these are noted
 pub record Trace (f : ℕ → Option ℕ) (start mark n : ℕ) (old new : List ℕ) : Type 0 where
@@ -184,12 +181,9 @@ goes_on {f = f} {start = start} {steps = steps} {at = at} {x = x} s i =
     let p = s.trace.passed x i in
     let b = p.1 in
     let j = steps - p.0 in
-    let q : suc j + p.0 ≡ suc steps = omega arith in (
-      j,
-      omega arith,
-      sym (climb-add f (suc j) p.0 start x p.2)
-          ∙ (ap (λ k. climb f k start) q ∙ climb-suc f steps start at s.at_is),
-    )
+    let q : suc j + p.0 ≡ suc steps = omega arith in
+    let there = ap (λ k. climb f k start) q ∙ climb-suc f steps start at s.at_is in
+    (j, omega arith, sym (climb-add f (suc j) p.0 start x p.2) ∙ there)
 
 -- so a number on a cycle that this walk met is reached from that parent
 after_last : {f : ℕ → Option ℕ} {start mark steps at x next : ℕ} {old new : List ℕ} →

@@ -42,16 +42,12 @@ returns c = round_end (length c.args.parents.now.items) c.requires.cycle c.requi
     c.round-test.false c.round.invariant.low
 
 pub round-smaller : goal.round-smaller
-round-smaller c = omega (
-  arith,
-  round_short (length c.args.parents.now.items) c.requires.cycle c.requires.short
-      c.round.invariant.rounding c.round-test.true,
-)
+round-smaller c =
+    let n = length c.args.parents.now.items in
+    omega (arith, round_short n c.requires.cycle c.requires.short c.round.invariant.rounding c.round-test.true)
 
 pub overflow_add-steps : goal.overflow_add-steps
-overflow_add-steps c = omega (
-  arith,
-  round_short (length c.args.parents.now.items) c.requires.cycle c.requires.short
-      c.round.invariant.rounding c.round-test.true,
-  c.requires.few,
-)
+overflow_add-steps c =
+    let n = length c.args.parents.now.items in
+    let short = round_short n c.requires.cycle c.requires.short c.round.invariant.rounding c.round-test.true in
+    omega (arith, c.requires.few)

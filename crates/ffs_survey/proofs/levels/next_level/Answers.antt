@@ -10,14 +10,7 @@ read_level-requires-clause-room g c =
     let lists = c.args.lists.now.long in
     let room = c.requires.room in
     record {
-      counts = λ x l. omega (
-        arith,
-        room.counted x (omega (arith, l, lists.references_long)),
-        room.ordered,
-        room.room,
-        lists.few,
-        lists.queue_long,
-      );
+      counts = λ x l. omega (arith, room.counted x (omega (arith, l, lists.references_long)), room, lists);
       queue = room.room;
     }
 

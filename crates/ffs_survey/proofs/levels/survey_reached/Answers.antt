@@ -20,12 +20,8 @@ loop-low-init g c =
       same = record { lent = refl };
       room = record {
         ordered = omega arith;
-        room = omega (
-          arith,
-          unset-set old.reached.now 2 (omega arith) (begins.reached 2),
-          unset-le old.reached.now,
-          c.set-2.ensures.len,
-        );
+        room = let one = unset-set old.reached.now 2 (omega arith) (begins.reached 2) in
+            omega (arith, one, unset-le old.reached.now, c.set-2.ensures.len);
         counted = λ x l. omega (arith, begins.starts x);
       };
       levels = λ b k.
@@ -54,14 +50,7 @@ pub returns-clause-starts : goal.returns-clause-starts
 returns-clause-starts g c = λ x l.
     let room = c.loop-low.invariant.room in
     let lists = c.loop-low.lists.long in
-    omega (
-      arith,
-      room.counted x (omega (arith, l, lists.references_long)),
-      room.ordered,
-      room.room,
-      lists.few,
-      lists.queue_long,
-    )
+    omega (arith, room.counted x (omega (arith, l, lists.references_long)), room, lists)
 
 pub loop-low-preserved : goal.loop-low-preserved
 loop-low-preserved g c =
@@ -127,9 +116,6 @@ returns-clause-costs g c = λ b k.
     (here.long.reached_long ∙ kinds_long inv.same) (inv.levels b k).at.levels.queued in
     let old = rw same at (inv.reads b k) in
     omega (arith, old, whole)
-
-pub returns-then-not-is_dir-clause-costs : goal.returns-then-not-is_dir-clause-costs
-returns-then-not-is_dir-clause-costs g c = λ b k. omega arith
 
 pub returns-in_err-end-clause-costs : goal.returns-in_err-end-clause-costs
 returns-in_err-end-clause-costs g c =
