@@ -38,20 +38,6 @@ loop-low-init g c =
       calm = λ b k. calm_none _ _ old.calm.now begins.calm;
     }
 
-pub next_level-requires-clause-root : goal.next_level-requires-clause-root
-next_level-requires-clause-root g c =
-    ap (λ kinds. dir_at kinds 2) (same_kinds c.loop-low.invariant.same) ∙ (sym c.is_dir.ensures ∙ c.if-not-is_dir.false)
-
-pub next_level-requires-clause-levels : goal.next_level-requires-clause-levels
-next_level-requires-clause-levels g c =
-    let inv = c.loop-low.invariant in rw (inv.base, same_kinds inv.same) inv.levels
-
-pub returns-clause-starts : goal.returns-clause-starts
-returns-clause-starts g c = λ x l.
-    let room = c.loop-low.invariant.room in
-    let lists = c.loop-low.lists.long in
-    omega (arith, room.counted x (omega (arith, l, lists.references_long)), room, lists)
-
 pub loop-low-preserved : goal.loop-low-preserved
 loop-low-preserved g c =
     let inv = c.loop-low.invariant in
