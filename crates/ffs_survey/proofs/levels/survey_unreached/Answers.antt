@@ -17,12 +17,6 @@ loop-s-init g c = record {
   read = λ b k z. read_start;
 }
 
-pub read_unreached-requires-clause-counts : goal.read_unreached-requires-clause-counts
-read_unreached-requires-clause-counts g c = λ x l.
-    let inv = c.loop-s.invariant in
-    let inside : x < length c.args.lists.now.kinds.now = omega (arith, l, kinds_long inv.same) in
-    omega (arith, inv.grown x inside, c.requires.counts x inside, c.args.lists.now.long.few)
-
 pub loop-s-preserved-then-not-is_unreached_dir : goal.loop-s-preserved-then-not-is_unreached_dir
 loop-s-preserved-then-not-is_unreached_dir g c =
     let inv = c.loop-s.invariant in
