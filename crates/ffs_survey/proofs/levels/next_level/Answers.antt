@@ -5,15 +5,6 @@ use Rattle.ffs_survey.proofs.Lending.{kinds_long, queue_long}
 use Rattle.ffs_survey.proofs.Queues.{same_result_after, is_extended, level_after, queue_parts}
 use Rattle.ffs_survey.proofs.levels.next_level.Goals as goal
 
-pub read_level-requires-clause-room : goal.read_level-requires-clause-room
-read_level-requires-clause-room g c =
-    let lists = c.args.lists.now.long in
-    let room = c.requires.room in
-    record {
-      counts = λ x l. omega (arith, room.counted x (omega (arith, l, lists.references_long)), room, lists);
-      queue = room.room;
-    }
-
 pub read_level-requires-clause-frontier : goal.read_level-requires-clause-frontier
 read_level-requires-clause-frontier g c = λ b k i d l.
     let at = (c.requires.levels b k).at in
