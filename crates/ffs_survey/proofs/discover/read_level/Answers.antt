@@ -6,18 +6,6 @@ use Rattle.ffs_survey.proofs.Queues.{at_place, extends_on, is_extended, keeps_qu
 use Rattle.ffs_survey.proofs.Tally.{dir_counted}
 use Rattle.ffs_survey.proofs.discover.read_level.Goals as goal
 
-pub read_reached-requires-clause-room : goal.read_reached-requires-clause-room
-read_reached-requires-clause-room g c =
-    let inv = c.loop-at.invariant in
-    let room = c.requires.room in
-    let long = c.args.lists.now.long in
-    record {
-      counts = λ x l.
-          let inside : x < length c.args.lists.now.kinds.now = omega (arith, l, kinds_long inv.same) in
-          omega (arith, inv.grown x inside, room.counts x inside, long, room.queue, c.loop-at-test.true);
-      queue = omega (arith, inv.top, queue_long inv.same, room.queue);
-    }
-
 pub loop-at-preserved : goal.loop-at-preserved
 loop-at-preserved g c =
     let inv = c.loop-at.invariant in
