@@ -82,17 +82,3 @@ returns-clause-found g c =
             calm = rw (w.calm_is, right b k ∙ inv.right_shape b k) at (flags b k end);
           };
     }
-
-pub returns-clause-counted : goal.returns-clause-counted
-returns-clause-counted g c =
-    let inv = c.loop-entry.invariant in
-    let read = rw inv.base at c.in_ok-entry.ensures.counted in
-    let flag = rw (c.in_ok-entry.ensures.reader.same, inv.base) at c.in_ok-flag_calm.ensures.counted in
-    λ b k. let now = read b k (inv.held b k) in omega (arith, inv.reads b k, now.paid, flag b k now.held)
-
-pub returns-in_err-flag_calm-clause-counted : goal.returns-in_err-flag_calm-clause-counted
-returns-in_err-flag_calm-clause-counted g c =
-    let inv = c.loop-entry.invariant in
-    let read = rw inv.base at c.in_ok-entry.ensures.counted in
-    let flag = rw (c.in_ok-entry.ensures.reader.same, inv.base) at c.in_err-flag_calm.ensures.counted in
-    λ b k. let now = read b k (inv.held b k) in omega (arith, inv.reads b k, now.paid, flag b k now.held)
