@@ -39,9 +39,3 @@ loop-entry-preserved g c =
           c.args.from (number_at c.loop-entry.lists.parents.now.items x) _ _ c.requires.from (adopted x l)
           (rw (cut b k) at (inv.parents b k x l));
     }
-
-pub returns-clause-counted : goal.returns-clause-counted
-returns-clause-counted g c =
-    let inv = c.loop-entry.invariant in
-    let read = rw inv.base at c.in_ok-entry.ensures.counted in
-    λ b k. omega (arith, inv.reads b k, (read b k (inv.held b k)).most)
