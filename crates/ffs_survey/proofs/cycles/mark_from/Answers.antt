@@ -3,12 +3,6 @@ use Rattle.ffs_survey.specs.Cycles.{parent_in, FindsCycle}
 use Rattle.ffs_survey.proofs.Walks.{marks_none, marks_found}
 use Rattle.ffs_survey.proofs.cycles.mark_from.Goals as goal
 
-pub least_on-least-requires : goal.least_on-least-requires
-least_on-least-requires c =
-    let g : FindsCycle (parent_in c.args.parents.now.items) (length c.args.parents.now.items) c.args.walk_of.now.items
-    c.walk.new.walk_of.items c.in-Some.found = rw c.in-Some.is at c.walk.ensures.cycle in
-    record { few = c.requires.walk.few; low = g.low; cycle = g.cycle; short = g.short }
-
 pub returns-clause-marks : goal.returns-clause-marks
 returns-clause-marks c =
     let b = c.least_on-least.ensures.low in
