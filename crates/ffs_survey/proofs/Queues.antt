@@ -4,7 +4,7 @@ use Rattle.std.specs.Prelude.{drop, ◌==◌, ◌||◌, false, count_by}
 use Rattle.std.proofs.Common.{arith, sym, ◌∙◌, ap, subst, add-zero, get_or}
 use Rattle.std.specs.List.Sorted.{IsNonDecreasing, IsPermutation}
 use Rattle.std.proofs.lemmas.List.{get_or-drop, get_or-take, get_or_past, length-drop, take-append-drop, take-take}
-use Rattle.std.proofs.lemmas.{List.Folds.list_any-append, List.Sums.sum_by-append, List.Sums.sum_by-cons}
+use Rattle.std.proofs.lemmas.{List.Folds.list_any-append, List.Sums.sum_by-append}
 use Rattle.std.proofs.lemmas.{Bool.and_left, Bool.cond-false, Grind.common_steps}
 use Rattle.std.proofs.Math.Bool.{or-false}
 use Rattle.ffs_volume.specs.Directories.{Graph.Graph, Graph.is_naming_dir, Roles.RoledEntry, Roles.refers}

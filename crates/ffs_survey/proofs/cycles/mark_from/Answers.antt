@@ -1,5 +1,4 @@
-use Rattle.std.proofs.Common.{length, arith}
-use Rattle.ffs_survey.specs.Cycles.{parent_in, FindsCycle}
+use Rattle.std.proofs.Common.{arith}
 use Rattle.ffs_survey.proofs.Walks.{marks_none, marks_found}
 use Rattle.ffs_survey.proofs.cycles.mark_from.Goals as goal
 

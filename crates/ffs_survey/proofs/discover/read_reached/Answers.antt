@@ -1,4 +1,4 @@
-use Rattle.std.proofs.Common.{arith, ap, sym, [], ◌∙◌, ◌&&◌, rules, ◌≡◌, ◌∷◌, ◌<◌, List, ℕ}
+use Rattle.std.proofs.Common.{arith, ap, [], ◌∙◌, ◌&&◌, rules, ◌≡◌, ◌∷◌, ◌<◌, List, ℕ}
 use Rattle.ffs_volume.specs.Directories.Roles.{RoledEntry, refers}
 use Rattle.ffs_survey.specs.{Calm.is_calm_entry, Lent.current_in, Reading.roled_of, Survey.bool_at}
 use Rattle.ffs_survey.specs.Survey.{number_at}

@@ -1,6 +1,6 @@
 use Rattle.std.proofs.Common.{ap, rules, ◌≡◌, ◌+◌, take, set, arith, refl, sym, ◌∙◌, true, length-set, length}
 use Rattle.std.proofs.lemmas.Result.{err_from_is_err_and}
-use Rattle.ffs_survey.specs.{Discover.AtLevel, Survey.bool_at, Survey.dir_at, Survey.graph_with}
+use Rattle.ffs_survey.specs.{Discover.AtLevel, Survey.bool_at, Survey.graph_with}
 use Rattle.ffs_survey.proofs.{CalmLaws.calm_none, Discovered.unset-le, Discovered.unset-set, Frontiers.sane_of}
 use Rattle.ffs_survey.proofs.Costs.{costs_part, level_costs, queue_costs}
 use Rattle.ffs_survey.proofs.{LevelEnds.levels_start, LevelEnds.frontier_start, LevelEnds.queue_start}
