@@ -1,22 +1,19 @@
 -- Directories that are called calm are calm, and stay so.
-use Rattle.std.specs.Prelude.{◌≡◌, ℕ, suc, ◌+◌, ◌<◌, ◌==◌, Bool, true, false, cond, ◌&&◌, ◌||◌, nat_le, nat_lt}
-use Rattle.std.specs.Prelude.{List, [], ◌∷◌, length, Option, None, Some, is_some, unwrap_or}
-use Rattle.std.proofs.Common.{arith, sym, ◌∙◌, ap, subst, inl, inr, get_or}
-use Rattle.std.{specs.List.list_any, proofs.lemmas.Bool.Decides.nat_tests, proofs.lemmas.Bool.not_from_true}
-use Rattle.std.proofs.lemmas.Bool.{both_ways, eqb-true, and_parts, and_left, and_right, or_cases, or_parts}
-use Rattle.std.proofs.lemmas.List.{get_or_past}
+use Rattle.std.proofs.Common.{◌≡◌, ℕ, suc, ◌+◌, ◌<◌, ◌==◌, Bool, true, false, cond, ◌&&◌, ◌||◌, nat_le, nat_lt, List}
+use Rattle.std.proofs.Common.{[], ◌∷◌, length, Option, None, Some, is_some, unwrap_or, arith, sym, ◌∙◌, ap, subst, inl}
+use Rattle.std.proofs.lemmas.Bool.{not_from_true, both_ways, eqb-true, and_parts, and_left, and_right, or_cases}
+use Rattle.std.proofs.{Common.get_or, Common.inr, lemmas.Bool.Decides.nat_tests, lemmas.Bool.or_parts}
+use Rattle.std.{proofs.lemmas.List.get_or_past, specs.List.list_any}
 use mathlib.Core.Path.{fun_ext}
-use Rattle.ffs_volume.specs.declared.Role.{Role}
+use Rattle.ffs_volume.specs.Directories.Graph.{Graph, is_naming_entry}
+use Rattle.ffs_volume.specs.Directories.Roles.{RoledEntry, is_plain}
 use Rattle.ffs_volume.specs.declared.Role.TheVariants.{Empty, Dot, Dotdot, Extra, Plain}
-use Rattle.ffs_volume.specs.Directories.{Roles.RoledEntry, Roles.is_plain, Graph.Graph, Graph.is_naming_entry}
-use Rattle.ffs_volume.proofs.SearchLaws.{first_below-is_none}
-use Rattle.ffs_survey.specs.Survey.{bool_at, number_at, dir_at}
+use Rattle.ffs_volume.{proofs.SearchLaws.first_below-is_none, specs.declared.Role.Role}
 use Rattle.ffs_survey.specs.Calm.{CurrentDir, is_calm_plain, is_calm_role, is_calm_entry, reached_after, are_calm}
-use Rattle.ffs_survey.specs.Calm.{IsCalm, AreCalm, IsFlagged}
 use Rattle.ffs_survey.specs.Discover.{from_entries, nothing, SameResult, IsFrontier, LevelsKnown, is_unreached_dir}
-use Rattle.ffs_survey.specs.Discover.{is_unreached_edge, IsRead}
-use Rattle.ffs_survey.proofs.Discovered.{Same, of_each, same_result-to}
-use Rattle.ffs_survey.proofs.Frontiers.{frontier_within}
+use Rattle.ffs_survey.proofs.{Discovered.Same, Discovered.of_each, Discovered.same_result-to, Frontiers.frontier_within}
+use Rattle.ffs_survey.specs.{Calm.AreCalm, Calm.IsCalm, Calm.IsFlagged, Discover.IsRead, Discover.is_unreached_edge}
+use Rattle.ffs_survey.specs.Survey.{bool_at, dir_at, number_at}
 
 plain_new : (kinds : List ℕ) (marked : List Bool) (reached : ℕ → Bool) (x kind : ℕ) →
     is_calm_plain kinds marked reached x kind ≡ true → dir_at kinds x ≡ true → reached x ≡ false

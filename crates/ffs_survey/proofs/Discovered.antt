@@ -1,14 +1,13 @@
 -- What an entry, a directory and a level discover.
-use Rattle.std.specs.Prelude.{◌≡◌, ℕ, ◌+◌, ◌<◌, ◌≤◌, ◌==◌, Bool, true, false, not, cond, ◌&&◌, ◌||◌, List, [], ◌∷◌}
-use Rattle.std.specs.Prelude.{length, Option, None, Some, is_some, unwrap_or, refl}
-use Rattle.std.proofs.Common.{arith, sym, ◌∙◌, ap, set, take, drop, get_or, get_or-set_same, get_or-set_other}
-use Rattle.std.{specs.List.list_any, specs.List.sum_by, specs.Option.option_or, proofs.lemmas.Bool.Decides.nat_tests}
-use Rattle.std.proofs.lemmas.{Bool.and_parts, Bool.not-true, List.take_more_set, List.get_or_past, List.at_drop_more}
-use Rattle.std.proofs.lemmas.List.Sums.{sum_by-set, sum_by-le, sum_by_push}
-use Rattle.ffs_volume.specs.Directories.{Roles.RoledEntry, Roles.is_plain, Graph.is_naming_entry, Graph.edge}
-use Rattle.ffs_survey.specs.Survey.{bool_at, number_at, dir_at, graph_with}
-use Rattle.ffs_survey.specs.Discover.{bit, occurrences, unset, from_entries, from_dirs, nothing, SameResult}
-use Rattle.ffs_survey.specs.Discover.{is_unreached_dir}
+use Rattle.std.proofs.Common.{◌≡◌, ℕ, ◌+◌, ◌<◌, ◌≤◌, ◌==◌, Bool, true, false, not, cond, ◌&&◌, ◌||◌, List, [], ◌∷◌}
+use Rattle.std.proofs.Common.{length, Option, None, Some, is_some, unwrap_or, refl, arith, sym, ◌∙◌, ap, set, take}
+use Rattle.std.proofs.Common.{drop, get_or, get_or-set_same, get_or-set_other, sum_by}
+use Rattle.std.proofs.lemmas.{Bool.Decides.nat_tests, Bool.and_parts, Bool.not-true, List.Sums.sum_by-le}
+use Rattle.std.proofs.lemmas.List.{Sums.sum_by-set, Sums.sum_by_push, at_drop_more, get_or_past, take_more_set}
+use Rattle.std.specs.{List.list_any, Option.option_or}
+use Rattle.ffs_volume.specs.Directories.{Graph.edge, Graph.is_naming_entry, Roles.RoledEntry, Roles.is_plain}
+use Rattle.ffs_survey.specs.Discover.{SameResult, bit, from_dirs, from_entries, is_unreached_dir, nothing, occurrences}
+use Rattle.ffs_survey.specs.{Discover.unset, Survey.bool_at, Survey.dir_at, Survey.graph_with, Survey.number_at}
 
 -- what `SameResult` says of one number: whether it is reached, its parent, how often it is queued
 abbrev pub Same : (r : Bool) (p t : ℕ) (a : Option ℕ) (r' : Bool) (p' t' : ℕ) (a' : Option ℕ) → Type 0

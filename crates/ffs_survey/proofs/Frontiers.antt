@@ -1,22 +1,20 @@
 -- One level after another.
-use Rattle.std.specs.Prelude.{◌≡◌, ℕ, zero, suc, ◌+◌, ◌<◌, ◌≤◌, ◌==◌, Bool, true, false, not, cond, ◌&&◌, ◌||◌, List}
-use Rattle.std.specs.Prelude.{[], ◌∷◌, ◌++◌, length, Option, None, Some, is_some, unwrap_or, find, refl}
-use Rattle.std.proofs.Common.{arith, sym, ◌∙◌, ap, subst, inl, inr, get_or, ◌⊎◌}
-use Rattle.std.specs.List.Sorted.{IsNonDecreasing, IsPermutation}
-use Rattle.std.proofs.lemmas.Bool.{both_ways, cases_lt, eqb-true, eq-eqb, ne_eqb, and_parts, and_from}
-use Rattle.std.proofs.lemmas.Bool.{or_cases, or_left, or_right, not-true, not_from_false, cond-false}
-use Rattle.std.proofs.lemmas.{Bool.Decides.nat_tests, List.Sorted.sum_by-IsPermutation, List.Sums.sum_by-cons}
-use Rattle.std.proofs.lemmas.List.Sums.{sum_by-append}
-use Rattle.ffs_volume.specs.Directories.Graph.{Graph, level_edge, edge, within, level, parent, parent_by}
-use Rattle.ffs_volume.specs.{Directories.Climb.is_value, Directories.Roles.RoledEntry, Disk.Search.first_below}
-use Rattle.ffs_volume.specs.Disk.Search.{some_below}
+use Rattle.std.proofs.Common.{◌≡◌, ℕ, zero, suc, ◌+◌, ◌<◌, ◌≤◌, ◌==◌, Bool, true, false, not, cond, ◌&&◌, ◌||◌, List}
+use Rattle.std.proofs.Common.{[], ◌∷◌, ◌++◌, length, Option, None, Some, is_some, unwrap_or, find, refl, arith, sym}
+use Rattle.std.proofs.Common.{◌∙◌, ap, subst, inl, inr, get_or, ◌⊎◌, IsPermutation}
+use Rattle.std.proofs.lemmas.Bool.{both_ways, cases_lt, eqb-true, eq-eqb, ne_eqb, and_parts, and_from, or_cases}
+use Rattle.std.proofs.lemmas.Bool.{or_left, or_right, not-true, not_from_false, cond-false}
+use Rattle.std.proofs.lemmas.{Bool.Decides.nat_tests, List.Sorted.sum_by-IsPermutation, List.Sums.sum_by-append}
+use Rattle.std.{proofs.lemmas.List.Sums.sum_by-cons, specs.List.Sorted.IsNonDecreasing}
 use Rattle.ffs_volume.proofs.LevelLaws.{within-suc, within-zero, within-grows, within-step, within-more, level-some}
-use Rattle.ffs_volume.proofs.LevelLaws.{level-from}
 use Rattle.ffs_volume.proofs.SearchLaws.{first_below-is, first_below-is_none, some_below-gives, some_below-from}
-use Rattle.ffs_volume.proofs.{ClimbLaws.is_value-true, ClimbLaws.is_value-from, Graphs.IsSane, Unreached.edge-parts}
+use Rattle.ffs_volume.specs.Directories.Graph.{Graph, level_edge, edge, within, level, parent, parent_by}
+use Rattle.ffs_volume.proofs.{ClimbLaws.is_value-from, ClimbLaws.is_value-true, Graphs.IsSane, LevelLaws.level-from}
+use Rattle.ffs_volume.{proofs.Unreached.edge-parts, specs.Directories.Climb.is_value}
+use Rattle.ffs_volume.specs.{Directories.Roles.RoledEntry, Disk.Search.first_below, Disk.Search.some_below}
 use Rattle.ffs_survey.specs.Discover.{bit, occurrences, from_dirs, nothing, SameResult, Rising, IsFrontier, parent_at}
-use Rattle.ffs_survey.specs.{Discover.LevelsKnown, Survey.bool_at, Survey.number_at, Survey.graph_with}
-use Rattle.ffs_survey.proofs.Discovered.{Same, of_each, dir_below}
+use Rattle.ffs_survey.proofs.Discovered.{Same, dir_below, of_each}
+use Rattle.ffs_survey.specs.{Discover.LevelsKnown, Survey.bool_at, Survey.graph_with, Survey.number_at}
 
 -- ---- occurrences in a list
 pub occurrences-nil : (t : ℕ) → occurrences t [] ≡ 0

@@ -1,17 +1,16 @@
 -- How the levels begin and end.
-use Rattle.std.specs.Prelude.{◌≡◌, ℕ, ◌<◌, ◌==◌, Bool, true, false, cond, List, [], ◌∷◌, length, None}
-use Rattle.std.specs.Prelude.{is_some, unwrap_or, refl}
-use Rattle.std.proofs.Common.{arith, sym, ◌∙◌, ap, set, take, get_or-set_same, get_or-set_other, add-zero, inl, inr}
-use Rattle.std.proofs.lemmas.{Bool.cases_lt, Bool.eqb-true, Bool.eq-eqb, Bool.Decides.nat_tests, List.Sums.sum_by-cons}
-use Rattle.ffs_volume.specs.Directories.Graph.{Graph, within, level, parent, reached}
-use Rattle.ffs_volume.specs.Directories.Climb.{is_value}
-use Rattle.ffs_volume.proofs.{ClimbLaws.is_value-true, ClimbLaws.is_value-from, Graphs.IsSane}
+use Rattle.std.proofs.Common.{◌≡◌, ℕ, ◌<◌, ◌==◌, Bool, true, false, cond, List, [], ◌∷◌, length, None, is_some}
+use Rattle.std.proofs.Common.{unwrap_or, refl, arith, sym, ◌∙◌, ap, set, take, get_or-set_same, get_or-set_other}
+use Rattle.std.proofs.{Common.add-zero, Common.inl, Common.inr, lemmas.Bool.Decides.nat_tests, lemmas.Bool.cases_lt}
+use Rattle.std.proofs.lemmas.{Bool.eq-eqb, Bool.eqb-true, List.Sums.sum_by-cons}
 use Rattle.ffs_volume.proofs.LevelLaws.{within-zero, within-grows, level-is, level-some, level-each, reached-from}
-use Rattle.ffs_volume.proofs.LevelLaws.{reached-level, parent-root}
-use Rattle.ffs_survey.specs.Survey.{bool_at, number_at}
-use Rattle.ffs_survey.specs.Discover.{bit, occurrences, IsFrontier, LevelsKnown, from_dirs, nothing}
+use Rattle.ffs_volume.specs.Directories.Graph.{Graph, within, level, parent, reached}
+use Rattle.ffs_volume.proofs.{ClimbLaws.is_value-from, ClimbLaws.is_value-true, Graphs.IsSane, LevelLaws.parent-root}
+use Rattle.ffs_volume.{proofs.LevelLaws.reached-level, specs.Directories.Climb.is_value}
 use Rattle.ffs_survey.proofs.Discovered.{same_result-to, same_result-refl}
 use Rattle.ffs_survey.proofs.Frontiers.{both_imply, occurrences-nil, within-bound, next_level}
+use Rattle.ffs_survey.specs.Discover.{bit, occurrences, IsFrontier, LevelsKnown, from_dirs, nothing}
+use Rattle.ffs_survey.specs.Survey.{bool_at, number_at}
 
 -- where a level is empty, all is known
 no_more : (v : Graph) (k x : ℕ) → IsSane v → IsFrontier v k [] → within v k x ≡ reached v x

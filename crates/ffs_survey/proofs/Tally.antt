@@ -1,12 +1,11 @@
 -- Steps of the count over entries and directories.
-use Rattle.std.specs.Prelude.{◌≡◌, ℕ, ◌+◌, ◌<◌, ◌==◌, Bool, true, cond, ◌&&◌, ◌||◌, List, ◌∷◌, length, count_by}
-use Rattle.std.proofs.Common.{arith, sym, ◌∙◌, ap, get_or, drop}
-use Rattle.std.proofs.lemmas.{Bool.cond-true, Bool.Decides.nat_tests, List.at_drop_more, List.Sums.sum_by-cons}
-use Rattle.std.proofs.Math.Bool.{or-false}
+use Rattle.std.proofs.Common.{◌≡◌, ℕ, ◌+◌, ◌<◌, ◌==◌, Bool, true, cond, ◌&&◌, ◌||◌, List, ◌∷◌, length, count_by, arith}
+use Rattle.std.proofs.{Common.ap, Common.drop, Common.get_or, Common.sym, Common.◌∙◌, Math.Bool.or-false}
+use Rattle.std.proofs.lemmas.{Bool.Decides.nat_tests, Bool.cond-true, List.Sums.sum_by-cons, List.at_drop_more}
 use Rattle.ffs_volume.specs.Directories.{Graph.is_naming_dir, Graph.is_naming_entry, Roles.RoledEntry, Roles.refers}
-use Rattle.ffs_survey.specs.Survey.{number_at, bool_at, counted_in, graph_with, dir_at}
-use Rattle.ffs_survey.specs.Discover.{bit, Counts, count_in, any_in, count_of, any_of, none, never}
 use Rattle.ffs_survey.proofs.Totals.{bit-times}
+use Rattle.ffs_survey.specs.Discover.{bit, Counts, count_in, any_in, count_of, any_of, none, never}
+use Rattle.ffs_survey.specs.Survey.{number_at, bool_at, counted_in, graph_with, dir_at}
 
 count_by-step : {X : Type 0} (p : X → Bool) (e : X) (rest : List X) →
     count_by p (e ∷ rest) ≡ bit (p e) + count_by p rest

@@ -1,17 +1,16 @@
 -- The sums over a list of directories, and over all of them.
-use Rattle.std.specs.Prelude.{◌≡◌, ℕ, zero, suc, ◌+◌, ◌*◌, ◌<◌, ◌≤◌, ◌==◌, nat_lt, Bool, true, false, not, cond, ◌&&◌}
-use Rattle.std.specs.Prelude.{◌||◌, List, [], ◌∷◌, refl}
-use Rattle.std.proofs.Common.{arith, sym, ◌∙◌, ap, inl, inr}
-use Rattle.std.{specs.List.list_any, specs.List.sum_by, proofs.lemmas.Bool.Decides.nat_tests}
+use Rattle.std.proofs.Common.{◌≡◌, ℕ, zero, suc, ◌+◌, ◌*◌, ◌<◌, ◌≤◌, ◌==◌, nat_lt, Bool, true, false, not, cond, ◌&&◌}
+use Rattle.std.proofs.Common.{◌||◌, List, [], ◌∷◌, refl, arith, sym, ◌∙◌, ap, inl, inr, sum_by}
 use Rattle.std.proofs.lemmas.Bool.{both_ways, cases_lt, cond-true, cond-false, and_parts, and_from, or_left, or_right}
-use Rattle.std.proofs.lemmas.{Bool.or_cases, Bool.lt-ltb, Bool.le-ltb, List.Sums.sum_by-cons}
-use Rattle.ffs_volume.specs.{Directories.Graph.Graph, Directories.Graph.is_naming_dir, Disk.Search.some_below}
-use Rattle.ffs_volume.specs.Disk.Search.{first_below}
+use Rattle.std.proofs.lemmas.Bool.{or_cases, lt-ltb, le-ltb}
+use Rattle.std.{proofs.lemmas.Bool.Decides.nat_tests, proofs.lemmas.List.Sums.sum_by-cons, specs.List.list_any}
 use Rattle.ffs_volume.proofs.SearchLaws.{some_below-suc, some_below-from, some_below-gives}
-use Rattle.ffs_survey.specs.{Costs.costs_below, Survey.counted_in, Survey.counted_below}
-use Rattle.ffs_survey.specs.Discover.{bit, occurrences, count_of, any_of, counted_by}
+use Rattle.ffs_volume.specs.Directories.Graph.{Graph, is_naming_dir}
+use Rattle.ffs_volume.specs.Disk.Search.{some_below, first_below}
 use Rattle.ffs_survey.proofs.Frontiers.{occurrences-cases, occurrences-cons, occurrences-nil, occurrences-head, bit-one}
-use Rattle.ffs_survey.proofs.Frontiers.{both_imply}
+use Rattle.ffs_survey.specs.Discover.{bit, occurrences, count_of, any_of, counted_by}
+use Rattle.ffs_survey.specs.Survey.{counted_in, counted_below}
+use Rattle.ffs_survey.{proofs.Frontiers.both_imply, specs.Costs.costs_below}
 
 abbrev part : (ℕ → ℕ) → ℕ → List ℕ → ℕ
 part c n q = sum_by (λ s. cond (nat_lt s n) (c s) 0) q

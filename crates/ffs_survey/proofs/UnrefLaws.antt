@@ -1,15 +1,14 @@
 -- The test of an unreferenced directory, from what is kept of each inode.
-use Rattle.std.specs.Prelude.{◌≡◌, ◌≢◌, ℕ, zero, suc, ◌<◌, ◌==◌, Bool, true, false, cond, ◌&&◌, ◌||◌, List, length}
-use Rattle.std.specs.Prelude.{Option, None, Some, unwrap_or, refl}
-use Rattle.std.proofs.Common.{arith, sym, ◌∙◌, ap, subst, inl, inr, ◌⊎◌}
+use Rattle.std.proofs.Common.{◌≡◌, ◌≢◌, ℕ, zero, suc, ◌<◌, ◌==◌, Bool, true, false, cond, ◌&&◌, ◌||◌, List, length}
+use Rattle.std.proofs.Common.{Option, None, Some, unwrap_or, refl, arith, sym, ◌∙◌, ap, subst, inl, inr, ◌⊎◌}
 use Rattle.std.proofs.lemmas.Bool.{cases_eq, and_parts, both_ways, cond-true, cond-false, eq-eqb, ne_eqb}
 use mathlib.Core.Path.{fun_ext}
+use Rattle.ffs_volume.proofs.Unreached.{edge-parts, IsLost, lost-from}
 use Rattle.ffs_volume.specs.Directories.Graph.{Graph, edge, parent, parent_by, level, is_dead_in, none_or_dead}
+use Rattle.ffs_volume.proofs.{Graphs.IsSane, SearchLaws.first_below-some}
 use Rattle.ffs_volume.specs.Directories.{Climb.is_leader_within, Climb.is_value, Graph.is_unref_dir_in}
-use Rattle.ffs_volume.proofs.{Graphs.IsSane, SearchLaws.first_below-some, Unreached.edge-parts, Unreached.IsLost}
-use Rattle.ffs_volume.proofs.Unreached.{lost-from}
-use Rattle.ffs_survey.specs.{Cycles.parent_in, Survey.number_at, Survey.IsTree}
 use Rattle.ffs_survey.proofs.{Discovered.dir_below, Walks.parent_in-none, Walks.parent_in-some}
+use Rattle.ffs_survey.specs.{Cycles.parent_in, Survey.IsTree, Survey.number_at}
 
 -- what a parent is
 record IsParent (v : Graph) (s : ℕ) : Type 0 where

@@ -1,8 +1,7 @@
 use Rattle.std.proofs.Common.{◌≡◌, ◌++◌, take, drop, arith, ◌∙◌, ap}
-use Rattle.ffs_survey.specs.{Discover.Extends}
-use Rattle.ffs_survey.proofs.{CalmLaws.frontier_reached, Frontiers.frontier_dirs, Frontiers.sane_of}
-use Rattle.ffs_survey.proofs.Lending.{kinds_long, queue_long}
 use Rattle.ffs_survey.proofs.Queues.{same_result_after, is_extended, level_after, queue_parts}
+use Rattle.ffs_survey.proofs.{CalmLaws.frontier_reached, Frontiers.frontier_dirs, Frontiers.sane_of, Lending.kinds_long}
+use Rattle.ffs_survey.{proofs.Lending.queue_long, specs.Discover.Extends}
 use Rattle.ffs_survey.proofs.levels.next_level.Goals as goal
 
 pub read_level-requires-clause-frontier : goal.read_level-requires-clause-frontier

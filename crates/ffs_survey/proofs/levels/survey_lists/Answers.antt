@@ -1,8 +1,7 @@
 use Rattle.std.proofs.Common.{arith, ap, length, ◌∙◌}
-use Rattle.ffs_survey.specs.Survey.{bool_at, dir_at}
-use Rattle.ffs_survey.proofs.CalmLaws.{calm_unreached, read_stays}
-use Rattle.ffs_survey.proofs.{Costs.costs_two, Frontiers.sane_of, Lending.kinds_long, Lending.same_kinds}
-use Rattle.ffs_survey.proofs.UnreachedLaws.{unreached_blank, survey_whole}
+use Rattle.ffs_survey.proofs.{CalmLaws.calm_unreached, CalmLaws.read_stays, Costs.costs_two, Frontiers.sane_of}
+use Rattle.ffs_survey.proofs.{Lending.kinds_long, Lending.same_kinds, UnreachedLaws.survey_whole}
+use Rattle.ffs_survey.{proofs.UnreachedLaws.unreached_blank, specs.Survey.bool_at, specs.Survey.dir_at}
 use Rattle.ffs_survey.proofs.levels.survey_lists.Goals as goal
 
 pub returns-clause-survey : goal.returns-clause-survey

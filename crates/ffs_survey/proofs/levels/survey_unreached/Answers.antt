@@ -1,8 +1,7 @@
 use Rattle.std.proofs.Common.{◌≡◌, rules, arith, refl, sym, ◌∙◌, ◌+◌, length, true, false}
-use Rattle.ffs_survey.specs.Discover.{is_unreached_dir}
 use Rattle.ffs_survey.proofs.Costs.{cost_skip, cost_take, costs_rise}
-use Rattle.ffs_survey.proofs.Lending.{same_kinds}
 use Rattle.ffs_survey.proofs.UnreachedLaws.{read_start, read_on, read_skip}
+use Rattle.ffs_survey.{proofs.Lending.same_kinds, specs.Discover.is_unreached_dir}
 use Rattle.ffs_survey.proofs.levels.survey_unreached.Goals as goal
 
 pub loop-s-init : goal.loop-s-init
