@@ -119,14 +119,10 @@ pub entry_step : {g : ℕ → Option ℕ} {r r' r'' : List Bool} {p p' p'' q q' 
     SameResult g r p q (from_entries kinds s rest) r'' p'' q''
 entry_step kinds s e rest a b = same_result-trans a (same_result-then (from_entries-cons kinds s e rest) b)
 
--- what a directory's entries discover, by its edges
-from_entries-edges : (kinds : List ℕ) (entries : ℕ → List RoledEntry) (s x : ℕ) → dir_at kinds s ≡ true →
-    from_entries kinds s (entries s) x ≡ cond (edge (graph_with kinds entries) s x) (Some s) None
-from_entries-edges kinds entries s x h =
-    ap (λ b. cond (dir_at kinds x && (b && list_any (is_naming_entry x) (entries s))) (Some s) None) (sym h)
-
-picks : (b : Bool) (s : ℕ) (o : Option ℕ) → cond b (Some s) o ≡ option_or (cond b (Some s) None) o
-picks b s o = grind arith
+-- what a directory's entries discover, by its edges, before those of others
+from_edges : (kinds : List ℕ) (entries : ℕ → List RoledEntry) (s x : ℕ) (o : Option ℕ) → dir_at kinds s ≡ true →
+    cond (edge (graph_with kinds entries) s x) (Some s) o ≡ option_or (from_entries kinds s (entries s) x) o
+from_edges kinds entries s x o d = grind arith
 
 -- the step of the loop over a level
 pub level_step : {g : ℕ → Option ℕ} {r r' r'' : List Bool} {p p' p'' q q' q'' : List ℕ} (kinds : List ℕ)
@@ -137,8 +133,5 @@ pub level_step : {g : ℕ → Option ℕ} {r r' r'' : List Bool} {p p' p'' q q' 
     SameResult g r p q (from_dirs (graph_with kinds entries) (drop (i + 1) frontier)) r'' p'' q''
 level_step kinds entries frontier i l d a b =
     let v = graph_with kinds entries in
-    let s = get_or frontier i 0 in
-    let rest = from_dirs v (drop (i + 1) frontier) in
     same_result-trans a (same_result-then (λ x. at_drop_more (λ z. from_dirs v z x) frontier i 0 l
-    ∙ (picks (edge v s x) s (rest x)
-    ∙ ap (λ o. option_or o (rest x)) (sym (from_entries-edges kinds entries s x d)))) b)
+    ∙ from_edges kinds entries (get_or frontier i 0) x (from_dirs v (drop (i + 1) frontier) x) d) b)

@@ -44,11 +44,10 @@ dir_counted {m' = m'} {m'' = m''} kinds entries frontier i l d h k =
           let two = cond-true (dir_at kinds s) (count_in (entries s) x) 0 d in
           omega (arith, one, sum_by-cons (λ s. counted_in g s x) s rest, two, h.counts x b, k.counts x b);
       names = λ x b.
-          let two : (is_naming_dir g s x || any_of g rest x) ≡ (any_in (entries s) x || any_of g rest x) =
-          ap (λ y. (y && any_in (entries s) x) || any_of g rest x) d in
-          any_step (bool_at m' x) (bool_at m'' x) (any_in (entries s) x) (any_of g rest x) _
-          (sym (or-false (bool_at m'' x)) ∙ k.names x b)
-          (ap (λ y. bool_at m' x || y) (sym (at_drop_more (λ z. any_of g z x) frontier i 0 l ∙ two)) ∙ h.names x b);
+          let one = at_drop_more (λ z. any_of g z x) frontier i 0 l in
+          let two = h.names x b in
+          let three = k.names x b in
+          grind arith;
     }
 
 -- one entry gives a parent

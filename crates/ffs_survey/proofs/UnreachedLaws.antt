@@ -133,23 +133,15 @@ unreached_blank {r = r} kinds entries i x h =
     let off : bool_at r x ≡ false = not-true _ (and_parts (dir_at kinds x) (not (bool_at r x)) h).1 in
     i.parent x ∙ ap (λ o. unwrap_or o 0) (cond-false (is_some (level g x)) (parent g x) None (sym (i.reaches x) ∙ off))
 
-unmarked_edge : (d b c a : Bool) → b ≡ false → c ≡ false → ((d && not b) && (not c && a)) ≡ (d && a)
-unmarked_edge d b c a u w = grind arith
-
 -- a reached directory has no edge to an unreached one
 unreached_edges : (kinds : List ℕ) (entries : ℕ → List RoledEntry) (r : List Bool) (x s : ℕ) → s < length kinds →
     x < length kinds → ((y : ℕ) → bool_at r y ≡ reached (graph_with kinds entries) y) → bool_at r x ≡ false
     → is_unreached_edge (graph_with kinds entries) kinds r x s ≡ edge (graph_with kinds entries) s x
 unreached_edges kinds entries r x s ls lx h off =
     let g = graph_with kinds entries in
-    elim (cases_Bool (bool_at r s)) [
-      | inl y ↦
-          let none : edge g s x ≡ false = false_from_ne_true (edge g s x)
-          (λ t. both_ways (reached g x) (sym (h x) ∙ off) (reached-edge g s x ls lx (sym (h s) ∙ y) t)) in
-          and_right (is_unreached_dir kinds r x) _ (and_left (not (bool_at r s)) (is_naming_dir g s x) (ap not y))
-          ∙ sym none
-      | inr z ↦ unmarked_edge (dir_at kinds x) (bool_at r x) (bool_at r s) (is_naming_dir g s x) off z
-    ]
+    let none : bool_at r s ≡ true → edge g s x ≡ false = λ y. false_from_ne_true (edge g s x)
+    (λ t. both_ways (reached g x) (sym (h x) ∙ off) (reached-edge g s x ls lx (sym (h s) ∙ y) t)) in
+    grind arith
 
 -- both parts
 pub survey_whole : {given starts f f' : List ℕ} {m m' r : List Bool} {p p' : List ℕ} (kinds : List ℕ)
@@ -186,20 +178,18 @@ survey_whole {r = r} {p = p} {p' = p'} kinds entries sane lr lp begins i k = rec
         (λ s l. and_left (dir_at kinds x) (is_naming_dir g s x) dry)))
 
     below : (x : ℕ) → x < length kinds → number_at p' x ≡ unwrap_or (parent g x) 0
-    below x l = elim (cases_Bool (bool_at r x)) [
-      | inl on ↦
-          let taken : is_unreached_dir kinds r x ≡ false = and_right (dir_at kinds x) (not (bool_at r x)) (ap not on) in
-          k.parent x l ∙ (ap (λ o. unwrap_or o (number_at p x))
-          (first_below-is_none (is_unreached_edge g kinds r x) (length kinds)
-          (λ s b. and_left (is_unreached_dir kinds r x) _ taken))
-          ∙ (i.parent x ∙ ap (λ o. unwrap_or o 0)
-          (cond-true (is_some (level g x)) (parent g x) None (sym (i.reaches x) ∙ on))))
-      | inr off ↦
-          let blank : number_at p x ≡ 0 = i.parent x
-          ∙ ap (λ o. unwrap_or o 0) (cond-false (is_some (level g x)) (parent g x) None (sym (i.reaches x) ∙ off)) in
-          k.parent x l ∙ (ap (λ o. unwrap_or o (number_at p x))
-          (first_same (is_unreached_edge g kinds r x) (λ s. edge g s x) (length kinds)
-          (λ s b. unreached_edges kinds entries r x s b l i.reaches off))
-          ∙ (ap (unwrap_or (first_below (λ s. edge g s x) (length kinds))) blank
-          ∙ ap (λ o. unwrap_or o 0) (sym (unreached_first x off))))
-    ]
+    below x l =
+        let a = k.parent x l in
+        let b = i.parent x in
+        let c = i.reaches x in
+        elim (cases_Bool (bool_at r x)) [
+          | inl on ↦
+              let none = first_below-is_none (is_unreached_edge g kinds r x) (length kinds)
+              (λ s b. and_left (is_unreached_dir kinds r x) _ (and_right (dir_at kinds x) _ (ap not on))) in
+              grind arith
+          | inr off ↦
+              let same = first_same (is_unreached_edge g kinds r x) (λ s. edge g s x) (length kinds)
+              (λ s b. unreached_edges kinds entries r x s b l i.reaches off) in
+              let first = unreached_first x off in
+              grind arith
+        ]

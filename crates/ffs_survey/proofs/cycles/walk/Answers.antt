@@ -54,25 +54,17 @@ walked_some {parent = parent} {start = start} {at = at} {now = now} next h is n 
 pub up-init : goal.up-init
 up-init c = record { bound = c.requires.low; long = refl; walking = walk_start c.requires.is_unmet }
 
-pub returns-then-next-eq0-clause-walked : goal.returns-then-next-eq0-clause-walked
-returns-then-next-eq0-clause-walked c =
+pub returns-then-next-eq0 : goal.returns-then-next-eq0
+returns-then-next-eq0 c =
     let h = here c.requires c.up.invariant.walking (omega (arith, c.requires.walks)) c.set.ensures.items in
-    (walked_none h (inl (sym c.number_of-next.ensures ∙ c.if-next-eq0.true))).0
+    let w = walked_none h (inl (sym c.number_of-next.ensures ∙ c.if-next-eq0.true)) in
+    record { walked = w.0; walks_long = c.set.ensures.len ∙ c.up.invariant.long; cycle = w.1 }
 
-pub returns-then-next-eq0-clause-cycle : goal.returns-then-next-eq0-clause-cycle
-returns-then-next-eq0-clause-cycle c =
+pub returns-then-next-len : goal.returns-then-next-len
+returns-then-next-len c =
     let h = here c.requires c.up.invariant.walking (omega (arith, c.requires.walks)) c.set.ensures.items in
-    (walked_none h (inl (sym c.number_of-next.ensures ∙ c.if-next-eq0.true))).1
-
-pub returns-then-next-len-clause-walked : goal.returns-then-next-len-clause-walked
-returns-then-next-len-clause-walked c =
-    let h = here c.requires c.up.invariant.walking (omega (arith, c.requires.walks)) c.set.ensures.items in
-    (walked_none h (inr (omega (arith, c.number_of-next.ensures)))).0
-
-pub returns-then-next-len-clause-cycle : goal.returns-then-next-len-clause-cycle
-returns-then-next-len-clause-cycle c =
-    let h = here c.requires c.up.invariant.walking (omega (arith, c.requires.walks)) c.set.ensures.items in
-    (walked_none h (inr (omega (arith, c.number_of-next.ensures)))).1
+    let w = walked_none h (inr (omega (arith, c.number_of-next.ensures))) in
+    record { walked = w.0; walks_long = c.set.ensures.len ∙ c.up.invariant.long; cycle = w.1 }
 
 pub returns-then-seen-start-clause-walked : goal.returns-then-seen-start-clause-walked
 returns-then-seen-start-clause-walked c =
