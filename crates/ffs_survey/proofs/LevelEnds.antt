@@ -13,7 +13,7 @@ use Rattle.ffs_survey.specs.Discover.{bit, occurrences, IsFrontier, LevelsKnown,
 use Rattle.ffs_survey.specs.Survey.{bool_at, number_at}
 
 -- where a level is empty, all is known
-no_more : (v : Graph) (k x : ℕ) → IsSane v → IsFrontier v k [] → within v k x ≡ reached v x
+pub no_more : (v : Graph) (k x : ℕ) → IsSane v → IsFrontier v k [] → within v k x ≡ reached v x
 no_more v k x sane f = both_imply (within v k x) (reached v x) (λ y. reached-from v k x (within-bound v k x sane y) y)
     (λ t.
     let j = reached-level v x t in
@@ -25,15 +25,6 @@ no_more v k x sane f = both_imply (within v k x) (reached v x) (λ y. reached-fr
           absurd (omega (arith, f.members s.0, ap bit e, occurrences-nil s.0))
       | inr ge ↦ within-grows v j.0 k x ge l.0.within_k
     ])
-
-pub knows_reached : {v : Graph} {k : ℕ} {r : List Bool} {p q : List ℕ} → IsSane v → IsFrontier v k [] →
-    LevelsKnown v k r p q → (x : ℕ) → bool_at r x ≡ reached v x
-knows_reached {v = v} {k = k} sane f n x = n.reaches x ∙ no_more v k x sane f
-
-pub knows_parent : {v : Graph} {k : ℕ} {r : List Bool} {p q : List ℕ} → IsSane v → IsFrontier v k [] →
-    LevelsKnown v k r p q → (x : ℕ) → number_at p x ≡ unwrap_or (cond (is_some (level v x)) (parent v x) None) 0
-knows_parent {v = v} {k = k} sane f n x =
-    n.parent x ∙ ap (λ b. unwrap_or (cond b (parent v x) None) 0) (no_more v k x sane f)
 
 occurrences-single : (x y : ℕ) → occurrences x (y ∷ []) ≡ bit (y == x)
 unfolding occurrences

@@ -1,14 +1,15 @@
 -- The queue: what is after it, the current level, and the next level.
 use Rattle.std.proofs.Common.{◌≡◌, ℕ, suc, ◌+◌, ◌-◌, ◌<◌, ◌≤◌, All, Option, Bool, List, [], ◌∷◌, ◌++◌, length, take}
-use Rattle.std.proofs.Common.{drop, ◌==◌, ◌||◌, false, count_by, arith, sym, ◌∙◌, ap, subst, add-zero, get_or}
+use Rattle.std.proofs.Common.{drop, cond, None, unwrap_or, ◌==◌, ◌||◌, false, count_by, arith, sym, ◌∙◌, ap, subst, add-zero, get_or}
 use Rattle.std.proofs.lemmas.List.{get_or-drop, get_or-take, get_or_past, length-drop, take-append-drop, take-take}
 use Rattle.std.proofs.{Common.IsPermutation, Math.Bool.or-false, lemmas.Bool.and_left, lemmas.Bool.cond-false}
 use Rattle.std.proofs.lemmas.{Grind.common_steps, List.Folds.list_any-append, List.Sums.sum_by-append}
 use Rattle.std.specs.List.Sorted.{IsNonDecreasing}
 use Rattle.ffs_volume.{proofs.Graphs.IsSane, specs.Directories.Graph.Graph, specs.Directories.Graph.is_naming_dir}
+use Rattle.ffs_volume.specs.Directories.Graph.{parent}
 use Rattle.ffs_volume.specs.Directories.Roles.{RoledEntry, refers}
 use Rattle.ffs_survey.proofs.Frontiers.{next_level, frontier_from, queue_grows, IsNext, occurrences-append}
-use Rattle.ffs_survey.proofs.LevelEnds.{knows_reached, knows_parent, root_alone}
+use Rattle.ffs_survey.proofs.LevelEnds.{no_more, root_alone}
 use Rattle.ffs_survey.specs.Discover.{Extends, bit, occurrences, from_dirs, nothing, SameResult, IsFrontier}
 use Rattle.ffs_survey.specs.Discover.{LevelsKnown, IsCount, Counts, IsReachedPart, count_of, any_of, none, never}
 use Rattle.ffs_survey.specs.Survey.{bool_at, number_at, graph_with, dir_at, counted_in}
@@ -105,15 +106,15 @@ pub reached_part : {k : ℕ} {starts f : List ℕ} {m r : List Bool} {p q : List
     (entries : ℕ → List RoledEntry) → length r ≡ length kinds → IsSane (graph_with kinds entries) →
     IsFrontier (graph_with kinds entries) k [] → LevelsKnown (graph_with kinds entries) k r p q →
     IsCount (graph_with kinds entries) q starts f m → IsReachedPart (graph_with kinds entries) starts f m r p
-reached_part {starts = starts} {r = r} {q = q} kinds entries e sane frontier n i =
+reached_part {k = k} {starts = starts} {r = r} {q = q} kinds entries e sane frontier n i =
     let g = graph_with kinds entries in
     let past = λ (s : ℕ) (l : length kinds ≤ s). get_or_past r s false (omega arith) in
     record {
       counts = λ x b. i.counts x b
           ∙ ap (λ c. number_at starts x + c) (count_all g (bool_at r) q (length kinds) x n.queued past);
       names = λ x b. i.names x b ∙ any_all g (bool_at r) q (length kinds) x n.queued past;
-      reaches = knows_reached sane frontier n;
-      parent = knows_parent sane frontier n;
+      reaches = λ x. n.reaches x ∙ no_more g k x sane frontier;
+      parent = λ x. n.parent x ∙ ap (λ b. unwrap_or (cond b (parent g x) None) 0) (no_more g k x sane frontier);
     }
 
 -- where inode 2 is no directory, nothing was read

@@ -11,18 +11,15 @@ count_by-step : {X : Type 0} (p : X → Bool) (e : X) (rest : List X) →
     count_by p (e ∷ rest) ≡ bit (p e) + count_by p rest
 count_by-step p e rest = omega (arith, sum_by-cons (λ x. cond (p x) 1 0) e rest, bit-times (p e) 1)
 
-any_step : (m m' b c t : Bool) → m' ≡ (m || b) → (m || (b || c)) ≡ t → (m' || c) ≡ t
-any_step m m' b c t h k = grind arith
-
 -- the step of the loop over a directory
 pub entry_counted : {n : ℕ} {c : ℕ → ℕ} {a : ℕ → Bool} {f f' f'' : List ℕ} {m m' m'' : List Bool} (e : RoledEntry)
     (rest : List RoledEntry) → Counts n c a f m (count_in (e ∷ rest)) (any_in (e ∷ rest)) f' m' →
     ((x : ℕ) → x < n → number_at f'' x ≡ number_at f' x + bit (refers x e)) →
     ((x : ℕ) → x < n → bool_at m'' x ≡ (bool_at m' x || is_naming_entry x e)) →
     Counts n c a f m (count_in rest) (any_in rest) f'' m''
-entry_counted {m' = m'} {m'' = m''} e rest h u w = record {
+entry_counted e rest h u w = record {
   counts = λ x l. omega (arith, u x l, count_by-step (refers x) e rest, h.counts x l);
-  names = λ x l. any_step (bool_at m' x) (bool_at m'' x) (is_naming_entry x e) (any_in rest x) _ (w x l) (h.names x l);
+  names = λ x l. let one = w x l in let two = h.names x l in grind arith;
 }
 
 -- the step of the loop over a level
@@ -34,7 +31,7 @@ pub dir_counted : {n : ℕ} {c : ℕ → ℕ} {a : ℕ → Bool} {f f' f'' : Lis
     Counts n (count_in (entries (get_or frontier i 0))) (any_in (entries (get_or frontier i 0))) f' m' none never f''
     m'' → Counts n c a f m (count_of (graph_with kinds entries) (drop (i + 1) frontier))
     (any_of (graph_with kinds entries) (drop (i + 1) frontier)) f'' m''
-dir_counted {m' = m'} {m'' = m''} kinds entries frontier i l d h k =
+dir_counted kinds entries frontier i l d h k =
     let g = graph_with kinds entries in
     let s = get_or frontier i 0 in
     let rest = drop (i + 1) frontier in

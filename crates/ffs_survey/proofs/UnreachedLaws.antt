@@ -92,9 +92,6 @@ read_on {f = f} {f'' = f''} {m = m} {m'' = m''} {p = p} {p' = p'} {p'' = p''} ki
 no_share : (d b : Bool) (c : ℕ) → (d && not b) ≡ false → cond (not b) (cond d c 0) 0 ≡ 0
 no_share d b c h = grind arith
 
-none_named : (d b a : Bool) → (d && not b) ≡ false → (not b && (d && a)) ≡ false
-none_named d b a h = grind arith
-
 still_first : (o : Option ℕ) (b : Bool) (s : ℕ) → b ≡ false → earliest o b s ≡ o
 unfolding earliest
 still_first o b s h = grind arith
@@ -122,7 +119,7 @@ read_skip {f = f} {f' = f'} {m = m} {m' = m'} {p = p} {p' = p'} kinds entries r 
     one = omega arith
 
     unnamed : (x : ℕ) → (not (bool_at r s) && is_naming_dir g s x) ≡ false
-    unnamed x = none_named (dir_at kinds s) (bool_at r s) (any_in (entries s) x) taken
+    unnamed x = grind arith
 
 -- what has no mark and no parent yet
 pub unreached_blank : {starts f : List ℕ} {m r : List Bool} {p : List ℕ} (kinds : List ℕ)
@@ -170,12 +167,10 @@ survey_whole {r = r} {p = p} {p' = p'} kinds entries sane lr lp begins i k = rec
     past : (x : ℕ) → length kinds ≤ x → number_at p' x ≡ unwrap_or (parent g x) 0
     past x b =
         let off : bool_at r x ≡ false = get_or_past r x false (omega arith) in
-        let dry : dir_at kinds x ≡ false =
-        false_from_ne_true (dir_at kinds x) (λ t. absurd (let l = dir_below kinds x t in omega arith)) in
-        get_or_past p' x 0 (omega arith)
-        ∙ sym (ap (λ o. unwrap_or o 0)
-        (unreached_first x off ∙ first_below-is_none (λ s. edge g s x) (length kinds)
-        (λ s l. and_left (dir_at kinds x) (is_naming_dir g s x) dry)))
+        let dry = false_from_ne_true (dir_at kinds x) (λ t. absurd (omega (arith, dir_below kinds x t))) in
+        let none = first_below-is_none (λ s. edge g s x) (length kinds)
+        (λ s l. and_left (dir_at kinds x) (is_naming_dir g s x) dry) in
+        get_or_past p' x 0 (omega arith) ∙ sym (ap (λ o. unwrap_or o 0) (unreached_first x off ∙ none))
 
     below : (x : ℕ) → x < length kinds → number_at p' x ≡ unwrap_or (parent g x) 0
     below x l =

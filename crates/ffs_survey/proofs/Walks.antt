@@ -75,35 +75,24 @@ pub has_passed : {f : ℕ → Option ℕ} {start mark steps at : ℕ} {old new :
 has_passed {f = f} {start = start} {mark = mark} {steps = steps} {at = at} {new = new} m l w = record {
   at_is = w.at_is;
   trace = record {
-    kept = λ x o. elim (cases_eq x at) [
-      | inl y ↦ absurd (o (sym (w.trace.kept x o) ∙ (ap (number_at new) y ∙ w.is_unmet)))
-      | inr n ↦ other x n ∙ w.trace.kept x o
-    ];
-    fresh = λ x o s. elim (cases_eq x at) [
-      | inl y ↦ here x y
-      | inr n ↦ other x n ∙ w.trace.fresh x o (λ z. s (other x n ∙ z))
-    ];
+    kept = λ x o. let k = w.trace.kept x o in let z = w.is_unmet in let c = cases_eq x at in
+        grind (arith, get_or-set_other, get_or-set_same);
+    fresh = λ x o u. let k = w.trace.fresh x o in let c = cases_eq x at in
+        grind (arith, get_or-set_other, get_or-set_same);
     passed = λ x i. elim (cases_eq x at) [
       | inl y ↦ (steps, omega arith, w.at_is ∙ ap Some (sym y))
-      | inr n ↦ let p = w.trace.passed x (record { was = i.was; is = λ z. i.is (other x n ∙ z) }) in
+      | inr n ↦
+          let p = w.trace.passed x (record { was = i.was; is = λ z. i.is (get_or-set_other new at x mark 0 n ∙ z) }) in
           let b = p.1 in (p.0, omega arith, p.2)
     ];
-    path = λ i x b h. elim (cases_eq x at) [
-      | inl y ↦ here x y
-      | inr n ↦ elim (cases_lt i steps) [
-        | inl lt ↦ other x n ∙ w.trace.path i x lt h
-        | inr ge ↦ absurd (n (same_place f start i steps (omega arith) h w.at_is))
-      ]
-    ];
+    path = λ i x b h.
+        let before = λ (q : i < steps). w.trace.path i x q h in
+        let last = λ (q : i ≡ steps). same_place f start i steps q h w.at_is in
+        let c = cases_eq x at in
+        grind (arith, get_or-set_other, get_or-set_same);
     count = omega (arith, unmet-set new at mark l w.is_unmet m, w.trace.count);
   };
 }
-  where
-    here : (x : ℕ) → x ≡ at → number_at (set new at mark) x ≡ mark
-    here x y = ap (number_at (set new at mark)) y ∙ get_or-set_same new at mark 0 l
-
-    other : (x : ℕ) → x ≢ at → number_at (set new at mark) x ≡ number_at new x
-    other x n = get_or-set_other new at x mark 0 n
 
 pub walk_start : {f : ℕ → Option ℕ} {start mark : ℕ} {old : List ℕ} → number_at old start ≡ 0 →
     Walking f start mark 0 start old old
