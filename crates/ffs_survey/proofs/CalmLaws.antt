@@ -148,13 +148,9 @@ calm_step {r = r} {r' = r'} {calm_so_far' = calm_so_far'} s i e es calm_so_far c
     let same : bool_at r' ≡ reached_after s.kinds (bool_at r) e = fun_ext (λ x.
     reached_by_entry (bool_at r x) (bool_at r' x) (dir_at s.kinds x) (is_naming_entry x e) s.dir (c.reaches x)) in
     let next : i + 1 ≡ suc i = omega arith in
-    ap (λ n. calm_so_far' && are_calm s (bool_at r') n es) next
-    ∙ (ap (λ z. calm_so_far' && are_calm s z (suc i) es) same
-    ∙ (ap (λ z. z && are_calm s (reached_after s.kinds (bool_at r) e) (suc i) es) step
-    ∙ (and_again calm_so_far _ _ ∙ old)))
-  where
-    and_again : (a b c : Bool) → ((a && b) && c) ≡ (a && (b && c))
-    and_again a b c = grind arith
+    let after = ap (λ z. are_calm s z (i + 1) es) same
+    ∙ ap (λ n. are_calm s (reached_after s.kinds (bool_at r) e) n es) next in
+    grind arith
 
 -- no flag is set
 pub calm_none : {kinds : List ℕ} {m r : List Bool} {p : List ℕ} (entries : ℕ → List RoledEntry) (right_shape : ℕ → Bool)

@@ -119,10 +119,8 @@ pub some_both : (r p : ℕ → Bool) (n : ℕ) → (some_below (λ s. r s && p s
 unfolding first_below
 some_both r p zero = refl
 some_both r p (suc n) =
-    ap (λ b. b || some_below (λ s. not (r s) && p s) (suc n)) (some_below-suc (λ s. r s && p s) n)
-    ∙ (ap (λ b. (some_below (λ s. r s && p s) n || (r n && p n)) || b) (some_below-suc (λ s. not (r s) && p s) n)
-    ∙ (go (some_below (λ s. r s && p s) n) (some_below (λ s. not (r s) && p s) n) (r n) (p n)
-    ∙ (ap (λ b. b || p n) (some_both r p n) ∙ sym (some_below-suc p n))))
-  where
-    go : (a b m c : Bool) → ((a || (m && c)) || (b || (not m && c))) ≡ ((a || b) || c)
-    go a b m c = grind arith
+    let a = some_below-suc (λ s. r s && p s) n in
+    let b = some_below-suc (λ s. not (r s) && p s) n in
+    let d = some_below-suc p n in
+    let h = some_both r p n in
+    grind arith

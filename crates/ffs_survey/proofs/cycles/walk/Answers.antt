@@ -42,12 +42,11 @@ pub next_parent : (parent : List ℕ) (at : ℕ) {next : ℕ} → next ≡ numbe
 next_parent parent at is n b =
     parent_in-some parent at (λ z. n (is ∙ z)) (omega (arith, is, b)) ∙ ap Some (sym is)
 
-pub walked_some : {parent : List ℕ} {start steps at : ℕ} {old now : List ℕ} (next : ℕ) →
-    Here parent start steps at old now → next ≡ number_at parent at → next ≢ 0 → next < length parent →
-    number_at now next ≢ 0 → Walked (parent_in parent) start (start + 1) old now
-walked_some {parent = parent} {start = start} {at = at} {now = now} next h is n b s =
+pub walked_some : {parent : List ℕ} {start steps at next : ℕ} {old now : List ℕ} → Here parent start steps at old now →
+    parent_in parent at ≡ Some next → number_at now next ≢ 0 → Walked (parent_in parent) start (start + 1) old now
+walked_some {start = start} {next = next} {now = now} h e s =
     walked (mark_some start) h.closed h.state (λ y u.
-    let q : Some next ≡ Some y = sym (next_parent parent at is n b) ∙ u in
+    let q : Some next ≡ Some y = sym e ∙ u in
     let p : next ≡ y = cc in
     subst (λ z. number_at now z ≢ 0) p s)
 
@@ -66,35 +65,33 @@ returns-then-next-len c =
     let w = walked_none h (inr (omega (arith, c.number_of-next.ensures))) in
     record { walked = w.0; walks_long = c.set.ensures.len ∙ c.up.invariant.long; cycle = w.1 }
 
-pub returns-then-seen-start-clause-walked : goal.returns-then-seen-start-clause-walked
-returns-then-seen-start-clause-walked c =
-    let h = here c.requires c.up.invariant.walking (omega (arith, c.requires.walks)) c.set.ensures.items in
-    walked_some _ h c.number_of-next.ensures c.if-next-eq0.false (omega arith)
-    (λ z. absurd (omega (arith, c.if-seen-start.true, c.number_of-seen.ensures)))
-
-pub returns-then-seen-start-clause-cycle : goal.returns-then-seen-start-clause-cycle
-returns-then-seen-start-clause-cycle c =
+pub returns-then-seen-start : goal.returns-then-seen-start
+returns-then-seen-start c =
     let h = here c.requires c.up.invariant.walking (omega (arith, c.requires.walks)) c.set.ensures.items in
     let p = c.number_of-next.result in
     let low : p < length c.args.parents.now.items = omega arith in
-    finds_cycle p (length c.args.parents.now.items) (mark_some c.args.start) h.short h.state
-    (next_parent c.args.parents.now.items c.up.at c.number_of-next.ensures c.if-next-eq0.false low)
-    (omega (arith, c.requires.older p 0 (omega (arith, low, c.requires.walks))))
-    (sym c.number_of-seen.ensures ∙ c.if-seen-start.true) low
+    let seen = sym c.number_of-seen.ensures ∙ c.if-seen-start.true in
+    let up = next_parent c.args.parents.now.items c.up.at c.number_of-next.ensures c.if-next-eq0.false low in
+    let old = c.requires.older p 0 (omega (arith, low, c.requires.walks)) in
+    record {
+      walked = walked_some h up (λ z. absurd (omega (arith, seen)));
+      walks_long = c.set.ensures.len ∙ c.up.invariant.long;
+      cycle = finds_cycle p (length c.args.parents.now.items) (mark_some c.args.start) h.short h.state up
+          (omega (arith, old)) seen low;
+    }
 
-pub returns-then-seen-ne0-clause-walked : goal.returns-then-seen-ne0-clause-walked
-returns-then-seen-ne0-clause-walked c =
+pub returns-then-seen-ne0 : goal.returns-then-seen-ne0
+returns-then-seen-ne0 c =
     let h = here c.requires c.up.invariant.walking (omega (arith, c.requires.walks)) c.set.ensures.items in
-    walked_some _ h c.number_of-next.ensures c.if-next-eq0.false (omega arith)
-    (λ z. c.if-seen-ne0.true (c.number_of-seen.ensures ∙ z))
-
-pub returns-then-seen-ne0-clause-cycle : goal.returns-then-seen-ne0-clause-cycle
-returns-then-seen-ne0-clause-cycle c = λ x.
-    let h = here c.requires c.up.invariant.walking (omega (arith, c.requires.walks)) c.set.ensures.items in
-    no_cycle_old c.number_of-next.result h.closed h.state
-    (next_parent c.args.parents.now.items c.up.at c.number_of-next.ensures c.if-next-eq0.false (omega arith))
-    (λ z. c.if-seen-start.false (c.number_of-seen.ensures
-    ∙ h.state.trace.fresh _ z (λ n. c.if-seen-ne0.true (c.number_of-seen.ensures ∙ n))))
+    let up = next_parent c.args.parents.now.items c.up.at c.number_of-next.ensures c.if-next-eq0.false (omega arith) in
+    let some = λ (z : number_at c.set.new.self.items c.number_of-next.result ≡ 0).
+    c.if-seen-ne0.true (c.number_of-seen.ensures ∙ z) in
+    record {
+      walked = walked_some h up some;
+      walks_long = c.set.ensures.len ∙ c.up.invariant.long;
+      cycle = λ x. no_cycle_old c.number_of-next.result h.closed h.state up
+          (λ z. c.if-seen-start.false (c.number_of-seen.ensures ∙ h.state.trace.fresh _ z some));
+    }
 
 pub overflow_add-steps : goal.overflow_add-steps
 overflow_add-steps c =
