@@ -9,6 +9,9 @@ use Rattle.ffs_volume.specs.Directories.{Graph.edge, Graph.is_naming_entry, Role
 use Rattle.ffs_survey.specs.Discover.{SameResult, bit, from_dirs, from_entries, is_unreached_dir, nothing, occurrences}
 use Rattle.ffs_survey.specs.{Discover.unset, Survey.bool_at, Survey.dir_at, Survey.graph_with, Survey.number_at}
 
+-- tests of numbers, and reading a list in which one element is set
+pub ruleset set_tests = (nat_tests, get_or-set_other, get_or-set_same)
+
 -- what `SameResult` says of one number: whether it is reached, its parent, how often it is queued
 abbrev pub Same : (r : Bool) (p t : ℕ) (a : Option ℕ) (r' : Bool) (p' t' : ℕ) (a' : Option ℕ) → Type 0
 Same r p t a r' p' t' a' =
@@ -93,12 +96,8 @@ pub visit_hit : {kinds : List ℕ} {r : List Bool} {p : List ℕ} {e : RoledEntr
     IsNewEntry kinds r e → e.entry.number < length r → e.entry.number < length p → c < length q →
     SameResult (from_entries kinds s (e ∷ [])) r p (take c q) nothing (set r e.entry.number true)
     (set p e.entry.number s) (take (c + 1) (set q c e.entry.number))
-visit_hit {e = e} q s c i lr lp lq = from_each (λ x.
-    let push = occurrences-push x q c e.entry.number lq in (
-      grind (arith, nat_tests, get_or-set_other, get_or-set_same),
-      grind (arith, nat_tests, get_or-set_other, get_or-set_same),
-      grind (arith, nat_tests, get_or-set_other, get_or-set_same),
-    ))
+visit_hit {e = e} q s c i lr lp lq = from_each (λ x. let push = occurrences-push x q c e.entry.number lq in
+    (grind (arith, set_tests), grind (arith, set_tests), grind (arith, set_tests)))
 
 -- an entry that discovers nothing
 pub visit_miss : {r : List Bool} {p q : List ℕ} (kinds : List ℕ) (s : ℕ) (e : RoledEntry) →

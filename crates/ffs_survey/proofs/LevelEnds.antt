@@ -7,7 +7,7 @@ use Rattle.ffs_volume.proofs.LevelLaws.{within-zero, within-grows, level-is, lev
 use Rattle.ffs_volume.specs.Directories.Graph.{Graph, within, level, parent, reached}
 use Rattle.ffs_volume.proofs.{ClimbLaws.is_value-from, ClimbLaws.is_value-true, Graphs.IsSane, LevelLaws.parent-root}
 use Rattle.ffs_volume.{proofs.LevelLaws.reached-level, specs.Directories.Climb.is_value}
-use Rattle.ffs_survey.proofs.Discovered.{same_result-to, same_result-refl}
+use Rattle.ffs_survey.proofs.Discovered.{same_result-to, same_result-refl, set_tests}
 use Rattle.ffs_survey.proofs.Frontiers.{both_imply, occurrences-nil, within-bound, next_level}
 use Rattle.ffs_survey.specs.Discover.{bit, occurrences, IsFrontier, LevelsKnown, from_dirs, nothing}
 use Rattle.ffs_survey.specs.Survey.{bool_at, number_at}
@@ -34,12 +34,9 @@ pub levels_start : (v : Graph) (r : List Bool) (p : List ℕ) → 2 < length r �
     ((x : ℕ) → bool_at r x ≡ false) → ((x : ℕ) → number_at p x ≡ 0) →
     LevelsKnown v 0 (set r 2 true) (set p 2 2) (2 ∷ [])
 levels_start v r p lr lp clear blank = record {
-  reaches = λ x. let z = within-zero v x in let c = clear x in
-      grind (arith, nat_tests, get_or-set_other, get_or-set_same);
-  parent = λ x. let z = within-zero v x in let b = blank x in let root = parent-root v in
-      grind (arith, nat_tests, get_or-set_other, get_or-set_same);
-  queued = λ x. let o = occurrences-single x 2 in let c = clear x in
-      grind (arith, nat_tests, get_or-set_other, get_or-set_same);
+  reaches = λ x. let z = within-zero v x in let c = clear x in grind (arith, set_tests);
+  parent = λ x. let z = within-zero v x in let b = blank x in let up = parent-root v in grind (arith, set_tests);
+  queued = λ x. let o = occurrences-single x 2 in let c = clear x in grind (arith, set_tests);
 }
 
 pub frontier_start : {v : Graph} → IsSane v → IsFrontier v 0 (2 ∷ [])

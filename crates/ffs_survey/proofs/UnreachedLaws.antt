@@ -60,9 +60,8 @@ unfolding counted_by
 read_on {f = f} {f'' = f''} {m = m} {m'' = m''} {p = p} {p' = p'} {p'' = p''} kinds entries r s unreached blank i c u =
     subst (λ n. IsRead g kinds r n f m p f'' m'' p'') one (record {
       counts = λ x l.
-          let d = cond-true (not (bool_at r s)) (counted_in g s x) 0 unmarked in
-          let e = cond-true (dir_at kinds s) (count_in (entries s) x) 0 dir in
-          omega (arith, i.counts x l, c.counts x l, d, e);
+          let one : cond (not (bool_at r s)) (counted_in g s x) 0 ≡ count_in (entries s) x = grind arith in
+          omega (arith, i.counts x l, c.counts x l, one);
       names = λ x l. names_more (bool_at m x) _ (bool_at m'' x) _ (any_in (entries s) x) _ (i.names x l) (c.names x l)
           (share x)
           ∙ ap (λ b. bool_at m x || b) (sym (some_below-suc (λ t. not (bool_at r t) && is_naming_dir g t x) s));
@@ -80,14 +79,8 @@ read_on {f = f} {f'' = f''} {m = m} {m'' = m''} {p = p} {p' = p'} {p'' = p''} ki
     one : suc s ≡ s + 1
     one = omega arith
 
-    dir : dir_at kinds s ≡ true
-    dir = (and_parts (dir_at kinds s) (not (bool_at r s)) unreached).0
-
-    unmarked : not (bool_at r s) ≡ true
-    unmarked = (and_parts (dir_at kinds s) (not (bool_at r s)) unreached).1
-
     share : (x : ℕ) → any_in (entries s) x ≡ (not (bool_at r s) && is_naming_dir g s x)
-    share x = rw (unmarked, dir) refl
+    share x = grind arith
 
 no_share : (d b : Bool) (c : ℕ) → (d && not b) ≡ false → cond (not b) (cond d c 0) 0 ≡ 0
 no_share d b c h = grind arith
@@ -125,10 +118,7 @@ read_skip {f = f} {f' = f'} {m = m} {m' = m'} {p = p} {p' = p'} kinds entries r 
 pub unreached_blank : {starts f : List ℕ} {m r : List Bool} {p : List ℕ} (kinds : List ℕ)
     (entries : ℕ → List RoledEntry) → IsReachedPart (graph_with kinds entries) starts f m r p →
     (x : ℕ) → is_unreached_dir kinds r x ≡ true → number_at p x ≡ 0
-unreached_blank {r = r} kinds entries i x h =
-    let g = graph_with kinds entries in
-    let off : bool_at r x ≡ false = not-true _ (and_parts (dir_at kinds x) (not (bool_at r x)) h).1 in
-    i.parent x ∙ ap (λ o. unwrap_or o 0) (cond-false (is_some (level g x)) (parent g x) None (sym (i.reaches x) ∙ off))
+unreached_blank kinds entries i x h = let a = i.parent x in let b = i.reaches x in grind arith
 
 -- a reached directory has no edge to an unreached one
 unreached_edges : (kinds : List ℕ) (entries : ℕ → List RoledEntry) (r : List Bool) (x s : ℕ) → s < length kinds →

@@ -20,11 +20,10 @@ is_lost {d = d} t dir other off alive = record {
 pub returns-in_default : goal.returns-in_default
 returns-in_default c = λ v n t.
     let found = c.args.found.now in
-    sym (unref_is {suspect = suspect_at found.kinds.now found.marked.now} found.whole.parents_long t
+    let unref = unref_is {suspect = suspect_at found.kinds.now found.marked.now} found.whole.parents_long t
     (is_lost {d = c.args.dir} t (sym c.is_dir.ensures ∙ c.if-not-is_dir.false) c.if-dir-eq-ROOTINO.false
-    c.if-found-dir.false (sym (c.is_dead.ensures.graph v n) ∙ c.if-is_dead.false))
-    ∙ ap (λ b. b || is_leader_within (parent_in found.parents.now.items) (length found.parents.now.items) c.args.dir)
-    (cond-true _ true _ (eq-eqb _ 0 c.in_default.ensures)))
+    c.if-found-dir.false (sym (c.is_dead.ensures.graph v n) ∙ c.if-is_dead.false)) in
+    sym (rw c.in_default.ensures at unref)
 
 pub returns-then-parent-found : goal.returns-then-parent-found
 returns-then-parent-found c = λ v n t. absurd (omega (arith, parent-below c.args.dir t, c.in-Some.ensures.0))
@@ -32,12 +31,9 @@ returns-then-parent-found c = λ v n t. absurd (omega (arith, parent-below c.arg
 pub returns : goal.returns
 returns c = λ v n t.
     let found = c.args.found.now in
-    let suspect = suspect_at found.kinds.now found.marked.now in
-    found.whole.cycles c.args.dir
-    ∙ sym (unref_is {suspect = suspect} found.whole.parents_long t
+    let unref = unref_is {suspect = suspect_at found.kinds.now found.marked.now} found.whole.parents_long t
     (is_lost {d = c.args.dir} t (sym c.is_dir.ensures ∙ c.if-not-is_dir.false) c.if-dir-eq-ROOTINO.false
-    c.if-found-dir.false (sym (c.is_dead.ensures.graph v n) ∙ c.if-is_dead.false))
-    ∙ ap (λ b. b || is_leader_within (parent_in found.parents.now.items) (length found.parents.now.items) c.args.dir)
-    (cond-false _ true _ (ne_eqb _ 0 (λ z. c.in-Some.ensures.1 (c.in-Some.ensures.0 ∙ z)))
-    ∙ ap (λ a. is_dead_in v suspect a) (sym c.in-Some.ensures.0)
-    ∙ (sym (c.is_dead-2.ensures.graph v n) ∙ c.if-is_dead-2.false)))
+    c.if-found-dir.false (sym (c.is_dead.ensures.graph v n) ∙ c.if-is_dead.false)) in
+    let some = ne_eqb c.in-Some.parent 0 c.in-Some.ensures.1 in
+    let alive = sym (c.is_dead-2.ensures.graph v n) ∙ c.if-is_dead-2.false in
+    found.whole.cycles c.args.dir ∙ sym (rw (← c.in-Some.ensures.0, some, alive) at unref)
