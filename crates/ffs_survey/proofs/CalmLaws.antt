@@ -48,15 +48,11 @@ pub record Stays (r : List Bool) (p : List ℕ) (r' : List Bool) (p' : List ℕ)
   pub reached : (x : ℕ) → bool_at r x ≡ true → bool_at r' x ≡ true
   pub parents : (x : ℕ) → bool_at r x ≡ true → number_at p' x ≡ number_at p x
 
-stays_at : (r r' : Bool) (a : Option ℕ) (p p' t t' : ℕ) → Same r p t a r' p' t' None → r ≡ true →
-    (r' ≡ true) × (p' ≡ p)
-stays_at r r' a p p' t t' c h = (grind arith, grind arith)
-
 pub same_result_stays : {a : ℕ → Option ℕ} {r r' : List Bool} {p p' q q' : List ℕ} →
     SameResult a r p q nothing r' p' q' → Stays r p r' p'
-same_result_stays {a = a} {r = r} {r' = r'} c = record {
-  reached = λ x h. (stays_at (bool_at r x) (bool_at r' x) (a x) _ _ _ _ (of_each c x) h).0;
-  parents = λ x h. (stays_at (bool_at r x) (bool_at r' x) (a x) _ _ _ _ (of_each c x) h).1;
+same_result_stays c = record {
+  reached = λ x h. let now = c.reaches x in grind arith;
+  parents = λ x h. let now = c.reaches x in let up = c.parent x in grind arith;
 }
 
 calm_stays : {kinds : List ℕ} {m r r' : List Bool} {p p' : List ℕ} {es : List RoledEntry} {right_shape : Bool} {d : ℕ} →
@@ -75,15 +71,11 @@ abbrev pub all_calm : List ℕ → List Bool → List Bool → List ℕ → ℕ 
 all_calm kinds m r p d es =
     are_calm (record { kinds = kinds; marked = m; dir = d; parent = number_at p d }) (bool_at r) 0 es
 
-found_at : (r r' b c : Bool) (s p p' t t' : ℕ) → Same r p t (cond (b && c) (Some s) None) r' p' t' None → r ≡ false →
-    b ≡ true → c ≡ true → (r' ≡ true) × (p' ≡ s)
-found_at r r' b c s p p' t t' h n e f = (grind arith, grind arith)
-
 -- a directory is calm once it is read, by its entries and its shape
 calm_found : {kinds : List ℕ} {r r' : List Bool} {p p' q q' : List ℕ} {right_shape : Bool} (m : List Bool) (d : ℕ)
     (es : List RoledEntry) → SameResult (from_entries kinds d es) r p q nothing r' p' q' → bool_at r d ≡ true →
     all_calm kinds m r p d es ≡ true → right_shape ≡ true → IsCalm kinds m r' p' es right_shape d
-calm_found {kinds = kinds} {r = r} {r' = r'} {p = p} m d es c h calm right =
+calm_found {kinds = kinds} {r = r} {p = p} m d es c h calm right =
     let s = same_result_stays c in
     record {
       before = bool_at r;
@@ -91,9 +83,12 @@ calm_found {kinds = kinds} {r = r} {r' = r'} {p = p} m d es c h calm right =
       entries_right = rw (s.parents d h) calm;
       shape_right = right;
       is_reached = s.reached d h;
-      below = λ x dir n. found_at (bool_at r x) (bool_at r' x) (dir_at kinds x) (list_any (is_naming_entry x) es) d
-          _ _ _ _ (of_each c x) (calm_new (record { kinds = kinds; marked = m; dir = d; parent = number_at p d })
-          (bool_at r) 0 x es calm dir n) dir n;
+      below = λ x dir n.
+          let new = calm_new (record { kinds = kinds; marked = m; dir = d; parent = number_at p d }) (bool_at r) 0 x es
+          calm dir n in
+          let now = c.reaches x in
+          let up = c.parent x in
+          (grind arith, grind arith);
     }
 
 -- no entry is left
@@ -133,10 +128,6 @@ calm_read {kinds = kinds} {m = m} {r' = r'} {p' = p'} entries right_shape d f f'
           (calm_found m d (entries d) c h calm.0 calm.1)
     ]
 
-reached_by_entry : (r r' d n : Bool) (s : ℕ) →
-    (r' || is_some (nothing 0)) ≡ (r || is_some (cond (d && (n || false)) (Some s) None)) → r' ≡ (r || (d && n))
-reached_by_entry r r' d n s h = grind arith
-
 -- the step of the loop over a directory
 pub calm_step : {r r' : List Bool} {p p' q q' : List ℕ} {calm_so_far' total : Bool} (s : CurrentDir) (i : ℕ)
     (e : RoledEntry) (es : List RoledEntry) (calm_so_far : Bool) →
@@ -145,8 +136,7 @@ pub calm_step : {r r' : List Bool} {p p' q q' : List ℕ} {calm_so_far' total : 
     (calm_so_far && are_calm s (bool_at r) i (e ∷ es)) ≡ total →
     (calm_so_far' && are_calm s (bool_at r') (i + 1) es) ≡ total
 calm_step {r = r} {r' = r'} {calm_so_far' = calm_so_far'} s i e es calm_so_far c step old =
-    let same : bool_at r' ≡ reached_after s.kinds (bool_at r) e = fun_ext (λ x.
-    reached_by_entry (bool_at r x) (bool_at r' x) (dir_at s.kinds x) (is_naming_entry x e) s.dir (c.reaches x)) in
+    let same : bool_at r' ≡ reached_after s.kinds (bool_at r) e = fun_ext (λ x. let now = c.reaches x in grind arith) in
     let next : i + 1 ≡ suc i = omega arith in
     let after = ap (λ z. are_calm s z (i + 1) es) same
     ∙ ap (λ n. are_calm s (reached_after s.kinds (bool_at r) e) n es) next in

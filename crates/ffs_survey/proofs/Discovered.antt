@@ -44,15 +44,10 @@ pub same_result-to : {g h k : ℕ → Option ℕ} {r r' : List Bool} {p p' q q' 
     SameResult g r p q h r' p' q' → SameResult g r p q k r' p' q'
 same_result-to e c = from_each (λ x. rw (e x) at (of_each c x))
 
-then_same : (r r' : Bool) (a b : Option ℕ) (p p' t t' : ℕ) → Same r p t a r' p' t' None →
-    Same r p t (option_or a b) r' p' t' b
-then_same r r' a b p p' t t' h = (grind arith, grind arith, grind arith)
-
 -- a is done, and then b is to go
 same_result-then : {g a b : ℕ → Option ℕ} {r r' : List Bool} {p p' q q' : List ℕ} →
     ((x : ℕ) → g x ≡ option_or (a x) (b x)) → SameResult a r p q nothing r' p' q' → SameResult g r p q b r' p' q'
-same_result-then {a = a} {b = b} {r = r} {r' = r'} e c =
-    from_each (λ x. rw (e x) (then_same (bool_at r x) (bool_at r' x) (a x) (b x) _ _ _ _ (of_each c x)))
+same_result-then e c = from_each (λ x. let is = e x in let now = of_each c x in (grind arith, grind arith, grind arith))
 
 -- ---- one entry
 pub bit-le : (b : Bool) → bit b ≤ 1

@@ -184,14 +184,6 @@ pub record IsNext (v : Graph) (k : ℕ) (r' : List Bool) (p' q' : List ℕ) : Ty
   pub parent : (x : ℕ) → number_at p' x ≡ unwrap_or (parent_at v k x) 0
   pub members : (x : ℕ) → occurrences x q' ≡ bit (is_value (level v x) k)
 
--- the same of one number, by whether it was within reach (w) and then is (w'), by what gives it a
--- parent (o), and by its parent (up)
-next_at : (r r' w w' l : Bool) (p p' t t' : ℕ) (a o up : Option ℕ) → Same r p t a r' p' t' None → t ≡ 0 → r ≡ w →
-    a ≡ o → w' ≡ (w || is_some o) → l ≡ (w' && not w) → p ≡ unwrap_or (cond w up None) 0 →
-    (w ≡ false → is_some o ≡ true → up ≡ o) →
-    (r' ≡ w') × (p' ≡ unwrap_or (cond w' up None) 0) × (t' ≡ bit l)
-next_at r r' w w' l p p' t t' a o up c z n f e k u h = (grind arith, grind arith, grind arith)
-
 -- the step from level k to the next
 pub next_level : {v : Graph} {k : ℕ} {xs : List ℕ} {r r' : List Bool} {p p' q q' : List ℕ} → IsSane v →
     IsFrontier v k xs → LevelsKnown v k r p q → SameResult (from_dirs v xs) r p [] nothing r' p' q' →
@@ -201,22 +193,21 @@ next_level {v = v} {k = k} {xs = xs} {r = r} {r' = r'} {p = p} {p' = p'} {q' = q
   where
     at : (x : ℕ) → (bool_at r' x ≡ within v (suc k) x) × (number_at p' x ≡ unwrap_or (parent_at v (suc k) x) 0)
         × (occurrences x q' ≡ bit (is_value (level v x) (suc k)))
-    at x = next_at (bool_at r x) (bool_at r' x) (within v k x) (within v (suc k) x) (is_value (level v x) (suc k))
-        (number_at p x) (number_at p' x) (occurrences x []) (occurrences x q') (from_dirs v xs x)
-        (first_below (level_edge v k x) v.count) (parent v x) (of_each c x) (occurrences-nil x) (n.reaches x)
-        (frontier_first v k x xs sane f) (within-level v k x) (is_level-suc v k x sane) (n.parent x)
-        (parent-new v k x sane)
-
-queue_more : (r r' : Bool) (p p' t t' z : ℕ) (a : Option ℕ) → Same r p z a r' p' t' None → z ≡ 0 → t ≡ bit r →
-    t + t' ≡ bit r'
-queue_more r r' p p' t t' z a c n h = grind arith
+    at x =
+        let now = of_each c x in let none = occurrences-nil x in
+        let was = n.reaches x in let was_up = n.parent x in
+        let gives = frontier_first v k x xs sane f in
+        let within_next = within-level v k x in let at_next = is_level-suc v k x sane in
+        let new = parent-new v k x sane in
+        (grind arith, grind arith, grind arith)
 
 -- the queue with what is discovered holds each that is marked once
 pub queue_grows : {a : ℕ → Option ℕ} {r r' : List Bool} {p p' q' : List ℕ} (q : List ℕ) →
     ((x : ℕ) → occurrences x q ≡ bit (bool_at r x)) → SameResult a r p [] nothing r' p' q' →
     (x : ℕ) → occurrences x (q ++ q') ≡ bit (bool_at r' x)
-queue_grows {a = a} {r = r} {r' = r'} {q' = q'} q h c x = occurrences-append x q q'
-    ∙ queue_more (bool_at r x) (bool_at r' x) _ _ _ _ _ (a x) (of_each c x) (occurrences-nil x) (h x)
+queue_grows {q' = q'} q h c x =
+    let parts = occurrences-append x q q' in let now = of_each c x in let none = occurrences-nil x in let was = h x in
+    grind arith
 
 -- ---- the directories of a level
 pub frontier_within : {v : Graph} {k : ℕ} {xs : List ℕ} → IsFrontier v k xs → (i d : ℕ) → i < length xs →

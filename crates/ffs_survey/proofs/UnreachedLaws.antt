@@ -44,9 +44,6 @@ unfolding first_below
 first_step p s o q q' a z k e h w = parent_next (first_below p s) a (p s) s o q q'
     (λ y. both_ways (p 0) z (first_below-some p s 0 y).passes) k e h w
 
-names_more : (m m' m'' p a q : Bool) → m' ≡ (m || p) → (m'' || false) ≡ (m' || a) → a ≡ q → m'' ≡ (m || (p || q))
-names_more m m' m'' p a q h k e = grind arith
-
 -- a directory without a mark is read
 pub read_on : {f f' f'' : List ℕ} {m m' m'' : List Bool} {p p' p'' : List ℕ} (kinds : List ℕ)
     (entries : ℕ → List RoledEntry) (r : List Bool) (s : ℕ) → is_unreached_dir kinds r s ≡ true →
@@ -62,9 +59,10 @@ read_on {f = f} {f'' = f''} {m = m} {m'' = m''} {p = p} {p' = p'} {p'' = p''} ki
       counts = λ x l.
           let one : cond (not (bool_at r s)) (counted_in g s x) 0 ≡ count_in (entries s) x = grind arith in
           omega (arith, i.counts x l, c.counts x l, one);
-      names = λ x l. names_more (bool_at m x) _ (bool_at m'' x) _ (any_in (entries s) x) _ (i.names x l) (c.names x l)
-          (share x)
-          ∙ ap (λ b. bool_at m x || b) (sym (some_below-suc (λ t. not (bool_at r t) && is_naming_dir g t x) s));
+      names = λ x l.
+          let old = i.names x l in let new = c.names x l in let one = share x in
+          let more = some_below-suc (λ t. not (bool_at r t) && is_naming_dir g t x) s in
+          grind arith;
       parent = λ x l.
           first_step (is_unreached_edge g kinds r x) s (number_at p x) (number_at p' x) (number_at p'' x)
           (is_unreached_dir kinds r x && any_in (entries s) x)
