@@ -105,14 +105,11 @@ any_all g r q n x h past = both_imply (any_of g q x) (some_below (λ s. r s && i
     any-from (λ s. is_naming_dir g s x) q w.0 (omega (arith, h w.0, ap bit p.0)) p.1)
 
 -- the two parts of a whole
-two_parts : (b : Bool) (c : ℕ) → cond b c 0 + cond (not b) c 0 ≡ c
-two_parts b c = grind arith
-
 pub counted_both : (r : ℕ → Bool) (g : Graph) (x n : ℕ) → counted_by r g x n + counted_by (λ s. not (r s)) g x n
     ≡ counted_below g x n
 unfolding counted_by counted_below
 counted_both r g x zero = refl
-counted_both r g x (suc n) = omega (arith, counted_both r g x n, two_parts (r n) (counted_in g n x))
+counted_both r g x (suc n) = let h = counted_both r g x n in grind arith
 
 pub some_both : (r p : ℕ → Bool) (n : ℕ) → (some_below (λ s. r s && p s) n || some_below (λ s. not (r s) && p s) n)
     ≡ some_below p n

@@ -80,9 +80,6 @@ read_on {f = f} {f'' = f''} {m = m} {m'' = m''} {p = p} {p' = p'} {p'' = p''} ki
     share : (x : ℕ) → any_in (entries s) x ≡ (not (bool_at r s) && is_naming_dir g s x)
     share x = grind arith
 
-no_share : (d b : Bool) (c : ℕ) → (d && not b) ≡ false → cond (not b) (cond d c 0) 0 ≡ 0
-no_share d b c h = grind arith
-
 still_first : (o : Option ℕ) (b : Bool) (s : ℕ) → b ≡ false → earliest o b s ≡ o
 unfolding earliest
 still_first o b s h = grind arith
@@ -96,7 +93,8 @@ unfolding counted_by first_below
 read_skip {f = f} {f' = f'} {m = m} {m' = m'} {p = p} {p' = p'} kinds entries r s taken i =
     subst (λ n. IsRead g kinds r n f m p f' m' p') one (record {
       counts = λ x l.
-          omega (arith, i.counts x l, no_share (dir_at kinds s) (bool_at r s) (count_in (entries s) x) taken);
+          let none : cond (not (bool_at r s)) (counted_in g s x) 0 ≡ 0 = grind arith in
+          omega (arith, i.counts x l, none);
       names = λ x l. i.names x l ∙ ap (λ o. bool_at m x || is_some o) (sym (still_first
           (first_below (λ t. not (bool_at r t) && is_naming_dir g t x) s) _ s (unnamed x)));
       parent = λ x l. i.parent x l ∙ ap (λ o. unwrap_or o (number_at p x)) (sym (still_first

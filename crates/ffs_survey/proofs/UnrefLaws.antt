@@ -2,6 +2,7 @@
 use Rattle.std.proofs.Common.{◌≡◌, ◌≢◌, ℕ, zero, suc, ◌<◌, ◌==◌, Bool, true, false, cond, ◌&&◌, ◌||◌, List, length}
 use Rattle.std.proofs.Common.{Option, None, Some, unwrap_or, refl, arith, sym, ◌∙◌, ap, subst, inl, inr, ◌⊎◌}
 use Rattle.std.proofs.lemmas.Bool.{cases_eq, and_parts, both_ways, cond-true, cond-false, eq-eqb, ne_eqb}
+use Rattle.std.proofs.lemmas.Bool.Decides.{nat_tests}
 use mathlib.Core.Path.{fun_ext}
 use Rattle.ffs_volume.proofs.Unreached.{edge-parts, IsLost, lost-from}
 use Rattle.ffs_volume.specs.Directories.Graph.{Graph, edge, parent, parent_by, level, is_dead_in, none_or_dead}
@@ -56,19 +57,12 @@ holds v p d sane z h = go (parent v d) refl
         inr (e ∙ ap Some q, subst (IsParent v) q (parent-some v d s sane z e))
 
 up_is_parent : (v : Graph) (p : List ℕ) (x : ℕ) → length p ≡ v.count → Holds v p x → parent_in p x ≡ parent v x
-up_is_parent v p x l h = elim h [
-  | inl none ↦ parent_in-none p x (inl none.1) ∙ sym none.0
-  | inr some ↦ parent_in-some p x some.1.some (omega (arith, l, some.1.below)) ∙ sym some.0
-]
+up_is_parent v p x l h = grind (arith, nat_tests)
 
 -- the test on the parent, as the code makes it
 none_or_dead_is : (v : Graph) (suspect : ℕ → Bool) (p : List ℕ) (d : ℕ) → Holds v p d →
     none_or_dead v suspect (parent v d) ≡ cond (number_at p d == 0) true (is_dead_in v suspect (number_at p d))
-none_or_dead_is v suspect p d h = elim h [
-  | inl none ↦ ap (none_or_dead v suspect) none.0 ∙ sym (cond-true (number_at p d == 0) true _ (eq-eqb _ 0 none.1))
-  | inr some ↦ ap (none_or_dead v suspect) some.0
-      ∙ sym (cond-false (number_at p d == 0) true _ (ne_eqb _ 0 some.1.some))
-]
+none_or_dead_is v suspect p d h = grind (arith, nat_tests)
 
 -- what is kept, with a parent list of full length
 tree-sane : {v : Graph} {kinds : List ℕ} {r : List Bool} {p : List ℕ} → IsTree v kinds r p → IsSane v
