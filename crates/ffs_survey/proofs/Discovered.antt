@@ -82,9 +82,7 @@ pub record IsNewEntry (kinds : List ℕ) (r : List Bool) (e : RoledEntry) : Type
 pub new_entry : (kinds : List ℕ) (r : List Bool) (e : RoledEntry) →
     (is_plain e.role && is_unreached_dir kinds r e.entry.number) ≡ true → IsNewEntry kinds r e
 new_entry kinds r e h =
-    let a = and_parts (is_plain e.role) _ h in
-    let b = and_parts (dir_at kinds e.entry.number) _ a.1 in
-    record { plain = a.0; dir = b.0; unmarked = not-true _ b.1; below = dir_below kinds e.entry.number b.0 }
+    record { plain = grind arith; dir = grind arith; unmarked = grind arith; below = dir_below kinds _ (grind arith) }
 
 -- what one entry discovers
 pub visit_hit : {kinds : List ℕ} {r : List Bool} {p : List ℕ} {e : RoledEntry} (q : List ℕ) (s c : ℕ) →

@@ -33,16 +33,12 @@ read_start {f = f} {m = m} = record {
 }
 
 -- the first parent, one directory further
-parent_next : (t : Option ℕ) (a b : Bool) (s o q q' : ℕ) → (t ≡ Some 0 → ⊥) → (a ≡ true → o ≡ 0) → b ≡ a →
-    q ≡ unwrap_or t o → q' ≡ cond ((q == 0) && a) s q → q' ≡ unwrap_or (earliest t b s) o
-unfolding earliest
-parent_next t a b s o q q' z k e h w = grind (arith, nat_tests)
-
 first_step : (p : ℕ → Bool) (s o q q' : ℕ) (a : Bool) → p 0 ≡ false → (a ≡ true → o ≡ 0) → p s ≡ a →
     q ≡ unwrap_or (first_below p s) o → q' ≡ cond ((q == 0) && a) s q → q' ≡ unwrap_or (first_below p (suc s)) o
 unfolding first_below
-first_step p s o q q' a z k e h w = parent_next (first_below p s) a (p s) s o q q'
-    (λ y. both_ways (p 0) z (first_below-some p s 0 y).passes) k e h w
+first_step p s o q q' a z k e h w =
+    let some : first_below p s ≡ Some 0 → ⊥ = λ y. both_ways (p 0) z (first_below-some p s 0 y).passes in
+    grind (arith, nat_tests)
 
 -- a directory without a mark is read
 pub read_on : {f f' f'' : List ℕ} {m m' m'' : List Bool} {p p' p'' : List ℕ} (kinds : List ℕ)

@@ -1,5 +1,6 @@
 use Rattle.std.proofs.Common.{◌≡◌, ◌≢◌, ℕ, suc, ◌+◌, ◌<◌, ◌≤◌, List, length, arith, sym, ◌∙◌, subst, set, None, Some}
 use Rattle.std.proofs.Common.{◌⊎◌, ap, refl, inl, inr}
+use Rattle.std.proofs.lemmas.Bool.Decides.{nat_tests}
 use Rattle.ffs_volume.specs.Directories.Climb.{IsOnCycle}
 use Rattle.ffs_survey.specs.{Survey.number_at, Cycles.parent_in, Cycles.unmet, Cycles.CanFollow, Cycles.IsMet}
 use Rattle.ffs_survey.specs.Cycles.{IsClosed, Walked}
@@ -39,8 +40,7 @@ walked_none {parent = parent} {start = start} {at = at} h z =
 
 pub next_parent : (parent : List ℕ) (at : ℕ) {next : ℕ} → next ≡ number_at parent at → next ≢ 0 → next < length parent →
     parent_in parent at ≡ Some next
-next_parent parent at is n b =
-    parent_in-some parent at (λ z. n (is ∙ z)) (omega (arith, is, b)) ∙ ap Some (sym is)
+next_parent parent at is n b = grind (arith, nat_tests)
 
 pub walked_some : {parent : List ℕ} {start steps at next : ℕ} {old now : List ℕ} → Here parent start steps at old now →
     parent_in parent at ≡ Some next → number_at now next ≢ 0 → Walked (parent_in parent) start (start + 1) old now
