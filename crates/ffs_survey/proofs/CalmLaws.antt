@@ -1,6 +1,6 @@
 -- Directories that are called calm are calm, and stay so.
-use Rattle.std.proofs.Common.{◌≡◌, ℕ, suc, ◌+◌, ◌<◌, ◌==◌, Bool, true, false, cond, ◌&&◌, ◌||◌, nat_le, nat_lt, List}
-use Rattle.std.proofs.Common.{[], ◌∷◌, length, Option, None, Some, is_some, unwrap_or, arith, sym, ◌∙◌, ap, subst, inl}
+use Rattle.std.proofs.Common.{◌≡◌, ℕ, suc, ◌+◌, ◌<◌, ◌==◌, Bool, true, false, ◌&&◌, nat_le, nat_lt, List}
+use Rattle.std.proofs.Common.{[], ◌∷◌, length, Option, unwrap_or, arith, sym, ◌∙◌, ap, subst, inl}
 use Rattle.std.proofs.lemmas.Bool.{not_from_true, both_ways, eqb-true, and_parts, and_left, and_right, or_cases}
 use Rattle.std.proofs.{Common.get_or, Common.inr, lemmas.Bool.Decides.nat_tests, lemmas.Bool.or_parts}
 use Rattle.std.{proofs.lemmas.List.get_or_past, specs.List.list_any}
@@ -11,7 +11,7 @@ use Rattle.ffs_volume.specs.declared.Role.TheVariants.{Empty, Dot, Dotdot, Extra
 use Rattle.ffs_volume.{proofs.SearchLaws.first_below-is_none, specs.declared.Role.Role}
 use Rattle.ffs_survey.specs.Calm.{CurrentDir, is_calm_plain, is_calm_role, is_calm_entry, reached_after, are_calm}
 use Rattle.ffs_survey.specs.Discover.{from_entries, nothing, SameResult, IsFrontier, LevelsKnown, is_unreached_dir}
-use Rattle.ffs_survey.proofs.{Discovered.Same, Discovered.of_each, Discovered.same_result-to, Frontiers.frontier_within}
+use Rattle.ffs_survey.proofs.{Discovered.same_result-to, Frontiers.frontier_within}
 use Rattle.ffs_survey.specs.{Calm.AreCalm, Calm.IsCalm, Calm.IsFlagged, Discover.IsRead, Discover.is_unreached_edge}
 use Rattle.ffs_survey.specs.Survey.{bool_at, dir_at, number_at}
 

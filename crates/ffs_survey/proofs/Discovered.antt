@@ -2,10 +2,10 @@
 use Rattle.std.proofs.Common.{◌≡◌, ℕ, ◌+◌, ◌<◌, ◌≤◌, ◌==◌, Bool, true, false, not, cond, ◌&&◌, ◌||◌, List, [], ◌∷◌}
 use Rattle.std.proofs.Common.{length, Option, None, Some, is_some, unwrap_or, refl, arith, sym, ◌∙◌, ap, set, take}
 use Rattle.std.proofs.Common.{drop, get_or, get_or-set_same, get_or-set_other, sum_by}
-use Rattle.std.proofs.lemmas.{Bool.Decides.nat_tests, Bool.and_parts, Bool.not-true, List.Sums.sum_by-le}
+use Rattle.std.proofs.lemmas.{Bool.Decides.nat_tests, List.Sums.sum_by-le}
 use Rattle.std.proofs.lemmas.List.{Sums.sum_by-set, Sums.sum_by_push, at_drop_more, get_or_past, take_more_set}
-use Rattle.std.specs.{List.list_any, Option.option_or}
-use Rattle.ffs_volume.specs.Directories.{Graph.edge, Graph.is_naming_entry, Roles.RoledEntry, Roles.is_plain}
+use Rattle.std.specs.{Option.option_or}
+use Rattle.ffs_volume.specs.Directories.{Graph.edge, Roles.RoledEntry, Roles.is_plain}
 use Rattle.ffs_survey.specs.Discover.{SameResult, bit, from_dirs, from_entries, is_unreached_dir, nothing, occurrences}
 use Rattle.ffs_survey.specs.{Discover.unset, Survey.bool_at, Survey.dir_at, Survey.graph_with, Survey.number_at}
 

@@ -1,6 +1,6 @@
 -- One level after another.
 use Rattle.std.proofs.Common.{◌≡◌, ℕ, zero, suc, ◌+◌, ◌<◌, ◌≤◌, ◌==◌, Bool, true, false, not, cond, ◌&&◌, ◌||◌, List}
-use Rattle.std.proofs.Common.{[], ◌∷◌, ◌++◌, length, Option, None, Some, is_some, unwrap_or, find, refl, arith, sym}
+use Rattle.std.proofs.Common.{[], ◌∷◌, ◌++◌, length, Option, None, Some, unwrap_or, find, refl, arith, sym}
 use Rattle.std.proofs.Common.{◌∙◌, ap, subst, inl, inr, get_or, ◌⊎◌, IsPermutation}
 use Rattle.std.proofs.lemmas.Bool.{both_ways, cases_lt, eqb-true, eq-eqb, ne_eqb, and_parts, and_from, or_cases}
 use Rattle.std.proofs.lemmas.Bool.{or_left, or_right, not-true, not_from_false, cond-false}
@@ -13,7 +13,7 @@ use Rattle.ffs_volume.proofs.{ClimbLaws.is_value-from, ClimbLaws.is_value-true, 
 use Rattle.ffs_volume.{proofs.Unreached.edge-parts, specs.Directories.Climb.is_value}
 use Rattle.ffs_volume.specs.{Directories.Roles.RoledEntry, Disk.Search.first_below, Disk.Search.some_below}
 use Rattle.ffs_survey.specs.Discover.{bit, occurrences, from_dirs, nothing, SameResult, Rising, IsFrontier, parent_at}
-use Rattle.ffs_survey.proofs.Discovered.{Same, dir_below, of_each}
+use Rattle.ffs_survey.proofs.Discovered.{dir_below, of_each}
 use Rattle.ffs_survey.specs.{Discover.LevelsKnown, Survey.bool_at, Survey.graph_with, Survey.number_at}
 
 -- ---- occurrences in a list

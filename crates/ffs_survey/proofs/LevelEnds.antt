@@ -1,10 +1,10 @@
 -- How the levels begin and end.
-use Rattle.std.proofs.Common.{◌≡◌, ℕ, ◌<◌, ◌==◌, Bool, true, false, cond, List, [], ◌∷◌, length, None, is_some}
-use Rattle.std.proofs.Common.{unwrap_or, refl, arith, sym, ◌∙◌, ap, set, take, get_or-set_same, get_or-set_other}
-use Rattle.std.proofs.{Common.add-zero, Common.inl, Common.inr, lemmas.Bool.Decides.nat_tests, lemmas.Bool.cases_lt}
+use Rattle.std.proofs.Common.{◌≡◌, ℕ, ◌<◌, ◌==◌, Bool, true, false, List, [], ◌∷◌, length}
+use Rattle.std.proofs.Common.{refl, arith, sym, ◌∙◌, ap, set, take}
+use Rattle.std.proofs.{Common.add-zero, Common.inl, Common.inr, lemmas.Bool.cases_lt}
 use Rattle.std.proofs.lemmas.{Bool.eq-eqb, Bool.eqb-true, List.Sums.sum_by-cons}
 use Rattle.ffs_volume.proofs.LevelLaws.{within-zero, within-grows, level-is, level-some, level-each, reached-from}
-use Rattle.ffs_volume.specs.Directories.Graph.{Graph, within, level, parent, reached}
+use Rattle.ffs_volume.specs.Directories.Graph.{Graph, within, level, reached}
 use Rattle.ffs_volume.proofs.{ClimbLaws.is_value-from, ClimbLaws.is_value-true, Graphs.IsSane, LevelLaws.parent-root}
 use Rattle.ffs_volume.{proofs.LevelLaws.reached-level, specs.Directories.Climb.is_value}
 use Rattle.ffs_survey.proofs.Discovered.{same_result-to, same_result-refl, set_tests}

@@ -1,8 +1,8 @@
 -- Steps of the count over entries and directories.
 use Rattle.std.proofs.Common.{◌≡◌, ℕ, ◌+◌, ◌<◌, ◌==◌, Bool, true, cond, ◌&&◌, ◌||◌, List, ◌∷◌, length, count_by, arith}
-use Rattle.std.proofs.{Common.ap, Common.drop, Common.get_or, Common.sym, Common.◌∙◌, Math.Bool.or-false}
+use Rattle.std.proofs.{Common.drop, Common.get_or}
 use Rattle.std.proofs.lemmas.{Bool.Decides.nat_tests, Bool.cond-true, List.Sums.sum_by-cons, List.at_drop_more}
-use Rattle.ffs_volume.specs.Directories.{Graph.is_naming_dir, Graph.is_naming_entry, Roles.RoledEntry, Roles.refers}
+use Rattle.ffs_volume.specs.Directories.{Graph.is_naming_entry, Roles.RoledEntry, Roles.refers}
 use Rattle.ffs_survey.proofs.Totals.{bit-times}
 use Rattle.ffs_survey.specs.Discover.{bit, Counts, count_in, any_in, count_of, any_of, none, never}
 use Rattle.ffs_survey.specs.Survey.{number_at, bool_at, counted_in, graph_with, dir_at}

@@ -1,13 +1,13 @@
 -- The directories that aren't reached are read after the others: what that adds, and that the
 -- survey is then whole.
 use Rattle.std.proofs.Common.{◌≡◌, ℕ, zero, suc, ◌+◌, ◌<◌, ◌≤◌, ◌==◌, Bool, true, false, not, cond, ◌&&◌, ◌||◌, List}
-use Rattle.std.proofs.Common.{length, Option, None, Some, is_some, unwrap_or, refl, arith, sym, ◌∙◌, ap, subst, inl}
-use Rattle.std.proofs.lemmas.Bool.{both_ways, cases_Bool, cases_lt, and_left, and_right, and_parts, cond-true}
+use Rattle.std.proofs.Common.{length, Option, Some, is_some, unwrap_or, refl, arith, sym, ◌∙◌, ap, subst, inl}
+use Rattle.std.proofs.lemmas.Bool.{both_ways, cases_Bool, cases_lt, and_left, and_right, and_parts}
 use Rattle.std.proofs.{Common.add-zero, Common.inr, Math.Bool.or-false, lemmas.Bool.Decides.nat_tests}
-use Rattle.std.proofs.lemmas.{Bool.cond-false, Bool.false_from_ne_true, Bool.not-true, List.get_or_past}
+use Rattle.std.proofs.lemmas.{Bool.false_from_ne_true, List.get_or_past}
 use Rattle.ffs_volume.proofs.LevelLaws.{reached-edge, reached-root}
 use Rattle.ffs_volume.proofs.SearchLaws.{some_below-suc, first_below-some, first_below-is_none}
-use Rattle.ffs_volume.specs.Directories.Graph.{Graph, is_naming_dir, edge, level, reached, parent}
+use Rattle.ffs_volume.specs.Directories.Graph.{Graph, is_naming_dir, edge, reached, parent}
 use Rattle.ffs_volume.specs.Disk.Search.{first_below, earliest, some_below}
 use Rattle.ffs_volume.{proofs.Graphs.IsSane, proofs.Unreached.parent-unreached, specs.Directories.Roles.RoledEntry}
 use Rattle.ffs_survey.specs.Discover.{Counts, count_in, any_in, none, never, counted_by, IsReachedPart, IsRead}

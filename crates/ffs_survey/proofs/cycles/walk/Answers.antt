@@ -4,7 +4,7 @@ use Rattle.std.proofs.lemmas.Bool.Decides.{nat_tests}
 use Rattle.ffs_volume.specs.Directories.Climb.{IsOnCycle}
 use Rattle.ffs_survey.specs.{Survey.number_at, Cycles.parent_in, Cycles.unmet, Cycles.CanFollow, Cycles.IsMet}
 use Rattle.ffs_survey.specs.Cycles.{IsClosed, Walked}
-use Rattle.ffs_survey.proofs.Walks.{parent_in-none, parent_in-some, Walking, HasPassed, has_passed, walked, walks_on}
+use Rattle.ffs_survey.proofs.Walks.{parent_in-none, Walking, HasPassed, has_passed, walked, walks_on}
 use Rattle.ffs_survey.proofs.Walks.{walk_start, no_cycle_end, no_cycle_old, finds_cycle, unmet-le, unmet-set}
 use Rattle.ffs_survey.proofs.cycles.walk.Goals as goal
 
