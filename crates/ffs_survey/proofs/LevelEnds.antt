@@ -1,8 +1,7 @@
 -- How the levels begin and end.
-use Rattle.std.proofs.Common.{◌≡◌, ℕ, ◌<◌, ◌==◌, Bool, true, false, List, [], ◌∷◌, length}
-use Rattle.std.proofs.Common.{refl, arith, sym, ◌∙◌, ap, set, take}
-use Rattle.std.proofs.{Common.add-zero, Common.inl, Common.inr, lemmas.Bool.cases_lt}
-use Rattle.std.proofs.lemmas.{Bool.eq-eqb, Bool.eqb-true, List.Sums.sum_by-cons}
+use Rattle.std.proofs.Common.{◌≡◌, ℕ, ◌<◌, ◌==◌, Bool, true, false, List, [], ◌∷◌, length, refl, arith, sym, ◌∙◌, ap}
+use Rattle.std.proofs.Common.{set, take, add-zero, inl, inr}
+use Rattle.std.proofs.lemmas.{Bool.cases_lt, Bool.eq-eqb, Bool.eqb-true, List.Sums.sum_by-cons}
 use Rattle.ffs_volume.proofs.LevelLaws.{within-zero, within-grows, level-is, level-some, level-each, reached-from}
 use Rattle.ffs_volume.specs.Directories.Graph.{Graph, within, level, reached}
 use Rattle.ffs_volume.proofs.{ClimbLaws.is_value-from, ClimbLaws.is_value-true, Graphs.IsSane, LevelLaws.parent-root}

@@ -1,10 +1,9 @@
 -- The directories that aren't reached are read after the others: what that adds, and that the
 -- survey is then whole.
 use Rattle.std.proofs.Common.{◌≡◌, ℕ, zero, suc, ◌+◌, ◌<◌, ◌≤◌, ◌==◌, Bool, true, false, not, cond, ◌&&◌, ◌||◌, List}
-use Rattle.std.proofs.Common.{length, Option, Some, is_some, unwrap_or, refl, arith, sym, ◌∙◌, ap, subst, inl}
-use Rattle.std.proofs.lemmas.Bool.{both_ways, cases_Bool, cases_lt, and_left, and_right, and_parts}
-use Rattle.std.proofs.{Common.add-zero, Common.inr, Math.Bool.or-false, lemmas.Bool.Decides.nat_tests}
-use Rattle.std.proofs.lemmas.{Bool.false_from_ne_true, List.get_or_past}
+use Rattle.std.proofs.Common.{length, Option, Some, is_some, unwrap_or, refl, arith, sym, ◌∙◌, ap, subst, inl, add-zero}
+use Rattle.std.proofs.lemmas.Bool.{both_ways, cases_Bool, cases_lt, and_left, and_right, and_parts, false_from_ne_true}
+use Rattle.std.proofs.{Common.inr, Math.Bool.or-false, lemmas.Bool.Decides.nat_tests, lemmas.List.get_or_past}
 use Rattle.ffs_volume.proofs.LevelLaws.{reached-edge, reached-root}
 use Rattle.ffs_volume.proofs.SearchLaws.{some_below-suc, first_below-some, first_below-is_none}
 use Rattle.ffs_volume.specs.Directories.Graph.{Graph, is_naming_dir, edge, reached, parent}

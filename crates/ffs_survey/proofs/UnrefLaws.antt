@@ -8,8 +8,7 @@ use Rattle.ffs_volume.proofs.Unreached.{edge-parts, IsLost, lost-from}
 use Rattle.ffs_volume.specs.Directories.Graph.{Graph, edge, parent, parent_by, level, is_dead_in, none_or_dead}
 use Rattle.ffs_volume.proofs.{Graphs.IsSane, SearchLaws.first_below-some}
 use Rattle.ffs_volume.specs.Directories.{Climb.is_leader_within, Climb.is_value, Graph.is_unref_dir_in}
-use Rattle.ffs_survey.proofs.{Discovered.dir_below}
-use Rattle.ffs_survey.specs.{Cycles.parent_in, Survey.IsTree, Survey.number_at}
+use Rattle.ffs_survey.{proofs.Discovered.dir_below, specs.Cycles.parent_in, specs.Survey.IsTree, specs.Survey.number_at}
 
 -- what a parent is
 record IsParent (v : Graph) (s : ℕ) : Type 0 where
