@@ -1,94 +1,67 @@
 -- The directories that aren't reached are read after the others: what that adds, and that the
 -- survey is then whole.
-use Rattle.std.specs.Prelude.{◌≡◌, ◌≢◌, ℕ, zero, suc, ◌+◌, ◌<◌, ◌≤◌, ◌==◌, nat_le, Bool, true, false, not, cond, ◌&&◌}
-use Rattle.std.specs.Prelude.{◌||◌, List, length, Option, None, Some, is_some, unwrap_or, refl}
-use Rattle.std.specs.List.{list_any}
-use Rattle.std.proofs.Common.{arith, sym, ◌∙◌, ap, subst, inl, inr, add-zero}
-use Rattle.std.proofs.lemmas.Bool.{both_ways, cases_Bool, cases_lt, and_left, and_right, and_from, and_parts, cond-true}
-use Rattle.std.proofs.lemmas.Bool.{cond-false, eq-eqb, ne_eqb, not-true, false_from_ne_true}
-use Rattle.std.proofs.lemmas.List.{get_or_past}
-use Rattle.std.proofs.Math.Bool.{or-false}
-use Rattle.ffs_volume.specs.Directories.Roles.{RoledEntry}
-use Rattle.ffs_volume.specs.Disk.Search.{first_below, earliest, some_below}
-use Rattle.ffs_volume.proofs.SearchLaws.{some_below-suc, first_below-some, first_below-is_none}
-use Rattle.ffs_volume.specs.Directories.Graph.{Graph, is_naming_entry, is_naming_dir, edge, level, reached, parent}
-use Rattle.ffs_volume.proofs.Graphs.{IsSane}
+use Rattle.std.proofs.Common.{◌≡◌, ℕ, zero, suc, ◌+◌, ◌<◌, ◌≤◌, ◌==◌, Bool, true, false, not, cond, ◌&&◌, ◌||◌, List}
+use Rattle.std.proofs.Common.{length, Option, Some, is_some, unwrap_or, refl, arith, sym, ◌∙◌, ap, subst, inl, add-zero}
+use Rattle.std.proofs.lemmas.Bool.{both_ways, cases_Bool, cases_lt, and_left, and_right, and_parts, false_from_ne_true}
+use Rattle.std.proofs.{Common.inr, Math.Bool.or-false, lemmas.Bool.Decides.nat_tests, lemmas.List.get_or_past}
 use Rattle.ffs_volume.proofs.LevelLaws.{reached-edge, reached-root}
-use Rattle.ffs_survey.specs.Survey.{bool_at, number_at, dir_at, is_dir_kind, graph_with, counted_in, start_in}
-use Rattle.ffs_survey.specs.Survey.{IsSurvey}
-use Rattle.ffs_survey.specs.Discover.{Counts, count_in, any_in, none, never, counted_by, IsReachedPart, is_unreached_dir}
-use Rattle.ffs_survey.specs.Discover.{is_unreached_edge, IsRead}
-use Rattle.ffs_volume.proofs.Unreached.{parent-unreached}
-use Rattle.ffs_survey.proofs.Totals.{counted_both, some_both}
-use Rattle.ffs_survey.proofs.Discovered.{dir_below}
+use Rattle.ffs_volume.proofs.SearchLaws.{some_below-suc, first_below-some, first_below-is_none}
+use Rattle.ffs_volume.specs.Directories.Graph.{Graph, is_naming_dir, edge, reached, parent}
+use Rattle.ffs_volume.specs.Disk.Search.{first_below, earliest, some_below}
+use Rattle.ffs_volume.{proofs.Graphs.IsSane, proofs.Unreached.parent-unreached, specs.Directories.Roles.RoledEntry}
+use Rattle.ffs_survey.specs.Discover.{Counts, count_in, any_in, none, never, counted_by, IsReachedPart, IsRead}
+use Rattle.ffs_survey.specs.Survey.{bool_at, number_at, dir_at, graph_with, counted_in, start_in, IsSurvey}
+use Rattle.ffs_survey.proofs.{Discovered.dir_below, Totals.counted_both, Totals.some_both}
+use Rattle.ffs_survey.specs.Discover.{is_unreached_dir, is_unreached_edge}
 
 -- two tests that agree have the same first number
-pub first_same : (p q : ℕ → Bool) (n : ℕ) → ((s : ℕ) → s < n → p s ≡ q s) → first_below p n ≡ first_below q n
+first_same : (p q : ℕ → Bool) (n : ℕ) → ((s : ℕ) → s < n → p s ≡ q s) → first_below p n ≡ first_below q n
 unfolding first_below
 first_same p q zero h = refl
 first_same p q (suc n) h = ap (λ o. earliest o (p n) n) (first_same p q n (λ s l. h s (omega arith)))
     ∙ ap (λ b. earliest (first_below q n) b n) (h n (omega arith))
 
 -- nothing is read before the first
-pub read_start : (g : Graph) (kinds : List ℕ) (r : List Bool) (f : List ℕ) (m : List Bool) (p : List ℕ) →
+pub read_start : {g : Graph} {kinds : List ℕ} {r : List Bool} {f : List ℕ} {m : List Bool} {p : List ℕ} →
     IsRead g kinds r 0 f m p f m p
 unfolding counted_by first_below
-read_start g kinds r f m p = record
-    { counts = λ x l. sym (add-zero (number_at f x)); names = λ x l. go (bool_at m x); parent = λ x l. refl }
-  where
-    go : (b : Bool) → b ≡ (b || false)
-    go true = refl
-    go false = refl
+read_start {f = f} {m = m} = record {
+  counts = λ x l. sym (add-zero (number_at f x));
+  names = λ x l. sym (or-false (bool_at m x));
+  parent = λ x l. refl;
+}
 
 -- the first parent, one directory further
 first_step : (p : ℕ → Bool) (s o q q' : ℕ) (a : Bool) → p 0 ≡ false → (a ≡ true → o ≡ 0) → p s ≡ a →
     q ≡ unwrap_or (first_below p s) o → q' ≡ cond ((q == 0) && a) s q → q' ≡ unwrap_or (first_below p (suc s)) o
-unfolding first_below earliest
-first_step p s o q q' a z k e h w = go (first_below p s) (p s) refl e h
-  where
-    go : (t : Option ℕ) (b : Bool) → first_below p s ≡ t → b ≡ a → q ≡ unwrap_or t o → q' ≡ unwrap_or (earliest t b s) o
-    go (Some t) b i j u =
-        let first = first_below-some p s t i in
-        let pos : t ≢ 0 = (λ y. both_ways (p 0) z (subst (λ v. p v ≡ true) y first.passes)) in
-        w ∙ (cond-false ((q == 0) && a) s q (and_left (q == 0) a (ne_eqb q 0 (λ y. pos (sym u ∙ y)))) ∙ u)
-    go None true i j u = w ∙ cond-true ((q == 0) && a) s q (and_from (q == 0) a (eq-eqb q 0 (u ∙ k (sym j))) (sym j))
-    go None false i j u = w ∙ (cond-false ((q == 0) && a) s q (and_right (q == 0) a (sym j)) ∙ u)
-
-zero-edge : (kinds : List ℕ) (entries : ℕ → List RoledEntry) (r : List Bool) (x : ℕ) →
-    is_unreached_edge (graph_with kinds entries) kinds r x 0 ≡ false
-zero-edge kinds entries r x =
-    and_right (is_unreached_dir kinds r x) _ (and_right (not (bool_at r 0)) (is_naming_dir (graph_with kinds entries) 0 x)
-    (and_left (dir_at kinds 0) (list_any (is_naming_entry x) (entries 0))
-    (and_left (nat_le 2 0) (is_dir_kind (number_at kinds 0)) refl)))
+unfolding first_below
+first_step p s o q q' a z k e h w =
+    let some : first_below p s ≡ Some 0 → ⊥ = λ y. both_ways (p 0) z (first_below-some p s 0 y).passes in
+    grind (arith, nat_tests)
 
 -- a directory without a mark is read
-pub read_on : (kinds : List ℕ) (entries : ℕ → List RoledEntry) (r : List Bool) (s : ℕ) (f f' f'' : List ℕ)
-    (m m' m'' : List Bool) (p p' p'' : List ℕ)
-    → is_unreached_dir kinds r s ≡ true → ((x : ℕ) → is_unreached_dir kinds r x ≡ true → number_at p x ≡ 0)
-    → IsRead (graph_with kinds entries) kinds r s f m p f' m' p'
-    → Counts (length kinds) (count_in (entries s)) (any_in (entries s)) f' m' none never f'' m''
-    → ((x : ℕ) → x < length kinds →
-    number_at p'' x ≡ cond ((number_at p' x == 0) && (is_unreached_dir kinds r x && any_in (entries s) x)) s
-    (number_at p' x))
-    → IsRead (graph_with kinds entries) kinds r (s + 1) f m p f'' m'' p''
+pub read_on : {f f' f'' : List ℕ} {m m' m'' : List Bool} {p p' p'' : List ℕ} (kinds : List ℕ)
+    (entries : ℕ → List RoledEntry) (r : List Bool) (s : ℕ) → is_unreached_dir kinds r s ≡ true →
+    ((x : ℕ) → is_unreached_dir kinds r x ≡ true → number_at p x ≡ 0) →
+    IsRead (graph_with kinds entries) kinds r s f m p f' m' p' →
+    Counts (length kinds) (count_in (entries s)) (any_in (entries s)) f' m' none never f'' m'' →
+    ((x : ℕ) → x < length kinds → number_at p'' x
+    ≡ cond ((number_at p' x == 0) && (is_unreached_dir kinds r x && any_in (entries s) x)) s (number_at p' x)) →
+    IsRead (graph_with kinds entries) kinds r (s + 1) f m p f'' m'' p''
 unfolding counted_by
-read_on kinds entries r s f f' f'' m m' m'' p p' p'' unreached blank i c u =
+read_on {f = f} {f'' = f''} {m = m} {m'' = m''} {p = p} {p' = p'} {p'' = p''} kinds entries r s unreached blank i c u =
     subst (λ n. IsRead g kinds r n f m p f'' m'' p'') one (record {
       counts = λ x l.
-          let a = i.counts x l in
-          let b = c.counts x l in
-          let d = cond-true (not (bool_at r s)) (counted_in g s x) 0 unmarked in
-          let e = cond-true (dir_at kinds s) (count_in (entries s) x) 0 dir in
-          omega (arith, a, b, d, e);
+          let one : cond (not (bool_at r s)) (counted_in g s x) 0 ≡ count_in (entries s) x = grind arith in
+          omega (arith, i.counts x l, c.counts x l, one);
       names = λ x l.
-          sym (or-false (bool_at m'' x)) ∙ (c.names x l ∙ (ap (λ y. y || any_in (entries s) x) (i.names x l)
-          ∙ (ap (λ y. (bool_at m x || some_below (λ t. not (bool_at r t) && is_naming_dir g t x) s) || y) (share x)
-          ∙ (assoc (bool_at m x) (some_below (λ t. not (bool_at r t) && is_naming_dir g t x) s)
-          (not (bool_at r s) && is_naming_dir g s x)
-          ∙ ap (λ y. bool_at m x || y) (sym (some_below-suc (λ t. not (bool_at r t) && is_naming_dir g t x) s))))));
+          let old = i.names x l in let new = c.names x l in let one = share x in
+          let more = some_below-suc (λ t. not (bool_at r t) && is_naming_dir g t x) s in
+          grind arith;
       parent = λ x l.
           first_step (is_unreached_edge g kinds r x) s (number_at p x) (number_at p' x) (number_at p'' x)
-          (is_unreached_dir kinds r x && any_in (entries s) x) (zero-edge kinds entries r x)
+          (is_unreached_dir kinds r x && any_in (entries s) x)
+          (and_right (is_unreached_dir kinds r x) _ (and_right (not (bool_at r 0)) (is_naming_dir g 0 x) refl))
           (λ t. blank x (and_parts (is_unreached_dir kinds r x) (any_in (entries s) x) t).0)
           (ap (λ y. is_unreached_dir kinds r x && y) (sym (share x))) (i.parent x l) (u x l);
     })
@@ -99,41 +72,29 @@ read_on kinds entries r s f f' f'' m m' m'' p p' p'' unreached blank i c u =
     one : suc s ≡ s + 1
     one = omega arith
 
-    dir : dir_at kinds s ≡ true
-    dir = (and_parts (dir_at kinds s) (not (bool_at r s)) unreached).0
-
-    unmarked : not (bool_at r s) ≡ true
-    unmarked = (and_parts (dir_at kinds s) (not (bool_at r s)) unreached).1
-
-    assoc : (a b d : Bool) → ((a || b) || d) ≡ (a || (b || d))
-    assoc true b d = refl
-    assoc false b d = refl
-
     share : (x : ℕ) → any_in (entries s) x ≡ (not (bool_at r s) && is_naming_dir g s x)
-    share x = go (not (bool_at r s)) (dir_at kinds s) (any_in (entries s) x) unmarked dir
-      where
-        go : (a b d : Bool) → a ≡ true → b ≡ true → d ≡ (a && (b && d))
-        go true true d h k = refl
-        go true false d h k = absurd (cc)
-        go false b d h k = absurd (cc)
+    share x = grind arith
+
+still_first : (o : Option ℕ) (b : Bool) (s : ℕ) → b ≡ false → earliest o b s ≡ o
+unfolding earliest
+still_first o b s h = grind arith
 
 -- any other is passed over
-pub read_skip : (kinds : List ℕ) (entries : ℕ → List RoledEntry) (r : List Bool) (s : ℕ) (f f' : List ℕ)
-    (m m' : List Bool) (p p' : List ℕ)
-    → is_unreached_dir kinds r s ≡ false → IsRead (graph_with kinds entries) kinds r s f m p f' m' p' →
+pub read_skip : {f f' : List ℕ} {m m' : List Bool} {p p' : List ℕ} (kinds : List ℕ) (entries : ℕ → List RoledEntry)
+    (r : List Bool) (s : ℕ) → is_unreached_dir kinds r s ≡ false →
+    IsRead (graph_with kinds entries) kinds r s f m p f' m' p' →
     IsRead (graph_with kinds entries) kinds r (s + 1) f m p f' m' p'
-unfolding counted_by first_below earliest
-read_skip kinds entries r s f f' m m' p p' taken i = subst (λ n. IsRead g kinds r n f m p f' m' p') one (record {
-  counts = λ x l. let a = i.counts x l in let b =
-      zero_share (dir_at kinds s) (bool_at r s) (count_in (entries s) x) taken in omega (arith, a, b);
-  names = λ x l. i.names x l
-      ∙ ap (λ y. bool_at m x || y)
-      (sym (some_below-suc (λ t. not (bool_at r t) && is_naming_dir g t x) s
-      ∙ (ap (λ b. some_below (λ t. not (bool_at r t) && is_naming_dir g t x) s || b) (no_share x) ∙ or-false _)));
-  parent = λ x l. i.parent x l
-      ∙ ap (λ o. unwrap_or o (number_at p x))
-      (same_first (first_below (is_unreached_edge g kinds r x) s) _ (and_right (is_unreached_dir kinds r x) _ (no_share x)));
-})
+unfolding counted_by first_below
+read_skip {f = f} {f' = f'} {m = m} {m' = m'} {p = p} {p' = p'} kinds entries r s taken i =
+    subst (λ n. IsRead g kinds r n f m p f' m' p') one (record {
+      counts = λ x l.
+          let none : cond (not (bool_at r s)) (counted_in g s x) 0 ≡ 0 = grind arith in
+          omega (arith, i.counts x l, none);
+      names = λ x l. i.names x l ∙ ap (λ o. bool_at m x || is_some o) (sym (still_first
+          (first_below (λ t. not (bool_at r t) && is_naming_dir g t x) s) _ s (unnamed x)));
+      parent = λ x l. i.parent x l ∙ ap (λ o. unwrap_or o (number_at p x)) (sym (still_first
+          (first_below (is_unreached_edge g kinds r x) s) _ s (and_right (is_unreached_dir kinds r x) _ (unnamed x))));
+    })
   where
     g : Graph
     g = graph_with kinds entries
@@ -141,72 +102,34 @@ read_skip kinds entries r s f f' m m' p p' taken i = subst (λ n. IsRead g kinds
     one : suc s ≡ s + 1
     one = omega arith
 
-    zero_share : (d b : Bool) (c : ℕ) → (d && not b) ≡ false → cond (not b) (cond d c 0) 0 ≡ 0
-    zero_share true true c h = refl
-    zero_share true false c h = absurd (cc)
-    zero_share false true c h = refl
-    zero_share false false c h = refl
-
-    none_named : (d b a : Bool) → (d && not b) ≡ false → (not b && (d && a)) ≡ false
-    none_named true true a h = refl
-    none_named true false a h = absurd (cc)
-    none_named false true a h = refl
-    none_named false false a h = refl
-
-    no_share : (x : ℕ) → (not (bool_at r s) && is_naming_dir g s x) ≡ false
-    no_share x = none_named (dir_at kinds s) (bool_at r s) (any_in (entries s) x) taken
-
-    same_first : (o : Option ℕ) (b : Bool) → b ≡ false → o ≡ earliest o b s
-    same_first (Some t) b h = refl
-    same_first None true h = absurd (cc)
-    same_first None false h = refl
+    unnamed : (x : ℕ) → (not (bool_at r s) && is_naming_dir g s x) ≡ false
+    unnamed x = grind arith
 
 -- what has no mark and no parent yet
-pub unreached_blank : (kinds : List ℕ) (entries : ℕ → List RoledEntry) (starts f : List ℕ) (m r : List Bool) (p : List ℕ)
-    → IsReachedPart (graph_with kinds entries) starts f m r p
-    → (x : ℕ) → is_unreached_dir kinds r x ≡ true → number_at p x ≡ 0
-unreached_blank kinds entries starts f m r p i x h =
-    let g = graph_with kinds entries in
-    let off : bool_at r x ≡ false = not-true _ (and_parts (dir_at kinds x) (not (bool_at r x)) h).1 in
-    i.parent x ∙ ap (λ o. unwrap_or o 0) (cond-false (is_some (level g x)) (parent g x) None (sym (i.reaches x) ∙ off))
+pub unreached_blank : {starts f : List ℕ} {m r : List Bool} {p : List ℕ} (kinds : List ℕ)
+    (entries : ℕ → List RoledEntry) → IsReachedPart (graph_with kinds entries) starts f m r p →
+    (x : ℕ) → is_unreached_dir kinds r x ≡ true → number_at p x ≡ 0
+unreached_blank kinds entries i x h = let a = i.parent x in let b = i.reaches x in grind arith
 
 -- a reached directory has no edge to an unreached one
 unreached_edges : (kinds : List ℕ) (entries : ℕ → List RoledEntry) (r : List Bool) (x s : ℕ) → s < length kinds →
     x < length kinds → ((y : ℕ) → bool_at r y ≡ reached (graph_with kinds entries) y) → bool_at r x ≡ false
     → is_unreached_edge (graph_with kinds entries) kinds r x s ≡ edge (graph_with kinds entries) s x
 unreached_edges kinds entries r x s ls lx h off =
-    elim (cases_Bool (bool_at r s)) [
-      | inl y ↦
-          let none : edge g s x ≡ false = false_from_ne_true (edge g s x)
-          (λ t. both_ways (reached g x) (sym (h x) ∙ off) (reached-edge g s x ls lx (sym (h s) ∙ y) t)) in
-          and_right (is_unreached_dir kinds r x) _ (and_left (not (bool_at r s)) (is_naming_dir g s x) (ap not y)) ∙ sym none
-      | inr z ↦ go (dir_at kinds x) (bool_at r x) (bool_at r s) (is_naming_dir g s x) off z
-    ]
-  where
-    g : Graph
-    g = graph_with kinds entries
-
-    go : (d b c a : Bool) → b ≡ false → c ≡ false → ((d && not b) && (not c && a)) ≡ (d && a)
-    go true false false a u w = refl
-    go false false false a u w = refl
-    go d true c a u w = absurd (cc)
-    go d false true a u w = absurd (cc)
+    let g = graph_with kinds entries in
+    let none : bool_at r s ≡ true → edge g s x ≡ false = λ y. false_from_ne_true (edge g s x)
+    (λ t. both_ways (reached g x) (sym (h x) ∙ off) (reached-edge g s x ls lx (sym (h s) ∙ y) t)) in
+    grind arith
 
 -- both parts
-pub survey_whole : (kinds : List ℕ) (entries : ℕ → List RoledEntry) (given starts f f' : List ℕ) (m m' r : List Bool)
-    (p p' : List ℕ)
-    → IsSane (graph_with kinds entries) → length r ≡ length kinds → length p' ≡ length kinds
-    → ((x : ℕ) → number_at starts x ≡ start_in given x)
-    → IsReachedPart (graph_with kinds entries) starts f m r p
-    → IsRead (graph_with kinds entries) kinds r (length kinds) f m p f' m' p'
-    → IsSurvey (graph_with kinds entries) given f' m' r p'
-survey_whole kinds entries given starts f f' m m' r p p' sane lr lp begins i k = record {
-  counts = λ x l.
-      let a = k.counts x l in
-      let b = i.counts x l in
-      let c = counted_both (bool_at r) g x (length kinds) in
-      let d = begins x in
-      omega (arith, a, b, c, d);
+pub survey_whole : {given starts f f' : List ℕ} {m m' r : List Bool} {p p' : List ℕ} (kinds : List ℕ)
+    (entries : ℕ → List RoledEntry) → IsSane (graph_with kinds entries) → length r ≡ length kinds →
+    length p' ≡ length kinds → ((x : ℕ) → number_at starts x ≡ start_in given x) →
+    IsReachedPart (graph_with kinds entries) starts f m r p →
+    IsRead (graph_with kinds entries) kinds r (length kinds) f m p f' m' p' →
+    IsSurvey (graph_with kinds entries) given f' m' r p'
+survey_whole {r = r} {p = p} {p' = p'} kinds entries sane lr lp begins i k = record {
+  counts = λ x l. omega (arith, k.counts x l, i.counts x l, counted_both (bool_at r) g x (length kinds), begins x);
   names = λ x l. k.names x l
       ∙ (ap (λ b. b || some_below (λ s. not (bool_at r s) && is_naming_dir g s x) (length kinds)) (i.names x l)
       ∙ some_both (bool_at r) (λ s. is_naming_dir g s x) (length kinds));
@@ -225,28 +148,24 @@ survey_whole kinds entries given starts f f' m m' r p p' sane lr lp begins i k =
     past : (x : ℕ) → length kinds ≤ x → number_at p' x ≡ unwrap_or (parent g x) 0
     past x b =
         let off : bool_at r x ≡ false = get_or_past r x false (omega arith) in
-        let dry : dir_at kinds x ≡ false =
-        false_from_ne_true (dir_at kinds x) (λ t. absurd (let l = dir_below kinds x t in omega arith)) in
-        get_or_past p' x 0 (omega arith)
-        ∙ sym (ap (λ o. unwrap_or o 0)
-        (unreached_first x off ∙ first_below-is_none (λ s. edge g s x) (length kinds)
-        (λ s l. and_left (dir_at kinds x) (is_naming_dir g s x) dry)))
+        let dry = false_from_ne_true (dir_at kinds x) (λ t. absurd (omega (arith, dir_below kinds x t))) in
+        let none = first_below-is_none (λ s. edge g s x) (length kinds)
+        (λ s l. and_left (dir_at kinds x) (is_naming_dir g s x) dry) in
+        get_or_past p' x 0 (omega arith) ∙ sym (ap (λ o. unwrap_or o 0) (unreached_first x off ∙ none))
 
     below : (x : ℕ) → x < length kinds → number_at p' x ≡ unwrap_or (parent g x) 0
-    below x l = elim (cases_Bool (bool_at r x)) [
-      | inl on ↦
-          let nothing_free : is_unreached_dir kinds r x ≡ false = and_right (dir_at kinds x) (not (bool_at r x)) (ap not on) in
-          k.parent x l ∙ (ap (λ o. unwrap_or o (number_at p x))
-          (first_below-is_none (is_unreached_edge g kinds r x) (length kinds)
-          (λ s b. and_left (is_unreached_dir kinds r x) _ nothing_free))
-          ∙ (i.parent x ∙ ap (λ o. unwrap_or o 0)
-          (cond-true (is_some (level g x)) (parent g x) None (sym (i.reaches x) ∙ on))))
-      | inr off ↦
-          let zero_before : number_at p x ≡ 0 = i.parent x
-          ∙ ap (λ o. unwrap_or o 0) (cond-false (is_some (level g x)) (parent g x) None (sym (i.reaches x) ∙ off)) in
-          k.parent x l ∙ (ap (λ o. unwrap_or o (number_at p x))
-          (first_same (is_unreached_edge g kinds r x) (λ s. edge g s x) (length kinds)
-          (λ s b. unreached_edges kinds entries r x s b l i.reaches off))
-          ∙ (ap (unwrap_or (first_below (λ s. edge g s x) (length kinds))) zero_before
-          ∙ ap (λ o. unwrap_or o 0) (sym (unreached_first x off))))
-    ]
+    below x l =
+        let a = k.parent x l in
+        let b = i.parent x in
+        let c = i.reaches x in
+        elim (cases_Bool (bool_at r x)) [
+          | inl on ↦
+              let none = first_below-is_none (is_unreached_edge g kinds r x) (length kinds)
+              (λ s b. and_left (is_unreached_dir kinds r x) _ (and_right (dir_at kinds x) _ (ap not on))) in
+              grind arith
+          | inr off ↦
+              let same = first_same (is_unreached_edge g kinds r x) (λ s. edge g s x) (length kinds)
+              (λ s b. unreached_edges kinds entries r x s b l i.reaches off) in
+              let first = unreached_first x off in
+              grind arith
+        ]

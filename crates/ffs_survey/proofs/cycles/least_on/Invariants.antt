@@ -1,6 +1,5 @@
 use Rattle.std.proofs.Common.{◌-◌, ◌<◌, length}
-use Rattle.ffs_survey.specs.Cycles.{parent_in}
-use Rattle.ffs_survey.proofs.Walks.{Rounding}
+use Rattle.ffs_survey.{proofs.Walks.Rounding, specs.Cycles.parent_in}
 use Rattle.ffs_survey.proofs.cycles.least_on.Given as goal
 
 abbrev pub invariant-round : goal.invariant-round

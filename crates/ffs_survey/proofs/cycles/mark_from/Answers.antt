@@ -1,24 +1,12 @@
-use Rattle.std.proofs.Common.{◌+◌, length, arith}
-use Rattle.ffs_survey.specs.Cycles.{parent_in, FindsCycle}
+use Rattle.std.proofs.Common.{arith}
 use Rattle.ffs_survey.proofs.Walks.{marks_none, marks_found}
 use Rattle.ffs_survey.proofs.cycles.mark_from.Goals as goal
-
-pub least_on-least-requires : goal.least_on-least-requires
-least_on-least-requires c =
-    let g : FindsCycle (parent_in c.args.parents.now.items) (length c.args.parents.now.items) c.args.walk_of.now.items c.walk.new.walk_of.items
-    c.in-Some.found = rw c.in-Some.is at c.walk.ensures.cycle in
-    record { few = c.requires.walk.few; low = g.low; cycle = g.cycle; short = g.short }
 
 pub returns-clause-marks : goal.returns-clause-marks
 returns-clause-marks c =
     let b = c.least_on-least.ensures.low in
-    marks_found (parent_in c.args.parents.now.items) (length c.args.parents.now.items) c.args.start (c.args.start + 1) c.in-Some.found
-    c.least_on-least.result c.args.walk_of.now.items c.walk.new.walk_of.items c.args.leaders.now
-    (omega (arith, b, c.requires.marks.long)) c.requires.walk.closed c.walk.ensures.walked
+    marks_found c.args.leaders.now (omega (arith, b, c.requires.marks.long)) c.walk.ensures.walked
     (rw c.in-Some.is at c.walk.ensures.cycle) c.least_on-least.ensures c.requires.marks
 
 pub returns-in_default-clause-marks : goal.returns-in_default-clause-marks
-returns-in_default-clause-marks c =
-    marks_none (parent_in c.args.parents.now.items) (length c.args.parents.now.items) c.args.start (c.args.start + 1) c.args.walk_of.now.items
-    c.walk.new.walk_of.items c.args.leaders.now
-    c.walk.ensures.walked c.in_default.ensures.cycle c.requires.marks
+returns-in_default-clause-marks c = marks_none c.walk.ensures.walked c.in_default.ensures.cycle c.requires.marks

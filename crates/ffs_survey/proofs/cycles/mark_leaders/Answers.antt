@@ -1,6 +1,5 @@
 use Rattle.std.proofs.Common.{length, arith, sym, ◌∙◌, inl, inr}
-use Rattle.std.proofs.lemmas.Bool.{cases_lt}
-use Rattle.std.proofs.lemmas.List.{get_or_past}
+use Rattle.std.proofs.lemmas.{Bool.cases_lt, List.get_or_past}
 use Rattle.ffs_survey.proofs.Walks.{past_leader}
 use Rattle.ffs_survey.proofs.cycles.mark_leaders.Goals as goal
 

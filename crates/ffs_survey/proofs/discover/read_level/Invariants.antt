@@ -1,9 +1,6 @@
-use Rattle.std.proofs.Common.{◌≡◌, ℕ, ◌+◌, ◌-◌, ◌*◌, ◌<◌, ◌≤◌, ◌^◌, List, length, take, drop, All}
-use Rattle.std.specs.List.{sum_by}
-use Rattle.ffs_survey.specs.Survey.{number_at, graph_with}
+use Rattle.std.proofs.Common.{◌≡◌, ℕ, ◌+◌, ◌-◌, ◌*◌, ◌<◌, ◌≤◌, ◌^◌, List, length, take, drop, All, sum_by}
 use Rattle.ffs_survey.specs.Discover.{Extends, SameResult, IsReachedDir, Counts, from_dirs, unset, count_of, any_of}
-use Rattle.ffs_survey.specs.Calm.{AreCalm}
-use Rattle.ffs_survey.specs.Lent.{SameLists}
+use Rattle.ffs_survey.specs.{Calm.AreCalm, Lent.SameLists, Survey.graph_with, Survey.number_at}
 use Rattle.ffs_survey.proofs.discover.read_level.Given as goal
 
 abbrev pub invariant-loop-at : goal.invariant-loop-at

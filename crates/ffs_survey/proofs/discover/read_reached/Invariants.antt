@@ -1,8 +1,7 @@
 use Rattle.std.proofs.Common.{◌≡◌, ℕ, ◌+◌, ◌<◌, ◌≤◌, ◌^◌, List, length, take, ◌&&◌}
-use Rattle.ffs_survey.specs.Survey.{number_at, bool_at}
 use Rattle.ffs_survey.specs.Discover.{Extends, SameResult, Counts, from_entries, unset, count_in, any_in}
-use Rattle.ffs_survey.specs.Calm.{are_calm}
 use Rattle.ffs_survey.specs.Lent.{current_in, SameLists, HasRoomAfter}
+use Rattle.ffs_survey.specs.{Calm.are_calm, Survey.number_at, Survey.bool_at}
 use Rattle.ffs_survey.proofs.discover.read_reached.Given as goal
 
 abbrev pub invariant-loop-entry : goal.invariant-loop-entry
@@ -36,7 +35,8 @@ invariant-loop-entry g l =
       counts : (b : List ℕ) → knows b → Counts (length old.kinds.now) (count_in (entries b)) (any_in (entries b))
           old.references.now.items old.named.now (count_in (rest b)) (any_in (rest b))
           l.lists.references.now.items l.lists.named.now;
-      calm_so_far : (b : List ℕ) → knows b → (l.calm_so_far && are_calm current (bool_at l.lists.reached.now) l.count (rest b))
+      calm_so_far : (b : List ℕ) → knows b →
+          (l.calm_so_far && are_calm current (bool_at l.lists.reached.now) l.count (rest b))
           ≡ are_calm current (bool_at old.reached.now) 0 (entries b);
       right_shape : (b : List ℕ) → knows b →
           g.D.Directories.right_shape_so_far l.directories b ≡ g.D.Directories.right_shape over b l.from;

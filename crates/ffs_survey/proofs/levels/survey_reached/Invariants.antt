@@ -1,9 +1,6 @@
-use Rattle.std.proofs.Common.{◌≡◌, ℕ, ◌+◌, ◌≤◌, ◌-◌, List, length, take}
-use Rattle.std.specs.List.{sum_by}
-use Rattle.ffs_survey.specs.Survey.{graph_with}
+use Rattle.std.proofs.Common.{◌≡◌, ℕ, ◌+◌, ◌≤◌, ◌-◌, List, length, take, sum_by}
 use Rattle.ffs_survey.specs.Discover.{HasRoomForLevel, AtSomeLevel, IsCount}
-use Rattle.ffs_survey.specs.Calm.{AreCalm}
-use Rattle.ffs_survey.specs.Lent.{SameLists}
+use Rattle.ffs_survey.specs.{Calm.AreCalm, Lent.SameLists, Survey.graph_with}
 use Rattle.ffs_survey.proofs.levels.survey_reached.Given as goal
 
 abbrev pub invariant-loop-low : goal.invariant-loop-low

@@ -1,9 +1,7 @@
-use Rattle.std.proofs.Common.{◌≡◌, ◌<◌, rules, arith, ap, refl, sym, ◌∙◌, ◌+◌, length, true, false}
-use Rattle.ffs_survey.specs.Survey.{graph_with}
-use Rattle.ffs_survey.specs.Discover.{is_unreached_dir}
-use Rattle.ffs_survey.specs.Lent.{Lent}
+use Rattle.std.proofs.Common.{◌≡◌, rules, arith, refl, sym, ◌∙◌, ◌+◌, length, true, false}
 use Rattle.ffs_survey.proofs.Costs.{cost_skip, cost_take, costs_rise}
 use Rattle.ffs_survey.proofs.UnreachedLaws.{read_start, read_on, read_skip}
+use Rattle.ffs_survey.{proofs.Lending.same_kinds, specs.Discover.is_unreached_dir}
 use Rattle.ffs_survey.proofs.levels.survey_unreached.Goals as goal
 
 pub loop-s-init : goal.loop-s-init
@@ -15,48 +13,29 @@ loop-s-init g c = record {
   same = record { lent = refl };
   kept = record { reached = refl; calm = refl };
   grown = λ x l. omega arith;
-  read = λ b k z. read_start
-      (graph_with c.args.lists.now.kinds.now
-      (g.D.Directories.entries (g.D.Directories.base c.args.directories.now) b))
-      c.args.lists.now.kinds.now c.args.lists.now.reached.now c.args.lists.now.references.now.items
-      c.args.lists.now.named.now c.args.lists.now.parents.now.items;
+  read = λ b k z. read_start;
 }
-
-pub read_unreached-requires-clause-counts : goal.read_unreached-requires-clause-counts
-read_unreached-requires-clause-counts g c = λ x l.
-    let inv = c.loop-s.invariant in
-    let kinds = ap (λ (x : Lent). length x.kinds) inv.same.lent in
-    let few = c.args.lists.now.long.few in
-    let inside : x < length c.args.lists.now.kinds.now = omega (arith, l, kinds) in
-    let old = inv.grown x inside in
-    let most = c.requires.counts x inside in
-    omega (arith, old, most, few)
-
-pub is_unreached_dir-requires : goal.is_unreached_dir-requires
-is_unreached_dir-requires g c = sym (ap (λ (x : Lent). x.kinds) c.loop-s.invariant.same.lent)
 
 pub loop-s-preserved-then-not-is_unreached_dir : goal.loop-s-preserved-then-not-is_unreached_dir
 loop-s-preserved-then-not-is_unreached_dir g c =
     let inv = c.loop-s.invariant in
     let old = c.args.lists.now in
-    let kinds : c.loop-s.lists.kinds.now ≡ old.kinds.now = ap (λ (x : Lent). x.kinds) inv.same.lent in
+    let base = g.D.Directories.base c.args.directories.now in
     let unreached : is_unreached_dir old.kinds.now old.reached.now c.loop-s.s ≡ false =
-    rw (kinds, inv.kept.reached) at (sym c.is_unreached_dir.ensures ∙ c.if-not-is_unreached_dir.true) in
+    rw (same_kinds inv.same, inv.kept.reached) at (sym c.is_unreached_dir.ensures ∙ c.if-not-is_unreached_dir.true) in
     record {
       ready = search rules;
       base = inv.base;
       device = inv.device;
       reads = λ b k.
-          let before = inv.reads b k in
-          let none = cost_skip (is_unreached_dir old.kinds.now old.reached.now)
-          (g.D.Directories.cost (g.D.Directories.base c.args.directories.now) b) c.loop-s.s unreached in
-          omega (arith, before, none);
+          let none = cost_skip (is_unreached_dir old.kinds.now old.reached.now) (g.D.Directories.cost base b) c.loop-s.s
+          unreached in
+          omega (arith, inv.reads b k, none);
       same = inv.same;
       kept = inv.kept;
-      grown = λ x l. let o = inv.grown x l in omega (arith, o);
-      read = λ b k z. read_skip old.kinds.now
-          (g.D.Directories.entries (g.D.Directories.base c.args.directories.now) b) old.reached.now c.loop-s.s _ _ _
-          _ _ _ unreached (inv.read b k z);
+      grown = λ x l. omega (arith, inv.grown x l);
+      read = λ b k z. read_skip old.kinds.now (g.D.Directories.entries base b) old.reached.now c.loop-s.s unreached
+          (inv.read b k z);
     }
 
 pub loop-s-preserved : goal.loop-s-preserved
@@ -64,7 +43,8 @@ loop-s-preserved g c =
     let inv = c.loop-s.invariant in
     let done = c.in_ok-read_unreached.ensures in
     let old = c.args.lists.now in
-    let kinds : c.loop-s.lists.kinds.now ≡ old.kinds.now = ap (λ (x : Lent). x.kinds) inv.same.lent in
+    let base = g.D.Directories.base c.args.directories.now in
+    let kinds = same_kinds inv.same in
     let unreached : is_unreached_dir old.kinds.now old.reached.now c.loop-s.s ≡ true =
     rw (kinds, inv.kept.reached) at (sym c.is_unreached_dir.ensures ∙ c.if-not-is_unreached_dir.false) in
     let grown = rw kinds at done.grown in
@@ -75,41 +55,34 @@ loop-s-preserved g c =
       device = search rules;
       reads = let r = rw inv.base at done.counted in
           λ b k.
-          let now = r b k in
-          let before = inv.reads b k in
-          let one = cost_take (is_unreached_dir old.kinds.now old.reached.now)
-          (g.D.Directories.cost (g.D.Directories.base c.args.directories.now) b) c.loop-s.s unreached in
-          omega (arith, now, before, one);
+          let one = cost_take (is_unreached_dir old.kinds.now old.reached.now) (g.D.Directories.cost base b) c.loop-s.s
+          unreached in
+          omega (arith, r b k, inv.reads b k, one);
       same = record { lent = done.leaves.lists.lent ∙ inv.same.lent };
       kept = record { reached = done.kept.reached ∙ inv.kept.reached; calm = done.kept.calm ∙ inv.kept.calm };
-      grown = λ x l. let o = inv.grown x l in let n = grown x l in omega (arith, o, n);
-      read = λ b k z.
-          read_on old.kinds.now (g.D.Directories.entries (g.D.Directories.base c.args.directories.now) b)
-          old.reached.now c.loop-s.s _ _ _ _ _ _ _ _ _
-          unreached z (inv.read b k z) (new b k).counts (new b k).parents;
+      grown = λ x l. omega (arith, inv.grown x l, grown x l);
+      read = λ b k z. read_on old.kinds.now (g.D.Directories.entries base b) old.reached.now c.loop-s.s unreached z
+          (inv.read b k z) (new b k).counts (new b k).parents;
     }
 
 pub returns-clause-counted : goal.returns-clause-counted
 returns-clause-counted g c = λ b k.
-    let old = c.loop-s.invariant.reads b k in
-    let rise = costs_rise (is_unreached_dir c.args.lists.now.kinds.now c.args.lists.now.reached.now)
-    (g.D.Directories.cost (g.D.Directories.base c.args.directories.now) b) c.loop-s.s
-    (length c.args.lists.now.kinds.now) (omega arith) in
-    omega (arith, old, rise)
+    let old = c.args.lists.now in
+    let cost = g.D.Directories.cost (g.D.Directories.base c.args.directories.now) b in
+    let rise = costs_rise (is_unreached_dir old.kinds.now old.reached.now) cost c.loop-s.s (length old.kinds.now)
+    (omega arith) in
+    omega (arith, c.loop-s.invariant.reads b k, rise)
 
 pub returns-in_err-read_unreached-clause-counted : goal.returns-in_err-read_unreached-clause-counted
 returns-in_err-read_unreached-clause-counted g c =
     let inv = c.loop-s.invariant in
     let read = rw inv.base at c.in_err-read_unreached.ensures.counted in
     let old = c.args.lists.now in
-    let kinds : c.loop-s.lists.kinds.now ≡ old.kinds.now = ap (λ (x : Lent). x.kinds) inv.same.lent in
     let unreached : is_unreached_dir old.kinds.now old.reached.now c.loop-s.s ≡ true =
-    rw (kinds, inv.kept.reached) at (sym c.is_unreached_dir.ensures ∙ c.if-not-is_unreached_dir.false) in
+    rw (same_kinds inv.same, inv.kept.reached) at (sym c.is_unreached_dir.ensures ∙ c.if-not-is_unreached_dir.false) in
     λ b k.
     let cost = g.D.Directories.cost (g.D.Directories.base c.args.directories.now) b in
-    let now = read b k in
-    let before = inv.reads b k in
     let one = cost_take (is_unreached_dir old.kinds.now old.reached.now) cost c.loop-s.s unreached in
     let rise = costs_rise (is_unreached_dir old.kinds.now old.reached.now) cost (c.loop-s.s + 1)
     (length old.kinds.now) (omega arith) in
-    omega (arith, now, before, one, rise)
+    omega (arith, read b k, inv.reads b k, one, rise)

@@ -1,8 +1,6 @@
 use Rattle.std.proofs.Common.{◌≡◌, ℕ, ◌+◌, ◌*◌, ◌<◌, ◌≤◌, ◌^◌, List, length}
-use Rattle.ffs_survey.specs.Survey.{number_at, graph_with}
-use Rattle.ffs_survey.specs.Costs.{costs_below}
+use Rattle.ffs_survey.specs.{Costs.costs_below, Lent.SameLists, Lent.KeepsReached, Survey.number_at, Survey.graph_with}
 use Rattle.ffs_survey.specs.Discover.{IsBlank, IsRead, is_unreached_dir}
-use Rattle.ffs_survey.specs.Lent.{SameLists, KeepsReached}
 use Rattle.ffs_survey.proofs.levels.survey_unreached.Given as goal
 
 abbrev pub invariant-loop-s : goal.invariant-loop-s

@@ -1,46 +1,38 @@
-use Rattle.std.proofs.Common.{arith, ◌∙◌, sym, ap, true, ◌||◌, length}
-use Rattle.std.proofs.lemmas.Bool.{cond-true, cond-false, eq-eqb, ne_eqb}
-use Rattle.ffs_volume.specs.Directories.Climb.{is_leader_within}
-use Rattle.ffs_volume.specs.Directories.Graph.{is_dead_in}
-use Rattle.ffs_survey.specs.Cycles.{parent_in}
-use Rattle.ffs_survey.specs.Survey.{suspect_at}
-use Rattle.ffs_volume.proofs.Unreached.{IsLost}
+use Rattle.std.proofs.Common.{◌≡◌, ℕ, Bool, List, arith, ◌∙◌, sym, true, false, ◌≢◌}
+use Rattle.std.proofs.lemmas.Bool.{ne_eqb}
+use Rattle.ffs_volume.{proofs.Unreached.IsLost, specs.Directories.Graph.Graph, specs.Directories.Graph.is_dead_in}
 use Rattle.ffs_survey.proofs.UnrefLaws.{unref_is, parent-below}
+use Rattle.ffs_survey.specs.Survey.{IsTree, bool_at, dir_at, suspect_at}
 use Rattle.ffs_survey.proofs.unref.is_unref.Goals as goal
+
+-- a directory that passed the first four tests
+is_lost : {v : Graph} {suspect : ℕ → Bool} {kinds : List ℕ} {reached : List Bool} {parents : List ℕ} {d : ℕ} →
+    IsTree v kinds reached parents → dir_at kinds d ≡ true → d ≢ 2 → bool_at reached d ≡ false →
+    is_dead_in v suspect d ≡ false → IsLost v suspect d
+is_lost {d = d} t dir other off alive = record {
+  dir = t.dirs d ∙ dir;
+  not_root = other;
+  unreached = sym (t.reaches d) ∙ off;
+  alive = alive;
+}
 
 pub returns-in_default : goal.returns-in_default
 returns-in_default c = λ v n t.
-    let suspect = suspect_at c.args.found.now.kinds.now c.args.found.now.marked.now in
-    let l : IsLost v suspect c.args.dir = record {
-      dir = t.dirs c.args.dir ∙ (sym c.is_dir.ensures ∙ c.if-not-is_dir.false);
-      not_root = c.if-dir-eq-ROOTINO.false;
-      unreached = sym (t.reaches c.args.dir) ∙ c.if-found-dir.false;
-      alive = sym (c.is_dead.ensures.graph v n)
-          ∙ c.if-is_dead.false;
-    } in
-    sym (unref_is v suspect c.args.found.now.kinds.now c.args.found.now.reached.now c.args.found.now.parents.now.items c.args.dir c.args.found.now.whole.parents_long t
-    l
-    ∙ ap (λ b. b || is_leader_within (parent_in c.args.found.now.parents.now.items) (length c.args.found.now.parents.now.items) c.args.dir)
-    (cond-true _ true _ (eq-eqb _ 0 c.in_default.ensures)))
+    let found = c.args.found.now in
+    let unref = unref_is {suspect = suspect_at found.kinds.now found.marked.now} found.whole.parents_long t
+    (is_lost {d = c.args.dir} t (sym c.is_dir.ensures ∙ c.if-not-is_dir.false) c.if-dir-eq-ROOTINO.false
+    c.if-found-dir.false (sym (c.is_dead.ensures.graph v n) ∙ c.if-is_dead.false)) in
+    sym (rw c.in_default.ensures at unref)
 
 pub returns-then-parent-found : goal.returns-then-parent-found
-returns-then-parent-found c = λ v n t.
-    let b = parent-below v c.args.found.now.kinds.now c.args.found.now.reached.now c.args.found.now.parents.now.items c.args.dir t in
-    absurd (omega (arith, c.in-Some.ensures.0))
+returns-then-parent-found c = λ v n t. absurd (omega (arith, parent-below c.args.dir t, c.in-Some.ensures.0))
 
 pub returns : goal.returns
 returns c = λ v n t.
-    let suspect = suspect_at c.args.found.now.kinds.now c.args.found.now.marked.now in
-    let l : IsLost v suspect c.args.dir = record {
-      dir = t.dirs c.args.dir ∙ (sym c.is_dir.ensures ∙ c.if-not-is_dir.false);
-      not_root = c.if-dir-eq-ROOTINO.false;
-      unreached = sym (t.reaches c.args.dir) ∙ c.if-found-dir.false;
-      alive = sym (c.is_dead.ensures.graph v n)
-          ∙ c.if-is_dead.false;
-    } in
-    c.args.found.now.whole.cycles c.args.dir
-    ∙ sym (unref_is v suspect c.args.found.now.kinds.now c.args.found.now.reached.now c.args.found.now.parents.now.items c.args.dir c.args.found.now.whole.parents_long
-    t l
-    ∙ ap (λ b. b || is_leader_within (parent_in c.args.found.now.parents.now.items) (length c.args.found.now.parents.now.items) c.args.dir)
-    (cond-false _ true _ (ne_eqb _ 0 (λ z. c.in-Some.ensures.1 (c.in-Some.ensures.0 ∙ z)))
-    ∙ ap (λ a. is_dead_in v suspect a) (sym c.in-Some.ensures.0) ∙ (sym (c.is_dead-2.ensures.graph v n) ∙ c.if-is_dead-2.false)))
+    let found = c.args.found.now in
+    let unref = unref_is {suspect = suspect_at found.kinds.now found.marked.now} found.whole.parents_long t
+    (is_lost {d = c.args.dir} t (sym c.is_dir.ensures ∙ c.if-not-is_dir.false) c.if-dir-eq-ROOTINO.false
+    c.if-found-dir.false (sym (c.is_dead.ensures.graph v n) ∙ c.if-is_dead.false)) in
+    let some = ne_eqb c.in-Some.parent 0 c.in-Some.ensures.1 in
+    let alive = sym (c.is_dead-2.ensures.graph v n) ∙ c.if-is_dead-2.false in
+    found.whole.cycles c.args.dir ∙ sym (rw (← c.in-Some.ensures.0, some, alive) at unref)
