@@ -1,7 +1,5 @@
 mod Discovered
-mod Tally
 mod Frontiers
-mod LevelEnds
 mod Totals
 mod Queues
 mod UnreachedLaws

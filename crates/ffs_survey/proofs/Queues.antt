@@ -11,7 +11,7 @@ use Rattle.ffs_survey.proofs.Frontiers.{next_level, frontier_from, queue_grows, 
 use Rattle.ffs_survey.specs.Discover.{Extends, bit, occurrences, from_dirs, nothing, SameResult, IsFrontier}
 use Rattle.ffs_survey.specs.Discover.{LevelsKnown, IsCount, Counts, IsReachedPart, count_of, any_of, none, never}
 use Rattle.ffs_survey.specs.Survey.{bool_at, number_at, graph_with, dir_at, counted_in}
-use Rattle.ffs_survey.proofs.{Frontiers.occurrences-permutation, LevelEnds.no_more, LevelEnds.root_alone}
+use Rattle.ffs_survey.proofs.{Frontiers.occurrences-permutation, Frontiers.no_more, Frontiers.root_alone}
 use Rattle.ffs_survey.proofs.Totals.{any_all, count_all}
 
 -- a queue that is extended twice

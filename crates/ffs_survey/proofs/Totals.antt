@@ -1,16 +1,17 @@
--- The sums over a list of directories, and over all of them.
+-- The sums over a list of directories and over all of them, and steps of the count over entries.
 use Rattle.std.proofs.Common.{◌≡◌, ℕ, zero, suc, ◌+◌, ◌*◌, ◌<◌, ◌≤◌, ◌==◌, nat_lt, Bool, true, false, not, cond, ◌&&◌}
-use Rattle.std.proofs.Common.{◌||◌, List, [], ◌∷◌, refl, arith, sym, ◌∙◌, ap, inl, inr, sum_by}
+use Rattle.std.proofs.Common.{◌||◌, List, [], ◌∷◌, refl, arith, sym, ◌∙◌, ap, inl, inr, sum_by, length, count_by, drop}
 use Rattle.std.proofs.lemmas.Bool.{both_ways, cases_lt, cond-true, cond-false, and_parts, and_from, or_left, or_right}
 use Rattle.std.proofs.lemmas.Bool.{or_cases, lt-ltb, le-ltb}
-use Rattle.std.{proofs.lemmas.Bool.Decides.nat_tests, proofs.lemmas.List.Sums.sum_by-cons, specs.List.list_any}
-use Rattle.ffs_volume.proofs.SearchLaws.{some_below-suc, some_below-from, some_below-gives}
-use Rattle.ffs_volume.specs.Directories.Graph.{Graph, is_naming_dir}
-use Rattle.ffs_volume.specs.Disk.Search.{some_below, first_below}
+use Rattle.std.proofs.{Common.get_or, lemmas.Bool.Decides.nat_tests, lemmas.List.Sums.sum_by-cons}
+use Rattle.std.{proofs.lemmas.List.at_drop_more, specs.List.list_any}
+use Rattle.ffs_volume.proofs.SearchLaws.{some_below-from, some_below-gives, some_below-suc}
+use Rattle.ffs_volume.specs.Directories.{Graph.Graph, Graph.is_naming_dir, Graph.is_naming_entry, Roles.RoledEntry}
+use Rattle.ffs_volume.specs.{Directories.Roles.refers, Disk.Search.first_below, Disk.Search.some_below}
 use Rattle.ffs_survey.proofs.Frontiers.{occurrences-cases, occurrences-cons, occurrences-nil, occurrences-head, bit-one}
-use Rattle.ffs_survey.specs.Discover.{bit, occurrences, count_of, any_of, counted_by}
-use Rattle.ffs_survey.specs.Survey.{counted_in, counted_below}
-use Rattle.ffs_survey.{proofs.Frontiers.both_imply, specs.Costs.costs_below}
+use Rattle.ffs_survey.specs.Discover.{bit, occurrences, count_of, any_of, counted_by, Counts, count_in, any_in, none}
+use Rattle.ffs_survey.specs.Survey.{counted_in, counted_below, number_at, bool_at, graph_with, dir_at}
+use Rattle.ffs_survey.{proofs.Frontiers.both_imply, specs.Costs.costs_below, specs.Discover.never}
 
 abbrev part : (ℕ → ℕ) → ℕ → List ℕ → ℕ
 part c n q = sum_by (λ s. cond (nat_lt s n) (c s) 0) q
@@ -121,3 +122,49 @@ some_both r p (suc n) =
     let d = some_below-suc p n in
     let h = some_both r p n in
     grind arith
+
+-- ---- steps of the count over entries and directories
+count_by-step : {X : Type 0} (p : X → Bool) (e : X) (rest : List X) →
+    count_by p (e ∷ rest) ≡ bit (p e) + count_by p rest
+count_by-step p e rest = omega (arith, sum_by-cons (λ x. cond (p x) 1 0) e rest, bit-times (p e) 1)
+
+-- the step of the loop over a directory
+pub entry_counted : {n : ℕ} {c : ℕ → ℕ} {a : ℕ → Bool} {f f' f'' : List ℕ} {m m' m'' : List Bool} (e : RoledEntry)
+    (rest : List RoledEntry) → Counts n c a f m (count_in (e ∷ rest)) (any_in (e ∷ rest)) f' m' →
+    ((x : ℕ) → x < n → number_at f'' x ≡ number_at f' x + bit (refers x e)) →
+    ((x : ℕ) → x < n → bool_at m'' x ≡ (bool_at m' x || is_naming_entry x e)) →
+    Counts n c a f m (count_in rest) (any_in rest) f'' m''
+entry_counted e rest h u w = record {
+  counts = λ x l. omega (arith, u x l, count_by-step (refers x) e rest, h.counts x l);
+  names = λ x l. let one = w x l in let two = h.names x l in grind arith;
+}
+
+-- the step of the loop over a level
+pub dir_counted : {n : ℕ} {c : ℕ → ℕ} {a : ℕ → Bool} {f f' f'' : List ℕ} {m m' m'' : List Bool} (kinds : List ℕ)
+    (entries : ℕ → List RoledEntry) (frontier : List ℕ) (i : ℕ) → i < length frontier →
+    dir_at kinds (get_or frontier i 0) ≡ true →
+    Counts n c a f m (count_of (graph_with kinds entries) (drop i frontier))
+    (any_of (graph_with kinds entries) (drop i frontier)) f' m' →
+    Counts n (count_in (entries (get_or frontier i 0))) (any_in (entries (get_or frontier i 0))) f' m' none never f''
+    m'' → Counts n c a f m (count_of (graph_with kinds entries) (drop (i + 1) frontier))
+    (any_of (graph_with kinds entries) (drop (i + 1) frontier)) f'' m''
+dir_counted kinds entries frontier i l d h k =
+    let g = graph_with kinds entries in
+    let s = get_or frontier i 0 in
+    let rest = drop (i + 1) frontier in
+    record {
+      counts = λ x b.
+          let one = at_drop_more (λ z. count_of g z x) frontier i 0 l in
+          let two = cond-true (dir_at kinds s) (count_in (entries s) x) 0 d in
+          omega (arith, one, sum_by-cons (λ s. counted_in g s x) s rest, two, h.counts x b, k.counts x b);
+      names = λ x b.
+          let one = at_drop_more (λ z. any_of g z x) frontier i 0 l in
+          let two = h.names x b in
+          let three = k.names x b in
+          grind arith;
+    }
+
+-- one entry gives a parent
+pub parent_step : (d b c : Bool) (f q q' t : ℕ) → 0 < f → q' ≡ cond ((q == 0) && (d && b)) f q →
+    cond ((q == 0) && (d && (b || c))) f q ≡ t → cond ((q' == 0) && (d && c)) f q' ≡ t
+parent_step d b c f q q' t p h k = grind (arith, nat_tests)

@@ -1,7 +1,7 @@
 use Rattle.std.proofs.Common.{◌≡◌, ◌<◌, ℕ, List, arith, rules, length, length-take, take, ◌∙◌}
 use Rattle.ffs_survey.proofs.Queues.{at_place, extends_on, is_extended, keeps_queue, empty_level, number_kept}
 use Rattle.ffs_survey.proofs.{CalmLaws.calm_read, CalmLaws.same_result_stays, Costs.next_cost, Discovered.level_step}
-use Rattle.ffs_survey.proofs.{Lending.same_kinds, Lending.same_marks, Tally.dir_counted}
+use Rattle.ffs_survey.proofs.{Lending.same_kinds, Lending.same_marks, Totals.dir_counted}
 use Rattle.ffs_survey.specs.{Discover.IsReachedDir, Survey.number_at}
 use Rattle.ffs_survey.proofs.discover.read_level.Goals as goal
 

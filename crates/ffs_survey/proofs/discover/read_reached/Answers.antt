@@ -2,7 +2,7 @@ use Rattle.std.proofs.Common.{arith, ap, [], ◌∙◌, ◌&&◌, rules, ◌≡�
 use Rattle.ffs_volume.specs.Directories.Roles.{RoledEntry, refers}
 use Rattle.ffs_survey.proofs.{CalmLaws.calm_step, CalmLaws.read_whole, Discovered.bit-le, Discovered.entry_step}
 use Rattle.ffs_survey.proofs.{Lending.queue_long, Lending.same_kinds, Queues.extends_on, Queues.keeps_queue}
-use Rattle.ffs_survey.{proofs.Tally.entry_counted, specs.Calm.is_calm_entry, specs.Lent.current_in}
+use Rattle.ffs_survey.{proofs.Totals.entry_counted, specs.Calm.is_calm_entry, specs.Lent.current_in}
 use Rattle.ffs_survey.specs.{Reading.roled_of, Survey.bool_at, Survey.number_at}
 use Rattle.ffs_survey.proofs.discover.read_reached.Goals as goal
 use Rattle.ffs_survey.proofs.discover.read_reached.Goals.{then-calm_so_far, else-calm_so_far}

@@ -1,7 +1,7 @@
 use Rattle.std.proofs.Common.{arith, ap, ◌∙◌, rules, ◌≡◌, ◌∷◌, ◌<◌, List, ℕ}
 use Rattle.ffs_volume.specs.Directories.{Graph.is_naming_entry, Roles.RoledEntry, Roles.refers}
 use Rattle.ffs_survey.specs.{Discover.any_in, Discover.is_unreached_dir, Reading.roled_of, Survey.number_at}
-use Rattle.ffs_survey.proofs.{Discovered.bit-le, Lending.same_kinds, Tally.entry_counted, Tally.parent_step}
+use Rattle.ffs_survey.proofs.{Discovered.bit-le, Lending.same_kinds, Totals.entry_counted, Totals.parent_step}
 use Rattle.ffs_survey.proofs.discover.read_unreached.Goals as goal
 
 pub loop-entry-preserved : goal.loop-entry-preserved

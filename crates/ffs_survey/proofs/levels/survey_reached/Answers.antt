@@ -1,11 +1,10 @@
 use Rattle.std.proofs.Common.{ap, rules, ◌≡◌, ◌+◌, take, set, arith, refl, sym, ◌∙◌, true, length-set, length}
 use Rattle.std.proofs.lemmas.Result.{err_from_is_err_and}
-use Rattle.ffs_survey.specs.{Discover.AtLevel, Survey.bool_at, Survey.graph_with}
-use Rattle.ffs_survey.proofs.{CalmLaws.calm_none, Discovered.unset-le, Discovered.unset-set, Frontiers.sane_of}
-use Rattle.ffs_survey.proofs.Costs.{costs_part, level_costs, queue_costs}
-use Rattle.ffs_survey.proofs.{LevelEnds.levels_start, LevelEnds.frontier_start, LevelEnds.queue_start}
-use Rattle.ffs_survey.proofs.{Lending.kinds_long, Lending.same_kinds, Lending.same_marks}
+use Rattle.ffs_survey.proofs.Frontiers.{sane_of, levels_start, frontier_start, queue_start}
 use Rattle.ffs_survey.proofs.Queues.{counted_on, reached_part, alone_part, none_counted, empty_level}
+use Rattle.ffs_survey.proofs.{CalmLaws.calm_none, Costs.costs_part, Costs.level_costs, Costs.queue_costs}
+use Rattle.ffs_survey.proofs.{Discovered.unset-le, Discovered.unset-set, Lending.kinds_long, Lending.same_kinds}
+use Rattle.ffs_survey.{proofs.Lending.same_marks, specs.Discover.AtLevel, specs.Survey.bool_at, specs.Survey.graph_with}
 use Rattle.ffs_survey.proofs.levels.survey_reached.Goals as goal
 
 pub loop-low-init : goal.loop-low-init
