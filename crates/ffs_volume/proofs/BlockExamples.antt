@@ -1,0 +1,43 @@
+-- The examples of classes, steps and claims of inodes, and of groups, by computation.
+use Rattle.ffs_volume.specs.Blocks.{Inodes.inode_from_bytes, Inodes.inode_of, Inodes.class_of, Steps.steps_at}
+use Rattle.ffs_volume.specs.Blocks.{Steps.steps_of, Owners.owner_of, Owners.owners_of, Claims.reserved_map}
+use Rattle.ffs_volume.specs.Blocks.{Claims.no_claims, BlockCheck.phase1_lines, BlockCheck.phase1b_lines}
+use Rattle.ffs_volume.specs.{Blocks.KeptByRule.offer_verdict, Disk.Areas.cgoffset_of, Disk.Areas.cgbase}
+use Rattle.ffs_volume.specs.Disk.Areas.{cgstart, is_group_metadata, is_fragment_in_range, is_run_in_range, is_reserved}
+use Rattle.ffs_volume.specs.Disk.Numbers.{number, all_below, u16_at, i16_at, u32_at, u64_at, i32_at}
+use Rattle.ffs_volume.specs.Disk.Search.{first_below, earliest}
+use Rattle.ffs_volume.specs.Examples.BlockExamples.{inode, file_inode, words_at, root, file, blocks_at, first_reported}
+use Rattle.ffs_volume.specs.Examples.BlockExamples.{second_reported, base_free, two_free, base_class, groups_reported}
+use Rattle.ffs_volume.specs.Examples.BlockExamples.{ClassExamples, StepExamples, ClaimExamples, GroupExamples}
+use Rattle.ffs_volume.specs.Examples.Images.{bytes_in, word, zero_bytes, changed, base_layout, two_groups, base_super}
+use Rattle.ffs_volume.specs.Examples.Images.{base_summary, base_group, root_inode, root_chunk, base_image}
+use Rattle.ffs_volume.specs.Groups.Records.{right_group_counts, right_frsum, right_total, maps_fit, has_right_magic}
+use Rattle.ffs_volume.specs.Groups.Records.{has_right_maps, has_right_sums, has_right_record, has_right_totals}
+use Rattle.ffs_volume.specs.Groups.GroupCheck.{phase5_lines}
+
+-- what the examples compute with
+computed : Unit {0}
+unfolding bytes_in word zero_bytes changed base_layout two_groups base_super base_summary base_group root_inode root_chunk
+    base_image inode file_inode words_at root file blocks_at first_reported second_reported base_free two_free
+    base_class groups_reported number u16_at i16_at u32_at u64_at i32_at first_below earliest all_below cgoffset_of
+    cgbase cgstart is_group_metadata is_fragment_in_range is_run_in_range is_reserved inode_from_bytes inode_of
+    class_of steps_at steps_of owner_of owners_of reserved_map no_claims phase1_lines phase1b_lines offer_verdict
+    right_group_counts right_frsum right_total maps_fit has_right_magic has_right_maps has_right_sums has_right_record
+    has_right_totals phase5_lines
+computed = tt
+
+pub class_examples : ClassExamples
+unfolding computed
+class_examples = assumption
+
+pub step_examples : StepExamples
+unfolding computed
+step_examples = assumption
+
+pub claim_examples : ClaimExamples
+unfolding computed
+claim_examples = assumption
+
+pub group_examples : GroupExamples
+unfolding computed
+group_examples = assumption
