@@ -1,7 +1,7 @@
 -- Kept offers are a prefix of the offers.
 use Rattle.std.proofs.Common.{inl, inr, ◌≡◌, ℕ, ◌+◌, Bool, true, false, refl, List, [], ◌∷◌, ◌++◌, append_assoc}
 use Rattle.std.proofs.Common.{append-nil, nat_lt, ◌&&◌, ◌==◌, not, if◌then◌else◌, map, eqb-true}
-use Rattle.std.proofs.lemmas.{Bool.cases_Bool, Bool.not-true, List.map-append}
+use Rattle.std.proofs.lemmas.{Bool.cases_Bool, Bool.and_right, Bool.not-true, Bool.not_from_false, List.map-append}
 use Rattle.std.specs.List.{range_with_len}
 use Rattle.ffs_volume.specs.Blocks.Claims.{Claims, is_open, after_offer, after_offers, after_run, after_step, after_steps}
 use Rattle.ffs_volume.specs.Blocks.KeptOffers.{Offer, kept_in_offers, kept_in_run, kept_in_step, kept_in_steps, offer_of}
@@ -25,8 +25,8 @@ shut_steps v i s (Gap ∷ steps) q = shut_steps v i s steps q
 
 -- one part after the other: where the first is cut, nothing is kept of the second
 prefix_then : {i : ℕ} {k k' : List Offer} {fs fs' : List ℕ} {b b' : Bool} → KeptPrefix i k fs b →
-    (b ≡ true → (k' ≡ []) × (b' ≡ true)) → KeptPrefix i k' fs' b' → KeptPrefix i (k ++ k') (fs ++ fs') b'
-prefix_then {i = i} {k = k} {k' = k'} {fs = fs} {fs' = fs'} f shut g = elim f.end [
+    KeptPrefix i k' fs' b' → (b ≡ true → (k' ≡ []) × (b' ≡ true)) → KeptPrefix i (k ++ k') (fs ++ fs') b'
+prefix_then {i = i} {k = k} {k' = k'} {fs = fs} {fs' = fs'} f g shut = elim f.end [
   | inl none ↦ record {
     rest = g.rest;
     parts = rw (append_assoc k k' g.rest, g.parts, map-append (offer_of i) fs fs', ← f.parts, none, append-nil k);
@@ -50,17 +50,17 @@ offer_first v i s f = elim (cases_Bool (nat_lt s.dups 11)) [
 offers_first : (v : Layout) (i : ℕ) (s : Claims) (fs : List ℕ) →
     KeptPrefix i (kept_in_offers v i s fs) fs (not (nat_lt (after_offers v s fs).dups 11))
 offers_first v i s [] = record { rest = []; parts = refl; end = inl refl }
-offers_first v i s (f ∷ fs) = prefix_then (offer_first v i s f)
+offers_first v i s (f ∷ fs) = prefix_then (offer_first v i s f) (offers_first v i (after_offer v s f) fs)
     (λ over. let full = full_offers v i (after_offer v s f) fs (not-true _ over) in (full.0, rw full.1 over))
-    (offers_first v i (after_offer v s f) fs)
 
 -- an inode whose eleventh dup offer was seen is cut
 cut_then : {i : ℕ} {kept : List Offer} {fs : List ℕ} (s : Claims) → KeptPrefix i kept fs (not (nat_lt s.dups 11)) →
     KeptPrefix i kept fs (not (is_open s))
-cut_then s f = record {
-  rest = f.rest;
-  parts = f.parts;
-  end = elim f.end [ | inl none ↦ inl none | inr over ↦ inr (grind (arith, nat_tests)) ];
+cut_then s f = record f {
+  end = elim f.end [
+    | inl none ↦ inl none
+    | inr over ↦ inr (not_from_false _ (and_right (nat_lt s.bad 11) (nat_lt s.dups 11) (not-true _ over)))
+  ];
 }
 
 run_first : (v : Layout) (i : ℕ) (s : Claims) (start len : ℕ) →
@@ -93,6 +93,5 @@ step_first v i s (Run start len block) = elim (cases_Bool (is_open s)) [
 pub steps_first : (v : Layout) (i : ℕ) (s : Claims) (steps : List Step) →
     KeptPrefix i (kept_in_steps v i s steps) (fragments_of steps) (not (is_open (after_steps v s steps)))
 steps_first v i s [] = record { rest = []; parts = refl; end = inl refl }
-steps_first v i s (step ∷ steps) = prefix_then (step_first v i s step)
+steps_first v i s (step ∷ steps) = prefix_then (step_first v i s step) (steps_first v i (after_step v s step) steps)
     (λ over. let shut = shut_steps v i (after_step v s step) steps (not-true _ over) in (shut.0, rw shut.1 over))
-    (steps_first v i (after_step v s step) steps)
