@@ -56,7 +56,9 @@ offers_first v i s (f ∷ fs) = prefix_then (offer_first v i s f) (offers_first 
 -- an inode whose eleventh dup offer was seen is cut
 cut_then : {i : ℕ} {kept : List Offer} {fs : List ℕ} (s : Claims) → KeptPrefix i kept fs (not (nat_lt s.dups 11)) →
     KeptPrefix i kept fs (not (is_open s))
-cut_then s f = record f {
+cut_then s f = record {
+  rest = f.rest;
+  parts = f.parts;
   end = elim f.end [
     | inl none ↦ inl none
     | inr over ↦ inr (not_from_false _ (and_right (nat_lt s.bad 11) (nat_lt s.dups 11) (not-true _ over)))
