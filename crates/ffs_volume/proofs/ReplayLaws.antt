@@ -95,11 +95,11 @@ step_alike : (v : Layout) (i : ℕ) (r q : Replay) (step : Step) → r.bad ≡ q
 step_alike v i r q Gap a = record { bad = a; step_is = rw a; offers_are = refl; run_is = refl }
 step_alike v i r q Tail a = record { bad = a; step_is = rw a; offers_are = refl; run_is = refl }
 step_alike v i r q (Run start len block) a =
-    let o = nat_lt q.bad 11 && true in
-    let i = is_run_in_range v start len in
-    let keeps = run_keeps o i (q.bad == 10) q.bad r.kept q.kept len in
+    let seen = nat_lt q.bad 11 && true in
+    let fits = is_run_in_range v start len in
+    let keeps = run_keeps seen fits (q.bad == 10) q.bad r.kept q.kept len in
     record {
-      bad = rw a (run_alike o i (q.bad == 10) q.bad r.kept (r.kept + len) q.kept (q.kept + len));
+      bad = rw a (run_alike seen fits (q.bad == 10) q.bad r.kept (r.kept + len) q.kept (q.kept + len));
       step_is = rw a keeps.0;
       offers_are = rw a (ap (λ n. map (offer_of i) (range_with_len start n)) keeps.1);
       run_is = rw a;
