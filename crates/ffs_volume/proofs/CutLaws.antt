@@ -37,7 +37,7 @@ unfolding owner_of
 cut_is v image x g h =
     let e = after_steps v (at_next_inode (claims_before v image x)) (steps_of v (inode_of v image x) image) in
     let few = kept_few v image x g in
-    let small = cond_holds (λ n. n < 2 ^ 32) (nat_lt e.dups 11) 0 e.kept (λ _. omega arith) (λ _. few) in
+    let small = cond_holds (λ (n : ℕ). n < 2 ^ 32) (nat_lt e.dups 11) 0 e.kept (λ _. omega arith) (λ _. few) in
     rw h (omega arith)
 
 -- and replaying an inode's steps with it gives those that are kept
