@@ -111,10 +111,11 @@ indirect_within t bytes child span address first l h =
         let few : used ≤ t.layout.nindir = omega arith in
         let most : used * span ≤ t.layout.nindir * span = mul-le-mul_right span few in
         let z : first + 0 * span ≡ first = omega arith in
+        let y : 0 + used ≡ used = omega arith in
         let u = within_flat t.layout.frag (λ j. child (address_at t.layout bytes address j) (first + j * span))
         (λ j. first + j * span) 0 used (λ j low. each j) in
-        let whole = within_append t.layout.frag first (first + (0 + used) * span) (first + t.layout.nindir * span)
-        under [] (rw z at u) (omega arith) in
+        let whole = within_append t.layout.frag first (first + used * span) (first + t.layout.nindir * span) under []
+        (rw (z, y) at u) (omega arith) in
         within_append t.layout.frag first first (first + t.layout.nindir * span) tail under
         (tail_within t.layout.frag first (any_nonzero_from t.layout (block_bytes t.layout bytes address) used))
         (rw append-nil at whole)
