@@ -173,7 +173,6 @@ leader_on f p n x g h c l =
           let far : climb f (k + v.0) x ≡ Some s = climb-add f k v.0 x w.0 at ∙ e in
           let near = cycle-within f (k + v.0) x s c far in
           let lt : near.0 < n = (let q = near.1 in omega arith) in
-          let b = climb_continues f p n x g h near.0 in
           elim (cases_lt s w.0) [
             | inr ge ↦ ge
             | inl less ↦ absurd (both_ways (t s) (w.1.least s less)
