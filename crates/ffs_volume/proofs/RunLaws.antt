@@ -80,9 +80,8 @@ module _ (v : Layout) (g : IsAcceptedLayout v) (start len : ℕ) where
 
   pub in_range_is : 0 < len → is_run_in_range v start len ≡ is_apart v start len
   unfolding is_run_in_range
-  in_range_is some = both (all_below len (fits v start)) refl (is_apart v start len) refl
-    where
-      both : (a : Bool) → all_below len (fits v start) ≡ a → (b : Bool) → is_apart v start len ≡ b → a ≡ b
-      both true all b h = sym (fits_apart some (λ k lt. all_below-at len k (fits v start) all lt)) ∙ h
-      both false fails true h = sym fails ∙ all_below-from len (fits v start) (apart_fits h)
-      both false fails false h = refl
+  in_range_is some = same_from_decides {P = is_apart v start len ≡ true} (all_below len (fits v start))
+      (is_apart v start len) (
+        λ all. fits_apart some (λ k lt. all_below-at len k (fits v start) all lt),
+        λ h. all_below-from len (fits v start) (apart_fits h),
+      ) (λ h. h, λ h. h)

@@ -13,28 +13,20 @@ use Rattle.ffs_volume.specs.Blocks.Steps.{steps_of, steps_of_addresses, is_walke
 -- there is an inode 2
 pub some_inodes : (v : Layout) → IsAcceptedLayout v → 2 < v.ncg * v.ipg
 some_inodes v g =
-    let low = g.sizes.bsize_low in
-    let per = g.sizes.inopb in
-    let some = g.sizes.some_inodes in
-    let groups = g.some_groups in
+    let sizes = g.sizes in
     let many : 32 ≤ v.inopb = omega arith in
+    let more : 1 * v.ipg ≤ v.ncg * v.ipg = mul-le-mul_right v.ipg g.some_groups in
     elim (cases_lt v.ipg v.inopb) [
-      | inl small ↦ (let none : v.ipg ≡ 0 = sym (mod-eq_of_lt small) ∙ g.sizes.inode_blocks in absurd (omega arith))
-      | inr large ↦ (let more : 1 * v.ipg ≤ v.ncg * v.ipg = mul-le-mul_right v.ipg groups in omega arith)
+      | inl small ↦ (let none = mod-eq_of_lt small in absurd (omega arith))
+      | inr large ↦ omega arith
     ]
 
 -- no steps where the size is 0
 pub no_blocks : (n b : ℕ) → 0 < b → n ≡ 0 → div_ceil n b ≡ 0
-no_blocks n b h e = ap (λ k. div_ceil k b) e ∙ ap (λ q. q + min 1 (0 % b)) (zero-div b)
-    ∙ ap (λ r. 0 + min 1 r) (zero-mod b)
+no_blocks n b h e = rw (e, zero-div, zero-mod)
 
 pub no_steps : (v : Layout) (image : List ℕ) (i : Inode) → 0 < v.bsize → i.size ≡ 0 → steps_of v i image ≡ []
 unfolding steps_of
 no_steps v image i h e =
-    ap (λ b. steps_of_addresses (record { layout = v; blocks = b; last_length = last_length_of v i }) image
-    i.addresses 0
-    (addresses_needed v.nindir b)) (one (is_walked v i))
-  where
-    one : (w : Bool) → (if w then logical_blocks_of v i else 0) ≡ 0
-    one true = no_blocks i.size v.bsize h e
-    one false = refl
+    let none = cond_both (is_walked v i) (logical_blocks_of v i) 0 (λ n. n ≡ 0) (λ _. no_blocks i.size v.bsize h e) (λ _. refl)
+    in rw none
