@@ -28,9 +28,9 @@ unfolding lines_below lines_from
 all_from_root lines zero zeroth first = refl
 all_from_root lines (suc zero) zeroth first = zeroth
 all_from_root lines (suc (suc n)) zeroth first =
-    let q : suc (suc n) ≡ 2 + n = omega arith in
+    let q : 2 + n ≡ suc (suc n) = omega arith in
     let r : suc (suc n) - 2 ≡ n = omega arith in
-    rw (r, q) (rw (zeroth, first) at (below_and_from lines n 2))
+    rw r (rw (zeroth, first, q) at (below_and_from lines n 2))
 
 -- the next number's lines
 lines_next : (lines : ℕ → List TreeMessage) (d n : ℕ) → d < n →

@@ -18,6 +18,5 @@ pub before_next : (v : Layout) (bytes : List ℕ) (x : ℕ) → 2 ≤ x →
 unfolding claims_before
 before_next v bytes x low =
     let more : x + 1 - 2 ≡ x - 2 + 1 = omega arith in
-    ap (λ (n : ℕ). after_owners v (no_claims v) (map (owner_of v bytes) (range_with_len 2 n))) more
-    ∙ ap (after_owners v (no_claims v)) (map-range_with_len_more (owner_of v bytes) 2 (x - 2) x (omega arith))
-    ∙ owners_append v (no_claims v) (map (owner_of v bytes) (range_with_len 2 (x - 2))) (owner_of v bytes x ∷ [])
+    rw (more, map-range_with_len_more (owner_of v bytes) 2 (x - 2) x (omega arith))
+    (owners_append v (no_claims v) (map (owner_of v bytes) (range_with_len 2 (x - 2))) (owner_of v bytes x ∷ []))

@@ -28,5 +28,6 @@ no_blocks n b h e = rw (e, zero-div, zero-mod)
 pub no_steps : (v : Layout) (image : List ℕ) (i : Inode) → 0 < v.bsize → i.size ≡ 0 → steps_of v i image ≡ []
 unfolding steps_of
 no_steps v image i h e =
-    let none = cond_both (is_walked v i) (logical_blocks_of v i) 0 (λ n. n ≡ 0) (λ _. no_blocks i.size v.bsize h e) (λ _. refl)
-    in rw none
+    let none = cond_both (is_walked v i) (logical_blocks_of v i) 0 (λ n. n ≡ 0)
+    (λ _. no_blocks i.size v.bsize h e) (λ _. refl) in
+    rw none
