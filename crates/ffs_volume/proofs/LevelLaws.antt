@@ -29,13 +29,12 @@ within-step v k s d l h e =
     (some_below-from (λ s. within v k s && edge v s d) v.count s l (and_from (within v k s) (edge v s d) h e))
 
 within-plus : (v : Graph) (i k d : ℕ) → within v k d ≡ true → within v (i + k) d ≡ true
-within-plus v zero k d h = let q : 0 + k ≡ k = omega arith in ap (λ m. within v m d) q ∙ h
-within-plus v (suc i) k d h = let q : suc i + k ≡ suc (i + k) = omega arith in ap (λ m. within v m d) q
-    ∙ within-more v (i + k) d (within-plus v i k d h)
+within-plus v zero k d h = let q : 0 + k ≡ k = omega arith in rw q h
+within-plus v (suc i) k d h =
+    let q : suc i + k ≡ suc (i + k) = omega arith in rw q (within-more v (i + k) d (within-plus v i k d h))
 
 pub within-grows : (v : Graph) (j k d : ℕ) → j ≤ k → within v j d ≡ true → within v k d ≡ true
-within-grows v j k d l h = let q : (k - j) + j ≡ k = omega arith in sym (ap (λ m. within v m d) q)
-    ∙ within-plus v (k - j) j d h
+within-grows v j k d l h = let q : (k - j) + j ≡ k = omega arith in rw q at (within-plus v (k - j) j d h)
 
 pub level-before : (v : Graph) (k d : ℕ) → IsLevel v (suc k) d → (s : ℕ) × (s < v.count) × IsLevel v k s
     × (edge v s d ≡ true)
@@ -82,8 +81,7 @@ level-bound v k d l h =
           let o = r.ordered in let u = r.bounded in
           let one = (level-each v k d l h r.first).2 (omega arith) in
           let two = (level-each v k d l h r.second).2 (omega arith) in
-          let there = subst (λ s. within v r.first s ≡ true) r.same one.within_k in
-          absurd (both_ways _ (two.least r.first o) there)
+          absurd (both_ways _ (two.least r.first o) (subst (λ s. within v r.first s ≡ true) r.same one.within_k))
     ]
 
 pub level-is : (v : Graph) (k d : ℕ) → d < v.count → IsLevel v k d → level v d ≡ Some k
@@ -93,7 +91,8 @@ level-is v k d l h = first_below-is (λ j. within v j d) v.count k
 
 pub level-some : (v : Graph) (k d : ℕ) → level v d ≡ Some k → IsLevel v k d × (k < v.count)
 unfolding level
-level-some v k d e = let f = first_below-some (λ j. within v j d) v.count k e in
+level-some v k d e =
+    let f = first_below-some (λ j. within v j d) v.count k e in
     (record { within_k = f.passes; least = f.least }, f.below)
 
 -- however many edges a walk has, its end is reached

@@ -36,14 +36,11 @@ first_below-none p n e = subst (FirstMeaning p n) e (first_below-tells p n)
 
 -- two answers that report the same are the same
 one_first : (p : ℕ → Bool) (n : ℕ) (o : Option ℕ) (s : ℕ) → IsFirst p n s → FirstMeaning p n o → o ≡ Some s
-one_first p n (Some t) s f g =
-    elim (cases_order t s) [
-      | inl q ↦ ap Some q
-      | inr q ↦ absurd (elim q [
-        | inl l ↦ both_ways (p t) (f.least t l) g.passes
-        | inr l ↦ both_ways (p s) (g.least s l) f.passes
-      ])
-    ]
+one_first p n (Some t) s f g = elim (cases_order t s) [
+  | inl q ↦ ap Some q
+  | inr (inl l) ↦ absurd (both_ways (p t) (f.least t l) g.passes)
+  | inr (inr l) ↦ absurd (both_ways (p s) (g.least s l) f.passes)
+]
 one_first p n None s f g = absurd (both_ways (p s) (g s f.below) f.passes)
 
 pub first_below-is : (p : ℕ → Bool) (n s : ℕ) → IsFirst p n s → first_below p n ≡ Some s
