@@ -1,12 +1,11 @@
 -- Laws of `specs/Laws/Accepted`.
 use Rattle.std.proofs.Common.{◌≡◌, ℕ, Bool, true, false, List, length, Option, Some, None, Ok, refl, inl, inr, nat_lt}
-use Rattle.std.proofs.lemmas.Bool.{cases_Bool}
-use Rattle.ffs_volume.proofs.GeometryLaws.{geometry_holds}
-use Rattle.ffs_volume.specs.Disk.Outcome.{super_sector, super_bytes, layout_fault, copy_agrees, super_verdict}
-use Rattle.ffs_volume.specs.Disk.{Outcome.outcome_in, Outcome.outcome_of, Outcome.outcome, Superblock.Superblock}
-use Rattle.ffs_volume.specs.Disk.Superblock.{layout_of, superblock_of, order_of}
-use Rattle.ffs_volume.specs.{Laws.Accepted.FitsImage, Laws.Accepted.AcceptedFit, declared.Order.Order}
-use Rattle.ffs_volume.specs.declared.SuperFault.{SuperFault}
+use Rattle.std.proofs.{Common.◌*◌, Common.◌+◌, lemmas.Bool.cases_Bool}
+use Rattle.ffs_volume.{proofs.GeometryLaws.geometry_holds, specs.Disk.Outcome.super_sector}
+use Rattle.ffs_volume.specs.Disk.Outcome.{super_bytes, layout_fault, copy_agrees, super_verdict, outcome_in, outcome_of}
+use Rattle.ffs_volume.specs.Disk.{Outcome.outcome, Superblock.Superblock, Superblock.layout_of}
+use Rattle.ffs_volume.specs.{Disk.Superblock.superblock_of, Disk.Superblock.order_of, Laws.Accepted.FitsImage}
+use Rattle.ffs_volume.specs.{Laws.Accepted.AcceptedFit, declared.Order.Order, declared.SuperFault.SuperFault}
 
 super_verdict-ok : (fault : Option SuperFault) (agrees : Bool) (super s : Superblock) → super_verdict fault agrees super ≡ Ok s
     → (fault ≡ None) × (super ≡ s)

@@ -1,6 +1,6 @@
 -- Laws of tests of every number below another.
 use Rattle.std.proofs.Common.{◌≡◌, ◌<◌, ◌+◌, ℕ, add-one, Bool, true, false, refl, Decides}
-use Rattle.std.proofs.lemmas.Bool.{Decides.Decides-below_and, both_ways, false_from_ne_true}
+use Rattle.std.proofs.lemmas.Bool.{both_ways, false_from_ne_true, Decides.Decides-below_and}
 use Rattle.ffs_volume.specs.Disk.Numbers.{all_below}
 
 all_below-decides : (n : ℕ) (test : ℕ → Bool) → Decides (all_below n test) ((k : ℕ) → k < n → test k ≡ true)

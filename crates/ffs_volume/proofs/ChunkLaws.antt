@@ -1,16 +1,12 @@
 -- A directory has no more chunks than the size of it that is read.
-use Rattle.std.proofs.Common.{◌≡◌, ℕ, ◌+◌, ◌-◌, ◌*◌, ◌/◌, ◌≤◌, Bool, true, false, arith, ◌∙◌, List, [], ◌∷◌, ◌++◌}
-use Rattle.std.proofs.Common.{length, length-append, Some, None}
-use Rattle.std.specs.Prelude.{min, if◌then◌else◌}
-use Rattle.std.specs.List.{range_with_len}
-use Rattle.std.proofs.lemmas.List.{length-map}
-use Rattle.std.proofs.lemmas.List.FromFn.{length-range_with_len}
-use Rattle.std.proofs.Math.Nat.{mul-le-mul_right, mul-div-le}
-use Rattle.ffs_volume.specs.declared.Step.{Step}
-use Rattle.ffs_volume.specs.declared.Step.TheVariants.{Run, Tail, Gap}
-use Rattle.ffs_volume.specs.Disk.Numbers.{piece}
+use Rattle.std.proofs.Common.{◌≡◌, ℕ, ◌+◌, ◌-◌, ◌*◌, ◌/◌, ◌≤◌, Bool}
+use Rattle.std.proofs.Common.{arith, ◌∙◌, List, [], ◌∷◌, ◌++◌, length, length-append, Some, None, min, mul-le-mul_right}
+use Rattle.std.proofs.{Math.Nat.mul-div-le, lemmas.Bool.cond_both, lemmas.List.length-map}
+use Rattle.std.{proofs.lemmas.List.FromFn.length-range_with_len, specs.List.range_with_len}
 use Rattle.ffs_volume.proofs.StepLaws.{Within}
 use Rattle.ffs_volume.specs.Directories.Entries.{ChunkSource, chunk_of, run_chunks, chunks_of}
+use Rattle.ffs_volume.specs.{Disk.Numbers.piece, declared.Step.Step}
+use Rattle.ffs_volume.specs.declared.Step.TheVariants.{Run, Tail, Gap}
 
 -- how many chunks a Run has
 run_length : (r : ChunkSource) (start len offset : ℕ) → length (run_chunks r start len offset)

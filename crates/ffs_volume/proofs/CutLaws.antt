@@ -1,15 +1,14 @@
 -- The cut of an inode fits 32 bits, and says which of its steps are kept.
-use Rattle.std.proofs.Common.{◌≡◌, ℕ, ◌-◌, ◌<◌, ◌^◌, Bool, true, false, arith, ◌∙◌, List, [], length, nat_lt, min}
-use Rattle.std.proofs.{Common.if◌then◌else◌, lemmas.List.FromFn.length-map-range_with_len}
-use Rattle.std.specs.List.{range_with_len}
+use Rattle.std.proofs.Common.{◌≡◌, ℕ, ◌-◌, ◌<◌, ◌^◌, true, arith, ◌∙◌, List, length, nat_lt, refl}
+use Rattle.std.{proofs.lemmas.List.FromFn.length-map-range_with_len, specs.List.range_with_len}
 use Rattle.ffs_volume.proofs.Potentials.{cond_holds, owner_moves, kept_bound}
 use Rattle.ffs_volume.proofs.{ReplayIsKeeping.replay_is_keeping, RunBounds.inodes_move}
-use Rattle.ffs_volume.specs.Blocks.Claims.{no_claims, reserved_map, at_next_inode, after_steps, after_owner}
+use Rattle.ffs_volume.specs.Blocks.Claims.{no_claims, reserved_map, at_next_inode, after_steps}
 use Rattle.ffs_volume.specs.Blocks.{Inodes.inode_of, KeptSteps.claims_before, KeptSteps.kept_steps_of, Owners.owner_of}
-use Rattle.ffs_volume.specs.{Blocks.Steps.steps_of, Directories.Volumes.is_inode_number, Disk.Areas.is_reserved}
-use Rattle.ffs_volume.specs.{Directories.Volumes.kept_steps_of_inode, Encodings.Replay.cut_of, Encodings.Replay.cut_at}
-use Rattle.ffs_volume.specs.{Encodings.Replay.fresh_replay, Encodings.Replay.replayed_steps, declared.Layout.Layout}
-use Rattle.ffs_volume.specs.Laws.Geometry.{IsAcceptedLayout}
+use Rattle.ffs_volume.specs.{Blocks.Steps.steps_of, Directories.Volumes.is_inode_number}
+use Rattle.ffs_volume.specs.{Directories.Volumes.kept_steps_of_inode, Disk.Areas.is_reserved}
+use Rattle.ffs_volume.specs.Encodings.Replay.{cut_of, cut_at, fresh_replay, replayed_steps}
+use Rattle.ffs_volume.specs.{Laws.Geometry.IsAcceptedLayout, declared.Layout.Layout}
 
 -- the map keeps its length from inode to inode
 pub before_length : (v : Layout) (image : List ℕ) (x : ℕ) → IsAcceptedLayout v → length (claims_before v image x).used ≡

@@ -1,14 +1,12 @@
 -- Laws of `specs/Directories/Levels`.
-use Rattle.std.specs.Prelude.{◌≡◌, ℕ, zero, suc, ◌+◌, ◌-◌, ◌<◌, ◌≤◌, ◌==◌, true, ◌&&◌, ◌||◌, refl, Some, is_some}
-use Rattle.std.proofs.Common.{arith, sym, ◌∙◌, ap, subst, inl, inr}
-use Rattle.std.proofs.lemmas.Bool.{both_ways, cases_lt, eq-eqb, and_parts, and_from, or_cases, or_left, or_right}
-use Rattle.std.proofs.lemmas.Bool.{false_from_ne_true}
-use Rattle.ffs_volume.specs.Disk.Search.{some_below}
-use Rattle.ffs_volume.proofs.SearchLaws.{is_some-value, some_below-gives, some_below-from, first_below-is}
-use Rattle.ffs_volume.proofs.SearchLaws.{first_below-some}
-use Rattle.ffs_volume.proofs.Pigeon.{pigeon}
+use Rattle.std.proofs.Common.{◌≡◌, ℕ, zero, suc, ◌+◌, ◌-◌, ◌<◌, ◌≤◌}
+use Rattle.std.proofs.Common.{◌==◌, true, ◌&&◌, ◌||◌, refl, Some, is_some, arith, sym, ◌∙◌, ap, subst, inl, inr, eq-eqb}
+use Rattle.std.proofs.lemmas.Bool.{both_ways}
+use Rattle.std.proofs.lemmas.Bool.{cases_lt, and_parts, and_from, or_cases, or_left, or_right, false_from_ne_true}
+use Rattle.ffs_volume.proofs.{Pigeon.pigeon, SearchLaws.is_some-value}
+use Rattle.ffs_volume.proofs.SearchLaws.{some_below-gives, some_below-from, first_below-is, first_below-some}
 use Rattle.ffs_volume.specs.Directories.Graph.{Graph, within, level, edge, reached, parent}
-use Rattle.ffs_volume.specs.Laws.Levels.{IsLevel}
+use Rattle.ffs_volume.specs.{Disk.Search.some_below, Laws.Levels.IsLevel}
 
 pub within-suc : (v : Graph) (k d : ℕ) →
     within v (suc k) d ≡ (within v k d || some_below (λ s. within v k s && edge v s d) v.count)

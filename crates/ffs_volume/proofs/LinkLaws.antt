@@ -1,11 +1,8 @@
 -- What a count of references says of an inode's links.
-use Rattle.std.proofs.Common.{◌≡◌, ℕ, ◌+◌, ◌-◌, ◌<◌, ◌≤◌, Bool, true, false, ℤ, pos, negsuc, arith, refl}
-use Rattle.std.specs.Prelude.{◌&&◌, ◌==◌, nat_lt, nat_le, if◌then◌else◌}
-use Rattle.std.proofs.lemmas.Bool.{eq-eqb, ne_eqb}
+use Rattle.std.proofs.Common.{◌≡◌, ℕ, ◌+◌, true, false, ℤ, pos, negsuc, arith, ◌==◌}
 use Rattle.std.proofs.lemmas.Bool.Decides.{nat_tests}
-use Rattle.ffs_volume.specs.declared.constants.TheConstants.{LINKS_MET, NO_LINKS}
 use Rattle.ffs_volume.specs.Disk.Numbers.{equals_natural}
-use Rattle.ffs_volume.specs.Encodings.Links.{links_start}
+use Rattle.ffs_volume.specs.{Encodings.Links.links_start, declared.constants.TheConstants.LINKS_MET}
 
 -- each link has a reference, and there is one
 pub record AreMet (links : ℤ) (references : ℕ) : Type 0 where

@@ -1,7 +1,7 @@
 -- How the lines of numbers in ascending order continue.
-use Rattle.std.proofs.Common.{◌≡◌, ℕ, zero, suc, ◌+◌, ◌-◌, ◌<◌, ◌≤◌, List, [], ◌++◌, map, append_assoc, append-nil, length}
-use Rattle.std.proofs.Common.{refl, ◌∙◌, sym, arith}
-use Rattle.std.proofs.lemmas.List.{length-append, map-append}
+use Rattle.std.proofs.Common.{◌≡◌, ℕ, zero, suc, ◌+◌, ◌-◌, ◌<◌, ◌≤◌, List}
+use Rattle.std.proofs.Common.{[], ◌++◌, map, append_assoc, append-nil, length, refl, ◌∙◌, sym, arith, length-append}
+use Rattle.std.proofs.lemmas.List.{map-append}
 use Rattle.ffs_volume.specs.Messages.Kinds.{TreeMessage, of_tree, lines_below, lines_from}
 
 -- those below d + k are those below d and the k from d on

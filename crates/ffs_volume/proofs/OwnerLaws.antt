@@ -1,11 +1,9 @@
 -- Laws of `specs/Blocks/Owners`: the claims of one inode after another.
-use Rattle.std.proofs.Common.{◌≡◌, ℕ, ◌+◌, ◌-◌, ◌≤◌, List, [], ◌∷◌, ◌++◌, map, refl, ap, ◌∙◌, arith}
-use Rattle.std.specs.List.{range_with_len}
-use Rattle.std.proofs.lemmas.List.FromFn.{map-range_with_len_more}
-use Rattle.ffs_volume.specs.declared.Layout.{Layout}
-use Rattle.ffs_volume.specs.Blocks.Owners.{Owner, owner_of}
+use Rattle.std.proofs.Common.{◌≡◌, ℕ, ◌+◌, ◌-◌, ◌≤◌, List, [], ◌∷◌, ◌++◌, map, refl, arith}
+use Rattle.std.{proofs.lemmas.List.FromFn.map-range_with_len_more, specs.List.range_with_len}
 use Rattle.ffs_volume.specs.Blocks.Claims.{Claims, no_claims, after_owner, after_owners}
-use Rattle.ffs_volume.specs.Blocks.KeptSteps.{claims_before}
+use Rattle.ffs_volume.specs.Blocks.{KeptSteps.claims_before, Owners.Owner, Owners.owner_of}
+use Rattle.ffs_volume.specs.declared.Layout.{Layout}
 
 owners_append : (v : Layout) (s : Claims) (xs ys : List Owner) →
     after_owners v s (xs ++ ys) ≡ after_owners v (after_owners v s xs) ys

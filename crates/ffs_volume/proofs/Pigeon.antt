@@ -1,6 +1,6 @@
 -- Among n + 1 numbers below n two are equal.
 use Rattle.std.proofs.Common.{◌≡◌, ℕ, zero, suc, ◌<◌, ◌≤◌, ◌==◌, cond, arith, inl, inr, eqb-true}
-use Rattle.std.proofs.lemmas.Bool.{Decides.nat_tests, cases_Bool, eqb-false}
+use Rattle.std.proofs.lemmas.Bool.{cases_Bool, eqb-false, Decides.nat_tests}
 use Rattle.ffs_volume.proofs.SearchLaws.{some_below-gives, some_below-false}
 use Rattle.ffs_volume.specs.Disk.Search.{some_below}
 

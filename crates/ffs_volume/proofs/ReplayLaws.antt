@@ -1,16 +1,15 @@
 -- Laws of `specs/Encodings/ReplayCounts`.
-use Rattle.std.proofs.Common.{zero, suc, ◌≡◌, ℕ, ◌+◌, ◌-◌, ◌≤◌, Bool, true, false, arith, refl, ap, List, [], ◌∷◌, ◌++◌}
-use Rattle.std.proofs.Common.{replicate, nat_lt, ◌&&◌, ◌==◌, if◌then◌else◌, map, inl, inr}
-use Rattle.std.proofs.lemmas.Bool.{Decides.nat_tests, cases_Bool}
-use Rattle.std.specs.List.{range_with_len}
+use Rattle.std.proofs.Common.{zero, suc, ◌≡◌, ℕ, ◌+◌, ◌-◌, ◌≤◌, Bool, true, false, arith, refl}
+use Rattle.std.proofs.Common.{ap, List, [], ◌∷◌, ◌++◌, replicate, nat_lt, ◌&&◌, ◌==◌, if◌then◌else◌, map, inl, inr}
+use Rattle.std.{proofs.lemmas.Bool.cases_Bool, proofs.lemmas.Bool.Decides.nat_tests, specs.List.range_with_len}
 use Rattle.ffs_volume.proofs.Potentials.{cond_holds, offers_keep}
 use Rattle.ffs_volume.proofs.ReplayIsKeeping.{replay_of, replayed_step_offers, replayed_offers, seen_replays}
-use Rattle.ffs_volume.proofs.ReplayIsKeeping.{step_replays, step_few}
-use Rattle.ffs_volume.specs.Blocks.Claims.{Claims, at_next_inode, is_open, after_offers, after_run, after_step, after_steps}
-use Rattle.ffs_volume.specs.{Blocks.KeptOffers.offer_of, Disk.Areas.is_run_in_range, declared.Layout.Layout}
-use Rattle.ffs_volume.specs.Encodings.Replay.{Replay, fresh_replay, cut_of, replay_after_step, is_replayed}
-use Rattle.ffs_volume.specs.Encodings.{Replay.replayed_steps, ReplayCounts.seen_run, ReplayCounts.replayed_runs}
-use Rattle.ffs_volume.specs.{Encodings.ReplayCounts.replay_step_by_cut, declared.Step.Step}
+use Rattle.ffs_volume.{proofs.ReplayIsKeeping.step_replays, proofs.ReplayIsKeeping.step_few, specs.Blocks.Claims.Claims}
+use Rattle.ffs_volume.specs.Blocks.Claims.{at_next_inode, is_open, after_offers, after_run, after_step, after_steps}
+use Rattle.ffs_volume.specs.{Blocks.KeptOffers.offer_of, Disk.Areas.is_run_in_range, Encodings.Replay.Replay}
+use Rattle.ffs_volume.specs.Encodings.Replay.{fresh_replay, cut_of, replay_after_step, is_replayed, replayed_steps}
+use Rattle.ffs_volume.specs.Encodings.ReplayCounts.{seen_run, replayed_runs, replay_step_by_cut}
+use Rattle.ffs_volume.specs.declared.{Layout.Layout, Step.Step}
 use Rattle.ffs_volume.specs.declared.Step.TheVariants.{Run, Tail, Gap}
 
 -- two replays that keep the same steps and offers and see as many Runs

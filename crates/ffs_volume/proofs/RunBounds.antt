@@ -1,10 +1,10 @@
 -- A bound on the Runs that are seen: one for each fragment, and 22 for each inode.
 use Rattle.std.proofs.Common.{◌≡◌, ℕ, ◌+◌, ◌-◌, ◌*◌, ◌≤◌, List, [], ◌∷◌, length, arith, ◌∙◌, map}
-use Rattle.std.proofs.lemmas.List.{FromFn.length-range_with_len, FromFn.length-map-range_with_len}
+use Rattle.std.proofs.lemmas.List.FromFn.{length-range_with_len, length-map-range_with_len}
 use Rattle.std.proofs.lemmas.List.Sums.{count_by-le-length}
 use Rattle.ffs_volume.proofs.Potentials.{owner_moves}
-use Rattle.ffs_volume.specs.Blocks.{Claims.Claims, Claims.reserved_map, Claims.no_claims, Claims.after_owner}
-use Rattle.ffs_volume.specs.Blocks.{Claims.after_owners, Owners.owner_of, Owners.owners_of, Owners.inode_numbers}
+use Rattle.ffs_volume.specs.Blocks.Claims.{Claims, reserved_map, no_claims, after_owner, after_owners}
+use Rattle.ffs_volume.specs.Blocks.Owners.{owner_of, owners_of, inode_numbers}
 use Rattle.ffs_volume.specs.{Disk.Areas.is_reserved, Laws.ClaimBounds.used_bits, Laws.Geometry.IsAcceptedLayout}
 use Rattle.ffs_volume.specs.{Report.Memory.runs_limit, Report.Whole.run_count, declared.Layout.Layout}
 

@@ -1,16 +1,11 @@
 -- A run is in range where its ends show it.
-use Rattle.std.proofs.Common.{inl, inr, ◌≡◌, ℕ, ◌+◌, ◌-◌, ◌*◌, ◌/◌, ◌<◌, ◌≤◌, Bool, true, false, arith, refl, sym, ◌∙◌}
-use Rattle.std.proofs.Math.Nat.{lt-mul-div-succ, mul-div-le}
-use Rattle.std.proofs.lemmas.Bool.{cases_lt}
-use Rattle.std.proofs.lemmas.Bool.Decides.{nat_tests}
-use Rattle.std.specs.Prelude.{nat_le, ◌&&◌, ◌||◌, ◌==◌}
-use Rattle.ffs_volume.specs.declared.Layout.{Layout}
-use Rattle.ffs_volume.specs.Disk.Numbers.{all_below}
-use Rattle.ffs_volume.specs.Disk.Areas.{cgbase, cgsblock, cgdmin, is_group_metadata, is_fragment_in_range}
-use Rattle.ffs_volume.specs.Disk.Areas.{is_run_in_range}
-use Rattle.ffs_volume.specs.Laws.Geometry.{IsAcceptedLayout}
+use Rattle.std.proofs.Common.{inl, inr, ◌≡◌, ℕ, ◌+◌, ◌-◌, ◌*◌, ◌/◌, ◌<◌, ◌≤◌, Bool, true, false, arith, nat_le, ◌&&◌}
+use Rattle.std.proofs.{Common.◌||◌, Common.◌==◌, Math.Nat.lt-mul-div-succ, Math.Nat.mul-div-le}
+use Rattle.std.proofs.lemmas.Bool.{cases_lt, Decides.nat_tests, Decides.same_from_decides}
 use Rattle.ffs_volume.proofs.AreaLaws.{is_in_metadata_of, is_metadata_of_group, group_below, group_is}
-use Rattle.ffs_volume.proofs.Below.{all_below-at, all_below-from}
+use Rattle.ffs_volume.{proofs.Below.all_below-at, proofs.Below.all_below-from, specs.Disk.Areas.cgbase}
+use Rattle.ffs_volume.specs.Disk.Areas.{cgsblock, cgdmin, is_group_metadata, is_fragment_in_range, is_run_in_range}
+use Rattle.ffs_volume.specs.{Disk.Numbers.all_below, Laws.Geometry.IsAcceptedLayout, declared.Layout.Layout}
 
 -- the run of `len` fragments from `start` ends in the volume and in its group, and is before the
 -- kept part or after it

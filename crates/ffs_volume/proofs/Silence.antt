@@ -1,7 +1,7 @@
 -- When a list of messages is empty.
-use Rattle.std.specs.Prelude.{◌≡◌, ◌≢◌, ℕ, zero, suc, ◌<◌, Bool, true, false, refl, List, [], ◌∷◌, ◌++◌, if◌then◌else◌}
-use Rattle.std.proofs.Common.{arith, sym, ◌∙◌, ap, inl, inr}
-use Rattle.std.proofs.lemmas.Bool.{cases_eq}
+use Rattle.std.proofs.Common.{◌≡◌, ◌≢◌, ℕ, zero, suc, ◌<◌}
+use Rattle.std.proofs.Common.{Bool, true, false, refl, List, [], ◌∷◌, ◌++◌, if◌then◌else◌, arith, ◌∙◌, ap, inl, inr}
+use Rattle.std.proofs.lemmas.Bool.{cases_eq, cond_both}
 use Rattle.ffs_volume.specs.Messages.Kinds.{TreeMessage, reported, lines_below}
 
 pub nil-left : (xs ys : List TreeMessage) → xs ++ ys ≡ [] → xs ≡ []

@@ -1,14 +1,9 @@
 -- What follows from sizes: there is an inode 2, and where an inode's size is 0 there are no steps.
-use Rattle.std.specs.Prelude.{◌≡◌, ℕ, ◌+◌, ◌*◌, ◌%◌, ◌<◌, ◌≤◌, min, Bool, true, false, refl, if◌then◌else◌, List, []}
+use Rattle.std.proofs.Common.{◌≡◌, ℕ, ◌*◌, ◌<◌, ◌≤◌, refl, List, [], arith, inl, inr, mod-eq_of_lt, mul-le-mul_right}
+use Rattle.std.proofs.{Math.Nat.zero-div, Math.Nat.zero-mod, lemmas.Bool.cases_lt, lemmas.Bool.cond_both}
 use Rattle.std.specs.Int.{div_ceil}
-use Rattle.std.proofs.Common.{arith, sym, ◌∙◌, ap, inl, inr}
-use Rattle.std.proofs.Math.Nat.{mod-eq_of_lt, zero-div, zero-mod, mul-le-mul_right}
-use Rattle.std.proofs.lemmas.Bool.{cases_lt}
-use Rattle.ffs_volume.specs.declared.Layout.{Layout}
-use Rattle.ffs_volume.specs.declared.Inode.{Inode}
-use Rattle.ffs_volume.specs.Laws.Geometry.{IsAcceptedLayout}
-use Rattle.ffs_volume.specs.Blocks.Inodes.{logical_blocks_of, addresses_needed}
-use Rattle.ffs_volume.specs.Blocks.Steps.{steps_of, steps_of_addresses, is_walked, last_length_of}
+use Rattle.ffs_volume.specs.Blocks.{Inodes.logical_blocks_of, Steps.steps_of, Steps.is_walked}
+use Rattle.ffs_volume.specs.{Laws.Geometry.IsAcceptedLayout, declared.Inode.Inode, declared.Layout.Layout}
 
 -- there is an inode 2
 pub some_inodes : (v : Layout) → IsAcceptedLayout v → 2 < v.ncg * v.ipg

@@ -1,16 +1,15 @@
 -- The Runs of data of an inode come in the order of its logical blocks, and each Run has a fragment
 -- at least, and a block's fragments at most.
-use Rattle.std.proofs.Common.{zero, suc, inl, inr, ◌≡◌, ℕ, ◌+◌, ◌-◌, ◌*◌, ◌%◌, ◌<◌, ◌≤◌, ◌==◌, Bool, true, false, arith, refl}
-use Rattle.std.proofs.Common.{sym, List, [], ◌∷◌, ◌++◌, Some, None, nat_lt, nat_eq, ◌&&◌, if◌then◌else◌, slice_index}
-use Rattle.std.proofs.Common.{flat_map, mul-le-mul_right, mod-lt, append-nil}
-use Rattle.std.proofs.lemmas.{Bool.Decides.nat_tests, Bool.cases_lt, Bool.cond_both, Bool.eqb-false, Grind.div_ceil_times}
-use Rattle.std.proofs.lemmas.List.Elements.{All-nil, All-cons}
-use Rattle.std.specs.{Int.div_ceil, List.All, List.range_with_len}
-use Rattle.ffs_volume.specs.Blocks.{Inodes.logical_blocks_of, Inodes.addresses_needed}
-use Rattle.ffs_volume.specs.Blocks.Steps.{FileBlocks, block_bytes, address_at, indirect_addresses_needed, tail_of}
-use Rattle.ffs_volume.specs.Blocks.Steps.{any_nonzero_from, steps_under, data_length, span_of, data_step}
-use Rattle.ffs_volume.specs.Blocks.Steps.{indirect_steps, steps_at, indirection_of, first_block, last_length_of}
-use Rattle.ffs_volume.specs.Blocks.Steps.{is_walked, steps_of}
+use Rattle.std.proofs.Common.{zero, suc, inl, inr, ◌≡◌, ℕ, ◌+◌, ◌-◌, ◌*◌, ◌%◌, ◌<◌, ◌≤◌}
+use Rattle.std.proofs.Common.{◌==◌, Bool, true, false, arith, refl, List, [], ◌∷◌, ◌++◌, Some, None, nat_lt, nat_eq}
+use Rattle.std.proofs.Common.{◌&&◌, if◌then◌else◌, slice_index, flat_map, mul-le-mul_right, mod-lt, append-nil, All}
+use Rattle.std.proofs.lemmas.Bool.{cases_lt, cond_both, eqb-false, Decides.nat_tests}
+use Rattle.std.proofs.lemmas.{Grind.div_ceil_times, List.Elements.All-nil, List.Elements.All-cons}
+use Rattle.std.specs.{Int.div_ceil, List.range_with_len}
+use Rattle.ffs_volume.specs.Blocks.{Inodes.logical_blocks_of, Inodes.addresses_needed, Steps.FileBlocks}
+use Rattle.ffs_volume.specs.Blocks.Steps.{block_bytes, address_at, indirect_addresses_needed, tail_of, any_nonzero_from}
+use Rattle.ffs_volume.specs.Blocks.Steps.{steps_under, data_length, span_of, data_step, indirect_steps}
+use Rattle.ffs_volume.specs.Blocks.Steps.{steps_at, indirection_of, first_block, last_length_of, is_walked, steps_of}
 use Rattle.ffs_volume.specs.{Disk.Areas.is_run_in_range, Laws.Geometry.IsAcceptedLayout, Laws.RunLengths.HasLength}
 use Rattle.ffs_volume.specs.declared.{Inode.Inode, Layout.Layout, Step.Step}
 use Rattle.ffs_volume.specs.declared.Step.TheVariants.{Run, Tail, Gap}

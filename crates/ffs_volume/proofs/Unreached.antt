@@ -1,11 +1,9 @@
 -- What is not reached, and what is lost.
-use Rattle.std.specs.Prelude.{◌≡◌, ◌≢◌, ℕ, ◌==◌, Bool, true, false, not, ◌&&◌, None, Some}
-use Rattle.std.proofs.Common.{◌∙◌, ap}
-use Rattle.std.proofs.lemmas.Bool.{and_parts, and_from, ne_eqb, not_from_false, not-true, eqb-false, cond-false}
-use Rattle.ffs_volume.specs.Disk.Search.{first_below}
-use Rattle.ffs_volume.specs.Directories.Graph.{Graph, level, edge, reached, parent, parent_by, is_lost, is_dead_in}
-use Rattle.ffs_volume.specs.Directories.Graph.{is_naming_dir}
+use Rattle.std.proofs.Common.{◌≡◌, ◌≢◌, ℕ, Bool, true, false, None, ne_eqb, arith}
+use Rattle.std.proofs.lemmas.Bool.{and_parts, Decides.nat_tests}
 use Rattle.ffs_volume.proofs.SearchLaws.{is_some-none}
+use Rattle.ffs_volume.specs.Directories.Graph.{Graph, level, edge, reached, parent, is_lost, is_dead_in}
+use Rattle.ffs_volume.specs.Disk.Search.{first_below}
 
 pub edge-parts : (v : Graph) (s d : ℕ) → edge v s d ≡ true → (v.is_dir d ≡ true) × (v.is_dir s ≡ true)
 edge-parts v s d h = let p = and_parts (v.is_dir d) _ h in (p.0, (and_parts (v.is_dir s) _ p.1).0)
