@@ -2,10 +2,10 @@
 -- at least, and a block's fragments at most.
 use Rattle.std.proofs.Common.{zero, suc, inl, inr, ◌≡◌, ℕ, ◌+◌, ◌-◌, ◌*◌, ◌%◌, ◌<◌, ◌≤◌}
 use Rattle.std.proofs.Common.{◌==◌, Bool, true, false, arith, refl, List, [], ◌∷◌, ◌++◌, Some, None, nat_lt, nat_eq}
-use Rattle.std.proofs.Common.{◌&&◌, if◌then◌else◌, slice_index, flat_map, mul-le-mul_right, mod-lt, append-nil, All}
+use Rattle.std.proofs.Common.{◌&&◌, if◌then◌else◌, slice_index, flat_map, mul-le-mul_right, mod-lt, append-nil, All, ◌≢◌}
 use Rattle.std.proofs.lemmas.Bool.{cases_lt, cond_both, eqb-false, Decides.nat_tests}
 use Rattle.std.proofs.lemmas.{Grind.div_ceil_times, List.Elements.All-nil, List.Elements.All-cons}
-use Rattle.std.specs.{Int.div_ceil, List.range_with_len}
+use Rattle.std.{proofs.Common.lt_of_mul-lt-mul_right, specs.Int.div_ceil, specs.List.range_with_len}
 use Rattle.ffs_volume.specs.Blocks.{Inodes.logical_blocks_of, Inodes.addresses_needed, Steps.FileBlocks}
 use Rattle.ffs_volume.specs.Blocks.Steps.{block_bytes, address_at, indirect_addresses_needed, tail_of, any_nonzero_from}
 use Rattle.ffs_volume.specs.Blocks.Steps.{steps_under, data_length, span_of, data_step, indirect_steps}
@@ -164,32 +164,24 @@ next_or_end words i h = elim (cases_lt i 14) [
   | inr high ↦ let e : i ≡ 14 = omega arith in rw e
 ]
 
+-- how many units cover n, which is some and less than `frag` of them
+ceil_fits : (n k frag unit : ℕ) → 0 < n → n ≤ k * unit → k * unit < n + unit → n < frag * unit → (0 < k) × (k ≤ frag)
+ceil_fits n k frag unit some low high less =
+    let a : 0 < k = lt_of_mul-lt-mul_right unit {m = 0} {n = k} (omega arith) in
+    let b : k < frag + 1 = lt_of_mul-lt-mul_right unit {m = k} {n = frag + 1} (omega arith) in
+    omega arith
+
 last_fits : (v : Layout) (i : Inode) → IsAcceptedLayout v → (0 < last_length_of v i) × (last_length_of v i ≤ v.frag)
-last_fits v i g = one (nat_eq (i.size % v.bsize) 0) refl
-  where
-    some : (k n : ℕ) → n ≤ k * v.fsize → (n ≡ 0 → ⊥) → 0 < k
-    some zero n le ne = absurd (ne (omega arith))
-    some (suc k) n le ne = omega arith
-
-    within : (n : ℕ) → 0 < v.fsize → n < v.frag * v.fsize → div_ceil n v.fsize ≤ v.frag
-    within n low less = elim (cases_lt v.frag (div_ceil n v.fsize)) [
-      | inl more ↦
-          let up : (v.frag + 1) * v.fsize ≤ div_ceil n v.fsize * v.fsize = mul-le-mul_right v.fsize (omega arith) in
-          absurd (omega (arith, one_more v.frag v.fsize, (div_ceil_times n v.fsize low).1))
-      | inr few ↦ few
-    ]
-
-    one : (b : Bool) → nat_eq (i.size % v.bsize) 0 ≡ b →
-        (0 < (if b then v.frag else div_ceil (i.size % v.bsize) v.fsize))
-        × ((if b then v.frag else div_ceil (i.size % v.bsize) v.fsize) ≤ v.frag)
-    one true e = (omega (arith, g.sizes.frag_low), omega arith)
-    one false e =
-        let low : 0 < v.fsize = omega (arith, g.sizes.fsize_low) in
-        let over : i.size % v.bsize < v.bsize = mod-lt i.size (omega (arith, g.sizes.bsize_low)) in (
-          some (div_ceil (i.size % v.bsize) v.fsize) (i.size % v.bsize)
-              (div_ceil_times (i.size % v.bsize) v.fsize low).0 (eqb-false (i.size % v.bsize) 0 e),
-          within (i.size % v.bsize) low (omega (arith, g.sizes.block)),
-        )
+last_fits v i g =
+    let n = i.size % v.bsize in
+    cond_both (nat_eq n 0) v.frag (div_ceil n v.fsize) (λ k. (0 < k) × (k ≤ v.frag))
+    (λ _. omega (arith, g.sizes.frag_low))
+    (λ e.
+    let low : 0 < v.fsize = omega (arith, g.sizes.fsize_low) in
+    let ceil = div_ceil_times n v.fsize low in
+    let over = mod-lt i.size (omega (arith, g.sizes.bsize_low)) in
+    let some : n ≢ 0 = eqb-false n 0 e in
+    ceil_fits n (div_ceil n v.fsize) v.frag v.fsize (omega arith) ceil.0 ceil.1 (omega (arith, over, g.sizes.block)))
 
 pub used_most : (words blocks : ℕ) → addresses_needed words blocks ≤ 15
 used_most words blocks = grind (arith, nat_tests)
