@@ -179,9 +179,9 @@ last_fits v i g =
     (λ e.
     let low : 0 < v.fsize = omega (arith, g.sizes.fsize_low) in
     let ceil = div_ceil_times n v.fsize low in
-    let over = mod-lt i.size (omega (arith, g.sizes.bsize_low)) in
+    let over : n < v.bsize = mod-lt i.size (omega (arith, g.sizes.bsize_low)) in
     let some : n ≢ 0 = eqb-false n 0 e in
-    ceil_fits n (div_ceil n v.fsize) v.frag v.fsize (omega arith) ceil.0 ceil.1 (omega (arith, over, g.sizes.block)))
+    ceil_fits n (div_ceil n v.fsize) v.frag v.fsize (omega arith) ceil.0 ceil.1 (omega (arith, g.sizes.block)))
 
 pub used_most : (words blocks : ℕ) → addresses_needed words blocks ≤ 15
 used_most words blocks = grind (arith, nat_tests)
