@@ -1,4 +1,5 @@
 -- The examples of classes, steps and claims of inodes, and of groups, by computation.
+use Rattle.std.proofs.Common.{refl}
 use Rattle.ffs_volume.specs.Blocks.BlockCheck.{phase1_lines, phase1b_lines}
 use Rattle.ffs_volume.specs.Blocks.{Claims.reserved_map, Claims.no_claims, Inodes.inode_from_bytes, Inodes.inode_of}
 use Rattle.ffs_volume.specs.Blocks.{Inodes.class_of, KeptByRule.offer_verdict, Owners.owner_of, Owners.owners_of}
@@ -32,7 +33,18 @@ class_examples = assumption
 
 pub step_examples : StepExamples
 unfolding computed
-step_examples = assumption
+step_examples = record {
+  base = refl;
+  base_big = refl;
+  direct = refl;
+  whole = refl;
+  device = refl;
+  symlink = refl;
+  single = refl;
+  tail = refl;
+  out_of_range = refl;
+  double = refl;
+}
 
 pub claim_examples : ClaimExamples
 unfolding computed

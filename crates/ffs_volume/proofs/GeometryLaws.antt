@@ -24,10 +24,27 @@ fragment_count n e = grind (arith, nat_tests)
 pub sizes_hold : (v : Layout) → has_valid_sizes v ≡ true → HasSizes v
 unfolding has_valid_sizes
 sizes_hold v e =
-    let b = block_size v.bsize (grind (arith, nat_tests)) in
-    let f = fragment_size v.fsize (grind (arith, nat_tests)) in
-    let k = fragment_count v.frag (grind (arith, nat_tests)) in
-    grind (arith, nat_tests)
+    let b : is_block_size v.bsize ≡ true = grind (arith, nat_tests) in
+    let f : is_fragment_size v.fsize ≡ true = grind (arith, nat_tests) in
+    let k : is_fragment_count v.frag ≡ true = grind (arith, nat_tests) in
+    let bb = block_size v.bsize b in
+    let ff = fragment_size v.fsize f in
+    let kk = fragment_count v.frag k in
+    record {
+      bsize_low = bb.0;
+      bsize_high = bb.1;
+      fsize_low = ff.0;
+      fsize_high = ff.1;
+      frag_low = kk.0;
+      frag_high = kk.1;
+      block = grind (arith, nat_tests);
+      nindir = grind (arith, nat_tests);
+      inopb = grind (arith, nat_tests);
+      some_inodes = grind (arith, nat_tests);
+      inode_blocks = grind (arith, nat_tests);
+      some_fragments = grind (arith, nat_tests);
+      whole_blocks = grind (arith, nat_tests);
+    }
 
 pub numbers_hold : (v : Layout) → has_valid_numbers v ≡ true → HasNumbers v
 unfolding has_valid_numbers

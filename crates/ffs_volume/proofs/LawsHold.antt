@@ -69,12 +69,12 @@ both_kinds whole some frag h (b ∷ bs) =
     let all = sum_by-cons some b bs in
     elim (cases_Bool (whole b)) [
       | inl e ↦
-          let one : cond (whole b) 1 0 ≡ 1 = rw e in
+          let one : cond {A = ℕ} (whole b) 1 0 ≡ 1 = rw e in
           let none : cond (whole b) 0 (some b) ≡ 0 = rw e in
           let same = h b e in
           rw (count, one) (omega arith)
       | inr e ↦
-          let none : cond (whole b) 1 0 ≡ 0 = rw e in
+          let none : cond {A = ℕ} (whole b) 1 0 ≡ 0 = rw e in
           let one : cond (whole b) 0 (some b) ≡ some b = rw e in
           rw (count, none) (omega arith)
     ]

@@ -117,7 +117,7 @@ step_replays v s Gap steps few = refl
 step_replays v s Tail steps few = cond_holds (λ t. replay_of s ≡ replay_of t) (is_open s) _ _ (λ _. refl) (λ _. refl)
 step_replays v s (Run start len block) steps few =
     rw (seen_replays v s (Run start len block ∷ steps) few)
-    (elim (cases_Bool (is_open s)) [ | inl o ↦ rw o (run_replays v s start len steps few) | inr o ↦ rw o ])
+    (elim (cases_Bool (is_open s)) [ | inl o ↦ simp o (run_replays v s start len steps few) | inr o ↦ simp o ])
 
 -- a step keeps its counts in order
 pub step_few : (v : Layout) (s : Claims) (step : Step) → s.dups ≤ s.kept →

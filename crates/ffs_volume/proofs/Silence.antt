@@ -5,10 +5,12 @@ use Rattle.std.proofs.lemmas.Bool.{cases_eq, cond_both}
 use Rattle.ffs_volume.specs.Messages.Kinds.{TreeMessage, reported, lines_below}
 
 pub nil-left : (xs ys : List TreeMessage) → xs ++ ys ≡ [] → xs ≡ []
-nil-left xs ys h = grind arith
+nil-left [] ys h = refl
+nil-left (x ∷ xs) ys h = absurd (cc)
 
 pub nil-right : (xs ys : List TreeMessage) → xs ++ ys ≡ [] → ys ≡ []
-nil-right xs ys h = grind arith
+nil-right [] ys h = h
+nil-right (x ∷ xs) ys h = absurd (cc)
 
 pub nil-both : (xs ys : List TreeMessage) → xs ≡ [] → ys ≡ [] → xs ++ ys ≡ []
 nil-both xs ys g h = rw (g, h)
