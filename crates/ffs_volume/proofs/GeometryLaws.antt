@@ -27,24 +27,8 @@ sizes_hold v e =
     let b : is_block_size v.bsize ≡ true = grind (arith, nat_tests) in
     let f : is_fragment_size v.fsize ≡ true = grind (arith, nat_tests) in
     let k : is_fragment_count v.frag ≡ true = grind (arith, nat_tests) in
-    let bb = block_size v.bsize b in
-    let ff = fragment_size v.fsize f in
-    let kk = fragment_count v.frag k in
-    record {
-      bsize_low = bb.0;
-      bsize_high = bb.1;
-      fsize_low = ff.0;
-      fsize_high = ff.1;
-      frag_low = kk.0;
-      frag_high = kk.1;
-      block = grind (arith, nat_tests);
-      nindir = grind (arith, nat_tests);
-      inopb = grind (arith, nat_tests);
-      some_inodes = grind (arith, nat_tests);
-      inode_blocks = grind (arith, nat_tests);
-      some_fragments = grind (arith, nat_tests);
-      whole_blocks = grind (arith, nat_tests);
-    }
+    let bb = block_size v.bsize b in let ff = fragment_size v.fsize f in let kk = fragment_count v.frag k in
+    grind (arith, nat_tests)
 
 pub numbers_hold : (v : Layout) → has_valid_numbers v ≡ true → HasNumbers v
 unfolding has_valid_numbers

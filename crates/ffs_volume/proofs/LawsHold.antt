@@ -3,7 +3,7 @@ use Rattle.std.proofs.Common.{zero, suc, inl, inr, ◌≡◌, ℕ, ◌+◌, ◌*
 use Rattle.std.proofs.Common.{List, [], ◌∷◌, ◌++◌, length, Option, Some, None, if◌then◌else◌, map, count_by, sum_by}
 use Rattle.std.proofs.{Common.div-add-mod', lemmas.Bool.cases_Bool, lemmas.List.Sums.sum_by-cons}
 use Rattle.std.proofs.lemmas.List.FromFn.{length-map-range_with_len}
-use Rattle.std.specs.List.{list_all, range_with_len}
+use Rattle.std.specs.List.{range_with_len}
 use Rattle.ffs_volume.proofs.PathBound.{path_text-fits}
 use Rattle.ffs_volume.specs.Directories.Paths.{path_names, dir_path_of_names, entry_path_of_names, dir_path, entry_path}
 use Rattle.ffs_volume.specs.{Disk.Areas.cgbase, Laws.Meanings.AllPathsFit, Laws.Meanings.SumsAreWhole}
@@ -27,8 +27,10 @@ paths_fit g d = record { of_dir = dir_fits (path_names g d); of_entry = λ name 
 -- SUMS OF A GROUP
 bit_count : (p : ℕ → Bool) (xs : List ℕ) → count_by (λ b. b) (map p xs) ≡ count_by p xs
 bit_count p [] = refl
-bit_count p (x ∷ xs) = omega (arith, sum_by-cons (λ b. cond b 1 0) (p x) (map p xs),
-    sum_by-cons (λ y. cond (p y) 1 0) x xs, bit_count p xs)
+bit_count p (x ∷ xs) =
+    let bits = sum_by-cons (λ b. cond b 1 0) (p x) (map p xs) in
+    let here = sum_by-cons (λ y. cond (p y) 1 0) x xs in
+    omega (arith, bit_count p xs)
 
 range_join : (f : ℕ → ℕ) (a m n : ℕ) → sum_by f (range_with_len a (m + n)) ≡ sum_by f (range_with_len a m) + sum_by f
     (range_with_len (a + m) n)
@@ -39,8 +41,9 @@ range_join f a zero n =
 range_join f a (suc m) n =
     let q : suc m + n ≡ suc (m + n) = omega arith in
     let r : a + suc m ≡ a + 1 + m = omega arith in
-    rw (q, r) (omega (arith, sum_by-cons f a (range_with_len (a + 1) (m + n)),
-    sum_by-cons f a (range_with_len (a + 1) m), range_join f (a + 1) m n))
+    let long = sum_by-cons f a (range_with_len (a + 1) (m + n)) in
+    let short = sum_by-cons f a (range_with_len (a + 1) m) in
+    rw (q, r) (omega (arith, range_join f (a + 1) m n))
 
 blocks_join : (p : ℕ → Bool) (a frag k n : ℕ) →
     sum_by (λ b. count_by (λ f. f) (map p (range_with_len (a + b * frag) frag))) (range_with_len k n)
@@ -49,9 +52,11 @@ blocks_join p a frag k zero = let q : zero * frag ≡ 0 = omega arith in rw q re
 blocks_join p a frag k (suc n) =
     let more : suc n * frag ≡ frag + n * frag = omega arith in
     let moved : a + (k + 1) * frag ≡ a + k * frag + frag = omega arith in
-    rw more (omega (arith, sum_by-cons (λ b. count_by (λ f. f) (map p (range_with_len (a + b * frag) frag))) k
-    (range_with_len (k + 1) n), bit_count p (range_with_len (a + k * frag) frag),
-    rw moved at (blocks_join p a frag (k + 1) n), range_join (λ x. cond (p x) 1 0) (a + k * frag) frag (n * frag)))
+    let bits = λ (b : ℕ). count_by (λ f. f) (map p (range_with_len (a + b * frag) frag)) in
+    let first = sum_by-cons bits k (range_with_len (k + 1) n) in
+    let here = bit_count p (range_with_len (a + k * frag) frag) in
+    let rest = rw moved at (blocks_join p a frag (k + 1) n) in
+    rw more (omega (arith, range_join (λ x. cond (p x) 1 0) (a + k * frag) frag (n * frag)))
 
 whole_count : (bits : List Bool) → is_free_block bits ≡ true → count_by (λ b. b) bits ≡ length bits
 whole_count [] e = refl

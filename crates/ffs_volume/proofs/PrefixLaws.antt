@@ -1,6 +1,6 @@
 -- Kept offers are a prefix of the offers.
 use Rattle.std.proofs.Common.{inl, inr, ◌≡◌, ℕ, ◌+◌, Bool, true, false, refl, List, [], ◌∷◌, ◌++◌, append_assoc}
-use Rattle.std.proofs.Common.{append-nil, nat_lt, ◌&&◌, ◌==◌, not, if◌then◌else◌, map, eqb-true}
+use Rattle.std.proofs.Common.{append-nil, nat_lt, ◌==◌, not, if◌then◌else◌, map, eqb-true}
 use Rattle.std.proofs.lemmas.{Bool.cases_Bool, Bool.and_right, Bool.not-true, Bool.not_from_false, List.map-append}
 use Rattle.std.specs.List.{range_with_len}
 use Rattle.ffs_volume.specs.Blocks.Claims.{Claims, is_open, after_offer, after_offers, after_run, after_step, after_steps}
@@ -32,12 +32,12 @@ prefix_then {i = i} {k = k} {k' = k'} {fs = fs} {fs' = fs'} f g shut = elim f.en
     parts = rw (append_assoc k k' g.rest, g.parts, map-append (offer_of i) fs fs', ← f.parts, none, append-nil k);
     end = g.end;
   }
-  | inr over ↦ record {
-    rest = f.rest ++ map (offer_of i) fs';
-    parts = rw ((shut over).0, append-nil k, ← append_assoc k f.rest (map (offer_of i) fs'), f.parts,
-        map-append (offer_of i) fs fs');
-    end = inr (shut over).1;
-  }
+  | inr over ↦ let cut = shut over in
+      record {
+        rest = f.rest ++ map (offer_of i) fs';
+        parts = rw (cut.0, append-nil, ← append_assoc k f.rest (map (offer_of i) fs'), f.parts, map-append);
+        end = inr cut.1;
+      }
 ]
 
 offer_first : (v : Layout) (i : ℕ) (s : Claims) (f : ℕ) →

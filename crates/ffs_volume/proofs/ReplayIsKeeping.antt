@@ -1,6 +1,6 @@
 -- Laws of `specs/Encodings/Replay`.
-use Rattle.std.proofs.Common.{zero, suc, ◌≡◌, ℕ, ◌+◌, ◌-◌, ◌<◌, ◌≤◌, Bool, true, false, arith, refl, ap, ◌∙◌, List, [], inl}
-use Rattle.std.proofs.Common.{inr, ◌∷◌, ◌++◌, nat_lt, ◌&&◌, ◌||◌, ◌==◌, min, if◌then◌else◌, map, ltb-false, lt-ltb}
+use Rattle.std.proofs.Common.{◌≡◌, ℕ, ◌+◌, ◌-◌, ◌<◌, ◌≤◌, false, arith, refl, ap, List, [], inl}
+use Rattle.std.proofs.Common.{inr, ◌∷◌, ◌++◌, nat_lt, ◌&&◌, ◌==◌, if◌then◌else◌, map}
 use Rattle.std.proofs.lemmas.{Bool.Decides.nat_tests, Bool.and_right, Bool.cases_Bool, List.FromFn.length-range_with_len}
 use Rattle.std.specs.List.{range_with_len}
 use Rattle.ffs_volume.proofs.{Potentials.cond_holds, Potentials.offers_keep, PrefixLaws.shut_steps}
@@ -99,14 +99,14 @@ run_replays v s start len steps few =
     elim (cases_Bool (is_run_in_range v start len)) [
       | inl r ↦
           let t : Claims = record s { runs = s.runs + 1 } in
-          rw r (rw (offers_replay v s t start len steps refl refl few,
-          (offers_keep v t (range_with_len start len)).bad_is))
+          let kept = offers_replay v s t start len steps refl refl few in
+          rw (r, kept, (offers_keep v t (range_with_len start len)).bad_is)
       | inr r ↦ elim (cases_Bool (s.bad == 10)) [
         | inl z ↦ rw (r, z)
         | inr z ↦
             let t : Claims = record s { runs = s.runs + 1; bad = s.bad + 1 } in
-            rw (r, z) (rw (offers_replay v s t start len steps refl refl few,
-            (offers_keep v t (range_with_len start len)).bad_is))
+            let kept = offers_replay v s t start len steps refl refl few in
+            rw (r, z, kept, (offers_keep v t (range_with_len start len)).bad_is)
       ]
     ]
 
@@ -117,7 +117,7 @@ step_replays v s Gap steps few = refl
 step_replays v s Tail steps few = cond_holds (λ t. replay_of s ≡ replay_of t) (is_open s) _ _ (λ _. refl) (λ _. refl)
 step_replays v s (Run start len block) steps few =
     rw (seen_replays v s (Run start len block ∷ steps) few)
-    (elim (cases_Bool (is_open s)) [ | inl o ↦ simp o (run_replays v s start len steps few) | inr o ↦ simp o ])
+    (elim (cases_Bool (is_open s)) [ inl o ↦ simp o (run_replays v s start len steps few) | inr o ↦ simp o ])
 
 -- a step keeps its counts in order
 pub step_few : (v : Layout) (s : Claims) (step : Step) → s.dups ≤ s.kept →
@@ -135,8 +135,9 @@ steps_replay : (v : Layout) (s : Claims) (steps : List Step) → s.dups ≤ s.ke
     → replayed_steps v (cut_of (after_steps v s steps)) (replay_of s) steps ≡ kept_steps v s steps
 steps_replay v s [] few = refl
 steps_replay v s (step ∷ steps) few =
-    rw (kept_replays v s step steps few, step_replays v s step steps few,
-    steps_replay v (after_step v s step) steps (step_few v s step few))
+    let kept = kept_replays v s step steps few in
+    let next = step_replays v s step steps few in
+    rw (kept, next, steps_replay v (after_step v s step) steps (step_few v s step few))
 
 -- the kept steps of an inode are those of the replay, with the cut that its end reports
 pub replay_is_keeping : (v : Layout) (s : Claims) (steps : List Step)

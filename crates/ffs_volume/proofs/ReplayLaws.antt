@@ -43,7 +43,7 @@ step_runs v s Tail steps few =
     cond_holds (λ (t : Claims). t.runs ≡ s.runs + 0) (is_open s) _ _ (λ _. omega arith) (λ _. omega arith)
 step_runs v s (Run start len block) steps few =
     rw (seen_replays v s (Run start len block ∷ steps) few)
-    (elim (cases_Bool (is_open s)) [ | inl o ↦ rw o (run_runs v s start len) | inr o ↦ rw o (omega arith) ])
+    (elim (cases_Bool (is_open s)) [ inl o ↦ rw o (run_runs v s start len) | inr o ↦ rw o (omega arith) ])
 
 steps_runs : (v : Layout) (s : Claims) (steps : List Step) → s.dups ≤ s.kept
     → (after_steps v s steps).runs ≡ s.runs + replayed_runs v (cut_of (after_steps v s steps)) (replay_of s) steps

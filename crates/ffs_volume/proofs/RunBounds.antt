@@ -25,5 +25,5 @@ runs_bounded v image g =
     let all = inodes_move v image (no_claims v) (inode_numbers v) g
     (length-map-range_with_len (is_reserved v) 0 v.size) in
     let many = length-range_with_len 2 (v.ncg * v.ipg - 2) in
-    omega (arith, count_by-le-length (λ b. b) (after_owners v (no_claims v)
-    (map (owner_of v image) (inode_numbers v))).used)
+    let after = after_owners v (no_claims v) (map (owner_of v image) (inode_numbers v)) in
+    omega (arith, count_by-le-length (λ b. b) after.used)
