@@ -16,11 +16,9 @@ unfolding first_below
 some_below-only zero i test only = grind (arith, nat_tests)
 some_below-only (suc n) i test only =
     let before = some_below-only n i test (λ c h e. only c (omega arith) e) in
-    let here : test n ≡ true → n ≡ i = only n (omega arith) in
-    some_below-suc test n ∙ elim (cases_Bool (test n)) [
-      | inl e ↦ let same : n ≡ i = here e in let p : test i ≡ true = rw (← same) e in grind (arith, nat_tests)
-      | inr e ↦ elim (cases_lt i n) [ inl less ↦ grind (arith, nat_tests) | inr more ↦ grind (arith, nat_tests) ]
-    ]
+    let here = only n (omega arith) in
+    let more = some_below-suc test n in
+    grind (arith, nat_tests)
 
 -- the group of a fragment between a group's base and its end
 pub group_is : (v : Layout) (c f : ℕ) → cgbase v c ≤ f → f < cgbase v (c + 1) → f / v.fpg ≡ c

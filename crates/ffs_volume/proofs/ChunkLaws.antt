@@ -22,8 +22,6 @@ pub chunks_few : (r : ChunkSource) (test : ℕ → ℕ → Bool) (frag low high 
     → 512 * length (chunks_of r test steps) ≤ r.taken - low * r.bsize
 chunks_few r test frag low high [] f w = omega arith
 chunks_few r test frag low high (Run start len None ∷ steps) f w = chunks_few r test frag low high steps f w.1
-chunks_few r test frag low high (Tail ∷ steps) f w = chunks_few r test frag low high steps f w
-chunks_few r test frag low high (Gap ∷ steps) f w = chunks_few r test frag low high steps f w
 chunks_few r test frag low high (Run start len (Some block) ∷ steps) f w =
     let place = mul-le-mul_right r.bsize w.0 in
     let next : (block + 1) * r.bsize ≡ block * r.bsize + r.bsize = omega arith in
@@ -41,3 +39,4 @@ chunks_few r test frag low high (Run start len (Some block) ∷ steps) f w =
         let b = mul-div-le (len * r.fsize) 512 in
         let d = mul-div-le (r.taken - block * r.bsize) 512 in
         omega arith
+chunks_few r test frag low high (step ∷ steps) f w = chunks_few r test frag low high steps f w

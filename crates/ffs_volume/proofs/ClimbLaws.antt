@@ -1,7 +1,7 @@
 -- Laws of `specs/Directories/Climb`.
 use Rattle.std.proofs.Common.{◌≡◌, ℕ, zero, suc, ◌+◌, ◌-◌, ◌<◌, ◌≤◌, Bool, true, not, refl, Option, None, Some}
 use Rattle.std.proofs.Common.{option_and_then, arith, sym, ◌∙◌, ap, subst, inl, inr, eqb-true, eq-eqb, leb-true, le-leb}
-use Rattle.std.proofs.lemmas.Bool.{both_ways}
+use Rattle.std.proofs.lemmas.Bool.{both_ways, Decides.nat_tests}
 use Rattle.std.proofs.lemmas.Bool.{cases_lt, and_parts, and_from, not-true, not-false, not_from_true, not_from_false}
 use Rattle.ffs_volume.proofs.Pigeon.{pigeon}
 use Rattle.ffs_volume.proofs.SearchLaws.{some_below-gives, some_below-from, some_below-false, some_below-none}
@@ -14,11 +14,10 @@ pub record StaysBelow (f : ℕ → Option ℕ) (p : ℕ → Bool) (n : ℕ) : Ty
   pub next : (x : ℕ) → p x ≡ true → (s : ℕ) × (f x ≡ Some s) × (p s ≡ true)
 
 pub is_value-true : (o : Option ℕ) (k : ℕ) → is_value o k ≡ true → o ≡ Some k
-is_value-true None k e = absurd (cc)
-is_value-true (Some j) k e = ap Some (eqb-true j k e)
+is_value-true o k e = grind (arith, nat_tests)
 
 pub is_value-from : (o : Option ℕ) (k : ℕ) → o ≡ Some k → is_value o k ≡ true
-is_value-from o k e = subst (λ x. is_value x k ≡ true) (sym e) (eq-eqb k k refl)
+is_value-from o k e = rw e (eq-eqb k k refl)
 
 pub climb-zero : (f : ℕ → Option ℕ) (d : ℕ) → climb f 0 d ≡ Some d
 unfolding climb
@@ -35,11 +34,7 @@ climb-one f d = climb-suc f 0 d d (climb-zero f d)
 pub climb-last : (f : ℕ → Option ℕ) (k d s : ℕ) → climb f (suc k) d ≡ Some s → (e : ℕ) × (climb f k d ≡ Some e)
     × (f e ≡ Some s)
 unfolding climb
-climb-last f k d s h = go (climb f k d) h
-  where
-    go : (o : Option ℕ) → option_and_then f o ≡ Some s → (e : ℕ) × (o ≡ Some e) × (f e ≡ Some s)
-    go None h = absurd (cc)
-    go (Some e) h = (e, refl, h)
+climb-last f k d s h = grind arith
 
 pub climb-add : (f : ℕ → Option ℕ) (j k d e : ℕ) → climb f k d ≡ Some e → climb f (j + k) d ≡ climb f j e
 unfolding climb
@@ -63,11 +58,10 @@ climb-ends f d h zero = h
 climb-ends f d h (suc k) = ap (option_and_then f) (climb-ends f d h k)
 
 pub cycle-next : (f : ℕ → Option ℕ) (d : ℕ) → IsOnCycle f d → (e : ℕ) × (f d ≡ Some e)
-cycle-next f d c = go (f d) refl
-  where
-    go : (o : Option ℕ) → f d ≡ o → (e : ℕ) × (f d ≡ Some e)
-    go (Some e) h = (e, h)
-    go None h = absurd (cc (climb-ends f d h c.steps_less_one, c.returns))
+cycle-next f d c =
+    let ends = λ (h : f d ≡ None). climb-ends f d h c.steps_less_one in
+    let returns = c.returns in
+    grind arith
 
 pub cycle-goes : (f : ℕ → Option ℕ) (k d : ℕ) → IsOnCycle f d → (e : ℕ) × (climb f k d ≡ Some e)
 cycle-goes f zero d c = (d, climb-zero f d)
@@ -91,11 +85,10 @@ cycle-within f (suc m) d s c h =
     ]
 
 at_least-from : (o : Option ℕ) (d : ℕ) → ((s : ℕ) → o ≡ Some s → d ≤ s) → none_or_at_least o d ≡ true
-at_least-from None d h = refl
-at_least-from (Some s) d h = le-leb d s (h s refl)
+at_least-from o d h = grind (arith, nat_tests)
 
 at_least-true : (o : Option ℕ) (d s : ℕ) → none_or_at_least o d ≡ true → o ≡ Some s → d ≤ s
-at_least-true o d s h e = leb-true d s (subst (λ x. none_or_at_least x d ≡ true) e h)
+at_least-true o d s h e = grind (arith, nat_tests)
 
 -- the test for what it says
 pub is_leader_within-from : (f : ℕ → Option ℕ) (n d : ℕ) (i : IsLeader f d) → i.cycle.steps_less_one < n →

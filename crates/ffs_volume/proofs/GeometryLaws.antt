@@ -39,8 +39,7 @@ unfolding has_valid_parts
 parts_hold v e = grind (arith, nat_tests)
 
 natural_is : (z : ℤ) → is_nonnegative z ≡ true → z ≡ pos (zero_if_negative z)
-natural_is (pos n) e = refl
-natural_is (negsuc n) e = cc
+natural_is z e = grind arith
 
 pub group_holds : (v : Layout) (c : ℕ) → has_valid_group v c ≡ true → HasGroup v c
 unfolding has_valid_group

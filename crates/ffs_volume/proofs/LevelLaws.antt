@@ -18,13 +18,13 @@ unfolding within
 within-zero v d = refl
 
 pub within-more : (v : Graph) (k d : ℕ) → within v k d ≡ true → within v (suc k) d ≡ true
-within-more v k d h = within-suc v k d ∙ or_left (within v k d) (some_below (λ s. within v k s && edge v s d) v.count) h
+within-more v k d h = let more = within-suc v k d in grind arith
 
 pub within-step : (v : Graph) (k s d : ℕ) → s < v.count → within v k s ≡ true → edge v s d ≡ true →
     within v (suc k) d ≡ true
 within-step v k s d l h e =
-    within-suc v k d ∙ or_right (within v k d) (some_below (λ s. within v k s && edge v s d) v.count)
-    (some_below-from (λ s. within v k s && edge v s d) v.count s l (and_from (within v k s) (edge v s d) h e))
+    let edges = some_below-from (λ s. within v k s && edge v s d) v.count s l (and_from (within v k s) (edge v s d) h e) in
+    rw (within-suc v k d, edges) (or_right (within v k d) true refl)
 
 within-plus : (v : Graph) (i k d : ℕ) → within v k d ≡ true → within v (i + k) d ≡ true
 within-plus v zero k d h = let q : 0 + k ≡ k = omega arith in rw q h

@@ -29,8 +29,7 @@ pub within_lower : (frag low mid high : ℕ) (xs : List Step) → low ≤ mid �
 within_lower frag low mid high [] l w = omega arith
 within_lower frag low mid high (Run start len (Some block) ∷ xs) l w = let a = w.0 in (omega arith, w.1, w.2)
 within_lower frag low mid high (Run start len None ∷ xs) l w = (w.0, within_lower frag low mid high xs l w.1)
-within_lower frag low mid high (Tail ∷ xs) l w = within_lower frag low mid high xs l w
-within_lower frag low mid high (Gap ∷ xs) l w = within_lower frag low mid high xs l w
+within_lower frag low mid high (step ∷ xs) l w = within_lower frag low mid high xs l w
 
 within_append : (frag low mid high : ℕ) (xs ys : List Step) → Within frag low mid xs → Within frag mid high ys →
     Within frag low high (xs ++ ys)
@@ -38,8 +37,7 @@ within_append frag low mid high [] ys w v = within_lower frag low mid high ys w 
 within_append frag low mid high (Run start len (Some block) ∷ xs) ys w v =
     (w.0, w.1, within_append frag (block + 1) mid high xs ys w.2 v)
 within_append frag low mid high (Run start len None ∷ xs) ys w v = (w.0, within_append frag low mid high xs ys w.1 v)
-within_append frag low mid high (Tail ∷ xs) ys w v = within_append frag low mid high xs ys w v
-within_append frag low mid high (Gap ∷ xs) ys w v = within_append frag low mid high xs ys w v
+within_append frag low mid high (step ∷ xs) ys w v = within_append frag low mid high xs ys w v
 
 -- steps under numbers one after the other, where those under j begin at `place j`
 within_flat : (frag : ℕ) (steps : ℕ → List Step) (place : ℕ → ℕ) (next count : ℕ) →
@@ -58,8 +56,7 @@ within_long frag low high (Run start len (Some block) ∷ xs) w =
     All-cons (HasLength frag) (Run start len (Some block)) xs w.1 (within_long frag (block + 1) high xs w.2)
 within_long frag low high (Run start len None ∷ xs) w =
     All-cons (HasLength frag) (Run start len None) xs w.0 (within_long frag low high xs w.1)
-within_long frag low high (Tail ∷ xs) w = All-cons (HasLength frag) Tail xs tt (within_long frag low high xs w)
-within_long frag low high (Gap ∷ xs) w = All-cons (HasLength frag) Gap xs tt (within_long frag low high xs w)
+within_long frag low high (step ∷ xs) w = All-cons (HasLength frag) step xs tt (within_long frag low high xs w)
 
 pub one_more : (a b : ℕ) → (a + 1) * b ≡ a * b + b
 one_more a b = grind arith

@@ -6,7 +6,7 @@ use Rattle.ffs_volume.specs.Directories.Graph.{Graph, level, edge, reached, pare
 use Rattle.ffs_volume.specs.Disk.Search.{first_below}
 
 pub edge-parts : (v : Graph) (s d : ℕ) → edge v s d ≡ true → (v.is_dir d ≡ true) × (v.is_dir s ≡ true)
-edge-parts v s d h = let p = and_parts (v.is_dir d) _ h in (p.0, (and_parts (v.is_dir s) _ p.1).0)
+edge-parts v s d h = grind arith
 
 -- what makes a directory lost
 pub record IsLost (v : Graph) (suspect : ℕ → Bool) (d : ℕ) : Type 0 where
