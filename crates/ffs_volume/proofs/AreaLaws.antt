@@ -1,8 +1,8 @@
 -- Laws of the areas of an accepted layout.
-use Rattle.std.proofs.Common.{zero, suc, inl, inr, ◌≡◌, ◌∙◌, ℕ, ◌+◌, ◌-◌, ◌*◌, ◌/◌}
+use Rattle.std.proofs.Common.{zero, suc, inl, inr, ◌≡◌, ℕ, ◌+◌, ◌-◌, ◌*◌, ◌/◌}
 use Rattle.std.proofs.Common.{◌<◌, ◌≤◌, Bool, true, false, arith, sym, mul-le-mul_right, mul_comm, nat_lt, nat_le, ◌&&◌}
 use Rattle.std.proofs.{Math.Nat.div-eq_of_lt-le, lemmas.Bool.cases_lt}
-use Rattle.std.proofs.lemmas.{Bool.cases_Bool, Bool.Decides.nat_tests, Grind.div_ceil_times, Nat.div_below}
+use Rattle.std.proofs.lemmas.{Bool.Decides.nat_tests, Grind.div_ceil_times, Nat.div_below}
 use Rattle.std.specs.Int.{div_ceil}
 use Rattle.ffs_volume.proofs.SearchLaws.{some_below-suc}
 use Rattle.ffs_volume.specs.Disk.Areas.{cgbase, cgstart, cgsblock, cgdmin, is_group_metadata}

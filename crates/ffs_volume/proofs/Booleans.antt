@@ -1,5 +1,5 @@
 -- Laws of booleans that the library doesn't have.
-use Rattle.std.proofs.Common.{arith, ◌≡◌, refl, Bool, true, false, ◌&&◌}
+use Rattle.std.proofs.Common.{arith, ◌≡◌, Bool, true, false, ◌&&◌}
 
 pub and_false-right : (a b : Bool) → (a && b) ≡ false → a ≡ true → b ≡ false
 and_false-right a b h e = grind arith

@@ -1,6 +1,6 @@
 -- Laws of `specs/Directories/Climb`.
 use Rattle.std.proofs.Common.{◌≡◌, ℕ, zero, suc, ◌+◌, ◌-◌, ◌<◌, ◌≤◌, Bool, true, not, refl, Option, None, Some}
-use Rattle.std.proofs.Common.{option_and_then, arith, sym, ◌∙◌, ap, subst, inl, inr, eqb-true, eq-eqb, leb-true, le-leb}
+use Rattle.std.proofs.Common.{option_and_then, arith, ◌∙◌, ap, inl, inr, eq-eqb}
 use Rattle.std.proofs.lemmas.Bool.{both_ways, Decides.nat_tests}
 use Rattle.std.proofs.lemmas.Bool.{cases_lt, and_parts, and_from, not-true, not-false, not_from_true, not_from_false}
 use Rattle.ffs_volume.proofs.Pigeon.{pigeon}

@@ -1,5 +1,5 @@
 -- Laws of `specs/Disk/Geometry`.
-use Rattle.std.proofs.Common.{◌≡◌, ℕ, ◌*◌, ◌≤◌, true, None, ℤ, pos, negsuc, arith, refl}
+use Rattle.std.proofs.Common.{◌≡◌, ℕ, ◌*◌, ◌≤◌, true, None, ℤ, pos, arith}
 use Rattle.std.proofs.lemmas.Bool.Decides.{nat_tests}
 use Rattle.ffs_volume.{proofs.Below.all_below-at, specs.Disk.Areas.cgoffset_of}
 use Rattle.ffs_volume.specs.Disk.Numbers.{zero_if_negative, is_nonnegative, all_below}

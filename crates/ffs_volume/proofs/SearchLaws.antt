@@ -1,6 +1,6 @@
 -- Laws of `specs/Disk/Search`.
 use Rattle.std.proofs.Common.{◌≡◌, ℕ, zero, suc, ◌<◌, Bool}
-use Rattle.std.proofs.Common.{true, false, Option, None, Some, refl, is_some, ◌||◌, arith, sym, ap, subst, inl, inr}
+use Rattle.std.proofs.Common.{true, false, Option, None, Some, refl, is_some, ◌||◌, arith, ap, subst}
 use Rattle.std.proofs.lemmas.Bool.{both_ways, true_from_ne_false}
 use Rattle.ffs_volume.specs.Disk.Search.{earliest, first_below, some_below}
 
