@@ -1,13 +1,11 @@
 -- Laws of the areas of an accepted layout.
 use Rattle.std.proofs.Common.{zero, suc, inl, inr, ◌≡◌, ℕ, ◌+◌, ◌-◌, ◌*◌, ◌/◌}
 use Rattle.std.proofs.Common.{◌<◌, ◌≤◌, Bool, true, false, arith, sym, mul-le-mul_right, mul_comm, nat_lt, nat_le, ◌&&◌}
-use Rattle.std.proofs.{Math.Nat.div-eq_of_lt-le, lemmas.Bool.cases_lt}
-use Rattle.std.proofs.lemmas.{Bool.Decides.nat_tests, Grind.div_ceil_times, Nat.div_below}
-use Rattle.std.specs.Int.{div_ceil}
-use Rattle.ffs_volume.proofs.SearchLaws.{some_below-suc}
+use Rattle.std.proofs.{Math.Nat.div-eq_of_lt-le, lemmas.Bool.cases_lt, lemmas.Bool.Decides.nat_tests}
+use Rattle.std.{proofs.lemmas.Grind.div_ceil_times, proofs.lemmas.Nat.div_below, specs.Int.div_ceil}
 use Rattle.ffs_volume.specs.Disk.Areas.{cgbase, cgstart, cgsblock, cgdmin, is_group_metadata}
-use Rattle.ffs_volume.specs.Disk.{Outcome.copy_place, Search.first_below, Search.some_below}
-use Rattle.ffs_volume.specs.{Laws.Geometry.IsAcceptedLayout, declared.Layout.Layout}
+use Rattle.ffs_volume.{proofs.SearchLaws.some_below-suc, specs.Disk.Outcome.copy_place, specs.Disk.Search.first_below}
+use Rattle.ffs_volume.specs.{Disk.Search.some_below, Laws.Geometry.IsAcceptedLayout, declared.Layout.Layout}
 
 -- a test that at most one number passes
 some_below-only : (n i : ℕ) (test : ℕ → Bool) → ((c : ℕ) → c < n → test c ≡ true → c ≡ i) →

@@ -5,8 +5,7 @@ use Rattle.std.proofs.{Math.Nat.mul-div-le, lemmas.Bool.cond_both, lemmas.List.l
 use Rattle.std.{proofs.lemmas.List.FromFn.length-range_with_len, specs.List.range_with_len}
 use Rattle.ffs_volume.proofs.StepLaws.{Within}
 use Rattle.ffs_volume.specs.Directories.Entries.{ChunkSource, chunk_of, run_chunks, chunks_of}
-use Rattle.ffs_volume.specs.{Disk.Numbers.piece, declared.Step.Step}
-use Rattle.ffs_volume.specs.declared.Step.TheVariants.{Run}
+use Rattle.ffs_volume.specs.{Disk.Numbers.piece, declared.Step.Step, declared.Step.TheVariants.Run}
 
 -- how many chunks a Run has
 run_length : (r : ChunkSource) (start len offset : ℕ) → length (run_chunks r start len offset)

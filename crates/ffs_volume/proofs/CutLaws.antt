@@ -1,14 +1,13 @@
 -- The cut of an inode fits 32 bits, and says which of its steps are kept.
 use Rattle.std.proofs.Common.{◌≡◌, ℕ, ◌-◌, ◌<◌, ◌^◌, true, arith, ◌∙◌, List, length, nat_lt, refl}
 use Rattle.std.{proofs.lemmas.List.FromFn.length-map-range_with_len, specs.List.range_with_len}
-use Rattle.ffs_volume.proofs.Potentials.{cond_holds, owner_moves, kept_bound}
-use Rattle.ffs_volume.proofs.{ReplayIsKeeping.replay_is_keeping, RunBounds.inodes_move}
+use Rattle.ffs_volume.{specs.Blocks.Owners.owner_of, proofs.Potentials.cond_holds, proofs.Potentials.owner_moves}
+use Rattle.ffs_volume.proofs.{Potentials.kept_bound, ReplayIsKeeping.replay_is_keeping, RunBounds.inodes_move}
 use Rattle.ffs_volume.specs.Blocks.Claims.{no_claims, reserved_map, at_next_inode, after_steps}
-use Rattle.ffs_volume.specs.Blocks.{Inodes.inode_of, KeptSteps.claims_before, KeptSteps.kept_steps_of, Owners.owner_of}
-use Rattle.ffs_volume.specs.{Blocks.Steps.steps_of, Directories.Volumes.is_inode_number}
-use Rattle.ffs_volume.specs.{Directories.Volumes.kept_steps_of_inode, Disk.Areas.is_reserved}
+use Rattle.ffs_volume.specs.Blocks.{Inodes.inode_of, KeptSteps.claims_before, KeptSteps.kept_steps_of, Steps.steps_of}
+use Rattle.ffs_volume.specs.Directories.Volumes.{is_inode_number, kept_steps_of_inode}
 use Rattle.ffs_volume.specs.Encodings.Replay.{cut_of, cut_at, fresh_replay, replayed_steps}
-use Rattle.ffs_volume.specs.{Laws.Geometry.IsAcceptedLayout, declared.Layout.Layout}
+use Rattle.ffs_volume.specs.{Laws.Geometry.IsAcceptedLayout, declared.Layout.Layout, Disk.Areas.is_reserved}
 
 -- the map keeps its length from inode to inode
 pub before_length : (v : Layout) (image : List ℕ) (x : ℕ) → IsAcceptedLayout v → length (claims_before v image x).used ≡

@@ -1,13 +1,12 @@
 -- Laws of `specs/Disk/Geometry`.
 use Rattle.std.proofs.Common.{◌≡◌, ℕ, ◌*◌, ◌≤◌, true, None, ℤ, pos, arith}
 use Rattle.std.proofs.lemmas.Bool.Decides.{nat_tests}
-use Rattle.ffs_volume.{proofs.Below.all_below-at, specs.Disk.Areas.cgoffset_of}
+use Rattle.ffs_volume.{specs.declared.Layout.Layout, specs.Disk.Areas.cgoffset_of, proofs.Below.all_below-at}
 use Rattle.ffs_volume.specs.Disk.Numbers.{zero_if_negative, is_nonnegative, all_below}
 use Rattle.ffs_volume.specs.Disk.Outcome.{is_block_size, is_fragment_size, is_fragment_count}
 use Rattle.ffs_volume.specs.Disk.Outcome.{has_valid_sizes, has_valid_numbers, has_valid_parts, has_valid_cylinders}
 use Rattle.ffs_volume.specs.Disk.Outcome.{has_valid_group, has_valid_summary_area, is_valid_layout, layout_fault}
 use Rattle.ffs_volume.specs.Laws.Geometry.{HasSizes, HasNumbers, HasParts, HasGroup, HasSummaryArea, IsAcceptedLayout}
-use Rattle.ffs_volume.specs.declared.Layout.{Layout}
 
 block_size : (n : ℕ) → is_block_size n ≡ true → (4096 ≤ n) × (n ≤ 65536)
 unfolding is_block_size

@@ -1,12 +1,11 @@
 -- Laws that say of definitions what they are meant to say.
-use Rattle.std.proofs.Common.{zero, suc, inl, inr, ◌≡◌, ℕ, ◌+◌, ◌*◌, ◌/◌, ◌≤◌, Bool, true, false, cond, arith, refl, ◌∙◌}
-use Rattle.std.proofs.Common.{List, [], ◌∷◌, ◌++◌, length, Option, Some, None, if◌then◌else◌, map, count_by, sum_by}
-use Rattle.std.proofs.{Common.div-add-mod', lemmas.Bool.cases_Bool, lemmas.List.Sums.sum_by-cons}
-use Rattle.std.proofs.lemmas.List.FromFn.{length-map-range_with_len}
-use Rattle.std.specs.List.{range_with_len}
-use Rattle.ffs_volume.proofs.PathBound.{path_text-fits}
+use Rattle.std.{proofs.lemmas.Bool.cases_Bool, specs.List.range_with_len, proofs.Common.zero, proofs.Common.suc}
+use Rattle.std.proofs.Common.{inl, inr, ◌≡◌, ℕ, ◌+◌, ◌*◌, ◌/◌, ◌≤◌, Bool, true, false, cond, arith, refl, ◌∙◌, List, []}
+use Rattle.std.proofs.Common.{◌∷◌, ◌++◌, length, Option, Some, None, if◌then◌else◌, map, count_by, sum_by, div-add-mod'}
+use Rattle.std.proofs.lemmas.List.{FromFn.length-map-range_with_len, Sums.sum_by-cons}
 use Rattle.ffs_volume.specs.Directories.Paths.{path_names, dir_path_of_names, entry_path_of_names, dir_path, entry_path}
-use Rattle.ffs_volume.specs.{Disk.Areas.cgbase, Laws.Meanings.AllPathsFit, Laws.Meanings.SumsAreWhole}
+use Rattle.ffs_volume.specs.Laws.Meanings.{AllPathsFit, SumsAreWhole}
+use Rattle.ffs_volume.{proofs.PathBound.path_text-fits, specs.Disk.Areas.cgbase}
 use Rattle.ffs_volume.specs.Groups.Records.{is_free_block, block_bits, block_numbers, right_group_counts}
 
 -- PATHS

@@ -1,9 +1,8 @@
 -- Laws of `specs/Blocks/Owners`: the claims of one inode after another.
 use Rattle.std.proofs.Common.{◌≡◌, ℕ, ◌+◌, ◌-◌, ◌≤◌, List, [], ◌∷◌, ◌++◌, map, refl, arith}
 use Rattle.std.{proofs.lemmas.List.FromFn.map-range_with_len_more, specs.List.range_with_len}
-use Rattle.ffs_volume.specs.Blocks.Claims.{Claims, no_claims, after_owner, after_owners}
-use Rattle.ffs_volume.specs.Blocks.{KeptSteps.claims_before, Owners.Owner, Owners.owner_of}
-use Rattle.ffs_volume.specs.declared.Layout.{Layout}
+use Rattle.ffs_volume.specs.Blocks.{Owners.Owner, Owners.owner_of, Claims.Claims, Claims.no_claims, Claims.after_owner}
+use Rattle.ffs_volume.specs.{Blocks.Claims.after_owners, declared.Layout.Layout, Blocks.KeptSteps.claims_before}
 
 owners_append : (v : Layout) (s : Claims) (xs ys : List Owner) →
     after_owners v s (xs ++ ys) ≡ after_owners v (after_owners v s xs) ys

@@ -2,15 +2,14 @@
 use Rattle.std.proofs.Common.{zero, suc, ◌≡◌, ℕ, ◌+◌, ◌-◌, ◌≤◌, Bool, true, false, arith, refl}
 use Rattle.std.proofs.Common.{ap, List, [], ◌∷◌, ◌++◌, replicate, nat_lt, ◌&&◌, ◌==◌, if◌then◌else◌, map, inl, inr}
 use Rattle.std.{proofs.lemmas.Bool.cases_Bool, proofs.lemmas.Bool.Decides.nat_tests, specs.List.range_with_len}
-use Rattle.ffs_volume.proofs.Potentials.{cond_holds, offers_keep}
 use Rattle.ffs_volume.proofs.ReplayIsKeeping.{replay_of, replayed_step_offers, replayed_offers, seen_replays}
 use Rattle.ffs_volume.{proofs.ReplayIsKeeping.step_replays, proofs.ReplayIsKeeping.step_few, specs.Blocks.Claims.Claims}
 use Rattle.ffs_volume.specs.Blocks.Claims.{at_next_inode, is_open, after_offers, after_run, after_step, after_steps}
+use Rattle.ffs_volume.{specs.declared.Step.Step, proofs.Potentials.cond_holds, proofs.Potentials.offers_keep}
 use Rattle.ffs_volume.specs.{Blocks.KeptOffers.offer_of, Disk.Areas.is_run_in_range, Encodings.Replay.Replay}
 use Rattle.ffs_volume.specs.Encodings.Replay.{fresh_replay, cut_of, replay_after_step, is_replayed, replayed_steps}
 use Rattle.ffs_volume.specs.Encodings.ReplayCounts.{seen_run, replayed_runs, replay_step_by_cut}
-use Rattle.ffs_volume.specs.declared.{Layout.Layout, Step.Step}
-use Rattle.ffs_volume.specs.declared.Step.TheVariants.{Run, Tail, Gap}
+use Rattle.ffs_volume.specs.declared.{Layout.Layout, Step.TheVariants.Run, Step.TheVariants.Tail, Step.TheVariants.Gap}
 
 -- two replays that keep the same steps and offers and see as many Runs
 pub record SameReplay (v : Layout) (i cut : ℕ) (r q : Replay) (steps : List Step) : Type 0 where

@@ -1,7 +1,6 @@
 -- Laws of `specs/Disk/Search`.
-use Rattle.std.proofs.Common.{◌≡◌, ℕ, zero, suc, ◌<◌, Bool}
-use Rattle.std.proofs.Common.{true, false, Option, None, Some, refl, is_some, ◌||◌, arith, ap, subst}
-use Rattle.std.proofs.lemmas.Bool.{both_ways, true_from_ne_false}
+use Rattle.std.proofs.Common.{◌≡◌, ℕ, zero, suc, ◌<◌, Bool, true, false, Option, None, Some, refl, is_some, ◌||◌, arith}
+use Rattle.std.proofs.{Common.ap, Common.subst, lemmas.Bool.both_ways, lemmas.Bool.true_from_ne_false}
 use Rattle.ffs_volume.specs.Disk.Search.{earliest, first_below, some_below}
 
 -- s is the least number below n that passes
