@@ -1,5 +1,5 @@
 -- Laws of `specs/Laws/Accepted`.
-use Rattle.std.proofs.Common.{◌≡◌, ℕ, Bool, true, false, List, length, Option, Some, None, Ok, refl, inl, inr, nat_lt}
+use Rattle.std.proofs.Common.{◌≡◌, ℕ, Bool, true, false, List, length, Option, Some, None, Ok, refl, inl, inr, nat_lt, arith}
 use Rattle.std.proofs.{Common.◌*◌, Common.◌+◌, lemmas.Bool.cases_Bool}
 use Rattle.ffs_volume.{proofs.GeometryLaws.geometry_holds, specs.Disk.Outcome.super_sector}
 use Rattle.ffs_volume.specs.Disk.Outcome.{super_bytes, layout_fault, copy_agrees, super_verdict, outcome_in, outcome_of}
@@ -10,9 +10,7 @@ use Rattle.ffs_volume.specs.{Laws.Accepted.AcceptedFit, declared.Order.Order, de
 super_verdict-ok : (fault : Option SuperFault) (agrees : Bool) (super s : Superblock) → super_verdict fault agrees super ≡ Ok s
     → (fault ≡ None) × (super ≡ s)
 unfolding super_verdict
-super_verdict-ok (Some fault) agrees super s e = absurd (cc)
-super_verdict-ok None true super s e = (refl, cc)
-super_verdict-ok None false super s e = absurd (cc)
+super_verdict-ok fault agrees super s e = grind arith
 
 super_layout : (image : List ℕ) (sector : Option ℕ) (bytes : List ℕ) (order : Option Order) (s : Superblock) →
     outcome_of image sector bytes order ≡ Ok s → FitsImage s.layout (length image)

@@ -63,25 +63,19 @@ whole_count (true ∷ bits) e = omega (arith, sum_by-cons (λ b. cond b 1 0) tru
 whole_count (false ∷ bits) e = absurd (cc)
 
 -- frag for each that is whole, and what the others have
+one_kind : (whole : Bool) (some frag count rest all : ℕ) → (whole ≡ true → some ≡ frag) → frag * count + rest ≡ all →
+    frag * (cond whole 1 0 + count) + (cond whole 0 some + rest) ≡ some + all
+one_kind true some frag count rest all h e = omega (arith, h refl)
+one_kind false some frag count rest all h e = omega arith
+
 both_kinds : (whole : ℕ → Bool) (some : ℕ → ℕ) (frag : ℕ) → ((b : ℕ) → whole b ≡ true → some b ≡ frag) → (bs : List ℕ) →
     frag * count_by whole bs + sum_by (λ b. if whole b then 0 else some b) bs ≡ sum_by some bs
 both_kinds whole some frag h [] = omega arith
 both_kinds whole some frag h (b ∷ bs) =
-    let rest = both_kinds whole some frag h bs in
     let count = sum_by-cons (λ x. cond (whole x) 1 0) b bs in
     let other = sum_by-cons (λ b. if whole b then 0 else some b) b bs in
     let all = sum_by-cons some b bs in
-    elim (cases_Bool (whole b)) [
-      | inl e ↦
-          let one : cond {A = ℕ} (whole b) 1 0 ≡ 1 = rw e in
-          let none : cond (whole b) 0 (some b) ≡ 0 = rw e in
-          let same = h b e in
-          rw (count, one) (omega arith)
-      | inr e ↦
-          let none : cond {A = ℕ} (whole b) 1 0 ≡ 0 = rw e in
-          let one : cond (whole b) 0 (some b) ≡ some b = rw e in
-          rw (count, none) (omega arith)
-    ]
+    rw (count, other, all) (one_kind (whole b) (some b) frag _ _ _ (h b) (both_kinds whole some frag h bs))
 
 pub sums_whole : SumsAreWhole
 unfolding right_group_counts

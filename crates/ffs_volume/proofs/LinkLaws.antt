@@ -11,5 +11,4 @@ pub record AreMet (links : ℤ) (references : ℕ) : Type 0 where
 
 -- where the count is that number, each link has its reference
 pub links_met : (links : ℤ) (references : ℕ) → links_start links + references ≡ LINKS_MET → AreMet links references
-links_met (negsuc n) r e = absurd (omega (arith, e))
-links_met (pos n) r e = record { same = grind (arith, nat_tests); some = grind (arith, nat_tests) }
+links_met links r e = grind (arith, nat_tests)
