@@ -37,23 +37,18 @@ pub level-before : (v : Graph) (k d : ℕ) → IsLevel v (suc k) d → (s : ℕ)
     × (edge v s d ≡ true)
 level-before v k d h =
     let no = h.least k (omega arith) in
-    elim (or_cases (within v k d) (some_below (λ s. within v k s && edge v s d) v.count)
-    (sym (within-suc v k d) ∙ h.within_k)) [
-      | inl y ↦ absurd (both_ways (within v k d) no y)
-      | inr y ↦
-          let w = some_below-gives (λ s. within v k s && edge v s d) v.count y in
-          let p = and_parts (within v k w.0) (edge v w.0 d) w.1.passes in (
-            w.0,
-            w.1.below,
-            record {
-              within_k = p.0;
-              least = λ j l. false_from_ne_true (within v j w.0) (λ t.
-                  both_ways (within v (suc j) d) (h.least (suc j) (omega arith))
-                  (within-step v j w.0 d w.1.below t p.1));
-            },
-            p.1,
-          )
-    ]
+    let more = within-suc v k d in
+    let w = some_below-gives (λ s. within v k s && edge v s d) v.count (grind arith) in
+    let p = and_parts (within v k w.0) (edge v w.0 d) w.1.passes in (
+      w.0,
+      w.1.below,
+      record {
+        within_k = p.0;
+        least = λ j l. false_from_ne_true (within v j w.0) (λ t.
+            both_ways (within v (suc j) d) (h.least (suc j) (omega arith)) (within-step v j w.0 d w.1.below t p.1));
+      },
+      p.1,
+    )
 
 -- each level up to a level of an inode has an inode
 pub level-each : (v : Graph) (k d : ℕ) → d < v.count → IsLevel v k d → (i : ℕ) → (s : ℕ) × (s < v.count)

@@ -69,18 +69,12 @@ run_by seen fits last bad kept more =
 
 -- it has as many bad Runs whatever is kept, and keeps as many offers whatever was kept before
 run_alike : (o i t : Bool) (bad k m k' m' : ℕ) → (run_by o i t bad k m).bad ≡ (run_by o i t bad k' m').bad
-run_alike false i t bad k m k' m' = refl
-run_alike true true t bad k m k' m' = refl
-run_alike true false true bad k m k' m' = refl
-run_alike true false false bad k m k' m' = refl
+run_alike o i t bad k m k' m' = grind arith
 
 run_keeps : (o i t : Bool) (bad k k' len : ℕ) →
     ((o && (run_by o i t bad k (k + len)).kept == k + len) ≡ (o && (run_by o i t bad k' (k' + len)).kept == k' + len))
     × ((run_by o i t bad k (k + len)).kept - k ≡ (run_by o i t bad k' (k' + len)).kept - k')
-run_keeps false i t bad k k' len = (refl, omega arith)
-run_keeps true true t bad k k' len = (grind (arith, nat_tests), omega arith)
-run_keeps true false true bad k k' len = (grind (arith, nat_tests), omega arith)
-run_keeps true false false bad k k' len = (grind (arith, nat_tests), omega arith)
+run_keeps o i t bad k k' len = grind (arith, nat_tests)
 
 -- what a step does to two replays without a cut that saw as many bad Runs
 record Alike (v : Layout) (i : ℕ) (r q : Replay) (step : Step) : Type 0 where

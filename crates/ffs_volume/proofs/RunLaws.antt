@@ -29,11 +29,8 @@ module _ (v : Layout) (g : IsAcceptedLayout v) (start len : ℕ) where
       let below : start + len ≤ v.size = grind (arith, nat_tests) in
       let within : start + len ≤ cgbase v (start / v.fpg + 1) = grind (arith, nat_tests) in
       let low = base_low in
-      let same : (start + k) / v.fpg ≡ start / v.fpg =
-      group_is v (start / v.fpg) (start + k) (omega arith) (omega arith) in
+      let same = group_is v (start / v.fpg) (start + k) (omega arith) (omega arith) in
       let metadata = is_metadata_of_group v (start + k) g in
-      let free : is_in_metadata_of v (start / v.fpg) (start + k) ≡ false = grind (arith, nat_tests) in
-      let open_is : is_group_metadata v (start + k) ≡ false = grind (arith, nat_tests, metadata, same, free) in
       grind (arith, nat_tests)
 
   -- a fragment that fits is below size, of the run's group, and not metadata of it
@@ -43,10 +40,9 @@ module _ (v : Layout) (g : IsAcceptedLayout v) (start len : ℕ) where
   fit_facts k h =
       let below : start + k < v.size = grind (arith, nat_tests) in
       let same : (start + k) / v.fpg ≡ start / v.fpg = grind (arith, nat_tests) in
-      let free : is_group_metadata v (start + k) ≡ false = grind (arith, nat_tests) in
       let metadata = is_metadata_of_group v (start + k) g in
       let group = group_below v (start + k) g below in
-      (below, same, grind (arith, nat_tests, metadata, same, free, group))
+      (below, same, grind (arith, nat_tests))
 
   -- what fits at each index is apart
   fits_apart : 0 < len → ((k : ℕ) → k < len → fits v start k ≡ true) → is_apart v start len ≡ true

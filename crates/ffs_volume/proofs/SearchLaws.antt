@@ -30,18 +30,11 @@ first_below-some p n s e = subst (FirstMeaning p n) e (first_below-tells p n)
 pub first_below-none : (p : ℕ → Bool) (n : ℕ) → first_below p n ≡ None → (t : ℕ) → t < n → p t ≡ false
 first_below-none p n e = subst (FirstMeaning p n) e (first_below-tells p n)
 
--- two answers that report the same are the same
-one_first : (p : ℕ → Bool) (n : ℕ) (o : Option ℕ) (s : ℕ) → IsFirst p n s → FirstMeaning p n o → o ≡ Some s
-one_first p n o s f g = grind arith
-
 pub first_below-is : (p : ℕ → Bool) (n s : ℕ) → IsFirst p n s → first_below p n ≡ Some s
-first_below-is p n s f = one_first p n (first_below p n) s f (first_below-tells p n)
-
-none_first : (p : ℕ → Bool) (n : ℕ) (o : Option ℕ) → ((t : ℕ) → t < n → p t ≡ false) → FirstMeaning p n o → o ≡ None
-none_first p n o f g = grind arith
+first_below-is p n s f = let found = first_below-tells p n in grind arith
 
 pub first_below-is_none : (p : ℕ → Bool) (n : ℕ) → ((t : ℕ) → t < n → p t ≡ false) → first_below p n ≡ None
-first_below-is_none p n f = none_first p n (first_below p n) f (first_below-tells p n)
+first_below-is_none p n f = let found = first_below-tells p n in grind arith
 
 pub is_some-value : (o : Option ℕ) → is_some o ≡ true → (s : ℕ) × (o ≡ Some s)
 is_some-value o e = grind arith
