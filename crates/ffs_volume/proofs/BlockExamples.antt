@@ -47,7 +47,25 @@ step_examples = record {
 
 pub claim_examples : ClaimExamples
 unfolding computed
-claim_examples = assumption
+claim_examples = record {
+  base = refl;
+  base_big = refl;
+  shared = refl;
+  shared_again = refl;
+  reserved = refl;
+  reserved_again = refl;
+  many_bad = refl;
+  ten_bad = refl;
+  many_dup = refl;
+  many_dup_kept = refl;
+  past_end = refl;
+  past_end_used = refl;
+  itself = refl;
+  itself_again = refl;
+  truncated = refl;
+  classes = refl;
+  by_rule = refl;
+}
 
 pub group_examples : GroupExamples
 unfolding computed
