@@ -1,5 +1,5 @@
 -- Laws of `specs/Laws/Accepted`.
-use Rattle.std.proofs.Common.{◌≡◌, ℕ, Bool, true, false, List, length, Option, Some, None, Ok, refl, inl, inr, nat_lt, arith}
+use Rattle.std.proofs.Common.{◌≡◌, ℕ, Bool, List, length, Option, Some, None, Ok, inl, inr, nat_lt, arith}
 use Rattle.std.proofs.{Common.◌*◌, Common.◌+◌, lemmas.Bool.cases_Bool}
 use Rattle.ffs_volume.{proofs.GeometryLaws.geometry_holds, specs.Disk.Outcome.super_sector}
 use Rattle.ffs_volume.specs.Disk.Outcome.{super_bytes, layout_fault, copy_agrees, super_verdict, outcome_in, outcome_of}

@@ -1,6 +1,6 @@
 -- Laws that say of definitions what they are meant to say.
-use Rattle.std.{proofs.lemmas.Bool.cases_Bool, specs.List.range_with_len, proofs.Common.zero, proofs.Common.suc}
-use Rattle.std.proofs.Common.{inl, inr, ◌≡◌, ℕ, ◌+◌, ◌*◌, ◌/◌, ◌≤◌, Bool, true, false, cond, arith, refl, ◌∙◌, List, []}
+use Rattle.std.{specs.List.range_with_len, proofs.Common.zero, proofs.Common.suc}
+use Rattle.std.proofs.Common.{◌≡◌, ℕ, ◌+◌, ◌*◌, ◌/◌, ◌≤◌, Bool, true, false, cond, arith, refl, ◌∙◌, List, []}
 use Rattle.std.proofs.Common.{◌∷◌, ◌++◌, length, Option, Some, None, if◌then◌else◌, map, count_by, sum_by, div-add-mod'}
 use Rattle.std.proofs.lemmas.List.{FromFn.length-map-range_with_len, Sums.sum_by-cons}
 use Rattle.ffs_volume.specs.Directories.Paths.{path_names, dir_path_of_names, entry_path_of_names, dir_path, entry_path}

@@ -1,7 +1,7 @@
 -- Laws of `specs/Directories/Levels`.
 use Rattle.std.proofs.Common.{◌≡◌, ℕ, zero, suc, ◌+◌, ◌-◌, ◌<◌, ◌≤◌}
-use Rattle.std.proofs.Common.{◌==◌, true, ◌&&◌, ◌||◌, refl, Some, is_some, arith, sym, ◌∙◌, ap, subst, inl, inr, eq-eqb}
-use Rattle.std.proofs.lemmas.Bool.{both_ways, cases_lt, and_parts, and_from, or_cases, or_right, false_from_ne_true}
+use Rattle.std.proofs.Common.{◌==◌, true, ◌&&◌, ◌||◌, refl, Some, is_some, arith, ◌∙◌, ap, subst, inl, inr, eq-eqb}
+use Rattle.std.proofs.lemmas.Bool.{both_ways, cases_lt, and_parts, and_from, or_right, false_from_ne_true}
 use Rattle.ffs_volume.proofs.{Pigeon.pigeon, SearchLaws.is_some-value}
 use Rattle.ffs_volume.proofs.SearchLaws.{some_below-gives, some_below-from, first_below-is, first_below-some}
 use Rattle.ffs_volume.specs.Directories.Graph.{Graph, within, level, edge, reached, parent}

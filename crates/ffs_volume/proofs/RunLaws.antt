@@ -4,7 +4,7 @@ use Rattle.std.proofs.{Common.◌||◌, Common.◌==◌, Math.Nat.lt-mul-div-suc
 use Rattle.std.proofs.lemmas.Bool.{cases_lt, Decides.nat_tests, Decides.same_from_decides}
 use Rattle.ffs_volume.proofs.AreaLaws.{is_in_metadata_of, is_metadata_of_group, group_below, group_is}
 use Rattle.ffs_volume.{proofs.Below.all_below-at, proofs.Below.all_below-from, specs.Disk.Areas.cgbase}
-use Rattle.ffs_volume.specs.Disk.Areas.{cgsblock, cgdmin, is_group_metadata, is_fragment_in_range, is_run_in_range}
+use Rattle.ffs_volume.specs.Disk.Areas.{cgsblock, cgdmin, is_fragment_in_range, is_run_in_range}
 use Rattle.ffs_volume.specs.{Disk.Numbers.all_below, Laws.Geometry.IsAcceptedLayout, declared.Layout.Layout}
 
 -- the run of `len` fragments from `start` ends in the volume and in its group, and is before the
