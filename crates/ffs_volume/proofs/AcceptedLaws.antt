@@ -1,22 +1,16 @@
 -- Laws of `specs/Laws/Accepted`.
-use Rattle.std.proofs.Common.{◌≡◌, ℕ, Bool, true, false, List, length, Option, Some, None, Result, Ok, Err, refl, ap}
-use Rattle.std.proofs.Common.{subst}
-use Rattle.std.specs.Prelude.{if◌then◌else◌}
-use Rattle.ffs_volume.specs.declared.Order.{Order}
-use Rattle.ffs_volume.specs.declared.SuperFault.{SuperFault}
-use Rattle.ffs_volume.specs.declared.SuperFault.TheVariants.{CannotRead}
-use Rattle.ffs_volume.specs.Disk.Superblock.{Superblock, layout_of, superblock_of, order_of}
-use Rattle.ffs_volume.specs.Disk.Outcome.{super_sector, super_bytes, layout_fault, copy_agrees, super_verdict}
-use Rattle.ffs_volume.specs.Disk.Outcome.{outcome_in, outcome_of, outcome}
-use Rattle.ffs_volume.proofs.GeometryLaws.{geometry_holds}
-use Rattle.ffs_volume.specs.Laws.Accepted.{FitsImage, AcceptedFit}
+use Rattle.std.proofs.Common.{◌≡◌, ℕ, Bool, List, length, Option, Some, None, Ok, inl, inr, nat_lt, arith}
+use Rattle.std.proofs.{Common.◌*◌, Common.◌+◌, lemmas.Bool.cases_Bool}
+use Rattle.ffs_volume.{proofs.GeometryLaws.geometry_holds, specs.Disk.Outcome.super_sector}
+use Rattle.ffs_volume.specs.Disk.Outcome.{super_bytes, layout_fault, copy_agrees, super_verdict, outcome_in, outcome_of}
+use Rattle.ffs_volume.specs.Disk.{Outcome.outcome, Superblock.Superblock, Superblock.layout_of}
+use Rattle.ffs_volume.specs.{Disk.Superblock.superblock_of, Disk.Superblock.order_of, Laws.Accepted.FitsImage}
+use Rattle.ffs_volume.specs.{Laws.Accepted.AcceptedFit, declared.Order.Order, declared.SuperFault.SuperFault}
 
 super_verdict-ok : (fault : Option SuperFault) (agrees : Bool) (super s : Superblock) → super_verdict fault agrees super ≡ Ok s
     → (fault ≡ None) × (super ≡ s)
 unfolding super_verdict
-super_verdict-ok (Some fault) agrees super s e = absurd (cc)
-super_verdict-ok None true super s e = (refl, cc)
-super_verdict-ok None false super s e = absurd (cc)
+super_verdict-ok fault agrees super s e = grind arith
 
 super_layout : (image : List ℕ) (sector : Option ℕ) (bytes : List ℕ) (order : Option Order) (s : Superblock) →
     outcome_of image sector bytes order ≡ Ok s → FitsImage s.layout (length image)
@@ -26,16 +20,13 @@ super_layout image sector bytes (Some order) s e =
     let p = super_verdict-ok (layout_fault (layout_of order bytes) (length image)) (copy_agrees image sector order bytes)
     (superblock_of order bytes) s e in
     let g = geometry_holds (layout_of order bytes) (length image) p.0 in
-    subst (λ v. FitsImage v (length image)) (ap (λ q. q.layout) p.1) (record { geometry = g.0; inside = g.1 })
-
-in_image : (b : Bool) (fault : SuperFault) (r : Result Superblock SuperFault) (s : Superblock) →
-    (if b then Err fault else r) ≡ Ok s → r ≡ Ok s
-in_image true fault r s e = absurd (cc)
-in_image false fault r s e = e
+    rw (← p.1) (record { geometry = g.0; inside = g.1 })
 
 pub accepted_sound : AcceptedFit
 unfolding outcome
 accepted_sound image sector s e =
-    super_layout image sector (super_bytes image sector) (order_of (super_bytes image sector)) s
-    (in_image _ (CannotRead (super_sector sector))
-    (outcome_of image sector (super_bytes image sector) (order_of (super_bytes image sector))) s e)
+    elim (cases_Bool (nat_lt (length image) (super_sector sector * 512 + 1376))) [
+      | inl past ↦ absurd (let f = rw past at e in cc)
+      | inr inside ↦
+          super_layout image sector (super_bytes image sector) (order_of (super_bytes image sector)) s (rw inside at e)
+    ]

@@ -1,19 +1,11 @@
 -- Laws of the areas of an accepted layout.
-use Rattle.std.proofs.Common.{zero, suc, inl, inr, ◌≡◌, ◌∙◌, ℕ, ◌+◌, ◌-◌, ◌*◌, ◌/◌, ◌<◌, ◌≤◌, Bool, true, false, arith}
-use Rattle.std.proofs.Common.{refl, sym}
-use Rattle.std.proofs.Math.Nat.{div-eq_of_lt-le, mul-le-mul_right, mul_comm}
-use Rattle.std.specs.Int.{div_ceil}
-use Rattle.ffs_volume.specs.Disk.Outcome.{copy_place}
-use Rattle.std.proofs.lemmas.Nat.{div_below}
-use Rattle.std.specs.Prelude.{nat_lt, nat_le, ◌&&◌, ◌||◌}
-use Rattle.std.proofs.lemmas.Bool.{cases_lt}
-use Rattle.std.proofs.lemmas.Bool.Decides.{nat_tests}
-use Rattle.std.proofs.lemmas.Grind.{div_ceil_times}
-use Rattle.ffs_volume.specs.declared.Layout.{Layout}
-use Rattle.ffs_volume.specs.Disk.Search.{first_below, some_below}
-use Rattle.ffs_volume.proofs.SearchLaws.{some_below-suc}
+use Rattle.std.proofs.Common.{zero, suc, inl, inr, ◌≡◌, ℕ, ◌+◌, ◌-◌, ◌*◌, ◌/◌}
+use Rattle.std.proofs.Common.{◌<◌, ◌≤◌, Bool, true, false, arith, sym, mul-le-mul_right, mul_comm, nat_lt, nat_le, ◌&&◌}
+use Rattle.std.proofs.{Math.Nat.div-eq_of_lt-le, lemmas.Bool.cases_lt, lemmas.Bool.Decides.nat_tests}
+use Rattle.std.{proofs.lemmas.Grind.div_ceil_times, proofs.lemmas.Nat.div_below, specs.Int.div_ceil}
 use Rattle.ffs_volume.specs.Disk.Areas.{cgbase, cgstart, cgsblock, cgdmin, is_group_metadata}
-use Rattle.ffs_volume.specs.Laws.Geometry.{IsAcceptedLayout}
+use Rattle.ffs_volume.{proofs.SearchLaws.some_below-suc, specs.Disk.Outcome.copy_place, specs.Disk.Search.first_below}
+use Rattle.ffs_volume.specs.{Disk.Search.some_below, Laws.Geometry.IsAcceptedLayout, declared.Layout.Layout}
 
 -- a test that at most one number passes
 some_below-only : (n i : ℕ) (test : ℕ → Bool) → ((c : ℕ) → c < n → test c ≡ true → c ≡ i) →
@@ -22,15 +14,9 @@ unfolding first_below
 some_below-only zero i test only = grind (arith, nat_tests)
 some_below-only (suc n) i test only =
     let before = some_below-only n i test (λ c h e. only c (omega arith) e) in
-    let here : test n ≡ true → n ≡ i = only n (omega arith) in
-    some_below-suc test n ∙ one (test n) refl before here
-  where
-    one : (b : Bool) → test n ≡ b → some_below test n ≡ (nat_lt i n && test i) → (test n ≡ true → n ≡ i) →
-        (some_below test n || test n) ≡ (nat_lt i (suc n) && test i)
-    one true e before here = let same : n ≡ i = here e in let p : test i ≡ true = rw (← same) e in
-        grind (arith, nat_tests)
-    one false e before here =
-        elim (cases_lt i n) [ inl less ↦ grind (arith, nat_tests) | inr more ↦ grind (arith, nat_tests) ]
+    let here = only n (omega arith) in
+    let more = some_below-suc test n in
+    grind (arith, nat_tests)
 
 -- the group of a fragment between a group's base and its end
 pub group_is : (v : Layout) (c f : ℕ) → cgbase v c ≤ f → f < cgbase v (c + 1) → f / v.fpg ≡ c
@@ -66,21 +52,15 @@ inode_group v x g h = div_below x v.ipg v.ncg (omega arith) h
 pub copy_inside : (v : Layout) → IsAcceptedLayout v → copy_place v + 1376 ≤ v.size * v.fsize
 copy_inside v g =
     let group = g.groups (v.ncg - 1) (omega arith) in
-    let units = div_ceil v.sbsize v.fsize in
-    let covered : v.sbsize ≤ div_ceil v.sbsize v.fsize * v.fsize = (div_ceil_times v.sbsize v.fsize (omega arith)).0 in
+    let covered = (div_ceil_times v.sbsize v.fsize (omega arith)).0 in
     let ends : cgsblock v (v.ncg - 1) + div_ceil v.sbsize v.fsize ≤ v.size = omega arith in
-    let scaled : (cgsblock v (v.ncg - 1) + div_ceil v.sbsize v.fsize) * v.fsize ≤ v.size * v.fsize =
-    mul-le-mul_right v.fsize ends in
+    let scaled = mul-le-mul_right v.fsize ends in
     omega arith
 
 -- no fragment from size on is a group's metadata
 pub no_metadata_past_size : (v : Layout) (f : ℕ) → IsAcceptedLayout v → v.size ≤ f → is_group_metadata v f ≡ false
-no_metadata_past_size v f g h = rw (is_metadata_of_group v f g) (away (nat_lt (f / v.fpg) v.ncg) refl)
-  where
-    away : (b : Bool) → nat_lt (f / v.fpg) v.ncg ≡ b → (b && is_in_metadata_of v (f / v.fpg) f) ≡ false
-    away false e = refl
-    away true e =
-        let lt : f / v.fpg < v.ncg = grind (arith, nat_tests) in
-        let group = g.groups (f / v.fpg) lt in
-        let past : cgdmin v (f / v.fpg) ≤ v.size = group.within_size in
-        grind (arith, nat_tests)
+no_metadata_past_size v f g h =
+    rw (is_metadata_of_group v f g) (elim (cases_lt (f / v.fpg) v.ncg) [
+      | inl lt ↦ let past = (g.groups (f / v.fpg) lt).within_size in grind (arith, nat_tests)
+      | inr out ↦ grind (arith, nat_tests)
+    ])

@@ -1,27 +1,20 @@
 -- Laws of tests of every number below another.
-use Rattle.std.proofs.Common.{◌≡◌, ◌<◌, ◌+◌, ℕ, zero, suc, add-one, Bool, true, false, arith, refl, inl, inr}
-use Rattle.std.proofs.Math.Bool.{and-false}
-use Rattle.std.proofs.lemmas.Bool.{cases_lt, and_parts}
+use Rattle.std.proofs.Common.{◌≡◌, ◌<◌, ◌+◌, ℕ, add-one, Bool, true, false, refl, Decides}
+use Rattle.std.proofs.lemmas.Bool.{both_ways, false_from_ne_true, Decides.Decides-below_and}
 use Rattle.ffs_volume.specs.Disk.Numbers.{all_below}
+
+all_below-decides : (n : ℕ) (test : ℕ → Bool) → Decides (all_below n test) ((k : ℕ) → k < n → test k ≡ true)
+unfolding all_below
+all_below-decides n test =
+    Decides-below_and test (λ k. test k ≡ true) (λ n. all_below n test) (λ k. (λ e. e, λ e. e)) refl (λ _. refl) n
 
 -- what each number passes, all pass
 pub all_below-from : (n : ℕ) (test : ℕ → Bool) → ((k : ℕ) → k < n → test k ≡ true) → all_below n test ≡ true
-unfolding all_below
-all_below-from zero test h = refl
-all_below-from (suc n) test h =
-    let here = h n (omega arith) in
-    rw here (all_below-from n test (λ k lt. h k (omega arith)))
+all_below-from n test h = (all_below-decides n test).1 h
 
 -- what passes below n passes at each
 pub all_below-at : (n i : ℕ) (test : ℕ → Bool) → all_below n test ≡ true → i < n → test i ≡ true
-unfolding all_below
-all_below-at zero i test all h = absurd (omega arith)
-all_below-at (suc n) i test all h =
-    let both = and_parts (test n) (all_below n test) all in
-    elim (cases_lt i n) [
-      | inl less ↦ all_below-at n i test both.1 less
-      | inr more ↦ let same : n ≡ i = omega arith in rw (← same) both.0
-    ]
+all_below-at n i test all h = (all_below-decides n test).0 all i h
 
 -- one more that passes
 pub all_below-more : (n : ℕ) (test : ℕ → Bool) → all_below n test ≡ true → test n ≡ true → all_below (n + 1) test ≡ true
@@ -30,10 +23,4 @@ all_below-more n test before here = rw (add-one, here) before
 
 -- one that fails
 pub all_below-fails : (n i : ℕ) (test : ℕ → Bool) → i < n → test i ≡ false → all_below n test ≡ false
-unfolding all_below
-all_below-fails zero i test h e = absurd (omega arith)
-all_below-fails (suc n) i test h e =
-    elim (cases_lt i n) [
-      | inl less ↦ rw (all_below-fails n i test less e) (and-false (test n))
-      | inr more ↦ let same : i ≡ n = omega arith in rw (← same, e) refl
-    ]
+all_below-fails n i test h e = false_from_ne_true _ (λ all. both_ways (test i) e (all_below-at n i test all h))

@@ -1,16 +1,11 @@
 -- A directory has no more chunks than the size of it that is read.
-use Rattle.std.proofs.Common.{◌≡◌, ℕ, ◌+◌, ◌-◌, ◌*◌, ◌/◌, ◌≤◌, Bool, true, false, arith, ◌∙◌, List, [], ◌∷◌, ◌++◌}
-use Rattle.std.proofs.Common.{length, length-append, Some, None}
-use Rattle.std.specs.Prelude.{min, if◌then◌else◌}
-use Rattle.std.specs.List.{range_with_len}
-use Rattle.std.proofs.lemmas.List.{length-map}
-use Rattle.std.proofs.lemmas.List.FromFn.{length-range_with_len}
-use Rattle.std.proofs.Math.Nat.{mul-le-mul_right, mul-div-le}
-use Rattle.ffs_volume.specs.declared.Step.{Step}
-use Rattle.ffs_volume.specs.declared.Step.TheVariants.{Run, Tail, Gap}
-use Rattle.ffs_volume.specs.Disk.Numbers.{piece}
+use Rattle.std.proofs.Common.{◌≡◌, ℕ, ◌+◌, ◌-◌, ◌*◌, ◌/◌, ◌≤◌, Bool}
+use Rattle.std.proofs.Common.{arith, ◌∙◌, List, [], ◌∷◌, ◌++◌, length, length-append, Some, None, min, mul-le-mul_right}
+use Rattle.std.proofs.{Math.Nat.mul-div-le, lemmas.Bool.cond_both, lemmas.List.length-map}
+use Rattle.std.{proofs.lemmas.List.FromFn.length-range_with_len, specs.List.range_with_len}
 use Rattle.ffs_volume.proofs.StepLaws.{Within}
 use Rattle.ffs_volume.specs.Directories.Entries.{ChunkSource, chunk_of, run_chunks, chunks_of}
+use Rattle.ffs_volume.specs.{Disk.Numbers.piece, declared.Step.Step, declared.Step.TheVariants.Run}
 
 -- how many chunks a Run has
 run_length : (r : ChunkSource) (start len offset : ℕ) → length (run_chunks r start len offset)
@@ -26,31 +21,21 @@ pub chunks_few : (r : ChunkSource) (test : ℕ → ℕ → Bool) (frag low high 
     → 512 * length (chunks_of r test steps) ≤ r.taken - low * r.bsize
 chunks_few r test frag low high [] f w = omega arith
 chunks_few r test frag low high (Run start len None ∷ steps) f w = chunks_few r test frag low high steps f w.1
-chunks_few r test frag low high (Tail ∷ steps) f w = chunks_few r test frag low high steps f w
-chunks_few r test frag low high (Gap ∷ steps) f w = chunks_few r test frag low high steps f w
 chunks_few r test frag low high (Run start len (Some block) ∷ steps) f w =
-    one (test start len) (chunks_few r test frag (block + 1) high steps f w.2)
+    let place = mul-le-mul_right r.bsize w.0 in
+    let next : (block + 1) * r.bsize ≡ block * r.bsize + r.bsize = omega arith in
+    let more = chunks_few r test frag (block + 1) high steps f w.2 in
+    let k = few in
+    cond_both (test start len) (run_chunks r start len (block * r.bsize)) []
+    (λ chunks. 512 * length (chunks ++ chunks_of r test steps) ≤ r.taken - low * r.bsize)
+    (λ _. omega (arith, length-append (run_chunks r start len (block * r.bsize)) (chunks_of r test steps)))
+    (λ _. omega arith)
   where
-    place : low * r.bsize ≤ block * r.bsize
-    place = mul-le-mul_right r.bsize w.0
-
-    next : (block + 1) * r.bsize ≡ block * r.bsize + r.bsize
-    next = grind arith
-
     few : 512 * length (run_chunks r start len (block * r.bsize)) ≤ min r.bsize (r.taken - block * r.bsize)
     few =
         let n = run_length r start len (block * r.bsize) in
-        let a : len * r.fsize ≤ frag * r.fsize = mul-le-mul_right r.fsize w.1.1 in
-        let b : 512 * (len * r.fsize / 512) ≤ len * r.fsize = mul-div-le (len * r.fsize) 512 in
-        let d : 512 * ((r.taken - block * r.bsize) / 512) ≤ r.taken - block * r.bsize =
-        mul-div-le (r.taken - block * r.bsize) 512 in
+        let a = mul-le-mul_right r.fsize w.1.1 in
+        let b = mul-div-le (len * r.fsize) 512 in
+        let d = mul-div-le (r.taken - block * r.bsize) 512 in
         omega arith
-
-    one : (b : Bool) → 512 * length (chunks_of r test steps) ≤ r.taken - (block + 1) * r.bsize
-        → 512 * length ((if b then run_chunks r start len (block * r.bsize) else []) ++ chunks_of r test steps)
-        ≤ r.taken - low * r.bsize
-    one true h =
-        let p = place in let n = next in let k = few in
-        let l = length-append (run_chunks r start len (block * r.bsize)) (chunks_of r test steps) in
-        omega arith
-    one false h = let p = place in let n = next in omega arith
+chunks_few r test frag low high (step ∷ steps) f w = chunks_few r test frag low high steps f w

@@ -1,13 +1,11 @@
 -- Laws of `specs/Directories/Climb`.
-use Rattle.std.specs.Prelude.{◌≡◌, ℕ, zero, suc, ◌+◌, ◌-◌, ◌<◌, ◌≤◌, Bool, true, not, refl, Option, None, Some}
-use Rattle.std.specs.Prelude.{option_and_then}
-use Rattle.std.proofs.Common.{arith, sym, ◌∙◌, ap, subst, inl, inr}
-use Rattle.std.proofs.lemmas.Bool.{both_ways, cases_lt, eqb-true, eq-eqb, leb-true, le-leb, and_parts, and_from}
-use Rattle.std.proofs.lemmas.Bool.{not-true, not-false, not_from_true, not_from_false}
-use Rattle.ffs_volume.specs.Disk.Search.{some_below}
-use Rattle.ffs_volume.proofs.SearchLaws.{some_below-gives, some_below-from, some_below-false, some_below-none}
-use Rattle.ffs_volume.proofs.Pigeon.{pigeon}
+use Rattle.std.proofs.Common.{◌≡◌, ℕ, zero, suc, ◌+◌, ◌-◌, ◌<◌, ◌≤◌, Bool}
+use Rattle.std.proofs.Common.{true, not, refl, Option, None, Some, option_and_then, arith, ◌∙◌, ap, inl, inr, eq-eqb}
+use Rattle.std.proofs.lemmas.Bool.{both_ways, cases_lt, and_parts}
+use Rattle.std.proofs.lemmas.Bool.{and_from, not-true, not-false, not_from_true, not_from_false, Decides.nat_tests}
 use Rattle.ffs_volume.specs.Directories.Climb.{climb, is_value, none_or_at_least, is_leader_within, IsOnCycle, IsLeader}
+use Rattle.ffs_volume.{proofs.Pigeon.pigeon, specs.Disk.Search.some_below}
+use Rattle.ffs_volume.proofs.SearchLaws.{some_below-gives, some_below-from, some_below-false, some_below-none}
 
 -- where the test holds, the number is below n and f leads to a number where it holds
 pub record StaysBelow (f : ℕ → Option ℕ) (p : ℕ → Bool) (n : ℕ) : Type 0 where
@@ -15,11 +13,10 @@ pub record StaysBelow (f : ℕ → Option ℕ) (p : ℕ → Bool) (n : ℕ) : Ty
   pub next : (x : ℕ) → p x ≡ true → (s : ℕ) × (f x ≡ Some s) × (p s ≡ true)
 
 pub is_value-true : (o : Option ℕ) (k : ℕ) → is_value o k ≡ true → o ≡ Some k
-is_value-true None k e = absurd (cc)
-is_value-true (Some j) k e = ap Some (eqb-true j k e)
+is_value-true o k e = grind (arith, nat_tests)
 
 pub is_value-from : (o : Option ℕ) (k : ℕ) → o ≡ Some k → is_value o k ≡ true
-is_value-from o k e = subst (λ x. is_value x k ≡ true) (sym e) (eq-eqb k k refl)
+is_value-from o k e = rw e (eq-eqb k k refl)
 
 pub climb-zero : (f : ℕ → Option ℕ) (d : ℕ) → climb f 0 d ≡ Some d
 unfolding climb
@@ -36,11 +33,7 @@ climb-one f d = climb-suc f 0 d d (climb-zero f d)
 pub climb-last : (f : ℕ → Option ℕ) (k d s : ℕ) → climb f (suc k) d ≡ Some s → (e : ℕ) × (climb f k d ≡ Some e)
     × (f e ≡ Some s)
 unfolding climb
-climb-last f k d s h = go (climb f k d) h
-  where
-    go : (o : Option ℕ) → option_and_then f o ≡ Some s → (e : ℕ) × (o ≡ Some e) × (f e ≡ Some s)
-    go None h = absurd (cc)
-    go (Some e) h = (e, refl, h)
+climb-last f k d s h = grind arith
 
 pub climb-add : (f : ℕ → Option ℕ) (j k d e : ℕ) → climb f k d ≡ Some e → climb f (j + k) d ≡ climb f j e
 unfolding climb
@@ -54,25 +47,20 @@ cycle-along f k d e c h = record {
   steps_less_one = c.steps_less_one;
   returns =
       let q : suc c.steps_less_one + k ≡ k + suc c.steps_less_one = omega arith in
-      sym (climb-add f (suc c.steps_less_one) k d e h)
-      ∙ (ap (λ m. climb f m d) q ∙ (climb-add f k (suc c.steps_less_one) d d c.returns ∙ h));
+      cc (climb-add f (suc c.steps_less_one) k d e h, q, climb-add f k (suc c.steps_less_one) d d c.returns, h);
 }
 
 -- a cycle continues
+climb-ends : (f : ℕ → Option ℕ) (d : ℕ) → f d ≡ None → (k : ℕ) → climb f (suc k) d ≡ None
+unfolding climb
+climb-ends f d h zero = h
+climb-ends f d h (suc k) = ap (option_and_then f) (climb-ends f d h k)
+
 pub cycle-next : (f : ℕ → Option ℕ) (d : ℕ) → IsOnCycle f d → (e : ℕ) × (f d ≡ Some e)
-cycle-next f d c = go (f d) refl
-  where
-    go : (o : Option ℕ) → f d ≡ o → (e : ℕ) × (f d ≡ Some e)
-    go (Some e) h = (e, h)
-    go None h = absurd (ends c.steps_less_one c.returns)
-      where
-        ends : (k : ℕ) → climb f (suc k) d ≡ Some d → ⊥
-        ends zero r = let q = sym (climb-one f d ∙ h) ∙ r in cc
-        ends (suc k) r = let l = climb-last f (suc k) d d r in none_at k l.0 l.1
-          where
-            none_at : (k e : ℕ) → climb f (suc k) d ≡ Some e → ⊥
-            none_at zero e r = let q = sym (climb-one f d ∙ h) ∙ r in cc
-            none_at (suc k) e r = let l = climb-last f (suc k) d e r in none_at k l.0 l.1
+cycle-next f d c =
+    let ends = λ (h : f d ≡ None). climb-ends f d h c.steps_less_one in
+    let returns = c.returns in
+    grind arith
 
 pub cycle-goes : (f : ℕ → Option ℕ) (k d : ℕ) → IsOnCycle f d → (e : ℕ) × (climb f k d ≡ Some e)
 cycle-goes f zero d c = (d, climb-zero f d)
@@ -91,24 +79,19 @@ cycle-within f (suc m) d s c h =
     elim (cases_lt p.0 c.steps_less_one) [
       | inl lt ↦ (suc p.0, lt, climb-suc f p.0 d l.0 p.2 ∙ l.2)
       | inr ge ↦
-          let q : p.0 ≡ c.steps_less_one = (let b = p.1 in omega arith) in (
-            0,
-            omega arith,
-            climb-zero f d
-                ∙ (sym c.returns ∙ (climb-suc f c.steps_less_one d l.0 (ap (λ m. climb f m d) (sym q) ∙ p.2) ∙ l.2)),
-          )
+          let q : p.0 ≡ c.steps_less_one = (let b = p.1 in omega arith) in
+          (0, omega arith, cc (climb-zero f d, c.returns, climb-suc f p.0 d l.0 p.2, l.2, q))
     ]
 
 at_least-from : (o : Option ℕ) (d : ℕ) → ((s : ℕ) → o ≡ Some s → d ≤ s) → none_or_at_least o d ≡ true
-at_least-from None d h = refl
-at_least-from (Some s) d h = le-leb d s (h s refl)
+at_least-from o d h = grind (arith, nat_tests)
 
 at_least-true : (o : Option ℕ) (d s : ℕ) → none_or_at_least o d ≡ true → o ≡ Some s → d ≤ s
-at_least-true o d s h e = leb-true d s (subst (λ x. none_or_at_least x d ≡ true) e h)
+at_least-true o d s h e = grind (arith, nat_tests)
 
 -- the test for what it says
-pub is_leader_within-from : (f : ℕ → Option ℕ) (n d : ℕ) (i : IsLeader f d) → i.cycle.steps_less_one < n → is_leader_within f n
-    d ≡ true
+pub is_leader_within-from : (f : ℕ → Option ℕ) (n d : ℕ) (i : IsLeader f d) → i.cycle.steps_less_one < n →
+    is_leader_within f n d ≡ true
 is_leader_within-from f n d i b =
     and_from _ _ (some_below-from (λ k. is_value (climb f (suc k) d) d) n i.cycle.steps_less_one b
     (is_value-from _ d i.cycle.returns))
@@ -155,9 +138,7 @@ cycle_above f p n d g h =
       (
         record {
           steps_less_one = r.second - suc r.first;
-          returns =
-              sym (climb-add f (suc (r.second - suc r.first)) r.first d a.0 a.1)
-              ∙ (ap (λ m. climb f m d) q ∙ (b.1 ∙ ap Some (sym r.same)));
+          returns = cc (climb-add f (suc (r.second - suc r.first)) r.first d a.0 a.1, q, b.1, r.same);
         },
         omega arith,
       ),
@@ -175,8 +156,7 @@ leader_on f p n x g h c l =
     let v = some_below-gives (λ k. is_value (climb f k x) w.0) n w.1.passes in
     let at : climb f v.0 x ≡ Some w.0 = is_value-true _ w.0 v.1.passes in
     let a = climb_continues f p n x g h v.0 in
-    let same : Some a.0 ≡ Some w.0 = sym a.1 ∙ at in
-    let eq : a.0 ≡ w.0 = cc in
+    let eq : a.0 ≡ w.0 = cc (a.1, at) in
     let d : IsOnCycle f w.0 = cycle-along f v.0 x w.0 c at in
     let i : IsLeader f w.0 = record {
       cycle = d;
@@ -184,16 +164,13 @@ leader_on f p n x g h c l =
           let far : climb f (k + v.0) x ≡ Some s = climb-add f k v.0 x w.0 at ∙ e in
           let near = cycle-within f (k + v.0) x s c far in
           let lt : near.0 < n = (let q = near.1 in omega arith) in
-          let b = climb_continues f p n x g h near.0 in
-          let bs : Some b.0 ≡ Some s = sym b.1 ∙ near.2 in
-          let be : b.0 ≡ s = cc in
           elim (cases_lt s w.0) [
             | inr ge ↦ ge
             | inl less ↦ absurd (both_ways (t s) (w.1.least s less)
                 (some_below-from (λ k. is_value (climb f k x) s) n near.0 lt (is_value-from _ s near.2)))
           ];
     } in
-    (w.0, subst (λ y. p y ≡ true) eq a.2, is_leader_within-from f n w.0 i l)
+    (w.0, rw eq at a.2, is_leader_within-from f n w.0 i l)
 
 pub some_leader : (f : ℕ → Option ℕ) (p : ℕ → Bool) (n d : ℕ) → StaysBelow f p n → p d ≡ true → (e : ℕ) × (p e ≡ true)
     × (is_leader_within f n e ≡ true)

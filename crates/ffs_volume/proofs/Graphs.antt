@@ -1,8 +1,8 @@
 -- Conditions on graphs of directories, which laws speak of.
-use Rattle.std.specs.Prelude.{◌≡◌, ◌≢◌, ℕ, ◌<◌, Bool, true, false, Some}
+use Rattle.std.proofs.Common.{◌≡◌, ◌≢◌, ℕ, ◌<◌, Bool, true, false, Some}
+use Rattle.ffs_volume.specs.Directories.Graph.{Graph, reached, parent, parent_entry_index}
+use Rattle.ffs_volume.specs.Directories.Graph.{is_dead_in, is_unref_dir_in, is_naming_entry_at, IsNamedOnce}
 use Rattle.ffs_volume.specs.declared.constants.TheConstants.{ROOTINO}
-use Rattle.ffs_volume.specs.Directories.Graph.{Graph, reached, parent, parent_entry_index, is_dead_in, is_unref_dir_in}
-use Rattle.ffs_volume.specs.Directories.Graph.{is_naming_entry_at, IsNamedOnce}
 
 -- a directory has the number of an inode, and there is an inode 2
 pub record IsSane (g : Graph) : Type 0 where

@@ -1,14 +1,11 @@
 -- Laws of `specs/Directories/Levels`.
-use Rattle.std.specs.Prelude.{◌≡◌, ℕ, zero, suc, ◌+◌, ◌-◌, ◌<◌, ◌≤◌, ◌==◌, true, ◌&&◌, ◌||◌, refl, Some, is_some}
-use Rattle.std.proofs.Common.{arith, sym, ◌∙◌, ap, subst, inl, inr}
-use Rattle.std.proofs.lemmas.Bool.{both_ways, cases_lt, eq-eqb, and_parts, and_from, or_cases, or_left, or_right}
-use Rattle.std.proofs.lemmas.Bool.{false_from_ne_true}
-use Rattle.ffs_volume.specs.Disk.Search.{some_below}
-use Rattle.ffs_volume.proofs.SearchLaws.{is_some-value, some_below-gives, some_below-from, first_below-is}
-use Rattle.ffs_volume.proofs.SearchLaws.{first_below-some}
-use Rattle.ffs_volume.proofs.Pigeon.{pigeon}
+use Rattle.std.proofs.Common.{◌≡◌, ℕ, zero, suc, ◌+◌, ◌-◌, ◌<◌, ◌≤◌}
+use Rattle.std.proofs.Common.{◌==◌, true, ◌&&◌, ◌||◌, refl, Some, is_some, arith, ◌∙◌, ap, subst, inl, inr, eq-eqb}
+use Rattle.std.proofs.lemmas.Bool.{both_ways, cases_lt, and_parts, and_from, or_right, false_from_ne_true}
+use Rattle.ffs_volume.proofs.{Pigeon.pigeon, SearchLaws.is_some-value}
+use Rattle.ffs_volume.proofs.SearchLaws.{some_below-gives, some_below-from, first_below-is, first_below-some}
 use Rattle.ffs_volume.specs.Directories.Graph.{Graph, within, level, edge, reached, parent}
-use Rattle.ffs_volume.specs.Laws.Levels.{IsLevel}
+use Rattle.ffs_volume.specs.{Disk.Search.some_below, Laws.Levels.IsLevel}
 
 pub within-suc : (v : Graph) (k d : ℕ) →
     within v (suc k) d ≡ (within v k d || some_below (λ s. within v k s && edge v s d) v.count)
@@ -20,44 +17,38 @@ unfolding within
 within-zero v d = refl
 
 pub within-more : (v : Graph) (k d : ℕ) → within v k d ≡ true → within v (suc k) d ≡ true
-within-more v k d h = within-suc v k d ∙ or_left (within v k d) (some_below (λ s. within v k s && edge v s d) v.count) h
+within-more v k d h = let more = within-suc v k d in grind arith
 
 pub within-step : (v : Graph) (k s d : ℕ) → s < v.count → within v k s ≡ true → edge v s d ≡ true →
     within v (suc k) d ≡ true
 within-step v k s d l h e =
-    within-suc v k d ∙ or_right (within v k d) (some_below (λ s. within v k s && edge v s d) v.count)
-    (some_below-from (λ s. within v k s && edge v s d) v.count s l (and_from (within v k s) (edge v s d) h e))
+    let edges = some_below-from (λ s. within v k s && edge v s d) v.count s l (and_from (within v k s) (edge v s d) h e) in
+    rw (within-suc v k d, edges) (or_right (within v k d) true refl)
 
 within-plus : (v : Graph) (i k d : ℕ) → within v k d ≡ true → within v (i + k) d ≡ true
-within-plus v zero k d h = let q : 0 + k ≡ k = omega arith in ap (λ m. within v m d) q ∙ h
-within-plus v (suc i) k d h = let q : suc i + k ≡ suc (i + k) = omega arith in ap (λ m. within v m d) q
-    ∙ within-more v (i + k) d (within-plus v i k d h)
+within-plus v zero k d h = let q : 0 + k ≡ k = omega arith in rw q h
+within-plus v (suc i) k d h =
+    let q : suc i + k ≡ suc (i + k) = omega arith in rw q (within-more v (i + k) d (within-plus v i k d h))
 
 pub within-grows : (v : Graph) (j k d : ℕ) → j ≤ k → within v j d ≡ true → within v k d ≡ true
-within-grows v j k d l h = let q : (k - j) + j ≡ k = omega arith in sym (ap (λ m. within v m d) q)
-    ∙ within-plus v (k - j) j d h
+within-grows v j k d l h = let q : (k - j) + j ≡ k = omega arith in rw q at (within-plus v (k - j) j d h)
 
 pub level-before : (v : Graph) (k d : ℕ) → IsLevel v (suc k) d → (s : ℕ) × (s < v.count) × IsLevel v k s
     × (edge v s d ≡ true)
 level-before v k d h =
     let no = h.least k (omega arith) in
-    elim (or_cases (within v k d) (some_below (λ s. within v k s && edge v s d) v.count)
-    (sym (within-suc v k d) ∙ h.within_k)) [
-      | inl y ↦ absurd (both_ways (within v k d) no y)
-      | inr y ↦
-          let w = some_below-gives (λ s. within v k s && edge v s d) v.count y in
-          let p = and_parts (within v k w.0) (edge v w.0 d) w.1.passes in (
-            w.0,
-            w.1.below,
-            record {
-              within_k = p.0;
-              least = λ j l. false_from_ne_true (within v j w.0) (λ t.
-                  both_ways (within v (suc j) d) (h.least (suc j) (omega arith))
-                  (within-step v j w.0 d w.1.below t p.1));
-            },
-            p.1,
-          )
-    ]
+    let more = within-suc v k d in
+    let w = some_below-gives (λ s. within v k s && edge v s d) v.count (grind arith) in
+    let p = and_parts (within v k w.0) (edge v w.0 d) w.1.passes in (
+      w.0,
+      w.1.below,
+      record {
+        within_k = p.0;
+        least = λ j l. false_from_ne_true (within v j w.0) (λ t.
+            both_ways (within v (suc j) d) (h.least (suc j) (omega arith)) (within-step v j w.0 d w.1.below t p.1));
+      },
+      p.1,
+    )
 
 -- each level up to a level of an inode has an inode
 pub level-each : (v : Graph) (k d : ℕ) → d < v.count → IsLevel v k d → (i : ℕ) → (s : ℕ) × (s < v.count)
@@ -82,8 +73,7 @@ level-bound v k d l h =
           let o = r.ordered in let u = r.bounded in
           let one = (level-each v k d l h r.first).2 (omega arith) in
           let two = (level-each v k d l h r.second).2 (omega arith) in
-          let there = subst (λ s. within v r.first s ≡ true) r.same one.within_k in
-          absurd (both_ways _ (two.least r.first o) there)
+          absurd (both_ways _ (two.least r.first o) (subst (λ s. within v r.first s ≡ true) r.same one.within_k))
     ]
 
 pub level-is : (v : Graph) (k d : ℕ) → d < v.count → IsLevel v k d → level v d ≡ Some k
@@ -93,7 +83,8 @@ level-is v k d l h = first_below-is (λ j. within v j d) v.count k
 
 pub level-some : (v : Graph) (k d : ℕ) → level v d ≡ Some k → IsLevel v k d × (k < v.count)
 unfolding level
-level-some v k d e = let f = first_below-some (λ j. within v j d) v.count k e in
+level-some v k d e =
+    let f = first_below-some (λ j. within v j d) v.count k e in
     (record { within_k = f.passes; least = f.least }, f.below)
 
 -- however many edges a walk has, its end is reached

@@ -2,10 +2,8 @@ pub mod Longest
 pub mod Reading
 pub mod PathBound
 pub mod DirectoryExamples
-pub mod ClassExamples
+pub mod BlockExamples
 pub mod StepExamples
-pub mod ClaimExamples
-pub mod GroupExamples
 pub mod OpeningExamples
 pub mod LawsHold
 pub mod LinkLaws

@@ -1,11 +1,8 @@
 -- What a count of references says of an inode's links.
-use Rattle.std.proofs.Common.{◌≡◌, ℕ, ◌+◌, ◌-◌, ◌<◌, ◌≤◌, Bool, true, false, ℤ, pos, negsuc, arith, refl}
-use Rattle.std.specs.Prelude.{◌&&◌, ◌==◌, nat_lt, nat_le, if◌then◌else◌}
-use Rattle.std.proofs.lemmas.Bool.{eq-eqb, ne_eqb}
+use Rattle.std.proofs.Common.{◌≡◌, ℕ, ◌+◌, true, false, ℤ, arith, ◌==◌}
 use Rattle.std.proofs.lemmas.Bool.Decides.{nat_tests}
-use Rattle.ffs_volume.specs.declared.constants.TheConstants.{LINKS_MET, NO_LINKS}
 use Rattle.ffs_volume.specs.Disk.Numbers.{equals_natural}
-use Rattle.ffs_volume.specs.Encodings.Links.{links_start}
+use Rattle.ffs_volume.specs.{Encodings.Links.links_start, declared.constants.TheConstants.LINKS_MET}
 
 -- each link has a reference, and there is one
 pub record AreMet (links : ℤ) (references : ℕ) : Type 0 where
@@ -14,17 +11,4 @@ pub record AreMet (links : ℤ) (references : ℕ) : Type 0 where
 
 -- where the count is that number, each link has its reference
 pub links_met : (links : ℤ) (references : ℕ) → links_start links + references ≡ LINKS_MET → AreMet links references
-links_met (negsuc n) r e = absurd (omega (arith, e))
-links_met (pos n) r e = go (nat_lt 0 n) (nat_le n LINKS_MET) refl refl e
-  where
-    go : (a b : Bool) → nat_lt 0 n ≡ a → nat_le n LINKS_MET ≡ b
-        → (if a && b then LINKS_MET - n else NO_LINKS) + r ≡ LINKS_MET → AreMet (pos n) r
-    go true true p q h =
-        let low : 0 < n = grind (p, arith, nat_tests) in
-        let high : n ≤ LINKS_MET = grind (q, arith, nat_tests) in
-        record {
-          same = eq-eqb n r (omega (arith, h, low, high));
-          some = ne_eqb r 0 (λ z. absurd (omega (arith, h, low, high, z)));
-        }
-    go true false p q h = absurd (omega (arith, h))
-    go false b p q h = absurd (omega (arith, h))
+links_met links r e = grind (arith, nat_tests)

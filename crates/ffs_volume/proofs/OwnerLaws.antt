@@ -1,11 +1,8 @@
 -- Laws of `specs/Blocks/Owners`: the claims of one inode after another.
-use Rattle.std.proofs.Common.{◌≡◌, ℕ, ◌+◌, ◌-◌, ◌≤◌, List, [], ◌∷◌, ◌++◌, map, refl, ap, ◌∙◌, arith}
-use Rattle.std.specs.List.{range_with_len}
-use Rattle.std.proofs.lemmas.List.FromFn.{map-range_with_len_more}
-use Rattle.ffs_volume.specs.declared.Layout.{Layout}
-use Rattle.ffs_volume.specs.Blocks.Owners.{Owner, owner_of}
-use Rattle.ffs_volume.specs.Blocks.Claims.{Claims, no_claims, after_owner, after_owners}
-use Rattle.ffs_volume.specs.Blocks.KeptSteps.{claims_before}
+use Rattle.std.proofs.Common.{◌≡◌, ℕ, ◌+◌, ◌-◌, ◌≤◌, List, [], ◌∷◌, ◌++◌, map, refl, arith}
+use Rattle.std.{proofs.lemmas.List.FromFn.map-range_with_len_more, specs.List.range_with_len}
+use Rattle.ffs_volume.specs.Blocks.{Owners.Owner, Owners.owner_of, Claims.Claims, Claims.no_claims, Claims.after_owner}
+use Rattle.ffs_volume.specs.{Blocks.Claims.after_owners, declared.Layout.Layout, Blocks.KeptSteps.claims_before}
 
 owners_append : (v : Layout) (s : Claims) (xs ys : List Owner) →
     after_owners v s (xs ++ ys) ≡ after_owners v (after_owners v s xs) ys
@@ -18,6 +15,5 @@ pub before_next : (v : Layout) (bytes : List ℕ) (x : ℕ) → 2 ≤ x →
 unfolding claims_before
 before_next v bytes x low =
     let more : x + 1 - 2 ≡ x - 2 + 1 = omega arith in
-    ap (λ (n : ℕ). after_owners v (no_claims v) (map (owner_of v bytes) (range_with_len 2 n))) more
-    ∙ ap (after_owners v (no_claims v)) (map-range_with_len_more (owner_of v bytes) 2 (x - 2) x (omega arith))
-    ∙ owners_append v (no_claims v) (map (owner_of v bytes) (range_with_len 2 (x - 2))) (owner_of v bytes x ∷ [])
+    rw (more, map-range_with_len_more (owner_of v bytes) 2 (x - 2) x (omega arith))
+    (owners_append v (no_claims v) (map (owner_of v bytes) (range_with_len 2 (x - 2))) (owner_of v bytes x ∷ []))

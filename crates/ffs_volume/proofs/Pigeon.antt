@@ -1,9 +1,8 @@
 -- Among n + 1 numbers below n two are equal.
-use Rattle.std.specs.Prelude.{◌≡◌, ◌≢◌, ℕ, zero, suc, ◌<◌, ◌≤◌, ◌==◌, cond}
-use Rattle.std.proofs.Common.{arith, sym, ◌∙◌, inl, inr}
-use Rattle.std.proofs.lemmas.Bool.{cases_Bool, cases_eq, eqb-true, eqb-false, eq-eqb, ne_eqb, cond-true, cond-false}
-use Rattle.ffs_volume.specs.Disk.Search.{some_below}
+use Rattle.std.proofs.Common.{◌≡◌, ℕ, zero, suc, ◌<◌, ◌≤◌, ◌==◌, cond, arith, inl, inr, eqb-true}
+use Rattle.std.proofs.lemmas.Bool.{cases_Bool, eqb-false, Decides.nat_tests}
 use Rattle.ffs_volume.proofs.SearchLaws.{some_below-gives, some_below-false}
+use Rattle.ffs_volume.specs.Disk.Search.{some_below}
 
 pub record Repeats (g : ℕ → ℕ) (n : ℕ) : Type 0 where
   pub first : ℕ
@@ -12,47 +11,15 @@ pub record Repeats (g : ℕ → ℕ) (n : ℕ) : Type 0 where
   pub bounded : second ≤ n
   pub same : g first ≡ g second
 
--- n handed to g's last value
-moved : (ℕ → ℕ) → ℕ → ℕ → ℕ
-moved g n i = cond (g i == n) (g (suc n)) (g i)
+-- a number, or `last` in place of n
+abbrev moved : (n last x : ℕ) → ℕ
+moved n last x = cond (x == n) last x
 
-moved-at : (g : ℕ → ℕ) (n i : ℕ) → g i ≡ n → moved g n i ≡ g (suc n)
-unfolding moved
-moved-at g n i e = cond-true (g i == n) (g (suc n)) (g i) (eq-eqb (g i) n e)
+moved_below : (n last x : ℕ) → x < suc n → last < suc n → (x ≡ last → ⊥) → moved n last x < n
+moved_below n last x a b other = grind (arith, nat_tests)
 
-moved-off : (g : ℕ → ℕ) (n i : ℕ) → (g i ≡ n → ⊥) → moved g n i ≡ g i
-unfolding moved
-moved-off g n i e = cond-false (g i == n) (g (suc n)) (g i) (ne_eqb (g i) n e)
-
-moved-below : (g : ℕ → ℕ) (n i : ℕ) → g i < suc n → g (suc n) < suc n → (g i ≡ g (suc n) → ⊥) → moved g n i < n
-moved-below g n i a b ne =
-    elim (cases_eq (g i) n) [
-      | inl e ↦ let m = moved-at g n i e in let c : g (suc n) ≢ n = (λ q. ne (e ∙ sym q)) in omega arith
-      | inr e ↦ let m = moved-off g n i e in let c : g i ≢ n = e in omega arith
-    ]
-
-back : (n : ℕ) (g : ℕ → ℕ) → ((i : ℕ) → i < suc n → g i ≡ g (suc n) → ⊥) → (r : Repeats (moved g n) n) →
-    Repeats g (suc n)
-back n g ne r = record {
-  first = r.first;
-  second = r.second;
-  ordered = r.ordered;
-  bounded = let b = r.bounded in omega arith;
-  same =
-      let lo = r.ordered in let hi = r.bounded in
-      elim (cases_eq (g r.first) n) [
-        | inl e ↦ elim (cases_eq (g r.second) n) [
-          | inl f ↦ e ∙ sym f
-          | inr f ↦ absurd (ne r.second (omega arith)
-              (sym (moved-off g n r.second f) ∙ (sym r.same ∙ moved-at g n r.first e)))
-        ]
-        | inr e ↦ elim (cases_eq (g r.second) n) [
-          | inl f ↦ absurd (ne r.first (omega arith)
-              (sym (moved-off g n r.first e) ∙ (r.same ∙ moved-at g n r.second f)))
-          | inr f ↦ sym (moved-off g n r.first e) ∙ (r.same ∙ moved-off g n r.second f)
-        ]
-      ];
-}
+moved_same : (n last x y : ℕ) → (x ≡ last → ⊥) → (y ≡ last → ⊥) → moved n last x ≡ moved n last y → x ≡ y
+moved_same n last x y a b e = grind (arith, nat_tests)
 
 step : (n : ℕ) (g : ℕ → ℕ) → ((i : ℕ) → i ≤ suc n → g i < suc n) →
     ((f : ℕ → ℕ) → ((i : ℕ) → i ≤ n → f i < n) → Repeats f n) → Repeats g (suc n)
@@ -69,8 +36,17 @@ step n g h ih =
       | inr y ↦
           let ne = λ (i : ℕ) (l : i < suc n). eqb-false (g i) (g (suc n))
           (some_below-false (λ i. g i == g (suc n)) (suc n) y i l) in
-          back n g ne (ih (moved g n)
-          (λ i l. moved-below g n i (h i (omega arith)) (h (suc n) (omega arith)) (ne i (omega arith))))
+          let r = ih (λ i. moved n (g (suc n)) (g i)) (λ i l.
+          moved_below n (g (suc n)) (g i) (h i (omega arith)) (h (suc n) (omega arith)) (ne i (omega arith))) in
+          let lo = r.ordered in let hi = r.bounded in
+          record {
+            first = r.first;
+            second = r.second;
+            ordered = lo;
+            bounded = omega arith;
+            same = moved_same n (g (suc n)) (g r.first) (g r.second) (ne r.first (omega arith))
+                (ne r.second (omega arith)) r.same;
+          }
     ]
 
 pub pigeon : (n : ℕ) (g : ℕ → ℕ) → ((i : ℕ) → i ≤ n → g i < n) → Repeats g n

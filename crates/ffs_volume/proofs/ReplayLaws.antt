@@ -1,27 +1,15 @@
 -- Laws of `specs/Encodings/ReplayCounts`.
-use Rattle.std.proofs.Common.{zero, suc, ◌≡◌, ℕ, ◌+◌, ◌-◌, ◌≤◌, Bool, true, false, arith, refl, sym, ap, ◌∙◌, List, []}
-use Rattle.std.proofs.Common.{◌∷◌, ◌++◌, replicate}
-use Rattle.std.specs.Prelude.{nat_lt, ◌&&◌, ◌==◌, if◌then◌else◌, map}
-use Rattle.std.specs.List.{range_with_len}
-use Rattle.std.proofs.lemmas.Bool.Decides.{nat_tests}
-use Rattle.ffs_volume.specs.declared.Layout.{Layout}
-use Rattle.ffs_volume.specs.declared.Step.{Step}
-use Rattle.ffs_volume.specs.declared.Step.TheVariants.{Run, Tail, Gap}
-use Rattle.ffs_volume.specs.Disk.Areas.{is_fragment_in_range, is_run_in_range}
-use Rattle.ffs_volume.specs.Blocks.Claims.{Claims, at_next_inode, is_open, is_set, after_offer, after_offers, after_run}
-use Rattle.ffs_volume.specs.Blocks.Claims.{after_step, after_steps}
-use Rattle.ffs_volume.specs.Blocks.KeptOffers.{offer_of}
-use Rattle.ffs_volume.specs.Encodings.Replay.{
-  Replay,
-  fresh_replay,
-  cut_of,
-  replay_after_step,
-  is_replayed,
-  replayed_steps,
-}
+use Rattle.std.proofs.Common.{zero, suc, ◌≡◌, ℕ, ◌+◌, ◌-◌, ◌≤◌, Bool, true, false, arith, refl}
+use Rattle.std.proofs.Common.{ap, List, [], ◌∷◌, ◌++◌, replicate, nat_lt, ◌&&◌, ◌==◌, if◌then◌else◌, map, inl, inr}
+use Rattle.std.{proofs.lemmas.Bool.cases_Bool, proofs.lemmas.Bool.Decides.nat_tests, specs.List.range_with_len}
 use Rattle.ffs_volume.proofs.ReplayIsKeeping.{replay_of, replayed_step_offers, replayed_offers, seen_replays}
-use Rattle.ffs_volume.proofs.ReplayIsKeeping.{step_replays, step_few}
+use Rattle.ffs_volume.{proofs.ReplayIsKeeping.step_replays, proofs.ReplayIsKeeping.step_few, specs.Blocks.Claims.Claims}
+use Rattle.ffs_volume.specs.Blocks.Claims.{at_next_inode, is_open, after_offers, after_run, after_step, after_steps}
+use Rattle.ffs_volume.{specs.declared.Step.Step, proofs.Potentials.cond_holds, proofs.Potentials.offers_keep}
+use Rattle.ffs_volume.specs.{Blocks.KeptOffers.offer_of, Disk.Areas.is_run_in_range, Encodings.Replay.Replay}
+use Rattle.ffs_volume.specs.Encodings.Replay.{fresh_replay, cut_of, replay_after_step, is_replayed, replayed_steps}
 use Rattle.ffs_volume.specs.Encodings.ReplayCounts.{seen_run, replayed_runs, replay_step_by_cut}
+use Rattle.ffs_volume.specs.declared.{Layout.Layout, Step.TheVariants.Run, Step.TheVariants.Tail, Step.TheVariants.Gap}
 
 -- two replays that keep the same steps and offers and see as many Runs
 pub record SameReplay (v : Layout) (i cut : ℕ) (r q : Replay) (steps : List Step) : Type 0 where
@@ -37,54 +25,32 @@ gaps_seen v cut r (suc n) steps = omega (arith, gaps_seen v cut r n steps)
 
 -- offers are no Runs
 pub offers_runs : (v : Layout) (s : Claims) (fs : List ℕ) → (after_offers v s fs).runs ≡ s.runs
-offers_runs v s [] = refl
-offers_runs v s (f ∷ fs) = offers_runs v (after_offer v s f) fs
-    ∙ one (nat_lt s.dups 11) refl (is_fragment_in_range v f) refl (is_set s.used f) refl
-  where
-    one : (a : Bool) → nat_lt s.dups 11 ≡ a → (b : Bool) → is_fragment_in_range v f ≡ b → (c : Bool) →
-        is_set s.used f ≡ c → (after_offer v s f).runs ≡ s.runs
-    one false a b bq c cq = rw a refl
-    one true a false b c cq = rw (a, b) refl
-    one true a true b true c = rw (a, b, c) refl
-    one true a true b false c = rw (a, b, c) refl
+offers_runs v s fs = (offers_keep v s fs).runs_is
 
 run_runs : (v : Layout) (s : Claims) (start len : ℕ) → (after_run v s start len).runs ≡ s.runs + 1
-run_runs v s start len = one (is_run_in_range v start len) refl (s.bad == 10) refl
-  where
-    one : (a : Bool) → is_run_in_range v start len ≡ a → (b : Bool) → (s.bad == 10) ≡ b → (after_run v s start len).runs
-        ≡ s.runs + 1
-    one true a b bq = rw a (offers_runs v (record s { runs = s.runs + 1 }) (range_with_len start len))
-    one false a true b = rw (a, b) refl
-    one false a false b = rw (a, b)
-        (offers_runs v (record s { runs = s.runs + 1; bad = s.bad + 1 }) (range_with_len start len))
+run_runs v s start len =
+    cond_holds (λ (t : Claims). t.runs ≡ s.runs + 1) (is_run_in_range v start len) _ _
+    (λ _. offers_runs v (record s { runs = s.runs + 1 }) (range_with_len start len))
+    (λ _. cond_holds (λ (t : Claims). t.runs ≡ s.runs + 1) (s.bad == 10) _ _
+    (λ _. refl)
+    (λ _. offers_runs v (record s { runs = s.runs + 1; bad = s.bad + 1 }) (range_with_len start len)))
 
 step_runs : (v : Layout) (s : Claims) (step : Step) (steps : List Step) → s.dups ≤ s.kept
     → (after_step v s step).runs ≡ s.runs + seen_run (cut_of (after_steps v s (step ∷ steps))) (replay_of s) step
 step_runs v s Gap steps few = omega arith
-step_runs v s Tail steps few = one (is_open s) refl
-  where
-    one : (o : Bool) → is_open s ≡ o → (if is_open s then record s { tail = true } else s).runs ≡ s.runs + 0
-    one true o = rw o (omega arith)
-    one false o = rw o (omega arith)
-step_runs v s (Run start len block) steps few = one (is_open s) refl
-    ∙ ap (λ b. s.runs + (if b then 1 else 0)) (sym (seen_replays v s (Run start len block ∷ steps) few))
-  where
-    one : (o : Bool) → is_open s ≡ o → (if is_open s then after_run v s start len else s).runs
-        ≡ s.runs + (if is_open s then 1 else 0)
-    one true o = rw o (run_runs v s start len)
-    one false o = rw o (omega arith)
+step_runs v s Tail steps few =
+    cond_holds (λ (t : Claims). t.runs ≡ s.runs + 0) (is_open s) _ _ (λ _. omega arith) (λ _. omega arith)
+step_runs v s (Run start len block) steps few =
+    rw (seen_replays v s (Run start len block ∷ steps) few)
+    (elim (cases_Bool (is_open s)) [ inl o ↦ rw o (run_runs v s start len) | inr o ↦ rw o (omega arith) ])
 
 steps_runs : (v : Layout) (s : Claims) (steps : List Step) → s.dups ≤ s.kept
     → (after_steps v s steps).runs ≡ s.runs + replayed_runs v (cut_of (after_steps v s steps)) (replay_of s) steps
 steps_runs v s [] few = omega arith
 steps_runs v s (step ∷ steps) few =
-    let cut = cut_of (after_steps v s (step ∷ steps)) in
     let one = step_runs v s step steps few in
     let more = steps_runs v (after_step v s step) steps (step_few v s step few) in
-    let same : replayed_runs v cut (replay_after_step v cut (replay_of s) step) steps
-    ≡ replayed_runs v cut (replay_of (after_step v s step)) steps =
-    ap (λ r. replayed_runs v cut r steps) (step_replays v s step steps few) in
-    omega arith
+    rw (step_replays v s step steps few) (omega arith)
 
 -- an inode's Runs that are seen are those of the replay
 pub replay_is_runs : (v : Layout) (s : Claims) (steps : List Step)
@@ -93,136 +59,71 @@ pub replay_is_runs : (v : Layout) (s : Claims) (steps : List Step)
     fresh_replay steps
 replay_is_runs v s steps = steps_runs v (at_next_inode s) steps (omega arith)
 
-abbrev run_by : Bool → Bool → Bool → ℕ → ℕ → ℕ → Replay
-run_by o i t bad kept len =
-    if o then (if i then record { bad = bad; kept = kept + len }
-    else (if t then record { bad = bad + 1; kept = kept } else record { bad = bad + 1; kept = kept + len }))
+-- the replay after a Run without a cut, by three tests: that it is seen, that it is in range, and
+-- that it is the eleventh bad one. `more` are the kept offers with its own
+abbrev run_by : (seen fits last : Bool) (bad kept more : ℕ) → Replay
+run_by seen fits last bad kept more =
+    if seen then (if fits then record { bad = bad; kept = more }
+    else (if last then record { bad = bad + 1; kept = kept } else record { bad = bad + 1; kept = more }))
     else record { bad = bad; kept = kept }
 
--- two replays without a cut that saw as many bad Runs
-record Alike (r q : Replay) : Type 0 where
-  bad : r.bad ≡ q.bad
+-- it has as many bad Runs whatever is kept, and keeps as many offers whatever was kept before
+run_alike : (o i t : Bool) (bad k m k' m' : ℕ) → (run_by o i t bad k m).bad ≡ (run_by o i t bad k' m').bad
+run_alike o i t bad k m k' m' = grind arith
 
-alike_next : (v : Layout) (r q : Replay) (step : Step) → Alike r q →
-    Alike (replay_after_step v 0 r step) (replay_after_step v 0 q step)
-alike_next v r q Gap a = a
-alike_next v r q Tail a = a
-alike_next v r q (Run start len block) a =
-    rw a.bad (one (nat_lt q.bad 11 && true) (is_run_in_range v start len) (q.bad == 10))
-  where
-    one : (o i t : Bool) →
-        Alike (run_by o i t q.bad r.kept len)
-        (run_by o i t q.bad q.kept len)
-    one false i t = record { bad = refl }
-    one true true t = record { bad = refl }
-    one true false true = record { bad = refl }
-    one true false false = record { bad = refl }
+run_keeps : (o i t : Bool) (bad k k' len : ℕ) →
+    ((o && (run_by o i t bad k (k + len)).kept == k + len) ≡ (o && (run_by o i t bad k' (k' + len)).kept == k' + len))
+    × ((run_by o i t bad k (k + len)).kept - k ≡ (run_by o i t bad k' (k' + len)).kept - k')
+run_keeps o i t bad k k' len = grind (arith, nat_tests)
 
-zero_test : (k len : ℕ) → (k == k + len) ≡ (len == 0)
-zero_test k len = one (len == 0) refl
-  where
-    one : (b : Bool) → (len == 0) ≡ b → (k == k + len) ≡ b
-    one true b = grind (arith, nat_tests)
-    one false b = grind (arith, nat_tests)
+-- what a step does to two replays without a cut that saw as many bad Runs
+record Alike (v : Layout) (i : ℕ) (r q : Replay) (step : Step) : Type 0 where
+  bad : (replay_after_step v 0 r step).bad ≡ (replay_after_step v 0 q step).bad
+  step_is : is_replayed v 0 r step ≡ is_replayed v 0 q step
+  offers_are : replayed_step_offers v i 0 r step ≡ replayed_step_offers v i 0 q step
+  run_is : seen_run 0 r step ≡ seen_run 0 q step
 
-self_test : (k : ℕ) → (k == k) ≡ true
-self_test k = grind (arith, nat_tests)
-
-alike_replayed : (v : Layout) (r q : Replay) (step : Step) → Alike r q → is_replayed v 0 r step ≡ is_replayed v 0 q step
-alike_replayed v r q Gap a = ap (λ n. nat_lt n 11 && true) a.bad
-alike_replayed v r q Tail a = ap (λ n. nat_lt n 11 && true) a.bad
-alike_replayed v r q (Run start len block) a =
-    rw a.bad (one (nat_lt q.bad 11 && true) (is_run_in_range v start len) (q.bad == 10))
-  where
-    one : (o i t : Bool) →
-        (o && (run_by o i t q.bad r.kept len).kept == r.kept + len)
-        ≡ (o && (run_by o i t q.bad q.kept len).kept == q.kept + len)
-    one false i t = refl
-    one true true t = self_test (r.kept + len) ∙ sym (self_test (q.kept + len))
-    one true false true = zero_test r.kept len ∙ sym (zero_test q.kept len)
-    one true false false = self_test (r.kept + len) ∙ sym (self_test (q.kept + len))
-
-alike_offers : (v : Layout) (i : ℕ) (r q : Replay) (step : Step) → Alike r q → replayed_step_offers v i 0 r step
-    ≡ replayed_step_offers v i 0 q step
-alike_offers v i r q Gap a = refl
-alike_offers v i r q Tail a = refl
-alike_offers v i r q (Run start len block) a = ap (λ n. map (offer_of i) (range_with_len start n))
-    (rw a.bad (one (nat_lt q.bad 11 && true) (is_run_in_range v start len) (q.bad == 10)))
-  where
-    more : (k n : ℕ) → (k + n) - k ≡ n
-    more k n = omega arith
-
-    none : (k m : ℕ) → k - k ≡ m - m
-    none k m = omega arith
-
-    one : (o i t : Bool) →
-        (run_by o i t q.bad r.kept len).kept - r.kept
-        ≡ (run_by o i t q.bad q.kept len).kept - q.kept
-    one false i t = none r.kept q.kept
-    one true true t = more r.kept len ∙ sym (more q.kept len)
-    one true false true = none r.kept q.kept
-    one true false false = more r.kept len ∙ sym (more q.kept len)
-
-alike_runs : (v : Layout) (r q : Replay) (step : Step) → Alike r q → seen_run 0 r step ≡ seen_run 0 q step
-alike_runs v r q Gap a = refl
-alike_runs v r q Tail a = refl
-alike_runs v r q (Run start len block) a = ap (λ n. if nat_lt n 11 && true then 1 else 0) a.bad
-
-alike_same : (v : Layout) (i : ℕ) (r q : Replay) (steps : List Step) → Alike r q → SameReplay v i 0 r q steps
-alike_same v i r q [] a = record { steps_are = refl; offers_are = refl; runs_are = refl }
-alike_same v i r q (step ∷ steps) a =
-    let more = alike_same v i (replay_after_step v 0 r step) (replay_after_step v 0 q step) steps (alike_next v r q step
-    a) in
-    let runs = more.runs_are in
-    let run = alike_runs v r q step a in
+step_alike : (v : Layout) (i : ℕ) (r q : Replay) (step : Step) → r.bad ≡ q.bad → Alike v i r q step
+step_alike v i r q Gap a = record { bad = a; step_is = rw a; offers_are = refl; run_is = refl }
+step_alike v i r q Tail a = record { bad = a; step_is = rw a; offers_are = refl; run_is = refl }
+step_alike v i r q (Run start len block) a =
+    let seen = nat_lt q.bad 11 && true in
+    let fits = is_run_in_range v start len in
+    let keeps = run_keeps seen fits (q.bad == 10) q.bad r.kept q.kept len in
     record {
-      steps_are = ap (λ b. (if b then step ∷ [] else []) ++ replayed_steps v 0 (replay_after_step v 0 r step) steps)
-          (alike_replayed v r q step a)
-          ∙ ap (λ xs. (if is_replayed v 0 q step then step ∷ [] else []) ++ xs) more.steps_are;
-      offers_are = ap (λ xs. xs ++ replayed_offers v i 0 (replay_after_step v 0 r step) steps) (alike_offers v i r q
-          step a)
-          ∙ ap (λ xs. replayed_step_offers v i 0 q step ++ xs) more.offers_are;
-      runs_are = omega arith;
+      bad = rw a (run_alike seen fits (q.bad == 10) q.bad r.kept (r.kept + len) q.kept (q.kept + len));
+      step_is = rw a keeps.0;
+      offers_are = rw a (ap (λ n. map (offer_of i) (range_with_len start n)) keeps.1);
+      run_is = rw a;
     }
 
-counted_alike : (v : Layout) (r : Replay) (step : Step) → Alike (replay_after_step v 0 r step) (replay_step_by_cut v 0 r
-    step)
-counted_alike v r Gap = record { bad = refl }
-counted_alike v r Tail = record { bad = refl }
-counted_alike v r (Run start len block) = one (nat_lt r.bad 11 && true) (is_run_in_range v start len) (r.bad == 10)
-  where
-    one : (o i t : Bool) →
-        Alike (if o then (if i then record { bad = r.bad; kept = r.kept + len }
-        else (if t then record { bad = r.bad + 1; kept = r.kept }
-        else record { bad = r.bad + 1; kept = r.kept + len })) else r)
-        (if o then (if i then record { bad = r.bad; kept = r.kept }
-        else (if t then record { bad = r.bad + 1; kept = r.kept } else record { bad = r.bad + 1; kept = r.kept }))
-        else r)
-    one false i t = record { bad = refl }
-    one true true t = record { bad = refl }
-    one true false true = record { bad = refl }
-    one true false false = record { bad = refl }
+alike_same : (v : Layout) (i : ℕ) (r q : Replay) (steps : List Step) → r.bad ≡ q.bad → SameReplay v i 0 r q steps
+alike_same v i r q [] a = record { steps_are = refl; offers_are = refl; runs_are = refl }
+alike_same v i r q (step ∷ steps) a =
+    let one = step_alike v i r q step a in
+    let more = alike_same v i (replay_after_step v 0 r step) (replay_after_step v 0 q step) steps one.bad in
+    record {
+      steps_are = rw (one.step_is, more.steps_are);
+      offers_are = rw (one.offers_are, more.offers_are);
+      runs_are = rw (one.run_is, more.runs_are);
+    }
 
 -- a replay continues in the same way from the kept offers that are counted only where there is a
 -- cut
 pub counted_same : (v : Layout) (i cut : ℕ) (r : Replay) (step : Step) (steps : List Step) →
     SameReplay v i cut (replay_after_step v cut r step) (replay_step_by_cut v cut r step) steps
-counted_same v i zero r step steps = alike_same v i (replay_after_step v 0 r step) (replay_step_by_cut v 0 r step) steps
-    (counted_alike v r step)
-counted_same v i (suc cut) r step steps = from (replay_step_by_cut v (suc cut) r step) (equal step)
+counted_same v i zero r step steps =
+    alike_same v i (replay_after_step v 0 r step) (replay_step_by_cut v 0 r step) steps (same step)
   where
-    from : (q : Replay) → replay_after_step v (suc cut) r step ≡ q →
-        SameReplay v i (suc cut) (replay_after_step v (suc cut) r step) q steps
-    from q e = record {
-      steps_are = ap (λ x. replayed_steps v (suc cut) x steps) e;
-      offers_are = ap (λ x. replayed_offers v i (suc cut) x steps) e;
-      runs_are = ap (λ x. replayed_runs v (suc cut) x steps) e;
-    }
-
-    some : (suc cut == 0) ≡ false
-    some = grind (arith, nat_tests)
-
+    same : (step : Step) → (replay_after_step v 0 r step).bad ≡ (replay_step_by_cut v 0 r step).bad
+    same Gap = refl
+    same Tail = refl
+    same (Run start len block) = run_alike (nat_lt r.bad 11 && true) (is_run_in_range v start len) (r.bad == 10) r.bad
+        r.kept (r.kept + len) r.kept r.kept
+counted_same v i (suc cut) r step steps =
+    rw (equal step) (record { steps_are = refl; offers_are = refl; runs_are = refl })
+  where
     equal : (step : Step) → replay_after_step v (suc cut) r step ≡ replay_step_by_cut v (suc cut) r step
     equal Gap = refl
     equal Tail = refl
-    equal (Run start len block) = rw some refl
+    equal (Run start len block) = let some : (suc cut == 0) ≡ false = grind (arith, nat_tests) in rw some

@@ -1,7 +1,5 @@
 -- What holds where a result is `Ok`.
-use Rattle.std.specs.Prelude.{Result}
-use Rattle.std.specs.Result.{OnOk}
-use Rattle.std.proofs.lemmas.Result.{on_ok_weaker}
+use Rattle.std.proofs.{Common.Result, Common.OnOk, lemmas.Result.on_ok_weaker}
 
 -- what follows from a fact of an Ok answer
 pub on_ok : {T E : Type 0} (r : Result T E) (P Q : Type 0) → (P → Q) → OnOk r P → OnOk r Q

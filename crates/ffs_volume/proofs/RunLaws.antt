@@ -1,16 +1,11 @@
 -- A run is in range where its ends show it.
-use Rattle.std.proofs.Common.{inl, inr, ◌≡◌, ℕ, ◌+◌, ◌-◌, ◌*◌, ◌/◌, ◌<◌, ◌≤◌, Bool, true, false, arith, refl, sym, ◌∙◌}
-use Rattle.std.proofs.Math.Nat.{lt-mul-div-succ, mul-div-le}
-use Rattle.std.proofs.lemmas.Bool.{cases_lt}
-use Rattle.std.proofs.lemmas.Bool.Decides.{nat_tests}
-use Rattle.std.specs.Prelude.{nat_le, ◌&&◌, ◌||◌, ◌==◌}
-use Rattle.ffs_volume.specs.declared.Layout.{Layout}
-use Rattle.ffs_volume.specs.Disk.Numbers.{all_below}
-use Rattle.ffs_volume.specs.Disk.Areas.{cgbase, cgsblock, cgdmin, is_group_metadata, is_fragment_in_range}
-use Rattle.ffs_volume.specs.Disk.Areas.{is_run_in_range}
-use Rattle.ffs_volume.specs.Laws.Geometry.{IsAcceptedLayout}
+use Rattle.std.proofs.Common.{inl, inr, ◌≡◌, ℕ, ◌+◌, ◌-◌, ◌*◌, ◌/◌, ◌<◌, ◌≤◌, Bool, true, false, arith, nat_le, ◌&&◌}
+use Rattle.std.proofs.{Common.◌||◌, Common.◌==◌, Math.Nat.lt-mul-div-succ, Math.Nat.mul-div-le}
+use Rattle.std.proofs.lemmas.Bool.{cases_lt, Decides.nat_tests, Decides.same_from_decides}
 use Rattle.ffs_volume.proofs.AreaLaws.{is_in_metadata_of, is_metadata_of_group, group_below, group_is}
-use Rattle.ffs_volume.proofs.Below.{all_below-at, all_below-from}
+use Rattle.ffs_volume.{proofs.Below.all_below-at, proofs.Below.all_below-from, specs.Disk.Areas.cgbase}
+use Rattle.ffs_volume.specs.Disk.Areas.{cgsblock, cgdmin, is_fragment_in_range, is_run_in_range}
+use Rattle.ffs_volume.specs.{Disk.Numbers.all_below, Laws.Geometry.IsAcceptedLayout, declared.Layout.Layout}
 
 -- the run of `len` fragments from `start` ends in the volume and in its group, and is before the
 -- kept part or after it
@@ -34,11 +29,8 @@ module _ (v : Layout) (g : IsAcceptedLayout v) (start len : ℕ) where
       let below : start + len ≤ v.size = grind (arith, nat_tests) in
       let within : start + len ≤ cgbase v (start / v.fpg + 1) = grind (arith, nat_tests) in
       let low = base_low in
-      let same : (start + k) / v.fpg ≡ start / v.fpg =
-      group_is v (start / v.fpg) (start + k) (omega arith) (omega arith) in
+      let same = group_is v (start / v.fpg) (start + k) (omega arith) (omega arith) in
       let metadata = is_metadata_of_group v (start + k) g in
-      let free : is_in_metadata_of v (start / v.fpg) (start + k) ≡ false = grind (arith, nat_tests) in
-      let open_is : is_group_metadata v (start + k) ≡ false = grind (arith, nat_tests, metadata, same, free) in
       grind (arith, nat_tests)
 
   -- a fragment that fits is below size, of the run's group, and not metadata of it
@@ -48,10 +40,9 @@ module _ (v : Layout) (g : IsAcceptedLayout v) (start len : ℕ) where
   fit_facts k h =
       let below : start + k < v.size = grind (arith, nat_tests) in
       let same : (start + k) / v.fpg ≡ start / v.fpg = grind (arith, nat_tests) in
-      let free : is_group_metadata v (start + k) ≡ false = grind (arith, nat_tests) in
       let metadata = is_metadata_of_group v (start + k) g in
       let group = group_below v (start + k) g below in
-      (below, same, grind (arith, nat_tests, metadata, same, free, group))
+      (below, same, grind (arith, nat_tests))
 
   -- what fits at each index is apart
   fits_apart : 0 < len → ((k : ℕ) → k < len → fits v start k ≡ true) → is_apart v start len ≡ true
@@ -80,9 +71,8 @@ module _ (v : Layout) (g : IsAcceptedLayout v) (start len : ℕ) where
 
   pub in_range_is : 0 < len → is_run_in_range v start len ≡ is_apart v start len
   unfolding is_run_in_range
-  in_range_is some = both (all_below len (fits v start)) refl (is_apart v start len) refl
-    where
-      both : (a : Bool) → all_below len (fits v start) ≡ a → (b : Bool) → is_apart v start len ≡ b → a ≡ b
-      both true all b h = sym (fits_apart some (λ k lt. all_below-at len k (fits v start) all lt)) ∙ h
-      both false fails true h = sym fails ∙ all_below-from len (fits v start) (apart_fits h)
-      both false fails false h = refl
+  in_range_is some = same_from_decides {P = is_apart v start len ≡ true} (all_below len (fits v start))
+      (is_apart v start len) (
+        λ all. fits_apart some (λ k lt. all_below-at len k (fits v start) all lt),
+        λ h. all_below-from len (fits v start) (apart_fits h),
+      ) (λ h. h, λ h. h)

@@ -1,7 +1,6 @@
 -- Laws of `specs/Disk/Search`.
-use Rattle.std.specs.Prelude.{◌≡◌, ℕ, zero, suc, ◌<◌, Bool, true, false, Option, None, Some, refl, is_some, ◌||◌}
-use Rattle.std.proofs.Common.{arith, sym, ap, subst, inl, inr}
-use Rattle.std.proofs.lemmas.Bool.{both_ways, cases_Bool, cases_order}
+use Rattle.std.proofs.Common.{◌≡◌, ℕ, zero, suc, ◌<◌, Bool, true, false, Option, None, Some, refl, is_some, ◌||◌, arith}
+use Rattle.std.proofs.{Common.ap, Common.subst, lemmas.Bool.both_ways, lemmas.Bool.true_from_ne_false}
 use Rattle.ffs_volume.specs.Disk.Search.{earliest, first_below, some_below}
 
 -- s is the least number below n that passes
@@ -18,10 +17,7 @@ FirstMeaning p n (Some s) = IsFirst p n s
 earliest-tells : (p : ℕ → Bool) (n : ℕ) (o : Option ℕ) (b : Bool) → p n ≡ b → FirstMeaning p n o →
     FirstMeaning p (suc n) (earliest o b n)
 unfolding earliest
-earliest-tells p n (Some s) b e f = record { below = omega (arith, f.below); passes = f.passes; least = f.least }
-earliest-tells p n None true e f = record { below = omega arith; passes = e; least = f }
-earliest-tells p n None false e f = λ t h. elim (cases_order t n)
-    [ inl q ↦ subst (λ x. p x ≡ false) (sym q) e | inr q ↦ f t (elim q [ inl l ↦ l | inr l ↦ absurd (omega arith) ]) ]
+earliest-tells p n o b e f = grind arith
 
 pub first_below-tells : (p : ℕ → Bool) (n : ℕ) → FirstMeaning p n (first_below p n)
 unfolding first_below
@@ -34,48 +30,27 @@ first_below-some p n s e = subst (FirstMeaning p n) e (first_below-tells p n)
 pub first_below-none : (p : ℕ → Bool) (n : ℕ) → first_below p n ≡ None → (t : ℕ) → t < n → p t ≡ false
 first_below-none p n e = subst (FirstMeaning p n) e (first_below-tells p n)
 
--- two answers that report the same are the same
-one_first : (p : ℕ → Bool) (n : ℕ) (o : Option ℕ) (s : ℕ) → IsFirst p n s → FirstMeaning p n o → o ≡ Some s
-one_first p n (Some t) s f g =
-    elim (cases_order t s) [
-      | inl q ↦ ap Some q
-      | inr q ↦ absurd (elim q [
-        | inl l ↦ both_ways (p t) (f.least t l) g.passes
-        | inr l ↦ both_ways (p s) (g.least s l) f.passes
-      ])
-    ]
-one_first p n None s f g = absurd (both_ways (p s) (g s f.below) f.passes)
-
 pub first_below-is : (p : ℕ → Bool) (n s : ℕ) → IsFirst p n s → first_below p n ≡ Some s
-first_below-is p n s f = one_first p n (first_below p n) s f (first_below-tells p n)
-
-none_first : (p : ℕ → Bool) (n : ℕ) (o : Option ℕ) → ((t : ℕ) → t < n → p t ≡ false) → FirstMeaning p n o → o ≡ None
-none_first p n (Some t) f g = absurd (both_ways (p t) (f t g.below) g.passes)
-none_first p n None f g = refl
+first_below-is p n s f = let found = first_below-tells p n in grind arith
 
 pub first_below-is_none : (p : ℕ → Bool) (n : ℕ) → ((t : ℕ) → t < n → p t ≡ false) → first_below p n ≡ None
-first_below-is_none p n f = none_first p n (first_below p n) f (first_below-tells p n)
+first_below-is_none p n f = let found = first_below-tells p n in grind arith
 
 pub is_some-value : (o : Option ℕ) → is_some o ≡ true → (s : ℕ) × (o ≡ Some s)
-is_some-value (Some s) e = (s, refl)
-is_some-value None e = absurd (cc)
+is_some-value o e = grind arith
 
 pub some_below-gives : (p : ℕ → Bool) (n : ℕ) → some_below p n ≡ true → (s : ℕ) × IsFirst p n s
 some_below-gives p n e = let v = is_some-value (first_below p n) e in (v.0, first_below-some p n v.0 v.1)
 
 pub is_some-none : (o : Option ℕ) → is_some o ≡ false → o ≡ None
-is_some-none (Some s) e = absurd (cc)
-is_some-none None e = refl
+is_some-none o e = grind arith
 
 pub some_below-false : (p : ℕ → Bool) (n : ℕ) → some_below p n ≡ false → (t : ℕ) → t < n → p t ≡ false
 some_below-false p n e = first_below-none p n (is_some-none (first_below p n) e)
 
 pub some_below-from : (p : ℕ → Bool) (n s : ℕ) → s < n → p s ≡ true → some_below p n ≡ true
 some_below-from p n s h e =
-    elim (cases_Bool (some_below p n)) [
-      | inl y ↦ y
-      | inr y ↦ absurd (both_ways (p s) (some_below-false p n y s h) e)
-    ]
+    true_from_ne_false (some_below p n) (λ no. both_ways (p s) (some_below-false p n no s h) e)
 
 pub some_below-none : (p : ℕ → Bool) (n : ℕ) → ((t : ℕ) → t < n → p t ≡ false) → some_below p n ≡ false
 some_below-none p n f = ap is_some (first_below-is_none p n f)
@@ -83,9 +58,4 @@ some_below-none p n f = ap is_some (first_below-is_none p n f)
 -- a step of the search, as a loop takes it
 pub some_below-suc : (p : ℕ → Bool) (n : ℕ) → some_below p (suc n) ≡ (some_below p n || p n)
 unfolding first_below earliest
-some_below-suc p n = go (first_below p n) (p n)
-  where
-    go : (o : Option ℕ) (b : Bool) → is_some (earliest o b n) ≡ (is_some o || b)
-    go (Some s) b = refl
-    go None true = refl
-    go None false = refl
+some_below-suc p n = grind arith

@@ -1,7 +1,7 @@
 -- When a list of messages is empty.
-use Rattle.std.specs.Prelude.{◌≡◌, ◌≢◌, ℕ, zero, suc, ◌<◌, Bool, true, false, refl, List, [], ◌∷◌, ◌++◌, if◌then◌else◌}
-use Rattle.std.proofs.Common.{arith, sym, ◌∙◌, ap, inl, inr}
-use Rattle.std.proofs.lemmas.Bool.{cases_eq}
+use Rattle.std.proofs.Common.{◌≡◌, ◌≢◌, ℕ, zero, suc, ◌<◌}
+use Rattle.std.proofs.Common.{Bool, true, false, refl, List, [], ◌∷◌, ◌++◌, if◌then◌else◌, arith, ◌∙◌, ap, inl, inr}
+use Rattle.std.proofs.lemmas.Bool.{cases_eq, cond_both}
 use Rattle.ffs_volume.specs.Messages.Kinds.{TreeMessage, reported, lines_below}
 
 pub nil-left : (xs ys : List TreeMessage) → xs ++ ys ≡ [] → xs ≡ []
@@ -13,39 +13,34 @@ nil-right [] ys h = h
 nil-right (x ∷ xs) ys h = absurd (cc)
 
 pub nil-both : (xs ys : List TreeMessage) → xs ≡ [] → ys ≡ [] → xs ++ ys ≡ []
-nil-both [] ys g h = h
-nil-both (x ∷ xs) ys g h = absurd (cc)
+nil-both xs ys g h = rw (g, h)
 
 pub reported-quiet : (b : Bool) (m : TreeMessage) → reported b m ≡ [] → b ≡ false
-reported-quiet true m h = absurd (cc)
-reported-quiet false m h = refl
+reported-quiet b m h = grind arith
 
 pub reported-silent : (b : Bool) (m : TreeMessage) → b ≡ false → reported b m ≡ []
-reported-silent b m h = ap (λ x. reported x m) h
+reported-silent b m h = rw h
 
 -- one of two, where the first has a message
 pub if-quiet : (b : Bool) (m : TreeMessage) (ms ys : List TreeMessage) → (if b then m ∷ ms else ys) ≡ [] → (b ≡ false)
     × (ys ≡ [])
-if-quiet true m ms ys h = absurd (cc)
-if-quiet false m ms ys h = (refl, h)
+if-quiet b m ms ys h = grind arith
 
 pub if-silent : (b : Bool) (xs ys : List TreeMessage) → b ≡ false → ys ≡ [] → (if b then xs else ys) ≡ []
-if-silent b xs ys g h = ap (λ x. if x then xs else ys) g ∙ h
+if-silent b xs ys g h = rw g h
 
 -- one of two, where the other is silent
 pub else-quiet : (b : Bool) (ys : List TreeMessage) → (if b then [] else ys) ≡ [] → b ≡ false → ys ≡ []
-else-quiet b ys h e = sym (ap (λ x. if x then [] else ys) e) ∙ h
+else-quiet b ys h e = rw e at h
 
 pub else-silent : (b : Bool) (ys : List TreeMessage) → (b ≡ false → ys ≡ []) → (if b then [] else ys) ≡ []
-else-silent true ys h = refl
-else-silent false ys h = h refl
+else-silent b ys h = cond_both b [] ys (λ zs. zs ≡ []) (λ _. refl) h
 
 pub then-quiet : (b : Bool) (xs : List TreeMessage) → (if b then xs else []) ≡ [] → b ≡ true → xs ≡ []
-then-quiet b xs h e = sym (ap (λ x. if x then xs else []) e) ∙ h
+then-quiet b xs h e = rw e at h
 
 pub then-silent : (b : Bool) (xs : List TreeMessage) → (b ≡ true → xs ≡ []) → (if b then xs else []) ≡ []
-then-silent true xs h = h refl
-then-silent false xs h = refl
+then-silent b xs h = cond_both b xs [] (λ zs. zs ≡ []) h (λ _. refl)
 
 pub lines-quiet : (f : ℕ → List TreeMessage) (n : ℕ) → lines_below f n ≡ [] → (i : ℕ) → i < n → f i ≡ []
 unfolding lines_below
@@ -59,5 +54,4 @@ lines-quiet f (suc n) h i l =
 pub lines-silent : (f : ℕ → List TreeMessage) (n : ℕ) → ((i : ℕ) → i < n → f i ≡ []) → lines_below f n ≡ []
 unfolding lines_below
 lines-silent f zero h = refl
-lines-silent f (suc n) h = nil-both (lines_below f n) (f n) (lines-silent f n (λ i l. h i (omega arith)))
-    (h n (omega arith))
+lines-silent f (suc n) h = rw (lines-silent f n (λ i l. h i (omega arith)), h n (omega arith))

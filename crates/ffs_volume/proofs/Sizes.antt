@@ -1,40 +1,28 @@
 -- What follows from sizes: there is an inode 2, and where an inode's size is 0 there are no steps.
-use Rattle.std.specs.Prelude.{◌≡◌, ℕ, ◌+◌, ◌*◌, ◌%◌, ◌<◌, ◌≤◌, min, Bool, true, false, refl, if◌then◌else◌, List, []}
+use Rattle.std.proofs.Common.{◌≡◌, ℕ, ◌*◌, ◌<◌, ◌≤◌, refl, List, [], arith, inl, inr, mod-eq_of_lt, mul-le-mul_right}
+use Rattle.std.proofs.{Math.Nat.zero-div, Math.Nat.zero-mod, lemmas.Bool.cases_lt, lemmas.Bool.cond_both}
 use Rattle.std.specs.Int.{div_ceil}
-use Rattle.std.proofs.Common.{arith, sym, ◌∙◌, ap, inl, inr}
-use Rattle.std.proofs.Math.Nat.{mod-eq_of_lt, zero-div, zero-mod, mul-le-mul_right}
-use Rattle.std.proofs.lemmas.Bool.{cases_lt}
-use Rattle.ffs_volume.specs.declared.Layout.{Layout}
-use Rattle.ffs_volume.specs.declared.Inode.{Inode}
-use Rattle.ffs_volume.specs.Laws.Geometry.{IsAcceptedLayout}
-use Rattle.ffs_volume.specs.Blocks.Inodes.{logical_blocks_of, addresses_needed}
-use Rattle.ffs_volume.specs.Blocks.Steps.{steps_of, steps_of_addresses, is_walked, last_length_of}
+use Rattle.ffs_volume.specs.Blocks.{Inodes.logical_blocks_of, Steps.steps_of, Steps.is_walked}
+use Rattle.ffs_volume.specs.{Laws.Geometry.IsAcceptedLayout, declared.Inode.Inode, declared.Layout.Layout}
 
 -- there is an inode 2
 pub some_inodes : (v : Layout) → IsAcceptedLayout v → 2 < v.ncg * v.ipg
 some_inodes v g =
-    let low = g.sizes.bsize_low in
-    let per = g.sizes.inopb in
-    let some = g.sizes.some_inodes in
-    let groups = g.some_groups in
+    let sizes = g.sizes in
     let many : 32 ≤ v.inopb = omega arith in
+    let more : 1 * v.ipg ≤ v.ncg * v.ipg = mul-le-mul_right v.ipg g.some_groups in
     elim (cases_lt v.ipg v.inopb) [
-      | inl small ↦ (let none : v.ipg ≡ 0 = sym (mod-eq_of_lt small) ∙ g.sizes.inode_blocks in absurd (omega arith))
-      | inr large ↦ (let more : 1 * v.ipg ≤ v.ncg * v.ipg = mul-le-mul_right v.ipg groups in omega arith)
+      | inl small ↦ (let none = mod-eq_of_lt small in absurd (omega arith))
+      | inr large ↦ omega arith
     ]
 
 -- no steps where the size is 0
 pub no_blocks : (n b : ℕ) → 0 < b → n ≡ 0 → div_ceil n b ≡ 0
-no_blocks n b h e = ap (λ k. div_ceil k b) e ∙ ap (λ q. q + min 1 (0 % b)) (zero-div b)
-    ∙ ap (λ r. 0 + min 1 r) (zero-mod b)
+no_blocks n b h e = rw (e, zero-div, zero-mod)
 
 pub no_steps : (v : Layout) (image : List ℕ) (i : Inode) → 0 < v.bsize → i.size ≡ 0 → steps_of v i image ≡ []
 unfolding steps_of
 no_steps v image i h e =
-    ap (λ b. steps_of_addresses (record { layout = v; blocks = b; last_length = last_length_of v i }) image
-    i.addresses 0
-    (addresses_needed v.nindir b)) (one (is_walked v i))
-  where
-    one : (w : Bool) → (if w then logical_blocks_of v i else 0) ≡ 0
-    one true = no_blocks i.size v.bsize h e
-    one false = refl
+    let none = cond_both (is_walked v i) (logical_blocks_of v i) 0 (λ n. n ≡ 0)
+    (λ _. no_blocks i.size v.bsize h e) (λ _. refl) in
+    rw none

@@ -1,27 +1,18 @@
 -- The Runs of data of an inode come in the order of its logical blocks, and each Run has a fragment
 -- at least, and a block's fragments at most.
-use Rattle.std.proofs.Common.{zero, suc, inl, inr, ◌≡◌, ℕ, ◌+◌, ◌-◌, ◌*◌, ◌%◌, ◌<◌, ◌≤◌, Bool, true, false, arith, refl}
-use Rattle.std.proofs.Common.{◌∙◌, List, [], ◌∷◌, ◌++◌, Some, None}
-use Rattle.std.specs.Prelude.{nat_lt, nat_eq, ◌&&◌, if◌then◌else◌, slice_index}
-use Rattle.std.specs.List.{All}
-use Rattle.std.specs.Int.{div_ceil}
-use Rattle.std.proofs.lemmas.Grind.{div_ceil_times}
-use Rattle.std.proofs.lemmas.Bool.{cases_lt, eqb-false}
-use Rattle.std.proofs.Math.Nat.{mul-le-mul_right, mod-lt}
-use Rattle.std.proofs.lemmas.Bool.Decides.{nat_tests}
-use Rattle.std.proofs.lemmas.List.Elements.{All-nil, All-cons}
-use Rattle.ffs_volume.specs.declared.Layout.{Layout}
-use Rattle.ffs_volume.specs.declared.Step.{Step}
+use Rattle.std.proofs.Common.{zero, suc, inl, inr, ◌≡◌, ℕ, ◌+◌, ◌-◌, ◌*◌, ◌%◌, ◌<◌, ◌≤◌}
+use Rattle.std.proofs.Common.{◌==◌, Bool, true, false, arith, refl, List, [], ◌∷◌, ◌++◌, Some, None, nat_lt, nat_eq}
+use Rattle.std.proofs.Common.{◌&&◌, if◌then◌else◌, slice_index, flat_map, mul-le-mul_right, mod-lt, append-nil, All, ◌≢◌}
+use Rattle.std.proofs.lemmas.Bool.{cases_lt, cond_both, eqb-false, Decides.nat_tests}
+use Rattle.std.proofs.lemmas.{Grind.div_ceil_times, List.Elements.All-nil, List.Elements.All-cons}
+use Rattle.std.{proofs.Common.lt_of_mul-lt-mul_right, specs.Int.div_ceil, specs.List.range_with_len}
+use Rattle.ffs_volume.specs.Blocks.{Inodes.logical_blocks_of, Inodes.addresses_needed, Steps.FileBlocks}
+use Rattle.ffs_volume.specs.Blocks.Steps.{block_bytes, address_at, indirect_addresses_needed, tail_of, any_nonzero_from}
+use Rattle.ffs_volume.specs.Blocks.Steps.{steps_under, data_length, span_of, data_step, indirect_steps}
+use Rattle.ffs_volume.specs.Blocks.Steps.{steps_at, indirection_of, first_block, last_length_of, is_walked, steps_of}
+use Rattle.ffs_volume.specs.{Disk.Areas.is_run_in_range, Laws.Geometry.IsAcceptedLayout, Laws.RunLengths.HasLength}
+use Rattle.ffs_volume.specs.declared.{Inode.Inode, Layout.Layout, Step.Step}
 use Rattle.ffs_volume.specs.declared.Step.TheVariants.{Run, Tail, Gap}
-use Rattle.ffs_volume.specs.declared.Inode.{Inode}
-use Rattle.ffs_volume.specs.Disk.Areas.{is_run_in_range}
-use Rattle.ffs_volume.specs.Laws.Geometry.{IsAcceptedLayout}
-use Rattle.ffs_volume.specs.Blocks.Inodes.{logical_blocks_of, addresses_needed}
-use Rattle.ffs_volume.specs.Laws.RunLengths.{HasLength}
-use Rattle.ffs_volume.specs.Blocks.Steps.{FileBlocks, block_bytes, address_at, indirect_addresses_needed, tail_of}
-use Rattle.ffs_volume.specs.Blocks.Steps.{any_nonzero_from, steps_under, data_length, span_of, data_step}
-use Rattle.ffs_volume.specs.Blocks.Steps.{indirect_steps, steps_at, indirection_of, first_block, steps_of_addresses}
-use Rattle.ffs_volume.specs.Blocks.Steps.{last_length_of, is_walked, steps_of}
 
 -- the blocks of the data are from `low` on, ascending, and below `high`; each Run has a fragment at
 -- least, and `frag` at most
@@ -38,16 +29,7 @@ pub within_lower : (frag low mid high : ℕ) (xs : List Step) → low ≤ mid �
 within_lower frag low mid high [] l w = omega arith
 within_lower frag low mid high (Run start len (Some block) ∷ xs) l w = let a = w.0 in (omega arith, w.1, w.2)
 within_lower frag low mid high (Run start len None ∷ xs) l w = (w.0, within_lower frag low mid high xs l w.1)
-within_lower frag low mid high (Tail ∷ xs) l w = within_lower frag low mid high xs l w
-within_lower frag low mid high (Gap ∷ xs) l w = within_lower frag low mid high xs l w
-
-within_higher : (frag low high top : ℕ) (xs : List Step) → high ≤ top → Within frag low high xs → Within frag low top xs
-within_higher frag low high top [] l w = omega arith
-within_higher frag low high top (Run start len (Some block) ∷ xs) l w =
-    (w.0, w.1, within_higher frag (block + 1) high top xs l w.2)
-within_higher frag low high top (Run start len None ∷ xs) l w = (w.0, within_higher frag low high top xs l w.1)
-within_higher frag low high top (Tail ∷ xs) l w = within_higher frag low high top xs l w
-within_higher frag low high top (Gap ∷ xs) l w = within_higher frag low high top xs l w
+within_lower frag low mid high (step ∷ xs) l w = within_lower frag low mid high xs l w
 
 within_append : (frag low mid high : ℕ) (xs ys : List Step) → Within frag low mid xs → Within frag mid high ys →
     Within frag low high (xs ++ ys)
@@ -55,8 +37,18 @@ within_append frag low mid high [] ys w v = within_lower frag low mid high ys w 
 within_append frag low mid high (Run start len (Some block) ∷ xs) ys w v =
     (w.0, w.1, within_append frag (block + 1) mid high xs ys w.2 v)
 within_append frag low mid high (Run start len None ∷ xs) ys w v = (w.0, within_append frag low mid high xs ys w.1 v)
-within_append frag low mid high (Tail ∷ xs) ys w v = within_append frag low mid high xs ys w v
-within_append frag low mid high (Gap ∷ xs) ys w v = within_append frag low mid high xs ys w v
+within_append frag low mid high (step ∷ xs) ys w v = within_append frag low mid high xs ys w v
+
+-- steps under numbers one after the other, where those under j begin at `place j`
+within_flat : (frag : ℕ) (steps : ℕ → List Step) (place : ℕ → ℕ) (next count : ℕ) →
+    ((j : ℕ) → j < next + count → Within frag (place j) (place (j + 1)) (steps j)) →
+    Within frag (place next) (place (next + count)) (flat_map steps (range_with_len next count))
+within_flat frag steps place next zero h = let e : next + 0 ≡ next = omega arith in rw e (omega arith)
+within_flat frag steps place next (suc count) h =
+    let e : next + suc count ≡ (next + 1) + count = omega arith in
+    rw e (within_append frag (place next) (place (next + 1)) (place ((next + 1) + count)) (steps next)
+    (flat_map steps (range_with_len (next + 1) count)) (h next (omega arith))
+    (within_flat frag steps place (next + 1) count (λ j l. h j (omega arith))))
 
 within_long : (frag low high : ℕ) (xs : List Step) → Within frag low high xs → All (HasLength frag) xs
 within_long frag low high [] w = All-nil (HasLength frag)
@@ -64,8 +56,7 @@ within_long frag low high (Run start len (Some block) ∷ xs) w =
     All-cons (HasLength frag) (Run start len (Some block)) xs w.1 (within_long frag (block + 1) high xs w.2)
 within_long frag low high (Run start len None ∷ xs) w =
     All-cons (HasLength frag) (Run start len None) xs w.0 (within_long frag low high xs w.1)
-within_long frag low high (Tail ∷ xs) w = All-cons (HasLength frag) Tail xs tt (within_long frag low high xs w)
-within_long frag low high (Gap ∷ xs) w = All-cons (HasLength frag) Gap xs tt (within_long frag low high xs w)
+within_long frag low high (step ∷ xs) w = All-cons (HasLength frag) step xs tt (within_long frag low high xs w)
 
 pub one_more : (a b : ℕ) → (a + 1) * b ≡ a * b + b
 one_more a b = grind arith
@@ -74,43 +65,21 @@ one_more a b = grind arith
 abbrev IsFit : FileBlocks → Type 0
 IsFit t = (0 < t.last_length) × (t.last_length ≤ t.layout.frag)
 
-data_long : (t : FileBlocks) (address block : ℕ) → IsFit t →
-    HasLength t.layout.frag (Run address (data_length t block) (Some block))
-data_long t address block l = one (nat_lt block 12 && nat_eq (block + 1) t.blocks)
-  where
-    one : (b : Bool) → (0 < (if b then t.last_length else t.layout.frag))
-        × ((if b then t.last_length else t.layout.frag) ≤ t.layout.frag)
-    one true = l
-    one false = (omega (arith, l.0, l.1), omega arith)
-
 data_within : (t : FileBlocks) (address block : ℕ) → IsFit t →
     Within t.layout.frag block (block + 1) (data_step t address block ∷ [])
-data_within t address block l = one (nat_eq address 0)
+data_within t address block l =
+    cond_both (nat_eq address 0) Gap (Run address (data_length t block) (Some block))
+    (λ step. Within t.layout.frag block (block + 1) (step ∷ []))
+    (λ _. omega arith)
+    (λ _. (omega arith, long, omega arith))
   where
-    one : (b : Bool) → Within t.layout.frag block (block + 1)
-        ((if b then Gap else Run address (data_length t block) (Some block)) ∷ [])
-    one true = omega arith
-    one false = (omega arith, data_long t address block l, omega arith)
+    long : HasLength t.layout.frag (Run address (data_length t block) (Some block))
+    long = cond_both (nat_lt block 12 && nat_eq (block + 1) t.blocks) t.last_length t.layout.frag
+        (λ n. (0 < n) × (n ≤ t.layout.frag)) (λ _. l) (λ _. omega arith)
 
 tail_within : (frag first : ℕ) (b : Bool) → Within frag first first (tail_of b)
 tail_within frag first true = omega arith
 tail_within frag first false = omega arith
-
--- the steps under the words of an indirect block
-under_within : (t : FileBlocks) (bytes : List ℕ) (child : ℕ → ℕ → List Step) (span address first next count : ℕ)
-    → ((a f : ℕ) → Within t.layout.frag f (f + span) (child a f))
-    → Within t.layout.frag (first + next * span) (first + (next + count) * span)
-    (steps_under t.layout bytes child span address first next count)
-under_within t bytes child span address first next zero h = let e : next + 0 ≡ next = omega arith in rw e (omega arith)
-under_within t bytes child span address first next (suc count) h =
-    let e : next + suc count ≡ (next + 1) + count = omega arith in
-    let m : first + (next + 1) * span ≡ first + next * span + span = omega (arith, one_more next span) in
-    let rest = under_within t bytes child span address first (next + 1) count h in
-    rw e (within_append t.layout.frag (first + next * span) (first + next * span + span)
-    (first + ((next + 1) + count) * span)
-    (child (address_at t.layout bytes address next) (first + next * span))
-    (steps_under t.layout bytes child span address first (next + 1) count)
-    (h (address_at t.layout bytes address next) (first + next * span)) (rw m at rest))
 
 indirect_within : (t : FileBlocks) (bytes : List ℕ) (child : ℕ → ℕ → List Step) (span address first : ℕ) → IsFit t
     → ((a f : ℕ) → Within t.layout.frag f (f + span) (child a f))
@@ -121,26 +90,34 @@ indirect_within t bytes child span address first l h =
     used : ℕ
     used = indirect_addresses_needed t.layout.nindir t.blocks first span
 
-    inner : Within t.layout.frag first (first + t.layout.nindir * span)
-        (tail_of (any_nonzero_from t.layout (block_bytes t.layout bytes address) used)
-        ++ steps_under t.layout bytes child span address first 0 used)
+    under : List Step
+    under = steps_under t.layout bytes child span address first 0 used
+
+    tail : List Step
+    tail = tail_of (any_nonzero_from t.layout (block_bytes t.layout bytes address) used)
+
+    each : (j : ℕ) → Within t.layout.frag (first + j * span) (first + (j + 1) * span)
+        (child (address_at t.layout bytes address j) (first + j * span))
+    each j =
+        let m : first + (j + 1) * span ≡ first + j * span + span = omega arith in
+        rw m (h (address_at t.layout bytes address j) (first + j * span))
+
+    inner : Within t.layout.frag first (first + t.layout.nindir * span) (tail ++ under)
     inner =
         let few : used ≤ t.layout.nindir = omega arith in
         let most : used * span ≤ t.layout.nindir * span = mul-le-mul_right span few in
-        let u = under_within t bytes child span address first 0 used h in
         let z : first + 0 * span ≡ first = omega arith in
-        let y : (0 + used) ≡ used = omega arith in
-        within_append t.layout.frag first first (first + t.layout.nindir * span)
-        (tail_of (any_nonzero_from t.layout (block_bytes t.layout bytes address) used))
-        (steps_under t.layout bytes child span address first 0 used)
+        let y : 0 + used ≡ used = omega arith in
+        let u = within_flat t.layout.frag (λ j. child (address_at t.layout bytes address j) (first + j * span))
+        (λ j. first + j * span) 0 used (λ j low. each j) in
+        let whole = within_append t.layout.frag first (first + used * span) (first + t.layout.nindir * span) under []
+        (rw (z, y) at u) (omega arith) in
+        within_append t.layout.frag first first (first + t.layout.nindir * span) tail under
         (tail_within t.layout.frag first (any_nonzero_from t.layout (block_bytes t.layout bytes address) used))
-        (within_higher t.layout.frag first (first + used * span) (first + t.layout.nindir * span)
-        (steps_under t.layout bytes child span address first 0 used) (omega arith) (rw (z, y) at u))
+        (rw append-nil at whole)
 
     one : (a b : Bool) → Within t.layout.frag first (first + t.layout.nindir * span)
-        (if a then Gap ∷ [] else Run address t.layout.frag None ∷
-        (if b then tail_of (any_nonzero_from t.layout (block_bytes t.layout bytes address) used)
-        ++ steps_under t.layout bytes child span address first 0 used else []))
+        (if a then Gap ∷ [] else Run address t.layout.frag None ∷ (if b then tail ++ under else []))
     one true b = omega arith
     one false true = ((omega (arith, l.0, l.1), omega arith), inner)
     one false false = ((omega (arith, l.0, l.1), omega arith), omega arith)
@@ -158,88 +135,50 @@ at_within t bytes (suc level) address first l =
     (indirect_within t bytes (steps_at t bytes level) (span_of t.layout.nindir level) address first l
     (λ a f. at_within t bytes level a f l))
 
--- where the blocks under an address end
-top_of : ℕ → ℕ → ℕ
-top_of words i =
-    if nat_lt i 14 then first_block words (i + 1) else first_block words i + span_of words (indirection_of i)
-
-address_top : (words i : ℕ) → i < 15 → first_block words i + span_of words (indirection_of i) ≡ top_of words i
-unfolding top_of
-address_top words i h = elim (cases_lt i 12) [
-  | inl low ↦
-      let z : i - 11 ≡ 0 = omega arith in
-      let a : nat_lt i 14 ≡ true = grind (arith, nat_tests) in
-      let b : nat_lt i 13 ≡ true = grind (arith, nat_tests) in
-      let c : nat_lt (i + 1) 13 ≡ true = grind (arith, nat_tests) in
-      rw (z, a, b, c) refl
-  | inr high ↦ elim (cases_lt i 13) [
-    | inl twelve ↦ let e : i ≡ 12 = omega arith in rw e refl
-    | inr more ↦ elim (cases_lt i 14) [
-      | inl thirteen ↦ let e : i ≡ 13 = omega arith in rw e refl
-      | inr most ↦ let e : i ≡ 14 = omega arith in rw e refl
-    ]
-  ]
-]
-
-top_here : (words i : ℕ) → i < 14 → top_of words i ≡ first_block words (i + 1)
-unfolding top_of
-top_here words i h = let a : nat_lt i 14 ≡ true = grind (arith, nat_tests) in rw a refl
-
 -- where the blocks under an address end, those under the next begin
 pub next_first : (words i : ℕ) → i < 14 → first_block words i + span_of words (indirection_of i)
     ≡ first_block words (i + 1)
-next_first words i h = address_top words i (omega arith) ∙ top_here words i h
+next_first words i h = elim (cases_lt i 12) [
+  | inl low ↦
+      let z : i - 11 ≡ 0 = omega arith in
+      let a : nat_lt i 13 ≡ true = grind (arith, nat_tests) in
+      let b : nat_lt (i + 1) 13 ≡ true = grind (arith, nat_tests) in
+      rw (z, a, b)
+  | inr high ↦ elim (cases_lt i 13) [
+    | inl twelve ↦ let e : i ≡ 12 = omega arith in rw e
+    | inr thirteen ↦ let e : i ≡ 13 = omega arith in rw e
+  ]
+]
 
--- the steps under some of the fifteen addresses
-addresses_within : (t : FileBlocks) (bytes addresses : List ℕ) (next count : ℕ) → IsFit t → next + suc count ≤ 15
-    → Within t.layout.frag (first_block t.layout.nindir next) (top_of t.layout.nindir (next + count))
-    (steps_of_addresses t bytes addresses next (suc count))
-addresses_within t bytes addresses next zero l h =
-    let w = at_within t bytes (indirection_of next) (slice_index addresses next) (first_block t.layout.nindir next)
-    l in
-    let e = address_top t.layout.nindir next (omega arith) in
-    let n : next + 0 ≡ next = omega arith in
-    rw n (within_append t.layout.frag (first_block t.layout.nindir next) (top_of t.layout.nindir next)
-    (top_of t.layout.nindir next)
-    (steps_at t bytes (indirection_of next) (slice_index addresses next) (first_block t.layout.nindir next)) []
-    (rw e at w) (omega arith))
-addresses_within t bytes addresses next (suc count) l h =
-    let w = at_within t bytes (indirection_of next) (slice_index addresses next) (first_block t.layout.nindir next)
-    l in
-    let n : next + suc count ≡ (next + 1) + count = omega arith in
-    let rest = addresses_within t bytes addresses (next + 1) count l (omega arith) in
-    rw n (within_append t.layout.frag (first_block t.layout.nindir next) (first_block t.layout.nindir (next + 1))
-    (top_of t.layout.nindir ((next + 1) + count))
-    (steps_at t bytes (indirection_of next) (slice_index addresses next) (first_block t.layout.nindir next))
-    (steps_of_addresses t bytes addresses (next + 1) (suc count))
-    (rw (next_first t.layout.nindir next (omega arith)) at w) rest)
+-- where the blocks under each of the fifteen addresses begin, and after them where the last ones end
+abbrev first_or_end : ℕ → ℕ → ℕ
+first_or_end words i =
+    if i == 15 then first_block words 14 + span_of words (indirection_of 14) else first_block words i
+
+next_or_end : (words i : ℕ) → i < 15 → first_block words i + span_of words (indirection_of i) ≡ first_or_end words (i + 1)
+next_or_end words i h = elim (cases_lt i 14) [
+  | inl low ↦ let a : (i + 1 == 15) ≡ false = grind (arith, nat_tests) in rw a (next_first words i low)
+  | inr high ↦ let e : i ≡ 14 = omega arith in rw e
+]
+
+-- how many units cover n, which is some and less than `frag` of them
+ceil_fits : (n k frag unit : ℕ) → 0 < n → n ≤ k * unit → k * unit < n + unit → n < frag * unit → (0 < k) × (k ≤ frag)
+ceil_fits n k frag unit some low high less =
+    let a : 0 < k = lt_of_mul-lt-mul_right unit {m = 0} {n = k} (omega arith) in
+    let b : k < frag + 1 = lt_of_mul-lt-mul_right unit {m = k} {n = frag + 1} (omega arith) in
+    omega arith
 
 last_fits : (v : Layout) (i : Inode) → IsAcceptedLayout v → (0 < last_length_of v i) × (last_length_of v i ≤ v.frag)
-last_fits v i g = one (nat_eq (i.size % v.bsize) 0) refl
-  where
-    some : (k n : ℕ) → n ≤ k * v.fsize → (n ≡ 0 → ⊥) → 0 < k
-    some zero n le ne = absurd (ne (omega arith))
-    some (suc k) n le ne = omega arith
-
-    within : (n : ℕ) → 0 < v.fsize → n < v.frag * v.fsize → div_ceil n v.fsize ≤ v.frag
-    within n low less = elim (cases_lt v.frag (div_ceil n v.fsize)) [
-      | inl more ↦
-          let up : (v.frag + 1) * v.fsize ≤ div_ceil n v.fsize * v.fsize = mul-le-mul_right v.fsize (omega arith) in
-          absurd (omega (arith, one_more v.frag v.fsize, (div_ceil_times n v.fsize low).1))
-      | inr few ↦ few
-    ]
-
-    one : (b : Bool) → nat_eq (i.size % v.bsize) 0 ≡ b →
-        (0 < (if b then v.frag else div_ceil (i.size % v.bsize) v.fsize))
-        × ((if b then v.frag else div_ceil (i.size % v.bsize) v.fsize) ≤ v.frag)
-    one true e = (omega (arith, g.sizes.frag_low), omega arith)
-    one false e =
-        let low : 0 < v.fsize = omega (arith, g.sizes.fsize_low) in
-        let over : i.size % v.bsize < v.bsize = mod-lt i.size (omega (arith, g.sizes.bsize_low)) in (
-          some (div_ceil (i.size % v.bsize) v.fsize) (i.size % v.bsize)
-              (div_ceil_times (i.size % v.bsize) v.fsize low).0 (eqb-false (i.size % v.bsize) 0 e),
-          within (i.size % v.bsize) low (omega (arith, g.sizes.block)),
-        )
+last_fits v i g =
+    let n = i.size % v.bsize in
+    cond_both (nat_eq n 0) v.frag (div_ceil n v.fsize) (λ k. (0 < k) × (k ≤ v.frag))
+    (λ _. omega (arith, g.sizes.frag_low))
+    (λ e.
+    let low : 0 < v.fsize = omega (arith, g.sizes.fsize_low) in
+    let ceil = div_ceil_times n v.fsize low in
+    let over : n < v.bsize = mod-lt i.size (omega (arith, g.sizes.bsize_low)) in
+    let some : n ≢ 0 = eqb-false n 0 e in
+    ceil_fits n (div_ceil n v.fsize) v.frag v.fsize (omega arith) ceil.0 ceil.1 (omega (arith, g.sizes.block)))
 
 pub used_most : (words blocks : ℕ) → addresses_needed words blocks ≤ 15
 used_most words blocks = grind (arith, nat_tests)
@@ -248,8 +187,11 @@ used_most words blocks = grind (arith, nat_tests)
 pub steps_within : (v : Layout) (i : Inode) (bytes : List ℕ) → IsAcceptedLayout v → (high : ℕ)
     × Within v.frag 0 high (steps_of v i bytes)
 unfolding steps_of
-steps_within v i bytes g = one (addresses_needed v.nindir (if is_walked v i then logical_blocks_of v i else 0))
-    (used_most v.nindir (if is_walked v i then logical_blocks_of v i else 0))
+steps_within v i bytes g = (
+  first_or_end v.nindir (0 + addresses_needed v.nindir t.blocks),
+  within_flat v.frag (λ j. steps_at t bytes (indirection_of j) (slice_index i.addresses j) (first_block v.nindir j))
+      (first_or_end v.nindir) 0 (addresses_needed v.nindir t.blocks) each,
+)
   where
     t : FileBlocks
     t = record {
@@ -258,9 +200,14 @@ steps_within v i bytes g = one (addresses_needed v.nindir (if is_walked v i then
       last_length = last_length_of v i;
     }
 
-    one : (n : ℕ) → n ≤ 15 → (high : ℕ) × Within v.frag 0 high (steps_of_addresses t bytes i.addresses 0 n)
-    one zero h = (0, omega arith)
-    one (suc n) h = (top_of v.nindir (0 + n), addresses_within t bytes i.addresses 0 n (last_fits v i g) (omega arith))
+    each : (j : ℕ) → j < 0 + addresses_needed v.nindir t.blocks → Within v.frag (first_or_end v.nindir j)
+        (first_or_end v.nindir (j + 1))
+        (steps_at t bytes (indirection_of j) (slice_index i.addresses j) (first_block v.nindir j))
+    each j low =
+        let few : j < 15 = omega (arith, used_most v.nindir t.blocks) in
+        let a : (j == 15) ≡ false = grind (arith, nat_tests) in
+        rw (a, ← next_or_end v.nindir j few)
+        (at_within t bytes (indirection_of j) (slice_index i.addresses j) (first_block v.nindir j) (last_fits v i g))
 
 -- each of them has a length
 pub steps_long : (v : Layout) (i : Inode) (bytes : List ℕ) → IsAcceptedLayout v

@@ -1,16 +1,11 @@
 -- What is not reached, and what is lost.
-use Rattle.std.specs.Prelude.{◌≡◌, ◌≢◌, ℕ, ◌==◌, Bool, true, false, not, ◌&&◌, None, Some}
-use Rattle.std.proofs.Common.{◌∙◌, ap}
-use Rattle.std.proofs.lemmas.Bool.{and_parts, and_from, ne_eqb, not_from_false, not-true, eqb-false, cond-false}
-use Rattle.ffs_volume.specs.Disk.Search.{first_below}
-use Rattle.ffs_volume.specs.Directories.Graph.{Graph, level, edge, reached, parent, parent_by, is_lost, is_dead_in}
-use Rattle.ffs_volume.specs.Directories.Graph.{is_naming_dir}
-use Rattle.ffs_volume.proofs.SearchLaws.{is_some-none}
+use Rattle.std.proofs.Common.{◌≡◌, ◌≢◌, ℕ, Bool, true, false, None, ne_eqb, arith}
+use Rattle.std.proofs.lemmas.Bool.Decides.{nat_tests}
+use Rattle.ffs_volume.{proofs.SearchLaws.is_some-none, specs.Disk.Search.first_below}
+use Rattle.ffs_volume.specs.Directories.Graph.{Graph, level, edge, reached, parent, is_lost, is_dead_in}
 
 pub edge-parts : (v : Graph) (s d : ℕ) → edge v s d ≡ true → (v.is_dir d ≡ true) × (v.is_dir s ≡ true)
-edge-parts v s d h =
-    let p = and_parts (v.is_dir d) (is_naming_dir v s d) h in
-    (p.0, (and_parts (v.is_dir s) _ p.1).0)
+edge-parts v s d h = grind arith
 
 -- what makes a directory lost
 pub record IsLost (v : Graph) (suspect : ℕ → Bool) (d : ℕ) : Type 0 where
@@ -20,19 +15,10 @@ pub record IsLost (v : Graph) (suspect : ℕ → Bool) (d : ℕ) : Type 0 where
   pub alive : is_dead_in v suspect d ≡ false
 
 pub lost-true : (v : Graph) (suspect : ℕ → Bool) (d : ℕ) → is_lost v suspect d ≡ true → IsLost v suspect d
-lost-true v suspect d h =
-    let a = and_parts (v.is_dir d) (not (d == 2) && (not (reached v d) && not (is_dead_in v suspect d))) h in
-    let b = and_parts (not (d == 2)) (not (reached v d) && not (is_dead_in v suspect d)) a.1 in
-    let c = and_parts (not (reached v d)) (not (is_dead_in v suspect d)) b.1 in
-    record { dir = a.0; not_root = eqb-false d 2 (not-true _ b.0); unreached = not-true _ c.0; alive = not-true _ c.1 }
+lost-true v suspect d h = grind (arith, nat_tests)
 
 pub lost-from : (v : Graph) (suspect : ℕ → Bool) (d : ℕ) → IsLost v suspect d → is_lost v suspect d ≡ true
-lost-from v suspect d h =
-    and_from (v.is_dir d) (not (d == 2) && (not (reached v d) && not (is_dead_in v suspect d))) h.dir
-    (and_from (not (d == 2)) (not (reached v d) && not (is_dead_in v suspect d))
-    (not_from_false _ (ne_eqb d 2 h.not_root))
-    (and_from (not (reached v d)) (not (is_dead_in v suspect d)) (not_from_false _ h.unreached)
-    (not_from_false _ h.alive)))
+lost-from v suspect d h = rw (h.alive, h.dir, ne_eqb d 2 h.not_root, h.unreached)
 
 pub unreached-level : (v : Graph) (d : ℕ) → reached v d ≡ false → level v d ≡ None
 unreached-level v d h = is_some-none (level v d) h
@@ -41,5 +27,4 @@ unreached-level v d h = is_some-none (level v d) h
 pub parent-unreached : (v : Graph) (d : ℕ) → d ≢ 2 → reached v d ≡ false →
     parent v d ≡ first_below (λ s. edge v s d) v.count
 unfolding parent
-parent-unreached v d n h =
-    cond-false (d == 2) (Some 2) (parent_by v d (level v d)) (ne_eqb d 2 n) ∙ ap (parent_by v d) (unreached-level v d h)
+parent-unreached v d n h = rw (ne_eqb d 2 n, unreached-level v d h)
