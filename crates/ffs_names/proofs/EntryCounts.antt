@@ -1,5 +1,5 @@
 -- Laws of the reads that are still to come of a reading of entries.
-use Rattle.std.proofs.Common.{◌≡◌, ◌≤◌, ◌+◌, ◌||◌, ◌&&◌, nat_lt, if◌then◌else◌, ℕ, Bool, true, false, List, Result, Ok}
+use Rattle.std.proofs.Common.{◌≡◌, ◌≤◌, ◌+◌, ◌||◌, nat_lt, if◌then◌else◌, ℕ, Bool, true, false, List, Result, Ok}
 use Rattle.std.proofs.Common.{Err}
 use Rattle.std.proofs.Common.{OnOk, arith, refl}
 use Rattle.std.proofs.lemmas.Bool.{Decides.nat_tests, both_ways, false≢true, ltb-false, or_left, or_parts}

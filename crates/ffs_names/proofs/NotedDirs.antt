@@ -1,5 +1,5 @@
 -- What is noted of a directory says how a reading of it begins: at its only chunk, or with its cut.
-use Rattle.std.proofs.Common.{◌≡◌, ◌∙◌, ◌+◌, ◌<◌, ◌^◌, ℕ, Bool, true, not, ◌&&◌, List, ap, arith, flat_map, refl, sym}
+use Rattle.std.proofs.Common.{◌≡◌, ◌∙◌, ◌+◌, ◌<◌, ◌^◌, ℕ, true, not, ◌&&◌, List, ap, arith, flat_map, refl, sym}
 use Rattle.ffs_image.specs.Device.{Device}
 use Rattle.ffs_volume.specs.declared.{Class.TheVariants.Dir, Inode.Inode, Layout.Layout}
 use Rattle.ffs_volume.specs.Blocks.{Inodes.class_of, Inodes.inode_of, Steps.steps_of}

@@ -1,12 +1,12 @@
 -- A directory of one chunk is known by where its only block is.
-use Rattle.std.proofs.Common.{◌≡◌, ℕ, zero, suc, ◌+◌, ◌*◌, ◌%◌, ◌<◌, ◌≤◌, ◌==◌, Bool, true, false, not, ◌&&◌, ◌||◌}
+use Rattle.std.proofs.Common.{◌≡◌, ℕ, zero, suc, ◌+◌, ◌*◌, ◌%◌, ◌<◌, ◌≤◌, ◌==◌, Bool, true, false, not, ◌&&◌}
 use Rattle.std.proofs.Common.{List, []}
 use Rattle.std.proofs.Common.{◌∷◌, ◌++◌, Some, arith, refl, ap, sym, ◌∙◌, flat_map, if◌then◌else◌, mod-eq_of_lt}
 use Rattle.std.proofs.Common.{mul-le-mul_right}
 use Rattle.std.proofs.Common.{nat_lt, slice_index, take}
 use Rattle.std.{specs.Int.div_ceil, proofs.lemmas.Grind.div_ceil_times, proofs.lemmas.Bool.Decides.nat_tests}
-use Rattle.ffs_volume.specs.declared.{Class.Class, Class.TheVariants.Dir, Inode.Inode, Layout.Layout, Step.Step}
-use Rattle.ffs_volume.specs.declared.Step.TheVariants.{Run, Gap}
+use Rattle.ffs_volume.specs.declared.{Class.TheVariants.Dir, Inode.Inode, Layout.Layout, Step.Step}
+use Rattle.ffs_volume.specs.declared.Step.TheVariants.{Run}
 use Rattle.ffs_volume.specs.Blocks.Inodes.{class_of, type_of}
 use Rattle.ffs_volume.specs.Blocks.Steps.{data_step, is_walked, steps_at, steps_of}
 use Rattle.ffs_volume.specs.Directories.Entries.{bytes_read, chunks_of, has_gap, run_chunks}

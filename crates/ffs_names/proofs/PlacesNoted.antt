@@ -3,7 +3,7 @@ use Rattle.std.proofs.Common.{◌≡◌, ◌≢◌, ℕ, zero, suc, ◌+◌, ◌
 use Rattle.std.proofs.Common.{not, ◌&&◌}
 use Rattle.std.proofs.Common.{◌||◌, ◌⊎◌, List, [], ◌∷◌, length, Option, Some, None, refl, sym, ap, ◌∙◌, arith, inl, inr}
 use Rattle.std.proofs.Common.{rules}
-use Rattle.std.proofs.Common.{below_more, flat_map, if◌then◌else◌, is_some, nat_le, nat_lt, option_map, slice_index}
+use Rattle.std.proofs.Common.{flat_map, if◌then◌else◌, is_some, nat_le, nat_lt, option_map, slice_index}
 use Rattle.std.proofs.Common.{slice_set}
 use Rattle.std.proofs.Common.{unwrap_or, vec_len}
 use Rattle.std.{specs.List.list_any, proofs.Math.Bool.and-false}
@@ -25,7 +25,7 @@ use Rattle.ffs_volume.specs.Directories.{Climb.is_value, Graph.reached, Parents.
 use Rattle.ffs_volume.specs.Directories.Roles.{RoledEntry, is_dir, is_inode, role_of, roled_chunk, roled_entries}
 use Rattle.ffs_volume.specs.Directories.Roles.{roled_from}
 use Rattle.ffs_volume.specs.Directories.Volumes.{volume_of, volume_with}
-use Rattle.ffs_walk.specs.{Windows.WindowHolds, declared.blocks.Blocks.Blocks, declared.window.Window.Window}
+use Rattle.ffs_walk.specs.{declared.blocks.Blocks.Blocks, declared.window.Window.Window}
 use Rattle.ffs_workspace.proofs.PlaceLaws.{any_naming-roled, name_in-after, name_in-among, name_in-roled}
 use Rattle.ffs_workspace.specs.{Holds.bool_at, Holds.HoldsClaims, Holds.HoldsSurvey, Lengths.inodes_of, Ready.IsReady}
 use Rattle.ffs_workspace.specs.Places.{entries_in_chunk, is_due, name_in, place_in, place_of}

@@ -1,5 +1,5 @@
 -- A survey fills a workspace.
-use Rattle.std.proofs.Common.{◌≡◌, ◌∙◌, ◌+◌, ◌-◌, ◌*◌, ◌≤◌, ℕ, ℤ, pos, negsuc, Bool, true, false, List, [], Option}
+use Rattle.std.proofs.Common.{◌≡◌, ◌∙◌, ◌+◌, ◌-◌, ◌≤◌, ℕ, ℤ, pos, Bool, true, List, Option}
 use Rattle.std.proofs.Common.{Some, None}
 use Rattle.std.proofs.Common.{IfNone, ap, arith, if◌then◌else◌, length, min, nat_le, nat_lt, refl, slice_index, sym}
 use Rattle.std.proofs.Common.{◌&&◌}
@@ -12,7 +12,7 @@ use Rattle.ffs_volume.specs.Encodings.Links.{links_start, start_at}
 use Rattle.ffs_workspace.specs.{Holds.HoldsReferences, Holds.HoldsStarts, Holds.HoldsSurvey, Lengths.inodes_of}
 use Rattle.ffs_workspace.specs.{Places.ArePlaces, declared.workspace.Workspace.Workspace}
 use Rattle.ffs_survey.specs.{Calm.AreCalm, SurveyLaws.references_is, SurveyLaws.survey_is}
-use Rattle.ffs_survey.specs.Survey.{bool_at, dir_at, graph_with, most_start, references_to, IsSurvey}
+use Rattle.ffs_survey.specs.Survey.{dir_at, graph_with, most_start, references_to, IsSurvey}
 use Rattle.ffs_names.specs.{Readers.Base, Readers.dir_entries, Readers.dir_right_shape, Surveys.FlagsCalm}
 use Rattle.ffs_names.specs.RightShapes.{is_right_shape, is_right_directory}
 use Rattle.ffs_names.proofs.{DirLaws.kind_dirs, SameGraphs.survey_same}

@@ -1,4 +1,4 @@
-use Rattle.std.proofs.Common.{◌≡◌, ◌≢◌, ◌<◌, ◌*◌, ◌+◌, ◌∙◌, Bool, false, true, suc, List, ℕ, ap, arith, below_more}
+use Rattle.std.proofs.Common.{◌≡◌, ◌≢◌, ◌<◌, ◌*◌, ◌+◌, ◌∙◌, false, true, suc, ℕ, ap, arith, below_more}
 use Rattle.std.proofs.Common.{length, refl}
 use Rattle.std.proofs.Common.{rules, slice_index, slice_set, sym}
 use Rattle.std.proofs.lemmas.Grind.{common_steps, get_or_default_zero}

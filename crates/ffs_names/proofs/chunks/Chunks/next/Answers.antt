@@ -1,4 +1,4 @@
-use Rattle.std.proofs.Common.{◌∙◌, ◌∷◌, ◌+◌, ap, refl, arith, take}
+use Rattle.std.proofs.Common.{◌+◌, ap, refl, arith, take}
 use Rattle.ffs_names.specs.Readings.{all_chunks, runs_left}
 use Rattle.ffs_names.proofs.{Continuing.counts_here, RunChunks.none_taken, RunChunks.some_taken}
 use Rattle.ffs_names.proofs.chunks.Chunks.next.Goals as goal
