@@ -4,18 +4,6 @@ use Rattle.ffs_names.proofs.{Advances.gap_ended, ReadCounts.run_passed}
 use Rattle.ffs_names.proofs.Continuing.{same_here, same_more}
 use Rattle.ffs_names.proofs.gap.find_gap.Goals as goal
 
-pub runs-init : goal.runs-init
-runs-init g c = record {
-  same = refl;
-  kept = same_here _;
-  ready = c.requires;
-  gap = λ b t. refl;
-  reads = λ w h b t. (omega arith, h);
-}
-
-pub advance-requires : goal.advance-requires
-advance-requires g c = let inv = c.runs.invariant in rw inv.kept.geometry inv.ready
-
 -- a Run with chunks is passed over
 pub runs-preserved : goal.runs-preserved
 runs-preserved g c =
@@ -35,9 +23,6 @@ runs-preserved g c =
           );
     }
 
-pub runs-smaller : goal.runs-smaller
-runs-smaller g c = let less = c.in_ok-advance.ensures.falls c.if-branch.true in omega (arith, less)
-
 -- no step is left
 pub returns-clause-gap : goal.returns-clause-gap
 returns-clause-gap g c = λ b t.
@@ -54,20 +39,7 @@ returns-clause-reads g c = λ w h b t.
     let took = c.in_ok-advance.ensures.reads w old.1 b (ap (λ d. d.contents) inv.same ∙ t) in
     record { most = omega (arith, took.most, old.0); paid = omega (arith, took.paid, old.0); held = took.held }
 
-pub returns-clause-leaves : goal.returns-clause-leaves
-returns-clause-leaves g c =
-    let inv = c.runs.invariant in
-    let left = c.in_ok-advance.ensures.leaves in
-    record {
-      same = same_more left.same inv.kept;
-      ready = rw inv.kept.geometry at left.ready;
-      read = left.read ∙ inv.same;
-    }
-
 -- a read failed
-pub returns-in_err-advance-clause-gap : goal.returns-in_err-advance-clause-gap
-returns-in_err-advance-clause-gap g c = rw (err_from_is_err_and c.from_residual.result c.from_residual.ensures.1).1 tt
-
 pub returns-in_err-advance-clause-reads : goal.returns-in_err-advance-clause-reads
 returns-in_err-advance-clause-reads g c =
     rw (err_from_is_err_and c.from_residual.result c.from_residual.ensures.1).1 (λ w h b t.

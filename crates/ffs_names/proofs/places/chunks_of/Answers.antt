@@ -35,9 +35,3 @@ returns-clause-reads g c = λ b t n dir.
     let begins = c.of_class-2.ensures.begins (sym read.is_dir) in
     let one = c.in_ok-inode.ensures.counted in
     omega (arith, one, c.of_class-2.ensures.reads.to_read b, begins.runs_left b, read.runs, cost_is v b c.args.dir dir)
-
-pub returns-in_err-inode-clause-reads : goal.returns-in_err-inode-clause-reads
-returns-in_err-inode-clause-reads g c =
-    let p = err_from_is_err_and c.from_residual.result c.from_residual.ensures.1 in
-    rw p.1 (λ b t n dir.
-    omega (arith, c.in_err-inode.ensures.counted, cost_is c.args.geometry.now.layout b c.args.dir dir))

@@ -38,8 +38,3 @@ returns-clause-reads g c = λ b t claims dir.
     let note = note_is g (goal.at.returns-clause-reads g c).After-chunks_of b claims.notes in
     let went = c.note_chunks.ensures.reads (begun.begins.held _ _) b (ap (λ d. d.contents) begun.leaves.read ∙ t) in
     omega (arith, begun.reads b t note dir, went)
-
-pub returns-in_err-chunks-clause-reads : goal.returns-in_err-chunks-clause-reads
-returns-in_err-chunks-clause-reads g c = λ b t claims dir.
-    c.in_err-chunks.ensures.reads b t
-    (note_is g (goal.at.returns-in_err-chunks-clause-reads g c).After-chunks_of b claims.notes) dir

@@ -102,10 +102,6 @@ loop-dir-preserved g c =
           })
     ]
 
-pub returns-clause-places : goal.returns-clause-places
-returns-clause-places g c = λ b t claims survey.
-    let inv = c.loop-dir.invariant in survey_noted inv.lists survey (inv.places b t claims survey)
-
 pub returns-clause-noted : goal.returns-clause-noted
 returns-clause-noted g c = λ b t claims survey numbered.
     let inv = c.loop-dir.invariant in

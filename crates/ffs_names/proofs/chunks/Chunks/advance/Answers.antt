@@ -180,34 +180,8 @@ invariant_of-self g c = let s = c.steps.self in record {
   cursor_fits = rw c.next.ensures.same.geometry s.cursor_fits;
 }
 
-pub see-requires : goal.see-requires
-see-requires g c =
-    let fits = rw c.in-Some-Run.field-0-is at (rw c.in-Some-Run.is at c.in_ok-next.ensures.step.fits) in
-    record {
-      length = rw c.next.ensures.same.geometry fits.length;
-      seen = sym c.is_replay_open.ensures ∙ c.if-not-is_replay_open.false;
-      empty = c.steps-test.true;
-    }
-
 pub steps-smaller-in-Some-Run : goal.steps-smaller-in-Some-Run
 steps-smaller-in-Some-Run g c = rw c.see.ensures.walk (rw c.in-Some-Run.is at c.in_ok-next.ensures.step.falls)
-
-pub steps-smaller-in-Some-Tail : goal.steps-smaller-in-Some-Tail
-steps-smaller-in-Some-Tail g c = rw c.in-Some-Tail.is at c.in_ok-next.ensures.step.falls
-
-pub steps-smaller : goal.steps-smaller
-steps-smaller g c =
-    let next = rw c.in-Some-Gap.is at c.in_ok-next.ensures.step.falls in
-    let gaps = c.skip_gaps.ensures.falls in
-    omega (arith, next, gaps)
-
--- what is left at each return
-pub returns-then-not-is_replay_open-clause-continues : goal.returns-then-not-is_replay_open-clause-continues
-returns-then-not-is_replay_open-clause-continues g c = c.steps.invariant.continues
-
-pub returns-then-not-is_replay_open-clause-leaves : goal.returns-then-not-is_replay_open-clause-leaves
-returns-then-not-is_replay_open-clause-leaves g c =
-    let i = c.steps.invariant in record { same = i.same; ready = i.ready; read = i.device }
 
 pub returns-in-None-clause-leaves : goal.returns-in-None-clause-leaves
 returns-in-None-clause-leaves g c =
@@ -219,13 +193,6 @@ returns-in-None-clause-leaves g c =
       read = next.read ∙ i.device;
     }
 
-pub returns-in_err-next-clause-continues : goal.returns-in_err-next-clause-continues
-returns-in_err-next-clause-continues g c =
-    rw (err_from_is_err_and c.from_residual.result c.from_residual.ensures.1).1 tt
-
-pub returns-in_err-next-clause-found : goal.returns-in_err-next-clause-found
-returns-in_err-next-clause-found g c = rw (err_from_is_err_and c.from_residual.result c.from_residual.ensures.1).1 tt
-
 pub returns-in_err-next-clause-leaves : goal.returns-in_err-next-clause-leaves
 returns-in_err-next-clause-leaves g c =
     let i = c.steps.invariant in
@@ -236,13 +203,6 @@ returns-in_err-next-clause-leaves g c =
       ready = walk_on i.same.geometry err.size c.next.ensures.leaves.kept i.ready;
       read = rw i.device at err;
     })
-
-pub returns-clause-continues : goal.returns-clause-continues
-returns-clause-continues g c = c.steps.invariant.continues
-
-pub returns-clause-leaves : goal.returns-clause-leaves
-returns-clause-leaves g c =
-    let i = c.steps.invariant in record { same = i.same; ready = i.ready; read = i.device }
 
 -- the reads that were made, and what is held
 pub returns-then-not-is_replay_open-clause-reads : goal.returns-then-not-is_replay_open-clause-reads

@@ -34,71 +34,11 @@ returns-clause-place g c = λ b t.
     c.in_ok-read_chunk.ensures.chunk b (ap (λ d. d.contents) c.in_ok-advance.ensures.leaves.read ∙ t)
     ∙ ap (λ n. piece (h.place + 512 * n) 512 b) (omega arith)
 
-pub advance-requires : goal.advance-requires
-advance-requires g c = c.requires.walk
-
-pub returns-in_err-advance-clause-chunk : goal.returns-in_err-advance-clause-chunk
-returns-in_err-advance-clause-chunk g c = rw (err_from_is_err_and c.from_residual.result c.from_residual.ensures.1).1 tt
-
-pub returns-in_err-advance-clause-place : goal.returns-in_err-advance-clause-place
-returns-in_err-advance-clause-place g c = rw (err_from_is_err_and c.from_residual.result c.from_residual.ensures.1).1 tt
-
-pub returns-in_err-advance-clause-inside : goal.returns-in_err-advance-clause-inside
-returns-in_err-advance-clause-inside g c =
-    rw (err_from_is_err_and c.from_residual.result c.from_residual.ensures.1).1 tt
-
-pub returns-in_err-advance-clause-runs : goal.returns-in_err-advance-clause-runs
-returns-in_err-advance-clause-runs g c =
-    rw (err_from_is_err_and c.from_residual.result c.from_residual.ensures.1).1 c.in_err-advance.ensures.runs
-
-pub returns-in_err-advance-clause-leaves : goal.returns-in_err-advance-clause-leaves
-returns-in_err-advance-clause-leaves g c =
-    let went = c.in_err-advance.ensures.leaves in
-    let p = err_from_is_err_and c.from_residual.result c.from_residual.ensures.1 in
-    rw (p.1, p.2) (record {
-      same = went.same;
-      ready = record { walk = went.ready; room = c.requires.room; holds = rw went.read.contents c.requires.holds };
-      read = went.read;
-    })
-
-pub returns-then-not-branch-clause-leaves : goal.returns-then-not-branch-clause-leaves
-returns-then-not-branch-clause-leaves g c =
-    let went = c.in_ok-advance.ensures.leaves in
-    record {
-      same = went.same;
-      ready = record {
-        walk = went.ready;
-        room = c.requires.room;
-        holds = rw (ap (λ d. d.contents) went.read) c.requires.holds;
-      };
-      read = went.read;
-    }
-
 -- the Run is a block's at most, and lies in the volume
-pub read_chunk-requires-clause-room : goal.read_chunk-requires-clause-room
-read_chunk-requires-clause-room g c =
-    let same = ap (λ x. x.layout.bsize) c.advance.ensures.leaves.same.geometry in
-    omega (arith, c.advance.new.self.cursor_fits.in_block, c.requires.room, same)
-
 pub read_chunk-requires-clause-inside : goal.read_chunk-requires-clause-inside
 read_chunk-requires-clause-inside g c =
     let fits = rw c.advance.ensures.leaves.same.geometry at c.advance.new.self.cursor_fits.in_volume in
     omega (arith, fits, c.in_ok-advance.ensures.leaves.ready.volume)
-
-pub read_chunk-requires-clause-holds : goal.read_chunk-requires-clause-holds
-read_chunk-requires-clause-holds g c = rw (ap (λ d. d.contents) c.in_ok-advance.ensures.leaves.read) c.requires.holds
-
-pub returns-in_err-read_chunk-clause-chunk : goal.returns-in_err-read_chunk-clause-chunk
-returns-in_err-read_chunk-clause-chunk g c =
-    rw (err_from_is_err_and c.from_residual-in_err-read_chunk.result c.from_residual-in_err-read_chunk.ensures.1).1 tt
-
-pub returns-in_err-read_chunk-clause-place : goal.returns-in_err-read_chunk-clause-place
-returns-in_err-read_chunk-clause-place g c =
-    rw (err_from_is_err_and c.from_residual-in_err-read_chunk.result c.from_residual-in_err-read_chunk.ensures.1).1 tt
-
-pub returns-in_err-read_chunk-clause-inside : goal.returns-in_err-read_chunk-clause-inside
-returns-in_err-read_chunk-clause-inside g c =
-    rw (err_from_is_err_and c.from_residual-in_err-read_chunk.result c.from_residual-in_err-read_chunk.ensures.1).1 tt
 
 pub returns-in_err-read_chunk-clause-runs : goal.returns-in_err-read_chunk-clause-runs
 returns-in_err-read_chunk-clause-runs g c =

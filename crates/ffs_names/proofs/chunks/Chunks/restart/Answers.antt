@@ -8,12 +8,5 @@ returns-clause-begins c = λ known.
     (c.restart.ensures.walk known).steps c.start-self.ensures.cut c.start-self.ensures.fresh
     (c.empty-self.ensures.none c.restart.new.self.geometry.layout) c.bytes_read-bytes_to_read.ensures.value refl refl refl
 
-pub invariant_of-self : goal.invariant_of-self
-invariant_of-self c = record {
-  bytes_to_read_small = c.bytes_read-bytes_to_read.ensures.small;
-  few = omega (arith, c.bytes_read-bytes_to_read.ensures.small);
-  cursor_fits = c.empty-self.ensures.fits c.restart.new.self.geometry.layout;
-}
-
 pub returns-clause-reads : goal.returns-clause-reads
 returns-clause-reads c = begins_reads _ c.restart.ensures.top c.empty-self.ensures.next

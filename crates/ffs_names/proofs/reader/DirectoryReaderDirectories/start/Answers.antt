@@ -101,23 +101,6 @@ returns-in-Some-clause-shape g c = λ b k.
     (rw c.requires.ready.1 at c.restart_at.ensures.begins).shape b read.small
     ∙ (read.shape ∙ sym (ap (λ (x : Bool). x && is_right_shape (volume_of v b) c.args.dir) dir))
 
-pub inode_by_part-requires-clause-ready : goal.inode_by_part-requires-clause-ready
-inode_by_part-requires-clause-ready g c =
-    let r = c.requires.ready.0 in record { volume = r.volume; made = r.table; holds = r.table_holds }
-
-pub returns-then-not-is_dir-clause-reader : goal.returns-then-not-is_dir-clause-reader
-returns-then-not-is_dir-clause-reader g c = record {
-  is_ready = (c.requires.ready.0, c.stop.ensures.geometry ∙ c.requires.ready.1);
-  same = refl;
-  read = refl;
-}
-
-pub returns-then-not-is_dir-clause-left : goal.returns-then-not-is_dir-clause-left
-returns-then-not-is_dir-clause-left g c = c.stop.new.self.few
-
-pub returns-clause-left : goal.returns-clause-left
-returns-clause-left g c = c.restart.new.self.few
-
 -- the read of the inode failed
 pub returns-in_err-inode-clause-reader : goal.returns-in_err-inode-clause-reader
 returns-in_err-inode-clause-reader g c =
@@ -129,15 +112,6 @@ returns-in_err-inode-clause-reader g c =
       same = rw err.contents refl;
       read = err;
     })
-
-pub returns-in_err-inode-clause-rest : goal.returns-in_err-inode-clause-rest
-returns-in_err-inode-clause-rest g c = rw (err_from_is_err_and c.from_residual.result c.from_residual.ensures.1).1 tt
-
-pub returns-in_err-inode-clause-left : goal.returns-in_err-inode-clause-left
-returns-in_err-inode-clause-left g c = rw (err_from_is_err_and c.from_residual.result c.from_residual.ensures.1).1 tt
-
-pub returns-in_err-inode-clause-shape : goal.returns-in_err-inode-clause-shape
-returns-in_err-inode-clause-shape g c = rw (err_from_is_err_and c.from_residual.result c.from_residual.ensures.1).1 tt
 
 -- the reads that were made, and those that are still to come
 pub returns-then-not-is_dir-clause-counted : goal.returns-then-not-is_dir-clause-counted
