@@ -47,14 +47,3 @@ returns-in_err-advance-clause-reads g c =
     let old = inv.reads w h b t in
     let took = c.in_err-advance.ensures.reads w old.1 b (ap (λ d. d.contents) inv.same ∙ t) in
     record { most = omega (arith, took.most, old.0); paid = tt; held = tt })
-
-pub returns-in_err-advance-clause-leaves : goal.returns-in_err-advance-clause-leaves
-returns-in_err-advance-clause-leaves g c =
-    let inv = c.runs.invariant in
-    let left = c.in_err-advance.ensures.leaves in
-    let p = err_from_is_err_and c.from_residual.result c.from_residual.ensures.1 in
-    rw (p.1, p.2) (record {
-      same = same_more left.same inv.kept;
-      ready = rw inv.kept.geometry at left.ready;
-      read = rw inv.same at left.read;
-    })

@@ -152,37 +152,6 @@ returns-in-None-clause-found g c = λ b t.
     seen_if_over c.steps-test.true (c.in_ok-next.ensures.step.over c.in-None.is)
 
 -- what is kept of the Run and of the sizes, after a step of the walk
-pub invariant_of-self-in-None : goal.invariant_of-self-in-None
-invariant_of-self-in-None g c = let s = c.steps.self in record {
-  bytes_to_read_small = s.bytes_to_read_small;
-  few = s.few;
-  cursor_fits = rw c.next.ensures.same.geometry s.cursor_fits;
-}
-
-pub invariant_of-self-in-Some-Tail : goal.invariant_of-self-in-Some-Tail
-invariant_of-self-in-Some-Tail g c = let s = c.steps.self in record {
-  bytes_to_read_small = s.bytes_to_read_small;
-  few = s.few;
-  cursor_fits = rw c.next.ensures.same.geometry s.cursor_fits;
-}
-
-pub invariant_of-self-in-Some-Gap : goal.invariant_of-self-in-Some-Gap
-invariant_of-self-in-Some-Gap g c = let s = c.steps.self in record {
-  bytes_to_read_small = s.bytes_to_read_small;
-  few = s.few;
-  cursor_fits = rw (c.skip_gaps.ensures.same.geometry ∙ c.next.ensures.same.geometry) s.cursor_fits;
-}
-
-pub invariant_of-self : goal.invariant_of-self
-invariant_of-self g c = let s = c.steps.self in record {
-  bytes_to_read_small = s.bytes_to_read_small;
-  few = s.few;
-  cursor_fits = rw c.next.ensures.same.geometry s.cursor_fits;
-}
-
-pub steps-smaller-in-Some-Run : goal.steps-smaller-in-Some-Run
-steps-smaller-in-Some-Run g c = rw c.see.ensures.walk (rw c.in-Some-Run.is at c.in_ok-next.ensures.step.falls)
-
 pub returns-in-None-clause-leaves : goal.returns-in-None-clause-leaves
 returns-in-None-clause-leaves g c =
     let i = c.steps.invariant in

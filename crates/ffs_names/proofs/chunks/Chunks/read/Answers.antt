@@ -35,16 +35,6 @@ returns-clause-place g c = λ b t.
     ∙ ap (λ n. piece (h.place + 512 * n) 512 b) (omega arith)
 
 -- the Run is a block's at most, and lies in the volume
-pub read_chunk-requires-clause-inside : goal.read_chunk-requires-clause-inside
-read_chunk-requires-clause-inside g c =
-    let fits = rw c.advance.ensures.leaves.same.geometry at c.advance.new.self.cursor_fits.in_volume in
-    omega (arith, fits, c.in_ok-advance.ensures.leaves.ready.volume)
-
-pub returns-in_err-read_chunk-clause-runs : goal.returns-in_err-read_chunk-clause-runs
-returns-in_err-read_chunk-clause-runs g c =
-    let p = err_from_is_err_and c.from_residual-in_err-read_chunk.result c.from_residual-in_err-read_chunk.ensures.1 in
-    rw p.1 (λ b t. (c.in_ok-advance.ensures.continues b t).runs.most)
-
 pub returns-in_err-read_chunk-clause-leaves : goal.returns-in_err-read_chunk-clause-leaves
 returns-in_err-read_chunk-clause-leaves g c =
     let went = c.in_ok-advance.ensures.leaves in

@@ -41,10 +41,6 @@ returns-in-None-2-clause-entry g c = λ b t.
       ended = record { chunks = o.chunks.1; current = fills_whole s.order c.next.new.chunk };
     }
 
-pub next-requires : goal.next-requires
-next-requires g c =
-    let i = c.chunks.invariant in rw (ap (λ x. x.walk.geometry) c.take.ensures.same.chunks ∙ i.geometry) i.ready
-
 -- a chunk came
 pub chunks-preserved : goal.chunks-preserved
 chunks-preserved g c =
@@ -127,3 +123,13 @@ returns-in_err-next-clause-reads g c =
     (λ h. h) (omega (arith, next.budget)) next.spent
     (λ h. next.reads h b (ap (λ d. d.contents) c.chunks.invariant.device ∙ t)) now.1 in
     record { most = omega (arith, took.most, now.0); paid = tt; held = tt })
+
+pub returns-in-None-2-clause-leaves : goal.returns-in-None-2-clause-leaves
+returns-in-None-2-clause-leaves g c =
+    let i = c.chunks.invariant in
+    let geometry = ap (λ x. x.walk.geometry) c.take.ensures.same.chunks ∙ i.geometry in
+    record {
+      geometry = c.next.ensures.leaves.geometry ∙ geometry;
+      ready = rw geometry at c.next.ensures.leaves.ready;
+      read = c.in_ok-next.ensures.leaves.read ∙ i.device;
+    }

@@ -102,17 +102,6 @@ returns-in-Some-clause-shape g c = λ b k.
     ∙ (read.shape ∙ sym (ap (λ (x : Bool). x && is_right_shape (volume_of v b) c.args.dir) dir))
 
 -- the read of the inode failed
-pub returns-in_err-inode-clause-reader : goal.returns-in_err-inode-clause-reader
-returns-in_err-inode-clause-reader g c =
-    let reads = c.inode_by_part.ensures.reads in
-    let err = c.in_err-inode.ensures.reads.read in
-    let p = err_from_is_err_and c.from_residual.result c.from_residual.ensures.1 in
-    rw (p.1, p.2) (record {
-      is_ready = (ready_read err.contents err.size reads.kept c.requires.ready.0, c.requires.ready.1);
-      same = rw err.contents refl;
-      read = err;
-    })
-
 -- the reads that were made, and those that are still to come
 pub returns-then-not-is_dir-clause-counted : goal.returns-then-not-is_dir-clause-counted
 returns-then-not-is_dir-clause-counted g c = λ b k.
