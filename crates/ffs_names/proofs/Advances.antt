@@ -1,145 +1,253 @@
--- How a reading of chunks goes from step to step.
-use Rattle.std.proofs.Common.{◌≡◌, ℕ, zero, suc, ◌+◌, ◌-◌, ◌*◌, Bool, true, false, List, [], ◌∷◌, ◌++◌, replicate}
-use Rattle.std.proofs.Common.{arith, refl, sym, ap, ◌∙◌}
-use Rattle.std.specs.Prelude.{if◌then◌else◌}
-use Rattle.ffs_volume.specs.declared.Layout.{Layout}
-use Rattle.ffs_volume.specs.declared.Step.{Step}
+-- How a reading of chunks goes from step to step: over Tails and Gaps, and past each Run that is seen.
+use Rattle.std.proofs.Common.{◌≡◌, ◌≤◌, ℕ, zero, suc, ◌+◌, ◌-◌, ◌^◌, ◌==◌, min, Bool, true, false, ◌||◌, if◌then◌else◌}
+use Rattle.std.proofs.Common.{List, [], ◌∷◌, ◌++◌, replicate, Option, Some, None, arith, refl, sym, ap, ◌∙◌}
+use Rattle.std.proofs.lemmas.Bool.{or_right}
+use Rattle.ffs_volume.proofs.ReplayLaws.{counted_same, gaps_seen}
+use Rattle.ffs_volume.specs.declared.{Layout.Layout, Step.Step}
 use Rattle.ffs_volume.specs.declared.Step.TheVariants.{Run, Tail, Gap}
+use Rattle.ffs_volume.specs.Directories.Entries.{Chunk, chunks_of, has_gap, is_gap, step_chunks}
 use Rattle.ffs_volume.specs.Disk.Areas.{is_run_in_range}
-use Rattle.ffs_volume.specs.Blocks.Steps.{steps_at, steps_of_addresses}
-use Rattle.ffs_volume.specs.Directories.Entries.{Chunk, chunks_of}
-use Rattle.ffs_volume.specs.Encodings.Replay.{Replay, is_replay_open, replayed_steps}
-use Rattle.ffs_volume.specs.Encodings.ReplayCounts.{replayed_runs}
-use Rattle.ffs_walk.specs.declared.walk.Walk.{Walk}
-use Rattle.ffs_walk.specs.Rests.{IsOver, file_blocks_of, steps_left, single_rest, double_rest, triple_rest, top_rest}
-use Rattle.ffs_walk.proofs.WalkSteps.{spent_rest}
-use Rattle.ffs_names.specs.declared.run_cursor.RunCursor.{RunCursor}
-use Rattle.ffs_names.specs.declared.chunks.Chunks.{Chunks}
+use Rattle.ffs_volume.specs.Encodings.Replay.{Replay, is_replay_open, is_replayed, replay_after_step, replayed_steps}
+use Rattle.ffs_volume.specs.Encodings.ReplayCounts.{replayed_runs, seen_run}
+use Rattle.ffs_walk.proofs.WalkSteps.{top_ends}
+use Rattle.ffs_walk.specs.{Counts.entered, Keepings.Replays, Keepings.replay_in, Rests.IsOver, Rests.steps_left}
+use Rattle.ffs_walk.specs.declared.{keeping.Keeping.Keeping, walk.Walk.Walk, window.Window.Window}
+use Rattle.ffs_names.specs.Costs.{HoldsRun, SeesRun, unread_run}
+use Rattle.ffs_names.specs.Readings.{CanSee, Continues, HasSeenAll, IsSame, chunks_after, gap_after, runs_after}
 use Rattle.ffs_names.specs.RunCursors.{cursor_chunks, reading_by}
-use Rattle.ffs_names.specs.Readings.{all_chunks, chunks_after, runs_after, runs_left}
-use Rattle.ffs_volume.proofs.ReplayLaws.{gaps_seen}
-use Rattle.ffs_names.proofs.SeenSteps.{no_run_cursor}
+use Rattle.ffs_names.specs.declared.{chunks.Chunks.Chunks, run_cursor.RunCursor.RunCursor}
+use Rattle.ffs_names.proofs.{Continuing.continues_more, Continuing.counts_here}
+use Rattle.ffs_names.proofs.ReadCounts.{entered_one, over_held, run_over}
 
--- the chunks of steps, of a layout and a replay
-abbrev pub following : Layout → List ℕ → ℕ → ℕ → Replay → List Step → List Chunk
-following v b taken cut r steps = chunks_of (reading_by v b taken) (is_run_in_range v) (replayed_steps v cut r steps)
-
--- a walk that is over has no steps left
+-- ---- where nothing is left
+-- a walk that is over has no steps left, and no Runs
 pub over_rest : (b : List ℕ) (w : Walk) → IsOver w → steps_left b w ≡ []
-over_rest b w o =
-    let one : single_rest b w ≡ [] = spent_rest w.geometry.layout b (steps_at (file_blocks_of w) b 0) 1 w.single o.single in
-    let two : double_rest b w ≡ [] =
-    spent_rest w.geometry.layout b (steps_at (file_blocks_of w) b 1) w.geometry.layout.nindir w.double o.double in
-    let three : triple_rest b w ≡ [] = spent_rest w.geometry.layout b (steps_at (file_blocks_of w) b 2)
-    (w.geometry.layout.nindir * w.geometry.layout.nindir) w.triple o.triple in
-    let none : w.used - w.next ≡ 0 = let t = o.top in omega arith in
-    let top : top_rest b w ≡ [] = ap (λ n. steps_of_addresses (file_blocks_of w) b w.addresses w.next n) none in
-    joined (single_rest b w) (double_rest b w) (triple_rest b w) (top_rest b w) one two three top
-  where
-    joined : (p q r s : List Step) → p ≡ [] → q ≡ [] → r ≡ [] → s ≡ [] → p ++ (q ++ (r ++ s)) ≡ []
-    joined p q r s a b c d = ap (λ x. x ++ (q ++ (r ++ s))) a ∙ (ap (λ x. x ++ (r ++ s)) b ∙ (ap (λ x. x ++ s) c ∙ d))
+over_rest b w o = let top = o.top in top_ends b w (omega arith) o.single o.double o.triple
 
--- a Tail or Gap gives no chunks, and is no Run
-pub tail_after : (v : Layout) (b : List ℕ) (taken cut : ℕ) (r : Replay) (steps : List Step) →
-    following v b taken cut r (Tail ∷ steps) ≡ following v b taken cut r steps
-tail_after v b taken cut r steps = one (is_replay_open cut r)
-  where
-    one : (x : Bool) → chunks_of (reading_by v b taken) (is_run_in_range v)
-        ((if x then Tail ∷ [] else []) ++ replayed_steps v cut r steps) ≡ following v b taken cut r steps
-    one true = refl
-    one false = refl
+pub over_runs : (b : List ℕ) (w : Walk) (v : Layout) (cut : ℕ) (r : Replay) → IsOver w →
+    replayed_runs v cut r (steps_left b w) ≡ 0
+over_runs b w v cut r o = ap (replayed_runs v cut r) (over_rest b w o)
 
-pub gap_after : (v : Layout) (b : List ℕ) (taken cut : ℕ) (r : Replay) (steps : List Step) →
-    following v b taken cut r (Gap ∷ steps) ≡ following v b taken cut r steps
-gap_after v b taken cut r steps = one (is_replay_open cut r)
-  where
-    one : (x : Bool) → chunks_of (reading_by v b taken) (is_run_in_range v)
-        ((if x then Gap ∷ [] else []) ++ replayed_steps v cut r steps) ≡ following v b taken cut r steps
-    one true = refl
-    one false = refl
+-- a Run with no chunk left
+pub no_run_cursor : (v : Layout) (b : List ℕ) (cursor : RunCursor) → cursor.next ≡ cursor.count →
+    cursor_chunks v b cursor ≡ []
+no_run_cursor v b cursor e = let none : cursor.count - cursor.next ≡ 0 = omega arith in rw none refl
 
--- nothing comes where no step is seen
-pub none_seen : (v : Layout) (b : List ℕ) (taken cut : ℕ) (r : Replay) (steps : List Step) →
-    is_replay_open cut r ≡ false → following v b taken cut r steps ≡ []
-none_seen v b taken cut r [] h = refl
-none_seen v b taken cut r (Tail ∷ steps) h = tail_after v b taken cut r steps ∙ none_seen v b taken cut r steps h
-none_seen v b taken cut r (Gap ∷ steps) h = gap_after v b taken cut r steps ∙ none_seen v b taken cut r steps h
-none_seen v b taken cut r (Run start len block ∷ steps) h = rw h (none_seen v b taken cut r steps h)
+-- where no step is seen, no chunk and no hole comes
+unseen : (b : List ℕ) (c : Chunks) (steps : List Step) → is_replay_open c.keeping.cut (replay_in c.keeping) ≡ false →
+    (chunks_after b c steps ≡ []) × (gap_after c steps ≡ false)
+unseen b c [] h = (refl, refl)
+unseen b c (Tail ∷ steps) h = rw h (unseen b c steps h)
+unseen b c (Gap ∷ steps) h = rw h (unseen b c steps h)
+unseen b c (Run start len block ∷ steps) h = rw h (unseen b c steps h)
 
--- how a step continues, where the state of the replay is kept
-pub still_on : (v v' : Layout) (b : List ℕ) (cursor : RunCursor) (taken cut : ℕ) (r : Replay) (step : Step)
-    (old new : List Step) → v' ≡ v → old ≡ step ∷ new
-    → following v b taken cut r (step ∷ new) ≡ following v b taken cut r new
-    → cursor_chunks v' b cursor ++ following v' b taken cut r new
-    ≡ cursor_chunks v b cursor ++ following v b taken cut r old
-still_on v v' b cursor taken cut r step old new e o s =
-    ap (λ x. cursor_chunks x b cursor ++ following x b taken cut r new) e
-    ∙ ap (λ x. cursor_chunks v b cursor ++ x) (sym s ∙ ap (following v b taken cut r) (sym o))
+-- so all is seen where the replay is closed, and where the walk is over
+pub seen_if_shut : {b : List ℕ} {c : Chunks} → c.run_cursor.next ≡ c.run_cursor.count →
+    is_replay_open c.keeping.cut (replay_in c.keeping) ≡ false → HasSeenAll b c
+seen_if_shut {b = b} {c = c} e h =
+    let none = unseen b c (steps_left b c.walk) h in
+    record { chunks = rw (no_run_cursor c.walk.geometry.layout b c.run_cursor e) none.0; gap = none.1 }
 
-pub tail_on : (v v' : Layout) (b : List ℕ) (cursor : RunCursor) (taken cut : ℕ) (r : Replay) (old new : List Step)
-    → v' ≡ v → old ≡ Tail ∷ new
-    → cursor_chunks v' b cursor ++ following v' b taken cut r new
-    ≡ cursor_chunks v b cursor ++ following v b taken cut r old
-tail_on v v' b cursor taken cut r old new e o =
-    still_on v v' b cursor taken cut r Tail old new e o (tail_after v b taken cut r new)
+pub seen_if_over : {b : List ℕ} {c : Chunks} → c.run_cursor.next ≡ c.run_cursor.count → IsOver c.walk → HasSeenAll b c
+seen_if_over {b = b} {c = c} e o =
+    let none = over_rest b c.walk o in
+    record {
+      chunks = rw (no_run_cursor c.walk.geometry.layout b c.run_cursor e) (ap (chunks_after b c) none);
+      gap = ap (gap_after c) none;
+    }
 
--- over Gaps, a first one and more
-gaps_after : (v : Layout) (b : List ℕ) (taken cut : ℕ) (r : Replay) (n : ℕ) (steps : List Step) →
-    following v b taken cut r (replicate n Gap ++ steps) ≡ following v b taken cut r steps
-gaps_after v b taken cut r zero steps = refl
-gaps_after v b taken cut r (suc n) steps =
-    gap_after v b taken cut r (replicate n Gap ++ steps) ∙ gaps_after v b taken cut r n steps
+-- where no hole is left, what was seen stands
+pub gap_ended : (gap left : Bool) → left ≡ false → (gap || left) ≡ gap
+gap_ended true left e = refl
+gap_ended false left e = e
 
-pub gaps_on : (v v' : Layout) (b : List ℕ) (cursor : RunCursor) (taken cut : ℕ) (r : Replay) (n : ℕ) (old new : List Step)
-    → v' ≡ v → old ≡ Gap ∷ (replicate n Gap ++ new)
-    → cursor_chunks v' b cursor ++ following v' b taken cut r new
-    ≡ cursor_chunks v b cursor ++ following v b taken cut r old
-gaps_on v v' b cursor taken cut r n old new e o =
-    ap (λ x. cursor_chunks x b cursor ++ following x b taken cut r new) e
-    ∙ ap (λ x. cursor_chunks v b cursor ++ x)
-    (sym (gaps_after v b taken cut r (suc n) new) ∙ ap (following v b taken cut r) (sym o))
+-- ---- a step that is no Run
+-- the chunks of steps that are kept
+abbrev kept_chunks : List ℕ → Chunks → List Step → List Chunk
+kept_chunks b c steps = chunks_of (reading_by c.walk.geometry.layout b c.bytes_to_read)
+    (is_run_in_range c.walk.geometry.layout) steps
 
--- where the steps are the same
-pub steps_on : (v v' : Layout) (b : List ℕ) (cursor : RunCursor) (taken cut : ℕ) (r : Replay) (old new : List Step)
-    → v' ≡ v → old ≡ new
-    → cursor_chunks v' b cursor ++ following v' b taken cut r new
-    ≡ cursor_chunks v b cursor ++ following v b taken cut r old
-steps_on v v' b cursor taken cut r old new e o =
-    ap (λ x. cursor_chunks x b cursor ++ following x b taken cut r new) e ∙ ap
-    (λ x. cursor_chunks v b cursor ++ following v b taken cut r x) (sym o)
+-- whether the next step is seen, and which of the steps to come are kept
+abbrev is_seen : Chunks → Bool
+is_seen c = is_replay_open c.keeping.cut (replay_in c.keeping)
 
-pub end_none : (v : Layout) (b : List ℕ) (cursor : RunCursor) (taken cut : ℕ) (r : Replay) (new : List Step) →
-    cursor.next ≡ cursor.count → new ≡ [] → cursor_chunks v b cursor ++ following v b taken cut r new ≡ []
-end_none v b cursor taken cut r new e n = ap (λ x. x ++ following v b taken cut r new) (no_run_cursor v b cursor e)
-    ∙ ap (following v b taken cut r) n
+abbrev steps_kept : Chunks → List Step → List Step
+steps_kept c steps = replayed_steps c.walk.geometry.layout c.keeping.cut (replay_in c.keeping) steps
 
-pub unseen_none : (v : Layout) (b : List ℕ) (cursor : RunCursor) (taken cut : ℕ) (r : Replay) (steps : List Step) →
-    cursor.next ≡ cursor.count → is_replay_open cut r ≡ false
-    → cursor_chunks v b cursor ++ following v b taken cut r steps ≡ []
-unseen_none v b cursor taken cut r steps e n = ap (λ x. x ++ following v b taken cut r steps) (no_run_cursor v b cursor e)
-    ∙ none_seen v b taken cut r steps n
+-- kept or not, a step without chunks has none, and one that is no Gap is no hole
+no_chunk : (b : List ℕ) (c : Chunks) (step : Step) (kept : Bool) (steps : List Step) →
+    kept_chunks b c (step ∷ steps) ≡ kept_chunks b c steps →
+    kept_chunks b c ((if kept then step ∷ [] else []) ++ steps) ≡ kept_chunks b c steps
+no_chunk b c step true steps e = e
+no_chunk b c step false steps e = refl
 
-pub runs_on : (v v' : Layout) (cut : ℕ) (r : Replay) (old steps : List Step) → v' ≡ v → old ≡ steps →
-    replayed_runs v' cut r steps ≡ replayed_runs v cut r old
-runs_on v v' cut r old steps e o = ap (λ x. replayed_runs x cut r steps) e ∙ ap (replayed_runs v cut r) (sym o)
+no_hole : (step : Step) (kept : Bool) (steps : List Step) → is_gap step ≡ false →
+    has_gap ((if kept then step ∷ [] else []) ++ steps) ≡ has_gap steps
+no_hole step true steps e = rw e refl
+no_hole step false steps e = refl
 
--- the state after a Run, with the steps that its walk has left
-pub walked : (b : List ℕ) (c : Chunks) (w : Walk) → c.walk ≡ w →
-    all_chunks b c ≡ cursor_chunks c.walk.geometry.layout b c.run_cursor ++ chunks_after b c (steps_left b w)
-walked b c w e = ap (λ x. cursor_chunks c.walk.geometry.layout b c.run_cursor ++ chunks_after b c (steps_left b x)) e
+gaps_after : (b : List ℕ) (c : Chunks) (n : ℕ) (steps : List Step) →
+    chunks_after b c (replicate n Gap ++ steps) ≡ chunks_after b c steps
+gaps_after b c zero steps = refl
+gaps_after b c (suc n) steps =
+    no_chunk b c Gap (is_seen c) (steps_kept c (replicate n Gap ++ steps)) refl ∙ gaps_after b c n steps
 
-pub walked_runs : (b : List ℕ) (c : Chunks) (w : Walk) → c.walk ≡ w → runs_left b c ≡ runs_after c (steps_left b w)
-walked_runs b c w e = ap (λ x. runs_after c (steps_left b x)) e
+-- a step of its walk changes no more of a reading than the walk, and whether a hole was seen
+pub record OnlyWalks (c c' : Chunks) : Type 0 where
+  pub geometry : c'.walk.geometry ≡ c.walk.geometry
+  pub keeping : c'.keeping ≡ c.keeping
+  pub bytes_to_read : c'.bytes_to_read ≡ c.bytes_to_read
+  pub budget : c'.budget ≡ c.budget
+  pub run_cursor : c'.run_cursor ≡ c.run_cursor
+  pub runs : c'.runs ≡ c.runs
 
-pub runs_tail : (v v' : Layout) (cut : ℕ) (r : Replay) (old new : List Step) → v' ≡ v → old ≡ Tail ∷ new →
-    replayed_runs v' cut r new ≡ replayed_runs v cut r old
-runs_tail v v' cut r old new e o = ap (λ x. replayed_runs x cut r new) e
-    ∙ (zero_more (replayed_runs v cut r new) ∙ ap (replayed_runs v cut r) (sym o))
-  where
-    zero_more : (n : ℕ) → n ≡ 0 + n
-    zero_more n = omega arith
+pub only_walks : {c c' : Chunks} → c'.walk.geometry ≡ c.walk.geometry → c'.keeping ≡ c.keeping →
+    c'.bytes_to_read ≡ c.bytes_to_read → c'.budget ≡ c.budget → c'.run_cursor ≡ c.run_cursor → c'.runs ≡ c.runs →
+    OnlyWalks c c'
+only_walks e k t n h r =
+    record { geometry = e; keeping = k; bytes_to_read = t; budget = n; run_cursor = h; runs = r }
 
-pub runs_gaps : (v v' : Layout) (cut : ℕ) (r : Replay) (n : ℕ) (old new : List Step) → v' ≡ v →
-    old ≡ Gap ∷ (replicate n Gap ++ new) → replayed_runs v' cut r new ≡ replayed_runs v cut r old
-runs_gaps v v' cut r n old new e o = ap (λ x. replayed_runs x cut r new) e
-    ∙ (sym (gaps_seen v cut r (suc n) new) ∙ ap (replayed_runs v cut r) (sym o))
+pub same_walked : {c c' c'' : Chunks} → IsSame c c' → OnlyWalks c' c'' → IsSame c c''
+same_walked h s = record {
+  geometry = s.geometry ∙ h.geometry;
+  cut = ap (λ k. k.cut) s.keeping ∙ h.cut;
+  bytes_to_read = s.bytes_to_read ∙ h.bytes_to_read;
+  budget = s.budget ∙ h.budget;
+  runs = omega (arith, h.runs, s.runs);
+}
+
+-- so it continues where the steps to come have the same chunks, Runs and holes
+goes_on : {b : List ℕ} {c c' : Chunks} {old new : List Step} → OnlyWalks c c' →
+    chunks_after b c old ≡ chunks_after b c new → runs_after c old ≡ runs_after c new →
+    (c'.gap || gap_after c new) ≡ (c.gap || gap_after c old) → Continues b c old c' new
+goes_on s chunks runs gap = record {
+  chunks = rw (s.geometry, s.keeping, s.bytes_to_read, s.run_cursor, chunks) refl;
+  runs = rw (s.geometry, s.keeping, s.runs, runs) (counts_here _);
+  gap = rw (s.geometry, s.keeping) gap;
+}
+
+-- with the same steps to come, as those of a Run that is seen next, over a Tail, and over Gaps
+pub walks_on : {b : List ℕ} {c c' : Chunks} {old new : List Step} → OnlyWalks c c' → c'.gap ≡ c.gap → old ≡ new →
+    Continues b c old c' new
+walks_on s gap e = rw e (goes_on s refl refl (rw gap refl))
+
+pub sees_on : {b : List ℕ} {c m c' : Chunks} {old : List Step} {run : Step} {w : Walk} → c'.walk ≡ w →
+    Continues b m (run ∷ steps_left b w) c' (steps_left b w) → OnlyWalks c m → m.gap ≡ c.gap →
+    old ≡ run ∷ steps_left b w → Continues b c old c' (steps_left b c'.walk)
+sees_on {b = b} walk after s gap e = rw (ap (steps_left b) walk) (continues_more (walks_on s gap e) after)
+
+pub over_tail : {b : List ℕ} {c c' : Chunks} {old new : List Step} → OnlyWalks c c' → c'.gap ≡ c.gap →
+    old ≡ Tail ∷ new → Continues b c old c' new
+over_tail {b = b} {c = c} {new = new} s gap e = rw e (goes_on s
+    (no_chunk b c Tail (is_seen c) (steps_kept c new) refl) (omega arith)
+    (rw gap (ap (λ x. c.gap || x) (sym (no_hole Tail (is_seen c) (steps_kept c new) refl)))))
+
+pub over_gaps : {b : List ℕ} {c c' : Chunks} {old new : List Step} (n : ℕ) → OnlyWalks c c' → c'.gap ≡ true →
+    is_replay_open c.keeping.cut (replay_in c.keeping) ≡ true → old ≡ Gap ∷ (replicate n Gap ++ new) →
+    Continues b c old c' new
+over_gaps {b = b} {c = c} {new = new} n s gap seen e = rw e (goes_on s (gaps_after b c (suc n) new)
+    (gaps_seen c.walk.geometry.layout c.keeping.cut (replay_in c.keeping) (suc n) new)
+    (rw (gap, seen) (sym (or_right c.gap true refl))))
+
+-- the Runs that are left then, by a layout that is the same
+pub runs_on : {v v' : Layout} {old new : List Step} (k : Keeping) → v' ≡ v → old ≡ new →
+    replayed_runs v' k.cut (replay_in k) new ≡ replayed_runs v k.cut (replay_in k) old
+runs_on k same e = rw (same, e) refl
+
+pub runs_tail : {v v' : Layout} {old new : List Step} (k : Keeping) → v' ≡ v → old ≡ Tail ∷ new →
+    replayed_runs v' k.cut (replay_in k) new ≡ replayed_runs v k.cut (replay_in k) old
+runs_tail k same e = rw (same, e) (omega arith)
+
+pub runs_gaps : {v v' : Layout} {old : List Step} (k : Keeping) (n : ℕ) (new : List Step) → v' ≡ v →
+    old ≡ Gap ∷ (replicate n Gap ++ new) →
+    replayed_runs v' k.cut (replay_in k) new ≡ replayed_runs v k.cut (replay_in k) old
+runs_gaps {v = v} k n new same e = rw (same, e) (sym (gaps_seen v k.cut (replay_in k) (suc n) new))
+
+-- ---- a Run that is seen
+-- it is counted, and replayed: so many of its offers are kept
+pub record SeesBy (c c' : Chunks) (start len : ℕ) (block : Option ℕ) (taken : ℕ) : Type 0 where
+  pub can : CanSee c (Run start len block)
+  pub walk : c'.walk ≡ c.walk
+  pub bytes_to_read : c'.bytes_to_read ≡ c.bytes_to_read
+  pub cut : c'.keeping.cut ≡ c.keeping.cut
+  pub replays : Replays c.walk.geometry.layout start len block c.keeping c'.keeping taken
+  pub runs : c'.runs ≡ min (c.runs + 1) (2 ^ 64 - 1)
+  pub gap : c'.gap ≡ c.gap
+
+run_chunks_kept : (b : List ℕ) (c : Chunks) (step : Step) (kept : Bool) (steps : List Step) →
+    (if kept then step_chunks (reading_by c.walk.geometry.layout b c.bytes_to_read)
+    (is_run_in_range c.walk.geometry.layout) step else []) ++ kept_chunks b c steps
+    ≡ kept_chunks b c ((if kept then step ∷ [] else []) ++ steps)
+run_chunks_kept b c step true steps = refl
+run_chunks_kept b c step false steps = refl
+
+runs_seen : {c c' : Chunks} {start len taken : ℕ} {block : Option ℕ} → SeesBy c c' start len block taken →
+    (steps : List Step) → 1 + runs_after c' steps ≡ runs_after c (Run start len block ∷ steps)
+runs_seen {c = c} {start = start} {len = len} {block = block} s steps =
+    let run = Run start len block in
+    let same = (counted_same c.walk.geometry.layout 0 c.keeping.cut (replay_in c.keeping) run steps).runs_are in
+    let seen : seen_run c.keeping.cut (replay_in c.keeping) run ≡ 1 = rw s.can.seen refl in
+    rw (s.walk, s.cut, s.replays.after) (omega arith)
+
+-- the reading continues with the chunks of the Run, where all its offers are kept
+pub sees : {b : List ℕ} {c c' : Chunks} {start len taken : ℕ} {block : Option ℕ} → SeesBy c c' start len block taken →
+    cursor_chunks c.walk.geometry.layout b c'.run_cursor
+    ≡ (if taken == len then step_chunks (reading_by c.walk.geometry.layout b c.bytes_to_read)
+    (is_run_in_range c.walk.geometry.layout) (Run start len block) else []) → (steps : List Step) →
+    Continues b c (Run start len block ∷ steps) c' steps
+sees {b = b} {c = c} {start = start} {len = len} {block = block} s found steps =
+    let v = c.walk.geometry.layout in
+    let r = replay_in c.keeping in
+    let run = Run start len block in
+    let kept = is_replayed v c.keeping.cut r run in
+    let rest = replayed_steps v c.keeping.cut (replay_after_step v c.keeping.cut r run) steps in
+    let same = (counted_same v 0 c.keeping.cut r run steps).steps_are in
+    let runs = s.runs in
+    let seen = runs_seen s steps in
+    record {
+      chunks = rw (
+        s.walk,
+        s.bytes_to_read,
+        s.cut,
+        s.replays.after,
+        found,
+        no_run_cursor v b c.run_cursor s.can.empty,
+        ← same,
+        s.replays.kept,
+      ) (run_chunks_kept b c run kept rest);
+      runs = record { most = omega arith; all = λ small. omega arith };
+      gap = rw (s.gap, s.walk, s.cut, s.replays.after, ← same)
+          (ap (λ x. c.gap || x) (sym (no_hole run kept rest refl)));
+    }
+
+-- and it takes one read at most
+pub sees_once : {c c' : Chunks} {start len taken : ℕ} {block : Option ℕ} → SeesBy c c' start len block taken →
+    unread_run c'.run_cursor + entered (Run start len block) ≤ 1 → ((w : Window) → HoldsRun w c'.run_cursor) →
+    SeesRun c c' start len block
+sees_once s few held = record { reads = λ steps. let seen = runs_seen s steps in omega (arith, few); held = held }
+
+-- where it has no chunk, the current Run has none left still
+none_unless : {A : Type 0} (x : Bool) (xs : List A) → (x ≡ true → xs ≡ []) → (if x then xs else []) ≡ []
+none_unless true xs h = h refl
+none_unless false xs h = refl
+
+pub sees_none : {b : List ℕ} {c c' : Chunks} {start len taken : ℕ} {block : Option ℕ} →
+    SeesBy c c' start len block taken → c'.run_cursor ≡ c.run_cursor →
+    ((taken == len) ≡ true → step_chunks (reading_by c.walk.geometry.layout b c.bytes_to_read)
+    (is_run_in_range c.walk.geometry.layout) (Run start len block) ≡ []) → (steps : List Step) →
+    Continues b c (Run start len block ∷ steps) c' steps
+sees_none {b = b} {c = c} {len = len} {taken = taken} s same none =
+    sees s (rw same (no_run_cursor c.walk.geometry.layout b c.run_cursor s.can.empty
+    ∙ sym (none_unless (taken == len) _ none)))
+
+pub sees_none_once : {c c' : Chunks} {start len taken : ℕ} {block : Option ℕ} → SeesBy c c' start len block taken →
+    c'.run_cursor ≡ c.run_cursor → SeesRun c c' start len block
+sees_none_once {c = c} {start = start} {len = len} {block = block} s same = sees_once s
+    (rw same (omega (arith, run_over c.run_cursor s.can.empty, entered_one start len block)))
+    (rw same (over_held c.run_cursor s.can.empty))
+
+-- as a Run that isn't in range
+pub no_data : (v : Layout) (b : List ℕ) (taken start len : ℕ) (block : Option ℕ) → is_run_in_range v start len ≡ false →
+    step_chunks (reading_by v b taken) (is_run_in_range v) (Run start len block) ≡ []
+no_data v b taken start len None h = refl
+no_data v b taken start len (Some place) h = rw h refl

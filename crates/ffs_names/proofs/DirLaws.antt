@@ -1,30 +1,21 @@
 -- A reading of a directory gives the entries that the volume has there.
-use Rattle.std.proofs.Common.{◌≡◌, ℕ, ◌+◌, ◌*◌, ◌<◌, ◌^◌, Bool, true, false, List, arith, refl, ap, ◌∙◌}
-use Rattle.std.specs.Prelude.{slice_index, drop, nat_lt, ◌&&◌, ◌||◌, ◌==◌, not, if◌then◌else◌}
-use Rattle.std.specs.List.{flat_map}
-use Rattle.std.proofs.lemmas.Bool.{or_parts}
-use Rattle.std.proofs.lemmas.Bool.Decides.{nat_tests}
-use Rattle.ffs_volume.specs.declared.Layout.{Layout}
-use Rattle.ffs_volume.specs.declared.Inode.{Inode}
-use Rattle.ffs_volume.specs.declared.Class.{Class}
-use Rattle.ffs_volume.specs.declared.Class.TheVariants.{Free, Partial, Unknown, File, Dir}
-use Rattle.ffs_volume.specs.Disk.Areas.{is_run_in_range}
-use Rattle.ffs_volume.specs.Laws.Geometry.{IsAcceptedLayout}
-use Rattle.ffs_volume.specs.Blocks.Inodes.{inode_of, class_of, type_of, is_known_type, any_nonzero, is_too_large}
-use Rattle.ffs_volume.specs.Blocks.Inodes.{addresses_allowed, is_directory}
-use Rattle.ffs_volume.specs.Blocks.Steps.{steps_of}
-use Rattle.ffs_volume.specs.Directories.Entries.{chunks_of, has_gap, bytes_read}
-use Rattle.ffs_volume.specs.Directories.Roles.{is_dir, roled_chunk, roled_entries}
-use Rattle.ffs_volume.specs.Directories.Volumes.{is_inode_number, volume_of, volume_with, chunk_source_of}
-use Rattle.ffs_volume.specs.Encodings.Replay.{cut_at, fresh_replay, replayed_steps}
+use Rattle.std.proofs.Common.{◌≡◌, ℕ, ◌+◌, ◌*◌, ◌<◌, ◌^◌, ◌==◌, Bool, true, false, not, ◌&&◌, ◌||◌, nat_lt}
+use Rattle.std.proofs.Common.{if◌then◌else◌}
+use Rattle.std.proofs.Common.{List, arith, drop, flat_map, refl, slice_index}
+use Rattle.std.proofs.{lemmas.Bool.or_parts, lemmas.Bool.Decides.nat_tests}
 use Rattle.ffs_volume.proofs.CutLaws.{replay_at}
-use Rattle.ffs_volume.specs.Encodings.Kinds.{kind_at}
-use Rattle.ffs_survey.specs.Survey.{dir_at}
-use Rattle.ffs_survey.specs.SurveyLaws.{dirs_of_kinds}
-use Rattle.ffs_volume.specs.declared.Step.{Step}
-use Rattle.ffs_volume.specs.Directories.PathnameCheck.{are_sound}
-use Rattle.ffs_names.specs.RightShapes.{is_right_size, is_right_shape}
-use Rattle.ffs_names.specs.RunCursors.{reading_by}
+use Rattle.ffs_volume.specs.declared.{Class.Class, Inode.Inode, Layout.Layout}
+use Rattle.ffs_volume.specs.declared.Class.TheVariants.{Free, Partial, Unknown, File, Dir}
+use Rattle.ffs_volume.specs.Blocks.Inodes.{addresses_allowed, any_nonzero, class_of, inode_of, is_directory}
+use Rattle.ffs_volume.specs.Blocks.Inodes.{is_known_type}
+use Rattle.ffs_volume.specs.Blocks.{Inodes.is_too_large, Inodes.type_of, Steps.steps_of}
+use Rattle.ffs_volume.specs.Directories.Entries.{bytes_read, chunks_of, has_gap}
+use Rattle.ffs_volume.specs.Directories.{PathnameCheck.are_sound, Roles.is_dir, Roles.roled_chunk, Roles.roled_entries}
+use Rattle.ffs_volume.specs.Directories.Volumes.{chunk_source_of, is_inode_number, volume_of, volume_with}
+use Rattle.ffs_volume.specs.{Disk.Areas.is_run_in_range, Encodings.Kinds.kind_at, Laws.Geometry.IsAcceptedLayout}
+use Rattle.ffs_volume.specs.Encodings.Replay.{cut_at, fresh_replay, replayed_steps}
+use Rattle.ffs_survey.specs.{Survey.dir_at, SurveyLaws.dirs_of_kinds}
+use Rattle.ffs_names.specs.{RightShapes.is_right_shape, RightShapes.is_right_size, RunCursors.reading_by}
 
 class_by : Bool → Bool → Bool → Bool → Class
 class_by none free bad four = if none then (if free then Free else Partial)
@@ -33,19 +24,17 @@ class_by none free bad four = if none then (if free then Free else Partial)
 dir_by : (none free bad four : Bool) → class_by none free bad four ≡ Dir → (bad ≡ false) × (four ≡ true)
 unfolding class_by
 dir_by true true bad four h = cc
-dir_by true false bad four h = cc
-dir_by false free true four h = cc
 dir_by false free false true h = (refl, refl)
-dir_by false free false false h = cc
+dir_by _ _ _ _ h = cc
 
 below : (four : Bool) (size : ℕ) → four ≡ true → (four && nat_lt 2147483647 size) ≡ false → size < 2147483648
 below true size e h = grind (arith, nat_tests)
 below false size e h = absurd (cc)
 
--- a directory has less than 2^31 bytes
-pub dir_size : (v : Layout) (i : Inode) → class_of v i ≡ Dir → i.size < 2 ^ 31
+-- a directory has less than 2^31 bytes, and the type of one
+pub dir_parts : (v : Layout) (i : Inode) → class_of v i ≡ Dir → (i.size < 2 ^ 31) × ((type_of i.mode == 4) ≡ true)
 unfolding class_of class_by
-dir_size v i h =
+dir_parts v i h =
     let d = dir_by (type_of i.mode == 0) (i.mode == 0 && (i.size == 0 && not (any_nonzero i.addresses)))
     (not (is_known_type (type_of i.mode)) || (is_too_large v i || any_nonzero
     (drop (addresses_allowed v i) i.addresses)))
@@ -55,24 +44,14 @@ dir_size v i h =
     let e = or_parts (is_too_large v i) (any_nonzero (drop (addresses_allowed v i) i.addresses)) a.1 in
     let f = or_parts (nat_lt ((12 + v.nindir + v.nindir * v.nindir + v.nindir * v.nindir * v.nindir) * v.bsize) i.size)
     (type_of i.mode == 4 && nat_lt 2147483647 i.size) e.0 in
-    below (type_of i.mode == 4) i.size d.1 f.1
+    (below (type_of i.mode == 4) i.size d.1 f.1, d.1)
 
--- a directory has the type of one
-pub dir_type : (v : Layout) (i : Inode) → class_of v i ≡ Dir → (type_of i.mode == 4) ≡ true
-unfolding class_of class_by
-dir_type v i h =
-    (dir_by (type_of i.mode == 0) (i.mode == 0 && (i.size == 0 && not (any_nonzero i.addresses)))
-    (not (is_known_type (type_of i.mode)) || (is_too_large v i || any_nonzero
-    (drop (addresses_allowed v i) i.addresses)))
-    (type_of i.mode == 4) h).1
+pub dir_size : (v : Layout) (i : Inode) → class_of v i ≡ Dir → i.size < 2 ^ 31
+dir_size v i h = (dir_parts v i h).0
 
 dir_number : (a : Bool) (c : Class) → (a && is_directory (if a then c else Free)) ≡ true → (a ≡ true) × (c ≡ Dir)
 dir_number true Dir h = (refl, refl)
-dir_number true File h = cc
-dir_number true Unknown h = cc
-dir_number true Partial h = cc
-dir_number true Free h = cc
-dir_number false c h = cc
+dir_number _ _ h = cc
 
 pub dir_is : (v : Layout) (b : List ℕ) (d : ℕ) → is_dir (volume_of v b) d ≡ true → (is_inode_number v d ≡ true)
     × (class_of v (inode_of v b d) ≡ Dir)
@@ -86,15 +65,7 @@ pub dir_seen : (v : Layout) (b : List ℕ) (d : ℕ) (i : Inode) (cut : ℕ) →
     → flat_map roled_chunk (chunks_of (reading_by v b (bytes_read i.size)) (is_run_in_range v)
     (replayed_steps v cut fresh_replay (steps_of v i b))) ≡ roled_entries (volume_of v b) d
 unfolding volume_of volume_with chunk_source_of roled_entries
-dir_seen v b d i cut g n e c =
-    ap (λ (x : Inode). flat_map roled_chunk
-    (chunks_of (reading_by v b (bytes_read x.size)) (is_run_in_range v)
-    (replayed_steps v cut fresh_replay (steps_of v x b)))) e
-    ∙ (ap (λ x. flat_map roled_chunk
-    (chunks_of (reading_by v b (bytes_read (inode_of v b d).size)) (is_run_in_range v)
-    (replayed_steps v x fresh_replay (steps_of v (inode_of v b d) b)))) c
-    ∙ ap (λ xs. flat_map roled_chunk
-    (chunks_of (reading_by v b (bytes_read (inode_of v b d).size)) (is_run_in_range v) xs)) (replay_at v b d g n))
+dir_seen v b d i cut g n e c = rw (e, c, replay_at v b d g n) refl
 
 -- kinds say which inodes are directories
 pub kind_dirs : (v : Layout) (b kinds : List ℕ) (x : ℕ) → slice_index kinds x ≡ kind_at v b x →
@@ -103,19 +74,11 @@ unfolding kind_at
 kind_dirs v b kinds x h = dirs_of_kinds v b kinds x h
 
 -- the shape of a directory
-pub shape_seen : (v : Layout) (b : List ℕ) (d : ℕ) (i : Inode) (cut : ℕ) → IsAcceptedLayout v → is_inode_number v d ≡
-    true
-    → i ≡ inode_of v b d → cut ≡ cut_at v b d
+pub shape_seen : (v : Layout) (b : List ℕ) (d : ℕ) (i : Inode) (cut : ℕ) → IsAcceptedLayout v →
+    is_inode_number v d ≡ true → i ≡ inode_of v b d → cut ≡ cut_at v b d
     → (is_right_size i.size &&
     (are_sound (chunks_of (reading_by v b (bytes_read i.size)) (is_run_in_range v)
     (replayed_steps v cut fresh_replay (steps_of v i b)))
     && not (has_gap (replayed_steps v cut fresh_replay (steps_of v i b))))) ≡ is_right_shape (volume_of v b) d
 unfolding volume_of volume_with chunk_source_of
-shape_seen v b d i cut g n e c =
-    ap (λ (x : Inode). by x (replayed_steps v cut fresh_replay (steps_of v x b))) e
-    ∙ (ap (λ x. by (inode_of v b d) (replayed_steps v x fresh_replay (steps_of v (inode_of v b d) b))) c
-    ∙ ap (by (inode_of v b d)) (replay_at v b d g n))
-  where
-    by : Inode → List Step → Bool
-    by x steps = is_right_size x.size
-        && (are_sound (chunks_of (reading_by v b (bytes_read x.size)) (is_run_in_range v) steps) && not (has_gap steps))
+shape_seen v b d i cut g n e c = rw (e, c, replay_at v b d g n) refl

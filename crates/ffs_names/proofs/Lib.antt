@@ -1,19 +1,16 @@
-pub mod RunChunks
-pub mod SeenSteps
+pub mod Continuing
+pub mod ReadCounts
 pub mod Advances
-pub mod Pieces
+pub mod RunChunks
 pub mod Begins
 pub mod Entered
-pub mod DirLaws
-mod OneChunks
-pub mod SameGraphs
-pub mod PlacesNoted
-pub mod SurveyHolds
-pub mod RunsSeen
-pub mod GapsLeft
-pub mod Continuing
 mod Shaped
-pub mod ReadCounts
 pub mod EntryCounts
+pub mod DirLaws
 pub mod DirCosts
+mod OneChunks
+mod NotedDirs
 pub mod RunSums
+pub mod SameGraphs
+pub mod SurveyHolds
+pub mod PlacesNoted

@@ -1,34 +1,27 @@
 -- A directory of one chunk is known by where its only block is.
-use Rattle.std.proofs.Common.{◌≡◌, ℕ, zero, suc, ◌+◌, ◌*◌, ◌%◌, ◌<◌, ◌≤◌, Bool, true, false, List, [], ◌∷◌, arith, refl, ap, sym, ◌∙◌}
-use Rattle.std.specs.Prelude.{Some, ◌++◌, take, slice_index, drop, nat_lt, ◌&&◌, ◌||◌, ◌==◌, not, if◌then◌else◌, replicate}
-use Rattle.std.specs.Int.{div_ceil}
-use Rattle.std.proofs.lemmas.Grind.{div_ceil_times}
-use Rattle.std.proofs.lemmas.Bool.Decides.{nat_tests}
-use Rattle.std.proofs.Math.Nat.{mul-le-mul_right, mod-eq_of_lt}
-use Rattle.ffs_volume.specs.declared.Layout.{Layout}
-use Rattle.ffs_volume.specs.declared.Inode.{Inode}
-use Rattle.ffs_volume.specs.declared.Class.{Class}
-use Rattle.ffs_volume.specs.declared.Class.TheVariants.{Unknown, Dir}
-use Rattle.ffs_volume.specs.declared.Step.{Step}
-use Rattle.ffs_volume.specs.declared.Step.TheVariants.{Run, Gap}
-use Rattle.ffs_volume.specs.Laws.Geometry.{IsAcceptedLayout}
-use Rattle.ffs_volume.specs.Blocks.Inodes.{class_of, type_of, any_nonzero}
-use Rattle.ffs_volume.specs.Blocks.Inodes.{addresses_needed, logical_blocks_of, is_short_symlink, is_device, is_file_or_dir}
-use Rattle.ffs_volume.specs.Blocks.Steps.{steps_of, steps_at, steps_of_addresses, data_step, is_walked, last_length_of}
-use Rattle.std.specs.List.{flat_map}
-use Rattle.ffs_volume.specs.Disk.Areas.{is_run_in_range}
-use Rattle.ffs_volume.specs.Directories.Entries.{Chunk, chunks_of, has_gap, bytes_read, run_chunks}
-use Rattle.ffs_volume.specs.Directories.Roles.{RoledEntry, roled_chunk}
-use Rattle.ffs_volume.specs.Directories.PathnameCheck.{are_sound}
-use Rattle.ffs_volume.specs.Encodings.Replay.{Replay, fresh_replay, replayed_steps}
-use Rattle.ffs_volume.specs.Encodings.ReplayCounts.{replayed_runs}
-use Rattle.ffs_names.specs.RightShapes.{is_right_size}
-use Rattle.ffs_names.specs.RunCursors.{reading_by}
-use Rattle.ffs_names.specs.Readings.{chunks_in}
+use Rattle.std.proofs.Common.{◌≡◌, ℕ, zero, suc, ◌+◌, ◌*◌, ◌%◌, ◌<◌, ◌≤◌, ◌==◌, Bool, true, false, not, ◌&&◌}
+use Rattle.std.proofs.Common.{List, []}
+use Rattle.std.proofs.Common.{◌∷◌, ◌++◌, Some, arith, refl, ap, sym, ◌∙◌, flat_map, if◌then◌else◌, mod-eq_of_lt}
+use Rattle.std.proofs.Common.{mul-le-mul_right}
+use Rattle.std.proofs.Common.{nat_lt, slice_index, take}
+use Rattle.std.{specs.Int.div_ceil, proofs.lemmas.Grind.div_ceil_times, proofs.lemmas.Bool.Decides.nat_tests}
+use Rattle.ffs_volume.specs.declared.{Class.TheVariants.Dir, Inode.Inode, Layout.Layout, Step.Step}
+use Rattle.ffs_volume.specs.declared.Step.TheVariants.{Run}
+use Rattle.ffs_volume.specs.Blocks.Inodes.{class_of, type_of}
+use Rattle.ffs_volume.specs.Blocks.Steps.{data_step, is_walked, steps_at, steps_of}
+use Rattle.ffs_volume.specs.Directories.Entries.{bytes_read, chunks_of, has_gap, run_chunks}
+use Rattle.ffs_volume.specs.Directories.{PathnameCheck.are_sound, Roles.RoledEntry, Roles.roled_chunk}
+use Rattle.ffs_volume.specs.{Disk.Areas.is_run_in_range, Laws.Geometry.IsAcceptedLayout}
+use Rattle.ffs_volume.specs.Encodings.{Replay.fresh_replay, Replay.replayed_steps, ReplayCounts.replayed_runs}
+use Rattle.ffs_walk.proofs.Counted.{top_held, top_unread}
+use Rattle.ffs_walk.specs.Rests.{IsAtTop, IsOver}
+use Rattle.ffs_walk.specs.Keepings.{replay_in}
 use Rattle.ffs_workspace.proofs.NoteLaws.{IsOneChunkAt}
-use Rattle.ffs_names.specs.OneChunk.{one_chunk_at}
-use Rattle.ffs_names.proofs.Begins.{begun}
-use Rattle.ffs_names.proofs.DirLaws.{dir_type}
+use Rattle.ffs_names.specs.{Costs.BeginsAtChunk, OneChunk.one_chunk_at, Readings.chunks_in, Readings.gap_after}
+use Rattle.ffs_names.specs.{RightShapes.is_right_size, RunCursors.cursor_chunks, RunCursors.reading_by}
+use Rattle.ffs_names.specs.declared.chunks.Chunks.{Chunks}
+use Rattle.ffs_names.proofs.{Advances.over_rest, Advances.over_runs, Begins.all_taken, DirLaws.dir_parts}
+use Rattle.ffs_names.proofs.ReadCounts.{first_held, run_at_most}
 
 one : (q b : ℕ) → 512 ≤ q * b → q * b < 512 + b → 512 ≤ b → q ≡ 1
 one zero b low high big = absurd (omega arith)
@@ -47,8 +40,7 @@ one_fragment v g =
     let low = g.sizes.fsize_low in
     let t = div_ceil_times 512 v.fsize (omega arith) in
     let small : 512 % v.bsize ≡ 512 = mod-eq_of_lt (omega (arith, g.sizes.bsize_low)) in
-    ap (λ (n : ℕ). if n == 0 then v.frag else div_ceil n v.fsize) small
-    ∙ one (div_ceil 512 v.fsize) v.fsize t.0 t.1 low
+    rw small (one (div_ceil 512 v.fsize) v.fsize t.0 t.1 low)
 
 too_small : (n b : ℕ) → 4096 ≤ b → nat_lt ((12 + n + n * n + n * n * n) * b) 512 ≡ false
 too_small n b low =
@@ -58,10 +50,7 @@ too_small n b low =
 
 pub one_chunk_class : (v : Layout) (a : ℕ) → IsAcceptedLayout v → class_of v (one_chunk_at a) ≡ Dir
 unfolding class_of
-one_chunk_class v a g =
-    let large = too_small v.nindir v.bsize g.sizes.bsize_low in
-    ap (λ (x : Bool). if x || any_nonzero (drop (addresses_needed v.nindir (div_ceil 512 v.bsize)) (a ∷ replicate 14 0)) then Unknown else Dir) (ap (λ (x : Bool). x || false) large)
-    ∙ ap (λ (n : ℕ). if any_nonzero (drop (addresses_needed v.nindir n) (a ∷ replicate 14 0)) then Unknown else Dir) (one_block v g)
+one_chunk_class v a g = rw (too_small v.nindir v.bsize g.sizes.bsize_low, one_block v g) refl
 
 eqb : (n : ℕ) → (n == 4) ≡ true → n ≡ 4
 eqb n h = grind (arith, nat_tests)
@@ -75,35 +64,20 @@ steps_are : (v : Layout) (i : Inode) (b : List ℕ) → IsAcceptedLayout v → c
     }) (slice_index i.addresses 0) 0 ∷ []
 unfolding steps_of steps_at
 steps_are v i b g c s =
-    let four = eqb (type_of i.mode) (dir_type v i c) in
-    let walked : is_walked v i ≡ true = ap (λ (x : Class). is_file_or_dir x && not (is_device (type_of i.mode) || is_short_symlink v i)) c
-    ∙ ap (λ (n : ℕ). not (is_device n || (n == 10 && nat_lt i.size v.maxsymlinklen))) four in
-    ap (λ (w : Bool). steps_of_addresses (record {
-      layout = v;
-      blocks = if w then logical_blocks_of v i else 0;
-      last_length = last_length_of v i;
-    }) b i.addresses 0 (addresses_needed v.nindir (if w then logical_blocks_of v i else 0))) walked
-    ∙ (ap (λ (n : ℕ). steps_of_addresses (record { layout = v; blocks = n; last_length = last_length_of v i }) b i.addresses 0
-    (addresses_needed v.nindir n)) (ap (λ (n : ℕ). div_ceil n v.bsize) s ∙ one_block v g)
-    ∙ ap (λ (n : ℕ). data_step (record {
-      layout = v;
-      blocks = 1;
-      last_length = if n % v.bsize == 0 then v.frag else div_ceil (n % v.bsize) v.fsize;
-    }) (slice_index i.addresses 0) 0 ∷ []) s)
-
-pub one_chunk_steps : (v : Layout) (i : Inode) (b : List ℕ) → IsAcceptedLayout v → class_of v i ≡ Dir → i.size ≡ 512
-    → steps_of v (one_chunk_at (slice_index i.addresses 0)) b ≡ steps_of v i b
-one_chunk_steps v i b g c s = steps_are v (one_chunk_at (slice_index i.addresses 0)) b g (one_chunk_class v (slice_index i.addresses 0) g) refl
-    ∙ sym (steps_are v i b g c s)
+    let walked : is_walked v i ≡ true = rw (c, eqb (type_of i.mode) (dir_parts v i c).1) refl in
+    rw (walked, s, one_block v g) refl
 
 -- what is said of its size and its steps is said of those of the inode
 pub one_chunk_is : {X : Type 0} (v : Layout) (i : Inode) (b : List ℕ) (a : ℕ) (said : ℕ → List Step → X)
     → IsAcceptedLayout v → IsOneChunkAt (class_of v i) i a
     → said 512 (steps_of v (one_chunk_at a) b) ≡ said i.size (steps_of v i b)
 one_chunk_is v i b a said g h =
-    ap (λ (n : ℕ). said 512 (steps_of v (one_chunk_at n) b)) (sym h.address_is)
-    ∙ (ap (said 512) (one_chunk_steps v i b g h.is_dir h.size)
-    ∙ ap (λ (n : ℕ). said n (steps_of v i b)) (sym h.size))
+    rw (
+      steps_are v (one_chunk_at a) b g (one_chunk_class v a g) refl,
+      steps_are v i b g h.is_dir h.size,
+      h.size,
+      h.address_is,
+    ) refl
 
 -- the entries, and whether the shape is right, by the size and the steps of a directory that isn't
 -- cut
@@ -117,55 +91,47 @@ shape_by v b size steps = is_right_size size
     (replayed_steps v 0 fresh_replay steps))
     && not (has_gap (replayed_steps v 0 fresh_replay steps)))
 
--- its step, where its address is no hole, and the fragment is in range: a Run of one fragment
+-- its step, where its address is no hole: a Run of one fragment, which takes one read
 one_run : (v : Layout) (a : ℕ) (b : List ℕ) → IsAcceptedLayout v → (a == 0) ≡ false
     → steps_of v (one_chunk_at a) b ≡ Run a 1 (Some 0) ∷ []
-one_run v a b g some = steps_are v (one_chunk_at a) b g (one_chunk_class v a g) refl
-    ∙ (ap (λ (n : ℕ). data_step (record { layout = v; blocks = 1; last_length = n }) a 0 ∷ []) (one_fragment v g)
-    ∙ ap (λ (x : Bool). (if x then Gap else Run a 1 (Some 0)) ∷ []) some)
+one_run v a b g some =
+    rw (steps_are v (one_chunk_at a) b g (one_chunk_class v a g) refl, one_fragment v g, some) refl
 
-kept_one : (v : Layout) (a : ℕ) → is_run_in_range v a 1 ≡ true
-    → replayed_steps v 0 fresh_replay (Run a 1 (Some 0) ∷ []) ≡ Run a 1 (Some 0) ∷ []
-kept_one v a inside = rw inside refl
+runs_of_one : (v : Layout) (a : ℕ) (b : List ℕ) → IsAcceptedLayout v → (a == 0) ≡ false
+    → replayed_runs v 0 fresh_replay (steps_of v (one_chunk_at a) b) ≡ 1
+runs_of_one v a b g some = ap (replayed_runs v 0 fresh_replay) (one_run v a b g some)
 
+-- it is kept where the fragment is in range
 one_replayed : (v : Layout) (a : ℕ) (b : List ℕ) → IsAcceptedLayout v → (a == 0) ≡ false
     → is_run_in_range v a 1 ≡ true
     → replayed_steps v 0 fresh_replay (steps_of v (one_chunk_at a) b) ≡ Run a 1 (Some 0) ∷ []
-one_replayed v a b g some inside =
-    ap (replayed_steps v 0 fresh_replay) (one_run v a b g some) ∙ kept_one v a inside
+one_replayed v a b g some inside = rw (one_run v a b g some, inside) refl
 
 chunks_of_one : (v : Layout) (a : ℕ) (b : List ℕ) → IsAcceptedLayout v → (a == 0) ≡ false
     → is_run_in_range v a 1 ≡ true
     → chunks_in v b (one_chunk_at a) 0 ≡ run_chunks (reading_by v b 512) a 1 (0 * v.bsize) ++ []
-chunks_of_one v a b g some inside =
-    ap (chunks_of (reading_by v b 512) (is_run_in_range v)) (one_replayed v a b g some inside)
-    ∙ ap (λ (x : Bool). (if x then run_chunks (reading_by v b 512) a 1 (0 * v.bsize) else []) ++ []) inside
+chunks_of_one v a b g some inside = rw (one_replayed v a b g some inside, inside) refl
 
--- so a reading of it has the chunks of that Run to give, where its walk is over
-pub rest_of_one : (v v' : Layout) (a : ℕ) (b : List ℕ) (cursor : List Chunk) (cut : ℕ) (r : Replay) (steps : List Step)
-    → IsAcceptedLayout v → v' ≡ v → (a == 0) ≡ false → is_run_in_range v a 1 ≡ true
-    → cursor ≡ run_chunks (reading_by v' b 512) a 1 (0 * v'.bsize) → steps ≡ []
-    → take 1 (cursor ++ chunks_of (reading_by v' b 512) (is_run_in_range v') (replayed_steps v' cut r steps))
-    ≡ chunks_in v b (one_chunk_at a) 0
-rest_of_one v v' a b cursor cut r steps g e some inside h s =
-    ap (λ (xs : List Step). take 1 (cursor ++ chunks_of (reading_by v' b 512) (is_run_in_range v')
-    (replayed_steps v' cut r xs))) s
-    ∙ (ap (λ (xs : List Chunk). take 1 (xs ++ []))
-    (h ∙ ap (λ (x : Layout). run_chunks (reading_by x b 512) a 1 (0 * x.bsize)) e)
-    ∙ (ap (take 1) (sym (chunks_of_one v a b g some inside))
-    ∙ begun v v (one_chunk_at a) b 0 0 fresh_replay 512 [] (steps_of v (one_chunk_at a) b) g
-    refl refl refl refl refl refl))
-
--- no hole is left
-pub gap_of_one : (v v' : Layout) (a : ℕ) (b : List ℕ) (cut : ℕ) (r : Replay) (steps : List Step)
-    → IsAcceptedLayout v → (a == 0) ≡ false → is_run_in_range v a 1 ≡ true → steps ≡ []
-    → has_gap (replayed_steps v' cut r steps)
-    ≡ has_gap (replayed_steps v 0 fresh_replay (steps_of v (one_chunk_at a) b))
-gap_of_one v v' a b cut r steps g some inside s =
-    ap (λ (xs : List Step). has_gap (replayed_steps v' cut r xs)) s
-    ∙ sym (ap has_gap (one_replayed v a b g some inside))
-
--- its only Run takes one read
-pub runs_of_one : (v : Layout) (a : ℕ) (b : List ℕ) → IsAcceptedLayout v → (a == 0) ≡ false
-    → replayed_runs v 0 fresh_replay (steps_of v (one_chunk_at a) b) ≡ 1
-runs_of_one v a b g some = ap (replayed_runs v 0 fresh_replay) (one_run v a b g some)
+-- so a reading of it begins that has the chunks of that Run to give, and whose walk is over
+pub begins_at_chunk : {v : Layout} {a : ℕ} {c : Chunks} → IsAcceptedLayout v → (a == 0) ≡ false →
+    is_run_in_range v a 1 ≡ true → c.walk.geometry.layout ≡ v → IsOver c.walk →
+    ((b : List ℕ) → cursor_chunks c.walk.geometry.layout b c.run_cursor
+    ≡ run_chunks (reading_by c.walk.geometry.layout b 512) a 1 (0 * c.walk.geometry.layout.bsize)) →
+    c.run_cursor.next ≡ 0 → c.budget ≡ 1 → c.gap ≡ false → BeginsAtChunk v a c
+begins_at_chunk {v = v} {a = a} {c = c} g some inside layout over found first budget gap =
+    let top : IsAtTop c.walk = record { single = over.single; double = over.double; triple = over.triple } in
+    record {
+      chunks = λ b. rw (budget, found b, over_rest b c.walk over, layout)
+          (ap (take 1) (sym (chunks_of_one v a b g some inside)) ∙ all_taken v (one_chunk_at a) b 0 g);
+      gap = gap;
+      gap_left = λ b. ap (gap_after c) (over_rest b c.walk over)
+          ∙ sym (ap has_gap (one_replayed v a b g some inside));
+      to_read = λ b. omega (
+        arith,
+        over_runs b c.walk c.walk.geometry.layout c.keeping.cut (replay_in c.keeping) over,
+        top_unread c.walk top,
+        run_at_most c.run_cursor,
+        runs_of_one v a b g some,
+      );
+      held = λ blocks w. record { frames = top_held c.walk top blocks; run = first_held c.run_cursor first w };
+    }

@@ -1,26 +1,26 @@
--- All directories take at most a read for each inode, and one for each Run that the block check
--- sees.
-use Rattle.std.proofs.Common.{◌≡◌, ◌+◌, ◌-◌, ◌*◌, ◌<◌, ◌≤◌, ℕ, zero, suc, Bool, true, false, List, map, ap, arith, inl, inr, refl}
-use Rattle.std.specs.List.{range_with_len}
-use Rattle.std.proofs.lemmas.Bool.{cases_lt}
-use Rattle.std.proofs.lemmas.Bool.Decides.{nat_tests}
-use Rattle.ffs_volume.specs.declared.Layout.{Layout}
-use Rattle.ffs_volume.specs.Laws.Geometry.{IsAcceptedLayout}
-use Rattle.ffs_volume.specs.Blocks.Inodes.{inode_of}
-use Rattle.ffs_volume.specs.Blocks.Steps.{steps_of}
-use Rattle.ffs_volume.specs.Blocks.Owners.{owner_of, owners_of}
-use Rattle.ffs_volume.specs.Blocks.Claims.{Claims, no_claims, after_owners}
-use Rattle.ffs_volume.specs.Blocks.KeptSteps.{claims_before}
-use Rattle.ffs_volume.specs.Directories.Roles.{is_dir}
+-- A replay sees the Runs that the block check sees. So all directories take at most a read for each
+-- inode, and one for each of these Runs.
+use Rattle.std.proofs.Common.{◌≡◌, ◌∙◌, ◌+◌, ◌-◌, ◌*◌, ◌<◌, ◌≤◌, ℕ, zero, suc, Bool, true, false, List, map, ap, arith}
+use Rattle.std.proofs.Common.{inl, inr}
+use Rattle.std.proofs.Common.{refl, sym}
+use Rattle.std.{specs.List.range_with_len, proofs.lemmas.Bool.cases_lt, proofs.lemmas.Bool.Decides.nat_tests}
+use Rattle.ffs_volume.proofs.{CutLaws.cut_is, OwnerLaws.before_next, ReplayLaws.replay_is_runs}
+use Rattle.ffs_volume.specs.Blocks.Claims.{Claims, after_owners, no_claims}
+use Rattle.ffs_volume.specs.Blocks.{Inodes.inode_of, KeptSteps.claims_before, Owners.owner_of, Owners.owners_of}
+use Rattle.ffs_volume.specs.{Blocks.Steps.steps_of, Directories.Roles.is_dir, Report.Whole.run_count}
 use Rattle.ffs_volume.specs.Directories.Volumes.{is_inode_number, volume_of}
-use Rattle.ffs_volume.specs.Report.Whole.{run_count}
-use Rattle.ffs_volume.proofs.ReplayLaws.{replay_is_runs}
-use Rattle.ffs_volume.proofs.OwnerLaws.{before_next}
+use Rattle.ffs_volume.specs.Encodings.{Replay.fresh_replay, ReplayCounts.replayed_runs}
+use Rattle.ffs_volume.specs.{Laws.Geometry.IsAcceptedLayout, declared.Layout.Layout}
 use Rattle.ffs_survey.specs.Costs.{costs_all}
-use Rattle.ffs_names.specs.Costs.{directory_cost, directories_cost}
-use Rattle.ffs_names.proofs.DirCosts.{cost_is, cost_none}
-use Rattle.ffs_names.proofs.DirLaws.{dir_is}
-use Rattle.ffs_names.proofs.RunsSeen.{runs_seen_by}
+use Rattle.ffs_names.specs.{Costs.directories_cost, Costs.directory_cost, SeenRuns.RunsAreSeen}
+use Rattle.ffs_names.proofs.{DirCosts.cost_is, DirCosts.cost_none, DirLaws.dir_is}
+
+pub runs_seen_by : RunsAreSeen
+unfolding owner_of
+runs_seen_by v image x g h =
+    let s = claims_before v image x in
+    let steps = steps_of v (inode_of v image x) image in
+    replay_is_runs v s steps ∙ ap (λ c. s.runs + replayed_runs v c fresh_replay steps) (sym (cut_is v image x g h))
 
 -- no inode is before the root
 low_state : (v : Layout) (b : List ℕ) (x : ℕ) → x < 2 → claims_before v b (x + 1) ≡ claims_before v b x
@@ -61,14 +61,10 @@ up_to : (v : Layout) (b : List ℕ) (n : ℕ) → IsAcceptedLayout v →
     costs_all (directory_cost v b) n ≤ n + (claims_before v b n).runs
 up_to v b zero g = omega arith
 up_to v b (suc n) g =
-    let next : suc n ≡ n + 1 = omega arith in
     let same : (claims_before v b (suc n)).runs ≡ (claims_before v b (n + 1)).runs =
-    ap (λ k. (claims_before v b k).runs) next in
+    ap (λ (k : ℕ). (claims_before v b k).runs) (omega arith) in
     omega (arith, same, up_to v b n g, one_more v b n g)
 
-all_runs : (v : Layout) (b : List ℕ) → (claims_before v b (v.ncg * v.ipg)).runs ≡ run_count v b
-unfolding claims_before run_count owners_of
-all_runs v b = refl
-
 pub costs_bounded : (v : Layout) (b : List ℕ) → IsAcceptedLayout v → directories_cost v b ≤ v.ncg * v.ipg + run_count v b
-costs_bounded v b g = omega (arith, up_to v b (v.ncg * v.ipg) g, all_runs v b)
+unfolding claims_before run_count owners_of
+costs_bounded v b g = up_to v b (v.ncg * v.ipg) g

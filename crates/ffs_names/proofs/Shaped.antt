@@ -1,16 +1,18 @@
 -- How the shape of a directory shows itself as its chunks are read.
-use Rattle.std.specs.Prelude.{◌≡◌, ℕ, ◌+◌, ◌==◌, refl, Bool, true, false, not, ◌&&◌, ◌||◌, List, [], ◌∷◌, Some, None}
-use Rattle.std.specs.Prelude.{is_some, sum_by}
-use Rattle.std.proofs.Common.{arith, sym, ◌∙◌, ap}
-use Rattle.std.proofs.lemmas.List.Sums.{sum_by-cons}
-use Rattle.std.proofs.Math.Bool.{and-true}
-use Rattle.ffs_volume.specs.declared.Order.{Order}
-use Rattle.ffs_volume.specs.Directories.Entries.{Entry, Chunk, chunk_of, entry_at, entries_from, is_sound}
-use Rattle.ffs_volume.specs.Directories.PathnameCheck.{are_sound}
+use Rattle.std.proofs.Common.{◌≡◌, ℕ, ◌+◌, ◌<◌, ◌≤◌, ◌^◌, ◌==◌, Bool, true, false, not, ◌&&◌, ◌||◌, List, [], ◌∷◌, Some}
+use Rattle.std.proofs.Common.{None}
+use Rattle.std.proofs.Common.{ap, arith, flat_map, is_some, refl, sum_by, zero-add}
+use Rattle.std.proofs.{lemmas.List.Sums.sum_by-cons, Math.Bool.and-true}
 use Rattle.ffs_volume.proofs.Reading.{entries_next, entries_end}
-use Rattle.ffs_names.specs.Readings.{rest, gap_left}
-use Rattle.ffs_names.specs.declared.chunks.Chunks.{Chunks}
-use Rattle.ffs_names.proofs.Entered.{end_of_chunk, none_from}
+use Rattle.ffs_volume.specs.declared.{Inode.Inode, Layout.Layout, Order.Order}
+use Rattle.ffs_volume.specs.Directories.Entries.{Entry, Chunk, chunk_of, entry_at, entries_from, has_gap, is_sound}
+use Rattle.ffs_volume.specs.{Blocks.Steps.steps_of, Directories.PathnameCheck.are_sound, Directories.Roles.roled_chunk}
+use Rattle.ffs_volume.specs.Encodings.{Replay.fresh_replay, Replay.replayed_steps, ReplayCounts.replayed_runs}
+use Rattle.ffs_walk.specs.declared.{blocks.Blocks.Blocks, window.Window.Window}
+use Rattle.ffs_names.specs.{Costs.BeginsEntries, Costs.HoldsReading, Costs.to_read, RightShapes.is_right_size}
+use Rattle.ffs_names.specs.{Readings.chunks_in, Readings.gap_left, Readings.rest, Shapes.BeginsDirectory}
+use Rattle.ffs_names.specs.declared.{chunks.Chunks.Chunks, entries.Entries.Entries}
+use Rattle.ffs_names.proofs.{Entered.end_of_chunk, Entered.end_seen, Entered.none_from, EntryCounts.at_most}
 
 abbrev pub fills_from : Order → List ℕ → ℕ → Bool
 fills_from order chunk place = place + sum_by (λ e. e.length) (entries_from order chunk 64 place) == 512
@@ -22,24 +24,21 @@ fills_next order chunk place e there =
     let m = ap (λ es. sum_by (λ x. x.length) es) (entries_next order chunk place e there) in
     let same : (place + e.length) + sum_by (λ x. x.length) (entries_from order chunk 64 (place + e.length))
     ≡ place + sum_by (λ x. x.length) (entries_from order chunk 64 place) = omega (arith, s, m) in
-    ap (λ n. n == 512) same
+    rw same refl
 
 fills_end : (order : Order) (chunk : List ℕ) (place : ℕ) → entry_at order chunk place ≡ None →
     fills_from order chunk place ≡ (place == 512)
 fills_end order chunk place none =
     let m = ap (λ es. sum_by (λ (x : Entry). x.length) es) (entries_end order chunk place none) in
     let same : place + sum_by (λ x. x.length) (entries_from order chunk 64 place) ≡ place = omega (arith, m) in
-    ap (λ n. n == 512) same
+    rw same refl
 
 -- no entry is left in a chunk that was read to its end
 pub fills_whole : (order : Order) (chunk : List ℕ) → fills_from order chunk 512 ≡ true
 fills_whole order chunk = fills_end order chunk 512 (end_of_chunk order chunk)
 
 fills_begin : (order : Order) (chunk : List ℕ) → fills_from order chunk 0 ≡ is_sound order chunk
-fills_begin order chunk =
-    let same : 0 + sum_by (λ x. x.length) (entries_from order chunk 64 0)
-    ≡ sum_by (λ x. x.length) (entries_from order chunk 64 0) = omega arith in
-    ap (λ n. n == 512) same
+fills_begin order chunk = rw zero-add refl
 
 -- a chunk came after one was read to its end
 pub shape_came : (s : Bool) (order other : Order) (chunk : List ℕ) (place : ℕ) (old : List Chunk) (offset : ℕ)
@@ -49,19 +48,12 @@ pub shape_came : (s : Bool) (order other : Order) (chunk : List ℕ) (place : �
     → (((s && (place == 512)) && fills_from order next 0) && (are_sound rest && not gap'))
     ≡ ((s && fills_from order chunk place) && (are_sound old && not gap))
 shape_came s order other chunk place old offset next rest gap gap' none q e same =
-    let here : fills_from order next 0 ≡ is_sound other next = fills_begin order next
-    ∙ ap (λ o. is_sound o next) (sym q) in
-    ap (λ z. ((s && (place == 512)) && z) && (are_sound rest && not gap')) here
-    ∙ (ap (λ z. ((s && (place == 512)) && is_sound other next) && (are_sound rest && not z)) same
-    ∙ (go (s && (place == 512)) (is_sound other next) (are_sound rest) (not gap)
-    ∙ (ap (λ z. (s && z) && ((is_sound other next && are_sound rest) && not gap))
-    (sym (fills_end order chunk place (none_from _ none)))
-    ∙ ap (λ cs. (s && fills_from order chunk place) && (are_sound cs && not gap)) (sym e))))
+    rw (fills_begin order next, fills_end order chunk place (none_from _ none), e, q, same)
+    (go (s && (place == 512)) (is_sound order next) (are_sound rest) (not gap))
   where
     go : (a c r g : Bool) → ((a && c) && (r && g)) ≡ (a && ((c && r) && g))
     go true true r g = refl
-    go true false r g = refl
-    go false c r g = refl
+    go _ _ r g = refl
 
 -- none came
 pub shape_ended : (s : Bool) (order : Order) (chunk last : List ℕ) (place : ℕ) (old rest : List Chunk) (gap gap' : Bool)
@@ -69,29 +61,37 @@ pub shape_ended : (s : Bool) (order : Order) (chunk last : List ℕ) (place : �
     → (((s && (place == 512)) && fills_from order last 512) && (are_sound rest && not gap'))
     ≡ ((s && fills_from order chunk place) && (are_sound old && not gap))
 shape_ended s order chunk last place old rest gap gap' none e r same =
-    ap (λ z. ((s && (place == 512)) && z) && (are_sound rest && not gap')) (fills_whole order last)
-    ∙ (ap (λ z. z && (are_sound rest && not gap')) (and-true (s && (place == 512)))
-    ∙ (ap (λ z. (s && z) && (are_sound rest && not gap')) (sym (fills_end order chunk place (none_from _ none)))
-    ∙ (ap (λ z. (s && fills_from order chunk place) && (are_sound z && not gap')) (r ∙ sym e)
-    ∙ ap (λ z. (s && fills_from order chunk place) && (are_sound old && not z)) same)))
+    rw (fills_whole order last, fills_end order chunk place (none_from _ none), and-true (s && (place == 512)), e, r, same)
+    refl
 
 -- a reading begins
 pub shape_begun : (s s' : Bool) (order : Order) (chunk : List ℕ) (cs cs' : List Chunk) (gap left left' : Bool) → s ≡ s'
     → cs ≡ cs' → gap ≡ false → left ≡ left'
     → ((s && fills_from order chunk 512) && (are_sound cs && not (gap || left))) ≡ (s' && (are_sound cs' && not left'))
-shape_begun s s' order chunk cs cs' gap left left' q e g l =
-    ap (λ z. (s && z) && (are_sound cs && not (gap || left))) (fills_whole order chunk)
-    ∙ (ap (λ z. z && (are_sound cs && not (gap || left))) (and-true s)
-    ∙ (ap (λ z. s && (are_sound z && not (gap || left))) e
-    ∙ (ap (λ z. s && (are_sound cs' && not (z || left))) g
-    ∙ (ap (λ z. s && (are_sound cs' && not z)) l
-    ∙ ap (λ z. z && (are_sound cs' && not left')) q))))
+shape_begun s s' order chunk cs cs' gap left left' q e g l = rw (fills_whole order chunk, and-true s, q, e, g, l) refl
+
+-- so a reading of entries begins with one of chunks, where the current chunk was read to its end
+pub begins_directory : {v : Layout} {i : Inode} {cut : ℕ} {r : Entries} → r.place ≡ 512 →
+    r.right_so_far ≡ is_right_size i.size →
+    ((b : List ℕ) → i.size < 2 ^ 31 → rest b r.chunks ≡ chunks_in v b i cut) → r.chunks.gap ≡ false →
+    ((b : List ℕ) → gap_left b r.chunks ≡ has_gap (replayed_steps v cut fresh_replay (steps_of v i b))) →
+    BeginsDirectory v i cut r
+begins_directory {r = r} place right chunks gap left = record {
+  entries = λ b small. rw (place, end_seen r.first r.index r.order r.chunk (rest b r.chunks))
+      (ap (flat_map roled_chunk) (chunks b small));
+  shape = λ b small. rw place (shape_begun _ _ _ _ _ _ _ _ _ right (chunks b small) gap (left b));
+}
+
+pub begins_entries : {v : Layout} {i : Inode} {cut : ℕ} {r : Entries} →
+    ((b : List ℕ) → to_read b r.chunks ≤ replayed_runs v cut fresh_replay (steps_of v i b)) →
+    ((blocks : Blocks) (w : Window) → HoldsReading blocks w r.chunks) → BeginsEntries v i cut r
+begins_entries {r = r} few held = record {
+  to_read = λ b. omega (arith, at_most b r.right_so_far r.chunks, few b);
+  held = λ blocks w may. held blocks w;
+}
 
 -- an entry was taken
 pub shape_same : (b : List ℕ) (s s' f f' : Bool) (c c' : Chunks) → s' ≡ s → f' ≡ f → c' ≡ c
     → ((s' && f') && (are_sound (rest b c') && not (c'.gap || gap_left b c')))
     ≡ ((s && f) && (are_sound (rest b c) && not (c.gap || gap_left b c)))
-shape_same b s s' f f' c c' e h q =
-    ap (λ z. (z && f') && (are_sound (rest b c') && not (c'.gap || gap_left b c'))) e
-    ∙ (ap (λ z. (s && z) && (are_sound (rest b c') && not (c'.gap || gap_left b c'))) h
-    ∙ ap (λ z. (s && f) && (are_sound (rest b z) && not (z.gap || gap_left b z))) q)
+shape_same b s s' f f' c c' e h q = rw (e, h, q) refl

@@ -1,51 +1,27 @@
-use Rattle.std.proofs.Common.{refl, sym, ap, ◌∙◌, arith}
+use Rattle.std.proofs.Common.{refl, sym, ap, ◌∙◌, arith, rules}
 use Rattle.std.proofs.lemmas.Result.{err_from_is_err_and}
-use Rattle.ffs_names.proofs.Continuing.{same_more}
-use Rattle.ffs_names.proofs.GapsLeft.{gap_ended}
-use Rattle.ffs_names.proofs.Pieces.{no_more}
-use Rattle.ffs_names.proofs.ReadCounts.{run_passed}
+use Rattle.ffs_names.proofs.{Advances.gap_ended, ReadCounts.run_passed}
+use Rattle.ffs_names.proofs.Continuing.{same_here, same_more}
 use Rattle.ffs_names.proofs.gap.find_gap.Goals as goal
-
-pub runs-init : goal.runs-init
-runs-init g c = record {
-  same = refl;
-  kept = record { geometry = refl; cut = refl; bytes_to_read = refl; budget = refl; runs = no_more _ };
-  ready = c.requires;
-  gap = λ b t. refl;
-  reads = λ w h b t. (omega arith, h);
-}
-
-pub advance-requires : goal.advance-requires
-advance-requires g c = let inv = c.runs.invariant in rw inv.kept.geometry inv.ready
 
 -- a Run with chunks is passed over
 pub runs-preserved : goal.runs-preserved
 runs-preserved g c =
     let inv = c.runs.invariant in
     let went = c.in_ok-advance.ensures in
-    let s = c.advance.new.self in
-    let same = same_more _ c.runs.chunks s inv.kept went.leaves.same in
+    let kept = same_more went.leaves.same inv.kept in
     record {
       same = went.leaves.read ∙ inv.same;
-      kept = record {
-        geometry = same.geometry;
-        cut = same.cut;
-        bytes_to_read = same.bytes_to_read;
-        budget = same.budget;
-        runs = same.runs;
-      };
+      kept = search rules;
       ready = rw inv.kept.geometry at went.leaves.ready;
       gap = λ b t. inv.gap b t ∙ sym (went.continues b (ap (λ d. d.contents) inv.same ∙ t)).gap;
       reads = λ w h b t.
           let old = inv.reads w h b t in
           let took = went.reads w old.1 b (ap (λ d. d.contents) inv.same ∙ t) in (
-            omega (arith, took.paid, run_passed s.run_cursor.count, old.0),
+            omega (arith, took.paid, run_passed c.advance.new.self.run_cursor.count, old.0),
             record { frames = took.held.frames; run = λ some left. absurd (omega (arith, left)) },
           );
     }
-
-pub runs-smaller : goal.runs-smaller
-runs-smaller g c = let less = c.in_ok-advance.ensures.falls c.if-branch.true in omega (arith, less)
 
 -- no step is left
 pub returns-clause-gap : goal.returns-clause-gap
@@ -63,37 +39,11 @@ returns-clause-reads g c = λ w h b t.
     let took = c.in_ok-advance.ensures.reads w old.1 b (ap (λ d. d.contents) inv.same ∙ t) in
     record { most = omega (arith, took.most, old.0); paid = omega (arith, took.paid, old.0); held = took.held }
 
-pub returns-clause-leaves : goal.returns-clause-leaves
-returns-clause-leaves g c =
-    let inv = c.runs.invariant in
-    let left = c.in_ok-advance.ensures.leaves in
-    record {
-      same = same_more _ c.runs.chunks _ inv.kept left.same;
-      ready = rw inv.kept.geometry at left.ready;
-      read = left.read ∙ inv.same;
-    }
-
 -- a read failed
-pub returns-in_err-advance-clause-gap : goal.returns-in_err-advance-clause-gap
-returns-in_err-advance-clause-gap g c =
-    let p = err_from_is_err_and c.from_residual.result c.from_residual.ensures.1 in rw p.1 tt
-
 pub returns-in_err-advance-clause-reads : goal.returns-in_err-advance-clause-reads
 returns-in_err-advance-clause-reads g c =
-    let p = err_from_is_err_and c.from_residual.result c.from_residual.ensures.1 in
-    rw p.1 (λ w h b t.
+    rw (err_from_is_err_and c.from_residual.result c.from_residual.ensures.1).1 (λ w h b t.
     let inv = c.runs.invariant in
     let old = inv.reads w h b t in
     let took = c.in_err-advance.ensures.reads w old.1 b (ap (λ d. d.contents) inv.same ∙ t) in
     record { most = omega (arith, took.most, old.0); paid = tt; held = tt })
-
-pub returns-in_err-advance-clause-leaves : goal.returns-in_err-advance-clause-leaves
-returns-in_err-advance-clause-leaves g c =
-    let inv = c.runs.invariant in
-    let left = c.in_err-advance.ensures.leaves in
-    let p = err_from_is_err_and c.from_residual.result c.from_residual.ensures.1 in
-    rw (p.1, p.2) (record {
-      same = same_more _ c.runs.chunks _ inv.kept left.same;
-      ready = rw inv.kept.geometry at left.ready;
-      read = rw inv.same at left.read;
-    })

@@ -1,6 +1,6 @@
-use Rattle.std.proofs.Common.{◌≡◌, ◌<◌, ◌≤◌, ◌∙◌, arith, length, rules, slice_index, subst, sym}
+use Rattle.std.proofs.Common.{◌≡◌, ◌<◌, ◌≤◌, ◌∙◌, arith, length, rules, slice_index, sym}
 use Rattle.std.proofs.lemmas.Grind.{common_steps, get_or_default_zero}
-use Rattle.ffs_names.proofs.PlacesNoted.{OnlyParents, only_more}
+use Rattle.ffs_names.proofs.PlacesNoted.{only_more}
 use Rattle.ffs_names.proofs.places.flag_parents.Goals as goal
 use Rattle.ffs_names.proofs.places.flag_parents.Goals.{then-reached-number+then-contains, else-reached-number}
 
@@ -20,9 +20,8 @@ loop-number-preserved c =
             let up : slice_index parents number ≡ c.index.result.now =
             sym (c.index.ensures ∙ get_or_default_zero parents number c.index.result.now inside) in
             let low : 2 ≤ c.index.result.now = grind (arith, common_steps) in
-            subst (OnlyParents parents) (sym w.set.ensures.items)
-            (only_more parents c.loop-number.words.items number c.index.result.now w.due.result (omega arith) up low
-            inv.only);
+            rw w.set.ensures.items (only_more parents c.loop-number.words.items number c.index.result.now w.due.result
+            (omega arith) up low inv.only);
         to_read = grind (arith, common_steps);
       })
       | else-reached-number w ↦ rw w.words-is (record {

@@ -1,26 +1,19 @@
-use Rattle.std.proofs.Common.{◌+◌, ◌∙◌, arith}
-use Rattle.ffs_volume.specs.Directories.Entries.{entries_from}
-use Rattle.ffs_volume.proofs.Reading.{entries_next, entries_end}
+use Rattle.std.proofs.Common.{◌∙◌, arith}
 use Rattle.ffs_layout.specs.Entry.{entry_value}
+use Rattle.ffs_volume.proofs.Reading.{entries_next, entries_end}
 use Rattle.ffs_names.proofs.PlacesNoted.{none_there, notes_end, notes_next}
 use Rattle.ffs_names.proofs.places.note_chunk.Goals as goal
 
 pub entries-preserved : goal.entries-preserved
 entries-preserved c =
-    let order = c.args.order in
-    let chunk = c.args.chunk.now in
-    let at = c.entries.at in
-    let e = entry_value c.in-Some.entry in
     let low = c.in-Some.ensures.room.0 in
     let high = c.in-Some.ensures.room.1 in
     rw c.from-at.ensures (record {
       at = omega arith;
       long = c.note_entry.ensures.long ∙ c.entries.invariant.long;
-      noted = λ new h. c.entries.invariant.noted new
-          (notes_next c.args.parents.now.items c.entries.words.items c.note_entry.new.words.items new c.args.dir
-          c.args.place (entries_from order chunk 64 at)
-          (entries_from order chunk 64 (at + c.in-Some.entry.length)) e c.requires.place.0
-          (entries_next order chunk at e c.in-Some.ensures.some) c.note_entry.ensures.noted h);
+      noted = λ new h. c.entries.invariant.noted new (notes_next c.requires.place.0
+          (entries_next c.args.order c.args.chunk.now c.entries.at (entry_value c.in-Some.entry) c.in-Some.ensures.some)
+          c.note_entry.ensures.noted h);
     })
 
 pub returns-clause-noted : goal.returns-clause-noted
@@ -28,6 +21,4 @@ returns-clause-noted c =
     let order = c.args.order in
     let chunk = c.args.chunk.now in
     let end = none_there order chunk c.entries.at c.entry_at.result c.in_default.is c.entry_at.ensures.value in
-    c.entries.invariant.noted c.entries.words.items
-    (notes_end c.args.parents.now.items c.entries.words.items c.args.dir c.args.place
-    (entries_from order chunk 64 c.entries.at) (entries_end order chunk c.entries.at end))
+    c.entries.invariant.noted c.entries.words.items (notes_end (entries_end order chunk c.entries.at end))

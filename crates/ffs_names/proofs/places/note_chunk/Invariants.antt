@@ -1,6 +1,5 @@
 use Rattle.std.proofs.Common.{◌≡◌, ◌≤◌, ◌-◌, List, ℕ, false, vec_len}
-use Rattle.ffs_volume.specs.Directories.Entries.{entries_from, entries_of}
-use Rattle.ffs_volume.specs.Directories.Roles.{roled_from}
+use Rattle.ffs_volume.specs.Directories.{Entries.entries_from, Entries.entries_of, Roles.roled_from}
 use Rattle.ffs_names.specs.Noting.{NotesChunk}
 use Rattle.ffs_names.proofs.places.note_chunk.Given as goal
 

@@ -1,77 +1,48 @@
-use Rattle.std.proofs.Common.{◌≡◌, ◌∷◌, ◌∙◌, ◌+◌, ◌*◌, ◌≤◌, ℕ, List, Some, ap, sym, arith}
-use Rattle.std.specs.List.{flat_map}
-use Rattle.ffs_volume.specs.Disk.Numbers.{piece}
-use Rattle.ffs_volume.specs.Directories.Entries.{chunk_of}
-use Rattle.ffs_volume.specs.Directories.Roles.{roled_chunk}
+use Rattle.std.proofs.Common.{◌≡◌, ◌∷◌, ◌∙◌, ◌+◌, ◌*◌, ◌≤◌, ℕ, List, Some, ap, arith, flat_map, sym}
+use Rattle.ffs_volume.specs.{Directories.Entries.chunk_of, Directories.Roles.roled_chunk, Disk.Numbers.piece}
 use Rattle.ffs_workspace.specs.declared.workspace.Windows.{Windows}
 use Rattle.ffs_names.specs.Readings.{rest}
-use Rattle.ffs_names.proofs.PlacesNoted.{all_noted, children_more, coming_after, noted_chunk, room_for, waiting_after}
+use Rattle.ffs_names.proofs.PlacesNoted.{NotesNext, all_noted, children_more, coming_after, noted_chunk, room_for}
+use Rattle.ffs_names.proofs.PlacesNoted.{waiting_after}
 use Rattle.ffs_names.proofs.places.note_chunks.Goals as goal
 
 pub chunks-preserved : goal.chunks-preserved
 chunks-preserved g c =
     let inv = c.chunks.invariant in
     let v = c.args.chunks.now.walk.geometry.layout in
-    let first = c.args.chunks.now in
     let words = c.args.words.now.items in
-    let old = c.chunks.words.items in
-    let new = c.note_chunk.new.words.items in
-    let parents = c.args.parents.now.items in
-    let went = c.in_ok-_offset.ensures.leaves in
+    let all = λ (b : List ℕ). flat_map roled_chunk (rest b c.args.chunks.now) in
+    let went = c.in_ok-_offset.ensures in
     let now = λ (b : List ℕ) (t : (g.I.Image.device c.args.image.now).contents ≡ Some b). ap (λ d. d.contents) inv.same
     ∙ t in
-    let read = rw c.in-Some.is at c.in_ok-_offset.ensures.chunk in
-    let there = rw c.in-Some.is at c.in_ok-_offset.ensures.place in
-    let next = λ (b : List ℕ) (t : (g.I.Image.device c.args.image.now).contents ≡ Some b).
-    (read b (now b t)).chunks ∙ ap (λ q. chunk_of q.layout.order c.in-Some._offset c.next.new.chunk ∷ rest b
-    c.next.new.self) inv.geometry in
-    let is = λ (b : List ℕ) (t : (g.I.Image.device c.args.image.now).contents ≡ Some b).
-    there b (now b t) ∙ ap (λ (n : ℕ). piece n 512 b) (sym c.last_place.ensures.value) in
-    let inside : c.last_place.result + 512 ≤ v.size * v.fsize =
-    rw (sym c.last_place.ensures.value, inv.geometry) at (rw c.in-Some.is at c.in_ok-_offset.ensures.inside) in
+    let noted : (b : List ℕ) → (g.I.Image.device c.args.image.now).contents ≡ Some b → NotesNext v b
+    c.args.parents.now.items c.chunks.words.items c.note_chunk.new.words.items c.args.dir c.place_of-place.result
+    c.last_place.result c.in-Some._offset c.next.new.chunk (rest b c.chunks.chunks) (rest b c.next.new.self) = λ b t.
     record {
-      same = went.read ∙ inv.same;
-      geometry = went.geometry ∙ inv.geometry;
-      ready = rw inv.geometry at went.ready;
+      whole = c.last_place.ensures.aligned;
+      number = c.place_of-place.ensures.value;
+      some = c.if-place-eq0.false;
+      inside = rw (sym c.last_place.ensures.value, inv.geometry) at (rw c.in-Some.is at went.inside);
+      held = (rw c.in-Some.is at went.place) b (now b t)
+          ∙ ap (λ (n : ℕ). piece n 512 b) (sym c.last_place.ensures.value);
+      next = ((rw c.in-Some.is at went.chunk) b (now b t)).chunks
+          ∙ ap (λ q. chunk_of q.layout.order c.in-Some._offset c.next.new.chunk ∷ rest b c.next.new.self) inv.geometry;
+      noted = c.note_chunk.ensures.noted;
+    } in
+    record {
+      same = went.leaves.read ∙ inv.same;
+      geometry = went.leaves.geometry ∙ inv.geometry;
+      ready = rw inv.geometry at went.leaves.ready;
       long = c.note_chunk.ensures.long ∙ inv.long;
       others = ap (λ (w : Windows). record w { blocks = c.next.new.blocks; chunk = c.next.new.window }) inv.others;
-      children = children_more parents words old new c.args.dir c.place_of-place.result _ c.note_chunk.ensures.noted
-          inv.children;
+      children = children_more c.note_chunk.ensures.noted inv.children;
       reads = λ held b t.
           let old = inv.reads held b t in
-          let took = c.in_ok-_offset.ensures.reads old.1 b (now b t) in
+          let took = went.reads old.1 b (now b t) in
           (omega (arith, took.paid, old.0), took.held);
-      noted = λ b t. noted_chunk v b parents words old new c.args.dir c.place_of-place.result c.last_place.result
-          c.in-Some._offset c.next.new.chunk (flat_map roled_chunk (rest b first)) (rest b c.chunks.chunks)
-          (rest b c.next.new.self) c.last_place.ensures.aligned c.place_of-place.ensures.value c.if-place-eq0.false
-          (is b t) (next b t) c.note_chunk.ensures.noted (inv.to_come b t) (inv.noted b t);
-      to_come = λ b t. coming_after v parents old new c.args.dir c.place_of-place.result c.in-Some._offset
-          c.next.new.chunk (flat_map roled_chunk (rest b first)) (rest b c.chunks.chunks) (rest b c.next.new.self)
-          c.if-place-eq0.false (next b t) c.note_chunk.ensures.noted (inv.to_come b t);
-      waiting = λ b t. waiting_after v b parents words old new c.args.dir c.place_of-place.result c.last_place.result
-          c.in-Some._offset c.next.new.chunk (flat_map roled_chunk (rest b first)) (rest b c.chunks.chunks)
-          (rest b c.next.new.self) c.last_place.ensures.aligned c.place_of-place.ensures.value c.if-place-eq0.false
-          inside (is b t) (next b t) c.note_chunk.ensures.noted (inv.waiting b t);
-    }
-
-pub returns-clause-leaves : goal.returns-clause-leaves
-returns-clause-leaves g c =
-    let inv = c.chunks.invariant in
-    let went = c.in_ok-_offset.ensures.leaves in
-    record {
-      geometry = went.geometry ∙ inv.geometry;
-      ready = rw inv.geometry at went.ready;
-      read = went.read ∙ inv.same;
-    }
-
-pub returns-then-place-eq0-clause-leaves : goal.returns-then-place-eq0-clause-leaves
-returns-then-place-eq0-clause-leaves g c =
-    let inv = c.chunks.invariant in
-    let went = c.in_ok-_offset.ensures.leaves in
-    record {
-      geometry = went.geometry ∙ inv.geometry;
-      ready = rw inv.geometry at went.ready;
-      read = went.read ∙ inv.same;
+      noted = λ b t. noted_chunk (noted b t) words (all b) (inv.to_come b t) (inv.noted b t);
+      to_come = λ b t. coming_after (noted b t) (all b) (inv.to_come b t);
+      waiting = λ b t. waiting_after (noted b t) words (all b) (inv.waiting b t);
     }
 
 pub returns-then-place-eq0-clause-noted : goal.returns-then-place-eq0-clause-noted
@@ -100,6 +71,19 @@ returns-clause-noted g c = λ b t.
     }
 
 -- the reads that were made
+
+pub returns-clause-leaves : goal.returns-clause-leaves
+returns-clause-leaves g c =
+    let inv = c.chunks.invariant in
+    let went = c.in_ok-_offset.ensures.leaves in
+    record { geometry = went.geometry ∙ inv.geometry; ready = rw inv.geometry at went.ready; read = went.read ∙ inv.same }
+
+pub returns-then-place-eq0-clause-leaves : goal.returns-then-place-eq0-clause-leaves
+returns-then-place-eq0-clause-leaves g c =
+    let inv = c.chunks.invariant in
+    let went = c.in_ok-_offset.ensures.leaves in
+    record { geometry = went.geometry ∙ inv.geometry; ready = rw inv.geometry at went.ready; read = went.read ∙ inv.same }
+
 pub returns-clause-reads : goal.returns-clause-reads
 returns-clause-reads g c = λ held b t.
     let inv = c.chunks.invariant in
@@ -112,11 +96,4 @@ returns-then-place-eq0-clause-reads g c = λ held b t.
     let inv = c.chunks.invariant in
     let old = inv.reads held b t in
     let took = c.in_ok-_offset.ensures.reads old.1 b (ap (λ d. d.contents) inv.same ∙ t) in
-    omega (arith, took.most, old.0)
-
-pub returns-in_err-_offset-clause-reads : goal.returns-in_err-_offset-clause-reads
-returns-in_err-_offset-clause-reads g c = λ held b t.
-    let inv = c.chunks.invariant in
-    let old = inv.reads held b t in
-    let took = c.in_err-_offset.ensures.reads old.1 b (ap (λ d. d.contents) inv.same ∙ t) in
     omega (arith, took.most, old.0)

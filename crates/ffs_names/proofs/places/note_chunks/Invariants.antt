@@ -1,10 +1,7 @@
-use Rattle.std.proofs.Common.{◌≡◌, ◌≤◌, ◌+◌, vec_len}
-use Rattle.std.specs.List.{flat_map}
+use Rattle.std.proofs.Common.{◌≡◌, ◌≤◌, ◌+◌, flat_map, vec_len}
 use Rattle.ffs_image.specs.Device.{ForContents}
 use Rattle.ffs_volume.specs.Directories.Roles.{roled_chunk}
-use Rattle.ffs_names.specs.Noting.{NotesChildren}
-use Rattle.ffs_names.specs.Costs.{HoldsReading, to_read}
-use Rattle.ffs_names.specs.Readings.{rest}
+use Rattle.ffs_names.specs.{Costs.HoldsReading, Costs.to_read, Noting.NotesChildren, Readings.rest}
 use Rattle.ffs_names.specs.Windows.{CanReadChunks}
 use Rattle.ffs_names.proofs.PlacesNoted.{AreToCome, AreWaiting, HavePlaces}
 use Rattle.ffs_names.proofs.places.note_chunks.Given as goal

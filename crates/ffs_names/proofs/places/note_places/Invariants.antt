@@ -1,8 +1,7 @@
 use Rattle.std.proofs.Common.{◌≡◌, ◌<◌, ◌≤◌, ◌+◌, ℕ, false, slice_index}
 use Rattle.ffs_image.specs.Device.{ForContents}
-use Rattle.ffs_workspace.specs.Holds.{HoldsClaims, HoldsSurvey}
+use Rattle.ffs_workspace.specs.{Holds.HoldsClaims, Holds.HoldsSurvey, Ready.IsReady}
 use Rattle.ffs_workspace.specs.Places.{is_due, AreChunksNumbered, ArePlaces}
-use Rattle.ffs_workspace.specs.Ready.{IsReady}
 use Rattle.ffs_survey.specs.Costs.{costs_all}
 use Rattle.ffs_names.specs.Costs.{directory_cost}
 use Rattle.ffs_names.proofs.PlacesNoted.{AreComing, OnlyParents}

@@ -1,25 +1,22 @@
-use Rattle.std.proofs.Common.{◌∙◌, ◌+◌, ◌*◌, ap, sym, arith}
+use Rattle.std.proofs.Common.{◌∙◌, ◌+◌, ◌*◌, ap, sym, arith, rules}
 use Rattle.std.proofs.lemmas.Result.{err_from_is_err_and}
 use Rattle.ffs_volume.specs.Disk.Numbers.{piece}
 use Rattle.ffs_walk.specs.Rests.{steps_left}
-use Rattle.ffs_names.specs.Readings.{all_chunks, chunks_after}
-use Rattle.ffs_names.proofs.Pieces.{cursor_step}
-use Rattle.ffs_names.proofs.ReadCounts.{given_one}
+use Rattle.ffs_names.specs.Readings.{chunks_after}
+use Rattle.ffs_names.proofs.{ReadCounts.given_one, RunChunks.cursor_step}
 use Rattle.ffs_names.proofs.chunks.Chunks.read.Goals as goal
 
 pub returns-clause-chunk : goal.returns-clause-chunk
 returns-clause-chunk g c = λ b t.
     let s = c.advance.new.self in
-    let h = s.run_cursor in
+    let v = s.walk.geometry.layout in
     let went = c.in_ok-advance.ensures.continues b t in
     let order = ap (λ x. x.layout.order) c.advance.ensures.leaves.same.geometry in
     let more = rw c.if-not-branch.false at c.in_ok-advance.ensures.found in
     let chunk = c.in_ok-read_chunk.ensures.chunk b (ap (λ d. d.contents) c.in_ok-advance.ensures.leaves.read ∙ t) in
     record {
-      chunks = cursor_step s.walk.geometry.layout.order c.args.self.now.walk.geometry.layout.order b h.place h.offset
-          h.next h.count c.read_chunk.new.chunk (chunks_after b s (steps_left b s.walk))
-          (all_chunks b c.args.self.now) c.from.result
-          order more chunk c.from.ensures went.chunks;
+      chunks = sym went.chunks ∙ rw (c.from.ensures, chunk, ← order)
+          (cursor_step v b s.run_cursor (chunks_after b s (steps_left b s.walk)) more);
       runs = went.runs;
       gap = went.gap;
     }
@@ -37,88 +34,7 @@ returns-clause-place g c = λ b t.
     c.in_ok-read_chunk.ensures.chunk b (ap (λ d. d.contents) c.in_ok-advance.ensures.leaves.read ∙ t)
     ∙ ap (λ n. piece (h.place + 512 * n) 512 b) (omega arith)
 
-pub advance-requires : goal.advance-requires
-advance-requires g c = c.requires.walk
-
-pub returns-in_err-advance-clause-chunk : goal.returns-in_err-advance-clause-chunk
-returns-in_err-advance-clause-chunk g c =
-    let p = err_from_is_err_and c.from_residual.result c.from_residual.ensures.1 in rw p.1 tt
-
-pub returns-in_err-advance-clause-place : goal.returns-in_err-advance-clause-place
-returns-in_err-advance-clause-place g c =
-    let p = err_from_is_err_and c.from_residual.result c.from_residual.ensures.1 in rw p.1 tt
-
-pub returns-in_err-advance-clause-inside : goal.returns-in_err-advance-clause-inside
-returns-in_err-advance-clause-inside g c =
-    let p = err_from_is_err_and c.from_residual.result c.from_residual.ensures.1 in rw p.1 tt
-
-pub returns-in_err-advance-clause-runs : goal.returns-in_err-advance-clause-runs
-returns-in_err-advance-clause-runs g c =
-    let p = err_from_is_err_and c.from_residual.result c.from_residual.ensures.1 in
-    rw p.1 c.in_err-advance.ensures.runs
-
-pub returns-in_err-advance-clause-leaves : goal.returns-in_err-advance-clause-leaves
-returns-in_err-advance-clause-leaves g c =
-    let went = c.in_err-advance.ensures.leaves in
-    let p = err_from_is_err_and c.from_residual.result c.from_residual.ensures.1 in
-    rw (p.1, p.2) (record {
-      same = went.same;
-      ready = record {
-        walk = went.ready;
-        room = c.requires.room;
-        holds = rw went.read.contents c.requires.holds;
-      };
-      read = went.read;
-    })
-
-pub returns-then-not-branch-clause-leaves : goal.returns-then-not-branch-clause-leaves
-returns-then-not-branch-clause-leaves g c =
-    let went = c.in_ok-advance.ensures.leaves in
-    record {
-      same = went.same;
-      ready = record {
-        walk = went.ready;
-        room = c.requires.room;
-        holds = rw (ap (λ d. d.contents) went.read) c.requires.holds;
-      };
-      read = went.read;
-    }
-
 -- the Run is a block's at most, and lies in the volume
-pub read_chunk-requires-clause-room : goal.read_chunk-requires-clause-room
-read_chunk-requires-clause-room g c =
-    let s = c.advance.new.self in
-    let same = ap (λ x. x.layout.bsize) c.advance.ensures.leaves.same.geometry in
-    omega (arith, s.cursor_fits.in_block, c.requires.room, same)
-
-pub read_chunk-requires-clause-inside : goal.read_chunk-requires-clause-inside
-read_chunk-requires-clause-inside g c =
-    let fits = rw c.advance.ensures.leaves.same.geometry at c.advance.new.self.cursor_fits.in_volume in
-    omega (arith, fits, c.in_ok-advance.ensures.leaves.ready.volume)
-
-pub read_chunk-requires-clause-holds : goal.read_chunk-requires-clause-holds
-read_chunk-requires-clause-holds g c = rw (ap (λ d. d.contents) c.in_ok-advance.ensures.leaves.read) c.requires.holds
-
-pub returns-in_err-read_chunk-clause-chunk : goal.returns-in_err-read_chunk-clause-chunk
-returns-in_err-read_chunk-clause-chunk g c =
-    let p = err_from_is_err_and c.from_residual-in_err-read_chunk.result c.from_residual-in_err-read_chunk.ensures.1 in
-    rw p.1 tt
-
-pub returns-in_err-read_chunk-clause-place : goal.returns-in_err-read_chunk-clause-place
-returns-in_err-read_chunk-clause-place g c =
-    let p = err_from_is_err_and c.from_residual-in_err-read_chunk.result c.from_residual-in_err-read_chunk.ensures.1 in
-    rw p.1 tt
-
-pub returns-in_err-read_chunk-clause-inside : goal.returns-in_err-read_chunk-clause-inside
-returns-in_err-read_chunk-clause-inside g c =
-    let p = err_from_is_err_and c.from_residual-in_err-read_chunk.result c.from_residual-in_err-read_chunk.ensures.1 in
-    rw p.1 tt
-
-pub returns-in_err-read_chunk-clause-runs : goal.returns-in_err-read_chunk-clause-runs
-returns-in_err-read_chunk-clause-runs g c =
-    let p = err_from_is_err_and c.from_residual-in_err-read_chunk.result c.from_residual-in_err-read_chunk.ensures.1 in
-    rw p.1 (λ b t. (c.in_ok-advance.ensures.continues b t).runs.most)
-
 pub returns-in_err-read_chunk-clause-leaves : goal.returns-in_err-read_chunk-clause-leaves
 returns-in_err-read_chunk-clause-leaves g c =
     let went = c.in_ok-advance.ensures.leaves in
@@ -142,14 +58,9 @@ pub returns-clause-leaves : goal.returns-clause-leaves
 returns-clause-leaves g c =
     let went = c.in_ok-advance.ensures.leaves in
     let read = c.in_ok-read_chunk.ensures.read in
+    let same = went.same in
     record {
-      same = record {
-        geometry = went.same.geometry;
-        cut = went.same.cut;
-        bytes_to_read = went.same.bytes_to_read;
-        budget = went.same.budget;
-        runs = went.same.runs;
-      };
+      same = search rules;
       ready = record {
         walk = rw read went.ready;
         room = c.read_chunk.ensures.room ∙ c.requires.room;
@@ -160,8 +71,7 @@ returns-clause-leaves g c =
 
 pub returns-in_err-advance-clause-reads : goal.returns-in_err-advance-clause-reads
 returns-in_err-advance-clause-reads g c =
-    let p = err_from_is_err_and c.from_residual.result c.from_residual.ensures.1 in
-    rw p.1 (λ held b t.
+    rw (err_from_is_err_and c.from_residual.result c.from_residual.ensures.1).1 (λ held b t.
     let took = c.in_err-advance.ensures.reads c.args.window.now held b t in
     record { most = took.most; paid = tt; held = tt })
 
@@ -184,9 +94,8 @@ returns-clause-reads g c = λ held b t.
     let took = c.in_ok-advance.ensures.reads c.args.window.now held b t in
     let h = c.advance.new.self.run_cursor in
     let run = c.read_chunk.ensures.counted took.held.run in
-    let given = given_one h.next h.count in
     record {
       most = omega (arith, took.paid, run);
-      paid = omega (arith, took.paid, run, given);
+      paid = omega (arith, took.paid, run, given_one h.next h.count);
       held = record { frames = took.held.frames; run = λ some left. c.in_ok-read_chunk.ensures.held left };
     }

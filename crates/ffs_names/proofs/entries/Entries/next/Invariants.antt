@@ -1,8 +1,6 @@
 use Rattle.std.proofs.Common.{◌≡◌, ◌≤◌, ◌<◌, ◌+◌}
 use Rattle.ffs_image.specs.Device.{ForContents}
-use Rattle.ffs_names.specs.Windows.{CanReadChunks}
-use Rattle.ffs_names.specs.Costs.{HoldsEntries, entries_to_read}
-use Rattle.ffs_names.specs.Shapes.{has_right_shape}
+use Rattle.ffs_names.specs.{Costs.HoldsEntries, Costs.entries_to_read, Shapes.has_right_shape, Windows.CanReadChunks}
 use Rattle.ffs_names.specs.Entering.{to_come, left, IsInside, MayTake}
 use Rattle.ffs_names.proofs.entries.Entries.next.Given as goal
 

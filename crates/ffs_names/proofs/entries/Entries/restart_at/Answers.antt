@@ -1,25 +1,15 @@
-use Rattle.std.proofs.Common.{◌∙◌, true, ap, refl, sym, arith}
-use Rattle.std.specs.List.{flat_map}
-use Rattle.ffs_volume.specs.Directories.Roles.{roled_chunk}
-use Rattle.ffs_names.proofs.Entered.{end_seen}
-use Rattle.ffs_names.proofs.Shaped.{shape_begun}
-use Rattle.ffs_names.proofs.EntryCounts.{at_most}
-use Rattle.ffs_names.proofs.OneChunks.{one_chunk_class}
+use Rattle.std.proofs.Common.{refl, sym}
+use Rattle.ffs_names.proofs.{OneChunks.one_chunk_class, Shaped.begins_directory, Shaped.begins_entries}
 use Rattle.ffs_names.proofs.entries.Entries.restart_at.Goals as goal
 
 pub returns-clause-begins : goal.returns-clause-begins
-returns-clause-begins c = let begins = c.restart_at.ensures.begins c.if-not-restart_at.false in record {
-  entries = λ b size. end_seen _ _ _ _ _ ∙ ap (flat_map roled_chunk) (begins.chunks b);
-  shape = λ b size. shape_begun true true _ _ _ _ _ _ _ refl (begins.chunks b) begins.gap (begins.gap_left b);
-}
+returns-clause-begins c =
+    let begins = c.restart_at.ensures.begins c.if-not-restart_at.false in
+    begins_directory refl refl (λ b small. begins.chunks b) begins.gap begins.gap_left
 
 pub returns-clause-reads : goal.returns-clause-reads
 returns-clause-reads c =
-    let begins = c.restart_at.ensures.begins c.if-not-restart_at.false in
-    record {
-      to_read = λ b. omega (arith, at_most b true c.restart_at.new.self, begins.to_read b);
-      held = λ blocks w may. begins.held blocks w;
-    }
+    let begins = c.restart_at.ensures.begins c.if-not-restart_at.false in begins_entries begins.to_read begins.held
 
 pub returns-then-not-restart_at-clause-begins : goal.returns-then-not-restart_at-clause-begins
 returns-then-not-restart_at-clause-begins c =

@@ -2,11 +2,6 @@ use Rattle.std.proofs.Common.{refl, ◌∙◌}
 use Rattle.ffs_names.proofs.Continuing.{contents_kept}
 use Rattle.ffs_names.proofs.reader.DirectoryReaderDirectories.has_right_shape.Goals as goal
 
-pub has_right_shape-requires : goal.has_right_shape-requires
-has_right_shape-requires g c =
-    let r = c.requires.ready.0 in
-    rw c.requires.ready.1 (record { volume = r.volume; room = r.blocks; holds = r.blocks_hold })
-
 pub returns-clause-reader : goal.returns-clause-reader
 returns-clause-reader g c =
     let r = c.requires.ready.0 in

@@ -1,6 +1,7 @@
 use Rattle.std.proofs.Common.{ap, ◌∙◌, refl}
+use Rattle.std.proofs.lemmas.Result.{IfOk-weaker}
 use Rattle.ffs_names.proofs.Continuing.{can_read, contents_kept}
-use Rattle.ffs_names.proofs.{Shaped.shape_same, SurveyHolds.if_ok, SurveyHolds.ok_on, SurveyHolds.none_ended}
+use Rattle.ffs_names.proofs.{Shaped.shape_same, SurveyHolds.none_ended}
 use Rattle.ffs_names.proofs.reader.DirectoryReaderDirectories.next.Goals as goal
 
 pub returns-in-Some-clause-shape : goal.returns-in-Some-clause-shape
@@ -50,16 +51,16 @@ pub returns-clause-left : goal.returns-clause-left
 returns-clause-left g c = rw (c.take.ensures.none c.in-None.is) at c.next.ensures.left
 
 pub returns-clause-rest : goal.returns-clause-rest
-returns-clause-rest g c = if_ok c.next.result _ _ c.next.ensures.entry
-    (λ o h b k. rw (c.take.ensures.none c.in-None.is) at (h b k.bytes).entries)
+returns-clause-rest g c = IfOk-weaker c.next.result _ _
+    (λ o h b k. rw (c.take.ensures.none c.in-None.is) at (h b k.bytes).entries) c.next.ensures.entry
 
 pub returns-clause-shape : goal.returns-clause-shape
-returns-clause-shape g c = ok_on c.next.result _ _ c.next.ensures.entry
-    (λ o h b k. rw (c.take.ensures.none c.in-None.is) at (h b k.bytes).shape)
+returns-clause-shape g c = IfOk-weaker c.next.result _ _
+    (λ o h b k. rw (c.take.ensures.none c.in-None.is) at (h b k.bytes).shape) c.next.ensures.entry
 
 pub returns-clause-ended : goal.returns-clause-ended
-returns-clause-ended g c = if_ok c.next.result _ _ c.next.ensures.entry
-    (λ o h. none_ended o _ (λ b k. (h b k.bytes).ended))
+returns-clause-ended g c =
+    IfOk-weaker c.next.result _ _ (λ o h. none_ended o _ (λ b k. (h b k.bytes).ended)) c.next.ensures.entry
 
 pub returns-clause-counted : goal.returns-clause-counted
 returns-clause-counted g c = λ b k held.

@@ -24,8 +24,4 @@ returns-clause-fits c =
     let inside = run_in_volume v c.args.start c.args.len c.args.geometry.now.sound c.requires.run.some
     c.requires.run.in_range in
     let aligned = run_aligned v c.args.start c.args.geometry.now.sound in
-    record {
-      in_block = grind (arith, short);
-      in_volume = grind (arith, inside);
-      aligned = grind (arith, aligned);
-    }
+    record { in_block = grind (arith, short); in_volume = grind (arith, inside); aligned = grind (arith, aligned) }

@@ -1,0 +1,75 @@
+-- What is noted of a directory says how a reading of it begins: at its only chunk, or with its cut.
+use Rattle.std.proofs.Common.{◌≡◌, ◌∙◌, ◌+◌, ◌<◌, ◌^◌, ℕ, true, not, ◌&&◌, List, ap, arith, flat_map, refl, sym}
+use Rattle.ffs_image.specs.Device.{Device}
+use Rattle.ffs_volume.specs.declared.{Class.TheVariants.Dir, Inode.Inode, Layout.Layout}
+use Rattle.ffs_volume.specs.Blocks.{Inodes.class_of, Inodes.inode_of, Steps.steps_of}
+use Rattle.ffs_volume.specs.Directories.{Entries.has_gap, PathnameCheck.are_sound, Roles.is_dir, Roles.roled_chunk}
+use Rattle.ffs_volume.specs.Directories.{Roles.roled_entries, Volumes.volume_of}
+use Rattle.ffs_volume.specs.Encodings.{Replay.fresh_replay, Replay.replayed_steps, ReplayCounts.replayed_runs}
+use Rattle.ffs_volume.specs.Laws.Geometry.{IsAcceptedLayout}
+use Rattle.ffs_workspace.proofs.NoteLaws.{below_is_cut, cut_is_noted, address_is_noted, address_is_whole, IsOneChunkAt}
+use Rattle.ffs_workspace.specs.{Notes.cut_in, Notes.first_noted, Notes.note_at, Tables.KeepsTable}
+use Rattle.ffs_workspace.specs.declared.{table.Table.Table, workspace.Windows.Windows}
+use Rattle.ffs_names.specs.{Costs.directory_runs, OneChunk.one_chunk_at, Readers.IsReaderReady, Readings.chunks_in}
+use Rattle.ffs_names.specs.{RightShapes.is_right_shape, RightShapes.is_right_size}
+use Rattle.ffs_names.proofs.DirCosts.{runs_are}
+use Rattle.ffs_names.proofs.DirLaws.{dir_is, dir_size, dir_seen, shape_seen}
+use Rattle.ffs_names.proofs.OneChunks.{entries_by, one_chunk_class, one_chunk_is, shape_by}
+
+-- a reading of this inode with this cut gives what the volume has of the directory d
+pub record IsReadAs (v : Layout) (b : List ℕ) (d : ℕ) (i : Inode) (cut : ℕ) : Type 0 where
+  pub is_dir : class_of v i ≡ Dir
+  pub small : i.size < 2 ^ 31
+  pub entries : flat_map roled_chunk (chunks_in v b i cut) ≡ roled_entries (volume_of v b) d
+  pub shape : (is_right_size i.size && (are_sound (chunks_in v b i cut)
+      && not (has_gap (replayed_steps v cut fresh_replay (steps_of v i b))))) ≡ is_right_shape (volume_of v b) d
+  pub runs : replayed_runs v cut fresh_replay (steps_of v i b) ≡ directory_runs v b d
+
+pub read_by_chunk : (v : Layout) (b : List ℕ) (d a : ℕ) → IsAcceptedLayout v → is_dir (volume_of v b) d ≡ true →
+    note_at v b d ≡ first_noted + a → IsReadAs v b d (one_chunk_at a) 0
+read_by_chunk v b d a g dir noted =
+    let i = inode_of v b d in
+    let is = dir_is v b d dir in
+    let at = address_is_noted v b d a g noted in
+    let one : IsOneChunkAt (class_of v i) i a = record { is_dir = is.1; size = at.size; address_is = at.address_is } in
+    let whole = sym (address_is_whole v b d a g noted) in
+    record {
+      is_dir = one_chunk_class v a g;
+      small = omega arith;
+      entries = one_chunk_is v i b a (entries_by v b) g one ∙ dir_seen v b d i 0 g is.0 refl whole;
+      shape = one_chunk_is v i b a (shape_by v b) g one ∙ shape_seen v b d i 0 g is.0 refl whole;
+      runs = one_chunk_is v i b a (λ size steps. replayed_runs v 0 fresh_replay steps) g one
+          ∙ runs_are v b d i 0 refl whole;
+    }
+
+pub read_by_cut : (v : Layout) (b : List ℕ) (d : ℕ) {i : Inode} {note : ℕ} → IsAcceptedLayout v →
+    is_dir (volume_of v b) d ≡ true → i ≡ inode_of v b d → note ≡ note_at v b d → note < first_noted →
+    IsReadAs v b d i note
+read_by_cut v b d {i = i} {note = note} g dir inode noted low =
+    let is = dir_is v b d dir in
+    let cut = sym (below_is_cut note low) ∙ (ap cut_in noted ∙ cut_is_noted v b d g) in
+    record {
+      is_dir = ap (class_of v) inode ∙ is.1;
+      small = rw inode (dir_size v (inode_of v b d) is.1);
+      entries = dir_seen v b d i note g is.0 inode cut;
+      shape = shape_seen v b d i note g is.0 inode cut;
+      runs = runs_are v b d i note inode cut;
+    }
+
+-- a reader stays ready where an inode was read, or couldn't be
+pub ready_read : {v : Layout} {d d' : Device} {w : Windows} {table : Table} {kinds notes : List ℕ} →
+    d'.contents ≡ d.contents → d'.size ≡ d.size → KeepsTable v d'.contents table →
+    IsReaderReady v d w kinds notes → IsReaderReady v d' (record w { table = table }) kinds notes
+ready_read e size kept r = record {
+  volume = rw size r.volume;
+  table = kept.made;
+  blocks = r.blocks;
+  chunk = r.chunk;
+  names = r.names;
+  table_holds = kept.holds;
+  blocks_hold = rw e r.blocks_hold;
+  chunk_holds = rw e r.chunk_holds;
+  names_hold = rw e r.names_hold;
+  kinds_long = r.kinds_long;
+  notes_long = r.notes_long;
+}
