@@ -68,8 +68,8 @@ kept_chunks b c steps = chunks_of (reading_by c.walk.geometry.layout b c.bytes_t
     (is_run_in_range c.walk.geometry.layout) steps
 
 -- whether the next step is seen, and which of the steps to come are kept
-abbrev is_seen : Chunks → Bool
-is_seen c = is_replay_open c.keeping.cut (replay_in c.keeping)
+abbrev is_open_here : Chunks → Bool
+is_open_here c = is_replay_open c.keeping.cut (replay_in c.keeping)
 
 abbrev steps_kept : Chunks → List Step → List Step
 steps_kept c steps = replayed_steps c.walk.geometry.layout c.keeping.cut (replay_in c.keeping) steps
@@ -90,7 +90,7 @@ gaps_after : (b : List ℕ) (c : Chunks) (n : ℕ) (steps : List Step) →
     chunks_after b c (replicate n Gap ++ steps) ≡ chunks_after b c steps
 gaps_after b c zero steps = refl
 gaps_after b c (suc n) steps =
-    no_chunk b c Gap (is_seen c) (steps_kept c (replicate n Gap ++ steps)) refl ∙ gaps_after b c n steps
+    no_chunk b c Gap (is_open_here c) (steps_kept c (replicate n Gap ++ steps)) refl ∙ gaps_after b c n steps
 
 -- a step of its walk changes no more of a reading than the walk, and whether a hole was seen
 pub record OnlyWalks (c c' : Chunks) : Type 0 where
@@ -117,10 +117,10 @@ same_walked h s = record {
 }
 
 -- so it continues where the steps to come have the same chunks, Runs and holes
-goes_on : {b : List ℕ} {c c' : Chunks} {old new : List Step} → OnlyWalks c c' →
+continues_walking : {b : List ℕ} {c c' : Chunks} {old new : List Step} → OnlyWalks c c' →
     chunks_after b c old ≡ chunks_after b c new → runs_after c old ≡ runs_after c new →
     (c'.gap || gap_after c new) ≡ (c.gap || gap_after c old) → Continues b c old c' new
-goes_on s chunks runs gap = record {
+continues_walking s chunks runs gap = record {
   chunks = rw (s.geometry, s.keeping, s.bytes_to_read, s.run_cursor, chunks) refl;
   runs = rw (s.geometry, s.keeping, s.runs, runs) (counts_here _);
   gap = rw (s.geometry, s.keeping) gap;
@@ -129,7 +129,7 @@ goes_on s chunks runs gap = record {
 -- with the same steps to come, as those of a Run that is seen next, over a Tail, and over Gaps
 pub walks_on : {b : List ℕ} {c c' : Chunks} {old new : List Step} → OnlyWalks c c' → c'.gap ≡ c.gap → old ≡ new →
     Continues b c old c' new
-walks_on s gap e = rw e (goes_on s refl refl (rw gap refl))
+walks_on s gap e = rw e (continues_walking s refl refl (rw gap refl))
 
 pub sees_on : {b : List ℕ} {c m c' : Chunks} {old : List Step} {run : Step} {w : Walk} → c'.walk ≡ w →
     Continues b m (run ∷ steps_left b w) c' (steps_left b w) → OnlyWalks c m → m.gap ≡ c.gap →
@@ -138,14 +138,14 @@ sees_on {b = b} walk after s gap e = rw (ap (steps_left b) walk) (continues_more
 
 pub over_tail : {b : List ℕ} {c c' : Chunks} {old new : List Step} → OnlyWalks c c' → c'.gap ≡ c.gap →
     old ≡ Tail ∷ new → Continues b c old c' new
-over_tail {b = b} {c = c} {new = new} s gap e = rw e (goes_on s
-    (no_chunk b c Tail (is_seen c) (steps_kept c new) refl) (omega arith)
-    (rw gap (ap (λ x. c.gap || x) (sym (no_hole Tail (is_seen c) (steps_kept c new) refl)))))
+over_tail {b = b} {c = c} {new = new} s gap e = rw e (continues_walking s
+    (no_chunk b c Tail (is_open_here c) (steps_kept c new) refl) (omega arith)
+    (rw gap (ap (λ x. c.gap || x) (sym (no_hole Tail (is_open_here c) (steps_kept c new) refl)))))
 
 pub over_gaps : {b : List ℕ} {c c' : Chunks} {old new : List Step} (n : ℕ) → OnlyWalks c c' → c'.gap ≡ true →
     is_replay_open c.keeping.cut (replay_in c.keeping) ≡ true → old ≡ Gap ∷ (replicate n Gap ++ new) →
     Continues b c old c' new
-over_gaps {b = b} {c = c} {new = new} n s gap seen e = rw e (goes_on s (gaps_after b c (suc n) new)
+over_gaps {b = b} {c = c} {new = new} n s gap seen e = rw e (continues_walking s (gaps_after b c (suc n) new)
     (gaps_seen c.walk.geometry.layout c.keeping.cut (replay_in c.keeping) (suc n) new)
     (rw (gap, seen) (sym (or_right c.gap true refl))))
 

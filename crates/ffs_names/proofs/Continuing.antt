@@ -56,10 +56,6 @@ pub can_read : (g g' : Geometry) (d : Device) (blocks : Blocks) (chunk : Window)
     → CanReadChunks g.layout d blocks chunk → g' ≡ g → CanReadChunks g'.layout d blocks chunk
 can_read g g' d blocks chunk h e = rw e h
 
-pub can_read_here : (g g' : Geometry) (d : Device) (blocks : Blocks) (chunk : Window)
-    → CanReadChunks g'.layout d blocks chunk → g' ≡ g → CanReadChunks g.layout d blocks chunk
-can_read_here g g' d blocks chunk h e = rw (← e) h
-
 -- a read, failed or not, changes no byte of the image
 pub contents_kept : {T : Type 0} (d d' : Device) (result : Result T ImageFault) → ReadAfter d d' result
     → d'.contents ≡ d.contents

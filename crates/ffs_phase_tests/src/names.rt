@@ -118,7 +118,7 @@ fn same_fragment_twice(rt: HostRuntime) -> Result<(), Fail> {
 }
 
 /// Whether a reading begins of a directory whose only chunk is at an address, and what it gives
-/// then. Else the reading goes on that was begun before: of a directory with the fragment 43.
+/// then. Else the reading continues that was begun before: of a directory with the fragment 43.
 fn chunks_at(address: u32, alloc: Global) -> Result<(bool, Vec<(u64, u8, u8)>), Fail> {
     let geometry = geometry(Order::Little)?;
     let mut image = image_of(Order::Little, &NUMBERS, alloc)?;
@@ -126,10 +126,7 @@ fn chunks_at(address: u32, alloc: Global) -> Result<(bool, Vec<(u64, u8, u8)>), 
     directory.addresses[0] = 43;
     let mut chunks = Chunks::start(&geometry, &directory, 0);
     let begun = chunks.restart_at(address);
-    Ok((
-        begun,
-        chunks_of(&geometry, &mut chunks, &mut image, alloc)?,
-    ))
+    Ok((begun, chunks_of(&geometry, &mut chunks, &mut image, alloc)?))
 }
 
 /// An address, whether a reading begins there, and the place of each chunk, its first byte and its

@@ -16,10 +16,6 @@ pub parent_in-none : (parents : List ℕ) (x : ℕ) → (number_at parents x ≡
     parent_in parents x ≡ None
 parent_in-none parents x h = grind (arith, nat_tests)
 
-pub parent_in-some : (parents : List ℕ) (x : ℕ) → number_at parents x ≢ 0 → number_at parents x < length parents →
-    parent_in parents x ≡ Some (number_at parents x)
-parent_in-some parents x e l = grind (arith, nat_tests)
-
 -- the list holds the parent of a number on a cycle
 pub parent_on_cycle : (parents : List ℕ) (x : ℕ) → IsOnCycle (parent_in parents) x →
     (parent_in parents x ≡ Some (number_at parents x)) × (number_at parents x < length parents)
@@ -160,10 +156,10 @@ closed-climb {f = f} {walk_of = walk_of} zero x {y = y} c s h =
 closed-climb {f = f} (suc k) x {y = y} c s h =
     let l = climb-last f k x y h in c.parent l.0 y (closed-climb k x c s l.1) l.2
 
--- from a number that this walk met it goes on to the parent of the last number
-goes_on : {f : ℕ → Option ℕ} {start mark steps at x : ℕ} {old new : List ℕ} →
+-- from a number that this walk met it continues to the parent of the last number
+passes_parent : {f : ℕ → Option ℕ} {start mark steps at x : ℕ} {old new : List ℕ} →
     HasPassed f start mark steps at old new → IsMet old new x → (j : ℕ) × (j ≤ steps) × (climb f (suc j) x ≡ f at)
-goes_on {f = f} {start = start} {steps = steps} {at = at} {x = x} s i =
+passes_parent {f = f} {start = start} {steps = steps} {at = at} {x = x} s i =
     let p = s.trace.passed x i in
     let b = p.1 in
     let j = steps - p.0 in
@@ -175,13 +171,13 @@ goes_on {f = f} {start = start} {steps = steps} {at = at} {x = x} s i =
 after_last : {f : ℕ → Option ℕ} {start mark steps at x next : ℕ} {old new : List ℕ} →
     HasPassed f start mark steps at old new → f at ≡ Some next → IsMet old new x → IsOnCycle f x →
     (k : ℕ) × (climb f k next ≡ Some x)
-after_last s h i c = let j = goes_on s i in cycle-back (suc j.0) c (j.2 ∙ h)
+after_last s h i c = let j = passes_parent s i in cycle-back (suc j.0) c (j.2 ∙ h)
 
 -- no parent: no cycle
 pub no_cycle_end : {f : ℕ → Option ℕ} {start mark steps at x : ℕ} {old new : List ℕ} →
     HasPassed f start mark steps at old new → f at ≡ None → IsMet old new x → IsOnCycle f x → ⊥
 no_cycle_end {f = f} {x = x} s h i c =
-    let j = goes_on s i in
+    let j = passes_parent s i in
     let goes = cycle-goes f (suc j.0) x c in
     let e : None ≡ Some goes.0 = sym (j.2 ∙ h) ∙ goes.1 in
     cc
@@ -202,7 +198,7 @@ finds_cycle {old = old} {new = new} next n m l s h o e low =
       | inr some ↦ absurd (omega (arith, s.trace.kept next some, o, e))
     ] in
     let i : IsMet old new next = record { was = was; is = (λ z. m (sym e ∙ z)) } in
-    let j = goes_on s i in
+    let j = passes_parent s i in
     let b = j.1 in
     record {
       low = low;

@@ -1,5 +1,5 @@
 use Rattle.std.proofs.Common.{rules, arith, refl}
-use Rattle.ffs_names.proofs.Continuing.{can_read, can_read_here}
+use Rattle.ffs_names.proofs.Continuing.{can_read}
 use Rattle.ffs_phase_tests.proofs.names.chunks_of.Goals as goal
 
 pub chunks-init : goal.chunks-init
