@@ -9,7 +9,7 @@ use Rattle.std.{specs.Int.RustNames.bit_xor, proofs.lemmas.Bool.Decides.nat_test
 use Rattle.byteorder.specs.Endian.{little_from}
 use Rattle.ffs_volume.specs.{Groups.Records.bit_at as map_bit, Groups.Records.same_bit, Disk.Numbers.all_below}
 use Rattle.ffs_maps.proofs.WordShifts.{bit_mod, bit_shl_low, bit_shl_high, max_zero, min_zero, zero_max, zero_min}
-use Rattle.ffs_volume.proofs.{Below.all_below-at, Below.all_below-from, Booleans.same_truth}
+use Rattle.ffs_volume.proofs.{Below.all_below-at, Below.all_below-from, Booleans.both_imply}
 
 next : (b rest : ℕ) → b + 256 * rest ≡ rest * 2 ^ 8 + b
 next b rest = omega arith
@@ -131,7 +131,7 @@ zero_from_same a b n same =
 
 is_same_word : (a b n : ℕ) → nat_eq (bit_and (bit_xor a b) (2 ^ n - 1)) 0
     ≡ all_below n (λ k. same_bit (nat_eq (bit_at a k) 1) (nat_eq (bit_at b k) 1))
-is_same_word a b n = same_truth _ _
+is_same_word a b n = both_imply _ _
     (λ e. all_below-from n (λ k. same_bit (nat_eq (bit_at a k) 1) (nat_eq (bit_at b k) 1))
     (same_from_zero a b n (eqb-true _ 0 e)))
     (λ e. eq-eqb _ 0 (zero_from_same a b n

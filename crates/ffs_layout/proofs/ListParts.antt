@@ -6,7 +6,7 @@ use Rattle.std.proofs.Math.Nat.{suc-mul, zero-mul}
 use Rattle.std.proofs.lemmas.List.{drop-drop, take-append-drop}
 use Rattle.std.proofs.lemmas.List.Folds.{list_any-append}
 use Rattle.std.proofs.Math.Bool.{or-true}
-use Rattle.ffs_volume.proofs.Booleans.{same_truth}
+use Rattle.ffs_volume.proofs.Booleans.{both_imply}
 use Rattle.ffs_layout.specs.Entry.{any_nul_or_slash as any}
 
 -- the part at an index
@@ -61,6 +61,6 @@ nul_or_slash_left xs k some =
 -- where what is left decides, more of it does too
 pub nul_or_slash_from : (xs : List ℕ) (j k : ℕ) → j ≤ k → any xs ≡ any (drop k xs) → any (drop j xs)
     ≡ any xs
-nul_or_slash_from xs j k before decides = same_truth (any (drop j xs)) (any xs) (nul_or_slash_left xs j) (λ some.
+nul_or_slash_from xs j k before decides = both_imply (any (drop j xs)) (any xs) (nul_or_slash_left xs j) (λ some.
     nul_or_slash_left (drop j xs) (k - j)
     (ap any (drop-drop (k - j) j xs ∙ ap (λ n. drop n xs) (omega arith)) ∙ (sym decides ∙ some)))

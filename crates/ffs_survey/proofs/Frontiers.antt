@@ -10,7 +10,8 @@ use Rattle.ffs_volume.proofs.LevelLaws.{within-suc, within-zero, within-grows, w
 use Rattle.ffs_volume.proofs.LevelLaws.{level-from, level-is, level-each, reached-from, parent-root, reached-level}
 use Rattle.ffs_volume.proofs.SearchLaws.{first_below-is, first_below-is_none, some_below-gives, some_below-from}
 use Rattle.ffs_volume.specs.Directories.Graph.{Graph, level_edge, edge, within, level, parent, parent_by, reached}
-use Rattle.ffs_volume.proofs.{ClimbLaws.is_value-from, ClimbLaws.is_value-true, Graphs.IsSane, Unreached.edge-parts}
+use Rattle.ffs_volume.proofs.{Booleans.both_imply, ClimbLaws.is_value-from, ClimbLaws.is_value-true, Graphs.IsSane}
+use Rattle.ffs_volume.proofs.Unreached.{edge-parts}
 use Rattle.ffs_volume.specs.{Directories.Climb.is_value, Directories.Roles.RoledEntry, Disk.Search.first_below}
 use Rattle.ffs_volume.specs.Disk.Search.{some_below}
 use Rattle.ffs_survey.proofs.Discovered.{dir_below, of_each, same_result-to, same_result-refl, set_tests}
@@ -105,10 +106,6 @@ frontier_first v k x xs sane f = go (find (λ s. edge v s x) xs) (found (λ s. e
       passes = and_from (is_value (level v s) k) (edge v s x) (bit-one _ _ (f.members s) h.1) h.0;
       least = λ t l. no_edge _ _ _ (f.members t) (h.2 t l);
     }))
-
--- tests that imply one another
-pub both_imply : (a b : Bool) → (a ≡ true → b ≡ true) → (b ≡ true → a ≡ true) → a ≡ b
-both_imply a b f g = grind arith
 
 -- what is one level further
 within-level : (v : Graph) (k x : ℕ) →
