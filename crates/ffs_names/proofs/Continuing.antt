@@ -1,7 +1,7 @@
 -- How a reading of chunks continues, and that its windows can be read into from read to read.
 use Rattle.std.proofs.Common.{◌≡◌, ◌≤◌, ◌∙◌, ℕ, List, Result, Ok, Err, ap, arith, refl}
 use Rattle.ffs_image.specs.{Device.Device, Reads.ReadAfter, declared.image.ImageFault.ImageFault}
-use Rattle.ffs_volume.specs.declared.{Step.Step}
+use Rattle.ffs_volume.specs.declared.Step.{Step}
 use Rattle.ffs_layout.specs.declared.geometry.Geometry.{Geometry}
 use Rattle.ffs_walk.specs.{Windows.CanWalk, Windows.KeepsBlocks}
 use Rattle.ffs_walk.specs.declared.{blocks.Blocks.Blocks, window.Window.Window}

@@ -5,7 +5,7 @@ use Rattle.std.{specs.List.range_with_len, proofs.lemmas.Bool.Decides.nat_tests}
 use Rattle.ffs_volume.proofs.GeometryLaws.{shape_holds}
 use Rattle.ffs_volume.specs.Directories.Entries.{Chunk, ChunkSource, chunk_of, run_chunks}
 use Rattle.ffs_volume.specs.Disk.{Areas.is_run_in_range, Numbers.piece, Outcome.has_valid_sizes}
-use Rattle.ffs_volume.specs.Disk.{Outcome.is_fragment_size}
+use Rattle.ffs_volume.specs.Disk.Outcome.{is_fragment_size}
 use Rattle.ffs_volume.specs.{Laws.Geometry.IsAcceptedLayout, declared.Layout.Layout}
 use Rattle.ffs_walk.proofs.{Areas.in_range-below, Ranges.range_step}
 use Rattle.ffs_names.specs.{RunCursors.cursor_chunks, declared.run_cursor.RunCursor.RunCursor}

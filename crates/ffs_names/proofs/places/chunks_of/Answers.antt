@@ -1,5 +1,4 @@
 use Rattle.std.proofs.Common.{◌∙◌, ap, arith, flat_map, sym}
-use Rattle.std.proofs.lemmas.Result.{err_from_is_err_and}
 use Rattle.ffs_volume.specs.Directories.Roles.{roled_chunk}
 use Rattle.ffs_names.proofs.{DirCosts.cost_is, NotedDirs.read_by_chunk, NotedDirs.read_by_cut}
 use Rattle.ffs_names.proofs.places.chunks_of.Goals as goal

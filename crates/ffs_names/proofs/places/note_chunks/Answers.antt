@@ -70,8 +70,6 @@ returns-clause-noted g c = λ b t.
           (flat_map roled_chunk (rest b c.args.chunks.now)) (rest b c.chunks.chunks) none (inv.waiting b t);
     }
 
--- the reads that were made
-
 pub returns-clause-leaves : goal.returns-clause-leaves
 returns-clause-leaves g c =
     let inv = c.chunks.invariant in
@@ -84,6 +82,7 @@ returns-then-place-eq0-clause-leaves g c =
     let went = c.in_ok-_offset.ensures.leaves in
     record { geometry = went.geometry ∙ inv.geometry; ready = rw inv.geometry at went.ready; read = went.read ∙ inv.same }
 
+-- the reads that were made
 pub returns-clause-reads : goal.returns-clause-reads
 returns-clause-reads g c = λ held b t.
     let inv = c.chunks.invariant in

@@ -4,7 +4,7 @@ use Rattle.std.proofs.Common.{rules, slice_index, slice_set, sym}
 use Rattle.std.proofs.lemmas.Grind.{common_steps, get_or_default_zero}
 use Rattle.ffs_volume.proofs.Sizes.{some_inodes}
 use Rattle.ffs_workspace.specs.{Lengths.inodes_of, Places.is_due, Places.place_in}
-use Rattle.ffs_workspace.specs.{declared.workspace.Workspace.Workspace}
+use Rattle.ffs_workspace.specs.declared.workspace.Workspace.{Workspace}
 use Rattle.ffs_survey.proofs.Costs.{cost_take, costs_rise}
 use Rattle.ffs_names.specs.{Costs.directory_cost, Noting.BeginsNotes, Noting.KeepsToRead}
 use Rattle.ffs_names.proofs.PlacesNoted.{claims_noted, coming_end, coming_first, coming_noted, only_fewer}

@@ -22,9 +22,6 @@ steps-init g c = record {
   reads = λ w h b t. omega arith;
 }
 
-pub next-requires : goal.next-requires
-next-requires g c = let i = c.steps.invariant in can_walk i.same.geometry i.ready
-
 pub steps-preserved-in-Some-Tail : goal.steps-preserved-in-Some-Tail
 steps-preserved-in-Some-Tail g c =
     let i = c.steps.invariant in
@@ -49,14 +46,6 @@ steps-preserved-in-Some-Tail g c =
           let runs = runs_tail s.keeping (ap (λ x. x.layout) same) (steps b t) in
           omega (arith, paid, runs, i.reads u h b t);
     }
-
-pub skip_gaps-requires : goal.skip_gaps-requires
-skip_gaps-requires g c =
-    let i = c.steps.invariant in
-    let same = c.next.ensures.same.geometry ∙ i.same.geometry in
-    let ready : CanWalkDir c.args.self.now.walk.geometry.layout (g.I.Image.device c.next.new.image) c.next.new.blocks =
-    walk_on i.same.geometry (ap (λ d. d.size) c.in_ok-next.ensures.leaves.read) c.next.ensures.leaves.kept i.ready in
-    record { room = (can_walk same ready).room }
 
 -- the gaps that follow a gap are passed too
 pub steps-preserved : goal.steps-preserved
@@ -151,7 +140,7 @@ pub returns-in-None-clause-found : goal.returns-in-None-clause-found
 returns-in-None-clause-found g c = λ b t.
     seen_if_over c.steps-test.true (c.in_ok-next.ensures.step.over c.in-None.is)
 
--- what is kept of the Run and of the sizes, after a step of the walk
+-- what is left at each return
 pub returns-in-None-clause-leaves : goal.returns-in-None-clause-leaves
 returns-in-None-clause-leaves g c =
     let i = c.steps.invariant in
@@ -161,17 +150,6 @@ returns-in-None-clause-leaves g c =
       ready = walk_on i.same.geometry (ap (λ d. d.size) next.read) c.next.ensures.leaves.kept i.ready;
       read = next.read ∙ i.device;
     }
-
-pub returns-in_err-next-clause-leaves : goal.returns-in_err-next-clause-leaves
-returns-in_err-next-clause-leaves g c =
-    let i = c.steps.invariant in
-    let err = c.in_err-next.ensures.leaves.read in
-    let p = err_from_is_err_and c.from_residual.result c.from_residual.ensures.1 in
-    rw (p.1, p.2) (record {
-      same = same_walked i.same (only_walks c.next.ensures.same.geometry refl refl refl refl refl);
-      ready = walk_on i.same.geometry err.size c.next.ensures.leaves.kept i.ready;
-      read = rw i.device at err;
-    })
 
 -- the reads that were made, and what is held
 pub returns-then-not-is_replay_open-clause-reads : goal.returns-then-not-is_replay_open-clause-reads

@@ -1,4 +1,4 @@
-use Rattle.std.proofs.Common.{◌∙◌, ◌+◌, ◌*◌, ap, sym, arith, rules}
+use Rattle.std.proofs.Common.{◌∙◌, ◌+◌, ◌*◌, ap, sym, arith}
 use Rattle.std.proofs.lemmas.Result.{err_from_is_err_and}
 use Rattle.ffs_volume.specs.Disk.Numbers.{piece}
 use Rattle.ffs_walk.specs.Rests.{steps_left}
@@ -33,41 +33,6 @@ returns-clause-place g c = λ b t.
     let more = rw c.if-not-branch.false at c.in_ok-advance.ensures.found in
     c.in_ok-read_chunk.ensures.chunk b (ap (λ d. d.contents) c.in_ok-advance.ensures.leaves.read ∙ t)
     ∙ ap (λ n. piece (h.place + 512 * n) 512 b) (omega arith)
-
--- the Run is a block's at most, and lies in the volume
-pub returns-in_err-read_chunk-clause-leaves : goal.returns-in_err-read_chunk-clause-leaves
-returns-in_err-read_chunk-clause-leaves g c =
-    let went = c.in_ok-advance.ensures.leaves in
-    let err = c.in_err-read_chunk.ensures.read in
-    let p = err_from_is_err_and c.from_residual-in_err-read_chunk.result c.from_residual-in_err-read_chunk.ensures.1 in
-    rw (p.1, p.2) (record {
-      same = went.same;
-      ready = record {
-        walk = record {
-          volume = rw err.size went.ready.volume;
-          room = went.ready.room;
-          holds = rw err.contents went.ready.holds;
-        };
-        room = c.read_chunk.ensures.room ∙ c.requires.room;
-        holds = c.read_chunk.ensures.holds;
-      };
-      read = rw went.read at err;
-    })
-
-pub returns-clause-leaves : goal.returns-clause-leaves
-returns-clause-leaves g c =
-    let went = c.in_ok-advance.ensures.leaves in
-    let read = c.in_ok-read_chunk.ensures.read in
-    let same = went.same in
-    record {
-      same = search rules;
-      ready = record {
-        walk = rw read went.ready;
-        room = c.read_chunk.ensures.room ∙ c.requires.room;
-        holds = c.read_chunk.ensures.holds;
-      };
-      read = read ∙ went.read;
-    }
 
 pub returns-in_err-advance-clause-reads : goal.returns-in_err-advance-clause-reads
 returns-in_err-advance-clause-reads g c =

@@ -1,4 +1,4 @@
-use Rattle.std.proofs.Common.{ap, refl, arith}
+use Rattle.std.proofs.Common.{ap, refl}
 use Rattle.ffs_names.proofs.{Begins.begins_at, ReadCounts.begins_reads}
 use Rattle.ffs_names.proofs.chunks.Chunks.restart.Goals as goal
 

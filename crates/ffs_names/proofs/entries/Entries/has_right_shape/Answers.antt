@@ -1,13 +1,8 @@
-use Rattle.std.proofs.Common.{refl, sym, ap, ◌∙◌, not, arith}
 use Rattle.std.proofs.lemmas.Result.{err_from_is_err_and}
-use Rattle.ffs_names.proofs.{Continuing.same_here, EntryCounts.looks_on}
+use Rattle.ffs_names.proofs.EntryCounts.{looks_on}
 use Rattle.ffs_names.proofs.entries.Entries.has_right_shape.Goals as goal
 
--- no chunk is left, and the last one is full
-pub returns-clause-shape : goal.returns-clause-shape
-returns-clause-shape g c = λ b t ended.
-    rw (c.if-not-self.false, ended.current, ended.chunks) (ap not (c.in_ok-gap.ensures.gap b t))
-
+-- a look for holes continues the reads
 pub returns-in_err-gap-clause-reads : goal.returns-in_err-gap-clause-reads
 returns-in_err-gap-clause-reads g c =
     rw (err_from_is_err_and c.from_residual.result c.from_residual.ensures.1).1 (λ w held b t.

@@ -1,4 +1,4 @@
-use Rattle.std.proofs.Common.{◌≡◌, ◌∙◌, ◌+◌, ◌≤◌, ℕ, List, Some, ap, refl, sym, arith}
+use Rattle.std.proofs.Common.{◌≡◌, ◌∙◌, ◌+◌, ◌≤◌, ℕ, List, Some, ap, sym, arith}
 use Rattle.std.proofs.lemmas.{Bool.and_parts, Result.err_from_is_err_and}
 use Rattle.ffs_names.specs.{Costs.HoldsEntries, Costs.entries_to_read, Readings.rest}
 use Rattle.ffs_names.proofs.{Entered.none_came, Entered.chunk_came}

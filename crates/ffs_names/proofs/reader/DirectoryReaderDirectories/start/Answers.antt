@@ -101,7 +101,6 @@ returns-in-Some-clause-shape g c = λ b k.
     (rw c.requires.ready.1 at c.restart_at.ensures.begins).shape b read.small
     ∙ (read.shape ∙ sym (ap (λ (x : Bool). x && is_right_shape (volume_of v b) c.args.dir) dir))
 
--- the read of the inode failed
 -- the reads that were made, and those that are still to come
 pub returns-then-not-is_dir-clause-counted : goal.returns-then-not-is_dir-clause-counted
 returns-then-not-is_dir-clause-counted g c = λ b k.
