@@ -176,7 +176,7 @@ fn entries_of<I: Image>(
 }
 
 /// A chunk with three entries at the fragment 40, and one with an empty entry at the fragment 41.
-static ENTRY_NUMBERS: [Number; 12] = [
+static ENTRY_NUMBERS: [Number; 13] = [
     (40960, 4, 2),
     (40964, 2, 12),
     (40966, 2, 0x0104),
@@ -188,6 +188,7 @@ static ENTRY_NUMBERS: [Number; 12] = [
     (40984, 4, 4),
     (40988, 2, 488),
     (40990, 2, 0x0108),
+    (40992, 1, 98),
     (41988, 2, 512),
 ];
 
