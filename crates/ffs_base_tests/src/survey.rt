@@ -34,7 +34,7 @@ impl Directories for Listed {
 
     ghost right_shape = { λ _ _ _. true };
 
-    ghost device = { λ _. record { contents = None; size = 0; failures = 0; failed_sector = 0 } };
+    ghost device = { λ _. record { contents = None; size = 0; failures = 0; failed_sector = 0; lent = [] } };
 
     ghost ready = { λ _. Unit {0} };
 

@@ -9,4 +9,4 @@ reported_length contents size sized b e = rw e at sized
 
 -- the fault of a read is in the sector that the device then gives
 pub faulted_there : (old new : Device) (sector : ℕ) → Faulted old new sector → Faulted old new new.failed_sector
-faulted_there old new sector f = record { contents = f.contents; size = f.size; failed_sector = refl; rose = f.rose }
+faulted_there old new sector f = record { contents = f.contents; size = f.size; lent = f.lent; failed_sector = refl; rose = f.rose }

@@ -1,13 +1,26 @@
 -- What an image gives, and what a read does to it.
+use Rattle.std.specs.Borrow.{GName}
 use Rattle.std.specs.Prelude.{◌≡◌, ℕ, ◌+◌, ◌-◌, ◌^◌, min, List, length, drop, take, Option, Some, IfSome}
 
+-- an image as it was lent to another one, which lies over it: the reference to it, how often that
+-- one reads it at most, if its reads are limited, how many it had counted, how many had failed, and
+-- the sector of the last one that did
+pub record Lent : Type 0 where
+  pub image : GName
+  pub limit : Option ℕ
+  pub reads : ℕ
+  pub failures : ℕ
+  pub failed_sector : ℕ
+
 -- what contracts know of any image, one in memory too: its bytes, where it gives them, its size in
--- bytes, how many reads have failed, and the sector of the last one that did
+-- bytes, how many reads have failed, the sector of the last one that did, and the images that it
+-- was lent, the next one below it first
 pub record Device : Type 0 where
   pub contents : Option (List ℕ)
   pub size : ℕ
   pub failures : ℕ
   pub failed_sector : ℕ
+  pub lent : List Lent
 
 -- P holds of the bytes of an image that gives them; of another image this asks nothing
 abbrev pub ForContents : Option (List ℕ) → (List ℕ → Type 0) → Type 0
@@ -22,6 +35,7 @@ Rose old new = new ≡ min (old + 1) (2 ^ 64 - 1)
 pub record Faulted (old new : Device) (sector : ℕ) : Type 0 where
   pub contents : new.contents ≡ old.contents
   pub size : new.size ≡ old.size
+  pub lent : new.lent ≡ old.lent
   pub failed_sector : new.failed_sector ≡ sector
   pub rose : Rose old.failures new.failures
 

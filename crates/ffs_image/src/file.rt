@@ -82,12 +82,15 @@ impl<F: RawFile + Drop> SourceImage<OpenedFile<F>> {
 }
 
 impl<S: Source> Image for SourceImage<S> {
+    ghost use Rattle.std.specs.Prelude.{[]};
+
     ghost device = { λ i. let s = S.state i.source in
         record {
           contents = s.contents;
           size = s.size;
           failures = s.failures;
           failed_sector = i.failed_sector;
+          lent = [];
         } };
 
     ghost reads = { λ _. 0 };

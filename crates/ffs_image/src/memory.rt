@@ -29,13 +29,14 @@ impl MemoryImage {
 }
 
 impl Image for MemoryImage {
-    ghost use Rattle.std.specs.Prelude.{length, Some, refl};
+    ghost use Rattle.std.specs.Prelude.{length, Some, refl, []};
 
     ghost device = { λ m. record {
       contents = Some m;
       size = length m;
       failures = 0;
       failed_sector = 0;
+      lent = [];
     } };
 
     ghost reads = { λ _. 0 };

@@ -1,0 +1,45 @@
+-- What an image with a limit shows of the image below it, and what it gives back of that.
+use Rattle.std.specs.Borrow.{GName}
+use Rattle.std.specs.Prelude.{◌≡◌, ℕ, ◌+◌, ◌-◌, ◌^◌, ◌<◌, ◌≤◌, min, Bool, if◌then◌else◌, ◌∷◌}
+use Rattle.std.specs.Prelude.{Option, Some, None, IfSome, IsSomeAnd, MatchOption, Result, Ok, IfOk}
+use Rattle.ffs_image.specs.{Device.Device, Reads.ReadAfter}
+use Rattle.ffs_image.specs.declared.image.ImageFault.{ImageFault}
+
+-- the image below after reads of which at most one failed, at a sector
+abbrev pub after_reads : Device → (failed : Bool) → (sector : ℕ) → Device
+after_reads d failed sector =
+    if failed then record d { failures = min (d.failures + 1) (2 ^ 64 - 1); failed_sector = sector } else d
+
+-- the limit of reads, where there is one
+abbrev pub limit_of : (limited : Bool) → (limit : ℕ) → Option ℕ
+limit_of limited limit = if limited then Some limit else None
+
+-- an image with a limit over one that was lent under a name and had counted so many reads
+abbrev pub limited_device : Device → GName → (reads : ℕ) → (limit : Option ℕ) → Device
+limited_device d name reads limit = record d {
+  lent = record {
+    image = name;
+    limit = limit;
+    reads = reads;
+    failures = d.failures;
+    failed_sector = d.failed_sector;
+  } ∷ d.lent;
+}
+
+-- so many reads were asked for, where they are limited: those that were passed on, and one more
+-- where the limit refused one
+abbrev pub reads_asked : (limit left : ℕ) → (spent : Bool) → ℕ
+reads_asked limit left spent = limit - left + (if spent then 1 else 0)
+
+-- the image below is given back: the one that was lent, with no more reads than the limit less what
+-- is left of it, and with at most the one failed read that the answer is of. The answer is the
+-- result, where that is Ok, or a fault; there is none only where more reads were asked for than the
+-- limit
+pub record GivesBack {T : Type 0} (lent below : Device) (name_lent name : GName) (reads reads' : ℕ)
+    (limit : Option ℕ) (left asked : ℕ) (result : Result T ImageFault) (answer : Option (Result T ImageFault)) :
+    Type 0 where
+  pub same_image : name ≡ name_lent
+  pub most : IfSome limit (λ n. reads' + left ≤ reads + n)
+  pub left_of : IfSome limit (λ n. n ≤ left + asked)
+  pub device : MatchOption answer (below ≡ lent) (ReadAfter lent below)
+  pub value : MatchOption answer (IsSomeAnd limit (λ n. n < asked)) (λ given. IfOk given (λ x. result ≡ Ok x))

@@ -1,0 +1,141 @@
+//! An image that is read at most so often.
+ghost use Rattle.std.specs.Prelude.{◌≡◌, ◌+◌, ◌≤◌, ◌||◌, ℕ, Option, true, false};
+ghost use Rattle.std.specs.Borrow.{GName};
+ghost use Rattle.ffs_image.specs.Device.{Device};
+ghost use Rattle.ffs_image.specs.Limited.{after_reads, limited_device, reads_asked, limit_of, GivesBack};
+ghost use Rattle.ffs_image.specs.Reads.{ReadAfter};
+
+use crate::image::{Image, ImageFault};
+use std::snapshot::Snapshot;
+
+/// An image over another one that is lent to it, and that it reads at most so often. Each further
+/// read is refused: it fails, and the image below isn't asked. So is each read after one that
+/// failed.
+///
+/// What reads a whole image needs a bound that holds of any image, also of one that gives other
+/// bytes each time. An image whose bytes stay never reaches the limit, where that is at least what
+/// its bytes ask for.
+#[derive(Drop)]
+pub struct LimitedImage<'a, I: Image> {
+    below: &'a mut I,
+    begins: Snapshot<I>,
+    limited: bool,
+    limit: u64,
+    left: u64,
+    spent: bool,
+    failed: bool,
+    fault_sector: u64,
+    failures: u64,
+    failed_sector: u64,
+    ghost few: { left ≤ limit },
+    ghost none_left: { spent ≡ true → (limited ≡ true) × (left ≡ 0) },
+    ghost within: { limited ≡ true → I.reads below.now + left ≤ I.reads begins.value + limit },
+    ghost one_failed: { I.device below.now ≡ after_reads (I.device begins.value) failed
+        fault_sector },
+    ghost none_failed: { (failed || spent) ≡ false → (failures ≡ (I.device begins.value).failures)
+        × (failed_sector ≡ (I.device begins.value).failed_sector) },
+}
+
+impl<'a, I: Image> LimitedImage<'a, I> {
+    /// The image below, of which at most so many reads are made, or any number where there is no
+    /// limit.
+    pub fn new(below: &'a mut I, limit: Option<u64>) -> LimitedImage<'a, I>
+        ensures device { ⟦<LimitedImage<'a, I> as Image>⟧.device result
+            ≡ limited_device (I.device below.old) below.entry.ghost_name (I.reads below.old)
+            limit }
+        ensures asked { ⟦<LimitedImage<'a, I> as Image>⟧.reads result ≡ 0 }
+    {
+        let begins = Snapshot::of(&*below);
+        let failures = below.failures();
+        let failed_sector = below.failed();
+        let left = limit.unwrap_or(0);
+        LimitedImage {
+            below,
+            begins,
+            limited: limit.is_some(),
+            limit: left,
+            left,
+            spent: false,
+            failed: false,
+            fault_sector: 0,
+            failures,
+            failed_sector,
+        }
+    }
+
+    /// How many reads are left of the limit, 0 where there is none.
+    pub fn left(&self) -> u64
+        ensures value { result ≡ self.now.left }
+    {
+        self.left
+    }
+
+    /// What a call that read this image, and nothing else of the image below, answers over that
+    /// image: its result, or the fault of the one read that failed there. None where the limit
+    /// ended the call.
+    pub fn answer<T: Copy>(&self, given: Result<T, ImageFault>) -> Option<Result<T, ImageFault>>
+        ensures { (d : Device) (name : GName) (reads : ℕ) (limit : Option ℕ)
+            → ReadAfter (limited_device d name reads limit)
+            (⟦<LimitedImage<'a, I> as Image>⟧.device self.now) given
+            → GivesBack d (I.device self.now.below.now) name self.now.below.ghost_name
+            reads (I.reads self.now.below.now) limit self.now.left
+            (⟦<LimitedImage<'a, I> as Image>⟧.reads self.now) given result }
+    {
+        if self.failed {
+            return Some(Err(ImageFault {
+                sector: self.fault_sector,
+            }));
+        }
+        if self.spent {
+            return None;
+        }
+        Some(given)
+    }
+}
+
+impl<'a, I: Image> Image for LimitedImage<'a, I> {
+    ghost use Rattle.std.specs.Prelude.{◌+◌};
+
+    ghost device = { λ l. record (limited_device (I.device l.begins.value) l.below.ghost_name
+        (I.reads l.begins.value) (limit_of l.limited l.limit)) {
+          failures = l.failures;
+          failed_sector = l.failed_sector;
+        } };
+
+    ghost reads = { λ l. reads_asked l.limit l.left l.spent };
+
+    ghost sized = { λ l. I.sized l.begins.value };
+
+    fn size(&self) -> u64 {
+        self.below.size()
+    }
+
+    fn failures(&self) -> u64 {
+        self.failures
+    }
+
+    fn failed(&self) -> u64 {
+        self.failed_sector
+    }
+
+    fn read_at(&mut self, at: u64, buf: &mut [u8]) -> Result<(), ImageFault> {
+        let sector = at / 512;
+        if !self.failed && !self.spent {
+            if self.limited && self.left == 0 {
+                self.spent = true;
+            } else {
+                self.left = self.left.saturating_sub(1);
+                match self.below.read_at(at, buf) {
+                    Ok(()) => return Ok(()),
+                    Err(_) => {
+                        self.fault_sector = sector;
+                        self.failed = true;
+                    }
+                }
+            }
+        }
+        self.failures = self.failures.saturating_add(1);
+        self.failed_sector = sector;
+        Err(ImageFault { sector })
+    }
+}
