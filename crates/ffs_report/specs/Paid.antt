@@ -1,0 +1,39 @@
+-- How often an image was read for the messages that a call said: for each at a price, beside what
+-- was left for other reads before and after.
+use Rattle.std.specs.Prelude.{◌≡◌, ◌≤◌, ◌+◌, ◌*◌, ℕ, suc, List, length, Result, Ok, Err}
+use Rattle.ffs_volume.specs.Messages.Kinds.{Message}
+use Rattle.ffs_report.specs.{Progress.Progress, Progress.Said, Progress.Stopped}
+use Rattle.ffs_report.specs.declared.fault.RunFault.{RunFault}
+use Rattle.ffs_report.specs.declared.fault.RunFault.TheVariants.{Read, Out}
+
+-- n messages were said
+pub record SaidMany (n : ℕ) (old new : Progress) : Type 0 where
+  pub messages : List Message
+  pub said : Said old new messages
+  pub many : n ≡ length messages
+
+-- n messages were said, or all but the last of them
+pub record SaidButOne (n : ℕ) (old new : Progress) : Type 0 where
+  pub messages : List Message
+  pub said : Said old new messages
+  pub many : n ≤ suc (length messages)
+
+-- the output failed among n messages
+pub record StoppedAmong (n : ℕ) (old new : Progress) : Type 0 where
+  pub messages : List Message
+  pub stopped : Stopped old new messages
+  pub many : n ≡ length messages
+
+-- n messages were begun: all were said at Ok, perhaps all but the last at a read's fault, and the
+-- output failed among them at its own fault
+abbrev pub HasBegun : {T : Type 0} → ℕ → Progress → Progress → Result T RunFault → Type 0
+HasBegun n old new (Ok x) = SaidMany n old new
+HasBegun n old new (Err (Read fault)) = SaidButOne n old new
+HasBegun n old new (Err (Out fault)) = StoppedAmong n old new
+
+-- some messages were begun, and no more was taken than their price
+pub record Paid {T : Type 0} (price : ℕ) (old new : Progress) (before after : ℕ) (result : Result T RunFault) :
+    Type 0 where
+  pub messages : ℕ
+  pub begun : HasBegun messages old new result
+  pub most : after ≤ before + price * messages
