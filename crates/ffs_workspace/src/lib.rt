@@ -12,12 +12,14 @@
 //! It rests on `ffs_walk` and `ffs_maps`.
 #![tactic(auto)]
 
+mod limits;
 mod links;
 mod notes;
 mod places;
 mod table;
 mod workspace;
 
+pub use limits::{line_reads, sweep_reads};
 pub use links::links_start;
 pub use notes::{address_in, cut_in, note_of};
 pub use places::{due, is_due, noted_chunk, passed, place_of};

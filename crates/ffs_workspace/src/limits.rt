@@ -1,0 +1,31 @@
+//! How often parts of a check read the image at most.
+ghost use Rattle.std.specs.Prelude.{◌≡◌, Some, IfSome};
+ghost use Rattle.ffs_volume.specs.Report.Reads.{line_reads, sweep_reads};
+ghost use Rattle.ffs_workspace.specs.Places.{AreChunksNumbered};
+
+use ffs_layout::Geometry;
+use ffs_volume::constants::{DIRBLKSIZ, MAXPATHLEN};
+
+/// At most how many reads a sweep over all inodes and their blocks makes (`Report/Reads` of
+/// `ffs_volume`).
+pub fn sweep_reads(geometry: &Geometry) -> u64
+    ensures { result ≡ sweep_reads geometry.now.layout }
+{
+    let inodes = u64::from(geometry.layout.ncg) * u64::from(geometry.layout.ipg);
+    inodes + (u64::from(geometry.layout.size) + 22 * inodes)
+}
+
+/// At most how many reads are made for what a message of phase 2 shows, on a volume of less than
+/// 2^40 bytes. None on a larger one: there no place is noted of some parent entries, and a path may
+/// search a directory.
+pub fn line_reads(geometry: &Geometry) -> Option<u64>
+    ensures numbered { AreChunksNumbered geometry.now.layout → result ≡ Some line_reads }
+    ensures small { IfSome result (λ n. n ≡ line_reads) }
+{
+    let bytes = u64::from(geometry.layout.size) * u64::from(geometry.layout.fsize);
+    if bytes > DIRBLKSIZ as u64 * ((1 << 31) - 1) {
+        return None;
+    }
+    let path = MAXPATHLEN as u64 / 2 + 2;
+    Some(2 * path + 1)
+}
