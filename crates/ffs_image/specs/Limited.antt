@@ -1,9 +1,8 @@
 -- What an image with a limit shows of the image below it, and what it gives back of that.
 use Rattle.std.specs.Borrow.{GName}
 use Rattle.std.specs.Prelude.{◌≡◌, ℕ, ◌+◌, ◌-◌, ◌^◌, ◌<◌, ◌≤◌, min, Bool, if◌then◌else◌, ◌∷◌}
-use Rattle.std.specs.Prelude.{Option, Some, None, IfSome, IsSomeAnd, MatchOption, Result, Ok, IfOk}
-use Rattle.ffs_image.specs.{Device.Device, Reads.ReadAfter}
-use Rattle.ffs_image.specs.declared.image.ImageFault.{ImageFault}
+use Rattle.std.specs.Prelude.{Option, Some, None, IfSome, IsSomeAnd, true, false}
+use Rattle.ffs_image.specs.Device.{Device, Faulted}
 
 -- the image below after reads of which at most one failed, at a sector
 abbrev pub after_reads : Device → (failed : Bool) → (sector : ℕ) → Device
@@ -14,9 +13,12 @@ after_reads d failed sector =
 abbrev pub limit_of : (limited : Bool) → (limit : ℕ) → Option ℕ
 limit_of limited limit = if limited then Some limit else None
 
--- an image with a limit over one that was lent under a name and had counted so many reads
+-- an image with a limit over one that was lent under a name and had counted so many reads; none of
+-- its own has failed
 abbrev pub limited_device : Device → GName → (reads : ℕ) → (limit : Option ℕ) → Device
 limited_device d name reads limit = record d {
+  failures = 0;
+  failed_sector = 0;
   lent = record {
     image = name;
     limit = limit;
@@ -31,15 +33,16 @@ limited_device d name reads limit = record d {
 abbrev pub reads_asked : (limit left : ℕ) → (spent : Bool) → ℕ
 reads_asked limit left spent = limit - left + (if spent then 1 else 0)
 
--- the image below is given back: the one that was lent, with no more reads than the limit less what
--- is left of it, and with at most the one failed read that the answer is of. The answer is the
--- result, where that is Ok, or a fault; there is none only where more reads were asked for than the
--- limit
-pub record GivesBack {T : Type 0} (lent below : Device) (name_lent name : GName) (reads reads' : ℕ)
-    (limit : Option ℕ) (left asked : ℕ) (result : Result T ImageFault) (answer : Option (Result T ImageFault)) :
-    Type 0 where
+-- after calls that leave the image above as it was, or with one failed read, the image below is
+-- given back: with no more reads than the limit less what is left of it, as it was lent, or with
+-- that failed read, if it isn't one that the limit refused. None is refused but where more reads
+-- were asked for than the limit
+pub record GivesBack (lent below : Device) (name_lent name : GName) (reads reads' : ℕ) (limit : Option ℕ)
+    (left asked : ℕ) (spent : Bool) (above above' : Device) : Type 0 where
   pub same_image : name ≡ name_lent
   pub most : IfSome limit (λ n. reads' + left ≤ reads + n)
   pub left_of : IfSome limit (λ n. n ≤ left + asked)
-  pub device : MatchOption answer (below ≡ lent) (ReadAfter lent below)
-  pub value : MatchOption answer (IsSomeAnd limit (λ n. n < asked)) (λ given. IfOk given (λ x. result ≡ Ok x))
+  pub asked_more : spent ≡ true → IsSomeAnd limit (λ n. n < asked)
+  pub untouched : above' ≡ above → (spent ≡ false) × (below ≡ lent)
+  pub refused : spent ≡ true → below ≡ lent
+  pub faulted : (sector : ℕ) → Faulted above above' sector → spent ≡ false → Faulted lent below sector

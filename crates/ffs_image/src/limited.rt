@@ -3,7 +3,6 @@ ghost use Rattle.std.specs.Prelude.{◌≡◌, ◌+◌, ◌≤◌, ◌||◌, ℕ
 ghost use Rattle.std.specs.Borrow.{GName};
 ghost use Rattle.ffs_image.specs.Device.{Device};
 ghost use Rattle.ffs_image.specs.Limited.{after_reads, limited_device, reads_asked, limit_of, GivesBack};
-ghost use Rattle.ffs_image.specs.Reads.{ReadAfter};
 
 use crate::image::{Image, ImageFault};
 use std::snapshot::Snapshot;
@@ -28,12 +27,13 @@ pub struct LimitedImage<'a, I: Image> {
     failures: u64,
     failed_sector: u64,
     ghost few: { left ≤ limit },
-    ghost none_left: { spent ≡ true → (limited ≡ true) × (left ≡ 0) },
+    ghost none_left: { spent ≡ true → (limited ≡ true) × (left ≡ 0) × (failed ≡ false) },
     ghost within: { limited ≡ true → I.reads below.now + left ≤ I.reads begins.value + limit },
     ghost one_failed: { I.device below.now ≡ after_reads (I.device begins.value) failed
         fault_sector },
-    ghost none_failed: { (failed || spent) ≡ false → (failures ≡ (I.device begins.value).failures)
-        × (failed_sector ≡ (I.device begins.value).failed_sector) },
+    ghost none_failed: { (failed || spent) ≡ false → failures ≡ 0 },
+    ghost some_failed: { failures ≡ 0 → (failed || spent) ≡ false },
+    ghost first_failed: { failures ≡ 1 → failed ≡ true → fault_sector ≡ failed_sector },
 }
 
 impl<'a, I: Image> LimitedImage<'a, I> {
@@ -46,8 +46,6 @@ impl<'a, I: Image> LimitedImage<'a, I> {
         ensures asked { ⟦<LimitedImage<'a, I> as Image>⟧.reads result ≡ 0 }
     {
         let begins = Snapshot::of(&*below);
-        let failures = below.failures();
-        let failed_sector = below.failed();
         let left = limit.unwrap_or(0);
         LimitedImage {
             below,
@@ -58,8 +56,8 @@ impl<'a, I: Image> LimitedImage<'a, I> {
             spent: false,
             failed: false,
             fault_sector: 0,
-            failures,
-            failed_sector,
+            failures: 0,
+            failed_sector: 0,
         }
     }
 
@@ -70,26 +68,23 @@ impl<'a, I: Image> LimitedImage<'a, I> {
         self.left
     }
 
-    /// What a call that read this image, and nothing else of the image below, answers over that
-    /// image: its result, or the fault of the one read that failed there. None where the limit
-    /// ended the call.
-    pub fn answer<T: Copy>(&self, given: Result<T, ImageFault>) -> Option<Result<T, ImageFault>>
-        ensures { (d : Device) (name : GName) (reads : ℕ) (limit : Option ℕ)
-            → ReadAfter (limited_device d name reads limit)
-            (⟦<LimitedImage<'a, I> as Image>⟧.device self.now) given
+    /// Whether the limit refused a read. A call that read this image, and nothing else of the image
+    /// below, then ended by that and by no fault; else the fault that it answers is one of the
+    /// image below.
+    pub fn is_spent(&self) -> bool
+        ensures value { result ≡ self.now.spent }
+        ensures below { (d : Device) (name : GName) (reads : ℕ) (limit : Option ℕ)
+            → (⟦<LimitedImage<'a, I> as Image>⟧.device self.now).lent
+            ≡ (limited_device d name reads limit).lent
+            → (⟦<LimitedImage<'a, I> as Image>⟧.device self.now).contents ≡ d.contents
+            → (⟦<LimitedImage<'a, I> as Image>⟧.device self.now).size ≡ d.size
             → GivesBack d (I.device self.now.below.now) name self.now.below.ghost_name
             reads (I.reads self.now.below.now) limit self.now.left
-            (⟦<LimitedImage<'a, I> as Image>⟧.reads self.now) given result }
+            (⟦<LimitedImage<'a, I> as Image>⟧.reads self.now) result
+            (limited_device d name reads limit)
+            (⟦<LimitedImage<'a, I> as Image>⟧.device self.now) }
     {
-        if self.failed {
-            return Some(Err(ImageFault {
-                sector: self.fault_sector,
-            }));
-        }
-        if self.spent {
-            return None;
-        }
-        Some(given)
+        self.spent
     }
 }
 
