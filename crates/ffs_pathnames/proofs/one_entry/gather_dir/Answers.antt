@@ -1,43 +1,66 @@
-use Rattle.std.proofs.Common.{ap, ◌∙◌}
-use Rattle.std.proofs.lemmas.Result.{err_from_is_err_and}
-use Rattle.ffs_pathnames.proofs.{Carrying.if_ok, Carrying.on_all, ReadyLaws.leaves_read}
+use Rattle.std.proofs.Common.{rules, ◌≡◌, ◌+◌, ◌*◌, ◌<◌, ◌≤◌, ℕ, false, List, length, Option, Some, OnOk, IfOk, IsTrue, vec_len, ◌-◌, ◌/◌, ◌%◌, Bool, true, nat_eq, nat_lt, [], ◌∷◌, ◌++◌, slice_index_or, slice_set, bit_and, bit_or, Fits, w8, w32, w64, Bor, MutBor}
+use Rattle.ffs_image.specs.Device.{ForContents}
+use Rattle.ffs_volume.specs.Directories.PathnameCheck.{attributes, extra_lines}
+use Rattle.ffs_volume.specs.Directories.Parents.{graph_of}
+use Rattle.ffs_volume.specs.Directories.Paths.{dir_path}
+use Rattle.ffs_volume.specs.Directories.Volumes.{volume_of}
+use Rattle.ffs_volume.specs.declared.Layout.{Layout}
+use Rattle.ffs_volume.specs.Report.Reads.{line_reads, path_reads}
+use Rattle.ffs_pathnames.specs.SaysNames.{SaysNames}
+use Rattle.ffs_pathnames.specs.EntryLines.{ReportsEntries}
+use Rattle.ffs_pathnames.specs.Gathers.{IsEnough, IsVerdict, AreAsLong, passed_of, asks_attr, asks_path, extra_reported, is_silent, plain_lines_by}
+use Rattle.ffs_pathnames.specs.DirectoryContext.{DirectoryContext, KeepsPath, KnowsPath}
+use Rattle.ffs_pathnames.specs.Ready.{ReadyWith, ReadyToPath, PathLeaves, LinesLeave}
+use Rattle.ffs_layout.specs.Entry.{entry_value}
+use Rattle.ffs_report.specs.Known.{ForBytes}
+use Rattle.ffs_report.specs.Paid.{Paid}
+use Rattle.ffs_report.specs.Progress.{progress}
+use Rattle.ffs_workspace.specs.Lengths.{IsFor}
+use Rattle.ffs_workspace.specs.Holds.{HoldsClaims, HoldsSurvey}
+use Rattle.ffs_workspace.specs.Places.{AreChunksNumbered}
+use Rattle.ffs_workspace.specs.declared.workspace.Workspace.{Workspace as WorkspaceIn}
+use Rattle.ffs_paths.specs.KeptParents.{KeepsParent}
+use Rattle.ffs_paths.specs.DirectoryPaths.{IsPathOf}
+use Rattle.ffs_paths.specs.LastPaths.{last_path}
+use Rattle.ffs_paths.specs.Reads.{ForTree, IsReadyFor, OnlyReads, ReadsAtMost, ReadsFew}
 use Rattle.ffs_pathnames.proofs.one_entry.gather_dir.Goals as goal
 
-pub put_path-requires : goal.put_path-requires
-put_path-requires g c = c.requires
+-- src/one_entry.rt:556:9
+pub returns-in_default-clause-attr : goal.returns-in_default-clause-attr
+returns-in_default-clause-attr g c = ?
 
-pub returns-in_err-put_path-clause-attr : goal.returns-in_err-put_path-clause-attr
-returns-in_err-put_path-clause-attr g c =
-    let p = err_from_is_err_and c.from_residual.result c.from_residual.ensures.1 in rw p.1 tt
+-- src/one_entry.rt:562:9
+pub returns-then-is_spent-clause-attr : goal.returns-then-is_spent-clause-attr
+returns-then-is_spent-clause-attr g c = ?
 
-pub returns-in_err-put_path-clause-path : goal.returns-in_err-put_path-clause-path
-returns-in_err-put_path-clause-path g c =
-    let p = err_from_is_err_and c.from_residual.result c.from_residual.ensures.1 in rw p.1 tt
+-- src/one_entry.rt:562:9
+pub returns-then-is_spent-clause-path : goal.returns-then-is_spent-clause-path
+returns-then-is_spent-clause-path g c = ?
 
-pub returns-in_err-put_path-clause-leaves : goal.returns-in_err-put_path-clause-leaves
-returns-in_err-put_path-clause-leaves g c =
-    let left = c.in_err-put_path.ensures.leaves.reads in
-    let p = err_from_is_err_and c.from_residual.result c.from_residual.ensures.1 in
-    rw (p.1, p.2) (record {
-      reads = record { lists = left.lists; chunk = left.chunk; ready = left.ready; read = left.read };
-      kept_parent = tt;
-    })
+-- src/one_entry.rt:562:9
+pub returns-then-is_spent-clause-leaves : goal.returns-then-is_spent-clause-leaves
+returns-then-is_spent-clause-leaves g c = ?
 
-pub read_attr-requires : goal.read_attr-requires
-read_attr-requires g c = record {
-  ready = c.in_ok-put_path.ensures.leaves.reads.ready;
-  number = c.requires.number;
-}
+-- src/one_entry.rt:562:9
+pub returns-then-is_spent-clause-most : goal.returns-then-is_spent-clause-most
+returns-then-is_spent-clause-most g c = ?
 
+-- src/one_entry.rt:532:1
 pub returns-clause-attr : goal.returns-clause-attr
-returns-clause-attr g c =
-    if_ok c.read_attr.result _ _
-    (λ a h b t. h b (ap (λ d. d.contents) c.in_ok-put_path.ensures.leaves.reads.read ∙ t)) c.read_attr.ensures.attr
+returns-clause-attr g c = ?
 
+-- src/one_entry.rt:532:1
 pub returns-clause-path : goal.returns-clause-path
-returns-clause-path g c =
-    on_all c.read_attr.result _ (λ b k. c.in_ok-put_path.ensures.path b k.gives_bytes k.claims k.survey)
+returns-clause-path g c = ?
 
+-- src/one_entry.rt:532:1
 pub returns-clause-leaves : goal.returns-clause-leaves
-returns-clause-leaves g c =
-    leaves_read c.read_attr.result c.in_ok-put_path.ensures.leaves c.read_attr.ensures.reads
+returns-clause-leaves g c = ?
+
+-- src/one_entry.rt:532:1
+pub returns-clause-counted : goal.returns-clause-counted
+returns-clause-counted g c = ?
+
+-- src/one_entry.rt:532:1
+pub returns-clause-most : goal.returns-clause-most
+returns-clause-most g c = let r = c.image-2-1.given in let u = c.drop-limited-2 in let r2 = c.limited-2-1 in let r3 = c.limited-1 in let t = c.new-arg-1 in let u2 = c.gather_dir_freely-arg-2-1 in ?

@@ -2,7 +2,7 @@ use Rattle.std.proofs.Common.{ap, ◌∙◌, arith}
 use Rattle.ffs_volume.specs.Directories.{Parents.graph_of, Volumes.volume_of}
 use Rattle.ffs_paths.proofs.Climbed.{few_more, few_then}
 use Rattle.ffs_pathnames.proofs.{Carrying.if_ok, Carrying.on_all, ReadyLaws.leaves_read}
-use Rattle.ffs_pathnames.proofs.one_entry.gather_extra.Goals as goal
+use Rattle.ffs_pathnames.proofs.one_entry.gather_extra_freely.Goals as goal
 
 pub returns-clause-text : goal.returns-clause-text
 returns-clause-text g c =

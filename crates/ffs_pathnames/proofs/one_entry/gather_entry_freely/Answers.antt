@@ -3,7 +3,7 @@ use Rattle.std.proofs.lemmas.Result.{err_from_is_err_and}
 use Rattle.ffs_workspace.proofs.Leaving.{claims_held, survey_held}
 use Rattle.ffs_paths.proofs.{Climbed.few_more, Climbed.few_then, Keeping.reads_then}
 use Rattle.ffs_pathnames.proofs.{Carrying.if_ok, LineCounts.places_on}
-use Rattle.ffs_pathnames.proofs.one_entry.gather_entry.Goals as goal
+use Rattle.ffs_pathnames.proofs.one_entry.gather_entry_freely.Goals as goal
 
 pub returns-in_err-begin_paths-clause-leaves : goal.returns-in_err-begin_paths-clause-leaves
 returns-in_err-begin_paths-clause-leaves g c =
