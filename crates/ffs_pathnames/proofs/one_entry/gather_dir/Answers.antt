@@ -26,7 +26,7 @@ returns-then-is_spent-clause-leaves g c =
     let part = c.gather_dir_freely-result.ensures in
     let below = gathered c.new-limited.ensures.device c.new-limited.ensures.asked c.in-Some.ensures.limited part.leaves
     part.counted c.is_spent.ensures.below in
-    let image = c.image-1.given.1 below.same_image ∙ c.drop-limited.ensures in
+    let image = c.image-1.given.1 below.same_image ∙ c.drop-limited.ensures.below in
     rw image (record { reads = below.reads_of c.if-is_spent.true _; kept_parent = c.forget_parent.ensures _ _ _ })
 
 pub returns-then-is_spent-clause-counted : goal.returns-then-is_spent-clause-counted
@@ -34,7 +34,7 @@ returns-then-is_spent-clause-counted g c =
     let part = c.gather_dir_freely-result.ensures in
     let below = gathered c.new-limited.ensures.device c.new-limited.ensures.asked c.in-Some.ensures.limited part.leaves
     part.counted c.is_spent.ensures.below in
-    let image = c.image-1.given.1 below.same_image ∙ c.drop-limited.ensures in
+    let image = c.image-1.given.1 below.same_image ∙ c.drop-limited.ensures.below in
     rw image below.counted
 
 pub returns-then-is_spent-clause-most : goal.returns-then-is_spent-clause-most
@@ -42,7 +42,7 @@ returns-then-is_spent-clause-most g c = λ numbered.
     let part = c.gather_dir_freely-result.ensures in
     let below = gathered c.new-limited.ensures.device c.new-limited.ensures.asked c.in-Some.ensures.limited part.leaves
     part.counted c.is_spent.ensures.below in
-    let image = c.image-1.given.1 below.same_image ∙ c.drop-limited.ensures in
+    let image = c.image-1.given.1 below.same_image ∙ c.drop-limited.ensures.below in
     rw image below.most
 
 -- none was refused
@@ -59,7 +59,7 @@ returns-clause-leaves g c =
     let part = c.gather_dir_freely-result.ensures in
     let below = gathered c.new-limited.ensures.device c.new-limited.ensures.asked c.in-Some.ensures.limited part.leaves
     part.counted c.is_spent.ensures.below in
-    let image = c.image-2-1.given.1 below.same_image ∙ c.drop-limited-2.ensures in
+    let image = c.image-2-1.given.1 below.same_image ∙ c.drop-limited-2.ensures.below in
     rw image (below.leaves c.if-is_spent.false)
 
 pub returns-clause-counted : goal.returns-clause-counted
@@ -67,7 +67,7 @@ returns-clause-counted g c =
     let part = c.gather_dir_freely-result.ensures in
     let below = gathered c.new-limited.ensures.device c.new-limited.ensures.asked c.in-Some.ensures.limited part.leaves
     part.counted c.is_spent.ensures.below in
-    let image = c.image-2-1.given.1 below.same_image ∙ c.drop-limited-2.ensures in
+    let image = c.image-2-1.given.1 below.same_image ∙ c.drop-limited-2.ensures.below in
     rw image below.counted
 
 pub returns-clause-most : goal.returns-clause-most
@@ -75,5 +75,5 @@ returns-clause-most g c = λ numbered.
     let part = c.gather_dir_freely-result.ensures in
     let below = gathered c.new-limited.ensures.device c.new-limited.ensures.asked c.in-Some.ensures.limited part.leaves
     part.counted c.is_spent.ensures.below in
-    let image = c.image-2-1.given.1 below.same_image ∙ c.drop-limited-2.ensures in
+    let image = c.image-2-1.given.1 below.same_image ∙ c.drop-limited-2.ensures.below in
     rw image below.most
