@@ -1,6 +1,6 @@
 -- What a line shows was gathered over an image with a limit: what of the image below was read.
 use Rattle.std.specs.Borrow.{GName}
-use Rattle.std.proofs.Common.{◌≡◌, ◌+◌, ◌≤◌, ◌×◌, ⊥, ℕ, refl, sym, ap, subst, ◌∙◌, arith, Bool, true, false, List, Option, Some}
+use Rattle.std.proofs.Common.{◌≡◌, ◌+◌, ◌≤◌, ℕ, refl, sym, ap, subst, ◌∙◌, arith, Bool, true, false, List, Option, Some}
 use Rattle.std.proofs.Common.{Result, Ok, Err}
 use Rattle.std.proofs.lemmas.Bool.{both_ways}
 use Rattle.ffs_image.specs.{Device.Device, Limited.GivesBack, Limited.limited_device, Reads.ReadAfter}
@@ -68,7 +68,7 @@ gathered_by {v = v} {d = d} {w = w} r begins numbered price back p few = record 
   })).blocks };
   all = λ b x k refused.
       let count = (few b (knows_places v d.contents w x b k (k.noted numbered))).count in
-      both_ways _ refused (back.few (omega (arith, count, begins, price)));
+      both_ways _ (back.few (omega (arith, count, begins, price))) refused;
   leaves = λ none. path_below r back none p;
   reads_of = λ refused x. record {
     lists = p.reads.lists;

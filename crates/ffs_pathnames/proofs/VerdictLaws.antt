@@ -17,7 +17,7 @@ silent_reported Whiteout number about path directory h = refl
 silent_reported (Named n) number about path directory h = grind (arith, nat_tests)
 silent_reported verdict number about path directory h = absurd (cc)
 
-verdict_some : (verdict : Verdict) (number : ℕ) (about : Attr) (path directory : List ℕ) → is_silent verdict ≡ false →
+pub verdict_some : (verdict : Verdict) (number : ℕ) (about : Attr) (path directory : List ℕ) → is_silent verdict ≡ false →
     1 ≤ length (verdict_reported verdict number about path directory)
 verdict_some Whiteout number about path directory h = absurd (cc)
 verdict_some (Named n) number about path directory h = grind (arith, nat_tests)

@@ -1,4 +1,5 @@
-use Rattle.std.proofs.Common.{◌∙◌}
+use Rattle.std.proofs.Common.{◌∙◌, ap}
+use Rattle.ffs_image.specs.Device.{Device}
 use Rattle.ffs_pathnames.proofs.{Carrying.if_ok, Limiting.gathered}
 use Rattle.ffs_pathnames.proofs.one_entry.gather_dir.Goals as goal
 
@@ -49,10 +50,11 @@ returns-then-is_spent-clause-most g c = λ numbered.
 pub returns-clause-attr : goal.returns-clause-attr
 returns-clause-attr g c =
     if_ok c.gather_dir_freely-result.result _ _ (λ a h b k. h b k.gives_bytes)
-    (rw c.new-limited.ensures.device at c.gather_dir_freely-result.ensures.attr)
+    (rw (ap (λ (d : Device). d.contents) c.new-limited.ensures.device) at c.gather_dir_freely-result.ensures.attr)
 
 pub returns-clause-path : goal.returns-clause-path
-returns-clause-path g c = rw c.new-limited.ensures.device at c.gather_dir_freely-result.ensures.path
+returns-clause-path g c =
+    rw (ap (λ (d : Device). d.contents) c.new-limited.ensures.device) at c.gather_dir_freely-result.ensures.path
 
 pub returns-clause-leaves : goal.returns-clause-leaves
 returns-clause-leaves g c =
