@@ -1,14 +1,14 @@
 -- What a line shows was gathered over an image with a limit: what of the image below was read.
 use Rattle.std.specs.Borrow.{GName}
-use Rattle.std.proofs.Common.{◌≡◌, ◌+◌, ◌≤◌, ℕ, refl, sym, ap, subst, ◌∙◌, arith, Bool, true, false, List, Option, Some}
+use Rattle.std.proofs.Common.{◌≡◌, ◌+◌, ◌≤◌, ℕ, sym, ap, subst, ◌∙◌, arith, Bool, true, false, List, Option, Some}
 use Rattle.std.proofs.Common.{Result, Ok, Err}
 use Rattle.std.proofs.lemmas.Bool.{both_ways}
-use Rattle.ffs_image.specs.{Device.Device, Limited.GivesBack, Limited.limited_device, Reads.ReadAfter}
+use Rattle.ffs_image.specs.{Device.Device, Limited.GivesBack, Limited.limited_device}
 use Rattle.ffs_image.{specs.declared.image.ImageFault.ImageFault, proofs.Limits.ServedBy, proofs.Limits.read_over, proofs.Limits.served}
 use Rattle.ffs_volume.specs.{declared.Layout.Layout, Report.Reads.line_reads}
 use Rattle.ffs_workspace.specs.{declared.workspace.Workspace.Workspace, Places.AreChunksNumbered, Ready.IsReady}
 use Rattle.ffs_workspace.proofs.Readiness.{ready_same}
-use Rattle.ffs_paths.specs.Reads.{KnowsPlaces, OnlyReads, ReadsAtMost}
+use Rattle.ffs_paths.specs.Reads.{OnlyReads, ReadsAtMost}
 use Rattle.ffs_paths.specs.{KeptParents.KeepsParent, KeptParents.PathLeaves, declared.kept_parent.KeptParent.KeptParent}
 use Rattle.ffs_pathnames.{specs.DirectoryContext.DirectoryContext, proofs.LineCounts.knows_places}
 
@@ -60,12 +60,15 @@ gathered_by : {T : Type 0} {v : Layout} {d d' l' : Device} {w w' : Workspace} {s
 gathered_by {v = v} {d = d} {w = w} r begins numbered price back p few = record {
   same_image = back.same_image;
   most = rw (← price) back.most;
-  counted = λ b k. record { count = rw (← price) back.most; blocks = (few b (record {
-    gives_bytes = k.gives_bytes;
-    claims = k.claims;
-    survey = k.survey;
-    places = k.places;
-  })).blocks };
+  counted = λ b k. record {
+    count = rw (← price) back.most;
+    blocks = (few b (record {
+      gives_bytes = k.gives_bytes;
+      claims = k.claims;
+      survey = k.survey;
+      places = k.places;
+    })).blocks;
+  };
   all = λ b x k refused.
       let count = (few b (knows_places v d.contents w x b k (k.noted numbered))).count in
       both_ways _ (back.few (omega (arith, count, begins, price))) refused;

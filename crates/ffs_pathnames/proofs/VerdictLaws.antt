@@ -1,7 +1,7 @@
 -- What verdicts report, and what is gathered for it.
 use Rattle.std.proofs.Common.{◌≡◌, refl, ℕ, true, false, List, [], ◌≤◌, arith, length}
 use Rattle.std.proofs.lemmas.Bool.Decides.{nat_tests}
-use Rattle.ffs_volume.specs.{declared.Attr.Attr, Messages.Kinds.reported, Messages.Kinds.extraneous}
+use Rattle.ffs_volume.specs.{declared.Attr.Attr}
 use Rattle.ffs_volume.specs.Directories.{Roles.Volume, Parents.graph_of, Entries.Entry, PathnameCheck.attributes}
 use Rattle.ffs_volume.specs.Directories.Paths.{dir_path, entry_path}
 use Rattle.ffs_pathnames.specs.declared.verdict.{EntryDefects.EntryDefects, Verdict.Verdict}
