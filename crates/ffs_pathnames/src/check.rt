@@ -2,9 +2,10 @@
 ghost use Rattle.std.specs.Prelude.{suc, ◌≡◌, ◌+◌, ◌<◌, ◌≤◌, ℕ, List, OnOk, IfOk, length, map, option_map, vec_len};
 ghost use Rattle.ffs_volume.specs.{Messages.Kinds.of_tree, Directories.Parents.graph_of, declared.Layout.Layout};
 ghost use Rattle.ffs_volume.specs.Directories.{PathnameCheck.sized_dir_lines, Volumes.volume_of, Graph.parent};
-ghost use Rattle.ffs_report.specs.{Known.ForBytes, PhaseOutcome.PhaseReports, Progress.progress};
+ghost use Rattle.ffs_report.specs.{Known.ForBytes, Paid.Paid, PhaseOutcome.PhaseReports, Progress.progress};
+ghost use Rattle.ffs_volume.specs.Report.Reads.{line_reads};
 ghost use Rattle.ffs_layout.specs.Entry.{entry_value};
-ghost use Rattle.ffs_workspace.specs.{Holds.HoldsSurvey, Places.AreNoted};
+ghost use Rattle.ffs_workspace.specs.{Holds.HoldsSurvey, Places.AreChunksNumbered, Places.AreNoted};
 ghost use Rattle.ffs_pathnames.specs.Begins.{dir_header_lines, started_entry, IsDirectoryBegun};
 ghost use Rattle.ffs_pathnames.specs.{Costs.begin_reads, Costs.check_reads, Header.header_lines, Gathers.passed_of};
 ghost use Rattle.ffs_pathnames.specs.DirectoryContext.{DirectoryContext, KnowsHeader};
@@ -76,12 +77,15 @@ fn report_header<I: Image, W: Output>(
         (KnowsHeader geometry.now.layout (I.device image.old) workspace.old header.entry)
         (λ b. header_lines (volume_of geometry.now.layout b) header.entry)
         workspace.old workspace.new (I.reads image.old) (I.reads image.new) }
+    ensures paid { AreChunksNumbered geometry.now.layout → Paid line_reads
+        (progress W.sink report.old) (progress W.sink report.new)
+        (I.reads image.old) (I.reads image.new) result }
 {
     if is_in_order(header) {
         return Ok(());
     }
     let mut path = PathText::new();
-    let attr = gather_dir(
+    let mut attr = gather_dir(
         geometry,
         image,
         workspace,
@@ -89,6 +93,9 @@ fn report_header<I: Image, W: Output>(
         header.number,
         &mut path,
     )?;
+
+    // An image may give another inode now: the lines are on the size that was found wrong.
+    attr.size = header.size;
     say_header(report, attr, path.as_slice(), header)?;
     Ok(())
 }

@@ -5,7 +5,7 @@ ghost use Rattle.ffs_volume.specs.{Messages.Kinds.of_tree, Messages.Kinds.lines_
 ghost use Rattle.ffs_volume.specs.Directories.PathnameCheck.{continues_after_root, directory_lines, pathname_lines};
 ghost use Rattle.ffs_workspace.specs.{Holds.HoldsClaims, Holds.HoldsSurvey, Lengths.inodes_of, Ready.IsReady};
 ghost use Rattle.ffs_workspace.specs.Places.{AreChunksNumbered, AreNoted};
-ghost use Rattle.ffs_pathnames.specs.{Before.IsBefore, Before.is_checked, Costs.check_reads, Costs.tree_reads};
+ghost use Rattle.ffs_pathnames.specs.{Before.IsBefore, Before.IsBeforeNoted, Before.is_checked, Costs.check_reads, Costs.tree_reads};
 ghost use Rattle.ffs_pathnames.specs.{Gathers.AreAsLong, RootAnswers.AtReadFault, RootAnswers.is_go};
 ghost use Rattle.ffs_pathnames.specs.Ready.{ReadyToPath, PhaseLeaves, TreeLeaves};
 
@@ -61,16 +61,18 @@ fn check_inode<I: Image, W: Output>(
     requires ready { ReadyToPath geometry.now.layout (I.device image.old) workspace.old
         texts.old.kept_parent number }
     requires low { 2 ≤ number }
-    ensures text { PhaseReports (λ b. IsBefore geometry.now.layout (I.device image.old).contents
-        workspace.old number b)
+    ensures text { PhaseReports (λ b. IsBeforeNoted geometry.now.layout
+        (I.device image.old).contents workspace.old number b)
         (λ b. map of_tree (directory_lines (volume_of geometry.now.layout b) number))
         (progress W.sink report.old) (progress W.sink report.new) result }
     ensures before { OnOk result (ForBytes
-        (λ b. IsBefore geometry.now.layout (I.device image.old).contents workspace.old number b)
-        (λ b. IsBefore geometry.now.layout (I.device image.old).contents workspace.new (suc number)
-        b)) }
+        (λ b. IsBeforeNoted geometry.now.layout (I.device image.old).contents
+        workspace.old number b)
+        (λ b. IsBeforeNoted geometry.now.layout (I.device image.old).contents
+        workspace.new (suc number) b)) }
     ensures reads { ForBytes
-        (λ b. IsBefore geometry.now.layout (I.device image.old).contents workspace.old number b)
+        (λ b. IsBeforeNoted geometry.now.layout (I.device image.old).contents
+        workspace.old number b)
         (λ b. AreNoted geometry.now.layout b workspace.old.queue.items
         → I.reads image.new ≤ I.reads image.old + check_reads geometry.now.layout b number
         (length (directory_lines (volume_of geometry.now.layout b) number))) }
