@@ -6,13 +6,16 @@ use Rattle.std.specs.Borrow.{GName}
 use Rattle.ffs_image.specs.Device.{Device}
 use Rattle.ffs_volume.specs.declared.{Layout.Layout, End.End}
 use Rattle.ffs_volume.specs.{Laws.Geometry.IsAcceptedLayout, Messages.Kinds.Message, Messages.Kinds.cannot_alloc, Messages.Kinds.cannot_read}
-use Rattle.ffs_volume.specs.Report.Reads.{line_reads, opening_reads, phase_reads, reads_limit}
+use Rattle.ffs_volume.specs.Report.{Memory.runs_limit, Reads.group_reads, Reads.line_reads, Reads.opening_reads}
+use Rattle.ffs_volume.specs.Report.Reads.{phase_reads, reads_limit, sweep_reads}
 use Rattle.ffs_volume.specs.Report.Opening.{opening_lines}
 use Rattle.ffs_layout.specs.declared.superblock.Super.{Super}
 use Rattle.ffs_report.specs.{Sink.Sink, Paid.Paid, Progress.Progress, Progress.Said, Progress.Stopped, Progress.starts}
 use Rattle.ffs_report.specs.declared.fault.RunFault.{RunFault}
 use Rattle.ffs_report.specs.declared.fault.RunFault.TheVariants.{Read, Out}
+use Rattle.ffs_report.specs.PhaseOutcome.{PhaseReports}
 use Rattle.ffs_report.proofs.Reports.{said_then, stopped_after}
+use Rattle.ffs_report.proofs.Paying.{paid_answer, paid_beside, paid_price, paid_text, paid_then, paid_within}
 use Rattle.ffs_pathnames.specs.declared.pass2.Root.{Root}
 use Rattle.ffs_workspace.specs.Places.{AreChunksNumbered}
 use Rattle.ffs_check.specs.AnyReads.{PhasesReadAny, ReadsAny, ReadsByMessages, RestReadsAny}
@@ -24,6 +27,33 @@ priced : (v : Layout) (n m before after : ℕ) → after ≤ before + phase_read
     after ≤ before + phase_reads v m
 priced v n m before after most few =
     let more = mul-le-mul_left (line_reads + 1) few in omega (arith, most, more)
+
+-- phase 1 was said, and then phase 1b, or nothing
+pub scan_paid : {T U V : Type 0} (v : Layout) {knows knows' : List ℕ → Type 0} {all all' : List ℕ → List Message}
+    {a b c : Progress} {before first after runs : ℕ} (x : T) (y : U) (z : V) → PhaseReports knows all a b (Ok x) →
+    first ≤ before + v.ncg * v.ipg + runs → runs ≤ runs_limit v → PhaseReports knows' all' b c (Ok y) →
+    after ≤ first + sweep_reads v → Paid (line_reads + 1) a c (before + phase_reads v 0)
+    (after + (4 * sweep_reads v + group_reads v)) (Ok z)
+scan_paid v {knows = knows} {knows' = knows'} {all = all} {all' = all'} {a = a} {b = b} {before = before} {first = first}
+    x y z one reads few two again =
+    let begun : Paid (line_reads + 1) a b (before + phase_reads v 0)
+    (first + (5 * sweep_reads v + group_reads v)) (Ok x) = paid_text knows all (Ok x) one (omega (arith, reads, few)) in
+    paid_answer (paid_then begun (paid_text knows' all' (Ok y) two (omega (arith, again))))
+
+-- and then phase 2
+pub names_paid : {T U : Type 0} (v : Layout) {a b c : Progress} {before first after : ℕ} {x : T}
+    {r : Result U RunFault} → Paid (line_reads + 1) a b before (first + (4 * sweep_reads v + group_reads v)) (Ok x) →
+    Paid line_reads b c (first + 4 * sweep_reads v) after r →
+    Paid (line_reads + 1) a c before (after + group_reads v) r
+names_paid v one two = paid_then one
+    (paid_within (paid_beside (group_reads v) (paid_price line_reads (line_reads + 1) (omega arith) two)) (omega arith)
+    (omega arith))
+
+-- and then phase 3, or 4
+pub links_paid : {T U : Type 0} (v : Layout) {a b c : Progress} {before first after : ℕ} {x : T}
+    {r : Result U RunFault} → Paid (line_reads + 1) a b before (first + group_reads v) (Ok x) →
+    Paid 1 b c first after r → Paid (line_reads + 1) a c before (after + group_reads v) r
+links_paid v one two = paid_then one (paid_beside (group_reads v) (paid_price 1 (line_reads + 1) (omega arith) two))
 
 -- the phases have ended, and a read that failed is said
 pub ended_reads : (v : Layout) (had_defect : Bool) (a b c : Progress) (before after : ℕ) (r : Result Root RunFault)
