@@ -22,9 +22,9 @@ use Rattle.ffs_workspace.proofs.Leaving.{claims_left, survey_left, leaves_all}
 use Rattle.ffs_maps.specs.Bits.{bits_of}
 use Rattle.ffs_report.specs.declared.fault.RunFault.{RunFault, TheVariants.Read, TheVariants.Out}
 use Rattle.ffs_pathnames.specs.{RootAnswers.AtReadFault, Gathers.passed_of, DirectoryContext.DirectoryContext}
-use Rattle.ffs_pathnames.specs.Before.{IsNonePassed, IsBefore, is_checked, root_reported}
-use Rattle.ffs_pathnames.specs.{Calm.IsSilentDirectory, PassedRight.AreRightBefore}
-use Rattle.ffs_pathnames.proofs.{Begun.directory_is, Begun.quiet_parts, StampLaws.stamps_length}
+use Rattle.ffs_pathnames.specs.Before.{IsNonePassed, IsBefore, IsBeforeNoted, is_checked, root_reported}
+use Rattle.ffs_pathnames.specs.{Calm.IsSilentDirectory, PassedRight.AreRightBefore, Stamps.KeepPlaces}
+use Rattle.ffs_pathnames.proofs.{Begun.directory_is, Begun.quiet_parts, StampLaws.noted_kept, StampLaws.stamps_length}
 use Rattle.ffs_pathnames.proofs.BetweenLaws.{other_next, silent_next, silent_quiet}
 use Rattle.ffs_pathnames.proofs.EmptyLaws.{looked_is, looked_dir, names_none}
 use Rattle.ffs_survey.specs.Survey.{suspect_at}
@@ -109,12 +109,13 @@ looked_as : (v : Layout) (b : List ℕ) (w : Workspace) (d : ℕ) (looked : Bool
 looked_as v b w d looked h e = looked_is v b d ∙ rw (← h.kinds d) e
 
 pub directory_context : {v : Layout} {contents : Option (List ℕ)} {w : Workspace} {d : ℕ} {b : List ℕ} →
-    (slice_index w.kinds.items d == 4) ≡ true → IsBefore v contents w d b → DirectoryContext v contents w d b
+    (slice_index w.kinds.items d == 4) ≡ true → IsBeforeNoted v contents w d b → DirectoryContext v contents w d b
 directory_context {v = v} {w = w} {d = d} {b = b} e k = record {
-  gives_bytes = k.gives_bytes;
-  claims = k.claims;
-  survey = k.survey;
-  dir = looked_dir v b d (rw (← k.claims.kinds d) e);
+  gives_bytes = k.before.gives_bytes;
+  claims = k.before.claims;
+  survey = k.before.survey;
+  noted = k.noted;
+  dir = looked_dir v b d (rw (← k.before.claims.kinds d) e);
 }
 
 pub lines_looked : {v : Layout} {contents : Option (List ℕ)} {w : Workspace} {d : ℕ} {b : List ℕ} →
@@ -141,6 +142,20 @@ pub before_reported : {v : Layout} {contents contents' : Option (List ℕ)} {w :
     contents' ≡ contents → IsBefore v contents w d b → IsBefore v contents' w d b
 before_reported {w = w} e k = before_next e (leaves_all w) k.passed k
 
+-- the same, where places are noted
+pub noted_next : {v : Layout} {contents contents' : Option (List ℕ)} {old new : Workspace} {d d' : ℕ} {b : List ℕ} →
+    contents' ≡ contents → LeavesSurvey old new → KeepPlaces old.queue.items new.queue.items →
+    AreRightBefore (volume_of v b) d' (passed_of new) → IsBeforeNoted v contents old d b →
+    IsBeforeNoted v contents' new d' b
+noted_next {v = v} {old = old} {new = new} {b = b} e s keep r k = record {
+  before = before_next e s r k.before;
+  noted = λ numbered. noted_kept v b old.queue.items new.queue.items keep (k.noted numbered);
+}
+
+pub noted_reported : {v : Layout} {contents contents' : Option (List ℕ)} {w : Workspace} {d : ℕ} {b : List ℕ} →
+    contents' ≡ contents → IsBeforeNoted v contents w d b → IsBeforeNoted v contents' w d b
+noted_reported e k = record { before = before_reported e k.before; noted = k.noted }
+
 -- a directory that isn't looked at is calm, and left out
 left_out : (a b c : Bool) → (a && (b || not c)) ≡ false → a ≡ true → (b ≡ false) × (c ≡ true)
 left_out a b c h e = (grind (arith, nat_tests), grind (arith, nat_tests))
@@ -158,7 +173,7 @@ lines_left_out : {v : Layout} {contents : Option (List ℕ)} {w : Workspace} {d 
     map of_tree (directory_lines (volume_of v b) d) ≡ []
 lines_left_out {v = v} {w = w} {d = d} {b = b} two h e k =
     let silent = calm_shown h e k in
-    let dir = directory_is (volume_of v b) d two (directory_context e k).dir in
+    let dir = directory_is (volume_of v b) d two (looked_dir v b d (rw (← k.claims.kinds d) e)) in
     rw (
       lines_looked e k,
       ← quiet_parts (volume_of v b) d (passed_of w) dir k.passed

@@ -12,7 +12,7 @@ use Rattle.ffs_names.specs.RunCursors.{reading_by}
 use Rattle.ffs_names.proofs.DirLaws.{dir_is, dir_size, dir_seen}
 use Rattle.ffs_workspace.specs.{Leaves.LeavesSurvey, declared.workspace.Workspace.Workspace}
 use Rattle.ffs_workspace.proofs.Leaving.{claims_left, survey_left}
-use Rattle.ffs_pathnames.specs.DirectoryContext.{DirectoryContext}
+use Rattle.ffs_pathnames.{specs.DirectoryContext.DirectoryContext, specs.Stamps.KeepPlaces, proofs.StampLaws.noted_kept}
 use Rattle.ffs_pathnames.specs.PassedNames.{PassedNames, after_roled, after_entries, roled_reported, entries_reported}
 
 -- the names that were passed after some entries and others
@@ -68,12 +68,14 @@ passes v d e p s law q t = rw (← p, ← s, q, t) law
 
 -- what is known of a workspace's lists stays where they stay
 pub knows_on : (v : Layout) (contents contents' : Option (List ℕ)) (old new : Workspace) (d : ℕ) (b : List ℕ) →
-    contents' ≡ contents → LeavesSurvey old new → DirectoryContext v contents old d b →
+    contents' ≡ contents → LeavesSurvey old new → KeepPlaces old.queue.items new.queue.items →
+    DirectoryContext v contents old d b →
     DirectoryContext v contents' new d b
-knows_on v contents contents' old new d b e s k = record {
+knows_on v contents contents' old new d b e s keep k = record {
   gives_bytes = e ∙ k.gives_bytes;
   claims = claims_left v b old new s k.claims;
   survey = survey_left v b old new s k.survey;
+  noted = λ numbered. noted_kept v b old.queue.items new.queue.items keep (k.noted numbered);
   dir = k.dir;
 }
 

@@ -6,6 +6,7 @@ use Rattle.ffs_volume.specs.Messages.Kinds.{TreeMessage, reported, root_none, ro
 use Rattle.ffs_volume.specs.Directories.Volumes.{volume_of}
 use Rattle.ffs_volume.specs.Encodings.Kinds.{is_dir_kind, is_empty_dir_kind}
 use Rattle.ffs_workspace.specs.{declared.workspace.Workspace.Workspace, Leaves.LeavesSurvey}
+use Rattle.ffs_workspace.specs.Places.{AreChunksNumbered, AreNoted}
 use Rattle.ffs_workspace.specs.Holds.{bool_at, HoldsClaims, HoldsSurvey}
 use Rattle.ffs_pathnames.specs.{Gathers.passed_of, PassedRight.AreRightBefore}
 use Rattle.ffs_survey.specs.Survey.{suspect_at}
@@ -25,6 +26,11 @@ pub record IsBefore (v : Layout) (contents : Option (List ℕ)) (w : Workspace) 
   pub claims : HoldsClaims v b w
   pub survey : HoldsSurvey v b w
   pub passed : AreRightBefore (volume_of v b) d (passed_of w)
+
+-- and, where words have room for the places, that of each directory is noted
+pub record IsBeforeNoted (v : Layout) (contents : Option (List ℕ)) (w : Workspace) (d : ℕ) (b : List ℕ) : Type 0 where
+  pub before : IsBefore v contents w d b
+  pub noted : AreChunksNumbered v → AreNoted v b w.queue.items
 
 -- a directory that isn't of size 0 and isn't known to be calm. That a marked one is flagged doesn't
 -- mean that it is calm, but that an entry has named it

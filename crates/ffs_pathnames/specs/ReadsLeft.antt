@@ -1,12 +1,12 @@
 -- How many reads are left for the looks at directories, and what they suffice for.
-use Rattle.std.specs.Prelude.{ℕ, ◌+◌, ◌*◌, ◌≤◌, List, Option, Result, OnOk}
+use Rattle.std.specs.Prelude.{ℕ, ◌+◌, ◌*◌, ◌≤◌, List, Result, OnOk}
 use Rattle.ffs_image.specs.{Device.Device, declared.image.ImageFault.ImageFault}
 use Rattle.ffs_volume.specs.{declared.Layout.Layout, Directories.Volumes.volume_of}
-use Rattle.ffs_workspace.specs.{declared.workspace.Workspace.Workspace, Places.AreChunksNumbered, Places.AreNoted}
+use Rattle.ffs_workspace.specs.declared.workspace.Workspace.{Workspace}
 use Rattle.ffs_names.specs.Costs.{directory_cost, directory_runs}
 use Rattle.ffs_pathnames.specs.declared.directory.Directory.{Directory}
 use Rattle.ffs_pathnames.specs.DirectoryContext.{DirectoryContext, KnowsDirectory}
-use Rattle.ffs_pathnames.specs.{Before.IsBefore, Gathers.passed_of, PassedRight.AreRightBefore}
+use Rattle.ffs_pathnames.specs.{Before.IsBeforeNoted, Gathers.passed_of, PassedRight.AreRightBefore}
 
 -- the bytes are those of a directory's context, and the reads that are left suffice for one look at
 -- it
@@ -24,12 +24,10 @@ pub record LeftForBoth (v : Layout) (device : Device) (w : Workspace) (d left : 
   pub passed : AreRightBefore (volume_of v b) d (passed_of w)
   pub enough : 2 * directory_cost v b d ≤ left
 
--- what is known between two directories, with the places of parent entries, and the reads that are
--- left suffice for both looks at the next one
-pub record LeftForNext (v : Layout) (device : Device) (w : Workspace) (d left : ℕ) (b : List ℕ) : Type 0 where
-  pub before : IsBefore v device.contents w d b
-  pub noted : AreChunksNumbered v → AreNoted v b w.queue.items
-  pub enough : 2 * directory_cost v b d ≤ left
+-- what is known between two directories, and the reads that are left suffice for both looks at the
+-- next one
+abbrev pub LeftForNext : Layout → Device → Workspace → (d left : ℕ) → List ℕ → Type 0
+LeftForNext v device w d left b = IsBeforeNoted v device.contents w d b × (2 * directory_cost v b d ≤ left)
 
 -- a call takes at most `before` of the reads that are left. Without a fault, `after` of these are
 -- left to later calls

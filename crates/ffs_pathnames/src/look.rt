@@ -10,7 +10,7 @@ use crate::inodes::Inodes;
 use ffs_layout::{Entry, entry_at};
 use ffs_memory::FilledList;
 use ffs_names::role_of;
-use ffs_volume::constants::{DIRBLKSIZ, DT_WHT, WINO};
+use ffs_volume::constants::{DIRBLKSIZ, DT_WHT, ROOTINO, WINO};
 use ffs_volume::{Order, Role};
 use ffs_workspace::due;
 
@@ -110,7 +110,8 @@ pub fn stamp(
     if role != Role::Plain {
         return;
     }
-    if entry.number >= inodes.count() {
+    // A whiteout names no inode, and the root has no parent entry.
+    if entry.number <= ROOTINO || entry.number >= inodes.count() {
         return;
     }
     if inodes.belongs(entry.number, dir) {

@@ -23,7 +23,7 @@ use ffs_layout::Geometry;
 use ffs_names::Chunks;
 use ffs_report::{Output, Report, RunFault};
 use ffs_volume::constants::DIRBLKSIZ;
-use ffs_workspace::{Windows, Workspace};
+use ffs_workspace::{Windows, Workspace, line_reads};
 
 /// Whether each chunk of a volume has a number for which a word has room. On a larger volume a path
 /// may search a directory, so that blocks of the one that is read are read again.
@@ -31,8 +31,7 @@ fn are_chunks_numbered(geometry: &Geometry) -> bool
     ensures yes { IsTrue result → AreChunksNumbered geometry.now.layout }
     ensures no { AreChunksNumbered geometry.now.layout → result ≡ true }
 {
-    let bytes = u64::from(geometry.layout.size) * u64::from(geometry.layout.fsize);
-    bytes <= DIRBLKSIZ as u64 * ((1 << 31) - 1)
+    line_reads(geometry).is_some()
 }
 
 /// Reads the next chunk of a directory, and returns its place in the file, in bytes, and None where

@@ -8,7 +8,7 @@ ghost use Rattle.ffs_volume.specs.{Messages.Kinds.of_tree, Messages.Kinds.lines_
 ghost use Rattle.ffs_volume.specs.Directories.PathnameCheck.{continues_after_root, directory_lines, pathname_lines};
 ghost use Rattle.ffs_workspace.specs.{Holds.HoldsClaims, Holds.HoldsSurvey, Lengths.inodes_of, Ready.IsReady};
 ghost use Rattle.ffs_workspace.specs.Places.{AreChunksNumbered, AreNoted};
-ghost use Rattle.ffs_pathnames.specs.{Before.IsBefore, Before.is_checked, Costs.check_reads, Costs.tree_reads};
+ghost use Rattle.ffs_pathnames.specs.{Before.IsBefore, Before.IsBeforeNoted, Before.is_checked, Costs.check_reads, Costs.tree_reads};
 ghost use Rattle.ffs_pathnames.specs.{Gathers.AreAsLong, RootAnswers.AtReadFault, RootAnswers.is_go};
 ghost use Rattle.ffs_pathnames.specs.Ready.{ReadyToPath, PhaseLeaves, TreeLeaves};
 
@@ -71,8 +71,8 @@ fn check_inode<I: Image, W: Output>(
     ensures before { OnOk result (ForBytes
         (LeftForNext geometry.now.layout (I.device image.old) workspace.old number
         checking.old.reads_left)
-        (λ b. IsBefore geometry.now.layout (I.device image.old).contents workspace.new (suc number)
-        b)) }
+        (λ b. IsBeforeNoted geometry.now.layout (I.device image.old).contents
+        workspace.new (suc number) b)) }
     ensures reads { ForBytes
         (LeftForNext geometry.now.layout (I.device image.old) workspace.old number
         checking.old.reads_left)

@@ -1,10 +1,11 @@
 -- What was read for messages, from one call to the next. (For the layers above.)
 use Rattle.std.proofs.Common.{◌≤◌, ◌+◌, ◌*◌, ℕ, refl, sym, arith, List, [], ◌++◌, length}
 use Rattle.std.proofs.Common.{length-append, Result, Ok, Err}
-use Rattle.std.proofs.Math.Nat.{mul-le-mul_left}
+use Rattle.std.proofs.Math.Nat.{mul-le-mul_left, mul-le-mul_right}
 use Rattle.ffs_volume.specs.Messages.Kinds.{Message}
 use Rattle.ffs_report.specs.{Progress.Progress, Progress.Said, Progress.Stopped}
 use Rattle.ffs_report.specs.Paid.{HasBegun, Paid}
+use Rattle.ffs_report.specs.PhaseOutcome.{PhaseReports}
 use Rattle.ffs_report.proofs.Reports.{said_none, said_then, stopped_after}
 use Rattle.ffs_report.specs.declared.fault.RunFault.{RunFault}
 use Rattle.ffs_report.specs.declared.fault.RunFault.TheVariants.{Read, Out}
@@ -95,4 +96,33 @@ paid_then {price = price} {a = a} {b = b} {c = c} {x = x} {r = r} p q = record {
   messages = p.messages + q.messages;
   begun = begun_then p.messages q.messages a b c x r p.begun q.begun;
   most = omega (arith, p.most, q.most);
+}
+
+-- at a higher price
+pub paid_price : {T : Type 0} {a b : Progress} {before after : ℕ} {r : Result T RunFault} (price price' : ℕ) →
+    price ≤ price' → Paid price a b before after r → Paid price' a b before after r
+paid_price price price' dear p = record {
+  messages = p.messages;
+  begun = p.begun;
+  most = let more = mul-le-mul_right {m = price} {n = price'} p.messages dear in omega (arith, p.most, more);
+}
+
+-- messages for which nothing was taken but what was left before
+pub paid_text : {T : Type 0} {price : ℕ} (knows : List ℕ → Type 0) (all : List ℕ → List Message) {a b : Progress}
+    {before after : ℕ} (r : Result T RunFault) → PhaseReports knows all a b r → after ≤ before →
+    Paid price a b before after r
+paid_text knows all (Ok x) p few = record {
+  messages = length p.messages;
+  begun = record { messages = p.messages; said = p.said; many = refl };
+  most = omega (arith, few);
+}
+paid_text knows all (Err (Read fault)) p few = record {
+  messages = length p.prefix.messages;
+  begun = record { messages = p.prefix.messages; said = p.prefix.said; many = omega arith };
+  most = omega (arith, few);
+}
+paid_text knows all (Err (Out fault)) p few = record {
+  messages = length p.messages;
+  begun = record { messages = p.messages; stopped = p.stopped; many = refl };
+  most = omega (arith, few);
 }

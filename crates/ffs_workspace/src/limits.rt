@@ -20,7 +20,8 @@ pub fn sweep_reads(geometry: &Geometry) -> u64
 /// search a directory.
 pub fn line_reads(geometry: &Geometry) -> Option<u64>
     ensures numbered { AreChunksNumbered geometry.now.layout → result ≡ Some line_reads }
-    ensures small { IfSome result (λ n. n ≡ line_reads) }
+    ensures limited { IfSome result (λ n. AreChunksNumbered geometry.now.layout
+        × (n ≡ line_reads)) }
 {
     let bytes = u64::from(geometry.layout.size) * u64::from(geometry.layout.fsize);
     if bytes > DIRBLKSIZ as u64 * ((1 << 31) - 1) {

@@ -22,7 +22,8 @@ known : (g : Over) (c : After-report_header g) (b : List ℕ) → DirectoryConte
     c.args.dir b × (c.in_ok-examined.examined.inode.size ≡ (inode_of c.args.geometry.now.layout b c.args.dir).size)
 known g c b k = (
   knows_on c.args.geometry.now.layout _ _ c.args.workspace.now c.examine.new.workspace c.args.dir b
-      (ap (λ d. d.contents) c.in_ok-examined.ensures.leaves.read) c.in_ok-examined.ensures.leaves.lists.survey k,
+      (ap (λ d. d.contents) c.in_ok-examined.ensures.leaves.read) c.in_ok-examined.ensures.leaves.lists.survey
+      c.in_ok-examined.ensures.leaves.lists.places k,
   ap (λ i. i.size) (c.in_ok-examined.ensures.found b k).inode,
 )
 

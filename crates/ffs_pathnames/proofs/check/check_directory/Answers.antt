@@ -50,7 +50,8 @@ returns-clause-text g c =
     (reports_knowing _ _ _ _ _ _ c.report_directory.result
     (λ b k. (
       knows_on v _ _ c.args.workspace.now c.begin_directory.new.workspace c.args.dir b
-          (ap (λ d. d.contents) c.in_ok-examined.ensures.leaves.image) c.in_ok-examined.ensures.leaves.survey k.0,
+          (ap (λ d. d.contents) c.in_ok-examined.ensures.leaves.image) c.in_ok-examined.ensures.leaves.survey
+          c.in_ok-examined.ensures.leaves.places k.0,
       (c.in_ok-examined.ensures.begun b k.0).inode,
     ))
     c.report_directory.ensures.text)
@@ -64,7 +65,8 @@ returns-clause-passed g c =
     (directory_is (volume_of v b) c.args.dir c.requires.dir k.0.dir) k.1 (c.in_ok-examined.ensures.begun b k.0).passed
     (p b (
       knows_on v _ _ c.args.workspace.now c.begin_directory.new.workspace c.args.dir b
-          (ap (λ d. d.contents) c.in_ok-examined.ensures.leaves.image) c.in_ok-examined.ensures.leaves.survey k.0,
+          (ap (λ d. d.contents) c.in_ok-examined.ensures.leaves.image) c.in_ok-examined.ensures.leaves.survey
+          c.in_ok-examined.ensures.leaves.places k.0,
       (c.in_ok-examined.ensures.begun b k.0).inode,
     )))
     c.report_directory.ensures.passed
@@ -106,7 +108,7 @@ returns-clause-reads g c = λ b k noted.
     (c.begin_directory.ensures.reads b k.0 noted)
     (c.report_directory.ensures.reads b (
       knows_on v _ _ c.args.workspace.now c.begin_directory.new.workspace c.args.dir b
-          (ap (λ d. d.contents) left.image) left.survey k.0,
+          (ap (λ d. d.contents) left.image) left.survey left.places k.0,
       begun.inode,
     ) (noted_kept v b c.args.workspace.now.queue.items c.begin_directory.new.workspace.queue.items left.places noted))
     (cost_of_dir v b c.args.dir k.0.dir)

@@ -50,7 +50,7 @@ returns-in_err-report_entry-clause-lines g c = record {
       (reports_knowing (Unit {0}) _ _ _ _ _ (Err c.in_err-report_entry.field-0.0)
       (λ b k. record {
         knows = knows_on v _ _ c.args.workspace.now c.entries.workspace x.dir b
-            (ap (λ d. d.contents) inv.device) inv.survey k.knows;
+            (ap (λ d. d.contents) inv.device) inv.survey inv.places k.knows;
         path = inv.path b k;
       }) c.in_err-report_entry.ensures.lines.text));
   path = λ b k.
@@ -58,7 +58,7 @@ returns-in_err-report_entry-clause-lines g c = record {
       let inv = c.entries.invariant in
       c.report_entry.ensures.lines.path b (record {
         knows = knows_on c.args.geometry.now.layout _ _ c.args.workspace.now c.entries.workspace x.dir b
-            (ap (λ d. d.contents) inv.device) inv.survey k.knows;
+            (ap (λ d. d.contents) inv.device) inv.survey inv.places k.knows;
         path = inv.path b k;
       });
   counted = λ b k noted.
@@ -74,7 +74,7 @@ returns-in_err-report_entry-clause-lines g c = record {
       (entry_counted (volume_of v b) x.dir m seen _ _ next refl)
       (c.in_err-report_entry.ensures.lines.counted b
       (knows_on v _ _ c.args.workspace.now c.entries.workspace x.dir b (ap (λ d. d.contents) inv.device) inv.survey
-      k)
+      inv.places k)
       (noted_kept v b _ _ inv.places noted)));
 }
 
@@ -109,7 +109,7 @@ entries-preserved g c =
     let know = λ (b : List ℕ)
     (k : DirectoryContext v (g.I.Image.device c.args.image.now).contents c.args.workspace.now x.dir b).
     knows_on v (g.I.Image.device c.args.image.now).contents (g.I.Image.device c.entries.image).contents
-    c.args.workspace.now c.entries.workspace x.dir b (ap (λ d. d.contents) inv.device) inv.survey k in
+    c.args.workspace.now c.entries.workspace x.dir b (ap (λ d. d.contents) inv.device) inv.survey inv.places k in
     rw c.from-place.ensures (record {
       place = omega arith;
       index = omega arith;

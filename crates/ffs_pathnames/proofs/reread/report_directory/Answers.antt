@@ -116,7 +116,7 @@ chunks-preserved g c =
     let know = λ (b : List ℕ)
     (k : KnowsDirectory v (g.I.Image.device c.args.image.now) c.args.workspace.now x b).
     knows_on v (g.I.Image.device c.args.image.now).contents (g.I.Image.device c.next.new.image).contents
-    c.args.workspace.now between x.number b (ap (λ d. d.contents) (read.leaves.read ∙ inv.device)) kept k.0 in
+    c.args.workspace.now between x.number b (ap (λ d. d.contents) (read.leaves.read ∙ inv.device)) kept inv.places k.0 in
     let here : Chunk = chunk_of v.order c.in-Some.offset c.next.new.chunk in
     let came = rw c.in-Some.is at read.chunk in
     let next = λ (b : List ℕ)
@@ -167,7 +167,7 @@ returns-in_err-report_chunk-clause-text g c =
     let know = λ (b : List ℕ)
     (k : KnowsDirectory v (g.I.Image.device c.args.image.now) c.args.workspace.now x b).
     knows_on v (g.I.Image.device c.args.image.now).contents (g.I.Image.device c.next.new.image).contents
-    c.args.workspace.now between x.number b (ap (λ d. d.contents) (read.leaves.read ∙ inv.device)) kept k.0 in
+    c.args.workspace.now between x.number b (ap (λ d. d.contents) (read.leaves.read ∙ inv.device)) kept inv.places k.0 in
     let here : Chunk = chunk_of v.order c.in-Some.offset c.next.new.chunk in
     let came = rw c.in-Some.is at read.chunk in
     let next = λ (b : List ℕ)
@@ -237,7 +237,7 @@ returns-in_err-report_chunk-clause-reads g c = λ b k noted.
     let kept : LeavesSurvey c.args.workspace.now between =
     leaves_more _ _ _ inv.survey (windows_leave c.chunks.workspace between refl) in
     let know = knows_on v (g.I.Image.device c.args.image.now).contents (g.I.Image.device c.next.new.image).contents
-    c.args.workspace.now between x.number b (ap (λ d. d.contents) (read.leaves.read ∙ inv.device)) kept k.0 in
+    c.args.workspace.now between x.number b (ap (λ d. d.contents) (read.leaves.read ∙ inv.device)) kept inv.places k.0 in
     let here : Chunk = chunk_of v.order c.in-Some.offset c.next.new.chunk in
     let came = rw c.in-Some.is at read.chunk in
     let next = (came b (ap (λ d. d.contents) inv.device ∙ k.0.gives_bytes)).chunks ∙ ap

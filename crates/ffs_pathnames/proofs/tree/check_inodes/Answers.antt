@@ -7,7 +7,7 @@ use Rattle.ffs_volume.specs.Messages.Kinds.{of_tree, lines_from}
 use Rattle.ffs_volume.specs.Directories.{PathnameCheck.directory_lines, Volumes.volume_of}
 use Rattle.ffs_report.proofs.Reporting.{of_begins, of_same, of_part, of_fault, of_reads, said_knows, reports_knowing}
 use Rattle.ffs_workspace.specs.{declared.workspace.Workspace.Workspace, Lengths.inodes_of}
-use Rattle.ffs_pathnames.{specs.Before.IsBefore, proofs.Carrying.before_reported, proofs.StampLaws.noted_kept}
+use Rattle.ffs_pathnames.{specs.Before.IsBeforeNoted, proofs.Carrying.noted_reported}
 use Rattle.ffs_pathnames.proofs.Skipping.{before_unseen, lines_unseen, noted_before}
 use Rattle.ffs_pathnames.proofs.LineCounts.{checked_on}
 use Rattle.ffs_survey.{specs.Costs.costs_all, proofs.Costs.cost_take, proofs.Costs.costs_rise}
@@ -47,7 +47,6 @@ loop-number-init g c =
       device = noted.read;
       low = first.ensures.range.0;
       references = ap (λ (w : Workspace). w.references) noted.lists;
-      noted = λ b k numbered. noted.noted b k.gives_bytes k.claims k.survey numbered;
       reads = λ b k numbered.
           let made : g.I.Image.reads c.note_places.new.image ≤ g.I.Image.reads c.args.image.now + directories_cost v b =
           c.note_places.ensures.reads b k.gives_bytes k.claims k.survey in
@@ -55,9 +54,13 @@ loop-number-init g c =
           (lines_from (directory_lines (volume_of v b)) first.result (inodes_of v - first.result))
           (lines_unseen v _ _ b first.result (inodes_of v) c.args.geometry.now.sound first.ensures.range.0
           first.ensures.range.1 first.ensures.before k)) (omega (arith, made));
-      before = λ b k. noted_before v _ _ _ _ first.result b first.ensures.range.0 refl noted.lists noted.ready.made
-          (noted.places b k.gives_bytes k.claims k.survey) noted.none_due
-          (before_unseen v _ _ b first.result c.args.geometry.now.sound first.ensures.range.0 first.ensures.before k);
+      before = λ b k. record {
+        before = noted_before v _ _ _ _ first.result b first.ensures.range.0 refl noted.lists noted.ready.made
+            (noted.places b k.gives_bytes k.claims k.survey) noted.none_due
+            (before_unseen v _ _ b first.result c.args.geometry.now.sound first.ensures.range.0 first.ensures.before
+            k);
+        noted = noted.noted b k.gives_bytes k.claims k.survey;
+      };
       said = of_same _ all _ all _ _ (of_begins _ all _)
           (λ b k. lines_unseen v _ _ b first.result (inodes_of v) c.args.geometry.now.sound first.ensures.range.0
           first.ensures.range.1 first.ensures.before k);
@@ -73,7 +76,7 @@ returns-in_err-check_inode-clause-text g c =
     rw (p.1, p.2) (of_fault (Unit {0}) (Unit {0}) _ _ _ _ _ _ _ _ c.in_err-check_inode.field-0.0 inv.said
     (λ b k. from_next (directory_lines (volume_of v b)) n (inodes_of v) (omega arith))
     (reports_knowing (Unit {0}) _ _ _ _ _ (Err c.in_err-check_inode.field-0.0)
-    (λ b k. before_reported (ap (λ d. d.contents) inv.device) (inv.before b k))
+    (λ b k. noted_reported (ap (λ d. d.contents) inv.device) (inv.before b k))
     c.in_err-check_inode.ensures.text))
 
 pub loop-number-preserved : goal.loop-number-preserved
@@ -88,8 +91,6 @@ loop-number-preserved g c =
       device = search rules;
       low = omega arith;
       references = ok.leaves.survey.references ∙ inv.references;
-      noted = λ b k numbered. noted_kept v b c.loop-number.workspace.queue.items
-          c.check_inode.new.workspace.queue.items ok.leaves.places (inv.noted b k numbered);
       reads = λ b k numbered.
           let lines = directory_lines (volume_of v b) in
           rw (cost_take (λ s. true) (directory_cost v b) n refl) (checked_on line_reads _ _ (directories_cost v b)
@@ -97,16 +98,16 @@ loop-number-preserved g c =
           n))
           (length (lines_from lines (n + 1) (inodes_of v - (n + 1)))) (length (lines_from lines 2 (inodes_of v - 2)))
           (c.check_inode.ensures.reads b
-          (before_reported (ap (λ d. d.contents) inv.device) (inv.before b k)) (inv.noted b k numbered))
+          (noted_reported (ap (λ d. d.contents) inv.device) (inv.before b k)) ((inv.before b k).noted numbered))
           (rw (next_long lines n (inodes_of v) (omega arith)) at (inv.reads b k numbered)));
-      before = λ b k. subst (λ d. IsBefore v (g.I.Image.device c.args.image.now).contents c.check_inode.new.workspace d
+      before = λ b k. subst (λ d. IsBeforeNoted v (g.I.Image.device c.args.image.now).contents c.check_inode.new.workspace d
           b) q
-          (before_reported (sym (ap (λ d. d.contents) inv.device))
-          (ok.before b (before_reported (ap (λ d. d.contents) inv.device) (inv.before b k))));
+          (noted_reported (sym (ap (λ d. d.contents) inv.device))
+          (ok.before b (noted_reported (ap (λ d. d.contents) inv.device) (inv.before b k))));
       said = of_part _ _ _ _ _ _ _ _ inv.said
           (λ b k. from_next (directory_lines (volume_of v b)) n (inodes_of v) (omega arith))
           (said_knows _ _ _ _ _ _
-          (λ b k. before_reported (ap (λ d. d.contents) inv.device) (inv.before b k)) ok.text);
+          (λ b k. noted_reported (ap (λ d. d.contents) inv.device) (inv.before b k)) ok.text);
     }
 
 pub returns-clause-text : goal.returns-clause-text
@@ -118,7 +119,7 @@ returns-clause-text g c =
     (omega arith))
 
 pub returns-clause-holds : goal.returns-clause-holds
-returns-clause-holds g c = λ b k. let now = c.loop-number.invariant.before b k in (now.claims, now.survey)
+returns-clause-holds g c = λ b k. let now = (c.loop-number.invariant.before b k).before in (now.claims, now.survey)
 
 pub returns-clause-unchecked : goal.returns-clause-unchecked
 returns-clause-unchecked g c = λ none.
@@ -144,7 +145,7 @@ returns-in_err-check_inode-clause-reads g c = λ b k numbered.
     (costs_all (directory_cost v b) n) (directory_cost v b n) (g.I.Image.reads c.args.image.now) (length (lines n))
     (length (lines_from lines (n + 1) (inodes_of v - (n + 1)))) (length (lines_from lines 2 (inodes_of v - 2)))
     (c.check_inode.ensures.reads b
-    (before_reported (ap (λ d. d.contents) inv.device) (inv.before b k)) (inv.noted b k numbered))
+    (noted_reported (ap (λ d. d.contents) inv.device) (inv.before b k)) ((inv.before b k).noted numbered))
     (rw (next_long lines n (inodes_of v) (omega arith)) at (inv.reads b k numbered)) in
     let taken = cost_take (λ s. true) (directory_cost v b) n refl in
     let rise = costs_rise (λ s. true) (directory_cost v b) (n + 1) (inodes_of v) (omega arith) in

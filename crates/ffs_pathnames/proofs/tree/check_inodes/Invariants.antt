@@ -2,8 +2,8 @@ use Rattle.std.proofs.Common.{◌≡◌, ◌+◌, ◌*◌, ◌-◌, ◌≤◌, l
 use Rattle.ffs_report.specs.{Known.ForBytes, PhaseOutcome.SaidOf, Progress.progress}
 use Rattle.ffs_volume.specs.{Messages.Kinds.of_tree, Messages.Kinds.lines_from, Report.Reads.line_reads}
 use Rattle.ffs_volume.specs.Directories.{PathnameCheck.directory_lines, Volumes.volume_of}
-use Rattle.ffs_workspace.specs.{Lengths.inodes_of, Places.AreChunksNumbered, Places.AreNoted}
-use Rattle.ffs_pathnames.specs.{Ready.ReadyWith, Before.IsBefore}
+use Rattle.ffs_workspace.specs.{Lengths.inodes_of, Places.AreChunksNumbered}
+use Rattle.ffs_pathnames.specs.{Ready.ReadyWith, Before.IsBefore, Before.IsBeforeNoted}
 use Rattle.ffs_survey.specs.Costs.{costs_all}
 use Rattle.ffs_names.specs.Costs.{directories_cost, directory_cost}
 use Rattle.ffs_pathnames.proofs.tree.check_inodes.Given as goal
@@ -14,8 +14,6 @@ invariant-loop-number g l = record {
   device : g.I.Image.device l.image ≡ g.I.Image.device l.fn.image;
   low : 2 ≤ l.number;
   references : l.workspace.references ≡ l.fn.workspace.references;
-  noted : ForBytes (λ b. IsBefore l.geometry.layout (g.I.Image.device l.fn.image).contents l.fn.workspace 2 b)
-      (λ b. AreChunksNumbered l.geometry.layout → AreNoted l.geometry.layout b l.workspace.queue.items);
   reads : ForBytes (λ b. IsBefore l.geometry.layout (g.I.Image.device l.fn.image).contents l.fn.workspace 2 b)
       (λ b. AreChunksNumbered l.geometry.layout → g.I.Image.reads l.image
       + line_reads * length (lines_from (directory_lines (volume_of l.geometry.layout b)) l.number
@@ -25,7 +23,7 @@ invariant-loop-number g l = record {
       + line_reads * length (lines_from (directory_lines (volume_of l.geometry.layout b)) 2
       (inodes_of l.geometry.layout - 2))));
   before : ForBytes (λ b. IsBefore l.geometry.layout (g.I.Image.device l.fn.image).contents l.fn.workspace 2 b)
-      (λ b. IsBefore l.geometry.layout (g.I.Image.device l.fn.image).contents l.workspace l.number b);
+      (λ b. IsBeforeNoted l.geometry.layout (g.I.Image.device l.fn.image).contents l.workspace l.number b);
   said : SaidOf (λ b. IsBefore l.geometry.layout (g.I.Image.device l.fn.image).contents l.fn.workspace 2 b)
       (λ b. map of_tree (lines_from (directory_lines (volume_of l.geometry.layout b)) l.number
       (inodes_of l.geometry.layout - l.number)))
