@@ -1,3 +1,4 @@
 pub mod Devices
 pub mod Retries
 pub mod Sources
+pub mod Limits

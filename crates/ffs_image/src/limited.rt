@@ -14,7 +14,6 @@ use std::snapshot::Snapshot;
 /// What reads a whole image needs a bound that holds of any image, also of one that gives other
 /// bytes each time. An image whose bytes stay never reaches the limit, where that is at least what
 /// its bytes ask for.
-#[derive(Drop)]
 pub struct LimitedImage<'a, I: Image> {
     below: &'a mut I,
     begins: Snapshot<I>,
@@ -132,5 +131,25 @@ impl<'a, I: Image> Image for LimitedImage<'a, I> {
         self.failures = self.failures.saturating_add(1);
         self.failed_sector = sector;
         Err(ImageFault { sector })
+    }
+}
+
+// A derived `drop` has no clause: the image below would be lost to the caller's proof.
+impl<I: Image> Drop for LimitedImage<'_, I> {
+    fn drop(self)
+        ensures below { self.exit.0.now ≡ self.entry.below.now }
+    {
+        let Self {
+            below: _,
+            begins: _,
+            limited: _,
+            limit: _,
+            left: _,
+            spent: _,
+            failed: _,
+            fault_sector: _,
+            failures: _,
+            failed_sector: _,
+        } = self;
     }
 }

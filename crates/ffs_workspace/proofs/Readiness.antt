@@ -23,3 +23,12 @@ ready_table v d d' w t e size kept r =
         names = rw e r.windows.names;
       };
     }
+
+-- for another image of the same bytes
+pub ready_same : (v : Layout) (d d' : Device) (w : Workspace) → d'.contents ≡ d.contents → d'.size ≡ d.size →
+    IsReady v d w → IsReady v d' w
+ready_same v d d' w e size r = record {
+  made = r.made;
+  volume = rw size r.volume;
+  windows = rw e r.windows;
+}
