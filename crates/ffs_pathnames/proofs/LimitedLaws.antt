@@ -1,16 +1,15 @@
--- What a call over an image with a limit leaves, of the image below it.
-use Rattle.std.proofs.Common.{◌≡◌, rules}
-use Rattle.ffs_image.specs.Device.{Device}
+-- What a look at a directory leaves of the image that it was limited on, and of the reads that are
+-- left.
+use Rattle.std.specs.Borrow.{GName}
+use Rattle.std.proofs.Common.{◌≡◌, ◌≤◌, ◌+◌, ℕ, Bool, Option, Some, Result}
+use Rattle.ffs_image.specs.declared.image.ImageFault.{ImageFault}
+use Rattle.ffs_image.specs.{Device.Device, Limited.GivesBack, Limited.limited_device, Reads.ReadAfter}
+use Rattle.ffs_image.proofs.Limits.{ServedBy, read_over, served_back}
 use Rattle.ffs_names.specs.Windows.{CanReadChunks}
 use Rattle.ffs_volume.specs.declared.Layout.{Layout}
 use Rattle.ffs_walk.specs.declared.{blocks.Blocks.Blocks, window.Window.Window}
-use Rattle.ffs_workspace.specs.{declared.workspace.Workspace.Workspace, Ready.IsReady}
 
--- what is ready for one image is ready for another with its bytes and its size
-pub ready_same : (v : Layout) (d d' : Device) (w : Workspace) → d'.contents ≡ d.contents → d'.size ≡ d.size →
-    IsReady v d w → IsReady v d' w
-ready_same v d d' w e size r = record { made = r.made; volume = rw size r.volume; windows = rw e r.windows }
-
+-- windows that can be read into for one image can be for another with its bytes and its size
 pub can_read_same : (v : Layout) (d d' : Device) (blocks : Blocks) (chunk : Window) → d'.contents ≡ d.contents →
     d'.size ≡ d.size → CanReadChunks v d blocks chunk → CanReadChunks v d' blocks chunk
 can_read_same v d d' blocks chunk e size can = record {
@@ -18,3 +17,22 @@ can_read_same v d d' blocks chunk e size can = record {
   room = can.room;
   holds = rw e can.holds;
 }
+
+-- what a look made of the image below, and of the reads that were left for it
+pub record LookedBy {T : Type 0} (lent below : Device) (name_lent name : GName) (reads reads' limit left asked : ℕ)
+    (spent : Bool) (r : Result T ImageFault) : Type 0 where
+  pub served : ServedBy lent below name_lent name reads reads' limit asked spent r
+  pub most : reads' + left ≤ reads + limit
+  pub kept : limit ≤ left + asked
+
+pub looked : {T : Type 0} {lent below : Device} {name_lent name : GName} {reads reads' limit left asked : ℕ} {s : Bool}
+    {above' : Device} {r : Result T ImageFault} →
+    ReadAfter (limited_device lent name_lent reads (Some limit)) above' r →
+    ((d : Device) (given : GName) (before : ℕ) (most : Option ℕ) → above'.lent ≡ (limited_device d given before most).lent →
+    above'.contents ≡ d.contents → above'.size ≡ d.size →
+    GivesBack d below given name before reads' most left asked s (limited_device d given before most) above') →
+    LookedBy lent below name_lent name reads reads' limit left asked s r
+looked {lent = lent} {name_lent = name_lent} {reads = reads} {limit = limit} {above' = above'} {r = r} h back =
+    let over = read_over (limited_device lent name_lent reads (Some limit)) above' r h in
+    let all = back lent name_lent reads (Some limit) over.lent over.contents over.size in
+    record { served = served_back lent _ name_lent _ reads _ limit _ _ _ above' r h all; most = all.most; kept = all.left_of }

@@ -1,40 +1,37 @@
-use Rattle.std.proofs.Common.{rules, ◌≡◌, ◌+◌, ◌≤◌, IfOk, true, false, ℕ, ◌-◌, ◌*◌, ◌<◌, length, ◌/◌, ◌%◌, Bool, nat_eq, nat_lt, List, [], ◌∷◌, ◌++◌, slice_index_or, slice_set, bit_and, bit_or, Fits, w8, w32, w64, Bor, MutBor}
-use Rattle.ffs_report.specs.Known.{ForBytes}
+use Rattle.std.proofs.Common.{◌∙◌, ◌≡◌, ◌+◌, ◌≤◌, ℕ, List, ap, arith, false, refl, sym, Ok}
+use Rattle.std.proofs.lemmas.Bool.{both_ways}
+use Rattle.ffs_workspace.proofs.Readiness.{ready_same}
 use Rattle.ffs_names.specs.Costs.{directory_cost}
-use Rattle.ffs_paths.specs.Reads.{IsReadyFor}
 use Rattle.ffs_pathnames.specs.DirectoryContext.{DirectoryContext}
-use Rattle.ffs_pathnames.specs.Examines.{ExamineLeaves, IsExamined}
-use Rattle.ffs_pathnames.specs.ReadsLeft.{LeftForLook}
+use Rattle.ffs_pathnames.proofs.{Carrying.if_ok, LimitedLaws.LookedBy, LimitedLaws.looked}
+use Rattle.ffs_pathnames.proofs.examine.examine.Given.{Over}
+use Rattle.ffs_pathnames.proofs.examine.examine.Goals.{After-is_spent}
 use Rattle.ffs_pathnames.proofs.examine.examine.Goals as goal
 
--- src/examine.rt:125:9
-pub returns-then-is_spent-clause-found : goal.returns-then-is_spent-clause-found
-returns-then-is_spent-clause-found g c = ?
+-- what became of the image below, and of the reads that were left
+after : (g : Over) (c : After-is_spent g) →
+    LookedBy (g.I.Image.device c.args.image.now) (g.I.Image.device c.examine_all-examined.new.image.below.now)
+    c.args.image.ghost_name c.examine_all-examined.new.image.below.ghost_name (g.I.Image.reads c.args.image.now)
+    (g.I.Image.reads c.examine_all-examined.new.image.below.now) c.args.reads_left.now c.left.result ? c.is_spent.result
+    c.examine_all-examined.result
+after g c = rw c.left.ensures.value (looked (rw c.new-limited.ensures.device at c.examine_all-examined.ensures.leaves.read)
+    c.is_spent.ensures.below)
 
--- src/examine.rt:125:9
-pub returns-then-is_spent-clause-reads : goal.returns-then-is_spent-clause-reads
-returns-then-is_spent-clause-reads g c = ?
+-- for known bytes it asks for no more than a look takes
+few : (g : Over) (c : After-is_spent g) (b : List ℕ) → DirectoryContext c.args.geometry.now.layout
+    (g.I.Image.device c.args.image.now).contents c.args.workspace.now c.args.dir b → ?
+few g c b k = rw c.new-limited.ensures.asked at (c.examine_all-examined.ensures.reads b (rw c.new-limited.ensures.device k))
 
--- src/examine.rt:125:9
 pub returns-then-is_spent-clause-most : goal.returns-then-is_spent-clause-most
-returns-then-is_spent-clause-most g c = ?
+returns-then-is_spent-clause-most g c =
+    let at = goal.at.returns-then-is_spent-clause-most g c in
+    let back = after g at.After-is_spent in
+    let image = c.image-1.given.1 back.served.same_image ∙ c.drop-limited.ensures in
+    rw image back.most
 
--- src/examine.rt:125:9
-pub returns-then-is_spent-clause-leaves : goal.returns-then-is_spent-clause-leaves
-returns-then-is_spent-clause-leaves g c = ?
-
--- src/examine.rt:99:1
-pub returns-clause-found : goal.returns-clause-found
-returns-clause-found g c = ?
-
--- src/examine.rt:99:1
-pub returns-clause-reads : goal.returns-clause-reads
-returns-clause-reads g c = ?
-
--- src/examine.rt:99:1
 pub returns-clause-most : goal.returns-clause-most
-returns-clause-most g c = ?
-
--- src/examine.rt:99:1
-pub returns-clause-leaves : goal.returns-clause-leaves
-returns-clause-leaves g c = ?
+returns-clause-most g c =
+    let at = goal.at.returns-clause-most g c in
+    let back = after g at.After-is_spent in
+    let image = c.image-2-1.given.1 back.served.same_image ∙ c.drop-limited-2.ensures in
+    rw image back.most
