@@ -14,3 +14,4 @@ pub mod RunSums
 pub mod SameGraphs
 pub mod SurveyHolds
 pub mod PlacesNoted
+pub mod Limits

@@ -3,6 +3,7 @@
 ghost use Rattle.std.specs.Prelude.{◌+◌, ◌≤◌, OnOk};
 ghost use Rattle.ffs_image.specs.Device.{ForContents};
 ghost use Rattle.ffs_image.specs.Reads.{ReadAfter};
+ghost use Rattle.ffs_volume.specs.Report.Reads.{sweep_reads};
 ghost use Rattle.ffs_workspace.specs.Ready.{IsReady};
 ghost use Rattle.ffs_workspace.specs.Holds.{HoldsClaims, HoldsReferences, HoldsStarts, HoldsSurvey};
 ghost use Rattle.ffs_names.specs.Surveys.{IsUntouched, FlagsCalm};
@@ -10,19 +11,15 @@ ghost use Rattle.ffs_names.specs.Costs.{directories_cost};
 
 use crate::entries::Entries;
 use crate::reader::DirectoryReader;
-use ffs_image::{Image, ImageFault};
+use ffs_image::{Image, ImageFault, LimitedImage};
 use ffs_layout::Geometry;
-use ffs_workspace::Workspace;
+use ffs_workspace::{Workspace, sweep_reads};
 
-/// Finds how often each inode is referred to, which inodes a plain entry names, which directories
-/// are reached from the root, and the parent of each directory. Each directory is read once.
-/// `flags` then has the calm directories, of which nothing can be reported, and `queue` notes no
-/// place. The windows change too. What phase 1 left (claims, kinds, marks, notes, counts of Runs)
-/// stays as it was.
+/// What `survey` does, where each read is answered.
 ///
 /// # Errors
 /// A read of the image that failed.
-pub fn survey<I: Image>(
+fn survey_all<I: Image>(
     geometry: &Geometry,
     image: &mut I,
     workspace: &mut Workspace,
@@ -66,5 +63,46 @@ pub fn survey<I: Image>(
     );
     // No place of a parent entry is noted yet.
     workspace.queue.fill(0);
+    surveyed
+}
+
+/// Finds how often each inode is referred to, which inodes a plain entry names, which directories
+/// are reached from the root, and the parent of each directory. Each directory is read once.
+/// `flags` then has the calm directories, of which nothing can be reported, and `queue` notes no
+/// place. The windows change too. What phase 1 left (claims, kinds, marks, notes, counts of Runs)
+/// stays as it was.
+///
+/// # Errors
+/// A read of the image that failed.
+pub fn survey<I: Image>(
+    geometry: &Geometry,
+    image: &mut I,
+    workspace: &mut Workspace,
+) -> Result<(), ImageFault>
+    requires { IsReady geometry.now.layout (I.device image.old) workspace.old }
+    ensures survey { OnOk result (ForContents (I.device image.old).contents
+        (λ b. HoldsClaims geometry.now.layout b workspace.old
+        → HoldsSurvey geometry.now.layout b workspace.new)) }
+    ensures references { OnOk result (ForContents (I.device image.old).contents
+        (λ b. HoldsClaims geometry.now.layout b workspace.old
+        → HoldsStarts geometry.now.layout b workspace.old
+        → HoldsReferences geometry.now.layout b workspace.new)) }
+    ensures calm { OnOk result (ForContents (I.device image.old).contents
+        (λ b. HoldsClaims geometry.now.layout b workspace.old
+        → FlagsCalm geometry.now.layout b workspace.new)) }
+    ensures reads { ForContents (I.device image.old).contents
+        (λ b. HoldsClaims geometry.now.layout b workspace.old
+        → I.reads image.new ≤ I.reads image.old + directories_cost geometry.now.layout b) }
+    ensures most { I.reads image.new ≤ I.reads image.old + sweep_reads geometry.now.layout }
+    ensures same { IsUntouched workspace.old workspace.new }
+    ensures ready { IsReady geometry.now.layout (I.device image.new) workspace.new }
+    ensures read { ReadAfter (I.device image.old) (I.device image.new) result }
+{
+    let mut limited = LimitedImage::new(image, Some(sweep_reads(geometry)));
+    let surveyed = survey_all(geometry, &mut limited, workspace);
+    if limited.is_spent() {
+        // Only an image that gives other bytes each time asks for more reads.
+        return Ok(());
+    }
     surveyed
 }

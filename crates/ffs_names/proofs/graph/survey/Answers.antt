@@ -1,116 +1,98 @@
-use Rattle.std.proofs.Common.{◌∙◌, ◌≡◌, ◌*◌, ℕ, List, Some, length, ap, refl, subst, sym, rules, arith, slice_index}
-use Rattle.std.proofs.lemmas.List.{with_items_is}
-use Rattle.ffs_volume.proofs.{Results.on_ok, Sizes.some_inodes}
-use Rattle.ffs_volume.specs.Encodings.Kinds.{kind_at}
-use Rattle.ffs_workspace.proofs.PlaceLaws.{filled_noted}
-use Rattle.ffs_workspace.specs.{Holds.HoldsClaims, Tables.IsTableOf}
-use Rattle.ffs_names.specs.Readers.{Base, KnowsReader}
-use Rattle.ffs_names.proofs.SurveyHolds.{volume_survey, holds_survey, volume_calm, holds_calm, holds_references}
+use Rattle.std.proofs.Common.{◌≡◌, ◌≤◌, ◌∙◌, ℕ, List, Some, true, false, arith, sym, ap}
+use Rattle.std.proofs.lemmas.Bool.{both_ways}
+use Rattle.ffs_image.proofs.Limits.{read_over, served}
+use Rattle.ffs_image.specs.Device.{Device}
+use Rattle.ffs_workspace.proofs.Readiness.{ready_same}
+use Rattle.ffs_workspace.specs.Holds.{HoldsClaims}
+use Rattle.ffs_names.proofs.Limits.{costs_within}
 use Rattle.ffs_names.proofs.graph.survey.Given as given
 use Rattle.ffs_names.proofs.graph.survey.Goals as goal
-use Rattle.ffs_names.proofs.graph.survey.Goals.{After-survey-surveyed}
+use Rattle.ffs_names.proofs.graph.survey.Goals.{After-is_spent}
 
--- what the reader is over, and that its lists are those of the claims
-abbrev base : (g : given.Over) → After-survey-surveyed g → Base
-base g c = record {
-  layout = c.args.geometry.now.layout;
-  contents = (g.I.Image.device c.args.image.now).contents;
-  kinds = c.deref.result.now;
-  notes = c.args.workspace.now.notes.items;
-  image_lent = c.reader-2-1.given;
-  windows_lent = c.reader-3-1.given.0;
-}
+-- the limited image gives the bytes of the one below
+bytes : (g : given.Over) (c : After-is_spent g) (b : List ℕ) →
+    (g.I.Image.device c.args.image.now).contents ≡ Some b → (g.I.Image.device c.new-limited.result.begins.value).contents ≡ Some b
+bytes g c b t = ap (λ (d : Device). d.contents) c.new-limited.ensures.device ∙ t
 
-known : (g : given.Over) (c : After-survey-surveyed g) (b : List ℕ) →
+-- no read of known bytes is refused
+answered : (g : given.Over) (c : After-is_spent g) (b : List ℕ) →
     (g.I.Image.device c.args.image.now).contents ≡ Some b →
-    HoldsClaims c.args.geometry.now.layout b c.args.workspace.now → KnowsReader (base g c) b
-known g c b t h = record {
-  bytes = t;
-  kinds = λ x. ap (λ ks. slice_index ks x) c.deref.ensures.value ∙ h.kinds x;
-  notes = h.notes;
-}
+    HoldsClaims c.args.geometry.now.layout b c.args.workspace.now → c.is_spent.result ≡ false
+answered g c b t h =
+    let v = c.args.geometry.now.layout in
+    let back = served (rw c.new-limited.ensures.device at c.survey_all-surveyed.ensures.read) c.is_spent.ensures.below in
+    let asked = c.survey_all-surveyed.ensures.reads b (bytes g c b t) h in
+    let within = costs_within v b c.args.geometry.now.sound in
+    back.few (omega (arith, asked, within, c.new-limited.ensures.asked, c.sweep_reads.ensures))
 
-kinds : (g : given.Over) (c : After-survey-surveyed g) (b : List ℕ) →
-    HoldsClaims c.args.geometry.now.layout b c.args.workspace.now → (x : ℕ) →
-    slice_index c.deref-2.result.now x ≡ kind_at c.args.geometry.now.layout b x
-kinds g c b h x = ap (λ ks. slice_index ks x) c.deref-2.ensures.value ∙ h.kinds x
+pub returns-then-is_spent-clause-most : goal.returns-then-is_spent-clause-most
+returns-then-is_spent-clause-most g c =
+    let back = served (rw c.new-limited.ensures.device at c.survey_all-surveyed.ensures.read) c.is_spent.ensures.below in
+    let image = c.image-1.given.1 back.same_image ∙ c.drop-limited.ensures.below in
+    rw (image, ← c.sweep_reads.ensures) back.most
+
+pub returns-clause-most : goal.returns-clause-most
+returns-clause-most g c =
+    let back = served (rw c.new-limited.ensures.device at c.survey_all-surveyed.ensures.read) c.is_spent.ensures.below in
+    let image = c.image-2-1.given.1 back.same_image ∙ c.drop-limited-2.ensures.below in
+    rw (image, ← c.sweep_reads.ensures) back.most
+
+pub returns-then-is_spent-clause-read : goal.returns-then-is_spent-clause-read
+returns-then-is_spent-clause-read g c =
+    let back = served (rw c.new-limited.ensures.device at c.survey_all-surveyed.ensures.read) c.is_spent.ensures.below in
+    let image = c.image-1.given.1 back.same_image ∙ c.drop-limited.ensures.below in
+    rw image (back.refused c.if-is_spent.true)
 
 pub returns-clause-read : goal.returns-clause-read
 returns-clause-read g c =
-    rw (c.image-1.given.1 (sym (ap (λ x. x.image_lent) c.survey-surveyed.ensures.reader.same)))
-    c.survey-surveyed.ensures.reader.read
+    let back = served (rw c.new-limited.ensures.device at c.survey_all-surveyed.ensures.read) c.is_spent.ensures.below in
+    let image = c.image-2-1.given.1 back.same_image ∙ c.drop-limited-2.ensures.below in
+    rw image (back.read c.if-is_spent.false)
+
+pub returns-then-is_spent-clause-ready : goal.returns-then-is_spent-clause-ready
+returns-then-is_spent-clause-ready g c =
+    let back = served (rw c.new-limited.ensures.device at c.survey_all-surveyed.ensures.read) c.is_spent.ensures.below in
+    let image = c.image-1.given.1 back.same_image ∙ c.drop-limited.ensures.below in
+    let over = read_over _ _ c.survey_all-surveyed.result (rw c.new-limited.ensures.device at c.survey_all-surveyed.ensures.read) in
+    rw image (ready_same c.args.geometry.now.layout _ _ c.survey_all-surveyed.new.workspace (back.contents ∙ sym over.contents)
+    (back.size ∙ sym over.size) c.survey_all-surveyed.ensures.ready)
 
 pub returns-clause-ready : goal.returns-clause-ready
 returns-clause-ready g c =
-    let v = c.args.geometry.now.layout in
-    let image = c.image-1.given.1 (sym (ap (λ x. x.image_lent) c.survey-surveyed.ensures.reader.same)) in
-    let same = ap (λ x. x.layout) c.survey-surveyed.ensures.reader.same in
-    let r = c.survey-surveyed.ensures.reader.is_ready.0 in
-    let table = subst (λ l. IsTableOf l c.survey-surveyed.new.directories.windows.now.table) same r.table in
-    record {
-      made = search rules;
-      volume = rw (image, ← same) r.volume;
-      windows = record {
-        table = rw image r.table_holds;
-        blocks = rw (image, ← same) r.blocks_hold;
-        chunk = rw image r.chunk_holds;
-        names = rw image r.names_hold;
-      };
-    }
+    let back = served (rw c.new-limited.ensures.device at c.survey_all-surveyed.ensures.read) c.is_spent.ensures.below in
+    let image = c.image-2-1.given.1 back.same_image ∙ c.drop-limited-2.ensures.below in
+    let over = read_over _ _ c.survey_all-surveyed.result (rw c.new-limited.ensures.device at c.survey_all-surveyed.ensures.read) in
+    rw image (ready_same c.args.geometry.now.layout _ _ c.survey_all-surveyed.new.workspace (back.contents ∙ sym over.contents)
+    (back.size ∙ sym over.size) c.survey_all-surveyed.ensures.ready)
 
 pub returns-clause-survey : goal.returns-clause-survey
 returns-clause-survey g c =
-    let at = (goal.at.returns-clause-survey g c).After-survey-surveyed in
-    let w = c.args.workspace.now in
-    let n = c.survey-surveyed.new in
-    let named = with_items_is w.named n.named (search rules) in
-    let reached = with_items_is w.reached n.reached (search rules) in
-    on_ok c.survey-surveyed.result _ _ (λ s b t h.
-    let survey = volume_survey (base g at) b c.deref-2.result.now {counts = n.references.items} (search rules)
-    (kinds g at b h) (s b (known g at b t h)) in
-    holds_survey c.args.geometry.now.layout b _ _ n.references.items n.named n.reached n.parents.items named reached refl
-    (filled_noted _ _ _ _ c.fill.ensures.items) survey)
-    c.survey-surveyed.ensures.survey
-
-pub returns-clause-references : goal.returns-clause-references
-returns-clause-references g c = on_ok c.survey-surveyed.result _ _ (λ s b t h starts.
-    let at = (goal.at.returns-clause-references g c).After-survey-surveyed in
-    let survey = volume_survey (base g at) b c.deref-2.result.now (search rules) (kinds g at b h) (s b (known g at b t h))
-    in
-    holds_references c.args.geometry.now.layout b c.args.workspace.now _ (search rules) refl starts survey)
-    c.survey-surveyed.ensures.survey
-
-pub returns-clause-calm : goal.returns-clause-calm
-returns-clause-calm g c = on_ok c.survey-surveyed.result _ _ (λ s b t h.
-    let at = (goal.at.returns-clause-calm g c).After-survey-surveyed in
-    let w = c.args.workspace.now in
-    let n = c.survey-surveyed.new in
-    let calm = volume_calm (base g at) b c.deref-2.result.now c.deref-3.result.now n.reached n.parents.items n.calm
-    (s b (known g at b t h)) in
-    holds_calm c.args.geometry.now.layout b _ c.deref-2.result.now c.deref-3.result.now n.reached n.parents.items n.calm
-    (sym c.deref-2.ensures.value) (sym c.deref-3.ensures.value)
-    (with_items_is w.reached n.reached (search rules)) refl
-    (with_items_is w.flags n.calm (search rules)) calm)
-    c.survey-surveyed.ensures.calm
-
-pub survey-surveyed-requires-clause-lists : goal.survey-surveyed-requires-clause-lists
-survey-surveyed-requires-clause-lists g c = record {
-  some = let k = some_inodes c.args.geometry.now.layout c.args.geometry.now.sound in
-      omega (arith, c.deref-2.ensures.len, c.requires.made.kinds, k);
-  few = search (rules, arith);
-  marked_long = search (rules, arith);
-  references_long = search (rules, arith);
-  named_long = search (rules, arith);
-  reached_long = search (rules, arith);
-  parents_long = search (rules, arith);
-  calm_long = search (rules, arith);
-  queue_long = search (rules, arith);
-}
+    rw (ap (λ (d : Device). d.contents) c.new-limited.ensures.device) at c.survey_all-surveyed.ensures.survey
 
 pub returns-clause-reads : goal.returns-clause-reads
 returns-clause-reads g c = λ b t h.
-    let v = c.args.geometry.now.layout in
-    let image = c.image-1.given.1 (sym (ap (λ x. x.image_lent) c.survey-surveyed.ensures.reader.same)) in
-    let at = (goal.at.returns-clause-reads g c).After-survey-surveyed in
-    let all : length c.deref-2.result.now ≡ v.ncg * v.ipg = omega (arith, c.deref-2.ensures.len, c.requires.made.kinds) in
-    rw image (rw all at (c.survey-surveyed.ensures.counted b (known g at b t h)))
+    let at = (goal.at.returns-clause-reads g c).After-is_spent in
+    let back = served (rw c.new-limited.ensures.device at c.survey_all-surveyed.ensures.read) c.is_spent.ensures.below in
+    let image = c.image-2-1.given.1 back.same_image ∙ c.drop-limited-2.ensures.below in
+    let asked = c.survey_all-surveyed.ensures.reads b (bytes g at b t) h in
+    rw image (omega (arith, asked, back.as_asked, c.new-limited.ensures.asked))
+
+pub returns-then-is_spent-clause-survey : goal.returns-then-is_spent-clause-survey
+returns-then-is_spent-clause-survey g c = λ b t h.
+    let at = (goal.at.returns-then-is_spent-clause-survey g c).After-is_spent in
+    absurd (both_ways _ (answered g at b t h) c.if-is_spent.true)
+
+pub returns-then-is_spent-clause-references : goal.returns-then-is_spent-clause-references
+returns-then-is_spent-clause-references g c = λ b t h starts.
+    let at = (goal.at.returns-then-is_spent-clause-references g c).After-is_spent in
+    absurd (both_ways _ (answered g at b t h) c.if-is_spent.true)
+
+pub returns-then-is_spent-clause-calm : goal.returns-then-is_spent-clause-calm
+returns-then-is_spent-clause-calm g c = λ b t h.
+    let at = (goal.at.returns-then-is_spent-clause-calm g c).After-is_spent in
+    absurd (both_ways _ (answered g at b t h) c.if-is_spent.true)
+
+pub returns-then-is_spent-clause-reads : goal.returns-then-is_spent-clause-reads
+returns-then-is_spent-clause-reads g c = λ b t h.
+    let at = (goal.at.returns-then-is_spent-clause-reads g c).After-is_spent in
+    absurd (both_ways _ (answered g at b t h) c.if-is_spent.true)

@@ -6,9 +6,9 @@ use Rattle.ffs_workspace.proofs.PlaceLaws.{filled_noted}
 use Rattle.ffs_workspace.specs.{Holds.HoldsClaims, Tables.IsTableOf}
 use Rattle.ffs_names.specs.Readers.{Base, KnowsReader}
 use Rattle.ffs_names.proofs.SurveyHolds.{volume_survey, holds_survey, volume_calm, holds_calm, holds_references}
-use Rattle.ffs_names.proofs.graph.survey.Given as given
-use Rattle.ffs_names.proofs.graph.survey.Goals as goal
-use Rattle.ffs_names.proofs.graph.survey.Goals.{After-survey-surveyed}
+use Rattle.ffs_names.proofs.graph.survey_all.Given as given
+use Rattle.ffs_names.proofs.graph.survey_all.Goals as goal
+use Rattle.ffs_names.proofs.graph.survey_all.Goals.{After-survey-surveyed}
 
 -- what the reader is over, and that its lists are those of the claims
 abbrev base : (g : given.Over) → After-survey-surveyed g → Base

@@ -26,12 +26,12 @@ pub returns-then-is_spent-clause-most : goal.returns-then-is_spent-clause-most
 returns-then-is_spent-clause-most g c =
     let at = goal.at.returns-then-is_spent-clause-most g c in
     let back = after g at.After-is_spent in
-    let image = c.image-1.given.1 back.served.same_image ∙ c.drop-limited.ensures in
+    let image = c.image-1.given.1 back.served.same_image ∙ c.drop-limited.ensures.below in
     rw image back.most
 
 pub returns-clause-most : goal.returns-clause-most
 returns-clause-most g c =
     let at = goal.at.returns-clause-most g c in
     let back = after g at.After-is_spent in
-    let image = c.image-2-1.given.1 back.served.same_image ∙ c.drop-limited-2.ensures in
+    let image = c.image-2-1.given.1 back.served.same_image ∙ c.drop-limited-2.ensures.below in
     rw image back.most
