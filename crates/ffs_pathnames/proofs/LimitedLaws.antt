@@ -4,7 +4,7 @@ use Rattle.std.specs.Borrow.{GName}
 use Rattle.std.proofs.Common.{◌≡◌, ◌≤◌, ◌+◌, ℕ, Bool, Option, Some, Result}
 use Rattle.ffs_image.specs.declared.image.ImageFault.{ImageFault}
 use Rattle.ffs_image.specs.{Device.Device, Limited.GivesBack, Limited.limited_device, Reads.ReadAfter}
-use Rattle.ffs_image.proofs.Limits.{ServedBy, read_over, served_back}
+use Rattle.ffs_image.proofs.Limits.{ServedBy, read_over, served}
 use Rattle.ffs_names.specs.Windows.{CanReadChunks}
 use Rattle.ffs_volume.specs.declared.Layout.{Layout}
 use Rattle.ffs_walk.specs.declared.{blocks.Blocks.Blocks, window.Window.Window}
@@ -35,4 +35,4 @@ pub looked : {T : Type 0} {lent below : Device} {name_lent name : GName} {reads 
 looked {lent = lent} {name_lent = name_lent} {reads = reads} {limit = limit} {above' = above'} {r = r} h back =
     let over = read_over (limited_device lent name_lent reads (Some limit)) above' r h in
     let all = back lent name_lent reads (Some limit) over.lent over.contents over.size in
-    record { served = served_back lent _ name_lent _ reads _ limit _ _ _ above' r h all; most = all.most; kept = all.left_of }
+    record { served = served h back; most = all.most; kept = all.left_of }
