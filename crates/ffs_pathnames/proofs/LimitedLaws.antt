@@ -1,7 +1,9 @@
 -- What a look at a directory leaves of the image that it was limited on, and of the reads that are
 -- left.
 use Rattle.std.specs.Borrow.{GName}
-use Rattle.std.proofs.Common.{◌≡◌, ◌≤◌, ◌+◌, ℕ, Bool, Option, Some, Result}
+use Rattle.std.proofs.Common.{◌≡◌, ◌≤◌, ◌+◌, ℕ, arith, Bool, Option, Some, None, Result, Ok, Err, IfOk, IfSome, MatchResult, MatchOption}
+use Rattle.ffs_survey.specs.Costs.{TakesReads}
+use Rattle.ffs_pathnames.specs.ReadsLeft.{TakesLeft}
 use Rattle.ffs_image.specs.declared.image.ImageFault.{ImageFault}
 use Rattle.ffs_image.specs.{Device.Device, Limited.GivesBack, Limited.limited_device, Reads.ReadAfter}
 use Rattle.ffs_image.proofs.Limits.{ServedBy, read_over, served}
@@ -36,3 +38,35 @@ looked {lent = lent} {name_lent = name_lent} {reads = reads} {limit = limit} {ab
     let over = read_over (limited_device lent name_lent reads (Some limit)) above' r h in
     let all = back lent name_lent reads (Some limit) over.lent over.contents over.size in
     record { served = served h back; most = all.most; kept = all.left_of }
+
+-- what was asked of the limited image was taken of the image below
+pub taken_below : {T : Type 0} {r : Result T ImageFault} {reads reads' asked asked' before after : ℕ} {held : Type 0} →
+    TakesReads asked asked' before after held r → asked ≡ 0 → reads' ≤ reads + asked' →
+    TakesReads reads reads' before after held r
+taken_below {r = Ok x} took none few = record {
+  most = omega (arith, took.most, none, few);
+  paid = omega (arith, took.paid, none, few);
+  held = took.held;
+}
+taken_below {r = Err e} took none few = record {
+  most = omega (arith, took.most, none, few);
+  paid = tt;
+  held = tt;
+}
+
+-- and of the reads that were left
+pub taken_left : {T : Type 0} {r : Result T ImageFault} {left left' asked asked' before after : ℕ} {held : Type 0} →
+    TakesReads asked asked' before after held r → asked ≡ 0 → left ≤ left' + asked' → TakesLeft left left' before after r
+taken_left {r = Ok x} took none few = record {
+  most = omega (arith, took.most, none, few);
+  paid = omega (arith, took.paid, none, few);
+}
+taken_left {r = Err e} took none few = record { most = omega (arith, took.most, none, few); paid = tt }
+
+-- a chunk that comes is one less to come
+pub budget_falls : (r : Result (Option ℕ) ImageFault) (old new : ℕ) → MatchResult r
+    (λ o. MatchOption o (new ≡ old) (λ x. new + 1 ≡ old)) (λ e. new ≡ 0)
+    → IfOk r (λ o. IfSome o (λ x. new + 1 ≡ old))
+budget_falls (Ok (Some x)) old new h = h
+budget_falls (Ok None) old new h = tt
+budget_falls (Err e) old new h = tt

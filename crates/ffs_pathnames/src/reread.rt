@@ -1,5 +1,5 @@
 //! A second reading of a directory, where something is reported of its entries.
-ghost use Rattle.std.specs.Prelude.{◌≡◌, ◌+◌, ◌≤◌, ⊥, true, OnOk, IfOk, IfSome, IsTrue, length, map, slice_index};
+ghost use Rattle.std.specs.Prelude.{◌≡◌, ◌+◌, ◌≤◌, true, OnOk, IfOk, IfSome, length, map, slice_index};
 ghost use Rattle.ffs_image.specs.Device.{ForContents};
 ghost use Rattle.ffs_names.specs.Costs.{directory_runs, to_read, HoldsReading};
 ghost use Rattle.ffs_names.specs.Readings.{rest, GivesChunk, LeavesReading};
@@ -28,16 +28,67 @@ use ffs_workspace::{Windows, Workspace, line_reads};
 /// Whether each chunk of a volume has a number for which a word has room. On a larger volume a path
 /// may search a directory, so that blocks of the one that is read are read again.
 fn are_chunks_numbered(geometry: &Geometry) -> bool
-    ensures yes { IsTrue result → AreChunksNumbered geometry.now.layout }
+    ensures yes { result ≡ true → AreChunksNumbered geometry.now.layout }
     ensures no { AreChunksNumbered geometry.now.layout → result ≡ true }
 {
     line_reads(geometry).is_some()
 }
 
 /// Reads the next chunk of a directory, and returns its place in the file, in bytes, and None where
+/// no chunk is left. `reads_left` is how many reads may be made; it falls by those that are made.
+/// Where one more is asked for, no chunk comes any more.
+///
+/// # Errors
+/// A read of the image that failed.
+fn next_limited<I: Image>(
+    chunks: &mut Chunks,
+    image: &mut I,
+    windows: &mut Windows,
+    bytes: &mut [u8; DIRBLKSIZ],
+    reads_left: &mut u64,
+) -> Result<Option<u64>, ImageFault>
+    requires { CanReadChunks chunks.old.walk.geometry.layout (I.device image.old)
+        windows.old.blocks windows.old.chunk }
+    ensures chunk { IfOk result (λ offset. ForContents (I.device image.old).contents
+        (λ b. HoldsReading windows.old.blocks windows.old.chunk chunks.old
+        → to_read b chunks.old ≤ reads_left.old
+        → GivesChunk b (rest b) chunks.old chunks.new bytes.new offset)) }
+    ensures budget { IfOk result (λ o. IfSome o (λ _. chunks.new.budget + 1 ≡ chunks.old.budget)) }
+    ensures reads { HoldsReading windows.old.blocks windows.old.chunk chunks.old
+        → ForContents (I.device image.old).contents (λ b. to_read b chunks.old ≤ reads_left.old
+        → TakesReads (I.reads image.old) (I.reads image.new) (to_read b chunks.old)
+        (to_read b chunks.new)
+        (HoldsReading windows.new.blocks windows.new.chunk chunks.new) result) }
+    ensures kept { HoldsReading windows.old.blocks windows.old.chunk chunks.old
+        → ForContents (I.device image.old).contents (λ b. to_read b chunks.old ≤ reads_left.old
+        → TakesLeft reads_left.old reads_left.new (to_read b chunks.old) (to_read b chunks.new)
+        result) }
+    ensures most { I.reads image.new + reads_left.new ≤ I.reads image.old + reads_left.old }
+    ensures others { windows.new ≡ record windows.old {
+      blocks = windows.new.blocks;
+      chunk = windows.new.chunk;
+    } }
+    ensures leaves { LeavesReading chunks.old chunks.new (I.device image.old)
+        (I.device image.new) windows.new.blocks windows.new.chunk result }
+{
+    let mut limited = LimitedImage::new(image, Some(*reads_left));
+    let offset = chunks.next(
+        &mut limited,
+        &mut windows.blocks,
+        &mut windows.chunk,
+        bytes,
+    );
+    *reads_left = limited.left();
+    if limited.is_spent() {
+        return Ok(None);
+    }
+    offset
+}
+
+/// Reads the next chunk of a directory, and returns its place in the file, in bytes, and None where
 /// no chunk is left. `reads_left` is how many reads may be made of directories' own blocks; it falls
 /// by those that are made. Only an image that gives other bytes each time asks for more: then no
-/// chunk comes any more.
+/// chunk comes any more. On a volume whose chunks aren't all numbered the reads aren't limited.
 ///
 /// # Errors
 /// A read of the image that failed.
@@ -65,8 +116,7 @@ fn next_chunk<I: Image>(
         (HoldsReading windows.new.blocks windows.new.chunk chunks.new) result) }
     ensures kept { AreChunksNumbered chunks.old.walk.geometry.layout
         → HoldsReading windows.old.blocks windows.old.chunk chunks.old
-        → ForContents (I.device image.old).contents
-        (λ b. to_read b chunks.old ≤ reads_left.old
+        → ForContents (I.device image.old).contents (λ b. to_read b chunks.old ≤ reads_left.old
         → TakesLeft reads_left.old reads_left.new (to_read b chunks.old) (to_read b chunks.new)
         result) }
     ensures unlimited { (AreChunksNumbered chunks.old.walk.geometry.layout → ⊥)
@@ -80,21 +130,10 @@ fn next_chunk<I: Image>(
     ensures leaves { LeavesReading chunks.old chunks.new (I.device image.old)
         (I.device image.new) windows.new.blocks windows.new.chunk result }
 {
-    if !are_chunks_numbered(&chunks.walk.geometry) {
-        return chunks.next(image, &mut windows.blocks, &mut windows.chunk, bytes);
+    if are_chunks_numbered(&chunks.walk.geometry) {
+        return next_limited(chunks, image, windows, bytes, reads_left);
     }
-    let mut limited = LimitedImage::new(image, Some(*reads_left));
-    let offset = chunks.next(
-        &mut limited,
-        &mut windows.blocks,
-        &mut windows.chunk,
-        bytes,
-    );
-    *reads_left = limited.left();
-    if limited.is_spent() {
-        return Ok(None);
-    }
-    offset
+    chunks.next(image, &mut windows.blocks, &mut windows.chunk, bytes)
 }
 
 /// Prints the lines of the entries of a directory, chunk by chunk, and marks them as passed.
