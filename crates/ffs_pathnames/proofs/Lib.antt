@@ -11,6 +11,7 @@ pub mod ReadyLaws
 pub mod Passing
 pub mod FirstTwo
 pub mod LineCounts
+pub mod Limiting
 pub mod Begun
 pub mod EmptyLaws
 pub mod Carrying

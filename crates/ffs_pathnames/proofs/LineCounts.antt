@@ -58,6 +58,10 @@ pub read_all : {all rest reads reads' : ℕ} {w w' : Workspace} → HasRead all 
 read_all has = record { count = omega arith; blocks = has.blocks }
 
 -- ---- how many lines there are
+-- where there is a line, there is its message
+pub some_said : (ms : List TreeMessage) → 1 ≤ length ms → 1 ≤ length (map of_tree ms)
+some_said ms some = rw (length-map ms of_tree) some
+
 -- an extra entry has a line
 pub extra_some : (about : Attr) (path : List ℕ) (e : Entry) → 1 ≤ length (extra_lines about path e)
 extra_some about path e = grind (arith, nat_tests)

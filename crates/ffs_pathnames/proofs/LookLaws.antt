@@ -3,7 +3,7 @@ use Rattle.std.proofs.Common.{◌≡◌, ◌≢◌, ℕ, ◌<◌, ◌==◌, true
 use Rattle.std.proofs.Common.{sym, ◌∙◌, subst, append_assoc, append-nil, arith}
 use Rattle.std.proofs.lemmas.{List.get_or-set_other, List.get_or-set_same, Bool.Decides.nat_tests, Bool.and_parts}
 use Rattle.std.{proofs.Math.ListN.length-set, specs.List.list_any}
-use Rattle.ffs_volume.specs.{declared.Role.Role, Messages.Kinds.whiteout}
+use Rattle.ffs_volume.specs.{declared.Role.Role}
 use Rattle.ffs_volume.specs.declared.Role.TheVariants.{Empty, Dot, Dotdot, Extra, Plain}
 use Rattle.ffs_volume.specs.Directories.PathnameCheck.{entry_lines_of as lines_by_role, is_bad_whiteout, named_lines}
 use Rattle.ffs_volume.specs.Directories.PathnameCheck.{plain_lines, entry_lines, lines_of_entries}

@@ -1,7 +1,7 @@
 -- What verdicts report, and what is gathered for it.
 use Rattle.std.proofs.Common.{◌≡◌, refl, ℕ, true, false, List, [], ◌≤◌, arith, length}
 use Rattle.std.proofs.lemmas.Bool.Decides.{nat_tests}
-use Rattle.ffs_volume.specs.{declared.Attr.Attr, Messages.Kinds.reported, Messages.Kinds.extraneous}
+use Rattle.ffs_volume.specs.{declared.Attr.Attr}
 use Rattle.ffs_volume.specs.Directories.{Roles.Volume, Parents.graph_of, Entries.Entry, PathnameCheck.attributes}
 use Rattle.ffs_volume.specs.Directories.Paths.{dir_path, entry_path}
 use Rattle.ffs_pathnames.specs.declared.verdict.{EntryDefects.EntryDefects, Verdict.Verdict}
@@ -17,7 +17,7 @@ silent_reported Whiteout number about path directory h = refl
 silent_reported (Named n) number about path directory h = grind (arith, nat_tests)
 silent_reported verdict number about path directory h = absurd (cc)
 
-verdict_some : (verdict : Verdict) (number : ℕ) (about : Attr) (path directory : List ℕ) → is_silent verdict ≡ false →
+pub verdict_some : (verdict : Verdict) (number : ℕ) (about : Attr) (path directory : List ℕ) → is_silent verdict ≡ false →
     1 ≤ length (verdict_reported verdict number about path directory)
 verdict_some Whiteout number about path directory h = absurd (cc)
 verdict_some (Named n) number about path directory h = grind (arith, nat_tests)

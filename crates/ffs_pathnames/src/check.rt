@@ -89,12 +89,15 @@ fn report_header<I: Image, W: Output>(
         (KnowsHeader geometry.now.layout (I.device image.old) workspace.old header.entry)
         (λ b. header_lines (volume_of geometry.now.layout b) header.entry)
         workspace.old workspace.new (I.reads image.old) (I.reads image.new) }
+    ensures paid { AreChunksNumbered geometry.now.layout → Paid line_reads
+        (progress W.sink report.old) (progress W.sink report.new)
+        (I.reads image.old) (I.reads image.new) result }
 {
     if is_in_order(header) {
         return Ok(());
     }
     let mut path = PathText::new();
-    let attr = gather_dir(
+    let mut attr = gather_dir(
         geometry,
         image,
         workspace,
@@ -102,6 +105,9 @@ fn report_header<I: Image, W: Output>(
         header.number,
         &mut path,
     )?;
+
+    // An image may give another inode now: the lines are on the size that was found wrong.
+    attr.size = header.size;
     say_header(report, attr, path.as_slice(), header)?;
     Ok(())
 }

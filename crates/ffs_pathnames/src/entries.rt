@@ -1,7 +1,9 @@
 //! The lines of the entries of a directory, one entry after another.
 ghost use Rattle.std.specs.Prelude.{◌≡◌, OnOk};
 ghost use Rattle.ffs_volume.specs.Directories.Volumes.{volume_of};
-ghost use Rattle.ffs_report.specs.{Known.ForBytes, Progress.progress};
+ghost use Rattle.ffs_report.specs.{Known.ForBytes, Paid.Paid, Progress.progress};
+ghost use Rattle.ffs_volume.specs.Report.Reads.{line_reads};
+ghost use Rattle.ffs_workspace.specs.Places.{AreChunksNumbered};
 ghost use Rattle.ffs_pathnames.specs.Gathers.{passed_of, roled_in, roled_lines_by, roled_value};
 ghost use Rattle.ffs_pathnames.specs.{DirectoryContext.DirectoryContext, EntryLines.ReportsEntries};
 ghost use Rattle.ffs_pathnames.specs.Ready.{ReadyToPath, PhaseLeaves, LinesLeave};
@@ -47,6 +49,9 @@ fn report_by_role<I: Image, W: Output>(
         (I.reads image.old) (I.reads image.new) result }
     ensures leaves { LinesLeave geometry.now.layout (I.device image.old) (I.device image.new)
         workspace.old workspace.new texts.new.kept_parent result }
+    ensures paid { AreChunksNumbered geometry.now.layout → Paid line_reads
+        (progress W.sink report.old) (progress W.sink report.new)
+        (I.reads image.old) (I.reads image.new) result }
 {
     match entry.role {
         Role::Empty => Ok(()),
@@ -83,6 +88,9 @@ pub fn report_entry<I: Image, W: Output>(
     ensures leaves { PhaseLeaves geometry.now.layout (I.device image.old) (I.device image.new)
         workspace.old workspace.new texts.new.kept_parent result }
     ensures chunk { workspace.new.windows.chunk ≡ workspace.old.windows.chunk }
+    ensures paid { AreChunksNumbered geometry.now.layout → Paid line_reads
+        (progress W.sink report.old) (progress W.sink report.new)
+        (I.reads image.old) (I.reads image.new) result }
 {
     report_by_role(geometry, image, workspace, texts, report, entry)?;
     let inodes = Inodes {
@@ -129,6 +137,9 @@ pub fn report_chunk<I: Image, W: Output>(
     ensures leaves { PhaseLeaves geometry.now.layout (I.device image.old) (I.device image.new)
         workspace.old workspace.new texts.new.kept_parent result }
     ensures chunk { workspace.new.windows.chunk ≡ workspace.old.windows.chunk }
+    ensures paid { AreChunksNumbered geometry.now.layout → Paid line_reads
+        (progress W.sink report.old) (progress W.sink report.new)
+        (I.reads image.old) (I.reads image.new) result }
 {
     let order = geometry.layout.order;
     let mut place = 0usize;

@@ -11,21 +11,23 @@ ghost use Rattle.ffs_pathnames.specs.Gathers.{extra_reported, is_silent, plain_l
 ghost use Rattle.ffs_pathnames.specs.DirectoryContext.{DirectoryContext, KeepsPath, KnowsPath};
 ghost use Rattle.ffs_pathnames.specs.Ready.{ReadyWith, ReadyToPath, PathLeaves, LinesLeave};
 ghost use Rattle.ffs_layout.specs.Entry.{entry_value};
-ghost use Rattle.ffs_report.specs.{Known.ForBytes, Progress.progress};
-ghost use Rattle.ffs_workspace.specs.{Lengths.IsFor, Holds.HoldsClaims, Holds.HoldsSurvey};
+ghost use Rattle.ffs_report.specs.{Known.ForBytes, Paid.Paid, Progress.progress};
+ghost use Rattle.ffs_workspace.specs.{Lengths.IsFor, Holds.HoldsClaims, Holds.HoldsSurvey, Places.AreChunksNumbered};
+ghost use Rattle.ffs_workspace.specs.declared.workspace.Workspace.{Workspace as WorkspaceIn};
+ghost use Rattle.ffs_paths.specs.KeptParents.{KeepsParent};
 ghost use Rattle.ffs_paths.specs.{DirectoryPaths.IsPathOf, LastPaths.last_path};
 ghost use Rattle.ffs_paths.specs.Reads.{ForTree, IsReadyFor, OnlyReads, ReadsAtMost, ReadsFew};
 
 use crate::inodes::Inodes;
 use crate::lines::say_verdict;
 use crate::verdict::{Verdict, entry_verdict};
-use ffs_image::{Image, ImageFault};
+use ffs_image::{Image, ImageFault, LimitedImage};
 use ffs_layout::{Entry, Geometry};
 use ffs_names::is_one_dot;
 use ffs_paths::{DirectoryPath, EntryPaths, KeptParent, PathBuffer, PathText};
 use ffs_report::{DotLine, Line, OutFault, Output, Report, RunFault};
 use ffs_volume::{Attr, Role};
-use ffs_workspace::Workspace;
+use ffs_workspace::{Workspace, line_reads};
 
 /// An entry of a directory, with its role there.
 #[derive(Clone, Copy, Debug)]
@@ -226,22 +228,35 @@ fn gather<I: Image>(
     texts.paths.put(entry.name);
     if !wants_attr {
         // No line of this verdict shows attributes, so none are read.
-        return Ok(Attr {
-            number: entry.number,
-            uid: 0,
-            mode: 0,
-            size: 0,
-            mtime: 0,
-        });
+        return Ok(no_attr(entry.number));
     }
     gather_path(geometry, image, workspace, texts, wants_path, entry.number)?;
     read_attr(geometry, image, workspace, entry.number)
 }
 
+/// Keeps nothing of a parent any more.
+fn forget_parent(kept_parent: &mut KeptParent)
+    ensures { (v : Layout) (contents : Option (List ℕ)) (w : WorkspaceIn)
+        → KeepsParent v contents w kept_parent.new }
+{
+    kept_parent.parent = 0;
+    kept_parent.child = 0;
+}
+
+/// The attributes of an inode that wasn't read.
+fn no_attr(number: u32) -> Attr {
+    Attr {
+        number,
+        uid: 0,
+        mode: 0,
+        size: 0,
+        mtime: 0,
+    }
+}
+
 /// Gathers what the messages on an entry of a directory show, and makes the path of that directory
-/// where it wasn't made yet.
-#[inline(always)]
-fn gather_entry<I: Image>(
+/// where it wasn't made yet. Nothing limits how often it reads.
+fn gather_entry_freely<I: Image>(
     geometry: &Geometry,
     image: &mut I,
     workspace: &mut Workspace,
@@ -268,9 +283,50 @@ fn gather_entry<I: Image>(
     gather(geometry, image, workspace, texts, &entry.entry, verdict)
 }
 
+/// Gathers what the messages on an entry of a directory show, and makes the path of that directory
+/// where it wasn't made yet. An image that gives other bytes each time may be read more often than a
+/// line reads at most: then no more is read, and what was gathered so far is shown.
+#[inline(always)]
+fn gather_entry<I: Image>(
+    geometry: &Geometry,
+    image: &mut I,
+    workspace: &mut Workspace,
+    texts: &mut EntryTexts,
+    entry: &DirectoryEntry<'_>,
+    verdict: &Verdict,
+) -> Result<Attr, ImageFault>
+    requires ready { ReadyToPath geometry.now.layout (I.device image.old) workspace.old
+        texts.old.kept_parent entry.now.dir }
+    requires number { IsTrue (asks_attr verdict.now) → entry.now.entry.number
+        < geometry.now.layout.ncg * geometry.now.layout.ipg }
+    ensures enough { IfOk result (λ a. ForBytes (KnowsPath geometry.now.layout
+        (I.device image.old).contents workspace.old entry.now.dir texts.old) (λ b.
+        IsEnough (volume_of geometry.now.layout b) verdict.now entry.now.dir entry.now.entry.number
+        entry.now.entry.name.now a (last_path texts.new.paths) texts.new.directory.items)) }
+    ensures path { KeepsPath geometry.now.layout (I.device image.old) workspace.old
+        entry.now.dir texts.old texts.new }
+    ensures leaves { PathLeaves geometry.now.layout (I.device image.old) (I.device image.new)
+        workspace.old workspace.new texts.new.kept_parent result }
+    ensures counted { ReadsAtMost line_reads geometry.now.layout (I.device image.old)
+        workspace.old workspace.new (I.reads image.old) (I.reads image.new) }
+    ensures most { AreChunksNumbered geometry.now.layout
+        → I.reads image.new ≤ I.reads image.old + line_reads }
+{
+    let Some(limit) = line_reads(geometry) else {
+        return gather_entry_freely(geometry, image, workspace, texts, entry, verdict);
+    };
+    let mut limited = LimitedImage::new(image, Some(limit));
+    let result = gather_entry_freely(geometry, &mut limited, workspace, texts, entry, verdict);
+    if limited.is_spent() {
+        forget_parent(&mut texts.kept_parent);
+        return Ok(no_attr(entry.entry.number));
+    }
+    result
+}
+
 /// Gathers what the message on an extra entry of a directory shows: the path of the directory into
-/// `texts`, and its attributes.
-fn gather_extra<I: Image>(
+/// `texts`, and its attributes. Nothing limits how often it reads.
+fn gather_extra_freely<I: Image>(
     geometry: &Geometry,
     image: &mut I,
     workspace: &mut Workspace,
@@ -295,6 +351,44 @@ fn gather_extra<I: Image>(
     let paths = &texts.paths;
     paths.directory.put(&mut texts.directory);
     read_attr(geometry, image, workspace, dir)
+}
+
+/// Gathers what the message on an extra entry of a directory shows: the path of the directory into
+/// `texts`, and its attributes. It reads no more often than a line does at most (`gather_entry`).
+fn gather_extra<I: Image>(
+    geometry: &Geometry,
+    image: &mut I,
+    workspace: &mut Workspace,
+    texts: &mut EntryTexts,
+    dir: u32,
+) -> Result<Attr, ImageFault>
+    requires { ReadyToPath geometry.now.layout (I.device image.old) workspace.old
+        texts.old.kept_parent dir }
+    ensures attr { IfOk result (λ a. ForBytes (DirectoryContext geometry.now.layout
+        (I.device image.old).contents workspace.old dir)
+        (λ b. a ≡ attributes (volume_of geometry.now.layout b) dir)) }
+    ensures text { OnOk result (ForBytes (KnowsPath geometry.now.layout
+        (I.device image.old).contents workspace.old dir texts.old) (λ b.
+        texts.new.directory.items ≡ dir_path (graph_of (volume_of geometry.now.layout b)) dir)) }
+    ensures path { KeepsPath geometry.now.layout (I.device image.old) workspace.old
+        dir texts.old texts.new }
+    ensures leaves { PathLeaves geometry.now.layout (I.device image.old) (I.device image.new)
+        workspace.old workspace.new texts.new.kept_parent result }
+    ensures counted { ReadsAtMost line_reads geometry.now.layout (I.device image.old)
+        workspace.old workspace.new (I.reads image.old) (I.reads image.new) }
+    ensures most { AreChunksNumbered geometry.now.layout
+        → I.reads image.new ≤ I.reads image.old + line_reads }
+{
+    let Some(limit) = line_reads(geometry) else {
+        return gather_extra_freely(geometry, image, workspace, texts, dir);
+    };
+    let mut limited = LimitedImage::new(image, Some(limit));
+    let result = gather_extra_freely(geometry, &mut limited, workspace, texts, dir);
+    if limited.is_spent() {
+        forget_parent(&mut texts.kept_parent);
+        return Ok(no_attr(dir));
+    }
+    result
 }
 
 /// The verdict on a plain entry, by what the workspace holds.
@@ -353,6 +447,9 @@ pub fn report_plain<I: Image, W: Output>(
         (I.reads image.old) (I.reads image.new) result }
     ensures leaves { LinesLeave geometry.now.layout (I.device image.old) (I.device image.new)
         workspace.old workspace.new texts.new.kept_parent result }
+    ensures paid { AreChunksNumbered geometry.now.layout → Paid line_reads
+        (progress W.sink report.old) (progress W.sink report.new)
+        (I.reads image.old) (I.reads image.new) result }
 {
     let verdict = verdict_of(workspace, entry.dir, &entry.entry);
     if is_silent(&verdict) {
@@ -392,17 +489,18 @@ pub fn report_extra<I: Image, W: Output>(
         (I.reads image.old) (I.reads image.new) result }
     ensures leaves { LinesLeave geometry.now.layout (I.device image.old) (I.device image.new)
         workspace.old workspace.new texts.new.kept_parent result }
+    ensures paid { AreChunksNumbered geometry.now.layout → Paid line_reads
+        (progress W.sink report.old) (progress W.sink report.new)
+        (I.reads image.old) (I.reads image.new) result }
 {
     let attr = gather_extra(geometry, image, workspace, texts, entry.dir)?;
     say_extra(report, attr, texts.directory.as_slice(), &entry.entry)?;
     Ok(())
 }
 
-/// Gathers what the messages on a directory show: its path into `path`, and its attributes.
-///
-/// # Errors
-/// A read of the image that failed.
-pub fn gather_dir<I: Image>(
+/// Gathers what the messages on a directory show: its path into `path`, and its attributes. Nothing
+/// limits how often it reads.
+fn gather_dir_freely<I: Image>(
     geometry: &Geometry,
     image: &mut I,
     workspace: &mut Workspace,
@@ -424,6 +522,46 @@ pub fn gather_dir<I: Image>(
 {
     kept_parent.put_path(geometry, image, workspace, dir, path)?;
     read_attr(geometry, image, workspace, dir)
+}
+
+/// Gathers what the messages on a directory show: its path into `path`, and its attributes. It reads
+/// no more often than a line does at most (`gather_entry`).
+///
+/// # Errors
+/// A read of the image that failed.
+pub fn gather_dir<I: Image>(
+    geometry: &Geometry,
+    image: &mut I,
+    workspace: &mut Workspace,
+    kept_parent: &mut KeptParent,
+    dir: u32,
+    path: &mut PathText,
+) -> Result<Attr, ImageFault>
+    requires { ReadyToPath geometry.now.layout (I.device image.old) workspace.old kept_parent.old
+        dir }
+    ensures attr { IfOk result (λ a. ForBytes (DirectoryContext geometry.now.layout
+        (I.device image.old).contents workspace.old dir)
+        (λ b. a ≡ attributes (volume_of geometry.now.layout b) dir)) }
+    ensures path { OnOk result ((b : List ℕ)
+        → DirectoryContext geometry.now.layout (I.device image.old).contents workspace.old dir b
+        → path.new.items ≡ dir_path (graph_of (volume_of geometry.now.layout b)) dir) }
+    ensures leaves { PathLeaves geometry.now.layout (I.device image.old) (I.device image.new)
+        workspace.old workspace.new kept_parent.new result }
+    ensures counted { ReadsAtMost line_reads geometry.now.layout (I.device image.old)
+        workspace.old workspace.new (I.reads image.old) (I.reads image.new) }
+    ensures most { AreChunksNumbered geometry.now.layout
+        → I.reads image.new ≤ I.reads image.old + line_reads }
+{
+    let Some(limit) = line_reads(geometry) else {
+        return gather_dir_freely(geometry, image, workspace, kept_parent, dir, path);
+    };
+    let mut limited = LimitedImage::new(image, Some(limit));
+    let result = gather_dir_freely(geometry, &mut limited, workspace, kept_parent, dir, path);
+    if limited.is_spent() {
+        forget_parent(kept_parent);
+        return Ok(no_attr(dir));
+    }
+    result
 }
 
 /// Says that an entry is extra.

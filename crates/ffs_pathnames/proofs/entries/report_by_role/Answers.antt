@@ -1,5 +1,5 @@
-use Rattle.std.proofs.Common.{refl, []}
-use Rattle.ffs_report.proofs.Reports.{said_none}
+use Rattle.std.proofs.Common.{arith, refl, []}
+use Rattle.ffs_report.proofs.{Reports.said_none, Paying.paid_none}
 use Rattle.ffs_pathnames.{proofs.LineCounts.few_none, specs.PassedNames.roled_reported}
 use Rattle.ffs_pathnames.proofs.entries.report_by_role.Goals as goal
 
@@ -42,3 +42,12 @@ returns-in-Plain-clause-lines g c = record {
   path = c.report_plain.ensures.lines.path;
   counted = rw (c.in-Plain.is) c.report_plain.ensures.lines.counted;
 }
+
+pub returns-in-Empty-clause-paid : goal.returns-in-Empty-clause-paid
+returns-in-Empty-clause-paid g c = λ numbered. paid_none (omega arith)
+
+pub returns-in-Dot-clause-paid : goal.returns-in-Dot-clause-paid
+returns-in-Dot-clause-paid g c = λ numbered. paid_none (omega arith)
+
+pub returns-in-Dotdot-clause-paid : goal.returns-in-Dotdot-clause-paid
+returns-in-Dotdot-clause-paid g c = λ numbered. paid_none (omega arith)

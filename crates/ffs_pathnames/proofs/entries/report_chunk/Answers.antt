@@ -10,6 +10,7 @@ use Rattle.ffs_pathnames.proofs.Passing.{knows_on, entry_reported, entry_passed}
 use Rattle.ffs_pathnames.proofs.{StampLaws.noted_kept, Looking.seen_next, Looking.none_left}
 use Rattle.ffs_pathnames.proofs.LineCounts.{entry_counted, has_begun, read_all, read_more}
 use Rattle.ffs_workspace.proofs.Leaving.{leaves_all, leaves_more}
+use Rattle.ffs_report.proofs.Paying.{paid_none, paid_then}
 use Rattle.ffs_names.proofs.PlacesNoted.{none_there as none}
 use Rattle.ffs_pathnames.proofs.entries.report_chunk.Goals as goal
 
@@ -31,6 +32,7 @@ entries-init g c =
           (entries_reported (volume_of v b) x.dir (passed_of c.args.workspace.now)
           (roled_from x.first 0 (entries_of v.order x.bytes.now)))) _;
       counted = λ b k noted. has_begun _ _ _;
+      paid = λ numbered. paid_none (omega arith);
     }
 
 pub returns-in_err-report_entry-clause-lines : goal.returns-in_err-report_entry-clause-lines
@@ -130,6 +132,7 @@ entries-preserved g c =
       counted = λ b k noted. read_more _ _ (inv.counted b k noted)
           (entry_counted (volume_of v b) x.dir m seen _ _ next (ok.passed b (know b k)))
           (ok.lines.counted b (know b k) (noted_kept v b _ _ inv.places noted));
+      paid = λ numbered. paid_then (inv.paid numbered) (ok.paid numbered);
     })
 
 pub returns-clause-lines : goal.returns-clause-lines
@@ -155,3 +158,11 @@ returns-clause-passed g c = λ b k.
     let end = none_left v.order x.bytes.now x.first c.entries.index c.entries.place
     (none v.order x.bytes.now c.entries.place c.entry_at.result c.in_default.is c.entry_at.ensures.value) in
     c.entries.invariant.passed b k ∙ ap (after_entries (volume_of v b) x.dir (passed_of c.entries.workspace)) end
+
+pub returns-in_err-report_entry-clause-paid : goal.returns-in_err-report_entry-clause-paid
+returns-in_err-report_entry-clause-paid g c = λ numbered.
+    let p = err_from_is_err_and c.from_residual.result c.from_residual.ensures.1 in
+    rw (p.1, p.2) (paid_then (c.entries.invariant.paid numbered) (c.in_err-report_entry.ensures.paid numbered))
+
+pub returns-clause-paid : goal.returns-clause-paid
+returns-clause-paid g c = c.entries.invariant.paid

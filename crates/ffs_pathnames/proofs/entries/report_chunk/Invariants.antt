@@ -1,8 +1,8 @@
-use Rattle.std.proofs.Common.{◌≡◌, ◌≤◌, ◌-◌, ℕ, List, length, map}
+use Rattle.std.proofs.Common.{◌≡◌, ◌≤◌, ◌-◌, ℕ, List, length, map, Ok}
 use Rattle.ffs_volume.specs.Directories.{Entries.entries_of, Parents.graph_of, Roles.roled_from, Volumes.volume_of}
-use Rattle.ffs_volume.specs.Messages.Kinds.{of_tree}
-use Rattle.ffs_report.specs.{Known.ForBytes, PhaseOutcome.SaidOf, Progress.progress}
-use Rattle.ffs_workspace.specs.{Leaves.LeavesSurvey, Places.AreNoted}
+use Rattle.ffs_volume.specs.{Messages.Kinds.of_tree, Report.Reads.line_reads}
+use Rattle.ffs_report.specs.{Known.ForBytes, Paid.Paid, PhaseOutcome.SaidOf, Progress.progress}
+use Rattle.ffs_workspace.specs.{Leaves.LeavesSurvey, Places.AreChunksNumbered, Places.AreNoted}
 use Rattle.ffs_pathnames.specs.{Ready.ReadyWith, Gathers.passed_of, Stamps.KeepPlaces, PassedNames.after_entries}
 use Rattle.ffs_pathnames.{specs.PassedNames.entries_reported, proofs.LineCounts.HasRead, proofs.Looking.roled_at_place}
 use Rattle.ffs_pathnames.specs.DirectoryContext.{BeginsPathOf, DirectoryContext, KnowsPath}
@@ -41,6 +41,8 @@ invariant-entries g l =
           (length (entries_reported (volume_of v b) x.dir (passed_of l.workspace)
           (roled_at_place v.order x.bytes.now x.first l.index l.place)))
           (g.I.Image.reads l.fn.image) (g.I.Image.reads l.image) l.fn.workspace l.workspace;
+      paid : AreChunksNumbered v → Paid {T = Unit {0}} line_reads (progress g.W.Output.sink l.fn.report)
+          (progress g.W.Output.sink l.report) (g.I.Image.reads l.fn.image) (g.I.Image.reads l.image) (Ok tt);
     }
 
 abbrev pub decreases-entries : goal.decreases-entries

@@ -7,6 +7,7 @@ use Rattle.ffs_pathnames.specs.Gathers.{passed_of, roled_value}
 use Rattle.ffs_pathnames.proofs.{Passing.passes, SeesLaws.sees}
 use Rattle.ffs_pathnames.proofs.StampLaws.{keep_more, names_leave, windows_keep}
 use Rattle.ffs_paths.proofs.Keeping.{kept_parent_on}
+use Rattle.ffs_report.proofs.Paying.{paid_answer}
 use Rattle.ffs_pathnames.proofs.entries.report_entry.Goals as goal
 
 pub returns-in_err-report_by_role-clause-leaves : goal.returns-in_err-report_by_role-clause-leaves
@@ -75,3 +76,11 @@ returns-clause-lines g c =
       path = lines.path;
       counted = λ b k noted. let said = lines.counted b k noted in record { count = said.count; blocks = said.blocks };
     }
+
+pub returns-in_err-report_by_role-clause-paid : goal.returns-in_err-report_by_role-clause-paid
+returns-in_err-report_by_role-clause-paid g c = λ numbered.
+    let p = err_from_is_err_and c.from_residual.result c.from_residual.ensures.1 in
+    rw (p.1, p.2) (c.in_err-report_by_role.ensures.paid numbered)
+
+pub returns-clause-paid : goal.returns-clause-paid
+returns-clause-paid g c = λ numbered. paid_answer (c.in_ok-report_by_role.ensures.paid numbered)

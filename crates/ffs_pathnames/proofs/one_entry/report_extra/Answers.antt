@@ -3,8 +3,9 @@ use Rattle.std.proofs.lemmas.Result.{err_from_is_err_and}
 use Rattle.ffs_volume.specs.Messages.Kinds.{of_tree}
 use Rattle.ffs_volume.specs.Directories.{PathnameCheck.extra_lines, Volumes.volume_of}
 use Rattle.ffs_layout.specs.Entry.{entry_value}
+use Rattle.ffs_report.proofs.Paying.{paid_reads, paid_says, paid_stops}
 use Rattle.ffs_report.proofs.Reporting.{of_begins, of_says, of_stops, of_reads}
-use Rattle.ffs_pathnames.proofs.LineCounts.{by_line, extra_some, knows_places}
+use Rattle.ffs_pathnames.proofs.LineCounts.{by_line, extra_some, knows_places, some_said}
 use Rattle.ffs_pathnames.proofs.one_entry.report_extra.Given.{Over}
 use Rattle.ffs_pathnames.proofs.one_entry.report_extra.Goals.{After-say_extra}
 use Rattle.ffs_pathnames.specs.{DirectoryContext.KnowsPath, Gathers.extra_reported}
@@ -16,7 +17,7 @@ line_is : (g : Over) (c : After-say_extra g) (b : List ℕ) → KnowsPath c.args
     map of_tree (extra_reported (volume_of c.args.geometry.now.layout b) c.args.entry.now)
     ≡ map of_tree (extra_lines c.in_ok-attr.attr c.as_slice.result.now (entry_value c.args.entry.now.entry)) ++ []
 line_is g c b k =
-    rw (c.as_slice.ensures.value, c.in_ok-attr.ensures.text b k, c.in_ok-attr.ensures.attr b k.knows.gives_bytes)
+    rw (c.as_slice.ensures.value, c.in_ok-attr.ensures.text b k, c.in_ok-attr.ensures.attr b k.knows)
     (sym (append-nil _))
 
 pub returns-in_err-attr-clause-lines : goal.returns-in_err-attr-clause-lines
@@ -53,3 +54,20 @@ returns-clause-lines g c = record {
 }
 
 -- a path and an inode are read for one line
+
+-- the reads of any image
+pub returns-in_err-attr-clause-paid : goal.returns-in_err-attr-clause-paid
+returns-in_err-attr-clause-paid g c = λ numbered.
+    let p = err_from_is_err_and c.from_residual.result c.from_residual.ensures.1 in
+    rw (p.1, p.2) (paid_reads (c.gather_extra.ensures.most numbered))
+
+pub returns-in_err-say_extra-clause-paid : goal.returns-in_err-say_extra-clause-paid
+returns-in_err-say_extra-clause-paid g c = λ numbered.
+    let p = err_from_is_err_and c.from_residual-in_err-say_extra.result c.from_residual-in_err-say_extra.ensures.1 in
+    rw (p.1, p.2) (paid_stops _ c.in_err-say_extra.ensures (some_said _ (extra_some c.in_ok-attr.attr
+    c.as_slice.result.now (entry_value c.args.entry.now.entry))) (c.gather_extra.ensures.most numbered))
+
+pub returns-clause-paid : goal.returns-clause-paid
+returns-clause-paid g c = λ numbered.
+    paid_says _ c.in_ok-say_extra.ensures (some_said _ (extra_some c.in_ok-attr.attr c.as_slice.result.now
+    (entry_value c.args.entry.now.entry))) (c.gather_extra.ensures.most numbered)

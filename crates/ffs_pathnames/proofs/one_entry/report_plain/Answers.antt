@@ -1,14 +1,14 @@
-use Rattle.std.proofs.Common.{sym, ap, ◌∙◌, ℕ, List, [], map, append-nil, ◌≡◌, ◌++◌, ◌≤◌, length}
+use Rattle.std.proofs.Common.{arith, sym, ap, ◌∙◌, ℕ, List, [], map, append-nil, ◌≡◌, ◌++◌, ◌≤◌, length}
 use Rattle.std.proofs.lemmas.Result.{err_from_is_err_and}
 use Rattle.ffs_volume.specs.{Messages.Kinds.of_tree, Directories.Volumes.volume_of}
 use Rattle.ffs_volume.specs.Directories.{PathnameCheck.attributes, Parents.graph_of, Paths.entry_path, Paths.dir_path}
 use Rattle.ffs_layout.specs.Entry.{entry_value}
-use Rattle.ffs_report.proofs.Reports.{said_none}
+use Rattle.ffs_report.proofs.{Reports.said_none, Paying.paid_none, Paying.paid_reads, Paying.paid_says, Paying.paid_stops}
 use Rattle.ffs_report.proofs.Reporting.{of_begins, of_says, of_stops, of_reads}
 use Rattle.ffs_pathnames.specs.{Gathers.plain_lines_by, Verdicts.verdict_reported}
 use Rattle.ffs_pathnames.specs.DirectoryContext.{DirectoryContext, KnowsPath}
-use Rattle.ffs_pathnames.proofs.LineCounts.{by_line, few_none, knows_places}
-use Rattle.ffs_pathnames.proofs.VerdictLaws.{plain_some, silent_reported}
+use Rattle.ffs_pathnames.proofs.LineCounts.{by_line, few_none, knows_places, some_said}
+use Rattle.ffs_pathnames.proofs.VerdictLaws.{plain_some, silent_reported, verdict_some}
 use Rattle.ffs_pathnames.proofs.one_entry.report_plain.Given.{Over}
 use Rattle.ffs_pathnames.proofs.one_entry.report_plain.Goals.{After-gather_entry, After-say_verdict}
 use Rattle.ffs_pathnames.proofs.one_entry.report_plain.Goals as goal
@@ -91,3 +91,25 @@ returns-clause-lines g c =
     }
 
 -- a verdict with a line
+
+-- the reads of any image: a verdict that isn't silent has a message, whatever was gathered
+pub returns-then-is_silent-clause-paid : goal.returns-then-is_silent-clause-paid
+returns-then-is_silent-clause-paid g c = λ numbered. paid_none (omega arith)
+
+pub returns-in_err-attr-clause-paid : goal.returns-in_err-attr-clause-paid
+returns-in_err-attr-clause-paid g c = λ numbered.
+    let p = err_from_is_err_and c.from_residual.result c.from_residual.ensures.1 in
+    rw (p.1, p.2) (paid_reads (c.gather_entry.ensures.most numbered))
+
+pub returns-in_err-say_verdict-clause-paid : goal.returns-in_err-say_verdict-clause-paid
+returns-in_err-say_verdict-clause-paid g c = λ numbered.
+    let p = err_from_is_err_and c.from_residual-in_err-say_verdict.result c.from_residual-in_err-say_verdict.ensures.1 in
+    rw (p.1, p.2) (paid_stops _ c.in_err-say_verdict.ensures (some_said _ (verdict_some c.verdict_of-verdict.result
+    c.args.entry.now.entry.number c.in_ok-attr.attr c.last.result.now c.as_slice.result.now
+    (sym c.is_silent.ensures ∙ c.if-is_silent.false))) (c.gather_entry.ensures.most numbered))
+
+pub returns-clause-paid : goal.returns-clause-paid
+returns-clause-paid g c = λ numbered.
+    paid_says _ c.in_ok-say_verdict.ensures (some_said _ (verdict_some c.verdict_of-verdict.result
+    c.args.entry.now.entry.number c.in_ok-attr.attr c.last.result.now c.as_slice.result.now
+    (sym c.is_silent.ensures ∙ c.if-is_silent.false))) (c.gather_entry.ensures.most numbered)

@@ -1,0 +1,96 @@
+-- What a line shows was gathered over an image with a limit: what of the image below was read.
+use Rattle.std.specs.Borrow.{GName}
+use Rattle.std.proofs.Common.{◌≡◌, ◌+◌, ◌≤◌, ℕ, sym, ap, subst, ◌∙◌, arith, Bool, true, false, List, Option, Some}
+use Rattle.std.proofs.Common.{Result, Ok, Err}
+use Rattle.std.proofs.lemmas.Bool.{both_ways}
+use Rattle.ffs_image.specs.{Device.Device, Limited.GivesBack, Limited.limited_device}
+use Rattle.ffs_image.{specs.declared.image.ImageFault.ImageFault, proofs.Limits.ServedBy, proofs.Limits.read_over, proofs.Limits.served}
+use Rattle.ffs_volume.specs.{declared.Layout.Layout, Report.Reads.line_reads}
+use Rattle.ffs_workspace.specs.{declared.workspace.Workspace.Workspace, Places.AreChunksNumbered, Ready.IsReady}
+use Rattle.ffs_workspace.proofs.Readiness.{ready_same}
+use Rattle.ffs_paths.specs.Reads.{OnlyReads, ReadsAtMost}
+use Rattle.ffs_paths.specs.{KeptParents.KeepsParent, KeptParents.PathLeaves, declared.kept_parent.KeptParent.KeptParent}
+use Rattle.ffs_pathnames.{specs.DirectoryContext.DirectoryContext, proofs.LineCounts.knows_places}
+
+-- what was gathered over a limited image leaves of the image below and of the workspace
+pub record IsGathered {T : Type 0} (v : Layout) (d d' : Device) (name_lent name : GName) (reads reads' : ℕ)
+    (w w' : Workspace) (s : KeptParent) (spent : Bool) (r : Result T ImageFault) : Type 0 where
+  pub same_image : name_lent ≡ name
+  pub most : reads' ≤ reads + line_reads
+  pub counted : ReadsAtMost line_reads v d w w' reads reads'
+  pub all : (b : List ℕ) (x : ℕ) → DirectoryContext v d.contents w x b → spent ≡ true → ⊥
+  pub leaves : spent ≡ false → PathLeaves v d d' w w' s r
+  pub reads_of : spent ≡ true → (x : T) → OnlyReads v d d' w w' (Ok x)
+
+-- the image below gives what the one above does
+ready_below : {T : Type 0} {v : Layout} {d d' l' : Device} {w w' : Workspace} {name_lent name : GName}
+    {reads reads' limit asked : ℕ} {spent : Bool} (r : Result T ImageFault) →
+    ServedBy d d' name_lent name reads reads' limit asked spent r →
+    OnlyReads v (limited_device d name_lent reads (Some limit)) l' w w' r → IsReady v d' w'
+ready_below {v = v} {d = d} {d' = d'} {l' = l'} {w' = w'} {name_lent = name_lent} {reads = reads} {limit = limit} r back
+    o =
+    let above = read_over (limited_device d name_lent reads (Some limit)) l' r o.read in
+    ready_same v l' d' w' (back.contents ∙ sym above.contents) (back.size ∙ sym above.size) o.ready
+
+reads_below : {T : Type 0} {v : Layout} {d d' l' : Device} {w w' : Workspace} {name_lent name : GName}
+    {reads reads' limit asked : ℕ} {spent : Bool} (r : Result T ImageFault) →
+    ServedBy d d' name_lent name reads reads' limit asked spent r → spent ≡ false →
+    OnlyReads v (limited_device d name_lent reads (Some limit)) l' w w' r → OnlyReads v d d' w w' r
+reads_below r back none o =
+    record { lists = o.lists; chunk = o.chunk; ready = ready_below r back o; read = back.read none }
+
+path_below : {T : Type 0} {v : Layout} {d d' l' : Device} {w w' : Workspace} {s : KeptParent} {name_lent name : GName}
+    {reads reads' limit asked : ℕ} {spent : Bool} (r : Result T ImageFault) →
+    ServedBy d d' name_lent name reads reads' limit asked spent r → spent ≡ false →
+    PathLeaves v (limited_device d name_lent reads (Some limit)) l' w w' s r → PathLeaves v d d' w w' s r
+path_below {v = v} {w' = w'} {s = s} (Ok x) back none p = record {
+  reads = reads_below (Ok x) back none p.reads;
+  kept_parent = subst (λ contents. KeepsParent v contents w' s)
+      (ap (λ (d : Device). d.contents) p.reads.read ∙ sym back.contents) p.kept_parent;
+}
+path_below (Err f) back none p = record { reads = reads_below (Err f) back none p.reads; kept_parent = tt }
+
+gathered_by : {T : Type 0} {v : Layout} {d d' l' : Device} {w w' : Workspace} {s : KeptParent} {name_lent name : GName}
+    {reads reads' limit before asked : ℕ} {spent : Bool} (r : Result T ImageFault) →
+    before ≡ 0 → AreChunksNumbered v → limit ≡ line_reads →
+    ServedBy d d' name_lent name reads reads' limit asked spent r →
+    PathLeaves v (limited_device d name_lent reads (Some limit)) l' w w' s r →
+    ReadsAtMost line_reads v (limited_device d name_lent reads (Some limit)) w w' before asked →
+    IsGathered v d d' name_lent name reads reads' w w' s spent r
+gathered_by {v = v} {d = d} {w = w} r begins numbered price back p few = record {
+  same_image = back.same_image;
+  most = rw (← price) back.most;
+  counted = λ b k. record {
+    count = rw (← price) back.most;
+    blocks = (few b (record {
+      gives_bytes = k.gives_bytes;
+      claims = k.claims;
+      survey = k.survey;
+      places = k.places;
+    })).blocks;
+  };
+  all = λ b x k refused.
+      let count = (few b (knows_places v d.contents w x b k (k.noted numbered))).count in
+      both_ways _ (back.few (omega (arith, count, begins, price))) refused;
+  leaves = λ none. path_below r back none p;
+  reads_of = λ refused x. record {
+    lists = p.reads.lists;
+    chunk = p.reads.chunk;
+    ready = ready_below r back p.reads;
+    read = back.refused refused;
+  };
+}
+
+-- by the contracts of the part and of the limited image
+pub gathered : {T : Type 0} {v : Layout} {d d' l l' : Device} {w w' : Workspace} {s : KeptParent}
+    {name_lent name : GName} {reads reads' limit left before asked : ℕ} {spent : Bool} {r : Result T ImageFault} →
+    l ≡ limited_device d name_lent reads (Some limit) → before ≡ 0 → AreChunksNumbered v × (limit ≡ line_reads) →
+    PathLeaves v l l' w w' s r → ReadsAtMost line_reads v l w w' before asked →
+    ((below : Device) (given : GName) (counted : ℕ) (most : Option ℕ) →
+    l'.lent ≡ (limited_device below given counted most).lent → l'.contents ≡ below.contents → l'.size ≡ below.size →
+    GivesBack below d' given name counted reads' most left asked spent (limited_device below given counted most) l') →
+    IsGathered v d d' name_lent name reads reads' w w' s spent r
+gathered {r = r} over begins limit p few back =
+    let p' = rw over at p in
+    let few' = rw over at few in
+    gathered_by r begins limit.0 limit.1 (served p'.reads.read back) p' few'
