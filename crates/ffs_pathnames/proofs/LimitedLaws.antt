@@ -2,6 +2,10 @@
 -- left.
 use Rattle.std.specs.Borrow.{GName}
 use Rattle.std.proofs.Common.{◌≡◌, ◌≤◌, ◌+◌, ℕ, arith, Bool, Option, Some, None, Result, Ok, Err, IfOk, IfSome, MatchResult, MatchOption}
+use Rattle.std.proofs.Common.{◌⊎◌, ◌*◌, ◌-◌, ◌^◌, ◌<◌, inl, inr}
+use Rattle.std.proofs.lemmas.Bool.{cases_lt}
+use Rattle.ffs_volume.specs.declared.constants.TheConstants.{DIRBLKSIZ}
+use Rattle.ffs_workspace.specs.Places.{AreChunksNumbered}
 use Rattle.ffs_survey.specs.Costs.{TakesReads}
 use Rattle.ffs_pathnames.specs.ReadsLeft.{TakesLeft}
 use Rattle.ffs_image.specs.declared.image.ImageFault.{ImageFault}
@@ -70,3 +74,10 @@ pub budget_falls : (r : Result (Option ℕ) ImageFault) (old new : ℕ) → Matc
 budget_falls (Ok (Some x)) old new h = h
 budget_falls (Ok None) old new h = tt
 budget_falls (Err e) old new h = tt
+
+-- all chunks are numbered, or not
+pub numbered_or_not : (v : Layout) → AreChunksNumbered v ⊎ (AreChunksNumbered v → ⊥)
+numbered_or_not v = elim (cases_lt (DIRBLKSIZ * (2 ^ 31 - 1)) (v.size * v.fsize)) [
+  | inl over ↦ inr (λ within. omega (arith, over, within))
+  | inr within ↦ inl within
+]
