@@ -1,5 +1,5 @@
 -- All directories take no more reads than a sweep.
-use Rattle.std.proofs.Common.{◌≤◌, ◌*◌, ◌+◌, ℕ, List, arith}
+use Rattle.std.proofs.Common.{◌≤◌, ℕ, List, arith}
 use Rattle.ffs_volume.proofs.RunBounds.{runs_bounded}
 use Rattle.ffs_volume.specs.{Laws.Geometry.IsAcceptedLayout, Report.Reads.sweep_reads, declared.Layout.Layout}
 use Rattle.ffs_names.proofs.RunSums.{costs_bounded}

@@ -15,7 +15,7 @@ use ffs_image::{Image, ImageFault, LimitedImage};
 use ffs_layout::Geometry;
 use ffs_workspace::{Workspace, sweep_reads};
 
-/// What `survey` does, where each read is answered.
+/// What `survey` does, with as many reads as the image asks for.
 ///
 /// # Errors
 /// A read of the image that failed.

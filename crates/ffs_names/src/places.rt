@@ -8,6 +8,7 @@ ghost use Rattle.ffs_layout.specs.Entry.{entry_value};
 ghost use Rattle.ffs_volume.specs.Directories.Entries.{entries_of};
 ghost use Rattle.ffs_volume.specs.Directories.Roles.{is_dir, role_of as role_in, roled_chunk, roled_entries, roled_from};
 ghost use Rattle.ffs_volume.specs.Directories.Volumes.{volume_of};
+ghost use Rattle.ffs_volume.specs.Report.Reads.{sweep_reads};
 ghost use Rattle.ffs_workspace.specs.Holds.{HoldsClaims, HoldsSurvey};
 ghost use Rattle.ffs_workspace.specs.Lengths.{inodes_of};
 ghost use Rattle.ffs_workspace.specs.Notes.{note_at};
@@ -22,13 +23,13 @@ ghost use Rattle.ffs_names.specs.Windows.{CanReadChunks};
 use crate::chunks::Chunks;
 use crate::reader::one_chunk_at;
 use crate::role::role_of;
-use ffs_image::{Image, ImageFault};
+use ffs_image::{Image, ImageFault, LimitedImage};
 use ffs_layout::{Entry, Geometry, entry_at};
 use ffs_memory::FilledList;
 use ffs_volume::constants::{DIRBLKSIZ, ROOTINO};
 use ffs_volume::{Class, Order, Role};
 use ffs_workspace::{
-    Table, Windows, Workspace, address_in, due, is_due, noted_chunk, passed, place_of,
+    Table, Windows, Workspace, address_in, due, is_due, noted_chunk, passed, place_of, sweep_reads,
 };
 
 /// Whether a directory is the parent of an inode other than the root, which has no parent entry.
@@ -246,13 +247,11 @@ fn flag_parents(reached: &[bool], parents: &FilledList<u32>, words: &mut FilledL
     }
 }
 
-/// Notes in `queue`, of each directory that is reached from the root, where its parent entry is in
-/// the image (`ffs_workspace::place_of`): then a path takes one read for each of its directories.
-/// Each of their parents is read once. No word is due afterwards. The windows change too.
+/// What `note_places` does, with as many reads as the image asks for.
 ///
 /// # Errors
 /// A read of the image that failed.
-pub fn note_places<I: Image>(
+fn note_all<I: Image>(
     geometry: &Geometry,
     image: &mut I,
     workspace: &mut Workspace,
@@ -290,4 +289,49 @@ pub fn note_places<I: Image>(
         }
     }
     Ok(())
+}
+
+/// Notes in `queue`, of each directory that is reached from the root, where its parent entry is in
+/// the image (`ffs_workspace::place_of`): then a path takes one read for each of its directories.
+/// Each of their parents is read once. No word is due afterwards. The windows change too.
+///
+/// # Errors
+/// A read of the image that failed.
+pub fn note_places<I: Image>(
+    geometry: &Geometry,
+    image: &mut I,
+    workspace: &mut Workspace,
+) -> Result<(), ImageFault>
+    requires { IsReady geometry.now.layout (I.device image.old) workspace.old }
+    ensures lists { workspace.new ≡ record workspace.old {
+      windows = workspace.new.windows;
+      queue = workspace.new.queue;
+    } }
+    ensures places { OnOk result (ForContents (I.device image.old).contents
+        (λ b. HoldsClaims geometry.now.layout b workspace.old
+        → HoldsSurvey geometry.now.layout b workspace.old
+        → HoldsSurvey geometry.now.layout b workspace.new)) }
+    ensures noted { OnOk result (ForContents (I.device image.old).contents
+        (λ b. HoldsClaims geometry.now.layout b workspace.old
+        → HoldsSurvey geometry.now.layout b workspace.old → AreChunksNumbered geometry.now.layout
+        → AreNoted geometry.now.layout b workspace.new.queue.items)) }
+    ensures reads { ForContents (I.device image.old).contents
+        (λ b. HoldsClaims geometry.now.layout b workspace.old
+        → HoldsSurvey geometry.now.layout b workspace.old
+        → I.reads image.new ≤ I.reads image.old + directories_cost geometry.now.layout b) }
+    ensures most { I.reads image.new ≤ I.reads image.old + sweep_reads geometry.now.layout }
+    ensures none_due { OnOk result ((x : ℕ)
+        → is_due (slice_index workspace.new.queue.items x) ≡ false) }
+    ensures ready { IsReady geometry.now.layout (I.device image.new) workspace.new }
+    ensures read { ReadAfter (I.device image.old) (I.device image.new) result }
+{
+    let mut limited = LimitedImage::new(image, Some(sweep_reads(geometry)));
+    let noted = note_all(geometry, &mut limited, workspace);
+    if limited.is_spent() {
+        // Only an image that gives other bytes each time asks for more reads. Some words may still
+        // be due.
+        workspace.queue.fill(0);
+        return Ok(());
+    }
+    noted
 }

@@ -1,4 +1,4 @@
-use Rattle.std.proofs.Common.{◌≡◌, ◌≤◌, ◌∙◌, ℕ, List, Some, true, false, arith, sym, ap}
+use Rattle.std.proofs.Common.{◌≡◌, ◌∙◌, ℕ, List, Some, false, arith, sym, ap}
 use Rattle.std.proofs.lemmas.Bool.{both_ways}
 use Rattle.ffs_image.proofs.Limits.{read_over, served}
 use Rattle.ffs_image.specs.Device.{Device}

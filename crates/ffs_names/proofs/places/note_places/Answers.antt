@@ -1,138 +1,112 @@
-use Rattle.std.proofs.Common.{◌≡◌, ◌≢◌, ◌<◌, ◌*◌, ◌+◌, ◌∙◌, false, true, suc, ℕ, ap, arith, below_more}
-use Rattle.std.proofs.Common.{length, refl}
-use Rattle.std.proofs.Common.{rules, slice_index, slice_set, sym}
-use Rattle.std.proofs.lemmas.Grind.{common_steps, get_or_default_zero}
-use Rattle.ffs_volume.proofs.Sizes.{some_inodes}
-use Rattle.ffs_workspace.specs.{Lengths.inodes_of, Places.is_due, Places.place_in}
-use Rattle.ffs_workspace.specs.declared.workspace.Workspace.{Workspace}
-use Rattle.ffs_survey.proofs.Costs.{cost_take, costs_rise}
-use Rattle.ffs_names.specs.{Costs.directory_cost, Noting.BeginsNotes, Noting.KeepsToRead}
-use Rattle.ffs_names.proofs.PlacesNoted.{claims_noted, coming_end, coming_first, coming_noted, only_fewer}
-use Rattle.ffs_names.proofs.PlacesNoted.{parent_is_dir}
-use Rattle.ffs_names.proofs.PlacesNoted.{passed_next, places_after, places_same, set_other, set_same, survey_noted}
+use Rattle.std.proofs.Common.{rules, ◌≡◌, ◌∙◌, ℕ, List, Some, false, arith, sym, ap}
+use Rattle.std.proofs.lemmas.Bool.{both_ways}
+use Rattle.ffs_image.proofs.Limits.{read_over, served}
+use Rattle.ffs_image.specs.Device.{Device}
+use Rattle.ffs_workspace.proofs.Readiness.{ready_same}
+use Rattle.ffs_workspace.specs.Holds.{HoldsClaims, HoldsSurvey}
+use Rattle.ffs_names.proofs.Limits.{costs_within}
+use Rattle.ffs_names.proofs.places.note_places.Given as given
 use Rattle.ffs_names.proofs.places.note_places.Goals as goal
-use Rattle.ffs_names.proofs.places.note_places.Goals.{then-is_due+in_ok-note_directory, else-is_due}
+use Rattle.ffs_names.proofs.places.note_places.Goals.{After-is_spent}
 
-pub loop-dir-init : goal.loop-dir-init
-loop-dir-init g c =
-    let w = c.args.workspace.now in
-    let begins : BeginsNotes w.reached.items w.parents.items c.flag_parents.new.words.items =
-    rw c.deref.ensures.value at c.flag_parents.ensures.begins in
-    let long : length w.reached.items ≡ inodes_of c.args.geometry.now.layout =
-    sym (ap length c.deref.ensures.value) ∙ (c.deref.ensures.len ∙ c.requires.made.reached) in
-    record {
-      same = refl;
-      lists = refl;
-      ready = search rules;
-      low = omega arith;
-      passed = begins.low;
-      only = begins.only;
-      reads = λ b t claims survey. omega arith;
-      places = λ b t claims survey x p k there is.
-          let none : 0 ≡ suc k = sym (begins.none x) ∙ there in absurd (omega arith);
-      noted = λ b t claims survey numbered. coming_first long begins survey;
-    }
+-- the limited image gives the bytes of the one below
+bytes : (g : given.Over) (c : After-is_spent g) (b : List ℕ) →
+    (g.I.Image.device c.args.image.now).contents ≡ Some b → (g.I.Image.device c.new-limited.result.begins.value).contents ≡ Some b
+bytes g c b t = ap (λ (d : Device). d.contents) c.new-limited.ensures.device ∙ t
 
-pub loop-dir-preserved : goal.loop-dir-preserved
-loop-dir-preserved g c =
+-- no read of known bytes is refused
+answered : (g : given.Over) (c : After-is_spent g) (b : List ℕ) →
+    (g.I.Image.device c.args.image.now).contents ≡ Some b →
+    HoldsClaims c.args.geometry.now.layout b c.args.workspace.now →
+    HoldsSurvey c.args.geometry.now.layout b c.args.workspace.now → c.is_spent.result ≡ false
+answered g c b t h survey =
     let v = c.args.geometry.now.layout in
-    let inv = c.loop-dir.invariant in
-    let first = c.args.workspace.now in
-    let here = c.loop-dir.workspace in
-    let old = here.queue.items in
-    let dir = c.loop-dir.dir in
-    let inside : dir < length old = grind (arith, common_steps) in
-    let word : c.index-word.result.now ≡ slice_index old dir =
-    c.index-word.ensures ∙ get_or_default_zero old dir c.index-word.result.now inside in
-    elim c.if-is_due.branch [
-      | then-is_due+in_ok-note_directory w ↦
-          let noted = w.in_ok-note_directory.ensures in
-          let mid : Workspace = record here { queue = w.set.new.self } in
-          let new = w.note_directory.new.workspace in
-          let set : mid.queue.items ≡ slice_set old dir w.passed.result = w.set.ensures.items in
-          let same : (x : ℕ) → place_in (slice_index mid.queue.items x) ≡ place_in (slice_index old x) =
-          λ x. rw set (set_same place_in old dir w.passed.result inside (w.passed.ensures.place ∙ ap place_in word) x) in
-          let set_due : KeepsToRead (slice_set old dir w.passed.result) new.queue.items =
-          rw set at noted.children.to_read in
-          let due : is_due (slice_index old dir) ≡ true =
-          ap is_due (sym word) ∙ (sym c.is_due.ensures ∙ w.if-is_due.true) in
-          let other : (x : ℕ) → x ≢ dir → is_due (slice_index mid.queue.items x) ≡ is_due (slice_index old x) =
-          λ x o. rw set (set_other is_due old dir w.passed.result x o) in
-          let lists : mid ≡ record first { windows = mid.windows; queue = mid.queue } =
-          ap (λ (x : Workspace). record x { queue = w.set.new.self }) inv.lists in
-          rw (w.image-is, w.workspace-is) (record {
-            same = noted.read ∙ inv.same;
-            lists = noted.lists
-                ∙ ap (λ (x : Workspace). record x { windows = new.windows; queue = new.queue }) inv.lists;
-            ready = noted.ready;
-            low = omega arith;
-            passed = passed_next old new.queue.items dir w.passed.result inside w.passed.ensures.passed set_due
-                inv.passed;
-            only = only_fewer first.parents.items old new.queue.items dir w.passed.result inside
-                w.passed.ensures.passed set_due inv.only;
-            reads = λ b t claims survey.
-                let is = parent_is_dir survey (inv.only dir due) in
-                let took = noted.reads b (ap (λ d. d.contents) inv.same ∙ t) (claims_noted lists claims) is in
-                let more = cost_take (λ s. true) (directory_cost v b) dir refl in
-                omega (arith, took, more, inv.reads b t claims survey);
-            places = λ b t claims survey.
-                let right = places_same v b old mid.queue.items same (inv.places b t claims survey) in
-                places_after (survey_noted lists survey right)
-                (noted.noted b (ap (λ d. d.contents) inv.same ∙ t) (claims_noted lists claims)) noted.children right;
-            noted = λ b t claims survey numbered.
-                let right = places_same v b old mid.queue.items same (inv.places b t claims survey) in
-                coming_noted old (survey_noted lists survey right) numbered same other
-                (noted.noted b (ap (λ d. d.contents) inv.same ∙ t) (claims_noted lists claims)) noted.children
-                (inv.noted b t claims survey numbered);
-          })
-      | else-is_due w ↦
-          rw (w.image-is, w.workspace-is) (record {
-            same = inv.same;
-            lists = inv.lists;
-            ready = inv.ready;
-            low = omega arith;
-            passed = below_more (λ x. is_due (slice_index old x) ≡ false) dir inv.passed
-                (ap is_due (sym word) ∙ (sym c.is_due.ensures ∙ w.if-is_due.false));
-            only = inv.only;
-            reads = λ b t claims survey.
-                let more = cost_take (λ s. true) (directory_cost v b) dir refl in
-                omega (arith, more, inv.reads b t claims survey);
-            places = inv.places;
-            noted = inv.noted;
-          })
-    ]
+    let back = served (rw c.new-limited.ensures.device at c.note_all-noted.ensures.read) c.is_spent.ensures.below in
+    let asked = c.note_all-noted.ensures.reads b (bytes g c b t) h survey in
+    let within = costs_within v b c.args.geometry.now.sound in
+    back.few (omega (arith, asked, within, c.new-limited.ensures.asked, c.sweep_reads.ensures))
+
+pub returns-then-is_spent-clause-most : goal.returns-then-is_spent-clause-most
+returns-then-is_spent-clause-most g c =
+    let back = served (rw c.new-limited.ensures.device at c.note_all-noted.ensures.read) c.is_spent.ensures.below in
+    let image = c.image-1.given.1 back.same_image ∙ c.drop-limited.ensures.below in
+    rw (image, ← c.sweep_reads.ensures) back.most
+
+pub returns-clause-most : goal.returns-clause-most
+returns-clause-most g c =
+    let back = served (rw c.new-limited.ensures.device at c.note_all-noted.ensures.read) c.is_spent.ensures.below in
+    let image = c.image-2-1.given.1 back.same_image ∙ c.drop-limited-2.ensures.below in
+    rw (image, ← c.sweep_reads.ensures) back.most
+
+pub returns-then-is_spent-clause-read : goal.returns-then-is_spent-clause-read
+returns-then-is_spent-clause-read g c =
+    let back = served (rw c.new-limited.ensures.device at c.note_all-noted.ensures.read) c.is_spent.ensures.below in
+    let image = c.image-1.given.1 back.same_image ∙ c.drop-limited.ensures.below in
+    rw image (back.refused c.if-is_spent.true)
+
+pub returns-clause-read : goal.returns-clause-read
+returns-clause-read g c =
+    let back = served (rw c.new-limited.ensures.device at c.note_all-noted.ensures.read) c.is_spent.ensures.below in
+    let image = c.image-2-1.given.1 back.same_image ∙ c.drop-limited-2.ensures.below in
+    rw image (back.read c.if-is_spent.false)
+
+pub returns-clause-ready : goal.returns-clause-ready
+returns-clause-ready g c =
+    let back = served (rw c.new-limited.ensures.device at c.note_all-noted.ensures.read) c.is_spent.ensures.below in
+    let image = c.image-2-1.given.1 back.same_image ∙ c.drop-limited-2.ensures.below in
+    let over = read_over _ _ c.note_all-noted.result (rw c.new-limited.ensures.device at c.note_all-noted.ensures.read) in
+    rw image (ready_same c.args.geometry.now.layout _ _ c.note_all-noted.new.workspace (back.contents ∙ sym over.contents)
+    (back.size ∙ sym over.size) c.note_all-noted.ensures.ready)
+
+pub returns-then-is_spent-clause-places : goal.returns-then-is_spent-clause-places
+returns-then-is_spent-clause-places g c = λ b t h survey.
+    let at = (goal.at.returns-then-is_spent-clause-places g c).After-is_spent in
+    absurd (both_ways _ (answered g at b t h survey) c.if-is_spent.true)
+
+pub returns-then-is_spent-clause-noted : goal.returns-then-is_spent-clause-noted
+returns-then-is_spent-clause-noted g c = λ b t h survey numbered.
+    let at = (goal.at.returns-then-is_spent-clause-noted g c).After-is_spent in
+    absurd (both_ways _ (answered g at b t h survey) c.if-is_spent.true)
+
+pub returns-then-is_spent-clause-reads : goal.returns-then-is_spent-clause-reads
+returns-then-is_spent-clause-reads g c = λ b t h survey.
+    let at = (goal.at.returns-then-is_spent-clause-reads g c).After-is_spent in
+    absurd (both_ways _ (answered g at b t h survey) c.if-is_spent.true)
+
+pub returns-clause-reads : goal.returns-clause-reads
+returns-clause-reads g c = λ b t h survey.
+    let at = (goal.at.returns-clause-reads g c).After-is_spent in
+    let back = served (rw c.new-limited.ensures.device at c.note_all-noted.ensures.read) c.is_spent.ensures.below in
+    let image = c.image-2-1.given.1 back.same_image ∙ c.drop-limited-2.ensures.below in
+    let asked = c.note_all-noted.ensures.reads b (bytes g at b t) h survey in
+    rw image (omega (arith, asked, back.as_asked, c.new-limited.ensures.asked))
+
+pub returns-clause-places : goal.returns-clause-places
+returns-clause-places g c =
+    rw (ap (λ (d : Device). d.contents) c.new-limited.ensures.device) at c.note_all-noted.ensures.places
 
 pub returns-clause-noted : goal.returns-clause-noted
-returns-clause-noted g c = λ b t claims survey numbered.
-    let inv = c.loop-dir.invariant in
-    coming_end c.args.geometry.now.layout b c.loop-dir.workspace.queue.items (λ x l. inv.passed x (omega arith))
-    (inv.noted b t claims survey numbered)
+returns-clause-noted g c =
+    rw (ap (λ (d : Device). d.contents) c.new-limited.ensures.device) at c.note_all-noted.ensures.noted
 
--- the reads that were made
-pub returns-clause-reads : goal.returns-clause-reads
-returns-clause-reads g c = λ b t claims survey.
-    let v = c.args.geometry.now.layout in
-    let some = some_inodes v c.args.geometry.now.sound in
-    let all = costs_rise (λ s. true) (directory_cost v b) c.loop-dir.dir (v.ncg * v.ipg) (omega arith) in
-    omega (arith, all, c.loop-dir.invariant.reads b t claims survey)
-
-pub returns-in_err-note_directory-clause-reads : goal.returns-in_err-note_directory-clause-reads
-returns-in_err-note_directory-clause-reads g c = λ b t claims survey.
-    let v = c.args.geometry.now.layout in
-    let inv = c.loop-dir.invariant in
-    let first = c.args.workspace.now in
-    let old = c.loop-dir.workspace.queue.items in
-    let dir = c.loop-dir.dir in
-    let inside : dir < length old = grind (arith, common_steps) in
-    let word : c.index-word.result.now ≡ slice_index old dir =
-    c.index-word.ensures ∙ get_or_default_zero old dir c.index-word.result.now inside in
-    let due : is_due (slice_index old dir) ≡ true =
-    ap is_due (sym word) ∙ (sym c.is_due.ensures ∙ c.if-is_due.true) in
-    let mid : Workspace = record c.loop-dir.workspace { queue = c.set.new.self } in
-    let lists : mid ≡ record first { windows = mid.windows; queue = mid.queue } =
-    ap (λ (x : Workspace). record x { queue = c.set.new.self }) inv.lists in
-    let took = c.in_err-note_directory.ensures.reads b (ap (λ d. d.contents) inv.same ∙ t) (claims_noted lists claims)
-    (parent_is_dir survey (inv.only dir due)) in
-    let more = cost_take (λ s. true) (directory_cost v b) dir refl in
-    let all = costs_rise (λ s. true) (directory_cost v b) (dir + 1) (v.ncg * v.ipg) (omega arith) in
-    omega (arith, took, more, all, inv.reads b t claims survey)
+pub returns-then-is_spent-clause-ready : goal.returns-then-is_spent-clause-ready
+returns-then-is_spent-clause-ready g c =
+    let back = served (rw c.new-limited.ensures.device at c.note_all-noted.ensures.read) c.is_spent.ensures.below in
+    let image = c.image-1.given.1 back.same_image ∙ c.drop-limited.ensures.below in
+    let over = read_over _ _ c.note_all-noted.result (rw c.new-limited.ensures.device at c.note_all-noted.ensures.read)
+    in
+    let same = back.contents ∙ sym over.contents in
+    let size = back.size ∙ sym over.size in
+    let ready = c.note_all-noted.ensures.ready in
+    let made = ready.made in
+    let held = ready.windows in
+    rw image (record {
+      made = search rules;
+      volume = rw size ready.volume;
+      windows = record {
+        table = rw same held.table;
+        blocks = rw same held.blocks;
+        chunk = rw same held.chunk;
+        names = rw same held.names;
+      };
+    })

@@ -5,7 +5,7 @@ use Rattle.ffs_workspace.specs.Places.{is_due, AreChunksNumbered, ArePlaces}
 use Rattle.ffs_survey.specs.Costs.{costs_all}
 use Rattle.ffs_names.specs.Costs.{directory_cost}
 use Rattle.ffs_names.proofs.PlacesNoted.{AreComing, OnlyParents}
-use Rattle.ffs_names.proofs.places.note_places.Given as goal
+use Rattle.ffs_names.proofs.places.note_all.Given as goal
 
 abbrev pub invariant-loop-dir : goal.invariant-loop-dir
 invariant-loop-dir g l = let device = g.I.Image.device in record {

@@ -1,0 +1,138 @@
+use Rattle.std.proofs.Common.{◌≡◌, ◌≢◌, ◌<◌, ◌*◌, ◌+◌, ◌∙◌, false, true, suc, ℕ, ap, arith, below_more}
+use Rattle.std.proofs.Common.{length, refl}
+use Rattle.std.proofs.Common.{rules, slice_index, slice_set, sym}
+use Rattle.std.proofs.lemmas.Grind.{common_steps, get_or_default_zero}
+use Rattle.ffs_volume.proofs.Sizes.{some_inodes}
+use Rattle.ffs_workspace.specs.{Lengths.inodes_of, Places.is_due, Places.place_in}
+use Rattle.ffs_workspace.specs.declared.workspace.Workspace.{Workspace}
+use Rattle.ffs_survey.proofs.Costs.{cost_take, costs_rise}
+use Rattle.ffs_names.specs.{Costs.directory_cost, Noting.BeginsNotes, Noting.KeepsToRead}
+use Rattle.ffs_names.proofs.PlacesNoted.{claims_noted, coming_end, coming_first, coming_noted, only_fewer}
+use Rattle.ffs_names.proofs.PlacesNoted.{parent_is_dir}
+use Rattle.ffs_names.proofs.PlacesNoted.{passed_next, places_after, places_same, set_other, set_same, survey_noted}
+use Rattle.ffs_names.proofs.places.note_all.Goals as goal
+use Rattle.ffs_names.proofs.places.note_all.Goals.{then-is_due+in_ok-note_directory, else-is_due}
+
+pub loop-dir-init : goal.loop-dir-init
+loop-dir-init g c =
+    let w = c.args.workspace.now in
+    let begins : BeginsNotes w.reached.items w.parents.items c.flag_parents.new.words.items =
+    rw c.deref.ensures.value at c.flag_parents.ensures.begins in
+    let long : length w.reached.items ≡ inodes_of c.args.geometry.now.layout =
+    sym (ap length c.deref.ensures.value) ∙ (c.deref.ensures.len ∙ c.requires.made.reached) in
+    record {
+      same = refl;
+      lists = refl;
+      ready = search rules;
+      low = omega arith;
+      passed = begins.low;
+      only = begins.only;
+      reads = λ b t claims survey. omega arith;
+      places = λ b t claims survey x p k there is.
+          let none : 0 ≡ suc k = sym (begins.none x) ∙ there in absurd (omega arith);
+      noted = λ b t claims survey numbered. coming_first long begins survey;
+    }
+
+pub loop-dir-preserved : goal.loop-dir-preserved
+loop-dir-preserved g c =
+    let v = c.args.geometry.now.layout in
+    let inv = c.loop-dir.invariant in
+    let first = c.args.workspace.now in
+    let here = c.loop-dir.workspace in
+    let old = here.queue.items in
+    let dir = c.loop-dir.dir in
+    let inside : dir < length old = grind (arith, common_steps) in
+    let word : c.index-word.result.now ≡ slice_index old dir =
+    c.index-word.ensures ∙ get_or_default_zero old dir c.index-word.result.now inside in
+    elim c.if-is_due.branch [
+      | then-is_due+in_ok-note_directory w ↦
+          let noted = w.in_ok-note_directory.ensures in
+          let mid : Workspace = record here { queue = w.set.new.self } in
+          let new = w.note_directory.new.workspace in
+          let set : mid.queue.items ≡ slice_set old dir w.passed.result = w.set.ensures.items in
+          let same : (x : ℕ) → place_in (slice_index mid.queue.items x) ≡ place_in (slice_index old x) =
+          λ x. rw set (set_same place_in old dir w.passed.result inside (w.passed.ensures.place ∙ ap place_in word) x) in
+          let set_due : KeepsToRead (slice_set old dir w.passed.result) new.queue.items =
+          rw set at noted.children.to_read in
+          let due : is_due (slice_index old dir) ≡ true =
+          ap is_due (sym word) ∙ (sym c.is_due.ensures ∙ w.if-is_due.true) in
+          let other : (x : ℕ) → x ≢ dir → is_due (slice_index mid.queue.items x) ≡ is_due (slice_index old x) =
+          λ x o. rw set (set_other is_due old dir w.passed.result x o) in
+          let lists : mid ≡ record first { windows = mid.windows; queue = mid.queue } =
+          ap (λ (x : Workspace). record x { queue = w.set.new.self }) inv.lists in
+          rw (w.image-is, w.workspace-is) (record {
+            same = noted.read ∙ inv.same;
+            lists = noted.lists
+                ∙ ap (λ (x : Workspace). record x { windows = new.windows; queue = new.queue }) inv.lists;
+            ready = noted.ready;
+            low = omega arith;
+            passed = passed_next old new.queue.items dir w.passed.result inside w.passed.ensures.passed set_due
+                inv.passed;
+            only = only_fewer first.parents.items old new.queue.items dir w.passed.result inside
+                w.passed.ensures.passed set_due inv.only;
+            reads = λ b t claims survey.
+                let is = parent_is_dir survey (inv.only dir due) in
+                let took = noted.reads b (ap (λ d. d.contents) inv.same ∙ t) (claims_noted lists claims) is in
+                let more = cost_take (λ s. true) (directory_cost v b) dir refl in
+                omega (arith, took, more, inv.reads b t claims survey);
+            places = λ b t claims survey.
+                let right = places_same v b old mid.queue.items same (inv.places b t claims survey) in
+                places_after (survey_noted lists survey right)
+                (noted.noted b (ap (λ d. d.contents) inv.same ∙ t) (claims_noted lists claims)) noted.children right;
+            noted = λ b t claims survey numbered.
+                let right = places_same v b old mid.queue.items same (inv.places b t claims survey) in
+                coming_noted old (survey_noted lists survey right) numbered same other
+                (noted.noted b (ap (λ d. d.contents) inv.same ∙ t) (claims_noted lists claims)) noted.children
+                (inv.noted b t claims survey numbered);
+          })
+      | else-is_due w ↦
+          rw (w.image-is, w.workspace-is) (record {
+            same = inv.same;
+            lists = inv.lists;
+            ready = inv.ready;
+            low = omega arith;
+            passed = below_more (λ x. is_due (slice_index old x) ≡ false) dir inv.passed
+                (ap is_due (sym word) ∙ (sym c.is_due.ensures ∙ w.if-is_due.false));
+            only = inv.only;
+            reads = λ b t claims survey.
+                let more = cost_take (λ s. true) (directory_cost v b) dir refl in
+                omega (arith, more, inv.reads b t claims survey);
+            places = inv.places;
+            noted = inv.noted;
+          })
+    ]
+
+pub returns-clause-noted : goal.returns-clause-noted
+returns-clause-noted g c = λ b t claims survey numbered.
+    let inv = c.loop-dir.invariant in
+    coming_end c.args.geometry.now.layout b c.loop-dir.workspace.queue.items (λ x l. inv.passed x (omega arith))
+    (inv.noted b t claims survey numbered)
+
+-- the reads that were made
+pub returns-clause-reads : goal.returns-clause-reads
+returns-clause-reads g c = λ b t claims survey.
+    let v = c.args.geometry.now.layout in
+    let some = some_inodes v c.args.geometry.now.sound in
+    let all = costs_rise (λ s. true) (directory_cost v b) c.loop-dir.dir (v.ncg * v.ipg) (omega arith) in
+    omega (arith, all, c.loop-dir.invariant.reads b t claims survey)
+
+pub returns-in_err-note_directory-clause-reads : goal.returns-in_err-note_directory-clause-reads
+returns-in_err-note_directory-clause-reads g c = λ b t claims survey.
+    let v = c.args.geometry.now.layout in
+    let inv = c.loop-dir.invariant in
+    let first = c.args.workspace.now in
+    let old = c.loop-dir.workspace.queue.items in
+    let dir = c.loop-dir.dir in
+    let inside : dir < length old = grind (arith, common_steps) in
+    let word : c.index-word.result.now ≡ slice_index old dir =
+    c.index-word.ensures ∙ get_or_default_zero old dir c.index-word.result.now inside in
+    let due : is_due (slice_index old dir) ≡ true =
+    ap is_due (sym word) ∙ (sym c.is_due.ensures ∙ c.if-is_due.true) in
+    let mid : Workspace = record c.loop-dir.workspace { queue = c.set.new.self } in
+    let lists : mid ≡ record first { windows = mid.windows; queue = mid.queue } =
+    ap (λ (x : Workspace). record x { queue = c.set.new.self }) inv.lists in
+    let took = c.in_err-note_directory.ensures.reads b (ap (λ d. d.contents) inv.same ∙ t) (claims_noted lists claims)
+    (parent_is_dir survey (inv.only dir due)) in
+    let more = cost_take (λ s. true) (directory_cost v b) dir refl in
+    let all = costs_rise (λ s. true) (directory_cost v b) (dir + 1) (v.ncg * v.ipg) (omega arith) in
+    omega (arith, took, more, all, inv.reads b t claims survey)
