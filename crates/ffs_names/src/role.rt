@@ -32,13 +32,8 @@ pub fn role_of(first: bool, index: usize, entry: &Entry<'_>) -> Role
     ensures { result ≡ role_in first index (entry_value entry.now) }
 {
     if entry.number == 0 {
-        return Role::Empty;
-    }
-    // Most names don't begin with a dot: one test passes them.
-    if entry.name.first() != Some(&b'.') {
-        return Role::Plain;
-    }
-    if is_one_dot(entry.name) {
+        Role::Empty
+    } else if is_one_dot(entry.name) {
         if first && index == 0 {
             Role::Dot
         } else {

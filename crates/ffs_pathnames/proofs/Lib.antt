@@ -17,3 +17,5 @@ pub mod EmptyLaws
 pub mod Carrying
 pub mod Skipping
 mod SilentLaws
+pub mod LimitedLaws
+pub mod PaidLaws

@@ -1,5 +1,5 @@
 -- What is ready stays so where a chunk is read.
-use Rattle.std.proofs.Common.{◌≡◌, ℕ, refl, ap, ◌∙◌, rules, Result, Ok, Err, vec_len}
+use Rattle.std.proofs.Common.{◌≡◌, ℕ, refl, sym, subst, ap, ◌∙◌, rules, Result, Ok, Err, vec_len}
 use Rattle.std.specs.declared.{alloc.Global.Global, vec.Vec.Vec}
 use Rattle.ffs_image.specs.{Device.Device, declared.image.ImageFault.ImageFault}
 use Rattle.ffs_volume.specs.declared.Layout.{Layout}
@@ -70,6 +70,21 @@ ready_next v d d' w s blocks chunk r e can = record {
   ready = ready_read v d d' w blocks chunk r.ready (ap (λ x. x.contents) e) can;
   kept_parent = kept_parent_held v _ _ w (with_chunk w blocks chunk) s (ap (λ x. x.contents) e) refl r.kept_parent;
 }
+
+-- the same of windows that are as they were, but for these two
+pub windows_read : (v : Layout) (d d' : Device) (w : Workspace) (windows : Windows) → IsReady v d w
+    → d'.contents ≡ d.contents → windows ≡ record w.windows { blocks = windows.blocks; chunk = windows.chunk }
+    → CanReadChunks v d' windows.blocks windows.chunk → IsReady v d' (record w { windows = windows })
+windows_read v d d' w windows r same others can =
+    subst (λ (x : Windows). IsReady v d' (record w { windows = x })) (sym others)
+    (ready_read v d d' w windows.blocks windows.chunk r same can)
+
+pub windows_next : (v : Layout) (d d' : Device) (w : Workspace) (s : KeptParent) (windows : Windows)
+    → ReadyWith v d w s → d' ≡ d → windows ≡ record w.windows { blocks = windows.blocks; chunk = windows.chunk }
+    → CanReadChunks v d' windows.blocks windows.chunk → ReadyWith v d' (record w { windows = windows }) s
+windows_next v d d' w s windows r e others can =
+    subst (λ (x : Windows). ReadyWith v d' (record w { windows = x }) s) (sym others)
+    (ready_next v d d' w s windows.blocks windows.chunk r e can)
 
 -- what is ready for reading chunks
 pub can_read_in : (v : Layout) (d : Device) (w : Workspace) → IsReady v d w

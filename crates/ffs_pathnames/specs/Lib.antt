@@ -19,3 +19,4 @@ pub mod LineReads
 pub mod EntryLines
 pub mod Looks
 pub mod Costs
+pub mod ReadsLeft

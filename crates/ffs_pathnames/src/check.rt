@@ -1,9 +1,11 @@
 //! The pathname check of one directory.
-ghost use Rattle.std.specs.Prelude.{suc, ◌≡◌, ◌+◌, ◌<◌, ◌≤◌, ℕ, List, OnOk, IfOk, length, map, option_map, vec_len};
+ghost use Rattle.std.specs.Prelude.{suc, ◌≡◌, ◌+◌, ◌*◌, ◌<◌, ◌≤◌, ℕ, List, OnOk, IfOk, length, map, option_map, vec_len};
 ghost use Rattle.ffs_volume.specs.{Messages.Kinds.of_tree, Directories.Parents.graph_of, declared.Layout.Layout};
 ghost use Rattle.ffs_volume.specs.Directories.{PathnameCheck.sized_dir_lines, Volumes.volume_of, Graph.parent};
 ghost use Rattle.ffs_report.specs.{Known.ForBytes, Paid.Paid, PhaseOutcome.PhaseReports, Progress.progress};
 ghost use Rattle.ffs_volume.specs.Report.Reads.{line_reads};
+ghost use Rattle.ffs_names.specs.Costs.{directory_cost};
+ghost use Rattle.ffs_pathnames.specs.ReadsLeft.{LeftForBoth, LeftForLook};
 ghost use Rattle.ffs_layout.specs.Entry.{entry_value};
 ghost use Rattle.ffs_workspace.specs.{Holds.HoldsSurvey, Places.AreChunksNumbered, Places.AreNoted};
 ghost use Rattle.ffs_pathnames.specs.Begins.{dir_header_lines, started_entry, IsDirectoryBegun};
@@ -23,6 +25,16 @@ use ffs_paths::{KeptParent, PathText};
 use ffs_report::{Output, Report, RunFault};
 use ffs_volume::Order;
 use ffs_workspace::Workspace;
+
+/// What is carried from the check of one directory to that of the next.
+#[derive(Drop)]
+pub struct Checking {
+    /// The texts that lines of entries show.
+    pub texts: EntryTexts,
+    /// How many reads may still be made of directories' own blocks: their inodes, their indirect
+    /// blocks and their chunks. What a message shows is not among these.
+    pub reads_left: u64,
+}
 
 /// The parent of a directory, as the survey found it.
 fn parent_of(workspace: &Workspace, dir: u32) -> Option<u32>
@@ -105,29 +117,40 @@ fn begin_directory<I: Image, W: Output>(
     geometry: &Geometry,
     image: &mut I,
     workspace: &mut Workspace,
-    kept_parent: &mut KeptParent,
+    checking: &mut Checking,
     report: &mut Report<'_, W>,
     dir: u32,
 ) -> Result<Examination, RunFault>
     requires ready { ReadyToPath geometry.now.layout (I.device image.old) workspace.old
-        kept_parent.old dir }
+        checking.old.texts.kept_parent dir }
     requires dir { 2 ≤ dir }
-    ensures text { PhaseReports (DirectoryContext geometry.now.layout (I.device image.old).contents
-        workspace.old dir)
+    ensures text { PhaseReports (LeftForLook geometry.now.layout (I.device image.old)
+        workspace.old dir checking.old.reads_left)
         (λ b. map of_tree (dir_header_lines (volume_of geometry.now.layout b) dir))
         (progress W.sink report.old) (progress W.sink report.new) result }
     ensures begun { IfOk result (λ e. ForBytes
-        (DirectoryContext geometry.now.layout (I.device image.old).contents workspace.old dir)
+        (LeftForLook geometry.now.layout (I.device image.old) workspace.old dir
+        checking.old.reads_left)
         (λ b. IsDirectoryBegun geometry.now.layout b dir workspace.old e workspace.new)) }
     ensures reads { ForBytes
-        (DirectoryContext geometry.now.layout (I.device image.old).contents workspace.old dir)
+        (LeftForLook geometry.now.layout (I.device image.old) workspace.old dir
+        checking.old.reads_left)
         (λ b. AreNoted geometry.now.layout b workspace.old.queue.items
         → I.reads image.new ≤ I.reads image.old + begin_reads geometry.now.layout b dir
         (length (dir_header_lines (volume_of geometry.now.layout b) dir))) }
+    ensures kept { ForBytes
+        (LeftForLook geometry.now.layout (I.device image.old) workspace.old dir
+        checking.old.reads_left)
+        (λ b. checking.old.reads_left
+        ≤ checking.new.reads_left + directory_cost geometry.now.layout b dir) }
+    ensures paid { AreChunksNumbered geometry.now.layout → Paid line_reads
+        (progress W.sink report.old) (progress W.sink report.new)
+        (I.reads image.old + checking.old.reads_left)
+        (I.reads image.new + checking.new.reads_left) result }
     ensures leaves { PhaseLeaves geometry.now.layout (I.device image.old) (I.device image.new)
-        workspace.old workspace.new kept_parent.new result }
+        workspace.old workspace.new checking.new.texts.kept_parent result }
 {
-    let examined = examine(geometry, image, workspace, dir)?;
+    let examined = examine(geometry, image, workspace, &mut checking.reads_left, dir)?;
     let parent = parent_of(workspace, dir);
     let (first, second) = first_two(geometry.layout.order, &examined.look);
     let header = HeaderFacts {
@@ -139,7 +162,14 @@ fn begin_directory<I: Image, W: Output>(
         first,
         second,
     };
-    report_header(geometry, image, workspace, kept_parent, report, header)?;
+    report_header(
+        geometry,
+        image,
+        workspace,
+        &mut checking.texts.kept_parent,
+        report,
+        header,
+    )?;
     Ok(examined)
 }
 
@@ -152,40 +182,41 @@ pub fn check_directory<I: Image, W: Output>(
     geometry: &Geometry,
     image: &mut I,
     workspace: &mut Workspace,
-    texts: &mut EntryTexts,
+    checking: &mut Checking,
     report: &mut Report<'_, W>,
     dir: u32,
 ) -> Result<(), RunFault>
     requires ready { ReadyToPath geometry.now.layout (I.device image.old) workspace.old
-        texts.old.kept_parent dir }
+        checking.old.texts.kept_parent dir }
     requires dir { 2 ≤ dir }
-    ensures text { PhaseReports (λ b. DirectoryContext geometry.now.layout
-        (I.device image.old).contents workspace.old dir b
-        × AreRightBefore (volume_of geometry.now.layout b) dir (passed_of workspace.old))
+    ensures text { PhaseReports (LeftForBoth geometry.now.layout (I.device image.old)
+        workspace.old dir checking.old.reads_left)
         (λ b. map of_tree (sized_dir_lines (volume_of geometry.now.layout b) dir))
         (progress W.sink report.old) (progress W.sink report.new) result }
     ensures passed { OnOk result (ForBytes
-        (λ b. DirectoryContext geometry.now.layout (I.device image.old).contents workspace.old dir b
-        × AreRightBefore (volume_of geometry.now.layout b) dir (passed_of workspace.old))
+        (LeftForBoth geometry.now.layout (I.device image.old) workspace.old dir
+        checking.old.reads_left)
         (λ b. AreRightBefore (volume_of geometry.now.layout b) (suc dir)
         (passed_of workspace.new))) }
     ensures reads { ForBytes
-        (λ b. DirectoryContext geometry.now.layout (I.device image.old).contents workspace.old dir b
-        × AreRightBefore (volume_of geometry.now.layout b) dir (passed_of workspace.old))
+        (LeftForBoth geometry.now.layout (I.device image.old) workspace.old dir
+        checking.old.reads_left)
         (λ b. AreNoted geometry.now.layout b workspace.old.queue.items
         → I.reads image.new ≤ I.reads image.old + check_reads geometry.now.layout b dir
         (length (sized_dir_lines (volume_of geometry.now.layout b) dir))) }
+    ensures kept { ForBytes
+        (LeftForBoth geometry.now.layout (I.device image.old) workspace.old dir
+        checking.old.reads_left)
+        (λ b. checking.old.reads_left
+        ≤ checking.new.reads_left + 2 * directory_cost geometry.now.layout b dir) }
+    ensures paid { AreChunksNumbered geometry.now.layout → Paid line_reads
+        (progress W.sink report.old) (progress W.sink report.new)
+        (I.reads image.old + checking.old.reads_left)
+        (I.reads image.new + checking.new.reads_left) result }
     ensures leaves { PhaseLeaves geometry.now.layout (I.device image.old) (I.device image.new)
-        workspace.old workspace.new texts.new.kept_parent result }
+        workspace.old workspace.new checking.new.texts.kept_parent result }
 {
-    let examined = begin_directory(
-        geometry,
-        image,
-        workspace,
-        &mut texts.kept_parent,
-        report,
-        dir,
-    )?;
+    let examined = begin_directory(geometry, image, workspace, checking, report, dir)?;
     if examined.look.quiet {
         return Ok(());
     }
@@ -194,5 +225,5 @@ pub fn check_directory<I: Image, W: Output>(
         inode: examined.inode,
         cut: workspace.cut_of(dir),
     };
-    report_directory(geometry, image, workspace, texts, report, &directory)
+    report_directory(geometry, image, workspace, checking, report, &directory)
 }

@@ -1,7 +1,8 @@
 //! Phase 2: pathnames (fsck(8)).
 
-ghost use Rattle.std.specs.Prelude.{◌≡◌, ◌+◌, ◌≤◌, ◌⊎◌, [], ◌∷◌, true, OnOk, IfOk, length, map};
-ghost use Rattle.ffs_report.specs.{Known.ForBytes, Progress.Said, Progress.progress};
+ghost use Rattle.std.specs.Prelude.{◌≡◌, ◌+◌, ◌*◌, ◌≤◌, ◌⊎◌, [], ◌∷◌, true, OnOk, IfOk, length, map};
+ghost use Rattle.ffs_report.specs.{Known.ForBytes, Paid.Paid, Progress.Said, Progress.progress};
+ghost use Rattle.ffs_volume.specs.Report.Reads.{line_reads, sweep_reads};
 ghost use Rattle.ffs_report.specs.PhaseOutcome.{ImageAfter, PhaseReports};
 ghost use Rattle.ffs_volume.specs.{Messages.Kinds.of_tree, Directories.Volumes.volume_of, Report.Reads.pathname_reads};
 ghost use Rattle.ffs_volume.specs.Directories.PathnameCheck.{continues_after_root, pathname_lines};
@@ -70,6 +71,11 @@ pub fn phase2<I: Image, W: Output>(
         (λ b. AreChunksNumbered geometry.now.layout
         → I.reads image.new ≤ I.reads image.old + pathname_reads geometry.now.layout
         (length (pathname_lines (volume_of geometry.now.layout b)))) }
+
+    // Of any image, also of one that gives other bytes each time.
+    ensures paid { AreChunksNumbered geometry.now.layout → Paid line_reads
+        (progress W.sink report.old) (progress W.sink report.new)
+        (I.reads image.old + 4 * sweep_reads geometry.now.layout) (I.reads image.new) result }
     ensures ready { IsReady geometry.now.layout (I.device image.new) workspace.new }
 {
     report.say(&Line::Heading(Heading::Phase2))?;

@@ -1,6 +1,9 @@
 //! The pathname check of the root, and of one directory after another.
-ghost use Rattle.std.specs.Prelude.{suc, ◌≡◌, ◌+◌, ◌-◌, ◌<◌, ◌≤◌, ℕ, true, false, OnOk, IfOk, length, map, vec_len};
-ghost use Rattle.ffs_report.specs.{Known.ForBytes, PhaseOutcome.PhaseReports, Progress.progress};
+ghost use Rattle.std.specs.Prelude.{suc, ◌≡◌, ◌+◌, ◌-◌, ◌*◌, ◌<◌, ◌≤◌, ℕ, true, false, OnOk, IfOk, length, map, vec_len};
+ghost use Rattle.ffs_report.specs.{Known.ForBytes, Paid.Paid, PhaseOutcome.PhaseReports, Progress.progress};
+ghost use Rattle.ffs_volume.specs.Report.Reads.{line_reads, sweep_reads};
+ghost use Rattle.ffs_names.specs.Costs.{directory_cost};
+ghost use Rattle.ffs_pathnames.specs.ReadsLeft.{LeftForNext};
 ghost use Rattle.ffs_volume.specs.{Messages.Kinds.of_tree, Messages.Kinds.lines_from, Directories.Volumes.volume_of};
 ghost use Rattle.ffs_volume.specs.Directories.PathnameCheck.{continues_after_root, directory_lines, pathname_lines};
 ghost use Rattle.ffs_workspace.specs.{Holds.HoldsClaims, Holds.HoldsSurvey, Lengths.inodes_of, Ready.IsReady};
@@ -9,7 +12,7 @@ ghost use Rattle.ffs_pathnames.specs.{Before.IsBefore, Before.IsBeforeNoted, Bef
 ghost use Rattle.ffs_pathnames.specs.{Gathers.AreAsLong, RootAnswers.AtReadFault, RootAnswers.is_go};
 ghost use Rattle.ffs_pathnames.specs.Ready.{ReadyToPath, PhaseLeaves, TreeLeaves};
 
-use crate::check::check_directory;
+use crate::check::{Checking, check_directory};
 use crate::one_entry::EntryTexts;
 use crate::pass2::Root;
 use crate::root::{report_root, root_of};
@@ -18,7 +21,7 @@ use ffs_layout::Geometry;
 use ffs_names::note_places;
 use ffs_report::{Output, Report, RunFault};
 use ffs_volume::constants::{DT_DIR, ROOTINO};
-use ffs_workspace::Workspace;
+use ffs_workspace::{Workspace, sweep_reads};
 
 /// Whether an inode is a directory that isn't of size 0 and isn't known to be calm. That a marked
 /// one is flagged doesn't mean that it is calm, but that an entry has named it.
@@ -54,33 +57,42 @@ fn check_inode<I: Image, W: Output>(
     geometry: &Geometry,
     image: &mut I,
     workspace: &mut Workspace,
-    texts: &mut EntryTexts,
+    checking: &mut Checking,
     report: &mut Report<'_, W>,
     number: u32,
 ) -> Result<(), RunFault>
     requires ready { ReadyToPath geometry.now.layout (I.device image.old) workspace.old
-        texts.old.kept_parent number }
+        checking.old.texts.kept_parent number }
     requires low { 2 ≤ number }
-    ensures text { PhaseReports (λ b. IsBeforeNoted geometry.now.layout
-        (I.device image.old).contents workspace.old number b)
+    ensures text { PhaseReports (LeftForNext geometry.now.layout (I.device image.old)
+        workspace.old number checking.old.reads_left)
         (λ b. map of_tree (directory_lines (volume_of geometry.now.layout b) number))
         (progress W.sink report.old) (progress W.sink report.new) result }
     ensures before { OnOk result (ForBytes
-        (λ b. IsBeforeNoted geometry.now.layout (I.device image.old).contents
-        workspace.old number b)
+        (LeftForNext geometry.now.layout (I.device image.old) workspace.old number
+        checking.old.reads_left)
         (λ b. IsBeforeNoted geometry.now.layout (I.device image.old).contents
         workspace.new (suc number) b)) }
     ensures reads { ForBytes
-        (λ b. IsBeforeNoted geometry.now.layout (I.device image.old).contents
-        workspace.old number b)
+        (LeftForNext geometry.now.layout (I.device image.old) workspace.old number
+        checking.old.reads_left)
         (λ b. AreNoted geometry.now.layout b workspace.old.queue.items
         → I.reads image.new ≤ I.reads image.old + check_reads geometry.now.layout b number
         (length (directory_lines (volume_of geometry.now.layout b) number))) }
+    ensures kept { ForBytes
+        (LeftForNext geometry.now.layout (I.device image.old) workspace.old number
+        checking.old.reads_left)
+        (λ b. checking.old.reads_left
+        ≤ checking.new.reads_left + 2 * directory_cost geometry.now.layout b number) }
+    ensures paid { AreChunksNumbered geometry.now.layout → Paid line_reads
+        (progress W.sink report.old) (progress W.sink report.new)
+        (I.reads image.old + checking.old.reads_left)
+        (I.reads image.new + checking.new.reads_left) result }
     ensures leaves { PhaseLeaves geometry.now.layout (I.device image.old) (I.device image.new)
-        workspace.old workspace.new texts.new.kept_parent result }
+        workspace.old workspace.new checking.new.texts.kept_parent result }
 {
     if is_checked(workspace, number) {
-        return check_directory(geometry, image, workspace, texts, report, number);
+        return check_directory(geometry, image, workspace, checking, report, number);
     }
     Ok(())
 }
@@ -113,6 +125,9 @@ fn check_inodes<I: Image, W: Output>(
         → I.reads image.new ≤ I.reads image.old + tree_reads geometry.now.layout b
         (length (lines_from (directory_lines (volume_of geometry.now.layout b)) 2
         (inodes_of geometry.now.layout - 2)))) }
+    ensures paid { AreChunksNumbered geometry.now.layout → Paid line_reads
+        (progress W.sink report.old) (progress W.sink report.new)
+        (I.reads image.old + 3 * sweep_reads geometry.now.layout) (I.reads image.new) result }
     ensures leaves { TreeLeaves geometry.now.layout (I.device image.old) (I.device image.new)
         workspace.old workspace.new result }
 {
@@ -122,9 +137,12 @@ fn check_inodes<I: Image, W: Output>(
         return Ok(());
     }
     note_places(geometry, image, workspace)?;
-    let mut texts = EntryTexts::none();
+    let mut checking = Checking {
+        texts: EntryTexts::none(),
+        reads_left: 2 * sweep_reads(geometry),
+    };
     for number in first..count {
-        check_inode(geometry, image, workspace, &mut texts, report, number)?;
+        check_inode(geometry, image, workspace, &mut checking, report, number)?;
     }
     Ok(())
 }
@@ -162,6 +180,9 @@ pub fn check_tree<I: Image, W: Output>(
         (λ b. AreChunksNumbered geometry.now.layout
         → I.reads image.new ≤ I.reads image.old + tree_reads geometry.now.layout b
         (length (pathname_lines (volume_of geometry.now.layout b)))) }
+    ensures paid { AreChunksNumbered geometry.now.layout → Paid line_reads
+        (progress W.sink report.old) (progress W.sink report.new)
+        (I.reads image.old + 3 * sweep_reads geometry.now.layout) (I.reads image.new) result }
     ensures leaves { TreeLeaves geometry.now.layout (I.device image.old) (I.device image.new)
         workspace.old workspace.new result }
 {

@@ -2,7 +2,9 @@ use Rattle.std.proofs.Common.{◌∙◌, ap, map, arith, length, ◌≡◌, ◌�
 use Rattle.std.proofs.lemmas.Result.{err_from_is_err_and}
 use Rattle.ffs_volume.specs.{Messages.Kinds.of_tree, Blocks.Inodes.inode_of}
 use Rattle.ffs_volume.specs.Directories.{Volumes.volume_of, Parents.graph_of, PathnameCheck.attributes, Paths.dir_path}
-use Rattle.ffs_report.proofs.Reporting.{of_begins, of_reads}
+use Rattle.ffs_report.proofs.{Reporting.of_begins, Reporting.of_reads, Paying.paid_answer, Paying.paid_failed}
+use Rattle.ffs_report.proofs.Paying.{paid_fault, paid_none, paid_then}
+use Rattle.ffs_pathnames.{specs.ReadsLeft.LeftForLook, proofs.PaidLaws.paid_beside}
 use Rattle.ffs_pathnames.specs.{declared.examine.Examination.Examination, Begins.dir_header_lines, Header.header_reported}
 use Rattle.ffs_pathnames.{specs.Costs.begin_reads, specs.DirectoryContext.DirectoryContext, proofs.Passing.knows_on}
 use Rattle.ffs_pathnames.proofs.Begun.{said_same, fault_same, image_same, starts_are, begun_is}
@@ -16,20 +18,20 @@ use Rattle.ffs_layout.specs.Entry.{entry_value}
 use Rattle.ffs_pathnames.proofs.check.begin_directory.Goals as goal
 
 -- what is known before the lines are printed
-known : (g : Over) (c : After-report_header g) (b : List ℕ) → DirectoryContext c.args.geometry.now.layout
-    (g.I.Image.device c.args.image.now).contents c.args.workspace.now c.args.dir b →
+known : (g : Over) (c : After-report_header g) (b : List ℕ) → LeftForLook c.args.geometry.now.layout
+    (g.I.Image.device c.args.image.now) c.args.workspace.now c.args.dir c.args.checking.now.reads_left b →
     DirectoryContext c.args.geometry.now.layout (g.I.Image.device c.examine.new.image).contents c.examine.new.workspace
     c.args.dir b × (c.in_ok-examined.examined.inode.size ≡ (inode_of c.args.geometry.now.layout b c.args.dir).size)
 known g c b k = (
   knows_on c.args.geometry.now.layout _ _ c.args.workspace.now c.examine.new.workspace c.args.dir b
       (ap (λ d. d.contents) c.in_ok-examined.ensures.leaves.read) c.in_ok-examined.ensures.leaves.lists.survey
-      c.in_ok-examined.ensures.leaves.lists.places k,
+      c.in_ok-examined.ensures.leaves.lists.places k.0,
   ap (λ i. i.size) (c.in_ok-examined.ensures.found b k).inode,
 )
 
 -- the lines are the directory's
-lines_are : (g : Over) (c : After-report_header g) (b : List ℕ) → DirectoryContext c.args.geometry.now.layout
-    (g.I.Image.device c.args.image.now).contents c.args.workspace.now c.args.dir b →
+lines_are : (g : Over) (c : After-report_header g) (b : List ℕ) → LeftForLook c.args.geometry.now.layout
+    (g.I.Image.device c.args.image.now) c.args.workspace.now c.args.dir c.args.checking.now.reads_left b →
     header_reported (attributes (volume_of c.args.geometry.now.layout b) c.args.dir)
     (dir_path (graph_of (volume_of c.args.geometry.now.layout b)) c.args.dir) c.args.dir c.parent_of-parent.result
     c.in_ok-examined.examined.look.gap c.in_ok-examined.examined.look.sound
@@ -39,19 +41,19 @@ lines_are g c b k =
     let v = c.args.geometry.now.layout in
     starts_are v b c.args.dir c.args.workspace.now c.examine.new.workspace c.in_ok-examined.examined _ _ _
     (c.in_ok-examined.ensures.found b k) (c.parent_of-parent.ensures v b
-    (survey_left v b _ _ c.in_ok-examined.ensures.leaves.lists.survey k.survey))
+    (survey_left v b _ _ c.in_ok-examined.ensures.leaves.lists.survey k.0.survey))
     c.first_two.ensures.first c.first_two.ensures.second
 
 -- the reads
-reads_few : (g : Over) (c : After-report_header g) (b : List ℕ) → DirectoryContext c.args.geometry.now.layout
-    (g.I.Image.device c.args.image.now).contents c.args.workspace.now c.args.dir b →
+reads_few : (g : Over) (c : After-report_header g) (b : List ℕ) → LeftForLook c.args.geometry.now.layout
+    (g.I.Image.device c.args.image.now) c.args.workspace.now c.args.dir c.args.checking.now.reads_left b →
     AreNoted c.args.geometry.now.layout b c.args.workspace.now.queue.items →
     g.I.Image.reads c.report_header.new.image ≤ g.I.Image.reads c.args.image.now
     + begin_reads c.args.geometry.now.layout b c.args.dir
     (length (dir_header_lines (volume_of c.args.geometry.now.layout b) c.args.dir))
 reads_few g c b k noted =
     let lists = c.in_ok-examined.ensures.leaves.lists in
-    let examined = c.examine.ensures.reads b k in
+    let examined = c.examine.ensures.reads b k.0 in
     let said = (c.report_header.ensures.counted b (known g c b k)
     (noted_kept c.args.geometry.now.layout b _ c.examine.new.workspace.queue.items lists.places noted)).count in
     let now = rw (lines_are g c b k) at said in
@@ -147,7 +149,7 @@ returns-clause-leaves g c =
 -- the reads
 pub returns-in_err-examined-clause-reads : goal.returns-in_err-examined-clause-reads
 returns-in_err-examined-clause-reads g c = λ b k noted.
-    let examined = c.examine.ensures.reads b k in
+    let examined = c.examine.ensures.reads b k.0 in
     omega (arith, examined)
 
 pub returns-in_err-report_header-clause-reads : goal.returns-in_err-report_header-clause-reads
@@ -156,3 +158,22 @@ returns-in_err-report_header-clause-reads g c =
 
 pub returns-clause-reads : goal.returns-clause-reads
 returns-clause-reads g c = reads_few g (goal.at.returns-clause-reads g c).After-report_header
+
+-- what was read for messages
+pub returns-in_err-examined-clause-paid : goal.returns-in_err-examined-clause-paid
+returns-in_err-examined-clause-paid g c = λ numbered.
+    let p = err_from_is_err_and c.from_residual.result c.from_residual.ensures.1 in
+    rw (p.1, p.2) (paid_failed c.examine.ensures.most)
+
+pub returns-in_err-report_header-clause-paid : goal.returns-in_err-report_header-clause-paid
+returns-in_err-report_header-clause-paid g c = λ numbered.
+    let p = err_from_is_err_and c.from_residual-in_err-report_header.result
+    c.from_residual-in_err-report_header.ensures.1 in
+    rw (p.1, p.2) (paid_fault c.in_err-report_header.field-0.0
+    (paid_then (paid_none {T = Unit {0}} {x = tt} c.examine.ensures.most)
+    (paid_beside c.examine.new.reads_left (c.in_err-report_header.ensures.paid numbered))))
+
+pub returns-clause-paid : goal.returns-clause-paid
+returns-clause-paid g c = λ numbered.
+    paid_answer (paid_then (paid_none {T = Unit {0}} {x = tt} c.examine.ensures.most)
+    (paid_beside c.examine.new.reads_left (c.in_ok-report_header.ensures.paid numbered)))

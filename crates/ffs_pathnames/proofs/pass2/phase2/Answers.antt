@@ -1,5 +1,7 @@
 use Rattle.std.proofs.Common.{[], ◌∷◌, List, ℕ, map, refl, ap, ◌∙◌, inl, inr, arith, ◌≡◌, Some}
 use Rattle.std.proofs.lemmas.Result.{err_from_is_err_and}
+use Rattle.ffs_report.proofs.Paying.{paid_failed, paid_then}
+use Rattle.ffs_pathnames.proofs.PaidLaws.{paid_broken, paid_free}
 use Rattle.ffs_report.proofs.Reporting.{of_begins, of_says, of_stops, of_reads, of_last, reports_knowing}
 use Rattle.ffs_volume.specs.{Messages.Kinds.of_tree, Messages.Kinds.phase2, Directories.PathnameCheck.pathname_lines}
 use Rattle.ffs_volume.{specs.Directories.Volumes.volume_of, proofs.RunBounds.runs_bounded, proofs.Results.on_ok}
@@ -100,3 +102,21 @@ returns-clause-reads g c = λ b k numbered.
     let before = before_tree g (goal.at.returns-clause-reads g c).After-check_tree b k.0 k.1 in
     let rest = c.check_tree.ensures.reads b before numbered in
     omega (arith, once, most, runs, rest)
+
+pub returns-in_err-say-clause-paid : goal.returns-in_err-say-clause-paid
+returns-in_err-say-clause-paid g c = λ numbered.
+    let p = err_from_is_err_and c.from_residual.result c.from_residual.ensures.1 in
+    rw (p.1, p.2) (paid_broken _ _ c.in_err-say.ensures.said (omega arith))
+
+pub returns-in_err-survey-clause-paid : goal.returns-in_err-survey-clause-paid
+returns-in_err-survey-clause-paid g c = λ numbered.
+    let p = err_from_is_err_and c.from_residual-in_err-survey.result c.from_residual-in_err-survey.ensures.1 in
+    let most = c.survey.ensures.most in
+    rw (p.1, p.2) (paid_then {between = g.I.Image.reads c.survey.new.image}
+    (paid_free {T = Unit {0}} tt _ c.in_ok-say.ensures.said (omega (arith, most))) (paid_failed (omega arith)))
+
+pub returns-clause-paid : goal.returns-clause-paid
+returns-clause-paid g c = λ numbered.
+    let most = c.survey.ensures.most in
+    paid_then (paid_free {T = Unit {0}} tt _ c.in_ok-say.ensures.said (omega (arith, most)))
+    (c.check_tree.ensures.paid numbered)

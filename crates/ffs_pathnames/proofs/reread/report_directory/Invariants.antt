@@ -1,12 +1,12 @@
-use Rattle.std.proofs.Common.{◌≡◌, map, ◌+◌, ◌*◌, ◌≤◌, length}
+use Rattle.std.proofs.Common.{◌≡◌, map, ◌+◌, ◌*◌, ◌≤◌, length, Ok}
 use Rattle.std.specs.List.{flat_map}
 use Rattle.ffs_volume.specs.{Messages.Kinds.of_tree, Report.Reads.line_reads}
 use Rattle.ffs_volume.specs.Directories.{Parents.graph_of, Roles.roled_chunk, Roles.roled_entries, Volumes.volume_of}
-use Rattle.ffs_report.specs.{Known.ForBytes, PhaseOutcome.SaidOf, Progress.progress}
-use Rattle.ffs_names.specs.{Readings.rest, Costs.to_read, Costs.HoldsReading}
-use Rattle.ffs_workspace.specs.{Leaves.LeavesSurvey, Places.AreNoted}
+use Rattle.ffs_report.specs.{Known.ForBytes, Paid.Paid, PhaseOutcome.SaidOf, Progress.progress}
+use Rattle.ffs_names.specs.{Readings.rest, Costs.directory_runs, Costs.to_read, Costs.HoldsReading}
+use Rattle.ffs_workspace.specs.{Leaves.LeavesSurvey, Places.AreChunksNumbered, Places.AreNoted}
 use Rattle.ffs_pathnames.specs.{Ready.ReadyWith, Gathers.passed_of, Stamps.KeepPlaces, Costs.report_reads}
-use Rattle.ffs_pathnames.specs.DirectoryContext.{BeginsPathOf, KnowsDirectory}
+use Rattle.ffs_pathnames.specs.{DirectoryContext.BeginsPathOf, ReadsLeft.LeftForRuns}
 use Rattle.ffs_pathnames.specs.PassedNames.{after_entries, entries_reported}
 use Rattle.ffs_pathnames.proofs.reread.report_directory.Given as goal
 
@@ -16,26 +16,33 @@ invariant-chunks g l =
     let v = l.geometry.layout in
     let x = l.directory in
     record {
-      ready : ReadyWith v (reported_by l.image) l.workspace l.texts.kept_parent;
+      ready : ReadyWith v (reported_by l.image) l.workspace l.checking.texts.kept_parent;
       device : reported_by l.image ≡ reported_by l.fn.image;
       geometry : l.chunks.walk.geometry ≡ l.geometry;
       survey : LeavesSurvey l.fn.workspace l.workspace;
       places : KeepPlaces l.fn.workspace.queue.items l.workspace.queue.items;
-      path : ForBytes (KnowsDirectory v (reported_by l.fn.image) l.fn.workspace x)
-          (λ b. BeginsPathOf (graph_of (volume_of v b)) x.number l.texts);
-      passed : ForBytes (KnowsDirectory v (reported_by l.fn.image) l.fn.workspace x) (λ b.
+      path : ForBytes (LeftForRuns v (reported_by l.fn.image) l.fn.workspace x l.fn.checking.reads_left)
+          (λ b. BeginsPathOf (graph_of (volume_of v b)) x.number l.checking.texts);
+      passed : ForBytes (LeftForRuns v (reported_by l.fn.image) l.fn.workspace x l.fn.checking.reads_left) (λ b.
           after_entries (volume_of v b) x.number (passed_of l.fn.workspace) (roled_entries (volume_of v b) x.number)
           ≡ after_entries (volume_of v b) x.number (passed_of l.workspace) (flat_map roled_chunk (rest b l.chunks)));
-      held : ForBytes (KnowsDirectory v (reported_by l.fn.image) l.fn.workspace x)
+      held : ForBytes (LeftForRuns v (reported_by l.fn.image) l.fn.workspace x l.fn.checking.reads_left)
           (λ b. AreNoted v b l.fn.workspace.queue.items → HoldsReading l.workspace.windows.blocks
           l.workspace.windows.chunk l.chunks);
-      reads : ForBytes (KnowsDirectory v (reported_by l.fn.image) l.fn.workspace x)
+      reads : ForBytes (LeftForRuns v (reported_by l.fn.image) l.fn.workspace x l.fn.checking.reads_left)
           (λ b. AreNoted v b l.fn.workspace.queue.items → g.I.Image.reads l.image + to_read b l.chunks
           + line_reads * length (entries_reported (volume_of v b) x.number (passed_of l.workspace)
           (flat_map roled_chunk (rest b l.chunks)))
           ≤ g.I.Image.reads l.fn.image + report_reads v b x.number (length (entries_reported (volume_of v b) x.number
           (passed_of l.fn.workspace) (roled_entries (volume_of v b) x.number))));
-      said : SaidOf (KnowsDirectory v (reported_by l.fn.image) l.fn.workspace x)
+      spent : ForBytes (LeftForRuns v (reported_by l.fn.image) l.fn.workspace x l.fn.checking.reads_left)
+          (λ b. AreChunksNumbered v → l.fn.checking.reads_left + to_read b l.chunks
+          ≤ l.checking.reads_left + directory_runs v b x.number);
+      unlimited : (AreChunksNumbered v → ⊥) → l.checking.reads_left ≡ l.fn.checking.reads_left;
+      paid : AreChunksNumbered v → Paid {T = Unit {0}} line_reads (progress g.W.Output.sink l.fn.report)
+          (progress g.W.Output.sink l.report) (g.I.Image.reads l.fn.image + l.fn.checking.reads_left)
+          (g.I.Image.reads l.image + l.checking.reads_left) (Ok tt);
+      said : SaidOf (LeftForRuns v (reported_by l.fn.image) l.fn.workspace x l.fn.checking.reads_left)
           (λ b. map of_tree (entries_reported (volume_of v b) x.number (passed_of l.workspace)
           (flat_map roled_chunk (rest b l.chunks))))
           (λ b. map of_tree (entries_reported (volume_of v b) x.number (passed_of l.fn.workspace)

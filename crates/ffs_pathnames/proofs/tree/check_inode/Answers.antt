@@ -1,42 +1,61 @@
-use Rattle.std.proofs.Common.{refl, sym, ap, ◌∙◌, map, []}
+use Rattle.std.proofs.Common.{refl, sym, ap, ◌∙◌, ◌≡◌, ◌==◌, ℕ, List, true, map, [], slice_index, arith}
+use Rattle.ffs_image.specs.Device.{Device}
+use Rattle.ffs_volume.specs.declared.Layout.{Layout}
+use Rattle.ffs_workspace.specs.declared.workspace.Workspace.{Workspace}
+use Rattle.ffs_report.proofs.Paying.{paid_none}
 use Rattle.std.proofs.lemmas.Bool.{and_parts}
 use Rattle.ffs_report.proofs.Reporting.{of_begins, of_same, reports_same, reports_knowing}
 use Rattle.ffs_volume.{specs.Messages.Kinds.of_tree, proofs.Results.on_ok}
 use Rattle.ffs_pathnames.proofs.Carrying.{directory_context, lines_looked, lines_skipped, noted_next, before_skipped}
+use Rattle.ffs_pathnames.specs.ReadsLeft.{LeftForBoth, LeftForNext}
 use Rattle.ffs_pathnames.proofs.tree.check_inode.Goals as goal
+
+-- what is known of a directory that is looked at
+both : {v : Layout} {device : Device} {w : Workspace} {d left : ℕ} {b : List ℕ} →
+    (slice_index w.kinds.items d == 4) ≡ true → LeftForNext v device w d left b → LeftForBoth v device w d left b
+both looked k = record { knows = directory_context looked k.0; passed = k.0.before.passed; enough = k.1 }
 
 pub returns-then-is_checked-clause-text : goal.returns-then-is_checked-clause-text
 returns-then-is_checked-clause-text g c =
     let v = c.args.geometry.now.layout in
     let looked = (and_parts _ _ (sym c.is_checked.ensures ∙ c.if-is_checked.true)).0 in
     reports_same (Unit {0}) _ _ _ _ _ c.check_directory.result
-    (λ b k. sym (ap (map of_tree) (lines_looked looked k.before)))
+    (λ b k. sym (ap (map of_tree) (lines_looked looked k.0.before)))
     (reports_knowing (Unit {0}) _ _ _ _ _ c.check_directory.result
-    (λ b k. (directory_context looked k, k.before.passed)) c.check_directory.ensures.text)
+    (λ b k. (both looked k)) c.check_directory.ensures.text)
 
 pub returns-then-is_checked-clause-before : goal.returns-then-is_checked-clause-before
 returns-then-is_checked-clause-before g c =
     let looked = (and_parts _ _ (sym c.is_checked.ensures ∙ c.if-is_checked.true)).0 in
     on_ok c.check_directory.result _ _
     (λ h b k. noted_next refl c.check_directory.ensures.leaves.survey c.check_directory.ensures.leaves.places
-    (h b (directory_context looked k, k.before.passed)) k)
+    (h b (both looked k)) k.0)
     c.check_directory.ensures.passed
 
 pub returns-clause-text : goal.returns-clause-text
 returns-clause-text g c =
     let v = c.args.geometry.now.layout in
     let other = sym c.is_checked.ensures ∙ c.if-is_checked.false in
-    of_same _ _ (λ b. []) _ _ _ (of_begins _ _ _) (λ b k. lines_skipped c.requires.low other k.before)
+    of_same _ _ (λ b. []) _ _ _ (of_begins _ _ _) (λ b k. lines_skipped c.requires.low other k.0.before)
 
 pub returns-clause-before : goal.returns-clause-before
 returns-clause-before g c = λ b k.
     record {
-      before = before_skipped c.args.geometry.now.sound (sym c.is_checked.ensures ∙ c.if-is_checked.false) k.before;
-      noted = k.noted;
+      before = before_skipped c.args.geometry.now.sound (sym c.is_checked.ensures ∙ c.if-is_checked.false) k.0.before;
+      noted = k.0.noted;
     }
 
 pub returns-then-is_checked-clause-reads : goal.returns-then-is_checked-clause-reads
 returns-then-is_checked-clause-reads g c = λ b k noted.
     let looked = (and_parts _ _ (sym c.is_checked.ensures ∙ c.if-is_checked.true)).0 in
-    rw (lines_looked looked k.before)
-    (c.check_directory.ensures.reads b (directory_context looked k, k.before.passed) noted)
+    rw (lines_looked looked k.0.before)
+    (c.check_directory.ensures.reads b (both looked k) noted)
+
+-- the reads that are left
+pub returns-then-is_checked-clause-kept : goal.returns-then-is_checked-clause-kept
+returns-then-is_checked-clause-kept g c = λ b k.
+    let looked = (and_parts _ _ (sym c.is_checked.ensures ∙ c.if-is_checked.true)).0 in
+    c.check_directory.ensures.kept b (both looked k)
+
+pub returns-clause-paid : goal.returns-clause-paid
+returns-clause-paid g c = λ numbered. paid_none (omega arith)

@@ -1,0 +1,83 @@
+-- What a look at a directory leaves of the image that it was limited on, and of the reads that are
+-- left.
+use Rattle.std.specs.Borrow.{GName}
+use Rattle.std.proofs.Common.{◌≡◌, ◌≤◌, ◌+◌, ℕ, arith, Bool, Option, Some, None, Result, Ok, Err, IfOk, IfSome, MatchResult, MatchOption}
+use Rattle.std.proofs.Common.{◌⊎◌, ◌*◌, ◌-◌, ◌^◌, ◌<◌, inl, inr}
+use Rattle.std.proofs.lemmas.Bool.{cases_lt}
+use Rattle.ffs_volume.specs.declared.constants.TheConstants.{DIRBLKSIZ}
+use Rattle.ffs_workspace.specs.Places.{AreChunksNumbered}
+use Rattle.ffs_survey.specs.Costs.{TakesReads}
+use Rattle.ffs_pathnames.specs.ReadsLeft.{TakesLeft}
+use Rattle.ffs_image.specs.declared.image.ImageFault.{ImageFault}
+use Rattle.ffs_image.specs.{Device.Device, Limited.GivesBack, Limited.limited_device, Reads.ReadAfter}
+use Rattle.ffs_image.proofs.Limits.{ServedBy, read_over, served}
+use Rattle.ffs_names.specs.Windows.{CanReadChunks}
+use Rattle.ffs_volume.specs.declared.Layout.{Layout}
+use Rattle.ffs_walk.specs.declared.{blocks.Blocks.Blocks, window.Window.Window}
+
+-- windows that can be read into for one image can be for another with its bytes and its size
+pub can_read_same : (v : Layout) (d d' : Device) (blocks : Blocks) (chunk : Window) → d'.contents ≡ d.contents →
+    d'.size ≡ d.size → CanReadChunks v d blocks chunk → CanReadChunks v d' blocks chunk
+can_read_same v d d' blocks chunk e size can = record {
+  walk = record { volume = rw size can.walk.volume; room = can.walk.room; holds = rw e can.walk.holds };
+  room = can.room;
+  holds = rw e can.holds;
+}
+
+-- what a look made of the image below, and of the reads that were left for it
+pub record LookedBy {T : Type 0} (lent below : Device) (name_lent name : GName) (reads reads' limit left asked : ℕ)
+    (spent : Bool) (r : Result T ImageFault) : Type 0 where
+  pub served : ServedBy lent below name_lent name reads reads' limit asked spent r
+  pub most : reads' + left ≤ reads + limit
+  pub kept : limit ≤ left + asked
+
+pub looked : {T : Type 0} {lent below : Device} {name_lent name : GName} {reads reads' limit left asked : ℕ} {s : Bool}
+    {above' : Device} {r : Result T ImageFault} →
+    ReadAfter (limited_device lent name_lent reads (Some limit)) above' r →
+    ((d : Device) (given : GName) (before : ℕ) (most : Option ℕ) → above'.lent ≡ (limited_device d given before most).lent →
+    above'.contents ≡ d.contents → above'.size ≡ d.size →
+    GivesBack d below given name before reads' most left asked s (limited_device d given before most) above') →
+    LookedBy lent below name_lent name reads reads' limit left asked s r
+looked {lent = lent} {name_lent = name_lent} {reads = reads} {limit = limit} {above' = above'} {r = r} h back =
+    let over = read_over (limited_device lent name_lent reads (Some limit)) above' r h in
+    let all = back lent name_lent reads (Some limit) over.lent over.contents over.size in
+    record { served = served h back; most = all.most; kept = all.left_of }
+
+-- what was asked of the limited image was taken of the image below
+pub taken_below : {T : Type 0} {r : Result T ImageFault} {reads reads' asked asked' before after : ℕ} {held : Type 0} →
+    TakesReads asked asked' before after held r → asked ≡ 0 → reads' ≤ reads + asked' →
+    TakesReads reads reads' before after held r
+taken_below {r = Ok x} took none few = record {
+  most = omega (arith, took.most, none, few);
+  paid = omega (arith, took.paid, none, few);
+  held = took.held;
+}
+taken_below {r = Err e} took none few = record {
+  most = omega (arith, took.most, none, few);
+  paid = tt;
+  held = tt;
+}
+
+-- and of the reads that were left
+pub taken_left : {T : Type 0} {r : Result T ImageFault} {left left' asked asked' before after : ℕ} {held : Type 0} →
+    TakesReads asked asked' before after held r → asked ≡ 0 → left ≤ left' + asked' → TakesLeft left left' before after r
+taken_left {r = Ok x} took none few = record {
+  most = omega (arith, took.most, none, few);
+  paid = omega (arith, took.paid, none, few);
+}
+taken_left {r = Err e} took none few = record { most = omega (arith, took.most, none, few); paid = tt }
+
+-- a chunk that comes is one less to come
+pub budget_falls : (r : Result (Option ℕ) ImageFault) (old new : ℕ) → MatchResult r
+    (λ o. MatchOption o (new ≡ old) (λ x. new + 1 ≡ old)) (λ e. new ≡ 0)
+    → IfOk r (λ o. IfSome o (λ x. new + 1 ≡ old))
+budget_falls (Ok (Some x)) old new h = h
+budget_falls (Ok None) old new h = tt
+budget_falls (Err e) old new h = tt
+
+-- all chunks are numbered, or not
+pub numbered_or_not : (v : Layout) → AreChunksNumbered v ⊎ (AreChunksNumbered v → ⊥)
+numbered_or_not v = elim (cases_lt (DIRBLKSIZ * (2 ^ 31 - 1)) (v.size * v.fsize)) [
+  | inl over ↦ inr (λ within. omega (arith, over, within))
+  | inr within ↦ inl within
+]

@@ -1,0 +1,107 @@
+use Rattle.std.proofs.Common.{◌∙◌, ◌≡◌, ◌≤◌, ℕ, List, Some, ap, arith, false, sym}
+use Rattle.std.proofs.lemmas.Bool.{both_ways}
+use Rattle.ffs_image.specs.{Device.Device, Limited.reads_asked}
+use Rattle.ffs_image.proofs.Limits.{read_over}
+use Rattle.ffs_names.specs.Costs.{HoldsReading, to_read}
+use Rattle.ffs_pathnames.proofs.Carrying.{if_ok}
+use Rattle.ffs_pathnames.proofs.LimitedLaws.{LookedBy, budget_falls, can_read_same, looked, taken_below, taken_left}
+use Rattle.ffs_pathnames.proofs.reread.next_limited.Given.{Over}
+use Rattle.ffs_pathnames.proofs.reread.next_limited.Goals.{After-is_spent}
+use Rattle.ffs_pathnames.proofs.reread.next_limited.Goals as goal
+
+-- what became of the image below, and of the reads that were left
+after : (g : Over) (c : After-is_spent g) →
+    LookedBy (g.I.Image.device c.args.image.now) (g.I.Image.device c.next-offset.new.image.below.now)
+    c.new-arg-1.given c.next-offset.new.image.below.ghost_name (g.I.Image.reads c.args.image.now)
+    (g.I.Image.reads c.next-offset.new.image.below.now) c.args.reads_left.now c.next-offset.new.image.left
+    (reads_asked c.next-offset.new.image.limit c.next-offset.new.image.left c.next-offset.new.image.spent)
+    c.is_spent.result c.next-offset.result
+after g c = looked (rw c.new-limited.ensures.device at c.next-offset.ensures.leaves.read) c.is_spent.ensures.below
+
+-- the limited image gives the bytes of the one below
+bytes : (g : Over) (c : After-is_spent g) (b : List ℕ) → (g.I.Image.device c.args.image.now).contents ≡ Some b →
+    (g.I.Image.device c.new-limited.result.begins.value).contents ≡ Some b
+bytes g c b t = ap (λ (d : Device). d.contents) c.new-limited.ensures.device ∙ t
+
+-- no read of known bytes is refused
+answered : (g : Over) (c : After-is_spent g) (b : List ℕ) → (g.I.Image.device c.args.image.now).contents ≡ Some b →
+    HoldsReading c.args.windows.now.blocks c.args.windows.now.chunk c.args.chunks.now →
+    to_read b c.args.chunks.now ≤ c.args.reads_left.now → c.is_spent.result ≡ false
+answered g c b t held enough =
+    let asked = (c.next-offset.ensures.reads held b (bytes g c b t)).most in
+    (after g c).served.few (omega (arith, asked, c.new-limited.ensures.asked, enough))
+
+pub returns-then-is_spent-clause-chunk : goal.returns-then-is_spent-clause-chunk
+returns-then-is_spent-clause-chunk g c = λ b t held enough.
+    let at = (goal.at.returns-then-is_spent-clause-chunk g c).After-is_spent in
+    absurd (both_ways _ (answered g at b t held enough) c.if-is_spent.true)
+
+pub returns-then-is_spent-clause-reads : goal.returns-then-is_spent-clause-reads
+returns-then-is_spent-clause-reads g c = λ held b t enough.
+    let at = (goal.at.returns-then-is_spent-clause-reads g c).After-is_spent in
+    absurd (both_ways _ (answered g at b t held enough) c.if-is_spent.true)
+
+pub returns-then-is_spent-clause-kept : goal.returns-then-is_spent-clause-kept
+returns-then-is_spent-clause-kept g c = λ held b t enough.
+    let at = (goal.at.returns-then-is_spent-clause-kept g c).After-is_spent in
+    absurd (both_ways _ (answered g at b t held enough) c.if-is_spent.true)
+
+pub returns-then-is_spent-clause-most : goal.returns-then-is_spent-clause-most
+returns-then-is_spent-clause-most g c =
+    let back = after g (goal.at.returns-then-is_spent-clause-most g c).After-is_spent in
+    let image = c.image-1.given.1 back.served.same_image ∙ c.drop-limited.ensures.below in
+    rw (image, c.left.ensures.value) back.most
+
+pub returns-then-is_spent-clause-leaves : goal.returns-then-is_spent-clause-leaves
+returns-then-is_spent-clause-leaves g c =
+    let back = after g (goal.at.returns-then-is_spent-clause-leaves g c).After-is_spent in
+    let left = c.next-offset.ensures.leaves in
+    let image = c.image-1.given.1 back.served.same_image ∙ c.drop-limited.ensures.below in
+    let over = read_over _ _ c.next-offset.result (rw c.new-limited.ensures.device at left.read) in
+    rw image (record {
+      geometry = left.geometry;
+      ready = can_read_same _ _ _ _ _ (back.served.contents ∙ sym over.contents)
+          (back.served.size ∙ sym over.size) left.ready;
+      read = back.served.refused c.if-is_spent.true;
+    })
+
+pub returns-clause-chunk : goal.returns-clause-chunk
+returns-clause-chunk g c =
+    let at = (goal.at.returns-clause-chunk g c).After-is_spent in
+    if_ok c.next-offset.result _ _ (λ o h b t held enough. h b (bytes g at b t)) c.next-offset.ensures.chunk
+
+pub returns-clause-budget : goal.returns-clause-budget
+returns-clause-budget g c = budget_falls c.next-offset.result _ _ c.next-offset.ensures.budget
+
+pub returns-clause-reads : goal.returns-clause-reads
+returns-clause-reads g c = λ held b t enough.
+    let at = (goal.at.returns-clause-reads g c).After-is_spent in
+    let back = after g at in
+    let image = c.image-2-1.given.1 back.served.same_image ∙ c.drop-limited-2.ensures.below in
+    rw image (taken_below (c.next-offset.ensures.reads held b (bytes g at b t)) c.new-limited.ensures.asked
+    back.served.as_asked)
+
+pub returns-clause-kept : goal.returns-clause-kept
+returns-clause-kept g c = λ held b t enough.
+    let at = (goal.at.returns-clause-kept g c).After-is_spent in
+    rw c.left.ensures.value (taken_left (c.next-offset.ensures.reads held b (bytes g at b t))
+    c.new-limited.ensures.asked (after g at).kept)
+
+pub returns-clause-most : goal.returns-clause-most
+returns-clause-most g c =
+    let back = after g (goal.at.returns-clause-most g c).After-is_spent in
+    let image = c.image-2-1.given.1 back.served.same_image ∙ c.drop-limited-2.ensures.below in
+    rw (image, c.left.ensures.value) back.most
+
+pub returns-clause-leaves : goal.returns-clause-leaves
+returns-clause-leaves g c =
+    let back = after g (goal.at.returns-clause-leaves g c).After-is_spent in
+    let left = c.next-offset.ensures.leaves in
+    let image = c.image-2-1.given.1 back.served.same_image ∙ c.drop-limited-2.ensures.below in
+    let over = read_over _ _ c.next-offset.result (rw c.new-limited.ensures.device at left.read) in
+    rw image (record {
+      geometry = left.geometry;
+      ready = can_read_same _ _ _ _ _ (back.served.contents ∙ sym over.contents)
+          (back.served.size ∙ sym over.size) left.ready;
+      read = back.served.read c.if-is_spent.false;
+    })
