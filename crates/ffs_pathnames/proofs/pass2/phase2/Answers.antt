@@ -10,6 +10,8 @@ use Rattle.ffs_pathnames.proofs.pass2.phase2.Given.{Over}
 use Rattle.ffs_pathnames.proofs.pass2.phase2.Goals.{After-check_tree}
 use Rattle.ffs_names.proofs.RunSums.{costs_bounded}
 use Rattle.ffs_workspace.specs.Holds.{HoldsClaims}
+use Rattle.ffs_report.proofs.Paying.{paid_text, paid_then}
+use Rattle.ffs_pathnames.proofs.PaidLaws.{paid_said}
 use Rattle.ffs_pathnames.proofs.pass2.phase2.Goals as goal
 
 -- what is known before the first directory
@@ -100,3 +102,16 @@ returns-clause-reads g c = λ b k numbered.
     let before = before_tree g (goal.at.returns-clause-reads g c).After-check_tree b k.0 k.1 in
     let rest = c.check_tree.ensures.reads b before numbered in
     omega (arith, once, most, runs, rest)
+
+-- what was read for messages
+pub returns-in_err-say-clause-paid : goal.returns-in_err-say-clause-paid
+returns-in_err-say-clause-paid g c = λ numbered. paid_text _ _ _ (returns-in_err-say-clause-text g c) (omega arith)
+
+pub returns-in_err-survey-clause-paid : goal.returns-in_err-survey-clause-paid
+returns-in_err-survey-clause-paid g c = λ numbered.
+    paid_text _ _ _ (returns-in_err-survey-clause-text g c) (omega (arith, c.survey.ensures.most))
+
+pub returns-clause-paid : goal.returns-clause-paid
+returns-clause-paid g c = λ numbered.
+    paid_then (paid_said (phase2 ∷ []) c.in_ok-say.ensures.said (omega (arith, c.survey.ensures.most)))
+    (c.check_tree.ensures.paid numbered)
