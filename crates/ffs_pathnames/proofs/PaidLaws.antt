@@ -1,5 +1,5 @@
 -- What was read for messages, beside what is left for looks at directories.
-use Rattle.std.proofs.Common.{◌≤◌, ◌+◌, ◌*◌, ℕ, arith, refl, List, length, Result, Ok}
+use Rattle.std.proofs.Common.{◌≤◌, ◌+◌, ℕ, arith, refl, List, length, Result, Ok}
 use Rattle.ffs_volume.specs.Messages.Kinds.{Message}
 use Rattle.ffs_report.specs.{Progress.Progress, Progress.Said, Paid.Paid}
 use Rattle.ffs_report.specs.declared.fault.RunFault.{RunFault}

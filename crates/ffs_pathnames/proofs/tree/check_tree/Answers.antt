@@ -11,7 +11,7 @@ use Rattle.ffs_volume.{proofs.Sizes.some_inodes, specs.Encodings.Kinds.is_dir_ki
 use Rattle.ffs_volume.specs.{Report.Reads.line_reads, Messages.Kinds.of_tree, Directories.PathnameCheck.pathname_lines}
 use Rattle.ffs_report.proofs.Reporting.{of_begins, of_says, of_stops, of_part, of_fault}
 use Rattle.ffs_report.proofs.Paying.{paid_answer, paid_fault, paid_text, paid_then}
-use Rattle.ffs_pathnames.proofs.PaidLaws.{paid_said}
+use Rattle.ffs_pathnames.{specs.declared.pass2.Root.Root, proofs.Begun.image_same, proofs.PaidLaws.paid_said}
 use Rattle.ffs_pathnames.proofs.tree.check_tree.Goals as goal
 
 -- what the kind of the root that was read says
@@ -94,6 +94,17 @@ returns-in_ok-check_inodes-in-Go-clause-goes g c = λ b k.
 
 pub returns-in-Stop-clause-holds : goal.returns-in-Stop-clause-holds
 returns-in-Stop-clause-holds g c = λ b k. (k.claims, k.survey)
+
+pub returns-in_err-check_inodes-in-Go-clause-leaves : goal.returns-in_err-check_inodes-in-Go-clause-leaves
+returns-in_err-check_inodes-in-Go-clause-leaves g c =
+    let left = c.in_err-check_inodes-in-Go.ensures.leaves in
+    let p = err_from_is_err_and c.from_residual-in_err-check_inodes-in-Go.result
+    c.from_residual-in_err-check_inodes-in-Go.ensures.1 in
+    rw (p.1, p.2) (record {
+      image = image_same (Unit {0}) Root _ _ _ c.in_err-check_inodes-in-Go.field-0.0 refl left.image;
+      references = left.references;
+      ready = left.ready;
+    })
 
 -- the reads
 reads_few : (g : Over) (c : After-check_inodes g) (b : List ℕ) →
