@@ -2,7 +2,7 @@
 -- left.
 use Rattle.std.specs.Borrow.{GName}
 use Rattle.std.proofs.Common.{◌≡◌, ◌≤◌, ◌+◌, ℕ, arith, Bool, Option, Some, None, Result, Ok, Err, IfOk, IfSome, MatchResult, MatchOption}
-use Rattle.std.proofs.Common.{◌⊎◌, ◌*◌, ◌-◌, ◌^◌, ◌<◌, inl, inr}
+use Rattle.std.proofs.Common.{◌⊎◌, ◌*◌, ◌-◌, ◌^◌, inl, inr}
 use Rattle.std.proofs.lemmas.Bool.{cases_lt}
 use Rattle.ffs_volume.specs.declared.constants.TheConstants.{DIRBLKSIZ}
 use Rattle.ffs_workspace.specs.Places.{AreChunksNumbered}

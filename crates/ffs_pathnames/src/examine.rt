@@ -10,8 +10,8 @@ use crate::directory::{Directory, FirstLook, look_directory};
 use crate::inodes::Inodes;
 use ffs_image::{Image, ImageFault, LimitedImage};
 use ffs_layout::Geometry;
-use ffs_volume::constants::DIRBLKSIZ;
 use ffs_volume::Inode;
+use ffs_volume::constants::DIRBLKSIZ;
 use ffs_workspace::Workspace;
 
 /// What an examination of a directory finds, before anything is reported of it.

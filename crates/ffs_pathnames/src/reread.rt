@@ -72,12 +72,7 @@ fn next_limited<I: Image>(
         (I.device image.new) windows.new.blocks windows.new.chunk result }
 {
     let mut limited = LimitedImage::new(image, Some(*reads_left));
-    let offset = chunks.next(
-        &mut limited,
-        &mut windows.blocks,
-        &mut windows.chunk,
-        bytes,
-    );
+    let offset = chunks.next(&mut limited, &mut windows.blocks, &mut windows.chunk, bytes);
     *reads_left = limited.left();
     if limited.is_spent() {
         return Ok(None);

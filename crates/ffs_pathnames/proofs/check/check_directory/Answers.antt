@@ -73,12 +73,15 @@ returns-clause-text g c =
     (said_knows _ _ _ _ _ _ (first g at) c.in_ok-examined.ensures.text))
     (λ b k. refl)
     (reports_knowing _ _ _ _ _ _ c.report_directory.result
-    (λ b k. ((
-      knows_on v _ _ c.args.workspace.now c.begin_directory.new.workspace c.args.dir b
-          (ap (λ d. d.contents) c.in_ok-examined.ensures.leaves.image) c.in_ok-examined.ensures.leaves.survey
-          c.in_ok-examined.ensures.leaves.places k.knows,
-      (c.in_ok-examined.ensures.begun b (first g at b k)).inode,
-    ), second g at b k))
+    (λ b k. (
+      (
+        knows_on v _ _ c.args.workspace.now c.begin_directory.new.workspace c.args.dir b
+            (ap (λ d. d.contents) c.in_ok-examined.ensures.leaves.image) c.in_ok-examined.ensures.leaves.survey
+            c.in_ok-examined.ensures.leaves.places k.knows,
+        (c.in_ok-examined.ensures.begun b (first g at b k)).inode,
+      ),
+      second g at b k,
+    ))
     c.report_directory.ensures.text)
 
 pub returns-clause-passed : goal.returns-clause-passed
@@ -89,12 +92,15 @@ returns-clause-passed g c =
     (λ p b k. reported_after (volume_of v b) c.args.dir (passed_of c.args.workspace.now)
     (passed_of c.begin_directory.new.workspace) (passed_of c.report_directory.new.workspace)
     (directory_is (volume_of v b) c.args.dir c.requires.dir k.knows.dir) k.passed (c.in_ok-examined.ensures.begun b (first g at b k)).passed
-    (p b ((
-      knows_on v _ _ c.args.workspace.now c.begin_directory.new.workspace c.args.dir b
-          (ap (λ d. d.contents) c.in_ok-examined.ensures.leaves.image) c.in_ok-examined.ensures.leaves.survey
-          c.in_ok-examined.ensures.leaves.places k.knows,
-      (c.in_ok-examined.ensures.begun b (first g at b k)).inode,
-    ), second g at b k)))
+    (p b (
+      (
+        knows_on v _ _ c.args.workspace.now c.begin_directory.new.workspace c.args.dir b
+            (ap (λ d. d.contents) c.in_ok-examined.ensures.leaves.image) c.in_ok-examined.ensures.leaves.survey
+            c.in_ok-examined.ensures.leaves.places k.knows,
+        (c.in_ok-examined.ensures.begun b (first g at b k)).inode,
+      ),
+      second g at b k,
+    )))
     c.report_directory.ensures.passed
 
 pub returns-clause-leaves : goal.returns-clause-leaves
@@ -135,11 +141,14 @@ returns-clause-reads g c = λ b k noted.
     (length (entries_reported (volume_of v b) c.args.dir m (roled_entries (volume_of v b) c.args.dir)))
     (length (sized_dir_lines (volume_of v b) c.args.dir))
     (c.begin_directory.ensures.reads b (first g at b k) noted)
-    (c.report_directory.ensures.reads b ((
-      knows_on v _ _ c.args.workspace.now c.begin_directory.new.workspace c.args.dir b
-          (ap (λ d. d.contents) left.image) left.survey left.places k.knows,
-      begun.inode,
-    ), second g at b k) (noted_kept v b c.args.workspace.now.queue.items c.begin_directory.new.workspace.queue.items left.places noted))
+    (c.report_directory.ensures.reads b (
+      (
+        knows_on v _ _ c.args.workspace.now c.begin_directory.new.workspace c.args.dir b
+            (ap (λ d. d.contents) left.image) left.survey left.places k.knows,
+        begun.inode,
+      ),
+      second g at b k,
+    ) (noted_kept v b c.args.workspace.now.queue.items c.begin_directory.new.workspace.queue.items left.places noted))
     (cost_of_dir v b c.args.dir k.knows.dir)
     (lines_long _ _ _ (reported_parts (volume_of v b) c.args.dir (passed_of c.args.workspace.now) m
     (directory_is (volume_of v b) c.args.dir c.requires.dir k.knows.dir) k.passed begun.passed))
@@ -152,11 +161,14 @@ returns-clause-kept g c = λ b k.
     let left = c.in_ok-examined.ensures.leaves in
     let begun = c.in_ok-examined.ensures.begun b (first g at b k) in
     let one = c.begin_directory.ensures.kept b (first g at b k) in
-    let two = c.report_directory.ensures.kept b ((
-      knows_on v _ _ c.args.workspace.now c.begin_directory.new.workspace c.args.dir b
-          (ap (λ d. d.contents) left.image) left.survey left.places k.knows,
-      begun.inode,
-    ), second g at b k) in
+    let two = c.report_directory.ensures.kept b (
+      (
+        knows_on v _ _ c.args.workspace.now c.begin_directory.new.workspace c.args.dir b
+            (ap (λ d. d.contents) left.image) left.survey left.places k.knows,
+        begun.inode,
+      ),
+      second g at b k,
+    ) in
     omega (arith, one, two, cost_of_dir v b c.args.dir k.knows.dir)
 
 pub returns-in_err-examined-clause-kept : goal.returns-in_err-examined-clause-kept

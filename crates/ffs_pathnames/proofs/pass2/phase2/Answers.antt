@@ -1,7 +1,5 @@
 use Rattle.std.proofs.Common.{[], ◌∷◌, List, ℕ, map, refl, ap, ◌∙◌, inl, inr, arith, ◌≡◌, Some}
 use Rattle.std.proofs.lemmas.Result.{err_from_is_err_and}
-use Rattle.ffs_report.proofs.Paying.{paid_failed, paid_then}
-use Rattle.ffs_pathnames.proofs.PaidLaws.{paid_broken, paid_free}
 use Rattle.ffs_report.proofs.Reporting.{of_begins, of_says, of_stops, of_reads, of_last, reports_knowing}
 use Rattle.ffs_volume.specs.{Messages.Kinds.of_tree, Messages.Kinds.phase2, Directories.PathnameCheck.pathname_lines}
 use Rattle.ffs_volume.{specs.Directories.Volumes.volume_of, proofs.RunBounds.runs_bounded, proofs.Results.on_ok}
@@ -12,6 +10,8 @@ use Rattle.ffs_pathnames.proofs.pass2.phase2.Given.{Over}
 use Rattle.ffs_pathnames.proofs.pass2.phase2.Goals.{After-check_tree}
 use Rattle.ffs_names.proofs.RunSums.{costs_bounded}
 use Rattle.ffs_workspace.specs.Holds.{HoldsClaims}
+use Rattle.ffs_report.proofs.Paying.{paid_text, paid_then}
+use Rattle.ffs_pathnames.proofs.PaidLaws.{paid_said}
 use Rattle.ffs_pathnames.proofs.pass2.phase2.Goals as goal
 
 -- what is known before the first directory
@@ -103,20 +103,15 @@ returns-clause-reads g c = λ b k numbered.
     let rest = c.check_tree.ensures.reads b before numbered in
     omega (arith, once, most, runs, rest)
 
+-- what was read for messages
 pub returns-in_err-say-clause-paid : goal.returns-in_err-say-clause-paid
-returns-in_err-say-clause-paid g c = λ numbered.
-    let p = err_from_is_err_and c.from_residual.result c.from_residual.ensures.1 in
-    rw (p.1, p.2) (paid_broken _ _ c.in_err-say.ensures.said (omega arith))
+returns-in_err-say-clause-paid g c = λ numbered. paid_text _ _ _ (returns-in_err-say-clause-text g c) (omega arith)
 
 pub returns-in_err-survey-clause-paid : goal.returns-in_err-survey-clause-paid
 returns-in_err-survey-clause-paid g c = λ numbered.
-    let p = err_from_is_err_and c.from_residual-in_err-survey.result c.from_residual-in_err-survey.ensures.1 in
-    let most = c.survey.ensures.most in
-    rw (p.1, p.2) (paid_then {between = g.I.Image.reads c.survey.new.image}
-    (paid_free {T = Unit {0}} tt _ c.in_ok-say.ensures.said (omega (arith, most))) (paid_failed (omega arith)))
+    paid_text _ _ _ (returns-in_err-survey-clause-text g c) (omega (arith, c.survey.ensures.most))
 
 pub returns-clause-paid : goal.returns-clause-paid
 returns-clause-paid g c = λ numbered.
-    let most = c.survey.ensures.most in
-    paid_then (paid_free {T = Unit {0}} tt _ c.in_ok-say.ensures.said (omega (arith, most)))
+    paid_then (paid_said (phase2 ∷ []) c.in_ok-say.ensures.said (omega (arith, c.survey.ensures.most)))
     (c.check_tree.ensures.paid numbered)

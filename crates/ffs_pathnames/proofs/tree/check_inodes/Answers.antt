@@ -12,7 +12,26 @@ use Rattle.ffs_pathnames.proofs.Skipping.{before_unseen, lines_unseen, noted_bef
 use Rattle.ffs_pathnames.proofs.LineCounts.{checked_on}
 use Rattle.ffs_survey.{specs.Costs.costs_all, proofs.Costs.cost_take, proofs.Costs.costs_rise}
 use Rattle.ffs_names.specs.Costs.{directories_cost, directory_cost}
+use Rattle.ffs_names.proofs.Limits.{costs_within}
+use Rattle.ffs_report.proofs.Paying.{paid_failed, paid_none, paid_then, paid_within}
+use Rattle.ffs_pathnames.specs.{Before.IsBefore, ReadsLeft.LeftForNext}
+use Rattle.ffs_report.specs.PhaseOutcome.{ImageAfter}
+use Rattle.ffs_pathnames.proofs.tree.check_inodes.Given.{Over}
+use Rattle.ffs_pathnames.proofs.tree.check_inodes.Goals.{After-check_inode}
 use Rattle.ffs_pathnames.proofs.tree.check_inodes.Goals as goal
+
+-- what is known before an inode, and what is left suffices for it
+next : (g : Over) (c : After-check_inode g) (b : List ℕ) → IsBefore c.args.geometry.now.layout
+    (g.I.Image.device c.args.image.now).contents c.args.workspace.now 2 b →
+    LeftForNext c.args.geometry.now.layout (g.I.Image.device c.loop-number.image) c.loop-number.workspace
+    c.loop-number.number c.loop-number.checking.reads_left b
+next g c b k =
+    let v = c.args.geometry.now.layout in
+    let inv = c.loop-number.invariant in
+    let n = c.loop-number.number in
+    let taken = cost_take (λ s. true) (directory_cost v b) n refl in
+    let rise = costs_rise (λ s. true) (directory_cost v b) (n + 1) (inodes_of v) (omega arith) in
+    (noted_reported (ap (λ d. d.contents) inv.device) (inv.before b k), omega (arith, inv.left b k, taken, rise))
 
 pub first_checked-first-requires-clause-some : goal.first_checked-first-requires-clause-some
 first_checked-first-requires-clause-some g c =
@@ -43,7 +62,7 @@ loop-number-init g c =
     let noted = c.in_ok-note_places.ensures in
     let all = λ (b : List ℕ). map of_tree (lines_from (directory_lines (volume_of v b)) 2 (inodes_of v - 2)) in
     record {
-      ready = record { ready = noted.ready; kept_parent = c.none-texts.ensures _ _ _ };
+      ready = record { ready = noted.ready; kept_parent = c.none.ensures _ _ _ };
       device = noted.read;
       low = first.ensures.range.0;
       references = ap (λ (w : Workspace). w.references) noted.lists;
@@ -54,6 +73,10 @@ loop-number-init g c =
           (lines_from (directory_lines (volume_of v b)) first.result (inodes_of v - first.result))
           (lines_unseen v _ _ b first.result (inodes_of v) c.args.geometry.now.sound first.ensures.range.0
           first.ensures.range.1 first.ensures.before k)) (omega (arith, made));
+      left = λ b k.
+          let within = costs_within v b c.args.geometry.now.sound in
+          omega (arith, within, c.sweep_reads.ensures);
+      paid = λ numbered. paid_none (omega (arith, noted.most, c.sweep_reads.ensures));
       before = λ b k. record {
         before = noted_before v _ _ _ _ first.result b first.ensures.range.0 refl noted.lists noted.ready.made
             (noted.places b k.gives_bytes k.claims k.survey) noted.none_due
@@ -76,11 +99,12 @@ returns-in_err-check_inode-clause-text g c =
     rw (p.1, p.2) (of_fault (Unit {0}) (Unit {0}) _ _ _ _ _ _ _ _ c.in_err-check_inode.field-0.0 inv.said
     (λ b k. from_next (directory_lines (volume_of v b)) n (inodes_of v) (omega arith))
     (reports_knowing (Unit {0}) _ _ _ _ _ (Err c.in_err-check_inode.field-0.0)
-    (λ b k. noted_reported (ap (λ d. d.contents) inv.device) (inv.before b k))
+    (next g (goal.at.returns-in_err-check_inode-clause-text g c).After-check_inode)
     c.in_err-check_inode.ensures.text))
 
 pub loop-number-preserved : goal.loop-number-preserved
 loop-number-preserved g c =
+    let at = (goal.at.loop-number-preserved g c).After-check_inode in
     let v = c.args.geometry.now.layout in
     let inv = c.loop-number.invariant in
     let n = c.loop-number.number in
@@ -97,18 +121,35 @@ loop-number-preserved g c =
           (costs_all (directory_cost v b) n) (directory_cost v b n) (g.I.Image.reads c.args.image.now) (length (lines
           n))
           (length (lines_from lines (n + 1) (inodes_of v - (n + 1)))) (length (lines_from lines 2 (inodes_of v - 2)))
-          (c.check_inode.ensures.reads b
-          (noted_reported (ap (λ d. d.contents) inv.device) (inv.before b k)) ((inv.before b k).noted numbered))
+          (c.check_inode.ensures.reads b (next g at b k) ((inv.before b k).noted numbered))
           (rw (next_long lines n (inodes_of v) (omega arith)) at (inv.reads b k numbered)));
+      left = λ b k.
+          let taken = cost_take (λ s. true) (directory_cost v b) n refl in
+          let kept = c.check_inode.ensures.kept b (next g at b k) in
+          omega (arith, inv.left b k, taken, kept);
+      paid = λ numbered. paid_then (inv.paid numbered) (ok.paid numbered);
       before = λ b k. subst (λ d. IsBeforeNoted v (g.I.Image.device c.args.image.now).contents c.check_inode.new.workspace d
           b) q
           (noted_reported (sym (ap (λ d. d.contents) inv.device))
-          (ok.before b (noted_reported (ap (λ d. d.contents) inv.device) (inv.before b k))));
+          (ok.before b (next g at b k)));
       said = of_part _ _ _ _ _ _ _ _ inv.said
           (λ b k. from_next (directory_lines (volume_of v b)) n (inodes_of v) (omega arith))
           (said_knows _ _ _ _ _ _
-          (λ b k. noted_reported (ap (λ d. d.contents) inv.device) (inv.before b k)) ok.text);
+          (next g at) ok.text);
     }
+
+pub returns-in_err-check_inode-clause-leaves : goal.returns-in_err-check_inode-clause-leaves
+returns-in_err-check_inode-clause-leaves g c =
+    let p = err_from_is_err_and c.from_residual-in_err-check_inode.result
+    c.from_residual-in_err-check_inode.ensures.1 in
+    let inv = c.loop-number.invariant in
+    let left = c.in_err-check_inode.ensures.leaves in
+    rw (p.1, p.2) (record {
+      image = subst (λ d. ImageAfter {T = Unit {0}} d (g.I.Image.device c.check_inode.new.image)
+          (Err c.in_err-check_inode.field-0.0)) inv.device left.image;
+      references = left.survey.references ∙ inv.references;
+      ready = left.ready;
+    })
 
 pub returns-clause-text : goal.returns-clause-text
 returns-clause-text g c =
@@ -137,6 +178,7 @@ returns-in_err-note_places-clause-reads g c = λ b k numbered.
 
 pub returns-in_err-check_inode-clause-reads : goal.returns-in_err-check_inode-clause-reads
 returns-in_err-check_inode-clause-reads g c = λ b k numbered.
+    let at = (goal.at.returns-in_err-check_inode-clause-reads g c).After-check_inode in
     let v = c.args.geometry.now.layout in
     let inv = c.loop-number.invariant in
     let n = c.loop-number.number in
@@ -144,8 +186,7 @@ returns-in_err-check_inode-clause-reads g c = λ b k numbered.
     let last = checked_on line_reads _ _ (directories_cost v b)
     (costs_all (directory_cost v b) n) (directory_cost v b n) (g.I.Image.reads c.args.image.now) (length (lines n))
     (length (lines_from lines (n + 1) (inodes_of v - (n + 1)))) (length (lines_from lines 2 (inodes_of v - 2)))
-    (c.check_inode.ensures.reads b
-    (noted_reported (ap (λ d. d.contents) inv.device) (inv.before b k)) ((inv.before b k).noted numbered))
+    (c.check_inode.ensures.reads b (next g at b k) ((inv.before b k).noted numbered))
     (rw (next_long lines n (inodes_of v) (omega arith)) at (inv.reads b k numbered)) in
     let taken = cost_take (λ s. true) (directory_cost v b) n refl in
     let rise = costs_rise (λ s. true) (directory_cost v b) (n + 1) (inodes_of v) (omega arith) in
@@ -158,3 +199,24 @@ returns-clause-reads g c = λ b k numbered.
     let now = c.loop-number.invariant.reads b k numbered in
     let rise = costs_rise (λ s. true) (directory_cost v b) n (inodes_of v) (omega arith) in
     omega (arith, now, rise)
+
+-- what was read for messages
+pub returns-then-first-count-clause-paid : goal.returns-then-first-count-clause-paid
+returns-then-first-count-clause-paid g c = λ numbered. paid_none (omega arith)
+
+pub returns-in_err-note_places-clause-paid : goal.returns-in_err-note_places-clause-paid
+returns-in_err-note_places-clause-paid g c = λ numbered.
+    let p = err_from_is_err_and c.from_residual.result c.from_residual.ensures.1 in
+    let most = c.note_places.ensures.most in
+    rw (p.1, p.2) (paid_failed (omega (arith, most)))
+
+pub returns-in_err-check_inode-clause-paid : goal.returns-in_err-check_inode-clause-paid
+returns-in_err-check_inode-clause-paid g c = λ numbered.
+    let p = err_from_is_err_and c.from_residual-in_err-check_inode.result
+    c.from_residual-in_err-check_inode.ensures.1 in
+    let all = paid_then (c.loop-number.invariant.paid numbered) (c.in_err-check_inode.ensures.paid numbered) in
+    rw (p.1, p.2) (paid_within all (omega arith) (omega arith))
+
+pub returns-clause-paid : goal.returns-clause-paid
+returns-clause-paid g c = λ numbered.
+    paid_within (c.loop-number.invariant.paid numbered) (omega arith) (omega arith)

@@ -9,9 +9,9 @@ use Rattle.ffs_pathnames.proofs.tree.check_tree.Given.{Over}
 use Rattle.ffs_pathnames.proofs.tree.check_tree.Goals.{After-report_root, After-check_inodes}
 use Rattle.ffs_volume.{proofs.Sizes.some_inodes, specs.Encodings.Kinds.is_dir_kind, specs.Directories.Volumes.volume_of}
 use Rattle.ffs_volume.specs.{Report.Reads.line_reads, Messages.Kinds.of_tree, Directories.PathnameCheck.pathname_lines}
-use Rattle.ffs_report.proofs.Paying.{paid_answer, paid_fault, paid_then}
-use Rattle.ffs_pathnames.proofs.PaidLaws.{paid_broken, paid_free}
 use Rattle.ffs_report.proofs.Reporting.{of_begins, of_says, of_stops, of_part, of_fault}
+use Rattle.ffs_report.proofs.Paying.{paid_answer, paid_fault, paid_text, paid_then}
+use Rattle.ffs_pathnames.{specs.declared.pass2.Root.Root, proofs.Begun.image_same, proofs.PaidLaws.paid_said}
 use Rattle.ffs_pathnames.proofs.tree.check_tree.Goals as goal
 
 -- what the kind of the root that was read says
@@ -95,6 +95,17 @@ returns-in_ok-check_inodes-in-Go-clause-goes g c = λ b k.
 pub returns-in-Stop-clause-holds : goal.returns-in-Stop-clause-holds
 returns-in-Stop-clause-holds g c = λ b k. (k.claims, k.survey)
 
+pub returns-in_err-check_inodes-in-Go-clause-leaves : goal.returns-in_err-check_inodes-in-Go-clause-leaves
+returns-in_err-check_inodes-in-Go-clause-leaves g c =
+    let left = c.in_err-check_inodes-in-Go.ensures.leaves in
+    let p = err_from_is_err_and c.from_residual-in_err-check_inodes-in-Go.result
+    c.from_residual-in_err-check_inodes-in-Go.ensures.1 in
+    rw (p.1, p.2) (record {
+      image = image_same (Unit {0}) Root _ _ _ c.in_err-check_inodes-in-Go.field-0.0 refl left.image;
+      references = left.references;
+      ready = left.ready;
+    })
+
 -- the reads
 reads_few : (g : Over) (c : After-check_inodes g) (b : List ℕ) →
     map of_tree (pathname_lines (volume_of c.args.geometry.now.layout b))
@@ -123,23 +134,22 @@ returns-in_ok-check_inodes-in-Go-clause-reads g c = λ b k.
     let at = goal.at.returns-in_ok-check_inodes-in-Go-clause-reads g c in
     reads_few g at.After-check_inodes b (lines_are g at.After-report_root b true k.claims c.in-Go.ensures) k
 
+-- what was read for messages
 pub returns-in_err-report_root-clause-paid : goal.returns-in_err-report_root-clause-paid
 returns-in_err-report_root-clause-paid g c = λ numbered.
-    let p = err_from_is_err_and c.from_residual.result c.from_residual.ensures.1 in
-    rw (p.1, p.2) (paid_broken _ _ c.in_err-report_root.ensures (omega arith))
+    paid_text _ _ _ (returns-in_err-report_root-clause-text g c) (omega arith)
 
 pub returns-in-Stop-clause-paid : goal.returns-in-Stop-clause-paid
-returns-in-Stop-clause-paid g c = λ numbered.
-    paid_free _ _ c.in_ok-report_root.ensures (omega arith)
+returns-in-Stop-clause-paid g c = λ numbered. paid_text _ _ _ (returns-in-Stop-clause-text g c) (omega arith)
 
 pub returns-in_err-check_inodes-in-Go-clause-paid : goal.returns-in_err-check_inodes-in-Go-clause-paid
 returns-in_err-check_inodes-in-Go-clause-paid g c = λ numbered.
     let p = err_from_is_err_and c.from_residual-in_err-check_inodes-in-Go.result
     c.from_residual-in_err-check_inodes-in-Go.ensures.1 in
     rw (p.1, p.2) (paid_fault c.in_err-check_inodes-in-Go.field-0.0
-    (paid_then (paid_free {T = Unit {0}} tt _ c.in_ok-report_root.ensures (omega arith)) (c.in_err-check_inodes-in-Go.ensures.paid numbered)))
+    (paid_then (paid_said _ c.in_ok-report_root.ensures (omega arith)) (c.in_err-check_inodes-in-Go.ensures.paid numbered)))
 
 pub returns-in_ok-check_inodes-in-Go-clause-paid : goal.returns-in_ok-check_inodes-in-Go-clause-paid
 returns-in_ok-check_inodes-in-Go-clause-paid g c = λ numbered.
-    paid_answer (paid_then (paid_free {T = Unit {0}} tt _ c.in_ok-report_root.ensures (omega arith))
+    paid_answer (paid_then (paid_said _ c.in_ok-report_root.ensures (omega arith))
     (c.in_ok-check_inodes-in-Go.ensures.paid numbered))
