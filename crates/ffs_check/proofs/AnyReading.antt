@@ -1,5 +1,5 @@
 -- How often a check reads any image, from the phases to the whole.
-use Rattle.std.proofs.Common.{◌≡◌, ◌≤◌, ◌+◌, ◌*◌, ℕ, suc, false, inl, inr, ap, sym, ◌∙◌, arith, List, [], ◌∷◌, ◌++◌, length}
+use Rattle.std.proofs.Common.{◌≡◌, ◌≤◌, ◌+◌, ◌*◌, ℕ, Bool, suc, false, refl, inl, inr, ap, sym, ◌∙◌, arith, List, [], ◌∷◌, ◌++◌, length}
 use Rattle.std.proofs.Common.{length-append, Option, Ok, Err, subst, Result}
 use Rattle.std.proofs.Math.Nat.{mul-le-mul_left}
 use Rattle.std.specs.Borrow.{GName}
@@ -29,31 +29,32 @@ priced v n m before after most few =
     let more = mul-le-mul_left (line_reads + 1) few in omega (arith, most, more)
 
 -- phase 1 was said, and then phase 1b, or nothing
-pub scan_paid : {T U V : Type 0} (v : Layout) {knows knows' : List ℕ → Type 0} {all all' : List ℕ → List Message}
-    {a b c : Progress} {before first after runs : ℕ} (x : T) (y : U) (z : V) → PhaseReports knows all a b (Ok x) →
-    first ≤ before + v.ncg * v.ipg + runs → runs ≤ runs_limit v → PhaseReports knows' all' b c (Ok y) →
-    after ≤ first + sweep_reads v → Paid (line_reads + 1) a c (before + phase_reads v 0)
-    (after + (4 * sweep_reads v + group_reads v)) (Ok z)
-scan_paid v {knows = knows} {knows' = knows'} {all = all} {all' = all'} {a = a} {b = b} {before = before} {first = first}
-    x y z one reads few two again =
-    let begun : Paid (line_reads + 1) a b (before + phase_reads v 0)
-    (first + (5 * sweep_reads v + group_reads v)) (Ok x) = paid_text knows all (Ok x) one (omega (arith, reads, few)) in
-    paid_answer (paid_then begun (paid_text knows' all' (Ok y) two (omega (arith, again))))
+pub scan_paid : (v : Layout) (knows knows' : List ℕ → Type 0) (all all' : List ℕ → List Message) (a b c : Progress)
+    (before first after runs : ℕ) → PhaseReports {T = Unit {0}} knows all a b (Ok tt) →
+    first ≤ before + v.ncg * v.ipg + runs → runs ≤ runs_limit v →
+    PhaseReports {T = Unit {0}} knows' all' b c (Ok tt) → after ≤ first + sweep_reads v →
+    Paid {T = Unit {0}} (line_reads + 1) a c (before + phase_reads v 0)
+    (after + (4 * sweep_reads v + group_reads v)) (Ok tt)
+scan_paid v knows knows' all all' a b c before first after runs one reads few two again =
+    let begun : Paid {T = Unit {0}} (line_reads + 1) a b (before + phase_reads v 0)
+    (first + (5 * sweep_reads v + group_reads v)) (Ok tt) = paid_text knows all (Ok tt) one (omega (arith, reads, few)) in
+    paid_then begun (paid_text knows' all' (Ok tt) two (omega (arith, again)))
 
 -- and then phase 2
-pub names_paid : {T U : Type 0} (v : Layout) {a b c : Progress} {before first after : ℕ} {x : T}
+pub names_paid : {T U : Type 0} (v : Layout) (a b c : Progress) (before first after : ℕ) {x : T}
     {r : Result U RunFault} → Paid (line_reads + 1) a b before (first + (4 * sweep_reads v + group_reads v)) (Ok x) →
     Paid line_reads b c (first + 4 * sweep_reads v) after r →
     Paid (line_reads + 1) a c before (after + group_reads v) r
-names_paid v one two = paid_then one
-    (paid_within (paid_beside (group_reads v) (paid_price line_reads (line_reads + 1) (omega arith) two)) (omega arith)
-    (omega arith))
+names_paid v a b c before first after one two = paid_then one
+    (paid_within {before = first + 4 * sweep_reads v + group_reads v} {after = after + group_reads v}
+    (paid_beside (group_reads v) (paid_price line_reads (line_reads + 1) (omega arith) two)) (omega arith) (omega arith))
 
 -- and then phase 3, or 4
-pub links_paid : {T U : Type 0} (v : Layout) {a b c : Progress} {before first after : ℕ} {x : T}
+pub links_paid : {T U : Type 0} (v : Layout) (a b c : Progress) (before first after : ℕ) {x : T}
     {r : Result U RunFault} → Paid (line_reads + 1) a b before (first + group_reads v) (Ok x) →
     Paid 1 b c first after r → Paid (line_reads + 1) a c before (after + group_reads v) r
-links_paid v one two = paid_then one (paid_beside (group_reads v) (paid_price 1 (line_reads + 1) (omega arith) two))
+links_paid v a b c before first after one two =
+    paid_then one (paid_beside (group_reads v) (paid_price 1 (line_reads + 1) (omega arith) two))
 
 -- the phases have ended, and a read that failed is said
 pub ended_reads : (v : Layout) (had_defect : Bool) (a b c : Progress) (before after : ℕ) (r : Result Root RunFault)
@@ -119,7 +120,31 @@ opened_reads v a b c lines before between after said opened p =
       most = omega (arith, opened, p.most, long);
     }
 
--- nothing was read but what the opening reads
-pub opening_any : (size : ℕ) (out out' : Sink) (before after : ℕ) → after ≤ before + opening_reads →
-    ReadsAny size out out' before after
-opening_any size out out' before after few = inl few
+-- a superblock was accepted and its opening was said, and then the phases; all of it was printed
+pub whole_reads : (size : ℕ) (found : Super) (output : GName) (sink : Sink) (p c : Progress) (lines : List Message)
+    (before between after : ℕ) → found.geometry.layout.size * found.geometry.layout.fsize ≤ size →
+    Said (starts output sink) p lines → between ≤ before + opening_reads →
+    PhasesReadAny found.geometry.layout p c between after → ReadsAny size sink c.sink before after
+whole_reads size found output sink p c lines before between after inside said opened phases = inr (record {
+  layout = found.geometry.layout;
+  accepted = found.geometry.sound;
+  inside = inside;
+  reads = λ numbered. printed_reads (reads_limit found.geometry.layout) (starts output sink) c before after refl
+      (opened_reads found.geometry.layout (starts output sink) p c lines before between after said opened
+      (phases numbered));
+})
+
+-- where an output is is known
+pub any_at : (size : ℕ) (out at at' : Sink) (before after : ℕ) → at ≡ at' → ReadsAny size out at before after →
+    ReadsAny size out at' before after
+any_at size out at at' before after e r = subst (λ to. ReadsAny size out to before after) e r
+
+pub rest_at : (v : Layout) (out at at' : Sink) (before after : ℕ) → at ≡ at' → RestReadsAny v out at before after →
+    RestReadsAny v out at' before after
+rest_at v out at at' before after e r = subst (λ to. RestReadsAny v out to before after) e r
+
+-- the phases alone were said to a report that had just begun, and printed
+pub rest_reads : (v : Layout) (output : GName) (sink : Sink) (c : Progress) (before after : ℕ) →
+    PhasesReadAny v (starts output sink) c before after → RestReadsAny v sink c.sink before after
+rest_reads v output sink c before after phases =
+    λ numbered. printed_reads (phase_reads v) (starts output sink) c before after refl (phases numbered)

@@ -2,7 +2,7 @@ use Rattle.std.proofs.Common.{arith, inl, inr, false}
 use Rattle.ffs_layout.specs.Super.{superblock_in}
 use Rattle.ffs_volume.specs.{Directories.PathnameCheck.continues_after_root, Report.Whole.phase_lines}
 use Rattle.ffs_volume.specs.{Directories.Volumes.volume_of}
-use Rattle.ffs_check.proofs.{Endings.ran_known, Taken.not_for_memory}
+use Rattle.ffs_check.proofs.{AnyReading.unstarted_reads, Endings.ran_known, Taken.not_for_memory}
 use Rattle.ffs_check.proofs.check.check_accepted.Goals as goal
 
 pub run_to_end-requires : goal.run_to_end-requires
@@ -42,4 +42,4 @@ pub returns-in-Ok-clause-any : goal.returns-in-Ok-clause-any
 returns-in-Ok-clause-any g c = c.run_to_end.ensures.any
 
 pub returns-in-Err-clause-any : goal.returns-in-Err-clause-any
-returns-in-Err-clause-any g c = λ numbered. unstarted_reads _ _ _ _ _ c.say_refusal.ensures
+returns-in-Err-clause-any g c = λ numbered. unstarted_reads c.args.superblock.now.geometry.layout _ _ _ _ c.say_refusal.ensures

@@ -1,6 +1,7 @@
 use Rattle.std.proofs.Common.{rules, inl, inr, refl}
 use Rattle.ffs_report.specs.Progress.{progress}
 use Rattle.ffs_check.proofs.{Counting.reads_failed, Counting.writes_failed, Follows.found_ends, Follows.not_refused}
+use Rattle.ffs_check.proofs.{AnyReading.any_at, AnyReading.whole_reads}
 use Rattle.ffs_check.proofs.{Headlines.opening_ends, Headlines.headline_at, Reading.found_within, Reading.opened_within}
 use Rattle.ffs_check.proofs.{Taken.takes, Taken.opened_for_memory}
 use Rattle.ffs_check.proofs.check.check_in.Goals as goal
@@ -51,3 +52,14 @@ pub returns-in-Ok-clause-reads : goal.returns-in-Ok-clause-reads
 returns-in-Ok-clause-reads g c =
     found_within _ _ _ _ _ _ c.in-Ok.superblock _ _ _ c.in-Ok.ensures.opened c.in-Ok.ensures.reads
     c.check_accepted.ensures.reads
+
+pub returns-in-Err-clause-any : goal.returns-in-Err-clause-any
+returns-in-Err-clause-any g c = inl c.in-Err.ensures.reads
+
+pub returns-in-Ok-clause-any : goal.returns-in-Ok-clause-any
+returns-in-Ok-clause-any g c =
+    let opened = rw c.new-report.ensures at c.in-Ok.ensures.opened in
+    any_at _ _ (g.W.Output.sink c.check_accepted.new.report.out.now) _ _ _ (search rules)
+    (whole_reads _ c.in-Ok.superblock _ (g.W.Output.sink c.args.out.now)
+    (progress g.W.Output.sink c.say_opening.new.report) (progress g.W.Output.sink c.check_accepted.new.report) _ _ _ _
+    c.in-Ok.ensures.found opened.ends.0 c.in-Ok.ensures.reads c.check_accepted.ensures.any)

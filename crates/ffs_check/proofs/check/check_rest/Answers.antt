@@ -4,6 +4,7 @@ use Rattle.ffs_report.specs.Progress.{progress}
 use Rattle.ffs_volume.specs.{Directories.PathnameCheck.continues_after_root, Report.Opening.super_lines}
 use Rattle.ffs_volume.specs.{Report.Whole.phase_lines, Directories.Volumes.volume_of, Messages.Kinds.Message}
 use Rattle.ffs_check.proofs.Endings.{opening_defect, prints_phases, prints_at}
+use Rattle.ffs_check.proofs.AnyReading.{rest_at, rest_reads}
 use Rattle.ffs_check.proofs.check.check_rest.Goals as goal
 
 pub returns-clause-prints : goal.returns-clause-prints
@@ -17,7 +18,7 @@ returns-clause-prints g c =
     (rw c.new-report.ensures at c.run_to_end.ensures.ran))
 
 pub returns-clause-any : goal.returns-clause-any
-returns-clause-any g c = λ numbered.
-    let v = c.args.superblock.now.geometry.layout in
-    rw ← (search rules) (rest_reads v _ _ (progress g.W.Output.sink c.run_to_end.new.report) _ _
-    (rw c.new-report.ensures at c.run_to_end.ensures.any numbered))
+returns-clause-any g c =
+    rest_at c.args.superblock.now.geometry.layout _ (g.W.Output.sink c.run_to_end.new.report.out.now) _ _ _ (search rules)
+    (rest_reads c.args.superblock.now.geometry.layout _ (g.W.Output.sink c.args.out.now) (progress g.W.Output.sink c.run_to_end.new.report) _ _
+    (rw c.new-report.ensures at c.run_to_end.ensures.any))

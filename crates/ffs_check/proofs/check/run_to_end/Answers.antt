@@ -14,5 +14,5 @@ returns-clause-ran g c =
 
 pub returns-clause-any : goal.returns-clause-any
 returns-clause-any g c = λ numbered.
-    ended_reads _ c.args.had_defect _ _ _ _ _ c.run_phases-answer.result _
+    ended_reads c.args.superblock.now.geometry.layout c.args.had_defect _ _ _ _ _ c.run_phases-answer.result _
     (c.run_phases-answer.ensures.paid numbered) c.end_run.ensures
