@@ -1,3 +1,4 @@
+pub mod AnyReads
 pub mod CommandWords
 pub mod Ends
 pub mod Failures

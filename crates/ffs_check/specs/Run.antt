@@ -7,7 +7,7 @@ use Rattle.ffs_image.specs.declared.file.OpenFault.{OpenFault}
 use Rattle.ffs_volume.specs.declared.End.{End}
 use Rattle.ffs_volume.specs.{Messages.Kinds.cannot_alloc, Report.Whole.status_of, Messages.Texts.text_of}
 use Rattle.ffs_report.specs.Sink.{Sink, Took, BrokeOff}
-use Rattle.ffs_check.specs.{Headline.Headline, ReadsWithin.ReadsWithin, Taken.TakesOfSystem}
+use Rattle.ffs_check.specs.{AnyReads.ReadsAny, Headline.Headline, ReadsWithin.ReadsWithin, Taken.TakesOfSystem}
 use Rattle.ffs_check.specs.CommandWords.{AskFor, LacksMemory, refusals}
 
 -- the line where the image can't be opened
@@ -28,6 +28,7 @@ pub record IsChecked (I : Type 0) (device : I → Device) (reads : I → ℕ) (o
   pub headline : Headline (device image) (device image') name sector out out' end
   pub memory : TakesOfSystem (device image) sector end
   pub within : ReadsWithin (device image) name sector (reads image) (reads image')
+  pub any : ReadsAny (device image).size out out' (reads image) (reads image')
   pub status_is : status ≡ status_of end
 
 -- no image could be opened under a name, and that was printed

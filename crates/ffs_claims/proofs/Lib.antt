@@ -10,3 +10,4 @@ pub mod Rescanned
 pub mod UnclaimedRuns
 pub mod RescanCounts
 pub mod WordClaims
+pub mod Limited

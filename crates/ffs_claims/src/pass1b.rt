@@ -5,7 +5,7 @@ ghost use Rattle.std.specs.Prelude.{slice_index};
 ghost use Rattle.ffs_volume.specs.Blocks.BlockCheck.{first_offer_lines, phase1b_lines};
 ghost use Rattle.ffs_volume.specs.Blocks.{Inodes.inode_of, Owners.owners_of};
 ghost use Rattle.ffs_volume.specs.{Encodings.ReplayCounts.seen_run, Laws.RunLengths.HasLength};
-ghost use Rattle.ffs_volume.specs.Report.Whole.{run_count};
+ghost use Rattle.ffs_volume.specs.Report.{Reads.sweep_reads, Whole.run_count};
 ghost use Rattle.ffs_report.specs.{Known.ForBytes, PhaseOutcome.PhaseOutcome};
 ghost use Rattle.ffs_report.specs.Progress.{progress, Says};
 ghost use Rattle.ffs_maps.specs.Bits.{bits_of};
@@ -19,12 +19,12 @@ ghost use Rattle.ffs_volume.specs.Messages.Kinds as messages;
 ghost use Rattle.ffs_volume.specs.Encodings.Replay as replays;
 
 use crate::report_offer::report_run;
-use ffs_image::Image;
+use ffs_image::{Image, LimitedImage};
 use ffs_layout::Geometry;
 use ffs_report::{Heading, Line, OutFault, Output, Report, RunFault};
 use ffs_volume::{Inode, Step};
 use ffs_walk::{Keeping, Walk};
-use ffs_workspace::Workspace;
+use ffs_workspace::{Workspace, sweep_reads};
 
 /// Reports, of the offers of a step that the current inode keeps, those that are the first kept
 /// offer of a fragment with a DUP line.
@@ -117,14 +117,11 @@ fn rewalk_inode<I: Image, W: Output>(
     rewalk(geometry, image, workspace, number, cut, &inode, report)
 }
 
-/// Walks over the blocks of the inodes again, until each fragment with a DUP line has its first
-/// kept offer reported: by a DUP line for the first inode that keeps an offer of it.
-///
-/// The contract gives the text only for a workspace as phase 1 left it.
+/// What `phase1b` does, where each read is answered.
 ///
 /// # Errors
 /// A read of the image that failed, and a write of the report that failed.
-pub fn phase1b<I: Image, W: Output>(
+fn rescan_inodes<I: Image, W: Output>(
     geometry: &Geometry,
     image: &mut I,
     workspace: &mut Workspace,
@@ -160,4 +157,48 @@ pub fn phase1b<I: Image, W: Output>(
         rewalk_inode(geometry, image, workspace, number, report)?;
     }
     Ok(())
+}
+
+/// Walks over the blocks of the inodes again, until each fragment with a DUP line has its first
+/// kept offer reported: by a DUP line for the first inode that keeps an offer of it.
+///
+/// The contract gives the text only for a workspace as phase 1 left it.
+///
+/// # Errors
+/// A read of the image that failed, and a write of the report that failed.
+pub fn phase1b<I: Image, W: Output>(
+    geometry: &Geometry,
+    image: &mut I,
+    workspace: &mut Workspace,
+    report: &mut Report<'_, W>,
+) -> Result<(), RunFault>
+    requires ready { IsReady geometry.now.layout (I.device image.old) workspace.old }
+    ensures prints { PhaseOutcome
+        (WithPhase1 geometry.now.layout (I.device image.old) workspace.old)
+        (λ bytes. messages.phase1b ∷ of_lines
+        (phase1b_lines geometry.now.layout (owners_of geometry.now.layout bytes)))
+        (I.device image.old) (I.device image.new) (progress W.sink report.old)
+        (progress W.sink report.new) result }
+    ensures holds { OnOk result (ForBytes
+        (WithPhase1 geometry.now.layout (I.device image.old) workspace.old)
+        (λ bytes. HoldsClaims geometry.now.layout bytes workspace.new
+        × HoldsStarts geometry.now.layout bytes workspace.new)) }
+    ensures runs { ForBytes (WithPhase1 geometry.now.layout (I.device image.old) workspace.old)
+        (λ bytes. workspace.new.runs_again ≤ run_count geometry.now.layout bytes) }
+    ensures count { OnOk result (ForBytes
+        (WithPhase1 geometry.now.layout (I.device image.old) workspace.old)
+        (λ bytes. workspace.new.runs_again ≡ rescan_runs geometry.now.layout bytes)) }
+    ensures reads { workspace.new.runs_again < 2 ^ 64 - 1 → I.reads image.new ≤ I.reads image.old
+        + geometry.now.layout.ncg * geometry.now.layout.ipg + workspace.new.runs_again }
+    ensures most { I.reads image.new ≤ I.reads image.old + sweep_reads geometry.now.layout }
+    ensures seen { workspace.new.runs_seen ≡ workspace.old.runs_seen }
+    ensures ready { IsReady geometry.now.layout (I.device image.new) workspace.new }
+{
+    let mut limited = LimitedImage::new(image, Some(sweep_reads(geometry)));
+    let scanned = rescan_inodes(geometry, &mut limited, workspace, report);
+    if limited.is_spent() {
+        // Only an image that gives other bytes each time asks for more reads.
+        return Ok(());
+    }
+    scanned
 }

@@ -3,7 +3,7 @@
 ghost use Rattle.std.specs.Prelude.{◌≡◌, ◌+◌, ◌<◌, ◌≤◌, length, map};
 ghost use Rattle.ffs_report.specs.Progress.{progress};
 ghost use Rattle.ffs_report.specs.Known.{ForBytes};
-ghost use Rattle.ffs_report.specs.PhaseOutcome.{PhaseOutcome};
+ghost use Rattle.ffs_report.specs.{Paid.Paid, PhaseOutcome.PhaseOutcome};
 ghost use Rattle.ffs_volume.specs.Messages.Kinds.{of_tree};
 ghost use Rattle.ffs_volume.specs.Directories.Volumes.{volume_of};
 ghost use Rattle.ffs_workspace.specs.Found.{WithSurvey};
@@ -42,6 +42,8 @@ pub fn check_inode<I: Image, W: Output>(
     ensures reads { ForBytes (WithSurvey geometry.now.layout (I.device image.old) workspace.old)
         (λ bytes. I.reads image.new ≤ I.reads image.old
         + length (unref_dir_lines (volume_of geometry.now.layout bytes) number)) }
+    ensures paid { Paid 1 (progress W.sink report.old) (progress W.sink report.new)
+        (I.reads image.old) (I.reads image.new) result }
     ensures stays { StaysReady geometry.now.layout (I.device image.new) workspace.old
         workspace.new }
 {

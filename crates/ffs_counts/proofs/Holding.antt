@@ -1,10 +1,10 @@
 -- What a workspace holds where only its windows have changed, and the lines of an inode by it.
 use Rattle.std.proofs.Common.{◌≡◌, ℕ, ℤ, pos, negsuc, zero, suc, ◌+◌, ◌-◌, ◌<◌, ◌≤◌, ◌^◌, Bool, true, false, List, []}
 use Rattle.std.proofs.Common.{◌∷◌, ◌++◌, ◌&&◌, ◌||◌, ◌==◌, not, nat_le, nat_lt, if◌then◌else◌, inl, inr, length, map}
-use Rattle.std.proofs.Common.{refl, ap, ◌∙◌, sym, slice_index, vec_len, arith}
+use Rattle.std.proofs.Common.{refl, ap, ◌∙◌, sym, slice_index, vec_len, arith, SFits}
 use Rattle.std.specs.{List.slice_index_or, Int.w16, Int.cast_signed}
 use Rattle.std.specs.declared.{alloc.Global.Global, vec.Vec.Vec}
-use Rattle.std.proofs.lemmas.{Bool.Decides.nat_tests, Int.to_z_pos, List.get_or_read}
+use Rattle.std.proofs.lemmas.{Bool.Decides.nat_tests, Int.ints, Int.to_z_pos, List.get_or_read}
 use Rattle.std.proofs.lemmas.Bool.{and_parts, cases_lt, eq-eqb, eqb-true, not-true}
 use Rattle.ffs_volume.specs.declared.{Attr.Attr, Inode.Inode, Label.Label, Layout.Layout}
 use Rattle.ffs_volume.specs.declared.{constants.TheConstants.LINKS_MET}
@@ -219,6 +219,11 @@ one_reported false m label attr nlink r apart =
     go true false same h = refl
     go false unlinked same h = rw (h refl) refl
 
+open_test : (a d : Bool) → (a && not d) ≡ false → d ≡ false → a ≡ false
+open_test false d e alive = refl
+open_test true false e alive = e
+open_test true true e alive = absurd (cc)
+
 -- an allocated inode that isn't right by the lists of a workspace has one line
 pub unmet_line : (v : Layout) (b : List ℕ) (w : Workspace) (i : ℕ) → i < inodes_of v → HoldsFindings v b w →
     is_allocated (class_of_kind (slice_index w.kinds.items i)) ≡ true → is_met w i ≡ false →
@@ -234,8 +239,23 @@ unmet_line v b w i low f used unmet =
     (λ alive some. unequal nlink r (links_small v b i)
     (ap (λ n. n == LINKS_MET) (sym counted)
     ∙ open_test (slice_index w.references.items i == LINKS_MET) (is_dead_by w i) unmet alive) some)
+
+-- a count of links that two bytes hold
+fits_small : (nlink : ℤ) (n : ℕ) → SFits w16 nlink → nlink ≡ pos n → n < 2 ^ 15
+fits_small nlink n fits e = let f = rw e at fits in omega (arith, ints)
+
+-- an inode that isn't right by the lists of a workspace has a line, whatever is read of it
+pub unmet_reported : (w : Workspace) (i : ℕ) (m : Bool) (label : Label) (attr : Attr) (nlink : ℤ) (dead : Bool)
+    (count r : ℕ) → is_met w i ≡ false → dead ≡ is_dead_by w i → count ≡ slice_index w.references.items i →
+    r ≡ count - links_start nlink → SFits w16 nlink →
+    length (reference_reported dead m label attr nlink r) ≡ 1
+unmet_reported w i m label attr nlink dead count r unmet ed ec er fits =
+    one_reported dead m label attr nlink r
+    (λ alive some. unequal nlink r (λ n. fits_small nlink n fits)
+    (ap (λ n. n == LINKS_MET) (rest some ∙ ec)
+    ∙ open_test (slice_index w.references.items i == LINKS_MET) (is_dead_by w i) unmet (sym ed ∙ alive)) some)
   where
-    open_test : (a d : Bool) → (a && not d) ≡ false → d ≡ false → a ≡ false
-    open_test false d e alive = refl
-    open_test true false e alive = e
-    open_test true true e alive = absurd (cc)
+    rest : (r == 0) ≡ false → links_start nlink + r ≡ count
+    rest some =
+        let high : 0 < r = grind (some, arith, nat_tests) in
+        omega (arith, er, high)

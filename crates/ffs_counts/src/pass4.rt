@@ -6,7 +6,7 @@ ghost use Rattle.ffs_volume.specs.Directories.ReferenceCheck.{reference_lines_at
 ghost use Rattle.ffs_volume.specs.Directories.Volumes.{volume_of};
 ghost use Rattle.ffs_report.specs.Progress.{progress};
 ghost use Rattle.ffs_report.specs.Known.{ForBytes};
-ghost use Rattle.ffs_report.specs.PhaseOutcome.{PhaseOutcome};
+ghost use Rattle.ffs_report.specs.{Paid.Paid, PhaseOutcome.PhaseOutcome};
 ghost use Rattle.ffs_workspace.specs.Found.{WithFindings};
 ghost use Rattle.ffs_volume.specs.Blocks.Inodes.{is_allocated};
 ghost use Rattle.ffs_volume.specs.Encodings.Kinds.{class_of_kind};
@@ -87,6 +87,8 @@ fn check_inode<I: Image, W: Output>(
     ensures reads { ForBytes (WithFindings geometry.now.layout (I.device image.old) workspace.old)
         (λ bytes. I.reads image.new ≤ I.reads image.old
         + length (reference_lines_at (volume_of geometry.now.layout bytes) number)) }
+    ensures paid { Paid 1 (progress W.sink report.old) (progress W.sink report.new)
+        (I.reads image.old) (I.reads image.new) result }
     ensures stays { StaysReady geometry.now.layout (I.device image.new) workspace.old
         workspace.new }
 {
@@ -129,6 +131,8 @@ pub fn phase4<I: Image, W: Output>(
     ensures reads { ForBytes (WithFindings geometry.now.layout (I.device image.old) workspace.old)
         (λ bytes. I.reads image.new ≤ I.reads image.old
         + length (reference_lines (volume_of geometry.now.layout bytes))) }
+    ensures paid { Paid 1 (progress W.sink report.old) (progress W.sink report.new)
+        (I.reads image.old) (I.reads image.new) result }
     ensures stays { StaysReady geometry.now.layout (I.device image.new) workspace.old
         workspace.new }
 {

@@ -60,6 +60,11 @@ pub paid_within : {T : Type 0} {price : ℕ} {a b : Progress} {before after befo
     Paid price a b before after r → before ≤ before' → after' ≤ after → Paid price a b before' after' r
 paid_within p more fewer = record { messages = p.messages; begun = p.begun; most = omega (arith, p.most, more, fewer) }
 
+-- beside other reads that are left
+pub paid_beside : {T : Type 0} {price : ℕ} {a b : Progress} {before after : ℕ} {r : Result T RunFault} (k : ℕ) →
+    Paid price a b before after r → Paid price a b (before + k) (after + k) r
+paid_beside k p = record { messages = p.messages; begun = p.begun; most = omega (arith, p.most) }
+
 -- a call that answers something else, or the same fault
 pub paid_answer : {T U : Type 0} {price : ℕ} {a b : Progress} {before after : ℕ} {x : T} {y : U} →
     Paid price a b before after (Ok x) → Paid price a b before after (Ok y)

@@ -63,15 +63,20 @@ const WORDS: Args<'static> = Args {
     sector: None,
 };
 
-/// The volume with a root alone, and these numbers more.
-pub fn volume(order: Order, more: &[Number], alloc: Global) -> Result<MemoryImage, AllocError> {
+/// The bytes of the volume with a root alone, and these numbers more.
+pub fn volume_bytes(order: Order, more: &[Number], alloc: Global) -> Result<Vec<u8>, AllocError> {
     let mut bytes = base(order, alloc)?;
     put(order, bytes.as_mut_slice(), &ROOT);
     for &(place, text) in &BYTES {
         put_bytes(bytes.as_mut_slice(), place, text);
     }
     put(order, bytes.as_mut_slice(), more);
-    Ok(MemoryImage::new(bytes))
+    Ok(bytes)
+}
+
+/// The image of these bytes.
+pub fn volume(order: Order, more: &[Number], alloc: Global) -> Result<MemoryImage, AllocError> {
+    Ok(MemoryImage::new(volume_bytes(order, more, alloc)?))
 }
 
 /// How a check of an image ends, and what it prints.

@@ -4,7 +4,9 @@ ghost use Rattle.std.specs.Prelude.{◌≡◌, ◌≤◌, IfOk, length};
 
 use crate::check::checked;
 use crate::compare::same;
-use ffs_image::{FileImage, FuseImage, Image, ImageFault, MemoryImage};
+use ffs_image::{
+    CountedImage, FileImage, FuseImage, Image, ImageFault, LimitedImage, MemoryImage,
+};
 use ffs_layout::Order;
 use ffs_samples::image_of;
 use ffs_volume::{End, SuperFault};
@@ -87,6 +89,35 @@ fn fuses_fail_their_reads(rt: HostRuntime) -> Result<(), Fail> {
         &rt,
         &reads_touching(2, rt.alloc())?,
         &([Ok(()), at_1, at_2], [2, 2]),
+    );
+    Ok(())
+}
+
+/// What came of three reads of an image that makes at most so many, how many of these are left and
+/// how many the image below counted, and whether one was refused.
+type LimitedReads = ([Result<(), ImageFault>; 3], [u64; 2], bool);
+
+/// The reads of an image that is read at most so often.
+fn reads_within_limit(limit: u64, alloc: Global) -> Result<LimitedReads, AllocError> {
+    let mut below = CountedImage::new(letters(alloc)?);
+    let mut image = LimitedImage::new(&mut below, Some(limit));
+    let reads = three_reads(&mut image);
+    let (left, spent) = (image.left(), image.is_spent());
+    Ok((reads, [left, below.reads()], spent))
+}
+
+#[test]
+fn limits_refuse_reads(rt: HostRuntime) -> Result<(), Fail> {
+    let at_2 = Err(ImageFault { sector: 2 });
+    same(
+        &rt,
+        &reads_within_limit(2, rt.alloc())?,
+        &([Ok(()), Ok(()), at_2], [0, 2], true),
+    );
+    same(
+        &rt,
+        &reads_within_limit(4, rt.alloc())?,
+        &([Ok(()); 3], [1, 3], false),
     );
     Ok(())
 }

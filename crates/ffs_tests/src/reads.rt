@@ -1,10 +1,11 @@
 //! How often a check reads its image.
 
-use crate::check::{checked, volume};
+use crate::check::{checked, volume, volume_bytes};
 use crate::compare::same;
-use ffs_image::CountedImage;
+use crate::image::read_within;
+use ffs_image::{CountedImage, Image, ImageFault, MemoryImage};
 use ffs_layout::Order;
-use ffs_samples::{Number, ORDERS};
+use ffs_samples::{Number, ORDERS, put};
 use ffs_volume::{End, SuperFault};
 use std::alloc::{AllocError, Global};
 use std::test::Fail;
@@ -75,6 +76,101 @@ fn reads_of_a_check(rt: HostRuntime) -> Result<(), Fail> {
         for &(more, end, reads) in &CASES {
             same(&rt, &counted(order, more, rt.alloc())?, &(end, reads));
         }
+    }
+    Ok(())
+}
+
+/// An image of 131,072 bytes that gives those of one image for so many reads, and then those of
+/// another one.
+#[derive(Drop)]
+struct TurningImage {
+    first: MemoryImage,
+    then: MemoryImage,
+    left: u64,
+}
+
+impl Image for TurningImage {
+    ghost use Rattle.std.specs.Prelude.{None, []};
+
+    ghost device = { λ _. record {
+      contents = None;
+      size = 131072;
+      failures = 0;
+      failed_sector = 0;
+      lent = [];
+    } };
+
+    ghost reads = { λ _. 0 };
+
+    ghost sized = { λ _. tt };
+
+    fn size(&self) -> u64 {
+        131_072
+    }
+
+    fn failures(&self) -> u64 {
+        0
+    }
+
+    fn failed(&self) -> u64 {
+        0
+    }
+
+    fn read_at(&mut self, at: u64, buf: &mut [u8]) -> Result<(), ImageFault> {
+        let _read = if self.left == 0 {
+            read_within(&mut self.then, at, buf)
+        } else {
+            read_within(&mut self.first, at, buf)
+        };
+        self.left = self.left.saturating_sub(1);
+        Ok(())
+    }
+}
+
+/// The root has 2^31 - 512 bytes: twelve blocks, a single and a double indirect one.
+const LARGE: [Number; 4] = [
+    (28936, 8, 2_147_483_136),
+    (28968, 4, 40),
+    (29016, 4, 44),
+    (29020, 4, 44),
+];
+
+/// The volume with a root of which each block is at fragment 40 or 44, in turn. So is each indirect
+/// block: the words of both name the two in turn.
+fn turning_blocks(order: Order, alloc: Global) -> Result<MemoryImage, AllocError> {
+    let mut bytes = volume_bytes(order, &LARGE, alloc)?;
+    for word in 0..1024usize {
+        let address = if word % 2 == 0 { 40 } else { 44 };
+        put(
+            order,
+            bytes.as_mut_slice(),
+            &[(40_960 + 4 * word, 4, address), (45_056 + 4 * word, 4, address)],
+        );
+    }
+    Ok(MemoryImage::new(bytes))
+}
+
+/// How a check ends of an image that turns into that volume after phase 1, whose reads are the
+/// superblock, its copy and the inodes; and how often it reads.
+fn turned(order: Order, alloc: Global) -> Result<(End, u64), AllocError> {
+    let mut image = CountedImage::new(TurningImage {
+        first: volume(order, &[], alloc)?,
+        then: turning_blocks(order, alloc)?,
+        left: 3,
+    });
+    let (end, _) = checked(&mut image, alloc);
+    Ok((end, image.reads()))
+}
+
+/// A sweep over the volume of 32 inodes and 128 fragments has 32 + 128 + 22 * 32 = 864 reads, and
+/// the looks of phase 2 have two. The root would take 524,288, one for each block. Beside the looks
+/// the check makes no more reads than of an image that stays, and one for a message.
+#[test]
+fn reads_of_a_turning_image(rt: HostRuntime) -> Result<(), Fail> {
+    for order in ORDERS {
+        let (end, reads) = turned(order, rt.alloc())?;
+        same(&rt, &end, &End::Defects);
+        same(&rt, &(reads >= 2 * 864, reads < 2 * 864 + 16), &(true, true));
     }
     Ok(())
 }

@@ -37,3 +37,9 @@ returns-in-Ok-clause-reads g c = λ bytes t. c.run_to_end.ensures.reads bytes (t
 
 pub returns-in-Err-clause-reads : goal.returns-in-Err-clause-reads
 returns-in-Err-clause-reads g c = λ bytes t numbered. omega arith
+
+pub returns-in-Ok-clause-any : goal.returns-in-Ok-clause-any
+returns-in-Ok-clause-any g c = c.run_to_end.ensures.any
+
+pub returns-in-Err-clause-any : goal.returns-in-Err-clause-any
+returns-in-Err-clause-any g c = λ numbered. unstarted_reads _ _ _ _ _ c.say_refusal.ensures

@@ -15,3 +15,9 @@ returns-clause-prints g c =
     (prints_phases _ (super_lines s) (c.opening_defects.ensures ∙ opening_defect s) _ lines goes _ _ _
     (g.W.Output.sink c.args.out.now) (progress g.W.Output.sink c.run_to_end.new.report) _
     (rw c.new-report.ensures at c.run_to_end.ensures.ran))
+
+pub returns-clause-any : goal.returns-clause-any
+returns-clause-any g c = λ numbered.
+    let v = c.args.superblock.now.geometry.layout in
+    rw ← (search rules) (rest_reads v _ _ (progress g.W.Output.sink c.run_to_end.new.report) _ _
+    (rw c.new-report.ensures at c.run_to_end.ensures.any numbered))

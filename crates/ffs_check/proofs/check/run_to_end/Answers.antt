@@ -1,7 +1,7 @@
 use Rattle.ffs_layout.specs.Super.{superblock_in}
 use Rattle.ffs_volume.specs.{Directories.PathnameCheck.continues_after_root, Report.Whole.phase_lines}
 use Rattle.ffs_volume.specs.{Directories.Volumes.volume_of}
-use Rattle.ffs_check.proofs.Endings.{ran}
+use Rattle.ffs_check.proofs.{AnyReading.ended_reads, Endings.ran}
 use Rattle.ffs_check.proofs.check.run_to_end.Goals as goal
 
 pub returns-clause-ran : goal.returns-clause-ran
@@ -11,3 +11,8 @@ returns-clause-ran g c =
     _ (λ bytes k. k.0) _ _ _ _
     c.run_phases-answer.result c.run_phases-answer.ensures.text c.run_phases-answer.ensures.image
     c.run_phases-answer.ensures.goes c.end_run.ensures
+
+pub returns-clause-any : goal.returns-clause-any
+returns-clause-any g c = λ numbered.
+    ended_reads _ c.args.had_defect _ _ _ _ _ c.run_phases-answer.result _
+    (c.run_phases-answer.ensures.paid numbered) c.end_run.ensures

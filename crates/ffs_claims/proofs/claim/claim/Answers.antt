@@ -1,4 +1,4 @@
-use Rattle.std.proofs.Common.{ℕ, arith, refl, ◌≡◌, ◌<◌, ◌∙◌, ap, sym, List, ◌++◌, ◌∷◌, true, false, replicate, []}
+use Rattle.std.proofs.Common.{ℕ, arith, refl, ◌≡◌, ◌<◌, ◌∙◌, ap, sym, List, ◌++◌, ◌∷◌, false, replicate, []}
 use Rattle.std.proofs.lemmas.Result.{err_from_is_err_and}
 use Rattle.ffs_volume.proofs.Potentials.{stays, moves_then}
 use Rattle.ffs_volume.specs.Blocks.Claims.{after_steps, after_step, lines_of_steps, step_lines, is_open}

@@ -1,182 +1,84 @@
-use Rattle.std.proofs.Common.{Result, rules, ◌≡◌, ◌≤◌, ◌+◌, ◌-◌, ◌^◌, ◌<◌, ◌∷◌, [], arith, refl, sym, ap, ◌∙◌, Err}
-use Rattle.std.proofs.lemmas.Result.{err_from_is_err_and}
-use Rattle.ffs_volume.specs.Blocks.BlockCheck.{first_offer_lines, phase1b_lines}
-use Rattle.ffs_volume.specs.Blocks.{Claims.no_claims, KeptOffers.kept_in_owners, KeptSteps.claims_before}
-use Rattle.ffs_volume.specs.{Blocks.Owners.owners_of, Messages.Kinds.phase1b}
-use Rattle.ffs_report.proofs.Reporting.{of_begins, of_says, of_part, of_fault, of_stops, of_same, reports_knowing}
-use Rattle.ffs_report.{proofs.Reporting.said_knows, specs.Known.ForBytes, specs.declared.fault.RunFault.RunFault}
-use Rattle.ffs_maps.specs.Bits.{bits_of}
-use Rattle.ffs_workspace.specs.{Found.WithPhase1, Lengths.inodes_of, Lengths.set_count}
-use Rattle.ffs_claims.proofs.Duplicates.{none_first, none_left}
-use Rattle.ffs_claims.proofs.{Frames.claims_then, Frames.image_from, Frames.ready_unseen, Numbers.numbers_most}
-use Rattle.ffs_claims.proofs.Reportings.{reporting_more, reporting_ends, reporting_same, lines_split, reporting_over}
-use Rattle.ffs_claims.proofs.{RescanCounts.look_fits, RescanCounts.looked_none, Rescanned.IsNoted, Rescanned.is_noted}
-use Rattle.ffs_claims.proofs.Rescanned.{offers_at, runs_at, kept_from, runs_from, looked_on, looked_end, looked_first}
-use Rattle.ffs_claims.proofs.Rescanned.{kept_next, kept_end, runs_on, runs_most, claims_hold, reported_same, all_lines}
-use Rattle.ffs_claims.proofs.{Rescanned.all_kept, Rescanned.starts_hold, Rewalks.runs_pay_all, Rewalks.runs_pay_then}
-use Rattle.ffs_claims.specs.{Lines.of_lines, Reporting.after_first, RescanRuns.runs_until_reported}
+use Rattle.std.proofs.Common.{◌≡◌, ◌∙◌, false, ap, arith, sym}
+use Rattle.std.proofs.lemmas.Bool.{both_ways}
+use Rattle.ffs_image.specs.Device.{Device}
+use Rattle.ffs_report.specs.Known.{ForBytes}
+use Rattle.ffs_workspace.specs.Found.{WithPhase1}
+use Rattle.ffs_workspace.proofs.Readiness.{ready_same}
+use Rattle.ffs_claims.proofs.Limited.{image_over, phase_served, runs_fit, runs_within}
+use Rattle.ffs_claims.proofs.pass1b.phase1b.Given as given
 use Rattle.ffs_claims.proofs.pass1b.phase1b.Goals as goal
+use Rattle.ffs_claims.proofs.pass1b.phase1b.Goals.{After-is_spent}
 
-pub returns-in_err-say-clause-prints : goal.returns-in_err-say-clause-prints
-returns-in_err-say-clause-prints g c =
-    let p = err_from_is_err_and c.from_residual.result c.from_residual.ensures.1 in
-    let v = c.args.geometry.now.layout in
-    rw (p.1, p.2) (record {
-      image = search rules;
-      text = of_stops _ (λ bytes. phase1b ∷ of_lines (phase1b_lines v (owners_of v bytes)))
-          (λ bytes. of_lines (phase1b_lines v (owners_of v bytes))) _ (phase1b ∷ []) _ _ _
-          (of_begins _ (λ bytes. phase1b ∷ of_lines (phase1b_lines v (owners_of v bytes))) _) (λ bytes t. refl)
-          c.in_err-say.ensures.said;
-    })
+-- what is known of the bytes is known of the limited image
+known : (g : given.Over) (c : After-is_spent g) →
+    ForBytes (WithPhase1 c.args.geometry.now.layout (g.I.Image.device c.args.image.now) c.args.workspace.now)
+    (λ bytes. WithPhase1 c.args.geometry.now.layout (g.I.Image.device c.new-limited.result.begins.value)
+    c.args.workspace.now bytes)
+known g c bytes k = (ap (λ (d : Device). d.contents) c.new-limited.ensures.device ∙ k.0, k.1)
 
-pub loop-number-init : goal.loop-number-init
-loop-number-init g c =
+-- no more reads of known bytes are asked for than the limit
+fits : (g : given.Over) (c : After-is_spent g) →
+    ForBytes (WithPhase1 c.args.geometry.now.layout (g.I.Image.device c.args.image.now) c.args.workspace.now)
+    (λ bytes. c.is_spent.result ≡ false)
+fits g c bytes k =
     let v = c.args.geometry.now.layout in
-    let d = bits_of c.args.workspace.now.duplicates in
-    record {
-      ready = ready_unseen c.requires.ready;
-      device = refl;
-      claims = record { used = refl; kinds = refl; notes = refl; references = refl; seen = refl };
-      low = omega arith;
-      high = λ h. omega arith;
-      runs = λ bytes k. omega arith;
-      reads = record { rises = λ _. omega arith; paid = λ _. omega arith };
-      count = λ bytes k. omega (arith, looked_first v bytes d k.1.dup);
-      reported = λ bytes k. reporting_same
-          (reported_same c.args.workspace.now _ (kept_in_owners v (no_claims v) (owners_of v bytes)) refl refl)
-          (sym (all_kept v bytes));
-      said = of_says _ (λ bytes. phase1b ∷ of_lines (phase1b_lines v (owners_of v bytes)))
-          (λ bytes. of_lines (first_offer_lines d (kept_from v bytes 2))) _ (phase1b ∷ []) _ _ _
-          (of_begins _ (λ bytes. phase1b ∷ of_lines (phase1b_lines v (owners_of v bytes))) _)
-          (λ bytes k. ap (λ xs. phase1b ∷ xs) (all_lines v bytes d k.1.dup)) c.in_ok-say.ensures.said;
-    }
-
-pub returns-in_err-rewalk_inode-clause-prints : goal.returns-in_err-rewalk_inode-clause-prints
-returns-in_err-rewalk_inode-clause-prints g c =
-    let p = err_from_is_err_and c.from_residual-in_err-rewalk_inode.result
-    c.from_residual-in_err-rewalk_inode.ensures.1 in
-    let v = c.args.geometry.now.layout in
-    let inv = c.loop-number.invariant in
-    let n = c.loop-number.number in
-    let d = bits_of c.loop-number.workspace.duplicates in
-    let notes = c.loop-number.workspace.notes.items in
-    let fault : Result (Unit {0}) RunFault = Err c.in_err-rewalk_inode.field-0.0 in
-    rw (p.1, p.2) (record {
-      image = image_from (g.I.Image.device c.rewalk_inode.new.image) fault inv.device
-          c.in_err-rewalk_inode.ensures.rewalks.left.image;
-      text = of_fault (Unit {0}) (Unit {0}) _ (λ bytes. of_lines (first_offer_lines d (kept_from v bytes n)))
-          (λ bytes. of_lines (first_offer_lines d (offers_at v bytes notes n)))
-          (λ bytes. of_lines (first_offer_lines (after_first d (offers_at v bytes notes n))
-          (kept_from v bytes (n + 1))))
-          _ _ _ _ c.in_err-rewalk_inode.field-0.0 inv.said (λ bytes k. lines_split d _ _ _ _ (kept_next v bytes notes n
-          (is_noted c.args.geometry.now.sound inv.low (omega arith) inv.claims k.1)) refl)
-          (reports_knowing (Unit {0}) _ _ _ _ _ fault (λ bytes k. ap (λ d. d.contents) inv.device ∙ k.0)
-          c.in_err-rewalk_inode.ensures.rewalks.text);
-    })
-
-pub returns-in_err-rewalk_inode-clause-runs : goal.returns-in_err-rewalk_inode-clause-runs
-returns-in_err-rewalk_inode-clause-runs g c = λ bytes k.
-    let v = c.args.geometry.now.layout in
-    let inv = c.loop-number.invariant in
-    let n = c.loop-number.number in
-    let on = runs_on v bytes _ n (is_noted c.args.geometry.now.sound inv.low (omega arith) inv.claims k.1) in
-    let most = runs_most v bytes (n + 1) (omega arith) (λ h. omega arith) in
-    omega (arith, inv.runs bytes k, c.rewalk_inode.ensures.rewalks.runs bytes (ap (λ d. d.contents) inv.device ∙ k.0))
-
-pub loop-number-preserved : goal.loop-number-preserved
-loop-number-preserved g c =
-    let v = c.args.geometry.now.layout in
+    let scanned = c.rescan_inodes-scanned.ensures in
+    let back = phase_served (rw c.new-limited.ensures.device at scanned.prints) c.is_spent.ensures.below in
     let sound = c.args.geometry.now.sound in
-    let inv = c.loop-number.invariant in
-    let n = c.loop-number.number in
-    let d = bits_of c.loop-number.workspace.duplicates in
-    let d' = bits_of c.rewalk_inode.new.workspace.duplicates in
-    let notes = c.loop-number.workspace.notes.items in
-    let image = ap (λ d. d.contents) inv.device in
-    let rewalks = c.in_ok-rewalk_inode.ensures.rewalks in
-    let noted : ForBytes (WithPhase1 v (g.I.Image.device c.args.image.now) c.args.workspace.now)
-    (λ bytes. IsNoted v bytes notes n) = λ bytes k. is_noted sound inv.low (omega arith) inv.claims k.1 in
-    let on : ForBytes (WithPhase1 v (g.I.Image.device c.args.image.now) c.args.workspace.now) (λ bytes.
-    runs_until_reported d (runs_from v bytes n)
-    ≡ runs_until_reported d (runs_at v bytes notes n) + runs_until_reported d' (runs_from v bytes (n + 1))) = λ bytes k.
-    looked_on v bytes notes n d d' (noted bytes k) (rewalks.rewalked bytes (image ∙ k.0)).reported.dup in
-    record {
-      ready = rewalks.left.ready;
-      device = rewalks.left.image ∙ inv.device;
-      claims = claims_then inv.claims rewalks.left.claims;
-      low = omega arith;
-      high = λ h. omega arith;
-      runs = λ bytes k.
-          let more = runs_on v bytes notes n (noted bytes k) in
-          omega (arith, inv.runs bytes k, rewalks.runs bytes (image ∙ k.0));
-      reads = runs_pay_then _ _ _ _ inv.reads c.rewalk_inode.ensures.counted (omega (arith, inv.low));
-      count = λ bytes k.
-          let fits : c.loop-number.workspace.runs_again + runs_until_reported d (runs_at v bytes notes n) < 2 ^ 64 =
-          omega (arith, inv.count bytes k, look_fits v bytes sound, on bytes k) in
-          omega (arith, inv.count bytes k, on bytes k, (rewalks.rewalked bytes (image ∙ k.0)).count fits);
-      reported = λ bytes k. reporting_more (inv.reported bytes k) (kept_next v bytes notes n (noted bytes k))
-          (rewalks.rewalked bytes (image ∙ k.0)).reported;
-      said = of_part _ (λ bytes. of_lines (first_offer_lines d (kept_from v bytes n)))
-          (λ bytes. of_lines (first_offer_lines d (offers_at v bytes notes n)))
-          (λ bytes. of_lines (first_offer_lines d' (kept_from v bytes (n + 1)))) _ _ _ _ inv.said
-          (λ bytes k. lines_split d d' _ _ _ (kept_next v bytes notes n (noted bytes k))
-          (rewalks.rewalked bytes (image ∙ k.0)).reported.dup)
-          (said_knows _ _ _ _ _ _ (λ bytes k. image ∙ k.0) rewalks.text);
-    }
+    let runs = scanned.runs bytes (known g c bytes k) in
+    let reads = scanned.reads (runs_fit v bytes _ sound runs) in
+    let within = runs_within v bytes _ sound runs in
+    back.few (omega (arith, reads, within, c.new-limited.ensures.asked, c.sweep_reads.ensures))
 
-pub returns-then-not-has_dups : goal.returns-then-not-has_dups
-returns-then-not-has_dups g c =
-    let v = c.args.geometry.now.layout in
-    let inv = c.loop-number.invariant in
-    let n = c.loop-number.number in
-    let d = bits_of c.loop-number.workspace.duplicates in
-    let none = none_left (set_count d) _ c.has_dups.ensures c.if-not-has_dups.true in
-    record {
-      prints = record {
-        image = inv.device;
-        text = of_same _ _ (λ bytes. []) _ _ _ inv.said
-            (λ bytes k. ap of_lines (none_first d (kept_from v bytes n) none));
-      };
-      holds = λ bytes k. (
-        claims_hold v bytes c.args.workspace.now _ k.1 inv.claims (reporting_over none (inv.reported bytes k)),
-        starts_hold v bytes c.args.workspace.now _ k.1 inv.claims,
-      );
-      runs = λ bytes k. omega (arith, inv.runs bytes k, runs_most v bytes n inv.low inv.high);
-      count = λ bytes k. omega (arith, inv.count bytes k, looked_none d (runs_from v bytes n) none);
-      reads = runs_pay_all _ _ _ inv.reads (numbers_most n (inodes_of v) inv.high);
-      seen = inv.claims.seen;
-      ready = inv.ready;
-    }
+pub returns-then-is_spent-clause-prints : goal.returns-then-is_spent-clause-prints
+returns-then-is_spent-clause-prints g c =
+    let at = (goal.at.returns-then-is_spent-clause-prints g c).After-is_spent in
+    let back = phase_served (rw c.new-limited.ensures.device at c.rescan_inodes-scanned.ensures.prints)
+    c.is_spent.ensures.below in
+    let image = c.image-1.given.1 back.same_image ∙ c.drop-limited.ensures.below in
+    rw image (back.refused tt c.if-is_spent.true (fits g at))
 
-pub returns-after-loop-number : goal.returns-after-loop-number
-returns-after-loop-number g c =
-    let v = c.args.geometry.now.layout in
-    let inv = c.loop-number.invariant in
-    let n = c.loop-number.number in
-    let d = bits_of c.loop-number.workspace.duplicates in
-    let past : inodes_of v ≤ n = omega arith in
-    record {
-      prints = record {
-        image = inv.device;
-        text = of_same _ _ (λ bytes. []) _ _ _ inv.said (λ bytes k. ap (λ os. of_lines (first_offer_lines d os))
-            (kept_end v bytes (claims_before v bytes n) n past));
-      };
-      holds = λ bytes k. (
-        claims_hold v bytes c.args.workspace.now _ k.1 inv.claims
-            (reporting_ends (inv.reported bytes k) (kept_end v bytes (claims_before v bytes n) n past)),
-        starts_hold v bytes c.args.workspace.now _ k.1 inv.claims,
-      );
-      runs = λ bytes k. omega (arith, inv.runs bytes k, runs_most v bytes n inv.low inv.high);
-      count = λ bytes k. omega (arith, inv.count bytes k, looked_end v bytes d (claims_before v bytes n) n past);
-      reads = runs_pay_all _ _ _ inv.reads (numbers_most n (inodes_of v) inv.high);
-      seen = inv.claims.seen;
-      ready = inv.ready;
-    }
+pub returns-then-is_spent-clause-holds : goal.returns-then-is_spent-clause-holds
+returns-then-is_spent-clause-holds g c = λ bytes k.
+    let at = (goal.at.returns-then-is_spent-clause-holds g c).After-is_spent in
+    absurd (both_ways _ (fits g at bytes k) c.if-is_spent.true)
 
-pub returns-in_err-rewalk_inode-clause-reads : goal.returns-in_err-rewalk_inode-clause-reads
-returns-in_err-rewalk_inode-clause-reads g c =
-    let inv = c.loop-number.invariant in
-    let most : c.loop-number.number < inodes_of c.args.geometry.now.layout = omega arith in
-    runs_pay_all _ _ _
-    (runs_pay_then _ _ _ (c.loop-number.number - 1) inv.reads c.rewalk_inode.ensures.counted (omega arith))
-    (omega (arith, most, inv.low))
+pub returns-then-is_spent-clause-runs : goal.returns-then-is_spent-clause-runs
+returns-then-is_spent-clause-runs g c = λ bytes k.
+    let at = (goal.at.returns-then-is_spent-clause-runs g c).After-is_spent in
+    c.rescan_inodes-scanned.ensures.runs bytes (known g at bytes k)
+
+pub returns-then-is_spent-clause-count : goal.returns-then-is_spent-clause-count
+returns-then-is_spent-clause-count g c = λ bytes k.
+    let at = (goal.at.returns-then-is_spent-clause-count g c).After-is_spent in
+    absurd (both_ways _ (fits g at bytes k) c.if-is_spent.true)
+
+pub returns-then-is_spent-clause-ready : goal.returns-then-is_spent-clause-ready
+returns-then-is_spent-clause-ready g c =
+    let prints = rw c.new-limited.ensures.device at c.rescan_inodes-scanned.ensures.prints in
+    let back = phase_served prints c.is_spent.ensures.below in
+    let image = c.image-1.given.1 back.same_image ∙ c.drop-limited.ensures.below in
+    let over = image_over _ _ c.rescan_inodes-scanned.result prints.image in
+    rw image (ready_same c.args.geometry.now.layout _ _ c.rescan_inodes-scanned.new.workspace
+    (back.contents ∙ sym over.contents) (back.size ∙ sym over.size) c.rescan_inodes-scanned.ensures.ready)
+
+pub returns-clause-prints : goal.returns-clause-prints
+returns-clause-prints g c =
+    let back = phase_served (rw c.new-limited.ensures.device at c.rescan_inodes-scanned.ensures.prints)
+    c.is_spent.ensures.below in
+    let image = c.image-2-1.given.1 back.same_image ∙ c.drop-limited-2.ensures.below in
+    rw image (back.answered c.if-is_spent.false)
+
+pub returns-clause-runs : goal.returns-clause-runs
+returns-clause-runs g c = λ bytes k.
+    let at = (goal.at.returns-clause-runs g c).After-is_spent in
+    c.rescan_inodes-scanned.ensures.runs bytes (known g at bytes k)
+
+pub returns-clause-ready : goal.returns-clause-ready
+returns-clause-ready g c =
+    let prints = rw c.new-limited.ensures.device at c.rescan_inodes-scanned.ensures.prints in
+    let back = phase_served prints c.is_spent.ensures.below in
+    let image = c.image-2-1.given.1 back.same_image ∙ c.drop-limited-2.ensures.below in
+    let over = image_over _ _ c.rescan_inodes-scanned.result prints.image in
+    rw image (ready_same c.args.geometry.now.layout _ _ c.rescan_inodes-scanned.new.workspace
+    (back.contents ∙ sym over.contents) (back.size ∙ sym over.size) c.rescan_inodes-scanned.ensures.ready)

@@ -7,7 +7,7 @@ use Rattle.ffs_report.proofs.Reporting.{of_begins, of_stops, of_reads, of_same}
 use Rattle.ffs_report.specs.Known.{ForBytes, IsContents}
 use Rattle.ffs_maps.specs.Bits.{bits_of}
 use Rattle.ffs_walk.proofs.Counted.{top_held, top_unread}
-use Rattle.ffs_walk.specs.{Counts.unread, Keepings.replay_in, Rests.steps_left}
+use Rattle.ffs_walk.specs.{Keepings.replay_in, Rests.steps_left}
 use Rattle.ffs_workspace.specs.Lengths.{set_count}
 use Rattle.ffs_claims.proofs.{Duplicates.none_first, Duplicates.none_left, Duplicates.some_left, Frames.can_walk}
 use Rattle.ffs_claims.proofs.Frames.{claims_none, claims_still, claims_then, ready_still, ready_read, ready_walked}

@@ -3,6 +3,7 @@ use Rattle.std.proofs.lemmas.{List.with_items_is, Result.err_from_is_err_and}
 use Rattle.ffs_volume.specs.Directories.Volumes.{volume_of}
 use Rattle.ffs_volume.proofs.Numbered.{count_next, from_next, from_end}
 use Rattle.ffs_report.specs.Known.{ForBytes}
+use Rattle.ffs_report.proofs.Paying.{paid_answer, paid_fault, paid_says, paid_stops, paid_then}
 use Rattle.ffs_report.proofs.Reporting.{of_fault, of_part, of_same, reports_knowing, said_knows, says_heading}
 use Rattle.ffs_report.proofs.Reporting.{stops_heading}
 use Rattle.ffs_workspace.specs.{Found.WithSurvey, Holds.bool_at, Lengths.inodes_of}
@@ -73,6 +74,7 @@ loop-number-init g c =
       said = says_heading
           (λ bytes k. lines_begin v bytes c.args.workspace.now _ _ c.deref.ensures.value c.deref-2.ensures.value k.1 k.2
           c.first_unreached-first.result (omega arith) c.first_unreached-first.ensures.before) c.in_ok-say.ensures.said;
+      paid = paid_says _ c.in_ok-say.ensures.said (omega arith) (omega arith);
     }
 
 pub returns-in_err-check_inode-clause-prints : goal.returns-in_err-check_inode-clause-prints
@@ -110,6 +112,7 @@ loop-number-preserved g c =
       said = of_part _ _ _ _ _ _ _ _ inv.said
           (λ bytes k. from_next (unref_dir_lines (volume_of v bytes)) n (inodes_of v) (omega arith))
           (said_knows _ _ _ _ _ _ more ok.prints.text);
+      paid = paid_then inv.paid (paid_answer ok.paid);
     }
 
 pub returns-clause-prints : goal.returns-clause-prints
@@ -130,3 +133,22 @@ returns-in_err-check_inode-clause-reads g c = λ bytes k.
 
 pub returns-clause-reads : goal.returns-clause-reads
 returns-clause-reads g c = λ bytes k. omega (arith, c.loop-number.invariant.reads bytes k)
+
+pub returns-in_err-say-clause-paid : goal.returns-in_err-say-clause-paid
+returns-in_err-say-clause-paid g c =
+    let p = err_from_is_err_and c.from_residual.result c.from_residual.ensures.1 in
+    rw (p.1, p.2) (paid_stops {after = g.I.Image.reads c.args.image.now} _ c.in_err-say.ensures.said (omega arith)
+    (omega arith))
+
+pub returns-then-first-len-clause-paid : goal.returns-then-first-len-clause-paid
+returns-then-first-len-clause-paid g c = paid_says _ c.in_ok-say.ensures.said (omega arith) (omega arith)
+
+pub returns-in_err-check_inode-clause-paid : goal.returns-in_err-check_inode-clause-paid
+returns-in_err-check_inode-clause-paid g c =
+    let p = err_from_is_err_and c.from_residual-in_err-check_inode.result
+    c.from_residual-in_err-check_inode.ensures.1 in
+    rw (p.1, p.2) (paid_then c.loop-number.invariant.paid
+    (paid_fault c.in_err-check_inode.field-0.0 c.in_err-check_inode.ensures.paid))
+
+pub returns-clause-paid : goal.returns-clause-paid
+returns-clause-paid g c = paid_answer c.loop-number.invariant.paid

@@ -1,5 +1,5 @@
-use Rattle.std.proofs.Common.{◌≡◌, ◌+◌, ◌-◌, ◌≤◌, ◌∷◌, length, map}
-use Rattle.ffs_report.specs.{Known.ForBytes, PhaseOutcome.SaidOf, Progress.progress}
+use Rattle.std.proofs.Common.{◌≡◌, ◌+◌, ◌-◌, ◌≤◌, ◌∷◌, length, map, Ok}
+use Rattle.ffs_report.specs.{Known.ForBytes, Paid.Paid, PhaseOutcome.SaidOf, Progress.progress}
 use Rattle.ffs_volume.specs.Directories.{Connectivity.connectivity_lines, Volumes.volume_of}
 use Rattle.ffs_volume.specs.Messages.Kinds.{of_tree, phase3, lines_from}
 use Rattle.ffs_workspace.specs.{Found.WithSurvey, Leaves.LeavesSurvey, Lengths.inodes_of, Ready.IsReady}
@@ -22,4 +22,6 @@ invariant-loop-number g l = let v = l.geometry.layout in record {
       (lines_after v l.number)
       (λ bytes. phase3 ∷ map of_tree (connectivity_lines (volume_of v bytes)))
       (progress g.W.Output.sink l.fn.report) (progress g.W.Output.sink l.report);
+  paid : Paid {T = Unit {0}} 1 (progress g.W.Output.sink l.fn.report) (progress g.W.Output.sink l.report)
+      (g.I.Image.reads l.fn.image) (g.I.Image.reads l.image) (Ok tt);
 }

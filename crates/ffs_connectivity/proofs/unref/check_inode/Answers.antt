@@ -4,6 +4,7 @@ use Rattle.ffs_volume.specs.declared.Attr.{Attr}
 use Rattle.ffs_volume.specs.{Directories.Connectivity.is_unref_dir, Directories.Volumes.volume_of}
 use Rattle.ffs_volume.specs.Messages.Kinds.{of_tree, unref_dir}
 use Rattle.ffs_report.specs.Known.{ForBytes}
+use Rattle.ffs_report.proofs.Paying.{paid_none, paid_reads, paid_says, paid_stops}
 use Rattle.ffs_report.proofs.Reporting.{reads_first, says_all, says_none, stops_all}
 use Rattle.ffs_workspace.specs.Found.{WithSurvey}
 use Rattle.ffs_connectivity.specs.Lines.{unref_dir_lines}
@@ -76,3 +77,19 @@ returns-clause-reads g c = λ bytes k.
     let test = tested g (goal.at.returns-clause-reads g c).After-is_unref-unref bytes k in
     let one = one_line (volume_of c.args.geometry.now.layout bytes) c.args.number (test ∙ c.if-not-unref.false) in
     omega (arith, one, c.in_ok-inode.ensures.counted)
+
+pub returns-then-not-unref-clause-paid : goal.returns-then-not-unref-clause-paid
+returns-then-not-unref-clause-paid g c = paid_none (omega arith)
+
+pub returns-in_err-inode-clause-paid : goal.returns-in_err-inode-clause-paid
+returns-in_err-inode-clause-paid g c =
+    let p = err_from_is_err_and c.from_residual.result c.from_residual.ensures.1 in
+    rw (p.1, p.2) (paid_reads c.in_err-inode.ensures.counted)
+
+pub returns-in_err-say-clause-paid : goal.returns-in_err-say-clause-paid
+returns-in_err-say-clause-paid g c =
+    let p = err_from_is_err_and c.from_residual-in_err-say.result c.from_residual-in_err-say.ensures.1 in
+    rw (p.1, p.2) (paid_stops _ c.in_err-say.ensures.said (omega arith) c.in_ok-inode.ensures.counted)
+
+pub returns-clause-paid : goal.returns-clause-paid
+returns-clause-paid g c = paid_says _ c.in_ok-say.ensures.said (omega arith) c.in_ok-inode.ensures.counted

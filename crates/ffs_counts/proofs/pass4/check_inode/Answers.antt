@@ -1,14 +1,18 @@
-use Rattle.std.proofs.Common.{◌≡◌, ◌∙◌, ◌-◌, arith, ap, false, length, List, map, refl, rules, slice_index, sym, ℕ}
-use Rattle.std.proofs.lemmas.Result.{err_from_is_err_and}
+use Rattle.std.proofs.Common.{◌≡◌, ◌≤◌, ◌∙◌, ◌-◌, arith, ap, false, length, List, map, refl, rules, slice_index, sym}
+use Rattle.std.proofs.Common.{ℕ, SFits}
+use Rattle.std.specs.Int.{w16}
+use Rattle.std.proofs.lemmas.{List.length-map, Result.err_from_is_err_and}
 use Rattle.ffs_volume.specs.Directories.{PathnameCheck.attributes_of, ReferenceCheck.reference_lines_at}
 use Rattle.ffs_volume.specs.{Directories.Volumes.volume_of, Encodings.Links.links_start}
 use Rattle.ffs_volume.specs.Messages.Kinds.{TreeMessage, of_tree}
 use Rattle.ffs_report.specs.Known.{ForBytes}
+use Rattle.ffs_report.proofs.Paying.{paid_none, paid_reads, paid_says, paid_stops}
 use Rattle.ffs_report.proofs.Reporting.{reads_first, says_all, says_none, stops_all}
 use Rattle.ffs_workspace.specs.{Found.WithFindings, Holds.bool_at, Ready.StaysReady}
 use Rattle.ffs_workspace.proofs.Readiness.{ready_table}
 use Rattle.ffs_counts.specs.References.{lines_as}
 use Rattle.ffs_counts.proofs.Holding.{inode_lines_are, item_at, met_lines, same_reported, some_lines, unmet_line}
+use Rattle.ffs_counts.proofs.Holding.{unmet_reported}
 use Rattle.ffs_counts.proofs.pass4.check_inode.Given as given
 use Rattle.ffs_counts.proofs.pass4.check_inode.Goals as goal
 use Rattle.ffs_counts.proofs.pass4.check_inode.Goals.{After-inode, After-line_for-line, In_ok-inode}
@@ -48,6 +52,21 @@ lines_are g c bytes k =
     c.index-kind.result.now (slice_index w.kinds.items n) (attributes_of n inode) inode.nlink
     c.references_by-references.result _ marked kind refs
     ∙ sym c.line_for-line.ensures)
+
+-- it has a line, whatever was read of it
+some : (g : given.Over) (c : After-line_for-line g) → 1 ≤ length (map of_tree (lines_as c.line_for-line.result))
+some g c =
+    let w = c.args.workspace.now in
+    let n = c.args.number in
+    let count : c.index-count.result.now ≡ slice_index w.references.items n =
+    item_at w.references n _ c.index-count.result.now 0 c.index-count.ensures c.requires.number
+    c.requires.ready.made.references in
+    let fits : SFits w16 c.in_ok-inode.inode.nlink = search rules in
+    let one : length (lines_as c.line_for-line.result) ≡ 1 =
+    ap length c.line_for-line.ensures
+    ∙ unmet_reported w n _ _ _ c.in_ok-inode.inode.nlink _ _ _ (sym c.is_right.ensures ∙ c.if-is_right.false)
+    c.is_dead-dead.ensures count c.references_by-references.ensures fits in
+    omega (arith, length-map (lines_as c.line_for-line.result) of_tree ∙ one)
 
 stays : (g : given.Over) (c : In_ok-inode g) →
     StaysReady c.args.geometry.now.layout (g.I.Image.device c.inode.new.image) c.args.workspace.now
@@ -110,3 +129,23 @@ pub returns-clause-reads : goal.returns-clause-reads
 returns-clause-reads g c = λ bytes k.
     let line = one g (goal.at.returns-clause-reads g c).After-inode bytes k in
     omega (arith, line, c.in_ok-inode.ensures.counted)
+
+pub returns-then-is_right-clause-paid : goal.returns-then-is_right-clause-paid
+returns-then-is_right-clause-paid g c = paid_none (omega arith)
+
+pub returns-in_err-inode-clause-paid : goal.returns-in_err-inode-clause-paid
+returns-in_err-inode-clause-paid g c =
+    let p = err_from_is_err_and c.from_residual.result c.from_residual.ensures.1 in
+    rw (p.1, p.2) (paid_reads c.in_err-inode.ensures.counted)
+
+pub returns-in_err-say_line-clause-paid : goal.returns-in_err-say_line-clause-paid
+returns-in_err-say_line-clause-paid g c =
+    let p = err_from_is_err_and c.from_residual-in_err-say_line.result c.from_residual-in_err-say_line.ensures.1 in
+    let at = goal.at.returns-in_err-say_line-clause-paid g c in
+    rw (p.1, p.2) (paid_stops _ c.in_err-say_line.ensures (some g at.After-line_for-line)
+    c.in_ok-inode.ensures.counted)
+
+pub returns-clause-paid : goal.returns-clause-paid
+returns-clause-paid g c =
+    let at = goal.at.returns-clause-paid g c in
+    paid_says _ c.in_ok-say_line.ensures (some g at.After-line_for-line) c.in_ok-inode.ensures.counted

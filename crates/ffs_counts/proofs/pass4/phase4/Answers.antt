@@ -3,6 +3,7 @@ use Rattle.std.proofs.lemmas.Result.{err_from_is_err_and}
 use Rattle.ffs_volume.specs.Directories.{ReferenceCheck.reference_lines_at, Volumes.volume_of}
 use Rattle.ffs_volume.proofs.Numbered.{as_many, count_next, from_next, from_end}
 use Rattle.ffs_report.specs.Known.{ForBytes}
+use Rattle.ffs_report.proofs.Paying.{paid_answer, paid_fault, paid_says, paid_stops, paid_then}
 use Rattle.ffs_report.proofs.Reporting.{of_fault, of_part, of_same, reports_knowing, said_knows, says_heading}
 use Rattle.ffs_report.proofs.Reporting.{stops_heading}
 use Rattle.ffs_workspace.specs.{declared.workspace.Workspace.Workspace, Found.WithFindings, Lengths.inodes_of}
@@ -47,6 +48,7 @@ loop-number-init g c =
       held = refl;
       reads = λ bytes k. let all = as_many _ _ (lines_begin v bytes) in omega (arith, all);
       said = says_heading (λ bytes k. lines_begin v bytes) c.in_ok-say.ensures.said;
+      paid = paid_says _ c.in_ok-say.ensures.said (omega arith) (omega arith);
     }
 
 pub returns-in_err-check_inode-clause-prints : goal.returns-in_err-check_inode-clause-prints
@@ -86,6 +88,7 @@ loop-number-preserved-then-free-eq0 g c =
           (λ bytes k. from_next (reference_lines_at (volume_of v bytes)) n (inodes_of v)
           (omega (arith, c.loop-number-test.true)))
           (said_knows _ _ _ _ _ _ more ok.prints.text);
+      paid = paid_then inv.paid (paid_answer ok.paid);
     }
 
 pub loop-number-preserved : goal.loop-number-preserved
@@ -99,6 +102,7 @@ loop-number-preserved g c =
       held = inv.held;
       reads = λ bytes k. let on = as_many _ _ (none bytes k) in omega (arith, inv.reads bytes k, on);
       said = of_same _ _ _ _ _ _ inv.said none;
+      paid = inv.paid;
     }
 
 pub returns-clause-prints : goal.returns-clause-prints
@@ -121,3 +125,19 @@ returns-in_err-check_inode-clause-reads g c = λ bytes k.
 
 pub returns-clause-reads : goal.returns-clause-reads
 returns-clause-reads g c = λ bytes k. omega (arith, c.loop-number.invariant.reads bytes k)
+
+pub returns-in_err-say-clause-paid : goal.returns-in_err-say-clause-paid
+returns-in_err-say-clause-paid g c =
+    let p = err_from_is_err_and c.from_residual.result c.from_residual.ensures.1 in
+    rw (p.1, p.2) (paid_stops {after = g.I.Image.reads c.args.image.now} _ c.in_err-say.ensures.said (omega arith)
+    (omega arith))
+
+pub returns-in_err-check_inode-clause-paid : goal.returns-in_err-check_inode-clause-paid
+returns-in_err-check_inode-clause-paid g c =
+    let p = err_from_is_err_and c.from_residual-in_err-check_inode.result
+    c.from_residual-in_err-check_inode.ensures.1 in
+    rw (p.1, p.2) (paid_then c.loop-number.invariant.paid
+    (paid_fault c.in_err-check_inode.field-0.0 c.in_err-check_inode.ensures.paid))
+
+pub returns-clause-paid : goal.returns-clause-paid
+returns-clause-paid g c = paid_answer c.loop-number.invariant.paid

@@ -1,5 +1,5 @@
-use Rattle.std.proofs.Common.{◌≡◌, ◌+◌, ◌-◌, ◌≤◌, ◌∷◌, length, map}
-use Rattle.ffs_report.specs.{Known.ForBytes, PhaseOutcome.SaidOf, Progress.progress}
+use Rattle.std.proofs.Common.{◌≡◌, ◌+◌, ◌-◌, ◌≤◌, ◌∷◌, length, map, Ok}
+use Rattle.ffs_report.specs.{Known.ForBytes, Paid.Paid, PhaseOutcome.SaidOf, Progress.progress}
 use Rattle.ffs_volume.specs.Directories.{ReferenceCheck.reference_lines_at, ReferenceCheck.reference_lines}
 use Rattle.ffs_volume.specs.{Directories.Volumes.volume_of, Messages.Kinds.of_tree, Messages.Kinds.phase4}
 use Rattle.ffs_volume.specs.Messages.Kinds.{lines_from}
@@ -22,6 +22,8 @@ invariant-loop-number g l = record {
       (lines_after l.geometry.layout l.number)
       (λ bytes. phase4 ∷ map of_tree (reference_lines (volume_of l.geometry.layout bytes)))
       (progress g.W.Output.sink l.fn.report) (progress g.W.Output.sink l.report);
+  paid : Paid {T = Unit {0}} 1 (progress g.W.Output.sink l.fn.report) (progress g.W.Output.sink l.report)
+      (g.I.Image.reads l.fn.image) (g.I.Image.reads l.image) (Ok tt);
 }
 
 abbrev pub decreases-loop-number : goal.decreases-loop-number

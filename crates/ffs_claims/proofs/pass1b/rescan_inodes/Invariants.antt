@@ -8,7 +8,7 @@ use Rattle.ffs_workspace.specs.{Found.WithPhase1, Lengths.inodes_of, Ready.IsRea
 use Rattle.ffs_claims.proofs.{Reportings.Reporting, Rescanned.kept_from, Rescanned.runs_from}
 use Rattle.ffs_claims.specs.{Lines.of_lines, Reporting.SameClaims}
 use Rattle.ffs_claims.specs.RescanRuns.{RunsPay, runs_until_reported, rescan_runs}
-use Rattle.ffs_claims.proofs.pass1b.phase1b.Given as goal
+use Rattle.ffs_claims.proofs.pass1b.rescan_inodes.Given as goal
 
 abbrev pub invariant-loop-number : goal.invariant-loop-number
 invariant-loop-number g l = let v = l.geometry.layout in

@@ -1,0 +1,125 @@
+-- How often a check reads any image, from the phases to the whole.
+use Rattle.std.proofs.Common.{◌≡◌, ◌≤◌, ◌+◌, ◌*◌, ℕ, suc, false, inl, inr, ap, sym, ◌∙◌, arith, List, [], ◌∷◌, ◌++◌, length}
+use Rattle.std.proofs.Common.{length-append, Option, Ok, Err, subst, Result}
+use Rattle.std.proofs.Math.Nat.{mul-le-mul_left}
+use Rattle.std.specs.Borrow.{GName}
+use Rattle.ffs_image.specs.Device.{Device}
+use Rattle.ffs_volume.specs.declared.{Layout.Layout, End.End}
+use Rattle.ffs_volume.specs.{Laws.Geometry.IsAcceptedLayout, Messages.Kinds.Message, Messages.Kinds.cannot_alloc, Messages.Kinds.cannot_read}
+use Rattle.ffs_volume.specs.Report.{Memory.runs_limit, Reads.group_reads, Reads.line_reads, Reads.opening_reads}
+use Rattle.ffs_volume.specs.Report.Reads.{phase_reads, reads_limit, sweep_reads}
+use Rattle.ffs_volume.specs.Report.Opening.{opening_lines}
+use Rattle.ffs_layout.specs.declared.superblock.Super.{Super}
+use Rattle.ffs_report.specs.{Sink.Sink, Paid.Paid, Progress.Progress, Progress.Said, Progress.Stopped, Progress.starts}
+use Rattle.ffs_report.specs.declared.fault.RunFault.{RunFault}
+use Rattle.ffs_report.specs.declared.fault.RunFault.TheVariants.{Read, Out}
+use Rattle.ffs_report.specs.PhaseOutcome.{PhaseReports}
+use Rattle.ffs_report.proofs.Reports.{said_then, stopped_after}
+use Rattle.ffs_report.proofs.Paying.{paid_answer, paid_beside, paid_price, paid_text, paid_then, paid_within}
+use Rattle.ffs_pathnames.specs.declared.pass2.Root.{Root}
+use Rattle.ffs_workspace.specs.Places.{AreChunksNumbered}
+use Rattle.ffs_check.specs.AnyReads.{PhasesReadAny, ReadsAny, ReadsByMessages, RestReadsAny}
+use Rattle.ffs_check.specs.{Ends.BrokeOffIn, Ends.Printed, Opening.SaysOpening, PhaseEnds.EndsAs, PhaseEnds.SaysRefusal}
+use Rattle.ffs_check.proofs.EndLaws.{broke_off}
+
+-- the price of each message, beside what the phases read for none
+priced : (v : Layout) (n m before after : ℕ) → after ≤ before + phase_reads v 0 + (line_reads + 1) * n → n ≤ m →
+    after ≤ before + phase_reads v m
+priced v n m before after most few =
+    let more = mul-le-mul_left (line_reads + 1) few in omega (arith, most, more)
+
+-- phase 1 was said, and then phase 1b, or nothing
+pub scan_paid : {T U V : Type 0} (v : Layout) {knows knows' : List ℕ → Type 0} {all all' : List ℕ → List Message}
+    {a b c : Progress} {before first after runs : ℕ} (x : T) (y : U) (z : V) → PhaseReports knows all a b (Ok x) →
+    first ≤ before + v.ncg * v.ipg + runs → runs ≤ runs_limit v → PhaseReports knows' all' b c (Ok y) →
+    after ≤ first + sweep_reads v → Paid (line_reads + 1) a c (before + phase_reads v 0)
+    (after + (4 * sweep_reads v + group_reads v)) (Ok z)
+scan_paid v {knows = knows} {knows' = knows'} {all = all} {all' = all'} {a = a} {b = b} {before = before} {first = first}
+    x y z one reads few two again =
+    let begun : Paid (line_reads + 1) a b (before + phase_reads v 0)
+    (first + (5 * sweep_reads v + group_reads v)) (Ok x) = paid_text knows all (Ok x) one (omega (arith, reads, few)) in
+    paid_answer (paid_then begun (paid_text knows' all' (Ok y) two (omega (arith, again))))
+
+-- and then phase 2
+pub names_paid : {T U : Type 0} (v : Layout) {a b c : Progress} {before first after : ℕ} {x : T}
+    {r : Result U RunFault} → Paid (line_reads + 1) a b before (first + (4 * sweep_reads v + group_reads v)) (Ok x) →
+    Paid line_reads b c (first + 4 * sweep_reads v) after r →
+    Paid (line_reads + 1) a c before (after + group_reads v) r
+names_paid v one two = paid_then one
+    (paid_within (paid_beside (group_reads v) (paid_price line_reads (line_reads + 1) (omega arith) two)) (omega arith)
+    (omega arith))
+
+-- and then phase 3, or 4
+pub links_paid : {T U : Type 0} (v : Layout) {a b c : Progress} {before first after : ℕ} {x : T}
+    {r : Result U RunFault} → Paid (line_reads + 1) a b before (first + group_reads v) (Ok x) →
+    Paid 1 b c first after r → Paid (line_reads + 1) a c before (after + group_reads v) r
+links_paid v one two = paid_then one (paid_beside (group_reads v) (paid_price 1 (line_reads + 1) (omega arith) two))
+
+-- the phases have ended, and a read that failed is said
+pub ended_reads : (v : Layout) (had_defect : Bool) (a b c : Progress) (before after : ℕ) (r : Result Root RunFault)
+    (end : End) → Paid (line_reads + 1) a b (before + phase_reads v 0) after r → EndsAs had_defect b c r end →
+    ReadsByMessages Said Stopped (phase_reads v) a c before after
+ended_reads v had_defect a b c before after (Ok root) end p e = record {
+  messages = p.begun.messages;
+  went_out = inl (subst (λ to. Said a to p.begun.messages) (sym e.0) p.begun.said);
+  most = priced v p.messages _ before after p.most (omega (arith, p.begun.many));
+}
+ended_reads v had_defect a b c before after (Err (Read fault)) end p e =
+    let line = cannot_read fault.sector in
+    let long = length-append p.begun.messages (line ∷ []) in
+    record {
+      messages = p.begun.messages ++ (line ∷ []);
+      went_out = elim e [
+        inl said ↦ inl (said_then a b c p.begun.messages (line ∷ []) p.begun.said said.0)
+        | inr stopped ↦ inr (stopped_after a b c p.begun.messages (line ∷ []) p.begun.said stopped.0)
+      ];
+      most = priced v p.messages _ before after p.most (omega (arith, p.begun.many, long));
+    }
+ended_reads v had_defect a b c before after (Err (Out fault)) end p e = record {
+  messages = p.begun.messages;
+  went_out = inr (subst (λ to. Stopped a to p.begun.messages) (sym e.0) p.begun.stopped);
+  most = priced v p.messages _ before after p.most (omega (arith, p.begun.many));
+}
+
+-- the memory was refused, which was said, and nothing was read
+pub unstarted_reads : (v : Layout) (a b : Progress) (reads : ℕ) (end : End) → SaysRefusal a b end →
+    ReadsByMessages Said Stopped (phase_reads v) a b reads reads
+unstarted_reads v a b reads end e = record {
+  messages = cannot_alloc ∷ [];
+  went_out = elim e [ inl said ↦ inl said.0 | inr stopped ↦ inr stopped.0 ];
+  most = omega arith;
+}
+
+-- what a report said that had not failed went to its output
+pub printed_reads : (limit : ℕ → ℕ) (a b : Progress) (before after : ℕ) → a.failed ≡ false →
+    ReadsByMessages Said Stopped limit a b before after →
+    ReadsByMessages Printed BrokeOffIn limit a.sink b.sink before after
+printed_reads limit a b before after fine p = record {
+  messages = p.messages;
+  went_out = elim p.went_out [
+    inl said ↦ inl said.took
+    | inr stopped ↦ inr (broke_off a b p.messages fine stopped)
+  ];
+  most = p.most;
+}
+
+-- the opening was said, and then the phases
+pub opened_reads : (v : Layout) (a b c : Progress) (lines : List Message) (before between after : ℕ) →
+    Said a b lines → between ≤ before + opening_reads →
+    ReadsByMessages Said Stopped (phase_reads v) b c between after →
+    ReadsByMessages Said Stopped (reads_limit v) a c before after
+opened_reads v a b c lines before between after said opened p =
+    let long = length-append lines p.messages in
+    record {
+      messages = lines ++ p.messages;
+      went_out = elim p.went_out [
+        inl more ↦ inl (said_then a b c lines p.messages said more)
+        | inr stopped ↦ inr (stopped_after a b c lines p.messages said stopped)
+      ];
+      most = omega (arith, opened, p.most, long);
+    }
+
+-- nothing was read but what the opening reads
+pub opening_any : (size : ℕ) (out out' : Sink) (before after : ℕ) → after ≤ before + opening_reads →
+    ReadsAny size out out' before after
+opening_any size out out' before after few = inl few
