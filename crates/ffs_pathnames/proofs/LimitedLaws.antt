@@ -1,8 +1,8 @@
 -- What a look at a directory leaves of the image that it was limited on, and of the reads that are
 -- left.
 use Rattle.std.specs.Borrow.{GName}
-use Rattle.std.proofs.Common.{◌≡◌, ◌≤◌, ◌+◌, ℕ, arith, Bool, Option, Some, None, Result, Ok, Err, IfOk, IfSome, MatchResult, MatchOption}
-use Rattle.std.proofs.Common.{◌⊎◌, ◌*◌, ◌-◌, ◌^◌, inl, inr}
+use Rattle.std.proofs.Common.{◌≡◌, ◌≤◌, ◌⊎◌, ◌+◌, ◌*◌, ◌-◌, ◌^◌, ℕ, arith, inl, inr, Bool, Option, Some, None, IfSome}
+use Rattle.std.proofs.Common.{Result, Ok, Err, IfOk, MatchOption, MatchResult}
 use Rattle.std.proofs.lemmas.Bool.{cases_lt}
 use Rattle.ffs_volume.specs.declared.constants.TheConstants.{DIRBLKSIZ}
 use Rattle.ffs_workspace.specs.Places.{AreChunksNumbered}

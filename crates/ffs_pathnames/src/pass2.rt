@@ -36,7 +36,8 @@ pub enum Root {
 /// holds what the survey found.
 ///
 /// Where a word has room for the number of each chunk (a volume below 2^40 bytes), the image is
-/// read at most `pathname_reads` times, also where a read failed.
+/// read at most `pathname_reads` times, also where a read failed. An image that gives other bytes
+/// each time is read no more than four sweeps, and `line_reads` for each message that was begun.
 ///
 /// # Errors
 /// A read of the image that failed, and a write of the report that failed.
@@ -72,7 +73,7 @@ pub fn phase2<I: Image, W: Output>(
         → I.reads image.new ≤ I.reads image.old + pathname_reads geometry.now.layout
         (length (pathname_lines (volume_of geometry.now.layout b)))) }
 
-    // Of any image, also of one that gives other bytes each time.
+    // This holds of any image: nothing need be known of its bytes.
     ensures paid { AreChunksNumbered geometry.now.layout → Paid line_reads
         (progress W.sink report.old) (progress W.sink report.new)
         (I.reads image.old + 4 * sweep_reads geometry.now.layout) (I.reads image.new) result }
