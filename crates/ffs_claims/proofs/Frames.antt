@@ -16,25 +16,13 @@ pub found_none : (w : Workspace) → SameFound w w
 found_none w = record { kinds = refl; marked = refl; notes = refl; references = refl; again = refl }
 
 pub found_then : {u v w : Workspace} → SameFound u v → SameFound v w → SameFound u w
-found_then p q = record {
-  kinds = q.kinds ∙ p.kinds;
-  marked = q.marked ∙ p.marked;
-  notes = q.notes ∙ p.notes;
-  references = q.references ∙ p.references;
-  again = q.again ∙ p.again;
-}
+found_then p q = grind arith
 
 pub claims_none : (w : Workspace) → SameClaims w w
 claims_none w = record { used = refl; kinds = refl; notes = refl; references = refl; seen = refl }
 
 pub claims_then : {u v w : Workspace} → SameClaims u v → SameClaims v w → SameClaims u w
-claims_then p q = record {
-  used = q.used ∙ p.used;
-  kinds = q.kinds ∙ p.kinds;
-  notes = q.notes ∙ p.notes;
-  references = q.references ∙ p.references;
-  seen = q.seen ∙ p.seen;
-}
+claims_then p q = grind arith
 
 -- the windows are no part of it
 pub found_still : {u w : Workspace} {windows : Windows} → SameFound u w → SameFound u (record w { windows = windows })
@@ -48,7 +36,7 @@ pub only_none : {l : Layout} {w : Workspace} → IsFor l w → ClaimsOnly l w w
 only_none {w = w} made = record { made = made; windows = refl; found = found_none w }
 
 pub only_then : {l : Layout} {u v w : Workspace} → ClaimsOnly l u v → ClaimsOnly l v w → ClaimsOnly l u w
-only_then p q = record { made = q.made; windows = q.windows ∙ p.windows; found = found_then p.found q.found }
+only_then p q = grind arith
 
 -- an offer that changes the map of claims, or none, and the count of kept offers
 pub offers_claimed : {l : Layout} {w : Workspace} {map : FragmentMap} {kept : ℕ} → IsFor l w → map.size ≡ w.used.size
@@ -61,7 +49,7 @@ pub offers_none : {l : Layout} {w : Workspace} → IsFor l w → OffersOnly l w 
 offers_none made = record { claiming = only_none made; runs = refl }
 
 pub offers_then : {l : Layout} {u v w : Workspace} → OffersOnly l u v → OffersOnly l v w → OffersOnly l u w
-offers_then p q = record { claiming = only_then p.claiming q.claiming; runs = q.runs ∙ p.runs }
+offers_then p q = grind arith
 
 pub reports_none : {l : Layout} {w : Workspace} → IsFor l w → ReportsOnly l w w
 reports_none {w = w} made = record { made = made; windows = refl; claims = claims_none w }
@@ -71,11 +59,7 @@ offers_reported_none made = record { reporting = reports_none made; runs = refl 
 
 pub offers_reported_then : {l : Layout} {u v w : Workspace} → OffersReportedOnly l u v → OffersReportedOnly l v w →
     OffersReportedOnly l u w
-offers_reported_then p q = let a = p.reporting in let b = q.reporting in
-    record {
-      reporting = record { made = b.made; windows = b.windows ∙ a.windows; claims = claims_then a.claims b.claims };
-      runs = q.runs ∙ p.runs;
-    }
+offers_reported_then p q = grind arith
 
 -- it stays ready where its windows are as they were
 pub ready_still : {l : Layout} {d : Device} {u w : Workspace} → IsFor l w → w.windows ≡ u.windows → IsReady l d u →

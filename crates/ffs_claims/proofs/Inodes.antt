@@ -1,7 +1,7 @@
 -- How an inode's part of the block check continues, and how many Runs it is seen to have.
 use Rattle.std.proofs.Common.{◌+◌, ◌<◌, ◌^◌, false, arith, OnOk, ◌≡◌, ℕ, List, [], ◌++◌, append-nil, Option, Result, Ok}
 use Rattle.std.proofs.Common.{Err, ap, ◌∙◌, sym, refl, ◌≤◌, nat_lt, true}
-use Rattle.std.proofs.lemmas.{Bool.ltb-true, Bool.and_parts, List.Sums.count_by-le-length}
+use Rattle.std.proofs.lemmas.{Bool.Decides.nat_tests, List.Sums.count_by-le-length}
 use Rattle.ffs_volume.proofs.Potentials.{step_moves, moves_then}
 use Rattle.ffs_volume.specs.Blocks.BlockCheck.{class_lines, count_lines, owner_lines}
 use Rattle.ffs_volume.specs.Blocks.Claims.{Claims, at_next_inode, after_steps, after_owner, lines_of_steps, is_open}
@@ -33,9 +33,7 @@ used_below {w = w} made =
     omega (arith, count_by-le-length (λ b. b) (claims_of w).used, size)
 
 open_few : (s : Claims) → is_open s ≡ true → (s.bad < 11) × (s.dups < 11)
-open_few s free =
-    let both = and_parts (nat_lt s.bad 11) (nat_lt s.dups 11) free in
-    (ltb-true s.bad 11 both.0, ltb-true s.dups 11 both.1)
+open_few s free = (grind (arith, nat_tests), grind (arith, nat_tests))
 
 -- how many Runs are seen, and how many offers are kept, while an inode isn't cut
 pub seen_bound : {v : Layout} (u : Workspace) {w : Workspace} → IsFor v w → is_open (claims_of w) ≡ true →
@@ -83,18 +81,13 @@ pub class_said : {knows : List ℕ → Type 0} {a b : Progress} {s1 : Claims} {c
     SaidOf knows (rest_lines v number i class s1) (λ bytes. of_lines (owner_lines v s (owner_with v bytes number i))) a
     b
 class_said v number i s e k q =
-    rw (e, k) (of_says _ _ (rest_lines v number i (class_of v i) (at_next_inode s)) _
-    (of_lines (class_lines number (class_of v i))) _ _ _
-    (of_begins _ (λ bytes. of_lines (owner_lines v s (owner_with v bytes number i))) _)
-    (λ bytes t. parts v number i s bytes) (rw k at q))
+    rw (e, k) (of_says _ _ _ _ _ _ _ _ (of_begins _ _ _) (λ bytes t. parts v number i s bytes) (rw k at q))
 
 pub class_stopped : {knows : List ℕ → Type 0} {a b : Progress} {class : Class} (v : Layout) (number : ℕ) (i : Inode)
     (s : Claims) → class ≡ class_of v i → Stopped a b (of_lines (class_lines number class)) →
     StoppedOf knows (λ bytes. of_lines (owner_lines v s (owner_with v bytes number i))) a b
 class_stopped v number i s k q =
-    of_stops _ _ (rest_lines v number i (class_of v i) (at_next_inode s)) _
-    (of_lines (class_lines number (class_of v i))) _ _ _
-    (of_begins _ (λ bytes. of_lines (owner_lines v s (owner_with v bytes number i))) _)
+    of_stops _ _ (rest_lines v number i (class_of v i) (at_next_inode s)) _ _ _ _ _ (of_begins _ _ _)
     (λ bytes t. parts v number i s bytes) (rw k at q)
 
 -- its steps are reported then, and the count's line is that of the claims that are there
@@ -106,10 +99,7 @@ pub steps_reported : {knows : List ℕ → Type 0} {a b c : Progress} {s2 : Clai
     SaidOf knows (λ bytes. of_lines (count_lines v (counted_owner number class i.blocks) s2) ++ [])
     (λ bytes. of_lines (owner_lines v s (owner_with v bytes number i))) a c
 steps_reported {s2 = s2} v number i s s1 class said steps h =
-    of_part _ _ _ (λ bytes. of_lines (count_lines v (counted_owner number class i.blocks) s2) ++ []) _ _ _ _ said
-    (λ bytes t. ap (λ x. of_lines (lines_of_steps v number s1 (steps_of v i bytes))
-    ++ of_lines (count_lines v (counted_owner number class i.blocks) x)) (sym (h bytes t))
-    ∙ ap (λ xs. of_lines (lines_of_steps v number s1 (steps_of v i bytes)) ++ xs) (sym (append-nil _))) steps
+    of_part _ _ _ _ _ _ _ _ said (λ bytes t. rw (h bytes t, append-nil) refl) steps
 
 -- the Runs that were seen are as they were, and so is how many fragments are used
 pub record SameRuns (u w : Workspace) : Type 0 where

@@ -19,9 +19,6 @@ returns-in_err-offer-clause-said g c =
     (offers_more v c.args.number s (claims_of c.offer.new.workspace) c.args.start c.args.len c.loop-index.index f
     c.loop-index-test.true (omega arith) c.offer.ensures.claims) c.in_err-offer.ensures.said)
 
-pub returns-in_err-offer-clause-only : goal.returns-in_err-offer-clause-only
-returns-in_err-offer-clause-only g c = offers_then c.loop-index.invariant.only c.offer.ensures.only
-
 pub loop-index-preserved : goal.loop-index-preserved
 loop-index-preserved g c =
     let inv = c.loop-index.invariant in

@@ -24,22 +24,3 @@ returns-then-claim g c =
       };
       only = offers_claimed c.requires.can.room.made c.claim.ensures.size;
     }
-
-pub returns-in_err-offers : goal.returns-in_err-offers
-returns-in_err-offers g c =
-    let p = err_from_is_err_and c.from_residual.result c.from_residual.ensures.1 in
-    let same = c.claim.ensures.kept c.if-claim.false in
-    record {
-      said = rw (p.1) (rw same at c.in_err-offers.ensures.said);
-      claims = rw p.1 tt;
-      only = rw same at c.offers.ensures.only;
-    }
-
-pub returns : goal.returns
-returns g c =
-    let same = c.claim.ensures.kept c.if-claim.false in
-    record {
-      said = rw same at c.in_ok-offers.ensures.said;
-      claims = record { claims_are = rw same at c.in_ok-offers.ensures.claims; uncut = c.is_open.ensures };
-      only = rw same at c.offers.ensures.only;
-    }
