@@ -64,45 +64,18 @@ offers_reported_then p q = grind arith
 -- it stays ready where its windows are as they were
 pub ready_still : {l : Layout} {d : Device} {u w : Workspace} → IsFor l w → w.windows ≡ u.windows → IsReady l d u →
     IsReady l d w
-ready_still {l = l} {d = d} {w = w} made e r = record {
-  made = made;
-  volume = r.volume;
-  windows = let h = r.windows in record {
-    table = rw e h.table;
-    blocks = rw e h.blocks;
-    chunk = rw e h.chunk;
-    names = rw e h.names;
-  };
-}
+ready_still made e r = grind arith
 
 -- a walk can be gone on with
 pub can_walk : {g k : Geometry} {d : Device} {w : Workspace} → k ≡ g → IsReady g.layout d w →
     CanWalk k.layout d w.windows.blocks
-can_walk same r =
-    let m = r.made in
-    record {
-      volume = rw same r.volume;
-      room = record { blocks_fit = rw (same, m.blocks) (omega arith) };
-      holds = rw same r.windows.blocks;
-    }
+can_walk same r = grind arith
 
 -- and where a walk read an indirect block, or couldn't
 pub ready_read : {g k : Geometry} {d d' : Device} {w : Workspace} {b : Blocks} → d'.contents ≡ d.contents →
     d'.size ≡ d.size → k ≡ g → KeepsBlocks k.layout d'.contents w.windows.blocks b → IsReady g.layout d w →
     IsReady g.layout d' (record w { windows = record w.windows { blocks = b } })
-ready_read e size same kept r =
-    let m = r.made in
-    let blocks = kept.size ∙ m.blocks in
-    record {
-      made = search rules;
-      volume = rw size r.volume;
-      windows = record {
-        table = rw e r.windows.table;
-        blocks = rw same at kept.holds;
-        chunk = rw e r.windows.chunk;
-        names = rw e r.windows.names;
-      };
-    }
+ready_read e size same kept r = grind arith
 
 pub ready_walked : {g k : Geometry} {d d' : Device} {w : Workspace} {b : Blocks} → d' ≡ d → k ≡ g →
     KeepsBlocks k.layout d'.contents w.windows.blocks b → IsReady g.layout d w →
@@ -112,18 +85,12 @@ ready_walked e same kept r = ready_read (ap (λ x. x.contents) e) (ap (λ x. x.s
 -- it stays ready where an inode begins
 pub ready_begun : {l : Layout} {d : Device} {u w : Workspace} →
     w ≡ record u { bad = 0; dups = 0; kept = 0; tail = false } → IsReady l d u → IsReady l d w
-ready_begun e r =
-    let m = r.made in
-    let h = r.windows in
-    rw e (record { made = search rules; volume = r.volume; windows = search rules })
+ready_begun e r = grind arith
 
 -- or its second count of Runs changes
 pub ready_unseen : {l : Layout} {d : Device} {w : Workspace} {runs : ℕ} → IsReady l d w →
     IsReady l d (record w { runs_again = runs })
-ready_unseen r =
-    let m = r.made in
-    let h = r.windows in
-    record { made = search rules; volume = r.volume; windows = search rules }
+ready_unseen r = grind arith
 
 stored_length : {T : Type 0} (old new : Vec T Global) (number : ℕ) (x : T) (n : ℕ) → vec_len old ≡ n →
     new.items ≡ slice_set old.items number x → vec_len new ≡ n

@@ -1,7 +1,8 @@
 -- How phase 1b continues.
 use Rattle.std.proofs.Common.{◌≡◌, append_assoc, append-nil, subst, ℕ, ◌+◌, ◌-◌, ◌<◌, ◌≤◌, Bool, true, false}
 use Rattle.std.proofs.Common.{if◌then◌else◌, List, [], ◌∷◌, ◌++◌, map, slice_set, arith, refl, ap, ◌∙◌, sym}
-use Rattle.std.proofs.{Math.Bool.or_assoc, Math.Bool.or-false, lemmas.List.Folds.list_any-append}
+use Rattle.std.proofs.Common.{inl, inr}
+use Rattle.std.proofs.{Math.Bool.or_assoc, Math.Bool.or-false, lemmas.Bool.cases_Bool, lemmas.List.Folds.list_any-append}
 use Rattle.std.specs.List.{range_with_len, list_any, slice_index_or}
 use Rattle.ffs_volume.specs.Blocks.{BlockCheck.blames, BlockCheck.first_offer_lines, Claims.is_set}
 use Rattle.ffs_volume.specs.Blocks.KeptOffers.{Offer, offer_of}
@@ -17,15 +18,10 @@ use Rattle.ffs_claims.specs.{Lines.of_lines, Reporting.after_first, Reporting.Of
 pub first_append : (dup : List Bool) (xs ys : List Offer) → first_offer_lines dup (xs ++ ys) ≡ first_offer_lines dup xs
     ++ first_offer_lines (after_first dup xs) ys
 first_append dup [] ys = refl
-first_append dup (o ∷ xs) ys = head (is_set dup o.fragment) (slice_set dup o.fragment false) dup _ _ _ _
-    (first_append (slice_set dup o.fragment false) xs ys) (first_append dup xs ys)
-  where
-    head : (b : Bool) (d e : List Bool) (A B C D : List BlockMessage) →
-        A ≡ C ++ first_offer_lines (after_first d xs) ys → B ≡ D ++ first_offer_lines (after_first e xs) ys →
-        (if b then Dup o.fragment o.inode ∷ A else B) ≡ (if b then Dup o.fragment o.inode ∷ C else D)
-        ++ first_offer_lines (after_first (if b then d else e) xs) ys
-    head true d e A B C D p q = ap (λ ls. Dup o.fragment o.inode ∷ ls) p
-    head false d e A B C D p q = q
+first_append dup (o ∷ xs) ys = elim (cases_Bool (is_set dup o.fragment)) [
+  | inl e ↦ rw e (ap (λ ls. Dup o.fragment o.inode ∷ ls) (first_append (slice_set dup o.fragment false) xs ys))
+  | inr e ↦ rw e (first_append dup xs ys)
+]
 
 pub after_append : (dup : List Bool) (xs ys : List Offer) →
     after_first dup (xs ++ ys) ≡ after_first (after_first dup xs) ys

@@ -90,10 +90,8 @@ pub looked_on : (v : Layout) (bytes notes : List ℕ) (n : ℕ) (dup dup' : List
     dup' ≡ after_first dup (offers_at v bytes notes n) → runs_until_reported dup (runs_from v bytes n)
     ≡ runs_until_reported dup (runs_at v bytes notes n) + runs_until_reported dup' (runs_from v bytes (n + 1))
 looked_on v bytes notes n dup dup' p d =
-    ap (runs_until_reported dup) (runs_next_inode v bytes notes n p)
-    ∙ looked_both dup (runs_at v bytes notes n) (runs_from v bytes (n + 1))
-    ∙ ap (λ x. runs_until_reported dup (runs_at v bytes notes n) + runs_until_reported x (runs_from v bytes (n + 1)))
-    (runs_leave v n (cut_in (slice_index notes n)) fresh_replay dup (steps_of v (inode_of v bytes n) bytes) ∙ sym d)
+    let left = runs_leave v n (cut_in (slice_index notes n)) fresh_replay dup (steps_of v (inode_of v bytes n) bytes) in
+    rw (d, runs_next_inode v bytes notes n p, looked_both dup (runs_at v bytes notes n) _, left) refl
 
 -- no inode is left
 pub kept_end : (v : Layout) (bytes : List ℕ) (s : Claims) (n : ℕ) → inodes_of v ≤ n →
@@ -143,16 +141,10 @@ runs_rise v bytes n (suc k) low =
 pub runs_most : (v : Layout) (bytes : List ℕ) (n : ℕ) → 2 ≤ n → (2 < n → n ≤ inodes_of v) →
     (claims_before v bytes n).runs ≤ run_count v bytes
 unfolding run_count all_claims
-runs_most v bytes n low high = elim (cases_lt n (inodes_of v)) [
-  | inl less ↦
-      let rise = runs_rise v bytes n (inodes_of v - n) low in
-      let sum : n + (inodes_of v - n) ≡ inodes_of v = omega arith in
-      let end = before_end v bytes (inodes_of v) (omega arith) (λ _. omega arith) (omega arith) in
-      omega (arith, ap (λ k. (claims_before v bytes k).runs) sum, ap (λ t. t.runs) end)
-  | inr more ↦
-      let end = before_end v bytes n more high low in
-      omega (arith, ap (λ t. t.runs) end)
-]
+runs_most v bytes n low high =
+    let k = inodes_of v - n in
+    let end = before_end v bytes (n + k) (omega arith) (λ more. grind arith) (omega arith) in
+    omega (arith, runs_rise v bytes n k low, ap (λ t. t.runs) end)
 
 -- the offers are of the inodes that they are reported for
 abbrev no_offer : ℕ → List Offer → Bool

@@ -175,28 +175,18 @@ rewalk_said {v = v} {i = i} {cut = cut} {k = k} {k' = k'} {step = step} {old = o
 pub runs_pay_on : {reads old middle new : ℕ} (now now' before after rest more : ℕ) →
     RunsPay reads (now + before) old middle → (new < 2 ^ 64 - 1 → middle + more ≤ new) →
     now' + after ≤ now + before + more → rest ≤ after + 0 → RunsPay reads (now' + rest) old new
-runs_pay_on now now' before after rest more pays counts falls less = record {
-  rises = λ room. let count = counts room in omega (arith, count, pays.rises (omega (arith, count, room)));
-  paid = λ room. let count = counts room in omega (arith, count, falls, less, pays.paid (omega (arith, count, room)));
-}
+runs_pay_on now now' before after rest more pays counts falls less = grind arith
 
 -- and the reads that are still to come aren't made
 pub runs_pay_ends : {reads old middle new : ℕ} (now now' before after more : ℕ) →
     RunsPay reads (now + before) old middle →
     (new < 2 ^ 64 - 1 → middle + more ≤ new) → now' + after ≤ now + before + more → RunsPay reads now' old new
-runs_pay_ends now now' before after more pays counts falls =
-    let on = runs_pay_on now now' before after after more pays counts falls (omega arith) in
-    record { rises = on.rises; paid = λ room. omega (arith, on.paid room) }
+runs_pay_ends now now' before after more pays counts falls = grind arith
 
 -- a further part of the work
 pub runs_pay_then : {now' old middle new : ℕ} (now reads n n' : ℕ) → RunsPay (reads + n) now old middle →
     RunsPay (now + 1) now' middle new → n + 1 ≤ n' → RunsPay (reads + n') now' old new
-runs_pay_then now reads n n' pays more on = record {
-  rises = λ room. let up = more.rises room in omega (arith, up, pays.rises (omega (arith, up, room)));
-  paid = λ room.
-      let up = more.rises room in
-      omega (arith, on, more.paid room, pays.paid (omega (arith, up, room)));
-}
+runs_pay_then now reads n n' pays more on = grind arith
 
 -- what was read in all, from a count of 0 on
 pub runs_pay_all : {now new : ℕ} (reads n most : ℕ) → RunsPay (reads + n) now 0 new → n ≤ most →

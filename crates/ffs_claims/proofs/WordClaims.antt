@@ -34,16 +34,6 @@ word_length : (v : Layout) (address block : ℕ) → 0 < v.frag → HasLength v.
 word_length v address block some =
     cond_holds (HasLength v.frag) (nat_eq address 0) _ _ (λ _. tt) (λ _. (some, omega arith))
 
--- what is left after a step means the same claims and lines
-claims_same : (v : Layout) (s s' : Claims) (step : Step) (R R' : List Step) → R ≡ step ∷ R' →
-    s' ≡ after_step v s step → after_steps v s' R' ≡ after_steps v s R
-claims_same v s s' step R R' e now = rw (e, now) refl
-
-lines_same : (v : Layout) (number : ℕ) (s s' : Claims) (step : Step) (R R' : List Step) → R ≡ step ∷ R' →
-    s' ≡ after_step v s step → step_lines v number s step ≡ [] →
-    lines_of_steps v number s' R' ≡ lines_of_steps v number s R
-lines_same v number s s' step R R' e now none = rw (e, now, none) refl
-
 -- one word
 pub words_once : {v : Layout} {a b : Workspace} {x y : Walk} {address : ℕ} → 0 < v.frag → v.frag ≤ 8 → IsFor v a →
     x.geometry.layout ≡ v → address ≡ next_address a.windows.blocks x → PassesWord a.windows.blocks x y →
@@ -60,12 +50,9 @@ words_once {v = v} {a = a} {b = b} {x = x} {y = y} {address = address} some smal
     ForContents contents (λ bytes. steps_left bytes x ≡ step ∷ steps_left bytes y) = λ contents holds bytes e.
     rw (is, sym layout) (passes.steps contents (rw layout holds) bytes e) in
     record {
-      claims = λ contents holds bytes e.
-          claims_same v (claims_of a) (claims_of b) step (steps_left bytes x) (steps_left bytes y)
-          (next contents holds bytes e) now;
+      claims = λ contents holds bytes e. rw (next contents holds bytes e, now) refl;
       lines = λ contents holds bytes e number.
-          lines_same v number (claims_of a) (claims_of b) step (steps_left bytes x) (steps_left bytes y)
-          (next contents holds bytes e) now ((claims block).silent number);
+          rw (next contents holds bytes e, now, (claims block).silent number) refl;
       uncut = uncut;
       moves = moves_on step made small (word_length v address block some) now (stays (claims_of a));
       only = only;

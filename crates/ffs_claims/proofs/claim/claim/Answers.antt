@@ -3,7 +3,7 @@ use Rattle.std.proofs.lemmas.Result.{err_from_is_err_and}
 use Rattle.ffs_volume.proofs.Potentials.{stays, moves_then}
 use Rattle.ffs_volume.specs.Blocks.Claims.{after_steps, after_step, lines_of_steps, step_lines, is_open}
 use Rattle.ffs_volume.specs.{Blocks.Steps.steps_of, declared.Step.TheVariants.Gap}
-use Rattle.ffs_report.proofs.Reporting.{of_begins, of_stops, of_reads, of_same}
+use Rattle.ffs_report.proofs.Reporting.{of_begins, of_stops, of_reads, of_same, says_none}
 use Rattle.ffs_report.specs.Known.{ForBytes, IsContents}
 use Rattle.ffs_walk.{proofs.Counted.top_held, proofs.Counted.top_unread, specs.Rests.steps_left}
 use Rattle.ffs_workspace.specs.{Holds.claims_of, Ready.IsReady}
@@ -24,9 +24,7 @@ returns-then-not-has_steps-clause-claiming g c =
     (λ bytes. steps_of v c.args.inode.now bytes ≡ []) = λ bytes t. without_steps v c.args.inode.now bytes some
     (sym (c.has_steps.ensures c.requires.class) ∙ c.if-not-has_steps.true) in
     record {
-      text = of_same _ _ _ _ _ _
-          (of_begins _ (λ bytes. of_lines (lines_of_steps v c.args.number s (steps_of v c.args.inode.now bytes))) _)
-          (λ bytes t. ap (λ xs. of_lines (lines_of_steps v c.args.number s xs)) (none bytes t));
+      text = says_none (λ bytes t. ap (λ xs. of_lines (lines_of_steps v c.args.number s xs)) (none bytes t));
       claims = λ bytes t. sym (ap (after_steps v s) (none bytes t));
       left = record {
         image = refl;
@@ -53,8 +51,7 @@ loop-next-init g c =
       counted = omega (arith, top_unread c.restart.new.self c.restart.ensures.top);
       moves = stays s;
       claims = λ bytes t. ap (after_steps v s) (walk.steps bytes);
-      said = of_same _ _ _ _ _ _
-          (of_begins _ (λ bytes. of_lines (lines_of_steps v c.args.number s (steps_of v c.args.inode.now bytes))) _)
+      said = of_same _ _ _ _ _ _ (of_begins _ _ _)
           (λ bytes t. ap (λ xs. of_lines (lines_of_steps v c.args.number s xs)) (sym (walk.steps bytes)));
     }
 
@@ -81,14 +78,11 @@ returns-in_err-next-clause-claiming g c =
       };
     })
 
-pub step-requires : goal.step-requires
-step-requires g c =
+pub step-requires-clause-next : goal.step-requires-clause-next
+step-requires-clause-next g c =
     let inv = c.loop-next.invariant in
     let read = ready_walked c.in_ok-next.ensures.leaves.read inv.geometry c.next.ensures.leaves.kept inv.ready in
-    record {
-      length = (rw (inv.geometry, c.in-Some.is) at c.in_ok-next.ensures.step.fits).length;
-      next = sees_next c.args.geometry.now.sound c.requires.begun read.made inv.area inv.open_still inv.moves;
-    }
+    sees_next c.args.geometry.now.sound c.requires.begun read.made inv.area inv.open_still inv.moves
 
 pub returns-in_err-seen-clause-claiming : goal.returns-in_err-seen-clause-claiming
 returns-in_err-seen-clause-claiming g c =
@@ -101,9 +95,8 @@ returns-in_err-seen-clause-claiming g c =
     let left = c.step.ensures.claiming.left in
     let few = seen_bound c.args.workspace.now inv.ready.made inv.open_still inv.moves in
     rw (p.1, p.2) (record {
-      text = of_stops _ _ _ _ (of_lines (step_lines v c.args.number s c.in-Some.next)) _ _ _ inv.said
-          (lines_on v c.args.number s (after_step v s c.in-Some.next) c.loop-next.walk c.next.new.self c.in-Some.next
-          next refl) c.in_err-seen.ensures.claiming.said;
+      text = of_stops _ _ _ _ _ _ _ _ inv.said (lines_on v c.args.number s (after_step v s c.in-Some.next)
+          c.loop-next.walk c.next.new.self c.in-Some.next next refl) c.in_err-seen.ensures.claiming.said;
       claims = tt;
       left = record {
         image = ok ∙ inv.device;
@@ -117,13 +110,6 @@ returns-in_err-seen-clause-claiming g c =
         found = found_then (found_still inv.found) left.only.found;
       };
     })
-
--- a gap is passed over: nothing is claimed and nothing is reported
-pub skip_gaps-requires : goal.skip_gaps-requires
-skip_gaps-requires g c =
-    let inv = c.loop-next.invariant in
-    let read = ready_walked c.in_ok-next.ensures.leaves.read inv.geometry c.next.ensures.leaves.kept inv.ready in
-    record { room = (can_walk (c.in_ok-next.ensures.same.geometry ∙ inv.geometry) read).room }
 
 pub loop-next-preserved-then-matches : goal.loop-next-preserved-then-matches
 loop-next-preserved-then-matches g c =

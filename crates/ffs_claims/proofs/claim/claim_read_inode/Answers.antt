@@ -3,7 +3,7 @@ use Rattle.std.proofs.lemmas.Result.{err_from_is_err_and}
 use Rattle.ffs_volume.{proofs.Potentials.kept_bound, specs.Blocks.BlockCheck.count_lines}
 use Rattle.ffs_volume.specs.Blocks.{BlockCheck.owner_lines, Claims.lines_of_steps, Claims.after_steps, Steps.steps_of}
 use Rattle.ffs_volume.specs.declared.Class.TheVariants.{Free}
-use Rattle.ffs_report.proofs.Reporting.{of_fault, of_says, of_stops, of_begins, of_same}
+use Rattle.ffs_report.proofs.Reporting.{of_fault, of_says, of_stops, says_none}
 use Rattle.ffs_maps.proofs.Bits.{bits_long}
 use Rattle.ffs_workspace.specs.Holds.{claims_of}
 use Rattle.ffs_claims.proofs.Frames.{ready_begun, ready_stored}
@@ -29,18 +29,6 @@ pub claim-requires-clause-ready : goal.claim-requires-clause-ready
 claim-requires-clause-ready g c =
     let can = c.requires.ready.claim in
     record { ready = ready_begun c.begin.ensures can.ready; only_data = can.only_data }
-
-pub claim-requires-clause-begun : goal.claim-requires-clause-begun
-claim-requires-clause-begun g c = begun c.args.workspace.now c.begin.ensures c.requires.ready.runs
-
-pub store-requires-2 : goal.store-requires-2
-store-requires-2 g c =
-    record { number = has_inode c.claim.ensures.claiming.left.claim.ready.made c.requires.ready.number_fits }
-
-pub store-requires : goal.store-requires
-store-requires g c =
-    let ready = ready_begun c.begin.ensures c.requires.ready.claim.ready in
-    record { number = has_inode ready.made c.requires.ready.number_fits }
 
 pub returns-in_err-say_class-clause-claiming : goal.returns-in_err-say_class-clause-claiming
 returns-in_err-say_class-clause-claiming g c =
@@ -68,11 +56,7 @@ returns-in_err-claim-clause-claiming g c =
     let b = begun_runs c.args.workspace.now c.begin.ensures in
     let left = c.claim.ensures.claiming.left in
     rw (p.1, p.2) (record {
-      text = of_fault (Unit {0}) (Unit {0}) _ _
-          (λ bytes. of_lines (lines_of_steps v c.args.number s1 (steps_of v c.args.inode.now bytes)))
-          (λ bytes. of_lines (count_lines v
-          (counted_owner c.args.number c.class_of-class.result c.args.inode.now.blocks)
-          (after_steps v s1 (steps_of v c.args.inode.now bytes)))) _ _ _ _ _
+      text = of_fault (Unit {0}) (Unit {0}) _ _ _ _ _ _ _ _ _
           (class_said v c.args.number c.args.inode.now (claims_of c.args.workspace.now) (ap claims_of c.begin.ensures)
           c.class_of-class.ensures c.in_ok-say_class.ensures) (λ bytes t. refl) c.in_err-claim.ensures.claiming.text;
       claims = tt;
@@ -150,9 +134,7 @@ returns-then-matches-clause-claiming g c =
     let b = begun_runs c.args.workspace.now c.begin.ensures in
     let s = stored_runs c.begin.new.workspace c.store.ensures.rest in
     record {
-      text = of_same _ _ _ _ _ _
-          (of_begins _ (λ bytes. of_lines (owner_lines v old (owner_with v bytes c.args.number c.args.inode.now))) _)
-          (λ bytes t. ap of_lines (free_silent v c.args.number c.args.inode.now old bytes free));
+      text = says_none (λ bytes t. ap of_lines (free_silent v c.args.number c.args.inode.now old bytes free));
       claims = λ bytes t. ap claims_of c.store.ensures.rest ∙ ap claims_of c.begin.ensures
           ∙ sym (free_claims v c.args.number c.args.inode.now old bytes free);
       left = record {

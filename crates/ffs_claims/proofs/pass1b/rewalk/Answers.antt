@@ -107,11 +107,6 @@ returns-in_err-report_again-clause-rewalks g c =
       };
     })
 
-pub skip_gaps-requires : goal.skip_gaps-requires
-skip_gaps-requires g c =
-    let same = c.in_ok-next.ensures.same.geometry ∙ c.loop-next.invariant.geometry in
-    record { room = record { blocks_fit = rw (same, c.report_again.ensures.only.made.blocks) (omega arith) } }
-
 pub loop-next-preserved-then-matches : goal.loop-next-preserved-then-matches
 loop-next-preserved-then-matches g c =
     let inv = c.loop-next.invariant in

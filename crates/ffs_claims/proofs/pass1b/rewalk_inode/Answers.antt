@@ -1,7 +1,7 @@
 use Rattle.std.proofs.{Common.rules, Common.arith, Common.ap, Common.slice_index, lemmas.Result.err_from_is_err_and}
 use Rattle.ffs_volume.specs.Blocks.{BlockCheck.first_offer_lines, Inodes.inode_of, Steps.steps_of}
 use Rattle.ffs_volume.specs.Encodings.Replay.{fresh_replay}
-use Rattle.ffs_report.proofs.Reporting.{of_begins, of_reads}
+use Rattle.ffs_report.proofs.Reporting.{reads_first}
 use Rattle.ffs_maps.specs.Bits.{bits_of}
 use Rattle.ffs_workspace.{proofs.Readiness.ready_table, specs.Notes.cut_in}
 use Rattle.ffs_claims.proofs.{Frames.claims_still, Frames.claims_none, Rewalks.rewalks_from}
@@ -24,11 +24,7 @@ rewalk-requires g c =
 pub returns-in_err-inode-clause-rewalks : goal.returns-in_err-inode-clause-rewalks
 returns-in_err-inode-clause-rewalks g c = record {
   text = let p = err_from_is_err_and c.from_residual.result c.from_residual.ensures.1 in
-      rw (p.1, p.2) (of_reads _ _ _ _ _ (of_begins _ (λ bytes. of_lines
-      (first_offer_lines (bits_of c.args.workspace.now.duplicates)
-      (offers_again c.args.geometry.now.layout c.args.number
-      (cut_in (slice_index c.args.workspace.now.notes.items c.args.number)) fresh_replay
-      (steps_of c.args.geometry.now.layout (inode_of c.args.geometry.now.layout bytes c.args.number) bytes)))) _));
+      rw (p.1, p.2) reads_first;
   rewalked = search rules;
   runs = λ bytes t. omega arith;
   left = let err = c.in_err-inode.ensures.reads.read in

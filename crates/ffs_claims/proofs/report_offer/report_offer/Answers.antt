@@ -13,12 +13,3 @@ returns-then-fragment-from g c =
       reported = reported_out _ c.args.number c.args.fragment out;
       only = offers_reported_none c.requires.can.made;
     }
-
-pub returns-then-not-get : goal.returns-then-not-get
-returns-then-not-get g c =
-    let out = sym c.get.ensures ∙ c.if-not-get.true in
-    record {
-      said = said_out _ c.args.number c.args.fragment _ out;
-      reported = reported_out _ c.args.number c.args.fragment out;
-      only = offers_reported_none c.requires.can.made;
-    }

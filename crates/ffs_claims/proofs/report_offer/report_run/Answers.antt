@@ -38,10 +38,6 @@ returns-in_err-report_offer-clause-said g c =
     ∙ lines_split d (after_first d (offer_of n f ∷ [])) _ (offer_of n f ∷ []) rest refl refl)
     c.in_err-report_offer.ensures.said)
 
-pub returns-in_err-report_offer-clause-only : goal.returns-in_err-report_offer-clause-only
-returns-in_err-report_offer-clause-only g c =
-    offers_reported_then c.loop-index.invariant.only c.report_offer.ensures.only
-
 pub loop-index-preserved : goal.loop-index-preserved
 loop-index-preserved g c =
     let inv = c.loop-index.invariant in
