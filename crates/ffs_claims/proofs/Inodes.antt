@@ -1,6 +1,6 @@
 -- How an inode's part of the block check continues, and how many Runs it is seen to have.
 use Rattle.std.proofs.Common.{◌+◌, ◌<◌, ◌^◌, false, arith, OnOk, ◌≡◌, ℕ, List, [], ◌++◌, append-nil, Option, Result, Ok}
-use Rattle.std.proofs.Common.{Err, ap, ◌∙◌, sym, refl, ◌≤◌, nat_lt, true}
+use Rattle.std.proofs.Common.{Err, ap, ◌∙◌, refl, ◌≤◌, true}
 use Rattle.std.proofs.lemmas.{Bool.Decides.nat_tests, List.Sums.count_by-le-length}
 use Rattle.ffs_volume.proofs.Potentials.{step_moves, moves_then}
 use Rattle.ffs_volume.specs.Blocks.BlockCheck.{class_lines, count_lines, owner_lines}

@@ -1,19 +1,17 @@
 -- The inodes one after another.
-use Rattle.std.proofs.Common.{ltb-true, ◌≡◌, ◌⊎◌, inl, inr, ℕ, zero, suc, ◌+◌, ◌-◌, ◌<◌, ◌≤◌, Bool, true, false, ◌||◌}
-use Rattle.std.proofs.Common.{if◌then◌else◌, nat_lt, List, [], ◌++◌, length, map, get_or, replicate, min, ◌&&◌, ◌==◌}
-use Rattle.std.proofs.Common.{slice_index, slice_set, arith, refl, ap, ◌∙◌, sym}
-use Rattle.std.proofs.lemmas.{Bool.cases_lt, Bool.cases_eq, Bool.Decides.nat_tests, List.get_or-set_same}
+use Rattle.std.proofs.Common.{◌≡◌, ◌⊎◌, inl, inr, ℕ, zero, suc, ◌+◌, ◌-◌, ◌<◌, ◌≤◌, true, false, ◌||◌, if◌then◌else◌}
+use Rattle.std.proofs.Common.{nat_lt, List, [], ◌++◌, length, map, get_or, replicate, min, slice_set, arith, refl, ap}
+use Rattle.std.proofs.{Common.◌∙◌, lemmas.Bool.cases_eq, lemmas.Bool.Decides.nat_tests, lemmas.List.get_or-set_same}
 use Rattle.std.{proofs.lemmas.List.get_or-set_other, specs.List.range_with_len}
-use Rattle.ffs_volume.proofs.Potentials.{cond_holds}
 use Rattle.ffs_volume.specs.Blocks.BlockCheck.{owner_lines, lines_of_owners, phase1_lines}
 use Rattle.ffs_volume.specs.Blocks.Claims.{Claims, no_claims, after_owner, after_owners}
-use Rattle.ffs_volume.specs.Blocks.{Inodes.inode_of, Inodes.class_of, Inodes.is_unknown, KeptSteps.claims_before}
-use Rattle.ffs_volume.specs.{Blocks.Owners.owner_of, Blocks.Owners.owners_of, Directories.Volumes.is_inode_number}
-use Rattle.ffs_volume.specs.Encodings.{Kinds.kind_at, Links.start_at, Replay.cut_of}
-use Rattle.ffs_volume.specs.declared.{Class.TheVariants.Free, Inode.Inode, Layout.Layout}
+use Rattle.ffs_volume.specs.Blocks.Inodes.{inode_of, class_of, is_unknown}
+use Rattle.ffs_volume.specs.Blocks.{KeptSteps.claims_before, Owners.owner_of, Owners.owners_of}
+use Rattle.ffs_volume.specs.{Directories.Volumes.is_inode_number, Encodings.Kinds.kind_at, Encodings.Links.start_at}
+use Rattle.ffs_volume.specs.{Encodings.Replay.cut_of, declared.Layout.Layout}
 use Rattle.ffs_workspace.specs.Holds.{claims_of, IsFresh, HoldsPhase1, has_blame, marked_by_phase1_at, all_claims}
 use Rattle.ffs_workspace.specs.Lengths.{IsFor, inodes_of}
-use Rattle.ffs_workspace.specs.{Notes.first_noted, Notes.note_of, Notes.note_at, declared.workspace.Workspace.Workspace}
+use Rattle.ffs_workspace.specs.{Notes.note_of, Notes.note_at, declared.workspace.Workspace.Workspace}
 use Rattle.ffs_claims.proofs.StepsContinue.{range_more, lines_append}
 use Rattle.ffs_claims.specs.{Leaves.SameFound, Leaves.Stored, Lines.of_lines, Lines.owners_from}
 

@@ -1,8 +1,8 @@
 -- How phase 1b continues.
 use Rattle.std.proofs.Common.{◌≡◌, append_assoc, append-nil, subst, ℕ, ◌+◌, ◌-◌, ◌<◌, ◌≤◌, Bool, true, false}
-use Rattle.std.proofs.Common.{if◌then◌else◌, List, [], ◌∷◌, ◌++◌, map, slice_set, arith, refl, ap, ◌∙◌, sym}
-use Rattle.std.proofs.Common.{inl, inr}
-use Rattle.std.proofs.{Math.Bool.or_assoc, Math.Bool.or-false, lemmas.Bool.cases_Bool, lemmas.List.Folds.list_any-append}
+use Rattle.std.proofs.Common.{if◌then◌else◌, List, [], ◌∷◌, ◌++◌, map, slice_set, arith, refl, ap, ◌∙◌, sym, inl, inr}
+use Rattle.std.proofs.Math.Bool.{or_assoc, or-false}
+use Rattle.std.proofs.lemmas.{Bool.cases_Bool, List.Folds.list_any-append}
 use Rattle.std.specs.List.{range_with_len, list_any, slice_index_or}
 use Rattle.ffs_volume.specs.Blocks.{BlockCheck.blames, BlockCheck.first_offer_lines, Claims.is_set}
 use Rattle.ffs_volume.specs.Blocks.KeptOffers.{Offer, offer_of}

@@ -1,11 +1,10 @@
 -- An inode replayed by its cut keeps what it kept, and how many Runs the rescan looks at.
 use Rattle.std.proofs.Common.{◌≡◌, ◌≢◌, ℕ, zero, suc, ◌+◌, Bool, true, false, ◌==◌, if◌then◌else◌, List, [], ◌∷◌, ◌++◌}
 use Rattle.std.proofs.Common.{map, replicate, arith, refl, ap, ◌∙◌, sym, inl, inr, eq-eqb, ne_eqb, ◌<◌, ◌≤◌, ◌^◌}
-use Rattle.std.proofs.{Common.length, Common.◌&&◌, Common.nat_lt, Common.Option, lemmas.Bool.cases_eq}
-use Rattle.std.{proofs.lemmas.Bool.Decides.nat_tests, proofs.lemmas.List.length-append, specs.List.range_with_len}
+use Rattle.std.proofs.Common.{length, ◌&&◌, nat_lt, Option, ◌-◌}
+use Rattle.std.proofs.lemmas.{Bool.cases_eq, Bool.cases_Bool, Bool.Decides.nat_tests, List.length-append}
+use Rattle.std.specs.List.{range_with_len}
 use Rattle.ffs_volume.proofs.{Potentials.cond_holds, Potentials.offers_keep, PrefixLaws.full_offers}
-use Rattle.std.proofs.lemmas.Bool.{cases_Bool}
-use Rattle.std.proofs.Common.{◌-◌}
 use Rattle.ffs_volume.proofs.ReplayIsKeeping.{replay_of, seen_replays, step_replays, step_few}
 use Rattle.ffs_volume.proofs.{ReplayLaws.offers_runs, RunBounds.runs_bounded}
 use Rattle.ffs_volume.specs.Blocks.Claims.{after_offers, Claims, no_claims, at_next_inode, is_open, after_step}

@@ -1,10 +1,9 @@
 -- How phase 1b goes from inode to inode.
 use Rattle.std.proofs.Common.{◌≡◌, ◌⊎◌, inl, inr, ℕ, zero, suc, ◌+◌, ◌-◌, ◌<◌, ◌≤◌, Bool, true, false, not, ◌&&◌, ◌||◌}
 use Rattle.std.proofs.Common.{◌==◌, if◌then◌else◌, nat_lt, List, [], ◌∷◌, ◌++◌, map, slice_index, slice_set, arith}
-use Rattle.std.proofs.{Common.refl, Common.ap, Common.◌∙◌, Common.sym, Math.Bool.or-false}
-use Rattle.std.proofs.lemmas.Bool.{and_from, cases_lt, and_parts, not-true, Decides.nat_tests}
-use Rattle.std.proofs.lemmas.List.Folds.{list_all-append}
-use Rattle.std.proofs.Common.{ne_eqb}
+use Rattle.std.proofs.Common.{refl, ap, ◌∙◌, sym, ne_eqb}
+use Rattle.std.proofs.{Math.Bool.or-false, lemmas.Bool.and_from, lemmas.Bool.cases_lt}
+use Rattle.std.proofs.lemmas.{Bool.and_parts, Bool.not-true, Bool.Decides.nat_tests, List.Folds.list_all-append}
 use Rattle.std.specs.List.{range_with_len, list_any, list_all}
 use Rattle.ffs_volume.proofs.{CutLaws.cut_is, OwnerLaws.before_next, Potentials.cond_holds, ReplayLaws.replay_is_runs}
 use Rattle.ffs_volume.specs.Blocks.BlockCheck.{blames, first_offer_lines, phase1b_lines}

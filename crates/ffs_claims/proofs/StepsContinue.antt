@@ -1,17 +1,16 @@
 -- How offers, steps and inodes continue.
-use Rattle.std.proofs.Common.{◌≡◌, ℕ, zero, suc, ◌+◌, ◌-◌, ◌<◌, ◌≤◌, nat_lt, Bool, true, false, ◌==◌, List, [], ◌∷◌}
-use Rattle.std.proofs.Common.{◌++◌, arith, rules, refl, ap, ◌∙◌, sym, slice_set, replicate, ◌&&◌, not, if◌then◌else◌}
-use Rattle.std.proofs.Common.{inl, inr}
-use Rattle.std.proofs.{Common.subst, lemmas.Bool.cases_Bool, lemmas.Bool.and_parts, lemmas.Bool.Decides.nat_tests, lemmas.List.map-append}
-use Rattle.std.{proofs.lemmas.List.set-get_or, specs.Int.div_ceil, specs.List.range_with_len, specs.List.slice_index_or}
+use Rattle.std.proofs.Common.{◌≡◌, ℕ, zero, suc, ◌+◌, ◌-◌, ◌<◌, ◌≤◌, Bool, true, false, ◌==◌, List, [], ◌∷◌, ◌++◌}
+use Rattle.std.proofs.Common.{arith, rules, refl, ap, ◌∙◌, sym, slice_set, replicate, ◌&&◌, not, if◌then◌else◌, inl}
+use Rattle.std.proofs.Common.{inr, subst}
+use Rattle.std.proofs.lemmas.{Bool.cases_Bool, Bool.Decides.nat_tests, List.map-append, List.set-get_or}
+use Rattle.std.specs.{Int.div_ceil, List.range_with_len, List.slice_index_or}
 use Rattle.ffs_volume.proofs.{Potentials.in_range_below, Sizes.no_blocks}
-use Rattle.ffs_volume.specs.Blocks.Claims.{Claims, is_open, is_set, after_offer, after_offers, after_step, after_steps}
+use Rattle.ffs_volume.specs.Blocks.Claims.{Claims, is_open, after_offer, after_offers, after_step, after_steps}
 use Rattle.ffs_volume.specs.Blocks.Claims.{offer_lines, lines_of_offers, step_lines, lines_of_steps, run_lines}
 use Rattle.ffs_volume.specs.Blocks.{Inodes.addresses_needed, Steps.steps_of, Steps.steps_of_addresses, Steps.is_walked}
-use Rattle.ffs_volume.specs.{Blocks.Steps.last_length_of, Disk.Areas.is_fragment_in_range, Disk.Areas.is_run_in_range}
-use Rattle.ffs_volume.specs.Messages.Kinds.{Message, of_blocks}
-use Rattle.ffs_volume.specs.declared.{BlockMessage.BlockMessage, Inode.Inode, Layout.Layout, Step.Step}
-use Rattle.ffs_volume.specs.declared.Step.TheVariants.{Run, Tail, Gap}
+use Rattle.ffs_volume.specs.{Blocks.Steps.last_length_of, Disk.Areas.is_run_in_range, Messages.Kinds.Message}
+use Rattle.ffs_volume.specs.{Messages.Kinds.of_blocks, declared.BlockMessage.BlockMessage}
+use Rattle.ffs_volume.specs.declared.{Inode.Inode, Layout.Layout, Step.Step, Step.TheVariants.Gap}
 use Rattle.ffs_report.proofs.{Reporting.of_says, Reporting.of_same, Reports.stopped_more, Reports.said_then}
 use Rattle.ffs_report.{proofs.Reports.stopped_after, specs.Known.ForBytes, specs.PhaseOutcome.SaidOf}
 use Rattle.ffs_report.specs.{PhaseOutcome.SaidTo, Progress.Progress, Progress.Said, Progress.Stopped}
@@ -20,10 +19,6 @@ use Rattle.ffs_claims.specs.Lines.{of_lines, has_dup_line, bad_lines}
 
 pub lines_append : (xs ys : List BlockMessage) → of_lines (xs ++ ys) ≡ of_lines xs ++ of_lines ys
 lines_append xs ys = map-append of_blocks xs ys
-
--- setting a bit that is set changes nothing
-pub set_again : (bits : List Bool) (f : ℕ) → slice_index_or bits f false ≡ true → slice_set bits f true ≡ bits
-set_again bits f e = ap (slice_set bits f) (sym e) ∙ set-get_or bits f false
 
 pub range_more : (j n m : ℕ) → n ≡ m + 1 → range_with_len j n ≡ j ∷ range_with_len (j + 1) m
 range_more j n m e = rw e (search rules)

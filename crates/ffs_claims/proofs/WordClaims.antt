@@ -1,10 +1,9 @@
 -- What the words of an indirect block claim with nothing to report, one after the other.
-use Rattle.std.proofs.Common.{◌≡◌, ◌≢◌, ℕ, ◌+◌, ◌<◌, ◌≤◌, true, false, nat_eq, nat_lt, List, [], ◌∷◌, arith, refl, sym}
-use Rattle.std.proofs.{Common.◌∙◌, Common.Option, lemmas.Bool.and_parts, lemmas.Bool.Decides.nat_tests}
+use Rattle.std.proofs.Common.{◌≡◌, ◌≢◌, ℕ, ◌+◌, ◌<◌, ◌≤◌, true, false, nat_eq, nat_lt, List, ◌∷◌, arith, refl, sym, ◌∙◌}
+use Rattle.std.proofs.{Common.Option, lemmas.Bool.and_parts, lemmas.Bool.Decides.nat_tests}
 use Rattle.ffs_volume.proofs.Potentials.{cond_holds, moves_then, stays}
-use Rattle.ffs_volume.specs.Blocks.Claims.{Claims, after_step, after_steps, is_open, lines_of_steps, step_lines}
-use Rattle.ffs_volume.specs.{Disk.Areas.is_run_in_range, Laws.RunLengths.HasLength}
-use Rattle.ffs_volume.specs.declared.{Layout.Layout, Step.Step}
+use Rattle.ffs_volume.specs.Blocks.Claims.{after_step, is_open}
+use Rattle.ffs_volume.specs.{Disk.Areas.is_run_in_range, Laws.RunLengths.HasLength, declared.Layout.Layout}
 use Rattle.ffs_image.specs.Device.{ForContents}
 use Rattle.ffs_maps.specs.Bits.{bits_of, AreClear, set_run}
 use Rattle.ffs_walk.{proofs.Counted.enters_none, specs.Counts.EntersOnly}

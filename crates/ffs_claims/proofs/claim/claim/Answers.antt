@@ -1,7 +1,7 @@
-use Rattle.std.proofs.Common.{ℕ, arith, refl, ◌≡◌, ◌<◌, ◌∙◌, ap, sym, List, ◌++◌, ◌∷◌, true, false, replicate, []}
+use Rattle.std.proofs.Common.{ℕ, arith, refl, ◌≡◌, ◌<◌, ◌∙◌, ap, sym, List, ◌++◌, ◌∷◌, false, replicate, []}
 use Rattle.std.proofs.lemmas.Result.{err_from_is_err_and}
 use Rattle.ffs_volume.proofs.Potentials.{stays, moves_then}
-use Rattle.ffs_volume.specs.Blocks.Claims.{after_steps, after_step, lines_of_steps, step_lines, is_open}
+use Rattle.ffs_volume.specs.Blocks.Claims.{after_steps, after_step, lines_of_steps, is_open}
 use Rattle.ffs_volume.specs.{Blocks.Steps.steps_of, declared.Step.TheVariants.Gap}
 use Rattle.ffs_report.proofs.Reporting.{of_begins, of_stops, of_reads, of_same, says_none}
 use Rattle.ffs_report.specs.Known.{ForBytes, IsContents}
@@ -163,6 +163,7 @@ claim_words-requires-clause-next g c =
 pub loop-next-preserved : goal.loop-next-preserved
 loop-next-preserved g c =
     let inv = c.loop-next.invariant in
+    let n = c.args.number in
     let v = c.args.geometry.now.layout in
     let s = claims_of c.loop-next.workspace in
     let ok = c.in_ok-next.ensures.leaves.read in
@@ -176,9 +177,6 @@ loop-next-preserved g c =
     left.only.windows (ready_walked ok inv.geometry c.next.ensures.leaves.kept inv.ready) in
     let image = (g.I.Image.device c.next.new.image).contents in
     let gives = ap (λ d. d.contents) (ok ∙ inv.device) in
-    let before = claims_on v s c.loop-next.walk c.next.new.self
-    (λ bytes. after_steps v (claims_of c.step.new.workspace) (steps_left bytes c.next.new.self)) c.in-Some.next next now
-    inv.claims (λ bytes t. refl) in
     record {
       ready = ready_still words.only.made words.only.windows claimed;
       area = left.only_data;
@@ -188,15 +186,14 @@ loop-next-preserved g c =
       found = found_then (found_then (found_still inv.found) left.only.found) words.only.found;
       held = words.counted.held _ (rw (words.only.windows, left.only.windows) reads.held);
       counted = omega (arith, paid, inv.counted, c.step.ensures.counted, words.rises, words.counted.unread);
-      moves = moves_then (claims_of c.args.workspace.now) (claims_of c.step.new.workspace) _
+      moves = moves_then _ (claims_of c.step.new.workspace) _
           (moves_on c.in-Some.next inv.ready.made c.args.geometry.now.sound.sizes.frag_high
           (rw (inv.geometry, c.in-Some.is) at c.in_ok-next.ensures.step.fits).length now inv.moves) words.moves;
-      claims = λ bytes t. words.claims image claimed.windows.blocks bytes (gives ∙ t) ∙ before bytes t;
-      said = of_same _ _ _ _ _ _
-          (steps_said v c.args.number s (claims_of c.step.new.workspace) c.loop-next.walk c.next.new.self
-          (λ bytes. lines_of_steps v c.args.number (claims_of c.step.new.workspace) (steps_left bytes c.next.new.self))
-          c.in-Some.next inv.said next now (λ bytes t. refl) c.in_ok-seen.ensures.claiming.said)
-          (λ bytes t. ap of_lines (sym (words.lines image claimed.windows.blocks bytes (gives ∙ t) c.args.number)));
+      claims = claims_on v s c.loop-next.walk c.next.new.self _ c.in-Some.next next now inv.claims
+          (λ bytes t. sym (words.claims image claimed.windows.blocks bytes (gives ∙ t)));
+      said = steps_said v n s (claims_of c.step.new.workspace) c.loop-next.walk c.next.new.self _ c.in-Some.next inv.said
+          next now (λ bytes t. sym (words.lines image claimed.windows.blocks bytes (gives ∙ t) n))
+          c.in_ok-seen.ensures.claiming.said;
     }
 
 pub returns-then-not-seen-clause-claiming : goal.returns-then-not-seen-clause-claiming

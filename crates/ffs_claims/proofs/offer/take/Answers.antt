@@ -1,8 +1,6 @@
-use Rattle.std.proofs.Common.{◌≡◌, nat_lt, true, false, arith, rules, refl, sym, ◌∙◌}
+use Rattle.std.proofs.Common.{◌≡◌, nat_lt, true, arith, refl, sym, ◌∙◌}
 use Rattle.std.proofs.lemmas.Bool.Decides.{nat_tests}
-use Rattle.ffs_volume.proofs.Potentials.{in_range_below}
-use Rattle.ffs_claims.proofs.Frames.{offers_claimed, offers_none}
-use Rattle.ffs_claims.proofs.UnclaimedRuns.{was_set, is_set_now}
+use Rattle.ffs_claims.proofs.{Frames.offers_claimed, UnclaimedRuns.was_set, UnclaimedRuns.is_set_now}
 use Rattle.ffs_claims.proofs.offer.take.Goals as goal
 
 -- the fragment is claimed

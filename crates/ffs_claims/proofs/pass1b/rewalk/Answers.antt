@@ -40,12 +40,7 @@ loop-next-init g c =
         paid = λ _. omega (arith, top_unread c.start-walk.result c.start-walk.ensures.top);
       };
       walk = λ bytes t. rewalk_begins begun (steps bytes);
-      said = of_same _ _ _ _ _ _ (of_begins _ (λ bytes. of_lines
-          (first_offer_lines d (offers_again v n cut fresh_replay (steps_of v c.args.inode.now bytes)))) _)
-          (λ bytes t. ap (λ r. of_lines (first_offer_lines d
-          (offers_again v n cut r (steps_of v c.args.inode.now bytes)))) (sym begun)
-          ∙ ap (λ xs. of_lines (first_offer_lines d (offers_again v n cut (replay_in c.start-keeping.result) xs)))
-          (sym (steps bytes)));
+      said = of_same _ _ _ _ _ _ (of_begins _ _ _) (λ bytes t. rw (begun, steps bytes) refl);
     }
 
 pub next-requires : goal.next-requires
@@ -84,16 +79,12 @@ returns-in_err-report_again-clause-rewalks g c =
     let cut = c.args.cut in
     let r = replay_in c.loop-next.keeping in
     let r' = replay_step_by_cut v cut r c.in-Some.next in
-    let offers = step_offers_again v n cut r c.in-Some.next in
     let ok = c.in_ok-next.ensures.leaves.read in
     let next = rw (inv.device, c.in-Some.is) at c.in_ok-next.ensures.step.steps in
     let only = c.report_again.ensures.only in
     rw (p.1, p.2) (record {
-      text = of_stops _ _ (λ bytes. of_lines
-          (first_offer_lines (after_first d offers) (offers_again v n cut r' (steps_left bytes c.next.new.self)))) _
-          (of_lines (first_offer_lines d offers)) _ _ _ inv.said
-          (λ bytes t. lines_step v n cut r r' c.in-Some.next (steps_left bytes c.loop-next.walk)
-          (steps_left bytes c.next.new.self) d (after_first d offers) (next bytes t) refl refl)
+      text = of_stops _ _ _ _ _ _ _ _ inv.said (λ bytes t. lines_step v n cut r r' c.in-Some.next
+          (steps_left bytes c.loop-next.walk) (steps_left bytes c.next.new.self) d _ (next bytes t) refl refl)
           (rw inv.cut at c.in_err-report_again.ensures.said);
       rewalked = tt;
       runs = λ bytes t.

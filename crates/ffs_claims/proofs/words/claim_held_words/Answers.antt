@@ -1,6 +1,5 @@
 use Rattle.std.proofs.Common.{◌∙◌, ap, arith}
-use Rattle.ffs_claims.proofs.Inodes.{kept_room, seen_bound}
-use Rattle.ffs_claims.proofs.WordClaims.{words_none, words_once, words_then}
+use Rattle.ffs_claims.proofs.{Inodes.kept_room, Inodes.seen_bound, WordClaims.words_once, WordClaims.words_then}
 use Rattle.ffs_claims.proofs.words.claim_held_words.Goals as goal
 
 -- a word that isn't claimed changes nothing
