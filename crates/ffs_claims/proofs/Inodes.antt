@@ -69,11 +69,8 @@ rest_lines v number i class s1 bytes =
 parts : (v : Layout) (number : ℕ) (i : Inode) (s : Claims) (bytes : List ℕ) →
     of_lines (owner_lines v s (owner_with v bytes number i)) ≡ of_lines (class_lines number (class_of v i))
     ++ rest_lines v number i (class_of v i) (at_next_inode s) bytes
-parts v number i s bytes =
-    lines_append (class_lines number (class_of v i)) _
-    ∙ ap (λ xs. of_lines (class_lines number (class_of v i)) ++ xs)
-    (lines_append (lines_of_steps v number (at_next_inode s) (steps_of v i bytes))
-    (count_lines v (owner_with v bytes number i) (after_owner v s (owner_with v bytes number i))))
+parts v number i s bytes = rw (lines_append (class_lines number (class_of v i)) _,
+    lines_append (lines_of_steps v number (at_next_inode s) (steps_of v i bytes)) _) refl
 
 pub class_said : {knows : List ℕ → Type 0} {a b : Progress} {s1 : Claims} {class : Class} (v : Layout) (number : ℕ)
     (i : Inode) (s : Claims) → s1 ≡ at_next_inode s → class ≡ class_of v i →
@@ -118,9 +115,6 @@ stored_runs u e = rw e (record { seen = refl; again = refl; used = refl })
 pub begun : (u : Workspace) {w : Workspace} → w ≡ record u { bad = 0; dups = 0; kept = 0; tail = false } →
     u.runs_seen < 2 ^ 40 → HasBegun w
 begun u e few = rw e (record { bad = refl; dups = refl; kept = refl; runs = omega arith })
-
-pub has_inode : {v : Layout} {w : Workspace} {number : ℕ} → IsFor v w → number < inodes_of v → HasInode number w
-has_inode made low = record { kinds = omega arith; marked = omega arith; notes = omega arith; references = omega arith }
 
 -- an inode by its number
 pub owner_is : (v : Layout) (bytes : List ℕ) (number : ℕ) (i : Inode) → i ≡ inode_of v bytes number →

@@ -59,33 +59,33 @@ filled_next d f xs xs' n value low now is before = λ x. elim (cases_eq x n) [
       rw (now, get_or-set_other xs n x value d apart, same) (before x)
 ]
 
-filled_end : {A : Type 0} (d : A) (f : ℕ → A) (xs : List A) (n m : ℕ) → m ≤ n → ((x : ℕ) → m ≤ x → f x ≡ d) →
+-- nothing is found of a number that is no inode's
+abbrev NoneOutside : {A : Type 0} → Layout → A → (ℕ → A) → Type 0
+NoneOutside v d f = (x : ℕ) → is_inode_number v x ≡ false → f x ≡ d
+
+filled_end : {A : Type 0} (v : Layout) (d : A) (f : ℕ → A) (xs : List A) (n : ℕ) → inodes_of v ≤ n → NoneOutside v d f →
     FilledTo d f xs n → (x : ℕ) → get_or xs x d ≡ f x
-filled_end d f xs n m past out before x =
+filled_end v d f xs n past out before x =
     let here = before x in
     let none = out x in
     grind (arith, nat_tests)
 
-filled_begin : {A : Type 0} (d : A) (f : ℕ → A) (xs : List A) (len : ℕ) → xs ≡ replicate len d →
-    ((x : ℕ) → x < 2 → f x ≡ d) → FilledTo d f xs 2
-filled_begin d f xs len e out = λ x. rw e (clear len x ∙ first x (out x))
+filled_begin : {A : Type 0} (v : Layout) (d : A) (f : ℕ → A) (xs : List A) (len : ℕ) → xs ≡ replicate len d →
+    NoneOutside v d f → FilledTo d f xs 2
+filled_begin v d f xs len e out = λ x. rw e (clear len x ∙ first x (out x))
   where
     clear : (n x : ℕ) → get_or (replicate n d) x d ≡ d
     clear zero x = refl
     clear (suc n) zero = refl
     clear (suc n) (suc x) = clear n x
 
-    first : (x : ℕ) → (x < 2 → f x ≡ d) → d ≡ (if nat_lt x 2 then f x else d)
+    first : (x : ℕ) → (is_inode_number v x ≡ false → f x ≡ d) → d ≡ (if nat_lt x 2 then f x else d)
     first x none = grind (arith, nat_tests)
 
--- ---- what is found of the inode x, and nothing of a number that is no inode's
 pub is_inside : (v : Layout) (x : ℕ) → 2 ≤ x → x < inodes_of v → is_inode_number v x ≡ true
 is_inside v x low high = grind (arith, nat_tests)
 
-is_outside : (v : Layout) (x : ℕ) → (x < 2) ⊎ (inodes_of v ≤ x) → is_inode_number v x ≡ false
-is_outside v x h = grind (arith, nat_tests)
-
-note_out : (v : Layout) (bytes : List ℕ) (x : ℕ) → is_inode_number v x ≡ false → note_at v bytes x ≡ 0
+note_out : (v : Layout) (bytes : List ℕ) → NoneOutside v 0 (note_at v bytes)
 unfolding note_at
 note_out v bytes x out = rw out (grind arith)
 
@@ -98,15 +98,13 @@ pub record FoundTo (v : Layout) (bytes : List ℕ) (w : Workspace) (n : ℕ) : T
 
 pub found_begins : {v : Layout} {u w : Workspace} (bytes : List ℕ) → IsFresh v u → SameFound u w → FoundTo v bytes w 2
 unfolding kind_at marked_by_phase1_at start_at
-found_begins {v = v} {w = w} bytes fresh same = record {
-  kinds = filled_begin 0 (kind_at v bytes) w.kinds.items _ (ap (λ x. x.items) same.kinds ∙ fresh.kinds)
-      (λ x low. rw (is_outside v x (inl low)) refl);
-  marked = filled_begin false (marked_by_phase1_at v bytes) w.marked.items _
-      (ap (λ x. x.items) same.marked ∙ fresh.marked) (λ x low. rw (is_outside v x (inl low)) refl);
-  notes = filled_begin 0 (note_at v bytes) w.notes.items _ (ap (λ x. x.items) same.notes ∙ fresh.notes)
-      (λ x low. note_out v bytes x (is_outside v x (inl low)));
-  starts = filled_begin 0 (start_at v bytes) w.references.items _ (ap (λ x. x.items) same.references ∙ fresh.references)
-      (λ x low. rw (is_outside v x (inl low)) refl);
+found_begins {v = v} bytes fresh same = record {
+  kinds = filled_begin v 0 (kind_at v bytes) _ _ (ap (λ x. x.items) same.kinds ∙ fresh.kinds) (λ x out. rw out refl);
+  marked = filled_begin v false (marked_by_phase1_at v bytes) _ _ (ap (λ x. x.items) same.marked ∙ fresh.marked)
+      (λ x out. rw out refl);
+  notes = filled_begin v 0 (note_at v bytes) _ _ (ap (λ x. x.items) same.notes ∙ fresh.notes) (note_out v bytes);
+  starts = filled_begin v 0 (start_at v bytes) _ _ (ap (λ x. x.items) same.references ∙ fresh.references)
+      (λ x out. rw out refl);
 }
 
 pub found_next : {v : Layout} {bytes : List ℕ} {u w : Workspace} {n : ℕ} → 2 ≤ n → n < inodes_of v → IsFor v u →
@@ -137,15 +135,10 @@ found_all {v = v} {bytes = bytes} {n = n} past all found = record {
   used = ap (λ s. s.used) all;
   dup = ap (λ s. s.dup) all;
   runs = ap (λ s. s.runs) all;
-  kinds = filled_end 0 (kind_at v bytes) _ n (inodes_of v) past (λ x high. rw (is_outside v x (inr high)) refl)
-      found.kinds;
-  marked = filled_end false (marked_by_phase1_at v bytes) _ n (inodes_of v) past
-      (λ x high. rw (is_outside v x (inr high)) refl) found.marked;
-  notes = filled_end 0 (note_at v bytes) _ n (inodes_of v) past
-      (λ x high. note_out v bytes x (is_outside v x (inr high)))
-      found.notes;
-  starts = filled_end 0 (start_at v bytes) _ n (inodes_of v) past
-      (λ x high. rw (is_outside v x (inr high)) refl) found.starts;
+  kinds = filled_end v 0 (kind_at v bytes) _ n past (λ x out. rw out refl) found.kinds;
+  marked = filled_end v false (marked_by_phase1_at v bytes) _ n past (λ x out. rw out refl) found.marked;
+  notes = filled_end v 0 (note_at v bytes) _ n past (note_out v bytes) found.notes;
+  starts = filled_end v 0 (start_at v bytes) _ n past (λ x out. rw out refl) found.starts;
 }
 
 -- the lines of all inodes

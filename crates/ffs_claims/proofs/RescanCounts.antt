@@ -119,12 +119,8 @@ steps_again v i s (step ∷ steps) few =
     let more = steps_again v i (after_step v s step) steps (step_few v s step few) in
     let next = step_by_cut v cut (replay_of s) step ∙ ap (by_cut cut) after in
     record {
-      offers = ap (λ x. x ++ kept_in_steps v i (after_step v s step) steps) one.offers
-          ∙ ap (λ x. step_offers_again v i cut here step ++ x)
-          (more.offers ∙ ap (λ r. offers_again v i cut r steps) (sym next));
-      looks = ap (λ x. x ++ steps_runs v i (after_step v s step) steps) one.looks
-          ∙ ap (λ x. step_runs_again v i cut here step ++ x)
-          (more.looks ∙ ap (λ r. steps_runs_again v i cut r steps) (sym next));
+      offers = rw (next, one.offers, more.offers) refl;
+      looks = rw (next, one.looks, more.looks) refl;
     }
 
 -- an inode, from its begin on

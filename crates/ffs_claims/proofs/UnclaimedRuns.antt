@@ -95,8 +95,7 @@ before_metadata v c start len g h low high some =
     let within : cgdmin v c ≤ cgbase v (c + 1) = group.within_group in
     let inside : cgdmin v c ≤ v.size = group.within_size in
     let same : start / v.fpg ≡ c = group_is v c start low (omega arith) in
-    let apart : is_apart v start len ≡ true = rw same (grind (arith, nat_tests)) in
-    in_range_is v g start len some ∙ apart
+    in_range_is v g start len some ∙ rw same (grind (arith, nat_tests))
 
 -- a Run after the metadata of a group
 pub after_metadata : (v : Layout) (c start len : ℕ) → IsAcceptedLayout v → c < v.ncg → cgdmin v c ≤ start →
@@ -105,8 +104,7 @@ unfolding cgstart
 after_metadata v c start len g h low high inside some =
     let base : cgbase v c ≤ start = omega arith in
     let same : start / v.fpg ≡ c = group_is v c start base (omega arith) in
-    let apart : is_apart v start len ≡ true = rw same (grind (arith, nat_tests)) in
-    in_range_is v g start len some ∙ apart
+    in_range_is v g start len some ∙ rw same (grind (arith, nat_tests))
 
 -- the next group begins as many fragments on as a group has
 pub base_above : (v : Layout) (c : ℕ) → cgbase v (c + 1) ≡ cgbase v c + v.fpg

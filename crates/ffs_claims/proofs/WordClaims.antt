@@ -61,21 +61,7 @@ words_once {v = v} {a = a} {b = b} {x = x} {y = y} {address = address} some smal
       counted = counted;
     }
 
--- no word is passed over, and some after others
-pub words_none : {v : Layout} {w : Workspace} {walk : Walk} → IsFor v w → is_open (claims_of w) ≡ true →
-    ClaimsWords v w w walk walk
-words_none {w = w} {walk = walk} made uncut = record {
-  claims = λ contents holds bytes e. refl;
-  lines = λ contents holds bytes e number. refl;
-  uncut = uncut;
-  moves = stays (claims_of w);
-  only = only_none made;
-  falls = omega arith;
-  same = record { geometry = refl; blocks = refl };
-  rises = omega arith;
-  counted = enters_none walk walk 0 refl refl refl;
-}
-
+-- some words after others
 pub words_then : {v : Layout} {a b c : Workspace} {x y z : Walk} → ClaimsWords v a b x y → ClaimsWords v b c y z →
     ClaimsWords v a c x z
 words_then {a = a} {b = b} {c = c} p q =

@@ -132,12 +132,8 @@ loop-next-preserved-then-matches g c =
           c.skip_gaps.ensures.counted.unread;
       walk = λ bytes t. rewalk_gaps c.skip_gaps.result (gaps bytes t)
           (rewalk_on inv.cut (next bytes t) inv.going inv.pending did c.report_again.ensures.runs (inv.walk bytes t));
-      said = rewalk_said c.loop-next.walk c.next.new.self
-          (λ bytes. first_offer_lines d' (offers_again v n cut r' (steps_left bytes c.skip_gaps.new.self)))
-          inv.cut inv.said next did
-          (λ bytes t. ap (λ xs. first_offer_lines d' (offers_again v n cut r' xs)) (gaps bytes t)
-          ∙ ap (first_offer_lines d') (again_gaps v n cut r' c.skip_gaps.result
-          (steps_left bytes c.skip_gaps.new.self)).0)
+      said = rewalk_said c.loop-next.walk c.next.new.self _ inv.cut inv.said next did (λ bytes t. rw (gaps bytes t,
+          (again_gaps v n cut r' c.skip_gaps.result (steps_left bytes c.skip_gaps.new.self)).0) refl)
           c.in_ok-report_again.ensures.said;
     }
 
@@ -164,10 +160,8 @@ loop-next-preserved g c =
           (omega arith);
       walk = λ bytes t.
           rewalk_on inv.cut (next bytes t) inv.going inv.pending did c.report_again.ensures.runs (inv.walk bytes t);
-      said = rewalk_said c.loop-next.walk c.next.new.self (λ bytes.
-          first_offer_lines d' (offers_again c.args.geometry.now.layout c.args.number c.args.cut r'
-          (steps_left bytes c.next.new.self)))
-          inv.cut inv.said next did (λ bytes t. refl) c.in_ok-report_again.ensures.said;
+      said = rewalk_said c.loop-next.walk c.next.new.self _ inv.cut inv.said next did (λ bytes t. refl)
+          c.in_ok-report_again.ensures.said;
     }
 
 pub returns-then-not-is_replay_open-clause-rewalks : goal.returns-then-not-is_replay_open-clause-rewalks
