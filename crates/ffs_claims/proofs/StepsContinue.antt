@@ -123,11 +123,6 @@ steps_said v inode s s' x y rest step said next now same out =
     (of_lines (step_lines v inode s step)) _ _ _ said (lines_on v inode s s' x y step next now) out)
     (λ bytes t. ap of_lines (same bytes t))
 
--- what is to come has changed its form
-pub to_same : {rest rest' all : List Message} {a b : Progress} → SaidTo rest all a b → rest ≡ rest' →
-    SaidTo rest' all a b
-to_same {rest' = rest'} {all = all} {a = a} {b = b} p e = subst (λ xs. SaidTo xs all a b) e p
-
 -- gaps in a row change nothing, and nothing is reported of them
 pub gaps_over : (v : Layout) (inode : ℕ) (s : Claims) (n : ℕ) (steps : List Step) →
     (after_steps v s (replicate n Gap ++ steps) ≡ after_steps v s steps)
