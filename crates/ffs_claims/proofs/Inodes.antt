@@ -12,6 +12,13 @@ use Rattle.ffs_volume.specs.declared.{Class.Class, Class.TheVariants.Free, Inode
 use Rattle.ffs_report.proofs.Reporting.{of_part, of_begins, of_says, of_stops}
 use Rattle.ffs_report.specs.{Known.ForBytes, Known.IsContents, PhaseOutcome.SaidOf, PhaseOutcome.StoppedOf}
 use Rattle.ffs_report.specs.Progress.{Progress, Said, Stopped}
+use Rattle.ffs_volume.proofs.Potentials.{stays}
+use Rattle.ffs_image.specs.Device.{Device}
+use Rattle.ffs_report.specs.{PhaseOutcome.ImageAfter, declared.fault.RunFault.RunFault}
+use Rattle.ffs_layout.specs.declared.geometry.Geometry.{Geometry}
+use Rattle.ffs_walk.specs.{Windows.KeepsBlocks, declared.blocks.Blocks.Blocks}
+use Rattle.ffs_claims.proofs.Frames.{found_none, found_still, found_then, ready_still, ready_walked}
+use Rattle.ffs_claims.specs.Claiming.{CanClaim, ClaimsInArea, FewRuns, StepsLeave}
 use Rattle.ffs_maps.proofs.Bits.{bits_long}
 use Rattle.ffs_workspace.specs.{Holds.claims_of, Lengths.IsFor, Lengths.inodes_of}
 use Rattle.ffs_workspace.specs.declared.workspace.Workspace.{Workspace}
@@ -57,6 +64,43 @@ sees_next {u = u} g begun made only_data uncut m = record {
   uncut = uncut;
   room = omega (arith, g.numbers.size_below, kept_room u made uncut m, begun.kept);
   runs = omega (arith, g.numbers.size_below, seen_bound u made uncut m, begun.runs);
+}
+
+-- ---- where the claiming of its steps is, while it goes on
+abbrev pub Claiming : Layout → Device → Device → Workspace → Workspace → DataArea → Type 0
+Claiming v d0 d u w area = StepsLeave {T = Unit {0}} v d0 d u w area (Ok tt)
+
+-- nothing is claimed yet, a walk went on to its next step, and something was claimed
+pub claiming_none : {v : Layout} {d : Device} {w : Workspace} {area : DataArea} → CanClaim v d w area →
+    Claiming v d d w w area
+claiming_none {w = w} can = record {
+  image = refl;
+  claim = can;
+  bound = omega (arith, used_below can.ready.made);
+  moves = stays (claims_of w);
+  found = found_none w;
+}
+
+pub claiming_walked : {g k : Geometry} {d0 d d' : Device} {u w : Workspace} {b : Blocks} {area : DataArea} → d' ≡ d →
+    k ≡ g → KeepsBlocks k.layout d'.contents w.windows.blocks b → Claiming g.layout d0 d u w area →
+    Claiming g.layout d0 d' u (record w { windows = record w.windows { blocks = b } }) area
+claiming_walked e same kept p = record {
+  image = e ∙ p.image;
+  claim = record { ready = ready_walked e same kept p.claim.ready; only_data = p.claim.only_data };
+  bound = p.bound;
+  moves = p.moves;
+  found = found_still p.found;
+}
+
+pub claiming_on : {T : Type 0} {r : Result T RunFault} {v : Layout} {d0 d : Device} {u w w' : Workspace}
+    {area area' : DataArea} → ImageAfter d0 d r → ClaimsInArea v w w' area' → FewRuns v u w' →
+    OnOk r (ClaimBound (claims_of u) (claims_of w')) → Claiming v d0 d u w area → StepsLeave v d0 d u w' area' r
+claiming_on image left few moves p = record {
+  image = image;
+  claim = record { ready = ready_still left.only.made left.only.windows p.claim.ready; only_data = left.only_data };
+  bound = few;
+  moves = moves;
+  found = found_then p.found left.only.found;
 }
 
 -- ---- its lines
