@@ -17,6 +17,11 @@ use Rattle.ffs_walk.specs.{Keepings.run_taken, Keepings.replay_in, Rests.steps_l
 use Rattle.ffs_walk.specs.declared.{keeping.Keeping.Keeping, walk.Walk.Walk}
 use Rattle.ffs_workspace.specs.Lengths.{set_count}
 use Rattle.ffs_workspace.specs.declared.workspace.{Windows.Windows, Workspace.Workspace}
+use Rattle.std.proofs.Common.{Ok}
+use Rattle.ffs_layout.specs.declared.geometry.Geometry.{Geometry}
+use Rattle.ffs_walk.specs.{Windows.KeepsBlocks, declared.blocks.Blocks.Blocks}
+use Rattle.ffs_claims.specs.Reporting.{ReportsOnly, RewalkLeaves}
+use Rattle.ffs_claims.proofs.Frames.{ready_still, ready_walked}
 use Rattle.ffs_claims.proofs.Frames.{image_from, claims_then, claims_still, claims_none}
 use Rattle.ffs_claims.proofs.Inodes.{ok_where}
 use Rattle.ffs_claims.proofs.Reportings.{reporting_over, Reporting, reporting_begins, reporting_more, reporting_ends}
@@ -117,6 +122,20 @@ pub rewalk_over : {v : Layout} {i cut : ℕ} {all : List Step} {r : Replay} {R :
 rewalk_over {v = v} {i = i} {cut = cut} {r = r} {R = R} {w = w} e t = record {
   reported = reporting_over e t.reported;
   count = λ h. omega (arith, t.count h, looked_none (bits_of w.duplicates) (steps_runs_again v i cut r R) e);
+}
+
+-- where it has left the image, its workspace and the claims; and what a step more leaves
+abbrev pub Rereads : Layout → Device → Device → Workspace → Workspace → Type 0
+Rereads v d0 d u w = RewalkLeaves {T = Unit {0}} v d0 d u w (Ok tt)
+
+pub rereads_on : {g k : Geometry} {d0 d d' : Device} {u w w' : Workspace} {b : Blocks} → d' ≡ d → k ≡ g →
+    KeepsBlocks k.layout d'.contents w.windows.blocks b →
+    ReportsOnly g.layout (record w { windows = record w.windows { blocks = b } }) w' →
+    Rereads g.layout d0 d u w → Rereads g.layout d0 d' u w'
+rereads_on e same kept only p = record {
+  image = e ∙ p.image;
+  ready = ready_still only.made only.windows (ready_walked e same kept p.ready);
+  claims = claims_then (claims_still p.claims) only.claims;
 }
 
 -- the windows are no part of it

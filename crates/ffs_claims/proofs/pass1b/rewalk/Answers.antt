@@ -14,7 +14,7 @@ use Rattle.ffs_claims.proofs.Frames.{claims_none, claims_still, claims_then, rea
 use Rattle.ffs_claims.proofs.RescanCounts.{looked_stopped, again_gaps, again_stopped, looked_over}
 use Rattle.ffs_claims.proofs.Rewalks.{open_first, offers_none, lines_step, runs_next, rewalk_begins, rewalk_on}
 use Rattle.ffs_claims.proofs.Rewalks.{rewalk_gaps, rewalk_ends, rewalk_over, rewalk_said, rewalked_to, runs_pay_on}
-use Rattle.ffs_claims.proofs.Rewalks.{runs_pay_ends}
+use Rattle.ffs_claims.proofs.Rewalks.{runs_pay_ends, rereads_on}
 use Rattle.ffs_claims.specs.{Lines.of_lines, Reporting.after_first, Rescan.step_offers_again, Rescan.offers_again}
 use Rattle.ffs_claims.proofs.pass1b.rewalk.Goals as goal
 
@@ -27,13 +27,11 @@ loop-next-init g c =
     let begun = c.start-keeping.ensures.fresh in
     let steps = c.start-walk.ensures.steps in
     record {
-      ready = c.requires.can.ready;
+      left = record { image = refl; ready = c.requires.can.ready; claims = claims_none c.args.workspace.now };
       cut = c.start-keeping.ensures.cut;
       going = ap (is_replay_open cut) begun ∙ open_first cut;
       pending = c.requires.can.pending;
       geometry = c.start-walk.ensures.geometry;
-      device = refl;
-      claims = claims_none c.args.workspace.now;
       held = top_held c.start-walk.result c.start-walk.ensures.top _;
       counted = record {
         rises = λ _. omega arith;
@@ -44,7 +42,7 @@ loop-next-init g c =
     }
 
 pub next-requires : goal.next-requires
-next-requires g c = can_walk c.loop-next.invariant.geometry c.loop-next.invariant.ready
+next-requires g c = can_walk c.loop-next.invariant.geometry c.loop-next.invariant.left.ready
 
 pub returns-in_err-next-clause-rewalks : goal.returns-in_err-next-clause-rewalks
 returns-in_err-next-clause-rewalks g c =
@@ -56,16 +54,16 @@ returns-in_err-next-clause-rewalks g c =
       rewalked = tt;
       runs = λ bytes t. omega (arith, (inv.walk bytes t).runs);
       left = record {
-        image = rw inv.device at err;
-        ready = ready_read err.contents err.size inv.geometry c.next.ensures.leaves.kept inv.ready;
-        claims = claims_still inv.claims;
+        image = rw inv.left.image at err;
+        ready = ready_read err.contents err.size inv.geometry c.next.ensures.leaves.kept inv.left.ready;
+        claims = claims_still inv.left.claims;
       };
     })
 
 pub report_again-requires-clause-can : goal.report_again-requires-clause-can
 report_again-requires-clause-can g c =
     let inv = c.loop-next.invariant in
-    let read = ready_walked c.in_ok-next.ensures.leaves.read inv.geometry c.next.ensures.leaves.kept inv.ready in
+    let read = ready_walked c.in_ok-next.ensures.leaves.read inv.geometry c.next.ensures.leaves.kept inv.left.ready in
     record { made = read.made; number_fits = c.requires.can.number_fits }
 
 pub returns-in_err-report_again-clause-rewalks : goal.returns-in_err-report_again-clause-rewalks
@@ -79,9 +77,9 @@ returns-in_err-report_again-clause-rewalks g c =
     let cut = c.args.cut in
     let r = replay_in c.loop-next.keeping in
     let r' = replay_step_by_cut v cut r c.in-Some.next in
-    let ok = c.in_ok-next.ensures.leaves.read in
-    let next = rw (inv.device, c.in-Some.is) at c.in_ok-next.ensures.step.steps in
-    let only = c.report_again.ensures.only in
+    let on = rereads_on c.in_ok-next.ensures.leaves.read inv.geometry c.next.ensures.leaves.kept
+    c.report_again.ensures.only inv.left in
+    let next = rw (inv.left.image, c.in-Some.is) at c.in_ok-next.ensures.step.steps in
     rw (p.1, p.2) (record {
       text = of_stops _ _ _ _ _ _ _ _ inv.said (λ bytes t. lines_step v n cut r r' c.in-Some.next
           (steps_left bytes c.loop-next.walk) (steps_left bytes c.next.new.self) d _ (next bytes t) refl refl)
@@ -91,11 +89,7 @@ returns-in_err-report_again-clause-rewalks g c =
           let rest = runs_next v cut r r' c.in-Some.next (steps_left bytes c.loop-next.walk)
           (steps_left bytes c.next.new.self) (next bytes t) refl in
           omega (arith, (inv.walk bytes t).runs, rw inv.cut at c.report_again.ensures.runs.most);
-      left = record {
-        image = ok ∙ inv.device;
-        ready = ready_still only.made only.windows (ready_walked ok inv.geometry c.next.ensures.leaves.kept inv.ready);
-        claims = claims_then (claims_still inv.claims) only.claims;
-      };
+      left = record { image = on.image; ready = on.ready; claims = on.claims };
     })
 
 pub loop-next-preserved-then-matches : goal.loop-next-preserved-then-matches
@@ -106,28 +100,24 @@ loop-next-preserved-then-matches g c =
     let cut = c.args.cut in
     let d' = bits_of c.report_again.new.workspace.duplicates in
     let r' = replay_in c.report_again.new.keeping in
-    let ok = c.in_ok-next.ensures.leaves.read in
+    let on = rereads_on c.in_ok-next.ensures.leaves.read inv.geometry c.next.ensures.leaves.kept
+    c.report_again.ensures.only inv.left in
     let reads = c.in_ok-next.ensures.counted inv.held in
     let did = c.in_ok-report_again.ensures.reported in
-    let only = c.report_again.ensures.only in
     let same = c.in_ok-next.ensures.same.geometry ∙ inv.geometry in
-    let next = rw (inv.device, c.in-Some.is) at c.in_ok-next.ensures.step.steps in
-    let ready = ready_still only.made only.windows (ready_walked ok inv.geometry c.next.ensures.leaves.kept
-    inv.ready) in
+    let next = rw (inv.left.image, c.in-Some.is) at c.in_ok-next.ensures.step.steps in
     let gaps : ForBytes (IsContents (g.I.Image.device c.args.image.now).contents)
     (λ bytes. steps_left bytes c.next.new.self ≡ replicate c.skip_gaps.result Gap ++ steps_left bytes
     c.skip_gaps.new.self) =
-    λ bytes t. c.skip_gaps.ensures.steps (g.I.Image.device c.next.new.image).contents (rw same ready.windows.blocks)
-    bytes (ap (λ d. d.contents) (ok ∙ inv.device) ∙ t) in
+    λ bytes t. c.skip_gaps.ensures.steps (g.I.Image.device c.next.new.image).contents (rw same on.ready.windows.blocks)
+    bytes (ap (λ d. d.contents) on.image ∙ t) in
     record {
-      ready = ready;
+      left = on;
       cut = did.cut ∙ inv.cut;
       going = rw (did.cut ∙ inv.cut) at (sym c.is_replay_open.ensures ∙ c.if-not-is_replay_open.false);
       pending = some_left _ _ c.has_dups.ensures c.if-not-has_dups.false;
       geometry = c.skip_gaps.ensures.same.geometry ∙ same;
-      device = ok ∙ inv.device;
-      claims = claims_then (claims_still inv.claims) only.claims;
-      held = c.skip_gaps.ensures.counted.held _ (rw only.windows reads.held);
+      held = c.skip_gaps.ensures.counted.held _ (rw c.report_again.ensures.only.windows reads.held);
       counted = runs_pay_on _ _ _ _ _ _ inv.counted c.report_again.ensures.counted (rw c.in-Some.is at reads.paid)
           c.skip_gaps.ensures.counted.unread;
       walk = λ bytes t. rewalk_gaps c.skip_gaps.result (gaps bytes t)
@@ -142,20 +132,18 @@ loop-next-preserved g c =
     let inv = c.loop-next.invariant in
     let d' = bits_of c.report_again.new.workspace.duplicates in
     let r' = replay_in c.report_again.new.keeping in
-    let ok = c.in_ok-next.ensures.leaves.read in
+    let on = rereads_on c.in_ok-next.ensures.leaves.read inv.geometry c.next.ensures.leaves.kept
+    c.report_again.ensures.only inv.left in
     let reads = c.in_ok-next.ensures.counted inv.held in
     let did = c.in_ok-report_again.ensures.reported in
-    let only = c.report_again.ensures.only in
-    let next = rw (inv.device, c.in-Some.is) at c.in_ok-next.ensures.step.steps in
+    let next = rw (inv.left.image, c.in-Some.is) at c.in_ok-next.ensures.step.steps in
     record {
-      ready = ready_still only.made only.windows (ready_walked ok inv.geometry c.next.ensures.leaves.kept inv.ready);
+      left = on;
       cut = did.cut ∙ inv.cut;
       going = rw (did.cut ∙ inv.cut) at (sym c.is_replay_open.ensures ∙ c.if-not-is_replay_open.false);
       pending = some_left _ _ c.has_dups.ensures c.if-not-has_dups.false;
       geometry = c.in_ok-next.ensures.same.geometry ∙ inv.geometry;
-      device = ok ∙ inv.device;
-      claims = claims_then (claims_still inv.claims) only.claims;
-      held = rw only.windows reads.held;
+      held = rw c.report_again.ensures.only.windows reads.held;
       counted = runs_pay_on _ _ _ _ _ _ inv.counted c.report_again.ensures.counted (rw c.in-Some.is at reads.paid)
           (omega arith);
       walk = λ bytes t.
@@ -168,11 +156,9 @@ pub returns-then-not-is_replay_open-clause-rewalks : goal.returns-then-not-is_re
 returns-then-not-is_replay_open-clause-rewalks g c =
     let inv = c.loop-next.invariant in
     let d' = bits_of c.report_again.new.workspace.duplicates in
-    let ok = c.in_ok-next.ensures.leaves.read in
     let did = c.in_ok-report_again.ensures.reported in
-    let only = c.report_again.ensures.only in
     let shut = rw (did.cut ∙ inv.cut) at (sym c.is_replay_open.ensures ∙ c.if-not-is_replay_open.true) in
-    let next = rw (inv.device, c.in-Some.is) at c.in_ok-next.ensures.step.steps in
+    let next = rw (inv.left.image, c.in-Some.is) at c.in_ok-next.ensures.step.steps in
     let walk = λ (bytes : List ℕ) (t : IsContents (g.I.Image.device c.args.image.now).contents bytes).
     rewalk_on inv.cut (next bytes t) inv.going inv.pending did c.report_again.ensures.runs (inv.walk bytes t) in
     let none = λ (bytes : List ℕ). again_stopped c.args.geometry.now.layout c.args.number c.args.cut
@@ -182,22 +168,17 @@ returns-then-not-is_replay_open-clause-rewalks g c =
           (λ bytes t. ap (first_offer_lines d') (none bytes).0) c.in_ok-report_again.ensures.said;
       rewalked = λ bytes t. rewalk_ends (none bytes).0 (looked_stopped _ _ _ _ _ d' shut) (walk bytes t);
       runs = λ bytes t. omega (arith, (walk bytes t).runs);
-      left = record {
-        image = ok ∙ inv.device;
-        ready = ready_still only.made only.windows (ready_walked ok inv.geometry c.next.ensures.leaves.kept inv.ready);
-        claims = claims_then (claims_still inv.claims) only.claims;
-      };
+      left = rereads_on c.in_ok-next.ensures.leaves.read inv.geometry c.next.ensures.leaves.kept
+          c.report_again.ensures.only inv.left;
     }
 
 pub returns-then-not-has_dups-clause-rewalks : goal.returns-then-not-has_dups-clause-rewalks
 returns-then-not-has_dups-clause-rewalks g c =
     let inv = c.loop-next.invariant in
     let d' = bits_of c.report_again.new.workspace.duplicates in
-    let ok = c.in_ok-next.ensures.leaves.read in
     let did = c.in_ok-report_again.ensures.reported in
-    let only = c.report_again.ensures.only in
     let none = none_left (set_count d') _ c.has_dups.ensures c.if-not-has_dups.true in
-    let next = rw (inv.device, c.in-Some.is) at c.in_ok-next.ensures.step.steps in
+    let next = rw (inv.left.image, c.in-Some.is) at c.in_ok-next.ensures.step.steps in
     let walk = λ (bytes : List ℕ) (t : IsContents (g.I.Image.device c.args.image.now).contents bytes).
     rewalk_on inv.cut (next bytes t) inv.going inv.pending did c.report_again.ensures.runs (inv.walk bytes t) in
     record {
@@ -205,11 +186,8 @@ returns-then-not-has_dups-clause-rewalks g c =
           (λ bytes t. none_first d' _ none) c.in_ok-report_again.ensures.said;
       rewalked = λ bytes t. rewalk_over none (walk bytes t);
       runs = λ bytes t. omega (arith, (walk bytes t).runs);
-      left = record {
-        image = ok ∙ inv.device;
-        ready = ready_still only.made only.windows (ready_walked ok inv.geometry c.next.ensures.leaves.kept inv.ready);
-        claims = claims_then (claims_still inv.claims) only.claims;
-      };
+      left = rereads_on c.in_ok-next.ensures.leaves.read inv.geometry c.next.ensures.leaves.kept
+          c.report_again.ensures.only inv.left;
     }
 
 pub returns-in_default-clause-rewalks : goal.returns-in_default-clause-rewalks
@@ -217,7 +195,7 @@ returns-in_default-clause-rewalks g c =
     let inv = c.loop-next.invariant in
     let d = bits_of c.loop-next.workspace.duplicates in
     let ok = c.in_ok-next.ensures.leaves.read in
-    let over = rw (inv.device, c.in_default.is) at c.in_ok-next.ensures.step.steps in
+    let over = rw (inv.left.image, c.in_default.is) at c.in_ok-next.ensures.step.steps in
     let none = λ (bytes : List ℕ) (t : IsContents (g.I.Image.device c.args.image.now).contents bytes).
     offers_none c.args.geometry.now.layout c.args.number c.args.cut (replay_in c.loop-next.keeping)
     (steps_left bytes c.loop-next.walk) (over bytes t) in
@@ -227,9 +205,9 @@ returns-in_default-clause-rewalks g c =
           (inv.walk bytes t));
       runs = λ bytes t. omega (arith, (inv.walk bytes t).runs);
       left = record {
-        image = ok ∙ inv.device;
-        ready = ready_walked ok inv.geometry c.next.ensures.leaves.kept inv.ready;
-        claims = claims_still inv.claims;
+        image = ok ∙ inv.left.image;
+        ready = ready_walked ok inv.geometry c.next.ensures.leaves.kept inv.left.ready;
+        claims = claims_still inv.left.claims;
       };
     }
 
