@@ -1,17 +1,16 @@
 -- An inode replayed by its cut keeps what it kept, and how many Runs the rescan looks at.
 use Rattle.std.proofs.Common.{◌≡◌, ◌≢◌, ℕ, zero, suc, ◌+◌, Bool, true, false, ◌==◌, if◌then◌else◌, List, [], ◌∷◌, ◌++◌}
 use Rattle.std.proofs.Common.{map, replicate, arith, refl, ap, ◌∙◌, sym, inl, inr, eq-eqb, ne_eqb, ◌<◌, ◌≤◌, ◌^◌}
-use Rattle.std.proofs.Common.{length, ◌&&◌, nat_lt, Option, ◌-◌}
+use Rattle.std.proofs.Common.{length, nat_lt, Option, ◌-◌}
 use Rattle.std.proofs.lemmas.{Bool.cases_eq, Bool.cases_Bool, Bool.Decides.nat_tests, List.length-append}
 use Rattle.std.specs.List.{range_with_len}
 use Rattle.ffs_volume.proofs.{Potentials.cond_holds, Potentials.offers_keep, PrefixLaws.full_offers}
 use Rattle.ffs_volume.proofs.ReplayIsKeeping.{replay_of, seen_replays, step_replays, step_few}
-use Rattle.ffs_volume.proofs.{ReplayLaws.offers_runs, RunBounds.runs_bounded}
-use Rattle.ffs_volume.specs.Blocks.Claims.{after_offers, Claims, no_claims, at_next_inode, is_open, after_step}
-use Rattle.ffs_volume.specs.Blocks.Claims.{after_steps, after_owner, after_owners, is_set, after_offer}
-use Rattle.ffs_volume.specs.Blocks.KeptOffers.{Offer, offer_of, kept_in_run, kept_in_offers, kept_in_step}
-use Rattle.ffs_volume.specs.Blocks.{KeptOffers.kept_in_steps, Owners.Owner, Owners.owners_of}
-use Rattle.ffs_volume.specs.Disk.Areas.{is_run_in_range, is_fragment_in_range}
+use Rattle.ffs_volume.{proofs.ReplayLaws.offers_runs, proofs.RunBounds.runs_bounded, specs.Blocks.Claims.after_offers}
+use Rattle.ffs_volume.specs.Blocks.Claims.{Claims, no_claims, at_next_inode, is_open, after_step, after_steps}
+use Rattle.ffs_volume.specs.Blocks.{Claims.after_owner, Claims.after_owners, Claims.after_offer, KeptOffers.Offer}
+use Rattle.ffs_volume.specs.Blocks.KeptOffers.{offer_of, kept_in_run, kept_in_offers, kept_in_step, kept_in_steps}
+use Rattle.ffs_volume.specs.{Blocks.Owners.Owner, Blocks.Owners.owners_of, Disk.Areas.is_run_in_range}
 use Rattle.ffs_volume.specs.Encodings.Replay.{Replay, is_replay_open, fresh_replay, cut_of, replay_after_step}
 use Rattle.ffs_volume.specs.Encodings.ReplayCounts.{seen_run, replay_step_by_cut}
 use Rattle.ffs_volume.specs.{Laws.Geometry.IsAcceptedLayout, Report.Whole.run_count, declared.Layout.Layout}

@@ -1,21 +1,19 @@
 -- How phase 1b goes from inode to inode.
-use Rattle.std.proofs.Common.{◌≡◌, ◌⊎◌, inl, inr, ℕ, zero, suc, ◌+◌, ◌-◌, ◌<◌, ◌≤◌, Bool, true, false, not, ◌&&◌, ◌||◌}
-use Rattle.std.proofs.Common.{◌==◌, if◌then◌else◌, nat_lt, List, [], ◌∷◌, ◌++◌, map, slice_index, slice_set, arith}
-use Rattle.std.proofs.Common.{refl, ap, ◌∙◌, sym, ne_eqb}
-use Rattle.std.proofs.{Math.Bool.or-false, lemmas.Bool.and_from, lemmas.Bool.cases_lt}
-use Rattle.std.proofs.lemmas.{Bool.and_parts, Bool.not-true, Bool.Decides.nat_tests, List.Folds.list_all-append}
+use Rattle.std.proofs.Common.{◌≡◌, ℕ, zero, suc, ◌+◌, ◌-◌, ◌<◌, ◌≤◌, Bool, true, false, not, ◌&&◌, ◌||◌, ◌==◌, nat_lt}
+use Rattle.std.proofs.Common.{List, [], ◌∷◌, ◌++◌, map, slice_index, slice_set, arith, refl, ap, ◌∙◌, sym, ne_eqb}
+use Rattle.std.proofs.Math.Bool.{or-false}
+use Rattle.std.proofs.lemmas.{Bool.and_from, Bool.and_parts, Bool.Decides.nat_tests, List.Folds.list_all-append}
 use Rattle.std.specs.List.{range_with_len, list_any, list_all}
 use Rattle.ffs_volume.proofs.{CutLaws.cut_is, OwnerLaws.before_next, Potentials.cond_holds, ReplayLaws.replay_is_runs}
 use Rattle.ffs_volume.specs.Blocks.BlockCheck.{blames, first_offer_lines, phase1b_lines}
-use Rattle.ffs_volume.specs.Blocks.Claims.{Claims, no_claims, at_next_inode, is_open, is_set, after_offer, after_step}
-use Rattle.ffs_volume.specs.Blocks.{Claims.after_steps, Claims.after_owner, Claims.after_owners, Inodes.inode_of}
+use Rattle.ffs_volume.specs.Blocks.Claims.{Claims, no_claims, at_next_inode, after_offer, after_step, after_steps}
+use Rattle.ffs_volume.specs.Blocks.{Claims.after_owner, Claims.after_owners, Inodes.inode_of}
 use Rattle.ffs_volume.specs.Blocks.KeptOffers.{Offer, kept_in_offers, kept_in_step, kept_in_steps, kept_in_owners}
 use Rattle.ffs_volume.specs.Blocks.{KeptSteps.claims_before, Owners.owner_of, Owners.owners_of, Steps.steps_of}
-use Rattle.ffs_volume.specs.{Directories.Volumes.is_inode_number, Disk.Areas.is_run_in_range}
+use Rattle.ffs_volume.specs.Directories.Volumes.{is_inode_number}
 use Rattle.ffs_volume.specs.Encodings.{Replay.fresh_replay, Replay.cut_of, Replay.cut_at, ReplayCounts.replayed_runs}
 use Rattle.ffs_volume.specs.{Laws.Geometry.IsAcceptedLayout, Report.Whole.run_count}
-use Rattle.ffs_volume.specs.declared.{BlockMessage.BlockMessage, Layout.Layout, Step.Step}
-use Rattle.ffs_volume.specs.declared.Step.TheVariants.{Run, Tail, Gap}
+use Rattle.ffs_volume.specs.declared.{Layout.Layout, Step.Step, Step.TheVariants.Run}
 use Rattle.ffs_maps.specs.Bits.{bits_of}
 use Rattle.ffs_workspace.proofs.NoteLaws.{cut_is_noted}
 use Rattle.ffs_workspace.specs.Holds.{bool_at, all_claims, marked_by_phase1_at, HoldsPhase1, HoldsStarts, HoldsClaims}

@@ -1,9 +1,8 @@
 -- How offers, steps and inodes continue.
 use Rattle.std.proofs.Common.{◌≡◌, ℕ, zero, suc, ◌+◌, ◌-◌, ◌<◌, ◌≤◌, Bool, true, false, ◌==◌, List, [], ◌∷◌, ◌++◌}
-use Rattle.std.proofs.Common.{arith, rules, refl, ap, ◌∙◌, sym, slice_set, replicate, ◌&&◌, not, if◌then◌else◌, inl}
-use Rattle.std.proofs.Common.{inr, subst}
-use Rattle.std.proofs.lemmas.{Bool.cases_Bool, Bool.Decides.nat_tests, List.map-append, List.set-get_or}
-use Rattle.std.specs.{Int.div_ceil, List.range_with_len, List.slice_index_or}
+use Rattle.std.proofs.Common.{arith, rules, refl, ap, ◌∙◌, sym, replicate, ◌&&◌, not, if◌then◌else◌, inl, inr}
+use Rattle.std.proofs.lemmas.{Bool.cases_Bool, Bool.Decides.nat_tests, List.map-append}
+use Rattle.std.specs.{Int.div_ceil, List.range_with_len}
 use Rattle.ffs_volume.proofs.{Potentials.in_range_below, Sizes.no_blocks}
 use Rattle.ffs_volume.specs.Blocks.Claims.{Claims, is_open, after_offer, after_offers, after_step, after_steps}
 use Rattle.ffs_volume.specs.Blocks.Claims.{offer_lines, lines_of_offers, step_lines, lines_of_steps, run_lines}
@@ -11,9 +10,9 @@ use Rattle.ffs_volume.specs.Blocks.{Inodes.addresses_needed, Steps.steps_of, Ste
 use Rattle.ffs_volume.specs.{Blocks.Steps.last_length_of, Disk.Areas.is_run_in_range, Messages.Kinds.Message}
 use Rattle.ffs_volume.specs.{Messages.Kinds.of_blocks, declared.BlockMessage.BlockMessage}
 use Rattle.ffs_volume.specs.declared.{Inode.Inode, Layout.Layout, Step.Step, Step.TheVariants.Gap}
-use Rattle.ffs_report.proofs.{Reporting.of_says, Reporting.of_same, Reports.stopped_more, Reports.said_then}
-use Rattle.ffs_report.{proofs.Reports.stopped_after, specs.Known.ForBytes, specs.PhaseOutcome.SaidOf}
-use Rattle.ffs_report.specs.{PhaseOutcome.SaidTo, Progress.Progress, Progress.Said, Progress.Stopped}
+use Rattle.ffs_report.proofs.Reporting.{of_says, of_same}
+use Rattle.ffs_report.proofs.Reports.{stopped_more, said_then, stopped_after}
+use Rattle.ffs_report.specs.{Known.ForBytes, PhaseOutcome.SaidOf, Progress.Progress, Progress.Said, Progress.Stopped}
 use Rattle.ffs_walk.specs.{Rests.steps_left, declared.walk.Walk.Walk}
 use Rattle.ffs_claims.specs.Lines.{of_lines, has_dup_line, bad_lines}
 

@@ -6,11 +6,11 @@ use Rattle.ffs_volume.specs.Blocks.Claims.{after_step, is_open}
 use Rattle.ffs_volume.specs.{Disk.Areas.is_run_in_range, Laws.RunLengths.HasLength, declared.Layout.Layout}
 use Rattle.ffs_image.specs.Device.{ForContents}
 use Rattle.ffs_maps.specs.Bits.{bits_of, AreClear, set_run}
-use Rattle.ffs_walk.{proofs.Counted.enters_none, specs.Counts.EntersOnly}
+use Rattle.ffs_walk.{specs.Counts.EntersOnly}
 use Rattle.ffs_walk.specs.{HeldWords.PassesWord, HeldWords.next_address, HeldWords.word_step, Rests.SameFileBlocks}
 use Rattle.ffs_walk.specs.{Rests.most_steps_left, Rests.steps_left, Windows.BlocksHold, declared.walk.Walk.Walk}
 use Rattle.ffs_workspace.specs.{Holds.claims_of, Lengths.IsFor, declared.workspace.Workspace.Workspace}
-use Rattle.ffs_claims.proofs.{Frames.only_none, Frames.only_then, Inodes.moves_on, UnclaimedRuns.whole_is}
+use Rattle.ffs_claims.proofs.{Frames.only_then, Inodes.moves_on, UnclaimedRuns.whole_is}
 use Rattle.ffs_claims.specs.{Leaves.ClaimsOnly, SilentWords.ClaimsSilently, SilentWords.ClaimsWords}
 
 -- a Run in range of which all fragments are unclaimed

@@ -1,9 +1,8 @@
 use Rattle.std.proofs.Common.{◌≡◌, ◌+◌, ◌≤◌, true}
-use Rattle.ffs_volume.specs.Blocks.Claims.{after_steps, lines_of_steps, is_open}
-use Rattle.ffs_volume.specs.{Blocks.Steps.steps_of, Laws.ClaimBounds.ClaimBound}
+use Rattle.ffs_volume.specs.Blocks.{Claims.after_steps, Claims.lines_of_steps, Claims.is_open, Steps.steps_of}
 use Rattle.ffs_report.specs.{Known.ForBytes, Known.IsContents, PhaseOutcome.SaidOf, Progress.progress}
 use Rattle.ffs_walk.specs.{Counts.AreHeld, Counts.unread, Rests.steps_left, Rests.most_steps_left}
-use Rattle.ffs_workspace.specs.{Holds.claims_of, Ready.IsReady}
+use Rattle.ffs_workspace.specs.Holds.{claims_of}
 use Rattle.ffs_claims.{proofs.Inodes.Claiming, specs.Lines.of_lines}
 use Rattle.ffs_claims.proofs.claim.claim.Given as goal
 

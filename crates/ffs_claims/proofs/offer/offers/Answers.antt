@@ -1,12 +1,9 @@
-use Rattle.std.proofs.Common.{arith, ap, ◌+◌, ◌∙◌, refl}
-use Rattle.std.{proofs.lemmas.Result.err_from_is_err_and, specs.List.range_with_len}
-use Rattle.ffs_volume.{proofs.Potentials.each_ok, specs.Blocks.Claims.offer_lines}
-use Rattle.ffs_volume.specs.{Blocks.Claims.lines_of_offers, Blocks.Claims.after_offers, Disk.Areas.is_fragment_in_range}
+use Rattle.std.proofs.{Common.arith, Common.ap, Common.◌+◌, Common.◌∙◌, Common.refl, lemmas.Result.err_from_is_err_and}
+use Rattle.ffs_volume.{proofs.Potentials.each_ok, specs.Disk.Areas.is_fragment_in_range}
 use Rattle.ffs_report.proofs.Reporting.{to_begins, to_says, to_stops}
 use Rattle.ffs_workspace.specs.Holds.{claims_of}
 use Rattle.ffs_claims.proofs.Frames.{offers_none, offers_then}
 use Rattle.ffs_claims.proofs.StepsContinue.{offers_after, offers_more, offer_kept, from_start}
-use Rattle.ffs_claims.specs.Lines.{of_lines}
 use Rattle.ffs_claims.proofs.offer.offers.Goals as goal
 
 pub returns-in_err-offer-clause-said : goal.returns-in_err-offer-clause-said

@@ -1,11 +1,7 @@
-use Rattle.std.proofs.{Common.rules, Common.arith, Common.ap, Common.slice_index, lemmas.Result.err_from_is_err_and}
-use Rattle.ffs_volume.specs.Blocks.{BlockCheck.first_offer_lines, Inodes.inode_of, Steps.steps_of}
-use Rattle.ffs_volume.specs.Encodings.Replay.{fresh_replay}
+use Rattle.std.proofs.{Common.rules, Common.arith, Common.ap, lemmas.Result.err_from_is_err_and}
 use Rattle.ffs_report.proofs.Reporting.{reads_first}
-use Rattle.ffs_maps.specs.Bits.{bits_of}
-use Rattle.ffs_workspace.{proofs.Readiness.ready_table, specs.Notes.cut_in}
+use Rattle.ffs_workspace.{proofs.Readiness.ready_table}
 use Rattle.ffs_claims.proofs.{Frames.claims_still, Frames.claims_none, Rewalks.rewalks_from}
-use Rattle.ffs_claims.specs.{Lines.of_lines, Rescan.offers_again}
 use Rattle.ffs_claims.proofs.pass1b.rewalk_inode.Goals as goal
 
 pub rewalk-requires : goal.rewalk-requires

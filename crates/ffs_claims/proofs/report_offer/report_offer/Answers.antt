@@ -1,4 +1,4 @@
-use Rattle.std.proofs.{Common.false, Common.arith, Common.sym, Common.◌∙◌, Math.ListN.get_or-eq_default}
+use Rattle.std.proofs.{Common.false, Common.arith, Common.◌∙◌, Math.ListN.get_or-eq_default}
 use Rattle.ffs_maps.{proofs.Bits.bits_long, specs.Bits.bits_of}
 use Rattle.ffs_claims.proofs.{Frames.offers_reported_none, Reportings.reported_out, Reportings.said_out}
 use Rattle.ffs_claims.proofs.report_offer.report_offer.Goals as goal
