@@ -130,15 +130,15 @@ class_stopped v number i s k q =
     (λ bytes t. parts v number i s bytes) (rw k at q)
 
 -- its steps are reported then, and the count's line is that of the claims that are there
-pub steps_reported : {knows : List ℕ → Type 0} {a b c : Progress} {s2 : Claims} (v : Layout) (number : ℕ) (i : Inode)
-    (s s1 : Claims) (class : Class) →
-    SaidOf knows (rest_lines v number i class s1) (λ bytes. of_lines (owner_lines v s (owner_with v bytes number i))) a
-    b → SaidOf knows (λ bytes. []) (λ bytes. of_lines (lines_of_steps v number s1 (steps_of v i bytes))) b c →
+pub steps_reported : {knows : List ℕ → Type 0} {a b c : Progress} {s1 s2 : Claims} {class : Class} (v : Layout)
+    (number : ℕ) (i : Inode) (s : Claims) → s1 ≡ at_next_inode s → class ≡ class_of v i →
+    Said a b (of_lines (class_lines number class)) →
+    SaidOf knows (λ bytes. []) (λ bytes. of_lines (lines_of_steps v number s1 (steps_of v i bytes))) b c →
     ForBytes knows (λ bytes. s2 ≡ after_steps v s1 (steps_of v i bytes)) →
     SaidOf knows (λ bytes. of_lines (count_lines v (counted_owner number class i.blocks) s2) ++ [])
     (λ bytes. of_lines (owner_lines v s (owner_with v bytes number i))) a c
-steps_reported {s2 = s2} v number i s s1 class said steps h =
-    of_part _ _ _ _ _ _ _ _ said (λ bytes t. rw (h bytes t, append-nil) refl) steps
+steps_reported v number i s e k q steps h = of_part _ _ _ _ _ _ _ _ (class_said v number i s e k q)
+    (λ bytes t. rw (h bytes t, append-nil) refl) steps
 
 -- the Runs that were seen are as they were, and so is how many fragments are used
 pub record SameRuns (u w : Workspace) : Type 0 where

@@ -76,9 +76,8 @@ returns-in_err-say_count-clause-claiming g c =
     let left = c.claim.ensures.claiming.left in
     rw (p.1, p.2) (record {
       text = of_stops _ _ (λ bytes. []) _ _ _ _ _ (steps_reported v c.args.number c.args.inode.now old
-          (claims_of c.begin.new.workspace) c.class_of-class.result
-          (class_said v c.args.number c.args.inode.now old (ap claims_of c.begin.ensures) c.class_of-class.ensures
-          c.in_ok-say_class.ensures) c.in_ok-claim.ensures.claiming.text c.in_ok-claim.ensures.claiming.claims)
+          (ap claims_of c.begin.ensures) c.class_of-class.ensures c.in_ok-say_class.ensures
+          c.in_ok-claim.ensures.claiming.text c.in_ok-claim.ensures.claiming.claims)
           (λ bytes t. refl) c.in_err-say_count.ensures;
       claims = tt;
       left = record {
@@ -100,9 +99,8 @@ returns-clause-claiming g c =
     let left = c.claim.ensures.claiming.left in
     record {
       text = of_says _ _ (λ bytes. []) _ _ _ _ _ (steps_reported v c.args.number c.args.inode.now old
-          (claims_of c.begin.new.workspace) c.class_of-class.result
-          (class_said v c.args.number c.args.inode.now old (ap claims_of c.begin.ensures) c.class_of-class.ensures
-          c.in_ok-say_class.ensures) c.in_ok-claim.ensures.claiming.text c.in_ok-claim.ensures.claiming.claims)
+          (ap claims_of c.begin.ensures) c.class_of-class.ensures c.in_ok-say_class.ensures
+          c.in_ok-claim.ensures.claiming.text c.in_ok-claim.ensures.claiming.claims)
           (λ bytes t. refl) c.in_ok-say_count.ensures;
       claims = λ bytes t. ap claims_of c.store-2.ensures.rest ∙ c.in_ok-claim.ensures.claiming.claims bytes t
           ∙ ap (λ s. after_steps v s (steps_of v c.args.inode.now bytes)) (ap claims_of c.begin.ensures);

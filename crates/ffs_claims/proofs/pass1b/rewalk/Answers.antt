@@ -66,8 +66,8 @@ report_again-requires-clause-can g c =
 
 pub returns-in_err-report_again-clause-rewalks : goal.returns-in_err-report_again-clause-rewalks
 returns-in_err-report_again-clause-rewalks g c =
-    let p = err_from_is_err_and c.from_residual-in_err-report_again.result
-    c.from_residual-in_err-report_again.ensures.1 in
+    let from = c.from_residual-in_err-report_again in
+    let p = err_from_is_err_and from.result from.ensures.1 in
     let inv = c.loop-next.invariant in
     let v = c.args.geometry.now.layout in
     let n = c.args.number in
@@ -213,10 +213,7 @@ pub returns-in_err-next-clause-counted : goal.returns-in_err-next-clause-counted
 returns-in_err-next-clause-counted g c =
     let inv = c.loop-next.invariant in
     let reads = c.in_err-next.ensures.counted inv.held in
-    record {
-      rises = inv.counted.rises;
-      paid = λ room. omega (arith, reads.most, inv.counted.paid room);
-    }
+    record { rises = inv.counted.rises; paid = λ room. omega (arith, reads.most, inv.counted.paid room) }
 
 pub returns-in_err-report_again-clause-counted : goal.returns-in_err-report_again-clause-counted
 returns-in_err-report_again-clause-counted g c =
@@ -240,7 +237,4 @@ pub returns-in_default-clause-counted : goal.returns-in_default-clause-counted
 returns-in_default-clause-counted g c =
     let inv = c.loop-next.invariant in
     let paid = rw c.in_default.is at (c.in_ok-next.ensures.counted inv.held).paid in
-    record {
-      rises = inv.counted.rises;
-      paid = λ room. omega (arith, paid, inv.counted.paid room);
-    }
+    record { rises = inv.counted.rises; paid = λ room. omega (arith, paid, inv.counted.paid room) }
