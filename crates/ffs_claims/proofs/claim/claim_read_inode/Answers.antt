@@ -31,19 +31,14 @@ claim-requires-clause-ready g c =
 pub returns-in_err-say_class-clause-claiming : goal.returns-in_err-say_class-clause-claiming
 returns-in_err-say_class-clause-claiming g c =
     let p = err_from_is_err_and c.from_residual.result c.from_residual.ensures.1 in
-    let can = c.requires.ready.claim in
+    let ready = ready_begun c.begin.ensures c.requires.ready.claim.ready in
+    let few = used_below ready.made in
     let b = begun_runs c.args.workspace.now c.begin.ensures in
     rw (p.1, p.2) (record {
       text = class_stopped c.args.geometry.now.layout c.args.number c.args.inode.now (claims_of c.args.workspace.now)
           c.class_of-class.ensures c.in_err-say_class.ensures;
       claims = tt;
-      left = record {
-        image = refl;
-        moves = tt;
-        bound = omega (arith, used_below can.ready.made);
-        again = b.again;
-        claim = record { ready = ready_begun c.begin.ensures can.ready; only_data = can.only_data };
-      };
+      left = grind arith;
     })
 
 pub returns-in_err-claim-clause-claiming : goal.returns-in_err-claim-clause-claiming
@@ -58,13 +53,7 @@ returns-in_err-claim-clause-claiming g c =
           (class_said v c.args.number c.args.inode.now (claims_of c.args.workspace.now) (ap claims_of c.begin.ensures)
           c.class_of-class.ensures c.in_ok-say_class.ensures) (λ bytes t. refl) c.in_err-claim.ensures.claiming.text;
       claims = tt;
-      left = record {
-        image = c.in_err-claim.ensures.claiming.left.image;
-        moves = tt;
-        bound = omega (arith, left.bound);
-        again = left.found.again ∙ b.again;
-        claim = left.claim;
-      };
+      left = grind arith;
     })
 
 pub returns-in_err-say_count-clause-claiming : goal.returns-in_err-say_count-clause-claiming
@@ -80,13 +69,7 @@ returns-in_err-say_count-clause-claiming g c =
           c.in_ok-claim.ensures.claiming.text c.in_ok-claim.ensures.claiming.claims)
           (λ bytes t. refl) c.in_err-say_count.ensures;
       claims = tt;
-      left = record {
-        image = c.in_ok-claim.ensures.claiming.left.image;
-        moves = tt;
-        bound = omega (arith, left.bound);
-        again = left.found.again ∙ b.again;
-        claim = left.claim;
-      };
+      left = grind arith;
     })
 
 pub returns-clause-claiming : goal.returns-clause-claiming
