@@ -41,9 +41,7 @@ only_then p q = grind arith
 -- an offer that changes the map of claims, or none, and the count of kept offers
 pub offers_claimed : {l : Layout} {w : Workspace} {map : FragmentMap} {kept : ℕ} → IsFor l w → map.size ≡ w.used.size
     → OffersOnly l w (record w { used = map; kept = kept })
-offers_claimed m size =
-    let used = size ∙ m.used in
-    record { claiming = record { made = search rules; windows = refl; found = search rules }; runs = refl }
+offers_claimed m size = grind arith
 
 pub offers_none : {l : Layout} {w : Workspace} → IsFor l w → OffersOnly l w w
 offers_none made = record { claiming = only_none made; runs = refl }

@@ -71,35 +71,20 @@ Claiming v d0 d u w area = StepsLeave {T = Unit {0}} v d0 d u w area (Ok tt)
 -- nothing is claimed yet, a walk went on to its next step, and something was claimed
 pub claiming_none : {v : Layout} {d : Device} {w : Workspace} {area : DataArea} → CanClaim v d w area →
     Claiming v d d w w area
-claiming_none {w = w} can = record {
-  image = refl;
-  claim = can;
-  bound = omega (arith, used_below can.ready.made);
-  moves = stays (claims_of w);
-  found = found_none w;
-}
+claiming_none {w = w} can = let few = used_below can.ready.made in let same = found_none w in grind arith
 
 pub claiming_walked : {g k : Geometry} {d0 d d' : Device} {u w : Workspace} {b : Blocks} {area : DataArea} → d' ≡ d →
     k ≡ g → KeepsBlocks k.layout d'.contents w.windows.blocks b → Claiming g.layout d0 d u w area →
     Claiming g.layout d0 d' u (record w { windows = record w.windows { blocks = b } }) area
-claiming_walked e same kept p = record {
-  image = e ∙ p.image;
-  claim = record { ready = ready_walked e same kept p.claim.ready; only_data = p.claim.only_data };
-  bound = p.bound;
-  moves = p.moves;
-  found = found_still p.found;
-}
+claiming_walked e same kept p = let ready = ready_walked e same kept p.claim.ready in grind arith
 
 pub claiming_on : {T : Type 0} {r : Result T RunFault} {v : Layout} {d0 d : Device} {u w w' : Workspace}
     {area area' : DataArea} → ImageAfter d0 d r → ClaimsInArea v w w' area' → FewRuns v u w' →
     OnOk r (ClaimBound (claims_of u) (claims_of w')) → Claiming v d0 d u w area → StepsLeave v d0 d u w' area' r
-claiming_on image left few moves p = record {
-  image = image;
-  claim = record { ready = ready_still left.only.made left.only.windows p.claim.ready; only_data = left.only_data };
-  bound = few;
-  moves = moves;
-  found = found_then p.found left.only.found;
-}
+claiming_on image left few moves p =
+    let ready = ready_still left.only.made left.only.windows p.claim.ready in
+    let found = found_then p.found left.only.found in
+    grind arith
 
 -- ---- its lines
 -- the lines of an inode's steps and of its count, once its class is reported

@@ -128,11 +128,10 @@ pub rereads_on : {g k : Geometry} {d0 d d' : Device} {u w w' : Workspace} {b : B
     KeepsBlocks k.layout d'.contents w.windows.blocks b →
     ReportsOnly g.layout (record w { windows = record w.windows { blocks = b } }) w' →
     Rereads g.layout d0 d u w → Rereads g.layout d0 d' u w'
-rereads_on e same kept only p = record {
-  image = e ∙ p.image;
-  ready = ready_still only.made only.windows (ready_walked e same kept p.ready);
-  claims = claims_then (claims_still p.claims) only.claims;
-}
+rereads_on e same kept only p =
+    let ready = ready_still only.made only.windows (ready_walked e same kept p.ready) in
+    let claims = claims_then (claims_still p.claims) only.claims in
+    grind arith
 
 -- the windows are no part of it
 pub rewalked_to : {v : Layout} {i cut : ℕ} {all : List Step} {u w : Workspace} {windows : Windows} →

@@ -52,19 +52,12 @@ returns-in_err-next-clause-claiming g c =
     let p = err_from_is_err_and c.from_residual.result c.from_residual.ensures.1 in
     let inv = c.loop-next.invariant in
     let err = c.in_err-next.ensures.leaves.read in
+    let ready = ready_read {d' = g.I.Image.device c.next.new.image} err.contents err.size inv.geometry
+    c.next.ensures.leaves.kept inv.left.claim.ready in
     rw (p.1, p.2) (record {
       text = of_reads _ _ _ _ _ inv.said;
       claims = tt;
-      left = record {
-        image = rw inv.left.image at err;
-        moves = tt;
-        bound = inv.left.bound;
-        claim = record {
-          ready = ready_read err.contents err.size inv.geometry c.next.ensures.leaves.kept inv.left.claim.ready;
-          only_data = inv.left.claim.only_data;
-        };
-        found = found_still inv.left.found;
-      };
+      left = grind arith;
     })
 
 pub step-requires-clause-next : goal.step-requires-clause-next

@@ -30,20 +30,13 @@ returns-in_err-inode-clause-claiming g c =
     let v = c.args.geometry.now.layout in
     let err = c.in_err-inode.ensures.reads.read in
     let can = c.requires.ready.claim in
+    let few = used_below can.ready.made in
+    let ready = ready_table v (g.I.Image.device c.args.image.now) (g.I.Image.device c.inode.new.image)
+    c.args.workspace.now c.inode.new.self err.contents err.size c.inode.ensures.reads.kept can.ready in
     rw (p.1, p.2) (record {
       text = reads_first;
       claims = tt;
-      left = record {
-        image = err;
-        moves = tt;
-        bound = omega (arith, used_below can.ready.made);
-        again = refl;
-        claim = record {
-          ready = ready_table v (g.I.Image.device c.args.image.now) _ c.args.workspace.now c.inode.new.self err.contents
-              err.size c.inode.ensures.reads.kept can.ready;
-          only_data = can.only_data;
-        };
-      };
+      left = grind arith;
     })
 
 pub returns-clause-claiming : goal.returns-clause-claiming

@@ -80,6 +80,8 @@ returns-clause-claiming g c =
     let s = stored_runs c.claim.new.workspace c.store-2.ensures.rest in
     let zero = begun c.args.workspace.now c.begin.ensures c.requires.ready.runs in
     let left = c.claim.ensures.claiming.left in
+    let ready = ready_stored c.store-2.ensures.stored c.store-2.ensures.rest left.claim.ready in
+    let m = c.in_ok-claim.ensures.claiming.left.moves in
     record {
       text = of_says _ _ (λ bytes. []) _ _ _ _ _ (steps_reported v c.args.number c.args.inode.now old
           (ap claims_of c.begin.ensures) c.class_of-class.ensures c.in_ok-say_class.ensures
@@ -87,17 +89,7 @@ returns-clause-claiming g c =
           (λ bytes t. refl) c.in_ok-say_count.ensures;
       claims = λ bytes t. ap claims_of c.store-2.ensures.rest ∙ c.in_ok-claim.ensures.claiming.claims bytes t
           ∙ ap (λ s. after_steps v s (steps_of v c.args.inode.now bytes)) (ap claims_of c.begin.ensures);
-      left = record {
-        image = c.in_ok-claim.ensures.claiming.left.image;
-        moves = let m = c.in_ok-claim.ensures.claiming.left.moves in
-            omega (arith, m.few_runs, m.bad_cap (omega arith), m.dups_cap (omega arith));
-        bound = omega (arith, left.bound);
-        again = s.again ∙ left.found.again ∙ b.again;
-        claim = record {
-          ready = ready_stored c.store-2.ensures.stored c.store-2.ensures.rest left.claim.ready;
-          only_data = left.claim.only_data;
-        };
-      };
+      left = grind arith;
     }
 
 pub returns-then-matches-clause-claiming : goal.returns-then-matches-clause-claiming
@@ -109,21 +101,14 @@ returns-then-matches-clause-claiming g c =
       | in_default w ↦ cc
     ] in
     let free = sym c.class_of-class.ensures ∙ is_free in
-    let can = c.requires.ready.claim in
+    let begun = ready_begun c.begin.ensures c.requires.ready.claim.ready in
+    let ready = ready_stored c.store.ensures.stored c.store.ensures.rest begun in
+    let few = used_below begun.made in
     let b = begun_runs c.args.workspace.now c.begin.ensures in
     let s = stored_runs c.begin.new.workspace c.store.ensures.rest in
     record {
       text = says_none (λ bytes t. ap of_lines (free_silent v c.args.number c.args.inode.now old bytes free));
       claims = λ bytes t. ap claims_of c.store.ensures.rest ∙ ap claims_of c.begin.ensures
           ∙ sym (free_claims v c.args.number c.args.inode.now old bytes free);
-      left = record {
-        image = refl;
-        moves = omega arith;
-        bound = omega (arith, used_below can.ready.made);
-        again = s.again ∙ b.again;
-        claim = record {
-          ready = ready_stored c.store.ensures.stored c.store.ensures.rest (ready_begun c.begin.ensures can.ready);
-          only_data = can.only_data;
-        };
-      };
+      left = grind arith;
     }
