@@ -104,10 +104,6 @@ owner_holds {v = v} {R = R} o p s =
     (cond_holds (λ ls. R end ls end) (is_file_or_dir o.class && (is_open end && not (o.blocks == _))) _ _
     (λ _. p.count end _ _) (λ _. p.none end)))
 
--- lines that add to what is known: what they report, with what was known, is what then is known
-or_then : (a b s t u : Bool) → (a || s) ≡ t → (b || t) ≡ u → ((a || b) || s) ≡ u
-or_then a b s t u e f = grind arith
-
 -- ---- blame
 abbrev blamed : ℕ → ℕ → Claims → Bool
 blamed x i s = (i == x) && has_blame s
@@ -118,8 +114,7 @@ Blames x i s lines t = (list_any (blames x) lines || blamed x i s) ≡ blamed x 
 blames_hold : (v : Layout) (x i : ℕ) → HoldsOfEach v i (Blames x i)
 blames_hold v x i = record {
   none = λ s. refl;
-  after = λ s t u xs ys p q. ap (λ b. b || blamed x i s) (list_any-append (blames x) xs ys)
-      ∙ or_then (list_any (blames x) xs) (list_any (blames x) ys) (blamed x i s) (blamed x i t) (blamed x i u) p q;
+  after = λ s t u xs ys p q. let both = list_any-append (blames x) xs ys in grind arith;
   kept = λ s. refl;
   claimed = λ s f. refl;
   dup = λ s f many ok. grind (arith, nat_tests);
@@ -205,12 +200,7 @@ DupsAreReported s lines t = ((list_any is_dup_line lines || any_set s.dup) ≡ a
 
 dups_then : (s t u : Claims) (xs ys : List BlockMessage) → DupsAreReported s xs t → DupsAreReported t ys u →
     DupsAreReported s (xs ++ ys) u
-dups_then s t u xs ys p q = (
-  ap (λ b. b || any_set s.dup) (list_any-append is_dup_line xs ys)
-      ∙ or_then (list_any is_dup_line xs) (list_any is_dup_line ys) (any_set s.dup) (any_set t.dup) (any_set u.dup) p.0
-      q.0,
-  q.1 ∙ p.1,
-)
+dups_then s t u xs ys p q = let both = list_any-append is_dup_line xs ys in (grind arith, q.1 ∙ p.1)
 
 dups_hold : (v : Layout) (i : ℕ) → HoldsOfEach v i (λ s lines t. length s.dup ≡ v.size → DupsAreReported s lines t)
 dups_hold v i = record {

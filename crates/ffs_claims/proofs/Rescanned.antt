@@ -19,7 +19,7 @@ use Rattle.ffs_workspace.proofs.NoteLaws.{cut_is_noted}
 use Rattle.ffs_workspace.specs.Holds.{bool_at, all_claims, marked_by_phase1_at, HoldsPhase1, HoldsStarts, HoldsClaims}
 use Rattle.ffs_workspace.specs.{Lengths.inodes_of, Notes.cut_in, declared.workspace.Workspace.Workspace}
 use Rattle.ffs_claims.proofs.{Duplicates.marked_total, Numbers.before_end, Numbers.before_first, Numbers.is_inside}
-use Rattle.ffs_claims.proofs.Reportings.{Reporting}
+use Rattle.ffs_claims.proofs.Reportings.{Reporting, reported_none, reported_to}
 use Rattle.ffs_claims.proofs.RescanCounts.{looked_both, runs_leave, inode_again}
 use Rattle.ffs_claims.{proofs.StepsContinue.range_more, specs.Lines.of_lines, specs.Lines.owners_from}
 use Rattle.ffs_claims.specs.{Reporting.after_first, Reporting.OffersReported, Reporting.SameClaims, Rescan.offers_again}
@@ -230,12 +230,5 @@ starts_hold v bytes old new h same = record {
 -- nothing is reported yet
 pub reported_same : (u w : Workspace) (all : List Offer) → w.duplicates ≡ u.duplicates → w.marked ≡ u.marked →
     Reporting all all u w
-reported_same u w all d m = record {
-  past = [];
-  whole = refl;
-  reported = record {
-    dup = ap bits_of d;
-    marked = λ x. ap (λ z. bool_at z.items x) m
-        ∙ sym (or-false (bool_at u.marked.items x));
-  };
-}
+reported_same u w all d m =
+    record { past = []; whole = refl; reported = reported_to u u w (reported_none u) d m }

@@ -13,16 +13,10 @@ use Rattle.ffs_claims.proofs.claim.claim_inode.Goals as goal
 pub claim_read_inode-requires-clause-ready : goal.claim_read_inode-requires-clause-ready
 claim_read_inode-requires-clause-ready g c =
     let ok = c.in_ok-inode.ensures.reads.read in
-    let can = c.requires.ready in
-    record {
-      number_fits = can.number_fits;
-      runs = can.runs;
-      claim = record {
-        ready = ready_table c.args.geometry.now.layout (g.I.Image.device c.args.image.now) _ c.args.workspace.now
-            c.inode.new.self (ap (λ d. d.contents) ok) (ap (λ d. d.size) ok) c.inode.ensures.reads.kept can.claim.ready;
-        only_data = can.claim.only_data;
-      };
-    }
+    let ready = ready_table c.args.geometry.now.layout (g.I.Image.device c.args.image.now)
+    (g.I.Image.device c.inode.new.image) c.args.workspace.now c.inode.new.self (ap (λ d. d.contents) ok)
+    (ap (λ d. d.size) ok) c.inode.ensures.reads.kept c.requires.ready.claim.ready in
+    grind arith
 
 pub returns-in_err-inode-clause-claiming : goal.returns-in_err-inode-clause-claiming
 returns-in_err-inode-clause-claiming g c =
@@ -50,7 +44,7 @@ returns-clause-claiming g c =
     (λ bytes. owner_with v bytes n i ≡ owner_of v bytes n) =
     λ bytes t. owner_is v bytes n i (c.in_ok-inode.ensures.reads.inode bytes t) in
     let did = c.claim_read_inode.ensures.claiming in
-    let left = did.left in
+    let image = rw (c.in_ok-inode.ensures.reads.read) at did.left.image in
     record {
       text = reports_same (Unit {0}) _ _ _ _ _ c.claim_read_inode.result
           (λ bytes t. ap (λ o. of_lines (owner_lines v s o)) (owner bytes t))
@@ -58,13 +52,7 @@ returns-clause-claiming g c =
       claims = ok_where c.claim_read_inode.result _ _
           (λ bytes. claims_of c.claim_read_inode.new.workspace ≡ after_owner v s (owner_with v bytes n i)) _ gives
           (λ bytes t h. h ∙ ap (after_owner v s) (owner bytes t)) did.claims;
-      left = record {
-        image = rw (c.in_ok-inode.ensures.reads.read) at left.image;
-        claim = left.claim;
-        bound = left.bound;
-        moves = left.moves;
-        again = left.again;
-      };
+      left = grind arith;
     }
 
 pub returns-clause-stored : goal.returns-clause-stored

@@ -42,11 +42,7 @@ claim_inode-requires-clause-ready g c =
     let inv = c.loop-number.invariant in
     let numbers = c.args.geometry.now.sound.numbers in
     let used = used_below inv.ready.ready.made in
-    record {
-      claim = inv.ready;
-      number_fits = omega (arith, c.loop-number-test.true);
-      runs = omega (arith, inv.runs, c.loop-number-test.true);
-    }
+    grind arith
 
 pub returns-in_err-claim_inode-clause-prints : goal.returns-in_err-claim_inode-clause-prints
 returns-in_err-claim_inode-clause-prints g c =

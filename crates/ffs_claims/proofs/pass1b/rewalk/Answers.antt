@@ -47,15 +47,13 @@ returns-in_err-next-clause-rewalks g c =
     let p = err_from_is_err_and c.from_residual.result c.from_residual.ensures.1 in
     let inv = c.loop-next.invariant in
     let err = c.in_err-next.ensures.leaves.read in
+    let ready = ready_read {d' = g.I.Image.device c.next.new.image} err.contents err.size inv.geometry
+    c.next.ensures.leaves.kept inv.left.ready in
     rw (p.1, p.2) (record {
       text = of_reads _ _ _ _ _ inv.said;
       rewalked = tt;
       runs = λ bytes t. omega (arith, (inv.walk bytes t).runs);
-      left = record {
-        image = rw inv.left.image at err;
-        ready = ready_read err.contents err.size inv.geometry c.next.ensures.leaves.kept inv.left.ready;
-        claims = claims_still inv.left.claims;
-      };
+      left = grind arith;
     })
 
 pub report_again-requires-clause-can : goal.report_again-requires-clause-can
@@ -192,7 +190,7 @@ pub returns-in_default-clause-rewalks : goal.returns-in_default-clause-rewalks
 returns-in_default-clause-rewalks g c =
     let inv = c.loop-next.invariant in
     let d = bits_of c.loop-next.workspace.duplicates in
-    let ok = c.in_ok-next.ensures.leaves.read in
+    let ready = ready_walked c.in_ok-next.ensures.leaves.read inv.geometry c.next.ensures.leaves.kept inv.left.ready in
     let over = rw (inv.left.image, c.in_default.is) at c.in_ok-next.ensures.step.steps in
     let none = λ (bytes : List ℕ) (t : IsContents (g.I.Image.device c.args.image.now).contents bytes).
     offers_none c.args.geometry.now.layout c.args.number c.args.cut (replay_in c.loop-next.keeping)
@@ -202,11 +200,7 @@ returns-in_default-clause-rewalks g c =
       rewalked = λ bytes t. rewalked_to (rewalk_ends (none bytes t) (looked_over _ _ _ _ _ d (over bytes t))
           (inv.walk bytes t));
       runs = λ bytes t. omega (arith, (inv.walk bytes t).runs);
-      left = record {
-        image = ok ∙ inv.left.image;
-        ready = ready_walked ok inv.geometry c.next.ensures.leaves.kept inv.left.ready;
-        claims = claims_still inv.left.claims;
-      };
+      left = grind arith;
     }
 
 pub returns-in_err-next-clause-counted : goal.returns-in_err-next-clause-counted

@@ -14,13 +14,7 @@ claim_address-requires c =
     let size = c.args.geometry.now.sound.numbers.size_below in
     let kept = kept_room c.args.workspace.now words.only.made words.uncut words.moves in
     let seen = seen_bound c.args.workspace.now words.only.made words.uncut words.moves in
-    record {
-      made = words.only.made;
-      only_data = next.only_data;
-      uncut = words.uncut;
-      room = omega arith;
-      runs = omega arith;
-    }
+    grind arith
 
 pub loop-geometry-preserved : goal.loop-geometry-preserved
 loop-geometry-preserved c =
