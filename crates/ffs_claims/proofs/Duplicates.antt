@@ -163,9 +163,7 @@ first_blames : (v : Layout) (bytes : List ℕ) (x : ℕ) → is_inode_number v x
 unfolding phase1_lines owners_of
 first_blames v bytes x inside =
     let all : (nat_le 2 x && nat_lt x (2 + (inodes_of v - 2))) ≡ true = grind (arith, nat_tests) in
-    let os = map (owner_of v bytes) (range_with_len 2 (inodes_of v - 2)) in
-    ap (λ t. list_any (blames x) (lines_of_owners v t os)) (sym (before_first v bytes))
-    ∙ owners_blame v bytes x 2 (inodes_of v - 2) (omega arith) ∙ ap (λ b. b && blame_at v bytes x) all
+    rw (← before_first v bytes, owners_blame v bytes x 2 (inodes_of v - 2) (omega arith), all) refl
 
 -- an inode is marked by phase 1, or by phase 1b
 pub marked_total : (v : Layout) (bytes : List ℕ) (x : ℕ) → marked_at v bytes x ≡ (marked_by_phase1_at v bytes x
@@ -236,8 +234,7 @@ unfolding all_claims phase1_lines no_claims
 rescan_is v image =
     let all = owners_dups v (no_claims v) (owners_of v image) (length-replicate v.size false) in
     let clear : any_set (replicate v.size false) ≡ false = ap (λ n. not (n == 0)) (none_set v.size) in
-    sym all.0 ∙ ap (λ b. list_any is_dup_line (lines_of_owners v (no_claims v) (owners_of v image)) || b) clear
-    ∙ or-false _
+    grind arith
 
 -- ---- what is left to report
 pub none_clear : (bits : List Bool) (f : ℕ) → set_count bits ≡ 0 → is_set bits f ≡ false

@@ -125,13 +125,8 @@ steps_again v i s (step ∷ steps) few =
 -- an inode, from its begin on
 pub inode_again : (v : Layout) (i : ℕ) (s : Claims) (steps : List Step) →
     StepsAgain v i (cut_of (after_steps v (at_next_inode s) steps)) (at_next_inode s) fresh_replay steps
-inode_again v i s steps =
-    let cut = cut_of (after_steps v (at_next_inode s) steps) in
-    let all = steps_again v i (at_next_inode s) steps (omega arith) in
-    record {
-      offers = all.offers ∙ ap (λ r. offers_again v i cut r steps) (begins_by_cut cut);
-      looks = all.looks ∙ ap (λ r. steps_runs_again v i cut r steps) (begins_by_cut cut);
-    }
+inode_again v i s steps = rw (begins_by_cut (cut_of (after_steps v (at_next_inode s) steps)))
+    at (steps_again v i (at_next_inode s) steps (omega arith))
 
 -- ---- how many Runs the rescan looks at
 -- nothing is left to report

@@ -7,31 +7,20 @@ use Rattle.ffs_claims.proofs.pass1b.rewalk_inode.Goals as goal
 pub rewalk-requires : goal.rewalk-requires
 rewalk-requires g c =
     let ok = c.in_ok-inode.ensures.reads.read in
-    record {
-      can = record {
-        ready = ready_table c.args.geometry.now.layout (g.I.Image.device c.args.image.now) _ c.args.workspace.now
-            c.inode.new.self (ap (λ d. d.contents) ok) (ap (λ d. d.size) ok) c.inode.ensures.reads.kept
-            c.requires.can.ready;
-        number_fits = c.requires.can.number_fits;
-        pending = c.requires.can.pending;
-      };
-    }
+    let ready = ready_table c.args.geometry.now.layout (g.I.Image.device c.args.image.now)
+    (g.I.Image.device c.inode.new.image) c.args.workspace.now c.inode.new.self (ap (λ d. d.contents) ok)
+    (ap (λ d. d.size) ok) c.inode.ensures.reads.kept c.requires.can.ready in
+    grind arith
 
 pub returns-in_err-inode-clause-rewalks : goal.returns-in_err-inode-clause-rewalks
-returns-in_err-inode-clause-rewalks g c = record {
-  text = let p = err_from_is_err_and c.from_residual.result c.from_residual.ensures.1 in
-      rw (p.1, p.2) reads_first;
-  rewalked = search rules;
-  runs = λ bytes t. omega arith;
-  left = let err = c.in_err-inode.ensures.reads.read in
-      let p = err_from_is_err_and c.from_residual.result c.from_residual.ensures.1 in
-      rw (p.1, p.2) (record {
-        image = err;
-        ready = ready_table c.args.geometry.now.layout (g.I.Image.device c.args.image.now) _ c.args.workspace.now
-            c.inode.new.self err.contents err.size c.inode.ensures.reads.kept c.requires.can.ready;
-        claims = claims_still (claims_none c.args.workspace.now);
-      });
-}
+returns-in_err-inode-clause-rewalks g c =
+    let p = err_from_is_err_and c.from_residual.result c.from_residual.ensures.1 in
+    let err = c.in_err-inode.ensures.reads.read in
+    let ready = ready_table c.args.geometry.now.layout (g.I.Image.device c.args.image.now)
+    (g.I.Image.device c.inode.new.image) c.args.workspace.now c.inode.new.self err.contents err.size
+    c.inode.ensures.reads.kept c.requires.can.ready in
+    rw (p.1, p.2)
+    (record { text = reads_first; rewalked = tt; runs = λ bytes t. omega arith; left = grind arith })
 
 pub returns-clause-rewalks : goal.returns-clause-rewalks
 returns-clause-rewalks g c = rewalks_from c.in_ok-inode.inode (g.I.Image.device c.args.image.now) _ _
