@@ -148,15 +148,13 @@ owners_blame v bytes x n zero low =
     let none : (nat_le n x && nat_lt x (n + 0)) ≡ false = grind (arith, nat_tests) in rw none refl
 owners_blame v bytes x n (suc k) low =
     let s = claims_before v bytes n in
-    let os = map (owner_of v bytes) (range_with_len (n + 1) k) in
-    let one = (n == x) && blame_at v bytes n in
-    list_any-append (blames x) (owner_lines v s (owner_of v bytes n))
-    (lines_of_owners v (after_owner v s (owner_of v bytes n)) os)
-    ∙ ap (λ b. b || list_any (blames x) (lines_of_owners v (after_owner v s (owner_of v bytes n)) os))
-    (owner_blames v x s (owner_of v bytes n))
-    ∙ ap (λ t. one || list_any (blames x) (lines_of_owners v t os)) (sym (before_next v bytes n low))
-    ∙ ap (λ b. one || b) (owners_blame v bytes x (n + 1) k (omega arith)) 
-    ∙ next_one n x k (blame_at v bytes n) (blame_at v bytes x) (ap (blame_at v bytes))
+    let o = owner_of v bytes n in
+    let both = list_any-append (blames x) (owner_lines v s o)
+    (lines_of_owners v (after_owner v s o) (map (owner_of v bytes) (range_with_len (n + 1) k))) in
+    let one = owner_blames v x s o in
+    let more = rw (before_next v bytes n low) at (owners_blame v bytes x (n + 1) k (omega arith)) in
+    let all = next_one n x k (blame_at v bytes n) (blame_at v bytes x) (ap (blame_at v bytes)) in
+    cc
 
 first_blames : (v : Layout) (bytes : List ℕ) (x : ℕ) → is_inode_number v x ≡ true →
     list_any (blames x) (phase1_lines v (owners_of v bytes)) ≡ blame_at v bytes x

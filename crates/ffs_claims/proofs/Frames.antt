@@ -101,12 +101,11 @@ pub ready_stored : {l : Layout} {d : Device} {number : ℕ} {class : Class} {i :
     → IsReady l d w
 ready_stored {number = number} {u = u} {w = w} s e r =
     let m = r.made in
-    let h = r.windows in
     let kinds = stored_length u.kinds w.kinds number _ _ m.kinds s.kinds in
     let marked = stored_length u.marked w.marked number _ _ m.marked s.marked in
     let references = stored_length u.references w.references number _ _ m.references s.starts in
     let notes = stored_length u.notes w.notes number _ _ m.notes s.notes in
-    rw e (record { made = search rules; volume = r.volume; windows = search rules })
+    grind arith
 
 -- what a call leaves of an image, where it began as another
 pub image_from : {T : Type 0} {d0 d : Device} (d' : Device) (r : Result T RunFault) → d ≡ d0 → ImageAfter d d' r →

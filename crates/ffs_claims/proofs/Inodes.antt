@@ -56,13 +56,11 @@ kept_room u {w = w} made free m =
 -- so there is room to count them
 pub sees_next : {v : Layout} {u w : Workspace} {area : DataArea} → IsAcceptedLayout v → HasBegun u → IsFor v w →
     IsDataArea v area → is_open (claims_of w) ≡ true → ClaimBound (claims_of u) (claims_of w) → SeesNext v w area
-sees_next {u = u} g begun made only_data uncut m = record {
-  made = made;
-  only_data = only_data;
-  uncut = uncut;
-  room = omega (arith, g.numbers.size_below, kept_room u made uncut m, begun.kept);
-  runs = omega (arith, g.numbers.size_below, seen_bound u made uncut m, begun.runs);
-}
+sees_next {u = u} g begun made only_data uncut m =
+    let numbers = g.numbers in
+    let kept = kept_room u made uncut m in
+    let seen = seen_bound u made uncut m in
+    grind arith
 
 -- ---- where the claiming of its steps is, while it goes on
 abbrev pub Claiming : Layout → Device → Device → Workspace → Workspace → DataArea → Type 0

@@ -92,8 +92,6 @@ pub before_metadata : (v : Layout) (c start len : ℕ) → IsAcceptedLayout v �
 before_metadata v c start len g h low high some =
     let group = g.groups c h in
     let end : cgsblock v c ≤ cgdmin v c = omega (arith, g.parts.super_fits, g.parts.block_fits, g.parts.inodes_fit) in
-    let within : cgdmin v c ≤ cgbase v (c + 1) = group.within_group in
-    let inside : cgdmin v c ≤ v.size = group.within_size in
     let same : start / v.fpg ≡ c = group_is v c start low (omega arith) in
     in_range_is v g start len some ∙ rw same (grind (arith, nat_tests))
 
