@@ -1,5 +1,5 @@
 -- What reads, claims and reports leave of a workspace that is ready.
-use Rattle.std.proofs.Common.{◌≡◌, ℕ, refl, ap, arith, rules, ◌∙◌, length, length-set, slice_set, subst, false, Result}
+use Rattle.std.proofs.Common.{◌≡◌, ℕ, refl, ap, arith, rules, length, length-set, slice_set, subst, false, Result}
 use Rattle.std.{proofs.Common.vec_len, specs.declared.alloc.Global.Global, specs.declared.vec.Vec.Vec}
 use Rattle.ffs_volume.specs.declared.{Class.Class, Inode.Inode, Layout.Layout}
 use Rattle.ffs_image.specs.Device.{Device}

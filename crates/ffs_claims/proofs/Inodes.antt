@@ -2,7 +2,7 @@
 use Rattle.std.proofs.Common.{◌+◌, ◌<◌, ◌^◌, false, arith, OnOk, ◌≡◌, ℕ, List, [], ◌++◌, append-nil, Option, Result, Ok}
 use Rattle.std.proofs.Common.{Err, ap, ◌∙◌, refl, ◌≤◌, true}
 use Rattle.std.proofs.lemmas.{Bool.Decides.nat_tests, List.Sums.count_by-le-length}
-use Rattle.ffs_volume.proofs.Potentials.{step_moves, moves_then, stays}
+use Rattle.ffs_volume.proofs.Potentials.{step_moves, moves_then}
 use Rattle.ffs_volume.specs.Blocks.BlockCheck.{class_lines, count_lines, owner_lines}
 use Rattle.ffs_volume.specs.Blocks.Claims.{Claims, at_next_inode, after_steps, after_owner, lines_of_steps, is_open}
 use Rattle.ffs_volume.specs.Blocks.{Claims.after_step, Inodes.class_of, Inodes.inode_of, Owners.owner_of}
@@ -16,7 +16,7 @@ use Rattle.ffs_report.specs.{Progress.Progress, Progress.Said, Progress.Stopped,
 use Rattle.ffs_image.specs.Device.{Device}
 use Rattle.ffs_layout.specs.declared.geometry.Geometry.{Geometry}
 use Rattle.ffs_walk.specs.{Windows.KeepsBlocks, declared.blocks.Blocks.Blocks}
-use Rattle.ffs_claims.proofs.Frames.{found_none, found_still, found_then, ready_still, ready_walked}
+use Rattle.ffs_claims.proofs.Frames.{found_none, found_then, ready_still, ready_walked}
 use Rattle.ffs_claims.{proofs.StepsContinue.lines_append, specs.Area.IsDataArea}
 use Rattle.ffs_claims.specs.Claiming.{CanClaim, ClaimsInArea, FewRuns, StepsLeave, SeesNext}
 use Rattle.ffs_claims.specs.{Leaves.HasBegun, Lines.of_lines, Lines.owner_with, Lines.counted_owner}
@@ -94,8 +94,10 @@ rest_lines v number i class s1 bytes =
 parts : (v : Layout) (number : ℕ) (i : Inode) (s : Claims) (bytes : List ℕ) →
     of_lines (owner_lines v s (owner_with v bytes number i)) ≡ of_lines (class_lines number (class_of v i))
     ++ rest_lines v number i (class_of v i) (at_next_inode s) bytes
-parts v number i s bytes = rw (lines_append (class_lines number (class_of v i)) _,
-    lines_append (lines_of_steps v number (at_next_inode s) (steps_of v i bytes)) _) refl
+parts v number i s bytes = rw (
+  lines_append (class_lines number (class_of v i)) _,
+  lines_append (lines_of_steps v number (at_next_inode s) (steps_of v i bytes)) _,
+) refl
 
 pub class_said : {knows : List ℕ → Type 0} {a b : Progress} {s1 : Claims} {class : Class} (v : Layout) (number : ℕ)
     (i : Inode) (s : Claims) → s1 ≡ at_next_inode s → class ≡ class_of v i →

@@ -7,7 +7,7 @@ use Rattle.ffs_report.proofs.Reporting.{of_begins, of_stops, of_reads, of_same, 
 use Rattle.ffs_report.specs.Known.{ForBytes, IsContents}
 use Rattle.ffs_walk.{proofs.Counted.top_held, proofs.Counted.top_unread, specs.Rests.steps_left}
 use Rattle.ffs_workspace.specs.Holds.{claims_of}
-use Rattle.ffs_claims.proofs.Frames.{can_walk, found_still, ready_still, ready_read, only_then}
+use Rattle.ffs_claims.proofs.Frames.{can_walk, ready_still, ready_read, only_then}
 use Rattle.ffs_claims.proofs.Inodes.{sees_next, moves_on, seen_bound, claiming_none, claiming_walked, claiming_on}
 use Rattle.ffs_claims.proofs.StepsContinue.{cut_over, gaps_over, claims_on, lines_on, steps_said, without_steps}
 use Rattle.ffs_claims.proofs.claim.claim.Goals.{in-Gap, in_default-matches}

@@ -1,5 +1,4 @@
-use Rattle.std.proofs.Common.{◌≡◌, arith, ap, ◌∙◌, refl, subst}
-use Rattle.std.proofs.lemmas.Result.{err_from_is_err_and}
+use Rattle.std.proofs.{Common.◌≡◌, Common.arith, Common.ap, Common.◌∙◌, Common.subst, lemmas.Result.err_from_is_err_and}
 use Rattle.ffs_volume.specs.Blocks.{BlockCheck.owner_lines, Claims.after_owner, Inodes.class_of, Owners.owner_of}
 use Rattle.ffs_volume.specs.declared.Inode.{Inode}
 use Rattle.ffs_report.proofs.Reporting.{reads_first, reports_same, reports_knowing}

@@ -9,7 +9,7 @@ use Rattle.ffs_walk.proofs.Counted.{top_held, top_unread}
 use Rattle.ffs_walk.specs.{Keepings.replay_in, Rests.steps_left}
 use Rattle.ffs_workspace.specs.Lengths.{set_count}
 use Rattle.ffs_claims.proofs.Duplicates.{none_first, none_left, some_left}
-use Rattle.ffs_claims.proofs.Frames.{can_walk, claims_none, claims_still, ready_read, ready_walked}
+use Rattle.ffs_claims.proofs.Frames.{can_walk, claims_none, ready_read, ready_walked}
 use Rattle.ffs_claims.proofs.RescanCounts.{looked_stopped, again_gaps, again_stopped, looked_over}
 use Rattle.ffs_claims.proofs.Rewalks.{open_first, offers_none, lines_step, runs_next, rewalk_begins, rewalk_on}
 use Rattle.ffs_claims.proofs.Rewalks.{rewalk_gaps, rewalk_ends, rewalk_over, rewalk_said, rewalked_to, runs_pay_on}
@@ -118,8 +118,10 @@ loop-next-preserved-then-matches g c =
           c.skip_gaps.ensures.counted.unread;
       walk = λ bytes t. rewalk_gaps c.skip_gaps.result (gaps bytes t)
           (rewalk_on inv.cut (next bytes t) inv.going inv.pending did c.report_again.ensures.runs (inv.walk bytes t));
-      said = rewalk_said c.loop-next.walk c.next.new.self _ inv.cut inv.said next did (λ bytes t. rw (gaps bytes t,
-          (again_gaps v n cut r' c.skip_gaps.result (steps_left bytes c.skip_gaps.new.self)).0) refl)
+      said = rewalk_said c.loop-next.walk c.next.new.self _ inv.cut inv.said next did (λ bytes t. rw (
+        gaps bytes t,
+        (again_gaps v n cut r' c.skip_gaps.result (steps_left bytes c.skip_gaps.new.self)).0,
+      ) refl)
           c.in_ok-report_again.ensures.said;
     }
 

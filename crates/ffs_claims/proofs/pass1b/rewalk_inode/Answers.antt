@@ -1,7 +1,7 @@
-use Rattle.std.proofs.{Common.rules, Common.arith, Common.ap, lemmas.Result.err_from_is_err_and}
+use Rattle.std.proofs.{Common.arith, Common.ap, lemmas.Result.err_from_is_err_and}
 use Rattle.ffs_report.proofs.Reporting.{reads_first}
 use Rattle.ffs_workspace.{proofs.Readiness.ready_table}
-use Rattle.ffs_claims.proofs.{Frames.claims_still, Frames.claims_none, Rewalks.rewalks_from}
+use Rattle.ffs_claims.proofs.{Rewalks.rewalks_from}
 use Rattle.ffs_claims.proofs.pass1b.rewalk_inode.Goals as goal
 
 pub rewalk-requires : goal.rewalk-requires
