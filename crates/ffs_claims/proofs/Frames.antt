@@ -1,5 +1,5 @@
 -- What reads, claims and reports leave of a workspace that is ready.
-use Rattle.std.proofs.Common.{◌≡◌, ℕ, refl, ap, arith, rules, ◌∙◌, length, length-set, slice_set, subst, false, Result}
+use Rattle.std.proofs.Common.{◌≡◌, ℕ, refl, ap, arith, rules, length, length-set, slice_set, subst, false, Result}
 use Rattle.std.{proofs.Common.vec_len, specs.declared.alloc.Global.Global, specs.declared.vec.Vec.Vec}
 use Rattle.ffs_volume.specs.declared.{Class.Class, Inode.Inode, Layout.Layout}
 use Rattle.ffs_image.specs.Device.{Device}
@@ -16,25 +16,13 @@ pub found_none : (w : Workspace) → SameFound w w
 found_none w = record { kinds = refl; marked = refl; notes = refl; references = refl; again = refl }
 
 pub found_then : {u v w : Workspace} → SameFound u v → SameFound v w → SameFound u w
-found_then p q = record {
-  kinds = q.kinds ∙ p.kinds;
-  marked = q.marked ∙ p.marked;
-  notes = q.notes ∙ p.notes;
-  references = q.references ∙ p.references;
-  again = q.again ∙ p.again;
-}
+found_then p q = grind arith
 
 pub claims_none : (w : Workspace) → SameClaims w w
 claims_none w = record { used = refl; kinds = refl; notes = refl; references = refl; seen = refl }
 
 pub claims_then : {u v w : Workspace} → SameClaims u v → SameClaims v w → SameClaims u w
-claims_then p q = record {
-  used = q.used ∙ p.used;
-  kinds = q.kinds ∙ p.kinds;
-  notes = q.notes ∙ p.notes;
-  references = q.references ∙ p.references;
-  seen = q.seen ∙ p.seen;
-}
+claims_then p q = grind arith
 
 -- the windows are no part of it
 pub found_still : {u w : Workspace} {windows : Windows} → SameFound u w → SameFound u (record w { windows = windows })
@@ -48,20 +36,18 @@ pub only_none : {l : Layout} {w : Workspace} → IsFor l w → ClaimsOnly l w w
 only_none {w = w} made = record { made = made; windows = refl; found = found_none w }
 
 pub only_then : {l : Layout} {u v w : Workspace} → ClaimsOnly l u v → ClaimsOnly l v w → ClaimsOnly l u w
-only_then p q = record { made = q.made; windows = q.windows ∙ p.windows; found = found_then p.found q.found }
+only_then p q = grind arith
 
 -- an offer that changes the map of claims, or none, and the count of kept offers
 pub offers_claimed : {l : Layout} {w : Workspace} {map : FragmentMap} {kept : ℕ} → IsFor l w → map.size ≡ w.used.size
     → OffersOnly l w (record w { used = map; kept = kept })
-offers_claimed m size =
-    let used = size ∙ m.used in
-    record { claiming = record { made = search rules; windows = refl; found = search rules }; runs = refl }
+offers_claimed m size = grind arith
 
 pub offers_none : {l : Layout} {w : Workspace} → IsFor l w → OffersOnly l w w
 offers_none made = record { claiming = only_none made; runs = refl }
 
 pub offers_then : {l : Layout} {u v w : Workspace} → OffersOnly l u v → OffersOnly l v w → OffersOnly l u w
-offers_then p q = record { claiming = only_then p.claiming q.claiming; runs = q.runs ∙ p.runs }
+offers_then p q = grind arith
 
 pub reports_none : {l : Layout} {w : Workspace} → IsFor l w → ReportsOnly l w w
 reports_none {w = w} made = record { made = made; windows = refl; claims = claims_none w }
@@ -71,54 +57,23 @@ offers_reported_none made = record { reporting = reports_none made; runs = refl 
 
 pub offers_reported_then : {l : Layout} {u v w : Workspace} → OffersReportedOnly l u v → OffersReportedOnly l v w →
     OffersReportedOnly l u w
-offers_reported_then p q = let a = p.reporting in let b = q.reporting in
-    record {
-      reporting = record { made = b.made; windows = b.windows ∙ a.windows; claims = claims_then a.claims b.claims };
-      runs = q.runs ∙ p.runs;
-    }
+offers_reported_then p q = grind arith
 
 -- it stays ready where its windows are as they were
 pub ready_still : {l : Layout} {d : Device} {u w : Workspace} → IsFor l w → w.windows ≡ u.windows → IsReady l d u →
     IsReady l d w
-ready_still {l = l} {d = d} {w = w} made e r = record {
-  made = made;
-  volume = r.volume;
-  windows = let h = r.windows in record {
-    table = rw e h.table;
-    blocks = rw e h.blocks;
-    chunk = rw e h.chunk;
-    names = rw e h.names;
-  };
-}
+ready_still made e r = grind arith
 
 -- a walk can be gone on with
 pub can_walk : {g k : Geometry} {d : Device} {w : Workspace} → k ≡ g → IsReady g.layout d w →
     CanWalk k.layout d w.windows.blocks
-can_walk same r =
-    let m = r.made in
-    record {
-      volume = rw same r.volume;
-      room = record { blocks_fit = rw (same, m.blocks) (omega arith) };
-      holds = rw same r.windows.blocks;
-    }
+can_walk same r = grind arith
 
 -- and where a walk read an indirect block, or couldn't
 pub ready_read : {g k : Geometry} {d d' : Device} {w : Workspace} {b : Blocks} → d'.contents ≡ d.contents →
     d'.size ≡ d.size → k ≡ g → KeepsBlocks k.layout d'.contents w.windows.blocks b → IsReady g.layout d w →
     IsReady g.layout d' (record w { windows = record w.windows { blocks = b } })
-ready_read e size same kept r =
-    let m = r.made in
-    let blocks = kept.size ∙ m.blocks in
-    record {
-      made = search rules;
-      volume = rw size r.volume;
-      windows = record {
-        table = rw e r.windows.table;
-        blocks = rw same at kept.holds;
-        chunk = rw e r.windows.chunk;
-        names = rw e r.windows.names;
-      };
-    }
+ready_read e size same kept r = grind arith
 
 pub ready_walked : {g k : Geometry} {d d' : Device} {w : Workspace} {b : Blocks} → d' ≡ d → k ≡ g →
     KeepsBlocks k.layout d'.contents w.windows.blocks b → IsReady g.layout d w →
@@ -128,18 +83,12 @@ ready_walked e same kept r = ready_read (ap (λ x. x.contents) e) (ap (λ x. x.s
 -- it stays ready where an inode begins
 pub ready_begun : {l : Layout} {d : Device} {u w : Workspace} →
     w ≡ record u { bad = 0; dups = 0; kept = 0; tail = false } → IsReady l d u → IsReady l d w
-ready_begun e r =
-    let m = r.made in
-    let h = r.windows in
-    rw e (record { made = search rules; volume = r.volume; windows = search rules })
+ready_begun e r = grind arith
 
 -- or its second count of Runs changes
 pub ready_unseen : {l : Layout} {d : Device} {w : Workspace} {runs : ℕ} → IsReady l d w →
     IsReady l d (record w { runs_again = runs })
-ready_unseen r =
-    let m = r.made in
-    let h = r.windows in
-    record { made = search rules; volume = r.volume; windows = search rules }
+ready_unseen r = grind arith
 
 stored_length : {T : Type 0} (old new : Vec T Global) (number : ℕ) (x : T) (n : ℕ) → vec_len old ≡ n →
     new.items ≡ slice_set old.items number x → vec_len new ≡ n
@@ -152,12 +101,11 @@ pub ready_stored : {l : Layout} {d : Device} {number : ℕ} {class : Class} {i :
     → IsReady l d w
 ready_stored {number = number} {u = u} {w = w} s e r =
     let m = r.made in
-    let h = r.windows in
     let kinds = stored_length u.kinds w.kinds number _ _ m.kinds s.kinds in
     let marked = stored_length u.marked w.marked number _ _ m.marked s.marked in
     let references = stored_length u.references w.references number _ _ m.references s.starts in
     let notes = stored_length u.notes w.notes number _ _ m.notes s.notes in
-    rw e (record { made = search rules; volume = r.volume; windows = search rules })
+    grind arith
 
 -- what a call leaves of an image, where it began as another
 pub image_from : {T : Type 0} {d0 d : Device} (d' : Device) (r : Result T RunFault) → d ≡ d0 → ImageAfter d d' r →

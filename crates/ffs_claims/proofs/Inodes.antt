@@ -1,7 +1,7 @@
 -- How an inode's part of the block check continues, and how many Runs it is seen to have.
 use Rattle.std.proofs.Common.{◌+◌, ◌<◌, ◌^◌, false, arith, OnOk, ◌≡◌, ℕ, List, [], ◌++◌, append-nil, Option, Result, Ok}
-use Rattle.std.proofs.Common.{Err, ap, ◌∙◌, sym, refl, ◌≤◌, nat_lt, true}
-use Rattle.std.proofs.lemmas.{Bool.ltb-true, Bool.and_parts, List.Sums.count_by-le-length}
+use Rattle.std.proofs.Common.{Err, ap, ◌∙◌, refl, ◌≤◌, true}
+use Rattle.std.proofs.lemmas.{Bool.Decides.nat_tests, List.Sums.count_by-le-length}
 use Rattle.ffs_volume.proofs.Potentials.{step_moves, moves_then}
 use Rattle.ffs_volume.specs.Blocks.BlockCheck.{class_lines, count_lines, owner_lines}
 use Rattle.ffs_volume.specs.Blocks.Claims.{Claims, at_next_inode, after_steps, after_owner, lines_of_steps, is_open}
@@ -10,14 +10,19 @@ use Rattle.ffs_volume.specs.{Blocks.Steps.steps_of, Laws.ClaimBounds.used_bits, 
 use Rattle.ffs_volume.specs.{Laws.Geometry.IsAcceptedLayout, Laws.RunLengths.HasLength, Messages.Kinds.Message}
 use Rattle.ffs_volume.specs.declared.{Class.Class, Class.TheVariants.Free, Inode.Inode, Layout.Layout, Step.Step}
 use Rattle.ffs_report.proofs.Reporting.{of_part, of_begins, of_says, of_stops}
-use Rattle.ffs_report.specs.{Known.ForBytes, Known.IsContents, PhaseOutcome.SaidOf, PhaseOutcome.StoppedOf}
-use Rattle.ffs_report.specs.Progress.{Progress, Said, Stopped}
+use Rattle.ffs_report.specs.Known.{ForBytes, IsContents}
+use Rattle.ffs_report.specs.PhaseOutcome.{SaidOf, StoppedOf, ImageAfter}
+use Rattle.ffs_report.specs.{Progress.Progress, Progress.Said, Progress.Stopped, declared.fault.RunFault.RunFault}
+use Rattle.ffs_image.specs.Device.{Device}
+use Rattle.ffs_layout.specs.declared.geometry.Geometry.{Geometry}
+use Rattle.ffs_walk.specs.{Windows.KeepsBlocks, declared.blocks.Blocks.Blocks}
+use Rattle.ffs_claims.proofs.Frames.{found_none, found_then, ready_still, ready_walked}
+use Rattle.ffs_claims.{proofs.StepsContinue.lines_append, specs.Area.IsDataArea}
+use Rattle.ffs_claims.specs.Claiming.{CanClaim, ClaimsInArea, FewRuns, StepsLeave, SeesNext}
+use Rattle.ffs_claims.specs.{Leaves.HasBegun, Lines.of_lines, Lines.owner_with, Lines.counted_owner}
+use Rattle.ffs_claims.specs.declared.area.DataArea.{DataArea}
 use Rattle.ffs_maps.proofs.Bits.{bits_long}
-use Rattle.ffs_workspace.specs.{Holds.claims_of, Lengths.IsFor, Lengths.inodes_of}
-use Rattle.ffs_workspace.specs.declared.workspace.Workspace.{Workspace}
-use Rattle.ffs_claims.proofs.StepsContinue.{lines_append}
-use Rattle.ffs_claims.specs.{Area.IsDataArea, Claiming.SeesNext, Leaves.HasBegun, Leaves.HasInode, Lines.of_lines}
-use Rattle.ffs_claims.specs.{Lines.owner_with, Lines.counted_owner, declared.area.DataArea.DataArea}
+use Rattle.ffs_workspace.specs.{Holds.claims_of, Lengths.IsFor, declared.workspace.Workspace.Workspace}
 
 -- ---- how many Runs an inode is seen to have, and how many offers it keeps
 -- a step more keeps the bound
@@ -33,9 +38,7 @@ used_below {w = w} made =
     omega (arith, count_by-le-length (λ b. b) (claims_of w).used, size)
 
 open_few : (s : Claims) → is_open s ≡ true → (s.bad < 11) × (s.dups < 11)
-open_few s free =
-    let both = and_parts (nat_lt s.bad 11) (nat_lt s.dups 11) free in
-    (ltb-true s.bad 11 both.0, ltb-true s.dups 11 both.1)
+open_few s free = (grind (arith, nat_tests), grind (arith, nat_tests))
 
 -- how many Runs are seen, and how many offers are kept, while an inode isn't cut
 pub seen_bound : {v : Layout} (u : Workspace) {w : Workspace} → IsFor v w → is_open (claims_of w) ≡ true →
@@ -53,13 +56,33 @@ kept_room u {w = w} made free m =
 -- so there is room to count them
 pub sees_next : {v : Layout} {u w : Workspace} {area : DataArea} → IsAcceptedLayout v → HasBegun u → IsFor v w →
     IsDataArea v area → is_open (claims_of w) ≡ true → ClaimBound (claims_of u) (claims_of w) → SeesNext v w area
-sees_next {u = u} g begun made only_data uncut m = record {
-  made = made;
-  only_data = only_data;
-  uncut = uncut;
-  room = omega (arith, g.numbers.size_below, kept_room u made uncut m, begun.kept);
-  runs = omega (arith, g.numbers.size_below, seen_bound u made uncut m, begun.runs);
-}
+sees_next {u = u} g begun made only_data uncut m =
+    let numbers = g.numbers in
+    let kept = kept_room u made uncut m in
+    let seen = seen_bound u made uncut m in
+    grind arith
+
+-- ---- where the claiming of its steps is, while it goes on
+abbrev pub Claiming : Layout → Device → Device → Workspace → Workspace → DataArea → Type 0
+Claiming v d0 d u w area = StepsLeave {T = Unit {0}} v d0 d u w area (Ok tt)
+
+-- nothing is claimed yet, a walk went on to its next step, and something was claimed
+pub claiming_none : {v : Layout} {d : Device} {w : Workspace} {area : DataArea} → CanClaim v d w area →
+    Claiming v d d w w area
+claiming_none {w = w} can = let few = used_below can.ready.made in let same = found_none w in grind arith
+
+pub claiming_walked : {g k : Geometry} {d0 d d' : Device} {u w : Workspace} {b : Blocks} {area : DataArea} → d' ≡ d →
+    k ≡ g → KeepsBlocks k.layout d'.contents w.windows.blocks b → Claiming g.layout d0 d u w area →
+    Claiming g.layout d0 d' u (record w { windows = record w.windows { blocks = b } }) area
+claiming_walked e same kept p = let ready = ready_walked e same kept p.claim.ready in grind arith
+
+pub claiming_on : {T : Type 0} {r : Result T RunFault} {v : Layout} {d0 d : Device} {u w w' : Workspace}
+    {area area' : DataArea} → ImageAfter d0 d r → ClaimsInArea v w w' area' → FewRuns v u w' →
+    OnOk r (ClaimBound (claims_of u) (claims_of w')) → Claiming v d0 d u w area → StepsLeave v d0 d u w' area' r
+claiming_on image left few moves p =
+    let ready = ready_still left.only.made left.only.windows p.claim.ready in
+    let found = found_then p.found left.only.found in
+    grind arith
 
 -- ---- its lines
 -- the lines of an inode's steps and of its count, once its class is reported
@@ -71,11 +94,10 @@ rest_lines v number i class s1 bytes =
 parts : (v : Layout) (number : ℕ) (i : Inode) (s : Claims) (bytes : List ℕ) →
     of_lines (owner_lines v s (owner_with v bytes number i)) ≡ of_lines (class_lines number (class_of v i))
     ++ rest_lines v number i (class_of v i) (at_next_inode s) bytes
-parts v number i s bytes =
-    lines_append (class_lines number (class_of v i)) _
-    ∙ ap (λ xs. of_lines (class_lines number (class_of v i)) ++ xs)
-    (lines_append (lines_of_steps v number (at_next_inode s) (steps_of v i bytes))
-    (count_lines v (owner_with v bytes number i) (after_owner v s (owner_with v bytes number i))))
+parts v number i s bytes = rw (
+  lines_append (class_lines number (class_of v i)) _,
+  lines_append (lines_of_steps v number (at_next_inode s) (steps_of v i bytes)) _,
+) refl
 
 pub class_said : {knows : List ℕ → Type 0} {a b : Progress} {s1 : Claims} {class : Class} (v : Layout) (number : ℕ)
     (i : Inode) (s : Claims) → s1 ≡ at_next_inode s → class ≡ class_of v i →
@@ -83,33 +105,25 @@ pub class_said : {knows : List ℕ → Type 0} {a b : Progress} {s1 : Claims} {c
     SaidOf knows (rest_lines v number i class s1) (λ bytes. of_lines (owner_lines v s (owner_with v bytes number i))) a
     b
 class_said v number i s e k q =
-    rw (e, k) (of_says _ _ (rest_lines v number i (class_of v i) (at_next_inode s)) _
-    (of_lines (class_lines number (class_of v i))) _ _ _
-    (of_begins _ (λ bytes. of_lines (owner_lines v s (owner_with v bytes number i))) _)
-    (λ bytes t. parts v number i s bytes) (rw k at q))
+    rw (e, k) (of_says _ _ _ _ _ _ _ _ (of_begins _ _ _) (λ bytes t. parts v number i s bytes) (rw k at q))
 
 pub class_stopped : {knows : List ℕ → Type 0} {a b : Progress} {class : Class} (v : Layout) (number : ℕ) (i : Inode)
     (s : Claims) → class ≡ class_of v i → Stopped a b (of_lines (class_lines number class)) →
     StoppedOf knows (λ bytes. of_lines (owner_lines v s (owner_with v bytes number i))) a b
 class_stopped v number i s k q =
-    of_stops _ _ (rest_lines v number i (class_of v i) (at_next_inode s)) _
-    (of_lines (class_lines number (class_of v i))) _ _ _
-    (of_begins _ (λ bytes. of_lines (owner_lines v s (owner_with v bytes number i))) _)
+    of_stops _ _ (rest_lines v number i (class_of v i) (at_next_inode s)) _ _ _ _ _ (of_begins _ _ _)
     (λ bytes t. parts v number i s bytes) (rw k at q)
 
 -- its steps are reported then, and the count's line is that of the claims that are there
-pub steps_reported : {knows : List ℕ → Type 0} {a b c : Progress} {s2 : Claims} (v : Layout) (number : ℕ) (i : Inode)
-    (s s1 : Claims) (class : Class) →
-    SaidOf knows (rest_lines v number i class s1) (λ bytes. of_lines (owner_lines v s (owner_with v bytes number i))) a
-    b → SaidOf knows (λ bytes. []) (λ bytes. of_lines (lines_of_steps v number s1 (steps_of v i bytes))) b c →
+pub steps_reported : {knows : List ℕ → Type 0} {a b c : Progress} {s1 s2 : Claims} {class : Class} (v : Layout)
+    (number : ℕ) (i : Inode) (s : Claims) → s1 ≡ at_next_inode s → class ≡ class_of v i →
+    Said a b (of_lines (class_lines number class)) →
+    SaidOf knows (λ bytes. []) (λ bytes. of_lines (lines_of_steps v number s1 (steps_of v i bytes))) b c →
     ForBytes knows (λ bytes. s2 ≡ after_steps v s1 (steps_of v i bytes)) →
     SaidOf knows (λ bytes. of_lines (count_lines v (counted_owner number class i.blocks) s2) ++ [])
     (λ bytes. of_lines (owner_lines v s (owner_with v bytes number i))) a c
-steps_reported {s2 = s2} v number i s s1 class said steps h =
-    of_part _ _ _ (λ bytes. of_lines (count_lines v (counted_owner number class i.blocks) s2) ++ []) _ _ _ _ said
-    (λ bytes t. ap (λ x. of_lines (lines_of_steps v number s1 (steps_of v i bytes))
-    ++ of_lines (count_lines v (counted_owner number class i.blocks) x)) (sym (h bytes t))
-    ∙ ap (λ xs. of_lines (lines_of_steps v number s1 (steps_of v i bytes)) ++ xs) (sym (append-nil _))) steps
+steps_reported v number i s e k q steps h = of_part _ _ _ _ _ _ _ _ (class_said v number i s e k q)
+    (λ bytes t. rw (h bytes t, append-nil) refl) steps
 
 -- the Runs that were seen are as they were, and so is how many fragments are used
 pub record SameRuns (u w : Workspace) : Type 0 where
@@ -128,9 +142,6 @@ stored_runs u e = rw e (record { seen = refl; again = refl; used = refl })
 pub begun : (u : Workspace) {w : Workspace} → w ≡ record u { bad = 0; dups = 0; kept = 0; tail = false } →
     u.runs_seen < 2 ^ 40 → HasBegun w
 begun u e few = rw e (record { bad = refl; dups = refl; kept = refl; runs = omega arith })
-
-pub has_inode : {v : Layout} {w : Workspace} {number : ℕ} → IsFor v w → number < inodes_of v → HasInode number w
-has_inode made low = record { kinds = omega arith; marked = omega arith; notes = omega arith; references = omega arith }
 
 -- an inode by its number
 pub owner_is : (v : Layout) (bytes : List ℕ) (number : ℕ) (i : Inode) → i ≡ inode_of v bytes number →

@@ -1,19 +1,17 @@
 -- The inodes one after another.
-use Rattle.std.proofs.Common.{ltb-true, ◌≡◌, ◌⊎◌, inl, inr, ℕ, zero, suc, ◌+◌, ◌-◌, ◌<◌, ◌≤◌, Bool, true, false, ◌||◌}
-use Rattle.std.proofs.Common.{if◌then◌else◌, nat_lt, List, [], ◌++◌, length, map, get_or, replicate, min, ◌&&◌, ◌==◌}
-use Rattle.std.proofs.Common.{slice_index, slice_set, arith, refl, ap, ◌∙◌, sym}
-use Rattle.std.proofs.lemmas.{Bool.cases_lt, Bool.cases_eq, Bool.Decides.nat_tests, List.get_or-set_same}
+use Rattle.std.proofs.Common.{◌≡◌, inl, inr, ℕ, zero, suc, ◌+◌, ◌-◌, ◌<◌, ◌≤◌, true, false, ◌||◌, if◌then◌else◌}
+use Rattle.std.proofs.Common.{nat_lt, List, [], ◌++◌, length, map, get_or, replicate, min, slice_set, arith, refl, ap}
+use Rattle.std.proofs.{Common.◌∙◌, lemmas.Bool.cases_eq, lemmas.Bool.Decides.nat_tests, lemmas.List.get_or-set_same}
 use Rattle.std.{proofs.lemmas.List.get_or-set_other, specs.List.range_with_len}
-use Rattle.ffs_volume.proofs.Potentials.{cond_holds}
 use Rattle.ffs_volume.specs.Blocks.BlockCheck.{owner_lines, lines_of_owners, phase1_lines}
 use Rattle.ffs_volume.specs.Blocks.Claims.{Claims, no_claims, after_owner, after_owners}
-use Rattle.ffs_volume.specs.Blocks.{Inodes.inode_of, Inodes.class_of, Inodes.is_unknown, KeptSteps.claims_before}
-use Rattle.ffs_volume.specs.{Blocks.Owners.owner_of, Blocks.Owners.owners_of, Directories.Volumes.is_inode_number}
-use Rattle.ffs_volume.specs.Encodings.{Kinds.kind_at, Links.start_at, Replay.cut_of}
-use Rattle.ffs_volume.specs.declared.{Class.TheVariants.Free, Inode.Inode, Layout.Layout}
+use Rattle.ffs_volume.specs.Blocks.Inodes.{inode_of, class_of, is_unknown}
+use Rattle.ffs_volume.specs.Blocks.{KeptSteps.claims_before, Owners.owner_of, Owners.owners_of}
+use Rattle.ffs_volume.specs.{Directories.Volumes.is_inode_number, Encodings.Kinds.kind_at, Encodings.Links.start_at}
+use Rattle.ffs_volume.specs.{Encodings.Replay.cut_of, declared.Layout.Layout}
 use Rattle.ffs_workspace.specs.Holds.{claims_of, IsFresh, HoldsPhase1, has_blame, marked_by_phase1_at, all_claims}
 use Rattle.ffs_workspace.specs.Lengths.{IsFor, inodes_of}
-use Rattle.ffs_workspace.specs.{Notes.first_noted, Notes.note_of, Notes.note_at, declared.workspace.Workspace.Workspace}
+use Rattle.ffs_workspace.specs.{Notes.note_of, Notes.note_at, declared.workspace.Workspace.Workspace}
 use Rattle.ffs_claims.proofs.StepsContinue.{range_more, lines_append}
 use Rattle.ffs_claims.specs.{Leaves.SameFound, Leaves.Stored, Lines.of_lines, Lines.owners_from}
 
@@ -26,13 +24,12 @@ pub before_end : (v : Layout) (bytes : List ℕ) (x : ℕ) → inodes_of v ≤ x
     claims_before v bytes x ≡ all_claims v bytes
 unfolding claims_before all_claims owners_of
 before_end v bytes x past exact low =
-    let same : x - 2 ≡ inodes_of v - 2 =
-    elim (cases_lt 2 x) [ inl h ↦ let e : x ≤ inodes_of v = exact h in omega arith | inr h ↦ omega arith ] in
+    let same : x - 2 ≡ inodes_of v - 2 = grind arith in
     ap (λ n. after_owners v (no_claims v) (map (owner_of v bytes) (range_with_len 2 n))) same
 
 -- the numbers from 2 on that are gone over
 pub numbers_most : (n most : ℕ) → (2 < n → n ≤ most) → n - 2 ≤ most
-numbers_most n most high = elim (cases_lt 2 n) [ inl h ↦ omega (arith, high h) | inr h ↦ omega arith ]
+numbers_most n most high = grind arith
 
 -- the lines of the next inode, and of those after it
 pub lines_next : (v : Layout) (bytes : List ℕ) (s s' : Claims) (x : ℕ) → x < inodes_of v →
@@ -40,18 +37,12 @@ pub lines_next : (v : Layout) (bytes : List ℕ) (s s' : Claims) (x : ℕ) → x
     of_lines (lines_of_owners v s (owners_from v bytes x)) ≡ of_lines (owner_lines v s (owner_of v bytes x))
     ++ of_lines (lines_of_owners v s' (owners_from v bytes (x + 1)))
 lines_next v bytes s s' x low now =
-    ap (λ xs. of_lines (lines_of_owners v s (map (owner_of v bytes) xs)))
-    (range_more x (inodes_of v - x) (inodes_of v - (x + 1)) (omega arith))
-    ∙ lines_append (owner_lines v s (owner_of v bytes x))
-    (lines_of_owners v (after_owner v s (owner_of v bytes x)) (owners_from v bytes (x + 1)))
-    ∙ ap (λ t. of_lines (owner_lines v s (owner_of v bytes x))
-    ++ of_lines (lines_of_owners v t (owners_from v bytes (x + 1)))) (sym now)
+    rw (range_more x (inodes_of v - x) (inodes_of v - (x + 1)) (omega arith), now)
+    (lines_append (owner_lines v s (owner_of v bytes x)) _)
 
 pub lines_end : (v : Layout) (bytes : List ℕ) (s : Claims) (x : ℕ) → inodes_of v ≤ x →
     of_lines (lines_of_owners v s (owners_from v bytes x)) ≡ []
-lines_end v bytes s x past =
-    let none : inodes_of v - x ≡ 0 = omega arith in
-    ap (λ n. of_lines (lines_of_owners v s (map (owner_of v bytes) (range_with_len x n)))) none
+lines_end v bytes s x past = let none : inodes_of v - x ≡ 0 = omega arith in rw none refl
 
 -- ---- lists that are filled up to a number
 abbrev FilledTo : {A : Type 0} → A → (ℕ → A) → List A → ℕ → Type 0
@@ -63,51 +54,40 @@ filled_next d f xs xs' n value low now is before = λ x. elim (cases_eq x n) [
   | inl e ↦
       let here : nat_lt n (n + 1) ≡ true = grind (arith, nat_tests) in
       rw (now, e, get_or-set_same xs n value d low, here) is
-  | inr apart ↦ rw now (get_or-set_other xs n x value d apart ∙ before x
-      ∙ ap (λ b. if b then f x else d) (other x apart))
+  | inr apart ↦
+      let same : nat_lt x (n + 1) ≡ nat_lt x n = grind (arith, nat_tests) in
+      rw (now, get_or-set_other xs n x value d apart, same) (before x)
 ]
-  where
-    other : (x : ℕ) → (x ≡ n → ⊥) → nat_lt x n ≡ nat_lt x (n + 1)
-    other x apart = grind (arith, nat_tests)
 
-filled_end : {A : Type 0} (d : A) (f : ℕ → A) (xs : List A) (n m : ℕ) → m ≤ n → ((x : ℕ) → m ≤ x → f x ≡ d) →
+-- nothing is found of a number that is no inode's
+abbrev NoneOutside : {A : Type 0} → Layout → A → (ℕ → A) → Type 0
+NoneOutside v d f = (x : ℕ) → is_inode_number v x ≡ false → f x ≡ d
+
+filled_end : {A : Type 0} (v : Layout) (d : A) (f : ℕ → A) (xs : List A) (n : ℕ) → inodes_of v ≤ n → NoneOutside v d f →
     FilledTo d f xs n → (x : ℕ) → get_or xs x d ≡ f x
-filled_end d f xs n m past out before x = elim (cases_lt x n) [
-  | inl low ↦ let here : nat_lt x n ≡ true = grind (arith, nat_tests) in rw here at (before x)
-  | inr high ↦ let here : nat_lt x n ≡ false = grind (arith, nat_tests) in
-      (rw here at (before x)) ∙ sym (out x (omega arith))
-]
+filled_end v d f xs n past out before x =
+    let here = before x in
+    let none = out x in
+    grind (arith, nat_tests)
 
-filled_begin : {A : Type 0} (d : A) (f : ℕ → A) (xs : List A) (len : ℕ) → xs ≡ replicate len d →
-    ((x : ℕ) → x < 2 → f x ≡ d) → FilledTo d f xs 2
-filled_begin d f xs len e out = λ x. rw e (clear len x ∙ first x)
+filled_begin : {A : Type 0} (v : Layout) (d : A) (f : ℕ → A) (xs : List A) (len : ℕ) → xs ≡ replicate len d →
+    NoneOutside v d f → FilledTo d f xs 2
+filled_begin v d f xs len e out = λ x. rw e (clear len x ∙ first x (out x))
   where
     clear : (n x : ℕ) → get_or (replicate n d) x d ≡ d
     clear zero x = refl
     clear (suc n) zero = refl
     clear (suc n) (suc x) = clear n x
 
-    first : (x : ℕ) → d ≡ (if nat_lt x 2 then f x else d)
-    first x = cond_holds (λ y. d ≡ y) (nat_lt x 2) (f x) d (λ low. sym (out x (ltb-true x 2 low))) (λ _. refl)
+    first : (x : ℕ) → (is_inode_number v x ≡ false → f x ≡ d) → d ≡ (if nat_lt x 2 then f x else d)
+    first x none = grind (arith, nat_tests)
 
--- ---- what is found of the inode x, and nothing of a number that is no inode's
 pub is_inside : (v : Layout) (x : ℕ) → 2 ≤ x → x < inodes_of v → is_inode_number v x ≡ true
 is_inside v x low high = grind (arith, nat_tests)
 
-is_outside : (v : Layout) (x : ℕ) → (x < 2) ⊎ (inodes_of v ≤ x) → is_inode_number v x ≡ false
-is_outside v x (inl low) = grind (arith, nat_tests)
-is_outside v x (inr high) = grind (arith, nat_tests)
-
-note_free : (i : Inode) (cut : ℕ) → note_of Free i cut ≡ cut
-note_free i cut = go (cut == 0)
-  where
-    go : (b : Bool) → (if b && false then first_noted + slice_index i.addresses 0 else cut) ≡ cut
-    go true = refl
-    go false = refl
-
-note_out : (v : Layout) (bytes : List ℕ) (x : ℕ) → is_inode_number v x ≡ false → note_at v bytes x ≡ 0
+note_out : (v : Layout) (bytes : List ℕ) → NoneOutside v 0 (note_at v bytes)
 unfolding note_at
-note_out v bytes x out = rw out (note_free (inode_of v bytes x) 0)
+note_out v bytes x out = rw out (grind arith)
 
 -- ---- what is found of the inodes below a number
 pub record FoundTo (v : Layout) (bytes : List ℕ) (w : Workspace) (n : ℕ) : Type 0 where
@@ -118,15 +98,13 @@ pub record FoundTo (v : Layout) (bytes : List ℕ) (w : Workspace) (n : ℕ) : T
 
 pub found_begins : {v : Layout} {u w : Workspace} (bytes : List ℕ) → IsFresh v u → SameFound u w → FoundTo v bytes w 2
 unfolding kind_at marked_by_phase1_at start_at
-found_begins {v = v} {w = w} bytes fresh same = record {
-  kinds = filled_begin 0 (kind_at v bytes) w.kinds.items _ (ap (λ x. x.items) same.kinds ∙ fresh.kinds)
-      (λ x low. rw (is_outside v x (inl low)) refl);
-  marked = filled_begin false (marked_by_phase1_at v bytes) w.marked.items _
-      (ap (λ x. x.items) same.marked ∙ fresh.marked) (λ x low. rw (is_outside v x (inl low)) refl);
-  notes = filled_begin 0 (note_at v bytes) w.notes.items _ (ap (λ x. x.items) same.notes ∙ fresh.notes)
-      (λ x low. note_out v bytes x (is_outside v x (inl low)));
-  starts = filled_begin 0 (start_at v bytes) w.references.items _ (ap (λ x. x.items) same.references ∙ fresh.references)
-      (λ x low. rw (is_outside v x (inl low)) refl);
+found_begins {v = v} bytes fresh same = record {
+  kinds = filled_begin v 0 (kind_at v bytes) _ _ (ap (λ x. x.items) same.kinds ∙ fresh.kinds) (λ x out. rw out refl);
+  marked = filled_begin v false (marked_by_phase1_at v bytes) _ _ (ap (λ x. x.items) same.marked ∙ fresh.marked)
+      (λ x out. rw out refl);
+  notes = filled_begin v 0 (note_at v bytes) _ _ (ap (λ x. x.items) same.notes ∙ fresh.notes) (note_out v bytes);
+  starts = filled_begin v 0 (start_at v bytes) _ _ (ap (λ x. x.items) same.references ∙ fresh.references)
+      (λ x out. rw out refl);
 }
 
 pub found_next : {v : Layout} {bytes : List ℕ} {u w : Workspace} {n : ℕ} → 2 ≤ n → n < inodes_of v → IsFor v u →
@@ -157,19 +135,14 @@ found_all {v = v} {bytes = bytes} {n = n} past all found = record {
   used = ap (λ s. s.used) all;
   dup = ap (λ s. s.dup) all;
   runs = ap (λ s. s.runs) all;
-  kinds = filled_end 0 (kind_at v bytes) _ n (inodes_of v) past (λ x high. rw (is_outside v x (inr high)) refl)
-      found.kinds;
-  marked = filled_end false (marked_by_phase1_at v bytes) _ n (inodes_of v) past
-      (λ x high. rw (is_outside v x (inr high)) refl) found.marked;
-  notes = filled_end 0 (note_at v bytes) _ n (inodes_of v) past
-      (λ x high. note_out v bytes x (is_outside v x (inr high)))
-      found.notes;
-  starts = filled_end 0 (start_at v bytes) _ n (inodes_of v) past
-      (λ x high. rw (is_outside v x (inr high)) refl) found.starts;
+  kinds = filled_end v 0 (kind_at v bytes) _ n past (λ x out. rw out refl) found.kinds;
+  marked = filled_end v false (marked_by_phase1_at v bytes) _ n past (λ x out. rw out refl) found.marked;
+  notes = filled_end v 0 (note_at v bytes) _ n past (note_out v bytes) found.notes;
+  starts = filled_end v 0 (start_at v bytes) _ n past (λ x out. rw out refl) found.starts;
 }
 
 -- the lines of all inodes
 pub first_lines : (v : Layout) (bytes : List ℕ) (s : Claims) → s ≡ no_claims v →
     of_lines (phase1_lines v (owners_of v bytes)) ≡ of_lines (lines_of_owners v s (owners_from v bytes 2))
 unfolding phase1_lines owners_of
-first_lines v bytes s e = ap (λ t. of_lines (lines_of_owners v t (owners_from v bytes 2))) (sym e)
+first_lines v bytes s e = rw e refl

@@ -1,11 +1,11 @@
 -- How phase 1b continues.
-use Rattle.std.proofs.Common.{◌≡◌, append_assoc, append-nil, subst, ℕ, ◌+◌, ◌-◌, ◌<◌, ◌≤◌, Bool, true, false}
-use Rattle.std.proofs.Common.{if◌then◌else◌, List, [], ◌∷◌, ◌++◌, map, slice_set, arith, refl, ap, ◌∙◌, sym}
-use Rattle.std.proofs.{Math.Bool.or_assoc, Math.Bool.or-false, lemmas.List.Folds.list_any-append}
+use Rattle.std.proofs.Common.{◌≡◌, append_assoc, append-nil, subst, ℕ, ◌+◌, ◌-◌, ◌<◌, ◌≤◌, Bool, false, if◌then◌else◌}
+use Rattle.std.proofs.Common.{List, [], ◌∷◌, ◌++◌, map, slice_set, arith, refl, ap, ◌∙◌, sym, inl, inr}
+use Rattle.std.proofs.Math.Bool.{or_assoc, or-false}
+use Rattle.std.proofs.lemmas.{Bool.cases_Bool, List.Folds.list_any-append}
 use Rattle.std.specs.List.{range_with_len, list_any, slice_index_or}
-use Rattle.ffs_volume.specs.Blocks.{BlockCheck.blames, BlockCheck.first_offer_lines, Claims.is_set}
-use Rattle.ffs_volume.specs.Blocks.KeptOffers.{Offer, offer_of}
-use Rattle.ffs_volume.specs.declared.BlockMessage.{BlockMessage, TheVariants.Dup}
+use Rattle.ffs_volume.specs.Blocks.{BlockCheck.blames, BlockCheck.first_offer_lines, Claims.is_set, KeptOffers.Offer}
+use Rattle.ffs_volume.specs.{Blocks.KeptOffers.offer_of, declared.BlockMessage.TheVariants.Dup}
 use Rattle.ffs_report.{proofs.Reports.said_none, specs.Progress.Progress, specs.Progress.Said}
 use Rattle.ffs_maps.specs.Bits.{bits_of}
 use Rattle.ffs_workspace.specs.{Holds.bool_at, Lengths.set_count, declared.workspace.Workspace.Workspace}
@@ -17,15 +17,10 @@ use Rattle.ffs_claims.specs.{Lines.of_lines, Reporting.after_first, Reporting.Of
 pub first_append : (dup : List Bool) (xs ys : List Offer) → first_offer_lines dup (xs ++ ys) ≡ first_offer_lines dup xs
     ++ first_offer_lines (after_first dup xs) ys
 first_append dup [] ys = refl
-first_append dup (o ∷ xs) ys = head (is_set dup o.fragment) (slice_set dup o.fragment false) dup _ _ _ _
-    (first_append (slice_set dup o.fragment false) xs ys) (first_append dup xs ys)
-  where
-    head : (b : Bool) (d e : List Bool) (A B C D : List BlockMessage) →
-        A ≡ C ++ first_offer_lines (after_first d xs) ys → B ≡ D ++ first_offer_lines (after_first e xs) ys →
-        (if b then Dup o.fragment o.inode ∷ A else B) ≡ (if b then Dup o.fragment o.inode ∷ C else D)
-        ++ first_offer_lines (after_first (if b then d else e) xs) ys
-    head true d e A B C D p q = ap (λ ls. Dup o.fragment o.inode ∷ ls) p
-    head false d e A B C D p q = q
+first_append dup (o ∷ xs) ys = elim (cases_Bool (is_set dup o.fragment)) [
+  | inl e ↦ rw e (ap (λ ls. Dup o.fragment o.inode ∷ ls) (first_append (slice_set dup o.fragment false) xs ys))
+  | inr e ↦ rw e (first_append dup xs ys)
+]
 
 pub after_append : (dup : List Bool) (xs ys : List Offer) →
     after_first dup (xs ++ ys) ≡ after_first (after_first dup xs) ys

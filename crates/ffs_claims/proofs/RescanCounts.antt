@@ -1,16 +1,16 @@
 -- An inode replayed by its cut keeps what it kept, and how many Runs the rescan looks at.
 use Rattle.std.proofs.Common.{◌≡◌, ◌≢◌, ℕ, zero, suc, ◌+◌, Bool, true, false, ◌==◌, if◌then◌else◌, List, [], ◌∷◌, ◌++◌}
 use Rattle.std.proofs.Common.{map, replicate, arith, refl, ap, ◌∙◌, sym, inl, inr, eq-eqb, ne_eqb, ◌<◌, ◌≤◌, ◌^◌}
-use Rattle.std.proofs.{Common.length, Common.◌&&◌, Common.nat_lt, Common.Option, lemmas.Bool.cases_eq}
-use Rattle.std.{proofs.lemmas.Bool.Decides.nat_tests, proofs.lemmas.List.length-append, specs.List.range_with_len}
-use Rattle.ffs_volume.proofs.{Potentials.cond_holds, PrefixLaws.full_offers}
+use Rattle.std.proofs.Common.{length, nat_lt, Option, ◌-◌}
+use Rattle.std.proofs.lemmas.{Bool.cases_eq, Bool.cases_Bool, Bool.Decides.nat_tests, List.length-append}
+use Rattle.std.specs.List.{range_with_len}
+use Rattle.ffs_volume.proofs.{Potentials.cond_holds, Potentials.offers_keep, PrefixLaws.full_offers}
 use Rattle.ffs_volume.proofs.ReplayIsKeeping.{replay_of, seen_replays, step_replays, step_few}
-use Rattle.ffs_volume.proofs.{ReplayLaws.offers_runs, RunBounds.runs_bounded}
-use Rattle.ffs_volume.specs.Blocks.Claims.{after_offers, Claims, no_claims, at_next_inode, is_open, after_step}
-use Rattle.ffs_volume.specs.Blocks.Claims.{after_steps, after_owner, after_owners, is_set, after_offer}
-use Rattle.ffs_volume.specs.Blocks.KeptOffers.{Offer, offer_of, kept_in_run, kept_in_offers, kept_in_step}
-use Rattle.ffs_volume.specs.Blocks.{KeptOffers.kept_in_steps, Owners.Owner, Owners.owners_of}
-use Rattle.ffs_volume.specs.Disk.Areas.{is_run_in_range, is_fragment_in_range}
+use Rattle.ffs_volume.{proofs.ReplayLaws.offers_runs, proofs.RunBounds.runs_bounded, specs.Blocks.Claims.after_offers}
+use Rattle.ffs_volume.specs.Blocks.Claims.{Claims, no_claims, at_next_inode, is_open, after_step, after_steps}
+use Rattle.ffs_volume.specs.Blocks.{Claims.after_owner, Claims.after_owners, Claims.after_offer, KeptOffers.Offer}
+use Rattle.ffs_volume.specs.Blocks.KeptOffers.{offer_of, kept_in_run, kept_in_offers, kept_in_step, kept_in_steps}
+use Rattle.ffs_volume.specs.{Blocks.Owners.Owner, Blocks.Owners.owners_of, Disk.Areas.is_run_in_range}
 use Rattle.ffs_volume.specs.Encodings.Replay.{Replay, is_replay_open, fresh_replay, cut_of, replay_after_step}
 use Rattle.ffs_volume.specs.Encodings.ReplayCounts.{seen_run, replay_step_by_cut}
 use Rattle.ffs_volume.specs.{Laws.Geometry.IsAcceptedLayout, Report.Whole.run_count, declared.Layout.Layout}
@@ -23,46 +23,24 @@ use Rattle.ffs_claims.specs.RescanRuns.{runs_until_reported, steps_runs_again, s
 use Rattle.ffs_claims.specs.RescanRuns.{rescan_runs, step_runs_again}
 
 -- ---- the offers that are kept are the first ones
-offer_kept : (v : Layout) (s : Claims) (f : ℕ) → nat_lt s.dups 11 ≡ true → (after_offer v s f).kept ≡ s.kept + 1
-offer_kept v s f few =
-    rw few (cond_holds (λ (t : Claims). t.kept ≡ s.kept + 1) (is_fragment_in_range v f) _ _
-    (λ _. cond_holds (λ (t : Claims). t.kept ≡ s.kept + 1) (is_set s.used f) _ _ (λ _. refl) (λ _. refl)) (λ _. refl))
-
-offers_low : (v : Layout) (s : Claims) (fs : List ℕ) → s.kept ≤ (after_offers v s fs).kept
-offers_low v s [] = omega arith
-offers_low v s (f ∷ fs) = one (nat_lt s.dups 11) refl (offers_low v (after_offer v s f) fs)
-  where
-    one : (b : Bool) → nat_lt s.dups 11 ≡ b → (after_offer v s f).kept ≤ (after_offers v (after_offer v s f) fs).kept →
-        s.kept ≤ (after_offers v s (f ∷ fs)).kept
-    one true few more = omega (arith, offer_kept v s f few, more)
-    one false full more = omega (arith, ap (λ t. t.kept) (full_offers v 0 s (f ∷ fs) full).1)
-
 offers_firsts : (v : Layout) (i : ℕ) (s : Claims) (start len k : ℕ) →
     s.kept + k ≡ (after_offers v s (range_with_len start len)).kept →
     kept_in_offers v i s (range_with_len start len) ≡ map (offer_of i) (range_with_len start k)
-offers_firsts v i s start zero zero e = refl
-offers_firsts v i s start zero (suc k) e = absurd (omega arith)
-offers_firsts v i s start (suc len) k e = one (nat_lt s.dups 11) refl k e
-    (λ n. offers_firsts v i (after_offer v s start) (start + 1) len n)
-  where
-    one : (b : Bool) → nat_lt s.dups 11 ≡ b → (n : ℕ) →
-        s.kept + n ≡ (after_offers v s (range_with_len start (suc len))).kept →
-        ((m : ℕ) → (after_offer v s start).kept + m
-        ≡ (after_offers v (after_offer v s start) (range_with_len (start + 1) len)).kept →
-        kept_in_offers v i (after_offer v s start) (range_with_len (start + 1) len)
-        ≡ map (offer_of i) (range_with_len (start + 1) m)) →
-        kept_in_offers v i s (range_with_len start (suc len)) ≡ map (offer_of i) (range_with_len start n)
-    one true few zero h more =
-        let low = offers_low v (after_offer v s start) (range_with_len (start + 1) len) in
-        absurd (omega (arith, h, offer_kept v s start few))
-    one true few (suc n) h more =
-        ap (λ x. (if x then offer_of i start ∷ [] else []) ++ kept_in_offers v i (after_offer v s start)
-        (range_with_len (start + 1) len)) few
-        ∙ ap (λ z. offer_of i start ∷ z) (more n (omega (arith, h, offer_kept v s start few)))
-    one false full n h more =
-        let shut = full_offers v i s (range_with_len start (suc len)) full in
-        let none : n ≡ 0 = omega (arith, h, ap (λ t. t.kept) shut.1) in
-        shut.0 ∙ sym (ap (λ z. map (offer_of i) (range_with_len start z)) none)
+offers_firsts v i s start zero k e = let none : k ≡ 0 = omega arith in rw none refl
+offers_firsts v i s start (suc len) k e = elim (cases_Bool (nat_lt s.dups 11)) [
+  | inl few ↦
+      let t = after_offer v s start in
+      let rest = range_with_len (start + 1) len in
+      let more = offers_keep v t rest in
+      let one : (after_offer v s start).kept ≡ s.kept + 1 = rw few (grind arith) in
+      let some : k ≡ suc (k - 1) = omega arith in
+      rw some (ap (λ b. (if b then offer_of i start ∷ [] else []) ++ kept_in_offers v i t rest) few
+      ∙ ap (λ os. offer_of i start ∷ os) (offers_firsts v i t (start + 1) len (k - 1) (omega arith)))
+  | inr full ↦
+      let shut = full_offers v i s (range_with_len start (suc len)) full in
+      let none : k ≡ 0 = omega (arith, ap (λ t. t.kept) shut.1) in
+      rw none shut.0
+]
 
 -- ---- a replay that counts kept offers only where there is a cut
 abbrev by_cut : ℕ → Replay → Replay
@@ -73,60 +51,36 @@ begins_by_cut cut =
     cond_holds (λ n. record { bad = 0; kept = n } ≡ fresh_replay) (cut == 0) 0 0 (λ _. refl) (λ _. refl)
 
 open_by_cut : (cut : ℕ) (q : Replay) → is_replay_open cut (by_cut cut q) ≡ is_replay_open cut q
-open_by_cut cut q = one (cut == 0) refl
-  where
-    one : (b : Bool) → (cut == 0) ≡ b → is_replay_open cut (by_cut cut q) ≡ is_replay_open cut q
-    one true e = rw e refl
-    one false e = rw e refl
+open_by_cut cut q = grind (arith, nat_tests)
 
 taken_by_cut : (v : Layout) (cut : ℕ) (q : Replay) (start len : ℕ) →
     run_taken v cut (by_cut cut q) start len ≡ run_taken v cut q start len
-taken_by_cut v cut q start len = one (cut == 0) refl
-  where
-    one : (b : Bool) → (cut == 0) ≡ b → run_taken v cut (by_cut cut q) start len ≡ run_taken v cut q start len
-    one true e = rw e refl
-    one false e = rw e refl
+taken_by_cut v cut q start len = grind (arith, nat_tests)
 
 step_by_cut : (v : Layout) (cut : ℕ) (q : Replay) (step : Step) →
     replay_step_by_cut v cut (by_cut cut q) step ≡ by_cut cut (replay_after_step v cut q step)
-step_by_cut v cut q Tail = refl
-step_by_cut v cut q Gap = refl
-step_by_cut v zero q (Run start len block) =
-    one (nat_lt q.bad 11 && true) (is_run_in_range v start len) (q.bad == 10)
+step_by_cut v cut q (Run start len block) = run cut
   where
-    one : (o i t : Bool) → (if o then (if i then record { bad = q.bad; kept = 0 }
-        else (if t then record { bad = q.bad + 1; kept = 0 } else record { bad = q.bad + 1; kept = 0 }))
-        else by_cut 0 q)
-        ≡ by_cut 0 (if o then (if i then record { bad = q.bad; kept = q.kept + len }
-        else (if t then record { bad = q.bad + 1; kept = q.kept }
-        else record { bad = q.bad + 1; kept = q.kept + len })) else q)
-    one false i t = refl
-    one true true t = refl
-    one true false true = refl
-    one true false false = refl
-step_by_cut v (suc cut) q (Run start len block) = rw some refl
-  where
-    some : (suc cut == 0) ≡ false
-    some = grind (arith, nat_tests)
+    run : (cut : ℕ) → replay_step_by_cut v cut (by_cut cut q) (Run start len block)
+        ≡ by_cut cut (replay_after_step v cut q (Run start len block))
+    run cut = grind (arith, nat_tests)
+step_by_cut v cut q other = refl
 
 -- ---- an inode, replayed
 run_offers : (v : Layout) (i : ℕ) (s : Claims) (cut start len : ℕ) (block : Option ℕ) → is_open s ≡ true →
     is_replay_open cut (replay_of s) ≡ true →
     replay_after_step v cut (replay_of s) (Run start len block) ≡ replay_of (after_step v s (Run start len block)) →
     kept_in_run v i s start len ≡ map (offer_of i) (range_with_len start (run_taken v cut (replay_of s) start len))
-run_offers v i s cut start len block going seen next = one (is_run_in_range v start len) refl (s.bad == 10) refl
-  where
-    kept : (replay_after_step v cut (replay_of s) (Run start len block)).kept
-        ≡ (after_step v s (Run start len block)).kept
-    kept = ap (λ r. r.kept) next
-
-    one : (f : Bool) → is_run_in_range v start len ≡ f → (z : Bool) → (s.bad == 10) ≡ z →
-        kept_in_run v i s start len ≡ map (offer_of i) (range_with_len start (run_taken v cut (replay_of s) start len))
-    one true f z qz =
-        rw f (offers_firsts v i (record s { runs = s.runs + 1 }) start len _ (rw (going, seen, f) at kept))
-    one false f true z = rw (f, z) refl
-    one false f false z = rw (f, z) (offers_firsts v i (record s { runs = s.runs + 1; bad = s.bad + 1 }) start len _
-        (rw (going, seen, f, z) at kept))
+run_offers v i s cut start len block going seen next =
+    let kept = ap (λ r. r.kept) next in
+    elim (cases_Bool (is_run_in_range v start len)) [
+      | inl f ↦ rw f (offers_firsts v i (record s { runs = s.runs + 1 }) start len _ (rw (going, seen, f) at kept))
+      | inr f ↦ elim (cases_Bool (s.bad == 10)) [
+        | inl z ↦ rw (f, z) refl
+        | inr z ↦ rw (f, z) (offers_firsts v i (record s { runs = s.runs + 1; bad = s.bad + 1 }) start len _
+            (rw (going, seen, f, z) at kept))
+      ]
+    ]
 
 -- a step, replayed: its kept offers, and those of its Run
 record StepAgain (v : Layout) (i cut : ℕ) (s : Claims) (r : Replay) (step : Step) : Type 0 where
@@ -136,19 +90,16 @@ record StepAgain (v : Layout) (i cut : ℕ) (s : Claims) (r : Replay) (step : St
 step_again : (v : Layout) (i cut : ℕ) (s : Claims) (step : Step) → is_replay_open cut (replay_of s) ≡ is_open s →
     replay_after_step v cut (replay_of s) step ≡ replay_of (after_step v s step) →
     StepAgain v i cut s (by_cut cut (replay_of s)) step
-step_again v i cut s Tail going next = record { offers = refl; looks = refl }
-step_again v i cut s Gap going next = record { offers = refl; looks = refl }
-step_again v i cut s (Run start len block) going next = one (is_open s) refl
-  where
-    one : (b : Bool) → is_open s ≡ b → StepAgain v i cut s (by_cut cut (replay_of s)) (Run start len block)
-    one true q =
-        let seen = open_by_cut cut (replay_of s) ∙ going ∙ q in
-        let kept = run_offers v i s cut start len block q (going ∙ q) next
-        ∙ ap (λ n. map (offer_of i) (range_with_len start n)) (sym (taken_by_cut v cut (replay_of s) start len)) in
-        record { offers = rw (q, seen, kept) refl; looks = rw (q, seen, kept) refl }
-    one false q =
-        let shut = open_by_cut cut (replay_of s) ∙ going ∙ q in
-        record { offers = rw (q, shut) refl; looks = rw (q, shut) refl }
+step_again v i cut s (Run start len block) going next =
+    let same = open_by_cut cut (replay_of s) ∙ going in
+    elim (cases_Bool (is_open s)) [
+      | inl q ↦
+          let kept = run_offers v i s cut start len block q (going ∙ q) next
+          ∙ ap (λ n. map (offer_of i) (range_with_len start n)) (sym (taken_by_cut v cut (replay_of s) start len)) in
+          record { offers = rw (same, q, kept) refl; looks = rw (same, q, kept) refl }
+      | inr q ↦ record { offers = rw (same, q) refl; looks = rw (same, q) refl }
+    ]
+step_again v i cut s other going next = record { offers = refl; looks = refl }
 
 -- what some steps are, replayed
 pub record StepsAgain (v : Layout) (i cut : ℕ) (s : Claims) (r : Replay) (steps : List Step) : Type 0 where
@@ -167,24 +118,15 @@ steps_again v i s (step ∷ steps) few =
     let more = steps_again v i (after_step v s step) steps (step_few v s step few) in
     let next = step_by_cut v cut (replay_of s) step ∙ ap (by_cut cut) after in
     record {
-      offers = ap (λ x. x ++ kept_in_steps v i (after_step v s step) steps) one.offers
-          ∙ ap (λ x. step_offers_again v i cut here step ++ x)
-          (more.offers ∙ ap (λ r. offers_again v i cut r steps) (sym next));
-      looks = ap (λ x. x ++ steps_runs v i (after_step v s step) steps) one.looks
-          ∙ ap (λ x. step_runs_again v i cut here step ++ x)
-          (more.looks ∙ ap (λ r. steps_runs_again v i cut r steps) (sym next));
+      offers = rw (next, one.offers, more.offers) refl;
+      looks = rw (next, one.looks, more.looks) refl;
     }
 
 -- an inode, from its begin on
 pub inode_again : (v : Layout) (i : ℕ) (s : Claims) (steps : List Step) →
     StepsAgain v i (cut_of (after_steps v (at_next_inode s) steps)) (at_next_inode s) fresh_replay steps
-inode_again v i s steps =
-    let cut = cut_of (after_steps v (at_next_inode s) steps) in
-    let all = steps_again v i (at_next_inode s) steps (omega arith) in
-    record {
-      offers = all.offers ∙ ap (λ r. offers_again v i cut r steps) (begins_by_cut cut);
-      looks = all.looks ∙ ap (λ r. steps_runs_again v i cut r steps) (begins_by_cut cut);
-    }
+inode_again v i s steps = rw (begins_by_cut (cut_of (after_steps v (at_next_inode s) steps)))
+    at (steps_again v i (at_next_inode s) steps (omega arith))
 
 -- ---- how many Runs the rescan looks at
 -- nothing is left to report
@@ -226,11 +168,10 @@ pub runs_leave : (v : Layout) (i cut : ℕ) (r : Replay) (dup : List Bool) (step
     after_runs dup (steps_runs_again v i cut r steps) ≡ after_first dup (offers_again v i cut r steps)
 unfolding steps_runs_again offers_again
 runs_leave v i cut r dup [] = refl
-runs_leave v i cut r dup (Tail ∷ steps) = runs_leave v i cut r dup steps
-runs_leave v i cut r dup (Gap ∷ steps) = runs_leave v i cut r dup steps
 runs_leave v i cut r dup (Run start len block ∷ steps) = one_leaves (is_replay_open cut r)
     (map (offer_of i) (range_with_len start (run_taken v cut r start len))) _ _ dup
     (λ d. runs_leave v i cut (replay_step_by_cut v cut r (Run start len block)) d steps)
+runs_leave v i cut r dup (other ∷ steps) = runs_leave v i cut r dup steps
 
 -- a step more, while something is left to report
 pub looked_next : (v : Layout) (i cut : ℕ) (r r' : Replay) (step : Step) (R R' : List Step) (dup dup' : List Bool) →
@@ -239,17 +180,9 @@ pub looked_next : (v : Layout) (i cut : ℕ) (r r' : Replay) (step : Step) (R R'
     runs_until_reported dup (steps_runs_again v i cut r R) ≡ seen_run cut r step + runs_until_reported dup'
     (steps_runs_again v i cut r' R')
 unfolding steps_runs_again runs_until_reported
-looked_next v i cut r r' step R R' dup dup' e now going some d = rw (e, now, d) (here step)
-  where
-    left : (set_count dup == 0) ≡ false
-    left = ne_eqb _ _ some
-
-    here : (p : Step) → runs_until_reported dup (steps_runs_again v i cut r (p ∷ R'))
-        ≡ seen_run cut r p + runs_until_reported (after_first dup (step_offers_again v i cut r p))
-        (steps_runs_again v i cut (replay_step_by_cut v cut r p) R')
-    here Tail = omega arith
-    here Gap = omega arith
-    here (Run start len block) = rw (going, left) refl
+looked_next v i cut r r' (Run start len block) R R' dup dup' e now going some d =
+    rw (e, now, d, going, ne_eqb _ _ some) refl
+looked_next v i cut r r' other R R' dup dup' e now going some d = rw (e, now, d) (omega arith)
 
 -- after the cut nothing is kept and no Run is seen, and gaps in a row keep nothing and are no Runs
 module _ (v : Layout) (i cut : ℕ) (r : Replay) where
@@ -258,8 +191,7 @@ module _ (v : Layout) (i cut : ℕ) (r : Replay) where
   unfolding steps_runs_again offers_again
   again_stopped [] q = (refl, refl)
   again_stopped (Run start len block ∷ R) q = rw q (again_stopped R q)
-  again_stopped (Tail ∷ R) q = again_stopped R q
-  again_stopped (Gap ∷ R) q = again_stopped R q
+  again_stopped (other ∷ R) q = again_stopped R q
 
   pub again_gaps : (n : ℕ) (R : List Step) → (offers_again v i cut r (replicate n Gap ++ R) ≡ offers_again v i cut r R)
       × (steps_runs_again v i cut r (replicate n Gap ++ R) ≡ steps_runs_again v i cut r R)
@@ -283,21 +215,11 @@ looked_over v i cut r R dup e = rw e refl
 step_seen : (v : Layout) (i : ℕ) (s : Claims) (step : Step) → s.runs + length (step_runs v i s step)
     ≡ (after_step v s step).runs
 step_seen v i s Gap = omega arith
-step_seen v i s Tail = cond_holds (λ (t : Claims). s.runs + 0 ≡ t.runs) (is_open s) _ _ (λ _. omega arith)
-    (λ _. omega arith)
+step_seen v i s Tail = grind arith
 step_seen v i s (Run start len block) =
-    let t = after_offers v (record s { runs = s.runs + 1 }) (range_with_len start len) in
-    let u = after_offers v (record s { runs = s.runs + 1; bad = s.bad + 1 }) (range_with_len start len) in
-    go (is_open s) (is_run_in_range v start len) (s.bad == 10) t u (kept_in_run v i s start len)
-    (offers_runs v _ (range_with_len start len)) (offers_runs v _ (range_with_len start len))
-  where
-    go : (o f z : Bool) (t u : Claims) (os : List Offer) → t.runs ≡ s.runs + 1 → u.runs ≡ s.runs + 1 →
-        s.runs + length (if o then os ∷ [] else [])
-        ≡ (if o then (if f then t else (if z then record s { runs = s.runs + 1; bad = s.bad + 1 } else u)) else s).runs
-    go false f z t u os a b = omega arith
-    go true true z t u os a b = sym a
-    go true false true t u os a b = refl
-    go true false false t u os a b = sym b
+    let fits = offers_runs v (record s { runs = s.runs + 1 }) (range_with_len start len) in
+    let bad = offers_runs v (record s { runs = s.runs + 1; bad = s.bad + 1 }) (range_with_len start len) in
+    grind arith
 
 steps_seen : (v : Layout) (i : ℕ) (s : Claims) (steps : List Step) → s.runs + length (steps_runs v i s steps)
     ≡ (after_steps v s steps).runs
@@ -320,9 +242,7 @@ owners_seen v s (o ∷ os) =
 looked_most : (dup : List Bool) (runs : List (List Offer)) → runs_until_reported dup runs ≤ length runs
 unfolding runs_until_reported
 looked_most dup [] = omega arith
-looked_most dup (kept ∷ runs) =
-    cond_holds (λ n. n ≤ length (kept ∷ runs)) (set_count dup == 0) _ _ (λ _. omega arith)
-    (λ _. omega (arith, looked_most (after_first dup kept) runs))
+looked_most dup (kept ∷ runs) = let more = looked_most (after_first dup kept) runs in grind arith
 
 pub look_most : (v : Layout) (bytes : List ℕ) → rescan_runs v bytes ≤ run_count v bytes
 unfolding rescan_runs run_count

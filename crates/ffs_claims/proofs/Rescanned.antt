@@ -1,27 +1,24 @@
 -- How phase 1b goes from inode to inode.
-use Rattle.std.proofs.Common.{◌≡◌, ◌⊎◌, inl, inr, ℕ, zero, suc, ◌+◌, ◌-◌, ◌<◌, ◌≤◌, Bool, true, false, not, ◌&&◌, ◌||◌}
-use Rattle.std.proofs.Common.{◌==◌, if◌then◌else◌, nat_lt, List, [], ◌∷◌, ◌++◌, map, slice_index, slice_set, arith}
-use Rattle.std.proofs.{Common.refl, Common.ap, Common.◌∙◌, Common.sym, Math.Bool.or-false}
-use Rattle.std.proofs.lemmas.Bool.{and_from, cases_lt, and_parts, not-true, Decides.nat_tests}
-use Rattle.std.proofs.lemmas.List.Folds.{list_all-append}
+use Rattle.std.proofs.Common.{◌≡◌, ℕ, zero, suc, ◌+◌, ◌-◌, ◌<◌, ◌≤◌, Bool, true, false, not, ◌&&◌, ◌||◌, ◌==◌, nat_lt}
+use Rattle.std.proofs.Common.{List, [], ◌∷◌, ◌++◌, map, slice_index, slice_set, arith, refl, ap, ◌∙◌, sym, ne_eqb}
+use Rattle.std.proofs.lemmas.{Bool.and_from, Bool.and_parts, Bool.Decides.nat_tests, List.Folds.list_all-append}
 use Rattle.std.specs.List.{range_with_len, list_any, list_all}
 use Rattle.ffs_volume.proofs.{CutLaws.cut_is, OwnerLaws.before_next, Potentials.cond_holds, ReplayLaws.replay_is_runs}
 use Rattle.ffs_volume.specs.Blocks.BlockCheck.{blames, first_offer_lines, phase1b_lines}
-use Rattle.ffs_volume.specs.Blocks.Claims.{Claims, no_claims, at_next_inode, is_open, is_set, after_offer, after_step}
-use Rattle.ffs_volume.specs.Blocks.{Claims.after_steps, Claims.after_owner, Claims.after_owners, Inodes.inode_of}
+use Rattle.ffs_volume.specs.Blocks.Claims.{Claims, no_claims, at_next_inode, after_offer, after_step, after_steps}
+use Rattle.ffs_volume.specs.Blocks.{Claims.after_owner, Claims.after_owners, Inodes.inode_of}
 use Rattle.ffs_volume.specs.Blocks.KeptOffers.{Offer, kept_in_offers, kept_in_step, kept_in_steps, kept_in_owners}
 use Rattle.ffs_volume.specs.Blocks.{KeptSteps.claims_before, Owners.owner_of, Owners.owners_of, Steps.steps_of}
-use Rattle.ffs_volume.specs.{Directories.Volumes.is_inode_number, Disk.Areas.is_run_in_range}
+use Rattle.ffs_volume.specs.Directories.Volumes.{is_inode_number}
 use Rattle.ffs_volume.specs.Encodings.{Replay.fresh_replay, Replay.cut_of, Replay.cut_at, ReplayCounts.replayed_runs}
 use Rattle.ffs_volume.specs.{Laws.Geometry.IsAcceptedLayout, Report.Whole.run_count}
-use Rattle.ffs_volume.specs.declared.{BlockMessage.BlockMessage, Layout.Layout, Step.Step}
-use Rattle.ffs_volume.specs.declared.Step.TheVariants.{Run, Tail, Gap}
+use Rattle.ffs_volume.specs.declared.{Layout.Layout, Step.Step, Step.TheVariants.Run}
 use Rattle.ffs_maps.specs.Bits.{bits_of}
 use Rattle.ffs_workspace.proofs.NoteLaws.{cut_is_noted}
-use Rattle.ffs_workspace.specs.Holds.{bool_at, all_claims, marked_by_phase1_at, HoldsPhase1, HoldsStarts, HoldsClaims}
+use Rattle.ffs_workspace.specs.Holds.{all_claims, marked_by_phase1_at, HoldsPhase1, HoldsStarts, HoldsClaims}
 use Rattle.ffs_workspace.specs.{Lengths.inodes_of, Notes.cut_in, declared.workspace.Workspace.Workspace}
 use Rattle.ffs_claims.proofs.{Duplicates.marked_total, Numbers.before_end, Numbers.before_first, Numbers.is_inside}
-use Rattle.ffs_claims.proofs.Reportings.{Reporting}
+use Rattle.ffs_claims.proofs.Reportings.{Reporting, reported_none, reported_to}
 use Rattle.ffs_claims.proofs.RescanCounts.{looked_both, runs_leave, inode_again}
 use Rattle.ffs_claims.{proofs.StepsContinue.range_more, specs.Lines.of_lines, specs.Lines.owners_from}
 use Rattle.ffs_claims.specs.{Reporting.after_first, Reporting.OffersReported, Reporting.SameClaims, Rescan.offers_again}
@@ -71,14 +68,9 @@ pub kept_next : (v : Layout) (bytes notes : List ℕ) (n : ℕ) → IsNoted v by
 unfolding owner_of
 kept_next v bytes notes n p =
     let high = p.high in
-    let s = claims_before v bytes n in
-    let again = (inode_again v n s (steps_of v (inode_of v bytes n) bytes)).offers in
-    ap (λ xs. kept_in_owners v s (map (owner_of v bytes) xs))
-    (range_more n (inodes_of v - n) (inodes_of v - (n + 1)) (omega arith))
-    ∙ ap (λ os. os ++ kept_in_owners v (after_owner v s (owner_of v bytes n)) (owners_from v bytes (n + 1)))
-    (again ∙ ap (λ k. offers_again v n k fresh_replay (steps_of v (inode_of v bytes n) bytes)) (cut_noted p))
-    ∙ ap (λ t. offers_at v bytes notes n ++ kept_in_owners v t (owners_from v bytes (n + 1)))
-    (sym (before_next v bytes n p.low))
+    let again = inode_again v n (claims_before v bytes n) (steps_of v (inode_of v bytes n) bytes) in
+    rw (range_more n (inodes_of v - n) (inodes_of v - (n + 1)) (omega arith), before_next v bytes n p.low)
+    (rw (again.offers, cut_noted p) refl)
 
 -- its Runs, and those of the inodes after it
 runs_next_inode : (v : Layout) (bytes notes : List ℕ) (n : ℕ) → IsNoted v bytes notes n →
@@ -86,23 +78,16 @@ runs_next_inode : (v : Layout) (bytes notes : List ℕ) (n : ℕ) → IsNoted v 
 unfolding owner_of owners_runs
 runs_next_inode v bytes notes n p =
     let high = p.high in
-    let s = claims_before v bytes n in
-    let again = (inode_again v n s (steps_of v (inode_of v bytes n) bytes)).looks in
-    ap (λ xs. owners_runs v s (map (owner_of v bytes) xs))
-    (range_more n (inodes_of v - n) (inodes_of v - (n + 1)) (omega arith))
-    ∙ ap (λ os. os ++ owners_runs v (after_owner v s (owner_of v bytes n)) (owners_from v bytes (n + 1)))
-    (again ∙ ap (λ k. steps_runs_again v n k fresh_replay (steps_of v (inode_of v bytes n) bytes)) (cut_noted p))
-    ∙ ap (λ t. runs_at v bytes notes n ++ owners_runs v t (owners_from v bytes (n + 1)))
-    (sym (before_next v bytes n p.low))
+    let again = inode_again v n (claims_before v bytes n) (steps_of v (inode_of v bytes n) bytes) in
+    rw (range_more n (inodes_of v - n) (inodes_of v - (n + 1)) (omega arith), before_next v bytes n p.low)
+    (rw (again.looks, cut_noted p) refl)
 
 pub looked_on : (v : Layout) (bytes notes : List ℕ) (n : ℕ) (dup dup' : List Bool) → IsNoted v bytes notes n →
     dup' ≡ after_first dup (offers_at v bytes notes n) → runs_until_reported dup (runs_from v bytes n)
     ≡ runs_until_reported dup (runs_at v bytes notes n) + runs_until_reported dup' (runs_from v bytes (n + 1))
 looked_on v bytes notes n dup dup' p d =
-    ap (runs_until_reported dup) (runs_next_inode v bytes notes n p)
-    ∙ looked_both dup (runs_at v bytes notes n) (runs_from v bytes (n + 1))
-    ∙ ap (λ x. runs_until_reported dup (runs_at v bytes notes n) + runs_until_reported x (runs_from v bytes (n + 1)))
-    (runs_leave v n (cut_in (slice_index notes n)) fresh_replay dup (steps_of v (inode_of v bytes n) bytes) ∙ sym d)
+    let left = runs_leave v n (cut_in (slice_index notes n)) fresh_replay dup (steps_of v (inode_of v bytes n) bytes) in
+    rw (d, runs_next_inode v bytes notes n p, looked_both dup (runs_at v bytes notes n) _, left) refl
 
 -- no inode is left
 pub kept_end : (v : Layout) (bytes : List ℕ) (s : Claims) (n : ℕ) → inodes_of v ≤ n →
@@ -118,21 +103,16 @@ looked_end v bytes dup s n past = let none : inodes_of v - n ≡ 0 = omega arith
 pub looked_first : (v : Layout) (bytes : List ℕ) (dup : List Bool) → dup ≡ (all_claims v bytes).dup →
     runs_until_reported dup (runs_from v bytes 2) ≡ rescan_runs v bytes
 unfolding owners_of all_claims rescan_runs
-looked_first v bytes dup e =
-    ap (λ s. runs_until_reported dup (owners_runs v s (owners_from v bytes 2))) (before_first v bytes)
-    ∙ ap (λ d. runs_until_reported d (owners_runs v (no_claims v) (owners_from v bytes 2))) e
+looked_first v bytes dup e = rw (before_first v bytes, e) refl
 
 pub all_lines : (v : Layout) (bytes : List ℕ) (dup : List Bool) → dup ≡ (all_claims v bytes).dup →
     of_lines (phase1b_lines v (owners_of v bytes)) ≡ of_lines (first_offer_lines dup (kept_from v bytes 2))
 unfolding phase1b_lines owners_of all_claims
-all_lines v bytes dup e =
-    ap (λ d. of_lines (first_offer_lines d (kept_in_owners v (no_claims v) (owners_from v bytes 2)))) (sym e)
-    ∙ ap (λ s. of_lines (first_offer_lines dup (kept_in_owners v s (owners_from v bytes 2))))
-    (sym (before_first v bytes))
+all_lines v bytes dup e = rw (before_first v bytes, e) refl
 
 pub all_kept : (v : Layout) (bytes : List ℕ) → kept_from v bytes 2 ≡ kept_in_owners v (no_claims v) (owners_of v bytes)
 unfolding owners_of
-all_kept v bytes = ap (λ s. kept_in_owners v s (owners_from v bytes 2)) (before_first v bytes)
+all_kept v bytes = rw (before_first v bytes) refl
 
 -- the count of Runs of an inode more
 pub runs_on : (v : Layout) (bytes notes : List ℕ) (n : ℕ) → IsNoted v bytes notes n →
@@ -140,10 +120,8 @@ pub runs_on : (v : Layout) (bytes notes : List ℕ) (n : ℕ) → IsNoted v byte
     + replayed_runs v (cut_in (slice_index notes n)) fresh_replay (steps_of v (inode_of v bytes n) bytes)
 unfolding owner_of
 runs_on v bytes notes n p =
-    ap (λ t. t.runs) (before_next v bytes n p.low)
-    ∙ replay_is_runs v (claims_before v bytes n) (steps_of v (inode_of v bytes n) bytes)
-    ∙ ap (λ k. (claims_before v bytes n).runs
-    + replayed_runs v k fresh_replay (steps_of v (inode_of v bytes n) bytes)) (cut_noted p)
+    rw (before_next v bytes n p.low, ← cut_noted p)
+    (replay_is_runs v (claims_before v bytes n) (steps_of v (inode_of v bytes n) bytes))
 
 -- the count of Runs rises
 runs_rise : (v : Layout) (bytes : List ℕ) (n k : ℕ) → 2 ≤ n →
@@ -154,25 +132,15 @@ runs_rise v bytes n (suc k) low =
     let more = runs_rise v bytes n k low in
     let again = replay_is_runs v (claims_before v bytes (n + k)) (steps_of v (inode_of v bytes (n + k)) bytes) in
     let next : n + suc k ≡ n + k + 1 = omega arith in
-    let is : (claims_before v bytes (n + k + 1)).runs ≡ (claims_before v bytes (n + k)).runs + replayed_runs v
-    (cut_of (after_steps v (at_next_inode (claims_before v bytes (n + k)))
-    (steps_of v (inode_of v bytes (n + k)) bytes))) fresh_replay (steps_of v (inode_of v bytes (n + k)) bytes) =
-    ap (λ t. t.runs) (before_next v bytes (n + k) (omega arith)) ∙ again in
-    rw next (omega (arith, more, is))
+    rw (next, before_next v bytes (n + k) (omega arith)) (omega arith)
 
 pub runs_most : (v : Layout) (bytes : List ℕ) (n : ℕ) → 2 ≤ n → (2 < n → n ≤ inodes_of v) →
     (claims_before v bytes n).runs ≤ run_count v bytes
 unfolding run_count all_claims
-runs_most v bytes n low high = elim (cases_lt n (inodes_of v)) [
-  | inl less ↦
-      let rise = runs_rise v bytes n (inodes_of v - n) low in
-      let sum : n + (inodes_of v - n) ≡ inodes_of v = omega arith in
-      let end = before_end v bytes (inodes_of v) (omega arith) (λ _. omega arith) (omega arith) in
-      omega (arith, ap (λ k. (claims_before v bytes k).runs) sum, ap (λ t. t.runs) end)
-  | inr more ↦
-      let end = before_end v bytes n more high low in
-      omega (arith, ap (λ t. t.runs) end)
-]
+runs_most v bytes n low high =
+    let k = inodes_of v - n in
+    let end = before_end v bytes (n + k) (omega arith) (λ more. grind arith) (omega arith) in
+    omega (arith, runs_rise v bytes n k low, ap (λ t. t.runs) end)
 
 -- the offers are of the inodes that they are reported for
 abbrev no_offer : ℕ → List Offer → Bool
@@ -185,56 +153,44 @@ offers_none_of : (v : Layout) (x i : ℕ) (s : Claims) (fs : List ℕ) → (i ==
     no_offer x (kept_in_offers v i s fs) ≡ true
 offers_none_of v x i s [] e = refl
 offers_none_of v x i s (f ∷ fs) e =
-    both_none x (if nat_lt s.dups 11 then record { inode = i; fragment = f } ∷ [] else [])
-    (kept_in_offers v i (after_offer v s f) fs) (one (nat_lt s.dups 11)) (offers_none_of v x i (after_offer v s f) fs e)
-  where
-    one : (b : Bool) → no_offer x (if b then record { inode = i; fragment = f } ∷ [] else []) ≡ true
-    one true = ap (λ b. not b && true) e
-    one false = refl
+    let more = offers_none_of v x i (after_offer v s f) fs e in
+    cond_holds (λ (os : List Offer). no_offer x (os ++ kept_in_offers v i (after_offer v s f) fs) ≡ true)
+    (nat_lt s.dups 11) _ _ (λ _. grind arith) (λ _. more)
 
 step_none_of : (v : Layout) (x i : ℕ) (s : Claims) (step : Step) → (i == x) ≡ false →
     no_offer x (kept_in_step v i s step) ≡ true
-step_none_of v x i s Tail e = refl
-step_none_of v x i s Gap e = refl
 step_none_of v x i s (Run start len block) e =
-    cond_holds (λ (os : List Offer). no_offer x os ≡ true) (is_open s) _ _
-    (λ _. cond_holds (λ (os : List Offer). no_offer x os ≡ true) (is_run_in_range v start len) _ _
-    (λ _. offers_none_of v x i (record s { runs = s.runs + 1 }) (range_with_len start len) e)
-    (λ _. cond_holds (λ (os : List Offer). no_offer x os ≡ true) (s.bad == 10) _ _ (λ _. refl)
-    (λ _. offers_none_of v x i (record s { runs = s.runs + 1; bad = s.bad + 1 }) (range_with_len start len) e)))
-    (λ _. refl)
+    let fs = range_with_len start len in
+    let fits = offers_none_of v x i (record s { runs = s.runs + 1 }) fs e in
+    let bad = offers_none_of v x i (record s { runs = s.runs + 1; bad = s.bad + 1 }) fs e in
+    grind arith
+step_none_of v x i s other e = refl
 
 steps_none_of : (v : Layout) (x i : ℕ) (s : Claims) (steps : List Step) → (i == x) ≡ false →
     no_offer x (kept_in_steps v i s steps) ≡ true
 steps_none_of v x i s [] e = refl
 steps_none_of v x i s (step ∷ steps) e =
-    both_none x (kept_in_step v i s step) (kept_in_steps v i (after_step v s step) steps) (step_none_of v x i s step e)
+    both_none x (kept_in_step v i s step) _ (step_none_of v x i s step e)
     (steps_none_of v x i (after_step v s step) steps e)
 
-owners_none_of : (v : Layout) (bytes : List ℕ) (x : ℕ) (s : Claims) (n k : ℕ) → (x < n) ⊎ (n + k ≤ x) →
+owners_none_of : (v : Layout) (bytes : List ℕ) (x : ℕ) (s : Claims) (n k : ℕ) → (n ≤ x → n + k ≤ x) →
     no_offer x (kept_in_owners v s (map (owner_of v bytes) (range_with_len n k))) ≡ true
 unfolding owner_of
 owners_none_of v bytes x s n zero h = refl
 owners_none_of v bytes x s n (suc k) h =
-    both_none x (kept_in_steps v n (at_next_inode s) (steps_of v (inode_of v bytes n) bytes))
-    (kept_in_owners v (after_owner v s (owner_of v bytes n)) (map (owner_of v bytes) (range_with_len (n + 1) k)))
-    (steps_none_of v x n (at_next_inode s) (steps_of v (inode_of v bytes n) bytes) (apart h))
-    (owners_none_of v bytes x (after_owner v s (owner_of v bytes n)) (n + 1) k
-    (elim h [ inl a ↦ inl (omega arith) | inr b ↦ inr (omega arith) ]))
-  where
-    apart : (x < n) ⊎ (n + suc k ≤ x) → (n == x) ≡ false
-    apart (inl a) = grind (arith, nat_tests)
-    apart (inr b) = grind (arith, nat_tests)
+    let apart : (n == x) ≡ false = ne_eqb n x (λ e. omega (arith, h (omega arith))) in
+    both_none x (kept_in_steps v n (at_next_inode s) (steps_of v (inode_of v bytes n) bytes)) _
+    (steps_none_of v x n (at_next_inode s) (steps_of v (inode_of v bytes n) bytes) apart)
+    (owners_none_of v bytes x (after_owner v s (owner_of v bytes n)) (n + 1) k (λ low. omega (arith, h (omega arith))))
 
 blames_none_of : (x : ℕ) (dup : List Bool) (os : List Offer) → no_offer x os ≡ true →
     list_any (blames x) (first_offer_lines dup os) ≡ false
 blames_none_of x dup [] e = refl
 blames_none_of x dup (o ∷ os) e =
     let both = and_parts (not (o.inode == x)) (no_offer x os) e in
-    cond_holds (λ (ls : List BlockMessage). list_any (blames x) ls ≡ false) (is_set dup o.fragment) _ _
-    (λ _. ap (λ b. b || list_any (blames x) (first_offer_lines (slice_set dup o.fragment false) os))
-    (not-true (o.inode == x) both.0) ∙ blames_none_of x (slice_set dup o.fragment false) os both.1)
-    (λ _. blames_none_of x dup os both.1)
+    let left = blames_none_of x (slice_set dup o.fragment false) os both.1 in
+    let silent = blames_none_of x dup os both.1 in
+    grind arith
 
 -- no line of phase 1b names a number that is no inode's
 outside : (v : Layout) (bytes : List ℕ) (x : ℕ) →
@@ -243,12 +199,10 @@ outside : (v : Layout) (bytes : List ℕ) (x : ℕ) →
 unfolding phase1b_lines owners_of
 outside v bytes x = known (is_inode_number v x) _ (λ q. blames_none_of x
     (after_owners v (no_claims v) (owners_from v bytes 2)).dup (kept_in_owners v (no_claims v) (owners_from v bytes 2))
-    (owners_none_of v bytes x (no_claims v) 2 (inodes_of v - 2)
-    (elim (cases_lt x 2) [ inl low ↦ inl low | inr high ↦ inr (past v x q high) ])))
+    (owners_none_of v bytes x (no_claims v) 2 (inodes_of v - 2) (past v x q)))
   where
     known : (a b : Bool) → (a ≡ false → b ≡ false) → (a && b) ≡ b
-    known true b h = refl
-    known false b h = sym (h refl)
+    known a b h = grind arith
 
     past : (v : Layout) (x : ℕ) → is_inode_number v x ≡ false → 2 ≤ x → 2 + (inodes_of v - 2) ≤ x
     past v x q high = grind (arith, nat_tests)
@@ -275,12 +229,5 @@ starts_hold v bytes old new h same = record {
 -- nothing is reported yet
 pub reported_same : (u w : Workspace) (all : List Offer) → w.duplicates ≡ u.duplicates → w.marked ≡ u.marked →
     Reporting all all u w
-reported_same u w all d m = record {
-  past = [];
-  whole = refl;
-  reported = record {
-    dup = ap bits_of d;
-    marked = λ x. ap (λ z. bool_at z.items x) m
-        ∙ sym (or-false (bool_at u.marked.items x));
-  };
-}
+reported_same u w all d m =
+    record { past = []; whole = refl; reported = reported_to u u w (reported_none u) d m }

@@ -1,6 +1,6 @@
 -- How a second walk over an inode continues.
 use Rattle.std.proofs.Common.{◌≡◌, ◌≢◌, ◌≤◌, ℕ, replicate, ◌+◌, Bool, true, List, [], ◌∷◌, ◌++◌, map, Option, arith}
-use Rattle.std.proofs.Common.{refl, ap, ◌∙◌, ◌<◌, ◌-◌, ◌^◌, Result}
+use Rattle.std.proofs.Common.{refl, ap, ◌∙◌, ◌<◌, ◌-◌, ◌^◌, Result, Ok}
 use Rattle.std.{proofs.lemmas.Bool.Decides.nat_tests, specs.List.range_with_len}
 use Rattle.ffs_volume.proofs.ReplayLaws.{counted_same, gaps_seen}
 use Rattle.ffs_volume.specs.Blocks.{BlockCheck.first_offer_lines, KeptOffers.offer_of, Steps.steps_of}
@@ -13,18 +13,19 @@ use Rattle.ffs_report.proofs.Reporting.{reports_same, reports_knowing, of_says}
 use Rattle.ffs_report.specs.Known.{IsContents, ForBytes}
 use Rattle.ffs_report.specs.{PhaseOutcome.SaidOf, Progress.Progress, Progress.Said, declared.fault.RunFault.RunFault}
 use Rattle.ffs_maps.specs.Bits.{bits_of}
-use Rattle.ffs_walk.specs.{Keepings.run_taken, Keepings.replay_in, Rests.steps_left}
-use Rattle.ffs_walk.specs.declared.{keeping.Keeping.Keeping, walk.Walk.Walk}
+use Rattle.ffs_walk.specs.{Keepings.run_taken, Keepings.replay_in, Rests.steps_left, Windows.KeepsBlocks}
+use Rattle.ffs_walk.specs.declared.{blocks.Blocks.Blocks, keeping.Keeping.Keeping, walk.Walk.Walk}
 use Rattle.ffs_workspace.specs.Lengths.{set_count}
 use Rattle.ffs_workspace.specs.declared.workspace.{Windows.Windows, Workspace.Workspace}
-use Rattle.ffs_claims.proofs.Frames.{image_from, claims_then, claims_still, claims_none}
+use Rattle.ffs_layout.specs.declared.geometry.Geometry.{Geometry}
+use Rattle.ffs_claims.proofs.Frames.{ready_still, ready_walked, image_from, claims_then, claims_still, claims_none}
 use Rattle.ffs_claims.proofs.Inodes.{ok_where}
 use Rattle.ffs_claims.proofs.Reportings.{reporting_over, Reporting, reporting_begins, reporting_more, reporting_ends}
 use Rattle.ffs_claims.proofs.Reportings.{reporting_same, reported_from, reported_to, lines_split}
 use Rattle.ffs_claims.proofs.RescanCounts.{looked_none, looked_next, again_gaps}
-use Rattle.ffs_claims.specs.{Lines.of_lines, Reporting.after_first, Rescan.step_offers_again, Rescan.offers_again}
-use Rattle.ffs_claims.specs.RescanRuns.{Rewalks, RoseBy, Rewalked, runs_until_reported, steps_runs_again, RunsPay}
-use Rattle.ffs_claims.specs.RescanRuns.{StepReported, Counted}
+use Rattle.ffs_claims.specs.{Lines.of_lines, Reporting.ReportsOnly, Reporting.RewalkLeaves, Reporting.after_first}
+use Rattle.ffs_claims.specs.{Rescan.step_offers_again, Rescan.offers_again, RescanRuns.Rewalks, RescanRuns.RoseBy}
+use Rattle.ffs_claims.specs.RescanRuns.{Rewalked, runs_until_reported, steps_runs_again, RunsPay, StepReported, Counted}
 
 pub open_first : (cut : ℕ) → is_replay_open cut fresh_replay ≡ true
 open_first cut = grind (arith, nat_tests)
@@ -119,6 +120,19 @@ rewalk_over {v = v} {i = i} {cut = cut} {r = r} {R = R} {w = w} e t = record {
   count = λ h. omega (arith, t.count h, looked_none (bits_of w.duplicates) (steps_runs_again v i cut r R) e);
 }
 
+-- where it has left the image, its workspace and the claims; and what a step more leaves
+abbrev pub Rereads : Layout → Device → Device → Workspace → Workspace → Type 0
+Rereads v d0 d u w = RewalkLeaves {T = Unit {0}} v d0 d u w (Ok tt)
+
+pub rereads_on : {g k : Geometry} {d0 d d' : Device} {u w w' : Workspace} {b : Blocks} → d' ≡ d → k ≡ g →
+    KeepsBlocks k.layout d'.contents w.windows.blocks b →
+    ReportsOnly g.layout (record w { windows = record w.windows { blocks = b } }) w' →
+    Rereads g.layout d0 d u w → Rereads g.layout d0 d' u w'
+rereads_on e same kept only p =
+    let ready = ready_still only.made only.windows (ready_walked e same kept p.ready) in
+    let claims = claims_then (claims_still p.claims) only.claims in
+    grind arith
+
 -- the windows are no part of it
 pub rewalked_to : {v : Layout} {i cut : ℕ} {all : List Step} {u w : Workspace} {windows : Windows} →
     Rewalked v i cut all u w → Rewalked v i cut all u (record w { windows = windows })
@@ -175,28 +189,18 @@ rewalk_said {v = v} {i = i} {cut = cut} {k = k} {k' = k'} {step = step} {old = o
 pub runs_pay_on : {reads old middle new : ℕ} (now now' before after rest more : ℕ) →
     RunsPay reads (now + before) old middle → (new < 2 ^ 64 - 1 → middle + more ≤ new) →
     now' + after ≤ now + before + more → rest ≤ after + 0 → RunsPay reads (now' + rest) old new
-runs_pay_on now now' before after rest more pays counts falls less = record {
-  rises = λ room. let count = counts room in omega (arith, count, pays.rises (omega (arith, count, room)));
-  paid = λ room. let count = counts room in omega (arith, count, falls, less, pays.paid (omega (arith, count, room)));
-}
+runs_pay_on now now' before after rest more pays counts falls less = grind arith
 
 -- and the reads that are still to come aren't made
 pub runs_pay_ends : {reads old middle new : ℕ} (now now' before after more : ℕ) →
     RunsPay reads (now + before) old middle →
     (new < 2 ^ 64 - 1 → middle + more ≤ new) → now' + after ≤ now + before + more → RunsPay reads now' old new
-runs_pay_ends now now' before after more pays counts falls =
-    let on = runs_pay_on now now' before after after more pays counts falls (omega arith) in
-    record { rises = on.rises; paid = λ room. omega (arith, on.paid room) }
+runs_pay_ends now now' before after more pays counts falls = grind arith
 
 -- a further part of the work
 pub runs_pay_then : {now' old middle new : ℕ} (now reads n n' : ℕ) → RunsPay (reads + n) now old middle →
     RunsPay (now + 1) now' middle new → n + 1 ≤ n' → RunsPay (reads + n') now' old new
-runs_pay_then now reads n n' pays more on = record {
-  rises = λ room. let up = more.rises room in omega (arith, up, pays.rises (omega (arith, up, room)));
-  paid = λ room.
-      let up = more.rises room in
-      omega (arith, on, more.paid room, pays.paid (omega (arith, up, room)));
-}
+runs_pay_then now reads n n' pays more on = grind arith
 
 -- what was read in all, from a count of 0 on
 pub runs_pay_all : {now new : ℕ} (reads n most : ℕ) → RunsPay (reads + n) now 0 new → n ≤ most →

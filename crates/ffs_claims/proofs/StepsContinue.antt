@@ -1,36 +1,30 @@
 -- How offers, steps and inodes continue.
-use Rattle.std.proofs.Common.{◌≡◌, ℕ, zero, suc, ◌+◌, ◌-◌, ◌<◌, ◌≤◌, nat_lt, Bool, true, false, ◌==◌, List, [], ◌∷◌}
-use Rattle.std.proofs.Common.{◌++◌, arith, rules, refl, ap, ◌∙◌, sym, slice_set, replicate, ◌&&◌, not, if◌then◌else◌}
-use Rattle.std.proofs.{Common.subst, lemmas.Bool.and_parts, lemmas.Bool.Decides.nat_tests, lemmas.List.map-append}
-use Rattle.std.{proofs.lemmas.List.set-get_or, specs.Int.div_ceil, specs.List.range_with_len, specs.List.slice_index_or}
+use Rattle.std.proofs.Common.{◌≡◌, ℕ, zero, suc, ◌+◌, ◌-◌, ◌<◌, ◌≤◌, Bool, true, false, ◌==◌, List, [], ◌∷◌, ◌++◌}
+use Rattle.std.proofs.Common.{arith, rules, refl, ap, ◌∙◌, sym, replicate, ◌&&◌, not, if◌then◌else◌, inl, inr}
+use Rattle.std.proofs.lemmas.{Bool.cases_Bool, Bool.Decides.nat_tests, List.map-append}
+use Rattle.std.specs.{Int.div_ceil, List.range_with_len}
 use Rattle.ffs_volume.proofs.{Potentials.in_range_below, Sizes.no_blocks}
-use Rattle.ffs_volume.specs.Blocks.Claims.{Claims, is_open, is_set, after_offer, after_offers, after_step, after_steps}
+use Rattle.ffs_volume.specs.Blocks.Claims.{Claims, is_open, after_offer, after_offers, after_step, after_steps}
 use Rattle.ffs_volume.specs.Blocks.Claims.{offer_lines, lines_of_offers, step_lines, lines_of_steps, run_lines}
 use Rattle.ffs_volume.specs.Blocks.{Inodes.addresses_needed, Steps.steps_of, Steps.steps_of_addresses, Steps.is_walked}
-use Rattle.ffs_volume.specs.{Blocks.Steps.last_length_of, Disk.Areas.is_fragment_in_range, Disk.Areas.is_run_in_range}
-use Rattle.ffs_volume.specs.Messages.Kinds.{Message, of_blocks}
-use Rattle.ffs_volume.specs.declared.{BlockMessage.BlockMessage, Inode.Inode, Layout.Layout, Step.Step}
-use Rattle.ffs_volume.specs.declared.Step.TheVariants.{Run, Tail, Gap}
-use Rattle.ffs_report.proofs.{Reporting.of_says, Reporting.of_same, Reports.stopped_more, Reports.said_then}
-use Rattle.ffs_report.{proofs.Reports.stopped_after, specs.Known.ForBytes, specs.PhaseOutcome.SaidOf}
-use Rattle.ffs_report.specs.{PhaseOutcome.SaidTo, Progress.Progress, Progress.Said, Progress.Stopped}
+use Rattle.ffs_volume.specs.{Blocks.Steps.last_length_of, Disk.Areas.is_run_in_range, Messages.Kinds.Message}
+use Rattle.ffs_volume.specs.{Messages.Kinds.of_blocks, declared.BlockMessage.BlockMessage}
+use Rattle.ffs_volume.specs.declared.{Inode.Inode, Layout.Layout, Step.Step, Step.TheVariants.Gap}
+use Rattle.ffs_report.proofs.Reporting.{of_says, of_same}
+use Rattle.ffs_report.proofs.Reports.{stopped_more, said_then, stopped_after}
+use Rattle.ffs_report.specs.{Known.ForBytes, PhaseOutcome.SaidOf, Progress.Progress, Progress.Said, Progress.Stopped}
 use Rattle.ffs_walk.specs.{Rests.steps_left, declared.walk.Walk.Walk}
 use Rattle.ffs_claims.specs.Lines.{of_lines, has_dup_line, bad_lines}
 
 pub lines_append : (xs ys : List BlockMessage) → of_lines (xs ++ ys) ≡ of_lines xs ++ of_lines ys
 lines_append xs ys = map-append of_blocks xs ys
 
--- setting a bit that is set changes nothing
-pub set_again : (bits : List Bool) (f : ℕ) → slice_index_or bits f false ≡ true → slice_set bits f true ≡ bits
-set_again bits f e = ap (slice_set bits f) (sym e) ∙ set-get_or bits f false
-
 pub range_more : (j n m : ℕ) → n ≡ m + 1 → range_with_len j n ≡ j ∷ range_with_len (j + 1) m
 range_more j n m e = rw e (search rules)
 
 -- a dup offer is a fragment of the volume
 pub dup_below : (v : Layout) (s : Claims) (f : ℕ) → has_dup_line v s f ≡ true → f < v.size
-dup_below v s f e = in_range_below v f (and_parts (is_fragment_in_range v f) (is_set s.used f)
-    (and_parts (nat_lt s.dups 11) _ e).1).0
+dup_below v s f e = let below = in_range_below v f in grind arith
 
 -- an offer is kept at most once, and no Run is seen by it
 pub offer_kept : (v : Layout) (s s' : Claims) (f : ℕ) → s' ≡ after_offer v s f → s'.kept ≤ s.kept + 1
@@ -39,9 +33,7 @@ offer_kept v s s' f now = rw now (grind arith)
 -- a Run from its first fragment on, and from a later one
 pub from_start : (start len : ℕ) → range_with_len start len ≡ range_with_len (start + 0) (len - 0)
 from_start start len =
-    let a : start + 0 ≡ start = omega arith in
-    let b : len - 0 ≡ len = omega arith in
-    rw (a, b) refl
+    let same : start + 0 ≡ start = omega arith in let all : len - 0 ≡ len = omega arith in rw (same, all) refl
 
 pub range_next : (start len place f : ℕ) → place < len → f ≡ start + place →
     range_with_len (start + place) (len - place) ≡ f ∷ range_with_len (start + (place + 1)) (len - (place + 1))
@@ -67,9 +59,8 @@ offers_more v inode s s' start len place f h is_place now =
 pub cut_over : (v : Layout) (inode : ℕ) (s : Claims) (steps : List Step) → is_open s ≡ false →
     (after_steps v s steps ≡ s) × (lines_of_steps v inode s steps ≡ [])
 cut_over v inode s [] h = (refl, refl)
-cut_over v inode s (Run start len block ∷ steps) h = rw h (cut_over v inode s steps h)
-cut_over v inode s (Tail ∷ steps) h = rw h (cut_over v inode s steps h)
 cut_over v inode s (Gap ∷ steps) h = cut_over v inode s steps h
+cut_over v inode s (other ∷ steps) h = rw h (cut_over v inode s steps h)
 
 -- the lines of a Run that is bad: the first ones, and those of its offers
 abbrev bad_rest : Layout → ℕ → Claims → ℕ → ℕ → List BlockMessage
@@ -83,13 +74,11 @@ further v inode s start len h e = rw (h, e) refl
 pub run_stops : (v : Layout) (inode : ℕ) (s : Claims) (start len : ℕ) {a b : Progress} →
     is_run_in_range v start len ≡ false → Stopped a b (of_lines (bad_lines inode start (s.bad == 10))) →
     Stopped a b (of_lines (run_lines v inode s start len))
-run_stops v inode s start len {a = a} {b = b} h p = one (s.bad == 10) refl p
-  where
-    one : (z : Bool) → (s.bad == 10) ≡ z → Stopped a b (of_lines (bad_lines inode start z)) →
-        Stopped a b (of_lines (run_lines v inode s start len))
-    one true e q = rw (h, e) q
-    one false e q = rw (further v inode s start len h e)
-        (stopped_more a b _ (of_lines (bad_rest v inode s start len)) q)
+run_stops v inode s start len {a = a} {b = b} h p = elim (cases_Bool (s.bad == 10)) [
+  | inl e ↦ rw (h, e) (rw e at p)
+  | inr e ↦ rw (further v inode s start len h e)
+      (stopped_more a b _ (of_lines (bad_rest v inode s start len)) (rw e at p))
+]
 
 -- a Run that is bad, and isn't the eleventh one: its first lines were said, and its offers then
 module _ (v : Layout) (inode : ℕ) (s : Claims) (start len : ℕ) {a b c : Progress}
@@ -133,11 +122,6 @@ steps_said v inode s s' x y rest step said next now same out =
     (of_lines (step_lines v inode s step)) _ _ _ said (lines_on v inode s s' x y step next now) out)
     (λ bytes t. ap of_lines (same bytes t))
 
--- what is to come has changed its form
-pub to_same : {rest rest' all : List Message} {a b : Progress} → SaidTo rest all a b → rest ≡ rest' →
-    SaidTo rest' all a b
-to_same {rest' = rest'} {all = all} {a = a} {b = b} p e = subst (λ xs. SaidTo xs all a b) e p
-
 -- gaps in a row change nothing, and nothing is reported of them
 pub gaps_over : (v : Layout) (inode : ℕ) (s : Claims) (n : ℕ) (steps : List Step) →
     (after_steps v s (replicate n Gap ++ steps) ≡ after_steps v s steps)
@@ -146,14 +130,12 @@ gaps_over v inode s zero steps = (refl, refl)
 gaps_over v inode s (suc n) steps = gaps_over v inode s n steps
 
 -- an inode that no walk goes over has no steps, nor has an empty one
-none_to_walk : (walked : Bool) (size bsize : ℕ) → 0 < bsize → (walked && not (size == 0)) ≡ false
-    → (if walked then div_ceil size bsize else 0) ≡ 0
-none_to_walk true size bsize some h = no_blocks size bsize some (grind (arith, nat_tests))
-none_to_walk false size bsize some h = refl
-
 pub without_steps : (v : Layout) (i : Inode) (bytes : List ℕ) → 0 < v.bsize →
     (is_walked v i && not (i.size == 0)) ≡ false → steps_of v i bytes ≡ []
 unfolding steps_of
 without_steps v i bytes some h = ap (λ n. steps_of_addresses
     (record { layout = v; blocks = n; last_length = last_length_of v i }) bytes i.addresses 0
-    (addresses_needed v.nindir n)) (none_to_walk (is_walked v i) i.size v.bsize some h)
+    (addresses_needed v.nindir n)) (none (is_walked v i) h)
+  where
+    none : (walked : Bool) → (walked && not (i.size == 0)) ≡ false → (if walked then div_ceil i.size v.bsize else 0) ≡ 0
+    none walked h = let empty = no_blocks i.size v.bsize some in grind (arith, nat_tests)

@@ -1,6 +1,7 @@
 -- Runs whose offers are taken at once with nothing to report, and which Runs are in range.
 use Rattle.std.proofs.Common.{◌++◌, ◌≡◌, ℕ, zero, suc, ◌+◌, ◌-◌, ◌<◌, ◌≤◌, true, false, nat_lt, [], slice_set, get_or}
-use Rattle.std.proofs.Common.{arith, refl, ap, ◌∙◌, Bool, sym, not, ◌/◌}
+use Rattle.std.proofs.Common.{arith, refl, ap, ◌∙◌, Bool, sym, not, ◌/◌, inl, inr}
+use Rattle.std.proofs.lemmas.Bool.{cases_Bool}
 use Rattle.std.proofs.{Math.Nat.mul-div-le, lemmas.Bool.Decides.nat_tests, lemmas.List.get_or-set_other}
 use Rattle.std.{proofs.lemmas.List.set-get_or, specs.List.range_with_len, specs.List.slice_index_or}
 use Rattle.ffs_volume.proofs.{AreaLaws.group_is, Potentials.each_ok, Potentials.in_range_below}
@@ -72,11 +73,10 @@ run_below v start len some fits = let last =
 pub was_set : {old new : FragmentMap} {f : ℕ} {b : Bool} → ClaimsRun old new f 1 b → is_set (bits_of old) f ≡ not b
 was_set {old = old} {f = f} {b = true} c = ap (λ n. slice_index_or (bits_of old) n false) (omega arith)
     ∙ c.clear refl 0 (omega arith)
-was_set {old = old} {f = f} {b = false} c = taken (is_set (bits_of old) f) refl
-  where
-    taken : (u : Bool) → is_set (bits_of old) f ≡ u → u ≡ true
-    taken true e = refl
-    taken false e = c.one_word (omega arith) (λ k low. ap (λ n. slice_index_or (bits_of old) n false) (omega arith) ∙ e)
+was_set {old = old} {f = f} {b = false} c = elim (cases_Bool (is_set (bits_of old) f)) [
+  | inl e ↦ e
+  | inr e ↦ e ∙ c.one_word (omega arith) (λ k low. ap (λ n. slice_index_or (bits_of old) n false) (omega arith) ∙ e)
+]
 
 -- its bit is set then, claimed now or before
 pub is_set_now : {old new : FragmentMap} {f : ℕ} {b : Bool} → ClaimsRun old new f 1 b →
@@ -92,11 +92,8 @@ pub before_metadata : (v : Layout) (c start len : ℕ) → IsAcceptedLayout v �
 before_metadata v c start len g h low high some =
     let group = g.groups c h in
     let end : cgsblock v c ≤ cgdmin v c = omega (arith, g.parts.super_fits, g.parts.block_fits, g.parts.inodes_fit) in
-    let within : cgdmin v c ≤ cgbase v (c + 1) = group.within_group in
-    let inside : cgdmin v c ≤ v.size = group.within_size in
     let same : start / v.fpg ≡ c = group_is v c start low (omega arith) in
-    let apart : is_apart v start len ≡ true = rw same (grind (arith, nat_tests)) in
-    in_range_is v g start len some ∙ apart
+    in_range_is v g start len some ∙ rw same (grind (arith, nat_tests))
 
 -- a Run after the metadata of a group
 pub after_metadata : (v : Layout) (c start len : ℕ) → IsAcceptedLayout v → c < v.ncg → cgdmin v c ≤ start →
@@ -105,8 +102,7 @@ unfolding cgstart
 after_metadata v c start len g h low high inside some =
     let base : cgbase v c ≤ start = omega arith in
     let same : start / v.fpg ≡ c = group_is v c start base (omega arith) in
-    let apart : is_apart v start len ≡ true = rw same (grind (arith, nat_tests)) in
-    in_range_is v g start len some ∙ apart
+    in_range_is v g start len some ∙ rw same (grind (arith, nat_tests))
 
 -- the next group begins as many fragments on as a group has
 pub base_above : (v : Layout) (c : ℕ) → cgbase v (c + 1) ≡ cgbase v c + v.fpg
@@ -128,10 +124,6 @@ pub lies : (v : Layout) (start len : ℕ) → IsAcceptedLayout v → 0 < len →
     → Lies v start len
 lies v start len g some fits =
     let apart : is_apart v start len ≡ true = sym (in_range_is v g start len some) ∙ fits in
-    let within : start + len ≤ cgbase v (start / v.fpg + 1) = grind (arith, nat_tests) in
-    record {
-      base = base_below v start;
-      volume = grind (arith, nat_tests);
-      group = omega (arith, within, base_above v (start / v.fpg));
-      before = λ low. grind (arith, nat_tests);
-    }
+    let base = base_below v start in
+    let next = base_above v (start / v.fpg) in
+    grind (arith, nat_tests)

@@ -1,17 +1,16 @@
 -- What the words of an indirect block claim with nothing to report, one after the other.
-use Rattle.std.proofs.Common.{◌≡◌, ◌≢◌, ℕ, ◌+◌, ◌<◌, ◌≤◌, true, false, nat_eq, nat_lt, List, [], ◌∷◌, arith, refl, sym}
-use Rattle.std.proofs.{Common.◌∙◌, Common.Option, lemmas.Bool.and_parts, lemmas.Bool.Decides.nat_tests}
+use Rattle.std.proofs.Common.{◌≡◌, ◌≢◌, ℕ, ◌+◌, ◌<◌, ◌≤◌, true, false, nat_eq, nat_lt, List, ◌∷◌, arith, refl, sym, ◌∙◌}
+use Rattle.std.proofs.{Common.Option, lemmas.Bool.and_parts, lemmas.Bool.Decides.nat_tests}
 use Rattle.ffs_volume.proofs.Potentials.{cond_holds, moves_then, stays}
-use Rattle.ffs_volume.specs.Blocks.Claims.{Claims, after_step, after_steps, is_open, lines_of_steps, step_lines}
-use Rattle.ffs_volume.specs.{Disk.Areas.is_run_in_range, Laws.RunLengths.HasLength}
-use Rattle.ffs_volume.specs.declared.{Layout.Layout, Step.Step}
+use Rattle.ffs_volume.specs.Blocks.Claims.{after_step, is_open}
+use Rattle.ffs_volume.specs.{Disk.Areas.is_run_in_range, Laws.RunLengths.HasLength, declared.Layout.Layout}
 use Rattle.ffs_image.specs.Device.{ForContents}
 use Rattle.ffs_maps.specs.Bits.{bits_of, AreClear, set_run}
-use Rattle.ffs_walk.{proofs.Counted.enters_none, specs.Counts.EntersOnly}
+use Rattle.ffs_walk.{specs.Counts.EntersOnly}
 use Rattle.ffs_walk.specs.{HeldWords.PassesWord, HeldWords.next_address, HeldWords.word_step, Rests.SameFileBlocks}
 use Rattle.ffs_walk.specs.{Rests.most_steps_left, Rests.steps_left, Windows.BlocksHold, declared.walk.Walk.Walk}
 use Rattle.ffs_workspace.specs.{Holds.claims_of, Lengths.IsFor, declared.workspace.Workspace.Workspace}
-use Rattle.ffs_claims.proofs.{Frames.only_none, Frames.only_then, Inodes.moves_on, UnclaimedRuns.whole_is}
+use Rattle.ffs_claims.proofs.{Frames.only_then, Inodes.moves_on, UnclaimedRuns.whole_is}
 use Rattle.ffs_claims.specs.{Leaves.ClaimsOnly, SilentWords.ClaimsSilently, SilentWords.ClaimsWords}
 
 -- a Run in range of which all fragments are unclaimed
@@ -34,16 +33,6 @@ word_length : (v : Layout) (address block : ℕ) → 0 < v.frag → HasLength v.
 word_length v address block some =
     cond_holds (HasLength v.frag) (nat_eq address 0) _ _ (λ _. tt) (λ _. (some, omega arith))
 
--- what is left after a step means the same claims and lines
-claims_same : (v : Layout) (s s' : Claims) (step : Step) (R R' : List Step) → R ≡ step ∷ R' →
-    s' ≡ after_step v s step → after_steps v s' R' ≡ after_steps v s R
-claims_same v s s' step R R' e now = rw (e, now) refl
-
-lines_same : (v : Layout) (number : ℕ) (s s' : Claims) (step : Step) (R R' : List Step) → R ≡ step ∷ R' →
-    s' ≡ after_step v s step → step_lines v number s step ≡ [] →
-    lines_of_steps v number s' R' ≡ lines_of_steps v number s R
-lines_same v number s s' step R R' e now none = rw (e, now, none) refl
-
 -- one word
 pub words_once : {v : Layout} {a b : Workspace} {x y : Walk} {address : ℕ} → 0 < v.frag → v.frag ≤ 8 → IsFor v a →
     x.geometry.layout ≡ v → address ≡ next_address a.windows.blocks x → PassesWord a.windows.blocks x y →
@@ -60,12 +49,9 @@ words_once {v = v} {a = a} {b = b} {x = x} {y = y} {address = address} some smal
     ForContents contents (λ bytes. steps_left bytes x ≡ step ∷ steps_left bytes y) = λ contents holds bytes e.
     rw (is, sym layout) (passes.steps contents (rw layout holds) bytes e) in
     record {
-      claims = λ contents holds bytes e.
-          claims_same v (claims_of a) (claims_of b) step (steps_left bytes x) (steps_left bytes y)
-          (next contents holds bytes e) now;
+      claims = λ contents holds bytes e. rw (next contents holds bytes e, now) refl;
       lines = λ contents holds bytes e number.
-          lines_same v number (claims_of a) (claims_of b) step (steps_left bytes x) (steps_left bytes y)
-          (next contents holds bytes e) now ((claims block).silent number);
+          rw (next contents holds bytes e, now, (claims block).silent number) refl;
       uncut = uncut;
       moves = moves_on step made small (word_length v address block some) now (stays (claims_of a));
       only = only;
@@ -75,21 +61,7 @@ words_once {v = v} {a = a} {b = b} {x = x} {y = y} {address = address} some smal
       counted = counted;
     }
 
--- no word is passed over, and some after others
-pub words_none : {v : Layout} {w : Workspace} {walk : Walk} → IsFor v w → is_open (claims_of w) ≡ true →
-    ClaimsWords v w w walk walk
-words_none {w = w} {walk = walk} made uncut = record {
-  claims = λ contents holds bytes e. refl;
-  lines = λ contents holds bytes e number. refl;
-  uncut = uncut;
-  moves = stays (claims_of w);
-  only = only_none made;
-  falls = omega arith;
-  same = record { geometry = refl; blocks = refl };
-  rises = omega arith;
-  counted = enters_none walk walk 0 refl refl refl;
-}
-
+-- some words after others
 pub words_then : {v : Layout} {a b c : Workspace} {x y z : Walk} → ClaimsWords v a b x y → ClaimsWords v b c y z →
     ClaimsWords v a c x z
 words_then {a = a} {b = b} {c = c} p q =

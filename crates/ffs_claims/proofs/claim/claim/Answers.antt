@@ -1,15 +1,14 @@
 use Rattle.std.proofs.Common.{ℕ, arith, refl, ◌≡◌, ◌<◌, ◌∙◌, ap, sym, List, ◌++◌, ◌∷◌, false, replicate, []}
 use Rattle.std.proofs.lemmas.Result.{err_from_is_err_and}
-use Rattle.ffs_volume.proofs.Potentials.{stays, moves_then}
-use Rattle.ffs_volume.specs.Blocks.Claims.{after_steps, after_step, lines_of_steps, step_lines, is_open}
+use Rattle.ffs_volume.proofs.Potentials.{moves_then}
+use Rattle.ffs_volume.specs.Blocks.Claims.{after_steps, after_step, lines_of_steps, is_open}
 use Rattle.ffs_volume.specs.{Blocks.Steps.steps_of, declared.Step.TheVariants.Gap}
-use Rattle.ffs_report.proofs.Reporting.{of_begins, of_stops, of_reads, of_same}
+use Rattle.ffs_report.proofs.Reporting.{of_begins, of_stops, of_reads, of_same, says_none}
 use Rattle.ffs_report.specs.Known.{ForBytes, IsContents}
 use Rattle.ffs_walk.{proofs.Counted.top_held, proofs.Counted.top_unread, specs.Rests.steps_left}
-use Rattle.ffs_workspace.specs.{Holds.claims_of, Ready.IsReady}
-use Rattle.ffs_claims.proofs.Frames.{can_walk, found_none, found_still, found_then, ready_still, ready_read}
-use Rattle.ffs_claims.proofs.Frames.{ready_walked}
-use Rattle.ffs_claims.proofs.Inodes.{sees_next, moves_on, seen_bound, used_below}
+use Rattle.ffs_workspace.specs.Holds.{claims_of}
+use Rattle.ffs_claims.proofs.Frames.{can_walk, ready_still, ready_read, only_then}
+use Rattle.ffs_claims.proofs.Inodes.{sees_next, moves_on, seen_bound, claiming_none, claiming_walked, claiming_on}
 use Rattle.ffs_claims.proofs.StepsContinue.{cut_over, gaps_over, claims_on, lines_on, steps_said, without_steps}
 use Rattle.ffs_claims.proofs.claim.claim.Goals.{in-Gap, in_default-matches}
 use Rattle.ffs_claims.specs.Lines.{of_lines}
@@ -24,17 +23,9 @@ returns-then-not-has_steps-clause-claiming g c =
     (λ bytes. steps_of v c.args.inode.now bytes ≡ []) = λ bytes t. without_steps v c.args.inode.now bytes some
     (sym (c.has_steps.ensures c.requires.class) ∙ c.if-not-has_steps.true) in
     record {
-      text = of_same _ _ _ _ _ _
-          (of_begins _ (λ bytes. of_lines (lines_of_steps v c.args.number s (steps_of v c.args.inode.now bytes))) _)
-          (λ bytes t. ap (λ xs. of_lines (lines_of_steps v c.args.number s xs)) (none bytes t));
+      text = says_none (λ bytes t. ap (λ xs. of_lines (lines_of_steps v c.args.number s xs)) (none bytes t));
       claims = λ bytes t. sym (ap (after_steps v s) (none bytes t));
-      left = record {
-        image = refl;
-        moves = stays s;
-        bound = omega (arith, used_below c.requires.ready.ready.made);
-        claim = c.requires.ready;
-        found = found_none c.args.workspace.now;
-      };
+      left = claiming_none c.requires.ready;
     }
 
 pub loop-next-init : goal.loop-next-init
@@ -43,52 +34,38 @@ loop-next-init g c =
     let s = claims_of c.args.workspace.now in
     let walk = rw c.requires.walk at c.restart.ensures.walk c.requires.class in
     record {
-      ready = c.requires.ready.ready;
-      area = c.requires.ready.only_data;
+      left = claiming_none c.requires.ready;
       open_still = rw (c.requires.begun.bad, c.requires.begun.dups) refl;
       geometry = c.restart.ensures.geometry ∙ c.requires.walk;
-      device = refl;
-      found = found_none c.args.workspace.now;
       held = top_held c.restart.new.self c.restart.ensures.top _;
       counted = omega (arith, top_unread c.restart.new.self c.restart.ensures.top);
-      moves = stays s;
       claims = λ bytes t. ap (after_steps v s) (walk.steps bytes);
-      said = of_same _ _ _ _ _ _
-          (of_begins _ (λ bytes. of_lines (lines_of_steps v c.args.number s (steps_of v c.args.inode.now bytes))) _)
+      said = of_same _ _ _ _ _ _ (of_begins _ _ _)
           (λ bytes t. ap (λ xs. of_lines (lines_of_steps v c.args.number s xs)) (sym (walk.steps bytes)));
     }
 
 pub next-requires : goal.next-requires
-next-requires g c = can_walk c.loop-next.invariant.geometry c.loop-next.invariant.ready
+next-requires g c = can_walk c.loop-next.invariant.geometry c.loop-next.invariant.left.claim.ready
 
 pub returns-in_err-next-clause-claiming : goal.returns-in_err-next-clause-claiming
 returns-in_err-next-clause-claiming g c =
     let p = err_from_is_err_and c.from_residual.result c.from_residual.ensures.1 in
     let inv = c.loop-next.invariant in
     let err = c.in_err-next.ensures.leaves.read in
+    let ready = ready_read {d' = g.I.Image.device c.next.new.image} err.contents err.size inv.geometry
+    c.next.ensures.leaves.kept inv.left.claim.ready in
     rw (p.1, p.2) (record {
       text = of_reads _ _ _ _ _ inv.said;
       claims = tt;
-      left = record {
-        image = rw inv.device at err;
-        moves = tt;
-        bound = omega (arith, seen_bound c.args.workspace.now inv.ready.made inv.open_still inv.moves);
-        claim = record {
-          ready = ready_read err.contents err.size inv.geometry c.next.ensures.leaves.kept inv.ready;
-          only_data = inv.area;
-        };
-        found = found_still inv.found;
-      };
+      left = grind arith;
     })
 
-pub step-requires : goal.step-requires
-step-requires g c =
+pub step-requires-clause-next : goal.step-requires-clause-next
+step-requires-clause-next g c =
     let inv = c.loop-next.invariant in
-    let read = ready_walked c.in_ok-next.ensures.leaves.read inv.geometry c.next.ensures.leaves.kept inv.ready in
-    record {
-      length = (rw (inv.geometry, c.in-Some.is) at c.in_ok-next.ensures.step.fits).length;
-      next = sees_next c.args.geometry.now.sound c.requires.begun read.made inv.area inv.open_still inv.moves;
-    }
+    let read = claiming_walked c.in_ok-next.ensures.leaves.read inv.geometry c.next.ensures.leaves.kept inv.left in
+    sees_next c.args.geometry.now.sound c.requires.begun read.claim.ready.made read.claim.only_data inv.open_still
+    read.moves
 
 pub returns-in_err-seen-clause-claiming : goal.returns-in_err-seen-clause-claiming
 returns-in_err-seen-clause-claiming g c =
@@ -96,66 +73,42 @@ returns-in_err-seen-clause-claiming g c =
     let inv = c.loop-next.invariant in
     let v = c.args.geometry.now.layout in
     let s = claims_of c.loop-next.workspace in
-    let ok = c.in_ok-next.ensures.leaves.read in
-    let next = rw (inv.device, c.in-Some.is) at c.in_ok-next.ensures.step.steps in
-    let left = c.step.ensures.claiming.left in
-    let few = seen_bound c.args.workspace.now inv.ready.made inv.open_still inv.moves in
+    let read = claiming_walked c.in_ok-next.ensures.leaves.read inv.geometry c.next.ensures.leaves.kept inv.left in
+    let next = rw (inv.left.image, c.in-Some.is) at c.in_ok-next.ensures.step.steps in
+    let few = seen_bound c.args.workspace.now read.claim.ready.made inv.open_still read.moves in
     rw (p.1, p.2) (record {
-      text = of_stops _ _ _ _ (of_lines (step_lines v c.args.number s c.in-Some.next)) _ _ _ inv.said
-          (lines_on v c.args.number s (after_step v s c.in-Some.next) c.loop-next.walk c.next.new.self c.in-Some.next
-          next refl) c.in_err-seen.ensures.claiming.said;
+      text = of_stops _ _ _ _ _ _ _ _ inv.said (lines_on v c.args.number s (after_step v s c.in-Some.next)
+          c.loop-next.walk c.next.new.self c.in-Some.next next refl) c.in_err-seen.ensures.claiming.said;
       claims = tt;
-      left = record {
-        image = ok ∙ inv.device;
-        moves = tt;
-        bound = omega (arith, c.step.ensures.runs);
-        claim = record {
-          ready = ready_still left.only.made left.only.windows
-              (ready_walked ok inv.geometry c.next.ensures.leaves.kept inv.ready);
-          only_data = left.only_data;
-        };
-        found = found_then (found_still inv.found) left.only.found;
-      };
+      left = claiming_on read.image c.step.ensures.claiming.left (omega (arith, c.step.ensures.runs)) tt read;
     })
-
--- a gap is passed over: nothing is claimed and nothing is reported
-pub skip_gaps-requires : goal.skip_gaps-requires
-skip_gaps-requires g c =
-    let inv = c.loop-next.invariant in
-    let read = ready_walked c.in_ok-next.ensures.leaves.read inv.geometry c.next.ensures.leaves.kept inv.ready in
-    record { room = (can_walk (c.in_ok-next.ensures.same.geometry ∙ inv.geometry) read).room }
 
 pub loop-next-preserved-then-matches : goal.loop-next-preserved-then-matches
 loop-next-preserved-then-matches g c =
     let inv = c.loop-next.invariant in
     let v = c.args.geometry.now.layout in
     let s = claims_of c.loop-next.workspace in
-    let ok = c.in_ok-next.ensures.leaves.read in
+    let read = claiming_walked c.in_ok-next.ensures.leaves.read inv.geometry c.next.ensures.leaves.kept inv.left in
     let same = c.in_ok-next.ensures.same.geometry ∙ inv.geometry in
     let reads = c.in_ok-next.ensures.counted inv.held in
     let is_gap : c.in-Some.next ≡ Gap = elim c.match-matches.branch [
       | in-Gap w ↦ w.in-Gap.is
       | in_default-matches w ↦ cc
     ] in
-    let ready = ready_walked ok inv.geometry c.next.ensures.leaves.kept inv.ready in
     let rest = λ (bytes : List ℕ). steps_left bytes c.skip_gaps.new.self in
     let gaps : ForBytes (IsContents (g.I.Image.device c.args.image.now).contents)
     (λ bytes. steps_left bytes c.loop-next.walk ≡ Gap ∷ replicate c.skip_gaps.result Gap ++ rest bytes) =
-    λ bytes t. (rw (inv.device, c.in-Some.is, is_gap) at c.in_ok-next.ensures.step.steps) bytes t
+    λ bytes t. (rw (inv.left.image, c.in-Some.is, is_gap) at c.in_ok-next.ensures.step.steps) bytes t
     ∙ ap (λ xs. Gap ∷ xs) (c.skip_gaps.ensures.steps (g.I.Image.device c.next.new.image).contents
-    (rw same ready.windows.blocks) bytes (ap (λ d. d.contents) (ok ∙ inv.device) ∙ t)) in
+    (rw same read.claim.ready.windows.blocks) bytes (ap (λ d. d.contents) read.image ∙ t)) in
     record {
-      ready = ready;
-      area = inv.area;
+      left = read;
       open_still = inv.open_still;
       geometry = c.skip_gaps.ensures.same.geometry ∙ same;
-      device = ok ∙ inv.device;
-      found = found_still inv.found;
       held = c.skip_gaps.ensures.counted.held _ reads.held;
       counted =
           let paid = rw (c.in-Some.is, is_gap) at reads.paid in
           omega (arith, paid, inv.counted, c.skip_gaps.ensures.counted.unread);
-      moves = inv.moves;
       claims = λ bytes t. sym (ap (after_steps v s) (gaps bytes t)
           ∙ (gaps_over v c.args.number s c.skip_gaps.result (rest bytes)).0)
           ∙ inv.claims bytes t;
@@ -171,46 +124,40 @@ claim_words-requires-clause-next g c =
     let left = c.step.ensures.claiming.left in
     let now = c.in_ok-seen.ensures.claiming.claims in
     sees_next sound c.requires.begun left.only.made left.only_data (sym now.uncut ∙ c.if-not-seen.false)
-    (moves_on c.in-Some.next inv.ready.made sound.sizes.frag_high
-    (rw (inv.geometry, c.in-Some.is) at c.in_ok-next.ensures.step.fits).length now.claims_are inv.moves)
+    (moves_on c.in-Some.next inv.left.claim.ready.made sound.sizes.frag_high
+    (rw (inv.geometry, c.in-Some.is) at c.in_ok-next.ensures.step.fits).length now.claims_are inv.left.moves)
 
 pub loop-next-preserved : goal.loop-next-preserved
 loop-next-preserved g c =
     let inv = c.loop-next.invariant in
+    let n = c.args.number in
     let v = c.args.geometry.now.layout in
     let s = claims_of c.loop-next.workspace in
-    let ok = c.in_ok-next.ensures.leaves.read in
-    let next = rw (inv.device, c.in-Some.is) at c.in_ok-next.ensures.step.steps in
+    let read = claiming_walked c.in_ok-next.ensures.leaves.read inv.geometry c.next.ensures.leaves.kept inv.left in
+    let next = rw (inv.left.image, c.in-Some.is) at c.in_ok-next.ensures.step.steps in
     let words = c.claim_words.ensures in
     let reads = c.in_ok-next.ensures.counted inv.held in
     let paid = rw c.in-Some.is at reads.paid in
     let left = c.step.ensures.claiming.left in
     let now = c.in_ok-seen.ensures.claiming.claims.claims_are in
-    let claimed : IsReady v (g.I.Image.device c.next.new.image) c.step.new.workspace = ready_still left.only.made
-    left.only.windows (ready_walked ok inv.geometry c.next.ensures.leaves.kept inv.ready) in
+    let claimed = ready_still left.only.made left.only.windows read.claim.ready in
+    let moves = moves_then _ (claims_of c.step.new.workspace) _
+    (moves_on c.in-Some.next inv.left.claim.ready.made c.args.geometry.now.sound.sizes.frag_high
+    (rw (inv.geometry, c.in-Some.is) at c.in_ok-next.ensures.step.fits).length now inv.left.moves) words.moves in
     let image = (g.I.Image.device c.next.new.image).contents in
-    let gives = ap (λ d. d.contents) (ok ∙ inv.device) in
-    let before = claims_on v s c.loop-next.walk c.next.new.self
-    (λ bytes. after_steps v (claims_of c.step.new.workspace) (steps_left bytes c.next.new.self)) c.in-Some.next next now
-    inv.claims (λ bytes t. refl) in
+    let gives = ap (λ d. d.contents) read.image in
     record {
-      ready = ready_still words.only.made words.only.windows claimed;
-      area = left.only_data;
+      left = claiming_on read.image (record { only = only_then left.only words.only; only_data = left.only_data })
+          (omega (arith, seen_bound c.args.workspace.now words.only.made words.uncut moves)) moves read;
       open_still = words.uncut;
       geometry = words.same.geometry ∙ c.in_ok-next.ensures.same.geometry ∙ inv.geometry;
-      device = ok ∙ inv.device;
-      found = found_then (found_then (found_still inv.found) left.only.found) words.only.found;
       held = words.counted.held _ (rw (words.only.windows, left.only.windows) reads.held);
       counted = omega (arith, paid, inv.counted, c.step.ensures.counted, words.rises, words.counted.unread);
-      moves = moves_then (claims_of c.args.workspace.now) (claims_of c.step.new.workspace) _
-          (moves_on c.in-Some.next inv.ready.made c.args.geometry.now.sound.sizes.frag_high
-          (rw (inv.geometry, c.in-Some.is) at c.in_ok-next.ensures.step.fits).length now inv.moves) words.moves;
-      claims = λ bytes t. words.claims image claimed.windows.blocks bytes (gives ∙ t) ∙ before bytes t;
-      said = of_same _ _ _ _ _ _
-          (steps_said v c.args.number s (claims_of c.step.new.workspace) c.loop-next.walk c.next.new.self
-          (λ bytes. lines_of_steps v c.args.number (claims_of c.step.new.workspace) (steps_left bytes c.next.new.self))
-          c.in-Some.next inv.said next now (λ bytes t. refl) c.in_ok-seen.ensures.claiming.said)
-          (λ bytes t. ap of_lines (sym (words.lines image claimed.windows.blocks bytes (gives ∙ t) c.args.number)));
+      claims = claims_on v s c.loop-next.walk c.next.new.self _ c.in-Some.next next now inv.claims
+          (λ bytes t. sym (words.claims image claimed.windows.blocks bytes (gives ∙ t)));
+      said = steps_said v n s (claims_of c.step.new.workspace) c.loop-next.walk c.next.new.self _ c.in-Some.next inv.said
+          next now (λ bytes t. sym (words.lines image claimed.windows.blocks bytes (gives ∙ t) n))
+          c.in_ok-seen.ensures.claiming.said;
     }
 
 pub returns-then-not-seen-clause-claiming : goal.returns-then-not-seen-clause-claiming
@@ -219,30 +166,20 @@ returns-then-not-seen-clause-claiming g c =
     let v = c.args.geometry.now.layout in
     let s = claims_of c.loop-next.workspace in
     let s' = claims_of c.step.new.workspace in
-    let ok = c.in_ok-next.ensures.leaves.read in
-    let left = c.step.ensures.claiming.left in
+    let read = claiming_walked c.in_ok-next.ensures.leaves.read inv.geometry c.next.ensures.leaves.kept inv.left in
     let now = c.in_ok-seen.ensures.claiming.claims in
-    let few = seen_bound c.args.workspace.now inv.ready.made inv.open_still inv.moves in
+    let few = seen_bound c.args.workspace.now read.claim.ready.made inv.open_still read.moves in
     let cut : is_open s' ≡ false = sym now.uncut ∙ c.if-not-seen.true in
-    let next = rw (inv.device, c.in-Some.is) at c.in_ok-next.ensures.step.steps in
+    let next = rw (inv.left.image, c.in-Some.is) at c.in_ok-next.ensures.step.steps in
     record {
       text = steps_said v c.args.number s s' c.loop-next.walk c.next.new.self (λ bytes. []) c.in-Some.next inv.said next
           now.claims_are (λ bytes t. (cut_over v c.args.number s' (steps_left bytes c.next.new.self) cut).1)
           c.in_ok-seen.ensures.claiming.said;
       claims = claims_on v s c.loop-next.walk c.next.new.self (λ bytes. s') c.in-Some.next next now.claims_are
           inv.claims (λ bytes t. (cut_over v c.args.number s' (steps_left bytes c.next.new.self) cut).0);
-      left = record {
-        image = ok ∙ inv.device;
-        moves = moves_on c.in-Some.next inv.ready.made c.args.geometry.now.sound.sizes.frag_high
-            (rw (inv.geometry, c.in-Some.is) at c.in_ok-next.ensures.step.fits).length now.claims_are inv.moves;
-        bound = omega (arith, c.step.ensures.runs);
-        claim = record {
-          ready = ready_still left.only.made left.only.windows
-              (ready_walked ok inv.geometry c.next.ensures.leaves.kept inv.ready);
-          only_data = left.only_data;
-        };
-        found = found_then (found_still inv.found) left.only.found;
-      };
+      left = claiming_on read.image c.step.ensures.claiming.left (omega (arith, c.step.ensures.runs))
+          (moves_on c.in-Some.next inv.left.claim.ready.made c.args.geometry.now.sound.sizes.frag_high
+          (rw (inv.geometry, c.in-Some.is) at c.in_ok-next.ensures.step.fits).length now.claims_are inv.left.moves) read;
     }
 
 pub returns-in_default-clause-claiming : goal.returns-in_default-clause-claiming
@@ -250,20 +187,10 @@ returns-in_default-clause-claiming g c =
     let inv = c.loop-next.invariant in
     let v = c.args.geometry.now.layout in
     let s = claims_of c.loop-next.workspace in
-    let ok = c.in_ok-next.ensures.leaves.read in
-    let over = rw (inv.device, c.in_default.is) at c.in_ok-next.ensures.step.steps in
+    let over = rw (inv.left.image, c.in_default.is) at c.in_ok-next.ensures.step.steps in
     record {
       text = of_same _ _ _ _ _ _ inv.said
           (λ bytes t. ap (λ xs. of_lines (lines_of_steps v c.args.number s xs)) (over bytes t));
       claims = λ bytes t. sym (ap (after_steps v s) (over bytes t)) ∙ inv.claims bytes t;
-      left = record {
-        image = ok ∙ inv.device;
-        moves = inv.moves;
-        bound = omega (arith, seen_bound c.args.workspace.now inv.ready.made inv.open_still inv.moves);
-        claim = record {
-          ready = ready_walked ok inv.geometry c.next.ensures.leaves.kept inv.ready;
-          only_data = inv.area;
-        };
-        found = found_still inv.found;
-      };
+      left = claiming_walked c.in_ok-next.ensures.leaves.read inv.geometry c.next.ensures.leaves.kept inv.left;
     }

@@ -1,25 +1,21 @@
 use Rattle.std.proofs.Common.{◌≡◌, ◌+◌, ◌≤◌, true}
-use Rattle.ffs_volume.specs.Blocks.Claims.{after_steps, lines_of_steps, is_open}
-use Rattle.ffs_volume.specs.{Blocks.Steps.steps_of, Laws.ClaimBounds.ClaimBound}
+use Rattle.ffs_volume.specs.Blocks.{Claims.after_steps, Claims.lines_of_steps, Claims.is_open, Steps.steps_of}
 use Rattle.ffs_report.specs.{Known.ForBytes, Known.IsContents, PhaseOutcome.SaidOf, Progress.progress}
 use Rattle.ffs_walk.specs.{Counts.AreHeld, Counts.unread, Rests.steps_left, Rests.most_steps_left}
-use Rattle.ffs_workspace.specs.{Holds.claims_of, Ready.IsReady}
-use Rattle.ffs_claims.specs.{Area.IsDataArea, Leaves.SameFound, Lines.of_lines}
+use Rattle.ffs_workspace.specs.Holds.{claims_of}
+use Rattle.ffs_claims.{proofs.Inodes.Claiming, specs.Lines.of_lines}
 use Rattle.ffs_claims.proofs.claim.claim.Given as goal
 
 abbrev pub invariant-loop-next : goal.invariant-loop-next
 invariant-loop-next g l = let v = l.geometry.layout in
     let knows = IsContents (g.I.Image.device l.initial.image).contents in record {
-      ready : IsReady v (g.I.Image.device l.image) l.workspace;
-      area : IsDataArea v l.area;
+      left : Claiming v (g.I.Image.device l.initial.image) (g.I.Image.device l.image) l.initial.workspace l.workspace
+          l.area;
       open_still : is_open (claims_of l.workspace) ≡ true;
       geometry : l.walk.geometry ≡ l.geometry;
-      device : g.I.Image.device l.image ≡ g.I.Image.device l.initial.image;
-      found : SameFound l.initial.workspace l.workspace;
       held : AreHeld l.workspace.windows.blocks l.walk;
       counted : g.I.Image.reads l.image + unread l.walk + l.initial.workspace.runs_seen
           ≤ g.I.Image.reads l.initial.image + l.workspace.runs_seen;
-      moves : ClaimBound (claims_of l.initial.workspace) (claims_of l.workspace);
       claims : ForBytes knows (λ bytes. after_steps v (claims_of l.workspace) (steps_left bytes l.walk)
           ≡ after_steps v (claims_of l.initial.workspace) (steps_of v l.inode bytes));
       said : SaidOf knows

@@ -1,8 +1,7 @@
-use Rattle.std.proofs.Common.{◌≡◌, arith, ap, ◌∙◌, refl, subst}
-use Rattle.std.proofs.lemmas.Result.{err_from_is_err_and}
+use Rattle.std.proofs.{Common.◌≡◌, Common.arith, Common.ap, Common.◌∙◌, Common.subst, lemmas.Result.err_from_is_err_and}
 use Rattle.ffs_volume.specs.Blocks.{BlockCheck.owner_lines, Claims.after_owner, Inodes.class_of, Owners.owner_of}
 use Rattle.ffs_volume.specs.declared.Inode.{Inode}
-use Rattle.ffs_report.proofs.Reporting.{of_begins, of_reads, reports_same, reports_knowing}
+use Rattle.ffs_report.proofs.Reporting.{reads_first, reports_same, reports_knowing}
 use Rattle.ffs_report.specs.Known.{ForBytes, IsContents}
 use Rattle.ffs_workspace.{proofs.Readiness.ready_table, specs.Holds.claims_of}
 use Rattle.ffs_claims.proofs.Inodes.{owner_is, ok_where, used_below}
@@ -10,22 +9,13 @@ use Rattle.ffs_claims.specs.{Leaves.Stored, Lines.of_lines, Lines.owner_with}
 use Rattle.ffs_volume.proofs.Results.{on_ok as ok_then}
 use Rattle.ffs_claims.proofs.claim.claim_inode.Goals as goal
 
-pub claim_read_inode-requires : goal.claim_read_inode-requires
-claim_read_inode-requires g c =
+pub claim_read_inode-requires-clause-ready : goal.claim_read_inode-requires-clause-ready
+claim_read_inode-requires-clause-ready g c =
     let ok = c.in_ok-inode.ensures.reads.read in
-    record {
-      ready = record {
-        number_fits = c.requires.ready.number_fits;
-        runs = c.requires.ready.runs;
-        claim = record {
-          ready = ready_table c.args.geometry.now.layout (g.I.Image.device c.args.image.now) _ c.args.workspace.now
-              c.inode.new.self (ap (λ d. d.contents) ok) (ap (λ d. d.size) ok) c.inode.ensures.reads.kept
-              c.requires.ready.claim.ready;
-          only_data = c.requires.ready.claim.only_data;
-        };
-      };
-      walk = c.requires.walk;
-    }
+    let ready = ready_table c.args.geometry.now.layout (g.I.Image.device c.args.image.now)
+    (g.I.Image.device c.inode.new.image) c.args.workspace.now c.inode.new.self (ap (λ d. d.contents) ok)
+    (ap (λ d. d.size) ok) c.inode.ensures.reads.kept c.requires.ready.claim.ready in
+    grind arith
 
 pub returns-in_err-inode-clause-claiming : goal.returns-in_err-inode-clause-claiming
 returns-in_err-inode-clause-claiming g c =
@@ -33,21 +23,13 @@ returns-in_err-inode-clause-claiming g c =
     let v = c.args.geometry.now.layout in
     let err = c.in_err-inode.ensures.reads.read in
     let can = c.requires.ready.claim in
+    let few = used_below can.ready.made in
+    let ready = ready_table v (g.I.Image.device c.args.image.now) (g.I.Image.device c.inode.new.image)
+    c.args.workspace.now c.inode.new.self err.contents err.size c.inode.ensures.reads.kept can.ready in
     rw (p.1, p.2) (record {
-      text = of_reads _ _ _ _ _ (of_begins _ (λ bytes. of_lines
-          (owner_lines v (claims_of c.args.workspace.now) (owner_of v bytes c.args.number))) _);
+      text = reads_first;
       claims = tt;
-      left = record {
-        image = err;
-        moves = tt;
-        bound = omega (arith, used_below can.ready.made);
-        again = refl;
-        claim = record {
-          ready = ready_table v (g.I.Image.device c.args.image.now) _ c.args.workspace.now c.inode.new.self err.contents
-              err.size c.inode.ensures.reads.kept can.ready;
-          only_data = can.only_data;
-        };
-      };
+      left = grind arith;
     })
 
 pub returns-clause-claiming : goal.returns-clause-claiming
@@ -61,22 +43,15 @@ returns-clause-claiming g c =
     (λ bytes. owner_with v bytes n i ≡ owner_of v bytes n) =
     λ bytes t. owner_is v bytes n i (c.in_ok-inode.ensures.reads.inode bytes t) in
     let did = c.claim_read_inode.ensures.claiming in
-    let left = did.left in
+    let image = rw (c.in_ok-inode.ensures.reads.read) at did.left.image in
     record {
-      text = reports_same (Unit {0}) _ (λ bytes. of_lines (owner_lines v s (owner_with v bytes n i)))
-          (λ bytes. of_lines (owner_lines v s (owner_of v bytes n))) _ _ c.claim_read_inode.result
+      text = reports_same (Unit {0}) _ _ _ _ _ c.claim_read_inode.result
           (λ bytes t. ap (λ o. of_lines (owner_lines v s o)) (owner bytes t))
           (reports_knowing (Unit {0}) _ _ _ _ _ c.claim_read_inode.result (λ bytes t. gives ∙ t) did.text);
       claims = ok_where c.claim_read_inode.result _ _
           (λ bytes. claims_of c.claim_read_inode.new.workspace ≡ after_owner v s (owner_with v bytes n i)) _ gives
           (λ bytes t h. h ∙ ap (after_owner v s) (owner bytes t)) did.claims;
-      left = record {
-        image = rw (c.in_ok-inode.ensures.reads.read) at left.image;
-        claim = left.claim;
-        bound = left.bound;
-        moves = left.moves;
-        again = left.again;
-      };
+      left = grind arith;
     }
 
 pub returns-clause-stored : goal.returns-clause-stored

@@ -1,16 +1,14 @@
 use Rattle.std.proofs.Common.{arith, refl, [], ap, ◌∙◌, ◌≡◌, sym}
 use Rattle.std.proofs.lemmas.Result.{err_from_is_err_and}
-use Rattle.ffs_volume.{proofs.Potentials.kept_bound, specs.Blocks.BlockCheck.count_lines}
-use Rattle.ffs_volume.specs.Blocks.{BlockCheck.owner_lines, Claims.lines_of_steps, Claims.after_steps, Steps.steps_of}
-use Rattle.ffs_volume.specs.declared.Class.TheVariants.{Free}
-use Rattle.ffs_report.proofs.Reporting.{of_fault, of_says, of_stops, of_begins, of_same}
+use Rattle.ffs_volume.proofs.Potentials.{kept_bound}
+use Rattle.ffs_volume.specs.{Blocks.Claims.after_steps, Blocks.Steps.steps_of, declared.Class.TheVariants.Free}
+use Rattle.ffs_report.proofs.Reporting.{of_fault, of_says, of_stops, says_none}
 use Rattle.ffs_maps.proofs.Bits.{bits_long}
 use Rattle.ffs_workspace.specs.Holds.{claims_of}
-use Rattle.ffs_claims.proofs.Frames.{ready_begun, ready_stored}
-use Rattle.ffs_claims.proofs.Inodes.{begun, begun_runs, stored_runs, has_inode, steps_reported, class_said}
-use Rattle.ffs_claims.proofs.Inodes.{class_stopped, free_claims, free_silent, used_below}
-use Rattle.ffs_claims.proofs.claim.claim_read_inode.Goals.{in-Free, in_default}
-use Rattle.ffs_claims.specs.Lines.{of_lines, counted_owner, owner_with}
+use Rattle.ffs_claims.proofs.{Frames.ready_begun, Frames.ready_stored, Inodes.begun, Inodes.begun_runs}
+use Rattle.ffs_claims.proofs.Inodes.{stored_runs, steps_reported, class_said, class_stopped, free_claims, free_silent}
+use Rattle.ffs_claims.proofs.{Inodes.used_below, claim.claim_read_inode.Goals.in-Free}
+use Rattle.ffs_claims.{proofs.claim.claim_read_inode.Goals.in_default, specs.Lines.of_lines}
 use Rattle.ffs_claims.proofs.claim.claim_read_inode.Goals as goal
 
 pub say_count-requires : goal.say_count-requires
@@ -30,34 +28,17 @@ claim-requires-clause-ready g c =
     let can = c.requires.ready.claim in
     record { ready = ready_begun c.begin.ensures can.ready; only_data = can.only_data }
 
-pub claim-requires-clause-begun : goal.claim-requires-clause-begun
-claim-requires-clause-begun g c = begun c.args.workspace.now c.begin.ensures c.requires.ready.runs
-
-pub store-requires-2 : goal.store-requires-2
-store-requires-2 g c =
-    record { number = has_inode c.claim.ensures.claiming.left.claim.ready.made c.requires.ready.number_fits }
-
-pub store-requires : goal.store-requires
-store-requires g c =
-    let ready = ready_begun c.begin.ensures c.requires.ready.claim.ready in
-    record { number = has_inode ready.made c.requires.ready.number_fits }
-
 pub returns-in_err-say_class-clause-claiming : goal.returns-in_err-say_class-clause-claiming
 returns-in_err-say_class-clause-claiming g c =
     let p = err_from_is_err_and c.from_residual.result c.from_residual.ensures.1 in
-    let can = c.requires.ready.claim in
+    let ready = ready_begun c.begin.ensures c.requires.ready.claim.ready in
+    let few = used_below ready.made in
     let b = begun_runs c.args.workspace.now c.begin.ensures in
     rw (p.1, p.2) (record {
       text = class_stopped c.args.geometry.now.layout c.args.number c.args.inode.now (claims_of c.args.workspace.now)
           c.class_of-class.ensures c.in_err-say_class.ensures;
       claims = tt;
-      left = record {
-        image = refl;
-        moves = tt;
-        bound = omega (arith, used_below can.ready.made);
-        again = b.again;
-        claim = record { ready = ready_begun c.begin.ensures can.ready; only_data = can.only_data };
-      };
+      left = grind arith;
     })
 
 pub returns-in_err-claim-clause-claiming : goal.returns-in_err-claim-clause-claiming
@@ -68,21 +49,11 @@ returns-in_err-claim-clause-claiming g c =
     let b = begun_runs c.args.workspace.now c.begin.ensures in
     let left = c.claim.ensures.claiming.left in
     rw (p.1, p.2) (record {
-      text = of_fault (Unit {0}) (Unit {0}) _ _
-          (λ bytes. of_lines (lines_of_steps v c.args.number s1 (steps_of v c.args.inode.now bytes)))
-          (λ bytes. of_lines (count_lines v
-          (counted_owner c.args.number c.class_of-class.result c.args.inode.now.blocks)
-          (after_steps v s1 (steps_of v c.args.inode.now bytes)))) _ _ _ _ _
+      text = of_fault (Unit {0}) (Unit {0}) _ _ _ _ _ _ _ _ _
           (class_said v c.args.number c.args.inode.now (claims_of c.args.workspace.now) (ap claims_of c.begin.ensures)
           c.class_of-class.ensures c.in_ok-say_class.ensures) (λ bytes t. refl) c.in_err-claim.ensures.claiming.text;
       claims = tt;
-      left = record {
-        image = c.in_err-claim.ensures.claiming.left.image;
-        moves = tt;
-        bound = omega (arith, left.bound);
-        again = left.found.again ∙ b.again;
-        claim = left.claim;
-      };
+      left = grind arith;
     })
 
 pub returns-in_err-say_count-clause-claiming : goal.returns-in_err-say_count-clause-claiming
@@ -94,18 +65,11 @@ returns-in_err-say_count-clause-claiming g c =
     let left = c.claim.ensures.claiming.left in
     rw (p.1, p.2) (record {
       text = of_stops _ _ (λ bytes. []) _ _ _ _ _ (steps_reported v c.args.number c.args.inode.now old
-          (claims_of c.begin.new.workspace) c.class_of-class.result
-          (class_said v c.args.number c.args.inode.now old (ap claims_of c.begin.ensures) c.class_of-class.ensures
-          c.in_ok-say_class.ensures) c.in_ok-claim.ensures.claiming.text c.in_ok-claim.ensures.claiming.claims)
+          (ap claims_of c.begin.ensures) c.class_of-class.ensures c.in_ok-say_class.ensures
+          c.in_ok-claim.ensures.claiming.text c.in_ok-claim.ensures.claiming.claims)
           (λ bytes t. refl) c.in_err-say_count.ensures;
       claims = tt;
-      left = record {
-        image = c.in_ok-claim.ensures.claiming.left.image;
-        moves = tt;
-        bound = omega (arith, left.bound);
-        again = left.found.again ∙ b.again;
-        claim = left.claim;
-      };
+      left = grind arith;
     })
 
 pub returns-clause-claiming : goal.returns-clause-claiming
@@ -116,25 +80,16 @@ returns-clause-claiming g c =
     let s = stored_runs c.claim.new.workspace c.store-2.ensures.rest in
     let zero = begun c.args.workspace.now c.begin.ensures c.requires.ready.runs in
     let left = c.claim.ensures.claiming.left in
+    let ready = ready_stored c.store-2.ensures.stored c.store-2.ensures.rest left.claim.ready in
+    let m = c.in_ok-claim.ensures.claiming.left.moves in
     record {
       text = of_says _ _ (λ bytes. []) _ _ _ _ _ (steps_reported v c.args.number c.args.inode.now old
-          (claims_of c.begin.new.workspace) c.class_of-class.result
-          (class_said v c.args.number c.args.inode.now old (ap claims_of c.begin.ensures) c.class_of-class.ensures
-          c.in_ok-say_class.ensures) c.in_ok-claim.ensures.claiming.text c.in_ok-claim.ensures.claiming.claims)
+          (ap claims_of c.begin.ensures) c.class_of-class.ensures c.in_ok-say_class.ensures
+          c.in_ok-claim.ensures.claiming.text c.in_ok-claim.ensures.claiming.claims)
           (λ bytes t. refl) c.in_ok-say_count.ensures;
       claims = λ bytes t. ap claims_of c.store-2.ensures.rest ∙ c.in_ok-claim.ensures.claiming.claims bytes t
           ∙ ap (λ s. after_steps v s (steps_of v c.args.inode.now bytes)) (ap claims_of c.begin.ensures);
-      left = record {
-        image = c.in_ok-claim.ensures.claiming.left.image;
-        moves = let m = c.in_ok-claim.ensures.claiming.left.moves in
-            omega (arith, m.few_runs, m.bad_cap (omega arith), m.dups_cap (omega arith));
-        bound = omega (arith, left.bound);
-        again = s.again ∙ left.found.again ∙ b.again;
-        claim = record {
-          ready = ready_stored c.store-2.ensures.stored c.store-2.ensures.rest left.claim.ready;
-          only_data = left.claim.only_data;
-        };
-      };
+      left = grind arith;
     }
 
 pub returns-then-matches-clause-claiming : goal.returns-then-matches-clause-claiming
@@ -146,23 +101,14 @@ returns-then-matches-clause-claiming g c =
       | in_default w ↦ cc
     ] in
     let free = sym c.class_of-class.ensures ∙ is_free in
-    let can = c.requires.ready.claim in
+    let begun = ready_begun c.begin.ensures c.requires.ready.claim.ready in
+    let ready = ready_stored c.store.ensures.stored c.store.ensures.rest begun in
+    let few = used_below begun.made in
     let b = begun_runs c.args.workspace.now c.begin.ensures in
     let s = stored_runs c.begin.new.workspace c.store.ensures.rest in
     record {
-      text = of_same _ _ _ _ _ _
-          (of_begins _ (λ bytes. of_lines (owner_lines v old (owner_with v bytes c.args.number c.args.inode.now))) _)
-          (λ bytes t. ap of_lines (free_silent v c.args.number c.args.inode.now old bytes free));
+      text = says_none (λ bytes t. ap of_lines (free_silent v c.args.number c.args.inode.now old bytes free));
       claims = λ bytes t. ap claims_of c.store.ensures.rest ∙ ap claims_of c.begin.ensures
           ∙ sym (free_claims v c.args.number c.args.inode.now old bytes free);
-      left = record {
-        image = refl;
-        moves = omega arith;
-        bound = omega (arith, used_below can.ready.made);
-        again = s.again ∙ b.again;
-        claim = record {
-          ready = ready_stored c.store.ensures.stored c.store.ensures.rest (ready_begun c.begin.ensures can.ready);
-          only_data = can.only_data;
-        };
-      };
+      left = grind arith;
     }

@@ -1,12 +1,9 @@
-use Rattle.std.proofs.Common.{arith, ap, ◌+◌, ◌∙◌}
-use Rattle.std.{proofs.lemmas.Result.err_from_is_err_and, specs.List.range_with_len}
-use Rattle.ffs_volume.{proofs.Potentials.each_ok, specs.Blocks.Claims.offer_lines}
-use Rattle.ffs_volume.specs.{Blocks.Claims.lines_of_offers, Blocks.Claims.after_offers, Disk.Areas.is_fragment_in_range}
+use Rattle.std.proofs.{Common.arith, Common.ap, Common.◌+◌, Common.◌∙◌, Common.refl, lemmas.Result.err_from_is_err_and}
+use Rattle.ffs_volume.{proofs.Potentials.each_ok, specs.Disk.Areas.is_fragment_in_range}
 use Rattle.ffs_report.proofs.Reporting.{to_begins, to_says, to_stops}
 use Rattle.ffs_workspace.specs.Holds.{claims_of}
 use Rattle.ffs_claims.proofs.Frames.{offers_none, offers_then}
-use Rattle.ffs_claims.proofs.StepsContinue.{offers_after, offers_more, offer_kept, to_same, from_start}
-use Rattle.ffs_claims.specs.Lines.{of_lines}
+use Rattle.ffs_claims.proofs.StepsContinue.{offers_after, offers_more, offer_kept, from_start}
 use Rattle.ffs_claims.proofs.offer.offers.Goals as goal
 
 pub returns-in_err-offer-clause-said : goal.returns-in_err-offer-clause-said
@@ -15,12 +12,9 @@ returns-in_err-offer-clause-said g c =
     let v = c.args.geometry.now.layout in
     let s = claims_of c.loop-index.workspace in
     let f = c.from.result + c.from-in-loop-index.result in
-    rw (p.1) (to_stops _ _ _ (of_lines (offer_lines v c.args.number s f)) _ _ _ c.loop-index.invariant.said
+    rw (p.1) (to_stops _ _ _ _ _ _ _ c.loop-index.invariant.said
     (offers_more v c.args.number s (claims_of c.offer.new.workspace) c.args.start c.args.len c.loop-index.index f
     c.loop-index-test.true (omega arith) c.offer.ensures.claims) c.in_err-offer.ensures.said)
-
-pub returns-in_err-offer-clause-only : goal.returns-in_err-offer-clause-only
-returns-in_err-offer-clause-only g c = offers_then c.loop-index.invariant.only c.offer.ensures.only
 
 pub loop-index-preserved : goal.loop-index-preserved
 loop-index-preserved g c =
@@ -34,23 +28,19 @@ loop-index-preserved g c =
       kept = omega (arith, inv.kept, offer_kept v s s' f c.offer.ensures.claims);
       claims = inv.claims ∙ offers_after v s s' c.args.start c.args.len c.loop-index.index f c.loop-index-test.true
           (omega arith) c.offer.ensures.claims;
-      said = to_says _ _ _ (of_lines (offer_lines v c.args.number s f)) _ _ _ inv.said
+      said = to_says _ _ _ _ _ _ _ inv.said
           (offers_more v c.args.number s s' c.args.start c.args.len c.loop-index.index f c.loop-index-test.true
           (omega arith) c.offer.ensures.claims) c.in_ok-offer.ensures.said;
     }
 
 pub loop-index-init : goal.loop-index-init
 loop-index-init g c =
-    let v = c.args.geometry.now.layout in
-    let s = claims_of c.args.workspace.now in
-    record {
+    rw (← from_start c.args.start c.args.len) (record {
       only = offers_none c.requires.room.made;
       kept = omega arith;
-      claims = ap (after_offers v s) (from_start c.args.start c.args.len);
-      said = to_same (to_begins
-          (of_lines (lines_of_offers v c.args.number s (range_with_len c.args.start c.args.len))) _)
-          (ap (λ fs. of_lines (lines_of_offers v c.args.number s fs)) (from_start c.args.start c.args.len));
-    }
+      claims = refl;
+      said = to_begins _ _;
+    })
 
 pub offer-requires : goal.offer-requires
 offer-requires g c =

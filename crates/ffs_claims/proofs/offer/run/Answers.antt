@@ -32,17 +32,3 @@ returns-clause-claiming g c = record {
   claims = search rules;
   left = search rules;
 }
-
-pub returns-then-in_range-clause-claiming : goal.returns-then-in_range-clause-claiming
-returns-then-in_range-clause-claiming g c =
-    let fits = sym c.in_range.ensures.value ∙ c.if-in_range.true in
-    let only = c.run_in_range.ensures.only.claiming in
-    let found = only.found in
-    rw fits (record {
-      said = c.run_in_range.ensures.said;
-      claims = c.run_in_range.ensures.claims;
-      left = record {
-        only = record { made = only.made; windows = only.windows; found = search rules };
-        only_data = c.in_range.ensures.area;
-      };
-    })

@@ -1,5 +1,5 @@
 use Rattle.std.proofs.Common.{◌≡◌, true, nat_lt, arith, refl, sym}
-use Rattle.std.proofs.lemmas.{Bool.Decides.nat_tests, Result.err_from_is_err_and}
+use Rattle.std.proofs.lemmas.{Bool.Decides.nat_tests}
 use Rattle.ffs_report.proofs.Reports.{said_none}
 use Rattle.ffs_workspace.specs.Holds.{claims_of}
 use Rattle.ffs_claims.proofs.{Frames.offers_claimed, UnclaimedRuns.whole_is, UnclaimedRuns.run_below}
@@ -23,23 +23,4 @@ returns-then-claim g c =
         uncut = sym c.requires.open;
       };
       only = offers_claimed c.requires.can.room.made c.claim.ensures.size;
-    }
-
-pub returns-in_err-offers : goal.returns-in_err-offers
-returns-in_err-offers g c =
-    let p = err_from_is_err_and c.from_residual.result c.from_residual.ensures.1 in
-    let same = c.claim.ensures.kept c.if-claim.false in
-    record {
-      said = rw (p.1) (rw same at c.in_err-offers.ensures.said);
-      claims = rw p.1 tt;
-      only = rw same at c.offers.ensures.only;
-    }
-
-pub returns : goal.returns
-returns g c =
-    let same = c.claim.ensures.kept c.if-claim.false in
-    record {
-      said = rw same at c.in_ok-offers.ensures.said;
-      claims = record { claims_are = rw same at c.in_ok-offers.ensures.claims; uncut = c.is_open.ensures };
-      only = rw same at c.offers.ensures.only;
     }

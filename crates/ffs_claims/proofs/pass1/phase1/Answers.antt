@@ -1,29 +1,19 @@
-use Rattle.std.proofs.Common.{◌≡◌, rules, arith, refl, sym, ◌∷◌, ◌+◌, ◌≤◌, ◌<◌, [], ap, ◌∙◌, Err}
+use Rattle.std.proofs.Common.{◌≡◌, rules, arith, refl, sym, ◌≤◌, ◌<◌, ap, ◌∙◌, Err}
 use Rattle.std.proofs.lemmas.Result.{err_from_is_err_and}
-use Rattle.ffs_volume.proofs.OwnerLaws.{before_next}
-use Rattle.ffs_volume.specs.Blocks.BlockCheck.{owner_lines, lines_of_owners, phase1_lines}
-use Rattle.ffs_volume.specs.Blocks.{Claims.after_owner, KeptSteps.claims_before, Owners.owner_of, Owners.owners_of}
-use Rattle.ffs_volume.specs.{Messages.Kinds.phase1, Report.Whole.run_count}
-use Rattle.ffs_report.proofs.Reporting.{of_begins, of_says, of_part, of_fault, of_stops, of_same, reports_knowing}
+use Rattle.ffs_volume.{proofs.OwnerLaws.before_next, specs.Blocks.Claims.after_owner}
+use Rattle.ffs_volume.specs.{Blocks.KeptSteps.claims_before, Blocks.Owners.owner_of, Report.Whole.run_count}
+use Rattle.ffs_report.proofs.Reporting.{of_part, of_fault, of_same, reports_knowing, says_heading, stops_heading}
 use Rattle.ffs_report.{proofs.Reporting.said_knows, specs.Known.ForBytes}
 use Rattle.ffs_workspace.specs.{Found.WithFresh, Holds.claims_of, Holds.all_claims, Lengths.inodes_of}
 use Rattle.ffs_claims.proofs.{Duplicates.dups_are, Frames.image_from, Frames.ready_still, Inodes.used_below}
 use Rattle.ffs_claims.proofs.Numbers.{found_begins, found_next, found_all, numbers_most, before_first, before_end}
 use Rattle.ffs_claims.proofs.Numbers.{lines_next, lines_end, first_lines}
-use Rattle.ffs_claims.specs.Lines.{of_lines, owners_from}
 use Rattle.ffs_claims.proofs.pass1.phase1.Goals as goal
 
 pub returns-in_err-say-clause-prints : goal.returns-in_err-say-clause-prints
 returns-in_err-say-clause-prints g c =
     let p = err_from_is_err_and c.from_residual.result c.from_residual.ensures.1 in
-    let v = c.args.geometry.now.layout in
-    rw (p.1, p.2) (record {
-      image = search rules;
-      text = of_stops _ (λ bytes. phase1 ∷ of_lines (phase1_lines v (owners_of v bytes)))
-          (λ bytes. of_lines (phase1_lines v (owners_of v bytes))) _ (phase1 ∷ []) _ _ _
-          (of_begins _ (λ bytes. phase1 ∷ of_lines (phase1_lines v (owners_of v bytes))) _) (λ bytes t. refl)
-          c.in_err-say.ensures.said;
-    })
+    rw (p.1, p.2) (record { image = search rules; text = stops_heading c.in_err-say.ensures.said })
 
 pub loop-number-init : goal.loop-number-init
 loop-number-init g c =
@@ -44,26 +34,15 @@ loop-number-init g c =
       again = found.again;
       claims = λ bytes k. c.reserve.ensures.claims k.1 ∙ sym (before_first v bytes);
       found = λ bytes k. found_begins bytes k.1 found;
-      said = of_says _ (λ bytes. phase1 ∷ of_lines (phase1_lines v (owners_of v bytes)))
-          (λ bytes. of_lines (lines_of_owners v s (owners_from v bytes 2))) _ (phase1 ∷ []) _ _ _
-          (of_begins _ (λ bytes. phase1 ∷ of_lines (phase1_lines v (owners_of v bytes))) _)
-          (λ bytes k. ap (λ xs. phase1 ∷ xs) (first_lines v bytes s (c.reserve.ensures.claims k.1)))
-          c.in_ok-say.ensures.said;
+      said = says_heading (λ bytes k. first_lines v bytes s (c.reserve.ensures.claims k.1)) c.in_ok-say.ensures.said;
     }
 
-pub claim_inode-requires : goal.claim_inode-requires
-claim_inode-requires g c =
+pub claim_inode-requires-clause-ready : goal.claim_inode-requires-clause-ready
+claim_inode-requires-clause-ready g c =
     let inv = c.loop-number.invariant in
     let numbers = c.args.geometry.now.sound.numbers in
     let used = used_below inv.ready.ready.made in
-    record {
-      ready = record {
-        claim = inv.ready;
-        number_fits = omega (arith, c.loop-number-test.true);
-        runs = omega (arith, inv.runs, c.loop-number-test.true);
-      };
-      walk = inv.walk;
-    }
+    grind arith
 
 pub returns-in_err-claim_inode-clause-prints : goal.returns-in_err-claim_inode-clause-prints
 returns-in_err-claim_inode-clause-prints g c =
@@ -76,10 +55,7 @@ returns-in_err-claim_inode-clause-prints g c =
     rw (p.1, p.2) (record {
       image = image_from {T = Unit {0}} (g.I.Image.device c.claim_inode.new.image)
           (Err c.in_err-claim_inode.field-0.0) inv.device c.in_err-claim_inode.ensures.claiming.left.image;
-      text = of_fault (Unit {0}) (Unit {0}) _ (λ bytes. of_lines (lines_of_owners v s (owners_from v bytes n)))
-          (λ bytes. of_lines (owner_lines v s (owner_of v bytes n)))
-          (λ bytes. of_lines (lines_of_owners v (after_owner v s (owner_of v bytes n)) (owners_from v bytes (n + 1))))
-          _ _ _ _ c.in_err-claim_inode.field-0.0
+      text = of_fault (Unit {0}) (Unit {0}) _ _ _ _ _ _ _ _ c.in_err-claim_inode.field-0.0
           inv.said (λ bytes t. lines_next v bytes s (after_owner v s (owner_of v bytes n)) n (omega arith) refl)
           (reports_knowing (Unit {0}) _ _ _ _ _ (Err c.in_err-claim_inode.field-0.0)
           (λ bytes k. ap (λ d. d.contents) inv.device ∙ k.0) c.in_err-claim_inode.ensures.claiming.text);
@@ -110,23 +86,17 @@ loop-number-preserved g c =
       claims = λ bytes k. after bytes k ∙ sym (before_next v bytes n inv.low);
       found = λ bytes k. found_next inv.low lt inv.ready.ready.made (after bytes k)
           (c.in_ok-claim_inode.ensures.stored bytes (contents ∙ k.0)) (inv.found bytes k);
-      said = of_part _ (λ bytes. of_lines (lines_of_owners v s (owners_from v bytes n)))
-          (λ bytes. of_lines (owner_lines v s (owner_of v bytes n)))
-          (λ bytes. of_lines (lines_of_owners v s' (owners_from v bytes (n + 1)))) _ _ _ _ inv.said
-          (λ bytes k. lines_next v bytes s s' n lt (now bytes (contents ∙ k.0)))
+      said = of_part _ _ _ _ _ _ _ _ inv.said (λ bytes k. lines_next v bytes s s' n lt (now bytes (contents ∙ k.0)))
           (said_knows _ _ _ _ _ _ (λ bytes k. contents ∙ k.0) c.in_ok-claim_inode.ensures.claiming.text);
     }
 
 pub returns-clause-prints : goal.returns-clause-prints
 returns-clause-prints g c =
-    let v = c.args.geometry.now.layout in
     let inv = c.loop-number.invariant in
-    let s = claims_of c.loop-number.workspace in
     record {
       image = inv.device;
-      text = of_same _ (λ bytes. of_lines (lines_of_owners v s (owners_from v bytes c.loop-number.number)))
-          (λ bytes. [])
-          _ _ _ inv.said (λ bytes k. lines_end v bytes s c.loop-number.number (omega arith));
+      text = of_same _ _ _ _ _ _ inv.said
+          (λ bytes k. lines_end _ bytes (claims_of c.loop-number.workspace) c.loop-number.number (omega arith));
     }
 
 pub returns-clause-holds : goal.returns-clause-holds

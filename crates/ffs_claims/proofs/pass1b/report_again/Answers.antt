@@ -30,21 +30,8 @@ returns-in-Run-clause-reported g c =
     }) c.report_run.ensures.reported)
 
 pub returns-in-Tail : goal.returns-in-Tail
-returns-in-Tail g c = elim c.in-Tail.is [
-  | inl e ↦
-      rw e (record {
-        said = said_none (progress g.W.Output.sink c.args.report.now);
-        reported = record { reported = reported_none c.args.workspace.now; next = refl; cut = refl };
-        runs = record { most = omega arith; exact = λ _. omega arith };
-        counted = λ _. omega arith;
-        only = reports_none c.requires.can.made;
-      })
-  | inr e ↦
-      rw e (record {
-        said = said_none (progress g.W.Output.sink c.args.report.now);
-        reported = record { reported = reported_none c.args.workspace.now; next = refl; cut = refl };
-        runs = record { most = omega arith; exact = λ _. omega arith };
-        counted = λ _. omega arith;
-        only = reports_none c.requires.can.made;
-      })
-]
+returns-in-Tail g c =
+    let said = said_none (progress g.W.Output.sink c.args.report.now) in
+    let none = reported_none c.args.workspace.now in
+    let only = reports_none c.requires.can.made in
+    elim c.in-Tail.is [ inl e ↦ rw e (grind arith) | inr e ↦ rw e (grind arith) ]

@@ -4,21 +4,19 @@ use Rattle.ffs_volume.specs.Encodings.Replay.{fresh_replay, is_replay_open}
 use Rattle.ffs_report.specs.{Known.ForBytes, Known.IsContents, PhaseOutcome.SaidOf, Progress.progress}
 use Rattle.ffs_maps.specs.Bits.{bits_of}
 use Rattle.ffs_walk.specs.{Counts.AreHeld, Counts.unread, Keepings.replay_in, Rests.steps_left, Rests.most_steps_left}
-use Rattle.ffs_workspace.specs.{Lengths.set_count, Ready.IsReady}
-use Rattle.ffs_claims.proofs.Rewalks.{Rewalking}
-use Rattle.ffs_claims.specs.{Lines.of_lines, Reporting.SameClaims, Rescan.offers_again, RescanRuns.RunsPay}
+use Rattle.ffs_workspace.specs.{Lengths.set_count}
+use Rattle.ffs_claims.proofs.Rewalks.{Rereads, Rewalking}
+use Rattle.ffs_claims.specs.{Lines.of_lines, Rescan.offers_again, RescanRuns.RunsPay}
 use Rattle.ffs_claims.proofs.pass1b.rewalk.Given as goal
 
 abbrev pub invariant-loop-next : goal.invariant-loop-next
 invariant-loop-next g l = let v = l.geometry.layout in
     let knows = IsContents (g.I.Image.device l.initial.image).contents in record {
-      ready : IsReady v (g.I.Image.device l.image) l.workspace;
+      left : Rereads v (g.I.Image.device l.initial.image) (g.I.Image.device l.image) l.initial.workspace l.workspace;
       cut : l.keeping.cut ≡ l.cut;
       going : is_replay_open l.cut (replay_in l.keeping) ≡ true;
       pending : set_count (bits_of l.workspace.duplicates) ≢ 0;
       geometry : l.walk.geometry ≡ l.geometry;
-      device : g.I.Image.device l.image ≡ g.I.Image.device l.initial.image;
-      claims : SameClaims l.initial.workspace l.workspace;
       held : AreHeld l.workspace.windows.blocks l.walk;
       counted : RunsPay (g.I.Image.reads l.initial.image) (g.I.Image.reads l.image + unread l.walk)
           l.initial.workspace.runs_again l.workspace.runs_again;

@@ -1,45 +1,26 @@
-use Rattle.std.proofs.{Common.rules, Common.arith, Common.ap, Common.slice_index, lemmas.Result.err_from_is_err_and}
-use Rattle.ffs_volume.specs.Blocks.{BlockCheck.first_offer_lines, Inodes.inode_of, Steps.steps_of}
-use Rattle.ffs_volume.specs.Encodings.Replay.{fresh_replay}
-use Rattle.ffs_report.proofs.Reporting.{of_begins, of_reads}
-use Rattle.ffs_maps.specs.Bits.{bits_of}
-use Rattle.ffs_workspace.{proofs.Readiness.ready_table, specs.Notes.cut_in}
-use Rattle.ffs_claims.proofs.{Frames.claims_still, Frames.claims_none, Rewalks.rewalks_from}
-use Rattle.ffs_claims.specs.{Lines.of_lines, Rescan.offers_again}
+use Rattle.std.proofs.{Common.arith, Common.ap, lemmas.Result.err_from_is_err_and}
+use Rattle.ffs_report.proofs.Reporting.{reads_first}
+use Rattle.ffs_workspace.{proofs.Readiness.ready_table}
+use Rattle.ffs_claims.proofs.{Rewalks.rewalks_from}
 use Rattle.ffs_claims.proofs.pass1b.rewalk_inode.Goals as goal
 
 pub rewalk-requires : goal.rewalk-requires
 rewalk-requires g c =
     let ok = c.in_ok-inode.ensures.reads.read in
-    record {
-      can = record {
-        ready = ready_table c.args.geometry.now.layout (g.I.Image.device c.args.image.now) _ c.args.workspace.now
-            c.inode.new.self (ap (λ d. d.contents) ok) (ap (λ d. d.size) ok) c.inode.ensures.reads.kept
-            c.requires.can.ready;
-        number_fits = c.requires.can.number_fits;
-        pending = c.requires.can.pending;
-      };
-    }
+    let ready = ready_table c.args.geometry.now.layout (g.I.Image.device c.args.image.now)
+    (g.I.Image.device c.inode.new.image) c.args.workspace.now c.inode.new.self (ap (λ d. d.contents) ok)
+    (ap (λ d. d.size) ok) c.inode.ensures.reads.kept c.requires.can.ready in
+    grind arith
 
 pub returns-in_err-inode-clause-rewalks : goal.returns-in_err-inode-clause-rewalks
-returns-in_err-inode-clause-rewalks g c = record {
-  text = let p = err_from_is_err_and c.from_residual.result c.from_residual.ensures.1 in
-      rw (p.1, p.2) (of_reads _ _ _ _ _ (of_begins _ (λ bytes. of_lines
-      (first_offer_lines (bits_of c.args.workspace.now.duplicates)
-      (offers_again c.args.geometry.now.layout c.args.number
-      (cut_in (slice_index c.args.workspace.now.notes.items c.args.number)) fresh_replay
-      (steps_of c.args.geometry.now.layout (inode_of c.args.geometry.now.layout bytes c.args.number) bytes)))) _));
-  rewalked = search rules;
-  runs = λ bytes t. omega arith;
-  left = let err = c.in_err-inode.ensures.reads.read in
-      let p = err_from_is_err_and c.from_residual.result c.from_residual.ensures.1 in
-      rw (p.1, p.2) (record {
-        image = err;
-        ready = ready_table c.args.geometry.now.layout (g.I.Image.device c.args.image.now) _ c.args.workspace.now
-            c.inode.new.self err.contents err.size c.inode.ensures.reads.kept c.requires.can.ready;
-        claims = claims_still (claims_none c.args.workspace.now);
-      });
-}
+returns-in_err-inode-clause-rewalks g c =
+    let p = err_from_is_err_and c.from_residual.result c.from_residual.ensures.1 in
+    let err = c.in_err-inode.ensures.reads.read in
+    let ready = ready_table c.args.geometry.now.layout (g.I.Image.device c.args.image.now)
+    (g.I.Image.device c.inode.new.image) c.args.workspace.now c.inode.new.self err.contents err.size
+    c.inode.ensures.reads.kept c.requires.can.ready in
+    rw (p.1, p.2)
+    (record { text = reads_first; rewalked = tt; runs = λ bytes t. omega arith; left = grind arith })
 
 pub returns-clause-rewalks : goal.returns-clause-rewalks
 returns-clause-rewalks g c = rewalks_from c.in_ok-inode.inode (g.I.Image.device c.args.image.now) _ _

@@ -1,4 +1,4 @@
-use Rattle.std.proofs.{Common.false, Common.arith, Common.sym, Common.◌∙◌, Math.ListN.get_or-eq_default}
+use Rattle.std.proofs.{Common.false, Common.arith, Common.◌∙◌, Math.ListN.get_or-eq_default}
 use Rattle.ffs_maps.{proofs.Bits.bits_long, specs.Bits.bits_of}
 use Rattle.ffs_claims.proofs.{Frames.offers_reported_none, Reportings.reported_out, Reportings.said_out}
 use Rattle.ffs_claims.proofs.report_offer.report_offer.Goals as goal
@@ -8,15 +8,6 @@ returns-then-fragment-from g c =
     let size = bits_long c.args.workspace.now.duplicates ∙ c.requires.can.made.duplicates in
     let out = get_or-eq_default (bits_of c.args.workspace.now.duplicates) false {n = c.args.fragment}
     (omega (arith, size)) in
-    record {
-      said = said_out _ c.args.number c.args.fragment _ out;
-      reported = reported_out _ c.args.number c.args.fragment out;
-      only = offers_reported_none c.requires.can.made;
-    }
-
-pub returns-then-not-get : goal.returns-then-not-get
-returns-then-not-get g c =
-    let out = sym c.get.ensures ∙ c.if-not-get.true in
     record {
       said = said_out _ c.args.number c.args.fragment _ out;
       reported = reported_out _ c.args.number c.args.fragment out;

@@ -19,18 +19,13 @@ pub loop-group-preserved : goal.loop-group-preserved
 loop-group-preserved c =
     let v = c.args.geometry.now.layout in
     let inv = c.loop-group.invariant in
-    let b = bits_of c.loop-group.map in
+    let parts = c.args.geometry.now.sound.parts in
     record {
       size = c.set_run-in-loop-group.ensures.size ∙ inv.size;
       bits = λ fresh.
           group_run v (bits_of c.loop-group.map) (bits_of c.set_run-in-loop-group.new.self) c.loop-group.group
           (cgdmin v c.loop-group.group - cgsblock v c.loop-group.group) (length_bits _ _ ∙ inv.size)
-          (omega (
-            arith,
-            c.args.geometry.now.sound.parts.super_fits,
-            c.args.geometry.now.sound.parts.block_fits,
-            c.args.geometry.now.sound.parts.inodes_fit,
-          ))
+          (omega arith)
           (rw (c.cgsblock-first.ensures, c.cgdmin-in-loop-group.ensures.value) at c.set_run-in-loop-group.ensures.bits)
           (inv.bits fresh);
     }

@@ -1,23 +1,6 @@
 use Rattle.std.proofs.Common.{◌∙◌, ap, arith}
-use Rattle.ffs_claims.proofs.Inodes.{kept_room, seen_bound}
-use Rattle.ffs_claims.proofs.WordClaims.{words_none, words_once, words_then}
+use Rattle.ffs_claims.proofs.{Inodes.kept_room, Inodes.seen_bound, WordClaims.words_once, WordClaims.words_then}
 use Rattle.ffs_claims.proofs.words.claim_held_words.Goals as goal
-
-pub loop-geometry-init : goal.loop-geometry-init
-loop-geometry-init c = record {
-  words = words_none c.requires.next.made c.requires.next.uncut;
-  held = c.requires.held;
-}
-
-pub next_address-address-requires : goal.next_address-address-requires
-next_address-address-requires c =
-    let inv = c.loop-geometry.invariant in
-    record {
-      room = record {
-        blocks_fit = rw (inv.words.same.geometry ∙ c.requires.geometry, inv.words.only.made.blocks) (omega arith);
-      };
-      left = c.has_word.ensures.0 c.loop-geometry-test.true;
-    }
 
 -- a word that isn't claimed changes nothing
 pub returns-then-not-claim_address : goal.returns-then-not-claim_address
@@ -31,13 +14,7 @@ claim_address-requires c =
     let size = c.args.geometry.now.sound.numbers.size_below in
     let kept = kept_room c.args.workspace.now words.only.made words.uncut words.moves in
     let seen = seen_bound c.args.workspace.now words.only.made words.uncut words.moves in
-    record {
-      made = words.only.made;
-      only_data = next.only_data;
-      uncut = words.uncut;
-      room = omega arith;
-      runs = omega arith;
-    }
+    grind arith
 
 pub loop-geometry-preserved : goal.loop-geometry-preserved
 loop-geometry-preserved c =
@@ -52,3 +29,6 @@ loop-geometry-preserved c =
           c.claim_address.ensures.rises c.pass_word.ensures.counted);
       held = rw c.claim_address.ensures.only.windows passes.held;
     }
+
+pub pass_word-requires-clause-left : goal.pass_word-requires-clause-left
+pass_word-requires-clause-left c = c.has_word.ensures.0 c.loop-geometry-test.true

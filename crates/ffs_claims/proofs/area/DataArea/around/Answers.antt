@@ -14,10 +14,7 @@ returns-then-start-data c =
       };
       run = λ n some fits.
           let at = lies v c.args.start n c.args.geometry.now.sound some fits in
-          record {
-            first = omega (arith, at.base, c.cgbase-base.ensures.value);
-            last = omega (arith, at.before (omega (arith, c.cgdmin-data.ensures.value)), c.cgsblock.ensures);
-          };
+          omega (arith, at.base, at.before (omega (arith, c.cgdmin-data.ensures.value)), c.cgsblock.ensures);
     }
 
 pub returns : goal.returns
@@ -33,5 +30,5 @@ returns c =
       };
       run = λ n some fits.
           let at = lies v c.args.start n c.args.geometry.now.sound some fits in
-          record { first = omega arith; last = omega (arith, at.volume, at.group, c.cgbase-base.ensures.value) };
+          omega (arith, at.volume, at.group, c.cgbase-base.ensures.value);
     }
