@@ -2,18 +2,16 @@
 use Rattle.std.proofs.Common.{inl, inr, ◌≡◌, ℕ, ◌+◌, ◌<◌, ◌≤◌, Bool, true, false, cond, arith, refl, sym, ap, ◌∙◌, List}
 use Rattle.std.proofs.Common.{[], ◌∷◌, length, nat_lt, ◌==◌, not, slice_set, ◌++◌, ◌↔◌, ◌&&◌, map, replicate}
 use Rattle.std.proofs.lemmas.Bool.{and_parts, cases_eq, eq-eqb, ne_eqb, ltb-true, and_from, cases_lt, lt-ltb, le-ltb}
-use Rattle.std.specs.List.{list_all, range_with_len}
-use Rattle.std.proofs.lemmas.List.{get_or-set_same, get_or-set_other, length-set, length-replicate, get_or-replicate}
-use Rattle.std.proofs.lemmas.List.FromFn.{get_or-map-range_with_len, length-map-range_with_len}
-use Rattle.std.{proofs.lemmas.List.get_or_past, proofs.lemmas.Bool.Decides.nat_tests}
-use Rattle.std.{proofs.lemmas.List.Sums.sum_by-cons, proofs.lemmas.List.Folds.list_all-append}
-use Rattle.ffs_volume.specs.declared.Step.TheVariants.{Run, Tail, Gap}
-use Rattle.ffs_volume.specs.Blocks.BlockCheck.{first_offer_lines, phase1_lines, phase1b_lines}
-use Rattle.ffs_volume.specs.Blocks.{Claims.is_set, Claims.reserved_map, Claims.no_claims, Owners.Owner}
-use Rattle.ffs_volume.specs.Blocks.{Owners.fragments_of, Owners.all_steps, KeptOffers.Offer, KeptOffers.kept_in_owners}
-use Rattle.ffs_volume.specs.Consistent.BlocksRight.{times, is_step_in_range, BlocksRight}
-use Rattle.ffs_volume.specs.{declared.Layout.Layout, declared.Step.Step, Disk.Areas.is_fragment_in_range}
-use Rattle.ffs_volume.specs.{Disk.Areas.is_reserved}
+use Rattle.std.proofs.lemmas.{Bool.Decides.nat_tests, List.{get_or-set_same, get_or-set_other, length-set}}
+use Rattle.std.proofs.lemmas.List.{length-replicate, get_or-replicate, FromFn.get_or-map-range_with_len}
+use Rattle.std.proofs.lemmas.List.{FromFn.length-map-range_with_len, get_or_past, Sums.sum_by-cons}
+use Rattle.std.{proofs.lemmas.List.Folds.list_all-append, specs.List.{list_all, range_with_len}}
+use Rattle.ffs_volume.specs.declared.{Step.{TheVariants.{Run, Tail, Gap}, Step}, Layout.Layout}
+use Rattle.ffs_volume.specs.Blocks.{BlockCheck.{first_offer_lines, phase1_lines, phase1b_lines}, Claims.is_set}
+use Rattle.ffs_volume.specs.Blocks.{Claims.{reserved_map, no_claims}, Owners.{Owner, fragments_of, all_steps}}
+use Rattle.ffs_volume.specs.{Blocks.KeptOffers.{Offer, kept_in_owners}, Consistent.BlocksRight.times}
+use Rattle.ffs_volume.specs.{Consistent.BlocksRight.{is_step_in_range, BlocksRight}, Disk.Areas.is_fragment_in_range}
+use Rattle.ffs_volume.specs.Disk.Areas.{is_reserved}
 use Rattle.ffs_certificate.proofs.BlockLaws.{mark, fresh, is_nil, nil_append, run_ok, owners_say, owners_claim, Quiet}
 use Rattle.ffs_certificate.proofs.BlockLaws.{owners_parts, owners_from}
 

@@ -1,28 +1,24 @@
 -- Each condition of a consistent volume holds exactly where nothing is reported for it.
 use Rattle.std.proofs.Common.{◌≡◌, ℕ, ◌+◌, Bool, true, false, not, ◌&&◌, ◌||◌, nat_lt, ◌==◌, if◌then◌else◌, List, []}
-use Rattle.std.proofs.Common.{◌∷◌, ◌++◌, ◌∙◌, refl, ◌↔◌, sym, subst}
-use Rattle.std.specs.List.{list_all, list_any, range_with_len}
-use Rattle.std.proofs.lemmas.Bool.{or_from, not-false, not_from_true}
-use Rattle.std.{proofs.lemmas.List.Folds.list_any-append, proofs.Math.Bool.or-false}
-use Rattle.ffs_volume.specs.declared.Class.TheVariants.{Free, Partial, Unknown, File, Dir}
+use Rattle.std.proofs.{Common.{◌∷◌, ◌++◌, ◌∙◌, refl, ◌↔◌, sym, subst}, lemmas.Bool.{or_from, not-false, not_from_true}}
+use Rattle.std.{proofs.{lemmas.List.Folds.list_any-append, Math.Bool.or-false}, specs.List.{list_all, list_any}}
+use Rattle.std.specs.List.{range_with_len}
+use Rattle.ffs_volume.specs.declared.Class.{TheVariants.{Free, Partial, Unknown, File, Dir}, Class}
 use Rattle.ffs_volume.specs.declared.BlockMessage.TheVariants.{Bad, Dup, ManyBad, ManyDup, PartTrunc, BlockCount}
-use Rattle.ffs_volume.specs.declared.Step.TheVariants.{Run, Tail, Gap}
-use Rattle.ffs_volume.specs.declared.{Layout.Layout, Class.Class, Step.Step, BlockMessage.BlockMessage}
-use Rattle.ffs_volume.specs.Disk.{Areas.is_fragment_in_range, Areas.is_run_in_range, Superblock.Superblock}
-use Rattle.ffs_volume.specs.Blocks.Claims.{Claims, no_claims, at_next_inode, is_open, is_set, after_offer, offer_lines}
-use Rattle.ffs_volume.specs.Blocks.Claims.{lines_of_offers, run_lines, after_step, step_lines, lines_of_steps}
-use Rattle.ffs_volume.specs.Blocks.BlockCheck.{class_lines, count_lines, sectors, owner_lines, lines_of_owners}
-use Rattle.ffs_volume.specs.Blocks.Owners.{Owner, owners_of}
-use Rattle.ffs_volume.specs.Blocks.{Claims.after_owner, BlockCheck.phase1_lines, Inodes.is_file_or_dir}
-use Rattle.ffs_volume.specs.Groups.{Records.AreGroupsRight, GroupCheck.phase5_lines, GroupCheck.is_free_of_kept}
-use Rattle.ffs_volume.specs.{Consistent.BlocksRight.is_right_class, Laws.Geometry.IsAcceptedLayout}
-use Rattle.ffs_volume.specs.{Directories.Volumes.class_at, Directories.Volumes.whole_volume}
+use Rattle.ffs_volume.specs.declared.{BlockMessage.BlockMessage, Step.{TheVariants.{Run, Tail, Gap}, Step}}
+use Rattle.ffs_volume.specs.{declared.Layout.Layout, Disk.Areas.{is_fragment_in_range, is_run_in_range}}
+use Rattle.ffs_volume.specs.{Disk.Superblock.Superblock, Blocks.Claims.{Claims, no_claims, at_next_inode, is_open}}
+use Rattle.ffs_volume.specs.Blocks.Claims.{is_set, after_offer, offer_lines, lines_of_offers, run_lines, after_step}
+use Rattle.ffs_volume.specs.Blocks.{Claims.{step_lines, lines_of_steps, after_owner}, BlockCheck.class_lines}
+use Rattle.ffs_volume.specs.Blocks.BlockCheck.{count_lines, sectors, owner_lines, lines_of_owners, phase1_lines}
+use Rattle.ffs_volume.specs.{Blocks.{Owners.{Owner, owners_of}, Inodes.is_file_or_dir}, Groups.Records.AreGroupsRight}
+use Rattle.ffs_volume.specs.{Groups.GroupCheck.{phase5_lines, is_free_of_kept}, Consistent.BlocksRight.is_right_class}
+use Rattle.ffs_volume.specs.{Laws.Geometry.IsAcceptedLayout, Directories.Volumes.{class_at, whole_volume}}
 use Rattle.ffs_volume.proofs.AcceptedLaws.{accepted_sound}
 use Rattle.ffs_certificate.specs.Conditions.{is_class_message, ConditionsReported, ConditionsAreReported}
 use Rattle.ffs_certificate.proofs.DirsCertificate.{checks_reported, counts_reported, dirs_reported, links_reported}
-use Rattle.ffs_certificate.proofs.GroupLaws.{phase5_silent, same_free}
-use Rattle.ffs_certificate.proofs.VolumeLaws.{whole_is_volume, whole_unmarked, same_whole}
-use Rattle.ffs_certificate.proofs.{BlocksSilent.phase1_silent, ReportLaws.settings_reported}
+use Rattle.ffs_certificate.proofs.{GroupLaws.{phase5_silent, same_free}, VolumeLaws.{whole_is_volume, whole_unmarked}}
+use Rattle.ffs_certificate.proofs.{VolumeLaws.same_whole, BlocksSilent.phase1_silent, ReportLaws.settings_reported}
 
 none_append : (xs ys : List BlockMessage) → list_any is_class_message xs ≡ false → list_any is_class_message ys ≡ false
     → list_any is_class_message (xs ++ ys) ≡ false

@@ -1,27 +1,24 @@
 -- The certificate of the checks of directories: silent, unreported and consistent are the same.
 use Rattle.std.proofs.Common.{◌≡◌, ◌≢◌, ℕ, ◌==◌, true, false, not, nat_lt, nat_le, Option, Some, None, IsSomeAnd, arith}
-use Rattle.std.proofs.Common.{sym, ◌∙◌, ap, inl, inr, refl, ◌↔◌}
-use Rattle.std.proofs.lemmas.Bool.{both_ways, cases_eq, eqb-true, eq-eqb, ne_eqb, and_parts, and_from, not-false}
-use Rattle.std.proofs.lemmas.Bool.{not_from_true, false_from_ne_true}
+use Rattle.std.proofs.{Common.{sym, ◌∙◌, ap, inl, inr, refl, ◌↔◌}, lemmas.Bool.{both_ways, cases_eq, eqb-true, eq-eqb}}
+use Rattle.std.proofs.lemmas.Bool.{ne_eqb, and_parts, and_from, not-false, not_from_true, false_from_ne_true}
 use Rattle.std.proofs.lemmas.Bool.Decides.{nat_tests}
-use Rattle.ffs_volume.specs.declared.Class.TheVariants.{Free, Partial, Unknown, File, Dir}
-use Rattle.ffs_volume.specs.Directories.Roles.{Volume, RoledEntry, is_dir, is_inode, is_suspect, dotdot, references}
-use Rattle.ffs_volume.specs.Directories.Graph.{parent, parent_entry_index, is_lost, reached, IsNamedOnce}
-use Rattle.ffs_volume.specs.Directories.Parents.{graph_of, is_parent_entry, nth_roled}
-use Rattle.ffs_volume.specs.Directories.PathnameCheck.{is_wrong_parent, is_extraneous}
-use Rattle.ffs_volume.specs.Directories.{Roles.roled_entries, Entries.Entry, Climb.is_value, Connectivity.is_unref_dir}
-use Rattle.ffs_volume.specs.{declared.Class.Class, declared.Role.TheVariants.Plain, Blocks.Inodes.is_directory}
-use Rattle.ffs_volume.specs.{Blocks.Inodes.is_allocated, Blocks.Inodes.is_unknown}
-use Rattle.ffs_volume.specs.Consistent.DirectoriesRight.{IsPlainRight, AreDirsRight, AreLinksRight, AreCountsRight}
-use Rattle.ffs_volume.proofs.LevelLaws.{parent-root, reached-root}
-use Rattle.ffs_volume.proofs.{ClimbLaws.is_value-true, ClimbLaws.is_value-from, Graphs.AllReached, Graphs.NoExtraneous}
-use Rattle.ffs_volume.proofs.{Unreached.lost-true, Booleans.and_false-right, Booleans.and_false-from}
-use Rattle.ffs_certificate.specs.DirsCertificate.{IsSilent, AreDirectoriesRight}
-use Rattle.ffs_certificate.specs.Conditions.{IsPlainUnreported, AreDirsUnreported, AreLinksUnreported}
-use Rattle.ffs_certificate.specs.{Premises.IsVolume, Premises.IsUnmarked, Conditions.AreCountsUnreported}
-use Rattle.ffs_certificate.proofs.Silent.{dir-below, names_at-gives, names_at-from, count-true, count-from}
-use Rattle.ffs_certificate.proofs.Silent.{pathname-quiet, pathname-silent, connectivity-quiet, connectivity-silent}
-use Rattle.ffs_certificate.proofs.Silent.{reference-quiet, reference-silent}
+use Rattle.ffs_volume.specs.declared.Class.{TheVariants.{Free, Partial, Unknown, File, Dir}, Class}
+use Rattle.ffs_volume.specs.{declared.Role.TheVariants.Plain, Directories.Roles.{Volume, RoledEntry, is_dir, is_inode}}
+use Rattle.ffs_volume.specs.Directories.{Roles.{is_suspect, dotdot, references, roled_entries}, Graph.parent}
+use Rattle.ffs_volume.specs.Directories.{Graph.{parent_entry_index, is_lost, reached, IsNamedOnce}, Parents.graph_of}
+use Rattle.ffs_volume.specs.Directories.{Parents.{is_parent_entry, nth_roled}, PathnameCheck.is_wrong_parent}
+use Rattle.ffs_volume.specs.Directories.{PathnameCheck.is_extraneous, Entries.Entry, Climb.is_value}
+use Rattle.ffs_volume.specs.{Directories.Connectivity.is_unref_dir, Blocks.Inodes.{is_directory, is_allocated}}
+use Rattle.ffs_volume.specs.{Blocks.Inodes.is_unknown, Consistent.DirectoriesRight.{IsPlainRight, AreDirsRight}}
+use Rattle.ffs_volume.{specs.Consistent.DirectoriesRight.{AreLinksRight, AreCountsRight}, proofs.LevelLaws.parent-root}
+use Rattle.ffs_volume.proofs.{LevelLaws.reached-root, ClimbLaws.{is_value-true, is_value-from}, Graphs.AllReached}
+use Rattle.ffs_volume.proofs.{Graphs.NoExtraneous, Unreached.lost-true, Booleans.{and_false-right, and_false-from}}
+use Rattle.ffs_certificate.specs.{DirsCertificate.{IsSilent, AreDirectoriesRight}, Conditions.IsPlainUnreported}
+use Rattle.ffs_certificate.specs.Conditions.{AreDirsUnreported, AreLinksUnreported, AreCountsUnreported}
+use Rattle.ffs_certificate.{specs.Premises.{IsVolume, IsUnmarked}, proofs.Silent.{dir-below, names_at-gives}}
+use Rattle.ffs_certificate.proofs.Silent.{names_at-from, count-true, count-from, pathname-quiet, pathname-silent}
+use Rattle.ffs_certificate.proofs.Silent.{connectivity-quiet, connectivity-silent, reference-quiet, reference-silent}
 use Rattle.ffs_certificate.proofs.Suspects.{is_sane, dir-from_two, none_empty, none_suspect, none_dead, plain-live}
 use Rattle.ffs_certificate.proofs.Reached.{silent-reached, links-right, has_parent_entry}
 

@@ -1,25 +1,22 @@
 -- Phase 5 reports nothing exactly where all groups are right.
 use Rattle.std.proofs.Common.{zero, suc, inl, inr, ◌≡◌, ℕ, ◌+◌, ◌<◌, ◌≤◌, Bool, true, false, arith, refl, sym, ap}
 use Rattle.std.proofs.Common.{subst, ◌∙◌, List, [], ◌∷◌, ◌++◌, ◌↔◌, nat_lt, ◌&&◌, ◌||◌, ◌==◌, not, if◌then◌else◌, ℤ}
-use Rattle.std.specs.List.{list_all, list_any, flat_map, range_with_len}
-use Rattle.std.proofs.Math.Path.{fun_ext}
-use Rattle.std.proofs.lemmas.Bool.{and_parts, and_from, cases_eq}
+use Rattle.std.{proofs.{Math.Path.fun_ext, lemmas.Bool.{and_parts, and_from, cases_eq}}, specs.List.list_all}
+use Rattle.std.specs.List.{list_any, flat_map, range_with_len}
 use Rattle.ffs_volume.specs.declared.BlockMessage.TheVariants.{PartAlloc, UnknownType, Bad, Dup, ManyBad, ManyDup}
 use Rattle.ffs_volume.specs.declared.BlockMessage.TheVariants.{PartTrunc, BlockCount, GroupMagic, FreeCounts, MapsWrong}
-use Rattle.ffs_volume.specs.declared.Class.{Class}
-use Rattle.ffs_volume.specs.declared.{BlockMessage.TheVariants.GroupSums, Layout.Layout, BlockMessage.BlockMessage}
-use Rattle.ffs_volume.specs.Blocks.Claims.{is_set, reserved_map, no_claims, after_owners}
-use Rattle.ffs_volume.specs.Blocks.Owners.{Owner, fragments_of, all_steps}
-use Rattle.ffs_volume.specs.{Disk.Areas.is_reserved, Blocks.BlockCheck.phase1_lines, Blocks.BlockCheck.phase1b_lines}
-use Rattle.ffs_volume.specs.{Consistent.BlocksRight.times, Consistent.BlocksRight.BlocksRight}
+use Rattle.ffs_volume.specs.declared.{BlockMessage.{TheVariants.GroupSums, BlockMessage}, Class.Class, Layout.Layout}
+use Rattle.ffs_volume.specs.Blocks.{Claims.{is_set, reserved_map, no_claims, after_owners}, Owners.Owner}
+use Rattle.ffs_volume.specs.Blocks.{Owners.{fragments_of, all_steps}, BlockCheck.{phase1_lines, phase1b_lines}}
+use Rattle.ffs_volume.specs.{Disk.Areas.is_reserved, Consistent.BlocksRight.{times, BlocksRight}}
 use Rattle.ffs_volume.specs.Groups.Records.{group_block, summary_record, group_numbers, has_right_magic, maps_fit}
 use Rattle.ffs_volume.specs.Groups.Records.{has_right_maps, has_right_sums, has_right_record, has_right_totals}
-use Rattle.ffs_volume.specs.Groups.Records.{IsGroupRight, AreGroupsRight}
-use Rattle.ffs_volume.specs.Groups.GroupCheck.{unless, group_lines, all_group_lines, is_reported, reported_once}
-use Rattle.ffs_volume.specs.Groups.GroupCheck.{unreported, phase5_lines, is_free_of_kept, is_free_of_runs}
+use Rattle.ffs_volume.specs.Groups.{Records.{IsGroupRight, AreGroupsRight}, GroupCheck.{unless, group_lines}}
+use Rattle.ffs_volume.specs.Groups.GroupCheck.{all_group_lines, is_reported, reported_once, unreported, phase5_lines}
+use Rattle.ffs_volume.specs.Groups.GroupCheck.{is_free_of_kept, is_free_of_runs}
 use Rattle.ffs_certificate.proofs.BlocksSilent.{nil_is, right_quiet, runs_below, reserved_length, reserved_bit, bit}
-use Rattle.ffs_certificate.proofs.BlocksSilent.{times_cons, marked_bit, blocks_silent}
-use Rattle.ffs_certificate.proofs.BlockLaws.{is_nil, nil_append, mark, owners_claim, owners_from, Quiet}
+use Rattle.ffs_certificate.proofs.{BlocksSilent.{times_cons, marked_bit, blocks_silent}, BlockLaws.{is_nil, nil_append}}
+use Rattle.ffs_certificate.proofs.BlockLaws.{mark, owners_claim, owners_from, Quiet}
 
 nil_flat : {X Y : Type 0} (f : X → List Y) (xs : List X) → is_nil (flat_map f xs) ≡ list_all (λ x. is_nil (f x)) xs
 nil_flat f [] = refl

@@ -1,25 +1,21 @@
 -- The fold over steps keeps what the rule keeps.
 use Rattle.std.proofs.Common.{zero, suc, inl, inr, ◌≡◌, ◌⊎◌, ℕ, ◌+◌, ◌-◌, ◌*◌, ◌<◌, ◌≤◌, Bool, true, false, cond, arith}
 use Rattle.std.proofs.Common.{refl, sym, ap, subst, ◌∙◌, List, [], ◌∷◌, ◌++◌, length, append_assoc, count_by, nat_lt}
-use Rattle.std.proofs.Common.{nat_le, min, ◌&&◌, ◌||◌, ◌==◌, slice_set, if◌then◌else◌, map}
-use Rattle.std.proofs.lemmas.Bool.{and_parts, and_from, and_cases, cases_eq, both_ways, eq-eqb, ne_eqb, eqb-true}
-use Rattle.std.proofs.lemmas.Bool.{eqb-false, ltb-true, ltb-false, le-leb, lt-leb, lt-ltb, le-ltb}
-use Rattle.std.proofs.lemmas.List.{get_or-set_same, get_or-set_other, length-set}
-use Rattle.std.{specs.List.list_all, specs.List.range_with_len, proofs.Math.Bool.or-true, proofs.Math.Bool.or-false}
-use Rattle.std.{proofs.Math.Bool.and-false, proofs.lemmas.Bool.Decides.nat_tests, proofs.lemmas.List.Sums.sum_by-cons}
-use Rattle.ffs_volume.specs.declared.Step.TheVariants.{Run, Tail, Gap}
-use Rattle.ffs_volume.specs.Disk.Areas.{is_fragment_in_range, is_run_in_range, is_reserved}
-use Rattle.ffs_volume.specs.Blocks.Owners.{Owner, owner_of, owners_of}
-use Rattle.ffs_volume.specs.Blocks.Claims.{Claims, is_set, is_open, at_next_inode, no_claims, after_offer, after_offers}
-use Rattle.ffs_volume.specs.Blocks.Claims.{after_step, after_steps, after_owner, after_owners}
-use Rattle.ffs_volume.specs.Blocks.KeptOffers.{kept_in_offers, kept_in_step, kept_in_steps, kept_in_owners}
-use Rattle.ffs_volume.specs.Blocks.KeptByRule.{uncounted, CountedOffer, OfferVerdict, counted_offer, bad_runs_after}
-use Rattle.ffs_volume.specs.Blocks.KeptByRule.{step_offers, offers_of_steps, all_offers, is_claimed_before, dups_of}
-use Rattle.ffs_volume.specs.{declared.Layout.Layout, declared.Step.Step, Blocks.KeptByRule.offer_verdict}
-use Rattle.ffs_volume.specs.{Blocks.KeptByRule.verdicts, Blocks.KeptByRule.kept_by_rule}
+use Rattle.std.proofs.{Common.{nat_le, min, ◌&&◌, ◌||◌, ◌==◌, slice_set, if◌then◌else◌, map}, lemmas.Bool.and_parts}
+use Rattle.std.proofs.lemmas.Bool.{and_from, and_cases, cases_eq, both_ways, eq-eqb, ne_eqb, eqb-true, eqb-false}
+use Rattle.std.proofs.lemmas.Bool.{ltb-true, ltb-false, le-leb, lt-leb, lt-ltb, le-ltb, Decides.nat_tests}
+use Rattle.std.proofs.{lemmas.List.{get_or-set_same, get_or-set_other, length-set, Sums.sum_by-cons}, Math.Bool.or-true}
+use Rattle.std.{proofs.Math.Bool.{or-false, and-false}, specs.List.{list_all, range_with_len}}
+use Rattle.ffs_volume.specs.declared.{Step.{TheVariants.{Run, Tail, Gap}, Step}, Layout.Layout}
+use Rattle.ffs_volume.specs.{Disk.Areas.{is_fragment_in_range, is_run_in_range, is_reserved}, Blocks.Owners.Owner}
+use Rattle.ffs_volume.specs.Blocks.{Owners.{owner_of, owners_of}, Claims.{Claims, is_set, is_open, at_next_inode}}
+use Rattle.ffs_volume.specs.Blocks.Claims.{no_claims, after_offer, after_offers, after_step, after_steps, after_owner}
+use Rattle.ffs_volume.specs.Blocks.{Claims.after_owners, KeptOffers.{kept_in_offers, kept_in_step, kept_in_steps}}
+use Rattle.ffs_volume.specs.Blocks.{KeptOffers.kept_in_owners, KeptByRule.{uncounted, CountedOffer, OfferVerdict}}
+use Rattle.ffs_volume.specs.Blocks.KeptByRule.{counted_offer, bad_runs_after, step_offers, offers_of_steps, all_offers}
+use Rattle.ffs_volume.specs.Blocks.KeptByRule.{is_claimed_before, dups_of, offer_verdict, verdicts, kept_by_rule}
 use Rattle.ffs_volume.proofs.Potentials.{in_range_below}
-use Rattle.ffs_certificate.specs.Certificate.{KeepsByRule}
-use Rattle.ffs_certificate.proofs.BlocksSilent.{bit, reserved_length, reserved_bit}
+use Rattle.ffs_certificate.{specs.Certificate.KeepsByRule, proofs.BlocksSilent.{bit, reserved_length, reserved_bit}}
 
 -- how many kept offers of an inode there are
 abbrev pub kept_of : List OfferVerdict → ℕ → ℕ

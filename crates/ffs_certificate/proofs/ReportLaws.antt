@@ -1,29 +1,26 @@
 -- A report has no defect exactly where the volume is consistent.
 use Rattle.std.proofs.Common.{◌≡◌, ◌↔◌, ℕ, Bool, true, false, if◌then◌else◌, List, [], ◌∷◌, ◌++◌, map, sym, ◌∙◌, ap}
-use Rattle.std.proofs.Common.{refl}
-use Rattle.std.proofs.lemmas.Bool.{or_parts, or_from, true_from_ne_false, both_ways}
+use Rattle.std.proofs.{Common.refl, lemmas.Bool.{or_parts, or_from, true_from_ne_false, both_ways}}
 use Rattle.std.proofs.lemmas.List.Folds.{list_any-append}
-use Rattle.ffs_volume.specs.declared.Class.TheVariants.{Free, Partial, Unknown, File, Dir}
-use Rattle.ffs_volume.specs.declared.{Layout.Layout, Class.Class, BlockMessage.BlockMessage, End.TheVariants.Consistent}
-use Rattle.ffs_volume.specs.Blocks.BlockCheck.{phase1_lines, phase1b_lines, has_rescan}
-use Rattle.ffs_volume.specs.Consistent.{BlocksRight.BlocksRight, Volume.AreSettingsRight, Volume.IsConsistent}
-use Rattle.ffs_volume.specs.Groups.Records.{AreGroupsRight}
-use Rattle.ffs_volume.specs.Groups.GroupCheck.{phase5_lines, is_free_of_kept, is_free_of_runs}
-use Rattle.ffs_volume.specs.Messages.Kinds.{Message, TreeMessage, optimization, minfree, phase1b, of_blocks, of_tree}
-use Rattle.ffs_volume.specs.{Blocks.Owners.owners_of, Blocks.Inodes.is_directory, Messages.Kinds.is_defect}
-use Rattle.ffs_volume.specs.{Messages.Kinds.has_defect, Messages.Kinds.unless, Disk.Superblock.Superblock}
-use Rattle.ffs_volume.specs.{Laws.Geometry.IsAcceptedLayout}
-use Rattle.ffs_volume.specs.Report.Opening.{has_valid_optim, has_valid_minfree, setting_lines, super_lines}
-use Rattle.ffs_volume.specs.Report.Whole.{rescan_lines, later_phase_lines, phase_lines, report_lines, end_by, end_of}
+use Rattle.ffs_volume.specs.declared.{Class.{TheVariants.{Free, Partial, Unknown, File, Dir}, Class}, Layout.Layout}
+use Rattle.ffs_volume.specs.declared.{BlockMessage.BlockMessage, End.TheVariants.Consistent}
+use Rattle.ffs_volume.specs.Blocks.{BlockCheck.{phase1_lines, phase1b_lines, has_rescan}, Owners.owners_of}
+use Rattle.ffs_volume.specs.{Blocks.Inodes.is_directory, Consistent.{BlocksRight.BlocksRight, Volume.AreSettingsRight}}
+use Rattle.ffs_volume.specs.{Consistent.Volume.IsConsistent, Groups.{Records.AreGroupsRight, GroupCheck.phase5_lines}}
+use Rattle.ffs_volume.specs.{Groups.GroupCheck.{is_free_of_kept, is_free_of_runs}, Messages.Kinds.Message}
+use Rattle.ffs_volume.specs.Messages.Kinds.{TreeMessage, optimization, minfree, phase1b, of_blocks, of_tree, is_defect}
+use Rattle.ffs_volume.specs.{Messages.Kinds.{has_defect, unless}, Disk.Superblock.Superblock}
+use Rattle.ffs_volume.specs.{Laws.Geometry.IsAcceptedLayout, Report.Opening.{has_valid_optim, has_valid_minfree}}
+use Rattle.ffs_volume.specs.Report.{Opening.{setting_lines, super_lines}, Whole.{rescan_lines, later_phase_lines}}
+use Rattle.ffs_volume.specs.Report.Whole.{phase_lines, report_lines, end_by, end_of}
 use Rattle.ffs_volume.specs.Directories.PathnameCheck.{root_lines_of, root_lines, pathname_lines, continues_after_root}
-use Rattle.ffs_volume.specs.Directories.Volumes.{class_at, volume_of, whole_volume}
-use Rattle.ffs_volume.specs.Directories.{Connectivity.connectivity_lines, ReferenceCheck.reference_lines, Roles.Volume}
+use Rattle.ffs_volume.specs.Directories.{Volumes.{class_at, volume_of, whole_volume}, Connectivity.connectivity_lines}
+use Rattle.ffs_volume.specs.Directories.{ReferenceCheck.reference_lines, Roles.Volume}
 use Rattle.ffs_volume.proofs.{AcceptedLaws.accepted_sound, Silence.nil-left}
-use Rattle.ffs_certificate.specs.DirsCertificate.{IsSilent, AreDirectoriesRight}
-use Rattle.ffs_certificate.specs.ReportRight.{ReportIsRight, StopIsReported}
-use Rattle.ffs_certificate.proofs.BlocksSilent.{phase1_silent, phase1b_silent}
-use Rattle.ffs_certificate.proofs.VolumeLaws.{whole_is_volume, whole_unmarked, same_whole}
-use Rattle.ffs_certificate.proofs.{GroupLaws.phase5_silent, GroupLaws.same_free, DirsCertificate.silent_right}
+use Rattle.ffs_certificate.specs.{DirsCertificate.{IsSilent, AreDirectoriesRight}, ReportRight.ReportIsRight}
+use Rattle.ffs_certificate.{specs.ReportRight.StopIsReported, proofs.BlocksSilent.{phase1_silent, phase1b_silent}}
+use Rattle.ffs_certificate.proofs.{VolumeLaws.{whole_is_volume, whole_unmarked, same_whole}, GroupLaws.phase5_silent}
+use Rattle.ffs_certificate.proofs.{GroupLaws.same_free, DirsCertificate.silent_right}
 
 -- LISTS OF LINES
 quiet_left : (xs ys : List Message) → has_defect (xs ++ ys) ≡ false → has_defect xs ≡ false

@@ -1,16 +1,14 @@
 -- The logical blocks of an inode's Runs rise, and are below the number of its logical blocks.
 use Rattle.std.proofs.Common.{zero, suc, inl, inr, ◌≡◌, ℕ, ◌+◌, ◌-◌, ◌*◌, ◌<◌, ◌≤◌, Bool, true, false, arith, refl, sym}
 use Rattle.std.proofs.Common.{ap, subst, ◌∙◌, List, [], ◌∷◌, ◌++◌, Some, None, append_assoc, nat_lt, nat_eq}
-use Rattle.std.proofs.lemmas.Bool.{and_parts, and_from, lt-ltb, ltb-true, ltb-false, cases_lt}
-use Rattle.std.{proofs.Common.if◌then◌else◌, proofs.Common.slice_index, specs.List.list_all, specs.List.flat_map}
-use Rattle.std.{specs.List.range_with_len, specs.Int.div_ceil, proofs.Math.Nat.mul-le-mul_right}
-use Rattle.std.{proofs.lemmas.Grind.div_ceil_times, proofs.lemmas.List.Folds.list_all-append}
-use Rattle.ffs_volume.specs.declared.{Step.Step, Step.TheVariants.Run, Step.TheVariants.Gap}
-use Rattle.ffs_volume.specs.Disk.Areas.{is_run_in_range}
+use Rattle.std.proofs.{Common.{if◌then◌else◌, slice_index}, lemmas.Bool.{and_parts, and_from, lt-ltb, ltb-true}}
+use Rattle.std.proofs.lemmas.{Bool.{ltb-false, cases_lt}, Grind.div_ceil_times, List.Folds.list_all-append}
+use Rattle.std.{proofs.Math.Nat.mul-le-mul_right, specs.{List.{list_all, flat_map, range_with_len}, Int.div_ceil}}
+use Rattle.ffs_volume.specs.{declared.Step.{Step, TheVariants.{Run, Gap}}, Disk.Areas.is_run_in_range}
 use Rattle.ffs_volume.specs.Blocks.Steps.{FileBlocks, address_at, block_bytes, any_nonzero_from}
 use Rattle.ffs_volume.specs.Blocks.Steps.{indirect_addresses_needed, tail_of, data_length, span_of, steps_at}
 use Rattle.ffs_volume.specs.Blocks.Steps.{indirection_of, first_block, steps_of_addresses, is_walked, last_length_of}
-use Rattle.ffs_volume.specs.Blocks.{Inodes.logical_blocks_of, Inodes.addresses_needed, Steps.steps_of}
+use Rattle.ffs_volume.specs.Blocks.{Steps.steps_of, Inodes.{logical_blocks_of, addresses_needed}}
 use Rattle.ffs_volume.proofs.StepLaws.{one_more, span_more, next_first, used_most}
 use Rattle.ffs_certificate.specs.BlocksRise.{step_blocks, blocks_in, AreRising, AllBlocksRise}
 

@@ -1,35 +1,31 @@
 -- When the checks of directories are silent: pathnames, connectivity and references.
 use Rattle.std.proofs.Common.{◌≡◌, ◌≢◌, ℕ, zero, suc, ◌+◌, ◌<◌, ◌==◌, Bool, true, false, not, ◌&&◌, nat_lt, refl, List}
 use Rattle.std.proofs.Common.{[], ◌∷◌, Option, Some, None, if◌then◌else◌, IsSomeAnd, arith, ◌∙◌, ap, subst, ℤ, pos}
-use Rattle.std.proofs.Common.{negsuc}
-use Rattle.std.proofs.lemmas.Bool.{eqb-true, eqb-false, eq-eqb, ne_eqb, and_parts, and_from, not-true, not-false}
-use Rattle.std.proofs.lemmas.Bool.{not_from_true, not_from_false}
-use Rattle.std.proofs.lemmas.Bool.Decides.{nat_tests}
-use Rattle.ffs_volume.specs.declared.Class.TheVariants.{Free, Partial, Unknown, File, Dir}
-use Rattle.ffs_volume.specs.declared.Role.TheVariants.{Empty, Dot, Dotdot, Extra, Plain}
-use Rattle.ffs_volume.specs.Directories.Entries.{Entry, is_live}
-use Rattle.ffs_volume.specs.Directories.Roles.{Volume, RoledEntry, is_dir, is_suspect, is_plain, is_one_dot}
-use Rattle.ffs_volume.specs.Directories.Roles.{is_two_dots, roled_entries, dot, dotdot, start_entry, is_allocated_inode}
-use Rattle.ffs_volume.specs.Directories.Graph.{is_naming_entry, is_naming_entry_at, test_at, parent}
-use Rattle.ffs_volume.specs.Directories.PathnameCheck.{attributes, entry_lines, entry_lines_of, lines_of_entries}
-use Rattle.ffs_volume.specs.Directories.PathnameCheck.{plain_lines, named_lines, is_bad_whiteout}
-use Rattle.ffs_volume.specs.Directories.PathnameCheck.{is_first_entry_of_suspect, is_extraneous, has_wrong_type}
-use Rattle.ffs_volume.specs.Directories.PathnameCheck.{root_lines, root_lines_of, continues_after_root, is_short}
-use Rattle.ffs_volume.specs.Directories.PathnameCheck.{has_partial_chunk, are_sound, shape_lines, dot_lines}
-use Rattle.ffs_volume.specs.Directories.PathnameCheck.{dot_lines_of, missing_dot_lines, is_wrong_parent, dotdot_lines}
-use Rattle.ffs_volume.specs.Directories.PathnameCheck.{dotdot_lines_of, missing_dotdot_lines, sized_dir_lines}
-use Rattle.ffs_volume.specs.Directories.PathnameCheck.{is_sized_dir, directory_lines, pathname_lines}
-use Rattle.ffs_volume.specs.Directories.Connectivity.{is_dead, is_unref_dir, connectivity_lines}
-use Rattle.ffs_volume.specs.Directories.ReferenceCheck.{dead_lines, unref_lines, inode_lines, reference_lines_at}
-use Rattle.ffs_volume.specs.Directories.{Roles.references, ReferenceCheck.reference_lines, Parents.graph_of}
-use Rattle.ffs_volume.specs.Directories.{Parents.nth_roled, Paths.dir_path, Paths.entry_path}
+use Rattle.std.proofs.{Common.negsuc, lemmas.Bool.{eqb-true, eqb-false, eq-eqb, ne_eqb, and_parts, and_from, not-true}}
+use Rattle.std.proofs.lemmas.Bool.{not-false, not_from_true, not_from_false, Decides.nat_tests}
+use Rattle.ffs_volume.specs.declared.Class.{TheVariants.{Free, Partial, Unknown, File, Dir}, Class}
+use Rattle.ffs_volume.specs.declared.Role.{TheVariants.{Empty, Dot, Dotdot, Extra, Plain}, Role}
+use Rattle.ffs_volume.specs.Directories.{Entries.{Entry, is_live}, Roles.{Volume, RoledEntry, is_dir, is_suspect}}
+use Rattle.ffs_volume.specs.Directories.Roles.{is_plain, is_one_dot, is_two_dots, roled_entries, dot, dotdot}
+use Rattle.ffs_volume.specs.Directories.{Roles.{start_entry, is_allocated_inode, references}, Graph.is_naming_entry}
+use Rattle.ffs_volume.specs.Directories.{Graph.{is_naming_entry_at, test_at, parent}, PathnameCheck.attributes}
+use Rattle.ffs_volume.specs.Directories.PathnameCheck.{entry_lines, entry_lines_of, lines_of_entries, plain_lines}
+use Rattle.ffs_volume.specs.Directories.PathnameCheck.{named_lines, is_bad_whiteout, is_first_entry_of_suspect}
+use Rattle.ffs_volume.specs.Directories.PathnameCheck.{is_extraneous, has_wrong_type, root_lines, root_lines_of}
+use Rattle.ffs_volume.specs.Directories.PathnameCheck.{continues_after_root, is_short, has_partial_chunk, are_sound}
+use Rattle.ffs_volume.specs.Directories.PathnameCheck.{shape_lines, dot_lines, dot_lines_of, missing_dot_lines}
+use Rattle.ffs_volume.specs.Directories.PathnameCheck.{is_wrong_parent, dotdot_lines, dotdot_lines_of}
+use Rattle.ffs_volume.specs.Directories.PathnameCheck.{missing_dotdot_lines, sized_dir_lines, is_sized_dir}
+use Rattle.ffs_volume.specs.Directories.{PathnameCheck.{directory_lines, pathname_lines}, Connectivity.is_dead}
+use Rattle.ffs_volume.specs.Directories.{Connectivity.{is_unref_dir, connectivity_lines}, ReferenceCheck.dead_lines}
+use Rattle.ffs_volume.specs.Directories.ReferenceCheck.{unref_lines, inode_lines, reference_lines_at, reference_lines}
+use Rattle.ffs_volume.specs.Directories.{Parents.{graph_of, nth_roled}, Paths.{dir_path, entry_path}}
 use Rattle.ffs_volume.specs.Messages.Kinds.{TreeMessage, lines_below, unref_dir, extra_dot, extra_dotdot, root_suspect}
-use Rattle.ffs_volume.specs.{declared.Class.Class, declared.Role.Role, Messages.Kinds.whiteout}
-use Rattle.ffs_volume.specs.{Messages.Kinds.out_of_range, Messages.Kinds.unallocated, Blocks.Inodes.is_allocated}
-use Rattle.ffs_volume.specs.{Blocks.Inodes.is_directory, Disk.Numbers.equals_natural}
-use Rattle.ffs_volume.proofs.Silence.{nil-left, nil-right, nil-both, reported-quiet, reported-silent, if-quiet}
-use Rattle.ffs_volume.proofs.Silence.{if-silent, else-quiet, else-silent, then-quiet, then-silent, lines-quiet}
-use Rattle.ffs_volume.proofs.{Silence.lines-silent, RoleLaws.plain-true}
+use Rattle.ffs_volume.specs.{Messages.Kinds.{whiteout, out_of_range, unallocated}, Blocks.Inodes.is_allocated}
+use Rattle.ffs_volume.{specs.{Blocks.Inodes.is_directory, Disk.Numbers.equals_natural}, proofs.Silence.nil-left}
+use Rattle.ffs_volume.proofs.Silence.{nil-right, nil-both, reported-quiet, reported-silent, if-quiet, if-silent}
+use Rattle.ffs_volume.proofs.Silence.{else-quiet, else-silent, then-quiet, then-silent, lines-quiet, lines-silent}
+use Rattle.ffs_volume.proofs.RoleLaws.{plain-true}
 
 ruleset quiet = (nil-left, nil-right, reported-quiet, not-false, eqb-true)
 

@@ -2,23 +2,20 @@
 use Rattle.std.proofs.Common.{◌≡◌, ◌≢◌, ℕ, zero, suc, ◌==◌, Bool, true, false, not, ◌&&◌, List, [], ◌∷◌, ◌++◌, Some}
 use Rattle.std.proofs.Common.{if◌then◌else◌, sym, ◌∙◌, ap, subst, inl, inr, ◌⊎◌, refl, ◌≤◌, nat_lt, nat_le, None, arith}
 use Rattle.std.proofs.lemmas.Bool.{eqb-false, both_ways, cases_Bool, cases_eq, eq-eqb, ne_eqb, leb-true, and_parts}
-use Rattle.std.proofs.lemmas.Bool.{and_from, or_from, or_right, not_from_false}
-use Rattle.std.specs.List.{flat_map, list_any}
-use Rattle.ffs_volume.specs.declared.Role.TheVariants.{Empty, Dot, Dotdot, Extra, Plain}
-use Rattle.ffs_volume.specs.declared.Class.TheVariants.{Free, Partial, Unknown, File, Dir}
+use Rattle.std.{proofs.lemmas.Bool.{and_from, or_from, or_right, not_from_false}, specs.List.{flat_map, list_any}}
+use Rattle.ffs_volume.specs.declared.Role.{TheVariants.{Empty, Dot, Dotdot, Extra, Plain}, Role}
+use Rattle.ffs_volume.specs.declared.Class.{TheVariants.{Free, Partial, Unknown, File, Dir}, Class}
 use Rattle.ffs_volume.specs.Directories.Roles.{Volume, RoledEntry, role_of, roled_from, roled_chunk, roled_entries}
 use Rattle.ffs_volume.specs.Directories.Roles.{is_one_dot, is_two_dots, is_dir, is_inode, is_allocated_inode}
-use Rattle.ffs_volume.specs.Directories.Parents.{nth_roled, graph_of, first_naming_dir, is_first_naming_entry}
-use Rattle.ffs_volume.specs.Directories.Graph.{is_naming_entry, is_naming_dir, is_named, first_index, test_at}
-use Rattle.ffs_volume.specs.Directories.{Roles.is_suspect, Entries.Entry, Entries.Chunk, Climb.is_value}
+use Rattle.ffs_volume.specs.Directories.{Roles.is_suspect, Parents.{nth_roled, graph_of, first_naming_dir}}
+use Rattle.ffs_volume.specs.Directories.{Parents.is_first_naming_entry, Graph.{is_naming_entry, is_naming_dir}}
+use Rattle.ffs_volume.specs.Directories.{Graph.{is_named, first_index, test_at}, Entries.{Entry, Chunk}, Climb.is_value}
 use Rattle.ffs_volume.specs.Directories.{PathnameCheck.is_first_entry_of_suspect, Connectivity.is_dead}
-use Rattle.ffs_volume.specs.{declared.Role.Role, declared.Class.Class, Blocks.Inodes.is_directory}
-use Rattle.ffs_volume.specs.{Blocks.Inodes.is_allocated}
-use Rattle.ffs_volume.proofs.{SearchLaws.some_below-gives, SearchLaws.first_below-is, ClimbLaws.is_value-from}
-use Rattle.ffs_volume.proofs.{Graphs.IsSane, Graphs.NoneDead, Booleans.and_false-from}
-use Rattle.ffs_certificate.specs.Premises.{IsVolume, IsUnmarked}
-use Rattle.ffs_certificate.proofs.Silent.{IsNamer, names_at-gives, IsPathnameQuiet, dir-below, IsCountQuiet}
-use Rattle.ffs_certificate.proofs.Reached.{place_of}
+use Rattle.ffs_volume.{specs.Blocks.Inodes.{is_directory, is_allocated}, proofs.SearchLaws.some_below-gives}
+use Rattle.ffs_volume.proofs.{SearchLaws.first_below-is, ClimbLaws.is_value-from, Graphs.{IsSane, NoneDead}}
+use Rattle.ffs_volume.proofs.Booleans.{and_false-from}
+use Rattle.ffs_certificate.{specs.Premises.{IsVolume, IsUnmarked}, proofs.Silent.{IsNamer, names_at-gives}}
+use Rattle.ffs_certificate.proofs.{Silent.{IsPathnameQuiet, dir-below, IsCountQuiet}, Reached.place_of}
 
 role-live : (first : Bool) (index : ℕ) (e : Entry) → role_of first index e ≡ Plain → e.number ≢ 0
 unfolding role_of

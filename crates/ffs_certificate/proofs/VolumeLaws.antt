@@ -1,30 +1,26 @@
 -- What is known of an image's volume, and that all is kept where the block check is silent.
 use Rattle.std.proofs.Common.{zero, suc, ◌≡◌, ℕ, ◌+◌, ◌-◌, ◌*◌, ◌<◌, ◌≤◌, true, false, arith, refl, sym, ap, subst, ◌∙◌}
 use Rattle.std.proofs.Common.{List, [], ◌∷◌, ◌++◌, ◌||◌, if◌then◌else◌, map, ◌≢◌, ◌==◌, Bool, not, nat_lt, nat_le, drop}
-use Rattle.std.proofs.lemmas.Bool.{and_parts, and_from, eq-eqb, leb-true, ltb-true}
-use Rattle.std.{specs.List.range_with_len, specs.List.list_any, specs.List.flat_map, proofs.Math.Path.fun_ext}
-use Rattle.std.{proofs.lemmas.List.Folds.list_all-map, proofs.lemmas.List.FromFn.length-range_with_len}
-use Rattle.ffs_volume.specs.declared.Class.TheVariants.{Free, Partial, Unknown, File, Dir}
-use Rattle.ffs_volume.specs.declared.Step.TheVariants.{Run, Tail, Gap}
-use Rattle.ffs_volume.specs.declared.{Layout.Layout, Class.Class, Step.Step, Inode.Inode}
+use Rattle.std.proofs.lemmas.{Bool.{and_parts, and_from, eq-eqb, leb-true, ltb-true}, List.Folds.list_all-map}
+use Rattle.std.{proofs.{lemmas.List.FromFn.length-range_with_len, Math.Path.fun_ext}, specs.List.range_with_len}
+use Rattle.std.specs.List.{list_any, flat_map}
+use Rattle.ffs_volume.specs.declared.Class.{TheVariants.{Free, Partial, Unknown, File, Dir}, Class}
+use Rattle.ffs_volume.specs.declared.{Step.{TheVariants.{Run, Tail, Gap}, Step}, Layout.Layout, Inode.Inode}
 use Rattle.ffs_volume.specs.Blocks.Claims.{Claims, no_claims, reserved_map, at_next_inode, is_open, after_step}
-use Rattle.ffs_volume.specs.Blocks.BlockCheck.{blames, is_marked, phase1_lines, phase1b_lines}
-use Rattle.ffs_volume.specs.Blocks.KeptSteps.{is_kept_step, kept_steps, claims_before, kept_steps_of}
-use Rattle.ffs_volume.specs.Blocks.Inodes.{inode_of, class_of, is_unknown, type_of, is_known_type, is_too_large}
-use Rattle.ffs_volume.specs.Blocks.Inodes.{any_nonzero, addresses_allowed, is_directory, is_allocated}
-use Rattle.ffs_volume.specs.Blocks.Owners.{owner_of, owners_of, step_fragments}
-use Rattle.ffs_volume.specs.Blocks.{Claims.after_owner, Claims.after_owners, Steps.steps_of}
+use Rattle.ffs_volume.specs.Blocks.{Claims.{after_owner, after_owners}, BlockCheck.{blames, is_marked, phase1_lines}}
+use Rattle.ffs_volume.specs.Blocks.{BlockCheck.phase1b_lines, KeptSteps.{is_kept_step, kept_steps, claims_before}}
+use Rattle.ffs_volume.specs.Blocks.{KeptSteps.kept_steps_of, Inodes.{inode_of, class_of, is_unknown, type_of}}
+use Rattle.ffs_volume.specs.Blocks.Inodes.{is_known_type, is_too_large, any_nonzero, addresses_allowed, is_directory}
+use Rattle.ffs_volume.specs.Blocks.{Inodes.is_allocated, Owners.{owner_of, owners_of, step_fragments}, Steps.steps_of}
 use Rattle.ffs_volume.specs.Directories.Volumes.{is_inode_number, class_at, marked_at, steps_of_inode}
 use Rattle.ffs_volume.specs.Directories.Volumes.{kept_steps_of_inode, chunk_source_of, volume_with, volume_of}
-use Rattle.ffs_volume.specs.Directories.Roles.{roled_chunk, roled_entries}
-use Rattle.ffs_volume.specs.{Directories.Volumes.whole_volume, Directories.Entries.chunks_of}
-use Rattle.ffs_volume.specs.{Consistent.BlocksRight.is_right_class, Consistent.BlocksRight.BlocksRight}
-use Rattle.ffs_volume.specs.{Disk.Areas.is_run_in_range, Laws.Geometry.IsAcceptedLayout}
-use Rattle.ffs_volume.proofs.Sizes.{some_inodes, no_steps}
-use Rattle.ffs_certificate.specs.Premises.{IsVolume, IsUnmarked}
-use Rattle.ffs_certificate.proofs.BlockLaws.{mark, Calm, calm_open, step_quiet, steps_quiet, step_claims, owner_quiet}
-use Rattle.ffs_certificate.proofs.BlockLaws.{owners_quiet, owner_claims, owners_from, start_calm}
-use Rattle.ffs_certificate.proofs.{BlocksSilent.right_quiet, BlocksSilent.blocks_silent, GroupLaws.all_at}
+use Rattle.ffs_volume.specs.Directories.{Volumes.whole_volume, Roles.{roled_chunk, roled_entries}, Entries.chunks_of}
+use Rattle.ffs_volume.specs.{Consistent.BlocksRight.{is_right_class, BlocksRight}, Disk.Areas.is_run_in_range}
+use Rattle.ffs_volume.{specs.Laws.Geometry.IsAcceptedLayout, proofs.Sizes.{some_inodes, no_steps}}
+use Rattle.ffs_certificate.{specs.Premises.{IsVolume, IsUnmarked}, proofs.BlockLaws.{mark, Calm, calm_open, step_quiet}}
+use Rattle.ffs_certificate.proofs.BlockLaws.{steps_quiet, step_claims, owner_quiet, owners_quiet, owner_claims}
+use Rattle.ffs_certificate.proofs.{BlockLaws.{owners_from, start_calm}, BlocksSilent.{right_quiet, blocks_silent}}
+use Rattle.ffs_certificate.proofs.GroupLaws.{all_at}
 
 step_kept_quiet : (v : Layout) (s : Claims) (step : Step) → Calm s → step_quiet v s.used step ≡ true →
     is_kept_step v s step ≡ true
