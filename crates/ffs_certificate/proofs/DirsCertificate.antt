@@ -1,25 +1,23 @@
 -- The certificate of the checks of directories: silent, unreported and consistent are the same.
-use Rattle.std.proofs.Common.{◌≡◌, ◌≢◌, ℕ, ◌==◌, true, false, not, nat_lt, nat_le, Option, Some, None, IsSomeAnd, arith}
-use Rattle.std.proofs.{Common.{sym, ◌∙◌, ap, inl, inr, refl, ◌↔◌}, lemmas.Bool.{both_ways, cases_eq, eqb-true, eq-eqb}}
-use Rattle.std.proofs.lemmas.Bool.{ne_eqb, and_parts, and_from, not-false, not_from_true, false_from_ne_true}
-use Rattle.std.proofs.lemmas.Bool.Decides.{nat_tests}
+use Rattle.std.proofs.Common.{◌≡◌, ◌≢◌, ℕ, true, false, not, Option, Some, None, IsSomeAnd, arith, sym, ap, inl, inr}
+use Rattle.std.proofs.{Common.{refl, ◌↔◌}, lemmas.Bool.{both_ways, cases_eq, eqb-true, eq-eqb, ne_eqb, and_parts}}
+use Rattle.std.proofs.lemmas.Bool.{and_from, not-false, not_from_true, false_from_ne_true, Decides.nat_tests}
 use Rattle.ffs_volume.specs.declared.Class.{TheVariants.{Free, Partial, Unknown, File, Dir}, Class}
-use Rattle.ffs_volume.specs.{declared.Role.TheVariants.Plain, Directories.Roles.{Volume, RoledEntry, is_dir, is_inode}}
-use Rattle.ffs_volume.specs.Directories.{Roles.{is_suspect, dotdot, references, roled_entries}, Graph.parent}
-use Rattle.ffs_volume.specs.Directories.{Graph.{parent_entry_index, is_lost, reached, IsNamedOnce}, Parents.graph_of}
-use Rattle.ffs_volume.specs.Directories.{Parents.{is_parent_entry, nth_roled}, PathnameCheck.is_wrong_parent}
-use Rattle.ffs_volume.specs.Directories.{PathnameCheck.is_extraneous, Entries.Entry, Climb.is_value}
-use Rattle.ffs_volume.specs.{Directories.Connectivity.is_unref_dir, Blocks.Inodes.{is_directory, is_allocated}}
-use Rattle.ffs_volume.specs.{Blocks.Inodes.is_unknown, Consistent.DirectoriesRight.{IsPlainRight, AreDirsRight}}
+use Rattle.ffs_volume.specs.{declared.Role.TheVariants.Plain, Directories.Roles.{Volume, RoledEntry, is_dir}}
+use Rattle.ffs_volume.specs.Directories.{Roles.{is_suspect, dotdot, roled_entries}, Graph.{parent, parent_entry_index}}
+use Rattle.ffs_volume.specs.Directories.{Graph.{is_lost, reached, IsNamedOnce}, Parents.{graph_of, is_parent_entry}}
+use Rattle.ffs_volume.specs.Directories.{Parents.nth_roled, PathnameCheck.{is_wrong_parent, is_extraneous}}
+use Rattle.ffs_volume.specs.Directories.{Entries.Entry, Climb.is_value, Connectivity.is_unref_dir}
+use Rattle.ffs_volume.specs.{Blocks.Inodes.is_directory, Consistent.DirectoriesRight.{IsPlainRight, AreDirsRight}}
 use Rattle.ffs_volume.{specs.Consistent.DirectoriesRight.{AreLinksRight, AreCountsRight}, proofs.LevelLaws.parent-root}
 use Rattle.ffs_volume.proofs.{LevelLaws.reached-root, ClimbLaws.{is_value-true, is_value-from}, Graphs.AllReached}
 use Rattle.ffs_volume.proofs.{Graphs.NoExtraneous, Unreached.lost-true, Booleans.{and_false-right, and_false-from}}
 use Rattle.ffs_certificate.specs.{DirsCertificate.{IsSilent, AreDirectoriesRight}, Conditions.IsPlainUnreported}
 use Rattle.ffs_certificate.specs.Conditions.{AreDirsUnreported, AreLinksUnreported, AreCountsUnreported}
 use Rattle.ffs_certificate.{specs.Premises.{IsVolume, IsUnmarked}, proofs.Silent.{dir-below, names_at-gives}}
-use Rattle.ffs_certificate.proofs.Silent.{names_at-from, count-true, count-from, pathname-quiet, pathname-silent}
-use Rattle.ffs_certificate.proofs.Silent.{connectivity-quiet, connectivity-silent, reference-quiet, reference-silent}
-use Rattle.ffs_certificate.proofs.Suspects.{is_sane, dir-from_two, none_empty, none_suspect, none_dead, plain-live}
+use Rattle.ffs_certificate.proofs.Silent.{names_at-from, pathname-quiet, pathname-silent, connectivity-quiet}
+use Rattle.ffs_certificate.proofs.{Silent.{connectivity-silent, reference-quiet, reference-silent}, Suspects.is_sane}
+use Rattle.ffs_certificate.proofs.Suspects.{dir-from_two, none_empty, none_suspect, none_dead, plain-live}
 use Rattle.ffs_certificate.proofs.Reached.{silent-reached, links-right, has_parent_entry}
 
 root_class : (c : Class) → is_directory c ≡ true → c ≡ Dir
@@ -28,13 +26,6 @@ root_class File h = absurd (cc)
 root_class Unknown h = absurd (cc)
 root_class Partial h = absurd (cc)
 root_class Free h = absurd (cc)
-
-known-false : (c : Class) → c ≢ Unknown → is_unknown c ≡ false
-known-false Unknown h = absurd (h refl)
-known-false Dir h = refl
-known-false File h = refl
-known-false Partial h = refl
-known-false Free h = refl
 
 -- SILENT AND UNREPORTED
 pub checks_reported : (v : Volume) → IsVolume v → IsUnmarked v →
@@ -117,30 +108,11 @@ checks_reported v vol un = (
 
 -- DIRECTORIES
 plain_right : (v : Volume) (e : Entry) → IsUnmarked v → e.number ≢ 0 → IsPlainUnreported v e → IsPlainRight v e
-plain_right v e un live q =
-    let known = known-false (v.class e.number) (un.known e.number) in
-    elim (cases_eq e.number 1) [
-      | inl y ↦ inl (y, grind (arith, nat_tests))
-      | inr n ↦ let m = q.named (ne_eqb e.number 1 n) in inr (grind (arith, nat_tests), grind (arith, nat_tests))
-    ]
+plain_right v e un live q = grind arith
 
 plain_unreported : (v : Volume) (e : Entry) → IsVolume v → IsUnmarked v → IsPlainRight v e → IsPlainUnreported v e
-plain_unreported v e vol un (inl w) = record {
-  below = let some = vol.some in grind (arith, nat_tests);
-  no_whiteout = grind (arith, nat_tests);
-  named = λ m. absurd (both_ways (e.number == 1) m (eq-eqb e.number 1 w.0));
-}
-plain_unreported v e vol un (inr w) =
-    let p = and_parts (is_inode v e.number) (is_allocated (v.class e.number)) w.0 in
-    let other : e.kind ≢ 14 = λ k. vol.kinds e.number (un.known e.number) w.0 (sym w.1 ∙ k) in
-    record {
-      below = (and_parts (nat_le 2 e.number) (nat_lt e.number v.count) p.0).1;
-      no_whiteout = grind (arith, nat_tests);
-      named = λ m. record {
-        allocated = p.1;
-        kind = and_false-from (not (is_unknown (v.class e.number))) _ (λ h. not_from_true _ (eq-eqb e.kind _ w.1));
-      };
-    }
+plain_unreported v e vol un (inl w) = grind arith
+plain_unreported v e vol un (inr w) = grind arith
 
 pub dirs_reported : (v : Volume) → IsVolume v → IsUnmarked v → AreDirsUnreported v ↔ AreDirsRight v
 dirs_reported v vol un = (
@@ -192,9 +164,7 @@ reached_reported v vol un r = silent-reached (graph_of v) (is_suspect v) (is_san
 -- the parent of a directory that is named once is where that name is
 parent_once : (v : Volume) (d : ℕ) → d ≢ 2 → reached (graph_of v) d ≡ true → (o : IsNamedOnce (graph_of v) d) →
     parent (graph_of v) d ≡ Some o.in_dir
-parent_once v d n r o =
-    let e = has_parent_entry (graph_of v) d n r in
-    e.2.0 ∙ ap Some (o.only e.0 e.1 e.3).0
+parent_once v d n r o = grind (arith, has_parent_entry)
 
 -- `..` is the parent exactly where its number isn't reported
 dotdot_right : (v : Volume) (d s : ℕ) (o : Option Entry) → parent (graph_of v) d ≡ Some s →
@@ -272,12 +242,7 @@ links_reported v vol un r = (
 
 -- COUNTS
 pub counts_reported : (v : Volume) → AreCountsUnreported v ↔ AreCountsRight v
-counts_reported v = (
-  (λ q i h. let c = q i h in
-      let n = c.some in record { same = count-true (v.inode i).nlink (references v i) c.same; some = omega arith }),
-  (λ r i h. let c = r i h in
-      let n = c.some in record { some = omega arith; same = count-from (v.inode i).nlink (references v i) c.same }),
-)
+counts_reported v = grind arith
 
 -- THE WHOLE
 pub silent_right : (v : Volume) → IsVolume v → IsUnmarked v → IsSilent v ↔ AreDirectoriesRight v

@@ -35,8 +35,7 @@ all_at p a (suc n) c e low high =
 all_from : (p : ℕ → Bool) (a n : ℕ) → ((c : ℕ) → a ≤ c → c < a + n → p c ≡ true) → list_all p (range_with_len a n)
     ≡ true
 all_from p a zero h = refl
-all_from p a (suc n) h = and_from (p a) _ (h a (omega arith) (omega arith))
-    (all_from p (a + 1) n (λ c low high. h c (omega arith) (omega arith)))
+all_from p a (suc n) h = grind (arith, all_from p (a + 1) n (λ c low high. h c (omega arith) (omega arith)))
 
 first_reported : (m : BlockMessage) → is_reported unreported m ≡ false
 first_reported (PartAlloc _) = refl

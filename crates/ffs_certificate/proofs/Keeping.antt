@@ -2,10 +2,10 @@
 use Rattle.std.proofs.Common.{zero, suc, inl, inr, ◌≡◌, ◌⊎◌, ℕ, ◌+◌, ◌-◌, ◌*◌, ◌<◌, ◌≤◌, Bool, true, false, cond, arith}
 use Rattle.std.proofs.Common.{refl, sym, ap, subst, ◌∙◌, List, [], ◌∷◌, ◌++◌, length, append_assoc, count_by, nat_lt}
 use Rattle.std.proofs.{Common.{nat_le, min, ◌&&◌, ◌||◌, ◌==◌, slice_set, if◌then◌else◌, map}, lemmas.Bool.and_parts}
-use Rattle.std.proofs.lemmas.Bool.{and_from, and_cases, cases_eq, both_ways, eq-eqb, ne_eqb, eqb-true, eqb-false}
+use Rattle.std.proofs.lemmas.Bool.{and_from, cases_eq, both_ways, eq-eqb, ne_eqb, eqb-true, eqb-false}
 use Rattle.std.proofs.lemmas.Bool.{ltb-true, ltb-false, le-leb, lt-leb, lt-ltb, le-ltb, Decides.nat_tests}
 use Rattle.std.proofs.{lemmas.List.{get_or-set_same, get_or-set_other, length-set, Sums.sum_by-cons}, Math.Bool.or-true}
-use Rattle.std.{proofs.Math.Bool.{or-false, and-false}, specs.List.{list_all, range_with_len}}
+use Rattle.std.{proofs.Math.Bool.{and-false}, specs.List.{list_all, range_with_len}}
 use Rattle.ffs_volume.specs.declared.{Step.{TheVariants.{Run, Tail, Gap}, Step}, Layout.Layout}
 use Rattle.ffs_volume.specs.{Disk.Areas.{is_fragment_in_range, is_run_in_range, is_reserved}, Blocks.Owners.Owner}
 use Rattle.ffs_volume.specs.Blocks.{Owners.{owner_of, owners_of}, Claims.{Claims, is_set, is_open, at_next_inode}}
@@ -43,11 +43,7 @@ record OfferTie (v : Layout) (i : ℕ) (s : Claims) (e : List OfferVerdict) : Ty
 -- an offer that isn't kept
 held_skip : (v : Layout) (i : ℕ) (used : List Bool) (kept : ℕ) (e : List OfferVerdict) (j : OfferVerdict) →
     j.kept ≡ false → Held v i used kept e → Held v i used kept (j ∷ e)
-held_skip v i used kept e j k t = record {
-  used_is = λ f ok. rw k (t.used_is f ok);
-  long = t.long;
-  kept_is = t.kept_is ∙ sym (kept_cons j e i ∙ rw k (omega arith));
-}
+held_skip v i used kept e j k t = grind arith
 
 -- a kept one: its fragment isn't in range, or it is used now, and no other is more
 held_keep : (v : Layout) (i : ℕ) (used used' : List Bool) (kept : ℕ) (e : List OfferVerdict) (j : OfferVerdict) →
@@ -165,16 +161,7 @@ offers_tied v i b s e (f ∷ fs) few t =
     (rest.0, cc)
 
 offer_bad : (v : Layout) (s : Claims) (f : ℕ) → (after_offer v s f).bad ≡ s.bad
-offer_bad v s f = one (nat_lt s.dups 11) (is_fragment_in_range v f) (is_set s.used f)
-  where
-    one : (a o u : Bool) → (if a then (if o
-        then (if u then record s { kept = s.kept + 1; dups = s.dups + 1; dup = slice_set s.dup f true }
-        else record s { kept = s.kept + 1; used = slice_set s.used f true })
-        else record s { kept = s.kept + 1 }) else s).bad ≡ s.bad
-    one false o u = refl
-    one true false u = refl
-    one true true true = refl
-    one true true false = refl
+offer_bad v s f = grind arith
 
 offers_bad : (v : Layout) (s : Claims) (fs : List ℕ) → (after_offers v s fs).bad ≡ s.bad
 offers_bad v s [] = refl
@@ -224,8 +211,7 @@ closed_test i b e (inr many) = rw (le-ltb (dups_of e i) 11 many) (and-false (nat
 
 shut_closed : (i b b' : ℕ) (e : List OfferVerdict) → (nat_lt b 11 && nat_lt (dups_of e i) 11) ≡ false → b ≤ b' →
     Closed i b' e
-shut_closed i b b' e q le = elim (and_cases (nat_lt b 11) (nat_lt (dups_of e i) 11) q)
-    [ inl l ↦ (let many = ltb-false b 11 l in inl (omega arith)) | inr r ↦ inr (ltb-false (dups_of e i) 11 r) ]
+shut_closed i b b' e q le = grind arith
 
 -- the offers of a Run that is past the cut, and of one that isn't
 closed_tied : (v : Layout) (i b : ℕ) (s : Claims) (e : List OfferVerdict) (fs : List ℕ) → is_open s ≡ false →
@@ -267,11 +253,7 @@ StepTied v i b s e step = Tie v i (bad_runs_after v b step) (after_step v s step
 step_tied : (v : Layout) (i b : ℕ) (s : Claims) (e : List OfferVerdict) (step : Step) → Tie v i b s e →
     StepTied v i b s e step
 step_tied v i b s e Gap t = (t, refl)
-step_tied v i b s e Tail t = one (is_open s) refl
-  where
-    one : (o : Bool) → is_open s ≡ o → StepTied v i b s e Tail
-    one true q = rw q (record { held = t.held; ready = t.ready; same = t.same }, refl)
-    one false q = rw q (t, refl)
+step_tied v i b s e Tail t = grind arith
 step_tied v i b s e (Run start len block) t = one (is_open s) refl (is_run_in_range v start len) refl
   where
     fs : List ℕ
@@ -365,8 +347,7 @@ verdicts_before v n i b e (f ∷ fs) lt h =
 
 step_before : (v : Layout) (n i b : ℕ) (e : List OfferVerdict) (step : Step) → i < n → are_before n e ≡ true →
     are_before n (verdicts v e (step_offers v i b step)) ≡ true
-step_before v n i b e (Run start len block) lt h =
-    verdicts_before v n i (bad_runs_after v b (Run start len block)) e (range_with_len start len) lt h
+step_before v n i b e (Run start len block) lt h = simp verdicts_before
 step_before v n i b e Tail lt h = h
 step_before v n i b e Gap lt h = h
 
@@ -405,10 +386,7 @@ owners_tied v n s e (o ∷ os) a h r =
 
 start_agrees : (v : Layout) → Agrees v (no_claims v) []
 unfolding no_claims is_fragment_in_range
-start_agrees v = record {
-  used = λ f ok. reserved_bit v f ∙ (rw (lt-ltb f v.size (in_range_below v f ok)) (sym (or-false (is_reserved v f))));
-  long = reserved_length v;
-}
+start_agrees v = grind (arith, reserved_bit, reserved_length)
 
 rising_range : (v : Layout) (image : List ℕ) (n k : ℕ) → Rising n (map (owner_of v image) (range_with_len n k))
 unfolding owner_of

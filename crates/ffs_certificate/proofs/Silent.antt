@@ -1,31 +1,27 @@
 -- When the checks of directories are silent: pathnames, connectivity and references.
-use Rattle.std.proofs.Common.{◌≡◌, ◌≢◌, ℕ, zero, suc, ◌+◌, ◌<◌, ◌==◌, Bool, true, false, not, ◌&&◌, nat_lt, refl, List}
-use Rattle.std.proofs.Common.{[], ◌∷◌, Option, Some, None, if◌then◌else◌, IsSomeAnd, arith, ◌∙◌, ap, subst, ℤ, pos}
-use Rattle.std.proofs.{Common.negsuc, lemmas.Bool.{eqb-true, eqb-false, eq-eqb, ne_eqb, and_parts, and_from, not-true}}
-use Rattle.std.proofs.lemmas.Bool.{not-false, not_from_true, not_from_false, Decides.nat_tests}
+use Rattle.std.proofs.Common.{◌≡◌, ◌≢◌, ℕ, zero, suc, ◌+◌, ◌<◌, ◌==◌, Bool, true, false, not, nat_lt, refl, List, []}
+use Rattle.std.proofs.Common.{◌∷◌, Option, Some, None, if◌then◌else◌, IsSomeAnd, arith, ap, subst, ℤ, pos, negsuc}
+use Rattle.std.proofs.lemmas.Bool.{eqb-true, eq-eqb, ne_eqb, and_from, not-true, not-false, not_from_true}
+use Rattle.std.proofs.lemmas.Bool.{not_from_false, Decides.nat_tests}
 use Rattle.ffs_volume.specs.declared.Class.{TheVariants.{Free, Partial, Unknown, File, Dir}, Class}
-use Rattle.ffs_volume.specs.declared.Role.{TheVariants.{Empty, Dot, Dotdot, Extra, Plain}, Role}
-use Rattle.ffs_volume.specs.Directories.{Entries.{Entry, is_live}, Roles.{Volume, RoledEntry, is_dir, is_suspect}}
-use Rattle.ffs_volume.specs.Directories.Roles.{is_plain, is_one_dot, is_two_dots, roled_entries, dot, dotdot}
-use Rattle.ffs_volume.specs.Directories.{Roles.{start_entry, is_allocated_inode, references}, Graph.is_naming_entry}
-use Rattle.ffs_volume.specs.Directories.{Graph.{is_naming_entry_at, test_at, parent}, PathnameCheck.attributes}
-use Rattle.ffs_volume.specs.Directories.PathnameCheck.{entry_lines, entry_lines_of, lines_of_entries, plain_lines}
-use Rattle.ffs_volume.specs.Directories.PathnameCheck.{named_lines, is_bad_whiteout, is_first_entry_of_suspect}
-use Rattle.ffs_volume.specs.Directories.PathnameCheck.{is_extraneous, has_wrong_type, root_lines, root_lines_of}
-use Rattle.ffs_volume.specs.Directories.PathnameCheck.{continues_after_root, is_short, has_partial_chunk, are_sound}
-use Rattle.ffs_volume.specs.Directories.PathnameCheck.{shape_lines, dot_lines, dot_lines_of, missing_dot_lines}
-use Rattle.ffs_volume.specs.Directories.PathnameCheck.{is_wrong_parent, dotdot_lines, dotdot_lines_of}
-use Rattle.ffs_volume.specs.Directories.PathnameCheck.{missing_dotdot_lines, sized_dir_lines, is_sized_dir}
-use Rattle.ffs_volume.specs.Directories.{PathnameCheck.{directory_lines, pathname_lines}, Connectivity.is_dead}
-use Rattle.ffs_volume.specs.Directories.{Connectivity.{is_unref_dir, connectivity_lines}, ReferenceCheck.dead_lines}
-use Rattle.ffs_volume.specs.Directories.ReferenceCheck.{unref_lines, inode_lines, reference_lines_at, reference_lines}
+use Rattle.ffs_volume.specs.{declared.Role.TheVariants.{Extra, Plain}, Directories.{Entries.Entry, Roles.Volume}}
+use Rattle.ffs_volume.specs.Directories.Roles.{RoledEntry, is_dir, is_suspect, is_one_dot, roled_entries, dot, dotdot}
+use Rattle.ffs_volume.specs.Directories.{Roles.{is_allocated_inode, references}, Graph.{is_naming_entry_at, test_at}}
+use Rattle.ffs_volume.specs.Directories.{Graph.parent, PathnameCheck.{attributes, entry_lines, lines_of_entries}}
+use Rattle.ffs_volume.specs.Directories.PathnameCheck.{plain_lines, named_lines, is_bad_whiteout}
+use Rattle.ffs_volume.specs.Directories.PathnameCheck.{is_first_entry_of_suspect, is_extraneous, has_wrong_type}
+use Rattle.ffs_volume.specs.Directories.PathnameCheck.{root_lines, root_lines_of, continues_after_root, is_short}
+use Rattle.ffs_volume.specs.Directories.PathnameCheck.{has_partial_chunk, are_sound, shape_lines, dot_lines}
+use Rattle.ffs_volume.specs.Directories.PathnameCheck.{dot_lines_of, is_wrong_parent, dotdot_lines, dotdot_lines_of}
+use Rattle.ffs_volume.specs.Directories.PathnameCheck.{sized_dir_lines, is_sized_dir, directory_lines, pathname_lines}
+use Rattle.ffs_volume.specs.Directories.Connectivity.{is_dead, is_unref_dir, connectivity_lines}
+use Rattle.ffs_volume.specs.Directories.ReferenceCheck.{inode_lines, reference_lines_at, reference_lines}
 use Rattle.ffs_volume.specs.Directories.{Parents.{graph_of, nth_roled}, Paths.{dir_path, entry_path}}
 use Rattle.ffs_volume.specs.Messages.Kinds.{TreeMessage, lines_below, unref_dir, extra_dot, extra_dotdot, root_suspect}
 use Rattle.ffs_volume.specs.{Messages.Kinds.{whiteout, out_of_range, unallocated}, Blocks.Inodes.is_allocated}
 use Rattle.ffs_volume.{specs.{Blocks.Inodes.is_directory, Disk.Numbers.equals_natural}, proofs.Silence.nil-left}
-use Rattle.ffs_volume.proofs.Silence.{nil-right, nil-both, reported-quiet, reported-silent, if-quiet, if-silent}
-use Rattle.ffs_volume.proofs.Silence.{else-quiet, else-silent, then-quiet, then-silent, lines-quiet, lines-silent}
-use Rattle.ffs_volume.proofs.RoleLaws.{plain-true}
+use Rattle.ffs_volume.proofs.Silence.{nil-right, nil-both, reported-quiet, reported-silent, if-quiet, else-quiet}
+use Rattle.ffs_volume.proofs.Silence.{then-quiet, then-silent, lines-quiet, lines-silent}
 
 ruleset quiet = (nil-left, nil-right, reported-quiet, not-false, eqb-true)
 
@@ -71,10 +67,7 @@ plain-quiet v s j e h =
 
 plain-silent : (v : Volume) (s j : ℕ) (e : Entry) → IsPlainQuiet v s j e → plain_lines v s j e ≡ []
 unfolding plain_lines
-plain-silent v s j e q =
-    if-silent (not (nat_lt e.number v.count)) _ _ (not_from_true _ q.below)
-    (if-silent (is_bad_whiteout e) _ _ q.no_whiteout
-    (else-silent (e.number == 1) _ (λ n. let m = q.named n in search (if-silent, not_from_true, named-silent))))
+plain-silent v s j e q = grind (arith, named-silent)
 
 -- an entry: not extra, and quiet if it is plain
 pub record IsEntryQuiet (v : Volume) (s j : ℕ) (e : RoledEntry) : Type 0 where
@@ -96,14 +89,7 @@ entry-quiet v s j e h = record {
 
 entry-silent : (v : Volume) (s j : ℕ) (e : RoledEntry) → IsEntryQuiet v s j e → entry_lines v s j e ≡ []
 unfolding entry_lines
-entry-silent v s j e q = go e.role refl
-  where
-    go : (r : Role) → e.role ≡ r → entry_lines_of v s j r e.entry ≡ []
-    go Empty x = refl
-    go Dot x = refl
-    go Dotdot x = refl
-    go Extra x = absurd (q.no_extra x)
-    go Plain x = plain-silent v s j e.entry (q.plain x)
+entry-silent v s j e q = grind (arith, plain-silent)
 
 -- the entries of a list that is from the place j on
 entries-quiet : (v : Volume) (s j : ℕ) (es : List RoledEntry) → lines_of_entries v s j es ≡ [] →
@@ -148,16 +134,10 @@ pub record IsNamer (v : Volume) (s j x : ℕ) : Type 0 where
   pub number : entry.entry.number ≡ x
 
 pub names_at-gives : (v : Volume) (s j x : ℕ) → is_naming_entry_at (graph_of v) s j x ≡ true → IsNamer v s j x
-names_at-gives v s j x h =
-    let p = and_parts (is_dir v s) (test_at (is_naming_entry x) j (roled_entries v s)) h in
-    let t = test-gives (is_naming_entry x) j (roled_entries v s) p.1 in
-    let q = and_parts (is_plain t.0.role) (t.0.entry.number == x) t.2 in
-    record { dir = p.0; entry = t.0; there = t.1; role = plain-true t.0.role q.0; number = eqb-true _ x q.1 }
+names_at-gives v s j x h = grind (arith, test-gives)
 
 pub names_at-from : (v : Volume) (s j x : ℕ) → IsNamer v s j x → is_naming_entry_at (graph_of v) s j x ≡ true
-names_at-from v s j x n =
-    and_from (is_dir v s) _ n.dir (test-from (is_naming_entry x) j (roled_entries v s) n.entry n.there
-    (and_from (is_plain n.entry.role) _ (ap is_plain n.role) (eq-eqb _ x n.number)))
+names_at-from v s j x n = grind (arith, test-from)
 
 -- DIRECTORIES: the size, Gaps and chunks of one
 pub record IsShapeQuiet (v : Volume) (d : ℕ) : Type 0 where
@@ -179,11 +159,7 @@ abbrev pub IsDotQuiet : ℕ → Option Entry → Type 0
 IsDotQuiet d o = IsSomeAnd o (λ e. (e.number ≡ d) × (e.kind ≡ 4))
 
 dot-quiet : (v : Volume) (d : ℕ) (o : Option Entry) → dot_lines_of v d o ≡ [] → IsDotQuiet d o
-dot-quiet v d None h = absurd (missing (start_entry v d 0) h)
-  where
-    missing : (o : Option Entry) → missing_dot_lines (attributes v d) (dir_path (graph_of v) d) o ≡ [] → ⊥
-    missing None h = absurd (cc)
-    missing (Some e) h = either-some (is_live e && not (is_two_dots e.name)) _ _ h
+dot-quiet v d None h = grind arith
 dot-quiet v d (Some e) h = search quiet depth 9
 
 dot-silent : (v : Volume) (d : ℕ) (o : Option Entry) → IsDotQuiet d o → dot_lines_of v d o ≡ []
@@ -196,11 +172,7 @@ pub record IsDotdotQuiet (v : Volume) (d : ℕ) (o : Option Entry) : Type 0 wher
   pub kind : IsSomeAnd o (λ e. e.kind ≡ 4)
 
 dotdot-quiet : (v : Volume) (d : ℕ) (o : Option Entry) → dotdot_lines_of v d o ≡ [] → IsDotdotQuiet v d o
-dotdot-quiet v d None h = absurd (missing (start_entry v d 1) h)
-  where
-    missing : (o : Option Entry) → missing_dotdot_lines (attributes v d) (dir_path (graph_of v) d) o ≡ [] → ⊥
-    missing None h = absurd (cc)
-    missing (Some e) h = either-some (is_live e && not (is_one_dot e.name)) _ _ h
+dotdot-quiet v d None h = grind arith
 dotdot-quiet v d (Some e) h = search quiet depth 9
 
 dotdot-silent : (v : Volume) (d : ℕ) (o : Option Entry) → IsDotdotQuiet v d o → dotdot_lines_of v d o ≡ []
@@ -263,12 +235,7 @@ pathname-quiet v h =
 
 pub pathname-silent : (v : Volume) → IsPathnameQuiet v → pathname_lines v ≡ []
 unfolding pathname_lines root_lines
-pathname-silent v q =
-    nil-both (root_lines v) _ (ap (root_lines_of v) q.root ∙ reported-silent _ root_suspect q.suspect)
-    (then-silent (continues_after_root v) (lines_below (directory_lines v) v.count) (λ g.
-    lines-silent (directory_lines v) v.count (λ d l. then-silent (is_sized_dir v d) (sized_dir_lines v d) (λ k.
-    let p = and_parts (is_dir v d) (not ((v.inode d).size == 0)) k in
-    dir-silent v d (q.each d p.0 (eqb-false (v.inode d).size 0 (not-true _ p.1)))))))
+pathname-silent v q = grind (arith, lines-silent, dir-silent, not-true)
 
 -- CONNECTIVITY
 pub connectivity-quiet : (v : Volume) → connectivity_lines v ≡ [] → (d : ℕ) → d < v.count → is_unref_dir v d ≡ false
@@ -285,26 +252,13 @@ pub record IsCountQuiet (v : Volume) (i : ℕ) : Type 0 where
   pub some : references v i ≢ 0
   pub same : equals_natural (v.inode i).nlink (references v i) ≡ true
 
--- the first of two is never silent
-first-quiet : (b : Bool) (xs ys : List TreeMessage) → (xs ≡ [] → ⊥) → (if b then xs else ys) ≡ [] → (b ≡ false)
-    × (ys ≡ [])
-first-quiet true xs ys n h = absurd (n h)
-first-quiet false xs ys n h = (refl, h)
-
 count-quiet : (v : Volume) (i : ℕ) → inode_lines v i ≡ [] → IsCountQuiet v i
 unfolding inode_lines
-count-quiet v i h =
-    let a = first-quiet (is_dead v i) (dead_lines v i) _ (either-some (v.marked i) _ _) h in
-    let b = first-quiet (references v i == 0) (unref_lines v i) _
-    (either-some (equals_natural (v.inode i).nlink 0) _ _) a.1 in
-    record { alive = a.0; some = eqb-false (references v i) 0 b.0; same = not-false _ (reported-quiet _ _ b.1) }
+count-quiet v i h = grind arith
 
 count-silent : (v : Volume) (i : ℕ) → IsCountQuiet v i → inode_lines v i ≡ []
 unfolding inode_lines
-count-silent v i q =
-    if-silent (is_dead v i) (dead_lines v i) _ q.alive
-    (if-silent (references v i == 0) (unref_lines v i) _ (ne_eqb (references v i) 0 q.some)
-    (reported-silent _ _ (not_from_true _ q.same)))
+count-silent v i q = grind arith
 
 pub reference-quiet : (v : Volume) → reference_lines v ≡ [] → (i : ℕ) → is_allocated_inode v i ≡ true → IsCountQuiet v i
 unfolding reference_lines
@@ -315,8 +269,7 @@ reference-quiet v h i k =
 pub reference-silent : (v : Volume) → ((i : ℕ) → is_allocated_inode v i ≡ true → IsCountQuiet v i) →
     reference_lines v ≡ []
 unfolding reference_lines
-reference-silent v h = lines-silent (reference_lines_at v) v.count
-    (λ i l. then-silent (is_allocated_inode v i) (inode_lines v i) (λ k. count-silent v i (h i k)))
+reference-silent v h = simp (lines-silent, then-silent, count-silent)
 
 -- a count and a number
 pub count-true : (z : ℤ) (n : ℕ) → equals_natural z n ≡ true → z ≡ pos n
