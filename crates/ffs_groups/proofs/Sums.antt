@@ -1,14 +1,13 @@
 -- Sums and counts over numbers in a row, and where all or none of them count.
 use Rattle.std.proofs.Common.{◌≡◌, ℕ, zero, suc, ◌+◌, ◌*◌, ◌<◌, ◌≤◌, Bool, [], map, cond, arith, refl, ap, ◌∙◌}
 use Rattle.std.proofs.Common.{count_by, ◌^◌, ◌-◌, true, false, List, not, inl, inr, sym, nat_eq, max, slice_index}
-use Rattle.std.proofs.Common.{add-zero}
-use Rattle.std.proofs.lemmas.Bool.{cases_lt, lt-ltb, le-ltb, le-leb, lt-leb, false_from_ne_true, true_from_ne_false}
-use Rattle.std.{specs.List.range_with_len, specs.List.sum_by, proofs.lemmas.List.Sums.sum_by-cons}
-use Rattle.std.{proofs.lemmas.Nat.mul-add-lt, specs.Int.bit_at, proofs.lemmas.Nat.Bits.bit_at_ones}
-use Rattle.ffs_volume.specs.Blocks.{Claims.is_set, Inodes.is_allocated, Inodes.is_directory}
-use Rattle.ffs_volume.specs.{Encodings.Kinds.class_of_kind, Groups.Records.is_used_inode, Groups.Records.is_dir_inode}
+use Rattle.std.proofs.{Common.add-zero, lemmas.Bool.{cases_lt, lt-ltb, le-ltb, le-leb, lt-leb, false_from_ne_true}}
+use Rattle.std.proofs.lemmas.{Bool.true_from_ne_false, List.Sums.sum_by-cons, Nat.{mul-add-lt, Bits.bit_at_ones}}
+use Rattle.std.specs.{List.{range_with_len, sum_by}, Int.bit_at}
+use Rattle.ffs_volume.specs.{Blocks.{Claims.is_set, Inodes.{is_allocated, is_directory}}, Encodings.Kinds.class_of_kind}
+use Rattle.ffs_volume.specs.Groups.Records.{is_used_inode, is_dir_inode}
 use Rattle.ffs_maps.proofs.Counting.{sum_split, count_within, none_counted, one_on}
-use Rattle.ffs_groups.specs.{Free.free_in, Free.bits_from, Inodes.class_in}
+use Rattle.ffs_groups.specs.{Free.{free_in, bits_from}, Inodes.class_in}
 
 pub sum_more : (f : ℕ → ℕ) (a n : ℕ) → sum_by f (range_with_len a (n + 1)) ≡ sum_by f (range_with_len a n) + f (a + n)
 sum_more f a n = omega (arith, sum_split f a n 1 (n + 1) refl, sum_by-cons f (a + n) [])
@@ -29,9 +28,7 @@ map_same f g a c (suc n) e =
 pub count_more : (p : ℕ → Bool) (a n count r : ℕ) (b : Bool) → count ≡ count_by p (range_with_len a n) →
     r ≡ cond b 1 0 → b ≡ p (a + n) →
     count + r ≡ count_by p (range_with_len a (n + 1))
-count_more p a n count r b e f g =
-    let one : r ≡ cond (p (a + n)) 1 0 = f ∙ ap (λ x. cond x 1 0) g in
-    omega (arith, e, one, sum_more (λ x. cond (p x) 1 0) a n)
+count_more p a n count r b e f g = grind (arith, sum_more)
 
 pub count_fits : (p : ℕ → Bool) (a n m count r : ℕ) (b : Bool) → count ≡ count_by p (range_with_len a n) →
     r ≡ cond b 1 0 → b ≡ p (a + n) → n < m → m < 2 ^ 32 → count + r < 2 ^ 32

@@ -33,23 +33,10 @@ add_blocks-requires c =
     }
 
 pub overflow_mul-from : goal.overflow_mul-from
-overflow_mul-from c =
-    omega (
-      arith,
-      mul-le c.from.result c.from-in-loop-block.result (2 ^ 32) 8
-          (omega (arith, c.from.ensures, c.loop-block.auto.block-fits))
-          (omega (arith, c.from-in-loop-block.ensures, c.args.geometry.now.sound.sizes.frag_high)),
-    )
+overflow_mul-from c = grind arith
 
 pub overflow_add-base : goal.overflow_add-base
-overflow_add-base c =
-    omega (
-      arith,
-      c.from-base.ensures,
-      mul-le c.from.result c.from-in-loop-block.result (2 ^ 32) 8
-          (omega (arith, c.from.ensures, c.loop-block.auto.block-fits))
-          (omega (arith, c.from-in-loop-block.ensures, c.args.geometry.now.sound.sizes.frag_high)),
-    )
+overflow_add-base c = grind arith
 
 pub loop-block-preserved : goal.loop-block-preserved
 loop-block-preserved c =

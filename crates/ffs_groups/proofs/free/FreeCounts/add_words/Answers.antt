@@ -1,4 +1,4 @@
-use Rattle.std.proofs.Common.{ap, arith, refl, ◌∙◌, ◌≡◌, ◌≤◌, ◌+◌, ◌*◌, ◌/◌, ◌^◌}
+use Rattle.std.proofs.Common.{ap, arith, refl, ◌∙◌, ◌≤◌, ◌+◌, ◌*◌, ◌/◌, ◌^◌}
 use Rattle.std.proofs.lemmas.List.FromFn.{length-map-range_with_len}
 use Rattle.ffs_maps.specs.Bits.{bits_of}
 use Rattle.ffs_groups.specs.Free.{word_bits, bits_from, free_in}
@@ -40,7 +40,4 @@ loop-block-preserved c =
     }
 
 pub returns : goal.returns
-returns c =
-    let end : c.loop-block.block ≡ c.args.blocks =
-    omega (arith, c.loop-block.invariant.within, c.loop-block-test.false) in
-    rw end at c.loop-block.invariant.added
+returns c = grind arith
