@@ -32,12 +32,6 @@ add_blocks-requires c =
           (omega (arith, c.loop-block.auto.block-fits));
     }
 
-pub overflow_mul-from : goal.overflow_mul-from
-overflow_mul-from c = grind arith
-
-pub overflow_add-base : goal.overflow_add-base
-overflow_add-base c = grind arith
-
 pub loop-block-preserved : goal.loop-block-preserved
 loop-block-preserved c =
     let frag = c.args.geometry.now.layout.frag in

@@ -18,6 +18,3 @@ overflow_add-counts-in-loop-inode c = grind (arith, count_within)
 
 pub loop-inode-preserved : goal.loop-inode-preserved
 loop-inode-preserved c = grind (arith, more)
-
-pub returns : goal.returns
-returns c = grind arith

@@ -13,9 +13,6 @@ counted_fit : (class : ℕ → Class) (a end d f limit : ℕ) → AreCounted cla
     (d < limit) × (f < limit)
 counted_fit class a end d f limit counted few = grind (arith, count_within)
 
-pub few_counts-few-requires : goal.few_counts-few-requires
-few_counts-few-requires c = grind arith
-
 pub overflow_add-counts : goal.overflow_add-counts
 overflow_add-counts c =
     let start = max (c.args.group * c.args.geometry.now.layout.ipg) 2 in

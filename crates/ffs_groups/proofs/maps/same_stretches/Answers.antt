@@ -36,6 +36,3 @@ loop-word-preserved c =
           c.loop-word.invariant.same c.same_stretch.ensures ∙ agree;
       within = omega (arith, c.min-some.ensures);
     }
-
-pub returns : goal.returns
-returns c = grind arith

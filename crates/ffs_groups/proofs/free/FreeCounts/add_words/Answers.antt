@@ -38,6 +38,3 @@ loop-block-preserved c =
           h (word_fits c.min-some.result c.args.frag some));
       within = omega (arith, c.min-some.ensures);
     }
-
-pub returns : goal.returns
-returns c = grind arith
