@@ -32,8 +32,7 @@ abbrev pub are_below : ℕ → List ℕ → Bool
 are_below n fs = list_all (λ f. nat_lt f n) fs
 
 bit_small : (b : Bool) → bit b ≤ 1
-bit_small true = omega arith
-bit_small false = omega arith
+bit_small b = grind arith
 
 pub fresh_new : (used : List Bool) (fs : List ℕ) → are_below (length used) fs ≡ true → fresh used fs ≡ true →
     IsNew used fs
@@ -87,8 +86,7 @@ times_past n f (g ∷ fs) below le =
     omega arith
 
 pub nil_is : {X : Type 0} (xs : List X) → is_nil xs ≡ true → xs ≡ []
-nil_is [] e = refl
-nil_is (x ∷ xs) e = absurd (cc)
+nil_is xs h = grind arith
 
 in_range_below : (v : Layout) (fs : List ℕ) → list_all (is_fragment_in_range v) fs ≡ true → are_below v.size fs ≡ true
 unfolding is_fragment_in_range

@@ -2,12 +2,11 @@
 use Rattle.std.proofs.Common.{arith, ◌≡◌, ℕ, false, not, List, [], ◌∷◌, ◌++◌, ◌∙◌, refl, ◌↔◌, sym, subst}
 use Rattle.std.proofs.lemmas.{Bool.{or_from, not-false, not_from_true}, List.Folds.list_any-append}
 use Rattle.std.{proofs.Math.Bool.or-false, specs.List.{list_all, list_any}}
-use Rattle.ffs_volume.specs.declared.Class.{TheVariants.{Free, Partial, Unknown, File, Dir}, Class}
-use Rattle.ffs_volume.specs.declared.{BlockMessage.BlockMessage, Step.{TheVariants.{Run, Tail, Gap}, Step}}
-use Rattle.ffs_volume.specs.{declared.Layout.Layout, Disk.Superblock.Superblock, Blocks.Claims.{Claims, no_claims}}
-use Rattle.ffs_volume.specs.Blocks.Claims.{after_offer, offer_lines, lines_of_offers, run_lines, after_step, step_lines}
-use Rattle.ffs_volume.specs.Blocks.{Claims.{lines_of_steps, after_owner}, BlockCheck.{class_lines, count_lines}}
-use Rattle.ffs_volume.specs.Blocks.{BlockCheck.{owner_lines, lines_of_owners, phase1_lines}, Owners.{Owner, owners_of}}
+use Rattle.ffs_volume.specs.declared.{Class.Class, BlockMessage.BlockMessage, Step.Step, Layout.Layout}
+use Rattle.ffs_volume.specs.{Disk.Superblock.Superblock, Blocks.Claims.{Claims, no_claims, after_offer, offer_lines}}
+use Rattle.ffs_volume.specs.Blocks.Claims.{lines_of_offers, run_lines, after_step, step_lines, lines_of_steps}
+use Rattle.ffs_volume.specs.Blocks.{Claims.after_owner, BlockCheck.{class_lines, count_lines, owner_lines}}
+use Rattle.ffs_volume.specs.Blocks.{BlockCheck.{lines_of_owners, phase1_lines}, Owners.{Owner, owners_of}}
 use Rattle.ffs_volume.specs.Groups.{Records.AreGroupsRight, GroupCheck.{phase5_lines, is_free_of_kept}}
 use Rattle.ffs_volume.specs.{Consistent.BlocksRight.is_right_class, Laws.Geometry.IsAcceptedLayout}
 use Rattle.ffs_volume.{specs.Directories.Volumes.{class_at, whole_volume}, proofs.AcceptedLaws.accepted_sound}
@@ -33,9 +32,7 @@ run_none : (v : Layout) (i : ℕ) (s : Claims) (start len : ℕ) → list_any is
 run_none v i s start len = grind (arith, offers_none)
 
 step_none : (v : Layout) (i : ℕ) (s : Claims) (step : Step) → list_any is_class_message (step_lines v i s step) ≡ false
-step_none v i s Gap = refl
-step_none v i s Tail = grind arith
-step_none v i s (Run start len block) = grind (arith, run_none)
+step_none v i s step = grind (arith, run_none)
 
 steps_none : (v : Layout) (i : ℕ) (s : Claims) (steps : List Step) →
     list_any is_class_message (lines_of_steps v i s steps) ≡ false
@@ -46,11 +43,7 @@ count_none : (v : Layout) (o : Owner) (end : Claims) → list_any is_class_messa
 count_none v o end = grind arith
 
 class_some : (i : ℕ) (c : Class) → list_any is_class_message (class_lines i c) ≡ not (is_right_class c)
-class_some i Free = refl
-class_some i Partial = refl
-class_some i Unknown = refl
-class_some i File = refl
-class_some i Dir = refl
+class_some i c = grind arith
 
 owner_some : (v : Layout) (s : Claims) (o : Owner) → list_any is_class_message (owner_lines v s o)
     ≡ not (is_right_class o.class)

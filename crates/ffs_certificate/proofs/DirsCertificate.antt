@@ -1,8 +1,8 @@
 -- The certificate of the checks of directories: silent, unreported and consistent are the same.
-use Rattle.std.proofs.Common.{◌≡◌, ◌≢◌, ℕ, true, false, not, Option, Some, None, IsSomeAnd, arith, sym, ap, inl, inr}
-use Rattle.std.proofs.{Common.{refl, ◌↔◌}, lemmas.Bool.{both_ways, cases_eq, eqb-true, eq-eqb, ne_eqb, and_parts}}
+use Rattle.std.proofs.Common.{◌≡◌, ◌≢◌, ℕ, true, false, not, Option, Some, IsSomeAnd, arith, ap, inl, inr}
+use Rattle.std.proofs.{Common.{refl, ◌↔◌}, lemmas.Bool.{both_ways, cases_eq, ne_eqb, and_parts}}
 use Rattle.std.proofs.lemmas.Bool.{and_from, not-false, not_from_true, false_from_ne_true, Decides.nat_tests}
-use Rattle.ffs_volume.specs.declared.Class.{TheVariants.{Free, Partial, Unknown, File, Dir}, Class}
+use Rattle.ffs_volume.specs.declared.Class.{TheVariants.{Dir}, Class}
 use Rattle.ffs_volume.specs.{declared.Role.TheVariants.Plain, Directories.Roles.{Volume, RoledEntry, is_dir}}
 use Rattle.ffs_volume.specs.Directories.{Roles.{is_suspect, dotdot, roled_entries}, Graph.{parent, parent_entry_index}}
 use Rattle.ffs_volume.specs.Directories.{Graph.{is_lost, reached, IsNamedOnce}, Parents.{graph_of, is_parent_entry}}
@@ -21,11 +21,7 @@ use Rattle.ffs_certificate.proofs.Suspects.{dir-from_two, none_empty, none_suspe
 use Rattle.ffs_certificate.proofs.Reached.{silent-reached, links-right, has_parent_entry}
 
 root_class : (c : Class) → is_directory c ≡ true → c ≡ Dir
-root_class Dir h = refl
-root_class File h = absurd (cc)
-root_class Unknown h = absurd (cc)
-root_class Partial h = absurd (cc)
-root_class Free h = absurd (cc)
+root_class c h = grind arith
 
 -- SILENT AND UNREPORTED
 pub checks_reported : (v : Volume) → IsVolume v → IsUnmarked v →
@@ -111,8 +107,7 @@ plain_right : (v : Volume) (e : Entry) → IsUnmarked v → e.number ≢ 0 → I
 plain_right v e un live q = grind arith
 
 plain_unreported : (v : Volume) (e : Entry) → IsVolume v → IsUnmarked v → IsPlainRight v e → IsPlainUnreported v e
-plain_unreported v e vol un (inl w) = grind arith
-plain_unreported v e vol un (inr w) = grind arith
+plain_unreported v e h k r = grind arith
 
 pub dirs_reported : (v : Volume) → IsVolume v → IsUnmarked v → AreDirsUnreported v ↔ AreDirsRight v
 dirs_reported v vol un = (
@@ -169,13 +164,11 @@ parent_once v d n r o = grind (arith, has_parent_entry)
 -- `..` is the parent exactly where its number isn't reported
 dotdot_right : (v : Volume) (d s : ℕ) (o : Option Entry) → parent (graph_of v) d ≡ Some s →
     IsSomeAnd o (λ e. is_wrong_parent (parent (graph_of v) d) e.number ≡ false) → IsSomeAnd o (λ e. e.number ≡ s)
-dotdot_right v d s None p q = q
-dotdot_right v d s (Some e) p q = sym (eqb-true s e.number (not-false _ (rw p at q)))
+dotdot_right v d s o h k = grind arith
 
 dotdot_unreported : (v : Volume) (d s : ℕ) (o : Option Entry) → parent (graph_of v) d ≡ Some s →
     IsSomeAnd o (λ e. e.number ≡ s) → IsSomeAnd o (λ e. is_wrong_parent (parent (graph_of v) d) e.number ≡ false)
-dotdot_unreported v d s None p q = q
-dotdot_unreported v d s (Some e) p q = rw p (not_from_true _ (eq-eqb s e.number (sym q)))
+dotdot_unreported v d s o h k = grind arith
 
 pub links_reported : (v : Volume) → IsVolume v → IsUnmarked v → AreDirsRight v → AreLinksUnreported v ↔ AreLinksRight v
 links_reported v vol un r = (

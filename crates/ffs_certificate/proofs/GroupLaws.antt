@@ -3,8 +3,7 @@ use Rattle.std.proofs.Common.{zero, suc, inl, inr, ◌≡◌, ℕ, ◌+◌, ◌<
 use Rattle.std.proofs.Common.{subst, ◌∙◌, List, [], ◌∷◌, ◌++◌, ◌↔◌, nat_lt, ◌&&◌, ◌||◌, ◌==◌, not, if◌then◌else◌, ℤ}
 use Rattle.std.{proofs.{Math.Path.fun_ext, lemmas.Bool.{and_parts, and_from, cases_eq}}, specs.List.list_all}
 use Rattle.std.specs.List.{list_any, flat_map, range_with_len}
-use Rattle.ffs_volume.specs.declared.BlockMessage.TheVariants.{PartAlloc, UnknownType, Bad, Dup, ManyBad, ManyDup}
-use Rattle.ffs_volume.specs.declared.BlockMessage.TheVariants.{PartTrunc, BlockCount, GroupMagic, FreeCounts, MapsWrong}
+use Rattle.ffs_volume.specs.declared.BlockMessage.TheVariants.{GroupMagic, FreeCounts, MapsWrong}
 use Rattle.ffs_volume.specs.declared.{BlockMessage.{TheVariants.GroupSums, BlockMessage}, Class.Class, Layout.Layout}
 use Rattle.ffs_volume.specs.Blocks.{Claims.{is_set, reserved_map, no_claims, after_owners}, Owners.Owner}
 use Rattle.ffs_volume.specs.Blocks.{Owners.{fragments_of, all_steps}, BlockCheck.{phase1_lines, phase1b_lines}}
@@ -12,7 +11,7 @@ use Rattle.ffs_volume.specs.{Disk.Areas.is_reserved, Consistent.BlocksRight.{tim
 use Rattle.ffs_volume.specs.Groups.Records.{group_block, summary_record, group_numbers, has_right_magic, maps_fit}
 use Rattle.ffs_volume.specs.Groups.Records.{has_right_maps, has_right_sums, has_right_record, has_right_totals}
 use Rattle.ffs_volume.specs.Groups.{Records.{IsGroupRight, AreGroupsRight}, GroupCheck.{unless, group_lines}}
-use Rattle.ffs_volume.specs.Groups.GroupCheck.{all_group_lines, is_reported, reported_once, unreported, phase5_lines}
+use Rattle.ffs_volume.specs.Groups.GroupCheck.{all_group_lines, reported_once, unreported, phase5_lines}
 use Rattle.ffs_volume.specs.Groups.GroupCheck.{is_free_of_kept, is_free_of_runs}
 use Rattle.ffs_certificate.proofs.BlocksSilent.{nil_is, right_quiet, runs_below, reserved_length, reserved_bit, bit}
 use Rattle.ffs_certificate.proofs.{BlocksSilent.{times_cons, marked_bit, blocks_silent}, BlockLaws.{is_nil, nil_append}}
@@ -37,37 +36,17 @@ all_from : (p : ℕ → Bool) (a n : ℕ) → ((c : ℕ) → a ≤ c → c < a +
 all_from p a zero h = refl
 all_from p a (suc n) h = grind (arith, all_from p (a + 1) n (λ c low high. h c (omega arith) (omega arith)))
 
-first_reported : (m : BlockMessage) → is_reported unreported m ≡ false
-first_reported (PartAlloc _) = refl
-first_reported (UnknownType _) = refl
-first_reported (Bad _ _) = refl
-first_reported (Dup _ _) = refl
-first_reported (ManyBad _) = refl
-first_reported (ManyDup _) = refl
-first_reported (PartTrunc _) = refl
-first_reported (BlockCount _ _ _) = refl
-first_reported (GroupMagic _) = refl
-first_reported FreeCounts = refl
-first_reported MapsWrong = refl
-first_reported GroupSums = refl
-
 -- reporting once hides no first message
 once_nil : (ms : List BlockMessage) → is_nil (reported_once unreported ms) ≡ is_nil ms
-once_nil [] = refl
-once_nil (m ∷ ms) = rw (first_reported m) refl
+once_nil ms = grind arith
 
 nil_unless : (b : Bool) (m : BlockMessage) → is_nil (unless b m) ≡ b
-nil_unless true m = refl
-nil_unless false m = refl
+nil_unless b m = grind arith
 
 shape : (a b d e : Bool) (m : BlockMessage) →
     is_nil (if a then unless b FreeCounts ++ (unless d MapsWrong ++ unless e GroupSums) else m ∷ unless b FreeCounts)
     ≡ (a && (b && (d && e)))
-shape true true true true m = refl
-shape true true true false m = refl
-shape true true false e m = refl
-shape true false d e m = refl
-shape false b d e m = refl
+shape a b d e m = grind arith
 
 abbrev pub is_group_right : Layout → List ℕ → (ℕ → Bool) → (ℕ → Class) → ℕ → Bool
 is_group_right v image free class c =
@@ -147,12 +126,10 @@ none_times f (g ∷ fs) e = one (g == f) refl (none_times f fs)
         omega (arith, times_cons f g fs, here, rest none)
 
 bit_one : (b : Bool) → bit b ≡ 1 → b ≡ true
-bit_one true e = refl
-bit_one false e = absurd (omega arith)
+bit_one b h = grind arith
 
 bit_zero : (b : Bool) → bit b ≡ 0 → b ≡ false
-bit_zero true e = absurd (omega arith)
-bit_zero false e = refl
+bit_zero b h = grind arith
 
 -- where no block is reported, the fragments of kept offers are those of all Runs
 pub same_free : (v : Layout) (os : List Owner) → BlocksRight v os → is_free_of_kept v os ≡ is_free_of_runs v os

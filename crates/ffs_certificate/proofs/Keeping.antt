@@ -3,7 +3,7 @@ use Rattle.std.proofs.Common.{zero, suc, inl, inr, ◌≡◌, ◌⊎◌, ℕ, �
 use Rattle.std.proofs.Common.{refl, sym, ap, subst, ◌∙◌, List, [], ◌∷◌, ◌++◌, length, append_assoc, count_by, nat_lt}
 use Rattle.std.proofs.{Common.{nat_le, min, ◌&&◌, ◌||◌, ◌==◌, slice_set, if◌then◌else◌, map}, lemmas.Bool.and_parts}
 use Rattle.std.proofs.lemmas.Bool.{and_from, cases_eq, both_ways, eq-eqb, ne_eqb, eqb-true, eqb-false}
-use Rattle.std.proofs.lemmas.Bool.{ltb-true, ltb-false, le-leb, lt-leb, lt-ltb, le-ltb, Decides.nat_tests}
+use Rattle.std.proofs.lemmas.Bool.{ltb-true, ltb-false, le-leb, lt-ltb, Decides.nat_tests}
 use Rattle.std.proofs.{lemmas.List.{get_or-set_same, get_or-set_other, length-set, Sums.sum_by-cons}, Math.Bool.or-true}
 use Rattle.std.{proofs.Math.Bool.{and-false}, specs.List.{list_all, range_with_len}}
 use Rattle.ffs_volume.specs.declared.{Step.{TheVariants.{Run, Tail, Gap}, Step}, Layout.Layout}
@@ -174,8 +174,7 @@ Closed i b e = (11 ≤ b) ⊎ (11 ≤ dups_of e i)
 not_kept : (v : Layout) (i b f : ℕ) (e : List OfferVerdict) → Closed i b e →
     (offer_verdict v e (counted_offer i b f)).kept ≡ false
 unfolding offer_verdict
-not_kept v i b f e (inl many) = rw (lt-leb b 10 (omega arith)) refl
-not_kept v i b f e (inr many) = rw (lt-leb (dups_of e i) 10 (omega arith)) (and-false (nat_le b 10))
+not_kept v i b f e h = grind arith
 
 still_closed : (i b : ℕ) (j : OfferVerdict) (e : List OfferVerdict) → Closed i b e → Closed i b (j ∷ e)
 still_closed i b j e (inl many) = inl many
@@ -206,8 +205,7 @@ record Tie (v : Layout) (i b : ℕ) (s : Claims) (e : List OfferVerdict) : Type 
   same : is_open s ≡ true → (s.bad ≡ b) × (s.dups ≡ dups_of e i)
 
 closed_test : (i b : ℕ) (e : List OfferVerdict) → Closed i b e → (nat_lt b 11 && nat_lt (dups_of e i) 11) ≡ false
-closed_test i b e (inl many) = rw (le-ltb b 11 many) refl
-closed_test i b e (inr many) = rw (le-ltb (dups_of e i) 11 many) (and-false (nat_lt b 11))
+closed_test i b e h = grind arith
 
 shut_closed : (i b b' : ℕ) (e : List OfferVerdict) → (nat_lt b 11 && nat_lt (dups_of e i) 11) ≡ false → b ≤ b' →
     Closed i b' e
@@ -347,9 +345,7 @@ verdicts_before v n i b e (f ∷ fs) lt h =
 
 step_before : (v : Layout) (n i b : ℕ) (e : List OfferVerdict) (step : Step) → i < n → are_before n e ≡ true →
     are_before n (verdicts v e (step_offers v i b step)) ≡ true
-step_before v n i b e (Run start len block) lt h = simp verdicts_before
-step_before v n i b e Tail lt h = h
-step_before v n i b e Gap lt h = h
+step_before v n i b e step h k = grind (arith, verdicts_before)
 
 steps_before : (v : Layout) (n i b : ℕ) (e : List OfferVerdict) (steps : List Step) → i < n → are_before n e ≡ true →
     are_before n (verdicts v e (offers_of_steps v i b steps)) ≡ true

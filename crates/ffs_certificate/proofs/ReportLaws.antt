@@ -1,8 +1,7 @@
 -- A report has no defect exactly where the volume is consistent.
 use Rattle.std.proofs.Common.{arith, ◌≡◌, ◌↔◌, ℕ, true, false, if◌then◌else◌, List, [], ◌∷◌, ◌++◌, map, sym, ◌∙◌, ap}
 use Rattle.std.proofs.{Common.refl, lemmas.{Bool.{or_parts, or_from}, List.Folds.list_any-append}}
-use Rattle.ffs_volume.specs.declared.Class.{TheVariants.{Free, Partial, Unknown, File, Dir}, Class}
-use Rattle.ffs_volume.specs.declared.{BlockMessage.BlockMessage, End.TheVariants.Consistent}
+use Rattle.ffs_volume.specs.declared.{Class.Class, BlockMessage.BlockMessage, End.TheVariants.Consistent}
 use Rattle.ffs_volume.specs.Blocks.{BlockCheck.{phase1_lines, phase1b_lines}, Owners.owners_of, Inodes.is_directory}
 use Rattle.ffs_volume.specs.Consistent.{BlocksRight.BlocksRight, Volume.{AreSettingsRight, IsConsistent}}
 use Rattle.ffs_volume.specs.Groups.{Records.AreGroupsRight, GroupCheck.{phase5_lines, is_free_of_kept, is_free_of_runs}}
@@ -60,11 +59,7 @@ settings_reported super = ((λ h. settings_say super (ap has_defect h)), setting
 
 -- THE ROOT: a run that stops after it has reported so
 reported_root : (v : Volume) (c : Class) → root_lines_of v c ≡ [] → is_directory c ≡ true
-reported_root v Free h = absurd (cc)
-reported_root v Partial h = absurd (cc)
-reported_root v File h = absurd (cc)
-reported_root v Unknown h = absurd (cc)
-reported_root v Dir h = refl
+reported_root v c h = grind arith
 
 root_there : (v : Volume) → pathname_lines v ≡ [] → continues_after_root v ≡ true
 unfolding pathname_lines root_lines

@@ -161,8 +161,7 @@ after : (t : FileBlocks) (bytes addresses : List ℕ) (next n : ℕ) → next + 
     →
     AreRising (first_block t.layout.nindir next + span_of t.layout.nindir (indirection_of next))
     (blocks_in (steps_of_addresses t bytes addresses (next + 1) n))
-after t bytes addresses next zero le r = tt
-after t bytes addresses next (suc n) le r = grind arith
+after t bytes addresses next n h k = grind arith
 
 addresses_go : (t : FileBlocks) (bytes addresses : List ℕ) (next count : ℕ) → next + count ≤ 15 →
     next + count ≤ addresses_needed t.layout.nindir t.blocks →

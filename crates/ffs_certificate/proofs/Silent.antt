@@ -1,27 +1,26 @@
 -- When the checks of directories are silent: pathnames, connectivity and references.
 use Rattle.std.proofs.Common.{◌≡◌, ◌≢◌, ℕ, zero, suc, ◌+◌, ◌<◌, ◌==◌, Bool, true, false, not, nat_lt, refl, List, []}
-use Rattle.std.proofs.Common.{◌∷◌, Option, Some, None, if◌then◌else◌, IsSomeAnd, arith, ap, subst, ℤ, pos, negsuc}
-use Rattle.std.proofs.lemmas.Bool.{eqb-true, eq-eqb, ne_eqb, and_from, not-true, not-false, not_from_true}
-use Rattle.std.proofs.lemmas.Bool.{not_from_false, Decides.nat_tests}
-use Rattle.ffs_volume.specs.declared.Class.{TheVariants.{Free, Partial, Unknown, File, Dir}, Class}
-use Rattle.ffs_volume.specs.{declared.Role.TheVariants.{Extra, Plain}, Directories.{Entries.Entry, Roles.Volume}}
-use Rattle.ffs_volume.specs.Directories.Roles.{RoledEntry, is_dir, is_suspect, is_one_dot, roled_entries, dot, dotdot}
-use Rattle.ffs_volume.specs.Directories.{Roles.{is_allocated_inode, references}, Graph.{is_naming_entry_at, test_at}}
-use Rattle.ffs_volume.specs.Directories.{Graph.parent, PathnameCheck.{attributes, entry_lines, lines_of_entries}}
-use Rattle.ffs_volume.specs.Directories.PathnameCheck.{plain_lines, named_lines, is_bad_whiteout}
-use Rattle.ffs_volume.specs.Directories.PathnameCheck.{is_first_entry_of_suspect, is_extraneous, has_wrong_type}
-use Rattle.ffs_volume.specs.Directories.PathnameCheck.{root_lines, root_lines_of, continues_after_root, is_short}
-use Rattle.ffs_volume.specs.Directories.PathnameCheck.{has_partial_chunk, are_sound, shape_lines, dot_lines}
+use Rattle.std.proofs.{Common.{◌∷◌, Option, Some, if◌then◌else◌, IsSomeAnd, arith, ap, subst}, lemmas.Bool.eqb-true}
+use Rattle.std.proofs.lemmas.Bool.{eq-eqb, ne_eqb, and_from, not-true, not-false, not_from_true, not_from_false}
+use Rattle.std.proofs.lemmas.Bool.Decides.{nat_tests}
+use Rattle.ffs_volume.specs.declared.{Class.{TheVariants.Dir, Class}, Role.TheVariants.{Extra, Plain}}
+use Rattle.ffs_volume.specs.Directories.{Entries.Entry, Roles.{Volume, RoledEntry, is_dir, is_suspect, is_one_dot}}
+use Rattle.ffs_volume.specs.Directories.Roles.{roled_entries, dot, dotdot, is_allocated_inode, references}
+use Rattle.ffs_volume.specs.Directories.{Graph.{is_naming_entry_at, test_at, parent}, PathnameCheck.attributes}
+use Rattle.ffs_volume.specs.Directories.PathnameCheck.{entry_lines, lines_of_entries, plain_lines, named_lines}
+use Rattle.ffs_volume.specs.Directories.PathnameCheck.{is_bad_whiteout, is_first_entry_of_suspect, is_extraneous}
+use Rattle.ffs_volume.specs.Directories.PathnameCheck.{has_wrong_type, root_lines, root_lines_of, continues_after_root}
+use Rattle.ffs_volume.specs.Directories.PathnameCheck.{is_short, has_partial_chunk, are_sound, shape_lines, dot_lines}
 use Rattle.ffs_volume.specs.Directories.PathnameCheck.{dot_lines_of, is_wrong_parent, dotdot_lines, dotdot_lines_of}
 use Rattle.ffs_volume.specs.Directories.PathnameCheck.{sized_dir_lines, is_sized_dir, directory_lines, pathname_lines}
 use Rattle.ffs_volume.specs.Directories.Connectivity.{is_dead, is_unref_dir, connectivity_lines}
 use Rattle.ffs_volume.specs.Directories.ReferenceCheck.{inode_lines, reference_lines_at, reference_lines}
 use Rattle.ffs_volume.specs.Directories.{Parents.{graph_of, nth_roled}, Paths.{dir_path, entry_path}}
-use Rattle.ffs_volume.specs.Messages.Kinds.{TreeMessage, lines_below, unref_dir, extra_dot, extra_dotdot, root_suspect}
-use Rattle.ffs_volume.specs.{Messages.Kinds.{whiteout, out_of_range, unallocated}, Blocks.Inodes.is_allocated}
-use Rattle.ffs_volume.{specs.{Blocks.Inodes.is_directory, Disk.Numbers.equals_natural}, proofs.Silence.nil-left}
-use Rattle.ffs_volume.proofs.Silence.{nil-right, nil-both, reported-quiet, reported-silent, if-quiet, else-quiet}
-use Rattle.ffs_volume.proofs.Silence.{then-quiet, then-silent, lines-quiet, lines-silent}
+use Rattle.ffs_volume.specs.Messages.Kinds.{TreeMessage, lines_below, unref_dir, extra_dot, extra_dotdot, whiteout}
+use Rattle.ffs_volume.specs.{Messages.Kinds.{out_of_range, unallocated}, Blocks.Inodes.{is_allocated, is_directory}}
+use Rattle.ffs_volume.{specs.Disk.Numbers.equals_natural, proofs.Silence.{nil-left, nil-right, nil-both}}
+use Rattle.ffs_volume.proofs.Silence.{reported-quiet, reported-silent, if-quiet, else-quiet, then-quiet, then-silent}
+use Rattle.ffs_volume.proofs.Silence.{lines-quiet, lines-silent}
 
 ruleset quiet = (nil-left, nil-right, reported-quiet, not-false, eqb-true)
 
@@ -76,8 +75,7 @@ pub record IsEntryQuiet (v : Volume) (s j : ℕ) (e : RoledEntry) : Type 0 where
 
 -- one of two messages
 either-some : (b : Bool) (m n : TreeMessage) → (if b then m ∷ [] else n ∷ []) ≡ [] → ⊥
-either-some true m n h = absurd (cc)
-either-some false m n h = absurd (cc)
+either-some b m n h = grind arith
 
 entry-quiet : (v : Volume) (s j : ℕ) (e : RoledEntry) → entry_lines v s j e ≡ [] → IsEntryQuiet v s j e
 unfolding entry_lines
@@ -159,12 +157,10 @@ abbrev pub IsDotQuiet : ℕ → Option Entry → Type 0
 IsDotQuiet d o = IsSomeAnd o (λ e. (e.number ≡ d) × (e.kind ≡ 4))
 
 dot-quiet : (v : Volume) (d : ℕ) (o : Option Entry) → dot_lines_of v d o ≡ [] → IsDotQuiet d o
-dot-quiet v d None h = grind arith
-dot-quiet v d (Some e) h = search quiet depth 9
+dot-quiet v d o h = grind arith
 
 dot-silent : (v : Volume) (d : ℕ) (o : Option Entry) → IsDotQuiet d o → dot_lines_of v d o ≡ []
-dot-silent v d None q = absurd q
-dot-silent v d (Some e) q = search silent depth 9
+dot-silent v d o h = grind arith
 
 -- `..` is there, with its type, and it is the parent if there is one
 pub record IsDotdotQuiet (v : Volume) (d : ℕ) (o : Option Entry) : Type 0 where
@@ -172,12 +168,10 @@ pub record IsDotdotQuiet (v : Volume) (d : ℕ) (o : Option Entry) : Type 0 wher
   pub kind : IsSomeAnd o (λ e. e.kind ≡ 4)
 
 dotdot-quiet : (v : Volume) (d : ℕ) (o : Option Entry) → dotdot_lines_of v d o ≡ [] → IsDotdotQuiet v d o
-dotdot-quiet v d None h = grind arith
-dotdot-quiet v d (Some e) h = search quiet depth 9
+dotdot-quiet v d o h = grind arith
 
 dotdot-silent : (v : Volume) (d : ℕ) (o : Option Entry) → IsDotdotQuiet v d o → dotdot_lines_of v d o ≡ []
-dotdot-silent v d None q = absurd q.kind
-dotdot-silent v d (Some e) q = search silent depth 9
+dotdot-silent v d o h = grind arith
 
 -- a directory
 pub record IsDirQuiet (v : Volume) (d : ℕ) : Type 0 where
@@ -209,11 +203,7 @@ pub record IsPathnameQuiet (v : Volume) : Type 0 where
   pub each : (d : ℕ) → is_dir v d ≡ true → (v.inode d).size ≢ 0 → IsDirQuiet v d
 
 root-quiet : (v : Volume) (c : Class) → root_lines_of v c ≡ [] → (c ≡ Dir) × (is_suspect v 2 ≡ false)
-root-quiet v Dir h = (refl, reported-quiet _ root_suspect h)
-root-quiet v File h = absurd (cc)
-root-quiet v Unknown h = absurd (cc)
-root-quiet v Partial h = absurd (cc)
-root-quiet v Free h = absurd (cc)
+root-quiet v c h = grind arith
 
 pub dir-below : (v : Volume) (d : ℕ) → is_dir v d ≡ true → d < v.count
 dir-below v d h = grind (arith, nat_tests)
@@ -270,11 +260,3 @@ pub reference-silent : (v : Volume) → ((i : ℕ) → is_allocated_inode v i �
     reference_lines v ≡ []
 unfolding reference_lines
 reference-silent v h = simp (lines-silent, then-silent, count-silent)
-
--- a count and a number
-pub count-true : (z : ℤ) (n : ℕ) → equals_natural z n ≡ true → z ≡ pos n
-count-true (pos k) n h = ap pos (eqb-true k n h)
-count-true (negsuc k) n h = absurd (cc)
-
-pub count-from : (z : ℤ) (n : ℕ) → z ≡ pos n → equals_natural z n ≡ true
-count-from z n h = rw h (eq-eqb n n refl)

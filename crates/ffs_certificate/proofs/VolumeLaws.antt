@@ -3,7 +3,7 @@ use Rattle.std.proofs.Common.{zero, suc, ◌≡◌, ℕ, ◌+◌, ◌-◌, ◌*�
 use Rattle.std.proofs.{Common.{[], ◌∷◌, ◌++◌, ◌||◌, if◌then◌else◌, map, ◌≢◌, Bool}, lemmas.Bool.{and_parts, and_from}}
 use Rattle.std.proofs.lemmas.{Bool.eq-eqb, List.{Folds.list_all-map, FromFn.length-range_with_len}}
 use Rattle.std.specs.List.{range_with_len, list_any}
-use Rattle.ffs_volume.specs.declared.Class.{TheVariants.{Free, Partial, Unknown, File, Dir}, Class}
+use Rattle.ffs_volume.specs.declared.Class.{TheVariants.{Unknown}, Class}
 use Rattle.ffs_volume.specs.declared.{Step.{TheVariants.{Run, Tail, Gap}, Step}, Layout.Layout, Inode.Inode}
 use Rattle.ffs_volume.specs.Blocks.Claims.{Claims, no_claims, reserved_map, at_next_inode, is_open, after_step}
 use Rattle.ffs_volume.specs.Blocks.{Claims.{after_owner, after_owners}, BlockCheck.{blames, is_marked, phase1_lines}}
@@ -61,11 +61,7 @@ all_kept v image r x low high =
     (owners_from v (reserved_map v) (owners_of v image) (right_quiet v (owners_of v image) r))
 
 whole_known : (c : Class) → is_right_class c ≡ true → is_unknown c ≡ false
-whole_known Free e = refl
-whole_known Partial e = refl
-whole_known Unknown e = absurd (cc)
-whole_known File e = refl
-whole_known Dir e = refl
+whole_known c h = grind arith
 
 -- no inode is marked
 pub none_marked : (v : Layout) (image : List ℕ) → BlocksRight v (owners_of v image) → (x : ℕ) → 2 ≤ x →

@@ -1,5 +1,5 @@
 -- What the blocks of a group add to the counts, by stretches and by blocks.
-use Rattle.std.proofs.Common.{◌≡◌, ℕ, zero, suc, ◌+◌, ◌<◌, ◌≤◌, Bool, true, false, List, [], ◌∷◌, length, cond, arith}
+use Rattle.std.proofs.Common.{◌≡◌, ℕ, suc, ◌+◌, ◌<◌, ◌≤◌, Bool, true, false, List, [], ◌∷◌, length, cond, arith}
 use Rattle.std.proofs.Common.{refl, ap, ◌∙◌, sym, count_by, nat_eq, min, bit_and, ◌/◌, ◌^◌, ◌==◌, ◌*◌, ◌%◌, map}
 use Rattle.std.proofs.{Common.{slice_index, ◌&&◌}, lemmas.List.Sums.{sum_by-cons, sum_by-append, count_by-le-length}}
 use Rattle.std.proofs.lemmas.{List.FromFn.length-map-range_with_len, Nat.{mul-add-lt, mul-le, div-add-mod'}}
@@ -11,8 +11,7 @@ use Rattle.ffs_groups.{specs.Free.{AreBelow, Added, free_in}, proofs.Sums.{sum_m
 use Rattle.ffs_groups.proofs.MapWords.{map_parts}
 
 stretch_len : (n : ℕ) → length (stretch_of n) ≤ min n 1
-stretch_len zero = omega arith
-stretch_len (suc n) = let some : (suc n == 0) ≡ false = grind arith in rw some (omega arith)
+stretch_len n = grind arith
 
 pub stretches_len : (n : ℕ) (bits : List Bool) → length (free_stretches n bits) ≤ min n 1 + length bits
 stretches_len n [] = omega (arith, stretch_len n)
@@ -92,8 +91,7 @@ added_join bits other n m old mid new a b same = record {
 
 -- one of two numbers within a limit
 either_within : (b : Bool) (m n k : ℕ) → m ≤ k → n ≤ k → cond b m n ≤ k
-either_within true m n k h l = h
-either_within false m n k h l = l
+either_within b m n k h r = grind arith
 
 whole_one : (bits : List Bool) → whole_in bits ≤ 1
 whole_one bits = either_within (is_free_block bits) 1 0 1 (omega arith) (omega arith)

@@ -1,7 +1,7 @@
 -- The numbers of a group block, by the bits of signed numbers.
 use Rattle.std.proofs.Common.{◌≡◌, ◌==◌, ℕ, ◌<◌, ◌^◌, List, drop, slice_index, subst, sym, ◌+◌, arith, ◌*◌, Bool, map}
 use Rattle.std.{proofs.{Common.◌&&◌, lemmas.List.get_or-drop}, specs.List.range_with_len}
-use Rattle.ffs_volume.specs.declared.{Order.{TheVariants.{Little, Big}, Order}, Layout.Layout, Class.Class}
+use Rattle.ffs_volume.specs.declared.{Order.{Order}, Layout.Layout, Class.Class}
 use Rattle.ffs_volume.specs.Groups.Records.{has_counts, right_group_counts, group_size, has_right_sums}
 use Rattle.ffs_volume.specs.Disk.Numbers.{i32_at, u32_at, number, all_below}
 use Rattle.ffs_layout.specs.Group.{group_summary_at}
@@ -19,8 +19,7 @@ byte_from place bytes h i = subst (λ x. x < 256) (sym (get_or-drop place bytes 
 in_word : (order : Order) (place : ℕ) (bytes : List ℕ) → ((k : ℕ) → slice_index bytes k < 256) →
     u32_at order place bytes < 2 ^ 32
 unfolding u32_at number
-in_word Little place bytes h = grind (arith, byte_from)
-in_word Big place bytes h = grind (arith, byte_from)
+in_word order place bytes h = grind (arith, byte_from)
 
 pub bits_are : (order : Order) (place : ℕ) (bytes : List ℕ) (n : ℕ) → ((k : ℕ) → slice_index bytes k < 256) →
     has_bits_of (i32_at order place bytes) n ≡ (u32_at order place bytes == n)

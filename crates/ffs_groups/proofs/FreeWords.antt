@@ -218,8 +218,7 @@ ones_below word n h =
 
 -- what one fragment adds as a block
 single_adds : (b : Bool) → Adds (cond b 1 0) (b ∷ [])
-single_adds true = (refl, refl, λ j. refl)
-single_adds false = (refl, refl, λ j. refl)
+single_adds b = grind arith
 
 pub added_single : (word frag n : ℕ) (old new : FreeCounts) → frag ≡ 1 → n ≤ 64 →
     new.blocks ≡ old.blocks + count_ones (bit_and word ((2 ^ 64 - 1) / 2 ^ (64 - n))) →

@@ -1,12 +1,11 @@
 -- Sums and counts over numbers in a row, and where all or none of them count.
 use Rattle.std.proofs.Common.{◌≡◌, ℕ, zero, suc, ◌+◌, ◌*◌, ◌<◌, ◌≤◌, Bool, [], map, cond, arith, refl, ap, ◌∙◌}
-use Rattle.std.proofs.Common.{count_by, ◌^◌, ◌-◌, true, false, List, not, inl, inr, sym, nat_eq, max}
-use Rattle.std.proofs.{Common.add-zero, lemmas.Bool.{cases_lt, lt-ltb, false_from_ne_true}}
-use Rattle.std.proofs.lemmas.{Bool.true_from_ne_false, List.Sums.sum_by-cons, Nat.{mul-add-lt, Bits.bit_at_ones}}
-use Rattle.std.specs.{List.{range_with_len, sum_by}, Int.bit_at}
-use Rattle.ffs_volume.specs.{Blocks.{Claims.is_set}}
+use Rattle.std.proofs.Common.{count_by, ◌^◌, ◌-◌, true, false, List, not, inl, inr, sym, nat_eq, max, add-zero}
+use Rattle.std.proofs.lemmas.{Bool.{cases_lt, lt-ltb, false_from_ne_true, true_from_ne_false}, List.Sums.sum_by-cons}
+use Rattle.std.{proofs.lemmas.Nat.{mul-add-lt, Bits.bit_at_ones}, specs.{List.{range_with_len, sum_by}, Int.bit_at}}
+use Rattle.ffs_volume.specs.Blocks.Claims.{is_set}
 use Rattle.ffs_maps.proofs.Counting.{sum_split, count_within, none_counted, one_on}
-use Rattle.ffs_groups.specs.{Free.{free_in, bits_from}}
+use Rattle.ffs_groups.specs.Free.{free_in, bits_from}
 
 pub sum_more : (f : ℕ → ℕ) (a n : ℕ) → sum_by f (range_with_len a (n + 1)) ≡ sum_by f (range_with_len a n) + f (a + n)
 sum_more f a n = omega (arith, sum_split f a n 1 (n + 1) refl, sum_by-cons f (a + n) [])

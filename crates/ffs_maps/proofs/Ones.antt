@@ -67,8 +67,7 @@ one_set bits size k b is h =
 
 -- what a test is as a number
 pub one_if : (b : Bool) (n : ℕ) → n ≡ bool_byte b → n ≡ cond b 1 0
-one_if true n e = e
-one_if false n e = e
+one_if b n h = grind arith
 
 -- the number of set bits, where a bit is set
 pub raised : (bits : List Bool) (size k ones n : ℕ) (was : Bool) → length bits ≡ size → k < size →

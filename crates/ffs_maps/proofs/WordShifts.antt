@@ -7,9 +7,7 @@ use Rattle.std.{proofs.{lemmas.Nat.Bits.bit_at_cat_high, Math.Nat.one-le-pow}, s
 use Rattle.ffs_maps.{specs.{Bits.is_clear, WordBits.bits_of_words}, proofs.Bits.bit_in}
 
 pub one_bit : (b : ℕ) → b < 2 → b ≡ cond (nat_eq b 1) 1 0
-one_bit zero h = refl
-one_bit (suc zero) h = refl
-one_bit (suc (suc b)) h = absurd (omega arith)
+one_bit b h = grind arith
 
 pub min_one : (a b : ℕ) → a < 2 → b ≡ 1 → min a b ≡ a
 min_one a b h e = omega arith
