@@ -1,7 +1,7 @@
 -- Phases 1 and 1b report nothing exactly where every fragment has one owner at most.
 use Rattle.std.proofs.Common.{inl, inr, ◌≡◌, ℕ, ◌+◌, ◌<◌, ◌≤◌, Bool, true, false, cond, arith, refl, sym, ap, ◌∙◌, List}
 use Rattle.std.proofs.Common.{[], ◌∷◌, length, nat_lt, ◌==◌, not, slice_set, ◌++◌, ◌↔◌, ◌&&◌, replicate}
-use Rattle.std.proofs.lemmas.Bool.{and_parts, eq-eqb, ne_eqb, ltb-true, and_from, cases_lt, lt-ltb, Decides.nat_tests}
+use Rattle.std.proofs.lemmas.Bool.{and_parts, eq-eqb, ne_eqb, ltb-true, and_from, cases_lt, Decides.nat_tests}
 use Rattle.std.proofs.lemmas.List.{get_or-set_same, get_or-set_other, length-set, length-replicate, get_or-replicate}
 use Rattle.std.proofs.lemmas.List.{FromFn.{get_or-map-range_with_len, length-map-range_with_len}, get_or_past}
 use Rattle.std.{proofs.lemmas.List.{Sums.sum_by-cons, Folds.list_all-append}, specs.List.{list_all, range_with_len}}
@@ -136,8 +136,7 @@ quiet_right v os q =
         alone = λ f. omega (arith, new f);
         unreserved = λ f e. elim (cases_lt f v.size) [
           | inl low ↦
-              let set : bit (is_set (reserved_map v) f) ≡ 1 =
-              ap bit (reserved_bit v f ∙ and_from _ _ (lt-ltb f v.size low) e) in
+              let set : bit (is_set (reserved_map v) f) ≡ 1 = grind (arith, reserved_bit) in
               omega (arith, new f)
           | inr past ↦ times_past v.size f _ below past
         ];
@@ -149,20 +148,11 @@ pub right_quiet : (v : Layout) (os : List Owner) → BlocksRight v os → Quiet 
 right_quiet v os r =
     let below = runs_below v (all_steps os) r.runs.in_range in
     let long = reserved_length v in
-    record {
-      classes = r.classes;
-      in_range = r.runs.in_range;
-      no_tail = r.runs.no_tail;
-      new = new_fresh (reserved_map v) (fragments_of (all_steps os)) (rw long below)
-          (λ f. one f (is_set (reserved_map v) f) refl);
-      counted = r.runs.counted;
-    }
+    grind (arith, new_fresh, one)
   where
     one : (f : ℕ) (b : Bool) → is_set (reserved_map v) f ≡ b → times f (fragments_of (all_steps os)) + bit b ≤ 1
     one f false e = omega (arith, r.runs.alone f)
-    one f true e =
-        let held = and_parts (nat_lt f v.size) (is_reserved v f) (sym (reserved_bit v f) ∙ e) in
-        omega (arith, r.runs.unreserved f held.1)
+    one f true e = grind (arith, reserved_bit)
 
 -- no line of phase 1, or of phases 1 and 1b
 pub phase1_silent : (v : Layout) (os : List Owner) → (phase1_lines v os ≡ []) ↔ BlocksRight v os

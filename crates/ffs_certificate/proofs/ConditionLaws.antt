@@ -1,15 +1,13 @@
 -- Each condition of a consistent volume holds exactly where nothing is reported for it.
-use Rattle.std.proofs.Common.{arith, ◌≡◌, ℕ, false, not, List, [], ◌∷◌, ◌++◌, ◌∙◌, refl, ◌↔◌, sym, subst}
-use Rattle.std.proofs.lemmas.{Bool.{or_from, not-false, not_from_true}, List.Folds.list_any-append}
-use Rattle.std.{proofs.Math.Bool.or-false, specs.List.{list_all, list_any}}
+use Rattle.std.proofs.{Common.{arith, ◌≡◌, ℕ, false, not, List, [], ◌∷◌, ◌++◌, refl}, lemmas.Bool.or_from}
+use Rattle.std.{proofs.{lemmas.List.Folds.list_any-append, Math.Bool.or-false}, specs.List.{list_all, list_any}}
 use Rattle.ffs_volume.specs.declared.{Class.Class, BlockMessage.BlockMessage, Step.Step, Layout.Layout}
 use Rattle.ffs_volume.specs.{Disk.Superblock.Superblock, Blocks.Claims.{Claims, no_claims, after_offer, offer_lines}}
 use Rattle.ffs_volume.specs.Blocks.Claims.{lines_of_offers, run_lines, after_step, step_lines, lines_of_steps}
 use Rattle.ffs_volume.specs.Blocks.{Claims.after_owner, BlockCheck.{class_lines, count_lines, owner_lines}}
 use Rattle.ffs_volume.specs.Blocks.{BlockCheck.{lines_of_owners, phase1_lines}, Owners.{Owner, owners_of}}
-use Rattle.ffs_volume.specs.Groups.{Records.AreGroupsRight, GroupCheck.{phase5_lines, is_free_of_kept}}
 use Rattle.ffs_volume.specs.{Consistent.BlocksRight.is_right_class, Laws.Geometry.IsAcceptedLayout}
-use Rattle.ffs_volume.{specs.Directories.Volumes.{class_at, whole_volume}, proofs.AcceptedLaws.accepted_sound}
+use Rattle.ffs_volume.{specs.Directories.Volumes.whole_volume, proofs.AcceptedLaws.accepted_sound}
 use Rattle.ffs_certificate.specs.Conditions.{is_class_message, ConditionsReported, ConditionsAreReported}
 use Rattle.ffs_certificate.proofs.DirsCertificate.{checks_reported, counts_reported, dirs_reported, links_reported}
 use Rattle.ffs_certificate.proofs.{GroupLaws.{phase5_silent, same_free}, VolumeLaws.{whole_is_volume, whole_unmarked}}
@@ -68,22 +66,14 @@ conditions image s g =
     let w = whole_volume s.layout image in
     record {
       settings = settings_reported s;
-      classes = (
-        (λ e. not-false _ (sym (classes_reported v os) ∙ e)),
-        (λ c. classes_reported v os ∙ not_from_true _ c),
-      );
-      runs = λ c. (
-        (λ e. ((phase1_silent v os).0 e).runs),
-        (λ r. (phase1_silent v os).1 (record { classes = c; runs = r })),
-      );
+      classes = grind (arith, classes_reported);
+      runs = grind (arith, phase1_silent);
       whole = same_whole v image;
       checks = λ b. checks_reported w (whole_is_volume v image g) (whole_unmarked v image b);
       dirs = λ b. dirs_reported w (whole_is_volume v image g) (whole_unmarked v image b);
       links = λ b. links_reported w (whole_is_volume v image g) (whole_unmarked v image b);
       counts = counts_reported w;
-      groups = λ b. subst (λ free. (phase5_lines v image s.cstotal (is_free_of_kept v os) (class_at v image) ≡ []) ↔
-          AreGroupsRight v image s.cstotal free (class_at v image))
-          (same_free v os b) (phase5_silent v image s.cstotal (is_free_of_kept v os) (class_at v image));
+      groups = grind (arith, same_free, phase5_silent);
     }
 
 pub conditions_reported : ConditionsAreReported

@@ -1,17 +1,15 @@
 -- The certificate of the checks of directories: silent, unreported and consistent are the same.
-use Rattle.std.proofs.Common.{◌≡◌, ◌≢◌, ℕ, true, false, not, Option, Some, IsSomeAnd, arith, ap, inl, inr}
-use Rattle.std.proofs.{Common.{refl, ◌↔◌}, lemmas.Bool.{both_ways, cases_eq, ne_eqb, and_parts}}
-use Rattle.std.proofs.lemmas.Bool.{and_from, not-false, not_from_true, false_from_ne_true, Decides.nat_tests}
-use Rattle.ffs_volume.specs.declared.Class.{TheVariants.{Dir}, Class}
-use Rattle.ffs_volume.specs.{declared.Role.TheVariants.Plain, Directories.Roles.{Volume, RoledEntry, is_dir}}
-use Rattle.ffs_volume.specs.Directories.{Roles.{is_suspect, dotdot, roled_entries}, Graph.{parent, parent_entry_index}}
-use Rattle.ffs_volume.specs.Directories.{Graph.{is_lost, reached, IsNamedOnce}, Parents.{graph_of, is_parent_entry}}
-use Rattle.ffs_volume.specs.Directories.{Parents.nth_roled, PathnameCheck.{is_wrong_parent, is_extraneous}}
-use Rattle.ffs_volume.specs.Directories.{Entries.Entry, Climb.is_value, Connectivity.is_unref_dir}
-use Rattle.ffs_volume.specs.{Blocks.Inodes.is_directory, Consistent.DirectoriesRight.{IsPlainRight, AreDirsRight}}
-use Rattle.ffs_volume.{specs.Consistent.DirectoriesRight.{AreLinksRight, AreCountsRight}, proofs.LevelLaws.parent-root}
-use Rattle.ffs_volume.proofs.{LevelLaws.reached-root, ClimbLaws.{is_value-true, is_value-from}, Graphs.AllReached}
-use Rattle.ffs_volume.proofs.{Graphs.NoExtraneous, Unreached.lost-true, Booleans.{and_false-right, and_false-from}}
+use Rattle.std.proofs.Common.{◌≡◌, ◌≢◌, ℕ, true, false, not, Option, Some, IsSomeAnd, arith, ap, inl, inr, refl, ◌↔◌}
+use Rattle.std.proofs.lemmas.Bool.{cases_eq, ne_eqb, and_parts, and_from, not-false, not_from_true, Decides.nat_tests}
+use Rattle.ffs_volume.specs.declared.{Class.{TheVariants.Dir, Class}, Role.TheVariants.Plain}
+use Rattle.ffs_volume.specs.Directories.Roles.{Volume, RoledEntry, is_dir, is_suspect, dotdot, roled_entries}
+use Rattle.ffs_volume.specs.Directories.{Graph.{parent, parent_entry_index, reached, IsNamedOnce}, Parents.graph_of}
+use Rattle.ffs_volume.specs.Directories.{Parents.{is_parent_entry, nth_roled}, PathnameCheck.is_wrong_parent}
+use Rattle.ffs_volume.specs.Directories.{PathnameCheck.is_extraneous, Entries.Entry, Climb.is_value}
+use Rattle.ffs_volume.specs.{Directories.Connectivity.is_unref_dir, Blocks.Inodes.is_directory}
+use Rattle.ffs_volume.specs.Consistent.DirectoriesRight.{IsPlainRight, AreDirsRight, AreLinksRight, AreCountsRight}
+use Rattle.ffs_volume.proofs.{LevelLaws.{parent-root, reached-root}, ClimbLaws.{is_value-true, is_value-from}}
+use Rattle.ffs_volume.proofs.{Graphs.{AllReached, NoExtraneous}, Booleans.{and_false-right, and_false-from}}
 use Rattle.ffs_certificate.specs.{DirsCertificate.{IsSilent, AreDirectoriesRight}, Conditions.IsPlainUnreported}
 use Rattle.ffs_certificate.specs.Conditions.{AreDirsUnreported, AreLinksUnreported, AreCountsUnreported}
 use Rattle.ffs_certificate.{specs.Premises.{IsVolume, IsUnmarked}, proofs.Silent.{dir-below, names_at-gives}}
@@ -59,10 +57,7 @@ checks_reported v vol un = (
               let two = dir-from_two v e.entry.number k in
               let q = ((p.each s h (sizes s h)).entries j e t).plain r in
               and_false-right (is_dir v e.entry.number) _ (q.named (ne_eqb e.entry.number 1 (omega arith))).link k);
-          lost = λ d. false_from_ne_true (is_unref_dir v d) (λ t.
-              let l = lost-true (graph_of v) (is_suspect v) d
-              (and_parts (is_lost (graph_of v) (is_suspect v) d) _ t).0 in
-              both_ways (is_unref_dir v d) (connectivity-quiet v s.connectivity d (dir-below v d l.dir)) t);
+          lost = grind (arith, connectivity-quiet, dir-below);
         },
         λ i h. let c = counts i h in record { some = c.some; same = c.same },
       )),
@@ -85,20 +80,13 @@ checks_reported v vol un = (
                       record {
                         below = p.below;
                         no_whiteout = p.no_whiteout;
-                        named = λ n. record {
-                          allocated = (p.named n).allocated;
-                          suspect = and_false-from (is_suspect v e.entry.number) _
-                              (λ k. absurd (both_ways (is_suspect v e.entry.number) (calm e.entry.number) k));
-                          link = q.1.links d j e h t role;
-                          kind = (p.named n).kind;
-                        };
+                        named = grind arith;
                       };
                 };
               };
         });
         connectivity = connectivity-silent v q.1.lost;
-        references = reference-silent v (λ i h.
-            let c = q.2 i h in record { alive = none_dead v calm i; some = c.some; same = c.same });
+        references = grind (arith, reference-silent);
       }),
 )
 
@@ -113,18 +101,7 @@ pub dirs_reported : (v : Volume) → IsVolume v → IsUnmarked v → AreDirsUnre
 dirs_reported v vol un = (
   (λ q. record {
     root = root_class (v.class 2) q.root;
-    each = λ d h.
-        let p = q.each d h in
-        record {
-          size = let short = p.short in let broken = p.broken in let some = p.some in
-              record { some = omega arith; whole = grind (arith, nat_tests) };
-          gap = p.gap;
-          sound = p.sound;
-          dot_there = p.dot_there;
-          dotdot_there = p.dotdot_there;
-          no_extra = p.no_extra;
-          plain = λ j s t r. plain_right v s.entry un (plain-live v d j s t r) (p.plain j s t r);
-        };
+    each = grind (arith, plain_right, plain-live);
   }),
   (λ r. record {
     root = ap is_directory r.root;
@@ -205,11 +182,7 @@ links_reported v vol un r = (
         (is_value-true (parent (graph_of v) d) s both.0, is_value-true (parent_entry_index (graph_of v) d) j both.1)
 
     all_reached : AreLinksRight v → AllReached (graph_of v)
-    all_reached l d h =
-        elim (cases_eq d 2) [
-          | inl e ↦ rw e (reached-root (graph_of v) vol.some)
-          | inr n ↦ (l.each d h n).reached_from_root
-        ]
+    all_reached l d h = grind (arith, reached-root)
 
     links : AreLinksRight v → (s j : ℕ) (e : RoledEntry) → is_dir v s ≡ true →
         nth_roled (roled_entries v s) j ≡ Some e → e.role ≡ Plain → is_extraneous v s j e.entry.number ≡ false

@@ -1,6 +1,6 @@
 -- Phase 5 reports nothing exactly where all groups are right.
 use Rattle.std.proofs.Common.{zero, suc, inl, inr, ◌≡◌, ℕ, ◌+◌, ◌<◌, ◌≤◌, Bool, true, false, arith, refl, sym, ap}
-use Rattle.std.proofs.Common.{subst, ◌∙◌, List, [], ◌∷◌, ◌++◌, ◌↔◌, nat_lt, ◌&&◌, ◌||◌, ◌==◌, not, if◌then◌else◌, ℤ}
+use Rattle.std.proofs.Common.{subst, ◌∙◌, List, [], ◌∷◌, ◌++◌, ◌↔◌, nat_lt, ◌&&◌, ◌||◌, ◌==◌, if◌then◌else◌, ℤ}
 use Rattle.std.{proofs.{Math.Path.fun_ext, lemmas.Bool.{and_parts, and_from, cases_eq}}, specs.List.list_all}
 use Rattle.std.specs.List.{list_any, flat_map, range_with_len}
 use Rattle.ffs_volume.specs.declared.BlockMessage.TheVariants.{GroupMagic, FreeCounts, MapsWrong}
@@ -110,9 +110,7 @@ any_times f (g ∷ fs) e = one (g == f) refl (any_times f fs)
   where
     one : (b : Bool) → (g == f) ≡ b → (list_any (λ h. h == f) fs ≡ true → 1 ≤ times f fs) → 1 ≤ times f (g ∷ fs)
     one true q more = let here : bit (g == f) ≡ 1 = ap bit q in omega (arith, times_cons f g fs, here)
-    one false q more =
-        let rest : list_any (λ h. h == f) fs ≡ true = grind (arith, q, e) in
-        omega (arith, times_cons f g fs, more rest)
+    one false q more = grind arith
 
 none_times : (f : ℕ) (fs : List ℕ) → list_any (λ g. g == f) fs ≡ false → times f fs ≡ 0
 none_times f [] e = refl
@@ -120,16 +118,10 @@ none_times f (g ∷ fs) e = one (g == f) refl (none_times f fs)
   where
     one : (b : Bool) → (g == f) ≡ b → (list_any (λ h. h == f) fs ≡ false → times f fs ≡ 0) → times f (g ∷ fs) ≡ 0
     one true q rest = absurd (grind (arith, q, e))
-    one false q rest =
-        let here : bit (g == f) ≡ 0 = ap bit q in
-        let none : list_any (λ h. h == f) fs ≡ false = grind (arith, q, e) in
-        omega (arith, times_cons f g fs, here, rest none)
+    one false q rest = grind arith
 
 bit_one : (b : Bool) → bit b ≡ 1 → b ≡ true
 bit_one b h = grind arith
-
-bit_zero : (b : Bool) → bit b ≡ 0 → b ≡ false
-bit_zero b h = grind arith
 
 -- where no block is reported, the fragments of kept offers are those of all Runs
 pub same_free : (v : Layout) (os : List Owner) → BlocksRight v os → is_free_of_kept v os ≡ is_free_of_runs v os
@@ -144,11 +136,7 @@ same_free v os r = fun_ext (λ f. one f (nat_lt f v.size) refl)
 
     set_bit : (f : ℕ) → bit (is_set (after_owners v (no_claims v) os).used f) ≡ times f (fragments_of (all_steps os))
         + bit (is_set (reserved_map v) f)
-    set_bit f =
-        let long = reserved_length v in
-        ap (λ u. bit (is_set u f)) used_is
-        ∙ marked_bit (reserved_map v) (fragments_of (all_steps os))
-        (rw long (runs_below v (all_steps os) r.runs.in_range)) quiet.new f
+    set_bit f = grind (arith, reserved_length, used_is, marked_bit, runs_below, quiet)
 
     held : (f : ℕ) → nat_lt f v.size ≡ true → (a : Bool) → is_reserved v f ≡ a → bit (is_set (reserved_map v) f) ≡ bit a
     held f low a ea = ap bit (reserved_bit v f ∙ rw (low, ea) refl)
@@ -157,21 +145,12 @@ same_free v os r = fun_ext (λ f. one f (nat_lt f v.size) refl)
         list_any (λ g. g == f) (fragments_of (all_steps os)) ≡ b →
         is_set (after_owners v (no_claims v) os).used f ≡ (a || b)
     two f low true ea b eb = bit_one _ (omega (arith, set_bit f, held f low true ea, r.runs.unreserved f ea))
-    two f low false ea true eb =
-        bit_one _ (omega (
-          arith,
-          set_bit f,
-          held f low false ea,
-          any_times f (fragments_of (all_steps os)) eb,
-          r.runs.alone f,
-        ))
-    two f low false ea false eb =
-        bit_zero _ (omega (arith, set_bit f, held f low false ea, none_times f (fragments_of (all_steps os)) eb))
+    two f low false ea true eb = grind (arith, set_bit, any_times)
+    two f low false ea false eb = grind (arith, set_bit, held, none_times)
 
     one : (f : ℕ) (low : Bool) → nat_lt f v.size ≡ low → is_free_of_kept v os f ≡ is_free_of_runs v os f
     one f false e = rw e refl
-    one f true e = ap (λ b. nat_lt f v.size && not b)
-        (two f e (is_reserved v f) refl (list_any (λ g. g == f) (fragments_of (all_steps os))) refl)
+    one f true e = grind (arith, two)
 
 -- the lines of the blocks and of the groups, together
 abbrev pub block_and_group_lines : Layout → List ℕ → List ℤ → List Owner → (ℕ → Class) → List BlockMessage

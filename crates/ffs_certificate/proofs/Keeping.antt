@@ -2,9 +2,9 @@
 use Rattle.std.proofs.Common.{zero, suc, inl, inr, ◌≡◌, ◌⊎◌, ℕ, ◌+◌, ◌-◌, ◌*◌, ◌<◌, ◌≤◌, Bool, true, false, cond, arith}
 use Rattle.std.proofs.Common.{refl, sym, ap, subst, ◌∙◌, List, [], ◌∷◌, ◌++◌, length, append_assoc, count_by, nat_lt}
 use Rattle.std.proofs.{Common.{nat_le, min, ◌&&◌, ◌||◌, ◌==◌, slice_set, if◌then◌else◌, map}, lemmas.Bool.and_parts}
-use Rattle.std.proofs.lemmas.Bool.{and_from, cases_eq, both_ways, eq-eqb, ne_eqb, eqb-true, eqb-false}
+use Rattle.std.proofs.lemmas.Bool.{and_from, both_ways, eq-eqb, ne_eqb, eqb-true, eqb-false}
 use Rattle.std.proofs.lemmas.Bool.{ltb-true, ltb-false, le-leb, lt-ltb, Decides.nat_tests}
-use Rattle.std.proofs.{lemmas.List.{get_or-set_same, get_or-set_other, length-set, Sums.sum_by-cons}, Math.Bool.or-true}
+use Rattle.std.proofs.{lemmas.List.{get_or-set_same, get_or-set_other, length-set, Sums.sum_by-cons}}
 use Rattle.std.{proofs.Math.Bool.{and-false}, specs.List.{list_all, range_with_len}}
 use Rattle.ffs_volume.specs.declared.{Step.{TheVariants.{Run, Tail, Gap}, Step}, Layout.Layout}
 use Rattle.ffs_volume.specs.{Disk.Areas.{is_fragment_in_range, is_run_in_range, is_reserved}, Blocks.Owners.Owner}
@@ -52,15 +52,7 @@ held_keep : (v : Layout) (i : ℕ) (used used' : List Bool) (kept : ℕ) (e : Li
     ((f : ℕ) → (j.fragment ≡ f → ⊥) → is_set used' f ≡ is_set used f) →
     Held v i used kept e → Held v i used' (kept + 1) (j ∷ e)
 held_keep v i used used' kept e j k mine len here there t = record {
-  used_is = λ f ok. elim (cases_eq j.fragment f) [
-    | inl same ↦
-        let set : is_set used' f ≡ true = rw (← same) (here (rw same ok)) in
-        let test = eq-eqb j.fragment f same in
-        rw (set, k, test) (sym (or-true (is_reserved v f)))
-    | inr other ↦
-        let test = ne_eqb j.fragment f other in
-        there f other ∙ (t.used_is f ok ∙ rw (k, test) refl)
-  ];
+  used_is = grind arith;
   long = len ∙ t.long;
   kept_is =
       let one : bit (j.kept && j.inode == i) ≡ 1 = (let test = eq-eqb j.inode i mine in rw (k, test) refl) in
@@ -100,15 +92,7 @@ offer_tied v i b f s e few t = go (nat_lt s.dups 11) refl (is_fragment_in_range 
           }),
           kept_is false qa ∙ sym qa,
         )
-    go true qa false qo u qu =
-        let none : bit ((offer_verdict v e (counted_offer i b f)).dup && i == i) ≡ 0 = rw qo refl in
-        let stay : after_offer v s f ≡ record s { kept = s.kept + 1 } = rw (qa, qo) refl in (
-          subst (λ x. OfferTie v i x (offer_verdict v e (counted_offer i b f) ∷ e)) (sym stay) (record {
-            held = keep s.used qa refl (λ ok. absurd (both_ways (is_fragment_in_range v f) qo ok)) (λ g n. refl);
-            capped = omega (arith, t.capped, dups_cons (offer_verdict v e (counted_offer i b f)) e i, none);
-          }),
-          kept_is true qa ∙ sym qa,
-        )
+    go true qa false qo u qu = grind (arith, keep)
     go true qa true qo true qu =
         let mine = eq-eqb i i refl in
         let taken = sym (t.held.used_is f qo) ∙ qu in
@@ -122,21 +106,7 @@ offer_tied v i b f s e few t = go (nat_lt s.dups 11) refl (is_fragment_in_range 
           }),
           kept_is true qa ∙ sym qa,
         )
-    go true qa true qo false qu =
-        let taken = sym (t.held.used_is f qo) ∙ qu in
-        let none : bit ((offer_verdict v e (counted_offer i b f)).dup && i == i) ≡ 0 = rw (qo, taken) refl in
-        let long = t.held.long in
-        let low = in_range_below v f qo in
-        let stay : after_offer v s f ≡ record s { kept = s.kept + 1; used = slice_set s.used f true } =
-        rw (qa, qo, qu) refl in (
-          subst (λ x. OfferTie v i x (offer_verdict v e (counted_offer i b f) ∷ e)) (sym stay) (record {
-            held = keep (slice_set s.used f true) qa (length-set s.used f true)
-                (λ ok. get_or-set_same s.used f true false (omega arith))
-                (λ g n. get_or-set_other s.used f g true false (λ q. n (sym q)));
-            capped = omega (arith, t.capped, dups_cons (offer_verdict v e (counted_offer i b f)) e i, none);
-          }),
-          kept_is true qa ∙ sym qa,
-        )
+    go true qa true qo false qu = grind (arith, in_range_below, keep, length-set, get_or-set_same, get_or-set_other)
 
 verdicts-append : (v : Layout) (e : List OfferVerdict) (ps qs : List CountedOffer) →
     verdicts v e (ps ++ qs) ≡ verdicts v (verdicts v e ps) qs
@@ -234,15 +204,7 @@ open_tied v i b s e fs few same t =
     (ready (after_offers v s fs) (verdicts v e (map (counted_offer i b) fs)) (offers_bad v s fs ∙ same) done.0, done.1)
   where
     ready : (s : Claims) (e : List OfferVerdict) → s.bad ≡ b → OfferTie v i s e → Tie v i b s e
-    ready s e q t = record {
-      held = t.held;
-      ready = let capped = t.capped in rw (q, capped) (ap (λ x. nat_lt b 11 && x) (one (dups_of e i)));
-      same = λ r. let low = ltb-true s.dups 11 (and_parts (nat_lt s.bad 11) (nat_lt s.dups 11) r).1 in
-          (q, omega (arith, t.capped, low));
-    }
-      where
-        one : (n : ℕ) → nat_lt (min 11 n) 11 ≡ nat_lt n 11
-        one n = grind (arith, nat_tests)
+    ready s e q t = grind arith
 
 abbrev StepTied : Layout → ℕ → ℕ → Claims → List OfferVerdict → Step → Type 0
 StepTied v i b s e step = Tie v i (bad_runs_after v b step) (after_step v s step)

@@ -1,6 +1,6 @@
 -- The logical blocks of an inode's Runs rise, and are below the number of its logical blocks.
-use Rattle.std.proofs.Common.{zero, suc, ◌≡◌, ℕ, ◌+◌, ◌*◌, ◌<◌, ◌≤◌, Bool, true, false, arith, refl, sym, ap, subst}
-use Rattle.std.proofs.Common.{◌∙◌, List, [], ◌∷◌, ◌++◌, None, append_assoc, nat_lt, nat_eq, if◌then◌else◌, slice_index}
+use Rattle.std.proofs.Common.{zero, suc, ◌≡◌, ℕ, ◌+◌, ◌*◌, ◌<◌, ◌≤◌, Bool, true, false, arith, refl, subst}
+use Rattle.std.proofs.Common.{List, [], ◌∷◌, ◌++◌, None, append_assoc, nat_lt, nat_eq, if◌then◌else◌, slice_index}
 use Rattle.std.proofs.lemmas.{Bool.{and_parts, and_from, lt-ltb, ltb-true}, List.Folds.list_all-append}
 use Rattle.std.{proofs.Math.Nat.mul-le-mul_right, specs.List.{list_all, flat_map, range_with_len}}
 use Rattle.ffs_volume.specs.{declared.Step.{Step, TheVariants.{Run, Gap}}, Disk.Areas.is_run_in_range}
@@ -124,19 +124,15 @@ at_within t bytes (suc level) address first lt = one (nat_eq address 0) (λ a b 
         let most : used * span ≤ words * span = mul-le-mul_right span (let u : used ≤ words = omega arith in u) in
         let whole = span_more words level in
         let start : first + 0 * span ≡ first = omega arith in
-        let end : first + (0 + used) * span ≤ high =
-        (let z : 0 + used ≡ used = omega arith in let e = ap (λ k. k * span) z in omega (arith, most, whole, e)) in
+        let end : first + (0 + used) * span ≤ high = grind arith in
         record {
-          rises = rise_upper first (first + (0 + used) * span) high (blocks_in (flat_map f (range_with_len 0 used))) end
-              (subst (λ a. Rises a (first + (0 + used) * span) (blocks_in (flat_map f (range_with_len 0 used)))) start
-              all.rises);
+          rises = grind (arith, rise_upper);
           below = all.below;
         }
 
     below : (b : Bool) → ((a b : ℕ) → b < t.blocks → Within t.blocks b (b + span) (steps_at t bytes level a b)) →
         Within t.blocks first high (if b then tail_of found ++ flat_map f (range_with_len 0 used) else [])
-    below true child = within_join t.blocks first first high (tail_of found) (flat_map f (range_with_len 0 used))
-        (tail_within found) (under child)
+    below true child = grind (arith, under)
     below false child = within_none t.blocks first high wide
 
     one : (b : Bool) → ((a b : ℕ) → b < t.blocks → Within t.blocks b (b + span) (steps_at t bytes level a b)) →
@@ -145,8 +141,7 @@ at_within t bytes (suc level) address first lt = one (nat_eq address 0) (λ a b 
         ∷ (if is_run_in_range t.layout address t.layout.frag
         then tail_of found ++ flat_map f (range_with_len 0 used) else []))
     one true child = record { rises = wide; below = refl }
-    one false child = let r = below (is_run_in_range t.layout address t.layout.frag) child in
-        record { rises = r.rises; below = r.below }
+    one false child = grind (arith, below)
 
 first_below : (words blocks i : ℕ) → i < addresses_needed words blocks → first_block words i < blocks
 first_below words blocks i h = grind arith
@@ -155,13 +150,6 @@ first_below words blocks i h = grind arith
 record Goes (t : FileBlocks) (low : ℕ) (steps : List Step) : Type 0 where
   rising : AreRising low (blocks_in steps)
   below : list_all (λ b. nat_lt b t.blocks) (blocks_in steps) ≡ true
-
-after : (t : FileBlocks) (bytes addresses : List ℕ) (next n : ℕ) → next + suc n ≤ 15 →
-    AreRising (first_block t.layout.nindir (next + 1)) (blocks_in (steps_of_addresses t bytes addresses (next + 1) n))
-    →
-    AreRising (first_block t.layout.nindir next + span_of t.layout.nindir (indirection_of next))
-    (blocks_in (steps_of_addresses t bytes addresses (next + 1) n))
-after t bytes addresses next n h k = grind arith
 
 addresses_go : (t : FileBlocks) (bytes addresses : List ℕ) (next count : ℕ) → next + count ≤ 15 →
     next + count ≤ addresses_needed t.layout.nindir t.blocks →
@@ -174,14 +162,7 @@ addresses_go t bytes addresses next (suc count) le used =
     let rest = addresses_go t bytes addresses (next + 1) count (omega (arith, le)) (omega (arith, used)) in
     let xs = steps_at t bytes (indirection_of next) (slice_index addresses next) (first_block words next) in
     let ys = steps_of_addresses t bytes addresses (next + 1) count in
-    record {
-      rising = subst (AreRising (first_block words next)) (sym (blocks_append xs ys))
-          (rising_join (first_block words next) (first_block words next + span_of words (indirection_of next))
-          (blocks_in xs) (blocks_in ys) here.rises (after t bytes addresses next count le rest.rising));
-      below = ap (list_all (λ b. nat_lt b t.blocks)) (blocks_append xs ys)
-          ∙ (list_all-append (λ b. nat_lt b t.blocks) (blocks_in xs) (blocks_in ys)
-          ∙ and_from _ _ here.below rest.below);
-    }
+    grind (arith, blocks_append, rising_join, list_all-append)
 
 below_more : (n m : ℕ) (xs : List ℕ) → n ≤ m → list_all (λ b. nat_lt b n) xs ≡ true →
     list_all (λ b. nat_lt b m) xs ≡ true

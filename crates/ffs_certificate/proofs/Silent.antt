@@ -1,26 +1,24 @@
 -- When the checks of directories are silent: pathnames, connectivity and references.
 use Rattle.std.proofs.Common.{◌≡◌, ◌≢◌, ℕ, zero, suc, ◌+◌, ◌<◌, ◌==◌, Bool, true, false, not, nat_lt, refl, List, []}
-use Rattle.std.proofs.{Common.{◌∷◌, Option, Some, if◌then◌else◌, IsSomeAnd, arith, ap, subst}, lemmas.Bool.eqb-true}
-use Rattle.std.proofs.lemmas.Bool.{eq-eqb, ne_eqb, and_from, not-true, not-false, not_from_true, not_from_false}
-use Rattle.std.proofs.lemmas.Bool.Decides.{nat_tests}
+use Rattle.std.proofs.{Common.{◌∷◌, Option, Some, IsSomeAnd, arith, ap, subst}, lemmas.Bool.{eqb-true, eq-eqb, ne_eqb}}
+use Rattle.std.proofs.lemmas.Bool.{and_from, not-true, not-false, not_from_true, not_from_false, Decides.nat_tests}
 use Rattle.ffs_volume.specs.declared.{Class.{TheVariants.Dir, Class}, Role.TheVariants.{Extra, Plain}}
-use Rattle.ffs_volume.specs.Directories.{Entries.Entry, Roles.{Volume, RoledEntry, is_dir, is_suspect, is_one_dot}}
-use Rattle.ffs_volume.specs.Directories.Roles.{roled_entries, dot, dotdot, is_allocated_inode, references}
-use Rattle.ffs_volume.specs.Directories.{Graph.{is_naming_entry_at, test_at, parent}, PathnameCheck.attributes}
-use Rattle.ffs_volume.specs.Directories.PathnameCheck.{entry_lines, lines_of_entries, plain_lines, named_lines}
-use Rattle.ffs_volume.specs.Directories.PathnameCheck.{is_bad_whiteout, is_first_entry_of_suspect, is_extraneous}
-use Rattle.ffs_volume.specs.Directories.PathnameCheck.{has_wrong_type, root_lines, root_lines_of, continues_after_root}
-use Rattle.ffs_volume.specs.Directories.PathnameCheck.{is_short, has_partial_chunk, are_sound, shape_lines, dot_lines}
+use Rattle.ffs_volume.specs.Directories.{Entries.Entry, Roles.{Volume, RoledEntry, is_dir, is_suspect, roled_entries}}
+use Rattle.ffs_volume.specs.Directories.{Roles.{dot, dotdot, is_allocated_inode, references}, Graph.is_naming_entry_at}
+use Rattle.ffs_volume.specs.Directories.{Graph.{test_at, parent}, PathnameCheck.{attributes, entry_lines}}
+use Rattle.ffs_volume.specs.Directories.PathnameCheck.{lines_of_entries, plain_lines, named_lines, is_bad_whiteout}
+use Rattle.ffs_volume.specs.Directories.PathnameCheck.{is_first_entry_of_suspect, is_extraneous, has_wrong_type}
+use Rattle.ffs_volume.specs.Directories.PathnameCheck.{root_lines, root_lines_of, continues_after_root, is_short}
+use Rattle.ffs_volume.specs.Directories.PathnameCheck.{has_partial_chunk, are_sound, shape_lines, dot_lines}
 use Rattle.ffs_volume.specs.Directories.PathnameCheck.{dot_lines_of, is_wrong_parent, dotdot_lines, dotdot_lines_of}
 use Rattle.ffs_volume.specs.Directories.PathnameCheck.{sized_dir_lines, is_sized_dir, directory_lines, pathname_lines}
 use Rattle.ffs_volume.specs.Directories.Connectivity.{is_dead, is_unref_dir, connectivity_lines}
 use Rattle.ffs_volume.specs.Directories.ReferenceCheck.{inode_lines, reference_lines_at, reference_lines}
-use Rattle.ffs_volume.specs.Directories.{Parents.{graph_of, nth_roled}, Paths.{dir_path, entry_path}}
-use Rattle.ffs_volume.specs.Messages.Kinds.{TreeMessage, lines_below, unref_dir, extra_dot, extra_dotdot, whiteout}
-use Rattle.ffs_volume.specs.{Messages.Kinds.{out_of_range, unallocated}, Blocks.Inodes.{is_allocated, is_directory}}
-use Rattle.ffs_volume.{specs.Disk.Numbers.equals_natural, proofs.Silence.{nil-left, nil-right, nil-both}}
-use Rattle.ffs_volume.proofs.Silence.{reported-quiet, reported-silent, if-quiet, else-quiet, then-quiet, then-silent}
-use Rattle.ffs_volume.proofs.Silence.{lines-quiet, lines-silent}
+use Rattle.ffs_volume.specs.{Directories.{Parents.{graph_of, nth_roled}, Paths.entry_path}, Messages.Kinds.lines_below}
+use Rattle.ffs_volume.specs.Messages.Kinds.{unref_dir, whiteout, out_of_range, unallocated}
+use Rattle.ffs_volume.specs.{Blocks.Inodes.{is_allocated, is_directory}, Disk.Numbers.equals_natural}
+use Rattle.ffs_volume.proofs.Silence.{nil-left, nil-right, nil-both, reported-quiet, reported-silent, if-quiet}
+use Rattle.ffs_volume.proofs.Silence.{else-quiet, then-quiet, then-silent, lines-quiet, lines-silent}
 
 ruleset quiet = (nil-left, nil-right, reported-quiet, not-false, eqb-true)
 
@@ -73,15 +71,10 @@ pub record IsEntryQuiet (v : Volume) (s j : ℕ) (e : RoledEntry) : Type 0 where
   pub no_extra : e.role ≢ Extra
   pub plain : e.role ≡ Plain → IsPlainQuiet v s j e.entry
 
--- one of two messages
-either-some : (b : Bool) (m n : TreeMessage) → (if b then m ∷ [] else n ∷ []) ≡ [] → ⊥
-either-some b m n h = grind arith
-
 entry-quiet : (v : Volume) (s j : ℕ) (e : RoledEntry) → entry_lines v s j e ≡ [] → IsEntryQuiet v s j e
 unfolding entry_lines
 entry-quiet v s j e h = record {
-  no_extra = λ x. either-some (is_one_dot e.entry.name) (extra_dot (attributes v s) (dir_path (graph_of v) s))
-      (extra_dotdot (attributes v s) (dir_path (graph_of v) s)) (rw x at h);
+  no_extra = grind arith;
   plain = λ x. plain-quiet v s j e.entry (rw x at h);
 }
 

@@ -1,19 +1,17 @@
 -- What is known of an image's volume, and that all is kept where the block check is silent.
 use Rattle.std.proofs.Common.{zero, suc, ◌≡◌, ℕ, ◌+◌, ◌-◌, ◌*◌, ◌<◌, ◌≤◌, true, false, arith, refl, sym, ap, ◌∙◌, List}
-use Rattle.std.proofs.{Common.{[], ◌∷◌, ◌++◌, ◌||◌, if◌then◌else◌, map, ◌≢◌, Bool}, lemmas.Bool.{and_parts, and_from}}
-use Rattle.std.proofs.lemmas.{Bool.eq-eqb, List.{Folds.list_all-map, FromFn.length-range_with_len}}
-use Rattle.std.specs.List.{range_with_len, list_any}
-use Rattle.ffs_volume.specs.declared.Class.{TheVariants.{Unknown}, Class}
-use Rattle.ffs_volume.specs.declared.{Step.{TheVariants.{Run, Tail, Gap}, Step}, Layout.Layout, Inode.Inode}
-use Rattle.ffs_volume.specs.Blocks.Claims.{Claims, no_claims, reserved_map, at_next_inode, is_open, after_step}
-use Rattle.ffs_volume.specs.Blocks.{Claims.{after_owner, after_owners}, BlockCheck.{blames, is_marked, phase1_lines}}
-use Rattle.ffs_volume.specs.Blocks.{BlockCheck.phase1b_lines, KeptSteps.{is_kept_step, kept_steps, claims_before}}
-use Rattle.ffs_volume.specs.Blocks.{KeptSteps.kept_steps_of, Inodes.{inode_of, class_of, is_unknown, type_of}}
-use Rattle.ffs_volume.specs.Blocks.{Owners.{owner_of, owners_of, step_fragments}, Steps.steps_of}
-use Rattle.ffs_volume.specs.Directories.Volumes.{is_inode_number, class_at, marked_at, steps_of_inode}
-use Rattle.ffs_volume.specs.Directories.Volumes.{kept_steps_of_inode, volume_with, volume_of, whole_volume}
-use Rattle.ffs_volume.specs.{Directories.Roles.roled_entries, Consistent.BlocksRight.{is_right_class, BlocksRight}}
-use Rattle.ffs_volume.{specs.Laws.Geometry.IsAcceptedLayout, proofs.Sizes.no_steps}
+use Rattle.std.proofs.{Common.{[], ◌∷◌, map, ◌≢◌, Bool}, lemmas.{Bool.and_parts, List.Folds.list_all-map}}
+use Rattle.std.{proofs.lemmas.List.FromFn.length-range_with_len, specs.List.range_with_len}
+use Rattle.ffs_volume.specs.declared.{Class.{TheVariants.Unknown, Class}, Step.{TheVariants.{Run, Tail, Gap}, Step}}
+use Rattle.ffs_volume.specs.{declared.{Layout.Layout, Inode.Inode}, Blocks.Claims.{Claims, no_claims, reserved_map}}
+use Rattle.ffs_volume.specs.Blocks.{Claims.{at_next_inode, after_step, after_owner, after_owners}, BlockCheck.is_marked}
+use Rattle.ffs_volume.specs.Blocks.{KeptSteps.{is_kept_step, kept_steps, claims_before, kept_steps_of}, Inodes.inode_of}
+use Rattle.ffs_volume.specs.Blocks.{Inodes.{class_of, is_unknown, type_of}, Owners.{owner_of, owners_of}}
+use Rattle.ffs_volume.specs.{Blocks.{Owners.step_fragments, Steps.steps_of}, Directories.Volumes.is_inode_number}
+use Rattle.ffs_volume.specs.Directories.Volumes.{class_at, marked_at, steps_of_inode, kept_steps_of_inode, volume_with}
+use Rattle.ffs_volume.specs.Directories.{Volumes.{volume_of, whole_volume}, Roles.roled_entries}
+use Rattle.ffs_volume.specs.{Consistent.BlocksRight.{is_right_class, BlocksRight}, Laws.Geometry.IsAcceptedLayout}
+use Rattle.ffs_volume.proofs.Sizes.{no_steps}
 use Rattle.ffs_certificate.{specs.Premises.{IsVolume, IsUnmarked}, proofs.BlockLaws.{mark, Calm, calm_open, step_quiet}}
 use Rattle.ffs_certificate.proofs.BlockLaws.{steps_quiet, step_claims, owner_quiet, owners_quiet, owner_claims}
 use Rattle.ffs_certificate.proofs.{BlockLaws.owners_from, BlocksSilent.{right_quiet, blocks_silent}, GroupLaws.all_at}
@@ -22,9 +20,7 @@ step_kept_quiet : (v : Layout) (s : Claims) (step : Step) → Calm s → step_qu
     is_kept_step v s step ≡ true
 step_kept_quiet v s (Run start len block) c e =
     let done = step_claims v s (Run start len block) c e in
-    and_from (is_open s) _ (calm_open s c)
-    (eq-eqb (after_step v s (Run start len block)).kept (s.kept + len)
-    (done.kept ∙ ap (λ n. s.kept + n) (length-range_with_len start len)))
+    grind (arith, length-range_with_len)
 step_kept_quiet v s Tail c e = calm_open s c
 step_kept_quiet v s Gap c e = calm_open s c
 
@@ -36,8 +32,7 @@ steps_kept_quiet v s (step ∷ steps) c e =
     let done = step_claims v s step c parts.0 in
     let rest = steps_kept_quiet v (after_step v s step) steps done.calm
     (ap (λ u. steps_quiet v u steps) done.used ∙ parts.1) in
-    ap (λ b. (if b then step ∷ [] else []) ++ kept_steps v (after_step v s step) steps)
-    (step_kept_quiet v s step c parts.0) ∙ ap (λ z. step ∷ z) rest
+    grind (arith, step_kept_quiet)
 
 kept_at : (v : Layout) (image : List ℕ) (s : Claims) (a k d x : ℕ) → a + d ≡ x → d < k →
     owners_quiet v s.used (map (owner_of v image) (range_with_len a k)) ≡ true →
@@ -73,8 +68,7 @@ none_marked v image r x low high =
     (sym (list_all-map (λ o. is_right_class o.class) (owner_of v image) (range_with_len 2 (v.ncg * v.ipg - 2)))
     ∙ r.classes) low (omega arith) in
     let known = whole_known (class_of v (inode_of v image x)) whole in
-    ap (λ b. b || list_any (blames x) (phase1_lines v (owners_of v image) ++ phase1b_lines v (owners_of v image))) known
-    ∙ ap (list_any (blames x)) none
+    grind arith
 
 -- no type that has a class is 14
 kind_known : (v : Layout) (i : Inode) → class_of v i ≢ Unknown → type_of i.mode ≢ 14
