@@ -57,7 +57,6 @@ new_fresh used (g ∷ fs) below new =
     one : (b : Bool) → is_set used g ≡ b → b ≡ false
     one false e = refl
     one true e =
-        let most : times g (g ∷ fs) + bit (is_set used g) ≤ 1 = new g in
         let more = times_cons g g fs in
         let here : bit (g == g) ≡ 1 = ap bit (eq-eqb g g refl) in
         let there : bit (is_set used g) ≡ 1 = ap bit e in

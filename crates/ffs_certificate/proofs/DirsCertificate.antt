@@ -108,7 +108,6 @@ dirs_reported v vol un = (
     each = λ d h.
         let p = r.each d h in
         let some = p.size.some in
-        let whole = p.size.whole in
         record {
           some = omega arith;
           short = grind (arith, nat_tests);

@@ -126,8 +126,6 @@ offers_tied v i b s e [] few t = (t, refl)
 offers_tied v i b s e (f ∷ fs) few t =
     let one = offer_tied v i b f s e few t in
     let rest = offers_tied v i b (after_offer v s f) (offer_verdict v e (counted_offer i b f) ∷ e) fs few one.0 in
-    let same = one.1 in
-    let more = rest.1 in
     (rest.0, cc)
 
 offer_bad : (v : Layout) (s : Claims) (f : ℕ) → (after_offer v s f).bad ≡ s.bad

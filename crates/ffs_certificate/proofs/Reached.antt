@@ -27,7 +27,6 @@ lost-reported v suspect d sane h =
       | inl y ↦ let w = some_below-gives (is_unref_dir_in v suspect) v.count y in (w.0, w.1.passes)
       | inr y ↦
           let quiet = some_below-false (is_unref_dir_in v suspect) v.count y in
-          let below = λ (x : ℕ) (l : is_lost v suspect x ≡ true). sane.dirs x (lost-true v suspect x l).dir in
           let g : StaysBelow (parent v) (is_lost v suspect) v.count = grind (arith, lost-next, lost-true) in
           let w = some_leader (parent v) (is_lost v suspect) v.count d g h in
           (w.0, and_from (is_lost v suspect w.0) _ w.1 (or_right (none_or_dead v suspect (parent v w.0)) _ w.2))

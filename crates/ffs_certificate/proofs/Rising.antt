@@ -122,9 +122,6 @@ at_within t bytes (suc level) address first lt = one (nat_eq address 0) (λ a b 
         child (address_at t.layout bytes address j) (first + j * span)
         (word_below words t.blocks first span j (span_some words level enough) (omega (arith, lt_used)))) in
         let most : used * span ≤ words * span = mul-le-mul_right span (let u : used ≤ words = omega arith in u) in
-        let whole = span_more words level in
-        let start : first + 0 * span ≡ first = omega arith in
-        let end : first + (0 + used) * span ≤ high = grind arith in
         record {
           rises = grind (arith, rise_upper);
           below = all.below;
@@ -160,8 +157,6 @@ addresses_go t bytes addresses next (suc count) le used =
     let here = at_within t bytes (indirection_of next) (slice_index addresses next) (first_block words next)
     (first_below words t.blocks next (omega (arith, used))) in
     let rest = addresses_go t bytes addresses (next + 1) count (omega (arith, le)) (omega (arith, used)) in
-    let xs = steps_at t bytes (indirection_of next) (slice_index addresses next) (first_block words next) in
-    let ys = steps_of_addresses t bytes addresses (next + 1) count in
     grind (arith, blocks_append, rising_join, list_all-append)
 
 below_more : (n m : ℕ) (xs : List ℕ) → n ≤ m → list_all (λ b. nat_lt b n) xs ≡ true →

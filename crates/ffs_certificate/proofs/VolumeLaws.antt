@@ -67,7 +67,6 @@ none_marked v image r x low high =
     let whole = all_at (λ y. is_right_class (class_of v (inode_of v image y))) 2 (v.ncg * v.ipg - 2) x
     (sym (list_all-map (λ o. is_right_class o.class) (owner_of v image) (range_with_len 2 (v.ncg * v.ipg - 2)))
     ∙ r.classes) low (omega arith) in
-    let known = whole_known (class_of v (inode_of v image x)) whole in
     grind arith
 
 -- no type that has a class is 14
@@ -100,7 +99,6 @@ unfolding owners_of owner_of
 whole_number v image r x h =
     let b = number_bounds v x h in
     let low = b.0 in
-    let high = b.1 in
     all_at (λ y. is_right_class (class_of v (inode_of v image y))) 2 (v.ncg * v.ipg - 2) x
     (sym (list_all-map (λ o. is_right_class o.class) (owner_of v image) (range_with_len 2 (v.ncg * v.ipg - 2)))
     ∙ r.classes) low (omega arith)
