@@ -1,19 +1,15 @@
 -- Phases 1 and 1b report nothing exactly where every fragment has one owner at most.
 use Rattle.std.proofs.Common.{inl, inr, ◌≡◌, ℕ, ◌+◌, ◌<◌, ◌≤◌, Bool, true, false, cond, arith, refl, sym, ap, ◌∙◌, List}
-use Rattle.std.proofs.Common.{[], ◌∷◌, length, nat_lt, ◌==◌, not, slice_set, ◌++◌, ◌↔◌, ◌&&◌, map, replicate}
-use Rattle.std.proofs.lemmas.Bool.{and_parts, cases_eq, eq-eqb, ne_eqb, ltb-true, and_from, cases_lt, lt-ltb, le-ltb}
-use Rattle.std.specs.List.{list_all, range_with_len}
+use Rattle.std.proofs.Common.{[], ◌∷◌, length, nat_lt, ◌==◌, not, slice_set, ◌++◌, ◌↔◌, ◌&&◌, replicate}
+use Rattle.std.proofs.lemmas.Bool.{and_parts, eq-eqb, ne_eqb, ltb-true, and_from, cases_lt, Decides.nat_tests}
 use Rattle.std.proofs.lemmas.List.{get_or-set_same, get_or-set_other, length-set, length-replicate, get_or-replicate}
-use Rattle.std.proofs.lemmas.List.FromFn.{get_or-map-range_with_len, length-map-range_with_len}
-use Rattle.std.{proofs.lemmas.List.get_or_past, proofs.lemmas.Bool.Decides.nat_tests}
-use Rattle.std.{proofs.lemmas.List.Sums.sum_by-cons, proofs.lemmas.List.Folds.list_all-append}
-use Rattle.ffs_volume.specs.declared.Step.TheVariants.{Run, Tail, Gap}
-use Rattle.ffs_volume.specs.Blocks.BlockCheck.{first_offer_lines, phase1_lines, phase1b_lines}
-use Rattle.ffs_volume.specs.Blocks.{Claims.is_set, Claims.reserved_map, Claims.no_claims, Owners.Owner}
-use Rattle.ffs_volume.specs.Blocks.{Owners.fragments_of, Owners.all_steps, KeptOffers.Offer, KeptOffers.kept_in_owners}
-use Rattle.ffs_volume.specs.Consistent.BlocksRight.{times, is_step_in_range, BlocksRight}
-use Rattle.ffs_volume.specs.{declared.Layout.Layout, declared.Step.Step, Disk.Areas.is_fragment_in_range}
-use Rattle.ffs_volume.specs.{Disk.Areas.is_reserved}
+use Rattle.std.proofs.lemmas.List.{FromFn.{get_or-map-range_with_len, length-map-range_with_len}, get_or_past}
+use Rattle.std.{proofs.lemmas.List.{Sums.sum_by-cons, Folds.list_all-append}, specs.List.{list_all, range_with_len}}
+use Rattle.ffs_volume.specs.declared.{Step.{TheVariants.{Run, Tail, Gap}, Step}, Layout.Layout}
+use Rattle.ffs_volume.specs.Blocks.{BlockCheck.{first_offer_lines, phase1_lines, phase1b_lines}, Claims.is_set}
+use Rattle.ffs_volume.specs.Blocks.{Claims.{reserved_map, no_claims}, Owners.{Owner, fragments_of, all_steps}}
+use Rattle.ffs_volume.specs.{Blocks.KeptOffers.Offer, Consistent.BlocksRight.{times, is_step_in_range, BlocksRight}}
+use Rattle.ffs_volume.specs.Disk.Areas.{is_fragment_in_range, is_reserved}
 use Rattle.ffs_certificate.proofs.BlockLaws.{mark, fresh, is_nil, nil_append, run_ok, owners_say, owners_claim, Quiet}
 use Rattle.ffs_certificate.proofs.BlockLaws.{owners_parts, owners_from}
 
@@ -26,10 +22,7 @@ times_cons f g fs = sum_by-cons (λ h. cond (h == f) 1 0) g fs
 -- a bit that is set where it wasn't
 pub bit_set : (used : List Bool) (g f : ℕ) → g < length used → is_set used g ≡ false →
     bit (is_set (slice_set used g true) f) ≡ bit (g == f) + bit (is_set used f)
-bit_set used g f below free = elim (cases_eq g f) [
-  | inl same ↦ rw (← same) (rw (get_or-set_same used g true false below, free, eq-eqb g g refl) refl)
-  | inr other ↦ rw (get_or-set_other used g f true false (λ e. other (sym e)), ne_eqb g f other) (omega arith)
-]
+bit_set used g f below free = grind (arith, get_or-set_same, get_or-set_other)
 
 -- each number of the list is in one place, and isn't used
 abbrev pub IsNew : List Bool → List ℕ → Type 0
@@ -39,8 +32,7 @@ abbrev pub are_below : ℕ → List ℕ → Bool
 are_below n fs = list_all (λ f. nat_lt f n) fs
 
 bit_small : (b : Bool) → bit b ≤ 1
-bit_small true = omega arith
-bit_small false = omega arith
+bit_small b = grind arith
 
 pub fresh_new : (used : List Bool) (fs : List ℕ) → are_below (length used) fs ≡ true → fresh used fs ≡ true →
     IsNew used fs
@@ -65,7 +57,6 @@ new_fresh used (g ∷ fs) below new =
     one : (b : Bool) → is_set used g ≡ b → b ≡ false
     one false e = refl
     one true e =
-        let most : times g (g ∷ fs) + bit (is_set used g) ≤ 1 = new g in
         let more = times_cons g g fs in
         let here : bit (g == g) ≡ 1 = ap bit (eq-eqb g g refl) in
         let there : bit (is_set used g) ≡ 1 = ap bit e in
@@ -94,8 +85,7 @@ times_past n f (g ∷ fs) below le =
     omega arith
 
 pub nil_is : {X : Type 0} (xs : List X) → is_nil xs ≡ true → xs ≡ []
-nil_is [] e = refl
-nil_is (x ∷ xs) e = absurd (cc)
+nil_is xs h = grind arith
 
 in_range_below : (v : Layout) (fs : List ℕ) → list_all (is_fragment_in_range v) fs ≡ true → are_below v.size fs ≡ true
 unfolding is_fragment_in_range
@@ -121,24 +111,11 @@ reserved_length v = length-map-range_with_len (is_reserved v) 0 v.size
 
 pub reserved_bit : (v : Layout) (f : ℕ) → is_set (reserved_map v) f ≡ (nat_lt f v.size && is_reserved v f)
 unfolding reserved_map
-reserved_bit v f = elim (cases_lt f v.size) [
-  | inl below ↦ rw (
-    get_or-map-range_with_len (is_reserved v) 0 v.size f f false below (omega arith),
-    lt-ltb f v.size below,
-  ) refl
-  | inr past ↦ rw (
-    get_or_past (map (is_reserved v) (range_with_len 0 v.size)) f false
-        (rw (length-map-range_with_len (is_reserved v) 0 v.size) past),
-    le-ltb f v.size past,
-  ) refl
-]
+reserved_bit v f = grind (arith, get_or-map-range_with_len, get_or_past, length-map-range_with_len)
 
 -- no bit of a list of unset bits is set
 pub unset : (n f : ℕ) → is_set (replicate n false) f ≡ false
-unset n f = elim (cases_lt f n) [
-  | inl below ↦ get_or-replicate n f false false below
-  | inr past ↦ get_or_past (replicate n false) f false (rw (length-replicate n false) past)
-]
+unset n f = grind (arith, get_or-replicate, get_or_past, length-replicate)
 
 -- where no fragment is marked, no offer is reported
 none_first : (dup : List Bool) (os : List Offer) → ((f : ℕ) → is_set dup f ≡ false) → first_offer_lines dup os ≡ []
@@ -158,8 +135,7 @@ quiet_right v os q =
         alone = λ f. omega (arith, new f);
         unreserved = λ f e. elim (cases_lt f v.size) [
           | inl low ↦
-              let set : bit (is_set (reserved_map v) f) ≡ 1 =
-              ap bit (reserved_bit v f ∙ and_from _ _ (lt-ltb f v.size low) e) in
+              let set : bit (is_set (reserved_map v) f) ≡ 1 = grind (arith, reserved_bit) in
               omega (arith, new f)
           | inr past ↦ times_past v.size f _ below past
         ];
@@ -171,20 +147,11 @@ pub right_quiet : (v : Layout) (os : List Owner) → BlocksRight v os → Quiet 
 right_quiet v os r =
     let below = runs_below v (all_steps os) r.runs.in_range in
     let long = reserved_length v in
-    record {
-      classes = r.classes;
-      in_range = r.runs.in_range;
-      no_tail = r.runs.no_tail;
-      new = new_fresh (reserved_map v) (fragments_of (all_steps os)) (rw long below)
-          (λ f. one f (is_set (reserved_map v) f) refl);
-      counted = r.runs.counted;
-    }
+    grind (arith, new_fresh, one)
   where
     one : (f : ℕ) (b : Bool) → is_set (reserved_map v) f ≡ b → times f (fragments_of (all_steps os)) + bit b ≤ 1
     one f false e = omega (arith, r.runs.alone f)
-    one f true e =
-        let held = and_parts (nat_lt f v.size) (is_reserved v f) (sym (reserved_bit v f) ∙ e) in
-        omega (arith, r.runs.unreserved f held.1)
+    one f true e = grind (arith, reserved_bit)
 
 -- no line of phase 1, or of phases 1 and 1b
 pub phase1_silent : (v : Layout) (os : List Owner) → (phase1_lines v os ≡ []) ↔ BlocksRight v os
@@ -196,9 +163,7 @@ phase1_silent v os = (
 
 pub phase1b_silent : (v : Layout) (os : List Owner) → BlocksRight v os → phase1b_lines v os ≡ []
 unfolding phase1b_lines no_claims
-phase1b_silent v os r =
-    let left = owners_claim v (no_claims v) os (owners_from v (reserved_map v) os (right_quiet v os r)) in
-    none_first _ (kept_in_owners v (no_claims v) os) (λ f. ap (λ d. is_set d f) left.1 ∙ unset v.size f)
+phase1b_silent v os r = grind (arith, owners_claim, owners_from, right_quiet, none_first, unset)
 
 pub blocks_silent : (v : Layout) (os : List Owner) → (phase1_lines v os ++ phase1b_lines v os ≡ []) ↔ BlocksRight v os
 blocks_silent v os = (

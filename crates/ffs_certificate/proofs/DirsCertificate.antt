@@ -1,43 +1,25 @@
 -- The certificate of the checks of directories: silent, unreported and consistent are the same.
-use Rattle.std.proofs.Common.{◌≡◌, ◌≢◌, ℕ, ◌==◌, true, false, not, nat_lt, nat_le, Option, Some, None, IsSomeAnd, arith}
-use Rattle.std.proofs.Common.{sym, ◌∙◌, ap, inl, inr, refl, ◌↔◌}
-use Rattle.std.proofs.lemmas.Bool.{both_ways, cases_eq, eqb-true, eq-eqb, ne_eqb, and_parts, and_from, not-false}
-use Rattle.std.proofs.lemmas.Bool.{not_from_true, false_from_ne_true}
-use Rattle.std.proofs.lemmas.Bool.Decides.{nat_tests}
-use Rattle.ffs_volume.specs.declared.Class.TheVariants.{Free, Partial, Unknown, File, Dir}
-use Rattle.ffs_volume.specs.Directories.Roles.{Volume, RoledEntry, is_dir, is_inode, is_suspect, dotdot, references}
-use Rattle.ffs_volume.specs.Directories.Graph.{parent, parent_entry_index, is_lost, reached, IsNamedOnce}
-use Rattle.ffs_volume.specs.Directories.Parents.{graph_of, is_parent_entry, nth_roled}
-use Rattle.ffs_volume.specs.Directories.PathnameCheck.{is_wrong_parent, is_extraneous}
-use Rattle.ffs_volume.specs.Directories.{Roles.roled_entries, Entries.Entry, Climb.is_value, Connectivity.is_unref_dir}
-use Rattle.ffs_volume.specs.{declared.Class.Class, declared.Role.TheVariants.Plain, Blocks.Inodes.is_directory}
-use Rattle.ffs_volume.specs.{Blocks.Inodes.is_allocated, Blocks.Inodes.is_unknown}
+use Rattle.std.proofs.Common.{◌≡◌, ◌≢◌, ℕ, true, false, not, Option, Some, IsSomeAnd, arith, ap, inl, inr, refl, ◌↔◌}
+use Rattle.std.proofs.lemmas.Bool.{cases_eq, ne_eqb, and_parts, and_from, not-false, not_from_true, Decides.nat_tests}
+use Rattle.ffs_volume.specs.declared.{Class.{TheVariants.Dir, Class}, Role.TheVariants.Plain}
+use Rattle.ffs_volume.specs.Directories.Roles.{Volume, RoledEntry, is_dir, is_suspect, dotdot, roled_entries}
+use Rattle.ffs_volume.specs.Directories.{Graph.{parent, parent_entry_index, reached, IsNamedOnce}, Parents.graph_of}
+use Rattle.ffs_volume.specs.Directories.{Parents.{is_parent_entry, nth_roled}, PathnameCheck.is_wrong_parent}
+use Rattle.ffs_volume.specs.Directories.{PathnameCheck.is_extraneous, Entries.Entry, Climb.is_value}
+use Rattle.ffs_volume.specs.{Directories.Connectivity.is_unref_dir, Blocks.Inodes.is_directory}
 use Rattle.ffs_volume.specs.Consistent.DirectoriesRight.{IsPlainRight, AreDirsRight, AreLinksRight, AreCountsRight}
-use Rattle.ffs_volume.proofs.LevelLaws.{parent-root, reached-root}
-use Rattle.ffs_volume.proofs.{ClimbLaws.is_value-true, ClimbLaws.is_value-from, Graphs.AllReached, Graphs.NoExtraneous}
-use Rattle.ffs_volume.proofs.{Unreached.lost-true, Booleans.and_false-right, Booleans.and_false-from}
-use Rattle.ffs_certificate.specs.DirsCertificate.{IsSilent, AreDirectoriesRight}
-use Rattle.ffs_certificate.specs.Conditions.{IsPlainUnreported, AreDirsUnreported, AreLinksUnreported}
-use Rattle.ffs_certificate.specs.{Premises.IsVolume, Premises.IsUnmarked, Conditions.AreCountsUnreported}
-use Rattle.ffs_certificate.proofs.Silent.{dir-below, names_at-gives, names_at-from, count-true, count-from}
-use Rattle.ffs_certificate.proofs.Silent.{pathname-quiet, pathname-silent, connectivity-quiet, connectivity-silent}
-use Rattle.ffs_certificate.proofs.Silent.{reference-quiet, reference-silent}
-use Rattle.ffs_certificate.proofs.Suspects.{is_sane, dir-from_two, none_empty, none_suspect, none_dead, plain-live}
+use Rattle.ffs_volume.proofs.{LevelLaws.{parent-root, reached-root}, ClimbLaws.{is_value-true, is_value-from}}
+use Rattle.ffs_volume.proofs.{Graphs.{AllReached, NoExtraneous}, Booleans.{and_false-right, and_false-from}}
+use Rattle.ffs_certificate.specs.{DirsCertificate.{IsSilent, AreDirectoriesRight}, Conditions.IsPlainUnreported}
+use Rattle.ffs_certificate.specs.Conditions.{AreDirsUnreported, AreLinksUnreported, AreCountsUnreported}
+use Rattle.ffs_certificate.{specs.Premises.{IsVolume, IsUnmarked}, proofs.Silent.{dir-below, names_at-gives}}
+use Rattle.ffs_certificate.proofs.Silent.{names_at-from, pathname-quiet, pathname-silent, connectivity-quiet}
+use Rattle.ffs_certificate.proofs.{Silent.{connectivity-silent, reference-quiet, reference-silent}, Suspects.is_sane}
+use Rattle.ffs_certificate.proofs.Suspects.{dir-from_two, none_empty, none_suspect, none_dead, plain-live}
 use Rattle.ffs_certificate.proofs.Reached.{silent-reached, links-right, has_parent_entry}
 
 root_class : (c : Class) → is_directory c ≡ true → c ≡ Dir
-root_class Dir h = refl
-root_class File h = absurd (cc)
-root_class Unknown h = absurd (cc)
-root_class Partial h = absurd (cc)
-root_class Free h = absurd (cc)
-
-known-false : (c : Class) → c ≢ Unknown → is_unknown c ≡ false
-known-false Unknown h = absurd (h refl)
-known-false Dir h = refl
-known-false File h = refl
-known-false Partial h = refl
-known-false Free h = refl
+root_class c h = grind arith
 
 -- SILENT AND UNREPORTED
 pub checks_reported : (v : Volume) → IsVolume v → IsUnmarked v →
@@ -75,10 +57,7 @@ checks_reported v vol un = (
               let two = dir-from_two v e.entry.number k in
               let q = ((p.each s h (sizes s h)).entries j e t).plain r in
               and_false-right (is_dir v e.entry.number) _ (q.named (ne_eqb e.entry.number 1 (omega arith))).link k);
-          lost = λ d. false_from_ne_true (is_unref_dir v d) (λ t.
-              let l = lost-true (graph_of v) (is_suspect v) d
-              (and_parts (is_lost (graph_of v) (is_suspect v) d) _ t).0 in
-              both_ways (is_unref_dir v d) (connectivity-quiet v s.connectivity d (dir-below v d l.dir)) t);
+          lost = grind (arith, connectivity-quiet, dir-below);
         },
         λ i h. let c = counts i h in record { some = c.some; same = c.same },
       )),
@@ -101,73 +80,34 @@ checks_reported v vol un = (
                       record {
                         below = p.below;
                         no_whiteout = p.no_whiteout;
-                        named = λ n. record {
-                          allocated = (p.named n).allocated;
-                          suspect = and_false-from (is_suspect v e.entry.number) _
-                              (λ k. absurd (both_ways (is_suspect v e.entry.number) (calm e.entry.number) k));
-                          link = q.1.links d j e h t role;
-                          kind = (p.named n).kind;
-                        };
+                        named = grind arith;
                       };
                 };
               };
         });
         connectivity = connectivity-silent v q.1.lost;
-        references = reference-silent v (λ i h.
-            let c = q.2 i h in record { alive = none_dead v calm i; some = c.some; same = c.same });
+        references = grind (arith, reference-silent);
       }),
 )
 
 -- DIRECTORIES
 plain_right : (v : Volume) (e : Entry) → IsUnmarked v → e.number ≢ 0 → IsPlainUnreported v e → IsPlainRight v e
-plain_right v e un live q =
-    let known = known-false (v.class e.number) (un.known e.number) in
-    elim (cases_eq e.number 1) [
-      | inl y ↦ inl (y, grind (arith, nat_tests))
-      | inr n ↦ let m = q.named (ne_eqb e.number 1 n) in inr (grind (arith, nat_tests), grind (arith, nat_tests))
-    ]
+plain_right v e un live q = grind arith
 
 plain_unreported : (v : Volume) (e : Entry) → IsVolume v → IsUnmarked v → IsPlainRight v e → IsPlainUnreported v e
-plain_unreported v e vol un (inl w) = record {
-  below = let some = vol.some in grind (arith, nat_tests);
-  no_whiteout = grind (arith, nat_tests);
-  named = λ m. absurd (both_ways (e.number == 1) m (eq-eqb e.number 1 w.0));
-}
-plain_unreported v e vol un (inr w) =
-    let p = and_parts (is_inode v e.number) (is_allocated (v.class e.number)) w.0 in
-    let other : e.kind ≢ 14 = λ k. vol.kinds e.number (un.known e.number) w.0 (sym w.1 ∙ k) in
-    record {
-      below = (and_parts (nat_le 2 e.number) (nat_lt e.number v.count) p.0).1;
-      no_whiteout = grind (arith, nat_tests);
-      named = λ m. record {
-        allocated = p.1;
-        kind = and_false-from (not (is_unknown (v.class e.number))) _ (λ h. not_from_true _ (eq-eqb e.kind _ w.1));
-      };
-    }
+plain_unreported v e h k r = grind arith
 
 pub dirs_reported : (v : Volume) → IsVolume v → IsUnmarked v → AreDirsUnreported v ↔ AreDirsRight v
 dirs_reported v vol un = (
   (λ q. record {
     root = root_class (v.class 2) q.root;
-    each = λ d h.
-        let p = q.each d h in
-        record {
-          size = let short = p.short in let broken = p.broken in let some = p.some in
-              record { some = omega arith; whole = grind (arith, nat_tests) };
-          gap = p.gap;
-          sound = p.sound;
-          dot_there = p.dot_there;
-          dotdot_there = p.dotdot_there;
-          no_extra = p.no_extra;
-          plain = λ j s t r. plain_right v s.entry un (plain-live v d j s t r) (p.plain j s t r);
-        };
+    each = grind (arith, plain_right, plain-live);
   }),
   (λ r. record {
     root = ap is_directory r.root;
     each = λ d h.
         let p = r.each d h in
         let some = p.size.some in
-        let whole = p.size.whole in
         record {
           some = omega arith;
           short = grind (arith, nat_tests);
@@ -195,20 +135,16 @@ reached_reported v vol un r = silent-reached (graph_of v) (is_suspect v) (is_san
 -- the parent of a directory that is named once is where that name is
 parent_once : (v : Volume) (d : ℕ) → d ≢ 2 → reached (graph_of v) d ≡ true → (o : IsNamedOnce (graph_of v) d) →
     parent (graph_of v) d ≡ Some o.in_dir
-parent_once v d n r o =
-    let e = has_parent_entry (graph_of v) d n r in
-    e.2.0 ∙ ap Some (o.only e.0 e.1 e.3).0
+parent_once v d n r o = grind (arith, has_parent_entry)
 
 -- `..` is the parent exactly where its number isn't reported
 dotdot_right : (v : Volume) (d s : ℕ) (o : Option Entry) → parent (graph_of v) d ≡ Some s →
     IsSomeAnd o (λ e. is_wrong_parent (parent (graph_of v) d) e.number ≡ false) → IsSomeAnd o (λ e. e.number ≡ s)
-dotdot_right v d s None p q = q
-dotdot_right v d s (Some e) p q = sym (eqb-true s e.number (not-false _ (rw p at q)))
+dotdot_right v d s o h k = grind arith
 
 dotdot_unreported : (v : Volume) (d s : ℕ) (o : Option Entry) → parent (graph_of v) d ≡ Some s →
     IsSomeAnd o (λ e. e.number ≡ s) → IsSomeAnd o (λ e. is_wrong_parent (parent (graph_of v) d) e.number ≡ false)
-dotdot_unreported v d s None p q = q
-dotdot_unreported v d s (Some e) p q = rw p (not_from_true _ (eq-eqb s e.number (sym q)))
+dotdot_unreported v d s o h k = grind arith
 
 pub links_reported : (v : Volume) → IsVolume v → IsUnmarked v → AreDirsRight v → AreLinksUnreported v ↔ AreLinksRight v
 links_reported v vol un r = (
@@ -245,11 +181,7 @@ links_reported v vol un r = (
         (is_value-true (parent (graph_of v) d) s both.0, is_value-true (parent_entry_index (graph_of v) d) j both.1)
 
     all_reached : AreLinksRight v → AllReached (graph_of v)
-    all_reached l d h =
-        elim (cases_eq d 2) [
-          | inl e ↦ rw e (reached-root (graph_of v) vol.some)
-          | inr n ↦ (l.each d h n).reached_from_root
-        ]
+    all_reached l d h = grind (arith, reached-root)
 
     links : AreLinksRight v → (s j : ℕ) (e : RoledEntry) → is_dir v s ≡ true →
         nth_roled (roled_entries v s) j ≡ Some e → e.role ≡ Plain → is_extraneous v s j e.entry.number ≡ false
@@ -275,12 +207,7 @@ links_reported v vol un r = (
 
 -- COUNTS
 pub counts_reported : (v : Volume) → AreCountsUnreported v ↔ AreCountsRight v
-counts_reported v = (
-  (λ q i h. let c = q i h in
-      let n = c.some in record { same = count-true (v.inode i).nlink (references v i) c.same; some = omega arith }),
-  (λ r i h. let c = r i h in
-      let n = c.some in record { some = omega arith; same = count-from (v.inode i).nlink (references v i) c.same }),
-)
+counts_reported v = grind arith
 
 -- THE WHOLE
 pub silent_right : (v : Volume) → IsVolume v → IsUnmarked v → IsSilent v ↔ AreDirectoriesRight v

@@ -1,43 +1,38 @@
 -- The examples by computation: whole reports, the bytes of messages, and kept steps.
-use Rattle.std.proofs.Common.{◌≡◌, [], ◌∷◌, ◌++◌, None, refl, ap, ◌∙◌, codes, pos}
-use Rattle.std.specs.Fmt.{digits}
-use Rattle.ffs_volume.specs.declared.{Order.TheVariants.Little, Order.TheVariants.Big, BlockMessage.TheVariants.Dup}
-use Rattle.ffs_volume.specs.declared.{Label.TheVariants.File as FileLabel}
-use Rattle.ffs_volume.specs.Disk.Numbers.{number, all_below, u16_at, i16_at, u32_at, u64_at, i32_at}
-use Rattle.ffs_volume.specs.Disk.Areas.{cgoffset_of, cgbase, cgstart, is_group_metadata, is_fragment_in_range}
-use Rattle.ffs_volume.specs.Disk.{Areas.is_run_in_range, Areas.is_reserved, Outcome.outcome, Search.first_below}
-use Rattle.ffs_volume.specs.Disk.{Search.earliest}
-use Rattle.ffs_volume.specs.Blocks.{Inodes.inode_from_bytes, Inodes.inode_of, Inodes.class_of, Steps.steps_at}
-use Rattle.ffs_volume.specs.Blocks.{Steps.steps_of, Owners.owner_of, Owners.owners_of, Claims.reserved_map}
-use Rattle.ffs_volume.specs.Blocks.{Claims.no_claims, BlockCheck.phase1_lines, BlockCheck.phase1b_lines}
-use Rattle.ffs_volume.specs.Blocks.{BlockCheck.is_marked, KeptSteps.claims_before, KeptSteps.kept_steps_of}
-use Rattle.ffs_volume.specs.Directories.Entries.{is_well_formed, entry_read, entry_at, entries_from}
-use Rattle.ffs_volume.specs.Directories.Roles.{role_of, roled_from, roled_entries, start_entry, dot, dotdot}
+use Rattle.std.{proofs.Common.{◌≡◌, [], ◌∷◌, ◌++◌, None, refl, ap, ◌∙◌, codes, pos}, specs.Fmt.digits}
+use Rattle.ffs_volume.specs.declared.{Order.TheVariants.{Little, Big}, BlockMessage.TheVariants.Dup}
+use Rattle.ffs_volume.specs.{declared.Label.TheVariants.File as FileLabel, Disk.Numbers.{number, all_below, u16_at}}
+use Rattle.ffs_volume.specs.Disk.{Numbers.{i16_at, u32_at, u64_at, i32_at}, Areas.{cgoffset_of, cgbase, cgstart}}
+use Rattle.ffs_volume.specs.Disk.Areas.{is_group_metadata, is_fragment_in_range, is_run_in_range, is_reserved}
+use Rattle.ffs_volume.specs.{Disk.{Outcome.outcome, Search.{first_below, earliest}}, Blocks.Inodes.inode_from_bytes}
+use Rattle.ffs_volume.specs.Blocks.{Inodes.{inode_of, class_of}, Steps.{steps_at, steps_of}, Owners.owner_of}
+use Rattle.ffs_volume.specs.Blocks.{Owners.owners_of, Claims.{reserved_map, no_claims}, BlockCheck.phase1_lines}
+use Rattle.ffs_volume.specs.Blocks.{BlockCheck.{phase1b_lines, is_marked}, KeptSteps.{claims_before, kept_steps_of}}
+use Rattle.ffs_volume.specs.Directories.{Entries.{is_well_formed, entry_read, entry_at, entries_from}, Roles.role_of}
+use Rattle.ffs_volume.specs.Directories.Roles.{roled_from, roled_entries, start_entry, dot, dotdot, references_below}
 use Rattle.ffs_volume.specs.Directories.Paths.{longest_end, path_bytes, names_down, dir_path, entry_path}
 use Rattle.ffs_volume.specs.Directories.PathnameCheck.{attributes, root_lines, shape_lines, dot_lines, dotdot_lines}
 use Rattle.ffs_volume.specs.Directories.PathnameCheck.{named_lines, plain_lines, entry_lines, lines_of_entries}
-use Rattle.ffs_volume.specs.Directories.PathnameCheck.{sized_dir_lines, pathname_lines}
-use Rattle.ffs_volume.specs.Directories.{Roles.references_below, Climb.climb, Graph.within, Graph.level, Graph.parent}
-use Rattle.ffs_volume.specs.Directories.{Connectivity.connectivity_lines, ReferenceCheck.inode_lines}
-use Rattle.ffs_volume.specs.Directories.{ReferenceCheck.reference_lines, Volumes.chunk_source_of, Volumes.volume_with}
-use Rattle.ffs_volume.specs.Directories.{Volumes.volume_of}
-use Rattle.ffs_volume.specs.Groups.Records.{right_group_counts, right_frsum, right_total, maps_fit, has_right_magic}
-use Rattle.ffs_volume.specs.Groups.Records.{has_right_maps, has_right_sums, has_right_record, has_right_totals}
-use Rattle.ffs_volume.specs.Groups.GroupCheck.{phase5_lines}
-use Rattle.ffs_volume.specs.Messages.Kinds.{lines_below, has_defect, opening, mounted, phase1, phase1b, phase2, phase3}
-use Rattle.ffs_volume.specs.Messages.Kinds.{phase4, phase5, of_blocks, of_tree, summary, dup_bad, unref_dir}
-use Rattle.ffs_volume.specs.Messages.{Shown.octal, Texts.texts_of}
+use Rattle.ffs_volume.specs.Directories.{PathnameCheck.{sized_dir_lines, pathname_lines}, Climb.climb, Graph.within}
+use Rattle.ffs_volume.specs.Directories.{Graph.{level, parent}, Connectivity.connectivity_lines}
+use Rattle.ffs_volume.specs.Directories.{ReferenceCheck.{inode_lines, reference_lines}, Volumes.chunk_source_of}
+use Rattle.ffs_volume.specs.{Directories.Volumes.{volume_with, volume_of}, Groups.Records.right_group_counts}
+use Rattle.ffs_volume.specs.Groups.Records.{right_frsum, right_total, maps_fit, has_right_magic, has_right_maps}
+use Rattle.ffs_volume.specs.Groups.Records.{has_right_sums, has_right_record, has_right_totals}
+use Rattle.ffs_volume.specs.{Groups.GroupCheck.phase5_lines, Messages.Kinds.{lines_below, has_defect, opening, mounted}}
+use Rattle.ffs_volume.specs.Messages.Kinds.{phase1, phase1b, phase2, phase3, phase4, phase5, of_blocks, of_tree}
+use Rattle.ffs_volume.specs.Messages.{Kinds.{summary, dup_bad, unref_dir}, Shown.octal, Texts.texts_of}
 use Rattle.ffs_volume.specs.Report.Whole.{file_count, claimed_count, later_phase_lines, phase_lines, report_lines}
 use Rattle.ffs_volume.specs.Report.Whole.{report_of, report_end, lines_by_outcome, end_by_outcome}
-use Rattle.ffs_volume.specs.Report.Opening.{setting_lines, head_lines}
-use Rattle.ffs_volume.specs.Examples.Images.{bytes_in, word, zero_bytes, mount_bytes, base_layout, base_superblock}
-use Rattle.ffs_volume.specs.Examples.Images.{base_super, base_summary, base_group, root_inode, root_chunk, base_image}
+use Rattle.ffs_volume.specs.{Report.Opening.{setting_lines, head_lines}, Examples.Images.{bytes_in, word, zero_bytes}}
+use Rattle.ffs_volume.specs.Examples.Images.{mount_bytes, base_layout, base_superblock, base_super, base_summary}
+use Rattle.ffs_volume.specs.Examples.Images.{base_group, root_inode, root_chunk, base_image}
 use Rattle.ffs_volume.specs.Examples.{DirectoryExamples.entry_bytes, BlockExamples.blocks_at}
 use Rattle.ffs_volume.proofs.OpeningExamples.{superblock_examples}
 use Rattle.ffs_certificate.specs.ReportExamples.{ReportExamples, inode_bytes, dir_chunk, two_dirs, named_dir}
 use Rattle.ffs_certificate.specs.ReportExamples.{unnamed_dir, shared_summary, shared_group, shared_image}
 use Rattle.ffs_certificate.specs.ReportExamples.{shared_superblock, about_file, clean_lines}
-use Rattle.ffs_certificate.specs.{MessageExamples.MessageExamples, KeptExamples.KeptExamples, KeptExamples.kept_first}
+use Rattle.ffs_certificate.specs.{MessageExamples.MessageExamples, KeptExamples.{KeptExamples, kept_first}}
 use Rattle.ffs_certificate.proofs.ReportLaws.{certified}
 
 -- all that these computations open

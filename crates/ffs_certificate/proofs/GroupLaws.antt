@@ -1,25 +1,21 @@
 -- Phase 5 reports nothing exactly where all groups are right.
 use Rattle.std.proofs.Common.{zero, suc, inl, inr, ◌≡◌, ℕ, ◌+◌, ◌<◌, ◌≤◌, Bool, true, false, arith, refl, sym, ap}
-use Rattle.std.proofs.Common.{subst, ◌∙◌, List, [], ◌∷◌, ◌++◌, ◌↔◌, nat_lt, ◌&&◌, ◌||◌, ◌==◌, not, if◌then◌else◌, ℤ}
-use Rattle.std.specs.List.{list_all, list_any, flat_map, range_with_len}
-use Rattle.std.proofs.Math.Path.{fun_ext}
-use Rattle.std.proofs.lemmas.Bool.{and_parts, and_from, cases_eq}
-use Rattle.ffs_volume.specs.declared.BlockMessage.TheVariants.{PartAlloc, UnknownType, Bad, Dup, ManyBad, ManyDup}
-use Rattle.ffs_volume.specs.declared.BlockMessage.TheVariants.{PartTrunc, BlockCount, GroupMagic, FreeCounts, MapsWrong}
-use Rattle.ffs_volume.specs.declared.Class.{Class}
-use Rattle.ffs_volume.specs.declared.{BlockMessage.TheVariants.GroupSums, Layout.Layout, BlockMessage.BlockMessage}
-use Rattle.ffs_volume.specs.Blocks.Claims.{is_set, reserved_map, no_claims, after_owners}
-use Rattle.ffs_volume.specs.Blocks.Owners.{Owner, fragments_of, all_steps}
-use Rattle.ffs_volume.specs.{Disk.Areas.is_reserved, Blocks.BlockCheck.phase1_lines, Blocks.BlockCheck.phase1b_lines}
-use Rattle.ffs_volume.specs.{Consistent.BlocksRight.times, Consistent.BlocksRight.BlocksRight}
+use Rattle.std.proofs.Common.{subst, ◌∙◌, List, [], ◌∷◌, ◌++◌, ◌↔◌, nat_lt, ◌&&◌, ◌||◌, ◌==◌, if◌then◌else◌, ℤ}
+use Rattle.std.{proofs.{Math.Path.fun_ext, lemmas.Bool.{and_parts, and_from, cases_eq}}, specs.List.list_all}
+use Rattle.std.specs.List.{list_any, flat_map, range_with_len}
+use Rattle.ffs_volume.specs.declared.BlockMessage.TheVariants.{GroupMagic, FreeCounts, MapsWrong}
+use Rattle.ffs_volume.specs.declared.{BlockMessage.{TheVariants.GroupSums, BlockMessage}, Class.Class, Layout.Layout}
+use Rattle.ffs_volume.specs.Blocks.{Claims.{is_set, reserved_map, no_claims, after_owners}, Owners.Owner}
+use Rattle.ffs_volume.specs.Blocks.{Owners.{fragments_of, all_steps}, BlockCheck.{phase1_lines, phase1b_lines}}
+use Rattle.ffs_volume.specs.{Disk.Areas.is_reserved, Consistent.BlocksRight.{times, BlocksRight}}
 use Rattle.ffs_volume.specs.Groups.Records.{group_block, summary_record, group_numbers, has_right_magic, maps_fit}
 use Rattle.ffs_volume.specs.Groups.Records.{has_right_maps, has_right_sums, has_right_record, has_right_totals}
-use Rattle.ffs_volume.specs.Groups.Records.{IsGroupRight, AreGroupsRight}
-use Rattle.ffs_volume.specs.Groups.GroupCheck.{unless, group_lines, all_group_lines, is_reported, reported_once}
-use Rattle.ffs_volume.specs.Groups.GroupCheck.{unreported, phase5_lines, is_free_of_kept, is_free_of_runs}
+use Rattle.ffs_volume.specs.Groups.{Records.{IsGroupRight, AreGroupsRight}, GroupCheck.{unless, group_lines}}
+use Rattle.ffs_volume.specs.Groups.GroupCheck.{all_group_lines, reported_once, unreported, phase5_lines}
+use Rattle.ffs_volume.specs.Groups.GroupCheck.{is_free_of_kept, is_free_of_runs}
 use Rattle.ffs_certificate.proofs.BlocksSilent.{nil_is, right_quiet, runs_below, reserved_length, reserved_bit, bit}
-use Rattle.ffs_certificate.proofs.BlocksSilent.{times_cons, marked_bit, blocks_silent}
-use Rattle.ffs_certificate.proofs.BlockLaws.{is_nil, nil_append, mark, owners_claim, owners_from, Quiet}
+use Rattle.ffs_certificate.proofs.{BlocksSilent.{times_cons, marked_bit, blocks_silent}, BlockLaws.{is_nil, nil_append}}
+use Rattle.ffs_certificate.proofs.BlockLaws.{mark, owners_claim, owners_from, Quiet}
 
 nil_flat : {X Y : Type 0} (f : X → List Y) (xs : List X) → is_nil (flat_map f xs) ≡ list_all (λ x. is_nil (f x)) xs
 nil_flat f [] = refl
@@ -38,40 +34,19 @@ all_at p a (suc n) c e low high =
 all_from : (p : ℕ → Bool) (a n : ℕ) → ((c : ℕ) → a ≤ c → c < a + n → p c ≡ true) → list_all p (range_with_len a n)
     ≡ true
 all_from p a zero h = refl
-all_from p a (suc n) h = and_from (p a) _ (h a (omega arith) (omega arith))
-    (all_from p (a + 1) n (λ c low high. h c (omega arith) (omega arith)))
-
-first_reported : (m : BlockMessage) → is_reported unreported m ≡ false
-first_reported (PartAlloc _) = refl
-first_reported (UnknownType _) = refl
-first_reported (Bad _ _) = refl
-first_reported (Dup _ _) = refl
-first_reported (ManyBad _) = refl
-first_reported (ManyDup _) = refl
-first_reported (PartTrunc _) = refl
-first_reported (BlockCount _ _ _) = refl
-first_reported (GroupMagic _) = refl
-first_reported FreeCounts = refl
-first_reported MapsWrong = refl
-first_reported GroupSums = refl
+all_from p a (suc n) h = grind (arith, all_from p (a + 1) n (λ c low high. h c (omega arith) (omega arith)))
 
 -- reporting once hides no first message
 once_nil : (ms : List BlockMessage) → is_nil (reported_once unreported ms) ≡ is_nil ms
-once_nil [] = refl
-once_nil (m ∷ ms) = rw (first_reported m) refl
+once_nil ms = grind arith
 
 nil_unless : (b : Bool) (m : BlockMessage) → is_nil (unless b m) ≡ b
-nil_unless true m = refl
-nil_unless false m = refl
+nil_unless b m = grind arith
 
 shape : (a b d e : Bool) (m : BlockMessage) →
     is_nil (if a then unless b FreeCounts ++ (unless d MapsWrong ++ unless e GroupSums) else m ∷ unless b FreeCounts)
     ≡ (a && (b && (d && e)))
-shape true true true true m = refl
-shape true true true false m = refl
-shape true true false e m = refl
-shape true false d e m = refl
-shape false b d e m = refl
+shape a b d e m = grind arith
 
 abbrev pub is_group_right : Layout → List ℕ → (ℕ → Bool) → (ℕ → Class) → ℕ → Bool
 is_group_right v image free class c =
@@ -135,9 +110,7 @@ any_times f (g ∷ fs) e = one (g == f) refl (any_times f fs)
   where
     one : (b : Bool) → (g == f) ≡ b → (list_any (λ h. h == f) fs ≡ true → 1 ≤ times f fs) → 1 ≤ times f (g ∷ fs)
     one true q more = let here : bit (g == f) ≡ 1 = ap bit q in omega (arith, times_cons f g fs, here)
-    one false q more =
-        let rest : list_any (λ h. h == f) fs ≡ true = grind (arith, q, e) in
-        omega (arith, times_cons f g fs, more rest)
+    one false q more = grind arith
 
 none_times : (f : ℕ) (fs : List ℕ) → list_any (λ g. g == f) fs ≡ false → times f fs ≡ 0
 none_times f [] e = refl
@@ -145,18 +118,10 @@ none_times f (g ∷ fs) e = one (g == f) refl (none_times f fs)
   where
     one : (b : Bool) → (g == f) ≡ b → (list_any (λ h. h == f) fs ≡ false → times f fs ≡ 0) → times f (g ∷ fs) ≡ 0
     one true q rest = absurd (grind (arith, q, e))
-    one false q rest =
-        let here : bit (g == f) ≡ 0 = ap bit q in
-        let none : list_any (λ h. h == f) fs ≡ false = grind (arith, q, e) in
-        omega (arith, times_cons f g fs, here, rest none)
+    one false q rest = grind arith
 
 bit_one : (b : Bool) → bit b ≡ 1 → b ≡ true
-bit_one true e = refl
-bit_one false e = absurd (omega arith)
-
-bit_zero : (b : Bool) → bit b ≡ 0 → b ≡ false
-bit_zero true e = absurd (omega arith)
-bit_zero false e = refl
+bit_one b h = grind arith
 
 -- where no block is reported, the fragments of kept offers are those of all Runs
 pub same_free : (v : Layout) (os : List Owner) → BlocksRight v os → is_free_of_kept v os ≡ is_free_of_runs v os
@@ -171,11 +136,7 @@ same_free v os r = fun_ext (λ f. one f (nat_lt f v.size) refl)
 
     set_bit : (f : ℕ) → bit (is_set (after_owners v (no_claims v) os).used f) ≡ times f (fragments_of (all_steps os))
         + bit (is_set (reserved_map v) f)
-    set_bit f =
-        let long = reserved_length v in
-        ap (λ u. bit (is_set u f)) used_is
-        ∙ marked_bit (reserved_map v) (fragments_of (all_steps os))
-        (rw long (runs_below v (all_steps os) r.runs.in_range)) quiet.new f
+    set_bit f = grind (arith, reserved_length, used_is, marked_bit, runs_below, quiet)
 
     held : (f : ℕ) → nat_lt f v.size ≡ true → (a : Bool) → is_reserved v f ≡ a → bit (is_set (reserved_map v) f) ≡ bit a
     held f low a ea = ap bit (reserved_bit v f ∙ rw (low, ea) refl)
@@ -184,21 +145,12 @@ same_free v os r = fun_ext (λ f. one f (nat_lt f v.size) refl)
         list_any (λ g. g == f) (fragments_of (all_steps os)) ≡ b →
         is_set (after_owners v (no_claims v) os).used f ≡ (a || b)
     two f low true ea b eb = bit_one _ (omega (arith, set_bit f, held f low true ea, r.runs.unreserved f ea))
-    two f low false ea true eb =
-        bit_one _ (omega (
-          arith,
-          set_bit f,
-          held f low false ea,
-          any_times f (fragments_of (all_steps os)) eb,
-          r.runs.alone f,
-        ))
-    two f low false ea false eb =
-        bit_zero _ (omega (arith, set_bit f, held f low false ea, none_times f (fragments_of (all_steps os)) eb))
+    two f low false ea true eb = grind (arith, set_bit, any_times)
+    two f low false ea false eb = grind (arith, set_bit, held, none_times)
 
     one : (f : ℕ) (low : Bool) → nat_lt f v.size ≡ low → is_free_of_kept v os f ≡ is_free_of_runs v os f
     one f false e = rw e refl
-    one f true e = ap (λ b. nat_lt f v.size && not b)
-        (two f e (is_reserved v f) refl (list_any (λ g. g == f) (fragments_of (all_steps os))) refl)
+    one f true e = grind (arith, two)
 
 -- the lines of the blocks and of the groups, together
 abbrev pub block_and_group_lines : Layout → List ℕ → List ℤ → List Owner → (ℕ → Class) → List BlockMessage

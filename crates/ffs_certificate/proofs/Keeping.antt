@@ -1,25 +1,21 @@
 -- The fold over steps keeps what the rule keeps.
 use Rattle.std.proofs.Common.{zero, suc, inl, inr, ◌≡◌, ◌⊎◌, ℕ, ◌+◌, ◌-◌, ◌*◌, ◌<◌, ◌≤◌, Bool, true, false, cond, arith}
 use Rattle.std.proofs.Common.{refl, sym, ap, subst, ◌∙◌, List, [], ◌∷◌, ◌++◌, length, append_assoc, count_by, nat_lt}
-use Rattle.std.proofs.Common.{nat_le, min, ◌&&◌, ◌||◌, ◌==◌, slice_set, if◌then◌else◌, map}
-use Rattle.std.proofs.lemmas.Bool.{and_parts, and_from, and_cases, cases_eq, both_ways, eq-eqb, ne_eqb, eqb-true}
-use Rattle.std.proofs.lemmas.Bool.{eqb-false, ltb-true, ltb-false, le-leb, lt-leb, lt-ltb, le-ltb}
-use Rattle.std.proofs.lemmas.List.{get_or-set_same, get_or-set_other, length-set}
-use Rattle.std.{specs.List.list_all, specs.List.range_with_len, proofs.Math.Bool.or-true, proofs.Math.Bool.or-false}
-use Rattle.std.{proofs.Math.Bool.and-false, proofs.lemmas.Bool.Decides.nat_tests, proofs.lemmas.List.Sums.sum_by-cons}
-use Rattle.ffs_volume.specs.declared.Step.TheVariants.{Run, Tail, Gap}
-use Rattle.ffs_volume.specs.Disk.Areas.{is_fragment_in_range, is_run_in_range, is_reserved}
-use Rattle.ffs_volume.specs.Blocks.Owners.{Owner, owner_of, owners_of}
-use Rattle.ffs_volume.specs.Blocks.Claims.{Claims, is_set, is_open, at_next_inode, no_claims, after_offer, after_offers}
-use Rattle.ffs_volume.specs.Blocks.Claims.{after_step, after_steps, after_owner, after_owners}
-use Rattle.ffs_volume.specs.Blocks.KeptOffers.{kept_in_offers, kept_in_step, kept_in_steps, kept_in_owners}
-use Rattle.ffs_volume.specs.Blocks.KeptByRule.{uncounted, CountedOffer, OfferVerdict, counted_offer, bad_runs_after}
-use Rattle.ffs_volume.specs.Blocks.KeptByRule.{step_offers, offers_of_steps, all_offers, is_claimed_before, dups_of}
-use Rattle.ffs_volume.specs.{declared.Layout.Layout, declared.Step.Step, Blocks.KeptByRule.offer_verdict}
-use Rattle.ffs_volume.specs.{Blocks.KeptByRule.verdicts, Blocks.KeptByRule.kept_by_rule}
+use Rattle.std.proofs.{Common.{nat_le, min, ◌&&◌, ◌||◌, ◌==◌, slice_set, if◌then◌else◌, map}, lemmas.Bool.and_parts}
+use Rattle.std.proofs.lemmas.Bool.{and_from, both_ways, eq-eqb, ne_eqb, eqb-true, eqb-false}
+use Rattle.std.proofs.lemmas.Bool.{ltb-true, ltb-false, le-leb, lt-ltb, Decides.nat_tests}
+use Rattle.std.proofs.{lemmas.List.{get_or-set_same, get_or-set_other, length-set, Sums.sum_by-cons}}
+use Rattle.std.{proofs.Math.Bool.{and-false}, specs.List.{list_all, range_with_len}}
+use Rattle.ffs_volume.specs.declared.{Step.{TheVariants.{Run, Tail, Gap}, Step}, Layout.Layout}
+use Rattle.ffs_volume.specs.{Disk.Areas.{is_fragment_in_range, is_run_in_range, is_reserved}, Blocks.Owners.Owner}
+use Rattle.ffs_volume.specs.Blocks.{Owners.{owner_of, owners_of}, Claims.{Claims, is_set, is_open, at_next_inode}}
+use Rattle.ffs_volume.specs.Blocks.Claims.{no_claims, after_offer, after_offers, after_step, after_steps, after_owner}
+use Rattle.ffs_volume.specs.Blocks.{Claims.after_owners, KeptOffers.{kept_in_offers, kept_in_step, kept_in_steps}}
+use Rattle.ffs_volume.specs.Blocks.{KeptOffers.kept_in_owners, KeptByRule.{uncounted, CountedOffer, OfferVerdict}}
+use Rattle.ffs_volume.specs.Blocks.KeptByRule.{counted_offer, bad_runs_after, step_offers, offers_of_steps, all_offers}
+use Rattle.ffs_volume.specs.Blocks.KeptByRule.{is_claimed_before, dups_of, offer_verdict, verdicts, kept_by_rule}
 use Rattle.ffs_volume.proofs.Potentials.{in_range_below}
-use Rattle.ffs_certificate.specs.Certificate.{KeepsByRule}
-use Rattle.ffs_certificate.proofs.BlocksSilent.{bit, reserved_length, reserved_bit}
+use Rattle.ffs_certificate.{specs.Certificate.KeepsByRule, proofs.BlocksSilent.{bit, reserved_length, reserved_bit}}
 
 -- how many kept offers of an inode there are
 abbrev pub kept_of : List OfferVerdict → ℕ → ℕ
@@ -47,11 +43,7 @@ record OfferTie (v : Layout) (i : ℕ) (s : Claims) (e : List OfferVerdict) : Ty
 -- an offer that isn't kept
 held_skip : (v : Layout) (i : ℕ) (used : List Bool) (kept : ℕ) (e : List OfferVerdict) (j : OfferVerdict) →
     j.kept ≡ false → Held v i used kept e → Held v i used kept (j ∷ e)
-held_skip v i used kept e j k t = record {
-  used_is = λ f ok. rw k (t.used_is f ok);
-  long = t.long;
-  kept_is = t.kept_is ∙ sym (kept_cons j e i ∙ rw k (omega arith));
-}
+held_skip v i used kept e j k t = grind arith
 
 -- a kept one: its fragment isn't in range, or it is used now, and no other is more
 held_keep : (v : Layout) (i : ℕ) (used used' : List Bool) (kept : ℕ) (e : List OfferVerdict) (j : OfferVerdict) →
@@ -60,15 +52,7 @@ held_keep : (v : Layout) (i : ℕ) (used used' : List Bool) (kept : ℕ) (e : Li
     ((f : ℕ) → (j.fragment ≡ f → ⊥) → is_set used' f ≡ is_set used f) →
     Held v i used kept e → Held v i used' (kept + 1) (j ∷ e)
 held_keep v i used used' kept e j k mine len here there t = record {
-  used_is = λ f ok. elim (cases_eq j.fragment f) [
-    | inl same ↦
-        let set : is_set used' f ≡ true = rw (← same) (here (rw same ok)) in
-        let test = eq-eqb j.fragment f same in
-        rw (set, k, test) (sym (or-true (is_reserved v f)))
-    | inr other ↦
-        let test = ne_eqb j.fragment f other in
-        there f other ∙ (t.used_is f ok ∙ rw (k, test) refl)
-  ];
+  used_is = grind arith;
   long = len ∙ t.long;
   kept_is =
       let one : bit (j.kept && j.inode == i) ≡ 1 = (let test = eq-eqb j.inode i mine in rw (k, test) refl) in
@@ -108,15 +92,7 @@ offer_tied v i b f s e few t = go (nat_lt s.dups 11) refl (is_fragment_in_range 
           }),
           kept_is false qa ∙ sym qa,
         )
-    go true qa false qo u qu =
-        let none : bit ((offer_verdict v e (counted_offer i b f)).dup && i == i) ≡ 0 = rw qo refl in
-        let stay : after_offer v s f ≡ record s { kept = s.kept + 1 } = rw (qa, qo) refl in (
-          subst (λ x. OfferTie v i x (offer_verdict v e (counted_offer i b f) ∷ e)) (sym stay) (record {
-            held = keep s.used qa refl (λ ok. absurd (both_ways (is_fragment_in_range v f) qo ok)) (λ g n. refl);
-            capped = omega (arith, t.capped, dups_cons (offer_verdict v e (counted_offer i b f)) e i, none);
-          }),
-          kept_is true qa ∙ sym qa,
-        )
+    go true qa false qo u qu = grind (arith, keep)
     go true qa true qo true qu =
         let mine = eq-eqb i i refl in
         let taken = sym (t.held.used_is f qo) ∙ qu in
@@ -130,21 +106,7 @@ offer_tied v i b f s e few t = go (nat_lt s.dups 11) refl (is_fragment_in_range 
           }),
           kept_is true qa ∙ sym qa,
         )
-    go true qa true qo false qu =
-        let taken = sym (t.held.used_is f qo) ∙ qu in
-        let none : bit ((offer_verdict v e (counted_offer i b f)).dup && i == i) ≡ 0 = rw (qo, taken) refl in
-        let long = t.held.long in
-        let low = in_range_below v f qo in
-        let stay : after_offer v s f ≡ record s { kept = s.kept + 1; used = slice_set s.used f true } =
-        rw (qa, qo, qu) refl in (
-          subst (λ x. OfferTie v i x (offer_verdict v e (counted_offer i b f) ∷ e)) (sym stay) (record {
-            held = keep (slice_set s.used f true) qa (length-set s.used f true)
-                (λ ok. get_or-set_same s.used f true false (omega arith))
-                (λ g n. get_or-set_other s.used f g true false (λ q. n (sym q)));
-            capped = omega (arith, t.capped, dups_cons (offer_verdict v e (counted_offer i b f)) e i, none);
-          }),
-          kept_is true qa ∙ sym qa,
-        )
+    go true qa true qo false qu = grind (arith, in_range_below, keep, length-set, get_or-set_same, get_or-set_other)
 
 verdicts-append : (v : Layout) (e : List OfferVerdict) (ps qs : List CountedOffer) →
     verdicts v e (ps ++ qs) ≡ verdicts v (verdicts v e ps) qs
@@ -164,21 +126,10 @@ offers_tied v i b s e [] few t = (t, refl)
 offers_tied v i b s e (f ∷ fs) few t =
     let one = offer_tied v i b f s e few t in
     let rest = offers_tied v i b (after_offer v s f) (offer_verdict v e (counted_offer i b f) ∷ e) fs few one.0 in
-    let same = one.1 in
-    let more = rest.1 in
     (rest.0, cc)
 
 offer_bad : (v : Layout) (s : Claims) (f : ℕ) → (after_offer v s f).bad ≡ s.bad
-offer_bad v s f = one (nat_lt s.dups 11) (is_fragment_in_range v f) (is_set s.used f)
-  where
-    one : (a o u : Bool) → (if a then (if o
-        then (if u then record s { kept = s.kept + 1; dups = s.dups + 1; dup = slice_set s.dup f true }
-        else record s { kept = s.kept + 1; used = slice_set s.used f true })
-        else record s { kept = s.kept + 1 }) else s).bad ≡ s.bad
-    one false o u = refl
-    one true false u = refl
-    one true true true = refl
-    one true true false = refl
+offer_bad v s f = grind arith
 
 offers_bad : (v : Layout) (s : Claims) (fs : List ℕ) → (after_offers v s fs).bad ≡ s.bad
 offers_bad v s [] = refl
@@ -191,8 +142,7 @@ Closed i b e = (11 ≤ b) ⊎ (11 ≤ dups_of e i)
 not_kept : (v : Layout) (i b f : ℕ) (e : List OfferVerdict) → Closed i b e →
     (offer_verdict v e (counted_offer i b f)).kept ≡ false
 unfolding offer_verdict
-not_kept v i b f e (inl many) = rw (lt-leb b 10 (omega arith)) refl
-not_kept v i b f e (inr many) = rw (lt-leb (dups_of e i) 10 (omega arith)) (and-false (nat_le b 10))
+not_kept v i b f e h = grind arith
 
 still_closed : (i b : ℕ) (j : OfferVerdict) (e : List OfferVerdict) → Closed i b e → Closed i b (j ∷ e)
 still_closed i b j e (inl many) = inl many
@@ -223,13 +173,11 @@ record Tie (v : Layout) (i b : ℕ) (s : Claims) (e : List OfferVerdict) : Type 
   same : is_open s ≡ true → (s.bad ≡ b) × (s.dups ≡ dups_of e i)
 
 closed_test : (i b : ℕ) (e : List OfferVerdict) → Closed i b e → (nat_lt b 11 && nat_lt (dups_of e i) 11) ≡ false
-closed_test i b e (inl many) = rw (le-ltb b 11 many) refl
-closed_test i b e (inr many) = rw (le-ltb (dups_of e i) 11 many) (and-false (nat_lt b 11))
+closed_test i b e h = grind arith
 
 shut_closed : (i b b' : ℕ) (e : List OfferVerdict) → (nat_lt b 11 && nat_lt (dups_of e i) 11) ≡ false → b ≤ b' →
     Closed i b' e
-shut_closed i b b' e q le = elim (and_cases (nat_lt b 11) (nat_lt (dups_of e i) 11) q)
-    [ inl l ↦ (let many = ltb-false b 11 l in inl (omega arith)) | inr r ↦ inr (ltb-false (dups_of e i) 11 r) ]
+shut_closed i b b' e q le = grind arith
 
 -- the offers of a Run that is past the cut, and of one that isn't
 closed_tied : (v : Layout) (i b : ℕ) (s : Claims) (e : List OfferVerdict) (fs : List ℕ) → is_open s ≡ false →
@@ -254,15 +202,7 @@ open_tied v i b s e fs few same t =
     (ready (after_offers v s fs) (verdicts v e (map (counted_offer i b) fs)) (offers_bad v s fs ∙ same) done.0, done.1)
   where
     ready : (s : Claims) (e : List OfferVerdict) → s.bad ≡ b → OfferTie v i s e → Tie v i b s e
-    ready s e q t = record {
-      held = t.held;
-      ready = let capped = t.capped in rw (q, capped) (ap (λ x. nat_lt b 11 && x) (one (dups_of e i)));
-      same = λ r. let low = ltb-true s.dups 11 (and_parts (nat_lt s.bad 11) (nat_lt s.dups 11) r).1 in
-          (q, omega (arith, t.capped, low));
-    }
-      where
-        one : (n : ℕ) → nat_lt (min 11 n) 11 ≡ nat_lt n 11
-        one n = grind (arith, nat_tests)
+    ready s e q t = grind arith
 
 abbrev StepTied : Layout → ℕ → ℕ → Claims → List OfferVerdict → Step → Type 0
 StepTied v i b s e step = Tie v i (bad_runs_after v b step) (after_step v s step)
@@ -271,11 +211,7 @@ StepTied v i b s e step = Tie v i (bad_runs_after v b step) (after_step v s step
 step_tied : (v : Layout) (i b : ℕ) (s : Claims) (e : List OfferVerdict) (step : Step) → Tie v i b s e →
     StepTied v i b s e step
 step_tied v i b s e Gap t = (t, refl)
-step_tied v i b s e Tail t = one (is_open s) refl
-  where
-    one : (o : Bool) → is_open s ≡ o → StepTied v i b s e Tail
-    one true q = rw q (record { held = t.held; ready = t.ready; same = t.same }, refl)
-    one false q = rw q (t, refl)
+step_tied v i b s e Tail t = grind arith
 step_tied v i b s e (Run start len block) t = one (is_open s) refl (is_run_in_range v start len) refl
   where
     fs : List ℕ
@@ -369,10 +305,7 @@ verdicts_before v n i b e (f ∷ fs) lt h =
 
 step_before : (v : Layout) (n i b : ℕ) (e : List OfferVerdict) (step : Step) → i < n → are_before n e ≡ true →
     are_before n (verdicts v e (step_offers v i b step)) ≡ true
-step_before v n i b e (Run start len block) lt h =
-    verdicts_before v n i (bad_runs_after v b (Run start len block)) e (range_with_len start len) lt h
-step_before v n i b e Tail lt h = h
-step_before v n i b e Gap lt h = h
+step_before v n i b e step h k = grind (arith, verdicts_before)
 
 steps_before : (v : Layout) (n i b : ℕ) (e : List OfferVerdict) (steps : List Step) → i < n → are_before n e ≡ true →
     are_before n (verdicts v e (offers_of_steps v i b steps)) ≡ true
@@ -409,10 +342,7 @@ owners_tied v n s e (o ∷ os) a h r =
 
 start_agrees : (v : Layout) → Agrees v (no_claims v) []
 unfolding no_claims is_fragment_in_range
-start_agrees v = record {
-  used = λ f ok. reserved_bit v f ∙ (rw (lt-ltb f v.size (in_range_below v f ok)) (sym (or-false (is_reserved v f))));
-  long = reserved_length v;
-}
+start_agrees v = grind (arith, reserved_bit, reserved_length)
 
 rising_range : (v : Layout) (image : List ℕ) (n k : ℕ) → Rising n (map (owner_of v image) (range_with_len n k))
 unfolding owner_of

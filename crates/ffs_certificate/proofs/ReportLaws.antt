@@ -1,29 +1,21 @@
 -- A report has no defect exactly where the volume is consistent.
-use Rattle.std.proofs.Common.{◌≡◌, ◌↔◌, ℕ, Bool, true, false, if◌then◌else◌, List, [], ◌∷◌, ◌++◌, map, sym, ◌∙◌, ap}
-use Rattle.std.proofs.Common.{refl}
-use Rattle.std.proofs.lemmas.Bool.{or_parts, or_from, true_from_ne_false, both_ways}
-use Rattle.std.proofs.lemmas.List.Folds.{list_any-append}
-use Rattle.ffs_volume.specs.declared.Class.TheVariants.{Free, Partial, Unknown, File, Dir}
-use Rattle.ffs_volume.specs.declared.{Layout.Layout, Class.Class, BlockMessage.BlockMessage, End.TheVariants.Consistent}
-use Rattle.ffs_volume.specs.Blocks.BlockCheck.{phase1_lines, phase1b_lines, has_rescan}
-use Rattle.ffs_volume.specs.Consistent.{BlocksRight.BlocksRight, Volume.AreSettingsRight, Volume.IsConsistent}
-use Rattle.ffs_volume.specs.Groups.Records.{AreGroupsRight}
-use Rattle.ffs_volume.specs.Groups.GroupCheck.{phase5_lines, is_free_of_kept, is_free_of_runs}
-use Rattle.ffs_volume.specs.Messages.Kinds.{Message, TreeMessage, optimization, minfree, phase1b, of_blocks, of_tree}
-use Rattle.ffs_volume.specs.{Blocks.Owners.owners_of, Blocks.Inodes.is_directory, Messages.Kinds.is_defect}
-use Rattle.ffs_volume.specs.{Messages.Kinds.has_defect, Messages.Kinds.unless, Disk.Superblock.Superblock}
-use Rattle.ffs_volume.specs.{Laws.Geometry.IsAcceptedLayout}
-use Rattle.ffs_volume.specs.Report.Opening.{has_valid_optim, has_valid_minfree, setting_lines, super_lines}
-use Rattle.ffs_volume.specs.Report.Whole.{rescan_lines, later_phase_lines, phase_lines, report_lines, end_by, end_of}
+use Rattle.std.proofs.Common.{arith, ◌≡◌, ◌↔◌, ℕ, true, false, if◌then◌else◌, List, [], ◌∷◌, ◌++◌, map, sym, ◌∙◌, ap}
+use Rattle.std.proofs.{Common.refl, lemmas.{Bool.{or_parts, or_from}, List.Folds.list_any-append}}
+use Rattle.ffs_volume.specs.declared.{Class.Class, BlockMessage.BlockMessage, End.TheVariants.Consistent}
+use Rattle.ffs_volume.specs.Blocks.{BlockCheck.{phase1_lines, phase1b_lines}, Owners.owners_of, Inodes.is_directory}
+use Rattle.ffs_volume.specs.Consistent.{BlocksRight.BlocksRight, Volume.{AreSettingsRight, IsConsistent}}
+use Rattle.ffs_volume.specs.Groups.{Records.AreGroupsRight, GroupCheck.{phase5_lines, is_free_of_kept, is_free_of_runs}}
+use Rattle.ffs_volume.specs.Messages.Kinds.{Message, TreeMessage, of_blocks, of_tree, is_defect, has_defect}
+use Rattle.ffs_volume.specs.{Disk.Superblock.Superblock, Laws.Geometry.IsAcceptedLayout, Report.Opening.setting_lines}
+use Rattle.ffs_volume.specs.Report.{Opening.super_lines, Whole.{later_phase_lines, phase_lines, report_lines, end_of}}
 use Rattle.ffs_volume.specs.Directories.PathnameCheck.{root_lines_of, root_lines, pathname_lines, continues_after_root}
-use Rattle.ffs_volume.specs.Directories.Volumes.{class_at, volume_of, whole_volume}
-use Rattle.ffs_volume.specs.Directories.{Connectivity.connectivity_lines, ReferenceCheck.reference_lines, Roles.Volume}
+use Rattle.ffs_volume.specs.Directories.{Volumes.{class_at, volume_of, whole_volume}, Connectivity.connectivity_lines}
+use Rattle.ffs_volume.specs.Directories.{ReferenceCheck.reference_lines, Roles.Volume}
 use Rattle.ffs_volume.proofs.{AcceptedLaws.accepted_sound, Silence.nil-left}
-use Rattle.ffs_certificate.specs.DirsCertificate.{IsSilent, AreDirectoriesRight}
-use Rattle.ffs_certificate.specs.ReportRight.{ReportIsRight, StopIsReported}
-use Rattle.ffs_certificate.proofs.BlocksSilent.{phase1_silent, phase1b_silent}
-use Rattle.ffs_certificate.proofs.VolumeLaws.{whole_is_volume, whole_unmarked, same_whole}
-use Rattle.ffs_certificate.proofs.{GroupLaws.phase5_silent, GroupLaws.same_free, DirsCertificate.silent_right}
+use Rattle.ffs_certificate.specs.{DirsCertificate.{IsSilent, AreDirectoriesRight}, ReportRight.ReportIsRight}
+use Rattle.ffs_certificate.{specs.ReportRight.StopIsReported, proofs.BlocksSilent.{phase1_silent, phase1b_silent}}
+use Rattle.ffs_certificate.proofs.{VolumeLaws.{whole_is_volume, whole_unmarked, same_whole}, GroupLaws.phase5_silent}
+use Rattle.ffs_certificate.proofs.{GroupLaws.same_free, DirsCertificate.silent_right}
 
 -- LISTS OF LINES
 quiet_left : (xs ys : List Message) → has_defect (xs ++ ys) ≡ false → has_defect xs ≡ false
@@ -53,19 +45,9 @@ ruleset parts = (quiet_left, quiet_right, silent_blocks, silent_names)
 
 ruleset whole = (quiet_from, quiet_blocks, quiet_names)
 
--- THE SETTINGS: of two lines, each with its test
-settings_by : (a b : Bool) (x y : Message) → is_defect x ≡ true → is_defect y ≡ true →
-    has_defect (unless a x ++ unless b y) ≡ false → (a ≡ true) × (b ≡ true)
-settings_by true true x y d e h = (refl, refl)
-settings_by true false x y d e h = absurd (let none = (or_parts (is_defect y) false h).0 in cc)
-settings_by false b x y d e h = absurd (let none = (or_parts (is_defect x) _ h).0 in cc)
-
 settings_say : (super : Superblock) → has_defect (setting_lines super) ≡ false → AreSettingsRight super
 unfolding setting_lines
-settings_say super h =
-    let p = settings_by (has_valid_optim super) (has_valid_minfree super) optimization (minfree super.minfree)
-    refl refl h in
-    record { optimization = p.0; minfree = p.1 }
+settings_say super h = grind arith
 
 settings_silent : (super : Superblock) → AreSettingsRight super → setting_lines super ≡ []
 unfolding setting_lines
@@ -77,11 +59,7 @@ settings_reported super = ((λ h. settings_say super (ap has_defect h)), setting
 
 -- THE ROOT: a run that stops after it has reported so
 reported_root : (v : Volume) (c : Class) → root_lines_of v c ≡ [] → is_directory c ≡ true
-reported_root v Free h = absurd (cc)
-reported_root v Partial h = absurd (cc)
-reported_root v File h = absurd (cc)
-reported_root v Unknown h = absurd (cc)
-reported_root v Dir h = refl
+reported_root v c h = grind arith
 
 root_there : (v : Volume) → pathname_lines v ≡ [] → continues_after_root v ≡ true
 unfolding pathname_lines root_lines
@@ -120,21 +98,10 @@ text_say image super h =
       groups = later.2;
     }
 
-rescan_quiet : (v : Layout) (image : List ℕ) → phase1b_lines v (owners_of v image) ≡ [] →
-    has_defect (rescan_lines v image) ≡ false
-rescan_quiet v image e = one (has_rescan v (owners_of v image))
-  where
-    one : (b : Bool) → has_defect (if b then phase1b ∷ map of_blocks (phase1b_lines v (owners_of v image)) else [])
-        ≡ false
-    one true = quiet_blocks (phase1b_lines v (owners_of v image)) e
-    one false = refl
-
 text_quiet : (image : List ℕ) (super : Superblock) → phase1b_lines super.layout (owners_of super.layout image) ≡ [] →
     IsWholeSilent image super → has_defect (phase_lines image super) ≡ false
 unfolding phase_lines later_phase_lines
-text_quiet image super again s =
-    let on = root_there (volume_of super.layout image) s.dirs.pathnames in
-    rw on (search (whole, rescan_quiet) depth 12)
+text_quiet image super again s = grind arith
 
 -- THE WHOLE
 same_groups : (image : List ℕ) (super : Superblock) → BlocksRight super.layout (owners_of super.layout image) →
@@ -142,9 +109,7 @@ same_groups : (image : List ℕ) (super : Superblock) → BlocksRight super.layo
     (class_at super.layout image) ≡ [])
     ↔ AreGroupsRight super.layout image super.cstotal (is_free_of_runs super.layout (owners_of super.layout image))
     (class_at super.layout image)
-same_groups image super blocks = rw (← (same_free super.layout (owners_of super.layout image) blocks))
-    (phase5_silent super.layout image super.cstotal (is_free_of_kept super.layout (owners_of super.layout image))
-    (class_at super.layout image))
+same_groups image super blocks = grind (arith, same_free, phase5_silent)
 
 same_dirs : (image : List ℕ) (super : Superblock) → IsAcceptedLayout super.layout →
     BlocksRight super.layout (owners_of super.layout image) →
@@ -174,20 +139,7 @@ backward : (image : List ℕ) (super : Superblock) → IsAcceptedLayout super.la
     has_defect (report_lines image super) ≡ false
 unfolding report_lines
 backward image super g c =
-    let blocks : BlocksRight super.layout (owners_of super.layout image) =
-    record { classes = c.classes; runs = c.runs } in
-    let none = settings_silent super c.settings in
-    rw none (text_quiet image super (phase1b_silent super.layout (owners_of super.layout image) blocks) (record {
-      blocks = (phase1_silent super.layout (owners_of super.layout image)).1 blocks;
-      dirs = (same_dirs image super g blocks).1 (record { dirs = c.dirs; links = c.links; counts = c.counts });
-      groups = (same_groups image super blocks).1 c.groups;
-    }))
-
--- THE END
-end_quiet : (on defect : Bool) → end_by on defect ≡ Consistent → defect ≡ false
-end_quiet true true e = absurd (cc)
-end_quiet true false e = refl
-end_quiet false defect e = absurd (cc)
+    grind (arith, settings_silent, text_quiet, phase1b_silent, phase1_silent, same_dirs, same_groups)
 
 quiet_continues : (image : List ℕ) (super : Superblock) → has_defect (report_lines image super) ≡ false →
     continues_after_root (volume_of super.layout image) ≡ true
@@ -197,18 +149,12 @@ quiet_continues image super h = text_root image super (quiet_right (super_lines 
 end_consistent : (image : List ℕ) (super : Superblock) → (has_defect (report_lines image super) ≡ false)
     ↔ (end_of image super ≡ Consistent)
 unfolding end_of
-end_consistent image super = (
-  (λ h. let on = quiet_continues image super h in rw (h, on) refl),
-  end_quiet (continues_after_root (volume_of super.layout image)) (has_defect (report_lines image super)),
-)
+end_consistent image super = grind (arith, quiet_continues)
 
 -- a run that stops after the root has reported a defect
 pub stop_reported : StopIsReported
 unfolding end_of
-stop_reported image super h = record {
-  reported = true_from_ne_false _ (λ q. both_ways _ h (text_root image super q));
-  end_is = rw h refl;
-}
+stop_reported image super h = grind (arith, text_root)
 
 pub certified : ReportIsRight
 certified image sector s e =

@@ -1,18 +1,15 @@
 -- The logical blocks of an inode's Runs rise, and are below the number of its logical blocks.
-use Rattle.std.proofs.Common.{zero, suc, inl, inr, ◌≡◌, ℕ, ◌+◌, ◌-◌, ◌*◌, ◌<◌, ◌≤◌, Bool, true, false, arith, refl, sym}
-use Rattle.std.proofs.Common.{ap, subst, ◌∙◌, List, [], ◌∷◌, ◌++◌, Some, None, append_assoc, nat_lt, nat_eq}
-use Rattle.std.proofs.lemmas.Bool.{and_parts, and_from, lt-ltb, ltb-true, ltb-false, cases_lt}
-use Rattle.std.{proofs.Common.if◌then◌else◌, proofs.Common.slice_index, specs.List.list_all, specs.List.flat_map}
-use Rattle.std.{specs.List.range_with_len, specs.Int.div_ceil, proofs.Math.Nat.mul-le-mul_right}
-use Rattle.std.{proofs.lemmas.Grind.div_ceil_times, proofs.lemmas.List.Folds.list_all-append}
-use Rattle.ffs_volume.specs.declared.{Step.Step, Step.TheVariants.Run, Step.TheVariants.Gap}
-use Rattle.ffs_volume.specs.Disk.Areas.{is_run_in_range}
+use Rattle.std.proofs.Common.{zero, suc, ◌≡◌, ℕ, ◌+◌, ◌*◌, ◌<◌, ◌≤◌, Bool, true, false, arith, refl, subst}
+use Rattle.std.proofs.Common.{List, [], ◌∷◌, ◌++◌, None, append_assoc, nat_lt, nat_eq, if◌then◌else◌, slice_index}
+use Rattle.std.proofs.lemmas.{Bool.{and_parts, and_from, lt-ltb, ltb-true}, List.Folds.list_all-append}
+use Rattle.std.{proofs.Math.Nat.mul-le-mul_right, specs.List.{list_all, flat_map, range_with_len}}
+use Rattle.ffs_volume.specs.{declared.Step.{Step, TheVariants.{Run, Gap}}, Disk.Areas.is_run_in_range}
 use Rattle.ffs_volume.specs.Blocks.Steps.{FileBlocks, address_at, block_bytes, any_nonzero_from}
-use Rattle.ffs_volume.specs.Blocks.Steps.{indirect_addresses_needed, tail_of, data_length, span_of, steps_at}
-use Rattle.ffs_volume.specs.Blocks.Steps.{indirection_of, first_block, steps_of_addresses, is_walked, last_length_of}
-use Rattle.ffs_volume.specs.Blocks.{Inodes.logical_blocks_of, Inodes.addresses_needed, Steps.steps_of}
-use Rattle.ffs_volume.proofs.StepLaws.{one_more, span_more, next_first, used_most}
-use Rattle.ffs_certificate.specs.BlocksRise.{step_blocks, blocks_in, AreRising, AllBlocksRise}
+use Rattle.ffs_volume.specs.Blocks.Steps.{indirect_addresses_needed, tail_of, span_of, steps_at, indirection_of}
+use Rattle.ffs_volume.specs.Blocks.Steps.{first_block, steps_of_addresses, is_walked, last_length_of, steps_of}
+use Rattle.ffs_volume.{specs.Blocks.Inodes.{logical_blocks_of, addresses_needed}, proofs.StepLaws.{one_more, span_more}}
+use Rattle.ffs_volume.proofs.StepLaws.{used_most}
+use Rattle.ffs_certificate.specs.BlocksRise.{blocks_in, AreRising, AllBlocksRise}
 
 -- numbers that rise from `low` on, below `high`, and all below a bound
 abbrev Rises : ℕ → ℕ → List ℕ → Type 0
@@ -41,8 +38,7 @@ rising_join a b (x ∷ xs) ys r s = (r.0, rising_join (x + 1) b xs ys r.1 s)
 
 blocks_append : (xs ys : List Step) → blocks_in (xs ++ ys) ≡ blocks_in xs ++ blocks_in ys
 blocks_append [] ys = refl
-blocks_append (x ∷ xs) ys = ap (λ z. step_blocks x ++ z) (blocks_append xs ys)
-    ∙ sym (append_assoc (step_blocks x) (blocks_in xs) (blocks_in ys))
+blocks_append (x ∷ xs) ys = simp (append_assoc, blocks_append xs ys)
 
 -- what some steps have: blocks from low to high, all below the number of blocks
 record Within (nb low high : ℕ) (steps : List Step) : Type 0 where
@@ -50,11 +46,7 @@ record Within (nb low high : ℕ) (steps : List Step) : Type 0 where
   below : list_all (λ b. nat_lt b nb) (blocks_in steps) ≡ true
 
 within_join : (nb a b c : ℕ) (xs ys : List Step) → Within nb a b xs → Within nb b c ys → Within nb a c (xs ++ ys)
-within_join nb a b c xs ys x y = record {
-  rises = subst (Rises a c) (sym (blocks_append xs ys)) (rise_join a b c (blocks_in xs) (blocks_in ys) x.rises y.rises);
-  below = ap (list_all (λ b. nat_lt b nb)) (blocks_append xs ys)
-      ∙ (list_all-append (λ b. nat_lt b nb) (blocks_in xs) (blocks_in ys) ∙ and_from _ _ x.below y.below);
-}
+within_join nb a b c xs ys x y = grind (arith, blocks_append, rise_join, list_all-append)
 
 within_none : (nb a b : ℕ) → a ≤ b → Within nb a b []
 within_none nb a b le = record { rises = le; below = refl }
@@ -71,19 +63,12 @@ span_some words (suc level) some =
 -- the logical blocks under a word that is used
 word_below : (words nb first span j : ℕ) → 0 < span → j < indirect_addresses_needed words nb first span →
     first + j * span < nb
-word_below words nb first span j some lt =
-    let few : j + 1 ≤ div_ceil (nb - first) span = omega (arith, lt) in
-    let bound = (div_ceil_times (nb - first) span some).1 in
-    let more : (j + 1) * span ≤ div_ceil (nb - first) span * span = mul-le-mul_right span few in
-    omega (arith, bound, more, one_more j span)
+word_below words nb first span j some lt = grind arith
 
 under_within : (nb span first : ℕ) (f : ℕ → List Step) (next count : ℕ) →
     ((j : ℕ) → next ≤ j → j < next + count → Within nb (first + j * span) (first + j * span + span) (f j)) →
     Within nb (first + next * span) (first + (next + count) * span) (flat_map f (range_with_len next count))
-under_within nb span first f next zero h =
-    let same : next + zero ≡ next = omega arith in
-    within_none nb (first + next * span) (first + (next + zero) * span)
-    (let e = ap (λ k. first + k * span) same in omega (arith, e))
+under_within nb span first f next zero h = grind arith
 under_within nb span first f next (suc count) h =
     let here = h next (omega arith) (omega arith) in
     let rest = under_within nb span first f (next + 1) count (λ j low high. h j (omega arith) (omega arith)) in
@@ -99,12 +84,7 @@ under_within nb span first f next (suc count) h =
 at_within : (t : FileBlocks) (bytes : List ℕ) (level address first : ℕ) → first < t.blocks →
     Within t.blocks first (first + span_of t.layout.nindir level) (steps_at t bytes level address first)
 unfolding steps_at
-at_within t bytes zero address first lt = one (nat_eq address 0)
-  where
-    one : (b : Bool) → Within t.blocks first (first + 1)
-        ((if b then Gap else Run address (data_length t first) (Some first)) ∷ [])
-    one true = record { rises = omega arith; below = refl }
-    one false = record { rises = (omega arith, omega arith); below = and_from _ _ (lt-ltb first t.blocks lt) refl }
+at_within t bytes zero address first lt = grind arith
 at_within t bytes (suc level) address first lt = one (nat_eq address 0) (λ a b le. at_within t bytes level a b le)
   where
     words : ℕ
@@ -142,21 +122,14 @@ at_within t bytes (suc level) address first lt = one (nat_eq address 0) (λ a b 
         child (address_at t.layout bytes address j) (first + j * span)
         (word_below words t.blocks first span j (span_some words level enough) (omega (arith, lt_used)))) in
         let most : used * span ≤ words * span = mul-le-mul_right span (let u : used ≤ words = omega arith in u) in
-        let whole = span_more words level in
-        let start : first + 0 * span ≡ first = omega arith in
-        let end : first + (0 + used) * span ≤ high =
-        (let z : 0 + used ≡ used = omega arith in let e = ap (λ k. k * span) z in omega (arith, most, whole, e)) in
         record {
-          rises = rise_upper first (first + (0 + used) * span) high (blocks_in (flat_map f (range_with_len 0 used))) end
-              (subst (λ a. Rises a (first + (0 + used) * span) (blocks_in (flat_map f (range_with_len 0 used)))) start
-              all.rises);
+          rises = grind (arith, rise_upper);
           below = all.below;
         }
 
     below : (b : Bool) → ((a b : ℕ) → b < t.blocks → Within t.blocks b (b + span) (steps_at t bytes level a b)) →
         Within t.blocks first high (if b then tail_of found ++ flat_map f (range_with_len 0 used) else [])
-    below true child = within_join t.blocks first first high (tail_of found) (flat_map f (range_with_len 0 used))
-        (tail_within found) (under child)
+    below true child = grind (arith, under)
     below false child = within_none t.blocks first high wide
 
     one : (b : Bool) → ((a b : ℕ) → b < t.blocks → Within t.blocks b (b + span) (steps_at t bytes level a b)) →
@@ -165,62 +138,15 @@ at_within t bytes (suc level) address first lt = one (nat_eq address 0) (λ a b 
         ∷ (if is_run_in_range t.layout address t.layout.frag
         then tail_of found ++ flat_map f (range_with_len 0 used) else []))
     one true child = record { rises = wide; below = refl }
-    one false child = let r = below (is_run_in_range t.layout address t.layout.frag) child in
-        record { rises = r.rises; below = r.below }
-
--- the fifteen addresses: where one ends, the next begins
-low_first : (words i : ℕ) → i < 13 → first_block words i ≡ i
-low_first words i h = ap (λ b. if b then i else (if nat_eq i 13 then 12 + words else 12 + words + words * words))
-    (lt-ltb i 13 h)
+    one false child = grind (arith, below)
 
 first_below : (words blocks i : ℕ) → i < addresses_needed words blocks → first_block words i < blocks
-first_below words blocks i h = one (nat_lt blocks 13) refl h
-  where
-    top : (c : Bool) → nat_lt (12 + words + words * words) blocks ≡ c → nat_lt (12 + words) blocks ≡ true → 13 ≤ blocks
-        → i < (if c then 15 else 14) → first_block words i < blocks
-    top c e two low lt = elim (cases_lt i 13) [
-      | inl small ↦ omega (arith, low_first words i small, low)
-      | inr large ↦ elim (cases_lt i 14) [
-        | inl single ↦ (let is : 13 ≡ i = omega arith in
-            subst (λ k. first_block words k < blocks) is (ltb-true (12 + words) blocks two))
-        | inr last ↦ triple c e lt last
-      ]
-    ]
-      where
-        triple : (c : Bool) → nat_lt (12 + words + words * words) blocks ≡ c → i < (if c then 15 else 14) → 14 ≤ i →
-            first_block words i < blocks
-        triple true e lt last = let is : 14 ≡ i = omega arith in
-            subst (λ k. first_block words k < blocks) is (ltb-true (12 + words + words * words) blocks e)
-        triple false e lt last = absurd (omega arith)
-
-    middle : (b : Bool) → nat_lt (12 + words) blocks ≡ b → 13 ≤ blocks →
-        i < (if b then (if nat_lt (12 + words + words * words) blocks then 15 else 14) else 13) →
-        first_block words i < blocks
-    middle true e low lt = top (nat_lt (12 + words + words * words) blocks) refl e low lt
-    middle false e low lt = omega (arith, low_first words i lt, low, lt)
-
-    one : (a : Bool) → nat_lt blocks 13 ≡ a →
-        i < (if a then blocks else
-        (if nat_lt (12 + words) blocks then (if nat_lt (12 + words + words * words) blocks then 15 else 14) else 13)) →
-        first_block words i < blocks
-    one true e lt = (let few = ltb-true blocks 13 e in let small : i < 13 = omega (arith, few, lt) in
-        omega (arith, low_first words i small, lt))
-    one false e lt = middle (nat_lt (12 + words) blocks) refl (ltb-false blocks 13 e) lt
+first_below words blocks i h = grind arith
 
 -- all addresses from one on
 record Goes (t : FileBlocks) (low : ℕ) (steps : List Step) : Type 0 where
   rising : AreRising low (blocks_in steps)
   below : list_all (λ b. nat_lt b t.blocks) (blocks_in steps) ≡ true
-
-after : (t : FileBlocks) (bytes addresses : List ℕ) (next n : ℕ) → next + suc n ≤ 15 →
-    AreRising (first_block t.layout.nindir (next + 1)) (blocks_in (steps_of_addresses t bytes addresses (next + 1) n))
-    →
-    AreRising (first_block t.layout.nindir next + span_of t.layout.nindir (indirection_of next))
-    (blocks_in (steps_of_addresses t bytes addresses (next + 1) n))
-after t bytes addresses next zero le r = tt
-after t bytes addresses next (suc n) le r =
-    subst (λ a. AreRising a (blocks_in (steps_of_addresses t bytes addresses (next + 1) (suc n))))
-    (sym (next_first t.layout.nindir next (omega (arith, le)))) r
 
 addresses_go : (t : FileBlocks) (bytes addresses : List ℕ) (next count : ℕ) → next + count ≤ 15 →
     next + count ≤ addresses_needed t.layout.nindir t.blocks →
@@ -231,16 +157,7 @@ addresses_go t bytes addresses next (suc count) le used =
     let here = at_within t bytes (indirection_of next) (slice_index addresses next) (first_block words next)
     (first_below words t.blocks next (omega (arith, used))) in
     let rest = addresses_go t bytes addresses (next + 1) count (omega (arith, le)) (omega (arith, used)) in
-    let xs = steps_at t bytes (indirection_of next) (slice_index addresses next) (first_block words next) in
-    let ys = steps_of_addresses t bytes addresses (next + 1) count in
-    record {
-      rising = subst (AreRising (first_block words next)) (sym (blocks_append xs ys))
-          (rising_join (first_block words next) (first_block words next + span_of words (indirection_of next))
-          (blocks_in xs) (blocks_in ys) here.rises (after t bytes addresses next count le rest.rising));
-      below = ap (list_all (λ b. nat_lt b t.blocks)) (blocks_append xs ys)
-          ∙ (list_all-append (λ b. nat_lt b t.blocks) (blocks_in xs) (blocks_in ys)
-          ∙ and_from _ _ here.below rest.below);
-    }
+    grind (arith, blocks_append, rising_join, list_all-append)
 
 below_more : (n m : ℕ) (xs : List ℕ) → n ≤ m → list_all (λ b. nat_lt b n) xs ≡ true →
     list_all (λ b. nat_lt b m) xs ≡ true

@@ -1,35 +1,24 @@
 -- When the checks of directories are silent: pathnames, connectivity and references.
-use Rattle.std.proofs.Common.{◌≡◌, ◌≢◌, ℕ, zero, suc, ◌+◌, ◌<◌, ◌==◌, Bool, true, false, not, ◌&&◌, nat_lt, refl, List}
-use Rattle.std.proofs.Common.{[], ◌∷◌, Option, Some, None, if◌then◌else◌, IsSomeAnd, arith, ◌∙◌, ap, subst, ℤ, pos}
-use Rattle.std.proofs.Common.{negsuc}
-use Rattle.std.proofs.lemmas.Bool.{eqb-true, eqb-false, eq-eqb, ne_eqb, and_parts, and_from, not-true, not-false}
-use Rattle.std.proofs.lemmas.Bool.{not_from_true, not_from_false}
-use Rattle.std.proofs.lemmas.Bool.Decides.{nat_tests}
-use Rattle.ffs_volume.specs.declared.Class.TheVariants.{Free, Partial, Unknown, File, Dir}
-use Rattle.ffs_volume.specs.declared.Role.TheVariants.{Empty, Dot, Dotdot, Extra, Plain}
-use Rattle.ffs_volume.specs.Directories.Entries.{Entry, is_live}
-use Rattle.ffs_volume.specs.Directories.Roles.{Volume, RoledEntry, is_dir, is_suspect, is_plain, is_one_dot}
-use Rattle.ffs_volume.specs.Directories.Roles.{is_two_dots, roled_entries, dot, dotdot, start_entry, is_allocated_inode}
-use Rattle.ffs_volume.specs.Directories.Graph.{is_naming_entry, is_naming_entry_at, test_at, parent}
-use Rattle.ffs_volume.specs.Directories.PathnameCheck.{attributes, entry_lines, entry_lines_of, lines_of_entries}
-use Rattle.ffs_volume.specs.Directories.PathnameCheck.{plain_lines, named_lines, is_bad_whiteout}
+use Rattle.std.proofs.Common.{◌≡◌, ◌≢◌, ℕ, zero, suc, ◌+◌, ◌<◌, ◌==◌, Bool, true, false, not, nat_lt, refl, List, []}
+use Rattle.std.proofs.{Common.{◌∷◌, Option, Some, IsSomeAnd, arith, ap, subst}, lemmas.Bool.{eqb-true, eq-eqb, ne_eqb}}
+use Rattle.std.proofs.lemmas.Bool.{and_from, not-true, not-false, not_from_true, not_from_false, Decides.nat_tests}
+use Rattle.ffs_volume.specs.declared.{Class.{TheVariants.Dir, Class}, Role.TheVariants.{Extra, Plain}}
+use Rattle.ffs_volume.specs.Directories.{Entries.Entry, Roles.{Volume, RoledEntry, is_dir, is_suspect, roled_entries}}
+use Rattle.ffs_volume.specs.Directories.{Roles.{dot, dotdot, is_allocated_inode, references}, Graph.is_naming_entry_at}
+use Rattle.ffs_volume.specs.Directories.{Graph.{test_at, parent}, PathnameCheck.{attributes, entry_lines}}
+use Rattle.ffs_volume.specs.Directories.PathnameCheck.{lines_of_entries, plain_lines, named_lines, is_bad_whiteout}
 use Rattle.ffs_volume.specs.Directories.PathnameCheck.{is_first_entry_of_suspect, is_extraneous, has_wrong_type}
 use Rattle.ffs_volume.specs.Directories.PathnameCheck.{root_lines, root_lines_of, continues_after_root, is_short}
 use Rattle.ffs_volume.specs.Directories.PathnameCheck.{has_partial_chunk, are_sound, shape_lines, dot_lines}
-use Rattle.ffs_volume.specs.Directories.PathnameCheck.{dot_lines_of, missing_dot_lines, is_wrong_parent, dotdot_lines}
-use Rattle.ffs_volume.specs.Directories.PathnameCheck.{dotdot_lines_of, missing_dotdot_lines, sized_dir_lines}
-use Rattle.ffs_volume.specs.Directories.PathnameCheck.{is_sized_dir, directory_lines, pathname_lines}
+use Rattle.ffs_volume.specs.Directories.PathnameCheck.{dot_lines_of, is_wrong_parent, dotdot_lines, dotdot_lines_of}
+use Rattle.ffs_volume.specs.Directories.PathnameCheck.{sized_dir_lines, is_sized_dir, directory_lines, pathname_lines}
 use Rattle.ffs_volume.specs.Directories.Connectivity.{is_dead, is_unref_dir, connectivity_lines}
-use Rattle.ffs_volume.specs.Directories.ReferenceCheck.{dead_lines, unref_lines, inode_lines, reference_lines_at}
-use Rattle.ffs_volume.specs.Directories.{Roles.references, ReferenceCheck.reference_lines, Parents.graph_of}
-use Rattle.ffs_volume.specs.Directories.{Parents.nth_roled, Paths.dir_path, Paths.entry_path}
-use Rattle.ffs_volume.specs.Messages.Kinds.{TreeMessage, lines_below, unref_dir, extra_dot, extra_dotdot, root_suspect}
-use Rattle.ffs_volume.specs.{declared.Class.Class, declared.Role.Role, Messages.Kinds.whiteout}
-use Rattle.ffs_volume.specs.{Messages.Kinds.out_of_range, Messages.Kinds.unallocated, Blocks.Inodes.is_allocated}
-use Rattle.ffs_volume.specs.{Blocks.Inodes.is_directory, Disk.Numbers.equals_natural}
+use Rattle.ffs_volume.specs.Directories.ReferenceCheck.{inode_lines, reference_lines_at, reference_lines}
+use Rattle.ffs_volume.specs.{Directories.{Parents.{graph_of, nth_roled}, Paths.entry_path}, Messages.Kinds.lines_below}
+use Rattle.ffs_volume.specs.Messages.Kinds.{unref_dir, whiteout, out_of_range, unallocated}
+use Rattle.ffs_volume.specs.{Blocks.Inodes.{is_allocated, is_directory}, Disk.Numbers.equals_natural}
 use Rattle.ffs_volume.proofs.Silence.{nil-left, nil-right, nil-both, reported-quiet, reported-silent, if-quiet}
-use Rattle.ffs_volume.proofs.Silence.{if-silent, else-quiet, else-silent, then-quiet, then-silent, lines-quiet}
-use Rattle.ffs_volume.proofs.{Silence.lines-silent, RoleLaws.plain-true}
+use Rattle.ffs_volume.proofs.Silence.{else-quiet, then-quiet, then-silent, lines-quiet, lines-silent}
 
 ruleset quiet = (nil-left, nil-right, reported-quiet, not-false, eqb-true)
 
@@ -75,39 +64,23 @@ plain-quiet v s j e h =
 
 plain-silent : (v : Volume) (s j : ℕ) (e : Entry) → IsPlainQuiet v s j e → plain_lines v s j e ≡ []
 unfolding plain_lines
-plain-silent v s j e q =
-    if-silent (not (nat_lt e.number v.count)) _ _ (not_from_true _ q.below)
-    (if-silent (is_bad_whiteout e) _ _ q.no_whiteout
-    (else-silent (e.number == 1) _ (λ n. let m = q.named n in search (if-silent, not_from_true, named-silent))))
+plain-silent v s j e q = grind (arith, named-silent)
 
 -- an entry: not extra, and quiet if it is plain
 pub record IsEntryQuiet (v : Volume) (s j : ℕ) (e : RoledEntry) : Type 0 where
   pub no_extra : e.role ≢ Extra
   pub plain : e.role ≡ Plain → IsPlainQuiet v s j e.entry
 
--- one of two messages
-either-some : (b : Bool) (m n : TreeMessage) → (if b then m ∷ [] else n ∷ []) ≡ [] → ⊥
-either-some true m n h = absurd (cc)
-either-some false m n h = absurd (cc)
-
 entry-quiet : (v : Volume) (s j : ℕ) (e : RoledEntry) → entry_lines v s j e ≡ [] → IsEntryQuiet v s j e
 unfolding entry_lines
 entry-quiet v s j e h = record {
-  no_extra = λ x. either-some (is_one_dot e.entry.name) (extra_dot (attributes v s) (dir_path (graph_of v) s))
-      (extra_dotdot (attributes v s) (dir_path (graph_of v) s)) (rw x at h);
+  no_extra = grind arith;
   plain = λ x. plain-quiet v s j e.entry (rw x at h);
 }
 
 entry-silent : (v : Volume) (s j : ℕ) (e : RoledEntry) → IsEntryQuiet v s j e → entry_lines v s j e ≡ []
 unfolding entry_lines
-entry-silent v s j e q = go e.role refl
-  where
-    go : (r : Role) → e.role ≡ r → entry_lines_of v s j r e.entry ≡ []
-    go Empty x = refl
-    go Dot x = refl
-    go Dotdot x = refl
-    go Extra x = absurd (q.no_extra x)
-    go Plain x = plain-silent v s j e.entry (q.plain x)
+entry-silent v s j e q = grind (arith, plain-silent)
 
 -- the entries of a list that is from the place j on
 entries-quiet : (v : Volume) (s j : ℕ) (es : List RoledEntry) → lines_of_entries v s j es ≡ [] →
@@ -152,16 +125,10 @@ pub record IsNamer (v : Volume) (s j x : ℕ) : Type 0 where
   pub number : entry.entry.number ≡ x
 
 pub names_at-gives : (v : Volume) (s j x : ℕ) → is_naming_entry_at (graph_of v) s j x ≡ true → IsNamer v s j x
-names_at-gives v s j x h =
-    let p = and_parts (is_dir v s) (test_at (is_naming_entry x) j (roled_entries v s)) h in
-    let t = test-gives (is_naming_entry x) j (roled_entries v s) p.1 in
-    let q = and_parts (is_plain t.0.role) (t.0.entry.number == x) t.2 in
-    record { dir = p.0; entry = t.0; there = t.1; role = plain-true t.0.role q.0; number = eqb-true _ x q.1 }
+names_at-gives v s j x h = grind (arith, test-gives)
 
 pub names_at-from : (v : Volume) (s j x : ℕ) → IsNamer v s j x → is_naming_entry_at (graph_of v) s j x ≡ true
-names_at-from v s j x n =
-    and_from (is_dir v s) _ n.dir (test-from (is_naming_entry x) j (roled_entries v s) n.entry n.there
-    (and_from (is_plain n.entry.role) _ (ap is_plain n.role) (eq-eqb _ x n.number)))
+names_at-from v s j x n = grind (arith, test-from)
 
 -- DIRECTORIES: the size, Gaps and chunks of one
 pub record IsShapeQuiet (v : Volume) (d : ℕ) : Type 0 where
@@ -183,16 +150,10 @@ abbrev pub IsDotQuiet : ℕ → Option Entry → Type 0
 IsDotQuiet d o = IsSomeAnd o (λ e. (e.number ≡ d) × (e.kind ≡ 4))
 
 dot-quiet : (v : Volume) (d : ℕ) (o : Option Entry) → dot_lines_of v d o ≡ [] → IsDotQuiet d o
-dot-quiet v d None h = absurd (missing (start_entry v d 0) h)
-  where
-    missing : (o : Option Entry) → missing_dot_lines (attributes v d) (dir_path (graph_of v) d) o ≡ [] → ⊥
-    missing None h = absurd (cc)
-    missing (Some e) h = either-some (is_live e && not (is_two_dots e.name)) _ _ h
-dot-quiet v d (Some e) h = search quiet depth 9
+dot-quiet v d o h = grind arith
 
 dot-silent : (v : Volume) (d : ℕ) (o : Option Entry) → IsDotQuiet d o → dot_lines_of v d o ≡ []
-dot-silent v d None q = absurd q
-dot-silent v d (Some e) q = search silent depth 9
+dot-silent v d o h = grind arith
 
 -- `..` is there, with its type, and it is the parent if there is one
 pub record IsDotdotQuiet (v : Volume) (d : ℕ) (o : Option Entry) : Type 0 where
@@ -200,16 +161,10 @@ pub record IsDotdotQuiet (v : Volume) (d : ℕ) (o : Option Entry) : Type 0 wher
   pub kind : IsSomeAnd o (λ e. e.kind ≡ 4)
 
 dotdot-quiet : (v : Volume) (d : ℕ) (o : Option Entry) → dotdot_lines_of v d o ≡ [] → IsDotdotQuiet v d o
-dotdot-quiet v d None h = absurd (missing (start_entry v d 1) h)
-  where
-    missing : (o : Option Entry) → missing_dotdot_lines (attributes v d) (dir_path (graph_of v) d) o ≡ [] → ⊥
-    missing None h = absurd (cc)
-    missing (Some e) h = either-some (is_live e && not (is_one_dot e.name)) _ _ h
-dotdot-quiet v d (Some e) h = search quiet depth 9
+dotdot-quiet v d o h = grind arith
 
 dotdot-silent : (v : Volume) (d : ℕ) (o : Option Entry) → IsDotdotQuiet v d o → dotdot_lines_of v d o ≡ []
-dotdot-silent v d None q = absurd q.kind
-dotdot-silent v d (Some e) q = search silent depth 9
+dotdot-silent v d o h = grind arith
 
 -- a directory
 pub record IsDirQuiet (v : Volume) (d : ℕ) : Type 0 where
@@ -241,11 +196,7 @@ pub record IsPathnameQuiet (v : Volume) : Type 0 where
   pub each : (d : ℕ) → is_dir v d ≡ true → (v.inode d).size ≢ 0 → IsDirQuiet v d
 
 root-quiet : (v : Volume) (c : Class) → root_lines_of v c ≡ [] → (c ≡ Dir) × (is_suspect v 2 ≡ false)
-root-quiet v Dir h = (refl, reported-quiet _ root_suspect h)
-root-quiet v File h = absurd (cc)
-root-quiet v Unknown h = absurd (cc)
-root-quiet v Partial h = absurd (cc)
-root-quiet v Free h = absurd (cc)
+root-quiet v c h = grind arith
 
 pub dir-below : (v : Volume) (d : ℕ) → is_dir v d ≡ true → d < v.count
 dir-below v d h = grind (arith, nat_tests)
@@ -267,12 +218,7 @@ pathname-quiet v h =
 
 pub pathname-silent : (v : Volume) → IsPathnameQuiet v → pathname_lines v ≡ []
 unfolding pathname_lines root_lines
-pathname-silent v q =
-    nil-both (root_lines v) _ (ap (root_lines_of v) q.root ∙ reported-silent _ root_suspect q.suspect)
-    (then-silent (continues_after_root v) (lines_below (directory_lines v) v.count) (λ g.
-    lines-silent (directory_lines v) v.count (λ d l. then-silent (is_sized_dir v d) (sized_dir_lines v d) (λ k.
-    let p = and_parts (is_dir v d) (not ((v.inode d).size == 0)) k in
-    dir-silent v d (q.each d p.0 (eqb-false (v.inode d).size 0 (not-true _ p.1)))))))
+pathname-silent v q = grind (arith, lines-silent, dir-silent, not-true)
 
 -- CONNECTIVITY
 pub connectivity-quiet : (v : Volume) → connectivity_lines v ≡ [] → (d : ℕ) → d < v.count → is_unref_dir v d ≡ false
@@ -289,26 +235,13 @@ pub record IsCountQuiet (v : Volume) (i : ℕ) : Type 0 where
   pub some : references v i ≢ 0
   pub same : equals_natural (v.inode i).nlink (references v i) ≡ true
 
--- the first of two is never silent
-first-quiet : (b : Bool) (xs ys : List TreeMessage) → (xs ≡ [] → ⊥) → (if b then xs else ys) ≡ [] → (b ≡ false)
-    × (ys ≡ [])
-first-quiet true xs ys n h = absurd (n h)
-first-quiet false xs ys n h = (refl, h)
-
 count-quiet : (v : Volume) (i : ℕ) → inode_lines v i ≡ [] → IsCountQuiet v i
 unfolding inode_lines
-count-quiet v i h =
-    let a = first-quiet (is_dead v i) (dead_lines v i) _ (either-some (v.marked i) _ _) h in
-    let b = first-quiet (references v i == 0) (unref_lines v i) _
-    (either-some (equals_natural (v.inode i).nlink 0) _ _) a.1 in
-    record { alive = a.0; some = eqb-false (references v i) 0 b.0; same = not-false _ (reported-quiet _ _ b.1) }
+count-quiet v i h = grind arith
 
 count-silent : (v : Volume) (i : ℕ) → IsCountQuiet v i → inode_lines v i ≡ []
 unfolding inode_lines
-count-silent v i q =
-    if-silent (is_dead v i) (dead_lines v i) _ q.alive
-    (if-silent (references v i == 0) (unref_lines v i) _ (ne_eqb (references v i) 0 q.some)
-    (reported-silent _ _ (not_from_true _ q.same)))
+count-silent v i q = grind arith
 
 pub reference-quiet : (v : Volume) → reference_lines v ≡ [] → (i : ℕ) → is_allocated_inode v i ≡ true → IsCountQuiet v i
 unfolding reference_lines
@@ -319,13 +252,4 @@ reference-quiet v h i k =
 pub reference-silent : (v : Volume) → ((i : ℕ) → is_allocated_inode v i ≡ true → IsCountQuiet v i) →
     reference_lines v ≡ []
 unfolding reference_lines
-reference-silent v h = lines-silent (reference_lines_at v) v.count
-    (λ i l. then-silent (is_allocated_inode v i) (inode_lines v i) (λ k. count-silent v i (h i k)))
-
--- a count and a number
-pub count-true : (z : ℤ) (n : ℕ) → equals_natural z n ≡ true → z ≡ pos n
-count-true (pos k) n h = ap pos (eqb-true k n h)
-count-true (negsuc k) n h = absurd (cc)
-
-pub count-from : (z : ℤ) (n : ℕ) → z ≡ pos n → equals_natural z n ≡ true
-count-from z n h = rw h (eq-eqb n n refl)
+reference-silent v h = simp (lines-silent, then-silent, count-silent)

@@ -1,38 +1,26 @@
 -- What is known of an image's volume, and that all is kept where the block check is silent.
-use Rattle.std.proofs.Common.{zero, suc, ◌≡◌, ℕ, ◌+◌, ◌-◌, ◌*◌, ◌<◌, ◌≤◌, true, false, arith, refl, sym, ap, subst, ◌∙◌}
-use Rattle.std.proofs.Common.{List, [], ◌∷◌, ◌++◌, ◌||◌, if◌then◌else◌, map, ◌≢◌, ◌==◌, Bool, not, nat_lt, nat_le, drop}
-use Rattle.std.proofs.lemmas.Bool.{and_parts, and_from, eq-eqb, leb-true, ltb-true}
-use Rattle.std.{specs.List.range_with_len, specs.List.list_any, specs.List.flat_map, proofs.Math.Path.fun_ext}
-use Rattle.std.{proofs.lemmas.List.Folds.list_all-map, proofs.lemmas.List.FromFn.length-range_with_len}
-use Rattle.ffs_volume.specs.declared.Class.TheVariants.{Free, Partial, Unknown, File, Dir}
-use Rattle.ffs_volume.specs.declared.Step.TheVariants.{Run, Tail, Gap}
-use Rattle.ffs_volume.specs.declared.{Layout.Layout, Class.Class, Step.Step, Inode.Inode}
-use Rattle.ffs_volume.specs.Blocks.Claims.{Claims, no_claims, reserved_map, at_next_inode, is_open, after_step}
-use Rattle.ffs_volume.specs.Blocks.BlockCheck.{blames, is_marked, phase1_lines, phase1b_lines}
-use Rattle.ffs_volume.specs.Blocks.KeptSteps.{is_kept_step, kept_steps, claims_before, kept_steps_of}
-use Rattle.ffs_volume.specs.Blocks.Inodes.{inode_of, class_of, is_unknown, type_of, is_known_type, is_too_large}
-use Rattle.ffs_volume.specs.Blocks.Inodes.{any_nonzero, addresses_allowed, is_directory, is_allocated}
-use Rattle.ffs_volume.specs.Blocks.Owners.{owner_of, owners_of, step_fragments}
-use Rattle.ffs_volume.specs.Blocks.{Claims.after_owner, Claims.after_owners, Steps.steps_of}
-use Rattle.ffs_volume.specs.Directories.Volumes.{is_inode_number, class_at, marked_at, steps_of_inode}
-use Rattle.ffs_volume.specs.Directories.Volumes.{kept_steps_of_inode, chunk_source_of, volume_with, volume_of}
-use Rattle.ffs_volume.specs.Directories.Roles.{roled_chunk, roled_entries}
-use Rattle.ffs_volume.specs.{Directories.Volumes.whole_volume, Directories.Entries.chunks_of}
-use Rattle.ffs_volume.specs.{Consistent.BlocksRight.is_right_class, Consistent.BlocksRight.BlocksRight}
-use Rattle.ffs_volume.specs.{Disk.Areas.is_run_in_range, Laws.Geometry.IsAcceptedLayout}
-use Rattle.ffs_volume.proofs.Sizes.{some_inodes, no_steps}
-use Rattle.ffs_certificate.specs.Premises.{IsVolume, IsUnmarked}
-use Rattle.ffs_certificate.proofs.BlockLaws.{mark, Calm, calm_open, step_quiet, steps_quiet, step_claims, owner_quiet}
-use Rattle.ffs_certificate.proofs.BlockLaws.{owners_quiet, owner_claims, owners_from, start_calm}
-use Rattle.ffs_certificate.proofs.{BlocksSilent.right_quiet, BlocksSilent.blocks_silent, GroupLaws.all_at}
+use Rattle.std.proofs.Common.{zero, suc, ◌≡◌, ℕ, ◌+◌, ◌-◌, ◌*◌, ◌<◌, ◌≤◌, true, false, arith, refl, sym, ap, ◌∙◌, List}
+use Rattle.std.proofs.{Common.{[], ◌∷◌, map, ◌≢◌, Bool}, lemmas.{Bool.and_parts, List.Folds.list_all-map}}
+use Rattle.std.{proofs.lemmas.List.FromFn.length-range_with_len, specs.List.range_with_len}
+use Rattle.ffs_volume.specs.declared.{Class.{TheVariants.Unknown, Class}, Step.{TheVariants.{Run, Tail, Gap}, Step}}
+use Rattle.ffs_volume.specs.{declared.{Layout.Layout, Inode.Inode}, Blocks.Claims.{Claims, no_claims, reserved_map}}
+use Rattle.ffs_volume.specs.Blocks.{Claims.{at_next_inode, after_step, after_owner, after_owners}, BlockCheck.is_marked}
+use Rattle.ffs_volume.specs.Blocks.{KeptSteps.{is_kept_step, kept_steps, claims_before, kept_steps_of}, Inodes.inode_of}
+use Rattle.ffs_volume.specs.Blocks.{Inodes.{class_of, is_unknown, type_of}, Owners.{owner_of, owners_of}}
+use Rattle.ffs_volume.specs.{Blocks.{Owners.step_fragments, Steps.steps_of}, Directories.Volumes.is_inode_number}
+use Rattle.ffs_volume.specs.Directories.Volumes.{class_at, marked_at, steps_of_inode, kept_steps_of_inode, volume_with}
+use Rattle.ffs_volume.specs.Directories.{Volumes.{volume_of, whole_volume}, Roles.roled_entries}
+use Rattle.ffs_volume.specs.{Consistent.BlocksRight.{is_right_class, BlocksRight}, Laws.Geometry.IsAcceptedLayout}
+use Rattle.ffs_volume.proofs.Sizes.{no_steps}
+use Rattle.ffs_certificate.{specs.Premises.{IsVolume, IsUnmarked}, proofs.BlockLaws.{mark, Calm, calm_open, step_quiet}}
+use Rattle.ffs_certificate.proofs.BlockLaws.{steps_quiet, step_claims, owner_quiet, owners_quiet, owner_claims}
+use Rattle.ffs_certificate.proofs.{BlockLaws.owners_from, BlocksSilent.{right_quiet, blocks_silent}, GroupLaws.all_at}
 
 step_kept_quiet : (v : Layout) (s : Claims) (step : Step) → Calm s → step_quiet v s.used step ≡ true →
     is_kept_step v s step ≡ true
 step_kept_quiet v s (Run start len block) c e =
     let done = step_claims v s (Run start len block) c e in
-    and_from (is_open s) _ (calm_open s c)
-    (eq-eqb (after_step v s (Run start len block)).kept (s.kept + len)
-    (done.kept ∙ ap (λ n. s.kept + n) (length-range_with_len start len)))
+    grind (arith, length-range_with_len)
 step_kept_quiet v s Tail c e = calm_open s c
 step_kept_quiet v s Gap c e = calm_open s c
 
@@ -44,8 +32,7 @@ steps_kept_quiet v s (step ∷ steps) c e =
     let done = step_claims v s step c parts.0 in
     let rest = steps_kept_quiet v (after_step v s step) steps done.calm
     (ap (λ u. steps_quiet v u steps) done.used ∙ parts.1) in
-    ap (λ b. (if b then step ∷ [] else []) ++ kept_steps v (after_step v s step) steps)
-    (step_kept_quiet v s step c parts.0) ∙ ap (λ z. step ∷ z) rest
+    grind (arith, step_kept_quiet)
 
 kept_at : (v : Layout) (image : List ℕ) (s : Claims) (a k d x : ℕ) → a + d ≡ x → d < k →
     owners_quiet v s.used (map (owner_of v image) (range_with_len a k)) ≡ true →
@@ -53,14 +40,7 @@ kept_at : (v : Layout) (image : List ℕ) (s : Claims) (a k d x : ℕ) → a + d
     (steps_of v (inode_of v image x) image) ≡ steps_of v (inode_of v image x) image
 unfolding owner_of
 kept_at v image s a zero d x e lt q = absurd (omega arith)
-kept_at v image s a (suc k) zero x e lt q =
-    let parts = and_parts (owner_quiet v s.used (owner_of v image a)) _ q in
-    let whole = and_parts (is_right_class (class_of v (inode_of v image a))) _ parts.0 in
-    let same : a ≡ x = omega arith in
-    subst (λ y. kept_steps v (at_next_inode s) (steps_of v (inode_of v image y) image) ≡ steps_of v (inode_of v image y)
-    image) same
-    (steps_kept_quiet v (at_next_inode s) (steps_of v (inode_of v image a) image) (start_calm s)
-    (and_parts (steps_quiet v s.used (steps_of v (inode_of v image a) image)) _ whole.1).0)
+kept_at v image s a (suc k) zero x e lt q = grind (arith, steps_kept_quiet)
 kept_at v image s a (suc k) (suc d) x e lt q =
     let parts = and_parts (owner_quiet v s.used (owner_of v image a)) _ q in
     kept_at v image (after_owner v s (owner_of v image a)) (a + 1) k d x (omega (arith, e)) (omega arith)
@@ -76,11 +56,7 @@ all_kept v image r x low high =
     (owners_from v (reserved_map v) (owners_of v image) (right_quiet v (owners_of v image) r))
 
 whole_known : (c : Class) → is_right_class c ≡ true → is_unknown c ≡ false
-whole_known Free e = refl
-whole_known Partial e = refl
-whole_known Unknown e = absurd (cc)
-whole_known File e = refl
-whole_known Dir e = refl
+whole_known c h = grind arith
 
 -- no inode is marked
 pub none_marked : (v : Layout) (image : List ℕ) → BlocksRight v (owners_of v image) → (x : ℕ) → 2 ≤ x →
@@ -91,39 +67,19 @@ none_marked v image r x low high =
     let whole = all_at (λ y. is_right_class (class_of v (inode_of v image y))) 2 (v.ncg * v.ipg - 2) x
     (sym (list_all-map (λ o. is_right_class o.class) (owner_of v image) (range_with_len 2 (v.ncg * v.ipg - 2)))
     ∙ r.classes) low (omega arith) in
-    let known = whole_known (class_of v (inode_of v image x)) whole in
-    ap (λ b. b || list_any (blames x) (phase1_lines v (owners_of v image) ++ phase1b_lines v (owners_of v image))) known
-    ∙ ap (list_any (blames x)) none
+    grind arith
 
 -- no type that has a class is 14
 kind_known : (v : Layout) (i : Inode) → class_of v i ≢ Unknown → type_of i.mode ≢ 14
 unfolding class_of
-kind_known v i known e =
-    let some : (type_of i.mode == 0) ≡ false = ap (λ k. k == 0) e in
-    let other : (not (is_known_type (type_of i.mode))
-    || (is_too_large v i || any_nonzero (drop (addresses_allowed v i) i.addresses))) ≡ true =
-    ap (λ k. not (is_known_type k) || (is_too_large v i || any_nonzero (drop (addresses_allowed v i) i.addresses)))
-    e in
-    known (rw (some, other) refl)
-
-class_number : (v : Layout) (image : List ℕ) (x : ℕ) → is_inode_number v x ≡ true →
-    class_at v image x ≡ class_of v (inode_of v image x)
-class_number v image x h = ap (λ b. if b then class_of v (inode_of v image x) else Free) h
+kind_known v i known e = grind arith
 
 -- each volume of an image is one of those that the laws on directories speak of
 volume_is : (v : Layout) (image : List ℕ) (steps : ℕ → List Step) (marked : ℕ → Bool) → IsAcceptedLayout v →
     ((d : ℕ) → is_inode_number v d ≡ true → (inode_of v image d).size ≡ 0 → steps d ≡ []) →
     IsVolume (volume_with v image steps marked)
 unfolding volume_with roled_entries
-volume_is v image steps marked g none = record {
-  some = some_inodes v g;
-  empty = λ d h z.
-      let number = (and_parts (is_inode_number v d) (is_directory (class_at v image d)) h).0 in
-      ap (λ ss. flat_map roled_chunk (chunks_of (chunk_source_of v image d) (is_run_in_range v) ss)) (none d number z);
-  kinds = λ x known h.
-      let number = (and_parts (is_inode_number v x) (is_allocated (class_at v image x)) h).0 in
-      kind_known v (inode_of v image x) (λ e. known (class_number v image x number ∙ e));
-}
+volume_is v image steps marked g none = grind (arith, kind_known)
 
 steps_none : (v : Layout) (image : List ℕ) → IsAcceptedLayout v → (d : ℕ) → is_inode_number v d ≡ true →
     (inode_of v image d).size ≡ 0 → steps_of v (inode_of v image d) image ≡ []
@@ -131,15 +87,11 @@ steps_none v image g d number z = let low = g.sizes.bsize_low in no_steps v imag
 
 pub whole_is_volume : (v : Layout) (image : List ℕ) → IsAcceptedLayout v → IsVolume (whole_volume v image)
 unfolding whole_volume
-whole_is_volume v image g =
-    volume_is v image (steps_of_inode v image) (λ x. false) g
-    (λ d number z. ap (λ b. if b then steps_of v (inode_of v image d) image else []) number
-    ∙ steps_none v image g d number z)
+whole_is_volume v image g = grind (arith, volume_is, steps_none)
 
 -- where the blocks are right, each inode is free, a file or a directory
 number_bounds : (v : Layout) (x : ℕ) → is_inode_number v x ≡ true → (2 ≤ x) × (x < v.ncg * v.ipg)
-number_bounds v x h = let p = and_parts (nat_le 2 x) (nat_lt x (v.ncg * v.ipg)) h in
-    (leb-true 2 x p.0, ltb-true x (v.ncg * v.ipg) p.1)
+number_bounds v x h = grind arith
 
 whole_number : (v : Layout) (image : List ℕ) → BlocksRight v (owners_of v image) → (x : ℕ) → is_inode_number v x ≡ true
     → is_right_class (class_of v (inode_of v image x)) ≡ true
@@ -147,19 +99,13 @@ unfolding owners_of owner_of
 whole_number v image r x h =
     let b = number_bounds v x h in
     let low = b.0 in
-    let high = b.1 in
     all_at (λ y. is_right_class (class_of v (inode_of v image y))) 2 (v.ncg * v.ipg - 2) x
     (sym (list_all-map (λ o. is_right_class o.class) (owner_of v image) (range_with_len 2 (v.ncg * v.ipg - 2)))
     ∙ r.classes) low (omega arith)
 
 whole_class : (v : Layout) (image : List ℕ) → BlocksRight v (owners_of v image) → (x : ℕ) →
     is_right_class (class_at v image x) ≡ true
-whole_class v image r x = one (is_inode_number v x) refl
-  where
-    one : (b : Bool) → is_inode_number v x ≡ b → is_right_class (if b then class_of v (inode_of v image x) else Free)
-        ≡ true
-    one true e = whole_number v image r x e
-    one false e = refl
+whole_class v image r x = grind (arith, whole_number)
 
 pub whole_unmarked : (v : Layout) (image : List ℕ) → BlocksRight v (owners_of v image) →
     IsUnmarked (whole_volume v image)
@@ -173,23 +119,12 @@ whole_unmarked v image r = record {
 -- where the blocks are right, the volume of the kept steps is that of all steps
 same_steps : (v : Layout) (image : List ℕ) → BlocksRight v (owners_of v image) →
     kept_steps_of_inode v image ≡ steps_of_inode v image
-same_steps v image r = fun_ext (λ x. one x (is_inode_number v x) refl)
-  where
-    one : (x : ℕ) (b : Bool) → is_inode_number v x ≡ b → (if b then kept_steps_of v image x else [])
-        ≡ (if b then steps_of v (inode_of v image x) image else [])
-    one x true e = let b = number_bounds v x e in all_kept v image r x b.0 b.1
-    one x false e = refl
+same_steps v image r = grind (arith, all_kept)
 
 same_marks : (v : Layout) (image : List ℕ) → BlocksRight v (owners_of v image) → marked_at v image ≡ (λ x. false)
-same_marks v image r = fun_ext (λ x. one x (is_inode_number v x) refl)
-  where
-    one : (x : ℕ) (b : Bool) → is_inode_number v x ≡ b → (if b then is_marked v image x else false) ≡ false
-    one x true e = let b = number_bounds v x e in none_marked v image r x b.0 b.1
-    one x false e = refl
+same_marks v image r = grind (arith, none_marked)
 
 pub same_whole : (v : Layout) (image : List ℕ) → BlocksRight v (owners_of v image) →
     volume_of v image ≡ whole_volume v image
 unfolding volume_of whole_volume
-same_whole v image r =
-    ap (λ steps. volume_with v image steps (marked_at v image)) (same_steps v image r)
-    ∙ ap (volume_with v image (steps_of_inode v image)) (same_marks v image r)
+same_whole v image r = simp (same_steps, same_marks)

@@ -1,26 +1,22 @@
 -- What the blocks of a group add to the counts, by stretches and by blocks.
-use Rattle.std.proofs.Common.{◌≡◌, ℕ, zero, suc, ◌+◌, ◌-◌, ◌<◌, ◌≤◌, Bool, true, false, List, [], ◌∷◌, length, cond}
-use Rattle.std.proofs.Common.{arith, refl, ap, ◌∙◌, sym, count_by, nat_eq, min, length-append, bit_and, ◌/◌, ◌^◌, ◌==◌}
-use Rattle.std.proofs.Common.{◌*◌, ◌%◌, map, slice_index, ◌&&◌}
-use Rattle.std.proofs.lemmas.List.Sums.{sum_by-cons, sum_by-append, count_by-le-length}
-use Rattle.std.proofs.lemmas.Nat.{mul-add-lt, mul-le, div-add-mod'}
-use Rattle.std.{proofs.lemmas.Nat.Bits.shr_and_one, specs.List.range_with_len, specs.List.sum_by}
-use Rattle.std.{proofs.lemmas.List.FromFn.length-map-range_with_len, specs.Int.bit_at, proofs.lemmas.Bool.ne_eqb}
+use Rattle.std.proofs.Common.{◌≡◌, ℕ, suc, ◌+◌, ◌<◌, ◌≤◌, Bool, true, false, List, [], ◌∷◌, length, cond, arith}
+use Rattle.std.proofs.Common.{refl, ap, ◌∙◌, sym, count_by, nat_eq, min, bit_and, ◌/◌, ◌^◌, ◌==◌, ◌*◌, ◌%◌, map}
+use Rattle.std.proofs.{Common.{slice_index, ◌&&◌}, lemmas.List.Sums.{sum_by-cons, sum_by-append, count_by-le-length}}
+use Rattle.std.proofs.lemmas.{List.FromFn.length-map-range_with_len, Nat.{mul-add-lt, mul-le, div-add-mod'}}
+use Rattle.std.{proofs.lemmas.{Nat.Bits.shr_and_one, Bool.ne_eqb}, specs.{List.{range_with_len, sum_by}, Int.bit_at}}
 use Rattle.ffs_volume.specs.Groups.Records.{free_stretches, stretch_of, has_bits, is_free_block}
-use Rattle.ffs_maps.proofs.{WordShifts.bit_shr, Counting.sum_split, Counting.sum_same, Bits.zeros_at}
-use Rattle.ffs_groups.specs.{declared.free.FreeCounts.FreeCounts}
-use Rattle.ffs_groups.specs.Free.{word_bits, whole_in, loose_in, stretches_in, AreBelow, Added, free_in}
-use Rattle.ffs_groups.proofs.{Sums.sum_more, Sums.sum_within, Sums.map_same, MapWords.map_parts}
+use Rattle.ffs_maps.proofs.{WordShifts.bit_shr, Counting.{sum_split, sum_same}, Bits.zeros_at}
+use Rattle.ffs_groups.specs.{declared.free.FreeCounts.FreeCounts, Free.{word_bits, whole_in, loose_in, stretches_in}}
+use Rattle.ffs_groups.{specs.Free.{AreBelow, Added, free_in}, proofs.Sums.{sum_more, sum_within, map_same}}
+use Rattle.ffs_groups.proofs.MapWords.{map_parts}
 
 stretch_len : (n : ℕ) → length (stretch_of n) ≤ min n 1
-stretch_len zero = omega arith
-stretch_len (suc n) = let some : (suc n == 0) ≡ false = grind arith in rw some (omega arith)
+stretch_len n = grind arith
 
 pub stretches_len : (n : ℕ) (bits : List Bool) → length (free_stretches n bits) ≤ min n 1 + length bits
 stretches_len n [] = omega (arith, stretch_len n)
 stretches_len n (true ∷ bits) = omega (arith, stretches_len (n + 1) bits)
-stretches_len n (false ∷ bits) =
-    omega (arith, stretch_len n, stretches_len 0 bits, length-append (stretch_of n) (free_stretches 0 bits))
+stretches_len n (false ∷ bits) = grind (arith, stretches_len 0 bits)
 
 pub stretches_few : (k : ℕ) (bits : List Bool) → count_by (λ n. n == k) (free_stretches 0 bits) ≤ length bits
 stretches_few k bits = omega (arith, stretches_len 0 bits, count_by-le-length (λ n. n == k) (free_stretches 0 bits))
@@ -39,8 +35,7 @@ free_next word k n m e set_ =
 
 pub used_next : (word k n m : ℕ) → n ≡ m + 1 → nat_eq (bit_at word k) 1 ≡ false →
     count_by (λ f. f) (word_bits word k n) ≡ count_by (λ f. f) (word_bits word (k + 1) m)
-used_next word k n m e clear_ =
-    rw (bits_next word k n m e, clear_) (omega (arith, sum_by-cons (λ f. cond f 1 0) false (word_bits word (k + 1) m)))
+used_next word k n m e clear_ = grind arith
 
 pub stretch_grows : (word k n m r j : ℕ) → n ≡ m + 1 → nat_eq (bit_at word k) 1 ≡ true →
     count_by (λ x. x == j) (free_stretches r (word_bits word k n)) ≡ count_by (λ x. x == j)
@@ -50,9 +45,7 @@ stretch_grows word k n m r j e set_ = rw (bits_next word k n m e, set_) refl
 pub stretch_ends : (word k n m r j : ℕ) → n ≡ m + 1 → nat_eq (bit_at word k) 1 ≡ false →
     count_by (λ x. x == j) (free_stretches r (word_bits word k n)) ≡ count_by (λ x. x == j) (stretch_of r) + count_by
     (λ x. x == j) (free_stretches 0 (word_bits word (k + 1) m))
-stretch_ends word k n m r j e clear_ =
-    rw (bits_next word k n m e, clear_)
-    (sum_by-append (λ x. cond (x == j) 1 0) (stretch_of r) (free_stretches 0 (word_bits word (k + 1) m)))
+stretch_ends word k n m r j e clear_ = grind (arith, sum_by-append)
 
 pub stretches_within : (word n j : ℕ) → count_by (λ x. x == j) (free_stretches 0 (word_bits word 0 n)) ≤ n
 stretches_within word n j = omega (arith, stretches_few j (word_bits word 0 n), length_bits word 0 n)
@@ -79,19 +72,12 @@ pub added_more : (bits : ℕ → List Bool) (n : ℕ) (old mid new : FreeCounts)
     new.blocks ≡ mid.blocks + whole_in (bits n) → new.fragments ≡ mid.fragments + loose_in (bits n) →
     ((k : ℕ) → slice_index new.frsum k ≡ slice_index mid.frsum k + stretches_in k (bits n)) →
     Added bits 0 (n + 1) old new
-added_more bits n old mid new a blocks fragments frsum = record {
-  blocks = omega (arith, a.blocks, blocks, one_from_zero (λ b. whole_in (bits b)) n);
-  fragments = omega (arith, a.fragments, fragments, one_from_zero (λ b. loose_in (bits b)) n);
-  frsum = λ k. omega (arith, a.frsum k, frsum k, one_from_zero (λ b. stretches_in k (bits b)) n);
-}
+added_more bits n old mid new a blocks fragments frsum = grind (arith, one_from_zero)
 
 joined_sums : (f : List Bool → ℕ) (bits other : ℕ → List Bool) (n m : ℕ) → ((k : ℕ) → k < m → other k ≡ bits (n + k)) →
     sum_by (λ b. f (bits b)) (range_with_len 0 (n + m)) ≡ sum_by (λ b. f (bits b)) (range_with_len 0 n) + sum_by
     (λ b. f (other b)) (range_with_len 0 m)
-joined_sums f bits other n m same =
-    let last = sum_same (λ b. f (bits b)) (λ b. f (other b)) n 0 m
-    (λ k h. let at : 0 + k ≡ k = omega arith in rw (at, same k h) refl) in
-    omega (arith, last, from_zero (λ b. f (bits b)) n m)
+joined_sums f bits other n m same = grind (arith, sum_same, from_zero)
 
 -- the blocks of a word more
 pub added_join : (bits other : ℕ → List Bool) (n m : ℕ) (old mid new : FreeCounts) → Added bits 0 n old mid →
@@ -105,15 +91,13 @@ added_join bits other n m old mid new a b same = record {
 
 -- one of two numbers within a limit
 either_within : (b : Bool) (m n k : ℕ) → m ≤ k → n ≤ k → cond b m n ≤ k
-either_within true m n k h l = h
-either_within false m n k h l = l
+either_within b m n k h r = grind arith
 
 whole_one : (bits : List Bool) → whole_in bits ≤ 1
 whole_one bits = either_within (is_free_block bits) 1 0 1 (omega arith) (omega arith)
 
 loose_length : (bits : List Bool) → loose_in bits ≤ length bits
-loose_length bits =
-    either_within (is_free_block bits) 0 _ (length bits) (omega arith) (count_by-le-length (λ f. f) bits)
+loose_length bits = grind (arith, count_by-le-length)
 
 stretch_length : (k : ℕ) (bits : List Bool) → stretches_in k bits ≤ length bits
 stretch_length k bits = either_within (is_free_block bits) 0 _ (length bits) (omega arith) (stretches_few k bits)
@@ -161,8 +145,7 @@ word_fits some frag h = omega (arith, mul-le some frag (64 / frag) frag h (omega
 
 pub loose_fits : (bits : ℕ → List Bool) (frag n : ℕ) → ((b : ℕ) → length (bits b) ≡ frag) →
     sum_by (λ b. loose_in (bits b)) (range_with_len 0 n) ≤ n * frag
-loose_fits bits frag n len =
-    omega (arith, sum_within (λ b. loose_in (bits b)) frag 0 n (λ k. omega (arith, loose_length (bits k), len k)))
+loose_fits bits frag n len = grind (arith, sum_within, loose_length)
 
 pub whole_fits : (bits : ℕ → List Bool) (n : ℕ) → sum_by (λ b. whole_in (bits b)) (range_with_len 0 n) ≤ n
 whole_fits bits n = omega (arith, sum_within (λ b. whole_in (bits b)) 1 0 n (λ k. whole_one (bits k)))

@@ -1,17 +1,13 @@
 -- The numbers of a group block, by the bits of signed numbers.
-use Rattle.std.proofs.Common.{◌≡◌, ◌==◌, ℕ, ◌<◌, ◌^◌, List, drop, slice_index, subst, sym, ap, ◌+◌, arith, ◌*◌, Bool}
-use Rattle.std.proofs.Common.{map, refl, ◌∙◌, ◌&&◌, pos}
-use Rattle.std.proofs.lemmas.List.FromFn.{get_or-map-range_with_len}
-use Rattle.std.{specs.Int.w32, proofs.lemmas.Int.of_z-to_z, proofs.lemmas.List.get_or-drop, specs.List.range_with_len}
-use Rattle.ffs_volume.specs.declared.Order.TheVariants.{Little, Big}
-use Rattle.ffs_volume.specs.Groups.Records.{has_counts, right_group_counts, right_frsum, group_size, has_right_sums}
-use Rattle.ffs_volume.specs.{declared.Order.Order, declared.Layout.Layout, declared.Class.Class, Disk.Numbers.i32_at}
-use Rattle.ffs_volume.specs.{Disk.Numbers.u32_at, Disk.Numbers.number, Disk.Numbers.all_below}
+use Rattle.std.proofs.Common.{◌≡◌, ◌==◌, ℕ, ◌<◌, ◌^◌, List, drop, slice_index, subst, sym, ◌+◌, arith, ◌*◌, Bool, map}
+use Rattle.std.{proofs.{Common.◌&&◌, lemmas.List.get_or-drop}, specs.List.range_with_len}
+use Rattle.ffs_volume.specs.declared.{Order.{Order}, Layout.Layout, Class.Class}
+use Rattle.ffs_volume.specs.Groups.Records.{has_counts, right_group_counts, group_size, has_right_sums}
+use Rattle.ffs_volume.specs.Disk.Numbers.{i32_at, u32_at, number, all_below}
 use Rattle.ffs_layout.specs.Group.{group_summary_at}
-use Rattle.ffs_groups.specs.declared.counts.SummaryCounts.{SummaryCounts}
-use Rattle.ffs_groups.specs.declared.{counts.Counts.Counts, free.FreeCounts.FreeCounts, inodes.InodeCounts.InodeCounts}
-use Rattle.ffs_groups.specs.Check.{has_bits_of, AreCounts, group_counts_of, same_counts, same_frsum_at}
-use Rattle.ffs_groups.specs.{Free.AreFree, Inodes.AreInodes}
+use Rattle.ffs_groups.specs.declared.{counts.{SummaryCounts.SummaryCounts, Counts.Counts}, free.FreeCounts.FreeCounts}
+use Rattle.ffs_groups.specs.{declared.inodes.InodeCounts.InodeCounts, Check.{has_bits_of, AreCounts, group_counts_of}}
+use Rattle.ffs_groups.specs.{Check.{same_counts, same_frsum_at}, Free.AreFree, Inodes.AreInodes}
 use Rattle.ffs_groups.proofs.MapWords.{same_below}
 
 -- a byte from a place on
@@ -23,39 +19,23 @@ byte_from place bytes h i = subst (λ x. x < 256) (sym (get_or-drop place bytes 
 in_word : (order : Order) (place : ℕ) (bytes : List ℕ) → ((k : ℕ) → slice_index bytes k < 256) →
     u32_at order place bytes < 2 ^ 32
 unfolding u32_at number
-in_word Little place bytes h =
-    let at = byte_from place bytes h in
-    let a = at 0 in let b = at 1 in let c = at 2 in let d = at 3 in
-    omega arith
-in_word Big place bytes h =
-    let at = byte_from place bytes h in
-    let a = at 0 in let b = at 1 in let c = at 2 in let d = at 3 in
-    omega arith
+in_word order place bytes h = grind (arith, byte_from)
 
 pub bits_are : (order : Order) (place : ℕ) (bytes : List ℕ) (n : ℕ) → ((k : ℕ) → slice_index bytes k < 256) →
     has_bits_of (i32_at order place bytes) n ≡ (u32_at order place bytes == n)
 unfolding i32_at has_bits_of
-bits_are order place bytes n h =
-    ap (λ x. x == n) (of_z-to_z w32 (u32_at order place bytes) (in_word order place bytes h))
+bits_are order place bytes n h = grind (arith, in_word)
 
 -- the summary of an image is compared as the words in its bytes
 pub summary_as : (v : Layout) (place : ℕ) (bytes : List ℕ) (right : SummaryCounts) →
     ((k : ℕ) → slice_index bytes k < 256) →
     same_counts (group_summary_at v.order place bytes) right ≡ has_counts v place bytes (group_counts_of right)
-summary_as v place bytes right h = rw (
-  bits_are v.order place bytes right.dirs h,
-  bits_are v.order (place + 4) bytes right.blocks h,
-  bits_are v.order (place + 8) bytes right.inodes h,
-  bits_are v.order (place + 12) bytes right.fragments h,
-) refl
+summary_as v place bytes right h = grind (arith, bits_are)
 
 stretch_as : (v : Layout) (block : List ℕ) (frsum : List ℕ) (k : ℕ) → ((k : ℕ) → slice_index block k < 256) → k < 8 →
     same_frsum_at (map (λ j. i32_at v.order (52 + 4 * j) block) (range_with_len 0 8)) frsum k ≡
     (u32_at v.order (52 + 4 * k) block == slice_index frsum k)
-stretch_as v block frsum k h l =
-    ap (λ x. has_bits_of x (slice_index frsum k))
-    (get_or-map-range_with_len (λ j. i32_at v.order (52 + 4 * j) block) 0 8 k k (pos 0) l (omega arith))
-    ∙ bits_are v.order (52 + 4 * k) block (slice_index frsum k) h
+stretch_as v block frsum k h l = grind (arith, bits_are)
 
 pub sums_as : (v : Layout) (free : ℕ → Bool) (class : ℕ → Class) (c : ℕ) (block : List ℕ) (counts : Counts) →
     ((k : ℕ) → slice_index block k < 256) → AreCounts v free class c counts →
@@ -65,14 +45,7 @@ pub sums_as : (v : Layout) (free : ℕ → Bool) (class : ℕ → Class) (c : �
     counts.frsum k))))
     ≡ has_right_sums v free class c block
 unfolding has_right_sums
-sums_as v free class c block counts h right = rw (
-  bits_are v.order 12 block c h,
-  bits_are v.order 20 block (group_size v c) h,
-  summary_as v 24 block counts.summary h ∙ ap (has_counts v 24 block) right.summary,
-  same_below 8 (λ k. same_frsum_at (map (λ j. i32_at v.order (52 + 4 * j) block) (range_with_len 0 8)) counts.frsum k)
-      (λ k. u32_at v.order (52 + 4 * k) block == right_frsum v free c k)
-      (λ k l. stretch_as v block counts.frsum k h l ∙ ap (λ x. u32_at v.order (52 + 4 * k) block == x) (right.frsum k)),
-) refl
+sums_as v free class c block counts h right = grind (arith, bits_are, same_below, stretch_as)
 
 -- counts of fragments and of inodes are the counts of a group
 pub are_counts : (v : Layout) (free : ℕ → Bool) (class : ℕ → Class) (c : ℕ) (f : FreeCounts) (i : InodeCounts) →

@@ -1,19 +1,17 @@
 -- What words of free fragments add to the counts.
 use Rattle.std.proofs.Common.{◌≡◌, inl, inr, ℕ, zero, suc, ◌+◌, ◌-◌, ◌*◌, ◌%◌, ◌^◌, ◌<◌, ◌≤◌, Bool, true, false, map}
 use Rattle.std.proofs.Common.{arith, refl, ap, ◌∙◌, nat_eq, min, bit_and, ◌/◌, List, count_by, slice_index, ◌==◌, []}
-use Rattle.std.proofs.Common.{◌∷◌, cond, count_ones, replicate, add-zero}
-use Rattle.std.proofs.lemmas.Nat.Bits.{bit_at_and, bit_at-lt, bit_at_ones, bit_at_ones_above, same_from_bits}
-use Rattle.std.proofs.lemmas.Nat.Bits.{bit_at-zero, ones_shr}
-use Rattle.std.proofs.lemmas.Nat.{mul-add-lt, mul-le, div-add-mod'}
-use Rattle.std.proofs.lemmas.Bool.{cases_lt, false_from_ne_true, eqb-true, and_parts, le-ltb}
-use Rattle.std.specs.List.{range_with_len, list_all, sum_by}
-use Rattle.std.{specs.Int.bit_at, specs.Int.div_ceil, proofs.lemmas.Grind.div_ceil_times}
+use Rattle.std.proofs.{Common.{◌∷◌, cond, count_ones, replicate, add-zero}, lemmas.Nat.Bits.{bit_at_and, bit_at-lt}}
+use Rattle.std.proofs.lemmas.Nat.Bits.{bit_at_ones, bit_at_ones_above, same_from_bits, bit_at-zero, ones_shr}
+use Rattle.std.proofs.lemmas.{Nat.{mul-add-lt, mul-le}, Bool.{cases_lt, eqb-true, and_parts, le-ltb}}
+use Rattle.std.{proofs.lemmas.Grind.div_ceil_times, specs.{List.{range_with_len, list_all, sum_by}, Int.bit_at}}
+use Rattle.std.specs.Int.{div_ceil}
 use Rattle.ffs_volume.specs.Groups.Records.{is_free_block, free_stretches, block_bits, right_frsum, group_size}
 use Rattle.ffs_volume.specs.{declared.Layout.Layout, Disk.Areas.cgbase}
-use Rattle.ffs_maps.proofs.WordShifts.{min_one, one_bit, small, bit_shr}
-use Rattle.ffs_maps.proofs.Counting.{sum_split, ones_by, one_on, sum_same}
-use Rattle.ffs_groups.specs.{declared.free.FreeCounts.FreeCounts}
-use Rattle.ffs_groups.specs.Free.{word_bits, whole_in, loose_in, stretches_in, Added, AreFree, free_in}
+use Rattle.ffs_maps.proofs.{WordShifts.{min_one, one_bit, small, bit_shr}, Counting.{sum_split, ones_by, one_on}}
+use Rattle.ffs_maps.proofs.Counting.{sum_same}
+use Rattle.ffs_groups.specs.{declared.free.FreeCounts.FreeCounts, Free.{word_bits, whole_in, loose_in, stretches_in}}
+use Rattle.ffs_groups.specs.Free.{Added, AreFree, free_in}
 pub use Rattle.ffs_maps.proofs.Counting.{sum_const}
 
 -- ---- fragments in a row that are all free, or of which none is
@@ -32,9 +30,7 @@ all_free (suc n) = all_free n
 each_set : (f : ℕ → Bool) (a n k : ℕ) → list_all (λ b. b) (map f (range_with_len a n)) ≡ true → k < n → f (a + k) ≡ true
 each_set f a zero k all h = absurd (omega arith)
 each_set f a (suc n) zero all h = rw (add-zero a) (and_parts (f a) _ all).0
-each_set f a (suc n) (suc k) all h =
-    let at : a + suc k ≡ a + 1 + k = omega arith in
-    rw at (each_set f (a + 1) n k (and_parts (f a) _ all).1 (omega arith))
+each_set f a (suc n) (suc k) all h = grind (arith, each_set f (a + 1) n k (and_parts (f a) _ all).1 (omega arith))
 
 -- a block adds w whole blocks, no other fragments, and no stretches
 abbrev pub Adds : ℕ → List Bool → Type 0
@@ -89,8 +85,7 @@ whole_by_mask word n few e = whole_word word n (rw (small n (omega arith)) at e)
 
 pub not_whole_by_mask : (word n : ℕ) → n ≤ 8 → (bit_and word (1 * 2 ^ n % 2 ^ 64 - 1) ≡ 1 * 2 ^ n % 2 ^ 64 - 1 → ⊥) →
     is_free_block (word_bits word 0 n) ≡ false
-not_whole_by_mask word n few apart =
-    false_from_ne_true _ (λ e. apart (rw (small n (omega arith)) (mask_of word n e)))
+not_whole_by_mask word n few apart = grind (arith, small, mask_of)
 
 pub none_by_mask : (bits n : ℕ) → n ≤ 8 → 0 < n → bit_and bits (1 * 2 ^ n % 2 ^ 64 - 1) ≡ 0 →
     Adds 0 (word_bits bits 0 n)
@@ -163,25 +158,12 @@ blocks_cover n fragments frag some e = let t = div_ceil_times fragments frag som
 
 pub few_blocks : (n fragments frag fpg : ℕ) → 0 < frag → n * frag < fragments + frag → fragments ≤ fpg →
     fpg % frag ≡ 0 → n ≤ fpg / frag
-few_blocks n fragments frag fpg some h within whole = elim (cases_lt (fpg / frag) n) [
-  | inl more ↦ absurd (omega
-      (arith, mul-le (fpg / frag + 1) frag n frag (omega arith) (omega arith), div-add-mod' fpg frag))
-  | inr few ↦ few
-]
+few_blocks n fragments frag fpg some h within whole = grind arith
 
 pub ends_before : (n b fragments frag fpg base next size : ℕ) → 0 < frag → fragments ≤ n * frag → n ≤ b →
     b < fpg / frag → next ≡ base + fpg → fragments ≡ min next size - base →
     size - base ≤ n * frag
-ends_before n b fragments frag fpg base next size some cover from_ below e g =
-    omega (
-      arith,
-      cover,
-      e,
-      g,
-      mul-le n frag b frag from_ (omega arith),
-      mul-le (b + 1) frag (fpg / frag) frag (omega arith) (omega arith),
-      div-add-mod' fpg frag,
-    )
+ends_before n b fragments frag fpg base next size some cover from_ below e g = grind arith
 
 -- what is free in the blocks that the volume has, is free in the group
 pub free_there : (v : Layout) (used : List Bool) (c n fragments : ℕ) (new : FreeCounts) → 0 < v.frag →
@@ -213,13 +195,11 @@ free_there v used c n fragments new some whole is within size blocks frags frsum
 
 pub fits_blocks : (x s n fragments frag size next base : ℕ) → x ≡ s → s ≤ n → 0 < frag → frag ≤ 8 →
     n ≡ div_ceil fragments frag → fragments ≡ min next size - base → size < 2 ^ 31 → x < 2 ^ 32
-fits_blocks x s n fragments frag size next base e h some few is g below =
-    omega (arith, e, h, (blocks_cover n fragments frag some is).1, mul-le n 1 n frag (omega arith) (omega arith), g)
+fits_blocks x s n fragments frag size next base e h some few is g below = grind arith
 
 pub fits_fragments : (x s n fragments frag size next base : ℕ) → x ≡ s → s ≤ n * frag → 0 < frag → frag ≤ 8 →
     n ≡ div_ceil fragments frag → fragments ≡ min next size - base → size < 2 ^ 31 → x < 2 ^ 32
-fits_fragments x s n fragments frag size next base e h some few is g below =
-    omega (arith, e, h, (blocks_cover n fragments frag some is).1, g)
+fits_fragments x s n fragments frag size next base e h some few is g below = grind (arith, blocks_cover)
 
 -- ---- blocks of one fragment: the set bits of a word
 ones_below : (word n : ℕ) → n ≤ 64 → count_ones (bit_and word ((2 ^ 64 - 1) / 2 ^ (64 - n)))
@@ -238,8 +218,7 @@ ones_below word n h =
 
 -- what one fragment adds as a block
 single_adds : (b : Bool) → Adds (cond b 1 0) (b ∷ [])
-single_adds true = (refl, refl, λ j. refl)
-single_adds false = (refl, refl, λ j. refl)
+single_adds b = grind arith
 
 pub added_single : (word frag n : ℕ) (old new : FreeCounts) → frag ≡ 1 → n ≤ 64 →
     new.blocks ≡ old.blocks + count_ones (bit_and word ((2 ^ 64 - 1) / 2 ^ (64 - n))) →

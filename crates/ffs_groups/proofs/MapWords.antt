@@ -1,15 +1,14 @@
 -- The words of a map, read at once or by bytes.
 use Rattle.std.proofs.Common.{◌≡◌, inl, inr, ℕ, zero, suc, ◌+◌, ◌-◌, ◌*◌, ◌/◌, ◌%◌, ◌^◌, ◌<◌, List, drop, slice_index}
 use Rattle.std.proofs.Common.{arith, ap, ◌∙◌, nat_eq, ◌≤◌, Bool, true, false, refl, sym, min, bit_and, bit_or, ◌&&◌}
-use Rattle.std.proofs.lemmas.Bool.{cases_lt, eqb-true, eq-eqb}
-use Rattle.std.proofs.lemmas.Nat.Bits.{bit_at_cat_low, bit_at_cat_high, bit_at_and, bit_at_or, bit_at_xor, bit_at-lt}
-use Rattle.std.proofs.lemmas.Nat.Bits.{bit_at-zero, bit_at_ones, bit_at_ones_above, bit_at_above, same_from_bits}
-use Rattle.std.{proofs.lemmas.Nat.Bits.ones_shr, specs.Int.bit_at, proofs.lemmas.List.get_or-drop}
-use Rattle.std.{specs.Int.RustNames.bit_xor, proofs.lemmas.Bool.Decides.nat_tests}
+use Rattle.std.proofs.lemmas.{Bool.{cases_lt, eqb-true, eq-eqb, Decides.nat_tests}, Nat.Bits.bit_at_cat_low}
+use Rattle.std.proofs.lemmas.Nat.Bits.{bit_at_cat_high, bit_at_and, bit_at_or, bit_at_xor, bit_at-lt, bit_at-zero}
+use Rattle.std.proofs.lemmas.Nat.Bits.{bit_at_ones, bit_at_ones_above, bit_at_above, same_from_bits, ones_shr}
+use Rattle.std.{proofs.lemmas.List.get_or-drop, specs.Int.{bit_at, RustNames.bit_xor}}
 use Rattle.byteorder.specs.Endian.{little_from}
-use Rattle.ffs_volume.specs.{Groups.Records.bit_at as map_bit, Groups.Records.same_bit, Disk.Numbers.all_below}
+use Rattle.ffs_volume.specs.{Groups.Records.{bit_at as map_bit, same_bit}, Disk.Numbers.all_below}
+use Rattle.ffs_volume.proofs.{Below.{all_below-at, all_below-from}, Booleans.both_imply}
 use Rattle.ffs_maps.proofs.WordShifts.{bit_mod, bit_shl_low, bit_shl_high, max_zero, min_zero, zero_max, zero_min}
-use Rattle.ffs_volume.proofs.{Below.all_below-at, Below.all_below-from, Booleans.both_imply}
 
 next : (b rest : ℕ) → b + 256 * rest ≡ rest * 2 ^ 8 + b
 next b rest = omega arith
@@ -72,18 +71,13 @@ byte_high byte word b h fits high k above =
 pub same_below : (n : ℕ) (f g : ℕ → Bool) → ((k : ℕ) → k < n → f k ≡ g k) → all_below n f ≡ all_below n g
 unfolding all_below
 same_below zero f g e = refl
-same_below (suc n) f g e = ap (λ b. b && all_below n f) (e n (omega arith))
-    ∙ ap (λ b. g n && b) (same_below n f g (λ k h. e k (omega arith)))
+same_below (suc n) f g e = grind (arith, same_below n f g (λ k h. e k (omega arith)))
 
 -- the first n, and those after them
 pub all_join : (n m t : ℕ) (test : ℕ → Bool) → t ≡ n + m →
     all_below t test ≡ (all_below n test && all_below m (λ k. test (n + k)))
 unfolding all_below
-all_join n zero t test e = let same : t ≡ n = omega (arith, e) in rw same (both_and (all_below n test))
-  where
-    both_and : (a : Bool) → a ≡ (a && true)
-    both_and true = refl
-    both_and false = refl
+all_join n zero t test e = grind arith
 all_join n (suc m) zero test e = absurd (omega arith)
 all_join n (suc m) (suc t) test e =
     let same : t ≡ n + m = omega (arith, e) in
@@ -148,10 +142,7 @@ same_by_mask a b n h =
 -- ---- a map, word after word
 moved_bit : (block : List ℕ) (place word k : ℕ) →
     map_bit block (place + 8 * word) k ≡ map_bit block place (64 * word + k)
-moved_bit block place word k =
-    let byte : place + 8 * word + k / 8 ≡ place + (64 * word + k) / 8 = omega arith in
-    let bit : k % 8 ≡ (64 * word + k) % 8 = omega arith in
-    rw (byte, bit) refl
+moved_bit block place word k = grind arith
 
 -- the words before this one are right: then the map up to this word's end is as the word is
 word_is : (block : List ℕ) (place n word count found right : ℕ) (bits : ℕ → Bool) → 64 * word < n →

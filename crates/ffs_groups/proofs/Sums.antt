@@ -1,14 +1,11 @@
 -- Sums and counts over numbers in a row, and where all or none of them count.
 use Rattle.std.proofs.Common.{◌≡◌, ℕ, zero, suc, ◌+◌, ◌*◌, ◌<◌, ◌≤◌, Bool, [], map, cond, arith, refl, ap, ◌∙◌}
-use Rattle.std.proofs.Common.{count_by, ◌^◌, ◌-◌, true, false, List, not, inl, inr, sym, nat_eq, max, slice_index}
-use Rattle.std.proofs.Common.{add-zero}
-use Rattle.std.proofs.lemmas.Bool.{cases_lt, lt-ltb, le-ltb, le-leb, lt-leb, false_from_ne_true, true_from_ne_false}
-use Rattle.std.{specs.List.range_with_len, specs.List.sum_by, proofs.lemmas.List.Sums.sum_by-cons}
-use Rattle.std.{proofs.lemmas.Nat.mul-add-lt, specs.Int.bit_at, proofs.lemmas.Nat.Bits.bit_at_ones}
-use Rattle.ffs_volume.specs.Blocks.{Claims.is_set, Inodes.is_allocated, Inodes.is_directory}
-use Rattle.ffs_volume.specs.{Encodings.Kinds.class_of_kind, Groups.Records.is_used_inode, Groups.Records.is_dir_inode}
+use Rattle.std.proofs.Common.{count_by, ◌^◌, ◌-◌, true, false, List, not, inl, inr, sym, nat_eq, max, add-zero}
+use Rattle.std.proofs.lemmas.{Bool.{cases_lt, lt-ltb, false_from_ne_true, true_from_ne_false}, List.Sums.sum_by-cons}
+use Rattle.std.{proofs.lemmas.Nat.{mul-add-lt, Bits.bit_at_ones}, specs.{List.{range_with_len, sum_by}, Int.bit_at}}
+use Rattle.ffs_volume.specs.Blocks.Claims.{is_set}
 use Rattle.ffs_maps.proofs.Counting.{sum_split, count_within, none_counted, one_on}
-use Rattle.ffs_groups.specs.{Free.free_in, Free.bits_from, Inodes.class_in}
+use Rattle.ffs_groups.specs.Free.{free_in, bits_from}
 
 pub sum_more : (f : ℕ → ℕ) (a n : ℕ) → sum_by f (range_with_len a (n + 1)) ≡ sum_by f (range_with_len a n) + f (a + n)
 sum_more f a n = omega (arith, sum_split f a n 1 (n + 1) refl, sum_by-cons f (a + n) [])
@@ -29,9 +26,7 @@ map_same f g a c (suc n) e =
 pub count_more : (p : ℕ → Bool) (a n count r : ℕ) (b : Bool) → count ≡ count_by p (range_with_len a n) →
     r ≡ cond b 1 0 → b ≡ p (a + n) →
     count + r ≡ count_by p (range_with_len a (n + 1))
-count_more p a n count r b e f g =
-    let one : r ≡ cond (p (a + n)) 1 0 = f ∙ ap (λ x. cond x 1 0) g in
-    omega (arith, e, one, sum_more (λ x. cond (p x) 1 0) a n)
+count_more p a n count r b e f g = grind (arith, sum_more)
 
 pub count_fits : (p : ℕ → Bool) (a n m count r : ℕ) (b : Bool) → count ≡ count_by p (range_with_len a n) →
     r ≡ cond b 1 0 → b ≡ p (a + n) → n < m → m < 2 ^ 32 → count + r < 2 ^ 32
@@ -117,21 +112,6 @@ count_from_two p first len start n count low is many e = elim (cases_lt len (sta
         rw at at split,
       )
 ]
-
--- ---- inodes from 2 on
-pub used_by_kind : (kinds : List ℕ) (x : ℕ) → 2 ≤ x →
-    is_used_inode (class_in kinds) x ≡ is_allocated (class_of_kind (slice_index kinds x))
-used_by_kind kinds x h = rw (le-ltb x 2 h) refl
-
-pub dir_by_kind : (kinds : List ℕ) (x : ℕ) → 2 ≤ x →
-    is_dir_inode (class_in kinds) x ≡ is_directory (class_of_kind (slice_index kinds x))
-dir_by_kind kinds x h = rw (le-leb 2 x h) refl
-
-pub no_dir_below : (kinds : List ℕ) (x : ℕ) → x < 2 → is_dir_inode (class_in kinds) x ≡ false
-no_dir_below kinds x h = rw (lt-leb 2 x h) refl
-
-pub none_free_below : (kinds : List ℕ) (x : ℕ) → x < 2 → not (is_used_inode (class_in kinds) x) ≡ false
-none_free_below kinds x h = rw (lt-ltb x 2 h) refl
 
 pub all_bits : (word k : ℕ) → word ≡ 2 ^ 64 - 1 → k < 64 → nat_eq (bit_at word k) 1 ≡ true
 all_bits word k e h = rw (e, bit_at_ones 64 k h) refl

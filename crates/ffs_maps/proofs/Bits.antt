@@ -1,15 +1,14 @@
 -- The bits of a map, by its words: how long the list is, what is at an index, and what is set.
 use Rattle.std.proofs.Common.{◌≡◌, ◌≢◌, inl, inr, ℕ, zero, suc, ◌+◌, ◌*◌, ◌/◌, ◌%◌, ◌^◌, ◌<◌, Bool, true, false, List}
 use Rattle.std.proofs.Common.{length, get_or, nat_eq, slice_set, replicate, bit_or, bit_and, arith, refl, ap, ◌∙◌, sym}
-use Rattle.std.proofs.Common.{length-set, add-zero}
-use Rattle.std.proofs.lemmas.List.{same_lists, get_or-set_other, get_or-set_same, get_or-replicate, length-replicate}
-use Rattle.std.proofs.lemmas.List.FromFn.{length-map-range_with_len, get_or-map-range_with_len}
-use Rattle.std.proofs.lemmas.Nat.Bits.{bit_at_set_same, bit_at_set_other, bit_at_clear_same, bit_at_clear_other}
-use Rattle.std.{proofs.lemmas.Nat.Bits.bit_at-zero, proofs.Math.Nat.ℕ_set, proofs.Math.Path.subst⁻¹, specs.Int.bit_at}
-use Rattle.std.{specs.Int.w64, specs.Int.bit_not, specs.Int.div_ceil, proofs.lemmas.Bool.cases_eq}
+use Rattle.std.proofs.{Common.{length-set, add-zero}, lemmas.List.{same_lists, get_or-set_other, get_or-set_same}}
+use Rattle.std.proofs.lemmas.List.{get_or-replicate, length-replicate, FromFn.length-map-range_with_len}
+use Rattle.std.proofs.lemmas.{List.FromFn.get_or-map-range_with_len, Nat.Bits.{bit_at_set_same, bit_at_set_other}}
+use Rattle.std.proofs.lemmas.{Nat.Bits.{bit_at_clear_same, bit_at_clear_other, bit_at-zero}, Bool.cases_eq}
+use Rattle.std.{proofs.Math.{Nat.ℕ_set, Path.subst⁻¹}, specs.Int.{bit_at, w64, bit_not, div_ceil}}
 use Rattle.ffs_memory.specs.Words.{Words}
-use Rattle.ffs_maps.specs.{declared.FragmentMap.FragmentMap}
-use Rattle.ffs_maps.specs.{Bits.bits_of, Bits.set_run, WordBits.is_bit, WordBits.bits_of_words, WordBits.set_among}
+use Rattle.ffs_maps.specs.{declared.FragmentMap.FragmentMap, Bits.{bits_of, set_run}, WordBits.{is_bit, bits_of_words}}
+use Rattle.ffs_maps.specs.WordBits.{set_among}
 
 pub length_bits : (words : List ℕ) (size : ℕ) → length (bits_of_words words size) ≡ size
 unfolding bits_of_words
@@ -32,10 +31,7 @@ bit_in words size f index k w h at bit is = get_bits words size f false h ∙ rw
 -- words have these bits, where each word's bit is one of them
 pub bits_are : (words : List ℕ) (size : ℕ) (bits : List Bool) → length bits ≡ size →
     ((f : ℕ) (d : Bool) → f < size → is_bit words f ≡ get_or bits f d) → bits_of_words words size ≡ bits
-bits_are words size bits long at =
-    same_lists _ _ (length_bits words size ∙ sym long)
-    (λ f d below. let low : f < size = omega (arith, below, length_bits words size) in
-    get_bits words size f d low ∙ at f d low)
+bits_are words size bits long at = grind (arith, same_lists, length_bits, get_bits)
 
 -- a map with the same words is the same
 pub same_map : (m : FragmentMap) (words : Words) (enough : length words.list ≡ div_ceil m.size 64)
@@ -95,8 +91,7 @@ zeros_at (suc n) zero = refl
 zeros_at (suc n) (suc i) = zeros_at n i
 
 pub zero_bits : (n size : ℕ) → bits_of_words (replicate n 0) size ≡ replicate size false
-zero_bits n size = bits_are (replicate n 0) size (replicate size false) (length-replicate size false)
-    (λ f d low. rw (zeros_at n (f / 64), bit_at-zero (f % 64)) (sym (get_or-replicate size f false d low)))
+zero_bits n size = search (arith, bits_are, length-replicate, zeros_at, bit_at-zero, get_or-replicate)
 
 -- a run is set in two parts
 pub run_join : (bits : List Bool) (start n m t : ℕ) → t ≡ n + m →
@@ -104,5 +99,4 @@ pub run_join : (bits : List Bool) (start n m t : ℕ) → t ≡ n + m →
 run_join bits start zero m t e = let same : t ≡ m = omega (arith, e) in rw (add-zero start, same) refl
 run_join bits start (suc n) m zero e = absurd (omega arith)
 run_join bits start (suc n) m (suc t) e =
-    let at : start + suc n ≡ start + 1 + n = omega arith in
-    rw at (run_join (slice_set bits start true) (start + 1) n m t (omega (arith, e)))
+    grind (arith, run_join (slice_set bits start true) (start + 1) n m t (omega (arith, e)))

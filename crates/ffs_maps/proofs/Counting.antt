@@ -1,18 +1,15 @@
 -- How many bits of a run are set.
 use Rattle.std.proofs.Common.{◌≡◌, inl, inr, ℕ, zero, suc, ◌+◌, ◌-◌, ◌*◌, ◌/◌, ◌%◌, ◌^◌, ◌<◌, ◌≤◌, Bool, false, List}
 use Rattle.std.proofs.Common.{length, cond, map, get_or, bit_and, count_ones, count_by, arith, refl, ap, ◌∙◌, sym, take}
-use Rattle.std.proofs.Common.{drop, add-zero, min}
-use Rattle.std.specs.List.{range_with_len, sum_by, slice_index_or, All}
-use Rattle.std.proofs.lemmas.List.{get_or_past, get_or-drop, get_or-take, length-drop, length-take-le}
-use Rattle.std.proofs.lemmas.List.Sums.{sum_by-cons, count_by-le-length}
-use Rattle.std.proofs.lemmas.List.FromFn.{length-range_with_len, length-map-range_with_len, get_or-map-range_with_len}
-use Rattle.std.proofs.lemmas.Simd.{bit_mask_l, ones-mask_l}
-use Rattle.std.proofs.lemmas.Nat.Bits.{bit_at_and, bit_at-lt, bit_at-zero, bit_at_above, bit_at_ones, bit_at_ones_above}
-use Rattle.std.proofs.lemmas.Nat.Bits.{same_from_bits, ones_shr}
-use Rattle.std.{specs.Int.bit_at, proofs.lemmas.Bool.cases_lt, proofs.lemmas.List.Elements.All-get_or}
+use Rattle.std.proofs.{Common.{drop, add-zero, min}, lemmas.List.{get_or_past, get_or-drop, get_or-take, length-drop}}
+use Rattle.std.proofs.lemmas.List.{length-take-le, Sums.{sum_by-cons, count_by-le-length}, FromFn.length-range_with_len}
+use Rattle.std.proofs.lemmas.List.{FromFn.{length-map-range_with_len, get_or-map-range_with_len}, Elements.All-get_or}
+use Rattle.std.proofs.lemmas.{Simd.{bit_mask_l, ones-mask_l}, Nat.Bits.{bit_at_and, bit_at-lt, bit_at_above}}
+use Rattle.std.proofs.lemmas.{Nat.Bits.{bit_at_ones, bit_at_ones_above, same_from_bits, ones_shr}, Bool.cases_lt}
+use Rattle.std.specs.{List.{range_with_len, sum_by, slice_index_or, All}, Int.bit_at}
 use lib.Lanes.{mask_l}
-use Rattle.ffs_maps.specs.WordBits.{bits_of_words, set_among}
-use Rattle.ffs_maps.proofs.{Bits.get_bits, Bits.bit_in, WordShifts.bit_shr, WordShifts.min_one, WordShifts.one_bit}
+use Rattle.ffs_maps.{specs.WordBits.{bits_of_words, set_among}, proofs.{Bits.{get_bits, bit_in}, WordShifts.bit_shr}}
+use Rattle.ffs_maps.proofs.WordShifts.{min_one, one_bit}
 
 -- the place of the next number
 pub one_on : (a k : ℕ) → a + 1 + k ≡ a + (k + 1)
@@ -23,10 +20,7 @@ pub sum_split : (f : ℕ → ℕ) (a n m t : ℕ) → t ≡ n + m → sum_by f (
     + sum_by f (range_with_len (a + n) m)
 sum_split f a zero m t e = let same : t ≡ m = omega (arith, e) in rw (add-zero a, same) (omega arith)
 sum_split f a (suc n) m zero e = absurd (omega arith)
-sum_split f a (suc n) m (suc t) e =
-    let at : a + suc n ≡ a + 1 + n = omega arith in
-    let rest = sum_split f (a + 1) n m t (omega (arith, e)) in
-    rw at (omega (arith, rest, sum_by-cons f a (range_with_len (a + 1) t), sum_by-cons f a (range_with_len (a + 1) n)))
+sum_split f a (suc n) m (suc t) e = grind (arith, sum_by-cons, sum_split f (a + 1) n m t (omega (arith, e)))
 
 pub sum_same : (f g : ℕ → ℕ) (a c n : ℕ) → ((k : ℕ) → k < n → f (a + k) ≡ g (c + k)) →
     sum_by f (range_with_len a n) ≡ sum_by g (range_with_len c n)
@@ -127,9 +121,7 @@ none_counted p a n none = omega (arith, sum_const (λ j. cond (p j) 1 0) 0 a n (
 pub none_in_zeros : (words : List ℕ) (size a n : ℕ) → a + n ≤ size →
     ((k : ℕ) → k < n → get_or words ((a + k) / 64) 0 ≡ 0) →
     set_among (bits_of_words words size) a n ≡ 0
-none_in_zeros words size a n below zeros =
-    none_counted (λ f. slice_index_or (bits_of_words words size) f false) a n
-    (λ k h. get_bits words size (a + k) false (omega arith) ∙ rw (zeros k h, bit_at-zero ((a + k) % 64)) refl)
+none_in_zeros words size a n below zeros = grind (arith, none_counted, get_bits)
 
 -- some words from one on, each like the first of them, are those of a longer list
 pub alike_touched : (words touched : List ℕ) (size first end : ℕ) → 64 * end ≤ size → first < end →

@@ -1,16 +1,13 @@
 -- A run of bits in one word.
 use Rattle.std.proofs.Common.{◌≡◌, ◌⊎◌, inl, inr, ℕ, zero, suc, ◌+◌, ◌-◌, ◌*◌, ◌/◌, ◌%◌, ◌^◌, ◌<◌, ◌≤◌, Bool, true}
 use Rattle.std.proofs.Common.{false, List, length, get_or, nat_eq, slice_set, bit_or, bit_and, arith, refl, ap, ◌∙◌}
-use Rattle.std.proofs.Common.{sym, length-set, min}
-use Rattle.std.proofs.lemmas.List.{get_or-set_other, get_or-set_same}
-use Rattle.std.proofs.lemmas.Bool.{cases_eq, cases_lt, eqb-false}
-use Rattle.std.proofs.lemmas.Nat.{pow-add, shl_below}
-use Rattle.std.proofs.lemmas.Nat.Bits.{bit_at_or, bit_at_and, bit_at-zero, bit_at-lt, bit_at_mask_inside}
-use Rattle.std.proofs.lemmas.Nat.Bits.{bit_at_mask_below, bit_at_mask_above, ones_shr, same_from_bits}
-use Rattle.std.{specs.Int.bit_at, proofs.Math.Nat.one-le-pow, proofs.Math.Nat.pow-le-pow_right}
-use Rattle.ffs_maps.specs.{Bits.set_run, Bits.AreClear, WordBits.is_bit, WordBits.bits_of_words}
-use Rattle.ffs_maps.proofs.Bits.{length_bits, get_bits, bit_in, bits_are}
-use Rattle.ffs_maps.proofs.WordShifts.{max_zero, min_zero, zero_min}
+use Rattle.std.proofs.{Common.{sym, length-set, min}, lemmas.{List.{get_or-set_other, get_or-set_same}, Bool.cases_eq}}
+use Rattle.std.proofs.lemmas.{Bool.{cases_lt, eqb-false}, Nat.{pow-add, shl_below, Bits.{bit_at_or, bit_at_and}}}
+use Rattle.std.proofs.lemmas.Nat.Bits.{bit_at-zero, bit_at-lt, bit_at_mask_inside, bit_at_mask_below, bit_at_mask_above}
+use Rattle.std.proofs.{lemmas.Nat.Bits.{ones_shr, same_from_bits}, Math.Nat.{one-le-pow, pow-le-pow_right}}
+use Rattle.std.specs.Int.{bit_at}
+use Rattle.ffs_maps.{specs.{Bits.{set_run, AreClear}, WordBits.{is_bit, bits_of_words}}, proofs.Bits.length_bits}
+use Rattle.ffs_maps.proofs.{Bits.{get_bits, bit_in, bits_are}, WordShifts.{min_zero, zero_min}}
 
 -- the mask that the code computes
 abbrev pub mask_of : ℕ → ℕ → ℕ
@@ -125,17 +122,4 @@ pub mark_run : (words : List ℕ) (size start len w : ℕ) → start % 64 + len 
     bits_of_words (slice_set words (start / 64) (bit_or w (mask_of start len))) size
     ≡ set_run (bits_of_words words size) start len
 mark_run words size start len w h below some inside is_w =
-    rw (mask_is start len h)
-    (put_run words size start len (bit_or w (2 ^ (start % 64 + len) - 2 ^ (start % 64))) h below inside
-    (λ i a b.
-    let one : bit_at (bit_or w (2 ^ (start % 64 + len) - 2 ^ (start % 64))) i ≡ 1 = omega (
-      arith,
-      bit_at_or w (2 ^ (start % 64 + len) - 2 ^ (start % 64)) i,
-      bit_at-lt w i,
-      bit_at_mask_inside (start % 64) (start % 64 + len) i a b,
-    ) in
-    rw one refl)
-    (λ i apart. bit_at_or w (2 ^ (start % 64 + len) - 2 ^ (start % 64)) i ∙ max_zero _ _ (elim apart [
-      | inl a ↦ bit_at_mask_below (start % 64) (start % 64 + len) i a
-      | inr b ↦ bit_at_mask_above (start % 64) (start % 64 + len) i b
-    ]) ∙ ap (λ x. bit_at x i) is_w))
+    grind (arith, mask_is, put_run, bit_at_or, bit_at_mask_inside, bit_at_mask_below, bit_at_mask_above)

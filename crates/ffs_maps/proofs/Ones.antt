@@ -1,12 +1,10 @@
 -- How many bits are set, where some of them change.
 use Rattle.std.proofs.Common.{◌≡◌, ◌⊎◌, inl, inr, ℕ, ◌+◌, ◌-◌, ◌<◌, ◌≤◌, Bool, true, false, cond, List, length, get_or}
-use Rattle.std.proofs.Common.{slice_set, not, arith, refl}
-use Rattle.std.proofs.lemmas.List.{get_or-set_other, get_or-set_same}
-use Rattle.std.{specs.List.range_with_len, specs.List.slice_index_or, proofs.lemmas.List.Sums.sum_by-cons}
+use Rattle.std.proofs.{Common.{slice_set, not, arith, refl}, lemmas.List.{get_or-set_other, get_or-set_same}}
+use Rattle.std.{proofs.lemmas.List.Sums.sum_by-cons, specs.List.{range_with_len, slice_index_or}}
 use mir.Val.{bool_byte}
-use Rattle.ffs_maps.specs.{Bits.set_run, Bits.AreClear, WordBits.set_among}
-use Rattle.ffs_maps.proofs.Counting.{sum_split, none_counted, count_within, sum_same, sum_const}
-use Rattle.ffs_maps.proofs.Masks.{run_outside, run_inside}
+use Rattle.ffs_maps.{specs.{Bits.{set_run, AreClear}, WordBits.set_among}, proofs.Counting.{sum_split, none_counted}}
+use Rattle.ffs_maps.proofs.{Counting.{count_within, sum_same, sum_const}, Masks.{run_outside, run_inside}}
 
 -- the bit at an index, as a number
 abbrev is_one : List Bool → ℕ → ℕ
@@ -69,8 +67,7 @@ one_set bits size k b is h =
 
 -- what a test is as a number
 pub one_if : (b : Bool) (n : ℕ) → n ≡ bool_byte b → n ≡ cond b 1 0
-one_if true n e = e
-one_if false n e = e
+one_if b n h = grind arith
 
 -- the number of set bits, where a bit is set
 pub raised : (bits : List Bool) (size k ones n : ℕ) (was : Bool) → length bits ≡ size → k < size →

@@ -1,18 +1,13 @@
 -- Bits that are 0 or 1, and shifts of words by bits.
-use Rattle.std.proofs.Common.{◌≡◌, ℕ, zero, suc, ◌<◌, cond, nat_eq, min, max, arith, refl, inl, inr, ◌+◌, ◌-◌, ◌*◌, ◌/◌}
-use Rattle.std.proofs.Common.{◌%◌, ◌^◌, ◌≤◌, List, get_or, bit_or, bit_and, ap, ◌∙◌, sym, not, add-zero}
-use Rattle.std.proofs.lemmas.Bool.{cases_lt, lt-ltb, le-ltb}
-use Rattle.std.proofs.lemmas.Nat.{div-add-mod', one_shl}
-use Rattle.std.proofs.lemmas.Nat.Bits.{bit_at_or, bit_at_and, bit_at_not, bit_at-zero, bit_at-lt, bit_at_ones}
-use Rattle.std.proofs.lemmas.Nat.Bits.{bit_at_ones_above, bit_at_above, bit_at_cat_low, bit_at_cat_high}
-use Rattle.std.{specs.Int.bit_at, specs.Int.w64, proofs.Math.Nat.one-le-pow}
-use Rattle.ffs_maps.specs.{Bits.is_clear, WordBits.bits_of_words}
-use Rattle.ffs_maps.proofs.Bits.{bit_in}
+use Rattle.std.proofs.Common.{◌≡◌, ℕ, zero, suc, ◌<◌, cond, nat_eq, min, max, arith, refl, ◌+◌, ◌-◌, ◌*◌, ◌/◌, ◌%◌, ◌^◌}
+use Rattle.std.proofs.{Common.{◌≤◌, List, get_or, bit_or, bit_and, ap, ◌∙◌, sym, not, add-zero}, lemmas.Bool.lt-ltb}
+use Rattle.std.proofs.lemmas.Nat.{div-add-mod', one_shl, Bits.{bit_at_or, bit_at_and, bit_at_not, bit_at-zero}}
+use Rattle.std.proofs.lemmas.Nat.Bits.{bit_at-lt, bit_at_ones, bit_at_ones_above, bit_at_above, bit_at_cat_low}
+use Rattle.std.{proofs.{lemmas.Nat.Bits.bit_at_cat_high, Math.Nat.one-le-pow}, specs.Int.{bit_at, w64}}
+use Rattle.ffs_maps.{specs.{Bits.is_clear, WordBits.bits_of_words}, proofs.Bits.bit_in}
 
 pub one_bit : (b : ℕ) → b < 2 → b ≡ cond (nat_eq b 1) 1 0
-one_bit zero h = refl
-one_bit (suc zero) h = refl
-one_bit (suc (suc b)) h = absurd (omega arith)
+one_bit b h = grind arith
 
 pub min_one : (a b : ℕ) → a < 2 → b ≡ 1 → min a b ≡ a
 min_one a b h e = omega arith
@@ -73,16 +68,7 @@ pub clear_in_last : (words : List ℕ) (size index k w : ℕ) → k < 64 → w <
     nat_eq (bit_at (bit_and (2 ^ 64 - 1 - w) (1 * 2 ^ (size - 64 * index) % 2 ^ 64 - 1)) k) 1
     ≡ is_clear (bits_of_words words size) size (64 * index + k)
 clear_in_last words size index k w h fits e within last =
-    rw (small (size - 64 * index) last, bit_at_and (2 ^ 64 - 1 - w) (2 ^ (size - 64 * index) - 1) k)
-    (elim (cases_lt k (size - 64 * index)) [
-      | inl low ↦
-          rw (min_one _ _ (bit_at-lt (2 ^ 64 - 1 - w) k) (bit_at_ones (size - 64 * index) k low))
-          (clear_is words size index k w h fits e (omega arith))
-      | inr past ↦ rw (
-        min_zero (bit_at (2 ^ 64 - 1 - w) k) _ (bit_at_ones_above (size - 64 * index) k past),
-        le-ltb (64 * index + k) size (omega arith),
-      ) refl
-    ])
+    grind (arith, small, bit_at_and, bit_at_ones, clear_is, bit_at_ones_above)
 
 -- two words, put together at a place
 pub joined : (a b low k : ℕ) → a < 2 ^ 64 → low < 64 → k < 64 → k + low < 64 →

@@ -1,5 +1,4 @@
-use Rattle.ffs_volume.specs.Blocks.Owners.{owners_of}
-use Rattle.ffs_volume.specs.Directories.Volumes.{class_at}
+use Rattle.ffs_volume.specs.{Blocks.Owners.owners_of, Directories.Volumes.class_at}
 use Rattle.ffs_certificate.proofs.GroupLaws.{blocks_and_groups}
 use Rattle.ffs_certificate.proofs.blocks_and_groups_are_certified.Goals as goal
 

@@ -1,9 +1,7 @@
-use Rattle.std.proofs.Common.{ap, ◌∙◌, nat_eq}
-use Rattle.std.proofs.Math.Facts.{Fits-lt-pow}
+use Rattle.std.proofs.{Common.{ap, ◌∙◌, nat_eq}, Math.Facts.Fits-lt-pow}
 use Rattle.ffs_volume.specs.Groups.Records.{has_right_magic, has_right_record, maps_fit, has_right_maps, has_counts}
 use Rattle.ffs_maps.specs.Bits.{bits_of}
-use Rattle.ffs_groups.specs.{Check.same_counts, Free.free_in, Inodes.class_in}
-use Rattle.ffs_groups.proofs.Checks.{sums_as, summary_as}
+use Rattle.ffs_groups.{specs.{Check.same_counts, Free.free_in, Inodes.class_in}, proofs.Checks.{sums_as, summary_as}}
 use Rattle.ffs_groups.proofs.check.compare_group.Goals as goal
 
 pub returns : goal.returns

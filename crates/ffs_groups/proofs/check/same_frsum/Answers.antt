@@ -1,6 +1,5 @@
-use Rattle.std.proofs.Common.{rules, arith, refl, sym, ◌≡◌, true, false}
-use Rattle.ffs_volume.specs.{Disk.Numbers.all_below}
-use Rattle.ffs_volume.proofs.Below.{all_below-fails, all_below-more}
+use Rattle.std.proofs.Common.{rules, arith, refl, sym, ◌≡◌, false}
+use Rattle.ffs_volume.{specs.Disk.Numbers.all_below, proofs.Below.{all_below-fails, all_below-more}}
 use Rattle.ffs_groups.specs.Check.{has_bits_of, same_frsum_at}
 use Rattle.ffs_groups.proofs.check.same_frsum.Goals as goal
 
@@ -17,7 +16,4 @@ returns-then-from-right c =
 
 pub loop-length-preserved : goal.loop-length-preserved
 unfolding has_bits_of
-loop-length-preserved c =
-    let agree : same_frsum_at c.args.found.now c.args.right.now c.loop-length.length ≡ true = search (rules, arith) in
-    all_below-more c.loop-length.length (λ k. same_frsum_at c.args.found.now c.args.right.now k)
-    c.loop-length.invariant agree
+loop-length-preserved c = grind (arith, all_below-more)

@@ -4,10 +4,7 @@ use Rattle.ffs_groups.proofs.Sums.{all_free, none_free}
 use Rattle.ffs_groups.proofs.free.are_free.Goals as goal
 
 pub returns-then-count-eq0 : goal.returns-then-count-eq0
-returns-then-count-eq0 c = λ k h.
-    all_free (bits_of c.args.used.now) c.args.used.now.size c.args.start (c.args.end - c.args.start)
-    c.count-count.result k
-    (omega (arith, c.requires.below, c.requires.order)) c.count-count.ensures c.if-count-eq0.true h
+returns-then-count-eq0 c = grind (arith, all_free)
 
 pub returns-then-count-end : goal.returns-then-count-end
 returns-then-count-end c = λ k h.

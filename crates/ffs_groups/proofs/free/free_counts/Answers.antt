@@ -32,25 +32,6 @@ add_blocks-requires c =
           (omega (arith, c.loop-block.auto.block-fits));
     }
 
-pub overflow_mul-from : goal.overflow_mul-from
-overflow_mul-from c =
-    omega (
-      arith,
-      mul-le c.from.result c.from-in-loop-block.result (2 ^ 32) 8
-          (omega (arith, c.from.ensures, c.loop-block.auto.block-fits))
-          (omega (arith, c.from-in-loop-block.ensures, c.args.geometry.now.sound.sizes.frag_high)),
-    )
-
-pub overflow_add-base : goal.overflow_add-base
-overflow_add-base c =
-    omega (
-      arith,
-      c.from-base.ensures,
-      mul-le c.from.result c.from-in-loop-block.result (2 ^ 32) 8
-          (omega (arith, c.from.ensures, c.loop-block.auto.block-fits))
-          (omega (arith, c.from-in-loop-block.ensures, c.args.geometry.now.sound.sizes.frag_high)),
-    )
-
 pub loop-block-preserved : goal.loop-block-preserved
 loop-block-preserved c =
     let frag = c.args.geometry.now.layout.frag in

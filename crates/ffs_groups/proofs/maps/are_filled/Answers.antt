@@ -1,6 +1,5 @@
-use Rattle.std.proofs.Common.{arith, refl, ap, sym, nat_eq, ◌∙◌, ◌≡◌, ◌+◌, ◌*◌, ◌&&◌}
-use Rattle.std.specs.Int.{bit_at}
-use Rattle.ffs_volume.specs.{Groups.Records.bit_at as map_bit, Groups.Records.same_bit, Groups.Records.has_bits}
+use Rattle.std.{proofs.Common.{arith, refl, ap, sym, nat_eq, ◌∙◌, ◌≡◌, ◌+◌, ◌*◌, ◌&&◌}, specs.Int.bit_at}
+use Rattle.ffs_volume.specs.Groups.Records.{bit_at as map_bit, same_bit, has_bits}
 use Rattle.ffs_groups.proofs.MapWords.{map_parts, none_below, same_below}
 use Rattle.ffs_groups.proofs.maps.are_filled.Goals as goal
 

@@ -1,9 +1,8 @@
 use Rattle.std.proofs.Common.{arith, rules, refl, ap, sym, ◌∙◌, ◌≡◌, ◌+◌, ◌*◌, ◌/◌, ◌%◌, nat_eq, true, false, ◌&&◌}
 use Rattle.std.specs.Int.{bit_at}
-use Rattle.ffs_volume.specs.{Groups.Records.bit_at as map_bit, Groups.Records.has_bits, Groups.Records.same_bit}
+use Rattle.ffs_volume.specs.Groups.Records.{bit_at as map_bit, has_bits, same_bit}
 use Rattle.ffs_maps.specs.Bits.{bits_of}
-use Rattle.ffs_groups.specs.Free.{free_in}
-use Rattle.ffs_groups.proofs.{Adding.fragment_map, MapWords.same_below}
+use Rattle.ffs_groups.{specs.Free.free_in, proofs.{Adding.fragment_map, MapWords.same_below}}
 use Rattle.ffs_groups.proofs.maps.same_fragment_map.Goals as goal
 
 pub returns-then-not-same_stretches : goal.returns-then-not-same_stretches

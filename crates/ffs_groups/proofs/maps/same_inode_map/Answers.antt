@@ -1,13 +1,10 @@
-use Rattle.std.proofs.Common.{arith, rules, ◌∙◌, sym, ◌≡◌, ◌+◌, ◌*◌, ◌-◌, ◌<◌, true, false}
-use Rattle.ffs_volume.specs.Groups.Records.{bit_at as map_bit, same_bit, is_used_inode}
-use Rattle.ffs_groups.specs.Inodes.{class_in}
-use Rattle.ffs_groups.proofs.MapWords.{map_word, map_begins, moved_in}
+use Rattle.std.proofs.Common.{arith, rules, ◌∙◌, sym, ◌≡◌, ◌+◌, ◌*◌, ◌<◌, true, false}
+use Rattle.ffs_volume.specs.Groups.Records.{is_used_inode}
+use Rattle.ffs_groups.{specs.Inodes.class_in, proofs.MapWords.{map_word, map_begins, moved_in}}
 use Rattle.ffs_groups.proofs.maps.same_inode_map.Goals as goal
 
 pub loop-word-init : goal.loop-word-init
-loop-word-init c = map_begins c.args.geometry.now.layout.ipg
-    (λ k. same_bit (map_bit c.args.block.now c.args.place k)
-    (is_used_inode (class_in c.args.kinds.now) (c.args.group * c.args.geometry.now.layout.ipg + k)))
+loop-word-init c = grind (arith, map_begins)
 
 pub returns-then-not-same_bits : goal.returns-then-not-same_bits
 returns-then-not-same_bits c =

@@ -1,16 +1,11 @@
 use Rattle.std.proofs.Common.{ℕ, Bool, List, refl, arith, rules, ◌≡◌, ◌+◌, ◌*◌, ◌∙◌, sym, true, false}
-use Rattle.ffs_volume.specs.{Groups.Records.bit_at as map_bit, Groups.Records.same_bit, Groups.Records.has_bits}
+use Rattle.ffs_volume.specs.Groups.Records.{bit_at as map_bit, same_bit, has_bits}
 use Rattle.ffs_maps.specs.Bits.{bits_of}
-use Rattle.ffs_groups.specs.Free.{free_in}
-use Rattle.ffs_groups.proofs.MapWords.{all_fails, map_parts, none_below}
+use Rattle.ffs_groups.{specs.Free.free_in, proofs.MapWords.{all_fails, map_parts, none_below}}
 use Rattle.ffs_groups.proofs.maps.same_stretches.Goals as goal
 
 pub loop-word-init : goal.loop-word-init
-loop-word-init c = record {
-  same = none_below (λ k. same_bit (map_bit c.args.block.now c.args.place k)
-      (free_in (bits_of c.args.used.now) c.args.used.now.size (c.args.base + k)));
-  within = omega arith;
-}
+loop-word-init c = grind (arith, none_below)
 
 -- where some words are right, and some more are asked about
 more : (free : ℕ → Bool) (block : List ℕ) (place base word some : ℕ) (same : Bool) →
@@ -41,8 +36,3 @@ loop-word-preserved c =
           c.loop-word.invariant.same c.same_stretch.ensures ∙ agree;
       within = omega (arith, c.min-some.ensures);
     }
-
-pub returns : goal.returns
-returns c =
-    let end : c.loop-word.word ≡ c.args.words = omega (arith, c.loop-word.invariant.within, c.loop-word-test.false) in
-    rw end at (sym c.loop-word.invariant.same)

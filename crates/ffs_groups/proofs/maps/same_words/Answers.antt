@@ -1,14 +1,10 @@
-use Rattle.std.proofs.Common.{ap, arith, rules, ◌∙◌, sym, ◌≡◌, ◌+◌, ◌*◌, ◌-◌, true, false}
-use Rattle.ffs_volume.specs.{Groups.Records.bit_at as map_bit, Groups.Records.same_bit}
+use Rattle.std.proofs.Common.{ap, arith, rules, ◌∙◌, sym, ◌≡◌, ◌+◌, ◌*◌, true, false}
 use Rattle.ffs_maps.specs.Bits.{bits_of}
-use Rattle.ffs_groups.specs.Free.{free_in}
-use Rattle.ffs_groups.proofs.MapWords.{map_word, map_begins}
+use Rattle.ffs_groups.{specs.Free.free_in, proofs.MapWords.{map_word, map_begins}}
 use Rattle.ffs_groups.proofs.maps.same_words.Goals as goal
 
 pub loop-word-init : goal.loop-word-init
-loop-word-init c = map_begins (64 * c.args.words)
-    (λ k. same_bit (map_bit c.args.block.now c.args.place k)
-    (free_in (bits_of c.args.used.now) c.args.used.now.size (c.args.base + k)))
+loop-word-init c = grind (arith, map_begins)
 
 pub returns-then-not-same_bits : goal.returns-then-not-same_bits
 returns-then-not-same_bits c =

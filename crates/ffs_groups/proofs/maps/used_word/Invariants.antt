@@ -1,6 +1,5 @@
-use Rattle.std.proofs.Common.{ℕ, ◌≡◌, ◌+◌, ◌<◌, ◌≤◌, nat_eq}
-use Rattle.std.specs.Int.{bit_at}
-use Rattle.ffs_volume.specs.{Groups.Records.is_used_inode}
+use Rattle.std.{proofs.Common.{ℕ, ◌≡◌, ◌+◌, ◌<◌, ◌≤◌, nat_eq}, specs.Int.bit_at}
+use Rattle.ffs_volume.specs.Groups.Records.{is_used_inode}
 use Rattle.ffs_groups.specs.Inodes.{class_in}
 use Rattle.ffs_groups.proofs.maps.used_word.Given as goal
 

@@ -1,6 +1,5 @@
-use Rattle.std.proofs.Common.{ℕ, ◌≡◌, ◌*◌, ◌<◌, ◌≤◌, nat_eq}
-use Rattle.std.specs.Int.{bit_at}
-use Rattle.ffs_volume.specs.{Groups.Records.bit_at as map_bit}
+use Rattle.std.{proofs.Common.{ℕ, ◌≡◌, ◌*◌, ◌<◌, ◌≤◌, nat_eq}, specs.Int.bit_at}
+use Rattle.ffs_volume.specs.Groups.Records.{bit_at as map_bit}
 use Rattle.ffs_groups.proofs.maps.word_at.Given as goal
 
 abbrev pub invariant-loop-byte : goal.invariant-loop-byte

@@ -1,18 +1,15 @@
-use Rattle.std.proofs.Common.{◌≡◌, ◌<◌, ◌≤◌, ◌+◌, ◌-◌, ◌/◌, ◌%◌, ◌∙◌, ℕ, arith, refl, ap, sym, length, length-set}
+use Rattle.std.proofs.Common.{◌≡◌, ◌<◌, ◌≤◌, ◌+◌, ◌/◌, ◌%◌, ◌∙◌, ℕ, arith, refl, ap, sym, length, length-set}
 use Rattle.std.proofs.Common.{true≢false}
 use Rattle.ffs_memory.specs.Words.{Words, with_bits}
-use Rattle.ffs_maps.specs.{declared.FragmentMap.FragmentMap}
-use Rattle.ffs_maps.specs.{Bits.AreClear, Bits.bits_of, Bits.set_run, WordBits.bits_of_words, WordBits.set_among}
-use Rattle.ffs_maps.proofs.Masks.{clear_run, mark_run, mask_of, run_clear}
-use Rattle.ffs_maps.proofs.{Bits.bits_long, Bits.same_map, Ones.few_among, Ones.none_among, Ones.run_raised}
+use Rattle.ffs_maps.specs.{declared.FragmentMap.FragmentMap, Bits.{AreClear, bits_of, set_run}, WordBits.bits_of_words}
+use Rattle.ffs_maps.{specs.WordBits.set_among, proofs.{Masks.{clear_run, mark_run, mask_of, run_clear}, Bits.bits_long}}
+use Rattle.ffs_maps.proofs.{Bits.same_map, Ones.{few_among, none_among, run_raised}}
 use Rattle.ffs_maps.proofs.FragmentMap.claim.Goals as goal
 
 bits_now : (m : FragmentMap) (new : Words) (start len : ℕ) → start % 64 + len ≤ 64 → start + len ≤ m.size → 0 < len →
     new ≡ with_bits m.words (start / 64) (mask_of start len) →
     bits_of_words new.list m.size ≡ set_run (bits_of m) start len
-bits_now m new start len fits below some is =
-    ap (λ ws. bits_of_words ws.list m.size) is
-    ∙ mark_run m.words.list m.size start len _ fits below some (omega (arith, m.enough, below, some)) refl
+bits_now m new start len fits below some is = grind (arith, mark_run)
 
 -- the number of set bits, where a clear run is set
 raised : (m : FragmentMap) (start len : ℕ) → start + len ≤ m.size → AreClear (bits_of m) start len →
@@ -60,16 +57,4 @@ invariant_of-self-2 c =
     }
 
 pub returns : goal.returns
-returns c =
-    let m = c.args.self.now in
-    let fits : c.args.start % 64 + c.args.len ≤ 64 = omega (arith, c.if-len-low.false) in
-    let clear = clear_run m.words.list m.size c.args.start c.args.len fits c.requires.below
-    (c.claim.ensures.clear.0 c.if-not-claim.false) in
-    record {
-      size = refl;
-      clear = λ yes_. clear;
-      claimed = λ yes_. bits_now m c.claim.new.self c.args.start c.args.len fits c.requires.below c.requires.some
-          (c.claim.ensures.claimed c.if-not-claim.false);
-      kept = λ no. absurd (true≢false no);
-      one_word = λ fits clear. refl;
-    }
+returns c = grind (arith, clear_run, bits_now)

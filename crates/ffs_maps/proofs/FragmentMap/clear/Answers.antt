@@ -1,4 +1,4 @@
-use Rattle.std.proofs.Common.{ℕ, arith, refl, ap, ◌∙◌, length, length-set}
+use Rattle.std.proofs.Common.{ℕ, arith, ap, ◌∙◌, length, length-set}
 use Rattle.ffs_maps.specs.{Bits.bits_of, WordBits.bits_of_words, WordBits.set_among}
 use Rattle.ffs_maps.proofs.{Bits.bits_long, Bits.clear_bits, Ones.lowered}
 use Rattle.ffs_maps.proofs.FragmentMap.clear.Goals as goal
@@ -29,11 +29,4 @@ invariant_of-self c =
     }
 
 pub returns : goal.returns
-returns c =
-    let m = c.args.self.now in
-    record {
-      size = refl;
-      bits = ap (λ ws. bits_of_words ws.list m.size) c.set.ensures
-          ∙ clear_bits m.words.list m.size c.args.fragment c.get-word.result c.requires (omega (arith, m.enough))
-          c.get-word.ensures;
-    }
+returns c = grind (arith, clear_bits)

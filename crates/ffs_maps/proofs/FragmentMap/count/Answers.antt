@@ -1,22 +1,12 @@
-use Rattle.std.proofs.Common.{arith, ℕ, ◌-◌, ◌*◌, ◌/◌, false}
-use Rattle.std.specs.List.{slice_index_or}
-use Rattle.ffs_maps.specs.Bits.{bits_of}
-use Rattle.ffs_maps.proofs.Counting.{count_join_at, count_within}
+use Rattle.std.{proofs.Common.{arith, ℕ, ◌-◌, ◌*◌, ◌/◌, false}, specs.List.slice_index_or}
+use Rattle.ffs_maps.{specs.Bits.bits_of, proofs.Counting.{count_join_at, count_within}}
 use Rattle.ffs_maps.proofs.FragmentMap.count.Goals as goal
 
 pub overflow_add-result : goal.overflow_add-result
-overflow_add-result c = let first = c.div_ceil-first.ensures in
-    omega (arith, count_within, c.count_in_word-before.ensures, c.count_in_words-words.ensures)
+overflow_add-result c = grind (arith, count_within)
 
 pub overflow_add-result-2 : goal.overflow_add-result-2
-overflow_add-result-2 c = omega (
-  arith,
-  c.count_in_word-before.ensures,
-  c.count_in_words-words.ensures,
-  c.count_in_word-2.ensures,
-  c.div_ceil-first.ensures,
-  count_within,
-)
+overflow_add-result-2 c = grind (arith, count_within)
 
 pub returns : goal.returns
 returns c =

@@ -1,24 +1,10 @@
-use Rattle.std.proofs.Common.{arith, rules, ◌<◌, ◌+◌, ◌*◌, ◌-◌, ◌^◌, sym, get_or, false}
-use Rattle.std.specs.List.{slice_index_or}
-use Rattle.ffs_maps.specs.Bits.{bits_of}
-use Rattle.ffs_maps.proofs.Counting.{count_join_at, alike_touched, count_within, count_ends, ones_of_word}
+use Rattle.std.{proofs.Common.{arith, rules, ◌<◌, ◌+◌, ◌*◌, ◌-◌, ◌^◌, sym, get_or, false}, specs.List.slice_index_or}
+use Rattle.ffs_maps.{specs.Bits.bits_of, proofs.Counting.{count_join_at, alike_touched, count_within, count_ends}}
+use Rattle.ffs_maps.proofs.Counting.{ones_of_word}
 use Rattle.ffs_maps.proofs.FragmentMap.count_in_words.Goals as goal
 
 pub overflow_mul-result : goal.overflow_mul-result
-overflow_mul-result c =
-    let m = c.args.self.now in
-    let words = c.touched-words.result.now in
-    let fits : get_or words c.args.first 0 < 2 ^ 64 = search rules in
-    omega (
-      arith,
-      alike_touched m.words.list words m.size c.args.first c.min-end.result
-          (omega (arith, c.min-end.ensures, c.requires.below)) c.if-start-end.true (omega (arith, c.min-end.ensures))
-          fits c.touched-words.ensures.words (c.are_alike.ensures.0 c.if-are_alike.true),
-      count_within (λ f. slice_index_or (bits_of m) f false) (64 * c.args.first)
-          (64 * c.min-end.result - 64 * c.args.first),
-      c.min-end.ensures,
-      c.ranges.last,
-    )
+overflow_mul-result c = grind (arith, alike_touched, count_within)
 
 pub returns-then-are_alike : goal.returns-then-are_alike
 returns-then-are_alike c =

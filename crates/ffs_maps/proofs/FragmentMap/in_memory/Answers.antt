@@ -1,7 +1,6 @@
-use Rattle.std.proofs.Common.{◌+◌, ℕ, arith, ap, refl, sym, ◌∙◌, false, length, replicate}
-use Rattle.std.proofs.lemmas.List.{get_or-replicate, length-replicate}
-use Rattle.ffs_maps.specs.WordBits.{bits_of_words, set_among}
-use Rattle.ffs_maps.proofs.{Bits.zero_bits, Ones.none_among}
+use Rattle.std.proofs.{Common.{◌+◌, ℕ, arith, ap, sym, ◌∙◌, false, length, replicate}, lemmas.List.get_or-replicate}
+use Rattle.std.proofs.lemmas.List.{length-replicate}
+use Rattle.ffs_maps.{specs.WordBits.{bits_of_words, set_among}, proofs.{Bits.zero_bits, Ones.none_among}}
 use Rattle.ffs_maps.proofs.FragmentMap.in_memory.Goals as goal
 
 pub invariant_of-result : goal.invariant_of-result
@@ -14,7 +13,4 @@ invariant_of-result g c = record {
 }
 
 pub returns-clause-made : goal.returns-clause-made
-returns-clause-made g c = record {
-  size = refl;
-  bits = ap (λ xs. bits_of_words xs c.args.size) c.in_ok-words.ensures.zeros ∙ zero_bits _ c.args.size;
-}
+returns-clause-made g c = grind (arith, zero_bits)

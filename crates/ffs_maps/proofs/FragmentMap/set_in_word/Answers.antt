@@ -1,11 +1,10 @@
-use Rattle.std.proofs.Common.{◌-◌, ℕ, arith, refl, ap, sym, ◌∙◌, length, length-set}
+use Rattle.std.proofs.Common.{ℕ, arith, ap, sym, ◌∙◌, length, length-set}
 use Rattle.ffs_maps.specs.{Bits.bits_of, Bits.set_run, WordBits.bits_of_words, WordBits.set_among}
 use Rattle.ffs_maps.proofs.{Bits.bits_long, Masks.mark_run, Ones.few_among, Ones.run_raised}
 use Rattle.ffs_maps.proofs.FragmentMap.set_in_word.Goals as goal
 
 pub overflow_sub-self : goal.overflow_sub-self
-overflow_sub-self c =
-    omega (arith, c.count_in_word.ensures, few_among (bits_of c.args.self.now) c.args.start c.args.len)
+overflow_sub-self c = search (arith, few_among)
 
 pub overflow_add-self : goal.overflow_add-self
 overflow_add-self c =
@@ -31,11 +30,4 @@ invariant_of-self c =
     }
 
 pub returns : goal.returns
-returns c =
-    let m = c.args.self.now in
-    record {
-      size = refl;
-      bits = ap (λ ws. bits_of_words ws.list m.size) c.set.ensures
-          ∙ mark_run m.words.list m.size c.args.start c.args.len c.get-word.result c.requires.one_word c.requires.below
-          c.requires.some (omega (arith, m.enough, c.requires.below, c.requires.some)) c.get-word.ensures;
-    }
+returns c = grind (arith, mark_run)

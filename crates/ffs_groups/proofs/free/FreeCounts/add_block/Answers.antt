@@ -3,22 +3,10 @@ use Rattle.ffs_groups.proofs.FreeWords.{whole_by_mask, not_whole_by_mask, none_b
 use Rattle.ffs_groups.proofs.free.FreeCounts.add_block.Goals as goal
 
 pub returns-then-free-full : goal.returns-then-free-full
-returns-then-free-full c =
-    let whole = whole_by_mask c.args.bits c.args.frag c.requires.few c.if-free-full.true in
-    record {
-      blocks = rw whole (omega arith);
-      fragments = rw whole (omega arith);
-      frsum = λ k. rw whole (omega arith);
-    }
+returns-then-free-full c = grind (arith, whole_by_mask)
 
 pub returns-then-free-ne0 : goal.returns-then-free-ne0
-returns-then-free-ne0 c =
-    let loose = not_whole_by_mask c.args.bits c.args.frag c.requires.few c.if-free-full.false in
-    record {
-      blocks = rw loose c.add_loose.ensures.blocks;
-      fragments = rw loose c.add_loose.ensures.fragments;
-      frsum = λ k. rw loose (c.add_loose.ensures.frsum k);
-    }
+returns-then-free-ne0 c = grind (arith, not_whole_by_mask)
 
 pub returns-else-free-ne0 : goal.returns-else-free-ne0
 returns-else-free-ne0 c =

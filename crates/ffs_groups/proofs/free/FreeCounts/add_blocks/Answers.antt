@@ -4,12 +4,6 @@ use Rattle.ffs_groups.specs.Free.{bits_from, free_in}
 use Rattle.ffs_groups.proofs.{FreeWords.adds_all, FreeWords.adds_none, FreeWords.added_by, Sums.in_block}
 use Rattle.ffs_groups.proofs.free.FreeCounts.add_blocks.Goals as goal
 
-pub overflow_cast-start : goal.overflow_cast-start
-overflow_cast-start c = omega (arith, c.from-3.ensures)
-
-pub overflow_cast-end : goal.overflow_cast-end
-overflow_cast-end c = omega (arith, c.from-3.ensures)
-
 pub returns-in-Some-true : goal.returns-in-Some-true
 returns-in-Some-true c =
     let free = free_in (bits_of c.args.used.now) c.args.used.now.size in

@@ -5,17 +5,7 @@ use Rattle.ffs_groups.proofs.free.FreeCounts.add_loose.Goals.{then-bits-index-eq
 use Rattle.ffs_groups.proofs.free.FreeCounts.add_loose.Goals as goal
 
 pub overflow_add-self : goal.overflow_add-self
-overflow_add-self c =
-    let left : c.args.frag - c.loop-index.index ≡ c.args.frag - (c.loop-index.index + 1) + 1 = omega arith in
-    omega (
-      arith,
-      c.loop-index.invariant.fragments,
-      free_next c.args.bits c.loop-index.index (c.args.frag - c.loop-index.index)
-          (c.args.frag - (c.loop-index.index + 1)) left
-          (bit_set c.args.bits c.loop-index.index c.if-bits-index-eq1.true),
-      free_within c.args.bits c.args.frag,
-      c.requires.below.fragments,
-    )
+overflow_add-self c = grind (arith, free_within)
 
 pub end_stretch-requires-clause-below : goal.end_stretch-requires-clause-below
 end_stretch-requires-clause-below c =

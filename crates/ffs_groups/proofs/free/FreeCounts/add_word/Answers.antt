@@ -1,6 +1,5 @@
 use Rattle.std.proofs.Common.{arith, refl, ap, ◌≡◌, ◌+◌, ◌*◌, ◌/◌, ◌^◌, ◌≤◌}
-use Rattle.ffs_groups.specs.Free.{word_bits}
-use Rattle.ffs_groups.proofs.Adding.{length_bits, added_more, added_below}
+use Rattle.ffs_groups.{specs.Free.word_bits, proofs.Adding.{length_bits, added_more, added_below}}
 use Rattle.ffs_groups.proofs.FreeWords.{zero_word, full_word, added_single}
 use Rattle.ffs_groups.proofs.free.FreeCounts.add_word.Goals as goal
 
@@ -19,10 +18,7 @@ add_block-requires c =
     }
 
 pub loop-block-preserved : goal.loop-block-preserved
-loop-block-preserved c =
-    added_more (λ b. word_bits (c.args.word / 2 ^ (b * c.args.frag)) 0 c.args.frag) c.loop-block.block c.args.self.now
-    c.loop-block.self c.add_block.new.self c.loop-block.invariant
-    c.add_block.ensures.blocks c.add_block.ensures.fragments c.add_block.ensures.frsum
+loop-block-preserved c = search (arith, added_more)
 
 pub returns : goal.returns
 returns c = let all : c.loop-block.block ≡ c.args.blocks = omega arith in rw all at c.loop-block.invariant

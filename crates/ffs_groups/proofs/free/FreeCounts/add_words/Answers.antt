@@ -1,4 +1,4 @@
-use Rattle.std.proofs.Common.{ap, arith, refl, ◌∙◌, ◌≡◌, ◌≤◌, ◌+◌, ◌*◌, ◌/◌, ◌^◌}
+use Rattle.std.proofs.Common.{ap, arith, refl, ◌∙◌, ◌≤◌, ◌+◌, ◌*◌, ◌/◌, ◌^◌}
 use Rattle.std.proofs.lemmas.List.FromFn.{length-map-range_with_len}
 use Rattle.ffs_maps.specs.Bits.{bits_of}
 use Rattle.ffs_groups.specs.Free.{word_bits, bits_from, free_in}
@@ -38,9 +38,3 @@ loop-block-preserved c =
           h (word_fits c.min-some.result c.args.frag some));
       within = omega (arith, c.min-some.ensures);
     }
-
-pub returns : goal.returns
-returns c =
-    let end : c.loop-block.block ≡ c.args.blocks =
-    omega (arith, c.loop-block.invariant.within, c.loop-block-test.false) in
-    rw end at c.loop-block.invariant.added
