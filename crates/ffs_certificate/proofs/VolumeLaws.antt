@@ -55,9 +55,6 @@ all_kept v image r x low high =
     kept_at v image (no_claims v) 2 (v.ncg * v.ipg - 2) (x - 2) x (omega arith) (omega arith)
     (owners_from v (reserved_map v) (owners_of v image) (right_quiet v (owners_of v image) r))
 
-whole_known : (c : Class) → is_right_class c ≡ true → is_unknown c ≡ false
-whole_known c h = grind arith
-
 -- no inode is marked
 pub none_marked : (v : Layout) (image : List ℕ) → BlocksRight v (owners_of v image) → (x : ℕ) → 2 ≤ x →
     x < v.ncg * v.ipg → is_marked v image x ≡ false

@@ -25,9 +25,6 @@ pub claims_then : {u v w : Workspace} → SameClaims u v → SameClaims v w → 
 claims_then p q = grind arith
 
 -- the windows are no part of it
-pub found_still : {u w : Workspace} {windows : Windows} → SameFound u w → SameFound u (record w { windows = windows })
-found_still p = search rules
-
 pub claims_still : {u w : Workspace} {windows : Windows} → SameClaims u w →
     SameClaims u (record w { windows = windows })
 claims_still p = search rules

@@ -62,11 +62,11 @@ sees_next {u = u} g begun made only_data uncut m =
     let seen = seen_bound u made uncut m in
     grind arith
 
--- ---- where the claiming of its steps is, while it goes on
+-- ---- where the claiming of its steps is, before it ends
 abbrev pub Claiming : Layout → Device → Device → Workspace → Workspace → DataArea → Type 0
 Claiming v d0 d u w area = StepsLeave {T = Unit {0}} v d0 d u w area (Ok tt)
 
--- nothing is claimed yet, a walk went on to its next step, and something was claimed
+-- nothing is claimed yet, a walk took its next step, and something was claimed
 pub claiming_none : {v : Layout} {d : Device} {w : Workspace} {area : DataArea} → CanClaim v d w area →
     Claiming v d d w w area
 claiming_none {w = w} can = let few = used_below can.ready.made in let same = found_none w in grind arith

@@ -25,7 +25,7 @@ image_over old new (Ok x) h = same_over h
 image_over old new (Err (Read fault)) h = record { lent = h.lent; contents = h.contents; size = h.size }
 image_over old new (Err (Out fault)) h = same_over h
 
--- where no read was refused, the answer tells of the image below
+-- where no read was refused, the answer is that of the image below
 image_through : {T : Type 0} {lent below : Device} {name_lent name : GName} {reads reads' left asked : ℕ}
     {limit : Option ℕ} {spent : Bool} {above above' : Device} (r : Result T RunFault) →
     GivesBack lent below name_lent name reads reads' limit left asked spent above above' → spent ≡ false →

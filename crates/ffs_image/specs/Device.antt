@@ -5,7 +5,7 @@ use Rattle.std.specs.Prelude.{◌≡◌, ℕ, ◌+◌, ◌-◌, ◌^◌, min, Li
 -- an image as it was lent to another one, which lies over it: the reference to it, how often that
 -- one reads it at most, if its reads are limited, how many it had counted, how many had failed, and
 -- the sector of the last one that did
-pub record Lent : Type 0 where
+pub record LentImage : Type 0 where
   pub image : GName
   pub limit : Option ℕ
   pub reads : ℕ
@@ -20,7 +20,7 @@ pub record Device : Type 0 where
   pub size : ℕ
   pub failures : ℕ
   pub failed_sector : ℕ
-  pub lent : List Lent
+  pub lent : List LentImage
 
 -- P holds of the bytes of an image that gives them; of another image this asks nothing
 abbrev pub ForContents : Option (List ℕ) → (List ℕ → Type 0) → Type 0

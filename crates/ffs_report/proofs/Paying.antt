@@ -4,7 +4,7 @@ use Rattle.std.proofs.Common.{length-append, Result, Ok, Err}
 use Rattle.std.proofs.Math.Nat.{mul-le-mul_left, mul-le-mul_right}
 use Rattle.ffs_volume.specs.Messages.Kinds.{Message}
 use Rattle.ffs_report.specs.{Progress.Progress, Progress.Said, Progress.Stopped}
-use Rattle.ffs_report.specs.Paid.{HasBegun, Paid}
+use Rattle.ffs_report.specs.Paid.{AreBegun, Paid}
 use Rattle.ffs_report.specs.PhaseOutcome.{PhaseReports}
 use Rattle.ffs_report.proofs.Reports.{said_none, said_then, stopped_after}
 use Rattle.ffs_report.specs.declared.fault.RunFault.{RunFault}
@@ -76,8 +76,8 @@ paid_fault (Read f) p = record { messages = p.messages; begun = p.begun; most = 
 paid_fault (Out f) p = record { messages = p.messages; begun = p.begun; most = p.most }
 
 -- messages were begun after others
-begun_then : {T U : Type 0} (n m : ℕ) (a b c : Progress) (x : T) (r : Result U RunFault) → HasBegun n a b (Ok x) →
-    HasBegun m b c r → HasBegun (n + m) a c r
+begun_then : {T U : Type 0} (n m : ℕ) (a b c : Progress) (x : T) (r : Result U RunFault) → AreBegun n a b (Ok x) →
+    AreBegun m b c r → AreBegun (n + m) a c r
 begun_then n m a b c x (Ok y) p q = record {
   messages = p.messages ++ q.messages;
   said = said_then a b c p.messages q.messages p.said q.said;

@@ -26,14 +26,14 @@ pub record StoppedAmong (n : ℕ) (old new : Progress) : Type 0 where
 
 -- n messages were begun: all were said at Ok, perhaps all but the last at a read's fault, and the
 -- output failed among them at its own fault
-abbrev pub HasBegun : {T : Type 0} → ℕ → Progress → Progress → Result T RunFault → Type 0
-HasBegun n old new (Ok x) = SaidMany n old new
-HasBegun n old new (Err (Read fault)) = SaidButOne n old new
-HasBegun n old new (Err (Out fault)) = StoppedAmong n old new
+abbrev pub AreBegun : {T : Type 0} → ℕ → Progress → Progress → Result T RunFault → Type 0
+AreBegun n old new (Ok x) = SaidMany n old new
+AreBegun n old new (Err (Read fault)) = SaidButOne n old new
+AreBegun n old new (Err (Out fault)) = StoppedAmong n old new
 
 -- some messages were begun, and no more was taken than their price
 pub record Paid {T : Type 0} (price : ℕ) (old new : Progress) (before after : ℕ) (result : Result T RunFault) :
     Type 0 where
   pub messages : ℕ
-  pub begun : HasBegun messages old new result
+  pub begun : AreBegun messages old new result
   pub most : after ≤ before + price * messages

@@ -26,15 +26,9 @@ pub if-quiet : (b : Bool) (m : TreeMessage) (ms ys : List TreeMessage) → (if b
     × (ys ≡ [])
 if-quiet b m ms ys h = grind arith
 
-pub if-silent : (b : Bool) (xs ys : List TreeMessage) → b ≡ false → ys ≡ [] → (if b then xs else ys) ≡ []
-if-silent b xs ys g h = rw g h
-
 -- one of two, where the other is silent
 pub else-quiet : (b : Bool) (ys : List TreeMessage) → (if b then [] else ys) ≡ [] → b ≡ false → ys ≡ []
 else-quiet b ys h e = rw e at h
-
-pub else-silent : (b : Bool) (ys : List TreeMessage) → (b ≡ false → ys ≡ []) → (if b then [] else ys) ≡ []
-else-silent b ys h = cond_both b [] ys (λ zs. zs ≡ []) (λ _. refl) h
 
 pub then-quiet : (b : Bool) (xs : List TreeMessage) → (if b then xs else []) ≡ [] → b ≡ true → xs ≡ []
 then-quiet b xs h e = rw e at h
