@@ -71,7 +71,7 @@ ended_reads v had_defect a b c before after (Err (Read fault)) end p e =
     record {
       messages = p.begun.messages ++ (line ∷ []);
       went_out = elim e [
-        inl said ↦ inl (said_then a b c p.begun.messages (line ∷ []) p.begun.said said.0)
+        | inl said ↦ inl (said_then a b c p.begun.messages (line ∷ []) p.begun.said said.0)
         | inr stopped ↦ inr (stopped_after a b c p.begun.messages (line ∷ []) p.begun.said stopped.0)
       ];
       most = priced v p.messages _ before after p.most (omega (arith, p.begun.many, long));
@@ -98,7 +98,7 @@ pub printed_reads : (limit : ℕ → ℕ) (a b : Progress) (before after : ℕ) 
 printed_reads limit a b before after fine p = record {
   messages = p.messages;
   went_out = elim p.went_out [
-    inl said ↦ inl said.took
+    | inl said ↦ inl said.took
     | inr stopped ↦ inr (broke_off a b p.messages fine stopped)
   ];
   most = p.most;
@@ -114,7 +114,7 @@ opened_reads v a b c lines before between after said opened p =
     record {
       messages = lines ++ p.messages;
       went_out = elim p.went_out [
-        inl more ↦ inl (said_then a b c lines p.messages said more)
+        | inl more ↦ inl (said_then a b c lines p.messages said more)
         | inr stopped ↦ inr (stopped_after a b c lines p.messages said stopped)
       ];
       most = omega (arith, opened, p.most, long);

@@ -14,7 +14,9 @@ use Rattle.ffs_report.specs.declared.fault.RunFault.TheVariants.{Read, Out}
 pub paid_none : {T : Type 0} {price : ℕ} {a : Progress} {before after : ℕ} {x : T} → after ≤ before →
     Paid price a a before after (Ok x)
 paid_none {a = a} few = record {
-  messages = 0; begun = record { messages = []; said = said_none a; many = refl }; most = omega (arith, few);
+  messages = 0;
+  begun = record { messages = []; said = said_none a; many = refl };
+  most = omega (arith, few);
 }
 
 -- a read failed before anything was said, of those that are left for other reads
@@ -43,7 +45,9 @@ pays_one price before after n some few = omega (arith, few, mul-le-mul_left {m =
 pub paid_says : {T : Type 0} {price : ℕ} {a b : Progress} {before after : ℕ} {x : T} (ms : List Message) → Said a b ms
     → 1 ≤ length ms → after ≤ before + price → Paid price a b before after (Ok x)
 paid_says {price = price} {before = before} {after = after} ms said some few = record {
-  messages = length ms; begun = record { messages = ms; said = said; many = refl }; most = pays_one price before after (length ms) some few;
+  messages = length ms;
+  begun = record { messages = ms; said = said; many = refl };
+  most = pays_one price before after (length ms) some few;
 }
 
 -- the output failed among messages, at least one

@@ -4,9 +4,7 @@ ghost use Rattle.std.specs.Prelude.{◌≡◌, ◌≤◌, IfOk, length};
 
 use crate::check::checked;
 use crate::compare::same;
-use ffs_image::{
-    CountedImage, FileImage, FuseImage, Image, ImageFault, LimitedImage, MemoryImage,
-};
+use ffs_image::{CountedImage, FileImage, FuseImage, Image, ImageFault, LimitedImage, MemoryImage};
 use ffs_layout::Order;
 use ffs_samples::image_of;
 use ffs_volume::{End, SuperFault};

@@ -144,7 +144,10 @@ fn turning_blocks(order: Order, alloc: Global) -> Result<MemoryImage, AllocError
         put(
             order,
             bytes.as_mut_slice(),
-            &[(40_960 + 4 * word, 4, address), (45_056 + 4 * word, 4, address)],
+            &[
+                (40_960 + 4 * word, 4, address),
+                (45_056 + 4 * word, 4, address),
+            ],
         );
     }
     Ok(MemoryImage::new(bytes))
@@ -170,7 +173,11 @@ fn reads_of_a_turning_image(rt: HostRuntime) -> Result<(), Fail> {
     for order in ORDERS {
         let (end, reads) = turned(order, rt.alloc())?;
         same(&rt, &end, &End::Defects);
-        same(&rt, &(reads >= 2 * 864, reads < 2 * 864 + 16), &(true, true));
+        same(
+            &rt,
+            &(reads >= 2 * 864, reads < 2 * 864 + 16),
+            &(true, true),
+        );
     }
     Ok(())
 }
