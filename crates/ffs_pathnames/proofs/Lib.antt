@@ -18,4 +18,3 @@ pub mod Carrying
 pub mod Skipping
 mod SilentLaws
 pub mod LimitedLaws
-pub mod PaidLaws

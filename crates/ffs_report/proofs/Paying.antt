@@ -19,6 +19,13 @@ paid_none {a = a} few = record {
   most = omega (arith, few);
 }
 
+-- messages were said for which nothing was read
+pub paid_said : {price : ℕ} {a b : Progress} {before after : ℕ} (ms : List Message) → Said a b ms → after ≤ before →
+    Paid {T = Unit {0}} price a b before after (Ok tt)
+paid_said ms said few = record {
+  messages = length ms; begun = record { messages = ms; said = said; many = refl }; most = omega (arith, few);
+}
+
 -- a read failed before anything was said, of those that are left for other reads
 pub paid_failed : {T : Type 0} {price : ℕ} {a : Progress} {before after : ℕ} {fault : _} → after ≤ before →
     Paid {T = T} price a a before after (Err (Read fault))

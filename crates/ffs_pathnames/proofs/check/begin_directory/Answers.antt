@@ -3,8 +3,8 @@ use Rattle.std.proofs.lemmas.Result.{err_from_is_err_and}
 use Rattle.ffs_volume.specs.{Messages.Kinds.of_tree, Blocks.Inodes.inode_of}
 use Rattle.ffs_volume.specs.Directories.{Volumes.volume_of, Parents.graph_of, PathnameCheck.attributes, Paths.dir_path}
 use Rattle.ffs_report.proofs.{Reporting.of_begins, Reporting.of_reads, Paying.paid_answer, Paying.paid_failed}
-use Rattle.ffs_report.proofs.Paying.{paid_fault, paid_none, paid_then}
-use Rattle.ffs_pathnames.{specs.ReadsLeft.LeftForLook, proofs.PaidLaws.paid_beside}
+use Rattle.ffs_report.proofs.Paying.{paid_beside, paid_fault, paid_none, paid_then}
+use Rattle.ffs_pathnames.specs.ReadsLeft.{LeftForLook}
 use Rattle.ffs_pathnames.specs.{declared.examine.Examination.Examination, Begins.dir_header_lines, Header.header_reported}
 use Rattle.ffs_pathnames.{specs.Costs.begin_reads, specs.DirectoryContext.DirectoryContext, proofs.Passing.knows_on}
 use Rattle.ffs_pathnames.proofs.Begun.{said_same, fault_same, image_same, starts_are, begun_is}

@@ -10,8 +10,7 @@ use Rattle.ffs_pathnames.proofs.pass2.phase2.Given.{Over}
 use Rattle.ffs_pathnames.proofs.pass2.phase2.Goals.{After-check_tree}
 use Rattle.ffs_names.proofs.RunSums.{costs_bounded}
 use Rattle.ffs_workspace.specs.Holds.{HoldsClaims}
-use Rattle.ffs_report.proofs.Paying.{paid_text, paid_then}
-use Rattle.ffs_pathnames.proofs.PaidLaws.{paid_said}
+use Rattle.ffs_report.proofs.Paying.{paid_said, paid_text, paid_then}
 use Rattle.ffs_pathnames.proofs.pass2.phase2.Goals as goal
 
 -- what is known before the first directory

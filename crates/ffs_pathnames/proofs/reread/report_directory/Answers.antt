@@ -15,8 +15,8 @@ use Rattle.ffs_pathnames.specs.{Gathers.passed_of, DirectoryContext.DirectoryCon
 use Rattle.ffs_pathnames.{specs.PassedNames.entries_reported, proofs.StampLaws.keep_more, proofs.StampLaws.noted_kept}
 use Rattle.ffs_pathnames.proofs.Passing.{chunk_reported, chunk_passed, knows_on, all_read}
 use Rattle.ffs_pathnames.proofs.{ReadyLaws.can_read_in, ReadyLaws.windows_next, ReadyLaws.windows_read}
-use Rattle.ffs_pathnames.{specs.ReadsLeft.LeftForRuns, proofs.LimitedLaws.numbered_or_not, proofs.PaidLaws.paid_beside}
-use Rattle.ffs_report.proofs.Paying.{paid_failed, paid_none, paid_then, paid_within}
+use Rattle.ffs_pathnames.{specs.ReadsLeft.LeftForRuns, proofs.LimitedLaws.numbered_or_not}
+use Rattle.ffs_report.proofs.Paying.{paid_beside, paid_failed, paid_none, paid_then, paid_within}
 use Rattle.ffs_pathnames.proofs.LineCounts.{lines_long, reported_on}
 use Rattle.ffs_pathnames.proofs.reread.report_directory.Given.{Over}
 use Rattle.ffs_pathnames.proofs.reread.report_directory.Goals.{After-next_chunk}

@@ -10,8 +10,8 @@ use Rattle.ffs_pathnames.proofs.tree.check_tree.Goals.{After-report_root, After-
 use Rattle.ffs_volume.{proofs.Sizes.some_inodes, specs.Encodings.Kinds.is_dir_kind, specs.Directories.Volumes.volume_of}
 use Rattle.ffs_volume.specs.{Report.Reads.line_reads, Messages.Kinds.of_tree, Directories.PathnameCheck.pathname_lines}
 use Rattle.ffs_report.proofs.Reporting.{of_begins, of_says, of_stops, of_part, of_fault}
-use Rattle.ffs_report.proofs.Paying.{paid_answer, paid_fault, paid_text, paid_then}
-use Rattle.ffs_pathnames.{specs.declared.pass2.Root.Root, proofs.Begun.image_same, proofs.PaidLaws.paid_said}
+use Rattle.ffs_report.proofs.Paying.{paid_said, paid_answer, paid_fault, paid_text, paid_then}
+use Rattle.ffs_pathnames.{specs.declared.pass2.Root.Root, proofs.Begun.image_same}
 use Rattle.ffs_pathnames.proofs.tree.check_tree.Goals as goal
 
 -- what the kind of the root that was read says
