@@ -26,7 +26,7 @@ use Rattle.ffs_workspace.specs.Holds.{marked_by_phase1_at, all_claims, HoldsPhas
 use Rattle.ffs_workspace.specs.{Lengths.set_count, Lengths.inodes_of, declared.workspace.Workspace.Workspace}
 use Rattle.ffs_claims.proofs.Numbers.{before_first}
 
--- a fact of two choices by one test, and where the first choice asks for more
+-- a fact of two choices by one test, and where one of them takes a second test too
 conds_hold : {A B : Type 0} (R : A → B → Type 0) (b : Bool) (x x' : A) (y y' : B) → (b ≡ true → R x y) →
     (b ≡ false → R x' y') → R (if b then x else x') (if b then y else y')
 conds_hold R true x x' y y' first second = first refl
