@@ -21,7 +21,7 @@ use Rattle.ffs_layout.specs.declared.geometry.Geometry.{Geometry}
 use Rattle.ffs_claims.proofs.Frames.{ready_still, ready_walked, image_from, claims_then, claims_still, claims_none}
 use Rattle.ffs_claims.proofs.Inodes.{ok_where}
 use Rattle.ffs_claims.proofs.Reportings.{reporting_over, Reporting, reporting_begins, reporting_more, reporting_ends}
-use Rattle.ffs_claims.proofs.Reportings.{reporting_same, reported_from, reported_to, lines_split}
+use Rattle.ffs_claims.proofs.Reportings.{reported_from, reported_to, lines_split}
 use Rattle.ffs_claims.proofs.RescanCounts.{looked_none, looked_next, again_gaps}
 use Rattle.ffs_claims.specs.{Lines.of_lines, Reporting.ReportsOnly, Reporting.RewalkLeaves, Reporting.after_first}
 use Rattle.ffs_claims.specs.{Rescan.step_offers_again, Rescan.offers_again, RescanRuns.Rewalks, RescanRuns.RoseBy}
@@ -95,14 +95,13 @@ rewalk_on {v = v} {i = i} {cut = cut} {step = step} {k = k} {k' = k'} {R = R} {R
 
 pub rewalk_gaps : {v : Layout} {i cut : ℕ} {all : List Step} {r : Replay} (n : ℕ) {R R' : List Step}
     {u w : Workspace} → R ≡ replicate n Gap ++ R' → Rewalking v i cut all r R u w → Rewalking v i cut all r R' u w
-rewalk_gaps {v = v} {i = i} {cut = cut} {r = r} n {R' = R'} {w = w} e t =
-    let seen = ap (replayed_runs v cut r) e ∙ gaps_seen v cut r n R' in
-    let looked = ap (λ xs. runs_until_reported (bits_of w.duplicates) (steps_runs_again v i cut r xs)) e
-    ∙ ap (runs_until_reported (bits_of w.duplicates)) (again_gaps v i cut r n R').1 in
+rewalk_gaps {v = v} {i = i} {cut = cut} {r = r} n {R' = R'} e t =
+    let past = rw e at t in
+    let same = again_gaps v i cut r n R' in
     record {
-      reported = reporting_same t.reported (ap (offers_again v i cut r) e ∙ (again_gaps v i cut r n R').0);
-      runs = omega (arith, t.runs, seen);
-      count = λ h. omega (arith, t.count h, looked);
+      reported = rw same.0 at past.reported;
+      runs = rw (gaps_seen v cut r n R') at past.runs;
+      count = rw same.1 at past.count;
     }
 
 -- it is over where no step is left to see, and where nothing is left to report
