@@ -148,6 +148,8 @@ pub rewalks_from : {T : Type 0} {v : Layout} {n cut : ℕ} {d' d'' : Device} {a 
     Rewalks v n cut (λ _. i) d' d'' a b (record u { windows = windows }) w r → Rewalks v n cut' inode d d'' a b u w r
 rewalks_from {T = T} {v = v} {n = n} {cut = cut} {d' = d'} {d'' = d''} {u = u} {r = r} i d cut' inode e k h p =
     let gives : ForBytes (IsContents d.contents) (IsContents d'.contents) = λ bytes t. ap (λ x. x.contents) e ∙ t in
+    let image = image_from d'' r e p.left.image in
+    let claims = claims_then (claims_still (claims_none u)) p.left.claims in
     let lines = λ (cut : ℕ) (i : Inode) (bytes : List ℕ). of_lines (first_offer_lines (bits_of u.duplicates)
     (offers_again v n cut fresh_replay (steps_of v i bytes))) in
     record {
@@ -157,11 +159,7 @@ rewalks_from {T = T} {v = v} {n = n} {cut = cut} {d' = d'} {d'' = d''} {u = u} {
       rewalked = ok_where r _ _ _ _ (ap (λ x. x.contents) e) (λ bytes t q. rewalked_from (rw (k, h bytes t) at q))
           p.rewalked;
       runs = λ bytes t. rw (k, h bytes t) at (p.runs bytes (gives bytes t));
-      left = record {
-        image = image_from d'' r e p.left.image;
-        ready = p.left.ready;
-        claims = claims_then (claims_still (claims_none u)) p.left.claims;
-      };
+      left = grind arith;
     }
 
 -- a step more is reported
