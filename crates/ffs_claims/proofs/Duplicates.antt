@@ -13,7 +13,7 @@ use Rattle.ffs_volume.specs.Blocks.Claims.{Claims, no_claims, at_next_inode, is_
 use Rattle.ffs_volume.specs.Blocks.Claims.{lines_of_steps, after_offer, after_offers, after_run, after_step}
 use Rattle.ffs_volume.specs.Blocks.Claims.{after_steps, offer_lines, lines_of_offers, run_lines, step_lines}
 use Rattle.ffs_volume.specs.Blocks.Inodes.{is_file_or_dir, inode_of, class_of, is_unknown}
-use Rattle.ffs_volume.specs.Blocks.{KeptOffers.Offer, KeptOffers.kept_in_owners, KeptSteps.claims_before, Owners.Owner}
+use Rattle.ffs_volume.specs.Blocks.{KeptOffers.Offer, KeptSteps.claims_before, Owners.Owner}
 use Rattle.ffs_volume.specs.{Blocks.Owners.owners_of, Blocks.Owners.owner_of, Directories.Volumes.is_inode_number}
 use Rattle.ffs_volume.specs.{Directories.Volumes.marked_at, Disk.Areas.is_fragment_in_range, Disk.Areas.is_run_in_range}
 use Rattle.ffs_volume.specs.declared.BlockMessage.{BlockMessage, TheVariants.Bad}
@@ -26,7 +26,7 @@ use Rattle.ffs_workspace.specs.Holds.{marked_by_phase1_at, all_claims, HoldsPhas
 use Rattle.ffs_workspace.specs.{Lengths.set_count, Lengths.inodes_of, declared.workspace.Workspace.Workspace}
 use Rattle.ffs_claims.proofs.Numbers.{before_first}
 
--- a fact of two choices by one test, and where the first choice asks for more
+-- a fact of two choices by one test, and where one of them takes a second test too
 conds_hold : {A B : Type 0} (R : A → B → Type 0) (b : Bool) (x x' : A) (y y' : B) → (b ≡ true → R x y) →
     (b ≡ false → R x' y') → R (if b then x else x') (if b then y else y')
 conds_hold R true x x' y y' first second = first refl
@@ -248,16 +248,10 @@ pub none_first : (bits : List Bool) (os : List Offer) → set_count bits ≡ 0 �
 none_first bits [] e = refl
 none_first bits (o ∷ os) e = rw (none_clear bits o.fragment e) (none_first bits os e)
 
-first_none : (v : Layout) (image : List ℕ) → set_count (all_claims v image).dup ≡ 0 →
-    phase1b_lines v (owners_of v image) ≡ []
-unfolding all_claims phase1b_lines
-first_none v image e = none_first (after_owners v (no_claims v) (owners_of v image)).dup
-    (kept_in_owners v (no_claims v) (owners_of v image)) e
-
 -- where there is no Dup line, phase 1 leaves what phase 1b would
 pub no_rescan : (v : Layout) (image : List ℕ) (w : Workspace) → has_rescan v (owners_of v image) ≡ false →
     HoldsPhase1 v image w → HoldsClaims v image w
-unfolding all_claims
+unfolding all_claims phase1b_lines
 no_rescan v image w none h = record {
   used = h.used;
   kinds = h.kinds;
@@ -267,8 +261,8 @@ no_rescan v image w none h = record {
 }
   where
     lines : phase1b_lines v (owners_of v image) ≡ []
-    lines = first_none v image (eqb-true (set_count (all_claims v image).dup) 0
-        (not-false _ (rescan_is v image ∙ none)))
+    lines = none_first (after_owners v (no_claims v) (owners_of v image)).dup _
+        (eqb-true (set_count (all_claims v image).dup) 0 (not-false _ (rescan_is v image ∙ none)))
 
     silent : (x : ℕ) → (is_inode_number v x && list_any (blames x) (phase1b_lines v (owners_of v image))) ≡ false
     silent x = ap (λ ls. is_inode_number v x && list_any (blames x) ls) lines

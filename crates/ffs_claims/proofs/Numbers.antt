@@ -115,17 +115,16 @@ unfolding kind_at marked_by_phase1_at note_at start_at
 found_next {v = v} {bytes = bytes} {u = u} {w = w} {n = n} low high m now stored before =
     let inside = is_inside v n low high in
     record {
-      kinds = filled_next 0 (kind_at v bytes) u.kinds.items w.kinds.items n _ (omega (arith, m.kinds)) stored.kinds
-          (rw inside refl) before.kinds;
-      marked = filled_next false (marked_by_phase1_at v bytes) u.marked.items w.marked.items n _
-          (omega (arith, m.marked))
+      kinds = filled_next 0 (kind_at v bytes) u.kinds.items _ n _ (omega (arith, m.kinds)) stored.kinds (rw inside refl)
+          before.kinds;
+      marked = filled_next false (marked_by_phase1_at v bytes) u.marked.items _ n _ (omega (arith, m.marked))
           stored.marked (ap (λ t. is_unknown (class_of v (inode_of v bytes n)) || has_blame t) now
           ∙ rw inside refl) before.marked;
-      notes = filled_next 0 (note_at v bytes) u.notes.items w.notes.items n _ (omega (arith, m.notes)) stored.notes
+      notes = filled_next 0 (note_at v bytes) u.notes.items _ n _ (omega (arith, m.notes)) stored.notes
           (ap (λ t. note_of (class_of v (inode_of v bytes n)) (inode_of v bytes n) (min (cut_of t) 4294967295)) now
           ∙ rw inside refl) before.notes;
-      starts = filled_next 0 (start_at v bytes) u.references.items w.references.items n _ (omega (arith, m.references))
-          stored.starts (rw inside refl) before.starts;
+      starts = filled_next 0 (start_at v bytes) u.references.items _ n _ (omega (arith, m.references)) stored.starts
+          (rw inside refl) before.starts;
     }
 
 pub found_all : {v : Layout} {bytes : List ℕ} {w : Workspace} {n : ℕ} → inodes_of v ≤ n →

@@ -84,8 +84,8 @@ pub two_runs : (v : Layout) (b0 b1 b2 : List Bool) → length b0 ≡ v.size → 
     HaveBits v.size b2 (is_reserved_below v 0)
 unfolding first_below
 two_runs v b0 b1 b2 all0 all1 fresh one two =
-    run_test b1 b2 v.size v.csaddr (div_ceil v.cssize v.fsize) _ (λ f. is_in_run 0 (cgdmin v 0) f || false) all1 refl two
-    (run_test b0 b1 v.size 0 (cgdmin v 0) (cgdmin v 0) (λ _. false) all0 (omega arith) one
+    run_test b1 b2 v.size v.csaddr (div_ceil v.cssize v.fsize) _ (λ f. is_in_run 0 (cgdmin v 0) f || false) all1 refl
+    two (run_test b0 b1 v.size 0 (cgdmin v 0) (cgdmin v 0) (λ _. false) all0 (omega arith) one
     (λ f low. rw fresh (get_or-replicate v.size f false false low)))
 
 pub group_run : (v : Layout) (b b' : List Bool) (group len : ℕ) → length b ≡ v.size →

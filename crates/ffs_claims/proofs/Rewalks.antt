@@ -21,7 +21,7 @@ use Rattle.ffs_layout.specs.declared.geometry.Geometry.{Geometry}
 use Rattle.ffs_claims.proofs.Frames.{ready_still, ready_walked, image_from, claims_then, claims_still, claims_none}
 use Rattle.ffs_claims.proofs.Inodes.{ok_where}
 use Rattle.ffs_claims.proofs.Reportings.{reporting_over, Reporting, reporting_begins, reporting_more, reporting_ends}
-use Rattle.ffs_claims.proofs.Reportings.{reporting_same, reported_from, reported_to, lines_split}
+use Rattle.ffs_claims.proofs.Reportings.{reported_from, reported_to, lines_split}
 use Rattle.ffs_claims.proofs.RescanCounts.{looked_none, looked_next, again_gaps}
 use Rattle.ffs_claims.specs.{Lines.of_lines, Reporting.ReportsOnly, Reporting.RewalkLeaves, Reporting.after_first}
 use Rattle.ffs_claims.specs.{Rescan.step_offers_again, Rescan.offers_again, RescanRuns.Rewalks, RescanRuns.RoseBy}
@@ -95,14 +95,13 @@ rewalk_on {v = v} {i = i} {cut = cut} {step = step} {k = k} {k' = k'} {R = R} {R
 
 pub rewalk_gaps : {v : Layout} {i cut : ℕ} {all : List Step} {r : Replay} (n : ℕ) {R R' : List Step}
     {u w : Workspace} → R ≡ replicate n Gap ++ R' → Rewalking v i cut all r R u w → Rewalking v i cut all r R' u w
-rewalk_gaps {v = v} {i = i} {cut = cut} {r = r} n {R' = R'} {w = w} e t =
-    let seen = ap (replayed_runs v cut r) e ∙ gaps_seen v cut r n R' in
-    let looked = ap (λ xs. runs_until_reported (bits_of w.duplicates) (steps_runs_again v i cut r xs)) e
-    ∙ ap (runs_until_reported (bits_of w.duplicates)) (again_gaps v i cut r n R').1 in
+rewalk_gaps {v = v} {i = i} {cut = cut} {r = r} n {R' = R'} e t =
+    let past = rw e at t in
+    let same = again_gaps v i cut r n R' in
     record {
-      reported = reporting_same t.reported (ap (offers_again v i cut r) e ∙ (again_gaps v i cut r n R').0);
-      runs = omega (arith, t.runs, seen);
-      count = λ h. omega (arith, t.count h, looked);
+      reported = rw same.0 at past.reported;
+      runs = rw (gaps_seen v cut r n R') at past.runs;
+      count = rw same.1 at past.count;
     }
 
 -- it is over where no step is left to see, and where nothing is left to report
@@ -149,6 +148,8 @@ pub rewalks_from : {T : Type 0} {v : Layout} {n cut : ℕ} {d' d'' : Device} {a 
     Rewalks v n cut (λ _. i) d' d'' a b (record u { windows = windows }) w r → Rewalks v n cut' inode d d'' a b u w r
 rewalks_from {T = T} {v = v} {n = n} {cut = cut} {d' = d'} {d'' = d''} {u = u} {r = r} i d cut' inode e k h p =
     let gives : ForBytes (IsContents d.contents) (IsContents d'.contents) = λ bytes t. ap (λ x. x.contents) e ∙ t in
+    let image = image_from d'' r e p.left.image in
+    let claims = claims_then (claims_still (claims_none u)) p.left.claims in
     let lines = λ (cut : ℕ) (i : Inode) (bytes : List ℕ). of_lines (first_offer_lines (bits_of u.duplicates)
     (offers_again v n cut fresh_replay (steps_of v i bytes))) in
     record {
@@ -158,11 +159,7 @@ rewalks_from {T = T} {v = v} {n = n} {cut = cut} {d' = d'} {d'' = d''} {u = u} {
       rewalked = ok_where r _ _ _ _ (ap (λ x. x.contents) e) (λ bytes t q. rewalked_from (rw (k, h bytes t) at q))
           p.rewalked;
       runs = λ bytes t. rw (k, h bytes t) at (p.runs bytes (gives bytes t));
-      left = record {
-        image = image_from d'' r e p.left.image;
-        ready = p.left.ready;
-        claims = claims_then (claims_still (claims_none u)) p.left.claims;
-      };
+      left = grind arith;
     }
 
 -- a step more is reported

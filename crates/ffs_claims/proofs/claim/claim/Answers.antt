@@ -155,8 +155,8 @@ loop-next-preserved g c =
       counted = omega (arith, paid, inv.counted, c.step.ensures.counted, words.rises, words.counted.unread);
       claims = claims_on v s c.loop-next.walk c.next.new.self _ c.in-Some.next next now inv.claims
           (λ bytes t. sym (words.claims image claimed.windows.blocks bytes (gives ∙ t)));
-      said = steps_said v n s (claims_of c.step.new.workspace) c.loop-next.walk c.next.new.self _ c.in-Some.next inv.said
-          next now (λ bytes t. sym (words.lines image claimed.windows.blocks bytes (gives ∙ t) n))
+      said = steps_said v n s (claims_of c.step.new.workspace) c.loop-next.walk c.next.new.self _ c.in-Some.next
+          inv.said next now (λ bytes t. sym (words.lines image claimed.windows.blocks bytes (gives ∙ t) n))
           c.in_ok-seen.ensures.claiming.said;
     }
 
@@ -179,7 +179,8 @@ returns-then-not-seen-clause-claiming g c =
           inv.claims (λ bytes t. (cut_over v c.args.number s' (steps_left bytes c.next.new.self) cut).0);
       left = claiming_on read.image c.step.ensures.claiming.left (omega (arith, c.step.ensures.runs))
           (moves_on c.in-Some.next inv.left.claim.ready.made c.args.geometry.now.sound.sizes.frag_high
-          (rw (inv.geometry, c.in-Some.is) at c.in_ok-next.ensures.step.fits).length now.claims_are inv.left.moves) read;
+          (rw (inv.geometry, c.in-Some.is) at c.in_ok-next.ensures.step.fits).length now.claims_are inv.left.moves)
+          read;
     }
 
 pub returns-in_default-clause-claiming : goal.returns-in_default-clause-claiming

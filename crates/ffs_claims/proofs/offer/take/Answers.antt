@@ -1,4 +1,4 @@
-use Rattle.std.proofs.Common.{◌≡◌, nat_lt, true, arith, refl, sym, ◌∙◌}
+use Rattle.std.proofs.Common.{◌≡◌, nat_lt, true, arith, rules, refl, sym, ◌∙◌}
 use Rattle.std.proofs.lemmas.Bool.Decides.{nat_tests}
 use Rattle.ffs_claims.proofs.{Frames.offers_claimed, UnclaimedRuns.was_set, UnclaimedRuns.is_set_now}
 use Rattle.ffs_claims.proofs.offer.take.Goals as goal
@@ -13,4 +13,17 @@ returns-then-claim c =
       dup = rw (few, ok, unset) refl;
       claims = rw (few, ok, unset, is_set_now c.claim.ensures) refl;
       only = offers_claimed c.requires.room.made c.claim.ensures.size;
+    }
+
+-- it was claimed before
+pub returns : goal.returns
+returns c =
+    let few : nat_lt c.args.workspace.now.dups 11 ≡ true = grind (arith, nat_tests) in
+    let ok = sym c.fragment_in_range.ensures ∙ c.if-not-fragment_in_range.false in
+    let set = rw c.if-claim.false at (was_set c.claim.ensures) in
+    let kept = c.set.ensures.size ∙ c.requires.room.made.duplicates in
+    record {
+      dup = rw (few, ok, set) refl;
+      claims = rw (few, ok, set, c.claim.ensures.kept c.if-claim.false, c.set.ensures.bits) refl;
+      only = search rules;
     }

@@ -108,8 +108,7 @@ returns-clause-holds g c = λ bytes k.
 pub returns-clause-runs : goal.returns-clause-runs
 returns-clause-runs g c =
     let inv = c.loop-number.invariant in
-    let most = numbers_most c.loop-number.number (inodes_of c.args.geometry.now.layout) inv.high in
-    omega (arith, inv.runs, used_below inv.ready.ready.made)
+    omega (arith, inv.runs, used_below inv.ready.ready.made, numbers_most c.loop-number.number _ inv.high)
 
 pub returns-clause-count : goal.returns-clause-count
 unfolding run_count all_claims
@@ -122,5 +121,4 @@ returns-clause-dups g c = λ bytes k. dups_are c.args.geometry.now.layout bytes 
 pub returns-clause-reads : goal.returns-clause-reads
 returns-clause-reads g c =
     let inv = c.loop-number.invariant in
-    let most = numbers_most c.loop-number.number (inodes_of c.args.geometry.now.layout) inv.high in
-    omega (arith, inv.reads)
+    omega (arith, inv.reads, numbers_most c.loop-number.number _ inv.high)

@@ -24,6 +24,10 @@ returns-in_err-report_offer-clause-said g c =
     (run_next c.args.number c.args.start c.args.len c.loop-index.index f c.loop-index-test.true (omega arith)) refl)
     c.in_err-report_offer.ensures.said)
 
+pub returns-in_err-report_offer-clause-only : goal.returns-in_err-report_offer-clause-only
+returns-in_err-report_offer-clause-only g c =
+    offers_reported_then c.loop-index.invariant.only c.report_offer.ensures.only
+
 pub loop-index-preserved : goal.loop-index-preserved
 loop-index-preserved g c =
     let inv = c.loop-index.invariant in
