@@ -1,11 +1,11 @@
 -- The bits of a map, by its words: how long the list is, what is at an index, and what is set.
-use Rattle.std.proofs.Common.{◌≡◌, ◌≢◌, ℕ, zero, suc, ◌+◌, ◌*◌, ◌/◌, ◌%◌, ◌^◌, ◌<◌, Bool, true, false, List}
-use Rattle.std.proofs.Common.{length, get_or, nat_eq, slice_set, replicate, bit_or, bit_and, arith, refl, ap, ◌∙◌}
-use Rattle.std.proofs.{Common.{length-set, add-zero}, lemmas.List.{same_lists, get_or-set_other, get_or-set_same}}
-use Rattle.std.proofs.lemmas.List.{get_or-replicate, length-replicate, FromFn.length-map-range_with_len}
-use Rattle.std.proofs.lemmas.{List.FromFn.get_or-map-range_with_len, Nat.Bits.{bit_at_set_same, bit_at_set_other}}
-use Rattle.std.proofs.lemmas.{Nat.Bits.{bit_at_clear_same, bit_at_clear_other, bit_at-zero}}
-use Rattle.std.{proofs.Math.{Nat.ℕ_set, Path.subst⁻¹}, specs.Int.{bit_at, w64, bit_not, div_ceil}}
+use Rattle.std.proofs.Common.{◌≡◌, ◌≢◌, ℕ, zero, suc, ◌+◌, ◌*◌, ◌/◌, ◌%◌, ◌^◌, ◌<◌, Bool, true, false, List, length}
+use Rattle.std.proofs.Common.{get_or, nat_eq, slice_set, replicate, bit_or, bit_and, arith, refl, ap, ◌∙◌, length-set}
+use Rattle.std.proofs.{Common.add-zero, lemmas.List.{same_lists, get_or-set_other, get_or-set_same, get_or-replicate}}
+use Rattle.std.proofs.lemmas.List.{length-replicate, FromFn.{length-map-range_with_len, get_or-map-range_with_len}}
+use Rattle.std.proofs.lemmas.Nat.Bits.{bit_at_set_same, bit_at_set_other, bit_at_clear_same, bit_at_clear_other}
+use Rattle.std.{proofs.{lemmas.Nat.Bits.bit_at-zero, Math.{Nat.ℕ_set, Path.subst⁻¹}}, specs.Int.{bit_at, w64, bit_not}}
+use Rattle.std.specs.Int.{div_ceil}
 use Rattle.ffs_memory.specs.Words.{Words}
 use Rattle.ffs_maps.specs.{declared.FragmentMap.FragmentMap, Bits.{bits_of, set_run}, WordBits.{is_bit, bits_of_words}}
 use Rattle.ffs_maps.specs.WordBits.{set_among}

@@ -1,11 +1,11 @@
 -- How many bits of a run are set.
-use Rattle.std.proofs.Common.{◌≡◌, ℕ, zero, suc, ◌+◌, ◌-◌, ◌*◌, ◌/◌, ◌%◌, ◌^◌, ◌<◌, ◌≤◌, Bool, false, List}
-use Rattle.std.proofs.Common.{length, cond, map, get_or, bit_and, count_ones, count_by, arith, refl, ap, ◌∙◌, sym, take}
-use Rattle.std.proofs.{Common.{drop, add-zero, min}, lemmas.List.{get_or_past, get_or-drop, get_or-take, length-drop}}
+use Rattle.std.proofs.Common.{◌≡◌, ℕ, zero, suc, ◌+◌, ◌-◌, ◌*◌, ◌/◌, ◌%◌, ◌^◌, ◌<◌, ◌≤◌, Bool, false, List, length}
+use Rattle.std.proofs.Common.{cond, map, get_or, bit_and, count_ones, count_by, arith, refl, ap, ◌∙◌, sym, take, drop}
+use Rattle.std.proofs.{Common.{add-zero, min}, lemmas.List.{get_or_past, get_or-drop, get_or-take, length-drop}}
 use Rattle.std.proofs.lemmas.List.{length-take-le, Sums.{sum_by-cons, count_by-le-length}, FromFn.length-range_with_len}
 use Rattle.std.proofs.lemmas.List.{FromFn.{length-map-range_with_len, get_or-map-range_with_len}, Elements.All-get_or}
 use Rattle.std.proofs.lemmas.{Simd.{bit_mask_l, ones-mask_l}, Nat.Bits.{bit_at_and, bit_at-lt, bit_at_above}}
-use Rattle.std.proofs.lemmas.{Nat.Bits.{bit_at_ones, bit_at_ones_above, same_from_bits, ones_shr}}
+use Rattle.std.proofs.lemmas.Nat.Bits.{bit_at_ones, bit_at_ones_above, same_from_bits, ones_shr}
 use Rattle.std.specs.{List.{range_with_len, sum_by, slice_index_or, All}, Int.bit_at}
 use lib.Lanes.{mask_l}
 use Rattle.ffs_maps.{specs.WordBits.{bits_of_words, set_among}, proofs.{Bits.{get_bits, bit_in}, WordShifts.bit_shr}}

@@ -49,7 +49,8 @@ pub clear_run : (words : List ℕ) (size start len : ℕ) → start % 64 + len �
     bit_and (get_or words (start / 64) 0) (mask_of start len) ≡ 0 → AreClear (bits_of_words words size) start len
 clear_run words size start len h below e = λ k low.
     let none = ap (λ x. bit_at x (start % 64 + k)) (rw (mask_is start len h) at e) in
-    let clear : bit_at (get_or words (start / 64) 0) (start % 64 + k) ≡ 0 = grind (arith, bit_at_and, bit_at_mask_inside) in
+    let clear : bit_at (get_or words (start / 64) 0) (start % 64 + k) ≡ 0 =
+    grind (arith, bit_at_and, bit_at_mask_inside) in
     grind (arith, bit_in)
 
 -- a run of clear bits has none in common with its mask

@@ -1,4 +1,4 @@
-use Rattle.std.{proofs.Common.{arith, refl, ap, sym, ◌∙◌, ◌≡◌, ◌+◌, ◌*◌, ◌&&◌}}
+use Rattle.std.proofs.Common.{arith, refl, ap, sym, ◌∙◌, ◌≡◌, ◌+◌, ◌*◌, ◌&&◌}
 use Rattle.ffs_volume.specs.Groups.Records.{bit_at as map_bit, same_bit, has_bits}
 use Rattle.ffs_groups.proofs.MapWords.{map_parts, none_below, same_below}
 use Rattle.ffs_groups.proofs.maps.are_filled.Goals as goal

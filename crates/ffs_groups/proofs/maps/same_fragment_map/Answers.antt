@@ -26,7 +26,8 @@ returns c =
     let at = c.args.place + 8 * (n / 64) in
     let last = c.from.result + 64 * c.from-2.result in
     let agree : c.same_stretches.result ≡ true = search rules in
-    let end : c.same_bits.result ≡ has_bits block at (n % 64) (λ k. free_in (bits_of used) used.size (last + k)) = grind (arith, same_below) in
+    let end : c.same_bits.result ≡ has_bits block at (n % 64) (λ k. free_in (bits_of used) used.size (last + k)) =
+    grind (arith, same_below) in
     sym (ap (λ b. b && c.same_bits.result) agree)
     ∙ fragment_map (bits_of used) used.size c.args.geometry.now.layout.size block c.args.place n _
     c.cgbase-base.result _ last at c.same_stretches.result c.same_bits.result
