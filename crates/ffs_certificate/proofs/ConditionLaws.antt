@@ -5,7 +5,7 @@ use Rattle.ffs_volume.specs.declared.{Class.Class, BlockMessage.BlockMessage, St
 use Rattle.ffs_volume.specs.{Disk.Superblock.Superblock, Blocks.Claims.{Claims, no_claims, after_offer, offer_lines}}
 use Rattle.ffs_volume.specs.Blocks.Claims.{lines_of_offers, run_lines, after_step, step_lines, lines_of_steps}
 use Rattle.ffs_volume.specs.Blocks.{Claims.after_owner, BlockCheck.{class_lines, count_lines, owner_lines}}
-use Rattle.ffs_volume.specs.Blocks.{BlockCheck.{lines_of_owners, phase1_lines}, Owners.{Owner}}
+use Rattle.ffs_volume.specs.Blocks.{BlockCheck.{lines_of_owners, phase1_lines}, Owners.Owner}
 use Rattle.ffs_volume.specs.{Consistent.BlocksRight.is_right_class, Laws.Geometry.IsAcceptedLayout}
 use Rattle.ffs_volume.{specs.Directories.Volumes.whole_volume, proofs.AcceptedLaws.accepted_sound}
 use Rattle.ffs_certificate.specs.Conditions.{is_class_message, ConditionsReported, ConditionsAreReported}

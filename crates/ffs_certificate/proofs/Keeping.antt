@@ -2,10 +2,10 @@
 use Rattle.std.proofs.Common.{zero, suc, inl, inr, ◌≡◌, ◌⊎◌, ℕ, ◌+◌, ◌-◌, ◌*◌, ◌<◌, ◌≤◌, Bool, true, false, cond, arith}
 use Rattle.std.proofs.Common.{refl, sym, ap, subst, ◌∙◌, List, [], ◌∷◌, ◌++◌, length, append_assoc, count_by, nat_lt}
 use Rattle.std.proofs.{Common.{nat_le, min, ◌&&◌, ◌||◌, ◌==◌, slice_set, if◌then◌else◌, map}, lemmas.Bool.and_parts}
-use Rattle.std.proofs.lemmas.Bool.{and_from, both_ways, eq-eqb, ne_eqb, eqb-true, eqb-false}
-use Rattle.std.proofs.lemmas.Bool.{ltb-true, ltb-false, le-leb, lt-ltb, Decides.nat_tests}
-use Rattle.std.proofs.{lemmas.List.{get_or-set_same, get_or-set_other, length-set, Sums.sum_by-cons}}
-use Rattle.std.{proofs.Math.Bool.{and-false}, specs.List.{list_all, range_with_len}}
+use Rattle.std.proofs.lemmas.Bool.{and_from, both_ways, eq-eqb, ne_eqb, eqb-true, eqb-false, ltb-true, ltb-false}
+use Rattle.std.proofs.lemmas.{Bool.{le-leb, lt-ltb, Decides.nat_tests}, List.{get_or-set_same, get_or-set_other}}
+use Rattle.std.{proofs.{lemmas.List.{length-set, Sums.sum_by-cons}, Math.Bool.and-false}, specs.List.list_all}
+use Rattle.std.specs.List.{range_with_len}
 use Rattle.ffs_volume.specs.declared.{Step.{TheVariants.{Run, Tail, Gap}, Step}, Layout.Layout}
 use Rattle.ffs_volume.specs.{Disk.Areas.{is_fragment_in_range, is_run_in_range, is_reserved}, Blocks.Owners.Owner}
 use Rattle.ffs_volume.specs.Blocks.{Owners.{owner_of, owners_of}, Claims.{Claims, is_set, is_open, at_next_inode}}

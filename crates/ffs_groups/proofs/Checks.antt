@@ -1,9 +1,9 @@
 -- The numbers of a group block, by the bits of signed numbers.
 use Rattle.std.proofs.Common.{◌≡◌, ◌==◌, ℕ, ◌<◌, ◌^◌, List, drop, slice_index, subst, sym, ◌+◌, arith, ◌*◌, Bool, map}
 use Rattle.std.{proofs.{Common.◌&&◌, lemmas.List.get_or-drop}, specs.List.range_with_len}
-use Rattle.ffs_volume.specs.declared.{Order.{Order}, Layout.Layout, Class.Class}
-use Rattle.ffs_volume.specs.Groups.Records.{has_counts, right_group_counts, group_size, has_right_sums}
-use Rattle.ffs_volume.specs.Disk.Numbers.{i32_at, u32_at, number, all_below}
+use Rattle.ffs_volume.specs.{declared.{Order.Order, Layout.Layout, Class.Class}, Groups.Records.has_counts}
+use Rattle.ffs_volume.specs.{Groups.Records.{right_group_counts, group_size, has_right_sums}, Disk.Numbers.i32_at}
+use Rattle.ffs_volume.specs.Disk.Numbers.{u32_at, number, all_below}
 use Rattle.ffs_layout.specs.Group.{group_summary_at}
 use Rattle.ffs_groups.specs.declared.{counts.{SummaryCounts.SummaryCounts, Counts.Counts}, free.FreeCounts.FreeCounts}
 use Rattle.ffs_groups.specs.{declared.inodes.InodeCounts.InodeCounts, Check.{has_bits_of, AreCounts, group_counts_of}}

@@ -8,8 +8,7 @@ use Rattle.std.{proofs.lemmas.Grind.div_ceil_times, specs.{List.{range_with_len,
 use Rattle.std.specs.Int.{div_ceil}
 use Rattle.ffs_volume.specs.Groups.Records.{is_free_block, free_stretches, block_bits, right_frsum, group_size}
 use Rattle.ffs_volume.specs.{declared.Layout.Layout, Disk.Areas.cgbase}
-use Rattle.ffs_maps.proofs.{WordShifts.{min_one, one_bit, small, bit_shr}, Counting.{sum_split, ones_by, one_on}}
-use Rattle.ffs_maps.proofs.Counting.{sum_same}
+use Rattle.ffs_maps.proofs.{WordShifts.{small, bit_shr}, Counting.{sum_split, ones_by, one_on}}
 use Rattle.ffs_groups.specs.{declared.free.FreeCounts.FreeCounts, Free.{word_bits, whole_in, loose_in, stretches_in}}
 use Rattle.ffs_groups.specs.Free.{Added, AreFree, free_in}
 pub use Rattle.ffs_maps.proofs.Counting.{sum_const}
@@ -211,10 +210,7 @@ ones_below word n h =
     (λ i past. omega (arith, bit_at_and word (2 ^ n - 1) i, bit_at_ones_above n i past)))
   where
     low : (i : ℕ) → i < n → bit_at (bit_and word (2 ^ n - 1)) i ≡ cond (nat_eq (bit_at word (0 + i)) 1) 1 0
-    low i l =
-        let at : 0 + i ≡ i = omega arith in
-        rw at (bit_at_and word (2 ^ n - 1) i ∙ min_one _ _ (bit_at-lt word i) (bit_at_ones n i l)
-        ∙ one_bit (bit_at word i) (bit_at-lt word i))
+    low i l = grind (arith, bit_at_and, bit_at_ones)
 
 -- what one fragment adds as a block
 single_adds : (b : Bool) → Adds (cond b 1 0) (b ∷ [])
@@ -226,16 +222,7 @@ pub added_single : (word frag n : ℕ) (old new : FreeCounts) → frag ≡ 1 →
     Added (λ b. word_bits (word / 2 ^ (b * frag)) 0 frag) 0 n old new
 added_single word frag n old new one h blocks fragments frsum =
     rw one (record {
-      blocks = omega (
-        arith,
-        blocks,
-        ones_below word n h,
-        sum_same (λ b. whole_in (word_bits (word / 2 ^ (b * 1)) 0 1)) (λ k. cond (nat_eq (bit_at word k) 1) 1 0) 0 0 n
-            (λ k l.
-            let at : 0 + (0 + k) * 1 ≡ 0 + k = omega arith in
-            (single_adds (nat_eq (bit_at (word / 2 ^ ((0 + k) * 1)) 0) 1)).0
-            ∙ rw (bit_shr word ((0 + k) * 1) 0, at) refl),
-      );
+      blocks = grind (arith, ones_below);
       fragments = omega (
         arith,
         fragments,

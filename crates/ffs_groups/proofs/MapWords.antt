@@ -1,14 +1,14 @@
 -- The words of a map, read at once or by bytes.
 use Rattle.std.proofs.Common.{◌≡◌, inl, inr, ℕ, zero, suc, ◌+◌, ◌-◌, ◌*◌, ◌/◌, ◌%◌, ◌^◌, ◌<◌, List, drop, slice_index}
 use Rattle.std.proofs.Common.{arith, ap, ◌∙◌, nat_eq, ◌≤◌, Bool, true, false, refl, sym, min, bit_and, bit_or, ◌&&◌}
-use Rattle.std.proofs.lemmas.{Bool.{cases_lt, eqb-true, eq-eqb, Decides.nat_tests}, Nat.Bits.bit_at_cat_low}
-use Rattle.std.proofs.lemmas.Nat.Bits.{bit_at_cat_high, bit_at_and, bit_at_or, bit_at_xor, bit_at-lt, bit_at-zero}
+use Rattle.std.proofs.lemmas.{Bool.{cases_lt, eqb-true, eq-eqb}, Nat.Bits.bit_at_cat_low}
+use Rattle.std.proofs.lemmas.Nat.Bits.{bit_at_cat_high, bit_at_and, bit_at_or, bit_at_xor, bit_at-zero}
 use Rattle.std.proofs.lemmas.Nat.Bits.{bit_at_ones, bit_at_ones_above, bit_at_above, same_from_bits, ones_shr}
 use Rattle.std.{proofs.lemmas.List.get_or-drop, specs.Int.{bit_at, RustNames.bit_xor}}
 use Rattle.byteorder.specs.Endian.{little_from}
 use Rattle.ffs_volume.specs.{Groups.Records.{bit_at as map_bit, same_bit}, Disk.Numbers.all_below}
 use Rattle.ffs_volume.proofs.{Below.{all_below-at, all_below-from}, Booleans.both_imply}
-use Rattle.ffs_maps.proofs.WordShifts.{bit_mod, bit_shl_low, bit_shl_high, max_zero, min_zero, zero_max, zero_min}
+use Rattle.ffs_maps.proofs.WordShifts.{bit_mod, bit_shl_low, bit_shl_high, max_zero, min_zero, zero_max}
 
 next : (b rest : ℕ) → b + 256 * rest ≡ rest * 2 ^ 8 + b
 next b rest = omega arith
@@ -50,10 +50,7 @@ byte_low bytes place byte word b h is low high k below =
     rw (bit_at_or word (b * 2 ^ (8 * byte) % 2 ^ 64) k, bit_mod (b * 2 ^ (8 * byte)) 64 k (omega arith))
     (elim (cases_lt k (8 * byte)) [
       | inl inside ↦ rw (max_zero (bit_at word k) _ (bit_shl_low b (8 * byte) k inside)) (low k inside)
-      | inr above ↦
-          let at : k / 8 ≡ byte = omega arith in
-          let bit : k % 8 ≡ k - 8 * byte = omega arith in
-          rw (zero_max (bit_at word k) _ (high k above), bit_shl_high b (8 * byte) k above, at, bit, is) refl
+      | inr above ↦ grind (arith, bit_shl_high)
     ])
 
 pub byte_high : (byte word b : ℕ) → byte < 8 → b < 256 → ((k : ℕ) → 8 * byte ≤ k → bit_at word k ≡ 0) →
@@ -93,33 +90,18 @@ all_join n (suc m) (suc t) test e =
 pub all_fails : (n m : ℕ) (test : ℕ → Bool) → m ≤ n → all_below m test ≡ false → all_below n test ≡ false
 all_fails n m test h now = all_join m (n - m) n test (omega arith) ∙ rw now refl
 
-small_bits : (a b : ℕ) → a < 2 → b < 2 → (a + b) % 2 ≡ 0 → same_bit (nat_eq a 1) (nat_eq b 1) ≡ true
-small_bits a b h g e = grind (arith, nat_tests)
-
-no_difference : (a b : ℕ) → a < 2 → b < 2 → same_bit (nat_eq a 1) (nat_eq b 1) ≡ true → (a + b) % 2 ≡ 0
-no_difference a b h g e = grind (arith, nat_tests)
-
 same_from_zero : (a b n : ℕ) → bit_and (bit_xor a b) (2 ^ n - 1) ≡ 0 → (k : ℕ) → k < n →
     same_bit (nat_eq (bit_at a k) 1) (nat_eq (bit_at b k) 1) ≡ true
 same_from_zero a b n e k h =
     let none = ap (λ x. bit_at x k) e in
-    small_bits (bit_at a k) (bit_at b k) (bit_at-lt a k) (bit_at-lt b k) (omega (
-      arith,
-      none,
-      bit_at-zero k,
-      bit_at_and (bit_xor a b) (2 ^ n - 1) k,
-      bit_at_xor a b k,
-      bit_at_ones n k h,
-    ))
+    grind (arith, bit_at_and, bit_at_xor, bit_at_ones)
 
 zero_from_same : (a b n : ℕ) → ((k : ℕ) → k < n → same_bit (nat_eq (bit_at a k) 1) (nat_eq (bit_at b k) 1) ≡ true) →
     bit_and (bit_xor a b) (2 ^ n - 1) ≡ 0
 zero_from_same a b n same =
     same_from_bits (bit_and (bit_xor a b) (2 ^ n - 1)) 0
     (λ k. bit_at_and (bit_xor a b) (2 ^ n - 1) k ∙ elim (cases_lt k n) [
-      | inl low ↦ zero_min _ _
-          (bit_at_xor a b k ∙ no_difference (bit_at a k) (bit_at b k) (bit_at-lt a k) (bit_at-lt b k) (same k low))
-          ∙ sym (bit_at-zero k)
+      | inl low ↦ grind (arith, bit_at_xor)
       | inr past ↦ min_zero _ _ (bit_at_ones_above n k past) ∙ sym (bit_at-zero k)
     ])
 

@@ -1,6 +1,6 @@
 -- Sums and counts over numbers in a row, and where all or none of them count.
-use Rattle.std.proofs.Common.{◌≡◌, ℕ, zero, suc, ◌+◌, ◌*◌, ◌<◌, ◌≤◌, Bool, [], map, cond, arith, refl, ap, ◌∙◌}
-use Rattle.std.proofs.Common.{count_by, ◌^◌, ◌-◌, true, false, List, not, inl, inr, sym, nat_eq, max, add-zero}
+use Rattle.std.proofs.Common.{◌≡◌, ℕ, zero, suc, ◌+◌, ◌*◌, ◌<◌, ◌≤◌, Bool, [], map, cond, arith, refl, ap}
+use Rattle.std.proofs.Common.{count_by, ◌^◌, ◌-◌, true, false, List, not, inl, inr, nat_eq, max, add-zero}
 use Rattle.std.proofs.lemmas.{Bool.{cases_lt, lt-ltb, false_from_ne_true, true_from_ne_false}, List.Sums.sum_by-cons}
 use Rattle.std.{proofs.lemmas.Nat.{mul-add-lt, Bits.bit_at_ones}, specs.{List.{range_with_len, sum_by}, Int.bit_at}}
 use Rattle.ffs_volume.specs.Blocks.Claims.{is_set}
@@ -99,9 +99,7 @@ pub count_from_two : (p : ℕ → Bool) (first len start n count : ℕ) → ((x 
     start ≡ max first 2 → n ≡ max (first + len) start - start →
     count ≡ count_by p (range_with_len start n) → count ≡ count_by p (range_with_len first len)
 count_from_two p first len start n count low is many e = elim (cases_lt len (start - first)) [
-  | inl few ↦
-      let none : n ≡ 0 = omega (arith, is, many) in
-      rw none at e ∙ sym (none_counted p first len (λ k h. low (first + k) (omega (arith, is, h, few))))
+  | inl few ↦ grind arith
   | inr more ↦
       let at : first + (start - first) ≡ start = omega (arith, is) in
       let split = sum_split (λ x. cond (p x) 1 0) first (start - first) n len (omega (arith, is, many)) in

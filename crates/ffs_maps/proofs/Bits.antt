@@ -1,11 +1,11 @@
 -- The bits of a map, by its words: how long the list is, what is at an index, and what is set.
-use Rattle.std.proofs.Common.{◌≡◌, ◌≢◌, inl, inr, ℕ, zero, suc, ◌+◌, ◌*◌, ◌/◌, ◌%◌, ◌^◌, ◌<◌, Bool, true, false, List}
-use Rattle.std.proofs.Common.{length, get_or, nat_eq, slice_set, replicate, bit_or, bit_and, arith, refl, ap, ◌∙◌, sym}
-use Rattle.std.proofs.{Common.{length-set, add-zero}, lemmas.List.{same_lists, get_or-set_other, get_or-set_same}}
-use Rattle.std.proofs.lemmas.List.{get_or-replicate, length-replicate, FromFn.length-map-range_with_len}
-use Rattle.std.proofs.lemmas.{List.FromFn.get_or-map-range_with_len, Nat.Bits.{bit_at_set_same, bit_at_set_other}}
-use Rattle.std.proofs.lemmas.{Nat.Bits.{bit_at_clear_same, bit_at_clear_other, bit_at-zero}, Bool.cases_eq}
-use Rattle.std.{proofs.Math.{Nat.ℕ_set, Path.subst⁻¹}, specs.Int.{bit_at, w64, bit_not, div_ceil}}
+use Rattle.std.proofs.Common.{◌≡◌, ◌≢◌, ℕ, zero, suc, ◌+◌, ◌*◌, ◌/◌, ◌%◌, ◌^◌, ◌<◌, Bool, true, false, List, length}
+use Rattle.std.proofs.Common.{get_or, nat_eq, slice_set, replicate, bit_or, bit_and, arith, refl, ap, ◌∙◌, length-set}
+use Rattle.std.proofs.{Common.add-zero, lemmas.List.{same_lists, get_or-set_other, get_or-set_same, get_or-replicate}}
+use Rattle.std.proofs.lemmas.List.{length-replicate, FromFn.{length-map-range_with_len, get_or-map-range_with_len}}
+use Rattle.std.proofs.lemmas.Nat.Bits.{bit_at_set_same, bit_at_set_other, bit_at_clear_same, bit_at_clear_other}
+use Rattle.std.{proofs.{lemmas.Nat.Bits.bit_at-zero, Math.{Nat.ℕ_set, Path.subst⁻¹}}, specs.Int.{bit_at, w64, bit_not}}
+use Rattle.std.specs.Int.{div_ceil}
 use Rattle.ffs_memory.specs.Words.{Words}
 use Rattle.ffs_maps.specs.{declared.FragmentMap.FragmentMap, Bits.{bits_of, set_run}, WordBits.{is_bit, bits_of_words}}
 use Rattle.ffs_maps.specs.WordBits.{set_among}
@@ -55,18 +55,7 @@ put_bits words size k v b h inside here other =
   where
     at : (f : ℕ) (d : Bool) → f < size → is_bit (slice_set words (k / 64) v) f
         ≡ get_or (slice_set (bits_of_words words size) k b) f d
-    at f d low = elim (cases_eq f k) [
-      | inl e ↦ rw (e, get_or-set_same words (k / 64) v 0 inside, here)
-          (sym (get_or-set_same (bits_of_words words size) k b d (omega (arith, h, length_bits words size))))
-      | inr apart ↦ elim (cases_eq (f / 64) (k / 64)) [
-        | inl e ↦
-            let same = other (f % 64) (omega arith) (λ q. apart (omega arith)) in
-            rw (e, get_or-set_same words (k / 64) v 0 inside, same, ← e)
-            (sym (get_or-set_other (bits_of_words words size) k f b d apart ∙ get_bits words size f d low))
-        | inr far ↦ rw (get_or-set_other words (k / 64) (f / 64) v 0 far)
-            (sym (get_or-set_other (bits_of_words words size) k f b d apart ∙ get_bits words size f d low))
-      ]
-    ]
+    at f d low = grind (arith, get_or-set_same, length_bits, get_or-set_other, get_bits)
 
 pub set_bits : (words : List ℕ) (size k w : ℕ) → k < size → k / 64 < length words → w ≡ get_or words (k / 64) 0 →
     bits_of_words (slice_set words (k / 64) (bit_or w (1 * 2 ^ (k % 64) % 2 ^ 64))) size

@@ -1,15 +1,15 @@
 -- How many bits of a run are set.
-use Rattle.std.proofs.Common.{◌≡◌, inl, inr, ℕ, zero, suc, ◌+◌, ◌-◌, ◌*◌, ◌/◌, ◌%◌, ◌^◌, ◌<◌, ◌≤◌, Bool, false, List}
-use Rattle.std.proofs.Common.{length, cond, map, get_or, bit_and, count_ones, count_by, arith, refl, ap, ◌∙◌, sym, take}
-use Rattle.std.proofs.{Common.{drop, add-zero, min}, lemmas.List.{get_or_past, get_or-drop, get_or-take, length-drop}}
+use Rattle.std.proofs.Common.{◌≡◌, ℕ, zero, suc, ◌+◌, ◌-◌, ◌*◌, ◌/◌, ◌%◌, ◌^◌, ◌<◌, ◌≤◌, Bool, false, List, length}
+use Rattle.std.proofs.Common.{cond, map, get_or, bit_and, count_ones, count_by, arith, refl, ap, ◌∙◌, sym, take, drop}
+use Rattle.std.proofs.{Common.{add-zero, min}, lemmas.List.{get_or_past, get_or-drop, get_or-take, length-drop}}
 use Rattle.std.proofs.lemmas.List.{length-take-le, Sums.{sum_by-cons, count_by-le-length}, FromFn.length-range_with_len}
 use Rattle.std.proofs.lemmas.List.{FromFn.{length-map-range_with_len, get_or-map-range_with_len}, Elements.All-get_or}
 use Rattle.std.proofs.lemmas.{Simd.{bit_mask_l, ones-mask_l}, Nat.Bits.{bit_at_and, bit_at-lt, bit_at_above}}
-use Rattle.std.proofs.lemmas.{Nat.Bits.{bit_at_ones, bit_at_ones_above, same_from_bits, ones_shr}, Bool.cases_lt}
+use Rattle.std.proofs.lemmas.Nat.Bits.{bit_at_ones, bit_at_ones_above, same_from_bits, ones_shr}
 use Rattle.std.specs.{List.{range_with_len, sum_by, slice_index_or, All}, Int.bit_at}
 use lib.Lanes.{mask_l}
 use Rattle.ffs_maps.{specs.WordBits.{bits_of_words, set_among}, proofs.{Bits.{get_bits, bit_in}, WordShifts.bit_shr}}
-use Rattle.ffs_maps.proofs.WordShifts.{min_one, one_bit}
+use Rattle.ffs_maps.proofs.WordShifts.{one_bit}
 
 -- the place of the next number
 pub one_on : (a k : ℕ) → a + 1 + k ≡ a + (k + 1)
@@ -61,11 +61,7 @@ ones_by p x a n low high =
     ∙ ones-mask_l p (range_with_len a n)
   where
     at : (i : ℕ) → bit_at x i ≡ cond (get_or (map p (range_with_len a n)) i false) 1 0
-    at i = elim (cases_lt i n) [
-      | inl h ↦ low i h ∙ ap (λ b. cond b 1 0) (sym (get_or-map-range_with_len p a n i (a + i) false h refl))
-      | inr h ↦ high i h ∙ ap (λ b. cond b 1 0)
-          (sym (get_or_past (map p (range_with_len a n)) i false (omega (arith, h, length-map-range_with_len p a n))))
-    ]
+    at i = grind (arith, get_or-map-range_with_len, get_or_past, length-map-range_with_len)
 
 -- the bits of one word that are counted
 pub ones_in_word : (words : List ℕ) (size start len w : ℕ) → start % 64 + len ≤ 64 → start + len ≤ size →
@@ -80,12 +76,7 @@ ones_in_word words size start len w h below is =
   where
     low : (i : ℕ) → i < len → bit_at (bit_and (w / 2 ^ (start % 64)) (2 ^ len - 1)) i
         ≡ cond (slice_index_or (bits_of_words words size) (start + i) false) 1 0
-    low i l =
-        rw (bit_in words size (start + i) (start / 64) (i + start % 64) w (omega arith) (omega arith) (omega arith) is)
-        (bit_at_and (w / 2 ^ (start % 64)) (2 ^ len - 1) i
-        ∙ min_one _ _ (bit_at-lt (w / 2 ^ (start % 64)) i) (bit_at_ones len i l)
-        ∙ bit_shr w (start % 64) i
-        ∙ one_bit (bit_at w (i + start % 64)) (bit_at-lt w (i + start % 64)))
+    low i l = grind (arith, bit_in, bit_at_and, bit_at_ones, bit_shr, one_bit)
 
     high : (i : ℕ) → len ≤ i → bit_at (bit_and (w / 2 ^ (start % 64)) (2 ^ len - 1)) i ≡ 0
     high i l = omega (arith, bit_at_and (w / 2 ^ (start % 64)) (2 ^ len - 1) i, bit_at_ones_above len i l)
@@ -148,8 +139,4 @@ pub count_ends : (words touched : List ℕ) (size first index last count : ℕ) 
 count_ends words touched size first index last count from_ below same within ends is =
     let rest = none_in_zeros words size (64 * index) (64 * last - 64 * index) (omega (arith, below, within))
     (λ k h. same ((64 * index + k) / 64) ∙ get_or_past touched ((64 * index + k) / 64) 0 (omega (arith, ends, h))) in
-    omega (
-      arith,
-      count_join_at (λ f. slice_index_or (bits_of_words words size) f false) (64 * first) (64 * index)
-          (64 * last) (64 * last - 64 * index) count 0 (omega (arith, from_)) (omega (arith, within)) is (sym rest),
-    )
+    grind (arith, count_join_at)

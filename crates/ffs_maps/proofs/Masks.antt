@@ -2,12 +2,11 @@
 use Rattle.std.proofs.Common.{◌≡◌, ◌⊎◌, inl, inr, ℕ, zero, suc, ◌+◌, ◌-◌, ◌*◌, ◌/◌, ◌%◌, ◌^◌, ◌<◌, ◌≤◌, Bool, true}
 use Rattle.std.proofs.Common.{false, List, length, get_or, nat_eq, slice_set, bit_or, bit_and, arith, refl, ap, ◌∙◌}
 use Rattle.std.proofs.{Common.{sym, length-set, min}, lemmas.{List.{get_or-set_other, get_or-set_same}, Bool.cases_eq}}
-use Rattle.std.proofs.lemmas.{Bool.{cases_lt, eqb-false}, Nat.{pow-add, shl_below, Bits.{bit_at_or, bit_at_and}}}
-use Rattle.std.proofs.lemmas.Nat.Bits.{bit_at-zero, bit_at-lt, bit_at_mask_inside, bit_at_mask_below, bit_at_mask_above}
-use Rattle.std.proofs.{lemmas.Nat.Bits.{ones_shr, same_from_bits}, Math.Nat.{one-le-pow, pow-le-pow_right}}
-use Rattle.std.specs.Int.{bit_at}
+use Rattle.std.proofs.lemmas.{Bool.eqb-false, Nat.{pow-add, shl_below, Bits.{bit_at_or, bit_at_and, bit_at-zero}}}
+use Rattle.std.proofs.lemmas.Nat.Bits.{bit_at-lt, bit_at_mask_inside, bit_at_mask_below, bit_at_mask_above, ones_shr}
+use Rattle.std.{proofs.{lemmas.Nat.Bits.same_from_bits, Math.Nat.{one-le-pow, pow-le-pow_right}}, specs.Int.bit_at}
 use Rattle.ffs_maps.{specs.{Bits.{set_run, AreClear}, WordBits.{is_bit, bits_of_words}}, proofs.Bits.length_bits}
-use Rattle.ffs_maps.proofs.{Bits.{get_bits, bit_in, bits_are}, WordShifts.{min_zero, zero_min}}
+use Rattle.ffs_maps.proofs.Bits.{get_bits, bit_in, bits_are}
 
 -- the mask that the code computes
 abbrev pub mask_of : ℕ → ℕ → ℕ
@@ -17,10 +16,8 @@ mask_is : (start len : ℕ) → start % 64 + len ≤ 64 → mask_of start len �
 mask_is start len h =
     let twice : 64 - (64 - len) ≡ len = omega arith in
     let some : 1 ≤ 2 ^ len = one-le-pow len 2 (omega arith) in
-    let below : (2 ^ len - 1) * 2 ^ (start % 64) < 2 ^ (len + start % 64) =
-    shl_below (2 ^ len - 1) len (start % 64) (omega arith) in
-    let fits : 2 ^ (len + start % 64) ≤ 2 ^ 64 =
-    pow-le-pow_right (omega arith) {i = len + start % 64} {j = 64} (omega arith) in
+    let below : (2 ^ len - 1) * 2 ^ (start % 64) < 2 ^ (len + start % 64) = grind (arith, shl_below) in
+    let fits : 2 ^ (len + start % 64) ≤ 2 ^ 64 = grind (arith, pow-le-pow_right) in
     rw (ones_shr 64 (64 - len) (omega arith), twice) (shifted (2 ^ len - 1) (2 ^ (start % 64)) (2 ^ len) _ (omega arith)
     (pow-add 2 (start % 64) len) (omega (arith, below, fits)))
   where
@@ -43,8 +40,7 @@ pub run_inside : (bits : List Bool) (start len f : ℕ) (d : Bool) → start ≤
     get_or (set_run bits start len) f d ≡ true
 run_inside bits start zero f d a b h = absurd (omega arith)
 run_inside bits start (suc len) f d a b h = elim (cases_eq f start) [
-  | inl e ↦ run_outside (slice_set bits start true) (start + 1) len f d (inl (omega arith))
-      ∙ ap (λ i. get_or (slice_set bits start true) i d) e ∙ get_or-set_same bits start true d (omega arith)
+  | inl e ↦ grind (arith, run_outside, get_or-set_same)
   | inr apart ↦ run_inside (slice_set bits start true) (start + 1) len f d (omega arith) (omega arith)
       (omega (arith, length-set bits start true))
 ]
@@ -53,15 +49,9 @@ pub clear_run : (words : List ℕ) (size start len : ℕ) → start % 64 + len �
     bit_and (get_or words (start / 64) 0) (mask_of start len) ≡ 0 → AreClear (bits_of_words words size) start len
 clear_run words size start len h below e = λ k low.
     let none = ap (λ x. bit_at x (start % 64 + k)) (rw (mask_is start len h) at e) in
-    let clear : bit_at (get_or words (start / 64) 0) (start % 64 + k) ≡ 0 = omega (
-      arith,
-      bit_at_and (get_or words (start / 64) 0) (2 ^ (start % 64 + len) - 2 ^ (start % 64)) (start % 64 + k),
-      none,
-      bit_at-zero (start % 64 + k),
-      bit_at_mask_inside (start % 64) (start % 64 + len) (start % 64 + k) (omega arith) (omega arith),
-    ) in
-    bit_in words size (start + k) (start / 64) (start % 64 + k) _ (omega arith) (omega arith) (omega arith) refl
-    ∙ rw clear refl
+    let clear : bit_at (get_or words (start / 64) 0) (start % 64 + k) ≡ 0 =
+    grind (arith, bit_at_and, bit_at_mask_inside) in
+    grind (arith, bit_in)
 
 -- a run of clear bits has none in common with its mask
 pub run_clear : (words : List ℕ) (size start len : ℕ) → start % 64 + len ≤ 64 → start + len ≤ size →
@@ -78,13 +68,7 @@ run_clear words size start len h below clear = rw (mask_is start len h)
 
     at : (i : ℕ) → min (bit_at (get_or words (start / 64) 0) i) (bit_at (2 ^ (start % 64 + len) - 2 ^ (start % 64)) i)
         ≡ 0
-    at i = elim (cases_lt i (start % 64)) [
-      | inl low ↦ min_zero _ _ (bit_at_mask_below (start % 64) (start % 64 + len) i low)
-      | inr past ↦ elim (cases_lt i (start % 64 + len)) [
-        | inl within ↦ zero_min _ _ (inside i past within)
-        | inr above ↦ min_zero _ _ (bit_at_mask_above (start % 64) (start % 64 + len) i above)
-      ]
-    ]
+    at i = grind (arith, bit_at_mask_below, inside, bit_at_mask_above)
 
 -- the word of a run is replaced, by one that has all bits of the run, and else the same ones
 put_run : (words : List ℕ) (size start len v : ℕ) → start % 64 + len ≤ 64 → start + len ≤ size →
@@ -102,20 +86,7 @@ put_run words size start len v h below inside here other =
 
     at : (f : ℕ) (d : Bool) → f < size → is_bit (slice_set words (start / 64) v) f
         ≡ get_or (set_run (bits_of_words words size) start len) f d
-    at f d low = elim (cases_eq (f / 64) (start / 64)) [
-      | inl e ↦ rw (e, get_or-set_same words (start / 64) v 0 inside) (elim (cases_lt f start) [
-        | inl a ↦ rw (other (f % 64) (inl (omega arith)), ← e) (out f d low (inl a))
-        | inr b ↦ elim (cases_lt f (start + len)) [
-          | inl c ↦ here (f % 64) (omega arith) (omega arith)
-              ∙ sym (run_inside (bits_of_words words size) start len f d b c (omega (arith, length_bits words size)))
-          | inr c ↦ rw (other (f % 64) (inr (omega arith)), ← e) (out f d low (inr c))
-        ]
-      ])
-      | inr far ↦ rw (get_or-set_other words (start / 64) (f / 64) v 0 far) (out f d low (elim (cases_lt f start) [
-        | inl a ↦ inl a
-        | inr b ↦ inr (omega arith)
-      ]))
-    ]
+    at f d low = grind (arith, get_or-set_same, out, run_inside, length_bits, get_or-set_other)
 
 pub mark_run : (words : List ℕ) (size start len w : ℕ) → start % 64 + len ≤ 64 → start + len ≤ size → 0 < len →
     start / 64 < length words → w ≡ get_or words (start / 64) 0 →

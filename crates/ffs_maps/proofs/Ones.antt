@@ -53,8 +53,7 @@ changed old new size start len h same = omega (
 pub one_set : (bits : List Bool) (size k : ℕ) (b : Bool) → length bits ≡ size → k < size →
     set_among (slice_set bits k b) 0 size + cond (get_or bits k false) 1 0 ≡ set_among bits 0 size + cond b 1 0
 one_set bits size k b is h =
-    let here : is_one (slice_set bits k b) k ≡ cond b 1 0 =
-    rw (get_or-set_same bits k b false (omega (arith, is, h))) refl in
+    let here : is_one (slice_set bits k b) k ≡ cond b 1 0 = grind (arith, get_or-set_same) in
     omega (
       arith,
       here,

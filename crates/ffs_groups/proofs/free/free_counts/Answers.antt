@@ -1,10 +1,9 @@
-use Rattle.std.proofs.Common.{arith, refl, ◌∙◌, ◌≡◌, ◌+◌, ◌*◌, ◌^◌}
-use Rattle.std.{proofs.lemmas.Nat.mul-le, proofs.lemmas.List.FromFn.length-map-range_with_len}
+use Rattle.std.proofs.{Common.{arith, refl, ◌∙◌, ◌≡◌, ◌+◌, ◌*◌, ◌^◌}, lemmas.List.FromFn.length-map-range_with_len}
 use Rattle.ffs_volume.specs.{Disk.Areas.cgbase, Groups.Records.block_bits}
 use Rattle.ffs_maps.specs.Bits.{bits_of}
-use Rattle.ffs_groups.specs.Free.{bits_from, free_in, whole_in, loose_in, stretches_in}
-use Rattle.ffs_groups.proofs.Adding.{whole_fits, loose_fits, added_join, added_below, no_stretches, count_start}
-use Rattle.ffs_groups.proofs.{FreeWords.free_there, FreeWords.fits_blocks, FreeWords.fits_fragments, Sums.block_from}
+use Rattle.ffs_groups.{specs.Free.{bits_from, free_in, whole_in, loose_in, stretches_in}, proofs.Adding.whole_fits}
+use Rattle.ffs_groups.proofs.Adding.{loose_fits, added_join, added_below, no_stretches, count_start}
+use Rattle.ffs_groups.proofs.{FreeWords.{free_there, fits_blocks, fits_fragments}, Sums.block_from}
 use Rattle.ffs_groups.proofs.free.free_counts.Goals as goal
 
 pub add_blocks-requires : goal.add_blocks-requires
@@ -14,13 +13,7 @@ add_blocks-requires c =
     record {
       some = omega (arith, c.args.geometry.now.sound.sizes.frag_low);
       few = c.args.geometry.now.sound.sizes.frag_high;
-      near = omega (
-        arith,
-        c.from-base.ensures,
-        mul-le c.from.result c.from-in-loop-block.result (2 ^ 32) 8
-            (omega (arith, c.from.ensures, c.loop-block.auto.block-fits))
-            (omega (arith, c.from-in-loop-block.ensures, c.args.geometry.now.sound.sizes.frag_high)),
-      );
+      near = grind arith;
       below = added_below (block_bits c.args.geometry.now.layout free c.args.group) c.loop-block.block 1 (2 ^ 61)
           _ c.loop-block.counts c.loop-block.invariant.added
           (λ b. omega (

@@ -1,4 +1,4 @@
-use Rattle.std.{proofs.Common.{arith, refl, ap, sym, nat_eq, ◌∙◌, ◌≡◌, ◌+◌, ◌*◌, ◌&&◌}, specs.Int.bit_at}
+use Rattle.std.proofs.Common.{arith, refl, ap, sym, ◌∙◌, ◌≡◌, ◌+◌, ◌*◌, ◌&&◌}
 use Rattle.ffs_volume.specs.Groups.Records.{bit_at as map_bit, same_bit, has_bits}
 use Rattle.ffs_groups.proofs.MapWords.{map_parts, none_below, same_below}
 use Rattle.ffs_groups.proofs.maps.are_filled.Goals as goal
@@ -12,14 +12,7 @@ loop-index-preserved c =
     let bit = c.args.bit in
     let index = c.loop-index.index in
     let at = c.args.place + 8 * index in
-    let word : c.same_bits-same.result ≡ has_bits block at 64 (λ _. bit) =
-    c.same_bits-same.ensures
-    ∙ same_below 64
-    (λ k. same_bit (nat_eq (bit_at c.word_at-found.result k) 1) (nat_eq (bit_at c.filled-right.result k) 1))
-    (λ k. same_bit (map_bit block at k) bit)
-    (λ k h. ap (λ b. same_bit b (nat_eq (bit_at c.filled-right.result k) 1))
-    (c.word_at-found.ensures k (omega (arith, h)))
-    ∙ ap (λ b. same_bit (map_bit block at k) b) (c.filled-right.ensures k h)) in
+    let word : c.same_bits-same.result ≡ has_bits block at 64 (λ _. bit) = grind (arith, same_below) in
     ap (λ b. b && c.same_bits-same.result) c.loop-index.invariant
     ∙ ap (λ b. has_bits block c.args.place (64 * index) (λ _. bit) && b) word
     ∙ sym (map_parts block c.args.place index 64 (64 * (index + 1)) at 0 (λ _. bit) (omega arith) refl)

@@ -1,6 +1,5 @@
-use Rattle.std.proofs.Common.{arith, rules, refl, ap, sym, ◌∙◌, ◌≡◌, ◌+◌, ◌*◌, ◌/◌, ◌%◌, nat_eq, true, false, ◌&&◌}
-use Rattle.std.specs.Int.{bit_at}
-use Rattle.ffs_volume.specs.Groups.Records.{bit_at as map_bit, has_bits, same_bit}
+use Rattle.std.proofs.Common.{arith, rules, refl, ap, sym, ◌∙◌, ◌≡◌, ◌+◌, ◌*◌, ◌/◌, ◌%◌, true, false, ◌&&◌}
+use Rattle.ffs_volume.specs.Groups.Records.{has_bits}
 use Rattle.ffs_maps.specs.Bits.{bits_of}
 use Rattle.ffs_groups.{specs.Free.free_in, proofs.{Adding.fragment_map, MapWords.same_below}}
 use Rattle.ffs_groups.proofs.maps.same_fragment_map.Goals as goal
@@ -28,14 +27,7 @@ returns c =
     let last = c.from.result + 64 * c.from-2.result in
     let agree : c.same_stretches.result ≡ true = search rules in
     let end : c.same_bits.result ≡ has_bits block at (n % 64) (λ k. free_in (bits_of used) used.size (last + k)) =
-    c.same_bits.ensures
-    ∙ same_below (n % 64)
-    (λ k. same_bit (nat_eq (bit_at c.word_at-found.result k) 1) (nat_eq (bit_at c.clear_bits-right.result k) 1))
-    (λ k. same_bit (map_bit block at k) (free_in (bits_of used) used.size (last + k)))
-    (λ k h. ap (λ b. same_bit b (nat_eq (bit_at c.clear_bits-right.result k) 1))
-    (c.word_at-found.ensures k (omega (arith, h, c.div_ceil.ensures)))
-    ∙ ap (λ b. same_bit (map_bit block at k) b)
-    (c.clear_bits-right.ensures k (omega (arith, h)))) in
+    grind (arith, same_below) in
     sym (ap (λ b. b && c.same_bits.result) agree)
     ∙ fragment_map (bits_of used) used.size c.args.geometry.now.layout.size block c.args.place n _
     c.cgbase-base.result _ last at c.same_stretches.result c.same_bits.result

@@ -32,13 +32,7 @@ loop-index-preserved c =
     let left : c.args.frag - c.loop-index.index ≡ c.args.frag - (c.loop-index.index + 1) + 1 = omega arith in
     elim c.if-bits-index-eq1.branch [
       | then-bits-index-eq1 w ↦ rw (w.self-is, w.stretch-is) (record {
-        fragments = omega (
-          arith,
-          c.loop-index.invariant.fragments,
-          free_next c.args.bits c.loop-index.index (c.args.frag - c.loop-index.index)
-              (c.args.frag - (c.loop-index.index + 1)) left
-              (bit_set c.args.bits c.loop-index.index w.if-bits-index-eq1.true),
-        );
+        fragments = grind (arith, free_next, bit_set);
         frsum = λ k. ap (λ n. slice_index c.loop-index.self.frsum k + n)
             (sym (stretch_grows c.args.bits c.loop-index.index (c.args.frag - c.loop-index.index)
             (c.args.frag - (c.loop-index.index + 1)) c.loop-index.stretch k left
@@ -47,14 +41,7 @@ loop-index-preserved c =
         blocks = c.loop-index.invariant.blocks;
       })
       | else-bits-index-eq1 w ↦ rw (w.self-is, w.stretch-is) (record {
-        fragments = omega (
-          arith,
-          w.end_stretch.ensures.fragments,
-          c.loop-index.invariant.fragments,
-          used_next c.args.bits c.loop-index.index (c.args.frag - c.loop-index.index)
-              (c.args.frag - (c.loop-index.index + 1)) left
-              (bit_clear c.args.bits c.loop-index.index w.if-bits-index-eq1.false),
-        );
+        fragments = grind (arith, used_next, bit_clear);
         frsum = λ k. omega (
           arith,
           w.end_stretch.ensures.frsum k,
