@@ -9,14 +9,8 @@ use Rattle.ffs_maps.{specs.{Bits.is_clear, WordBits.bits_of_words}, proofs.Bits.
 pub one_bit : (b : ℕ) → b < 2 → b ≡ cond (nat_eq b 1) 1 0
 one_bit b h = grind arith
 
-pub min_one : (a b : ℕ) → a < 2 → b ≡ 1 → min a b ≡ a
-min_one a b h e = omega arith
-
 pub min_zero : (a b : ℕ) → b ≡ 0 → min a b ≡ 0
 min_zero a b e = omega arith
-
-pub zero_min : (a b : ℕ) → a ≡ 0 → min a b ≡ 0
-zero_min a b e = omega arith
 
 pub max_zero : (a b : ℕ) → b ≡ 0 → max a b ≡ a
 max_zero a b e = omega arith

@@ -101,6 +101,7 @@ fn reads_within_limit(limit: u64, alloc: Global) -> Result<LimitedReads, AllocEr
     let mut image = LimitedImage::new(&mut below, Some(limit));
     let reads = three_reads(&mut image);
     let (left, spent) = (image.left(), image.is_spent());
+    drop(image);
     Ok((reads, [left, below.reads()], spent))
 }
 

@@ -127,8 +127,10 @@ impl Image for TurningImage {
     }
 }
 
-/// The root has 2^31 - 512 bytes: twelve blocks, a single and a double indirect one.
-const LARGE: [Number; 4] = [
+/// The root has 2^31 - 512 bytes: twelve blocks, a single and a double indirect one. The type of
+/// `..` in the chunk that it had is wrong, so that phase 2 looks at the root.
+const LARGE: [Number; 5] = [
+    (36882, 1, 8),
     (28936, 8, 2_147_483_136),
     (28968, 4, 40),
     (29016, 4, 44),
