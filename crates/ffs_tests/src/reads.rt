@@ -127,59 +127,57 @@ impl Image for TurningImage {
     }
 }
 
-/// The root has 2^31 - 512 bytes: twelve blocks, a single and a double indirect one. The type of
-/// `..` in the chunk that it had is wrong, so that phase 2 looks at the root.
-const LARGE: [Number; 5] = [
-    (36882, 1, 8),
+/// The root and the file that is inode 3 have 2^31 - 512 bytes: the root a block, and each a single
+/// and a double indirect one. Phase 1 reads those of the file last, so that no window holds the
+/// root's any more.
+const LARGE: [Number; 7] = [
     (28936, 8, 2_147_483_136),
-    (28968, 4, 40),
     (29016, 4, 44),
-    (29020, 4, 44),
+    (29020, 4, 48),
+    (29056, 2, 0o100644),
+    (29064, 8, 2_147_483_136),
+    (29144, 4, 52),
+    (29148, 4, 56),
 ];
 
-/// The volume with a root of which each block is at fragment 40 or 44, in turn. So is each indirect
-/// block: the words of both name the two in turn.
+/// The volume with these two. Each word of the three blocks from fragment 40 on names the first or
+/// the second of them, in turn: so does each block of the root but the first.
 fn turning_blocks(order: Order, alloc: Global) -> Result<MemoryImage, AllocError> {
     let mut bytes = volume_bytes(order, &LARGE, alloc)?;
-    for word in 0..1024usize {
+    for word in 0..3072usize {
         let address = if word % 2 == 0 { 40 } else { 44 };
         put(
             order,
             bytes.as_mut_slice(),
-            &[
-                (40_960 + 4 * word, 4, address),
-                (45_056 + 4 * word, 4, address),
-            ],
+            &[(40_960 + 4 * word, 4, address)],
         );
     }
     Ok(MemoryImage::new(bytes))
 }
 
-/// How a check ends of an image that turns into that volume after phase 1, whose reads are the
-/// superblock, its copy and the inodes; and how often it reads.
+/// How a check ends of an image that turns into that volume after phase 1, in which these blocks
+/// have no address; and how often it reads. Phase 1 ends with the seventh read: these are of the
+/// superblock, its copy, the inodes, and the four indirect blocks.
 fn turned(order: Order, alloc: Global) -> Result<(End, u64), AllocError> {
     let mut image = CountedImage::new(TurningImage {
-        first: volume(order, &[], alloc)?,
+        first: volume(order, &LARGE, alloc)?,
         then: turning_blocks(order, alloc)?,
-        left: 3,
+        left: 7,
     });
     let (end, _) = checked(&mut image, alloc);
     Ok((end, image.reads()))
 }
 
-/// A sweep over the volume of 32 inodes and 128 fragments has 32 + 128 + 22 * 32 = 864 reads, and
-/// the looks of phase 2 have two. The root would take 524,288, one for each block. Beside the looks
-/// the check makes no more reads than of an image that stays, and one for a message.
+/// A sweep over the volume of 32 inodes and 128 fragments has 32 + 128 + 22 * 32 = 864 reads. The
+/// survey has one, and the looks of phase 2 have two: all are used up, where the root alone would
+/// take 524,288 reads each time. All else takes fewer than 16.
 #[test]
 fn reads_of_a_turning_image(rt: HostRuntime) -> Result<(), Fail> {
     for order in ORDERS {
         let (end, reads) = turned(order, rt.alloc())?;
         same(&rt, &end, &End::Defects);
-        same(
-            &rt,
-            &(reads >= 2 * 864, reads < 2 * 864 + 16),
-            &(true, true),
-        );
+        let within = (3 * 864..3 * 864 + 16).contains(&reads);
+        same(&rt, &within, &true);
     }
     Ok(())
 }
