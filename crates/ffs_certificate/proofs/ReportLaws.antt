@@ -35,15 +35,9 @@ silent_names : (ms : List TreeMessage) → has_defect (map of_tree ms) ≡ false
 silent_names [] h = refl
 silent_names (m ∷ ms) h = absurd (cc)
 
-quiet_names : (ms : List TreeMessage) → ms ≡ [] → has_defect (map of_tree ms) ≡ false
-quiet_names ms e = ap (λ ms. has_defect (map of_tree ms)) e
-
-quiet_blocks : (ms : List BlockMessage) → ms ≡ [] → has_defect (map of_blocks ms) ≡ false
-quiet_blocks ms e = ap (λ ms. has_defect (map of_blocks ms)) e
-
 ruleset parts = (quiet_left, quiet_right, silent_blocks, silent_names)
 
-ruleset whole = (quiet_from, quiet_blocks, quiet_names)
+ruleset whole = (quiet_from)
 
 settings_say : (super : Superblock) → has_defect (setting_lines super) ≡ false → AreSettingsRight super
 unfolding setting_lines

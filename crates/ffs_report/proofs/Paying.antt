@@ -23,7 +23,9 @@ paid_none {a = a} few = record {
 pub paid_said : {price : ℕ} {a b : Progress} {before after : ℕ} (ms : List Message) → Said a b ms → after ≤ before →
     Paid {T = Unit {0}} price a b before after (Ok tt)
 paid_said ms said few = record {
-  messages = length ms; begun = record { messages = ms; said = said; many = refl }; most = omega (arith, few);
+  messages = length ms;
+  begun = record { messages = ms; said = said; many = refl };
+  most = omega (arith, few);
 }
 
 -- a read failed before anything was said, of those that are left for other reads
