@@ -2,6 +2,7 @@
 use Rattle.std.proofs.Common.{◌≡◌, ℕ, suc, ◌+◌, ◌<◌, ◌≤◌, Bool, true, false, not, ◌&&◌, List, [], ◌∷◌, ◌++◌, nat_lt}
 use Rattle.std.proofs.Common.{inl, inr, eq-zero-or-pos, length, drop, max, sym, ap, subst, ◌∙◌, arith, length-drop}
 use Rattle.std.proofs.Common.{le-ltb, lt-ltb, ltb-true}
+use Rattle.std.proofs.lemmas.List.{drop_all}
 use Rattle.std.proofs.lemmas.Bool.{Decides.nat_tests, and_parts, not-true}
 use Rattle.ffs_volume.specs.Directories.Paths.{joined, longest_end, path_bytes}
 use Rattle.ffs_paths.specs.{declared.buffer.PathBuffer.PathBuffer, Buffers.HoldsNames, Buffers.IsLonger}
@@ -41,6 +42,12 @@ room_holds p names room whole short some =
     let n = whole-length p names whole in
     fits_holds p names room whole
     (ap (λ k. drop k p.bytes) short ∙ (whole ∙ sym (ap joined (end-whole 1023 names (omega arith)))))
+
+-- no names
+pub none_held : (p : PathBuffer) → p.start ≡ 1024 → p.short ≡ 1024 → p.cut ≡ false → HoldsNames p []
+none_held p start short cut =
+    let l = p.long in
+    room_holds p [] cut (drop_all p.start p.bytes (omega arith)) (omega arith) (omega arith)
 
 cut_holds : (p : PathBuffer) (names : List (List ℕ)) → p.cut ≡ true → 1024 < length (joined names) →
     drop p.short p.bytes ≡ joined (longest_end 1023 names) → HoldsNames p names

@@ -6,7 +6,10 @@ use Rattle.std.proofs.lemmas.Bool.{both_ways, and_parts, ne_eqb, cond-false, eq-
 use Rattle.ffs_volume.proofs.LevelLaws.{level-some, within-zero, reached-level}
 use Rattle.ffs_volume.specs.Directories.Graph.{Graph, level, is_naming_entry, is_naming_dir, parent, parent_entry_index}
 use Rattle.ffs_volume.specs.Directories.{Graph.index_in_parent, Graph.first_index, Parents.nth_roled, Parents.graph_of}
-use Rattle.ffs_volume.specs.Directories.Paths.{joined, names_down, names_by_parent, name_of}
+use Rattle.ffs_volume.specs.Directories.Paths.{joined, names_down, names_by_parent, name_of, path_bytes}
+use Rattle.ffs_volume.specs.Directories.Paths.{dir_path, dir_path_of_names, entry_path, entry_path_of_names}
+use Rattle.ffs_volume.proofs.PathBound.{path_text-fits}
+use Rattle.ffs_paths.{specs.Climbing.in_room, proofs.Rooms.fits}
 use Rattle.ffs_volume.specs.Directories.{Roles.RoledEntry, Volumes.volume_of, Volumes.volume_with}
 use Rattle.ffs_volume.specs.declared.Layout.{Layout}
 use Rattle.ffs_survey.specs.ParentLaws.{parent_above, root_level}
@@ -148,3 +151,21 @@ child_made g s made kept some makes =
     let leads = kept.child some in
     subst (HoldsPath made) (sym leads.to_child)
     (makes leads.names (subst (HoldsPath s.path) leads.to_parent (kept.path (kept.parent some))) leads.single)
+
+-- a path of at least one name
+path_of_some : (names : List (List ℕ)) (name : List ℕ) →
+    path_bytes (names ++ name ∷ []) ≡ dir_path_of_names (Some (names ++ name ∷ []))
+path_of_some [] name = refl
+path_of_some (x ∷ names) name = refl
+
+-- the path that is written as that of an entry of the parent
+pub child_put : (g : Graph) (s : KeptParent) (text : List ℕ) → IsKeptParent g s → 0 < s.child →
+    ((g : Graph) (d : ℕ) → IsPathOf g d s.path → text ≡ in_room (entry_path g d s.name.items)) →
+    text ≡ dir_path g s.child
+unfolding dir_path entry_path
+child_put g s text kept some put =
+    let leads = kept.child some in
+    let names = leads.names ++ s.name.items ∷ [] in
+    put g s.parent (kept.path (kept.parent some))
+    ∙ (ap (λ o. in_room (entry_path_of_names s.name.items o)) leads.to_parent ∙ (sym (fits _ (path_text-fits names))
+    ∙ (path_of_some leads.names s.name.items ∙ sym (ap dir_path_of_names leads.to_child))))

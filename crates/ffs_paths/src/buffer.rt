@@ -98,6 +98,15 @@ impl PathBuffer {
         }
     }
 
+    /// No names any more.
+    pub fn clear(&mut self)
+        ensures { HoldsNames self.new [] }
+    {
+        self.start = MAXPATHLEN;
+        self.short = MAXPATHLEN;
+        self.cut = false;
+    }
+
     /// Whether there is room for them and one name more.
     #[inline]
     fn has_room(&self, name: &[u8]) -> bool

@@ -9,7 +9,7 @@ ghost use Rattle.ffs_paths.specs.Reads.{ForTree, ReadsAtMost, climb_reads};
 
 use crate::buffer::{PathBuffer, PathText};
 use crate::name::{NameText, find_name};
-use crate::path::{DirectoryPath, directory_path, is_reached};
+use crate::path::{DirectoryPath, directory_path, is_reached, put_directory};
 use ffs_image::{Image, ImageFault};
 use ffs_layout::Geometry;
 use ffs_volume::constants::ROOTINO;
@@ -84,13 +84,37 @@ impl KeptParent {
         if self.parent == dir {
             return Ok(());
         }
-        self.path = if self.child == dir {
-            self.path.child(self.name.as_slice())
+        if self.child == dir {
+            self.path = self.path.child(self.name.as_slice());
         } else {
-            directory_path(geometry, image, workspace, dir)?
-        };
+            put_directory(geometry, image, workspace, dir, &mut self.path)?;
+        }
         self.parent = dir;
         self.child = 0;
+        Ok(())
+    }
+
+    /// Keeps the path of the directory's parent, and the name of the directory in it.
+    fn keep_child<I: Image>(
+        &mut self,
+        geometry: &Geometry,
+        image: &mut I,
+        workspace: &mut Workspace,
+        parent: u32,
+        dir: u32,
+    ) -> Result<(), ImageFault>
+        requires ready { ReadyToPath geometry.now.layout (I.device image.old) workspace.old
+            self.old dir }
+        requires parent { IsParentOf workspace.old dir parent }
+        ensures child { OnOk result (self.new.child ≡ dir) }
+        ensures leaves { PathLeaves geometry.now.layout (I.device image.old) (I.device image.new)
+            workspace.old workspace.new self.new result }
+        ensures counted { ReadsAtMost path_reads geometry.now.layout (I.device image.old)
+            workspace.old workspace.new (I.reads image.old) (I.reads image.new) }
+    {
+        self.keep_path_of(geometry, image, workspace, parent)?;
+        find_name(geometry, image, workspace, parent, dir, &mut self.name)?;
+        self.child = dir;
         Ok(())
     }
 
@@ -118,9 +142,7 @@ impl KeptParent {
         let Some(parent) = parent_of(workspace, dir) else {
             return directory_path(geometry, image, workspace, dir);
         };
-        self.keep_path_of(geometry, image, workspace, parent)?;
-        find_name(geometry, image, workspace, parent, dir, &mut self.name)?;
-        self.child = dir;
+        self.keep_child(geometry, image, workspace, parent, dir)?;
         Ok(self.path.child(self.name.as_slice()))
     }
 
@@ -145,7 +167,12 @@ impl KeptParent {
         ensures counted { ReadsAtMost path_reads geometry.now.layout (I.device image.old)
             workspace.old workspace.new (I.reads image.old) (I.reads image.new) }
     {
-        self.path_to(geometry, image, workspace, dir)?.put(text);
+        let Some(parent) = parent_of(workspace, dir) else {
+            directory_path(geometry, image, workspace, dir)?.put(text);
+            return Ok(());
+        };
+        self.keep_child(geometry, image, workspace, parent, dir)?;
+        self.path.put_entry(self.name.as_slice(), text);
         Ok(())
     }
 }

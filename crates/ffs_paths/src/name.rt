@@ -90,9 +90,10 @@ fn find_by_place<I: Image>(
     }
     let window = &mut workspace.windows.names;
     window.fill(image, place, DIRBLKSIZ)?;
-    let mut bytes = [0u8; DIRBLKSIZ];
-    bytes.copy_from_slice(window.bytes());
-    Ok(find_in_chunk(geometry.layout.order, &bytes, dir, name))
+    let Some(bytes) = window.bytes().as_array::<DIRBLKSIZ>() else {
+        return Ok(false);
+    };
+    Ok(find_in_chunk(geometry.layout.order, bytes, dir, name))
 }
 
 /// Finds the name of a directory in its parent, by all entries of the parent: that of the first

@@ -81,7 +81,8 @@ pub fn is_reached(workspace: &Workspace, dir: u32) -> bool
     workspace.reached[dir as usize]
 }
 
-/// The names down to a directory that is reached, from the last one up, until they are cut.
+/// Writes the names down to a directory that is reached in place of others, from the last one up,
+/// until they are cut.
 ///
 /// # Errors
 /// A read of the image that failed.
@@ -90,11 +91,12 @@ fn climb<I: Image>(
     image: &mut I,
     workspace: &mut Workspace,
     dir: u32,
-) -> Result<PathBuffer, ImageFault>
+    path: &mut PathBuffer,
+) -> Result<(), ImageFault>
     requires { IsReadyFor geometry.now.layout (I.device image.old) workspace.old dir }
-    ensures path { IfOk result (λ path.
-        ForTree geometry.now.layout (I.device image.old) workspace.old (λ g.
-        (k : ℕ) → level g dir ≡ Some k → HoldsNames path (names_down g k dir))) }
+    ensures path { OnOk result
+        (ForTree geometry.now.layout (I.device image.old) workspace.old (λ g.
+        (k : ℕ) → level g dir ≡ Some k → HoldsNames path.new (names_down g k dir))) }
     ensures reads { OnlyReads geometry.now.layout (I.device image.old) (I.device image.new)
         workspace.old workspace.new result }
     ensures counted { (b : List ℕ) (k : ℕ)
@@ -103,25 +105,51 @@ fn climb<I: Image>(
         → ReadsFew climb_reads (I.reads image.old) (I.reads image.new) workspace.old workspace.new }
 {
     let count = workspace.notes.len();
-    let mut path = PathBuffer::new();
+    path.clear();
     let mut name = NameText::new();
     let mut at = dir;
     'up: for step in 0..count {
         if at == ROOTINO {
-            return Ok(path);
+            return Ok(());
         }
         if path.cut {
-            return Ok(path);
+            return Ok(());
         }
         let parent = workspace.parents[at as usize];
         if parent as usize >= count {
-            return Ok(path);
+            return Ok(());
         }
         find_name(geometry, image, workspace, parent, at, &mut name)?;
         path.push_front(name.as_slice());
         at = parent;
     }
-    Ok(path)
+    Ok(())
+}
+
+/// Writes the path of a directory in place of another one.
+///
+/// # Errors
+/// A read of the image that failed. What the path is then is unspecified.
+pub fn put_directory<I: Image>(
+    geometry: &Geometry,
+    image: &mut I,
+    workspace: &mut Workspace,
+    dir: u32,
+    path: &mut DirectoryPath,
+) -> Result<(), ImageFault>
+    requires { IsReadyFor geometry.now.layout (I.device image.old) workspace.old dir }
+    ensures path { OnOk result (ForTree geometry.now.layout (I.device image.old) workspace.old
+        (λ g. IsPathOf g dir path.new)) }
+    ensures reads { OnlyReads geometry.now.layout (I.device image.old) (I.device image.new)
+        workspace.old workspace.new result }
+    ensures counted { ReadsAtMost climb_reads geometry.now.layout (I.device image.old)
+        workspace.old workspace.new (I.reads image.old) (I.reads image.new) }
+{
+    path.reached = is_reached(workspace, dir);
+    if path.reached {
+        climb(geometry, image, workspace, dir, &mut path.names)?;
+    }
+    Ok(())
 }
 
 /// The path of a directory, for all lines on it and on its entries.
@@ -142,12 +170,12 @@ pub fn directory_path<I: Image>(
     ensures counted { ReadsAtMost climb_reads geometry.now.layout (I.device image.old)
         workspace.old workspace.new (I.reads image.old) (I.reads image.new) }
 {
-    let mut names = PathBuffer::new();
-    let reached = is_reached(workspace, dir);
-    if reached {
-        names = climb(geometry, image, workspace, dir)?;
-    }
-    Ok(DirectoryPath { reached, names })
+    let mut path = DirectoryPath {
+        reached: false,
+        names: PathBuffer::new(),
+    };
+    put_directory(geometry, image, workspace, dir, &mut path)?;
+    Ok(path)
 }
 
 /// Writes the path of a directory, or of the entry `name` of it: the names from the root down, and

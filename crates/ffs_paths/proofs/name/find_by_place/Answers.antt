@@ -1,22 +1,41 @@
-use Rattle.std.proofs.Common.{◌≡◌, ◌*◌, ◌∙◌, ap, sym, suc, false, arith, slice_index}
+use Rattle.std.proofs.Common.{◌≡◌, ◌+◌, ◌*◌, ◌∙◌, ap, sym, suc, ℕ, List, Some, true, false, subst, arith, slice_index}
 use Rattle.std.proofs.lemmas.List.{get_or_default}
+use Rattle.std.specs.List.{list_any}
 use Rattle.ffs_volume.specs.{Disk.Numbers.piece, Directories.Entries.entries_of, Directories.Roles.roled_from}
+use Rattle.ffs_volume.specs.Directories.Graph.{is_naming_entry}
 use Rattle.ffs_paths.{specs.Climbing.name_in, proofs.Keeping.name_read}
-use Rattle.ffs_workspace.specs.Places.{place_in}
+use Rattle.ffs_workspace.specs.Places.{entries_in_chunk, place_in}
+use Rattle.ffs_paths.proofs.name.find_by_place.Given as given
 use Rattle.ffs_paths.proofs.name.find_by_place.Goals as goal
+
+-- the chunk that is looked at is the noted one
+chunk_is : (g : given.Over) (c : goal.After-find_in_chunk g) →
+    place_in (slice_index c.args.workspace.now.queue.items c.args.dir) ≡ suc c.in-Some.chunk
+chunk_is g c =
+    let w = c.args.workspace.now in
+    ap place_in (sym (c.index.ensures ∙ get_or_default w.queue.items c.args.dir c.index.result.now 0
+    (omega (arith, c.requires.ready.made.queue, c.requires.number)))) ∙ c.in-Some.ensures
+
+-- its bytes are those of the image
+bytes_are : (g : given.Over) (c : goal.After-find_in_chunk g) (b : List ℕ) →
+    (g.I.Image.device c.args.image.now).contents ≡ Some b
+    → c.in-Some-as_array.bytes.now ≡ piece (512 * c.in-Some.chunk) 512 b
+bytes_are g c b t = c.in-Some-as_array.ensures.cases.same ∙ (c.bytes.ensures ∙ (c.in_ok-fill.ensures.fills.bytes b t
+    ∙ ap (λ k. piece (512 * k) 512 b) c.from.ensures))
 
 pub returns-clause-name : goal.returns-clause-name
 returns-clause-name g c = λ found b t claims survey parent is dir.
-    let v = c.args.geometry.now.layout in
-    let w = c.args.workspace.now in
-    let word : place_in (slice_index w.queue.items c.args.dir) ≡ suc c.in-Some.chunk =
-    ap place_in (sym (c.index.ensures ∙ get_or_default w.queue.items c.args.dir c.index.result.now 0
-    (omega (arith, c.requires.ready.made.queue, c.requires.number)))) ∙ c.in-Some.ensures in
-    let bytes = c.copy_from_slice.ensures.after ∙ (c.bytes.ensures ∙ (c.in_ok-fill.ensures.fills.bytes b t
-    ∙ ap (λ k. piece (512 * k) 512 b) c.from.ensures)) in
     c.find_in_chunk.ensures.name found
-    ∙ (ap (λ xs. name_in c.args.dir (roled_from false 0 (entries_of v.order xs))) bytes
-    ∙ survey.places c.args.dir parent c.in-Some.chunk word is)
+    ∙ (ap (λ xs. name_in c.args.dir (roled_from false 0 (entries_of c.args.geometry.now.layout.order xs)))
+    (bytes_are g c b t) ∙ survey.places c.args.dir parent c.in-Some.chunk (chunk_is g c) is)
+
+pub returns-clause-found : goal.returns-clause-found
+returns-clause-found g c = λ b t noted.
+    let v = c.args.geometry.now.layout in
+    let same : noted.chunk ≡ c.in-Some.chunk = let e = sym noted.place ∙ chunk_is g c in omega arith in
+    c.find_in_chunk.ensures.found
+    (ap (λ xs. list_any (is_naming_entry c.args.dir) (roled_from false 0 (entries_of v.order xs))) (bytes_are g c b t)
+    ∙ (ap (λ k. list_any (is_naming_entry c.args.dir) (entries_in_chunk v b k)) (sym same) ∙ noted.named))
 
 pub returns-clause-reads : goal.returns-clause-reads
 returns-clause-reads g c =

@@ -1,48 +1,15 @@
-use Rattle.std.proofs.Common.{◌∙◌, ap, sym, subst, arith}
+use Rattle.std.proofs.Common.{sym, subst, arith}
 use Rattle.ffs_volume.specs.Directories.{Parents.graph_of, Volumes.volume_of}
-use Rattle.ffs_paths.specs.Climbing.{IsNameIn, IsParentOf}
-use Rattle.ffs_paths.specs.{Reads.ForTree, KeptParents.IsKeptParent, declared.kept_parent.KeptParent.KeptParent}
-use Rattle.ffs_paths.proofs.{WaysUp.child_made, WaysUp.kept_parent_is, Climbed.few_then, Climbed.noted_child}
-use Rattle.ffs_paths.proofs.Keeping.{leaves_kept, reads_then, tree_on}
+use Rattle.ffs_paths.specs.{Climbing.IsParentOf, DirectoryPaths.IsPathOf, KeptParents.IsKeptParent}
+use Rattle.ffs_paths.proofs.{WaysUp.child_made, Keeping.tree_on}
 use Rattle.ffs_paths.proofs.kept_parent.KeptParent.path_to.Goals as goal
 
-pub returns : goal.returns
-returns g c =
-    let v = c.args.geometry.now.layout in
-    let w = c.args.workspace.now in
-    let first = c.keep_path_of.new.self in
-    let s : KeptParent = record {
-      parent = first.parent;
-      path = first.path;
-      child = c.args.dir;
-      name = c.find_name.new.name;
-    } in
-    let kept = c.in_ok-keep_path_of.ensures in
-    let reads = kept.leaves.reads in
-    let of : IsParentOf w c.args.dir first.parent =
-    subst (IsParentOf w c.args.dir) (sym kept.kept) (rw c.in-Some.is at c.parent_of.ensures) in
-    let holds : ForTree v (g.I.Image.device c.args.image.now) w (λ g. IsKeptParent g s) = λ b t claims survey.
-    let above = tree_on (λ g. IsKeptParent g first) reads kept.leaves.kept_parent.right b t claims survey in
-    kept_parent_is v b w s survey of (above.path of.some)
-    (subst (λ p. IsNameIn (graph_of (volume_of v b)) c.args.dir p s.name.items) (sym kept.kept)
-    (tree_on (λ g. IsNameIn g c.args.dir c.in-Some.parent s.name.items) reads c.in_ok-find_name.ensures.name b t
-    claims survey)) in
-    record {
-      path = λ b t claims survey.
-          child_made (graph_of (volume_of v b)) s c.child.result (holds b t claims survey) (omega (arith, of.below))
-          (rw c.as_slice.ensures.value at c.child.ensures);
-      leaves = leaves_kept s (reads_then reads c.in_ok-find_name.ensures.reads) holds;
-      counted = λ b knows. few_then (kept.counted b knows)
-          (c.in_ok-find_name.ensures.counted b (ap (λ d. d.contents) reads.read ∙ knows.gives_bytes)
-          (noted_child knows of reads.lists));
-    }
-
--- a read of the child's name failed
-pub returns-in_err-find_name-clause-counted : goal.returns-in_err-find_name-clause-counted
-returns-in_err-find_name-clause-counted g c = λ b knows.
-    let kept = c.in_ok-keep_path_of.ensures in
-    let reads = kept.leaves.reads in
+pub returns-clause-path : goal.returns-clause-path
+returns-clause-path g c = λ b t claims survey.
     let of : IsParentOf c.args.workspace.now c.args.dir c.in-Some.parent = rw c.in-Some.is at c.parent_of.ensures in
-    few_then (kept.counted b knows)
-    (c.in_err-find_name.ensures.counted b (ap (λ d. d.contents) reads.read ∙ knows.gives_bytes)
-    (noted_child knows of reads.lists))
+    let kept = c.in_ok-keep_child.ensures in
+    let s = c.keep_child.new.self in
+    let G = graph_of (volume_of c.args.geometry.now.layout b) in
+    let holds = tree_on (λ g. IsKeptParent g s) kept.leaves.reads kept.leaves.kept_parent.right b t claims survey in
+    subst (λ d. IsPathOf G d c.child.result) kept.child
+    (child_made G s c.child.result holds (omega (arith, of.below, kept.child)) (rw c.as_slice.ensures.value at c.child.ensures))

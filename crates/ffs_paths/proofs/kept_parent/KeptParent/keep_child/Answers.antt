@@ -1,0 +1,44 @@
+use Rattle.std.proofs.Common.{◌∙◌, ap, refl, sym, subst}
+use Rattle.ffs_volume.specs.Directories.{Parents.graph_of, Volumes.volume_of}
+use Rattle.ffs_paths.specs.Climbing.{IsNameIn, IsParentOf}
+use Rattle.ffs_paths.specs.{Reads.ForTree, KeptParents.IsKeptParent, declared.kept_parent.KeptParent.KeptParent}
+use Rattle.ffs_paths.proofs.{WaysUp.kept_parent_is, Climbed.few_then, Climbed.noted_child}
+use Rattle.ffs_paths.proofs.Keeping.{leaves_kept, reads_then, tree_on}
+use Rattle.ffs_paths.proofs.kept_parent.KeptParent.keep_child.Goals as goal
+
+pub returns : goal.returns
+returns g c =
+    let v = c.args.geometry.now.layout in
+    let w = c.args.workspace.now in
+    let first = c.keep_path_of.new.self in
+    let s : KeptParent = record {
+      parent = first.parent;
+      path = first.path;
+      child = c.args.dir;
+      name = c.find_name.new.name;
+    } in
+    let kept = c.in_ok-keep_path_of.ensures in
+    let reads = kept.leaves.reads in
+    let of : IsParentOf w c.args.dir first.parent = subst (IsParentOf w c.args.dir) (sym kept.kept) c.requires.parent in
+    let holds : ForTree v (g.I.Image.device c.args.image.now) w (λ g. IsKeptParent g s) = λ b t claims survey.
+    let above = tree_on (λ g. IsKeptParent g first) reads kept.leaves.kept_parent.right b t claims survey in
+    kept_parent_is v b w s survey of (above.path of.some)
+    (subst (λ p. IsNameIn (graph_of (volume_of v b)) c.args.dir p s.name.items) (sym kept.kept)
+    (tree_on (λ g. IsNameIn g c.args.dir c.args.parent s.name.items) reads c.in_ok-find_name.ensures.name b t
+    claims survey)) in
+    record {
+      child = refl;
+      leaves = leaves_kept s (reads_then reads c.in_ok-find_name.ensures.reads) holds;
+      counted = λ b knows. few_then (kept.counted b knows)
+          (c.in_ok-find_name.ensures.counted b (ap (λ d. d.contents) reads.read ∙ knows.gives_bytes)
+          (noted_child knows of reads.lists));
+    }
+
+-- a read of the child's name failed
+pub returns-in_err-find_name-clause-counted : goal.returns-in_err-find_name-clause-counted
+returns-in_err-find_name-clause-counted g c = λ b knows.
+    let kept = c.in_ok-keep_path_of.ensures in
+    let reads = kept.leaves.reads in
+    few_then (kept.counted b knows)
+    (c.in_err-find_name.ensures.counted b (ap (λ d. d.contents) reads.read ∙ knows.gives_bytes)
+    (noted_child knows c.requires.parent reads.lists))
