@@ -4,14 +4,15 @@ ghost use Rattle.std.specs.Prelude.{◌≡◌, ◌*◌, ◌<◌, ◌≤◌, ◌=
 ghost use Rattle.std.specs.List.{list_any};
 ghost use Rattle.ffs_image.specs.Device.{ForContents};
 ghost use Rattle.ffs_volume.specs.Directories.{Entries.entries_of, Graph.is_naming_entry};
-ghost use Rattle.ffs_volume.specs.Directories.Roles.{is_plain, roled_from};
+ghost use Rattle.ffs_layout.specs.Entry.{entry_value};
+ghost use Rattle.ffs_volume.specs.Directories.Roles.{is_plain, role_of, roled_from};
 ghost use Rattle.ffs_workspace.specs.{Places.IsNoted, Ready.IsReady};
 ghost use Rattle.ffs_paths.specs.Climbing.{name_in, IsNameIn};
 ghost use Rattle.ffs_paths.specs.Reads.{ForTree, IsReadyFor, OnlyReads, ReadsFew};
 
 use arrayvec::ArrayVec;
 use ffs_image::{Image, ImageFault};
-use ffs_layout::{Geometry, entry_at};
+use ffs_layout::{Entry, Geometry, entry_at};
 use ffs_names::{Entries, role_of};
 use ffs_survey::is_plain;
 use ffs_volume::constants::DIRBLKSIZ;
@@ -37,6 +38,16 @@ pub fn names(role: Role, number: u32, inode: u32) -> bool
     is_plain(role) && number == inode
 }
 
+/// Whether an entry of a chunk that isn't at the start of the file names an inode in the directory
+/// tree. Its number is looked at first, since most entries have another one.
+#[inline(always)]
+fn is_named_by(index: usize, entry: &Entry<'_>, inode: u32) -> bool
+    ensures { result ≡ (is_plain (role_of false index (entry_value entry.now))
+        && (entry.now.number == inode)) }
+{
+    entry.number == inode && is_plain(role_of(false, index, entry))
+}
+
 /// Finds the name of an inode in a chunk, by its first plain entry there. Returns whether there is
 /// one.
 fn find_in_chunk(order: Order, chunk: &[u8; DIRBLKSIZ], number: u32, name: &mut NameText) -> bool
@@ -49,7 +60,7 @@ fn find_in_chunk(order: Order, chunk: &[u8; DIRBLKSIZ], number: u32, name: &mut 
     let mut place = 0usize;
     let mut index = 0usize;
     'entries: while let Some(entry) = entry_at(order, chunk, place) {
-        if names(role_of(false, index, &entry), entry.number, number) {
+        if is_named_by(index, &entry, number) {
             set_name(name, entry.name);
             return true;
         }

@@ -1,19 +1,19 @@
-use Rattle.std.proofs.Common.{◌≡◌, ◌<◌, ◌∙◌, None, ap, length, option_map, subst, sym, arith}
+use Rattle.std.proofs.Common.{◌≡◌, ◌<◌, ◌∙◌, None, ap, refl, length, option_map, subst, sym, arith}
 use Rattle.std.proofs.lemmas.Bool.{both_ways}
 use Rattle.ffs_volume.specs.Directories.Entries.{entry_at}
 use Rattle.ffs_layout.specs.Entry.{entry_value}
 use Rattle.ffs_paths.proofs.ChunkNames.{chunk_here, chunk_past, named_none, plain_named}
 use Rattle.ffs_paths.proofs.name.find_in_chunk.Goals as goal
 
-pub returns-then-names-clause-name : goal.returns-then-names-clause-name
-returns-then-names-clause-name c = λ _.
+pub returns-then-is_named_by-clause-name : goal.returns-then-is_named_by-clause-name
+returns-then-is_named_by-clause-name c = λ _.
     c.set_name.ensures ∙ sym (c.entries.invariant.name ∙ chunk_here c.args.number _ _ c.entries.index c.entries.place
-    (entry_value c.in-Some.entry) _ c.in-Some.ensures.some c.role_of.ensures (sym c.names.ensures ∙ c.if-names.true))
+    (entry_value c.in-Some.entry) _ c.in-Some.ensures.some refl (sym c.is_named_by.ensures ∙ c.if-is_named_by.true))
 
-pub returns-then-names-clause-some : goal.returns-then-names-clause-some
-returns-then-names-clause-some c = λ _. subst (λ name. 0 < length name) (sym c.set_name.ensures)
+pub returns-then-is_named_by-clause-some : goal.returns-then-is_named_by-clause-some
+returns-then-is_named_by-clause-some c = λ _. subst (λ name. 0 < length name) (sym c.set_name.ensures)
     (plain_named c.args.number _ _ c.entries.index c.entries.place (entry_value c.in-Some.entry) _ c.told-chunk
-    c.in-Some.ensures.some c.role_of.ensures (sym c.names.ensures ∙ c.if-names.true))
+    c.in-Some.ensures.some refl (sym c.is_named_by.ensures ∙ c.if-is_named_by.true))
 
 pub returns-clause-found : goal.returns-clause-found
 returns-clause-found c = λ h.
@@ -25,8 +25,8 @@ returns-clause-found c = λ h.
 pub entries-preserved : goal.entries-preserved
 entries-preserved c =
     let past = chunk_past c.args.number c.args.order c.args.chunk.now c.entries.index c.entries.place
-    (entry_value c.in-Some.entry) c.role_of.result c.in-Some.ensures.some c.role_of.ensures
-    (sym c.names.ensures ∙ c.if-names.false) in
+    (entry_value c.in-Some.entry) _ c.in-Some.ensures.some refl
+    (sym c.is_named_by.ensures ∙ c.if-is_named_by.false) in
     rw c.from-place.ensures (record {
       place = omega (arith, c.in-Some.ensures.room.1);
       index = omega (arith, c.in-Some.ensures.room.0);
