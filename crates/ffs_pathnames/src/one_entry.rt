@@ -1,9 +1,10 @@
 //! The lines of a plain entry.
-ghost use Rattle.std.specs.Prelude.{◌≡◌, ◌+◌, ◌*◌, ◌<◌, ◌≤◌, ℕ, false, List, length, Option, Some, OnOk, IfOk, IsTrue};
+ghost use Rattle.std.specs.Prelude.{◌≡◌, ◌+◌, ◌*◌, ◌<◌, ◌≤◌, ℕ, true, false, List, length, Option, Some, OnOk, IfOk, IsTrue};
 ghost use Rattle.std.specs.Prelude.{vec_len};
 ghost use Rattle.ffs_image.specs.Device.{ForContents};
 ghost use Rattle.ffs_volume.specs.Directories.PathnameCheck.{attributes, extra_lines};
 ghost use Rattle.ffs_volume.specs.Directories.{Parents.graph_of, Paths.dir_path, Volumes.volume_of};
+ghost use Rattle.ffs_volume.specs.Directories.{Graph.Graph, Paths.entry_path, Roles.Volume};
 ghost use Rattle.ffs_volume.specs.{declared.Layout.Layout, Report.Reads.line_reads, Report.Reads.path_reads};
 ghost use Rattle.ffs_pathnames.specs.{SaysNames.SaysNames, EntryLines.ReportsEntries};
 ghost use Rattle.ffs_pathnames.specs.Gathers.{IsEnough, IsVerdict, AreAsLong, passed_of, asks_attr, asks_path};
@@ -196,6 +197,30 @@ fn gather_path<I: Image>(
     kept_parent.put_path(geometry, image, workspace, dir, &mut texts.directory)
 }
 
+/// Whether the image is read for the lines of a verdict on an entry: for the path of the directory
+/// that it is in, or for the inode that it names.
+fn asks_reads(texts: &EntryTexts, verdict: &Verdict) -> bool
+    ensures { result ≡ false → (texts.now.begun ≡ true) × (asks_attr verdict.now ≡ false) }
+{
+    !texts.begun || asks(verdict).0
+}
+
+/// Gathers what is shown of an entry alone, once the path of its directory is made: the path of the
+/// entry. No line of a verdict that asks for no attributes shows more, so nothing is read.
+#[inline(always)]
+fn gather_name(paths: &mut EntryPaths, entry: &Entry<'_>, verdict: &Verdict) -> Attr
+    ensures path { (g : Graph) (dir : ℕ) → IsPathOf g dir paths.old.directory
+        → last_path paths.new ≡ entry_path g dir entry.now.name.now }
+    ensures enough { asks_attr verdict.now ≡ false → (vol : Volume) (dir : ℕ) (path : List ℕ)
+        → IsPathOf (graph_of vol) dir paths.old.directory
+        → IsEnough vol verdict.now dir entry.now.number entry.now.name.now result
+        (last_path paths.new) path }
+    ensures same { paths.new.directory ≡ paths.old.directory }
+{
+    paths.put(entry.name);
+    no_attr(entry.number)
+}
+
 /// Gathers what the messages on an entry show, once the path of its directory is made: the entry's
 /// path and that of the directory that it names into `texts`, and the attributes of its inode.
 #[inline(always)]
@@ -225,10 +250,9 @@ fn gather<I: Image>(
         workspace.old workspace.new (I.reads image.old) (I.reads image.new) }
 {
     let (wants_attr, wants_path) = asks(verdict);
-    texts.paths.put(entry.name);
+    let name_alone = gather_name(&mut texts.paths, entry, verdict);
     if !wants_attr {
-        // No line of this verdict shows attributes, so none are read.
-        return Ok(no_attr(entry.number));
+        return Ok(name_alone);
     }
     gather_path(geometry, image, workspace, texts, wants_path, entry.number)?;
     read_attr(geometry, image, workspace, entry.number)
@@ -312,6 +336,9 @@ fn gather_entry<I: Image>(
     ensures most { AreChunksNumbered geometry.now.layout
         → I.reads image.new ≤ I.reads image.old + line_reads }
 {
+    if !asks_reads(texts, verdict) {
+        return Ok(gather_name(&mut texts.paths, &entry.entry, verdict));
+    }
     let Some(limit) = line_reads(geometry) else {
         return gather_entry_freely(geometry, image, workspace, texts, entry, verdict);
     };

@@ -1,9 +1,8 @@
 use Rattle.std.proofs.Common.{ap, sym, ◌∙◌}
-use Rattle.std.proofs.lemmas.{Bool.both_ways, Result.err_from_is_err_and}
+use Rattle.std.proofs.lemmas.Result.{err_from_is_err_and}
 use Rattle.ffs_volume.specs.Directories.{Parents.graph_of, Volumes.volume_of}
-use Rattle.ffs_paths.{specs.LastPaths.last_path, proofs.Rooms.entry_in_room}
-use Rattle.ffs_paths.proofs.Keeping.{leaves_with, no_reads}
-use Rattle.ffs_pathnames.proofs.{Carrying.if_ok, VerdictLaws.enough, VerdictLaws.path_asks_attr, ReadyLaws.leaves_read}
+use Rattle.ffs_paths.{specs.LastPaths.last_path, proofs.Keeping.leaves_with, proofs.Keeping.no_reads}
+use Rattle.ffs_pathnames.proofs.{Carrying.if_ok, VerdictLaws.enough, ReadyLaws.leaves_read}
 use Rattle.ffs_pathnames.proofs.one_entry.gather.Goals as goal
 
 pub returns-clause-enough : goal.returns-clause-enough
@@ -15,8 +14,7 @@ returns-clause-enough g c =
     c.args.entry.now.name.now a (last_path c.gather_path.new.texts.paths)
     c.gather_path.new.texts.directory.items
     (λ q. attr b (ap (λ x. x.contents) read ∙ t))
-    (ap last_path c.gather_path.ensures.same.1 ∙ (c.put.ensures.path (graph_of (volume_of v b)) dir p
-    ∙ entry_in_room (graph_of (volume_of v b)) dir c.args.entry.now.name.now c.args.entry.now.short))
+    (ap last_path c.gather_path.ensures.same.1 ∙ c.gather_name-name_alone.ensures.path (graph_of (volume_of v b)) dir p)
     (λ q. c.in_ok-gather_path.ensures.path b t h r (c.asks-wants_attr.ensures.directory ∙ q)))
     c.read_attr.ensures.attr
 
@@ -26,14 +24,8 @@ returns-clause-leaves g c =
 
 pub returns-then-not-wants_attr-clause-enough : goal.returns-then-not-wants_attr-clause-enough
 returns-then-not-wants_attr-clause-enough g c = λ b dir t h r p.
-    let v = c.args.geometry.now.layout in
-    let silent = sym c.asks-wants_attr.ensures.attr ∙ c.if-not-wants_attr.true in
-    enough (volume_of v b) c.args.verdict.now dir c.args.entry.now.number c.args.entry.now.name.now
-    _ (last_path c.put.new.self) c.args.texts.now.directory.items
-    (λ q. absurd (both_ways _ silent q))
-    (c.put.ensures.path (graph_of (volume_of v b)) dir p
-    ∙ entry_in_room (graph_of (volume_of v b)) dir c.args.entry.now.name.now c.args.entry.now.short)
-    (λ q. absurd (both_ways _ silent (path_asks_attr c.args.verdict.now q)))
+    c.gather_name-name_alone.ensures.enough (sym c.asks-wants_attr.ensures.attr ∙ c.if-not-wants_attr.true)
+    (volume_of c.args.geometry.now.layout b) dir c.args.texts.now.directory.items p
 
 pub returns-in_err-gather_path-clause-leaves : goal.returns-in_err-gather_path-clause-leaves
 returns-in_err-gather_path-clause-leaves g c =

@@ -1,7 +1,23 @@
 use Rattle.std.proofs.Common.{◌∙◌, ap}
 use Rattle.ffs_image.specs.Device.{Device}
+use Rattle.ffs_volume.specs.Directories.Volumes.{volume_of}
+use Rattle.ffs_paths.proofs.Keeping.{leaves_with, no_reads}
 use Rattle.ffs_pathnames.proofs.Limiting.{gathered}
 use Rattle.ffs_pathnames.proofs.one_entry.gather_entry.Goals as goal
+
+-- nothing is read for a line that shows the entry's path alone
+pub returns-then-not-asks_reads-clause-enough : goal.returns-then-not-asks_reads-clause-enough
+returns-then-not-asks_reads-clause-enough g c = λ b k.
+    let none = c.asks_reads.ensures c.if-not-asks_reads.true in
+    c.gather_name.ensures.enough none.1 (volume_of c.args.geometry.now.layout b) c.args.entry.now.dir
+    c.args.texts.now.directory.items (k.path none.0)
+
+pub returns-then-not-asks_reads-clause-path : goal.returns-then-not-asks_reads-clause-path
+returns-then-not-asks_reads-clause-path g c = λ b k begun. rw c.gather_name.ensures.same (k.path begun)
+
+pub returns-then-not-asks_reads-clause-leaves : goal.returns-then-not-asks_reads-clause-leaves
+returns-then-not-asks_reads-clause-leaves g c =
+    leaves_with _ (no_reads c.requires.ready.ready) c.requires.ready.kept_parent
 
 -- a read was refused: not where the image gives its bytes
 pub returns-then-is_spent-clause-enough : goal.returns-then-is_spent-clause-enough
