@@ -4,7 +4,6 @@ ghost use Rattle.std.specs.Prelude.{vec_len};
 ghost use Rattle.ffs_image.specs.Device.{ForContents};
 ghost use Rattle.ffs_volume.specs.Directories.PathnameCheck.{attributes, extra_lines};
 ghost use Rattle.ffs_volume.specs.Directories.{Parents.graph_of, Paths.dir_path, Volumes.volume_of};
-ghost use Rattle.ffs_volume.specs.Directories.{Graph.Graph, Paths.entry_path, Roles.Volume};
 ghost use Rattle.ffs_volume.specs.{declared.Layout.Layout, Report.Reads.line_reads, Report.Reads.path_reads};
 ghost use Rattle.ffs_pathnames.specs.{SaysNames.SaysNames, EntryLines.ReportsEntries};
 ghost use Rattle.ffs_pathnames.specs.Gathers.{IsEnough, IsVerdict, AreAsLong, passed_of, asks_attr, asks_path};
@@ -14,6 +13,7 @@ ghost use Rattle.ffs_pathnames.specs.Ready.{ReadyWith, ReadyToPath, PathLeaves, 
 ghost use Rattle.ffs_layout.specs.Entry.{entry_value};
 ghost use Rattle.ffs_report.specs.{Known.ForBytes, Paid.Paid, Progress.progress};
 ghost use Rattle.ffs_workspace.specs.{Lengths.IsFor, Holds.HoldsClaims, Holds.HoldsSurvey, Places.AreChunksNumbered};
+ghost use Rattle.ffs_workspace.specs.Ready.{IsReady};
 ghost use Rattle.ffs_workspace.specs.declared.workspace.Workspace.{Workspace as WorkspaceIn};
 ghost use Rattle.ffs_paths.specs.KeptParents.{KeepsParent};
 ghost use Rattle.ffs_paths.specs.{DirectoryPaths.IsPathOf, LastPaths.last_path};
@@ -180,8 +180,9 @@ fn gather_path<I: Image>(
     wanted: bool,
     dir: u32,
 ) -> Result<(), ImageFault>
-    requires { ReadyToPath geometry.now.layout (I.device image.old) workspace.old
-        texts.old.kept_parent dir }
+    requires ready { ReadyWith geometry.now.layout (I.device image.old) workspace.old
+        texts.old.kept_parent }
+    requires number { IsTrue wanted → dir < geometry.now.layout.ncg * geometry.now.layout.ipg }
     ensures path { OnOk result (ForTree geometry.now.layout (I.device image.old) workspace.old
         (λ g. IsTrue wanted → texts.new.directory.items ≡ dir_path g dir)) }
     ensures same { (texts.new.begun ≡ texts.old.begun) × (texts.new.paths ≡ texts.old.paths) }
@@ -197,28 +198,47 @@ fn gather_path<I: Image>(
     kept_parent.put_path(geometry, image, workspace, dir, &mut texts.directory)
 }
 
-/// Whether the image is read for the lines of a verdict on an entry: for the path of the directory
-/// that it is in, or for the inode that it names.
-fn asks_reads(texts: &EntryTexts, verdict: &Verdict) -> bool
-    ensures { result ≡ false → (texts.now.begun ≡ true) × (asks_attr verdict.now ≡ false) }
+/// Whether a path of a directory is made for the lines of a verdict on an entry: that of the
+/// directory that it is in, or of the one that it names.
+fn asks_any_path(texts: &EntryTexts, verdict: &Verdict) -> bool
+    ensures { result ≡ false → (texts.now.begun ≡ true) × (asks_path verdict.now ≡ false) }
 {
-    !texts.begun || asks(verdict).0
+    !texts.begun || asks(verdict).1
 }
 
-/// Gathers what is shown of an entry alone, once the path of its directory is made: the path of the
-/// entry. No line of a verdict that asks for no attributes shows more, so nothing is read.
+/// Gathers what is shown of an entry besides paths of directories, once that of its own directory is
+/// made: the entry's path, and the attributes of its inode. It reads once at most.
 #[inline(always)]
-fn gather_name(paths: &mut EntryPaths, entry: &Entry<'_>, verdict: &Verdict) -> Attr
-    ensures path { (g : Graph) (dir : ℕ) → IsPathOf g dir paths.old.directory
-        → last_path paths.new ≡ entry_path g dir entry.now.name.now }
-    ensures enough { asks_attr verdict.now ≡ false → (vol : Volume) (dir : ℕ) (path : List ℕ)
-        → IsPathOf (graph_of vol) dir paths.old.directory
-        → IsEnough vol verdict.now dir entry.now.number entry.now.name.now result
-        (last_path paths.new) path }
+fn gather_inode<I: Image>(
+    geometry: &Geometry,
+    image: &mut I,
+    workspace: &mut Workspace,
+    paths: &mut EntryPaths,
+    entry: &Entry<'_>,
+    verdict: &Verdict,
+) -> Result<Attr, ImageFault>
+    requires ready { IsReady geometry.now.layout (I.device image.old) workspace.old }
+    requires number { IsTrue (asks_attr verdict.now) → entry.now.number
+        < geometry.now.layout.ncg * geometry.now.layout.ipg }
+    ensures enough { IfOk result (λ a. ForContents (I.device image.old).contents (λ b. (dir : ℕ)
+        (path : List ℕ) → IsPathOf (graph_of (volume_of geometry.now.layout b)) dir
+        paths.old.directory → (IsTrue (asks_path verdict.now)
+        → path ≡ dir_path (graph_of (volume_of geometry.now.layout b)) entry.now.number)
+        → IsEnough (volume_of geometry.now.layout b) verdict.now dir entry.now.number
+        entry.now.name.now a (last_path paths.new) path)) }
     ensures same { paths.new.directory ≡ paths.old.directory }
+    ensures reads { OnlyReads geometry.now.layout (I.device image.old) (I.device image.new)
+        workspace.old workspace.new result }
+    ensures counted { ReadsFew 1 (I.reads image.old) (I.reads image.new) workspace.old
+        workspace.new }
 {
+    let wants_attr = asks(verdict).0;
     paths.put(entry.name);
-    no_attr(entry.number)
+    if !wants_attr {
+        // No line of this verdict shows attributes, so none are read.
+        return Ok(no_attr(entry.number));
+    }
+    read_attr(geometry, image, workspace, entry.number)
 }
 
 /// Gathers what the messages on an entry show, once the path of its directory is made: the entry's
@@ -249,13 +269,9 @@ fn gather<I: Image>(
     ensures counted { ReadsAtMost (path_reads + 1) geometry.now.layout (I.device image.old)
         workspace.old workspace.new (I.reads image.old) (I.reads image.new) }
 {
-    let (wants_attr, wants_path) = asks(verdict);
-    let name_alone = gather_name(&mut texts.paths, entry, verdict);
-    if !wants_attr {
-        return Ok(name_alone);
-    }
+    let wants_path = asks(verdict).1;
     gather_path(geometry, image, workspace, texts, wants_path, entry.number)?;
-    read_attr(geometry, image, workspace, entry.number)
+    gather_inode(geometry, image, workspace, &mut texts.paths, entry, verdict)
 }
 
 /// Keeps nothing of a parent any more.
@@ -336,8 +352,10 @@ fn gather_entry<I: Image>(
     ensures most { AreChunksNumbered geometry.now.layout
         → I.reads image.new ≤ I.reads image.old + line_reads }
 {
-    if !asks_reads(texts, verdict) {
-        return Ok(gather_name(&mut texts.paths, &entry.entry, verdict));
+    if !asks_any_path(texts, verdict) {
+        // One read at most is none that needs a limit.
+        let paths = &mut texts.paths;
+        return gather_inode(geometry, image, workspace, paths, &entry.entry, verdict);
     }
     let Some(limit) = line_reads(geometry) else {
         return gather_entry_freely(geometry, image, workspace, texts, entry, verdict);
