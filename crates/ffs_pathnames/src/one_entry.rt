@@ -1,5 +1,5 @@
 //! The lines of a plain entry.
-ghost use Rattle.std.specs.Prelude.{◌≡◌, ◌+◌, ◌*◌, ◌<◌, ◌≤◌, ℕ, false, List, length, Option, Some, OnOk, IfOk, IsTrue};
+ghost use Rattle.std.specs.Prelude.{◌≡◌, ◌+◌, ◌*◌, ◌<◌, ◌≤◌, ℕ, true, false, List, length, Option, Some, OnOk, IfOk, IsTrue};
 ghost use Rattle.std.specs.Prelude.{vec_len};
 ghost use Rattle.ffs_image.specs.Device.{ForContents};
 ghost use Rattle.ffs_volume.specs.Directories.PathnameCheck.{attributes, extra_lines};
@@ -13,6 +13,7 @@ ghost use Rattle.ffs_pathnames.specs.Ready.{ReadyWith, ReadyToPath, PathLeaves, 
 ghost use Rattle.ffs_layout.specs.Entry.{entry_value};
 ghost use Rattle.ffs_report.specs.{Known.ForBytes, Paid.Paid, Progress.progress};
 ghost use Rattle.ffs_workspace.specs.{Lengths.IsFor, Holds.HoldsClaims, Holds.HoldsSurvey, Places.AreChunksNumbered};
+ghost use Rattle.ffs_workspace.specs.Ready.{IsReady};
 ghost use Rattle.ffs_workspace.specs.declared.workspace.Workspace.{Workspace as WorkspaceIn};
 ghost use Rattle.ffs_paths.specs.KeptParents.{KeepsParent};
 ghost use Rattle.ffs_paths.specs.{DirectoryPaths.IsPathOf, LastPaths.last_path};
@@ -179,8 +180,9 @@ fn gather_path<I: Image>(
     wanted: bool,
     dir: u32,
 ) -> Result<(), ImageFault>
-    requires { ReadyToPath geometry.now.layout (I.device image.old) workspace.old
-        texts.old.kept_parent dir }
+    requires ready { ReadyWith geometry.now.layout (I.device image.old) workspace.old
+        texts.old.kept_parent }
+    requires number { IsTrue wanted → dir < geometry.now.layout.ncg * geometry.now.layout.ipg }
     ensures path { OnOk result (ForTree geometry.now.layout (I.device image.old) workspace.old
         (λ g. IsTrue wanted → texts.new.directory.items ≡ dir_path g dir)) }
     ensures same { (texts.new.begun ≡ texts.old.begun) × (texts.new.paths ≡ texts.old.paths) }
@@ -194,6 +196,49 @@ fn gather_path<I: Image>(
     }
     let kept_parent = &mut texts.kept_parent;
     kept_parent.put_path(geometry, image, workspace, dir, &mut texts.directory)
+}
+
+/// Whether a path of a directory is made for the lines of a verdict on an entry: that of the
+/// directory that it is in, or of the one that it names.
+fn asks_any_path(texts: &EntryTexts, verdict: &Verdict) -> bool
+    ensures { result ≡ false → (texts.now.begun ≡ true) × (asks_path verdict.now ≡ false) }
+{
+    !texts.begun || asks(verdict).1
+}
+
+/// Gathers what is shown of an entry besides paths of directories, once that of its own directory is
+/// made: the entry's path, and the attributes of its inode. It reads once at most.
+#[inline(always)]
+fn gather_inode<I: Image>(
+    geometry: &Geometry,
+    image: &mut I,
+    workspace: &mut Workspace,
+    paths: &mut EntryPaths,
+    entry: &Entry<'_>,
+    verdict: &Verdict,
+) -> Result<Attr, ImageFault>
+    requires ready { IsReady geometry.now.layout (I.device image.old) workspace.old }
+    requires number { IsTrue (asks_attr verdict.now) → entry.now.number
+        < geometry.now.layout.ncg * geometry.now.layout.ipg }
+    ensures enough { IfOk result (λ a. ForContents (I.device image.old).contents (λ b. (dir : ℕ)
+        (path : List ℕ) → IsPathOf (graph_of (volume_of geometry.now.layout b)) dir
+        paths.old.directory → (IsTrue (asks_path verdict.now)
+        → path ≡ dir_path (graph_of (volume_of geometry.now.layout b)) entry.now.number)
+        → IsEnough (volume_of geometry.now.layout b) verdict.now dir entry.now.number
+        entry.now.name.now a (last_path paths.new) path)) }
+    ensures same { paths.new.directory ≡ paths.old.directory }
+    ensures reads { OnlyReads geometry.now.layout (I.device image.old) (I.device image.new)
+        workspace.old workspace.new result }
+    ensures counted { ReadsFew 1 (I.reads image.old) (I.reads image.new) workspace.old
+        workspace.new }
+{
+    let wants_attr = asks(verdict).0;
+    paths.put(entry.name);
+    if !wants_attr {
+        // No line of this verdict shows attributes, so none are read.
+        return Ok(no_attr(entry.number));
+    }
+    read_attr(geometry, image, workspace, entry.number)
 }
 
 /// Gathers what the messages on an entry show, once the path of its directory is made: the entry's
@@ -224,14 +269,9 @@ fn gather<I: Image>(
     ensures counted { ReadsAtMost (path_reads + 1) geometry.now.layout (I.device image.old)
         workspace.old workspace.new (I.reads image.old) (I.reads image.new) }
 {
-    let (wants_attr, wants_path) = asks(verdict);
-    texts.paths.put(entry.name);
-    if !wants_attr {
-        // No line of this verdict shows attributes, so none are read.
-        return Ok(no_attr(entry.number));
-    }
+    let wants_path = asks(verdict).1;
     gather_path(geometry, image, workspace, texts, wants_path, entry.number)?;
-    read_attr(geometry, image, workspace, entry.number)
+    gather_inode(geometry, image, workspace, &mut texts.paths, entry, verdict)
 }
 
 /// Keeps nothing of a parent any more.
@@ -312,6 +352,11 @@ fn gather_entry<I: Image>(
     ensures most { AreChunksNumbered geometry.now.layout
         → I.reads image.new ≤ I.reads image.old + line_reads }
 {
+    if !asks_any_path(texts, verdict) {
+        // One read at most is none that needs a limit.
+        let paths = &mut texts.paths;
+        return gather_inode(geometry, image, workspace, paths, &entry.entry, verdict);
+    }
     let Some(limit) = line_reads(geometry) else {
         return gather_entry_freely(geometry, image, workspace, texts, entry, verdict);
     };

@@ -1,7 +1,31 @@
-use Rattle.std.proofs.Common.{◌∙◌, ap}
+use Rattle.std.proofs.Common.{◌∙◌, ap, arith}
+use Rattle.std.proofs.lemmas.Bool.{both_ways}
 use Rattle.ffs_image.specs.Device.{Device}
-use Rattle.ffs_pathnames.proofs.Limiting.{gathered}
+use Rattle.ffs_paths.proofs.{Climbed.few_more, Keeping.leaves_with, Keeping.no_reads}
+use Rattle.ffs_pathnames.proofs.{Carrying.if_ok, Limiting.gathered, ReadyLaws.leaves_read}
 use Rattle.ffs_pathnames.proofs.one_entry.gather_entry.Goals as goal
+
+-- no path is asked for
+pub returns-then-not-asks_any_path-clause-enough : goal.returns-then-not-asks_any_path-clause-enough
+returns-then-not-asks_any_path-clause-enough g c =
+    let none = c.asks_any_path.ensures c.if-not-asks_any_path.true in
+    if_ok c.gather_inode.result _ _
+    (λ a e b k. e b k.knows.gives_bytes c.args.entry.now.dir c.args.texts.now.directory.items (k.path none.0)
+    (λ q. absurd (both_ways _ none.1 q)))
+    c.gather_inode.ensures.enough
+
+pub returns-then-not-asks_any_path-clause-path : goal.returns-then-not-asks_any_path-clause-path
+returns-then-not-asks_any_path-clause-path g c = λ b k begun. rw c.gather_inode.ensures.same (k.path begun)
+
+pub returns-then-not-asks_any_path-clause-leaves : goal.returns-then-not-asks_any_path-clause-leaves
+returns-then-not-asks_any_path-clause-leaves g c = leaves_read c.gather_inode.result
+    (leaves_with {T = Unit {0}} {x = tt} _ (no_reads c.requires.ready.ready) c.requires.ready.kept_parent) c.gather_inode.ensures.reads
+
+pub returns-then-not-asks_any_path-clause-counted : goal.returns-then-not-asks_any_path-clause-counted
+returns-then-not-asks_any_path-clause-counted g c = λ b k. few_more c.gather_inode.ensures.counted (omega arith)
+
+pub returns-then-not-asks_any_path-clause-most : goal.returns-then-not-asks_any_path-clause-most
+returns-then-not-asks_any_path-clause-most g c = λ numbered. omega (arith, c.gather_inode.ensures.counted.count)
 
 -- a read was refused: not where the image gives its bytes
 pub returns-then-is_spent-clause-enough : goal.returns-then-is_spent-clause-enough
