@@ -9,10 +9,10 @@ abbrev pub invariant-loop-index : goal.invariant-loop-index
 invariant-loop-index g l = record {
   only : OffersOnly l.geometry.layout l.initial.workspace l.workspace;
   kept : l.workspace.kept ≤ l.initial.workspace.kept + l.index;
-  claims : after_offers l.geometry.layout (claims_of l.initial.workspace) (range_with_len l.start l.len)
-      ≡ after_offers l.geometry.layout (claims_of l.workspace) (range_with_len (l.start + l.index) (l.len - l.index));
+  claims : after_offers l.geometry.layout (claims_of l.initial.workspace) (range_with_len l.run.start l.run.len)
+      ≡ after_offers l.geometry.layout (claims_of l.workspace) (range_with_len (l.run.start + l.index) (l.run.len - l.index));
   said : SaidTo (of_lines (lines_of_offers l.geometry.layout l.number (claims_of l.workspace)
-      (range_with_len (l.start + l.index) (l.len - l.index))))
+      (range_with_len (l.run.start + l.index) (l.run.len - l.index))))
       (of_lines (lines_of_offers l.geometry.layout l.number (claims_of l.initial.workspace)
-      (range_with_len l.start l.len))) (progress g.W.Output.sink l.initial.report) (progress g.W.Output.sink l.report);
+      (range_with_len l.run.start l.run.len))) (progress g.W.Output.sink l.initial.report) (progress g.W.Output.sink l.report);
 }
