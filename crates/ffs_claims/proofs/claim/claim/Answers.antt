@@ -18,13 +18,13 @@ pub returns-then-not-has_steps-clause-claiming : goal.returns-then-not-has_steps
 returns-then-not-has_steps-clause-claiming g c =
     let v = c.args.geometry.now.layout in
     let s = claims_of c.args.workspace.now in
-    let some : 0 < v.bsize = omega (arith, c.args.geometry.now.sound.sizes.bsize_low) in
-    let none : ForBytes (IsContents (g.I.Image.device c.args.image.now).contents)
-    (λ bytes. steps_of v c.args.claimant.now.inode.now bytes ≡ []) = λ bytes t. without_steps v c.args.claimant.now.inode.now bytes some
+    let none = λ (bytes : List ℕ). without_steps v c.args.claimant.now.inode.now bytes
+    (omega (arith, c.args.geometry.now.sound.sizes.bsize_low))
     (sym (c.has_steps.ensures c.requires.class) ∙ c.if-not-has_steps.true) in
     record {
-      text = says_none (λ bytes t. ap (λ xs. of_lines (lines_of_steps v c.args.claimant.now.number s xs)) (none bytes t));
-      claims = λ bytes t. sym (ap (after_steps v s) (none bytes t));
+      text = says_none
+          (λ bytes t. ap (λ xs. of_lines (lines_of_steps v c.args.claimant.now.number s xs)) (none bytes));
+      claims = λ bytes t. sym (ap (after_steps v s) (none bytes));
       left = claiming_none c.requires.ready;
     }
 
@@ -77,8 +77,8 @@ returns-in_err-seen-clause-claiming g c =
     let next = rw (inv.left.image, c.in-Some.is) at c.in_ok-next.ensures.step.steps in
     let few = seen_bound c.args.workspace.now read.claim.ready.made inv.open_still read.moves in
     rw (p.1, p.2) (record {
-      text = of_stops _ _ _ _ _ _ _ _ inv.said (lines_on v c.args.claimant.now.number s (after_step v s c.in-Some.next)
-          c.loop-next.sweep.walk c.next.new.self c.in-Some.next next refl) c.in_err-seen.ensures.claiming.said;
+      text = of_stops _ _ _ _ _ _ _ _ inv.said (lines_on v _ s _ c.loop-next.sweep.walk c.next.new.self
+          c.in-Some.next next refl) c.in_err-seen.ensures.claiming.said;
       claims = tt;
       left = claiming_on read.image c.step.ensures.claiming.left (omega (arith, c.step.ensures.runs)) tt read;
     })
@@ -166,17 +166,18 @@ returns-then-not-seen-clause-claiming g c =
     let v = c.args.geometry.now.layout in
     let s = claims_of c.loop-next.workspace in
     let s' = claims_of c.step.new.workspace in
+    let n = c.args.claimant.now.number in
     let read = claiming_walked c.in_ok-next.ensures.leaves.read inv.geometry c.next.ensures.leaves.kept inv.left in
     let now = c.in_ok-seen.ensures.claiming.claims in
     let few = seen_bound c.args.workspace.now read.claim.ready.made inv.open_still read.moves in
     let cut : is_open s' ≡ false = sym now.uncut ∙ c.if-not-seen.true in
     let next = rw (inv.left.image, c.in-Some.is) at c.in_ok-next.ensures.step.steps in
     record {
-      text = steps_said v c.args.claimant.now.number s s' c.loop-next.sweep.walk c.next.new.self (λ bytes. []) c.in-Some.next inv.said next
-          now.claims_are (λ bytes t. (cut_over v c.args.claimant.now.number s' (steps_left bytes c.next.new.self) cut).1)
+      text = steps_said v n s s' c.loop-next.sweep.walk c.next.new.self (λ bytes. []) c.in-Some.next inv.said next
+          now.claims_are (λ bytes t. (cut_over v n s' (steps_left bytes c.next.new.self) cut).1)
           c.in_ok-seen.ensures.claiming.said;
       claims = claims_on v s c.loop-next.sweep.walk c.next.new.self (λ bytes. s') c.in-Some.next next now.claims_are
-          inv.claims (λ bytes t. (cut_over v c.args.claimant.now.number s' (steps_left bytes c.next.new.self) cut).0);
+          inv.claims (λ bytes t. (cut_over v n s' (steps_left bytes c.next.new.self) cut).0);
       left = claiming_on read.image c.step.ensures.claiming.left (omega (arith, c.step.ensures.runs))
           (moves_on c.in-Some.next inv.left.claim.ready.made c.args.geometry.now.sound.sizes.frag_high
           (rw (inv.geometry, c.in-Some.is) at c.in_ok-next.ensures.step.fits).length now.claims_are inv.left.moves)
