@@ -87,10 +87,7 @@ rewalk_on {v = v} {i = i} {cut = cut} {step = step} {k = k} {k' = k'} {R = R} {R
     record {
       reported = reporting_more t.reported (offers_next v i cut _ _ step R R' e now) did;
       runs = omega (arith, t.runs, rw same at q.most, runs_next v cut (replay_in k) (replay_in k') step R R' e now);
-      count = λ h.
-          let looked = looked_next v i cut (replay_in k) (replay_in k') step R R' (bits_of w.duplicates)
-          (bits_of w'.duplicates) e now going some did.dup in
-          omega (arith, t.count h, rw same at q.exact);
+      count = λ h. grind (arith, looked_next);
     }
 
 pub rewalk_gaps : {v : Layout} {i cut : ℕ} {all : List Step} {r : Replay} (n : ℕ) {R R' : List Step}
@@ -153,11 +150,8 @@ rewalks_from {T = T} {v = v} {n = n} {cut = cut} {d' = d'} {d'' = d''} {u = u} {
     let lines = λ (i : Inode) (bytes : List ℕ). of_lines (first_offer_lines (bits_of u.duplicates)
     (offers_again v n cut fresh_replay (steps_of v i bytes))) in
     record {
-      text = reports_same T _ (lines i) (λ bytes. lines (inode bytes) bytes) _ _ r
-          (λ bytes t. ap (λ x. lines x bytes) (h bytes t))
-          (reports_knowing T _ _ _ _ _ r gives p.text);
-      rewalked = ok_where r _ _ _ _ (ap (λ x. x.contents) e) (λ bytes t q. rewalked_from (rw (h bytes t) at q))
-          p.rewalked;
+      text = grind (arith, reports_same, reports_knowing);
+      rewalked = grind (arith, ok_where, rewalked_from);
       runs = λ bytes t. rw (h bytes t) at (p.runs bytes (gives bytes t));
       left = grind arith;
     }
