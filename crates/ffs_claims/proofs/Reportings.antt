@@ -72,13 +72,7 @@ pub reported_then : {u v w : Workspace} (xs ys : List Offer) → OffersReported 
     OffersReported (xs ++ ys) u w
 reported_then {u = u} {v = v} xs ys a b = record {
   dup = b.dup ∙ ap (λ d. after_first d ys) a.dup ∙ sym (after_append (bits_of u.duplicates) xs ys);
-  marked = λ x. b.marked x
-      ∙ rw (
-        a.dup,
-        a.marked x,
-        first_append (bits_of u.duplicates) xs ys,
-        list_any-append (blames x) (first_offer_lines (bits_of u.duplicates) xs) _,
-      ) (or_assoc (bool_at u.marked.items x) (list_any (blames x) (first_offer_lines (bits_of u.duplicates) xs)) _);
+  marked = λ x. grind (arith, first_append, list_any-append, or_assoc);
 }
 
 -- what was reported so far, with what is to come

@@ -72,15 +72,7 @@ run_offers : (v : Layout) (i : ℕ) (s : Claims) (cut start len : ℕ) (block : 
     replay_after_step v cut (replay_of s) (Run start len block) ≡ replay_of (after_step v s (Run start len block)) →
     kept_in_run v i s start len ≡ map (offer_of i) (range_with_len start (run_taken v cut (replay_of s) start len))
 run_offers v i s cut start len block going seen next =
-    let kept = ap (λ r. r.kept) next in
-    elim (cases_Bool (is_run_in_range v start len)) [
-      | inl f ↦ rw f (offers_firsts v i (record s { runs = s.runs + 1 }) start len _ (rw (going, seen, f) at kept))
-      | inr f ↦ elim (cases_Bool (s.bad == 10)) [
-        | inl z ↦ rw (f, z) refl
-        | inr z ↦ rw (f, z) (offers_firsts v i (record s { runs = s.runs + 1; bad = s.bad + 1 }) start len _
-            (rw (going, seen, f, z) at kept))
-      ]
-    ]
+    let kept = ap (λ r. r.kept) next in grind (arith, offers_firsts)
 
 -- a step, replayed: its kept offers, and those of its Run
 record StepAgain (v : Layout) (i cut : ℕ) (s : Claims) (r : Replay) (step : Step) : Type 0 where
@@ -117,10 +109,7 @@ steps_again v i s (step ∷ steps) few =
     let one = step_again v i cut s step (seen_replays v s (step ∷ steps) few) after in
     let more = steps_again v i (after_step v s step) steps (step_few v s step few) in
     let next = step_by_cut v cut (replay_of s) step ∙ ap (by_cut cut) after in
-    record {
-      offers = rw (next, one.offers, more.offers) refl;
-      looks = rw (next, one.looks, more.looks) refl;
-    }
+    grind arith
 
 -- an inode, from its begin on
 pub inode_again : (v : Layout) (i : ℕ) (s : Claims) (steps : List Step) →

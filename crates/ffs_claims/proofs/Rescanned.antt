@@ -69,8 +69,7 @@ unfolding owner_of
 kept_next v bytes notes n p =
     let high = p.high in
     let again = inode_again v n (claims_before v bytes n) (steps_of v (inode_of v bytes n) bytes) in
-    rw (range_more n (inodes_of v - n) (inodes_of v - (n + 1)) (omega arith), before_next v bytes n p.low)
-    (rw (again.offers, cut_noted p) refl)
+    grind (arith, range_more, before_next, cut_noted)
 
 -- its Runs, and those of the inodes after it
 runs_next_inode : (v : Layout) (bytes notes : List ℕ) (n : ℕ) → IsNoted v bytes notes n →
@@ -79,8 +78,7 @@ unfolding owner_of owners_runs
 runs_next_inode v bytes notes n p =
     let high = p.high in
     let again = inode_again v n (claims_before v bytes n) (steps_of v (inode_of v bytes n) bytes) in
-    rw (range_more n (inodes_of v - n) (inodes_of v - (n + 1)) (omega arith), before_next v bytes n p.low)
-    (rw (again.looks, cut_noted p) refl)
+    grind (arith, range_more, before_next, cut_noted)
 
 pub looked_on : (v : Layout) (bytes notes : List ℕ) (n : ℕ) (dup dup' : List Bool) → IsNoted v bytes notes n →
     dup' ≡ after_first dup (offers_at v bytes notes n) → runs_until_reported dup (runs_from v bytes n)
@@ -153,9 +151,7 @@ offers_none_of : (v : Layout) (x i : ℕ) (s : Claims) (fs : List ℕ) → (i ==
     no_offer x (kept_in_offers v i s fs) ≡ true
 offers_none_of v x i s [] e = refl
 offers_none_of v x i s (f ∷ fs) e =
-    let more = offers_none_of v x i (after_offer v s f) fs e in
-    cond_holds (λ (os : List Offer). no_offer x (os ++ kept_in_offers v i (after_offer v s f) fs) ≡ true)
-    (nat_lt s.dups 11) _ _ (λ _. grind arith) (λ _. more)
+    let more = offers_none_of v x i (after_offer v s f) fs e in grind (arith, cond_holds)
 
 step_none_of : (v : Layout) (x i : ℕ) (s : Claims) (step : Step) → (i == x) ≡ false →
     no_offer x (kept_in_step v i s step) ≡ true
@@ -215,8 +211,7 @@ claims_hold v bytes old new h same t = record {
   used = ap bits_of same.used ∙ h.used;
   kinds = λ x. ap (λ k. slice_index k.items x) same.kinds ∙ h.kinds x;
   notes = λ x. ap (λ k. slice_index k.items x) same.notes ∙ h.notes x;
-  marked = λ x. t.marked x ∙ rw (h.marked x, h.dup)
-      (ap (λ b. marked_by_phase1_at v bytes x || b) (sym (outside v bytes x)) ∙ sym (marked_total v bytes x));
+  marked = λ x. grind (arith, outside, marked_total);
 }
 
 -- and where counts of references start

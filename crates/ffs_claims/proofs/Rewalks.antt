@@ -87,10 +87,7 @@ rewalk_on {v = v} {i = i} {cut = cut} {step = step} {k = k} {k' = k'} {R = R} {R
     record {
       reported = reporting_more t.reported (offers_next v i cut _ _ step R R' e now) did;
       runs = omega (arith, t.runs, rw same at q.most, runs_next v cut (replay_in k) (replay_in k') step R R' e now);
-      count = λ h.
-          let looked = looked_next v i cut (replay_in k) (replay_in k') step R R' (bits_of w.duplicates)
-          (bits_of w'.duplicates) e now going some did.dup in
-          omega (arith, t.count h, rw same at q.exact);
+      count = λ h. grind (arith, looked_next);
     }
 
 pub rewalk_gaps : {v : Layout} {i cut : ℕ} {all : List Step} {r : Replay} (n : ℕ) {R R' : List Step}
@@ -143,22 +140,19 @@ rewalked_from {u = u} p = record { reported = reported_from u _ _ p.reported ref
 
 -- an inode was read before, as the image gives it
 pub rewalks_from : {T : Type 0} {v : Layout} {n cut : ℕ} {d' d'' : Device} {a b : Progress} {u w : Workspace}
-    {windows : Windows} {r : Result T RunFault} (i : Inode) (d : Device) (cut' : ℕ) (inode : List ℕ → Inode) → d' ≡ d →
-    cut ≡ cut' → ForBytes (IsContents d.contents) (λ bytes. i ≡ inode bytes) →
-    Rewalks v n cut (λ _. i) d' d'' a b (record u { windows = windows }) w r → Rewalks v n cut' inode d d'' a b u w r
-rewalks_from {T = T} {v = v} {n = n} {cut = cut} {d' = d'} {d'' = d''} {u = u} {r = r} i d cut' inode e k h p =
+    {windows : Windows} {r : Result T RunFault} (i : Inode) (d : Device) (inode : List ℕ → Inode) → d' ≡ d →
+    ForBytes (IsContents d.contents) (λ bytes. i ≡ inode bytes) →
+    Rewalks v n cut (λ _. i) d' d'' a b (record u { windows = windows }) w r → Rewalks v n cut inode d d'' a b u w r
+rewalks_from {T = T} {v = v} {n = n} {cut = cut} {d' = d'} {d'' = d''} {u = u} {r = r} i d inode e h p =
     let gives : ForBytes (IsContents d.contents) (IsContents d'.contents) = λ bytes t. ap (λ x. x.contents) e ∙ t in
     let image = image_from d'' r e p.left.image in
     let claims = claims_then (claims_still (claims_none u)) p.left.claims in
-    let lines = λ (cut : ℕ) (i : Inode) (bytes : List ℕ). of_lines (first_offer_lines (bits_of u.duplicates)
+    let lines = λ (i : Inode) (bytes : List ℕ). of_lines (first_offer_lines (bits_of u.duplicates)
     (offers_again v n cut fresh_replay (steps_of v i bytes))) in
     record {
-      text = reports_same T _ (lines cut i) (λ bytes. lines cut' (inode bytes) bytes) _ _ r
-          (λ bytes t. ap (λ x. lines x i bytes) k ∙ ap (λ x. lines cut' x bytes) (h bytes t))
-          (reports_knowing T _ _ _ _ _ r gives p.text);
-      rewalked = ok_where r _ _ _ _ (ap (λ x. x.contents) e) (λ bytes t q. rewalked_from (rw (k, h bytes t) at q))
-          p.rewalked;
-      runs = λ bytes t. rw (k, h bytes t) at (p.runs bytes (gives bytes t));
+      text = grind (arith, reports_same, reports_knowing);
+      rewalked = grind (arith, ok_where, rewalked_from);
+      runs = λ bytes t. rw (h bytes t) at (p.runs bytes (gives bytes t));
       left = grind arith;
     }
 

@@ -22,8 +22,7 @@ quiet_more {v = v} {s = s} t {start = start} {len = len} now silent more =
     let rest = range_with_len (start + 1) len in
     record {
       claims = ap (λ t. after_offers v t rest) now ∙ more.claims;
-      silent = λ inode. ap (λ ls. ls ++ lines_of_offers v inode (after_offer v s start) rest) (silent inode)
-          ∙ ap (λ t. lines_of_offers v inode t rest) now ∙ more.silent inode;
+      silent = λ inode. grind arith;
     }
 
 -- a Run past the end of the volume: no fragment of it is in range, so they are only counted

@@ -50,8 +50,7 @@ words_once {v = v} {a = a} {b = b} {x = x} {y = y} {address = address} some smal
     rw (is, sym layout) (passes.steps contents (rw layout holds) bytes e) in
     record {
       claims = λ contents holds bytes e. rw (next contents holds bytes e, now) refl;
-      lines = λ contents holds bytes e number.
-          rw (next contents holds bytes e, now, (claims block).silent number) refl;
+      lines = λ contents holds bytes e number. grind arith;
       uncut = uncut;
       moves = moves_on step made small (word_length v address block some) now (stays (claims_of a));
       only = only;
@@ -68,10 +67,8 @@ words_then {a = a} {b = b} {c = c} p q =
     let pc = p.counted in
     let qc = q.counted in
     record {
-      claims = λ contents holds bytes e.
-          q.claims contents (rw p.only.windows holds) bytes e ∙ p.claims contents holds bytes e;
-      lines = λ contents holds bytes e number.
-          q.lines contents (rw p.only.windows holds) bytes e number ∙ p.lines contents holds bytes e number;
+      claims = grind arith;
+      lines = grind arith;
       uncut = q.uncut;
       moves = moves_then (claims_of a) (claims_of b) (claims_of c) p.moves q.moves;
       only = only_then p.only q.only;

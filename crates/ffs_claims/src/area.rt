@@ -1,9 +1,18 @@
-//! The data area: data fragments around the last Run that was in range.
+//! Runs, and the data area: data fragments around the last Run that was in range.
 
 ghost use Rattle.std.specs.Prelude.{◌≡◌, ◌<◌, ◌↔◌, IsTrue, true, ℕ};
 ghost use Rattle.ffs_volume.specs.{Disk.Areas.is_run_in_range, declared.Layout.Layout};
 
 use ffs_layout::Geometry;
+
+/// Consecutive fragments that a step of an inode offers.
+#[derive(Clone, Copy, Debug)]
+pub struct Run {
+    /// The first fragment.
+    pub start: u32,
+    /// How many fragments there are.
+    pub len: u32,
+}
 
 /// Consecutive fragments, from `start` on and below `end`. Each Run that lies in them is in range.
 #[derive(Clone, Copy, Debug)]

@@ -14,7 +14,7 @@ ghost use Rattle.ffs_claims.specs.Leaves.{AreClaims, CanOffer, HasRoomForOffers,
 ghost use Rattle.ffs_claims.specs.Lines.{of_lines, has_dup_line};
 ghost use Rattle.ffs_volume.specs.Blocks.Claims as claims;
 
-use crate::area::DataArea;
+use crate::area::{DataArea, Run};
 use crate::lines::{say_bad, say_dup};
 use ffs_layout::Geometry;
 use ffs_report::{Line, OutFault, Output, Report};
@@ -99,26 +99,26 @@ fn offers<W: Output>(
     workspace: &mut Workspace,
     geometry: &Geometry,
     number: u32,
-    start: u32,
-    len: u32,
+    run: Run,
     in_range: bool,
     report: &mut Report<'_, W>,
 ) -> Result<(), OutFault>
-    requires { CanOffer geometry.now.layout workspace.old len in_range
-        (is_run_in_range geometry.now.layout start len) }
+    requires { CanOffer geometry.now.layout workspace.old run.len in_range
+        (is_run_in_range geometry.now.layout run.start run.len) }
     ensures said { Says (progress W.sink report.old) (progress W.sink report.new)
         (of_lines (lines_of_offers geometry.now.layout number (claims_of workspace.old)
-        (range_with_len start len))) result }
+        (range_with_len run.start run.len))) result }
     ensures claims { OnOk result (claims_of workspace.new
-        ≡ after_offers geometry.now.layout (claims_of workspace.old) (range_with_len start len)) }
+        ≡ after_offers geometry.now.layout (claims_of workspace.old)
+        (range_with_len run.start run.len)) }
     ensures only { OffersOnly geometry.now.layout workspace.old workspace.new }
 {
-    for index in 0..len {
+    for index in 0..run.len {
         offer(
             workspace,
             geometry,
             number,
-            u64::from(start) + u64::from(index),
+            u64::from(run.start) + u64::from(index),
             in_range,
             report,
         )?;
@@ -132,26 +132,26 @@ fn run_in_range<W: Output>(
     workspace: &mut Workspace,
     geometry: &Geometry,
     number: u32,
-    start: u32,
-    len: u32,
+    run: Run,
     report: &mut Report<'_, W>,
 ) -> Result<bool, OutFault>
-    requires can { CanOffer geometry.now.layout workspace.old len true
-        (is_run_in_range geometry.now.layout start len) }
-    requires some { 0 < len }
+    requires can { CanOffer geometry.now.layout workspace.old run.len true
+        (is_run_in_range geometry.now.layout run.start run.len) }
+    requires some { 0 < run.len }
     requires open { claims.is_open (claims_of workspace.old) ≡ true }
     ensures said { Says (progress W.sink report.old) (progress W.sink report.new)
         (of_lines (lines_of_offers geometry.now.layout number (claims_of workspace.old)
-        (range_with_len start len))) result }
+        (range_with_len run.start run.len))) result }
     ensures claims { IfOk result (AreClaims workspace.new
-        (after_offers geometry.now.layout (claims_of workspace.old) (range_with_len start len))) }
+        (after_offers geometry.now.layout (claims_of workspace.old)
+        (range_with_len run.start run.len))) }
     ensures only { OffersOnly geometry.now.layout workspace.old workspace.new }
 {
-    if workspace.used.claim(start, len) {
-        workspace.kept += u64::from(len);
+    if workspace.used.claim(run.start, run.len) {
+        workspace.kept += u64::from(run.len);
         return Ok(true);
     }
-    offers(workspace, geometry, number, start, len, true, report)?;
+    offers(workspace, geometry, number, run, true, report)?;
     Ok(is_open(workspace))
 }
 
@@ -161,24 +161,24 @@ fn offers_of_bad_run<W: Output>(
     workspace: &mut Workspace,
     geometry: &Geometry,
     number: u32,
-    start: u32,
-    len: u32,
+    run: Run,
     report: &mut Report<'_, W>,
 ) -> Result<(), OutFault>
-    requires room { HasRoomForOffers geometry.now.layout workspace.old len }
+    requires room { HasRoomForOffers geometry.now.layout workspace.old run.len }
     requires uncut { workspace.old.dups ≤ MAXDUP }
     ensures said { Says (progress W.sink report.old) (progress W.sink report.new)
         (of_lines (lines_of_offers geometry.now.layout number (claims_of workspace.old)
-        (range_with_len start len))) result }
+        (range_with_len run.start run.len))) result }
     ensures claims { OnOk result (claims_of workspace.new
-        ≡ after_offers geometry.now.layout (claims_of workspace.old) (range_with_len start len)) }
+        ≡ after_offers geometry.now.layout (claims_of workspace.old)
+        (range_with_len run.start run.len)) }
     ensures only { OffersOnly geometry.now.layout workspace.old workspace.new }
 {
-    if start >= geometry.layout.size {
-        workspace.kept += u64::from(len);
+    if run.start >= geometry.layout.size {
+        workspace.kept += u64::from(run.len);
         return Ok(());
     }
-    offers(workspace, geometry, number, start, len, false, report)
+    offers(workspace, geometry, number, run, false, report)
 }
 
 /// Takes a Run of the current inode. Returns whether the next step is seen.
@@ -187,30 +187,29 @@ fn run<W: Output>(
     geometry: &Geometry,
     area: &mut DataArea,
     number: u32,
-    start: u32,
-    len: u32,
+    run: Run,
     report: &mut Report<'_, W>,
 ) -> Result<bool, OutFault>
     requires next { SeesNext geometry.now.layout workspace.old area.old }
-    requires some { 0 < len }
+    requires some { 0 < run.len }
     ensures claiming { ClaimsStep geometry.now.layout
-        (run_lines geometry.now.layout number (claims_of workspace.old) start len)
-        (after_run geometry.now.layout (claims_of workspace.old) start len)
+        (run_lines geometry.now.layout number (claims_of workspace.old) run.start run.len)
+        (after_run geometry.now.layout (claims_of workspace.old) run.start run.len)
         (progress W.sink report.old) (progress W.sink report.new) workspace.old workspace.new
         area.new result }
     ensures runs { workspace.new.runs_seen ≡ workspace.old.runs_seen + 1 }
 {
     workspace.runs_seen += 1;
-    if area.in_range(geometry, start, len) {
-        return run_in_range(workspace, geometry, number, start, len, report);
+    if area.in_range(geometry, run.start, run.len) {
+        return run_in_range(workspace, geometry, number, run, report);
     }
     let is_eleventh = workspace.bad == MAXBAD;
     workspace.bad += 1;
-    say_bad(report, number, start, is_eleventh)?;
+    say_bad(report, number, run.start, is_eleventh)?;
     if is_eleventh {
         return Ok(false);
     }
-    offers_of_bad_run(workspace, geometry, number, start, len, report)?;
+    offers_of_bad_run(workspace, geometry, number, run, report)?;
     Ok(is_open(workspace))
 }
 
@@ -238,7 +237,14 @@ pub fn step<W: Output>(
 {
     match step {
         Step::Run { start, len, .. } => {
-            run(workspace, geometry, area, number, start, len, report)
+            run(
+                workspace,
+                geometry,
+                area,
+                number,
+                Run { start, len },
+                report,
+            )
         }
         Step::Tail => {
             if !workspace.tail {

@@ -67,17 +67,18 @@ fn rewalk<I: Image, W: Output>(
     image: &mut I,
     workspace: &mut Workspace,
     number: u32,
-    cut: u32,
     inode: &Inode,
     report: &mut Report<'_, W>,
 ) -> Result<(), RunFault>
     requires can { CanRewalk geometry.now.layout (I.device image.old) workspace.old number }
-    ensures rewalks { Rewalks geometry.now.layout number cut (λ _. inode.now)
+    ensures rewalks { Rewalks geometry.now.layout number
+        (cut_in (slice_index workspace.old.notes.items number)) (λ _. inode.now)
         (I.device image.old) (I.device image.new) (progress W.sink report.old)
         (progress W.sink report.new) workspace.old workspace.new result }
     ensures counted { RunsPay (I.reads image.old) (I.reads image.new) workspace.old.runs_again
         workspace.new.runs_again }
 {
+    let cut = workspace.cut_of(number);
     let mut keeping = Keeping::start(cut);
     let mut walk = Walk::start(geometry, inode);
     while let Some(next) = walk.next(image, &mut workspace.windows.blocks)? {
@@ -113,8 +114,7 @@ fn rewalk_inode<I: Image, W: Output>(
         workspace.old.runs_again workspace.new.runs_again }
 {
     let inode = workspace.windows.table.inode(geometry, number, image)?;
-    let cut = workspace.cut_of(number);
-    rewalk(geometry, image, workspace, number, cut, &inode, report)
+    rewalk(geometry, image, workspace, number, &inode, report)
 }
 
 /// What `phase1b` does, where each read is answered.

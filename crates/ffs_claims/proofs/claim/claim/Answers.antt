@@ -18,13 +18,13 @@ pub returns-then-not-has_steps-clause-claiming : goal.returns-then-not-has_steps
 returns-then-not-has_steps-clause-claiming g c =
     let v = c.args.geometry.now.layout in
     let s = claims_of c.args.workspace.now in
-    let some : 0 < v.bsize = omega (arith, c.args.geometry.now.sound.sizes.bsize_low) in
-    let none : ForBytes (IsContents (g.I.Image.device c.args.image.now).contents)
-    (λ bytes. steps_of v c.args.inode.now bytes ≡ []) = λ bytes t. without_steps v c.args.inode.now bytes some
+    let none = λ (bytes : List ℕ). without_steps v c.args.claimant.now.inode.now bytes
+    (omega (arith, c.args.geometry.now.sound.sizes.bsize_low))
     (sym (c.has_steps.ensures c.requires.class) ∙ c.if-not-has_steps.true) in
     record {
-      text = says_none (λ bytes t. ap (λ xs. of_lines (lines_of_steps v c.args.number s xs)) (none bytes t));
-      claims = λ bytes t. sym (ap (after_steps v s) (none bytes t));
+      text = says_none
+          (λ bytes t. ap (λ xs. of_lines (lines_of_steps v c.args.claimant.now.number s xs)) (none bytes));
+      claims = λ bytes t. sym (ap (after_steps v s) (none bytes));
       left = claiming_none c.requires.ready;
     }
 
@@ -41,7 +41,7 @@ loop-next-init g c =
       counted = omega (arith, top_unread c.restart.new.self c.restart.ensures.top);
       claims = λ bytes t. ap (after_steps v s) (walk.steps bytes);
       said = of_same _ _ _ _ _ _ (of_begins _ _ _)
-          (λ bytes t. ap (λ xs. of_lines (lines_of_steps v c.args.number s xs)) (sym (walk.steps bytes)));
+          (λ bytes t. ap (λ xs. of_lines (lines_of_steps v c.args.claimant.now.number s xs)) (sym (walk.steps bytes)));
     }
 
 pub next-requires : goal.next-requires
@@ -77,8 +77,8 @@ returns-in_err-seen-clause-claiming g c =
     let next = rw (inv.left.image, c.in-Some.is) at c.in_ok-next.ensures.step.steps in
     let few = seen_bound c.args.workspace.now read.claim.ready.made inv.open_still read.moves in
     rw (p.1, p.2) (record {
-      text = of_stops _ _ _ _ _ _ _ _ inv.said (lines_on v c.args.number s (after_step v s c.in-Some.next)
-          c.loop-next.walk c.next.new.self c.in-Some.next next refl) c.in_err-seen.ensures.claiming.said;
+      text = of_stops _ _ _ _ _ _ _ _ inv.said (lines_on v _ s _ c.loop-next.sweep.walk c.next.new.self
+          c.in-Some.next next refl) c.in_err-seen.ensures.claiming.said;
       claims = tt;
       left = claiming_on read.image c.step.ensures.claiming.left (omega (arith, c.step.ensures.runs)) tt read;
     })
@@ -97,7 +97,7 @@ loop-next-preserved-then-matches g c =
     ] in
     let rest = λ (bytes : List ℕ). steps_left bytes c.skip_gaps.new.self in
     let gaps : ForBytes (IsContents (g.I.Image.device c.args.image.now).contents)
-    (λ bytes. steps_left bytes c.loop-next.walk ≡ Gap ∷ replicate c.skip_gaps.result Gap ++ rest bytes) =
+    (λ bytes. steps_left bytes c.loop-next.sweep.walk ≡ Gap ∷ replicate c.skip_gaps.result Gap ++ rest bytes) =
     λ bytes t. (rw (inv.left.image, c.in-Some.is, is_gap) at c.in_ok-next.ensures.step.steps) bytes t
     ∙ ap (λ xs. Gap ∷ xs) (c.skip_gaps.ensures.steps (g.I.Image.device c.next.new.image).contents
     (rw same read.claim.ready.windows.blocks) bytes (ap (λ d. d.contents) read.image ∙ t)) in
@@ -110,11 +110,11 @@ loop-next-preserved-then-matches g c =
           let paid = rw (c.in-Some.is, is_gap) at reads.paid in
           omega (arith, paid, inv.counted, c.skip_gaps.ensures.counted.unread);
       claims = λ bytes t. sym (ap (after_steps v s) (gaps bytes t)
-          ∙ (gaps_over v c.args.number s c.skip_gaps.result (rest bytes)).0)
+          ∙ (gaps_over v c.args.claimant.now.number s c.skip_gaps.result (rest bytes)).0)
           ∙ inv.claims bytes t;
       said = of_same _ _ _ _ _ _ inv.said (λ bytes t.
-          ap (λ xs. of_lines (lines_of_steps v c.args.number s xs)) (gaps bytes t)
-          ∙ ap of_lines (gaps_over v c.args.number s c.skip_gaps.result (rest bytes)).1);
+          ap (λ xs. of_lines (lines_of_steps v c.args.claimant.now.number s xs)) (gaps bytes t)
+          ∙ ap of_lines (gaps_over v c.args.claimant.now.number s c.skip_gaps.result (rest bytes)).1);
     }
 
 pub claim_words-requires-clause-next : goal.claim_words-requires-clause-next
@@ -130,7 +130,7 @@ claim_words-requires-clause-next g c =
 pub loop-next-preserved : goal.loop-next-preserved
 loop-next-preserved g c =
     let inv = c.loop-next.invariant in
-    let n = c.args.number in
+    let n = c.args.claimant.now.number in
     let v = c.args.geometry.now.layout in
     let s = claims_of c.loop-next.workspace in
     let read = claiming_walked c.in_ok-next.ensures.leaves.read inv.geometry c.next.ensures.leaves.kept inv.left in
@@ -153,9 +153,9 @@ loop-next-preserved g c =
       geometry = words.same.geometry ∙ c.in_ok-next.ensures.same.geometry ∙ inv.geometry;
       held = words.counted.held _ (rw (words.only.windows, left.only.windows) reads.held);
       counted = omega (arith, paid, inv.counted, c.step.ensures.counted, words.rises, words.counted.unread);
-      claims = claims_on v s c.loop-next.walk c.next.new.self _ c.in-Some.next next now inv.claims
+      claims = claims_on v s c.loop-next.sweep.walk c.next.new.self _ c.in-Some.next next now inv.claims
           (λ bytes t. sym (words.claims image claimed.windows.blocks bytes (gives ∙ t)));
-      said = steps_said v n s (claims_of c.step.new.workspace) c.loop-next.walk c.next.new.self _ c.in-Some.next
+      said = steps_said v n s (claims_of c.step.new.workspace) c.loop-next.sweep.walk c.next.new.self _ c.in-Some.next
           inv.said next now (λ bytes t. sym (words.lines image claimed.windows.blocks bytes (gives ∙ t) n))
           c.in_ok-seen.ensures.claiming.said;
     }
@@ -166,17 +166,18 @@ returns-then-not-seen-clause-claiming g c =
     let v = c.args.geometry.now.layout in
     let s = claims_of c.loop-next.workspace in
     let s' = claims_of c.step.new.workspace in
+    let n = c.args.claimant.now.number in
     let read = claiming_walked c.in_ok-next.ensures.leaves.read inv.geometry c.next.ensures.leaves.kept inv.left in
     let now = c.in_ok-seen.ensures.claiming.claims in
     let few = seen_bound c.args.workspace.now read.claim.ready.made inv.open_still read.moves in
     let cut : is_open s' ≡ false = sym now.uncut ∙ c.if-not-seen.true in
     let next = rw (inv.left.image, c.in-Some.is) at c.in_ok-next.ensures.step.steps in
     record {
-      text = steps_said v c.args.number s s' c.loop-next.walk c.next.new.self (λ bytes. []) c.in-Some.next inv.said next
-          now.claims_are (λ bytes t. (cut_over v c.args.number s' (steps_left bytes c.next.new.self) cut).1)
+      text = steps_said v n s s' c.loop-next.sweep.walk c.next.new.self (λ bytes. []) c.in-Some.next inv.said next
+          now.claims_are (λ bytes t. (cut_over v n s' (steps_left bytes c.next.new.self) cut).1)
           c.in_ok-seen.ensures.claiming.said;
-      claims = claims_on v s c.loop-next.walk c.next.new.self (λ bytes. s') c.in-Some.next next now.claims_are
-          inv.claims (λ bytes t. (cut_over v c.args.number s' (steps_left bytes c.next.new.self) cut).0);
+      claims = claims_on v s c.loop-next.sweep.walk c.next.new.self (λ bytes. s') c.in-Some.next next now.claims_are
+          inv.claims (λ bytes t. (cut_over v n s' (steps_left bytes c.next.new.self) cut).0);
       left = claiming_on read.image c.step.ensures.claiming.left (omega (arith, c.step.ensures.runs))
           (moves_on c.in-Some.next inv.left.claim.ready.made c.args.geometry.now.sound.sizes.frag_high
           (rw (inv.geometry, c.in-Some.is) at c.in_ok-next.ensures.step.fits).length now.claims_are inv.left.moves)
@@ -191,7 +192,7 @@ returns-in_default-clause-claiming g c =
     let over = rw (inv.left.image, c.in_default.is) at c.in_ok-next.ensures.step.steps in
     record {
       text = of_same _ _ _ _ _ _ inv.said
-          (λ bytes t. ap (λ xs. of_lines (lines_of_steps v c.args.number s xs)) (over bytes t));
+          (λ bytes t. ap (λ xs. of_lines (lines_of_steps v c.args.claimant.now.number s xs)) (over bytes t));
       claims = λ bytes t. sym (ap (after_steps v s) (over bytes t)) ∙ inv.claims bytes t;
       left = claiming_walked c.in_ok-next.ensures.leaves.read inv.geometry c.next.ensures.leaves.kept inv.left;
     }

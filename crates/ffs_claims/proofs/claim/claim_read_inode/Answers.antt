@@ -35,8 +35,7 @@ returns-in_err-say_class-clause-claiming g c =
     let few = used_below ready.made in
     let b = begun_runs c.args.workspace.now c.begin.ensures in
     rw (p.1, p.2) (record {
-      text = class_stopped c.args.geometry.now.layout c.args.number c.args.inode.now (claims_of c.args.workspace.now)
-          c.class_of-class.ensures c.in_err-say_class.ensures;
+      text = class_stopped _ _ _ (claims_of c.args.workspace.now) c.requires.class c.in_err-say_class.ensures;
       claims = tt;
       left = grind arith;
     })
@@ -50,8 +49,8 @@ returns-in_err-claim-clause-claiming g c =
     let left = c.claim.ensures.claiming.left in
     rw (p.1, p.2) (record {
       text = of_fault (Unit {0}) (Unit {0}) _ _ _ _ _ _ _ _ _
-          (class_said v c.args.number c.args.inode.now (claims_of c.args.workspace.now) (ap claims_of c.begin.ensures)
-          c.class_of-class.ensures c.in_ok-say_class.ensures) (λ bytes t. refl) c.in_err-claim.ensures.claiming.text;
+          (class_said v _ _ (claims_of c.args.workspace.now) (ap claims_of c.begin.ensures) c.requires.class
+          c.in_ok-say_class.ensures) (λ bytes t. refl) c.in_err-claim.ensures.claiming.text;
       claims = tt;
       left = grind arith;
     })
@@ -60,14 +59,13 @@ pub returns-in_err-say_count-clause-claiming : goal.returns-in_err-say_count-cla
 returns-in_err-say_count-clause-claiming g c =
     let p = err_from_is_err_and c.from_residual-in_err-say_count.result c.from_residual-in_err-say_count.ensures.1 in
     let v = c.args.geometry.now.layout in
-    let old = claims_of c.args.workspace.now in
     let b = begun_runs c.args.workspace.now c.begin.ensures in
     let left = c.claim.ensures.claiming.left in
     rw (p.1, p.2) (record {
-      text = of_stops _ _ (λ bytes. []) _ _ _ _ _ (steps_reported v c.args.number c.args.inode.now old
-          (ap claims_of c.begin.ensures) c.class_of-class.ensures c.in_ok-say_class.ensures
-          c.in_ok-claim.ensures.claiming.text c.in_ok-claim.ensures.claiming.claims)
-          (λ bytes t. refl) c.in_err-say_count.ensures;
+      text = of_stops _ _ (λ bytes. []) _ _ _ _ _ (steps_reported v _ _ (claims_of c.args.workspace.now)
+          (ap claims_of c.begin.ensures) c.requires.class c.in_ok-say_class.ensures
+          c.in_ok-claim.ensures.claiming.text c.in_ok-claim.ensures.claiming.claims) (λ bytes t. refl)
+          c.in_err-say_count.ensures;
       claims = tt;
       left = grind arith;
     })
@@ -75,7 +73,6 @@ returns-in_err-say_count-clause-claiming g c =
 pub returns-clause-claiming : goal.returns-clause-claiming
 returns-clause-claiming g c =
     let v = c.args.geometry.now.layout in
-    let old = claims_of c.args.workspace.now in
     let b = begun_runs c.args.workspace.now c.begin.ensures in
     let s = stored_runs c.claim.new.workspace c.store-2.ensures.rest in
     let zero = begun c.args.workspace.now c.begin.ensures c.requires.ready.runs in
@@ -83,12 +80,12 @@ returns-clause-claiming g c =
     let ready = ready_stored c.store-2.ensures.stored c.store-2.ensures.rest left.claim.ready in
     let m = c.in_ok-claim.ensures.claiming.left.moves in
     record {
-      text = of_says _ _ (λ bytes. []) _ _ _ _ _ (steps_reported v c.args.number c.args.inode.now old
-          (ap claims_of c.begin.ensures) c.class_of-class.ensures c.in_ok-say_class.ensures
-          c.in_ok-claim.ensures.claiming.text c.in_ok-claim.ensures.claiming.claims)
-          (λ bytes t. refl) c.in_ok-say_count.ensures;
+      text = of_says _ _ (λ bytes. []) _ _ _ _ _ (steps_reported v _ _ (claims_of c.args.workspace.now)
+          (ap claims_of c.begin.ensures) c.requires.class c.in_ok-say_class.ensures
+          c.in_ok-claim.ensures.claiming.text c.in_ok-claim.ensures.claiming.claims) (λ bytes t. refl)
+          c.in_ok-say_count.ensures;
       claims = λ bytes t. ap claims_of c.store-2.ensures.rest ∙ c.in_ok-claim.ensures.claiming.claims bytes t
-          ∙ ap (λ s. after_steps v s (steps_of v c.args.inode.now bytes)) (ap claims_of c.begin.ensures);
+          ∙ ap (λ s. after_steps v s (steps_of v c.args.claimant.now.inode.now bytes)) (ap claims_of c.begin.ensures);
       left = grind arith;
     }
 
@@ -96,19 +93,19 @@ pub returns-then-matches-clause-claiming : goal.returns-then-matches-clause-clai
 returns-then-matches-clause-claiming g c =
     let v = c.args.geometry.now.layout in
     let old = claims_of c.args.workspace.now in
-    let is_free : c.class_of-class.result ≡ Free = elim c.match-matches.branch [
+    let is_free : c.args.claimant.now.class ≡ Free = elim c.match-matches.branch [
       | in-Free w ↦ w.in-Free.is
       | in_default w ↦ cc
     ] in
-    let free = sym c.class_of-class.ensures ∙ is_free in
+    let free = sym c.requires.class ∙ is_free in
     let begun = ready_begun c.begin.ensures c.requires.ready.claim.ready in
     let ready = ready_stored c.store.ensures.stored c.store.ensures.rest begun in
     let few = used_below begun.made in
     let b = begun_runs c.args.workspace.now c.begin.ensures in
     let s = stored_runs c.begin.new.workspace c.store.ensures.rest in
     record {
-      text = says_none (λ bytes t. ap of_lines (free_silent v c.args.number c.args.inode.now old bytes free));
+      text = says_none (λ bytes t. ap of_lines (free_silent v _ _ old bytes free));
       claims = λ bytes t. ap claims_of c.store.ensures.rest ∙ ap claims_of c.begin.ensures
-          ∙ sym (free_claims v c.args.number c.args.inode.now old bytes free);
+          ∙ sym (free_claims v c.args.claimant.now.number _ old bytes free);
       left = grind arith;
     }

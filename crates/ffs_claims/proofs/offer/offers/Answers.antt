@@ -9,33 +9,29 @@ use Rattle.ffs_claims.proofs.offer.offers.Goals as goal
 pub returns-in_err-offer-clause-said : goal.returns-in_err-offer-clause-said
 returns-in_err-offer-clause-said g c =
     let p = err_from_is_err_and c.from_residual.result c.from_residual.ensures.1 in
-    let v = c.args.geometry.now.layout in
-    let s = claims_of c.loop-index.workspace in
-    let f = c.from.result + c.from-in-loop-index.result in
-    rw (p.1) (to_stops _ _ _ _ _ _ _ c.loop-index.invariant.said
-    (offers_more v c.args.number s (claims_of c.offer.new.workspace) c.args.start c.args.len c.loop-index.index f
+    rw (p.1) (to_stops _ _ _ _ _ _ _ c.loop-index.invariant.said (offers_more c.args.geometry.now.layout _ _ _
+    c.args.run.start c.args.run.len c.loop-index.index (c.from.result + c.from-in-loop-index.result)
     c.loop-index-test.true (omega arith) c.offer.ensures.claims) c.in_err-offer.ensures.said)
 
 pub loop-index-preserved : goal.loop-index-preserved
 loop-index-preserved g c =
     let inv = c.loop-index.invariant in
     let v = c.args.geometry.now.layout in
-    let s = claims_of c.loop-index.workspace in
-    let s' = claims_of c.offer.new.workspace in
+    let run = c.args.run in
     let f = c.from.result + c.from-in-loop-index.result in
     record {
       only = offers_then inv.only c.offer.ensures.only;
-      kept = omega (arith, inv.kept, offer_kept v s s' f c.offer.ensures.claims);
-      claims = inv.claims ∙ offers_after v s s' c.args.start c.args.len c.loop-index.index f c.loop-index-test.true
-          (omega arith) c.offer.ensures.claims;
+      kept = omega (arith, inv.kept, offer_kept v (claims_of c.loop-index.workspace) _ f c.offer.ensures.claims);
+      claims = inv.claims ∙ offers_after v _ _ run.start run.len c.loop-index.index f c.loop-index-test.true (omega arith)
+          c.offer.ensures.claims;
       said = to_says _ _ _ _ _ _ _ inv.said
-          (offers_more v c.args.number s s' c.args.start c.args.len c.loop-index.index f c.loop-index-test.true
-          (omega arith) c.offer.ensures.claims) c.in_ok-offer.ensures.said;
+          (offers_more v _ _ _ run.start run.len c.loop-index.index f c.loop-index-test.true (omega arith)
+          c.offer.ensures.claims) c.in_ok-offer.ensures.said;
     }
 
 pub loop-index-init : goal.loop-index-init
 loop-index-init g c =
-    rw (← from_start c.args.start c.args.len) (record {
+    rw (← from_start c.args.run.start c.args.run.len) (record {
       only = offers_none c.requires.room.made;
       kept = omega arith;
       claims = refl;
@@ -51,6 +47,6 @@ offer-requires g c =
         room = omega (arith, inv.kept, c.requires.room.room, c.loop-index-test.true);
       };
       known = λ fits. ap (is_fragment_in_range c.args.geometry.now.layout) (omega arith)
-          ∙ each_ok c.args.geometry.now.layout c.args.start c.args.len c.loop-index.index (c.requires.known fits)
+          ∙ each_ok _ c.args.run.start c.args.run.len c.loop-index.index (c.requires.known fits)
           c.loop-index-test.true;
     }

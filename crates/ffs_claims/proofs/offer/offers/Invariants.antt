@@ -6,13 +6,13 @@ use Rattle.ffs_claims.specs.{Leaves.OffersOnly, Lines.of_lines}
 use Rattle.ffs_claims.proofs.offer.offers.Given as goal
 
 abbrev pub invariant-loop-index : goal.invariant-loop-index
-invariant-loop-index g l = record {
-  only : OffersOnly l.geometry.layout l.initial.workspace l.workspace;
-  kept : l.workspace.kept ≤ l.initial.workspace.kept + l.index;
-  claims : after_offers l.geometry.layout (claims_of l.initial.workspace) (range_with_len l.start l.len)
-      ≡ after_offers l.geometry.layout (claims_of l.workspace) (range_with_len (l.start + l.index) (l.len - l.index));
-  said : SaidTo (of_lines (lines_of_offers l.geometry.layout l.number (claims_of l.workspace)
-      (range_with_len (l.start + l.index) (l.len - l.index))))
-      (of_lines (lines_of_offers l.geometry.layout l.number (claims_of l.initial.workspace)
-      (range_with_len l.start l.len))) (progress g.W.Output.sink l.initial.report) (progress g.W.Output.sink l.report);
-}
+invariant-loop-index g l = let v = l.geometry.layout in
+    let fragments = range_with_len l.run.start l.run.len in
+    let rest = range_with_len (l.run.start + l.index) (l.run.len - l.index) in record {
+      only : OffersOnly v l.initial.workspace l.workspace;
+      kept : l.workspace.kept ≤ l.initial.workspace.kept + l.index;
+      claims : after_offers v (claims_of l.initial.workspace) fragments ≡ after_offers v (claims_of l.workspace) rest;
+      said : SaidTo (of_lines (lines_of_offers v l.number (claims_of l.workspace) rest))
+          (of_lines (lines_of_offers v l.number (claims_of l.initial.workspace) fragments))
+          (progress g.W.Output.sink l.initial.report) (progress g.W.Output.sink l.report);
+    }

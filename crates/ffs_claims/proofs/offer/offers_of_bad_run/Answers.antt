@@ -5,12 +5,12 @@ use Rattle.ffs_workspace.specs.Holds.{claims_of}
 use Rattle.ffs_claims.proofs.{Frames.offers_claimed, UnclaimedRuns.only_kept}
 use Rattle.ffs_claims.proofs.offer.offers_of_bad_run.Goals as goal
 
-pub returns-then-start-geometry : goal.returns-then-start-geometry
-returns-then-start-geometry g c =
+pub returns-then-run-geometry : goal.returns-then-run-geometry
+returns-then-run-geometry g c =
     let few : nat_lt c.args.workspace.now.dups 11 ≡ true = grind (arith, nat_tests) in
-    let kept = only_kept c.args.geometry.now.layout (claims_of c.args.workspace.now) c.args.start c.args.len few
+    let kept = only_kept c.args.geometry.now.layout (claims_of c.args.workspace.now) c.args.run.start c.args.run.len few
     (omega arith) in
-    let more : c.from.result ≡ c.args.len = omega arith in
+    let more : c.from.result ≡ c.args.run.len = omega arith in
     record {
       said = rw (kept.silent c.args.number) (said_none _);
       claims = rw more (sym kept.claims);

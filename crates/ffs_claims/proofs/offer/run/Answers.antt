@@ -7,8 +7,8 @@ use Rattle.ffs_claims.proofs.offer.run.Goals as goal
 pub returns-in_err-say_bad-clause-claiming : goal.returns-in_err-say_bad-clause-claiming
 returns-in_err-say_bad-clause-claiming g c = record {
   said = let p = err_from_is_err_and c.from_residual.result c.from_residual.ensures.1 in
-      rw (p.1) (run_stops c.args.geometry.now.layout c.args.number (claims_of c.args.workspace.now) c.args.start
-      c.args.len (sym c.in_range.ensures.value ∙ c.if-in_range.false) c.in_err-say_bad.ensures);
+      rw (p.1) (run_stops _ _ (claims_of c.args.workspace.now) c.args.run.start c.args.run.len
+      (sym c.in_range.ensures.value ∙ c.if-in_range.false) c.in_err-say_bad.ensures);
   claims = search rules;
   left = search rules;
 }
@@ -17,8 +17,8 @@ pub returns-in_err-offers_of_bad_run-clause-claiming : goal.returns-in_err-offer
 returns-in_err-offers_of_bad_run-clause-claiming g c = record {
   said = let p = err_from_is_err_and c.from_residual-in_err-offers_of_bad_run.result
       c.from_residual-in_err-offers_of_bad_run.ensures.1 in
-      rw (p.1) (run_stops_later c.args.geometry.now.layout c.args.number (claims_of c.args.workspace.now) c.args.start
-      c.args.len (sym c.in_range.ensures.value ∙ c.if-in_range.false) (grind (arith, nat_tests)) c.in_ok-say_bad.ensures
+      rw (p.1) (run_stops_later _ _ (claims_of c.args.workspace.now) c.args.run.start c.args.run.len
+      (sym c.in_range.ensures.value ∙ c.if-in_range.false) (grind (arith, nat_tests)) c.in_ok-say_bad.ensures
       c.in_err-offers_of_bad_run.ensures.said);
   claims = search rules;
   left = search rules;
@@ -26,7 +26,7 @@ returns-in_err-offers_of_bad_run-clause-claiming g c = record {
 
 pub returns-clause-claiming : goal.returns-clause-claiming
 returns-clause-claiming g c = record {
-  said = run_said c.args.geometry.now.layout c.args.number (claims_of c.args.workspace.now) c.args.start c.args.len
+  said = run_said _ _ (claims_of c.args.workspace.now) c.args.run.start c.args.run.len
       (sym c.in_range.ensures.value ∙ c.if-in_range.false) (grind (arith, nat_tests)) c.in_ok-say_bad.ensures
       c.in_ok-offers_of_bad_run.ensures.said;
   claims = search rules;

@@ -8,14 +8,14 @@ use Rattle.ffs_claims.proofs.offer.run_in_range.Goals as goal
 pub claim-requires-clause-below : goal.claim-requires-clause-below
 claim-requires-clause-below g c =
     let fits = c.requires.can.known refl in
-    omega (arith, run_below _ c.args.start c.args.len c.requires.some fits, c.requires.can.room.made.used)
+    omega (arith, run_below _ c.args.run.start c.args.run.len c.requires.some fits, c.requires.can.room.made.used)
 
 pub returns-then-claim : goal.returns-then-claim
 returns-then-claim g c =
     let few : nat_lt c.args.workspace.now.dups 11 ≡ true = grind (arith, nat_tests) in
-    let whole = whole_is c.args.geometry.now.layout (claims_of c.args.workspace.now) c.args.start c.args.len few
+    let whole = whole_is c.args.geometry.now.layout (claims_of c.args.workspace.now) c.args.run.start c.args.run.len few
     (c.requires.can.known refl) (c.claim.ensures.clear c.if-claim.true) in
-    let more : c.from.result ≡ c.args.len = omega arith in
+    let more : c.from.result ≡ c.args.run.len = omega arith in
     record {
       said = rw (whole.silent c.args.number) (said_none _);
       claims = record {

@@ -23,9 +23,9 @@ loop-number-init g c =
     record {
       ready = record {
         ready = ready_still c.reserve.ensures.only.made c.reserve.ensures.only.windows c.requires.ready;
-        only_data = c.empty-area.ensures v;
+        only_data = c.empty.ensures v;
       };
-      walk = c.ended-walk.ensures.geometry;
+      walk = c.ended.ensures.geometry;
       device = refl;
       low = omega arith;
       high = λ h. omega arith;

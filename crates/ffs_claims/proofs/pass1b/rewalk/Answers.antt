@@ -1,4 +1,4 @@
-use Rattle.std.proofs.Common.{ℕ, ◌≡◌, ◌++◌, replicate, [], arith, refl, ap, ◌∙◌, sym, List}
+use Rattle.std.proofs.Common.{ℕ, ◌≡◌, ◌++◌, replicate, [], arith, refl, ap, ◌∙◌, sym, List, slice_index}
 use Rattle.std.proofs.lemmas.Result.{err_from_is_err_and}
 use Rattle.ffs_volume.specs.{Blocks.BlockCheck.first_offer_lines, Encodings.Replay.is_replay_open}
 use Rattle.ffs_volume.specs.{Encodings.ReplayCounts.replay_step_by_cut, declared.Step.TheVariants.Gap}
@@ -7,7 +7,7 @@ use Rattle.ffs_report.specs.Known.{ForBytes, IsContents}
 use Rattle.ffs_maps.specs.Bits.{bits_of}
 use Rattle.ffs_walk.proofs.Counted.{top_held, top_unread}
 use Rattle.ffs_walk.specs.{Keepings.replay_in, Rests.steps_left}
-use Rattle.ffs_workspace.specs.Lengths.{set_count}
+use Rattle.ffs_workspace.specs.{Lengths.set_count, Notes.cut_in}
 use Rattle.ffs_claims.proofs.Duplicates.{none_first, none_left, some_left}
 use Rattle.ffs_claims.proofs.Frames.{can_walk, claims_none, ready_read, ready_walked}
 use Rattle.ffs_claims.proofs.RescanCounts.{looked_stopped, again_gaps, again_stopped, looked_over}
@@ -21,12 +21,12 @@ loop-next-init g c =
     let v = c.args.geometry.now.layout in
     let n = c.args.number in
     let d = bits_of c.args.workspace.now.duplicates in
-    let cut = c.args.cut in
+    let cut = cut_in (slice_index c.args.workspace.now.notes.items c.args.number) in
     let begun = c.start-keeping.ensures.fresh in
     let steps = c.start-walk.ensures.steps in
     record {
       left = record { image = refl; ready = c.requires.can.ready; claims = claims_none c.args.workspace.now };
-      cut = c.start-keeping.ensures.cut;
+      cut = c.start-keeping.ensures.cut ∙ c.cut_of-cut.ensures;
       going = ap (is_replay_open cut) begun ∙ open_first cut;
       pending = c.requires.can.pending;
       geometry = c.start-walk.ensures.geometry;
@@ -70,7 +70,7 @@ returns-in_err-report_again-clause-rewalks g c =
     let v = c.args.geometry.now.layout in
     let n = c.args.number in
     let d = bits_of c.loop-next.workspace.duplicates in
-    let cut = c.args.cut in
+    let cut = cut_in (slice_index c.args.workspace.now.notes.items c.args.number) in
     let r = replay_in c.loop-next.keeping in
     let r' = replay_step_by_cut v cut r c.in-Some.next in
     let on = rereads_on c.in_ok-next.ensures.leaves.read inv.geometry c.next.ensures.leaves.kept
@@ -93,7 +93,7 @@ loop-next-preserved-then-matches g c =
     let inv = c.loop-next.invariant in
     let v = c.args.geometry.now.layout in
     let n = c.args.number in
-    let cut = c.args.cut in
+    let cut = cut_in (slice_index c.args.workspace.now.notes.items c.args.number) in
     let d' = bits_of c.report_again.new.workspace.duplicates in
     let r' = replay_in c.report_again.new.keeping in
     let on = rereads_on c.in_ok-next.ensures.leaves.read inv.geometry c.next.ensures.leaves.kept
@@ -159,8 +159,8 @@ returns-then-not-is_replay_open-clause-rewalks g c =
     let next = rw (inv.left.image, c.in-Some.is) at c.in_ok-next.ensures.step.steps in
     let walk = λ (bytes : List ℕ) (t : IsContents (g.I.Image.device c.args.image.now).contents bytes).
     rewalk_on inv.cut (next bytes t) inv.going inv.pending did c.report_again.ensures.runs (inv.walk bytes t) in
-    let none = λ (bytes : List ℕ). again_stopped c.args.geometry.now.layout c.args.number c.args.cut
-    (replay_in c.report_again.new.keeping) (steps_left bytes c.next.new.self) shut in
+    let none = λ (bytes : List ℕ). again_stopped c.args.geometry.now.layout c.args.number _ _
+    (steps_left bytes c.next.new.self) shut in
     record {
       text = rewalk_said c.loop-next.walk c.next.new.self (λ bytes. []) inv.cut inv.said next did
           (λ bytes t. ap (first_offer_lines d') (none bytes).0) c.in_ok-report_again.ensures.said;
@@ -195,8 +195,7 @@ returns-in_default-clause-rewalks g c =
     let ready = ready_walked c.in_ok-next.ensures.leaves.read inv.geometry c.next.ensures.leaves.kept inv.left.ready in
     let over = rw (inv.left.image, c.in_default.is) at c.in_ok-next.ensures.step.steps in
     let none = λ (bytes : List ℕ) (t : IsContents (g.I.Image.device c.args.image.now).contents bytes).
-    offers_none c.args.geometry.now.layout c.args.number c.args.cut (replay_in c.loop-next.keeping)
-    (steps_left bytes c.loop-next.walk) (over bytes t) in
+    offers_none c.args.geometry.now.layout c.args.number _ (replay_in c.loop-next.keeping) _ (over bytes t) in
     record {
       text = of_same _ _ _ _ _ _ inv.said (λ bytes t. ap (λ os. of_lines (first_offer_lines d os)) (none bytes t));
       rewalked = λ bytes t. rewalked_to (rewalk_ends (none bytes t) (looked_over _ _ _ _ _ d (over bytes t))
@@ -207,30 +206,23 @@ returns-in_default-clause-rewalks g c =
 
 pub returns-in_err-next-clause-counted : goal.returns-in_err-next-clause-counted
 returns-in_err-next-clause-counted g c =
-    let inv = c.loop-next.invariant in
-    let reads = c.in_err-next.ensures.counted inv.held in
-    record { rises = inv.counted.rises; paid = λ room. omega (arith, reads.most, inv.counted.paid room) }
+    let reads = c.in_err-next.ensures.counted c.loop-next.invariant.held in grind arith
 
 pub returns-in_err-report_again-clause-counted : goal.returns-in_err-report_again-clause-counted
 returns-in_err-report_again-clause-counted g c =
-    let inv = c.loop-next.invariant in
-    runs_pay_ends _ _ _ _ _ inv.counted c.report_again.ensures.counted
-    (rw c.in-Some.is at (c.in_ok-next.ensures.counted inv.held).paid)
+    runs_pay_ends _ _ _ _ _ c.loop-next.invariant.counted c.report_again.ensures.counted
+    (rw c.in-Some.is at (c.in_ok-next.ensures.counted c.loop-next.invariant.held).paid)
 
 pub returns-then-not-is_replay_open-clause-counted : goal.returns-then-not-is_replay_open-clause-counted
 returns-then-not-is_replay_open-clause-counted g c =
-    let inv = c.loop-next.invariant in
-    runs_pay_ends _ _ _ _ _ inv.counted c.report_again.ensures.counted
-    (rw c.in-Some.is at (c.in_ok-next.ensures.counted inv.held).paid)
+    runs_pay_ends _ _ _ _ _ c.loop-next.invariant.counted c.report_again.ensures.counted
+    (rw c.in-Some.is at (c.in_ok-next.ensures.counted c.loop-next.invariant.held).paid)
 
 pub returns-then-not-has_dups-clause-counted : goal.returns-then-not-has_dups-clause-counted
 returns-then-not-has_dups-clause-counted g c =
-    let inv = c.loop-next.invariant in
-    runs_pay_ends _ _ _ _ _ inv.counted c.report_again.ensures.counted
-    (rw c.in-Some.is at (c.in_ok-next.ensures.counted inv.held).paid)
+    runs_pay_ends _ _ _ _ _ c.loop-next.invariant.counted c.report_again.ensures.counted
+    (rw c.in-Some.is at (c.in_ok-next.ensures.counted c.loop-next.invariant.held).paid)
 
 pub returns-in_default-clause-counted : goal.returns-in_default-clause-counted
 returns-in_default-clause-counted g c =
-    let inv = c.loop-next.invariant in
-    let paid = rw c.in_default.is at (c.in_ok-next.ensures.counted inv.held).paid in
-    record { rises = inv.counted.rises; paid = λ room. omega (arith, paid, inv.counted.paid room) }
+    let paid = rw c.in_default.is at (c.in_ok-next.ensures.counted c.loop-next.invariant.held).paid in grind arith

@@ -23,5 +23,5 @@ returns-in_err-inode-clause-rewalks g c =
     (record { text = reads_first; rewalked = tt; runs = λ bytes t. omega arith; left = grind arith })
 
 pub returns-clause-rewalks : goal.returns-clause-rewalks
-returns-clause-rewalks g c = rewalks_from c.in_ok-inode.inode (g.I.Image.device c.args.image.now) _ _
-    c.in_ok-inode.ensures.reads.read c.cut_of-cut.ensures c.in_ok-inode.ensures.reads.inode c.rewalk.ensures.rewalks
+returns-clause-rewalks g c = rewalks_from c.in_ok-inode.inode (g.I.Image.device c.args.image.now) _
+    c.in_ok-inode.ensures.reads.read c.in_ok-inode.ensures.reads.inode c.rewalk.ensures.rewalks
