@@ -1,23 +1,19 @@
 -- Directories that are called calm are calm, and stay so.
 use Rattle.std.proofs.Common.{◌≡◌, ℕ, suc, ◌+◌, ◌<◌, ◌==◌, Bool, true, false, ◌&&◌, nat_le, nat_lt, List}
-use Rattle.std.proofs.Common.{[], ◌∷◌, length, Option, unwrap_or, arith, sym, ◌∙◌, ap, subst, inl}
-use Rattle.std.proofs.lemmas.Bool.{not_from_true, both_ways, eqb-true, and_parts, and_left, and_right, or_cases}
-use Rattle.std.proofs.{Common.get_or, Common.inr, lemmas.Bool.Decides.nat_tests, lemmas.Bool.or_parts}
+use Rattle.std.proofs.Common.{[], ◌∷◌, length, Option, arith, sym, ◌∙◌, ap, subst, inl}
+use Rattle.std.proofs.lemmas.Bool.{both_ways, eqb-true, and_parts, or_cases}
+use Rattle.std.proofs.{Common.get_or, Common.inr, lemmas.Bool.or_parts}
 use Rattle.std.{proofs.lemmas.List.get_or_past, specs.List.list_any}
 use mathlib.Core.Path.{fun_ext}
 use Rattle.ffs_volume.specs.Directories.Graph.{Graph, is_naming_entry}
 use Rattle.ffs_volume.specs.Directories.Roles.{RoledEntry, is_plain}
 use Rattle.ffs_volume.specs.declared.Role.TheVariants.{Empty, Dot, Dotdot, Extra, Plain}
 use Rattle.ffs_volume.{proofs.SearchLaws.first_below-is_none, specs.declared.Role.Role}
-use Rattle.ffs_survey.specs.Calm.{CurrentDir, is_calm_plain, is_calm_role, is_calm_entry, reached_after, are_calm}
-use Rattle.ffs_survey.specs.Discover.{from_entries, nothing, SameResult, IsFrontier, LevelsKnown, is_unreached_dir}
-use Rattle.ffs_survey.proofs.{Discovered.same_result-to, Frontiers.frontier_within}
-use Rattle.ffs_survey.specs.{Calm.AreCalm, Calm.IsCalm, Calm.IsFlagged, Discover.IsRead, Discover.is_unreached_edge}
+use Rattle.ffs_survey.specs.Calm.{CurrentDir, is_calm_role, is_calm_entry, reached_after, are_calm}
+use Rattle.ffs_survey.specs.Discover.{from_entries, nothing, SameResult, IsFrontier, LevelsKnown}
+use Rattle.ffs_survey.proofs.{Frontiers.frontier_within}
+use Rattle.ffs_survey.specs.{Calm.AreCalm, Calm.IsCalm, Calm.IsFlagged, Discover.IsRead}
 use Rattle.ffs_survey.specs.Survey.{bool_at, dir_at, number_at}
-
-plain_new : (kinds : List ℕ) (marked : List Bool) (reached : ℕ → Bool) (x kind : ℕ) →
-    is_calm_plain kinds marked reached x kind ≡ true → dir_at kinds x ≡ true → reached x ≡ false
-plain_new kinds marked reached x kind c d = grind (arith, nat_tests)
 
 -- a calm plain entry that names a directory is before any other that reaches it
 pub calm_names_new : (s : CurrentDir) (reached : ℕ → Bool) (i x : ℕ) (role : Role) (number kind : ℕ) →
@@ -27,10 +23,7 @@ calm_names_new s reached i x Empty number kind c d n = absurd (cc)
 calm_names_new s reached i x Dot number kind c d n = absurd (cc)
 calm_names_new s reached i x Dotdot number kind c d n = absurd (cc)
 calm_names_new s reached i x Extra number kind c d n = absurd (cc)
-calm_names_new s reached i x Plain number kind c d n =
-    let is : number ≡ x = eqb-true number x n in
-    let p = and_parts (nat_le 2 i) _ c in
-    plain_new s.kinds s.marked reached x kind (rw is at p.1) d
+calm_names_new s reached i x Plain number kind c d n = grind arith
 
 -- directories that calm entries name weren't reached before them
 pub calm_new : (s : CurrentDir) (reached : ℕ → Bool) (i x : ℕ) (es : List RoledEntry) → are_calm s reached i es ≡ true →
@@ -50,21 +43,11 @@ pub record Stays (r : List Bool) (p : List ℕ) (r' : List Bool) (p' : List ℕ)
 
 pub same_result_stays : {a : ℕ → Option ℕ} {r r' : List Bool} {p p' q q' : List ℕ} →
     SameResult a r p q nothing r' p' q' → Stays r p r' p'
-same_result_stays c = record {
-  reached = λ x h. let now = c.reaches x in grind arith;
-  parents = λ x h. let now = c.reaches x in let up = c.parent x in grind arith;
-}
+same_result_stays c = grind arith
 
 calm_stays : {kinds : List ℕ} {m r r' : List Bool} {p p' : List ℕ} {es : List RoledEntry} {right_shape : Bool} {d : ℕ} →
     Stays r p r' p' → IsCalm kinds m r p es right_shape d → IsCalm kinds m r' p' es right_shape d
-calm_stays {d = d} s c = record {
-  before = c.before;
-  begins = c.begins;
-  entries_right = rw (s.parents d c.is_reached) c.entries_right;
-  shape_right = c.shape_right;
-  is_reached = s.reached d c.is_reached;
-  below = λ x dir n. let o = c.below x dir n in (s.reached x o.0, s.parents x o.0 ∙ o.1);
-}
+calm_stays {d = d} s c = grind arith
 
 -- all entries of d are calm, by what was reached before it was read
 abbrev pub all_calm : List ℕ → List Bool → List Bool → List ℕ → ℕ → List RoledEntry → Bool
@@ -107,10 +90,7 @@ pub read_whole : {r r' : List Bool} {p p' q q' : List ℕ} (kinds : List ℕ) (m
     (calm_so_far && are_calm (record { kinds = kinds; marked = m; dir = d; parent = parent }) (bool_at r') count rest)
     ≡ are_calm (record { kinds = kinds; marked = m; dir = d; parent = parent }) (bool_at r) 0 es →
     IsReadWhole kinds m r r' p p' q q' es d (calm_so_far && nat_le 2 count)
-read_whole kinds m es rest d parent count calm_so_far up none c e = record {
-  same_result = same_result-to (none_left kinds d) (rw none at c);
-  calm_is = rw (none, up) at e;
-}
+read_whole kinds m es rest d parent count calm_so_far up none c e = grind arith
 
 -- the flags after a directory is read: one that is set is an old one, or the one that was set now
 pub calm_read : {kinds : List ℕ} {m r r' : List Bool} {p p' q q' : List ℕ} (entries : ℕ → List RoledEntry)
@@ -166,7 +146,4 @@ pub read_stays : {g : Graph} {kinds : List ℕ} {r : List Bool} {n : ℕ} {f f' 
     {p p' : List ℕ} → IsRead g kinds r n f m p f' m' p' → length r ≡ g.count → (x : ℕ) → bool_at r x ≡ true →
     number_at p' x ≡ number_at p x
 read_stays {g = g} {kinds = kinds} {r = r} {n = n} {p = p} read long x h =
-    read.parent x (subst (λ z. x < z) long (reached_below r x h))
-    ∙ ap (λ o. unwrap_or o (number_at p x))
-    (first_below-is_none (is_unreached_edge g kinds r x) n
-    (λ s l. and_left (is_unreached_dir kinds r x) _ (and_right (dir_at kinds x) _ (not_from_true _ h))))
+    grind (arith, reached_below, first_below-is_none)

@@ -33,11 +33,7 @@ same_result-refl = record { reaches = λ x. refl; parent = λ x. refl; queued = 
 
 same_result-trans : {g h k : ℕ → Option ℕ} {r r' r'' : List Bool} {p p' p'' q q' q'' : List ℕ} →
     SameResult g r p q h r' p' q' → SameResult h r' p' q' k r'' p'' q'' → SameResult g r p q k r'' p'' q''
-same_result-trans a b = record {
-  reaches = λ x. b.reaches x ∙ a.reaches x;
-  parent = λ x. b.parent x ∙ a.parent x;
-  queued = λ x. b.queued x ∙ a.queued x;
-}
+same_result-trans a b = grind arith
 
 -- the same with another name for what is to go
 pub same_result-to : {g h k : ℕ → Option ℕ} {r r' : List Bool} {p p' q q' : List ℕ} → ((x : ℕ) → h x ≡ k x) →
@@ -59,14 +55,12 @@ unset-le r = omega (arith, sum_by-le (λ b. bit (not b)) 1 r (λ k d l. bit-le (
 
 pub unset-set : (r : List Bool) (m : ℕ) → m < length r → bool_at r m ≡ false → unset (set r m true) + 1 ≡ unset r
 unfolding unset
-unset-set r m l e =
-    omega (arith, sum_by-set (λ b. bit (not b)) r m true false l, ap (λ (b : Bool). bit (not b)) e)
+unset-set r m l e = grind (arith, sum_by-set)
 
 occurrences-push : (x : ℕ) (q : List ℕ) (c y : ℕ) → c < length q →
     occurrences x (take (c + 1) (set q c y)) ≡ occurrences x (take c q) + bit (y == x)
 unfolding occurrences
-occurrences-push x q c y l = ap (λ z. sum_by (λ y. bit (y == x)) z) (take_more_set q c y l)
-    ∙ sum_by_push (λ y. bit (y == x)) (take c q) y
+occurrences-push x q c y l = grind (arith, take_more_set, sum_by_push)
 
 -- what the number of a directory is below
 pub dir_below : (kinds : List ℕ) (x : ℕ) → dir_at kinds x ≡ true → x < length kinds
@@ -81,8 +75,7 @@ pub record IsNewEntry (kinds : List ℕ) (r : List Bool) (e : RoledEntry) : Type
 
 pub new_entry : (kinds : List ℕ) (r : List Bool) (e : RoledEntry) →
     (is_plain e.role && is_unreached_dir kinds r e.entry.number) ≡ true → IsNewEntry kinds r e
-new_entry kinds r e h =
-    record { plain = grind arith; dir = grind arith; unmarked = grind arith; below = dir_below kinds _ (grind arith) }
+new_entry kinds r e h = grind (arith, dir_below)
 
 -- what one entry discovers
 pub visit_hit : {kinds : List ℕ} {r : List Bool} {p : List ℕ} {e : RoledEntry} (q : List ℕ) (s c : ℕ) →
@@ -91,13 +84,6 @@ pub visit_hit : {kinds : List ℕ} {r : List Bool} {p : List ℕ} {e : RoledEntr
     (set p e.entry.number s) (take (c + 1) (set q c e.entry.number))
 visit_hit {e = e} q s c i lr lp lq = from_each (λ x. let push = occurrences-push x q c e.entry.number lq in
     (grind (arith, set_tests), grind (arith, set_tests), grind (arith, set_tests)))
-
--- an entry that discovers nothing
-pub visit_miss : {r : List Bool} {p q : List ℕ} (kinds : List ℕ) (s : ℕ) (e : RoledEntry) →
-    (is_plain e.role && is_unreached_dir kinds r e.entry.number) ≡ false →
-    SameResult (from_entries kinds s (e ∷ [])) r p q nothing r p q
-visit_miss kinds s e h =
-    from_each (λ x. (grind (arith, nat_tests), grind (arith, nat_tests), grind (arith, nat_tests)))
 
 -- ---- a directory, and a level
 from_entries-cons : (kinds : List ℕ) (s : ℕ) (e : RoledEntry) (rest : List RoledEntry) (x : ℕ) →

@@ -14,7 +14,7 @@ use Rattle.ffs_volume.proofs.{Booleans.both_imply, ClimbLaws.is_value-from, Clim
 use Rattle.ffs_volume.proofs.Unreached.{edge-parts}
 use Rattle.ffs_volume.specs.{Directories.Climb.is_value, Directories.Roles.RoledEntry, Disk.Search.first_below}
 use Rattle.ffs_volume.specs.Disk.Search.{some_below}
-use Rattle.ffs_survey.proofs.Discovered.{dir_below, of_each, same_result-to, same_result-refl, set_tests}
+use Rattle.ffs_survey.proofs.Discovered.{dir_below, same_result-to, same_result-refl, set_tests}
 use Rattle.ffs_survey.specs.Discover.{bit, occurrences, from_dirs, nothing, SameResult, Rising, IsFrontier, parent_at}
 use Rattle.ffs_survey.specs.{Discover.LevelsKnown, Survey.bool_at, Survey.graph_with, Survey.number_at}
 
@@ -71,18 +71,9 @@ FoundIn p xs (Some s) = (p s ≡ true) × (1 ≤ occurrences s xs) × ((t : ℕ)
 
 found_cons : (p : ℕ → Bool) (x : ℕ) (xs : List ℕ) (b : Bool) (o : Option ℕ) → p x ≡ b → Rising (x ∷ xs) →
     FoundIn p xs o → FoundIn p (x ∷ xs) (cond b (Some x) o)
-found_cons p x xs true o e r f = (
-  e,
-  occurrences-head x xs,
-  λ t l m. absurd (elim (occurrences-cases t x xs m) [ inl y ↦ omega arith | inr n ↦ omega (arith, r.0 t n) ]),
-)
-found_cons p x xs false None e r f =
-    λ t m. elim (occurrences-cases t x xs m) [ inl y ↦ subst (λ z. p z ≡ false) y e | inr n ↦ f t n ]
-found_cons p x xs false (Some s) e r f = (
-  f.0,
-  omega (arith, occurrences-cons s x xs, f.1),
-  λ t l m. elim (occurrences-cases t x xs m) [ inl y ↦ subst (λ z. p z ≡ false) y e | inr n ↦ f.2 t l n ],
-)
+found_cons p x xs true o e r f = grind (arith, occurrences-head, occurrences-cases)
+found_cons p x xs false None e r f = grind (arith, occurrences-cases)
+found_cons p x xs false (Some s) e r f = grind (arith, occurrences-cons)
 
 found : (p : ℕ → Bool) (xs : List ℕ) → Rising xs → FoundIn p xs (find p xs)
 found p [] r = λ t m. absurd (omega (arith, occurrences-nil t))
@@ -145,8 +136,7 @@ within_is v (suc k) x h =
 
 -- it has the number of an inode
 pub within-bound : (v : Graph) (k x : ℕ) → IsSane v → within v k x ≡ true → x < v.count
-within-bound v k x sane h =
-    let some = sane.some in elim (within_is v k x h) [ inl e ↦ omega arith | inr d ↦ sane.dirs x d ]
+within-bound v k x sane h = grind (arith, within_is)
 
 is_level-suc : (v : Graph) (k x : ℕ) → IsSane v →
     is_value (level v x) (suc k) ≡ (within v (suc k) x && not (within v k x))
@@ -187,32 +177,18 @@ pub next_level : {v : Graph} {k : ℕ} {xs : List ℕ} {r r' : List Bool} {p p' 
     IsFrontier v k xs → LevelsKnown v k r p q → SameResult (from_dirs v xs) r p [] nothing r' p' q' →
     IsNext v (suc k) r' p' q'
 next_level {v = v} {k = k} {xs = xs} {r = r} {r' = r'} {p = p} {p' = p'} {q' = q'} sane f n c =
-    record { reached = λ x. (at x).0; parent = λ x. (at x).1; members = λ x. (at x).2 }
-  where
-    at : (x : ℕ) → (bool_at r' x ≡ within v (suc k) x) × (number_at p' x ≡ unwrap_or (parent_at v (suc k) x) 0)
-        × (occurrences x q' ≡ bit (is_value (level v x) (suc k)))
-    at x =
-        let now = of_each c x in let none = occurrences-nil x in
-        let was = n.reaches x in let was_up = n.parent x in
-        let gives = frontier_first v k x xs sane f in
-        let within_next = within-level v k x in let at_next = is_level-suc v k x sane in
-        let new = parent-new v k x sane in
-        (grind arith, grind arith, grind arith)
+    grind (arith, occurrences-nil, frontier_first, within-level, is_level-suc, parent-new)
 
 -- the queue with what is discovered holds each that is marked once
 pub queue_grows : {a : ℕ → Option ℕ} {r r' : List Bool} {p p' q' : List ℕ} (q : List ℕ) →
     ((x : ℕ) → occurrences x q ≡ bit (bool_at r x)) → SameResult a r p [] nothing r' p' q' →
     (x : ℕ) → occurrences x (q ++ q') ≡ bit (bool_at r' x)
-queue_grows {q' = q'} q h c x =
-    let parts = occurrences-append x q q' in let now = of_each c x in let none = occurrences-nil x in let was = h x in
-    grind arith
+queue_grows {q' = q'} q h c x = grind (arith, occurrences-append, occurrences-nil)
 
 -- ---- the directories of a level
 pub frontier_within : {v : Graph} {k : ℕ} {xs : List ℕ} → IsFrontier v k xs → (i d : ℕ) → i < length xs →
     within v k (get_or xs i d) ≡ true
-frontier_within {v = v} {k = k} {xs = xs} f i d l =
-    let x = get_or xs i d in
-    (level-some v k x (is_value-true _ k (bit-one _ _ (f.members x) (occurrences-at xs i d l)))).0.within_k
+frontier_within {v = v} {k = k} {xs = xs} f i d l = grind (arith, level-some, occurrences-at)
 
 -- they are directories, where inode 2 is one
 pub frontier_dirs : {v : Graph} {k : ℕ} {xs : List ℕ} → IsFrontier v k xs → v.is_dir 2 ≡ true → (i d : ℕ) →
@@ -252,11 +228,7 @@ occurrences-single x y = sum_by-cons (λ z. bit (z == x)) y [] ∙ add-zero (bit
 pub levels_start : (v : Graph) (r : List Bool) (p : List ℕ) → 2 < length r → 2 < length p →
     ((x : ℕ) → bool_at r x ≡ false) → ((x : ℕ) → number_at p x ≡ 0) →
     LevelsKnown v 0 (set r 2 true) (set p 2 2) (2 ∷ [])
-levels_start v r p lr lp clear blank = record {
-  reaches = λ x. let z = within-zero v x in let c = clear x in grind (arith, set_tests);
-  parent = λ x. let z = within-zero v x in let b = blank x in let up = parent-root v in grind (arith, set_tests);
-  queued = λ x. let o = occurrences-single x 2 in let c = clear x in grind (arith, set_tests);
-}
+levels_start v r p lr lp clear blank = grind (arith, within-zero, set_tests, parent-root, occurrences-single)
 
 pub frontier_start : {v : Graph} → IsSane v → IsFrontier v 0 (2 ∷ [])
 frontier_start {v = v} sane = record {

@@ -1,6 +1,6 @@
 -- The queue: what is after it, the current level, and the next level.
 use Rattle.std.proofs.Common.{◌≡◌, ℕ, suc, ◌+◌, ◌-◌, ◌<◌, ◌≤◌, All, Option, Bool, List, [], ◌∷◌, ◌++◌, length, take}
-use Rattle.std.proofs.Common.{drop, cond, None, unwrap_or, ◌==◌, ◌||◌, false, count_by, arith, sym, ◌∙◌, ap, subst}
+use Rattle.std.proofs.Common.{drop, cond, None, unwrap_or, ◌||◌, false, count_by, arith, sym, ◌∙◌, ap, subst}
 use Rattle.std.proofs.lemmas.List.{get_or-drop, get_or-take, get_or_past, length-drop, take-append-drop, take-take}
 use Rattle.std.proofs.{Common.IsPermutation, Common.add-zero, Common.get_or, Math.Bool.or-false, lemmas.Bool.and_left}
 use Rattle.std.proofs.lemmas.{Bool.cond-false, Grind.common_steps, List.Folds.list_any-append, List.Sums.sum_by-append}
@@ -8,7 +8,7 @@ use Rattle.std.specs.List.Sorted.{IsNonDecreasing}
 use Rattle.ffs_volume.specs.Directories.Graph.{Graph, is_naming_dir, parent}
 use Rattle.ffs_volume.{proofs.Graphs.IsSane, specs.Directories.Roles.RoledEntry, specs.Directories.Roles.refers}
 use Rattle.ffs_survey.proofs.Frontiers.{next_level, frontier_from, queue_grows, IsNext, occurrences-append}
-use Rattle.ffs_survey.specs.Discover.{Extends, bit, occurrences, from_dirs, nothing, SameResult, IsFrontier}
+use Rattle.ffs_survey.specs.Discover.{Extends, occurrences, from_dirs, nothing, SameResult, IsFrontier}
 use Rattle.ffs_survey.specs.Discover.{LevelsKnown, IsCount, Counts, IsReachedPart, count_of, any_of, none, never}
 use Rattle.ffs_survey.specs.Survey.{bool_at, number_at, graph_with, dir_at, counted_in}
 use Rattle.ffs_survey.proofs.{Frontiers.occurrences-permutation, Frontiers.no_more, Frontiers.root_alone}
@@ -46,11 +46,7 @@ at_place P low at xs all from to =
 pub same_result_after : {a c : ℕ → Option ℕ} {r r' : List Bool} {p p' : List ℕ} (q new : List ℕ) →
     SameResult a r p q c r' p' (q ++ new) → SameResult a r p [] c r' p' new
 unfolding occurrences
-same_result_after q new h = record {
-  reaches = h.reaches;
-  parent = h.parent;
-  queued = λ x. omega (arith, h.queued x, sum_by-append (λ y. bit (y == x)) q new);
-}
+same_result_after q new h = grind (arith, sum_by-append)
 
 -- an empty slice of the queue
 pub empty_level : (low high : ℕ) (q : List ℕ) → high ≤ low → drop low (take high q) ≡ []

@@ -164,8 +164,3 @@ dir_counted kinds entries frontier i l d h k =
           let three = k.names x b in
           grind arith;
     }
-
--- one entry gives a parent
-pub parent_step : (d b c : Bool) (f q q' t : ℕ) → 0 < f → q' ≡ cond ((q == 0) && (d && b)) f q →
-    cond ((q == 0) && (d && (b || c))) f q ≡ t → cond ((q' == 0) && (d && c)) f q' ≡ t
-parent_step d b c f q q' t p h k = grind (arith, nat_tests)

@@ -1,9 +1,9 @@
 -- The directories that aren't reached are read after the others: what that adds, and that the
 -- survey is then whole.
 use Rattle.std.proofs.Common.{◌≡◌, ℕ, zero, suc, ◌+◌, ◌<◌, ◌≤◌, ◌==◌, Bool, true, false, not, cond, ◌&&◌, ◌||◌, List}
-use Rattle.std.proofs.Common.{length, Option, Some, is_some, unwrap_or, refl, arith, sym, ◌∙◌, ap, subst, inl, add-zero}
+use Rattle.std.proofs.Common.{length, unwrap_or, refl, arith, sym, ◌∙◌, ap, subst, inl}
 use Rattle.std.proofs.lemmas.Bool.{both_ways, cases_Bool, cases_lt, and_left, and_right, and_parts, false_from_ne_true}
-use Rattle.std.proofs.{Common.inr, Math.Bool.or-false, lemmas.Bool.Decides.nat_tests, lemmas.List.get_or_past}
+use Rattle.std.proofs.{Common.inr, lemmas.List.get_or_past}
 use Rattle.ffs_volume.proofs.LevelLaws.{reached-edge, reached-root}
 use Rattle.ffs_volume.proofs.SearchLaws.{some_below-suc, first_below-some, first_below-is_none}
 use Rattle.ffs_volume.specs.Directories.Graph.{Graph, is_naming_dir, edge, reached, parent}
@@ -25,19 +25,13 @@ first_same p q (suc n) h = ap (λ o. earliest o (p n) n) (first_same p q n (λ s
 pub read_start : {g : Graph} {kinds : List ℕ} {r : List Bool} {f : List ℕ} {m : List Bool} {p : List ℕ} →
     IsRead g kinds r 0 f m p f m p
 unfolding counted_by first_below
-read_start {f = f} {m = m} = record {
-  counts = λ x l. sym (add-zero (number_at f x));
-  names = λ x l. sym (or-false (bool_at m x));
-  parent = λ x l. refl;
-}
+read_start {f = f} {m = m} = grind arith
 
 -- the first parent, one directory further
 first_step : (p : ℕ → Bool) (s o q q' : ℕ) (a : Bool) → p 0 ≡ false → (a ≡ true → o ≡ 0) → p s ≡ a →
     q ≡ unwrap_or (first_below p s) o → q' ≡ cond ((q == 0) && a) s q → q' ≡ unwrap_or (first_below p (suc s)) o
 unfolding first_below
-first_step p s o q q' a z k e h w =
-    let some : first_below p s ≡ Some 0 → ⊥ = λ y. both_ways (p 0) z (first_below-some p s 0 y).passes in
-    grind (arith, nat_tests)
+first_step p s o q q' a z k e h w = grind (arith, first_below-some)
 
 -- a directory without a mark is read
 pub read_on : {f f' f'' : List ℕ} {m m' m'' : List Bool} {p p' p'' : List ℕ} (kinds : List ℕ)
@@ -75,35 +69,13 @@ read_on {f = f} {f'' = f''} {m = m} {m'' = m''} {p = p} {p' = p'} {p'' = p''} ki
     share : (x : ℕ) → any_in (entries s) x ≡ (not (bool_at r s) && is_naming_dir g s x)
     share x = grind arith
 
-still_first : (o : Option ℕ) (b : Bool) (s : ℕ) → b ≡ false → earliest o b s ≡ o
-unfolding earliest
-still_first o b s h = grind arith
-
 -- any other is passed over
 pub read_skip : {f f' : List ℕ} {m m' : List Bool} {p p' : List ℕ} (kinds : List ℕ) (entries : ℕ → List RoledEntry)
     (r : List Bool) (s : ℕ) → is_unreached_dir kinds r s ≡ false →
     IsRead (graph_with kinds entries) kinds r s f m p f' m' p' →
     IsRead (graph_with kinds entries) kinds r (s + 1) f m p f' m' p'
 unfolding counted_by first_below
-read_skip {f = f} {f' = f'} {m = m} {m' = m'} {p = p} {p' = p'} kinds entries r s taken i =
-    subst (λ n. IsRead g kinds r n f m p f' m' p') one (record {
-      counts = λ x l.
-          let none : cond (not (bool_at r s)) (counted_in g s x) 0 ≡ 0 = grind arith in
-          omega (arith, i.counts x l, none);
-      names = λ x l. i.names x l ∙ ap (λ o. bool_at m x || is_some o) (sym (still_first
-          (first_below (λ t. not (bool_at r t) && is_naming_dir g t x) s) _ s (unnamed x)));
-      parent = λ x l. i.parent x l ∙ ap (λ o. unwrap_or o (number_at p x)) (sym (still_first
-          (first_below (is_unreached_edge g kinds r x) s) _ s (and_right (is_unreached_dir kinds r x) _ (unnamed x))));
-    })
-  where
-    g : Graph
-    g = graph_with kinds entries
-
-    one : suc s ≡ s + 1
-    one = omega arith
-
-    unnamed : (x : ℕ) → (not (bool_at r s) && is_naming_dir g s x) ≡ false
-    unnamed x = grind arith
+read_skip {f = f} {f' = f'} {m = m} {m' = m'} {p = p} {p' = p'} kinds entries r s taken i = grind arith
 
 -- what has no mark and no parent yet
 pub unreached_blank : {starts f : List ℕ} {m r : List Bool} {p : List ℕ} (kinds : List ℕ)

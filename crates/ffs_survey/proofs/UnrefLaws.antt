@@ -1,13 +1,12 @@
 -- The test of an unreferenced directory, from what is kept of each inode.
 use Rattle.std.proofs.Common.{◌≡◌, ◌≢◌, ℕ, zero, suc, ◌<◌, ◌==◌, Bool, true, false, cond, ◌&&◌, ◌||◌, List, length}
-use Rattle.std.proofs.Common.{Option, None, Some, unwrap_or, refl, arith, sym, ◌∙◌, ap, subst, inl, inr, ◌⊎◌}
-use Rattle.std.proofs.lemmas.Bool.{cases_eq, and_parts, both_ways, cond-true, cond-false, eq-eqb, ne_eqb}
+use Rattle.std.proofs.Common.{Option, None, Some, unwrap_or, arith, sym, ◌∙◌, ap, inl, inr, ◌⊎◌}
 use Rattle.std.proofs.lemmas.Bool.Decides.{nat_tests}
 use mathlib.Core.Path.{fun_ext}
-use Rattle.ffs_volume.proofs.Unreached.{edge-parts, IsLost, lost-from}
-use Rattle.ffs_volume.specs.Directories.Graph.{Graph, edge, parent, parent_by, level, is_dead_in, none_or_dead}
+use Rattle.ffs_volume.proofs.Unreached.{IsLost, lost-from}
+use Rattle.ffs_volume.specs.Directories.Graph.{Graph, parent, parent_by, is_dead_in, none_or_dead}
 use Rattle.ffs_volume.proofs.{Graphs.IsSane, SearchLaws.first_below-some}
-use Rattle.ffs_volume.specs.Directories.{Climb.is_leader_within, Climb.is_value, Graph.is_unref_dir_in}
+use Rattle.ffs_volume.specs.Directories.{Climb.is_leader_within, Graph.is_unref_dir_in}
 use Rattle.ffs_survey.{proofs.Discovered.dir_below, specs.Cycles.parent_in, specs.Survey.IsTree, specs.Survey.number_at}
 
 -- what a parent is
@@ -15,30 +14,14 @@ record IsParent (v : Graph) (s : ℕ) : Type 0 where
   some : s ≢ 0
   below : s < v.count
 
-edge_parent : (v : Graph) (x s : ℕ) → v.is_dir 0 ≡ false → s < v.count → edge v s x ≡ true → IsParent v s
-edge_parent v x s z l h = record {
-  some = (λ e. both_ways (v.is_dir 0) z (subst (λ y. v.is_dir y ≡ true) e (edge-parts v s x h).1));
-  below = l;
-}
-
 parent_by-dir : (v : Graph) (x s : ℕ) (o : Option ℕ) → v.is_dir 0 ≡ false → parent_by v x o ≡ Some s → IsParent v s
-parent_by-dir v x s None z h =
-    let f = first_below-some (λ s. edge v s x) v.count s h in edge_parent v x s z f.below f.passes
+parent_by-dir v x s None z h = grind (arith, first_below-some)
 parent_by-dir v x s (Some zero) z h = absurd (cc)
-parent_by-dir v x s (Some (suc k)) z h =
-    let f = first_below-some (λ s. is_value (level v s) k && edge v s x) v.count s h in
-    edge_parent v x s z f.below (and_parts (is_value (level v s) k) (edge v s x) f.passes).1
+parent_by-dir v x s (Some (suc k)) z h = grind (arith, first_below-some)
 
 parent-some : (v : Graph) (x s : ℕ) → IsSane v → v.is_dir 0 ≡ false → parent v x ≡ Some s → IsParent v s
 unfolding parent
-parent-some v x s sane z h =
-    elim (cases_eq x 2) [
-      | inl y ↦ (let q : Some 2 ≡ Some s = sym (cond-true (x == 2) (Some 2) (parent_by v x (level v x)) (eq-eqb x 2 y))
-          ∙ h in let p : 2 ≡ s = cc in let b = sane.some in
-          record { some = (λ e. absurd (omega arith)); below = omega arith })
-      | inr n ↦ parent_by-dir v x s (level v x) z
-          (sym (cond-false (x == 2) (Some 2) (parent_by v x (level v x)) (ne_eqb x 2 n)) ∙ h)
-    ]
+parent-some v x s sane z h = grind (arith, parent_by-dir)
 
 -- a list holds the parent of d, 0 for none
 abbrev Holds : Graph → List ℕ → ℕ → Type 0
@@ -47,13 +30,7 @@ Holds v p d = ((parent v d ≡ None) × (number_at p d ≡ 0))
 
 holds : (v : Graph) (p : List ℕ) (d : ℕ) → IsSane v → v.is_dir 0 ≡ false → number_at p d ≡ unwrap_or (parent v d) 0 →
     Holds v p d
-holds v p d sane z h = go (parent v d) refl
-  where
-    go : (o : Option ℕ) → parent v d ≡ o → Holds v p d
-    go None e = inl (e, h ∙ ap (λ o. unwrap_or o 0) e)
-    go (Some s) e =
-        let q : s ≡ number_at p d = sym (h ∙ ap (λ o. unwrap_or o 0) e) in
-        inr (e ∙ ap Some q, subst (IsParent v) q (parent-some v d s sane z e))
+holds v p d sane z h = grind (arith, parent-some)
 
 up_is_parent : (v : Graph) (p : List ℕ) (x : ℕ) → length p ≡ v.count → Holds v p x → parent_in p x ≡ parent v x
 up_is_parent v p x l h = grind (arith, nat_tests)
@@ -65,10 +42,7 @@ none_or_dead_is v suspect p d h = grind (arith, nat_tests)
 
 -- what is kept, with a parent list of full length
 tree-sane : {v : Graph} {kinds : List ℕ} {r : List Bool} {p : List ℕ} → IsTree v kinds r p → IsSane v
-tree-sane {kinds = kinds} t = record {
-  some = t.some;
-  dirs = λ d h. omega (arith, dir_below kinds d (sym (t.dirs d) ∙ h), t.count);
-}
+tree-sane {kinds = kinds} t = grind (arith, dir_below)
 
 tree-holds : {v : Graph} {kinds : List ℕ} {r : List Bool} {p : List ℕ} (d : ℕ) → IsTree v kinds r p → Holds v p d
 tree-holds {v = v} {p = p} d t = holds v p d (tree-sane t) (t.dirs 0) (t.parent_is d)

@@ -1,7 +1,7 @@
 -- Laws of walks along parents.
 use Rattle.std.proofs.Common.{◌≡◌, ◌≢◌, ℕ, zero, suc, ◌+◌, ◌-◌, ◌<◌, ◌≤◌, ◌==◌, Bool, true, false, List, length, Option}
-use Rattle.std.proofs.Common.{None, Some, refl, arith, sym, ◌∙◌, ap, subst, inl, inr, set, ◌⊎◌, get_or, get_or-set_same}
-use Rattle.std.proofs.lemmas.Bool.{cases_eq, cases_lt, eq-eqb, ne_eqb, false_from_ne_true}
+use Rattle.std.proofs.Common.{None, Some, arith, sym, ◌∙◌, ap, inl, inr, set, ◌⊎◌, get_or, get_or-set_same}
+use Rattle.std.proofs.lemmas.Bool.{cases_eq, false_from_ne_true}
 use Rattle.std.proofs.{Common.get_or-set_other, Common.length-set, lemmas.Bool.Decides.nat_tests}
 use Rattle.std.proofs.lemmas.List.{Sums.sum_by-le, Sums.sum_by-set, get_or_past}
 use Rattle.ffs_volume.proofs.ClimbLaws.{climb-zero, climb-one, climb-suc, climb-add, climb-last, cycle-along}
@@ -37,9 +37,7 @@ unmet-le xs = omega (arith, sum_by-le (λ y. bit (y == 0)) 1 xs (λ k d l. bit-l
 pub unmet-set : (walk_of : List ℕ) (x m : ℕ) → x < length walk_of → number_at walk_of x ≡ 0 → (m ≡ 0 → ⊥) →
     unmet (set walk_of x m) + 1 ≡ unmet walk_of
 unfolding unmet
-unmet-set walk_of x m l e n =
-    let one = ap bit (eq-eqb (number_at walk_of x) 0 e) in
-    omega (arith, sum_by-set (λ y. bit (y == 0)) walk_of x m 0 l, one, ap bit (ne_eqb m 0 n))
+unmet-set walk_of x m l e n = grind (arith, sum_by-set)
 
 -- what the first n numbers from `start` on leave, in a list where these are noted
 pub record Trace (f : ℕ → Option ℕ) (start mark n : ℕ) (old new : List ℕ) : Type 0 where
@@ -63,79 +61,28 @@ pub record HasPassed (f : ℕ → Option ℕ) (start mark steps at : ℕ) (old n
 
 -- the same number of steps leads to one number
 same_place : (f : ℕ → Option ℕ) (d i k : ℕ) {x y : ℕ} → i ≡ k → climb f i d ≡ Some x → climb f k d ≡ Some y → x ≡ y
-same_place f d i k {x = x} {y = y} q a b =
-    let e : Some x ≡ Some y = sym a ∙ (ap (λ j. climb f j d) q ∙ b) in cc
+same_place f d i k {x = x} {y = y} q a b = grind arith
 
 pub has_passed : {f : ℕ → Option ℕ} {start mark steps at : ℕ} {old new : List ℕ} → mark ≢ 0 → at < length new →
     Walking f start mark steps at old new → HasPassed f start mark steps at old (set new at mark)
-has_passed {f = f} {start = start} {mark = mark} {steps = steps} {at = at} {new = new} m l w = record {
-  at_is = w.at_is;
-  trace = record {
-    kept = λ x o. let k = w.trace.kept x o in let z = w.is_unmet in let c = cases_eq x at in
-        grind (arith, get_or-set_other, get_or-set_same);
-    fresh = λ x o u. let k = w.trace.fresh x o in let c = cases_eq x at in
-        grind (arith, get_or-set_other, get_or-set_same);
-    passed = λ x i. elim (cases_eq x at) [
-      | inl y ↦ (steps, omega arith, w.at_is ∙ ap Some (sym y))
-      | inr n ↦
-          let p = w.trace.passed x (record { was = i.was; is = λ z. i.is (get_or-set_other new at x mark 0 n ∙ z) }) in
-          let b = p.1 in (p.0, omega arith, p.2)
-    ];
-    path = λ i x b h.
-        let before = λ (q : i < steps). w.trace.path i x q h in
-        let last = λ (q : i ≡ steps). same_place f start i steps q h w.at_is in
-        let c = cases_eq x at in
-        grind (arith, get_or-set_other, get_or-set_same);
-    count = omega (arith, unmet-set new at mark l w.is_unmet m, w.trace.count);
-  };
-}
+has_passed {f = f} {start = start} {mark = mark} {steps = steps} {at = at} {new = new} m l w =
+    grind (arith, get_or-set_other, get_or-set_same, unmet-set)
 
 pub walk_start : {f : ℕ → Option ℕ} {start mark : ℕ} {old : List ℕ} → number_at old start ≡ 0 →
     Walking f start mark 0 start old old
-walk_start {f = f} {start = start} z = record {
-  at_is = climb-zero f start;
-  is_unmet = z;
-  trace = record {
-    kept = λ x o. refl;
-    fresh = λ x o n. absurd (n o);
-    passed = λ x i. absurd (i.is i.was);
-    path = λ i x l h. absurd (omega arith);
-    count = omega arith;
-  };
-}
+walk_start {f = f} {start = start} z = grind (arith, climb-zero)
 
 -- no walk has passed the next number: the walk continues
 pub walks_on : {f : ℕ → Option ℕ} {start mark steps at next : ℕ} {old new : List ℕ} →
     HasPassed f start mark steps at old new → f at ≡ Some next → number_at new next ≡ 0 →
     Walking f start mark (suc steps) next old new
-walks_on {f = f} {start = start} {steps = steps} {at = at} s h z =
-    record { at_is = climb-suc f steps start at s.at_is ∙ h; is_unmet = z; trace = s.trace }
+walks_on {f = f} {start = start} {steps = steps} {at = at} s h z = grind (arith, climb-suc)
 
 -- the walk ends where there is no parent, or one that a walk has passed
 pub walked : {f : ℕ → Option ℕ} {start mark steps at : ℕ} {old new : List ℕ} → mark ≢ 0 → IsClosed f old →
     HasPassed f start mark steps at old new → ((y : ℕ) → f at ≡ Some y → number_at new y ≢ 0) →
     Walked f start mark old new
-walked {f = f} {start = start} {steps = steps} {old = old} {new = new} m c s e = record {
-  kept = s.trace.kept;
-  fresh = s.trace.fresh;
-  begun = (λ z. m (sym (s.trace.path 0 start (omega arith) (climb-zero f start)) ∙ z));
-  closed = record {
-    parent = λ x y h u. elim (cases_eq (number_at old x) 0) [
-      | inr n ↦ (λ z. c.parent x y n u (sym (keep y z) ∙ z))
-      | inl o ↦
-          let p = s.trace.passed x (record { was = o; is = h }) in
-          elim (cases_lt p.0 steps) [
-            | inl lt ↦ (λ z. m (sym (s.trace.path (suc p.0) y (omega arith) (climb-suc f p.0 start x p.2 ∙ u)) ∙ z))
-            | inr ge ↦
-                let b = p.1 in
-                e y (sym (ap f (same_place f start p.0 steps (omega arith) p.2 s.at_is)) ∙ u)
-          ]
-    ];
-  };
-}
-  where
-    keep : (y : ℕ) → number_at new y ≡ 0 → number_at new y ≡ number_at old y
-    keep y z = elim (cases_eq (number_at old y) 0) [ inl o ↦ z ∙ sym o | inr n ↦ s.trace.kept y n ]
+walked {f = f} {start = start} {steps = steps} {old = old} {new = new} m c s e = grind (arith, climb-zero, climb-suc)
 
 -- ---- cycles
 cycle-back : {f : ℕ → Option ℕ} {y p : ℕ} (j : ℕ) → IsOnCycle f y → climb f j y ≡ Some p →
@@ -149,10 +96,7 @@ cycle-back {f = f} {y = y} {p = p} j c h =
 
 closed-climb : {f : ℕ → Option ℕ} {walk_of : List ℕ} (k x : ℕ) {y : ℕ} → IsClosed f walk_of →
     number_at walk_of x ≢ 0 → climb f k x ≡ Some y → number_at walk_of y ≢ 0
-closed-climb {f = f} {walk_of = walk_of} zero x {y = y} c s h =
-    let e : Some x ≡ Some y = sym (climb-zero f x) ∙ h in
-    let q : x ≡ y = cc in
-    subst (λ z. number_at walk_of z ≢ 0) q s
+closed-climb {f = f} {walk_of = walk_of} zero x {y = y} c s h = grind (arith, climb-zero)
 closed-climb {f = f} (suc k) x {y = y} c s h =
     let l = climb-last f k x y h in c.parent l.0 y (closed-climb k x c s l.1) l.2
 
@@ -229,35 +173,7 @@ round_start {f = f} {found = found} h = record {
 pub round_step : {f : ℕ → Option ℕ} {found steps at least next least' : ℕ} → Rounding f found steps at least →
     (at ≡ found → ⊥) → f at ≡ Some next → least' ≤ least → least' ≤ at → (least' ≡ least) ⊎ (least' ≡ at) →
     Rounding f found (suc steps) next least'
-round_step {f = f} {found = found} {steps = steps} {at = at} r n h a b w = record {
-  moved = omega arith;
-  at_is = climb-suc f steps found at r.at_is ∙ h;
-  lower = λ i s l e. elim (cases_lt i steps) [
-    | inl lt ↦ omega (arith, r.lower i s lt e)
-    | inr ge ↦ let p = same_place f found i steps (omega arith) e r.at_is in omega arith
-  ];
-  among = elim w [
-    | inl y ↦ let m = r.among in let b = m.1 in (m.0, omega arith, m.2 ∙ ap Some (sym y))
-    | inr y ↦ (steps, omega arith, r.at_is ∙ ap Some (sym y))
-  ];
-  away = λ i p l e. elim (cases_lt i steps) [
-    | inl lt ↦ r.away i p lt e
-    | inr ge ↦ n (sym (same_place f found i steps (omega arith) e r.at_is))
-  ];
-}
-
--- a way round takes no more steps than the cycle has
-pub round_short : {f : ℕ → Option ℕ} {found steps at least : ℕ} (n : ℕ) (c : IsOnCycle f found) → c.steps_less_one < n →
-    Rounding f found steps at least → (at ≡ found → ⊥) → steps < n
-round_short {f = f} {found = found} {steps = steps} n c l r m =
-    let last = suc c.steps_less_one in
-    elim (cases_lt steps last) [
-      | inl lt ↦ omega arith
-      | inr ge ↦ absurd (elim (cases_eq steps last) [
-        | inl y ↦ m (same_place f found steps last y r.at_is c.returns)
-        | inr o ↦ r.away last (omega arith) (omega arith) c.returns
-      ])
-    ]
+round_step {f = f} {found = found} {steps = steps} {at = at} r n h a b w = grind (arith, climb-suc)
 
 -- back at `found`, the least so far is the least of all
 pub round_end : {f : ℕ → Option ℕ} {found steps at least : ℕ} (n : ℕ) (c : IsOnCycle f found) → c.steps_less_one < n →
@@ -285,22 +201,13 @@ round_end {f = f} {found = found} {steps = steps} {least = least} n c l r e low 
 -- ---- the flags of leaders
 still_unmet : {f : ℕ → Option ℕ} {start mark : ℕ} {old new : List ℕ} (x : ℕ) → Walked f start mark old new →
     number_at new x ≡ 0 → number_at old x ≡ 0
-still_unmet {old = old} x w z =
-    elim (cases_eq (number_at old x) 0) [ inl y ↦ y | inr n ↦ sym (w.kept x n) ∙ z ]
+still_unmet {old = old} x w z = grind arith
 
 -- a walk that found no cycle
 pub marks_none : {f : ℕ → Option ℕ} {n start mark : ℕ} {old new : List ℕ} {leader : List Bool} →
     Walked f start mark old new → ((x : ℕ) → IsMet old new x → IsOnCycle f x → ⊥) → MarksLeaders f n old leader →
     MarksLeaders f n new leader
-marks_none {f = f} {n = n} {old = old} w none m = record {
-  long = m.long;
-  known = λ x s. elim (cases_eq (number_at old x) 0) [
-    | inr o ↦ m.known x o
-    | inl z ↦ m.blank x z ∙ sym (false_from_ne_true (is_leader_within f n x)
-        (λ t. none x (record { was = z; is = s }) (is_leader_within-true f n x t).cycle))
-  ];
-  blank = λ x z. m.blank x (still_unmet x w z);
-}
+marks_none {f = f} {n = n} {old = old} w none m = grind (arith, is_leader_within-true)
 
 -- a walk that found one
 pub marks_found : {f : ℕ → Option ℕ} {n start mark found e : ℕ} {old new : List ℕ} (leader : List Bool) →

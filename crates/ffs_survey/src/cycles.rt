@@ -94,6 +94,7 @@ fn mark_from(
 /// Flags in `leaders` each number that is the least on a cycle of parents. A parent of 0, or past
 /// the list, is none. Each number is passed once or twice, so the time is linear in their count.
 /// What `walk_of` and `leaders` held before is forgotten.
+#[tactic(auto, using(crate::proofs::Walks::past_leader))]
 pub fn mark_leaders(parents: &FilledList<u32>, walk_of: &mut FilledList<u32>, leaders: &mut [bool])
     requires { CanMarkLeaders parents.now.items walk_of.old.items leaders.old }
     ensures leads { (x : ℕ) → bool_at leaders.new x

@@ -1,7 +1,7 @@
 use Rattle.std.proofs.Common.{◌≡◌, ◌⊎◌, inl, inr, suc, ◌+◌, ◌<◌, ◌≤◌, length, arith, ap, sym, ◌∙◌, Some}
 use Rattle.ffs_volume.proofs.ClimbLaws.{cycle-along}
 use Rattle.ffs_survey.specs.Cycles.{parent_in}
-use Rattle.ffs_survey.proofs.Walks.{parent_on_cycle, round_start, round_step, round_end, round_short}
+use Rattle.ffs_survey.proofs.Walks.{parent_on_cycle, round_start, round_step, round_end}
 use Rattle.ffs_survey.proofs.cycles.least_on.Goals as goal
 use Rattle.ffs_survey.proofs.cycles.least_on.Goals.{then-at-least, else-at-least}
 
@@ -38,16 +38,4 @@ round-preserved c =
     }
 
 pub returns : goal.returns
-returns c = round_end (length c.args.parents.now.items) c.requires.cycle c.requires.short c.round.invariant.rounding
-    c.round-test.false c.round.invariant.low
-
-pub round-smaller : goal.round-smaller
-round-smaller c =
-    let n = length c.args.parents.now.items in
-    omega (arith, round_short n c.requires.cycle c.requires.short c.round.invariant.rounding c.round-test.true)
-
-pub overflow_add-steps : goal.overflow_add-steps
-overflow_add-steps c =
-    let n = length c.args.parents.now.items in
-    let short = round_short n c.requires.cycle c.requires.short c.round.invariant.rounding c.round-test.true in
-    omega (arith, c.requires.few)
+returns c = search (arith, round_end)

@@ -1,9 +1,9 @@
 use Rattle.std.proofs.Common.{◌≡◌, ◌≢◌, ℕ, suc, ◌+◌, ◌<◌, ◌≤◌, List, length, arith, sym, ◌∙◌, subst, set, None, Some}
-use Rattle.std.proofs.{Common.ap, Common.inl, Common.inr, Common.refl, Common.◌⊎◌, lemmas.Bool.Decides.nat_tests}
+use Rattle.std.proofs.{Common.inl, Common.inr, Common.refl, Common.◌⊎◌, lemmas.Bool.Decides.nat_tests}
 use Rattle.ffs_volume.specs.Directories.Climb.{IsOnCycle}
 use Rattle.ffs_survey.proofs.Walks.{parent_in-none, Walking, HasPassed, has_passed, walked, walks_on, walk_start}
 use Rattle.ffs_survey.proofs.Walks.{no_cycle_end, no_cycle_old, finds_cycle, unmet-le, unmet-set}
-use Rattle.ffs_survey.specs.Cycles.{parent_in, unmet, CanFollow, IsMet, IsClosed, Walked}
+use Rattle.ffs_survey.specs.Cycles.{parent_in, CanFollow, IsMet, IsClosed, Walked}
 use Rattle.ffs_survey.specs.Survey.{number_at}
 use Rattle.ffs_survey.proofs.cycles.walk.Goals as goal
 
@@ -98,10 +98,7 @@ overflow_add-steps c =
     omega (arith, h.short, c.requires.few)
 
 pub up-smaller : goal.up-smaller
-up-smaller c =
-    let z = unmet-set c.up.walk_of.items c.up.at (c.args.start + 1) (omega arith) c.up.invariant.walking.is_unmet
-    (mark_some c.args.start) in
-    omega (arith, z, ap unmet c.set.ensures.items)
+up-smaller c = grind (arith, unmet-set)
 
 pub up-preserved : goal.up-preserved
 up-preserved c =

@@ -48,21 +48,7 @@ loop-at-preserved g c =
     }
 
 pub returns-clause-found : goal.returns-clause-found
-returns-clause-found g c =
-    let inv = c.loop-at.invariant in
-    record {
-      grown = λ x l. omega (arith, inv.grown x l, inv.from);
-      ends = inv.top;
-      ordered = inv.extends.ordered;
-      kept = keeps_queue inv.extends;
-      read = λ b k.
-          let none = empty_level c.loop-at.at c.args.high c.args.lists.now.queue.now.items (omega arith) in
-          record {
-            same_result = rw none at (inv.same_result b k);
-            counts = rw none at (inv.counts b k);
-            calm = inv.calm b k;
-          };
-    }
+returns-clause-found g c = grind (arith, keeps_queue, empty_level)
 
 pub returns-in_err-top-clause-counted : goal.returns-in_err-top-clause-counted
 returns-in_err-top-clause-counted g c =

@@ -1,4 +1,4 @@
-use Rattle.std.proofs.Common.{arith, ap, [], ◌∙◌, ◌&&◌, rules, ◌≡◌, ◌∷◌, ◌<◌, List, ℕ}
+use Rattle.std.proofs.Common.{arith, ap, ◌∙◌, ◌&&◌, rules, ◌≡◌, ◌∷◌, ◌<◌, List, ℕ}
 use Rattle.ffs_volume.specs.Directories.Roles.{RoledEntry, refers}
 use Rattle.ffs_survey.proofs.{CalmLaws.calm_step, CalmLaws.read_whole, Discovered.bit-le, Discovered.entry_step}
 use Rattle.ffs_survey.proofs.{Lending.queue_long, Lending.same_kinds, Queues.extends_on, Queues.keeps_queue}
@@ -55,29 +55,4 @@ loop-entry-preserved g c =
     }
 
 pub returns-clause-found : goal.returns-clause-found
-returns-clause-found g c =
-    let inv = c.loop-entry.invariant in
-    let old = c.args.lists.now in
-    let base = g.D.Directories.base c.args.directories.now in
-    record {
-      grown = λ x l. omega (arith, inv.grown x l);
-      ends = inv.high;
-      ordered = inv.extends.ordered;
-      kept = keeps_queue inv.extends;
-      read = λ b k.
-          let reported = rw inv.base at c.in_ok-entry.ensures.rest in
-          let ended = rw inv.base at c.in_ok-entry.ensures.ended in
-          let right = rw inv.base at c.in_ok-entry.ensures.shape in
-          let flags = rw (c.in_ok-entry.ensures.reader.same, inv.base, inv.flags) at c.in_ok-flag_calm.ensures.flags in
-          let rest = g.D.Directories.rest c.loop-entry.directories b in
-          let none : rest ≡ [] = rw c.in_default.is at (reported b k) in
-          let end : g.D.Directories.ended c.next.new.self b = rw c.in_default.is at ended b k in
-          let w = read_whole old.kinds.now old.marked.now (g.D.Directories.entries base b c.args.from) rest c.args.from
-          c.number_of-parent.result c.loop-entry.count c.loop-entry.calm_so_far c.number_of-parent.ensures none
-          (inv.same_result b k) (inv.calm_so_far b k) in
-          record {
-            same_result = w.same_result;
-            counts = rw none at (inv.counts b k);
-            calm = rw (w.calm_is, right b k ∙ inv.right_shape b k) at (flags b k end);
-          };
-    }
+returns-clause-found g c = grind (arith, keeps_queue, read_whole)

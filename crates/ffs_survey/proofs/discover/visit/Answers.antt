@@ -1,11 +1,7 @@
 use Rattle.std.proofs.Common.{arith, ◌∙◌, sym, []}
 use Rattle.ffs_survey.specs.Reading.{roled_of}
-use Rattle.ffs_survey.proofs.Discovered.{visit_hit, visit_miss, unset-set, new_entry}
+use Rattle.ffs_survey.proofs.Discovered.{visit_hit, unset-set, new_entry}
 use Rattle.ffs_survey.proofs.discover.visit.Goals as goal
-
-pub returns-then-not-is_new-clause-same_result : goal.returns-then-not-is_new-clause-same_result
-returns-then-not-is_new-clause-same_result c = visit_miss c.args.lists.now.kinds.now c.args.current.now.dir
-    (roled_of c.args.entry []) (sym c.is_new.ensures ∙ c.if-not-is_new.true)
 
 pub set-requires-2 : goal.set-requires-2
 set-requires-2 c =

@@ -92,15 +92,7 @@ returns-then-not-is_dir-clause-found g c = λ b k.
     }
 
 pub returns-clause-costs : goal.returns-clause-costs
-returns-clause-costs g c = λ b k.
-    let inv = c.loop-low.invariant in
-    let here = c.loop-low.lists in
-    let cost = g.D.Directories.cost (g.D.Directories.base c.args.directories.now) b in
-    let same : c.loop-low.low ≡ c.loop-low.high = omega (arith, inv.room.ordered, c.loop-low-test.false) in
-    let whole = queue_costs cost here.reached.now (take c.loop-low.high here.queue.now.items) _
-    (here.long.reached_long ∙ kinds_long inv.same) (inv.levels b k).at.levels.queued in
-    let old = rw same at (inv.reads b k) in
-    omega (arith, old, whole)
+returns-clause-costs g c = grind (arith, queue_costs)
 
 pub returns-in_err-end-clause-costs : goal.returns-in_err-end-clause-costs
 returns-in_err-end-clause-costs g c =

@@ -9,12 +9,7 @@ use Rattle.ffs_survey.proofs.unref.is_unref.Goals as goal
 is_lost : {v : Graph} {suspect : ℕ → Bool} {kinds : List ℕ} {reached : List Bool} {parents : List ℕ} {d : ℕ} →
     IsTree v kinds reached parents → dir_at kinds d ≡ true → d ≢ 2 → bool_at reached d ≡ false →
     is_dead_in v suspect d ≡ false → IsLost v suspect d
-is_lost {d = d} t dir other off alive = record {
-  dir = t.dirs d ∙ dir;
-  not_root = other;
-  unreached = sym (t.reaches d) ∙ off;
-  alive = alive;
-}
+is_lost {d = d} t dir other off alive = grind arith
 
 pub returns-in_default : goal.returns-in_default
 returns-in_default c = λ v n t.
