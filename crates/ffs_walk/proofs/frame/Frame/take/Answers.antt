@@ -1,7 +1,7 @@
+use Rattle.std.proofs.Common.{arith}
 use Rattle.std.proofs.Common.{rules, ◌≡◌, ◌∙◌, sym, ap, true, false, refl}
 use Rattle.ffs_volume.specs.Blocks.Steps.{any_nonzero_from}
 use Rattle.ffs_walk.proofs.FrameSteps.{word_taken, less_left}
-use Rattle.std.proofs.lemmas.Result.{err_from_is_err_and}
 use Rattle.ffs_walk.proofs.frame.Frame.take.Goals as goal
 use Rattle.ffs_walk.proofs.frame.Frame.take.Goals.{then-self+else-any_from, else-self}
 
@@ -34,17 +34,13 @@ pub fill-requires-clause-ready : goal.fill-requires-clause-ready
 fill-requires-clause-ready g c = c.requires.ready
 
 pub returns-in_err-fill-clause-item : goal.returns-in_err-fill-clause-item
-returns-in_err-fill-clause-item g c =
-    let p = err_from_is_err_and c.from_residual.result c.from_residual.ensures.1 in rw p.1 tt
+returns-in_err-fill-clause-item g c = grind arith
 
 pub returns-in_err-fill-clause-same : goal.returns-in_err-fill-clause-same
 returns-in_err-fill-clause-same g c = record { address = refl; first = refl; used = refl }
 
 pub returns-in_err-fill-clause-leaves : goal.returns-in_err-fill-clause-leaves
-returns-in_err-fill-clause-leaves g c =
-    let went = c.in_err-fill.ensures.leaves in
-    let p = err_from_is_err_and c.from_residual.result c.from_residual.ensures.1 in
-    rw (p.1, p.2) (record { kept = went.kept; read = went.read })
+returns-in_err-fill-clause-leaves g c = grind arith
 
 pub invariant_of-self : goal.invariant_of-self
 invariant_of-self g c = record { in_order = c.args.self.now.in_order; some = refl }
@@ -53,10 +49,7 @@ pub returns-then-any_from-clause-same : goal.returns-then-any_from-clause-same
 returns-then-any_from-clause-same g c = record { address = refl; first = refl; used = refl }
 
 pub returns-then-any_from-clause-leaves : goal.returns-then-any_from-clause-leaves
-returns-then-any_from-clause-leaves g c = record {
-  kept = c.in_ok-fill.ensures.leaves.kept;
-  read = c.in_ok-fill.ensures.leaves.read;
-}
+returns-then-any_from-clause-leaves g c = grind arith
 
 pub returns-clause-same : goal.returns-clause-same
 returns-clause-same g c = record { address = refl; first = refl; used = refl }
