@@ -7,7 +7,7 @@ use Rattle.std.proofs.lemmas.Bool.{cases_lt}
 use Rattle.std.proofs.lemmas.Bool.Decides.{nat_tests}
 use Rattle.std.proofs.lemmas.List.Folds.{list_any_more}
 use Rattle.std.proofs.lemmas.List.{get_or-drop}
-use Rattle.std.proofs.lemmas.Nat.{le_or_l, le-div, div_below, or_lt, pow_pos, shl_below}
+use Rattle.std.proofs.lemmas.Nat.{le_or_l, le-div, or_lt, pow_pos, shl_below}
 use Rattle.std.proofs.Math.Pow.{pow_mono}
 use Rattle.std.specs.Int.Bits.{or_shifted_r}
 use Rattle.ffs_volume.specs.Blocks.Inodes.{any_nonzero}
@@ -26,13 +26,7 @@ any_more xs i below = list_any_more (λ a. not (a == 0)) xs i 0 below
 set_more : (xs : List ℕ) (from i : ℕ) → from ≤ i → i < length xs →
     any_nonzero (take (i + 1 - from) (drop from xs))
     ≡ (any_nonzero (take (i - from) (drop from xs)) || not (get_or xs i 0 == 0))
-set_more xs from i low below =
-    let e : i + 1 - from ≡ i - from + 1 = omega arith in
-    let g : get_or (drop from xs) (i - from) 0 ≡ get_or xs i 0 =
-    get_or-drop from xs (i - from) 0 ∙ ap (λ k. get_or xs k 0) (omega arith) in
-    ap (λ n. any_nonzero (take n (drop from xs))) e
-    ∙ any_more (drop from xs) (i - from) (omega (arith, length-drop from xs))
-    ∙ ap (λ a. any_nonzero (take (i - from) (drop from xs)) || not (a == 0)) g
+set_more xs from i low below = grind (arith, get_or-drop, any_more, length-drop)
 
 -- a bit from `from` on is set where one was, or where the next one, that of i, is
 bit_more : (bits b i from : ℕ) → bits < 2 ^ i → from ≤ i →
@@ -47,10 +41,7 @@ bit_more bits (suc b) i from h low =
 
 -- bits below `from`
 none_above : (bits i from : ℕ) → bits < 2 ^ i → i ≤ from → bits / 2 ^ from ≡ 0
-none_above bits i from h high =
-    let above : 2 ^ i ≤ 2 ^ from = pow_mono high in
-    let small : bits / 2 ^ from < 1 = div_below bits (2 ^ from) 1 (pow_pos from) (omega (arith, h, above)) in
-    omega (arith, small)
+none_above bits i from h high = grind (arith, pow_mono)
 
 -- the bits of the first i addresses, and that of one more: one from `from` on is set where such an
 -- address isn't zero

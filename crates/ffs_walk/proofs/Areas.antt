@@ -1,9 +1,8 @@
 -- A block in range lies in the volume.
-use Rattle.std.proofs.Common.{◌≡◌, ℕ, ◌+◌, ◌*◌, ◌<◌, ◌≤◌, true, IsTrue, arith}
+use Rattle.std.proofs.Common.{ℕ, ◌+◌, ◌*◌, ◌<◌, ◌≤◌, IsTrue, arith}
 use Rattle.std.proofs.Math.Nat.{mul-le-mul_right}
-use Rattle.std.proofs.lemmas.Bool.Decides.{nat_tests}
 use Rattle.ffs_volume.specs.Disk.Areas.{is_run_in_range}
-use Rattle.ffs_volume.proofs.RunLaws.{is_apart, in_range_is}
+use Rattle.ffs_volume.proofs.RunLaws.{in_range_is}
 use Rattle.ffs_volume.specs.Laws.Geometry.{IsAcceptedLayout}
 use Rattle.ffs_volume.specs.declared.Layout.{Layout}
 
@@ -11,9 +10,7 @@ use Rattle.ffs_volume.specs.declared.Layout.{Layout}
 pub in_range-below : (v : Layout) (start len : ℕ) → IsAcceptedLayout v → 0 < len → IsTrue (is_run_in_range v start len)
     →
     start + len ≤ v.size
-in_range-below v start len sound some h =
-    let apart : is_apart v start len ≡ true = rw (in_range_is v sound start len some) at h in
-    grind (arith, nat_tests)
+in_range-below v start len sound some h = grind (arith, in_range_is)
 
 -- a block in range lies in the volume
 pub block_fits : (v : Layout) (address : ℕ) → IsAcceptedLayout v → IsTrue (is_run_in_range v address v.frag) →

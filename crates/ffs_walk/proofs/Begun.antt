@@ -1,5 +1,5 @@
 -- A walk that has just been begun.
-use Rattle.std.proofs.Common.{◌≡◌, ℕ, ◌-◌, ◌∙◌, List, if◌then◌else◌, arith, refl}
+use Rattle.std.proofs.Common.{◌≡◌, ℕ, List, if◌then◌else◌, arith, refl}
 use Rattle.ffs_layout.specs.declared.geometry.Geometry.{Geometry}
 use Rattle.ffs_volume.specs.declared.Inode.{Inode}
 use Rattle.ffs_volume.specs.declared.Layout.{Layout}
@@ -13,11 +13,7 @@ use Rattle.ffs_walk.proofs.WalkSteps.{rest_at_top}
 
 -- a frame of no words fits
 pub unused_fits : (v : Layout) (blocks span : ℕ) (f : Frame) → f.used ≡ 0 → FrameFits v blocks span f
-unused_fits v blocks span f none = record {
-  words = omega (arith, none);
-  in_range_there = λ h. absurd (omega (arith, none, h));
-  indirect = λ h. absurd (omega (arith, none, h));
-}
+unused_fits v blocks span f none = grind arith
 
 -- all steps of the inode are left
 all_steps : (v : Layout) (inode : Inode) (bytes : List ℕ) (blocks last next count : ℕ) → next ≡ 0 →
@@ -33,13 +29,4 @@ pub begun : (g : Geometry) (inode : Inode) (w : Walk) → w.geometry ≡ g →
     w.used ≡ addresses_needed g.layout.nindir w.logical_blocks →
     w.logical_blocks ≡ (if is_walked g.layout inode then logical_blocks_of g.layout inode else 0) →
     w.last ≡ last_length_of g.layout inode → w.addresses ≡ inode.addresses → IsWalkOf g inode w
-begun g inode w same single double triple first all counted long addresses =
-    let count : w.used - w.next ≡ w.used = omega (arith, first) in
-    record {
-      steps = λ bytes. rest_at_top bytes w single double triple ∙ rw (same, addresses)
-          (all_steps g.layout inode bytes w.logical_blocks w.last w.next (w.used - w.next) first (count ∙ all) counted
-          long);
-      geometry = same;
-      blocks = counted;
-      top = record { single = single; double = double; triple = triple };
-    }
+begun g inode w same single double triple first all counted long addresses = grind (arith, rest_at_top, all_steps)

@@ -1,6 +1,6 @@
 -- What a frame has still to give, where its next word is taken.
 use Rattle.std.proofs.Common.{◌≡◌, ℕ, ◌+◌, ◌-◌, ◌*◌, ◌<◌, ◌≤◌, ◌^◌, Bool, true, false, if◌then◌else◌, List, [], ◌++◌}
-use Rattle.std.proofs.Common.{Option, arith, refl, ◌∙◌, ◌==◌}
+use Rattle.std.proofs.Common.{Option, arith, refl, ◌==◌}
 use Rattle.std.proofs.lemmas.Bool.Decides.{nat_tests}
 use Rattle.ffs_volume.specs.declared.Layout.{Layout}
 use Rattle.ffs_volume.specs.declared.Step.{Step}
@@ -12,10 +12,6 @@ use Rattle.ffs_walk.specs.Frames.{frame_rest, frame_left, item_left, IsFrom, IsS
 use Rattle.ffs_walk.specs.declared.frame.Item.{Item}
 use Rattle.ffs_walk.specs.declared.frame.Item.TheVariants.{UnusedWord, Word}
 use Rattle.ffs_walk.specs.Fits.{FrameFits, IsBelow}
-use Rattle.std.specs.Int.{div_ceil}
-use Rattle.std.proofs.lemmas.Grind.{div_ceil_times}
-use Rattle.std.proofs.Math.Nat.{mul-le-mul_right}
-use Rattle.ffs_walk.proofs.Ranges.{flat_map_step}
 
 -- the steps under the words from `next` on are those at the next word and then the rest
 pub next_word : (g : Layout) (bytes : List ℕ) (child : ℕ → ℕ → List Step) (span address first next used : ℕ) →
@@ -23,8 +19,7 @@ pub next_word : (g : Layout) (bytes : List ℕ) (child : ℕ → ℕ → List St
     steps_under g bytes child span address first next (used - next)
     ≡ child (address_at g bytes address next) (first + next * span) ++ steps_under g bytes child span address first
     (next + 1) (used - (next + 1))
-next_word g bytes child span address first next used h =
-    flat_map_step (λ j. child (address_at g bytes address j) (first + j * span)) next used h
+next_word g bytes child span address first next used h = grind arith
 
 -- no Tail comes where the unused words aren't set, or it is known already
 pub no_tail : (unread found : Bool) (xs : List Step) → (unread ≡ true → found ≡ false) →
@@ -42,51 +37,31 @@ pub word_taken : (g : Layout) (contents : Option (List ℕ)) (span : ℕ) (f : F
     frame_rest g bytes child span f
     ≡ child address (f.first + f.next * span) ++ steps_under g bytes child span f.address f.first (f.next + 1)
     (f.used - (f.next + 1)))
-word_taken g contents span f block address h held none is = λ bytes e child.
-    no_tail f.unread (any_nonzero_from g (block_bytes g bytes f.address) f.used) _ (rw (held bytes e) at none)
-    ∙ next_word g bytes child span f.address f.first f.next f.used h
-    ∙ rw (is, held bytes e) refl
+word_taken g contents span f block address h held none is = grind (arith, next_word)
 
 -- one word less is left
 pub less_left : (most : ℕ) (f : Frame) → f.next < f.used → most + (0 + (f.used - (f.next + 1)) * most) ≤ frame_left most
     f
-less_left most f h =
-    let e : f.used - f.next ≡ f.used - (f.next + 1) + 1 = omega arith in
-    rw e (omega arith)
+less_left most f h = grind arith
 
 -- a used word has logical blocks of the inode under it
 pub word_below : (words blocks first span used j : ℕ) → 0 < span →
     used ≤ indirect_addresses_needed words blocks first span →
     j < used → first + j * span < blocks
-word_below words blocks first span used j some fits h =
-    let n = blocks - first in
-    let counted : j + 1 ≤ div_ceil n span = omega arith in
-    let scaled : (j + 1) * span ≤ div_ceil n span * span = mul-le-mul_right span counted in
-    let above : div_ceil n span * span < n + span = (div_ceil_times n span some).1 in
-    omega (arith, scaled, above)
+word_below words blocks first span used j some fits h = grind arith
 
 pub item_below : (g : Layout) (blocks span : ℕ) (f : Frame) (item : Item) → 0 < span → FrameFits g blocks span f →
     IsFrom f span item → IsBelow blocks item
 item_below g blocks span f UnusedWord some fits from = tt
-item_below g blocks span f (Word address block) some fits from =
-    let e : block ≡ f.first + f.next * span = from.1 in
-    let below : f.first + f.next * span < blocks = word_below g.nindir blocks f.first span f.used f.next some fits.words
-    from.0 in
-    (omega (arith, e, fits.indirect from.0), omega (arith, e, below))
+item_below g blocks span f (Word address block) some fits from = grind (arith, word_below)
 
 pub word_fits : (g : Layout) (blocks span : ℕ) (f : Frame) → 0 < span → FrameFits g blocks span f → blocks < 2 ^ 53 →
     f.next < f.used → f.first + f.next * span < 2 ^ 64
-word_fits g blocks span f some fits small h =
-    let below : f.first + f.next * span < blocks = word_below g.nindir blocks f.first span f.used f.next some fits.words
-    h in
-    omega (arith, below)
+word_fits g blocks span f some fits small h = grind arith
 
 -- what is left in a frame that is new
 pub entered_left : (most used words : ℕ) → used ≤ words → 1 + (used - 0) * most ≤ 1 + words * most
-entered_left most used words h =
-    let scaled : used * most ≤ words * most = mul-le-mul_right most h in
-    let e : used - 0 ≡ used = omega arith in
-    rw e (omega (arith, scaled))
+entered_left most used words h = grind arith
 
 -- an item of the lowest level is one step
 pub item_one : (item : Item) → item_left 1 item ≡ 1
@@ -99,11 +74,7 @@ falls_by i s' s r h e = omega arith
 -- a frame that takes an item still fits
 pub kept_fits : (g : Layout) (blocks span : ℕ) (f f' : Frame) → f.next < f.used → IsSameBlock f f'
     → FrameFits g blocks span f → FrameFits g blocks span f'
-kept_fits g blocks span f f' some same fits = record {
-  words = rw (same.used, same.first) fits.words;
-  in_range_there = λ _. rw same.address (fits.in_range_there some);
-  indirect = λ _. rw same.first (fits.indirect some);
-}
+kept_fits g blocks span f f' some same fits = grind arith
 
 -- a walk falls where its double or triple frame takes an item, and what the item means goes below
 pub falls_in_double : (i d' s d t u left : ℕ) → 1 + left ≤ i + (s + (d' + (t + u))) → i + d' ≤ d →

@@ -1,6 +1,6 @@
 -- Words of zero are gaps, at every level.
 use Rattle.std.proofs.Common.{◌≡◌, ℕ, zero, suc, ◌+◌, ◌-◌, ◌*◌, ◌<◌, ◌≤◌, false, if◌then◌else◌, List, [], ◌∷◌, ◌++◌}
-use Rattle.std.proofs.Common.{replicate, slice_index, append_assoc, arith, refl, ap, ◌∙◌, sym}
+use Rattle.std.proofs.Common.{replicate, slice_index, append_assoc, arith, refl, ap, ◌∙◌}
 use Rattle.ffs_volume.specs.declared.Layout.{Layout}
 use Rattle.ffs_volume.specs.declared.Step.{Step}
 use Rattle.ffs_volume.specs.declared.Step.TheVariants.{Gap}
@@ -20,8 +20,7 @@ gaps_under : (g : Layout) (bytes : List ℕ) (child : ℕ → ℕ → List Step)
     ((k : ℕ) → next ≤ k → k < next + n → address_at g bytes address k ≡ 0) →
     steps_under g bytes child span address first next (used - next) ≡ replicate n Gap ++ steps_under g bytes child span
     address first (next + n) (used - (next + n))
-gaps_under g bytes child span address first used zero next gap h zeros =
-    let at : next ≡ next + 0 = omega arith in ap (λ j. steps_under g bytes child span address first j (used - j)) at
+gaps_under g bytes child span address first used zero next gap h zeros = grind arith
 gaps_under g bytes child span address first used (suc n) next gap h zeros =
     let at : next + 1 + n ≡ next + suc n = omega arith in
     next_word g bytes child span address first next used (omega arith)
@@ -45,14 +44,7 @@ pub gaps_passed : (g : Layout) (bytes : List ℕ) (child : ℕ → ℕ → List 
     frame_rest g bytes child span f
     ≡ replicate n Gap ++ ((if f.unread then tail_of (any_nonzero_from g (block_bytes g bytes f.address) f.used) else [])
     ++ steps_under g bytes child span f.address f.first next (f.used - next))
-gaps_passed g bytes child span n next f block gap read moved h is zeros =
-    was_read g bytes child span f read
-    ∙ gaps_under g bytes child span f.address f.first f.used n f.next gap (omega (arith, h, moved))
-    (λ k l m. ap (λ b. address_in g b k) (sym is) ∙ zeros k l (omega (arith, m, moved)))
-    ∙ ap (λ j. replicate n Gap ++ steps_under g bytes child span f.address f.first j (f.used - j)) (sym moved)
-    ∙ ap (λ b. replicate n Gap
-    ++ ((if b then tail_of (any_nonzero_from g (block_bytes g bytes f.address) f.used) else [])
-    ++ steps_under g bytes child span f.address f.first next (f.used - next))) (sym read)
+gaps_passed g bytes child span n next f block gap read moved h is zeros = grind (arith, gaps_under)
 
 -- ---- in a walk, the frames before are spent
 pub in_first : (s s' o r : List Step) → s ≡ r ++ s' → s ++ o ≡ r ++ (s' ++ o)
@@ -76,8 +68,7 @@ pub gaps_at_addresses : (t : FileBlocks) (bytes addresses : List ℕ) (used n ne
     ((k : ℕ) → next ≤ k → k < next + n → slice_index addresses k ≡ 0) →
     steps_of_addresses t bytes addresses next (used - next)
     ≡ replicate n Gap ++ steps_of_addresses t bytes addresses (next + n) (used - (next + n))
-gaps_at_addresses t bytes addresses used zero next h zeros =
-    let at : next ≡ next + 0 = omega arith in ap (λ j. steps_of_addresses t bytes addresses j (used - j)) at
+gaps_at_addresses t bytes addresses used zero next h zeros = grind arith
 gaps_at_addresses t bytes addresses used (suc n) next h zeros =
     let at : next + 1 + n ≡ next + suc n = omega arith in
     let others = steps_of_addresses t bytes addresses (next + 1) (used - (next + 1)) in

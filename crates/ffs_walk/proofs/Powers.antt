@@ -84,6 +84,4 @@ shifted size n p small = ap (λ m. size / m) (sym (power_of_zeros n p small))
 
 -- a mask of the bits below a power of two gives the remainder
 pub masked : (size n : ℕ) → IsPowerOfTwo n → bit_and size (n - 1) ≡ size % n
-masked size n p =
-    let e = p.1 in
-    ap (λ m. bit_and size (m - 1)) e ∙ and_mask size p.0 ∙ ap (λ m. size % m) (sym e)
+masked size n p = grind (arith, and_mask)

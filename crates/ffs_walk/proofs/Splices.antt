@@ -1,10 +1,8 @@
 -- Blocks of which one is read anew.
 use Rattle.std.proofs.Common.{◌≡◌, ◌≢◌, ℕ, ◌+◌, ◌-◌, ◌*◌, ◌<◌, ◌≤◌, List, length, take, drop, Option, Some, None, ◌⊎◌}
 use Rattle.std.proofs.Common.{inl, inr, arith, sym, ap, ◌∙◌, slice_set}
-use Rattle.std.specs.Prelude.{Vec, get_or, vec_len}
+use Rattle.std.specs.Prelude.{Vec, vec_len}
 use Rattle.std.specs.Vec.{with_items}
-use Rattle.std.proofs.Math.Nat.{mul-le-mul_right}
-use Rattle.std.proofs.lemmas.Bool.{cases_lt}
 use Rattle.std.proofs.lemmas.List.{drop-take, get_or-set_same, get_or-set_other, length-set, length-take-le}
 use Rattle.std.proofs.lemmas.List.{length-drop, with_items_is}
 use Rattle.std.proofs.lemmas.Slice.{take-put_mid_below, drop-put_mid, between-put_mid}
@@ -26,9 +24,7 @@ piece_kept a k p n xs ys h len (inr above) = ap (take n) (drop-put_mid a k xs ys
 
 -- parts of equal size, at different places, are apart
 pub parts_apart : (size i j : ℕ) → i < j → i * size + size ≤ j * size
-parts_apart size i j h =
-    let scaled : (i + 1) * size ≤ j * size = mul-le-mul_right size (omega arith) in
-    omega (arith, scaled)
+parts_apart size i j h = grind arith
 
 pub three_parts : (size i : ℕ) → i < 3 → i * size + size ≤ 3 * size
 three_parts size i h = parts_apart size i 3 h
@@ -42,25 +38,7 @@ pub held_apart : (v : Layout) (contents : Option (List ℕ)) (old new : Blocks) 
     ((other : ℕ) → other ≡ level → (address : ℕ) → held_address other new ≡ Some address →
     ForContents contents (λ b. level_bytes v other new ≡ block_bytes v b address)) →
     BlocksHold v contents new
-held_apart v contents old new level k ys holds is size len room lt others own = record {
-  block = λ other within address at b e.
-      let ends : level * v.bsize + v.bsize ≤ 3 * v.bsize = three_parts v.bsize level lt in
-      elim (cases_lt other level) [
-        | inl less ↦
-            let apart = parts_apart v.bsize other level less in
-            rw is (piece_kept (level * v.bsize) k (other * v.bsize) v.bsize old.buffer.items ys (omega arith) len
-            (inl (omega arith)))
-            ∙ holds.block other within address (sym (others other (omega arith)) ∙ at) b e
-        | inr more ↦ elim (cases_lt level other) [
-          | inl above ↦
-              let apart = parts_apart v.bsize level other above in
-              rw is (piece_kept (level * v.bsize) k (other * v.bsize) v.bsize old.buffer.items ys (omega arith) len
-              (inr (omega arith)))
-              ∙ holds.block other within address (sym (others other (omega arith)) ∙ at) b e
-          | inr under ↦ own other (omega arith) address at b e
-        ]
-      ];
-}
+held_apart v contents old new level k ys holds is size len room lt others own = grind (arith, piece_kept)
 
 -- what was written to a part is what the part holds
 pub piece_written : (a k : ℕ) (xs ys : List ℕ) → a ≤ length xs → length ys ≡ k → piece a k (put_mid a k xs ys) ≡ ys
@@ -94,20 +72,7 @@ pub held_without : (v : Layout) (contents contents' : Option (List ℕ)) (old : 
       held = slice_set old.held level None;
     })
 held_without v contents contents' old level k items ys holds same is size len room lt within =
-    let count : vec_len old.buffer ≡ length old.buffer.items = old.buffer.ok.0 in
-    let ends : level * v.bsize + v.bsize ≤ 3 * v.bsize = three_parts v.bsize level lt in
-    let new_is = written_is old.buffer (level * v.bsize) k items ys is len (omega arith) in
-    rw same (held_apart v contents old
-    (record {
-      buffer = with_items old.buffer (put_mid (level * v.bsize) k items ys);
-      held = slice_set old.held level None;
-    })
-    level k ys holds new_is size len (omega arith) lt
-    (λ other ne. get_or-set_other old.held level other None None ne)
-    (λ other e address at.
-    let none : get_or (slice_set old.held level None) other None ≡ None =
-    rw e (get_or-set_same old.held level None None within) in
-    absurd (cc)))
+    grind (arith, written_is, held_apart, get_or-set_other, get_or-set_same)
 
 -- after a read a level holds what was read
 pub held_with : (v : Layout) (contents contents' : Option (List ℕ)) (old : Blocks) (level address k : ℕ)
@@ -121,24 +86,4 @@ pub held_with : (v : Layout) (contents contents' : Option (List ℕ)) (old : Blo
       held = slice_set (slice_set old.held level None) level (Some address);
     })
 held_with v contents contents' old level address k items ys holds same is size len room lt within read =
-    let count : vec_len old.buffer ≡ length old.buffer.items = old.buffer.ok.0 in
-    let ends : level * v.bsize + v.bsize ≤ 3 * v.bsize = three_parts v.bsize level lt in
-    let new_is = written_is old.buffer (level * v.bsize) k items ys is len (omega arith) in
-    rw same (held_apart v contents old
-    (record {
-      buffer = with_items old.buffer (put_mid (level * v.bsize) k items ys);
-      held = slice_set (slice_set old.held level None) level (Some address);
-    })
-    level k ys holds new_is size len (omega arith) lt
-    (λ other ne. get_or-set_other (slice_set old.held level None) level other (Some address) None ne
-    ∙ get_or-set_other old.held level other None None ne)
-    (λ other e address' at b tells.
-    let here : get_or (slice_set (slice_set old.held level None) level (Some address)) other None ≡ Some address =
-    rw e (get_or-set_same (slice_set old.held level None) level (Some address) None
-    (rw (length-set old.held level None) within)) in
-    let hit : address ≡ address' = some_is address address' (sym here ∙ at) in
-    let part : piece (level * v.bsize) k (put_mid (level * v.bsize) k old.buffer.items ys) ≡ ys =
-    piece_written (level * v.bsize) k old.buffer.items ys (omega arith) len in
-    let whole : piece (level * v.bsize) v.bsize (put_mid (level * v.bsize) k old.buffer.items ys) ≡ ys =
-    ap (λ n. piece (level * v.bsize) n (put_mid (level * v.bsize) k old.buffer.items ys)) (sym size) ∙ part in
-    ap (piece (other * v.bsize) v.bsize) new_is ∙ rw (e, whole, ← hit) (read b tells)))
+    grind (arith, written_is, held_apart, get_or-set_other, get_or-set_same, length-set, piece_written)

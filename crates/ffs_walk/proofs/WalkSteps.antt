@@ -16,8 +16,6 @@ use Rattle.ffs_walk.specs.Rests.{file_blocks_of, steps_left, single_rest, double
 use Rattle.ffs_volume.specs.Blocks.Steps.{FileBlocks, data_step, indirect_steps, steps_at, steps_of_addresses}
 use Rattle.ffs_volume.specs.Blocks.Steps.{indirection_of, first_block}
 use Rattle.std.proofs.lemmas.Bool.Decides.{nat_tests}
-use Rattle.std.proofs.Math.Nat.{mul-le-mul_right}
-use Rattle.ffs_walk.proofs.Ranges.{flat_map_step}
 
 pub steps_zero : (t : FileBlocks) (bytes : List ℕ) (a f : ℕ) → steps_at t bytes 0 a f ≡ data_step t a f ∷ []
 unfolding steps_at
@@ -41,14 +39,10 @@ steps_three t bytes a f = refl
 -- nothing is left in a frame that is spent
 pub spent_rest : (g : Layout) (bytes : List ℕ) (child : ℕ → ℕ → List Step) (span : ℕ) (f : Frame) → IsSpent f →
     frame_rest g bytes child span f ≡ []
-spent_rest g bytes child span f h =
-    let none : f.used - f.next ≡ 0 = omega (arith, h.0) in
-    rw (h.1, none) refl
+spent_rest g bytes child span f h = grind arith
 
 pub spent_left : (most : ℕ) (f : Frame) → IsSpent f → frame_left most f ≡ 0
-spent_left most f h =
-    let none : f.used - f.next ≡ 0 = omega (arith, h.0) in
-    rw (h.1, none) (omega arith)
+spent_left most f h = grind arith
 
 -- the first step at a level goes out, and the frame below has the others
 pub in_double : (w : Walk) (bytes : List ℕ) (span address first : ℕ) (s : Step) (f : Frame) →
@@ -59,12 +53,7 @@ pub in_double : (w : Walk) (bytes : List ℕ) (span address first : ℕ) (s : St
     steps_at (file_blocks_of w) bytes 1 address first ++ steps_left bytes w
     ≡ s ∷ (frame_rest w.geometry.layout bytes (steps_at (file_blocks_of w) bytes 0) 1 f
     ++ (double_rest bytes w ++ (triple_rest bytes w ++ top_rest bytes w)))
-in_double w bytes span address first s f is_one spent e =
-    rw (
-      steps_one (file_blocks_of w) bytes address first,
-      rw is_one at e,
-      spent_rest w.geometry.layout bytes (steps_at (file_blocks_of w) bytes 0) 1 w.single spent,
-    ) refl
+in_double w bytes span address first s f is_one spent e = grind (arith, steps_one, spent_rest)
 
 pub in_triple : (w : Walk) (bytes : List ℕ) (span address first : ℕ) (s : Step) (f : Frame) →
     span ≡ w.geometry.layout.nindir →
@@ -75,32 +64,18 @@ pub in_triple : (w : Walk) (bytes : List ℕ) (span address first : ℕ) (s : St
     ≡ s ∷ (single_rest bytes w
     ++ (frame_rest w.geometry.layout bytes (steps_at (file_blocks_of w) bytes 1) w.geometry.layout.nindir f
     ++ (triple_rest bytes w ++ top_rest bytes w)))
-in_triple w bytes span address first s f is_words spent spent' e =
-    rw (
-      steps_two (file_blocks_of w) bytes address first,
-      rw is_words at e,
-      spent_rest w.geometry.layout bytes (steps_at (file_blocks_of w) bytes 0) 1 w.single spent,
-      spent_rest w.geometry.layout bytes (steps_at (file_blocks_of w) bytes 1) w.geometry.layout.nindir w.double spent',
-    ) refl
+in_triple w bytes span address first s f is_words spent spent' e = grind (arith, steps_two, spent_rest)
 
 -- where the frames are spent, the rest is that of the addresses
 pub rest_at_top : (bytes : List ℕ) (w : Walk) → IsSpent w.single → IsSpent w.double → IsSpent w.triple →
     steps_left bytes w ≡ top_rest bytes w
-rest_at_top bytes w s d t =
-    rw (
-      spent_rest w.geometry.layout bytes (steps_at (file_blocks_of w) bytes 0) 1 w.single s,
-      spent_rest w.geometry.layout bytes (steps_at (file_blocks_of w) bytes 1) w.geometry.layout.nindir w.double d,
-      spent_rest w.geometry.layout bytes (steps_at (file_blocks_of w) bytes 2)
-          (w.geometry.layout.nindir * w.geometry.layout.nindir) w.triple t,
-    ) refl
+rest_at_top bytes w s d t = grind arith
 
 pub next_address : (t : FileBlocks) (bytes addresses : List ℕ) (next used : ℕ) → next < used →
     steps_of_addresses t bytes addresses next (used - next)
     ≡ steps_at t bytes (indirection_of next) (slice_index addresses next) (first_block t.layout.nindir next)
     ++ steps_of_addresses t bytes addresses (next + 1) (used - (next + 1))
-next_address t bytes addresses next used h =
-    flat_map_step (λ i. steps_at t bytes (indirection_of i) (slice_index addresses i) (first_block t.layout.nindir i))
-    next used h
+next_address t bytes addresses next used h = grind arith
 
 -- the steps of the addresses after the next one
 abbrev pub later_rest : List ℕ → Walk → List Step
@@ -113,9 +88,7 @@ at_top bytes w h s d t = rest_at_top bytes w s d t ∙ next_address (file_blocks
 
 pub top_ends : (bytes : List ℕ) (w : Walk) → w.used ≤ w.next → IsSpent w.single → IsSpent w.double → IsSpent w.triple →
     steps_left bytes w ≡ []
-top_ends bytes w h s d t =
-    let none : w.used - w.next ≡ 0 = omega arith in
-    rest_at_top bytes w s d t ∙ rw none refl
+top_ends bytes w h s d t = grind arith
 
 pub top_data : (bytes : List ℕ) (w : Walk) (address first : ℕ) (step : Step) →
     w.next < w.used → w.next < 12 → IsSpent w.single → IsSpent w.double → IsSpent w.triple →
@@ -123,21 +96,7 @@ pub top_data : (bytes : List ℕ) (w : Walk) (address first : ℕ) (step : Step)
     step ≡ data_step (file_blocks_of w) address first →
     steps_left bytes w ≡ step ∷ (single_rest bytes w ++ (double_rest bytes w ++ (triple_rest bytes w ++ later_rest bytes w)))
 top_data bytes w address first step h low s d t is_address is_first e =
-    let level : indirection_of w.next ≡ 0 = omega arith in
-    let place : first_block w.geometry.layout.nindir w.next ≡ w.next = grind (arith, nat_tests) in
-    at_top bytes w h s d t
-    ∙ rw (
-      level,
-      place,
-      steps_zero (file_blocks_of w) bytes (slice_index w.addresses w.next) w.next,
-      ← is_address,
-      ← is_first,
-      ← e,
-      spent_rest w.geometry.layout bytes (steps_at (file_blocks_of w) bytes 0) 1 w.single s,
-      spent_rest w.geometry.layout bytes (steps_at (file_blocks_of w) bytes 1) w.geometry.layout.nindir w.double d,
-      spent_rest w.geometry.layout bytes (steps_at (file_blocks_of w) bytes 2)
-          (w.geometry.layout.nindir * w.geometry.layout.nindir) w.triple t,
-    ) refl
+    grind (arith, nat_tests, at_top, steps_zero, spent_rest)
 
 -- an indirect address goes out, and its frame has what is under it
 pub top_single : (bytes : List ℕ) (w : Walk) (step : Step) (f : Frame) →
@@ -146,19 +105,7 @@ pub top_single : (bytes : List ℕ) (w : Walk) (step : Step) (f : Frame) →
     ≡ step ∷ frame_rest w.geometry.layout bytes (steps_at (file_blocks_of w) bytes 0) 1 f →
     steps_left bytes w ≡ step ∷ (frame_rest w.geometry.layout bytes (steps_at (file_blocks_of w) bytes 0) 1 f
     ++ (double_rest bytes w ++ (triple_rest bytes w ++ later_rest bytes w)))
-top_single bytes w step f h is s d t e =
-    let level : indirection_of w.next ≡ 1 = omega arith in
-    let place : first_block w.geometry.layout.nindir w.next ≡ 12 = grind (arith, nat_tests) in
-    at_top bytes w h s d t
-    ∙ rw (
-      level,
-      place,
-      steps_one (file_blocks_of w) bytes (slice_index w.addresses w.next) 12,
-      e,
-      spent_rest w.geometry.layout bytes (steps_at (file_blocks_of w) bytes 1) w.geometry.layout.nindir w.double d,
-      spent_rest w.geometry.layout bytes (steps_at (file_blocks_of w) bytes 2)
-          (w.geometry.layout.nindir * w.geometry.layout.nindir) w.triple t,
-    ) refl
+top_single bytes w step f h is s d t e = grind (arith, nat_tests, at_top, steps_one, spent_rest)
 
 pub top_double : (bytes : List ℕ) (w : Walk) (words : ℕ) (step : Step) (f : Frame) →
     w.next < w.used → w.next ≡ 13 → words ≡ w.geometry.layout.nindir → IsSpent w.single → IsSpent w.double →
@@ -209,26 +156,18 @@ top_triple bytes w words step f h is is_words s d t e =
 
 -- a level of indirection more is a step more, at least
 pub most_grows : (words m : ℕ) → 0 < words → m + 1 ≤ 2 + words * m
-most_grows words m h =
-    let scaled : 1 * m ≤ words * m = mul-le-mul_right m h in
-    omega (arith, scaled)
+most_grows words m h = grind arith
 
 -- what an address has at most is below what a triple indirect one has
 pub most_below : (words : ℕ) → 0 < words →
     (1 ≤ most_at words 3) × (2 + words * most_at words 0 ≤ most_at words 3)
     × (2 + words * most_at words 1 ≤ most_at words 3)
-most_below words h =
-    let a : most_at words 0 + 1 ≤ most_at words 1 = most_grows words (most_at words 0) h in
-    let b : most_at words 1 + 1 ≤ most_at words 2 = most_grows words (most_at words 1) h in
-    let c : most_at words 2 + 1 ≤ most_at words 3 = most_grows words (most_at words 2) h in
-    (omega (arith, a, b, c), omega (arith, a, b, c), omega (arith, a, b, c))
+most_below words h = grind arith
 
 -- the next address takes out more than goes into a frame
 pub top_falls : (next used m s' d' t' s d t : ℕ) → next < used → s' + (d' + t') + 1 ≤ s + (d + t) + m →
     s' + (d' + (t' + (used - (next + 1)) * m)) < s + (d + (t + (used - next) * m))
-top_falls next used m s' d' t' s d t h le =
-    let e : used - next ≡ used - (next + 1) + 1 = omega arith in
-    rw e (omega arith)
+top_falls next used m s' d' t' s d t h le = grind arith
 
 pub joined_two : (S D I F X Z : List Step) → S ≡ [] → D ≡ I ++ F → I ++ (S ++ (F ++ X)) ≡ Z → S ++ (D ++ X) ≡ Z
 joined_two S D I F X Z none split made = rw (none, split, append_assoc) (rw none at made)
@@ -283,9 +222,7 @@ triple_reported contents w words f item step R is s d taken made = λ bytes e.
     joined_three _ _ _ _ _ _ _ none none' split (made bytes)
 
 pub square_some : (n : ℕ) → 0 < n → 0 < n * n
-square_some n h =
-    let scaled : 1 * n ≤ n * n = mul-le-mul_right n h in
-    omega (arith, scaled)
+square_some n h = grind arith
 
 -- a block has words
 pub some_words : (v : Layout) → IsAcceptedLayout v → 0 < v.nindir
@@ -293,15 +230,7 @@ some_words v sound = omega (arith, sound.sizes.nindir, sound.sizes.bsize_low)
 
 -- nothing is left at the end
 pub top_over : (w : Walk) → w.used ≤ w.next → IsSpent w.single → IsSpent w.double → IsSpent w.triple → most_steps_left w ≡ 0
-top_over w h s d t =
-    let words = w.geometry.layout.nindir in
-    let none : w.used - w.next ≡ 0 = omega arith in
-    rw (
-      spent_left (most_at words 0) w.single s,
-      spent_left (most_at words 1) w.double d,
-      spent_left (most_at words 2) w.triple t,
-      none,
-    ) (omega arith)
+top_over w h s d t = grind arith
 
 -- a step is one, and where an address is left the walk is not over
 pub no_step : (step : Step) → Some step ≡ None → ⊥

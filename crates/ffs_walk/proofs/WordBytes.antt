@@ -1,11 +1,10 @@
 -- A word isn't zero where one of its bytes isn't, in either byte order.
 use Rattle.std.proofs.Common.{◌≡◌, ℕ, zero, suc, ◌==◌, ◌+◌, ◌-◌, ◌*◌, ◌<◌, ◌≤◌, Bool, true, false, not, ◌||◌, List, []}
 use Rattle.std.proofs.Common.{leb, ◌&&◌}
-use Rattle.std.proofs.Common.{◌∷◌, inl, inr, length, take, drop, arith, refl, ap, sym, ◌∙◌, length-drop, ◌^◌, lit<}
-use Rattle.std.proofs.Math.Nat.{mul-le-mul_right}
+use Rattle.std.proofs.Common.{◌∷◌, length, take, drop, arith, refl, ap, sym, ◌∙◌, length-drop}
 use Rattle.std.proofs.Math.Seq.{take-add}
 use Rattle.std.proofs.lemmas.Bool.Decides.{nat_tests}
-use Rattle.std.proofs.lemmas.Bool.{cases_lt, and_parts, leb-true, not-true, eqb-true, not-false, or_parts}
+use Rattle.std.proofs.lemmas.Bool.{or_parts}
 use Rattle.std.proofs.lemmas.List.{drop-drop}
 use Rattle.std.proofs.lemmas.List.Folds.{list_any-append}
 use Rattle.std.specs.List.{list_any, range_with_len, slice_range}
@@ -21,9 +20,7 @@ low_set : (a m : ℕ) → not (a + 256 * m == 0) ≡ (not (a == 0) || not (m == 
 low_set a m = grind (arith, nat_tests)
 
 many_set : (a k m : ℕ) → 0 < k → not (suc a * k + m == 0) ≡ (not (suc a == 0) || not (m == 0))
-many_set a k m some =
-    let scaled : 1 * k ≤ suc a * k = mul-le-mul_right k (omega arith) in
-    grind (arith, nat_tests, scaled)
+many_set a k m some = grind arith
 
 high_set : (a k m : ℕ) → 0 < k → not (a * k + m == 0) ≡ (not (a == 0) || not (m == 0))
 high_set zero k m some = ap (λ n. not (n == 0)) (omega arith)
@@ -33,13 +30,8 @@ high_set (suc a) k m some = many_set a k m some
 four_set : (order : Order) (a b c d : ℕ) (xs : List ℕ) →
     any_nonzero (a ∷ b ∷ c ∷ d ∷ []) ≡ not (number order 4 (a ∷ b ∷ c ∷ d ∷ xs) == 0)
 unfolding number
-four_set Little a b c d xs =
-    sym (low_set a _ ∙ ap (λ x. not (a == 0) || x) (low_set b _ ∙ ap (λ x. not (b == 0) || x)
-    (low_set c _ ∙ ap (λ x. not (c == 0) || x) (low_set d 0))))
-four_set Big a b c d xs =
-    sym (high_set a (256 ^ 3) _ (lit< tt) ∙ ap (λ x. not (a == 0) || x) (high_set b (256 ^ 2) _ (lit< tt)
-    ∙ ap (λ x. not (b == 0) || x)
-    (high_set c (256 ^ 1) _ (lit< tt) ∙ ap (λ x. not (c == 0) || x) (high_set d (256 ^ 0) 0 (lit< tt)))))
+four_set Little a b c d xs = grind arith
+four_set Big a b c d xs = grind arith
 
 word_set : (order : Order) (xs : List ℕ) → 4 ≤ length xs → any_nonzero (take 4 xs) ≡ not (number order 4 xs == 0)
 word_set order [] h = absurd (omega (arith, h))
@@ -71,17 +63,12 @@ words_set v block (suc n) first h =
 -- the bytes of the words from an index on
 pub any_byte_from : (v : Layout) (block : List ℕ) (used : ℕ) → used ≤ v.nindir → 4 * v.nindir ≤ length block →
     any_nonzero (slice_range block (4 * used) (4 * v.nindir)) ≡ any_nonzero_from v block used
-any_byte_from v block used h fits =
-    let e : 4 * v.nindir - 4 * used ≡ 4 * (v.nindir - used) = omega (arith, h) in
-    ap (λ k. any_nonzero (take k (drop (4 * used) block))) e
-    ∙ words_set v block (v.nindir - used) used (omega (arith, h, fits))
+any_byte_from v block used h fits = grind (arith, words_set)
 
 none_set : (word : ℕ → ℕ) (n first i : ℕ) → list_any (λ j. not (word j == 0)) (range_with_len first n) ≡ false → i < n →
     word (first + i) ≡ 0
 none_set word zero first i e h = absurd (omega (arith, h))
-none_set word (suc n) first zero e h =
-    let f : first + zero ≡ first = omega arith in
-    ap word f ∙ eqb-true (word first) 0 (not-false _ (or_parts (not (word first == 0)) _ e).0)
+none_set word (suc n) first zero e h = grind arith
 none_set word (suc n) first (suc i) e h =
     let f : first + suc i ≡ first + 1 + i = omega arith in
     ap word f ∙ none_set word n (first + 1) i (or_parts (not (word first == 0)) _ e).1 (omega (arith, h))
@@ -108,15 +95,4 @@ pub record ZerosTo (v : Layout) (block : List ℕ) (next used place : ℕ) : Typ
 pub more_zeros : (v : Layout) (block : List ℕ) (next used place n : ℕ) → 4 * used ≤ length block →
     (leb (place + n) used && not (any_nonzero (slice_range block (4 * place) (4 * (place + n))))) ≡ true →
     ZerosTo v block next used place → ZerosTo v block next used (place + n)
-more_zeros v block next used place n fits all z =
-    let parts = and_parts (leb (place + n) used)
-    (not (any_nonzero (slice_range block (4 * place) (4 * (place + n))))) all in
-    let within = leb-true (place + n) used parts.0 in
-    record {
-      low = omega (arith, z.low);
-      high = within;
-      zeros = λ k low high. elim (cases_lt k place) [
-        | inl l ↦ z.zeros k low l
-        | inr m ↦ no_byte v block place n k (omega (arith, within, fits)) (not-true _ parts.1) m high
-      ];
-    }
+more_zeros v block next used place n fits all z = grind (arith, no_byte)

@@ -2,14 +2,6 @@ use Rattle.std.proofs.Common.{arith, ◌∙◌, sym}
 use Rattle.ffs_walk.proofs.WordBytes.{more_zeros}
 use Rattle.ffs_walk.proofs.words.zeros_end.Goals as goal
 
-pub are_zeros-requires-in-loop-index-then-are_zeros-clause-block :
-    goal.are_zeros-requires-in-loop-index-then-are_zeros-clause-block
-are_zeros-requires-in-loop-index-then-are_zeros-clause-block c = omega (arith, c.args.geometry.now.sound.sizes.nindir)
-
-pub are_zeros-requires-in-loop-index-then-are_zeros-clause-index :
-    goal.are_zeros-requires-in-loop-index-then-are_zeros-clause-index
-are_zeros-requires-in-loop-index-then-are_zeros-clause-index c = c.loop-index-then-are_zeros.invariant.high
-
 pub loop-index-init : goal.loop-index-init
 loop-index-init c =
     more_zeros c.args.geometry.now.layout c.args.block.now c.args.next c.args.used c.args.next 16

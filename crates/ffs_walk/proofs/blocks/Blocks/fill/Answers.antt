@@ -5,15 +5,7 @@ use Rattle.ffs_walk.proofs.Splices.{held_without, held_with}
 use Rattle.ffs_walk.proofs.blocks.Blocks.fill.Goals as goal
 
 pub returns-in_err-read_at-clause-leaves : goal.returns-in_err-read_at-clause-leaves
-returns-in_err-read_at-clause-leaves g c = record {
-  kept = record {
-    size = search rules;
-    holds = held_without c.args.geometry.now.layout _ _ c.args.self.now c.args.level _ _ c.read_at.new.buf
-        c.requires.ready.holds c.in_err-read_at.ensures.bytes.err.contents (search rules) (omega arith) (search rules)
-        c.requires.ready.room.blocks_fit c.requires.level (search rules);
-  };
-  read = search rules;
-}
+returns-in_err-read_at-clause-leaves g c = grind (arith, held_without)
 
 pub returns-clause-leaves : goal.returns-clause-leaves
 returns-clause-leaves g c = record {

@@ -1,7 +1,6 @@
-use Rattle.std.proofs.Common.{rules, ◌≡◌, ◌∙◌, sym, ap, true, false, refl}
+use Rattle.std.proofs.Common.{rules, ◌≡◌, ◌∙◌, sym, ap, true, false}
 use Rattle.ffs_volume.specs.Blocks.Steps.{any_nonzero_from}
 use Rattle.ffs_walk.proofs.FrameSteps.{word_taken, less_left}
-use Rattle.std.proofs.lemmas.Result.{err_from_is_err_and}
 use Rattle.ffs_walk.proofs.frame.Frame.take.Goals as goal
 use Rattle.ffs_walk.proofs.frame.Frame.take.Goals.{then-self+else-any_from, else-self}
 
@@ -26,40 +25,3 @@ returns-clause-item g c =
           c.word-address.ensures);
       falls = rw known (λ most. less_left most c.args.self.now c.requires.item.left);
     }
-
-pub fill-requires-clause-in_range : goal.fill-requires-clause-in_range
-fill-requires-clause-in_range g c = c.requires.item.in_range
-
-pub fill-requires-clause-ready : goal.fill-requires-clause-ready
-fill-requires-clause-ready g c = c.requires.ready
-
-pub returns-in_err-fill-clause-item : goal.returns-in_err-fill-clause-item
-returns-in_err-fill-clause-item g c =
-    let p = err_from_is_err_and c.from_residual.result c.from_residual.ensures.1 in rw p.1 tt
-
-pub returns-in_err-fill-clause-same : goal.returns-in_err-fill-clause-same
-returns-in_err-fill-clause-same g c = record { address = refl; first = refl; used = refl }
-
-pub returns-in_err-fill-clause-leaves : goal.returns-in_err-fill-clause-leaves
-returns-in_err-fill-clause-leaves g c =
-    let went = c.in_err-fill.ensures.leaves in
-    let p = err_from_is_err_and c.from_residual.result c.from_residual.ensures.1 in
-    rw (p.1, p.2) (record { kept = went.kept; read = went.read })
-
-pub invariant_of-self : goal.invariant_of-self
-invariant_of-self g c = record { in_order = c.args.self.now.in_order; some = refl }
-
-pub returns-then-any_from-clause-same : goal.returns-then-any_from-clause-same
-returns-then-any_from-clause-same g c = record { address = refl; first = refl; used = refl }
-
-pub returns-then-any_from-clause-leaves : goal.returns-then-any_from-clause-leaves
-returns-then-any_from-clause-leaves g c = record {
-  kept = c.in_ok-fill.ensures.leaves.kept;
-  read = c.in_ok-fill.ensures.leaves.read;
-}
-
-pub returns-clause-same : goal.returns-clause-same
-returns-clause-same g c = record { address = refl; first = refl; used = refl }
-
-pub returns-clause-leaves : goal.returns-clause-leaves
-returns-clause-leaves g c = record { kept = c.in_ok-fill.ensures.leaves.kept; read = c.in_ok-fill.ensures.leaves.read }

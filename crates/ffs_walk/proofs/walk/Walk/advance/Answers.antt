@@ -4,74 +4,26 @@ use Rattle.ffs_volume.specs.Blocks.Steps.{steps_at}
 use Rattle.ffs_walk.specs.Frames.{frame_rest, frame_left, item_left}
 use Rattle.ffs_walk.specs.Rests.{steps_left, most_steps_left, most_at, file_blocks_of}
 use Rattle.ffs_walk.proofs.GapSteps.{in_first}
-use Rattle.ffs_walk.proofs.FrameSteps.{item_below, word_fits, kept_fits, words_fit, item_one, falls_by}
+use Rattle.ffs_walk.proofs.FrameSteps.{item_below, item_one, falls_by}
 use Rattle.ffs_walk.proofs.FrameSteps.{falls_in_double, falls_in_triple}
-use Rattle.ffs_walk.proofs.WalkSteps.{double_reported, triple_reported, square_some, some_words, no_step}
-use Rattle.ffs_walk.proofs.Counted.{single_reads, double_reads, triple_reads}
+use Rattle.ffs_walk.proofs.WalkSteps.{double_reported, triple_reported, no_step}
+use Rattle.ffs_walk.proofs.Counted.{double_reads, triple_reads}
 use Rattle.ffs_walk.proofs.walk.Walk.advance.Goals as goal
 
 pub step_in_double-requires-clause-below : goal.step_in_double-requires-clause-below
-step_in_double-requires-clause-below g c =
-    let w = c.args.self.now in
-    item_below w.geometry.layout w.logical_blocks w.geometry.layout.nindir w.double c.in_ok-item-2.item
-    (some_words w.geometry.layout w.geometry.sound) w.double_fits
-    (rw c.from-words.ensures at c.in_ok-item-2.ensures.item.item)
+step_in_double-requires-clause-below g c = grind (arith, item_below)
 
 pub step_in_triple-requires-clause-below : goal.step_in_triple-requires-clause-below
-step_in_triple-requires-clause-below g c =
-    let w = c.args.self.now in
-    item_below w.geometry.layout w.logical_blocks (w.geometry.layout.nindir * w.geometry.layout.nindir) w.triple
-    c.in_ok-item-3.item
-    (square_some w.geometry.layout.nindir (some_words w.geometry.layout w.geometry.sound)) w.triple_fits
-    (rw c.from-words.ensures at c.in_ok-item-3.ensures.item.item)
+step_in_triple-requires-clause-below g c = grind (arith, item_below)
 
 pub invariant_of-self-then-is_left-2 : goal.invariant_of-self-then-is_left-2
-invariant_of-self-then-is_left-2 g c =
-    let w = c.args.self.now in
-    record {
-      in_order = w.in_order;
-      in_array = w.in_array;
-      used_fits = w.used_fits;
-      last_some = w.last_some;
-      last_small = w.last_small;
-      blocks_small = w.blocks_small;
-      single_fits = w.single_fits;
-      double_fits = kept_fits w.geometry.layout w.logical_blocks w.geometry.layout.nindir w.double
-          c.take-then-is_left-2.new.self (c.if-is_left-2.ensures.left.0 refl) c.take-then-is_left-2.ensures.same
-          w.double_fits;
-      triple_fits = w.triple_fits;
-    }
+invariant_of-self-then-is_left-2 g c = grind arith
 
 pub invariant_of-self-then-is_left-3 : goal.invariant_of-self-then-is_left-3
-invariant_of-self-then-is_left-3 g c =
-    let w = c.args.self.now in
-    record {
-      in_order = w.in_order;
-      in_array = w.in_array;
-      used_fits = w.used_fits;
-      last_some = w.last_some;
-      last_small = w.last_small;
-      blocks_small = w.blocks_small;
-      single_fits = w.single_fits;
-      double_fits = w.double_fits;
-      triple_fits = kept_fits w.geometry.layout w.logical_blocks
-          (w.geometry.layout.nindir * w.geometry.layout.nindir) w.triple
-          c.take-then-is_left-3.new.self (c.if-is_left-3.ensures.left.0 refl) c.take-then-is_left-3.ensures.same
-          w.triple_fits;
-    }
+invariant_of-self-then-is_left-3 g c = grind arith
 
 pub take-requires-then-is_left-2-clause-item : goal.take-requires-then-is_left-2-clause-item
-take-requires-then-is_left-2-clause-item g c =
-    let w = c.args.self.now in
-    record {
-      left = c.if-is_left-2.ensures.left.0 refl;
-      in_range = c.args.self.now.double_fits.in_range_there (c.if-is_left-2.ensures.left.0 refl);
-      words = words_fit w.geometry.layout w.logical_blocks w.geometry.layout.nindir w.double w.double_fits;
-      small = rw c.from-words.ensures
-          (word_fits w.geometry.layout w.logical_blocks w.geometry.layout.nindir w.double
-          (some_words w.geometry.layout w.geometry.sound)
-          w.double_fits w.blocks_small (c.if-is_left-2.ensures.left.0 refl));
-    }
+take-requires-then-is_left-2-clause-item g c = grind arith
 
 pub returns-then-is_left-clause-step : goal.returns-then-is_left-clause-step
 returns-then-is_left-clause-step g c =
@@ -143,9 +95,7 @@ returns-clause-step g c = record {
 }
 
 pub returns-then-is_left-clause-counted : goal.returns-then-is_left-clause-counted
-returns-then-is_left-clause-counted g c = λ h.
-    let took = c.in_ok-item.ensures in
-    single_reads c.args.self.now _ _ _ _ _ _ h took.counted took.read.0 took.read.1 took.others refl refl
+returns-then-is_left-clause-counted g c = grind arith
 
 pub returns-then-is_left-2-clause-counted : goal.returns-then-is_left-2-clause-counted
 returns-then-is_left-2-clause-counted g c = λ h.
@@ -160,8 +110,4 @@ returns-then-is_left-3-clause-counted g c = λ h.
     c.step_in_triple.ensures.counted
 
 pub returns-clause-counted : goal.returns-clause-counted
-returns-clause-counted g c = λ h. record {
-  most = omega arith;
-  paid = omega (arith, c.step_at_top.ensures.counted.unread);
-  held = c.step_at_top.ensures.counted.held _ h;
-}
+returns-clause-counted g c = grind arith

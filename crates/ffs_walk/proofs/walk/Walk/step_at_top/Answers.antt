@@ -3,20 +3,15 @@ use Rattle.ffs_walk.specs.Frames.{frame_left}
 use Rattle.ffs_walk.specs.Rests.{file_blocks_of, most_at}
 use Rattle.ffs_volume.specs.Blocks.Steps.{steps_at}
 use Rattle.ffs_walk.proofs.WalkSteps.{top_ends, top_data, top_single, top_double, top_triple, most_below, top_falls}
-use Rattle.ffs_walk.proofs.WalkSteps.{top_over, some_words, square_some, no_step, not_over, one_on}
-use Rattle.ffs_walk.proofs.WalkSteps.{single_below, double_below, triple_below}
-use Rattle.ffs_walk.proofs.Counted.{enters_none, enters_single, enters_double, enters_triple}
+use Rattle.ffs_walk.proofs.WalkSteps.{some_words}
+use Rattle.ffs_walk.proofs.Counted.{enters_single, enters_double, enters_triple}
 use Rattle.ffs_walk.proofs.walk.Walk.step_at_top.Goals as goal
 
 pub returns-then-self-clause-steps : goal.returns-then-self-clause-steps
-returns-then-self-clause-steps c = λ bytes. top_ends bytes c.args.self.now (omega (arith, c.args.self.now.in_order)) c.requires.single
-    c.requires.double c.requires.triple
+returns-then-self-clause-steps c = grind (arith, top_ends)
 
 pub returns-then-block-lt-NDADDR-clause-steps : goal.returns-then-block-lt-NDADDR-clause-steps
-returns-then-block-lt-NDADDR-clause-steps c =
-    λ bytes. top_data bytes c.args.self.now _ c.from-block.result c.data.result (omega (arith, c.args.self.now.in_order))
-    (rw c.from-block.ensures at c.if-block-lt-NDADDR.true)
-    c.requires.single c.requires.double c.requires.triple refl c.from-block.ensures c.data.ensures.step
+returns-then-block-lt-NDADDR-clause-steps c = grind (arith, top_data)
 
 pub returns-in-12-clause-steps : goal.returns-in-12-clause-steps
 returns-in-12-clause-steps c =
@@ -91,162 +86,7 @@ returns-in_default-clause-left c =
     ))
 
 pub returns-then-self-clause-left : goal.returns-then-self-clause-left
-returns-then-self-clause-left c = top_over c.args.self.now (omega (arith, c.args.self.now.in_order)) c.requires.single c.requires.double
-    c.requires.triple
-
-pub invariant_of-self : goal.invariant_of-self
-invariant_of-self c =
-    let w = c.args.self.now in
-    record {
-      in_order = one_on w.next w.used (omega (arith, c.args.self.now.in_order));
-      in_array = w.in_array;
-      used_fits = w.used_fits;
-      last_some = w.last_some;
-      last_small = w.last_small;
-      blocks_small = w.blocks_small;
-      single_fits = w.single_fits;
-      double_fits = w.double_fits;
-      triple_fits = w.triple_fits;
-    }
-
-pub returns-then-block-lt-NDADDR-clause-none : goal.returns-then-block-lt-NDADDR-clause-none
-returns-then-block-lt-NDADDR-clause-none c = λ e. absurd (no_step c.data.result e)
-
-pub returns-then-block-lt-NDADDR-clause-over : goal.returns-then-block-lt-NDADDR-clause-over
-returns-then-block-lt-NDADDR-clause-over c = not_over c.args.self.now.next c.args.self.now.used c.data.result
-    (omega (arith, c.args.self.now.in_order))
-
-pub invariant_of-self-in-12 : goal.invariant_of-self-in-12
-invariant_of-self-in-12 c =
-    let w = c.args.self.now in
-    record {
-      in_order = one_on w.next w.used (omega (arith, c.args.self.now.in_order));
-      in_array = w.in_array;
-      used_fits = w.used_fits;
-      last_some = w.last_some;
-      last_small = w.last_small;
-      blocks_small = w.blocks_small;
-      single_fits = c.enter-step.ensures.fits;
-      double_fits = w.double_fits;
-      triple_fits = w.triple_fits;
-    }
-
-pub returns-in-12-clause-none : goal.returns-in-12-clause-none
-returns-in-12-clause-none c = λ e. absurd (no_step c.enter-step.result.0 e)
-
-pub returns-in-12-clause-over : goal.returns-in-12-clause-over
-returns-in-12-clause-over c = not_over c.args.self.now.next c.args.self.now.used c.enter-step.result.0 (omega (arith, c.args.self.now.in_order))
-
-pub invariant_of-self-in-13 : goal.invariant_of-self-in-13
-invariant_of-self-in-13 c =
-    let w = c.args.self.now in
-    record {
-      in_order = one_on w.next w.used (omega (arith, c.args.self.now.in_order));
-      in_array = w.in_array;
-      used_fits = w.used_fits;
-      last_some = w.last_some;
-      last_small = w.last_small;
-      blocks_small = w.blocks_small;
-      single_fits = w.single_fits;
-      double_fits = rw c.from-words.ensures at c.enter-step-in-13.ensures.fits;
-      triple_fits = w.triple_fits;
-    }
-
-pub returns-in-13-clause-none : goal.returns-in-13-clause-none
-returns-in-13-clause-none c = λ e. absurd (no_step c.enter-step-in-13.result.0 e)
-
-pub returns-in-13-clause-over : goal.returns-in-13-clause-over
-returns-in-13-clause-over c = not_over c.args.self.now.next c.args.self.now.used c.enter-step-in-13.result.0
-    (omega (arith, c.args.self.now.in_order))
-
-pub invariant_of-self-in_default : goal.invariant_of-self-in_default
-invariant_of-self-in_default c =
-    let w = c.args.self.now in
-    record {
-      in_order = one_on w.next w.used (omega (arith, c.args.self.now.in_order));
-      in_array = w.in_array;
-      used_fits = w.used_fits;
-      last_some = w.last_some;
-      last_small = w.last_small;
-      blocks_small = w.blocks_small;
-      single_fits = w.single_fits;
-      double_fits = w.double_fits;
-      triple_fits = rw c.from-words.ensures at c.enter-step-in_default.ensures.fits;
-    }
-
-pub returns-in_default-clause-none : goal.returns-in_default-clause-none
-returns-in_default-clause-none c = λ e. absurd (no_step c.enter-step-in_default.result.0 e)
-
-pub returns-in_default-clause-over : goal.returns-in_default-clause-over
-returns-in_default-clause-over c = not_over c.args.self.now.next c.args.self.now.used c.enter-step-in_default.result.0
-    (omega (arith, c.args.self.now.in_order))
-
-pub enter-step-requires-clause-first : goal.enter-step-requires-clause-first
-enter-step-requires-clause-first c =
-    let w = c.args.self.now in
-    let below = single_below w.geometry.layout.nindir w.logical_blocks w.next w.used
-    (omega (arith, c.args.self.now.in_order)) w.used_fits c.in-12.is in
-    (omega arith, omega (arith, below))
-
-pub enter-step-requires-in-13-clause-first : goal.enter-step-requires-in-13-clause-first
-enter-step-requires-in-13-clause-first c =
-    let w = c.args.self.now in
-    let below = double_below w.geometry.layout.nindir c.from-words.result w.logical_blocks w.next w.used
-    (omega (arith, c.args.self.now.in_order)) w.used_fits c.in-13.is c.from-words.ensures in
-    (omega arith, omega (arith, below))
-
-pub enter-step-requires-in_default-clause-first : goal.enter-step-requires-in_default-clause-first
-enter-step-requires-in_default-clause-first c =
-    let w = c.args.self.now in
-    let last : w.next ≡ 14 = omega (arith, w.in_array) in
-    let below = triple_below w.geometry.layout.nindir c.from-words.result w.logical_blocks w.next w.used
-    (omega (arith, c.args.self.now.in_order)) w.used_fits last c.from-words.ensures in
-    (omega arith, omega (arith, below))
-
-pub returns-then-self-clause-fits : goal.returns-then-self-clause-fits
-returns-then-self-clause-fits c = tt
-
-pub returns-then-self-clause-none : goal.returns-then-self-clause-none
-returns-then-self-clause-none c = λ e. refl
-
-pub returns-then-self-clause-over : goal.returns-then-self-clause-over
-returns-then-self-clause-over c = (λ h. refl, λ e. omega (arith, c.args.self.now.in_order))
-
-pub returns-then-self-clause-same : goal.returns-then-self-clause-same
-returns-then-self-clause-same c = record { geometry = refl; blocks = refl }
-
-pub returns-then-block-lt-NDADDR-clause-fits : goal.returns-then-block-lt-NDADDR-clause-fits
-returns-then-block-lt-NDADDR-clause-fits c = c.data.ensures.fits
-
-pub returns-then-block-lt-NDADDR-clause-same : goal.returns-then-block-lt-NDADDR-clause-same
-returns-then-block-lt-NDADDR-clause-same c = record { geometry = refl; blocks = refl }
-
-pub returns-in-12-clause-fits : goal.returns-in-12-clause-fits
-returns-in-12-clause-fits c = c.enter-step.ensures.step
-
-pub returns-in-12-clause-same : goal.returns-in-12-clause-same
-returns-in-12-clause-same c = record { geometry = refl; blocks = refl }
-
-pub returns-in-13-clause-fits : goal.returns-in-13-clause-fits
-returns-in-13-clause-fits c = c.enter-step-in-13.ensures.step
-
-pub returns-in-13-clause-same : goal.returns-in-13-clause-same
-returns-in-13-clause-same c = record { geometry = refl; blocks = refl }
-
-pub returns-in_default-clause-fits : goal.returns-in_default-clause-fits
-returns-in_default-clause-fits c = c.enter-step-in_default.ensures.step
-
-pub returns-in_default-clause-same : goal.returns-in_default-clause-same
-returns-in_default-clause-same c = record { geometry = refl; blocks = refl }
-
-pub enter-step-requires-in-13-clause-span : goal.enter-step-requires-in-13-clause-span
-enter-step-requires-in-13-clause-span c =
-    let g = c.args.self.now.geometry in rw c.from-words.ensures (some_words g.layout g.sound)
-
-pub enter-step-requires-in_default-clause-span : goal.enter-step-requires-in_default-clause-span
-enter-step-requires-in_default-clause-span c =
-    let g = c.args.self.now.geometry in
-    rw c.from-words.ensures (square_some g.layout.nindir (some_words g.layout g.sound))
+returns-then-self-clause-left c = grind arith
 
 pub returns-in-12-clause-counted : goal.returns-in-12-clause-counted
 returns-in-12-clause-counted c = enters_single c.args.self.now _ c.enter-step.result.0 c.enter-step.result.1 c.enter-step.ensures.counted refl refl refl
@@ -256,9 +96,3 @@ returns-in-13-clause-counted c = enters_double c.args.self.now _ c.enter-step-in
 
 pub returns-in_default-clause-counted : goal.returns-in_default-clause-counted
 returns-in_default-clause-counted c = enters_triple c.args.self.now _ c.enter-step-in_default.result.0 c.enter-step-in_default.result.1 c.enter-step-in_default.ensures.counted refl refl refl
-
-pub returns-then-self-clause-counted : goal.returns-then-self-clause-counted
-returns-then-self-clause-counted c = enters_none c.args.self.now _ _ refl refl refl
-
-pub returns-then-block-lt-NDADDR-clause-counted : goal.returns-then-block-lt-NDADDR-clause-counted
-returns-then-block-lt-NDADDR-clause-counted c = enters_none c.args.self.now _ _ refl refl refl
