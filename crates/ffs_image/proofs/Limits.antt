@@ -1,6 +1,6 @@
 -- What a part that read through a limited image leaves of the image below it.
 use Rattle.std.specs.Borrow.{GName}
-use Rattle.std.proofs.Common.{◌≡◌, ◌<◌, ◌≤◌, ◌+◌, ℕ, Bool, true, false, Option, Some, None, IfSome, IsSomeAnd, Result, Ok, Err, arith, ap, refl, sym}
+use Rattle.std.proofs.Common.{◌≡◌, ◌≤◌, ◌+◌, ℕ, Bool, true, false, Option, Some, IfSome, Result, Ok, Err, arith}
 use Rattle.ffs_image.specs.declared.image.ImageFault.{ImageFault}
 use Rattle.ffs_image.specs.{Device.Device, Limited.GivesBack, Limited.limited_device, Reads.ReadAfter}
 
@@ -11,11 +11,7 @@ pub record StaysOver (old new : Device) : Type 0 where
   pub size : new.size ≡ old.size
 
 pub read_over : {T : Type 0} (old new : Device) (r : Result T ImageFault) → ReadAfter old new r → StaysOver old new
-read_over old new (Ok x) h = record {
-  lent = ap (λ (d : Device). d.lent) h;
-  contents = ap (λ (d : Device). d.contents) h;
-  size = ap (λ (d : Device). d.size) h;
-}
+read_over old new (Ok x) h = grind arith
 read_over old new (Err fault) h = record { lent = h.lent; contents = h.contents; size = h.size }
 
 -- no read was refused: the image below was read with the same answer
@@ -31,33 +27,21 @@ pub limit_kept : {lent below : Device} {name_lent name : GName} {reads reads' le
     {spent : Bool} {above above' : Device} →
     GivesBack lent below name_lent name reads reads' limit left asked spent above above' →
     IfSome limit (λ n. reads' ≤ reads + n)
-limit_kept {reads = reads} {reads' = reads'} {left = left} {limit = limit} g = by limit g.most
-  where
-    by : (l : Option ℕ) → IfSome l (λ n. reads' + left ≤ reads + n) → IfSome l (λ n. reads' ≤ reads + n)
-    by (Some n) h = omega (arith, h)
-    by None h = h
+limit_kept {reads = reads} {reads' = reads'} {left = left} {limit = limit} g = grind arith
 
 -- nor more often than the limited image was asked
 pub asked_kept : {lent below : Device} {name_lent name : GName} {reads reads' left asked limit : ℕ}
     {spent : Bool} {above above' : Device} →
     GivesBack lent below name_lent name reads reads' (Some limit) left asked spent above above' →
     reads' ≤ reads + asked
-asked_kept {reads = reads} {reads' = reads'} {left = left} {asked = asked} {limit = limit} g =
-    let kept : reads' + left ≤ reads + limit = g.most in
-    let asks : limit ≤ left + asked = g.left_of in
-    omega (arith, kept, asks)
+asked_kept {reads = reads} {reads' = reads'} {left = left} {asked = asked} {limit = limit} g = grind arith
 
 -- no read is refused where no more are asked for than the limit
 pub never_refused : {lent below : Device} {name_lent name : GName} {reads reads' left asked : ℕ} {limit : Option ℕ}
     {spent : Bool} {above above' : Device} →
     GivesBack lent below name_lent name reads reads' limit left asked spent above above' →
     IfSome limit (λ n. asked ≤ n) → spent ≡ false
-never_refused {asked = asked} {limit = limit} {spent = spent} g few = by spent limit g.asked_more few
-  where
-    by : (s : Bool) (l : Option ℕ) → (s ≡ true → IsSomeAnd l (λ n. n < asked)) → IfSome l (λ n. asked ≤ n) → s ≡ false
-    by false l more h = refl
-    by true (Some n) more h = let over : n < asked = more refl in absurd (omega (arith, over, h))
-    by true None more h = absurd (more refl)
+never_refused {asked = asked} {limit = limit} {spent = spent} g few = grind arith
 
 -- what a part that read a limited image leaves of the image below: its reads, and its answer's
 -- meaning, where none was refused
@@ -77,27 +61,7 @@ served_back : {T : Type 0} (lent below : Device) (name_lent name : GName) (reads
     GivesBack lent below name_lent name reads reads' (Some limit) left asked s
     (limited_device lent name_lent reads (Some limit)) above' →
     ServedBy lent below name_lent name reads reads' limit asked s r
-served_back lent below name_lent name reads reads' limit left asked s above' r h g = record {
-  same_image = sym g.same_image;
-  contents = (by s refl).contents;
-  size = (by s refl).size;
-  most = limit_kept g;
-  as_asked = asked_kept g;
-  few = λ e. never_refused g e;
-  refused = g.refused;
-  read = λ e. read_through r g e h;
-}
-  where
-    same : below ≡ lent → StaysOver lent below
-    same e = record {
-      lent = ap (λ (d : Device). d.lent) e;
-      contents = ap (λ (d : Device). d.contents) e;
-      size = ap (λ (d : Device). d.size) e;
-    }
-
-    by : (s' : Bool) → s ≡ s' → StaysOver lent below
-    by true e = same (g.refused e)
-    by false e = read_over lent below r (read_through r g e h)
+served_back lent below name_lent name reads reads' limit left asked s above' r h g = grind arith
 
 -- the contract of the part, with the clause of the limited image on what is below
 pub served : {T : Type 0} {lent below : Device} {name_lent name : GName} {reads reads' limit left asked : ℕ} {s : Bool}

@@ -10,53 +10,28 @@ module _ {A : Type 0} where
 
   pub length_part : (t mid : List A) (from k : ℕ) → from + k ≤ length t → length mid ≡ k →
       length (with_part t mid from k) ≡ length t
-  length_part t mid from k low len =
-      let first = length-append (take from t) (mid ++ drop k (drop from t)) in
-      let second = length-append mid (drop k (drop from t)) in
-      let front = length-take-le from t (omega arith) in
-      let back = length-drop k (drop from t) in
-      let rest = length-drop from t in
-      omega arith
+  length_part t mid from k low len = grind (arith, length-append, length-take-le, length-drop)
 
   -- nothing of t is left after it
   pub part_alone : (t mid : List A) (from k n : ℕ) → from + k ≤ length t → length mid ≡ k → n ≡ length t →
       take n (with_part t mid from k ++ drop (length (with_part t mid from k)) t) ≡ with_part t mid from k
-  part_alone t mid from k n low len is =
-      let long = length_part t mid from k low len in
-      take-append-le n (with_part t mid from k) _ (omega arith) ∙ take_all n (with_part t mid from k) (omega arith)
+  part_alone t mid from k n low len is = grind (arith, length_part, take-append-le, take_all)
 
   pub before_part : (t mid R : List A) (from k : ℕ) → from + k ≤ length t → length mid ≡ k →
       take from (with_part t mid from k ++ R) ≡ take from (t ++ R)
-  before_part t mid R from k low len =
-      let long = length_part t mid from k low len in
-      let front = length-take-le from t (omega arith) in
-      take-append-le from (with_part t mid from k) R (omega arith)
-      ∙ take-append-le from (take from t) (mid ++ drop k (drop from t)) (omega arith)
-      ∙ take-take from from t (omega arith)
-      ∙ sym (take-append-le from t R (omega arith))
+  before_part t mid R from k low len = grind (arith, length_part, length-take-le, take-append-le, take-take)
 
   from_part : (t mid R : List A) (from k : ℕ) → from + k ≤ length t →
       drop from (with_part t mid from k ++ R) ≡ mid ++ (drop k (drop from t) ++ R)
-  from_part t mid R from k low =
-      ap (drop from) (append_assoc (take from t) (mid ++ drop k (drop from t)) R)
-      ∙ drop_at (take from t) ((mid ++ drop k (drop from t)) ++ R) from (length-take-le from t (omega arith))
-      ∙ append_assoc mid (drop k (drop from t)) R
+  from_part t mid R from k low = grind (arith, append_assoc, drop_at, length-take-le)
 
   pub part_new : (t mid R : List A) (from k : ℕ) → from + k ≤ length t → length mid ≡ k →
       drop from (take (from + k) (with_part t mid from k ++ R)) ≡ mid
-  part_new t mid R from k low len =
-      drop-take from k (with_part t mid from k ++ R)
-      ∙ ap (take k) (from_part t mid R from k low)
-      ∙ take-append-le k mid _ (omega arith)
-      ∙ take_all k mid (omega arith)
+  part_new t mid R from k low len = grind (arith, drop-take, from_part, take-append-le, take_all)
 
   pub part_old : (t R : List A) (from k : ℕ) → from + k ≤ length t →
       drop from (take (from + k) (t ++ R)) ≡ take k (drop from t)
-  part_old t R from k low =
-      let rest = length-drop from t in
-      drop-take from k (t ++ R)
-      ∙ ap (take k) (drop-append-le from t R (omega arith))
-      ∙ take-append-le k (drop from t) R (omega arith)
+  part_old t R from k low = grind (arith, drop-take, take-append-le)
 
   pub after_part : (t mid R : List A) (from k : ℕ) → from + k ≤ length t → length mid ≡ k →
       drop (from + k) (with_part t mid from k ++ R) ≡ drop (from + k) (t ++ R)

@@ -13,11 +13,7 @@ use Rattle.ffs_report.specs.declared.fault.RunFault.TheVariants.{Read, Out}
 -- nothing was said
 pub paid_none : {T : Type 0} {price : ℕ} {a : Progress} {before after : ℕ} {x : T} → after ≤ before →
     Paid price a a before after (Ok x)
-paid_none {a = a} few = record {
-  messages = 0;
-  begun = record { messages = []; said = said_none a; many = refl };
-  most = omega (arith, few);
-}
+paid_none {a = a} few = grind (arith, said_none)
 
 -- messages were said for which nothing was read
 pub paid_said : {price : ℕ} {a b : Progress} {before after : ℕ} (ms : List Message) → Said a b ms → after ≤ before →
@@ -31,20 +27,12 @@ paid_said ms said few = record {
 -- a read failed before anything was said, of those that are left for other reads
 pub paid_failed : {T : Type 0} {price : ℕ} {a : Progress} {before after : ℕ} {fault : _} → after ≤ before →
     Paid {T = T} price a a before after (Err (Read fault))
-paid_failed {a = a} few = record {
-  messages = 0;
-  begun = record { messages = []; said = said_none a; many = omega arith };
-  most = omega (arith, few);
-}
+paid_failed {a = a} few = grind (arith, said_none)
 
 -- a read failed for a message that was to come
 pub paid_reads : {T : Type 0} {price : ℕ} {a : Progress} {before after : ℕ} {fault : _} → after ≤ before + price →
     Paid {T = T} price a a before after (Err (Read fault))
-paid_reads {a = a} few = record {
-  messages = 1;
-  begun = record { messages = []; said = said_none a; many = omega arith };
-  most = omega (arith, few);
-}
+paid_reads {a = a} few = grind (arith, said_none)
 
 -- one message or more pay for what one pays for
 pays_one : (price before after n : ℕ) → 1 ≤ n → after ≤ before + price → after ≤ before + price * n
@@ -85,8 +73,7 @@ paid_answer p = record { messages = p.messages; begun = p.begun; most = p.most }
 
 pub paid_fault : {T U : Type 0} {price : ℕ} {a b : Progress} {before after : ℕ} (fault : RunFault) →
     Paid {T = T} price a b before after (Err fault) → Paid {T = U} price a b before after (Err fault)
-paid_fault (Read f) p = record { messages = p.messages; begun = p.begun; most = p.most }
-paid_fault (Out f) p = record { messages = p.messages; begun = p.begun; most = p.most }
+paid_fault fault p1 = grind arith
 
 -- messages were begun after others
 begun_then : {T U : Type 0} (n m : ℕ) (a b c : Progress) (x : T) (r : Result U RunFault) → AreBegun n a b (Ok x) →
@@ -119,11 +106,7 @@ paid_then {price = price} {a = a} {b = b} {c = c} {x = x} {r = r} p q = record {
 -- at a higher price
 pub paid_price : {T : Type 0} {a b : Progress} {before after : ℕ} {r : Result T RunFault} (price price' : ℕ) →
     price ≤ price' → Paid price a b before after r → Paid price' a b before after r
-paid_price price price' dear p = record {
-  messages = p.messages;
-  begun = p.begun;
-  most = let more = mul-le-mul_right {m = price} {n = price'} p.messages dear in omega (arith, p.most, more);
-}
+paid_price price price' dear p = grind (arith, mul-le-mul_right)
 
 -- messages for which nothing was taken but what was left before
 pub paid_text : {T : Type 0} {price : ℕ} (knows : List ℕ → Type 0) (all : List ℕ → List Message) {a b : Progress}
@@ -134,11 +117,7 @@ paid_text knows all (Ok x) p few = record {
   begun = record { messages = p.messages; said = p.said; many = refl };
   most = omega (arith, few);
 }
-paid_text knows all (Err (Read fault)) p few = record {
-  messages = length p.prefix.messages;
-  begun = record { messages = p.prefix.messages; said = p.prefix.said; many = omega arith };
-  most = omega (arith, few);
-}
+paid_text knows all (Err (Read fault)) p few = grind arith
 paid_text knows all (Err (Out fault)) p few = record {
   messages = length p.messages;
   begun = record { messages = p.messages; stopped = p.stopped; many = refl };

@@ -22,14 +22,10 @@ to_says rest rest' all ms a b c p e q = record {
 
 pub to_stops : (rest rest' all ms : List Message) (a b c : Progress) → SaidTo rest all a b → rest ≡ ms ++ rest' →
     Stopped b c ms → Stopped a c all
-to_stops rest rest' all ms a b c p e q =
-    subst (Stopped a c) (grind (arith, append_assoc, e, p.right))
-    (stopped_more a c (p.messages ++ ms) rest' (stopped_after a b c p.messages ms p.said q))
+to_stops rest rest' all ms a b c p e q = grind (arith, stopped_more, stopped_after)
 
 pub to_ends : (rest all : List Message) (a b : Progress) → SaidTo rest all a b → rest ≡ [] → Said a b all
-to_ends rest all a b p e =
-    subst (Said a b) (sym (append-nil p.messages) ∙ ap (λ (xs : List Message). p.messages ++ xs) (sym e) ∙ p.right)
-    p.said
+to_ends rest all a b p e = grind (arith, append-nil)
 
 -- ---- messages of an image's bytes
 pub of_begins : (knows : List ℕ → Type 0) (all : List ℕ → List Message) (a : Progress) → SaidOf knows all all a a
@@ -63,8 +59,7 @@ of_reads knows rest all a b p = record { rest = rest; prefix = p }
 -- all was said at once, or nothing is to come, and the output failed among all
 pub says_all : {knows : List ℕ → Type 0} {all : List ℕ → List Message} {ms : List Message} {a b : Progress} →
     ForBytes knows (λ bytes. all bytes ≡ ms) → Said a b ms → SaidOf knows (λ bytes. []) all a b
-says_all {knows} {all} {ms} e p =
-    record { messages = ms; right = λ bytes k. append-nil ms ∙ sym (e bytes k); said = p }
+says_all {knows} {all} {ms} e p = grind (arith, append-nil)
 
 pub says_none : {knows : List ℕ → Type 0} {all : List ℕ → List Message} {a : Progress} →
     ForBytes knows (λ bytes. all bytes ≡ []) → SaidOf knows (λ bytes. []) all a a
@@ -87,11 +82,7 @@ reads_first {knows} {all} {a} = of_reads knows all all a a (of_begins knows all 
 pub says_heading : {knows : List ℕ → Type 0} {lines rest : List ℕ → List Message} {m : Message} {a b : Progress} →
     ForBytes knows (λ bytes. lines bytes ≡ rest bytes) → Said a b (m ∷ []) →
     SaidOf knows rest (λ bytes. m ∷ lines bytes) a b
-says_heading {m = m} e p = record {
-  messages = m ∷ [];
-  right = λ bytes k. ap (λ (xs : List Message). m ∷ xs) (sym (e bytes k));
-  said = p;
-}
+says_heading {m = m} e p = grind arith
 
 pub stops_heading : {knows : List ℕ → Type 0} {lines : List ℕ → List Message} {m : Message} {a b : Progress} →
     Stopped a b (m ∷ []) → StoppedOf knows (λ bytes. m ∷ lines bytes) a b
@@ -101,8 +92,7 @@ stops_heading {lines = lines} {m = m} p =
 -- what is to come has changed its form
 pub of_same : (knows : List ℕ → Type 0) (rest rest' all : List ℕ → List Message) (a b : Progress) →
     SaidOf knows rest all a b → ForBytes knows (λ bytes. rest bytes ≡ rest' bytes) → SaidOf knows rest' all a b
-of_same knows rest rest' all a b p e =
-    record { messages = p.messages; right = λ bytes k. rw (e bytes k) at (p.right bytes k); said = p.said }
+of_same knows rest rest' all a b p e = grind arith
 
 -- a part of a phase answered Ok, or a fault
 pub of_part : (knows : List ℕ → Type 0) (rest part rest' all : List ℕ → List Message) (a b c : Progress) →
@@ -119,8 +109,7 @@ part_right : (knows : List ℕ → Type 0) (rest part rest' all more : List ℕ 
     ForBytes knows (λ bytes. rest bytes ≡ part bytes ++ rest' bytes) →
     ForBytes knows (λ bytes. ys ++ more bytes ≡ part bytes) →
     ForBytes knows (λ bytes. (xs ++ ys) ++ (more bytes ++ rest' bytes) ≡ all bytes)
-part_right knows rest part rest' all more xs ys p e q = λ bytes k.
-    grind (arith, append_assoc, p bytes k, q bytes k, e bytes k)
+part_right knows rest part rest' all more xs ys p e q = grind (arith, append_assoc)
 
 pub of_fault : (T E : Type 0) (knows : List ℕ → Type 0) (rest part rest' all : List ℕ → List Message) (a b c : Progress)
     (fault : RunFault) →
@@ -146,8 +135,7 @@ pub of_last : (T : Type 0) (knows : List ℕ → Type 0) (rest part all : List �
     (r : Result T RunFault) →
     SaidOf knows rest all a b → ForBytes knows (λ bytes. rest bytes ≡ part bytes) → PhaseReports knows part b c r →
     PhaseReports knows all a c r
-of_last T knows rest part all a b c (Ok x) p e q =
-    of_part knows rest part (λ bytes. []) all a b c p (λ bytes k. e bytes k ∙ sym (append-nil (part bytes))) q
+of_last T knows rest part all a b c (Ok x) p e q = grind (arith, of_part, append-nil)
 of_last T knows rest part all a b c (Err fault) p e q =
     of_fault T T knows rest part (λ bytes. []) all a b c fault p (λ bytes k. e bytes k ∙ sym (append-nil (part bytes)))
     q
@@ -156,21 +144,12 @@ of_last T knows rest part all a b c (Err fault) p e q =
 said_by : (knows knows' : List ℕ → Type 0) (rest all all' : List ℕ → List Message) (a b : Progress) →
     ForBytes knows' knows → ForBytes knows' (λ bytes. all bytes ≡ all' bytes) → SaidOf knows rest all a b →
     SaidOf knows' rest all' a b
-said_by knows knows' rest all all' a b more e p =
-    record { messages = p.messages; right = λ bytes k. p.right bytes (more bytes k) ∙ e bytes k; said = p.said }
+said_by knows knows' rest all all' a b more e p = grind arith
 
 reports_by : (T : Type 0) (knows knows' : List ℕ → Type 0) (all all' : List ℕ → List Message) (a b : Progress)
     (r : Result T RunFault) → ForBytes knows' knows → ForBytes knows' (λ bytes. all bytes ≡ all' bytes) →
     PhaseReports knows all a b r → PhaseReports knows' all' a b r
-reports_by T knows knows' all all' a b (Ok x) more e p = said_by knows knows' (λ bytes. []) all all' a b more e p
-reports_by T knows knows' all all' a b (Err (Read fault)) more e p =
-    record { rest = p.rest; prefix = said_by knows knows' p.rest all all' a b more e p.prefix }
-reports_by T knows knows' all all' a b (Err (Out fault)) more e p = record {
-  messages = p.messages;
-  rest = p.rest;
-  right = λ bytes k. p.right bytes (more bytes k) ∙ e bytes k;
-  stopped = p.stopped;
-}
+reports_by T knows knows' all all' a b r p1 p2 p3 = grind arith
 
 pub said_knows : (knows knows' : List ℕ → Type 0) (rest all : List ℕ → List Message) (a b : Progress) →
     ForBytes knows' knows → SaidOf knows rest all a b → SaidOf knows' rest all a b

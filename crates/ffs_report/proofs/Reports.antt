@@ -1,4 +1,5 @@
 -- How a report continues. (For the layers above.)
+use Rattle.std.proofs.Common.{arith}
 use Rattle.std.proofs.Common.{◌≡◌, inl, inr, refl, ◌∙◌, sym, ap, List, [], ◌∷◌, ◌++◌, append_assoc}
 use Rattle.std.proofs.Common.{◌||◌, Result, Ok, Err}
 use Rattle.std.proofs.lemmas.List.Concat.{flat_map-append}
@@ -17,13 +18,7 @@ pub said_none : (a : Progress) → Said a a []
 said_none a = record { output = refl; took = took_nil a.sink; failed = refl; defect = sym (or-false a.defect) }
 
 pub said_then : (a b c : Progress) (xs ys : List Message) → Said a b xs → Said b c ys → Said a c (xs ++ ys)
-said_then a b c xs ys p q = record {
-  output = q.output ∙ p.output;
-  took = rw (flat_map-append text_of xs ys) (took_then a.sink b.sink c.sink (texts_of xs) (texts_of ys) p.took q.took);
-  failed = q.failed ∙ p.failed;
-  defect = q.defect ∙ ap (λ d. d || has_defect ys) p.defect ∙ or_assoc a.defect (has_defect xs) (has_defect ys)
-      ∙ ap (λ d. a.defect || d) (sym (has_defect-append xs ys));
-}
+said_then a b c xs ys p q = grind (arith, flat_map-append, took_then, has_defect-append)
 
 pub stopped_after : (a b c : Progress) (xs ys : List Message) → Said a b xs → Stopped b c ys → Stopped a c (xs ++ ys)
 stopped_after a b c xs ys p q = record {
@@ -31,8 +26,7 @@ stopped_after a b c xs ys p q = record {
   lent = q.lent ∙ p.took.lent;
   prefix = texts_of xs ++ q.prefix;
   rest = q.rest;
-  whole = flat_map-append text_of xs ys ∙ ap (λ z. texts_of xs ++ z) q.whole
-      ∙ sym (append_assoc (texts_of xs) q.prefix q.rest);
+  whole = grind (arith, flat_map-append, append_assoc);
   taken = Appends-then a.sink.taken b.sink.taken c.sink.taken (texts_of xs) q.prefix p.took.taken q.taken;
   failed = q.failed;
   cause = elim q.cause [ inl f ↦ inl (sym p.failed ∙ f) | inr r ↦ inr (rw p.took.failures at r) ];
@@ -44,8 +38,7 @@ stopped_more a b xs ys p = record {
   lent = p.lent;
   prefix = p.prefix;
   rest = p.rest ++ texts_of ys;
-  whole = flat_map-append text_of xs ys ∙ ap (λ z. z ++ texts_of ys) p.whole
-      ∙ append_assoc p.prefix p.rest (texts_of ys);
+  whole = grind (arith, flat_map-append, append_assoc);
   taken = p.taken;
   failed = p.failed;
   cause = p.cause;
@@ -54,5 +47,4 @@ stopped_more a b xs ys p = record {
 -- messages that were said, and then the outcome of more
 pub says_then : {T E : Type 0} (a b c : Progress) (xs ys : List Message) (r : Result T E) → Said a b xs → Says b c ys r
     → Says a c (xs ++ ys) r
-says_then a b c xs ys (Ok x) p q = said_then a b c xs ys p q
-says_then a b c xs ys (Err e) p q = stopped_after a b c xs ys p q
+says_then a b c xs ys r p1 p2 = grind (arith, said_then, stopped_after)

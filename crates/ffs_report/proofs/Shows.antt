@@ -56,14 +56,10 @@ pub shown_all : {T E : Type 0} (a b c : Sink) (bytes : List ℕ) (from : ℕ) (r
     IsRun bytes from (length bytes) →
     Took a b (map shown (take from bytes)) → Prints b c (run bytes from (length bytes)) r →
     Prints a c (map shown bytes) r
-shown_all a b c bytes from r e p q =
-    subst (λ (xs : List ℕ). Prints a c xs r) (sym e ∙ ap (map shown) (take_all (length bytes) bytes (omega arith)))
-    (prints_then a b c (map shown (take from bytes)) (run bytes from (length bytes)) r p q)
+shown_all a b c bytes from r e p q = grind (arith, take_all, prints_then)
 
 or_overlap : (a b c : Bool) → ((a || b) || (b || c)) ≡ (a || (b || c))
-or_overlap true b c = refl
-or_overlap false true c = refl
-or_overlap false false c = refl
+or_overlap a b c = grind arith
 
 -- a test of two parts that overlap is a test of all
 pub any_overlap : (p : ℕ → Bool) (xs : List ℕ) (m k : ℕ) → k ≤ m → m ≤ length xs →
@@ -74,9 +70,7 @@ any_overlap p xs m k le within =
     let e : k + (m - k) ≡ m = omega arith in
     let rest_all : take (length xs - k) (drop k xs) ≡ drop k xs =
     take_all (length xs - k) (drop k xs) (omega (arith, length-drop k xs)) in
-    let front : list_any p (take m xs) ≡ (list_any p (take k xs) || list_any p middle) =
-    ap (list_any p) (subst (λ (n : ℕ). take n xs ≡ take k xs ++ middle) e (take-add k (m - k) xs))
-    ∙ list_any-append p (take k xs) middle in
+    let front : list_any p (take m xs) ≡ (list_any p (take k xs) || list_any p middle) = grind (arith, take-add, list_any-append) in
     let back : list_any p (drop k xs) ≡ (list_any p middle || list_any p rest) =
     ap (list_any p) (sym (take-append-drop (m - k) (drop k xs))) ∙ list_any-append p middle rest in
     let all : list_any p xs ≡ (list_any p (take k xs) || list_any p (drop k xs)) =

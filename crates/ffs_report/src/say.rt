@@ -133,6 +133,7 @@ fn print_fault<W: Output>(out: &mut W, fault: SuperFault) -> Result<(), OutFault
 }
 
 #[inline(always)]
+#[tactic(auto, using(crate::proofs::Sinks::printing))]
 fn print_offer<W: Output>(
     out: &mut W,
     fragment: u32,

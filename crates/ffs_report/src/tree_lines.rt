@@ -62,6 +62,7 @@ fn print_inode<W: Output>(
 
 /// Prints the same of an inode that is called a directory or a file.
 #[inline(always)]
+#[tactic(auto, using(crate::proofs::Sinks::printing))]
 fn print_kind<W: Output>(
     out: &mut W,
     head: &[u8],

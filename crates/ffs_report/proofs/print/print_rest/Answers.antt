@@ -3,8 +3,4 @@ use Rattle.ffs_report.proofs.Sinks.{took_more}
 use Rattle.ffs_report.proofs.print.print_rest.Goals as goal
 
 pub loop-at-preserved : goal.loop-at-preserved
-loop-at-preserved g c = record {
-  within = omega (arith, c.in_ok-at.ensures.some);
-  took = took_more _ _ _ c.args.bytes.now c.loop-at.at c.in_ok-at.field-0 c.loop-at.invariant.took
-      c.in_ok-at.ensures.ok;
-}
+loop-at-preserved g c = grind (arith, took_more)

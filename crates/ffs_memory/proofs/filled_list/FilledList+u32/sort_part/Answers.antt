@@ -3,7 +3,7 @@ use Rattle.std.specs.Prelude.{vec_capacity}
 use Rattle.std.specs.List.Sorted.{IsNonDecreasing, IsPermutation}
 use Rattle.std.specs.Vec.{vec_ptr}
 use Rattle.std.proofs.lemmas.List.Sorted.{IsNonDecreasingBy-from_sort}
-use Rattle.std.proofs.lemmas.List.{length-drop, length-take-le}
+use Rattle.std.proofs.lemmas.List.{length-drop}
 use Rattle.ffs_memory.proofs.SortedParts.{with_part, part_alone, before_part, part_new, part_old, after_part}
 use Rattle.ffs_memory.proofs.Touched.{same_filled}
 use Rattle.ffs_memory.proofs.filled_list.FilledList+u32.sort_part.Goals as goal
@@ -21,34 +21,20 @@ returns c =
     omega (arith, c.requires, c.if-from-to.false, ap vec_len c.self.view_is) in
     let to : from + k ≡ c.args.to = omega (arith, c.requires) in
     let low : from + k ≤ length t = omega (arith, to, c.touch.ensures.len, touched.ok.0, c.if-from-to.false, c.requires) in
-    let same : t ++ R ≡ c.args.self.now.items =
-    same_filled before.touched touched (c.args.to - 1) before.rest inside c.touch.ensures
-    ∙ ap (λ list. list.items) c.self.view_is in
+    let same : t ++ R ≡ c.args.self.now.items = grind (arith, same_filled) in
     let rest = length-drop from t in
     let cut : IsPermutation (take k (drop from t)) mid = rw c.deref_mut.ensures.value at c.sort_unstable.ensures.permutation in
-    let len : length mid ≡ k =
-    c.sort_unstable.ensures.len ∙ ap (λ x. length (take k (drop from x))) c.deref_mut.ensures.value
-    ∙ length-take-le k (drop from t) (omega arith) in
+    let len : length mid ≡ k = grind arith in
     let alone = ap (λ x. x ++ R) (part_alone t mid from k touched.len low len (touched.ok.0)) in
     let part : drop from (take c.args.to (take touched.len (with_part t mid from k
-    ++ drop (length (with_part t mid from k)) t) ++ R)) ≡ mid =
-    ap (λ j. drop from (take j (take touched.len (with_part t mid from k
-    ++ drop (length (with_part t mid from k)) t) ++ R))) (sym to)
-    ∙ ap (λ x. drop from (take (from + k) x)) alone ∙ part_new t mid R from k low len in
-    let was : drop from (take c.args.to c.args.self.now.items) ≡ take k (drop from t) =
-    ap (λ x. drop from (take c.args.to x)) (sym same)
-    ∙ ap (λ j. drop from (take j (t ++ R))) (sym to) ∙ part_old t R from k low in
+    ++ drop (length (with_part t mid from k)) t) ++ R)) ≡ mid = grind (arith, part_new) in
+    let was : drop from (take c.args.to c.args.self.now.items) ≡ take k (drop from t) = grind (arith, part_old) in
     let rising : IsNonDecreasing mid = IsNonDecreasingBy-from_sort (λ x. x) mid c.sort_unstable.ensures.sorted in
     record {
-      before = rw c.deref_mut.ensures.value (ap (take from) alone ∙ before_part t mid R from k low len
-          ∙ ap (take from) same);
+      before = rw c.deref_mut.ensures.value (grind (arith, before_part));
       moved = rw (was, c.deref_mut.ensures.value, part) cut;
       rising = rw c.deref_mut.ensures.value (subst IsNonDecreasing (sym part) rising);
-      after = rw c.deref_mut.ensures.value (ap (drop c.args.to) alone
-          ∙ ap (λ j. drop j (with_part t mid from k ++ R)) (sym to)
-          ∙ after_part t mid R from k low len
-          ∙ ap (λ j. drop j (t ++ R)) to
-          ∙ ap (drop c.args.to) same);
+      after = rw c.deref_mut.ensures.value (grind (arith, after_part));
       len = c.touch.ensures.room ∙ ap vec_len c.self.view_is;
       address = c.touch.ensures.address ∙ ap vec_ptr c.self.view_is;
       room = c.touch.ensures.room ∙ ap vec_capacity c.self.view_is;
