@@ -1,7 +1,7 @@
 -- Laws of the areas of an accepted layout.
-use Rattle.std.proofs.Common.{zero, suc, inl, inr, ◌≡◌, ℕ, ◌+◌, ◌-◌, ◌*◌, ◌/◌}
-use Rattle.std.proofs.Common.{◌<◌, ◌≤◌, Bool, true, false, arith, sym, mul-le-mul_right, mul_comm, nat_lt, nat_le, ◌&&◌}
-use Rattle.std.proofs.{Math.Nat.div-eq_of_lt-le, lemmas.Bool.cases_lt, lemmas.Bool.Decides.nat_tests}
+use Rattle.std.proofs.Common.{zero, suc, ◌≡◌, ℕ, ◌+◌, ◌-◌, ◌*◌, ◌/◌}
+use Rattle.std.proofs.Common.{◌<◌, ◌≤◌, Bool, true, false, arith, sym, mul-le-mul_right, nat_lt, nat_le, ◌&&◌}
+use Rattle.std.proofs.{lemmas.Bool.Decides.nat_tests}
 use Rattle.std.{proofs.lemmas.Grind.div_ceil_times, proofs.lemmas.Nat.div_below, specs.Int.div_ceil}
 use Rattle.ffs_volume.specs.Disk.Areas.{cgbase, cgstart, cgsblock, cgdmin, is_group_metadata}
 use Rattle.ffs_volume.{proofs.SearchLaws.some_below-suc, specs.Disk.Outcome.copy_place, specs.Disk.Search.first_below}
@@ -21,8 +21,7 @@ some_below-only (suc n) i test only =
 -- the group of a fragment between a group's base and its end
 pub group_is : (v : Layout) (c f : ℕ) → cgbase v c ≤ f → f < cgbase v (c + 1) → f / v.fpg ≡ c
 unfolding cgbase
-group_is v c f low high = div-eq_of_lt-le {k = c} v.fpg {m = f} (omega (arith, mul_comm c v.fpg))
-    (omega (arith, mul_comm (c + 1) v.fpg))
+group_is v c f low high = grind arith
 
 -- whether f is in the metadata of group c
 abbrev pub is_in_metadata_of : Layout → ℕ → ℕ → Bool
@@ -59,8 +58,4 @@ copy_inside v g =
 
 -- no fragment from size on is a group's metadata
 pub no_metadata_past_size : (v : Layout) (f : ℕ) → IsAcceptedLayout v → v.size ≤ f → is_group_metadata v f ≡ false
-no_metadata_past_size v f g h =
-    rw (is_metadata_of_group v f g) (elim (cases_lt (f / v.fpg) v.ncg) [
-      | inl lt ↦ let past = (g.groups (f / v.fpg) lt).within_size in grind (arith, nat_tests)
-      | inr out ↦ grind (arith, nat_tests)
-    ])
+no_metadata_past_size v f g h = grind (arith, is_metadata_of_group)

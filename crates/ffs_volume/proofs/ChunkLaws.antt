@@ -1,19 +1,16 @@
 -- A directory has no more chunks than the size of it that is read.
 use Rattle.std.proofs.Common.{◌≡◌, ℕ, ◌+◌, ◌-◌, ◌*◌, ◌/◌, ◌≤◌, Bool}
-use Rattle.std.proofs.Common.{arith, ◌∙◌, List, [], ◌∷◌, ◌++◌, length, length-append, Some, None, min, mul-le-mul_right}
+use Rattle.std.proofs.Common.{arith, List, [], ◌∷◌, ◌++◌, length, length-append, Some, None, min, mul-le-mul_right}
 use Rattle.std.proofs.{Math.Nat.mul-div-le, lemmas.Bool.cond_both, lemmas.List.length-map}
-use Rattle.std.{proofs.lemmas.List.FromFn.length-range_with_len, specs.List.range_with_len}
+use Rattle.std.{proofs.lemmas.List.FromFn.length-range_with_len}
 use Rattle.ffs_volume.proofs.StepLaws.{Within}
-use Rattle.ffs_volume.specs.Directories.Entries.{ChunkSource, chunk_of, run_chunks, chunks_of}
-use Rattle.ffs_volume.specs.{Disk.Numbers.piece, declared.Step.Step, declared.Step.TheVariants.Run}
+use Rattle.ffs_volume.specs.Directories.Entries.{ChunkSource, run_chunks, chunks_of}
+use Rattle.ffs_volume.specs.{declared.Step.Step, declared.Step.TheVariants.Run}
 
 -- how many chunks a Run has
 run_length : (r : ChunkSource) (start len offset : ℕ) → length (run_chunks r start len offset)
     ≡ min (len * r.fsize / 512) ((r.taken - offset) / 512)
-run_length r start len offset =
-    length-map (range_with_len 0 (min (len * r.fsize / 512) ((r.taken - offset) / 512)))
-    (λ k. chunk_of r.order (offset + 512 * k) (piece (start * r.fsize + 512 * k) 512 r.image))
-    ∙ length-range_with_len 0 (min (len * r.fsize / 512) ((r.taken - offset) / 512))
+run_length r start len offset = grind (arith, length-map, length-range_with_len)
 
 -- the chunks of steps in the order of their blocks
 pub chunks_few : (r : ChunkSource) (test : ℕ → ℕ → Bool) (frag low high : ℕ) (steps : List Step) →

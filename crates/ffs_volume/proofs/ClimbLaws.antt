@@ -57,10 +57,7 @@ climb-ends f d h zero = h
 climb-ends f d h (suc k) = ap (option_and_then f) (climb-ends f d h k)
 
 pub cycle-next : (f : ℕ → Option ℕ) (d : ℕ) → IsOnCycle f d → (e : ℕ) × (f d ≡ Some e)
-cycle-next f d c =
-    let ends = λ (h : f d ≡ None). climb-ends f d h c.steps_less_one in
-    let returns = c.returns in
-    grind arith
+cycle-next f d c = grind (arith, climb-ends)
 
 pub cycle-goes : (f : ℕ → Option ℕ) (k d : ℕ) → IsOnCycle f d → (e : ℕ) × (climb f k d ≡ Some e)
 cycle-goes f zero d c = (d, climb-zero f d)

@@ -33,10 +33,7 @@ bit_count p (x ∷ xs) =
 
 range_join : (f : ℕ → ℕ) (a m n : ℕ) → sum_by f (range_with_len a (m + n)) ≡ sum_by f (range_with_len a m) + sum_by f
     (range_with_len (a + m) n)
-range_join f a zero n =
-    let q : zero + n ≡ n = omega arith in
-    let r : a + zero ≡ a = omega arith in
-    rw (q, r) (omega arith)
+range_join f a zero n = grind arith
 range_join f a (suc m) n =
     let q : suc m + n ≡ suc (m + n) = omega arith in
     let r : a + suc m ≡ a + 1 + m = omega arith in

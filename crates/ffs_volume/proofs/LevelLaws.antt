@@ -21,9 +21,7 @@ within-more v k d h = let more = within-suc v k d in grind arith
 
 pub within-step : (v : Graph) (k s d : ℕ) → s < v.count → within v k s ≡ true → edge v s d ≡ true →
     within v (suc k) d ≡ true
-within-step v k s d l h e =
-    let edges = some_below-from (λ s. within v k s && edge v s d) v.count s l (and_from (within v k s) (edge v s d) h e) in
-    rw (within-suc v k d, edges) (or_right (within v k d) true refl)
+within-step v k s d l h e = search (arith, some_below-from, and_from, within-suc, or_right)
 
 within-plus : (v : Graph) (i k d : ℕ) → within v k d ≡ true → within v (i + k) d ≡ true
 within-plus v zero k d h = let q : 0 + k ≡ k = omega arith in rw q h
@@ -78,14 +76,11 @@ level-bound v k d l h =
 
 pub level-is : (v : Graph) (k d : ℕ) → d < v.count → IsLevel v k d → level v d ≡ Some k
 unfolding level
-level-is v k d l h = first_below-is (λ j. within v j d) v.count k
-    (record { below = level-bound v k d l h; passes = h.within_k; least = h.least })
+level-is v k d l h = search (arith, first_below-is, level-bound)
 
 pub level-some : (v : Graph) (k d : ℕ) → level v d ≡ Some k → IsLevel v k d × (k < v.count)
 unfolding level
-level-some v k d e =
-    let f = first_below-some (λ j. within v j d) v.count k e in
-    (record { within_k = f.passes; least = f.least }, f.below)
+level-some v k d e = grind (arith, first_below-some)
 
 -- however many edges a walk has, its end is reached
 pub level-from : (v : Graph) (k d : ℕ) → d < v.count → within v k d ≡ true → (j : ℕ) × (j ≤ k) × (level v d ≡ Some j)

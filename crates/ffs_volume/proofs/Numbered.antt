@@ -36,22 +36,17 @@ all_from_root lines (suc (suc n)) zeroth first =
 lines_next : (lines : ℕ → List TreeMessage) (d n : ℕ) → d < n →
     lines_from lines d (n - d) ≡ lines d ++ lines_from lines (d + 1) (n - (d + 1))
 unfolding lines_from
-lines_next lines d n h =
-    let q : n - d ≡ suc (n - (d + 1)) = omega arith in
-    let r : d + 1 ≡ suc d = omega arith in
-    rw (q, r)
+lines_next lines d n h = grind arith
 
 pub from_next : (lines : ℕ → List TreeMessage) (d n : ℕ) → d < n →
     map of_tree (lines_from lines d (n - d)) ≡ map of_tree (lines d)
     ++ map of_tree (lines_from lines (d + 1) (n - (d + 1)))
-from_next lines d n h =
-    rw (lines_next lines d n h) (map-append of_tree (lines d) (lines_from lines (d + 1) (n - (d + 1))))
+from_next lines d n h = grind (arith, lines_next, map-append)
 
 -- how many these are
 pub count_next : (lines : ℕ → List TreeMessage) (d n : ℕ) → d < n →
     length (lines_from lines d (n - d)) ≡ length (lines d) + length (lines_from lines (d + 1) (n - (d + 1)))
-count_next lines d n h =
-    rw (lines_next lines d n h) (length-append (lines d) (lines_from lines (d + 1) (n - (d + 1))))
+count_next lines d n h = grind (arith, lines_next, length-append)
 
 -- at the end there are none
 pub from_end : (lines : ℕ → List TreeMessage) (d n : ℕ) → n ≤ d → map of_tree (lines_from lines d (n - d)) ≡ []

@@ -1,7 +1,8 @@
 -- Kept offers are a prefix of the offers.
+use Rattle.std.proofs.Common.{arith}
 use Rattle.std.proofs.Common.{inl, inr, ◌≡◌, ℕ, ◌+◌, Bool, true, false, refl, List, [], ◌∷◌, ◌++◌, append_assoc}
 use Rattle.std.proofs.Common.{append-nil, nat_lt, ◌==◌, not, if◌then◌else◌, map, eqb-true}
-use Rattle.std.proofs.lemmas.{Bool.cases_Bool, Bool.and_right, Bool.not-true, Bool.not_from_false, List.map-append}
+use Rattle.std.proofs.lemmas.{Bool.cases_Bool, Bool.not-true, List.map-append}
 use Rattle.std.specs.List.{range_with_len}
 use Rattle.ffs_volume.specs.Blocks.Claims.{Claims, is_open, after_offer, after_offers, after_run, after_step, after_steps}
 use Rattle.ffs_volume.specs.Blocks.KeptOffers.{Offer, kept_in_offers, kept_in_run, kept_in_step, kept_in_steps, offer_of}
@@ -56,14 +57,7 @@ offers_first v i s (f ∷ fs) = prefix_then (offer_first v i s f) (offers_first 
 -- an inode whose eleventh dup offer was seen is cut
 cut_then : {i : ℕ} {kept : List Offer} {fs : List ℕ} (s : Claims) → KeptPrefix i kept fs (not (nat_lt s.dups 11)) →
     KeptPrefix i kept fs (not (is_open s))
-cut_then s f = record {
-  rest = f.rest;
-  parts = f.parts;
-  end = elim f.end [
-    | inl none ↦ inl none
-    | inr over ↦ inr (not_from_false _ (and_right (nat_lt s.bad 11) (nat_lt s.dups 11) (not-true _ over)))
-  ];
-}
+cut_then s f = grind arith
 
 run_first : (v : Layout) (i : ℕ) (s : Claims) (start len : ℕ) →
     KeptPrefix i (kept_in_run v i s start len) (range_with_len start len) (not (is_open (after_run v s start len)))

@@ -1,6 +1,6 @@
 -- Laws of `specs/Encodings/Replay`.
 use Rattle.std.proofs.Common.{◌≡◌, ℕ, ◌+◌, ◌-◌, ◌<◌, ◌≤◌, false, arith, refl, ap, List, [], inl}
-use Rattle.std.proofs.Common.{inr, ◌∷◌, ◌++◌, nat_lt, ◌&&◌, ◌==◌, if◌then◌else◌, map}
+use Rattle.std.proofs.Common.{inr, ◌∷◌, ◌++◌, nat_lt, ◌==◌, if◌then◌else◌, map}
 use Rattle.std.proofs.lemmas.{Bool.Decides.nat_tests, Bool.and_right, Bool.cases_Bool, List.FromFn.length-range_with_len}
 use Rattle.std.specs.List.{range_with_len}
 use Rattle.ffs_volume.proofs.{Potentials.cond_holds, Potentials.offers_keep, PrefixLaws.shut_steps}
@@ -58,12 +58,6 @@ full_ends : (v : Layout) (s : Claims) (steps : List Step) → nat_lt s.dups 11 �
     (after_steps v s steps).kept ≡ s.kept
 full_ends v s steps e = ap (λ x. x.kept) (shut_steps v 0 s steps (and_right (nat_lt s.bad 11) (nat_lt s.dups 11) e)).1
 
--- whether a step is seen, by the counts of the state before it and at the end
-seen_is : (bad sk sd ek ed : ℕ) → sd ≤ ed → ed + sk ≤ ek + sd → sd ≤ sk → (nat_lt sd 11 ≡ false → ek ≡ sk)
-    → is_replay_open (if nat_lt ed 11 then 0 else ek) (record { bad = bad; kept = sk })
-    ≡ (nat_lt bad 11 && nat_lt sd 11)
-seen_is bad sk sd ek ed low rise few full = grind (arith, nat_tests)
-
 -- how many offers of a Run are kept, by the counts of the states before it, after it and at the end
 taken_is : (sk tk td ek ed len : ℕ) → sk ≤ tk → tk ≤ sk + len → (td < 11 → tk ≡ sk + len) → tk ≤ ek →
     td ≤ ed → ed + tk ≤ ek + td → td ≤ tk → (nat_lt td 11 ≡ false → ek ≡ tk)
@@ -86,10 +80,7 @@ offers_replay v s t start len steps k d few =
 
 pub seen_replays : (v : Layout) (s : Claims) (steps : List Step) → s.dups ≤ s.kept →
     is_replay_open (cut_of (after_steps v s steps)) (replay_of s) ≡ is_open s
-seen_replays v s steps few =
-    let e = after_steps v s steps in
-    let g = steps_grow v s steps in
-    seen_is s.bad s.kept s.dups e.kept e.dups g.dups_low g.rise few (full_ends v s steps)
+seen_replays v s steps few = grind (arith, steps_grow, full_ends)
 
 -- a Run that is seen does in the replay what it did
 run_replays : (v : Layout) (s : Claims) (start len : ℕ) (steps : List Step) → s.dups ≤ s.kept

@@ -1,11 +1,11 @@
 -- The Runs of data of an inode come in the order of its logical blocks, and each Run has a fragment
 -- at least, and a block's fragments at most.
-use Rattle.std.proofs.Common.{zero, suc, inl, inr, ◌≡◌, ℕ, ◌+◌, ◌-◌, ◌*◌, ◌%◌, ◌<◌, ◌≤◌}
+use Rattle.std.proofs.Common.{zero, suc, ◌≡◌, ℕ, ◌+◌, ◌*◌, ◌%◌, ◌<◌, ◌≤◌}
 use Rattle.std.proofs.Common.{◌==◌, Bool, true, false, arith, refl, List, [], ◌∷◌, ◌++◌, Some, None, nat_lt, nat_eq}
 use Rattle.std.proofs.Common.{◌&&◌, if◌then◌else◌, slice_index, flat_map, mul-le-mul_right, mod-lt, append-nil, All, ◌≢◌}
-use Rattle.std.proofs.lemmas.Bool.{cases_lt, cond_both, eqb-false, Decides.nat_tests}
+use Rattle.std.proofs.lemmas.Bool.{cond_both, eqb-false, Decides.nat_tests}
 use Rattle.std.proofs.lemmas.{Grind.div_ceil_times, List.Elements.All-nil, List.Elements.All-cons}
-use Rattle.std.{proofs.Common.lt_of_mul-lt-mul_right, specs.Int.div_ceil, specs.List.range_with_len}
+use Rattle.std.{specs.Int.div_ceil, specs.List.range_with_len}
 use Rattle.ffs_volume.specs.Blocks.{Inodes.logical_blocks_of, Inodes.addresses_needed, Steps.FileBlocks}
 use Rattle.ffs_volume.specs.Blocks.Steps.{block_bytes, address_at, indirect_addresses_needed, tail_of, any_nonzero_from}
 use Rattle.ffs_volume.specs.Blocks.Steps.{steps_under, data_length, span_of, data_step, indirect_steps}
@@ -135,38 +135,17 @@ at_within t bytes (suc level) address first l =
     (indirect_within t bytes (steps_at t bytes level) (span_of t.layout.nindir level) address first l
     (λ a f. at_within t bytes level a f l))
 
--- where the blocks under an address end, those under the next begin
-pub next_first : (words i : ℕ) → i < 14 → first_block words i + span_of words (indirection_of i)
-    ≡ first_block words (i + 1)
-next_first words i h = elim (cases_lt i 12) [
-  | inl low ↦
-      let z : i - 11 ≡ 0 = omega arith in
-      let a : nat_lt i 13 ≡ true = grind (arith, nat_tests) in
-      let b : nat_lt (i + 1) 13 ≡ true = grind (arith, nat_tests) in
-      rw (z, a, b)
-  | inr high ↦ elim (cases_lt i 13) [
-    | inl twelve ↦ let e : i ≡ 12 = omega arith in rw e
-    | inr thirteen ↦ let e : i ≡ 13 = omega arith in rw e
-  ]
-]
-
 -- where the blocks under each of the fifteen addresses begin, and after them where the last ones end
 abbrev first_or_end : ℕ → ℕ → ℕ
 first_or_end words i =
     if i == 15 then first_block words 14 + span_of words (indirection_of 14) else first_block words i
 
 next_or_end : (words i : ℕ) → i < 15 → first_block words i + span_of words (indirection_of i) ≡ first_or_end words (i + 1)
-next_or_end words i h = elim (cases_lt i 14) [
-  | inl low ↦ let a : (i + 1 == 15) ≡ false = grind (arith, nat_tests) in rw a (next_first words i low)
-  | inr high ↦ let e : i ≡ 14 = omega arith in rw e
-]
+next_or_end words i h = grind (arith, nat_tests)
 
 -- how many units cover n, which is some and less than `frag` of them
 ceil_fits : (n k frag unit : ℕ) → 0 < n → n ≤ k * unit → k * unit < n + unit → n < frag * unit → (0 < k) × (k ≤ frag)
-ceil_fits n k frag unit some low high less =
-    let a : 0 < k = lt_of_mul-lt-mul_right unit {m = 0} {n = k} (omega arith) in
-    let b : k < frag + 1 = lt_of_mul-lt-mul_right unit {m = k} {n = frag + 1} (omega arith) in
-    omega arith
+ceil_fits n k frag unit some low high less = grind arith
 
 last_fits : (v : Layout) (i : Inode) → IsAcceptedLayout v → (0 < last_length_of v i) × (last_length_of v i ≤ v.frag)
 last_fits v i g =
