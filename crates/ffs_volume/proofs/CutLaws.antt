@@ -20,11 +20,9 @@ kept_few : (v : Layout) (image : List ℕ) (x : ℕ) → IsAcceptedLayout v
     → (after_steps v (at_next_inode (claims_before v image x)) (steps_of v (inode_of v image x) image)).kept < 2 ^ 32
 unfolding owner_of
 kept_few v image x g =
-    let s = at_next_inode (claims_before v image x) in
-    let e = after_steps v s (steps_of v (inode_of v image x) image) in
     let h = before_length v image x g in
     let m = owner_moves v image (claims_before v image x) x g h in
-    omega (arith, kept_bound s e v.size (m.used_length ∙ h) (omega arith) (omega arith) refl m, g.numbers.size_below)
+    omega (arith, kept_bound _ _ v.size (m.used_length ∙ h) (omega arith) (omega arith) refl m, g.numbers.size_below)
 
 -- so the cut in 32 bits is the cut
 pub cut_is : (v : Layout) (image : List ℕ) (x : ℕ) → IsAcceptedLayout v → is_inode_number v x ≡ true

@@ -16,10 +16,7 @@ below_and_from lines (suc k) d =
 -- of all numbers
 pub all_from : (lines : ℕ → List TreeMessage) (n : ℕ) → lines_below lines n ≡ lines_from lines 0 (n - 0)
 unfolding lines_below
-all_from lines n =
-    let q : 0 + n ≡ n = omega arith in
-    let r : n - 0 ≡ n = omega arith in
-    rw r (rw q at (below_and_from lines n 0))
+all_from lines n = let q : 0 + n ≡ n = omega arith in grind (arith, below_and_from)
 
 -- of numbers from 2 on, where those below it have no line
 pub all_from_root : (lines : ℕ → List TreeMessage) (n : ℕ) → lines 0 ≡ [] → lines 1 ≡ [] →
@@ -27,10 +24,7 @@ pub all_from_root : (lines : ℕ → List TreeMessage) (n : ℕ) → lines 0 ≡
 unfolding lines_below lines_from
 all_from_root lines zero zeroth first = refl
 all_from_root lines (suc zero) zeroth first = zeroth
-all_from_root lines (suc (suc n)) zeroth first =
-    let q : 2 + n ≡ suc (suc n) = omega arith in
-    let r : suc (suc n) - 2 ≡ n = omega arith in
-    rw r (rw (zeroth, first, q) at (below_and_from lines n 2))
+all_from_root lines (suc (suc n)) zeroth first = let k = below_and_from lines n 2 in grind arith
 
 -- the next number's lines
 lines_next : (lines : ℕ → List TreeMessage) (d n : ℕ) → d < n →

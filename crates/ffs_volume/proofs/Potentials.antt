@@ -1,7 +1,7 @@
 -- What the Runs that are seen and the offers that are kept use up, over the steps of an inode.
-use Rattle.std.proofs.Common.{◌≡◌, ℕ, ◌+◌, ◌<◌, ◌≤◌, Bool, true, false, ◌==◌, if◌then◌else◌, nat_lt, List, [], ◌∷◌}
+use Rattle.std.proofs.Common.{◌≡◌, ℕ, ◌+◌, ◌<◌, ◌≤◌, Bool, true, false, if◌then◌else◌, nat_lt, List, [], ◌∷◌}
 use Rattle.std.proofs.Common.{length, suc, count_by, arith, ◌∙◌, slice_set, length-set, slice_index, slice_index_or}
-use Rattle.std.proofs.{Common.ltb-true, Common.All, lemmas.Bool.and_parts}
+use Rattle.std.proofs.{Common.All, lemmas.Bool.and_parts}
 use Rattle.std.proofs.lemmas.{Bool.cond_both, Bool.Decides.nat_tests, List.Elements.All-head, List.Elements.All-tail}
 use Rattle.std.proofs.lemmas.List.{FromFn.length-range_with_len, FromFn.get_or-range_with_len, Sums.count_by-le-length}
 use Rattle.std.{proofs.lemmas.List.Sums.sum_by-set, specs.List.range_with_len}
@@ -83,24 +83,13 @@ run_moves : (v : Layout) (s : Claims) (start len : ℕ) → length s.used ≡ v.
     nat_lt s.bad 11 ≡ true → nat_lt s.dups 11 ≡ true →
     ClaimBound s (after_run v s start len)
 run_moves v s start len h some small few more_dups =
-    let few_bad = ltb-true s.bad 11 few in
-    let few_dups = ltb-true s.dups 11 more_dups in
-    let long = length-range_with_len start len in
-    cond_holds (ClaimBound s) (is_run_in_range v start len) _ _
-    (λ fits.
     let seen : Claims = record s { runs = s.runs + 1 } in
+    let bad : Claims = record s { runs = s.runs + 1; bad = s.bad + 1 } in
     let keep = offers_keep v seen (range_with_len start len) in
-    let first = keep.first few_dups (omega arith) in
-    let level = (offers_raise v seen (range_with_len start len) h).1 (λ k lt.
-    rw (get_or-range_with_len start len k 0 (omega arith)) (each_ok v start len k fits (omega arith))) in
-    omega arith)
-    (λ _. cond_holds (ClaimBound s) (s.bad == 10) _ _
-    (λ _. omega arith)
-    (λ _.
-    let seen : Claims = record s { runs = s.runs + 1; bad = s.bad + 1 } in
-    let keep = offers_keep v seen (range_with_len start len) in
-    let raise = (offers_raise v seen (range_with_len start len) h).0 in
-    omega arith))
+    let keep_bad = offers_keep v bad (range_with_len start len) in
+    let raise = offers_raise v seen (range_with_len start len) h in
+    let raise_bad = (offers_raise v bad (range_with_len start len) h).0 in
+    grind (arith, nat_tests, length-range_with_len, get_or-range_with_len, each_ok)
 
 pub step_moves : (v : Layout) (s : Claims) (step : Step) → length s.used ≡ v.size → v.frag ≤ 8 → HasLength v.frag step →
     ClaimBound s (after_step v s step)
@@ -117,8 +106,8 @@ pub steps_move : (v : Layout) (s : Claims) (steps : List Step) → length s.used
 steps_move v s [] h small long = stays s
 steps_move v s (step ∷ steps) h small long =
     let one = step_moves v s step h small (All-head (HasLength v.frag) step steps long) in
-    moves_then s (after_step v s step) (after_steps v (after_step v s step) steps) one
-    (steps_move v (after_step v s step) steps (one.used_length ∙ h) small (All-tail (HasLength v.frag) step steps long))
+    let more = steps_move v (after_step v s step) steps (one.used_length ∙ h) small (All-tail (HasLength v.frag) step steps long) in
+    omega arith
 
 -- the steps of an inode
 pub owner_moves : (v : Layout) (image : List ℕ) (s : Claims) (x : ℕ) → IsAcceptedLayout v → length s.used ≡ v.size →

@@ -16,10 +16,8 @@ pub inodes_move : (v : Layout) (image : List ℕ) (s : Claims) (xs : List ℕ) �
 inodes_move v image s [] g h = (omega arith, h)
 inodes_move v image s (x ∷ xs) g h =
     let one = owner_moves v image s x g h in
-    let more = inodes_move v image (after_owner v s (owner_of v image x)) xs g (one.used_length ∙ h) in
-    omega arith
+    omega (arith, inodes_move v image (after_owner v s (owner_of v image x)) xs g (one.used_length ∙ h))
 
 pub runs_bounded : (v : Layout) (image : List ℕ) → IsAcceptedLayout v → run_count v image ≤ runs_limit v
 unfolding run_count owners_of no_claims reserved_map
-runs_bounded v image g =
-    grind (arith, inodes_move, length-map-range_with_len, length-range_with_len, count_by-le-length)
+runs_bounded v image g = grind (arith, inodes_move, length-map-range_with_len, length-range_with_len, count_by-le-length)
