@@ -57,9 +57,6 @@ within_long frag low high (Run start len None ∷ xs) w =
     All-cons (HasLength frag) (Run start len None) xs w.0 (within_long frag low high xs w.1)
 within_long frag low high (step ∷ xs) w = All-cons (HasLength frag) step xs tt (within_long frag low high xs w)
 
-pub one_more : (a b : ℕ) → (a + 1) * b ≡ a * b + b
-one_more a b = grind arith
-
 -- the last block has a fragment at least, and a block's fragments at most
 abbrev IsFit : FileBlocks → Type 0
 IsFit t = (0 < t.last_length) × (t.last_length ≤ t.layout.frag)
