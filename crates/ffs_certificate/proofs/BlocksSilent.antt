@@ -1,11 +1,11 @@
 -- Phases 1 and 1b report nothing exactly where every fragment has one owner at most.
 use Rattle.std.proofs.Common.{inl, inr, ◌≡◌, ℕ, ◌+◌, ◌<◌, ◌≤◌, Bool, true, false, cond, arith, refl, sym, ap, ◌∙◌, List}
 use Rattle.std.proofs.Common.{[], ◌∷◌, length, nat_lt, ◌==◌, not, slice_set, ◌++◌, ◌↔◌, ◌&&◌, replicate}
-use Rattle.std.proofs.lemmas.Bool.{and_parts, eq-eqb, ne_eqb, ltb-true, and_from, cases_lt, Decides.nat_tests}
+use Rattle.std.proofs.lemmas.Bool.{and_parts, eq-eqb, ltb-true, cases_lt, Decides.nat_tests}
 use Rattle.std.proofs.lemmas.List.{get_or-set_same, get_or-set_other, length-set, length-replicate, get_or-replicate}
 use Rattle.std.proofs.lemmas.List.{FromFn.{get_or-map-range_with_len, length-map-range_with_len}, get_or_past}
-use Rattle.std.{proofs.lemmas.List.{Sums.sum_by-cons, Folds.list_all-append}, specs.List.{list_all, range_with_len}}
-use Rattle.ffs_volume.specs.declared.{Step.{TheVariants.{Run, Tail, Gap}, Step}, Layout.Layout}
+use Rattle.std.{proofs.lemmas.List.{Sums.sum_by-cons, Folds.list_all-append}, specs.List.{list_all}}
+use Rattle.ffs_volume.specs.declared.{Step.{Step}, Layout.Layout}
 use Rattle.ffs_volume.specs.Blocks.{BlockCheck.{first_offer_lines, phase1_lines, phase1b_lines}, Claims.is_set}
 use Rattle.ffs_volume.specs.Blocks.{Claims.{reserved_map, no_claims}, Owners.{Owner, fragments_of, all_steps}}
 use Rattle.ffs_volume.specs.{Blocks.KeptOffers.Offer, Consistent.BlocksRight.{times, is_step_in_range, BlocksRight}}
@@ -38,11 +38,9 @@ pub fresh_new : (used : List Bool) (fs : List ℕ) → are_below (length used) f
     IsNew used fs
 fresh_new used [] below e = λ f. omega (arith, bit_small (is_set used f))
 fresh_new used (g ∷ fs) below e =
-    let a = and_parts (nat_lt g (length used)) (are_below (length used) fs) below in
-    let b = and_parts (not (is_set used g)) (fresh (slice_set used g true) fs) e in
-    let free : is_set used g ≡ false = grind (arith, nat_tests) in
-    let rest = fresh_new (slice_set used g true) fs (ap (λ n. are_below n fs) (length-set used g true) ∙ a.1) b.1 in
-    λ f. omega (arith, rest f, times_cons f g fs, bit_set used g f (ltb-true g (length used) a.0) free)
+    let rest = fresh_new (slice_set used g true) fs (grind (arith, length-set)) (grind arith) in
+    λ f. let here = bit_set used g f (grind (arith, nat_tests)) (grind (arith, nat_tests)) in
+    omega (arith, rest f, times_cons f g fs)
 
 pub new_fresh : (used : List Bool) (fs : List ℕ) → are_below (length used) fs ≡ true → IsNew used fs →
     fresh used fs ≡ true
@@ -76,13 +74,7 @@ marked_bit used (g ∷ fs) below e f =
 -- no number from n on is in a list of numbers below n
 pub times_past : (n f : ℕ) (fs : List ℕ) → are_below n fs ≡ true → n ≤ f → times f fs ≡ 0
 times_past n f [] below le = refl
-times_past n f (g ∷ fs) below le =
-    let a = and_parts (nat_lt g n) (are_below n fs) below in
-    let lt = ltb-true g n a.0 in
-    let rest = times_past n f fs a.1 le in
-    let more = times_cons f g fs in
-    let off : bit (g == f) ≡ 0 = ap bit (ne_eqb g f (λ e. omega arith)) in
-    omega arith
+times_past n f (g ∷ fs) below le = let rest = times_past n f fs in grind (arith, nat_tests, times_cons)
 
 pub nil_is : {X : Type 0} (xs : List X) → is_nil xs ≡ true → xs ≡ []
 nil_is xs h = grind arith
@@ -90,20 +82,13 @@ nil_is xs h = grind arith
 in_range_below : (v : Layout) (fs : List ℕ) → list_all (is_fragment_in_range v) fs ≡ true → are_below v.size fs ≡ true
 unfolding is_fragment_in_range
 in_range_below v [] e = refl
-in_range_below v (f ∷ fs) e =
-    let a = and_parts (is_fragment_in_range v f) (list_all (is_fragment_in_range v) fs) e in
-    and_from (nat_lt f v.size) _ (and_parts (nat_lt f v.size) _ a.0).0 (in_range_below v fs a.1)
+in_range_below v (f ∷ fs) e = let rest = in_range_below v fs in grind arith
 
 -- the fragments of Runs in range are below the size
 pub runs_below : (v : Layout) (steps : List Step) → list_all (is_step_in_range v) steps ≡ true →
     are_below v.size (fragments_of steps) ≡ true
 runs_below v [] e = refl
-runs_below v (Run start len block ∷ steps) e =
-    let a = and_parts (is_step_in_range v (Run start len block)) (list_all (is_step_in_range v) steps) e in
-    list_all-append (λ f. nat_lt f v.size) (range_with_len start len) (fragments_of steps)
-    ∙ and_from _ _ (in_range_below v (range_with_len start len) (run_ok v start len a.0)) (runs_below v steps a.1)
-runs_below v (Tail ∷ steps) e = runs_below v steps e
-runs_below v (Gap ∷ steps) e = runs_below v steps e
+runs_below v (step ∷ steps) e = let rest = runs_below v steps in grind (arith, list_all-append, in_range_below, run_ok)
 
 pub reserved_length : (v : Layout) → length (reserved_map v) ≡ v.size
 unfolding reserved_map

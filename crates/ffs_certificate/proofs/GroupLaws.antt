@@ -1,13 +1,14 @@
 -- Phase 5 reports nothing exactly where all groups are right.
-use Rattle.std.proofs.Common.{zero, suc, inl, inr, ◌≡◌, ℕ, ◌+◌, ◌<◌, ◌≤◌, Bool, true, false, arith, refl, sym, ap}
-use Rattle.std.proofs.Common.{subst, ◌∙◌, List, [], ◌∷◌, ◌++◌, ◌↔◌, nat_lt, ◌&&◌, ◌||◌, ◌==◌, if◌then◌else◌, ℤ}
-use Rattle.std.{proofs.{Math.Path.fun_ext, lemmas.Bool.{and_parts, and_from, cases_eq}}, specs.List.list_all}
+use Rattle.std.proofs.lemmas.Bool.Decides.{nat_tests}
+use Rattle.std.proofs.Common.{zero, suc, ◌≡◌, ℕ, ◌+◌, ◌<◌, ◌≤◌, Bool, true, false, arith, refl, sym, ap}
+use Rattle.std.proofs.Common.{subst, ◌∙◌, List, [], ◌∷◌, ◌++◌, ◌↔◌, ◌&&◌, ◌==◌, if◌then◌else◌, ℤ}
+use Rattle.std.{proofs.{Math.Path.fun_ext, lemmas.Bool.{and_parts, and_from}}, specs.List.list_all}
 use Rattle.std.specs.List.{list_any, flat_map, range_with_len}
 use Rattle.ffs_volume.specs.declared.BlockMessage.TheVariants.{GroupMagic, FreeCounts, MapsWrong}
 use Rattle.ffs_volume.specs.declared.{BlockMessage.{TheVariants.GroupSums, BlockMessage}, Class.Class, Layout.Layout}
-use Rattle.ffs_volume.specs.Blocks.{Claims.{is_set, reserved_map, no_claims, after_owners}, Owners.Owner}
+use Rattle.ffs_volume.specs.Blocks.{Claims.{reserved_map, no_claims}, Owners.Owner}
 use Rattle.ffs_volume.specs.Blocks.{Owners.{fragments_of, all_steps}, BlockCheck.{phase1_lines, phase1b_lines}}
-use Rattle.ffs_volume.specs.{Disk.Areas.is_reserved, Consistent.BlocksRight.{times, BlocksRight}}
+use Rattle.ffs_volume.specs.{Consistent.BlocksRight.{times, BlocksRight}}
 use Rattle.ffs_volume.specs.Groups.Records.{group_block, summary_record, group_numbers, has_right_magic, maps_fit}
 use Rattle.ffs_volume.specs.Groups.Records.{has_right_maps, has_right_sums, has_right_record, has_right_totals}
 use Rattle.ffs_volume.specs.Groups.{Records.{IsGroupRight, AreGroupsRight}, GroupCheck.{unless, group_lines}}
@@ -15,7 +16,7 @@ use Rattle.ffs_volume.specs.Groups.GroupCheck.{all_group_lines, reported_once, u
 use Rattle.ffs_volume.specs.Groups.GroupCheck.{is_free_of_kept, is_free_of_runs}
 use Rattle.ffs_certificate.proofs.BlocksSilent.{nil_is, right_quiet, runs_below, reserved_length, reserved_bit, bit}
 use Rattle.ffs_certificate.proofs.{BlocksSilent.{times_cons, marked_bit, blocks_silent}, BlockLaws.{is_nil, nil_append}}
-use Rattle.ffs_certificate.proofs.BlockLaws.{mark, owners_claim, owners_from, Quiet}
+use Rattle.ffs_certificate.proofs.BlockLaws.{owners_claim, owners_from}
 
 nil_flat : {X Y : Type 0} (f : X → List Y) (xs : List X) → is_nil (flat_map f xs) ≡ list_all (λ x. is_nil (f x)) xs
 nil_flat f [] = refl
@@ -24,12 +25,7 @@ nil_flat f (x ∷ xs) = nil_append (f x) (flat_map f xs) ∙ ap (λ b. is_nil (f
 -- all numbers of a range pass
 pub all_at : (p : ℕ → Bool) (a n c : ℕ) → list_all p (range_with_len a n) ≡ true → a ≤ c → c < a + n → p c ≡ true
 all_at p a zero c e low high = absurd (omega arith)
-all_at p a (suc n) c e low high =
-    let parts = and_parts (p a) (list_all p (range_with_len (a + 1) n)) e in
-    elim (cases_eq a c) [
-      | inl same ↦ subst (λ k. p k ≡ true) same parts.0
-      | inr other ↦ all_at p (a + 1) n c parts.1 (omega arith) (omega arith)
-    ]
+all_at p a (suc n) c e low high = let more = all_at p (a + 1) n c in grind arith
 
 all_from : (p : ℕ → Bool) (a n : ℕ) → ((c : ℕ) → a ≤ c → c < a + n → p c ≡ true) → list_all p (range_with_len a n)
     ≡ true
@@ -114,43 +110,17 @@ any_times f (g ∷ fs) e = one (g == f) refl (any_times f fs)
 
 none_times : (f : ℕ) (fs : List ℕ) → list_any (λ g. g == f) fs ≡ false → times f fs ≡ 0
 none_times f [] e = refl
-none_times f (g ∷ fs) e = one (g == f) refl (none_times f fs)
-  where
-    one : (b : Bool) → (g == f) ≡ b → (list_any (λ h. h == f) fs ≡ false → times f fs ≡ 0) → times f (g ∷ fs) ≡ 0
-    one true q rest = absurd (grind (arith, q, e))
-    one false q rest = grind arith
-
-bit_one : (b : Bool) → bit b ≡ 1 → b ≡ true
-bit_one b h = grind arith
+none_times f (g ∷ fs) e = let more = none_times f fs in grind (arith, times_cons)
 
 -- where no block is reported, the fragments of kept offers are those of all Runs
 pub same_free : (v : Layout) (os : List Owner) → BlocksRight v os → is_free_of_kept v os ≡ is_free_of_runs v os
 unfolding no_claims
-same_free v os r = fun_ext (λ f. one f (nat_lt f v.size) refl)
-  where
-    quiet : Quiet v (reserved_map v) os
-    quiet = right_quiet v os r
-
-    used_is : (after_owners v (no_claims v) os).used ≡ mark (reserved_map v) (fragments_of (all_steps os))
-    used_is = (owners_claim v (no_claims v) os (owners_from v (reserved_map v) os quiet)).0
-
-    set_bit : (f : ℕ) → bit (is_set (after_owners v (no_claims v) os).used f) ≡ times f (fragments_of (all_steps os))
-        + bit (is_set (reserved_map v) f)
-    set_bit f = grind (arith, reserved_length, used_is, marked_bit, runs_below, quiet)
-
-    held : (f : ℕ) → nat_lt f v.size ≡ true → (a : Bool) → is_reserved v f ≡ a → bit (is_set (reserved_map v) f) ≡ bit a
-    held f low a ea = ap bit (reserved_bit v f ∙ rw (low, ea) refl)
-
-    two : (f : ℕ) → nat_lt f v.size ≡ true → (a : Bool) → is_reserved v f ≡ a → (b : Bool) →
-        list_any (λ g. g == f) (fragments_of (all_steps os)) ≡ b →
-        is_set (after_owners v (no_claims v) os).used f ≡ (a || b)
-    two f low true ea b eb = bit_one _ (omega (arith, set_bit f, held f low true ea, r.runs.unreserved f ea))
-    two f low false ea true eb = grind (arith, set_bit, any_times)
-    two f low false ea false eb = grind (arith, set_bit, held, none_times)
-
-    one : (f : ℕ) (low : Bool) → nat_lt f v.size ≡ low → is_free_of_kept v os f ≡ is_free_of_runs v os f
-    one f false e = rw e refl
-    one f true e = grind (arith, two)
+same_free v os r = fun_ext (λ f.
+    let quiet = right_quiet v os r in
+    let used = owners_claim v (no_claims v) os (owners_from v (reserved_map v) os quiet) in
+    let set = marked_bit (reserved_map v) (fragments_of (all_steps os)) in
+    let alone = r.runs.unreserved f in
+    grind (arith, nat_tests, reserved_length, runs_below, reserved_bit, any_times, none_times))
 
 -- the lines of the blocks and of the groups, together
 abbrev pub block_and_group_lines : Layout → List ℕ → List ℤ → List Owner → (ℕ → Class) → List BlockMessage

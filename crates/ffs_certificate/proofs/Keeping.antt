@@ -1,10 +1,10 @@
 -- The fold over steps keeps what the rule keeps.
 use Rattle.std.proofs.Common.{zero, suc, inl, inr, ◌≡◌, ◌⊎◌, ℕ, ◌+◌, ◌-◌, ◌*◌, ◌<◌, ◌≤◌, Bool, true, false, cond, arith}
 use Rattle.std.proofs.Common.{refl, sym, ap, subst, ◌∙◌, List, [], ◌∷◌, ◌++◌, length, append_assoc, count_by, nat_lt}
-use Rattle.std.proofs.{Common.{nat_le, min, ◌&&◌, ◌||◌, ◌==◌, slice_set, if◌then◌else◌, map}, lemmas.Bool.and_parts}
-use Rattle.std.proofs.lemmas.Bool.{and_from, both_ways, eq-eqb, ne_eqb, eqb-true, eqb-false, ltb-true, ltb-false}
-use Rattle.std.proofs.lemmas.{Bool.{le-leb, lt-ltb, Decides.nat_tests}, List.{get_or-set_same, get_or-set_other}}
-use Rattle.std.{proofs.{lemmas.List.{length-set, Sums.sum_by-cons}, Math.Bool.and-false}, specs.List.list_all}
+use Rattle.std.proofs.{Common.{nat_le, min, ◌&&◌, ◌||◌, ◌==◌, slice_set, if◌then◌else◌, map}}
+use Rattle.std.proofs.lemmas.Bool.{eq-eqb, ltb-true, ltb-false}
+use Rattle.std.proofs.lemmas.{Bool.{le-leb, Decides.nat_tests}, List.{get_or-set_same, get_or-set_other}}
+use Rattle.std.{proofs.{lemmas.List.{length-set, Sums.sum_by-cons}}, specs.List.list_all}
 use Rattle.std.specs.List.{range_with_len}
 use Rattle.ffs_volume.specs.declared.{Step.{TheVariants.{Run, Tail, Gap}, Step}, Layout.Layout}
 use Rattle.ffs_volume.specs.{Disk.Areas.{is_fragment_in_range, is_run_in_range, is_reserved}, Blocks.Owners.Owner}
@@ -183,26 +183,13 @@ shut_closed i b b' e q le = grind arith
 closed_tied : (v : Layout) (i b : ℕ) (s : Claims) (e : List OfferVerdict) (fs : List ℕ) → is_open s ≡ false →
     Closed i b e → Held v i s.used s.kept e →
     Tie v i b s (verdicts v e (map (counted_offer i b) fs)) × ([] ≡ kept_by_rule v e (map (counted_offer i b) fs))
-closed_tied v i b s e fs shut c h =
-    let done = skip_offers v i b s e fs c h in (
-      record {
-        held = done.0;
-        ready = shut ∙ sym (closed_test i b (verdicts v e (map (counted_offer i b) fs)) done.1);
-        same = λ q. absurd (both_ways (is_open s) shut q);
-      },
-      sym done.2,
-    )
+closed_tied v i b s e fs shut c h = let done = skip_offers v i b s e fs c h in grind (arith, closed_test)
 
 open_tied : (v : Layout) (i b : ℕ) (s : Claims) (e : List OfferVerdict) (fs : List ℕ) → b ≤ 10 → s.bad ≡ b →
     OfferTie v i s e →
     Tie v i b (after_offers v s fs) (verdicts v e (map (counted_offer i b) fs))
     × (kept_in_offers v i s fs ≡ kept_by_rule v e (map (counted_offer i b) fs))
-open_tied v i b s e fs few same t =
-    let done = offers_tied v i b s e fs few t in
-    (ready (after_offers v s fs) (verdicts v e (map (counted_offer i b) fs)) (offers_bad v s fs ∙ same) done.0, done.1)
-  where
-    ready : (s : Claims) (e : List OfferVerdict) → s.bad ≡ b → OfferTie v i s e → Tie v i b s e
-    ready s e q t = grind arith
+open_tied v i b s e fs few same t = let done = offers_tied v i b s e fs few t in grind (arith, offers_bad)
 
 abbrev StepTied : Layout → ℕ → ℕ → Claims → List OfferVerdict → Step → Type 0
 StepTied v i b s e step = Tie v i (bad_runs_after v b step) (after_step v s step)
@@ -217,37 +204,18 @@ step_tied v i b s e (Run start len block) t = one (is_open s) refl (is_run_in_ra
     fs : List ℕ
     fs = range_with_len start len
 
+    bad : Claims
+    bad = record s { runs = s.runs + 1; bad = s.bad + 1 }
+
     one : (o : Bool) → is_open s ≡ o → (r : Bool) → is_run_in_range v start len ≡ r →
         StepTied v i b s e (Run start len block)
-    one false q true qr =
-        rw (q, qr) (closed_tied v i b s e (range_with_len start len) q
-        (shut_closed i b b e (sym t.ready ∙ q) (omega arith)) t.held)
-    one false q false qr =
-        rw (q, qr) (closed_tied v i (b + 1) s e (range_with_len start len) q
-        (shut_closed i b (b + 1) e (sym t.ready ∙ q) (omega arith)) t.held)
-    one true q true qr =
-        let same = t.same q in
-        let lows = and_parts (nat_lt s.bad 11) (nat_lt s.dups 11) q in
-        let low = ltb-true s.bad 11 lows.0 in
-        let high = ltb-true s.dups 11 lows.1 in
-        rw (q, qr) (open_tied v i b (record s { runs = s.runs + 1 }) e (range_with_len start len)
-        (omega (arith, same.0)) same.0 (record { held = t.held; capped = omega (arith, same.1) }))
-    one true q false qr = two (s.bad == 10) refl
-      where
-        two : (z : Bool) → (s.bad == 10) ≡ z → StepTied v i b s e (Run start len block)
-        two true qz =
-            let ten = eqb-true s.bad 10 qz in
-            rw (q, qr, qz) (closed_tied v i (b + 1) (record s { runs = s.runs + 1; bad = s.bad + 1 }) e
-            (range_with_len start len) (rw ten refl) (inl (omega (arith, (t.same q).0))) t.held)
-        two false qz =
-            let same = t.same q in
-            let lows = and_parts (nat_lt s.bad 11) (nat_lt s.dups 11) q in
-            let low = ltb-true s.bad 11 lows.0 in
-            let high = ltb-true s.dups 11 lows.1 in
-            let other = eqb-false s.bad 10 qz in
-            rw (q, qr, qz) (open_tied v i (b + 1) (record s { runs = s.runs + 1; bad = s.bad + 1 }) e
-            (range_with_len start len) (omega (arith, same.0)) (omega (arith, same.0))
-            (record { held = t.held; capped = omega (arith, same.1) }))
+    one false q true qr = let done = closed_tied v i b s e fs in grind (arith, shut_closed)
+    one false q false qr = let done = closed_tied v i (b + 1) s e fs in grind (arith, shut_closed)
+    one true q true qr = let done = open_tied v i b (record s { runs = s.runs + 1 }) e fs in grind (arith, nat_tests)
+    one true q false qr =
+        let full = closed_tied v i (b + 1) bad e fs in
+        let open_bad = open_tied v i (b + 1) bad e fs in
+        grind (arith, nat_tests)
 
 -- how many bad Runs some steps have, where `bad_runs` are before
 abbrev bads_of : Layout → ℕ → List Step → ℕ
@@ -260,13 +228,8 @@ steps_tied : (v : Layout) (i b : ℕ) (s : Claims) (e : List OfferVerdict) (step
 steps_tied v i b s e [] t = (t, refl)
 steps_tied v i b s e (step ∷ steps) t =
     let one = step_tied v i b s e step t in
-    let rest = steps_tied v i (bad_runs_after v b step) (after_step v s step) (verdicts v e (step_offers v i b step))
-    steps one.0 in
-    let more = offers_of_steps v i (bad_runs_after v b step) steps in (
-      rw (verdicts-append v e (step_offers v i b step) (offers_of_steps v i (bad_runs_after v b step) steps)) rest.0,
-      rw (kept_append v e (step_offers v i b step) (offers_of_steps v i (bad_runs_after v b step) steps), one.1, rest.1)
-          refl,
-    )
+    let rest = steps_tied v i (bad_runs_after v b step) (after_step v s step) (verdicts v e (step_offers v i b step)) steps in
+    grind (arith, verdicts-append, kept_append)
 
 -- the fold between inodes, and what was judged
 record Agrees (v : Layout) (s : Claims) (e : List OfferVerdict) : Type 0 where
@@ -278,21 +241,11 @@ are_before n e = list_all (λ j. nat_lt j.inode n) e
 
 none_before : (n : ℕ) (e : List OfferVerdict) → are_before n e ≡ true → (dups_of e n ≡ 0) × (kept_of e n ≡ 0)
 none_before n [] h = (refl, refl)
-none_before n (j ∷ e) h =
-    let parts = and_parts (nat_lt j.inode n) (are_before n e) h in
-    let lt = ltb-true j.inode n parts.0 in
-    let other : (j.inode == n) ≡ false = ne_eqb j.inode n (λ q. omega arith) in
-    let rest = none_before n e parts.1 in (
-      dups_cons j e n ∙ rw (other, rest.0, and-false j.dup) refl,
-      kept_cons j e n ∙ rw (other, rest.1, and-false j.kept) refl,
-    )
+none_before n (j ∷ e) h = let rest = none_before n e in grind (arith, nat_tests, dups_cons, kept_cons)
 
 before_more : (n m : ℕ) (e : List OfferVerdict) → n ≤ m → are_before n e ≡ true → are_before m e ≡ true
 before_more n m [] le h = refl
-before_more n m (j ∷ e) le h =
-    let parts = and_parts (nat_lt j.inode n) (are_before n e) h in
-    let lt = ltb-true j.inode n parts.0 in
-    and_from (nat_lt j.inode m) _ (lt-ltb j.inode m (omega arith)) (before_more n m e le parts.1)
+before_more n m (j ∷ e) le h = let more = before_more n m e le in grind (arith, nat_tests)
 
 -- the verdicts of offers of inodes below n
 verdicts_before : (v : Layout) (n i b : ℕ) (e : List OfferVerdict) (fs : List ℕ) → i < n → are_before n e ≡ true →
@@ -300,8 +253,7 @@ verdicts_before : (v : Layout) (n i b : ℕ) (e : List OfferVerdict) (fs : List 
 unfolding offer_verdict
 verdicts_before v n i b e [] lt h = h
 verdicts_before v n i b e (f ∷ fs) lt h =
-    verdicts_before v n i b (offer_verdict v e (counted_offer i b f) ∷ e) fs lt
-    (and_from (nat_lt i n) _ (lt-ltb i n lt) h)
+    let more = verdicts_before v n i b (offer_verdict v e (counted_offer i b f) ∷ e) fs lt in grind (arith, nat_tests)
 
 step_before : (v : Layout) (n i b : ℕ) (e : List OfferVerdict) (step : Step) → i < n → are_before n e ≡ true →
     are_before n (verdicts v e (step_offers v i b step)) ≡ true
@@ -311,9 +263,8 @@ steps_before : (v : Layout) (n i b : ℕ) (e : List OfferVerdict) (steps : List 
     are_before n (verdicts v e (offers_of_steps v i b steps)) ≡ true
 steps_before v n i b e [] lt h = h
 steps_before v n i b e (step ∷ steps) lt h =
-    rw (verdicts-append v e (step_offers v i b step) (offers_of_steps v i (bad_runs_after v b step) steps))
-    (steps_before v n i (bad_runs_after v b step) (verdicts v e (step_offers v i b step)) steps lt
-    (step_before v n i b e step lt h))
+    let more = steps_before v n i (bad_runs_after v b step) (verdicts v e (step_offers v i b step)) steps lt in
+    grind (arith, verdicts-append, step_before)
 
 -- the numbers of inodes rise
 abbrev Rising : ℕ → List Owner → Type 0
@@ -327,18 +278,10 @@ owners_tied : (v : Layout) (n : ℕ) (s : Claims) (e : List OfferVerdict) (os : 
 owners_tied v n s e [] a h r = (a, refl)
 owners_tied v n s e (o ∷ os) a h r =
     let none = none_before o.number e (before_more n o.number e r.0 h) in
-    let one = steps_tied v o.number 0 (at_next_inode s) e o.steps (record {
-      held = record { used_is = a.used; long = a.long; kept_is = sym none.1 };
-      ready = rw none.0 refl;
-      same = λ q. (refl, sym none.0);
-    }) in
-    let after = steps_before v (o.number + 1) o.number 0 e o.steps (omega arith)
-    (before_more n (o.number + 1) e (omega (arith, r.0)) h) in
-    let rest = owners_tied v (o.number + 1) (after_owner v s o) (verdicts v e (offers_of_steps v o.number 0 o.steps)) os
-    (record { used = one.0.held.used_is; long = one.0.held.long }) after r.1 in (
-      rw (verdicts-append v e (offers_of_steps v o.number 0 o.steps) (all_offers v os)) rest.0,
-      rw (kept_append v e (offers_of_steps v o.number 0 o.steps) (all_offers v os), one.1, rest.1) refl,
-    )
+    let start : Tie v o.number 0 (at_next_inode s) e = grind arith in
+    let one = steps_tied v o.number 0 (at_next_inode s) e o.steps start in
+    let rest = owners_tied v (o.number + 1) (after_owner v s o) (verdicts v e (offers_of_steps v o.number 0 o.steps)) os in
+    grind (arith, verdicts-append, kept_append, steps_before, before_more)
 
 start_agrees : (v : Layout) → Agrees v (no_claims v) []
 unfolding no_claims is_fragment_in_range

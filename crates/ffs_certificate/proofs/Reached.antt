@@ -1,11 +1,11 @@
 -- Which directories are reached, and that lines UNREF DIR and EXTRANEOUS HARD LINK say so.
 use Rattle.std.proofs.Common.{arith, ◌≡◌, ◌≢◌, ℕ, Bool, true, false, ◌||◌, ◌↔◌, Some, sym, ◌∙◌, inl, inr, zero, suc}
-use Rattle.std.proofs.{Common.{◌==◌, List, [], ◌∷◌, option_map, ap}, lemmas.Bool.{both_ways, cases_Bool, and_parts}}
-use Rattle.std.proofs.lemmas.Bool.{and_from, or_cases, or_right, false_from_ne_true, cond-true, cond-false, ne_eqb}
+use Rattle.std.proofs.{Common.{List, [], ◌∷◌}, lemmas.Bool.{both_ways, cases_Bool, and_parts}}
+use Rattle.std.proofs.lemmas.Bool.{and_from, or_cases, or_right, false_from_ne_true, ne_eqb}
 use Rattle.std.{proofs.lemmas.Bool.eqb-true, specs.List.list_any}
 use Rattle.ffs_volume.specs.{Disk.Search.some_below, Directories.Graph.{Graph, edge, reached, parent, is_lost}}
-use Rattle.ffs_volume.specs.Directories.Graph.{is_dead_in, none_or_dead, is_unref_dir_in, parent_by, level, level_edge}
-use Rattle.ffs_volume.specs.Directories.{Graph.{first_index, test_at, is_naming_entry_at}, Climb.is_value}
+use Rattle.ffs_volume.specs.Directories.Graph.{is_dead_in, none_or_dead, is_unref_dir_in, level, level_edge}
+use Rattle.ffs_volume.specs.Directories.{Graph.{first_index, test_at, is_naming_entry_at}}
 use Rattle.ffs_volume.{specs.Directories.Roles.RoledEntry, proofs.Graphs.{IsSane, AllReached, NoneDead, NoUnrefDir}}
 use Rattle.ffs_volume.proofs.{Graphs.{IsParentEntry, NoExtraneous, LinksRight}, Unreached.{IsLost, lost-true}}
 use Rattle.ffs_volume.proofs.{Unreached.parent-unreached, SearchLaws.{some_below-gives, some_below-false}}
@@ -59,35 +59,24 @@ pub parent_edge : (v : Graph) (d : ℕ) → d ≢ 2 → reached v d ≡ true →
     × (edge v s d ≡ true)
 unfolding parent
 parent_edge v d n r =
-    let k = reached-level v d r in
-    let start = cond-false (d == 2) (Some 2) (parent_by v d (level v d)) (ne_eqb d 2 n) in
-    go k.0 k.1 start
+    let k = reached-level v d r in go k.0 k.1
   where
-    go : (k : ℕ) → level v d ≡ Some k → parent v d ≡ parent_by v d (level v d) → (s : ℕ) × (parent v d ≡ Some s)
-        × (edge v s d ≡ true)
-    go zero e start = absurd (n (eqb-true d 2 (sym (within-zero v d) ∙ (level-some v 0 d e).0.within_k)))
-    go (suc k) e start =
-        let l = level-some v (suc k) d e in
-        let b = level-before v k d l.0 in
-        let lev = level-is v k b.0 b.1 b.2 in
+    go : (k : ℕ) → level v d ≡ Some k → (s : ℕ) × (parent v d ≡ Some s) × (edge v s d ≡ true)
+    go zero e = absurd (n (eqb-true d 2 (sym (within-zero v d) ∙ (level-some v 0 d e).0.within_k)))
+    go (suc k) e =
+        let b = level-before v k d (level-some v (suc k) d e).0 in
         let w = some_below-gives (level_edge v k d) v.count
-        (some_below-from (level_edge v k d) v.count b.0 b.1
-        (and_from (is_value (level v b.0) k) (edge v b.0 d) (is_value-from (level v b.0) k lev) b.3)) in (
-          w.0,
-          start ∙ (ap (parent_by v d) e ∙ first_below-is (level_edge v k d) v.count w.0 w.1),
-          (and_parts (is_value (level v w.0) k) (edge v w.0 d) w.1.passes).1,
-        )
+        (some_below-from (level_edge v k d) v.count b.0 b.1 (grind (arith, is_value-from, level-is))) in
+        let first = first_below-is (level_edge v k d) v.count w.0 w.1 in
+        (w.0, grind (arith, ne_eqb), grind arith)
 
 pub place_of : (p : RoledEntry → Bool) (es : List RoledEntry) → list_any p es ≡ true →
     (j : ℕ) × (first_index p es ≡ Some j) × (test_at p j es ≡ true)
 place_of p [] h = absurd (cc)
 place_of p (e ∷ es) h =
     elim (cases_Bool (p e)) [
-      | inl y ↦ (0, cond-true (p e) (Some 0) _ y, y)
-      | inr n ↦
-          let rest : list_any p es ≡ true = sym (ap (λ b. b || list_any p es) n) ∙ h in
-          let r = place_of p es rest in
-          (suc r.0, cond-false (p e) (Some 0) (option_map suc (first_index p es)) n ∙ ap (option_map suc) r.1, r.2)
+      | inl y ↦ (0, grind arith, y)
+      | inr n ↦ let r = place_of p es (grind arith) in (suc r.0, grind arith, r.2)
     ]
 
 -- a reached directory has a parent entry, which names it

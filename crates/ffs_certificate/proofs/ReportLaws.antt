@@ -82,15 +82,13 @@ text_say : (image : List ℕ) (super : Superblock) → has_defect (phase_lines i
     IsWholeSilent image super
 unfolding phase_lines
 text_say image super h =
-    let pathnames : pathname_lines (volume_of super.layout image) ≡ [] = search parts depth 9 in
+    let root = text_root image super h in
     let tail : has_defect (if continues_after_root (volume_of super.layout image)
     then later_phase_lines image super else []) ≡ false = search parts depth 9 in
-    let later = later_say image super (rw (text_root image super h) at tail) in
-    record {
-      blocks = search parts;
-      dirs = record { pathnames = pathnames; connectivity = later.0; references = later.1 };
-      groups = later.2;
-    }
+    let later = later_say image super (rw root at tail) in
+    let blocks : phase1_lines super.layout (owners_of super.layout image) ≡ [] = search parts in
+    let pathnames : pathname_lines (volume_of super.layout image) ≡ [] = search parts depth 9 in
+    grind arith
 
 text_quiet : (image : List ℕ) (super : Superblock) → phase1b_lines super.layout (owners_of super.layout image) ≡ [] →
     IsWholeSilent image super → has_defect (phase_lines image super) ≡ false
@@ -117,17 +115,8 @@ forward : (image : List ℕ) (super : Superblock) → IsAcceptedLayout super.lay
 unfolding report_lines
 forward image super g h =
     let s = text_say image super (quiet_right (super_lines super) _ h) in
-    let blocks = (phase1_silent super.layout (owners_of super.layout image)).0 s.blocks in
-    let dirs = (same_dirs image super g blocks).0 s.dirs in
-    record {
-      settings = settings_say super (quiet_left (setting_lines super) _ (quiet_left (super_lines super) _ h));
-      classes = blocks.classes;
-      runs = blocks.runs;
-      dirs = dirs.dirs;
-      links = dirs.links;
-      counts = dirs.counts;
-      groups = (same_groups image super blocks).0 s.groups;
-    }
+    let settings = settings_say super (quiet_left (setting_lines super) _ (quiet_left (super_lines super) _ h)) in
+    grind (arith, phase1_silent, same_dirs, same_groups)
 
 backward : (image : List ℕ) (super : Superblock) → IsAcceptedLayout super.layout → IsConsistent image super →
     has_defect (report_lines image super) ≡ false

@@ -1,13 +1,14 @@
 -- The logical blocks of an inode's Runs rise, and are below the number of its logical blocks.
-use Rattle.std.proofs.Common.{zero, suc, ◌≡◌, ℕ, ◌+◌, ◌*◌, ◌<◌, ◌≤◌, Bool, true, false, arith, refl, subst}
-use Rattle.std.proofs.Common.{List, [], ◌∷◌, ◌++◌, None, append_assoc, nat_lt, nat_eq, if◌then◌else◌, slice_index}
-use Rattle.std.proofs.lemmas.{Bool.{and_parts, and_from, lt-ltb, ltb-true}, List.Folds.list_all-append}
+use Rattle.std.proofs.lemmas.Bool.Decides.{nat_tests}
+use Rattle.std.proofs.Common.{zero, suc, ◌≡◌, ℕ, ◌+◌, ◌*◌, ◌<◌, ◌≤◌, true, arith, refl}
+use Rattle.std.proofs.Common.{List, [], ◌∷◌, ◌++◌, append_assoc, nat_lt, if◌then◌else◌, slice_index}
+use Rattle.std.proofs.lemmas.{List.Folds.list_all-append}
 use Rattle.std.{proofs.Math.Nat.mul-le-mul_right, specs.List.{list_all, flat_map, range_with_len}}
-use Rattle.ffs_volume.specs.{declared.Step.{Step, TheVariants.{Run, Gap}}, Disk.Areas.is_run_in_range}
-use Rattle.ffs_volume.specs.Blocks.Steps.{FileBlocks, address_at, block_bytes, any_nonzero_from}
-use Rattle.ffs_volume.specs.Blocks.Steps.{indirect_addresses_needed, tail_of, span_of, steps_at, indirection_of}
+use Rattle.ffs_volume.specs.{declared.Step.{Step}}
+use Rattle.ffs_volume.specs.Blocks.Steps.{FileBlocks, address_at}
+use Rattle.ffs_volume.specs.Blocks.Steps.{indirect_addresses_needed, span_of, steps_at, indirection_of}
 use Rattle.ffs_volume.specs.Blocks.Steps.{first_block, steps_of_addresses, is_walked, last_length_of, steps_of}
-use Rattle.ffs_volume.{specs.Blocks.Inodes.{logical_blocks_of, addresses_needed}, proofs.StepLaws.{one_more, span_more}}
+use Rattle.ffs_volume.{specs.Blocks.Inodes.{logical_blocks_of, addresses_needed}, proofs.StepLaws.span_more}
 use Rattle.ffs_volume.proofs.StepLaws.{used_most}
 use Rattle.ffs_certificate.specs.BlocksRise.{blocks_in, AreRising, AllBlocksRise}
 
@@ -48,9 +49,6 @@ record Within (nb low high : ℕ) (steps : List Step) : Type 0 where
 within_join : (nb a b c : ℕ) (xs ys : List Step) → Within nb a b xs → Within nb b c ys → Within nb a c (xs ++ ys)
 within_join nb a b c xs ys x y = grind (arith, blocks_append, rise_join, list_all-append)
 
-within_none : (nb a b : ℕ) → a ≤ b → Within nb a b []
-within_none nb a b le = record { rises = le; below = refl }
-
 -- spans
 span_some : (words level : ℕ) → 0 < words → 0 < span_of words level
 span_some words zero some = omega arith
@@ -72,73 +70,25 @@ under_within nb span first f next zero h = grind arith
 under_within nb span first f next (suc count) h =
     let here = h next (omega arith) (omega arith) in
     let rest = under_within nb span first f (next + 1) count (λ j low high. h j (omega arith) (omega arith)) in
-    let step : first + next * span + span ≡ first + (next + 1) * span = omega (arith, one_more next span) in
-    let end : next + 1 + count ≡ next + suc count = omega arith in
-    within_join nb (first + next * span) (first + (next + 1) * span) (first + (next + suc count) * span) (f next)
-    (flat_map f (range_with_len (next + 1) count))
-    (subst (λ b. Within nb (first + next * span) b (f next)) step here)
-    (subst (λ k. Within nb (first + (next + 1) * span) (first + k * span)
-    (flat_map f (range_with_len (next + 1) count))) end rest)
+    let step : first + next * span + span ≡ first + (next + 1) * span = omega arith in
+    let end : next + suc count ≡ next + 1 + count = omega arith in
+    rw end (within_join nb _ (first + (next + 1) * span) _ (f next) _ (rw step at here) rest)
 
 -- a level of indirection
 at_within : (t : FileBlocks) (bytes : List ℕ) (level address first : ℕ) → first < t.blocks →
     Within t.blocks first (first + span_of t.layout.nindir level) (steps_at t bytes level address first)
 unfolding steps_at
 at_within t bytes zero address first lt = grind arith
-at_within t bytes (suc level) address first lt = one (nat_eq address 0) (λ a b le. at_within t bytes level a b le)
-  where
-    words : ℕ
-    words = t.layout.nindir
-
-    span : ℕ
-    span = span_of t.layout.nindir level
-
-    used : ℕ
-    used = indirect_addresses_needed t.layout.nindir t.blocks first (span_of t.layout.nindir level)
-
-    found : Bool
-    found = any_nonzero_from t.layout (block_bytes t.layout bytes address)
-        (indirect_addresses_needed t.layout.nindir t.blocks first (span_of t.layout.nindir level))
-
-    f : ℕ → List Step
-    f = λ j. steps_at t bytes level (address_at t.layout bytes address j)
-        (first + j * span_of t.layout.nindir level)
-
-    high : ℕ
-    high = first + span_of t.layout.nindir (suc level)
-
-    wide : first ≤ high
-    wide = omega arith
-
-    tail_within : (b : Bool) → Within t.blocks first first (tail_of b)
-    tail_within true = record { rises = omega arith; below = refl }
-    tail_within false = record { rises = omega arith; below = refl }
-
-    under : ((a b : ℕ) → b < t.blocks → Within t.blocks b (b + span) (steps_at t bytes level a b)) →
-        Within t.blocks first high (flat_map f (range_with_len 0 used))
-    under child =
-        let all = under_within t.blocks span first f 0 used (λ j low lt_used.
-        let enough : 0 < words = omega (arith, lt_used) in
-        child (address_at t.layout bytes address j) (first + j * span)
-        (word_below words t.blocks first span j (span_some words level enough) (omega (arith, lt_used)))) in
-        let most : used * span ≤ words * span = mul-le-mul_right span (let u : used ≤ words = omega arith in u) in
-        record {
-          rises = grind (arith, rise_upper);
-          below = all.below;
-        }
-
-    below : (b : Bool) → ((a b : ℕ) → b < t.blocks → Within t.blocks b (b + span) (steps_at t bytes level a b)) →
-        Within t.blocks first high (if b then tail_of found ++ flat_map f (range_with_len 0 used) else [])
-    below true child = grind (arith, under)
-    below false child = within_none t.blocks first high wide
-
-    one : (b : Bool) → ((a b : ℕ) → b < t.blocks → Within t.blocks b (b + span) (steps_at t bytes level a b)) →
-        Within t.blocks first high
-        (if b then Gap ∷ [] else Run address t.layout.frag None
-        ∷ (if is_run_in_range t.layout address t.layout.frag
-        then tail_of found ++ flat_map f (range_with_len 0 used) else []))
-    one true child = record { rises = wide; below = refl }
-    one false child = grind (arith, below)
+at_within t bytes (suc level) address first lt =
+    let words = t.layout.nindir in
+    let span = span_of words level in
+    let used = indirect_addresses_needed words t.blocks first span in
+    let all = under_within t.blocks span first
+    (λ j. steps_at t bytes level (address_at t.layout bytes address j) (first + j * span)) 0 used (λ j low few.
+    at_within t bytes level _ _ (word_below words t.blocks first span j (span_some words level (omega arith)) (omega arith))) in
+    let u : used ≤ words = omega arith in
+    let most : used * span ≤ words * span = mul-le-mul_right span u in
+    grind (arith, rise_upper)
 
 first_below : (words blocks i : ℕ) → i < addresses_needed words blocks → first_block words i < blocks
 first_below words blocks i h = grind arith
@@ -162,27 +112,13 @@ addresses_go t bytes addresses next (suc count) le used =
 below_more : (n m : ℕ) (xs : List ℕ) → n ≤ m → list_all (λ b. nat_lt b n) xs ≡ true →
     list_all (λ b. nat_lt b m) xs ≡ true
 below_more n m [] le h = refl
-below_more n m (x ∷ xs) le h =
-    let p = and_parts (nat_lt x n) (list_all (λ b. nat_lt b n) xs) h in
-    let low = ltb-true x n p.0 in
-    and_from (nat_lt x m) _ (lt-ltb x m (omega (arith, low, le))) (below_more n m xs le p.1)
+below_more n m (x ∷ xs) le h = let more = below_more n m xs le in grind (arith, nat_tests)
 
 pub all_blocks_rise : AllBlocksRise
 unfolding steps_of
 all_blocks_rise v i image =
-    record { rising = steps.rising; below = below_more nb (logical_blocks_of v i) _ (most (is_walked v i)) steps.below }
-  where
-    nb : ℕ
-    nb = if is_walked v i then logical_blocks_of v i else 0
-
-    t : FileBlocks
-    t = record { layout = v; blocks = nb; last_length = last_length_of v i }
-
-    most : (b : Bool) → (if b then logical_blocks_of v i else 0) ≤ logical_blocks_of v i
-    most true = omega arith
-    most false = omega arith
-
-    steps : Goes t 0 (steps_of_addresses t image i.addresses 0 (addresses_needed v.nindir nb))
-    steps =
-        let few = used_most v.nindir nb in
-        addresses_go t image i.addresses 0 (addresses_needed v.nindir nb) (omega (arith, few)) (omega arith)
+    let nb = if is_walked v i then logical_blocks_of v i else 0 in
+    let few = used_most v.nindir nb in
+    let t : FileBlocks = record { layout = v; blocks = nb; last_length = last_length_of v i } in
+    let steps = addresses_go t image i.addresses 0 (addresses_needed v.nindir nb) (omega arith) (omega arith) in
+    record { rising = steps.rising; below = below_more nb (logical_blocks_of v i) _ (grind arith) steps.below }

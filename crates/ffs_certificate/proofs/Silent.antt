@@ -1,24 +1,24 @@
 -- When the checks of directories are silent: pathnames, connectivity and references.
 use Rattle.std.proofs.Common.{◌≡◌, ◌≢◌, ℕ, zero, suc, ◌+◌, ◌<◌, ◌==◌, Bool, true, false, not, nat_lt, refl, List, []}
-use Rattle.std.proofs.{Common.{◌∷◌, Option, Some, IsSomeAnd, arith, ap, subst}, lemmas.Bool.{eqb-true, eq-eqb, ne_eqb}}
-use Rattle.std.proofs.lemmas.Bool.{and_from, not-true, not-false, not_from_true, not_from_false, Decides.nat_tests}
+use Rattle.std.proofs.{Common.{◌∷◌, Option, Some, IsSomeAnd, arith, subst}, lemmas.Bool.{eqb-true, eq-eqb}}
+use Rattle.std.proofs.lemmas.Bool.{not-true, not-false, not_from_true, Decides.nat_tests}
 use Rattle.ffs_volume.specs.declared.{Class.{TheVariants.Dir, Class}, Role.TheVariants.{Extra, Plain}}
 use Rattle.ffs_volume.specs.Directories.{Entries.Entry, Roles.{Volume, RoledEntry, is_dir, is_suspect, roled_entries}}
 use Rattle.ffs_volume.specs.Directories.{Roles.{dot, dotdot, is_allocated_inode, references}, Graph.is_naming_entry_at}
 use Rattle.ffs_volume.specs.Directories.{Graph.{test_at, parent}, PathnameCheck.{attributes, entry_lines}}
 use Rattle.ffs_volume.specs.Directories.PathnameCheck.{lines_of_entries, plain_lines, named_lines, is_bad_whiteout}
 use Rattle.ffs_volume.specs.Directories.PathnameCheck.{is_first_entry_of_suspect, is_extraneous, has_wrong_type}
-use Rattle.ffs_volume.specs.Directories.PathnameCheck.{root_lines, root_lines_of, continues_after_root, is_short}
+use Rattle.ffs_volume.specs.Directories.PathnameCheck.{root_lines, root_lines_of, is_short}
 use Rattle.ffs_volume.specs.Directories.PathnameCheck.{has_partial_chunk, are_sound, shape_lines, dot_lines}
 use Rattle.ffs_volume.specs.Directories.PathnameCheck.{dot_lines_of, is_wrong_parent, dotdot_lines, dotdot_lines_of}
-use Rattle.ffs_volume.specs.Directories.PathnameCheck.{sized_dir_lines, is_sized_dir, directory_lines, pathname_lines}
+use Rattle.ffs_volume.specs.Directories.PathnameCheck.{sized_dir_lines, directory_lines, pathname_lines}
 use Rattle.ffs_volume.specs.Directories.Connectivity.{is_dead, is_unref_dir, connectivity_lines}
 use Rattle.ffs_volume.specs.Directories.ReferenceCheck.{inode_lines, reference_lines_at, reference_lines}
 use Rattle.ffs_volume.specs.{Directories.{Parents.{graph_of, nth_roled}, Paths.entry_path}, Messages.Kinds.lines_below}
 use Rattle.ffs_volume.specs.Messages.Kinds.{unref_dir, whiteout, out_of_range, unallocated}
-use Rattle.ffs_volume.specs.{Blocks.Inodes.{is_allocated, is_directory}, Disk.Numbers.equals_natural}
+use Rattle.ffs_volume.specs.{Blocks.Inodes.{is_allocated}, Disk.Numbers.equals_natural}
 use Rattle.ffs_volume.proofs.Silence.{nil-left, nil-right, nil-both, reported-quiet, reported-silent, if-quiet}
-use Rattle.ffs_volume.proofs.Silence.{else-quiet, then-quiet, then-silent, lines-quiet, lines-silent}
+use Rattle.ffs_volume.proofs.Silence.{else-quiet, then-silent, lines-quiet, lines-silent}
 
 ruleset quiet = (nil-left, nil-right, reported-quiet, not-false, eqb-true)
 
@@ -73,10 +73,7 @@ pub record IsEntryQuiet (v : Volume) (s j : ℕ) (e : RoledEntry) : Type 0 where
 
 entry-quiet : (v : Volume) (s j : ℕ) (e : RoledEntry) → entry_lines v s j e ≡ [] → IsEntryQuiet v s j e
 unfolding entry_lines
-entry-quiet v s j e h = record {
-  no_extra = grind arith;
-  plain = λ x. plain-quiet v s j e.entry (rw x at h);
-}
+entry-quiet v s j e h = record { no_extra = grind arith; plain = λ x. plain-quiet v s j e.entry (rw x at h) }
 
 entry-silent : (v : Volume) (s j : ℕ) (e : RoledEntry) → IsEntryQuiet v s j e → entry_lines v s j e ≡ []
 unfolding entry_lines
@@ -100,8 +97,8 @@ entries-silent : (v : Volume) (s j : ℕ) (es : List RoledEntry) →
 unfolding lines_of_entries
 entries-silent v s j [] h = refl
 entries-silent v s j (f ∷ es) h =
-    nil-both (entry_lines v s j f) _ (entry-silent v s j f (h 0 j f refl (omega arith)))
-    (entries-silent v s (suc j) es (λ k i e x z. h (suc k) i e x (omega arith)))
+    let more = entries-silent v s (suc j) es (λ k i e x z. h (suc k) i e x (omega arith)) in
+    grind (arith, entry-silent, h 0 j f)
 
 -- an entry as the graph sees it
 test-gives : (p : RoledEntry → Bool) (j : ℕ) (es : List RoledEntry) → test_at p j es ≡ true → (e : RoledEntry)
@@ -205,15 +202,13 @@ pub pathname-quiet : (v : Volume) → pathname_lines v ≡ [] → IsPathnameQuie
 unfolding pathname_lines root_lines
 pathname-quiet v h =
     let r = root-quiet v (v.class 2) (nil-left (root_lines v) _ h) in
-    let a = then-quiet (continues_after_root v) (lines_below (directory_lines v) v.count) (nil-right (root_lines v) _ h)
-    (ap is_directory r.0) in
+    let a : lines_below (directory_lines v) v.count ≡ [] = grind (arith, nil-right) in
     record {
       root = r.0;
       suspect = r.1;
       each = λ d k n.
-          dir-quiet v d (then-quiet (is_sized_dir v d) (sized_dir_lines v d)
-          (lines-quiet (directory_lines v) v.count a d (dir-below v d k))
-          (and_from (is_dir v d) _ k (not_from_false _ (ne_eqb (v.inode d).size 0 n))));
+          let quiet = lines-quiet (directory_lines v) v.count a d (dir-below v d k) in
+          dir-quiet v d (grind (arith, nat_tests));
     }
 
 pub pathname-silent : (v : Volume) → IsPathnameQuiet v → pathname_lines v ≡ []
@@ -246,8 +241,7 @@ count-silent v i q = grind arith
 pub reference-quiet : (v : Volume) → reference_lines v ≡ [] → (i : ℕ) → is_allocated_inode v i ≡ true → IsCountQuiet v i
 unfolding reference_lines
 reference-quiet v h i k =
-    count-quiet v i (then-quiet (is_allocated_inode v i) (inode_lines v i)
-    (lines-quiet (reference_lines_at v) v.count h i (grind (arith, nat_tests))) k)
+    let quiet = lines-quiet (reference_lines_at v) v.count h i (grind (arith, nat_tests)) in count-quiet v i (grind arith)
 
 pub reference-silent : (v : Volume) → ((i : ℕ) → is_allocated_inode v i ≡ true → IsCountQuiet v i) →
     reference_lines v ≡ []

@@ -1,14 +1,13 @@
 -- Where the checks are silent, no directory has size 0; plain entries are live.
-use Rattle.std.proofs.Common.{◌≡◌, ◌≢◌, ℕ, zero, suc, ◌==◌, Bool, true, false, List, [], ◌∷◌, ◌++◌, Some, inl, inr, ◌⊎◌}
-use Rattle.std.{proofs.{Common.{◌≤◌, arith}, lemmas.Bool.{both_ways, ne_eqb, and_parts, and_from}}, specs.List.flat_map}
-use Rattle.std.specs.List.{list_any}
+use Rattle.std.proofs.Common.{◌≡◌, ◌≢◌, ℕ, zero, suc, Bool, true, false, List, [], ◌∷◌, ◌++◌, Some, inl, inr, ◌⊎◌}
+use Rattle.std.{proofs.{Common.{◌≤◌, arith}, lemmas.Bool.{ne_eqb}}, specs.List.flat_map}
 use Rattle.ffs_volume.specs.{declared.Role.TheVariants.Plain, Directories.Roles.{Volume, RoledEntry, role_of}}
 use Rattle.ffs_volume.specs.Directories.Roles.{roled_from, roled_chunk, roled_entries, is_dir, is_allocated_inode}
-use Rattle.ffs_volume.specs.Directories.{Roles.is_suspect, Parents.{nth_roled, graph_of, first_naming_dir}}
+use Rattle.ffs_volume.specs.Directories.{Roles.is_suspect, Parents.{nth_roled, graph_of}}
 use Rattle.ffs_volume.specs.Directories.{Parents.is_first_naming_entry, Graph.{is_naming_entry, is_naming_dir}}
-use Rattle.ffs_volume.specs.Directories.{Graph.{is_named, first_index, test_at}, Entries.{Entry, Chunk}, Climb.is_value}
+use Rattle.ffs_volume.specs.Directories.{Graph.{is_named}, Entries.{Entry, Chunk}}
 use Rattle.ffs_volume.proofs.{SearchLaws.{some_below-gives, first_below-is}, ClimbLaws.is_value-from, Graphs.IsSane}
-use Rattle.ffs_volume.proofs.{Graphs.NoneDead, Booleans.and_false-from}
+use Rattle.ffs_volume.proofs.{Graphs.NoneDead}
 use Rattle.ffs_certificate.{specs.Premises.{IsVolume, IsUnmarked}, proofs.Silent.{IsNamer, names_at-gives}}
 use Rattle.ffs_certificate.proofs.{Silent.{IsPathnameQuiet, dir-below, IsCountQuiet}, Reached.place_of}
 
@@ -29,19 +28,12 @@ roled_at-join : (xs ys : List RoledEntry) (j : ℕ) (s : RoledEntry) → nth_rol
 roled_at-join [] ys j s t = inr (j, t)
 roled_at-join (x ∷ xs) ys zero s t = inl (0, t)
 roled_at-join (x ∷ xs) ys (suc j) s t =
-    elim (roled_at-join xs ys j s t) [
-      | inl p ↦ inl (suc p.0, p.1)
-      | inr p ↦ inr p
-    ]
+    elim (roled_at-join xs ys j s t) [ inl p ↦ inl (suc p.0, p.1) | inr p ↦ inr p ]
 
 chunks-live : (chunks : List Chunk) (j : ℕ) (s : RoledEntry) → nth_roled (flat_map roled_chunk chunks) j ≡ Some s →
     s.role ≡ Plain → s.entry.number ≢ 0
 chunks-live [] j s t r = absurd (cc)
-chunks-live (c ∷ chunks) j s t r =
-    elim (roled_at-join (roled_chunk c) (flat_map roled_chunk chunks) j s t) [
-      | inl p ↦ roled_from-live (c.offset == 0) 0 c.entries p.0 s p.1 r
-      | inr p ↦ chunks-live chunks p.0 s p.1 r
-    ]
+chunks-live (c ∷ chunks) j s t r = let more = chunks-live chunks in grind (arith, roled_at-join, roled_from-live)
 
 pub plain-live : (v : Volume) (d j : ℕ) (s : RoledEntry) → nth_roled (roled_entries v d) j ≡ Some s → s.role ≡ Plain →
     s.entry.number ≢ 0
@@ -61,17 +53,9 @@ first_name : (v : Volume) (x : ℕ) → is_named (graph_of v) x ≡ true → (s 
 first_name v x h =
     let g = graph_of v in
     let w = some_below-gives (λ s. is_naming_dir g s x) v.count h in
-    let p = and_parts (is_dir v w.0) (list_any (is_naming_entry x) (roled_entries v w.0)) w.1.passes in
-    let q = place_of (is_naming_entry x) (roled_entries v w.0) p.1 in (
-      w.0,
-      q.0,
-      and_from (is_value (first_naming_dir g x) w.0) (is_value (first_index (is_naming_entry x) (roled_entries v w.0))
-          q.0)
-          (is_value-from (first_naming_dir g x) w.0 (first_below-is (λ s. is_naming_dir g s x) v.count w.0 w.1))
-          (is_value-from (first_index (is_naming_entry x) (roled_entries v w.0)) q.0 q.1),
-      names_at-gives v w.0 q.0 x (and_from (is_dir v w.0) (test_at (is_naming_entry x) q.0 (roled_entries v w.0)) p.0
-          q.2),
-    )
+    let q = place_of (is_naming_entry x) (roled_entries v w.0) (grind arith) in
+    let first = first_below-is (λ s. is_naming_dir g s x) v.count w.0 w.1 in
+    (w.0, q.0, grind (arith, is_value-from), names_at-gives v w.0 q.0 x (grind arith))
 
 -- a suspect that is named is reported at its first name
 named_reported : (v : Volume) → IsVolume v → IsPathnameQuiet v →
@@ -89,4 +73,4 @@ pub none_suspect : (v : Volume) → IsUnmarked v → ((d : ℕ) → is_dir v d �
 none_suspect v un sizes x = grind arith
 
 pub none_dead : (v : Volume) → ((x : ℕ) → is_suspect v x ≡ false) → NoneDead (graph_of v) (is_suspect v)
-none_dead v h x = and_false-from (is_suspect v x) _ (λ t. absurd (both_ways (is_suspect v x) (h x) t))
+none_dead v h x = let calm = h x in grind arith

@@ -2,37 +2,29 @@
 use Rattle.std.proofs.Common.{zero, suc, ◌≡◌, ℕ, ◌+◌, ◌-◌, ◌*◌, ◌<◌, ◌≤◌, true, false, arith, refl, sym, ap, ◌∙◌, List}
 use Rattle.std.proofs.{Common.{[], ◌∷◌, map, ◌≢◌, Bool}, lemmas.{Bool.and_parts, List.Folds.list_all-map}}
 use Rattle.std.{proofs.lemmas.List.FromFn.length-range_with_len, specs.List.range_with_len}
-use Rattle.ffs_volume.specs.declared.{Class.TheVariants.Unknown, Step.{TheVariants.{Run, Tail, Gap}, Step}}
+use Rattle.ffs_volume.specs.declared.{Class.TheVariants.Unknown, Step.{Step}}
 use Rattle.ffs_volume.specs.{declared.{Layout.Layout, Inode.Inode}, Blocks.Claims.{Claims, no_claims, reserved_map}}
 use Rattle.ffs_volume.specs.Blocks.{Claims.{at_next_inode, after_step, after_owner, after_owners}, BlockCheck.is_marked}
 use Rattle.ffs_volume.specs.Blocks.{KeptSteps.{is_kept_step, kept_steps, claims_before, kept_steps_of}, Inodes.inode_of}
-use Rattle.ffs_volume.specs.Blocks.{Inodes.{class_of, type_of}, Owners.{owner_of, owners_of, step_fragments}}
+use Rattle.ffs_volume.specs.Blocks.{Inodes.{class_of, type_of}, Owners.{owner_of, owners_of}}
 use Rattle.ffs_volume.specs.{Blocks.Steps.steps_of, Directories.Volumes.{is_inode_number, class_at, marked_at}}
 use Rattle.ffs_volume.specs.Directories.Volumes.{steps_of_inode, kept_steps_of_inode, volume_with, volume_of}
 use Rattle.ffs_volume.specs.Directories.{Volumes.whole_volume, Roles.roled_entries}
 use Rattle.ffs_volume.specs.{Consistent.BlocksRight.{is_right_class, BlocksRight}, Laws.Geometry.IsAcceptedLayout}
 use Rattle.ffs_volume.proofs.Sizes.{no_steps}
-use Rattle.ffs_certificate.{specs.Premises.{IsVolume, IsUnmarked}, proofs.BlockLaws.{mark, Calm, calm_open, step_quiet}}
+use Rattle.ffs_certificate.{specs.Premises.{IsVolume, IsUnmarked}, proofs.BlockLaws.{Calm, calm_open, step_quiet}}
 use Rattle.ffs_certificate.proofs.BlockLaws.{steps_quiet, step_claims, owner_quiet, owners_quiet, owner_claims}
 use Rattle.ffs_certificate.proofs.{BlockLaws.owners_from, BlocksSilent.{right_quiet, blocks_silent}, GroupLaws.all_at}
 
 step_kept_quiet : (v : Layout) (s : Claims) (step : Step) → Calm s → step_quiet v s.used step ≡ true →
     is_kept_step v s step ≡ true
-step_kept_quiet v s (Run start len block) c e =
-    let done = step_claims v s (Run start len block) c e in
-    grind (arith, length-range_with_len)
-step_kept_quiet v s Tail c e = calm_open s c
-step_kept_quiet v s Gap c e = calm_open s c
+step_kept_quiet v s step c e = let done = step_claims v s step c e in grind (arith, calm_open, length-range_with_len)
 
 steps_kept_quiet : (v : Layout) (s : Claims) (steps : List Step) → Calm s → steps_quiet v s.used steps ≡ true →
     kept_steps v s steps ≡ steps
 steps_kept_quiet v s [] c e = refl
 steps_kept_quiet v s (step ∷ steps) c e =
-    let parts = and_parts (step_quiet v s.used step) (steps_quiet v (mark s.used (step_fragments step)) steps) e in
-    let done = step_claims v s step c parts.0 in
-    let rest = steps_kept_quiet v (after_step v s step) steps done.calm
-    (ap (λ u. steps_quiet v u steps) done.used ∙ parts.1) in
-    grind (arith, step_kept_quiet)
+    let rest = steps_kept_quiet v (after_step v s step) steps in grind (arith, step_claims, step_kept_quiet)
 
 kept_at : (v : Layout) (image : List ℕ) (s : Claims) (a k d x : ℕ) → a + d ≡ x → d < k →
     owners_quiet v s.used (map (owner_of v image) (range_with_len a k)) ≡ true →
@@ -61,10 +53,8 @@ pub none_marked : (v : Layout) (image : List ℕ) → BlocksRight v (owners_of v
 unfolding is_marked owners_of owner_of
 none_marked v image r x low high =
     let none = (blocks_silent v (owners_of v image)).1 r in
-    let whole = all_at (λ y. is_right_class (class_of v (inode_of v image y))) 2 (v.ncg * v.ipg - 2) x
-    (sym (list_all-map (λ o. is_right_class o.class) (owner_of v image) (range_with_len 2 (v.ncg * v.ipg - 2)))
-    ∙ r.classes) low (omega arith) in
-    grind arith
+    let whole = all_at (λ y. is_right_class (class_of v (inode_of v image y))) 2 (v.ncg * v.ipg - 2) x in
+    grind (arith, list_all-map)
 
 -- no type that has a class is 14
 kind_known : (v : Layout) (i : Inode) → class_of v i ≢ Unknown → type_of i.mode ≢ 14
@@ -80,7 +70,7 @@ volume_is v image steps marked g none = grind (arith, kind_known)
 
 steps_none : (v : Layout) (image : List ℕ) → IsAcceptedLayout v → (d : ℕ) → is_inode_number v d ≡ true →
     (inode_of v image d).size ≡ 0 → steps_of v (inode_of v image d) image ≡ []
-steps_none v image g d number z = let low = g.sizes.bsize_low in no_steps v image (inode_of v image d) (omega arith) z
+steps_none v image g d number z = grind (arith, no_steps)
 
 pub whole_is_volume : (v : Layout) (image : List ℕ) → IsAcceptedLayout v → IsVolume (whole_volume v image)
 unfolding whole_volume
@@ -94,11 +84,8 @@ whole_number : (v : Layout) (image : List ℕ) → BlocksRight v (owners_of v im
     → is_right_class (class_of v (inode_of v image x)) ≡ true
 unfolding owners_of owner_of
 whole_number v image r x h =
-    let b = number_bounds v x h in
-    let low = b.0 in
-    all_at (λ y. is_right_class (class_of v (inode_of v image y))) 2 (v.ncg * v.ipg - 2) x
-    (sym (list_all-map (λ o. is_right_class o.class) (owner_of v image) (range_with_len 2 (v.ncg * v.ipg - 2)))
-    ∙ r.classes) low (omega arith)
+    let whole = all_at (λ y. is_right_class (class_of v (inode_of v image y))) 2 (v.ncg * v.ipg - 2) x in
+    grind (arith, number_bounds, list_all-map)
 
 whole_class : (v : Layout) (image : List ℕ) → BlocksRight v (owners_of v image) → (x : ℕ) →
     is_right_class (class_at v image x) ≡ true

@@ -1,9 +1,8 @@
 -- Laws of `specs/Laws/Accepted`.
-use Rattle.std.proofs.Common.{◌≡◌, ℕ, Bool, List, length, Option, Some, None, Ok, inl, inr, nat_lt, arith}
-use Rattle.std.proofs.{Common.◌*◌, Common.◌+◌, lemmas.Bool.cases_Bool}
-use Rattle.ffs_volume.{proofs.GeometryLaws.geometry_holds, specs.Disk.Outcome.super_sector}
-use Rattle.ffs_volume.specs.Disk.Outcome.{super_bytes, layout_fault, copy_agrees, super_verdict, outcome_in, outcome_of}
-use Rattle.ffs_volume.specs.Disk.{Outcome.outcome, Superblock.Superblock, Superblock.layout_of}
+use Rattle.std.proofs.Common.{◌≡◌, ℕ, Bool, List, length, Option, None, Ok, arith}
+use Rattle.ffs_volume.{proofs.GeometryLaws.geometry_holds}
+use Rattle.ffs_volume.specs.Disk.Outcome.{super_bytes, super_verdict, outcome_in, outcome_of}
+use Rattle.ffs_volume.specs.Disk.{Outcome.outcome, Superblock.Superblock}
 use Rattle.ffs_volume.specs.{Disk.Superblock.superblock_of, Disk.Superblock.order_of, Laws.Accepted.FitsImage}
 use Rattle.ffs_volume.specs.{Laws.Accepted.AcceptedFit, declared.Order.Order, declared.SuperFault.SuperFault}
 
@@ -15,18 +14,10 @@ super_verdict-ok fault agrees super s e = grind arith
 super_layout : (image : List ℕ) (sector : Option ℕ) (bytes : List ℕ) (order : Option Order) (s : Superblock) →
     outcome_of image sector bytes order ≡ Ok s → FitsImage s.layout (length image)
 unfolding outcome_of outcome_in superblock_of
-super_layout image sector bytes None s e = absurd (cc)
-super_layout image sector bytes (Some order) s e =
-    let p = super_verdict-ok (layout_fault (layout_of order bytes) (length image)) (copy_agrees image sector order bytes)
-    (superblock_of order bytes) s e in
-    let g = geometry_holds (layout_of order bytes) (length image) p.0 in
-    rw (← p.1) (record { geometry = g.0; inside = g.1 })
+super_layout image sector bytes order s e = grind (arith, super_verdict-ok, geometry_holds)
 
 pub accepted_sound : AcceptedFit
 unfolding outcome
 accepted_sound image sector s e =
-    elim (cases_Bool (nat_lt (length image) (super_sector sector * 512 + 1376))) [
-      | inl past ↦ absurd (let f = rw past at e in cc)
-      | inr inside ↦
-          super_layout image sector (super_bytes image sector) (order_of (super_bytes image sector)) s (rw inside at e)
-    ]
+    let laid = super_layout image sector (super_bytes image sector) (order_of (super_bytes image sector)) s in
+    grind arith

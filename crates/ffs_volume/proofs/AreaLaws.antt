@@ -1,7 +1,7 @@
 -- Laws of the areas of an accepted layout.
-use Rattle.std.proofs.Common.{zero, suc, inl, inr, ◌≡◌, ℕ, ◌+◌, ◌-◌, ◌*◌, ◌/◌}
-use Rattle.std.proofs.Common.{◌<◌, ◌≤◌, Bool, true, false, arith, sym, mul-le-mul_right, mul_comm, nat_lt, nat_le, ◌&&◌}
-use Rattle.std.proofs.{Math.Nat.div-eq_of_lt-le, lemmas.Bool.cases_lt, lemmas.Bool.Decides.nat_tests}
+use Rattle.std.proofs.Common.{zero, suc, ◌≡◌, ℕ, ◌+◌, ◌-◌, ◌*◌, ◌/◌}
+use Rattle.std.proofs.Common.{◌<◌, ◌≤◌, Bool, true, false, arith, mul-le-mul_right, nat_lt, nat_le, ◌&&◌}
+use Rattle.std.proofs.{lemmas.Bool.Decides.nat_tests}
 use Rattle.std.{proofs.lemmas.Grind.div_ceil_times, proofs.lemmas.Nat.div_below, specs.Int.div_ceil}
 use Rattle.ffs_volume.specs.Disk.Areas.{cgbase, cgstart, cgsblock, cgdmin, is_group_metadata}
 use Rattle.ffs_volume.{proofs.SearchLaws.some_below-suc, specs.Disk.Outcome.copy_place, specs.Disk.Search.first_below}
@@ -12,17 +12,12 @@ some_below-only : (n i : ℕ) (test : ℕ → Bool) → ((c : ℕ) → c < n →
     some_below test n ≡ (nat_lt i n && test i)
 unfolding first_below
 some_below-only zero i test only = grind (arith, nat_tests)
-some_below-only (suc n) i test only =
-    let before = some_below-only n i test (λ c h e. only c (omega arith) e) in
-    let here = only n (omega arith) in
-    let more = some_below-suc test n in
-    grind (arith, nat_tests)
+some_below-only (suc n) i test only = grind (arith, nat_tests, some_below-suc, some_below-only n i test)
 
 -- the group of a fragment between a group's base and its end
 pub group_is : (v : Layout) (c f : ℕ) → cgbase v c ≤ f → f < cgbase v (c + 1) → f / v.fpg ≡ c
 unfolding cgbase
-group_is v c f low high = div-eq_of_lt-le {k = c} v.fpg {m = f} (omega (arith, mul_comm c v.fpg))
-    (omega (arith, mul_comm (c + 1) v.fpg))
+group_is v c f low high = grind arith
 
 -- whether f is in the metadata of group c
 abbrev pub is_in_metadata_of : Layout → ℕ → ℕ → Bool
@@ -32,14 +27,8 @@ is_in_metadata_of v c f = nat_le (cgsblock v c) f && nat_lt f (cgdmin v c)
 pub is_metadata_of_group : (v : Layout) (f : ℕ) → IsAcceptedLayout v →
     is_group_metadata v f ≡ (nat_lt (f / v.fpg) v.ncg && is_in_metadata_of v (f / v.fpg) f)
 unfolding is_group_metadata cgstart
-is_metadata_of_group v f g = some_below-only v.ncg (f / v.fpg) (λ c. is_in_metadata_of v c f) only
-  where
-    only : (c : ℕ) → c < v.ncg → is_in_metadata_of v c f ≡ true → c ≡ f / v.fpg
-    only c h e =
-        let group = g.groups c h in
-        let low : cgsblock v c ≤ f = grind (arith, nat_tests) in
-        let high : f < cgdmin v c = grind (arith, nat_tests) in
-        sym (group_is v c f (omega arith) (omega arith))
+is_metadata_of_group v f g =
+    some_below-only v.ncg (f / v.fpg) (λ c. is_in_metadata_of v c f) (λ c h e. grind (arith, nat_tests, group_is, g.groups c h))
 
 -- a fragment below size is of a group
 pub group_below : (v : Layout) (f : ℕ) → IsAcceptedLayout v → f < v.size → f / v.fpg < v.ncg
@@ -52,15 +41,9 @@ inode_group v x g h = div_below x v.ipg v.ncg (omega arith) h
 pub copy_inside : (v : Layout) → IsAcceptedLayout v → copy_place v + 1376 ≤ v.size * v.fsize
 copy_inside v g =
     let group = g.groups (v.ncg - 1) (omega arith) in
-    let covered = (div_ceil_times v.sbsize v.fsize (omega arith)).0 in
     let ends : cgsblock v (v.ncg - 1) + div_ceil v.sbsize v.fsize ≤ v.size = omega arith in
-    let scaled = mul-le-mul_right v.fsize ends in
-    omega arith
+    grind (arith, div_ceil_times, mul-le-mul_right v.fsize ends)
 
 -- no fragment from size on is a group's metadata
 pub no_metadata_past_size : (v : Layout) (f : ℕ) → IsAcceptedLayout v → v.size ≤ f → is_group_metadata v f ≡ false
-no_metadata_past_size v f g h =
-    rw (is_metadata_of_group v f g) (elim (cases_lt (f / v.fpg) v.ncg) [
-      | inl lt ↦ let past = (g.groups (f / v.fpg) lt).within_size in grind (arith, nat_tests)
-      | inr out ↦ grind (arith, nat_tests)
-    ])
+no_metadata_past_size v f g h = grind (arith, is_metadata_of_group)

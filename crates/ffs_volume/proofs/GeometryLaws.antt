@@ -1,8 +1,8 @@
 -- Laws of `specs/Disk/Geometry`.
-use Rattle.std.proofs.Common.{◌≡◌, ℕ, ◌*◌, ◌≤◌, true, None, ℤ, pos, arith}
+use Rattle.std.proofs.Common.{◌≡◌, ℕ, ◌*◌, ◌≤◌, true, None, arith}
 use Rattle.std.proofs.lemmas.Bool.Decides.{nat_tests}
-use Rattle.ffs_volume.{specs.declared.Layout.Layout, specs.Disk.Areas.cgoffset_of, proofs.Below.all_below-at}
-use Rattle.ffs_volume.specs.Disk.Numbers.{zero_if_negative, is_nonnegative, all_below}
+use Rattle.ffs_volume.{specs.declared.Layout.Layout, proofs.Below.all_below-at}
+use Rattle.ffs_volume.specs.Disk.Numbers.{all_below}
 use Rattle.ffs_volume.specs.Disk.Outcome.{is_block_size, is_fragment_size, is_fragment_count}
 use Rattle.ffs_volume.specs.Disk.Outcome.{has_valid_sizes, has_valid_numbers, has_valid_parts, has_valid_cylinders}
 use Rattle.ffs_volume.specs.Disk.Outcome.{has_valid_group, has_valid_summary_area, is_valid_layout, layout_fault}
@@ -37,14 +37,9 @@ pub parts_hold : (v : Layout) → has_valid_parts v ≡ true → HasParts v
 unfolding has_valid_parts
 parts_hold v e = grind (arith, nat_tests)
 
-natural_is : (z : ℤ) → is_nonnegative z ≡ true → z ≡ pos (zero_if_negative z)
-natural_is z e = grind arith
-
 pub group_holds : (v : Layout) (c : ℕ) → has_valid_group v c ≡ true → HasGroup v c
 unfolding has_valid_group
-group_holds v c e =
-    let up = natural_is (cgoffset_of v c) (grind (arith, nat_tests)) in
-    grind (arith, nat_tests)
+group_holds v c e = grind arith
 
 pub summary_holds : (v : Layout) → has_valid_summary_area v ≡ true → HasSummaryArea v
 unfolding has_valid_summary_area

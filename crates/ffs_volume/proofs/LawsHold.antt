@@ -1,7 +1,7 @@
 -- Laws that say of definitions what they are meant to say.
 use Rattle.std.{specs.List.range_with_len, proofs.Common.zero, proofs.Common.suc}
 use Rattle.std.proofs.Common.{◌≡◌, ℕ, ◌+◌, ◌*◌, ◌/◌, ◌≤◌, Bool, true, false, cond, arith, refl, ◌∙◌, List, []}
-use Rattle.std.proofs.Common.{◌∷◌, ◌++◌, length, Option, Some, None, if◌then◌else◌, map, count_by, sum_by, div-add-mod'}
+use Rattle.std.proofs.Common.{◌∷◌, length, Option, if◌then◌else◌, map, count_by, sum_by, div-add-mod'}
 use Rattle.std.proofs.lemmas.List.{FromFn.length-map-range_with_len, Sums.sum_by-cons}
 use Rattle.ffs_volume.specs.Directories.Paths.{path_names, dir_path_of_names, entry_path_of_names, dir_path, entry_path}
 use Rattle.ffs_volume.specs.Laws.Meanings.{AllPathsFit, SumsAreWhole}
@@ -10,14 +10,11 @@ use Rattle.ffs_volume.specs.Groups.Records.{is_free_block, block_bits, block_num
 
 -- PATHS
 dir_fits : (names : Option (List (List ℕ))) → length (dir_path_of_names names) ≤ 1024
-dir_fits None = omega arith
-dir_fits (Some []) = omega arith
-dir_fits (Some (name ∷ names)) = path_text-fits (name ∷ names)
+dir_fits names = grind (arith, path_text-fits)
 
 entry_fits : (name : List ℕ) (names : Option (List (List ℕ))) → length name ≤ 255 →
     length (entry_path_of_names name names) ≤ 1024
-entry_fits name None h = omega (arith, h)
-entry_fits name (Some names) h = path_text-fits (names ++ name ∷ [])
+entry_fits name names h = grind (arith, path_text-fits)
 
 pub paths_fit : AllPathsFit
 unfolding dir_path entry_path
@@ -33,16 +30,12 @@ bit_count p (x ∷ xs) =
 
 range_join : (f : ℕ → ℕ) (a m n : ℕ) → sum_by f (range_with_len a (m + n)) ≡ sum_by f (range_with_len a m) + sum_by f
     (range_with_len (a + m) n)
-range_join f a zero n =
-    let q : zero + n ≡ n = omega arith in
-    let r : a + zero ≡ a = omega arith in
-    rw (q, r) (omega arith)
+range_join f a zero n = grind arith
 range_join f a (suc m) n =
+    let more = range_join f (a + 1) m n in
     let q : suc m + n ≡ suc (m + n) = omega arith in
     let r : a + suc m ≡ a + 1 + m = omega arith in
-    let long = sum_by-cons f a (range_with_len (a + 1) (m + n)) in
-    let short = sum_by-cons f a (range_with_len (a + 1) m) in
-    rw (q, r) (omega (arith, range_join f (a + 1) m n))
+    grind (arith, sum_by-cons)
 
 blocks_join : (p : ℕ → Bool) (a frag k n : ℕ) →
     sum_by (λ b. count_by (λ f. f) (map p (range_with_len (a + b * frag) frag))) (range_with_len k n)
@@ -80,10 +73,9 @@ both_kinds whole some frag h (b ∷ bs) =
 pub sums_whole : SumsAreWhole
 unfolding right_group_counts
 sums_whole v free class c some even =
-    let kinds = both_kinds (λ b. is_free_block (block_bits v free c b)) (λ b. count_by (λ f. f) (block_bits v free c b))
-    v.frag
-    (λ b e. whole_count (block_bits v free c b) e ∙ length-map-range_with_len free (cgbase v c + b * v.frag) v.frag)
-    (block_numbers v) in
+    let bits = block_bits v free c in
+    let kinds = both_kinds (λ b. is_free_block (bits b)) (λ b. count_by (λ f. f) (bits b)) v.frag
+    (λ b e. whole_count (bits b) e ∙ length-map-range_with_len free _ v.frag) (block_numbers v) in
     let start : cgbase v c + 0 * v.frag ≡ cgbase v c = omega arith in
     let size : v.fpg / v.frag * v.frag ≡ v.fpg = omega (arith, div-add-mod' v.fpg v.frag, even) in
     rw (start, size) at (kinds ∙ blocks_join free (cgbase v c) v.frag 0 (v.fpg / v.frag))

@@ -1,7 +1,7 @@
 -- Laws of `specs/Directories/Levels`.
 use Rattle.std.proofs.Common.{◌≡◌, ℕ, zero, suc, ◌+◌, ◌-◌, ◌<◌, ◌≤◌}
-use Rattle.std.proofs.Common.{◌==◌, true, ◌&&◌, ◌||◌, refl, Some, is_some, arith, ◌∙◌, ap, subst, inl, inr, eq-eqb}
-use Rattle.std.proofs.lemmas.Bool.{both_ways, cases_lt, and_parts, and_from, or_right, false_from_ne_true}
+use Rattle.std.proofs.Common.{◌==◌, true, ◌&&◌, ◌||◌, refl, Some, is_some, arith, ◌∙◌, ap, inl, inr, eq-eqb}
+use Rattle.std.proofs.lemmas.Bool.{cases_lt, and_parts, and_from, or_right}
 use Rattle.ffs_volume.proofs.{Pigeon.pigeon, SearchLaws.is_some-value}
 use Rattle.ffs_volume.proofs.SearchLaws.{some_below-gives, some_below-from, first_below-is, first_below-some}
 use Rattle.ffs_volume.specs.Directories.Graph.{Graph, within, level, edge, reached, parent}
@@ -21,9 +21,7 @@ within-more v k d h = let more = within-suc v k d in grind arith
 
 pub within-step : (v : Graph) (k s d : ℕ) → s < v.count → within v k s ≡ true → edge v s d ≡ true →
     within v (suc k) d ≡ true
-within-step v k s d l h e =
-    let edges = some_below-from (λ s. within v k s && edge v s d) v.count s l (and_from (within v k s) (edge v s d) h e) in
-    rw (within-suc v k d, edges) (or_right (within v k d) true refl)
+within-step v k s d l h e = search (arith, some_below-from, and_from, within-suc, or_right)
 
 within-plus : (v : Graph) (i k d : ℕ) → within v k d ≡ true → within v (i + k) d ≡ true
 within-plus v zero k d h = let q : 0 + k ≡ k = omega arith in rw q h
@@ -36,32 +34,21 @@ within-grows v j k d l h = let q : (k - j) + j ≡ k = omega arith in rw q at (w
 pub level-before : (v : Graph) (k d : ℕ) → IsLevel v (suc k) d → (s : ℕ) × (s < v.count) × IsLevel v k s
     × (edge v s d ≡ true)
 level-before v k d h =
-    let no = h.least k (omega arith) in
     let more = within-suc v k d in
     let w = some_below-gives (λ s. within v k s && edge v s d) v.count (grind arith) in
-    let p = and_parts (within v k w.0) (edge v w.0 d) w.1.passes in (
-      w.0,
-      w.1.below,
-      record {
-        within_k = p.0;
-        least = λ j l. false_from_ne_true (within v j w.0) (λ t.
-            both_ways (within v (suc j) d) (h.least (suc j) (omega arith)) (within-step v j w.0 d w.1.below t p.1));
-      },
-      p.1,
-    )
+    let p = and_parts (within v k w.0) (edge v w.0 d) w.1.passes in
+    let b = w.1.below in
+    let edges = λ (j : ℕ). within-step v j w.0 d b in
+    (w.0, b, record { within_k = p.0; least = λ j l. let no = h.least (suc j) (omega arith) in grind arith }, p.1)
 
 -- each level up to a level of an inode has an inode
 pub level-each : (v : Graph) (k d : ℕ) → d < v.count → IsLevel v k d → (i : ℕ) → (s : ℕ) × (s < v.count)
     × (i ≤ k → IsLevel v i s)
-level-each v zero d l h i = (d, l, λ b. let q : 0 ≡ i = omega arith in subst (λ m. IsLevel v m d) q h)
+level-each v zero d l h i = (d, l, grind arith)
 level-each v (suc k) d l h i =
-    elim (cases_lt k i) [
-      | inl a ↦ (d, l, λ b. let q : suc k ≡ i = omega arith in subst (λ m. IsLevel v m d) q h)
-      | inr a ↦
-          let s = level-before v k d h in
-          let r = level-each v k s.0 s.1 s.2 i in
-          (r.0, r.1, λ b. r.2 a)
-    ]
+    let s = level-before v k d h in
+    let r = level-each v k s.0 s.1 s.2 i in
+    elim (cases_lt k i) [ inl a ↦ (d, l, grind arith) | inr a ↦ (r.0, r.1, grind arith) ]
 
 -- levels are below the number of inodes
 pub level-bound : (v : Graph) (k d : ℕ) → d < v.count → IsLevel v k d → k < v.count
@@ -70,30 +57,23 @@ level-bound v k d l h =
       | inl a ↦ a
       | inr a ↦
           let r = pigeon v.count (λ i. (level-each v k d l h i).0) (λ i b. (level-each v k d l h i).1) in
-          let o = r.ordered in let u = r.bounded in
-          let one = (level-each v k d l h r.first).2 (omega arith) in
-          let two = (level-each v k d l h r.second).2 (omega arith) in
-          absurd (both_ways _ (two.least r.first o) (subst (λ s. within v r.first s ≡ true) r.same one.within_k))
+          absurd (grind (arith, level-each))
     ]
 
 pub level-is : (v : Graph) (k d : ℕ) → d < v.count → IsLevel v k d → level v d ≡ Some k
 unfolding level
-level-is v k d l h = first_below-is (λ j. within v j d) v.count k
-    (record { below = level-bound v k d l h; passes = h.within_k; least = h.least })
+level-is v k d l h = search (arith, first_below-is, level-bound)
 
 pub level-some : (v : Graph) (k d : ℕ) → level v d ≡ Some k → IsLevel v k d × (k < v.count)
 unfolding level
-level-some v k d e =
-    let f = first_below-some (λ j. within v j d) v.count k e in
-    (record { within_k = f.passes; least = f.least }, f.below)
+level-some v k d e = grind (arith, first_below-some)
 
 -- however many edges a walk has, its end is reached
 pub level-from : (v : Graph) (k d : ℕ) → d < v.count → within v k d ≡ true → (j : ℕ) × (j ≤ k) × (level v d ≡ Some j)
 level-from v k d l h =
     let w = some_below-gives (λ j. within v j d) (suc k)
     (some_below-from (λ j. within v j d) (suc k) k (omega arith) h) in
-    let b = w.1.below in
-    (w.0, omega arith, level-is v w.0 d l (record { within_k = w.1.passes; least = w.1.least }))
+    grind (arith, level-is)
 
 pub reached-from : (v : Graph) (k d : ℕ) → d < v.count → within v k d ≡ true → reached v d ≡ true
 reached-from v k d l h = let j = level-from v k d l h in ap is_some j.2

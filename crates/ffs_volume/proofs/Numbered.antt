@@ -16,10 +16,7 @@ below_and_from lines (suc k) d =
 -- of all numbers
 pub all_from : (lines : ℕ → List TreeMessage) (n : ℕ) → lines_below lines n ≡ lines_from lines 0 (n - 0)
 unfolding lines_below
-all_from lines n =
-    let q : 0 + n ≡ n = omega arith in
-    let r : n - 0 ≡ n = omega arith in
-    rw r (rw q at (below_and_from lines n 0))
+all_from lines n = let q : 0 + n ≡ n = omega arith in grind (arith, below_and_from)
 
 -- of numbers from 2 on, where those below it have no line
 pub all_from_root : (lines : ℕ → List TreeMessage) (n : ℕ) → lines 0 ≡ [] → lines 1 ≡ [] →
@@ -27,31 +24,23 @@ pub all_from_root : (lines : ℕ → List TreeMessage) (n : ℕ) → lines 0 ≡
 unfolding lines_below lines_from
 all_from_root lines zero zeroth first = refl
 all_from_root lines (suc zero) zeroth first = zeroth
-all_from_root lines (suc (suc n)) zeroth first =
-    let q : 2 + n ≡ suc (suc n) = omega arith in
-    let r : suc (suc n) - 2 ≡ n = omega arith in
-    rw r (rw (zeroth, first, q) at (below_and_from lines n 2))
+all_from_root lines (suc (suc n)) zeroth first = let k = below_and_from lines n 2 in grind arith
 
 -- the next number's lines
 lines_next : (lines : ℕ → List TreeMessage) (d n : ℕ) → d < n →
     lines_from lines d (n - d) ≡ lines d ++ lines_from lines (d + 1) (n - (d + 1))
 unfolding lines_from
-lines_next lines d n h =
-    let q : n - d ≡ suc (n - (d + 1)) = omega arith in
-    let r : d + 1 ≡ suc d = omega arith in
-    rw (q, r)
+lines_next lines d n h = grind arith
 
 pub from_next : (lines : ℕ → List TreeMessage) (d n : ℕ) → d < n →
     map of_tree (lines_from lines d (n - d)) ≡ map of_tree (lines d)
     ++ map of_tree (lines_from lines (d + 1) (n - (d + 1)))
-from_next lines d n h =
-    rw (lines_next lines d n h) (map-append of_tree (lines d) (lines_from lines (d + 1) (n - (d + 1))))
+from_next lines d n h = grind (arith, lines_next, map-append)
 
 -- how many these are
 pub count_next : (lines : ℕ → List TreeMessage) (d n : ℕ) → d < n →
     length (lines_from lines d (n - d)) ≡ length (lines d) + length (lines_from lines (d + 1) (n - (d + 1)))
-count_next lines d n h =
-    rw (lines_next lines d n h) (length-append (lines d) (lines_from lines (d + 1) (n - (d + 1))))
+count_next lines d n h = grind (arith, lines_next, length-append)
 
 -- at the end there are none
 pub from_end : (lines : ℕ → List TreeMessage) (d n : ℕ) → n ≤ d → map of_tree (lines_from lines d (n - d)) ≡ []

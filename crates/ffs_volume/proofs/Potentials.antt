@@ -1,14 +1,14 @@
 -- What the Runs that are seen and the offers that are kept use up, over the steps of an inode.
-use Rattle.std.proofs.Common.{◌≡◌, ℕ, ◌+◌, ◌<◌, ◌≤◌, Bool, true, false, ◌==◌, if◌then◌else◌, nat_lt, List, [], ◌∷◌}
+use Rattle.std.proofs.Common.{◌≡◌, ℕ, ◌+◌, ◌<◌, ◌≤◌, Bool, true, false, if◌then◌else◌, nat_lt, List, [], ◌∷◌}
 use Rattle.std.proofs.Common.{length, suc, count_by, arith, ◌∙◌, slice_set, length-set, slice_index, slice_index_or}
-use Rattle.std.proofs.{Common.ltb-true, Common.ltb-false, Common.All, lemmas.Bool.and_parts}
+use Rattle.std.proofs.{Common.All, lemmas.Bool.and_parts}
 use Rattle.std.proofs.lemmas.{Bool.cond_both, Bool.Decides.nat_tests, List.Elements.All-head, List.Elements.All-tail}
 use Rattle.std.proofs.lemmas.List.{FromFn.length-range_with_len, FromFn.get_or-range_with_len, Sums.count_by-le-length}
 use Rattle.std.{proofs.lemmas.List.Sums.sum_by-set, specs.List.range_with_len}
 use Rattle.ffs_volume.proofs.{Below.all_below-at, StepLaws.steps_long}
-use Rattle.ffs_volume.specs.Blocks.Claims.{Claims, at_next_inode, is_set, is_open, after_offer, after_offers, after_run}
-use Rattle.ffs_volume.specs.Blocks.{Claims.after_step, Claims.after_steps, Claims.after_owner, Inodes.inode_of}
-use Rattle.ffs_volume.specs.{Blocks.Owners.owner_of, Blocks.Steps.steps_of, Disk.Areas.is_fragment_in_range}
+use Rattle.ffs_volume.specs.Blocks.Claims.{Claims, at_next_inode, is_open, after_offer, after_offers, after_run}
+use Rattle.ffs_volume.specs.Blocks.{Claims.after_step, Claims.after_steps, Claims.after_owner}
+use Rattle.ffs_volume.specs.{Blocks.Owners.owner_of, Disk.Areas.is_fragment_in_range}
 use Rattle.ffs_volume.specs.{Disk.Areas.is_run_in_range, Laws.ClaimBounds.potential, Laws.ClaimBounds.ClaimBound}
 use Rattle.ffs_volume.specs.{Laws.Geometry.IsAcceptedLayout, Laws.RunLengths.HasLength, declared.Layout.Layout}
 use Rattle.ffs_volume.specs.declared.Step.{Step, TheVariants.Run, TheVariants.Tail, TheVariants.Gap}
@@ -21,9 +21,7 @@ cond_holds P b x y first second = cond_both b x y P first second
 -- setting a bit that is clear sets one more
 pub count_set : (bits : List Bool) (f : ℕ) → f < length bits → slice_index_or bits f false ≡ false →
     count_by (λ b. b) (slice_set bits f true) ≡ count_by (λ b. b) bits + 1
-count_set bits f h e =
-    let k = sum_by-set (λ b. if b then 1 else 0) bits f true false h in
-    omega (arith, rw e at k)
+count_set bits f h e = grind (arith, sum_by-set)
 
 pub in_range_below : (v : Layout) (f : ℕ) → is_fragment_in_range v f ≡ true → f < v.size
 unfolding is_fragment_in_range
@@ -53,15 +51,7 @@ pub record Keeps (s s' : Claims) (len : ℕ) : Type 0 where
   pub whole : s'.dups < 11 → s'.kept ≡ s.kept + len
 
 offer_keeps : (v : Layout) (s : Claims) (f : ℕ) → Keeps s (after_offer v s f) 1
-offer_keeps v s f =
-    cond_holds (λ s'. Keeps s s' 1) (nat_lt s.dups 11) _ _
-    (λ few. let low = ltb-true s.dups 11 few in
-    cond_holds (λ s'. Keeps s s' 1) (is_fragment_in_range v f) _ _
-    (λ _. cond_holds (λ s'. Keeps s s' 1) (is_set s.used f) _ _
-    (λ _. omega (arith, length-set s.dup f true))
-    (λ _. omega (arith, length-set s.used f true)))
-    (λ _. omega arith))
-    (λ full. let high = ltb-false s.dups 11 full in omega arith)
+offer_keeps v s f = grind (arith, length-set)
 
 pub offers_keep : (v : Layout) (s : Claims) (fs : List ℕ) → Keeps s (after_offers v s fs) (length fs)
 offers_keep v s [] = omega arith
@@ -74,16 +64,7 @@ offers_keep v s (f ∷ fs) =
 offer_raises : (v : Layout) (s : Claims) (f : ℕ) → length s.used ≡ v.size →
     (potential s ≤ potential (after_offer v s f)) × (is_fragment_in_range v f ≡ true →
     (after_offer v s f).kept + potential s ≤ s.kept + potential (after_offer v s f))
-offer_raises v s f h =
-    let Raises = λ (t : Claims). (potential s ≤ potential t) × (is_fragment_in_range v f ≡ true →
-    t.kept + potential s ≤ s.kept + potential t) in
-    cond_holds Raises (nat_lt s.dups 11) _ _
-    (λ _. cond_holds Raises (is_fragment_in_range v f) _ _
-    (λ ok. cond_holds Raises (is_set s.used f) _ _
-    (λ _. omega arith)
-    (λ clear. omega (arith, count_set s.used f (omega (arith, h, in_range_below v f ok)) clear)))
-    (λ out. (omega arith, λ ok. absurd (cc))))
-    (λ _. omega arith)
+offer_raises v s f h = grind (arith, count_set, in_range_below)
 
 offers_raise : (v : Layout) (s : Claims) (fs : List ℕ) → length s.used ≡ v.size →
     (potential s ≤ potential (after_offers v s fs))
@@ -102,32 +83,17 @@ run_moves : (v : Layout) (s : Claims) (start len : ℕ) → length s.used ≡ v.
     nat_lt s.bad 11 ≡ true → nat_lt s.dups 11 ≡ true →
     ClaimBound s (after_run v s start len)
 run_moves v s start len h some small few more_dups =
-    let few_bad = ltb-true s.bad 11 few in
-    let few_dups = ltb-true s.dups 11 more_dups in
-    let long = length-range_with_len start len in
-    cond_holds (ClaimBound s) (is_run_in_range v start len) _ _
-    (λ fits.
     let seen : Claims = record s { runs = s.runs + 1 } in
+    let bad : Claims = record s { runs = s.runs + 1; bad = s.bad + 1 } in
     let keep = offers_keep v seen (range_with_len start len) in
-    let first = keep.first few_dups (omega arith) in
-    let level = (offers_raise v seen (range_with_len start len) h).1 (λ k lt.
-    rw (get_or-range_with_len start len k 0 (omega arith)) (each_ok v start len k fits (omega arith))) in
-    omega arith)
-    (λ _. cond_holds (ClaimBound s) (s.bad == 10) _ _
-    (λ _. omega arith)
-    (λ _.
-    let seen : Claims = record s { runs = s.runs + 1; bad = s.bad + 1 } in
-    let keep = offers_keep v seen (range_with_len start len) in
-    let raise = (offers_raise v seen (range_with_len start len) h).0 in
-    omega arith))
+    let keep_bad = offers_keep v bad (range_with_len start len) in
+    let raise = offers_raise v seen (range_with_len start len) h in
+    let raise_bad = (offers_raise v bad (range_with_len start len) h).0 in
+    grind (arith, nat_tests, length-range_with_len, get_or-range_with_len, each_ok)
 
 pub step_moves : (v : Layout) (s : Claims) (step : Step) → length s.used ≡ v.size → v.frag ≤ 8 → HasLength v.frag step →
     ClaimBound s (after_step v s step)
-step_moves v s (Run start len block) h small some =
-    cond_holds (ClaimBound s) (is_open s) _ _
-    (λ more_dups. let both = and_parts (nat_lt s.bad 11) (nat_lt s.dups 11) more_dups in
-    run_moves v s start len h some.0 (omega (arith, some.1)) both.0 both.1)
-    (λ _. stays s)
+step_moves v s (Run start len block) h small some = grind (arith, run_moves)
 step_moves v s Tail h small some = cond_holds (ClaimBound s) (is_open s) _ _ (λ _. omega arith) (λ _. stays s)
 step_moves v s Gap h small some = stays s
 
@@ -140,18 +106,16 @@ pub steps_move : (v : Layout) (s : Claims) (steps : List Step) → length s.used
 steps_move v s [] h small long = stays s
 steps_move v s (step ∷ steps) h small long =
     let one = step_moves v s step h small (All-head (HasLength v.frag) step steps long) in
-    moves_then s (after_step v s step) (after_steps v (after_step v s step) steps) one
-    (steps_move v (after_step v s step) steps (one.used_length ∙ h) small (All-tail (HasLength v.frag) step steps long))
+    let more = steps_move v (after_step v s step) steps (one.used_length ∙ h) small (All-tail (HasLength v.frag) step steps long) in
+    omega arith
 
 -- the steps of an inode
 pub owner_moves : (v : Layout) (image : List ℕ) (s : Claims) (x : ℕ) → IsAcceptedLayout v → length s.used ≡ v.size →
     ClaimBound (at_next_inode s) (after_owner v s (owner_of v image x))
 unfolding owner_of
-owner_moves v image s x g h = steps_move v (at_next_inode s) (steps_of v (inode_of v image x) image) h g.sizes.frag_high
-    (steps_long v (inode_of v image x) image g)
+owner_moves v image s x g h = grind (arith, steps_move, steps_long)
 
 -- how many offers an inode keeps
 pub kept_bound : (s0 s : Claims) (size : ℕ) → length s.used ≡ size → s0.bad ≤ 11 → s0.dups ≤ 11 → s0.kept ≡ 0 →
     ClaimBound s0 s → s.kept ≤ size + 99
-kept_bound s0 s size h bad dups none m =
-    omega (arith, h, m.few_kept, m.bad_cap bad, m.dups_cap dups, count_by-le-length (λ b. b) s.used)
+kept_bound s0 s size h bad dups none m = grind (arith, count_by-le-length)

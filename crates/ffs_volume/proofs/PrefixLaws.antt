@@ -1,7 +1,9 @@
 -- Kept offers are a prefix of the offers.
+use Rattle.std.proofs.lemmas.Bool.Decides.{nat_tests}
+use Rattle.std.proofs.Common.{arith}
 use Rattle.std.proofs.Common.{inl, inr, ◌≡◌, ℕ, ◌+◌, Bool, true, false, refl, List, [], ◌∷◌, ◌++◌, append_assoc}
-use Rattle.std.proofs.Common.{append-nil, nat_lt, ◌==◌, not, if◌then◌else◌, map, eqb-true}
-use Rattle.std.proofs.lemmas.{Bool.cases_Bool, Bool.and_right, Bool.not-true, Bool.not_from_false, List.map-append}
+use Rattle.std.proofs.Common.{append-nil, nat_lt, ◌==◌, not, if◌then◌else◌, map}
+use Rattle.std.proofs.lemmas.{Bool.cases_Bool, Bool.not-true, List.map-append}
 use Rattle.std.specs.List.{range_with_len}
 use Rattle.ffs_volume.specs.Blocks.Claims.{Claims, is_open, after_offer, after_offers, after_run, after_step, after_steps}
 use Rattle.ffs_volume.specs.Blocks.KeptOffers.{Offer, kept_in_offers, kept_in_run, kept_in_step, kept_in_steps, offer_of}
@@ -27,24 +29,19 @@ shut_steps v i s (Gap ∷ steps) q = shut_steps v i s steps q
 prefix_then : {i : ℕ} {k k' : List Offer} {fs fs' : List ℕ} {b b' : Bool} → KeptPrefix i k fs b →
     KeptPrefix i k' fs' b' → (b ≡ true → (k' ≡ []) × (b' ≡ true)) → KeptPrefix i (k ++ k') (fs ++ fs') b'
 prefix_then {i = i} {k = k} {k' = k'} {fs = fs} {fs' = fs'} f g shut = elim f.end [
-  | inl none ↦ record {
-    rest = g.rest;
-    parts = rw (append_assoc k k' g.rest, g.parts, map-append (offer_of i) fs fs', ← f.parts, none, append-nil k);
-    end = g.end;
+  | inl none ↦ record { rest = g.rest; parts = cc (append_assoc k k' g.rest, map-append (offer_of i) fs fs', append-nil k, f.parts, g.parts, none); end = g.end }
+  | inr over ↦ record {
+    rest = f.rest ++ map (offer_of i) fs';
+    parts = cc (append-nil k, append_assoc k f.rest (map (offer_of i) fs'), map-append (offer_of i) fs fs', f.parts, (shut over).0);
+    end = inr (shut over).1;
   }
-  | inr over ↦ let cut = shut over in
-      record {
-        rest = f.rest ++ map (offer_of i) fs';
-        parts = rw (cut.0, append-nil, ← append_assoc k f.rest (map (offer_of i) fs'), f.parts, map-append);
-        end = inr cut.1;
-      }
 ]
 
 offer_first : (v : Layout) (i : ℕ) (s : Claims) (f : ℕ) →
     KeptPrefix i (if nat_lt s.dups 11 then offer_of i f ∷ [] else []) (f ∷ []) (not (nat_lt (after_offer v s f).dups 11))
 offer_first v i s f = elim (cases_Bool (nat_lt s.dups 11)) [
   | inl q ↦ record { rest = []; parts = rw q; end = inl refl }
-  | inr q ↦ record { rest = offer_of i f ∷ []; parts = rw q; end = inr (rw (q, q)) }
+  | inr q ↦ record { rest = offer_of i f ∷ []; parts = rw q; end = grind arith }
 ]
 
 offers_first : (v : Layout) (i : ℕ) (s : Claims) (fs : List ℕ) →
@@ -56,14 +53,7 @@ offers_first v i s (f ∷ fs) = prefix_then (offer_first v i s f) (offers_first 
 -- an inode whose eleventh dup offer was seen is cut
 cut_then : {i : ℕ} {kept : List Offer} {fs : List ℕ} (s : Claims) → KeptPrefix i kept fs (not (nat_lt s.dups 11)) →
     KeptPrefix i kept fs (not (is_open s))
-cut_then s f = record {
-  rest = f.rest;
-  parts = f.parts;
-  end = elim f.end [
-    | inl none ↦ inl none
-    | inr over ↦ inr (not_from_false _ (and_right (nat_lt s.bad 11) (nat_lt s.dups 11) (not-true _ over)))
-  ];
-}
+cut_then s f = grind arith
 
 run_first : (v : Layout) (i : ℕ) (s : Claims) (start len : ℕ) →
     KeptPrefix i (kept_in_run v i s start len) (range_with_len start len) (not (is_open (after_run v s start len)))
@@ -74,11 +64,7 @@ run_first v i s start len =
     elim (cases_Bool (is_run_in_range v start len)) [
       | inl r ↦ rw r (cut_then (after_offers v seen fs) (offers_first v i seen fs))
       | inr r ↦ elim (cases_Bool (s.bad == 10)) [
-        | inl z ↦ rw (r, z) (record {
-          rest = map (offer_of i) fs;
-          parts = refl;
-          end = inr (rw (eqb-true s.bad 10 z));
-        })
+        | inl z ↦ rw (r, z) (record { rest = map (offer_of i) fs; parts = refl; end = grind (arith, nat_tests) })
         | inr z ↦ rw (r, z) (cut_then (after_offers v bad fs) (offers_first v i bad fs))
       ]
     ]

@@ -1,12 +1,12 @@
 -- Laws of `specs/Encodings/Replay`.
-use Rattle.std.proofs.Common.{◌≡◌, ℕ, ◌+◌, ◌-◌, ◌<◌, ◌≤◌, false, arith, refl, ap, List, [], inl}
-use Rattle.std.proofs.Common.{inr, ◌∷◌, ◌++◌, nat_lt, ◌&&◌, ◌==◌, if◌then◌else◌, map}
-use Rattle.std.proofs.lemmas.{Bool.Decides.nat_tests, Bool.and_right, Bool.cases_Bool, List.FromFn.length-range_with_len}
+use Rattle.std.proofs.Common.{◌≡◌, ℕ, ◌+◌, ◌-◌, ◌<◌, ◌≤◌, false, arith, refl, ap, List, []}
+use Rattle.std.proofs.Common.{◌∷◌, ◌++◌, nat_lt, if◌then◌else◌, map}
+use Rattle.std.proofs.lemmas.{Bool.Decides.nat_tests, Bool.and_right, List.FromFn.length-range_with_len}
 use Rattle.std.specs.List.{range_with_len}
-use Rattle.ffs_volume.proofs.{Potentials.cond_holds, Potentials.offers_keep, PrefixLaws.shut_steps}
+use Rattle.ffs_volume.proofs.{Potentials.offers_keep, PrefixLaws.shut_steps}
 use Rattle.ffs_volume.specs.Blocks.Claims.{Claims, at_next_inode, is_open, after_offers, after_run, after_step}
 use Rattle.ffs_volume.specs.Blocks.{Claims.after_steps, KeptOffers.Offer, KeptOffers.offer_of, KeptSteps.is_kept_step}
-use Rattle.ffs_volume.specs.{Blocks.KeptSteps.kept_steps, Disk.Areas.is_run_in_range, declared.Layout.Layout}
+use Rattle.ffs_volume.specs.{Blocks.KeptSteps.kept_steps, declared.Layout.Layout}
 use Rattle.ffs_volume.specs.Encodings.Replay.{Replay, fresh_replay, cut_of, is_replay_open, taken_of, replay_after_run}
 use Rattle.ffs_volume.specs.Encodings.Replay.{replay_after_step, is_replayed, replayed_steps}
 use Rattle.ffs_volume.specs.declared.Step.{Step, TheVariants.Run, TheVariants.Tail, TheVariants.Gap}
@@ -35,34 +35,20 @@ record Grows (s s' : Claims) : Type 0 where
 
 step_grows : (v : Layout) (s : Claims) (step : Step) → Grows s (after_step v s step)
 step_grows v s Gap = omega arith
-step_grows v s Tail = cond_holds (Grows s) (is_open s) _ _ (λ _. omega arith) (λ _. omega arith)
+step_grows v s Tail = grind arith
 step_grows v s (Run start len block) =
-    cond_holds (Grows s) (is_open s) _ _
-    (λ _. cond_holds (Grows s) (is_run_in_range v start len) _ _
-    (λ _. let keep = offers_keep v (record s { runs = s.runs + 1 }) (range_with_len start len) in omega arith)
-    (λ _. cond_holds (Grows s) (s.bad == 10) _ _
-    (λ _. omega arith)
-    (λ _. let keep = offers_keep v (record s { runs = s.runs + 1; bad = s.bad + 1 }) (range_with_len start len) in
-    omega arith)))
-    (λ _. omega arith)
+    let keep = offers_keep v (record s { runs = s.runs + 1 }) (range_with_len start len) in
+    let keep_bad = offers_keep v (record s { runs = s.runs + 1; bad = s.bad + 1 }) (range_with_len start len) in
+    grind arith
 
 steps_grow : (v : Layout) (s : Claims) (steps : List Step) → Grows s (after_steps v s steps)
 steps_grow v s [] = omega arith
-steps_grow v s (step ∷ steps) =
-    let one = step_grows v s step in
-    let more = steps_grow v (after_step v s step) steps in
-    omega arith
+steps_grow v s (step ∷ steps) = let one = step_grows v s step in omega (arith, steps_grow v (after_step v s step) steps)
 
 -- where eleven offers were dup, no more are kept
 full_ends : (v : Layout) (s : Claims) (steps : List Step) → nat_lt s.dups 11 ≡ false →
     (after_steps v s steps).kept ≡ s.kept
 full_ends v s steps e = ap (λ x. x.kept) (shut_steps v 0 s steps (and_right (nat_lt s.bad 11) (nat_lt s.dups 11) e)).1
-
--- whether a step is seen, by the counts of the state before it and at the end
-seen_is : (bad sk sd ek ed : ℕ) → sd ≤ ed → ed + sk ≤ ek + sd → sd ≤ sk → (nat_lt sd 11 ≡ false → ek ≡ sk)
-    → is_replay_open (if nat_lt ed 11 then 0 else ek) (record { bad = bad; kept = sk })
-    ≡ (nat_lt bad 11 && nat_lt sd 11)
-seen_is bad sk sd ek ed low rise few full = grind (arith, nat_tests)
 
 -- how many offers of a Run are kept, by the counts of the states before it, after it and at the end
 taken_is : (sk tk td ek ed len : ℕ) → sk ≤ tk → tk ≤ sk + len → (td < 11 → tk ≡ sk + len) → tk ≤ ek →
@@ -76,48 +62,33 @@ offers_replay : (v : Layout) (s t : Claims) (start len : ℕ) (steps : List Step
     → s.kept + taken_of (cut_of (after_steps v (after_offers v t (range_with_len start len)) steps)) s.kept len
     ≡ (after_offers v t (range_with_len start len)).kept
 offers_replay v s t start len steps k d few =
-    let u = after_offers v t (range_with_len start len) in
-    let e = after_steps v u steps in
     let keep = offers_keep v t (range_with_len start len) in
-    let long = length-range_with_len start len in
-    let g = steps_grow v u steps in
-    taken_is s.kept u.kept u.dups e.kept e.dups len (omega arith) (omega arith) (λ low. omega (arith, keep.whole low))
-    g.kept_low g.dups_low g.rise (omega arith) (full_ends v u steps)
+    grind (arith, length-range_with_len, steps_grow, taken_is, full_ends)
 
 pub seen_replays : (v : Layout) (s : Claims) (steps : List Step) → s.dups ≤ s.kept →
     is_replay_open (cut_of (after_steps v s steps)) (replay_of s) ≡ is_open s
-seen_replays v s steps few =
-    let e = after_steps v s steps in
-    let g = steps_grow v s steps in
-    seen_is s.bad s.kept s.dups e.kept e.dups g.dups_low g.rise few (full_ends v s steps)
+seen_replays v s steps few = grind (arith, steps_grow, full_ends)
 
 -- a Run that is seen does in the replay what it did
 run_replays : (v : Layout) (s : Claims) (start len : ℕ) (steps : List Step) → s.dups ≤ s.kept
     → replay_after_run v (cut_of (after_steps v (after_run v s start len) steps)) (replay_of s) start len
     ≡ replay_of (after_run v s start len)
 run_replays v s start len steps few =
-    elim (cases_Bool (is_run_in_range v start len)) [
-      | inl r ↦
-          let t : Claims = record s { runs = s.runs + 1 } in
-          let kept = offers_replay v s t start len steps refl refl few in
-          rw (r, kept, (offers_keep v t (range_with_len start len)).bad_is)
-      | inr r ↦ elim (cases_Bool (s.bad == 10)) [
-        | inl z ↦ rw (r, z)
-        | inr z ↦
-            let t : Claims = record s { runs = s.runs + 1; bad = s.bad + 1 } in
-            let kept = offers_replay v s t start len steps refl refl few in
-            rw (r, z, kept, (offers_keep v t (range_with_len start len)).bad_is)
-      ]
-    ]
+    let seen : Claims = record s { runs = s.runs + 1 } in
+    let bad : Claims = record s { runs = s.runs + 1; bad = s.bad + 1 } in
+    let kept = offers_replay v s seen start len steps refl refl few in
+    let kept_bad = offers_replay v s bad start len steps refl refl few in
+    let a = (offers_keep v seen (range_with_len start len)).bad_is in
+    let b = (offers_keep v bad (range_with_len start len)).bad_is in
+    grind arith
 
 -- and so does each step
 pub step_replays : (v : Layout) (s : Claims) (step : Step) (steps : List Step) → s.dups ≤ s.kept
     → replay_after_step v (cut_of (after_steps v s (step ∷ steps))) (replay_of s) step ≡ replay_of (after_step v s step)
 step_replays v s Gap steps few = refl
-step_replays v s Tail steps few = cond_holds (λ t. replay_of s ≡ replay_of t) (is_open s) _ _ (λ _. refl) (λ _. refl)
+step_replays v s Tail steps few = grind arith
 step_replays v s (Run start len block) steps few =
-    rw (seen_replays v s (Run start len block ∷ steps) few)
-    (elim (cases_Bool (is_open s)) [ inl o ↦ simp o (run_replays v s start len steps few) | inr o ↦ simp o ])
+    rw (seen_replays v s (Run start len block ∷ steps) few) (grind (arith, run_replays))
 
 -- a step keeps its counts in order
 pub step_few : (v : Layout) (s : Claims) (step : Step) → s.dups ≤ s.kept →
@@ -135,9 +106,8 @@ steps_replay : (v : Layout) (s : Claims) (steps : List Step) → s.dups ≤ s.ke
     → replayed_steps v (cut_of (after_steps v s steps)) (replay_of s) steps ≡ kept_steps v s steps
 steps_replay v s [] few = refl
 steps_replay v s (step ∷ steps) few =
-    let kept = kept_replays v s step steps few in
-    let next = step_replays v s step steps few in
-    rw (kept, next, steps_replay v (after_step v s step) steps (step_few v s step few))
+    let more = steps_replay v (after_step v s step) steps (step_few v s step few) in
+    grind (arith, kept_replays, step_replays)
 
 -- the kept steps of an inode are those of the replay, with the cut that its end reports
 pub replay_is_keeping : (v : Layout) (s : Claims) (steps : List Step)

@@ -1,12 +1,11 @@
 -- Laws of `specs/Encodings/ReplayCounts`.
-use Rattle.std.proofs.Common.{zero, suc, ◌≡◌, ℕ, ◌+◌, ◌-◌, ◌≤◌, Bool, true, false, arith, refl}
-use Rattle.std.proofs.Common.{ap, List, [], ◌∷◌, ◌++◌, replicate, nat_lt, ◌&&◌, ◌==◌, if◌then◌else◌, map, inl, inr}
-use Rattle.std.{proofs.lemmas.Bool.cases_Bool, proofs.lemmas.Bool.Decides.nat_tests, specs.List.range_with_len}
+use Rattle.std.proofs.Common.{zero, suc, ◌≡◌, ℕ, ◌+◌, ◌≤◌, arith, refl}
+use Rattle.std.proofs.Common.{List, [], ◌∷◌, ◌++◌, replicate}
 use Rattle.ffs_volume.proofs.ReplayIsKeeping.{replay_of, replayed_step_offers, replayed_offers, seen_replays}
 use Rattle.ffs_volume.{proofs.ReplayIsKeeping.step_replays, proofs.ReplayIsKeeping.step_few, specs.Blocks.Claims.Claims}
-use Rattle.ffs_volume.specs.Blocks.Claims.{at_next_inode, is_open, after_offers, after_run, after_step, after_steps}
-use Rattle.ffs_volume.{specs.declared.Step.Step, proofs.Potentials.cond_holds, proofs.Potentials.offers_keep}
-use Rattle.ffs_volume.specs.{Blocks.KeptOffers.offer_of, Disk.Areas.is_run_in_range, Encodings.Replay.Replay}
+use Rattle.ffs_volume.specs.Blocks.Claims.{at_next_inode, after_offers, after_run, after_step, after_steps}
+use Rattle.ffs_volume.{specs.declared.Step.Step, proofs.Potentials.offers_keep}
+use Rattle.ffs_volume.specs.{Encodings.Replay.Replay}
 use Rattle.ffs_volume.specs.Encodings.Replay.{fresh_replay, cut_of, replay_after_step, is_replayed, replayed_steps}
 use Rattle.ffs_volume.specs.Encodings.ReplayCounts.{seen_run, replayed_runs, replay_step_by_cut}
 use Rattle.ffs_volume.specs.declared.{Layout.Layout, Step.TheVariants.Run, Step.TheVariants.Tail, Step.TheVariants.Gap}
@@ -28,29 +27,21 @@ pub offers_runs : (v : Layout) (s : Claims) (fs : List ℕ) → (after_offers v 
 offers_runs v s fs = (offers_keep v s fs).runs_is
 
 run_runs : (v : Layout) (s : Claims) (start len : ℕ) → (after_run v s start len).runs ≡ s.runs + 1
-run_runs v s start len =
-    cond_holds (λ (t : Claims). t.runs ≡ s.runs + 1) (is_run_in_range v start len) _ _
-    (λ _. offers_runs v (record s { runs = s.runs + 1 }) (range_with_len start len))
-    (λ _. cond_holds (λ (t : Claims). t.runs ≡ s.runs + 1) (s.bad == 10) _ _
-    (λ _. refl)
-    (λ _. offers_runs v (record s { runs = s.runs + 1; bad = s.bad + 1 }) (range_with_len start len)))
+run_runs v s start len = grind (arith, offers_runs)
 
 step_runs : (v : Layout) (s : Claims) (step : Step) (steps : List Step) → s.dups ≤ s.kept
     → (after_step v s step).runs ≡ s.runs + seen_run (cut_of (after_steps v s (step ∷ steps))) (replay_of s) step
 step_runs v s Gap steps few = omega arith
-step_runs v s Tail steps few =
-    cond_holds (λ (t : Claims). t.runs ≡ s.runs + 0) (is_open s) _ _ (λ _. omega arith) (λ _. omega arith)
+step_runs v s Tail steps few = grind arith
 step_runs v s (Run start len block) steps few =
-    rw (seen_replays v s (Run start len block ∷ steps) few)
-    (elim (cases_Bool (is_open s)) [ inl o ↦ rw o (run_runs v s start len) | inr o ↦ rw o (omega arith) ])
+    let seen = seen_replays v s (Run start len block ∷ steps) few in grind (arith, run_runs)
 
 steps_runs : (v : Layout) (s : Claims) (steps : List Step) → s.dups ≤ s.kept
     → (after_steps v s steps).runs ≡ s.runs + replayed_runs v (cut_of (after_steps v s steps)) (replay_of s) steps
 steps_runs v s [] few = omega arith
 steps_runs v s (step ∷ steps) few =
-    let one = step_runs v s step steps few in
     let more = steps_runs v (after_step v s step) steps (step_few v s step few) in
-    rw (step_replays v s step steps few) (omega arith)
+    grind (arith, step_runs, step_replays)
 
 -- an inode's Runs that are seen are those of the replay
 pub replay_is_runs : (v : Layout) (s : Claims) (steps : List Step)
@@ -58,23 +49,6 @@ pub replay_is_runs : (v : Layout) (s : Claims) (steps : List Step)
     steps))
     fresh_replay steps
 replay_is_runs v s steps = steps_runs v (at_next_inode s) steps (omega arith)
-
--- the replay after a Run without a cut, by three tests: that it is seen, that it is in range, and
--- that it is the eleventh bad one. `more` are the kept offers with its own
-abbrev run_by : (seen fits last : Bool) (bad kept more : ℕ) → Replay
-run_by seen fits last bad kept more =
-    if seen then (if fits then record { bad = bad; kept = more }
-    else (if last then record { bad = bad + 1; kept = kept } else record { bad = bad + 1; kept = more }))
-    else record { bad = bad; kept = kept }
-
--- it has as many bad Runs whatever is kept, and keeps as many offers whatever was kept before
-run_alike : (o i t : Bool) (bad k m k' m' : ℕ) → (run_by o i t bad k m).bad ≡ (run_by o i t bad k' m').bad
-run_alike o i t bad k m k' m' = grind arith
-
-run_keeps : (o i t : Bool) (bad k k' len : ℕ) →
-    ((o && (run_by o i t bad k (k + len)).kept == k + len) ≡ (o && (run_by o i t bad k' (k' + len)).kept == k' + len))
-    × ((run_by o i t bad k (k + len)).kept - k ≡ (run_by o i t bad k' (k' + len)).kept - k')
-run_keeps o i t bad k k' len = grind (arith, nat_tests)
 
 -- what a step does to two replays without a cut that saw as many bad Runs
 record Alike (v : Layout) (i : ℕ) (r q : Replay) (step : Step) : Type 0 where
@@ -84,46 +58,19 @@ record Alike (v : Layout) (i : ℕ) (r q : Replay) (step : Step) : Type 0 where
   run_is : seen_run 0 r step ≡ seen_run 0 q step
 
 step_alike : (v : Layout) (i : ℕ) (r q : Replay) (step : Step) → r.bad ≡ q.bad → Alike v i r q step
-step_alike v i r q Gap a = record { bad = a; step_is = rw a; offers_are = refl; run_is = refl }
-step_alike v i r q Tail a = record { bad = a; step_is = rw a; offers_are = refl; run_is = refl }
-step_alike v i r q (Run start len block) a =
-    let seen = nat_lt q.bad 11 && true in
-    let fits = is_run_in_range v start len in
-    let keeps = run_keeps seen fits (q.bad == 10) q.bad r.kept q.kept len in
-    record {
-      bad = rw a (run_alike seen fits (q.bad == 10) q.bad r.kept (r.kept + len) q.kept (q.kept + len));
-      step_is = rw a keeps.0;
-      offers_are = rw a (ap (λ n. map (offer_of i) (range_with_len start n)) keeps.1);
-      run_is = rw a;
-    }
+step_alike v i r q step a = grind arith
 
 alike_same : (v : Layout) (i : ℕ) (r q : Replay) (steps : List Step) → r.bad ≡ q.bad → SameReplay v i 0 r q steps
-alike_same v i r q [] a = record { steps_are = refl; offers_are = refl; runs_are = refl }
+alike_same v i r q [] a = grind arith
 alike_same v i r q (step ∷ steps) a =
     let one = step_alike v i r q step a in
     let more = alike_same v i (replay_after_step v 0 r step) (replay_after_step v 0 q step) steps one.bad in
-    record {
-      steps_are = rw (one.step_is, more.steps_are);
-      offers_are = rw (one.offers_are, more.offers_are);
-      runs_are = rw (one.run_is, more.runs_are);
-    }
+    grind arith
 
 -- a replay continues in the same way from the kept offers that are counted only where there is a
 -- cut
 pub counted_same : (v : Layout) (i cut : ℕ) (r : Replay) (step : Step) (steps : List Step) →
     SameReplay v i cut (replay_after_step v cut r step) (replay_step_by_cut v cut r step) steps
 counted_same v i zero r step steps =
-    alike_same v i (replay_after_step v 0 r step) (replay_step_by_cut v 0 r step) steps (same step)
-  where
-    same : (step : Step) → (replay_after_step v 0 r step).bad ≡ (replay_step_by_cut v 0 r step).bad
-    same Gap = refl
-    same Tail = refl
-    same (Run start len block) = run_alike (nat_lt r.bad 11 && true) (is_run_in_range v start len) (r.bad == 10) r.bad
-        r.kept (r.kept + len) r.kept r.kept
-counted_same v i (suc cut) r step steps =
-    rw (equal step) (record { steps_are = refl; offers_are = refl; runs_are = refl })
-  where
-    equal : (step : Step) → replay_after_step v (suc cut) r step ≡ replay_step_by_cut v (suc cut) r step
-    equal Gap = refl
-    equal Tail = refl
-    equal (Run start len block) = let some : (suc cut == 0) ≡ false = grind (arith, nat_tests) in rw some
+    alike_same v i (replay_after_step v 0 r step) (replay_step_by_cut v 0 r step) steps (grind arith)
+counted_same v i (suc cut) r step steps = grind arith

@@ -1,7 +1,7 @@
 -- When a list of messages is empty.
-use Rattle.std.proofs.Common.{◌≡◌, ◌≢◌, ℕ, zero, suc, ◌<◌}
-use Rattle.std.proofs.Common.{Bool, true, false, refl, List, [], ◌∷◌, ◌++◌, if◌then◌else◌, arith, ◌∙◌, ap, inl, inr}
-use Rattle.std.proofs.lemmas.Bool.{cases_eq, cond_both}
+use Rattle.std.proofs.Common.{◌≡◌, ℕ, zero, suc, ◌<◌}
+use Rattle.std.proofs.Common.{Bool, true, false, refl, List, [], ◌∷◌, ◌++◌, if◌then◌else◌, arith}
+use Rattle.std.proofs.lemmas.Bool.{cond_both}
 use Rattle.ffs_volume.specs.Messages.Kinds.{TreeMessage, reported, lines_below}
 
 pub nil-left : (xs ys : List TreeMessage) → xs ++ ys ≡ [] → xs ≡ []
@@ -39,11 +39,7 @@ then-silent b xs h = cond_both b xs [] (λ zs. zs ≡ []) h (λ _. refl)
 pub lines-quiet : (f : ℕ → List TreeMessage) (n : ℕ) → lines_below f n ≡ [] → (i : ℕ) → i < n → f i ≡ []
 unfolding lines_below
 lines-quiet f zero h i l = absurd (omega arith)
-lines-quiet f (suc n) h i l =
-    elim (cases_eq i n) [
-      | inl e ↦ ap f e ∙ nil-right (lines_below f n) (f n) h
-      | inr e ↦ lines-quiet f n (nil-left (lines_below f n) (f n) h) i (let q : i ≢ n = e in omega arith)
-    ]
+lines-quiet f (suc n) h i l = let more = lines-quiet f n in grind (arith, nil-right, nil-left)
 
 pub lines-silent : (f : ℕ → List TreeMessage) (n : ℕ) → ((i : ℕ) → i < n → f i ≡ []) → lines_below f n ≡ []
 unfolding lines_below

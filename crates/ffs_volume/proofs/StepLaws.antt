@@ -1,14 +1,14 @@
 -- The Runs of data of an inode come in the order of its logical blocks, and each Run has a fragment
 -- at least, and a block's fragments at most.
-use Rattle.std.proofs.Common.{zero, suc, inl, inr, ◌≡◌, ℕ, ◌+◌, ◌-◌, ◌*◌, ◌%◌, ◌<◌, ◌≤◌}
-use Rattle.std.proofs.Common.{◌==◌, Bool, true, false, arith, refl, List, [], ◌∷◌, ◌++◌, Some, None, nat_lt, nat_eq}
-use Rattle.std.proofs.Common.{◌&&◌, if◌then◌else◌, slice_index, flat_map, mul-le-mul_right, mod-lt, append-nil, All, ◌≢◌}
-use Rattle.std.proofs.lemmas.Bool.{cases_lt, cond_both, eqb-false, Decides.nat_tests}
+use Rattle.std.proofs.Common.{zero, suc, ◌≡◌, ℕ, ◌+◌, ◌*◌, ◌%◌, ◌<◌, ◌≤◌}
+use Rattle.std.proofs.Common.{◌==◌, Bool, true, false, arith, refl, List, [], ◌∷◌, ◌++◌, Some, None, nat_eq}
+use Rattle.std.proofs.Common.{if◌then◌else◌, slice_index, flat_map, mul-le-mul_right, append-nil, All}
+use Rattle.std.proofs.lemmas.Bool.{Decides.nat_tests}
 use Rattle.std.proofs.lemmas.{Grind.div_ceil_times, List.Elements.All-nil, List.Elements.All-cons}
-use Rattle.std.{proofs.Common.lt_of_mul-lt-mul_right, specs.Int.div_ceil, specs.List.range_with_len}
+use Rattle.std.{specs.Int.div_ceil, specs.List.range_with_len}
 use Rattle.ffs_volume.specs.Blocks.{Inodes.logical_blocks_of, Inodes.addresses_needed, Steps.FileBlocks}
 use Rattle.ffs_volume.specs.Blocks.Steps.{block_bytes, address_at, indirect_addresses_needed, tail_of, any_nonzero_from}
-use Rattle.ffs_volume.specs.Blocks.Steps.{steps_under, data_length, span_of, data_step, indirect_steps}
+use Rattle.ffs_volume.specs.Blocks.Steps.{steps_under, span_of, data_step, indirect_steps}
 use Rattle.ffs_volume.specs.Blocks.Steps.{steps_at, indirection_of, first_block, last_length_of, is_walked, steps_of}
 use Rattle.ffs_volume.specs.{Disk.Areas.is_run_in_range, Laws.Geometry.IsAcceptedLayout, Laws.RunLengths.HasLength}
 use Rattle.ffs_volume.specs.declared.{Inode.Inode, Layout.Layout, Step.Step}
@@ -46,8 +46,7 @@ within_flat : (frag : ℕ) (steps : ℕ → List Step) (place : ℕ → ℕ) (ne
 within_flat frag steps place next zero h = let e : next + 0 ≡ next = omega arith in rw e (omega arith)
 within_flat frag steps place next (suc count) h =
     let e : next + suc count ≡ (next + 1) + count = omega arith in
-    rw e (within_append frag (place next) (place (next + 1)) (place ((next + 1) + count)) (steps next)
-    (flat_map steps (range_with_len (next + 1) count)) (h next (omega arith))
+    rw e (within_append frag _ _ _ (steps next) _ (h next (omega arith))
     (within_flat frag steps place (next + 1) count (λ j l. h j (omega arith))))
 
 within_long : (frag low high : ℕ) (xs : List Step) → Within frag low high xs → All (HasLength frag) xs
@@ -58,28 +57,16 @@ within_long frag low high (Run start len None ∷ xs) w =
     All-cons (HasLength frag) (Run start len None) xs w.0 (within_long frag low high xs w.1)
 within_long frag low high (step ∷ xs) w = All-cons (HasLength frag) step xs tt (within_long frag low high xs w)
 
-pub one_more : (a b : ℕ) → (a + 1) * b ≡ a * b + b
-one_more a b = grind arith
-
 -- the last block has a fragment at least, and a block's fragments at most
 abbrev IsFit : FileBlocks → Type 0
 IsFit t = (0 < t.last_length) × (t.last_length ≤ t.layout.frag)
 
 data_within : (t : FileBlocks) (address block : ℕ) → IsFit t →
     Within t.layout.frag block (block + 1) (data_step t address block ∷ [])
-data_within t address block l =
-    cond_both (nat_eq address 0) Gap (Run address (data_length t block) (Some block))
-    (λ step. Within t.layout.frag block (block + 1) (step ∷ []))
-    (λ _. omega arith)
-    (λ _. (omega arith, long, omega arith))
-  where
-    long : HasLength t.layout.frag (Run address (data_length t block) (Some block))
-    long = cond_both (nat_lt block 12 && nat_eq (block + 1) t.blocks) t.last_length t.layout.frag
-        (λ n. (0 < n) × (n ≤ t.layout.frag)) (λ _. l) (λ _. omega arith)
+data_within t address block l = grind arith
 
 tail_within : (frag first : ℕ) (b : Bool) → Within frag first first (tail_of b)
-tail_within frag first true = omega arith
-tail_within frag first false = omega arith
+tail_within frag first b = grind arith
 
 indirect_within : (t : FileBlocks) (bytes : List ℕ) (child : ℕ → ℕ → List Step) (span address first : ℕ) → IsFit t
     → ((a f : ℕ) → Within t.layout.frag f (f + span) (child a f))
@@ -96,31 +83,22 @@ indirect_within t bytes child span address first l h =
     tail : List Step
     tail = tail_of (any_nonzero_from t.layout (block_bytes t.layout bytes address) used)
 
-    each : (j : ℕ) → Within t.layout.frag (first + j * span) (first + (j + 1) * span)
-        (child (address_at t.layout bytes address j) (first + j * span))
-    each j =
-        let m : first + (j + 1) * span ≡ first + j * span + span = omega arith in
-        rw m (h (address_at t.layout bytes address j) (first + j * span))
-
     inner : Within t.layout.frag first (first + t.layout.nindir * span) (tail ++ under)
     inner =
-        let few : used ≤ t.layout.nindir = omega arith in
-        let most : used * span ≤ t.layout.nindir * span = mul-le-mul_right span few in
+        let most : used * span ≤ t.layout.nindir * span = mul-le-mul_right span (omega arith) in
+        let u = within_flat t.layout.frag (λ j. child (address_at t.layout bytes address j) (first + j * span))
+        (λ j. first + j * span) 0 used
+        (λ j low. let m : first + (j + 1) * span ≡ first + j * span + span = omega arith in rw m (h _ _)) in
         let z : first + 0 * span ≡ first = omega arith in
         let y : 0 + used ≡ used = omega arith in
-        let u = within_flat t.layout.frag (λ j. child (address_at t.layout bytes address j) (first + j * span))
-        (λ j. first + j * span) 0 used (λ j low. each j) in
         let whole = within_append t.layout.frag first (first + used * span) (first + t.layout.nindir * span) under []
         (rw (z, y) at u) (omega arith) in
-        within_append t.layout.frag first first (first + t.layout.nindir * span) tail under
-        (tail_within t.layout.frag first (any_nonzero_from t.layout (block_bytes t.layout bytes address) used))
-        (rw append-nil at whole)
+        within_append t.layout.frag first first _ tail under (tail_within _ _ _) (rw append-nil at whole)
 
     one : (a b : Bool) → Within t.layout.frag first (first + t.layout.nindir * span)
         (if a then Gap ∷ [] else Run address t.layout.frag None ∷ (if b then tail ++ under else []))
     one true b = omega arith
-    one false true = ((omega (arith, l.0, l.1), omega arith), inner)
-    one false false = ((omega (arith, l.0, l.1), omega arith), omega arith)
+    one false b = grind (arith, inner)
 
 pub span_more : (words level : ℕ) → words * span_of words level ≡ span_of words (suc level)
 span_more words zero = omega arith
@@ -130,25 +108,8 @@ at_within : (t : FileBlocks) (bytes : List ℕ) (level address first : ℕ) → 
     → Within t.layout.frag first (first + span_of t.layout.nindir level) (steps_at t bytes level address first)
 unfolding steps_at
 at_within t bytes zero address first l = data_within t address first l
-at_within t bytes (suc level) address first l =
-    rw (← span_more t.layout.nindir level)
-    (indirect_within t bytes (steps_at t bytes level) (span_of t.layout.nindir level) address first l
-    (λ a f. at_within t bytes level a f l))
-
--- where the blocks under an address end, those under the next begin
-pub next_first : (words i : ℕ) → i < 14 → first_block words i + span_of words (indirection_of i)
-    ≡ first_block words (i + 1)
-next_first words i h = elim (cases_lt i 12) [
-  | inl low ↦
-      let z : i - 11 ≡ 0 = omega arith in
-      let a : nat_lt i 13 ≡ true = grind (arith, nat_tests) in
-      let b : nat_lt (i + 1) 13 ≡ true = grind (arith, nat_tests) in
-      rw (z, a, b)
-  | inr high ↦ elim (cases_lt i 13) [
-    | inl twelve ↦ let e : i ≡ 12 = omega arith in rw e
-    | inr thirteen ↦ let e : i ≡ 13 = omega arith in rw e
-  ]
-]
+at_within t bytes (suc level) address first l = rw (← span_more t.layout.nindir level)
+    (indirect_within t bytes (steps_at t bytes level) _ address first l (λ a f. at_within t bytes level a f l))
 
 -- where the blocks under each of the fifteen addresses begin, and after them where the last ones end
 abbrev first_or_end : ℕ → ℕ → ℕ
@@ -156,29 +117,19 @@ first_or_end words i =
     if i == 15 then first_block words 14 + span_of words (indirection_of 14) else first_block words i
 
 next_or_end : (words i : ℕ) → i < 15 → first_block words i + span_of words (indirection_of i) ≡ first_or_end words (i + 1)
-next_or_end words i h = elim (cases_lt i 14) [
-  | inl low ↦ let a : (i + 1 == 15) ≡ false = grind (arith, nat_tests) in rw a (next_first words i low)
-  | inr high ↦ let e : i ≡ 14 = omega arith in rw e
-]
+next_or_end words i h = grind (arith, nat_tests)
 
 -- how many units cover n, which is some and less than `frag` of them
 ceil_fits : (n k frag unit : ℕ) → 0 < n → n ≤ k * unit → k * unit < n + unit → n < frag * unit → (0 < k) × (k ≤ frag)
-ceil_fits n k frag unit some low high less =
-    let a : 0 < k = lt_of_mul-lt-mul_right unit {m = 0} {n = k} (omega arith) in
-    let b : k < frag + 1 = lt_of_mul-lt-mul_right unit {m = k} {n = frag + 1} (omega arith) in
-    omega arith
+ceil_fits n k frag unit some low high less = grind arith
 
 last_fits : (v : Layout) (i : Inode) → IsAcceptedLayout v → (0 < last_length_of v i) × (last_length_of v i ≤ v.frag)
 last_fits v i g =
     let n = i.size % v.bsize in
-    cond_both (nat_eq n 0) v.frag (div_ceil n v.fsize) (λ k. (0 < k) × (k ≤ v.frag))
-    (λ _. omega (arith, g.sizes.frag_low))
-    (λ e.
-    let low : 0 < v.fsize = omega (arith, g.sizes.fsize_low) in
-    let ceil = div_ceil_times n v.fsize low in
-    let over : n < v.bsize = mod-lt i.size (omega (arith, g.sizes.bsize_low)) in
-    let some : n ≢ 0 = eqb-false n 0 e in
-    ceil_fits n (div_ceil n v.fsize) v.frag v.fsize (omega arith) ceil.0 ceil.1 (omega (arith, g.sizes.block)))
+    let sizes = g.sizes in
+    let ceil = div_ceil_times n v.fsize (omega arith) in
+    let fits = ceil_fits n (div_ceil n v.fsize) v.frag v.fsize in
+    grind (arith, nat_tests)
 
 pub used_most : (words blocks : ℕ) → addresses_needed words blocks ≤ 15
 used_most words blocks = grind (arith, nat_tests)
@@ -187,11 +138,7 @@ used_most words blocks = grind (arith, nat_tests)
 pub steps_within : (v : Layout) (i : Inode) (bytes : List ℕ) → IsAcceptedLayout v → (high : ℕ)
     × Within v.frag 0 high (steps_of v i bytes)
 unfolding steps_of
-steps_within v i bytes g = (
-  first_or_end v.nindir (0 + addresses_needed v.nindir t.blocks),
-  within_flat v.frag (λ j. steps_at t bytes (indirection_of j) (slice_index i.addresses j) (first_block v.nindir j))
-      (first_or_end v.nindir) 0 (addresses_needed v.nindir t.blocks) each,
-)
+steps_within v i bytes g = (_, within_flat v.frag _ (first_or_end v.nindir) 0 (addresses_needed v.nindir t.blocks) each)
   where
     t : FileBlocks
     t = record {
@@ -204,10 +151,9 @@ steps_within v i bytes g = (
         (first_or_end v.nindir (j + 1))
         (steps_at t bytes (indirection_of j) (slice_index i.addresses j) (first_block v.nindir j))
     each j low =
-        let few : j < 15 = omega (arith, used_most v.nindir t.blocks) in
+        let few = used_most v.nindir t.blocks in
         let a : (j == 15) ≡ false = grind (arith, nat_tests) in
-        rw (a, ← next_or_end v.nindir j few)
-        (at_within t bytes (indirection_of j) (slice_index i.addresses j) (first_block v.nindir j) (last_fits v i g))
+        rw (a, ← next_or_end v.nindir j (omega arith)) (at_within t bytes _ _ (first_block v.nindir j) (last_fits v i g))
 
 -- each of them has a length
 pub steps_long : (v : Layout) (i : Inode) (bytes : List ℕ) → IsAcceptedLayout v
