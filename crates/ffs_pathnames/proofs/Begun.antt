@@ -62,21 +62,21 @@ unfolding attributes volume_of volume_with
 attr_size v b d = refl
 
 -- what was found is the volume's
-pub starts_are : (v : Layout) (b : List ℕ) (d : ℕ) (old new : Workspace) (e : Examination)
+pub starts_are : (v : Layout) (b : List ℕ) (d : ℕ) (old new : Workspace) (e : Examination) (start : List ℕ)
     (above : Option ℕ) (first second : Option Entry) →
-    IsExamined v b d old e new → above ≡ parent (graph_of (volume_of v b)) d →
-    first ≡ started_entry 0 e.look.started v.order e.look.start →
-    second ≡ started_entry 1 e.look.started v.order e.look.start →
+    IsExamined v b d old e start new → above ≡ parent (graph_of (volume_of v b)) d →
+    first ≡ started_entry 0 e.look.started v.order start →
+    second ≡ started_entry 1 e.look.started v.order start →
     header_reported (attributes (volume_of v b) d) (dir_path (graph_of (volume_of v b)) d) d above e.look.gap
     e.look.sound first second ≡ dir_header_lines (volume_of v b) d
 unfolding dir_header_lines start_entry
-starts_are v b d old new e above first second f p q r =
+starts_are v b d old new e start above first second f p q r =
     rw (p, f.gap, f.sound, q, r, f.started) refl
 
-pub begun_is : (v : Layout) (b : List ℕ) (d : ℕ) (old new more : Workspace) (e : Examination) →
-    IsExamined v b d old e new → LeavesAllButDue old new → more ≡ record new { windows = more.windows } →
+pub begun_is : (v : Layout) (b : List ℕ) (d : ℕ) (old new more : Workspace) (e : Examination) (start : List ℕ) →
+    IsExamined v b d old e start new → LeavesAllButDue old new → more ≡ record new { windows = more.windows } →
     IsDirectoryBegun v b d old e more
-begun_is v b d old new more e f q m = record {
+begun_is v b d old new more e start f q m = record {
   inode = f.inode;
   quiet = f.quiet;
   passed = rw (m, q.flags, f.stamps) refl;

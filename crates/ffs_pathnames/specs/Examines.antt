@@ -26,13 +26,13 @@ pub record ExamineLeaves {T : Type 0} (v : Layout) (d d' : Device) (old new : Wo
 -- its inode, whether a Gap of it is kept, whether its chunks are sound, the chunk at the start of
 -- the file, whether nothing may be reported of its entries; and each inode that belongs to it is
 -- stamped
-pub record IsExamined (v : Layout) (b : List ℕ) (d : ℕ) (old : Workspace) (e : Examination) (new : Workspace) :
-    Type 0 where
+pub record IsExamined (v : Layout) (b : List ℕ) (d : ℕ) (old : Workspace) (e : Examination) (start : List ℕ)
+    (new : Workspace) : Type 0 where
   pub inode : e.inode ≡ inode_of v b d
   pub gap : e.look.gap ≡ (volume_of v b).gap d
   pub sound : e.look.sound ≡ are_sound ((volume_of v b).chunks d)
   pub started : find (λ c. c.offset == 0) ((volume_of v b).chunks d) ≡ start_chunk [] e.look.started v.order
-      e.look.start
+      start
   pub quiet : e.look.quiet ≡ are_quiet (volume_of v b) d (passed_of old).stamps (roled_entries (volume_of v b) d)
   pub stamps : (passed_of new).stamps
       ≡ after_looks (volume_of v b) d (passed_of old).stamps (roled_entries (volume_of v b) d)

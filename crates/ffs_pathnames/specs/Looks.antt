@@ -23,7 +23,7 @@ pub record IsChunkLook (inodes : Inodes) (d : ℕ) (order : Order) (first : Bool
 -- all sound, whether a Gap is kept, the chunk at the start of the file; and each inode that belongs
 -- to the directory is stamped, by the words before and after
 pub record IsFirstLook (v : Layout) (inodes : Inodes) (d : Directory) (b : List ℕ) (old : List ℕ) (f : FirstLook)
-    (new : List ℕ) : Type 0 where
+    (start new : List ℕ) : Type 0 where
   pub quiet : (vol : Volume) → Sees vol inodes → d.inode.size < 2 ^ 31
       → f.quiet ≡ are_quiet vol d.number (stamps_in inodes old) (flat_map roled_chunk (chunks_read v d.inode d.cut
       b))
@@ -32,4 +32,4 @@ pub record IsFirstLook (v : Layout) (inodes : Inodes) (d : Directory) (b : List 
   pub sound : d.inode.size < 2 ^ 31 → f.sound ≡ are_sound (chunks_read v d.inode d.cut b)
   pub gap : f.gap ≡ has_gap (replayed_steps v d.cut fresh_replay (steps_of v d.inode b))
   pub started : d.inode.size < 2 ^ 31 → find (λ c. c.offset == 0) (chunks_read v d.inode d.cut b)
-      ≡ start_chunk [] f.started v.order f.start
+      ≡ start_chunk [] f.started v.order start

@@ -14,7 +14,7 @@ ghost use Rattle.ffs_pathnames.specs.DirectoryContext.{DirectoryContext, KnowsHe
 ghost use Rattle.ffs_pathnames.specs.{LineReads.ReadsByLines, PassedRight.AreRightBefore};
 ghost use Rattle.ffs_pathnames.specs.Ready.{ReadyToPath, PhaseLeaves, LinesLeave};
 
-use crate::directory::{Directory, FirstLook};
+use crate::directory::Directory;
 use crate::examine::{Examination, examine};
 use crate::header::{HeaderFacts, is_in_order, say_header};
 use crate::one_entry::{EntryTexts, gather_dir};
@@ -24,6 +24,7 @@ use ffs_layout::{Entry, Geometry, entry_at};
 use ffs_paths::{KeptParent, PathText};
 use ffs_report::{Output, Report, RunFault};
 use ffs_volume::Order;
+use ffs_volume::constants::DIRBLKSIZ;
 use ffs_workspace::Workspace;
 
 /// What is carried from the check of one directory to that of the next.
@@ -50,19 +51,21 @@ fn parent_of(workspace: &Workspace, dir: u32) -> Option<u32>
 }
 
 /// The first two entries of the chunk at the start of a directory, if that was found.
-fn first_two<'a>(order: Order, found: &'a FirstLook) -> (Option<Entry<'a>>, Option<Entry<'a>>)
-    ensures first { option_map entry_value result.0
-        ≡ started_entry 0 found.now.started order found.now.start }
-    ensures second { option_map entry_value result.1
-        ≡ started_entry 1 found.now.started order found.now.start }
+fn first_two<'a>(
+    order: Order,
+    started: bool,
+    start: &'a [u8; DIRBLKSIZ],
+) -> (Option<Entry<'a>>, Option<Entry<'a>>)
+    ensures first { option_map entry_value result.0 ≡ started_entry 0 started order start.now }
+    ensures second { option_map entry_value result.1 ≡ started_entry 1 started order start.now }
 {
-    if !found.started {
+    if !started {
         return (None, None);
     }
-    match entry_at(order, &found.start, 0) {
+    match entry_at(order, start, 0) {
         None => (None, None),
         Some(entry) => {
-            let second = entry_at(order, &found.start, usize::from(entry.length));
+            let second = entry_at(order, start, usize::from(entry.length));
             (Some(entry), second)
         }
     }
@@ -150,9 +153,17 @@ fn begin_directory<I: Image, W: Output>(
     ensures leaves { PhaseLeaves geometry.now.layout (I.device image.old) (I.device image.new)
         workspace.old workspace.new checking.new.texts.kept_parent result }
 {
-    let examined = examine(geometry, image, workspace, &mut checking.reads_left, dir)?;
+    let mut start = [0u8; DIRBLKSIZ];
+    let examined = examine(
+        geometry,
+        image,
+        workspace,
+        &mut checking.reads_left,
+        dir,
+        &mut start,
+    )?;
     let parent = parent_of(workspace, dir);
-    let (first, second) = first_two(geometry.layout.order, &examined.look);
+    let (first, second) = first_two(geometry.layout.order, examined.look.started, &start);
     let header = HeaderFacts {
         number: dir,
         parent,

@@ -41,8 +41,6 @@ pub struct FirstLook {
     pub gap: bool,
     /// Whether a chunk is at the start of the file.
     pub started: bool,
-    /// That chunk.
-    pub start: [u8; DIRBLKSIZ],
 }
 
 /// Keeps a chunk that is at the start of the file, if none is kept yet, and returns whether one is.
@@ -64,7 +62,7 @@ fn keep_start(
 }
 
 /// Looks at a directory once: at its entries, its chunks, its holes, and the chunk at the start of
-/// the file.
+/// the file, which is put into `start`.
 ///
 /// # Errors
 /// A read of the image that failed.
@@ -75,13 +73,14 @@ pub fn look_directory<I: Image>(
     inodes: &Inodes<'_>,
     words: &mut FilledList<u32>,
     directory: &Directory,
+    start: &mut [u8; DIRBLKSIZ],
 ) -> Result<FirstLook, ImageFault>
     requires ready { CanReadChunks geometry.now.layout (I.device image.old) windows.old.blocks
         windows.old.chunk }
     requires words { CanStamp inodes.now directory.now.number words.old.items }
     ensures found { IfOk result (λ f. ForContents (I.device image.old).contents
         (λ b. IsFirstLook geometry.now.layout inodes.now directory.now b words.old.items f
-        words.new.items)) }
+        start.new words.new.items)) }
     ensures places { KeepPlaces words.old.items words.new.items }
     ensures words_long { vec_len words.new ≡ vec_len words.old }
     ensures reads { ForContents (I.device image.old).contents
@@ -98,7 +97,6 @@ pub fn look_directory<I: Image>(
     let order = geometry.layout.order;
     let mut chunks = Chunks::start(geometry, &directory.inode, directory.cut);
     let mut chunk = [0u8; DIRBLKSIZ];
-    let mut start = [0u8; DIRBLKSIZ];
     let mut quiet = true;
     let mut sound = true;
     let mut started = false;
@@ -111,7 +109,7 @@ pub fn look_directory<I: Image>(
         let looked = look_chunk(inodes, directory.number, order, offset == 0, &chunk, words);
         quiet &= looked.quiet;
         sound &= looked.sound;
-        started = keep_start(offset, &chunk, started, &mut start);
+        started = keep_start(offset, &chunk, started, start);
     }
     let gap = gap_of(image, &mut windows.blocks, &mut chunks)?;
     Ok(FirstLook {
@@ -119,6 +117,5 @@ pub fn look_directory<I: Image>(
         sound,
         gap,
         started,
-        start,
     })
 }

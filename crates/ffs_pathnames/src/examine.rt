@@ -29,12 +29,13 @@ fn examine_all<I: Image>(
     image: &mut I,
     workspace: &mut Workspace,
     dir: u32,
+    start: &mut [u8; DIRBLKSIZ],
 ) -> Result<Examination, ImageFault>
     requires ready { IsReadyFor geometry.now.layout (I.device image.old) workspace.old dir }
     requires dir { 2 ≤ dir }
     ensures found { IfOk result (λ e. ForBytes
         (DirectoryContext geometry.now.layout (I.device image.old).contents workspace.old dir)
-        (λ b. IsExamined geometry.now.layout b dir workspace.old e workspace.new)) }
+        (λ b. IsExamined geometry.now.layout b dir workspace.old e start.new workspace.new)) }
     ensures reads { ForBytes
         (DirectoryContext geometry.now.layout (I.device image.old).contents workspace.old dir)
         (λ b. I.reads image.new ≤ I.reads image.old + directory_cost geometry.now.layout b dir) }
@@ -60,6 +61,7 @@ fn examine_all<I: Image>(
         &inodes,
         &mut workspace.queue,
         &directory,
+        start,
     )?;
     Ok(Examination { inode, look })
 }
@@ -85,12 +87,12 @@ fn unexamined() -> Examination
             sound: false,
             gap: false,
             started: false,
-            start: [0; DIRBLKSIZ],
         },
     }
 }
 
-/// Examines a directory. `reads_left` is how many reads may be made of directories' own blocks; it
+/// Examines a directory, and puts the chunk at the start of the file into `start`, if one is there.
+/// `reads_left` is how many reads may be made of directories' own blocks; it
 /// falls by those that are made. Only an image that gives other bytes each time asks for more: the
 /// directory is then corrupted.
 ///
@@ -102,12 +104,13 @@ pub fn examine<I: Image>(
     workspace: &mut Workspace,
     reads_left: &mut u64,
     dir: u32,
+    start: &mut [u8; DIRBLKSIZ],
 ) -> Result<Examination, ImageFault>
     requires ready { IsReadyFor geometry.now.layout (I.device image.old) workspace.old dir }
     requires dir { 2 ≤ dir }
     ensures found { IfOk result (λ e. ForBytes
         (LeftForLook geometry.now.layout (I.device image.old) workspace.old dir reads_left.old)
-        (λ b. IsExamined geometry.now.layout b dir workspace.old e workspace.new)) }
+        (λ b. IsExamined geometry.now.layout b dir workspace.old e start.new workspace.new)) }
     ensures reads { ForBytes
         (DirectoryContext geometry.now.layout (I.device image.old).contents workspace.old dir)
         (λ b. I.reads image.new ≤ I.reads image.old + directory_cost geometry.now.layout b dir) }
@@ -119,7 +122,7 @@ pub fn examine<I: Image>(
         workspace.old workspace.new result }
 {
     let mut limited = LimitedImage::new(image, Some(*reads_left));
-    let examined = examine_all(geometry, &mut limited, workspace, dir);
+    let examined = examine_all(geometry, &mut limited, workspace, dir, start);
     *reads_left = limited.left();
     if limited.is_spent() {
         return Ok(unexamined());

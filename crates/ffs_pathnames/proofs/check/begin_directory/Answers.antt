@@ -39,7 +39,7 @@ lines_are : (g : Over) (c : After-report_header g) (b : List ℕ) → LeftForLoo
     ≡ dir_header_lines (volume_of c.args.geometry.now.layout b) c.args.dir
 lines_are g c b k =
     let v = c.args.geometry.now.layout in
-    starts_are v b c.args.dir c.args.workspace.now c.examine.new.workspace c.in_ok-examined.examined _ _ _
+    starts_are v b c.args.dir c.args.workspace.now c.examine.new.workspace c.in_ok-examined.examined _ _ _ _
     (c.in_ok-examined.ensures.found b k) (c.parent_of-parent.ensures v b
     (survey_left v b _ _ c.in_ok-examined.ensures.leaves.lists.survey k.0.survey))
     c.first_two.ensures.first c.first_two.ensures.second
@@ -92,7 +92,7 @@ pub returns-clause-begun : goal.returns-clause-begun
 returns-clause-begun g c = λ b k.
     begun_is c.args.geometry.now.layout b c.args.dir c.args.workspace.now c.examine.new.workspace _
     c.in_ok-examined.examined
-    (c.in_ok-examined.ensures.found b k) c.in_ok-examined.ensures.leaves.lists
+    _ (c.in_ok-examined.ensures.found b k) c.in_ok-examined.ensures.leaves.lists
     c.in_ok-report_header.ensures.leaves.lists
 
 pub examine-requires-clause-ready : goal.examine-requires-clause-ready

@@ -1,39 +1,19 @@
-use Rattle.std.proofs.Common.{ap, sym, ◌∙◌}
-use Rattle.std.proofs.lemmas.{Bool.both_ways, Result.err_from_is_err_and}
-use Rattle.ffs_volume.specs.Directories.{Parents.graph_of, Volumes.volume_of}
-use Rattle.ffs_paths.{specs.LastPaths.last_path, proofs.Rooms.entry_in_room}
-use Rattle.ffs_paths.proofs.Keeping.{leaves_with, no_reads}
-use Rattle.ffs_pathnames.proofs.{Carrying.if_ok, VerdictLaws.enough, VerdictLaws.path_asks_attr, ReadyLaws.leaves_read}
+use Rattle.std.proofs.Common.{ap, arith, sym, ◌∙◌}
+use Rattle.std.proofs.lemmas.Result.{err_from_is_err_and}
+use Rattle.ffs_pathnames.proofs.{Carrying.if_ok, VerdictLaws.path_asks_attr, ReadyLaws.leaves_read}
 use Rattle.ffs_pathnames.proofs.one_entry.gather.Goals as goal
 
 pub returns-clause-enough : goal.returns-clause-enough
 returns-clause-enough g c =
-    let v = c.args.geometry.now.layout in
-    let read = c.in_ok-gather_path.ensures.leaves.reads.read in
-    if_ok c.read_attr.result _ _
-    (λ a attr b dir t h r p. enough (volume_of v b) c.args.verdict.now dir c.args.entry.now.number
-    c.args.entry.now.name.now a (last_path c.gather_path.new.texts.paths)
-    c.gather_path.new.texts.directory.items
-    (λ q. attr b (ap (λ x. x.contents) read ∙ t))
-    (ap last_path c.gather_path.ensures.same.1 ∙ (c.put.ensures.path (graph_of (volume_of v b)) dir p
-    ∙ entry_in_room (graph_of (volume_of v b)) dir c.args.entry.now.name.now c.args.entry.now.short))
-    (λ q. c.in_ok-gather_path.ensures.path b t h r (c.asks-wants_attr.ensures.directory ∙ q)))
-    c.read_attr.ensures.attr
+    let path = c.in_ok-gather_path.ensures in
+    if_ok c.gather_inode.result _ _
+    (λ a e dir b k p. e b (ap (λ x. x.contents) path.leaves.reads.read ∙ k.gives_bytes) dir c.gather_path.new.texts.directory.items
+    (rw path.same.1 p) (λ q. path.path dir b k (c.asks-wants_path.ensures.directory ∙ q)))
+    c.gather_inode.ensures.enough
 
 pub returns-clause-leaves : goal.returns-clause-leaves
 returns-clause-leaves g c =
-    leaves_read c.read_attr.result c.in_ok-gather_path.ensures.leaves c.read_attr.ensures.reads
-
-pub returns-then-not-wants_attr-clause-enough : goal.returns-then-not-wants_attr-clause-enough
-returns-then-not-wants_attr-clause-enough g c = λ b dir t h r p.
-    let v = c.args.geometry.now.layout in
-    let silent = sym c.asks-wants_attr.ensures.attr ∙ c.if-not-wants_attr.true in
-    enough (volume_of v b) c.args.verdict.now dir c.args.entry.now.number c.args.entry.now.name.now
-    _ (last_path c.put.new.self) c.args.texts.now.directory.items
-    (λ q. absurd (both_ways _ silent q))
-    (c.put.ensures.path (graph_of (volume_of v b)) dir p
-    ∙ entry_in_room (graph_of (volume_of v b)) dir c.args.entry.now.name.now c.args.entry.now.short)
-    (λ q. absurd (both_ways _ silent (path_asks_attr c.args.verdict.now q)))
+    leaves_read c.gather_inode.result c.in_ok-gather_path.ensures.leaves c.gather_inode.ensures.reads
 
 pub returns-in_err-gather_path-clause-leaves : goal.returns-in_err-gather_path-clause-leaves
 returns-in_err-gather_path-clause-leaves g c =
@@ -44,23 +24,18 @@ returns-in_err-gather_path-clause-leaves g c =
       kept_parent = tt;
     })
 
-pub read_attr-requires : goal.read_attr-requires
-read_attr-requires g c = record {
-  ready = c.in_ok-gather_path.ensures.leaves.reads.ready;
-  number = c.requires.number (sym c.asks-wants_attr.ensures.attr ∙ c.if-not-wants_attr.false);
-}
-
-pub gather_path-requires : goal.gather_path-requires
-gather_path-requires g c = record {
-  ready = c.requires.ready.ready;
-  kept_parent = c.requires.ready.kept_parent;
-  number = c.requires.number (sym c.asks-wants_attr.ensures.attr ∙ c.if-not-wants_attr.false);
-}
-
-pub returns-then-not-wants_attr-clause-leaves : goal.returns-then-not-wants_attr-clause-leaves
-returns-then-not-wants_attr-clause-leaves g c =
-    leaves_with _ (no_reads c.requires.ready.ready) c.requires.ready.kept_parent
+pub gather_path-requires-clause-number : goal.gather_path-requires-clause-number
+gather_path-requires-clause-number g c = λ q.
+    c.requires.number (path_asks_attr c.args.verdict.now (sym c.asks-wants_path.ensures.directory ∙ q))
 
 pub returns-in_err-gather_path-clause-enough : goal.returns-in_err-gather_path-clause-enough
 returns-in_err-gather_path-clause-enough g c =
     let p = err_from_is_err_and c.from_residual.result c.from_residual.ensures.1 in rw p.1 tt
+
+pub returns-in_err-gather_path-clause-most : goal.returns-in_err-gather_path-clause-most
+returns-in_err-gather_path-clause-most g c = λ numbered.
+    let path = c.gather_path.ensures.most numbered in omega (arith, path)
+
+pub returns-clause-most : goal.returns-clause-most
+returns-clause-most g c = λ numbered.
+    let path = c.gather_path.ensures.most numbered in omega (arith, path, c.gather_inode.ensures.counted.count)
