@@ -5,7 +5,7 @@ use Rattle.std.proofs.Common.{Result, Ok, Err}
 use Rattle.std.proofs.lemmas.Bool.{both_ways}
 use Rattle.ffs_image.specs.{Device.Device, Limited.GivesBack, Limited.limited_device}
 use Rattle.ffs_image.{specs.declared.image.ImageFault.ImageFault, proofs.Limits.ServedBy, proofs.Limits.read_over, proofs.Limits.served}
-use Rattle.ffs_volume.specs.{declared.Layout.Layout, Report.Reads.line_reads}
+use Rattle.ffs_volume.specs.{declared.Layout.Layout}
 use Rattle.ffs_workspace.specs.{declared.workspace.Workspace.Workspace, Places.AreChunksNumbered, Ready.IsReady}
 use Rattle.ffs_workspace.proofs.Readiness.{ready_same}
 use Rattle.ffs_paths.specs.Reads.{OnlyReads, ReadsAtMost}
@@ -13,11 +13,11 @@ use Rattle.ffs_paths.specs.{KeptParents.KeepsParent, KeptParents.PathLeaves, dec
 use Rattle.ffs_pathnames.{specs.DirectoryContext.DirectoryContext, proofs.LineCounts.knows_places}
 
 -- what was gathered over a limited image leaves of the image below and of the workspace
-pub record IsGathered {T : Type 0} (v : Layout) (d d' : Device) (name_lent name : GName) (reads reads' : ℕ)
+pub record IsGathered {T : Type 0} (n : ℕ) (v : Layout) (d d' : Device) (name_lent name : GName) (reads reads' : ℕ)
     (w w' : Workspace) (s : KeptParent) (spent : Bool) (r : Result T ImageFault) : Type 0 where
   pub same_image : name_lent ≡ name
-  pub most : reads' ≤ reads + line_reads
-  pub counted : ReadsAtMost line_reads v d w w' reads reads'
+  pub most : reads' ≤ reads + n
+  pub counted : ReadsAtMost n v d w w' reads reads'
   pub all : (b : List ℕ) (x : ℕ) → DirectoryContext v d.contents w x b → spent ≡ true → ⊥
   pub leaves : spent ≡ false → PathLeaves v d d' w w' s r
   pub reads_of : spent ≡ true → (x : T) → OnlyReads v d d' w w' (Ok x)
@@ -51,12 +51,12 @@ path_below {v = v} {w' = w'} {s = s} (Ok x) back none p = record {
 path_below (Err f) back none p = record { reads = reads_below (Err f) back none p.reads; kept_parent = tt }
 
 gathered_by : {T : Type 0} {v : Layout} {d d' l' : Device} {w w' : Workspace} {s : KeptParent} {name_lent name : GName}
-    {reads reads' limit before asked : ℕ} {spent : Bool} (r : Result T ImageFault) →
-    before ≡ 0 → AreChunksNumbered v → limit ≡ line_reads →
+    {reads reads' limit before asked n : ℕ} {spent : Bool} (r : Result T ImageFault) →
+    before ≡ 0 → AreChunksNumbered v → limit ≡ n →
     ServedBy d d' name_lent name reads reads' limit asked spent r →
     PathLeaves v (limited_device d name_lent reads (Some limit)) l' w w' s r →
-    ReadsAtMost line_reads v (limited_device d name_lent reads (Some limit)) w w' before asked →
-    IsGathered v d d' name_lent name reads reads' w w' s spent r
+    ReadsAtMost n v (limited_device d name_lent reads (Some limit)) w w' before asked →
+    IsGathered n v d d' name_lent name reads reads' w w' s spent r
 gathered_by {v = v} {d = d} {w = w} r begins numbered price back p few = record {
   same_image = back.same_image;
   most = rw (← price) back.most;
@@ -83,13 +83,13 @@ gathered_by {v = v} {d = d} {w = w} r begins numbered price back p few = record 
 
 -- by the contracts of the part and of the limited image
 pub gathered : {T : Type 0} {v : Layout} {d d' l l' : Device} {w w' : Workspace} {s : KeptParent}
-    {name_lent name : GName} {reads reads' limit left before asked : ℕ} {spent : Bool} {r : Result T ImageFault} →
-    l ≡ limited_device d name_lent reads (Some limit) → before ≡ 0 → AreChunksNumbered v × (limit ≡ line_reads) →
-    PathLeaves v l l' w w' s r → ReadsAtMost line_reads v l w w' before asked →
+    {name_lent name : GName} {reads reads' limit left before asked n : ℕ} {spent : Bool} {r : Result T ImageFault} →
+    l ≡ limited_device d name_lent reads (Some limit) → before ≡ 0 → AreChunksNumbered v × (limit ≡ n) →
+    PathLeaves v l l' w w' s r → ReadsAtMost n v l w w' before asked →
     ((below : Device) (given : GName) (counted : ℕ) (most : Option ℕ) →
     l'.lent ≡ (limited_device below given counted most).lent → l'.contents ≡ below.contents → l'.size ≡ below.size →
     GivesBack below d' given name counted reads' most left asked spent (limited_device below given counted most) l') →
-    IsGathered v d d' name_lent name reads reads' w w' s spent r
+    IsGathered n v d d' name_lent name reads reads' w w' s spent r
 gathered {r = r} over begins limit p few back =
     let p' = rw over at p in
     let few' = rw over at few in

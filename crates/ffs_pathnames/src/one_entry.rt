@@ -1,6 +1,6 @@
 //! The lines of a plain entry.
-ghost use Rattle.std.specs.Prelude.{◌≡◌, ◌+◌, ◌*◌, ◌<◌, ◌≤◌, ℕ, true, false, List, length, Option, Some, OnOk, IfOk, IsTrue};
-ghost use Rattle.std.specs.Prelude.{vec_len};
+ghost use Rattle.std.specs.Prelude.{◌≡◌, ◌+◌, ◌*◌, ◌<◌, ◌≤◌, ℕ, false, List, length, Option, Some, OnOk, IfOk, IsTrue};
+ghost use Rattle.std.specs.Prelude.{vec_len, IfSome};
 ghost use Rattle.ffs_image.specs.Device.{ForContents};
 ghost use Rattle.ffs_volume.specs.Directories.PathnameCheck.{attributes, extra_lines};
 ghost use Rattle.ffs_volume.specs.Directories.{Parents.graph_of, Paths.dir_path, Volumes.volume_of};
@@ -17,7 +17,7 @@ ghost use Rattle.ffs_workspace.specs.Ready.{IsReady};
 ghost use Rattle.ffs_workspace.specs.declared.workspace.Workspace.{Workspace as WorkspaceIn};
 ghost use Rattle.ffs_paths.specs.KeptParents.{KeepsParent};
 ghost use Rattle.ffs_paths.specs.{DirectoryPaths.IsPathOf, LastPaths.last_path};
-ghost use Rattle.ffs_paths.specs.Reads.{ForTree, IsReadyFor, OnlyReads, ReadsAtMost, ReadsFew};
+ghost use Rattle.ffs_paths.specs.Reads.{IsReadyFor, OnlyReads, ReadsAtMost, ReadsFew};
 
 use crate::inodes::Inodes;
 use crate::lines::say_verdict;
@@ -75,11 +75,30 @@ impl EntryTexts {
     }
 }
 
-/// Makes the path of a directory for the lines on its entries. It is apart from `begin_paths`,
-/// which is called for each line: a function clears the room of its locals each time that it is
-/// entered, and those here are large.
-#[inline(never)]
-fn make_paths<I: Image>(
+/// Keeps nothing of a parent any more.
+fn forget_parent(kept_parent: &mut KeptParent)
+    ensures { (v : Layout) (contents : Option (List ℕ)) (w : WorkspaceIn)
+        → KeepsParent v contents w kept_parent.new }
+{
+    kept_parent.parent = 0;
+    kept_parent.child = 0;
+}
+
+/// At most how many reads are made for a path, where each chunk of the volume is numbered
+/// (`line_reads`).
+fn path_reads(geometry: &Geometry) -> Option<u64>
+    ensures numbered { AreChunksNumbered geometry.now.layout → result ≡ Some path_reads }
+    ensures limited { IfSome result (λ n. AreChunksNumbered geometry.now.layout
+        × (n ≡ path_reads)) }
+{
+    match line_reads(geometry) {
+        Some(reads) => Some(reads / 2),
+        None => None,
+    }
+}
+
+/// What `make_paths` does, as often as the image is read for it.
+fn make_paths_freely<I: Image>(
     geometry: &Geometry,
     image: &mut I,
     workspace: &mut Workspace,
@@ -105,6 +124,79 @@ fn make_paths<I: Image>(
     Ok(())
 }
 
+/// Makes the path of a directory for the lines on its entries. An image that gives other bytes each
+/// time may be read more often than a path reads at most: then no more is read, and no path is made.
+/// It is apart from `begin_paths`, which is called for each line: a function clears the room of its
+/// locals each time that it is entered, and those here are large.
+#[inline(never)]
+fn make_paths<I: Image>(
+    geometry: &Geometry,
+    image: &mut I,
+    workspace: &mut Workspace,
+    texts: &mut EntryTexts,
+    dir: u32,
+) -> Result<(), ImageFault>
+    requires { ReadyToPath geometry.now.layout (I.device image.old) workspace.old
+        texts.old.kept_parent dir }
+    ensures made { OnOk result (ForBytes (KnowsPath geometry.now.layout
+        (I.device image.old).contents workspace.old dir texts.old)
+        (λ b. IsPathOf (graph_of (volume_of geometry.now.layout b)) dir
+        texts.new.paths.directory)) }
+    ensures path { KeepsPath geometry.now.layout (I.device image.old) workspace.old
+        dir texts.old texts.new }
+    ensures leaves { PathLeaves geometry.now.layout (I.device image.old) (I.device image.new)
+        workspace.old workspace.new texts.new.kept_parent result }
+    ensures counted { ReadsAtMost path_reads geometry.now.layout (I.device image.old)
+        workspace.old workspace.new (I.reads image.old) (I.reads image.new) }
+    ensures most { AreChunksNumbered geometry.now.layout
+        → I.reads image.new ≤ I.reads image.old + path_reads }
+{
+    let Some(limit) = path_reads(geometry) else {
+        return make_paths_freely(geometry, image, workspace, texts, dir);
+    };
+    let mut limited = LimitedImage::new(image, Some(limit));
+    let result = make_paths_freely(geometry, &mut limited, workspace, texts, dir);
+    if limited.is_spent() {
+        forget_parent(&mut texts.kept_parent);
+        return Ok(());
+    }
+    result
+}
+
+/// Writes the path of a directory. An image that gives other bytes each time may be read more often
+/// than a path reads at most: then no more is read, and the text is what was there or a path.
+fn put_path<I: Image>(
+    geometry: &Geometry,
+    image: &mut I,
+    workspace: &mut Workspace,
+    kept_parent: &mut KeptParent,
+    dir: u32,
+    path: &mut PathText,
+) -> Result<(), ImageFault>
+    requires { ReadyToPath geometry.now.layout (I.device image.old) workspace.old kept_parent.old
+        dir }
+    ensures path { OnOk result ((x : ℕ) → ForBytes (DirectoryContext geometry.now.layout
+        (I.device image.old).contents workspace.old x) (λ b.
+        path.new.items ≡ dir_path (graph_of (volume_of geometry.now.layout b)) dir)) }
+    ensures leaves { PathLeaves geometry.now.layout (I.device image.old) (I.device image.new)
+        workspace.old workspace.new kept_parent.new result }
+    ensures counted { ReadsAtMost path_reads geometry.now.layout (I.device image.old)
+        workspace.old workspace.new (I.reads image.old) (I.reads image.new) }
+    ensures most { AreChunksNumbered geometry.now.layout
+        → I.reads image.new ≤ I.reads image.old + path_reads }
+{
+    let Some(limit) = path_reads(geometry) else {
+        return kept_parent.put_path(geometry, image, workspace, dir, path);
+    };
+    let mut limited = LimitedImage::new(image, Some(limit));
+    let result = kept_parent.put_path(geometry, &mut limited, workspace, dir, path);
+    if limited.is_spent() {
+        forget_parent(kept_parent);
+        return Ok(());
+    }
+    result
+}
+
 /// Makes the path of a directory for the lines on its entries, where it wasn't made yet.
 #[inline(always)]
 fn begin_paths<I: Image>(
@@ -126,6 +218,8 @@ fn begin_paths<I: Image>(
         workspace.old workspace.new texts.new.kept_parent result }
     ensures counted { ReadsAtMost path_reads geometry.now.layout (I.device image.old)
         workspace.old workspace.new (I.reads image.old) (I.reads image.new) }
+    ensures most { AreChunksNumbered geometry.now.layout
+        → I.reads image.new ≤ I.reads image.old + path_reads }
 {
     if texts.begun {
         return Ok(());
@@ -183,27 +277,29 @@ fn gather_path<I: Image>(
     requires ready { ReadyWith geometry.now.layout (I.device image.old) workspace.old
         texts.old.kept_parent }
     requires number { IsTrue wanted → dir < geometry.now.layout.ncg * geometry.now.layout.ipg }
-    ensures path { OnOk result (ForTree geometry.now.layout (I.device image.old) workspace.old
-        (λ g. IsTrue wanted → texts.new.directory.items ≡ dir_path g dir)) }
+    ensures path { OnOk result ((x : ℕ) → ForBytes (DirectoryContext geometry.now.layout
+        (I.device image.old).contents workspace.old x) (λ b. IsTrue wanted
+        → texts.new.directory.items ≡ dir_path (graph_of (volume_of geometry.now.layout b)) dir)) }
     ensures same { (texts.new.begun ≡ texts.old.begun) × (texts.new.paths ≡ texts.old.paths) }
     ensures leaves { PathLeaves geometry.now.layout (I.device image.old) (I.device image.new)
         workspace.old workspace.new texts.new.kept_parent result }
     ensures counted { ReadsAtMost path_reads geometry.now.layout (I.device image.old)
         workspace.old workspace.new (I.reads image.old) (I.reads image.new) }
+    ensures most { AreChunksNumbered geometry.now.layout
+        → I.reads image.new ≤ I.reads image.old + path_reads }
 {
     if !wanted {
         return Ok(());
     }
     let kept_parent = &mut texts.kept_parent;
-    kept_parent.put_path(geometry, image, workspace, dir, &mut texts.directory)
-}
-
-/// Whether a path of a directory is made for the lines of a verdict on an entry: that of the
-/// directory that it is in, or of the one that it names.
-fn asks_any_path(texts: &EntryTexts, verdict: &Verdict) -> bool
-    ensures { result ≡ false → (texts.now.begun ≡ true) × (asks_path verdict.now ≡ false) }
-{
-    !texts.begun || asks(verdict).1
+    put_path(
+        geometry,
+        image,
+        workspace,
+        kept_parent,
+        dir,
+        &mut texts.directory,
+    )
 }
 
 /// Gathers what is shown of an entry besides paths of directories, once that of its own directory is
@@ -256,31 +352,23 @@ fn gather<I: Image>(
         texts.old.kept_parent }
     requires number { IsTrue (asks_attr verdict.now) → entry.now.number
         < geometry.now.layout.ncg * geometry.now.layout.ipg }
-    ensures enough { IfOk result (λ a. (b : List ℕ) (dir : ℕ) → (I.device image.old).contents
-        ≡ Some b → HoldsClaims geometry.now.layout b workspace.old
-        → HoldsSurvey geometry.now.layout b workspace.old →
+    ensures enough { IfOk result (λ a. (dir : ℕ) → ForBytes (DirectoryContext
+        geometry.now.layout (I.device image.old).contents workspace.old dir) (λ b.
         IsPathOf (graph_of (volume_of geometry.now.layout b)) dir texts.old.paths.directory →
         IsEnough (volume_of geometry.now.layout b) verdict.now dir entry.now.number
-        entry.now.name.now a (last_path texts.new.paths) texts.new.directory.items) }
+        entry.now.name.now a (last_path texts.new.paths) texts.new.directory.items)) }
     ensures same { texts.new.paths.directory ≡ texts.old.paths.directory }
     ensures begun { texts.new.begun ≡ texts.old.begun }
     ensures leaves { PathLeaves geometry.now.layout (I.device image.old) (I.device image.new)
         workspace.old workspace.new texts.new.kept_parent result }
     ensures counted { ReadsAtMost (path_reads + 1) geometry.now.layout (I.device image.old)
         workspace.old workspace.new (I.reads image.old) (I.reads image.new) }
+    ensures most { AreChunksNumbered geometry.now.layout
+        → I.reads image.new ≤ I.reads image.old + path_reads + 1 }
 {
     let wants_path = asks(verdict).1;
     gather_path(geometry, image, workspace, texts, wants_path, entry.number)?;
     gather_inode(geometry, image, workspace, &mut texts.paths, entry, verdict)
-}
-
-/// Keeps nothing of a parent any more.
-fn forget_parent(kept_parent: &mut KeptParent)
-    ensures { (v : Layout) (contents : Option (List ℕ)) (w : WorkspaceIn)
-        → KeepsParent v contents w kept_parent.new }
-{
-    kept_parent.parent = 0;
-    kept_parent.child = 0;
 }
 
 /// The attributes of an inode that wasn't read.
@@ -295,37 +383,7 @@ fn no_attr(number: u32) -> Attr {
 }
 
 /// Gathers what the messages on an entry of a directory show, and makes the path of that directory
-/// where it wasn't made yet. Nothing limits how often it reads.
-fn gather_entry_freely<I: Image>(
-    geometry: &Geometry,
-    image: &mut I,
-    workspace: &mut Workspace,
-    texts: &mut EntryTexts,
-    entry: &DirectoryEntry<'_>,
-    verdict: &Verdict,
-) -> Result<Attr, ImageFault>
-    requires ready { ReadyToPath geometry.now.layout (I.device image.old) workspace.old
-        texts.old.kept_parent entry.now.dir }
-    requires number { IsTrue (asks_attr verdict.now) → entry.now.entry.number
-        < geometry.now.layout.ncg * geometry.now.layout.ipg }
-    ensures enough { IfOk result (λ a. ForBytes (KnowsPath geometry.now.layout
-        (I.device image.old).contents workspace.old entry.now.dir texts.old) (λ b.
-        IsEnough (volume_of geometry.now.layout b) verdict.now entry.now.dir entry.now.entry.number
-        entry.now.entry.name.now a (last_path texts.new.paths) texts.new.directory.items)) }
-    ensures path { KeepsPath geometry.now.layout (I.device image.old) workspace.old
-        entry.now.dir texts.old texts.new }
-    ensures leaves { PathLeaves geometry.now.layout (I.device image.old) (I.device image.new)
-        workspace.old workspace.new texts.new.kept_parent result }
-    ensures counted { ReadsAtMost line_reads geometry.now.layout (I.device image.old)
-        workspace.old workspace.new (I.reads image.old) (I.reads image.new) }
-{
-    begin_paths(geometry, image, workspace, texts, entry.dir)?;
-    gather(geometry, image, workspace, texts, &entry.entry, verdict)
-}
-
-/// Gathers what the messages on an entry of a directory show, and makes the path of that directory
-/// where it wasn't made yet. An image that gives other bytes each time may be read more often than a
-/// line reads at most: then no more is read, and what was gathered so far is shown.
+/// where it wasn't made yet.
 #[inline(always)]
 fn gather_entry<I: Image>(
     geometry: &Geometry,
@@ -352,54 +410,12 @@ fn gather_entry<I: Image>(
     ensures most { AreChunksNumbered geometry.now.layout
         → I.reads image.new ≤ I.reads image.old + line_reads }
 {
-    if !asks_any_path(texts, verdict) {
-        // One read at most is none that needs a limit.
-        let paths = &mut texts.paths;
-        return gather_inode(geometry, image, workspace, paths, &entry.entry, verdict);
-    }
-    let Some(limit) = line_reads(geometry) else {
-        return gather_entry_freely(geometry, image, workspace, texts, entry, verdict);
-    };
-    let mut limited = LimitedImage::new(image, Some(limit));
-    let result = gather_entry_freely(geometry, &mut limited, workspace, texts, entry, verdict);
-    if limited.is_spent() {
-        forget_parent(&mut texts.kept_parent);
-        return Ok(no_attr(entry.entry.number));
-    }
-    result
+    begin_paths(geometry, image, workspace, texts, entry.dir)?;
+    gather(geometry, image, workspace, texts, &entry.entry, verdict)
 }
 
 /// Gathers what the message on an extra entry of a directory shows: the path of the directory into
-/// `texts`, and its attributes. Nothing limits how often it reads.
-fn gather_extra_freely<I: Image>(
-    geometry: &Geometry,
-    image: &mut I,
-    workspace: &mut Workspace,
-    texts: &mut EntryTexts,
-    dir: u32,
-) -> Result<Attr, ImageFault>
-    requires { ReadyToPath geometry.now.layout (I.device image.old) workspace.old
-        texts.old.kept_parent dir }
-    ensures attr { IfOk result (λ a. ForContents (I.device image.old).contents
-        (λ b. a ≡ attributes (volume_of geometry.now.layout b) dir)) }
-    ensures text { OnOk result (ForBytes (KnowsPath geometry.now.layout
-        (I.device image.old).contents workspace.old dir texts.old) (λ b.
-        texts.new.directory.items ≡ dir_path (graph_of (volume_of geometry.now.layout b)) dir)) }
-    ensures path { KeepsPath geometry.now.layout (I.device image.old) workspace.old
-        dir texts.old texts.new }
-    ensures leaves { PathLeaves geometry.now.layout (I.device image.old) (I.device image.new)
-        workspace.old workspace.new texts.new.kept_parent result }
-    ensures counted { ReadsAtMost line_reads geometry.now.layout (I.device image.old)
-        workspace.old workspace.new (I.reads image.old) (I.reads image.new) }
-{
-    begin_paths(geometry, image, workspace, texts, dir)?;
-    let paths = &texts.paths;
-    paths.directory.put(&mut texts.directory);
-    read_attr(geometry, image, workspace, dir)
-}
-
-/// Gathers what the message on an extra entry of a directory shows: the path of the directory into
-/// `texts`, and its attributes. It reads no more often than a line does at most (`gather_entry`).
+/// `texts`, and its attributes.
 fn gather_extra<I: Image>(
     geometry: &Geometry,
     image: &mut I,
@@ -424,16 +440,10 @@ fn gather_extra<I: Image>(
     ensures most { AreChunksNumbered geometry.now.layout
         → I.reads image.new ≤ I.reads image.old + line_reads }
 {
-    let Some(limit) = line_reads(geometry) else {
-        return gather_extra_freely(geometry, image, workspace, texts, dir);
-    };
-    let mut limited = LimitedImage::new(image, Some(limit));
-    let result = gather_extra_freely(geometry, &mut limited, workspace, texts, dir);
-    if limited.is_spent() {
-        forget_parent(&mut texts.kept_parent);
-        return Ok(no_attr(dir));
-    }
-    result
+    begin_paths(geometry, image, workspace, texts, dir)?;
+    let paths = &texts.paths;
+    paths.directory.put(&mut texts.directory);
+    read_attr(geometry, image, workspace, dir)
 }
 
 /// The verdict on a plain entry, by what the workspace holds.
@@ -543,34 +553,7 @@ pub fn report_extra<I: Image, W: Output>(
     Ok(())
 }
 
-/// Gathers what the messages on a directory show: its path into `path`, and its attributes. Nothing
-/// limits how often it reads.
-fn gather_dir_freely<I: Image>(
-    geometry: &Geometry,
-    image: &mut I,
-    workspace: &mut Workspace,
-    kept_parent: &mut KeptParent,
-    dir: u32,
-    path: &mut PathText,
-) -> Result<Attr, ImageFault>
-    requires { ReadyToPath geometry.now.layout (I.device image.old) workspace.old kept_parent.old
-        dir }
-    ensures attr { IfOk result (λ a. ForContents (I.device image.old).contents
-        (λ b. a ≡ attributes (volume_of geometry.now.layout b) dir)) }
-    ensures path { OnOk result ((b : List ℕ)
-        → DirectoryContext geometry.now.layout (I.device image.old).contents workspace.old dir b
-        → path.new.items ≡ dir_path (graph_of (volume_of geometry.now.layout b)) dir) }
-    ensures leaves { PathLeaves geometry.now.layout (I.device image.old) (I.device image.new)
-        workspace.old workspace.new kept_parent.new result }
-    ensures counted { ReadsAtMost line_reads geometry.now.layout (I.device image.old)
-        workspace.old workspace.new (I.reads image.old) (I.reads image.new) }
-{
-    kept_parent.put_path(geometry, image, workspace, dir, path)?;
-    read_attr(geometry, image, workspace, dir)
-}
-
-/// Gathers what the messages on a directory show: its path into `path`, and its attributes. It reads
-/// no more often than a line does at most (`gather_entry`).
+/// Gathers what the messages on a directory show: its path into `path`, and its attributes.
 ///
 /// # Errors
 /// A read of the image that failed.
@@ -597,16 +580,8 @@ pub fn gather_dir<I: Image>(
     ensures most { AreChunksNumbered geometry.now.layout
         → I.reads image.new ≤ I.reads image.old + line_reads }
 {
-    let Some(limit) = line_reads(geometry) else {
-        return gather_dir_freely(geometry, image, workspace, kept_parent, dir, path);
-    };
-    let mut limited = LimitedImage::new(image, Some(limit));
-    let result = gather_dir_freely(geometry, &mut limited, workspace, kept_parent, dir, path);
-    if limited.is_spent() {
-        forget_parent(kept_parent);
-        return Ok(no_attr(dir));
-    }
-    result
+    put_path(geometry, image, workspace, kept_parent, dir, path)?;
+    read_attr(geometry, image, workspace, dir)
 }
 
 /// Says that an entry is extra.

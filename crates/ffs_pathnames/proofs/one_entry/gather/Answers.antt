@@ -1,4 +1,4 @@
-use Rattle.std.proofs.Common.{ap, sym, ◌∙◌}
+use Rattle.std.proofs.Common.{ap, arith, sym, ◌∙◌}
 use Rattle.std.proofs.lemmas.Result.{err_from_is_err_and}
 use Rattle.ffs_pathnames.proofs.{Carrying.if_ok, VerdictLaws.path_asks_attr, ReadyLaws.leaves_read}
 use Rattle.ffs_pathnames.proofs.one_entry.gather.Goals as goal
@@ -7,8 +7,8 @@ pub returns-clause-enough : goal.returns-clause-enough
 returns-clause-enough g c =
     let path = c.in_ok-gather_path.ensures in
     if_ok c.gather_inode.result _ _
-    (λ a e b dir t h r p. e b (ap (λ x. x.contents) path.leaves.reads.read ∙ t) dir c.gather_path.new.texts.directory.items
-    (rw path.same.1 p) (λ q. path.path b t h r (c.asks-wants_path.ensures.directory ∙ q)))
+    (λ a e dir b k p. e b (ap (λ x. x.contents) path.leaves.reads.read ∙ k.gives_bytes) dir c.gather_path.new.texts.directory.items
+    (rw path.same.1 p) (λ q. path.path dir b k (c.asks-wants_path.ensures.directory ∙ q)))
     c.gather_inode.ensures.enough
 
 pub returns-clause-leaves : goal.returns-clause-leaves
@@ -31,3 +31,11 @@ gather_path-requires-clause-number g c = λ q.
 pub returns-in_err-gather_path-clause-enough : goal.returns-in_err-gather_path-clause-enough
 returns-in_err-gather_path-clause-enough g c =
     let p = err_from_is_err_and c.from_residual.result c.from_residual.ensures.1 in rw p.1 tt
+
+pub returns-in_err-gather_path-clause-most : goal.returns-in_err-gather_path-clause-most
+returns-in_err-gather_path-clause-most g c = λ numbered.
+    let path = c.gather_path.ensures.most numbered in omega (arith, path)
+
+pub returns-clause-most : goal.returns-clause-most
+returns-clause-most g c = λ numbered.
+    let path = c.gather_path.ensures.most numbered in omega (arith, path, c.gather_inode.ensures.counted.count)

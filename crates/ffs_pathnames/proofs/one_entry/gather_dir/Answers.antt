@@ -1,81 +1,51 @@
-use Rattle.std.proofs.Common.{◌∙◌, ap}
-use Rattle.ffs_image.specs.Device.{Device}
-use Rattle.ffs_pathnames.proofs.{Carrying.if_ok, Limiting.gathered}
+use Rattle.std.proofs.Common.{ap, arith, ◌∙◌}
+use Rattle.std.proofs.lemmas.Result.{err_from_is_err_and}
+use Rattle.ffs_pathnames.proofs.{Carrying.if_ok, Carrying.on_all, ReadyLaws.leaves_read}
 use Rattle.ffs_pathnames.proofs.one_entry.gather_dir.Goals as goal
 
-pub returns-in_default-clause-attr : goal.returns-in_default-clause-attr
-returns-in_default-clause-attr g c =
-    if_ok c.gather_dir_freely.result _ _ (λ a h b k. h b k.gives_bytes) c.gather_dir_freely.ensures.attr
+pub put_path-requires : goal.put_path-requires
+put_path-requires g c = c.requires
 
--- a read was refused: not where the image gives its bytes
-pub returns-then-is_spent-clause-attr : goal.returns-then-is_spent-clause-attr
-returns-then-is_spent-clause-attr g c = λ b k.
-    let part = c.gather_dir_freely-result.ensures in
-    let below = gathered c.new-limited.ensures.device c.new-limited.ensures.asked c.in-Some.ensures.limited part.leaves
-    part.counted c.is_spent.ensures.below in
-    absurd (below.all b _ k c.if-is_spent.true)
+pub returns-in_err-put_path-clause-attr : goal.returns-in_err-put_path-clause-attr
+returns-in_err-put_path-clause-attr g c =
+    let p = err_from_is_err_and c.from_residual.result c.from_residual.ensures.1 in rw p.1 tt
 
-pub returns-then-is_spent-clause-path : goal.returns-then-is_spent-clause-path
-returns-then-is_spent-clause-path g c = λ b k.
-    let part = c.gather_dir_freely-result.ensures in
-    let below = gathered c.new-limited.ensures.device c.new-limited.ensures.asked c.in-Some.ensures.limited part.leaves
-    part.counted c.is_spent.ensures.below in
-    absurd (below.all b _ k c.if-is_spent.true)
+pub returns-in_err-put_path-clause-path : goal.returns-in_err-put_path-clause-path
+returns-in_err-put_path-clause-path g c =
+    let p = err_from_is_err_and c.from_residual.result c.from_residual.ensures.1 in rw p.1 tt
 
-pub returns-then-is_spent-clause-leaves : goal.returns-then-is_spent-clause-leaves
-returns-then-is_spent-clause-leaves g c =
-    let part = c.gather_dir_freely-result.ensures in
-    let below = gathered c.new-limited.ensures.device c.new-limited.ensures.asked c.in-Some.ensures.limited part.leaves
-    part.counted c.is_spent.ensures.below in
-    let image = c.image-1.given.1 below.same_image ∙ c.drop-limited.ensures.below in
-    rw image (record { reads = below.reads_of c.if-is_spent.true _; kept_parent = c.forget_parent.ensures _ _ _ })
+pub returns-in_err-put_path-clause-leaves : goal.returns-in_err-put_path-clause-leaves
+returns-in_err-put_path-clause-leaves g c =
+    let left = c.in_err-put_path.ensures.leaves.reads in
+    let p = err_from_is_err_and c.from_residual.result c.from_residual.ensures.1 in
+    rw (p.1, p.2) (record {
+      reads = record { lists = left.lists; chunk = left.chunk; ready = left.ready; read = left.read };
+      kept_parent = tt;
+    })
 
-pub returns-then-is_spent-clause-counted : goal.returns-then-is_spent-clause-counted
-returns-then-is_spent-clause-counted g c =
-    let part = c.gather_dir_freely-result.ensures in
-    let below = gathered c.new-limited.ensures.device c.new-limited.ensures.asked c.in-Some.ensures.limited part.leaves
-    part.counted c.is_spent.ensures.below in
-    let image = c.image-1.given.1 below.same_image ∙ c.drop-limited.ensures.below in
-    rw image below.counted
+pub read_attr-requires : goal.read_attr-requires
+read_attr-requires g c = record {
+  ready = c.in_ok-put_path.ensures.leaves.reads.ready;
+  number = c.requires.number;
+}
 
-pub returns-then-is_spent-clause-most : goal.returns-then-is_spent-clause-most
-returns-then-is_spent-clause-most g c = λ numbered.
-    let part = c.gather_dir_freely-result.ensures in
-    let below = gathered c.new-limited.ensures.device c.new-limited.ensures.asked c.in-Some.ensures.limited part.leaves
-    part.counted c.is_spent.ensures.below in
-    let image = c.image-1.given.1 below.same_image ∙ c.drop-limited.ensures.below in
-    rw image below.most
-
--- none was refused
 pub returns-clause-attr : goal.returns-clause-attr
 returns-clause-attr g c =
-    if_ok c.gather_dir_freely-result.result _ _ (λ a h b k. h b k.gives_bytes)
-    (rw (ap (λ (d : Device). d.contents) c.new-limited.ensures.device) at c.gather_dir_freely-result.ensures.attr)
+    if_ok c.read_attr.result _ _
+    (λ a h b k. h b (ap (λ d. d.contents) c.in_ok-put_path.ensures.leaves.reads.read ∙ k.gives_bytes)) c.read_attr.ensures.attr
 
 pub returns-clause-path : goal.returns-clause-path
 returns-clause-path g c =
-    rw (ap (λ (d : Device). d.contents) c.new-limited.ensures.device) at c.gather_dir_freely-result.ensures.path
+    on_all c.read_attr.result _ (λ b k. c.in_ok-put_path.ensures.path c.args.dir b k)
 
 pub returns-clause-leaves : goal.returns-clause-leaves
 returns-clause-leaves g c =
-    let part = c.gather_dir_freely-result.ensures in
-    let below = gathered c.new-limited.ensures.device c.new-limited.ensures.asked c.in-Some.ensures.limited part.leaves
-    part.counted c.is_spent.ensures.below in
-    let image = c.image-2-1.given.1 below.same_image ∙ c.drop-limited-2.ensures.below in
-    rw image (below.leaves c.if-is_spent.false)
+    leaves_read c.read_attr.result c.in_ok-put_path.ensures.leaves c.read_attr.ensures.reads
 
-pub returns-clause-counted : goal.returns-clause-counted
-returns-clause-counted g c =
-    let part = c.gather_dir_freely-result.ensures in
-    let below = gathered c.new-limited.ensures.device c.new-limited.ensures.asked c.in-Some.ensures.limited part.leaves
-    part.counted c.is_spent.ensures.below in
-    let image = c.image-2-1.given.1 below.same_image ∙ c.drop-limited-2.ensures.below in
-    rw image below.counted
+pub returns-in_err-put_path-clause-most : goal.returns-in_err-put_path-clause-most
+returns-in_err-put_path-clause-most g c = λ numbered.
+    let path = c.put_path.ensures.most numbered in omega (arith, path)
 
 pub returns-clause-most : goal.returns-clause-most
 returns-clause-most g c = λ numbered.
-    let part = c.gather_dir_freely-result.ensures in
-    let below = gathered c.new-limited.ensures.device c.new-limited.ensures.asked c.in-Some.ensures.limited part.leaves
-    part.counted c.is_spent.ensures.below in
-    let image = c.image-2-1.given.1 below.same_image ∙ c.drop-limited-2.ensures.below in
-    rw image below.most
+    let path = c.put_path.ensures.most numbered in omega (arith, path, c.read_attr.ensures.counted.count)

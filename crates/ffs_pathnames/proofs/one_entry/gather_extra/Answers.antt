@@ -1,89 +1,32 @@
-use Rattle.std.proofs.Common.{◌∙◌, ap}
-use Rattle.ffs_image.specs.Device.{Device}
-use Rattle.ffs_pathnames.proofs.{Carrying.if_ok, Limiting.gathered}
+use Rattle.std.proofs.Common.{ap, ◌∙◌, arith}
+use Rattle.ffs_volume.specs.Directories.{Parents.graph_of, Volumes.volume_of}
+use Rattle.ffs_paths.proofs.Climbed.{few_more, few_then}
+use Rattle.ffs_pathnames.proofs.{Carrying.if_ok, Carrying.on_all, ReadyLaws.leaves_read}
 use Rattle.ffs_pathnames.proofs.one_entry.gather_extra.Goals as goal
-
-pub returns-in_default-clause-attr : goal.returns-in_default-clause-attr
-returns-in_default-clause-attr g c =
-    if_ok c.gather_extra_freely.result _ _ (λ a h b k. h b k.gives_bytes) c.gather_extra_freely.ensures.attr
-
--- a read was refused: not where the image gives its bytes
-pub returns-then-is_spent-clause-attr : goal.returns-then-is_spent-clause-attr
-returns-then-is_spent-clause-attr g c = λ b k.
-    let part = c.gather_extra_freely-result.ensures in
-    let below = gathered c.new-limited.ensures.device c.new-limited.ensures.asked c.in-Some.ensures.limited part.leaves
-    part.counted c.is_spent.ensures.below in
-    absurd (below.all b _ k c.if-is_spent.true)
-
-pub returns-then-is_spent-clause-text : goal.returns-then-is_spent-clause-text
-returns-then-is_spent-clause-text g c = λ b k.
-    let part = c.gather_extra_freely-result.ensures in
-    let below = gathered c.new-limited.ensures.device c.new-limited.ensures.asked c.in-Some.ensures.limited part.leaves
-    part.counted c.is_spent.ensures.below in
-    absurd (below.all b _ k.knows c.if-is_spent.true)
-
-pub returns-then-is_spent-clause-path : goal.returns-then-is_spent-clause-path
-returns-then-is_spent-clause-path g c =
-    rw (ap (λ (d : Device). d.contents) c.new-limited.ensures.device) at c.gather_extra_freely-result.ensures.path
-
-pub returns-then-is_spent-clause-leaves : goal.returns-then-is_spent-clause-leaves
-returns-then-is_spent-clause-leaves g c =
-    let part = c.gather_extra_freely-result.ensures in
-    let below = gathered c.new-limited.ensures.device c.new-limited.ensures.asked c.in-Some.ensures.limited part.leaves
-    part.counted c.is_spent.ensures.below in
-    let image = c.image-1.given.1 below.same_image ∙ c.drop-limited.ensures.below in
-    rw image (record { reads = below.reads_of c.if-is_spent.true _; kept_parent = c.forget_parent.ensures _ _ _ })
-
-pub returns-then-is_spent-clause-counted : goal.returns-then-is_spent-clause-counted
-returns-then-is_spent-clause-counted g c =
-    let part = c.gather_extra_freely-result.ensures in
-    let below = gathered c.new-limited.ensures.device c.new-limited.ensures.asked c.in-Some.ensures.limited part.leaves
-    part.counted c.is_spent.ensures.below in
-    let image = c.image-1.given.1 below.same_image ∙ c.drop-limited.ensures.below in
-    rw image below.counted
-
-pub returns-then-is_spent-clause-most : goal.returns-then-is_spent-clause-most
-returns-then-is_spent-clause-most g c = λ numbered.
-    let part = c.gather_extra_freely-result.ensures in
-    let below = gathered c.new-limited.ensures.device c.new-limited.ensures.asked c.in-Some.ensures.limited part.leaves
-    part.counted c.is_spent.ensures.below in
-    let image = c.image-1.given.1 below.same_image ∙ c.drop-limited.ensures.below in
-    rw image below.most
-
--- none was refused
-pub returns-clause-attr : goal.returns-clause-attr
-returns-clause-attr g c =
-    if_ok c.gather_extra_freely-result.result _ _ (λ a h b k. h b k.gives_bytes)
-    (rw (ap (λ (d : Device). d.contents) c.new-limited.ensures.device) at c.gather_extra_freely-result.ensures.attr)
 
 pub returns-clause-text : goal.returns-clause-text
 returns-clause-text g c =
-    rw (ap (λ (d : Device). d.contents) c.new-limited.ensures.device) at c.gather_extra_freely-result.ensures.text
-
-pub returns-clause-path : goal.returns-clause-path
-returns-clause-path g c =
-    rw (ap (λ (d : Device). d.contents) c.new-limited.ensures.device) at c.gather_extra_freely-result.ensures.path
+    on_all c.read_attr.result _
+    (λ b k. c.put.ensures (graph_of (volume_of c.args.geometry.now.layout b)) c.args.dir
+    (c.in_ok-begin_paths.ensures.made b k))
 
 pub returns-clause-leaves : goal.returns-clause-leaves
 returns-clause-leaves g c =
-    let part = c.gather_extra_freely-result.ensures in
-    let below = gathered c.new-limited.ensures.device c.new-limited.ensures.asked c.in-Some.ensures.limited part.leaves
-    part.counted c.is_spent.ensures.below in
-    let image = c.image-2-1.given.1 below.same_image ∙ c.drop-limited-2.ensures.below in
-    rw image (below.leaves c.if-is_spent.false)
+    leaves_read c.read_attr.result c.in_ok-begin_paths.ensures.leaves c.read_attr.ensures.reads
 
 pub returns-clause-counted : goal.returns-clause-counted
-returns-clause-counted g c =
-    let part = c.gather_extra_freely-result.ensures in
-    let below = gathered c.new-limited.ensures.device c.new-limited.ensures.asked c.in-Some.ensures.limited part.leaves
-    part.counted c.is_spent.ensures.below in
-    let image = c.image-2-1.given.1 below.same_image ∙ c.drop-limited-2.ensures.below in
-    rw image below.counted
+returns-clause-counted g c = λ b k.
+    few_more (few_then (c.begin_paths.ensures.counted b k) c.read_attr.ensures.counted) (omega arith)
+
+pub returns-clause-attr : goal.returns-clause-attr
+returns-clause-attr g c =
+    if_ok c.read_attr.result _ _
+    (λ a h b k. h b (ap (λ d. d.contents) c.in_ok-begin_paths.ensures.leaves.reads.read ∙ k.gives_bytes)) c.read_attr.ensures.attr
+
+pub returns-in_err-begin_paths-clause-most : goal.returns-in_err-begin_paths-clause-most
+returns-in_err-begin_paths-clause-most g c = λ numbered.
+    let begun = c.begin_paths.ensures.most numbered in omega (arith, begun)
 
 pub returns-clause-most : goal.returns-clause-most
 returns-clause-most g c = λ numbered.
-    let part = c.gather_extra_freely-result.ensures in
-    let below = gathered c.new-limited.ensures.device c.new-limited.ensures.asked c.in-Some.ensures.limited part.leaves
-    part.counted c.is_spent.ensures.below in
-    let image = c.image-2-1.given.1 below.same_image ∙ c.drop-limited-2.ensures.below in
-    rw image below.most
+    let begun = c.begin_paths.ensures.most numbered in omega (arith, begun, c.read_attr.ensures.counted.count)

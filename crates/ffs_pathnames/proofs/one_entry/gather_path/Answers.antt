@@ -4,7 +4,7 @@ use Rattle.ffs_volume.proofs.Results.{on_ok}
 use Rattle.ffs_pathnames.proofs.one_entry.gather_path.Goals as goal
 
 pub returns-then-not-wanted-clause-path : goal.returns-then-not-wanted-clause-path
-returns-then-not-wanted-clause-path g c = λ b t h r q. absurd (both_ways _ c.if-not-wanted.true q)
+returns-then-not-wanted-clause-path g c = λ x b k q. absurd (both_ways _ c.if-not-wanted.true q)
 
 pub returns-then-not-wanted-clause-leaves : goal.returns-then-not-wanted-clause-leaves
 returns-then-not-wanted-clause-leaves g c =
@@ -18,7 +18,7 @@ put_path-requires g c = record {
 }
 
 pub returns-clause-path : goal.returns-clause-path
-returns-clause-path g c = on_ok c.put_path.result _ _ (λ p b t h r q. p b t h r) c.put_path.ensures.path
+returns-clause-path g c = on_ok c.put_path.result _ _ (λ p x b k q. p x b k) c.put_path.ensures.path
 
 pub returns-clause-leaves : goal.returns-clause-leaves
 returns-clause-leaves g c = c.put_path.ensures.leaves
