@@ -7,8 +7,7 @@ use ffs_image::ImageFault;
 use ffs_memory::{FilledList, Memory, SystemMemory};
 use ffs_samples::numbers;
 use ffs_survey::{
-    Directories, EntryHead, Lists, Surveyed, is_dead, is_dir, is_suspect, is_unref, mark_leaders,
-    survey,
+    Directories, EntryHead, Surveyed, is_dead, is_dir, is_suspect, is_unref, mark_leaders, survey,
 };
 use ffs_volume::Role;
 use std::alloc::{AllocError, Global};
@@ -178,17 +177,17 @@ fn left_by_survey(alloc: Global) -> Result<Left, Fail> {
         dir: 0,
         place: 0,
     };
-    let mut lists = Lists {
-        kinds: &KINDS,
-        marked: &[false; 8],
-        references: &mut references,
-        named: &mut named,
-        reached: &mut reached,
-        parents: &mut parents,
-        calm: &mut calm,
-        queue: &mut queue,
-    };
-    survey(&mut listed, &mut lists)?;
+    survey(
+        &mut listed,
+        &KINDS,
+        &[false; 8],
+        &mut references,
+        &mut named,
+        &mut reached,
+        &mut parents,
+        &mut calm,
+        &mut queue,
+    )?;
     let (references, parents) = firsts_of(&references, &parents);
     Ok(Left {
         references,

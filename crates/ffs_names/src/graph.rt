@@ -13,7 +13,6 @@ use crate::entries::Entries;
 use crate::reader::DirectoryReader;
 use ffs_image::{Image, ImageFault, LimitedImage};
 use ffs_layout::Geometry;
-use ffs_survey::Lists;
 use ffs_workspace::{Workspace, sweep_reads};
 
 /// What `survey` does, with as many reads as the image asks for.
@@ -51,17 +50,17 @@ fn survey_all<I: Image>(
         notes: &workspace.notes,
         entries: Entries::none(geometry),
     };
-    let mut lists = Lists {
-        kinds: &workspace.kinds,
-        marked: &workspace.marked,
-        references: &mut workspace.references,
-        named: &mut workspace.named,
-        reached: &mut workspace.reached,
-        parents: &mut workspace.parents,
-        calm: &mut workspace.flags,
-        queue: &mut workspace.queue,
-    };
-    let surveyed = ffs_survey::survey(&mut reader, &mut lists);
+    let surveyed = ffs_survey::survey(
+        &mut reader,
+        &workspace.kinds,
+        &workspace.marked,
+        &mut workspace.references,
+        &mut workspace.named,
+        &mut workspace.reached,
+        &mut workspace.parents,
+        &mut workspace.flags,
+        &mut workspace.queue,
+    );
     // No place of a parent entry is noted yet.
     workspace.queue.fill(0);
     surveyed

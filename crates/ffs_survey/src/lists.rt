@@ -7,24 +7,24 @@ use ffs_memory::FilledList;
 /// The lists of a survey, lent together: it goes by the first two, and fills the others. Each has
 /// an entry for every inode. There are more than two inodes, and fewer than 2^31.
 #[derive(Drop)]
-pub struct Lists<'a> {
+pub struct Lists<'kinds, 'marked, 'named, 'reached, 'calm, 'lists> {
     /// What each inode is: `DT_DIR` for a directory with a size, `EMPTY_DIR` for one of size 0.
-    pub kinds: &'a [u8],
+    pub kinds: &'kinds [u8],
     /// Whether each inode is marked.
-    pub marked: &'a [bool],
+    pub marked: &'marked [bool],
     /// How many entries refer to each inode, added to the number that the list had at first: the
     /// *start* of the inode.
-    pub references: &'a mut FilledList<u64>,
+    pub references: &'lists mut FilledList<u64>,
     /// Whether a plain entry names each inode.
-    pub named: &'a mut [bool],
+    pub named: &'named mut [bool],
     /// Whether each inode is reached from inode 2.
-    pub reached: &'a mut [bool],
+    pub reached: &'reached mut [bool],
     /// The parent of each directory, 0 for none.
-    pub parents: &'a mut FilledList<u32>,
+    pub parents: &'lists mut FilledList<u32>,
     /// Whether each inode is a directory of which nothing can be reported.
-    pub calm: &'a mut [bool],
+    pub calm: &'calm mut [bool],
     /// The directories that are reached, level after level.
-    pub queue: &'a mut FilledList<u32>,
+    pub queue: &'lists mut FilledList<u32>,
     ghost long: { AreLists kinds.now marked.now references.now.items named.now reached.now parents.now.items calm.now queue.now.items },
 }
 

@@ -2,7 +2,7 @@ use Rattle.std.proofs.Common.{arith, ap, length, rules, ◌∙◌}
 use Rattle.ffs_survey.proofs.{CalmLaws.calm_unreached, CalmLaws.read_stays, Costs.costs_two, Frontiers.sane_of}
 use Rattle.ffs_survey.proofs.{Lending.kinds_long, Lending.same_kinds, UnreachedLaws.survey_whole}
 use Rattle.ffs_survey.{proofs.UnreachedLaws.unreached_blank, specs.Survey.bool_at, specs.Survey.dir_at}
-use Rattle.ffs_survey.proofs.levels.survey.Goals as goal
+use Rattle.ffs_survey.proofs.levels.survey_lists.Goals as goal
 
 pub returns : goal.returns
 returns g c =
