@@ -19,6 +19,4 @@ returns-clause-name g c = λ found b t claims survey parent is dir.
     ∙ survey.places c.args.dir parent c.in-Some.chunk word is)
 
 pub returns-clause-reads : goal.returns-clause-reads
-returns-clause-reads g c =
-    let read = c.in_ok-fill.ensures.fills in
-    name_read c.requires.ready read.room read.holds read.read
+returns-clause-reads g c = grind (arith, name_read)
