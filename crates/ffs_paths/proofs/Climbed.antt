@@ -1,6 +1,6 @@
 -- How far a climb to the root has come, and how often it has read.
 use Rattle.std.proofs.Common.{◌≡◌, ◌≢◌, ℕ, zero, suc, ◌+◌, ◌*◌, ◌<◌, ◌≤◌, false, List, ◌∷◌, length, ltb-false, Some}
-use Rattle.std.proofs.Common.{sym, ap, subst, ◌∙◌, arith, Option}
+use Rattle.std.proofs.Common.{arith, Option}
 use Rattle.ffs_volume.specs.Directories.{Graph.level, Paths.joined, Parents.graph_of, Volumes.volume_of}
 use Rattle.ffs_volume.{specs.declared.Layout.Layout, proofs.LevelLaws.reached-level}
 use Rattle.ffs_survey.specs.ParentLaws.{root_level}
@@ -20,8 +20,7 @@ pub record HasClimbed (steps reads reads' : ℕ) (before after : Workspace) (p :
 -- one read after others
 pub few_then : {m n reads reads' reads'' : ℕ} {w w' w'' : Workspace} → ReadsFew m reads reads' w w' →
     ReadsFew n reads' reads'' w' w'' → ReadsFew (m + n) reads reads'' w w''
-few_then one two =
-    record { count = omega (arith, one.count, two.count); blocks = two.blocks ∙ one.blocks }
+few_then one two = grind arith
 
 pub few_more : {m n reads reads' : ℕ} {w w' : Workspace} → ReadsFew m reads reads' w w' → m ≤ n →
     ReadsFew n reads reads' w w'
@@ -30,34 +29,24 @@ few_more one l = record { count = omega (arith, one.count); blocks = one.blocks 
 -- with room for a name more there are a step and a read more
 pub short_way : {steps reads reads' : ℕ} {w w' : Workspace} {p : PathBuffer} → HasClimbed steps reads reads' w w' p →
     p.cut ≡ false → steps + 1 ≤ 513
-short_way {steps = steps} c room =
-    omega (arith, c.long, ltb-false 1024 (length (joined c.names)) (sym c.held.cut ∙ room))
+short_way {steps = steps} c room = grind (arith, ltb-false)
 
 -- a step more: the name of a directory above was found, and put before the others
 pub climb_more : {steps reads reads' reads'' : ℕ} {w w' w'' : Workspace} {p q : PathBuffer} (name : List ℕ) →
     HasClimbed steps reads reads' w w' p → p.cut ≡ false → ReadsFew 1 reads' reads'' w' w'' → 0 < length name
     → ((names : List (List ℕ)) → HoldsNames p names → HoldsNames q (name ∷ names)) →
     HasClimbed (steps + 1) reads reads'' w w'' q
-climb_more name c room one some puts = record {
-  few = few_then c.few one;
-  names = name ∷ c.names;
-  held = puts c.names c.held;
-  long = omega (arith, c.long, joined-length name c.names);
-  most = short_way c room;
-}
+climb_more name c room one some puts = grind (arith, few_then, joined-length, short_way)
 
 -- a place is noted of a directory other than the root that is reached
 pub noted_here : {v : Layout} {contents : Option (List ℕ)} {b : List ℕ} {w w' : Workspace} (k d : ℕ) →
     KnowsPlaces v contents w b → w' ≡ record w { windows = w'.windows } →
     level (graph_of (volume_of v b)) d ≡ Some k → d ≢ 2 → IsNoted v b w'.queue.items d
 noted_here {v = v} {b = b} zero d knows lists there n = absurd (n (root_level (graph_of (volume_of v b)) d there))
-noted_here {v = v} {b = b} (suc j) d knows lists there n =
-    subst (λ words. IsNoted v b words d) (sym (ap (λ (x : Workspace). x.queue.items) lists)) (knows.places d j there)
+noted_here {v = v} {b = b} (suc j) d knows lists there n = grind arith
 
 -- and so of one for which the survey found a parent
 pub noted_child : {v : Layout} {contents : Option (List ℕ)} {b : List ℕ} {w w' : Workspace} {d s : ℕ} →
     KnowsPlaces v contents w b → IsParentOf w d s → w' ≡ record w { windows = w'.windows } →
     IsNoted v b w'.queue.items d
-noted_child {v = v} {b = b} {d = d} knows of lists =
-    let l = reached-level (graph_of (volume_of v b)) d (sym (knows.survey.reached d) ∙ of.reached) in
-    noted_here l.0 d knows lists l.1 (omega (arith, of.below))
+noted_child {v = v} {b = b} {d = d} knows of lists = grind (arith, reached-level, noted_here)

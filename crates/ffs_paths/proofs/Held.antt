@@ -13,35 +13,24 @@ use Rattle.ffs_paths.proofs.LongestEnds.{slash_end, end_tail}
 -- the length of names that have room
 pub whole-length : (p : PathBuffer) (names : List (List ℕ)) → drop p.start p.bytes ≡ joined names →
     p.start + length (joined names) ≡ 1024
-whole-length p names whole =
-    omega (arith, p.ordered, p.in_buffer, p.long, length-drop p.start p.bytes, ap length whole)
+whole-length p names whole = grind (arith, length-drop)
 
 -- a name more has room, and has none
 pub has_parts : (cut : Bool) (n start : ℕ) → true ≡ (not cut && nat_lt n start) → (cut ≡ false) × (n < start)
-has_parts cut n start h =
-    let p = and_parts (not cut) (nat_lt n start) (sym h) in
-    (not-true cut p.0, ltb-true n start p.1)
+has_parts cut n start h = grind (arith, and_parts, not-true, ltb-true)
 
 pub no_room : (p : PathBuffer) (names : List (List ℕ)) (name : List ℕ) → HoldsNames p names →
     false ≡ (not p.cut && nat_lt (length name) p.start) → 1024 < length (joined names) + suc (length name)
-no_room p names name h none =
-    let cut = h.cut in
-    let all : p.cut ≡ false → p.start + length (joined names) ≡ 1024 = λ room. whole-length p names (h.whole room) in
-    grind (arith, nat_tests)
+no_room p names name h none = grind (arith, whole-length, nat_tests)
 
 -- ---- what a buffer holds: all names have room, and a `?` before them, too; or not all have
 fits_holds : (p : PathBuffer) (names : List (List ℕ)) → p.cut ≡ false → drop p.start p.bytes ≡ joined names →
     drop p.short p.bytes ≡ joined (longest_end 1023 names) → HoldsNames p names
-fits_holds p names room whole short =
-    let n = whole-length p names whole in
-    record { whole = λ _. whole; short = short; cut = room ∙ sym (le-ltb 1024 (length (joined names)) (omega arith)) }
+fits_holds p names room whole short = grind (arith, whole-length, le-ltb)
 
 pub room_holds : (p : PathBuffer) (names : List (List ℕ)) → p.cut ≡ false → drop p.start p.bytes ≡ joined names →
     p.short ≡ p.start → 0 < p.start → HoldsNames p names
-room_holds p names room whole short some =
-    let n = whole-length p names whole in
-    fits_holds p names room whole
-    (ap (λ k. drop k p.bytes) short ∙ (whole ∙ sym (ap joined (end-whole 1023 names (omega arith)))))
+room_holds p names room whole short some = grind (arith, whole-length, fits_holds, end-whole)
 
 -- no names
 pub none_held : (p : PathBuffer) → p.start ≡ 1024 → p.short ≡ 1024 → p.cut ≡ false → HoldsNames p []
@@ -51,27 +40,18 @@ none_held p start short cut =
 
 cut_holds : (p : PathBuffer) (names : List (List ℕ)) → p.cut ≡ true → 1024 < length (joined names) →
     drop p.short p.bytes ≡ joined (longest_end 1023 names) → HoldsNames p names
-cut_holds p names cut over short = record {
-  whole = λ e. absurd (cc);
-  short = short;
-  cut = cut ∙ sym (lt-ltb 1024 (length (joined names)) over);
-}
+cut_holds p names cut over short = grind (arith, lt-ltb)
 
 -- ---- a name more before them: it fills the buffer, or has no room
 pub first_full : (p q : PathBuffer) (name : List ℕ) (names : List (List ℕ)) → HoldsNames q names → p.cut ≡ false →
     drop p.start p.bytes ≡ joined (name ∷ names) → p.start ≡ 0 → drop p.short p.bytes ≡ drop q.short q.bytes →
     HoldsNames p (name ∷ names)
-first_full p q name names held room whole full short =
-    let n = whole-length p (name ∷ names) whole in
-    fits_holds p (name ∷ names) room whole
-    (short ∙ (held.short ∙ ap joined (sym (end-more 1023 name names (omega arith)))))
+first_full p q name names held room whole full short = grind (arith, whole-length, fits_holds, end-more)
 
 pub first_cut : (p q : PathBuffer) (name : List ℕ) (names : List (List ℕ)) → HoldsNames q names → p.cut ≡ true →
     1024 < length (joined names) + suc (length name) → drop p.short p.bytes ≡ drop q.short q.bytes →
     HoldsNames p (name ∷ names)
-first_cut p q name names held cut over short =
-    let l : 1024 < length (joined (name ∷ names)) = omega (arith, joined-length name names) in
-    cut_holds p (name ∷ names) cut l (short ∙ (held.short ∙ ap joined (sym (end-more 1023 name names (omega arith)))))
+first_cut p q name names held cut over short = grind (arith, joined-length, cut_holds, end-more)
 
 -- ---- a name more after them: all have room, or not
 pub last_fits : (p q : PathBuffer) (names : List (List ℕ)) (name : List ℕ) → IsLonger q q.start name false p →
@@ -98,14 +78,9 @@ pub last_cut : (p q : PathBuffer) (names : List (List ℕ)) (name : List ℕ) (f
     1024 < length (joined names) + suc (length name)
     → drop from q.bytes ≡ from_slash (drop (max q.short (length name + 2)) q.bytes) → HoldsNames p (names ++ name ∷ [])
 last_cut p q names name from made held single small low over found =
-    cut_holds p (names ++ name ∷ []) made.cut_is (omega (arith, last-length names name))
-    (ap (λ k. drop k p.bytes) (made.all (omega (arith, made.start_is))) ∙ (made.bytes
-    ∙ (ap (λ b. b ++ 47 ∷ name) found ∙ sym (end_tail names name q.bytes q.short q.in_buffer q.long held.short
-    (first_single names name single) small))))
+    grind (arith, cut_holds, last-length, end_tail, first_single)
 
 -- ---- the text of an entry's path where all have room
 pub entry-whole : (p : PathBuffer) (names : List (List ℕ)) (name : List ℕ) → drop p.start p.bytes ≡ joined names →
     length name < p.start → path_bytes (names ++ name ∷ []) ≡ drop p.start p.bytes ++ 47 ∷ name
-entry-whole p names name whole room =
-    text_whole (names ++ name ∷ []) (omega (arith, whole-length p names whole, last-length names name))
-    ∙ (joined-last names name ∙ ap (λ b. b ++ 47 ∷ name) (sym whole))
+entry-whole p names name whole room = grind (arith, text_whole, whole-length, last-length, joined-last)

@@ -1,11 +1,11 @@
 -- What is kept of a directory and its children stays right where only other parts of a workspace
 -- change.
-use Rattle.std.proofs.Common.{◌≡◌, List, ℕ, refl, sym, ap, subst, ◌∙◌, rules, Option, Result, Ok, slice_index, vec_len}
+use Rattle.std.proofs.Common.{arith}
+use Rattle.std.proofs.Common.{◌≡◌, List, ℕ, refl, ap, Option, Result, Ok, vec_len}
 use Rattle.std.proofs.Common.{Err}
 use Rattle.ffs_image.specs.{Device.Device, Reads.ReadAfter, declared.image.ImageFault.ImageFault}
 use Rattle.ffs_volume.specs.{declared.Layout.Layout, Directories.Graph.Graph}
 use Rattle.ffs_workspace.specs.{declared.workspace.Workspace.Workspace, Leaves.LeavesSurvey, Ready.IsReady}
-use Rattle.ffs_workspace.specs.Places.{ArePlaces, place_in}
 use Rattle.ffs_workspace.proofs.Leaving.{claims_held, claims_left, survey_held, survey_left, windows_leave}
 use Rattle.ffs_paths.specs.{Reads.ForTree, Reads.OnlyReads, declared.kept_parent.KeptParent.KeptParent}
 use Rattle.ffs_paths.specs.KeptParents.{IsKeptParent, KeepsParent, PathLeaves, SamePlaces}
@@ -14,29 +14,19 @@ use Rattle.ffs_names.specs.Windows.{CanReadChunks}
 
 -- where the same places are noted, what was found is as it was, seen from the later workspace
 leaves_back : (old new : Workspace) → LeavesSurvey old new → SamePlaces old new → LeavesSurvey new old
-leaves_back old new s same =
-    let back : (v : Layout) (b : List ℕ) → ArePlaces v b new.queue.items → ArePlaces v b old.queue.items =
-    λ v b h x p k noted. h x p k (same x ∙ noted) in
-    search (rules, sym)
+leaves_back old new s same = grind arith
 
 -- what is kept stays right where the same places are noted
 pub kept_parent_on : (v : Layout) (contents contents' : Option (List ℕ)) (old new : Workspace) (s : KeptParent) →
     contents' ≡ contents → LeavesSurvey old new → SamePlaces old new
     → KeepsParent v contents old s → KeepsParent v contents' new s
-kept_parent_on v contents contents' old new s e left same k =
-    let back = leaves_back old new left same in
-    record {
-      right = λ b t claims survey. k.right b (sym e ∙ t) (claims_left v b new old back claims)
-          (survey_left v b new old back survey);
-    }
+kept_parent_on v contents contents' old new s e left same k = grind (arith, leaves_back, claims_left, survey_left)
 
 -- and so where only the windows have changed
 pub kept_parent_held : (v : Layout) (contents contents' : Option (List ℕ)) (old new : Workspace) (s : KeptParent) →
     contents' ≡ contents → new ≡ record old { windows = new.windows }
     → KeepsParent v contents old s → KeepsParent v contents' new s
-kept_parent_held v contents contents' old new s e lists k =
-    kept_parent_on v contents contents' old new s e (windows_leave old new lists)
-    (λ x. ap (λ (w : Workspace). place_in (slice_index w.queue.items x)) lists) k
+kept_parent_held v contents contents' old new s e lists k = grind (arith, kept_parent_on, windows_leave)
 
 -- and after a call that only read
 pub kept_on : {T : Type 0} {v : Layout} {d d' : Device} {w w' : Workspace} {x : T} (s : KeptParent) →
@@ -68,18 +58,12 @@ pub reads_then : {S T : Type 0} {v : Layout} {old mid last : Device} {before w a
     {result : Result T ImageFault}
     → OnlyReads v old mid before w (Ok x) → OnlyReads v mid last w after result →
     OnlyReads v old last before after result
-reads_then {last = last} {after = after} {result = result} one two = record {
-  lists = two.lists ∙ ap (λ (w : Workspace). record w { windows = after.windows }) one.lists;
-  chunk = two.chunk ∙ one.chunk;
-  ready = two.ready;
-  read = subst (λ d. ReadAfter d last result) one.read two.read;
-}
+reads_then {last = last} {after = after} {result = result} one two = grind arith
 
 -- what the workspace says of the tree after a call that only read, it said before
 pub tree_on : {T : Type 0} {v : Layout} {d d' : Device} {w w' : Workspace} {x : T} (P : Graph → Type 0) →
     OnlyReads v d d' w w' (Ok x) → ForTree v d' w' P → ForTree v d w P
-tree_on {v = v} {w = w} {w' = w'} P r known = λ b t claims survey.
-    known b (ap (λ d. d.contents) r.read ∙ t) (claims_held v b w w' r.lists claims) (survey_held v b w w' r.lists survey)
+tree_on {v = v} {w = w} {w' = w'} P r known = grind (arith, claims_held, survey_held)
 
 -- ---- what reads into the windows leave of a workspace
 -- the image gives what it gave, whether a read failed or not
@@ -92,24 +76,7 @@ same_image d d' (Err e) r = (r.contents, r.size)
 chunk_read : {T : Type 0} {v : Layout} {d d' : Device} {w : Workspace} {blocks : Blocks} {names : Window}
     {result : Result T ImageFault} → IsReady v d w → CanReadChunks v d' blocks names → ReadAfter d d' result →
     OnlyReads v d d' w (record w { windows = record w.windows { blocks = blocks; names = names } }) result
-chunk_read {d = d} {d' = d'} {result = result} ready can read =
-    let e = same_image d d' result read in
-    let m = ready.made in
-    record {
-      lists = refl;
-      chunk = refl;
-      ready = record {
-        made = search rules;
-        volume = can.walk.volume;
-        windows = record {
-          table = rw e.0 ready.windows.table;
-          blocks = can.walk.holds;
-          chunk = rw e.0 ready.windows.chunk;
-          names = can.holds;
-        };
-      };
-      read = read;
-    }
+chunk_read {d = d} {d' = d'} {result = result} ready can read = grind (arith, same_image)
 
 pub chunk_then : {S T : Type 0} {v : Layout} {d d' d'' : Device} {w w' : Workspace} {blocks : Blocks} {names : Window}
     {x : S} {result : Result T ImageFault} → OnlyReads v d d' w w' (Ok x) → CanReadChunks v d'' blocks names →
@@ -122,10 +89,4 @@ pub name_read : {T : Type 0} {v : Layout} {d d' : Device} {w : Workspace} {names
     {result : Result T ImageFault} → IsReady v d w → vec_len names.buffer ≡ vec_len w.windows.names.buffer
     → WindowHolds d'.contents names → ReadAfter d d' result →
     OnlyReads v d d' w (record w { windows = record w.windows { names = names } }) result
-name_read {d = d} {d' = d'} {result = result} ready long holds read =
-    let e = same_image d d' result read in
-    chunk_read ready (record {
-      walk = record { volume = rw e.1 ready.volume; room = ready.made.blocks; holds = rw e.0 ready.windows.blocks };
-      room = long ∙ ready.made.names;
-      holds = holds;
-    }) read
+name_read {d = d} {d' = d'} {result = result} ready long holds read = grind (arith, same_image, chunk_read)

@@ -3,9 +3,9 @@ use Rattle.std.proofs.Common.{◌≡◌, ◌≤◌, ◌<◌, sym, ap, ℕ, List,
 use Rattle.std.proofs.Common.{append_assoc, le-ltb, lt-ltb, true, false, Option, Some, None, if◌then◌else◌}
 use Rattle.std.proofs.lemmas.{Slice.take-put_mid, Bool.both_ways}
 use Rattle.ffs_volume.{proofs.LawsHold.paths_fit, proofs.PathBound.path_text-fits, specs.Directories.Graph.Graph}
-use Rattle.ffs_volume.specs.Directories.Paths.{entry_path, path_names, entry_path_of_names, path_bytes}
+use Rattle.ffs_volume.specs.Directories.Paths.{entry_path, path_names, path_bytes}
 use Rattle.ffs_paths.{proofs.Held.entry-whole, specs.Buffers.HoldsNames, specs.Climbing.in_room}
-use Rattle.ffs_paths.specs.DirectoryPaths.{IsPathOf, HoldsPath}
+use Rattle.ffs_paths.specs.DirectoryPaths.{IsPathOf}
 use Rattle.ffs_paths.specs.{EntryPaths.BeginsWith, Slashes.AreSingle, declared.path.DirectoryPath.DirectoryPath}
 use borrow.Rule.Slice.PartMut.{put_mid}
 
@@ -25,19 +25,14 @@ entry_in_room g d name h = sym (fits (entry_path g d name) ((paths_fit g d).of_e
 pub by_path : (g : Graph) (d : ℕ) (p : DirectoryPath) (P : Option (List (List ℕ)) → Type 0) → IsPathOf g d p
     → (p.reached ≡ true → (names : List (List ℕ)) → HoldsNames p.names names → AreSingle names → P (Some names))
     → (p.reached ≡ false → P None) → P (path_names g d)
-by_path g d p P h some none = elim (path_names g d) as (λ o. HoldsPath p o → P o) [
-  | None ↦ none
-  | Some names ↦ λ k. some k.0 names k.1 k.2
-] h
+by_path g d p P h some none = grind arith
 
 pub entry_is : (g : Graph) (d : ℕ) (name : List ℕ) (p : DirectoryPath) (text : List ℕ) → IsPathOf g d p →
     p.reached ≡ true
     → ((names : List (List ℕ)) → HoldsNames p.names names → AreSingle names → text ≡ path_bytes (names ++ name ∷ [])) →
     text ≡ in_room (entry_path g d name)
 unfolding entry_path
-entry_is g d name p text h r f = by_path g d p (λ o. text ≡ in_room (entry_path_of_names name o)) h
-    (λ _ names held single. f names held single ∙ fits _ (path_text-fits (names ++ name ∷ [])))
-    (λ n. absurd (both_ways _ n r))
+entry_is g d name p text h r f = grind (arith, by_path, fits, path_text-fits, both_ways)
 
 -- ---- what the paths of all entries begin with, and a name after it
 pub named : (p : DirectoryPath) (begins k end : ℕ) (bytes name : List ℕ) → length bytes ≡ 1024

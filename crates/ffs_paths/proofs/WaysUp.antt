@@ -1,12 +1,12 @@
 -- The way from a directory up to the root.
-use Rattle.std.proofs.Common.{◌≡◌, ◌≢◌, ℕ, zero, suc, ◌+◌, ◌<◌, ◌==◌, Bool, true, List, [], ◌∷◌, ◌++◌, Some, None, refl}
-use Rattle.std.proofs.Common.{sym, ap, subst, ◌∙◌, arith, append_assoc, ◌*◌, cond, option_and_then, length, ltb-true}
+use Rattle.std.proofs.Common.{◌≡◌, ◌≢◌, ℕ, zero, suc, ◌+◌, ◌<◌, Bool, true, List, [], ◌∷◌, ◌++◌, Some, refl}
+use Rattle.std.proofs.Common.{sym, ap, subst, ◌∙◌, arith, append_assoc, ◌*◌, cond, length, ltb-true}
 use Rattle.std.{proofs.Common.unwrap_or, proofs.Common.option_map, specs.List.list_any}
 use Rattle.std.proofs.lemmas.Bool.{both_ways, and_parts, ne_eqb, cond-false, eq-eqb}
 use Rattle.ffs_volume.proofs.LevelLaws.{level-some, within-zero, reached-level}
-use Rattle.ffs_volume.specs.Directories.Graph.{Graph, level, is_naming_entry, is_naming_dir, parent, parent_entry_index}
-use Rattle.ffs_volume.specs.Directories.{Graph.index_in_parent, Graph.first_index, Parents.nth_roled, Parents.graph_of}
-use Rattle.ffs_volume.specs.Directories.Paths.{joined, names_down, names_by_parent, name_of, path_bytes}
+use Rattle.ffs_volume.specs.Directories.Graph.{Graph, level, is_naming_entry, is_naming_dir, parent}
+use Rattle.ffs_volume.specs.Directories.{Parents.graph_of}
+use Rattle.ffs_volume.specs.Directories.Paths.{joined, names_down, path_bytes}
 use Rattle.ffs_volume.specs.Directories.Paths.{dir_path, dir_path_of_names, entry_path, entry_path_of_names}
 use Rattle.ffs_volume.proofs.PathBound.{path_text-fits}
 use Rattle.ffs_paths.{specs.Climbing.in_room, proofs.Rooms.fits}
@@ -57,10 +57,7 @@ names_root g (suc k) h = absurd
 
 pub way_root : {g : Graph} {k d at step : ℕ} {p : PathBuffer} → IsOnWay g k d at step p → at ≡ 2 →
     HoldsNames p (names_down g k d)
-way_root {g = g} {p = p} w e =
-    let n = names_root g w.left (subst (λ x. level g x ≡ Some w.left) e w.level) in
-    subst (HoldsNames p) (sym (ap (λ x. names_down g w.left x ++ w.following) e ∙ ap (λ xs. xs ++ w.following) n)
-    ∙ w.whole) w.held
+way_root {g = g} {p = p} w e = grind (arith, names_root)
 
 -- a level is below the number of inodes
 pub way_long : {g : Graph} {k d at step : ℕ} {p : PathBuffer} → IsOnWay g k d at step p → level g d ≡ Some k →
@@ -80,11 +77,7 @@ pub record HasParent (g : Graph) (k d s : ℕ) : Type 0 where
 down_is : (g : Graph) (j at s : ℕ) → at ≢ 2 → parent g at ≡ Some s → names_down g (suc j) at ≡ names_down g j s
     ++ name_in at (g.entries s) ∷ []
 unfolding names_down
-down_is g j at s n e =
-    let place : parent_entry_index g at ≡ first_index (is_naming_entry at) (g.entries s) =
-    cond-false (at == 2) None (index_in_parent g at (parent g at)) (ne_eqb at 2 n) ∙ ap (index_in_parent g at) e in
-    ap (names_by_parent g (names_down g j) at) e
-    ∙ ap (λ o. names_down g j s ++ name_of (option_and_then (nth_roled (g.entries s)) o) ∷ []) place
+down_is g j at s n e = grind (arith, cond-false, ne_eqb)
 
 pub parent_is : (g : Graph) (k d s : ℕ) → level g d ≡ Some k → d ≢ 2 → s ≡ unwrap_or (parent g d) 0 → HasParent g k d s
 parent_is g zero d s l n e = absurd (n (root_level g d l))
@@ -105,17 +98,7 @@ pub way_up : {g : Graph} {k d at step : ℕ} {p : PathBuffer} (s : ℕ) (q : Pat
     HasParent g w.left at s
     → ((following : List (List ℕ)) → HoldsNames p following → HoldsNames q (name_in at (g.entries s) ∷ following)) →
     IsOnWay g k d s (step + 1) q
-way_up {g = g} {at = at} s q w above f =
-    let name = name_in at (g.entries s) in
-    record {
-      left = above.left;
-      level = above.level;
-      steps = omega (arith, w.steps, above.step);
-      following = name ∷ w.following;
-      held = f w.following w.held;
-      whole = sym (append_assoc (names_down g above.left s) (name ∷ []) w.following)
-          ∙ (sym (ap (λ xs. xs ++ w.following) above.down) ∙ w.whole);
-    }
+way_up {g = g} {at = at} s q w above f = grind (arith, append_assoc)
 
 -- the numbers of the graph are those of the inodes
 pub count_is : (v : Layout) (b : List ℕ) → (graph_of (volume_of v b)).count ≡ v.ncg * v.ipg
@@ -147,10 +130,7 @@ pub child_made : (g : Graph) (s : KeptParent) (made : DirectoryPath) → IsKeptP
     ((names : List (List ℕ)) → HoldsPath s.path (Some names)
     → AreSingle (names ++ s.name.items ∷ []) → HoldsPath made (Some (names ++ s.name.items ∷ [])))
     → IsPathOf g s.child made
-child_made g s made kept some makes =
-    let leads = kept.child some in
-    subst (HoldsPath made) (sym leads.to_child)
-    (makes leads.names (subst (HoldsPath s.path) leads.to_parent (kept.path (kept.parent some))) leads.single)
+child_made g s made kept some makes = grind arith
 
 -- a path of at least one name
 path_of_some : (names : List (List ℕ)) (name : List ℕ) →

@@ -5,15 +5,10 @@ use Rattle.ffs_volume.specs.declared.Inode.{Inode}
 use Rattle.ffs_volume.specs.declared.Layout.{Layout}
 use Rattle.ffs_volume.specs.Blocks.Inodes.{addresses_needed, logical_blocks_of}
 use Rattle.ffs_volume.specs.Blocks.Steps.{is_walked, last_length_of, steps_of, steps_of_addresses}
-use Rattle.ffs_walk.specs.declared.frame.Frame.{Frame}
 use Rattle.ffs_walk.specs.declared.walk.Walk.{Walk}
-use Rattle.ffs_walk.specs.Fits.{FrameFits, IsSpent}
+use Rattle.ffs_walk.specs.Fits.{IsSpent}
 use Rattle.ffs_walk.specs.Rests.{IsWalkOf}
 use Rattle.ffs_walk.proofs.WalkSteps.{rest_at_top}
-
--- a frame of no words fits
-pub unused_fits : (v : Layout) (blocks span : ℕ) (f : Frame) → f.used ≡ 0 → FrameFits v blocks span f
-unused_fits v blocks span f none = grind arith
 
 -- all steps of the inode are left
 all_steps : (v : Layout) (inode : Inode) (bytes : List ℕ) (blocks last next count : ℕ) → next ≡ 0 →

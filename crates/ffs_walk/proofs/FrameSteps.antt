@@ -8,7 +8,7 @@ use Rattle.ffs_walk.specs.declared.frame.Frame.{Frame}
 use Rattle.ffs_volume.specs.Blocks.Steps.{block_bytes, address_in, tail_of, any_nonzero_from, steps_under, address_at}
 use Rattle.ffs_volume.specs.Blocks.Steps.{indirect_addresses_needed}
 use Rattle.ffs_image.specs.Device.{ForContents}
-use Rattle.ffs_walk.specs.Frames.{frame_rest, frame_left, item_left, IsFrom, IsSameBlock}
+use Rattle.ffs_walk.specs.Frames.{frame_rest, frame_left, item_left, IsFrom}
 use Rattle.ffs_walk.specs.declared.frame.Item.{Item}
 use Rattle.ffs_walk.specs.declared.frame.Item.TheVariants.{UnusedWord, Word}
 use Rattle.ffs_walk.specs.Fits.{FrameFits, IsBelow}
@@ -59,35 +59,10 @@ pub word_fits : (g : Layout) (blocks span : ℕ) (f : Frame) → 0 < span → Fr
     f.next < f.used → f.first + f.next * span < 2 ^ 64
 word_fits g blocks span f some fits small h = grind arith
 
--- what is left in a frame that is new
-pub entered_left : (most used words : ℕ) → used ≤ words → 1 + (used - 0) * most ≤ 1 + words * most
-entered_left most used words h = grind arith
-
 -- an item of the lowest level is one step
 pub item_one : (item : Item) → item_left 1 item ≡ 1
 item_one UnusedWord = refl
 item_one (Word address block) = refl
-
-pub falls_by : (i s' s r : ℕ) → i + s' ≤ s → i ≡ 1 → s' + r < s + r
-falls_by i s' s r h e = omega arith
-
--- a frame that takes an item still fits
-pub kept_fits : (g : Layout) (blocks span : ℕ) (f f' : Frame) → f.next < f.used → IsSameBlock f f'
-    → FrameFits g blocks span f → FrameFits g blocks span f'
-kept_fits g blocks span f f' some same fits = grind arith
-
--- a walk falls where its double or triple frame takes an item, and what the item means goes below
-pub falls_in_double : (i d' s d t u left : ℕ) → 1 + left ≤ i + (s + (d' + (t + u))) → i + d' ≤ d →
-    left < s + (d + (t + u))
-falls_in_double i d' s d t u left l f = omega arith
-
-pub falls_in_triple : (i t' s d t u left : ℕ) → 1 + left ≤ i + (s + (d + (t' + u))) → i + t' ≤ t →
-    left < s + (d + (t + u))
-falls_in_triple i t' s d t u left l f = omega arith
-
--- a frame uses no more words than a block has
-pub words_fit : (g : Layout) (blocks span : ℕ) (f : Frame) → FrameFits g blocks span f → f.used ≤ g.nindir
-words_fit g blocks span f fits = omega (arith, fits.words)
 
 -- an address that isn't zero
 pub is_set : (address : ℕ) → (address ≡ 0 → ⊥) → (address == 0) ≡ false

@@ -1,11 +1,11 @@
 -- Words of zero are gaps, at every level.
-use Rattle.std.proofs.Common.{◌≡◌, ℕ, zero, suc, ◌+◌, ◌-◌, ◌*◌, ◌<◌, ◌≤◌, false, if◌then◌else◌, List, [], ◌∷◌, ◌++◌}
+use Rattle.std.proofs.Common.{◌≡◌, ℕ, zero, suc, ◌+◌, ◌-◌, ◌<◌, ◌≤◌, false, if◌then◌else◌, List, [], ◌∷◌, ◌++◌}
 use Rattle.std.proofs.Common.{replicate, slice_index, append_assoc, arith, refl, ap, ◌∙◌}
 use Rattle.ffs_volume.specs.declared.Layout.{Layout}
 use Rattle.ffs_volume.specs.declared.Step.{Step}
 use Rattle.ffs_volume.specs.declared.Step.TheVariants.{Gap}
 use Rattle.ffs_volume.specs.Blocks.Steps.{FileBlocks, block_bytes, address_in, address_at, tail_of, any_nonzero_from}
-use Rattle.ffs_volume.specs.Blocks.Steps.{steps_under, steps_at, steps_of_addresses, indirection_of, first_block}
+use Rattle.ffs_volume.specs.Blocks.Steps.{steps_under, steps_at, steps_of_addresses}
 use Rattle.ffs_walk.specs.declared.frame.Frame.{Frame}
 use Rattle.ffs_walk.specs.declared.walk.Walk.{Walk}
 use Rattle.ffs_walk.specs.Frames.{frame_rest}
@@ -22,15 +22,9 @@ gaps_under : (g : Layout) (bytes : List ℕ) (child : ℕ → ℕ → List Step)
     address first (next + n) (used - (next + n))
 gaps_under g bytes child span address first used zero next gap h zeros = grind arith
 gaps_under g bytes child span address first used (suc n) next gap h zeros =
-    let at : next + 1 + n ≡ next + suc n = omega arith in
-    next_word g bytes child span address first next used (omega arith)
-    ∙ ap (λ w. child w (first + next * span) ++ steps_under g bytes child span address first (next + 1)
-    (used - (next + 1))) (zeros next (omega arith) (omega arith))
-    ∙ ap (λ xs. xs ++ steps_under g bytes child span address first (next + 1) (used - (next + 1)))
-    (gap (first + next * span))
-    ∙ ap (λ xs. Gap ∷ xs) (gaps_under g bytes child span address first used n (next + 1) gap (omega arith)
-    (λ k l m. zeros k (omega arith) (omega arith))
-    ∙ ap (λ j. replicate n Gap ++ steps_under g bytes child span address first j (used - j)) at)
+    let rest = gaps_under g bytes child span address first used n (next + 1) gap (omega arith)
+    (λ k l m. zeros k (omega arith) (omega arith)) in
+    grind (arith, rest, next_word)
 
 -- what is left in a frame whose block is read before
 pub was_read : (g : Layout) (bytes : List ℕ) (child : ℕ → ℕ → List Step) (span : ℕ) (f : Frame) → f.unread ≡ false →
@@ -70,15 +64,9 @@ pub gaps_at_addresses : (t : FileBlocks) (bytes addresses : List ℕ) (used n ne
     ≡ replicate n Gap ++ steps_of_addresses t bytes addresses (next + n) (used - (next + n))
 gaps_at_addresses t bytes addresses used zero next h zeros = grind arith
 gaps_at_addresses t bytes addresses used (suc n) next h zeros =
-    let at : next + 1 + n ≡ next + suc n = omega arith in
-    let others = steps_of_addresses t bytes addresses (next + 1) (used - (next + 1)) in
-    next_address t bytes addresses next used (omega arith)
-    ∙ ap (λ a. steps_at t bytes (indirection_of next) a (first_block t.layout.nindir next) ++ others)
-    (zeros next (omega arith) (omega arith))
-    ∙ ap (λ xs. xs ++ others) (zero_gap t bytes (indirection_of next) (first_block t.layout.nindir next))
-    ∙ ap (λ xs. Gap ∷ xs) (gaps_at_addresses t bytes addresses used n (next + 1) (omega arith)
-    (λ k l m. zeros k (omega arith) (omega arith))
-    ∙ ap (λ j. replicate n Gap ++ steps_of_addresses t bytes addresses j (used - j)) at)
+    let rest = gaps_at_addresses t bytes addresses used n (next + 1) (omega arith)
+    (λ k l m. zeros k (omega arith) (omega arith)) in
+    grind (arith, rest, next_address, zero_gap)
 
 -- the same of the addresses of a walk that is in no indirect block
 pub gaps_at_top : (w : Walk) (bytes : List ℕ) (end : ℕ) → IsAtTop w → EndsZeroAddresses w end →
@@ -89,11 +77,4 @@ gaps_at_top w bytes end top ends =
     let whole : w.next + (end - w.next) ≡ end = omega (arith, ends.within.0) in
     let here = gaps_at_addresses (file_blocks_of w) bytes w.addresses w.used (end - w.next) w.next
     (omega (arith, whole, ends.within.1)) (λ k l m. ends.zeros k l (omega (arith, m, whole))) in
-    rest_at_top bytes w top.single top.double top.triple
-    ∙ here
-    ∙ ap (λ j. replicate (end - w.next) Gap ++ steps_of_addresses (file_blocks_of w) bytes w.addresses j (w.used - j)) whole
-    ∙ rw (
-      spent_rest g bytes (steps_at (file_blocks_of w) bytes 0) 1 w.single top.single,
-      spent_rest g bytes (steps_at (file_blocks_of w) bytes 1) g.nindir w.double top.double,
-      spent_rest g bytes (steps_at (file_blocks_of w) bytes 2) (g.nindir * g.nindir) w.triple top.triple,
-    ) refl
+    grind (arith, here, rest_at_top, spent_rest)

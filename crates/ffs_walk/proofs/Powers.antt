@@ -1,17 +1,18 @@
 -- Blocks and fragments have sizes that are powers of two. A shift divides by one, and a mask gives
 -- the remainder.
-use Rattle.std.proofs.Common.{zero, suc, ◌≡◌, ◌==◌, ◌-◌, ◌/◌, ◌%◌, ◌^◌, ◌<◌, ◌≤◌, ℕ, List, [], ◌∷◌, true, refl, sym, ap, ap₂}
+use Rattle.std.proofs.Common.{zero, suc, ◌≡◌, ◌==◌, ◌-◌, ◌/◌, ◌%◌, ◌^◌, ◌<◌, ◌≤◌, ℕ, List, [], ◌∷◌, true, refl, sym, ap}
 use Rattle.std.proofs.Common.{◌∙◌, arith, bit_and, inl, inr, subst}
 use Rattle.std.specs.Int.{IsPowerOfTwo, trailing_zeros, w32}
-use Rattle.std.specs.Int.Count.{count_trailing_zeros, under}
+use Rattle.std.specs.Int.Count.{count_trailing_zeros}
 use Rattle.std.proofs.lemmas.Nat.{and_mask}
-use Rattle.std.proofs.lemmas.Bool.{and_parts, or_cases, cases_lt}
+use Rattle.std.proofs.lemmas.Bool.{or_cases, cases_lt}
 use Rattle.std.proofs.lemmas.Bool.Decides.{nat_tests}
 use Rattle.std.proofs.Math.Nat.{pow-suc}
 use Rattle.std.proofs.Math.Pow.{pow_mono}
+use Rattle.ffs_volume.proofs.GeometryLaws.{shape_holds}
 use Rattle.ffs_volume.specs.declared.Layout.{Layout}
 use Rattle.ffs_volume.specs.Laws.Geometry.{IsAcceptedLayout}
-use Rattle.ffs_volume.specs.Disk.Outcome.{is_among, is_block_size, is_fragment_size, is_valid_layout, has_valid_sizes}
+use Rattle.ffs_volume.specs.Disk.Outcome.{is_among, is_block_size, is_fragment_size, has_valid_sizes}
 
 -- each of the numbers is a power of two
 ArePowers : List ℕ → Type 0
@@ -37,21 +38,17 @@ unfolding is_fragment_size ArePowers
 fragment_power n e = power_among (512 ∷ 1024 ∷ 2048 ∷ 4096 ∷ 8192 ∷ 16384 ∷ 32768 ∷ 65536 ∷ []) n
     ((9, refl), ((10, refl), ((11, refl), ((12, refl), ((13, refl), ((14, refl), ((15, refl), ((16, refl), tt)))))))) e
 
-valid_sizes : (v : Layout) → IsAcceptedLayout v → has_valid_sizes v ≡ true
-unfolding is_valid_layout
-valid_sizes v g = (and_parts _ _ (and_parts _ _ (and_parts _ _ (and_parts _ _ g.shaped).0).0).0).0
-
 pub bsize_power : (v : Layout) → IsAcceptedLayout v → IsPowerOfTwo v.bsize
 unfolding has_valid_sizes
 bsize_power v g =
-    let e = valid_sizes v g in
+    let e = (shape_holds v g.shaped).0 in
     let b : is_block_size v.bsize ≡ true = grind (arith, nat_tests) in
     block_power v.bsize b
 
 pub fsize_power : (v : Layout) → IsAcceptedLayout v → IsPowerOfTwo v.fsize
 unfolding has_valid_sizes
 fsize_power v g =
-    let e = valid_sizes v g in
+    let e = (shape_holds v g.shaped).0 in
     let f : is_fragment_size v.fsize ≡ true = grind (arith, nat_tests) in
     fragment_power v.fsize f
 
@@ -62,9 +59,7 @@ zeros_of_power zero k h = absurd (omega (arith, h))
 zeros_of_power (suc w) zero h = refl
 zeros_of_power (suc w) (suc k) h =
     let e = pow-suc 2 k in
-    let even : 2 ^ suc k % 2 ≡ 0 = omega (arith, e) in
-    let half : 2 ^ suc k / 2 ≡ 2 ^ k = omega (arith, e) in
-    ap₂ (λ r q. under r (count_trailing_zeros w q)) even half ∙ ap suc (zeros_of_power w k (omega (arith, h)))
+    grind (arith, e, zeros_of_power w k)
 
 -- so it is 2 to the power of the zeros that it ends with
 pub power_of_zeros : (n : ℕ) → IsPowerOfTwo n → n < 2 ^ 32 → n ≡ 2 ^ trailing_zeros w32 n

@@ -22,13 +22,6 @@ piece_kept a k p n xs ys h len (inl below) =
     ∙ (ap (drop p) (take-put_mid_below a k xs ys (p + n) below (omega arith)) ∙ drop-take p n xs)
 piece_kept a k p n xs ys h len (inr above) = ap (take n) (drop-put_mid a k xs ys p above (omega arith) len)
 
--- parts of equal size, at different places, are apart
-pub parts_apart : (size i j : ℕ) → i < j → i * size + size ≤ j * size
-parts_apart size i j h = grind arith
-
-pub three_parts : (size i : ℕ) → i < 3 → i * size + size ≤ 3 * size
-three_parts size i h = parts_apart size i 3 h
-
 -- where one level's part is written, the other levels hold what they held
 pub held_apart : (v : Layout) (contents : Option (List ℕ)) (old new : Blocks) (level k : ℕ) (ys : List ℕ) →
     BlocksHold v contents old →

@@ -3,8 +3,6 @@ use Rattle.std.proofs.Common.{◌≡◌, ℕ, zero, suc, ◌==◌, ◌+◌, ◌-
 use Rattle.std.proofs.Common.{leb, ◌&&◌}
 use Rattle.std.proofs.Common.{◌∷◌, length, take, drop, arith, refl, ap, sym, ◌∙◌, length-drop}
 use Rattle.std.proofs.Math.Seq.{take-add}
-use Rattle.std.proofs.lemmas.Bool.Decides.{nat_tests}
-use Rattle.std.proofs.lemmas.Bool.{or_parts}
 use Rattle.std.proofs.lemmas.List.{drop-drop}
 use Rattle.std.proofs.lemmas.List.Folds.{list_any-append}
 use Rattle.std.specs.List.{list_any, range_with_len, slice_range}
@@ -14,17 +12,6 @@ use Rattle.ffs_volume.specs.declared.Order.TheVariants.{Little, Big}
 use Rattle.ffs_volume.specs.Disk.Numbers.{number, u32_at}
 use Rattle.ffs_volume.specs.Blocks.Inodes.{any_nonzero}
 use Rattle.ffs_volume.specs.Blocks.Steps.{address_in, any_nonzero_from}
-
--- a sum isn't zero where one of its parts isn't
-low_set : (a m : ℕ) → not (a + 256 * m == 0) ≡ (not (a == 0) || not (m == 0))
-low_set a m = grind (arith, nat_tests)
-
-many_set : (a k m : ℕ) → 0 < k → not (suc a * k + m == 0) ≡ (not (suc a == 0) || not (m == 0))
-many_set a k m some = grind arith
-
-high_set : (a k m : ℕ) → 0 < k → not (a * k + m == 0) ≡ (not (a == 0) || not (m == 0))
-high_set zero k m some = ap (λ n. not (n == 0)) (omega arith)
-high_set (suc a) k m some = many_set a k m some
 
 -- the number of four bytes
 four_set : (order : Order) (a b c d : ℕ) (xs : List ℕ) →
@@ -69,9 +56,7 @@ none_set : (word : ℕ → ℕ) (n first i : ℕ) → list_any (λ j. not (word 
     word (first + i) ≡ 0
 none_set word zero first i e h = absurd (omega (arith, h))
 none_set word (suc n) first zero e h = grind arith
-none_set word (suc n) first (suc i) e h =
-    let f : first + suc i ≡ first + 1 + i = omega arith in
-    ap word f ∙ none_set word n (first + 1) i (or_parts (not (word first == 0)) _ e).1 (omega (arith, h))
+none_set word (suc n) first (suc i) e h = grind (arith, none_set word n (first + 1) i)
 
 -- some words are all zero where no byte of them is set
 pub no_byte : (v : Layout) (block : List ℕ) (first n k : ℕ) → 4 * (first + n) ≤ length block →

@@ -22,5 +22,4 @@ count_from p (bit ∷ bits) a h =
     )
 
 pub count_all : (bits : List Bool) → set_among bits 0 (length bits) ≡ set_count bits
-count_all bits = count_from (λ f. slice_index_or bits f false) bits 0
-    (λ i. ap (λ n. slice_index_or bits n false) (omega arith))
+count_all bits = grind (arith, count_from)

@@ -1,13 +1,13 @@
 -- What the kind of an inode reports of it.
-use Rattle.std.proofs.Common.{◌≡◌, ◌<◌, ℕ, Bool, true, false, not, ◌&&◌, ◌||◌, if◌then◌else◌, ◌==◌, List, drop, arith}
+use Rattle.std.proofs.Common.{◌≡◌, ◌<◌, ℕ, Bool, true, false, ◌&&◌, ◌||◌, if◌then◌else◌, ◌==◌, List, arith}
 use Rattle.std.proofs.Common.{refl, ap, ◌∙◌, sym}
 use Rattle.std.proofs.lemmas.Bool.Decides.{nat_tests}
 use Rattle.ffs_volume.specs.declared.Layout.{Layout}
 use Rattle.ffs_volume.specs.declared.Inode.{Inode}
 use Rattle.ffs_volume.specs.declared.Class.{Class}
 use Rattle.ffs_volume.specs.declared.Class.TheVariants.{Free, Partial, Unknown, File, Dir}
-use Rattle.ffs_volume.specs.Blocks.Inodes.{inode_of, type_of, class_of, is_file_or_dir, is_known_type, is_too_large}
-use Rattle.ffs_volume.specs.Blocks.Inodes.{any_nonzero, addresses_allowed, is_directory, is_allocated, is_unknown}
+use Rattle.ffs_volume.specs.Blocks.Inodes.{inode_of, type_of, class_of, is_file_or_dir, is_known_type}
+use Rattle.ffs_volume.specs.Blocks.Inodes.{is_directory, is_allocated, is_unknown}
 use Rattle.ffs_volume.specs.Directories.Roles.{is_dir, is_allocated_inode, is_suspect}
 use Rattle.ffs_volume.specs.Directories.Volumes.{class_at, is_inode_number, volume_of, volume_with, marked_at}
 use Rattle.ffs_volume.specs.Encodings.Kinds.{kind_of, kind_at, is_dir_kind, is_empty_dir_kind, is_allocated_kind}
@@ -23,45 +23,15 @@ type_facts Unknown kind = Unit {0}
 
 class_type : (v : Layout) (i : Inode) → type_facts (class_of v i) (type_of i.mode)
 unfolding class_of
-class_type v i = one (type_of i.mode == 0) refl
-  where
-    three : (d : Bool) → (type_of i.mode == 4) ≡ d → is_known_type (type_of i.mode) ≡ true →
-        type_facts (if d then Dir else File) (type_of i.mode)
-    three true q known = grind (arith, nat_tests)
-    three false q known = (known, q)
-
-    two : (k : Bool) → is_known_type (type_of i.mode) ≡ k → (rest : Bool) →
-        type_facts (if not k || rest then Unknown else (if type_of i.mode == 4 then Dir else File)) (type_of i.mode)
-    two false q rest = tt
-    two true q true = tt
-    two true q false = three (type_of i.mode == 4) refl q
-
-    free : (f : Bool) → type_facts (if f then Free else Partial) (type_of i.mode)
-    free true = tt
-    free false = tt
-
-    one : (z : Bool) → (type_of i.mode == 0) ≡ z →
-        type_facts (if z then (if i.mode == 0 && (i.size == 0 && not (any_nonzero i.addresses)) then Free else Partial)
-        else (if not (is_known_type (type_of i.mode))
-        || (is_too_large v i || any_nonzero (drop (addresses_allowed v i) i.addresses))
-        then Unknown else (if type_of i.mode == 4 then Dir else File))) (type_of i.mode)
-    one true q = free (i.mode == 0 && (i.size == 0 && not (any_nonzero i.addresses)))
-    one false q = two (is_known_type (type_of i.mode)) refl
-        (is_too_large v i || any_nonzero (drop (addresses_allowed v i) i.addresses))
+class_type v i = grind (arith, nat_tests)
 
 -- the same of a number
 facts_at : (v : Layout) (image : List ℕ) (x : ℕ) → type_facts (class_at v image x) (type_of (inode_of v image x).mode)
-facts_at v image x = one (is_inode_number v x) refl
-  where
-    one : (b : Bool) → is_inode_number v x ≡ b → type_facts (if b then class_of v (inode_of v image x) else Free)
-        (type_of (inode_of v image x).mode)
-    one true q = class_type v (inode_of v image x)
-    one false q = tt
+facts_at v image x = grind (arith, class_type)
 
 known_kind : (k : ℕ) → is_known_type k ≡ true → (k == 4) ≡ false → ((k == 0) ≡ false) × ((k == 5) ≡ false)
     × ((k == 15) ≡ false) × (k < 16)
-known_kind k known apart =
-    (grind (arith, nat_tests), grind (arith, nat_tests), grind (arith, nat_tests), grind (arith, nat_tests))
+known_kind k known apart = grind (arith, nat_tests)
 
 -- all that the kind says
 pub record IsContents (c : Class) (i : Inode) (k : ℕ) : Type 0 where
@@ -75,20 +45,8 @@ kind_reports : (c : Class) (i : Inode) → type_facts c (type_of i.mode) → IsC
 kind_reports Free i h = record { dir = refl; empty = refl; allocated = refl; unknown = refl; small = omega arith }
 kind_reports Partial i h = record { dir = refl; empty = refl; allocated = refl; unknown = refl; small = omega arith }
 kind_reports Unknown i h = record { dir = refl; empty = refl; allocated = refl; unknown = refl; small = omega arith }
-kind_reports Dir i h = one (i.size == 0) refl
-  where
-    one : (b : Bool) → (i.size == 0) ≡ b → IsContents Dir i (if b then 5 else 4)
-    one true q = record { dir = refl; empty = q; allocated = refl; unknown = refl; small = omega arith }
-    one false q = record { dir = refl; empty = q; allocated = refl; unknown = refl; small = omega arith }
-kind_reports File i h =
-    let f = known_kind (type_of i.mode) h.0 h.1 in
-    record {
-      dir = sym (ap (λ (b : Bool). b || (type_of i.mode == 5)) h.1 ∙ f.1);
-      empty = sym f.1;
-      allocated = sym (ap not f.0);
-      unknown = sym f.2;
-      small = f.3;
-    }
+kind_reports Dir i h = grind arith
+kind_reports File i h = grind (arith, known_kind)
 
 pub reports_at : (v : Layout) (image : List ℕ) (x : ℕ) →
     IsContents (class_at v image x) (inode_of v image x) (kind_at v image x)
@@ -98,12 +56,7 @@ reports_at v image x = kind_reports (class_at v image x) (inode_of v image x) (f
 -- a number that is no inode's has the kind 0
 class_inside : (v : Layout) (image : List ℕ) (x : ℕ) (test : Class → Bool) → test Free ≡ false →
     (is_inode_number v x && test (class_at v image x)) ≡ test (class_at v image x)
-class_inside v image x test out = one (is_inode_number v x) refl
-  where
-    one : (b : Bool) → is_inode_number v x ≡ b → (b && test (if b then class_of v (inode_of v image x) else Free))
-        ≡ test (if b then class_of v (inode_of v image x) else Free)
-    one true q = refl
-    one false q = sym out
+class_inside v image x test out = grind arith
 
 -- the tests of the checks of directories, by the kind
 pub dir_is : (v : Layout) (image : List ℕ) (x : ℕ) → is_dir (volume_of v image) x ≡ is_dir_kind (kind_at v image x)
@@ -118,8 +71,7 @@ some_is v image x = class_inside v image x is_allocated refl ∙ (reports_at v i
 pub empty_is : (v : Layout) (image : List ℕ) (x : ℕ) →
     (is_dir (volume_of v image) x && (((volume_of v image).inode x).size == 0)) ≡ is_empty_dir_kind (kind_at v image x)
 unfolding volume_of volume_with
-empty_is v image x = ap (λ (b : Bool). b && ((inode_of v image x).size == 0)) (class_inside v image x is_directory refl)
-    ∙ (reports_at v image x).empty
+empty_is v image x = grind (arith, class_inside, reports_at)
 
 pub suspect_is : (v : Layout) (image : List ℕ) (x : ℕ) → is_suspect (volume_of v image) x
     ≡ (marked_at v image x || is_empty_dir_kind (kind_at v image x))

@@ -1,22 +1,22 @@
 -- What a note says of an inode.
 use Rattle.std.proofs.Common.{◌≡◌, ℕ, ◌+◌, ◌<◌, Bool, true, false, List, arith, refl, ap, sym, ◌∙◌}
-use Rattle.std.specs.Prelude.{slice_index, nat_lt, ◌&&◌, ◌==◌, min, if◌then◌else◌}
+use Rattle.std.specs.Prelude.{slice_index, nat_lt, ◌==◌, if◌then◌else◌}
 use Rattle.std.proofs.lemmas.Bool.Decides.{nat_tests}
 use Rattle.ffs_volume.specs.declared.Layout.{Layout}
 use Rattle.ffs_volume.specs.declared.Inode.{Inode}
 use Rattle.ffs_volume.specs.declared.Class.{Class}
-use Rattle.ffs_volume.specs.declared.Class.TheVariants.{Free, Partial, Unknown, File, Dir}
+use Rattle.ffs_volume.specs.declared.Class.TheVariants.{Dir}
 use Rattle.ffs_volume.specs.Laws.Geometry.{IsAcceptedLayout}
-use Rattle.ffs_volume.specs.Blocks.Inodes.{inode_of, is_directory}
+use Rattle.ffs_volume.specs.Blocks.Inodes.{inode_of}
 use Rattle.ffs_volume.specs.Blocks.Steps.{steps_of}
 use Rattle.ffs_volume.specs.Blocks.Owners.{owner_of}
-use Rattle.ffs_volume.specs.Blocks.Claims.{Claims, at_next_inode, after_steps, after_owner}
+use Rattle.ffs_volume.specs.Blocks.Claims.{Claims, at_next_inode, after_steps}
 use Rattle.ffs_volume.specs.Blocks.KeptSteps.{claims_before}
-use Rattle.ffs_volume.specs.Directories.Volumes.{class_at, is_inode_number}
+use Rattle.ffs_volume.specs.Directories.Volumes.{class_at}
 use Rattle.ffs_volume.specs.Encodings.Replay.{cut_of, cut_at}
 use Rattle.ffs_volume.proofs.Potentials.{owner_moves, kept_bound}
 use Rattle.ffs_volume.proofs.CutLaws.{before_length, cut_is}
-use Rattle.ffs_workspace.specs.Notes.{first_noted, noted_below, has_one_chunk, note_of, note_at, cut_in}
+use Rattle.ffs_workspace.specs.Notes.{first_noted, note_of, note_at, cut_in}
 
 -- an inode keeps fewer offers than the first note of an address
 kept_few : (v : Layout) (image : List ℕ) (x : ℕ) → IsAcceptedLayout v
@@ -30,24 +30,10 @@ kept_few v image x g =
     omega (arith, kept_bound s e v.size (m.used_length ∙ h) (omega arith) (omega arith) refl m, g.numbers.size_below)
 
 cut_of_few : (e : Claims) → e.kept < first_noted → cut_of e < first_noted
-cut_of_few e few = go (nat_lt e.dups 11)
-  where
-    go : (b : Bool) → (if b then 0 else e.kept) < first_noted
-    go true = omega arith
-    go false = few
+cut_of_few e few = grind arith
 
 cut_few : (v : Layout) (image : List ℕ) (x : ℕ) → IsAcceptedLayout v → cut_at v image x < first_noted
-cut_few v image x g = go (is_inode_number v x) refl
-  where
-    e : Claims
-    e = after_steps v (at_next_inode (claims_before v image x)) (steps_of v (inode_of v image x) image)
-
-    go : (b : Bool) → is_inode_number v x ≡ b → cut_at v image x < first_noted
-    go true h = omega (arith, cut_is v image x g h, cut_of_few e (kept_few v image x g))
-    go false h =
-        let none : cut_at v image x ≡ 0 = ap
-        (λ (b : Bool). if b then min (cut_of (after_owner v (claims_before v image x) (owner_of v image x))) 4294967295 else 0) h in
-        omega (arith, none)
+cut_few v image x g = grind (arith, cut_is, cut_of_few, kept_few)
 
 not_below : (a : ℕ) → nat_lt (first_noted + a) first_noted ≡ false
 not_below a = grind (arith, nat_tests)
@@ -63,14 +49,7 @@ zero_of : (n : ℕ) → (n == 0) ≡ true → n ≡ 0
 zero_of n h = grind (arith, nat_tests)
 
 cut_noted : (class : Class) (i : Inode) (cut : ℕ) → cut < first_noted → cut_in (note_of class i cut) ≡ cut
-cut_noted class i cut few = go (cut == 0) refl (has_one_chunk class i)
-  where
-    go : (z : Bool) → (cut == 0) ≡ z → (one : Bool)
-        → cut_in (if z && one then first_noted + slice_index i.addresses 0 else cut) ≡ cut
-    go true h true = ap (λ (x : Bool). if x then first_noted + slice_index i.addresses 0 else 0)
-        (not_below (slice_index i.addresses 0)) ∙ sym (zero_of cut h)
-    go true h false = ap (λ (x : Bool). if x then cut else 0) (below_first cut few)
-    go false h one = ap (λ (x : Bool). if x then cut else 0) (below_first cut few)
+cut_noted class i cut few = grind (arith, not_below, zero_of, below_first)
 
 -- the cut of an inode is what its note says
 pub cut_is_noted : (v : Layout) (image : List ℕ) (x : ℕ) → IsAcceptedLayout v → cut_in (note_at v image x) ≡ cut_at v image x
@@ -85,21 +64,7 @@ pub record IsOneChunkAt (class : Class) (i : Inode) (address : ℕ) : Type 0 whe
 
 address_noted : (class : Class) (i : Inode) (cut a : ℕ) → cut < first_noted → note_of class i cut ≡ first_noted + a →
     IsOneChunkAt class i a
-address_noted class i cut a few h =
-    go (cut == 0) class refl (i.size == 512) refl (nat_lt (slice_index i.addresses 0) noted_below) h
-  where
-    go : (z : Bool) (k : Class) → k ≡ class → (s : Bool) → (i.size == 512) ≡ s → (l : Bool)
-        → (if z && (is_directory k && (s && l)) then first_noted + slice_index i.addresses 0 else cut) ≡ first_noted + a
-        → IsOneChunkAt class i a
-    go true Dir e true s true h =
-        record { is_dir = sym e; size = grind (arith, nat_tests); address_is = omega (arith, h) }
-    go true Dir e true s false h = absurd (omega (arith, h, few))
-    go true Dir e false s l h = absurd (omega (arith, h, few))
-    go true File e s q l h = absurd (omega (arith, h, few))
-    go true Unknown e s q l h = absurd (omega (arith, h, few))
-    go true Partial e s q l h = absurd (omega (arith, h, few))
-    go true Free e s q l h = absurd (omega (arith, h, few))
-    go false k e s q l h = absurd (omega (arith, h, few))
+address_noted class i cut a few h = grind (arith, nat_tests)
 
 -- a note of an address is that of a directory of one chunk
 pub address_is_noted : (v : Layout) (image : List ℕ) (x a : ℕ) → IsAcceptedLayout v → note_at v image x ≡ first_noted + a

@@ -1,29 +1,19 @@
 -- The name of the first plain entry that names an inode, and lists that note no place.
-use Rattle.std.proofs.Common.{◌≡◌, ℕ, zero, suc, ◌+◌, ◌*◌, ◌/◌, ◌%◌, ◌^◌, ◌<◌, arith, bit_or, Bool, true, false, List, [], ◌∷◌, ◌++◌, Option, Some, None, refl, sym, ap, ◌∙◌}
-use Rattle.std.specs.Prelude.{not, ◌&&◌, ◌||◌, ◌==◌, cond, if◌then◌else◌, option_map, option_and_then, replicate, slice_index}
+use Rattle.std.proofs.Common.{◌≡◌, ℕ, zero, suc, ◌+◌, ◌*◌, ◌/◌, ◌%◌, ◌^◌, ◌<◌, arith, bit_or, Bool, true, false, List, [], ◌∷◌, ◌++◌, refl, sym, ap, ◌∙◌}
+use Rattle.std.specs.Prelude.{◌&&◌, ◌||◌, ◌==◌, cond, replicate, slice_index}
 use Rattle.std.specs.List.{list_any}
 use Rattle.std.specs.Int.Bits.{bit_and, or_add_and}
 use Rattle.std.proofs.lemmas.Nat.Bits.{and_pow}
 use Rattle.ffs_volume.specs.declared.Layout.{Layout}
-use Rattle.ffs_volume.specs.declared.Role.TheVariants.{Empty, Dot, Dotdot, Extra, Plain}
-use Rattle.ffs_volume.specs.Directories.Entries.{Entry, is_live}
-use Rattle.ffs_volume.specs.Directories.Graph.{is_naming_entry, first_index}
-use Rattle.ffs_volume.specs.Directories.Parents.{nth_roled}
-use Rattle.ffs_volume.specs.Directories.Paths.{name_of}
-use Rattle.ffs_volume.specs.Directories.Roles.{RoledEntry, is_one_dot, is_two_dots, is_plain, role_of, roled_from}
-use Rattle.ffs_workspace.specs.Places.{ArePlaces, name_in, place_in}
+use Rattle.ffs_volume.specs.Directories.Entries.{Entry}
+use Rattle.ffs_volume.specs.Directories.Graph.{is_naming_entry}
+use Rattle.ffs_volume.specs.Directories.Roles.{RoledEntry, is_plain, role_of, roled_from}
+use Rattle.ffs_workspace.specs.Places.{ArePlaces, name_in}
 
 -- one entry: its name, or that of the first one after it
 pub name_in-cons : (x : ℕ) (e : RoledEntry) (es : List RoledEntry) →
     name_in x (e ∷ es) ≡ cond (is_naming_entry x e) e.entry.name (name_in x es)
-name_in-cons x e es = go (is_naming_entry x e) (first_index (is_naming_entry x) es)
-  where
-    go : (b : Bool) (o : Option ℕ) →
-        name_of (option_and_then (nth_roled (e ∷ es)) (cond b (Some 0) (option_map suc o)))
-        ≡ cond b e.entry.name (name_of (option_and_then (nth_roled es) o))
-    go true o = refl
-    go false None = refl
-    go false (Some j) = refl
+name_in-cons x e es = grind arith
 
 -- where none of some entries names it, the name is that of the first one after them
 pub name_in-after : (x : ℕ) (es fs : List RoledEntry) → list_any (is_naming_entry x) es ≡ false →
@@ -56,27 +46,7 @@ name_in-among x (e ∷ es) fs h =
 -- of the file
 pub plain_alike : (first later : Bool) (i j : ℕ) (e : Entry) → is_plain (role_of first i e) ≡ is_plain (role_of later j e)
 unfolding role_of
-plain_alike first later i j e =
-    go (is_live e) (is_one_dot e.name) (is_two_dots e.name) (first && (i == 0)) (later && (j == 0)) (first && (i == 1))
-    (later && (j == 1))
-  where
-    dot : (a : Bool) → is_plain (if a then Dot else Extra) ≡ false
-    dot true = refl
-    dot false = refl
-
-    dotdot : (a : Bool) → is_plain (if a then Dotdot else Extra) ≡ false
-    dotdot true = refl
-    dotdot false = refl
-
-    go : (live one two a b c d : Bool) →
-        is_plain (if not live then Empty else (if one then (if a then Dot else Extra)
-        else (if two then (if c then Dotdot else Extra) else Plain)))
-        ≡ is_plain (if not live then Empty else (if one then (if b then Dot else Extra)
-        else (if two then (if d then Dotdot else Extra) else Plain)))
-    go false one two a b c d = refl
-    go true true two a b c d = dot a ∙ sym (dot b)
-    go true false true a b c d = dotdot c ∙ sym (dotdot d)
-    go true false false a b c d = refl
+plain_alike first later i j e = grind arith
 
 -- so neither the name depends on them, nor whether there is one
 pub name_in-roled : (x : ℕ) (first later : Bool) (i j : ℕ) (es : List Entry) →
@@ -110,9 +80,7 @@ or_due word h =
 
 -- words that are all 0 note no place
 pub none_noted : (v : Layout) (b words : List ℕ) → ((x : ℕ) → slice_index words x ≡ 0) → ArePlaces v b words
-none_noted v b words nothing x p k there is =
-    let none : 0 ≡ suc k = sym (ap place_in (nothing x)) ∙ there in
-    absurd (cc)
+none_noted v b words nothing x p k there is = grind arith
 
 -- a list of zeros
 pub zero_index : (n x : ℕ) → slice_index (replicate n 0) x ≡ 0

@@ -1,5 +1,6 @@
 -- A workspace stays ready.
-use Rattle.std.proofs.Common.{◌≡◌, rules}
+use Rattle.std.proofs.Common.{arith}
+use Rattle.std.proofs.Common.{◌≡◌}
 use Rattle.ffs_volume.specs.declared.Layout.{Layout}
 use Rattle.ffs_image.specs.Device.{Device}
 use Rattle.ffs_workspace.specs.declared.table.Table.{Table}
@@ -11,24 +12,9 @@ use Rattle.ffs_workspace.specs.Tables.{KeepsTable}
 pub ready_table : (v : Layout) (d d' : Device) (w : Workspace) (t : Table) → d'.contents ≡ d.contents →
     d'.size ≡ d.size → KeepsTable v d'.contents t → IsReady v d w →
     IsReady v d' (record w { windows = record w.windows { table = t } })
-ready_table v d d' w t e size kept r =
-    let m = r.made in
-    record {
-      made = search rules;
-      volume = rw size r.volume;
-      windows = record {
-        table = kept.holds;
-        blocks = rw e r.windows.blocks;
-        chunk = rw e r.windows.chunk;
-        names = rw e r.windows.names;
-      };
-    }
+ready_table v d d' w t e size kept r = grind arith
 
 -- for another image of the same bytes
 pub ready_same : (v : Layout) (d d' : Device) (w : Workspace) → d'.contents ≡ d.contents → d'.size ≡ d.size →
     IsReady v d w → IsReady v d' w
-ready_same v d d' w e size r = record {
-  made = r.made;
-  volume = rw size r.volume;
-  windows = rw e r.windows;
-}
+ready_same v d d' w e size r = grind arith

@@ -1,6 +1,6 @@
 -- Where inodes are in the blocks of their tables.
 use Rattle.std.proofs.Common.{◌≡◌, ℕ, suc, ◌+◌, ◌-◌, ◌*◌, ◌/◌, ◌%◌, ◌<◌, ◌≤◌, true, Option, List, take, drop, arith, ap}
-use Rattle.std.proofs.Common.{◌∙◌, sym, zero}
+use Rattle.std.proofs.Common.{◌∙◌, zero}
 use Rattle.std.proofs.Math.Nat.{mul-le-mul_right, mul-div_cancel, mul_comm, mul_assoc, div-add-mod', mod-lt}
 use Rattle.std.proofs.Math.Nat.{mul-mod_right, mod_self}
 use Rattle.std.proofs.lemmas.Nat.{div_below, div-mul-add, mod-mul-add}
@@ -30,11 +30,7 @@ unfolding has_valid_sizes
 block_is v h = grind (arith, nat_tests)
 
 pub inodes_whole : (v : Layout) → IsAcceptedLayout v → 128 * v.inopb ≡ v.bsize
-inodes_whole v g =
-    let size : is_block_size v.bsize ≡ true = block_is v (shape_holds v g.shaped).0 in
-    let same : v.inopb ≡ v.bsize / 128 = g.sizes.inopb in
-    let whole : 128 * (v.bsize / 128) ≡ v.bsize = block_whole v.bsize size in
-    rw same whole
+inodes_whole v g = grind (arith, block_is, shape_holds, block_whole)
 
 -- a whole number of blocks
 whole_blocks : (ipg n : ℕ) → ipg % n ≡ 0 → n * (ipg / n) ≡ ipg
@@ -42,13 +38,7 @@ whole_blocks ipg n e = grind (arith, div-add-mod' ipg n)
 
 -- what a table of m inodes has, in pieces of n
 piece_ends : (i m n : ℕ) → 0 < n → i < m → m % n ≡ 0 → i / n * (n * 128) + n * 128 ≤ m * 128
-piece_ends i m n some below e =
-    let all : n * (m / n) ≡ m = whole_blocks m n e in
-    let less : i / n < m / n = div_below i n (m / n) some (omega (arith, mul_comm n (m / n))) in
-    let more : suc (i / n) * (n * 128) ≤ m / n * (n * 128) = mul-le-mul_right (n * 128) less in
-    let bytes : m / n * (n * 128) ≡ m * 128 =
-    sym (mul_assoc (m / n) n 128) ∙ ap (λ (k : ℕ). k * 128) (mul_comm (m / n) n ∙ all) in
-    grind (arith, more, bytes)
+piece_ends i m n some below e = grind (arith, whole_blocks, div_below, mul_comm, mul-le-mul_right, mul_assoc)
 
 -- the table of a group ends before its data
 table_fits : (v : Layout) → IsAcceptedLayout v → v.iblkno * v.fsize + v.ipg * 128 ≤ v.dblkno * v.fsize
@@ -69,12 +59,7 @@ table_fits v g =
 
 -- a table is whole pieces, as its blocks are
 table_whole : (v : Layout) (n : ℕ) → IsAcceptedLayout v → DividesBlock v n → v.ipg % n ≡ 0
-table_whole v n g d =
-    let table : v.inopb * (v.ipg / v.inopb) ≡ v.ipg = whole_blocks v.ipg v.inopb g.sizes.inode_blocks in
-    let block : n * (v.inopb / n) ≡ v.inopb = whole_blocks v.inopb n d.whole in
-    let is : v.ipg ≡ n * (v.inopb / n * (v.ipg / v.inopb)) =
-    sym table ∙ ap (λ (k : ℕ). k * (v.ipg / v.inopb)) (sym block) ∙ mul_assoc n (v.inopb / n) (v.ipg / v.inopb) in
-    rw is (mul-mod_right n (v.inopb / n * (v.ipg / v.inopb)))
+table_whole v n g d = grind (arith, whole_blocks, mul_assoc, mul-mod_right)
 
 -- the piece of an inode ends in the volume
 pub piece_inside : (v : Layout) (n x : ℕ) → IsAcceptedLayout v → DividesBlock v n → x / v.ipg < v.ncg →
@@ -118,9 +103,7 @@ sectors_divide v g = let parts = (parts_divide v g).whole in
 
 -- a block is one piece
 pub block_divides : (v : Layout) → IsAcceptedLayout v → DividesBlock v v.inopb
-block_divides v g =
-    let same : 128 * v.inopb ≡ v.bsize = inodes_whole v g in
-    record { some = omega (arith, same); whole = mod_self v.inopb }
+block_divides v g = grind (arith, inodes_whole, mod_self)
 
 -- the numbers of the block of x, in blocks of n: each is in the same table of ipg, and in the same
 -- block of it
@@ -146,12 +129,7 @@ in_block x y ipg n some filled whole low high =
 pub inodes_there : (v : Layout) (n x : ℕ) (t : Table) → IsAcceptedLayout v → DividesBlock v n →
     t.first ≡ x - x % v.ipg % n → t.count ≡ n → t.window.place ≡ table_place v n x → t.window.length ≡ n * 128 →
     (y : ℕ) → HoldsInode t y → IsInPlace v t y
-inodes_there v n x t g d first count place length y has =
-    let low : x - x % v.ipg % n ≤ y = omega arith in
-    let high : y < x - x % v.ipg % n + n = omega arith in
-    let it = in_block x y v.ipg n d.some g.sizes.some_inodes (table_whole v n g d) low high in
-    let spread : x % v.ipg / n * (n * 128) ≡ 128 * (x % v.ipg / n * n) = grind (arith, mul_comm, mul_assoc) in
-    record { place = rw (it.0, it.1) (omega arith); inside = omega arith }
+inodes_there v n x t g d first count place length y has = grind (arith, in_block, table_whole, mul_comm, mul_assoc)
 
 -- a piece of a piece
 pub piece_of : (place length at n : ℕ) (bytes : List ℕ) → at + n ≤ length → piece at n (piece place length bytes)
@@ -184,6 +162,4 @@ pub inode_there : {T : Type 0} (value : Inode → T) (v : Layout) (x at : ℕ) (
     held' ≡ held → slice_range held at (at + 128) ≡ piece (inode_place v x) 128 bytes →
     i ≡ value (inode_from_bytes v.order (slice_range held' at (at + 128))) → i ≡ value (inode_of v bytes x)
 unfolding inode_of
-inode_there value v x at bytes held held' i same there is =
-    is ∙ ap (λ (xs : List ℕ). value (inode_from_bytes v.order (slice_range xs at (at + 128)))) same
-    ∙ ap (λ (xs : List ℕ). value (inode_from_bytes v.order xs)) there
+inode_there value v x at bytes held held' i same there is = grind arith

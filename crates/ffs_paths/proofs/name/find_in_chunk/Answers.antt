@@ -1,6 +1,5 @@
-use Rattle.std.proofs.Common.{◌≡◌, ◌<◌, ◌∙◌, None, ap, refl, length, option_map, subst, sym, arith}
+use Rattle.std.proofs.Common.{◌<◌, ◌∙◌, refl, length, subst, sym, arith}
 use Rattle.std.proofs.lemmas.Bool.{both_ways}
-use Rattle.ffs_volume.specs.Directories.Entries.{entry_at}
 use Rattle.ffs_layout.specs.Entry.{entry_value}
 use Rattle.ffs_paths.proofs.ChunkNames.{chunk_here, chunk_past, named_none, plain_named}
 use Rattle.ffs_paths.proofs.name.find_in_chunk.Goals as goal
@@ -16,11 +15,7 @@ returns-then-is_named_by-clause-some c = λ _. subst (λ name. 0 < length name) 
     c.in-Some.ensures.some refl (sym c.is_named_by.ensures ∙ c.if-is_named_by.true))
 
 pub returns-clause-found : goal.returns-clause-found
-returns-clause-found c = λ h.
-    let none : entry_at c.args.order c.args.chunk.now c.entries.place ≡ None =
-    sym c.entry_at.ensures.value ∙ ap (option_map entry_value) c.in_default.is in
-    absurd (both_ways _ (c.entries.invariant.named
-    ∙ named_none c.args.number c.args.order c.args.chunk.now c.entries.index c.entries.place none) h)
+returns-clause-found c = grind (arith, both_ways, named_none)
 
 pub entries-preserved : goal.entries-preserved
 entries-preserved c =

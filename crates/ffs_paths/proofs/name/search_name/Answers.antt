@@ -1,3 +1,4 @@
+use Rattle.std.proofs.Common.{arith}
 use Rattle.std.proofs.Common.{◌≡◌, ◌<◌, ◌∙◌, ℕ, true, List, ap, sym, subst, slice_index}
 use Rattle.std.proofs.lemmas.Result.{err_from_is_err_and}
 use Rattle.ffs_names.{proofs.DirLaws.dir_is, proofs.DirLaws.dir_size, proofs.DirLaws.dir_seen, specs.Entering.to_come}
@@ -56,19 +57,11 @@ entries-preserved g c =
     }
 
 pub returns-then-names-clause-reads : goal.returns-then-names-clause-reads
-returns-then-names-clause-reads g c =
-    let i = c.entries.invariant in
-    chunk_then i.reads (rw i.geometry at c.in_ok-entry.ensures.leaves.ready) c.in_ok-entry.ensures.leaves.read
+returns-then-names-clause-reads g c = grind (arith, chunk_then)
 
 pub returns-clause-reads : goal.returns-clause-reads
-returns-clause-reads g c =
-    let i = c.entries.invariant in
-    chunk_then i.reads (rw i.geometry at c.in_ok-entry.ensures.leaves.ready) c.in_ok-entry.ensures.leaves.read
+returns-clause-reads g c = grind (arith, chunk_then)
 
 -- a read failed
 pub returns-in_err-entry-clause-reads : goal.returns-in_err-entry-clause-reads
-returns-in_err-entry-clause-reads g c =
-    let i = c.entries.invariant in
-    let p = err_from_is_err_and c.from_residual-in_err-entry.result c.from_residual-in_err-entry.ensures.1 in
-    rw (p.1, p.2)
-    (chunk_then i.reads (rw i.geometry at c.in_err-entry.ensures.leaves.ready) c.in_err-entry.ensures.leaves.read)
+returns-in_err-entry-clause-reads g c = grind (arith, err_from_is_err_and, chunk_then)

@@ -1,7 +1,6 @@
 use Rattle.std.proofs.Common.{arith, rules, refl, sym, ◌≡◌, ◌-◌, ◌∙◌}
 use Rattle.ffs_volume.specs.Blocks.Steps.{indirect_addresses_needed}
-use Rattle.ffs_walk.proofs.FrameSteps.{entered_left, is_set}
-use Rattle.ffs_walk.proofs.Counted.{still_unread}
+use Rattle.ffs_walk.proofs.FrameSteps.{is_set}
 use Rattle.ffs_walk.proofs.walk.Walk.enter.Goals as goal
 
 pub returns : goal.returns
@@ -15,11 +14,11 @@ returns c =
       steps = λ bytes child.
           rw (is_set c.args.address c.if-address-eq0.false, sym c.if-not-in_range.ensures, all, used) refl;
       step = search rules;
-      left = λ most. entered_left most c.min-used.result w.geometry.layout.nindir (omega arith);
+      left = λ most. grind arith;
       fits = record {
         words = omega (arith, used);
         in_range_there = λ h. sym c.if-not-in_range.ensures;
         indirect = λ h. c.requires.first.0;
       };
-      counted = record { unread = omega arith; held = λ level blocks read left. absurd (still_unread read) };
+      counted = record { unread = omega arith; held = λ level blocks read left. absurd (cc) };
     }

@@ -1,9 +1,8 @@
-use Rattle.std.proofs.Common.{arith, rules, refl, ◌-◌, ◌*◌, ◌≤◌}
+use Rattle.std.proofs.Common.{arith, rules, ◌-◌, ◌*◌, ◌≤◌}
 use Rattle.std.proofs.Math.Nat.{mul-le-mul_right}
 use Rattle.std.proofs.lemmas.Grind.{common_steps}
 use Rattle.ffs_walk.specs.Rests.{most_at}
 use Rattle.ffs_walk.proofs.GapSteps.{gaps_at_top}
-use Rattle.ffs_walk.proofs.Counted.{enters_none}
 use Rattle.ffs_walk.proofs.walk.Walk.skip_zero_addresses.Goals as goal
 
 pub returns : goal.returns
@@ -14,12 +13,11 @@ returns c = λ blocks.
     record {
       steps = λ contents holds bytes e. gaps_at_top w bytes end c.requires ends;
       falls =
+          let most = most_at w.geometry.layout.nindir 3 in
           let fewer : w.used - end ≤ w.used - w.next = omega (arith, ends.within.0) in
-          let scaled : (w.used - end) * most_at w.geometry.layout.nindir 3 ≤
-          (w.used - w.next) * most_at w.geometry.layout.nindir 3 =
-          mul-le-mul_right (most_at w.geometry.layout.nindir 3) fewer in
+          let scaled : (w.used - end) * most ≤ (w.used - w.next) * most = mul-le-mul_right most fewer in
           omega (arith, scaled);
       passed = grind (arith, common_steps);
       same = search rules;
-      counted = enters_none w _ 0 refl refl refl;
+      counted = grind arith;
     }
