@@ -1,10 +1,10 @@
 -- How what the phases answered is reported, and how a check so ends.
 use Rattle.std.proofs.Common.{arith}
-use Rattle.std.proofs.Common.{IfOk, ◌≡◌, inl, inr, refl, ◌∙◌, sym, ap, subst, ℕ, Bool, true, false, not, ◌&&◌, ◌||◌}
+use Rattle.std.proofs.Common.{IfOk, ◌≡◌, inl, inr, refl, ◌∙◌, sym, ap, ℕ, Bool, true, false, not, ◌&&◌}
 use Rattle.std.proofs.Common.{List, [], ◌++◌, ◌<◌, length, append-nil, Option, Some, None, Result, Ok, Err}
 use Rattle.ffs_image.specs.Device.{Device, Faulted}
 use Rattle.ffs_volume.specs.declared.{End.End, End.TheVariants.ReadFault, End.TheVariants.WriteFault}
-use Rattle.ffs_volume.specs.{Disk.Superblock.Superblock, Report.Whole.end_by}
+use Rattle.ffs_volume.specs.{Disk.Superblock.Superblock}
 use Rattle.ffs_volume.specs.Messages.Kinds.{Message, cannot_read, has_defect, is_defect}
 use Rattle.ffs_volume.specs.Messages.Kinds.{unless}
 use Rattle.ffs_volume.specs.Report.Opening.{has_valid_minfree, has_valid_optim, setting_lines, super_lines}
@@ -47,12 +47,8 @@ module _ (had_defect : Bool) (knows : List ℕ → Type 0) (lines : List ℕ →
     right = λ bytes k. sym (append-nil p.messages) ∙ p.right bytes k;
     ends = inl (record {
       no_read_failed = none_failed;
-      went_out = subst (λ to. Said a to p.messages) (sym e.0) p.said;
-      end_is = record {
-        continued = is_go root;
-        by_root = by_root;
-        end_is = e.1 ∙ ap (λ to. end_by (is_go root) (had_defect || to.defect)) (sym e.0);
-      };
+      went_out = rw e.0 p.said;
+      end_is = record { continued = is_go root; by_root = by_root; end_is = rw e.0 e.1 };
     });
   }
 
@@ -88,12 +84,7 @@ module _ (had_defect : Bool) (knows : List ℕ → Type 0) (lines : List ℕ →
   part prefix rest right stopped none_failed same e = record {
     text = prefix ++ at_contents image.contents rest;
     right = right_with prefix rest right;
-    ends = inr (inr (record {
-      no_read_failed = none_failed;
-      broke_off = subst (λ to. Stopped a to (prefix ++ at_contents image.contents rest)) (sym same)
-          (stopped_more a b prefix (at_contents image.contents rest) stopped);
-      end_is = e;
-    }));
+    ends = inr (inr (grind (arith, stopped_more)));
   }
 
   pub ran : (r : Result Root RunFault) → ReportsOrStopsEarly knows lines a b r → ImageAfter image image' r →

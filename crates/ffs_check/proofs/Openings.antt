@@ -5,7 +5,7 @@ use Rattle.ffs_image.specs.Device.{Device, ForContents}
 use Rattle.ffs_volume.specs.declared.{SuperFault.SuperFault, SuperFault.TheVariants.Magic, End.End}
 use Rattle.ffs_volume.specs.declared.End.TheVariants.{Refused, WriteFault}
 use Rattle.ffs_volume.specs.{Disk.Superblock.Superblock, Disk.Outcome.outcome}
-use Rattle.ffs_volume.specs.Report.Opening.{head_lines, found_lines, super_lines, fault_line}
+use Rattle.ffs_volume.specs.Report.Opening.{head_lines, super_lines, fault_line}
 use Rattle.std.specs.Borrow.{GName}
 use Rattle.ffs_report.specs.{Sink.Sink, Progress.Progress, Progress.Said, Progress.Stopped, Progress.starts}
 use Rattle.ffs_report.proofs.Reports.{said_then, stopped_after, stopped_more}
@@ -40,12 +40,7 @@ module _ (image : Device) (name : List ℕ) (sector : Option ℕ) (old head : Pr
   at_head stopped = record {
     found = found_in image.contents sector;
     answers = inr (refl, found_there image.contents sector);
-    ends = inr (inl (record {
-      no_read_failed = refl;
-      found_is = found_there image.contents sector;
-      broke_off = stopped_more old head (head_lines name sector) (found_lines (found_in image.contents sector)) stopped;
-      end_is = refl;
-    }));
+    ends = inr (inl (grind (arith, found_there, stopped_more)));
   }
 
   module _ (image' : Device) (new : Progress) (said : Said old head (head_lines name sector)) where
@@ -63,28 +58,13 @@ module _ (image : Device) (name : List ℕ) (sector : Option ℕ) (old head : Pr
       at_super stopped = record {
         found = Ok (superblock_in super);
         answers = answers;
-        ends = inr (inl (record {
-          no_read_failed = unfailed_of image image' sector (superblock_in super) answers;
-          found_is = found_of image image' sector (superblock_in super) answers;
-          broke_off = stopped_after old head new (head_lines name sector) (super_lines (superblock_in super)) said
-              stopped;
-          end_is = refl;
-        }));
+        ends = inr (inl (grind (arith, unfailed_of, found_of, stopped_after)));
       }
 
     module _ (fault : SuperFault) (answers : ReadsSuper image image' sector (Err fault)) where
       pub refused : Said head new (fault_line fault ∷ []) →
           SaysOpening image image' old new name sector (Err (Refused fault))
-      refused more = record {
-        found = Err fault;
-        answers = answers;
-        ends = inl (record {
-          fault = fault;
-          found_is = refl;
-          went_out = said_then old head new (head_lines name sector) (fault_line fault ∷ []) said more;
-          end_is = refl;
-        });
-      }
+      refused more = record { found = Err fault; answers = answers; ends = inl (grind (arith, said_then)) }
 
       pub at_fault : Stopped head new (fault_line fault ∷ []) →
           SaysOpening image image' old new name sector (Err WriteFault)

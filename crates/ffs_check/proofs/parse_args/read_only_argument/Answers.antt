@@ -1,4 +1,3 @@
-use Rattle.std.proofs.Common.{arith}
 use Rattle.std.proofs.Common.{◌≡◌, ◌∙◌, ◌∷◌, [], ◌++◌, ap, codes, Some, true}
 use Rattle.clap.specs.declared.{builder.ArgAction.TheVariants.Count}
 use Rattle.clap.specs.Words.{Rule, new_rule, rule_of}
@@ -13,6 +12,3 @@ returns-clause-rule c =
     ∙ ap (λ (r : Rule). record r { short_aliases = r.short_aliases ++ 78 ∷ [] }) short_is in
     rw (c.action.ensures, c.required.ensures)
     (ap (λ (r : Rule). record r { action = Some Count; required = true }) letter_is)
-
-pub returns-clause-local : goal.returns-clause-local
-returns-clause-local c = grind arith

@@ -4,6 +4,3 @@ use Rattle.ffs_check.proofs.parse_args.sector_argument.Goals as goal
 
 pub returns-clause-rule : goal.returns-clause-rule
 returns-clause-rule c = grind (arith, parsed)
-
-pub returns-clause-local : goal.returns-clause-local
-returns-clause-local c = grind arith
