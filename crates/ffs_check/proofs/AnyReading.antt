@@ -1,32 +1,28 @@
 -- How often a check reads any image, from the phases to the whole.
-use Rattle.std.proofs.Common.{◌≡◌, ◌≤◌, ◌+◌, ◌*◌, ℕ, Bool, suc, false, refl, inl, inr, ap, sym, ◌∙◌, arith, List, [], ◌∷◌, ◌++◌, length}
-use Rattle.std.proofs.Common.{length-append, Option, Ok, Err, subst, Result}
+use Rattle.std.proofs.Common.{◌≡◌, ◌≤◌, ◌+◌, ◌*◌, ℕ, Bool, false, refl, inl, inr, sym, arith, List, [], ◌∷◌, ◌++◌}
+use Rattle.std.proofs.Common.{length-append, Ok, Err, subst, Result}
 use Rattle.std.proofs.Math.Nat.{mul-le-mul_left}
 use Rattle.std.specs.Borrow.{GName}
-use Rattle.ffs_image.specs.Device.{Device}
 use Rattle.ffs_volume.specs.declared.{Layout.Layout, End.End}
-use Rattle.ffs_volume.specs.{Laws.Geometry.IsAcceptedLayout, Messages.Kinds.Message, Messages.Kinds.cannot_alloc, Messages.Kinds.cannot_read}
+use Rattle.ffs_volume.specs.{Messages.Kinds.Message, Messages.Kinds.cannot_alloc, Messages.Kinds.cannot_read}
 use Rattle.ffs_volume.specs.Report.{Memory.runs_limit, Reads.group_reads, Reads.line_reads, Reads.opening_reads}
 use Rattle.ffs_volume.specs.Report.Reads.{phase_reads, reads_limit, sweep_reads}
-use Rattle.ffs_volume.specs.Report.Opening.{opening_lines}
 use Rattle.ffs_layout.specs.declared.superblock.Super.{Super}
 use Rattle.ffs_report.specs.{Sink.Sink, Paid.Paid, Progress.Progress, Progress.Said, Progress.Stopped, Progress.starts}
 use Rattle.ffs_report.specs.declared.fault.RunFault.{RunFault}
 use Rattle.ffs_report.specs.declared.fault.RunFault.TheVariants.{Read, Out}
 use Rattle.ffs_report.specs.PhaseOutcome.{PhaseReports}
 use Rattle.ffs_report.proofs.Reports.{said_then, stopped_after}
-use Rattle.ffs_report.proofs.Paying.{paid_answer, paid_beside, paid_price, paid_text, paid_then, paid_within}
+use Rattle.ffs_report.proofs.Paying.{paid_beside, paid_price, paid_text, paid_then, paid_within}
 use Rattle.ffs_pathnames.specs.declared.pass2.Root.{Root}
-use Rattle.ffs_workspace.specs.Places.{AreChunksNumbered}
 use Rattle.ffs_check.specs.AnyReads.{PhasesReadAny, ReadsAny, ReadsByMessages, RestReadsAny}
-use Rattle.ffs_check.specs.{Ends.BrokeOffIn, Ends.Printed, Opening.SaysOpening, PhaseEnds.EndsAs, PhaseEnds.SaysRefusal}
+use Rattle.ffs_check.specs.{Ends.BrokeOffIn, Ends.Printed, PhaseEnds.EndsAs, PhaseEnds.SaysRefusal}
 use Rattle.ffs_check.proofs.EndLaws.{broke_off}
 
 -- the price of each message, beside what the phases read for none
 priced : (v : Layout) (n m before after : ℕ) → after ≤ before + phase_reads v 0 + (line_reads + 1) * n → n ≤ m →
     after ≤ before + phase_reads v m
-priced v n m before after most few =
-    let more = mul-le-mul_left (line_reads + 1) few in omega (arith, most, more)
+priced v n m before after most few = grind (arith, mul-le-mul_left)
 
 -- phase 1 was said, and then phase 1b, or nothing
 pub scan_paid : (v : Layout) (knows knows' : List ℕ → Type 0) (all all' : List ℕ → List Message) (a b c : Progress)
@@ -60,11 +56,7 @@ links_paid v a b c before first after one two =
 pub ended_reads : (v : Layout) (had_defect : Bool) (a b c : Progress) (before after : ℕ) (r : Result Root RunFault)
     (end : End) → Paid (line_reads + 1) a b (before + phase_reads v 0) after r → EndsAs had_defect b c r end →
     ReadsByMessages Said Stopped (phase_reads v) a c before after
-ended_reads v had_defect a b c before after (Ok root) end p e = record {
-  messages = p.begun.messages;
-  went_out = inl (subst (λ to. Said a to p.begun.messages) (sym e.0) p.begun.said);
-  most = priced v p.messages _ before after p.most (omega (arith, p.begun.many));
-}
+ended_reads v had_defect a b c before after (Ok root) end p e = grind (arith, priced)
 ended_reads v had_defect a b c before after (Err (Read fault)) end p e =
     let line = cannot_read fault.sector in
     let long = length-append p.begun.messages (line ∷ []) in
@@ -85,24 +77,13 @@ ended_reads v had_defect a b c before after (Err (Out fault)) end p e = record {
 -- the memory was refused, which was said, and nothing was read
 pub unstarted_reads : (v : Layout) (a b : Progress) (reads : ℕ) (end : End) → SaysRefusal a b end →
     ReadsByMessages Said Stopped (phase_reads v) a b reads reads
-unstarted_reads v a b reads end e = record {
-  messages = cannot_alloc ∷ [];
-  went_out = elim e [ inl said ↦ inl said.0 | inr stopped ↦ inr stopped.0 ];
-  most = omega arith;
-}
+unstarted_reads v a b reads end e = record { messages = cannot_alloc ∷ []; went_out = grind arith; most = omega arith }
 
 -- what a report said that had not failed went to its output
 pub printed_reads : (limit : ℕ → ℕ) (a b : Progress) (before after : ℕ) → a.failed ≡ false →
     ReadsByMessages Said Stopped limit a b before after →
     ReadsByMessages Printed BrokeOffIn limit a.sink b.sink before after
-printed_reads limit a b before after fine p = record {
-  messages = p.messages;
-  went_out = elim p.went_out [
-    | inl said ↦ inl said.took
-    | inr stopped ↦ inr (broke_off a b p.messages fine stopped)
-  ];
-  most = p.most;
-}
+printed_reads limit a b before after fine p = grind (arith, broke_off)
 
 -- the opening was said, and then the phases
 pub opened_reads : (v : Layout) (a b c : Progress) (lines : List Message) (before between after : ℕ) →
@@ -113,11 +94,8 @@ opened_reads v a b c lines before between after said opened p =
     let long = length-append lines p.messages in
     record {
       messages = lines ++ p.messages;
-      went_out = elim p.went_out [
-        | inl more ↦ inl (said_then a b c lines p.messages said more)
-        | inr stopped ↦ inr (stopped_after a b c lines p.messages said stopped)
-      ];
-      most = omega (arith, opened, p.most, long);
+      went_out = grind (arith, said_then, stopped_after);
+      most = omega arith;
     }
 
 -- a superblock was accepted and its opening was said, and then the phases; all of it was printed
@@ -146,5 +124,4 @@ rest_at v out at at' before after e r = subst (λ to. RestReadsAny v out to befo
 -- the phases alone were said to a report that had just begun, and printed
 pub rest_reads : (v : Layout) (output : GName) (sink : Sink) (c : Progress) (before after : ℕ) →
     PhasesReadAny v (starts output sink) c before after → RestReadsAny v sink c.sink before after
-rest_reads v output sink c before after phases =
-    λ numbered. printed_reads (phase_reads v) (starts output sink) c before after refl (phases numbered)
+rest_reads v output sink c before after phases = grind (arith, printed_reads)

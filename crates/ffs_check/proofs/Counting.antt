@@ -1,4 +1,5 @@
 -- How many reads and writes failed, by the headline.
+use Rattle.std.proofs.Common.{arith}
 use Rattle.std.proofs.Common.{◌≡◌, inl, inr, ap, ℕ, true, List, Option}
 use Rattle.ffs_image.specs.Device.{Device}
 use Rattle.ffs_volume.specs.declared.End.{End}
@@ -24,8 +25,7 @@ cut_reads : {image image' : Device} {name : List ℕ} {sector : Option ℕ} {tex
     ReadsFailed end image.failures image'.failures × ReadsFailed WriteFault image.failures image'.failures
 cut_reads (inl super) = (rw super.end_is (inr super.faulted.rose), inr super.faulted.rose)
 cut_reads (inr (inl later)) = (rw later.end_is later.faulted.rose, inr later.faulted.rose)
-cut_reads (inr (inr unstarted)) =
-    let same = ap (λ (d : Device). d.failures) unstarted.no_read_failed in (rw unstarted.end_is same, inl same)
+cut_reads (inr (inr unstarted)) = grind arith
 
 cut_writes : {image image' : Device} {name : List ℕ} {sector : Option ℕ} {text said : List Message} {line : Message}
     {end : End} (old new : ℕ) → IsCutShort image image' name sector text said line end → new ≡ old →

@@ -1,5 +1,6 @@
 -- Laws of the ways in which a check ends: after an opening, at an output, and where more is known.
-use Rattle.std.proofs.Common.{◌≡◌, ◌⊎◌, inl, inr, refl, sym, ◌∙◌, subst, true, false, List, [], ◌∷◌, ◌++◌, append_assoc}
+use Rattle.std.proofs.Common.{arith}
+use Rattle.std.proofs.Common.{◌≡◌, ◌⊎◌, false, List, [], ◌∷◌, ◌++◌, append_assoc}
 use Rattle.std.specs.Borrow.{GName}
 use Rattle.ffs_image.specs.Device.{Device}
 use Rattle.ffs_volume.specs.declared.{End.End, End.TheVariants.WriteFault}
@@ -13,9 +14,7 @@ pub line_after : (a b c : Progress) (said : List Message) (line : Message) (faul
     LineEnds b c line fault_end end →
     (Said a c (said ++ (line ∷ [])) × (end ≡ fault_end))
     ⊎ (BrokeOffInLine Said Stopped a c said line × (end ≡ WriteFault))
-line_after a b c said line fault_end end p (inl went) = inl (said_then a b c said (line ∷ []) p went.0, went.1)
-line_after a b c said line fault_end end p (inr broke) =
-    inr (record { between = b; went_out = p; broke_off = broke.0 }, broke.1)
+line_after a b c said line fault_end end p ends = grind (arith, said_then)
 
 -- where each part of an end has changed its form, the end has
 pub ends_map : {Sent Sent' : Type 0} {whole broken : Sent → Sent → List Message → Type 0}
@@ -31,26 +30,7 @@ pub ends_map : {Sent Sent' : Type 0} {whole broken : Sent → Sent → List Mess
     BrokeOffInLine whole' broken' old' new' (f said) line) →
     Ends whole broken image image' old new text IsEnd IsCut end →
     Ends whole' broken' image image' old' new' text' IsEnd' IsCut' end
-ends_map f all_of part_of to_end to_cut line_of in_line (inl all) = inl (record {
-  no_read_failed = all.no_read_failed;
-  went_out = all_of all.went_out;
-  end_is = to_end all.went_out all.end_is;
-})
-ends_map f all_of part_of to_end to_cut line_of in_line (inr (inl short)) = inr (inl (record {
-  said = f short.said;
-  line = short.line;
-  fault_end = short.fault_end;
-  cut = to_cut short.said short.line short.fault_end short.cut;
-  ends = elim short.ends [
-    | inl went ↦ inl (line_of short.said short.line went.0, went.1)
-    | inr broke ↦ inr (in_line short.said short.line broke.0, broke.1)
-  ];
-}))
-ends_map f all_of part_of to_end to_cut line_of in_line (inr (inr part)) = inr (inr (record {
-  no_read_failed = part.no_read_failed;
-  broke_off = part_of part.broke_off;
-  end_is = part.end_is;
-}))
+ends_map f all_of part_of to_end to_cut line_of in_line ends = grind arith
 
 -- the messages before a text come first, and then what went out of it
 pub ends_after : {image image' : Device} {earlier text : List Message} {IsEnd IsEnd' : End → Type 0}
@@ -62,37 +42,19 @@ pub ends_after : {image image' : Device} {earlier text : List Message} {IsEnd Is
 ends_after {earlier = earlier} {text = text} {a = a} {b = b} {c = c} p to_end to_cut ends =
     ends_map (λ said. earlier ++ said) (said_then a b c earlier text p) (stopped_after a b c earlier text p)
     (λ q. to_end (said_then a b c earlier text p q)) to_cut
-    (λ said line q. subst (Said a c) (sym (append_assoc earlier said (line ∷ [])))
-    (said_then a b c earlier (said ++ (line ∷ [])) p q))
-    (λ said line q. record {
-      between = q.between;
-      went_out = said_then a b q.between earlier said p q.went_out;
-      broke_off = q.broke_off;
-    }) ends
+    (λ said line q. rw append_assoc (said_then a b c earlier (said ++ (line ∷ [])) p q))
+    (λ said line q. record { between = q.between; went_out = said_then _ _ _ _ _ p q.went_out; broke_off = q.broke_off })
+    ends
 
 -- where it stops, the output broke off
 pub broke_off : (a b : Progress) (messages : List Message) → a.failed ≡ false → Stopped a b messages →
     BrokeOffIn a.sink b.sink messages
-broke_off a b messages working s = record {
-  prefix = s.prefix;
-  rest = s.rest;
-  whole = s.whole;
-  taken = s.taken;
-  rose = elim s.cause [
-    | inl failed ↦ absurd (let w : false ≡ true = sym working ∙ failed in cc)
-    | inr rose ↦ rose
-  ];
-  lent = s.lent;
-}
+broke_off a b messages working s = grind arith
 
 -- in a line too
 pub broke_in_line : (a b : Progress) (said : List Message) (line : Message) → a.failed ≡ false →
     BrokeOffInLine Said Stopped a b said line → BrokeOffInLine Printed BrokeOffIn a.sink b.sink said line
-broke_in_line a b said line working s = record {
-  between = s.between.sink;
-  went_out = s.went_out.took;
-  broke_off = broke_off s.between b (line ∷ []) (s.went_out.failed ∙ working) s.broke_off;
-}
+broke_in_line a b said line working s = grind (arith, broke_off)
 
 -- what a report said that had just begun went to its output
 pub ends_printed : {image image' : Device} {text : List Message} {IsEnd IsEnd' : End → Type 0}
@@ -100,6 +62,4 @@ pub ends_printed : {image image' : Device} {text : List Message} {IsEnd IsEnd' :
     (Said (starts output sink) new text → IsEnd end → IsEnd' end) →
     Ends Said Stopped image image' (starts output sink) new text IsEnd IsCut end →
     Ends Printed BrokeOffIn image image' sink new.sink text IsEnd' IsCut end
-ends_printed {text = text} output sink new to_end ends =
-    ends_map (λ said. said) (λ q. q.took) (broke_off (starts output sink) new text refl) to_end (λ said line e cut. cut)
-    (λ said line q. q.took) (λ said line. broke_in_line (starts output sink) new said line refl) ends
+ends_printed {text = text} output sink new to_end ends = grind (arith, ends_map, broke_off, broke_in_line)

@@ -1,12 +1,13 @@
 -- How what the phases answered is reported, and how a check so ends.
-use Rattle.std.proofs.Common.{IfOk, ◌≡◌, inl, inr, refl, ◌∙◌, sym, ap, subst, ℕ, Bool, true, false, not, ◌&&◌, ◌||◌}
-use Rattle.std.proofs.Common.{List, [], ◌∷◌, ◌++◌, ◌<◌, length, append-nil, Option, Some, None, Result, Ok, Err}
+use Rattle.std.proofs.Common.{arith}
+use Rattle.std.proofs.Common.{IfOk, ◌≡◌, inl, inr, refl, ◌∙◌, sym, ap, ℕ, Bool, true, false, not, ◌&&◌}
+use Rattle.std.proofs.Common.{List, [], ◌++◌, ◌<◌, length, append-nil, Option, Some, None, Result, Ok, Err}
 use Rattle.ffs_image.specs.Device.{Device, Faulted}
 use Rattle.ffs_volume.specs.declared.{End.End, End.TheVariants.ReadFault, End.TheVariants.WriteFault}
-use Rattle.ffs_volume.specs.{Disk.Superblock.Superblock, Report.Whole.end_by}
-use Rattle.ffs_volume.specs.Messages.Kinds.{Message, cannot_read, minfree, mounted, optimization, has_defect, is_defect}
+use Rattle.ffs_volume.specs.{Disk.Superblock.Superblock}
+use Rattle.ffs_volume.specs.Messages.Kinds.{Message, cannot_read, has_defect, is_defect}
 use Rattle.ffs_volume.specs.Messages.Kinds.{unless}
-use Rattle.ffs_volume.specs.Report.Opening.{before_nul, has_valid_minfree, has_valid_optim, setting_lines, super_lines}
+use Rattle.ffs_volume.specs.Report.Opening.{has_valid_minfree, has_valid_optim, setting_lines, super_lines}
 use Rattle.std.specs.Borrow.{GName}
 use Rattle.ffs_report.specs.{Sink.Sink, Known.ForBytes, Known.IsContents, PhaseOutcome.ImageAfter}
 use Rattle.ffs_report.specs.Progress.{Progress, Said, Stopped, starts}
@@ -17,7 +18,7 @@ use Rattle.ffs_pathnames.specs.declared.pass2.Root.{Root}
 use Rattle.ffs_pathnames.specs.RootAnswers.{is_go}
 use Rattle.ffs_check.specs.PhaseEnds.{EndsAs, IsEndByRoot, PrintsPhases, ReportsOrStopsEarly, SaysPhases}
 use Rattle.ffs_check.specs.PhaseEnds.{SaysReadFault}
-use Rattle.ffs_check.proofs.EndLaws.{ends_map, ends_printed, line_after}
+use Rattle.ffs_check.proofs.EndLaws.{ends_printed, line_after}
 
 -- what an image's bytes determine, and nothing for an image that doesn't give them
 abbrev pub at_contents : Option (List ℕ) → (List ℕ → List Message) → List Message
@@ -46,12 +47,8 @@ module _ (had_defect : Bool) (knows : List ℕ → Type 0) (lines : List ℕ →
     right = λ bytes k. sym (append-nil p.messages) ∙ p.right bytes k;
     ends = inl (record {
       no_read_failed = none_failed;
-      went_out = subst (λ to. Said a to p.messages) (sym e.0) p.said;
-      end_is = record {
-        continued = is_go root;
-        by_root = by_root;
-        end_is = e.1 ∙ ap (λ to. end_by (is_go root) (had_defect || to.defect)) (sym e.0);
-      };
+      went_out = rw e.0 p.said;
+      end_is = record { continued = is_go root; by_root = by_root; end_is = rw e.0 e.1 };
     });
   }
 
@@ -87,12 +84,7 @@ module _ (had_defect : Bool) (knows : List ℕ → Type 0) (lines : List ℕ →
   part prefix rest right stopped none_failed same e = record {
     text = prefix ++ at_contents image.contents rest;
     right = right_with prefix rest right;
-    ends = inr (inr (record {
-      no_read_failed = none_failed;
-      broke_off = subst (λ to. Stopped a to (prefix ++ at_contents image.contents rest)) (sym same)
-          (stopped_more a b prefix (at_contents image.contents rest) stopped);
-      end_is = e;
-    }));
+    ends = inr (inr (grind (arith, stopped_more)));
   }
 
   pub ran : (r : Result Root RunFault) → ReportsOrStopsEarly knows lines a b r → ImageAfter image image' r →
@@ -107,30 +99,13 @@ module _ (had_defect : Bool) (knows : List ℕ → Type 0) (lines : List ℕ →
 end_known : (knows known : List ℕ → Type 0) (continues : List ℕ → Bool) (defect defect' : Bool) (end : End) →
     ForBytes knows known → defect ≡ defect' → IsEndByRoot known continues defect end →
     IsEndByRoot knows continues defect' end
-end_known knows known continues defect defect' end more same e = record {
-  continued = e.continued;
-  by_root = λ bytes k. e.by_root bytes (more bytes k);
-  end_is = e.end_is ∙ ap (end_by e.continued) same;
-}
+end_known knows known continues defect defect' end more same e = grind arith
 
 pub ran_known : (had_defect : Bool) (knows known : List ℕ → Type 0) (lines : List ℕ → List Message)
     (continues : List ℕ → Bool) (image image' : Device) (a b : Progress) (end : End) → ForBytes knows known →
     SaysPhases had_defect known lines continues image image' a b end →
     SaysPhases had_defect knows lines continues image image' a b end
-ran_known had_defect knows known lines continues image image' a b end more ran = record {
-  text = ran.text;
-  right = λ bytes k. ran.right bytes (more bytes k);
-  ends = ends_map (λ said. said) (λ q. q) (λ q. q) (λ q. end_known knows known continues _ _ end more refl)
-      (λ said line e cut. record {
-        sector = cut.sector;
-        faulted = cut.faulted;
-        rest = cut.rest;
-        whole = cut.whole;
-        more = λ bytes k. cut.more bytes (more bytes k);
-        line_is = cut.line_is;
-        end_is = cut.end_is;
-      }) (λ said line q. q) (λ said line q. q) ran.ends;
-}
+ran_known had_defect knows known lines continues image image' a b end more ran = grind (arith, end_known)
 
 -- what a report said that had just begun went to its output
 pub prints_phases : (had_defect : Bool) (earlier : List Message) → had_defect ≡ has_defect earlier →
@@ -138,31 +113,21 @@ pub prints_phases : (had_defect : Bool) (earlier : List Message) → had_defect 
     (output : GName) (sink : Sink) (new : Progress) (end : End) →
     SaysPhases had_defect knows lines continues image image' (starts output sink) new end →
     PrintsPhases earlier knows lines continues image image' sink new.sink end
-prints_phases had_defect earlier e knows lines continues image image' output sink new end ran = record {
-  text = ran.text;
-  right = ran.right;
-  ends = ends_printed output sink new
-      (λ said is_end. end_known knows knows continues _ _ end (λ bytes k. k)
-      (ap (λ defect. had_defect || defect) said.defect ∙ ap (λ b. b || has_defect ran.text) e
-      ∙ sym (has_defect-append earlier ran.text)) is_end) ran.ends;
-}
+prints_phases had_defect earlier e knows lines continues image image' output sink new end ran =
+    grind (arith, ends_printed, end_known, has_defect-append)
 
 pub prints_at : (earlier : List Message) (knows : List ℕ → Type 0) (lines : List ℕ → List Message)
     (continues : List ℕ → Bool) (image image' : Device) (out at at' : Sink) (end : End) → at ≡ at' →
     PrintsPhases earlier knows lines continues image image' out at end →
     PrintsPhases earlier knows lines continues image image' out at' end
-prints_at earlier knows lines continues image image' out at at' end e prints =
-    subst (λ to. PrintsPhases earlier knows lines continues image image' out to end) e prints
+prints_at earlier knows lines continues image image' out at at' end e prints = rw (← e) prints
 
 -- the settings of an accepted superblock report a defect where one of them isn't what it may be
 settings_defect : (a b : Bool) (x y : Message) → is_defect x ≡ true → is_defect y ≡ true → (xs : List Message) →
     has_defect xs ≡ false →
     not (a && b) ≡ has_defect ((unless a x ++ unless b y) ++ xs)
-settings_defect true true x y dx dy xs e = sym e
-settings_defect true false x y dx dy xs e = sym (ap (λ d. d || has_defect xs) dy)
-settings_defect false b x y dx dy xs e = sym (ap (λ d. d || has_defect (unless b y ++ xs)) dx)
+settings_defect a b x y dx dy xs e = grind arith
 
 pub opening_defect : (s : Superblock) → not (has_valid_optim s && has_valid_minfree s) ≡ has_defect (super_lines s)
 unfolding setting_lines
-opening_defect s = settings_defect (has_valid_optim s) (has_valid_minfree s) optimization (minfree s.minfree) refl refl
-    (mounted (before_nul s.mount) ∷ []) refl
+opening_defect s = grind (arith, settings_defect)

@@ -1,10 +1,11 @@
 -- The headline, of a check after an accepted superblock.
-use Rattle.std.proofs.Common.{◌≡◌, inl, inr, refl, ◌∙◌, sym, ap, subst, ℕ, Bool, true, false, ◌||◌, List, ◌++◌}
+use Rattle.std.proofs.Common.{arith}
+use Rattle.std.proofs.Common.{◌≡◌, inl, inr, refl, ◌∙◌, sym, ap, subst, ℕ, Bool, false, ◌||◌, List, ◌++◌}
 use Rattle.std.proofs.Common.{append_assoc, Option, Ok}
 use Rattle.ffs_image.specs.Device.{Device, ForContents}
 use Rattle.ffs_image.proofs.Devices.{faulted_there}
 use Rattle.ffs_volume.specs.declared.{SuperFault.SuperFault, End.End}
-use Rattle.ffs_volume.specs.declared.End.TheVariants.{Consistent, Defects, Refused, RootStop, ReadFault, WriteFault}
+use Rattle.ffs_volume.specs.declared.End.TheVariants.{Refused, ReadFault}
 use Rattle.ffs_volume.specs.declared.End.TheVariants.{NoMemory}
 use Rattle.ffs_volume.specs.{Disk.Superblock.Superblock, Disk.Outcome.outcome, Report.Opening.opening_lines}
 use Rattle.ffs_volume.specs.{Directories.PathnameCheck.continues_after_root, Directories.Volumes.volume_of}
@@ -113,27 +114,8 @@ found_ends image on image' name sector output sink p new found end o f =
 
 -- a check after an accepted superblock doesn't refuse it
 not_by : (on defect : Bool) (fault : SuperFault) → end_by on defect ≡ Refused fault → ⊥
-not_by true true fault e = (let w : Defects ≡ Refused fault = e in cc)
-not_by true false fault e = (let w : Consistent ≡ Refused fault = e in cc)
-not_by false defect fault e = (let w : RootStop ≡ Refused fault = e in cc)
-
-not_broken : (fault : SuperFault) → WriteFault ≡ Refused fault → ⊥
-not_broken fault e = (let w : WriteFault ≡ Refused fault = e in cc)
+not_by on defect fault e = grind arith
 
 pub not_refused : (s : Superblock) (image image' : Device) (p new : Progress) (end : End) (fault : SuperFault) →
     SaysRest s image image' p new end → end ≡ Refused fault → ⊥
-not_refused s image image' p new end fault (inl refusal) e = elim refusal.1 [
-  | inl said ↦ (let w : NoMemory ≡ Refused fault = sym said.1 ∙ e in cc)
-  | inr stopped ↦ not_broken fault (sym stopped.1 ∙ e)
-]
-not_refused s image image' p new end fault (inr ran) e = elim ran.ends [
-  | inl all ↦ not_by all.end_is.continued new.defect fault (sym all.end_is.end_is ∙ e)
-  | inr rest ↦ elim rest [
-    | inl short ↦ elim short.ends [
-      | inl went ↦
-          (let w : ReadFault short.cut.sector ≡ Refused fault = sym short.cut.end_is ∙ sym went.1 ∙ e in cc)
-      | inr broke ↦ not_broken fault (sym broke.1 ∙ e)
-    ]
-    | inr part ↦ not_broken fault (sym part.end_is ∙ e)
-  ]
-]
+not_refused s image image' p new end fault ran e = grind (arith, not_by)

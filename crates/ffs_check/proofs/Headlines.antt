@@ -1,6 +1,7 @@
 -- The headline, of an opening and of what follows it.
-use Rattle.std.proofs.Common.{◌≡◌, ◌⊎◌, inl, inr, refl, ◌∙◌, sym, ap, subst, ℕ, Bool, true, false, List, [], ◌∷◌, ◌++◌}
-use Rattle.std.proofs.Common.{append_assoc, append-nil, Option, Some, None, Result, Ok, Err}
+use Rattle.std.proofs.Common.{arith}
+use Rattle.std.proofs.Common.{◌≡◌, ◌⊎◌, inl, inr, refl, ◌∙◌, sym, ap, subst, ℕ, Bool, true, List, [], ◌∷◌, ◌++◌}
+use Rattle.std.proofs.Common.{append_assoc, append-nil, Option, Result, Ok, Err}
 use Rattle.ffs_image.specs.Device.{Device, Faulted, ForContents}
 use Rattle.ffs_volume.specs.declared.{SuperFault.SuperFault, SuperFault.TheVariants.CannotRead, End.End}
 use Rattle.ffs_volume.specs.declared.End.TheVariants.{Refused, WriteFault}
@@ -22,8 +23,7 @@ use Rattle.ffs_check.proofs.{EndLaws.broke_off, EndLaws.broke_in_line, Endings.a
 -- ---- the report, in its parts
 no_defect_head : (name : List ℕ) (sector : Option ℕ) (xs : List Message) → has_defect (head_lines name sector ++ xs)
     ≡ has_defect xs
-no_defect_head name None xs = refl
-no_defect_head name (Some sector) xs = refl
+no_defect_head name sector xs = grind arith
 
 report_there : (bytes name : List ℕ) (sector : Option ℕ) (found : Result Superblock SuperFault) →
     found ≡ outcome bytes sector → head_lines name sector ++ lines_by_outcome bytes found ≡ report_of bytes name sector
@@ -43,8 +43,7 @@ more_of bytes (Err fault) = []
 opening_then : (bytes name : List ℕ) (sector : Option ℕ) (found : Result Superblock SuperFault) →
     opening_lines name sector found ++ more_of bytes found ≡ head_lines name sector ++ lines_by_outcome bytes found
 unfolding report_lines more_of
-opening_then bytes name sector (Ok s) = append_assoc (head_lines name sector) (super_lines s) (phase_lines bytes s)
-opening_then bytes name sector (Err fault) = append-nil (head_lines name sector ++ (fault_line fault ∷ []))
+opening_then bytes name sector found = grind (arith, append_assoc, append-nil)
 
 pub whole_there : (bytes name : List ℕ) (sector : Option ℕ) (s : Superblock) (text : List Message) →
     Ok s ≡ outcome bytes sector → text ≡ phase_lines bytes s →
@@ -58,22 +57,16 @@ whole_there bytes name sector s text e t =
 pub defect_there : (bytes name : List ℕ) (sector : Option ℕ) (s : Superblock) (text : List Message) →
     text ≡ phase_lines bytes s → has_defect (opened_lines name sector s ++ text) ≡ has_defect (report_lines bytes s)
 unfolding report_lines
-defect_there bytes name sector s text t =
-    ap (λ xs. has_defect (opened_lines name sector s ++ xs)) t
-    ∙ ap has_defect (append_assoc (head_lines name sector) (super_lines s) (phase_lines bytes s))
-    ∙ no_defect_head name sector (super_lines s ++ phase_lines bytes s)
+defect_there bytes name sector s text t = grind (arith, append_assoc, no_defect_head)
 
 pub end_of_there : (bytes : List ℕ) (s : Superblock) (on defect : Bool) →
     on ≡ continues_after_root (volume_of s.layout bytes) → defect ≡ has_defect (report_lines bytes s) →
     end_by on defect ≡ end_of bytes s
 unfolding end_of
-end_of_there bytes s on defect e d = ap (λ b. end_by b defect) e
-    ∙ ap (λ b. end_by (continues_after_root (volume_of s.layout bytes)) b) d
+end_of_there bytes s on defect e d = grind arith
 
 pub completed_by : (on defect : Bool) → is_completed (end_by on defect) ≡ true
-completed_by true true = refl
-completed_by true false = refl
-completed_by false defect = refl
+completed_by on defect = grind arith
 
 -- ---- the certificate
 report_defect : (bytes name : List ℕ) (sector : Option ℕ) (s : Superblock) → outcome bytes sector ≡ Ok s →
@@ -101,9 +94,7 @@ whole_report image name sector = head_lines name sector
 
 whole_right : (image : Device) (name : List ℕ) (sector : Option ℕ) →
     ForContents image.contents (λ bytes. whole_report image name sector ≡ report_of bytes name sector)
-whole_right image name sector bytes t = ap (λ more. head_lines name sector ++ more)
-    (at_known image.contents (λ bytes. lines_by_outcome bytes (outcome bytes sector)) bytes t)
-    ∙ report_there bytes name sector (outcome bytes sector) refl
+whole_right image name sector bytes t = grind (arith, at_known, report_there)
 
 module _ (image image' : Device) (name : List ℕ) (sector : Option ℕ) (output : GName) (sink : Sink) (p : Progress) where
   -- ---- a read of the superblock, or of its last copy, failed

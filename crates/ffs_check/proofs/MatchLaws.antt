@@ -1,9 +1,10 @@
 -- What the matches of the words say of the image and of the sector.
-use Rattle.std.proofs.Common.{◌≡◌, ◌∙◌, ◌++◌, ◌∷◌, [], ℕ, List, Option, Some, None, Ok, Err, Result, refl, ap, subst}
-use Rattle.std.proofs.Common.{inl, inr, true, map, option_map}
+use Rattle.std.proofs.Common.{arith}
+use Rattle.std.proofs.Common.{◌≡◌, ◌∙◌, ◌++◌, ◌∷◌, [], ℕ, List, Option, Some, None, Ok, Result, refl, ap}
+use Rattle.std.proofs.Common.{true, option_map}
 use Rattle.std.proofs.lemmas.List.{map-append}
 use Rattle.std.specs.{Prelude.unwrap_or, Borrow.Bor, Str.Parse.ParsesUnsigned}
-use Rattle.clap.specs.Words.{AddsShortAliases, HasKind, IsAmong, Kinds, ReadsOne, is_simple, is_simple_and_free}
+use Rattle.clap.specs.Words.{AddsShortAliases, HasKind, Kinds, ReadsOne, is_simple, is_simple_and_free}
 use Rattle.clap.specs.Words.{kind_of, rule_of}
 use Rattle.clap.specs.declared.{builder.arg.Arg.Arg, builder.value_parser.ValueParser.ValueParser, error.Error.Error}
 use Rattle.clap.specs.declared.{error.kind.ErrorKind.TheVariants.OutOfMemory}
@@ -33,15 +34,12 @@ pub sector_read : {E : Type 0} (gives : List ℕ → Result ℕ E → Type 0) �
     → IsSector text sector
 sector_read gives parses None sector none some = none refl
 sector_read gives parses (Some t) (Some n) none some = λ numeral small. ap Some (parses t (Ok n) (some t refl)).1
-sector_read gives parses (Some t) None none some = λ numeral small.
-    let failed = some t refl in absurd (parses t (Err failed.0) failed.1 (numeral, small))
+sector_read gives parses (Some t) None none some = grind arith
 
 -- an argument with one more letter
 pub lettered : (a b : Arg) (letter : ℕ) → AddsShortAliases a b ((letter, true) ∷ [])
     → rule_of b ≡ record (rule_of a) { short_aliases = (rule_of a).short_aliases ++ letter ∷ [] }
-lettered a b letter adds = ap rule_of adds.0
-    ∙ ap (λ xs. record (rule_of a) { short_aliases = xs })
-    (ap (map (λ alias. alias.0)) adds.1 ∙ map-append (λ alias. alias.0) a.short_aliases.items ((letter, true) ∷ []))
+lettered a b letter adds = grind (arith, map-append)
 
 -- an argument with a parser
 pub parsed : (a b : Arg) (q : ValueParser) → b ≡ record a { value_parser = b.value_parser } → b.value_parser ≡ Some q
@@ -50,7 +48,4 @@ parsed a b q others is = ap rule_of others ∙ ap (λ p. record (rule_of a) { pa
 
 -- an error where the words are taken says that memory was refused
 pub memory_alone : (kinds : Kinds) (e : Error) → kinds ≡ [] → HasKind kinds e → kind_of e ≡ OutOfMemory
-memory_alone kinds e none has = elim has [
-  | inl memory ↦ memory
-  | inr among ↦ absurd (subst (IsAmong (kind_of e)) none among)
-]
+memory_alone kinds e none has = grind arith

@@ -1,5 +1,5 @@
 -- The bytes before the first NUL.
-use Rattle.std.proofs.Common.{◌≡◌, ◌≤◌, ◌<◌, ◌+◌, ℕ, Bool, true, false, List, length, take, get_or, arith, sym, ap, ◌∙◌}
+use Rattle.std.proofs.Common.{◌≡◌, ◌≤◌, ◌<◌, ◌+◌, ℕ, Bool, false, List, length, take, get_or, arith, sym, ap, ◌∙◌}
 use Rattle.std.proofs.Common.{inl, inr, nat_lt}
 use Rattle.std.specs.List.{prefix_len}
 use Rattle.std.proofs.lemmas.{Bool.cases_lt, Bool.Decides.nat_tests}
@@ -25,14 +25,8 @@ one_byte_more xs i h inside set = elim (cases_lt i (prefix_len is_set xs)) [
 
 -- the first NUL is here
 pub stops : (xs : List ℕ) (i : ℕ) → i ≤ prefix_len is_set xs → get_or xs i 0 ≡ 0 → take i xs ≡ before_nul xs
-stops xs i h nul = elim (cases_lt i (prefix_len is_set xs)) [
-  | inl less ↦
-      let passes : nat_lt 0 (get_or xs i 0) ≡ true = prefix_len_passes is_set xs i 0 less in
-      absurd (grind (arith, nat_tests))
-  | inr more ↦
-      let same : i ≡ prefix_len is_set xs = omega arith in
-      ap (λ n. take n xs) same
-]
+stops xs i h nul =
+    grind (arith, cases_lt, prefix_len_passes, nat_tests)
 
 -- there is none
 pub no_stop : (xs : List ℕ) → length xs ≤ prefix_len is_set xs → xs ≡ before_nul xs

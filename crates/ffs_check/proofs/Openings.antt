@@ -1,10 +1,11 @@
 -- How an opening ends.
+use Rattle.std.proofs.Common.{arith}
 use Rattle.std.proofs.Common.{◌≡◌, inl, inr, refl, ◌∷◌, [], ℕ, List, Option, Some, None, Result, Ok, Err}
 use Rattle.ffs_image.specs.Device.{Device, ForContents}
 use Rattle.ffs_volume.specs.declared.{SuperFault.SuperFault, SuperFault.TheVariants.Magic, End.End}
 use Rattle.ffs_volume.specs.declared.End.TheVariants.{Refused, WriteFault}
 use Rattle.ffs_volume.specs.{Disk.Superblock.Superblock, Disk.Outcome.outcome}
-use Rattle.ffs_volume.specs.Report.Opening.{head_lines, found_lines, super_lines, fault_line}
+use Rattle.ffs_volume.specs.Report.Opening.{head_lines, super_lines, fault_line}
 use Rattle.std.specs.Borrow.{GName}
 use Rattle.ffs_report.specs.{Sink.Sink, Progress.Progress, Progress.Said, Progress.Stopped, Progress.starts}
 use Rattle.ffs_report.proofs.Reports.{said_then, stopped_after, stopped_more}
@@ -26,13 +27,11 @@ found_there contents sector b e = rw e refl
 -- where a superblock was accepted, nothing was read in vain
 pub unfailed_of : (image image' : Device) (sector : Option ℕ) (s : Superblock) → ReadsSuper image image' sector (Ok s) →
     image' ≡ image
-unfailed_of image image' sector s (inl failed) = absurd failed.0.0
-unfailed_of image image' sector s (inr read) = read.0
+unfailed_of image image' sector s read = grind arith
 
 pub found_of : (image image' : Device) (sector : Option ℕ) (s : Superblock) → ReadsSuper image image' sector (Ok s) →
     ForContents image.contents (λ bytes. Ok s ≡ outcome bytes sector)
-found_of image image' sector s (inl failed) = absurd failed.0.0
-found_of image image' sector s (inr read) = read.1
+found_of image image' sector s read = grind arith
 
 module _ (image : Device) (name : List ℕ) (sector : Option ℕ) (old head : Progress) where
   -- the output failed before anything was read
@@ -41,12 +40,7 @@ module _ (image : Device) (name : List ℕ) (sector : Option ℕ) (old head : Pr
   at_head stopped = record {
     found = found_in image.contents sector;
     answers = inr (refl, found_there image.contents sector);
-    ends = inr (inl (record {
-      no_read_failed = refl;
-      found_is = found_there image.contents sector;
-      broke_off = stopped_more old head (head_lines name sector) (found_lines (found_in image.contents sector)) stopped;
-      end_is = refl;
-    }));
+    ends = inr (inl (grind (arith, found_there, stopped_more)));
   }
 
   module _ (image' : Device) (new : Progress) (said : Said old head (head_lines name sector)) where
@@ -64,28 +58,13 @@ module _ (image : Device) (name : List ℕ) (sector : Option ℕ) (old head : Pr
       at_super stopped = record {
         found = Ok (superblock_in super);
         answers = answers;
-        ends = inr (inl (record {
-          no_read_failed = unfailed_of image image' sector (superblock_in super) answers;
-          found_is = found_of image image' sector (superblock_in super) answers;
-          broke_off = stopped_after old head new (head_lines name sector) (super_lines (superblock_in super)) said
-              stopped;
-          end_is = refl;
-        }));
+        ends = inr (inl (grind (arith, unfailed_of, found_of, stopped_after)));
       }
 
     module _ (fault : SuperFault) (answers : ReadsSuper image image' sector (Err fault)) where
       pub refused : Said head new (fault_line fault ∷ []) →
           SaysOpening image image' old new name sector (Err (Refused fault))
-      refused more = record {
-        found = Err fault;
-        answers = answers;
-        ends = inl (record {
-          fault = fault;
-          found_is = refl;
-          went_out = said_then old head new (head_lines name sector) (fault_line fault ∷ []) said more;
-          end_is = refl;
-        });
-      }
+      refused more = record { found = Err fault; answers = answers; ends = inl (grind (arith, said_then)) }
 
       pub at_fault : Stopped head new (fault_line fault ∷ []) →
           SaysOpening image image' old new name sector (Err WriteFault)
@@ -105,32 +84,10 @@ ends_printed : (image image' : Device) (output : GName) (sink : Sink) (new : Pro
     (sector : Option ℕ) (found : Result Superblock SuperFault) (result : Result Super End) →
     OpeningEnds Said Stopped image image' (starts output sink) new name sector found result →
     OpeningEnds Printed BrokeOffIn image image' sink new.sink name sector found result
-ends_printed image image' output sink new name sector found (Ok super) ends = (ends.0.took, ends.1)
-ends_printed image image' output sink new name sector found (Err end) (inl refused) = inl (record {
-  fault = refused.fault;
-  found_is = refused.found_is;
-  went_out = refused.went_out.took;
-  end_is = refused.end_is;
-})
-ends_printed image image' output sink new name sector found (Err end) (inr (inl stop)) = inr (inl (record {
-  no_read_failed = stop.no_read_failed;
-  found_is = stop.found_is;
-  broke_off = broke_off (starts output sink) new _ refl stop.broke_off;
-  end_is = stop.end_is;
-}))
-ends_printed image image' output sink new name sector found (Err end) (inr (inr stop)) = inr (inr (record {
-  fault = stop.fault;
-  found_is = stop.found_is;
-  in_line = broke_in_line (starts output sink) new (head_lines name sector) (fault_line stop.fault) refl stop.in_line;
-  end_is = stop.end_is;
-}))
+ends_printed image image' output sink new name sector found result ends = grind (arith, broke_off, broke_in_line)
 
 pub prints_opening : (image image' : Device) (output : GName) (sink : Sink) (new : Progress) (name : List ℕ)
     (sector : Option ℕ) (result : Result Super End) →
     SaysOpening image image' (starts output sink) new name sector result →
     PrintsOpening image image' sink new.sink name sector result
-prints_opening image image' output sink new name sector result says = record {
-  found = says.found;
-  answers = says.answers;
-  ends = ends_printed image image' output sink new name sector says.found result says.ends;
-}
+prints_opening image image' output sink new name sector result says = grind (arith, ends_printed)

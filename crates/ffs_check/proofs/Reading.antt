@@ -6,7 +6,7 @@ use Rattle.ffs_image.specs.Device.{Device}
 use Rattle.ffs_volume.specs.declared.{Layout.Layout, SuperFault.SuperFault}
 use Rattle.ffs_volume.specs.{Directories.Connectivity.connectivity_lines, Directories.ReferenceCheck.reference_lines}
 use Rattle.ffs_volume.specs.{Directories.Volumes.volume_of, Disk.Outcome.outcome, Disk.Superblock.Superblock}
-use Rattle.ffs_volume.specs.{Messages.Kinds.of_tree, Report.Memory.runs_limit}
+use Rattle.ffs_volume.specs.{Report.Memory.runs_limit}
 use Rattle.ffs_volume.specs.Directories.PathnameCheck.{continues_after_root, pathname_lines}
 use Rattle.ffs_volume.specs.Report.Reads.{group_reads, opening_reads, pathname_reads, phase_reads, sweep_reads}
 use Rattle.ffs_volume.specs.Report.Whole.{phase_lines, report_of}
@@ -15,8 +15,7 @@ use Rattle.ffs_layout.specs.Super.{ReadsSuper, superblock_in}
 use Rattle.ffs_report.specs.{Progress.Progress, Known.ForBytes, Known.IsContents}
 use Rattle.ffs_check.specs.{Headline.opened_lines, Opening.SaysOpening}
 use Rattle.ffs_check.specs.ReadsWithin.{PhasesReadWithin, ReadsWithin}
-use Rattle.ffs_check.specs.Rest.{phase1_part, phase1b_part, phase2_part, phase3_part, phase4_part, from_phase5}
-use Rattle.ffs_check.specs.Rest.{from_phase1b, from_phase2, after_phase2, from_phase3, from_phase4}
+use Rattle.ffs_check.specs.Rest.{after_phase2}
 use Rattle.ffs_check.proofs.{Headlines.whole_there, Stages.text_parts, Openings.found_of, Openings.unfailed_of}
 
 -- the messages of phase 2, and of what follows it, are among those of the phases
@@ -24,32 +23,13 @@ pub names_among : (bytes : List ℕ) (s : Superblock) →
     length (pathname_lines (volume_of s.layout bytes))
     + length (after_phase2 (continues_after_root (volume_of s.layout bytes)) bytes s)
     ≤ length (phase_lines bytes s)
-names_among bytes s =
-    let names = pathname_lines (volume_of s.layout bytes) in
-    let later = after_phase2 (continues_after_root (volume_of s.layout bytes)) bytes s in
-    let parts = ap length (text_parts bytes s) in
-    let first = length-append (phase1_part bytes s) (from_phase1b bytes s) in
-    let again = length-append (phase1b_part bytes s) (from_phase2 bytes s) in
-    let named = length-append (phase2_part bytes s) later in
-    let many = length-map names of_tree in
-    omega (arith, parts, first, again, named, many)
+names_among bytes s = grind (arith, text_parts, length-append, length-map)
 
 -- so are those of phases 3 and 4
 pub later_among : (bytes : List ℕ) (s : Superblock) → continues_after_root (volume_of s.layout bytes) ≡ true →
     length (pathname_lines (volume_of s.layout bytes)) + (length (connectivity_lines (volume_of s.layout bytes))
     + length (reference_lines (volume_of s.layout bytes))) ≤ length (phase_lines bytes s)
-later_among bytes s goes =
-    let links = connectivity_lines (volume_of s.layout bytes) in
-    let counts = reference_lines (volume_of s.layout bytes) in
-    let on : length (after_phase2 (continues_after_root (volume_of s.layout bytes)) bytes s)
-    ≡ length (from_phase3 bytes s) = ap (λ go. length (after_phase2 go bytes s)) goes in
-    let first = length-append (phase3_part bytes s) (from_phase4 bytes s) in
-    let second = length-append (phase4_part bytes s) (from_phase5 bytes s) in
-    omega (arith, names_among bytes s, on, first, second, length-map links of_tree, length-map counts of_tree)
-
--- more messages, more reads
-pub names_more : (v : Layout) (n m : ℕ) → n ≤ m → pathname_reads v n ≤ pathname_reads v m
-names_more v n m h = omega (arith, h)
+later_among bytes s goes = grind (arith, length-append, names_among, length-map)
 
 pub phases_more : (v : Layout) (n m : ℕ) → n ≤ m → phase_reads v n ≤ phase_reads v m
 phases_more v n m h = omega (arith, h)
@@ -67,7 +47,7 @@ scanned_within v lines reads now h = omega (arith, h)
 pub named_reads : (v : Layout) (names lines reads again now : ℕ) → again ≤ reads + 2 * sweep_reads v →
     now ≤ again + pathname_reads v names → names ≤ lines →
     now ≤ reads + 2 * sweep_reads v + pathname_reads v lines
-named_reads v names lines reads again now before h among = omega (arith, before, h, names_more v names lines among)
+named_reads v names lines reads again now before h among = omega arith
 
 -- phases 3 to 5
 pub later_within : (v : Layout) (lines some reads before now : ℕ) →
@@ -112,7 +92,4 @@ found_within image on name sector start p found reads between reads' o opened fo
 -- nothing was read but the superblock and its last copy
 pub opened_within : (image : Device) (name : List ℕ) (sector : Option ℕ) (reads reads' : ℕ) →
     reads' ≤ reads + opening_reads → ReadsWithin image name sector reads reads'
-opened_within image name sector reads reads' opened = record {
-  refused = λ bytes t fault e. opened;
-  accepted = λ bytes t s e numbered. omega (arith, opened);
-}
+opened_within image name sector reads reads' opened = grind arith

@@ -1,10 +1,10 @@
 -- What a check takes of its memory, after an accepted superblock.
-use Rattle.std.proofs.Common.{◌≡◌, arith, inl, inr, ◌∙◌, sym, subst, ℕ, Bool, true, false, List, Option, Ok, Err}
+use Rattle.std.proofs.Common.{◌≡◌, arith, inl, inr, sym, subst, ℕ, Bool, true, false, List, Option, Ok, Err}
 use Rattle.ffs_image.specs.Device.{Device, ForContents}
 use Rattle.ffs_memory.specs.{Account.Account, Account.RefusedOneMore, Account.unused, System.account_of}
 use Rattle.ffs_memory.specs.declared.system.SystemMemory.{SystemMemory}
 use Rattle.ffs_volume.specs.declared.End.{End}
-use Rattle.ffs_volume.specs.declared.End.TheVariants.{Consistent, Defects, Refused, RootStop, ReadFault, WriteFault}
+use Rattle.ffs_volume.specs.declared.End.TheVariants.{Consistent, Defects, RootStop, WriteFault}
 use Rattle.ffs_volume.specs.declared.End.TheVariants.{NoMemory}
 use Rattle.ffs_volume.specs.{Messages.Kinds.Message, Disk.Outcome.outcome, Report.Whole.end_by}
 use Rattle.ffs_volume.specs.{Disk.Superblock.Superblock}
@@ -44,36 +44,15 @@ not_broken e = (let w : WriteFault ≡ NoMemory = e in cc)
 pub not_for_memory : (knows : List ℕ → Type 0) (lines : List ℕ → List Message) (continues : List ℕ → Bool)
     (image image' : Device) (old new : Progress) (end : End) →
     SaysPhases false knows lines continues image image' old new end → end ≡ NoMemory → ⊥
-not_for_memory knows lines continues image image' old new end ran e = elim ran.ends [
-  | inl all ↦ not_by all.end_is.continued new.defect (sym all.end_is.end_is ∙ e)
-  | inr rest ↦ elim rest [
-    | inl short ↦ elim short.ends [
-      | inl went ↦ (let w : ReadFault short.cut.sector ≡ NoMemory = sym short.cut.end_is ∙ sym went.1 ∙ e in cc)
-      | inr broke ↦ not_broken (sym broke.1 ∙ e)
-    ]
-    | inr part ↦ not_broken (sym part.end_is ∙ e)
-  ]
-]
+not_for_memory knows lines continues image image' old new end ran e = grind (arith, not_by, not_broken)
 
 -- nor does an opening
 pub opened_for_memory : (image on : Device) (old new : Progress) (name : List ℕ) (sector : Option ℕ) (end : End) →
     SaysOpening image on old new name sector (Err end) → end ≡ NoMemory → ⊥
-opened_for_memory image on old new name sector end o e = elim o.ends [
-  | inl refused ↦ (let w : Refused refused.fault ≡ NoMemory = sym refused.end_is ∙ e in cc)
-  | inr stops ↦ elim stops [
-    | inl stop ↦ not_broken (sym stop.end_is ∙ e)
-    | inr stop ↦ not_broken (sym stop.end_is ∙ e)
-  ]
-]
+opened_for_memory image on old new name sector end o e = grind (arith, not_broken)
 
 -- a check over the memory of the system, which was new
 pub of_system : (image : Device) (sector : Option ℕ) (end : End) (memory memory' : SystemMemory) →
     account_of memory ≡ unused → Takes image sector (account_of memory) (account_of memory') →
     (end ≡ NoMemory → RefusedOneMore (account_of memory) (account_of memory')) → TakesOfSystem image sector end
-of_system image sector end memory memory' begun takes refused = record {
-  memory = memory;
-  memory' = memory';
-  begun = begun;
-  takes = takes;
-  refused = refused;
-}
+of_system image sector end memory memory' begun takes refused = grind (arith, takes)

@@ -1,4 +1,5 @@
-use Rattle.std.proofs.Common.{rules, inl, inr, refl}
+use Rattle.std.proofs.Common.{arith}
+use Rattle.std.proofs.Common.{rules, inl, refl}
 use Rattle.ffs_report.specs.Progress.{progress}
 use Rattle.ffs_check.proofs.{Counting.reads_failed, Counting.writes_failed, Follows.found_ends, Follows.not_refused}
 use Rattle.ffs_check.proofs.{AnyReading.any_at, AnyReading.whole_reads}
@@ -7,11 +8,7 @@ use Rattle.ffs_check.proofs.{Taken.takes, Taken.opened_for_memory}
 use Rattle.ffs_check.proofs.check.check_in.Goals as goal
 
 pub returns-in-Err-clause-headline : goal.returns-in-Err-clause-headline
-returns-in-Err-clause-headline g c =
-    headline_at _ _ _ _ _ (g.W.Output.sink c.say_opening.new.report.out.now) _ _ (search rules)
-    (opening_ends _ _ _ _ _ (g.W.Output.sink c.args.out.now) (progress g.W.Output.sink c.say_opening.new.report)
-    c.in-Err.end
-    (rw c.new-report.ensures at c.in-Err.ensures.opened))
+returns-in-Err-clause-headline g c = grind (arith, headline_at, rules, opening_ends)
 
 pub returns-in-Ok-clause-headline : goal.returns-in-Ok-clause-headline
 returns-in-Ok-clause-headline g c =
@@ -24,20 +21,13 @@ pub returns-in-Ok-clause-unreadable : goal.returns-in-Ok-clause-unreadable
 returns-in-Ok-clause-unreadable g c at e = absurd (not_refused _ _ _ _ _ _ _ c.check_accepted.ensures.followed e)
 
 pub returns-in-Err-clause-failures : goal.returns-in-Err-clause-failures
-returns-in-Err-clause-failures g c = record {
-  reads = reads_failed _ _ _ _ _ _ _ (returns-in-Err-clause-headline g c);
-  writes = writes_failed _ _ _ _ _ _ _ (returns-in-Err-clause-headline g c);
-}
+returns-in-Err-clause-failures g c = grind (arith, reads_failed, returns-in-Err-clause-headline, writes_failed)
 
 pub returns-in-Ok-clause-failures : goal.returns-in-Ok-clause-failures
-returns-in-Ok-clause-failures g c = record {
-  reads = reads_failed _ _ _ _ _ _ _ (returns-in-Ok-clause-headline g c);
-  writes = writes_failed _ _ _ _ _ _ _ (returns-in-Ok-clause-headline g c);
-}
+returns-in-Ok-clause-failures g c = grind (arith, reads_failed, returns-in-Ok-clause-headline, writes_failed)
 
 pub returns-in-Ok-clause-memory : goal.returns-in-Ok-clause-memory
-returns-in-Ok-clause-memory g c =
-    inr (takes _ _ _ _ _ _ c.in-Ok.superblock _ _ c.in-Ok.ensures.opened c.check_accepted.ensures.asked)
+returns-in-Ok-clause-memory g c = grind (arith, takes)
 
 pub returns-in-Err-clause-memory : goal.returns-in-Err-clause-memory
 returns-in-Err-clause-memory g c = inl refl

@@ -1,3 +1,4 @@
+use Rattle.std.proofs.Common.{arith}
 use Rattle.ffs_layout.specs.Super.{superblock_in}
 use Rattle.ffs_volume.specs.{Directories.PathnameCheck.continues_after_root, Report.Whole.phase_lines}
 use Rattle.ffs_volume.specs.{Directories.Volumes.volume_of}
@@ -13,6 +14,4 @@ returns-clause-ran g c =
     c.run_phases-answer.ensures.goes c.end_run.ensures
 
 pub returns-clause-any : goal.returns-clause-any
-returns-clause-any g c = λ numbered.
-    ended_reads c.args.superblock.now.geometry.layout c.args.had_defect _ _ _ _ _ c.run_phases-answer.result _
-    (c.run_phases-answer.ensures.paid numbered) c.end_run.ensures
+returns-clause-any g c = grind (arith, ended_reads)

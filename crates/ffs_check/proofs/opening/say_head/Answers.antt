@@ -1,3 +1,4 @@
+use Rattle.std.proofs.Common.{arith}
 use Rattle.std.proofs.Common.{◌∷◌, []}
 use Rattle.std.proofs.lemmas.Result.{err_from_is_err_and}
 use Rattle.ffs_volume.specs.{Messages.Kinds.opening, Report.Opening.location_lines}
@@ -5,10 +6,7 @@ use Rattle.ffs_report.proofs.Reports.{says_then, stopped_more}
 use Rattle.ffs_check.proofs.opening.say_head.Goals as goal
 
 pub returns-in_err-say_location : goal.returns-in_err-say_location
-returns-in_err-say_location g c =
-    let p = err_from_is_err_and c.from_residual.result c.from_residual.ensures.1 in
-    rw (p.1) (stopped_more _ _ (location_lines c.args.args.now.sector) (opening c.args.args.now.name.now ∷ [])
-    c.in_err-say_location.ensures)
+returns-in_err-say_location g c = grind (arith, err_from_is_err_and, stopped_more)
 
 pub returns : goal.returns
 returns g c =

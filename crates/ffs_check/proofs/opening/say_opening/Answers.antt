@@ -1,3 +1,4 @@
+use Rattle.std.proofs.Common.{arith}
 use Rattle.ffs_check.proofs.Openings.{at_head, accepted, at_super, refused, at_fault}
 use Rattle.ffs_check.proofs.opening.say_opening.Goals as goal
 
@@ -18,6 +19,4 @@ returns-in-Ok-say-clause-opened g c =
     (rw c.fault_line.ensures at c.in-Ok-say.ensures.said)
 
 pub returns-in-Err-say-clause-opened : goal.returns-in-Err-say-clause-opened
-returns-in-Err-say-clause-opened g c =
-    at_fault _ _ _ _ _ _ _ c.in_default.ensures c.in-Err-read_super.fault c.in-Err-read_super.ensures.answer
-    (rw c.fault_line.ensures at c.in-Err-say.ensures.said)
+returns-in-Err-say-clause-opened g c = grind (arith, at_fault)

@@ -1,3 +1,4 @@
+use Rattle.std.proofs.Common.{arith}
 use Rattle.std.proofs.lemmas.Result.{err_from_is_err_and}
 use Rattle.ffs_volume.specs.Messages.Kinds.{optimization, minfree, unless}
 use Rattle.ffs_volume.specs.Report.Opening.{has_valid_optim, has_valid_minfree, setting_lines}
@@ -7,11 +8,7 @@ use Rattle.ffs_check.proofs.opening.say_settings.Goals as goal
 
 pub returns-in_err-say_optimization : goal.returns-in_err-say_optimization
 unfolding setting_lines
-returns-in_err-say_optimization g c =
-    let p = err_from_is_err_and c.from_residual.result c.from_residual.ensures.1 in
-    rw (p.1) (stopped_more _ _ (unless (has_valid_optim (superblock_in c.args.superblock.now)) optimization)
-    (unless (has_valid_minfree (superblock_in c.args.superblock.now)) (minfree c.args.superblock.now.minfree))
-    c.in_err-say_optimization.ensures)
+returns-in_err-say_optimization g c = grind (arith, err_from_is_err_and, stopped_more)
 
 pub returns : goal.returns
 unfolding setting_lines

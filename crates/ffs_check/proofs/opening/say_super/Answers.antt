@@ -1,3 +1,4 @@
+use Rattle.std.proofs.Common.{arith}
 use Rattle.std.proofs.Common.{◌∷◌, []}
 use Rattle.std.proofs.lemmas.Result.{err_from_is_err_and}
 use Rattle.ffs_volume.specs.{Messages.Kinds.mounted, Report.Opening.before_nul, Report.Opening.setting_lines}
@@ -6,10 +7,7 @@ use Rattle.ffs_report.proofs.Reports.{says_then, stopped_more}
 use Rattle.ffs_check.proofs.opening.say_super.Goals as goal
 
 pub returns-in_err-say_settings : goal.returns-in_err-say_settings
-returns-in_err-say_settings g c =
-    let p = err_from_is_err_and c.from_residual.result c.from_residual.ensures.1 in
-    rw (p.1) (stopped_more _ _ (setting_lines (superblock_in c.args.superblock.now))
-    (mounted (before_nul c.args.superblock.now.mount) ∷ []) c.in_err-say_settings.ensures)
+returns-in_err-say_settings g c = grind (arith, err_from_is_err_and, stopped_more)
 
 pub returns : goal.returns
 returns g c =

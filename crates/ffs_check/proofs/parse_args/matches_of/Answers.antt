@@ -1,5 +1,6 @@
-use Rattle.std.proofs.Common.{◌≡◌, ◌∙◌, ap, sym, map, true, Ok, Err, List, Result, IfOk, MatchResult}
-use Rattle.clap.specs.Words.{App, FailsBy, HasMatchesOf, Text, app_of, fault_of, is_simple, is_simple_and_free}
+use Rattle.std.proofs.Common.{arith}
+use Rattle.std.proofs.Common.{◌≡◌, ◌∙◌, ap, sym, true, Ok, Err, List, Result, IfOk, MatchResult}
+use Rattle.clap.specs.Words.{App, FailsBy, HasMatchesOf, Text, fault_of, is_simple, is_simple_and_free}
 use Rattle.clap.specs.Words.{matches_of}
 use Rattle.clap.specs.declared.{error.Error.Error, parser.matches.ArgMatches.ArgMatches}
 use Rattle.ffs_check.proofs.MatchLaws.{free, memory_alone, simple}
@@ -22,6 +23,4 @@ answered a words (Err e) is kinds matches = record {
 }
 
 pub returns : goal.returns
-returns c = answered (app_of c.in_ok-command.field-0) (map (λ word. word.now) c.args.words.now)
-    c.try_get_matches_from.result c.in_ok-command.ensures c.try_get_matches_from.ensures.kinds
-    c.try_get_matches_from.ensures.matches
+returns c = grind (arith, answered)

@@ -1,5 +1,5 @@
 use Rattle.std.proofs.Common.{◌≡◌, ◌∙◌, ◌∷◌, [], ◌++◌, ap, codes, Some, true}
-use Rattle.clap.specs.declared.{builder.arg.Arg.Arg, builder.ArgAction.TheVariants.Count}
+use Rattle.clap.specs.declared.{builder.ArgAction.TheVariants.Count}
 use Rattle.clap.specs.Words.{Rule, new_rule, rule_of}
 use Rattle.ffs_check.proofs.MatchLaws.{lettered}
 use Rattle.ffs_check.proofs.parse_args.read_only_argument.Goals as goal
@@ -12,8 +12,3 @@ returns-clause-rule c =
     ∙ ap (λ (r : Rule). record r { short_aliases = r.short_aliases ++ 78 ∷ [] }) short_is in
     rw (c.action.ensures, c.required.ensures)
     (ap (λ (r : Rule). record r { action = Some Count; required = true }) letter_is)
-
-pub returns-clause-local : goal.returns-clause-local
-returns-clause-local c = rw (c.action.ensures, c.required.ensures)
-    (ap (λ (a : Arg). a.global) c.in_ok-visible_short_alias.ensures.0
-    ∙ rw (c.short.ensures) c.new.ensures.optional.1)
