@@ -19,14 +19,4 @@ overflow_add-files c =
     )
 
 pub loop-inode-preserved : goal.loop-inode-preserved
-loop-inode-preserved c =
-    let at : c.loop-inode.inode ≡ 2 + (c.loop-inode.inode - 2) = omega arith in
-    let more : c.loop-inode.inode - 2 + 1 ≡ c.loop-inode.inode + 1 - 2 = omega arith in
-    record {
-      files = count_more (λ x. is_file_or_dir (class_in c.args.kinds.now x)) 2 (c.loop-inode.inode - 2)
-          c.loop-inode.files c.from-files.result c.is_file_or_dir.result
-          c.loop-inode.invariant.files (one_if _ _ c.from-files.ensures)
-          (c.is_file_or_dir.ensures ∙ ap (λ j. is_file_or_dir (class_in c.args.kinds.now j)) at)
-          ∙ ap (λ j. count_by (λ x. is_file_or_dir (class_in c.args.kinds.now x)) (range_with_len 2 j)) more;
-      within = omega (arith, c.loop-inode-test.true);
-    }
+loop-inode-preserved c = grind (arith, count_more, one_if)

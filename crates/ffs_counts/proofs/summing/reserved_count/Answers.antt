@@ -6,29 +6,13 @@ use Rattle.ffs_counts.proofs.ReservedCount.{groups_begin, groups_end, group_more
 use Rattle.ffs_counts.proofs.summing.reserved_count.Goals as goal
 
 pub loop-group-init : goal.loop-group-init
-loop-group-init c = sym (ap (λ j. count_by (is_reserved c.args.geometry.now.layout) (range_with_len 0 j))
-    (groups_begin c.args.geometry.now.layout))
+loop-group-init c = grind (arith, groups_begin)
 
 pub overflow_add-count : goal.overflow_add-count
-overflow_add-count c =
-    let v = c.args.geometry.now.layout in
-    omega (
-      arith,
-      group_more v c.loop-group.group c.loop-group.count c.reserved_in_group-count.result c.args.geometry.now.sound
-          c.loop-group-test.true c.loop-group.invariant c.reserved_in_group-count.ensures,
-      count_within (is_reserved v) 0 (min (cgbase v (c.loop-group.group + 1)) v.size),
-      c.args.geometry.now.sound.numbers.size_below,
-    )
+overflow_add-count c = grind (arith, group_more, count_within)
 
 pub loop-group-preserved : goal.loop-group-preserved
-loop-group-preserved c =
-    group_more c.args.geometry.now.layout c.loop-group.group c.loop-group.count c.reserved_in_group-count.result
-    c.args.geometry.now.sound c.loop-group-test.true c.loop-group.invariant c.reserved_in_group-count.ensures
+loop-group-preserved c = grind (arith, group_more)
 
 pub returns : goal.returns
-returns c =
-    let v = c.args.geometry.now.layout in
-    let all : c.loop-group.group ≡ v.ncg = omega arith in
-    c.loop-group.invariant ∙ ap
-    (λ j. count_by (is_reserved v) (range_with_len 0 (min (cgbase v j) v.size))) all
-    ∙ ap (λ j. count_by (is_reserved v) (range_with_len 0 j)) (groups_end v c.args.geometry.now.sound)
+returns c = grind (arith, groups_end)
