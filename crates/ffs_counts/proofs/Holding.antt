@@ -1,6 +1,6 @@
 -- What a workspace holds where only its windows have changed, and the lines of an inode by it.
-use Rattle.std.proofs.Common.{◌≡◌, ℕ, ℤ, pos, negsuc, zero, suc, ◌+◌, ◌-◌, ◌<◌, ◌≤◌, ◌^◌, Bool, true, false, List, []}
-use Rattle.std.proofs.Common.{◌∷◌, ◌++◌, ◌&&◌, ◌||◌, ◌==◌, not, nat_le, nat_lt, if◌then◌else◌, inl, inr, length, map}
+use Rattle.std.proofs.Common.{◌≡◌, ℕ, ℤ, pos, zero, suc, ◌+◌, ◌-◌, ◌<◌, ◌≤◌, ◌^◌, Bool, true, false, List, []}
+use Rattle.std.proofs.Common.{◌&&◌, ◌||◌, ◌==◌, not, if◌then◌else◌, length, map}
 use Rattle.std.proofs.Common.{refl, ap, ◌∙◌, sym, slice_index, vec_len, arith, SFits}
 use Rattle.std.specs.{List.slice_index_or, Int.w16, Int.cast_signed}
 use Rattle.std.specs.declared.{alloc.Global.Global, vec.Vec.Vec}
@@ -13,12 +13,11 @@ use Rattle.ffs_volume.specs.{Directories.Connectivity.is_dead, Encodings.Links.l
 use Rattle.ffs_volume.specs.Blocks.Inodes.{inode_of, inode_from_bytes, is_allocated}
 use Rattle.ffs_volume.specs.Directories.PathnameCheck.{attributes, attributes_of, label_of}
 use Rattle.ffs_volume.specs.Directories.ReferenceCheck.{inode_lines, reference_lines, reference_lines_at}
-use Rattle.ffs_volume.specs.Directories.Roles.{is_allocated_inode, is_inode, is_suspect, references}
+use Rattle.ffs_volume.specs.Directories.Roles.{is_allocated_inode, is_inode, references}
 use Rattle.ffs_volume.specs.Directories.Volumes.{class_at, marked_at, volume_of, volume_with}
-use Rattle.ffs_volume.specs.Disk.Numbers.{equals_natural, i16_at, is_nonnegative, zero_if_negative}
-use Rattle.ffs_volume.specs.Encodings.Kinds.{kind_at, class_of_kind, is_allocated_kind, is_dir_kind, is_empty_dir_kind}
-use Rattle.ffs_volume.specs.Messages.Kinds.{Message, TreeMessage, of_tree, lines_from, reported, unref, unref_zero}
-use Rattle.ffs_volume.specs.Messages.Kinds.{link_count}
+use Rattle.ffs_volume.specs.Disk.Numbers.{equals_natural, i16_at}
+use Rattle.ffs_volume.specs.Encodings.Kinds.{kind_at, class_of_kind, is_empty_dir_kind}
+use Rattle.ffs_volume.specs.Messages.Kinds.{Message, TreeMessage, of_tree, lines_from}
 use Rattle.ffs_volume.proofs.{LinkLaws.AreMet, LinkLaws.links_met, Numbered.all_from}
 use Rattle.ffs_workspace.specs.declared.workspace.Workspace.{Workspace}
 use Rattle.ffs_workspace.specs.{Lengths.inodes_of, Holds.HoldsClaims, Holds.HoldsFindings, Holds.bool_at}

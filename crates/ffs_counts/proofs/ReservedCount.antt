@@ -1,7 +1,7 @@
 -- How many fragments are reserved and how many claimed, by a map that has the reserved ones.
 use Rattle.std.proofs.Common.{◌≡◌, ◌⊎◌, inl, inr, ℕ, zero, suc, ◌+◌, ◌-◌, ◌*◌, ◌<◌, ◌≤◌, Bool, true, false, cond, not}
 use Rattle.std.proofs.Common.{◌&&◌, ◌||◌, nat_lt, nat_le, List, count_by, min, arith, refl, ap, ◌∙◌, sym, [], ◌∷◌}
-use Rattle.std.proofs.Common.{subst, length, get_or, slice_set, ◌==◌}
+use Rattle.std.proofs.Common.{slice_set}
 use Rattle.std.specs.{List.range_with_len, List.sum_by, Int.div_ceil}
 use Rattle.std.proofs.Math.Nat.{mul_comm}
 use Rattle.std.proofs.lemmas.{List.Sums.sum_by-cons, Nat.mul-le, List.FromFn.get_or-map-range_with_len}
@@ -9,12 +9,10 @@ use Rattle.std.proofs.lemmas.Bool.{cases_lt, true≢false, lt-ltb, le-ltb, le-le
 use Rattle.std.proofs.lemmas.Bool.{cases_eq}
 use Rattle.std.proofs.lemmas.List.{get_or-set_other, get_or-set_same, get_or_past}
 use Rattle.ffs_volume.specs.declared.{Layout.Layout, Step.Step}
-use Rattle.ffs_volume.specs.declared.Step.TheVariants.{Run, Tail, Gap}
 use Rattle.ffs_volume.specs.{Laws.Geometry.IsAcceptedLayout, Groups.Records.group_size, Report.Whole.claimed_count}
-use Rattle.ffs_volume.specs.Blocks.Claims.{is_set, Claims, is_open, no_claims, reserved_map, after_offer, after_offers}
+use Rattle.ffs_volume.specs.Blocks.Claims.{is_set, Claims, no_claims, reserved_map, after_offer, after_offers}
 use Rattle.ffs_volume.specs.Blocks.Claims.{after_run, after_step, after_steps, after_owner, after_owners}
 use Rattle.ffs_volume.specs.Disk.Areas.{cgbase, cgstart, cgsblock, cgdmin, is_group_metadata, is_reserved}
-use Rattle.ffs_volume.specs.Disk.Areas.{is_fragment_in_range, is_run_in_range}
 use Rattle.ffs_volume.specs.Blocks.Owners.{Owner, owners_of}
 use Rattle.ffs_volume.proofs.Potentials.{cond_holds}
 use Rattle.ffs_volume.proofs.AreaLaws.{is_in_metadata_of, is_metadata_of_group, group_is}

@@ -1,14 +1,12 @@
-use Rattle.std.proofs.Common.{◌≡◌, ◌≤◌, ◌∙◌, ◌-◌, arith, ap, false, length, List, map, refl, rules, slice_index, sym}
-use Rattle.std.proofs.Common.{ℕ, SFits}
-use Rattle.std.specs.Int.{w16}
+use Rattle.std.proofs.Common.{◌≡◌, ◌≤◌, ◌∙◌, arith, ap, length, List, map, rules, sym}
 use Rattle.std.proofs.lemmas.{List.length-map, Result.err_from_is_err_and}
-use Rattle.ffs_volume.specs.Directories.{PathnameCheck.attributes_of, ReferenceCheck.reference_lines_at}
-use Rattle.ffs_volume.specs.{Directories.Volumes.volume_of, Encodings.Links.links_start}
+use Rattle.ffs_volume.specs.Directories.{ReferenceCheck.reference_lines_at}
+use Rattle.ffs_volume.specs.{Directories.Volumes.volume_of}
 use Rattle.ffs_volume.specs.Messages.Kinds.{TreeMessage, of_tree}
 use Rattle.ffs_report.specs.Known.{ForBytes}
 use Rattle.ffs_report.proofs.Paying.{paid_none, paid_reads, paid_says, paid_stops}
 use Rattle.ffs_report.proofs.Reporting.{reads_first, says_all, says_none, stops_all}
-use Rattle.ffs_workspace.specs.{Found.WithFindings, Holds.bool_at, Ready.StaysReady}
+use Rattle.ffs_workspace.specs.{Found.WithFindings, Ready.StaysReady}
 use Rattle.ffs_workspace.proofs.Readiness.{ready_table}
 use Rattle.ffs_counts.specs.References.{lines_as}
 use Rattle.ffs_counts.proofs.Holding.{inode_lines_are, item_at, met_lines, same_reported, some_lines, unmet_line}

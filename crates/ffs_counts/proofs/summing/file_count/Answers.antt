@@ -1,5 +1,4 @@
-use Rattle.std.proofs.Common.{arith, ap, ◌∙◌, ◌≡◌, ◌+◌, ◌-◌, length, count_by}
-use Rattle.std.specs.List.{range_with_len}
+use Rattle.std.proofs.Common.{arith, ap, ◌∙◌, ◌≡◌, ◌+◌, ◌-◌, length}
 use Rattle.ffs_volume.specs.Blocks.Inodes.{is_file_or_dir}
 use Rattle.ffs_groups.specs.Inodes.{class_in}
 use Rattle.ffs_groups.proofs.Sums.{count_more, count_fits}

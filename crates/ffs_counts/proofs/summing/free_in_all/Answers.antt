@@ -1,8 +1,7 @@
-use Rattle.std.proofs.Common.{◌≡◌, of_z, to_z, ℕ, ℤ, pos, ◌+ℤ◌, ◌*ℤ◌, ◌*◌, ◌≤◌, mul-le-mul, ◌∙◌, arith, w8, w32, w64}
+use Rattle.std.proofs.Common.{ℕ, ℤ, pos, ◌+ℤ◌, ◌*ℤ◌, ◌*◌, ◌≤◌, mul-le-mul, arith, w8, w32, w64}
 use Rattle.std.proofs.Common.{Fits, SFits, unsigned_abs}
 use Rattle.std.proofs.lemmas.Int.{ints, to_z-of_z, fits_signed_from_abs, unsigned_abs-mul}
 use Rattle.ffs_counts.proofs.summing.free_in_all.Goals as goal
-use Rattle.ffs_counts.proofs.summing.free_in_all.Goals.{After-from-3}
 
 blocks_most : (frag : ℕ) (blocks : ℤ) → Fits w8 frag → SFits w32 blocks →
     unsigned_abs (pos frag *ℤ blocks) ≤ 255 * 2147483648
@@ -19,17 +18,11 @@ all_fit : (frags : ℤ) (frag : ℕ) (blocks : ℤ) → SFits w32 frags → Fits
     SFits w64 (frags +ℤ pos frag *ℤ blocks)
 all_fit frags frag blocks a f b = sum_fits frags (pos frag *ℤ blocks) a (blocks_most frag blocks f b)
 
--- the numbers as wide ones
-wide : (c : After-from-3) → (to_z w64 (of_z w64 c.from.result) ≡ c.args.frags)
-    × (to_z w64 (of_z w64 c.from-2.result) ≡ pos c.args.frag)
-    × (to_z w64 (of_z w64 c.from-3.result) ≡ c.args.blocks)
-wide c = grind (arith, to_z-of_z)
-
 pub overflow_mul-result : goal.overflow_mul-result
-overflow_mul-result c = grind (arith, wide, blocks_fit)
+overflow_mul-result c = grind (arith, to_z-of_z, blocks_fit)
 
 pub overflow_add-result : goal.overflow_add-result
-overflow_add-result c = grind (arith, wide, to_z-of_z, blocks_fit, all_fit)
+overflow_add-result c = grind (arith, to_z-of_z, blocks_fit, all_fit)
 
 pub returns : goal.returns
-returns c = grind (arith, wide, to_z-of_z, blocks_fit, all_fit)
+returns c = grind (arith, to_z-of_z, blocks_fit, all_fit)
