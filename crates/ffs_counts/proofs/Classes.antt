@@ -1,14 +1,14 @@
 -- The lines of groups, and the number of files, by kinds of inodes in place of their classes.
+use Rattle.std.proofs.Common.{arith}
 use Rattle.std.proofs.Common.{◌≡◌, ℕ, ◌+◌, ◌-◌, ◌*◌, ℤ, Bool, true, false, ◌&&◌, ◌||◌, ◌==◌, not, nat_le, nat_lt, List}
-use Rattle.std.proofs.Common.{◌++◌, refl, ap, ◌∙◌, sym, slice_index, count_by}
+use Rattle.std.proofs.Common.{◌++◌, refl, ap, ◌∙◌, slice_index, count_by}
 use Rattle.std.specs.List.{range_with_len, flat_map, sum_by}
 use Rattle.std.proofs.Math.Path.{fun_ext}
-use Rattle.std.proofs.lemmas.Bool.{true≢false}
 use Rattle.ffs_volume.specs.declared.{Layout.Layout, Inode.Inode, Class.Class, BlockMessage.BlockMessage}
 use Rattle.ffs_volume.specs.declared.{BlockMessage.TheVariants.FreeCounts}
 use Rattle.ffs_volume.specs.declared.Class.TheVariants.{Free, Partial, Unknown, File, Dir}
 use Rattle.ffs_volume.specs.{Directories.Volumes.class_at, Disk.Areas.cgbase, Report.Whole.file_count}
-use Rattle.ffs_volume.specs.Blocks.Inodes.{is_file_or_dir, is_directory, is_allocated, inode_of}
+use Rattle.ffs_volume.specs.Blocks.Inodes.{is_file_or_dir, is_directory, is_allocated}
 use Rattle.ffs_volume.specs.Disk.Numbers.{all_below, u32_at}
 use Rattle.ffs_volume.specs.Encodings.Kinds.{kind_at, kind_of, class_of_kind}
 use Rattle.ffs_volume.specs.Groups.GroupCheck.{group_lines, reported_once, unreported, unless, phase5_lines}
@@ -29,23 +29,12 @@ is_part Dir = false
 
 of_part : {T : Type 0} (test : Class → T) → test Free ≡ test Partial → (c : Class) (i : Inode) → is_part c ≡ true →
     test (class_of_kind (kind_of c i)) ≡ test c
-of_part test e Partial i p = e
-of_part test e Free i p = absurd (true≢false (sym p))
-of_part test e Unknown i p = absurd (true≢false (sym p))
-of_part test e File i p = absurd (true≢false (sym p))
-of_part test e Dir i p = absurd (true≢false (sym p))
+of_part test p1 c i p2 = grind arith
 
 pub same_test : {T : Type 0} (test : Class → T) → test Free ≡ test Partial → (v : Layout) (image : List ℕ) (x : ℕ) →
     test (class_of_kind (kind_at v image x)) ≡ test (class_at v image x)
 unfolding kind_at
-same_test test e v image x = go (is_part (class_at v image x)) refl (λ p. ap test (class_is v image x p))
-  where
-    go : (b : Bool) → is_part (class_at v image x) ≡ b →
-        ((class_at v image x ≡ Partial → ⊥) → test (class_of_kind (kind_of (class_at v image x) (inode_of v image x)))
-        ≡ test (class_at v image x)) →
-        test (class_of_kind (kind_of (class_at v image x) (inode_of v image x))) ≡ test (class_at v image x)
-    go true p other = of_part test e (class_at v image x) (inode_of v image x) p
-    go false p other = other (λ q. true≢false (sym (ap is_part q) ∙ p))
+same_test test e v image x = grind (arith, class_is, of_part)
 
 module _ (v : Layout) (free : ℕ → Bool) (a b : ℕ → Class) (d : is_dir_inode a ≡ is_dir_inode b)
     (u : is_used_inode a ≡ is_used_inode b) where

@@ -25,15 +25,7 @@ use Rattle.ffs_counts.proofs.Classes.{by_kinds}
 once_append : (t : AlreadyReported) (xs ys : List BlockMessage) → reported_once t (xs ++ ys) ≡ reported_once t xs
     ++ reported_once (reported_after t xs) ys
 once_append t [] ys = refl
-once_append t (m ∷ xs) ys = go (is_reported t m) refl (once_append t xs ys) (once_append (note_reported t m) xs ys)
-  where
-    go : (b : Bool) → is_reported t m ≡ b → reported_once t (xs ++ ys) ≡ reported_once t xs
-        ++ reported_once (reported_after t xs) ys →
-        reported_once (note_reported t m) (xs ++ ys) ≡ reported_once (note_reported t m) xs
-        ++ reported_once (reported_after (note_reported t m) xs) ys →
-        reported_once t ((m ∷ xs) ++ ys) ≡ reported_once t (m ∷ xs) ++ reported_once (reported_after t (m ∷ xs)) ys
-    go true e same other = rw e same
-    go false e same other = rw e (ap (λ (zs : List BlockMessage). m ∷ zs) other)
+once_append t (m ∷ xs) ys = grind (arith, once_append t xs ys, once_append (note_reported t m) xs ys)
 
 -- ---- what is said of messages that are reported once
 abbrev sifted : AlreadyReported → List BlockMessage → List Message
@@ -41,10 +33,7 @@ sifted t ms = map of_blocks (reported_once t ms)
 
 sifted_append : (t t' : AlreadyReported) (xs ys : List BlockMessage) → t' ≡ reported_after t xs →
     sifted t (xs ++ ys) ≡ sifted t xs ++ sifted t' ys
-sifted_append t t' xs ys e =
-    ap (λ (ms : List BlockMessage). map of_blocks ms) (once_append t xs ys)
-    ∙ map-append of_blocks (reported_once t xs) (reported_once (reported_after t xs) ys)
-    ∙ ap (λ (u : AlreadyReported). sifted t xs ++ sifted u ys) (sym e)
+sifted_append t t' xs ys e = grind (arith, once_append, map-append)
 
 pub stops_within : (t : AlreadyReported) (xs ys : List BlockMessage) (a b : Progress) → Stopped a b (sifted t xs) →
     Stopped a b (sifted t (xs ++ ys))
@@ -113,23 +102,12 @@ groups_end v totals w image t c right low f =
 -- ---- the totals
 next_sum : (f : ℕ → ℕ) (n old new : ℕ) → old ≡ sum_by f (range_with_len 0 n) → new ≡ old + f n →
     new ≡ sum_by f (range_with_len 0 (n + 1))
-next_sum f n old new e g =
-    let at : f (0 + n) ≡ f n = let z : 0 + n ≡ n = omega arith in ap f z in
-    omega (arith, e, g, at, sum_more f 0 n)
+next_sum f n old new e g = grind (arith, sum_more)
 
 pub totals_next : (v : Layout) (free : ℕ → Bool) (class : ℕ → Class) (n : ℕ) (old new : Totals) (s : SummaryCounts) →
     AreTotals v free class n old →
     new ≡ with_counts old s → group_counts_of s ≡ right_group_counts v free class n → AreTotals v free class (n + 1) new
-totals_next v free class n old new s a e right = record {
-  dirs = next_sum (λ c. (right_group_counts v free class c).dirs) n old.dirs new.dirs a.dirs
-      (ap (λ t. t.dirs) e ∙ ap (λ (r : GroupCounts). old.dirs + r.dirs) right);
-  blocks = next_sum (λ c. (right_group_counts v free class c).blocks) n old.blocks new.blocks a.blocks
-      (ap (λ t. t.blocks) e ∙ ap (λ (r : GroupCounts). old.blocks + r.blocks) right);
-  inodes = next_sum (λ c. (right_group_counts v free class c).inodes) n old.inodes new.inodes a.inodes
-      (ap (λ t. t.inodes) e ∙ ap (λ (r : GroupCounts). old.inodes + r.inodes) right);
-  fragments = next_sum (λ c. (right_group_counts v free class c).fragments) n old.fragments new.fragments a.fragments
-      (ap (λ t. t.fragments) e ∙ ap (λ (r : GroupCounts). old.fragments + r.fragments) right);
-}
+totals_next v free class n old new s a e right = grind (arith, next_sum)
 
 pub totals_right : (v : Layout) (free : ℕ → Bool) (class : ℕ → Class) (totals : List ℤ) (n : ℕ) (t : Totals) →
     AreTotals v free class n t → n ≡ v.ncg →
@@ -142,16 +120,9 @@ pub counts_held : (v : Layout) (old new : Workspace) (kinds : List ℕ) (c : ℕ
     new ≡ record old { windows = new.windows } → kinds ≡ new.kinds.items →
     counts ≡ right_group_counts v (free_in (bits_of new.used) v.size) (class_in kinds) c →
     counts ≡ right_group_counts v (free_in (bits_of old.used) v.size) (class_in old.kinds.items) c
-counts_held v old new kinds c counts e same is =
-    is ∙ ap (λ (ks : List ℕ). right_group_counts v (free_in (bits_of new.used) v.size) (class_in ks) c) same
-    ∙ ap (λ (w : Workspace). right_group_counts v (free_in (bits_of w.used) v.size) (class_in w.kinds.items) c) e
+counts_held v old new kinds c counts e same is = grind arith
 
 -- one more count of below 2^32 was added to each
 pub up_next : (n : ℕ) (old new : Totals) (s : SummaryCounts) → AreUpTo n old → new ≡ with_counts old s →
     s.dirs < 2 ^ 32 → s.blocks < 2 ^ 32 → s.inodes < 2 ^ 32 → s.fragments < 2 ^ 32 → AreUpTo (n + 1) new
-up_next n old new s up e d b i f = rw e (record {
-  dirs = omega (arith, up.dirs);
-  blocks = omega (arith, up.blocks);
-  inodes = omega (arith, up.inodes);
-  fragments = omega (arith, up.fragments);
-})
+up_next n old new s up e d b i f = grind arith

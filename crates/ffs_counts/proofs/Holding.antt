@@ -1,6 +1,6 @@
 -- What a workspace holds where only its windows have changed, and the lines of an inode by it.
-use Rattle.std.proofs.Common.{◌≡◌, ℕ, ℤ, pos, negsuc, zero, suc, ◌+◌, ◌-◌, ◌<◌, ◌≤◌, ◌^◌, Bool, true, false, List, []}
-use Rattle.std.proofs.Common.{◌∷◌, ◌++◌, ◌&&◌, ◌||◌, ◌==◌, not, nat_le, nat_lt, if◌then◌else◌, inl, inr, length, map}
+use Rattle.std.proofs.Common.{◌≡◌, ℕ, ℤ, pos, zero, suc, ◌+◌, ◌-◌, ◌<◌, ◌≤◌, ◌^◌, Bool, true, false, List, []}
+use Rattle.std.proofs.Common.{◌&&◌, ◌||◌, ◌==◌, not, if◌then◌else◌, length, map}
 use Rattle.std.proofs.Common.{refl, ap, ◌∙◌, sym, slice_index, vec_len, arith, SFits}
 use Rattle.std.specs.{List.slice_index_or, Int.w16, Int.cast_signed}
 use Rattle.std.specs.declared.{alloc.Global.Global, vec.Vec.Vec}
@@ -13,12 +13,11 @@ use Rattle.ffs_volume.specs.{Directories.Connectivity.is_dead, Encodings.Links.l
 use Rattle.ffs_volume.specs.Blocks.Inodes.{inode_of, inode_from_bytes, is_allocated}
 use Rattle.ffs_volume.specs.Directories.PathnameCheck.{attributes, attributes_of, label_of}
 use Rattle.ffs_volume.specs.Directories.ReferenceCheck.{inode_lines, reference_lines, reference_lines_at}
-use Rattle.ffs_volume.specs.Directories.Roles.{is_allocated_inode, is_inode, is_suspect, references}
+use Rattle.ffs_volume.specs.Directories.Roles.{is_allocated_inode, is_inode, references}
 use Rattle.ffs_volume.specs.Directories.Volumes.{class_at, marked_at, volume_of, volume_with}
-use Rattle.ffs_volume.specs.Disk.Numbers.{equals_natural, i16_at, is_nonnegative, zero_if_negative}
-use Rattle.ffs_volume.specs.Encodings.Kinds.{kind_at, class_of_kind, is_allocated_kind, is_dir_kind, is_empty_dir_kind}
-use Rattle.ffs_volume.specs.Messages.Kinds.{Message, TreeMessage, of_tree, lines_from, reported, unref, unref_zero}
-use Rattle.ffs_volume.specs.Messages.Kinds.{link_count}
+use Rattle.ffs_volume.specs.Disk.Numbers.{equals_natural, i16_at}
+use Rattle.ffs_volume.specs.Encodings.Kinds.{kind_at, class_of_kind, is_empty_dir_kind}
+use Rattle.ffs_volume.specs.Messages.Kinds.{Message, TreeMessage, of_tree, lines_from}
 use Rattle.ffs_volume.proofs.{LinkLaws.AreMet, LinkLaws.links_met, Numbered.all_from}
 use Rattle.ffs_workspace.specs.declared.workspace.Workspace.{Workspace}
 use Rattle.ffs_workspace.specs.{Lengths.inodes_of, Holds.HoldsClaims, Holds.HoldsFindings, Holds.bool_at}
@@ -38,16 +37,11 @@ item_at list i n x d e low len = get_or_read list.items i x (omega (arith, list.
 -- whether an inode is allocated, by the kind that a workspace holds
 kind_tests : (free unknown dir : Bool) →
     is_allocated (if free then Free else (if unknown then Unknown else (if dir then Dir else File))) ≡ not free
-kind_tests true unknown dir = refl
-kind_tests false true dir = refl
-kind_tests false false true = refl
-kind_tests false false false = refl
+kind_tests free unknown dir = grind arith
 
 allocated_is : (v : Layout) (b : List ℕ) (w : Workspace) (i : ℕ) → HoldsClaims v b w →
     is_allocated_inode (volume_of v b) i ≡ is_allocated (class_of_kind (slice_index w.kinds.items i))
-allocated_is v b w i h =
-    let k = slice_index w.kinds.items i in
-    some_is v b i ∙ ap is_allocated_kind (sym (h.kinds i)) ∙ sym (kind_tests (k == 0) (k == 15) (is_dir_kind k))
+allocated_is v b w i h = grind (arith, some_is, kind_tests)
 
 pub no_lines : (v : Layout) (b : List ℕ) (w : Workspace) (i : ℕ) → HoldsClaims v b w →
     is_allocated (class_of_kind (slice_index w.kinds.items i)) ≡ false → reference_lines_at (volume_of v b) i ≡ []
@@ -71,8 +65,7 @@ start_used v b w i h used =
 references_are : (v : Layout) (b : List ℕ) (w : Workspace) (i : ℕ) → i < inodes_of v → HoldsFindings v b w →
     is_allocated (class_of_kind (slice_index w.kinds.items i)) ≡ true →
     slice_index w.references.items i ≡ links_start (inode_of v b i).nlink + references (volume_of v b) i
-references_are v b w i low h used = h.references.counts i low
-    ∙ ap (λ (n : ℕ). n + references (volume_of v b) i) (start_used v b w i h.claims used)
+references_are v b w i low h used = grind (arith, start_used)
 
 pub inode_lines_are : (v : Layout) (b : List ℕ) (w : Workspace) (i : ℕ) (inode : Inode) (dead : Bool) (r : ℕ) →
     i < inodes_of v
@@ -85,29 +78,17 @@ unfolding inode_lines attributes volume_of volume_with
 inode_lines_are v b w i inode dead r low f used is e refs =
     let h = f.claims in
     let suspect : (bool_at w.marked.items i || is_empty_dir_kind (slice_index w.kinds.items i))
-    ≡ (marked_at v b i || is_empty_dir_kind (kind_at v b i)) =
-    ap (λ m. m || is_empty_dir_kind (slice_index w.kinds.items i)) (h.marked i)
-    ∙ ap (λ k. marked_at v b i || is_empty_dir_kind k) (h.kinds i) in
-    let is_dead_is : dead ≡ is_dead (volume_of v b) i = e
-    ∙ ap (λ t. t && (not (i == 2) && not (bool_at w.named.items i))) (suspect ∙ sym (suspect_is v b i))
-    ∙ ap (λ n. is_suspect (volume_of v b) i && (not (i == 2) && not n)) (f.survey.named i low) in
+    ≡ (marked_at v b i || is_empty_dir_kind (kind_at v b i)) = grind arith in
+    let is_dead_is : dead ≡ is_dead (volume_of v b) i = grind (arith, suspect_is) in
     let label : label_of (class_of_kind (slice_index w.kinds.items i)) ≡ label_of (class_at v b i) =
     ap (λ k. label_of (class_of_kind k)) (h.kinds i) ∙ same_test label_of refl v b i in
-    let counted = references_are v b w i low f used in
-    let start : links_start inode.nlink ≡ links_start (inode_of v b i).nlink = ap (λ (x : Inode). links_start x.nlink)
-    is
-    in
-    let right : r ≡ references (volume_of v b) i = omega (arith, refs, counted, start) in
-    rw (is_dead_is, h.marked i, label, is, right) refl
+    grind (arith, references_are)
 
 -- free inodes have no lines: those of the numbers from d on are those of the numbers after them
 skip_none : (lines : ℕ → List TreeMessage) (k d n : ℕ) → ((j : ℕ) → j < k → lines (d + j) ≡ []) →
     lines_from lines d (k + n) ≡ lines_from lines (d + k) n
 unfolding lines_from
-skip_none lines zero d n none =
-    let q : d ≡ d + 0 = omega arith in
-    let z : 0 + n ≡ n = omega arith in
-    ap (lines_from lines d) z ∙ ap (λ (e : ℕ). lines_from lines e n) q
+skip_none lines zero d n none = grind arith
 skip_none lines (suc k) d n none =
     let z : d ≡ d + 0 = omega arith in
     let first : lines d ≡ [] = ap lines z ∙ none 0 (omega arith) in
@@ -115,8 +96,7 @@ skip_none lines (suc k) d n none =
     (λ j h. let q : suc d + j ≡ d + suc j = omega arith in ap lines q ∙ none (suc j) (omega (arith, h))) in
     let at : suc d + k ≡ d + suc k = omega arith in
     let more : suc k + n ≡ suc (k + n) = omega arith in
-    ap (lines_from lines d) more ∙ ap (λ (xs : List TreeMessage). xs ++ lines_from lines (suc d) (k + n)) first ∙ rest
-    ∙ ap (λ (e : ℕ). lines_from lines e n) at
+    grind arith
 
 -- the lines of inodes from one on
 abbrev pub lines_after : Layout → ℕ → List ℕ → List Message
@@ -129,11 +109,7 @@ pub free_lines : (v : Layout) (b : List ℕ) (w : Workspace) (kinds : List ℕ) 
     ≡ map of_tree (lines_from (reference_lines_at (volume_of v b)) (d + k) (n - (d + k)))
 free_lines v b w kinds d k n h e none low =
     let q : n - d ≡ k + (n - (d + k)) = omega (arith, low) in
-    ap (λ (m : ℕ). map of_tree (lines_from (reference_lines_at (volume_of v b)) d m)) q
-    ∙ ap (λ (xs : List TreeMessage). map of_tree xs)
-    (skip_none (reference_lines_at (volume_of v b)) k d (n - (d + k))
-    (λ j l. no_lines v b w (d + j) h
-    (ap (λ (ks : List ℕ). is_allocated (class_of_kind (slice_index ks (d + j)))) (sym e) ∙ none j l)))
+    grind (arith, skip_none, no_lines)
 
 pub same_reported : (dead m m' : Bool) (k k' : ℕ) (attr : Attr) (nlink : ℤ) (r r' : ℕ) → m ≡ m' → k ≡ k' → r ≡ r' →
     reference_reported dead m' (label_of (class_of_kind k')) attr nlink r'
@@ -142,8 +118,7 @@ same_reported dead m m' k k' attr nlink r r' e f g = rw (e, f, g) refl
 
 pub lines_begin : (v : Layout) (b : List ℕ) → map of_tree (reference_lines (volume_of v b)) ≡ lines_after v 0 b
 unfolding reference_lines volume_of volume_with
-lines_begin v b = ap (λ (ls : List TreeMessage). map of_tree ls)
-    (all_from (reference_lines_at (volume_of v b)) (inodes_of v))
+lines_begin v b = grind (arith, all_from)
 
 -- where each link has its reference, nothing is reported
 pub met_lines : (v : Layout) (b : List ℕ) (w : Workspace) (i : ℕ) → i < inodes_of v → HoldsFindings v b w →
@@ -171,14 +146,7 @@ met_lines v b w i low f used met =
 -- ---- an inode that is dead, or has other references than links
 -- a signed number of two bytes is below 2^15
 signed_small : (k n : ℕ) → cast_signed w16 k ≡ pos n → n < 2 ^ 15
-signed_small k n e = elim (cases_lt k (2 ^ 15)) [
-  | inl low ↦
-      let is : cast_signed w16 k ≡ pos k = to_z_pos w16 k low in
-      let same : n ≡ k = ap zero_if_negative (sym e ∙ is) in
-      omega (arith, same, low)
-  | inr high ↦ let no : nat_lt k (2 ^ 15) ≡ false = grind (high, arith, nat_tests) in
-      let sign : false ≡ true = ap is_nonnegative (rw no at e) in absurd (cc)
-]
+signed_small k n e = grind (arith, cases_lt, to_z_pos, nat_tests)
 
 -- so is a count of links
 links_small : (v : Layout) (b : List ℕ) (i n : ℕ) → (inode_of v b i).nlink ≡ pos n → n < 2 ^ 15
@@ -188,36 +156,13 @@ links_small v b i n e = signed_small _ n e
 -- there are other references than links, where their count isn't that of all links
 unequal : (links : ℤ) (r : ℕ) → ((n : ℕ) → links ≡ pos n → n < 2 ^ 15) →
     ((links_start links + r) == LINKS_MET) ≡ false → (r == 0) ≡ false → equals_natural links r ≡ false
-unequal (negsuc n) r small unmet some = refl
-unequal (pos n) r small unmet some = go (n == r) refl
-  where
-    go : (b : Bool) → (n == r) ≡ b → (n == r) ≡ false
-    go false e = e
-    go true e =
-        let same = eqb-true n r e in
-        let high = small n refl in
-        let low : 0 < n = grind (some, same, arith, nat_tests) in
-        let a : nat_lt 0 n ≡ true = grind (low, arith, nat_tests) in
-        let c : nat_le n LINKS_MET ≡ true = grind (high, arith, nat_tests) in
-        let met : links_start (pos n) + r ≡ LINKS_MET = rw (a, c) (omega (arith, same, high)) in
-        let is : (links_start (pos n) + r == LINKS_MET) ≡ true = eq-eqb (links_start (pos n) + r) LINKS_MET met in
-        let no : true ≡ false = sym is ∙ unmet in absurd (cc)
+unequal links r p1 p2 p3 = grind (arith, eqb-true, nat_tests, eq-eqb)
 
 -- the one line
 one_reported : (dead m : Bool) (label : Label) (attr : Attr) (nlink : ℤ) (r : ℕ) →
     (dead ≡ false → (r == 0) ≡ false → equals_natural nlink r ≡ false) →
     length (reference_reported dead m label attr nlink r) ≡ 1
-one_reported true true label attr nlink r apart = refl
-one_reported true false label attr nlink r apart = refl
-one_reported false m label attr nlink r apart =
-    go (r == 0) (equals_natural nlink 0) (equals_natural nlink r) (apart refl)
-  where
-    go : (none unlinked same : Bool) → (none ≡ false → same ≡ false) →
-        length (if none then (if unlinked then unref_zero label attr ∷ [] else unref label attr ∷ [])
-        else reported (not same) (link_count label attr nlink r)) ≡ 1
-    go true true same h = refl
-    go true false same h = refl
-    go false unlinked same h = rw (h refl) refl
+one_reported dead m label attr nlink r p1 = grind arith
 
 open_test : (a d : Bool) → (a && not d) ≡ false → d ≡ false → a ≡ false
 open_test false d e alive = refl
@@ -250,12 +195,4 @@ pub unmet_reported : (w : Workspace) (i : ℕ) (m : Bool) (label : Label) (attr 
     r ≡ count - links_start nlink → SFits w16 nlink →
     length (reference_reported dead m label attr nlink r) ≡ 1
 unmet_reported w i m label attr nlink dead count r unmet ed ec er fits =
-    one_reported dead m label attr nlink r
-    (λ alive some. unequal nlink r (λ n. fits_small nlink n fits)
-    (ap (λ n. n == LINKS_MET) (rest some ∙ ec)
-    ∙ open_test (slice_index w.references.items i == LINKS_MET) (is_dead_by w i) unmet (sym ed ∙ alive)) some)
-  where
-    rest : (r == 0) ≡ false → links_start nlink + r ≡ count
-    rest some =
-        let high : 0 < r = grind (some, arith, nat_tests) in
-        omega (arith, er, high)
+    grind (arith, one_reported, unequal, fits_small, nat_tests)

@@ -1,7 +1,7 @@
 -- How many fragments are reserved and how many claimed, by a map that has the reserved ones.
 use Rattle.std.proofs.Common.{◌≡◌, ◌⊎◌, inl, inr, ℕ, zero, suc, ◌+◌, ◌-◌, ◌*◌, ◌<◌, ◌≤◌, Bool, true, false, cond, not}
 use Rattle.std.proofs.Common.{◌&&◌, ◌||◌, nat_lt, nat_le, List, count_by, min, arith, refl, ap, ◌∙◌, sym, [], ◌∷◌}
-use Rattle.std.proofs.Common.{subst, length, get_or, slice_set, ◌==◌}
+use Rattle.std.proofs.Common.{slice_set}
 use Rattle.std.specs.{List.range_with_len, List.sum_by, Int.div_ceil}
 use Rattle.std.proofs.Math.Nat.{mul_comm}
 use Rattle.std.proofs.lemmas.{List.Sums.sum_by-cons, Nat.mul-le, List.FromFn.get_or-map-range_with_len}
@@ -9,12 +9,10 @@ use Rattle.std.proofs.lemmas.Bool.{cases_lt, true≢false, lt-ltb, le-ltb, le-le
 use Rattle.std.proofs.lemmas.Bool.{cases_eq}
 use Rattle.std.proofs.lemmas.List.{get_or-set_other, get_or-set_same, get_or_past}
 use Rattle.ffs_volume.specs.declared.{Layout.Layout, Step.Step}
-use Rattle.ffs_volume.specs.declared.Step.TheVariants.{Run, Tail, Gap}
 use Rattle.ffs_volume.specs.{Laws.Geometry.IsAcceptedLayout, Groups.Records.group_size, Report.Whole.claimed_count}
-use Rattle.ffs_volume.specs.Blocks.Claims.{is_set, Claims, is_open, no_claims, reserved_map, after_offer, after_offers}
+use Rattle.ffs_volume.specs.Blocks.Claims.{is_set, Claims, no_claims, reserved_map, after_offer, after_offers}
 use Rattle.ffs_volume.specs.Blocks.Claims.{after_run, after_step, after_steps, after_owner, after_owners}
 use Rattle.ffs_volume.specs.Disk.Areas.{cgbase, cgstart, cgsblock, cgdmin, is_group_metadata, is_reserved}
-use Rattle.ffs_volume.specs.Disk.Areas.{is_fragment_in_range, is_run_in_range}
 use Rattle.ffs_volume.specs.Blocks.Owners.{Owner, owners_of}
 use Rattle.ffs_volume.proofs.Potentials.{cond_holds}
 use Rattle.ffs_volume.proofs.AreaLaws.{is_in_metadata_of, is_metadata_of_group, group_is}
@@ -24,15 +22,10 @@ use Rattle.ffs_counts.specs.Reserved.{HasReserved, claimed_in}
 
 -- ---- which fragments are reserved
 any_of : (a b k : Bool) → (a ≡ true) ⊎ (b ≡ true) → ((a || b) || k) ≡ true
-any_of true b k h = refl
-any_of false true k h = refl
-any_of false false k (inl e) = absurd (true≢false (sym e))
-any_of false false k (inr e) = absurd (true≢false (sym e))
+any_of a b k p1 = grind arith
 
 last_length_of : (a b : Bool) → ((a || b) || true) ≡ true
-last_length_of true b = refl
-last_length_of false true = refl
-last_length_of false false = refl
+last_length_of a b = grind arith
 
 none_of : (a b k : Bool) → a ≡ false → b ≡ false → k ≡ false → ((a || b) || k) ≡ false
 none_of a b k e f g = rw (e, f, g) refl
@@ -41,15 +34,11 @@ none_of a b k e f g = rw (e, f, g) refl
 first_reserved : (v : Layout) (f : ℕ) → IsAcceptedLayout v → f < v.csaddr + div_ceil v.cssize v.fsize → is_reserved v f
     ≡ true
 unfolding is_reserved
-first_reserved v f g h = elim (cases_lt f v.csaddr) [
-  | inl low ↦ any_of _ _ (is_group_metadata v f) (inl (lt-ltb f (cgdmin v 0) (omega (arith, low, g.summary.csaddr))))
-  | inr past ↦ any_of _ _ (is_group_metadata v f) (inr (and_from _ _ (le-leb v.csaddr f past) (lt-ltb f _ h)))
-]
+first_reserved v f g h = grind (arith, cases_lt, any_of, lt-ltb, and_from, le-leb)
 
 metadata_in : (v : Layout) (c f : ℕ) → IsAcceptedLayout v → cgbase v c ≤ f → f < cgbase v (c + 1) →
     is_group_metadata v f ≡ (nat_lt c v.ncg && is_in_metadata_of v c f)
-metadata_in v c f g low high =
-    is_metadata_of_group v f g ∙ ap (λ j. nat_lt j v.ncg && is_in_metadata_of v j f) (group_is v c f low high)
+metadata_in v c f g low high = grind (arith, is_metadata_of_group, group_is)
 
 pub base_zero : (v : Layout) → cgbase v 0 ≡ 0
 unfolding cgbase
@@ -120,9 +109,7 @@ reserved_first v start end g is within order =
     let before_ = all_reserved v 0 (start - 0) (λ k h. first_reserved v (0 + k) g (omega (arith, is, h))) in
     let rest = none_reserved v start (end - start)
     (λ k h. first_free v (start + k) g (omega (arith, is)) (omega (arith, h, within))) in
-    let whole = count_join_at (is_reserved v) 0 start end (end - start) (start - 0) 0 (omega arith)
-    (omega (arith, order)) before_ rest in
-    omega (arith, whole)
+    grind (arith, count_join_at)
 
 reserved_other : (v : Layout) (c end : ℕ) → IsAcceptedLayout v → c < v.ncg → 1 ≤ c → end ≤ cgbase v (c + 1) →
     cgdmin v c ≤ end →
@@ -142,19 +129,12 @@ reserved_other v c end g h some within order =
     (inr (omega arith))) in
     let first = count_join_at (is_reserved v) (cgbase v c) (cgsblock v c) (cgdmin v c) kept 0 kept up
     (omega (arith, low)) under own in
-    let whole = count_join_at (is_reserved v) (cgbase v c) (cgdmin v c) end (end - cgdmin v c) (0 + kept) 0
-    (omega (arith, up, low)) (omega (arith, order)) first past in
-    omega (arith, whole)
+    grind (arith, count_join_at)
 
 -- ---- the groups one after the other
 pub base_within : (v : Layout) (c : ℕ) → IsAcceptedLayout v → c < v.ncg → min (cgbase v c) v.size ≡ cgbase v c
 unfolding cgbase
-base_within v c g h = omega (
-  arith,
-  g.numbers.size_above,
-  mul-le c v.fpg (v.ncg - 1) v.fpg (omega arith) (omega arith),
-  mul_comm c v.fpg,
-)
+base_within v c g h = grind (arith, mul-le, mul_comm)
 
 pub groups_begin : (v : Layout) → min (cgbase v 0) v.size ≡ 0
 groups_begin v = omega (arith, base_zero v)
@@ -189,26 +169,11 @@ parts_order v c g h = (parts_up v c, omega (arith, g.parts.super_fits, g.parts.b
 pub first_group : (v : Layout) (c n : ℕ) → IsAcceptedLayout v → c < v.ncg → c ≡ 0 →
     n ≡ v.csaddr + div_ceil v.cssize v.fsize →
     n ≡ count_by (is_reserved v) (range_with_len (cgbase v c) (group_size v c))
-first_group v c n g h z is =
-    let next : cgbase v (c + 1) ≡ cgbase v (0 + 1) = ap (λ j. cgbase v (j + 1)) z in
-    let zero_ : cgbase v c ≡ 0 = ap (cgbase v) z ∙ base_zero v in
-    let end = min (cgbase v (c + 1)) v.size in
-    let size : end - 0 ≡ group_size v c = omega (arith, zero_) in
-    reserved_first v n end g is (omega (arith, next))
-    (omega (arith, next, is, g.summary.summary_in_group, g.summary.summary_in_size))
-    ∙ ap (λ j. count_by (is_reserved v) (range_with_len 0 j)) size
-    ∙ ap (λ j. count_by (is_reserved v) (range_with_len j (group_size v c))) (sym zero_)
+first_group v c n g h z is = grind (arith, base_zero, reserved_first)
 
 pub other_group : (v : Layout) (c n : ℕ) → IsAcceptedLayout v → c < v.ncg → (c ≡ 0 → ⊥) →
     n ≡ cgdmin v c - cgsblock v c → n ≡ count_by (is_reserved v) (range_with_len (cgbase v c) (group_size v c))
-other_group v c n g h apart is =
-    let group = g.groups c h in
-    is ∙ reserved_other v c (min (cgbase v (c + 1)) v.size) g h (some c apart) (omega arith)
-    (omega (arith, group.within_group, group.within_size))
-  where
-    some : (c : ℕ) → (c ≡ 0 → ⊥) → 1 ≤ c
-    some zero apart = absurd (apart refl)
-    some (suc c) apart = omega arith
+other_group v c n g h apart is = grind (arith, reserved_other)
 
 -- ---- the claimed ones
 -- where each reserved fragment is set, the set ones are those beside them and the reserved ones
@@ -244,40 +209,20 @@ abbrev Keeps : Claims → Claims → Type 0
 Keeps s t = (f : ℕ) → is_set s.used f ≡ true → is_set t.used f ≡ true
 
 set_kept : (bits : List Bool) (g f : ℕ) → is_set bits f ≡ true → is_set (slice_set bits g true) f ≡ true
-set_kept bits g f h = elim (cases_eq f g) [
-  | inl e ↦ elim (cases_lt f (length bits)) [
-    | inl low ↦ ap (λ j. get_or (slice_set bits g true) j false) e
-        ∙ get_or-set_same bits g true false (omega (arith, e, low))
-    | inr past ↦ absurd (true≢false (sym h ∙ get_or_past bits f false past))
-  ]
-  | inr apart ↦ get_or-set_other bits g f true false apart ∙ h
-]
+set_kept bits g f h = grind (arith, cases_eq, cases_lt, get_or-set_same, get_or_past, get_or-set_other)
 
 offer_keeps : (v : Layout) (s : Claims) (g : ℕ) → Keeps s (after_offer v s g)
-offer_keeps v s g =
-    cond_holds (Keeps s) (nat_lt s.dups 11) _ _
-    (λ _. cond_holds (Keeps s) (is_fragment_in_range v g) _ _
-    (λ _. cond_holds (Keeps s) (is_set s.used g) _ _ (λ _ f h. h) (λ _ f h. set_kept s.used g f h))
-    (λ _ f h. h))
-    (λ _ f h. h)
+offer_keeps v s g = grind (arith, cond_holds, set_kept)
 
 offers_keep : (v : Layout) (s : Claims) (gs : List ℕ) → Keeps s (after_offers v s gs)
 offers_keep v s [] = λ f h. h
 offers_keep v s (g ∷ gs) = λ f h. offers_keep v (after_offer v s g) gs f (offer_keeps v s g f h)
 
 run_keeps : (v : Layout) (s : Claims) (start len : ℕ) → Keeps s (after_run v s start len)
-run_keeps v s start len =
-    cond_holds (Keeps s) (is_run_in_range v start len) _ _
-    (λ _ f h. offers_keep v (record s { runs = s.runs + 1 }) (range_with_len start len) f h)
-    (λ _. cond_holds (Keeps s) (s.bad == 10) _ _
-    (λ _ f h. h)
-    (λ _ f h. offers_keep v (record s { runs = s.runs + 1; bad = s.bad + 1 }) (range_with_len start len) f h))
+run_keeps v s start len = grind (arith, cond_holds, offers_keep)
 
 step_keeps : (v : Layout) (s : Claims) (step : Step) → Keeps s (after_step v s step)
-step_keeps v s (Run start len block) =
-    cond_holds (Keeps s) (is_open s) _ _ (λ _. run_keeps v s start len) (λ _ f h. h)
-step_keeps v s Tail = cond_holds (Keeps s) (is_open s) _ _ (λ _ f h. h) (λ _ f h. h)
-step_keeps v s Gap = λ f h. h
+step_keeps v s step = grind (arith, cond_holds, run_keeps)
 
 steps_keep : (v : Layout) (s : Claims) (steps : List Step) → Keeps s (after_steps v s steps)
 steps_keep v s [] = λ f h. h
@@ -290,14 +235,11 @@ owners_keep v s (o ∷ os) = λ f h. owners_keep v (after_owner v s o) os f (ste
 -- so where nothing else than the claims of some inodes was added, each reserved fragment is used
 has_reserved : (v : Layout) (os : List Owner) → HasReserved v (after_owners v (no_claims v) os).used
 unfolding no_claims reserved_map
-has_reserved v os f low reserved =
-    owners_keep v (no_claims v) os f
-    (get_or-map-range_with_len (is_reserved v) 0 v.size f f false low (omega arith) ∙ reserved)
+has_reserved v os f low reserved = grind (arith, owners_keep, get_or-map-range_with_len)
 
 -- how many fragments are claimed, by the map that a workspace holds
 pub used_are : (v : Layout) (image : List ℕ) (used : List Bool) (n : ℕ) →
     (HasReserved v used → n ≡ claimed_in v used) →
     used ≡ (after_owners v (no_claims v) (owners_of v image)).used → n ≡ claimed_count v image
 unfolding claimed_count
-used_are v image used n e same = e (subst (HasReserved v) (sym same) (has_reserved v (owners_of v image)))
-    ∙ ap (claimed_in v) same
+used_are v image used n e same = grind (arith, has_reserved)

@@ -52,6 +52,7 @@ fn read_summaries<I: Image>(
 ///
 /// # Errors
 /// A read of the image that failed.
+#[tactic(auto, using(crate::proofs::RecordPlaces::block_inside))]
 pub fn read_group<I: Image>(
     geometry: &Geometry,
     image: &mut I,

@@ -38,6 +38,7 @@ fn file_count(kinds: &[u8]) -> u32
 
 /// How many fragments of a group are reserved. They lie together: in the first group all before
 /// the end of the summary area, in another what the group keeps for itself.
+#[tactic(auto, using(crate::proofs::ReservedCount::first_group, crate::proofs::ReservedCount::other_group, crate::proofs::ReservedCount::parts_order))]
 fn reserved_in_group(geometry: &Geometry, group: u32) -> u32
     requires { group < geometry.now.layout.ncg }
     ensures { result ≡ count_by (is_reserved geometry.now.layout)
@@ -51,6 +52,7 @@ fn reserved_in_group(geometry: &Geometry, group: u32) -> u32
 }
 
 /// How many fragments are reserved.
+#[tactic(auto, using(crate::proofs::ReservedCount::groups_begin, crate::proofs::ReservedCount::groups_end, crate::proofs::ReservedCount::group_more, ffs_maps::proofs::Counting::count_within))]
 fn reserved_count(geometry: &Geometry) -> u32
     ensures { result ≡ count_by (is_reserved geometry.now.layout)
         (range_with_len 0 geometry.now.layout.size) }

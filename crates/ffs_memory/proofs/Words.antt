@@ -1,8 +1,7 @@
 -- Words are the same where their parts are, and touching some of them changes none.
-use Rattle.std.proofs.Common.{◌≡◌, ◌<◌, ◌≤◌, ◌-◌, ◌++◌, ℕ, List, arith, get_or, length, replicate}
+use Rattle.std.proofs.Common.{◌≡◌, ◌<◌, ◌≤◌, ◌-◌, ◌++◌, ℕ, List, arith, length, replicate}
 use Rattle.std.proofs.Common.{slice_set, vec_len}
-use Rattle.std.proofs.lemmas.List.{get_or_append_left, length-append, length-replicate, set-append_left}
-use Rattle.std.proofs.lemmas.Grind.{get_or_default_zero}
+use Rattle.std.proofs.lemmas.List.{length-append, length-replicate, set-append_left}
 use Rattle.std.specs.Prelude.{vec_capacity}
 use Rattle.std.specs.Ptr.{Ptr}
 use Rattle.std.specs.Vec.{vec_ptr, with_item}
@@ -13,9 +12,6 @@ use Rattle.ffs_memory.specs.Words.{Words, Touches}
 
 abbrev words : List ℕ → Ptr → ℕ → Words
 words list address room = record { list = list; address = address; room = room }
-
-same_words : (a b : List ℕ) (p q : Ptr) (m n : ℕ) → a ≡ b → p ≡ q → m ≡ n → words a p m ≡ words b q n
-same_words a b p q m n list address room = grind arith
 
 -- so many words, of which these are touched
 abbrev pub seen : Vec ℕ Global → ℕ → Words
@@ -29,11 +25,6 @@ length_seen touched count within = grind (arith, length-append, length-replicate
 pub same_seen : (old new : Vec ℕ Global) (index count : ℕ) (w : Words) → seen old count ≡ w → vec_len old ≤ count →
     index < length w.list → Touches old new index 0 → seen new count ≡ w
 same_seen old new index count w is within inside touches = grind (arith, length_seen, run_on)
-
--- the word at a touched index
-pub get_seen : (touched : Vec ℕ Global) (index word count : ℕ) (w : Words) → seen touched count ≡ w →
-    index < vec_len touched → word ≡ get_or touched.items index word → word ≡ get_or w.list index 0
-get_seen touched index word count w is inside read = grind (arith, get_or_default_zero, get_or_append_left)
 
 -- the word at a touched index is set
 pub set_seen : (touched : Vec ℕ Global) (index word count : ℕ) (w : Words) → seen touched count ≡ w →

@@ -51,6 +51,7 @@ impl<T: Copy> FilledList<T> {
     /// Sets the element at an index. The elements up to it are touched, in the memory that was
     /// taken.
     #[inline(always)]
+    #[tactic(auto, using(crate::proofs::Touched::set_filled, crate::proofs::Touched::same_filled))]
     pub fn set(&mut self, index: usize, value: T)
         requires { index < vec_len self.old }
         ensures { Sets self.old self.new index value }

@@ -79,6 +79,7 @@ impl ZeroedWords {
 
     /// Sets the word at an index. The words up to it are touched, in the memory that was taken.
     #[inline(always)]
+    #[tactic(auto, using(crate::proofs::Words::set_seen, crate::proofs::Words::same_seen))]
     pub fn set(&mut self, index: usize, word: u64)
         requires { index < length self.old.list }
         ensures { self.new ≡ record self.old { list = slice_set self.old.list index word } }

@@ -1,6 +1,5 @@
-use Rattle.std.proofs.Common.{◌≡◌, ◌∷◌, [], ap, map, refl, rules, sym, ◌∙◌, arith, true}
+use Rattle.std.proofs.Common.{◌≡◌, ◌∷◌, [], map, refl, sym, ◌∙◌, arith, true}
 use Rattle.std.proofs.lemmas.Result.{err_from_is_err_and}
-use Rattle.ffs_volume.specs.declared.Attr.{Attr}
 use Rattle.ffs_volume.specs.{Directories.Connectivity.is_unref_dir, Directories.Volumes.volume_of}
 use Rattle.ffs_volume.specs.Messages.Kinds.{of_tree, unref_dir}
 use Rattle.ffs_report.specs.Known.{ForBytes}
@@ -27,9 +26,7 @@ heard_of : (g : given.Over) (c : After-of g) →
     (λ bytes. is_unref_dir (volume_of c.args.geometry.now.layout bytes) c.args.number ≡ true →
     map of_tree (unref_dir_lines (volume_of c.args.geometry.now.layout bytes) c.args.number)
     ≡ of_tree (unref_dir c.of.result) ∷ [])
-heard_of g c bytes k e = heard _ _ e ∙ ap (λ (a : Attr). of_tree (unref_dir a) ∷ [])
-    (attributes_are c.args.geometry.now.layout bytes c.args.number c.in_ok-inode.inode c.of.result
-    (c.in_ok-inode.ensures.reads.inode bytes k.0) c.of.ensures)
+heard_of g c bytes k e = grind (arith, heard, attributes_are)
 
 pub returns-then-not-unref-clause-prints : goal.returns-then-not-unref-clause-prints
 returns-then-not-unref-clause-prints g c =
@@ -37,59 +34,31 @@ returns-then-not-unref-clause-prints g c =
     record { image = refl; text = says_none (λ bytes k. silent _ _ (test bytes k ∙ c.if-not-unref.true)) }
 
 pub returns-in_err-inode-clause-prints : goal.returns-in_err-inode-clause-prints
-returns-in_err-inode-clause-prints g c =
-    let p = err_from_is_err_and c.from_residual.result c.from_residual.ensures.1 in
-    rw (p.1, p.2) (record { image = search rules; text = reads_first })
+returns-in_err-inode-clause-prints g c = grind (arith, err_from_is_err_and, reads_first)
 
 pub returns-in_err-say-clause-prints : goal.returns-in_err-say-clause-prints
-returns-in_err-say-clause-prints g c =
-    let p = err_from_is_err_and c.from_residual-in_err-say.result c.from_residual-in_err-say.ensures.1 in
-    let at = goal.at.returns-in_err-say-clause-prints g c in
-    rw (p.1, p.2) (record {
-      image = search rules;
-      text = stops_all (λ bytes k. heard_of g at.After-of bytes k (tested g at.After-is_unref-unref bytes k
-          ∙ c.if-not-unref.false)) c.in_err-say.ensures.said;
-    })
+returns-in_err-say-clause-prints g c = grind (arith, err_from_is_err_and, stops_all, heard_of, tested)
 
 pub returns-clause-prints : goal.returns-clause-prints
-returns-clause-prints g c =
-    let at = goal.at.returns-clause-prints g c in
-    record {
-      image = search rules;
-      text = says_all (λ bytes k. heard_of g at.After-of bytes k (tested g at.After-is_unref-unref bytes k
-          ∙ c.if-not-unref.false)) c.in_ok-say.ensures.said;
-    }
+returns-clause-prints g c = grind (arith, says_all, heard_of, tested)
 
 pub returns-in_err-inode-clause-reads : goal.returns-in_err-inode-clause-reads
-returns-in_err-inode-clause-reads g c = λ bytes k.
-    let test = tested g (goal.at.returns-in_err-inode-clause-reads g c).After-is_unref-unref bytes k in
-    let one = one_line (volume_of c.args.geometry.now.layout bytes) c.args.number (test ∙ c.if-not-unref.false) in
-    omega (arith, one, c.in_err-inode.ensures.counted)
+returns-in_err-inode-clause-reads g c = grind (arith, tested, one_line)
 
 pub returns-in_err-say-clause-reads : goal.returns-in_err-say-clause-reads
-returns-in_err-say-clause-reads g c = λ bytes k.
-    let test = tested g (goal.at.returns-in_err-say-clause-reads g c).After-is_unref-unref bytes k in
-    let one = one_line (volume_of c.args.geometry.now.layout bytes) c.args.number (test ∙ c.if-not-unref.false) in
-    omega (arith, one, c.in_ok-inode.ensures.counted)
+returns-in_err-say-clause-reads g c = grind (arith, tested, one_line)
 
 pub returns-clause-reads : goal.returns-clause-reads
-returns-clause-reads g c = λ bytes k.
-    let test = tested g (goal.at.returns-clause-reads g c).After-is_unref-unref bytes k in
-    let one = one_line (volume_of c.args.geometry.now.layout bytes) c.args.number (test ∙ c.if-not-unref.false) in
-    omega (arith, one, c.in_ok-inode.ensures.counted)
+returns-clause-reads g c = grind (arith, tested, one_line)
 
 pub returns-then-not-unref-clause-paid : goal.returns-then-not-unref-clause-paid
 returns-then-not-unref-clause-paid g c = paid_none (omega arith)
 
 pub returns-in_err-inode-clause-paid : goal.returns-in_err-inode-clause-paid
-returns-in_err-inode-clause-paid g c =
-    let p = err_from_is_err_and c.from_residual.result c.from_residual.ensures.1 in
-    rw (p.1, p.2) (paid_reads c.in_err-inode.ensures.counted)
+returns-in_err-inode-clause-paid g c = grind (arith, err_from_is_err_and, paid_reads)
 
 pub returns-in_err-say-clause-paid : goal.returns-in_err-say-clause-paid
-returns-in_err-say-clause-paid g c =
-    let p = err_from_is_err_and c.from_residual-in_err-say.result c.from_residual-in_err-say.ensures.1 in
-    rw (p.1, p.2) (paid_stops _ c.in_err-say.ensures.said (omega arith) c.in_ok-inode.ensures.counted)
+returns-in_err-say-clause-paid g c = grind (arith, err_from_is_err_and, paid_stops)
 
 pub returns-clause-paid : goal.returns-clause-paid
 returns-clause-paid g c = paid_says _ c.in_ok-say.ensures.said (omega arith) c.in_ok-inode.ensures.counted

@@ -1,3 +1,4 @@
+use Rattle.std.proofs.Common.{arith}
 use Rattle.std.proofs.Common.{◌∷◌, ◌++◌, [], map}
 use Rattle.std.proofs.lemmas.Result.{err_from_is_err_and}
 use Rattle.ffs_volume.specs.declared.BlockMessage.TheVariants.{FreeCounts, GroupMagic, GroupSums, MapsWrong}
@@ -23,11 +24,7 @@ returns-then-not-found-clause-said g c =
     c.in_ok-say.ensures.said c.say_unless.ensures.said)
 
 pub returns-in_err-say_unless-clause-said : goal.returns-in_err-say_unless-clause-said
-returns-in_err-say_unless-clause-said g c =
-    let p = err_from_is_err_and c.from_residual-in_err-say_unless.result c.from_residual-in_err-say_unless.ensures.1 in
-    let f = c.args.found.now in
-    rw (p.1, c.if-not-found.false) (stops_within (reported_of c.args.once.now) (unless f.counts_right FreeCounts)
-    (unless f.maps_right MapsWrong ++ unless f.sums_right GroupSums) _ _ c.in_err-say_unless.ensures.said)
+returns-in_err-say_unless-clause-said g c = grind (arith, err_from_is_err_and, stops_within)
 
 pub returns-in_err-say_unless-2-clause-said : goal.returns-in_err-say_unless-2-clause-said
 returns-in_err-say_unless-2-clause-said g c =

@@ -1,14 +1,12 @@
-use Rattle.std.proofs.Common.{◌≡◌, ◌≤◌, ◌∙◌, ◌-◌, arith, ap, false, length, List, map, refl, rules, slice_index, sym}
-use Rattle.std.proofs.Common.{ℕ, SFits}
-use Rattle.std.specs.Int.{w16}
+use Rattle.std.proofs.Common.{◌≡◌, ◌≤◌, ◌∙◌, arith, ap, length, List, map, rules, sym}
 use Rattle.std.proofs.lemmas.{List.length-map, Result.err_from_is_err_and}
-use Rattle.ffs_volume.specs.Directories.{PathnameCheck.attributes_of, ReferenceCheck.reference_lines_at}
-use Rattle.ffs_volume.specs.{Directories.Volumes.volume_of, Encodings.Links.links_start}
+use Rattle.ffs_volume.specs.Directories.{ReferenceCheck.reference_lines_at}
+use Rattle.ffs_volume.specs.{Directories.Volumes.volume_of}
 use Rattle.ffs_volume.specs.Messages.Kinds.{TreeMessage, of_tree}
 use Rattle.ffs_report.specs.Known.{ForBytes}
 use Rattle.ffs_report.proofs.Paying.{paid_none, paid_reads, paid_says, paid_stops}
 use Rattle.ffs_report.proofs.Reporting.{reads_first, says_all, says_none, stops_all}
-use Rattle.ffs_workspace.specs.{Found.WithFindings, Holds.bool_at, Ready.StaysReady}
+use Rattle.ffs_workspace.specs.{Found.WithFindings, Ready.StaysReady}
 use Rattle.ffs_workspace.proofs.Readiness.{ready_table}
 use Rattle.ffs_counts.specs.References.{lines_as}
 use Rattle.ffs_counts.proofs.Holding.{inode_lines_are, item_at, met_lines, same_reported, some_lines, unmet_line}
@@ -21,66 +19,25 @@ use Rattle.ffs_counts.proofs.pass4.check_inode.Goals.{After-inode, After-line_fo
 one : (g : given.Over) (c : After-inode g) →
     ForBytes (WithFindings c.args.geometry.now.layout (g.I.Image.device c.args.image.now) c.args.workspace.now)
     (λ bytes. length (reference_lines_at (volume_of c.args.geometry.now.layout bytes) c.args.number) ≡ 1)
-one g c bytes k = unmet_line c.args.geometry.now.layout bytes c.args.workspace.now c.args.number c.requires.number k.1
-    c.requires.used (sym c.is_right.ensures ∙ c.if-is_right.false)
+one g c bytes k = grind (arith, unmet_line)
 
 -- its lines are those that are said
 lines_are : (g : given.Over) (c : After-line_for-line g) →
     ForBytes (WithFindings c.args.geometry.now.layout (g.I.Image.device c.args.image.now) c.args.workspace.now)
     (λ bytes. map of_tree (reference_lines_at (volume_of c.args.geometry.now.layout bytes) c.args.number)
     ≡ map of_tree (lines_as c.line_for-line.result))
-lines_are g c bytes k =
-    let v = c.args.geometry.now.layout in
-    let w = c.args.workspace.now in
-    let n = c.args.number in
-    let low = c.requires.number in
-    let made = c.requires.ready.made in
-    let inode = c.in_ok-inode.inode in
-    let marked : c.index-marked.result.now ≡ bool_at w.marked.items n =
-    item_at w.marked n _ c.index-marked.result.now false c.index-marked.ensures low made.marked in
-    let kind : c.index-kind.result.now ≡ slice_index w.kinds.items n =
-    item_at w.kinds n _ c.index-kind.result.now 0 c.index-kind.ensures low made.kinds in
-    let count : c.index-count.result.now ≡ slice_index w.references.items n =
-    item_at w.references n _ c.index-count.result.now 0 c.index-count.ensures low made.references in
-    let refs : c.references_by-references.result ≡ slice_index w.references.items n - links_start inode.nlink =
-    c.references_by-references.ensures ∙ ap (λ (x : ℕ). x - links_start inode.nlink) count in
-    ap (λ (ls : List TreeMessage). map of_tree ls)
-    (sym (some_lines v bytes w n k.1.claims c.requires.used)
-    ∙ inode_lines_are v bytes w n inode c.is_dead-dead.result _ low k.1 c.requires.used
-    (c.in_ok-inode.ensures.reads.inode bytes k.0) c.is_dead-dead.ensures refl
-    ∙ same_reported c.is_dead-dead.result c.index-marked.result.now (bool_at w.marked.items n)
-    c.index-kind.result.now (slice_index w.kinds.items n) (attributes_of n inode) inode.nlink
-    c.references_by-references.result _ marked kind refs
-    ∙ sym c.line_for-line.ensures)
+lines_are g c bytes k = grind (arith, item_at, some_lines, inode_lines_are, same_reported)
 
 -- it has a line, whatever was read of it
 some : (g : given.Over) (c : After-line_for-line g) → 1 ≤ length (map of_tree (lines_as c.line_for-line.result))
-some g c =
-    let w = c.args.workspace.now in
-    let n = c.args.number in
-    let count : c.index-count.result.now ≡ slice_index w.references.items n =
-    item_at w.references n _ c.index-count.result.now 0 c.index-count.ensures c.requires.number
-    c.requires.ready.made.references in
-    let fits : SFits w16 c.in_ok-inode.inode.nlink = search rules in
-    let one : length (lines_as c.line_for-line.result) ≡ 1 =
-    ap length c.line_for-line.ensures
-    ∙ unmet_reported w n _ _ _ c.in_ok-inode.inode.nlink _ _ _ (sym c.is_right.ensures ∙ c.if-is_right.false)
-    c.is_dead-dead.ensures count c.references_by-references.ensures fits in
-    omega (arith, length-map (lines_as c.line_for-line.result) of_tree ∙ one)
+some g c = grind (arith, item_at, one, unmet_reported, length-map)
 
 stays : (g : given.Over) (c : In_ok-inode g) →
     StaysReady c.args.geometry.now.layout (g.I.Image.device c.inode.new.image) c.args.workspace.now
     (record c.args.workspace.now {
       windows = record c.args.workspace.now.windows { table = c.inode.new.self };
     })
-stays g c =
-    let read = c.in_ok-inode.ensures.reads.read in
-    record {
-      held = refl;
-      ready = ready_table c.args.geometry.now.layout (g.I.Image.device c.args.image.now) _ c.args.workspace.now
-          c.inode.new.self (ap (λ d. d.contents) read) (ap (λ d. d.size) read) c.inode.ensures.reads.kept
-          c.requires.ready;
-    }
+stays g c = grind (arith, ready_table)
 
 pub returns-then-is_right-clause-prints : goal.returns-then-is_right-clause-prints
 returns-then-is_right-clause-prints g c = record {
@@ -91,9 +48,7 @@ returns-then-is_right-clause-prints g c = record {
 }
 
 pub returns-in_err-inode-clause-prints : goal.returns-in_err-inode-clause-prints
-returns-in_err-inode-clause-prints g c =
-    let p = err_from_is_err_and c.from_residual.result c.from_residual.ensures.1 in
-    rw (p.1, p.2) (record { image = search rules; text = reads_first })
+returns-in_err-inode-clause-prints g c = grind (arith, err_from_is_err_and, reads_first)
 
 pub returns-in_err-say_line-clause-prints : goal.returns-in_err-say_line-clause-prints
 returns-in_err-say_line-clause-prints g c =
@@ -134,9 +89,7 @@ pub returns-then-is_right-clause-paid : goal.returns-then-is_right-clause-paid
 returns-then-is_right-clause-paid g c = paid_none (omega arith)
 
 pub returns-in_err-inode-clause-paid : goal.returns-in_err-inode-clause-paid
-returns-in_err-inode-clause-paid g c =
-    let p = err_from_is_err_and c.from_residual.result c.from_residual.ensures.1 in
-    rw (p.1, p.2) (paid_reads c.in_err-inode.ensures.counted)
+returns-in_err-inode-clause-paid g c = grind (arith, err_from_is_err_and, paid_reads)
 
 pub returns-in_err-say_line-clause-paid : goal.returns-in_err-say_line-clause-paid
 returns-in_err-say_line-clause-paid g c =

@@ -17,9 +17,7 @@ use Rattle.ffs_counts.proofs.pass4.phase4.Goals.{After-free_stretch-free, At-loo
 known : (g : given.Over) (c : At-loop-number g) →
     ForBytes (WithFindings c.args.geometry.now.layout (g.I.Image.device c.args.image.now) c.args.workspace.now)
     (WithFindings c.args.geometry.now.layout (g.I.Image.device c.loop-number.image) c.loop-number.workspace)
-known g c bytes k =
-    let inv = c.loop-number.invariant in
-    (ap (λ d. d.contents) inv.device ∙ k.0, findings_held c.args.geometry.now.layout bytes _ _ inv.held k.1)
+known g c bytes k = grind (arith, findings_held)
 
 -- the free inodes that are passed over have no lines
 passed : (g : given.Over) (c : After-free_stretch-free g) →
@@ -80,10 +78,7 @@ loop-number-preserved-then-free-eq0 g c =
       ready = ok.stays.ready;
       device = ok.prints.image ∙ inv.device;
       held = held_on c.args.workspace.now c.loop-number.workspace c.check_inode.new.workspace inv.held ok.stays.held;
-      reads = λ bytes k.
-          let on = count_next (reference_lines_at (volume_of v bytes)) n (inodes_of v)
-          (omega (arith, c.loop-number-test.true)) in
-          omega (arith, inv.reads bytes k, on, ok.reads bytes (more bytes k));
+      reads = grind (arith, count_next);
       said = of_part _ _ _ _ _ _ _ _ inv.said
           (λ bytes k. from_next (reference_lines_at (volume_of v bytes)) n (inodes_of v)
           (omega (arith, c.loop-number-test.true)))
@@ -92,52 +87,22 @@ loop-number-preserved-then-free-eq0 g c =
     }
 
 pub loop-number-preserved : goal.loop-number-preserved
-loop-number-preserved g c =
-    let inv = c.loop-number.invariant in
-    let none = passed g (goal.at.loop-number-preserved g c).After-free_stretch-free in
-    record {
-      within = omega (arith, c.free_stretch-free.ensures.within, c.deref.ensures.len, inv.ready.made.kinds);
-      ready = inv.ready;
-      device = inv.device;
-      held = inv.held;
-      reads = λ bytes k. let on = as_many _ _ (none bytes k) in omega (arith, inv.reads bytes k, on);
-      said = of_same _ _ _ _ _ _ inv.said none;
-      paid = inv.paid;
-    }
+loop-number-preserved g c = grind (arith, passed, as_many, of_same)
 
 pub returns-clause-prints : goal.returns-clause-prints
-returns-clause-prints g c =
-    let v = c.args.geometry.now.layout in
-    record {
-      image = search rules;
-      text = of_same _ _ _ _ _ _ c.loop-number.invariant.said
-          (λ bytes k. from_end (reference_lines_at (volume_of v bytes)) c.loop-number.number (inodes_of v)
-          (omega (arith, c.loop-number-test.false)));
-    }
+returns-clause-prints g c = grind (arith, of_same, from_end)
 
 pub returns-in_err-check_inode-clause-reads : goal.returns-in_err-check_inode-clause-reads
-returns-in_err-check_inode-clause-reads g c = λ bytes k.
-    let v = c.args.geometry.now.layout in
-    let on = count_next (reference_lines_at (volume_of v bytes)) c.loop-number.number (inodes_of v)
-    (omega (arith, c.loop-number-test.true)) in
-    let more = known g (goal.at.returns-in_err-check_inode-clause-reads g c).At-loop-number bytes k in
-    omega (arith, c.loop-number.invariant.reads bytes k, on, c.in_err-check_inode.ensures.reads bytes more)
+returns-in_err-check_inode-clause-reads g c = grind (arith, count_next, known)
 
 pub returns-clause-reads : goal.returns-clause-reads
 returns-clause-reads g c = λ bytes k. omega (arith, c.loop-number.invariant.reads bytes k)
 
 pub returns-in_err-say-clause-paid : goal.returns-in_err-say-clause-paid
-returns-in_err-say-clause-paid g c =
-    let p = err_from_is_err_and c.from_residual.result c.from_residual.ensures.1 in
-    rw (p.1, p.2) (paid_stops {after = g.I.Image.reads c.args.image.now} _ c.in_err-say.ensures.said (omega arith)
-    (omega arith))
+returns-in_err-say-clause-paid g c = grind (arith, err_from_is_err_and, paid_stops)
 
 pub returns-in_err-check_inode-clause-paid : goal.returns-in_err-check_inode-clause-paid
-returns-in_err-check_inode-clause-paid g c =
-    let p = err_from_is_err_and c.from_residual-in_err-check_inode.result
-    c.from_residual-in_err-check_inode.ensures.1 in
-    rw (p.1, p.2) (paid_then c.loop-number.invariant.paid
-    (paid_fault c.in_err-check_inode.field-0.0 c.in_err-check_inode.ensures.paid))
+returns-in_err-check_inode-clause-paid g c = grind (arith, err_from_is_err_and, paid_then, paid_fault)
 
 pub returns-clause-paid : goal.returns-clause-paid
 returns-clause-paid g c = paid_answer c.loop-number.invariant.paid

@@ -36,13 +36,7 @@ ended : (g : given.Over) (c : After-are-right g) →
     (λ bytes. lines_after c.args.superblock.now.geometry.layout c.args.superblock.now.cstotal c.args.workspace.now
     (reported_of c.loop-group.once) c.loop-group.group bytes
     ≡ map of_blocks (reported_once (reported_of c.loop-group.once) (unless c.are-right.result FreeCounts)) ++ [])
-ended g c bytes k =
-    let v = c.args.superblock.now.geometry.layout in
-    let w = c.args.workspace.now in
-    let n = c.loop-group.group in
-    groups_end v c.args.superblock.now.cstotal w bytes _ n c.are-right.result (omega (arith, c.loop-group-test.false))
-    (c.are-right.ensures ∙ totals_right v (free_of v w) (class_in w.kinds.items) _ n c.loop-group.totals
-    c.loop-group.invariant.totals (omega (arith, c.loop-group-test.false, c.loop-group.auto.group-end)))
+ended g c bytes k = grind (arith, groups_end, totals_right)
 
 pub returns-in_err-say-clause-prints : goal.returns-in_err-say-clause-prints
 returns-in_err-say-clause-prints g c =
@@ -50,15 +44,7 @@ returns-in_err-say-clause-prints g c =
     rw (p.1, p.2) (record { image = search rules; text = stops_heading c.in_err-say.ensures.said })
 
 pub loop-group-init : goal.loop-group-init
-loop-group-init g c = record {
-  device = refl;
-  stays = record { held = refl; ready = c.requires.ready };
-  reads = omega arith;
-  up = search (rules, arith);
-  totals = search rules;
-  said = says_heading (λ bytes k. groups_begin c.args.superblock.now.geometry.layout c.args.superblock.now.cstotal
-      c.args.workspace.now bytes _ c.new-once.ensures k.1) c.in_ok-say.ensures.said;
-}
+loop-group-init g c = grind (arith, says_heading, groups_begin)
 
 pub returns-in_err-found-clause-prints : goal.returns-in_err-found-clause-prints
 returns-in_err-found-clause-prints g c =

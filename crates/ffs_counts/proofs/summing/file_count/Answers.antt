@@ -1,5 +1,4 @@
-use Rattle.std.proofs.Common.{arith, ap, ◌∙◌, ◌≡◌, ◌+◌, ◌-◌, length, count_by}
-use Rattle.std.specs.List.{range_with_len}
+use Rattle.std.proofs.Common.{arith, ap, ◌∙◌, ◌≡◌, ◌+◌, ◌-◌, length}
 use Rattle.ffs_volume.specs.Blocks.Inodes.{is_file_or_dir}
 use Rattle.ffs_groups.specs.Inodes.{class_in}
 use Rattle.ffs_groups.proofs.Sums.{count_more, count_fits}
@@ -19,14 +18,4 @@ overflow_add-files c =
     )
 
 pub loop-inode-preserved : goal.loop-inode-preserved
-loop-inode-preserved c =
-    let at : c.loop-inode.inode ≡ 2 + (c.loop-inode.inode - 2) = omega arith in
-    let more : c.loop-inode.inode - 2 + 1 ≡ c.loop-inode.inode + 1 - 2 = omega arith in
-    record {
-      files = count_more (λ x. is_file_or_dir (class_in c.args.kinds.now x)) 2 (c.loop-inode.inode - 2)
-          c.loop-inode.files c.from-files.result c.is_file_or_dir.result
-          c.loop-inode.invariant.files (one_if _ _ c.from-files.ensures)
-          (c.is_file_or_dir.ensures ∙ ap (λ j. is_file_or_dir (class_in c.args.kinds.now j)) at)
-          ∙ ap (λ j. count_by (λ x. is_file_or_dir (class_in c.args.kinds.now x)) (range_with_len 2 j)) more;
-      within = omega (arith, c.loop-inode-test.true);
-    }
+loop-inode-preserved c = grind (arith, count_more, one_if)
