@@ -132,19 +132,6 @@ returns-clause-leaves g c =
       read = gap.leaves.read ∙ (read.leaves.read ∙ inv.same);
     }
 
--- the other windows
-pub returns-in_err-offset-clause-others : goal.returns-in_err-offset-clause-others
-returns-in_err-offset-clause-others g c = others_stay c.args.windows.now c.chunks.windows c.next.new.blocks
-    c.next.new.window c.chunks.invariant.others
-
-pub returns-in_err-gap-clause-others : goal.returns-in_err-gap-clause-others
-returns-in_err-gap-clause-others g c = others_stay c.args.windows.now c.chunks.windows c.gap_of.new.blocks
-    c.next.new.window c.chunks.invariant.others
-
-pub returns-clause-others : goal.returns-clause-others
-returns-clause-others g c = others_stay c.args.windows.now c.chunks.windows c.gap_of.new.blocks c.next.new.window
-    c.chunks.invariant.others
-
 -- the reads
 pub returns-in_err-offset-clause-reads : goal.returns-in_err-offset-clause-reads
 returns-in_err-offset-clause-reads g c = λ b t.

@@ -34,11 +34,7 @@ returns-clause-leaves g c =
       places = keep_more _ _ _ (windows_keep c.args.workspace.now c.report_by_role.new.workspace left.lists)
           c.pass.ensures.places;
       ready = record {
-        ready = record {
-          made = search rules;
-          volume = said.ready.volume;
-          windows = search rules;
-        };
+        ready = search rules;
         kept_parent = kept_parent_on _ _ _ _ _ _ refl surveyed c.pass.ensures.places said.kept_parent;
       };
     }

@@ -1,6 +1,6 @@
 use Rattle.std.proofs.Common.{[], ◌∷◌, List, ℕ, map, refl, ap, ◌∙◌, inl, inr, arith, ◌≡◌, Some}
 use Rattle.std.proofs.lemmas.Result.{err_from_is_err_and}
-use Rattle.ffs_report.proofs.Reporting.{of_begins, of_says, of_stops, of_reads, of_last, reports_knowing}
+use Rattle.ffs_report.proofs.Reporting.{of_reads, of_last, reports_knowing, says_heading, stops_heading}
 use Rattle.ffs_volume.specs.{Messages.Kinds.of_tree, Messages.Kinds.phase2, Directories.PathnameCheck.pathname_lines}
 use Rattle.ffs_volume.{specs.Directories.Volumes.volume_of, proofs.RunBounds.runs_bounded, proofs.Results.on_ok}
 use Rattle.ffs_pathnames.{specs.declared.pass2.Root.Root, specs.Before.IsBefore, proofs.Carrying.at_fault}
@@ -29,9 +29,7 @@ before_tree g c b t h =
 pub returns-in_err-say-clause-text : goal.returns-in_err-say-clause-text
 returns-in_err-say-clause-text g c =
     let p = err_from_is_err_and c.from_residual.result c.from_residual.ensures.1 in
-    let lines = λ (b : List ℕ). map of_tree (pathname_lines (volume_of c.args.geometry.now.layout b)) in
-    rw (p.1, p.2) (of_stops _ _ lines _ (phase2 ∷ []) _ _ _ (of_begins _ _ _) (λ b k. refl)
-    c.in_err-say.ensures.said)
+    rw (p.1, p.2) (stops_heading c.in_err-say.ensures.said)
 
 pub returns-in_err-say-clause-fault : goal.returns-in_err-say-clause-fault
 returns-in_err-say-clause-fault g c =
@@ -44,17 +42,12 @@ returns-in_err-survey-clause-fault g c = at_fault c.from_residual-in_err-survey.
 pub returns-in_err-survey-clause-text : goal.returns-in_err-survey-clause-text
 returns-in_err-survey-clause-text g c =
     let p = err_from_is_err_and c.from_residual-in_err-survey.result c.from_residual-in_err-survey.ensures.1 in
-    let lines = λ (b : List ℕ). map of_tree (pathname_lines (volume_of c.args.geometry.now.layout b)) in
-    rw (p.1, p.2) (of_reads _ lines _ _ _
-    (of_says _ _ lines _ (phase2 ∷ []) _ _ _ (of_begins _ _ _) (λ b k. refl) c.in_ok-say.ensures.said))
+    rw (p.1, p.2) (of_reads _ _ _ _ _ (says_heading (λ b k. refl) c.in_ok-say.ensures.said))
 
 pub returns-clause-text : goal.returns-clause-text
 returns-clause-text g c =
-    let lines = λ (b : List ℕ). map of_tree (pathname_lines (volume_of c.args.geometry.now.layout b)) in
-    of_last Root _ lines lines _ _ _ _ c.check_tree.result
-    (of_says _ _ lines _ (phase2 ∷ []) _ _ _ (of_begins _ _ _) (λ b k. refl) c.in_ok-say.ensures.said)
-    (λ b k. refl)
-    (reports_knowing Root _ _ lines _ _ c.check_tree.result
+    of_last Root _ _ _ _ _ _ _ c.check_tree.result (says_heading (λ b k. refl) c.in_ok-say.ensures.said) (λ b k. refl)
+    (reports_knowing Root _ _ _ _ _ c.check_tree.result
     (λ b k. before_tree g (goal.at.returns-clause-text g c).After-check_tree b k.0 k.1) c.check_tree.ensures.text)
 
 pub returns-clause-goes : goal.returns-clause-goes

@@ -1,4 +1,4 @@
-use Rattle.std.proofs.Common.{◌∙◌, ◌≡◌, ◌≤◌, ℕ, List, Some, ap, arith, false, sym}
+use Rattle.std.proofs.Common.{◌∙◌, ◌≡◌, ◌≤◌, ℕ, List, Some, ap, arith, sym, true}
 use Rattle.std.proofs.lemmas.Bool.{both_ways}
 use Rattle.ffs_image.specs.{Device.Device, Limited.reads_asked}
 use Rattle.ffs_image.proofs.Limits.{read_over}
@@ -26,25 +26,22 @@ bytes g c b t = ap (λ (d : Device). d.contents) c.new-limited.ensures.device �
 -- no read of known bytes is refused
 answered : (g : Over) (c : After-is_spent g) (b : List ℕ) → (g.I.Image.device c.args.image.now).contents ≡ Some b →
     HoldsReading c.args.windows.now.blocks c.args.windows.now.chunk c.args.chunks.now →
-    to_read b c.args.chunks.now ≤ c.args.reads_left.now → c.is_spent.result ≡ false
+    to_read b c.args.chunks.now ≤ c.args.reads_left.now → c.is_spent.result ≡ true → ⊥
 answered g c b t held enough =
     let asked = (c.next-offset.ensures.reads held b (bytes g c b t)).most in
-    (after g c).served.few (omega (arith, asked, c.new-limited.ensures.asked, enough))
+    both_ways _ ((after g c).served.few (omega (arith, asked, c.new-limited.ensures.asked, enough)))
 
 pub returns-then-is_spent-clause-chunk : goal.returns-then-is_spent-clause-chunk
-returns-then-is_spent-clause-chunk g c = λ b t held enough.
-    let at = (goal.at.returns-then-is_spent-clause-chunk g c).After-is_spent in
-    absurd (both_ways _ (answered g at b t held enough) c.if-is_spent.true)
+returns-then-is_spent-clause-chunk g c = λ b t held enough. absurd (answered g
+    (goal.at.returns-then-is_spent-clause-chunk g c).After-is_spent b t held enough c.if-is_spent.true)
 
 pub returns-then-is_spent-clause-reads : goal.returns-then-is_spent-clause-reads
-returns-then-is_spent-clause-reads g c = λ held b t enough.
-    let at = (goal.at.returns-then-is_spent-clause-reads g c).After-is_spent in
-    absurd (both_ways _ (answered g at b t held enough) c.if-is_spent.true)
+returns-then-is_spent-clause-reads g c = λ held b t enough. absurd (answered g
+    (goal.at.returns-then-is_spent-clause-reads g c).After-is_spent b t held enough c.if-is_spent.true)
 
 pub returns-then-is_spent-clause-kept : goal.returns-then-is_spent-clause-kept
-returns-then-is_spent-clause-kept g c = λ held b t enough.
-    let at = (goal.at.returns-then-is_spent-clause-kept g c).After-is_spent in
-    absurd (both_ways _ (answered g at b t held enough) c.if-is_spent.true)
+returns-then-is_spent-clause-kept g c = λ held b t enough. absurd (answered g
+    (goal.at.returns-then-is_spent-clause-kept g c).After-is_spent b t held enough c.if-is_spent.true)
 
 pub returns-then-is_spent-clause-most : goal.returns-then-is_spent-clause-most
 returns-then-is_spent-clause-most g c =

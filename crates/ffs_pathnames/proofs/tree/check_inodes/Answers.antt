@@ -8,8 +8,7 @@ use Rattle.ffs_volume.specs.Directories.{PathnameCheck.directory_lines, Volumes.
 use Rattle.ffs_report.proofs.Reporting.{of_begins, of_same, of_part, of_fault, of_reads, said_knows, reports_knowing}
 use Rattle.ffs_workspace.specs.{declared.workspace.Workspace.Workspace, Lengths.inodes_of}
 use Rattle.ffs_pathnames.{specs.Before.IsBeforeNoted, proofs.Carrying.noted_reported}
-use Rattle.ffs_pathnames.proofs.Skipping.{before_unseen, lines_unseen, noted_before}
-use Rattle.ffs_pathnames.proofs.LineCounts.{checked_on}
+use Rattle.ffs_pathnames.proofs.Skipping.{noted_before, unseen}
 use Rattle.ffs_survey.{specs.Costs.costs_all, proofs.Costs.cost_take, proofs.Costs.costs_rise}
 use Rattle.ffs_names.specs.Costs.{directories_cost, directory_cost}
 use Rattle.ffs_names.proofs.Limits.{costs_within}
@@ -33,18 +32,14 @@ next g c b k =
     let rise = costs_rise (λ s. true) (directory_cost v b) (n + 1) (inodes_of v) (omega arith) in
     (noted_reported (ap (λ d. d.contents) inv.device) (inv.before b k), omega (arith, inv.left b k, taken, rise))
 
-pub first_checked-first-requires-clause-some : goal.first_checked-first-requires-clause-some
-first_checked-first-requires-clause-some g c =
-    let k = some_inodes c.args.geometry.now.layout c.args.geometry.now.sound in omega (arith, k)
-
 pub returns-then-first-count-clause-text : goal.returns-then-first-count-clause-text
 returns-then-first-count-clause-text g c =
     let v = c.args.geometry.now.layout in
     let first = c.first_checked-first in
     let all = λ (b : List ℕ). map of_tree (lines_from (directory_lines (volume_of v b)) 2 (inodes_of v - 2)) in
     of_same _ all (λ b. []) _ _ _ (of_begins _ all _)
-    (λ b k. lines_unseen v _ _ b first.result (inodes_of v) c.args.geometry.now.sound first.ensures.range.0
-    first.ensures.range.1 first.ensures.before k
+    (λ b k. (unseen v _ _ b first.result (inodes_of v) c.args.geometry.now.sound first.ensures.range.0
+    first.ensures.range.1 first.ensures.before k).1
     ∙ from_end (directory_lines (volume_of v b)) first.result (inodes_of v) (omega arith))
 
 pub returns-then-first-count-clause-holds : goal.returns-then-first-count-clause-holds
@@ -61,6 +56,9 @@ loop-number-init g c =
     let first = c.first_checked-first in
     let noted = c.in_ok-note_places.ensures in
     let all = λ (b : List ℕ). map of_tree (lines_from (directory_lines (volume_of v b)) 2 (inodes_of v - 2)) in
+    let skipped = λ (b : List ℕ) (k : IsBefore v (g.I.Image.device c.args.image.now).contents c.args.workspace.now 2 b).
+    unseen v _ _ b first.result (inodes_of v) c.args.geometry.now.sound first.ensures.range.0 first.ensures.range.1
+    first.ensures.before k in
     record {
       ready = record { ready = noted.ready; kept_parent = c.none.ensures _ _ _ };
       device = noted.read;
@@ -70,23 +68,18 @@ loop-number-init g c =
           let made : g.I.Image.reads c.note_places.new.image ≤ g.I.Image.reads c.args.image.now + directories_cost v b =
           c.note_places.ensures.reads b k.gives_bytes k.claims k.survey in
           rw (as_many (lines_from (directory_lines (volume_of v b)) 2 (inodes_of v - 2))
-          (lines_from (directory_lines (volume_of v b)) first.result (inodes_of v - first.result))
-          (lines_unseen v _ _ b first.result (inodes_of v) c.args.geometry.now.sound first.ensures.range.0
-          first.ensures.range.1 first.ensures.before k)) (omega (arith, made));
+          (lines_from (directory_lines (volume_of v b)) first.result (inodes_of v - first.result)) (skipped b k).1)
+          (omega (arith, made));
       left = λ b k.
           let within = costs_within v b c.args.geometry.now.sound in
           omega (arith, within, c.sweep_reads.ensures);
       paid = λ numbered. paid_none (omega (arith, noted.most, c.sweep_reads.ensures));
       before = λ b k. record {
         before = noted_before v _ _ _ _ first.result b first.ensures.range.0 refl noted.lists noted.ready.made
-            (noted.places b k.gives_bytes k.claims k.survey) noted.none_due
-            (before_unseen v _ _ b first.result c.args.geometry.now.sound first.ensures.range.0 first.ensures.before
-            k);
+            (noted.places b k.gives_bytes k.claims k.survey) noted.none_due (skipped b k).0;
         noted = noted.noted b k.gives_bytes k.claims k.survey;
       };
-      said = of_same _ all _ all _ _ (of_begins _ all _)
-          (λ b k. lines_unseen v _ _ b first.result (inodes_of v) c.args.geometry.now.sound first.ensures.range.0
-          first.ensures.range.1 first.ensures.before k);
+      said = of_same _ all _ all _ _ (of_begins _ all _) (λ b k. (skipped b k).1);
     }
 
 pub returns-in_err-check_inode-clause-text : goal.returns-in_err-check_inode-clause-text
@@ -116,13 +109,10 @@ loop-number-preserved g c =
       low = omega arith;
       references = ok.leaves.survey.references ∙ inv.references;
       reads = λ b k numbered.
-          let lines = directory_lines (volume_of v b) in
-          rw (cost_take (λ s. true) (directory_cost v b) n refl) (checked_on line_reads _ _ (directories_cost v b)
-          (costs_all (directory_cost v b) n) (directory_cost v b n) (g.I.Image.reads c.args.image.now) (length (lines
-          n))
-          (length (lines_from lines (n + 1) (inodes_of v - (n + 1)))) (length (lines_from lines 2 (inodes_of v - 2)))
-          (c.check_inode.ensures.reads b (next g at b k) ((inv.before b k).noted numbered))
-          (rw (next_long lines n (inodes_of v) (omega arith)) at (inv.reads b k numbered)));
+          let taken = cost_take (λ s. true) (directory_cost v b) n refl in
+          let here = c.check_inode.ensures.reads b (next g at b k) ((inv.before b k).noted numbered) in
+          let long = next_long (directory_lines (volume_of v b)) n (inodes_of v) (omega arith) in
+          omega (arith, taken, here, long, inv.reads b k numbered);
       left = λ b k.
           let taken = cost_take (λ s. true) (directory_cost v b) n refl in
           let kept = c.check_inode.ensures.kept b (next g at b k) in
@@ -182,15 +172,11 @@ returns-in_err-check_inode-clause-reads g c = λ b k numbered.
     let v = c.args.geometry.now.layout in
     let inv = c.loop-number.invariant in
     let n = c.loop-number.number in
-    let lines = directory_lines (volume_of v b) in
-    let last = checked_on line_reads _ _ (directories_cost v b)
-    (costs_all (directory_cost v b) n) (directory_cost v b n) (g.I.Image.reads c.args.image.now) (length (lines n))
-    (length (lines_from lines (n + 1) (inodes_of v - (n + 1)))) (length (lines_from lines 2 (inodes_of v - 2)))
-    (c.check_inode.ensures.reads b (next g at b k) ((inv.before b k).noted numbered))
-    (rw (next_long lines n (inodes_of v) (omega arith)) at (inv.reads b k numbered)) in
+    let here = c.check_inode.ensures.reads b (next g at b k) ((inv.before b k).noted numbered) in
+    let long = next_long (directory_lines (volume_of v b)) n (inodes_of v) (omega arith) in
     let taken = cost_take (λ s. true) (directory_cost v b) n refl in
     let rise = costs_rise (λ s. true) (directory_cost v b) (n + 1) (inodes_of v) (omega arith) in
-    omega (arith, last, taken, rise)
+    omega (arith, here, long, taken, rise, inv.reads b k numbered)
 
 pub returns-clause-reads : goal.returns-clause-reads
 returns-clause-reads g c = λ b k numbered.

@@ -30,14 +30,6 @@ lines_are g c b goes h q = tree_is c.args.geometry.now.layout b c.args.workspace
     (root_marked_is c.args.geometry.now.layout c.args.workspace.now _ c.args.geometry.now.sound c.requires.made
     c.index-marked.ensures) h q
 
-pub index-kind-requires : goal.index-kind-requires
-index-kind-requires g c = let k = some_inodes c.args.geometry.now.layout c.args.geometry.now.sound in
-    omega (arith, c.requires.made.kinds, k)
-
-pub index-marked-requires : goal.index-marked-requires
-index-marked-requires g c = let k = some_inodes c.args.geometry.now.layout c.args.geometry.now.sound in
-    omega (arith, c.requires.made.marked, k)
-
 pub returns-in_err-report_root-clause-text : goal.returns-in_err-report_root-clause-text
 returns-in_err-report_root-clause-text g c =
     let p = err_from_is_err_and c.from_residual.result c.from_residual.ensures.1 in
@@ -118,11 +110,7 @@ reads_few : (g : Over) (c : After-check_inodes g) (b : List ℕ) →
 reads_few g c b is k numbered =
     let v = c.args.geometry.now.layout in
     let long = lines_long (pathname_lines (volume_of v b)) _ (tree_lines v b true) is in
-    let reads = c.check_inodes.ensures.reads b k numbered in
-    let more = mul-le-mul_left {m = length (tree_lines v b true)}
-    {n = length (pathname_lines (volume_of v b))} line_reads
-    (omega (arith, long)) in
-    omega (arith, reads, more)
+    omega (arith, long, c.check_inodes.ensures.reads b k numbered)
 
 pub returns-in_err-check_inodes-in-Go-clause-reads : goal.returns-in_err-check_inodes-in-Go-clause-reads
 returns-in_err-check_inodes-in-Go-clause-reads g c = λ b k.
