@@ -1,4 +1,4 @@
-use Rattle.std.proofs.Common.{ap, refl, ◌∙◌, rules}
+use Rattle.std.proofs.Common.{arith, ap, refl, ◌∙◌, rules}
 use Rattle.std.proofs.lemmas.{List.with_items_is, Result.err_from_is_err_and}
 use Rattle.ffs_volume.specs.Directories.Volumes.{volume_of}
 use Rattle.ffs_workspace.specs.declared.workspace.Workspace.{Workspace}
@@ -11,15 +11,7 @@ use Rattle.ffs_report.proofs.Paying.{paid_answer}
 use Rattle.ffs_pathnames.proofs.entries.report_entry.Goals as goal
 
 pub returns-in_err-report_by_role-clause-leaves : goal.returns-in_err-report_by_role-clause-leaves
-returns-in_err-report_by_role-clause-leaves g c =
-    let left = c.in_err-report_by_role.ensures.leaves in
-    let p = err_from_is_err_and c.from_residual.result c.from_residual.ensures.1 in
-    rw (p.1, p.2) (record {
-      image = left.image;
-      survey = windows_leave _ _ left.lists;
-      places = windows_keep c.args.workspace.now c.report_by_role.new.workspace left.lists;
-      ready = left.ready;
-    })
+returns-in_err-report_by_role-clause-leaves g c = grind (arith, err_from_is_err_and, windows_leave, windows_keep)
 
 pub returns-clause-leaves : goal.returns-clause-leaves
 returns-clause-leaves g c =

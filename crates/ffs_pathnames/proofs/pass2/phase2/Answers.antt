@@ -78,22 +78,10 @@ pub check_tree-requires : goal.check_tree-requires
 check_tree-requires g c = c.clear_passed.ensures.ready _ _ c.in_ok-survey.ensures.ready
 
 pub returns-in_err-survey-clause-reads : goal.returns-in_err-survey-clause-reads
-returns-in_err-survey-clause-reads g c = λ b k numbered.
-    let v = c.args.geometry.now.layout in
-    let once = c.survey.ensures.reads b k.0 k.1 in
-    let most = costs_bounded v b c.args.geometry.now.sound in
-    let runs = runs_bounded v b c.args.geometry.now.sound in
-    omega (arith, once, most, runs)
+returns-in_err-survey-clause-reads g c = grind (arith, costs_bounded, runs_bounded)
 
 pub returns-clause-reads : goal.returns-clause-reads
-returns-clause-reads g c = λ b k numbered.
-    let v = c.args.geometry.now.layout in
-    let once = c.survey.ensures.reads b k.0 k.1 in
-    let most = costs_bounded v b c.args.geometry.now.sound in
-    let runs = runs_bounded v b c.args.geometry.now.sound in
-    let before = before_tree g (goal.at.returns-clause-reads g c).After-check_tree b k.0 k.1 in
-    let rest = c.check_tree.ensures.reads b before numbered in
-    omega (arith, once, most, runs, rest)
+returns-clause-reads g c = grind (arith, costs_bounded, runs_bounded, before_tree)
 
 -- what was read for messages
 pub returns-in_err-say-clause-paid : goal.returns-in_err-say-clause-paid

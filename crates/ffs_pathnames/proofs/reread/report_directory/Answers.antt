@@ -326,7 +326,4 @@ returns-in_err-report_chunk-clause-paid g c = λ numbered.
     rw (p.1, p.2) (paid_then looked (paid_beside c.next_chunk.new.reads_left (c.in_err-report_chunk.ensures.paid numbered)))
 
 pub returns-clause-paid : goal.returns-clause-paid
-returns-clause-paid g c = λ numbered.
-    let inv = c.chunks.invariant in
-    let n = subst (λ q. AreChunksNumbered q.layout) (sym inv.geometry) numbered in
-    paid_within (inv.paid numbered) (omega arith) (c.next_chunk.ensures.most n)
+returns-clause-paid g c = grind (arith, paid_within)

@@ -129,17 +129,7 @@ loop-number-preserved g c =
     }
 
 pub returns-in_err-check_inode-clause-leaves : goal.returns-in_err-check_inode-clause-leaves
-returns-in_err-check_inode-clause-leaves g c =
-    let p = err_from_is_err_and c.from_residual-in_err-check_inode.result
-    c.from_residual-in_err-check_inode.ensures.1 in
-    let inv = c.loop-number.invariant in
-    let left = c.in_err-check_inode.ensures.leaves in
-    rw (p.1, p.2) (record {
-      image = subst (λ d. ImageAfter {T = Unit {0}} d (g.I.Image.device c.check_inode.new.image)
-          (Err c.in_err-check_inode.field-0.0)) inv.device left.image;
-      references = left.survey.references ∙ inv.references;
-      ready = left.ready;
-    })
+returns-in_err-check_inode-clause-leaves g c = grind (arith, err_from_is_err_and)
 
 pub returns-clause-text : goal.returns-clause-text
 returns-clause-text g c =
@@ -160,11 +150,7 @@ returns-clause-unchecked g c = λ none.
 
 -- the reads
 pub returns-in_err-note_places-clause-reads : goal.returns-in_err-note_places-clause-reads
-returns-in_err-note_places-clause-reads g c = λ b k numbered.
-    let v = c.args.geometry.now.layout in
-    let made : g.I.Image.reads c.note_places.new.image ≤ g.I.Image.reads c.args.image.now + directories_cost v b =
-    c.note_places.ensures.reads b k.gives_bytes k.claims k.survey in
-    omega (arith, made)
+returns-in_err-note_places-clause-reads g c = grind arith
 
 pub returns-in_err-check_inode-clause-reads : goal.returns-in_err-check_inode-clause-reads
 returns-in_err-check_inode-clause-reads g c = λ b k numbered.
@@ -179,22 +165,14 @@ returns-in_err-check_inode-clause-reads g c = λ b k numbered.
     omega (arith, here, long, taken, rise, inv.reads b k numbered)
 
 pub returns-clause-reads : goal.returns-clause-reads
-returns-clause-reads g c = λ b k numbered.
-    let v = c.args.geometry.now.layout in
-    let n = c.loop-number.number in
-    let now = c.loop-number.invariant.reads b k numbered in
-    let rise = costs_rise (λ s. true) (directory_cost v b) n (inodes_of v) (omega arith) in
-    omega (arith, now, rise)
+returns-clause-reads g c = grind (arith, costs_rise)
 
 -- what was read for messages
 pub returns-then-first-count-clause-paid : goal.returns-then-first-count-clause-paid
 returns-then-first-count-clause-paid g c = λ numbered. paid_none (omega arith)
 
 pub returns-in_err-note_places-clause-paid : goal.returns-in_err-note_places-clause-paid
-returns-in_err-note_places-clause-paid g c = λ numbered.
-    let p = err_from_is_err_and c.from_residual.result c.from_residual.ensures.1 in
-    let most = c.note_places.ensures.most in
-    rw (p.1, p.2) (paid_failed (omega (arith, most)))
+returns-in_err-note_places-clause-paid g c = grind (arith, err_from_is_err_and, paid_failed)
 
 pub returns-in_err-check_inode-clause-paid : goal.returns-in_err-check_inode-clause-paid
 returns-in_err-check_inode-clause-paid g c = λ numbered.

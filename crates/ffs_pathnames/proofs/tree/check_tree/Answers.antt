@@ -88,15 +88,7 @@ pub returns-in-Stop-clause-holds : goal.returns-in-Stop-clause-holds
 returns-in-Stop-clause-holds g c = λ b k. (k.claims, k.survey)
 
 pub returns-in_err-check_inodes-in-Go-clause-leaves : goal.returns-in_err-check_inodes-in-Go-clause-leaves
-returns-in_err-check_inodes-in-Go-clause-leaves g c =
-    let left = c.in_err-check_inodes-in-Go.ensures.leaves in
-    let p = err_from_is_err_and c.from_residual-in_err-check_inodes-in-Go.result
-    c.from_residual-in_err-check_inodes-in-Go.ensures.1 in
-    rw (p.1, p.2) (record {
-      image = image_same (Unit {0}) Root _ _ _ c.in_err-check_inodes-in-Go.field-0.0 refl left.image;
-      references = left.references;
-      ready = left.ready;
-    })
+returns-in_err-check_inodes-in-Go-clause-leaves g c = grind (arith, err_from_is_err_and, image_same)
 
 -- the reads
 reads_few : (g : Over) (c : After-check_inodes g) (b : List ℕ) →
