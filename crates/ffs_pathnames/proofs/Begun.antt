@@ -1,6 +1,6 @@
 -- A directory that is begun, and how its lines continue.
 use Rattle.std.proofs.Common.{length, arith, ◌≡◌, ◌≤◌, suc, refl, sym, subst, ◌∙◌, ℕ, true, List, [], ◌++◌, map, Option}
-use Rattle.std.proofs.Common.{Err, Ok, nat_le, nat_lt, append-nil, ltb-true}
+use Rattle.std.proofs.Common.{Err, append-nil, ltb-true}
 use Rattle.std.proofs.lemmas.{List.map-append, Bool.and_parts}
 use Rattle.ffs_pathnames.proofs.{LineCounts.lines_long, LookLaws.quiet_silent, HeaderLaws.dir_parts}
 use Rattle.ffs_pathnames.proofs.PassedLaws.{size_of, IsDirectory, right_reported}
@@ -9,10 +9,10 @@ use Rattle.ffs_pathnames.specs.{declared.examine.Examination.Examination, Examin
 use Rattle.ffs_pathnames.specs.Begins.{dir_header_lines, started_entry, IsDirectoryBegun}
 use Rattle.ffs_pathnames.specs.{PassedRight.AreRightBefore, Header.header_reported}
 use Rattle.ffs_pathnames.specs.PassedNames.{PassedNames, are_quiet, entries_reported, after_entries}
-use Rattle.ffs_volume.specs.{declared.Layout.Layout, Blocks.Inodes.inode_of, Blocks.Inodes.is_directory}
+use Rattle.ffs_volume.specs.{declared.Layout.Layout, Blocks.Inodes.inode_of}
 use Rattle.ffs_volume.specs.Directories.{Entries.Entry, Graph.parent, Parents.graph_of, Paths.dir_path}
 use Rattle.ffs_volume.specs.Directories.PathnameCheck.{attributes, sized_dir_lines, lines_of_entries}
-use Rattle.ffs_volume.specs.Directories.Roles.{Volume, is_dir, is_inode, roled_entries, start_entry}
+use Rattle.ffs_volume.specs.Directories.Roles.{Volume, is_dir, roled_entries, start_entry}
 use Rattle.ffs_volume.specs.Directories.Volumes.{volume_of, volume_with}
 use Rattle.ffs_volume.specs.Messages.Kinds.{Message, TreeMessage, of_tree}
 use Rattle.ffs_report.proofs.Reporting.{of_begins, of_fault, reports_knowing, reports_same}

@@ -1,14 +1,14 @@
 -- What is known between two directories, carried from one to the next.
-use Rattle.std.proofs.Common.{◌≡◌, ◌<◌, ◌-◌, ◌==◌, refl, sym, ap, ◌∙◌, ℕ, zero, suc, Bool, true, false, not, ◌&&◌, ◌||◌}
+use Rattle.std.proofs.Common.{◌≡◌, ◌<◌, ◌-◌, ◌==◌, refl, sym, ap, ◌∙◌, ℕ, suc, Bool, true, false, not, ◌&&◌, ◌||◌}
 use Rattle.std.proofs.Common.{if◌then◌else◌, List, [], ◌++◌, map, get_or, Option, Some, arith, slice_index, Result, Ok}
 use Rattle.std.proofs.Common.{Err, OnOk, IfOk, eqb-true, inl, inr, ◌≤◌}
 use Rattle.std.proofs.lemmas.Bool.{Decides.nat_tests, cases_Bool, and_parts}
 use Rattle.std.proofs.lemmas.List.{get_or_default, map-append}
 use Rattle.ffs_volume.specs.{declared.Layout.Layout, declared.Class.Class, Laws.Geometry.IsAcceptedLayout}
-use Rattle.ffs_volume.specs.declared.Class.TheVariants.{Free, Partial, Unknown, File, Dir}
+use Rattle.ffs_volume.specs.declared.Class.TheVariants.{Dir}
 use Rattle.ffs_volume.specs.Directories.{Graph.is_naming_dir, Parents.graph_of, Roles.Volume, Roles.is_suspect}
 use Rattle.ffs_volume.specs.Directories.PathnameCheck.{sized_dir_lines, continues_after_root, directory_lines}
-use Rattle.ffs_volume.specs.Directories.PathnameCheck.{pathname_lines, root_lines, root_lines_of, is_sized_dir}
+use Rattle.ffs_volume.specs.Directories.PathnameCheck.{pathname_lines, root_lines, root_lines_of}
 use Rattle.ffs_volume.specs.Directories.Volumes.{class_at, marked_at, volume_of, volume_with}
 use Rattle.ffs_volume.specs.Messages.Kinds.{TreeMessage, of_tree, lines_below, lines_from}
 use Rattle.ffs_volume.specs.Blocks.Inodes.{is_directory, is_allocated}
@@ -19,8 +19,7 @@ use Rattle.ffs_workspace.specs.{declared.workspace.Workspace.Workspace, Lengths.
 use Rattle.ffs_workspace.specs.Holds.{bool_at, HoldsClaims, HoldsReferences, HoldsSurvey}
 use Rattle.ffs_workspace.{specs.Leaves.LeavesSurvey, proofs.KindLaws.reports_at, proofs.KindLaws.suspect_is}
 use Rattle.ffs_workspace.proofs.Leaving.{claims_left, survey_left, leaves_all}
-use Rattle.ffs_maps.specs.Bits.{bits_of}
-use Rattle.ffs_report.specs.declared.fault.RunFault.{RunFault, TheVariants.Read, TheVariants.Out}
+use Rattle.ffs_report.specs.declared.fault.RunFault.{RunFault, TheVariants.Read}
 use Rattle.ffs_pathnames.specs.{RootAnswers.AtReadFault, Gathers.passed_of, DirectoryContext.DirectoryContext}
 use Rattle.ffs_pathnames.specs.Before.{IsNonePassed, IsBefore, IsBeforeNoted, is_checked, root_reported}
 use Rattle.ffs_pathnames.specs.{Calm.IsSilentDirectory, PassedRight.AreRightBefore, Stamps.KeepPlaces}

@@ -1,12 +1,12 @@
 -- Inodes that aren't looked at: those that are no directories, and directories of size 0.
 use Rattle.std.proofs.lemmas.Bool.{and_parts, and_cases, not-false, Decides.nat_tests}
 use Rattle.std.proofs.Common.{inl, inr, ◌≡◌, ◌<◌, ◌==◌, refl, ap, ◌∙◌, ℕ, Bool, true, false, not, ◌&&◌, List, [], arith}
-use Rattle.std.{proofs.Common.eqb-true, proofs.Math.Bool.and-false, specs.List.flat_map}
-use Rattle.ffs_volume.specs.{declared.Layout.Layout, Disk.Areas.is_run_in_range, Laws.Geometry.IsAcceptedLayout}
+use Rattle.std.{proofs.Common.eqb-true, proofs.Math.Bool.and-false}
+use Rattle.ffs_volume.specs.{declared.Layout.Layout, Laws.Geometry.IsAcceptedLayout}
 use Rattle.ffs_volume.{specs.Blocks.Inodes.inode_of, specs.Blocks.KeptSteps.kept_steps_of, proofs.Sizes.no_steps}
-use Rattle.ffs_volume.specs.Directories.{Entries.chunks_of, Graph.is_naming_dir, Roles.is_dir, Roles.roled_chunk}
+use Rattle.ffs_volume.specs.Directories.{Graph.is_naming_dir, Roles.is_dir}
 use Rattle.ffs_volume.specs.Directories.{Roles.roled_entries, Parents.graph_of, PathnameCheck.is_sized_dir}
-use Rattle.ffs_volume.specs.Directories.Volumes.{chunk_source_of, volume_with, volume_of, kept_steps_of_inode}
+use Rattle.ffs_volume.specs.Directories.Volumes.{volume_with, volume_of, kept_steps_of_inode}
 use Rattle.ffs_volume.specs.Encodings.Kinds.{kind_at, is_dir_kind, is_empty_dir_kind}
 use Rattle.ffs_workspace.proofs.KindLaws.{dir_is, empty_is}
 

@@ -1,12 +1,12 @@
 -- The first two entries of a directory, and its parent, as they are found.
-use Rattle.std.proofs.lemmas.Bool.{Decides.nat_tests, cases_eq, and_parts, cond-false, cond-true}
-use Rattle.std.proofs.Common.{◌≡◌, ◌≢◌, refl, sym, ap, ◌∙◌, ℕ, zero, suc, ◌==◌, Bool, true, false, List, ◌∷◌, Option}
-use Rattle.std.proofs.Common.{None, Some, inl, inr, arith, ne_eqb, eq-eqb}
+use Rattle.std.proofs.lemmas.Bool.{Decides.nat_tests, and_parts, cond-false, cond-true}
+use Rattle.std.proofs.Common.{◌≡◌, ◌≢◌, refl, sym, ◌∙◌, ℕ, ◌==◌, Bool, true, false, List, ◌∷◌, Option}
+use Rattle.std.proofs.Common.{None, Some, arith, ne_eqb, eq-eqb}
 use Rattle.std.{proofs.Math.Nat.zero-add, specs.Option.unwrap_or}
-use Rattle.ffs_volume.specs.Directories.Roles.{is_dir, Volume, nth_entry}
-use Rattle.ffs_volume.specs.{Directories.Climb.is_value, Directories.Parents.graph_of, declared.Order.Order}
+use Rattle.ffs_volume.specs.Directories.Roles.{Volume, nth_entry}
+use Rattle.ffs_volume.specs.{Directories.Parents.graph_of, declared.Order.Order}
 use Rattle.ffs_volume.specs.Directories.Entries.{Entry, entry_at, entries_of, entries_from}
-use Rattle.ffs_volume.specs.Directories.Graph.{Graph, edge, level, level_edge, parent, parent_by}
+use Rattle.ffs_volume.specs.Directories.Graph.{Graph, edge, level, parent, parent_by}
 use Rattle.ffs_volume.proofs.{SearchLaws.first_below-some, Reading.entries_next, Reading.entries_end}
 use Rattle.ffs_pathnames.specs.Begins.{number_if, started_entry}
 

@@ -1,13 +1,13 @@
 -- What is reported of a directory before its entries.
-use Rattle.std.proofs.Common.{◌≡◌, ◌≤◌, refl, arith, ℕ, ◌==◌, ◌%◌, Bool, true, false, not, ◌&&◌, List, [], ◌++◌, Option}
-use Rattle.std.proofs.Common.{None, Some, nat_lt, length, append_assoc, length-append, inl, inr}
+use Rattle.std.proofs.Common.{◌≡◌, ◌≤◌, arith, ℕ, ◌==◌, ◌%◌, Bool, true, false, not, ◌&&◌, List, [], ◌++◌, Option}
+use Rattle.std.proofs.Common.{None, Some, nat_lt, length, append_assoc, length-append}
 use Rattle.std.proofs.lemmas.Bool.{Decides.nat_tests, and_cases}
 use Rattle.ffs_volume.specs.declared.Attr.{Attr}
-use Rattle.ffs_volume.specs.Directories.{Entries.Entry, Entries.is_live, Graph.parent, Parents.graph_of, Paths.dir_path}
-use Rattle.ffs_volume.specs.Directories.Roles.{Volume, start_entry, dot, dotdot, roled_entries, is_two_dots}
-use Rattle.ffs_volume.specs.Directories.PathnameCheck.{attributes, are_sound, shape_lines, is_wrong_parent, dot_lines}
+use Rattle.ffs_volume.specs.Directories.{Entries.Entry, Graph.parent, Parents.graph_of, Paths.dir_path}
+use Rattle.ffs_volume.specs.Directories.Roles.{Volume, start_entry, dot, dotdot, roled_entries}
+use Rattle.ffs_volume.specs.Directories.PathnameCheck.{attributes, are_sound, shape_lines, dot_lines}
 use Rattle.ffs_volume.specs.Directories.PathnameCheck.{dotdot_lines, lines_of_entries, sized_dir_lines}
-use Rattle.ffs_pathnames.specs.Header.{shape_reported, dot_in, dotdot_in, dot_reported, dotdot_reported, dots_reported}
+use Rattle.ffs_pathnames.specs.Header.{shape_reported, dot_in, dotdot_in, dot_reported, dotdot_reported}
 use Rattle.ffs_pathnames.specs.Header.{header_reported, is_right_header, is_right_dot, is_right_dotdot}
 
 -- ---- in the parts in which it is said

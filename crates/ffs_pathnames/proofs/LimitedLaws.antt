@@ -1,10 +1,9 @@
 -- What a look at a directory leaves of the image that it was limited on, and of the reads that are
 -- left.
 use Rattle.std.specs.Borrow.{GName}
-use Rattle.std.proofs.Common.{◌≡◌, ◌≤◌, ◌⊎◌, ◌+◌, ◌*◌, ◌-◌, ◌^◌, ℕ, arith, inl, inr, Bool, Option, Some, None, IfSome}
+use Rattle.std.proofs.Common.{◌≡◌, ◌≤◌, ◌⊎◌, ◌+◌, ℕ, arith, Bool, Option, Some, None, IfSome}
 use Rattle.std.proofs.Common.{Result, Ok, Err, IfOk, MatchOption, MatchResult}
 use Rattle.std.proofs.lemmas.Bool.{cases_lt}
-use Rattle.ffs_volume.specs.declared.constants.TheConstants.{DIRBLKSIZ}
 use Rattle.ffs_workspace.specs.Places.{AreChunksNumbered}
 use Rattle.ffs_survey.specs.Costs.{TakesReads}
 use Rattle.ffs_pathnames.specs.ReadsLeft.{TakesLeft}

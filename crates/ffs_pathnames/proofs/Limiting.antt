@@ -9,7 +9,7 @@ use Rattle.ffs_volume.specs.{declared.Layout.Layout, Report.Reads.line_reads}
 use Rattle.ffs_workspace.specs.{declared.workspace.Workspace.Workspace, Places.AreChunksNumbered, Ready.IsReady}
 use Rattle.ffs_workspace.proofs.Readiness.{ready_same}
 use Rattle.ffs_paths.specs.Reads.{OnlyReads, ReadsAtMost}
-use Rattle.ffs_paths.specs.{KeptParents.KeepsParent, KeptParents.PathLeaves, declared.kept_parent.KeptParent.KeptParent}
+use Rattle.ffs_paths.specs.{KeptParents.PathLeaves, declared.kept_parent.KeptParent.KeptParent}
 use Rattle.ffs_pathnames.{specs.DirectoryContext.DirectoryContext, proofs.LineCounts.knows_places}
 
 -- what was gathered over a limited image leaves of the image below and of the workspace

@@ -1,5 +1,5 @@
 -- How many lines there are, and how many reads they make.
-use Rattle.std.proofs.Common.{◌≡◌, ◌≤◌, ◌+◌, ◌*◌, ℕ, refl, sym, ap, subst, ◌∙◌, arith, Option, List, ◌∷◌, ◌++◌, length}
+use Rattle.std.proofs.Common.{◌≡◌, ◌≤◌, ◌+◌, ◌*◌, ℕ, refl, ap, subst, ◌∙◌, arith, Option, List, ◌∷◌, ◌++◌, length}
 use Rattle.std.proofs.Common.{length-append, Ok, map}
 use Rattle.std.proofs.lemmas.{Bool.Decides.nat_tests, List.length-map}
 use Rattle.ffs_image.specs.Device.{Device}

@@ -3,13 +3,12 @@ use Rattle.std.proofs.Common.{◌≡◌, ◌≢◌, ℕ, ◌<◌, ◌==◌, true
 use Rattle.std.proofs.Common.{sym, ◌∙◌, subst, append_assoc, append-nil, arith}
 use Rattle.std.proofs.lemmas.{List.get_or-set_other, List.get_or-set_same, Bool.Decides.nat_tests, Bool.and_parts}
 use Rattle.std.{proofs.Math.ListN.length-set, specs.List.list_any}
-use Rattle.ffs_volume.specs.{declared.Role.Role}
-use Rattle.ffs_volume.specs.declared.Role.TheVariants.{Empty, Dot, Dotdot, Extra, Plain}
-use Rattle.ffs_volume.specs.Directories.PathnameCheck.{entry_lines_of as lines_by_role, is_bad_whiteout, named_lines}
+use Rattle.ffs_volume.specs.declared.Role.TheVariants.{Plain}
+use Rattle.ffs_volume.specs.Directories.PathnameCheck.{is_bad_whiteout, named_lines}
 use Rattle.ffs_volume.specs.Directories.PathnameCheck.{plain_lines, entry_lines, lines_of_entries}
 use Rattle.ffs_volume.specs.Directories.{Entries.Entry, Graph.is_naming_entry}
-use Rattle.ffs_volume.specs.Directories.Roles.{Volume, RoledEntry, is_suspect, is_plain, roled_entries}
-use Rattle.ffs_pathnames.specs.PassedNames.{belongs, after_look, after_looks, is_plain_quiet, is_role_quiet, is_quiet}
+use Rattle.ffs_volume.specs.Directories.Roles.{Volume, RoledEntry, is_suspect, roled_entries}
+use Rattle.ffs_pathnames.specs.PassedNames.{belongs, after_look, after_looks, is_plain_quiet, is_quiet}
 use Rattle.ffs_pathnames.specs.PassedNames.{are_quiet, is_inode_quiet}
 use Rattle.ffs_pathnames.proofs.PassedLaws.{size_of, size_more, IsEntry, IsDirectory, from_parent_is, any_more}
 

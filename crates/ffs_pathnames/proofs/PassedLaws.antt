@@ -1,11 +1,11 @@
 -- What is reported by the names that were passed is what the pathname check reports.
 use Rattle.std.proofs.Common.{◌≡◌, ◌≢◌, ℕ, suc, ◌<◌, ◌≤◌, ◌==◌, Bool, true, false, not, ◌&&◌, ◌||◌, nat_lt}
 use Rattle.std.proofs.Common.{if◌then◌else◌, refl, List, [], ◌∷◌, ◌++◌, Option, None, Some, arith, sym, ◌∙◌, ap}
-use Rattle.std.proofs.Common.{append_assoc, eq-eqb, ltb-true, zero, option_map}
+use Rattle.std.proofs.Common.{append_assoc, ltb-true, zero, option_map}
 use Rattle.std.proofs.lemmas.{List.get_or-set_other, List.get_or-set_same, Grind.common_steps, Bool.Decides.nat_tests}
 use Rattle.std.{proofs.lemmas.Bool.and_parts, proofs.Math.ListN.length-set, specs.List.list_any}
 use Rattle.ffs_volume.{specs.declared.Role.Role, proofs.RoleLaws.plain-true}
-use Rattle.ffs_volume.specs.declared.Role.TheVariants.{Empty, Dot, Dotdot, Extra, Plain}
+use Rattle.ffs_volume.specs.declared.Role.TheVariants.{Plain}
 use Rattle.ffs_volume.specs.Directories.{Climb.is_value, PathnameCheck.plain_lines, PathnameCheck.entry_lines}
 use Rattle.ffs_volume.specs.Directories.PathnameCheck.{lines_of_entries, entry_lines_of as lines_by_role}
 use Rattle.ffs_volume.specs.Directories.PathnameCheck.{is_first_entry_of_suspect, is_extraneous, named_lines}

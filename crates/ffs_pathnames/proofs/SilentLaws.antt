@@ -1,23 +1,23 @@
 -- Nothing is reported of a directory that the survey found calm.
 use Rattle.std.proofs.Common.{◌≡◌, ◌≢◌, ℕ, suc, ◌<◌, ◌≤◌, ◌*◌, ◌/◌, ◌==◌, Bool, true, false, not, ◌&&◌, ◌||◌, nat_le}
 use Rattle.std.proofs.Common.{nat_lt, if◌then◌else◌, refl, List, [], ◌∷◌, ◌++◌, map, length, slice_index, slice_set}
-use Rattle.std.proofs.Common.{Option, None, Some, option_and_then, sum_by, unwrap_or, arith, sym, ◌∙◌, ap, subst, inl}
-use Rattle.std.proofs.Common.{inr, eqb-true, eq-eqb, ne_eqb, leb-true}
+use Rattle.std.proofs.Common.{Option, None, Some, option_and_then, unwrap_or, arith, sym, ◌∙◌, ap, subst}
+use Rattle.std.proofs.Common.{eqb-true, eq-eqb, ne_eqb, leb-true}
 use Rattle.std.proofs.lemmas.{List.get_or-set_other, Bool.Decides.nat_tests}
 use Rattle.std.proofs.lemmas.Bool.{or_cases, or_left, or_right, false_from_ne_true, both_ways, and_parts, and_from}
 use Rattle.std.specs.List.{list_any, flat_map, find}
 use Rattle.ffs_volume.specs.declared.{Layout.Layout, Attr.Attr, Order.Order, Step.Step, Role.Role}
-use Rattle.ffs_volume.specs.declared.Step.TheVariants.{Run, Tail, Gap}
-use Rattle.ffs_volume.specs.declared.Role.TheVariants.{Dot, Dotdot, Extra, Plain}
+use Rattle.ffs_volume.specs.declared.Step.TheVariants.{Run}
+use Rattle.ffs_volume.specs.declared.Role.TheVariants.{Extra, Plain}
 use Rattle.ffs_volume.specs.{Laws.Geometry.IsAcceptedLayout, Disk.Areas.is_run_in_range, Blocks.Steps.steps_of}
 use Rattle.ffs_volume.specs.Blocks.Inodes.{is_allocated, is_unknown, inode_of}
 use Rattle.ffs_volume.specs.Directories.{Climb.is_value, Graph.is_naming_entry, Graph.parent, Parents.graph_of}
 use Rattle.ffs_volume.specs.Directories.Entries.{Entry, Chunk, ChunkSource, chunk_of, chunks_of, run_chunks}
 use Rattle.ffs_volume.specs.Directories.Entries.{step_chunks, entries_of, is_sound, is_live, bytes_read}
-use Rattle.ffs_volume.specs.Directories.{Paths.dir_path, Volumes.class_at, Volumes.volume_of, Volumes.volume_with}
-use Rattle.ffs_volume.specs.Directories.PathnameCheck.{is_bad_whiteout, is_wrong_parent, attributes, are_sound}
+use Rattle.ffs_volume.specs.Directories.{Volumes.class_at, Volumes.volume_of, Volumes.volume_with}
+use Rattle.ffs_volume.specs.Directories.PathnameCheck.{is_bad_whiteout, attributes, are_sound}
 use Rattle.ffs_volume.specs.Directories.Roles.{nth_entry, start_entry, Volume, RoledEntry, is_dir, is_suspect, is_plain}
-use Rattle.ffs_volume.specs.Directories.Roles.{is_one_dot, is_two_dots, role_of, roled_from, roled_chunk, roled_entries}
+use Rattle.ffs_volume.specs.Directories.Roles.{is_two_dots, role_of, roled_from, roled_chunk, roled_entries}
 use Rattle.ffs_volume.specs.Encodings.Kinds.{is_empty_dir_kind, is_allocated_kind, is_unknown_kind, type_of_kind}
 use Rattle.ffs_volume.specs.Encodings.Replay.{cut_at, fresh_replay, replayed_steps}
 use Rattle.ffs_names.{specs.RunCursors.reading_by, specs.Surveys.FlagsCalm, proofs.DirLaws.kind_dirs}

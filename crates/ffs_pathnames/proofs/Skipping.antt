@@ -1,12 +1,11 @@
 -- Inodes that aren't looked at, before the first directory that is.
-use Rattle.std.proofs.Common.{◌≡◌, ◌<◌, ◌≤◌, ◌-◌, ◌+◌, refl, sym, ap, ◌∙◌, ℕ, zero, suc, false, List, map, Option}
-use Rattle.std.proofs.Common.{arith, slice_index, not, ◌&&◌, length}
-use Rattle.ffs_volume.specs.{declared.Layout.Layout, Laws.Geometry.IsAcceptedLayout, Directories.Roles.is_suspect}
+use Rattle.std.proofs.Common.{◌≡◌, ◌<◌, ◌≤◌, ◌-◌, ◌+◌, refl, ap, ◌∙◌, ℕ, zero, suc, false, List, map, Option}
+use Rattle.std.proofs.Common.{arith, slice_index}
+use Rattle.ffs_volume.specs.{declared.Layout.Layout, Laws.Geometry.IsAcceptedLayout}
 use Rattle.ffs_volume.specs.Directories.{Volumes.volume_with, Volumes.volume_of, PathnameCheck.directory_lines}
 use Rattle.ffs_volume.{specs.Messages.Kinds.of_tree, specs.Messages.Kinds.lines_from, proofs.Numbered.from_next}
-use Rattle.ffs_maps.specs.Bits.{bits_of}
 use Rattle.ffs_workspace.specs.{declared.workspace.Workspace.Workspace, Lengths.IsFor, Places.is_due}
-use Rattle.ffs_workspace.specs.Holds.{bool_at, HoldsSurvey}
+use Rattle.ffs_workspace.specs.Holds.{HoldsSurvey}
 use Rattle.ffs_pathnames.{specs.Before.IsBefore, specs.Before.is_checked, proofs.Carrying.before_skipped}
 use Rattle.ffs_pathnames.proofs.{Carrying.lines_skipped, StampLaws.none_stamped, StampLaws.stamps_length}
 

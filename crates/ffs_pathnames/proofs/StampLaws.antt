@@ -1,14 +1,14 @@
 -- Stamps, where one word changes.
 use Rattle.std.proofs.Common.{arith, ◌≡◌, ℕ, zero, suc, Bool, true, false, if◌then◌else◌, refl, List, [], ◌∷◌, length}
-use Rattle.std.proofs.Common.{slice_index, slice_set, replicate, not, ◌&&◌, ◌==◌, ◌<◌, ◌≤◌, nat_lt, sym, ◌∙◌, ap}
+use Rattle.std.proofs.Common.{slice_index, slice_set, replicate, not, ◌&&◌, ◌==◌, ◌<◌, ◌≤◌, ◌∙◌, ap}
 use Rattle.std.proofs.{Common.eqb-true, Common.eq-eqb, Common.lt-ltb, lemmas.Bool.and_from, lemmas.Bool.and_parts}
 use Rattle.ffs_workspace.specs.{Leaves.LeavesSurvey, declared.workspace.Workspace.Workspace, Places.is_due}
-use Rattle.ffs_workspace.{specs.Places.place_in, specs.Places.AreNoted, specs.Places.ArePlaces, proofs.PlaceLaws.zero_index}
+use Rattle.ffs_workspace.{specs.Places.place_in, specs.Places.AreNoted, proofs.PlaceLaws.zero_index}
 use Rattle.ffs_volume.specs.{declared.Layout.Layout, declared.Role.Role, Encodings.Kinds.is_dir_kind}
-use Rattle.ffs_volume.specs.Directories.{Entries.Entry, Roles.Volume, Roles.is_dir, Roles.is_plain}
+use Rattle.ffs_volume.specs.Directories.{Entries.Entry, Roles.Volume, Roles.is_plain}
 use Rattle.ffs_pathnames.specs.{Examines.LeavesAllButDue, declared.inodes.Inodes.Inodes, Sees.Sees, Sees.passed_in}
 use Rattle.ffs_pathnames.specs.{Sees.stamps_in, Stamps.stamp_of, Stamps.stamps_of, Stamps.KeepPlaces}
-use Rattle.ffs_pathnames.specs.PassedNames.{belongs, after_look, after_roled}
+use Rattle.ffs_pathnames.specs.PassedNames.{after_look, after_roled}
 use Rattle.ffs_survey.specs.Survey.{suspect_at}
 
 pub stamps_length : (ps ws : List ℕ) → length (stamps_of ps ws) ≡ length ws

@@ -1,9 +1,7 @@
-use Rattle.std.proofs.Common.{◌≡◌, refl, sym, ap, subst, ◌∙◌, ℕ, List, ◌∷◌, Some, arith, ◌==◌, ◌||◌}
-use Rattle.std.{proofs.lemmas.Result.err_from_is_err_and, specs.List.flat_map, specs.List.find}
-use Rattle.ffs_image.specs.Device.{Faulted}
+use Rattle.std.proofs.Common.{◌≡◌, refl, sym, ap, ◌∙◌, ℕ, List, ◌∷◌, Some, arith, ◌==◌, ◌||◌}
+use Rattle.std.{specs.List.flat_map, specs.List.find}
 use Rattle.ffs_volume.specs.Directories.{Entries.Chunk, Entries.chunk_of, Roles.roled_chunk, PathnameCheck.are_sound}
 use Rattle.ffs_names.specs.Readings.{rest, gap_left}
-use Rattle.ffs_walk.specs.Windows.{WindowHolds}
 use Rattle.ffs_pathnames.specs.{PassedNames.are_quiet, PassedNames.after_looks, Sees.stamps_in, Reads.chunks_read}
 use Rattle.ffs_pathnames.{specs.Reads.start_chunk, proofs.ReadyLaws.others_stay}
 use Rattle.ffs_pathnames.proofs.Looking.{chunk_quiet, chunk_stamps, chunk_sound, all_quiet, all_stamps, all_sound}

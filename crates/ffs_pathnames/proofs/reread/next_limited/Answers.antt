@@ -1,4 +1,4 @@
-use Rattle.std.proofs.Common.{◌∙◌, ◌≡◌, ◌≤◌, ℕ, List, Some, ap, arith, sym, true}
+use Rattle.std.proofs.Common.{◌∙◌, ◌≡◌, ◌≤◌, ℕ, List, Some, ap, arith, true}
 use Rattle.std.proofs.lemmas.Bool.{both_ways}
 use Rattle.ffs_image.specs.{Device.Device, Limited.reads_asked}
 use Rattle.ffs_image.proofs.Limits.{read_over}
@@ -27,9 +27,7 @@ bytes g c b t = ap (λ (d : Device). d.contents) c.new-limited.ensures.device �
 answered : (g : Over) (c : After-is_spent g) (b : List ℕ) → (g.I.Image.device c.args.image.now).contents ≡ Some b →
     HoldsReading c.args.windows.now.blocks c.args.windows.now.chunk c.args.chunks.now →
     to_read b c.args.chunks.now ≤ c.args.reads_left.now → c.is_spent.result ≡ true → ⊥
-answered g c b t held enough =
-    let asked = (c.next-offset.ensures.reads held b (bytes g c b t)).most in
-    both_ways _ ((after g c).served.few (omega (arith, asked, c.new-limited.ensures.asked, enough)))
+answered g c b t held enough = grind (arith, bytes, both_ways, after)
 
 pub returns-then-is_spent-clause-chunk : goal.returns-then-is_spent-clause-chunk
 returns-then-is_spent-clause-chunk g c = λ b t held enough. absurd (answered g

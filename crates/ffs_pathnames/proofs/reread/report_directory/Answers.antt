@@ -1,9 +1,9 @@
-use Rattle.std.proofs.Common.{refl, sym, ap, subst, ◌∙◌, ◌≡◌, ◌≤◌, ◌+◌, ℕ, Some, List, [], ◌∷◌, map, Err, arith, length, inl, inr}
+use Rattle.std.proofs.Common.{refl, sym, ap, subst, ◌∙◌, ◌≡◌, ◌≤◌, ◌+◌, ℕ, Some, List, [], ◌∷◌, map, Err, arith, inl, inr}
 use Rattle.std.{proofs.lemmas.Bool.both_ways, proofs.lemmas.Result.err_from_is_err_and, specs.List.flat_map}
 use Rattle.ffs_image.specs.Device.{Faulted}
 use Rattle.ffs_volume.proofs.Numbered.{as_many}
-use Rattle.ffs_volume.specs.Directories.{Entries.Chunk, Entries.chunk_of, Roles.roled_chunk, Roles.roled_entries}
-use Rattle.ffs_volume.specs.{Directories.Volumes.volume_of, Messages.Kinds.of_tree, Report.Reads.line_reads}
+use Rattle.ffs_volume.specs.Directories.{Entries.Chunk, Entries.chunk_of, Roles.roled_chunk}
+use Rattle.ffs_volume.specs.{Directories.Volumes.volume_of, Messages.Kinds.of_tree}
 use Rattle.ffs_workspace.{specs.Notes.cut_in, specs.Leaves.LeavesSurvey, proofs.NoteLaws.cut_is_noted}
 use Rattle.ffs_workspace.specs.{Places.AreChunksNumbered, declared.workspace.Workspace.Workspace}
 use Rattle.ffs_workspace.proofs.Leaving.{leaves_all, leaves_more, windows_leave}

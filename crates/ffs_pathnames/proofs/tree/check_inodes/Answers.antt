@@ -1,20 +1,18 @@
-use Rattle.std.proofs.Common.{◌+◌, ◌-◌, ◌<◌, [], map, refl, sym, ap, subst, ◌≡◌, ◌∙◌, suc, arith, rules, Err, List, ℕ}
-use Rattle.std.proofs.Common.{◌≤◌, length, true}
-use Rattle.std.proofs.lemmas.{Bool.both_ways, Result.err_from_is_err_and}
+use Rattle.std.proofs.Common.{◌+◌, ◌-◌, [], map, refl, sym, ap, subst, ◌≡◌, ◌∙◌, suc, arith, rules, Err, List, ℕ}
+use Rattle.std.proofs.Common.{◌≤◌, true}
+use Rattle.std.proofs.lemmas.{Result.err_from_is_err_and}
 use Rattle.ffs_volume.proofs.Numbered.{as_many, from_next, from_end, count_next as next_long}
-use Rattle.ffs_volume.{proofs.Sizes.some_inodes, specs.Report.Reads.line_reads}
 use Rattle.ffs_volume.specs.Messages.Kinds.{of_tree, lines_from}
 use Rattle.ffs_volume.specs.Directories.{PathnameCheck.directory_lines, Volumes.volume_of}
 use Rattle.ffs_report.proofs.Reporting.{of_begins, of_same, of_part, of_fault, of_reads, said_knows, reports_knowing}
 use Rattle.ffs_workspace.specs.{declared.workspace.Workspace.Workspace, Lengths.inodes_of}
 use Rattle.ffs_pathnames.{specs.Before.IsBeforeNoted, proofs.Carrying.noted_reported}
 use Rattle.ffs_pathnames.proofs.Skipping.{noted_before, unseen}
-use Rattle.ffs_survey.{specs.Costs.costs_all, proofs.Costs.cost_take, proofs.Costs.costs_rise}
+use Rattle.ffs_survey.{proofs.Costs.cost_take, proofs.Costs.costs_rise}
 use Rattle.ffs_names.specs.Costs.{directories_cost, directory_cost}
 use Rattle.ffs_names.proofs.Limits.{costs_within}
-use Rattle.ffs_report.proofs.Paying.{paid_failed, paid_none, paid_then, paid_within}
+use Rattle.ffs_report.proofs.Paying.{paid_none, paid_then, paid_within}
 use Rattle.ffs_pathnames.specs.{Before.IsBefore, ReadsLeft.LeftForNext}
-use Rattle.ffs_report.specs.PhaseOutcome.{ImageAfter}
 use Rattle.ffs_pathnames.proofs.tree.check_inodes.Given.{Over}
 use Rattle.ffs_pathnames.proofs.tree.check_inodes.Goals.{After-check_inode}
 use Rattle.ffs_pathnames.proofs.tree.check_inodes.Goals as goal
@@ -132,26 +130,12 @@ pub returns-in_err-check_inode-clause-leaves : goal.returns-in_err-check_inode-c
 returns-in_err-check_inode-clause-leaves g c = grind (arith, err_from_is_err_and)
 
 pub returns-clause-text : goal.returns-clause-text
-returns-clause-text g c =
-    let v = c.args.geometry.now.layout in
-    let inv = c.loop-number.invariant in
-    let n = c.loop-number.number in
-    of_same _ _ (λ b. []) _ _ _ inv.said (λ b k. from_end (directory_lines (volume_of v b)) n (inodes_of v)
-    (omega arith))
+returns-clause-text g c = grind (arith, of_same, from_end)
 
 pub returns-clause-holds : goal.returns-clause-holds
 returns-clause-holds g c = λ b k. let now = (c.loop-number.invariant.before b k).before in (now.claims, now.survey)
 
-pub returns-clause-unchecked : goal.returns-clause-unchecked
-returns-clause-unchecked g c = λ none.
-    let first = c.first_checked-first in
-    let below : first.result < inodes_of c.args.geometry.now.layout = omega arith in
-    absurd (both_ways _ (none first.result first.ensures.range.0 below) (first.ensures.found below))
-
 -- the reads
-pub returns-in_err-note_places-clause-reads : goal.returns-in_err-note_places-clause-reads
-returns-in_err-note_places-clause-reads g c = grind arith
-
 pub returns-in_err-check_inode-clause-reads : goal.returns-in_err-check_inode-clause-reads
 returns-in_err-check_inode-clause-reads g c = λ b k numbered.
     let at = (goal.at.returns-in_err-check_inode-clause-reads g c).After-check_inode in
@@ -164,15 +148,9 @@ returns-in_err-check_inode-clause-reads g c = λ b k numbered.
     let rise = costs_rise (λ s. true) (directory_cost v b) (n + 1) (inodes_of v) (omega arith) in
     omega (arith, here, long, taken, rise, inv.reads b k numbered)
 
-pub returns-clause-reads : goal.returns-clause-reads
-returns-clause-reads g c = grind (arith, costs_rise)
-
 -- what was read for messages
 pub returns-then-first-count-clause-paid : goal.returns-then-first-count-clause-paid
 returns-then-first-count-clause-paid g c = λ numbered. paid_none (omega arith)
-
-pub returns-in_err-note_places-clause-paid : goal.returns-in_err-note_places-clause-paid
-returns-in_err-note_places-clause-paid g c = grind (arith, err_from_is_err_and, paid_failed)
 
 pub returns-in_err-check_inode-clause-paid : goal.returns-in_err-check_inode-clause-paid
 returns-in_err-check_inode-clause-paid g c = λ numbered.
