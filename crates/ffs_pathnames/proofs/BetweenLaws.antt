@@ -1,5 +1,5 @@
 -- What is remembered of the names that were passed, from one directory to the next.
-use Rattle.std.proofs.Common.{◌≡◌, ◌≢◌, ℕ, suc, ◌≤◌, ◌==◌, true, false, not, ◌&&◌, refl, List, []}
+use Rattle.std.proofs.Common.{◌≡◌, ◌≢◌, ℕ, suc, ◌≤◌, ◌==◌, true, false, not, refl, List, []}
 use Rattle.std.proofs.Common.{◌∷◌, ◌++◌, length, slice_index, slice_set, arith, sym, ◌∙◌, append_assoc}
 use Rattle.std.{proofs.Common.append-nil, specs.List.list_any}
 use Rattle.std.proofs.lemmas.List.{get_or-set_other, get_or-set_same, set_past}
@@ -30,15 +30,13 @@ unstamped v s m r x h = let low = r.stamps x h in grind (arith, nat_tests)
 abbrev pub looked : Volume → ℕ → PassedNames → PassedNames
 looked v s m = record m { stamps = after_looks v s m.stamps (roled_entries v s) }
 
-due_is : (v : Volume) (s x : ℕ) → (belongs v s x && list_any (is_naming_entry x) (roled_entries v s))
-    ≡ (belongs v s x && true)
-due_is v s x = let n = belongs_named v s x in grind (arith, nat_tests)
-
 -- once s is looked at, what is remembered is right before its first entry
 pub looked_right : (v : Volume) (s : ℕ) (m : PassedNames) → AreRightBefore v s m → AreRight v s [] (looked v s m)
 looked_right v s m r = record {
   named = λ x h q n o. r.named x h q n o ∙ sym (or-false (some_below (λ t. is_naming_dir (graph_of v) t x) s));
-  due = λ x h. stamped_all v s [] (roled_entries v s) m.stamps r.stamps_length (unstamped v s m r) x h ∙ due_is v s x;
+  due = λ x h.
+      let all = stamped_all v s [] (roled_entries v s) m.stamps r.stamps_length (unstamped v s m r) x h in
+      grind (arith, belongs_named, nat_tests);
   flags_length = r.flags_length;
   stamps_length = looks_all_long v s (roled_entries v s) m.stamps ∙ r.stamps_length;
 }
@@ -90,16 +88,8 @@ pub reported_next : (v : Volume) (s : ℕ) (m : PassedNames) → IsDirectory v s
 reported_next v s m d r =
     let whole = right_end [] (roled_entries v s) (looked v s m) d.from_two (looked_right v s m r) in
     record {
-      named = λ x h q n o.
-          let a = whole.named x h q n o in
-          let b = some_below-suc (λ t. is_naming_dir (graph_of v) t x) s in
-          let dir = d.dir in
-          grind (arith, nat_tests);
-      stamps = λ x h.
-          let a = r.stamps x h in
-          let b = entries_small v s (roled_entries v s) (looked v s m) x
-          (looks_small v s (roled_entries v s) m.stamps x (omega arith)) in
-          omega arith;
+      named = λ x h q n o. let a = whole.named x h q n o in grind (arith, some_below-suc, nat_tests);
+      stamps = λ x h. let a = r.stamps x h in grind (arith, entries_small, looks_small);
       flags_length = whole.flags_length;
       stamps_length = whole.stamps_length;
       calm = λ x h. r.calm x (sym (entries_calm v s (roled_entries v s) (looked v s m) x) ∙ h);

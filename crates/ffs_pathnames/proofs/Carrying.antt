@@ -1,7 +1,7 @@
 -- What is known between two directories, carried from one to the next.
 use Rattle.std.proofs.Common.{◌≡◌, ◌<◌, ◌-◌, ◌==◌, refl, sym, ap, ◌∙◌, ℕ, suc, Bool, true, false, not, ◌&&◌, ◌||◌}
 use Rattle.std.proofs.Common.{if◌then◌else◌, List, [], ◌++◌, map, get_or, Option, Some, arith, slice_index, Result, Ok}
-use Rattle.std.proofs.Common.{Err, OnOk, IfOk, eqb-true, inl, inr, ◌≤◌}
+use Rattle.std.proofs.Common.{Err, OnOk, IfOk, inl, inr, ◌≤◌}
 use Rattle.std.proofs.lemmas.Bool.{Decides.nat_tests, cases_Bool, and_parts}
 use Rattle.std.proofs.lemmas.List.{get_or_default, map-append}
 use Rattle.ffs_volume.specs.{declared.Layout.Layout, declared.Class.Class, Laws.Geometry.IsAcceptedLayout}
@@ -9,10 +9,10 @@ use Rattle.ffs_volume.specs.declared.Class.TheVariants.{Dir}
 use Rattle.ffs_volume.specs.Directories.{Graph.is_naming_dir, Parents.graph_of, Roles.Volume, Roles.is_suspect}
 use Rattle.ffs_volume.specs.Directories.PathnameCheck.{sized_dir_lines, continues_after_root, directory_lines}
 use Rattle.ffs_volume.specs.Directories.PathnameCheck.{pathname_lines, root_lines, root_lines_of}
-use Rattle.ffs_volume.specs.Directories.Volumes.{class_at, marked_at, volume_of, volume_with}
+use Rattle.ffs_volume.specs.Directories.Volumes.{volume_of, volume_with}
 use Rattle.ffs_volume.specs.Messages.Kinds.{TreeMessage, of_tree, lines_below, lines_from}
 use Rattle.ffs_volume.specs.Blocks.Inodes.{is_directory, is_allocated}
-use Rattle.ffs_volume.specs.Encodings.Kinds.{kind_at, is_dir_kind, is_empty_dir_kind, is_allocated_kind}
+use Rattle.ffs_volume.specs.Encodings.Kinds.{is_dir_kind, is_empty_dir_kind, is_allocated_kind}
 use Rattle.ffs_volume.proofs.{SearchLaws.some_below-none, Numbered.all_from_root, Sizes.some_inodes}
 use Rattle.ffs_names.specs.Surveys.{IsUntouched}
 use Rattle.ffs_workspace.specs.{declared.workspace.Workspace.Workspace, Lengths.IsFor, Lengths.inodes_of}
@@ -99,32 +99,23 @@ pub noted_reported : {v : Layout} {contents contents' : Option (List ℕ)} {w : 
     contents' ≡ contents → IsBeforeNoted v contents w d b → IsBeforeNoted v contents' w d b
 noted_reported {w = w} e k = noted_next e (leaves_all w) (λ x. refl) k.before.passed k
 
--- a directory that isn't looked at is calm, and left out
-left_out : (a b c : Bool) → (a && (b || not c)) ≡ false → a ≡ true → (b ≡ false) × (c ≡ true)
-left_out a b c h e = (grind (arith, nat_tests), grind (arith, nat_tests))
-
 module _ {v : Layout} {contents : Option (List ℕ)} {w : Workspace} {d : ℕ} {b : List ℕ} where
   -- what is known of a directory that is looked at
   pub directory_context : (slice_index w.kinds.items d == 4) ≡ true → IsBeforeNoted v contents w d b →
       DirectoryContext v contents w d b
-  directory_context e k = record {
-    gives_bytes = k.before.gives_bytes;
-    claims = k.before.claims;
-    survey = k.before.survey;
-    noted = k.noted;
-    dir = looked_dir v b d (rw (← k.before.claims.kinds d) e);
-  }
+  directory_context e k = grind (arith, looked_dir)
 
   pub lines_looked : (slice_index w.kinds.items d == 4) ≡ true → IsBefore v contents w d b →
       directory_lines (volume_of v b) d ≡ sized_dir_lines (volume_of v b) d
   lines_looked e k = rw (looked_is v b d, ← k.claims.kinds d, e) refl
 
+  -- a directory that isn't looked at is calm
   calm_shown : is_checked w d ≡ false → (slice_index w.kinds.items d == 4) ≡ true → IsBefore v contents w d b →
       IsSilentDirectory (volume_of v b) d
   calm_shown h e k =
-      let left = left_out _ (bool_at w.marked.items d) (bool_at w.flags.items d) h e in
-      let kind = eqb-true (slice_index w.kinds.items d) 4 e in
-      k.passed.calm d (rw (← suspect_shown v b w d k.claims, left.0, left.1, kind) refl)
+      let suspect = suspect_shown v b w d k.claims in
+      let calm = k.passed.calm d in
+      grind (arith, nat_tests)
 
   -- an inode that isn't looked at, or is left out
   pub lines_skipped : 2 ≤ d → is_checked w d ≡ false → IsBefore v contents w d b →
@@ -158,10 +149,7 @@ pub root_is : (v : Layout) (b : List ℕ) (w : Workspace) (k : ℕ) (m : Bool) �
     m ≡ bool_at w.marked.items 2 → HoldsClaims v b w →
     root_reported k m ≡ root_lines (volume_of v b)
 unfolding root_lines volume_of volume_with
-root_is v b w k m e f h =
-    let t = reports_at v b 2 in
-    rw (e ∙ h.kinds 2, f ∙ h.marked 2)
-    (root_by (volume_of v b) (class_at v b 2) (kind_at v b 2) (marked_at v b 2) t.dir t.allocated (suspect_is v b 2))
+root_is v b w k m e f h = let t = reports_at v b 2 in grind (arith, root_by, suspect_is)
 
 -- the kind and the mark of the root, as they are read
 pub root_kind_is : (v : Layout) (w : Workspace) (k : ℕ) → IsAcceptedLayout v → IsFor v w → k ≡ get_or w.kinds.items 2 k

@@ -95,5 +95,4 @@ pub suspects_unnamed : (v : Volume) (s : ℕ) (es : List RoledEntry) (stamps : L
     are_quiet v s stamps es ≡ true → is_suspect v x ≡ true → x ≢ 1 → list_any (is_naming_entry x) es ≡ false
 suspects_unnamed v s [] stamps x h q n = refl
 suspects_unnamed v s (e ∷ es) stamps x h q n =
-    let p = and_parts (is_quiet v s stamps e) _ h in
-    rw (suspect_unnamed v s stamps e x p.0 q n) (suspects_unnamed v s es (after_look v s stamps e) x p.1 q n)
+    let rest = suspects_unnamed v s es (after_look v s stamps e) x in grind (arith, suspect_unnamed)

@@ -142,21 +142,18 @@ calm_roled v s e x m = grind (arith, nat_tests, get_or-set_other)
 
 passes : {v : Volume} {s : ℕ} {done : List RoledEntry} {m : PassedNames} (e : RoledEntry) → 2 ≤ s → e.role ≡ Plain →
     e.entry.number < v.count → AreRight v s done m → AreRight v s (done ++ e ∷ []) (after_name v s m e.entry.number)
-passes {done = done} {m = m} e two p low r =
-    let f = r.flags_length in
-    let t = r.stamps_length in
-    record {
-      named = λ x h q u n.
-          let a = r.named x h q u n in
-          let b = any_more (is_naming_entry x) done e in
-          grind (arith, nat_tests, get_or-set_other, get_or-set_same);
-      due = λ x h.
-          let a = r.due x h in
-          let b = any_more (is_naming_entry x) done e in
-          grind (arith, nat_tests, get_or-set_other, get_or-set_same);
-      flags_length = grind (arith, nat_tests, length-set);
-      stamps_length = grind (arith, nat_tests, length-set);
-    }
+passes {done = done} e two p low r = record {
+  named = λ x h q u n.
+      let a = r.named x h q u n in
+      let b = any_more (is_naming_entry x) done e in
+      grind (arith, nat_tests, get_or-set_other, get_or-set_same);
+  due = λ x h.
+      let a = r.due x h in
+      let b = any_more (is_naming_entry x) done e in
+      grind (arith, nat_tests, get_or-set_other, get_or-set_same);
+  flags_length = grind (arith, nat_tests, length-set);
+  stamps_length = grind (arith, nat_tests, length-set);
+}
 
 pub right_after : {v : Volume} {s : ℕ} {done : List RoledEntry} {m : PassedNames} (e : RoledEntry) → 2 ≤ s →
     AreRight v s done m → AreRight v s (done ++ e ∷ []) (after_roled v s m e)

@@ -30,16 +30,13 @@ answered : (g : Over) (c : After-is_spent g) (b : List ℕ) → (g.I.Image.devic
 answered g c b t held enough = grind (arith, bytes, both_ways, after)
 
 pub returns-then-is_spent-clause-chunk : goal.returns-then-is_spent-clause-chunk
-returns-then-is_spent-clause-chunk g c = λ b t held enough. absurd (answered g
-    (goal.at.returns-then-is_spent-clause-chunk g c).After-is_spent b t held enough c.if-is_spent.true)
+returns-then-is_spent-clause-chunk g c = grind (arith, answered)
 
 pub returns-then-is_spent-clause-reads : goal.returns-then-is_spent-clause-reads
-returns-then-is_spent-clause-reads g c = λ held b t enough. absurd (answered g
-    (goal.at.returns-then-is_spent-clause-reads g c).After-is_spent b t held enough c.if-is_spent.true)
+returns-then-is_spent-clause-reads g c = grind (arith, answered)
 
 pub returns-then-is_spent-clause-kept : goal.returns-then-is_spent-clause-kept
-returns-then-is_spent-clause-kept g c = λ held b t enough. absurd (answered g
-    (goal.at.returns-then-is_spent-clause-kept g c).After-is_spent b t held enough c.if-is_spent.true)
+returns-then-is_spent-clause-kept g c = grind (arith, answered)
 
 pub returns-then-is_spent-clause-most : goal.returns-then-is_spent-clause-most
 returns-then-is_spent-clause-most g c = grind (arith, after)
