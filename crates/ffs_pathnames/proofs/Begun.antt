@@ -1,6 +1,6 @@
 -- A directory that is begun, and how its lines continue.
 use Rattle.std.proofs.Common.{length, arith, ◌≡◌, ◌≤◌, suc, refl, sym, subst, ◌∙◌, ℕ, true, List, [], ◌++◌, map, Option}
-use Rattle.std.proofs.Common.{Err, nat_le, nat_lt, append-nil, ltb-true}
+use Rattle.std.proofs.Common.{Err, append-nil, ltb-true}
 use Rattle.std.proofs.lemmas.{List.map-append, Bool.and_parts}
 use Rattle.ffs_pathnames.proofs.{LineCounts.lines_long, LookLaws.quiet_silent, HeaderLaws.dir_parts}
 use Rattle.ffs_pathnames.proofs.PassedLaws.{size_of, IsDirectory, right_reported}
@@ -9,12 +9,13 @@ use Rattle.ffs_pathnames.specs.{declared.examine.Examination.Examination, Examin
 use Rattle.ffs_pathnames.specs.Begins.{dir_header_lines, started_entry, IsDirectoryBegun}
 use Rattle.ffs_pathnames.specs.{PassedRight.AreRightBefore, Header.header_reported}
 use Rattle.ffs_pathnames.specs.PassedNames.{PassedNames, are_quiet, entries_reported, after_entries}
-use Rattle.ffs_volume.specs.{declared.Layout.Layout, Blocks.Inodes.inode_of, Blocks.Inodes.is_directory}
+use Rattle.ffs_volume.specs.{declared.Layout.Layout, Blocks.Inodes.inode_of}
 use Rattle.ffs_volume.specs.Directories.{Entries.Entry, Graph.parent, Parents.graph_of, Paths.dir_path}
 use Rattle.ffs_volume.specs.Directories.PathnameCheck.{attributes, sized_dir_lines, lines_of_entries}
-use Rattle.ffs_volume.specs.Directories.Roles.{Volume, is_dir, is_inode, roled_entries, start_entry}
+use Rattle.ffs_volume.specs.Directories.Roles.{Volume, is_dir, roled_entries, start_entry}
 use Rattle.ffs_volume.specs.Directories.Volumes.{volume_of, volume_with}
 use Rattle.ffs_volume.specs.Messages.Kinds.{Message, TreeMessage, of_tree}
+use Rattle.ffs_report.proofs.Reporting.{of_begins, of_fault, reports_knowing, reports_same}
 use Rattle.ffs_report.specs.{Known.ForBytes, Progress.Progress}
 use Rattle.ffs_report.specs.PhaseOutcome.{ImageAfter, SaidOf, PhaseReports}
 use Rattle.ffs_report.specs.declared.fault.RunFault.{RunFault, TheVariants.Read, TheVariants.Out}
@@ -25,30 +26,14 @@ use Rattle.ffs_workspace.specs.declared.workspace.Workspace.{Workspace}
 pub said_same : (knows knows' : List ℕ → Type 0) (all all' : List ℕ → List Message) (a b : Progress) →
     ForBytes knows' knows → ForBytes knows' (λ bytes. all bytes ≡ all' bytes) → SaidOf knows (λ bytes. []) all a b →
     SaidOf knows' (λ bytes. []) all' a b
-said_same knows knows' all all' a b more e p = record {
-  messages = p.messages;
-  right = λ bytes k. p.right bytes (more bytes k) ∙ e bytes k;
-  said = p.said;
-}
+said_same knows knows' all all' a b more e p = grind (arith, reports_same, reports_knowing)
 
 pub fault_same : (T E : Type 0) (knows knows' : List ℕ → Type 0) (all all' : List ℕ → List Message) (a b : Progress)
     (fault : RunFault) →
     ForBytes knows' knows → ForBytes knows' (λ bytes. all bytes ≡ all' bytes) →
     PhaseReports {T = T} knows all a b (Err fault) → PhaseReports {T = E} knows' all' a b (Err fault)
-fault_same T E knows knows' all all' a b (Read fault) more e p = record {
-  rest = p.rest;
-  prefix = record {
-    messages = p.prefix.messages;
-    right = λ bytes k. p.prefix.right bytes (more bytes k) ∙ e bytes k;
-    said = p.prefix.said;
-  };
-}
-fault_same T E knows knows' all all' a b (Out fault) more e p = record {
-  messages = p.messages;
-  rest = p.rest;
-  right = λ bytes k. p.right bytes (more bytes k) ∙ e bytes k;
-  stopped = p.stopped;
-}
+fault_same T E knows knows' all all' a b fault more e p = of_fault T E _ _ _ (λ b. []) _ _ _ _ fault
+    (of_begins _ _ _) (λ b k. sym (e b k) ∙ sym (append-nil _)) (reports_knowing T _ _ _ _ _ (Err fault) more p)
 
 -- the image after a fault is that of another answer, and of a device that is the same
 pub image_same : (T E : Type 0) (d d' d'' : Device) (fault : RunFault) → d' ≡ d → ImageAfter {T = T} d' d'' (Err fault)
@@ -70,24 +55,16 @@ pub starts_are : (v : Layout) (b : List ℕ) (d : ℕ) (old new : Workspace) (e 
     header_reported (attributes (volume_of v b) d) (dir_path (graph_of (volume_of v b)) d) d above e.look.gap
     e.look.sound first second ≡ dir_header_lines (volume_of v b) d
 unfolding dir_header_lines start_entry
-starts_are v b d old new e start above first second f p q r =
-    rw (p, f.gap, f.sound, q, r, f.started) refl
+starts_are v b d old new e start above first second f p q r = grind arith
 
 pub begun_is : (v : Layout) (b : List ℕ) (d : ℕ) (old new more : Workspace) (e : Examination) (start : List ℕ) →
     IsExamined v b d old e start new → LeavesAllButDue old new → more ≡ record new { windows = more.windows } →
     IsDirectoryBegun v b d old e more
-begun_is v b d old new more e start f q m = record {
-  inode = f.inode;
-  quiet = f.quiet;
-  passed = rw (m, q.flags, f.stamps) refl;
-}
+begun_is v b d old new more e start f q m = grind arith
 
 -- a directory among the inodes
 pub directory_is : (v : Volume) (d : ℕ) → 2 ≤ d → is_dir v d ≡ true → IsDirectory v d
-directory_is v d two h =
-    let a = and_parts (is_inode v d) (is_directory (v.class d)) h in
-    let b = and_parts (nat_le 2 d) (nat_lt d v.count) a.0 in
-    record { dir = h; below = ltb-true d v.count b.1; from_two = two }
+directory_is v d two h = grind (arith, and_parts, ltb-true)
 
 -- its lines: first those before its entries, then those of its entries
 pub lines_parts : (v : Volume) (d : ℕ) (ms : List TreeMessage) → lines_of_entries v d 0 (roled_entries v d) ≡ ms →
@@ -99,29 +76,21 @@ pub starts_within : (v : Volume) (d : ℕ) → length (dir_header_lines v d) ≤
 starts_within v d =
     let long = lines_long (sized_dir_lines v d) (dir_header_lines v d) _ (lines_parts v d _ refl) in omega (arith, long)
 
-pub quiet_lines : (v : Volume) (d : ℕ) (m : PassedNames) → IsDirectory v d → AreRightBefore v d m →
-    are_quiet v d m.stamps (roled_entries v d) ≡ true → lines_of_entries v d 0 (roled_entries v d) ≡ []
-unfolding size_of
-quiet_lines v d m dir r h = quiet_silent [] (roled_entries v d) m.stamps dir refl r.stamps_length
-    (unstamped v d m r) h
-
-pub reported_lines : (v : Volume) (d : ℕ) (m : PassedNames) → IsDirectory v d → AreRightBefore v d m →
-    lines_of_entries v d 0 (roled_entries v d) ≡ entries_reported v d (looked v d m) (roled_entries v d)
-unfolding size_of
-reported_lines v d m dir r = right_reported [] (roled_entries v d) (looked v d m) dir refl (looked_right v d m r)
-
 pub quiet_parts : (v : Volume) (d : ℕ) (m : PassedNames) → IsDirectory v d → AreRightBefore v d m →
     are_quiet v d m.stamps (roled_entries v d) ≡ true →
     map of_tree (dir_header_lines v d) ≡ map of_tree (sized_dir_lines v d)
+unfolding size_of
 quiet_parts v d m dir r h =
-    sym (lines_parts v d [] (quiet_lines v d m dir r h) ∙ append-nil (map of_tree (dir_header_lines v d)))
+    let none = quiet_silent [] (roled_entries v d) m.stamps dir refl r.stamps_length (unstamped v d m r) h in
+    sym (lines_parts v d [] none ∙ append-nil (map of_tree (dir_header_lines v d)))
 
 pub reported_parts : (v : Volume) (d : ℕ) (m m' : PassedNames) → IsDirectory v d → AreRightBefore v d m →
-    m' ≡ looked v d
-    m →
+    m' ≡ looked v d m →
     map of_tree (sized_dir_lines v d) ≡ map of_tree (dir_header_lines v d)
     ++ map of_tree (entries_reported v d m' (roled_entries v d))
-reported_parts v d m m' dir r e = rw e (lines_parts v d _ (reported_lines v d m dir r))
+unfolding size_of
+reported_parts v d m m' dir r e = rw e (lines_parts v d _
+    (right_reported [] (roled_entries v d) (looked v d m) dir refl (looked_right v d m r)))
 
 -- the names that were passed after it
 pub quiet_after : (v : Volume) (d : ℕ) (m m' : PassedNames) → AreRightBefore v d m →

@@ -1,16 +1,16 @@
 -- What is remembered of the names that were passed, from one directory to the next.
-use Rattle.std.proofs.Common.{◌≡◌, ◌≢◌, ℕ, suc, ◌≤◌, ◌==◌, Bool, true, false, not, ◌&&◌, if◌then◌else◌, refl, List, []}
-use Rattle.std.proofs.Common.{◌∷◌, ◌++◌, length, slice_index, slice_set, nat_lt, arith, sym, ◌∙◌, append_assoc}
+use Rattle.std.proofs.Common.{◌≡◌, ◌≢◌, ℕ, suc, ◌≤◌, ◌==◌, true, false, not, refl, List, []}
+use Rattle.std.proofs.Common.{◌∷◌, ◌++◌, length, slice_index, slice_set, arith, sym, ◌∙◌, append_assoc}
 use Rattle.std.{proofs.Common.append-nil, specs.List.list_any}
 use Rattle.std.proofs.lemmas.List.{get_or-set_other, get_or-set_same, set_past}
 use Rattle.std.proofs.{lemmas.Bool.Decides.nat_tests, lemmas.Bool.and_parts, Math.Bool.and-false, Math.Bool.or-false}
 use Rattle.ffs_pathnames.{proofs.FirstTwo.parent_edge, specs.Calm.IsSilentDirectory}
-use Rattle.ffs_pathnames.proofs.PassedLaws.{IsDirectory, calm_name, right_after}
+use Rattle.ffs_pathnames.proofs.PassedLaws.{IsDirectory, calm_roled, right_after}
 use Rattle.ffs_pathnames.proofs.LookLaws.{AreStamped, stamped_all, looks_all_long, suspects_unnamed}
-use Rattle.ffs_pathnames.specs.PassedNames.{PassedNames, is_calm, after_roled, after_name, after_entries, belongs}
+use Rattle.ffs_pathnames.specs.PassedNames.{PassedNames, is_calm, after_roled, after_entries, belongs}
 use Rattle.ffs_pathnames.specs.PassedNames.{after_look, after_looks, are_quiet}
 use Rattle.ffs_pathnames.specs.PassedRight.{AreRight, AreRightBefore}
-use Rattle.ffs_volume.specs.Directories.Roles.{Volume, RoledEntry, is_dir, is_suspect, is_plain, roled_entries}
+use Rattle.ffs_volume.specs.Directories.Roles.{Volume, RoledEntry, is_dir, is_suspect, roled_entries}
 use Rattle.ffs_volume.specs.Directories.{Parents.graph_of, Graph.is_naming_entry, Graph.is_naming_dir}
 use Rattle.ffs_volume.{specs.Disk.Search.some_below, proofs.ClimbLaws.is_value-true, proofs.SearchLaws.some_below-suc}
 
@@ -19,11 +19,9 @@ belongs_named : (v : Volume) (s x : ℕ) → belongs v s x ≡ true → list_any
 belongs_named v s x h =
     let a = and_parts (is_dir v x) _ h in
     let b = and_parts (not (x == 2)) _ a.1 in
-    let named = parent_edge (graph_of v) x s (other b.0) (is_value-true _ s b.1) in
+    let other : x ≢ 2 = λ z. grind (arith, nat_tests) in
+    let named = parent_edge (graph_of v) x s other (is_value-true _ s b.1) in
     (and_parts (is_dir v s) _ (and_parts (is_dir v x) _ named).1).1
-  where
-    other : not (x == 2) ≡ true → x ≢ 2
-    other k z = grind (arith, nat_tests)
 
 -- nothing is stamped before s is looked at
 pub unstamped : (v : Volume) (s : ℕ) (m : PassedNames) → AreRightBefore v s m → AreStamped v s [] m.stamps
@@ -32,15 +30,13 @@ unstamped v s m r x h = let low = r.stamps x h in grind (arith, nat_tests)
 abbrev pub looked : Volume → ℕ → PassedNames → PassedNames
 looked v s m = record m { stamps = after_looks v s m.stamps (roled_entries v s) }
 
-due_is : (v : Volume) (s x : ℕ) → (belongs v s x && list_any (is_naming_entry x) (roled_entries v s))
-    ≡ (belongs v s x && true)
-due_is v s x = let n = belongs_named v s x in grind (arith, nat_tests)
-
 -- once s is looked at, what is remembered is right before its first entry
 pub looked_right : (v : Volume) (s : ℕ) (m : PassedNames) → AreRightBefore v s m → AreRight v s [] (looked v s m)
 looked_right v s m r = record {
   named = λ x h q n o. r.named x h q n o ∙ sym (or-false (some_below (λ t. is_naming_dir (graph_of v) t x) s));
-  due = λ x h. stamped_all v s [] (roled_entries v s) m.stamps r.stamps_length (unstamped v s m r) x h ∙ due_is v s x;
+  due = λ x h.
+      let all = stamped_all v s [] (roled_entries v s) m.stamps r.stamps_length (unstamped v s m r) x h in
+      grind (arith, belongs_named, nat_tests);
   flags_length = r.flags_length;
   stamps_length = looks_all_long v s (roled_entries v s) m.stamps ∙ r.stamps_length;
 }
@@ -54,11 +50,8 @@ looks_small : (v : Volume) (s : ℕ) (es : List RoledEntry) (stamps : List ℕ) 
     slice_index (after_looks v s stamps es) x ≤ s
 looks_small v s [] stamps x h = h
 looks_small v s (e ∷ es) stamps x h =
-    looks_small v s es (after_look v s stamps e) x (one (is_plain e.role && belongs v s e.entry.number))
-  where
-    one : (b : Bool) → slice_index (if b then slice_set stamps e.entry.number s else stamps) x ≤ s
-    one true = set_small s e.entry.number s x stamps (omega arith) h
-    one false = h
+    let l = set_small s e.entry.number s x stamps (omega arith) h in
+    looks_small v s es (after_look v s stamps e) x (grind (arith, nat_tests))
 
 roled_small : (v : Volume) (s : ℕ) (e : RoledEntry) (m : PassedNames) (x : ℕ) → slice_index m.stamps x ≤ s →
     slice_index (after_roled v s m e).stamps x ≤ s
@@ -72,12 +65,7 @@ entries_small v s (e ∷ es) m x h = entries_small v s es (after_roled v s m e) 
 entries_calm : (v : Volume) (s : ℕ) (es : List RoledEntry) (m : PassedNames) (x : ℕ) →
     is_calm v (after_entries v s m es) x ≡ is_calm v m x
 entries_calm v s [] m x = refl
-entries_calm v s (e ∷ es) m x =
-    entries_calm v s es (after_roled v s m e) x ∙ one (is_plain e.role && nat_lt e.entry.number v.count)
-  where
-    one : (b : Bool) → is_calm v (if b then after_name v s m e.entry.number else m) x ≡ is_calm v m x
-    one true = calm_name v s e.entry.number x m
-    one false = refl
+entries_calm v s (e ∷ es) m x = entries_calm v s es (after_roled v s m e) x ∙ calm_roled v s e x m
 
 -- ---- the next directory
 right_end : {v : Volume} {s : ℕ} (done es : List RoledEntry) (m : PassedNames) → 2 ≤ s → AreRight v s done m →
@@ -92,17 +80,7 @@ next : (v : Volume) (s : ℕ) (m : PassedNames) (stamps : List ℕ) → AreRight
     ((x : ℕ) → is_suspect v x ≡ true → x ≢ 1 → is_naming_dir (graph_of v) s x ≡ false) →
     ((x : ℕ) → slice_index m.stamps x ≤ s → slice_index stamps x ≤ s) → length stamps ≡ length m.stamps →
     AreRightBefore v (suc s) (record m { stamps = stamps })
-next v s m stamps r none small long = record {
-  named = λ x h q n o.
-      let a = r.named x h q n o in
-      let b = none x q n in
-      let c = some_below-suc (λ t. is_naming_dir (graph_of v) t x) s in
-      grind (arith, nat_tests);
-  stamps = λ x h. let a = r.stamps x h in let b = small x (omega arith) in omega arith;
-  flags_length = r.flags_length;
-  stamps_length = long ∙ r.stamps_length;
-  calm = r.calm;
-}
+next v s m stamps r none small long = grind (arith, some_below-suc, nat_tests)
 
 -- after a directory of which all entries were passed
 pub reported_next : (v : Volume) (s : ℕ) (m : PassedNames) → IsDirectory v s → AreRightBefore v s m →
@@ -110,16 +88,8 @@ pub reported_next : (v : Volume) (s : ℕ) (m : PassedNames) → IsDirectory v s
 reported_next v s m d r =
     let whole = right_end [] (roled_entries v s) (looked v s m) d.from_two (looked_right v s m r) in
     record {
-      named = λ x h q n o.
-          let a = whole.named x h q n o in
-          let b = some_below-suc (λ t. is_naming_dir (graph_of v) t x) s in
-          let dir = d.dir in
-          grind (arith, nat_tests);
-      stamps = λ x h.
-          let a = r.stamps x h in
-          let b = entries_small v s (roled_entries v s) (looked v s m) x
-          (looks_small v s (roled_entries v s) m.stamps x (omega arith)) in
-          omega arith;
+      named = λ x h q n o. let a = whole.named x h q n o in grind (arith, some_below-suc, nat_tests);
+      stamps = λ x h. let a = r.stamps x h in grind (arith, entries_small, looks_small);
       flags_length = whole.flags_length;
       stamps_length = whole.stamps_length;
       calm = λ x h. r.calm x (sym (entries_calm v s (roled_entries v s) (looked v s m) x) ∙ h);
@@ -133,8 +103,7 @@ unnamed v s m h x q n = rw (suspects_unnamed v s (roled_entries v s) m.stamps x 
 -- after a directory of which nothing is reported
 pub quiet_next : (v : Volume) (s : ℕ) (m : PassedNames) → AreRightBefore v s m →
     are_quiet v s m.stamps (roled_entries v s) ≡ true → AreRightBefore v (suc s) (looked v s m)
-quiet_next v s m r h = next v s m _ r (unnamed v s m h) (looks_small v s (roled_entries v s) m.stamps)
-    (looks_all_long v s (roled_entries v s) m.stamps)
+quiet_next v s m r h = search (arith, next, unnamed, looks_small, looks_all_long)
 
 -- after an inode that names no suspect, and isn't looked at
 pub other_next : (v : Volume) (s : ℕ) (m : PassedNames) →

@@ -1,26 +1,25 @@
 -- What is known between two directories, carried from one to the next.
-use Rattle.std.proofs.Common.{◌≡◌, ◌<◌, ◌-◌, ◌==◌, refl, sym, ap, ◌∙◌, ℕ, zero, suc, Bool, true, false, not, ◌&&◌, ◌||◌}
+use Rattle.std.proofs.Common.{◌≡◌, ◌<◌, ◌-◌, ◌==◌, refl, sym, ap, ◌∙◌, ℕ, suc, Bool, true, false, not, ◌&&◌, ◌||◌}
 use Rattle.std.proofs.Common.{if◌then◌else◌, List, [], ◌++◌, map, get_or, Option, Some, arith, slice_index, Result, Ok}
-use Rattle.std.proofs.Common.{Err, OnOk, IfOk, eqb-true, inl, inr, ◌≤◌}
+use Rattle.std.proofs.Common.{Err, OnOk, IfOk, inl, inr, ◌≤◌}
 use Rattle.std.proofs.lemmas.Bool.{Decides.nat_tests, cases_Bool, and_parts}
 use Rattle.std.proofs.lemmas.List.{get_or_default, map-append}
 use Rattle.ffs_volume.specs.{declared.Layout.Layout, declared.Class.Class, Laws.Geometry.IsAcceptedLayout}
-use Rattle.ffs_volume.specs.declared.Class.TheVariants.{Free, Partial, Unknown, File, Dir}
+use Rattle.ffs_volume.specs.declared.Class.TheVariants.{Dir}
 use Rattle.ffs_volume.specs.Directories.{Graph.is_naming_dir, Parents.graph_of, Roles.Volume, Roles.is_suspect}
 use Rattle.ffs_volume.specs.Directories.PathnameCheck.{sized_dir_lines, continues_after_root, directory_lines}
-use Rattle.ffs_volume.specs.Directories.PathnameCheck.{pathname_lines, root_lines, root_lines_of, is_sized_dir}
-use Rattle.ffs_volume.specs.Directories.Volumes.{class_at, marked_at, volume_of, volume_with}
+use Rattle.ffs_volume.specs.Directories.PathnameCheck.{pathname_lines, root_lines, root_lines_of}
+use Rattle.ffs_volume.specs.Directories.Volumes.{volume_of, volume_with}
 use Rattle.ffs_volume.specs.Messages.Kinds.{TreeMessage, of_tree, lines_below, lines_from}
 use Rattle.ffs_volume.specs.Blocks.Inodes.{is_directory, is_allocated}
-use Rattle.ffs_volume.specs.Encodings.Kinds.{kind_at, is_dir_kind, is_empty_dir_kind, is_allocated_kind}
+use Rattle.ffs_volume.specs.Encodings.Kinds.{is_dir_kind, is_empty_dir_kind, is_allocated_kind}
 use Rattle.ffs_volume.proofs.{SearchLaws.some_below-none, Numbered.all_from_root, Sizes.some_inodes}
 use Rattle.ffs_names.specs.Surveys.{IsUntouched}
 use Rattle.ffs_workspace.specs.{declared.workspace.Workspace.Workspace, Lengths.IsFor, Lengths.inodes_of}
 use Rattle.ffs_workspace.specs.Holds.{bool_at, HoldsClaims, HoldsReferences, HoldsSurvey}
 use Rattle.ffs_workspace.{specs.Leaves.LeavesSurvey, proofs.KindLaws.reports_at, proofs.KindLaws.suspect_is}
 use Rattle.ffs_workspace.proofs.Leaving.{claims_left, survey_left, leaves_all}
-use Rattle.ffs_maps.specs.Bits.{bits_of}
-use Rattle.ffs_report.specs.declared.fault.RunFault.{RunFault, TheVariants.Read, TheVariants.Out}
+use Rattle.ffs_report.specs.declared.fault.RunFault.{RunFault, TheVariants.Read}
 use Rattle.ffs_pathnames.specs.{RootAnswers.AtReadFault, Gathers.passed_of, DirectoryContext.DirectoryContext}
 use Rattle.ffs_pathnames.specs.Before.{IsNonePassed, IsBefore, IsBeforeNoted, is_checked, root_reported}
 use Rattle.ffs_pathnames.specs.{Calm.IsSilentDirectory, PassedRight.AreRightBefore, Stamps.KeepPlaces}
@@ -40,24 +39,17 @@ if_ok (Err e) P Q f h = tt
 
 -- where a read failed
 pub at_fault : {T : Type 0} (r : Result T RunFault) (P : Type 0) → P → AtReadFault r P
-at_fault (Ok x) P h = tt
 at_fault (Err (Read fault)) P h = h
-at_fault (Err (Out fault)) P h = tt
+at_fault r P h = tt
 
 pub at_fault_more : {T : Type 0} (r : Result T RunFault) (P Q : Type 0) → (P → Q) → AtReadFault r P → AtReadFault r Q
-at_fault_more (Ok x) P Q f h = tt
 at_fault_more (Err (Read fault)) P Q f h = f h
-at_fault_more (Err (Out fault)) P Q f h = tt
+at_fault_more r P Q f h = tt
 
 -- a survey leaves what the block check found
 pub claims_untouched : (v : Layout) (b : List ℕ) (old new : Workspace) → IsUntouched old new → HoldsClaims v b old →
     HoldsClaims v b new
-claims_untouched v b old new s h = record {
-  used = ap bits_of s.used ∙ h.used;
-  kinds = λ x. ap (λ k. slice_index k.items x) s.kinds ∙ h.kinds x;
-  marked = λ x. ap (λ k. bool_at k.items x) s.marked ∙ h.marked x;
-  notes = λ x. ap (λ k. slice_index k.items x) s.notes ∙ h.notes x;
-}
+claims_untouched v b old new s h = grind (arith, ap)
 
 -- references are counted where their list stays
 pub references_on : (v : Layout) (b : List ℕ) (old new : Workspace) → new.references ≡ old.references →
@@ -74,162 +66,99 @@ flag_gone a b e = grind (arith, nat_tests)
 
 -- numbers below 2 are no directories
 none_named : (v : Volume) (x d : ℕ) → d < 2 → is_naming_dir (graph_of v) d x ≡ false
-none_named v x zero h = refl
-none_named v x (suc zero) h = refl
 none_named v x (suc (suc d)) h = absurd (omega arith)
+none_named v x d h = refl
 
 -- where no name is passed, all is right before the first directory
 clear_right : (v : Layout) (b : List ℕ) (old w : Workspace) → HoldsClaims v b old → IsFor v w → IsNonePassed old w →
     ((x : ℕ) → bool_at old.flags.items x ≡ true → IsSilentDirectory (volume_of v b) x) →
     AreRightBefore (volume_of v b) 2 (passed_of w)
 unfolding volume_of volume_with
-clear_right v b old w k m c silent = record {
-  named = λ x h q n o. c.flags x ∙ (flag_gone (bool_at old.flags.items x) _ (suspect_shown v b old x k ∙ q)
-      ∙ sym (some_below-none (λ t. is_naming_dir (graph_of (volume_of v b)) t x) 2 (none_named (volume_of v b) x)));
-  stamps = λ x h. let zero_is = c.stamps x in omega arith;
-  flags_length = sym w.flags.ok.0 ∙ m.flags;
-  stamps_length = stamps_length w.parents.items w.queue.items ∙ (sym w.queue.ok.0 ∙ m.queue);
-  calm = λ x h. silent x (and_parts (bool_at old.flags.items x) _
-      (sym (c.flags x) ∙ (and_parts (not (is_suspect (volume_of v b) x)) (bool_at w.flags.items x) h).1)).0;
-}
+clear_right v b old w k m c silent =
+    grind (arith, flag_gone, suspect_shown, some_below-none, none_named, stamps_length, and_parts)
 
 pub before_first : (v : Layout) (contents : Option (List ℕ)) (b : List ℕ) (old w : Workspace) → contents ≡ Some b →
     HoldsClaims v b old → HoldsSurvey v b old → IsFor v w → IsNonePassed old w →
     ((x : ℕ) → bool_at old.flags.items x ≡ true → IsSilentDirectory (volume_of v b) x) → IsBefore v contents w 2 b
-before_first v contents b old w t h s m c silent = record {
-  gives_bytes = t;
-  claims = claims_left v b old w c.survey h;
-  survey = survey_left v b old w c.survey s;
-  passed = clear_right v b old w h m c silent;
-}
-
--- what is known of a directory that is looked at
-looked_as : (v : Layout) (b : List ℕ) (w : Workspace) (d : ℕ) (looked : Bool) → HoldsClaims v b w →
-    (slice_index w.kinds.items d == 4) ≡ looked → is_sized_dir (volume_of v b) d ≡ looked
-looked_as v b w d looked h e = looked_is v b d ∙ rw (← h.kinds d) e
-
-pub directory_context : {v : Layout} {contents : Option (List ℕ)} {w : Workspace} {d : ℕ} {b : List ℕ} →
-    (slice_index w.kinds.items d == 4) ≡ true → IsBeforeNoted v contents w d b → DirectoryContext v contents w d b
-directory_context {v = v} {w = w} {d = d} {b = b} e k = record {
-  gives_bytes = k.before.gives_bytes;
-  claims = k.before.claims;
-  survey = k.before.survey;
-  noted = k.noted;
-  dir = looked_dir v b d (rw (← k.before.claims.kinds d) e);
-}
-
-pub lines_looked : {v : Layout} {contents : Option (List ℕ)} {w : Workspace} {d : ℕ} {b : List ℕ} →
-    (slice_index w.kinds.items d == 4) ≡ true → IsBefore v contents w d b →
-    directory_lines (volume_of v b) d ≡ sized_dir_lines (volume_of v b) d
-lines_looked {v = v} {w = w} {d = d} {b = b} e k = rw (looked_as v b w d true k.claims e) refl
-
-lines_other : {v : Layout} {contents : Option (List ℕ)} {w : Workspace} {d : ℕ} {b : List ℕ} →
-    (slice_index w.kinds.items d == 4) ≡ false → IsBefore v contents w d b → directory_lines (volume_of v b) d ≡ []
-lines_other {v = v} {w = w} {d = d} {b = b} e k = rw (looked_as v b w d false k.claims e) refl
+before_first v contents b old w t h s m c silent = grind (arith, claims_left, survey_left, clear_right)
 
 -- the next inode, or an image that gives the same
 pub before_next : {v : Layout} {contents contents' : Option (List ℕ)} {old new : Workspace} {d d' : ℕ} {b : List ℕ} →
     contents' ≡ contents → LeavesSurvey old new → AreRightBefore (volume_of v b) d' (passed_of new) →
     IsBefore v contents old d b → IsBefore v contents' new d' b
-before_next {v = v} {old = old} {new = new} {b = b} e s r k = record {
-  gives_bytes = e ∙ k.gives_bytes;
-  claims = claims_left v b old new s k.claims;
-  survey = survey_left v b old new s k.survey;
-  passed = r;
-}
-
-pub before_reported : {v : Layout} {contents contents' : Option (List ℕ)} {w : Workspace} {d : ℕ} {b : List ℕ} →
-    contents' ≡ contents → IsBefore v contents w d b → IsBefore v contents' w d b
-before_reported {w = w} e k = before_next e (leaves_all w) k.passed k
+before_next e s r k = grind (arith, claims_left, survey_left)
 
 -- the same, where places are noted
 pub noted_next : {v : Layout} {contents contents' : Option (List ℕ)} {old new : Workspace} {d d' : ℕ} {b : List ℕ} →
     contents' ≡ contents → LeavesSurvey old new → KeepPlaces old.queue.items new.queue.items →
     AreRightBefore (volume_of v b) d' (passed_of new) → IsBeforeNoted v contents old d b →
     IsBeforeNoted v contents' new d' b
-noted_next {v = v} {old = old} {new = new} {b = b} e s keep r k = record {
-  before = before_next e s r k.before;
-  noted = λ numbered. noted_kept v b old.queue.items new.queue.items keep (k.noted numbered);
-}
+noted_next e s keep r k = grind (arith, before_next, noted_kept)
 
 pub noted_reported : {v : Layout} {contents contents' : Option (List ℕ)} {w : Workspace} {d : ℕ} {b : List ℕ} →
     contents' ≡ contents → IsBeforeNoted v contents w d b → IsBeforeNoted v contents' w d b
-noted_reported e k = record { before = before_reported e k.before; noted = k.noted }
+noted_reported {w = w} e k = noted_next e (leaves_all w) (λ x. refl) k.before.passed k
 
--- a directory that isn't looked at is calm, and left out
-left_out : (a b c : Bool) → (a && (b || not c)) ≡ false → a ≡ true → (b ≡ false) × (c ≡ true)
-left_out a b c h e = (grind (arith, nat_tests), grind (arith, nat_tests))
+module _ {v : Layout} {contents : Option (List ℕ)} {w : Workspace} {d : ℕ} {b : List ℕ} where
+  -- what is known of a directory that is looked at
+  pub directory_context : (slice_index w.kinds.items d == 4) ≡ true → IsBeforeNoted v contents w d b →
+      DirectoryContext v contents w d b
+  directory_context e k = grind (arith, looked_dir)
 
-calm_shown : {v : Layout} {contents : Option (List ℕ)} {w : Workspace} {d : ℕ} {b : List ℕ} → is_checked w d ≡ false →
-    (slice_index w.kinds.items d == 4) ≡ true → IsBefore v contents w d b → IsSilentDirectory (volume_of v b) d
-calm_shown {v = v} {w = w} {d = d} {b = b} h e k =
-    let left = left_out _ (bool_at w.marked.items d) (bool_at w.flags.items d) h e in
-    let suspect = sym (suspect_shown v b w d k.claims) in
-    let kind = eqb-true (slice_index w.kinds.items d) 4 e in
-    k.passed.calm d (rw (suspect, left.0, left.1, kind) refl)
+  pub lines_looked : (slice_index w.kinds.items d == 4) ≡ true → IsBefore v contents w d b →
+      directory_lines (volume_of v b) d ≡ sized_dir_lines (volume_of v b) d
+  lines_looked e k = rw (looked_is v b d, ← k.claims.kinds d, e) refl
 
-lines_left_out : {v : Layout} {contents : Option (List ℕ)} {w : Workspace} {d : ℕ} {b : List ℕ} → 2 ≤ d →
-    is_checked w d ≡ false → (slice_index w.kinds.items d == 4) ≡ true → IsBefore v contents w d b →
-    map of_tree (directory_lines (volume_of v b) d) ≡ []
-lines_left_out {v = v} {w = w} {d = d} {b = b} two h e k =
-    let silent = calm_shown h e k in
-    let dir = directory_is (volume_of v b) d two (looked_dir v b d (rw (← k.claims.kinds d) e)) in
-    rw (
-      lines_looked e k,
-      ← quiet_parts (volume_of v b) d (passed_of w) dir k.passed
-          (silent_quiet (volume_of v b) d (passed_of w) silent k.passed),
-      silent.starts,
-    ) refl
+  -- a directory that isn't looked at is calm
+  calm_shown : is_checked w d ≡ false → (slice_index w.kinds.items d == 4) ≡ true → IsBefore v contents w d b →
+      IsSilentDirectory (volume_of v b) d
+  calm_shown h e k =
+      let suspect = suspect_shown v b w d k.claims in
+      let calm = k.passed.calm d in
+      grind (arith, nat_tests)
 
--- an inode that isn't looked at, or is left out
-pub lines_skipped : {v : Layout} {contents : Option (List ℕ)} {w : Workspace} {d : ℕ} {b : List ℕ} → 2 ≤ d →
-    is_checked w d ≡ false → IsBefore v contents w d b → map of_tree (directory_lines (volume_of v b) d) ≡ []
-lines_skipped {w = w} {d = d} two h k = elim (cases_Bool (slice_index w.kinds.items d == 4)) [
-  | inl e ↦ lines_left_out two h e k
-  | inr e ↦ ap (map of_tree) (lines_other e k)
-]
+  -- an inode that isn't looked at, or is left out
+  pub lines_skipped : 2 ≤ d → is_checked w d ≡ false → IsBefore v contents w d b →
+      map of_tree (directory_lines (volume_of v b) d) ≡ []
+  lines_skipped two h k = elim (cases_Bool (slice_index w.kinds.items d == 4)) [
+    | inl e ↦
+        let silent = calm_shown h e k in
+        let dir = directory_is (volume_of v b) d two (looked_dir v b d (rw (← k.claims.kinds d) e)) in
+        ap (map of_tree) (lines_looked e k) ∙ sym (quiet_parts (volume_of v b) d (passed_of w) dir k.passed
+        (silent_quiet (volume_of v b) d (passed_of w) silent k.passed)) ∙ ap (map of_tree) silent.starts
+    | inr e ↦ rw (looked_is v b d, ← k.claims.kinds d, e) refl
+  ]
 
-pub before_skipped : {v : Layout} {contents : Option (List ℕ)} {w : Workspace} {d : ℕ} {b : List ℕ} →
-    IsAcceptedLayout v → is_checked w d ≡ false → IsBefore v contents w d b → IsBefore v contents w (suc d) b
-before_skipped {v = v} {w = w} {d = d} {b = b} g h k = before_next refl (leaves_all w)
-    (elim (cases_Bool (slice_index w.kinds.items d == 4)) [
-      | inl e ↦ silent_next (volume_of v b) d (passed_of w) (calm_shown h e k) k.passed
-      | inr e ↦ other_next (volume_of v b) d (passed_of w)
-          (λ x q n. names_none v b d g (rw (← k.claims.kinds d) e) x) k.passed
-    ]) k
+  pub before_skipped : IsAcceptedLayout v → is_checked w d ≡ false → IsBefore v contents w d b →
+      IsBefore v contents w (suc d) b
+  before_skipped g h k = before_next refl (leaves_all w) (elim (cases_Bool (slice_index w.kinds.items d == 4)) [
+    | inl e ↦ silent_next (volume_of v b) d (passed_of w) (calm_shown h e k) k.passed
+    | inr e ↦ other_next (volume_of v b) d (passed_of w)
+        (λ x q n. names_none v b d g (rw (← k.claims.kinds d) e) x) k.passed
+  ]) k
 
 -- what is reported of the root
 root_by : (v : Volume) (c : Class) (k : ℕ) (m : Bool) → is_directory c ≡ is_dir_kind k →
     is_allocated c ≡ is_allocated_kind k → is_suspect v 2 ≡ (m || is_empty_dir_kind k) →
     root_reported k m ≡ root_lines_of v c
 unfolding root_reported
-root_by v Free k m d a s = grind (arith, nat_tests)
-root_by v Partial k m d a s = grind (arith, nat_tests)
-root_by v File k m d a s = grind (arith, nat_tests)
-root_by v Unknown k m d a s = grind (arith, nat_tests)
 root_by v Dir k m d a s = grind (arith, nat_tests)
+root_by v c k m d a s = grind (arith, nat_tests)
 
 pub root_is : (v : Layout) (b : List ℕ) (w : Workspace) (k : ℕ) (m : Bool) → k ≡ slice_index w.kinds.items 2 →
     m ≡ bool_at w.marked.items 2 → HoldsClaims v b w →
     root_reported k m ≡ root_lines (volume_of v b)
 unfolding root_lines volume_of volume_with
-root_is v b w k m e f h =
-    let t = reports_at v b 2 in
-    rw (e ∙ h.kinds 2, f ∙ h.marked 2)
-    (root_by (volume_of v b) (class_at v b 2) (kind_at v b 2) (marked_at v b 2) t.dir t.allocated (suspect_is v b 2))
+root_is v b w k m e f h = let t = reports_at v b 2 in grind (arith, root_by, suspect_is)
 
 -- the kind and the mark of the root, as they are read
 pub root_kind_is : (v : Layout) (w : Workspace) (k : ℕ) → IsAcceptedLayout v → IsFor v w → k ≡ get_or w.kinds.items 2 k
-    →
-    k ≡ slice_index w.kinds.items 2
-root_kind_is v w k g made e =
-    let some = some_inodes v g in e ∙ get_or_default w.kinds.items 2 k 0 (omega (arith, made.kinds, w.kinds.ok.0))
+    → k ≡ slice_index w.kinds.items 2
+root_kind_is v w k g made e = e ∙ get_or_default w.kinds.items 2 k 0 (omega (arith, some_inodes v g))
 
 pub root_marked_is : (v : Layout) (w : Workspace) (m : Bool) → IsAcceptedLayout v → IsFor v w →
     m ≡ get_or w.marked.items 2 m → m ≡ bool_at w.marked.items 2
-root_marked_is v w m g made e =
-    let some = some_inodes v g in e ∙ get_or_default w.marked.items 2 m false
-    (omega (arith, made.marked, w.marked.ok.0))
+root_marked_is v w m g made e = e ∙ get_or_default w.marked.items 2 m false (omega (arith, some_inodes v g))
 
 pub goes_is : (v : Layout) (b : List ℕ) (w : Workspace) (k : ℕ) → k ≡ slice_index w.kinds.items 2 → HoldsClaims v b w →
     is_dir_kind k ≡ continues_after_root (volume_of v b)
@@ -249,6 +178,4 @@ pub tree_is : (v : Layout) (b : List ℕ) (w : Workspace) (k : ℕ) (m goes : Bo
     m ≡ bool_at w.marked.items 2 → HoldsClaims v b w → goes ≡ is_dir_kind k →
     map of_tree (pathname_lines (volume_of v b)) ≡ map of_tree (root_reported k m) ++ map of_tree (tree_lines v b goes)
 unfolding pathname_lines
-tree_is v b w k m goes e f h q =
-    rw (← root_is v b w k m e f h, ← (q ∙ goes_is v b w k e h), lines_begin v b)
-    (map-append of_tree (root_reported k m) (tree_lines v b goes))
+tree_is v b w k m goes e f h q = grind (arith, root_is, goes_is, lines_begin, map-append)

@@ -1,12 +1,12 @@
 -- Inodes that aren't looked at: those that are no directories, and directories of size 0.
 use Rattle.std.proofs.lemmas.Bool.{and_parts, and_cases, not-false, Decides.nat_tests}
 use Rattle.std.proofs.Common.{inl, inr, ◌≡◌, ◌<◌, ◌==◌, refl, ap, ◌∙◌, ℕ, Bool, true, false, not, ◌&&◌, List, [], arith}
-use Rattle.std.{proofs.Common.eqb-true, proofs.Math.Bool.and-false, specs.List.flat_map}
-use Rattle.ffs_volume.specs.{declared.Layout.Layout, Disk.Areas.is_run_in_range, Laws.Geometry.IsAcceptedLayout}
+use Rattle.std.{proofs.Common.eqb-true, proofs.Math.Bool.and-false}
+use Rattle.ffs_volume.specs.{declared.Layout.Layout, Laws.Geometry.IsAcceptedLayout}
 use Rattle.ffs_volume.{specs.Blocks.Inodes.inode_of, specs.Blocks.KeptSteps.kept_steps_of, proofs.Sizes.no_steps}
-use Rattle.ffs_volume.specs.Directories.{Entries.chunks_of, Graph.is_naming_dir, Roles.is_dir, Roles.roled_chunk}
+use Rattle.ffs_volume.specs.Directories.{Graph.is_naming_dir, Roles.is_dir}
 use Rattle.ffs_volume.specs.Directories.{Roles.roled_entries, Parents.graph_of, PathnameCheck.is_sized_dir}
-use Rattle.ffs_volume.specs.Directories.Volumes.{chunk_source_of, volume_with, volume_of, kept_steps_of_inode}
+use Rattle.ffs_volume.specs.Directories.Volumes.{volume_with, volume_of, kept_steps_of_inode}
 use Rattle.ffs_volume.specs.Encodings.Kinds.{kind_at, is_dir_kind, is_empty_dir_kind}
 use Rattle.ffs_workspace.proofs.KindLaws.{dir_is, empty_is}
 
@@ -18,23 +18,16 @@ none_kept v b d h z = rw (no_steps v b (inode_of v b d) h z) (grind arith)
 none_seen : (v : Layout) (b : List ℕ) (d : ℕ) → IsAcceptedLayout v → ((volume_of v b).inode d).size ≡ 0 →
     roled_entries (volume_of v b) d ≡ []
 unfolding volume_of volume_with roled_entries
-none_seen v b d g z =
-    let low = g.sizes.bsize_low in
-    ap (λ ss. flat_map roled_chunk (chunks_of (chunk_source_of v b d) (is_run_in_range v) ss))
-    (none_kept v b d (omega arith) z)
+none_seen v b d g z = grind (arith, ap, none_kept)
 
 -- of two tests of a directory and its kind
 kind_looked : (dir empty : Bool) (k : ℕ) → dir ≡ is_dir_kind k → (dir && empty) ≡ is_empty_dir_kind k →
     (dir && not empty) ≡ (k == 4)
-kind_looked true true k e f = grind (arith, nat_tests)
-kind_looked true false k e f = grind (arith, nat_tests)
-kind_looked false empty k e f = grind (arith, nat_tests)
+kind_looked dir empty k e f = grind (arith, nat_tests)
 
 -- the inodes of the kind 4 are looked at
 pub looked_is : (v : Layout) (b : List ℕ) (d : ℕ) → is_sized_dir (volume_of v b) d ≡ (kind_at v b d == 4)
-looked_is v b d =
-    kind_looked (is_dir (volume_of v b) d) (((volume_of v b).inode d).size == 0) (kind_at v b d) (dir_is v b d)
-    (empty_is v b d)
+looked_is v b d = grind (arith, kind_looked, dir_is, empty_is)
 
 pub looked_dir : (v : Layout) (b : List ℕ) (d : ℕ) → (kind_at v b d == 4) ≡ true → is_dir (volume_of v b) d ≡ true
 looked_dir v b d h = (and_parts (is_dir (volume_of v b) d) _ (looked_is v b d ∙ h)).0

@@ -1,13 +1,13 @@
 -- What is reported of a directory before its entries.
-use Rattle.std.proofs.Common.{◌≡◌, ◌≤◌, refl, arith, ℕ, ◌==◌, ◌%◌, Bool, true, false, not, ◌&&◌, List, [], ◌++◌, Option}
-use Rattle.std.proofs.Common.{None, Some, nat_lt, length, append_assoc, length-append, inl, inr}
+use Rattle.std.proofs.Common.{◌≡◌, ◌≤◌, arith, ℕ, ◌==◌, ◌%◌, Bool, true, false, not, ◌&&◌, List, [], ◌++◌, Option}
+use Rattle.std.proofs.Common.{None, Some, nat_lt, length, append_assoc, length-append}
 use Rattle.std.proofs.lemmas.Bool.{Decides.nat_tests, and_cases}
 use Rattle.ffs_volume.specs.declared.Attr.{Attr}
-use Rattle.ffs_volume.specs.Directories.{Entries.Entry, Entries.is_live, Graph.parent, Parents.graph_of, Paths.dir_path}
-use Rattle.ffs_volume.specs.Directories.Roles.{Volume, start_entry, dot, dotdot, roled_entries, is_two_dots}
-use Rattle.ffs_volume.specs.Directories.PathnameCheck.{attributes, are_sound, shape_lines, is_wrong_parent, dot_lines}
+use Rattle.ffs_volume.specs.Directories.{Entries.Entry, Graph.parent, Parents.graph_of, Paths.dir_path}
+use Rattle.ffs_volume.specs.Directories.Roles.{Volume, start_entry, dot, dotdot, roled_entries}
+use Rattle.ffs_volume.specs.Directories.PathnameCheck.{attributes, are_sound, shape_lines, dot_lines}
 use Rattle.ffs_volume.specs.Directories.PathnameCheck.{dotdot_lines, lines_of_entries, sized_dir_lines}
-use Rattle.ffs_pathnames.specs.Header.{shape_reported, dot_in, dotdot_in, dot_reported, dotdot_reported, dots_reported}
+use Rattle.ffs_pathnames.specs.Header.{shape_reported, dot_in, dotdot_in, dot_reported, dotdot_reported}
 use Rattle.ffs_pathnames.specs.Header.{header_reported, is_right_header, is_right_dot, is_right_dotdot}
 
 -- ---- in the parts in which it is said
@@ -35,13 +35,6 @@ unfolding sized_dir_lines header_reported
 dir_parts v d = rw (shape_is v d, dot_is v d, dotdot_is v d) (simp append_assoc)
 
 -- ---- none where a directory is in order
--- `..`
-pub dotdot_right : (about : Attr) (path : List ℕ) (parent : Option ℕ) (e : Entry) → is_live e ≡ true →
-    is_two_dots e.name ≡ true → is_wrong_parent parent e.number ≡ false → (e.kind == 4) ≡ true →
-    dotdot_reported about path parent (Some e) (dotdot_in (Some e)) ≡ []
-dotdot_right about path parent e live name number kind = rw (live, name, number, kind) refl
-
--- all of it
 pub in_order : (about : Attr) (path : List ℕ) (d size : ℕ) (parent : Option ℕ) (gap sound : Bool)
     (first second : Option Entry) → about.size ≡ size →
     (not (nat_lt size 24) && ((size % 512 == 0) && (not gap && sound))) ≡ true →
@@ -72,13 +65,4 @@ pub header_some : (about : Attr) (path : List ℕ) (d : ℕ) (parent : Option �
     1 ≤ length (header_reported about path d parent gap sound first second)
 unfolding header_reported
 header_some about path d parent gap sound first second h =
-    let a = length-append (shape_reported about path gap sound) (dots_reported about path d parent first second) in
-    let b = length-append (dot_reported about path d first (dot_in first))
-    (dotdot_reported about path parent second (dotdot_in second)) in
-    elim (and_cases _ _ h) [
-      | inl shape ↦ let c = shape_some about path gap sound shape in omega arith
-      | inr dots ↦ elim (and_cases _ _ dots) [
-        | inl dot ↦ let c = dot_some about path d first dot in omega arith
-        | inr dotdot ↦ let c = dotdot_some about path parent second dotdot in omega arith
-      ]
-    ]
+    grind (arith, length-append, and_cases, shape_some, dot_some, dotdot_some)

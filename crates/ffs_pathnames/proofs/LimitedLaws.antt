@@ -1,10 +1,9 @@
 -- What a look at a directory leaves of the image that it was limited on, and of the reads that are
 -- left.
 use Rattle.std.specs.Borrow.{GName}
-use Rattle.std.proofs.Common.{◌≡◌, ◌≤◌, ◌⊎◌, ◌+◌, ◌*◌, ◌-◌, ◌^◌, ℕ, arith, inl, inr, Bool, Option, Some, None, IfSome}
+use Rattle.std.proofs.Common.{◌≡◌, ◌≤◌, ◌⊎◌, ◌+◌, ℕ, arith, Bool, Option, Some, None, IfSome}
 use Rattle.std.proofs.Common.{Result, Ok, Err, IfOk, MatchOption, MatchResult}
 use Rattle.std.proofs.lemmas.Bool.{cases_lt}
-use Rattle.ffs_volume.specs.declared.constants.TheConstants.{DIRBLKSIZ}
 use Rattle.ffs_workspace.specs.Places.{AreChunksNumbered}
 use Rattle.ffs_survey.specs.Costs.{TakesReads}
 use Rattle.ffs_pathnames.specs.ReadsLeft.{TakesLeft}
@@ -18,11 +17,7 @@ use Rattle.ffs_walk.specs.declared.{blocks.Blocks.Blocks, window.Window.Window}
 -- windows that can be read into for one image can be for another with its bytes and its size
 pub can_read_same : (v : Layout) (d d' : Device) (blocks : Blocks) (chunk : Window) → d'.contents ≡ d.contents →
     d'.size ≡ d.size → CanReadChunks v d blocks chunk → CanReadChunks v d' blocks chunk
-can_read_same v d d' blocks chunk e size can = record {
-  walk = record { volume = rw size can.walk.volume; room = can.walk.room; holds = rw e can.walk.holds };
-  room = can.room;
-  holds = rw e can.holds;
-}
+can_read_same v d d' blocks chunk e size can = grind arith
 
 -- what a look made of the image below, and of the reads that were left for it
 pub record LookedBy {T : Type 0} (lent below : Device) (name_lent name : GName) (reads reads' limit left asked : ℕ)
@@ -47,25 +42,14 @@ looked {lent = lent} {name_lent = name_lent} {reads = reads} {limit = limit} {ab
 pub taken_below : {T : Type 0} {r : Result T ImageFault} {reads reads' asked asked' before after : ℕ} {held : Type 0} →
     TakesReads asked asked' before after held r → asked ≡ 0 → reads' ≤ reads + asked' →
     TakesReads reads reads' before after held r
-taken_below {r = Ok x} took none few = record {
-  most = omega (arith, took.most, none, few);
-  paid = omega (arith, took.paid, none, few);
-  held = took.held;
-}
-taken_below {r = Err e} took none few = record {
-  most = omega (arith, took.most, none, few);
-  paid = tt;
-  held = tt;
-}
+taken_below {r = Ok x} took none few = record { most = omega arith; paid = omega arith; held = took.held }
+taken_below {r = Err e} took none few = record { most = omega arith; paid = tt; held = tt }
 
 -- and of the reads that were left
 pub taken_left : {T : Type 0} {r : Result T ImageFault} {left left' asked asked' before after : ℕ} {held : Type 0} →
     TakesReads asked asked' before after held r → asked ≡ 0 → left ≤ left' + asked' → TakesLeft left left' before after r
-taken_left {r = Ok x} took none few = record {
-  most = omega (arith, took.most, none, few);
-  paid = omega (arith, took.paid, none, few);
-}
-taken_left {r = Err e} took none few = record { most = omega (arith, took.most, none, few); paid = tt }
+taken_left {r = Ok x} took none few = record { most = omega arith; paid = omega arith }
+taken_left {r = Err e} took none few = record { most = omega arith; paid = tt }
 
 -- a chunk that comes is one less to come
 pub budget_falls : (r : Result (Option ℕ) ImageFault) (old new : ℕ) → MatchResult r
@@ -77,7 +61,4 @@ budget_falls (Err e) old new h = tt
 
 -- all chunks are numbered, or not
 pub numbered_or_not : (v : Layout) → AreChunksNumbered v ⊎ (AreChunksNumbered v → ⊥)
-numbered_or_not v = elim (cases_lt (DIRBLKSIZ * (2 ^ 31 - 1)) (v.size * v.fsize)) [
-  | inl over ↦ inr (λ within. omega (arith, over, within))
-  | inr within ↦ inl within
-]
+numbered_or_not v = grind (arith, cases_lt)

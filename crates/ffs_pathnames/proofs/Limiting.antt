@@ -9,7 +9,7 @@ use Rattle.ffs_volume.specs.{declared.Layout.Layout}
 use Rattle.ffs_workspace.specs.{declared.workspace.Workspace.Workspace, Places.AreChunksNumbered, Ready.IsReady}
 use Rattle.ffs_workspace.proofs.Readiness.{ready_same}
 use Rattle.ffs_paths.specs.Reads.{OnlyReads, ReadsAtMost}
-use Rattle.ffs_paths.specs.{KeptParents.KeepsParent, KeptParents.PathLeaves, declared.kept_parent.KeptParent.KeptParent}
+use Rattle.ffs_paths.specs.{KeptParents.PathLeaves, declared.kept_parent.KeptParent.KeptParent}
 use Rattle.ffs_pathnames.{specs.DirectoryContext.DirectoryContext, proofs.LineCounts.knows_places}
 
 -- what was gathered over a limited image leaves of the image below and of the workspace
@@ -23,63 +23,25 @@ pub record IsGathered {T : Type 0} (n : ℕ) (v : Layout) (d d' : Device) (name_
   pub reads_of : spent ≡ true → (x : T) → OnlyReads v d d' w w' (Ok x)
 
 -- the image below gives what the one above does
-ready_below : {T : Type 0} {v : Layout} {d d' l' : Device} {w w' : Workspace} {name_lent name : GName}
-    {reads reads' limit asked : ℕ} {spent : Bool} (r : Result T ImageFault) →
-    ServedBy d d' name_lent name reads reads' limit asked spent r →
-    OnlyReads v (limited_device d name_lent reads (Some limit)) l' w w' r → IsReady v d' w'
-ready_below {v = v} {d = d} {d' = d'} {l' = l'} {w' = w'} {name_lent = name_lent} {reads = reads} {limit = limit} r back
-    o =
-    let above = read_over (limited_device d name_lent reads (Some limit)) l' r o.read in
-    ready_same v l' d' w' (back.contents ∙ sym above.contents) (back.size ∙ sym above.size) o.ready
+module _ {T : Type 0} {v : Layout} {d d' l' : Device} {w w' : Workspace} {name_lent name : GName}
+    {reads reads' limit asked : ℕ} {spent : Bool} {r : Result T ImageFault}
+    (back : ServedBy d d' name_lent name reads reads' limit asked spent r) where
+  ready_below : OnlyReads v (limited_device d name_lent reads (Some limit)) l' w w' r → IsReady v d' w'
+  ready_below o =
+      let above = read_over (limited_device d name_lent reads (Some limit)) l' r o.read in
+      ready_same v l' d' w' (back.contents ∙ sym above.contents) (back.size ∙ sym above.size) o.ready
 
-reads_below : {T : Type 0} {v : Layout} {d d' l' : Device} {w w' : Workspace} {name_lent name : GName}
-    {reads reads' limit asked : ℕ} {spent : Bool} (r : Result T ImageFault) →
-    ServedBy d d' name_lent name reads reads' limit asked spent r → spent ≡ false →
-    OnlyReads v (limited_device d name_lent reads (Some limit)) l' w w' r → OnlyReads v d d' w w' r
-reads_below r back none o =
-    record { lists = o.lists; chunk = o.chunk; ready = ready_below r back o; read = back.read none }
+  reads_below : spent ≡ false → OnlyReads v (limited_device d name_lent reads (Some limit)) l' w w' r →
+      OnlyReads v d d' w w' r
+  reads_below none o =
+      record { lists = o.lists; chunk = o.chunk; ready = ready_below o; read = back.read none }
 
 path_below : {T : Type 0} {v : Layout} {d d' l' : Device} {w w' : Workspace} {s : KeptParent} {name_lent name : GName}
     {reads reads' limit asked : ℕ} {spent : Bool} (r : Result T ImageFault) →
     ServedBy d d' name_lent name reads reads' limit asked spent r → spent ≡ false →
     PathLeaves v (limited_device d name_lent reads (Some limit)) l' w w' s r → PathLeaves v d d' w w' s r
-path_below {v = v} {w' = w'} {s = s} (Ok x) back none p = record {
-  reads = reads_below (Ok x) back none p.reads;
-  kept_parent = subst (λ contents. KeepsParent v contents w' s)
-      (ap (λ (d : Device). d.contents) p.reads.read ∙ sym back.contents) p.kept_parent;
-}
-path_below (Err f) back none p = record { reads = reads_below (Err f) back none p.reads; kept_parent = tt }
-
-gathered_by : {T : Type 0} {v : Layout} {d d' l' : Device} {w w' : Workspace} {s : KeptParent} {name_lent name : GName}
-    {reads reads' limit before asked n : ℕ} {spent : Bool} (r : Result T ImageFault) →
-    before ≡ 0 → AreChunksNumbered v → limit ≡ n →
-    ServedBy d d' name_lent name reads reads' limit asked spent r →
-    PathLeaves v (limited_device d name_lent reads (Some limit)) l' w w' s r →
-    ReadsAtMost n v (limited_device d name_lent reads (Some limit)) w w' before asked →
-    IsGathered n v d d' name_lent name reads reads' w w' s spent r
-gathered_by {v = v} {d = d} {w = w} r begins numbered price back p few = record {
-  same_image = back.same_image;
-  most = rw (← price) back.most;
-  counted = λ b k. record {
-    count = rw (← price) back.most;
-    blocks = (few b (record {
-      gives_bytes = k.gives_bytes;
-      claims = k.claims;
-      survey = k.survey;
-      places = k.places;
-    })).blocks;
-  };
-  all = λ b x k refused.
-      let count = (few b (knows_places v d.contents w x b k (k.noted numbered))).count in
-      both_ways _ (back.few (omega (arith, count, begins, price))) refused;
-  leaves = λ none. path_below r back none p;
-  reads_of = λ refused x. record {
-    lists = p.reads.lists;
-    chunk = p.reads.chunk;
-    ready = ready_below r back p.reads;
-    read = back.refused refused;
-  };
-}
+path_below (Ok x) back none p = grind (arith, subst, ap)
+path_below (Err f) back none p = record { reads = reads_below back none p.reads; kept_parent = tt }
 
 -- by the contracts of the part and of the limited image
 pub gathered : {T : Type 0} {v : Layout} {d d' l l' : Device} {w w' : Workspace} {s : KeptParent}
@@ -90,7 +52,24 @@ pub gathered : {T : Type 0} {v : Layout} {d d' l l' : Device} {w w' : Workspace}
     l'.lent ≡ (limited_device below given counted most).lent → l'.contents ≡ below.contents → l'.size ≡ below.size →
     GivesBack below d' given name counted reads' most left asked spent (limited_device below given counted most) l') →
     IsGathered n v d d' name_lent name reads reads' w w' s spent r
-gathered {r = r} over begins limit p few back =
-    let p' = rw over at p in
-    let few' = rw over at few in
-    gathered_by r begins limit.0 limit.1 (served p'.reads.read back) p' few'
+gathered {v = v} {d = d} {d' = d'} {w = w} {name_lent = lent} {name = name} {reads = reads} {reads' = reads'}
+    {limit = limit} {asked = asked} {spent = spent} {r = r} over begins numbered p few back =
+    let path = rw over at p in
+    let counts = rw over at few in
+    let price = numbered.1 in
+    let below : ServedBy d d' lent name reads reads' limit asked spent r = served path.reads.read back in
+    record {
+      same_image = below.same_image;
+      most = rw (← price) below.most;
+      counted = λ b k. record { count = rw (← price) below.most; blocks = (counts b k).blocks };
+      all = λ b x k refused.
+          let count = (counts b (knows_places v d.contents w x b k (k.noted numbered.0))).count in
+          both_ways _ (below.few (omega (arith, count, begins, price))) refused;
+      leaves = λ none. path_below r below none path;
+      reads_of = λ refused x. record {
+        lists = path.reads.lists;
+        chunk = path.reads.chunk;
+        ready = ready_below below path.reads;
+        read = below.refused refused;
+      };
+    }

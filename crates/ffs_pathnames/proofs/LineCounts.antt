@@ -1,5 +1,5 @@
 -- How many lines there are, and how many reads they make.
-use Rattle.std.proofs.Common.{◌≡◌, ◌≤◌, ◌+◌, ◌*◌, ℕ, refl, sym, ap, subst, ◌∙◌, arith, Option, List, ◌∷◌, ◌++◌, length}
+use Rattle.std.proofs.Common.{◌≡◌, ◌≤◌, ◌+◌, ◌*◌, ℕ, refl, ap, subst, ◌∙◌, arith, Option, List, ◌∷◌, ◌++◌, length}
 use Rattle.std.proofs.Common.{length-append, Ok, map}
 use Rattle.std.proofs.lemmas.{Bool.Decides.nat_tests, List.length-map}
 use Rattle.ffs_image.specs.Device.{Device}
@@ -15,12 +15,7 @@ use Rattle.ffs_pathnames.specs.PassedNames.{PassedNames, after_roled, entries_re
 -- ---- where there is a line
 pub knows_places : (v : Layout) (contents : Option (List ℕ)) (w : Workspace) (d : ℕ) (b : List ℕ) →
     DirectoryContext v contents w d b → AreNoted v b w.queue.items → KnowsPlaces v contents w b
-knows_places v contents w d b k noted = record {
-  gives_bytes = k.gives_bytes;
-  claims = k.claims;
-  survey = k.survey;
-  places = noted;
-}
+knows_places v contents w d b k noted = grind arith
 
 -- where nothing is read there are as few reads as one likes
 pub few_none : {n reads : ℕ} {w : Workspace} → ReadsFew n reads reads w w
@@ -29,12 +24,7 @@ few_none = record { count = omega arith; blocks = refl }
 -- and so after a call that only read
 pub places_on : {T : Type 0} {v : Layout} {d d' : Device} {w w' : Workspace} {x : T} (b : List ℕ) →
     OnlyReads v d d' w w' (Ok x) → KnowsPlaces v d.contents w b → KnowsPlaces v d'.contents w' b
-places_on {v = v} {w = w} {w' = w'} b r k = record {
-  gives_bytes = ap (λ d. d.contents) r.read ∙ k.gives_bytes;
-  claims = claims_held v b w w' r.lists k.claims;
-  survey = survey_held v b w w' r.lists k.survey;
-  places = subst (AreNoted v b) (sym (ap (λ (q : Workspace). q.queue.items) r.lists)) k.places;
-}
+places_on b r k = grind (arith, ap, claims_held, survey_held, subst)
 
 pub by_line : {reads reads' : ℕ} {w w' : Workspace} (n : ℕ) → ReadsFew line_reads reads reads' w w' → 1 ≤ n →
     ReadsFew (line_reads * n) reads reads' w w'
@@ -79,21 +69,8 @@ pub lines_long : (all one more : List TreeMessage) → map of_tree all ≡ map o
 lines_long all one more e = simp (length-append, length-map) at (ap length e)
 
 -- ---- the most reads
--- reads so far, where a directory is checked, of k for each line
-pub checked_on : (k reads reads' more costs cost before here there all : ℕ) → reads' ≤ reads + (2 * cost + k * here)
-    → reads + k * (here + there) ≤ before + (more + 2 * costs + k * all)
-    → reads' + k * there ≤ before + (more + 2 * (costs + cost) + k * all)
-checked_on k reads reads' more costs cost before here there all one so_far = omega arith
-
 -- a directory is begun, and reported, with k reads for each line
 pub checked_twice : (k reads reads' reads'' cost runs here more all : ℕ) → reads' ≤ reads + (cost + k * here)
     → reads'' ≤ reads' + (runs + k * more) → cost ≡ 1 + runs → all ≡ here + more
     → reads'' ≤ reads + (2 * cost + k * all)
 checked_twice k reads reads' reads'' cost runs here more all one two is e = rw e (omega (arith, one, two, is))
-
--- a chunk is read and its lines are said, with k reads for each
-pub reported_on : (k reads reads' reads'' left left' here there all most : ℕ) → reads' + left' ≤ reads + left
-    → reads'' ≤ reads' + k * here → all ≡ here + there → reads + left + k * all ≤ most
-    → reads'' + left' + k * there ≤ most
-reported_on k reads reads' reads'' left left' here there all most one two e so_far =
-    let now = rw e at so_far in omega (arith, one, two, now)

@@ -3,13 +3,12 @@ use Rattle.std.proofs.Common.{◌≡◌, ◌≢◌, ℕ, ◌<◌, ◌==◌, true
 use Rattle.std.proofs.Common.{sym, ◌∙◌, subst, append_assoc, append-nil, arith}
 use Rattle.std.proofs.lemmas.{List.get_or-set_other, List.get_or-set_same, Bool.Decides.nat_tests, Bool.and_parts}
 use Rattle.std.{proofs.Math.ListN.length-set, specs.List.list_any}
-use Rattle.ffs_volume.specs.{declared.Role.Role}
-use Rattle.ffs_volume.specs.declared.Role.TheVariants.{Empty, Dot, Dotdot, Extra, Plain}
-use Rattle.ffs_volume.specs.Directories.PathnameCheck.{entry_lines_of as lines_by_role, is_bad_whiteout, named_lines}
+use Rattle.ffs_volume.specs.declared.Role.TheVariants.{Plain}
+use Rattle.ffs_volume.specs.Directories.PathnameCheck.{is_bad_whiteout, named_lines}
 use Rattle.ffs_volume.specs.Directories.PathnameCheck.{plain_lines, entry_lines, lines_of_entries}
 use Rattle.ffs_volume.specs.Directories.{Entries.Entry, Graph.is_naming_entry}
-use Rattle.ffs_volume.specs.Directories.Roles.{Volume, RoledEntry, is_suspect, is_plain, roled_entries}
-use Rattle.ffs_pathnames.specs.PassedNames.{belongs, after_look, after_looks, is_plain_quiet, is_role_quiet, is_quiet}
+use Rattle.ffs_volume.specs.Directories.Roles.{Volume, RoledEntry, is_suspect, roled_entries}
+use Rattle.ffs_pathnames.specs.PassedNames.{belongs, after_look, after_looks, is_plain_quiet, is_quiet}
 use Rattle.ffs_pathnames.specs.PassedNames.{are_quiet, is_inode_quiet}
 use Rattle.ffs_pathnames.proofs.PassedLaws.{size_of, size_more, IsEntry, IsDirectory, from_parent_is, any_more}
 
@@ -21,10 +20,7 @@ AreStamped v s done stamps = (x : ℕ) → x < v.count →
 stamped_after : (v : Volume) (s : ℕ) (done : List RoledEntry) (e : RoledEntry) (stamps : List ℕ) →
     length stamps ≡ v.count → AreStamped v s done stamps →
     AreStamped v s (done ++ e ∷ []) (after_look v s stamps e)
-stamped_after v s done e stamps long r x h =
-    let a = r x h in
-    let b = any_more (is_naming_entry x) done e in
-    grind (arith, nat_tests, get_or-set_other, get_or-set_same)
+stamped_after v s done e stamps long r x h = grind (arith, any_more, nat_tests, get_or-set_other, get_or-set_same)
 
 looks_long : (v : Volume) (s : ℕ) (stamps : List ℕ) (e : RoledEntry) → length (after_look v s stamps e) ≡ length stamps
 looks_long v s stamps e = grind (arith, nat_tests, length-set)
@@ -52,21 +48,13 @@ record IsPlainQuiet (v : Volume) (s : ℕ) (stamps : List ℕ) (e : Entry) : Typ
 
 quiet_parts : (v : Volume) (s : ℕ) (stamps : List ℕ) (e : Entry) → is_plain_quiet v s stamps e ≡ true →
     IsPlainQuiet v s stamps e
-quiet_parts v s stamps e h = record {
-  below = grind (arith, nat_tests);
-  whiteout = grind (arith, nat_tests);
-  suspect = λ n. grind (arith, nat_tests);
-  named = λ n. grind (arith, nat_tests);
-}
+quiet_parts v s stamps e h = grind (arith, nat_tests)
 
 named_quiet : {v : Volume} {s : ℕ} {done es : List RoledEntry} {e : RoledEntry} (stamps : List ℕ) →
     IsEntry v s done e es → e.role ≡ Plain → e.entry.number < v.count → AreStamped v s done stamps →
     is_inode_quiet v s stamps e.entry ≡ true → named_lines v s (size_of done) e.entry ≡ []
 unfolding named_lines
-named_quiet {e = e} stamps i p h r q =
-    let a = r e.entry.number h in
-    let b = from_parent_is i p in
-    grind (arith, nat_tests)
+named_quiet stamps i p h r q = grind (arith, from_parent_is, nat_tests)
 
 plain_quiet : {v : Volume} {s : ℕ} {done es : List RoledEntry} {e : RoledEntry} (stamps : List ℕ) →
     IsEntry v s done e es → e.role ≡ Plain → AreStamped v s done stamps →
@@ -81,15 +69,7 @@ seen_quiet : {v : Volume} {s : ℕ} {done es : List RoledEntry} {e : RoledEntry}
     IsEntry v s done e es → AreStamped v s done stamps →
     is_quiet v s stamps e ≡ true → entry_lines v s (size_of done) e ≡ []
 unfolding entry_lines is_quiet
-seen_quiet {v = v} {s = s} {done = done} {e = e} stamps i r h = one e.role refl h
-  where
-    one : (role : Role) → e.role ≡ role → is_role_quiet v s stamps role e.entry ≡ true →
-        lines_by_role v s (size_of done) role e.entry ≡ []
-    one Empty q k = refl
-    one Dot q k = refl
-    one Dotdot q k = refl
-    one Extra q k = absurd (cc)
-    one Plain q k = plain_quiet stamps i q r k
+seen_quiet stamps i r h = grind (arith, plain_quiet)
 
 -- where all entries are quiet, nothing is reported of them
 pub quiet_silent : {v : Volume} {s : ℕ} (done es : List RoledEntry) (stamps : List ℕ) → IsDirectory v s →
@@ -109,19 +89,10 @@ quiet_silent {v = v} {s = s} done (e ∷ es) stamps d whole long r h =
 suspect_unnamed : (v : Volume) (s : ℕ) (stamps : List ℕ) (e : RoledEntry) (x : ℕ) → is_quiet v s stamps e ≡ true →
     is_suspect v x ≡ true → x ≢ 1 → is_naming_entry x e ≡ false
 unfolding is_quiet
-suspect_unnamed v s stamps e x h q n = one e.role h
-  where
-    one : (role : Role) → is_role_quiet v s stamps role e.entry ≡ true → (is_plain role && (e.entry.number == x))
-        ≡ false
-    one Empty k = refl
-    one Dot k = refl
-    one Dotdot k = refl
-    one Extra k = refl
-    one Plain k = let p = quiet_parts v s stamps e.entry k in grind (arith, nat_tests)
+suspect_unnamed v s stamps e x h q n = grind (arith, quiet_parts, nat_tests)
 
 pub suspects_unnamed : (v : Volume) (s : ℕ) (es : List RoledEntry) (stamps : List ℕ) (x : ℕ) →
     are_quiet v s stamps es ≡ true → is_suspect v x ≡ true → x ≢ 1 → list_any (is_naming_entry x) es ≡ false
 suspects_unnamed v s [] stamps x h q n = refl
 suspects_unnamed v s (e ∷ es) stamps x h q n =
-    let p = and_parts (is_quiet v s stamps e) _ h in
-    rw (suspect_unnamed v s stamps e x p.0 q n) (suspects_unnamed v s es (after_look v s stamps e) x p.1 q n)
+    let rest = suspects_unnamed v s es (after_look v s stamps e) x in grind (arith, suspect_unnamed)

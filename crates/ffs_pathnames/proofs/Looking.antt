@@ -25,8 +25,7 @@ pub quiet_on : (v : Volume) (s : ℕ) (stamps : List ℕ) {stamps' : List ℕ} {
     {all still : Bool} (quiet : Bool) → es ≡ seen ∷ es' →
     still ≡ (quiet && is_quiet v s stamps seen) → stamps' ≡ after_look v s stamps seen →
     all ≡ (quiet && are_quiet v s stamps es) → all ≡ (still && are_quiet v s stamps' es')
-quiet_on v s stamps {seen = seen} {es' = es'} quiet e h t q =
-    rw (h, t, and_assoc quiet (is_quiet v s stamps seen)) (rw e at q)
+quiet_on v s stamps quiet e h t q = grind (arith, and_assoc)
 
 pub stamps_on : (v : Volume) (s : ℕ) (stamps : List ℕ) {stamps' all : List ℕ} {seen : RoledEntry}
     {es es' : List RoledEntry} →
@@ -68,16 +67,13 @@ pub chunk_quiet : (v : Volume) (s : ℕ) (stamps : List ℕ) {stamps' : List ℕ
     here ≡ are_quiet v s stamps (roled_chunk c) → stamps' ≡ after_looks v s stamps (roled_chunk c) →
     all ≡ (quiet && are_quiet v s stamps (flat_map roled_chunk cs)) →
     all ≡ ((quiet && here) && are_quiet v s stamps' (flat_map roled_chunk cs'))
-chunk_quiet v s stamps {cs' = cs'} {c = c} quiet e h t q =
-    let r = rw (e, quiet-append v s stamps (roled_chunk c) (flat_map roled_chunk cs')) at q in
-    rw (h, t, and_assoc quiet) r
+chunk_quiet v s stamps quiet e h t q = grind (arith, quiet-append, and_assoc)
 
 pub chunk_stamps : (v : Volume) (s : ℕ) (stamps : List ℕ) {stamps' all : List ℕ} {cs cs' : List Chunk} {c : Chunk} →
     cs ≡ c ∷ cs' →
     stamps' ≡ after_looks v s stamps (roled_chunk c) → all ≡ after_looks v s stamps (flat_map roled_chunk cs) →
     all ≡ after_looks v s stamps' (flat_map roled_chunk cs')
-chunk_stamps v s stamps {cs' = cs'} {c = c} e t q =
-    rw t (rw (e, looks-append v s stamps (roled_chunk c) (flat_map roled_chunk cs')) at q)
+chunk_stamps v s stamps e t q = grind (arith, looks-append)
 
 pub chunk_sound : {cs cs' : List Chunk} {c : Chunk} {all here : Bool} (sound : Bool) → cs ≡ c ∷ cs' → here ≡ c.sound →
     all ≡ (sound && are_sound cs) → all ≡ ((sound && here) && are_sound cs')

@@ -1,11 +1,11 @@
 -- What is reported by the names that were passed is what the pathname check reports.
 use Rattle.std.proofs.Common.{◌≡◌, ◌≢◌, ℕ, suc, ◌<◌, ◌≤◌, ◌==◌, Bool, true, false, not, ◌&&◌, ◌||◌, nat_lt}
 use Rattle.std.proofs.Common.{if◌then◌else◌, refl, List, [], ◌∷◌, ◌++◌, Option, None, Some, arith, sym, ◌∙◌, ap}
-use Rattle.std.proofs.Common.{append_assoc, eq-eqb, ltb-true, zero, option_map}
+use Rattle.std.proofs.Common.{append_assoc, ltb-true, zero, option_map}
 use Rattle.std.proofs.lemmas.{List.get_or-set_other, List.get_or-set_same, Grind.common_steps, Bool.Decides.nat_tests}
 use Rattle.std.{proofs.lemmas.Bool.and_parts, proofs.Math.ListN.length-set, specs.List.list_any}
 use Rattle.ffs_volume.{specs.declared.Role.Role, proofs.RoleLaws.plain-true}
-use Rattle.ffs_volume.specs.declared.Role.TheVariants.{Empty, Dot, Dotdot, Extra, Plain}
+use Rattle.ffs_volume.specs.declared.Role.TheVariants.{Plain}
 use Rattle.ffs_volume.specs.Directories.{Climb.is_value, PathnameCheck.plain_lines, PathnameCheck.entry_lines}
 use Rattle.ffs_volume.specs.Directories.PathnameCheck.{lines_of_entries, entry_lines_of as lines_by_role}
 use Rattle.ffs_volume.specs.Directories.PathnameCheck.{is_first_entry_of_suspect, is_extraneous, named_lines}
@@ -13,7 +13,7 @@ use Rattle.ffs_volume.specs.Directories.Roles.{Volume, RoledEntry, is_dir, is_su
 use Rattle.ffs_volume.specs.Directories.Graph.{is_naming_entry, is_naming_dir, parent, index_in_parent, first_index}
 use Rattle.ffs_volume.specs.Directories.Parents.{graph_of, is_first_naming_entry, is_parent_entry}
 use Rattle.ffs_volume.specs.Disk.Search.{some_below, first_below}
-use Rattle.ffs_volume.proofs.SearchLaws.{first_below-is, first_below-none, first_below-some}
+use Rattle.ffs_volume.proofs.SearchLaws.{first_below-tells}
 use Rattle.ffs_pathnames.specs.PassedNames.{PassedNames, is_flagged, is_calm, is_stamped, after_name, after_roled}
 use Rattle.ffs_pathnames.specs.PassedNames.{named_reported, plain_reported, role_reported, roled_reported}
 use Rattle.ffs_pathnames.specs.{PassedNames.entries_reported, PassedRight.AreRight}
@@ -46,17 +46,7 @@ first_here p (d ∷ ds) e es h =
 -- ---- one entry
 -- the directory s is the first with a plain entry that names x exactly where none before it has one
 first_in : (p : ℕ → Bool) (n s : ℕ) → s < n → p s ≡ true → is_value (first_below p n) s ≡ not (some_below p s)
-first_in p n s h e = one (first_below p s) refl
-  where
-    one : (o : Option ℕ) → first_below p s ≡ o → is_value (first_below p n) s ≡ not (some_below p s)
-    one None q =
-        rw (first_below-is p n s (record { below = h; passes = e; least = first_below-none p s q }), q)
-        (eq-eqb s s refl)
-    one (Some t) q =
-        let f = first_below-some p s t q in
-        let below = f.below in
-        rw (first_below-is p n t (record { below = omega arith; passes = f.passes; least = f.least }), q)
-        (grind (arith, common_steps))
+first_in p n s h e = grind (arith, first_below-tells, nat_tests)
 
 pub record IsDirectory (v : Volume) (s : ℕ) : Type 0 where
   pub dir : is_dir v s ≡ true
@@ -71,73 +61,60 @@ pub record IsEntry (v : Volume) (s : ℕ) (done : List RoledEntry) (e : RoledEnt
 names_it : (e : RoledEntry) → e.role ≡ Plain → is_naming_entry e.entry.number e ≡ true
 names_it e p = grind (arith, common_steps)
 
-names_in_it : {v : Volume} {s : ℕ} {done es : List RoledEntry} {e : RoledEntry} → IsEntry v s done e es →
-    e.role ≡ Plain → is_naming_dir (graph_of v) s e.entry.number ≡ true
-names_in_it {e = e} i p = let n = names_it e p in grind (arith, common_steps, i.whole, i.dir.dir)
+module _ {v : Volume} {s : ℕ} {done es : List RoledEntry} {e : RoledEntry} (i : IsEntry v s done e es)
+    (p : e.role ≡ Plain) where
+  names_in_it : is_naming_dir (graph_of v) s e.entry.number ≡ true
+  names_in_it = let n = names_it e p in grind (arith, common_steps, i.whole, i.dir.dir)
 
-place_is : {v : Volume} {s : ℕ} {done es : List RoledEntry} {e : RoledEntry} → IsEntry v s done e es →
-    e.role ≡ Plain → is_value (first_index (is_naming_entry e.entry.number) (roled_entries v s)) (size_of done)
-    ≡ not (list_any (is_naming_entry e.entry.number) done)
-place_is {done = done} {es = es} {e = e} i p = rw i.whole
-    (first_here (is_naming_entry e.entry.number) done e es (names_it e p))
+  place_is : is_value (first_index (is_naming_entry e.entry.number) (roled_entries v s)) (size_of done)
+      ≡ not (list_any (is_naming_entry e.entry.number) done)
+  place_is = rw i.whole (first_here (is_naming_entry e.entry.number) done e es (names_it e p))
 
-first_name_is : {v : Volume} {s : ℕ} {done es : List RoledEntry} {e : RoledEntry} → IsEntry v s done e es →
-    e.role ≡ Plain → is_first_naming_entry (graph_of v) s (size_of done) e.entry.number
-    ≡ not (some_below (λ t. is_naming_dir (graph_of v) t e.entry.number) s || list_any (is_naming_entry e.entry.number)
-    done)
-first_name_is {v = v} {s = s} {e = e} i p =
-    rw (
-      first_in (λ t. is_naming_dir (graph_of v) t e.entry.number) v.count s i.dir.below
-          (names_in_it i p),
-      place_is i p,
-    )
-    (grind (arith, common_steps))
+  first_name_is : is_first_naming_entry (graph_of v) s (size_of done) e.entry.number
+      ≡ not (some_below (λ t. is_naming_dir (graph_of v) t e.entry.number) s
+      || list_any (is_naming_entry e.entry.number) done)
+  first_name_is =
+      rw (first_in (λ t. is_naming_dir (graph_of v) t e.entry.number) v.count s i.dir.below names_in_it, place_is)
+      (grind (arith, common_steps))
 
-pub from_parent_is : {v : Volume} {s : ℕ} {done es : List RoledEntry} {e : RoledEntry} → IsEntry v s done e es →
-    e.role ≡ Plain → is_parent_entry (graph_of v) s (size_of done) e.entry.number
-    ≡ ((not (e.entry.number == 2) && is_value (parent (graph_of v) e.entry.number) s)
-    && not (list_any (is_naming_entry e.entry.number) done))
-from_parent_is {v = v} {s = s} {done = done} {e = e} i p = one (parent (graph_of v) e.entry.number) (place_is i p)
-  where
-    one : (o : Option ℕ) →
-        is_value (first_index (is_naming_entry e.entry.number) (roled_entries v s)) (size_of done)
-        ≡ not (list_any (is_naming_entry e.entry.number) done) →
-        (is_value o s && is_value (if e.entry.number == 2 then None
-        else index_in_parent (graph_of v) e.entry.number o) (size_of done))
-        ≡ ((not (e.entry.number == 2) && is_value o s) && not (list_any (is_naming_entry e.entry.number) done))
-    one None h = grind (arith, common_steps)
-    one (Some t) h = grind (arith, common_steps)
+  pub from_parent_is : is_parent_entry (graph_of v) s (size_of done) e.entry.number
+      ≡ ((not (e.entry.number == 2) && is_value (parent (graph_of v) e.entry.number) s)
+      && not (list_any (is_naming_entry e.entry.number) done))
+  from_parent_is = one (parent (graph_of v) e.entry.number) place_is
+    where
+      one : (o : Option ℕ) →
+          is_value (first_index (is_naming_entry e.entry.number) (roled_entries v s)) (size_of done)
+          ≡ not (list_any (is_naming_entry e.entry.number) done) →
+          (is_value o s && is_value (if e.entry.number == 2 then None
+          else index_in_parent (graph_of v) e.entry.number o) (size_of done))
+          ≡ ((not (e.entry.number == 2) && is_value o s) && not (list_any (is_naming_entry e.entry.number) done))
+      one None h = grind (arith, common_steps)
+      one (Some t) h = grind (arith, common_steps)
 
-suspect_same : {v : Volume} {s : ℕ} {done es : List RoledEntry} {e : RoledEntry} {m : PassedNames} →
-    IsEntry v s done e es → e.role ≡ Plain → e.entry.number < v.count → e.entry.number ≢ 1 → AreRight v s done m →
-    is_first_entry_of_suspect v s (size_of done) e.entry.number
-    ≡ (is_suspect v e.entry.number && (not (e.entry.number == 2) && not (is_flagged m e.entry.number)))
-suspect_same {v = v} {e = e} i p h other r =
-    let first = first_name_is i p in
-    let named = r.named e.entry.number h in
-    grind (arith, common_steps)
+  module _ {m : PassedNames} (r : AreRight v s done m) where
+    suspect_same : e.entry.number < v.count → e.entry.number ≢ 1 →
+        is_first_entry_of_suspect v s (size_of done) e.entry.number
+        ≡ (is_suspect v e.entry.number && (not (e.entry.number == 2) && not (is_flagged m e.entry.number)))
+    suspect_same h other =
+        let first = first_name_is in
+        let named = r.named e.entry.number h in
+        grind (arith, common_steps)
 
-extraneous_same : {v : Volume} {s : ℕ} {done es : List RoledEntry} {e : RoledEntry} {m : PassedNames} →
-    IsEntry v s done e es → e.role ≡ Plain → e.entry.number < v.count → AreRight v s done m →
-    is_extraneous v s (size_of done) e.entry.number ≡ (is_dir v e.entry.number && not (is_stamped s m e.entry.number))
-extraneous_same {v = v} {e = e} i p h r =
-    let first = from_parent_is i p in
-    let due = r.due e.entry.number h in
-    grind (arith, common_steps)
+    extraneous_same : e.entry.number < v.count → is_extraneous v s (size_of done) e.entry.number
+        ≡ (is_dir v e.entry.number && not (is_stamped s m e.entry.number))
+    extraneous_same h =
+        let first = from_parent_is in
+        let due = r.due e.entry.number h in
+        grind (arith, common_steps)
 
-named_same : {v : Volume} {s : ℕ} {done es : List RoledEntry} {e : RoledEntry} {m : PassedNames} →
-    IsEntry v s done e es → e.role ≡ Plain → e.entry.number < v.count → e.entry.number ≢ 1 → AreRight v s done m →
-    named_lines v s (size_of done) e.entry ≡ named_reported v s m e.entry
-unfolding named_lines
-named_same i p h other r = rw (suspect_same i p h other r, extraneous_same i p h r)
+    named_same : e.entry.number < v.count → e.entry.number ≢ 1 →
+        named_lines v s (size_of done) e.entry ≡ named_reported v s m e.entry
+    unfolding named_lines
+    named_same h other = rw (suspect_same h other, extraneous_same h) refl
 
-plain_same : {v : Volume} {s : ℕ} {done es : List RoledEntry} {e : RoledEntry} {m : PassedNames} →
-    IsEntry v s done e es → e.role ≡ Plain → AreRight v s done m →
-    plain_lines v s (size_of done) e.entry ≡ plain_reported v s m e.entry
-unfolding plain_lines
-plain_same {v = v} {e = e} i p r =
-    let named = λ (h : e.entry.number < v.count) (other : e.entry.number ≢ 1). named_same i p h other r in
-    grind (arith, common_steps)
+    plain_same : plain_lines v s (size_of done) e.entry ≡ plain_reported v s m e.entry
+    unfolding plain_lines
+    plain_same = let named = named_same in grind (arith, common_steps)
 
 seen_same : {v : Volume} {s : ℕ} {done es : List RoledEntry} {e : RoledEntry} {m : PassedNames} →
     IsEntry v s done e es → AreRight v s done m → entry_lines v s (size_of done) e ≡ roled_reported v s m e
@@ -146,11 +123,8 @@ seen_same {v = v} {s = s} {done = done} {e = e} {m = m} i r = one e.role refl
   where
     one : (role : Role) → e.role ≡ role → lines_by_role v s (size_of done) role e.entry
         ≡ role_reported v s m role e.entry
-    one Empty q = refl
-    one Dot q = refl
-    one Dotdot q = refl
-    one Extra q = refl
     one Plain q = plain_same i q r
+    one role q = refl
 
 -- ---- after one entry more
 pub any_more : (p : RoledEntry → Bool) (done : List RoledEntry) (e : RoledEntry) →
@@ -159,37 +133,27 @@ any_more p done e = grind (arith, common_steps)
 
 skips : {v : Volume} {s : ℕ} {done : List RoledEntry} {m : PassedNames} (e : RoledEntry) →
     (is_plain e.role && nat_lt e.entry.number v.count) ≡ false → AreRight v s done m → AreRight v s (done ++ e ∷ []) m
-skips {done = done} e t r = record {
-  named = λ x h q o n.
-      let a = r.named x h q o n in
-      let b = any_more (is_naming_entry x) done e in
-      grind (arith, nat_tests);
-  due = λ x h. let a = r.due x h in let b = any_more (is_naming_entry x) done e in grind (arith, nat_tests);
-  flags_length = r.flags_length;
-  stamps_length = r.stamps_length;
-}
+skips e t r = grind (arith, nat_tests, any_more)
 
 -- the flags of inodes that aren't suspect stay
-pub calm_name : (v : Volume) (s n x : ℕ) (m : PassedNames) → is_calm v (after_name v s m n) x ≡ is_calm v m x
-calm_name v s n x m = grind (arith, nat_tests, get_or-set_other)
+pub calm_roled : (v : Volume) (s : ℕ) (e : RoledEntry) (x : ℕ) (m : PassedNames) →
+    is_calm v (after_roled v s m e) x ≡ is_calm v m x
+calm_roled v s e x m = grind (arith, nat_tests, get_or-set_other)
 
 passes : {v : Volume} {s : ℕ} {done : List RoledEntry} {m : PassedNames} (e : RoledEntry) → 2 ≤ s → e.role ≡ Plain →
     e.entry.number < v.count → AreRight v s done m → AreRight v s (done ++ e ∷ []) (after_name v s m e.entry.number)
-passes {done = done} {m = m} e two p low r =
-    let f = r.flags_length in
-    let t = r.stamps_length in
-    record {
-      named = λ x h q u n.
-          let a = r.named x h q u n in
-          let b = any_more (is_naming_entry x) done e in
-          grind (arith, nat_tests, get_or-set_other, get_or-set_same);
-      due = λ x h.
-          let a = r.due x h in
-          let b = any_more (is_naming_entry x) done e in
-          grind (arith, nat_tests, get_or-set_other, get_or-set_same);
-      flags_length = grind (arith, nat_tests, length-set);
-      stamps_length = grind (arith, nat_tests, length-set);
-    }
+passes {done = done} e two p low r = record {
+  named = λ x h q u n.
+      let a = r.named x h q u n in
+      let b = any_more (is_naming_entry x) done e in
+      grind (arith, nat_tests, get_or-set_other, get_or-set_same);
+  due = λ x h.
+      let a = r.due x h in
+      let b = any_more (is_naming_entry x) done e in
+      grind (arith, nat_tests, get_or-set_other, get_or-set_same);
+  flags_length = grind (arith, nat_tests, length-set);
+  stamps_length = grind (arith, nat_tests, length-set);
+}
 
 pub right_after : {v : Volume} {s : ℕ} {done : List RoledEntry} {m : PassedNames} (e : RoledEntry) → 2 ≤ s →
     AreRight v s done m → AreRight v s (done ++ e ∷ []) (after_roled v s m e)

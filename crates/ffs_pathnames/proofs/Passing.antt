@@ -1,6 +1,6 @@
 -- Entries are reported and passed, one after another and chunk by chunk.
 use Rattle.std.proofs.Common.{◌≡◌, refl, sym, ap, ◌∙◌, ℕ, ◌<◌, ◌^◌, true, List, [], ◌∷◌, ◌++◌, append_assoc, map}
-use Rattle.std.proofs.Common.{Option, subst, Bool}
+use Rattle.std.proofs.Common.{Option, arith, subst, Bool}
 use Rattle.std.{proofs.lemmas.List.map-append, specs.List.flat_map}
 use Rattle.ffs_volume.specs.declared.{Layout.Layout, Inode.Inode}
 use Rattle.ffs_volume.specs.{Disk.Areas.is_run_in_range, Laws.Geometry.IsAcceptedLayout, Blocks.Inodes.inode_of}
@@ -47,21 +47,17 @@ pub chunk_reported : (v : Volume) (s : ℕ) (m : PassedNames) {m' : PassedNames}
     map of_tree (entries_reported v s m (flat_map roled_chunk cs))
     ≡ map of_tree (entries_reported v s m (roled_chunk c))
     ++ map of_tree (entries_reported v s m' (flat_map roled_chunk cs'))
-chunk_reported v s m c cs cs' is after =
-    rw (is, ← after, reported_more v s m (roled_chunk c) (flat_map roled_chunk cs'))
-    (map-append of_tree (entries_reported v s m (roled_chunk c)) _)
+chunk_reported v s m c cs cs' is after = grind (arith, reported_more, map-append)
 
 -- a chunk is passed
 pub chunk_passed : (v : Volume) (s : ℕ) {all : PassedNames} (m : PassedNames) {m' : PassedNames} {c : Chunk}
     {cs cs' : List Chunk} →
     cs ≡ c ∷ cs' → after_entries v s m (roled_chunk c) ≡ m' →
     all ≡ after_entries v s m (flat_map roled_chunk cs) → all ≡ after_entries v s m' (flat_map roled_chunk cs')
-chunk_passed v s m {c = c} {cs' = cs'} is after q =
-    rw (← after) (rw (is, after_more v s m (roled_chunk c) (flat_map roled_chunk cs')) at q)
+chunk_passed v s m is after q = grind (arith, after_more)
 
 -- an entry is passed, where what is remembered is in the lists of a workspace
-pub passes : (v : Volume) (d : ℕ) (e : RoledEntry) {p0 p1 p2 p3 : List Bool} {s0 s1 s2 s3 : List ℕ} → p1 ≡ p0 →
-    s1 ≡ s0 →
+pub passes : (v : Volume) (d : ℕ) (e : RoledEntry) {p0 p1 p2 p3 : List Bool} {s0 s1 s2 s3 : List ℕ} → p1 ≡ p0 → s1 ≡ s0 →
     after_roled v d (record { flags = p1; stamps = s1 }) e ≡ record { flags = p2; stamps = s2 } → p3 ≡ p2 → s3 ≡ s2 →
     after_roled v d (record { flags = p0; stamps = s0 }) e ≡ record { flags = p3; stamps = s3 }
 passes v d e p s law q t = rw (← p, ← s, q, t) law
@@ -71,13 +67,7 @@ pub knows_on : (v : Layout) (contents contents' : Option (List ℕ)) (old new : 
     contents' ≡ contents → LeavesSurvey old new → KeepPlaces old.queue.items new.queue.items →
     DirectoryContext v contents old d b →
     DirectoryContext v contents' new d b
-knows_on v contents contents' old new d b e s keep k = record {
-  gives_bytes = e ∙ k.gives_bytes;
-  claims = claims_left v b old new s k.claims;
-  survey = survey_left v b old new s k.survey;
-  noted = λ numbered. noted_kept v b old.queue.items new.queue.items keep (k.noted numbered);
-  dir = k.dir;
-}
+knows_on v contents contents' old new d b e s keep k = grind (arith, claims_left, survey_left, noted_kept)
 
 -- the entries of all chunks that a reading of a directory gives
 pub all_read : (v : Layout) (b : List ℕ) (d : ℕ) (i : Inode) (cut : ℕ) (cs : List Chunk) → IsAcceptedLayout v →

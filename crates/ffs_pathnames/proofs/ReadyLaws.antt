@@ -1,11 +1,11 @@
 -- What is ready stays so where a chunk is read.
-use Rattle.std.proofs.Common.{◌≡◌, ℕ, refl, sym, subst, ap, ◌∙◌, rules, Result, Ok, Err, vec_len}
+use Rattle.std.proofs.Common.{◌≡◌, ℕ, arith, ap, rules, Result, Ok, Err, vec_len}
 use Rattle.std.specs.declared.{alloc.Global.Global, vec.Vec.Vec}
 use Rattle.ffs_image.specs.{Device.Device, declared.image.ImageFault.ImageFault}
 use Rattle.ffs_volume.specs.declared.Layout.{Layout}
 use Rattle.ffs_walk.specs.declared.{blocks.Blocks.Blocks, window.Window.Window}
 use Rattle.ffs_workspace.specs.declared.workspace.{Windows.Windows, Workspace.Workspace}
-use Rattle.ffs_workspace.specs.{declared.table.Table.Table, Lengths.inodes_of, Ready.IsReady, Tables.KeepsTable}
+use Rattle.ffs_workspace.specs.{declared.table.Table.Table, Ready.IsReady, Tables.KeepsTable}
 use Rattle.ffs_workspace.proofs.Readiness.{ready_table}
 use Rattle.ffs_paths.specs.{declared.kept_parent.KeptParent.KeptParent, Reads.OnlyReads}
 use Rattle.ffs_paths.proofs.Keeping.{kept_on, reads_then, kept_parent_held}
@@ -24,33 +24,12 @@ others_stay w w' blocks chunk same = ap (λ (x : Windows). record x { blocks = b
 
 pub ready_read : (v : Layout) (d d' : Device) (w : Workspace) (blocks : Blocks) (chunk : Window) → IsReady v d w
     → d'.contents ≡ d.contents → CanReadChunks v d' blocks chunk → IsReady v d' (with_chunk w blocks chunk)
-ready_read v d d' w blocks chunk r same can =
-    let m = r.made in
-    let blocks_room = can.walk.room in
-    let room = can.room in
-    record {
-      made = search rules;
-      volume = can.walk.volume;
-      windows = record {
-        table = rw same r.windows.table;
-        blocks = can.walk.holds;
-        chunk = can.holds;
-        names = rw same r.windows.names;
-      };
-    }
+ready_read v d d' w blocks chunk r same can = grind (arith, rules)
 
 -- and where other stamps are in the queue
 ready_queue : (v : Layout) (d : Device) (w : Workspace) (queue : Vec ℕ Global) → vec_len queue ≡ vec_len w.queue
     → IsReady v d w → IsReady v d (record w { queue = queue })
-ready_queue v d w queue long r =
-    let m = r.made in
-    let windows = r.windows in
-    let each : vec_len queue ≡ inodes_of v = long ∙ m.queue in
-    record {
-      made = search rules;
-      volume = r.volume;
-      windows = search rules;
-    }
+ready_queue v d w queue long r = grind (arith, rules)
 
 -- and so is one whose window on the inode table, windows of chunks and queue were used
 pub ready_looked : (v : Layout) (d d' d'' : Device) (w : Workspace) (table : Table) (blocks : Blocks) (chunk : Window)
@@ -59,41 +38,28 @@ pub ready_looked : (v : Layout) (d d' d'' : Device) (w : Workspace) (table : Tab
     → vec_len queue ≡ vec_len w.queue → IsReady v d''
     (record (with_chunk (record w { windows = record w.windows { table = table } }) blocks chunk) { queue = queue })
 ready_looked v d d' d'' w table blocks chunk queue r same size kept looked can long =
-    let read : Workspace = record w { windows = record w.windows { table = table } } in
-    ready_queue v d'' (with_chunk read blocks chunk) queue long
-    (ready_read v d' d'' read blocks chunk (ready_table v d d' w table same size kept r) looked can)
+    grind (arith, ready_queue, ready_read, ready_table)
 
 -- and so is what is kept of a directory and its children
 pub ready_next : (v : Layout) (d d' : Device) (w : Workspace) (s : KeptParent) (blocks : Blocks) (chunk : Window)
     → ReadyWith v d w s → d' ≡ d → CanReadChunks v d' blocks chunk → ReadyWith v d' (with_chunk w blocks chunk) s
-ready_next v d d' w s blocks chunk r e can = record {
-  ready = ready_read v d d' w blocks chunk r.ready (ap (λ x. x.contents) e) can;
-  kept_parent = kept_parent_held v _ _ w (with_chunk w blocks chunk) s (ap (λ x. x.contents) e) refl r.kept_parent;
-}
+ready_next v d d' w s blocks chunk r e can = grind (arith, ready_read, kept_parent_held)
 
 -- the same of windows that are as they were, but for these two
 pub windows_read : (v : Layout) (d d' : Device) (w : Workspace) (windows : Windows) → IsReady v d w
     → d'.contents ≡ d.contents → windows ≡ record w.windows { blocks = windows.blocks; chunk = windows.chunk }
     → CanReadChunks v d' windows.blocks windows.chunk → IsReady v d' (record w { windows = windows })
-windows_read v d d' w windows r same others can =
-    subst (λ (x : Windows). IsReady v d' (record w { windows = x })) (sym others)
-    (ready_read v d d' w windows.blocks windows.chunk r same can)
+windows_read v d d' w windows r same others can = grind (arith, ready_read)
 
 pub windows_next : (v : Layout) (d d' : Device) (w : Workspace) (s : KeptParent) (windows : Windows)
     → ReadyWith v d w s → d' ≡ d → windows ≡ record w.windows { blocks = windows.blocks; chunk = windows.chunk }
     → CanReadChunks v d' windows.blocks windows.chunk → ReadyWith v d' (record w { windows = windows }) s
-windows_next v d d' w s windows r e others can =
-    subst (λ (x : Windows). ReadyWith v d' (record w { windows = x }) s) (sym others)
-    (ready_next v d d' w s windows.blocks windows.chunk r e can)
+windows_next v d d' w s windows r e others can = grind (arith, ready_next)
 
 -- what is ready for reading chunks
 pub can_read_in : (v : Layout) (d : Device) (w : Workspace) → IsReady v d w
     → CanReadChunks v d w.windows.blocks w.windows.chunk
-can_read_in v d w r = record {
-  walk = record { volume = r.volume; room = r.made.blocks; holds = r.windows.blocks };
-  room = r.made.chunk;
-  holds = r.windows.chunk;
-}
+can_read_in v d w r = grind arith
 
 -- what a call leaves that made a path, and another that only read
 pub leaves_read : {S T : Type 0} {v : Layout} {d d' d'' : Device} {w w' w'' : Workspace} {s : KeptParent} {x : S}

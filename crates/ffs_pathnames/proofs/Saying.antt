@@ -1,23 +1,17 @@
 -- Messages on directories, said one after another.
-use Rattle.std.proofs.Common.{sym, subst, List, ◌++◌, map, Result, Ok, Err, IsErr}
+use Rattle.std.proofs.Common.{List, ◌++◌, map, Result, Ok, Err, IsErr}
 use Rattle.std.proofs.lemmas.List.{map-append}
 use Rattle.ffs_volume.specs.Messages.Kinds.{TreeMessage, of_tree}
-use Rattle.ffs_report.specs.Progress.{Progress, Said, Stopped, Says}
+use Rattle.ffs_report.specs.Progress.{Progress, Said, Stopped}
 use Rattle.ffs_report.proofs.Reports.{stopped_more, says_then}
 use Rattle.ffs_pathnames.specs.SaysNames.{SaysNames}
 
 pub names_then : {T E : Type 0} (a b c : Progress) (xs ys : List TreeMessage) (r : Result T E) →
     Said a b (map of_tree xs) → SaysNames b c ys r → SaysNames a c (xs ++ ys) r
-names_then a b c xs ys r p q = subst (λ ms. Says a c ms r) (sym (map-append of_tree xs ys))
-    (says_then a b c (map of_tree xs) (map of_tree ys) r p q)
-
-pub names_stop : (a b : Progress) (xs ys : List TreeMessage) → Stopped a b (map of_tree xs) →
-    Stopped a b (map of_tree (xs ++ ys))
-names_stop a b xs ys p = subst (Stopped a b) (sym (map-append of_tree xs ys))
-    (stopped_more a b (map of_tree xs) (map of_tree ys) p)
+names_then a b c xs ys r p q = rw (map-append of_tree xs ys) (says_then a b c _ (map of_tree ys) r p q)
 
 -- the first of two parts stopped, and the answer is passed on
 pub first_stops : {T : Type 0} {E : Type 0} (a b : Progress) (xs ys : List TreeMessage) (r : Result T E) → IsErr r →
     Stopped a b (map of_tree xs) → SaysNames a b (xs ++ ys) r
-first_stops a b xs ys (Err e) h p = names_stop a b xs ys p
+first_stops a b xs ys (Err e) h p = rw (map-append of_tree xs ys) (stopped_more a b _ (map of_tree ys) p)
 first_stops a b xs ys (Ok x) h p = absurd (cc)

@@ -1,23 +1,23 @@
 -- Nothing is reported of a directory that the survey found calm.
 use Rattle.std.proofs.Common.{◌≡◌, ◌≢◌, ℕ, suc, ◌<◌, ◌≤◌, ◌*◌, ◌/◌, ◌==◌, Bool, true, false, not, ◌&&◌, ◌||◌, nat_le}
 use Rattle.std.proofs.Common.{nat_lt, if◌then◌else◌, refl, List, [], ◌∷◌, ◌++◌, map, length, slice_index, slice_set}
-use Rattle.std.proofs.Common.{Option, None, Some, option_and_then, sum_by, unwrap_or, arith, sym, ◌∙◌, ap, subst, inl}
-use Rattle.std.proofs.Common.{inr, eqb-true, eq-eqb, ne_eqb, leb-true}
+use Rattle.std.proofs.Common.{Option, None, Some, option_and_then, unwrap_or, arith, sym, ◌∙◌, ap, subst}
+use Rattle.std.proofs.Common.{eqb-true, eq-eqb, ne_eqb, leb-true}
 use Rattle.std.proofs.lemmas.{List.get_or-set_other, Bool.Decides.nat_tests}
 use Rattle.std.proofs.lemmas.Bool.{or_cases, or_left, or_right, false_from_ne_true, both_ways, and_parts, and_from}
 use Rattle.std.specs.List.{list_any, flat_map, find}
 use Rattle.ffs_volume.specs.declared.{Layout.Layout, Attr.Attr, Order.Order, Step.Step, Role.Role}
-use Rattle.ffs_volume.specs.declared.Step.TheVariants.{Run, Tail, Gap}
-use Rattle.ffs_volume.specs.declared.Role.TheVariants.{Dot, Dotdot, Extra, Plain}
+use Rattle.ffs_volume.specs.declared.Step.TheVariants.{Run}
+use Rattle.ffs_volume.specs.declared.Role.TheVariants.{Extra, Plain}
 use Rattle.ffs_volume.specs.{Laws.Geometry.IsAcceptedLayout, Disk.Areas.is_run_in_range, Blocks.Steps.steps_of}
 use Rattle.ffs_volume.specs.Blocks.Inodes.{is_allocated, is_unknown, inode_of}
 use Rattle.ffs_volume.specs.Directories.{Climb.is_value, Graph.is_naming_entry, Graph.parent, Parents.graph_of}
 use Rattle.ffs_volume.specs.Directories.Entries.{Entry, Chunk, ChunkSource, chunk_of, chunks_of, run_chunks}
 use Rattle.ffs_volume.specs.Directories.Entries.{step_chunks, entries_of, is_sound, is_live, bytes_read}
-use Rattle.ffs_volume.specs.Directories.{Paths.dir_path, Volumes.class_at, Volumes.volume_of, Volumes.volume_with}
-use Rattle.ffs_volume.specs.Directories.PathnameCheck.{is_bad_whiteout, is_wrong_parent, attributes, are_sound}
+use Rattle.ffs_volume.specs.Directories.{Volumes.class_at, Volumes.volume_of, Volumes.volume_with}
+use Rattle.ffs_volume.specs.Directories.PathnameCheck.{is_bad_whiteout, attributes, are_sound}
 use Rattle.ffs_volume.specs.Directories.Roles.{nth_entry, start_entry, Volume, RoledEntry, is_dir, is_suspect, is_plain}
-use Rattle.ffs_volume.specs.Directories.Roles.{is_one_dot, is_two_dots, role_of, roled_from, roled_chunk, roled_entries}
+use Rattle.ffs_volume.specs.Directories.Roles.{is_two_dots, role_of, roled_from, roled_chunk, roled_entries}
 use Rattle.ffs_volume.specs.Encodings.Kinds.{is_empty_dir_kind, is_allocated_kind, is_unknown_kind, type_of_kind}
 use Rattle.ffs_volume.specs.Encodings.Replay.{cut_at, fresh_replay, replayed_steps}
 use Rattle.ffs_names.{specs.RunCursors.reading_by, specs.Surveys.FlagsCalm, proofs.DirLaws.kind_dirs}
@@ -29,9 +29,9 @@ use Rattle.ffs_survey.specs.{Survey.number_at, Survey.dir_at, Calm.are_calm, Cal
 use Rattle.ffs_survey.specs.Calm.{CurrentDir, is_calm_kind, is_calm_plain, is_calm_role, is_calm_entry, reached_after}
 use Rattle.ffs_survey.proofs.CalmLaws.{calm_names_new, calm_new}
 use Rattle.ffs_pathnames.specs.{Begins.dir_header_lines, Calm.IsSilentDirectory, Reads.chunks_read}
-use Rattle.ffs_pathnames.specs.Header.{dot_in, dot_reported}
+use Rattle.ffs_pathnames.specs.Header.{dot_in, dotdot_in, dot_reported, dotdot_reported, is_right_dot}
 use Rattle.ffs_pathnames.specs.PassedNames.{belongs, after_look, is_plain_quiet, is_role_quiet, is_quiet, are_quiet}
-use Rattle.ffs_pathnames.proofs.{SeesLaws.chunks_are, SeesLaws.settled, HeaderLaws.in_order, HeaderLaws.dotdot_right}
+use Rattle.ffs_pathnames.proofs.{SeesLaws.chunks_are, SeesLaws.settled, HeaderLaws.in_order}
 use Rattle.ffs_names.proofs.DirLaws as dirs
 
 -- ---- what the lists show
@@ -82,17 +82,7 @@ right_type k kind mark reached h = grind (arith, nat_tests)
 
 name_is : (v : Volume) (s : CurrentDir) (parents : List ℕ) (reached : ℕ → Bool) (e : Entry) →
     Shown v s.kinds s.marked parents → names_calm s reached e ≡ true → IsCalmName v e
-name_is v s parents reached e sh c =
-    let p = and_parts (nat_le 2 e.number) _ c in
-    let a = sh.allocated e.number in
-    let allocated : is_allocated (v.class e.number) ≡ true = grind (arith, nat_tests) in
-    record {
-      named = grind (arith, nat_tests);
-      no_whiteout = grind (arith, nat_tests);
-      allocated = allocated;
-      suspect = sh.suspect e.number ∙ not_suspect _ e.kind _ _ p.1;
-      type = λ u. right_type _ e.kind _ _ p.1 ∙ sh.kind e.number allocated u;
-    }
+name_is v s parents reached e sh c = grind (arith, nat_tests, and_parts, not_suspect, right_type)
 
 -- so is quiet
 plain_quiet : (v : Volume) (s : CurrentDir) (parents stamps : List ℕ) (reached : ℕ → Bool) (e : Entry) →
@@ -100,20 +90,13 @@ plain_quiet : (v : Volume) (s : CurrentDir) (parents stamps : List ℕ) (reached
     → (is_dir v e.number ≡ true → belongs v s.dir e.number ≡ true)
     → (is_dir v e.number ≡ true → (slice_index stamps e.number == s.dir) ≡ false)
     → is_plain_quiet v s.dir stamps e ≡ true
-plain_quiet v s parents stamps reached e sh c mine new =
-    let p = and_parts (nat_lt e.number (length s.kinds)) _ c in
-    let n = sh.count in
-    elim (or_cases ((e.number == 1) && (e.kind == 14)) _ p.1) [
-      | inl whiteout ↦ grind (arith, nat_tests)
-      | inr named ↦ let i = name_is v s parents reached e sh named in grind (arith, nat_tests)
-    ]
+plain_quiet v s parents stamps reached e sh c mine new = grind (arith, nat_tests, and_parts, or_cases, name_is)
 
 stamp_reached : (stamps : List ℕ) (n x d : ℕ) (plain mine dir old : Bool) → (mine ≡ true → x ≡ n → dir ≡ true) →
     ((slice_index stamps x == d) ≡ true → old ≡ true) →
     (slice_index (if plain && mine then slice_set stamps n d else stamps) x == d) ≡ true →
     (old || (dir && (plain && (n == x)))) ≡ true
-stamp_reached stamps n x d plain mine dir old f g t =
-    let o = get_or-set_other stamps n x d 0 in grind (arith, nat_tests)
+stamp_reached stamps n x d plain mine dir old f g t = grind (arith, nat_tests, get_or-set_other)
 
 -- calm entries are quiet, where each that was stamped was reached
 calm_quiet : (v : Volume) (s : CurrentDir) (parents : List ℕ) (es : List RoledEntry) (reached : ℕ → Bool) (i : ℕ)
@@ -163,30 +146,22 @@ solid_append [] ys a b = b
 solid_append (x ∷ xs) ys a b = (a.0, solid_append xs ys a.1 b)
 
 solid_chunk : (order : Order) (bytes : List ℕ) → is_sound order bytes ≡ true → entries_of order bytes ≡ [] → ⊥
-solid_chunk order bytes h e =
-    let n : sum_by (λ (x : Entry). x.length) (entries_of order bytes) ≡ 512 = eqb-true _ _ h in
-    let z : sum_by (λ (x : Entry). x.length) (entries_of order bytes) ≡ 0 = ap (λ es. sum_by (λ x. x.length) es) e in
-    absurd (omega (arith, n, z))
+solid_chunk order bytes h e = grind (arith, eqb-true)
 
 solid_map : (order : Order) (offset : ℕ → ℕ) (bytes : ℕ → List ℕ) (ks : List ℕ) →
     Solid (map (λ k. chunk_of order (offset k) (bytes k)) ks)
 solid_map order offset bytes [] = tt
 solid_map order offset bytes (k ∷ ks) = (solid_chunk order (bytes k), solid_map order offset bytes ks)
 
-solid_step : (r : ChunkSource) (passes : ℕ → ℕ → Bool) (step : Step) → Solid (step_chunks r passes step)
-solid_step r passes Tail = tt
-solid_step r passes Gap = tt
-solid_step r passes (Run start len None) = tt
-solid_step r passes (Run start len (Some block)) = one (passes start len)
+solid_all : (r : ChunkSource) (passes : ℕ → ℕ → Bool) (steps : List Step) → Solid (chunks_of r passes steps)
+solid_all r passes [] = tt
+solid_all r passes (Run start len (Some block) ∷ xs) =
+    solid_append (step_chunks r passes (Run start len (Some block))) _ (one (passes start len)) (solid_all r passes xs)
   where
     one : (b : Bool) → Solid (if b then run_chunks r start len (block * r.bsize) else [])
     one true = solid_map r.order _ _ _
     one false = tt
-
-solid_all : (r : ChunkSource) (passes : ℕ → ℕ → Bool) (steps : List Step) → Solid (chunks_of r passes steps)
-solid_all r passes [] = tt
-solid_all r passes (x ∷ xs) = solid_append (step_chunks r passes x) (chunks_of r passes xs) (solid_step r passes x)
-    (solid_all r passes xs)
+solid_all r passes (x ∷ xs) = solid_all r passes xs
 
 solid_dir : (v : Layout) (b : List ℕ) (d : ℕ) → IsAcceptedLayout v → is_dir (volume_of v b) d ≡ true →
     Solid ((volume_of v b).chunks d)
@@ -196,28 +171,20 @@ solid_dir v b d g h =
     (solid_all (reading_by v b (bytes_read (inode_of v b d).size)) (is_run_in_range v)
     (replayed_steps v (cut_at v b d) fresh_replay (steps_of v (inode_of v b d) b)))
 
-role_dot : (first : Bool) (i : ℕ) (e : Entry) → role_of first i e ≡ Dot → (is_live e ≡ true)
-    × ((is_one_dot e.name ≡ true) × ((first && (i == 0)) ≡ true))
-unfolding role_of
-role_dot first i e h = (grind (arith, nat_tests), (grind (arith, nat_tests), grind (arith, nat_tests)))
-
-role_dotdot : (first : Bool) (i : ℕ) (e : Entry) → role_of first i e ≡ Dotdot → (is_live e ≡ true)
-    × ((is_two_dots e.name ≡ true) × ((first && (i == 1)) ≡ true))
-unfolding role_of
-role_dotdot first i e h = (grind (arith, nat_tests), (grind (arith, nat_tests), grind (arith, nat_tests)))
+-- `..`, by the number of its parent
+abbrev is_dotdot_of : ℕ → Entry → Bool
+is_dotdot_of parent e = is_live e && (is_two_dots e.name && ((e.number == parent) && (e.kind == 4)))
 
 -- the first calm entry is `.`, and the second is `..`
-calm_first : (s : CurrentDir) (reached : ℕ → Bool) (role : Role) (number kind : ℕ) →
-    is_calm_role s reached 0 role number kind ≡ true → (role ≡ Dot)
-    × (((number == s.dir) ≡ true) × ((kind == 4) ≡ true))
-calm_first s reached Dot number kind h = (refl, and_parts (number == s.dir) (kind == 4) h)
-calm_first s reached role number kind h = absurd (cc)
+calm_first : (s : CurrentDir) (reached : ℕ → Bool) (first : Bool) (e : Entry) →
+    is_calm_role s reached 0 (role_of first 0 e) e.number e.kind ≡ true → (first && is_right_dot s.dir (Some e)) ≡ true
+unfolding role_of
+calm_first s reached first e h = grind (arith, nat_tests)
 
-calm_second : (s : CurrentDir) (reached : ℕ → Bool) (role : Role) (number kind : ℕ) →
-    is_calm_role s reached 1 role number kind ≡ true → (role ≡ Dotdot)
-    × (((number == s.parent) ≡ true) × ((kind == 4) ≡ true))
-calm_second s reached Dotdot number kind h = (refl, and_parts (number == s.parent) (kind == 4) h)
-calm_second s reached role number kind h = absurd (cc)
+calm_second : (s : CurrentDir) (reached : ℕ → Bool) (first : Bool) (i : ℕ) (e : Entry) →
+    is_calm_role s reached 1 (role_of first i e) e.number e.kind ≡ true → ((i == 1) && is_dotdot_of s.parent e) ≡ true
+unfolding role_of
+calm_second s reached first i e h = grind (arith, nat_tests)
 
 -- both are in one chunk, at the start of the file
 record AreFirst (d parent : ℕ) (cs : List Chunk) : Type 0 where
@@ -225,10 +192,8 @@ record AreFirst (d parent : ℕ) (cs : List Chunk) : Type 0 where
   second : Entry
   first_is : option_and_then (λ c. nth_entry 0 c.entries) (find (λ c. c.offset == 0) cs) ≡ Some first
   second_is : option_and_then (λ c. nth_entry 1 c.entries) (find (λ c. c.offset == 0) cs) ≡ Some second
-  dot : (is_live first ≡ true)
-      × ((is_one_dot first.name ≡ true) × (((first.number == d) ≡ true) × ((first.kind == 4) ≡ true)))
-  dotdot : (is_live second ≡ true)
-      × ((is_two_dots second.name ≡ true) × (((second.number == parent) ≡ true) × ((second.kind == 4) ≡ true)))
+  dot : is_right_dot d (Some first) ≡ true
+  dotdot : is_dotdot_of parent second ≡ true
 
 -- no chunk begins with `..`
 no_second : (s : CurrentDir) (reached : ℕ → Bool) (cs : List Chunk) → Solid cs → are_sound cs ≡ true →
@@ -240,10 +205,7 @@ no_second s reached (c ∷ cs) solid sound h = go c.entries refl h
     go : (es : List Entry) → c.entries ≡ es →
         are_calm s reached 1 (roled_from (c.offset == 0) 0 es ++ flat_map roled_chunk cs) ≡ true → ⊥
     go [] e k = solid.0 (and_parts c.sound _ sound).0 e
-    go (x ∷ xs) e k =
-        let here = calm_second s reached (role_of (c.offset == 0) 0 x) x.number x.kind (and_parts _ _ k).0 in
-        let z = (and_parts (c.offset == 0) (0 == 1) (role_dotdot (c.offset == 0) 0 x here.0).1.1).1 in
-        cc
+    go (x ∷ xs) e k = let here = calm_second s reached (c.offset == 0) 0 x (and_parts _ _ k).0 in absurd (cc)
 
 first_two : (s : CurrentDir) (reached : ℕ → Bool) (cs : List Chunk) → Solid cs → are_sound cs ≡ true →
     are_calm s reached 0 (flat_map roled_chunk cs) ≡ true → AreFirst s.dir s.parent cs
@@ -262,43 +224,31 @@ first_two s reached (c ∷ cs) solid sound h = go c.entries refl h
         (and_parts c.sound (are_sound cs) sound).1 (and_parts (is_calm_entry s reached 0 (roled x)) _ k).1)
     go (x ∷ y ∷ ys) e k =
         let p = and_parts (is_calm_entry s reached 0 (roled x)) _ k in
-        let here = calm_first s reached (role_of (c.offset == 0) 0 x) x.number x.kind p.0 in
-        let next = calm_second s (reached_after s.kinds reached (roled x)) (role_of (c.offset == 0) 1 y) y.number y.kind
-        (and_parts _ _ p.1).0 in
-        let r = role_dot (c.offset == 0) 0 x here.0 in
-        let q = role_dotdot (c.offset == 0) 1 y next.0 in
-        let start : (c.offset == 0) ≡ true = (and_parts (c.offset == 0) _ r.1.1).0 in
-        let found : find (λ z. z.offset == 0) (c ∷ cs) ≡ Some c = rw start refl in
+        let here = and_parts (c.offset == 0) _ (calm_first s reached (c.offset == 0) x p.0) in
+        let found : find (λ z. z.offset == 0) (c ∷ cs) ≡ Some c = rw here.0 refl in
         record {
           first = x;
           second = y;
           first_is = rw (found, e) refl;
           second_is = rw (found, e) refl;
-          dot = (r.0, (r.1.0, here.1));
-          dotdot = (q.0, (q.1.0, next.1));
+          dot = here.1;
+          dotdot = calm_second s (reached_after s.kinds reached (roled x)) (c.offset == 0) 1 y (and_parts _ _ p.1).0;
         }
 
 -- ---- what is before the entries
-dot_right : (about : Attr) (path : List ℕ) (d : ℕ) (e : Entry) → is_live e ≡ true → is_one_dot e.name ≡ true →
-    (e.number == d) ≡ true → (e.kind == 4) ≡ true → dot_reported about path d (Some e) (dot_in (Some e)) ≡ []
-dot_right about path d e live name number kind = rw (live, name, number, kind) refl
+dot_silent : (about : Attr) (path : List ℕ) (d : ℕ) (e : Entry) → is_right_dot d (Some e) ≡ true →
+    dot_reported about path d (Some e) (dot_in (Some e)) ≡ []
+dot_silent about path d e h = grind (arith, nat_tests)
 
-other_not : (o : Option ℕ) (n above : ℕ) → (n == above) ≡ true → above ≡ unwrap_or o 0 → is_wrong_parent o n ≡ false
-other_not None n above h e = refl
-other_not (Some s) n above h e = grind (arith, nat_tests)
+dotdot_silent : (about : Attr) (path : List ℕ) (parent : Option ℕ) (e : Entry) →
+    is_dotdot_of (unwrap_or parent 0) e ≡ true → dotdot_reported about path parent (Some e) (dotdot_in (Some e)) ≡ []
+dotdot_silent about path None e h = grind (arith, nat_tests)
+dotdot_silent about path (Some s) e h = grind (arith, nat_tests)
 
 starts_silent : (v : Volume) (d above : ℕ) → AreFirst d above (v.chunks d) →
     above ≡ unwrap_or (parent (graph_of v) d) 0 → is_right_shape v d ≡ true → dir_header_lines v d ≡ []
 unfolding dir_header_lines start_entry attributes
-starts_silent v d above f up right =
-    let about = attributes v d in
-    let path = dir_path (graph_of v) d in
-    let above_is = parent (graph_of v) d in
-    let wrong = other_not above_is f.second.number above f.dotdot.1.1.0 up in
-    in_order about path d (v.inode d).size above_is (v.gap d) (are_sound (v.chunks d)) (start_entry v d 0)
-    (start_entry v d 1) refl (grind (arith, nat_tests))
-    (rw f.first_is (dot_right about path d f.first f.dot.0 f.dot.1.0 f.dot.1.1.0 f.dot.1.1.1))
-    (rw f.second_is (dotdot_right about path above_is f.second f.dotdot.0 f.dotdot.1.0 wrong f.dotdot.1.1.1))
+starts_silent v d above f up right = grind (arith, nat_tests, in_order, dot_silent, dotdot_silent)
 
 -- ---- a calm directory
 root_up : (v : Volume) → unwrap_or (parent (graph_of v) 2) 0 ≡ 2

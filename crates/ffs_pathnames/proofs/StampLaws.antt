@@ -1,14 +1,14 @@
 -- Stamps, where one word changes.
 use Rattle.std.proofs.Common.{arith, ◌≡◌, ℕ, zero, suc, Bool, true, false, if◌then◌else◌, refl, List, [], ◌∷◌, length}
-use Rattle.std.proofs.Common.{slice_index, slice_set, replicate, not, ◌&&◌, ◌==◌, ◌<◌, ◌≤◌, nat_lt, sym, ◌∙◌, ap}
+use Rattle.std.proofs.Common.{slice_index, slice_set, replicate, not, ◌&&◌, ◌==◌, ◌<◌, ◌≤◌, ◌∙◌, ap}
 use Rattle.std.proofs.{Common.eqb-true, Common.eq-eqb, Common.lt-ltb, lemmas.Bool.and_from, lemmas.Bool.and_parts}
 use Rattle.ffs_workspace.specs.{Leaves.LeavesSurvey, declared.workspace.Workspace.Workspace, Places.is_due}
 use Rattle.ffs_workspace.{specs.Places.place_in, specs.Places.AreNoted, proofs.PlaceLaws.zero_index}
 use Rattle.ffs_volume.specs.{declared.Layout.Layout, declared.Role.Role, Encodings.Kinds.is_dir_kind}
-use Rattle.ffs_volume.specs.Directories.{Entries.Entry, Roles.Volume, Roles.is_dir, Roles.is_plain}
+use Rattle.ffs_volume.specs.Directories.{Entries.Entry, Roles.Volume, Roles.is_plain}
 use Rattle.ffs_pathnames.specs.{Examines.LeavesAllButDue, declared.inodes.Inodes.Inodes, Sees.Sees, Sees.passed_in}
 use Rattle.ffs_pathnames.specs.{Sees.stamps_in, Stamps.stamp_of, Stamps.stamps_of, Stamps.KeepPlaces}
-use Rattle.ffs_pathnames.specs.PassedNames.{belongs, after_look, after_roled}
+use Rattle.ffs_pathnames.specs.PassedNames.{after_look, after_roled}
 use Rattle.ffs_survey.specs.Survey.{suspect_at}
 
 pub stamps_length : (ps ws : List ℕ) → length (stamps_of ps ws) ≡ length ws
@@ -55,37 +55,18 @@ windows_keep old new e x = ap (λ (w : Workspace). place_in (slice_index w.queue
 
 -- a place is noted of the same directories
 pub noted_kept : (v : Layout) (b : List ℕ) (old new : List ℕ) → KeepPlaces old new → AreNoted v b old → AreNoted v b new
-noted_kept v b old new keep noted x k reached =
-    let n = noted x k reached in
-    record { chunk = n.chunk; place = keep x ∙ n.place; inside = n.inside; named = n.named }
+noted_kept v b old new keep noted x k reached = grind arith
 
 -- where the flags, the words and the windows alone have changed
 pub names_leave : (old new : Workspace) →
     new ≡ record old { flags = new.flags; queue = new.queue; windows = new.windows } →
     KeepPlaces old.queue.items new.queue.items → LeavesSurvey old new
-names_leave old new e keep = record {
-  used = ap (λ (w : Workspace). w.used) e;
-  kinds = ap (λ (w : Workspace). w.kinds) e;
-  marked = ap (λ (w : Workspace). w.marked) e;
-  notes = ap (λ (w : Workspace). w.notes) e;
-  references = ap (λ (w : Workspace). w.references) e;
-  named = ap (λ (w : Workspace). w.named) e;
-  reached = ap (λ (w : Workspace). w.reached) e;
-  parents = ap (λ (w : Workspace). w.parents) e;
-  runs_seen = ap (λ (w : Workspace). w.runs_seen) e;
-  runs_again = ap (λ (w : Workspace). w.runs_again) e;
-  places = λ v b places x p k noted above. places x p k (sym (keep x) ∙ noted) above;
-}
+names_leave old new e keep = grind arith
 
 -- the words and windows alone
 pub queue_leaves : (old new : Workspace) → new ≡ record old { queue = new.queue; windows = new.windows } →
     KeepPlaces old.queue.items new.queue.items → LeavesAllButDue old new
-queue_leaves old new e keep = record {
-  survey = names_leave old new (e ∙ ap (λ f. record old { flags = f; queue = new.queue; windows = new.windows })
-      (sym (ap (λ (w : Workspace). w.flags) e))) keep;
-  flags = ap (λ (w : Workspace). w.flags) e;
-  places = keep;
-}
+queue_leaves old new e keep = grind (arith, ap, names_leave)
 
 -- where each word is 0, none is due
 pub none_due : (ws : List ℕ) (n x : ℕ) → ws ≡ replicate n 0 → is_due (slice_index ws x) ≡ false
@@ -98,12 +79,7 @@ pub after_stamp : (v : Volume) (i : Inodes) (s word : ℕ) (ws ws' : List ℕ) (
     && (not (e.number == 2) && (slice_index i.parents.now.items e.number == s))) ≡ true
     → ws' ≡ slice_set ws e.number word → is_due word ≡ true →
     stamps_in i ws' ≡ after_look v s (stamps_in i ws) (record { role = role; entry = e })
-after_stamp v i s word ws ws' role e sees two plain mine set due =
-    let a = and_parts (is_dir_kind (slice_index i.kinds.now e.number)) _ mine in
-    let b = and_parts (not (e.number == 2)) (slice_index i.parents.now.items e.number == s) a.1 in
-    let belongs_to : belongs v s e.number ≡ true = and_from (is_dir v e.number) _ (sees.dir e.number ∙ a.0)
-    (and_from (not (e.number == 2)) _ b.0 (sees.parent_is e.number s two ∙ b.1)) in
-    rw (plain, belongs_to) (stamped i.parents.now.items ws ws' e.number word s set due (eqb-true _ s b.1))
+after_stamp v i s word ws ws' role e sees two plain mine set due = grind (arith, and_parts, and_from, stamped, eqb-true)
 
 -- an entry that names an inode due in s is passed
 pub after_pass : (v : Volume) (i : Inodes) (s word : ℕ) (suspect : Bool) (flags flags' : List Bool) (ws ws' : List ℕ)
@@ -113,7 +89,4 @@ pub after_pass : (v : Volume) (i : Inodes) (s word : ℕ) (suspect : Bool) (flag
     → slice_index (stamps_in i ws) e.number ≡ s → ws' ≡ slice_set ws e.number word → is_due word ≡ false →
     after_roled v s (passed_in i flags ws) (record { role = role; entry = e }) ≡ passed_in i flags' ws'
 after_pass v i s word suspect flags flags' ws ws' role e sees plain below shown flagged stamp set due =
-    let x = e.number in
-    let inside : nat_lt x v.count ≡ true = ap (nat_lt x) sees.count ∙ lt-ltb x (length i.kinds.now) below in
-    let due_is = unstamped i.parents.now.items ws ws' x word set due in
-    rw (sees.suspect x ∙ sym shown, plain, inside, flagged, eq-eqb _ s stamp, due_is) refl
+    grind (arith, lt-ltb, unstamped, eq-eqb)

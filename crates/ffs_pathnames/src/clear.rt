@@ -25,6 +25,7 @@ fn clear_suspects(inodes: &Inodes<'_>, flags: &mut [bool])
 /// Forgets all names that were passed: clears the flags of suspect inodes, and the words of all
 /// inodes, which give stamps. The survey's flags of other inodes stay, and say which directories
 /// are left out, since nothing can be reported of them.
+#[tactic(auto, using(ffs_workspace::proofs::PlaceLaws::filled_noted, std::proofs::lemmas::List::with_items_is, crate::proofs::StampLaws::none_due, crate::proofs::StampLaws::none_stamped))]
 pub fn clear_passed(workspace: &mut Workspace)
     requires lengths { AreAsLong workspace.old }
     ensures clear { IsNonePassed workspace.old workspace.new }

@@ -279,6 +279,7 @@ fn is_shape_right(size: u64, gap: bool, sound: bool) -> bool
 }
 
 /// Whether nothing is reported of a directory before its entries.
+#[tactic(auto, using(crate::proofs::HeaderLaws::in_order))]
 pub fn is_in_order(header: HeaderFacts<'_>) -> bool
     ensures value { result ≡ is_header_right header.entry }
     ensures quiet { IsTrue result → (about : attrs.Attr) (path : List ℕ)

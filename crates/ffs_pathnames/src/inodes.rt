@@ -89,6 +89,7 @@ impl<'a> Inodes<'a> {
     }
 
     /// The inode's parent, where the entry there is due by the inode's word (`is_due`), else 0.
+    #[tactic(auto, using(std::proofs::lemmas::List::get_or_read_under, crate::proofs::StampLaws::stamp_at, crate::proofs::StampLaws::none_stamped))]
     pub fn stamp(&self, words: &FilledList<u32>, inode: u32) -> u32
         requires inode { inode < length self.now.kinds.now }
         requires words { length words.now.items ≡ length self.now.kinds.now }

@@ -1,9 +1,7 @@
-use Rattle.std.proofs.Common.{◌≡◌, refl, sym, ap, subst, ◌∙◌, ℕ, List, ◌∷◌, Some, arith, ◌==◌, ◌||◌}
-use Rattle.std.{proofs.lemmas.Result.err_from_is_err_and, specs.List.flat_map, specs.List.find}
-use Rattle.ffs_image.specs.Device.{Faulted}
+use Rattle.std.proofs.Common.{◌≡◌, refl, sym, ap, ◌∙◌, ℕ, List, ◌∷◌, Some, arith, ◌==◌, ◌||◌}
+use Rattle.std.{specs.List.flat_map, specs.List.find}
 use Rattle.ffs_volume.specs.Directories.{Entries.Chunk, Entries.chunk_of, Roles.roled_chunk, PathnameCheck.are_sound}
 use Rattle.ffs_names.specs.Readings.{rest, gap_left}
-use Rattle.ffs_walk.specs.Windows.{WindowHolds}
 use Rattle.ffs_pathnames.specs.{PassedNames.are_quiet, PassedNames.after_looks, Sees.stamps_in, Reads.chunks_read}
 use Rattle.ffs_pathnames.{specs.Reads.start_chunk, proofs.ReadyLaws.others_stay}
 use Rattle.ffs_pathnames.proofs.Looking.{chunk_quiet, chunk_stamps, chunk_sound, all_quiet, all_stamps, all_sound}
@@ -86,72 +84,10 @@ returns-clause-found g c = λ b t.
 pub next-requires : goal.next-requires
 next-requires g c = let inv = c.chunks.invariant in rw inv.geometry inv.ready
 
-pub returns-in_err-offset-clause-leaves : goal.returns-in_err-offset-clause-leaves
-returns-in_err-offset-clause-leaves g c =
-    let inv = c.chunks.invariant in
-    let next = c.in_err-offset.ensures in
-    let err = err_from_is_err_and c.from_residual.result c.from_residual.ensures.1 in
-    rw (err.1, err.2) (record {
-      ready = rw inv.geometry at next.leaves.ready;
-      read = subst (λ d. Faulted d (g.I.Image.device c.next.new.image) c.in_err-offset.field-0.0.sector) inv.same
-          next.leaves.read;
-    })
-
 pub gap_of-requires : goal.gap_of-requires
 gap_of-requires g c = let read = c.in_ok-offset.ensures in rw read.leaves.geometry read.leaves.ready.walk
 
-pub returns-in_err-gap-clause-leaves : goal.returns-in_err-gap-clause-leaves
-returns-in_err-gap-clause-leaves g c =
-    let inv = c.chunks.invariant in
-    let read = c.in_ok-offset.ensures in
-    let chunk = rw inv.geometry at read.leaves.ready in
-    let gap = c.in_err-gap.ensures in
-    let err = err_from_is_err_and c.from_residual-in_err-gap.result c.from_residual-in_err-gap.ensures.1 in
-    rw (err.1, err.2) (record {
-      ready = record {
-        walk = rw (read.leaves.geometry ∙ inv.geometry) at gap.leaves.ready;
-        room = chunk.room;
-        holds = subst (λ xs. WindowHolds xs c.next.new.window) (sym gap.leaves.read.contents) chunk.holds;
-      };
-      read = subst (λ d. Faulted d (g.I.Image.device c.gap_of.new.image) c.in_err-gap.field-0.0.sector)
-          (read.leaves.read ∙ inv.same) gap.leaves.read;
-    })
-
-pub returns-clause-leaves : goal.returns-clause-leaves
-returns-clause-leaves g c =
-    let inv = c.chunks.invariant in
-    let read = c.in_ok-offset.ensures in
-    let chunk = rw inv.geometry at read.leaves.ready in
-    let gap = c.in_ok-gap.ensures in
-    record {
-      ready = record {
-        walk = rw (read.leaves.geometry ∙ inv.geometry) at gap.leaves.ready;
-        room = chunk.room;
-        holds = subst (λ d. WindowHolds d.contents c.next.new.window) (sym gap.leaves.read) chunk.holds;
-      };
-      read = gap.leaves.read ∙ (read.leaves.read ∙ inv.same);
-    }
-
--- the other windows
-pub returns-in_err-offset-clause-others : goal.returns-in_err-offset-clause-others
-returns-in_err-offset-clause-others g c = others_stay c.args.windows.now c.chunks.windows c.next.new.blocks
-    c.next.new.window c.chunks.invariant.others
-
-pub returns-in_err-gap-clause-others : goal.returns-in_err-gap-clause-others
-returns-in_err-gap-clause-others g c = others_stay c.args.windows.now c.chunks.windows c.gap_of.new.blocks
-    c.next.new.window c.chunks.invariant.others
-
-pub returns-clause-others : goal.returns-clause-others
-returns-clause-others g c = others_stay c.args.windows.now c.chunks.windows c.gap_of.new.blocks c.next.new.window
-    c.chunks.invariant.others
-
 -- the reads
-pub returns-in_err-offset-clause-reads : goal.returns-in_err-offset-clause-reads
-returns-in_err-offset-clause-reads g c = λ b t.
-    let inv = c.chunks.invariant in
-    let most = (c.next.ensures.reads (inv.held b t) b (ap (λ d. d.contents) inv.same ∙ t)).most in
-    omega (arith, most, inv.reads b t)
-
 pub returns-in_err-gap-clause-reads : goal.returns-in_err-gap-clause-reads
 returns-in_err-gap-clause-reads g c = λ b t.
     let inv = c.chunks.invariant in

@@ -12,39 +12,33 @@ use Rattle.ffs_pathnames.proofs.directory.look_directory.Given as goal
 abbrev pub invariant-chunks : goal.invariant-chunks
 invariant-chunks g l =
     let device = g.I.Image.device in
+    let v = l.geometry.layout in
     let x = l.directory in
+    let of_bytes = ForContents (device l.initial.image).contents in
+    let before = stamps_in l.inodes l.initial.words.items in
+    let now = stamps_in l.inodes l.words.items in
+    let all = chunks_read v x.inode x.cut in
     record {
       same : device l.image ≡ device l.initial.image;
       geometry : l.chunks.walk.geometry ≡ l.geometry;
       words_long : vec_len l.words ≡ vec_len l.fn.words;
       places : KeepPlaces l.fn.words.items l.words.items;
       others : l.windows ≡ record l.fn.windows { blocks = l.windows.blocks; chunk = l.windows.chunk };
-      ready : CanReadChunks l.geometry.layout (device l.image) l.windows.blocks l.windows.chunk;
-      quiet : ForContents (device l.initial.image).contents (λ b. (v : Volume) → Sees v l.inodes → x.inode.size < 2 ^ 31
-          →
-          are_quiet v x.number (stamps_in l.inodes l.initial.words.items)
-          (flat_map roled_chunk (chunks_read l.geometry.layout x.inode x.cut b))
-          ≡ (l.quiet && are_quiet v x.number (stamps_in l.inodes l.words.items) (flat_map roled_chunk (rest b
-          l.chunks))));
-      stamps : ForContents (device l.initial.image).contents (λ b. (v : Volume) → Sees v l.inodes → x.inode.size < 2 ^
-          31 →
-          after_looks v x.number (stamps_in l.inodes l.initial.words.items)
-          (flat_map roled_chunk (chunks_read l.geometry.layout x.inode x.cut b))
-          ≡ after_looks v x.number (stamps_in l.inodes l.words.items) (flat_map roled_chunk (rest b l.chunks)));
-      sound : ForContents (device l.initial.image).contents (λ b. x.inode.size < 2 ^ 31 →
-          are_sound (chunks_read l.geometry.layout x.inode x.cut b) ≡ (l.sound && are_sound (rest b l.chunks)));
-      gap : ForContents (device l.initial.image).contents (λ b.
-          has_gap (replayed_steps l.geometry.layout x.cut fresh_replay (steps_of l.geometry.layout x.inode b))
+      ready : CanReadChunks v (device l.image) l.windows.blocks l.windows.chunk;
+      quiet : of_bytes (λ b. (vol : Volume) → Sees vol l.inodes → x.inode.size < 2 ^ 31 →
+          are_quiet vol x.number before (flat_map roled_chunk (all b))
+          ≡ (l.quiet && are_quiet vol x.number now (flat_map roled_chunk (rest b l.chunks))));
+      stamps : of_bytes (λ b. (vol : Volume) → Sees vol l.inodes → x.inode.size < 2 ^ 31 →
+          after_looks vol x.number before (flat_map roled_chunk (all b))
+          ≡ after_looks vol x.number now (flat_map roled_chunk (rest b l.chunks)));
+      sound : of_bytes (λ b. x.inode.size < 2 ^ 31 → are_sound (all b) ≡ (l.sound && are_sound (rest b l.chunks)));
+      gap : of_bytes (λ b. has_gap (replayed_steps v x.cut fresh_replay (steps_of v x.inode b))
           ≡ (l.chunks.gap || gap_left b l.chunks));
-      started : ForContents (device l.initial.image).contents (λ b. x.inode.size < 2 ^ 31 →
-          find (λ c. c.offset == 0) (chunks_read l.geometry.layout x.inode x.cut b) ≡ start_chunk (rest b l.chunks)
-          l.started
-          l.order l.start);
-      held : ForContents (device l.initial.image).contents (λ b. HoldsReading l.windows.blocks l.windows.chunk
-          l.chunks);
-      reads : ForContents (device l.initial.image).contents (λ b. g.I.Image.reads l.image + to_read b l.chunks
-          ≤ g.I.Image.reads l.initial.image
-          + replayed_runs l.geometry.layout x.cut fresh_replay (steps_of l.geometry.layout x.inode b));
+      started : of_bytes (λ b. x.inode.size < 2 ^ 31 →
+          find (λ c. c.offset == 0) (all b) ≡ start_chunk (rest b l.chunks) l.started l.order l.start);
+      held : of_bytes (λ b. HoldsReading l.windows.blocks l.windows.chunk l.chunks);
+      reads : of_bytes (λ b. g.I.Image.reads l.image + to_read b l.chunks
+          ≤ g.I.Image.reads l.initial.image + replayed_runs v x.cut fresh_replay (steps_of v x.inode b));
     }
 
 abbrev pub decreases-chunks : goal.decreases-chunks

@@ -13,6 +13,12 @@ invariant-entries g l =
     let reported_by = g.I.Image.device in
     let v = l.geometry.layout in
     let x = l.chunk in
+    let known = DirectoryContext v (reported_by l.fn.image).contents l.fn.workspace x.dir in
+    let knows_path = KnowsPath v (reported_by l.fn.image).contents l.fn.workspace x.dir l.fn.texts in
+    let entries = roled_from x.first 0 (entries_of v.order x.bytes.now) in
+    let left = roled_at_place v.order x.bytes.now x.first l.index l.place in
+    let all = λ (b : List ℕ). entries_reported (volume_of v b) x.dir (passed_of l.fn.workspace) entries in
+    let to_come = λ (b : List ℕ). entries_reported (volume_of v b) x.dir (passed_of l.workspace) left in
     record {
       place : l.place ≤ 512;
       index : l.index ≤ l.place;
@@ -21,26 +27,14 @@ invariant-entries g l =
       survey : LeavesSurvey l.fn.workspace l.workspace;
       places : KeepPlaces l.fn.workspace.queue.items l.workspace.queue.items;
       chunk : l.workspace.windows.chunk ≡ l.fn.workspace.windows.chunk;
-      path : ForBytes (KnowsPath v (reported_by l.fn.image).contents l.fn.workspace x.dir l.fn.texts)
-          (λ b. BeginsPathOf (graph_of (volume_of v b)) x.dir l.texts);
-      passed : ForBytes (DirectoryContext v (reported_by l.fn.image).contents l.fn.workspace x.dir) (λ b.
-          after_entries (volume_of v b) x.dir (passed_of l.fn.workspace) (roled_from x.first 0 (entries_of v.order
-          x.bytes.now))
-          ≡ after_entries (volume_of v b) x.dir (passed_of l.workspace)
-          (roled_at_place v.order x.bytes.now x.first l.index l.place));
-      said : SaidOf (KnowsPath v (reported_by l.fn.image).contents l.fn.workspace x.dir l.fn.texts)
-          (λ b. map of_tree (entries_reported (volume_of v b) x.dir (passed_of l.workspace)
-          (roled_at_place v.order x.bytes.now x.first l.index l.place)))
-          (λ b. map of_tree (entries_reported (volume_of v b) x.dir (passed_of l.fn.workspace)
-          (roled_from x.first 0 (entries_of v.order x.bytes.now))))
+      path : ForBytes knows_path (λ b. BeginsPathOf (graph_of (volume_of v b)) x.dir l.texts);
+      passed : ForBytes known (λ b. after_entries (volume_of v b) x.dir (passed_of l.fn.workspace) entries
+          ≡ after_entries (volume_of v b) x.dir (passed_of l.workspace) left);
+      said : SaidOf knows_path (λ b. map of_tree (to_come b)) (λ b. map of_tree (all b))
           (progress g.W.Output.sink l.fn.report) (progress g.W.Output.sink l.report);
-      counted : (b : List ℕ) → DirectoryContext v (reported_by l.fn.image).contents l.fn.workspace x.dir b
-          → AreNoted v b l.fn.workspace.queue.items
-          → HasRead (length (entries_reported (volume_of v b) x.dir (passed_of l.fn.workspace)
-          (roled_from x.first 0 (entries_of v.order x.bytes.now))))
-          (length (entries_reported (volume_of v b) x.dir (passed_of l.workspace)
-          (roled_at_place v.order x.bytes.now x.first l.index l.place)))
-          (g.I.Image.reads l.fn.image) (g.I.Image.reads l.image) l.fn.workspace l.workspace;
+      counted : (b : List ℕ) → known b → AreNoted v b l.fn.workspace.queue.items →
+          HasRead (length (all b)) (length (to_come b)) (g.I.Image.reads l.fn.image) (g.I.Image.reads l.image)
+          l.fn.workspace l.workspace;
       paid : AreChunksNumbered v → Paid {T = Unit {0}} line_reads (progress g.W.Output.sink l.fn.report)
           (progress g.W.Output.sink l.report) (g.I.Image.reads l.fn.image) (g.I.Image.reads l.image) (Ok tt);
     }

@@ -1,5 +1,5 @@
 use Rattle.std.proofs.Common.{ap, refl, ◌∙◌, rules}
-use Rattle.std.proofs.lemmas.{List.with_items_is, Result.err_from_is_err_and}
+use Rattle.std.proofs.lemmas.{List.with_items_is}
 use Rattle.ffs_volume.specs.Directories.Volumes.{volume_of}
 use Rattle.ffs_workspace.specs.declared.workspace.Workspace.{Workspace}
 use Rattle.ffs_workspace.proofs.Leaving.{claims_left, survey_left, leaves_more, windows_leave}
@@ -9,17 +9,6 @@ use Rattle.ffs_pathnames.proofs.StampLaws.{keep_more, names_leave, windows_keep}
 use Rattle.ffs_paths.proofs.Keeping.{kept_parent_on}
 use Rattle.ffs_report.proofs.Paying.{paid_answer}
 use Rattle.ffs_pathnames.proofs.entries.report_entry.Goals as goal
-
-pub returns-in_err-report_by_role-clause-leaves : goal.returns-in_err-report_by_role-clause-leaves
-returns-in_err-report_by_role-clause-leaves g c =
-    let left = c.in_err-report_by_role.ensures.leaves in
-    let p = err_from_is_err_and c.from_residual.result c.from_residual.ensures.1 in
-    rw (p.1, p.2) (record {
-      image = left.image;
-      survey = windows_leave _ _ left.lists;
-      places = windows_keep c.args.workspace.now c.report_by_role.new.workspace left.lists;
-      ready = left.ready;
-    })
 
 pub returns-clause-leaves : goal.returns-clause-leaves
 returns-clause-leaves g c =
@@ -34,11 +23,7 @@ returns-clause-leaves g c =
       places = keep_more _ _ _ (windows_keep c.args.workspace.now c.report_by_role.new.workspace left.lists)
           c.pass.ensures.places;
       ready = record {
-        ready = record {
-          made = search rules;
-          volume = said.ready.volume;
-          windows = search rules;
-        };
+        ready = search rules;
         kept_parent = kept_parent_on _ _ _ _ _ _ refl surveyed c.pass.ensures.places said.kept_parent;
       };
     }
@@ -62,25 +47,6 @@ returns-clause-passed g c = λ b k.
     (c.pass.ensures.after (volume_of v b) shows)
     (with_items_is here.flags c.pass.new.flags (c.pass.auto.flags ∙ c.as_mut_slice.ensures.len))
     refl
-
-pub returns-in_err-report_by_role-clause-lines : goal.returns-in_err-report_by_role-clause-lines
-returns-in_err-report_by_role-clause-lines g c =
-    let p = err_from_is_err_and c.from_residual.result c.from_residual.ensures.1 in
-    rw (p.1, p.2) c.in_err-report_by_role.ensures.lines
-
-pub returns-clause-lines : goal.returns-clause-lines
-returns-clause-lines g c =
-    let lines = c.in_ok-report_by_role.ensures.lines in
-    record {
-      text = lines.text;
-      path = lines.path;
-      counted = λ b k noted. let said = lines.counted b k noted in record { count = said.count; blocks = said.blocks };
-    }
-
-pub returns-in_err-report_by_role-clause-paid : goal.returns-in_err-report_by_role-clause-paid
-returns-in_err-report_by_role-clause-paid g c = λ numbered.
-    let p = err_from_is_err_and c.from_residual.result c.from_residual.ensures.1 in
-    rw (p.1, p.2) (c.in_err-report_by_role.ensures.paid numbered)
 
 pub returns-clause-paid : goal.returns-clause-paid
 returns-clause-paid g c = λ numbered. paid_answer (c.in_ok-report_by_role.ensures.paid numbered)

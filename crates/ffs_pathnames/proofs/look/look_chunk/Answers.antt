@@ -1,4 +1,4 @@
-use Rattle.std.proofs.Common.{sym, ◌≡◌, ◌&&◌, ◌∙◌, arith}
+use Rattle.std.proofs.Common.{◌≡◌, ◌&&◌, ◌∙◌, arith}
 use Rattle.std.proofs.Math.Bool.{and-true}
 use Rattle.ffs_volume.specs.Directories.Roles.{RoledEntry, Volume}
 use Rattle.ffs_layout.specs.Entry.{entry_value}
@@ -36,12 +36,4 @@ entries-preserved c =
     })
 
 pub returns-clause-look : goal.returns-clause-look
-returns-clause-look c =
-    let end = none c.args.order c.args.chunk.now c.entries.place c.entry_at.result c.in_default.is
-    c.entry_at.ensures.value in
-    let left = none_left c.args.order c.args.chunk.now c.args.first c.entries.index c.entries.place end in
-    record {
-      quiet = λ v s. sym ((rw left at c.entries.invariant.quiet v s) ∙ and-true c.entries.quiet);
-      stamps = λ v s. sym (rw left at c.entries.invariant.stamps v s);
-      sound = length_ends c.args.order c.args.chunk.now c.entries.place end c.entries.invariant.sound;
-    }
+returns-clause-look c = grind (arith, none, none_left, and-true, length_ends)

@@ -1,8 +1,8 @@
-use Rattle.std.proofs.Common.{[], ◌∷◌, List, ℕ, map, refl, ap, ◌∙◌, inl, inr, arith, ◌≡◌, Some}
+use Rattle.std.proofs.Common.{[], ◌∷◌, List, ℕ, refl, ap, ◌∙◌, inl, arith, ◌≡◌, Some}
 use Rattle.std.proofs.lemmas.Result.{err_from_is_err_and}
-use Rattle.ffs_report.proofs.Reporting.{of_begins, of_says, of_stops, of_reads, of_last, reports_knowing}
-use Rattle.ffs_volume.specs.{Messages.Kinds.of_tree, Messages.Kinds.phase2, Directories.PathnameCheck.pathname_lines}
-use Rattle.ffs_volume.{specs.Directories.Volumes.volume_of, proofs.RunBounds.runs_bounded, proofs.Results.on_ok}
+use Rattle.ffs_report.proofs.Reporting.{of_reads, of_last, reports_knowing, says_heading, stops_heading}
+use Rattle.ffs_volume.specs.{Messages.Kinds.phase2}
+use Rattle.ffs_volume.{proofs.RunBounds.runs_bounded, proofs.Results.on_ok}
 use Rattle.ffs_pathnames.{specs.declared.pass2.Root.Root, specs.Before.IsBefore, proofs.Carrying.at_fault}
 use Rattle.ffs_pathnames.proofs.Carrying.{at_fault_more, claims_untouched, before_first, references_on, on_all, if_ok}
 use Rattle.ffs_pathnames.proofs.SilentLaws.{calm_silent}
@@ -29,14 +29,10 @@ before_tree g c b t h =
 pub returns-in_err-say-clause-text : goal.returns-in_err-say-clause-text
 returns-in_err-say-clause-text g c =
     let p = err_from_is_err_and c.from_residual.result c.from_residual.ensures.1 in
-    let lines = λ (b : List ℕ). map of_tree (pathname_lines (volume_of c.args.geometry.now.layout b)) in
-    rw (p.1, p.2) (of_stops _ _ lines _ (phase2 ∷ []) _ _ _ (of_begins _ _ _) (λ b k. refl)
-    c.in_err-say.ensures.said)
+    rw (p.1, p.2) (stops_heading c.in_err-say.ensures.said)
 
 pub returns-in_err-say-clause-fault : goal.returns-in_err-say-clause-fault
-returns-in_err-say-clause-fault g c =
-    let p = err_from_is_err_and c.from_residual.result c.from_residual.ensures.1 in
-    rw (p.1, p.2) tt
+returns-in_err-say-clause-fault g c = grind (arith, err_from_is_err_and)
 
 pub returns-in_err-survey-clause-fault : goal.returns-in_err-survey-clause-fault
 returns-in_err-survey-clause-fault g c = at_fault c.from_residual-in_err-survey.result _ (inl c.in_ok-say.ensures.said)
@@ -44,63 +40,34 @@ returns-in_err-survey-clause-fault g c = at_fault c.from_residual-in_err-survey.
 pub returns-in_err-survey-clause-text : goal.returns-in_err-survey-clause-text
 returns-in_err-survey-clause-text g c =
     let p = err_from_is_err_and c.from_residual-in_err-survey.result c.from_residual-in_err-survey.ensures.1 in
-    let lines = λ (b : List ℕ). map of_tree (pathname_lines (volume_of c.args.geometry.now.layout b)) in
-    rw (p.1, p.2) (of_reads _ lines _ _ _
-    (of_says _ _ lines _ (phase2 ∷ []) _ _ _ (of_begins _ _ _) (λ b k. refl) c.in_ok-say.ensures.said))
+    rw (p.1, p.2) (of_reads _ _ _ _ _ (says_heading (λ b k. refl) c.in_ok-say.ensures.said))
 
 pub returns-clause-text : goal.returns-clause-text
 returns-clause-text g c =
-    let lines = λ (b : List ℕ). map of_tree (pathname_lines (volume_of c.args.geometry.now.layout b)) in
-    of_last Root _ lines lines _ _ _ _ c.check_tree.result
-    (of_says _ _ lines _ (phase2 ∷ []) _ _ _ (of_begins _ _ _) (λ b k. refl) c.in_ok-say.ensures.said)
-    (λ b k. refl)
-    (reports_knowing Root _ _ lines _ _ c.check_tree.result
+    of_last Root _ _ _ _ _ _ _ c.check_tree.result (says_heading (λ b k. refl) c.in_ok-say.ensures.said) (λ b k. refl)
+    (reports_knowing Root _ _ _ _ _ c.check_tree.result
     (λ b k. before_tree g (goal.at.returns-clause-text g c).After-check_tree b k.0 k.1) c.check_tree.ensures.text)
 
 pub returns-clause-goes : goal.returns-clause-goes
-returns-clause-goes g c = if_ok c.check_tree.result _ _
-    (λ root h b k. h b (before_tree g (goal.at.returns-clause-goes g c).After-check_tree b k.0 k.1))
-    c.check_tree.ensures.goes
+returns-clause-goes g c = grind (arith, if_ok, before_tree)
 
 pub returns-clause-fault : goal.returns-clause-fault
-returns-clause-fault g c = at_fault_more c.check_tree.result _ _
-    (λ h. inr (λ b k. h b (before_tree g (goal.at.returns-clause-fault g c).After-check_tree b k.0 k.1)))
-    c.check_tree.ensures.fault
+returns-clause-fault g c = grind (arith, at_fault_more, before_tree)
 
 pub returns-clause-holds : goal.returns-clause-holds
-returns-clause-holds g c = on_ok c.check_tree.result _ _
-    (λ h b k. h b (before_tree g (goal.at.returns-clause-holds g c).After-check_tree b k.0 k.1))
-    c.check_tree.ensures.holds
+returns-clause-holds g c = grind (arith, on_ok, before_tree)
 
 pub returns-clause-references : goal.returns-clause-references
-returns-clause-references g c =
-    let v = c.args.geometry.now.layout in
-    let found = c.in_ok-survey.ensures in
-    on_all c.check_tree.result _
-    (λ b k. references_on v b _ _
-    (c.check_tree.ensures.leaves.references ∙ c.clear_passed.ensures.clear.survey.references)
-    (found.references b k.0 k.1 k.2))
+returns-clause-references g c = grind (arith, on_all, references_on)
 
 pub check_tree-requires : goal.check_tree-requires
 check_tree-requires g c = c.clear_passed.ensures.ready _ _ c.in_ok-survey.ensures.ready
 
 pub returns-in_err-survey-clause-reads : goal.returns-in_err-survey-clause-reads
-returns-in_err-survey-clause-reads g c = λ b k numbered.
-    let v = c.args.geometry.now.layout in
-    let once = c.survey.ensures.reads b k.0 k.1 in
-    let most = costs_bounded v b c.args.geometry.now.sound in
-    let runs = runs_bounded v b c.args.geometry.now.sound in
-    omega (arith, once, most, runs)
+returns-in_err-survey-clause-reads g c = grind (arith, costs_bounded, runs_bounded)
 
 pub returns-clause-reads : goal.returns-clause-reads
-returns-clause-reads g c = λ b k numbered.
-    let v = c.args.geometry.now.layout in
-    let once = c.survey.ensures.reads b k.0 k.1 in
-    let most = costs_bounded v b c.args.geometry.now.sound in
-    let runs = runs_bounded v b c.args.geometry.now.sound in
-    let before = before_tree g (goal.at.returns-clause-reads g c).After-check_tree b k.0 k.1 in
-    let rest = c.check_tree.ensures.reads b before numbered in
-    omega (arith, once, most, runs, rest)
+returns-clause-reads g c = grind (arith, costs_bounded, runs_bounded, before_tree)
 
 -- what was read for messages
 pub returns-in_err-say-clause-paid : goal.returns-in_err-say-clause-paid

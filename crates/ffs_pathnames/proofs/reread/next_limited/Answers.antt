@@ -1,4 +1,4 @@
-use Rattle.std.proofs.Common.{◌∙◌, ◌≡◌, ◌≤◌, ℕ, List, Some, ap, arith, false, sym}
+use Rattle.std.proofs.Common.{◌∙◌, ◌≡◌, ◌≤◌, ℕ, List, Some, ap, arith, true}
 use Rattle.std.proofs.lemmas.Bool.{both_ways}
 use Rattle.ffs_image.specs.{Device.Device, Limited.reads_asked}
 use Rattle.ffs_image.proofs.Limits.{read_over}
@@ -26,44 +26,23 @@ bytes g c b t = ap (λ (d : Device). d.contents) c.new-limited.ensures.device �
 -- no read of known bytes is refused
 answered : (g : Over) (c : After-is_spent g) (b : List ℕ) → (g.I.Image.device c.args.image.now).contents ≡ Some b →
     HoldsReading c.args.windows.now.blocks c.args.windows.now.chunk c.args.chunks.now →
-    to_read b c.args.chunks.now ≤ c.args.reads_left.now → c.is_spent.result ≡ false
-answered g c b t held enough =
-    let asked = (c.next-offset.ensures.reads held b (bytes g c b t)).most in
-    (after g c).served.few (omega (arith, asked, c.new-limited.ensures.asked, enough))
+    to_read b c.args.chunks.now ≤ c.args.reads_left.now → c.is_spent.result ≡ true → ⊥
+answered g c b t held enough = grind (arith, bytes, both_ways, after)
 
 pub returns-then-is_spent-clause-chunk : goal.returns-then-is_spent-clause-chunk
-returns-then-is_spent-clause-chunk g c = λ b t held enough.
-    let at = (goal.at.returns-then-is_spent-clause-chunk g c).After-is_spent in
-    absurd (both_ways _ (answered g at b t held enough) c.if-is_spent.true)
+returns-then-is_spent-clause-chunk g c = grind (arith, answered)
 
 pub returns-then-is_spent-clause-reads : goal.returns-then-is_spent-clause-reads
-returns-then-is_spent-clause-reads g c = λ held b t enough.
-    let at = (goal.at.returns-then-is_spent-clause-reads g c).After-is_spent in
-    absurd (both_ways _ (answered g at b t held enough) c.if-is_spent.true)
+returns-then-is_spent-clause-reads g c = grind (arith, answered)
 
 pub returns-then-is_spent-clause-kept : goal.returns-then-is_spent-clause-kept
-returns-then-is_spent-clause-kept g c = λ held b t enough.
-    let at = (goal.at.returns-then-is_spent-clause-kept g c).After-is_spent in
-    absurd (both_ways _ (answered g at b t held enough) c.if-is_spent.true)
+returns-then-is_spent-clause-kept g c = grind (arith, answered)
 
 pub returns-then-is_spent-clause-most : goal.returns-then-is_spent-clause-most
-returns-then-is_spent-clause-most g c =
-    let back = after g (goal.at.returns-then-is_spent-clause-most g c).After-is_spent in
-    let image = c.image-1.given.1 back.served.same_image ∙ c.drop-limited.ensures.below in
-    rw (image, c.left.ensures.value) back.most
+returns-then-is_spent-clause-most g c = grind (arith, after)
 
 pub returns-then-is_spent-clause-leaves : goal.returns-then-is_spent-clause-leaves
-returns-then-is_spent-clause-leaves g c =
-    let back = after g (goal.at.returns-then-is_spent-clause-leaves g c).After-is_spent in
-    let left = c.next-offset.ensures.leaves in
-    let image = c.image-1.given.1 back.served.same_image ∙ c.drop-limited.ensures.below in
-    let over = read_over _ _ c.next-offset.result (rw c.new-limited.ensures.device at left.read) in
-    rw image (record {
-      geometry = left.geometry;
-      ready = can_read_same _ _ _ _ _ (back.served.contents ∙ sym over.contents)
-          (back.served.size ∙ sym over.size) left.ready;
-      read = back.served.refused c.if-is_spent.true;
-    })
+returns-then-is_spent-clause-leaves g c = grind (arith, after, read_over, can_read_same)
 
 pub returns-clause-chunk : goal.returns-clause-chunk
 returns-clause-chunk g c =
@@ -74,34 +53,13 @@ pub returns-clause-budget : goal.returns-clause-budget
 returns-clause-budget g c = budget_falls c.next-offset.result _ _ c.next-offset.ensures.budget
 
 pub returns-clause-reads : goal.returns-clause-reads
-returns-clause-reads g c = λ held b t enough.
-    let at = (goal.at.returns-clause-reads g c).After-is_spent in
-    let back = after g at in
-    let image = c.image-2-1.given.1 back.served.same_image ∙ c.drop-limited-2.ensures.below in
-    rw image (taken_below (c.next-offset.ensures.reads held b (bytes g at b t)) c.new-limited.ensures.asked
-    back.served.as_asked)
+returns-clause-reads g c = grind (arith, after, taken_below, bytes)
 
 pub returns-clause-kept : goal.returns-clause-kept
-returns-clause-kept g c = λ held b t enough.
-    let at = (goal.at.returns-clause-kept g c).After-is_spent in
-    rw c.left.ensures.value (taken_left (c.next-offset.ensures.reads held b (bytes g at b t))
-    c.new-limited.ensures.asked (after g at).kept)
+returns-clause-kept g c = grind (arith, taken_left, bytes, after)
 
 pub returns-clause-most : goal.returns-clause-most
-returns-clause-most g c =
-    let back = after g (goal.at.returns-clause-most g c).After-is_spent in
-    let image = c.image-2-1.given.1 back.served.same_image ∙ c.drop-limited-2.ensures.below in
-    rw (image, c.left.ensures.value) back.most
+returns-clause-most g c = grind (arith, after)
 
 pub returns-clause-leaves : goal.returns-clause-leaves
-returns-clause-leaves g c =
-    let back = after g (goal.at.returns-clause-leaves g c).After-is_spent in
-    let left = c.next-offset.ensures.leaves in
-    let image = c.image-2-1.given.1 back.served.same_image ∙ c.drop-limited-2.ensures.below in
-    let over = read_over _ _ c.next-offset.result (rw c.new-limited.ensures.device at left.read) in
-    rw image (record {
-      geometry = left.geometry;
-      ready = can_read_same _ _ _ _ _ (back.served.contents ∙ sym over.contents)
-          (back.served.size ∙ sym over.size) left.ready;
-      read = back.served.read c.if-is_spent.false;
-    })
+returns-clause-leaves g c = grind (arith, after, read_over, can_read_same)

@@ -1,9 +1,9 @@
-use Rattle.std.proofs.Common.{refl, sym, ap, subst, ◌∙◌, ◌≡◌, ◌≤◌, ◌+◌, ℕ, Some, List, [], ◌∷◌, map, Err, arith, length, inl, inr}
+use Rattle.std.proofs.Common.{refl, sym, ap, subst, ◌∙◌, ◌≡◌, ◌≤◌, ◌+◌, ℕ, Some, List, [], ◌∷◌, map, Err, arith, inl, inr}
 use Rattle.std.{proofs.lemmas.Bool.both_ways, proofs.lemmas.Result.err_from_is_err_and, specs.List.flat_map}
 use Rattle.ffs_image.specs.Device.{Faulted}
 use Rattle.ffs_volume.proofs.Numbered.{as_many}
-use Rattle.ffs_volume.specs.Directories.{Entries.Chunk, Entries.chunk_of, Roles.roled_chunk, Roles.roled_entries}
-use Rattle.ffs_volume.specs.{Directories.Volumes.volume_of, Messages.Kinds.of_tree, Report.Reads.line_reads}
+use Rattle.ffs_volume.specs.Directories.{Entries.Chunk, Entries.chunk_of, Roles.roled_chunk}
+use Rattle.ffs_volume.specs.{Directories.Volumes.volume_of, Messages.Kinds.of_tree}
 use Rattle.ffs_workspace.{specs.Notes.cut_in, specs.Leaves.LeavesSurvey, proofs.NoteLaws.cut_is_noted}
 use Rattle.ffs_workspace.specs.{Places.AreChunksNumbered, declared.workspace.Workspace.Workspace}
 use Rattle.ffs_workspace.proofs.Leaving.{leaves_all, leaves_more, windows_leave}
@@ -17,7 +17,7 @@ use Rattle.ffs_pathnames.proofs.Passing.{chunk_reported, chunk_passed, knows_on,
 use Rattle.ffs_pathnames.proofs.{ReadyLaws.can_read_in, ReadyLaws.windows_next, ReadyLaws.windows_read}
 use Rattle.ffs_pathnames.{specs.ReadsLeft.LeftForRuns, proofs.LimitedLaws.numbered_or_not}
 use Rattle.ffs_report.proofs.Paying.{paid_beside, paid_failed, paid_none, paid_then, paid_within}
-use Rattle.ffs_pathnames.proofs.LineCounts.{lines_long, reported_on}
+use Rattle.ffs_pathnames.proofs.LineCounts.{lines_long}
 use Rattle.ffs_pathnames.proofs.reread.report_directory.Given.{Over}
 use Rattle.ffs_pathnames.proofs.reread.report_directory.Goals.{After-next_chunk}
 use Rattle.ffs_pathnames.proofs.reread.report_directory.Goals as goal
@@ -68,20 +68,18 @@ chunks-init g c =
     let v = c.args.geometry.now.layout in
     let x = c.args.directory.now in
     let m = passed_of c.args.workspace.now in
-    let all = λ (b : List ℕ). map of_tree
-    (entries_reported (volume_of v b) x.number m (roled_entries (volume_of v b) x.number)) in
-    let cut = λ (b : List ℕ)
-    (k : LeftForRuns v (g.I.Image.device c.args.image.now) c.args.workspace.now x c.args.checking.now.reads_left b).
-    c.requires.cut
+    let known = LeftForRuns v (g.I.Image.device c.args.image.now) c.args.workspace.now x
+    c.args.checking.now.reads_left in
+    let cut = λ (b : List ℕ) (k : known b). c.requires.cut
     ∙ (ap cut_in (k.0.0.claims.notes x.number) ∙ cut_is_noted v b x.number c.args.geometry.now.sound) in
-    let seen = λ (b : List ℕ)
-    (k : LeftForRuns v (g.I.Image.device c.args.image.now) c.args.workspace.now x c.args.checking.now.reads_left b).
-    all_read v b x.number x.inode x.cut (rest b c.start-chunks.result)
-    c.args.geometry.now.sound k.0.0.dir k.0.1 (cut b k)
-    (c.start-chunks.ensures.begins.chunks b) in
-    let same_lines = λ (b : List ℕ)
-    (k : LeftForRuns v (g.I.Image.device c.args.image.now) c.args.workspace.now x c.args.checking.now.reads_left b).
+    let seen = λ (b : List ℕ) (k : known b). all_read v b x.number x.inode x.cut (rest b c.start-chunks.result)
+    c.args.geometry.now.sound k.0.0.dir k.0.1 (cut b k) (c.start-chunks.ensures.begins.chunks b) in
+    let lines = λ (b : List ℕ) (k : known b).
     ap (λ es. map of_tree (entries_reported (volume_of v b) x.number m es)) (sym (seen b k)) in
+    let few : (b : List ℕ) → known b → to_read b c.start-chunks.result ≤ directory_runs v b x.number = λ b k.
+    let all = c.start-chunks.ensures.reads.to_read b in
+    let left = c.start-chunks.ensures.begins.runs_left b in
+    omega (arith, all, left, runs_are v b x.number x.inode x.cut k.0.1 (cut b k)) in
     record {
       ready = record { ready = c.requires.ready.ready; kept_parent = c.requires.ready.kept_parent };
       device = refl;
@@ -90,24 +88,13 @@ chunks-init g c =
       places = λ x. refl;
       held = λ b k noted.
           c.start-chunks.ensures.reads.held c.args.workspace.now.windows.blocks c.args.workspace.now.windows.chunk;
-      reads = λ b k noted.
-          let all = c.start-chunks.ensures.reads.to_read b in
-          let left = c.start-chunks.ensures.begins.runs_left b in
-          let runs = runs_are v b x.number x.inode x.cut k.0.1 (cut b k) in
-          let long = as_many (entries_reported (volume_of v b) x.number m (roled_entries (volume_of v b) x.number))
-          (entries_reported (volume_of v b) x.number m (flat_map roled_chunk (rest b c.start-chunks.result)))
-          (same_lines b k) in
-          rw long (omega (arith, all, left, runs));
-      spent = λ b k numbered.
-          let all = c.start-chunks.ensures.reads.to_read b in
-          let left = c.start-chunks.ensures.begins.runs_left b in
-          let runs = runs_are v b x.number x.inode x.cut k.0.1 (cut b k) in
-          omega (arith, all, left, runs);
+      reads = λ b k noted. let long = as_many _ _ (lines b k) in omega (arith, long, few b k);
+      spent = λ b k numbered. omega (arith, few b k);
       unlimited = λ none. refl;
       paid = λ numbered. paid_none (omega arith);
       path = λ b k begun. absurd (both_ways _ refl begun);
       passed = λ b k. ap (after_entries (volume_of v b) x.number m) (sym (seen b k));
-      said = of_same _ all _ all _ _ (of_begins _ all _) same_lines;
+      said = of_same _ _ _ _ _ _ (of_begins _ _ _) lines;
     }
 
 pub returns-in_err-offset-clause-text : goal.returns-in_err-offset-clause-text
@@ -163,7 +150,6 @@ chunks-preserved g c =
     let read = c.in_ok-offset.ensures in
     let ok = c.in_ok-report_chunk.ensures in
     let m = passed_of c.chunks.workspace in
-    let m' = passed_of c.report_chunk.new.workspace in
     let known = know g at read.leaves.read in
     let here : Chunk = chunk_of v.order c.in-Some.offset c.next_chunk.new.bytes in
     let came = rw c.in-Some.is at read.chunk in
@@ -184,13 +170,9 @@ chunks-preserved g c =
           let took = read.reads (inv.held b k noted) b (now g at b k) (enough g at b k) in
           let few = c.report_chunk.ensures.lines.counted b (known b k)
           (noted_kept v b c.args.workspace.now.queue.items c.chunks.workspace.queue.items inv.places noted) in
-          reported_on line_reads _ _ _ (to_read b c.chunks.chunks) (to_read b c.next_chunk.new.chunks)
-          (length (entries_reported (volume_of v b) x.number m (roled_chunk here)))
-          (length (entries_reported (volume_of v b) x.number m' (flat_map roled_chunk (rest b c.next_chunk.new.chunks))))
-          (length (entries_reported (volume_of v b) x.number m (flat_map roled_chunk (rest b c.chunks.chunks)))) _
-          took.paid few.count
-          (lines_long _ _ _ (chunk_reported (volume_of v b) x.number m here _ _ (next b k) (ok.passed b (known b k))))
-          (inv.reads b k noted);
+          let long = lines_long _ _ _ (chunk_reported (volume_of v b) x.number m here _ _ (next b k)
+          (ok.passed b (known b k))) in
+          omega (arith, took.paid, few.count, long, inv.reads b k noted);
       spent = λ b k numbered.
           let n = subst (λ q. AreChunksNumbered q.layout) (sym inv.geometry) numbered in
           let took = read.kept n (room g at b k n).0 b (now g at b k) (room g at b k n).1 in
@@ -288,17 +270,11 @@ returns-in_err-report_chunk-clause-reads g c = λ b k noted.
     let came = rw c.in-Some.is at read.chunk in
     let next = (came b (now g at b k) (room g at b k)).chunks ∙ ap
     (λ q. chunk_of q.layout.order c.in-Some.offset c.next_chunk.new.bytes ∷ rest b c.next_chunk.new.chunks) inv.geometry in
-    let after = after_entries (volume_of v b) x.number m (roled_chunk here) in
     let took = read.reads (inv.held b k noted) b (now g at b k) (enough g at b k) in
     let few = c.report_chunk.ensures.lines.counted b (know g at read.leaves.read b k)
     (noted_kept v b c.args.workspace.now.queue.items c.chunks.workspace.queue.items inv.places noted) in
-    let most = reported_on line_reads _ _ _ (to_read b c.chunks.chunks) (to_read b c.next_chunk.new.chunks)
-    (length (entries_reported (volume_of v b) x.number m (roled_chunk here)))
-    (length (entries_reported (volume_of v b) x.number after (flat_map roled_chunk (rest b c.next_chunk.new.chunks))))
-    (length (entries_reported (volume_of v b) x.number m (flat_map roled_chunk (rest b c.chunks.chunks)))) _
-    took.paid few.count
-    (lines_long _ _ _ (chunk_reported (volume_of v b) x.number m here _ _ next refl)) (inv.reads b k noted) in
-    omega (arith, most)
+    let long = lines_long _ _ _ (chunk_reported (volume_of v b) x.number m here _ _ next refl) in
+    omega (arith, took.paid, few.count, long, inv.reads b k noted)
 
 pub returns-clause-reads : goal.returns-clause-reads
 returns-clause-reads g c = λ b k noted.
@@ -350,7 +326,4 @@ returns-in_err-report_chunk-clause-paid g c = λ numbered.
     rw (p.1, p.2) (paid_then looked (paid_beside c.next_chunk.new.reads_left (c.in_err-report_chunk.ensures.paid numbered)))
 
 pub returns-clause-paid : goal.returns-clause-paid
-returns-clause-paid g c = λ numbered.
-    let inv = c.chunks.invariant in
-    let n = subst (λ q. AreChunksNumbered q.layout) (sym inv.geometry) numbered in
-    paid_within (inv.paid numbered) (omega arith) (c.next_chunk.ensures.most n)
+returns-clause-paid g c = grind (arith, paid_within)

@@ -39,11 +39,7 @@ returns-clause-text g c =
     of_same _ _ (λ b. []) _ _ _ (of_begins _ _ _) (λ b k. lines_skipped c.requires.low other k.0.before)
 
 pub returns-clause-before : goal.returns-clause-before
-returns-clause-before g c = λ b k.
-    record {
-      before = before_skipped c.args.geometry.now.sound (sym c.is_checked.ensures ∙ c.if-is_checked.false) k.0.before;
-      noted = k.0.noted;
-    }
+returns-clause-before g c = grind (arith, before_skipped)
 
 pub returns-then-is_checked-clause-reads : goal.returns-then-is_checked-clause-reads
 returns-then-is_checked-clause-reads g c = λ b k noted.

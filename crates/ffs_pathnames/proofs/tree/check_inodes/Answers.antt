@@ -1,21 +1,18 @@
-use Rattle.std.proofs.Common.{◌+◌, ◌-◌, ◌<◌, [], map, refl, sym, ap, subst, ◌≡◌, ◌∙◌, suc, arith, rules, Err, List, ℕ}
-use Rattle.std.proofs.Common.{◌≤◌, length, true}
-use Rattle.std.proofs.lemmas.{Bool.both_ways, Result.err_from_is_err_and}
+use Rattle.std.proofs.Common.{◌+◌, ◌-◌, [], map, refl, sym, ap, subst, ◌≡◌, ◌∙◌, suc, arith, rules, Err, List, ℕ}
+use Rattle.std.proofs.Common.{◌≤◌, true}
+use Rattle.std.proofs.lemmas.{Result.err_from_is_err_and}
 use Rattle.ffs_volume.proofs.Numbered.{as_many, from_next, from_end, count_next as next_long}
-use Rattle.ffs_volume.{proofs.Sizes.some_inodes, specs.Report.Reads.line_reads}
 use Rattle.ffs_volume.specs.Messages.Kinds.{of_tree, lines_from}
 use Rattle.ffs_volume.specs.Directories.{PathnameCheck.directory_lines, Volumes.volume_of}
 use Rattle.ffs_report.proofs.Reporting.{of_begins, of_same, of_part, of_fault, of_reads, said_knows, reports_knowing}
 use Rattle.ffs_workspace.specs.{declared.workspace.Workspace.Workspace, Lengths.inodes_of}
 use Rattle.ffs_pathnames.{specs.Before.IsBeforeNoted, proofs.Carrying.noted_reported}
-use Rattle.ffs_pathnames.proofs.Skipping.{before_unseen, lines_unseen, noted_before}
-use Rattle.ffs_pathnames.proofs.LineCounts.{checked_on}
-use Rattle.ffs_survey.{specs.Costs.costs_all, proofs.Costs.cost_take, proofs.Costs.costs_rise}
+use Rattle.ffs_pathnames.proofs.Skipping.{noted_before, unseen}
+use Rattle.ffs_survey.{proofs.Costs.cost_take, proofs.Costs.costs_rise}
 use Rattle.ffs_names.specs.Costs.{directories_cost, directory_cost}
 use Rattle.ffs_names.proofs.Limits.{costs_within}
-use Rattle.ffs_report.proofs.Paying.{paid_failed, paid_none, paid_then, paid_within}
+use Rattle.ffs_report.proofs.Paying.{paid_none, paid_then, paid_within}
 use Rattle.ffs_pathnames.specs.{Before.IsBefore, ReadsLeft.LeftForNext}
-use Rattle.ffs_report.specs.PhaseOutcome.{ImageAfter}
 use Rattle.ffs_pathnames.proofs.tree.check_inodes.Given.{Over}
 use Rattle.ffs_pathnames.proofs.tree.check_inodes.Goals.{After-check_inode}
 use Rattle.ffs_pathnames.proofs.tree.check_inodes.Goals as goal
@@ -33,18 +30,14 @@ next g c b k =
     let rise = costs_rise (λ s. true) (directory_cost v b) (n + 1) (inodes_of v) (omega arith) in
     (noted_reported (ap (λ d. d.contents) inv.device) (inv.before b k), omega (arith, inv.left b k, taken, rise))
 
-pub first_checked-first-requires-clause-some : goal.first_checked-first-requires-clause-some
-first_checked-first-requires-clause-some g c =
-    let k = some_inodes c.args.geometry.now.layout c.args.geometry.now.sound in omega (arith, k)
-
 pub returns-then-first-count-clause-text : goal.returns-then-first-count-clause-text
 returns-then-first-count-clause-text g c =
     let v = c.args.geometry.now.layout in
     let first = c.first_checked-first in
     let all = λ (b : List ℕ). map of_tree (lines_from (directory_lines (volume_of v b)) 2 (inodes_of v - 2)) in
     of_same _ all (λ b. []) _ _ _ (of_begins _ all _)
-    (λ b k. lines_unseen v _ _ b first.result (inodes_of v) c.args.geometry.now.sound first.ensures.range.0
-    first.ensures.range.1 first.ensures.before k
+    (λ b k. (unseen v _ _ b first.result (inodes_of v) c.args.geometry.now.sound first.ensures.range.0
+    first.ensures.range.1 first.ensures.before k).1
     ∙ from_end (directory_lines (volume_of v b)) first.result (inodes_of v) (omega arith))
 
 pub returns-then-first-count-clause-holds : goal.returns-then-first-count-clause-holds
@@ -61,6 +54,9 @@ loop-number-init g c =
     let first = c.first_checked-first in
     let noted = c.in_ok-note_places.ensures in
     let all = λ (b : List ℕ). map of_tree (lines_from (directory_lines (volume_of v b)) 2 (inodes_of v - 2)) in
+    let skipped = λ (b : List ℕ) (k : IsBefore v (g.I.Image.device c.args.image.now).contents c.args.workspace.now 2 b).
+    unseen v _ _ b first.result (inodes_of v) c.args.geometry.now.sound first.ensures.range.0 first.ensures.range.1
+    first.ensures.before k in
     record {
       ready = record { ready = noted.ready; kept_parent = c.none.ensures _ _ _ };
       device = noted.read;
@@ -70,23 +66,18 @@ loop-number-init g c =
           let made : g.I.Image.reads c.note_places.new.image ≤ g.I.Image.reads c.args.image.now + directories_cost v b =
           c.note_places.ensures.reads b k.gives_bytes k.claims k.survey in
           rw (as_many (lines_from (directory_lines (volume_of v b)) 2 (inodes_of v - 2))
-          (lines_from (directory_lines (volume_of v b)) first.result (inodes_of v - first.result))
-          (lines_unseen v _ _ b first.result (inodes_of v) c.args.geometry.now.sound first.ensures.range.0
-          first.ensures.range.1 first.ensures.before k)) (omega (arith, made));
+          (lines_from (directory_lines (volume_of v b)) first.result (inodes_of v - first.result)) (skipped b k).1)
+          (omega (arith, made));
       left = λ b k.
           let within = costs_within v b c.args.geometry.now.sound in
           omega (arith, within, c.sweep_reads.ensures);
       paid = λ numbered. paid_none (omega (arith, noted.most, c.sweep_reads.ensures));
       before = λ b k. record {
         before = noted_before v _ _ _ _ first.result b first.ensures.range.0 refl noted.lists noted.ready.made
-            (noted.places b k.gives_bytes k.claims k.survey) noted.none_due
-            (before_unseen v _ _ b first.result c.args.geometry.now.sound first.ensures.range.0 first.ensures.before
-            k);
+            (noted.places b k.gives_bytes k.claims k.survey) noted.none_due (skipped b k).0;
         noted = noted.noted b k.gives_bytes k.claims k.survey;
       };
-      said = of_same _ all _ all _ _ (of_begins _ all _)
-          (λ b k. lines_unseen v _ _ b first.result (inodes_of v) c.args.geometry.now.sound first.ensures.range.0
-          first.ensures.range.1 first.ensures.before k);
+      said = of_same _ all _ all _ _ (of_begins _ all _) (λ b k. (skipped b k).1);
     }
 
 pub returns-in_err-check_inode-clause-text : goal.returns-in_err-check_inode-clause-text
@@ -116,13 +107,10 @@ loop-number-preserved g c =
       low = omega arith;
       references = ok.leaves.survey.references ∙ inv.references;
       reads = λ b k numbered.
-          let lines = directory_lines (volume_of v b) in
-          rw (cost_take (λ s. true) (directory_cost v b) n refl) (checked_on line_reads _ _ (directories_cost v b)
-          (costs_all (directory_cost v b) n) (directory_cost v b n) (g.I.Image.reads c.args.image.now) (length (lines
-          n))
-          (length (lines_from lines (n + 1) (inodes_of v - (n + 1)))) (length (lines_from lines 2 (inodes_of v - 2)))
-          (c.check_inode.ensures.reads b (next g at b k) ((inv.before b k).noted numbered))
-          (rw (next_long lines n (inodes_of v) (omega arith)) at (inv.reads b k numbered)));
+          let taken = cost_take (λ s. true) (directory_cost v b) n refl in
+          let here = c.check_inode.ensures.reads b (next g at b k) ((inv.before b k).noted numbered) in
+          let long = next_long (directory_lines (volume_of v b)) n (inodes_of v) (omega arith) in
+          omega (arith, taken, here, long, inv.reads b k numbered);
       left = λ b k.
           let taken = cost_take (λ s. true) (directory_cost v b) n refl in
           let kept = c.check_inode.ensures.kept b (next g at b k) in
@@ -139,76 +127,30 @@ loop-number-preserved g c =
     }
 
 pub returns-in_err-check_inode-clause-leaves : goal.returns-in_err-check_inode-clause-leaves
-returns-in_err-check_inode-clause-leaves g c =
-    let p = err_from_is_err_and c.from_residual-in_err-check_inode.result
-    c.from_residual-in_err-check_inode.ensures.1 in
-    let inv = c.loop-number.invariant in
-    let left = c.in_err-check_inode.ensures.leaves in
-    rw (p.1, p.2) (record {
-      image = subst (λ d. ImageAfter {T = Unit {0}} d (g.I.Image.device c.check_inode.new.image)
-          (Err c.in_err-check_inode.field-0.0)) inv.device left.image;
-      references = left.survey.references ∙ inv.references;
-      ready = left.ready;
-    })
+returns-in_err-check_inode-clause-leaves g c = grind (arith, err_from_is_err_and)
 
 pub returns-clause-text : goal.returns-clause-text
-returns-clause-text g c =
-    let v = c.args.geometry.now.layout in
-    let inv = c.loop-number.invariant in
-    let n = c.loop-number.number in
-    of_same _ _ (λ b. []) _ _ _ inv.said (λ b k. from_end (directory_lines (volume_of v b)) n (inodes_of v)
-    (omega arith))
+returns-clause-text g c = grind (arith, of_same, from_end)
 
 pub returns-clause-holds : goal.returns-clause-holds
 returns-clause-holds g c = λ b k. let now = (c.loop-number.invariant.before b k).before in (now.claims, now.survey)
 
-pub returns-clause-unchecked : goal.returns-clause-unchecked
-returns-clause-unchecked g c = λ none.
-    let first = c.first_checked-first in
-    let below : first.result < inodes_of c.args.geometry.now.layout = omega arith in
-    absurd (both_ways _ (none first.result first.ensures.range.0 below) (first.ensures.found below))
-
 -- the reads
-pub returns-in_err-note_places-clause-reads : goal.returns-in_err-note_places-clause-reads
-returns-in_err-note_places-clause-reads g c = λ b k numbered.
-    let v = c.args.geometry.now.layout in
-    let made : g.I.Image.reads c.note_places.new.image ≤ g.I.Image.reads c.args.image.now + directories_cost v b =
-    c.note_places.ensures.reads b k.gives_bytes k.claims k.survey in
-    omega (arith, made)
-
 pub returns-in_err-check_inode-clause-reads : goal.returns-in_err-check_inode-clause-reads
 returns-in_err-check_inode-clause-reads g c = λ b k numbered.
     let at = (goal.at.returns-in_err-check_inode-clause-reads g c).After-check_inode in
     let v = c.args.geometry.now.layout in
     let inv = c.loop-number.invariant in
     let n = c.loop-number.number in
-    let lines = directory_lines (volume_of v b) in
-    let last = checked_on line_reads _ _ (directories_cost v b)
-    (costs_all (directory_cost v b) n) (directory_cost v b n) (g.I.Image.reads c.args.image.now) (length (lines n))
-    (length (lines_from lines (n + 1) (inodes_of v - (n + 1)))) (length (lines_from lines 2 (inodes_of v - 2)))
-    (c.check_inode.ensures.reads b (next g at b k) ((inv.before b k).noted numbered))
-    (rw (next_long lines n (inodes_of v) (omega arith)) at (inv.reads b k numbered)) in
+    let here = c.check_inode.ensures.reads b (next g at b k) ((inv.before b k).noted numbered) in
+    let long = next_long (directory_lines (volume_of v b)) n (inodes_of v) (omega arith) in
     let taken = cost_take (λ s. true) (directory_cost v b) n refl in
     let rise = costs_rise (λ s. true) (directory_cost v b) (n + 1) (inodes_of v) (omega arith) in
-    omega (arith, last, taken, rise)
-
-pub returns-clause-reads : goal.returns-clause-reads
-returns-clause-reads g c = λ b k numbered.
-    let v = c.args.geometry.now.layout in
-    let n = c.loop-number.number in
-    let now = c.loop-number.invariant.reads b k numbered in
-    let rise = costs_rise (λ s. true) (directory_cost v b) n (inodes_of v) (omega arith) in
-    omega (arith, now, rise)
+    omega (arith, here, long, taken, rise, inv.reads b k numbered)
 
 -- what was read for messages
 pub returns-then-first-count-clause-paid : goal.returns-then-first-count-clause-paid
 returns-then-first-count-clause-paid g c = λ numbered. paid_none (omega arith)
-
-pub returns-in_err-note_places-clause-paid : goal.returns-in_err-note_places-clause-paid
-returns-in_err-note_places-clause-paid g c = λ numbered.
-    let p = err_from_is_err_and c.from_residual.result c.from_residual.ensures.1 in
-    let most = c.note_places.ensures.most in
-    rw (p.1, p.2) (paid_failed (omega (arith, most)))
 
 pub returns-in_err-check_inode-clause-paid : goal.returns-in_err-check_inode-clause-paid
 returns-in_err-check_inode-clause-paid g c = λ numbered.

@@ -1,17 +1,16 @@
 use Rattle.std.proofs.Common.{◌≡◌, ◌≤◌, ◌++◌, ◌+◌, Bool, slice_index, [], List, ℕ, map, refl, sym, ◌∙◌, append-nil}
 use Rattle.std.proofs.Common.{true, false, arith, length}
-use Rattle.std.proofs.{lemmas.Result.err_from_is_err_and, Math.Nat.mul-le-mul_left}
+use Rattle.std.proofs.{lemmas.Result.err_from_is_err_and}
 use Rattle.ffs_workspace.specs.{Holds.HoldsClaims, Places.AreChunksNumbered}
 use Rattle.ffs_pathnames.specs.Before.{IsBefore, root_reported}
 use Rattle.ffs_pathnames.{specs.Costs.tree_reads, proofs.LineCounts.lines_long}
 use Rattle.ffs_pathnames.proofs.Carrying.{at_fault, goes_is, root_kind_is, root_marked_is, tree_is, tree_lines}
 use Rattle.ffs_pathnames.proofs.tree.check_tree.Given.{Over}
 use Rattle.ffs_pathnames.proofs.tree.check_tree.Goals.{After-report_root, After-check_inodes}
-use Rattle.ffs_volume.{proofs.Sizes.some_inodes, specs.Encodings.Kinds.is_dir_kind, specs.Directories.Volumes.volume_of}
-use Rattle.ffs_volume.specs.{Report.Reads.line_reads, Messages.Kinds.of_tree, Directories.PathnameCheck.pathname_lines}
+use Rattle.ffs_volume.{specs.Encodings.Kinds.is_dir_kind, specs.Directories.Volumes.volume_of}
+use Rattle.ffs_volume.specs.{Messages.Kinds.of_tree, Directories.PathnameCheck.pathname_lines}
 use Rattle.ffs_report.proofs.Reporting.{of_begins, of_says, of_stops, of_part, of_fault}
 use Rattle.ffs_report.proofs.Paying.{paid_said, paid_answer, paid_fault, paid_text, paid_then}
-use Rattle.ffs_pathnames.{specs.declared.pass2.Root.Root, proofs.Begun.image_same}
 use Rattle.ffs_pathnames.proofs.tree.check_tree.Goals as goal
 
 -- what the kind of the root that was read says
@@ -30,25 +29,12 @@ lines_are g c b goes h q = tree_is c.args.geometry.now.layout b c.args.workspace
     (root_marked_is c.args.geometry.now.layout c.args.workspace.now _ c.args.geometry.now.sound c.requires.made
     c.index-marked.ensures) h q
 
-pub index-kind-requires : goal.index-kind-requires
-index-kind-requires g c = let k = some_inodes c.args.geometry.now.layout c.args.geometry.now.sound in
-    omega (arith, c.requires.made.kinds, k)
-
-pub index-marked-requires : goal.index-marked-requires
-index-marked-requires g c = let k = some_inodes c.args.geometry.now.layout c.args.geometry.now.sound in
-    omega (arith, c.requires.made.marked, k)
-
 pub returns-in_err-report_root-clause-text : goal.returns-in_err-report_root-clause-text
 returns-in_err-report_root-clause-text g c =
     let p = err_from_is_err_and c.from_residual.result c.from_residual.ensures.1 in
     rw (p.1, p.2) (of_stops _ _ _ _ _ _ _ _ (of_begins _ _ _)
     (λ b k. lines_are g (goal.at.returns-in_err-report_root-clause-text g c).After-report_root b _ k.claims refl)
     c.in_err-report_root.ensures)
-
-pub returns-in_err-report_root-clause-fault : goal.returns-in_err-report_root-clause-fault
-returns-in_err-report_root-clause-fault g c =
-    let p = err_from_is_err_and c.from_residual.result c.from_residual.ensures.1 in
-    rw (p.1, p.2) tt
 
 pub returns-in-Stop-clause-text : goal.returns-in-Stop-clause-text
 returns-in-Stop-clause-text g c =
@@ -95,17 +81,6 @@ returns-in_ok-check_inodes-in-Go-clause-goes g c = λ b k.
 pub returns-in-Stop-clause-holds : goal.returns-in-Stop-clause-holds
 returns-in-Stop-clause-holds g c = λ b k. (k.claims, k.survey)
 
-pub returns-in_err-check_inodes-in-Go-clause-leaves : goal.returns-in_err-check_inodes-in-Go-clause-leaves
-returns-in_err-check_inodes-in-Go-clause-leaves g c =
-    let left = c.in_err-check_inodes-in-Go.ensures.leaves in
-    let p = err_from_is_err_and c.from_residual-in_err-check_inodes-in-Go.result
-    c.from_residual-in_err-check_inodes-in-Go.ensures.1 in
-    rw (p.1, p.2) (record {
-      image = image_same (Unit {0}) Root _ _ _ c.in_err-check_inodes-in-Go.field-0.0 refl left.image;
-      references = left.references;
-      ready = left.ready;
-    })
-
 -- the reads
 reads_few : (g : Over) (c : After-check_inodes g) (b : List ℕ) →
     map of_tree (pathname_lines (volume_of c.args.geometry.now.layout b))
@@ -118,11 +93,7 @@ reads_few : (g : Over) (c : After-check_inodes g) (b : List ℕ) →
 reads_few g c b is k numbered =
     let v = c.args.geometry.now.layout in
     let long = lines_long (pathname_lines (volume_of v b)) _ (tree_lines v b true) is in
-    let reads = c.check_inodes.ensures.reads b k numbered in
-    let more = mul-le-mul_left {m = length (tree_lines v b true)}
-    {n = length (pathname_lines (volume_of v b))} line_reads
-    (omega (arith, long)) in
-    omega (arith, reads, more)
+    omega (arith, long, c.check_inodes.ensures.reads b k numbered)
 
 pub returns-in_err-check_inodes-in-Go-clause-reads : goal.returns-in_err-check_inodes-in-Go-clause-reads
 returns-in_err-check_inodes-in-Go-clause-reads g c = λ b k.
