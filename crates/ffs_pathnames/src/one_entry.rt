@@ -164,7 +164,7 @@ fn make_paths<I: Image>(
 }
 
 /// Writes the path of a directory. An image that gives other bytes each time may be read more often
-/// than a path reads at most: then no more is read, and the text is what was there or a path.
+/// than a path reads at most: then no more is read, and the text stays.
 fn put_path<I: Image>(
     geometry: &Geometry,
     image: &mut I,
