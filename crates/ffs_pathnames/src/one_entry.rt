@@ -302,7 +302,7 @@ fn gather_path<I: Image>(
     )
 }
 
-/// Gathers what is shown of an entry besides paths of directories, once the path of its own is made:
+/// Gathers what is shown of an entry besides paths of directories, once that of its own is made:
 /// the entry's path, and the attributes of its inode. It reads once at most.
 #[inline(always)]
 fn gather_inode<I: Image>(
