@@ -125,7 +125,7 @@ fn make_paths_freely<I: Image>(
 }
 
 /// Makes the path of a directory for the lines on its entries. An image that gives other bytes each
-/// time may be read more often than a path reads at most: then no more is read, and no path is made.
+/// time may be read more often than a path reads at most: then no more is read, and there is none.
 /// It is apart from `begin_paths`, which is called for each line: a function clears the room of its
 /// locals each time that it is entered, and those here are large.
 #[inline(never)]
@@ -164,7 +164,7 @@ fn make_paths<I: Image>(
 }
 
 /// Writes the path of a directory. An image that gives other bytes each time may be read more often
-/// than a path reads at most: then no more is read, and the text is what was there or a path.
+/// than a path reads at most: then no more is read, and the text stays.
 fn put_path<I: Image>(
     geometry: &Geometry,
     image: &mut I,
@@ -302,8 +302,8 @@ fn gather_path<I: Image>(
     )
 }
 
-/// Gathers what is shown of an entry besides paths of directories, once that of its own directory is
-/// made: the entry's path, and the attributes of its inode. It reads once at most.
+/// Gathers what is shown of an entry besides paths of directories, once that of its own is made:
+/// the entry's path, and the attributes of its inode. It reads once at most.
 #[inline(always)]
 fn gather_inode<I: Image>(
     geometry: &Geometry,

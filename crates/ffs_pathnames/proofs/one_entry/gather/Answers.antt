@@ -7,7 +7,8 @@ pub returns-clause-enough : goal.returns-clause-enough
 returns-clause-enough g c =
     let path = c.in_ok-gather_path.ensures in
     if_ok c.gather_inode.result _ _
-    (λ a e dir b k p. e b (ap (λ x. x.contents) path.leaves.reads.read ∙ k.gives_bytes) dir c.gather_path.new.texts.directory.items
+    (λ a e dir b k p. e b (ap (λ x. x.contents) path.leaves.reads.read ∙ k.gives_bytes) dir
+    c.gather_path.new.texts.directory.items
     (rw path.same.1 p) (λ q. path.path dir b k (c.asks-wants_path.ensures.directory ∙ q)))
     c.gather_inode.ensures.enough
 

@@ -32,7 +32,8 @@ read_attr-requires g c = record {
 pub returns-clause-attr : goal.returns-clause-attr
 returns-clause-attr g c =
     if_ok c.read_attr.result _ _
-    (λ a h b k. h b (ap (λ d. d.contents) c.in_ok-put_path.ensures.leaves.reads.read ∙ k.gives_bytes)) c.read_attr.ensures.attr
+    (λ a h b k. h b (ap (λ d. d.contents) c.in_ok-put_path.ensures.leaves.reads.read ∙ k.gives_bytes))
+    c.read_attr.ensures.attr
 
 pub returns-clause-path : goal.returns-clause-path
 returns-clause-path g c =

@@ -21,7 +21,8 @@ returns-clause-enough g c =
     let read = begun.leaves.reads in
     if_ok c.gather.result _ _
     (λ a h b k. h c.args.entry.now.dir b
-    (knows_on v _ _ c.args.workspace.now c.begin_paths.new.workspace c.args.entry.now.dir b (ap (λ d. d.contents) read.read)
+    (knows_on v _ _ c.args.workspace.now c.begin_paths.new.workspace c.args.entry.now.dir b
+    (ap (λ d. d.contents) read.read)
     (windows_leave c.args.workspace.now c.begin_paths.new.workspace read.lists)
     (windows_keep c.args.workspace.now c.begin_paths.new.workspace read.lists) k.knows) (begun.made b k))
     c.gather.ensures.enough

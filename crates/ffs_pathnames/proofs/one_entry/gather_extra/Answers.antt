@@ -21,7 +21,8 @@ returns-clause-counted g c = λ b k.
 pub returns-clause-attr : goal.returns-clause-attr
 returns-clause-attr g c =
     if_ok c.read_attr.result _ _
-    (λ a h b k. h b (ap (λ d. d.contents) c.in_ok-begin_paths.ensures.leaves.reads.read ∙ k.gives_bytes)) c.read_attr.ensures.attr
+    (λ a h b k. h b (ap (λ d. d.contents) c.in_ok-begin_paths.ensures.leaves.reads.read ∙ k.gives_bytes))
+    c.read_attr.ensures.attr
 
 pub returns-in_err-begin_paths-clause-most : goal.returns-in_err-begin_paths-clause-most
 returns-in_err-begin_paths-clause-most g c = λ numbered.

@@ -12,7 +12,8 @@ returns-clause-enough g c =
     if_ok c.read_attr.result _ _
     (λ a attr b t dir path p wanted. enough (volume_of v b) c.args.verdict.now dir x.number x.name.now a
     (last_path c.put.new.self) path (λ q. attr b t)
-    (c.put.ensures.path (graph_of (volume_of v b)) dir p ∙ entry_in_room (graph_of (volume_of v b)) dir x.name.now x.short)
+    (c.put.ensures.path (graph_of (volume_of v b)) dir p
+    ∙ entry_in_room (graph_of (volume_of v b)) dir x.name.now x.short)
     wanted)
     c.read_attr.ensures.attr
 
@@ -21,7 +22,8 @@ returns-then-not-wants_attr-clause-enough g c = λ b t dir path p wanted.
     let x = c.args.entry.now in
     let tree = graph_of (volume_of c.args.geometry.now.layout b) in
     enough (volume_of c.args.geometry.now.layout b) c.args.verdict.now dir x.number x.name.now _
-    (last_path c.put.new.self) path (λ q. absurd (both_ways _ (sym c.asks-wants_attr.ensures.attr ∙ c.if-not-wants_attr.true) q))
+    (last_path c.put.new.self) path
+    (λ q. absurd (both_ways _ (sym c.asks-wants_attr.ensures.attr ∙ c.if-not-wants_attr.true) q))
     (c.put.ensures.path tree dir p ∙ entry_in_room tree dir x.name.now x.short) wanted
 
 pub returns-then-not-wants_attr-clause-reads : goal.returns-then-not-wants_attr-clause-reads
