@@ -18,12 +18,7 @@ pub record IsQuiet (v : Layout) (s : Claims) (start len : ℕ) (t : Claims) : Ty
 
 quiet_more : {v : Layout} {s : Claims} (t : Claims) {u : Claims} {start len : ℕ} → after_offer v s start ≡ t →
     ((inode : ℕ) → offer_lines v inode s start ≡ []) → IsQuiet v t (start + 1) len u → IsQuiet v s start (suc len) u
-quiet_more {v = v} {s = s} t {start = start} {len = len} now silent more =
-    let rest = range_with_len (start + 1) len in
-    record {
-      claims = ap (λ t. after_offers v t rest) now ∙ more.claims;
-      silent = λ inode. grind arith;
-    }
+quiet_more {v = v} {s = s} t {start = start} {len = len} now silent more = grind arith
 
 -- a Run past the end of the volume: no fragment of it is in range, so they are only counted
 past_end : (v : Layout) (f : ℕ) → v.size ≤ f → is_fragment_in_range v f ≡ false
