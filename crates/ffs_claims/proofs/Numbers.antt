@@ -1,7 +1,7 @@
 -- The inodes one after another.
-use Rattle.std.proofs.Common.{◌≡◌, inl, inr, ℕ, zero, suc, ◌+◌, ◌-◌, ◌<◌, ◌≤◌, true, false, ◌||◌, if◌then◌else◌}
+use Rattle.std.proofs.Common.{◌≡◌, ℕ, zero, suc, ◌+◌, ◌-◌, ◌<◌, ◌≤◌, true, false, ◌||◌, if◌then◌else◌}
 use Rattle.std.proofs.Common.{nat_lt, List, [], ◌++◌, length, map, get_or, replicate, min, slice_set, arith, refl, ap}
-use Rattle.std.proofs.{Common.◌∙◌, lemmas.Bool.cases_eq, lemmas.Bool.Decides.nat_tests, lemmas.List.get_or-set_same}
+use Rattle.std.proofs.{Common.◌∙◌, lemmas.Bool.Decides.nat_tests, lemmas.List.get_or-set_same}
 use Rattle.std.{proofs.lemmas.List.get_or-set_other, specs.List.range_with_len}
 use Rattle.ffs_volume.specs.Blocks.BlockCheck.{owner_lines, lines_of_owners, phase1_lines}
 use Rattle.ffs_volume.specs.Blocks.Claims.{Claims, no_claims, after_owner, after_owners}

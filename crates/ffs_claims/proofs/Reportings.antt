@@ -1,11 +1,11 @@
 -- How phase 1b continues.
 use Rattle.std.proofs.Common.{◌≡◌, append_assoc, append-nil, subst, ℕ, ◌+◌, ◌-◌, ◌<◌, ◌≤◌, Bool, false, if◌then◌else◌}
-use Rattle.std.proofs.Common.{List, [], ◌∷◌, ◌++◌, map, slice_set, arith, refl, ap, ◌∙◌, sym, inl, inr}
+use Rattle.std.proofs.Common.{List, [], ◌∷◌, ◌++◌, map, slice_set, arith, refl, ap, ◌∙◌, sym}
 use Rattle.std.proofs.Math.Bool.{or_assoc, or-false}
-use Rattle.std.proofs.lemmas.{Bool.cases_Bool, List.Folds.list_any-append}
-use Rattle.std.specs.List.{range_with_len, list_any, slice_index_or}
-use Rattle.ffs_volume.specs.Blocks.{BlockCheck.blames, BlockCheck.first_offer_lines, Claims.is_set, KeptOffers.Offer}
-use Rattle.ffs_volume.specs.{Blocks.KeptOffers.offer_of, declared.BlockMessage.TheVariants.Dup}
+use Rattle.std.proofs.lemmas.{List.Folds.list_any-append}
+use Rattle.std.specs.List.{range_with_len, slice_index_or}
+use Rattle.ffs_volume.specs.Blocks.{BlockCheck.first_offer_lines, Claims.is_set, KeptOffers.Offer}
+use Rattle.ffs_volume.specs.{Blocks.KeptOffers.offer_of}
 use Rattle.ffs_report.{proofs.Reports.said_none, specs.Progress.Progress, specs.Progress.Said}
 use Rattle.ffs_maps.specs.Bits.{bits_of}
 use Rattle.ffs_workspace.specs.{Holds.bool_at, Lengths.set_count, declared.workspace.Workspace.Workspace}

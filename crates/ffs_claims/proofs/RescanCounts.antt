@@ -10,7 +10,7 @@ use Rattle.ffs_volume.{proofs.ReplayLaws.offers_runs, proofs.RunBounds.runs_boun
 use Rattle.ffs_volume.specs.Blocks.Claims.{Claims, no_claims, at_next_inode, is_open, after_step, after_steps}
 use Rattle.ffs_volume.specs.Blocks.{Claims.after_owner, Claims.after_owners, Claims.after_offer, KeptOffers.Offer}
 use Rattle.ffs_volume.specs.Blocks.KeptOffers.{offer_of, kept_in_run, kept_in_offers, kept_in_step, kept_in_steps}
-use Rattle.ffs_volume.specs.{Blocks.Owners.Owner, Blocks.Owners.owners_of, Disk.Areas.is_run_in_range}
+use Rattle.ffs_volume.specs.{Blocks.Owners.Owner, Blocks.Owners.owners_of}
 use Rattle.ffs_volume.specs.Encodings.Replay.{Replay, is_replay_open, fresh_replay, cut_of, replay_after_step}
 use Rattle.ffs_volume.specs.Encodings.ReplayCounts.{seen_run, replay_step_by_cut}
 use Rattle.ffs_volume.specs.{Laws.Geometry.IsAcceptedLayout, Report.Whole.run_count, declared.Layout.Layout}

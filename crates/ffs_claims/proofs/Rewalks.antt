@@ -3,7 +3,7 @@ use Rattle.std.proofs.Common.{◌≡◌, ◌≢◌, ◌≤◌, ℕ, replicate, �
 use Rattle.std.proofs.Common.{refl, ap, ◌∙◌, ◌<◌, ◌-◌, ◌^◌, Result, Ok}
 use Rattle.std.{proofs.lemmas.Bool.Decides.nat_tests, specs.List.range_with_len}
 use Rattle.ffs_volume.proofs.ReplayLaws.{counted_same, gaps_seen}
-use Rattle.ffs_volume.specs.Blocks.{BlockCheck.first_offer_lines, KeptOffers.offer_of, Steps.steps_of}
+use Rattle.ffs_volume.specs.Blocks.{BlockCheck.first_offer_lines, KeptOffers.offer_of}
 use Rattle.ffs_volume.specs.Encodings.Replay.{Replay, fresh_replay, is_replay_open}
 use Rattle.ffs_volume.specs.Encodings.ReplayCounts.{seen_run, replayed_runs, replay_step_by_cut}
 use Rattle.ffs_volume.specs.{Messages.Kinds.Message, declared.BlockMessage.BlockMessage}
