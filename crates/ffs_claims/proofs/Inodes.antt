@@ -35,9 +35,6 @@ moves_on {v = v} {s0 = s0} {w = w} step made small some now before =
 pub used_below : {v : Layout} {w : Workspace} → IsFor v w → used_bits (claims_of w) ≤ v.size
 used_below {w = w} made = grind (arith, bits_long, count_by-le-length)
 
-open_few : (s : Claims) → is_open s ≡ true → (s.bad < 11) × (s.dups < 11)
-open_few s free = (grind (arith, nat_tests), grind (arith, nat_tests))
-
 -- how many Runs are seen, and how many offers are kept, while an inode isn't cut
 pub seen_bound : {v : Layout} (u : Workspace) {w : Workspace} → IsFor v w → is_open (claims_of w) ≡ true →
     ClaimBound (claims_of u) (claims_of w) → w.runs_seen + used_bits (claims_of u) + 2 ≤ u.runs_seen + v.size + 22
