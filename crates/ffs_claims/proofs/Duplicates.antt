@@ -144,8 +144,7 @@ owners_blame : (v : Layout) (bytes : List ℕ) (x n k : ℕ) → 2 ≤ n →
     list_any (blames x) (lines_of_owners v (claims_before v bytes n) (map (owner_of v bytes) (range_with_len n k)))
     ≡ ((nat_le n x && nat_lt x (n + k)) && blame_at v bytes x)
 unfolding owner_of
-owners_blame v bytes x n zero low =
-    let none : (nat_le n x && nat_lt x (n + 0)) ≡ false = grind (arith, nat_tests) in rw none refl
+owners_blame v bytes x n zero low = grind (arith, nat_tests)
 owners_blame v bytes x n (suc k) low =
     let s = claims_before v bytes n in
     let o = owner_of v bytes n in
@@ -245,7 +244,7 @@ none_clear bits f e = elim (cases_lt f (length bits)) [
 
 pub none_first : (bits : List Bool) (os : List Offer) → set_count bits ≡ 0 → first_offer_lines bits os ≡ []
 none_first bits [] e = refl
-none_first bits (o ∷ os) e = rw (none_clear bits o.fragment e) (none_first bits os e)
+none_first bits (o ∷ os) e = grind (arith, none_clear, none_first bits os)
 
 -- where there is no Dup line, phase 1 leaves what phase 1b would
 pub no_rescan : (v : Layout) (image : List ℕ) (w : Workspace) → has_rescan v (owners_of v image) ≡ false →

@@ -28,30 +28,21 @@ use Rattle.ffs_workspace.specs.{Holds.claims_of, Lengths.IsFor, declared.workspa
 -- a step more keeps the bound
 pub moves_on : {v : Layout} {s0 s' : Claims} {w : Workspace} (step : Step) → IsFor v w → v.frag ≤ 8 →
     HasLength v.frag step → s' ≡ after_step v (claims_of w) step → ClaimBound s0 (claims_of w) → ClaimBound s0 s'
-moves_on {v = v} {s0 = s0} {w = w} step made small some now before = rw now (moves_then s0 (claims_of w) _ before
-    (step_moves v (claims_of w) step (bits_long w.used ∙ made.used) small some))
+moves_on {v = v} {s0 = s0} {w = w} step made small some now before =
+    rw now (moves_then s0 _ _ before (step_moves v _ step (bits_long w.used ∙ made.used) small some))
 
 -- at most the volume's fragments are used
 pub used_below : {v : Layout} {w : Workspace} → IsFor v w → used_bits (claims_of w) ≤ v.size
-used_below {w = w} made =
-    let size = bits_long w.used ∙ made.used in
-    omega (arith, count_by-le-length (λ b. b) (claims_of w).used, size)
-
-open_few : (s : Claims) → is_open s ≡ true → (s.bad < 11) × (s.dups < 11)
-open_few s free = (grind (arith, nat_tests), grind (arith, nat_tests))
+used_below {w = w} made = grind (arith, bits_long, count_by-le-length)
 
 -- how many Runs are seen, and how many offers are kept, while an inode isn't cut
 pub seen_bound : {v : Layout} (u : Workspace) {w : Workspace} → IsFor v w → is_open (claims_of w) ≡ true →
     ClaimBound (claims_of u) (claims_of w) → w.runs_seen + used_bits (claims_of u) + 2 ≤ u.runs_seen + v.size + 22
-seen_bound u {w = w} made free m =
-    let few = open_few (claims_of w) free in
-    omega (arith, used_below made, m.few_runs, few.0, few.1)
+seen_bound u {w = w} made free m = grind (arith, nat_tests, used_below)
 
 pub kept_room : {v : Layout} (u : Workspace) {w : Workspace} → IsFor v w → is_open (claims_of w) ≡ true →
     ClaimBound (claims_of u) (claims_of w) → w.kept ≤ u.kept + v.size + 99
-kept_room u {w = w} made free m =
-    let few = open_few (claims_of w) free in
-    omega (arith, used_below made, m.few_kept, few.0, few.1)
+kept_room u {w = w} made free m = grind (arith, nat_tests, used_below)
 
 -- so there is room to count them
 pub sees_next : {v : Layout} {u w : Workspace} {area : DataArea} → IsAcceptedLayout v → HasBegun u → IsFor v w →
@@ -94,10 +85,7 @@ rest_lines v number i class s1 bytes =
 parts : (v : Layout) (number : ℕ) (i : Inode) (s : Claims) (bytes : List ℕ) →
     of_lines (owner_lines v s (owner_with v bytes number i)) ≡ of_lines (class_lines number (class_of v i))
     ++ rest_lines v number i (class_of v i) (at_next_inode s) bytes
-parts v number i s bytes = rw (
-  lines_append (class_lines number (class_of v i)) _,
-  lines_append (lines_of_steps v number (at_next_inode s) (steps_of v i bytes)) _,
-) refl
+parts v number i s bytes = grind (arith, lines_append)
 
 pub class_said : {knows : List ℕ → Type 0} {a b : Progress} {s1 : Claims} {class : Class} (v : Layout) (number : ℕ)
     (i : Inode) (s : Claims) → s1 ≡ at_next_inode s → class ≡ class_of v i →
@@ -110,9 +98,8 @@ class_said v number i s e k q =
 pub class_stopped : {knows : List ℕ → Type 0} {a b : Progress} {class : Class} (v : Layout) (number : ℕ) (i : Inode)
     (s : Claims) → class ≡ class_of v i → Stopped a b (of_lines (class_lines number class)) →
     StoppedOf knows (λ bytes. of_lines (owner_lines v s (owner_with v bytes number i))) a b
-class_stopped v number i s k q =
-    of_stops _ _ (rest_lines v number i (class_of v i) (at_next_inode s)) _ _ _ _ _ (of_begins _ _ _)
-    (λ bytes t. parts v number i s bytes) (rw k at q)
+class_stopped v number i s k q = of_stops _ _ (rest_lines v number i (class_of v i) (at_next_inode s))
+    _ _ _ _ _ (of_begins _ _ _) (λ bytes t. parts v number i s bytes) (rw k at q)
 
 -- its steps are reported then, and the count's line is that of the claims that are there
 pub steps_reported : {knows : List ℕ → Type 0} {a b c : Progress} {s1 s2 : Claims} {class : Class} (v : Layout)

@@ -1,7 +1,7 @@
 -- The inodes one after another.
-use Rattle.std.proofs.Common.{◌≡◌, inl, inr, ℕ, zero, suc, ◌+◌, ◌-◌, ◌<◌, ◌≤◌, true, false, ◌||◌, if◌then◌else◌}
+use Rattle.std.proofs.Common.{◌≡◌, ℕ, zero, suc, ◌+◌, ◌-◌, ◌<◌, ◌≤◌, true, false, ◌||◌, if◌then◌else◌}
 use Rattle.std.proofs.Common.{nat_lt, List, [], ◌++◌, length, map, get_or, replicate, min, slice_set, arith, refl, ap}
-use Rattle.std.proofs.{Common.◌∙◌, lemmas.Bool.cases_eq, lemmas.Bool.Decides.nat_tests, lemmas.List.get_or-set_same}
+use Rattle.std.proofs.{Common.◌∙◌, lemmas.Bool.Decides.nat_tests, lemmas.List.get_or-set_same}
 use Rattle.std.{proofs.lemmas.List.get_or-set_other, specs.List.range_with_len}
 use Rattle.ffs_volume.specs.Blocks.BlockCheck.{owner_lines, lines_of_owners, phase1_lines}
 use Rattle.ffs_volume.specs.Blocks.Claims.{Claims, no_claims, after_owner, after_owners}
@@ -50,14 +50,7 @@ FilledTo d f xs n = (x : ℕ) → get_or xs x d ≡ (if nat_lt x n then f x else
 
 filled_next : {A : Type 0} (d : A) (f : ℕ → A) (xs xs' : List A) (n : ℕ) (value : A) → n < length xs →
     xs' ≡ slice_set xs n value → value ≡ f n → FilledTo d f xs n → FilledTo d f xs' (n + 1)
-filled_next d f xs xs' n value low now is before = λ x. elim (cases_eq x n) [
-  | inl e ↦
-      let here : nat_lt n (n + 1) ≡ true = grind (arith, nat_tests) in
-      rw (now, e, get_or-set_same xs n value d low, here) is
-  | inr apart ↦
-      let same : nat_lt x (n + 1) ≡ nat_lt x n = grind (arith, nat_tests) in
-      rw (now, get_or-set_other xs n x value d apart, same) (before x)
-]
+filled_next d f xs xs' n value low now is before = grind (arith, nat_tests, get_or-set_same, get_or-set_other)
 
 -- nothing is found of a number that is no inode's
 abbrev NoneOutside : {A : Type 0} → Layout → A → (ℕ → A) → Type 0

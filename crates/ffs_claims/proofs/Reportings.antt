@@ -1,11 +1,11 @@
 -- How phase 1b continues.
 use Rattle.std.proofs.Common.{◌≡◌, append_assoc, append-nil, subst, ℕ, ◌+◌, ◌-◌, ◌<◌, ◌≤◌, Bool, false, if◌then◌else◌}
-use Rattle.std.proofs.Common.{List, [], ◌∷◌, ◌++◌, map, slice_set, arith, refl, ap, ◌∙◌, sym, inl, inr}
+use Rattle.std.proofs.Common.{List, [], ◌∷◌, ◌++◌, map, slice_set, arith, refl, ap, ◌∙◌, sym}
 use Rattle.std.proofs.Math.Bool.{or_assoc, or-false}
-use Rattle.std.proofs.lemmas.{Bool.cases_Bool, List.Folds.list_any-append}
-use Rattle.std.specs.List.{range_with_len, list_any, slice_index_or}
-use Rattle.ffs_volume.specs.Blocks.{BlockCheck.blames, BlockCheck.first_offer_lines, Claims.is_set, KeptOffers.Offer}
-use Rattle.ffs_volume.specs.{Blocks.KeptOffers.offer_of, declared.BlockMessage.TheVariants.Dup}
+use Rattle.std.proofs.lemmas.{List.Folds.list_any-append}
+use Rattle.std.specs.List.{range_with_len, slice_index_or}
+use Rattle.ffs_volume.specs.Blocks.{BlockCheck.first_offer_lines, Claims.is_set, KeptOffers.Offer}
+use Rattle.ffs_volume.specs.{Blocks.KeptOffers.offer_of}
 use Rattle.ffs_report.{proofs.Reports.said_none, specs.Progress.Progress, specs.Progress.Said}
 use Rattle.ffs_maps.specs.Bits.{bits_of}
 use Rattle.ffs_workspace.specs.{Holds.bool_at, Lengths.set_count, declared.workspace.Workspace.Workspace}
@@ -17,10 +17,10 @@ use Rattle.ffs_claims.specs.{Lines.of_lines, Reporting.after_first, Reporting.Of
 pub first_append : (dup : List Bool) (xs ys : List Offer) → first_offer_lines dup (xs ++ ys) ≡ first_offer_lines dup xs
     ++ first_offer_lines (after_first dup xs) ys
 first_append dup [] ys = refl
-first_append dup (o ∷ xs) ys = elim (cases_Bool (is_set dup o.fragment)) [
-  | inl e ↦ rw e (ap (λ ls. Dup o.fragment o.inode ∷ ls) (first_append (slice_set dup o.fragment false) xs ys))
-  | inr e ↦ rw e (first_append dup xs ys)
-]
+first_append dup (o ∷ xs) ys =
+    let left = first_append (slice_set dup o.fragment false) xs ys in
+    let silent = first_append dup xs ys in
+    grind arith
 
 pub after_append : (dup : List Bool) (xs ys : List Offer) →
     after_first dup (xs ++ ys) ≡ after_first (after_first dup xs) ys
@@ -43,10 +43,7 @@ none_after bits [] e = refl
 none_after bits (o ∷ os) e = rw (none_clear bits o.fragment e) (none_after bits os e)
 
 pub none_reported : (w : Workspace) (os : List Offer) → set_count (bits_of w.duplicates) ≡ 0 → OffersReported os w w
-none_reported w os e = record {
-  dup = sym (none_after (bits_of w.duplicates) os e);
-  marked = λ x. rw (none_first (bits_of w.duplicates) os e) (sym (or-false (bool_at w.marked.items x)));
-}
+none_reported w os e = grind (arith, none_after, none_first, or-false)
 
 -- what is reported is of the map and the marks alone
 pub reported_from : {offers : List Offer} (u u' w : Workspace) → OffersReported offers u' w →
@@ -70,10 +67,8 @@ said_out dup i f a e = rw e (said_none a)
 
 pub reported_then : {u v w : Workspace} (xs ys : List Offer) → OffersReported xs u v → OffersReported ys v w →
     OffersReported (xs ++ ys) u w
-reported_then {u = u} {v = v} xs ys a b = record {
-  dup = b.dup ∙ ap (λ d. after_first d ys) a.dup ∙ sym (after_append (bits_of u.duplicates) xs ys);
-  marked = λ x. grind (arith, first_append, list_any-append, or_assoc);
-}
+reported_then {u = u} {v = v} xs ys a b =
+    grind (arith, after_append, first_append, list_any-append, or_assoc)
 
 -- what was reported so far, with what is to come
 pub record Reporting (rest all : List Offer) (old new : Workspace) : Type 0 where

@@ -10,7 +10,7 @@ use Rattle.ffs_volume.{proofs.ReplayLaws.offers_runs, proofs.RunBounds.runs_boun
 use Rattle.ffs_volume.specs.Blocks.Claims.{Claims, no_claims, at_next_inode, is_open, after_step, after_steps}
 use Rattle.ffs_volume.specs.Blocks.{Claims.after_owner, Claims.after_owners, Claims.after_offer, KeptOffers.Offer}
 use Rattle.ffs_volume.specs.Blocks.KeptOffers.{offer_of, kept_in_run, kept_in_offers, kept_in_step, kept_in_steps}
-use Rattle.ffs_volume.specs.{Blocks.Owners.Owner, Blocks.Owners.owners_of, Disk.Areas.is_run_in_range}
+use Rattle.ffs_volume.specs.{Blocks.Owners.Owner, Blocks.Owners.owners_of}
 use Rattle.ffs_volume.specs.Encodings.Replay.{Replay, is_replay_open, fresh_replay, cut_of, replay_after_step}
 use Rattle.ffs_volume.specs.Encodings.ReplayCounts.{seen_run, replay_step_by_cut}
 use Rattle.ffs_volume.specs.{Laws.Geometry.IsAcceptedLayout, Report.Whole.run_count, declared.Layout.Layout}
@@ -84,13 +84,9 @@ step_again : (v : Layout) (i cut : ℕ) (s : Claims) (step : Step) → is_replay
     StepAgain v i cut s (by_cut cut (replay_of s)) step
 step_again v i cut s (Run start len block) going next =
     let same = open_by_cut cut (replay_of s) ∙ going in
-    elim (cases_Bool (is_open s)) [
-      | inl q ↦
-          let kept = run_offers v i s cut start len block q (going ∙ q) next
-          ∙ ap (λ n. map (offer_of i) (range_with_len start n)) (sym (taken_by_cut v cut (replay_of s) start len)) in
-          record { offers = rw (same, q, kept) refl; looks = rw (same, q, kept) refl }
-      | inr q ↦ record { offers = rw (same, q) refl; looks = rw (same, q) refl }
-    ]
+    let taken = taken_by_cut v cut (replay_of s) start len in
+    let kept = λ (q : is_open s ≡ true). run_offers v i s cut start len block q (going ∙ q) next in
+    grind arith
 step_again v i cut s other going next = record { offers = refl; looks = refl }
 
 -- what some steps are, replayed
@@ -104,12 +100,10 @@ unfolding offers_again steps_runs_again
 steps_again v i s [] few = record { offers = refl; looks = refl }
 steps_again v i s (step ∷ steps) few =
     let cut = cut_of (after_steps v s (step ∷ steps)) in
-    let here = by_cut cut (replay_of s) in
     let after = step_replays v s step steps few in
     let one = step_again v i cut s step (seen_replays v s (step ∷ steps) few) after in
     let more = steps_again v i (after_step v s step) steps (step_few v s step few) in
-    let next = step_by_cut v cut (replay_of s) step ∙ ap (by_cut cut) after in
-    grind arith
+    grind (arith, step_by_cut)
 
 -- an inode, from its begin on
 pub inode_again : (v : Layout) (i : ℕ) (s : Claims) (steps : List Step) →

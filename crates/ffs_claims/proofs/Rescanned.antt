@@ -1,5 +1,5 @@
 -- How phase 1b goes from inode to inode.
-use Rattle.std.proofs.Common.{◌≡◌, ℕ, zero, suc, ◌+◌, ◌-◌, ◌<◌, ◌≤◌, Bool, true, false, not, ◌&&◌, ◌||◌, ◌==◌, nat_lt}
+use Rattle.std.proofs.Common.{◌≡◌, ℕ, zero, suc, ◌+◌, ◌-◌, ◌<◌, ◌≤◌, Bool, true, false, not, ◌&&◌, ◌==◌}
 use Rattle.std.proofs.Common.{List, [], ◌∷◌, ◌++◌, map, slice_index, slice_set, arith, refl, ap, ◌∙◌, sym, ne_eqb}
 use Rattle.std.proofs.lemmas.{Bool.and_from, Bool.and_parts, Bool.Decides.nat_tests, List.Folds.list_all-append}
 use Rattle.std.specs.List.{range_with_len, list_any, list_all}
@@ -15,7 +15,7 @@ use Rattle.ffs_volume.specs.{Laws.Geometry.IsAcceptedLayout, Report.Whole.run_co
 use Rattle.ffs_volume.specs.declared.{Layout.Layout, Step.Step, Step.TheVariants.Run}
 use Rattle.ffs_maps.specs.Bits.{bits_of}
 use Rattle.ffs_workspace.proofs.NoteLaws.{cut_is_noted}
-use Rattle.ffs_workspace.specs.Holds.{all_claims, marked_by_phase1_at, HoldsPhase1, HoldsStarts, HoldsClaims}
+use Rattle.ffs_workspace.specs.Holds.{all_claims, HoldsPhase1, HoldsStarts, HoldsClaims}
 use Rattle.ffs_workspace.specs.{Lengths.inodes_of, Notes.cut_in, declared.workspace.Workspace.Workspace}
 use Rattle.ffs_claims.proofs.{Duplicates.marked_total, Numbers.before_end, Numbers.before_first, Numbers.is_inside}
 use Rattle.ffs_claims.proofs.Reportings.{Reporting, reported_none, reported_to}

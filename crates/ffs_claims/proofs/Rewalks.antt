@@ -3,7 +3,7 @@ use Rattle.std.proofs.Common.{◌≡◌, ◌≢◌, ◌≤◌, ℕ, replicate, �
 use Rattle.std.proofs.Common.{refl, ap, ◌∙◌, ◌<◌, ◌-◌, ◌^◌, Result, Ok}
 use Rattle.std.{proofs.lemmas.Bool.Decides.nat_tests, specs.List.range_with_len}
 use Rattle.ffs_volume.proofs.ReplayLaws.{counted_same, gaps_seen}
-use Rattle.ffs_volume.specs.Blocks.{BlockCheck.first_offer_lines, KeptOffers.offer_of, Steps.steps_of}
+use Rattle.ffs_volume.specs.Blocks.{BlockCheck.first_offer_lines, KeptOffers.offer_of}
 use Rattle.ffs_volume.specs.Encodings.Replay.{Replay, fresh_replay, is_replay_open}
 use Rattle.ffs_volume.specs.Encodings.ReplayCounts.{seen_run, replayed_runs, replay_step_by_cut}
 use Rattle.ffs_volume.specs.{Messages.Kinds.Message, declared.BlockMessage.BlockMessage}
@@ -92,14 +92,7 @@ rewalk_on {v = v} {i = i} {cut = cut} {step = step} {k = k} {k' = k'} {R = R} {R
 
 pub rewalk_gaps : {v : Layout} {i cut : ℕ} {all : List Step} {r : Replay} (n : ℕ) {R R' : List Step}
     {u w : Workspace} → R ≡ replicate n Gap ++ R' → Rewalking v i cut all r R u w → Rewalking v i cut all r R' u w
-rewalk_gaps {v = v} {i = i} {cut = cut} {r = r} n {R' = R'} e t =
-    let past = rw e at t in
-    let same = again_gaps v i cut r n R' in
-    record {
-      reported = rw same.0 at past.reported;
-      runs = rw (gaps_seen v cut r n R') at past.runs;
-      count = rw same.1 at past.count;
-    }
+rewalk_gaps {v = v} {i = i} {cut = cut} {r = r} n {R' = R'} e t = grind (arith, again_gaps, gaps_seen)
 
 -- it is over where no step is left to see, and where nothing is left to report
 pub rewalk_ends : {v : Layout} {i cut : ℕ} {all : List Step} {r : Replay} {R : List Step} {u w : Workspace} →
@@ -147,12 +140,10 @@ rewalks_from {T = T} {v = v} {n = n} {cut = cut} {d' = d'} {d'' = d''} {u = u} {
     let gives : ForBytes (IsContents d.contents) (IsContents d'.contents) = λ bytes t. ap (λ x. x.contents) e ∙ t in
     let image = image_from d'' r e p.left.image in
     let claims = claims_then (claims_still (claims_none u)) p.left.claims in
-    let lines = λ (i : Inode) (bytes : List ℕ). of_lines (first_offer_lines (bits_of u.duplicates)
-    (offers_again v n cut fresh_replay (steps_of v i bytes))) in
     record {
       text = grind (arith, reports_same, reports_knowing);
       rewalked = grind (arith, ok_where, rewalked_from);
-      runs = λ bytes t. rw (h bytes t) at (p.runs bytes (gives bytes t));
+      runs = grind arith;
       left = grind arith;
     }
 

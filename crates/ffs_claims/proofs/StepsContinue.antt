@@ -37,23 +37,20 @@ from_start start len =
 
 pub range_next : (start len place f : ℕ) → place < len → f ≡ start + place →
     range_with_len (start + place) (len - place) ≡ f ∷ range_with_len (start + (place + 1)) (len - (place + 1))
-range_next start len place f h is_place =
-    let k : start + (place + 1) ≡ start + place + 1 = omega arith in
-    rw (range_more (start + place) (len - place) (len - (place + 1)) (omega arith), k, is_place) refl
+range_next start len place f h is_place = grind (arith, range_more)
 
 -- the next offer of a Run is taken
 pub offers_after : (v : Layout) (s s' : Claims) (start len place f : ℕ) → place < len → f ≡ start + place →
     s' ≡ after_offer v s f → after_offers v s (range_with_len (start + place) (len - place))
     ≡ after_offers v s' (range_with_len (start + (place + 1)) (len - (place + 1)))
-offers_after v s s' start len place f h is_place now = rw (range_next start len place f h is_place, now) refl
+offers_after v s s' start len place f h is_place now = grind (arith, range_next)
 
 -- and reported
 pub offers_more : (v : Layout) (inode : ℕ) (s s' : Claims) (start len place f : ℕ) → place < len → f ≡ start + place →
     s' ≡ after_offer v s f → of_lines (lines_of_offers v inode s (range_with_len (start + place) (len - place)))
     ≡ of_lines (offer_lines v inode s f)
     ++ of_lines (lines_of_offers v inode s' (range_with_len (start + (place + 1)) (len - (place + 1))))
-offers_more v inode s s' start len place f h is_place now =
-    rw (range_next start len place f h is_place, now) (lines_append (offer_lines v inode s f) _)
+offers_more v inode s s' start len place f h is_place now = grind (arith, range_next, lines_append)
 
 -- once an inode is cut its steps change nothing, and nothing is reported of them
 pub cut_over : (v : Layout) (inode : ℕ) (s : Claims) (steps : List Step) → is_open s ≡ false →

@@ -1,5 +1,5 @@
 -- Runs whose offers are taken at once with nothing to report, and which Runs are in range.
-use Rattle.std.proofs.Common.{◌++◌, ◌≡◌, ℕ, zero, suc, ◌+◌, ◌-◌, ◌<◌, ◌≤◌, true, false, nat_lt, [], slice_set, get_or}
+use Rattle.std.proofs.Common.{◌≡◌, ℕ, zero, suc, ◌+◌, ◌-◌, ◌<◌, ◌≤◌, true, false, nat_lt, [], slice_set, get_or}
 use Rattle.std.proofs.Common.{arith, refl, ap, ◌∙◌, Bool, sym, not, ◌/◌, inl, inr}
 use Rattle.std.proofs.lemmas.Bool.{cases_Bool}
 use Rattle.std.proofs.{Math.Nat.mul-div-le, lemmas.Bool.Decides.nat_tests, lemmas.List.get_or-set_other}
@@ -18,12 +18,7 @@ pub record IsQuiet (v : Layout) (s : Claims) (start len : ℕ) (t : Claims) : Ty
 
 quiet_more : {v : Layout} {s : Claims} (t : Claims) {u : Claims} {start len : ℕ} → after_offer v s start ≡ t →
     ((inode : ℕ) → offer_lines v inode s start ≡ []) → IsQuiet v t (start + 1) len u → IsQuiet v s start (suc len) u
-quiet_more {v = v} {s = s} t {start = start} {len = len} now silent more =
-    let rest = range_with_len (start + 1) len in
-    record {
-      claims = ap (λ t. after_offers v t rest) now ∙ more.claims;
-      silent = λ inode. grind arith;
-    }
+quiet_more {v = v} {s = s} t {start = start} {len = len} now silent more = grind arith
 
 -- a Run past the end of the volume: no fragment of it is in range, so they are only counted
 past_end : (v : Layout) (f : ℕ) → v.size ≤ f → is_fragment_in_range v f ≡ false

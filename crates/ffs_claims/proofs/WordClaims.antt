@@ -63,17 +63,4 @@ words_once {v = v} {a = a} {b = b} {x = x} {y = y} {address = address} some smal
 -- some words after others
 pub words_then : {v : Layout} {a b c : Workspace} {x y z : Walk} → ClaimsWords v a b x y → ClaimsWords v b c y z →
     ClaimsWords v a c x z
-words_then {a = a} {b = b} {c = c} p q =
-    let pc = p.counted in
-    let qc = q.counted in
-    record {
-      claims = grind arith;
-      lines = grind arith;
-      uncut = q.uncut;
-      moves = moves_then (claims_of a) (claims_of b) (claims_of c) p.moves q.moves;
-      only = only_then p.only q.only;
-      falls = omega (arith, p.falls, q.falls);
-      same = record { geometry = q.same.geometry ∙ p.same.geometry; blocks = q.same.blocks ∙ p.same.blocks };
-      rises = omega (arith, p.rises, q.rises);
-      counted = record { unread = omega arith; held = λ blocks h. qc.held blocks (pc.held blocks h) };
-    }
+words_then {a = a} {b = b} {c = c} p q = grind (arith, moves_then, only_then)

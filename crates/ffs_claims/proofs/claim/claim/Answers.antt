@@ -1,8 +1,8 @@
-use Rattle.std.proofs.Common.{ℕ, arith, refl, ◌≡◌, ◌<◌, ◌∙◌, ap, sym, List, ◌++◌, ◌∷◌, false, replicate, []}
+use Rattle.std.proofs.Common.{ℕ, arith, refl, ◌≡◌, ◌∙◌, ap, sym, List, ◌++◌, ◌∷◌, false, replicate, []}
 use Rattle.std.proofs.lemmas.Result.{err_from_is_err_and}
 use Rattle.ffs_volume.proofs.Potentials.{moves_then}
-use Rattle.ffs_volume.specs.Blocks.Claims.{after_steps, after_step, lines_of_steps, is_open}
-use Rattle.ffs_volume.specs.{Blocks.Steps.steps_of, declared.Step.TheVariants.Gap}
+use Rattle.ffs_volume.specs.Blocks.Claims.{after_steps, lines_of_steps, is_open}
+use Rattle.ffs_volume.specs.{declared.Step.TheVariants.Gap}
 use Rattle.ffs_report.proofs.Reporting.{of_begins, of_stops, of_reads, of_same, says_none}
 use Rattle.ffs_report.specs.Known.{ForBytes, IsContents}
 use Rattle.ffs_walk.{proofs.Counted.top_held, proofs.Counted.top_unread, specs.Rests.steps_left}

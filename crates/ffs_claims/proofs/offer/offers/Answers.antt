@@ -22,8 +22,8 @@ loop-index-preserved g c =
     record {
       only = offers_then inv.only c.offer.ensures.only;
       kept = omega (arith, inv.kept, offer_kept v (claims_of c.loop-index.workspace) _ f c.offer.ensures.claims);
-      claims = inv.claims ∙ offers_after v _ _ run.start run.len c.loop-index.index f c.loop-index-test.true (omega arith)
-          c.offer.ensures.claims;
+      claims = inv.claims ∙ offers_after v _ _ run.start run.len c.loop-index.index f c.loop-index-test.true
+          (omega arith) c.offer.ensures.claims;
       said = to_says _ _ _ _ _ _ _ inv.said
           (offers_more v _ _ _ run.start run.len c.loop-index.index f c.loop-index-test.true (omega arith)
           c.offer.ensures.claims) c.in_ok-offer.ensures.said;
