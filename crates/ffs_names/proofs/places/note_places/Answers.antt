@@ -19,71 +19,37 @@ answered : (g : given.Over) (c : After-is_spent g) (b : List ℕ) →
     (g.I.Image.device c.args.image.now).contents ≡ Some b →
     HoldsClaims c.args.geometry.now.layout b c.args.workspace.now →
     HoldsSurvey c.args.geometry.now.layout b c.args.workspace.now → c.is_spent.result ≡ false
-answered g c b t h survey =
-    let v = c.args.geometry.now.layout in
-    let back = served (rw c.new-limited.ensures.device at c.note_all-noted.ensures.read) c.is_spent.ensures.below in
-    let asked = c.note_all-noted.ensures.reads b (bytes g c b t) h survey in
-    let within = costs_within v b c.args.geometry.now.sound in
-    back.few (omega (arith, asked, within, c.new-limited.ensures.asked, c.sweep_reads.ensures))
+answered g c b t h survey = grind (arith, served, bytes, costs_within)
 
 pub returns-then-is_spent-clause-most : goal.returns-then-is_spent-clause-most
-returns-then-is_spent-clause-most g c =
-    let back = served (rw c.new-limited.ensures.device at c.note_all-noted.ensures.read) c.is_spent.ensures.below in
-    let image = c.image-1.given.1 back.same_image ∙ c.drop-limited.ensures.below in
-    rw (image, ← c.sweep_reads.ensures) back.most
+returns-then-is_spent-clause-most g c = grind (arith, served)
 
 pub returns-clause-most : goal.returns-clause-most
-returns-clause-most g c =
-    let back = served (rw c.new-limited.ensures.device at c.note_all-noted.ensures.read) c.is_spent.ensures.below in
-    let image = c.image-2-1.given.1 back.same_image ∙ c.drop-limited-2.ensures.below in
-    rw (image, ← c.sweep_reads.ensures) back.most
+returns-clause-most g c = grind (arith, served)
 
 pub returns-then-is_spent-clause-read : goal.returns-then-is_spent-clause-read
-returns-then-is_spent-clause-read g c =
-    let back = served (rw c.new-limited.ensures.device at c.note_all-noted.ensures.read) c.is_spent.ensures.below in
-    let image = c.image-1.given.1 back.same_image ∙ c.drop-limited.ensures.below in
-    rw image (back.refused c.if-is_spent.true)
+returns-then-is_spent-clause-read g c = grind (arith, served)
 
 pub returns-clause-read : goal.returns-clause-read
-returns-clause-read g c =
-    let back = served (rw c.new-limited.ensures.device at c.note_all-noted.ensures.read) c.is_spent.ensures.below in
-    let image = c.image-2-1.given.1 back.same_image ∙ c.drop-limited-2.ensures.below in
-    rw image (back.read c.if-is_spent.false)
+returns-clause-read g c = grind (arith, served)
 
 pub returns-clause-ready : goal.returns-clause-ready
-returns-clause-ready g c =
-    let back = served (rw c.new-limited.ensures.device at c.note_all-noted.ensures.read) c.is_spent.ensures.below in
-    let image = c.image-2-1.given.1 back.same_image ∙ c.drop-limited-2.ensures.below in
-    let over = read_over _ _ c.note_all-noted.result (rw c.new-limited.ensures.device at c.note_all-noted.ensures.read) in
-    rw image (ready_same c.args.geometry.now.layout _ _ c.note_all-noted.new.workspace (back.contents ∙ sym over.contents)
-    (back.size ∙ sym over.size) c.note_all-noted.ensures.ready)
+returns-clause-ready g c = grind (arith, served, read_over, ready_same)
 
 pub returns-then-is_spent-clause-places : goal.returns-then-is_spent-clause-places
-returns-then-is_spent-clause-places g c = λ b t h survey.
-    let at = (goal.at.returns-then-is_spent-clause-places g c).After-is_spent in
-    absurd (both_ways _ (answered g at b t h survey) c.if-is_spent.true)
+returns-then-is_spent-clause-places g c = grind (arith, both_ways, answered)
 
 pub returns-then-is_spent-clause-noted : goal.returns-then-is_spent-clause-noted
-returns-then-is_spent-clause-noted g c = λ b t h survey numbered.
-    let at = (goal.at.returns-then-is_spent-clause-noted g c).After-is_spent in
-    absurd (both_ways _ (answered g at b t h survey) c.if-is_spent.true)
+returns-then-is_spent-clause-noted g c = grind (arith, both_ways, answered)
 
 pub returns-then-is_spent-clause-reads : goal.returns-then-is_spent-clause-reads
-returns-then-is_spent-clause-reads g c = λ b t h survey.
-    let at = (goal.at.returns-then-is_spent-clause-reads g c).After-is_spent in
-    absurd (both_ways _ (answered g at b t h survey) c.if-is_spent.true)
+returns-then-is_spent-clause-reads g c = grind (arith, both_ways, answered)
 
 pub returns-clause-reads : goal.returns-clause-reads
-returns-clause-reads g c = λ b t h survey.
-    let at = (goal.at.returns-clause-reads g c).After-is_spent in
-    let back = served (rw c.new-limited.ensures.device at c.note_all-noted.ensures.read) c.is_spent.ensures.below in
-    let image = c.image-2-1.given.1 back.same_image ∙ c.drop-limited-2.ensures.below in
-    let asked = c.note_all-noted.ensures.reads b (bytes g at b t) h survey in
-    rw image (omega (arith, asked, back.as_asked, c.new-limited.ensures.asked))
+returns-clause-reads g c = grind (arith, served, bytes)
 
 pub returns-clause-places : goal.returns-clause-places
-returns-clause-places g c =
-    rw (ap (λ (d : Device). d.contents) c.new-limited.ensures.device) at c.note_all-noted.ensures.places
+returns-clause-places g c = grind arith
 
 pub returns-clause-noted : goal.returns-clause-noted
 returns-clause-noted g c =
