@@ -20,30 +20,6 @@ answered : (g : given.Over) (c : After-is_spent g) (b : List ℕ) →
     HoldsClaims c.args.geometry.now.layout b c.args.workspace.now → c.is_spent.result ≡ false
 answered g c b t h = grind (arith, served, bytes, costs_within)
 
-pub returns-then-is_spent-clause-most : goal.returns-then-is_spent-clause-most
-returns-then-is_spent-clause-most g c = grind (arith, served)
-
-pub returns-clause-most : goal.returns-clause-most
-returns-clause-most g c = grind (arith, served)
-
-pub returns-then-is_spent-clause-read : goal.returns-then-is_spent-clause-read
-returns-then-is_spent-clause-read g c = grind (arith, served)
-
-pub returns-clause-read : goal.returns-clause-read
-returns-clause-read g c = grind (arith, served)
-
-pub returns-then-is_spent-clause-ready : goal.returns-then-is_spent-clause-ready
-returns-then-is_spent-clause-ready g c = grind (arith, served, read_over, ready_same)
-
-pub returns-clause-ready : goal.returns-clause-ready
-returns-clause-ready g c = grind (arith, served, read_over, ready_same)
-
-pub returns-clause-survey : goal.returns-clause-survey
-returns-clause-survey g c = grind arith
-
-pub returns-clause-reads : goal.returns-clause-reads
-returns-clause-reads g c = grind (arith, served, bytes)
-
 pub returns-then-is_spent-clause-survey : goal.returns-then-is_spent-clause-survey
 returns-then-is_spent-clause-survey g c = grind (arith, both_ways, answered)
 

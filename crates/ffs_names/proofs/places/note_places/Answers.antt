@@ -21,21 +21,6 @@ answered : (g : given.Over) (c : After-is_spent g) (b : List ℕ) →
     HoldsSurvey c.args.geometry.now.layout b c.args.workspace.now → c.is_spent.result ≡ false
 answered g c b t h survey = grind (arith, served, bytes, costs_within)
 
-pub returns-then-is_spent-clause-most : goal.returns-then-is_spent-clause-most
-returns-then-is_spent-clause-most g c = grind (arith, served)
-
-pub returns-clause-most : goal.returns-clause-most
-returns-clause-most g c = grind (arith, served)
-
-pub returns-then-is_spent-clause-read : goal.returns-then-is_spent-clause-read
-returns-then-is_spent-clause-read g c = grind (arith, served)
-
-pub returns-clause-read : goal.returns-clause-read
-returns-clause-read g c = grind (arith, served)
-
-pub returns-clause-ready : goal.returns-clause-ready
-returns-clause-ready g c = grind (arith, served, read_over, ready_same)
-
 pub returns-then-is_spent-clause-places : goal.returns-then-is_spent-clause-places
 returns-then-is_spent-clause-places g c = grind (arith, both_ways, answered)
 
@@ -44,12 +29,6 @@ returns-then-is_spent-clause-noted g c = grind (arith, both_ways, answered)
 
 pub returns-then-is_spent-clause-reads : goal.returns-then-is_spent-clause-reads
 returns-then-is_spent-clause-reads g c = grind (arith, both_ways, answered)
-
-pub returns-clause-reads : goal.returns-clause-reads
-returns-clause-reads g c = grind (arith, served, bytes)
-
-pub returns-clause-places : goal.returns-clause-places
-returns-clause-places g c = grind arith
 
 pub returns-clause-noted : goal.returns-clause-noted
 returns-clause-noted g c =
