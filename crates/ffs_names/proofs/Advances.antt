@@ -49,12 +49,7 @@ seen_if_shut {b = b} {c = c} e h =
     record { chunks = rw (no_run_cursor c.walk.geometry.layout b c.run_cursor e) none.0; gap = none.1 }
 
 pub seen_if_over : {b : List ℕ} {c : Chunks} → c.run_cursor.next ≡ c.run_cursor.count → IsOver c.walk → HasSeenAll b c
-seen_if_over {b = b} {c = c} e o =
-    let none = over_rest b c.walk o in
-    record {
-      chunks = rw (no_run_cursor c.walk.geometry.layout b c.run_cursor e) (ap (chunks_after b c) none);
-      gap = ap (gap_after c) none;
-    }
+seen_if_over {b = b} {c = c} e o = grind (arith, over_rest, no_run_cursor)
 
 -- where no hole is left, what was seen stands
 pub gap_ended : (gap left : Bool) → left ≡ false → (gap || left) ≡ gap
@@ -104,27 +99,16 @@ pub record OnlyWalks (c c' : Chunks) : Type 0 where
 pub only_walks : {c c' : Chunks} → c'.walk.geometry ≡ c.walk.geometry → c'.keeping ≡ c.keeping →
     c'.bytes_to_read ≡ c.bytes_to_read → c'.budget ≡ c.budget → c'.run_cursor ≡ c.run_cursor → c'.runs ≡ c.runs →
     OnlyWalks c c'
-only_walks e k t n h r =
-    record { geometry = e; keeping = k; bytes_to_read = t; budget = n; run_cursor = h; runs = r }
+only_walks e k t n h r = grind arith
 
 pub same_walked : {c c' c'' : Chunks} → IsSame c c' → OnlyWalks c' c'' → IsSame c c''
-same_walked h s = record {
-  geometry = s.geometry ∙ h.geometry;
-  cut = ap (λ k. k.cut) s.keeping ∙ h.cut;
-  bytes_to_read = s.bytes_to_read ∙ h.bytes_to_read;
-  budget = s.budget ∙ h.budget;
-  runs = omega (arith, h.runs, s.runs);
-}
+same_walked h s = grind arith
 
 -- so it continues where the steps to come have the same chunks, Runs and holes
 continues_walking : {b : List ℕ} {c c' : Chunks} {old new : List Step} → OnlyWalks c c' →
     chunks_after b c old ≡ chunks_after b c new → runs_after c old ≡ runs_after c new →
     (c'.gap || gap_after c new) ≡ (c.gap || gap_after c old) → Continues b c old c' new
-continues_walking s chunks runs gap = record {
-  chunks = rw (s.geometry, s.keeping, s.bytes_to_read, s.run_cursor, chunks) refl;
-  runs = rw (s.geometry, s.keeping, s.runs, runs) (counts_here _);
-  gap = rw (s.geometry, s.keeping) gap;
-}
+continues_walking s chunks runs gap = grind (arith, counts_here)
 
 -- with the same steps to come, as those of a Run that is seen next, over a Tail, and over Gaps
 pub walks_on : {b : List ℕ} {c c' : Chunks} {old new : List Step} → OnlyWalks c c' → c'.gap ≡ c.gap → old ≡ new →
@@ -138,9 +122,7 @@ sees_on {b = b} walk after s gap e = rw (ap (steps_left b) walk) (continues_more
 
 pub over_tail : {b : List ℕ} {c c' : Chunks} {old new : List Step} → OnlyWalks c c' → c'.gap ≡ c.gap →
     old ≡ Tail ∷ new → Continues b c old c' new
-over_tail {b = b} {c = c} {new = new} s gap e = rw e (continues_walking s
-    (no_chunk b c Tail (is_open_here c) (steps_kept c new) refl) (omega arith)
-    (rw gap (ap (λ x. c.gap || x) (sym (no_hole Tail (is_open_here c) (steps_kept c new) refl)))))
+over_tail {b = b} {c = c} {new = new} s gap e = grind (arith, continues_walking, no_chunk, no_hole)
 
 pub over_gaps : {b : List ℕ} {c c' : Chunks} {old new : List Step} (n : ℕ) → OnlyWalks c c' → c'.gap ≡ true →
     is_replay_open c.keeping.cut (replay_in c.keeping) ≡ true → old ≡ Gap ∷ (replicate n Gap ++ new) →

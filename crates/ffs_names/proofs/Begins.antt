@@ -1,7 +1,7 @@
 -- A reading of a directory begins.
 use Rattle.std.proofs.Common.{◌≡◌, ℕ, ◌+◌, ◌/◌, ◌<◌, ◌^◌, Bool, true, false, if◌then◌else◌, List, [], ◌∷◌, ◌++◌}
 use Rattle.std.proofs.Common.{take}
-use Rattle.std.proofs.Common.{Some, None, arith, length, refl, take_all}
+use Rattle.std.proofs.Common.{Some, None, arith, length, take_all}
 use Rattle.std.proofs.lemmas.Nat.{le-div}
 use Rattle.ffs_volume.proofs.StepLaws.{Within, within_lower, steps_within}
 use Rattle.ffs_volume.proofs.ChunkLaws.{chunks_few}
@@ -57,11 +57,4 @@ pub begins_at : {v : Layout} {i : Inode} {cut : ℕ} {c : Chunks} → IsAccepted
     ((b : List ℕ) → cursor_chunks c.walk.geometry.layout b c.run_cursor ≡ []) →
     (i.size < 2 ^ 31 → c.bytes_to_read ≡ bytes_read i.size) → c.budget ≡ c.bytes_to_read / 512 → c.runs ≡ 0 →
     c.gap ≡ false → BeginsAt v i cut c
-begins_at {v = v} {i = i} {cut = cut} g layout steps is_cut fresh none bytes budget runs gap = record {
-  chunks = λ b small.
-      rw (budget, none b, steps b, layout, is_cut, fresh, bytes small) (all_taken v i b cut g);
-  runs = runs;
-  runs_left = λ b. rw (steps b, layout, is_cut, fresh) refl;
-  gap = gap;
-  gap_left = λ b. rw (steps b, layout, is_cut, fresh) refl;
-}
+begins_at {v = v} {i = i} {cut = cut} g layout steps is_cut fresh none bytes budget runs gap = grind (arith, all_taken)

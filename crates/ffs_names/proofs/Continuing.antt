@@ -16,36 +16,25 @@ pub counts_here : (n : ℕ) → CountsOn n n
 counts_here n = record { most = omega arith; all = λ h. refl }
 
 counts_more : {n m k : ℕ} → CountsOn n m → CountsOn m k → CountsOn n k
-counts_more h l = record {
-  most = let one = h.most in let two = l.most in omega arith;
-  all = λ small. let one = h.all small in let two = l.all (omega arith) in omega arith;
-}
+counts_more h l = grind arith
 
 pub continues_here : (b : List ℕ) (c : Chunks) → ContinuesTo b c c
 continues_here b c = record { chunks = refl; runs = counts_here _; gap = refl }
 
 pub continues_more : {b : List ℕ} {c c' c'' : Chunks} {steps steps' steps'' : List Step} →
     Continues b c steps c' steps' → Continues b c' steps' c'' steps'' → Continues b c steps c'' steps''
-continues_more h k =
-    record { chunks = k.chunks ∙ h.chunks; runs = counts_more h.runs k.runs; gap = k.gap ∙ h.gap }
+continues_more h k = grind (arith, counts_more)
 
 pub same_here : (c : Chunks) → IsSame c c
 same_here c = record { geometry = refl; cut = refl; bytes_to_read = refl; budget = refl; runs = omega arith }
 
 pub same_more : {c c' c'' : Chunks} → IsSame c' c'' → IsSame c c' → IsSame c c''
-same_more k h = record {
-  geometry = k.geometry ∙ h.geometry;
-  cut = k.cut ∙ h.cut;
-  bytes_to_read = k.bytes_to_read ∙ h.bytes_to_read;
-  budget = k.budget ∙ h.budget;
-  runs = let one = h.runs in let two = k.runs in omega arith;
-}
+same_more k h = grind arith
 
 -- what a walk needs of its blocks, and what it leaves of them
 pub can_walk : {g g' : Geometry} {d : Device} {blocks : Blocks} → g' ≡ g → CanWalkDir g.layout d blocks →
     CanWalk g'.layout d blocks
-can_walk e h =
-    rw e (record { volume = h.volume; room = record { blocks_fit = let r = h.room in omega arith }; holds = h.holds })
+can_walk e h = grind arith
 
 pub walk_on : {g g' : Geometry} {d d' : Device} {blocks blocks' : Blocks} → g' ≡ g → d'.size ≡ d.size →
     KeepsBlocks g'.layout d'.contents blocks blocks' → CanWalkDir g.layout d blocks → CanWalkDir g.layout d' blocks'

@@ -1,14 +1,13 @@
 -- A reading of a directory gives the entries that the volume has there.
-use Rattle.std.proofs.Common.{◌≡◌, ℕ, ◌+◌, ◌*◌, ◌<◌, ◌^◌, ◌==◌, Bool, true, false, not, ◌&&◌, ◌||◌, nat_lt}
+use Rattle.std.proofs.Common.{◌≡◌, ℕ, ◌<◌, ◌^◌, ◌==◌, Bool, true, false, not, ◌&&◌, nat_lt}
 use Rattle.std.proofs.Common.{if◌then◌else◌}
-use Rattle.std.proofs.Common.{List, arith, drop, flat_map, refl, slice_index}
+use Rattle.std.proofs.Common.{List, arith, flat_map, refl, slice_index}
 use Rattle.std.proofs.{lemmas.Bool.or_parts, lemmas.Bool.Decides.nat_tests}
 use Rattle.ffs_volume.proofs.CutLaws.{replay_at}
 use Rattle.ffs_volume.specs.declared.{Class.Class, Inode.Inode, Layout.Layout}
 use Rattle.ffs_volume.specs.declared.Class.TheVariants.{Free, Partial, Unknown, File, Dir}
-use Rattle.ffs_volume.specs.Blocks.Inodes.{addresses_allowed, any_nonzero, class_of, inode_of, is_directory}
-use Rattle.ffs_volume.specs.Blocks.Inodes.{is_known_type}
-use Rattle.ffs_volume.specs.Blocks.{Inodes.is_too_large, Inodes.type_of, Steps.steps_of}
+use Rattle.ffs_volume.specs.Blocks.Inodes.{class_of, inode_of, is_directory}
+use Rattle.ffs_volume.specs.Blocks.{Inodes.type_of, Steps.steps_of}
 use Rattle.ffs_volume.specs.Directories.Entries.{bytes_read, chunks_of, has_gap}
 use Rattle.ffs_volume.specs.Directories.{PathnameCheck.are_sound, Roles.is_dir, Roles.roled_chunk, Roles.roled_entries}
 use Rattle.ffs_volume.specs.Directories.Volumes.{chunk_source_of, is_inode_number, volume_of, volume_with}
@@ -34,17 +33,7 @@ below false size e h = absurd (cc)
 -- a directory has less than 2^31 bytes, and the type of one
 pub dir_parts : (v : Layout) (i : Inode) → class_of v i ≡ Dir → (i.size < 2 ^ 31) × ((type_of i.mode == 4) ≡ true)
 unfolding class_of class_by
-dir_parts v i h =
-    let d = dir_by (type_of i.mode == 0) (i.mode == 0 && (i.size == 0 && not (any_nonzero i.addresses)))
-    (not (is_known_type (type_of i.mode)) || (is_too_large v i || any_nonzero
-    (drop (addresses_allowed v i) i.addresses)))
-    (type_of i.mode == 4) h in
-    let a = or_parts (not (is_known_type (type_of i.mode)))
-    (is_too_large v i || any_nonzero (drop (addresses_allowed v i) i.addresses)) d.0 in
-    let e = or_parts (is_too_large v i) (any_nonzero (drop (addresses_allowed v i) i.addresses)) a.1 in
-    let f = or_parts (nat_lt ((12 + v.nindir + v.nindir * v.nindir + v.nindir * v.nindir * v.nindir) * v.bsize) i.size)
-    (type_of i.mode == 4 && nat_lt 2147483647 i.size) e.0 in
-    (below (type_of i.mode == 4) i.size d.1 f.1, d.1)
+dir_parts v i h = grind (arith, dir_by, or_parts, below)
 
 pub dir_size : (v : Layout) (i : Inode) → class_of v i ≡ Dir → i.size < 2 ^ 31
 dir_size v i h = (dir_parts v i h).0

@@ -1,5 +1,5 @@
 -- How a reading of a directory continues.
-use Rattle.std.proofs.Common.{◌≡◌, ℕ, suc, ◌+◌, ◌==◌, Bool, false, List, [], ◌∷◌, ◌++◌, Option, Some, None, is_some}
+use Rattle.std.proofs.Common.{◌≡◌, ℕ, ◌+◌, ◌==◌, Bool, false, List, [], ◌∷◌, ◌++◌, Option, Some, None, is_some}
 use Rattle.std.proofs.Common.{length}
 use Rattle.std.proofs.Common.{arith, flat_map, refl}
 use Rattle.ffs_volume.proofs.{Longest.entry-length, Reading.entries_next, Reading.entries_end}
@@ -17,11 +17,7 @@ none_seen first index order chunk place rest h = rw (entries_end order chunk pla
 
 -- no entry is at the end of a chunk
 pub end_of_chunk : (order : Order) (chunk : List ℕ) → entry_at order chunk 512 ≡ None
-end_of_chunk order chunk = go (entry_at order chunk 512) refl
-  where
-    go : (o : Option Entry) → entry_at order chunk 512 ≡ o → o ≡ None
-    go None h = refl
-    go (Some e) h = absurd (let p = entry-length order chunk 512 e h in let a = p.0 in let b = p.1 in omega arith)
+end_of_chunk order chunk = grind (arith, entry-length)
 
 pub end_seen : (first : Bool) (index : ℕ) (order : Order) (chunk : List ℕ) (rest : List Chunk)
     → roled_from first index (entries_from order chunk 64 512) ++ flat_map roled_chunk rest ≡ flat_map roled_chunk rest
@@ -43,8 +39,7 @@ pub take_reported : (first : Bool) (index : ℕ) (order : Order) (chunk : List �
     }
     ∷ (roled_from first (index + 1) (entries_from order chunk 64 (place + e.length)) ++ flat_map roled_chunk rest)
 unfolding roled_from
-take_reported first index order chunk place e role rest h r n =
-    let next : suc index ≡ index + 1 = omega arith in rw (entries_next order chunk place e h, next, r, ← n) refl
+take_reported first index order chunk place e role rest h r n = grind (arith, entries_next)
 
 -- a chunk came
 pub chunk_came : (first : Bool) (index : ℕ) (order other : Order) (chunk : List ℕ) (place : ℕ) (old : List Chunk)
@@ -52,12 +47,10 @@ pub chunk_came : (first : Bool) (index : ℕ) (order other : Order) (chunk : Lis
     → is_some (entry_at order chunk place) ≡ false → other ≡ order → old ≡ chunk_of other offset next ∷ rest
     → roled_from (offset == 0) 0 (entries_from order next 64 0) ++ flat_map roled_chunk rest
     ≡ roled_from first index (entries_from order chunk 64 place) ++ flat_map roled_chunk old
-chunk_came first index order other chunk place old offset next rest h q r =
-    rw (none_seen first index order chunk place old (none_from _ h), r, q) refl
+chunk_came first index order other chunk place old offset next rest h q r = grind (arith, none_seen, none_from)
 
 -- none came
 pub none_came : (first : Bool) (index : ℕ) (order : Order) (chunk : List ℕ) (place : ℕ) (old : List Chunk) →
     is_some (entry_at order chunk place) ≡ false → old ≡ []
     → roled_from first index (entries_from order chunk 64 place) ++ flat_map roled_chunk old ≡ []
-none_came first index order chunk place old h r =
-    rw (none_seen first index order chunk place old (none_from _ h), r) refl
+none_came first index order chunk place old h r = grind (arith, none_seen, none_from)

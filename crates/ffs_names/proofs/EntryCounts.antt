@@ -1,5 +1,5 @@
 -- Laws of the reads that are still to come of a reading of entries.
-use Rattle.std.proofs.Common.{◌≡◌, ◌≤◌, ◌+◌, ◌||◌, nat_lt, if◌then◌else◌, ℕ, Bool, true, false, List, Result, Ok}
+use Rattle.std.proofs.Common.{◌≡◌, ◌≤◌, ◌||◌, nat_lt, if◌then◌else◌, ℕ, Bool, true, false, List, Result, Ok}
 use Rattle.std.proofs.Common.{Err}
 use Rattle.std.proofs.Common.{OnOk, arith, refl}
 use Rattle.std.proofs.lemmas.Bool.{Decides.nat_tests, both_ways, false≢true, ltb-false, or_left, or_parts}
@@ -34,17 +34,9 @@ ok_if (Err e) p = tt
 takes_where : {T : Type 0} (x y : Bool) (reads reads' n n' : ℕ) (held' : Type 0) (result : Result T ImageFault)
     → (y ≡ true → x ≡ true) → (x ≡ false → reads' ≤ reads) → (x ≡ true → TakesReads reads reads' n n' held' result)
     → TakesReads reads reads' (if x then n else 0) (if y then n' else 0) (y ≡ true → held') result
-takes_where true y reads reads' n n' held' result still none took =
-    let t = took refl in
-    record {
-      most = t.most;
-      paid = on_ok result _ _ (λ (paid : reads' + n' ≤ reads + n). omega (arith, part y n')) t.paid;
-      held = on_ok result held' (y ≡ true → held') (λ held e. held) t.held;
-    }
+takes_where true y reads reads' n n' held' result still none took = grind (arith, on_ok, part)
 takes_where false true reads reads' n n' held' result still none took = absurd (false≢true (still refl))
-takes_where false false reads reads' n n' held' result still none took =
-    let same = none refl in
-    record { most = omega arith; paid = ok_if result (omega arith); held = ok_if result (λ e. absurd (false≢true e)) }
+takes_where false false reads reads' n n' held' result still none took = grind (arith, ok_if)
 
 may_still : (s s' : Bool) (n n' : ℕ) → (s' ≡ true → s ≡ true) → n' ≤ n → (s' || nat_lt 0 n') ≡ true →
     (s || nat_lt 0 n) ≡ true
@@ -71,5 +63,4 @@ pub looks_on : {T : Type 0} (b : List ℕ) (s : Bool) (c c' : Chunks) (blocks bl
     → (HoldsReading blocks w c → TakesReads reads reads' (to_read b c) (to_read b c') (HoldsReading blocks' w' c') result)
     → HoldsBy blocks w s c → TakesReads reads reads' (reads_by b s c) (reads_by b s c') (HoldsBy blocks' w' s c') result
 looks_on b s c c' blocks blocks' w w' reads reads' result right took held =
-    takes_where (may_by s c) (may_by s c') reads reads' (to_read b c) (to_read b c') (HoldsReading blocks' w' c') result
-    (λ e. or_left s _ right) (λ e. absurd (both_ways _ e (or_left s _ right))) (λ e. took (held e))
+    grind (arith, takes_where, or_left, both_ways)

@@ -60,16 +60,4 @@ read_by_cut v b d {i = i} {note = note} g dir inode noted low =
 pub ready_read : {v : Layout} {d d' : Device} {w : Windows} {table : Table} {kinds notes : List ℕ} →
     d'.contents ≡ d.contents → d'.size ≡ d.size → KeepsTable v d'.contents table →
     IsReaderReady v d w kinds notes → IsReaderReady v d' (record w { table = table }) kinds notes
-ready_read e size kept r = record {
-  volume = rw size r.volume;
-  table = kept.made;
-  blocks = r.blocks;
-  chunk = r.chunk;
-  names = r.names;
-  table_holds = kept.holds;
-  blocks_hold = rw e r.blocks_hold;
-  chunk_holds = rw e r.chunk_holds;
-  names_hold = rw e r.names_hold;
-  kinds_long = r.kinds_long;
-  notes_long = r.notes_long;
-}
+ready_read e size kept r = grind arith

@@ -7,8 +7,8 @@ use Rattle.std.proofs.Common.{nat_lt, slice_index, take}
 use Rattle.std.{specs.Int.div_ceil, proofs.lemmas.Grind.div_ceil_times, proofs.lemmas.Bool.Decides.nat_tests}
 use Rattle.ffs_volume.specs.declared.{Class.TheVariants.Dir, Inode.Inode, Layout.Layout, Step.Step}
 use Rattle.ffs_volume.specs.declared.Step.TheVariants.{Run}
-use Rattle.ffs_volume.specs.Blocks.Inodes.{class_of, type_of}
-use Rattle.ffs_volume.specs.Blocks.Steps.{data_step, is_walked, steps_at, steps_of}
+use Rattle.ffs_volume.specs.Blocks.Inodes.{class_of}
+use Rattle.ffs_volume.specs.Blocks.Steps.{data_step, steps_at, steps_of}
 use Rattle.ffs_volume.specs.Directories.Entries.{bytes_read, chunks_of, has_gap, run_chunks}
 use Rattle.ffs_volume.specs.Directories.{PathnameCheck.are_sound, Roles.RoledEntry, Roles.roled_chunk}
 use Rattle.ffs_volume.specs.{Disk.Areas.is_run_in_range, Laws.Geometry.IsAcceptedLayout}
@@ -29,9 +29,7 @@ one (suc zero) b low high big = refl
 one (suc (suc q)) b low high big = absurd (omega arith)
 
 one_block : (v : Layout) → IsAcceptedLayout v → div_ceil 512 v.bsize ≡ 1
-one_block v g =
-    let low = g.sizes.bsize_low in
-    let t = div_ceil_times 512 v.bsize (omega arith) in one (div_ceil 512 v.bsize) v.bsize t.0 t.1 (omega arith)
+one_block v g = grind (arith, div_ceil_times, one)
 
 -- the last block has one fragment
 one_fragment : (v : Layout) → IsAcceptedLayout v →
@@ -43,10 +41,7 @@ one_fragment v g =
     rw small (one (div_ceil 512 v.fsize) v.fsize t.0 t.1 low)
 
 too_small : (n b : ℕ) → 4096 ≤ b → nat_lt ((12 + n + n * n + n * n * n) * b) 512 ≡ false
-too_small n b low =
-    let s : 12 * b ≤ (12 + n + n * n + n * n * n) * b = mul-le-mul_right b (omega arith) in
-    let w : 512 ≤ (12 + n + n * n + n * n * n) * b = omega (arith, s) in
-    grind (arith, nat_tests)
+too_small n b low = grind (arith, mul-le-mul_right, nat_tests)
 
 pub one_chunk_class : (v : Layout) (a : ℕ) → IsAcceptedLayout v → class_of v (one_chunk_at a) ≡ Dir
 unfolding class_of
@@ -63,21 +58,13 @@ steps_are : (v : Layout) (i : Inode) (b : List ℕ) → IsAcceptedLayout v → c
       last_length = if 512 % v.bsize == 0 then v.frag else div_ceil (512 % v.bsize) v.fsize;
     }) (slice_index i.addresses 0) 0 ∷ []
 unfolding steps_of steps_at
-steps_are v i b g c s =
-    let walked : is_walked v i ≡ true = rw (c, eqb (type_of i.mode) (dir_parts v i c).1) refl in
-    rw (walked, s, one_block v g) refl
+steps_are v i b g c s = grind (arith, dir_parts, one_block)
 
 -- what is said of its size and its steps is said of those of the inode
 pub one_chunk_is : {X : Type 0} (v : Layout) (i : Inode) (b : List ℕ) (a : ℕ) (said : ℕ → List Step → X)
     → IsAcceptedLayout v → IsOneChunkAt (class_of v i) i a
     → said 512 (steps_of v (one_chunk_at a) b) ≡ said i.size (steps_of v i b)
-one_chunk_is v i b a said g h =
-    rw (
-      steps_are v (one_chunk_at a) b g (one_chunk_class v a g) refl,
-      steps_are v i b g h.is_dir h.size,
-      h.size,
-      h.address_is,
-    ) refl
+one_chunk_is v i b a said g h = grind (arith, steps_are, one_chunk_class)
 
 -- the entries, and whether the shape is right, by the size and the steps of a directory that isn't
 -- cut
@@ -94,8 +81,7 @@ shape_by v b size steps = is_right_size size
 -- its step, where its address is no hole: a Run of one fragment, which takes one read
 one_run : (v : Layout) (a : ℕ) (b : List ℕ) → IsAcceptedLayout v → (a == 0) ≡ false
     → steps_of v (one_chunk_at a) b ≡ Run a 1 (Some 0) ∷ []
-one_run v a b g some =
-    rw (steps_are v (one_chunk_at a) b g (one_chunk_class v a g) refl, one_fragment v g, some) refl
+one_run v a b g some = grind (arith, steps_are, one_chunk_class, one_fragment)
 
 runs_of_one : (v : Layout) (a : ℕ) (b : List ℕ) → IsAcceptedLayout v → (a == 0) ≡ false
     → replayed_runs v 0 fresh_replay (steps_of v (one_chunk_at a) b) ≡ 1

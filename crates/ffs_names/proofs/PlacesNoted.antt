@@ -1,15 +1,14 @@
 -- What is noted of places, entry by entry, chunk by chunk and directory by directory.
-use Rattle.std.proofs.Common.{◌≡◌, ◌≢◌, ℕ, zero, suc, ◌+◌, ◌-◌, ◌*◌, ◌/◌, ◌%◌, ◌^◌, ◌<◌, ◌≤◌, ◌==◌, Bool, true, false}
+use Rattle.std.proofs.Common.{◌≡◌, ◌≢◌, ℕ, zero, suc, ◌+◌, ◌*◌, ◌/◌, ◌%◌, ◌<◌, ◌≤◌, ◌==◌, Bool, true, false}
 use Rattle.std.proofs.Common.{not, ◌&&◌}
 use Rattle.std.proofs.Common.{◌||◌, ◌⊎◌, List, [], ◌∷◌, length, Option, Some, None, refl, sym, ap, ◌∙◌, arith, inl, inr}
-use Rattle.std.proofs.Common.{rules}
-use Rattle.std.proofs.Common.{flat_map, if◌then◌else◌, is_some, nat_le, nat_lt, option_map, slice_index}
+use Rattle.std.proofs.Common.{flat_map, if◌then◌else◌, is_some, option_map, slice_index}
 use Rattle.std.proofs.Common.{slice_set}
 use Rattle.std.proofs.Common.{unwrap_or, vec_len}
 use Rattle.std.{specs.List.list_any, proofs.Math.Bool.and-false}
 use Rattle.std.proofs.lemmas.Bool.{Decides.nat_tests, and_from, and_parts, both_ways, cases_eq, cond-false, eq-eqb}
 use Rattle.std.proofs.lemmas.Bool.{eqb-false}
-use Rattle.std.proofs.lemmas.Bool.{eqb-true, false≢true, leb-true, lt-ltb, ltb-true, ne_eqb, not_from_false, not-true}
+use Rattle.std.proofs.lemmas.Bool.{eqb-true, leb-true, lt-ltb, ltb-true, ne_eqb, not_from_false, not-true}
 use Rattle.std.proofs.lemmas.{List.Folds.list_any-append, List.get_or-set_other, List.get_or-set_same}
 use Rattle.std.specs.declared.{vec.Vec.Vec, alloc.Global.Global}
 use Rattle.ffs_image.specs.Device.{Device}
@@ -22,12 +21,12 @@ use Rattle.ffs_volume.specs.Directories.Entries.{Chunk, Entry, chunk_of, entries
 use Rattle.ffs_volume.specs.Directories.Graph.{Graph, edge, is_naming_dir, is_naming_entry, level, level_edge, parent}
 use Rattle.ffs_volume.specs.Directories.Graph.{parent_by}
 use Rattle.ffs_volume.specs.Directories.{Climb.is_value, Graph.reached, Parents.graph_of}
-use Rattle.ffs_volume.specs.Directories.Roles.{RoledEntry, is_dir, is_inode, role_of, roled_chunk, roled_entries}
+use Rattle.ffs_volume.specs.Directories.Roles.{RoledEntry, is_dir, role_of, roled_chunk, roled_entries}
 use Rattle.ffs_volume.specs.Directories.Roles.{roled_from}
 use Rattle.ffs_volume.specs.Directories.Volumes.{volume_of, volume_with}
 use Rattle.ffs_walk.specs.{declared.blocks.Blocks.Blocks, declared.window.Window.Window}
 use Rattle.ffs_workspace.proofs.PlaceLaws.{any_naming-roled, name_in-after, name_in-among, name_in-roled}
-use Rattle.ffs_workspace.specs.{Holds.bool_at, Holds.HoldsClaims, Holds.HoldsSurvey, Lengths.inodes_of, Ready.IsReady}
+use Rattle.ffs_workspace.specs.{Holds.HoldsClaims, Holds.HoldsSurvey, Lengths.inodes_of, Ready.IsReady}
 use Rattle.ffs_workspace.specs.Places.{entries_in_chunk, is_due, name_in, place_in, place_of}
 use Rattle.ffs_workspace.specs.Places.{ArePlaces, AreChunksNumbered, AreNoted, IsNoted}
 use Rattle.ffs_workspace.specs.{Tables.KeepsTable, declared.table.Table.Table, declared.workspace.Workspace.Workspace}
@@ -57,11 +56,7 @@ then_on true false false a b c place low one more = grind (arith, nat_tests)
 notes_then : {parents old mid new : List ℕ} {p place : ℕ} {e : RoledEntry} {es : List RoledEntry} → 0 < place →
     NotesChunk parents old mid p place (e ∷ []) → NotesChunk parents mid new p place es →
     NotesChunk parents old new p place (e ∷ es)
-notes_then {parents = parents} {p = p} {place = place} {e = e} {es = es} low one more = record {
-  places = λ x. then_on (is_child parents p x) (is_naming_entry x e) (list_any (is_naming_entry x) es) _ _ _ place low
-      (one.places x) (more.places x);
-  to_read = λ x. more.to_read x ∙ one.to_read x;
-}
+notes_then {parents = parents} {p = p} {place = place} {e = e} {es = es} low one more = grind (arith, then_on)
 
 -- where other entries name the same inodes
 notes_alike : {parents old new : List ℕ} {p place : ℕ} {es fs : List RoledEntry} →
@@ -222,38 +217,30 @@ module _ {v : Layout} {b parents old new : List ℕ} {p place at offset : ℕ} {
 
 -- words have room for the number of each chunk of the volume
 pub room_for : (v : Layout) (at : ℕ) → AreChunksNumbered v → at + 512 ≤ v.size * v.fsize → place_of (at / 512) ≢ 0
-room_for v at numbered inside =
-    rw (lt-ltb (at / 512) (2 ^ 31 - 1) (omega arith)) (λ z. absurd (omega arith))
+room_for v at numbered inside = grind (arith, lt-ltb)
 
 -- where no chunk is left, all are noted
 pub all_noted : (v : Layout) (b parents first ws : List ℕ) (p : ℕ) (all : List RoledEntry) (rest : List Chunk) →
     rest ≡ [] → AreWaiting v b parents first ws p all (flat_map roled_chunk rest) → (x : ℕ) →
     is_child parents p x ≡ true → list_any (is_naming_entry x) all ≡ true →
     (place_in (slice_index first x) ≡ 0) ⊎ IsNoted v b first x → IsNoted v b ws x
-all_noted v b parents first ws p all rest none waiting x child named before =
-    elim (waiting x child named before) [ inl is ↦ is | inr w ↦ absurd (false≢true (rw none at w.1)) ]
+all_noted v b parents first ws p all rest none waiting x child named before = grind arith
 
 -- what is noted of other inodes, and what is to be read
 pub children_more : {parents first old new : List ℕ} {p place : ℕ} {es : List RoledEntry} →
     NotesChunk parents old new p place es → NotesChildren parents first old p → NotesChildren parents first new p
-children_more noted before = record {
-  others = λ x h. rw (noted.places x, h) (before.others x h);
-  to_read = λ x. noted.to_read x ∙ before.to_read x;
-}
+children_more noted before = grind arith
 
 -- ---- directories
 -- the parent of an inode other than the root is a directory
 by_dir : (g : Graph) (x s : ℕ) (o : Option ℕ) → parent_by g x o ≡ Some s → g.is_dir s ≡ true
 by_dir g x s None h = (edge-parts g s x (first_below-some (λ s. edge g s x) g.count s h).passes).1
 by_dir g x s (Some zero) h = absurd (cc)
-by_dir g x s (Some (suc k)) h =
-    (edge-parts g s x (and_parts (is_value (level g s) k) (edge g s x)
-    (first_below-some (level_edge g k x) g.count s h).passes).1).1
+by_dir g x s (Some (suc k)) h = grind (arith, edge-parts, and_parts, first_below-some)
 
 parent_dir : (g : Graph) (x s : ℕ) → (x == 2) ≡ false → parent g x ≡ Some s → g.is_dir s ≡ true
 unfolding parent
-parent_dir g x s other h =
-    by_dir g x s (level g x) (sym (cond-false (x == 2) (Some 2) (parent_by g x (level g x)) other) ∙ h)
+parent_dir g x s other h = grind (arith, by_dir, cond-false)
 
 -- places are right after the directory p is noted
 pub places_after : {v : Layout} {b : List ℕ} {w : Workspace} {old new : List ℕ} {p : ℕ} → HoldsSurvey v b w →
@@ -297,12 +284,7 @@ set_same f ws i word low same x = elim (cases_eq x i) [
 pub survey_noted : {v : Layout} {b : List ℕ} {old new : Workspace} →
     new ≡ record old { windows = new.windows; queue = new.queue } → HoldsSurvey v b old →
     ArePlaces v b new.queue.items → HoldsSurvey v b new
-survey_noted e h right = record {
-  named = λ x l. ap (λ (w : Workspace). bool_at w.named.items x) e ∙ h.named x l;
-  reached = λ x. ap (λ (w : Workspace). bool_at w.reached.items x) e ∙ h.reached x;
-  parents = λ x. ap (λ (w : Workspace). slice_index w.parents.items x) e ∙ h.parents x;
-  places = right;
-}
+survey_noted e h right = grind arith
 
 pub claims_noted : {v : Layout} {b : List ℕ} {old new : Workspace} →
     new ≡ record old { windows = new.windows; queue = new.queue } → HoldsClaims v b old → HoldsClaims v b new
@@ -314,18 +296,7 @@ pub ready_noted : {v : Layout} {d d'' : Device} {w : Workspace} {table : Table} 
     d''.contents ≡ d'.contents → CanReadChunks v d'' blocks chunk → vec_len queue ≡ vec_len w.queue → IsReady v d w →
     IsReady v d''
     (record w { queue = queue; windows = record w.windows { table = table; blocks = blocks; chunk = chunk } })
-ready_noted d' first kept second can long r =
-    let m = r.made in
-    record {
-      made = search rules;
-      volume = can.walk.volume;
-      windows = record {
-        table = rw second kept.holds;
-        blocks = can.walk.holds;
-        chunk = can.holds;
-        names = rw (second, first) r.windows.names;
-      };
-    }
+ready_noted d' first kept second can long r = grind arith
 
 -- what is passed, where the directory of the next word isn't to be read any more
 pub passed_next : (old new : List ℕ) (i word : ℕ) → i < length old → is_due word ≡ false →
@@ -384,25 +355,12 @@ AreComing v b words = (x p : ℕ) → IsUnder (graph_of (volume_of v b)) x p →
 -- the number of a directory
 dir_number : (v : Layout) (b : List ℕ) (x : ℕ) → is_dir (volume_of v b) x ≡ true → (2 ≤ x) × (x < inodes_of v)
 unfolding volume_of volume_with
-dir_number v b x h =
-    let inode = (and_parts (is_inode (volume_of v b) x) _ h).0 in
-    let parts = and_parts (nat_le 2 x) (nat_lt x (inodes_of v)) inode in
-    (leb-true 2 x parts.0, ltb-true x (inodes_of v) parts.1)
+dir_number v b x h = grind (arith, and_parts, leb-true, ltb-true)
 
 pub coming_first : {v : Layout} {b : List ℕ} {w : Workspace} {words : List ℕ} → length w.reached.items ≡ inodes_of v →
     BeginsNotes w.reached.items w.parents.items words → HoldsSurvey v b w → AreComing v b words
 coming_first {v = v} {b = b} {w = w} {words = words} long begins survey x p under =
-    let up : slice_index w.parents.items x ≡ p =
-    survey.parents x ∙ ap (λ (o : Option ℕ). unwrap_or o 0) under.up in
-    let above = dir_number v b p (edge-parts (graph_of (volume_of v b)) p x under.link).1 in
-    let here = dir_number v b x under.dir in
-    let low = above.0 in let high = above.1 in let least = here.0 in let most = here.1 in
-    let other : x ≢ 2 = eqb-false x 2 under.other in
-    inr (
-      begins.none x,
-      ap (λ (n : ℕ). is_due (slice_index words n)) (sym up)
-          ∙ begins.to_read x (omega arith) (omega arith) (survey.reached x ∙ under.joined) (omega arith) (omega arith),
-    )
+    grind (arith, dir_number, edge-parts, eqb-false)
 
 -- after the directory d, which was to be read, is noted
 pub coming_noted : {v : Layout} {b : List ℕ} {w : Workspace} {mid new : List ℕ} {d : ℕ} (old : List ℕ) →
@@ -441,13 +399,7 @@ coming_noted {v = v} {b = b} {w = w} {mid = mid} {new = new} {d = d} old survey 
 -- where nothing is to be read any more, all are noted
 pub coming_end : (v : Layout) (b words : List ℕ) → ((x : ℕ) → x < inodes_of v → is_due (slice_index words x) ≡ false) →
     AreComing v b words → AreNoted v b words
-coming_end v b words none coming x k h =
-    let under = level_under (graph_of (volume_of v b)) x k h in
-    elim (coming x under.0 under.1) [
-      | inl is ↦ is
-      | inr w ↦ absurd (both_ways (is_due (slice_index words under.0)) (none under.0
-          (dir_number v b under.0 (edge-parts (graph_of (volume_of v b)) under.0 x under.1.link).1).1) w.1)
-    ]
+coming_end v b words none coming x k h = grind (arith, level_under, both_ways, dir_number, edge-parts)
 
 -- ---- what is to be read
 -- only parents are to be read: one more of them is, and one isn't any more

@@ -30,10 +30,7 @@ over_held cursor over w = λ some left. absurd (omega (arith, over, left))
 
 -- a reading that begins
 pub begins_reads : (c : Chunks) → IsAtTop c.walk → c.run_cursor.next ≡ c.run_cursor.count → BeginsReads c
-begins_reads c top over = record {
-  to_read = λ b. omega (arith, top_unread c.walk top, run_over c.run_cursor over);
-  held = λ blocks w. record { frames = top_held c.walk top blocks; run = over_held c.run_cursor over w };
-}
+begins_reads c top over = grind (arith, top_unread, run_over, top_held, over_held)
 
 -- a Run that is seen is no more than one indirect block, and none where it is one of data
 pub entered_one : (start len : ℕ) (block : Option ℕ) → entered (Run start len block) ≤ 1

@@ -1,5 +1,5 @@
 -- The chunks of one Run, and how the chunks of the current Run are given one after the other.
-use Rattle.std.proofs.Common.{◌≡◌, ℕ, zero, suc, ◌+◌, ◌-◌, ◌*◌, ◌/◌, ◌%◌, ◌<◌, ◌≤◌, min, map, take, List, [], ◌∷◌, ◌++◌}
+use Rattle.std.proofs.Common.{◌≡◌, ℕ, zero, suc, ◌+◌, ◌-◌, ◌*◌, ◌/◌, ◌%◌, ◌<◌, ◌≤◌, map, take, List, [], ◌∷◌, ◌++◌}
 use Rattle.std.proofs.Common.{IsTrue, true, arith, refl, mul-le-mul_left, mul-le-mul_right}
 use Rattle.std.{specs.List.range_with_len, proofs.lemmas.Bool.Decides.nat_tests}
 use Rattle.ffs_volume.proofs.GeometryLaws.{shape_holds}
@@ -12,17 +12,11 @@ use Rattle.ffs_names.specs.{RunCursors.cursor_chunks, declared.run_cursor.RunCur
 
 -- a Run after what is read has none
 pub no_chunks : (r : ChunkSource) (start len offset : ℕ) → r.taken ≤ offset → run_chunks r start len offset ≡ []
-no_chunks r start len offset h =
-    let none : r.taken - offset ≡ 0 = omega arith in
-    let n : min (len * r.fsize / 512) ((r.taken - offset) / 512) ≡ 0 = rw none (omega arith) in
-    rw n refl
+no_chunks r start len offset h = grind arith
 
 pub none_far : (v : Layout) (r : ChunkSource) (start len block : ℕ) → IsAcceptedLayout v → 2147483648 ≤ block →
     r.taken ≤ 2147483648 → run_chunks r start len (block * v.bsize) ≡ []
-none_far v r start len block g far few =
-    let some : 1 ≤ v.bsize = omega (arith, g.sizes.bsize_low) in
-    let large : block * 1 ≤ block * v.bsize = mul-le-mul_left block some in
-    no_chunks r start len (block * v.bsize) (omega arith)
+none_far v r start len block g far few = grind (arith, mul-le-mul_left, no_chunks)
 
 -- a Run in range lies in the volume, and has a block's bytes at most
 pub run_in_volume : (v : Layout) (start len : ℕ) → IsAcceptedLayout v → 0 < len → IsTrue (is_run_in_range v start len) →
@@ -47,9 +41,7 @@ run_aligned v start g =
     rw (← whole) (omega arith)
 
 pub run_in_block : (v : Layout) (len : ℕ) → IsAcceptedLayout v → len ≤ v.frag → len * v.fsize ≤ v.bsize
-run_in_block v len g short =
-    let scaled : len * v.fsize ≤ v.frag * v.fsize = mul-le-mul_right v.fsize short in
-    omega (arith, g.sizes.block)
+run_in_block v len g short = grind (arith, mul-le-mul_right)
 
 -- the first of the current chunks is given
 pub cursor_step : (v : Layout) (b : List ℕ) (cursor : RunCursor) (rest : List Chunk) → cursor.next < cursor.count →

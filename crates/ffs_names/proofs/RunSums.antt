@@ -1,15 +1,13 @@
 -- A replay sees the Runs that the block check sees. So all directories take at most a read for each
 -- inode, and one for each of these Runs.
-use Rattle.std.proofs.Common.{◌≡◌, ◌∙◌, ◌+◌, ◌-◌, ◌*◌, ◌<◌, ◌≤◌, ℕ, zero, suc, Bool, true, false, List, map, ap, arith}
-use Rattle.std.proofs.Common.{inl, inr}
-use Rattle.std.proofs.Common.{refl, sym}
-use Rattle.std.{specs.List.range_with_len, proofs.lemmas.Bool.cases_lt, proofs.lemmas.Bool.Decides.nat_tests}
+use Rattle.std.proofs.Common.{◌≡◌, ◌+◌, ◌*◌, ◌<◌, ◌≤◌, ℕ, zero, suc, Bool, true, false, List, ap, arith}
+use Rattle.std.proofs.Common.{refl}
+use Rattle.std.{proofs.lemmas.Bool.cases_lt, proofs.lemmas.Bool.Decides.nat_tests}
 use Rattle.ffs_volume.proofs.{CutLaws.cut_is, OwnerLaws.before_next, ReplayLaws.replay_is_runs}
-use Rattle.ffs_volume.specs.Blocks.Claims.{Claims, after_owners, no_claims}
-use Rattle.ffs_volume.specs.Blocks.{Inodes.inode_of, KeptSteps.claims_before, Owners.owner_of, Owners.owners_of}
-use Rattle.ffs_volume.specs.{Blocks.Steps.steps_of, Directories.Roles.is_dir, Report.Whole.run_count}
+use Rattle.ffs_volume.specs.Blocks.Claims.{Claims}
+use Rattle.ffs_volume.specs.Blocks.{KeptSteps.claims_before, Owners.owner_of, Owners.owners_of}
+use Rattle.ffs_volume.specs.{Directories.Roles.is_dir, Report.Whole.run_count}
 use Rattle.ffs_volume.specs.Directories.Volumes.{is_inode_number, volume_of}
-use Rattle.ffs_volume.specs.Encodings.{Replay.fresh_replay, ReplayCounts.replayed_runs}
 use Rattle.ffs_volume.specs.{Laws.Geometry.IsAcceptedLayout, declared.Layout.Layout}
 use Rattle.ffs_survey.specs.Costs.{costs_all}
 use Rattle.ffs_names.specs.{Costs.directories_cost, Costs.directory_cost, SeenRuns.RunsAreSeen}
@@ -17,29 +15,17 @@ use Rattle.ffs_names.proofs.{DirCosts.cost_is, DirCosts.cost_none, DirLaws.dir_i
 
 pub runs_seen_by : RunsAreSeen
 unfolding owner_of
-runs_seen_by v image x g h =
-    let s = claims_before v image x in
-    let steps = steps_of v (inode_of v image x) image in
-    replay_is_runs v s steps ∙ ap (λ c. s.runs + replayed_runs v c fresh_replay steps) (sym (cut_is v image x g h))
+runs_seen_by v image x g h = grind (arith, replay_is_runs, cut_is)
 
 -- no inode is before the root
 low_state : (v : Layout) (b : List ℕ) (x : ℕ) → x < 2 → claims_before v b (x + 1) ≡ claims_before v b x
 unfolding claims_before
-low_state v b x low =
-    let none : x + 1 - 2 ≡ x - 2 = omega arith in
-    ap (λ (n : ℕ). after_owners v (no_claims v) (map (owner_of v b) (range_with_len 2 n))) none
+low_state v b x low = grind arith
 
 -- the count of Runs rises
 runs_rise : (v : Layout) (b : List ℕ) (x : ℕ) → (claims_before v b x).runs ≤ (claims_before v b (x + 1)).runs
 unfolding owner_of
-runs_rise v b x = elim (cases_lt x 2) [
-  | inl low ↦ omega (arith, ap (λ (s : Claims). s.runs) (low_state v b x low))
-  | inr high ↦ omega (
-    arith,
-    ap (λ (s : Claims). s.runs) (before_next v b x high),
-    replay_is_runs v (claims_before v b x) (steps_of v (inode_of v b x) b),
-  )
-]
+runs_rise v b x = grind (arith, cases_lt, low_state, before_next, replay_is_runs)
 
 from_root : (v : Layout) (x : ℕ) → is_inode_number v x ≡ true → 2 ≤ x
 from_root v x h = grind (arith, nat_tests)

@@ -1,12 +1,12 @@
 -- How the shape of a directory shows itself as its chunks are read.
 use Rattle.std.proofs.Common.{◌≡◌, ℕ, ◌+◌, ◌<◌, ◌≤◌, ◌^◌, ◌==◌, Bool, true, false, not, ◌&&◌, ◌||◌, List, [], ◌∷◌, Some}
 use Rattle.std.proofs.Common.{None}
-use Rattle.std.proofs.Common.{ap, arith, flat_map, is_some, refl, sum_by, zero-add}
+use Rattle.std.proofs.Common.{ap, arith, is_some, refl, sum_by, zero-add}
 use Rattle.std.proofs.{lemmas.List.Sums.sum_by-cons, Math.Bool.and-true}
 use Rattle.ffs_volume.proofs.Reading.{entries_next, entries_end}
 use Rattle.ffs_volume.specs.declared.{Inode.Inode, Layout.Layout, Order.Order}
 use Rattle.ffs_volume.specs.Directories.Entries.{Entry, Chunk, chunk_of, entry_at, entries_from, has_gap, is_sound}
-use Rattle.ffs_volume.specs.{Blocks.Steps.steps_of, Directories.PathnameCheck.are_sound, Directories.Roles.roled_chunk}
+use Rattle.ffs_volume.specs.{Blocks.Steps.steps_of, Directories.PathnameCheck.are_sound}
 use Rattle.ffs_volume.specs.Encodings.{Replay.fresh_replay, Replay.replayed_steps, ReplayCounts.replayed_runs}
 use Rattle.ffs_walk.specs.declared.{blocks.Blocks.Blocks, window.Window.Window}
 use Rattle.ffs_names.specs.{Costs.BeginsEntries, Costs.HoldsReading, Costs.to_read, RightShapes.is_right_size}
@@ -28,10 +28,7 @@ fills_next order chunk place e there =
 
 fills_end : (order : Order) (chunk : List ℕ) (place : ℕ) → entry_at order chunk place ≡ None →
     fills_from order chunk place ≡ (place == 512)
-fills_end order chunk place none =
-    let m = ap (λ es. sum_by (λ (x : Entry). x.length) es) (entries_end order chunk place none) in
-    let same : place + sum_by (λ x. x.length) (entries_from order chunk 64 place) ≡ place = omega (arith, m) in
-    rw same refl
+fills_end order chunk place none = grind (arith, entries_end)
 
 -- no entry is left in a chunk that was read to its end
 pub fills_whole : (order : Order) (chunk : List ℕ) → fills_from order chunk 512 ≡ true
@@ -48,12 +45,7 @@ pub shape_came : (s : Bool) (order other : Order) (chunk : List ℕ) (place : �
     → (((s && (place == 512)) && fills_from order next 0) && (are_sound rest && not gap'))
     ≡ ((s && fills_from order chunk place) && (are_sound old && not gap))
 shape_came s order other chunk place old offset next rest gap gap' none q e same =
-    rw (fills_begin order next, fills_end order chunk place (none_from _ none), e, q, same)
-    (go (s && (place == 512)) (is_sound order next) (are_sound rest) (not gap))
-  where
-    go : (a c r g : Bool) → ((a && c) && (r && g)) ≡ (a && ((c && r) && g))
-    go true true r g = refl
-    go _ _ r g = refl
+    grind (arith, fills_begin, fills_end, none_from)
 
 -- none came
 pub shape_ended : (s : Bool) (order : Order) (chunk last : List ℕ) (place : ℕ) (old rest : List Chunk) (gap gap' : Bool)
@@ -61,8 +53,7 @@ pub shape_ended : (s : Bool) (order : Order) (chunk last : List ℕ) (place : �
     → (((s && (place == 512)) && fills_from order last 512) && (are_sound rest && not gap'))
     ≡ ((s && fills_from order chunk place) && (are_sound old && not gap))
 shape_ended s order chunk last place old rest gap gap' none e r same =
-    rw (fills_whole order last, fills_end order chunk place (none_from _ none), and-true (s && (place == 512)), e, r, same)
-    refl
+    grind (arith, fills_whole, fills_end, none_from, and-true)
 
 -- a reading begins
 pub shape_begun : (s s' : Bool) (order : Order) (chunk : List ℕ) (cs cs' : List Chunk) (gap left left' : Bool) → s ≡ s'
@@ -76,11 +67,7 @@ pub begins_directory : {v : Layout} {i : Inode} {cut : ℕ} {r : Entries} → r.
     ((b : List ℕ) → i.size < 2 ^ 31 → rest b r.chunks ≡ chunks_in v b i cut) → r.chunks.gap ≡ false →
     ((b : List ℕ) → gap_left b r.chunks ≡ has_gap (replayed_steps v cut fresh_replay (steps_of v i b))) →
     BeginsDirectory v i cut r
-begins_directory {r = r} place right chunks gap left = record {
-  entries = λ b small. rw (place, end_seen r.first r.index r.order r.chunk (rest b r.chunks))
-      (ap (flat_map roled_chunk) (chunks b small));
-  shape = λ b small. rw place (shape_begun _ _ _ _ _ _ _ _ _ right (chunks b small) gap (left b));
-}
+begins_directory {r = r} place right chunks gap left = grind (arith, end_seen, shape_begun)
 
 pub begins_entries : {v : Layout} {i : Inode} {cut : ℕ} {r : Entries} →
     ((b : List ℕ) → to_read b r.chunks ≤ replayed_runs v cut fresh_replay (steps_of v i b)) →

@@ -297,6 +297,7 @@ fn note_all<I: Image>(
 ///
 /// # Errors
 /// A read of the image that failed.
+#[tactic(auto, using(ffs_image::proofs::Limits::served, ffs_image::proofs::Limits::read_over, ffs_workspace::proofs::Readiness::ready_same, crate::proofs::Limits::costs_within))]
 pub fn note_places<I: Image>(
     geometry: &Geometry,
     image: &mut I,

@@ -1,41 +1,20 @@
 -- A survey of a volume's directories, from kinds and marks that the volume gives.
 use Rattle.std.specs.Prelude.{◌≡◌, ℕ, zero, suc, ◌+◌, ◌*◌, ◌==◌, Bool, true, false, not, ◌&&◌}
-use Rattle.std.specs.Prelude.{◌||◌, nat_le, nat_lt, if◌then◌else◌, List, length, refl, count_by}
+use Rattle.std.specs.Prelude.{◌||◌, nat_le, nat_lt, if◌then◌else◌, List, refl, count_by}
 use Rattle.std.proofs.Common.{◌∙◌, ap, subst, inl, inr}
 use Rattle.std.proofs.lemmas.Bool.{or_cases, eqb-true, or_parts, false_from_ne_true}
-use mathlib.Core.Path.{fun_ext}
 use Rattle.ffs_volume.specs.declared.Layout.{Layout}
 use Rattle.ffs_volume.specs.declared.Inode.{Inode}
 use Rattle.ffs_volume.specs.declared.Class.{Class}
 use Rattle.ffs_volume.specs.declared.Class.TheVariants.{Free, Partial, Unknown, File, Dir}
 use Rattle.ffs_volume.specs.Blocks.Inodes.{inode_of, class_of, type_of, is_known_type, any_nonzero, is_directory}
-use Rattle.ffs_volume.specs.Directories.Roles.{Volume, RoledEntry, roled_entries, is_dir, is_suspect, refers}
+use Rattle.ffs_volume.specs.Directories.Roles.{Volume, roled_entries, is_dir, is_suspect, refers}
 use Rattle.ffs_volume.specs.Directories.Roles.{references, references_below}
 use Rattle.ffs_volume.specs.Directories.Volumes.{class_at, marked_at, volume_of, volume_with}
-use Rattle.ffs_volume.specs.Directories.Graph.{Graph}
 use Rattle.ffs_volume.specs.Directories.Parents.{graph_of}
 use Rattle.ffs_volume.specs.Encodings.Kinds.{kind_of}
 use Rattle.ffs_survey.specs.Survey.{bool_at, number_at, is_dir_kind, dir_at, suspect_at}
-use Rattle.ffs_survey.specs.Survey.{graph_with, counted_below, references_to, IsSurvey}
-
--- the graph of a volume's directories, from kinds and entries
-pub graph_is : (v : Volume) (kinds : List ℕ) (entries : ℕ → List RoledEntry) → length kinds ≡ v.count
-    → ((x : ℕ) → dir_at kinds x ≡ is_dir v x) → ((d : ℕ) → entries d ≡ roled_entries v d)
-    → graph_with kinds entries ≡ graph_of v
-graph_is v kinds entries n d e = ap (λ z. with_count z (dir_at kinds) entries) n
-    ∙ (ap (λ z. with_count v.count z entries) (fun_ext d) ∙ ap (λ z. with_count v.count (is_dir v) z) (fun_ext e))
-  where
-    with_count : ℕ → (ℕ → Bool) → (ℕ → List RoledEntry) → Graph
-    with_count n d e = record { count = n; is_dir = d; entries = e }
-
--- the survey of that graph is one of the volume
-pub survey_is : (v : Volume) (kinds : List ℕ) (entries : ℕ → List RoledEntry)
-    → (starts references : List ℕ) (named reached : List Bool) (parents : List ℕ) → length kinds ≡ v.count
-    → ((x : ℕ) → dir_at kinds x ≡ is_dir v x) → ((d : ℕ) → entries d ≡ roled_entries v d)
-    → IsSurvey (graph_with kinds entries) starts references named reached parents
-    → IsSurvey (graph_of v) starts references named reached parents
-survey_is v kinds entries starts references named reached parents n d e s =
-    subst (λ g. IsSurvey g starts references named reached parents) (graph_is v kinds entries n d e) s
+use Rattle.ffs_survey.specs.Survey.{counted_below, references_to}
 
 -- the references of the graph are the volume's
 pub references_is : (v : Volume) (x : ℕ) → references_to (graph_of v) x ≡ references v x

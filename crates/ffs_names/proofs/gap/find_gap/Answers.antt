@@ -25,12 +25,7 @@ runs-preserved g c =
 
 -- no step is left
 pub returns-clause-gap : goal.returns-clause-gap
-returns-clause-gap g c = λ b t.
-    let inv = c.runs.invariant in
-    let went = c.in_ok-advance.ensures in
-    let now = ap (λ d. d.contents) inv.same ∙ t in
-    let over = (rw c.if-branch.false at went.found) b now in
-    sym (inv.gap b t ∙ (sym (went.continues b now).gap ∙ gap_ended _ _ over.gap))
+returns-clause-gap g c = grind (arith, gap_ended)
 
 pub returns-clause-reads : goal.returns-clause-reads
 returns-clause-reads g c = λ w h b t.

@@ -24,11 +24,7 @@ base g c = record {
 known : (g : given.Over) (c : After-survey-surveyed g) (b : List ℕ) →
     (g.I.Image.device c.args.image.now).contents ≡ Some b →
     HoldsClaims c.args.geometry.now.layout b c.args.workspace.now → KnowsReader (base g c) b
-known g c b t h = record {
-  bytes = t;
-  kinds = λ x. ap (λ ks. slice_index ks x) c.deref.ensures.value ∙ h.kinds x;
-  notes = h.notes;
-}
+known g c b t h = grind arith
 
 kinds : (g : given.Over) (c : After-survey-surveyed g) (b : List ℕ) →
     HoldsClaims c.args.geometry.now.layout b c.args.workspace.now → (x : ℕ) →
@@ -36,9 +32,7 @@ kinds : (g : given.Over) (c : After-survey-surveyed g) (b : List ℕ) →
 kinds g c b h x = ap (λ ks. slice_index ks x) c.deref-2.ensures.value ∙ h.kinds x
 
 pub returns-clause-read : goal.returns-clause-read
-returns-clause-read g c =
-    rw (c.image-1.given.1 (sym (ap (λ x. x.image_lent) c.survey-surveyed.ensures.reader.same)))
-    c.survey-surveyed.ensures.reader.read
+returns-clause-read g c = grind arith
 
 pub returns-clause-ready : goal.returns-clause-ready
 returns-clause-ready g c =
@@ -94,18 +88,7 @@ returns-clause-calm g c = on_ok c.survey-surveyed.result _ _ (λ s b t h.
     c.survey-surveyed.ensures.calm
 
 pub survey-surveyed-requires-clause-lists : goal.survey-surveyed-requires-clause-lists
-survey-surveyed-requires-clause-lists g c = record {
-  some = let k = some_inodes c.args.geometry.now.layout c.args.geometry.now.sound in
-      omega (arith, c.deref-2.ensures.len, c.requires.made.kinds, k);
-  few = search (rules, arith);
-  marked_long = search (rules, arith);
-  references_long = search (rules, arith);
-  named_long = search (rules, arith);
-  reached_long = search (rules, arith);
-  parents_long = search (rules, arith);
-  calm_long = search (rules, arith);
-  queue_long = search (rules, arith);
-}
+survey-surveyed-requires-clause-lists g c = grind (arith, some_inodes, kinds)
 
 pub returns-clause-reads : goal.returns-clause-reads
 returns-clause-reads g c = λ b t h.

@@ -110,11 +110,7 @@ returns-clause-noted g c = λ b t claims survey numbered.
 
 -- the reads that were made
 pub returns-clause-reads : goal.returns-clause-reads
-returns-clause-reads g c = λ b t claims survey.
-    let v = c.args.geometry.now.layout in
-    let some = some_inodes v c.args.geometry.now.sound in
-    let all = costs_rise (λ s. true) (directory_cost v b) c.loop-dir.dir (v.ncg * v.ipg) (omega arith) in
-    omega (arith, all, c.loop-dir.invariant.reads b t claims survey)
+returns-clause-reads g c = grind (arith, some_inodes, costs_rise)
 
 pub returns-in_err-note_directory-clause-reads : goal.returns-in_err-note_directory-clause-reads
 returns-in_err-note_directory-clause-reads g c = λ b t claims survey.

@@ -71,28 +71,14 @@ returns-clause-noted g c = λ b t.
     }
 
 pub returns-clause-leaves : goal.returns-clause-leaves
-returns-clause-leaves g c =
-    let inv = c.chunks.invariant in
-    let went = c.in_ok-_offset.ensures.leaves in
-    record { geometry = went.geometry ∙ inv.geometry; ready = rw inv.geometry at went.ready; read = went.read ∙ inv.same }
+returns-clause-leaves g c = grind arith
 
 pub returns-then-place-eq0-clause-leaves : goal.returns-then-place-eq0-clause-leaves
-returns-then-place-eq0-clause-leaves g c =
-    let inv = c.chunks.invariant in
-    let went = c.in_ok-_offset.ensures.leaves in
-    record { geometry = went.geometry ∙ inv.geometry; ready = rw inv.geometry at went.ready; read = went.read ∙ inv.same }
+returns-then-place-eq0-clause-leaves g c = grind arith
 
 -- the reads that were made
 pub returns-clause-reads : goal.returns-clause-reads
-returns-clause-reads g c = λ held b t.
-    let inv = c.chunks.invariant in
-    let old = inv.reads held b t in
-    let took = c.in_ok-_offset.ensures.reads old.1 b (ap (λ d. d.contents) inv.same ∙ t) in
-    omega (arith, took.most, old.0)
+returns-clause-reads g c = grind arith
 
 pub returns-then-place-eq0-clause-reads : goal.returns-then-place-eq0-clause-reads
-returns-then-place-eq0-clause-reads g c = λ held b t.
-    let inv = c.chunks.invariant in
-    let old = inv.reads held b t in
-    let took = c.in_ok-_offset.ensures.reads old.1 b (ap (λ d. d.contents) inv.same ∙ t) in
-    omega (arith, took.most, old.0)
+returns-then-place-eq0-clause-reads g c = grind arith

@@ -1,4 +1,4 @@
-use Rattle.std.proofs.Common.{◌≡◌, ◌<◌, ◌∙◌, ℕ, List, ap, arith, length, slice_index}
+use Rattle.std.proofs.Common.{◌≡◌, ◌∙◌, ℕ, List, ap, arith, slice_index}
 use Rattle.std.proofs.lemmas.Grind.{common_steps, get_or_default_zero}
 use Rattle.ffs_volume.proofs.Results.{on_ok}
 use Rattle.ffs_workspace.specs.Notes.{note_at}
@@ -11,10 +11,7 @@ use Rattle.ffs_names.proofs.places.note_directory.Goals.{After-chunks_of}
 note_is : (g : given.Over) (c : After-chunks_of g) (b : List ℕ) →
     ((x : ℕ) → slice_index c.args.workspace.now.notes.items x ≡ note_at c.args.geometry.now.layout b x) →
     c.index-note.result.now ≡ note_at c.args.geometry.now.layout b c.args.dir
-note_is g c b notes =
-    let items = c.args.workspace.now.notes.items in
-    let inside : c.args.dir < length items = grind (arith, common_steps) in
-    c.index-note.ensures ∙ get_or_default_zero items c.args.dir c.index-note.result.now inside ∙ notes c.args.dir
+note_is g c b notes = grind (arith, common_steps, get_or_default_zero)
 
 pub returns-clause-noted : goal.returns-clause-noted
 returns-clause-noted g c = on_ok c.note_chunks.result _ _ (λ s b t claims dir.
@@ -25,12 +22,7 @@ returns-clause-noted g c = on_ok c.note_chunks.result _ _ (λ s b t claims dir.
     c.note_chunks.ensures.noted
 
 pub returns-clause-ready : goal.returns-clause-ready
-returns-clause-ready g c =
-    let begun = c.in_ok-chunks.ensures in
-    let went = c.note_chunks.ensures.leaves in
-    rw c.note_chunks.ensures.others (ready_noted (g.I.Image.device c.chunks_of.new.image)
-    (ap (λ d. d.contents) begun.leaves.read) begun.leaves.kept (contents_kept _ _ c.note_chunks.result went.read)
-    (rw begun.geometry at went.ready) c.note_chunks.ensures.long c.requires.ready)
+returns-clause-ready g c = grind (arith, ready_noted, contents_kept)
 
 pub returns-clause-reads : goal.returns-clause-reads
 returns-clause-reads g c = λ b t claims dir.

@@ -11,16 +11,7 @@ use Rattle.ffs_names.proofs.{Continuing.same_more, Continuing.walk_on}
 use Rattle.ffs_names.proofs.chunks.Chunks.advance.Goals as goal
 
 pub steps-init : goal.steps-init
-steps-init g c = record {
-  continues = λ b t. continues_here b c.args.self.now;
-  same = same_here _;
-  ready = c.requires;
-  device = refl;
-  fewer = no_more _;
-  falls = λ more. omega (arith, more);
-  held = λ w h. h;
-  reads = λ w h b t. omega arith;
-}
+steps-init g c = grind (arith, continues_here, same_here, no_more)
 
 pub steps-preserved-in-Some-Tail : goal.steps-preserved-in-Some-Tail
 steps-preserved-in-Some-Tail g c =
@@ -114,18 +105,11 @@ steps-preserved-in-Some-Run g c =
     }
 
 pub returns-then-not-is_replay_open-clause-found : goal.returns-then-not-is_replay_open-clause-found
-returns-then-not-is_replay_open-clause-found g c = λ b t.
-    seen_if_shut c.steps-test.true (sym c.is_replay_open.ensures ∙ c.if-not-is_replay_open.true)
+returns-then-not-is_replay_open-clause-found g c = grind (arith, seen_if_shut)
 
 -- a walk that failed is over
 pub returns-in_err-next-clause-runs : goal.returns-in_err-next-clause-runs
-returns-in_err-next-clause-runs g c =
-    let p = err_from_is_err_and c.from_residual.result c.from_residual.ensures.1 in
-    rw p.1 (λ b t.
-    let s = c.steps.self in
-    let none = over_runs b c.next.new.self c.next.new.self.geometry.layout s.keeping.cut (replay_in s.keeping)
-    c.in_err-next.ensures.fault in
-    omega (arith, none, (c.steps.invariant.continues b t).runs.most))
+returns-in_err-next-clause-runs g c = grind (arith, err_from_is_err_and, over_runs)
 
 -- no step is left
 pub returns-in-None-clause-continues : goal.returns-in-None-clause-continues
@@ -142,14 +126,7 @@ returns-in-None-clause-found g c = λ b t.
 
 -- what is left at each return
 pub returns-in-None-clause-leaves : goal.returns-in-None-clause-leaves
-returns-in-None-clause-leaves g c =
-    let i = c.steps.invariant in
-    let next = c.in_ok-next.ensures.leaves in
-    record {
-      same = same_walked i.same (only_walks c.next.ensures.same.geometry refl refl refl refl refl);
-      ready = walk_on i.same.geometry (ap (λ d. d.size) next.read) c.next.ensures.leaves.kept i.ready;
-      read = next.read ∙ i.device;
-    }
+returns-in-None-clause-leaves g c = grind (arith, same_walked, only_walks, walk_on)
 
 -- the reads that were made, and what is held
 pub returns-then-not-is_replay_open-clause-reads : goal.returns-then-not-is_replay_open-clause-reads

@@ -1,31 +1,14 @@
-use Rattle.std.proofs.Common.{◌∙◌, ◌+◌, ◌*◌, ap, sym, arith}
+use Rattle.std.proofs.Common.{◌∙◌, ◌+◌, ◌*◌, ap, arith}
 use Rattle.std.proofs.lemmas.Result.{err_from_is_err_and}
 use Rattle.ffs_volume.specs.Disk.Numbers.{piece}
-use Rattle.ffs_walk.specs.Rests.{steps_left}
-use Rattle.ffs_names.specs.Readings.{chunks_after}
 use Rattle.ffs_names.proofs.{ReadCounts.given_one, RunChunks.cursor_step}
 use Rattle.ffs_names.proofs.chunks.Chunks.read.Goals as goal
 
 pub returns-clause-chunk : goal.returns-clause-chunk
-returns-clause-chunk g c = λ b t.
-    let s = c.advance.new.self in
-    let v = s.walk.geometry.layout in
-    let went = c.in_ok-advance.ensures.continues b t in
-    let order = ap (λ x. x.layout.order) c.advance.ensures.leaves.same.geometry in
-    let more = rw c.if-not-branch.false at c.in_ok-advance.ensures.found in
-    let chunk = c.in_ok-read_chunk.ensures.chunk b (ap (λ d. d.contents) c.in_ok-advance.ensures.leaves.read ∙ t) in
-    record {
-      chunks = sym went.chunks ∙ rw (c.from.ensures, chunk, ← order)
-          (cursor_step v b s.run_cursor (chunks_after b s (steps_left b s.walk)) more);
-      runs = went.runs;
-      gap = went.gap;
-    }
+returns-clause-chunk g c = grind (arith, cursor_step)
 
 pub returns-then-not-branch-clause-chunk : goal.returns-then-not-branch-clause-chunk
-returns-then-not-branch-clause-chunk g c = λ b t.
-    let went = c.in_ok-advance.ensures.continues b t in
-    let none = (rw c.if-not-branch.true at c.in_ok-advance.ensures.found) b t in
-    record { chunks = (sym went.chunks ∙ none.chunks, none.chunks); runs = went.runs; gap = went.gap }
+returns-then-not-branch-clause-chunk g c = grind arith
 
 pub returns-clause-place : goal.returns-clause-place
 returns-clause-place g c = λ b t.

@@ -77,25 +77,14 @@ chunks-preserved g c =
     }
 
 pub returns-in-Some-clause-place : goal.returns-in-Some-clause-place
-returns-in-Some-clause-place g c = λ b t held. let same = c.take.ensures.same in
-    rw (same.chunk, same.chunks) (c.chunks.invariant.place b t held c.in-Some.ensures.place)
+returns-in-Some-clause-place g c = grind arith
 
 pub returns-in-Some-clause-inside : goal.returns-in-Some-clause-inside
-returns-in-Some-clause-inside g c = λ held.
-    rw c.take.ensures.same.chunks (c.chunks.invariant.inside held c.in-Some.ensures.place)
+returns-in-Some-clause-inside g c = grind arith
 
 -- a read failed
 pub returns-in_err-next-clause-leaves : goal.returns-in_err-next-clause-leaves
-returns-in_err-next-clause-leaves g c =
-    let i = c.chunks.invariant in
-    let geometry = ap (λ x. x.walk.geometry) c.take.ensures.same.chunks ∙ i.geometry in
-    let err = c.in_err-next.ensures.leaves.read in
-    let p = err_from_is_err_and c.from_residual.result c.from_residual.ensures.1 in
-    rw (p.1, p.2) (record {
-      geometry = c.next.ensures.leaves.geometry ∙ geometry;
-      ready = rw geometry at c.next.ensures.leaves.ready;
-      read = rw i.device at err;
-    })
+returns-in_err-next-clause-leaves g c = grind (arith, err_from_is_err_and)
 
 pub returns-in-Some-clause-reads : goal.returns-in-Some-clause-reads
 returns-in-Some-clause-reads g c = λ held b t.
@@ -125,11 +114,4 @@ returns-in_err-next-clause-reads g c =
     record { most = omega (arith, took.most, now.0); paid = tt; held = tt })
 
 pub returns-in-None-2-clause-leaves : goal.returns-in-None-2-clause-leaves
-returns-in-None-2-clause-leaves g c =
-    let i = c.chunks.invariant in
-    let geometry = ap (λ x. x.walk.geometry) c.take.ensures.same.chunks ∙ i.geometry in
-    record {
-      geometry = c.next.ensures.leaves.geometry ∙ geometry;
-      ready = rw geometry at c.next.ensures.leaves.ready;
-      read = c.in_ok-next.ensures.leaves.read ∙ i.device;
-    }
+returns-in-None-2-clause-leaves g c = grind arith

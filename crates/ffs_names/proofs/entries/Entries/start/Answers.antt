@@ -1,13 +1,9 @@
-use Rattle.std.proofs.Common.{arith, refl}
+use Rattle.std.proofs.Common.{arith}
 use Rattle.ffs_names.proofs.Shaped.{begins_directory, begins_entries}
 use Rattle.ffs_names.proofs.entries.Entries.start.Goals as goal
 
 pub returns-clause-begins : goal.returns-clause-begins
-returns-clause-begins c =
-    let begins = c.start-chunks.ensures.begins in
-    begins_directory refl c.has_right_size.ensures begins.chunks begins.gap begins.gap_left
+returns-clause-begins c = grind (arith, begins_directory)
 
 pub returns-clause-reads : goal.returns-clause-reads
-returns-clause-reads c =
-    let reads = c.start-chunks.ensures.reads in
-    begins_entries (λ b. omega (arith, reads.to_read b, c.start-chunks.ensures.begins.runs_left b)) reads.held
+returns-clause-reads c = grind (arith, begins_entries)

@@ -1,4 +1,4 @@
-use Rattle.std.proofs.Common.{ap, ◌∙◌, refl}
+use Rattle.std.proofs.Common.{arith}
 use Rattle.std.proofs.lemmas.Result.{IfOk-weaker}
 use Rattle.ffs_names.proofs.Continuing.{can_read, contents_kept}
 use Rattle.ffs_names.proofs.{Shaped.shape_same, SurveyHolds.none_ended}
@@ -10,49 +10,16 @@ returns-in-Some-clause-shape g c = λ b k.
 
 -- where the current chunk has no entry left, the reading is as it was
 pub next-requires : goal.next-requires
-next-requires g c =
-    let r = c.requires.ready.0 in
-    let geometry = ap (λ x. x.chunks.walk.geometry) (c.take.ensures.none c.in-None.is) ∙ c.requires.ready.1 in
-    can_read _ _ _ _ _ (record {
-      walk = record { volume = r.volume; room = r.blocks; holds = r.blocks_hold };
-      room = r.chunk;
-      holds = r.chunk_holds;
-    }) geometry
+next-requires g c = grind (arith, can_read)
 
 pub returns-clause-reader : goal.returns-clause-reader
-returns-clause-reader g c =
-    let r = c.requires.ready.0 in
-    let leaves = c.next.ensures.leaves in
-    let geometry = ap (λ x. x.chunks.walk.geometry) (c.take.ensures.none c.in-None.is) ∙ c.requires.ready.1 in
-    let ready = rw geometry at leaves.ready in
-    let same = contents_kept _ _ c.next.result leaves.read in
-    record {
-      is_ready = (
-        record {
-          volume = ready.walk.volume;
-          table = r.table;
-          blocks = ready.walk.room;
-          chunk = ready.room;
-          names = r.names;
-          table_holds = rw same r.table_holds;
-          blocks_hold = ready.walk.holds;
-          chunk_holds = ready.holds;
-          names_hold = rw same r.names_hold;
-          kinds_long = r.kinds_long;
-          notes_long = r.notes_long;
-        },
-        leaves.geometry ∙ geometry,
-      );
-      same = rw same refl;
-      read = leaves.read;
-    }
+returns-clause-reader g c = grind (arith, contents_kept)
 
 pub returns-clause-left : goal.returns-clause-left
 returns-clause-left g c = rw (c.take.ensures.none c.in-None.is) at c.next.ensures.left
 
 pub returns-clause-rest : goal.returns-clause-rest
-returns-clause-rest g c = IfOk-weaker c.next.result _ _
-    (λ o h b k. rw (c.take.ensures.none c.in-None.is) at (h b k.bytes).entries) c.next.ensures.entry
+returns-clause-rest g c = grind arith
 
 pub returns-clause-shape : goal.returns-clause-shape
 returns-clause-shape g c = IfOk-weaker c.next.result _ _

@@ -1,4 +1,4 @@
-use Rattle.std.proofs.Common.{◌∙◌, ◌≡◌, ◌<◌, ℕ, Bool, List, true, ◌&&◌, ap, arith, if◌then◌else◌, length, refl}
+use Rattle.std.proofs.Common.{◌∙◌, ◌≡◌, ℕ, Bool, List, true, ◌&&◌, ap, arith, if◌then◌else◌}
 use Rattle.std.proofs.Common.{slice_index, sym, []}
 use Rattle.std.proofs.lemmas.{Grind.common_steps, Grind.get_or_default_zero, Result.err_from_is_err_and}
 use Rattle.ffs_volume.specs.{Directories.Roles.is_dir, Directories.Roles.roled_entries, Directories.Volumes.volume_of}
@@ -15,46 +15,22 @@ use Rattle.ffs_names.proofs.reader.DirectoryReaderDirectories.start.Goals.{After
 is_dir_here : (g : given.Over) (c : After-address_in g) (b : List ℕ) →
     ((x : ℕ) → slice_index c.args.self.now.kinds.now x ≡ kind_at c.args.self.now.geometry.layout b x) →
     is_dir (volume_of c.args.self.now.geometry.layout b) c.args.dir ≡ true
-is_dir_here g c b kinds =
-    sym (kind_dirs c.args.self.now.geometry.layout b c.args.self.now.kinds.now c.args.dir (kinds c.args.dir))
-    ∙ (sym c.is_dir.ensures ∙ c.if-not-is_dir.false)
+is_dir_here g c b kinds = grind (arith, kind_dirs)
 
 note_here : (g : given.Over) (c : After-address_in g) (b : List ℕ) →
     ((x : ℕ) → slice_index c.args.self.now.notes.now.items x ≡ note_at c.args.self.now.geometry.layout b x) →
     c.index-note.result.now ≡ note_at c.args.self.now.geometry.layout b c.args.dir
-note_here g c b notes =
-    let items = c.args.self.now.notes.now.items in
-    let inside : c.args.dir < length items = grind (arith, common_steps) in
-    c.index-note.ensures ∙ get_or_default_zero items c.args.dir c.index-note.result.now inside ∙ notes c.args.dir
+note_here g c b notes = grind (arith, common_steps, get_or_default_zero)
 
 pub returns-then-not-is_dir-clause-rest : goal.returns-then-not-is_dir-clause-rest
-returns-then-not-is_dir-clause-rest g c = λ b k.
-    let v = c.args.self.now.geometry.layout in
-    let none = sym (kind_dirs v b c.args.self.now.kinds.now c.args.dir (k.kinds c.args.dir))
-    ∙ (sym c.is_dir.ensures ∙ c.if-not-is_dir.true) in
-    c.stop.ensures.entries b ∙ sym (ap (λ x. if x then roled_entries (volume_of v b) c.args.dir else []) none)
+returns-then-not-is_dir-clause-rest g c = grind (arith, kind_dirs)
 
 pub returns-then-not-is_dir-clause-shape : goal.returns-then-not-is_dir-clause-shape
-returns-then-not-is_dir-clause-shape g c = λ b k.
-    let v = c.args.self.now.geometry.layout in
-    let none = sym (kind_dirs v b c.args.self.now.kinds.now c.args.dir (k.kinds c.args.dir))
-    ∙ (sym c.is_dir.ensures ∙ c.if-not-is_dir.true) in
-    c.stop.ensures.shape b ∙ sym (ap (λ x. x && is_right_shape (volume_of v b) c.args.dir) none)
+returns-then-not-is_dir-clause-shape g c = grind (arith, kind_dirs)
 
 -- its inode is read
 pub returns-clause-reader : goal.returns-clause-reader
-returns-clause-reader g c =
-    let reads = c.inode_by_part.ensures.reads in
-    let device = c.in_ok-inode.ensures.reads.read in
-    let contents = ap (λ d. d.contents) device in
-    record {
-      is_ready = (
-        ready_read contents (ap (λ d. d.size) device) reads.kept c.requires.ready.0,
-        c.restart.ensures.geometry ∙ c.requires.ready.1,
-      );
-      same = rw contents refl;
-      read = device;
-    }
+returns-clause-reader g c = grind (arith, ready_read)
 
 pub returns-clause-rest : goal.returns-clause-rest
 returns-clause-rest g c = λ b k.

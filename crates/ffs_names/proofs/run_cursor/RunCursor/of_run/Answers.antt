@@ -18,10 +18,4 @@ returns-then-offset-bytes_to_read-clause-fits c =
     c.empty-then-offset-bytes_to_read.ensures.fits c.args.geometry.now.layout
 
 pub returns-clause-fits : goal.returns-clause-fits
-returns-clause-fits c =
-    let v = c.args.geometry.now.layout in
-    let short = run_in_block v c.args.len c.args.geometry.now.sound c.requires.run.short in
-    let inside = run_in_volume v c.args.start c.args.len c.args.geometry.now.sound c.requires.run.some
-    c.requires.run.in_range in
-    let aligned = run_aligned v c.args.start c.args.geometry.now.sound in
-    record { in_block = grind (arith, short); in_volume = grind (arith, inside); aligned = grind (arith, aligned) }
+returns-clause-fits c = grind (arith, run_in_block, run_in_volume, run_aligned)
