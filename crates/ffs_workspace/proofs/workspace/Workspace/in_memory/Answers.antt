@@ -3,31 +3,14 @@ use Rattle.std.proofs.Common.{arith}
 use Rattle.std.proofs.Common.{refl, rules}
 use Rattle.std.proofs.lemmas.Result.{err_from_is_err_and}
 use Rattle.ffs_memory.proofs.Asking.{granted_both, gave_up_after, gave_up_at, gave_up_within}
-use Rattle.ffs_workspace.proofs.Requests.{both, all_is, at_first_map, at_second_map, at_kinds, at_flags, at_references}
-use Rattle.ffs_workspace.proofs.Requests.{at_words, at_windows}
+use Rattle.ffs_workspace.proofs.Requests.{both}
 use Rattle.ffs_workspace.proofs.workspace.Workspace.in_memory.Goals as goal
 
 pub returns-clause-new : goal.returns-clause-new
 returns-clause-new g c =
     let new = c.in_ok-windows.ensures.new in
     record {
-      made = record {
-        used = search rules;
-        duplicates = search rules;
-        kinds = search rules;
-        marked = search rules;
-        named = search rules;
-        reached = search rules;
-        flags = search rules;
-        references = search rules;
-        notes = search rules;
-        parents = search rules;
-        queue = search rules;
-        table = new.table;
-        blocks = new.blocks;
-        chunk = new.chunk;
-        names = new.names;
-      };
+      made = grind arith;
       fresh = search rules;
       runs_seen = refl;
       runs_again = refl;
@@ -40,26 +23,26 @@ returns-clause-new g c =
     }
 
 pub returns-in_err-used-clause-asks : goal.returns-in_err-used-clause-asks
-returns-in_err-used-clause-asks g c = grind (arith, err_from_is_err_and, gave_up_within, at_first_map)
+returns-in_err-used-clause-asks g c = grind (arith, err_from_is_err_and, gave_up_within)
 
 pub returns-in_err-duplicates-clause-asks : goal.returns-in_err-duplicates-clause-asks
-returns-in_err-duplicates-clause-asks g c = grind (arith, err_from_is_err_and, gave_up_after, at_second_map)
+returns-in_err-duplicates-clause-asks g c = grind (arith, err_from_is_err_and, gave_up_after)
 
 pub returns-in_err-kinds-clause-asks : goal.returns-in_err-kinds-clause-asks
-returns-in_err-kinds-clause-asks g c = grind (arith, err_from_is_err_and, gave_up_after, both, gave_up_at, at_kinds)
+returns-in_err-kinds-clause-asks g c = grind (arith, err_from_is_err_and, gave_up_after, both, gave_up_at)
 
 pub returns-in_err-marked-clause-asks : goal.returns-in_err-marked-clause-asks
-returns-in_err-marked-clause-asks g c = grind (arith, err_from_is_err_and, gave_up_after, both, at_flags)
+returns-in_err-marked-clause-asks g c = grind (arith, err_from_is_err_and, gave_up_after, both)
 
 pub returns-in_err-references-clause-asks : goal.returns-in_err-references-clause-asks
 returns-in_err-references-clause-asks g c =
-    grind (arith, err_from_is_err_and, gave_up_after, both, gave_up_at, at_references)
+    grind (arith, err_from_is_err_and, gave_up_after, both, gave_up_at)
 
 pub returns-in_err-notes-clause-asks : goal.returns-in_err-notes-clause-asks
-returns-in_err-notes-clause-asks g c = grind (arith, err_from_is_err_and, gave_up_after, both, at_words)
+returns-in_err-notes-clause-asks g c = grind (arith, err_from_is_err_and, gave_up_after, both)
 
 pub returns-in_err-windows-clause-asks : goal.returns-in_err-windows-clause-asks
-returns-in_err-windows-clause-asks g c = grind (arith, err_from_is_err_and, gave_up_after, both, at_windows)
+returns-in_err-windows-clause-asks g c = grind (arith, err_from_is_err_and, gave_up_after, both)
 
 pub returns-clause-asks : goal.returns-clause-asks
-returns-clause-asks g c = grind (arith, granted_both, both, all_is)
+returns-clause-asks g c = grind (arith, granted_both, both)
