@@ -66,7 +66,17 @@ conditions image s g =
     let checks = checks_reported (whole_volume v image) volume in
     let dirs = dirs_reported (whole_volume v image) volume in
     let links = links_reported (whole_volume v image) volume in
-    grind (arith, settings_reported, classes_reported, phase1_silent, same_whole, whole_unmarked, counts_reported, same_free, phase5_silent)
+    grind (
+      arith,
+      settings_reported,
+      classes_reported,
+      phase1_silent,
+      same_whole,
+      whole_unmarked,
+      counts_reported,
+      same_free,
+      phase5_silent,
+    )
 
 pub conditions_reported : ConditionsAreReported
 conditions_reported image sector s e = conditions image s (accepted_sound image sector s e).geometry

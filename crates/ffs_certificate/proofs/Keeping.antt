@@ -228,7 +228,8 @@ steps_tied : (v : Layout) (i b : ℕ) (s : Claims) (e : List OfferVerdict) (step
 steps_tied v i b s e [] t = (t, refl)
 steps_tied v i b s e (step ∷ steps) t =
     let one = step_tied v i b s e step t in
-    let rest = steps_tied v i (bad_runs_after v b step) (after_step v s step) (verdicts v e (step_offers v i b step)) steps in
+    let rest = steps_tied v i (bad_runs_after v b step) (after_step v s step) (verdicts v e (step_offers v i b step))
+    steps in
     grind (arith, verdicts-append, kept_append)
 
 -- the fold between inodes, and what was judged
@@ -280,7 +281,8 @@ owners_tied v n s e (o ∷ os) a h r =
     let none = none_before o.number e (before_more n o.number e r.0 h) in
     let start : Tie v o.number 0 (at_next_inode s) e = grind arith in
     let one = steps_tied v o.number 0 (at_next_inode s) e o.steps start in
-    let rest = owners_tied v (o.number + 1) (after_owner v s o) (verdicts v e (offers_of_steps v o.number 0 o.steps)) os in
+    let rest = owners_tied v (o.number + 1) (after_owner v s o) (verdicts v e (offers_of_steps v o.number 0 o.steps))
+    os in
     grind (arith, verdicts-append, kept_append, steps_before, before_more)
 
 start_agrees : (v : Layout) → Agrees v (no_claims v) []

@@ -85,7 +85,8 @@ at_within t bytes (suc level) address first lt =
     let used = indirect_addresses_needed words t.blocks first span in
     let all = under_within t.blocks span first
     (λ j. steps_at t bytes level (address_at t.layout bytes address j) (first + j * span)) 0 used (λ j low few.
-    at_within t bytes level _ _ (word_below words t.blocks first span j (span_some words level (omega arith)) (omega arith))) in
+    at_within t bytes level _ _
+    (word_below words t.blocks first span j (span_some words level (omega arith)) (omega arith))) in
     let u : used ≤ words = omega arith in
     let most : used * span ≤ words * span = mul-le-mul_right span u in
     grind (arith, rise_upper)

@@ -241,7 +241,8 @@ count-silent v i q = grind arith
 pub reference-quiet : (v : Volume) → reference_lines v ≡ [] → (i : ℕ) → is_allocated_inode v i ≡ true → IsCountQuiet v i
 unfolding reference_lines
 reference-quiet v h i k =
-    let quiet = lines-quiet (reference_lines_at v) v.count h i (grind (arith, nat_tests)) in count-quiet v i (grind arith)
+    let quiet = lines-quiet (reference_lines_at v) v.count h i (grind (arith, nat_tests)) in
+    count-quiet v i (grind arith)
 
 pub reference-silent : (v : Volume) → ((i : ℕ) → is_allocated_inode v i ≡ true → IsCountQuiet v i) →
     reference_lines v ≡ []

@@ -43,7 +43,8 @@ ends_after {earlier = earlier} {text = text} {a = a} {b = b} {c = c} p to_end to
     ends_map (λ said. earlier ++ said) (said_then a b c earlier text p) (stopped_after a b c earlier text p)
     (λ q. to_end (said_then a b c earlier text p q)) to_cut
     (λ said line q. rw append_assoc (said_then a b c earlier (said ++ (line ∷ [])) p q))
-    (λ said line q. record { between = q.between; went_out = said_then _ _ _ _ _ p q.went_out; broke_off = q.broke_off })
+    (λ said line q. let went = said_then _ _ _ _ _ p q.went_out in
+    record { between = q.between; went_out = went; broke_off = q.broke_off })
     ends
 
 -- where it stops, the output broke off

@@ -28,7 +28,8 @@ pub is_metadata_of_group : (v : Layout) (f : ℕ) → IsAcceptedLayout v →
     is_group_metadata v f ≡ (nat_lt (f / v.fpg) v.ncg && is_in_metadata_of v (f / v.fpg) f)
 unfolding is_group_metadata cgstart
 is_metadata_of_group v f g =
-    some_below-only v.ncg (f / v.fpg) (λ c. is_in_metadata_of v c f) (λ c h e. grind (arith, nat_tests, group_is, g.groups c h))
+    some_below-only v.ncg (f / v.fpg) (λ c. is_in_metadata_of v c f)
+    (λ c h e. grind (arith, nat_tests, group_is, g.groups c h))
 
 -- a fragment below size is of a group
 pub group_below : (v : Layout) (f : ℕ) → IsAcceptedLayout v → f < v.size → f / v.fpg < v.ncg

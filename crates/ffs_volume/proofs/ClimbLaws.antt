@@ -81,7 +81,8 @@ at_least-true o d s h e = grind (arith, nat_tests)
 pub is_leader_within-from : (f : ℕ → Option ℕ) (n d : ℕ) (i : IsLeader f d) → i.cycle.steps_less_one < n →
     is_leader_within f n d ≡ true
 is_leader_within-from f n d i b =
-    let way = some_below-from (λ k. is_value (climb f (suc k) d) d) n i.cycle.steps_less_one b (is_value-from _ d i.cycle.returns) in
+    let way = some_below-from (λ k. is_value (climb f (suc k) d) d) n i.cycle.steps_less_one b
+    (is_value-from _ d i.cycle.returns) in
     let none = some_below-none (λ k. not (none_or_at_least (climb f k d) d)) n (λ k l. grind (arith, at_least-from)) in
     grind arith
 

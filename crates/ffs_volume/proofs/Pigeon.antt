@@ -21,10 +21,12 @@ step n g h ih =
     let ne = some_below-false (λ i. g i == g (suc n)) (suc n) in
     elim (cases_Bool (some_below (λ i. g i == g (suc n)) (suc n))) [
       | inl y ↦ let w = some_below-gives (λ i. g i == g (suc n)) (suc n) y in
-          record { first = w.0; second = suc n; ordered = w.1.below; bounded = omega arith; same = grind (arith, nat_tests) }
+          let same : g w.0 ≡ g (suc n) = grind (arith, nat_tests) in
+          record { first = w.0; second = suc n; ordered = w.1.below; bounded = omega arith; same = same }
       | inr y ↦
           let r = ih (λ i. moved n (g (suc n)) (g i)) (λ i l. grind (arith, nat_tests)) in
-          record { first = r.first; second = r.second; ordered = r.ordered; bounded = omega arith; same = grind (arith, nat_tests) }
+          let same : g r.first ≡ g r.second = grind (arith, nat_tests) in
+          record { first = r.first; second = r.second; ordered = r.ordered; bounded = omega arith; same = same }
     ]
 
 pub pigeon : (n : ℕ) (g : ℕ → ℕ) → ((i : ℕ) → i ≤ n → g i < n) → Repeats g n

@@ -106,7 +106,8 @@ pub steps_move : (v : Layout) (s : Claims) (steps : List Step) → length s.used
 steps_move v s [] h small long = stays s
 steps_move v s (step ∷ steps) h small long =
     let one = step_moves v s step h small (All-head (HasLength v.frag) step steps long) in
-    let more = steps_move v (after_step v s step) steps (one.used_length ∙ h) small (All-tail (HasLength v.frag) step steps long) in
+    let more = steps_move v (after_step v s step) steps (one.used_length ∙ h) small
+    (All-tail (HasLength v.frag) step steps long) in
     omega arith
 
 -- the steps of an inode

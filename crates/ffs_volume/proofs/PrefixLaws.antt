@@ -29,10 +29,18 @@ shut_steps v i s (Gap ∷ steps) q = shut_steps v i s steps q
 prefix_then : {i : ℕ} {k k' : List Offer} {fs fs' : List ℕ} {b b' : Bool} → KeptPrefix i k fs b →
     KeptPrefix i k' fs' b' → (b ≡ true → (k' ≡ []) × (b' ≡ true)) → KeptPrefix i (k ++ k') (fs ++ fs') b'
 prefix_then {i = i} {k = k} {k' = k'} {fs = fs} {fs' = fs'} f g shut = elim f.end [
-  | inl none ↦ record { rest = g.rest; parts = cc (append_assoc k k' g.rest, map-append (offer_of i) fs fs', append-nil k, f.parts, g.parts, none); end = g.end }
+  | inl none ↦
+      let both = map-append (offer_of i) fs fs' in
+      record { rest = g.rest; parts = cc (append_assoc k k' g.rest, append-nil k, f.parts, g.parts, none); end = g.end }
   | inr over ↦ record {
     rest = f.rest ++ map (offer_of i) fs';
-    parts = cc (append-nil k, append_assoc k f.rest (map (offer_of i) fs'), map-append (offer_of i) fs fs', f.parts, (shut over).0);
+    parts = cc (
+      append-nil k,
+      append_assoc k f.rest (map (offer_of i) fs'),
+      map-append (offer_of i) fs fs',
+      f.parts,
+      (shut over).0,
+    );
     end = inr (shut over).1;
   }
 ]

@@ -20,4 +20,5 @@ inodes_move v image s (x ∷ xs) g h =
 
 pub runs_bounded : (v : Layout) (image : List ℕ) → IsAcceptedLayout v → run_count v image ≤ runs_limit v
 unfolding run_count owners_of no_claims reserved_map
-runs_bounded v image g = grind (arith, inodes_move, length-map-range_with_len, length-range_with_len, count_by-le-length)
+runs_bounded v image g =
+    grind (arith, inodes_move, length-map-range_with_len, length-range_with_len, count_by-le-length)

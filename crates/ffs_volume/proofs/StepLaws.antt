@@ -153,7 +153,8 @@ steps_within v i bytes g = (_, within_flat v.frag _ (first_or_end v.nindir) 0 (a
     each j low =
         let few = used_most v.nindir t.blocks in
         let a : (j == 15) ≡ false = grind (arith, nat_tests) in
-        rw (a, ← next_or_end v.nindir j (omega arith)) (at_within t bytes _ _ (first_block v.nindir j) (last_fits v i g))
+        rw (a, ← next_or_end v.nindir j (omega arith))
+        (at_within t bytes _ _ (first_block v.nindir j) (last_fits v i g))
 
 -- each of them has a length
 pub steps_long : (v : Layout) (i : Inode) (bytes : List ℕ) → IsAcceptedLayout v
