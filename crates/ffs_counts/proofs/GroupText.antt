@@ -1,12 +1,12 @@
 -- The lines of phase 5, group after group: of the messages that come once, only the first ones.
-use Rattle.std.proofs.Common.{◌≡◌, ℕ, suc, ◌+◌, ◌-◌, ◌<◌, ◌≤◌, ◌^◌, Bool, true, false, List, [], ◌∷◌, ◌++◌, map, refl}
+use Rattle.std.proofs.Common.{◌≡◌, ℕ, suc, ◌+◌, ◌-◌, ◌<◌, ◌≤◌, ◌^◌, Bool, List, [], ◌∷◌, ◌++◌, map, refl}
 use Rattle.std.proofs.Common.{ap, ◌∙◌, sym, subst, append_assoc, append-nil, arith, ℤ, Result}
 use Rattle.std.specs.List.{range_with_len, flat_map, sum_by}
 use Rattle.std.proofs.lemmas.List.{map-append}
 use Rattle.ffs_volume.specs.declared.{Layout.Layout, Class.Class, BlockMessage.BlockMessage}
 use Rattle.ffs_volume.specs.declared.{BlockMessage.TheVariants.FreeCounts}
 use Rattle.ffs_volume.specs.{Blocks.Owners.owners_of, Directories.Volumes.class_at}
-use Rattle.ffs_volume.specs.Groups.GroupCheck.{AlreadyReported, group_lines, is_free_of_kept, is_reported}
+use Rattle.ffs_volume.specs.Groups.GroupCheck.{AlreadyReported, group_lines, is_free_of_kept}
 use Rattle.ffs_volume.specs.Groups.GroupCheck.{note_reported, phase5_lines, reported_once, unreported, unless}
 use Rattle.ffs_volume.specs.Groups.Records.{GroupCounts, right_group_counts, right_total, has_right_totals, has_totals}
 use Rattle.ffs_volume.specs.Messages.Kinds.{Message, of_blocks}

@@ -14,34 +14,26 @@ pub read_over : {T : Type 0} (old new : Device) (r : Result T ImageFault) → Re
 read_over old new (Ok x) h = grind arith
 read_over old new (Err fault) h = record { lent = h.lent; contents = h.contents; size = h.size }
 
--- no read was refused: the image below was read with the same answer
-pub read_through : {T : Type 0} {lent below : Device} {name_lent name : GName} {reads reads' left asked : ℕ}
-    {limit : Option ℕ} {spent : Bool} {above above' : Device} (r : Result T ImageFault) →
-    GivesBack lent below name_lent name reads reads' limit left asked spent above above' →
-    spent ≡ false → ReadAfter above above' r → ReadAfter lent below r
-read_through (Ok x) g s h = (g.untouched h).1
-read_through (Err fault) g s h = g.faulted fault.sector h s
-
 -- the image below was read no more often than the limit
 pub limit_kept : {lent below : Device} {name_lent name : GName} {reads reads' left asked : ℕ} {limit : Option ℕ}
     {spent : Bool} {above above' : Device} →
     GivesBack lent below name_lent name reads reads' limit left asked spent above above' →
     IfSome limit (λ n. reads' ≤ reads + n)
-limit_kept {reads = reads} {reads' = reads'} {left = left} {limit = limit} g = grind arith
+limit_kept g = grind arith
 
 -- nor more often than the limited image was asked
 pub asked_kept : {lent below : Device} {name_lent name : GName} {reads reads' left asked limit : ℕ}
     {spent : Bool} {above above' : Device} →
     GivesBack lent below name_lent name reads reads' (Some limit) left asked spent above above' →
     reads' ≤ reads + asked
-asked_kept {reads = reads} {reads' = reads'} {left = left} {asked = asked} {limit = limit} g = grind arith
+asked_kept g = grind arith
 
 -- no read is refused where no more are asked for than the limit
 pub never_refused : {lent below : Device} {name_lent name : GName} {reads reads' left asked : ℕ} {limit : Option ℕ}
     {spent : Bool} {above above' : Device} →
     GivesBack lent below name_lent name reads reads' limit left asked spent above above' →
     IfSome limit (λ n. asked ≤ n) → spent ≡ false
-never_refused {asked = asked} {limit = limit} {spent = spent} g few = grind arith
+never_refused g few = grind arith
 
 -- what a part that read a limited image leaves of the image below: its reads, and its answer's
 -- meaning, where none was refused

@@ -2,7 +2,7 @@
 use Rattle.std.proofs.Common.{◌≡◌, ℕ, ◌+◌, ◌-◌, ◌≤◌, List, ◌++◌, length, take, drop, Option, arith, refl}
 use Rattle.std.proofs.Common.{Result, Ok, suc}
 use Rattle.std.proofs.Math.Seq.{take-add, take-append-add}
-use Rattle.std.proofs.lemmas.List.{take-append-le, drop-drop, length-take-le, length-append, length-drop}
+use Rattle.std.proofs.lemmas.List.{take-append-le, drop-drop, length-take-le, length-append}
 use borrow.Rule.Slice.PartMut.{put_mid}
 use Rattle.ffs_image.specs.Source.{AreAt, IsReadTo}
 
@@ -21,14 +21,6 @@ pub filled_more : (contents : Option (List ℕ)) (at f n : ℕ) (xs ys : List �
     AreAt contents at (take f xs) → AreAt contents (at + f) (take n ys) →
     AreAt contents at (take (f + n) (put_mid f (length xs - f) xs ys))
 filled_more contents at f n xs ys p q before more bytes t = grind (arith, length-take-le, joined, pieces)
-
-pub filled_within : (f n : ℕ) (xs ys : List ℕ) → f ≤ length xs → n ≤ length ys →
-    f + n ≤ length (put_mid f (length xs - f) xs ys)
-filled_within f n xs ys p q = grind (arith, length-take-le, length-append)
-
--- what is left of a buffer
-pub length_left : (f n : ℕ) (xs : List ℕ) → length xs ≡ n → length (take (length xs - f) (drop f xs)) ≡ n - f
-length_left f n xs e = grind (arith, length-take-le, length-drop)
 
 -- one read more
 pub read_more : {S E : Type 0} (was_read : S → ℕ → ℕ → Result ℕ E → S → Type 0) (at len before some : ℕ) (a b c : S) →

@@ -39,6 +39,7 @@ pub trait Source {
 }
 
 /// Fills the buffer with the bytes at a place. The first read that fails ends it.
+#[tactic(auto, using(crate::proofs::Sources::filled_more, crate::proofs::Sources::read_more))]
 pub(crate) fn fill<S: Source>(source: &mut S, at: u64, buf: &mut [u8]) -> Result<(), SourceFault>
     requires { at + length buf.old < 2 ^ 64 }
     ensures fills { Fills (S.state source.old) (S.state source.new) at buf.new result }

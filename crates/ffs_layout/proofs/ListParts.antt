@@ -15,8 +15,7 @@ part_at : (n count : ℕ) (xs : List ℕ) (i : ℕ) (d : List ℕ) → i < count
 part_at n zero xs i d below = grind arith
 part_at n (suc count) xs zero d below = ap (λ k. take n (drop k xs)) (sym (zero-mul n))
 part_at n (suc count) xs (suc i) d below =
-    part_at n count (drop n xs) i d (omega arith)
-    ∙ ap (take n) (drop-drop (i * n) n xs ∙ ap (λ k. drop k xs) (omega (arith, suc-mul i n)))
+    grind (arith, drop-drop, suc-mul, part_at n count (drop n xs) i d (omega arith))
 
 four : (a b c d : Bool) → ((a || b) || (c || d)) ≡ ((a || c) || (b || d))
 four true b c d = refl
@@ -28,7 +27,7 @@ nul_or_slash_append : (xs ys : List ℕ) → any (xs ++ ys) ≡ (any xs || any y
 nul_or_slash_append xs ys = grind (arith, list_any-append, four)
 
 -- the bytes from a part on
-pub nul_or_slash_step : (n count : ℕ) (xs : List ℕ) (i : ℕ) (d : List ℕ) → i < count →
+nul_or_slash_step : (n count : ℕ) (xs : List ℕ) (i : ℕ) (d : List ℕ) → i < count →
     any (drop (i * n) xs) ≡ (any (get_or (first_chunks n count xs) i d) || any (drop ((i + 1) * n) xs))
 nul_or_slash_step n count xs i d below =
     ap any (sym (take-append-drop n (drop (i * n) xs)))
@@ -37,20 +36,12 @@ nul_or_slash_step n count xs i d below =
     ∙ ap (λ ys. any (get_or (first_chunks n count xs) i d) || any ys)
     (drop-drop n (i * n) xs ∙ ap (λ k. drop k xs) (sym (suc-mul i n) ∙ ap (λ k. k * n) (omega arith)))
 
--- a part without NUL and `/` is passed over
-pub nul_or_slash_none : (n count : ℕ) (xs : List ℕ) (parts : List (List ℕ)) (i : ℕ) (d : List ℕ) →
-    parts ≡ first_chunks n count xs → i < count → any (get_or parts i d) ≡ false →
-    any (drop (i * n) xs) ≡ any (drop ((i + 1) * n) xs)
-nul_or_slash_none n count xs parts i d are below none =
-    nul_or_slash_step n count xs i d below
-    ∙ ap (λ b. b || any (drop ((i + 1) * n) xs)) (ap (λ ps. any (get_or ps i d)) (sym are) ∙ none)
-
--- a part with NUL or `/` decides
-pub nul_or_slash_some : (n count : ℕ) (xs : List ℕ) (parts : List (List ℕ)) (i : ℕ) (d : List ℕ) →
-    parts ≡ first_chunks n count xs → i < count → any (get_or parts i d) ≡ true → any (drop (i * n) xs) ≡ true
-nul_or_slash_some n count xs parts i d are below some =
-    nul_or_slash_step n count xs i d below
-    ∙ ap (λ b. b || any (drop ((i + 1) * n) xs)) (ap (λ ps. any (get_or ps i d)) (sym are) ∙ some)
+-- a part without NUL and `/` is passed over, and one with them decides
+pub nul_or_slash_part : (n count : ℕ) (xs : List ℕ) (parts : List (List ℕ)) (i : ℕ) (d : List ℕ) (b : Bool) →
+    parts ≡ first_chunks n count xs → i < count → any (get_or parts i d) ≡ b →
+    any (drop (i * n) xs) ≡ (b || any (drop ((i + 1) * n) xs))
+nul_or_slash_part n count xs parts i d b are below is =
+    grind (arith, nul_or_slash_step)
 
 -- where what is left of bytes has NUL or `/`, they have it too
 nul_or_slash_left : (xs : List ℕ) (k : ℕ) → any (drop k xs) ≡ true → any xs ≡ true

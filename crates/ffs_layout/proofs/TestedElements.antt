@@ -1,5 +1,5 @@
 -- A test of each element, at one of them.
-use Rattle.std.proofs.Common.{◌≡◌, ℕ, ◌+◌, ◌<◌, ◌≤◌, Bool, true, false, arith, refl, get_or, length, List}
+use Rattle.std.proofs.Common.{◌≡◌, ℕ, ◌+◌, ◌<◌, ◌≤◌, Bool, true, arith, get_or, length, List}
 use Rattle.std.specs.Prelude.{nat_le}
 use Rattle.std.specs.List.{list_all}
 use Rattle.std.proofs.lemmas.List.Folds.{list_all_at}
@@ -7,11 +7,7 @@ use Rattle.std.proofs.lemmas.Bool.Decides.{nat_tests}
 
 pub list_all-passes : (test : ℕ → Bool) (xs : List ℕ) (i : ℕ) → list_all test xs ≡ true → i < length xs →
     test (get_or xs i 0) ≡ true
-list_all-passes test xs i all h = known (test (get_or xs i 0)) refl
-  where
-    known : (b : Bool) → test (get_or xs i 0) ≡ b → b ≡ true
-    known true e = refl
-    known false e = let none = list_all_at test xs i 0 h e in cc
+list_all-passes test xs i all h = grind (arith, list_all_at)
 
 pub place_within : (xs : List ℕ) (i : ℕ) → list_all (λ place. nat_le (place + 4) 1376) xs ≡ true → i < length xs →
     get_or xs i 0 + 4 ≤ 1376

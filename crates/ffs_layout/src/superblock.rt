@@ -32,6 +32,7 @@ fn order_of_magic(bytes: &[u8; SUPERBLOCK_BYTES]) -> Option<Order>
 }
 
 /// Whether two superblocks have the same numbers of 32 bits at these places, in bytes.
+#[tactic(auto, using(crate::proofs::TestedElements::place_within))]
 fn agree_at(
     order: Order,
     places: &[u16],

@@ -84,6 +84,7 @@ impl FragmentMap {
     }
 
     /// Whether the bit of a fragment is set.
+    #[tactic(auto, using(std::proofs::lemmas::Nat::Bits::shr_and_one, crate::proofs::Bits::get_bits))]
     pub fn get(&self, fragment: u32) -> bool
         requires { fragment < self.now.size }
         ensures { result ≡ slice_index_or (bits_of self.now) fragment false }
@@ -94,6 +95,7 @@ impl FragmentMap {
 
     /// Which of the 64 fragments from `start` on are of the map and have a clear bit, the first one
     /// lowest.
+    #[tactic(auto, using(crate::proofs::WordShifts::joined, crate::proofs::WordShifts::joined_above))]
     pub fn clear_bits(&self, start: u64) -> u64
         ensures { (k : ℕ) → k < 64 → nat_eq (bit_at result k) 1
             ≡ is_clear (bits_of self.now) self.now.size (start + k) }
@@ -109,6 +111,7 @@ impl FragmentMap {
 
     /// Which fragments of the word at an index are of the map and have a clear bit, the first one
     /// lowest.
+    #[tactic(auto, using(crate::proofs::WordShifts::clear_is, crate::proofs::WordShifts::clear_in_last))]
     fn clear_word(&self, index: usize) -> u64
         ensures { (k : ℕ) → k < 64 → nat_eq (bit_at result k) 1
             ≡ is_clear (bits_of self.now) self.now.size (64 * index + k) }
@@ -161,6 +164,7 @@ impl FragmentMap {
     }
 
     /// How many bits are set of the fragments from `start` on and below `end`.
+    #[tactic(auto, using(crate::proofs::Counting::count_within))]
     pub fn count(&self, start: u32, end: u32) -> u32
         requires order { start ≤ end }
         requires below { end ≤ self.now.size }
@@ -218,6 +222,7 @@ impl FragmentMap {
     }
 
     /// Sets the bits of a run.
+    #[tactic(auto, using(crate::proofs::Bits::run_join))]
     pub fn set_run(&mut self, start: u32, len: u32)
         requires { start + len ≤ self.old.size }
         ensures { HasBits self.new self.old.size (set_run (bits_of self.old) start len) }

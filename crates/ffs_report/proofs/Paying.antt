@@ -1,5 +1,5 @@
 -- What was read for messages, from one call to the next. (For the layers above.)
-use Rattle.std.proofs.Common.{◌≤◌, ◌+◌, ◌*◌, ℕ, refl, sym, arith, List, [], ◌++◌, length}
+use Rattle.std.proofs.Common.{◌≤◌, ◌+◌, ◌*◌, ℕ, refl, sym, arith, List, ◌++◌, length}
 use Rattle.std.proofs.Common.{length-append, Result, Ok, Err}
 use Rattle.std.proofs.Math.Nat.{mul-le-mul_left, mul-le-mul_right}
 use Rattle.ffs_volume.specs.Messages.Kinds.{Message}

@@ -1,11 +1,11 @@
 -- How a report continues. (For the layers above.)
 use Rattle.std.proofs.Common.{arith}
 use Rattle.std.proofs.Common.{◌≡◌, inl, inr, refl, ◌∙◌, sym, ap, List, [], ◌∷◌, ◌++◌, append_assoc}
-use Rattle.std.proofs.Common.{◌||◌, Result, Ok, Err}
+use Rattle.std.proofs.Common.{◌||◌, Result}
 use Rattle.std.proofs.lemmas.List.Concat.{flat_map-append}
 use Rattle.std.proofs.Math.Bool.{or_assoc, or-false}
 use Rattle.ffs_volume.specs.Messages.Kinds.{Message, is_defect, has_defect}
-use Rattle.ffs_volume.specs.Messages.Texts.{text_of, texts_of}
+use Rattle.ffs_volume.specs.Messages.Texts.{texts_of}
 use Rattle.ffs_report.specs.Progress.{Progress, Said, Stopped, Says}
 use Rattle.ffs_report.proofs.Sinks.{Appends-then, took_nil, took_then}
 

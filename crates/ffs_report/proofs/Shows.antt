@@ -70,7 +70,8 @@ any_overlap p xs m k le within =
     let e : k + (m - k) ≡ m = omega arith in
     let rest_all : take (length xs - k) (drop k xs) ≡ drop k xs =
     take_all (length xs - k) (drop k xs) (omega (arith, length-drop k xs)) in
-    let front : list_any p (take m xs) ≡ (list_any p (take k xs) || list_any p middle) = grind (arith, take-add, list_any-append) in
+    let front : list_any p (take m xs) ≡ (list_any p (take k xs) || list_any p middle) =
+    grind (arith, take-add, list_any-append) in
     let back : list_any p (drop k xs) ≡ (list_any p middle || list_any p rest) =
     ap (list_any p) (sym (take-append-drop (m - k) (drop k xs))) ∙ list_any-append p middle rest in
     let all : list_any p xs ≡ (list_any p (take k xs) || list_any p (drop k xs)) =

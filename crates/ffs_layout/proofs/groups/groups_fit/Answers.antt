@@ -1,4 +1,4 @@
-use Rattle.std.proofs.Common.{sym, rules, arith, refl, ◌≡◌, true, false}
+use Rattle.std.proofs.Common.{sym, rules, arith, refl, ◌≡◌, false}
 use Rattle.ffs_volume.specs.Disk.Outcome.{has_valid_group}
 use Rattle.ffs_volume.specs.Disk.Numbers.{all_below}
 use Rattle.ffs_volume.proofs.Below.{all_below-more, all_below-fails}
@@ -15,5 +15,4 @@ returns-then-not-group_fits c =
 
 pub loop-group-preserved : goal.loop-group-preserved
 loop-group-preserved c =
-    let passes : has_valid_group c.args.v.now c.loop-group.group ≡ true = search rules in
-    all_below-more c.loop-group.group (has_valid_group c.args.v.now) c.loop-group.invariant passes
+    grind (arith, all_below-more)

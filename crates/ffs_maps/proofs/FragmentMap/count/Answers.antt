@@ -1,12 +1,6 @@
 use Rattle.std.{proofs.Common.{arith, ℕ, ◌-◌, ◌*◌, ◌/◌, false}, specs.List.slice_index_or}
-use Rattle.ffs_maps.{specs.Bits.bits_of, proofs.Counting.{count_join_at, count_within}}
+use Rattle.ffs_maps.{specs.Bits.bits_of, proofs.Counting.count_join_at}
 use Rattle.ffs_maps.proofs.FragmentMap.count.Goals as goal
-
-pub overflow_add-result : goal.overflow_add-result
-overflow_add-result c = grind (arith, count_within)
-
-pub overflow_add-result-2 : goal.overflow_add-result-2
-overflow_add-result-2 c = grind (arith, count_within)
 
 pub returns : goal.returns
 returns c =
