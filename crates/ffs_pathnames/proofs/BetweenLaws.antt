@@ -12,7 +12,7 @@ use Rattle.ffs_pathnames.specs.PassedNames.{after_look, after_looks, are_quiet}
 use Rattle.ffs_pathnames.specs.PassedRight.{AreRight, AreRightBefore}
 use Rattle.ffs_volume.specs.Directories.Roles.{Volume, RoledEntry, is_dir, is_suspect, roled_entries}
 use Rattle.ffs_volume.specs.Directories.{Parents.graph_of, Graph.is_naming_entry, Graph.is_naming_dir, Graph.parent}
-use Rattle.ffs_volume.{specs.Disk.Search.some_below, proofs.ClimbLaws.is_value-true, proofs.SearchLaws.some_below-suc}
+use Rattle.ffs_volume.{proofs.ClimbLaws.is_value-true, proofs.SearchLaws.some_below-suc}
 
 -- the parent of a directory names it
 belongs_named : (v : Volume) (s x : ℕ) → belongs v s x ≡ true → list_any (is_naming_entry x) (roled_entries v s) ≡ true
@@ -30,14 +30,9 @@ looked v s m = record m { stamps = after_looks v s m.stamps (roled_entries v s) 
 
 -- once s is looked at, what is remembered is right before its first entry
 pub looked_right : (v : Volume) (s : ℕ) (m : PassedNames) → AreRightBefore v s m → AreRight v s [] (looked v s m)
-looked_right v s m r = record {
-  named = λ x h q n o. r.named x h q n o ∙ sym (or-false (some_below (λ t. is_naming_dir (graph_of v) t x) s));
-  due = λ x h.
-      let all = stamped_all v s [] (roled_entries v s) m.stamps r.stamps_length (unstamped v s m r) x h in
-      grind (arith, belongs_named, nat_tests);
-  flags_length = r.flags_length;
-  stamps_length = looks_all_long v s (roled_entries v s) m.stamps ∙ r.stamps_length;
-}
+looked_right v s m r =
+    let all = stamped_all v s [] (roled_entries v s) m.stamps r.stamps_length (unstamped v s m r) in
+    grind (arith, belongs_named, looks_all_long, or-false, nat_tests)
 
 -- ---- stamps stay small, and calm directories stay so
 set_small : (s n a x : ℕ) (stamps : List ℕ) → a ≤ s → slice_index stamps x ≤ s →

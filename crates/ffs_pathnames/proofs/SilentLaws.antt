@@ -1,7 +1,7 @@
 -- Nothing is reported of a directory that the survey found calm.
 use Rattle.std.proofs.Common.{◌≡◌, ◌≢◌, ℕ, suc, ◌<◌, ◌≤◌, ◌*◌, ◌/◌, ◌==◌, Bool, true, false, not, ◌&&◌, ◌||◌, nat_le}
 use Rattle.std.proofs.Common.{nat_lt, if◌then◌else◌, refl, List, [], ◌∷◌, ◌++◌, map, length, slice_index, slice_set}
-use Rattle.std.proofs.Common.{Option, None, Some, option_and_then, unwrap_or, arith, sym, ◌∙◌, ap, subst}
+use Rattle.std.proofs.Common.{Option, None, Some, option_and_then, unwrap_or, arith, ◌∙◌, ap, subst}
 use Rattle.std.proofs.Common.{eqb-true, eq-eqb, leb-true}
 use Rattle.std.proofs.lemmas.{List.get_or-set_other, Bool.Decides.nat_tests}
 use Rattle.std.proofs.lemmas.Bool.{or_cases, or_left, or_right, false_from_ne_true, both_ways, and_parts, and_from}
@@ -14,7 +14,7 @@ use Rattle.ffs_volume.specs.Blocks.Inodes.{is_allocated, is_unknown, inode_of}
 use Rattle.ffs_volume.specs.Directories.{Graph.is_naming_entry, Graph.parent, Parents.graph_of}
 use Rattle.ffs_volume.specs.Directories.Entries.{Entry, Chunk, ChunkSource, chunk_of, chunks_of, run_chunks}
 use Rattle.ffs_volume.specs.Directories.Entries.{step_chunks, entries_of, is_sound, is_live, bytes_read}
-use Rattle.ffs_volume.specs.Directories.{Volumes.class_at, Volumes.volume_of, Volumes.volume_with}
+use Rattle.ffs_volume.specs.Directories.{Volumes.volume_of, Volumes.volume_with}
 use Rattle.ffs_volume.specs.Directories.PathnameCheck.{is_bad_whiteout, attributes, are_sound}
 use Rattle.ffs_volume.specs.Directories.Roles.{nth_entry, start_entry, Volume, RoledEntry, is_dir, is_suspect, is_plain}
 use Rattle.ffs_volume.specs.Directories.Roles.{is_two_dots, role_of, roled_from, roled_chunk, roled_entries}
@@ -48,15 +48,7 @@ record Shown (v : Volume) (kinds : List ℕ) (marked : List Bool) (parents : Lis
 shown : (v : Layout) (b : List ℕ) (w : Workspace) → IsFor v w → HoldsClaims v b w → HoldsSurvey v b w →
     Shown (volume_of v b) w.kinds.items w.marked.items w.parents.items
 unfolding volume_of volume_with
-shown v b w m h r = record {
-  count = sym (sym w.kinds.ok.0 ∙ m.kinds);
-  dirs = λ x. kind_dirs v b w.kinds.items x (h.kinds x);
-  allocated = λ x. rw (h.kinds x) (reports_at v b x).allocated;
-  unknown = λ x. rw (h.kinds x) (reports_at v b x).unknown;
-  suspect = λ x. rw (h.kinds x, h.marked x) (suspect_is v b x);
-  kind = λ x a u. rw (h.kinds x) (type_is v b x (settled (class_at v b x) a u));
-  parent_is = r.parents;
-}
+shown v b w m h r = let reports = reports_at v b in grind (arith, kind_dirs, suspect_is, type_is, settled)
 
 -- ---- the entries
 -- what a calm plain entry that is no whiteout says of its inode, whose kind is the entry's
